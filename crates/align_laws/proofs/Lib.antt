@@ -1,0 +1,14 @@
+pub mod Anchor
+pub mod CutList
+pub mod Dropped
+pub mod FlatGood
+pub mod Flatten
+pub mod Held
+pub mod Inner
+pub mod InnerCalls
+pub mod Joined
+pub mod Listed
+pub mod Pieces
+pub mod Unique
+pub mod Wholly
+pub mod Worded

@@ -1,0 +1,80 @@
+-- Flattening and dropping, one after the other.
+use Rattle.std.proofs.Common.{◌≡◌, ◌↔◌, ℕ, true, List, [], ◌∷◌, sym, ◌∙◌, ap, subst}
+use Rattle.plain_netlist.specs.Netlist.{Pole, on, DeviceRow, Netlist, IsSlot, Slot, InOneNet, HasDevice, IsTerminal, slot, IsOnPin}
+use Rattle.align_laws.specs.Flat.{Maps, IsRowImage, net_image, device_image, AreInlined, IsSameExpansion}
+use Rattle.align_laws.specs.Prune.{Cuts, ArePruned, IsHeldSlot, new_slot, new_path, IsPrunedExpansion}
+use Rattle.align_laws.specs.Whole.{IsKeptExpansion, whole_net, whole_device, AlignLaw}
+use Rattle.align_laws.proofs.Flatten.{same_expansion}
+use Rattle.align_laws.proofs.Dropped.{pruned_expansion}
+
+module _ (g f o : Netlist) (v : Maps) (w : Cuts) (height : ℕ → ℕ) (flat : AreInlined g f v height) (cut : ArePruned f o w) (c : ℕ) (kept : w.kept c ≡ true) where
+  first : IsSameExpansion g f v c
+  first = same_expansion g f v height flat c
+
+  second : IsPrunedExpansion f o w c
+  second = pruned_expansion f o w cut c kept
+
+  device_slot : (path : List ℕ) (c j : ℕ) (row : DeviceRow) (pole : Pole) → HasDevice g c path j row → IsSlot g c path (on pole row)
+  device_slot [] c j row pole h = flat.within.devices c j row pole h
+  device_slot (k ∷ ks) c j row pole (call, is, h) = (call, is, device_slot ks call.circuit j row pole h)
+
+  terminal_slot : (a : Slot) → IsTerminal g c a → IsSlot g c a.path a.net
+  terminal_slot a t = subst (λ (n : ℕ). IsSlot g c a.path n) t.on (device_slot a.path c t.device t.row t.pole t.has)
+
+  terminal_held : (a : Slot) → IsTerminal g c a → IsHeldSlot f w c (net_image v c a).path (net_image v c a).net
+  terminal_held a t =
+      let d = first.device a.path t.device t.row t.has in
+      let h = second.terminal (device_image v c a.path t.device).path (device_image v c a.path t.device).net d.0 t.pole d.1 in
+      let at : slot (device_image v c a.path t.device).path (on t.pole d.0) ≡ net_image v c a = sym (d.2.poles t.pole) ∙ ap (λ (n : ℕ). net_image v c (slot a.path n)) t.on in
+      subst (λ (s : Slot). IsHeldSlot f w c s.path s.net) at h
+
+  each : (path : List ℕ) (j : ℕ) (row : DeviceRow) → HasDevice g c path j row
+      → (other : DeviceRow) × HasDevice o (w.number c) (whole_device v w c (slot path j)).path (whole_device v w c (slot path j)).net other
+      × IsRowImage (λ a b. whole_net v w c (slot path a) ≡ slot (whole_device v w c (slot path j)).path b) row other
+  each path j row h =
+      let d = first.device path j row h in
+      let e = second.device (device_image v c path j).path (device_image v c path j).net d.0 d.1 in (
+        e.0,
+        e.1,
+        record {
+          class = d.2.class ∙ e.2.class;
+          length = d.2.length ∙ e.2.length;
+          width = d.2.width ∙ e.2.width;
+          poles = λ pole. ap (λ (s : Slot). new_slot w c s.path s.net) (d.2.poles pole) ∙ e.2.poles pole;
+        },
+      )
+
+  back : (es : List ℕ) (j : ℕ) (other : DeviceRow) → HasDevice o (w.number c) es j other → (s : Slot) × (row : DeviceRow) × HasDevice g c s.path s.net row × (whole_device v w c s ≡ slot es j)
+  back es j other h =
+      let e = second.back es j other h in
+      let d = first.back e.0 j e.1 e.2 in
+      (d.0, d.1, d.2, ap (λ (s : Slot). slot (new_path w c s.path) s.net) d.3 ∙ ap (λ (q : List ℕ). slot q j) e.3)
+
+  one : (s t : Slot) (a b : DeviceRow) → HasDevice g c s.path s.net a → HasDevice g c t.path t.net b → whole_device v w c s ≡ whole_device v w c t → s ≡ t
+  one s t a b h k e =
+      let d = first.device s.path s.net a h in
+      let x = first.device t.path t.net b k in
+      let path = second.one (device_image v c s.path s.net).path (device_image v c t.path t.net).path (device_image v c s.path s.net).net (device_image v c t.path t.net).net d.0 x.0 d.1 x.1 (ap (λ (s : Slot). s.path) e) in
+      first.one s.path t.path s.net t.net a b h k (ap (λ (q : List ℕ). slot q (device_image v c s.path s.net).net) path ∙ ap (slot (device_image v c t.path t.net).path) (ap (λ (s : Slot). s.net) e))
+
+  nets : (a b : Slot) → IsTerminal g c a → IsTerminal g c b → InOneNet g c a b ↔ InOneNet o (w.number c) (whole_net v w c a) (whole_net v w c b)
+  nets a b t u =
+      let x = first.nets a b (terminal_slot a t) (terminal_slot b u) in
+      let y = second.nets (net_image v c a) (net_image v c b) (terminal_held a t) (terminal_held b u) in
+      ((λ h. y.0 (x.0 h)), (λ h. x.1 (y.1 h)))
+
+  pins : (a : Slot) → IsTerminal g c a → IsOnPin g c a ↔ IsOnPin o (w.number c) (whole_net v w c a)
+  pins a t =
+      let y = second.pins (net_image v c a) (terminal_held a t) in (
+        (λ h. y.0 (h.0, h.1, (first.pins h.0 h.1).0 h.2, (first.nets a (slot [] h.1) (terminal_slot a t) (flat.within.pins c h.0 h.1 h.2)).0 h.3)),
+        (λ h.
+            let z = y.1 h in
+            let pin = (first.pins z.0 z.1).1 z.2 in
+            (z.0, z.1, pin, (first.nets a (slot [] z.1) (terminal_slot a t) (flat.within.pins c z.0 z.1 pin)).1 z.3)),
+      )
+
+  pub kept_expansion : IsKeptExpansion g o c (w.number c) (whole_net v w c) (whole_device v w c)
+  kept_expansion = record { each = each; back = back; one = one; nets = nets; pins = pins }
+
+pub aligned_whole : AlignLaw
+aligned_whole g f o v w height flat cut c kept = kept_expansion g f o v w height flat cut c kept

@@ -1,0 +1,5 @@
+use Rattle.align_laws.proofs.Flatten.{flattened}
+use Rattle.align_laws.proofs.flattening.Goals as goal
+
+pub returns : goal.returns
+returns c = flattened

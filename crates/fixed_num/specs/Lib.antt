@@ -1,0 +1,4 @@
+pub mod Real
+pub mod Values
+pub mod Scan
+pub mod Microns

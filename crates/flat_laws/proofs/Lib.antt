@@ -1,0 +1,14 @@
+pub mod Paths
+pub mod Names
+pub mod Cover
+pub mod Squares
+pub mod Items
+pub mod OneNet
+pub mod Moves
+pub mod Kept
+pub mod Once
+pub mod Climb
+pub mod Expand
+pub mod Poles
+pub mod Zone
+pub mod Count

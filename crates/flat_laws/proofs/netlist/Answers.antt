@@ -1,0 +1,6 @@
+use Rattle.flat_laws.proofs.Climb.{climbing, netting}
+use Rattle.flat_laws.proofs.Expand.{expanded}
+use Rattle.flat_laws.proofs.netlist.Goals as goal
+
+pub returns : goal.returns
+returns c = record { climb = climbing; net = netting; devices = expanded }

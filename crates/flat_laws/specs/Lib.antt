@@ -1,0 +1,4 @@
+pub mod LayerLaws
+pub mod NetLaws
+pub mod GateLaws
+pub mod NetlistLaws

@@ -1,0 +1,10 @@
+pub mod Plane
+pub mod Layout
+pub mod Arrays
+pub mod Layers
+pub mod Zones
+pub mod Regions
+pub mod Nets
+pub mod Gates
+pub mod Circuits
+pub mod Expanded

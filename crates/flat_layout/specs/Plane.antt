@@ -1,0 +1,29 @@
+-- Unit squares beside and around each other, and in rectangles.
+use Rattle.std.specs.Prelude.{◌≡◌, ◌⊎◌, ◌≤ℤ◌, ◌<ℤ◌, pos, ◌+ℤ◌}
+use Rattle.geo_base.specs.declared.shapes.Point.{Point}
+use Rattle.geo_base.specs.declared.shapes.Rect.{Rect}
+use Rattle.geo_base.specs.declared.shapes.Square.{Square}
+
+-- the rectangle covers the square
+abbrev pub IsIn : Square → Rect → Type 0
+IsIn s r = (r.x1 ≤ℤ s.x) × (s.x <ℤ r.x2) × (r.y1 ≤ℤ s.y) × (s.y <ℤ r.y2)
+
+-- the squares share an edge
+abbrev pub SharesEdge : Square → Square → Type 0
+SharesEdge p q = ((p.x ≡ q.x) × ((p.y +ℤ pos 1 ≡ q.y) ⊎ (q.y +ℤ pos 1 ≡ p.y))) ⊎ ((p.y ≡ q.y) × ((p.x +ℤ pos 1 ≡ q.x) ⊎ (q.x +ℤ pos 1 ≡ p.x)))
+
+-- they are one square or share an edge: a common corner doesn't join
+abbrev pub IsNear : Square → Square → Type 0
+IsNear p q = (p ≡ q) ⊎ SharesEdge p q
+
+-- they are one square or share an edge or a corner
+pub record IsAround (p q : Square) : Type 0 where
+  pub left : q.x ≤ℤ (p.x +ℤ pos 1)
+  pub right : p.x ≤ℤ (q.x +ℤ pos 1)
+  pub low : q.y ≤ℤ (p.y +ℤ pos 1)
+  pub high : p.y ≤ℤ (q.y +ℤ pos 1)
+
+-- the point is a corner of the square
+pub record IsCorner (p : Point) (q : Square) : Type 0 where
+  pub x : (p.x ≡ q.x) ⊎ (p.x ≡ q.x +ℤ pos 1)
+  pub y : (p.y ≡ q.y) ⊎ (p.y ≡ q.y +ℤ pos 1)

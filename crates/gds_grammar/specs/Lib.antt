@@ -1,0 +1,4 @@
+pub mod Pattern
+pub mod Grammar
+pub mod Left
+pub mod Order

@@ -1,0 +1,4 @@
+pub mod Turning
+pub mod Moving
+pub mod Images
+pub mod Spans

@@ -1,0 +1,4 @@
+pub mod Motions
+pub mod Near
+pub mod Rects
+pub mod Laws

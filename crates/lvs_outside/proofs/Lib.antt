@@ -1,0 +1,6 @@
+pub mod Empty
+pub mod FirstEntry
+pub mod Numbers
+pub mod Rest
+pub mod Told
+pub mod Written

@@ -1,0 +1,10 @@
+use Rattle.lvs_outside.proofs.Rest.{follows_step, follows_none}
+use Rattle.lvs_outside.proofs.loops.read_rest.Goals as goal
+
+pub loop-buf-init : goal.loop-buf-init
+loop-buf-init g c = follows_none _ _ c.requires.fresh
+
+pub loop-buf-preserved : goal.loop-buf-preserved
+loop-buf-preserved g c =
+    let read = c.in_ok-count.ensures in
+    rw c.in_ok-extend_from_slice.ensures.items (follows_step _ _ _ c.in_ok-count.count c.loop-buf.bytes.items c.read.new.buf c.loop-buf.invariant read.ok read.rest read.cause.done)

@@ -1,0 +1,23 @@
+//! The outside of the program: a store of files, a taker of summary bytes, and the loops over them.
+#![tactic(auto)]
+
+mod counted;
+mod depot;
+mod entries;
+mod file;
+pub mod loops;
+mod memory;
+mod memory_sink;
+mod schedule;
+mod sink;
+mod stdout;
+mod token;
+
+pub use counted::Counted;
+pub use depot::{Depot, Failed};
+pub use file::FileDepot;
+pub use loops::{LIMIT, ReadFault, read_rest, write_all, write_file, write_whole};
+pub use memory::MemoryDepot;
+pub use memory_sink::MemorySink;
+pub use sink::Sink;
+pub use stdout::StdoutSink;

@@ -1,0 +1,49 @@
+-- What the end of a run comes to: the line of a refusal, or the file and its line.
+use Rattle.std.specs.Prelude.{◌≡◌, ◌⊎◌, ◌<◌, ◌++◌, ℕ, List, string_bytes}
+use Rattle.lvs_outside.specs.Store.{Store, SameFiles, appended}
+use Rattle.lvs_outside.specs.Summary.{SinkState}
+use Rattle.lvs_outside.specs.Loops.{HoldsNow, ForPrefix}
+use Rattle.lvs_run.specs.Answers.{Answer, Good, Outside, NoMemory}
+use Rattle.lvs_run.specs.Runs.{depot_faults, sink_faults, line_of}
+use Rattle.lvs_run.specs.declared.run.Output.{Output}
+
+-- the sink took the text, and nothing failed
+pub record Took (before after : SinkState) (text : List ℕ) : Type 0 where
+  pub told : after.told ≡ appended before.told text
+  pub faults : sink_faults after ≡ sink_faults before
+
+-- the sink took a prefix of the text, and then failed
+pub record TookPart (before after : SinkState) (text : List ℕ) : Type 0 where
+  pub told : ForPrefix text (λ front. after.told ≡ appended before.told front)
+  pub faults : sink_faults before < sink_faults after
+
+-- the sink stands as it was
+pub record TookNone (before after : SinkState) : Type 0 where
+  pub told : after.told ≡ before.told
+  pub write_calls : after.write_calls ≡ before.write_calls
+  pub faults : sink_faults after ≡ sink_faults before
+
+-- a refusal was sent, or the sink failed, or there was no memory for the line
+abbrev pub Refused : Answer → SinkState → SinkState → Answer → Type 0
+Refused wanted before after a =
+    ((a ≡ wanted) × Took before after (line_of wanted 0))
+    ⊎ (((a ≡ Outside) × TookPart before after (line_of wanted 0)) ⊎ ((a ≡ NoMemory) × TookNone before after))
+
+-- the file is written whole, and nothing failed
+pub record WroteWhole (old new : Store) (path text : List ℕ) : Type 0 where
+  pub file : HoldsNow old new path text
+  pub absent : new.absent ≡ old.absent
+  pub left_open : new.left_open ≡ old.left_open
+  pub faults : depot_faults new ≡ depot_faults old
+
+-- the file is as it was or holds a prefix of the text, and the depot failed
+pub record WrotePart (old new : Store) (path text : List ℕ) : Type 0 where
+  pub file : SameFiles old new ⊎ ForPrefix text (HoldsNow old new path)
+  pub faults : depot_faults old < depot_faults new
+
+-- file and line were written, or one of the two failed
+abbrev pub Delivered : Output → Store → Store → SinkState → SinkState → Answer → Type 0
+Delivered o old new before after a =
+    ((a ≡ Good) × WroteWhole old new (string_bytes o.path) o.text.items × Took before after o.line.items)
+    ⊎ (((a ≡ Outside) × WroteWhole old new (string_bytes o.path) o.text.items × TookPart before after o.line.items)
+    ⊎ ((a ≡ Outside) × WrotePart old new (string_bytes o.path) o.text.items × TookNone before after))

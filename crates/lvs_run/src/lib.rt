@@ -1,0 +1,16 @@
+//! The run of the program: words, files in, files out, summary line and status.
+#![tactic(auto)]
+
+mod input;
+mod layers;
+mod plain_layout;
+mod plain_rules;
+mod run;
+mod status;
+mod stream;
+mod summary;
+mod words;
+
+pub use run::run_lvs;
+pub use status::{Refusal, Status};
+pub use words::{Command, WordFault, read_words};

@@ -1,0 +1,50 @@
+// How a run of the program ends.
+
+/// How a run of the program ends.
+#[derive(Debug, Drop)]
+pub enum Status {
+    /// Everything was done.
+    Good,
+    /// The comparison or a gate shows a difference. `shapes` never ends so.
+    Bad,
+    /// The words or an input file are refused. No file was started.
+    Refused(Refusal),
+    /// The comparison reached its limit. `shapes` never ends so.
+    Undecided,
+    /// A call on the outside failed.
+    Outside,
+    /// No memory was left. No file was started.
+    NoMemory,
+}
+
+/// What is refused. A path is one of the command's words.
+#[derive(Debug, Drop)]
+pub enum Refusal {
+    /// The words are no command.
+    Words,
+    /// No file has the path.
+    Absent(String),
+    /// The file has more than 268,435,456 bytes.
+    TooLong(String),
+    /// The file was read whole, and this program doesn't read its form yet.
+    Unbuilt(String),
+}
+
+impl Status {
+    ghost use Rattle.std.specs.Prelude.{◌≡◌};
+    ghost use Rattle.lvs_run.specs.Answers.{code_of, answer_of};
+
+    /// The exit status of the program.
+    pub fn code(&self) -> u8
+        ensures { result ≡ code_of (answer_of self.now) }
+    {
+        match self {
+            Status::Good => 0,
+            Status::Bad => 1,
+            Status::Refused(_) => 2,
+            Status::Undecided => 3,
+            Status::Outside => 4,
+            Status::NoMemory => 5,
+        }
+    }
+}

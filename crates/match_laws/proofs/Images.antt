@@ -1,0 +1,431 @@
+-- A correspondence of circuits is one of their web.
+use Rattle.std.proofs.Common.{◌≡◌, ◌⊎◌, inl, inr, ℕ, ◌+◌, ◌<◌, ◌==◌, cond, Bool, true, false, List, [], ◌∷◌, map, length, slice_index, Option, Some, None, slice_get, bytes_eq, refl, sym, subst, ◌∙◌, ap, ap₂, arith, true≢false}
+use Rattle.std.specs.List.{count_by, sum_by, flat_map, list_any}
+use Rattle.std.specs.Cmp.{bool_eq_equiv}
+use Rattle.std.specs.Bool.{Decides, beq}
+use Rattle.std.proofs.lemmas.List.Sums.{sum_by-cons, sum_by-append}
+use Rattle.std.proofs.lemmas.Bool.Decides.{Decides-eqb}
+use Rattle.std.proofs.lemmas.Slice.Eq.{bytes_eq-Decides}
+use Rattle.round_laws.specs.Web.{Port, Channel, Gate, Bulk, Pin, IsListed, End, IsWeb, Carries}
+use Rattle.round_laws.specs.Nodes.{Node, Side, Layout, Schematic, Kind, Net, Device, Call}
+use Rattle.plain_netlist.specs.Netlist.{DeviceRow, CallRow}
+use Rattle.match_laws.specs.Circuits.{Pair, circuit_of, place, numbers_from, node, end_at, device_ends, call_ends, terminals, terminals_of, owners, nodes, same_side, same_kind, same_node, turned, near_at, Own, OfNet, OfDevice, OfCall, OfNone, same_own, own_at, own, web_of, IsOneToOne, Pairing, IsDeviceImage, IsCallImage, IsCorrespondence, IsFitting, image_at, carried}
+use Rattle.round_laws.proofs.Agree.{at_equivalence, both, first, second, same_test, is_it, in_left, in_right}
+use Rattle.round_laws.proofs.Stable.{in_either, any_found, any_of}
+use Rattle.round_laws.proofs.Unique.{node_is}
+use Rattle.match_laws.proofs.Sums.{decided_equivalence, sum_same, sum-map, sum-flat, in_numbers, numbers_has, onto_sum, index_below, index_one, listed_index, found_at, map_has, in_map}
+
+-- nodes
+side_decides : (a b : Side) → Decides (same_side a b) (a ≡ b)
+side_decides Layout Layout = ((λ _. refl), (λ _. refl))
+side_decides Layout Schematic = ((λ h. absurd (true≢false (sym h))), (λ h. absurd cc))
+side_decides Schematic Layout = ((λ h. absurd (true≢false (sym h))), (λ h. absurd cc))
+side_decides Schematic Schematic = ((λ _. refl), (λ _. refl))
+
+pub kind_decides : (a b : Kind) → Decides (same_kind a b) (a ≡ b)
+kind_decides Net Net = ((λ _. refl), (λ _. refl))
+kind_decides Net Device = ((λ h. absurd (true≢false (sym h))), (λ h. absurd cc))
+kind_decides Net Call = ((λ h. absurd (true≢false (sym h))), (λ h. absurd cc))
+kind_decides Device Net = ((λ h. absurd (true≢false (sym h))), (λ h. absurd cc))
+kind_decides Device Device = ((λ _. refl), (λ _. refl))
+kind_decides Device Call = ((λ h. absurd (true≢false (sym h))), (λ h. absurd cc))
+kind_decides Call Net = ((λ h. absurd (true≢false (sym h))), (λ h. absurd cc))
+kind_decides Call Device = ((λ h. absurd (true≢false (sym h))), (λ h. absurd cc))
+kind_decides Call Call = ((λ _. refl), (λ _. refl))
+
+pub node_decides : (a b : Node) → Decides (same_node a b) (a ≡ b)
+node_decides a b = (
+  (λ h. node_is a b ((side_decides a.side b.side).0 (first (same_side a.side b.side) _ h))
+      ((kind_decides a.kind b.kind).0 (first (same_kind a.kind b.kind) _ (second (same_side a.side b.side) _ h)))
+      ((Decides-eqb a.number b.number).0 (second (same_kind a.kind b.kind) _ (second (same_side a.side b.side) _ h)))),
+  (λ h. both (same_side a.side b.side) _ ((side_decides a.side b.side).1 (ap (λ (x : Node). x.side) h))
+      (both (same_kind a.kind b.kind) _ ((kind_decides a.kind b.kind).1 (ap (λ (x : Node). x.kind) h))
+      ((Decides-eqb a.number b.number).1 (ap (λ (x : Node). x.number) h)))),
+)
+
+abbrev pub size : Pair → Side → Kind → ℕ
+size p side Net = length (circuit_of p side).nets
+size p side Device = length (circuit_of p side).devices
+size p side Call = length (circuit_of p side).calls
+
+-- the nodes of a side by kind and number
+pub nodes_has : (p : Pair) (side : Side) (kind : Kind) (k : ℕ) → k < size p side kind → IsListed (node side kind k) (nodes p side)
+nodes_has p side Net k h = in_left (node side Net k) (map (node side Net) (numbers_from 0 (size p side Net))) (owners p side)
+    (map_has (node side Net) k _ (numbers_has k 0 (size p side Net) (omega arith) (omega arith)))
+nodes_has p side Device k h = in_right (node side Device k) (map (node side Net) (numbers_from 0 (size p side Net))) (owners p side)
+    (in_left (node side Device k) (map (node side Device) (numbers_from 0 (size p side Device))) (map (node side Call) (numbers_from 0 (size p side Call)))
+    (map_has (node side Device) k _ (numbers_has k 0 (size p side Device) (omega arith) (omega arith))))
+nodes_has p side Call k h = in_right (node side Call k) (map (node side Net) (numbers_from 0 (size p side Net))) (owners p side)
+    (in_right (node side Call k) (map (node side Device) (numbers_from 0 (size p side Device))) (map (node side Call) (numbers_from 0 (size p side Call)))
+    (map_has (node side Call) k _ (numbers_has k 0 (size p side Call) (omega arith) (omega arith))))
+
+pub record IsThere (p : Pair) (side : Side) (a : Node) : Type 0 where
+  pub stands : a.side ≡ side
+  pub below : a.number < size p side a.kind
+
+there_by : (p : Pair) (side : Side) (kind : Kind) (a : Node) → IsListed a (map (node side kind) (numbers_from 0 (size p side kind))) → IsThere p side a
+there_by p side kind a i =
+    let f = in_map (node side kind) a (numbers_from 0 (size p side kind)) i in
+    let h = in_numbers f.0 0 (size p side kind) f.1 in
+    let high = h.1 in
+    let low : f.0 < size p side kind = omega arith in
+    let here : IsThere p side (node side kind f.0) = record { stands = refl; below = low } in
+    subst (λ (x : Node). IsThere p side x) (sym f.2) here
+
+pub nodes_there : (p : Pair) (side : Side) (a : Node) → IsListed a (nodes p side) → IsThere p side a
+nodes_there p side a i =
+    elim (in_either a (map (node side Net) (numbers_from 0 (size p side Net))) (owners p side) i) [
+      | inl j ↦ there_by p side Net a j
+      | inr j ↦ elim (in_either a (map (node side Device) (numbers_from 0 (size p side Device))) (map (node side Call) (numbers_from 0 (size p side Call))) j) [
+        | inl l ↦ there_by p side Device a l
+        | inr l ↦ there_by p side Call a l
+      ]
+    ]
+
+-- a fact of each numbered node of a side is one of each listed node
+pub each_node : (p : Pair) (side : Side) (P : Node → Type 0) → ((kind : Kind) (k : ℕ) → k < size p side kind → P (node side kind k)) → (a : Node) → IsListed a (nodes p side) → P a
+each_node p side P h a i =
+    let t = nodes_there p side a i in
+    subst (λ (s : Side). P (node s a.kind a.number)) (sym t.stands) (h a.kind a.number t.below)
+
+-- sums over the nodes of a side
+sum_nodes : (p : Pair) (side : Side) (g : Node → ℕ) → sum_by g (nodes p side)
+    ≡ sum_by (λ k. g (node side Net k)) (numbers_from 0 (size p side Net)) + sum_by g (owners p side)
+sum_nodes p side g =
+    let a = sum_by-append g (map (node side Net) (numbers_from 0 (size p side Net))) (owners p side) in
+    let b = sum-map g (node side Net) (numbers_from 0 (size p side Net)) in
+    omega arith
+
+sum_owners : (p : Pair) (side : Side) (g : Node → ℕ) → sum_by g (owners p side)
+    ≡ sum_by (λ k. g (node side Device k)) (numbers_from 0 (size p side Device)) + sum_by (λ k. g (node side Call k)) (numbers_from 0 (size p side Call))
+sum_owners p side g =
+    let a = sum_by-append g (map (node side Device) (numbers_from 0 (size p side Device))) (map (node side Call) (numbers_from 0 (size p side Call))) in
+    let b = sum-map g (node side Device) (numbers_from 0 (size p side Device)) in
+    let c = sum-map g (node side Call) (numbers_from 0 (size p side Call)) in
+    omega arith
+
+-- the images of a kind's nodes
+abbrev list_of : Pairing → Kind → List ℕ
+list_of f Net = f.nets
+list_of f Device = f.devices
+list_of f Call = f.calls
+
+maps : (p : Pair) (f : Pairing) → IsCorrespondence p f → (kind : Kind) → IsOneToOne (list_of f kind) (size p Layout kind) (size p Schematic kind)
+maps p f c Net = c.nets
+maps p f c Device = c.devices
+maps p f c Call = c.calls
+
+image_is : (f : Pairing) (kind : Kind) (k : ℕ) → image_at f kind k ≡ slice_index (list_of f kind) k
+image_is f Net k = refl
+image_is f Device k = refl
+image_is f Call k = refl
+
+image_below : (p : Pair) (f : Pairing) → IsCorrespondence p f → (kind : Kind) (k : ℕ) → k < size p Layout kind → image_at f kind k < size p Schematic kind
+image_below p f c kind k h = let b = index_below (list_of f kind) _ _ k (maps p f c kind) h in let e = image_is f kind k in omega arith
+
+image_one : (p : Pair) (f : Pairing) → IsCorrespondence p f → (kind : Kind) (j k : ℕ) → j < size p Layout kind → k < size p Layout kind → image_at f kind j ≡ image_at f kind k → j ≡ k
+image_one p f c kind j k a b e = index_one (list_of f kind) _ _ j k (maps p f c kind) a b (sym (image_is f kind j) ∙ (e ∙ image_is f kind k))
+
+pub carried_there : (p : Pair) (f : Pairing) → IsCorrespondence p f → (a : Node) → IsListed a (nodes p Layout) → IsListed (carried f a) (nodes p Schematic)
+carried_there p f c a i = each_node p Layout (λ x. IsListed (carried f x) (nodes p Schematic))
+    (λ kind k h. nodes_has p Schematic kind (image_at f kind k) (image_below p f c kind k h)) a i
+
+carried_one : (p : Pair) (f : Pairing) → IsCorrespondence p f → (a b : Node) → IsListed a (nodes p Layout) → IsListed b (nodes p Layout) → carried f a ≡ carried f b → a ≡ b
+carried_one p f c a b i j e =
+    let s = nodes_there p Layout a i in
+    let t = nodes_there p Layout b j in
+    let kind : a.kind ≡ b.kind = ap (λ (x : Node). x.kind) e in
+    let below : b.number < size p Layout a.kind = subst (λ (k : Kind). b.number < size p Layout k) (sym kind) t.below in
+    let number : image_at f a.kind a.number ≡ image_at f a.kind b.number = ap (λ (x : Node). x.number) e ∙ ap (λ (k : Kind). image_at f k b.number) (sym kind) in
+    node_is a b (s.stands ∙ sym t.stands) kind (image_one p f c a.kind a.number b.number s.below below number)
+
+onto_kind : (p : Pair) (f : Pairing) → IsCorrespondence p f → (kind : Kind) (g : Node → ℕ)
+    → sum_by (λ k. g (node Schematic kind k)) (numbers_from 0 (size p Schematic kind)) ≡ sum_by (λ k. g (carried f (node Layout kind k))) (numbers_from 0 (size p Layout kind))
+onto_kind p f c kind g =
+    onto_sum (list_of f kind) _ _ (maps p f c kind) (λ k. g (node Schematic kind k))
+    ∙ sum_same _ _ (numbers_from 0 (size p Layout kind)) (λ k i. ap (λ (n : ℕ). g (node Schematic kind n)) (sym (image_is f kind k)))
+
+onto_owners : (p : Pair) (f : Pairing) → IsCorrespondence p f → (g : Node → ℕ) → sum_by g (owners p Schematic) ≡ sum_by (λ a. g (carried f a)) (owners p Layout)
+onto_owners p f c g =
+    let a = sum_owners p Schematic g in
+    let b = sum_owners p Layout (λ x. g (carried f x)) in
+    let d = onto_kind p f c Device g in
+    let e = onto_kind p f c Call g in
+    omega arith
+
+onto_nodes : (p : Pair) (f : Pairing) → IsCorrespondence p f → (g : Node → ℕ) → sum_by g (nodes p Schematic) ≡ sum_by (λ a. g (carried f a)) (nodes p Layout)
+onto_nodes p f c g =
+    let a = sum_nodes p Schematic g in
+    let b = sum_nodes p Layout (λ x. g (carried f x)) in
+    let d = onto_kind p f c Net g in
+    let e = onto_owners p f c g in
+    omega arith
+
+-- round 0
+pub own_decides : (a b : Own) → Decides (same_own a b) (a ≡ b)
+own_decides (OfNet a) (OfNet b) = (
+  (λ h. ap OfNet (bool_is a b h)),
+  (λ h. let e : a ≡ b = cc in subst (λ (x : Bool). beq a x ≡ true) e (bool_eq_equiv.refl a)),
+)
+  where
+    bool_is : (a b : Bool) → beq a b ≡ true → a ≡ b
+    bool_is true true h = refl
+    bool_is true false h = absurd (true≢false (sym h))
+    bool_is false true h = absurd (true≢false (sym h))
+    bool_is false false h = refl
+own_decides (OfDevice c l w) (OfDevice d m v) = (
+  (λ h.
+      let p : c ≡ d = (bytes_eq-Decides c d).0 (first (bytes_eq c d) _ h) in
+      let q : l ≡ m = (Decides-eqb l m).0 (first (l == m) _ (second (bytes_eq c d) _ h)) in
+      let r : w ≡ v = (Decides-eqb w v).0 (second (l == m) _ (second (bytes_eq c d) _ h)) in
+      cc),
+  (λ h.
+      let p : c ≡ d = cc in
+      let q : l ≡ m = cc in
+      let r : w ≡ v = cc in
+      both (bytes_eq c d) _ ((bytes_eq-Decides c d).1 p) (both (l == m) _ ((Decides-eqb l m).1 q) ((Decides-eqb w v).1 r))),
+)
+own_decides (OfCall p) (OfCall q) = ((λ h. ap OfCall ((Decides-eqb p q).0 h)), (λ h. let e : p ≡ q = cc in (Decides-eqb p q).1 e))
+own_decides OfNone OfNone = ((λ _. refl), (λ _. refl))
+own_decides a b = ((λ h. absurd (true≢false (sym h))), (λ h. absurd cc))
+
+device_at : (p : Pair) (f : Pairing) → IsCorrespondence p f → (k : ℕ) → k < size p Layout Device
+    → (d : DeviceRow) × (slice_get p.left.devices k ≡ Some d) × (e : DeviceRow) × (slice_get p.right.devices (slice_index f.devices k) ≡ Some e) × IsDeviceImage f.nets d e
+device_at p f c k h =
+    let d = found_at p.left.devices k h in
+    let e = found_at p.right.devices (slice_index f.devices k) (image_below p f c Device k h) in
+    (d.0, d.1, e.0, e.1, c.device k d.0 e.0 d.1 e.1)
+
+call_at : (p : Pair) (f : Pairing) → IsCorrespondence p f → (k : ℕ) → k < size p Layout Call
+    → (d : CallRow) × (slice_get p.left.calls k ≡ Some d) × (e : CallRow) × (slice_get p.right.calls (slice_index f.calls k) ≡ Some e) × IsCallImage p.children f.nets d e
+call_at p f c k h =
+    let d = found_at p.left.calls k h in
+    let e = found_at p.right.calls (slice_index f.calls k) (image_below p f c Call k h) in
+    (d.0, d.1, e.0, e.1, c.call k d.0 e.0 d.1 e.1)
+
+abbrev device_own : Option DeviceRow → Own
+device_own o = elim o [ None ↦ OfNone | Some d ↦ OfDevice d.class d.length d.width ]
+
+abbrev call_own : Option CallRow → Own
+call_own o = elim o [ None ↦ OfNone | Some c ↦ OfCall c.circuit ]
+
+listed_any : (n : ℕ) (xs : List ℕ) → IsListed n xs → list_any (λ x. x == n) xs ≡ true
+listed_any n xs i = any_of (λ x. x == n) n xs i ((Decides-eqb n n).1 refl)
+
+any_listed : (n : ℕ) (xs : List ℕ) → list_any (λ x. x == n) xs ≡ true → IsListed n xs
+any_listed n xs h =
+    let f = any_found (λ x. x == n) xs h in
+    subst (λ (x : ℕ). IsListed x xs) ((Decides-eqb f.0 n).0 f.2) f.1
+
+own_carried : (p : Pair) (f : Pairing) → IsCorrespondence p f → (kind : Kind) (k : ℕ) → k < size p Layout kind → own_at p Layout kind k ≡ own_at p Schematic kind (image_at f kind k)
+own_carried p f c Net k h = ap OfNet (same_test _ _
+    (λ t. listed_any (slice_index f.nets k) p.right.pins ((c.pin k h).0 (any_listed k p.left.pins t)))
+    (λ t. listed_any k p.left.pins ((c.pin k h).1 (any_listed (slice_index f.nets k) p.right.pins t))))
+own_carried p f c Device k h =
+    let t = device_at p f c k h in
+    let i = t.4 in
+    ap device_own t.1 ∙ ((let l = i.class in let m = i.length in let n = i.width in cc) ∙ sym (ap device_own t.3))
+own_carried p f c Call k h =
+    let t = call_at p f c k h in
+    ap call_own t.1 ∙ (ap OfCall t.4.pair ∙ sym (ap call_own t.3))
+
+carried_alike : (p : Pair) (f : Pairing) → IsCorrespondence p f → (a : Node) → IsListed a (nodes p Layout) → same_own (own p a) (own p (carried f a)) ≡ true
+carried_alike p f c a i = each_node p Layout (λ x. same_own (own p x) (own p (carried f x)) ≡ true)
+    (λ kind k h. (own_decides (own_at p Layout kind k) (own_at p Schematic kind (image_at f kind k))).1 (own_carried p f c kind k h)) a i
+
+-- terminals
+abbrev pub device_terms : Side → Option DeviceRow → List (End Node)
+device_terms side o = elim o [ None ↦ [] | Some d ↦ device_ends side d ]
+
+abbrev pub call_terms : Pair → Side → Option CallRow → List (End Node)
+call_terms p side o = elim o [ None ↦ [] | Some c ↦ call_ends p side c ]
+
+abbrev moved : Pairing → End Node → End Node
+moved f e = end_at e.port (carried f e.node)
+
+pub sum_four : {X : Type 0} (g : X → ℕ) (a b c d : X) → sum_by g (a ∷ b ∷ c ∷ d ∷ []) ≡ g a + (g b + (g c + g d))
+sum_four g a b c d =
+    let p = sum_by-cons g a (b ∷ c ∷ d ∷ []) in
+    let q = sum_by-cons g b (c ∷ d ∷ []) in
+    let r = sum_by-cons g c (d ∷ []) in
+    let s = sum_by-cons g d [] in
+    let z : sum_by g [] ≡ 0 = refl in
+    omega arith
+
+device_sums : (f : Pairing) (d e : DeviceRow) (g : End Node → ℕ) → IsDeviceImage f.nets d e
+    → sum_by g (device_ends Schematic e) ≡ sum_by (λ x. g (moved f x)) (device_ends Layout d)
+device_sums f d e g i =
+    let u : Port → ℕ → ℕ = λ port n. g (end_at port (node Schematic Net n)) in
+    let a = sum_four g (end_at Channel (node Schematic Net e.source)) (end_at Gate (node Schematic Net e.gate)) (end_at Channel (node Schematic Net e.drain)) (end_at Bulk (node Schematic Net e.bulk)) in
+    let b = sum_four (λ x. g (moved f x)) (end_at Channel (node Layout Net d.source)) (end_at Gate (node Layout Net d.gate)) (end_at Channel (node Layout Net d.drain)) (end_at Bulk (node Layout Net d.bulk)) in
+    let gate : g (end_at Gate (node Schematic Net (slice_index f.nets d.gate))) ≡ g (end_at Gate (node Schematic Net e.gate)) = ap (λ (n : ℕ). g (end_at Gate (node Schematic Net n))) i.gate in
+    let bulk : g (end_at Bulk (node Schematic Net (slice_index f.nets d.bulk))) ≡ g (end_at Bulk (node Schematic Net e.bulk)) = ap (λ (n : ℕ). g (end_at Bulk (node Schematic Net n))) i.bulk in
+    elim i.channel [
+      | inl h ↦
+          let s : g (end_at Channel (node Schematic Net (slice_index f.nets d.source))) ≡ g (end_at Channel (node Schematic Net e.source)) = ap (λ (n : ℕ). g (end_at Channel (node Schematic Net n))) h.0 in
+          let t : g (end_at Channel (node Schematic Net (slice_index f.nets d.drain))) ≡ g (end_at Channel (node Schematic Net e.drain)) = ap (λ (n : ℕ). g (end_at Channel (node Schematic Net n))) h.1 in
+          omega arith
+      | inr h ↦
+          let s : g (end_at Channel (node Schematic Net (slice_index f.nets d.source))) ≡ g (end_at Channel (node Schematic Net e.drain)) = ap (λ (n : ℕ). g (end_at Channel (node Schematic Net n))) h.0 in
+          let t : g (end_at Channel (node Schematic Net (slice_index f.nets d.drain))) ≡ g (end_at Channel (node Schematic Net e.source)) = ap (λ (n : ℕ). g (end_at Channel (node Schematic Net n))) h.1 in
+          omega arith
+    ]
+
+call_sums : (p : Pair) (f : Pairing) (c e : CallRow) (g : End Node → ℕ) → (i : IsCallImage p.children f.nets c e) → IsOneToOne i.pins (length c.nets) (length c.nets)
+    → sum_by g (call_ends p Schematic e) ≡ sum_by (λ x. g (moved f x)) (call_ends p Layout c)
+call_sums p f c e g i one =
+    sum-map g (λ j. end_at (Pin e.circuit j) (node Schematic Net (slice_index e.nets j))) (numbers_from 0 (length e.nets))
+    ∙ (ap (λ (n : ℕ). sum_by (λ j. g (end_at (Pin e.circuit j) (node Schematic Net (slice_index e.nets j)))) (numbers_from 0 n)) (sym i.count)
+    ∙ (onto_sum i.pins (length c.nets) (length c.nets) one (λ j. g (end_at (Pin e.circuit j) (node Schematic Net (slice_index e.nets j))))
+    ∙ (sum_same _ _ (numbers_from 0 (length c.nets)) (λ j l. ap g (end_same p f c e i j (let b = in_numbers j 0 (length c.nets) l in let t = b.1 in omega arith)))
+    ∙ sym (sum-map (λ x. g (moved f x)) (λ j. end_at (Pin c.circuit (place p Layout c.circuit j)) (node Layout Net (slice_index c.nets j))) (numbers_from 0 (length c.nets))))))
+  where
+    end_same : (p : Pair) (f : Pairing) (c e : CallRow) (i : IsCallImage p.children f.nets c e) (j : ℕ) → j < length c.nets
+        → end_at (Pin e.circuit (slice_index i.pins j)) (node Schematic Net (slice_index e.nets (slice_index i.pins j)))
+        ≡ end_at (Pin c.circuit (place p Layout c.circuit j)) (node Schematic Net (slice_index f.nets (slice_index c.nets j)))
+    end_same p f c e i j h =
+        let at_place : slice_index i.pins j ≡ place p Layout c.circuit j = sym (ap (λ (o : Option (List ℕ)). elim o [ None ↦ j | Some pins ↦ slice_index pins j ]) i.matched) in
+        ap₂ (λ (port : Port) (n : ℕ). end_at port (node Schematic Net n)) (ap₂ Pin (sym i.pair) at_place) (sym (i.at j h))
+
+terminals_carried : (p : Pair) (f : Pairing) → IsFitting p Layout → IsCorrespondence p f → (kind : Kind) (k : ℕ) → k < size p Layout kind → (g : End Node → ℕ)
+    → sum_by g (terminals p Schematic kind (image_at f kind k)) ≡ sum_by (λ x. g (moved f x)) (terminals p Layout kind k)
+terminals_carried p f fit c Net k h g = refl
+terminals_carried p f fit c Device k h g =
+    let t = device_at p f c k h in
+    ap (λ (o : Option DeviceRow). sum_by g (device_terms Schematic o)) t.3
+    ∙ (device_sums f t.0 t.2 g t.4 ∙ sym (ap (λ (o : Option DeviceRow). sum_by (λ x. g (moved f x)) (device_terms Layout o)) t.1))
+terminals_carried p f fit c Call k h g =
+    let t = call_at p f c k h in
+    ap (λ (o : Option CallRow). sum_by g (call_terms p Schematic o)) t.3
+    ∙ (call_sums p f t.0 t.2 g t.4 (fit.pins k t.0 t.1 t.4.pins t.4.matched) ∙ sym (ap (λ (o : Option CallRow). sum_by (λ x. g (moved f x)) (call_terms p Layout o)) t.1))
+
+-- the nodes at the terminals
+seen : {X : Type 0} (o : Option X) → (o ≡ None) ⊎ ((x : X) × (o ≡ Some x))
+seen None = inl refl
+seen (Some x) = inr (x, refl)
+
+in_device : (side : Side) (d : DeviceRow) (e : End Node) → IsListed e (device_ends side d) → e.node ≡ node side Net e.node.number
+in_device side d e i = elim i [
+  | inl h ↦ subst (λ (x : End Node). x.node ≡ node side Net x.node.number) (sym h) refl
+  | inr j ↦ elim j [
+    | inl h ↦ subst (λ (x : End Node). x.node ≡ node side Net x.node.number) (sym h) refl
+    | inr l ↦ elim l [
+      | inl h ↦ subst (λ (x : End Node). x.node ≡ node side Net x.node.number) (sym h) refl
+      | inr m ↦ elim m [
+        | inl h ↦ subst (λ (x : End Node). x.node ≡ node side Net x.node.number) (sym h) refl
+        | inr n ↦ absurd n
+      ]
+    ]
+  ]
+]
+
+terminals_listed : (p : Pair) (side : Side) → IsFitting p side → (kind : Kind) (k : ℕ) (e : End Node) → IsListed e (terminals p side kind k) → IsListed e.node (nodes p side)
+terminals_listed p side fit Net k e i = absurd i
+terminals_listed p side fit Device k e i = elim (seen (slice_get (circuit_of p side).devices k)) [
+  | inl none ↦ absurd (subst (λ (o : Option DeviceRow). IsListed e (device_terms side o)) none i)
+  | inr some ↦
+      let j : IsListed e (device_ends side some.0) = subst (λ (o : Option DeviceRow). IsListed e (device_terms side o)) some.1 i in
+      subst (λ (n : Node). IsListed n (nodes p side)) (sym (in_device side some.0 e j)) (nodes_has p side Net e.node.number (fit.devices k some.0 some.1 e j))
+]
+terminals_listed p side fit Call k e i = elim (seen (slice_get (circuit_of p side).calls k)) [
+  | inl none ↦ absurd (subst (λ (o : Option CallRow). IsListed e (call_terms p side o)) none i)
+  | inr some ↦
+      let j : IsListed e (call_ends p side some.0) = subst (λ (o : Option CallRow). IsListed e (call_terms p side o)) some.1 i in
+      let m = in_map (λ x. end_at (Pin some.0.circuit (place p side some.0.circuit x)) (node side Net (slice_index some.0.nets x))) e (numbers_from 0 (length some.0.nets)) j in
+      let b = in_numbers m.0 0 (length some.0.nets) m.1 in
+      let high = b.1 in
+      subst (λ (x : End Node). IsListed x.node (nodes p side)) (sym m.2)
+      (nodes_has p side Net (slice_index some.0.nets m.0) (fit.calls k some.0 some.1 (slice_index some.0.nets m.0) (listed_index some.0.nets m.0 (omega arith))))
+]
+
+in_flat : {X Y : Type 0} (h : X → List Y) (y : Y) (xs : List X) → IsListed y (flat_map h xs) → (x : X) × IsListed x xs × IsListed y (h x)
+in_flat h y [] i = absurd i
+in_flat h y (x ∷ xs) i = elim (in_either y (h x) (flat_map h xs) i) [
+  | inl j ↦ (x, inl refl, j)
+  | inr j ↦ let f = in_flat h y xs j in (f.0, inr f.1, f.2)
+]
+
+in_turned : (net owner : Node) (es : List (End Node)) (e : End Node) → IsListed e (turned net owner es) → e.node ≡ owner
+in_turned net owner [] e i = absurd i
+in_turned net owner (x ∷ xs) e i = elim (is_it (same_node x.node net)) [
+  | inl r ↦ elim (subst (λ (b : Bool). IsListed e (cond b (end_at x.port owner ∷ turned net owner xs) (turned net owner xs))) r i) [
+    | inl h ↦ ap (λ (y : End Node). y.node) h
+    | inr j ↦ in_turned net owner xs e j
+  ]
+  | inr r ↦ in_turned net owner xs e (subst (λ (b : Bool). IsListed e (cond b (end_at x.port owner ∷ turned net owner xs) (turned net owner xs))) r i)
+]
+
+near_listed : (p : Pair) (side : Side) → IsFitting p side → (kind : Kind) (k : ℕ) (e : End Node) → IsListed e (near_at p side kind k) → IsListed e.node (nodes p side)
+near_listed p side fit Net k e i =
+    let f = in_flat (λ o. turned (node side Net k) o (terminals_of p o)) e (owners p side) i in
+    subst (λ (n : Node). IsListed n (nodes p side)) (sym (in_turned (node side Net k) f.0 (terminals_of p f.0) e f.2))
+    (in_right f.0 (map (node side Net) (numbers_from 0 (size p side Net))) (owners p side) f.1)
+near_listed p side fit Device k e i = terminals_listed p side fit Device k e i
+near_listed p side fit Call k e i = terminals_listed p side fit Call k e i
+
+pub web_good : (p : Pair) → IsFitting p Layout → IsFitting p Schematic → IsWeb (web_of p)
+web_good p l r = record {
+  is = node_decides;
+  alike = at_equivalence same_own (own p) (decided_equivalence same_own own_decides);
+  left_near = λ a i. each_node p Layout (λ x. (e : End Node) → IsListed e (near_at p x.side x.kind x.number) → IsListed e.node (nodes p Layout)) (λ kind k h e j. near_listed p Layout l kind k e j) a i;
+  right_near = λ a i. each_node p Schematic (λ x. (e : End Node) → IsListed e (near_at p x.side x.kind x.number) → IsListed e.node (nodes p Schematic)) (λ kind k h e j. near_listed p Schematic r kind k e j) a i;
+  apart = λ a i j. let s = nodes_there p Layout a i in let t = nodes_there p Schematic a j in let e : Layout ≡ Schematic = sym s.stands ∙ t.stands in cc;
+}
+
+-- nets
+sum-turned : (g : End Node → ℕ) (net owner : Node) (es : List (End Node)) → sum_by g (turned net owner es) ≡ sum_by (λ e. cond (same_node e.node net) (g (end_at e.port owner)) 0) es
+sum-turned g net owner [] = refl
+sum-turned g net owner (e ∷ es) =
+    let b = sum_by-cons (λ x. cond {A = ℕ} (same_node x.node net) (g (end_at x.port owner)) 0) e es in
+    let rest = sum-turned g net owner es in
+    elim (is_it (same_node e.node net)) [
+      | inl r ↦
+          let h : sum_by g (turned net owner (e ∷ es)) ≡ sum_by g (end_at e.port owner ∷ turned net owner es)
+          = ap (λ (t : Bool). sum_by g (cond t (end_at e.port owner ∷ turned net owner es) (turned net owner es))) r in
+          let a = sum_by-cons g (end_at e.port owner) (turned net owner es) in
+          let one : ◌≡◌ {A = ℕ} (cond (same_node e.node net) (g (end_at e.port owner)) 0) (g (end_at e.port owner)) = ap (λ (t : Bool). cond {A = ℕ} t (g (end_at e.port owner)) 0) r in
+          omega arith
+      | inr r ↦
+          let h : sum_by g (turned net owner (e ∷ es)) ≡ sum_by g (turned net owner es)
+          = ap (λ (t : Bool). sum_by g (cond t (end_at e.port owner ∷ turned net owner es) (turned net owner es))) r in
+          let none : ◌≡◌ {A = ℕ} (cond (same_node e.node net) (g (end_at e.port owner)) 0) 0 = ap (λ (t : Bool). cond {A = ℕ} t (g (end_at e.port owner)) 0) r in
+          omega arith
+    ]
+
+same_carried : (p : Pair) (f : Pairing) → IsCorrespondence p f → (a b : Node) → IsListed a (nodes p Layout) → IsListed b (nodes p Layout) → same_node (carried f a) (carried f b) ≡ same_node a b
+same_carried p f c a b i j = same_test _ _
+    (λ h. (node_decides a b).1 (carried_one p f c a b i j ((node_decides (carried f a) (carried f b)).0 h)))
+    (λ h. (node_decides (carried f a) (carried f b)).1 (ap (carried f) ((node_decides a b).0 h)))
+
+turned_carried : (p : Pair) (f : Pairing) → IsFitting p Layout → IsCorrespondence p f → (k : ℕ) → k < size p Layout Net → (g : End Node → ℕ) (kind : Kind) (j : ℕ) → j < size p Layout kind
+    → sum_by g (turned (carried f (node Layout Net k)) (carried f (node Layout kind j)) (terminals_of p (carried f (node Layout kind j))))
+    ≡ sum_by (λ e. g (moved f e)) (turned (node Layout Net k) (node Layout kind j) (terminals_of p (node Layout kind j)))
+turned_carried p f fit c k low g kind j h =
+    sum-turned g (carried f (node Layout Net k)) (carried f (node Layout kind j)) (terminals p Schematic kind (image_at f kind j))
+    ∙ (terminals_carried p f fit c kind j h (λ e. cond (same_node e.node (carried f (node Layout Net k))) (g (end_at e.port (carried f (node Layout kind j)))) 0)
+    ∙ (sum_same _ _ (terminals p Layout kind j) (λ e i. ap (λ (t : Bool). cond {A = ℕ} t (g (end_at e.port (carried f (node Layout kind j)))) 0)
+    (same_carried p f c e.node (node Layout Net k) (terminals_listed p Layout fit kind j e i) (nodes_has p Layout Net k low)))
+    ∙ sym (sum-turned (λ e. g (moved f e)) (node Layout Net k) (node Layout kind j) (terminals p Layout kind j))))
+
+near_carried : (p : Pair) (f : Pairing) → IsFitting p Layout → IsCorrespondence p f → (kind : Kind) (k : ℕ) → k < size p Layout kind → (g : End Node → ℕ)
+    → sum_by g (near_at p Schematic kind (image_at f kind k)) ≡ sum_by (λ x. g (moved f x)) (near_at p Layout kind k)
+near_carried p f fit c Net k h g =
+    sum-flat g (λ o. turned (carried f (node Layout Net k)) o (terminals_of p o)) (owners p Schematic)
+    ∙ (onto_owners p f c (λ o. sum_by g (turned (carried f (node Layout Net k)) o (terminals_of p o)))
+    ∙ (sum_same _ _ (owners p Layout) (λ o i. each_node p Layout
+    (λ x. sum_by g (turned (carried f (node Layout Net k)) (carried f x) (terminals_of p (carried f x))) ≡ sum_by (λ e. g (moved f e)) (turned (node Layout Net k) x (terminals_of p x)))
+    (λ kind j l. turned_carried p f fit c k h g kind j l) o (in_right o (map (node Layout Net) (numbers_from 0 (size p Layout Net))) (owners p Layout) i))
+    ∙ sym (sum-flat (λ e. g (moved f e)) (λ o. turned (node Layout Net k) o (terminals_of p o)) (owners p Layout))))
+near_carried p f fit c Device k h g = terminals_carried p f fit c Device k h g
+near_carried p f fit c Call k h g = terminals_carried p f fit c Call k h g
+
+pub carries : (p : Pair) (f : Pairing) → IsFitting p Layout → IsFitting p Schematic → IsCorrespondence p f → Carries (web_of p) (carried f)
+carries p f l r c = record {
+  there = λ a i. carried_there p f c a i;
+  one = λ a b i j e. carried_one p f c a b i j e;
+  onto = λ q. onto_nodes p f c (λ n. cond (q n) 1 0);
+  alike = λ a i. carried_alike p f c a i;
+  near = λ a i q. each_node p Layout
+      (λ x. count_by q (near_at p Schematic x.kind (image_at f x.kind x.number)) ≡ count_by (λ e. q (moved f e)) (near_at p x.side x.kind x.number))
+      (λ kind k h. near_carried p f l c kind k h (λ e. cond (q e) 1 0)) a i;
+}

@@ -1,0 +1,10 @@
+//! Small parts of the comparison of two circuits: classes split by a count, a test for maps that are one to one, and for the image of a device.
+#![tactic(auto)]
+
+mod classes;
+mod marks;
+mod rows;
+
+pub use classes::split;
+pub use marks::is_one_to_one;
+pub use rows::{DeviceView, is_device_image};

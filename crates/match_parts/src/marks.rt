@@ -1,0 +1,30 @@
+ghost use Rattle.std.specs.Prelude.{◌≡◌, length, Decides};
+ghost use Rattle.match_laws.specs.Circuits.{IsOneToOne};
+ghost use Rattle.match_parts.specs.Marks.{AreUnset};
+
+/// Whether the numbers are a one-to-one map onto the numbers below the number of marks. What the marks hold is lost. Takes no memory, and time
+/// in proportion to both lengths.
+pub fn is_one_to_one(numbers: &[u32], marks: &mut [bool]) -> bool
+    ensures { Decides result (IsOneToOne numbers.now (length numbers.now) (length marks.old)) }
+{
+    clear(marks);
+    for i in 0..numbers.len() {
+        let place = numbers[i] as usize;
+        if place >= marks.len() {
+            return false;
+        }
+        if marks[place] {
+            return false;
+        }
+        marks[place] = true;
+    }
+    numbers.len() == marks.len()
+}
+
+fn clear(marks: &mut [bool])
+    ensures { AreUnset (length marks.old) marks.new }
+{
+    for mark in marks.iter_mut() {
+        *mark = false;
+    }
+}

@@ -1,0 +1,38 @@
+ghost use Rattle.std.specs.Prelude.{length, Decides};
+ghost use Rattle.match_laws.specs.Circuits.{IsDeviceImage};
+ghost use Rattle.match_parts.specs.Rows.{device_of, AreNets};
+
+/// A transistor as it is compared: its class, its sizes in femtometres, and the nets of its terminals.
+#[derive(Clone, Copy)]
+pub struct DeviceView<'a> {
+    pub class: &'a [u8],
+    pub length: u128,
+    pub width: u128,
+    pub source: u32,
+    pub gate: u32,
+    pub drain: u32,
+    pub bulk: u32,
+}
+
+/// Whether the right device is the image of the left one, by the right number of each left net: the same class, length and width, gate and bulk on
+/// their images, source and drain on theirs in either order.
+pub fn is_device_image(nets: &[u32], left: &DeviceView<'_>, right: &DeviceView<'_>) -> bool
+    requires { AreNets (device_of left.now) (length nets.now) }
+    ensures { Decides result (IsDeviceImage nets.now (device_of left.now) (device_of right.now)) }
+{
+    if left.class != right.class {
+        return false;
+    }
+    if left.length != right.length || left.width != right.width {
+        return false;
+    }
+    if nets[left.gate as usize] != right.gate || nets[left.bulk as usize] != right.bulk {
+        return false;
+    }
+    let source = nets[left.source as usize];
+    let drain = nets[left.drain as usize];
+    if source == right.source && drain == right.drain {
+        return true;
+    }
+    source == right.drain && drain == right.source
+}

@@ -1,0 +1,14 @@
+pub mod Blocking
+pub mod Combining
+pub mod Dividing
+pub mod Growing
+pub mod Joining
+pub mod Merging
+pub mod OneRow
+pub mod Ordering
+pub mod RowRuns
+pub mod Sorting
+pub mod Splitting
+pub mod Sweeping
+pub mod Unique
+pub mod Moving

@@ -1,0 +1,33 @@
+-- Booleans of sets.
+use Rattle.std.specs.Prelude.{ℤ, pos, ◌-ℤ◌, ◌≤ℤ◌, Bool, ◌&&◌, ◌||◌, not, List, [], ◌∷◌}
+use Rattle.rect_sets.specs.Rects.{covers}
+use Rattle.rect_sets.specs.Edges.{differ}
+use Rattle.geo_base.specs.declared.shapes.Rect.{Rect}
+use Rattle.geo_base.specs.declared.shapes.Square.{Square}
+use Rattle.rect_sets.specs.declared.row.Edge.{Edge}
+use Rattle.rect_sets.specs.declared.row.Rule.{Rule}
+use Rattle.rect_sets.specs.declared.row.Rule.TheVariants.{First, And, Or, Not, Xor}
+
+pub record IsWeight (w : ℤ) : Type 0 where
+  pub low : pos 0 ≤ℤ w
+  pub high : w ≤ℤ pos 1
+
+abbrev pub left_of : ℤ → ℤ → Rect → Edge
+left_of first second r = record { x = r.x1; y1 = r.y1; y2 = r.y2; first = first; second = second }
+
+abbrev pub right_of : ℤ → ℤ → Rect → Edge
+right_of first second r = record { x = r.x2; y1 = r.y1; y2 = r.y2; first = pos 0 -ℤ first; second = pos 0 -ℤ second }
+
+abbrev pub edges_of : ℤ → ℤ → List Rect → List Edge
+edges_of first second [] = []
+edges_of first second (r ∷ rects) = left_of first second r ∷ right_of first second r ∷ edges_of first second rects
+
+abbrev pub combined : Rule → Bool → Bool → Bool
+combined First a b = a
+combined And a b = a && b
+combined Or a b = a || b
+combined Not a b = a && not b
+combined Xor a b = differ a b
+
+abbrev pub combined_set : Rule → List Rect → List Rect → Square → Bool
+combined_set rule a b s = combined rule (covers a s) (covers b s)

@@ -1,0 +1,14 @@
+pub mod Actives
+pub mod Blocks
+pub mod Combined
+pub mod Divided
+pub mod Edges
+pub mod Halves
+pub mod Opens
+pub mod Orders
+pub mod Rects
+pub mod Rows
+pub mod Spans
+pub mod Sweeps
+pub mod Moves
+pub mod Near

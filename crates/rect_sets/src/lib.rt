@@ -1,0 +1,16 @@
+//! Finite sets of unit squares, each with one list of rectangles; and the sweep that makes them.
+#![tactic(auto)]
+
+mod active;
+mod booleans;
+mod cuts;
+mod divide;
+mod moves;
+mod opens;
+mod order;
+mod row;
+mod set;
+mod strips;
+
+pub use row::{Edge, Rule};
+pub use set::{RectSet, combine_rects, one_list, sweep};

@@ -1,0 +1,142 @@
+ghost use Rattle.std.specs.Prelude.{◌≡◌, IfOk};
+ghost use Rattle.std.specs.List.{All};
+ghost use Rattle.geo_base.specs.Rects.{IsRect};
+ghost use Rattle.rect_sets.specs.Rects.{covers, OneListLaw};
+ghost use Rattle.rect_sets.specs.Edges.{set_of, IsEdge, IsBalanced};
+ghost use Rattle.rect_sets.specs.Combined.{combined};
+ghost use Rattle.geo_base.specs.declared.shapes.Square.{Square};
+
+use crate::divide::combine_halves;
+use crate::moves::{images, meeting, shifted};
+use crate::order::in_order;
+use crate::row::{Edge, Rule};
+use crate::strips::blocks;
+use geo_base::{Motion, Rect, Square, Turn};
+use std::alloc::{AllocError, Global};
+use std::marker::Model;
+
+/// A finite set of unit squares, as its canonical list of rectangles. A rectangle is in the list exactly where, in each of its rows, its x
+/// range is a maximal run of the set, and neither the row below nor the row above has this same run. The list is ordered by y1, then x1.
+#[derive(Drop)]
+pub struct RectSet {
+    rects: Vec<Rect>,
+}
+
+impl Model for RectSet {
+    ghost use Rattle.std.specs.Prelude.{List};
+    ghost use Rattle.geo_base.specs.declared.shapes.Rect.{Rect};
+    ghost use Rattle.rect_sets.specs.Rects.{IsCanonical};
+
+    ghost Value = { List Rect };
+
+    ghost view = { λ a. a.rects.items };
+
+    ghost invariant = { λ a. IsCanonical a.rects.items };
+}
+
+impl RectSet {
+    ghost use Rattle.std.specs.Prelude.{◌≡◌, ◌&&◌, [], IfOk};
+    ghost use Rattle.std.specs.List.{All};
+    ghost use Rattle.geo_base.specs.Rects.{has, IsRect};
+    ghost use Rattle.geo_base.specs.Near.{IsNearMotion};
+    ghost use Rattle.geo_base.specs.Motions.{moved_square};
+    ghost use Rattle.rect_sets.specs.Near.{IsNearSet};
+    ghost use Rattle.rect_sets.specs.Rects.{covers, IsCanonical};
+    ghost use Rattle.geo_base.specs.declared.shapes.Square.{Square};
+
+    /// The set of no squares.
+    pub fn empty(alloc: Global) -> RectSet
+        ensures { result ≡ [] }
+    {
+        RectSet {
+            rects: Vec::new(alloc),
+        }
+    }
+
+    /// Whether the set has the square, in O(n) for n rectangles.
+    pub fn contains(&self, s: Square) -> bool
+        ensures { result ≡ covers self.now s }
+    {
+        self.rects.iter().any(|r| r.has(s))
+    }
+
+    /// The canonical list.
+    pub fn rects(&self) -> &[Rect]
+        ensures list { result.now ≡ self.now }
+        ensures canonical { IsCanonical self.now }
+        ensures sound { All IsRect self.now }
+    {
+        self.rects.as_slice()
+    }
+
+    /// The union of any rectangles, in O(n log n + k + m log m): n rectangles, k crossings of edges and strips, m rectangles of the result.
+    pub fn canon(alloc: Global, rects: Vec<Rect>) -> Result<RectSet, AllocError>
+        requires { All IsRect rects.items }
+        ensures { IfOk result (λ r. (s : Square) → covers r s ≡ covers rects.items s) }
+    {
+        let set = combine_rects(alloc, &rects, &[], Rule::First)?;
+        Ok(set)
+    }
+
+    /// The part of the set in a rectangle, in O(n) and the cost of `canon` for the rectangles that reach into it.
+    pub fn window(&self, alloc: Global, w: Rect) -> Result<RectSet, AllocError>
+        requires { IsRect w }
+        ensures { IfOk result (λ r. (s : Square) → covers r s ≡ (covers self.now s && has w s)) }
+    {
+        let near = meeting(alloc, self.rects(), &w)?;
+        let set = combine_rects(alloc, &near, &[w], Rule::And)?;
+        Ok(set)
+    }
+
+    /// The image of the set under a motion, in O(n) for a plain shift, else as `canon`.
+    pub fn moved(&self, alloc: Global, m: &Motion) -> Result<RectSet, AllocError>
+        requires near { IsNearSet self.now }
+        requires motion { IsNearMotion m.now }
+        ensures { IfOk result (λ r. (s : Square) → covers r (moved_square m.now s) ≡ covers self.now s) }
+    {
+        match m.turn {
+            Turn::R0 => {
+                let rects = shifted(alloc, self.rects(), m)?;
+                Ok(RectSet { rects })
+            }
+            _ => {
+                let rects = images(alloc, self.rects(), m)?;
+                let set = RectSet::canon(alloc, rects)?;
+                Ok(set)
+            }
+        }
+    }
+}
+
+/// The squares where the rule holds of two unions of rectangles: of First, those of `a`. Cost as `RectSet::canon`.
+pub fn combine_rects(
+    alloc: Global,
+    a: &[Rect],
+    b: &[Rect],
+    rule: Rule,
+) -> Result<RectSet, AllocError>
+    requires a { All IsRect a.now }
+    requires b { All IsRect b.now }
+    ensures { IfOk result (λ r. (s : Square) → covers r s ≡ combined rule (covers a.now s) (covers b.now s)) }
+{
+    let spare = a.len().saturating_add(b.len()).saturating_mul(2);
+    let found = combine_halves(alloc, a, b, rule, 64, spare)?;
+    let rects = in_order(alloc, found)?;
+    Ok(RectSet { rects })
+}
+
+/// The squares where the rule holds of the two sums of the weights of the edges that act on them. Each row's weights sum to 0.
+pub fn sweep(alloc: Global, edges: Vec<Edge>, rule: Rule) -> Result<RectSet, AllocError>
+    requires edges { All IsEdge edges.items }
+    requires balanced { IsBalanced edges.items }
+    ensures { IfOk result (λ r. (s : Square) → covers r s ≡ set_of rule edges.items s) }
+{
+    let found = blocks(alloc, edges, rule)?;
+    let rects = in_order(alloc, found)?;
+    Ok(RectSet { rects })
+}
+
+/// Each finite set has one canonical list: two that cover the same squares are equal.
+pub fn one_list()
+    ensures { OneListLaw }
+{}

@@ -1,0 +1,6 @@
+pub mod Web
+pub mod Nodes
+pub mod Rounds
+pub mod Guesses
+pub mod Colours
+pub mod Stack
