@@ -14,7 +14,7 @@ one_item r y zero h = let e : Some r ≡ Some y = h in (refl, cc)
 one_item r y (suc n) h = let e : slice_get [] n ≡ Some y = h in absurd cc
 
 module _ (f o : Netlist) (w : Choice) (are : AreCut f o w) where
-  given_is : (c : ℕ) (x : Circuit) → IsCircuit f c x → given_of f c ≡ x
+  pub given_is : (c : ℕ) (x : Circuit) → IsCircuit f c x → given_of f c ≡ x
   given_is c x is = ap circuit_or is
 
   row_is : (c k : ℕ) (row : CallRow) → IsCall f c k row → row_of f c k ≡ row
@@ -23,7 +23,7 @@ module _ (f o : Netlist) (w : Choice) (are : AreCut f o w) where
   call_here : (c k : ℕ) (row : CallRow) → IsCall f c k row → slice_get (given_of f c).calls k ≡ Some row
   call_here c k row (x, is, at) = subst (λ (z : Circuit). slice_get z.calls k ≡ Some row) (sym (given_is c x is)) at
 
-  cut_is : (c : ℕ) (y : Circuit) → w.kept c ≡ true → IsCircuit o (w.number c) y → y ≡ cut f w c
+  pub cut_is : (c : ℕ) (y : Circuit) → w.kept c ≡ true → IsCircuit o (w.number c) y → y ≡ cut f w c
   cut_is c y kept is = let t = are.there c kept in cc
 
   -- held pins
@@ -33,7 +33,7 @@ module _ (f o : Netlist) (w : Choice) (are : AreCut f o w) where
       let one : slice_get (held_pin f w c i n) 0 ≡ Some n = subst (λ (t : Bool). slice_get (cond t (n ∷ []) []) 0 ≡ Some n) (sym h) refl in
       piece_at (held_pin f w c) (given_of f c).pins i 0 n n here one
 
-  held_of : (c q n : ℕ) (x : Circuit) → IsCircuit f c x → slice_get (held_pins f w c) q ≡ Some n → IsPin f c n n × (w.held c n ≡ true)
+  pub held_of : (c q n : ℕ) (x : Circuit) → IsCircuit f c x → slice_get (held_pins f w c) q ≡ Some n → IsPin f c n n × (w.held c n ≡ true)
   held_of c q n x is at =
       let p = piece_of (held_pin f w c) (given_of f c).pins q n at in
       let here : IsPin f c p.item p.of = (x, is, subst (λ (z : Circuit). slice_get z.pins p.item ≡ Some p.of) (given_is c x is) p.is) in

@@ -12,3 +12,5 @@ pub mod Pieces
 pub mod Unique
 pub mod Wholly
 pub mod Worded
+pub mod OneAligned
+pub mod Nested

@@ -6,7 +6,7 @@ use Rattle.plain_netlist.specs.Netlist.{CallRow, Circuit, Netlist, IsCircuit, Is
 use Rattle.align_laws.specs.Lists.{NetAt, DeviceAt, CallAt, FlatCircuit, over, indexed, pieces, place, past, place_of, net_below, device_below, call_below, own_net, own_device, inner_nets, net_in, inner_devices, own_calls, inner_calls, inlined, IsGood}
 use Rattle.align_laws.specs.Words.{AreNumbered, OneFlatLaw, OneNumberLaw}
 
-pieces_same : {A B : Type 0} (f g : ℕ → A → List B) (xs : List A) → ((k : ℕ) (x : A) → slice_get xs k ≡ Some x → f k x ≡ g k x) → pieces f xs ≡ pieces g xs
+pub pieces_same : {A B : Type 0} (f g : ℕ → A → List B) (xs : List A) → ((k : ℕ) (x : A) → slice_get xs k ≡ Some x → f k x ≡ g k x) → pieces f xs ≡ pieces g xs
 pieces_same f g [] h = refl
 pieces_same {B = B} f g (x ∷ xs) h = ap₂ (λ (p q : List B). p ++ q) (h 0 x refl) (pieces_same (λ k. f (suc k)) (λ k. g (suc k)) xs (λ k y e. h (suc k) y e))
 

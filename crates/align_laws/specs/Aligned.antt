@@ -1,6 +1,6 @@
 -- An aligned netlist: flattened, cut and in normal form; and that it keeps the expansion.
 use Rattle.std.specs.Prelude.{◌≡◌, ◌<◌, ℕ, not, true, List, [], ◌∷◌, ◌++◌, length, flat_map, slice_get}
-use Rattle.plain_netlist.specs.Netlist.{DeviceRow, CallRow, Circuit, Netlist, Slot}
+use Rattle.plain_netlist.specs.Netlist.{DeviceRow, CallRow, Circuit, Netlist, IsCircuit, Slot}
 use Rattle.align_laws.specs.Lists.{FlatCircuit, given_of, maps_of, AreFlat, IsGood}
 use Rattle.align_laws.specs.Cut.{Choice, cut, cuts_of, AreCut}
 use Rattle.align_laws.specs.Whole.{IsKeptExpansion, whole_net, whole_device}
@@ -40,3 +40,8 @@ aligned_device g o w a = whole_device (maps_of g (λ c. not (w.kept c)) a.flats)
 -- each kept circuit expands to the same devices and nets as before
 abbrev pub AlignedLaw : Type 0
 AlignedLaw = (g o : Netlist) (w : Choice) (a : IsAligned g o w) (c : ℕ) → w.kept c ≡ true → IsKeptExpansion g o c (w.number c) (aligned_net g o w a c) (aligned_device g o w a c)
+
+-- and what is kept, and under which numbers, determines the circuits of the aligned netlist
+abbrev pub OneAlignedLaw : Type 0
+OneAlignedLaw = (g o p : Netlist) (a b : Choice) → IsAligned g o a → IsAligned g p b → ((c : ℕ) → a.kept c ≡ b.kept c) → ((c : ℕ) → a.number c ≡ b.number c)
+    → (c : ℕ) → a.kept c ≡ true → (x y : Circuit) → IsCircuit o (a.number c) x → IsCircuit p (a.number c) y → x ≡ y

@@ -5,3 +5,4 @@ pub mod Lists
 pub mod Cut
 pub mod Words
 pub mod Aligned
+pub mod Sample

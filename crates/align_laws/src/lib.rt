@@ -10,7 +10,8 @@ ghost use Rattle.align_laws.specs.Prune.{PruneLaw};
 ghost use Rattle.align_laws.specs.Whole.{AlignLaw};
 ghost use Rattle.align_laws.specs.Lists.{ListLaw};
 ghost use Rattle.align_laws.specs.Cut.{CutLaw};
-ghost use Rattle.align_laws.specs.Aligned.{AlignedLaw};
+ghost use Rattle.align_laws.specs.Aligned.{AlignedLaw, OneAlignedLaw};
+ghost use Rattle.align_laws.specs.Sample.{NestedLaw};
 ghost use Rattle.align_laws.specs.Words.{InsideLaw, WholeLaw, OneFlatLaw, OneNumberLaw, OneHeldLaw, LowerLaw, FlatGoodLaw, InnerNetLaw, InnerCallLaw};
 
 /// Flattening leaves the expansion as it is.
@@ -55,7 +56,13 @@ pub fn once()
     ensures good { FlatGoodLaw }
 {}
 
-/// An aligned netlist expands to the same devices and nets as the given one.
+/// An aligned netlist expands to the same devices and nets as the given one, and there is one for what is kept.
 pub fn aligned()
-    ensures { AlignedLaw }
+    ensures expansion { AlignedLaw }
+    ensures one { OneAlignedLaw }
+{}
+
+/// Three nested circuits whose middle one is flattened: the definitions computed.
+pub fn one_nested()
+    ensures { NestedLaw }
 {}

@@ -9,21 +9,24 @@ use Rattle.fixed_num.specs.declared.femto.ValueFault.TheVariants.{NotNumber, Too
 use Rattle.fixed_num.specs.declared.power.Power.{Power as ScannedPower}
 use Rattle.fixed_num.specs.Values.{Number, IsWorth, IsAbove, suffix_of}
 
+-- mantissa * 10 ^ up / 10 ^ down
 abbrev pub fraction : ℕ → ℕ → ℕ → Number
 fraction mantissa up down = record { mantissa = mantissa; up = up; down = down }
 
--- the digits at a text's head, and what is behind them
+-- the digits at a text's head
 abbrev pub digits_of : List ℕ → List ℕ
 digits_of text = take_while is_ascii_digit text
 
+-- what is behind them
 abbrev pub after_digits : List ℕ → List ℕ
 after_digits text = drop (prefix_len is_ascii_digit text) text
 
--- the digits behind a point, where the text begins with one, and what is behind them
+-- the digits behind a point (46), where the text begins with one
 abbrev pub fraction_of : List ℕ → List ℕ
 fraction_of [] = []
 fraction_of (b ∷ bs) = if b == 46 then digits_of bs else []
 
+-- what is behind them
 abbrev pub after_fraction : List ℕ → List ℕ
 after_fraction [] = []
 after_fraction (b ∷ bs) = if b == 46 then after_digits bs else b ∷ bs
@@ -34,6 +37,7 @@ pub record Power : Type 0 where
   pub digits : List ℕ
   pub rest : List ℕ
 
+-- an exponent's digits at a text's head
 abbrev pub power_with : Bool → List ℕ → Power
 power_with minus text = record { minus = minus; digits = digits_of text; rest = after_digits text }
 
@@ -42,10 +46,11 @@ abbrev pub signed_power : List ℕ → Power
 signed_power [] = power_with false []
 signed_power (b ∷ bs) = if b == 43 then power_with false bs else if b == 45 then power_with true bs else power_with false (b ∷ bs)
 
--- what stands behind the digits: where it begins with `e`, an exponent of one digit or more
+-- an exponent of one digit or more
 abbrev pub has_digits : Power → Option Power
 has_digits p = if length p.digits == 0 then None else Some p
 
+-- what stands behind a value's digits: an exponent, where it begins with e (101)
 abbrev pub power_of : List ℕ → Option Power
 power_of [] = Some (record { minus = false; digits = []; rest = [] })
 power_of (b ∷ bs) = if to_ascii_lowercase b == 101 then has_digits (signed_power bs) else Some (record { minus = false; digits = []; rest = b ∷ bs })
@@ -61,14 +66,17 @@ number_at whole places p unit =
     (unit + (if p.minus then 0 else digits_value 10 p.digits))
     (length places + (if p.minus then digits_value 10 p.digits else 0))
 
+-- the number, where there is a suffix
 abbrev pub with_unit : List ℕ → List ℕ → Power → Option ℕ → Option Number
 with_unit whole places p None = None
 with_unit whole places p (Some unit) = Some (number_at whole places p unit)
 
+-- the number, where the exponent is in order
 abbrev pub with_power : List ℕ → List ℕ → Option Power → Option Number
 with_power whole places None = None
 with_power whole places (Some p) = with_unit whole places p (unit_of p.rest)
 
+-- the number, where there is a digit
 abbrev pub with_digits : List ℕ → List ℕ → List ℕ → Option Number
 with_digits whole places rest = if length whole == 0 && length places == 0 then None else with_power whole places (power_of rest)
 
@@ -76,6 +84,7 @@ with_digits whole places rest = if length whole == 0 && length places == 0 then 
 abbrev pub number_of : List ℕ → Option Number
 number_of text = with_digits (digits_of text) (fraction_of (after_digits text)) (after_fraction (after_digits text))
 
+-- what the code found of an exponent
 abbrev pub power_seen : ScannedPower → Power
 power_seen p = record { minus = p.minus; digits = p.digits.now; rest = p.rest.now }
 

@@ -18,6 +18,7 @@ IsWorth n f = n.mantissa * 10 ^ n.up ≡ f * 10 ^ n.down
 abbrev pub IsAbove : Number → Type 0
 IsAbove n = 10 ^ 18 * 10 ^ n.down < n.mantissa * 10 ^ n.up
 
+-- the sign of an exponent: none, `+` or `-`
 pub data Sign : Type 0 where
   Unsigned : Sign
   Plus : Sign
@@ -36,20 +37,23 @@ pub record Parts : Type 0 where
   pub exponent : Option Exponent
   pub letters : List ℕ
 
--- how each part is written
+-- how the digits behind a point are written: 46 is the point
 abbrev pub fraction_text : Option (List ℕ) → List ℕ
 fraction_text None = []
 fraction_text (Some ds) = 46 ∷ ds
 
+-- how a sign is written: 43 is `+`, 45 is `-`
 abbrev pub sign_text : Sign → List ℕ
 sign_text Unsigned = []
 sign_text Plus = 43 ∷ []
 sign_text Minus = 45 ∷ []
 
+-- how an exponent is written
 abbrev pub exponent_text : Option Exponent → List ℕ
 exponent_text None = []
 exponent_text (Some x) = x.mark ∷ (sign_text x.sign ++ x.digits)
 
+-- the text of the parts
 abbrev pub text_of : Parts → List ℕ
 text_of p = p.whole ++ (fraction_text p.fraction ++ (exponent_text p.exponent ++ p.letters))
 
@@ -58,20 +62,23 @@ abbrev pub places_of : Option (List ℕ) → List ℕ
 places_of None = []
 places_of (Some ds) = ds
 
+-- digits 0 to 9 alone, or nothing
 abbrev pub AreDigits : List ℕ → Type 0
 AreDigits ds = list_all is_ascii_digit ds ≡ true
 
+-- an exponent has the letter e (101) in either case, and one digit or more
 abbrev pub IsExponent : Option Exponent → Type 0
 IsExponent None = Unit {0}
 IsExponent (Some x) = (to_ascii_lowercase x.mark ≡ 101) × AreDigits x.digits × (0 < length x.digits)
 
--- behind m: `mil` is no suffix, `meg` is 10 ^ 6, and any other m is 10 ^ -3
+-- what stands behind m: `il` makes no suffix, `eg` makes 10 ^ 6, and anything else leaves 10 ^ -3
 abbrev pub milli_or_mega : List ℕ → Option ℕ
 milli_or_mega [] = Some 12
 milli_or_mega (a ∷ []) = Some 12
 milli_or_mega (a ∷ b ∷ bs) = if a == 105 && b == 108 then None else if a == 101 && b == 103 then Some 21 else Some 12
 
--- the suffix that small letters begin with, f p n u m k meg g t or none, as a power of ten of femtometres
+-- the suffix that small letters begin with, as a power of ten of femtometres: f (102), p (112), n (110), u (117),
+-- m (109), k (107), g (103), t (116), or no letter
 abbrev pub suffix_of : List ℕ → Option ℕ
 suffix_of [] = Some 15
 suffix_of (b ∷ bs) =
@@ -89,16 +96,18 @@ pub record IsSpelled (text : List ℕ) (p : Parts) (suffix : ℕ) : Type 0 where
   pub letters : list_all is_ascii_alphabetic p.letters ≡ true
   pub begins : suffix_of (map to_ascii_lowercase p.letters) ≡ Some suffix
 
+-- whether an exponent divides
 abbrev pub is_minus : Sign → Bool
 is_minus Unsigned = false
 is_minus Plus = false
 is_minus Minus = true
 
--- the power of ten that an exponent multiplies by, and the one that it divides by
+-- the power of ten that an exponent multiplies by
 abbrev pub tens_up : Option Exponent → ℕ
 tens_up None = 0
 tens_up (Some x) = if is_minus x.sign then 0 else digits_value 10 x.digits
 
+-- the power of ten that it divides by
 abbrev pub tens_down : Option Exponent → ℕ
 tens_down None = 0
 tens_down (Some x) = if is_minus x.sign then digits_value 10 x.digits else 0

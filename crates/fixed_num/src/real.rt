@@ -42,7 +42,9 @@ impl Real8 {
     /// The quarter turns, 0 to 3, of an angle in degrees: `None` exactly where the value is no
     /// whole multiple of 90 from -360 to 360.
     pub fn quarter(&self) -> Option<u8>
-        ensures { MatchOption result ((k : ℕ) → IsQuarter self.now k → ⊥) (λ k. IsQuarter self.now k) }
+        ensures { MatchOption result
+            ((k : ℕ) → IsQuarter self.now k → ⊥)
+            (λ k. IsQuarter self.now k) }
     {
         let degrees = self.whole_degrees()?;
         let turns = turns_of(degrees)?;
@@ -54,7 +56,9 @@ impl Real8 {
 
     // The value without its sign, where it may be 90 times a number up to 4.
     fn whole_degrees(&self) -> Option<u128>
-        ensures { MatchOption result ((a : ℕ) → a ≤ 4 → IsAngle self.now (90 * a) → ⊥) (λ v. IsAngle self.now v) }
+        ensures { MatchOption result
+            ((a : ℕ) → a ≤ 4 → IsAngle self.now (90 * a) → ⊥)
+            (λ v. IsAngle self.now v) }
     {
         if self.mantissa == 0 {
             return Some(0);
@@ -82,7 +86,9 @@ impl Real8 {
 }
 
 fn turns_of(degrees: u128) -> Option<u8>
-    ensures { MatchOption result ((a : ℕ) → a ≤ 4 → degrees ≡ 90 * a → ⊥) (λ a. (a ≤ 4) × (degrees ≡ 90 * a)) }
+    ensures { MatchOption result
+        ((a : ℕ) → a ≤ 4 → degrees ≡ 90 * a → ⊥)
+        (λ a. (a ≤ 4) × (degrees ≡ 90 * a)) }
 {
     match degrees {
         0 => Some(0),

@@ -34,7 +34,8 @@ impl Significant {
     fn push(self, digit: u8) -> Significant
         requires digit { digit < 10 }
         requires room { self.count + self.zeros < 2 ^ 100 }
-        ensures number { (m : ℕ) → IsStripped self.count self.value self.zeros m → IsStripped result.count result.value result.zeros (m * 10 + digit) }
+        ensures number { (m : ℕ) → IsStripped self.count self.value self.zeros m
+            → IsStripped result.count result.value result.zeros (m * 10 + digit) }
         ensures room { result.count + result.zeros ≤ self.count + self.zeros + 1 }
     {
         if digit == 0 {
@@ -67,7 +68,8 @@ impl Significant {
     pub fn push_all(self, digits: &[u8]) -> Significant
         requires digits { IsTrue (list_all is_ascii_digit digits.now) }
         requires room { self.count + self.zeros < 2 ^ 90 }
-        ensures number { (m : ℕ) → IsStripped self.count self.value self.zeros m → IsStripped result.count result.value result.zeros (digits_value_after 10 m digits.now) }
+        ensures number { (m : ℕ) → IsStripped self.count self.value self.zeros m
+            → IsStripped result.count result.value result.zeros (digits_value_after 10 m digits.now) }
         ensures room { result.count + result.zeros ≤ self.count + self.zeros + length digits.now }
     {
         let mut number = self;
@@ -77,24 +79,27 @@ impl Significant {
         number
     }
 
-    /// The number times 10^up / 10^down, in whole femtometres: of a scale beyond 2^80 a stand-in will do.
+    /// The number times 10^up / 10^down, in whole femtometres. A stand-in will do for a scale
+    /// beyond 2^80.
     pub fn femtometres(self, up: u128, down: u128) -> Result<Femto, ValueFault>
         requires up { up < 2 ^ 100 }
         requires down { down < 2 ^ 100 }
         requires room { self.count + self.zeros < 2 ^ 70 }
-        ensures { (m u d : ℕ) → IsStripped self.count self.value self.zeros m → IsScale up down u d → Answers (Some (fraction m u d)) result }
+        ensures { (m u d : ℕ) → IsStripped self.count self.value self.zeros m → IsScale up down u d
+            → Answers (Some (fraction m u d)) result }
     {
         if self.count == 0 {
             return Ok(Femto(0));
         }
         let up = up + self.zeros;
         if up < down {
-            // The last digit stands behind the point of the femtometres.
+            // Less than a femtometre is left over, behind 19 places or more where it is above 10^18.
             if self.count + up < down + 19 {
                 return Err(ValueFault::TooFine);
             }
             return Err(ValueFault::TooLarge);
         }
+        // 20 places are above 10^18.
         let tens = up - down;
         if self.count + tens > 19 {
             return Err(ValueFault::TooLarge);

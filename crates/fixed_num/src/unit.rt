@@ -6,7 +6,9 @@ use crate::real::Real8;
 /// The database unit in picometres: the whole number nearest to `metres * 10^12`, halves upwards.
 /// `None` exactly where it isn't from 1 to 1,000,000.
 pub fn dbu_pm(metres: &Real8) -> Option<u32>
-    ensures { MatchOption result ((k : ℕ) → IsPicometres metres.now k → ⊥) (λ k. IsPicometres metres.now k) }
+    ensures { MatchOption result
+        ((k : ℕ) → IsPicometres metres.now k → ⊥)
+        (λ k. IsPicometres metres.now k) }
 {
     let divisor = metres.divisor()?;
     let nearest = (u128::from(metres.mantissa) * 2_000_000_000_000 + divisor) / (2 * divisor);

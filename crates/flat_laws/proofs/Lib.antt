@@ -12,3 +12,4 @@ pub mod Expand
 pub mod Poles
 pub mod Zone
 pub mod Count
+pub mod Flat

@@ -7,7 +7,7 @@
 ghost use Rattle.flat_laws.specs.GateLaws.{KeptGateLaw, OnePlaceLaw, GateLaw, TopLaw, PoleLaw, CauseLaw, OneCountLaw};
 ghost use Rattle.flat_laws.specs.LayerLaws.{ZoneLaw, UndisturbedLaw, CalmLaw, SameFlatLaw, CoverLaw, TopKeptLaw};
 ghost use Rattle.flat_laws.specs.NetLaws.{TouchLaw, RegionLaw, OneParentLaw, OneTableLaw, ReadLaw, TogetherLaw};
-ghost use Rattle.flat_laws.specs.NetlistLaws.{ClimbLaw, NetLaw, NetlistLaw};
+ghost use Rattle.flat_laws.specs.NetlistLaws.{ClimbLaw, NetLaw, NetlistLaw, FlatNetlistLaw, FlatRegionLaw};
 
 /// Disturbed squares of a cell come from the cells that place it.
 pub fn zones()
@@ -57,4 +57,6 @@ pub fn netlist()
     ensures climb { ClimbLaw }
     ensures net { NetLaw }
     ensures devices { NetlistLaw }
+    ensures flat { FlatNetlistLaw }
+    ensures regions { FlatRegionLaw }
 {}

@@ -4,10 +4,11 @@ use Rattle.geo_base.specs.Motions.{moved_square}
 use Rattle.geo_base.specs.declared.shapes.Square.{Square}
 use Rattle.flat_layout.specs.Circuits.{Spot, Drawing, Plan, IsMarked, ArePlanned, Shows}
 use Rattle.flat_layout.specs.Gates.{Rule, Edge, InGate, IsSettled, IsGateBelow, IsGateOf, IsForm, IsPole}
+use Rattle.flat_layout.specs.Layers.{InFlat}
 use Rattle.flat_layout.specs.Layout.{Place, Design, IsPlaced, IsReached}
 use Rattle.plain_netlist.specs.Netlist.{Pole, DeviceRow, on, Netlist, Slot, InOneNet, HasDevice, IsTerminal, IsOnPin}
 use Rattle.flat_layout.specs.Nets.{Tables, NetHolds, AreTables}
-use Rattle.flat_layout.specs.Regions.{Wiring, Node, InOneRegion, kept}
+use Rattle.flat_layout.specs.Regions.{Wiring, Node, InOneRegion, kept, flat}
 
 -- the row of a good gate, over the cell's nets
 pub record IsRowOf (d : Design) (w : Wiring) (t : Tables) (u : Rule) (cell : ℕ) (s : Square) (row : DeviceRow) : Type 0 where
@@ -69,3 +70,16 @@ pub record AreExtracted (d : Design) (w : Wiring) (t : Tables) (g : Plan) (nl : 
   pub planned : ArePlanned d w t g nl
   pub rows : (cell : ℕ) → IsReached d cell → AreRows d w t rules cell (g.drawing cell)
   pub parted : (r : ℕ) (u : Rule) (cell : ℕ) (s : Square) → slice_get rules r ≡ Some u → IsReached d cell → IsSettled d w u cell s → IsGateOf d w u cell s ⊎ IsGateBelow d w u cell s
+
+-- the top's circuit n expands to the flat netlist: a device for each good gate of the flat top, each once, on the regions of the flat top
+pub record IsFlatNetlist (d : Design) (w : Wiring) (t : Tables) (g : Plan) (nl : Netlist) (rules : List Rule) (n : ℕ) : Type 0 where
+  pub each : (path : List ℕ) (i : ℕ) (row : DeviceRow) → HasDevice nl n path i row
+      → (r : ℕ) × (u : Rule) × (s : Square) × (slice_get rules r ≡ Some u) × Carries d g d.top path i r s × IsDeviceOf d w t g u d.top path row s
+  pub found : (r : ℕ) (u : Rule) (s : Square) (e f : Edge) (v l : ℕ) → slice_get rules r ≡ Some u → InFlat d d.top u.gate s → IsForm d w u d.top s e f v l
+      → (path : List ℕ) × (i : ℕ) × (row : DeviceRow) × (q : Square) × HasDevice nl n path i row × Carries d g d.top path i r q × InGate d u d.top s q
+  pub once : (a b : List ℕ) (i j : ℕ) (x y : DeviceRow) (r : ℕ) (u : Rule) (s q : Square) → HasDevice nl n a i x → HasDevice nl n b j y → slice_get rules r ≡ Some u
+      → Carries d g d.top a i r s → Carries d g d.top b j r q → InGate d u d.top s q → (a ≡ b) × (i ≡ j)
+  pub nets : (a b : Slot) (x y : Node) → IsTerminal nl n a → IsTerminal nl n b → Shows d t g d.top a.path a.net x → Shows d t g d.top b.path b.net y
+      → InOneNet nl n a b ↔ InOneRegion w (flat d w d.top) x y
+  pub pins : (a : Slot) (x : Node) → IsTerminal nl n a → Shows d t g d.top a.path a.net x
+      → IsOnPin nl n a ↔ ((y : Node) × InOneRegion w (flat d w d.top) x y × IsMarked d w d.top y)

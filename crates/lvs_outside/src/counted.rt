@@ -1,5 +1,5 @@
 // An adapter that counts empty takes as faults.
-ghost use Rattle.std.specs.Prelude.{◌≡◌, if◌then◌else◌};
+ghost use Rattle.std.specs.Prelude.{◌≡◌, ◌<◌, length, if◌then◌else◌};
 ghost use Rattle.lvs_outside.specs.Store.{Store, HasRoom, IsReading, IsWriting, OpensRead, Reads, StartsWrite, Writes, Finishes, empty_take, counted};
 ghost use Rattle.lvs_outside.specs.Summary.{SinkState, SinkHasRoom, Takes, counted_sink};
 
@@ -32,15 +32,29 @@ impl<'a, D> Counted<'a, D> {
 impl<D: Depot> Depot for Counted<'_, D> {
     ghost state = { λ c. counted (D.state c.inner.now) };
 
-    fn open_read(&mut self, path: &str) -> Result<bool, Failed> {
+    fn open_read(&mut self, path: &str) -> Result<bool, Failed>
+        requires { HasRoom (counted (D.state self.old.inner.now)) }
+        ensures same_reference { self.new.inner.ghost_name ≡ self.old.inner.ghost_name }
+        ensures opens { OpensRead (counted (D.state self.old.inner.now)) (counted (D.state self.new.inner.now)) path.now result }
+    {
         self.inner.open_read(path)
     }
 
-    fn read(&mut self, buf: &mut [u8]) -> Result<usize, Failed> {
+    fn read(&mut self, buf: &mut [u8]) -> Result<usize, Failed>
+        requires room { HasRoom (counted (D.state self.old.inner.now)) }
+        requires open { IsReading (counted (D.state self.old.inner.now)).opened }
+        requires buffer { 0 < length buf.old }
+        ensures same_reference { self.new.inner.ghost_name ≡ self.old.inner.ghost_name }
+        ensures reads { Reads (counted (D.state self.old.inner.now)) (counted (D.state self.new.inner.now)) buf.new result }
+    {
         self.inner.read(buf)
     }
 
-    fn start_write(&mut self, path: &str) -> Result<(), Failed> {
+    fn start_write(&mut self, path: &str) -> Result<(), Failed>
+        requires { HasRoom (counted (D.state self.old.inner.now)) }
+        ensures same_reference { self.new.inner.ghost_name ≡ self.old.inner.ghost_name }
+        ensures starts { StartsWrite (counted (D.state self.old.inner.now)) (counted (D.state self.new.inner.now)) path.now result }
+    {
         self.inner.start_write(path)
     }
 
@@ -57,7 +71,12 @@ impl<D: Depot> Depot for Counted<'_, D> {
         Ok(count)
     }
 
-    fn finish_write(&mut self) -> Result<(), Failed> {
+    fn finish_write(&mut self) -> Result<(), Failed>
+        requires room { HasRoom (counted (D.state self.old.inner.now)) }
+        requires open { IsWriting (counted (D.state self.old.inner.now)).opened }
+        ensures same_reference { self.new.inner.ghost_name ≡ self.old.inner.ghost_name }
+        ensures finishes { Finishes (counted (D.state self.old.inner.now)) (counted (D.state self.new.inner.now)) result }
+    {
         self.inner.finish_write()
     }
 }

@@ -28,3 +28,15 @@ pub fn split(alloc: Global, colours: &[u32], counts: &[u32]) -> Result<Vec<u32>,
     }
     Ok(new)
 }
+
+#[cfg(test)]
+mod tests {
+    use super::*;
+
+    #[test]
+    fn new_colours(rt: HostRuntime) -> Result<(), AllocError> {
+        let new = split(rt.alloc(), &[0, 0, 1, 1, 0], &[2, 3, 2, 2, 2])?;
+        assert_eq!(rt; new.as_slice(), [0, 1, 2, 2, 0].as_slice());
+        Ok(())
+    }
+}

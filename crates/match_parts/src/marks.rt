@@ -28,3 +28,17 @@ fn clear(marks: &mut [bool])
         *mark = false;
     }
 }
+
+#[cfg(test)]
+mod tests {
+    use super::*;
+
+    #[test]
+    fn maps(rt: HostRuntime) {
+        let mut marks = [true, false, true];
+        assert_eq!(rt; is_one_to_one(&[2, 0, 1], &mut marks), true);
+        assert_eq!(rt; is_one_to_one(&[2, 0, 2], &mut marks), false);
+        assert_eq!(rt; is_one_to_one(&[2, 0], &mut marks), false);
+        assert_eq!(rt; is_one_to_one(&[2, 0, 3], &mut marks), false);
+    }
+}

@@ -36,3 +36,40 @@ pub fn is_device_image(nets: &[u32], left: &DeviceView<'_>, right: &DeviceView<'
     }
     source == right.drain && drain == right.source
 }
+
+#[cfg(test)]
+mod tests {
+    use super::*;
+
+    // The inverters and the access transistors of a latch whose two inner nets are drawn the other way round.
+    #[test]
+    fn latch_swapped(rt: HostRuntime) {
+        let nets = [0, 1, 2, 3, 4, 6, 5];
+        let row = |width: u128, source: u32, gate: u32, drain: u32| DeviceView {
+            class: b"NMOS",
+            length: 100_000_000,
+            width,
+            source,
+            gate,
+            drain,
+            bulk: 4,
+        };
+        let left = row(1_000_000_000, 4, 6, 5);
+        assert_eq!(rt;
+            is_device_image(&nets, &left, &row(1_000_000_000, 4, 5, 6)),
+            true
+        );
+        assert_eq!(rt;
+            is_device_image(&nets, &left, &row(1_000_000_000, 6, 5, 4)),
+            true
+        );
+        assert_eq!(rt;
+            is_device_image(&nets, &left, &row(1_000_000_000, 4, 6, 5)),
+            false
+        );
+        assert_eq!(rt;
+            is_device_image(&nets, &left, &row(500_000_000, 4, 5, 6)),
+            false
+        );
+    }
+}

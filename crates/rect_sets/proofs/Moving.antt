@@ -11,7 +11,7 @@ use Rattle.rect_sets.specs.Rects.{covers, IsRun, IsBlock, IsBelow, AreAbove, IsO
 use Rattle.rect_sets.specs.Near.{IsNearSet}
 use Rattle.rect_sets.specs.Moves.{shift, shifted, overlap, meets, meeting}
 use Rattle.rect_sets.proofs.Unique.{listed_get}
-use Rattle.rect_sets.proofs.Splitting.{either}
+use Rattle.rect_sets.proofs.Splitting.{either, inside_from}
 use Rattle.rect_sets.proofs.Dividing.{first_in, last_in, if_true, if_false, if_append, with_first}
 
 -- sets that differ by a shift
@@ -188,3 +188,14 @@ window_covers w rects s = ap (λ b. covers (meeting w rects) s && b) (one (has w
     one : (b : Bool) → (b || false) ≡ b
     one true = refl
     one false = refl
+
+-- a set within a rectangle that is near is near
+pub near_within : (w : Rect) (rects : List Rect) → IsNearRect w → ((s : Square) → covers rects s ≡ true → has w s ≡ true) → IsNearSet rects
+near_within w rects near h s e =
+    let i = inside_from w s (h s e) in
+    let a = i.x1 in let b = i.x2 in let c = i.y1 in let d = i.y2 in
+    let p1 = near.x1.low in let p2 = near.x2.high in let q1 = near.y1.low in let q2 = near.y2.high in
+    record {
+      low = record { x = record { low = omega (arith, ints); high = omega (arith, ints) }; y = record { low = omega (arith, ints); high = omega (arith, ints) } };
+      high = record { x = record { low = omega (arith, ints); high = omega (arith, ints) }; y = record { low = omega (arith, ints); high = omega (arith, ints) } };
+    }

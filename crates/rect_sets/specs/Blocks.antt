@@ -14,6 +14,7 @@ abbrev pub InSweepOrder : List Edge → Type 0
 InSweepOrder [] = Unit {0}
 InSweepOrder (e ∷ edges) = AreNext e.y1 leftmost (e ∷ edges)
 
+-- below y all is swept, and the active edges and those to come are all that count from there on
 pub record SweepState (rule : Rule) (edges : List Edge) (y : ℤ) (at : ℕ) (active : List Edge) (opens : List Open) (closed : List Rect) : Type 0 where
   pub swept : Swept (set_of rule edges) y opens closed
   pub ready : IsReady y active edges at

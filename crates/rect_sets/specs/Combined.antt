@@ -8,20 +8,25 @@ use Rattle.rect_sets.specs.declared.row.Edge.{Edge}
 use Rattle.rect_sets.specs.declared.row.Rule.{Rule}
 use Rattle.rect_sets.specs.declared.row.Rule.TheVariants.{First, And, Or, Not, Xor}
 
+-- 0 or 1
 pub record IsWeight (w : ℤ) : Type 0 where
   pub low : pos 0 ≤ℤ w
   pub high : w ≤ℤ pos 1
 
+-- the left edge of a rectangle
 abbrev pub left_of : ℤ → ℤ → Rect → Edge
 left_of first second r = record { x = r.x1; y1 = r.y1; y2 = r.y2; first = first; second = second }
 
+-- the right edge takes the weights back
 abbrev pub right_of : ℤ → ℤ → Rect → Edge
 right_of first second r = record { x = r.x2; y1 = r.y1; y2 = r.y2; first = pos 0 -ℤ first; second = pos 0 -ℤ second }
 
+-- the two upright edges of each rectangle
 abbrev pub edges_of : ℤ → ℤ → List Rect → List Edge
 edges_of first second [] = []
 edges_of first second (r ∷ rects) = left_of first second r ∷ right_of first second r ∷ edges_of first second rects
 
+-- what a rule says of one square, given whether each of two sets has it
 abbrev pub combined : Rule → Bool → Bool → Bool
 combined First a b = a
 combined And a b = a && b
@@ -29,5 +34,6 @@ combined Or a b = a || b
 combined Not a b = a && not b
 combined Xor a b = differ a b
 
+-- the set of the squares where the rule holds of two unions of rectangles
 abbrev pub combined_set : Rule → List Rect → List Rect → Square → Bool
 combined_set rule a b s = combined rule (covers a s) (covers b s)

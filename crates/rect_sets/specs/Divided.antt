@@ -21,9 +21,11 @@ abbrev pub high_end : Axis → Rect → ℤ
 high_end X r = r.x2
 high_end Y r = r.y2
 
+-- some of the rectangle is on the lower side of the line
 abbrev pub begins_before : Cut → Rect → Bool
 begins_before c r = int_lt (low_end c.axis r) c.at
 
+-- some of it is on the upper side
 abbrev pub ends_after : Cut → Rect → Bool
 ends_after c r = int_lt c.at (high_end c.axis r)
 
@@ -37,6 +39,7 @@ abbrev pub high_at : Axis → ℤ → Rect → Rect
 high_at X at r = record { x1 = if int_lt r.x1 at then at else r.x1; y1 = r.y1; x2 = r.x2; y2 = r.y2 }
 high_at Y at r = record { x1 = r.x1; y1 = if int_lt r.y1 at then at else r.y1; x2 = r.x2; y2 = r.y2 }
 
+-- the parts on either side of a cut
 abbrev pub low_part : Cut → Rect → Rect
 low_part c r = low_at c.axis c.at r
 
@@ -53,6 +56,7 @@ abbrev pub highs : Cut → List Rect → List Rect
 highs c [] = []
 highs c (r ∷ rects) = if ends_after c r then high_part c r ∷ highs c rects else highs c rects
 
+-- a side of the rectangle lies on the line
 abbrev pub touches : Cut → Rect → Bool
 touches c r = int_eq (low_end c.axis r) c.at || int_eq (high_end c.axis r) c.at
 

@@ -38,6 +38,7 @@ total field edges row = sum_where (crosses row) field edges
 abbrev pub is_some : ℤ → Bool
 is_some z = int_lt z (pos 0) || int_lt (pos 0) z
 
+-- exactly one of two
 abbrev pub differ : Bool → Bool → Bool
 differ true b = not b
 differ false b = b

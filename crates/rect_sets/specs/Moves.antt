@@ -2,9 +2,11 @@
 use Rattle.std.specs.Prelude.{ℤ, ◌+ℤ◌, int_lt, Bool, ◌&&◌, List, [], ◌∷◌, if◌then◌else◌}
 use Rattle.geo_base.specs.declared.shapes.Rect.{Rect}
 
+-- a rectangle after a shift
 abbrev pub shift : ℤ → ℤ → Rect → Rect
 shift dx dy r = record { x1 = r.x1 +ℤ dx; y1 = r.y1 +ℤ dy; x2 = r.x2 +ℤ dx; y2 = r.y2 +ℤ dy }
 
+-- all rectangles after a shift, in the same order
 abbrev pub shifted : ℤ → ℤ → List Rect → List Rect
 shifted dx dy [] = []
 shifted dx dy (r ∷ rects) = shift dx dy r ∷ shifted dx dy rects
@@ -13,6 +15,7 @@ shifted dx dy (r ∷ rects) = shift dx dy r ∷ shifted dx dy rects
 abbrev pub overlap : ℤ → ℤ → ℤ → ℤ → Bool
 overlap a b c d = int_lt a d && int_lt c b
 
+-- whether two rectangles share a square
 abbrev pub meets : Rect → Rect → Bool
 meets w r = overlap r.x1 r.x2 w.x1 w.x2 && overlap r.y1 r.y2 w.y1 w.y2
 

@@ -23,6 +23,7 @@ pub record IsBlock (set : Square → Bool) (r : Rect) : Type 0 where
   pub below : IsRun set (r.y1 -ℤ pos 1) r.x1 r.x2 → ⊥
   pub above : IsRun set r.y2 r.x1 r.x2 → ⊥
 
+-- one rectangle comes before another in the order of y1, then x1
 abbrev pub IsBelow : Rect → Rect → Type 0
 IsBelow r s = (r.y1 <ℤ s.y1) ⊎ ((r.y1 ≡ s.y1) × (r.x1 <ℤ s.x1))
 
@@ -31,15 +32,18 @@ abbrev pub AreAbove : Rect → List Rect → Type 0
 AreAbove r [] = Unit {0}
 AreAbove r (s ∷ rects) = IsBelow r s × AreAbove r rects
 
+-- ordered by y1, then x1, and no two begin at one place
 abbrev pub IsOrdered : List Rect → Type 0
 IsOrdered [] = Unit {0}
 IsOrdered (r ∷ rects) = AreAbove r rects × IsOrdered rects
 
+-- the rectangle is in the list
 abbrev pub IsListed : Rect → List Rect → Type 0
 IsListed r [] = ⊥
 IsListed r (s ∷ rects) = (r ≡ s) ⊎ IsListed r rects
 
--- the one list of the set that the rectangles cover
+-- The one list of the set that the rectangles cover. A rectangle is in the list exactly where, in each of its rows, its x range is a maximal
+-- run of the set, and neither the row below nor the row above has this same run. The list is ordered by y1, then x1.
 pub record IsCanonical (rects : List Rect) : Type 0 where
   pub each : (r : Rect) → IsListed r rects ↔ IsBlock (covers rects) r
   pub ordered : IsOrdered rects

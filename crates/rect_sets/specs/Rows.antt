@@ -12,6 +12,7 @@ abbrev pub weight_up_to : (Edge → ℤ) → List Edge → ℤ → ℤ
 weight_up_to field [] x = pos 0
 weight_up_to field (e ∷ edges) x = (if int_le e.x x then field e else pos 0) +ℤ weight_up_to field edges x
 
+-- the sum of all weights
 abbrev pub weight_of_all : (Edge → ℤ) → List Edge → ℤ
 weight_of_all field [] = pos 0
 weight_of_all field (e ∷ edges) = field e +ℤ weight_of_all field edges
@@ -33,11 +34,13 @@ abbrev pub EndUpTo : ℤ → List Span → Type 0
 EndUpTo low [] = Unit {0}
 EndUpTo low (s ∷ spans) = (s.x2 ≤ℤ low) × EndUpTo low spans
 
+-- runs that are apart, none of which ends past a number
 pub record AreRunsUpTo (low : ℤ) (spans : List Span) : Type 0 where
   pub from : ℤ
   pub apart : AreApart from spans
   pub ends : EndUpTo low spans
 
+-- a range was added at the end, where it is inside
 pub record Grows (old new : List Span) (from to : ℤ) (inside : Bool) : Type 0 where
   pub same : (x : ℤ) → covers new x ≡ (covers old x || (inside && is_between from x to))
   pub runs : AreRunsUpTo to new
@@ -59,6 +62,7 @@ abbrev pub AreUpTo : ℤ → List Edge → Type 0
 AreUpTo low [] = Unit {0}
 AreUpTo low (e ∷ edges) = (e.x ≤ℤ low) × AreUpTo low edges
 
+-- the runs up to where the sums of the seen edges reach
 pub record RowSoFar (rule : Rule) (edges : List Edge) (seen : ℕ) (low first second : ℤ) (out : List Span) : Type 0 where
   pub rest : AreInOrder low (drop seen edges)
   pub done : AreUpTo low (take seen edges)

@@ -4,6 +4,7 @@ use Rattle.std.specs.List.{list_any}
 use Rattle.geo_base.specs.Rects.{is_between}
 use Rattle.rect_sets.specs.declared.row.Span.{Span}
 
+-- whether a range has the number
 abbrev pub is_inside : ℤ → Span → Bool
 is_inside x s = is_between s.x1 x s.x2
 

@@ -9,10 +9,12 @@ use Rattle.geo_base.specs.declared.shapes.Rect.{Rect}
 use Rattle.geo_base.specs.declared.shapes.Square.{Square}
 use Rattle.rect_sets.specs.declared.opens.Open.{Open}
 
+-- the range is in the list
 abbrev pub IsIn : Span → List Span → Type 0
 IsIn s [] = ⊥
 IsIn s (t ∷ spans) = (s ≡ t) ⊎ IsIn s spans
 
+-- the open rectangle is in the list
 abbrev pub IsAmong : Open → List Open → Type 0
 IsAmong o [] = ⊥
 IsAmong o (p ∷ opens) = (o ≡ p) ⊎ IsAmong o opens
@@ -34,6 +36,7 @@ pub record IsOpenRun (set : Square → Bool) (y : ℤ) (o : Open) : Type 0 where
   pub rows : (row : ℤ) → o.y1 ≤ℤ row → row <ℤ y → IsRun set row o.x1 o.x2
   pub below : IsRun set (o.y1 -ℤ pos 1) o.x1 o.x2 → ⊥
 
+-- an open rectangle has the square, so far as it is known
 pub record OpenHas (opens : List Open) (s : Square) : Type 0 where
   pub one : Open
   pub among : IsAmong one opens
@@ -41,6 +44,7 @@ pub record OpenHas (opens : List Open) (s : Square) : Type 0 where
   pub right : s.x <ℤ one.x2
   pub from : one.y1 ≤ℤ s.y
 
+-- a rectangle of the list has the square
 pub record ListHas (rects : List Rect) (s : Square) : Type 0 where
   pub one : Rect
   pub listed : IsListed one rects

@@ -69,7 +69,8 @@ impl RectSet {
         self.rects.as_slice()
     }
 
-    /// The union of any rectangles, in O(n log n + k + m log m): n rectangles, k crossings of edges and strips, m rectangles of the result.
+    /// The union of any rectangles, in O(n log n + k + m log m) and O(n + m) memory: n rectangles, k crossings of upright edges with strips
+    /// within a part of the plane, m rectangles of the result. An `Err` is want of memory, for which 2^30 rectangles or more are taken, too.
     pub fn canon(alloc: Global, rects: Vec<Rect>) -> Result<RectSet, AllocError>
         requires { All IsRect rects.items }
         ensures { IfOk result (λ r. (s : Square) → covers r s ≡ covers rects.items s) }
@@ -125,7 +126,9 @@ pub fn combine_rects(
     Ok(RectSet { rects })
 }
 
-/// The squares where the rule holds of the two sums of the weights of the edges that act on them. Each row's weights sum to 0.
+/// The squares where the rule holds of the two sums of the weights of the edges that act on them, as in a fill by winding number. The edges may
+/// come in any order; the weights of each row sum to 0. In O(n log n + k + m log m), without cuts. An `Err` is want of memory, for which 2^31
+/// edges or more are taken, too.
 pub fn sweep(alloc: Global, edges: Vec<Edge>, rule: Rule) -> Result<RectSet, AllocError>
     requires edges { All IsEdge edges.items }
     requires balanced { IsBalanced edges.items }

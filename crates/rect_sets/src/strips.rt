@@ -13,7 +13,7 @@ use geo_base::Rect;
 use std::alloc::{AllocError, Global};
 use std::mem;
 
-// More edges than this are taken for want of memory: the sums of their weights must not run over.
+// So many edges and more are taken for want of memory: the sums of their weights must not run over.
 const MOST_EDGES: usize = 2147483648;
 
 // Reads each x, so that what its type says of it is known of all: it isn't left of -2^63.

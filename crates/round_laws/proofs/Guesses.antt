@@ -1,5 +1,5 @@
 -- What a search that ended excludes, and what one that found gives.
-use Rattle.std.proofs.Common.{◌≡◌, inl, inr, ℕ, suc, ◌+◌, arith, ◌&&◌, cond, not, Bool, true, List, [], ◌∷◌, sym, subst, ap, filter}
+use Rattle.std.proofs.Common.{◌≡◌, ◌⊎◌, inl, inr, ℕ, suc, ◌+◌, ◌<◌, arith, ◌&&◌, cond, not, Bool, true, List, [], ◌∷◌, sym, subst, ap, filter}
 use Rattle.round_laws.specs.Web.{IsListed, Web, IsWeb, agree, Carries, Guess, under, Keeps, mate}
 use Rattle.round_laws.specs.Nodes.{Node}
 use Rattle.round_laws.specs.Guesses.{Setting, candidates, Search, Ended, Stopped, Found, Refuted, Below, Open, HasEnded, HasFound, HasStopped, refuted_in, guessed, IsSearch, IsWholeSearch}
@@ -130,3 +130,30 @@ stopped_at s above a tries used (Found b) h not = absurd (not.1 tt)
 stopped_at s above a tries used (Refuted b r rest) h not = let e = stopped_at s above a h.0 (suc used) rest h.3 not in omega arith
 stopped_at s above a tries used (Below b c below rest) h not = let e = stopped_at s above a h.0 (used + refuted_in below) rest h.6 not in omega arith
 stopped_at s above a tries used (Open b c below) h not = stopped_at s (guessed above a b) c _ used below h.4 (h.5, not.1)
+
+-- a search that ended or found stays under another limit that it doesn't use up
+abbrev limit_of : Setting → ℕ → Setting
+limit_of s limit = record { web = s.web; same_name = s.same_name; limit = limit }
+
+within : (s : Setting) (limit : ℕ) (above : List (Guess Node)) (a : Node) (tries : List Node) (used : ℕ) (t : Search) → IsSearch s above a tries used t → HasEnded t ⊎ HasFound t → used + refuted_in t < limit
+    → IsSearch (limit_of s limit) above a tries used t
+within s limit above a tries used Ended h end low = h
+within s limit above a tries used Stopped h end low = elim end [ inl e ↦ absurd e | inr e ↦ absurd e ]
+within s limit above a tries used (Found b) h end low = (h.0, record { is = h.1.is; before = omega arith }, h.2)
+within s limit above a tries used (Refuted b r rest) h end low = (h.0, record { is = h.1.is; before = omega arith }, h.2, within s limit above a h.0 (suc used) rest h.3 end (omega arith))
+within s limit above a tries used (Below b c below rest) h end low = (
+  h.0,
+  record { is = h.1.is; before = omega arith },
+  h.2,
+  h.3,
+  within s limit (guessed above a b) c _ used below h.4 (inl h.5) (omega arith),
+  h.5,
+  within s limit above a h.0 (used + refuted_in below) rest h.6 end (omega arith),
+)
+within s limit above a tries used (Open b c below) h end low =
+    let found : HasFound below = elim end [ inl e ↦ absurd e | inr f ↦ f ] in
+    (h.0, record { is = h.1.is; before = let l = low in omega arith }, h.2, h.3, within s limit (guessed above a b) c _ used below h.4 (inr found) low, h.5)
+
+pub enough : (s : Setting) (found : Search) (limit : ℕ) → IsWholeSearch s found → HasEnded found ⊎ HasFound found → refuted_in found < limit → IsWholeSearch (limit_of s limit) found
+enough s found limit whole end low =
+    record { round = whole.round; node = whole.node; chosen = whole.chosen; search = within s limit _ whole.node _ 0 found whole.search end (omega arith) }

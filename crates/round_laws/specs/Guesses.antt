@@ -144,6 +144,11 @@ HasStopped t = (HasEnded t → ⊥) × (HasFound t → ⊥)
 abbrev pub StoppedLaw : Type 0
 StoppedLaw = (s : Setting) (found : Search) → IsWholeSearch s found → HasStopped found → refuted_in found ≡ s.limit
 
+-- a search that ended or found is that of each limit above its number of refuted guesses
+abbrev pub EnoughLaw : Type 0
+EnoughLaw = (s : Setting) (found : Search) (limit : ℕ) → IsWholeSearch s found → HasEnded found ⊎ HasFound found → refuted_in found < limit
+    → IsWholeSearch (record { web = s.web; same_name = s.same_name; limit = limit }) found
+
 -- the guesses under which the search was solved
 abbrev pub solved_guesses : List (Guess Node) → Node → Search → List (Guess Node)
 solved_guesses above a Ended = above

@@ -6,7 +6,7 @@
 #![tactic(auto)]
 
 ghost use Rattle.round_laws.specs.Rounds.{EquivalenceLaw, AgreeLaw, EvenLaw, RefutedLaw, StableLaw, FiniteLaw, SolvedLaw};
-ghost use Rattle.round_laws.specs.Guesses.{EndedLaw, FoundLaw, StoppedLaw, OneSearchLaw};
+ghost use Rattle.round_laws.specs.Guesses.{EndedLaw, FoundLaw, StoppedLaw, EnoughLaw, OneSearchLaw};
 ghost use Rattle.round_laws.specs.Colours.{FastLaw, QuietLaw, RoundLaw, FastRoundLaw};
 ghost use Rattle.round_laws.specs.Stack.{RefuteLaw, PassLaw, CloseLaw, RowsLaw};
 
@@ -29,11 +29,13 @@ pub fn solving()
     ensures { SolvedLaw }
 {}
 
-/// A search that ended excludes every correspondence, one that found gives one, one that stopped used up its limit; and there is one search.
+/// A search that ended excludes every correspondence, one that found gives one, one that stopped used up its limit; a larger
+/// limit changes neither of the first two; and there is one search.
 pub fn guessing()
     ensures ended { EndedLaw }
     ensures found { FoundLaw }
     ensures stopped { StoppedLaw }
+    ensures enough { EnoughLaw }
     ensures one { OneSearchLaw }
 {}
 

@@ -1,6 +1,6 @@
 use Rattle.std.proofs.Common.{arith}
 use Rattle.round_laws.proofs.Unique.{one_search}
-use Rattle.round_laws.proofs.Guesses.{ended_none, found_some, stopped_at}
+use Rattle.round_laws.proofs.Guesses.{ended_none, found_some, stopped_at, enough}
 use Rattle.round_laws.proofs.guessing.Goals as goal
 
 pub returns-clause-ended : goal.returns-clause-ended
@@ -14,3 +14,6 @@ returns-clause-stopped c = λ s t whole stopped. let e = stopped_at s _ whole.no
 
 pub returns-clause-one : goal.returns-clause-one
 returns-clause-one c = λ s a b web side h g. one_search s a b web side h g
+
+pub returns-clause-enough : goal.returns-clause-enough
+returns-clause-enough c = enough

@@ -1,0 +1,30 @@
+-- Which unit squares a cell's own shapes cover.
+use Rattle.std.specs.Prelude.{Bool, ◌==◌, ◌&&◌, List}
+use Rattle.std.specs.List.{list_any}
+use Rattle.geo_base.specs.declared.layer.LayerKey.{LayerKey}
+use Rattle.geo_base.specs.declared.shapes.Square.{Square}
+use Rattle.geo_base.specs.Rects.{has}
+use Rattle.gds_elements.specs.Meaning.{Form, Boundary, Path, Box, Shape, Cell}
+use Rattle.poly_fill.specs.Fills.{in_boundary, in_path}
+
+-- whether a shape covers a square: by winding number, by its segments, or as a rectangle
+abbrev pub shape_covers : Form → Square → Bool
+shape_covers (Boundary points) s = in_boundary points s
+shape_covers (Path points half begin end) s = in_path half begin end points s
+shape_covers (Box r) s = has r s
+
+-- the same layer and datatype
+abbrev pub is_key : LayerKey → LayerKey → Bool
+is_key k m = k.layer == m.layer && k.datatype == m.datatype
+
+-- whether the shape is on the layer and covers the square
+abbrev pub is_covering : LayerKey → Shape → Square → Bool
+is_covering key shape s = is_key shape.key key && shape_covers shape.form s
+
+-- whether one of these shapes on a layer covers the square
+abbrev pub shapes_cover : LayerKey → List Shape → Square → Bool
+shapes_cover key shapes s = list_any (λ shape. is_covering key shape s) shapes
+
+-- whether the cell's own shapes on a layer cover the square
+abbrev pub own_covers : Cell → LayerKey → Square → Bool
+own_covers cell key s = shapes_cover key cell.shapes s

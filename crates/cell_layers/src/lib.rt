@@ -1,0 +1,8 @@
+//! The layers of a cell that places no other: what its own shapes cover, and the rules' names over that.
+#![tactic(auto)]
+
+mod derived;
+mod own;
+
+pub use derived::layer_sets;
+pub use own::own_set;

@@ -1,0 +1,9 @@
+pub mod PointLemmas
+pub mod Trimmed
+pub mod Reals
+pub mod Parts
+pub mod Ends
+pub mod Step
+pub mod Runs
+pub mod Unique
+pub mod PieceLemmas

@@ -1,0 +1,46 @@
+use Rattle.std.proofs.Common.{List, map, subst, sym, ap, ◌∙◌, ◌++◌}
+use Rattle.gds_records.specs.Records.{◌▸◌}
+use Rattle.gds_elements.specs.declared.reader.Header.{Header}
+use Rattle.gds_elements.specs.declared.element.Element.{Element}
+use Rattle.gds_elements.specs.Meaning as m
+use Rattle.gds_elements.specs.Reading.{HoldsHeader, HoldsElement, cell_seen, rec}
+use Rattle.gds_elements.proofs.Parts.{cells_still}
+use Rattle.gds_elements.proofs.reader.Reader.keep.Goals as goal
+
+pub returns-then-kind-eq-ENDEL : goal.returns-then-kind-eq-ENDEL
+returns-then-kind-eq-ENDEL c = λ before form h.
+    let k = c.if-kind-eq-ENDEL.true in
+    let body = c.args.body.now in
+    let head = rw k at (c.in_ok-keep.ensures before form h.header) in
+    let said = c.in_ok-end_element.ensures in
+    rw k record {
+      header = subst (λ (x : Header). HoldsHeader (before ▸ rec 0x11 form body) x) (sym said.rest.0) head;
+      structure = said.structure before form body h.element h.structure;
+      element = said.element before form body;
+      cells = ap (λ v. map cell_seen v.items) said.rest.1 ∙ h.cells;
+    }
+
+pub returns-then-kind-eq-ENDSTR : goal.returns-then-kind-eq-ENDSTR
+returns-then-kind-eq-ENDSTR c = λ before form h.
+    let k = c.if-kind-eq-ENDSTR.true in
+    let body = c.args.body.now in
+    let head = rw k at (c.in_ok-keep.ensures before form h.header) in
+    let element = rw k at (c.in_ok-next.ensures before form h.element) in
+    let said = c.in_ok-end_structure.ensures in
+    rw k record {
+      header = subst (λ (x : Header). HoldsHeader (before ▸ rec 0x07 form body) x) (sym said.rest.0) head;
+      structure = said.structure before form body;
+      element = subst (λ (x : Element). HoldsElement (before ▸ rec 0x07 form body) x) (sym said.rest.1) element;
+      cells = said.cells before h.structure ∙ ap (λ (cs : List m.Cell). cs ++ m.open_cells before) h.cells;
+    }
+
+pub returns : goal.returns
+returns c = λ before form h.
+    let r = rec c.args.kind form c.args.body.now in
+    let still = cells_still before r c.if-kind-eq-ENDSTR.false in
+    record {
+      header = c.in_ok-keep.ensures before form h.header;
+      structure = c.in_ok-keep-2.ensures before form h.structure;
+      element = c.in_ok-next.ensures before form h.element;
+      cells = h.cells ∙ still;
+    }

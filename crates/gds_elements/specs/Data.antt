@@ -1,0 +1,162 @@
+-- What the data of a record says: numbers, strings, points and eight-byte reals (GDSII Stream Format, Release 6, data types).
+use Rattle.std.specs.Prelude.{ℕ, zero, suc, ◌+◌, ◌-◌, ◌*◌, ◌%◌, ◌^◌, ℤ, pos, ◌-ℤ◌, Bool, true, false, ◌==◌, ◌||◌, ◌&&◌, not, nat_lt, nat_le, int_lt, int_div, unsigned_abs, List, [], ◌∷◌, length, take, drop, replicate, slice_index, get_or, fold, Option, Some, None, if◌then◌else◌}
+use Rattle.std.specs.List.{list_all, list_any, zip}
+use Rattle.std.specs.Option.{option_map}
+use Rattle.std.specs.Ordering.{int_eq}
+use Rattle.std.specs.Int.{w16, w32, from_be_bytes, cast_signed, int_min, int_max}
+use Rattle.fixed_num.specs.Real.{number_of_bytes}
+use Rattle.geo_base.specs.declared.shapes.Point.{Point}
+use Rattle.geo_base.specs.declared.shapes.Rect.{Rect}
+
+-- ---- numbers
+
+-- two bytes, 0 for data of another length
+abbrev pub number : List ℕ → ℕ
+number bytes = if length bytes == 2 then from_be_bytes w16 bytes else 0
+
+-- four bytes from a place on, in two's complement
+abbrev pub coordinate : List ℕ → ℕ → ℤ
+coordinate bytes at = cast_signed w32 (from_be_bytes w32 (slice_index bytes at ∷ slice_index bytes (at + 1) ∷ slice_index bytes (at + 2) ∷ slice_index bytes (at + 3) ∷ []))
+
+-- four bytes in two's complement, 0 for data of another length
+abbrev pub long : List ℕ → ℤ
+long bytes = if length bytes == 4 then coordinate bytes 0 else pos 0
+
+-- the columns and the rows of an array: two bytes each, 0 for data of another length
+abbrev pub columns_in : List ℕ → ℕ
+columns_in bytes = if length bytes == 4 then from_be_bytes w16 bytes else 0
+
+abbrev pub rows_in : List ℕ → ℕ
+rows_in bytes = if length bytes == 4 then from_be_bytes w16 (slice_index bytes 2 ∷ slice_index bytes 3 ∷ []) else 0
+
+-- two bytes that are at least 1 in two's complement
+abbrev pub is_count : ℕ → Bool
+is_count n = nat_lt 0 n && nat_lt n 32768
+
+-- that many bytes, zeros for data of another length
+abbrev pub exactly : ℕ → List ℕ → List ℕ
+exactly n bytes = if length bytes == n then bytes else replicate n 0
+
+-- ---- strings
+
+abbrev pub is_empty : List ℕ → Bool
+is_empty [] = true
+is_empty (b ∷ bytes) = false
+
+abbrev pub put_before : ℕ → List ℕ → List ℕ
+put_before zero [] = []
+put_before (suc k) [] = suc k ∷ []
+put_before k (c ∷ cs) = k ∷ c ∷ cs
+
+-- without NULs at the end
+abbrev pub trimmed : List ℕ → List ℕ
+trimmed [] = []
+trimmed (b ∷ bytes) = put_before b (trimmed bytes)
+
+-- ---- points
+
+abbrev pub origin : Point
+origin = record { x = pos 0; y = pos 0 }
+
+-- the point in the first eight bytes
+abbrev pub first_point : List ℕ → Point
+first_point bytes = record { x = coordinate bytes 0; y = coordinate bytes 4 }
+
+-- eight bytes a point; bytes that are too few for one more are none
+abbrev pub points_of : List ℕ → List Point
+points_of (a ∷ b ∷ c ∷ d ∷ e ∷ f ∷ g ∷ h ∷ rest) = first_point (a ∷ b ∷ c ∷ d ∷ e ∷ f ∷ g ∷ h ∷ []) ∷ points_of rest
+points_of _ = []
+
+abbrev pub is_same : Point → Point → Bool
+is_same p q = int_eq p.x q.x && int_eq p.y q.y
+
+-- one stands above or beside the other
+abbrev pub is_level : Point → Point → Bool
+is_level p q = int_eq p.x q.x || int_eq p.y q.y
+
+-- each point with the next
+abbrev pub neighbours : List Point → List (Point × Point)
+neighbours ps = zip ps (drop 1 ps)
+
+-- no edge is slanted
+abbrev pub is_straight : List Point → Bool
+is_straight ps = list_all (λ (p, q). is_level p q) (neighbours ps)
+
+-- two neighbours differ
+abbrev pub has_length : List Point → Bool
+has_length ps = list_any (λ (p, q). not (is_same p q)) (neighbours ps)
+
+-- the first point, and the last
+abbrev pub first_of : List Point → Point
+first_of ps = get_or ps 0 origin
+
+abbrev pub last_of : List Point → Point
+last_of ps = get_or ps (length ps - 1) origin
+
+-- the last point is the first
+abbrev pub is_closed : List Point → Bool
+is_closed ps = is_same (first_of ps) (last_of ps)
+
+-- a rectangle, and with a point more
+abbrev pub widened : Rect → Point → Rect
+widened r p = record { x1 = int_min r.x1 p.x; y1 = int_min r.y1 p.y; x2 = int_max r.x2 p.x; y2 = int_max r.y2 p.y }
+
+-- from the least to the greatest coordinates
+abbrev pub hull : List Point → Rect
+hull ps = let p = first_of ps in fold (λ r q. widened r q) record { x1 = p.x; y1 = p.y; x2 = p.x; y2 = p.y } ps
+
+abbrev pub has_area : Rect → Bool
+has_area r = int_lt r.x1 r.x2 && int_lt r.y1 r.y2
+
+-- ---- arrays: the three points' data
+
+-- from the first point to the one that begins at a place
+abbrev pub side : List ℕ → ℕ → Point
+side bytes at = if length bytes == 24 then record { x = coordinate bytes at -ℤ coordinate bytes 0; y = coordinate bytes (at + 4) -ℤ coordinate bytes 4 } else origin
+
+-- a whole number of times, in x and in y
+abbrev pub goes_into : ℕ → Point → Bool
+goes_into count p = not (count == 0) && (unsigned_abs p.x % count) == 0 && (unsigned_abs p.y % count) == 0
+
+-- one of so many equal steps along a side
+abbrev pub step : Point → ℕ → Point
+step p count = if count == 0 then origin else record { x = int_div p.x (pos count); y = int_div p.y (pos count) }
+
+-- ---- reals
+
+-- the value is below 0
+abbrev pub is_negative : List ℕ → Bool
+is_negative bytes = nat_le 128 (slice_index (exactly 8 bytes) 0)
+
+-- 16 ^ 78 times the value without its sign: 56 bits as a fraction, times a power of 16 in excess 64
+abbrev pub whole : List ℕ → ℕ
+whole bytes = number_of_bytes (drop 1 (exactly 8 bytes)) * 16 ^ (slice_index (exactly 8 bytes) 0 % 128)
+
+-- the value is 1; zeros stand for data of another length
+abbrev pub is_one : List ℕ → Bool
+is_one bytes = not (is_negative bytes) && whole bytes == 16 ^ 78
+
+-- the value without its sign is 90 times that number
+abbrev pub is_turns : List ℕ → ℕ → Bool
+is_turns bytes turns = whole bytes == 90 * turns * 16 ^ 78
+
+abbrev pub turns_of : List ℕ → Option ℕ
+turns_of bytes =
+    if is_turns bytes 0 then Some 0
+    else if is_turns bytes 1 then Some 1
+    else if is_turns bytes 2 then Some 2
+    else if is_turns bytes 3 then Some 3
+    else if is_turns bytes 4 then Some 4
+    else None
+
+-- the quarters of a turn, 0 to 3, where the value is a multiple of 90 from -360 to 360
+abbrev pub quarter_of : List ℕ → Option ℕ
+quarter_of bytes = option_map (λ turns. (if is_negative bytes then 4 - turns else turns) % 4) (turns_of bytes)
+
+-- the value times 10 ^ 12, rounded to the nearest whole number, halves upwards, is one of 1 to 1,000,000
+abbrev pub is_unit : List ℕ → Bool
+is_unit bytes = not (is_negative bytes) && nat_le (16 ^ 78) (2 * 10 ^ 12 * whole bytes) && nat_lt (2 * 10 ^ 12 * whole bytes) (2000001 * 16 ^ 78)
+
+-- the second of the two reals in the data of UNITS: the database unit in metres
+abbrev pub unit_in : List ℕ → List ℕ
+unit_in bytes = take 8 (drop 8 (exactly 16 bytes))

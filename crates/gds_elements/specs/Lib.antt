@@ -1,0 +1,6 @@
+pub mod Kinds
+pub mod Data
+pub mod Meaning
+pub mod Faults
+pub mod Reading
+pub mod Pieces

@@ -1,0 +1,17 @@
+-- Records written one behind the other.
+use Rattle.std.proofs.Common.{◌≡◌, ℕ, List, [], ◌∷◌, ◌++◌, refl, sym, ◌∙◌, append_assoc}
+use Rattle.std.specs.List.{flat_map}
+use Rattle.std.proofs.lemmas.List.{append-nil}
+use Rattle.std.proofs.lemmas.Grind.{flat_map-append}
+use Rattle.gds_records.specs.Records.{Rec, record_bytes, Records, ◌▸◌, bytes_of, followed_by_all}
+use Rattle.gds_shapes.proofs.More.{texts}
+
+pub bytes_more : (rs : Records) (xs : List Rec) → bytes_of (followed_by_all rs xs) ≡ bytes_of rs ++ texts xs
+bytes_more rs [] = sym (append-nil (bytes_of rs))
+bytes_more rs (x ∷ xs) = bytes_more (rs ▸ x) xs ∙ append_assoc (bytes_of rs) (record_bytes x) (texts xs)
+
+-- six pieces
+pub in_turn : {X : Type 0} (f : X → List ℕ) (front middle : List X) (a b c d : X) (o p q r s t u : List ℕ) → o ≡ []
+    → p ≡ o ++ flat_map f front → q ≡ p ++ f a → r ≡ q ++ f b → s ≡ r ++ flat_map f middle → t ≡ s ++ f c → u ≡ t ++ f d
+    → u ≡ flat_map f (front ++ (a ∷ b ∷ middle ++ c ∷ []) ++ d ∷ [])
+in_turn f front middle a b c d o p q r s t u e0 e1 e2 e3 e4 e5 e6 = rw (e6, e5, e4, e3, e2, e1, e0) (simp (flat_map-append, append_assoc, append-nil) refl)

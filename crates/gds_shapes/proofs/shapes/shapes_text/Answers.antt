@@ -1,0 +1,25 @@
+-- What is written in turn is the list's bytes.
+use Rattle.std.proofs.Common.{◌∙◌, sym, ap, ℕ, List, ◌++◌}
+use Rattle.std.specs.Prelude.{map}
+use Rattle.std.specs.List.{flat_map}
+use Rattle.gds_records.specs.Records.{record_bytes, NoRecords}
+use Rattle.gds_elements.specs.Kinds.{BGNSTR, STRNAME, ENDSTR, ENDLIB}
+use Rattle.gds_elements.specs.Reading.{library_seen, cell_seen}
+use Rattle.gds_shapes.specs.Stream.{bare, numbers, string, header, layer, layer_seen, stream_list}
+use Rattle.gds_shapes.proofs.Joined.{bytes_more, in_turn}
+use Rattle.gds_shapes.proofs.shapes.shapes_text.Goals as goal
+
+pub returns-clause-exact : goal.returns-clause-exact
+returns-clause-exact c =
+    let library = library_seen c.args.library.now in
+    let cell = cell_seen c.args.cell.now in
+    let layers = map layer_seen c.args.written.now in
+    in_turn record_bytes (header library) (flat_map layer layers) (numbers BGNSTR cell.dates) (string STRNAME cell.name) (bare ENDSTR) (bare ENDLIB) _ _ _ _ _ _ _
+    c.new-out.ensures.items
+    c.in_ok-write_header.ensures.written
+    c.in_ok-write_record.ensures.written
+    (c.in_ok-write_string.ensures.written ∙ ap (λ (name : List ℕ). c.write_record.new.out.items ++ record_bytes (string STRNAME name)) c.bytes.ensures.same)
+    c.in_ok-write_layers.ensures.written
+    c.in_ok-write_record-2.ensures.written
+    c.in_ok-write_record-3.ensures.written
+    ∙ sym (bytes_more NoRecords (stream_list library cell layers))

@@ -1,0 +1,106 @@
+-- The written stream of a cell: the records that rectangles on layers are written as (GDSII Stream Format, Release 6).
+use Rattle.std.specs.Prelude.{ℕ, ◌-◌, ◌%◌, ◌^◌, ◌≤◌, ◌==◌, ℤ, List, [], ◌∷◌, ◌++◌, length, if◌then◌else◌}
+use Rattle.std.specs.List.{All, flat_map}
+use Rattle.std.specs.Int.{w16, w32, to_be_bytes, cast_unsigned}
+use Rattle.geo_base.specs.declared.layer.LayerKey.{LayerKey}
+use Rattle.geo_base.specs.declared.shapes.Point.{Point}
+use Rattle.geo_base.specs.declared.shapes.Rect.{Rect}
+use Rattle.geo_base.specs.Near.{IsWithin}
+use Rattle.gds_records.specs.Records.{Rec, Records, NoRecords, bytes_of, followed_by_all}
+use Rattle.gds_elements.specs.Kinds.{HEADER, BGNLIB, LIBNAME, UNITS, ENDLIB, BGNSTR, STRNAME, ENDSTR, BOUNDARY, LAYER, DATATYPE, XY, ENDEL}
+use Rattle.gds_elements.specs.Meaning.{Library, Cell}
+use Rattle.gds_elements.specs.Reading.{rec}
+use Rattle.gds_shapes.specs.declared.shapes.Written.{Written}
+
+-- ---- records by the form of their data
+
+-- no data
+abbrev pub bare : ℕ → Rec
+bare kind = rec kind 0 []
+
+-- numbers of two bytes
+abbrev pub numbers : ℕ → List ℕ → Rec
+numbers kind body = rec kind 2 body
+
+-- one number of two bytes, the higher first
+abbrev pub number : ℕ → ℕ → Rec
+number kind n = numbers kind (to_be_bytes w16 n)
+
+-- a string, filled up with one NUL where its length is odd
+abbrev pub filled : List ℕ → List ℕ
+filled text = if (length text % 2) == 0 then text else text ++ 0 ∷ []
+
+abbrev pub string : ℕ → List ℕ → Rec
+string kind text = rec kind 6 (filled text)
+
+-- four bytes of two's complement, the highest first
+abbrev pub long_bytes : ℤ → List ℕ
+long_bytes z = to_be_bytes w32 (cast_unsigned w32 z)
+
+-- eight bytes a point: x, then y
+abbrev pub point_bytes : Point → List ℕ
+point_bytes p = long_bytes p.x ++ long_bytes p.y
+
+-- ---- the stream
+
+-- the corners of a rectangle from the lower left one on, up first, and that one again
+abbrev pub corners : Rect → List Point
+corners r = record { x = r.x1; y = r.y1 } ∷ record { x = r.x1; y = r.y2 } ∷ record { x = r.x2; y = r.y2 } ∷ record { x = r.x2; y = r.y1 } ∷ record { x = r.x1; y = r.y1 } ∷ []
+
+-- the corners as data of XY
+abbrev pub outline : Rect → List ℕ
+outline r = flat_map point_bytes (corners r)
+
+-- a rectangle on a layer as an element
+abbrev pub boundary : LayerKey → Rect → List Rec
+boundary key r = bare BOUNDARY ∷ number LAYER key.layer ∷ number DATATYPE key.datatype ∷ rec XY 3 (outline r) ∷ bare ENDEL ∷ []
+
+-- a layer: its rectangles in order
+abbrev pub layer : LayerKey × List Rect → List Rec
+layer l = flat_map (λ r. boundary l.0 r) l.1
+
+-- a cell: its dates and name, and the layers in order
+abbrev pub structure : Cell → List (LayerKey × List Rect) → List Rec
+structure cell layers = numbers BGNSTR cell.dates ∷ string STRNAME cell.name ∷ flat_map layer layers ++ bare ENDSTR ∷ []
+
+-- what stands before the cells
+abbrev pub header : Library → List Rec
+header library = numbers HEADER library.version ∷ numbers BGNLIB library.dates ∷ string LIBNAME library.name ∷ rec UNITS 5 library.units ∷ []
+
+-- a library of this one cell
+abbrev pub stream_list : Library → Cell → List (LayerKey × List Rect) → List Rec
+stream_list library cell layers = header library ++ structure cell layers ++ bare ENDLIB ∷ []
+
+abbrev pub stream_records : Library → Cell → List (LayerKey × List Rect) → Records
+stream_records library cell layers = followed_by_all NoRecords (stream_list library cell layers)
+
+-- the records' bytes, joined
+abbrev pub stream_bytes : Library → Cell → List (LayerKey × List Rect) → List ℕ
+stream_bytes library cell layers = bytes_of (stream_records library cell layers)
+
+-- ---- what can be written
+
+-- a number that four bytes hold, whatever its sign
+abbrev pub IsLong : ℤ → Type 0
+IsLong z = IsWithin (2 ^ 31 - 1) z
+
+-- each coordinate is such a number
+pub record IsLongRect (r : Rect) : Type 0 where
+  pub x1 : IsLong r.x1
+  pub y1 : IsLong r.y1
+  pub x2 : IsLong r.x2
+  pub y2 : IsLong r.y2
+
+-- one record holds the text
+abbrev pub IsShort : List ℕ → Type 0
+IsShort text = length text ≤ 65530
+
+-- coordinates and names have room in their records
+pub record Fits (library : Library) (cell : Cell) (layers : List (LayerKey × List Rect)) : Type 0 where
+  pub name : IsShort library.name
+  pub cell_name : IsShort cell.name
+  pub rects : All (λ l. All IsLongRect l.1) layers
+
+-- what is written of a layer, as it is seen
+abbrev pub layer_seen : Written → LayerKey × List Rect
+layer_seen w = (w.key, w.rects.now)

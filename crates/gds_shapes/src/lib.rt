@@ -1,0 +1,6 @@
+//! The GDSII stream of a cell (GDSII Stream Format, Release 6): rectangles on layers, written as boundaries.
+#![tactic(auto)]
+
+mod shapes;
+
+pub use shapes::{Written, shapes_text};

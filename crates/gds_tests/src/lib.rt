@@ -1,0 +1,9 @@
+//! Tests of the reader of layout streams.
+#![tactic(auto)]
+
+#[cfg(test)]
+mod streams;
+#[cfg(test)]
+mod tests;
+#[cfg(test)]
+mod written;

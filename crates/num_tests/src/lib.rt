@@ -1,0 +1,9 @@
+//! Tests of the exact numbers: values from the formats' own rules, worked by hand.
+#![tactic(auto)]
+
+#[cfg(test)]
+mod lengths;
+#[cfg(test)]
+mod reals;
+#[cfg(test)]
+mod values;

@@ -1,0 +1,5 @@
+//! Tests of the outside: files and sinks that answer as a person would expect.
+#![tactic(auto)]
+
+#[cfg(test)]
+mod tests;

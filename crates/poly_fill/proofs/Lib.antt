@@ -1,0 +1,3 @@
+pub mod EdgeSums
+pub mod Walks
+pub mod Widened

@@ -1,0 +1,8 @@
+//! Elements of a layout as sets of unit squares: boundaries, paths and boxes (GDSII Stream Format).
+#![tactic(auto)]
+
+mod boundary;
+mod path;
+
+pub use boundary::fill_boundary;
+pub use path::{fill_box, fill_path};

@@ -1,0 +1,181 @@
+use crate::shown::answer;
+use std::test::Fail;
+
+// One transistor over an active layer, with text labels.
+#[test]
+fn transistor_rules(rt: HostRuntime) -> Result<(), Fail> {
+    let text = "active = input(2, 0)
+poly = input(3, 0)
+txt = labels(5, 1)
+bulk = polygon_layer
+gate = active & poly
+sd = active - poly
+extract_devices(mos4(\"NMOS\"), { \"SD\" => sd, \"G\" => gate, \"W\" => bulk, \"tG\" => poly })
+connect(sd, txt)
+connect(poly, txt)
+connect_global(bulk, \"VSS\")
+";
+    let rules = "active input 2/0
+poly input 3/0
+txt labels 5/1
+bulk empty
+gate 0&1
+sd 0-1
+connect 5 2
+connect 1 2
+global 3 VSS
+NMOS sd 5 g 4 w 3 ts 5 tg 1 tb 3
+guesses 1000
+";
+    assert_eq!(rt; answer(rt.alloc(), text.as_bytes())?.as_str(), rules);
+    Ok(())
+}
+
+// Two classes of transistors in wells, with ties, two wells' nets and written layers.
+#[test]
+fn two_class_rules(rt: HostRuntime) -> Result<(), Fail> {
+    let text = "nwell = input(1, 0)
+active = input(2, 0)
+poly = input(3, 0)
+contact = input(4, 0)
+metal = input(5, 0)
+tie = input(6, 0)
+txt = labels(5, 1)
+bulk = polygon_layer
+pactive = active & nwell
+nactive = active - nwell
+pgate = pactive & poly
+ngate = nactive & poly
+psd = pactive - poly
+nsd = nactive - poly
+ptie = tie - nwell
+ntie = tie & nwell
+extract_devices(mos4(\"PMOS\"), { \"SD\" => psd, \"G\" => pgate, \"W\" => nwell, \"tG\" => poly })
+extract_devices(mos4(\"NMOS\"), { \"SD\" => nsd, \"G\" => ngate, \"W\" => bulk, \"tG\" => poly })
+connect(psd, contact)
+connect(nsd, contact)
+connect(poly, contact)
+connect(ptie, contact)
+connect(ntie, contact)
+connect(ntie, nwell)
+connect(contact, metal)
+connect(metal, txt)
+connect_global(bulk, \"VSS\")
+connect_global(ptie, \"VSS\")
+psd.output(10, 0)
+nsd.output(11, 0)
+";
+    let rules = "nwell input 1/0
+active input 2/0
+poly input 3/0
+contact input 4/0
+metal input 5/0
+tie input 6/0
+txt labels 5/1
+bulk empty
+pactive 1&0
+nactive 1-0
+pgate 8&2
+ngate 9&2
+psd 8-2
+nsd 9-2
+ptie 5-0
+ntie 5&0
+output 12 10/0
+output 13 11/0
+connect 12 3
+connect 13 3
+connect 2 3
+connect 14 3
+connect 15 3
+connect 15 0
+connect 3 4
+connect 4 6
+global 7 VSS
+global 14 VSS
+PMOS sd 12 g 10 w 0 ts 12 tg 2 tb 0
+NMOS sd 13 g 11 w 7 ts 13 tg 2 tb 7
+guesses 1000
+";
+    assert_eq!(rt; answer(rt.alloc(), text.as_bytes())?.as_str(), rules);
+    Ok(())
+}
+
+// Every statement, entry keys in another order and with both quotes; the last max_guesses counts.
+#[test]
+fn every_statement(rt: HostRuntime) -> Result<(), Fail> {
+    let text = "deep
+_a1 = input(0, 65535)
+b = input(0000001, 2)
+c = _a1 | b
+d = c ^ b
+x = polygon_layer
+max_guesses(7)
+connect_global(c, 'G')
+connect_global(d, \"G # 1\")
+connect_global(x, 'it is \"x\"')
+extract_devices(mos4('p'),{'tB'=>x,'W'=>b,'tD'=>d,'G'=>_a1,\"tS\"=>d,\"tG\"=>c,'SD'=>b})
+same_circuits('A', 'b')
+same_circuits('b', 'a')
+netlist
+schematic('in.cir')
+align
+compare
+max_guesses(1000000)
+d.output(0, 1)
+";
+    let rules = "_a1 input 0/65535
+b input 1/2
+c 0|1
+d 2^1
+x empty
+output 3 0/1
+global 2 G
+global 3 G # 1
+global 4 it is \"x\"
+p sd 1 g 0 w 1 ts 3 tg 2 tb 4
+same A b
+same b a
+guesses 1000000
+";
+    assert_eq!(rt; answer(rt.alloc(), text.as_bytes())?.as_str(), rules);
+    Ok(())
+}
+
+// How lines end and what separates tokens.
+#[test]
+fn line_ends(rt: HostRuntime) -> Result<(), Fail> {
+    let none = "guesses 1000\n";
+    let one = "a input 1/0\nguesses 1000\n";
+    let two = "a input 1/0\nb input 2/0\nguesses 1000\n";
+    for (text, rules) in [
+        ("", none),
+        ("\n", none),
+        ("\r\n", none),
+        ("# only\n\t # comments\n", none),
+        ("# no end", none),
+        ("# a CR \r inside a comment\n", none),
+        ("a = input(1, 0)", one),
+        ("a=input(1,0)\n", one),
+        ("\ta\t=\tinput\t(\t1\t,\t0\t)\t\n", one),
+        ("a = input(1, 0) # a comment \"\n", one),
+        ("a = input(1, 0)#", one),
+        ("a = input(1, 0)\r\nb = input(2, 0)\r\n", two),
+        (
+            "\n\r\na = input(1, 0)\n\n# b = input(3, 0)\nb = input(2, 0)",
+            two,
+        ),
+        ("a = input(1, 0)\r", "31 1"),
+        ("a = input(1, 0)\rb = input(2, 0)\n", "31 1"),
+        ("a = input(1, 0)\r\r\n", "31 1"),
+        ("\r", "31 1"),
+        ("a = input(1, 0)\n\na = input(1, 0)", "33 3"),
+    ] {
+        assert_eq!(rt;
+            answer(rt.alloc(), text.as_bytes())?.as_str(),
+            rules,
+            "at {text:?}"
+        );
+    }
+    Ok(())
+}

@@ -1,0 +1,6 @@
+pub mod DeviceLemmas
+pub mod TableLemmas
+pub mod FilledLemmas
+pub mod ReadingLemmas
+pub mod ListLemmas
+pub mod SoundLemmas

@@ -1,0 +1,330 @@
+-- A statement that passes keeps the entries sound.
+use Rattle.std.proofs.Common.{◌≡◌, inl, inr, ℕ, zero, suc, ◌+◌, ◌<◌, List, [], ◌∷◌, ◌++◌, length, map, Bool, true, false, cond, Option, Some, None, refl, sym, ap, subst, ◌∙◌, arith}
+use Rattle.std.specs.Prelude.{◌&&◌, ◌||◌, not, slice_get, if◌then◌else◌}
+use Rattle.std.specs.List.{list_any, list_all, position_or_len}
+use Rattle.std.specs.Str.{bytes_eq}
+use Rattle.std.proofs.lemmas.List.{map-append, length-map, length-append}
+use Rattle.std.proofs.lemmas.Slice.Eq.{bytes_eq-Decides}
+use Rattle.net_names.specs.Folding.{folded_bytes}
+use Rattle.geo_base.specs.declared.layer.LayerKey.{LayerKey}
+use Rattle.rule_text.specs.declared.fault.RuleFault.{RuleFault}
+use Rattle.rule_text.specs.declared.rules.LayerForm.{LayerForm}
+use Rattle.rule_text.specs.declared.rules.LayerForm.TheVariants as form
+use Rattle.rule_text.specs.declared.rules.LayerRule.{LayerRule}
+use Rattle.rule_text.specs.declared.rules.Output.{Output}
+use Rattle.rule_text.specs.declared.rules.MosRule.{MosRule}
+use Rattle.rule_text.specs.Rows.{Form, Input, Labels, Empty, Binary, Mos, Statement, Define, Draw, Connect, Global, Extract, Same, MaxGuesses, Accepted}
+use Rattle.rule_text.specs.Rules.{Rules, no_rules, names_of, place_of, is_defined, is_text_rule, has_texts, is_labels, is_same_key, operands_of, uses_of, is_twice, is_misplaced, statement_fault, numbered, mos_rule, named, drawn, extracting, paired, with_statement}
+use Rattle.rule_text.specs.Filled.{IsFilled}
+use Rattle.rule_text.specs.Reading.{is_connected, first_loose}
+use Rattle.rule_text.specs.Sound.{Each, AreApart, IsLayer, AreOperands, AreJoined, AreMosLayers, IsFormed, IsSound}
+use Rattle.rule_text.proofs.ListLemmas.{among_more}
+
+both_true : (a b : Bool) → (a && b) ≡ true → (a ≡ true) × (b ≡ true)
+both_true true b e = (refl, e)
+both_true false b e = absurd cc
+
+both_false : (a b : Bool) → (a || b) ≡ false → (a ≡ false) × (b ≡ false)
+both_false true b e = absurd cc
+both_false false b e = (refl, e)
+
+or_true : (a b : Bool) → a ≡ true → (a || b) ≡ true
+or_true true b e = refl
+or_true false b e = absurd cc
+
+-- what a statement that passes is known of
+tests : (a b c d : Bool) (f g h i : RuleFault) → (if not a then Some f else if b then Some g else if c then Some h else if d then Some i else None) ≡ None
+    → (a ≡ true) × (b ≡ false) × (c ≡ false)
+tests false b c d f g h i e = absurd cc
+tests true true c d f g h i e = absurd cc
+tests true false true d f g h i e = absurd cc
+tests true false false d f g h i e = (refl, refl, refl)
+
+-- lists with an entry more
+
+pub each_more : {A : Type 0} (P : ℕ → A → Type 0) (xs : List A) (x : A) → Each P xs → P (length xs) x → Each P (xs ++ x ∷ [])
+each_more {A = A} P xs x each last = λ k y e. elim (among_more xs x y k e) [
+  | inl h ↦ each k y h
+  | inr (at, same) ↦ subst (λ (z : A). P k z) same (subst (λ (j : ℕ). P j x) (sym at) last)
+]
+
+lacks : {A : Type 0} (p : A → Bool) (xs : List A) (k : ℕ) (x : A) → list_any p xs ≡ false → slice_get xs k ≡ Some x → p x ≡ true → ⊥
+lacks p [] k x none e h = absurd cc
+lacks p (y ∷ ys) zero x none e h =
+    let same : y ≡ x = cc in
+    let yes_ : p y ≡ true = ap p same ∙ h in
+    let no_ = both_false (p y) (list_any p ys) none in
+    let wrong : true ≡ false = sym yes_ ∙ no_.0 in absurd cc
+lacks p (y ∷ ys) (suc k) x none e h = lacks p ys k x (both_false (p y) (list_any p ys) none).1 e h
+
+pub apart_more : {A : Type 0} (p : A → Bool) (xs : List A) (x : A) → p x ≡ true → list_any p xs ≡ false → AreApart xs → AreApart (xs ++ x ∷ [])
+apart_more p xs x is none apart = λ j k y e f. elim (among_more xs x y j e) [
+  | inl h ↦ elim (among_more xs x y k f) [
+    | inl g ↦ apart j k y h g
+    | inr (at, same) ↦ absurd (lacks p xs j y none h (ap p (sym same) ∙ is))
+  ]
+  | inr (at, same) ↦ elim (among_more xs x y k f) [
+    | inl g ↦ absurd (lacks p xs k y none g (ap p (sym same) ∙ is))
+    | inr (also, too) ↦ at ∙ sym also
+  ]
+]
+
+map_apart : {A B : Type 0} (p : B → Bool) (f : A → B) (xs : List A) (x : A) → p (f x) ≡ true → list_any p (map f xs) ≡ false → AreApart (map f xs) → AreApart (map f (xs ++ x ∷ []))
+map_apart {B = B} p f xs x is none apart =
+    subst (λ (ys : List B). AreApart ys) (sym (map-append f xs (x ∷ []))) (apart_more p (map f xs) (f x) is none apart)
+
+same_bytes : (w : List ℕ) → bytes_eq w w ≡ true
+same_bytes w = (bytes_eq-Decides w w).1 refl
+
+same_key : (k : LayerKey) → is_same_key k k ≡ true
+same_key k = grind arith
+
+-- names
+
+place_step : (b : Bool) (n m : ℕ) (rest : Bool) → (b || rest) ≡ true → (rest ≡ true → n < m) → cond (not b) (1 + n) 0 < suc m
+place_step true n m rest e h = omega arith
+place_step false n m rest e h = omega (arith, h e)
+
+place_below : {A : Type 0} (p : A → Bool) (xs : List A) → list_any p xs ≡ true → position_or_len p xs < length xs
+place_below p [] e = absurd cc
+place_below p (x ∷ xs) e = place_step (p x) (position_or_len p xs) (length xs) (list_any p xs) e (λ h. place_below p xs h)
+
+pub name_below : (w : List ℕ) (r : Rules) → is_defined w r ≡ true → place_of w r < length r.names
+name_below w r e = subst (λ (n : ℕ). place_of w r < n) (length-map r.names (λ n. n.name)) (place_below (bytes_eq w) (names_of r) e)
+
+layer : (w : List ℕ) (r : Rules) → is_defined w r ≡ true → is_labels w r ≡ false → IsLayer r.names (place_of w r)
+layer w r e f = record { below = name_below w r e; plain = f }
+
+kept : {A : Type 0} (xs ys : List A) (k : ℕ) → k < length xs → slice_get (xs ++ ys) k ≡ slice_get xs k
+kept [] ys k h = absurd (omega (arith, h))
+kept (x ∷ xs) ys zero h = refl
+kept (x ∷ xs) ys (suc k) h = kept xs ys k (omega (arith, h))
+
+texts_kept : (names : List LayerRule) (n : LayerRule) (k : ℕ) → k < length names → has_texts k (names ++ n ∷ []) ≡ has_texts k names
+texts_kept names n k h = ap (λ o. is_text_rule o) (kept names (n ∷ []) k h)
+
+more_below : (names : List LayerRule) (n : LayerRule) (k : ℕ) → k < length names → k < length (names ++ n ∷ [])
+more_below names n k h = let e = length-append names (n ∷ []) in omega (arith, e, h)
+
+layer_kept : (names : List LayerRule) (n : LayerRule) (k : ℕ) → IsLayer names k → IsLayer (names ++ n ∷ []) k
+layer_kept names n k h = record { below = more_below names n k h.below; plain = texts_kept names n k h.below ∙ h.plain }
+
+joined_kept : (names : List LayerRule) (n : LayerRule) (a b : ℕ) → AreJoined names a b → AreJoined (names ++ n ∷ []) a b
+joined_kept names n a b h = record {
+  left = more_below names n a h.left;
+  right = more_below names n b h.right;
+  plain = rw (texts_kept names n a h.left, texts_kept names n b h.right) h.plain;
+}
+
+mos_kept : (names : List LayerRule) (n : LayerRule) (d : MosRule) → AreMosLayers names d → AreMosLayers (names ++ n ∷ []) d
+mos_kept names n d h = record {
+  sd = layer_kept names n d.sd h.sd;
+  g = layer_kept names n d.g h.g;
+  w = layer_kept names n d.w h.w;
+  ts = layer_kept names n d.ts h.ts;
+  tg = layer_kept names n d.tg h.tg;
+  tb = layer_kept names n d.tb h.tb;
+}
+
+operands_kept : (names : List LayerRule) (n : LayerRule) (k : ℕ) (f : LayerForm) → AreOperands names k f → AreOperands (names ++ n ∷ []) k f
+operands_kept names n k (form.Input key) h = tt
+operands_kept names n k (form.Labels key) h = tt
+operands_kept names n k form.Empty h = tt
+operands_kept names n k (form.Binary op a b) h = (h.0, h.1, layer_kept names n a h.2, layer_kept names n b h.3)
+
+-- the layers that a statement uses
+
+abbrev AllLayers : Rules → List (List ℕ) → Type 0
+AllLayers r [] = Unit {0}
+AllLayers r (w ∷ ws) = IsLayer r.names (place_of w r) × AllLayers r ws
+
+all_layers : (r : Rules) (ws : List (List ℕ)) → list_all (λ w. is_defined w r) ws ≡ true → list_any (λ w. is_labels w r) ws ≡ false → AllLayers r ws
+all_layers r [] e f = tt
+all_layers r (w ∷ ws) e f =
+    let d = both_true (is_defined w r) (list_all (λ v. is_defined v r) ws) e in
+    let l = both_false (is_labels w r) (list_any (λ v. is_labels v r) ws) f in
+    (layer w r d.0 l.0, all_layers r ws d.1 l.1)
+
+new_operands : (r : Rules) (f : Form) (n : LayerRule) → list_all (λ w. is_defined w r) (operands_of f) ≡ true → list_any (λ w. is_labels w r) (operands_of f) ≡ false
+    → AreOperands (r.names ++ n ∷ []) (length r.names) (numbered r f)
+new_operands r (Input key) n e g = tt
+new_operands r (Labels key) n e g = tt
+new_operands r Empty n e g = tt
+new_operands r (Binary op a b) n e g =
+    let ls = all_layers r (a ∷ b ∷ []) e g in
+    (ls.0.below, ls.1.0.below, layer_kept r.names n (place_of a r) ls.0, layer_kept r.names n (place_of b r) ls.1.0)
+
+defined_more : (r : Rules) (name : List ℕ) (f : Form) → is_defined name r ≡ false → list_all (λ w. is_defined w r) (operands_of f) ≡ true
+    → list_any (λ w. is_labels w r) (operands_of f) ≡ false → IsFormed r → IsFormed (named r name (numbered r f))
+defined_more r name f fresh used plain h =
+    let n : LayerRule = record { name = name; form = numbered r f } in
+    record {
+      names = map_apart (bytes_eq name) (λ m. m.name) r.names n (same_bytes name) fresh h.names;
+      operands = each_more (λ k m. AreOperands (r.names ++ n ∷ []) k m.form) r.names n (λ k m e. operands_kept r.names n k m.form (h.operands k m e)) (new_operands r f n used plain);
+      keys = h.keys;
+      outputs = λ k o e. layer_kept r.names n o.layer (h.outputs k o e);
+      connects = λ k c e. joined_kept r.names n c.0 c.1 (h.connects k c e);
+      globals = λ k g e. layer_kept r.names n g.0 (h.globals k g e);
+      classes = h.classes;
+      devices = λ k d e. mos_kept r.names n d (h.devices k d e);
+      layouts = h.layouts;
+      schematics = h.schematics;
+      guesses = h.guesses;
+    }
+
+drawn_more : (r : Rules) (name : List ℕ) (key : LayerKey) → list_any (is_same_key key) (map (λ o. o.key) r.outputs) ≡ false → AllLayers r (name ∷ [])
+    → IsFormed r → IsFormed (drawn r name key)
+drawn_more r name key fresh ls h =
+    let o : Output = record { layer = place_of name r; key = key } in
+    record {
+      names = h.names;
+      operands = h.operands;
+      keys = map_apart (is_same_key key) (λ p. p.key) r.outputs o (same_key key) fresh h.keys;
+      outputs = each_more (λ k p. IsLayer r.names p.layer) r.outputs o h.outputs ls.0;
+      connects = h.connects;
+      globals = h.globals;
+      classes = h.classes;
+      devices = h.devices;
+      layouts = h.layouts;
+      schematics = h.schematics;
+      guesses = h.guesses;
+    }
+
+connect_more : (r : Rules) (a b : List ℕ) → AreJoined r.names (place_of a r) (place_of b r) → IsFormed r → IsFormed (with_statement r (Connect a b))
+connect_more r a b ls h = record {
+  names = h.names;
+  operands = h.operands;
+  keys = h.keys;
+  outputs = h.outputs;
+  connects = each_more (λ k c. AreJoined r.names c.0 c.1) r.connects (place_of a r, place_of b r) h.connects ls;
+  globals = h.globals;
+  classes = h.classes;
+  devices = h.devices;
+  layouts = h.layouts;
+  schematics = h.schematics;
+  guesses = h.guesses;
+}
+
+global_more : (r : Rules) (a net : List ℕ) → AllLayers r (a ∷ []) → IsFormed r → IsFormed (with_statement r (Global a net))
+global_more r a net ls h = record {
+  names = h.names;
+  operands = h.operands;
+  keys = h.keys;
+  outputs = h.outputs;
+  connects = h.connects;
+  globals = each_more (λ k g. IsLayer r.names g.0) r.globals (place_of a r, net) h.globals ls.0;
+  classes = h.classes;
+  devices = h.devices;
+  layouts = h.layouts;
+  schematics = h.schematics;
+  guesses = h.guesses;
+}
+
+extract_more : (r : Rules) (m : Mos) → list_any (bytes_eq (folded_bytes m.class)) (map (λ d. folded_bytes d.class) r.devices) ≡ false
+    → AllLayers r (m.sd ∷ m.g ∷ m.w ∷ m.ts ∷ m.tg ∷ m.tb ∷ []) → IsFormed r → IsFormed (extracting r m)
+extract_more r m fresh ls h = record {
+  names = h.names;
+  operands = h.operands;
+  keys = h.keys;
+  outputs = h.outputs;
+  connects = h.connects;
+  globals = h.globals;
+  classes = map_apart (bytes_eq (folded_bytes m.class)) (λ d. folded_bytes d.class) r.devices (mos_rule r m) (same_bytes (folded_bytes m.class)) fresh h.classes;
+  devices = each_more (λ k d. AreMosLayers r.names d) r.devices (mos_rule r m) h.devices
+      (record { sd = ls.0; g = ls.1.0; w = ls.1.1.0; ts = ls.1.1.1.0; tg = ls.1.1.1.1.0; tb = ls.1.1.1.1.1.0 });
+  layouts = h.layouts;
+  schematics = h.schematics;
+  guesses = h.guesses;
+}
+
+same_more : (r : Rules) (a b : List ℕ) → is_twice r (Same a b) ≡ false → IsFormed r → IsFormed (paired r a b)
+same_more r a b fresh h =
+    let apart = both_false (list_any (bytes_eq (folded_bytes a)) (map (λ p. folded_bytes p.0) r.same)) (list_any (bytes_eq (folded_bytes b)) (map (λ p. folded_bytes p.1) r.same)) fresh in
+    record {
+      names = h.names;
+      operands = h.operands;
+      keys = h.keys;
+      outputs = h.outputs;
+      connects = h.connects;
+      globals = h.globals;
+      classes = h.classes;
+      devices = h.devices;
+      layouts = map_apart (bytes_eq (folded_bytes a)) (λ p. folded_bytes p.0) r.same (a, b) (same_bytes (folded_bytes a)) apart.0 h.layouts;
+      schematics = map_apart (bytes_eq (folded_bytes b)) (λ p. folded_bytes p.1) r.same (a, b) (same_bytes (folded_bytes b)) apart.1 h.schematics;
+      guesses = h.guesses;
+    }
+
+guesses_more : (r : Rules) (n : ℕ) → IsFilled (MaxGuesses n) → IsFormed r → IsFormed (with_statement r (MaxGuesses n))
+guesses_more r n fits h = record {
+  names = h.names;
+  operands = h.operands;
+  keys = h.keys;
+  outputs = h.outputs;
+  connects = h.connects;
+  globals = h.globals;
+  classes = h.classes;
+  devices = h.devices;
+  layouts = h.layouts;
+  schematics = h.schematics;
+  guesses = fits;
+}
+
+passes : (r : Rules) (line : ℕ) (s : Statement) → statement_fault r line s ≡ None
+    → (list_all (λ w. is_defined w r) (uses_of s) ≡ true) × (is_twice r s ≡ false) × (is_misplaced r s ≡ false)
+passes r line s e = tests (list_all (λ w. is_defined w r) (uses_of s)) (is_twice r s) (is_misplaced r s) _ _ _ _ _ e
+
+by_tests : (r : Rules) (s : Statement) → list_all (λ w. is_defined w r) (uses_of s) ≡ true → is_twice r s ≡ false → is_misplaced r s ≡ false
+    → IsFilled s → IsFormed r → IsFormed (with_statement r s)
+by_tests r (Define name f) used fresh plain filled h = defined_more r name f fresh used plain h
+by_tests r (Draw name key) used fresh plain filled h = drawn_more r name key fresh (all_layers r (name ∷ []) used plain) h
+by_tests r (Connect a b) used fresh plain filled h =
+    let d = both_true (is_defined a r) (list_all (λ w. is_defined w r) (b ∷ [])) used in
+    let e = both_true (is_defined b r) true d.1 in
+    connect_more r a b (record { left = name_below a r d.0; right = name_below b r e.0; plain = plain }) h
+by_tests r (Global a net) used fresh plain filled h = global_more r a net (all_layers r (a ∷ []) used plain) h
+by_tests r (Extract m) used fresh plain filled h = extract_more r m fresh (all_layers r (m.sd ∷ m.g ∷ m.w ∷ m.ts ∷ m.tg ∷ m.tb ∷ []) used plain) h
+by_tests r (Same a b) used fresh plain filled h = same_more r a b fresh h
+by_tests r (MaxGuesses n) used fresh plain filled h = guesses_more r n filled h
+by_tests r Accepted used fresh plain filled h = h
+
+pub formed_more : (r : Rules) (line : ℕ) (s : Statement) → statement_fault r line s ≡ None → IsFilled s → IsFormed r → IsFormed (with_statement r s)
+formed_more r line s e filled h = let t = passes r line s e in by_tests r s t.0 t.1 t.2 filled h
+
+none_each : {A : Type 0} (P : ℕ → A → Type 0) → Each P []
+none_each P = λ k x e. absurd cc
+
+none_apart : {A : Type 0} → AreApart {A = A} []
+none_apart = λ j k x e f. absurd cc
+
+pub none_formed : IsFormed no_rules
+none_formed = record {
+  names = none_apart;
+  operands = none_each _;
+  keys = none_apart;
+  outputs = none_each _;
+  connects = none_each _;
+  globals = none_each _;
+  classes = none_apart;
+  devices = none_each _;
+  layouts = none_apart;
+  schematics = none_apart;
+  guesses = (omega arith, omega arith);
+}
+
+pub connected_devices : (r : Rules) (ds : List MosRule) (ns : List ℕ) → length ns ≡ length ds → first_loose r ds ns ≡ None → Each (λ k d. is_connected d r ≡ true) ds
+connected_devices r [] ns same none = λ k d e. absurd cc
+connected_devices r (d ∷ ds) [] same none = absurd (omega (arith, same))
+connected_devices r (d ∷ ds) (n ∷ ns) same none =
+    let here = connected_step (is_connected d r) n (first_loose r ds ns) none in
+    each_front (λ k x. is_connected x r ≡ true) d ds here.0 (connected_devices r ds ns (omega (arith, same)) here.1)
+  where
+    connected_step : (b : Bool) (n : ℕ) (rest : Option ℕ) → cond b rest (Some n) ≡ None → (b ≡ true) × (rest ≡ None)
+    connected_step true n rest e = (refl, e)
+    connected_step false n rest e = absurd cc
+
+    each_front : (P : ℕ → MosRule → Type 0) (d : MosRule) (ds : List MosRule) → P 0 d → ((k : ℕ) (x : MosRule) → slice_get ds k ≡ Some x → P (suc k) x) → Each P (d ∷ ds)
+    each_front P d ds first more zero x e = let same : d ≡ x = cc in subst (λ y. P 0 y) same first
+    each_front P d ds first more (suc k) x e = more k x e
+
+pub sound : (r : Rules) (ns : List ℕ) → IsFormed r → length ns ≡ length r.devices → first_loose r r.devices ns ≡ None → IsSound r
+sound r ns formed same none = record { formed = formed; connected = connected_devices r r.devices ns same none }

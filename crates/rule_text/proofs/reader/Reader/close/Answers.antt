@@ -1,0 +1,12 @@
+use Rattle.std.proofs.Common.{◌∙◌, ℕ, List, ap, sym}
+use Rattle.rule_text.specs.Reading.{first_loose}
+use Rattle.rule_text.specs.Seen.{rules_seen}
+use Rattle.rule_text.proofs.SoundLemmas.{sound}
+use Rattle.rule_text.proofs.reader.Reader.close.Goals as goal
+
+pub returns-in-None-clause-sound : goal.returns-in-None-clause-sound
+returns-in-None-clause-sound c =
+    let r = rules_seen c.args.self.rules in
+    let none =
+    ap (λ (ns : List ℕ). first_loose r r.devices ns) (sym c.deref-2.ensures.value) ∙ sym c.first_loose.ensures ∙ c.in-None.is in
+    λ formed. sound r c.args.self.device_lines.items formed c.requires.lines none

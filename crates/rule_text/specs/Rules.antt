@@ -1,0 +1,191 @@
+-- The rules that some lines state, what is wrong with a line behind them, and the rules with that line.
+use Rattle.std.specs.Prelude.{ℕ, Bool, true, false, ◌==◌, ◌&&◌, ◌||◌, not, nat_le, List, [], ◌∷◌, ◌++◌, length, map, codes, slice_get, Option, Some, None, if◌then◌else◌}
+use Rattle.std.specs.List.{list_any, list_all, position_or_len}
+use Rattle.std.specs.Str.{bytes_eq}
+use Rattle.net_names.specs.Folding.{folded_bytes}
+use Rattle.geo_base.specs.declared.layer.LayerKey.{LayerKey}
+use Rattle.rule_lines.specs.Tokens.{Token, Word, Mark}
+use Rattle.rule_text.specs.declared.rules.LayerForm.{LayerForm}
+use Rattle.rule_text.specs.declared.rules.LayerForm.TheVariants as form
+use Rattle.rule_text.specs.declared.rules.LayerRule.{LayerRule}
+use Rattle.rule_text.specs.declared.rules.Output.{Output}
+use Rattle.rule_text.specs.declared.rules.MosRule.{MosRule}
+use Rattle.rule_text.specs.declared.fault.RuleFault.{RuleFault}
+use Rattle.rule_text.specs.declared.fault.RuleFault.TheVariants.{UnknownStatement, BadForm, UnknownName, NameTwice, NotConductor, TooManyLayers}
+use Rattle.rule_text.specs.Rows.{Form, Input, Labels, Empty, Binary, Mos, Statement, Define, Draw, Connect, Global, Extract, Same, MaxGuesses, Accepted, EQUALS, DOT, is_name, is_statement_word, definition_of, wiring_of, setting_of}
+use Rattle.rule_text.specs.Devices.{devices_of}
+
+-- a rule set with plain lists
+pub record Rules : Type 0 where
+  pub names : List LayerRule
+  pub outputs : List Output
+  pub connects : List (ℕ × ℕ)
+  pub globals : List (ℕ × List ℕ)
+  pub devices : List MosRule
+  pub same : List (List ℕ × List ℕ)
+  pub max_guesses : ℕ
+
+abbrev pub no_rules : Rules
+no_rules = record { names = []; outputs = []; connects = []; globals = []; devices = []; same = []; max_guesses = 1000 }
+
+-- the names in order of their definition
+abbrev pub names_of : Rules → List (List ℕ)
+names_of r = map (λ n. n.name) r.names
+
+-- the number of a name
+abbrev pub place_of : List ℕ → Rules → ℕ
+place_of w r = position_or_len (bytes_eq w) (names_of r)
+
+abbrev pub is_defined : List ℕ → Rules → Bool
+is_defined w r = list_any (bytes_eq w) (names_of r)
+
+abbrev pub are_texts : LayerForm → Bool
+are_texts (form.Labels key) = true
+are_texts _ = false
+
+abbrev pub is_text_rule : Option LayerRule → Bool
+is_text_rule None = false
+is_text_rule (Some n) = are_texts n.form
+
+-- the name of this number is a labels name
+abbrev pub has_texts : ℕ → List LayerRule → Bool
+has_texts k names = is_text_rule (slice_get names k)
+
+abbrev pub is_labels : List ℕ → Rules → Bool
+is_labels w r = has_texts (place_of w r) r.names
+
+abbrev pub is_same_key : LayerKey → LayerKey → Bool
+is_same_key k m = k.layer == m.layer && k.datatype == m.datatype
+
+-- the operands of a form
+abbrev pub operands_of : Form → List (List ℕ)
+operands_of (Input key) = []
+operands_of (Labels key) = []
+operands_of Empty = []
+operands_of (Binary op a b) = a ∷ b ∷ []
+
+-- the names that a statement uses
+abbrev pub uses_of : Statement → List (List ℕ)
+uses_of (Define name form) = operands_of form
+uses_of (Draw name key) = name ∷ []
+uses_of (Connect a b) = a ∷ b ∷ []
+uses_of (Global a net) = a ∷ []
+uses_of (Extract m) = m.sd ∷ m.g ∷ m.w ∷ m.ts ∷ m.tg ∷ m.tb ∷ []
+uses_of (Same a b) = []
+uses_of (MaxGuesses n) = []
+uses_of Accepted = []
+
+-- what may stand once alone was there before; classes and circuits are compared with their letters folded
+abbrev pub is_twice : Rules → Statement → Bool
+is_twice r (Define name form) = is_defined name r
+is_twice r (Draw name key) = list_any (is_same_key key) (map (λ o. o.key) r.outputs)
+is_twice r (Connect a b) = false
+is_twice r (Global a net) = false
+is_twice r (Extract m) = list_any (bytes_eq (folded_bytes m.class)) (map (λ d. folded_bytes d.class) r.devices)
+is_twice r (Same a b) = list_any (bytes_eq (folded_bytes a)) (map (λ p. folded_bytes p.0) r.same) || list_any (bytes_eq (folded_bytes b)) (map (λ p. folded_bytes p.1) r.same)
+is_twice r (MaxGuesses n) = false
+is_twice r Accepted = false
+
+-- a labels name stands where a layer must; a connect may have one
+abbrev pub is_misplaced : Rules → Statement → Bool
+is_misplaced r (Connect a b) = is_labels a r && is_labels b r
+is_misplaced r s = list_any (λ w. is_labels w r) (uses_of s)
+
+abbrev pub is_definition : Statement → Bool
+is_definition (Define name form) = true
+is_definition _ = false
+
+-- the first test that a statement on a line fails behind the rules of the lines before
+abbrev pub statement_fault : Rules → ℕ → Statement → Option RuleFault
+statement_fault r line s =
+    if not (list_all (λ w. is_defined w r) (uses_of s)) then Some (UnknownName line)
+    else if is_twice r s then Some (NameTwice line)
+    else if is_misplaced r s then Some (NotConductor line)
+    else if is_definition s && nat_le 256 (length r.names) then Some (TooManyLayers line)
+    else None
+
+abbrev pub or_else : Option Statement → Option Statement → Option Statement
+or_else None s = s
+or_else (Some s) t = Some s
+
+-- the statement of a line's tokens; no two rows fit one line
+abbrev pub statement_of : List Token → Option Statement
+statement_of ts = or_else (definition_of ts) (or_else (wiring_of ts) (or_else (devices_of ts) (setting_of ts)))
+
+abbrev pub is_output_next : List Token → Bool
+is_output_next (Word w ∷ ts) = bytes_eq w (codes "output")
+is_output_next _ = false
+
+-- =, or . with output
+abbrev pub goes_on : List Token → Bool
+goes_on (Mark b ∷ ts) = b == EQUALS || (b == DOT && is_output_next ts)
+goes_on _ = false
+
+-- a name that is no statement word stands first, and what follows is neither = nor . with output
+abbrev pub is_unknown : List Token → Bool
+is_unknown (Word w ∷ ts) = is_name w && not (is_statement_word w) && not (goes_on ts)
+is_unknown _ = false
+
+abbrev pub form_fault : Rules → ℕ → Option Statement → Option RuleFault
+form_fault r line None = Some (BadForm line)
+form_fault r line (Some s) = statement_fault r line s
+
+-- the first test that a line's tokens fail behind the rules of the lines before
+abbrev pub fault_of : Rules → ℕ → List Token → Option RuleFault
+fault_of r line ts = if is_unknown ts then Some (UnknownStatement line) else form_fault r line (statement_of ts)
+
+-- a form with numbers in place of its operands' names
+abbrev pub numbered : Rules → Form → LayerForm
+numbered r (Input key) = form.Input key
+numbered r (Labels key) = form.Labels key
+numbered r Empty = form.Empty
+numbered r (Binary op a b) = form.Binary op (place_of a r) (place_of b r)
+
+abbrev pub mos_rule : Rules → Mos → MosRule
+mos_rule r m = record {
+  class = m.class;
+  sd = place_of m.sd r;
+  g = place_of m.g r;
+  w = place_of m.w r;
+  ts = place_of m.ts r;
+  tg = place_of m.tg r;
+  tb = place_of m.tb r;
+}
+
+abbrev pub named : Rules → List ℕ → LayerForm → Rules
+named r name form = record r { names = r.names ++ record { name = name; form = form } ∷ [] }
+
+abbrev pub drawn : Rules → List ℕ → LayerKey → Rules
+drawn r name key = record r { outputs = r.outputs ++ record { layer = place_of name r; key = key } ∷ [] }
+
+abbrev pub extracting : Rules → Mos → Rules
+extracting r m = record r { devices = r.devices ++ mos_rule r m ∷ [] }
+
+abbrev pub paired : Rules → List ℕ → List ℕ → Rules
+paired r a b = record r { same = r.same ++ (a, b) ∷ [] }
+
+-- the rules with a statement more
+abbrev pub with_statement : Rules → Statement → Rules
+with_statement r (Define name form) = named r name (numbered r form)
+with_statement r (Draw name key) = drawn r name key
+with_statement r (Connect a b) = record r { connects = r.connects ++ (place_of a r, place_of b r) ∷ [] }
+with_statement r (Global a net) = record r { globals = r.globals ++ (place_of a r, net) ∷ [] }
+with_statement r (Extract m) = extracting r m
+with_statement r (Same a b) = paired r a b
+with_statement r (MaxGuesses n) = record r { max_guesses = n }
+with_statement r Accepted = r
+
+abbrev pub with_found : Rules → Option Statement → Rules
+with_found r None = r
+with_found r (Some s) = with_statement r s
+
+abbrev pub with_line : Rules → List Token → Rules
+with_line r ts = with_found r (statement_of ts)
+
+-- the number of a line that is an extract_devices
+abbrev pub extraction_line : ℕ → Option Statement → List ℕ
+extraction_line line (Some (Extract m)) = line ∷ []
+extraction_line line _ = []
+
+abbrev pub device_line : ℕ → List Token → List ℕ
+device_line line ts = extraction_line line (statement_of ts)

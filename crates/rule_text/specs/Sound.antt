@@ -1,0 +1,60 @@
+-- Sound rule sets: operands stand before their names, numbers are numbers of layers, nothing is there twice, and devices are connected.
+use Rattle.std.specs.Prelude.{◌≡◌, ℕ, ◌<◌, true, false, ◌&&◌, List, length, map, slice_get, Some}
+use Rattle.net_names.specs.Folding.{folded_bytes}
+use Rattle.rule_text.specs.declared.rules.LayerForm.{LayerForm}
+use Rattle.rule_text.specs.declared.rules.LayerForm.TheVariants as form
+use Rattle.rule_text.specs.declared.rules.LayerRule.{LayerRule}
+use Rattle.rule_text.specs.declared.rules.MosRule.{MosRule}
+use Rattle.rule_text.specs.Rules.{Rules, names_of, has_texts}
+use Rattle.rule_text.specs.Reading.{is_connected}
+use Rattle.rule_text.specs.Filled.{IsGuessLimit}
+
+-- P holds of each entry and its number
+abbrev pub Each : {A : Type 0} → (ℕ → A → Type 0) → List A → Type 0
+Each {A} P xs = (k : ℕ) (x : A) → slice_get xs k ≡ Some x → P k x
+
+-- no entry is there twice
+abbrev pub AreApart : {A : Type 0} → List A → Type 0
+AreApart {A} xs = (j k : ℕ) (x : A) → slice_get xs j ≡ Some x → slice_get xs k ≡ Some x → j ≡ k
+
+-- the number of a name that is no labels name
+pub record IsLayer (names : List LayerRule) (k : ℕ) : Type 0 where
+  pub below : k < length names
+  pub plain : has_texts k names ≡ false
+
+-- the operands of name k are layers that stand before it
+abbrev pub AreOperands : List LayerRule → ℕ → LayerForm → Type 0
+AreOperands names k (form.Binary op a b) = (a < k) × (b < k) × IsLayer names a × IsLayer names b
+AreOperands names k _ = Unit {0}
+
+-- two names, of which one at most is a labels name
+pub record AreJoined (names : List LayerRule) (a b : ℕ) : Type 0 where
+  pub left : a < length names
+  pub right : b < length names
+  pub plain : (has_texts a names && has_texts b names) ≡ false
+
+pub record AreMosLayers (names : List LayerRule) (d : MosRule) : Type 0 where
+  pub sd : IsLayer names d.sd
+  pub g : IsLayer names d.g
+  pub w : IsLayer names d.w
+  pub ts : IsLayer names d.ts
+  pub tg : IsLayer names d.tg
+  pub tb : IsLayer names d.tb
+
+-- the entries pass the tests of their lines
+pub record IsFormed (r : Rules) : Type 0 where
+  pub names : AreApart (names_of r)
+  pub operands : Each (λ k n. AreOperands r.names k n.form) r.names
+  pub keys : AreApart (map (λ o. o.key) r.outputs)
+  pub outputs : Each (λ k o. IsLayer r.names o.layer) r.outputs
+  pub connects : Each (λ k c. AreJoined r.names c.0 c.1) r.connects
+  pub globals : Each (λ k g. IsLayer r.names g.0) r.globals
+  pub classes : AreApart (map (λ d. folded_bytes d.class) r.devices)
+  pub devices : Each (λ k d. AreMosLayers r.names d) r.devices
+  pub layouts : AreApart (map (λ p. folded_bytes p.0) r.same)
+  pub schematics : AreApart (map (λ p. folded_bytes p.1) r.same)
+  pub guesses : IsGuessLimit r.max_guesses
+
+pub record IsSound (r : Rules) : Type 0 where
+  pub formed : IsFormed r
+  pub connected : Each (λ k d. is_connected d r ≡ true) r.devices

@@ -1,0 +1,418 @@
+ghost use Rattle.std.specs.Prelude.{◌≡◌, ◌<◌, length, IfOk, IfSome};
+ghost use Rattle.rule_lines.specs.Seen.{seen_all};
+ghost use Rattle.net_names.specs.Folding.{folded_bytes};
+ghost use Rattle.rule_text.specs.Rules.{uses_of, is_definition, statement_of, is_unknown, goes_on};
+ghost use Rattle.rule_text.specs.Seen.{words as words_seen, statement as statement_seen, statements};
+ghost use Rattle.rule_text.specs.Filled.{IsFilled};
+
+use crate::devices::devices_of;
+use crate::fault::RuleFault;
+use crate::rows::{Form, Mos, Statement, definition_of, setting_of, wiring_of};
+use crate::rules::{LayerForm, LayerRule, MosRule, Output, RuleSet};
+use crate::slots::{is_name, is_statement_word};
+use crate::tables::{KeyTable, TextTable};
+use geo_base::LayerKey;
+use net_names::{Name, folded};
+use rule_lines::{Token, next_line, read_tokens};
+use std::alloc::{AllocError, Global};
+
+/// The most names that a rule file may define.
+const MOST_NAMES: usize = 256;
+
+/// The rules so far; tables of what may stand once alone (classes and circuits with their letters folded); the lines of the devices.
+#[derive(Drop)]
+pub struct Reader {
+    pub rules: RuleSet,
+    pub names: TextTable,
+    pub keys: KeyTable,
+    pub classes: TextTable,
+    pub layouts: TextTable,
+    pub schematics: TextTable,
+    pub device_lines: Vec<u64>,
+}
+
+impl<'a> Statement<'a> {
+    fn uses(&self, alloc: Global) -> Result<Vec<&'a [u8]>, AllocError>
+        ensures { IfOk result (λ found. words_seen found.items ≡ uses_of (statement_seen self.now)) }
+    {
+        match self {
+            Statement::Define(_, Form::Binary(_, a, b)) => Ok(vec![in alloc; *a, *b]?),
+            Statement::Define(_, _) => Ok(Vec::new(alloc)),
+            Statement::Draw(name, _) => Ok(vec![in alloc; *name]?),
+            Statement::Connect(a, b) => Ok(vec![in alloc; *a, *b]?),
+            Statement::Global(a, _) => Ok(vec![in alloc; *a]?),
+            Statement::Extract(m) => Ok(vec![in alloc; m.sd, m.g, m.w, m.ts, m.tg, m.tb]?),
+            Statement::Same(_, _) => Ok(Vec::new(alloc)),
+            Statement::MaxGuesses(_) => Ok(Vec::new(alloc)),
+            Statement::Accepted => Ok(Vec::new(alloc)),
+        }
+    }
+
+    fn is_definition(&self) -> bool
+        ensures { result ≡ is_definition (statement_seen self.now) }
+    {
+        matches!(self, Statement::Define(_, _))
+    }
+}
+
+fn statement_of<'a>(tokens: &[Token<'a>]) -> Option<Statement<'a>>
+    ensures is { statements result ≡ statement_of (seen_all tokens.now) }
+    ensures filled { IfSome result (λ s. IsFilled (statement_seen s)) }
+{
+    if let Some(found) = definition_of(tokens) {
+        return Some(found);
+    }
+    if let Some(found) = wiring_of(tokens) {
+        return Some(found);
+    }
+    if let Some(found) = devices_of(tokens) {
+        return Some(found);
+    }
+    setting_of(tokens)
+}
+
+fn goes_on(tokens: &[Token]) -> bool
+    ensures { result ≡ goes_on (seen_all tokens.now) }
+{
+    match tokens {
+        [Token::Mark(b), Token::Word(w), ..] => *b == b'='
+            || *b == b'.' && *w == b"output".as_slice(),
+        [Token::Mark(b), ..] => *b == b'=',
+        _ => false,
+    }
+}
+
+fn is_unknown(tokens: &[Token]) -> bool
+    ensures { result ≡ is_unknown (seen_all tokens.now) }
+{
+    match tokens {
+        [Token::Word(w), rest @ ..] => is_name(w) && !is_statement_word(w) && !goes_on(rest),
+        _ => false,
+    }
+}
+
+fn folded_copy(alloc: Global, bytes: &[u8]) -> Result<Name, AllocError>
+    requires { 0 < length bytes.now }
+    ensures { IfOk result (λ name. name ≡ folded_bytes bytes.now) }
+{
+    let name = name_of(alloc, bytes)?;
+    folded(alloc, &name)
+}
+
+fn name_of(alloc: Global, bytes: &[u8]) -> Result<Name, AllocError>
+    requires { 0 < length bytes.now }
+    ensures { IfOk result (λ name. name ≡ bytes.now) }
+{
+    Ok(Name::from_vec(bytes.to_vec(alloc)?))
+}
+
+impl Reader {
+    ghost use Rattle.std.specs.Prelude.{◌≡◌, ◌≤◌, ◌<◌, ◌++◌, [], ◌∷◌, Ok, Some, None, true, false, length, ◌&&◌, nat_le, not, map, IfOk, IfErr, IfSome, OnOk};
+    ghost use Rattle.std.specs.List.{list_all, list_any};
+    ghost use Rattle.rule_lines.specs.Lines.{lines_of};
+    ghost use Rattle.rule_lines.specs.Tokens.{tokens_of};
+    ghost use Rattle.rule_lines.specs.Seen.{seen_all};
+    ghost use Rattle.net_names.specs.Folding.{folded_bytes};
+    ghost use Rattle.std.specs.Str.{bytes_eq};
+    ghost use Rattle.rule_text.specs.Rules.{no_rules, is_defined, place_of, is_labels, is_same_key, uses_of, is_twice, is_misplaced, statement_fault, fault_of, numbered, named, drawn, extracting, paired, with_statement, extraction_line};
+    ghost use Rattle.rule_text.specs.Reading.{reading, closed};
+    ghost use Rattle.rule_text.specs.Seen.{words as words_seen, form as form_seen, mos as mos_seen, statement as statement_seen, rules_seen};
+    ghost use Rattle.rule_text.specs.Filled.{IsFilled};
+    ghost use Rattle.rule_text.specs.Sound.{IsFormed, IsSound};
+    ghost use Rattle.rule_text.specs.Reader.{IsReady, Takes, TakesAll, Says, SaysFirst};
+
+    pub fn new(alloc: Global) -> Reader
+        ensures rules { rules_seen result.rules ≡ no_rules }
+        ensures device_lines { result.device_lines.items ≡ [] }
+        ensures ready { IsReady result }
+    {
+        let rules = RuleSet {
+            names: Vec::new(alloc),
+            outputs: Vec::new(alloc),
+            connects: Vec::new(alloc),
+            globals: Vec::new(alloc),
+            devices: Vec::new(alloc),
+            same: Vec::new(alloc),
+            max_guesses: 1000,
+        };
+        Reader {
+            rules,
+            names: TextTable::new(alloc),
+            keys: KeyTable::new(alloc),
+            classes: TextTable::new(alloc),
+            layouts: TextTable::new(alloc),
+            schematics: TextTable::new(alloc),
+            device_lines: Vec::new(alloc),
+        }
+    }
+
+    fn is_defined(&self, word: &[u8]) -> bool
+        requires { IsReady self.now }
+        ensures { result ≡ is_defined word.now (rules_seen self.now.rules) }
+    {
+        self.names.contains(word)
+    }
+
+    fn place(&self, word: &[u8]) -> u32
+        requires { IsReady self.now }
+        ensures { result ≡ place_of word.now (rules_seen self.now.rules) }
+    {
+        self.names.place(word) as u32
+    }
+
+    fn is_labels(&self, word: &[u8]) -> bool
+        requires { IsReady self.now }
+        ensures { result ≡ is_labels word.now (rules_seen self.now.rules) }
+    {
+        self.rules.has_texts(self.names.place(word))
+    }
+
+    fn are_defined(&self, words: &[&[u8]]) -> bool
+        requires { IsReady self.now }
+        ensures { result ≡ list_all (λ w. is_defined w (rules_seen self.now.rules)) (words_seen words.now) }
+    {
+        match words {
+            [] => true,
+            [first, rest @ ..] => self.is_defined(first) && self.are_defined(rest),
+        }
+    }
+
+    fn has_labels(&self, words: &[&[u8]]) -> bool
+        requires { IsReady self.now }
+        ensures { result ≡ list_any (λ w. is_labels w (rules_seen self.now.rules)) (words_seen words.now) }
+    {
+        match words {
+            [] => false,
+            [first, rest @ ..] => self.is_labels(first) || self.has_labels(rest),
+        }
+    }
+
+    fn is_twice(&self, alloc: Global, s: &Statement) -> Result<bool, AllocError>
+        requires ready { IsReady self.now }
+        requires filled { IsFilled (statement_seen s.now) }
+        ensures { IfOk result (λ b. b ≡ is_twice (rules_seen self.now.rules) (statement_seen s.now)) }
+    {
+        match s {
+            Statement::Define(name, _) => Ok(self.is_defined(name)),
+            Statement::Draw(_, key) => Ok(self.keys.contains(*key)),
+            Statement::Extract(m) => Ok(
+                self.classes.contains(folded_copy(alloc, m.class)?.bytes()),
+            ),
+            Statement::Same(a, b) => {
+                let (a, b) = (folded_copy(alloc, a)?, folded_copy(alloc, b)?);
+                Ok(self.layouts.contains(a.bytes()) || self.schematics.contains(b.bytes()))
+            }
+            _ => Ok(false),
+        }
+    }
+
+    fn is_misplaced(&self, s: &Statement, uses: &[&[u8]]) -> bool
+        requires ready { IsReady self.now }
+        requires uses { words_seen uses.now ≡ uses_of (statement_seen s.now) }
+        ensures { result ≡ is_misplaced (rules_seen self.now.rules) (statement_seen s.now) }
+    {
+        match s {
+            Statement::Connect(a, b) => self.is_labels(a) && self.is_labels(b),
+            _ => self.has_labels(uses),
+        }
+    }
+
+    // The tests of a statement, in the order in which they answer.
+    fn check(&self, alloc: Global, s: &Statement, line: u64) -> Result<(), RuleFault>
+        requires ready { IsReady self.now }
+        requires filled { IsFilled (statement_seen s.now) }
+        ensures passed { OnOk result (statement_fault (rules_seen self.now.rules) line (statement_seen s.now) ≡ None) }
+        ensures fault { IfErr result (λ e. Says e (statement_fault (rules_seen self.now.rules) line (statement_seen s.now))) }
+    {
+        let uses = s.uses(alloc)?;
+        if !self.are_defined(&uses) {
+            return Err(RuleFault::UnknownName(line));
+        }
+        if self.is_twice(alloc, s)? {
+            return Err(RuleFault::NameTwice(line));
+        }
+        if self.is_misplaced(s, &uses) {
+            return Err(RuleFault::NotConductor(line));
+        }
+        if s.is_definition() && self.rules.names.len() >= MOST_NAMES {
+            return Err(RuleFault::TooManyLayers(line));
+        }
+        Ok(())
+    }
+
+    fn define(&mut self, alloc: Global, name: &[u8], form: LayerForm) -> Result<(), AllocError>
+        requires ready { IsReady self.old }
+        requires filled { 0 < length name.now }
+        requires fresh { is_defined name.now (rules_seen self.old.rules) ≡ false }
+        requires room { length self.old.rules.names.items < 256 }
+        ensures rules { OnOk result (rules_seen self.new.rules ≡ named (rules_seen self.old.rules) name.now form) }
+        ensures device_lines { OnOk result (self.new.device_lines.items ≡ self.old.device_lines.items) }
+        ensures ready { OnOk result (IsReady self.new) }
+    {
+        self.names.add(alloc, name)?;
+        self.rules.names.push(LayerRule {
+            name: name_of(alloc, name)?,
+            form,
+        })?;
+        Ok(())
+    }
+
+    fn draw(&mut self, name: &[u8], key: LayerKey) -> Result<(), AllocError>
+        requires ready { IsReady self.old }
+        requires fresh { list_any (is_same_key key) (map (λ o. o.key) self.old.rules.outputs.items) ≡ false }
+        ensures rules { OnOk result (rules_seen self.new.rules ≡ drawn (rules_seen self.old.rules) name.now key) }
+        ensures device_lines { OnOk result (self.new.device_lines.items ≡ self.old.device_lines.items) }
+        ensures ready { OnOk result (IsReady self.new) }
+    {
+        let layer = self.place(name);
+        self.keys.add(key)?;
+        self.rules.outputs.push(Output { layer, key })?;
+        Ok(())
+    }
+
+    fn extract(&mut self, alloc: Global, m: &Mos, line: u64) -> Result<(), AllocError>
+        requires ready { IsReady self.old }
+        requires filled { 0 < length m.now.class.now }
+        requires fresh { list_any (bytes_eq (folded_bytes m.now.class.now)) (map (λ d. folded_bytes d.class) self.old.rules.devices.items) ≡ false }
+        ensures rules { OnOk result (rules_seen self.new.rules ≡ extracting (rules_seen self.old.rules) (mos_seen m.now)) }
+        ensures device_lines { OnOk result (self.new.device_lines.items ≡ self.old.device_lines.items ++ line ∷ []) }
+        ensures ready { OnOk result (IsReady self.new) }
+    {
+        let device = MosRule {
+            class: name_of(alloc, m.class)?,
+            sd: self.place(m.sd),
+            g: self.place(m.g),
+            w: self.place(m.w),
+            ts: self.place(m.ts),
+            tg: self.place(m.tg),
+            tb: self.place(m.tb),
+        };
+        self.classes
+            .add(alloc, folded_copy(alloc, m.class)?.bytes())?;
+        self.rules.devices.push(device)?;
+        self.device_lines.push(line)?;
+        Ok(())
+    }
+
+    fn pair(&mut self, alloc: Global, a: &[u8], b: &[u8]) -> Result<(), AllocError>
+        requires ready { IsReady self.old }
+        requires filled_a { 0 < length a.now }
+        requires filled_b { 0 < length b.now }
+        requires fresh_a { list_any (bytes_eq (folded_bytes a.now)) (map (λ p. folded_bytes p.0) self.old.rules.same.items) ≡ false }
+        requires fresh_b { list_any (bytes_eq (folded_bytes b.now)) (map (λ p. folded_bytes p.1) self.old.rules.same.items) ≡ false }
+        ensures rules { OnOk result (rules_seen self.new.rules ≡ paired (rules_seen self.old.rules) a.now b.now) }
+        ensures device_lines { OnOk result (self.new.device_lines.items ≡ self.old.device_lines.items) }
+        ensures ready { OnOk result (IsReady self.new) }
+    {
+        self.layouts.add(alloc, folded_copy(alloc, a)?.bytes())?;
+        self.schematics.add(alloc, folded_copy(alloc, b)?.bytes())?;
+        self.rules
+            .same
+            .push((name_of(alloc, a)?, name_of(alloc, b)?))?;
+        Ok(())
+    }
+
+    fn numbered(&self, form: &Form) -> LayerForm
+        requires { IsReady self.now }
+        ensures { result ≡ numbered (rules_seen self.now.rules) (form_seen form.now) }
+    {
+        match form {
+            Form::Input(key) => LayerForm::Input(*key),
+            Form::Labels(key) => LayerForm::Labels(*key),
+            Form::Empty => LayerForm::Empty,
+            Form::Binary(op, a, b) => LayerForm::Binary(*op, self.place(a), self.place(b)),
+        }
+    }
+
+    // Takes a statement that passed.
+    fn keep(&mut self, alloc: Global, s: &Statement, line: u64) -> Result<(), AllocError>
+        requires ready { IsReady self.old }
+        requires filled { IsFilled (statement_seen s.now) }
+        requires passed { statement_fault (rules_seen self.old.rules) line (statement_seen s.now) ≡ None }
+        ensures rules { OnOk result (rules_seen self.new.rules ≡ with_statement (rules_seen self.old.rules) (statement_seen s.now)) }
+        ensures device_lines { OnOk result (self.new.device_lines.items ≡ self.old.device_lines.items ++ extraction_line line (Some (statement_seen s.now))) }
+        ensures ready { OnOk result (IsReady self.new) }
+    {
+        match s {
+            Statement::Define(name, form) => {
+                let form = self.numbered(form);
+                self.define(alloc, name, form)
+            }
+            Statement::Draw(name, key) => self.draw(name, *key),
+            Statement::Connect(a, b) => {
+                let pair = (self.place(a), self.place(b));
+                self.rules.connects.push(pair)?;
+                Ok(())
+            }
+            Statement::Global(a, net) => {
+                let global = (self.place(a), name_of(alloc, net)?);
+                self.rules.globals.push(global)?;
+                Ok(())
+            }
+            Statement::Extract(m) => self.extract(alloc, m, line),
+            Statement::Same(a, b) => self.pair(alloc, a, b),
+            Statement::MaxGuesses(n) => {
+                self.rules.max_guesses = *n;
+                Ok(())
+            }
+            Statement::Accepted => Ok(()),
+        }
+    }
+
+    #[tactic(auto, using(crate::proofs::SoundLemmas::formed_more))]
+    fn tokens(&mut self, alloc: Global, tokens: &[Token], line: u64) -> Result<(), RuleFault>
+        requires { IsReady self.old }
+        ensures taken { OnOk result (Takes self.old self.new line (seen_all tokens.now)) }
+        ensures fault { IfErr result (λ e. Says e (fault_of (rules_seen self.old.rules) line (seen_all tokens.now))) }
+    {
+        if is_unknown(tokens) {
+            return Err(RuleFault::UnknownStatement(line));
+        }
+        let Some(s) = statement_of(tokens) else {
+            return Err(RuleFault::BadForm(line));
+        };
+        self.check(alloc, &s, line)?;
+        self.keep(alloc, &s, line)?;
+        Ok(())
+    }
+
+    fn line(&mut self, alloc: Global, bytes: &[u8], line: u64) -> Result<(), RuleFault>
+        requires { IsReady self.old }
+        ensures taken { OnOk result (Takes self.old self.new line (tokens_of bytes.now)) }
+        ensures fault { IfErr result (λ e. Says e (fault_of (rules_seen self.old.rules) line (tokens_of bytes.now))) }
+    {
+        let found = read_tokens(alloc, bytes)?;
+        self.tokens(alloc, &found, line)
+    }
+
+    /// Takes the lines of the bytes, or says the first fault.
+    pub fn lines(&mut self, alloc: Global, bytes: &[u8]) -> Result<(), RuleFault>
+        requires { IsReady self.old }
+        ensures taken { OnOk result (TakesAll self.old self.new (lines_of bytes.now)) }
+        ensures fault { IfErr result (λ e. SaysFirst e (reading 1 (rules_seen self.old.rules) (lines_of bytes.now))) }
+    {
+        let mut rest = bytes;
+        let mut number = 1;
+        while rest.len() > 0 {
+            let (line, behind) = next_line(rest);
+            self.line(alloc, line, number)?;
+            number += 1;
+            rest = behind;
+        }
+        Ok(())
+    }
+
+    /// The rules, where each device is connected in the end.
+    pub fn close(self, alloc: Global) -> Result<RuleSet, RuleFault>
+        requires { IsReady self }
+        ensures ok { IfOk result (λ r. closed self.device_lines.items (Ok (rules_seen self.rules)) ≡ Ok (rules_seen r)) }
+        ensures sound { IfOk result (λ r. IsFormed (rules_seen self.rules) → IsSound (rules_seen r)) }
+        ensures fault { IfErr result (λ e. SaysFirst e (closed self.device_lines.items (Ok (rules_seen self.rules)))) }
+    {
+        let conductors = self.rules.conductors(alloc)?;
+        match self.rules.first_loose(&conductors, &self.device_lines) {
+            Some(line) => Err(RuleFault::NotConductor(line)),
+            None => Ok(self.rules),
+        }
+    }
+}

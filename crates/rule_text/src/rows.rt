@@ -1,0 +1,193 @@
+ghost use Rattle.std.specs.Prelude.{◌≡◌, IfSome};
+ghost use Rattle.rule_lines.specs.Seen.{seen_all};
+ghost use Rattle.rule_text.specs.Rows.{op_of, definition_of, wiring_of, is_accepted, setting_of};
+ghost use Rattle.rule_text.specs.Seen.{statement, statements};
+ghost use Rattle.rule_text.specs.Filled.{IsFilled};
+
+use crate::slots::Slot::{self, Fresh, Guesses, Key, Layer, Name, Operator, Quoted, Sign};
+use crate::slots::{fits, key_at, number_of, sign_at, word_at};
+use geo_base::{LayerKey, Op};
+use rule_lines::Token;
+
+/// What a name is defined to be.
+#[derive(Clone, Copy)]
+pub enum Form<'a> {
+    Input(LayerKey),
+    Labels(LayerKey),
+    Empty,
+    Binary(Op, &'a [u8], &'a [u8]),
+}
+
+/// A transistor's class and its layers.
+#[derive(Clone, Copy)]
+pub struct Mos<'a> {
+    pub class: &'a [u8],
+    pub sd: &'a [u8],
+    pub g: &'a [u8],
+    pub w: &'a [u8],
+    pub ts: &'a [u8],
+    pub tg: &'a [u8],
+    pub tb: &'a [u8],
+}
+
+/// What a line states.
+#[derive(Clone, Copy)]
+pub enum Statement<'a> {
+    Define(&'a [u8], Form<'a>),
+    Draw(&'a [u8], LayerKey),
+    Connect(&'a [u8], &'a [u8]),
+    Global(&'a [u8], &'a [u8]),
+    Extract(Mos<'a>),
+    Same(&'a [u8], &'a [u8]),
+    MaxGuesses(u32),
+    Accepted,
+}
+
+const OPEN: Slot = Sign(b'(');
+
+const CLOSE: Slot = Sign(b')');
+
+const COMMA: Slot = Sign(b',');
+
+const EQUALS: Slot = Sign(b'=');
+
+// N = input(L, D)
+const INPUT: [Slot; 8] = [
+    Fresh,
+    EQUALS,
+    Key(b"input"),
+    OPEN,
+    Layer,
+    COMMA,
+    Layer,
+    CLOSE,
+];
+
+// N = labels(L, T)
+const LABELS: [Slot; 8] = [
+    Fresh,
+    EQUALS,
+    Key(b"labels"),
+    OPEN,
+    Layer,
+    COMMA,
+    Layer,
+    CLOSE,
+];
+
+// N = polygon_layer
+const POLYGON_LAYER: [Slot; 3] = [Fresh, EQUALS, Key(b"polygon_layer")];
+
+// N = A & B, and so for |, - and ^
+const BINARY: [Slot; 5] = [Fresh, EQUALS, Name, Operator, Name];
+
+// N.output(L, D)
+const OUTPUT: [Slot; 8] = [
+    Name,
+    Sign(b'.'),
+    Key(b"output"),
+    OPEN,
+    Layer,
+    COMMA,
+    Layer,
+    CLOSE,
+];
+
+// connect(A, B)
+const CONNECT: [Slot; 6] = [Key(b"connect"), OPEN, Name, COMMA, Name, CLOSE];
+
+// connect_global(A, "G")
+const GLOBAL: [Slot; 6] = [Key(b"connect_global"), OPEN, Name, COMMA, Quoted, CLOSE];
+
+// same_circuits("A", "B")
+const SAME: [Slot; 6] = [Key(b"same_circuits"), OPEN, Quoted, COMMA, Quoted, CLOSE];
+
+// max_guesses(N)
+const GUESSES: [Slot; 4] = [Key(b"max_guesses"), OPEN, Guesses, CLOSE];
+
+// schematic("P")
+const SCHEMATIC: [Slot; 4] = [Key(b"schematic"), OPEN, Quoted, CLOSE];
+
+fn op_of(sign: u8) -> Op
+    ensures { result ≡ op_of sign }
+{
+    match sign {
+        b'&' => Op::And,
+        b'|' => Op::Or,
+        b'-' => Op::Not,
+        _ => Op::Xor,
+    }
+}
+
+#[tactic(auto, unfolding(crate::specs::Rows::definition_of))]
+pub fn definition_of<'a>(tokens: &[Token<'a>]) -> Option<Statement<'a>>
+    ensures is { statements result ≡ definition_of (seen_all tokens.now) }
+    ensures filled { IfSome result (λ s. IsFilled (statement s)) }
+{
+    if fits(&INPUT, tokens) {
+        return Some(Statement::Define(word_at(tokens, 0), Form::Input(key_at(tokens, 4, 6))));
+    }
+    if fits(&LABELS, tokens) {
+        return Some(Statement::Define(word_at(tokens, 0), Form::Labels(key_at(tokens, 4, 6))));
+    }
+    if fits(&POLYGON_LAYER, tokens) {
+        return Some(Statement::Define(word_at(tokens, 0), Form::Empty));
+    }
+    if fits(&BINARY, tokens) {
+        return Some(Statement::Define(
+            word_at(tokens, 0),
+            Form::Binary(
+                op_of(sign_at(tokens, 3)),
+                word_at(tokens, 2),
+                word_at(tokens, 4),
+            ),
+        ));
+    }
+    None
+}
+
+#[tactic(auto, unfolding(crate::specs::Rows::wiring_of))]
+pub fn wiring_of<'a>(tokens: &[Token<'a>]) -> Option<Statement<'a>>
+    ensures is { statements result ≡ wiring_of (seen_all tokens.now) }
+    ensures filled { IfSome result (λ s. IsFilled (statement s)) }
+{
+    if fits(&OUTPUT, tokens) {
+        return Some(Statement::Draw(word_at(tokens, 0), key_at(tokens, 4, 6)));
+    }
+    if fits(&CONNECT, tokens) {
+        return Some(Statement::Connect(word_at(tokens, 2), word_at(tokens, 4)));
+    }
+    if fits(&GLOBAL, tokens) {
+        return Some(Statement::Global(word_at(tokens, 2), word_at(tokens, 4)));
+    }
+    None
+}
+
+#[tactic(auto, unfolding(crate::specs::Rows::is_accepted))]
+fn is_accepted(tokens: &[Token]) -> bool
+    ensures { result ≡ is_accepted (seen_all tokens.now) }
+{
+    fits(&[], tokens)
+        || fits(&[Key(b"deep")], tokens)
+        || fits(&[Key(b"netlist")], tokens)
+        || fits(&[Key(b"align")], tokens)
+        || fits(&[Key(b"compare")], tokens)
+        || fits(&SCHEMATIC, tokens)
+}
+
+#[tactic(auto, unfolding(crate::specs::Rows::setting_of))]
+pub fn setting_of<'a>(tokens: &[Token<'a>]) -> Option<Statement<'a>>
+    ensures is { statements result ≡ setting_of (seen_all tokens.now) }
+    ensures filled { IfSome result (λ s. IsFilled (statement s)) }
+{
+    if fits(&SAME, tokens) {
+        return Some(Statement::Same(word_at(tokens, 2), word_at(tokens, 4)));
+    }
+    if fits(&GUESSES, tokens) {
+        return Some(Statement::MaxGuesses(number_of(1_000_000, word_at(tokens, 2)).unwrap_or(0)));
+    }
+    if is_accepted(tokens) {
+        return Some(Statement::Accepted);
+    }
+    None
+}

@@ -1,0 +1,173 @@
+use crate::common::set_of;
+use edge_boolean::combine;
+use geo_base::{Op, Rect, Square};
+use std::alloc::{AllocError, Global};
+use std::test::Fail;
+
+fn rect(x1: i64, y1: i64, x2: i64, y2: i64) -> Rect {
+    Rect { x1, y1, x2, y2 }
+}
+
+#[test]
+fn two_squares_that_overlap(rt: HostRuntime) -> Result<(), Fail> {
+    let alloc = rt.alloc();
+    let a = set_of(alloc, &[rect(0, 0, 10, 10)])?;
+    let b = set_of(alloc, &[rect(5, 5, 15, 15)])?;
+    for (op, want) in [
+        (Op::And, [rect(5, 5, 10, 10)].as_slice()),
+        (
+            Op::Or,
+            [rect(0, 0, 10, 5), rect(0, 5, 15, 10), rect(5, 10, 15, 15)].as_slice(),
+        ),
+        (Op::Not, [rect(0, 0, 10, 5), rect(0, 5, 5, 10)].as_slice()),
+        (
+            Op::Xor,
+            [
+                rect(0, 0, 10, 5),
+                rect(0, 5, 5, 10),
+                rect(10, 5, 15, 10),
+                rect(5, 10, 15, 15),
+            ]
+            .as_slice(),
+        ),
+    ] {
+        let set = combine(alloc, &a, &b, op)?;
+        assert_eq!(rt; set.rects(), want, "{op:?}");
+    }
+    Ok(())
+}
+
+// Bars of width 1 with gaps of 1: upright or level.
+fn bars(alloc: Global, count: u8, length: i64, upright: bool) -> Result<Vec<Rect>, AllocError> {
+    let mut out = Vec::new(alloc);
+    for i in 0..count {
+        let at = i64::from(i) * 2;
+        let bar = if upright {
+            rect(at, 0, at + 1, length)
+        } else {
+            rect(0, at, length, at + 1)
+        };
+        out.push(bar)?;
+    }
+    Ok(out)
+}
+
+#[test]
+fn comb_over_comb(rt: HostRuntime) -> Result<(), Fail> {
+    let alloc = rt.alloc();
+    let mut teeth_up = bars(alloc, 100, 200, true)?;
+    teeth_up.push(rect(0, -1, 200, 0))?;
+    let mut teeth_right = bars(alloc, 100, 200, false)?;
+    teeth_right.push(rect(-1, 0, 0, 200))?;
+    let a = set_of(alloc, &teeth_up)?;
+    let b = set_of(alloc, &teeth_right)?;
+    let both = combine(alloc, &a, &b, Op::And)?;
+    let mut want = Vec::new(alloc);
+    for j in 0..100u8 {
+        for i in 0..100u8 {
+            let x = i64::from(i) * 2;
+            let y = i64::from(j) * 2;
+            want.push(rect(x, y, x + 1, y + 1))?;
+        }
+    }
+    assert_eq!(rt; both.rects(), want.as_slice());
+    Ok(())
+}
+
+#[test]
+fn checkerboard(rt: HostRuntime) -> Result<(), Fail> {
+    let alloc = rt.alloc();
+    let a = set_of(alloc, &bars(alloc, 32, 64, true)?)?;
+    let b = set_of(alloc, &bars(alloc, 32, 64, false)?)?;
+    let one = combine(alloc, &a, &b, Op::Xor)?;
+    let mut want = Vec::new(alloc);
+    for y in 0..64u8 {
+        for x in 0..64u8 {
+            if x % 2 != y % 2 {
+                want.push(rect(
+                    i64::from(x),
+                    i64::from(y),
+                    i64::from(x) + 1,
+                    i64::from(y) + 1,
+                ))?;
+            }
+        }
+    }
+    assert_eq!(rt; one.rects(), want.as_slice());
+    let whole = combine(alloc, &one, &set_of(alloc, &[rect(0, 0, 64, 64)])?, Op::Or)?;
+    assert_eq!(rt; whole.rects(), [rect(0, 0, 64, 64)].as_slice());
+    Ok(())
+}
+
+// The next number of a plain random sequence, and a number below 64 from it.
+fn next_random(state: u64) -> u64 {
+    state
+        .wrapping_mul(6364136223846793005)
+        .wrapping_add(1442695040888963407)
+}
+
+fn random_rects(alloc: Global, count: u32, seed: u64) -> Result<Vec<Rect>, AllocError> {
+    let mut out = Vec::new(alloc);
+    let mut state = seed;
+    for _ in 0..count {
+        state = next_random(state);
+        let x1 = i64::from(((state >> 40) % 64) as u8);
+        let y1 = i64::from(((state >> 48) % 64) as u8);
+        let width = i64::from(((state >> 32) % 8) as u8);
+        let height = i64::from(((state >> 56) % 8) as u8);
+        out.push(rect(x1, y1, x1 + width, y1 + height))?;
+    }
+    Ok(out)
+}
+
+// Whether one of the rectangles has the square, found by looking at each.
+fn is_in(rects: &[Rect], s: Square) -> bool {
+    for rect in rects {
+        if rect.x1 <= s.x && s.x < rect.x2 && rect.y1 <= s.y && s.y < rect.y2 {
+            return true;
+        }
+    }
+    false
+}
+
+#[test]
+fn random_sets_square_by_square(rt: HostRuntime) -> Result<(), Fail> {
+    let alloc = rt.alloc();
+    for (count, seed) in [(5u32, 1u64), (40, 2), (400, 3)] {
+        let first = random_rects(alloc, count, seed)?;
+        let second = random_rects(alloc, count, seed + 100)?;
+        let a = set_of(alloc, &first)?;
+        let b = set_of(alloc, &second)?;
+        let both = combine(alloc, &a, &b, Op::And)?;
+        let either = combine(alloc, &a, &b, Op::Or)?;
+        let rest = combine(alloc, &a, &b, Op::Not)?;
+        let one = combine(alloc, &a, &b, Op::Xor)?;
+        for i in 0..74u8 {
+            for j in 0..74u8 {
+                let s = Square {
+                    x: i64::from(i) - 1,
+                    y: i64::from(j) - 1,
+                };
+                let p = is_in(&first, s);
+                let q = is_in(&second, s);
+                assert_eq!(rt;
+                    both.contains(s),
+                    p && q,
+                    "and at {s:?}, {count} rectangles"
+                );
+                assert_eq!(rt;
+                    either.contains(s),
+                    p || q,
+                    "or at {s:?}, {count} rectangles"
+                );
+                assert_eq!(rt;
+                    rest.contains(s),
+                    p && !q,
+                    "not at {s:?}, {count} rectangles"
+                );
+                assert_eq!(rt; one.contains(s), p != q, "xor at {s:?}, {count} rectangles");
+            }
+        }
+    }
+    Ok(())
+}
