@@ -1,7 +1,8 @@
 // The rules' names over a cell's own shapes.
-ghost use Rattle.std.specs.Prelude.{◌≡◌, List, IfOk};
+ghost use Rattle.std.specs.Prelude.{◌≡◌, [], ◌∷◌, ◌++◌, List, IfOk, OnOk};
+ghost use Rattle.std.specs.List.{All};
 ghost use Rattle.geo_base.specs.declared.shapes.Square.{Square};
-ghost use Rattle.rect_sets.specs.Rects.{covers};
+ghost use Rattle.rect_sets.specs.Rects.{covers, IsCanonical};
 ghost use Rattle.flat_layout.specs.Layers.{Reading};
 ghost use Rattle.gds_elements.specs.Reading.{cell_seen};
 ghost use Rattle.cell_layers.specs.Shapes.{own_covers};
@@ -36,18 +37,30 @@ fn form_set(
     }
 }
 
+// Adds a set.
+fn push_set(sets: &mut Vec<RectSet>, set: RectSet) -> Result<(), AllocError>
+    requires { All IsCanonical sets.old.items }
+    ensures list { OnOk result (sets.new.items ≡ sets.old.items ++ set ∷ []) }
+    ensures canonical { OnOk result (All IsCanonical sets.new.items) }
+{
+    let _canonical = set.rects();
+    sets.push(set)?;
+    Ok(())
+}
+
 /// One set for each name of the rules, in order. The cost is that of each input's shapes and each Boolean once.
 pub fn layer_sets(
     alloc: Global,
     cell: &RawCell,
     names: &[LayerRule],
 ) -> Result<Vec<RectSet>, AllocError>
-    ensures { IfOk result (λ sets. AreLayers (own_covers (cell_seen cell.now)) (readings names.now) sets.items) }
+    ensures layers { IfOk result (λ sets. AreLayers (own_covers (cell_seen cell.now)) (readings names.now) sets.items) }
+    ensures canonical { IfOk result (λ sets. All IsCanonical sets.items) }
 {
     let mut sets = Vec::new(alloc);
     for rule in names {
         let set = form_set(alloc, cell, &sets, rule.form)?;
-        sets.push(set)?;
+        push_set(&mut sets, set)?;
     }
     Ok(sets)
 }

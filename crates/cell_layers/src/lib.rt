@@ -5,4 +5,4 @@ mod derived;
 mod own;
 
 pub use derived::layer_sets;
-pub use own::own_set;
+pub use own::{own_set, shape_set};

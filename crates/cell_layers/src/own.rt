@@ -61,8 +61,8 @@ fn is_closed(points: &[Point]) -> bool
     }
 }
 
-// The fill of a shape. A reader accepts none that can't be filled: such a one is answered as want of memory.
-fn fill(alloc: Global, form: &ShapeForm) -> Result<RectSet, AllocError>
+/// The squares that a shape covers. A reader accepts none that can't be filled: such a one is answered as want of memory.
+pub fn shape_set(alloc: Global, form: &ShapeForm) -> Result<RectSet, AllocError>
     ensures { IfOk result (λ r. (s : Square) → covers r s ≡ shape_covers (form_seen form.now) s) }
 {
     match form {
@@ -92,7 +92,7 @@ fn push_shape(
     ensures covers { OnOk result ((s : Square) → covers rects.new.items s ≡ (covers rects.old.items s || is_covering key (shape_seen shape.now) s)) }
 {
     if shape.key.layer == key.layer && shape.key.datatype == key.datatype {
-        let set = fill(alloc, &shape.form)?;
+        let set = shape_set(alloc, &shape.form)?;
         push_rects(rects, set.rects())?;
     }
     Ok(())

@@ -1,11 +1,10 @@
 -- The written stream of a cell: the records that rectangles on layers are written as (GDSII Stream Format, Release 6).
-use Rattle.std.specs.Prelude.{ℕ, ◌-◌, ◌%◌, ◌^◌, ◌≤◌, ◌==◌, ℤ, List, [], ◌∷◌, ◌++◌, length, if◌then◌else◌}
+use Rattle.std.specs.Prelude.{ℕ, ◌%◌, ◌^◌, ◌≤◌, ◌<◌, ◌==◌, ℤ, pos, ◌-ℤ◌, ◌≤ℤ◌, ◌<ℤ◌, List, [], ◌∷◌, ◌++◌, length, if◌then◌else◌}
 use Rattle.std.specs.List.{All, flat_map}
 use Rattle.std.specs.Int.{w16, w32, to_be_bytes, cast_unsigned}
 use Rattle.geo_base.specs.declared.layer.LayerKey.{LayerKey}
 use Rattle.geo_base.specs.declared.shapes.Point.{Point}
 use Rattle.geo_base.specs.declared.shapes.Rect.{Rect}
-use Rattle.geo_base.specs.Near.{IsWithin}
 use Rattle.gds_records.specs.Records.{Rec, Records, NoRecords, bytes_of, followed_by_all}
 use Rattle.gds_elements.specs.Kinds.{HEADER, BGNLIB, LIBNAME, UNITS, ENDLIB, BGNSTR, STRNAME, ENDSTR, BOUNDARY, LAYER, DATATYPE, XY, ENDEL}
 use Rattle.gds_elements.specs.Meaning.{Library, Cell}
@@ -80,9 +79,10 @@ stream_bytes library cell layers = bytes_of (stream_records library cell layers)
 
 -- ---- what can be written
 
--- a number that four bytes hold, whatever its sign
-abbrev pub IsLong : ℤ → Type 0
-IsLong z = IsWithin (2 ^ 31 - 1) z
+-- a number that four bytes of two's complement hold
+pub record IsLong (z : ℤ) : Type 0 where
+  pub low : (pos 0 -ℤ pos (2 ^ 31)) ≤ℤ z
+  pub high : z <ℤ pos (2 ^ 31)
 
 -- each coordinate is such a number
 pub record IsLongRect (r : Rect) : Type 0 where
@@ -95,11 +95,21 @@ pub record IsLongRect (r : Rect) : Type 0 where
 abbrev pub IsShort : List ℕ → Type 0
 IsShort text = length text ≤ 65530
 
--- coordinates and names have room in their records
+-- two bytes hold each number
+pub record IsKey (key : LayerKey) : Type 0 where
+  pub layer : key.layer < 2 ^ 16
+  pub datatype : key.datatype < 2 ^ 16
+
+-- a layer's numbers and coordinates have room in their records
+pub record FitsLayer (l : LayerKey × List Rect) : Type 0 where
+  pub key : IsKey l.0
+  pub rects : All IsLongRect l.1
+
+-- all that is written has room in its records
 pub record Fits (library : Library) (cell : Cell) (layers : List (LayerKey × List Rect)) : Type 0 where
   pub name : IsShort library.name
   pub cell_name : IsShort cell.name
-  pub rects : All (λ l. All IsLongRect l.1) layers
+  pub each : All FitsLayer layers
 
 -- what is written of a layer, as it is seen
 abbrev pub layer_seen : Written → LayerKey × List Rect

@@ -3,8 +3,10 @@
 ghost use Rattle.std.specs.Prelude.{◌≡◌, ◌++◌, map, IfOk, OnOk};
 ghost use Rattle.std.specs.List.{All, flat_map};
 ghost use Rattle.gds_records.specs.Records.{record_bytes};
+ghost use Rattle.gds_elements.specs.Faults.{Accepts};
 ghost use Rattle.gds_elements.specs.Reading.{library_seen, cell_seen};
-ghost use Rattle.gds_shapes.specs.Stream.{IsLong, IsLongRect, IsShort, Fits, boundary, header, layer, layer_seen, long_bytes, outline, string, stream_bytes};
+ghost use Rattle.gds_shapes.specs.Accepted.{IsRead, written_library};
+ghost use Rattle.gds_shapes.specs.Stream.{IsLong, IsLongRect, IsShort, Fits, FitsLayer, boundary, header, layer, layer_seen, long_bytes, outline, string, stream_bytes};
 
 use byteorder::{BigEndian, ByteOrder};
 use gds_elements::{Library, RawCell};
@@ -33,9 +35,9 @@ const STRING: u8 = 6;
 // The greatest even number of bytes that a record's length can count beside its own four.
 const LONGEST: usize = 65_530;
 
-/// The stream of a library with this one cell, whose rectangles are boundaries. A name of more than 65,530 bytes or a
-/// coordinate beyond 2^31 - 1 has no room in a record and is answered like want of memory; a library that was read has
-/// no such name. Cost: the bytes written.
+/// The stream of a library with this one cell, whose rectangles are boundaries, layer by layer. A coordinate beyond 32
+/// bits has no room in a record and is answered like want of memory; so is a name of more than 65,530 bytes, which no
+/// library that was read has. Cost: the bytes written.
 pub fn shapes_text(
     alloc: Global,
     library: &Library,
@@ -44,6 +46,7 @@ pub fn shapes_text(
 ) -> Result<Vec<u8>, AllocError>
     ensures exact { IfOk result (λ text. text.items ≡ stream_bytes (library_seen library.now) (cell_seen cell.now) (map layer_seen written.now)) }
     ensures fits { OnOk result (Fits (library_seen library.now) (cell_seen cell.now) (map layer_seen written.now)) }
+    ensures accepted { IfOk result (λ text. IsRead (library_seen library.now) (cell_seen cell.now) → Accepts text.items (written_library (library_seen library.now) (cell_seen cell.now) (map layer_seen written.now))) }
 {
     let mut out = Vec::new(alloc);
     write_header(alloc, &mut out, library)?;
@@ -82,7 +85,7 @@ fn write_string(alloc: Global, out: &mut Vec<u8>, kind: u8, text: &[u8]) -> Resu
 
 fn write_layers(out: &mut Vec<u8>, written: &[Written]) -> Result<(), AllocError>
     ensures written { OnOk result (out.new.items ≡ out.old.items ++ flat_map record_bytes (flat_map layer (map layer_seen written.now))) }
-    ensures long { OnOk result (All (λ l. All IsLongRect l.1) (map layer_seen written.now)) }
+    ensures fits { OnOk result (All FitsLayer (map layer_seen written.now)) }
 {
     for layer in written {
         write_layer(out, layer.key, layer.rects)?;
@@ -92,7 +95,7 @@ fn write_layers(out: &mut Vec<u8>, written: &[Written]) -> Result<(), AllocError
 
 fn write_layer(out: &mut Vec<u8>, key: LayerKey, rects: &[Rect]) -> Result<(), AllocError>
     ensures written { OnOk result (out.new.items ≡ out.old.items ++ flat_map record_bytes (layer (key, rects.now))) }
-    ensures long { OnOk result (All IsLongRect rects.now) }
+    ensures fits { OnOk result (FitsLayer (key, rects.now)) }
 {
     for rect in rects {
         write_boundary(out, key, *rect)?;
@@ -129,8 +132,5 @@ fn long(number: i64) -> Result<i32, AllocError>
     ensures same { IfOk result (λ n. n ≡ number) }
     ensures long { OnOk result (IsLong number) }
 {
-    if number.unsigned_abs() > 0x7FFF_FFFF {
-        return Err(AllocError);
-    }
-    Ok(number as i32)
+    i32::try_from(number).map_err(|_| AllocError)
 }

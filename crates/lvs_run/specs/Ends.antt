@@ -1,10 +1,13 @@
 -- What the end of a run comes to: the line of a refusal, or the file and its line.
-use Rattle.std.specs.Prelude.{◌≡◌, ◌⊎◌, ◌<◌, ◌++◌, ℕ, List, string_bytes}
+use Rattle.std.specs.Prelude.{◌≡◌, ◌⊎◌, ◌<◌, ℕ, List, Option, string_bytes}
 use Rattle.lvs_outside.specs.Store.{Store, SameFiles, appended}
 use Rattle.lvs_outside.specs.Summary.{SinkState}
 use Rattle.lvs_outside.specs.Loops.{HoldsNow, ForPrefix}
 use Rattle.lvs_run.specs.Answers.{Answer, Good, Outside, NoMemory}
-use Rattle.lvs_run.specs.Runs.{depot_faults, sink_faults, line_of}
+use Rattle.lvs_run.specs.Runs.{depot_faults, sink_faults, Leaves, Says}
+use Rattle.lvs_run.specs.Lines.{line_of}
+use Rattle.lvs_run.specs.Outcomes.{IsOutcome}
+use Rattle.lvs_run.specs.Words.{Paths}
 use Rattle.lvs_run.specs.declared.run.Output.{Output}
 
 -- the sink took the text, and nothing failed
@@ -47,3 +50,17 @@ Delivered o old new before after a =
     ((a ≡ Good) × WroteWhole old new (string_bytes o.path) o.text.items × Took before after o.line.items)
     ⊎ (((a ≡ Outside) × WroteWhole old new (string_bytes o.path) o.text.items × TookPart before after o.line.items)
     ⊎ ((a ≡ Outside) × WrotePart old new (string_bytes o.path) o.text.items × TookNone before after))
+
+-- a fact, but after Outside and NoMemory
+abbrev pub IsOrElse : Answer → Type 0 → Type 0
+IsOrElse Outside P = Unit {0}
+IsOrElse NoMemory P = Unit {0}
+IsOrElse a P = P
+
+-- the outcome: of the told files and what is written, with the line of it; after Outside and NoMemory what they leave
+pub record ComesOut (said : Option Paths) (old new : Store) (before after : SinkState) (a : Answer) : Type 0 where
+  pub text : List ℕ
+  pub count : ℕ
+  pub comes : IsOrElse a (IsOutcome said old.file a text count)
+  pub leaves : Leaves said old new text a
+  pub says : Says a count before after

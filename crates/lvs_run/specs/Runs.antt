@@ -1,12 +1,11 @@
--- What each answer of a run says of the depot and the sink that it was lent.
-use Rattle.std.specs.Prelude.{◌≡◌, ◌⊎◌, ℕ, ◌+◌, ◌<◌, ◌≤◌, List, [], ◌∷◌, ◌++◌, length, Option, Some, None, codes}
-use Rattle.std.specs.Fmt.{decimal}
-use Rattle.lvs_outside.specs.Store.{Store, Told, Untold, NoFile, Holds, Open, Closed, Reading, Writing, IsAbsent, SameFiles, appended, counted}
-use Rattle.lvs_outside.specs.Summary.{SinkState, counted_sink}
+-- What each answer of a run says of the depot and the sink that it was lent, whatever they tell.
+use Rattle.std.specs.Prelude.{◌≡◌, ◌⊎◌, ℕ, ◌+◌, ◌<◌, List, Option, Some, None, length}
+use Rattle.lvs_outside.specs.Store.{Store, Told, Untold, NoFile, Holds, Open, Closed, Reading, Writing, SameFiles, appended}
+use Rattle.lvs_outside.specs.Summary.{SinkState}
 use Rattle.lvs_outside.specs.Loops.{limit, HoldsNow, ForPrefix}
-use Rattle.net_names.specs.Escapes.{escaped}
-use Rattle.lvs_run.specs.Words.{Paths}
-use Rattle.lvs_run.specs.Answers.{Answer, Good, Bad, RefusedWords, RefusedAbsent, RefusedLong, RefusedUnbuilt, Undecided, Outside, NoMemory}
+use Rattle.lvs_run.specs.Words.{Paths, same_path}
+use Rattle.lvs_run.specs.Answers.{Answer, Good, Bad, RefusedWords, RefusedSame, RefusedAbsent, RefusedLong, RefusedRules, RefusedLayout, RefusedUnbuilt, Undecided, Outside, NoMemory}
+use Rattle.lvs_run.specs.Lines.{line_of}
 
 -- faults of the depot and of the sink, an empty take being one
 abbrev pub depot_faults : Store → ℕ
@@ -28,27 +27,20 @@ abbrev pub ShowsFaults : Answer → Store → Store → SinkState → SinkState 
 ShowsFaults Outside old new before after = HaveRisen old new before after
 ShowsFaults a old new before after = HaveStood old new before after
 
--- where the file is told, it is there and not too long
-abbrev pub IsTaken : Told → Type 0
-IsTaken Untold = Unit {0}
-IsTaken NoFile = ⊥
-IsTaken (Holds bytes) = length bytes ≤ limit
+-- the words state a command, and no file that it writes is named twice
+abbrev pub IsStated : Option Paths → Type 0
+IsStated None = ⊥
+IsStated (Some p) = same_path p ≡ None
 
--- where the file is told, it is there and too long
-abbrev pub IsLong : Told → Type 0
-IsLong Untold = Unit {0}
-IsLong NoFile = ⊥
-IsLong (Holds bytes) = limit < length bytes
+-- a file that the command writes is named twice, by this path
+abbrev pub IsSame : Option Paths → List ℕ → Type 0
+IsSame None path = ⊥
+IsSame (Some p) path = same_path p ≡ Some path
 
--- the path is the first input with this fact: the rules, or the layout where the rules were taken
-abbrev pub IsFirstInput : Option Paths → Store → List ℕ → (Told → Type 0) → Type 0
-IsFirstInput None s path P = ⊥
-IsFirstInput (Some p) s path P = ((path ≡ p.rules) × P (s.file p.rules)) ⊎ ((path ≡ p.layout) × IsTaken (s.file p.rules) × P (s.file p.layout))
-
--- both inputs were taken
-abbrev pub AreTaken : Option Paths → Store → Type 0
-AreTaken None s = ⊥
-AreTaken (Some p) s = IsTaken (s.file p.rules) × IsTaken (s.file p.layout)
+-- the path is an input of the command
+abbrev pub IsInputPath : Option Paths → List ℕ → Type 0
+IsInputPath None path = ⊥
+IsInputPath (Some p) path = (same_path p ≡ None) × ((path ≡ p.rules) ⊎ (path ≡ p.layout))
 
 -- the path stands open, with more bytes read than are taken
 abbrev pub IsReadTooFar : Open → List ℕ → Type 0
@@ -68,6 +60,19 @@ IsReadWhole Closed s path = ⊥
 IsReadWhole (Reading p n) s path = (p ≡ path) × HasLength (s.file path) n
 IsReadWhole (Writing p n) s path = ⊥
 
+-- the command's rules, or its layout, were read to their end
+abbrev pub AreRulesRead : Option Paths → Store → Store → Type 0
+AreRulesRead None old new = ⊥
+AreRulesRead (Some p) old new = (same_path p ≡ None) × IsReadWhole new.opened old p.rules
+
+abbrev pub IsLayoutRead : Option Paths → Store → Store → Type 0
+IsLayoutRead None old new = ⊥
+IsLayoutRead (Some p) old new = (same_path p ≡ None) × IsReadWhole new.opened old p.layout
+
+abbrev pub IsLayout : Option Paths → List ℕ → Type 0
+IsLayout None path = ⊥
+IsLayout (Some p) path = path ≡ p.layout
+
 -- the last absent answer was for this path, and there was one
 pub record WasAbsent (old new : Store) (path : List ℕ) : Type 0 where
   pub one : new.absent ≡ old.absent + 1
@@ -75,12 +80,15 @@ pub record WasAbsent (old new : Store) (path : List ℕ) : Type 0 where
 
 -- what stands behind an answer: each refusal has its cause, and other answers come only without one
 abbrev pub HasCauseIn : Option Paths → Store → Store → Answer → Type 0
-HasCauseIn said old new Good = AreTaken said old × (new.absent ≡ old.absent)
+HasCauseIn said old new Good = IsStated said × (new.absent ≡ old.absent)
 HasCauseIn said old new Bad = ⊥
 HasCauseIn said old new RefusedWords = (said ≡ None) × (new.absent ≡ old.absent)
-HasCauseIn said old new (RefusedAbsent path) = IsFirstInput said old path IsAbsent × WasAbsent old new path
-HasCauseIn said old new (RefusedLong path) = IsFirstInput said old path IsLong × IsReadTooFar new.opened path × (new.absent ≡ old.absent)
-HasCauseIn said old new (RefusedUnbuilt path) = IsFirstInput said old path IsTaken × IsReadWhole new.opened old path × (new.absent ≡ old.absent)
+HasCauseIn said old new (RefusedSame path) = IsSame said path × (new.absent ≡ old.absent)
+HasCauseIn said old new (RefusedAbsent path) = IsInputPath said path × WasAbsent old new path
+HasCauseIn said old new (RefusedLong path) = IsInputPath said path × IsReadTooFar new.opened path × (new.absent ≡ old.absent)
+HasCauseIn said old new (RefusedRules fault) = AreRulesRead said old new × (new.absent ≡ old.absent)
+HasCauseIn said old new (RefusedLayout number index offset) = IsLayoutRead said old new × (new.absent ≡ old.absent)
+HasCauseIn said old new (RefusedUnbuilt path) = IsLayoutRead said old new × IsLayout said path × (new.absent ≡ old.absent)
 HasCauseIn said old new Undecided = ⊥
 HasCauseIn said old new Outside = Unit {0}
 HasCauseIn said old new NoMemory = Unit {0}
@@ -91,33 +99,24 @@ pub record StartsNone (old new : Store) : Type 0 where
   pub left_open : new.left_open ≡ old.left_open
   pub files : SameFiles old new
 
--- the shapes file holds one text, and all other files stay
-abbrev pub WritesShapes : Option Paths → Store → Store → Type 0
-WritesShapes None old new = ⊥
-WritesShapes (Some p) old new = (text : List ℕ) × HoldsNow old new p.shapes text
+-- the shapes file holds this text, and all other files stay
+abbrev pub WritesShapes : Option Paths → Store → Store → List ℕ → Type 0
+WritesShapes None old new text = ⊥
+WritesShapes (Some p) old new text = HoldsNow old new p.shapes text
 
 -- the shapes file holds a prefix of one text, and all other files stay
 abbrev pub WritesPart : Option Paths → Store → Store → Type 0
 WritesPart None old new = ⊥
 WritesPart (Some p) old new = (text : List ℕ) × ForPrefix text (HoldsNow old new p.shapes)
 
--- what was written by each answer
-abbrev pub Leaves : Option Paths → Store → Store → Answer → Type 0
-Leaves said old new Good = WritesShapes said old new × (new.left_open ≡ old.left_open)
-Leaves said old new Outside = SameFiles old new ⊎ WritesPart said old new
-Leaves said old new a = StartsNone old new
-
--- the summary line of each answer; R rectangles were written
-abbrev pub line_of : Answer → ℕ → List ℕ
-line_of Good r = codes "shapes cells 1 rectangles " ++ decimal r ++ 10 ∷ []
-line_of RefusedWords r = codes "refused words" ++ 10 ∷ []
-line_of (RefusedAbsent path) r = codes "refused absent " ++ escaped path ++ 10 ∷ []
-line_of (RefusedLong path) r = codes "refused long " ++ escaped path ++ 10 ∷ []
-line_of (RefusedUnbuilt path) r = codes "refused unbuilt " ++ escaped path ++ 10 ∷ []
-line_of a r = []
+-- what was written by each answer; the text is what Good writes
+abbrev pub Leaves : Option Paths → Store → Store → List ℕ → Answer → Type 0
+Leaves said old new text Good = WritesShapes said old new text × (new.left_open ≡ old.left_open)
+Leaves said old new text Outside = SameFiles old new ⊎ WritesPart said old new
+Leaves said old new text a = StartsNone old new
 
 -- the sink took the answer's line, a prefix of one after a fault, and nothing where memory ran out
-abbrev pub Says : Answer → SinkState → SinkState → Type 0
-Says Outside before after = (line : List ℕ) × ForPrefix line (λ front. after.told ≡ appended before.told front)
-Says NoMemory before after = (after.told ≡ before.told) × (after.write_calls ≡ before.write_calls)
-Says a before after = (r : ℕ) × (after.told ≡ appended before.told (line_of a r))
+abbrev pub Says : Answer → ℕ → SinkState → SinkState → Type 0
+Says Outside count before after = (line : List ℕ) × ForPrefix line (λ front. after.told ≡ appended before.told front)
+Says NoMemory count before after = (after.told ≡ before.told) × (after.write_calls ≡ before.write_calls)
+Says a count before after = after.told ≡ appended before.told (line_of a count)

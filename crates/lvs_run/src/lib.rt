@@ -2,12 +2,8 @@
 #![tactic(auto)]
 
 mod input;
-mod layers;
-mod plain_layout;
-mod plain_rules;
 mod run;
 mod status;
-mod stream;
 mod summary;
 mod words;
 

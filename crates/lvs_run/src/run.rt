@@ -1,30 +1,108 @@
 // The run of the program.
-ghost use Rattle.std.specs.Prelude.{◌≡◌, map, string_bytes, IfOk, IfErr, Some};
+ghost use Rattle.std.specs.Prelude.{◌≡◌, map, string_bytes, IfOk, IfErr, Some, None};
+ghost use Rattle.std.specs.Str.{bytes_eq};
+ghost use Rattle.gds_elements.specs.Faults.{Accepts};
+ghost use Rattle.gds_elements.specs.Reading.{library_seen};
 ghost use Rattle.lvs_outside.specs.Store.{HasRoom};
 ghost use Rattle.lvs_outside.specs.Summary.{SinkHasRoom};
-ghost use Rattle.lvs_run.specs.Answers.{answer_of, refused};
-ghost use Rattle.lvs_run.specs.Inputs.{Quiet, IsReady, WasReady, Stops, stopped};
-ghost use Rattle.lvs_run.specs.Ends.{Refused, Delivered};
-ghost use Rattle.lvs_run.specs.Runs.{ShowsFaults, HasCauseIn, Leaves, Says, line_of};
-ghost use Rattle.lvs_run.specs.Words.{said, paths_of};
+ghost use Rattle.lvs_run.specs.Answers.{answer_of, refused, refused_rules};
+ghost use Rattle.lvs_run.specs.Ends.{ComesOut, Delivered, Refused};
+ghost use Rattle.lvs_run.specs.Inputs.{IsOutput, IsReady, NotMade, Quiet, ReadAs, RefusesLayout, RefusesRules, Stops, stopped};
+ghost use Rattle.lvs_run.specs.Runs.{HasCauseIn, ShowsFaults};
+ghost use Rattle.lvs_run.specs.Words.{paths_of, said, same_path};
+ghost use Rattle.rule_text.specs.Reading.{Means};
+ghost use Rattle.rule_text.specs.Seen.{rules_seen};
 
 use crate::input::{Stop, read_input};
-use crate::layers::layer_sets;
-use crate::plain_layout::read_plain_layout;
-use crate::plain_rules::read_plain_rules;
 use crate::status::{Refusal, Status};
-use crate::stream::{rectangle_count, shapes_text};
 use crate::summary::{good_line, refusal_line};
 use crate::words::{Command, WordFault, read_words};
+use gds_elements::{GdsFault, Library, read_library};
 use lvs_outside::{Depot, Sink, write_all, write_file};
+use one_cell::make_shapes;
+use rule_text::{RuleFault, RuleSet, read_rules};
 use std::alloc::Global;
 
-// What a run has to write.
+// What a run has to write: the shapes file with so many rectangles, and the line.
 #[derive(Drop)]
 struct Output {
     path: String,
     text: Vec<u8>,
+    count: u64,
     line: Vec<u8>,
+}
+
+fn rules_stop(fault: RuleFault) -> Stop
+    ensures { stopped result ≡ refused_rules fault }
+{
+    match fault.number() {
+        Some(_) => Stop::Refused(Refusal::Rules(fault)),
+        None => Stop::NoMemory,
+    }
+}
+
+// The rules of the path's file.
+fn rules_of<D: Depot>(alloc: Global, depot: &mut D, path: &String) -> Result<RuleSet, Stop>
+    requires { HasRoom (D.state depot.old) }
+    ensures quiet { Quiet (D.state depot.old) (D.state depot.new) }
+    ensures found { IfOk result (λ r. ReadAs (D.state depot.old) (D.state depot.new) (string_bytes path.now) (λ bytes. Means bytes (rules_seen r))) }
+    ensures refused { IfErr result (λ why. RefusesRules (D.state depot.old) (D.state depot.new) (string_bytes path.now) (stopped why)) }
+{
+    let bytes = match read_input(alloc, depot, path) {
+        Ok(bytes) => bytes,
+        Err(stop) => return Err(stop),
+    };
+    match read_rules(alloc, bytes.as_slice()) {
+        Ok(rules) => Ok(rules),
+        Err(fault) => Err(rules_stop(fault)),
+    }
+}
+
+// The library of the path's file.
+fn library_of<D: Depot>(alloc: Global, depot: &mut D, path: &String) -> Result<Library, Stop>
+    requires { HasRoom (D.state depot.old) }
+    ensures quiet { Quiet (D.state depot.old) (D.state depot.new) }
+    ensures found { IfOk result (λ v. ReadAs (D.state depot.old) (D.state depot.new) (string_bytes path.now) (λ bytes. Accepts bytes (library_seen v))) }
+    ensures refused { IfErr result (λ why. RefusesLayout (D.state depot.old) (D.state depot.new) (string_bytes path.now) (stopped why)) }
+{
+    let bytes = match read_input(alloc, depot, path) {
+        Ok(bytes) => bytes,
+        Err(stop) => return Err(stop),
+    };
+    match read_library(alloc, bytes.as_slice()) {
+        Ok(library) => Ok(library),
+        Err(GdsFault::NoMemory) => Err(Stop::NoMemory),
+        Err(fault) => Err(Stop::Refused(Refusal::Layout(fault))),
+    }
+}
+
+// What there is to write.
+fn output_of(
+    alloc: Global,
+    library: &Library,
+    rules: &RuleSet,
+    layout: String,
+    shapes: String,
+) -> Result<Output, Stop>
+    ensures made { IfOk result (λ o. IsOutput (string_bytes shapes) (library_seen library.now) (rules_seen rules.now) o) }
+    ensures stops { IfErr result (λ why. NotMade (string_bytes layout) (library_seen library.now) (stopped why)) }
+{
+    let Some(made) = make_shapes(alloc, library, rules)? else {
+        return Err(Stop::Refused(Refusal::Unbuilt(layout)));
+    };
+    let line = good_line(alloc, made.rectangles)?;
+    Ok(Output {
+        path: shapes,
+        text: made.text,
+        count: made.rectangles,
+        line,
+    })
+}
+
+fn is_same(a: &String, b: &String) -> bool
+    ensures { result ≡ bytes_eq (string_bytes a.now) (string_bytes b.now) }
+{
+    a.as_str() == b.as_str()
 }
 
 // Reads the inputs of `shapes` and makes all that is to be written.
@@ -37,38 +115,31 @@ fn shapes_output<D: Depot>(
 ) -> Result<Output, Stop>
     requires { HasRoom (D.state depot.old) }
     ensures quiet { Quiet (D.state depot.old) (D.state depot.new) }
-    ensures ready { IfOk result (λ o. IsReady (paths_of (string_bytes layout) (string_bytes rules) (string_bytes shapes)) (D.state depot.old) (D.state depot.new) o) }
+    ensures ready { IfOk result (λ o. IsReady (Some (paths_of (string_bytes layout) (string_bytes rules) (string_bytes shapes))) (D.state depot.old) (D.state depot.new) o) }
     ensures stops { IfErr result (λ why. Stops (Some (paths_of (string_bytes layout) (string_bytes rules) (string_bytes shapes))) (D.state depot.old) (D.state depot.new) (stopped why)) }
 {
-    let bytes = match read_input(alloc, depot, rules.as_str()) {
-        Ok(bytes) => bytes,
+    if is_same(&layout, &shapes) || is_same(&rules, &shapes) {
+        return Err(Stop::Refused(Refusal::SamePath(shapes)));
+    }
+    let rule_set = match rules_of(alloc, depot, &rules) {
+        Ok(rule_set) => rule_set,
         Err(stop) => return Err(stop),
     };
-    let Some(rule_set) = read_plain_rules(alloc, bytes.as_slice())? else {
-        return Err(Stop::Refused(Refusal::Unbuilt(rules)));
-    };
-    let bytes = match read_input(alloc, depot, layout.as_str()) {
-        Ok(bytes) => bytes,
+    let library = match library_of(alloc, depot, &layout) {
+        Ok(library) => library,
         Err(stop) => return Err(stop),
     };
-    let Some(plain) = read_plain_layout(alloc, bytes.as_slice())? else {
-        return Err(Stop::Refused(Refusal::Unbuilt(layout)));
-    };
-    let sets = layer_sets(alloc, &plain, &rule_set)?;
-    let text = shapes_text(alloc, &plain, &rule_set.outputs, &sets)?;
-    let line = good_line(alloc, rectangle_count(&rule_set.outputs, &sets))?;
-    Ok(Output {
-        path: shapes,
-        text,
-        line,
-    })
+    match output_of(alloc, &library, &rule_set, layout, shapes) {
+        Ok(output) => Ok(output),
+        Err(stop) => Err(stop),
+    }
 }
 
 // Reads the words and the inputs, and makes all that is to be written.
 fn prepare<D: Depot>(alloc: Global, words: &[String], depot: &mut D) -> Result<Output, Stop>
     requires { HasRoom (D.state depot.old) }
     ensures quiet { Quiet (D.state depot.old) (D.state depot.new) }
-    ensures ready { IfOk result (λ o. WasReady (said (map string_bytes words.now)) (D.state depot.old) (D.state depot.new) o) }
+    ensures ready { IfOk result (λ o. IsReady (said (map string_bytes words.now)) (D.state depot.old) (D.state depot.new) o) }
     ensures stops { IfErr result (λ why. Stops (said (map string_bytes words.now)) (D.state depot.old) (D.state depot.new) (stopped why)) }
 {
     match read_words(alloc, words) {
@@ -116,6 +187,7 @@ fn deliver<D: Depot, S: Sink>(output: &Output, depot: &mut D, out: &mut S) -> St
 /// Runs the command that the words state, over the files of the depot, and gives the sink its summary line.
 ///
 /// All that is written is complete in memory before the first write. After a failed call neither object is called again.
+/// The layout is read to its end, or past the limit, before its fault is answered.
 pub fn run_lvs<D: Depot, S: Sink>(
     alloc: Global,
     words: &[String],
@@ -124,10 +196,12 @@ pub fn run_lvs<D: Depot, S: Sink>(
 ) -> Status
     requires depot { HasRoom (D.state depot.old) }
     requires out { SinkHasRoom (S.state out.old) }
+    // Outside is answered exactly where a count of faults rose.
     ensures faults { ShowsFaults (answer_of result) (D.state depot.old) (D.state depot.new) (S.state out.old) (S.state out.new) }
+    // Each refusal has its cause, and other answers come only without one, whatever depot and sink tell.
     ensures cause { HasCauseIn (said (map string_bytes words.now)) (D.state depot.old) (D.state depot.new) (answer_of result) }
-    ensures files { Leaves (said (map string_bytes words.now)) (D.state depot.old) (D.state depot.new) (answer_of result) }
-    ensures line { Says (answer_of result) (S.state out.old) (S.state out.new) }
+    // Where the files are told, the answer, the written file and the line are what they come to.
+    ensures outcome { ComesOut (said (map string_bytes words.now)) (D.state depot.old) (D.state depot.new) (S.state out.old) (S.state out.new) (answer_of result) }
 {
     match prepare(alloc, words, depot) {
         Ok(output) => deliver(&output, depot, out),

@@ -1,4 +1,6 @@
 // How a run of the program ends.
+use gds_elements::GdsFault;
+use rule_text::RuleFault;
 
 /// How a run of the program ends.
 #[derive(Debug, Drop)]
@@ -22,21 +24,28 @@ pub enum Status {
 pub enum Refusal {
     /// The words are no command.
     Words,
+    /// A file that is to be written is named twice.
+    SamePath(String),
     /// No file has the path.
     Absent(String),
     /// The file has more than 268,435,456 bytes.
     TooLong(String),
-    /// The file was read whole, and this program doesn't read its form yet.
+    /// The rule file's first fault.
+    Rules(RuleFault),
+    /// The layout's first fault.
+    Layout(GdsFault),
+    /// The layout is sound, and this program doesn't read its form yet: it isn't one cell without references within
+    /// plus or minus 2^30.
     Unbuilt(String),
 }
 
 impl Status {
     ghost use Rattle.std.specs.Prelude.{◌≡◌};
-    ghost use Rattle.lvs_run.specs.Answers.{code_of, answer_of};
+    ghost use Rattle.lvs_run.specs.Codes.{code_of};
 
     /// The exit status of the program.
     pub fn code(&self) -> u8
-        ensures { result ≡ code_of (answer_of self.now) }
+        ensures { result ≡ code_of self.now }
     {
         match self {
             Status::Good => 0,

@@ -1,11 +1,14 @@
 -- What is written in turn is the list's bytes.
-use Rattle.std.proofs.Common.{◌∙◌, sym, ap, ℕ, List, ◌++◌}
+use Rattle.std.proofs.Common.{◌∙◌, sym, ap, subst, ℕ, List, ◌++◌}
 use Rattle.std.specs.Prelude.{map}
 use Rattle.std.specs.List.{flat_map}
 use Rattle.gds_records.specs.Records.{record_bytes, NoRecords}
 use Rattle.gds_elements.specs.Kinds.{BGNSTR, STRNAME, ENDSTR, ENDLIB}
+use Rattle.gds_elements.specs.Faults.{Accepts}
 use Rattle.gds_elements.specs.Reading.{library_seen, cell_seen}
 use Rattle.gds_shapes.specs.Stream.{bare, numbers, string, header, layer, layer_seen, stream_list}
+use Rattle.gds_shapes.specs.Accepted.{written_library}
+use Rattle.gds_shapes.proofs.AcceptLaw.{law}
 use Rattle.gds_shapes.proofs.Joined.{bytes_more, in_turn}
 use Rattle.gds_shapes.proofs.shapes.shapes_text.Goals as goal
 
@@ -23,3 +26,11 @@ returns-clause-exact c =
     c.in_ok-write_record-2.ensures.written
     c.in_ok-write_record-3.ensures.written
     ∙ sym (bytes_more NoRecords (stream_list library cell layers))
+
+pub returns-clause-accepted : goal.returns-clause-accepted
+returns-clause-accepted c read =
+    let library = library_seen c.args.library.now in
+    let cell = cell_seen c.args.cell.now in
+    let layers = map layer_seen c.args.written.now in
+    let P : List ℕ → Type 0 = λ bytes. Accepts bytes (written_library library cell layers) in
+    subst P (sym (returns-clause-exact c)) (law library cell layers read c.in_ok-write_layers.ensures.fits)

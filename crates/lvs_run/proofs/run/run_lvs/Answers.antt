@@ -1,5 +1,11 @@
-use Rattle.lvs_run.proofs.FileLemmas.{delivered_files}
+use Rattle.lvs_run.proofs.Delivering.{delivered, stop_out, stopped_outside}
 use Rattle.lvs_run.proofs.run.run_lvs.Goals as goal
 
-pub returns-in-Ok-clause-files : goal.returns-in-Ok-clause-files
-returns-in-Ok-clause-files g c = delivered_files _ _ _ _ _ _ c.in-Ok.output _ c.in-Ok.ensures.quiet c.in-Ok.ensures.ready c.deliver.ensures
+pub returns-in-Ok-clause-outcome : goal.returns-in-Ok-clause-outcome
+returns-in-Ok-clause-outcome g c = delivered _ _ _ _ _ _ c.in-Ok.output _ c.in-Ok.ensures.quiet c.in-Ok.ensures.ready c.deliver.ensures
+
+pub returns-in-Err-Outside-clause-outcome : goal.returns-in-Err-Outside-clause-outcome
+returns-in-Err-Outside-clause-outcome g c = stopped_outside _ _ _ _ c.prepare.ensures.quiet
+
+pub returns-in-Err-Refused-clause-outcome : goal.returns-in-Err-Refused-clause-outcome
+returns-in-Err-Refused-clause-outcome g c = stop_out _ _ _ _ _ c.in-Err-Refused.field-0 c.in-Err-Refused.why _ c.in-Err-Refused.field-0-is c.in-Err-Refused.ensures.quiet c.in-Err-Refused.ensures.stops c.refuse.ensures

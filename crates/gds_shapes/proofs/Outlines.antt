@@ -1,0 +1,36 @@
+-- The corners of a rectangle pass the tests of a boundary's points.
+use Rattle.std.proofs.Common.{◌≡◌, ℕ, Bool, true, false, List, Option, None, refl, ap, ℤ}
+use Rattle.std.specs.Prelude.{◌&&◌, ◌||◌}
+use Rattle.std.specs.Ordering.{int_eq}
+use Rattle.std.proofs.lemmas.Bool.Decides.{Decides-int_eq}
+use Rattle.geo_base.specs.declared.shapes.Point.{Point}
+use Rattle.geo_base.specs.declared.shapes.Rect.{Rect}
+use Rattle.gds_elements.specs.Data.{is_closed, is_straight}
+use Rattle.gds_elements.specs.Faults.{outline_fault, or_else, content_fault}
+use Rattle.gds_shapes.specs.Stream.{corners, outline}
+use Rattle.gds_shapes.proofs.Bodies.{rect_back}
+
+same : (z : ℤ) → int_eq z z ≡ true
+same z = (Decides-int_eq z z).1 refl
+
+both : (a b : Bool) → a ≡ true → b ≡ true → (a && b) ≡ true
+both a b e f = rw (e, f) refl
+
+second : (a b : Bool) → b ≡ true → (a || b) ≡ true
+second true b e = refl
+second false b e = e
+
+first : (a b : Bool) → a ≡ true → (a || b) ≡ true
+first a b e = rw e refl
+
+closed : (r : Rect) → is_closed (corners r) ≡ true
+closed r = both _ _ (same r.x1) (same r.y1)
+
+straight : (r : Rect) → is_straight (corners r) ≡ true
+straight r = both _ _ (first _ _ (same r.x1)) (both _ _ (second _ _ (same r.y2)) (both _ _ (first _ _ (same r.x2)) (both _ _ (second _ _ (same r.y1)) refl)))
+
+sound : (fits : Bool) (ps : List Point) → fits ≡ true → is_straight ps ≡ true → outline_fault fits ps ≡ None
+sound fits ps e f = rw (e, f) refl
+
+pub outline_passes : (columns rows : ℕ) (r : Rect) → content_fault 0x08 columns rows 0x10 (outline r) ≡ None
+outline_passes columns rows r = ap (λ (o : Option ℕ). or_else o None) (sound (is_closed (corners (rect_back r))) (corners (rect_back r)) (closed (rect_back r)) (straight (rect_back r)))

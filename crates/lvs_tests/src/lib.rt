@@ -1,0 +1,7 @@
+//! Tests of whole runs over memory.
+#![tactic(auto)]
+
+#[cfg(test)]
+mod runs;
+#[cfg(test)]
+mod streams;

@@ -1,0 +1,406 @@
+use crate::streams::{Shape, front, outline, stream, with_byte};
+use lvs_outside::{MemoryDepot, MemorySink};
+use lvs_run::run_lvs;
+use std::alloc::{AllocError, Global};
+use std::process::Abort;
+use std::test::Fail;
+
+const RULES: &[u8] = b"a = input(1, 0)\nb = input(2, 0)\nc = a & b\nc.output(10, 0)\n";
+
+const OVERLAP: [Shape; 2] = [(1, 0, 0, 10, 10), (2, 5, 5, 15, 15)];
+
+const TOUCHING: [Shape; 2] = [(1, 0, 0, 10, 10), (2, 10, 0, 20, 10)];
+
+// What a run left.
+#[derive(Debug, Drop)]
+struct Ran {
+    code: u8,
+    line: Vec<u8>,
+    shapes: Option<Vec<u8>>,
+}
+
+// The calls that are to fail, by number: of the depot and of the sink. 0 is no call.
+#[derive(Clone, Copy)]
+struct Failing {
+    depot: u64,
+    sink: u64,
+}
+
+const NONE: Failing = Failing { depot: 0, sink: 0 };
+
+fn words_of(alloc: Global, words: &[&str]) -> Result<Vec<String>, AllocError> {
+    let mut made = Vec::new(alloc);
+    for word in words {
+        made.push(String::from_str(alloc, word)?)?;
+    }
+    Ok(made)
+}
+
+fn one(alloc: Global, number: u64) -> Result<Vec<u64>, AllocError> {
+    let mut numbers = Vec::new(alloc);
+    numbers.push(number)?;
+    Ok(numbers)
+}
+
+// Runs the words over the files l (the layout) and r (the rules).
+fn run_of(
+    alloc: Global,
+    layout: &[u8],
+    rules: &[u8],
+    words: &[&str],
+    failing: Failing,
+) -> Result<Ran, AllocError> {
+    let words = words_of(alloc, words)?;
+    let mut depot = MemoryDepot::new(alloc, one(alloc, failing.depot)?);
+    depot.put(alloc, "l", layout)?;
+    depot.put(alloc, "r", rules)?;
+    let mut sink = MemorySink::new(alloc, one(alloc, failing.sink)?);
+    let status = run_lvs(alloc, words.as_slice(), &mut depot, &mut sink);
+    let shapes = match depot.file("s") {
+        Some(bytes) => Some(bytes.to_vec(alloc)?),
+        None => None,
+    };
+    let line = sink.bytes().to_vec(alloc)?;
+    let code = status.code();
+    Ok(Ran { code, line, shapes })
+}
+
+// Two rectangles overlap in one. With ample memory the answer is Good.
+#[test]
+fn common_rectangle(rt: HostRuntime) -> Result<(), Fail> {
+    let alloc = rt.alloc();
+    let layout = stream(alloc, &OVERLAP)?;
+    assert_eq!(rt; layout.len(), 230);
+    let run = run_of(alloc, &layout, RULES, &SHAPES, NONE)?;
+    assert_eq!(rt; run.code, 0);
+    assert_eq!(rt;
+        run.line.as_slice(),
+        b"shapes cells 1 rectangles 1\n".as_slice()
+    );
+    let wanted = stream(alloc, &[(10, 5, 5, 10, 10)])?;
+    assert_eq!(rt; wanted.len(), 166);
+    assert_eq!(rt; run.shapes, Some(wanted));
+    Ok(())
+}
+
+// Two that share an edge have no square in common.
+#[test]
+fn touching_only(rt: HostRuntime) -> Result<(), Fail> {
+    let alloc = rt.alloc();
+    let layout = stream(alloc, &TOUCHING)?;
+    let run = run_of(alloc, &layout, RULES, &SHAPES, NONE)?;
+    assert_eq!(rt; run.code, 0);
+    assert_eq!(rt;
+        run.line.as_slice(),
+        b"shapes cells 1 rectangles 0\n".as_slice()
+    );
+    let wanted = stream(alloc, &[])?;
+    assert_eq!(rt; wanted.len(), 102);
+    assert_eq!(rt; run.shapes, Some(wanted));
+    Ok(())
+}
+
+// A refusal has status 2 and its line, and starts no file.
+fn refuses(
+    rt: &impl Abort,
+    alloc: Global,
+    layout: &[u8],
+    rules: &[u8],
+    words: &[&str],
+    line: &str,
+) -> Result<(), AllocError> {
+    let run = run_of(alloc, layout, rules, words, NONE)?;
+    assert_eq!(rt; run.code, 2);
+    assert_eq!(rt; run.line.as_slice(), line.as_bytes());
+    assert_eq!(rt; run.shapes, None);
+    Ok(())
+}
+
+const SHAPES: [&str; 4] = ["shapes", "l", "r", "s"];
+
+#[test]
+fn refused_words(rt: HostRuntime) -> Result<(), Fail> {
+    let alloc = rt.alloc();
+    let layout = stream(alloc, &OVERLAP)?;
+    let words = "refused words\n";
+    refuses(&rt, alloc, &layout, RULES, &["shapes", "l", "r"], words)?;
+    refuses(
+        &rt,
+        alloc,
+        &layout,
+        RULES,
+        &["extract", "l", "r", "s"],
+        words,
+    )?;
+    refuses(
+        &rt,
+        alloc,
+        &layout,
+        RULES,
+        &["shapes", "l", "-r", "s"],
+        words,
+    )?;
+    refuses(&rt, alloc, &layout, RULES, &["shapes", "l", "", "s"], words)?;
+    refuses(
+        &rt,
+        alloc,
+        &layout,
+        RULES,
+        &["shapes", "l", "no file", "s"],
+        "refused absent no\\x20file\n",
+    )?;
+    refuses(
+        &rt,
+        alloc,
+        &layout,
+        RULES,
+        &["shapes", "x", "r", "s"],
+        "refused absent x\n",
+    )?;
+    refuses(
+        &rt,
+        alloc,
+        &layout,
+        RULES,
+        &["shapes", "x", "r", "x"],
+        "refused same x\n",
+    )?;
+    refuses(
+        &rt,
+        alloc,
+        &layout,
+        RULES,
+        &["shapes", "x", "r", "r"],
+        "refused same r\n",
+    )?;
+    Ok(())
+}
+
+// The first fault of a rule file, with its line or its offset.
+#[test]
+fn refused_rules(rt: HostRuntime) -> Result<(), Fail> {
+    let alloc = rt.alloc();
+    let layout = stream(alloc, &OVERLAP)?;
+    refuses(
+        &rt,
+        alloc,
+        &layout,
+        b"a = input(1, 0)\na.width(10)\n",
+        &SHAPES,
+        "refused rules 30 line 2\n",
+    )?;
+    refuses(
+        &rt,
+        alloc,
+        &layout,
+        b"a = input(1, 0)\nx = a.sized(5)\n",
+        &SHAPES,
+        "refused rules 31 line 2\n",
+    )?;
+    refuses(
+        &rt,
+        alloc,
+        &layout,
+        b"a = input(1, 0)\nd = a & zz\n",
+        &SHAPES,
+        "refused rules 32 line 2\n",
+    )?;
+    refuses(
+        &rt,
+        alloc,
+        &layout,
+        b"a = input(1, 0)\na = input(1, 0)\n",
+        &SHAPES,
+        "refused rules 33 line 2\n",
+    )?;
+    refuses(
+        &rt,
+        alloc,
+        &layout,
+        b"\0",
+        &SHAPES,
+        "refused rules 36 offset 0\n",
+    )?;
+    Ok(())
+}
+
+// The first fault of a stream, with its record and its offset.
+#[test]
+fn refused_streams(rt: HostRuntime) -> Result<(), Fail> {
+    let alloc = rt.alloc();
+    let layout = stream(alloc, &OVERLAP)?;
+    assert_eq!(rt; layout.len(), 230);
+    refuses(
+        &rt,
+        alloc,
+        front(&layout, 120),
+        RULES,
+        &SHAPES,
+        "refused layout 1 record 9 offset 110\n",
+    )?;
+    refuses(
+        &rt,
+        alloc,
+        front(&layout, 226),
+        RULES,
+        &SHAPES,
+        "refused layout 1 record 17 offset 226\n",
+    )?;
+    refuses(
+        &rt,
+        alloc,
+        &[],
+        RULES,
+        &SHAPES,
+        "refused layout 1 record 0 offset 0\n",
+    )?;
+    Ok(())
+}
+
+// One damaged byte.
+#[test]
+fn damaged_streams(rt: HostRuntime) -> Result<(), Fail> {
+    let alloc = rt.alloc();
+    let layout = stream(alloc, &OVERLAP)?;
+    let slanted = with_byte(alloc, &layout, 201, 16)?;
+    refuses(
+        &rt,
+        alloc,
+        &slanted,
+        RULES,
+        &SHAPES,
+        "refused layout 6 record 14 offset 174\n",
+    )?;
+    let unknown = with_byte(alloc, &layout, 164, 0x7F)?;
+    refuses(
+        &rt,
+        alloc,
+        &unknown,
+        RULES,
+        &SHAPES,
+        "refused layout 3 record 12 offset 162\n",
+    )?;
+    Ok(())
+}
+
+// A cell on the border of what is read, and one beyond it.
+#[test]
+fn reach(rt: HostRuntime) -> Result<(), Fail> {
+    let alloc = rt.alloc();
+    let far = stream(alloc, &[(1, 0, 0, 1073741825, 10)])?;
+    refuses(&rt, alloc, &far, RULES, &SHAPES, "refused unbuilt l\n")?;
+    let border = stream(alloc, &[(1, 0, 0, 1073741824, 10)])?;
+    let run = run_of(alloc, &border, RULES, &SHAPES, NONE)?;
+    assert_eq!(rt; run.code, 0);
+    Ok(())
+}
+
+// A boundary that runs along itself, as four rectangles from below.
+#[test]
+fn spiral_boundary(rt: HostRuntime) -> Result<(), Fail> {
+    let alloc = rt.alloc();
+    let spiral = [
+        (0, 0),
+        (0, 30),
+        (30, 30),
+        (30, 0),
+        (10, 0),
+        (10, 10),
+        (20, 10),
+        (20, 20),
+        (10, 20),
+        (10, 0),
+        (0, 0),
+    ];
+    let layout = outline(alloc, &spiral)?;
+    let run = run_of(
+        alloc,
+        &layout,
+        b"a = input(1, 0)\na.output(10, 0)\n",
+        &SHAPES,
+        NONE,
+    )?;
+    assert_eq!(rt; run.code, 0);
+    assert_eq!(rt;
+        run.line.as_slice(),
+        b"shapes cells 1 rectangles 4\n".as_slice()
+    );
+    let wanted = stream(
+        alloc,
+        &[
+            (10, 0, 0, 30, 10),
+            (10, 0, 10, 10, 20),
+            (10, 20, 10, 30, 20),
+            (10, 0, 20, 30, 30),
+        ],
+    )?;
+    assert_eq!(rt; run.shapes, Some(wanted));
+    Ok(())
+}
+
+// The four Booleans, written by two output lines of one rule file and two of another.
+#[test]
+fn four_booleans(rt: HostRuntime) -> Result<(), Fail> {
+    let alloc = rt.alloc();
+    let layout = stream(alloc, &OVERLAP)?;
+    let rules =
+        b"a = input(1, 0)\nb = input(2, 0)\nd = a - b\ne = a | b\nf = a ^ b\ne.output(11, 0)\nd.output(12, 0)\nf.output(13, 0)\n";
+    let run = run_of(alloc, &layout, rules, &SHAPES, NONE)?;
+    assert_eq!(rt; run.code, 0);
+    assert_eq!(rt;
+        run.line.as_slice(),
+        b"shapes cells 1 rectangles 9\n".as_slice()
+    );
+    let either = [(11, 0, 0, 10, 5), (11, 0, 5, 15, 10), (11, 5, 10, 15, 15)];
+    let first = [(12, 0, 0, 10, 5), (12, 0, 5, 5, 10)];
+    let one = [
+        (13, 0, 0, 10, 5),
+        (13, 0, 5, 5, 10),
+        (13, 10, 5, 15, 10),
+        (13, 5, 10, 15, 15),
+    ];
+    let mut shapes = Vec::new(alloc);
+    shapes.extend_from_slice(&either)?;
+    shapes.extend_from_slice(&first)?;
+    shapes.extend_from_slice(&one)?;
+    let wanted = stream(alloc, &shapes)?;
+    assert_eq!(rt; run.shapes, Some(wanted));
+    Ok(())
+}
+
+// Each call of the depot fails in turn: two opens with two reads each, then start, write and finish of the shapes file.
+#[test]
+fn each_call_fails(rt: HostRuntime) -> Result<(), Fail> {
+    let alloc = rt.alloc();
+    let layout = stream(alloc, &OVERLAP)?;
+    for depot in 1..10u64 {
+        let run = run_of(alloc, &layout, RULES, &SHAPES, Failing { depot, sink: 0 })?;
+        assert_eq!(rt; run.code, 4);
+        assert_eq!(rt; run.line.len(), 0);
+        let written = run.shapes.map(|bytes| bytes.len());
+        let wanted = match depot {
+            1..=7 => None,
+            8 => Some(0),
+            _ => Some(166),
+        };
+        assert_eq!(rt; written, wanted);
+    }
+    let run = run_of(
+        alloc,
+        &layout,
+        RULES,
+        &SHAPES,
+        Failing { depot: 10, sink: 0 },
+    )?;
+    assert_eq!(rt; run.code, 0);
+    let run = run_of(
+        alloc,
+        &layout,
+        RULES,
+        &SHAPES,
+        Failing { depot: 0, sink: 1 },
+    )?;
+    assert_eq!(rt; run.code, 4);
+    assert_eq!(rt; run.line.len(), 0);
+    Ok(())
+}

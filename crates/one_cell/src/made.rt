@@ -1,0 +1,92 @@
+// What is written for the only cell.
+ghost use Rattle.std.specs.Prelude.{◌≡◌, Some, None, map, IfOk, IfSome, IfNone, MatchOption};
+ghost use Rattle.gds_elements.specs.Reading.{cell_seen, library_seen};
+ghost use Rattle.gds_shapes.specs.Stream.{layer_seen};
+ghost use Rattle.rule_text.specs.Seen.{rules_seen};
+ghost use Rattle.one_cell.specs.OneCell.{only_cell, layer_at, written_of, rectangle_count, IsMade, IsUnbuilt};
+
+use crate::reach::is_in_reach;
+use cell_layers::layer_sets;
+use gds_elements::{Library, RawCell};
+use gds_shapes::{Written, shapes_text};
+use geo_base::Rect;
+use rect_sets::RectSet;
+use rule_text::{Output, RuleSet};
+use std::alloc::{AllocError, Global};
+
+/// A written file, and how many rectangles it has.
+#[derive(Drop)]
+pub struct Shapes {
+    pub text: Vec<u8>,
+    pub rectangles: u64,
+}
+
+fn only_cell(library: &Library) -> Option<&RawCell>
+    ensures { MatchOption result (only_cell (library_seen library.now) ≡ None) (λ c. only_cell (library_seen library.now) ≡ Some (cell_seen c.now)) }
+{
+    match library.cells.as_slice() {
+        [cell] if cell.refs.is_empty() => Some(cell),
+        _ => None,
+    }
+}
+
+fn layer_rects(sets: &[RectSet], layer: u32) -> &[Rect]
+    ensures { result.now ≡ layer_at sets.now layer }
+{
+    match sets.get(layer as usize) {
+        Some(set) => set.rects(),
+        None => &[],
+    }
+}
+
+// The output lines' layers.
+fn written_layers<'a>(
+    alloc: Global,
+    outputs: &[Output],
+    sets: &'a [RectSet],
+) -> Result<Vec<Written<'a>>, AllocError>
+    ensures { IfOk result (λ w. map layer_seen w.items ≡ written_of outputs.now sets.now) }
+{
+    let mut written = Vec::new(alloc);
+    for output in outputs {
+        written.push(Written {
+            key: output.key,
+            rects: layer_rects(sets, output.layer),
+        })?;
+    }
+    Ok(written)
+}
+
+fn count(written: &[Written]) -> Option<u64>
+    ensures { IfSome result (λ n. n ≡ rectangle_count (map layer_seen written.now)) }
+{
+    let mut count: u64 = 0;
+    for layer in written {
+        count = count.checked_add(layer.rects.len() as u64)?;
+    }
+    Some(count)
+}
+
+/// What is written for a library of one cell without references within plus or minus 2^30, `None` for any other. Cost: each shape filled
+/// twice, each Boolean once, and the bytes written. 2^64 rectangles, more than memory holds, are answered like want of memory.
+pub fn make_shapes(
+    alloc: Global,
+    library: &Library,
+    rules: &RuleSet,
+) -> Result<Option<Shapes>, AllocError>
+    ensures made { IfOk result (λ m. IfSome m (λ shapes. IsMade (library_seen library.now) (rules_seen rules.now) shapes.text.items shapes.rectangles)) }
+    ensures unbuilt { IfOk result (λ m. IfNone m (IsUnbuilt (library_seen library.now))) }
+{
+    let Some(cell) = only_cell(library) else {
+        return Ok(None);
+    };
+    let within = is_in_reach(alloc, cell)?;
+    if !within {
+        return Ok(None);
+    }
+    let sets = layer_sets(alloc, cell, &rules.names)?;
+    let written = written_layers(alloc, &rules.outputs, &sets)?;
+    let text = shapes_text(alloc, library, cell, &written)?;
+    let rectangles = count(&written).ok_or(AllocError)?;
+    Ok(Some(Shapes { text, rectangles }))
+}
