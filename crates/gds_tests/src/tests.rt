@@ -1,6 +1,6 @@
 //! What no clause says: streams and their libraries or faults.
 
-use crate::streams::{CELL, END, FAULTS, FULL, HEAD, PLAIN, STORED, bytes};
+use crate::streams::{CELL, END, FAULTS, FULL, HEAD, KLAYOUT, PLAIN, STORED, bytes};
 use crate::written::written;
 use gds_elements::{GdsFault, LibraryReader, read_library};
 use gds_records::{kinds, write_record};
@@ -31,6 +31,18 @@ cell 65
 1/0 text 1 2 by 65 66
 R0 7 -8, 1 columns by 0 0, 1 rows by 0 0 of 66
 R0 100 200, 3 columns by 10 0, 2 rows by 0 20 of 66
+";
+
+const KLAYOUT_LIBRARY: &str = "library 76 73 66
+cell 83 85 66
+1/0 boundary 0 0 0 10 10 10 10 0 0 0
+cell 84 79 80
+1/0 boundary 0 0 0 300 100 300 100 100 200 100 200 0 0 0
+1/0 boundary 50 50 50 250 400 250 400 50 50 50
+2/5 path 20 20 20 by 0 0 500 0 500 200
+2/5 text 10 20 by 105 110
+M90 100 200, 1 columns by 0 0, 1 rows by 0 0 of 83 85 66
+R180 -60 30, 3 columns by -20 0, 2 rows by 0 -30 of 83 85 66
 ";
 
 // The number of a stream's fault, its record and its offset.
@@ -137,6 +149,14 @@ fn every_part(rt: HostRuntime) -> Result<(), Fail> {
     assert_eq!(rt; written(alloc, &full)?.as_str(), FULL_LIBRARY);
     let plain = read_library(alloc, &bytes(alloc, &[HEAD, CELL, PLAIN, END])?)?;
     assert_eq!(rt; written(alloc, &plain)?.as_str(), PLAIN_LIBRARY);
+    Ok(())
+}
+
+#[test]
+fn another_tools_library(rt: HostRuntime) -> Result<(), Fail> {
+    let alloc = rt.alloc();
+    let library = read_library(alloc, &bytes(alloc, &[KLAYOUT])?)?;
+    assert_eq!(rt; written(alloc, &library)?.as_str(), KLAYOUT_LIBRARY);
     Ok(())
 }
 
