@@ -1,5 +1,5 @@
 -- The rules' names as the trees of what they read, and which squares they cover where it is known which squares the input layers cover.
-use Rattle.std.specs.Prelude.{◌≡◌, ℕ, ◌<◌, Bool, false, List, [], ◌∷◌, ◌++◌, length, get_or, slice_index_or}
+use Rattle.std.specs.Prelude.{◌≡◌, ℕ, Bool, false, List, [], ◌∷◌, ◌++◌, get_or, slice_index_or}
 use Rattle.geo_base.specs.declared.layer.LayerKey.{LayerKey}
 use Rattle.geo_base.specs.declared.shapes.Rect.{Rect}
 use Rattle.geo_base.specs.declared.shapes.Square.{Square}
@@ -32,7 +32,6 @@ reading_covers own (Input key) s = own key s
 reading_covers own Empty s = false
 reading_covers own (Binary op a b) s = operated op (reading_covers own a s) (reading_covers own b s)
 
--- one set for each tree, of the squares that it covers
-pub record AreLayers (own : LayerKey → Square → Bool) (trees : List Reading) (sets : List (List Rect)) : Type 0 where
-  pub count : length sets ≡ length trees
-  pub each : (k : ℕ) (s : Square) → k < length trees → covers (slice_index_or sets k []) s ≡ reading_covers own (get_or trees k Empty) s
+-- the set of this number covers exactly the squares that the tree of this number does; past the end both have none
+abbrev pub IsRight : (LayerKey → Square → Bool) → List Reading → List (List Rect) → ℕ → Type 0
+IsRight own trees sets k = (s : Square) → covers (slice_index_or sets k []) s ≡ reading_covers own (get_or trees k Empty) s

@@ -6,13 +6,15 @@ ghost use Rattle.rect_sets.specs.Rects.{covers, IsCanonical};
 ghost use Rattle.flat_layout.specs.Layers.{Reading};
 ghost use Rattle.gds_elements.specs.Reading.{cell_seen};
 ghost use Rattle.cell_layers.specs.Shapes.{own_covers};
-ghost use Rattle.cell_layers.specs.Readings.{readings, reading_by, reading_covers, AreLayers};
+ghost use Rattle.cell_layers.specs.Readings.{readings, reading_by, reading_covers, IsRight};
+ghost use Rattle.cell_layers.specs.Uses.{AreOperandsRight, StayAfter};
 
 use crate::own::own_set;
+use crate::uses::last_uses;
 use edge_boolean::combine;
 use gds_elements::RawCell;
 use rect_sets::RectSet;
-use rule_text::{LayerForm, LayerRule};
+use rule_text::{LayerForm, LayerRule, Output};
 use std::alloc::{AllocError, Global};
 
 // The set of a form, over those of the names before it.
@@ -22,7 +24,7 @@ fn form_set(
     before: &[RectSet],
     form: LayerForm,
 ) -> Result<RectSet, AllocError>
-    ensures { (trees : List Reading) → AreLayers (own_covers (cell_seen cell.now)) trees before.now → IfOk result (λ r. (s : Square) → covers r s ≡ reading_covers (own_covers (cell_seen cell.now)) (reading_by trees form) s) }
+    ensures { (trees : List Reading) → AreOperandsRight (own_covers (cell_seen cell.now)) trees before.now form → IfOk result (λ r. (s : Square) → covers r s ≡ reading_covers (own_covers (cell_seen cell.now)) (reading_by trees form) s) }
 {
     match form {
         LayerForm::Input(key) => own_set(alloc, cell, key),
@@ -48,19 +50,49 @@ fn push_set(sets: &mut Vec<RectSet>, set: RectSet) -> Result<(), AllocError>
     Ok(())
 }
 
-/// One set for each name of the rules, in order. The cost is that of each input's shapes and each Boolean once.
+// Frees a name's set, where no later name reads it and no output line writes it.
+fn free(alloc: Global, sets: &mut Vec<RectSet>, last: &[usize], name: usize, moment: usize)
+    requires { All IsCanonical sets.old.items }
+    ensures stay { StayAfter last.now moment sets.old.items sets.new.items }
+    ensures canonical { All IsCanonical sets.new.items }
+{
+    if name < sets.len() && name < last.len() && last[name] <= moment {
+        let none = RectSet::empty(alloc);
+        let _canonical = none.rects();
+        sets[name] = none;
+    }
+}
+
+// Frees the sets of a name and of its operands, where no later name reads them.
+fn free_read(alloc: Global, sets: &mut Vec<RectSet>, last: &[usize], form: LayerForm, moment: usize)
+    requires { All IsCanonical sets.old.items }
+    ensures stay { StayAfter last.now moment sets.old.items sets.new.items }
+    ensures canonical { All IsCanonical sets.new.items }
+{
+    free(alloc, sets, last, moment, moment);
+    if let LayerForm::Binary(_, a, b) = form {
+        free(alloc, sets, last, a as usize, moment);
+        free(alloc, sets, last, b as usize, moment);
+    }
+}
+
+/// One set for each name of the rules, in order; those that output lines write are right in the end, and each other is freed, that is empty,
+/// once no later name reads it. The cost is that of each input's shapes and each Boolean once.
 pub fn layer_sets(
     alloc: Global,
     cell: &RawCell,
     names: &[LayerRule],
+    outputs: &[Output],
 ) -> Result<Vec<RectSet>, AllocError>
-    ensures layers { IfOk result (λ sets. AreLayers (own_covers (cell_seen cell.now)) (readings names.now) sets.items) }
+    ensures layers { IfOk result (λ sets. All (λ o. IsRight (own_covers (cell_seen cell.now)) (readings names.now) sets.items o.layer) outputs.now) }
     ensures canonical { IfOk result (λ sets. All IsCanonical sets.items) }
 {
+    let last = last_uses(alloc, names, outputs)?;
     let mut sets = Vec::new(alloc);
-    for rule in names {
+    for (number, rule) in names.iter().enumerate() {
         let set = form_set(alloc, cell, &sets, rule.form)?;
         push_set(&mut sets, set)?;
+        free_read(alloc, &mut sets, &last, rule.form, number);
     }
     Ok(sets)
 }

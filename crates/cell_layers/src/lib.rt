@@ -3,6 +3,7 @@
 
 mod derived;
 mod own;
+mod uses;
 
 pub use derived::layer_sets;
 pub use own::{own_set, shape_set};

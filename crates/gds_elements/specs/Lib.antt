@@ -4,3 +4,4 @@ pub mod Meaning
 pub mod Faults
 pub mod Reading
 pub mod Pieces
+pub mod Once

@@ -4,6 +4,7 @@
 mod data;
 mod element;
 mod faults;
+mod laws;
 mod library;
 mod pieces;
 mod points;
@@ -11,6 +12,7 @@ mod reader;
 mod reading;
 mod stream;
 
+pub use laws::one_meaning;
 pub use library::{GdsFault, Library, RawCell, RawRef, RawShape, RawText, ShapeForm};
 pub use pieces::LibraryReader;
 pub use reading::read_library;

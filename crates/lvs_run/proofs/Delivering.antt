@@ -23,7 +23,7 @@ appended-nil NoFile = refl
 appended-nil (Holds bytes) = ap Holds (sym (append-nil bytes))
 
 -- one file changed since the middle, and none before it
-holds_since : (old mid new : Store) (path bytes : List ℕ) → SameFiles old mid → HoldsNow mid new path bytes → HoldsNow old new path bytes
+pub holds_since : (old mid new : Store) (path bytes : List ℕ) → SameFiles old mid → HoldsNow mid new path bytes → HoldsNow old new path bytes
 holds_since old mid new path bytes same h = record { each = λ p. elim (h.each p) [ inl e ↦ inl (e.0, e.1) | inr e ↦ inr (e.0, e.1 ∙ same p) ] }
 
 part_since : (old mid new : Store) (path text : List ℕ) → SameFiles old mid → ForPrefix text (HoldsNow mid new path) → ForPrefix text (HoldsNow old new path)

@@ -1,2 +1,4 @@
 pub mod Stopping
 pub mod Delivering
+pub mod Flattened
+pub mod OneAnswer

@@ -3,15 +3,18 @@ use Rattle.std.specs.Prelude.{◌≡◌, ◌<◌, ◌≤◌, ℕ, List, length, 
 use Rattle.lvs_outside.specs.Store.{Store, Told, Untold, NoFile, Holds, IsAbsent, Reading}
 use Rattle.lvs_outside.specs.Loops.{limit}
 use Rattle.gds_elements.specs.Meaning.{Library}
-use Rattle.gds_elements.specs.Faults.{FirstFault}
+use Rattle.gds_elements.specs.Faults.{Accepts, FirstFault}
 use Rattle.one_cell.specs.OneCell.{IsMade, IsUnbuilt}
+use Rattle.one_cell.specs.Flat.{CoversFlat}
 use Rattle.rule_text.specs.Rules.{Rules}
 use Rattle.rule_text.specs.Reading.{IsFirstFault as IsFirstRuleFault}
+use Rattle.rule_text.specs.Sound.{IsSound}
 use Rattle.lvs_run.specs.Words.{Paths}
 use Rattle.lvs_run.specs.Answers.{Answer, Good, RefusedAbsent, RefusedLong, RefusedRules, RefusedLayout, RefusedUnbuilt, Outside, NoMemory, refused}
 use Rattle.lvs_run.specs.Runs.{IsReadTooFar, WasAbsent, StartsNone, HasCauseIn}
 use Rattle.lvs_run.specs.Lines.{line_of}
 use Rattle.lvs_run.specs.Outcomes.{IsOutcome}
+use Rattle.lvs_run.specs.Flat.{TellsFlat}
 use Rattle.lvs_run.specs.declared.input.Stop.{Stop}
 use Rattle.lvs_run.specs.declared.input.Stop.TheVariants as stop
 use Rattle.lvs_run.specs.declared.run.Output.{Output}
@@ -98,6 +101,7 @@ NotMade layout v a = ⊥
 pub record IsOutput (shapes : List ℕ) (v : Library) (r : Rules) (o : Output) : Type 0 where
   pub path : string_bytes o.path ≡ shapes
   pub made : IsMade v r o.text.items o.count
+  pub flat : (bytes : List ℕ) → Accepts bytes v → IsSound r → CoversFlat v r o.text.items
   pub line : o.line.items ≡ line_of Good o.count
 
 -- the outcome of the told files, of an answer that comes of them
@@ -121,3 +125,4 @@ pub record IsReady (said : Option Paths) (old new : Store) (o : Output) : Type 0
   pub faults : new.faults ≡ old.faults
   pub line : o.line.items ≡ line_of Good o.count
   pub comes : IsOutcome said old.file Good o.text.items o.count
+  pub flat : TellsFlat (old.file paths.rules) (old.file paths.layout) o.text.items

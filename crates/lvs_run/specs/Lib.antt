@@ -4,5 +4,7 @@ pub mod Codes
 pub mod Lines
 pub mod Runs
 pub mod Outcomes
+pub mod Flat
+pub mod Once
 pub mod Inputs
 pub mod Ends

@@ -7,11 +7,13 @@ ghost use Rattle.lvs_outside.specs.Store.{HasRoom};
 ghost use Rattle.lvs_outside.specs.Summary.{SinkHasRoom};
 ghost use Rattle.lvs_run.specs.Answers.{answer_of, refused, refused_rules};
 ghost use Rattle.lvs_run.specs.Ends.{ComesOut, Delivered, Refused};
+ghost use Rattle.lvs_run.specs.Flat.{WritesFlat};
 ghost use Rattle.lvs_run.specs.Inputs.{IsOutput, IsReady, NotMade, Quiet, ReadAs, RefusesLayout, RefusesRules, Stops, stopped};
 ghost use Rattle.lvs_run.specs.Runs.{HasCauseIn, ShowsFaults};
 ghost use Rattle.lvs_run.specs.Words.{paths_of, said, same_path};
 ghost use Rattle.rule_text.specs.Reading.{Means};
 ghost use Rattle.rule_text.specs.Seen.{rules_seen};
+ghost use Rattle.rule_text.specs.Sound.{IsSound};
 
 use crate::input::{Stop, read_input};
 use crate::status::{Refusal, Status};
@@ -46,6 +48,7 @@ fn rules_of<D: Depot>(alloc: Global, depot: &mut D, path: &String) -> Result<Rul
     requires { HasRoom (D.state depot.old) }
     ensures quiet { Quiet (D.state depot.old) (D.state depot.new) }
     ensures found { IfOk result (λ r. ReadAs (D.state depot.old) (D.state depot.new) (string_bytes path.now) (λ bytes. Means bytes (rules_seen r))) }
+    ensures sound { IfOk result (λ r. IsSound (rules_seen r)) }
     ensures refused { IfErr result (λ why. RefusesRules (D.state depot.old) (D.state depot.new) (string_bytes path.now) (stopped why)) }
 {
     let bytes = match read_input(alloc, depot, path) {
@@ -202,6 +205,8 @@ pub fn run_lvs<D: Depot, S: Sink>(
     ensures cause { HasCauseIn (said (map string_bytes words.now)) (D.state depot.old) (D.state depot.new) (answer_of result) }
     // Where the files are told, the answer, the written file and the line are what they come to.
     ensures outcome { ComesOut (said (map string_bytes words.now)) (D.state depot.old) (D.state depot.new) (S.state out.old) (S.state out.new) (answer_of result) }
+    // What is written after Good covers exactly the flat rules' unit squares of the layout, where the files are told.
+    ensures flat { WritesFlat (said (map string_bytes words.now)) (D.state depot.old) (D.state depot.new) (answer_of result) }
 {
     match prepare(alloc, words, depot) {
         Ok(output) => deliver(&output, depot, out),

@@ -1,2 +1,4 @@
 pub mod OneCell
 pub mod Within
+pub mod Flat
+pub mod Written

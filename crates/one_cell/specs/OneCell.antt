@@ -1,17 +1,19 @@
 -- What is written for a library of one cell without references, whose shapes and texts lie within plus or minus 2^30.
-use Rattle.std.specs.Prelude.{◌≡◌, ◌⊎◌, ℕ, ℤ, pos, negsuc, int_le, Bool, true, false, ◌&&◌, List, [], ◌∷◌, length, map, slice_index_or, Option, Some, None}
+use Rattle.std.specs.Prelude.{◌≡◌, ◌⊎◌, ℕ, ℤ, pos, negsuc, int_le, Bool, true, false, ◌&&◌, List, [], ◌∷◌, length, get_or, Option, Some, None}
 use Rattle.std.specs.List.{All, Any, list_all, sum_by}
 use Rattle.geo_base.specs.declared.layer.LayerKey.{LayerKey}
 use Rattle.geo_base.specs.declared.shapes.Point.{Point}
 use Rattle.geo_base.specs.declared.shapes.Rect.{Rect}
 use Rattle.geo_base.specs.declared.shapes.Square.{Square}
 use Rattle.geo_base.specs.Rects.{is_between}
-use Rattle.rect_sets.specs.Rects.{IsCanonical}
+use Rattle.rect_sets.specs.Rects.{covers, IsCanonical}
+use Rattle.flat_layout.specs.Layers.{Reading, Empty}
 use Rattle.gds_elements.specs.Meaning.{Library, Cell, Shape, Ref}
 use Rattle.rule_text.specs.Rules.{Rules}
+use Rattle.rule_text.specs.declared.rules.LayerRule.{LayerRule}
 use Rattle.rule_text.specs.declared.rules.Output.{Output}
 use Rattle.cell_layers.specs.Shapes.{shape_covers, own_covers}
-use Rattle.cell_layers.specs.Readings.{readings, AreLayers}
+use Rattle.cell_layers.specs.Readings.{readings, reading_covers}
 use Rattle.gds_shapes.specs.Stream.{stream_bytes}
 
 -- ---- the cell
@@ -77,32 +79,35 @@ LeavesReach c = Any LeavesByShape c.shapes ⊎ (texts_in_reach c ≡ false)
 
 -- ---- what is written
 
--- the rectangles of the layer of this number, none past the end
-abbrev pub layer_at : List (List Rect) → ℕ → List Rect
-layer_at sets k = slice_index_or sets k []
+-- the name of this number as the tree of what it reads
+abbrev pub name_at : List LayerRule → ℕ → Reading
+name_at names k = get_or (readings names) k Empty
 
--- what an output line writes: its layer, on the pair of the line
-abbrev pub written_by : List (List Rect) → Output → LayerKey × List Rect
-written_by sets o = (o.key, layer_at sets o.layer)
+-- What an output line writes: on its pair, the canonical list of exactly the squares that its name has pointwise over what the input layers cover.
+pub record IsDrawn (own : LayerKey → Square → Bool) (names : List LayerRule) (o : Output) (layer : LayerKey × List Rect) : Type 0 where
+  pub key : layer.0 ≡ o.key
+  pub canonical : IsCanonical layer.1
+  pub squares : (s : Square) → covers layer.1 s ≡ reading_covers own (name_at names o.layer) s
 
--- what the output lines write, in order
-abbrev pub written_of : List Output → List (List Rect) → List (LayerKey × List Rect)
-written_of outputs sets = map (written_by sets) outputs
+-- the output lines' layers, in order
+abbrev pub AreDrawn : (LayerKey → Square → Bool) → List LayerRule → List Output → List (LayerKey × List Rect) → Type 0
+AreDrawn own names [] [] = Unit {0}
+AreDrawn own names (o ∷ outputs) (layer ∷ layers) = IsDrawn own names o layer × AreDrawn own names outputs layers
+AreDrawn own names _ _ = ⊥
 
 -- how many rectangles that is
 abbrev pub rectangle_count : List (LayerKey × List Rect) → ℕ
 rectangle_count layers = sum_by (λ l. length l.1) layers
 
--- the text is the stream of the library's only cell, whose layers are, by the output lines, the canonical lists of what the rules' names cover
+-- the text is the stream of the library's only cell, which lies in reach, with the output lines' layers
 pub record IsMade (v : Library) (r : Rules) (text : List ℕ) (count : ℕ) : Type 0 where
   pub cell : Cell
   pub only : only_cell v ≡ Some cell
   pub reached : IsInReach cell
-  pub sets : List (List Rect)
-  pub layers : AreLayers (own_covers cell) (readings r.names) sets
-  pub canonical : All IsCanonical sets
-  pub exact : text ≡ stream_bytes v cell (written_of r.outputs sets)
-  pub counted : count ≡ rectangle_count (written_of r.outputs sets)
+  pub layers : List (LayerKey × List Rect)
+  pub drawn : AreDrawn (own_covers cell) r.names r.outputs layers
+  pub exact : text ≡ stream_bytes v cell layers
+  pub counted : count ≡ rectangle_count layers
 
 -- the library has no only cell, or it leaves the reach
 abbrev pub IsUnbuilt : Library → Type 0

@@ -1,14 +1,19 @@
 // What is written for the only cell.
-ghost use Rattle.std.specs.Prelude.{◌≡◌, Some, None, map, IfOk, IfSome, IfNone, MatchOption};
+ghost use Rattle.std.specs.Prelude.{◌≡◌, ℕ, List, Some, None, map, IfOk, IfSome, IfNone, MatchOption};
 ghost use Rattle.gds_elements.specs.Reading.{cell_seen, library_seen};
 ghost use Rattle.gds_shapes.specs.Stream.{layer_seen};
 ghost use Rattle.rule_text.specs.Seen.{rules_seen};
-ghost use Rattle.one_cell.specs.OneCell.{only_cell, layer_at, written_of, rectangle_count, IsMade, IsUnbuilt};
+ghost use Rattle.gds_elements.specs.Faults.{Accepts};
+ghost use Rattle.rule_text.specs.Sound.{IsSound};
+ghost use Rattle.one_cell.specs.Flat.{CoversFlat};
+ghost use Rattle.one_cell.specs.OneCell.{only_cell, rectangle_count, IsMade, IsUnbuilt};
+ghost use Rattle.one_cell.specs.Written.{layer_at, written_of};
 
 use crate::reach::is_in_reach;
+use cell_laws::{canonical_rects, covering};
 use cell_layers::layer_sets;
 use gds_elements::{Library, RawCell};
-use gds_shapes::{Written, shapes_text};
+use gds_shapes::{Written, library_read, shapes_text};
 use geo_base::Rect;
 use rect_sets::RectSet;
 use rule_text::{Output, RuleSet};
@@ -75,6 +80,8 @@ pub fn make_shapes(
     rules: &RuleSet,
 ) -> Result<Option<Shapes>, AllocError>
     ensures made { IfOk result (λ m. IfSome m (λ shapes. IsMade (library_seen library.now) (rules_seen rules.now) shapes.text.items shapes.rectangles)) }
+    // The text covers exactly the flat rules' squares, where library and rules were read.
+    ensures flat { IfOk result (λ m. IfSome m (λ shapes. (bytes : List ℕ) → Accepts bytes (library_seen library.now) → IsSound (rules_seen rules.now) → CoversFlat (library_seen library.now) (rules_seen rules.now) shapes.text.items)) }
     ensures unbuilt { IfOk result (λ m. IfNone m (IsUnbuilt (library_seen library.now))) }
 {
     let Some(cell) = only_cell(library) else {
@@ -84,9 +91,12 @@ pub fn make_shapes(
     if !within {
         return Ok(None);
     }
-    let sets = layer_sets(alloc, cell, &rules.names)?;
+    let sets = layer_sets(alloc, cell, &rules.names, &rules.outputs)?;
     let written = written_layers(alloc, &rules.outputs, &sets)?;
     let text = shapes_text(alloc, library, cell, &written)?;
+    covering();
+    canonical_rects();
+    library_read();
     let rectangles = count(&written).ok_or(AllocError)?;
     Ok(Some(Shapes { text, rectangles }))
 }

@@ -3,6 +3,7 @@ use Rattle.gds_elements.specs.Reading.{library_seen}
 use Rattle.rule_text.specs.Seen.{rules_seen}
 use Rattle.lvs_run.specs.Words.{paths_of}
 use Rattle.lvs_run.proofs.Stopping.{apart_of, rules_stop, layout_stop, made_stop, outcome_made}
+use Rattle.lvs_run.proofs.Flattened.{flat_made}
 use Rattle.lvs_run.proofs.run.shapes_output.Goals as goal
 
 pub returns-in-Err-clause-stops : goal.returns-in-Err-clause-stops
@@ -31,6 +32,7 @@ returns-in-Ok-output_of-clause-ready g c =
       cause = (apart, layout.got.absent ∙ rules.got.absent);
       faults = layout.got.faults ∙ rules.got.faults;
       line = made.line;
+      flat = flat_made p _ _ _ (rules_seen c.in-Ok.rule_set) (library_seen c.in-Ok-library_of.library) _ c.in-Ok.ensures.quiet rules c.in-Ok.ensures.sound layout made.flat;
       comes = outcome_made p _ _ _ (rules_seen c.in-Ok.rule_set) (library_seen c.in-Ok-library_of.library) _ _ apart c.in-Ok.ensures.quiet rules layout made.made;
     }
 

@@ -1,6 +1,6 @@
 use Rattle.std.proofs.Common.{◌≡◌, take, map}
 use Rattle.gds_shapes.specs.Stream.{layer_seen}
-use Rattle.one_cell.specs.OneCell.{written_of}
+use Rattle.one_cell.specs.Written.{written_of}
 use Rattle.one_cell.proofs.made.written_layers.Given as goal
 
 abbrev pub invariant-loop-output : goal.invariant-loop-output

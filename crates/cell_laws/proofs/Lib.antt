@@ -1,0 +1,3 @@
+pub mod Outlining
+pub mod Writing
+pub mod Standing

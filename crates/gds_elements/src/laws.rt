@@ -1,0 +1,10 @@
+//! Laws of the definitions: a byte list has one meaning.
+
+ghost use Rattle.gds_elements.specs.Once.{NoFaultLaw, OneFaultLaw, OneLibraryLaw};
+
+/// A byte list means one library or has one first fault, never both.
+pub fn one_meaning()
+    ensures library { OneLibraryLaw }
+    ensures apart { NoFaultLaw }
+    ensures fault { OneFaultLaw }
+{}

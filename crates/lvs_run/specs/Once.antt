@@ -1,0 +1,28 @@
+-- The outcome is a function of the words and the told files.
+use Rattle.std.specs.Prelude.{◌≡◌, ℕ, List, Option, Some, None}
+use Rattle.lvs_outside.specs.Store.{Told, Untold, NoFile, Holds}
+use Rattle.lvs_run.specs.Words.{Paths}
+use Rattle.lvs_run.specs.Answers.{Answer, Good}
+use Rattle.lvs_run.specs.Outcomes.{IsOutcome}
+
+-- it is told what the file holds, or that there is none
+abbrev pub IsTold : Told → Type 0
+IsTold Untold = ⊥
+IsTold NoFile = Unit {0}
+IsTold (Holds bytes) = Unit {0}
+
+-- the inputs of the command are told
+abbrev pub AreInputsTold : Option Paths → (List ℕ → Told) → Type 0
+AreInputsTold None file = Unit {0}
+AreInputsTold (Some p) file = IsTold (file p.rules) × IsTold (file p.layout)
+
+-- the answers are one, and where it is Good, the written texts and their counts are
+pub record IsSameOutcome (a b : Answer) (xs ys : List ℕ) (n m : ℕ) : Type 0 where
+  pub answer : a ≡ b
+  pub text : a ≡ Good → xs ≡ ys
+  pub count : a ≡ Good → n ≡ m
+
+-- words and told inputs have one outcome
+abbrev pub OneOutcomeLaw : Type 0
+OneOutcomeLaw = (said : Option Paths) (file : List ℕ → Told) (a b : Answer) (text other : List ℕ) (count number : ℕ) → AreInputsTold said file
+    → IsOutcome said file a text count → IsOutcome said file b other number → IsSameOutcome a b text other count number
