@@ -10,28 +10,28 @@ use Rattle.flat_layout.specs.Gates.{IsListed}
 use Rattle.flat_layout.specs.Layout.{Place, Layer, Cell, Some_of, IsOwn, IsPlaced, IsHeight, Leads, Takes, IsReached, InFlatInput}
 use Rattle.flat_layout.specs.Plane.{IsIn}
 use Rattle.flat_sample.proofs.Right.{none_some}
-use Rattle.flat_sample.specs.Sample.{place, sample_height}
-use Rattle.flat_sample.specs.Transistors.{key_of, at, unit_rect, columns, own_of, layers_of, child, parent, gate_design}
+use Rattle.flat_sample.specs.Sample.{sample_height}
+use Rattle.flat_sample.specs.Transistors.{key_of, at, unit_rect, columns, own_of, layers_of, child, mirrored, parent, gate_design}
 
 pub only_at : {A : Type 0} (x y : A) (k : ℕ) → slice_get (x ∷ []) k ≡ Some y → (k ≡ 0) × (y ≡ x)
 only_at x y zero e = (refl, (let f : y ≡ x = cc in f))
 only_at x y (suc k) e = none_some y e
 
-pub one_place : (cell k : ℕ) (p : Place) → IsPlaced gate_design cell k p → (cell ≡ 1) × (k ≡ 0) × (p ≡ place)
+pub one_place : (cell k : ℕ) (p : Place) → IsPlaced gate_design cell k p → (cell ≡ 1) × (k ≡ 0) × (p ≡ mirrored)
 one_place zero k p (c, e, f) =
     let g : child ≡ c = cc in
     let h : slice_get child.places k ≡ Some p = subst (λ (x : Cell). slice_get x.places k ≡ Some p) (sym g) f in none_some p h
 one_place (suc zero) k p (c, e, f) =
     let g : parent ≡ c = cc in
     let h : slice_get parent.places k ≡ Some p = subst (λ (x : Cell). slice_get x.places k ≡ Some p) (sym g) f in
-    let r = only_at place p k h in (refl, r.0, r.1)
+    let r = only_at mirrored p k h in (refl, r.0, r.1)
 one_place (suc (suc n)) k p (c, e, f) = none_some c e
 
 -- the placed cell is the child
 pub lower_cell : (cell k : ℕ) (p : Place) → IsPlaced gate_design cell k p → p.cell ≡ 0
 lower_cell cell k p placed = ap (λ (x : Place). x.cell) (one_place cell k p placed).2
 
-pub placed_here : IsPlaced gate_design 1 0 place
+pub placed_here : IsPlaced gate_design 1 0 mirrored
 placed_here = (parent, refl, refl)
 
 pub no_place : (cell k : ℕ) (p : Place) → cell ≡ 0 → IsPlaced gate_design cell k p → ⊥
@@ -51,9 +51,9 @@ leads_two from to (k ∷ ks) lt (p, placed, rest) = let e = lower_cell from k p 
 pub reached_two : (cell : ℕ) → IsReached gate_design cell → cell < 2
 reached_two cell h = leads_two 1 cell h.path (omega arith) h.leads
 
--- the placement moves nothing
-pub still : (p : Place) (q : Square) → p ≡ place → moved_square p.motion q ≡ q
-still p q e = subst (λ (k : Place). moved_square k.motion q ≡ q) (sym e) (same_square (moved_square place.motion q) q (omega (arith, ints)) (omega (arith, ints)))
+-- the placement takes column x to column y
+pub moved_column : (p : Place) (x y : ℕ) → p ≡ mirrored → x + y ≡ 4 → moved_square p.motion (at x) ≡ at y
+moved_column p x y e sum = subst (λ (k : Place). moved_square k.motion (at x) ≡ at y) (sym e) (same_square (moved_square mirrored.motion (at x)) (at y) (omega (arith, ints)) (omega (arith, ints)))
 
 pub in_unit : (q : Square) (x : ℕ) → IsIn q (unit_rect x) → q ≡ at x
 in_unit q x (a, b, c, d) = same_square q (at x) (omega (arith, ints)) (omega (arith, ints))
@@ -116,8 +116,18 @@ column_own zero c x lt h = (child, refl, of_layers 0 c (at x) lt (column_some x 
 column_own (suc zero) c x lt h = (parent, refl, of_layers 1 c (at x) lt (column_some x (columns 1 c) h))
 column_own (suc (suc n)) c x lt h = absurd h
 
+-- a column of the cell or, in the parent, one where a column of the child comes to stand
 abbrev pub IsFlatColumn : ℕ → ℕ → ℕ → Type 0
-IsFlatColumn cell c x = IsListed x (columns cell c) ⊎ ((cell ≡ 1) × IsListed x (columns 0 c))
+IsFlatColumn cell c y = IsListed y (columns cell c) ⊎ ((cell ≡ 1) × (x : ℕ) × (x + y ≡ 4) × IsListed x (columns 0 c))
+
+opposite : (c x : ℕ) → IsListed x (columns 0 c) → (y : ℕ) × (x + y ≡ 4)
+opposite zero x (inl e) = (4, omega arith)
+opposite zero x (inr (inl e)) = (2, omega arith)
+opposite zero x (inr (inr n)) = absurd n
+opposite (suc zero) x (inl e) = (3, omega arith)
+opposite (suc zero) x (inr (inl e)) = (1, omega arith)
+opposite (suc zero) x (inr (inr n)) = absurd n
+opposite (suc (suc c)) x h = absurd h
 
 flat_by : (cell c : ℕ) (q s : Square) (path : List ℕ) (end : ℕ) → c < 2 → Takes gate_design cell path end s q → IsOwn gate_design end (key_of c) s → (x : ℕ) × IsFlatColumn cell c x × (q ≡ at x)
 flat_by cell c q s [] end lt takes own =
@@ -127,34 +137,45 @@ flat_by cell c q s (k ∷ []) end lt (p, placed, r, rest, e) own =
     let one = one_place cell k p placed in
     let h = own_column end c s lt own in
     let low : end ≡ 0 = sym rest.0 ∙ lower_cell cell k p placed in
-    (h.0, inr (one.0, subst (λ j. IsListed h.0 (columns j c)) low h.1), sym e ∙ still p r one.2 ∙ sym rest.1 ∙ h.2)
+    let listed : IsListed h.0 (columns 0 c) = subst (λ j. IsListed h.0 (columns j c)) low h.1 in
+    let y = opposite c h.0 listed in
+    (y.0, inr (one.0, h.0, y.1, listed), sym e ∙ ap (moved_square p.motion) (sym rest.1 ∙ h.2) ∙ moved_column p h.0 y.0 one.2 y.1)
 flat_by cell c q s (k ∷ (j ∷ js)) end lt (p, placed, r, rest, e) own = absurd (no_place p.cell j rest.0 (lower_cell cell k p placed) rest.1)
 
--- a flat square stands in a column of the cell or, in the parent, of the child
 pub flat_column : (cell c : ℕ) (q : Square) → c < 2 → InFlatInput gate_design cell (key_of c) q → (x : ℕ) × IsFlatColumn cell c x × (q ≡ at x)
 flat_column cell c q lt h = flat_by cell c q h.square h.path h.end lt h.takes h.own
 
 pub column_flat : (cell c x : ℕ) → c < 2 → IsListed x (columns cell c) → InFlatInput gate_design cell (key_of c) (at x)
 column_flat cell c x lt h = record { path = []; end = cell; square = at x; takes = (refl, refl); own = column_own cell c x lt h }
 
-pub column_above : (c x : ℕ) → c < 2 → IsListed x (columns 0 c) → InFlatInput gate_design 1 (key_of c) (at x)
-column_above c x lt h = record { path = 0 ∷ []; end = 0; square = at x; takes = (place, placed_here, at x, (refl, refl), still place (at x) refl); own = column_own 0 c x lt h }
+pub column_above : (c x y : ℕ) → c < 2 → x + y ≡ 4 → IsListed x (columns 0 c) → InFlatInput gate_design 1 (key_of c) (at y)
+column_above c x y lt sum h = record { path = 0 ∷ []; end = 0; square = at x; takes = (mirrored, placed_here, at x, (refl, refl), moved_column mirrored x y refl sum); own = column_own 0 c x lt h }
 
 even_listed : (cell x : ℕ) → IsListed x (columns cell 0) → (k : ℕ) × (x ≡ k + k)
 even_listed zero x (inl e) = (0, e)
 even_listed zero x (inr (inl e)) = (1, e)
 even_listed zero x (inr (inr n)) = absurd n
-even_listed (suc zero) x (inl e) = (2, e)
+even_listed (suc zero) x (inl e) = (0, e)
 even_listed (suc zero) x (inr n) = absurd n
 even_listed (suc (suc n)) x h = absurd h
+
+even_above : (x y : ℕ) → x + y ≡ 4 → IsListed x (columns 0 0) → (k : ℕ) × (y ≡ k + k)
+even_above x y sum (inl e) = (2, omega arith)
+even_above x y sum (inr (inl e)) = (1, omega arith)
+even_above x y sum (inr (inr n)) = absurd n
 
 odd_listed : (cell x : ℕ) → IsListed x (columns cell 1) → (x ≡ 1) ⊎ (x ≡ 3)
 odd_listed zero x (inl e) = inl e
 odd_listed zero x (inr (inl e)) = inr e
 odd_listed zero x (inr (inr n)) = absurd n
-odd_listed (suc zero) x (inl e) = inr e
+odd_listed (suc zero) x (inl e) = inl e
 odd_listed (suc zero) x (inr n) = absurd n
 odd_listed (suc (suc n)) x h = absurd h
+
+odd_above : (x y : ℕ) → x + y ≡ 4 → IsListed x (columns 0 1) → (y ≡ 1) ⊎ (y ≡ 3)
+odd_above x y sum (inl e) = inr (omega arith)
+odd_above x y sum (inr (inl e)) = inl (omega arith)
+odd_above x y sum (inr (inr n)) = absurd n
 
 -- sides stand in even columns
 pub sides_even : (cell : ℕ) (q : Square) → InFlatInput gate_design cell (key_of 0) q → (k : ℕ) × (q ≡ at (k + k))
@@ -162,7 +183,7 @@ sides_even cell q h = of_column (flat_column cell 0 q (omega arith) h)
   where
     of_column : (x : ℕ) × IsFlatColumn cell 0 x × (q ≡ at x) → (k : ℕ) × (q ≡ at (k + k))
     of_column (x, inl l, e) = let h = even_listed cell x l in (h.0, e ∙ ap at h.1)
-    of_column (x, inr (one, l), e) = let h = even_listed 0 x l in (h.0, e ∙ ap at h.1)
+    of_column (x, inr (one, z, sum, l), e) = let h = even_above z x sum l in (h.0, e ∙ ap at h.1)
 
 -- gates stand in column 1 or 3
 pub gates_odd : (cell : ℕ) (q : Square) → InFlatInput gate_design cell (key_of 1) q → (q ≡ at 1) ⊎ (q ≡ at 3)
@@ -170,4 +191,4 @@ gates_odd cell q h = of_column (flat_column cell 1 q (omega arith) h)
   where
     of_column : (x : ℕ) × IsFlatColumn cell 1 x × (q ≡ at x) → (q ≡ at 1) ⊎ (q ≡ at 3)
     of_column (x, inl l, e) = elim (odd_listed cell x l) [ inl f ↦ inl (e ∙ ap at f) | inr f ↦ inr (e ∙ ap at f) ]
-    of_column (x, inr (one, l), e) = elim (odd_listed 0 x l) [ inl f ↦ inl (e ∙ ap at f) | inr f ↦ inr (e ∙ ap at f) ]
+    of_column (x, inr (one, z, sum, l), e) = elim (odd_above z x sum l) [ inl f ↦ inl (e ∙ ap at f) | inr f ↦ inr (e ∙ ap at f) ]

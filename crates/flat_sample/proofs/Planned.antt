@@ -9,8 +9,7 @@ use Rattle.flat_sample.proofs.Columns.{only_at, one_place, lower_cell, placed_he
 use Rattle.flat_sample.proofs.Listing.{each_at}
 use Rattle.flat_sample.proofs.Right.{none_some}
 use Rattle.flat_sample.proofs.Wires.{node_of, net_at, net_node, net_has}
-use Rattle.flat_sample.specs.Sample.{place}
-use Rattle.flat_sample.specs.Transistors.{gate_design, gate_wiring, nets_of, gate_tables, row_on, drawing_of, number_of, gate_plan, child_circuit, parent_circuit, gate_netlist}
+use Rattle.flat_sample.specs.Transistors.{mirrored, gate_design, gate_wiring, nets_of, gate_tables, row_on, drawing_of, number_of, gate_plan, child_circuit, parent_circuit, gate_netlist}
 use Rattle.plain_netlist.specs.Netlist.{Pole, Source, Gate, Drain, Bulk, DeviceRow, on, CallRow, Circuit, IsCircuit}
 
 not_true : {B : Type 0} → Some false ≡ Some true → B
@@ -25,9 +24,9 @@ gate_drawn zero x (i, row, e, pole, f) = of_pole pole (ap (on pole) (sym (only_a
     of_pole Gate e = subst (IsDrawn gate_plan 0) e refl
     of_pole Drain e = subst (IsDrawn gate_plan 0) e refl
     of_pole Bulk e = subst (IsDrawn gate_plan 0) e refl
-gate_drawn (suc zero) x (i, row, e, pole, f) = of_pole pole (ap (on pole) (sym (only_at (row_on 3 1 0 5) row i e).1) ∙ f)
+gate_drawn (suc zero) x (i, row, e, pole, f) = of_pole pole (ap (on pole) (sym (only_at (row_on 0 1 3 5) row i e).1) ∙ f)
   where
-    of_pole : (pole : Pole) → on pole (row_on 3 1 0 5) ≡ x → IsDrawn gate_plan 1 x
+    of_pole : (pole : Pole) → on pole (row_on 0 1 3 5) ≡ x → IsDrawn gate_plan 1 x
     of_pole Source e = subst (IsDrawn gate_plan 1) e refl
     of_pole Gate e = subst (IsDrawn gate_plan 1) e refl
     of_pole Drain e = subst (IsDrawn gate_plan 1) e refl
@@ -41,12 +40,12 @@ drawn_gate zero (suc (suc zero)) h = (0, row_on 0 2 1 4, refl, Gate, refl)
 drawn_gate zero (suc (suc (suc zero))) h = not_true h
 drawn_gate zero (suc (suc (suc (suc zero)))) h = (0, row_on 0 2 1 4, refl, Bulk, refl)
 drawn_gate zero (suc (suc (suc (suc (suc x))))) h = none_some true h
-drawn_gate (suc zero) zero h = (0, row_on 3 1 0 5, refl, Drain, refl)
-drawn_gate (suc zero) (suc zero) h = (0, row_on 3 1 0 5, refl, Gate, refl)
+drawn_gate (suc zero) zero h = (0, row_on 0 1 3 5, refl, Source, refl)
+drawn_gate (suc zero) (suc zero) h = (0, row_on 0 1 3 5, refl, Gate, refl)
 drawn_gate (suc zero) (suc (suc zero)) h = not_true h
-drawn_gate (suc zero) (suc (suc (suc zero))) h = (0, row_on 3 1 0 5, refl, Source, refl)
+drawn_gate (suc zero) (suc (suc (suc zero))) h = (0, row_on 0 1 3 5, refl, Drain, refl)
 drawn_gate (suc zero) (suc (suc (suc (suc zero)))) h = not_true h
-drawn_gate (suc zero) (suc (suc (suc (suc (suc zero))))) h = (0, row_on 3 1 0 5, refl, Bulk, refl)
+drawn_gate (suc zero) (suc (suc (suc (suc (suc zero))))) h = (0, row_on 0 1 3 5, refl, Bulk, refl)
 drawn_gate (suc zero) (suc (suc (suc (suc (suc (suc x)))))) h = none_some true h
 drawn_gate (suc (suc n)) x h = none_some true h
 
@@ -140,13 +139,13 @@ top_unused : (b : ℕ) → IsUsedAbove gate_design gate_tables gate_plan 1 b →
 top_unused b h = let low = lower_cell h.parent h.number h.place h.placed in let e = h.here in absurd (omega arith)
 
 used_side : IsUsedAbove gate_design gate_tables gate_plan 0 1
-used_side = record { parent = 1; number = 0; place = place; net = 3; reached = top_reached; placed = placed_here; here = refl; is_of = (3, record { listed = refl; numbered = refl }); used = inr (inl (0, row_on 3 1 0 5, refl, Source, refl)) }
+used_side = record { parent = 1; number = 0; place = mirrored; net = 3; reached = top_reached; placed = placed_here; here = refl; is_of = (3, record { listed = refl; numbered = refl }); used = inr (inl (0, row_on 0 1 3 5, refl, Drain, refl)) }
 
 used_gate : IsUsedAbove gate_design gate_tables gate_plan 0 3
 used_gate = record {
   parent = 1;
   number = 0;
-  place = place;
+  place = mirrored;
   net = 1;
   reached = top_reached;
   placed = placed_here;
@@ -235,7 +234,7 @@ child_poles Gate = refl
 child_poles Drain = refl
 child_poles Bulk = refl
 
-parent_poles : (pole : Pole) → slice_get parent_nets (on pole (row_on 2 1 0 3)) ≡ Some (on pole (row_on 3 1 0 5))
+parent_poles : (pole : Pole) → slice_get parent_nets (on pole (row_on 0 1 2 3)) ≡ Some (on pole (row_on 0 1 3 5))
 parent_poles Source = refl
 parent_poles Gate = refl
 parent_poles Drain = refl
@@ -244,7 +243,7 @@ parent_poles Bulk = refl
 child_row : IsRow child_nets (row_on 0 2 1 4) (row_on 0 2 1 3)
 child_row = record { class = refl; length = refl; width = refl; each = child_poles }
 
-parent_row : IsRow parent_nets (row_on 3 1 0 5) (row_on 2 1 0 3)
+parent_row : IsRow parent_nets (row_on 0 1 3 5) (row_on 0 1 2 3)
 parent_row = record { class = refl; length = refl; width = refl; each = parent_poles }
 
 child_right : IsCircuitOf gate_design gate_tables gate_plan gate_netlist 0 child_circuit
@@ -278,7 +277,7 @@ call_each i inner u e f =
       ((λ v g. subst (ComesOut 1) (same_Some _ _ g) (3, 5, refl, refl, (6, record { listed = refl; numbered = refl }))), tt),
     ) i inner e u f
 
-call_right : IsCallOf gate_design gate_tables gate_plan gate_netlist 1 0 place call
+call_right : IsCallOf gate_design gate_tables gate_plan gate_netlist 1 0 mirrored call
 call_right = record {
   circuit = refl;
   each = λ called i inner u is e f. call_each i inner u (subst (λ (c : Circuit). slice_get c.pins i ≡ Some inner) (sym (same_Some _ _ is)) e) f;
@@ -293,11 +292,11 @@ parent_right =
       nets_found = parent_found;
       pins_each = each_at (λ i a. (x : ℕ) × (slice_get parent_nets a ≡ Some x) × IsPinNet gate_plan 1 x) parent_circuit.pins ((5, refl, refl), tt);
       pins_found = each_at (λ a x. IsPinNet gate_plan 1 x → (i : ℕ) × (slice_get parent_circuit.pins i ≡ Some a)) parent_nets ((λ h. not_true h), ((λ h. not_true h), ((λ h. not_true h), ((λ h. (0, refl)), tt))));
-      rows_each = each_at (λ i row. (own : DeviceRow) × (slice_get (drawing_of 1).rows i ≡ Some own) × IsRow parent_nets own row) parent_circuit.devices ((row_on 3 1 0 5, refl, parent_row), tt);
-      rows_found = each_at (λ i own. (row : DeviceRow) × (slice_get parent_circuit.devices i ≡ Some row) × IsRow parent_nets own row) (drawing_of 1).rows ((row_on 2 1 0 3, refl, parent_row), tt);
+      rows_each = each_at (λ i row. (own : DeviceRow) × (slice_get (drawing_of 1).rows i ≡ Some own) × IsRow parent_nets own row) parent_circuit.devices ((row_on 0 1 3 5, refl, parent_row), tt);
+      rows_found = each_at (λ i own. (row : DeviceRow) × (slice_get parent_circuit.devices i ≡ Some row) × IsRow parent_nets own row) (drawing_of 1).rows ((row_on 0 1 2 3, refl, parent_row), tt);
       calls_apart = λ a b k e f. (only_at 0 k a e).0 ∙ sym (only_at 0 k b f).0;
       calls_each = each_at (λ a row. (k : ℕ) × (p : Place) × (slice_get (drawing_of 1).calls a ≡ Some k) × IsPlaced gate_design 1 k p × IsCallOf gate_design gate_tables gate_plan gate_netlist 1 k p row) parent_circuit.calls (
-        (0, place, refl, placed_here, call_right),
+        (0, mirrored, refl, placed_here, call_right),
         tt,
       );
       calls_found = each_at (λ a k. (row : CallRow) × (slice_get parent_circuit.calls a ≡ Some row)) (drawing_of 1).calls ((call, refl), tt);

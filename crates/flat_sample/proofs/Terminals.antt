@@ -8,20 +8,20 @@ use Rattle.flat_layout.specs.Circuits.{Climbs, Shows}
 use Rattle.flat_layout.specs.Gates.{IsListed}
 use Rattle.flat_layout.specs.Nets.{Own, Child, Global, NetHolds}
 use Rattle.flat_layout.specs.Regions.{Node, At, Ground, IsNode, InOneRegion, kept, flat}
-use Rattle.flat_sample.proofs.Columns.{only_at, placed_here, still, top_reached, flat_column, column_flat, column_above, IsFlatColumn}
+use Rattle.flat_sample.proofs.Columns.{only_at, placed_here, moved_column, top_reached, flat_column, column_flat, column_above, IsFlatColumn}
 use Rattle.flat_sample.proofs.Planned.{planned}
 use Rattle.flat_sample.proofs.Right.{none_some}
 use Rattle.flat_sample.proofs.Wires.{node_of, shows, net_at, one_node, wired, net_node, net_has}
 use Rattle.flat_sample.specs.Expansion.{IsAcrossDevice, IsChildDevice, node_at, top_net, flat_nodes}
-use Rattle.flat_sample.specs.Sample.{place, sample_height}
-use Rattle.flat_sample.specs.Transistors.{at, gate_design, gate_wiring, gate_tables, row_on, gate_plan, child_circuit, parent_circuit, gate_netlist}
+use Rattle.flat_sample.specs.Sample.{sample_height}
+use Rattle.flat_sample.specs.Transistors.{mirrored, at, gate_design, gate_wiring, gate_tables, row_on, gate_plan, child_circuit, parent_circuit, gate_netlist}
 use Rattle.plain_netlist.specs.Netlist.{Pole, Source, Gate, Drain, Bulk, DeviceRow, on, CallRow, Circuit, IsCall, IsDevice, IsPin, Slot, slot, InOneNet, HasDevice, IsTerminal, IsOnPin}
 
 child_device : (i : ℕ) (row : DeviceRow) → IsDevice gate_netlist 0 i row → (i ≡ 0) × (row ≡ row_on 0 2 1 3)
 child_device i row (c, is, e) = only_at (row_on 0 2 1 3) row i (subst (λ (k : Circuit). slice_get k.devices i ≡ Some row) (sym (same_Some _ _ is)) e)
 
-parent_device : (i : ℕ) (row : DeviceRow) → IsDevice gate_netlist 1 i row → (i ≡ 0) × (row ≡ row_on 2 1 0 3)
-parent_device i row (c, is, e) = only_at (row_on 2 1 0 3) row i (subst (λ (k : Circuit). slice_get k.devices i ≡ Some row) (sym (same_Some _ _ is)) e)
+parent_device : (i : ℕ) (row : DeviceRow) → IsDevice gate_netlist 1 i row → (i ≡ 0) × (row ≡ row_on 0 1 2 3)
+parent_device i row (c, is, e) = only_at (row_on 0 1 2 3) row i (subst (λ (k : Circuit). slice_get k.devices i ≡ Some row) (sym (same_Some _ _ is)) e)
 
 abbrev call : CallRow
 call = record { circuit = 0; nets = 2 ∷ (3 ∷ []) }
@@ -44,7 +44,7 @@ device_out (k ∷ (j ∷ js)) i row (c, is, h) = absurd (no_call j h.0 (subst (�
 
 pub device_in : (path : List ℕ) (i : ℕ) (row : DeviceRow) → IsAcrossDevice path i row ⊎ IsChildDevice path i row → HasDevice gate_netlist 1 path i row
 device_in path i row (inl (e, f, g)) =
-    let h : HasDevice gate_netlist 1 [] 0 (row_on 2 1 0 3) = (parent_circuit, refl, refl) in
+    let h : HasDevice gate_netlist 1 [] 0 (row_on 0 1 2 3) = (parent_circuit, refl, refl) in
     subst (λ (k : List ℕ). HasDevice gate_netlist 1 k i row) (sym e) (subst (λ j. HasDevice gate_netlist 1 [] j row) (sym f) (subst (HasDevice gate_netlist 1 [] 0) (sym g) h))
 device_in path i row (inr (e, f, g)) =
     let h : HasDevice gate_netlist 1 (0 ∷ []) 0 (row_on 0 2 1 3) = (call, (parent_circuit, refl, refl), (child_circuit, refl, refl)) in
@@ -62,44 +62,44 @@ pub record Ends (path : List ℕ) (net : ℕ) : Type 0 where
   pub climbs : Climbs gate_design gate_tables gate_plan 1 path net (top_net path net)
   pub sees : Shows gate_design gate_tables gate_plan 1 path net (node_of node)
 
-across_ends : (pole : Pole) → Ends [] (on pole (row_on 2 1 0 3))
-across_ends Source = record { node = Some 2; is = refl; there = refl; back = refl; climbs = refl; sees = (3, refl, net_has 1 3 3 (Child 0 1) (Some 2) (record { listed = refl; numbered = refl }) refl) }
-across_ends Gate = record { node = Some 3; is = refl; there = refl; back = refl; climbs = refl; sees = (1, refl, net_has 1 1 1 (Own 1 0) (Some 3) (record { listed = refl; numbered = refl }) refl) }
-across_ends Drain = record { node = Some 4; is = refl; there = refl; back = refl; climbs = refl; sees = (0, refl, net_has 1 0 0 (Own 0 0) (Some 4) (record { listed = refl; numbered = refl }) refl) }
+across_ends : (pole : Pole) → Ends [] (on pole (row_on 0 1 2 3))
+across_ends Source = record { node = Some 0; is = refl; there = refl; back = refl; climbs = refl; sees = (0, refl, net_has 1 0 0 (Own 0 0) (Some 0) (record { listed = refl; numbered = refl }) refl) }
+across_ends Gate = record { node = Some 1; is = refl; there = refl; back = refl; climbs = refl; sees = (1, refl, net_has 1 1 1 (Own 1 0) (Some 1) (record { listed = refl; numbered = refl }) refl) }
+across_ends Drain = record { node = Some 2; is = refl; there = refl; back = refl; climbs = refl; sees = (3, refl, net_has 1 3 3 (Child 0 1) (Some 2) (record { listed = refl; numbered = refl }) refl) }
 across_ends Bulk = record { node = None; is = refl; there = refl; back = refl; climbs = refl; sees = (5, refl, net_has 1 5 7 (Global 0) None (record { listed = refl; numbered = refl }) refl) }
 
 child_ends : (pole : Pole) → Ends (0 ∷ []) (on pole (row_on 0 2 1 3))
 child_ends Source = record {
-  node = Some 0;
+  node = Some 4;
   is = refl;
   there = refl;
   back = refl;
-  climbs = (0, place, refl, placed_here, 0, refl, (2, record { listed = refl; numbered = refl }));
-  sees = (0, place, refl, placed_here, At 0 (at 0), (0, refl, net_has 0 0 0 (Own 0 0) (Some 0) (record { listed = refl; numbered = refl }) refl), ap (At 0) (still place (at 0) refl));
+  climbs = (0, mirrored, refl, placed_here, 0, refl, (2, record { listed = refl; numbered = refl }));
+  sees = (0, mirrored, refl, placed_here, At 0 (at 0), (0, refl, net_has 0 0 0 (Own 0 0) (Some 0) (record { listed = refl; numbered = refl }) refl), ap (At 0) (moved_column mirrored 0 4 refl refl));
 }
 child_ends Gate = record {
-  node = Some 1;
+  node = Some 3;
   is = refl;
   there = refl;
   back = refl;
-  climbs = (0, place, refl, placed_here, 2, refl, (4, record { listed = refl; numbered = refl }));
-  sees = (0, place, refl, placed_here, At 1 (at 1), (2, refl, net_has 0 2 2 (Own 1 0) (Some 1) (record { listed = refl; numbered = refl }) refl), ap (At 1) (still place (at 1) refl));
+  climbs = (0, mirrored, refl, placed_here, 2, refl, (4, record { listed = refl; numbered = refl }));
+  sees = (0, mirrored, refl, placed_here, At 1 (at 1), (2, refl, net_has 0 2 2 (Own 1 0) (Some 1) (record { listed = refl; numbered = refl }) refl), ap (At 1) (moved_column mirrored 1 3 refl refl));
 }
 child_ends Drain = record {
   node = Some 2;
   is = refl;
   there = refl;
   back = refl;
-  climbs = (0, place, refl, placed_here, 1, refl, (3, record { listed = refl; numbered = refl }));
-  sees = (0, place, refl, placed_here, At 0 (at 2), (1, refl, net_has 0 1 1 (Own 0 1) (Some 2) (record { listed = refl; numbered = refl }) refl), ap (At 0) (still place (at 2) refl));
+  climbs = (0, mirrored, refl, placed_here, 1, refl, (3, record { listed = refl; numbered = refl }));
+  sees = (0, mirrored, refl, placed_here, At 0 (at 2), (1, refl, net_has 0 1 1 (Own 0 1) (Some 2) (record { listed = refl; numbered = refl }) refl), ap (At 0) (moved_column mirrored 2 2 refl refl));
 }
 child_ends Bulk = record {
   node = None;
   is = refl;
   there = refl;
   back = refl;
-  climbs = (0, place, refl, placed_here, 4, refl, (6, record { listed = refl; numbered = refl }));
-  sees = (0, place, refl, placed_here, Ground 0, (4, refl, net_has 0 4 4 (Global 0) None (record { listed = refl; numbered = refl }) refl), refl);
+  climbs = (0, mirrored, refl, placed_here, 4, refl, (6, record { listed = refl; numbered = refl }));
+  sees = (0, mirrored, refl, placed_here, Ground 0, (4, refl, net_has 0 4 4 (Global 0) None (record { listed = refl; numbered = refl }) refl), refl);
 }
 
 ends_of : (path : List ℕ) (net i : ℕ) (row : DeviceRow) (pole : Pole) → IsAcrossDevice path i row ⊎ IsChildDevice path i row → on pole row ≡ net → Ends path net
@@ -129,7 +129,7 @@ one_net a b h g =
 
 -- the one pin is the bulk of the transistor across both
 bulk : IsTerminal gate_netlist 1 (slot [] 3)
-bulk = record { device = 0; row = row_on 2 1 0 3; pole = Bulk; has = (parent_circuit, refl, refl); on = refl }
+bulk = record { device = 0; row = row_on 0 1 2 3; pole = Bulk; has = (parent_circuit, refl, refl); on = refl }
 
 pin_three : (i n : ℕ) → IsPin gate_netlist 1 i n → n ≡ 3
 pin_three i n (c, is, e) = (only_at 3 n i (subst (λ (k : Circuit). slice_get k.pins i ≡ Some n) (sym (same_Some _ _ is)) e)).1
@@ -144,18 +144,18 @@ abbrev InTop : Node → Type 0
 InTop = IsNode gate_wiring (flat gate_design gate_wiring 1)
 
 side_listed : (x : ℕ) → IsFlatColumn 1 0 x → IsListed (At 0 (at x)) flat_nodes
-side_listed x (inl (inl e)) = inr (inr (inr (inr (inl (ap (λ k. At 0 (at k)) e)))))
+side_listed x (inl (inl e)) = inl (ap (λ k. At 0 (at k)) e)
 side_listed x (inl (inr n)) = absurd n
-side_listed x (inr (one, inl e)) = inl (ap (λ k. At 0 (at k)) e)
-side_listed x (inr (one, inr (inl e))) = inr (inr (inl (ap (λ k. At 0 (at k)) e)))
-side_listed x (inr (one, inr (inr n))) = absurd n
+side_listed x (inr (one, z, sum, inl e)) = let f : x ≡ 4 = omega arith in inr (inr (inr (inr (inl (ap (λ k. At 0 (at k)) f)))))
+side_listed x (inr (one, z, sum, inr (inl e))) = let f : x ≡ 2 = omega arith in inr (inr (inl (ap (λ k. At 0 (at k)) f)))
+side_listed x (inr (one, z, sum, inr (inr n))) = absurd n
 
 gate_listed : (x : ℕ) → IsFlatColumn 1 1 x → IsListed (At 1 (at x)) flat_nodes
-gate_listed x (inl (inl e)) = inr (inr (inr (inl (ap (λ k. At 1 (at k)) e))))
+gate_listed x (inl (inl e)) = inr (inl (ap (λ k. At 1 (at k)) e))
 gate_listed x (inl (inr n)) = absurd n
-gate_listed x (inr (one, inl e)) = inr (inl (ap (λ k. At 1 (at k)) e))
-gate_listed x (inr (one, inr (inl e))) = inr (inr (inr (inl (ap (λ k. At 1 (at k)) e))))
-gate_listed x (inr (one, inr (inr n))) = absurd n
+gate_listed x (inr (one, z, sum, inl e)) = let f : x ≡ 3 = omega arith in inr (inr (inr (inl (ap (λ k. At 1 (at k)) f))))
+gate_listed x (inr (one, z, sum, inr (inl e))) = let f : x ≡ 1 = omega arith in inr (inl (ap (λ k. At 1 (at k)) f))
+gate_listed x (inr (one, z, sum, inr (inr n))) = absurd n
 
 node_listed : (n : Node) → InTop n → IsListed n flat_nodes
 node_listed (At zero q) h = let s = flat_column 1 0 q (omega arith) h in subst (λ k. IsListed (At 0 k) flat_nodes) (sym s.2) (side_listed s.0 s.1)
@@ -165,11 +165,11 @@ node_listed (At (suc (suc (suc c))) q) h = absurd h
 node_listed (Ground g) h = let z : g ≡ 0 = omega arith in inr (inr (inr (inr (inr (inl (ap Ground z))))))
 
 listed_node : (n : Node) → IsListed n flat_nodes → InTop n
-listed_node n (inl e) = subst InTop (sym e) (column_above 0 0 (omega arith) (inl refl))
-listed_node n (inr (inl e)) = subst InTop (sym e) (column_above 1 1 (omega arith) (inl refl))
-listed_node n (inr (inr (inl e))) = subst InTop (sym e) (column_above 0 2 (omega arith) (inr (inl refl)))
-listed_node n (inr (inr (inr (inl e)))) = subst InTop (sym e) (column_flat 1 1 3 (omega arith) (inl refl))
-listed_node n (inr (inr (inr (inr (inl e))))) = subst InTop (sym e) (column_flat 1 0 4 (omega arith) (inl refl))
+listed_node n (inl e) = subst InTop (sym e) (column_flat 1 0 0 (omega arith) (inl refl))
+listed_node n (inr (inl e)) = subst InTop (sym e) (column_flat 1 1 1 (omega arith) (inl refl))
+listed_node n (inr (inr (inl e))) = subst InTop (sym e) (column_above 0 2 2 (omega arith) refl (inr (inl refl)))
+listed_node n (inr (inr (inr (inl e)))) = subst InTop (sym e) (column_above 1 1 3 (omega arith) refl (inl refl))
+listed_node n (inr (inr (inr (inr (inl e))))) = subst InTop (sym e) (column_above 0 0 4 (omega arith) refl (inl refl))
 listed_node n (inr (inr (inr (inr (inr (inl e)))))) = subst InTop (sym e) (omega arith)
 listed_node n (inr (inr (inr (inr (inr (inr k)))))) = absurd k
 

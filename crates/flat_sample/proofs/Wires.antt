@@ -1,5 +1,5 @@
 -- The tables of nets of the design with transistors are right: each net holds one square, or the global.
-use Rattle.std.proofs.Common.{◌≡◌, ◌⊎◌, ◌↔◌, inl, inr, ℕ, zero, suc, ◌<◌, ◌≤◌, List, [], ◌∷◌, Option, Some, None, slice_get, refl, sym, ◌∙◌, ap, subst, arith}
+use Rattle.std.proofs.Common.{◌≡◌, ◌⊎◌, ◌↔◌, inl, inr, ℕ, zero, suc, ◌+◌, ◌<◌, ◌≤◌, List, [], ◌∷◌, Option, Some, None, slice_get, refl, sym, ◌∙◌, ap, subst, arith}
 use Rattle.std.proofs.lemmas.Int.{ints}
 use Rattle.std.proofs.lemmas.Option.{same_Some}
 use Rattle.geo_base.specs.declared.shapes.Rect.{Rect}
@@ -11,11 +11,11 @@ use Rattle.flat_layout.specs.Layout.{Place, IsOwn}
 use Rattle.flat_layout.specs.Nets.{Item, Own, Child, Global, IsOf, HoldsAt, ItemHolds, NetHolds, IsItem, IsItemLink, AreNets, AreOwn, AreTables}
 use Rattle.flat_layout.specs.Plane.{IsIn}
 use Rattle.flat_layout.specs.Regions.{Node, At, Ground, Touches, moved, reading}
-use Rattle.flat_sample.proofs.Columns.{no_place, one_place, lower_cell, placed_here, height, reached_two, still, in_unit, unit_in, one_column, rect_column, column_rect, own_column, column_own}
+use Rattle.flat_sample.proofs.Columns.{no_place, one_place, lower_cell, placed_here, height, reached_two, moved_column, in_unit, unit_in, one_column, rect_column, column_rect, own_column, column_own}
 use Rattle.flat_sample.proofs.Listing.{each_at}
 use Rattle.flat_sample.proofs.Right.{none_some, input_parted}
-use Rattle.flat_sample.specs.Sample.{place, sample_height}
-use Rattle.flat_sample.specs.Transistors.{key_of, at, unit_rect, columns, own_of, gate_design, gate_wiring, nets_of, gate_tables}
+use Rattle.flat_sample.specs.Sample.{sample_height}
+use Rattle.flat_sample.specs.Transistors.{key_of, at, unit_rect, columns, own_of, mirrored, gate_design, gate_wiring, nets_of, gate_tables}
 use Rattle.plain_netlist.proofs.Links.{single}
 use Rattle.plain_netlist.specs.Chains.{Reaches, IsChain}
 
@@ -33,7 +33,7 @@ node_of (Some x) = At (parity x) (at x)
 -- of each net of a cell, what it holds
 abbrev pub shows : ℕ → List (Option ℕ)
 shows zero = Some 0 ∷ (Some 2 ∷ (Some 1 ∷ (Some 3 ∷ (None ∷ []))))
-shows (suc zero) = Some 4 ∷ (Some 3 ∷ (Some 0 ∷ (Some 2 ∷ (Some 1 ∷ (None ∷ [])))))
+shows (suc zero) = Some 0 ∷ (Some 1 ∷ (Some 4 ∷ (Some 2 ∷ (Some 3 ∷ (None ∷ [])))))
 shows (suc (suc n)) = []
 
 -- and the net of each
@@ -44,11 +44,11 @@ net_at zero (Some (suc zero)) = 2
 net_at zero (Some (suc (suc zero))) = 1
 net_at zero (Some (suc (suc (suc x)))) = 3
 net_at (suc n) None = 5
-net_at (suc n) (Some zero) = 2
-net_at (suc n) (Some (suc zero)) = 4
+net_at (suc n) (Some zero) = 0
+net_at (suc n) (Some (suc zero)) = 1
 net_at (suc n) (Some (suc (suc zero))) = 3
-net_at (suc n) (Some (suc (suc (suc zero)))) = 1
-net_at (suc n) (Some (suc (suc (suc (suc x))))) = 0
+net_at (suc n) (Some (suc (suc (suc zero)))) = 4
+net_at (suc n) (Some (suc (suc (suc (suc x))))) = 2
 
 abbrev pub H : ℕ → Item → Node → Type 0
 H cell = ItemHolds gate_design gate_tables cell
@@ -83,20 +83,20 @@ low_shown net (suc (suc (suc zero))) a h = fit 0 3 net (Own 1 1) a (record { nod
 low_shown net (suc (suc (suc (suc zero)))) a h = fit 0 4 net (Global 0) a (global_shown 0 4 refl refl) h.listed h.numbered
 low_shown net (suc (suc (suc (suc (suc i))))) a h = none_some a h.listed
 
-child_holds : (b i c r x : ℕ) → IsOf (nets_of 0) b i (Own c r) → slice_get (own_of 0 c) r ≡ Some (unit_rect x) → H 1 (Child 0 b) (At c (at x))
-child_holds b i c r x is e = record { depth = 1; holds = (place, placed_here, i, Own c r, is, At c (at x), (at x, unit_rect x, e, unit_in x, refl), ap (At c) (still place (at x) refl)) }
+child_holds : (b i c r x y : ℕ) → IsOf (nets_of 0) b i (Own c r) → slice_get (own_of 0 c) r ≡ Some (unit_rect x) → x + y ≡ 4 → H 1 (Child 0 b) (At c (at y))
+child_holds b i c r x y is e sum = record { depth = 1; holds = (mirrored, placed_here, i, Own c r, is, At c (at x), (at x, unit_rect x, e, unit_in x, refl), ap (At c) (moved_column mirrored x y refl sum)) }
 
 child_item : (b : ℕ) → b < 5 → I 1 (Child 0 b)
-child_item b lt = (place, placed_here, lt)
+child_item b lt = (mirrored, placed_here, lt)
 
 top_shown : (net i : ℕ) (a : Item) → IsOf (nets_of 1) net i a → Shown 1 net a
-top_shown net zero a h = fit 1 0 net (Own 0 0) a (record { node = Some 4; item = (omega arith, omega arith); holds = own_holds 1 0 0 4 refl; there = refl; back = refl }) h.listed h.numbered
-top_shown net (suc zero) a h = fit 1 1 net (Own 1 0) a (record { node = Some 3; item = (omega arith, omega arith); holds = own_holds 1 1 0 3 refl; there = refl; back = refl }) h.listed h.numbered
-top_shown net (suc (suc zero)) a h = fit 1 2 net (Child 0 0) a (record { node = Some 0; item = child_item 0 (omega arith); holds = child_holds 0 0 0 0 0 (record { listed = refl; numbered = refl }) refl; there = refl; back = refl }) h.listed h.numbered
-top_shown net (suc (suc (suc zero))) a h = fit 1 3 net (Child 0 1) a (record { node = Some 2; item = child_item 1 (omega arith); holds = child_holds 1 1 0 1 2 (record { listed = refl; numbered = refl }) refl; there = refl; back = refl }) h.listed h.numbered
-top_shown net (suc (suc (suc (suc zero)))) a h = fit 1 4 net (Child 0 2) a (record { node = Some 1; item = child_item 2 (omega arith); holds = child_holds 2 2 1 0 1 (record { listed = refl; numbered = refl }) refl; there = refl; back = refl }) h.listed h.numbered
-top_shown net (suc (suc (suc (suc (suc zero))))) a h = fit 1 1 net (Child 0 3) a (record { node = Some 3; item = child_item 3 (omega arith); holds = child_holds 3 3 1 1 3 (record { listed = refl; numbered = refl }) refl; there = refl; back = refl }) h.listed h.numbered
-top_shown net (suc (suc (suc (suc (suc (suc zero)))))) a h = fit 1 5 net (Child 0 4) a (record { node = None; item = child_item 4 (omega arith); holds = record { depth = 1; holds = (place, placed_here, 4, Global 0, record { listed = refl; numbered = refl }, Ground 0, refl, refl) }; there = refl; back = refl }) h.listed h.numbered
+top_shown net zero a h = fit 1 0 net (Own 0 0) a (record { node = Some 0; item = (omega arith, omega arith); holds = own_holds 1 0 0 0 refl; there = refl; back = refl }) h.listed h.numbered
+top_shown net (suc zero) a h = fit 1 1 net (Own 1 0) a (record { node = Some 1; item = (omega arith, omega arith); holds = own_holds 1 1 0 1 refl; there = refl; back = refl }) h.listed h.numbered
+top_shown net (suc (suc zero)) a h = fit 1 2 net (Child 0 0) a (record { node = Some 4; item = child_item 0 (omega arith); holds = child_holds 0 0 0 0 0 4 (record { listed = refl; numbered = refl }) refl refl; there = refl; back = refl }) h.listed h.numbered
+top_shown net (suc (suc (suc zero))) a h = fit 1 3 net (Child 0 1) a (record { node = Some 2; item = child_item 1 (omega arith); holds = child_holds 1 1 0 1 2 2 (record { listed = refl; numbered = refl }) refl refl; there = refl; back = refl }) h.listed h.numbered
+top_shown net (suc (suc (suc (suc zero)))) a h = fit 1 4 net (Child 0 2) a (record { node = Some 3; item = child_item 2 (omega arith); holds = child_holds 2 2 1 0 1 3 (record { listed = refl; numbered = refl }) refl refl; there = refl; back = refl }) h.listed h.numbered
+top_shown net (suc (suc (suc (suc (suc zero))))) a h = fit 1 1 net (Child 0 3) a (record { node = Some 1; item = child_item 3 (omega arith); holds = child_holds 3 3 1 1 3 1 (record { listed = refl; numbered = refl }) refl refl; there = refl; back = refl }) h.listed h.numbered
+top_shown net (suc (suc (suc (suc (suc (suc zero)))))) a h = fit 1 5 net (Child 0 4) a (record { node = None; item = child_item 4 (omega arith); holds = record { depth = 1; holds = (mirrored, placed_here, 4, Global 0, record { listed = refl; numbered = refl }, Ground 0, refl, refl) }; there = refl; back = refl }) h.listed h.numbered
 top_shown net (suc (suc (suc (suc (suc (suc (suc zero))))))) a h = fit 1 5 net (Global 0) a (global_shown 1 5 refl refl) h.listed h.numbered
 top_shown net (suc (suc (suc (suc (suc (suc (suc (suc i)))))))) a h = none_some a h.listed
 
@@ -152,7 +152,7 @@ one_node s u e = touching s u (subst (λ k. Touches gate_wiring (node_of s) k) e
 -- what an item holds
 abbrev pub NodeIs : ℕ → Item → Option ℕ → Type 0
 NodeIs cell (Own c r) s = (x : ℕ) × (slice_get (own_of cell c) r ≡ Some (unit_rect x)) × (s ≡ Some x)
-NodeIs cell (Child k b) s = slice_get (shows 0) b ≡ Some s
+NodeIs cell (Child k b) s = (u : Option ℕ) × (slice_get (shows 0) b ≡ Some u) × (moved mirrored.motion (node_of u) ≡ node_of s)
 NodeIs cell (Global g) s = s ≡ None
 
 pub record Seen (cell : ℕ) (a : Item) (n : Node) : Type 0 where
@@ -165,7 +165,7 @@ unit_column x y e = one_column x y (in_unit (at x) y (subst (λ k. IsIn (at x) k
 
 one_of : (cell : ℕ) (a : Item) (s u : Option ℕ) → NodeIs cell a s → NodeIs cell a u → s ≡ u
 one_of cell (Own c r) s u h g = h.2 ∙ ap Some (unit_column h.0 g.0 (same_Some _ _ (sym h.1 ∙ g.1))) ∙ sym g.2
-one_of cell (Child k b) s u h g = same_Some _ _ (sym h ∙ g)
+one_of cell (Child k b) s u h g = one_node s u (sym h.2 ∙ ap (λ j. moved mirrored.motion (node_of j)) (same_Some _ _ (sym h.1 ∙ g.1)) ∙ g.2)
 one_of cell (Global g) s u h k = h ∙ sym k
 
 seen_own : (cell c r : ℕ) (n : Node) → HoldsAt gate_design gate_tables 0 cell (Own c r) n → Seen cell (Own c r) n
@@ -189,9 +189,12 @@ seen_low (suc depth) (Own c r) n item h = absurd h
 seen_low (suc depth) (Child k b) n item h = absurd (no_place 0 k h.0 refl h.1)
 seen_low (suc depth) (Global g) n item h = absurd h
 
-unmoved : (p : Place) (s : Option ℕ) → p ≡ place → moved p.motion (node_of s) ≡ node_of s
-unmoved p None e = refl
-unmoved p (Some x) e = ap (At (parity x)) (still p (at x) e)
+-- what the child's nets hold, seen in the parent
+lifted : (b : ℕ) (u : Option ℕ) → slice_get (shows 0) b ≡ Some u → (s : Option ℕ) × (moved mirrored.motion (node_of u) ≡ node_of s)
+lifted = each_at (λ b u. (s : Option ℕ) × (moved mirrored.motion (node_of u) ≡ node_of s)) (shows 0) ((Some 4, refl), ((Some 2, refl), ((Some 3, refl), ((Some 1, refl), ((None, refl), tt)))))
+
+moved_as : (p : Place) (n : Node) → p ≡ mirrored → moved p.motion n ≡ moved mirrored.motion n
+moved_as p n e = ap (λ (k : Place). moved k.motion n) e
 
 seen_child : (depth k b : ℕ) (n : Node) → HoldsAt gate_design gate_tables (suc depth) 1 (Child k b) n → Seen 1 (Child k b) n
 seen_child depth k b n (p, placed, i, item, is, m, h, e) =
@@ -203,7 +206,8 @@ seen_child depth k b n (p, placed, i, item, is, m, h, e) =
     let u = seen_low s.holds.depth item (node_of s.node) s.item s.holds.holds in
     let same : v.node ≡ s.node = one_of 0 item v.node u.node v.of u.of ∙ sym (one_node s.node u.node u.is) in
     let m_is : m ≡ node_of s.node = v.is ∙ ap node_of same in
-    record { node = s.node; is = sym e ∙ ap (moved p.motion) m_is ∙ unmoved p s.node (one_place 1 k p placed).2; of = s.there }
+    let t = lifted b s.node s.there in
+    record { node = t.0; is = sym e ∙ ap (moved p.motion) m_is ∙ moved_as p (node_of s.node) (one_place 1 k p placed).2 ∙ t.1; of = (s.node, s.there, t.1) }
 
 pub seen : (cell : ℕ) (a : Item) (n : Node) → cell < 2 → I cell a → H cell a n → Seen cell a n
 seen zero a n lt item h = seen_low h.depth a n item h.holds

@@ -1,9 +1,11 @@
 -- What the design with transistors comes to: its gates, its two devices, its flat nodes.
 use Rattle.std.specs.Prelude.{◌≡◌, ℕ, zero, suc, List, [], ◌∷◌}
+use Rattle.geo_base.specs.Motions.{moved_square}
+use Rattle.geo_base.specs.declared.shapes.Square.{Square}
 use Rattle.flat_layout.specs.Gates.{Edge, IsForm}
 use Rattle.flat_layout.specs.Layout.{IsOwn}
 use Rattle.flat_layout.specs.Regions.{Node, At, Ground}
-use Rattle.flat_sample.specs.Transistors.{key_of, at, gate_design, gate_wiring, rule, row_on}
+use Rattle.flat_sample.specs.Transistors.{key_of, at, mirrored, gate_design, gate_wiring, rule, row_on}
 use Rattle.plain_netlist.specs.Netlist.{DeviceRow}
 
 abbrev pub edge_of : ℕ → ℕ → Edge
@@ -13,30 +15,34 @@ edge_of x y = record { inner = at x; outer = at y }
 abbrev pub IsGood : ℕ → ℕ → ℕ → ℕ → Type 0
 IsGood cell source gate drain = IsForm gate_design gate_wiring rule cell (at gate) (edge_of gate source) (edge_of gate drain) 2 2
 
--- both cells draw the gate, the child its source, the parent its drain
+-- the child draws it, and its image is this square of the parent
+abbrev pub IsPart : ℕ → Square → Type 0
+IsPart c q = (s : Square) × IsOwn gate_design 0 (key_of c) s × (moved_square mirrored.motion s ≡ q)
+
+-- both cells draw the gate, the parent its source, the child its drain
 pub record IsAcross (source gate drain : ℕ) : Type 0 where
-  pub child_gate : IsOwn gate_design 0 (key_of 1) (at gate)
+  pub parent_source : IsOwn gate_design 1 (key_of 0) (at source)
   pub parent_gate : IsOwn gate_design 1 (key_of 1) (at gate)
-  pub child_source : IsOwn gate_design 0 (key_of 0) (at source)
-  pub parent_drain : IsOwn gate_design 1 (key_of 0) (at drain)
+  pub child_gate : IsPart 1 (at gate)
+  pub child_drain : IsPart 0 (at drain)
 
 -- the transistor across both stands in the top's circuit
 abbrev pub IsAcrossDevice : List ℕ → ℕ → DeviceRow → Type 0
-IsAcrossDevice path i row = (path ≡ []) × (i ≡ 0) × (row ≡ row_on 2 1 0 3)
+IsAcrossDevice path i row = (path ≡ []) × (i ≡ 0) × (row ≡ row_on 0 1 2 3)
 
 -- the child's below the one call
 abbrev pub IsChildDevice : List ℕ → ℕ → DeviceRow → Type 0
 IsChildDevice path i row = (path ≡ 0 ∷ []) × (i ≡ 0) × (row ≡ row_on 0 2 1 3)
 
--- what the nets of the top's circuit show, and those of the child's: column 2 is source of the one and drain of the other
+-- what the nets of the top's circuit show, and those of the child's: column 2 is the drain of both transistors
 abbrev pub node_at : List ℕ → ℕ → Node
-node_at [] zero = At 0 (at 4)
-node_at [] (suc zero) = At 1 (at 3)
+node_at [] zero = At 0 (at 0)
+node_at [] (suc zero) = At 1 (at 1)
 node_at [] (suc (suc zero)) = At 0 (at 2)
 node_at [] (suc (suc (suc a))) = Ground 0
-node_at (k ∷ ks) zero = At 0 (at 0)
+node_at (k ∷ ks) zero = At 0 (at 4)
 node_at (k ∷ ks) (suc zero) = At 0 (at 2)
-node_at (k ∷ ks) (suc (suc zero)) = At 1 (at 1)
+node_at (k ∷ ks) (suc (suc zero)) = At 1 (at 3)
 node_at (k ∷ ks) (suc (suc (suc a))) = Ground 0
 
 -- the top's net that each of these nets is part of

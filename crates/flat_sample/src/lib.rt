@@ -26,13 +26,13 @@ pub fn sample_circuits()
     ensures netlist { IsFlatNetlist sample_design sample_wiring sample_tables sample_plan sample_netlist sample_rules 0 }
 {}
 
-/// A child with a transistor and a parent with one across both, whose gate both draw: each is good and stands in its cell's list alone.
+/// A child with a transistor, placed mirrored in a parent with one across both, whose gate both draw: each is good and stands in its cell's list alone.
 pub fn sample_gates()
-    ensures drawn { IsAcross 2 3 4 }
+    ensures drawn { IsAcross 0 1 2 }
     ensures child { (s : Square) → IsGateOf gate_design gate_wiring rule 0 s ↔ (s ≡ at 1) }
-    ensures across { (s : Square) → IsGateOf gate_design gate_wiring rule 1 s ↔ (s ≡ at 3) }
+    ensures across { (s : Square) → IsGateOf gate_design gate_wiring rule 1 s ↔ (s ≡ at 1) }
     ensures child_good { IsGood 0 0 1 2 }
-    ensures across_good { IsGood 1 2 3 4 }
+    ensures across_good { IsGood 1 0 1 2 }
     ensures found { (cell : ℕ) (s : Square) → IsReached gate_design cell → IsSettled gate_design gate_wiring rule cell s →
         (f : IsFound gate_design gate_wiring rule cell s) × ((g : IsFound gate_design gate_wiring rule cell s) → (g.path ≡ f.path) × InGate gate_design rule f.end f.square g.square) }
 {}
@@ -45,7 +45,7 @@ pub fn sample_transistors()
     ensures netlist { IsFlatNetlist gate_design gate_wiring gate_tables gate_plan gate_netlist gate_rules 1 }
 {}
 
-/// That netlist written out: two devices, one net for the source of the one and the drain of the other, and a pin for both bulks.
+/// That netlist written out: two devices, one net for both drains, and a pin for both bulks.
 pub fn sample_devices()
     ensures devices { (path : List ℕ) (i : ℕ) (row : DeviceRow) → HasDevice gate_netlist 1 path i row ↔ (IsAcrossDevice path i row ⊎ IsChildDevice path i row) }
     ensures climbs { (a : Slot) → IsTerminal gate_netlist 1 a → Climbs gate_design gate_tables gate_plan 1 a.path a.net (top_net a.path a.net) }
