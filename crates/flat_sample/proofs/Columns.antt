@@ -11,7 +11,7 @@ use Rattle.flat_layout.specs.Layout.{Place, Layer, Cell, Some_of, IsOwn, IsPlace
 use Rattle.flat_layout.specs.Plane.{IsIn}
 use Rattle.flat_sample.proofs.Right.{none_some}
 use Rattle.flat_sample.specs.Sample.{sample_height}
-use Rattle.flat_sample.specs.Transistors.{key_of, at, unit_rect, columns, own_of, layers_of, child, mirrored, parent, gate_design}
+use Rattle.flat_sample.specs.Transistors.{key_of, at, unit_rect, columns, rects_of, layers_of, child, mirrored, parent, gate_design}
 
 pub only_at : {A : Type 0} (x y : A) (k : ℕ) → slice_get (x ∷ []) k ≡ Some y → (k ≡ 0) × (y ≡ x)
 only_at x y zero e = (refl, (let f : y ≡ x = cc in f))
@@ -64,7 +64,7 @@ unit_in x = (omega (arith, ints), omega (arith, ints), omega (arith, ints), omeg
 pub one_column : (x y : ℕ) → at x ≡ at y → x ≡ y
 one_column x y e = let f = ap (λ (q : Square). q.x) e in omega (arith, ints)
 
-some_column : (q : Square) (xs : List ℕ) → Some_of (IsIn q) (map unit_rect xs) → (x : ℕ) × IsListed x xs × (q ≡ at x)
+pub some_column : (q : Square) (xs : List ℕ) → Some_of (IsIn q) (map unit_rect xs) → (x : ℕ) × IsListed x xs × (q ≡ at x)
 some_column q [] h = absurd h
 some_column q (x ∷ xs) (inl h) = (x, inl refl, in_unit q x h)
 some_column q (x ∷ xs) (inr h) = let s = some_column q xs h in (s.0, inr s.1, s.2)
@@ -88,7 +88,7 @@ one_key : (a b : ℕ) → key_of a ≡ key_of b → a ≡ b
 one_key a b e = ap (λ (k : LayerKey). k.layer) e
 
 -- a square of the cell's layer on a conductor lies in its rectangles
-in_layers : (cell c : ℕ) (q : Square) → c < 2 → Some_of (λ (l : Layer). (l.key ≡ key_of c) × Some_of (IsIn q) l.rects) (layers_of cell) → Some_of (IsIn q) (own_of cell c)
+in_layers : (cell c : ℕ) (q : Square) → c < 2 → Some_of (λ (l : Layer). (l.key ≡ key_of c) × Some_of (IsIn q) l.rects) (layers_of cell) → Some_of (IsIn q) (rects_of cell c)
 in_layers cell zero q lt (inl (e, i)) = i
 in_layers cell zero q lt (inr (inl (e, i))) = let f = one_key 1 0 e in absurd (omega arith)
 in_layers cell zero q lt (inr (inr n)) = absurd n
@@ -97,7 +97,7 @@ in_layers cell (suc zero) q lt (inr (inl (e, i))) = i
 in_layers cell (suc zero) q lt (inr (inr n)) = absurd n
 in_layers cell (suc (suc c)) q lt h = absurd (omega arith)
 
-of_layers : (cell c : ℕ) (q : Square) → c < 2 → Some_of (IsIn q) (own_of cell c) → Some_of (λ (l : Layer). (l.key ≡ key_of c) × Some_of (IsIn q) l.rects) (layers_of cell)
+of_layers : (cell c : ℕ) (q : Square) → c < 2 → Some_of (IsIn q) (rects_of cell c) → Some_of (λ (l : Layer). (l.key ≡ key_of c) × Some_of (IsIn q) l.rects) (layers_of cell)
 of_layers cell zero q lt i = inl (refl, i)
 of_layers cell (suc zero) q lt i = inr (inl (refl, i))
 of_layers cell (suc (suc c)) q lt h = absurd (omega arith)
@@ -122,11 +122,12 @@ IsFlatColumn cell c y = IsListed y (columns cell c) ⊎ ((cell ≡ 1) × (x : �
 
 opposite : (c x : ℕ) → IsListed x (columns 0 c) → (y : ℕ) × (x + y ≡ 4)
 opposite zero x (inl e) = (4, omega arith)
-opposite zero x (inr (inl e)) = (2, omega arith)
-opposite zero x (inr (inr n)) = absurd n
+opposite zero x (inr (inl e)) = (3, omega arith)
+opposite zero x (inr (inr (inl e))) = (2, omega arith)
+opposite zero x (inr (inr (inr (inl e)))) = (1, omega arith)
+opposite zero x (inr (inr (inr (inr n)))) = absurd n
 opposite (suc zero) x (inl e) = (3, omega arith)
-opposite (suc zero) x (inr (inl e)) = (1, omega arith)
-opposite (suc zero) x (inr (inr n)) = absurd n
+opposite (suc zero) x (inr n) = absurd n
 opposite (suc (suc c)) x h = absurd h
 
 flat_by : (cell c : ℕ) (q s : Square) (path : List ℕ) (end : ℕ) → c < 2 → Takes gate_design cell path end s q → IsOwn gate_design end (key_of c) s → (x : ℕ) × IsFlatColumn cell c x × (q ≡ at x)
@@ -151,44 +152,29 @@ column_flat cell c x lt h = record { path = []; end = cell; square = at x; takes
 pub column_above : (c x y : ℕ) → c < 2 → x + y ≡ 4 → IsListed x (columns 0 c) → InFlatInput gate_design 1 (key_of c) (at y)
 column_above c x y lt sum h = record { path = 0 ∷ []; end = 0; square = at x; takes = (mirrored, placed_here, at x, (refl, refl), moved_column mirrored x y refl sum); own = column_own 0 c x lt h }
 
-even_listed : (cell x : ℕ) → IsListed x (columns cell 0) → (k : ℕ) × (x ≡ k + k)
-even_listed zero x (inl e) = (0, e)
-even_listed zero x (inr (inl e)) = (1, e)
-even_listed zero x (inr (inr n)) = absurd n
-even_listed (suc zero) x (inl e) = (0, e)
-even_listed (suc zero) x (inr n) = absurd n
-even_listed (suc (suc n)) x h = absurd h
+poly_listed : (cell x : ℕ) → IsListed x (columns cell 1) → x ≡ 1
+poly_listed zero x (inl e) = e
+poly_listed zero x (inr n) = absurd n
+poly_listed (suc zero) x (inl e) = e
+poly_listed (suc zero) x (inr n) = absurd n
+poly_listed (suc (suc n)) x h = absurd h
 
-even_above : (x y : ℕ) → x + y ≡ 4 → IsListed x (columns 0 0) → (k : ℕ) × (y ≡ k + k)
-even_above x y sum (inl e) = (2, omega arith)
-even_above x y sum (inr (inl e)) = (1, omega arith)
-even_above x y sum (inr (inr n)) = absurd n
-
-odd_listed : (cell x : ℕ) → IsListed x (columns cell 1) → (x ≡ 1) ⊎ (x ≡ 3)
-odd_listed zero x (inl e) = inl e
-odd_listed zero x (inr (inl e)) = inr e
-odd_listed zero x (inr (inr n)) = absurd n
-odd_listed (suc zero) x (inl e) = inl e
-odd_listed (suc zero) x (inr n) = absurd n
-odd_listed (suc (suc n)) x h = absurd h
-
-odd_above : (x y : ℕ) → x + y ≡ 4 → IsListed x (columns 0 1) → (y ≡ 1) ⊎ (y ≡ 3)
-odd_above x y sum (inl e) = inr (omega arith)
-odd_above x y sum (inr (inl e)) = inl (omega arith)
-odd_above x y sum (inr (inr n)) = absurd n
-
--- sides stand in even columns
-pub sides_even : (cell : ℕ) (q : Square) → InFlatInput gate_design cell (key_of 0) q → (k : ℕ) × (q ≡ at (k + k))
-sides_even cell q h = of_column (flat_column cell 0 q (omega arith) h)
+-- poly stands in column 1 and, in the parent, in column 3
+pub poly_at : (cell : ℕ) (q : Square) → InFlatInput gate_design cell (key_of 1) q → (q ≡ at 1) ⊎ ((cell ≡ 1) × (q ≡ at 3))
+poly_at cell q h = of_column (flat_column cell 1 q (omega arith) h)
   where
-    of_column : (x : ℕ) × IsFlatColumn cell 0 x × (q ≡ at x) → (k : ℕ) × (q ≡ at (k + k))
-    of_column (x, inl l, e) = let h = even_listed cell x l in (h.0, e ∙ ap at h.1)
-    of_column (x, inr (one, z, sum, l), e) = let h = even_above z x sum l in (h.0, e ∙ ap at h.1)
+    of_column : (x : ℕ) × IsFlatColumn cell 1 x × (q ≡ at x) → (q ≡ at 1) ⊎ ((cell ≡ 1) × (q ≡ at 3))
+    of_column (x, inl l, e) = inl (e ∙ ap at (poly_listed cell x l))
+    of_column (x, inr (one, z, sum, l), e) = let f = poly_listed 0 z l in let g : x ≡ 3 = omega arith in inr (one, e ∙ ap at g)
 
--- gates stand in column 1 or 3
-pub gates_odd : (cell : ℕ) (q : Square) → InFlatInput gate_design cell (key_of 1) q → (q ≡ at 1) ⊎ (q ≡ at 3)
-gates_odd cell q h = of_column (flat_column cell 1 q (omega arith) h)
-  where
-    of_column : (x : ℕ) × IsFlatColumn cell 1 x × (q ≡ at x) → (q ≡ at 1) ⊎ (q ≡ at 3)
-    of_column (x, inl l, e) = elim (odd_listed cell x l) [ inl f ↦ inl (e ∙ ap at f) | inr f ↦ inr (e ∙ ap at f) ]
-    of_column (x, inr (one, z, sum, l), e) = elim (odd_above z x sum l) [ inl f ↦ inl (e ∙ ap at f) | inr f ↦ inr (e ∙ ap at f) ]
+pub no_poly : (cell x : ℕ) → (x ≡ 1 → ⊥) → (x ≡ 3 → ⊥) → InFlatInput gate_design cell (key_of 1) (at x) → ⊥
+no_poly cell x one three h = elim (poly_at cell (at x) h) [ inl e ↦ one (one_column x 1 e) | inr f ↦ three (one_column x 3 f.1) ]
+
+pub child_poly : InFlatInput gate_design 0 (key_of 1) (at 1)
+child_poly = column_flat 0 1 1 (omega arith) (inl refl)
+
+pub parent_poly : InFlatInput gate_design 1 (key_of 1) (at 1)
+parent_poly = column_flat 1 1 1 (omega arith) (inl refl)
+
+pub poly_above : InFlatInput gate_design 1 (key_of 1) (at 3)
+poly_above = column_above 1 1 3 (omega arith) refl (inl refl)

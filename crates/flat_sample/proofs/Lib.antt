@@ -1,6 +1,7 @@
 pub mod Right
 pub mod Drawn
 pub mod Columns
+pub mod Sides
 pub mod Wires
 pub mod Lone
 pub mod Gated

@@ -8,8 +8,9 @@ use Rattle.flat_layout.specs.Layout.{IsReached}
 use Rattle.flat_layout.specs.Nets.{Own, Child, Global, NetHolds}
 use Rattle.flat_layout.specs.Regions.{Node, At, Ground}
 use Rattle.flat_sample.proofs.Columns.{only_at, reached_two}
-use Rattle.flat_sample.proofs.Gated.{child_gate, child_left, child_right, across_gate, across_left, across_right, child_gate_of, across_gate_of, child_only, across_only}
+use Rattle.flat_sample.proofs.Gated.{child_gate_of, across_gate_of, child_only, across_only}
 use Rattle.flat_sample.proofs.Lone.{InG, InS, gate_self, group_self, gate_at, left_at, right_at, edge_to, form}
+use Rattle.flat_sample.proofs.Sides.{child_gate, child_left, child_right, across_gate, across_left, across_right}
 use Rattle.flat_sample.proofs.Wires.{net_has}
 use Rattle.flat_sample.specs.Transistors.{at, gate_design, gate_wiring, gate_tables, rule, gate_rules, row_on, drawing_of}
 use Rattle.plain_netlist.specs.Netlist.{Pole, Source, Gate, Drain, Bulk, DeviceRow, on}
@@ -39,13 +40,13 @@ row_right cell m source gate drain bulk is left right s g d b = record {
   poles = poles_of cell m source gate drain bulk is s g d b;
 }
 
-child_row : IsRowOf gate_design gate_wiring gate_tables rule 0 (at 1) (row_on 0 2 1 4)
+child_row : IsRowOf gate_design gate_wiring gate_tables rule 0 (at 1) (row_on 0 2 1 3)
 child_row =
-    row_right 0 0 0 2 1 4 child_gate child_left child_right (net_has 0 0 0 (Own 0 0) (Some 0) (record { listed = refl; numbered = refl }) refl) (net_has 0 2 2 (Own 1 0) (Some 1) (record { listed = refl; numbered = refl }) refl) (net_has 0 1 1 (Own 0 1) (Some 2) (record { listed = refl; numbered = refl }) refl) (net_has 0 4 4 (Global 0) None (record { listed = refl; numbered = refl }) refl)
+    row_right 0 0 0 2 1 3 child_gate child_left child_right (net_has 0 0 0 (Own 0 0) (Some 0) (record { listed = refl; numbered = refl }) refl) (net_has 0 2 2 (Own 1 0) (Some 1) (record { listed = refl; numbered = refl }) refl) (net_has 0 1 1 (Own 0 1) (Some 2) (record { listed = refl; numbered = refl }) refl) (net_has 0 3 3 (Global 0) None (record { listed = refl; numbered = refl }) refl)
 
 across_row : IsRowOf gate_design gate_wiring gate_tables rule 1 (at 1) (row_on 0 1 3 5)
 across_row =
-    row_right 1 0 0 1 3 5 across_gate across_left across_right (net_has 1 0 0 (Own 0 0) (Some 0) (record { listed = refl; numbered = refl }) refl) (net_has 1 1 1 (Own 1 0) (Some 1) (record { listed = refl; numbered = refl }) refl) (net_has 1 3 3 (Child 0 1) (Some 2) (record { listed = refl; numbered = refl }) refl) (net_has 1 5 7 (Global 0) None (record { listed = refl; numbered = refl }) refl)
+    row_right 1 0 0 1 3 5 across_gate across_left across_right (net_has 1 0 0 (Own 0 0) (Some 0) (record { listed = refl; numbered = refl }) refl) (net_has 1 1 1 (Own 1 0) (Some 1) (record { listed = refl; numbered = refl }) refl) (net_has 1 3 3 (Child 0 1) (Some 2) (record { listed = refl; numbered = refl }) refl) (net_has 1 5 6 (Global 0) None (record { listed = refl; numbered = refl }) refl)
 
 abbrev spot_at : Square → Spot
 spot_at s = record { rule = 0; square = s }
@@ -69,7 +70,7 @@ rows_at cell s row v spots rows gate right only =
     }
 
 rows_of : (cell : ℕ) → cell < 2 → AreRows gate_design gate_wiring gate_tables gate_rules cell (drawing_of cell)
-rows_of zero lt = rows_at 0 (at 1) (row_on 0 2 1 4) (drawing_of 0) refl refl child_gate_of child_row child_only
+rows_of zero lt = rows_at 0 (at 1) (row_on 0 2 1 3) (drawing_of 0) refl refl child_gate_of child_row child_only
 rows_of (suc zero) lt = rows_at 1 (at 1) (row_on 0 1 3 5) (drawing_of 1) refl refl across_gate_of across_row across_only
 rows_of (suc (suc n)) lt = absurd (omega arith)
 

@@ -1,13 +1,14 @@
--- A gate of one square in an odd column, with a side left and right of it, is good.
-use Rattle.std.proofs.Common.{◌≡◌, ◌⊎◌, inl, inr, ℕ, suc, ◌+◌, List, [], ◌∷◌, pos, negsuc, refl, sym, ◌∙◌, ap, subst, arith}
+-- A gate of one square, with a side left and right of it, is good.
+use Rattle.std.proofs.Common.{◌≡◌, ◌⊎◌, inl, inr, ℕ, zero, suc, ◌≤◌, ◌+◌, List, [], ◌∷◌, pos, negsuc, refl, sym, ◌∙◌, ap, subst, arith}
 use Rattle.std.proofs.lemmas.Int.{ints}
 use Rattle.geo_base.specs.declared.shapes.Square.{Square}
 use Rattle.flat_laws.proofs.Squares.{same_square}
 use Rattle.flat_layout.specs.Gates.{IsStep, InGate, InSide, InOneGroup, Edge, IsBorder, IsWide, IsLong, IsListed, AreApart, AreGroups, IsForm}
-use Rattle.flat_layout.specs.Layers.{InFlat}
-use Rattle.flat_layout.specs.Plane.{SharesEdge}
-use Rattle.flat_sample.proofs.Columns.{one_column, sides_even, gates_odd}
-use Rattle.flat_sample.specs.Transistors.{at, gate_design, gate_wiring, rule}
+use Rattle.flat_layout.specs.Layers.{Input, InFlat}
+use Rattle.flat_layout.specs.Plane.{SharesEdge, IsAround}
+use Rattle.flat_sample.proofs.Columns.{one_column}
+use Rattle.flat_sample.proofs.Sides.{side_column, gates_odd}
+use Rattle.flat_sample.specs.Transistors.{key_of, at, gate_design, gate_wiring, rule}
 use Rattle.plain_netlist.proofs.Links.{stays}
 use Rattle.plain_netlist.specs.Chains.{Reaches, IsChain}
 
@@ -34,22 +35,22 @@ columns_beside a b (inr (e, inr f)) = inr (omega (arith, ints))
 at_beside : (p q : Square) (a b : ℕ) → p ≡ at a → q ≡ at b → SharesEdge p q → (suc a ≡ b) ⊎ (suc b ≡ a)
 at_beside p q a b e f h = columns_beside a b (subst (λ k. SharesEdge (at a) k) f (subst (λ k. SharesEdge k q) e h))
 
-not_beside : (a b : ℕ) → (suc a ≡ b) ⊎ (suc b ≡ a) → (k j n : ℕ) → a ≡ n + (k + k) → b ≡ n + (j + j) → ⊥
-not_beside a b (inl e) k j n f g = absurd (omega arith)
-not_beside a b (inr e) k j n f g = absurd (omega arith)
+same_far : (a b : ℕ) → a ≡ b → (suc a ≡ b) ⊎ (suc b ≡ a) → ⊥
+same_far a b e (inl f) = absurd (omega arith)
+same_far a b e (inr f) = absurd (omega arith)
+
+two_far : (a b : ℕ) → (suc (suc a) ≡ b) ⊎ (suc (suc b) ≡ a) → (suc a ≡ b) ⊎ (suc b ≡ a) → ⊥
+two_far a b (inl e) (inl f) = absurd (omega arith)
+two_far a b (inl e) (inr f) = absurd (omega arith)
+two_far a b (inr e) (inl f) = absurd (omega arith)
+two_far a b (inr e) (inr f) = absurd (omega arith)
 
 gates_apart : (cell : ℕ) (p q : Square) → InG cell p → InG cell q → SharesEdge p q → ⊥
 gates_apart cell p q g h e =
     elim (gates_odd cell p g) [
-      | inl a ↦ elim (gates_odd cell q h) [ inl b ↦ not_beside 1 1 (at_beside p q 1 1 a b e) 0 0 1 refl refl | inr b ↦ not_beside 1 3 (at_beside p q 1 3 a b e) 0 1 1 refl refl ]
-      | inr a ↦ elim (gates_odd cell q h) [ inl b ↦ not_beside 3 1 (at_beside p q 3 1 a b e) 1 0 1 refl refl | inr b ↦ not_beside 3 3 (at_beside p q 3 3 a b e) 1 1 1 refl refl ]
+      | inl a ↦ elim (gates_odd cell q h) [ inl b ↦ same_far 1 1 refl (at_beside p q 1 1 a b e) | inr b ↦ two_far 1 3 (inl refl) (at_beside p q 1 3 a b.1 e) ]
+      | inr a ↦ elim (gates_odd cell q h) [ inl b ↦ two_far 3 1 (inr refl) (at_beside p q 3 1 a.1 b e) | inr b ↦ same_far 3 3 refl (at_beside p q 3 3 a.1 b.1 e) ]
     ]
-
-sides_apart : (cell : ℕ) (p q : Square) → InS cell p → InS cell q → SharesEdge p q → ⊥
-sides_apart cell p q g h e =
-    let a = sides_even cell p g in
-    let b = sides_even cell q h in
-    not_beside (a.0 + a.0) (b.0 + b.0) (at_beside p q (a.0 + a.0) (b.0 + b.0) a.1 b.1 e) a.0 b.0 0 (omega arith) (omega arith)
 
 -- a gate has one square
 pub gate_is : (cell : ℕ) (s q : Square) → InGate gate_design rule cell s q → s ≡ q
@@ -57,13 +58,6 @@ gate_is cell s q h = alone (InG cell) (gates_apart cell) s q h.joined
 
 pub gate_self : (cell : ℕ) (s q : Square) → InG cell s → s ≡ q → InGate gate_design rule cell s q
 gate_self cell s q g e = record { from = g; joined = stays (IsStep (InG cell)) s q e }
-
--- and so has a group
-pub group_is : (cell : ℕ) (s a b : Square) → InOneGroup gate_design rule cell s a b → a ≡ b
-group_is cell s a b h = alone (InSide gate_design rule cell s) (λ p q x y e. sides_apart cell p q x.sd y.sd e) a b h
-
-pub group_self : (cell : ℕ) (s a : Square) → InOneGroup gate_design rule cell s a a
-group_self cell s a = stays (IsStep (InSide gate_design rule cell s)) a a refl
 
 abbrev pub gate_at : ℕ → Square
 gate_at m = at (suc (m + m))
@@ -99,7 +93,45 @@ beside m q (inr (e, inl f)) = Right (same_square q (right_at m) (omega (arith, i
 beside m q (inr (e, inr f)) = Left (same_square q (left_at m) (omega (arith, ints)) (sym e))
 
 row_zero : (cell : ℕ) (q : Square) → InS cell q → q.y ≡ pos 0
-row_zero cell q h = let s = sides_even cell q h in ap (λ (k : Square). k.y) s.1
+row_zero cell q h = let s = side_column cell q h in ap (λ (k : Square). k.y) s.1
+
+one_of_three : (k n : ℕ) → n ≤ k → k ≤ suc (suc n) → (k ≡ n) ⊎ ((k ≡ suc n) ⊎ (k ≡ suc (suc n)))
+one_of_three zero zero a b = inl refl
+one_of_three (suc zero) zero a b = inr (inl refl)
+one_of_three (suc (suc zero)) zero a b = inr (inr refl)
+one_of_three (suc (suc (suc k))) zero a b = absurd (omega arith)
+one_of_three zero (suc n) a b = absurd (omega arith)
+one_of_three (suc k) (suc n) a b = elim (one_of_three k n (omega arith) (omega arith)) [ inl e ↦ inl (ap suc e) | inr f ↦ inr (elim f [ inl e ↦ inl (ap suc e) | inr e ↦ inr (ap suc e) ]) ]
+
+-- the ring's sides are those left and right
+ring_side : (cell m : ℕ) (q : Square) → InG cell (gate_at m) → InSide gate_design rule cell (gate_at m) q → (q ≡ left_at m) ⊎ (q ≡ right_at m)
+ring_side cell m q gate h =
+    let close = h.ring.close in
+    let e = gate_is cell (gate_at m) close.square close.in_gate in
+    let near : IsAround (gate_at m) q = subst (λ k. IsAround k q) (sym e) close.around in
+    let c = side_column cell q h.sd in
+    let x = ap (λ (k : Square). k.x) c.1 in
+    let a = near.left in
+    let b = near.right in
+    elim (one_of_three c.0 (m + m) (omega (arith, ints)) (omega (arith, ints))) [
+      | inl f ↦ inl (c.1 ∙ ap at f)
+      | inr f ↦ elim f [ inl g ↦ absurd (h.sd.1 (subst (InFlat gate_design cell (Input (key_of 1))) (sym (c.1 ∙ ap at g)) gate.1)) | inr g ↦ inr (c.1 ∙ ap at g) ]
+    ]
+
+ring_apart : (cell m : ℕ) (p q : Square) → InG cell (gate_at m) → InSide gate_design rule cell (gate_at m) p → InSide gate_design rule cell (gate_at m) q → SharesEdge p q → ⊥
+ring_apart cell m p q gate g h e =
+    let n = m + m in
+    elim (ring_side cell m p gate g) [
+      | inl a ↦ elim (ring_side cell m q gate h) [ inl b ↦ same_far n n refl (at_beside p q n n a b e) | inr b ↦ two_far n (suc (suc n)) (inl refl) (at_beside p q n (suc (suc n)) a b e) ]
+      | inr a ↦ elim (ring_side cell m q gate h) [ inl b ↦ two_far (suc (suc n)) n (inr refl) (at_beside p q (suc (suc n)) n a b e) | inr b ↦ same_far (suc (suc n)) (suc (suc n)) refl (at_beside p q (suc (suc n)) (suc (suc n)) a b e) ]
+    ]
+
+-- so a group has one square too
+group_is : (cell m : ℕ) (a b : Square) → InG cell (gate_at m) → InOneGroup gate_design rule cell (gate_at m) a b → a ≡ b
+group_is cell m a b gate h = alone (InSide gate_design rule cell (gate_at m)) (λ p q x y e. ring_apart cell m p q gate x y e) a b h
+
+pub group_self : (cell : ℕ) (s a : Square) → InOneGroup gate_design rule cell s a a
+group_self cell s a = stays (IsStep (InSide gate_design rule cell s)) a a refl
 
 module _ (cell m : ℕ) (gate : InG cell (gate_at m)) (left : InS cell (left_at m)) (right : InS cell (right_at m)) where
   abbrev Wide : Edge → Type 0
@@ -191,13 +223,13 @@ module _ (cell m : ℕ) (gate : InG cell (gate_at m)) (left : InS cell (left_at 
   groups = record {
     each = listed_wide;
     found = λ a h. (a, wide_listed a h, group_self cell (gate_at m) a.outer);
-    one = λ a b k l r. one_side a b k l (group_is cell (gate_at m) a.outer b.outer r);
+    one = λ a b k l r. one_side a b k l (group_is cell m a.outer b.outer gate r);
     apart = sides_apart_here;
   }
 
   end_on : (q : Square) → InOneGroup gate_design rule cell (gate_at m) (left_at m) q ⊎ InOneGroup gate_design rule cell (gate_at m) (right_at m) q → InS cell q
-  end_on q (inl h) = subst (InS cell) (group_is cell (gate_at m) (left_at m) q h) left
-  end_on q (inr h) = subst (InS cell) (group_is cell (gate_at m) (right_at m) q h) right
+  end_on q (inl h) = subst (InS cell) (group_is cell m (left_at m) q gate h) left
+  end_on q (inr h) = subst (InS cell) (group_is cell m (right_at m) q gate h) right
 
   -- two edges wide, two long
   pub form : IsForm gate_design gate_wiring rule cell (gate_at m) (edge_to m (left_at m)) (edge_to m (right_at m)) 2 2
@@ -206,7 +238,7 @@ module _ (cell m : ℕ) (gate : InG cell (gate_at m)) (left : InS cell (left_at 
     wide = record { all = sides; apart = sides_apart_here; each = λ a. (wide_listed a, listed_wide a); count = refl };
     long = record { all = ends; apart = ends_apart_here; each = λ a. (long_listed a, listed_long a); count = refl };
     some = omega arith;
-    gate_on = λ q h. subst (InG cell) (gate_is cell (gate_at m) q h) gate;
+    gate_on = λ q h. subst (InFlat gate_design cell (Input (key_of 1))) (gate_is cell (gate_at m) q h) gate.1;
     ends_on = end_on;
     bulk_on = λ e. absurd (let z : ⊥ = cc in z);
   }

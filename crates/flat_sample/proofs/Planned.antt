@@ -3,7 +3,7 @@ use Rattle.std.proofs.Common.{◌≡◌, ◌⊎◌, ◌↔◌, inl, inr, ℕ, ze
 use Rattle.std.proofs.lemmas.Option.{same_Some}
 use Rattle.flat_layout.specs.Circuits.{IsPinNet, IsDrawn, IsNetOf, HasGate, IsUsed, IsMarked, IsMarkedNet, IsUsedAbove, IsDrawnBelow, IsRow, IsCallOf, IsCircuitOf, ArePlanned}
 use Rattle.flat_layout.specs.Layout.{Place, IsPlaced}
-use Rattle.flat_layout.specs.Nets.{Item, Own, Child, Global, IsOf, NetHolds}
+use Rattle.flat_layout.specs.Nets.{Item, Child, Global, IsOf, NetHolds}
 use Rattle.flat_layout.specs.Regions.{Node, At, Ground}
 use Rattle.flat_sample.proofs.Columns.{only_at, one_place, lower_cell, placed_here, no_place, reached_two, top_reached}
 use Rattle.flat_sample.proofs.Listing.{each_at}
@@ -17,9 +17,9 @@ not_true e = absurd (let z : ⊥ = cc in z)
 
 -- a gate's terminals are drawn
 gate_drawn : (cell x : ℕ) → HasGate gate_plan cell x → IsDrawn gate_plan cell x
-gate_drawn zero x (i, row, e, pole, f) = of_pole pole (ap (on pole) (sym (only_at (row_on 0 2 1 4) row i e).1) ∙ f)
+gate_drawn zero x (i, row, e, pole, f) = of_pole pole (ap (on pole) (sym (only_at (row_on 0 2 1 3) row i e).1) ∙ f)
   where
-    of_pole : (pole : Pole) → on pole (row_on 0 2 1 4) ≡ x → IsDrawn gate_plan 0 x
+    of_pole : (pole : Pole) → on pole (row_on 0 2 1 3) ≡ x → IsDrawn gate_plan 0 x
     of_pole Source e = subst (IsDrawn gate_plan 0) e refl
     of_pole Gate e = subst (IsDrawn gate_plan 0) e refl
     of_pole Drain e = subst (IsDrawn gate_plan 0) e refl
@@ -34,12 +34,11 @@ gate_drawn (suc zero) x (i, row, e, pole, f) = of_pole pole (ap (on pole) (sym (
 gate_drawn (suc (suc n)) x (i, row, e, pole, f) = none_some row e
 
 drawn_gate : (cell x : ℕ) → IsDrawn gate_plan cell x → HasGate gate_plan cell x
-drawn_gate zero zero h = (0, row_on 0 2 1 4, refl, Source, refl)
-drawn_gate zero (suc zero) h = (0, row_on 0 2 1 4, refl, Drain, refl)
-drawn_gate zero (suc (suc zero)) h = (0, row_on 0 2 1 4, refl, Gate, refl)
-drawn_gate zero (suc (suc (suc zero))) h = not_true h
-drawn_gate zero (suc (suc (suc (suc zero)))) h = (0, row_on 0 2 1 4, refl, Bulk, refl)
-drawn_gate zero (suc (suc (suc (suc (suc x))))) h = none_some true h
+drawn_gate zero zero h = (0, row_on 0 2 1 3, refl, Source, refl)
+drawn_gate zero (suc zero) h = (0, row_on 0 2 1 3, refl, Drain, refl)
+drawn_gate zero (suc (suc zero)) h = (0, row_on 0 2 1 3, refl, Gate, refl)
+drawn_gate zero (suc (suc (suc zero))) h = (0, row_on 0 2 1 3, refl, Bulk, refl)
+drawn_gate zero (suc (suc (suc (suc x)))) h = none_some true h
 drawn_gate (suc zero) zero h = (0, row_on 0 1 3 5, refl, Source, refl)
 drawn_gate (suc zero) (suc zero) h = (0, row_on 0 1 3 5, refl, Gate, refl)
 drawn_gate (suc zero) (suc (suc zero)) h = not_true h
@@ -51,7 +50,7 @@ drawn_gate (suc (suc n)) x h = none_some true h
 
 -- the parent's net of each net of the child
 abbrev above : List ℕ
-above = 2 ∷ (3 ∷ (4 ∷ (1 ∷ (5 ∷ []))))
+above = 2 ∷ (3 ∷ (4 ∷ (5 ∷ [])))
 
 child_net : (k b i x : ℕ) → IsOf (nets_of 1) x i (Child k b) → slice_get above b ≡ Some x
 child_net k b zero x h = let e = h.listed in absurd (let z : ⊥ = cc in z)
@@ -60,17 +59,15 @@ child_net k b (suc (suc zero)) x h = let e = h.listed in let f : 0 ≡ b = cc in
 child_net k b (suc (suc (suc zero))) x h = let e = h.listed in let f : 1 ≡ b = cc in subst (λ j. slice_get above j ≡ Some x) f h.numbered
 child_net k b (suc (suc (suc (suc zero)))) x h = let e = h.listed in let f : 2 ≡ b = cc in subst (λ j. slice_get above j ≡ Some x) f h.numbered
 child_net k b (suc (suc (suc (suc (suc zero))))) x h = let e = h.listed in let f : 3 ≡ b = cc in subst (λ j. slice_get above j ≡ Some x) f h.numbered
-child_net k b (suc (suc (suc (suc (suc (suc zero)))))) x h = let e = h.listed in let f : 4 ≡ b = cc in subst (λ j. slice_get above j ≡ Some x) f h.numbered
-child_net k b (suc (suc (suc (suc (suc (suc (suc zero))))))) x h = let e = h.listed in absurd (let z : ⊥ = cc in z)
-child_net k b (suc (suc (suc (suc (suc (suc (suc (suc i)))))))) x h = none_some (Child k b) h.listed
+child_net k b (suc (suc (suc (suc (suc (suc zero)))))) x h = let e = h.listed in absurd (let z : ⊥ = cc in z)
+child_net k b (suc (suc (suc (suc (suc (suc (suc i))))))) x h = none_some (Child k b) h.listed
 
 below_drawn : (u x : ℕ) → slice_get above u ≡ Some x → IsPinNet gate_plan 0 u → IsDrawn gate_plan 0 u → IsDrawn gate_plan 1 x
 below_drawn zero x e pin drawn = not_true pin
 below_drawn (suc zero) x e pin drawn = subst (IsDrawn gate_plan 1) (same_Some _ _ e) refl
 below_drawn (suc (suc zero)) x e pin drawn = not_true pin
-below_drawn (suc (suc (suc zero))) x e pin drawn = not_true drawn
-below_drawn (suc (suc (suc (suc zero)))) x e pin drawn = subst (IsDrawn gate_plan 1) (same_Some _ _ e) refl
-below_drawn (suc (suc (suc (suc (suc u))))) x e pin drawn = none_some x e
+below_drawn (suc (suc (suc zero))) x e pin drawn = subst (IsDrawn gate_plan 1) (same_Some _ _ e) refl
+below_drawn (suc (suc (suc (suc u)))) x e pin drawn = none_some x e
 
 drawn_from : (cell x : ℕ) → cell < 2 → IsDrawnBelow gate_design gate_tables gate_plan cell x → IsDrawn gate_plan cell x
 drawn_from zero x lt h = absurd (no_place 0 h.number h.place refl h.placed)
@@ -98,10 +95,9 @@ one_item x (suc zero) a h = let f : 1 ≡ x = same_Some _ _ h.numbered in ((λ e
 one_item x (suc (suc zero)) a h = let f : 2 ≡ x = same_Some _ _ h.numbered in ((λ e. sym (same_Some _ _ h.listed)), (λ e. absurd (omega arith)))
 one_item x (suc (suc (suc zero))) a h = let f : 3 ≡ x = same_Some _ _ h.numbered in ((λ e. absurd (omega arith)), (λ e. absurd (omega arith)))
 one_item x (suc (suc (suc (suc zero)))) a h = let f : 4 ≡ x = same_Some _ _ h.numbered in ((λ e. absurd (omega arith)), (λ e. sym (same_Some _ _ h.listed)))
-one_item x (suc (suc (suc (suc (suc zero))))) a h = let f : 1 ≡ x = same_Some _ _ h.numbered in ((λ e. absurd (omega arith)), (λ e. absurd (omega arith)))
+one_item x (suc (suc (suc (suc (suc zero))))) a h = let f : 5 ≡ x = same_Some _ _ h.numbered in ((λ e. absurd (omega arith)), (λ e. absurd (omega arith)))
 one_item x (suc (suc (suc (suc (suc (suc zero)))))) a h = let f : 5 ≡ x = same_Some _ _ h.numbered in ((λ e. absurd (omega arith)), (λ e. absurd (omega arith)))
-one_item x (suc (suc (suc (suc (suc (suc (suc zero))))))) a h = let f : 5 ≡ x = same_Some _ _ h.numbered in ((λ e. absurd (omega arith)), (λ e. absurd (omega arith)))
-one_item x (suc (suc (suc (suc (suc (suc (suc (suc i)))))))) a h = none_some a h.listed
+one_item x (suc (suc (suc (suc (suc (suc (suc i))))))) a h = none_some a h.listed
 
 unused_side : IsUsed gate_tables gate_plan 1 (Child 0 0) 2 → ⊥
 unused_side (inl (other, differs, is)) = differs ((one_item 2 is.0 other is.1).0 refl)
@@ -141,24 +137,11 @@ top_unused b h = let low = lower_cell h.parent h.number h.place h.placed in let 
 used_side : IsUsedAbove gate_design gate_tables gate_plan 0 1
 used_side = record { parent = 1; number = 0; place = mirrored; net = 3; reached = top_reached; placed = placed_here; here = refl; is_of = (3, record { listed = refl; numbered = refl }); used = inr (inl (0, row_on 0 1 3 5, refl, Drain, refl)) }
 
-used_gate : IsUsedAbove gate_design gate_tables gate_plan 0 3
-used_gate = record {
-  parent = 1;
-  number = 0;
-  place = mirrored;
-  net = 1;
-  reached = top_reached;
-  placed = placed_here;
-  here = refl;
-  is_of = (5, record { listed = refl; numbered = refl });
-  used = inl (Own 1 0, (λ e. let z : ⊥ = cc in z), (1, record { listed = refl; numbered = refl }));
-}
-
-child_marked : IsMarkedNet gate_design gate_wiring gate_tables gate_plan 0 4
-child_marked = record { node = Ground 0; holds = net_has 0 4 4 (Global 0) None (record { listed = refl; numbered = refl }) refl; marked = tt }
+child_marked : IsMarkedNet gate_design gate_wiring gate_tables gate_plan 0 3
+child_marked = record { node = Ground 0; holds = net_has 0 3 3 (Global 0) None (record { listed = refl; numbered = refl }) refl; marked = tt }
 
 top_marked : IsMarkedNet gate_design gate_wiring gate_tables gate_plan 1 5
-top_marked = record { node = Ground 0; holds = net_has 1 5 7 (Global 0) None (record { listed = refl; numbered = refl }) refl; marked = tt }
+top_marked = record { node = Ground 0; holds = net_has 1 5 6 (Global 0) None (record { listed = refl; numbered = refl }) refl; marked = tt }
 
 abbrev IsWanted : ℕ → ℕ → Type 0
 IsWanted cell b = IsMarkedNet gate_design gate_wiring gate_tables gate_plan cell b ⊎ IsUsedAbove gate_design gate_tables gate_plan cell b
@@ -179,9 +162,8 @@ pins : (cell b : ℕ) → b < (gate_tables.nets cell).count → IsPinNet gate_pl
 pins zero zero lt = ((λ h. not_true h), (λ h. absurd (side_plain h)))
 pins zero (suc zero) lt = ((λ h. inr used_side), (λ h. refl))
 pins zero (suc (suc zero)) lt = ((λ h. not_true h), (λ h. absurd (gate_plain h)))
-pins zero (suc (suc (suc zero))) lt = ((λ h. inr used_gate), (λ h. refl))
-pins zero (suc (suc (suc (suc zero)))) lt = ((λ h. inl child_marked), (λ h. refl))
-pins zero (suc (suc (suc (suc (suc b))))) lt = absurd (omega arith)
+pins zero (suc (suc (suc zero))) lt = ((λ h. inl child_marked), (λ h. refl))
+pins zero (suc (suc (suc (suc b)))) lt = absurd (omega arith)
 pins (suc zero) zero lt = ((λ h. not_true h), (λ h. absurd (top_plain 0 (omega arith) h)))
 pins (suc zero) (suc zero) lt = ((λ h. not_true h), (λ h. absurd (top_plain 1 (omega arith) h)))
 pins (suc zero) (suc (suc zero)) lt = ((λ h. not_true h), (λ h. absurd (top_plain 2 (omega arith) h)))
@@ -191,13 +173,7 @@ pins (suc zero) (suc (suc (suc (suc (suc zero))))) lt = ((λ h. inl top_marked),
 pins (suc zero) (suc (suc (suc (suc (suc (suc b)))))) lt = absurd (omega arith)
 pins (suc (suc n)) b lt = absurd (omega arith)
 
--- the net of a cell's circuit that is net x of the cell
-abbrev child_spot : ℕ → ℕ
-child_spot zero = 0
-child_spot (suc zero) = 1
-child_spot (suc (suc zero)) = 2
-child_spot (suc (suc (suc x))) = 3
-
+-- the net of the parent's circuit that is net x of the parent
 abbrev parent_spot : ℕ → ℕ
 parent_spot zero = 0
 parent_spot (suc zero) = 1
@@ -215,9 +191,8 @@ child_found : (x : ℕ) → IsDrawn gate_plan 0 x → (a : ℕ) × (slice_get ch
 child_found zero h = (0, refl)
 child_found (suc zero) h = (1, refl)
 child_found (suc (suc zero)) h = (2, refl)
-child_found (suc (suc (suc zero))) h = not_true h
-child_found (suc (suc (suc (suc zero)))) h = (3, refl)
-child_found (suc (suc (suc (suc (suc x))))) h = none_some true h
+child_found (suc (suc (suc zero))) h = (3, refl)
+child_found (suc (suc (suc (suc x)))) h = none_some true h
 
 parent_found : (x : ℕ) → IsDrawn gate_plan 1 x → (a : ℕ) × (slice_get parent_nets a ≡ Some x)
 parent_found zero h = (0, refl)
@@ -228,7 +203,7 @@ parent_found (suc (suc (suc (suc zero)))) h = not_true h
 parent_found (suc (suc (suc (suc (suc zero))))) h = (3, refl)
 parent_found (suc (suc (suc (suc (suc (suc x)))))) h = none_some true h
 
-child_poles : (pole : Pole) → slice_get child_nets (on pole (row_on 0 2 1 3)) ≡ Some (on pole (row_on 0 2 1 4))
+child_poles : (pole : Pole) → slice_get child_nets (on pole (row_on 0 2 1 3)) ≡ Some (on pole (row_on 0 2 1 3))
 child_poles Source = refl
 child_poles Gate = refl
 child_poles Drain = refl
@@ -240,7 +215,7 @@ parent_poles Gate = refl
 parent_poles Drain = refl
 parent_poles Bulk = refl
 
-child_row : IsRow child_nets (row_on 0 2 1 4) (row_on 0 2 1 3)
+child_row : IsRow child_nets (row_on 0 2 1 3) (row_on 0 2 1 3)
 child_row = record { class = refl; length = refl; width = refl; each = child_poles }
 
 parent_row : IsRow parent_nets (row_on 0 1 3 5) (row_on 0 1 2 3)
@@ -248,14 +223,14 @@ parent_row = record { class = refl; length = refl; width = refl; each = parent_p
 
 child_right : IsCircuitOf gate_design gate_tables gate_plan gate_netlist 0 child_circuit
 child_right =
-    let spot : (a x : ℕ) → slice_get child_nets a ≡ Some x → a ≡ child_spot x = each_at (λ a x. a ≡ child_spot x) child_nets (refl, (refl, (refl, (refl, tt)))) in
+    let spot : (a x : ℕ) → slice_get child_nets a ≡ Some x → a ≡ x = each_at (λ a x. a ≡ x) child_nets (refl, (refl, (refl, (refl, tt)))) in
     record {
       nets_apart = λ a b x e f. spot a x e ∙ sym (spot b x f);
       nets_each = each_at (λ a x. IsDrawn gate_plan 0 x) child_nets (refl, (refl, (refl, (refl, tt))));
       nets_found = child_found;
-      pins_each = each_at (λ i a. (x : ℕ) × (slice_get child_nets a ≡ Some x) × IsPinNet gate_plan 0 x) child_circuit.pins ((1, refl, refl), ((4, refl, refl), tt));
+      pins_each = each_at (λ i a. (x : ℕ) × (slice_get child_nets a ≡ Some x) × IsPinNet gate_plan 0 x) child_circuit.pins ((1, refl, refl), ((3, refl, refl), tt));
       pins_found = each_at (λ a x. IsPinNet gate_plan 0 x → (i : ℕ) × (slice_get child_circuit.pins i ≡ Some a)) child_nets ((λ h. not_true h), ((λ h. (0, refl)), ((λ h. not_true h), ((λ h. (1, refl)), tt))));
-      rows_each = each_at (λ i row. (own : DeviceRow) × (slice_get (drawing_of 0).rows i ≡ Some own) × IsRow child_nets own row) child_circuit.devices ((row_on 0 2 1 4, refl, child_row), tt);
+      rows_each = each_at (λ i row. (own : DeviceRow) × (slice_get (drawing_of 0).rows i ≡ Some own) × IsRow child_nets own row) child_circuit.devices ((row_on 0 2 1 3, refl, child_row), tt);
       rows_found = each_at (λ i own. (row : DeviceRow) × (slice_get child_circuit.devices i ≡ Some row) × IsRow child_nets own row) (drawing_of 0).rows ((row_on 0 2 1 3, refl, child_row), tt);
       calls_apart = λ a b k e f. none_some k e;
       calls_each = λ a row e. none_some row e;
@@ -274,7 +249,7 @@ call_each : (i inner u : ℕ) → slice_get child_circuit.pins i ≡ Some inner 
 call_each i inner u e f =
     each_at (λ j a. (v : ℕ) → slice_get child_nets a ≡ Some v → ComesOut j v) child_circuit.pins (
       (λ v g. subst (ComesOut 0) (same_Some _ _ g) (2, 3, refl, refl, (3, record { listed = refl; numbered = refl }))),
-      ((λ v g. subst (ComesOut 1) (same_Some _ _ g) (3, 5, refl, refl, (6, record { listed = refl; numbered = refl }))), tt),
+      ((λ v g. subst (ComesOut 1) (same_Some _ _ g) (3, 5, refl, refl, (5, record { listed = refl; numbered = refl }))), tt),
     ) i inner e u f
 
 call_right : IsCallOf gate_design gate_tables gate_plan gate_netlist 1 0 mirrored call

@@ -1,6 +1,7 @@
 -- The netlist of the design with transistors, written out.
 use Rattle.std.proofs.Common.{◌≡◌, ◌⊎◌, ◌↔◌, inl, inr, ℕ, zero, suc, List, [], ◌∷◌, Option, Some, None, slice_get, refl, sym, ◌∙◌, ap, subst, arith}
 use Rattle.std.proofs.lemmas.Option.{same_Some}
+use Rattle.geo_base.specs.declared.shapes.Square.{Square}
 use Rattle.flat_laws.proofs.Climb.{climbing}
 use Rattle.flat_laws.proofs.Flat.{flat_regions}
 use Rattle.flat_laws.proofs.OneNet.{regions}
@@ -8,9 +9,10 @@ use Rattle.flat_layout.specs.Circuits.{Climbs, Shows}
 use Rattle.flat_layout.specs.Gates.{IsListed}
 use Rattle.flat_layout.specs.Nets.{Own, Child, Global, NetHolds}
 use Rattle.flat_layout.specs.Regions.{Node, At, Ground, IsNode, InOneRegion, kept, flat}
-use Rattle.flat_sample.proofs.Columns.{only_at, placed_here, moved_column, top_reached, flat_column, column_flat, column_above, IsFlatColumn}
+use Rattle.flat_sample.proofs.Columns.{only_at, placed_here, moved_column, top_reached, poly_at, parent_poly, poly_above}
 use Rattle.flat_sample.proofs.Planned.{planned}
 use Rattle.flat_sample.proofs.Right.{none_some}
+use Rattle.flat_sample.proofs.Sides.{top_sides, across_left, across_right, last_side, top_kept}
 use Rattle.flat_sample.proofs.Wires.{node_of, shows, net_at, one_node, wired, net_node, net_has}
 use Rattle.flat_sample.specs.Expansion.{IsAcrossDevice, IsChildDevice, node_at, top_net, flat_nodes}
 use Rattle.flat_sample.specs.Sample.{sample_height}
@@ -66,7 +68,7 @@ across_ends : (pole : Pole) → Ends [] (on pole (row_on 0 1 2 3))
 across_ends Source = record { node = Some 0; is = refl; there = refl; back = refl; climbs = refl; sees = (0, refl, net_has 1 0 0 (Own 0 0) (Some 0) (record { listed = refl; numbered = refl }) refl) }
 across_ends Gate = record { node = Some 1; is = refl; there = refl; back = refl; climbs = refl; sees = (1, refl, net_has 1 1 1 (Own 1 0) (Some 1) (record { listed = refl; numbered = refl }) refl) }
 across_ends Drain = record { node = Some 2; is = refl; there = refl; back = refl; climbs = refl; sees = (3, refl, net_has 1 3 3 (Child 0 1) (Some 2) (record { listed = refl; numbered = refl }) refl) }
-across_ends Bulk = record { node = None; is = refl; there = refl; back = refl; climbs = refl; sees = (5, refl, net_has 1 5 7 (Global 0) None (record { listed = refl; numbered = refl }) refl) }
+across_ends Bulk = record { node = None; is = refl; there = refl; back = refl; climbs = refl; sees = (5, refl, net_has 1 5 6 (Global 0) None (record { listed = refl; numbered = refl }) refl) }
 
 child_ends : (pole : Pole) → Ends (0 ∷ []) (on pole (row_on 0 2 1 3))
 child_ends Source = record {
@@ -98,8 +100,8 @@ child_ends Bulk = record {
   is = refl;
   there = refl;
   back = refl;
-  climbs = (0, mirrored, refl, placed_here, 4, refl, (6, record { listed = refl; numbered = refl }));
-  sees = (0, mirrored, refl, placed_here, Ground 0, (4, refl, net_has 0 4 4 (Global 0) None (record { listed = refl; numbered = refl }) refl), refl);
+  climbs = (0, mirrored, refl, placed_here, 3, refl, (5, record { listed = refl; numbered = refl }));
+  sees = (0, mirrored, refl, placed_here, Ground 0, (3, refl, net_has 0 3 3 (Global 0) None (record { listed = refl; numbered = refl }) refl), refl);
 }
 
 ends_of : (path : List ℕ) (net i : ℕ) (row : DeviceRow) (pole : Pole) → IsAcrossDevice path i row ⊎ IsChildDevice path i row → on pole row ≡ net → Ends path net
@@ -143,42 +145,37 @@ on_pin a h = (
 abbrev InTop : Node → Type 0
 InTop = IsNode gate_wiring (flat gate_design gate_wiring 1)
 
-side_listed : (x : ℕ) → IsFlatColumn 1 0 x → IsListed (At 0 (at x)) flat_nodes
-side_listed x (inl (inl e)) = inl (ap (λ k. At 0 (at k)) e)
-side_listed x (inl (inr n)) = absurd n
-side_listed x (inr (one, z, sum, inl e)) = let f : x ≡ 4 = omega arith in inr (inr (inr (inr (inl (ap (λ k. At 0 (at k)) f)))))
-side_listed x (inr (one, z, sum, inr (inl e))) = let f : x ≡ 2 = omega arith in inr (inr (inl (ap (λ k. At 0 (at k)) f)))
-side_listed x (inr (one, z, sum, inr (inr n))) = absurd n
+side_listed : (q : Square) → (q ≡ at 0) ⊎ ((q ≡ at 2) ⊎ (q ≡ at 4)) → IsListed (At 0 q) flat_nodes
+side_listed q (inl e) = inl (ap (At 0) e)
+side_listed q (inr (inl e)) = inr (inr (inl (ap (At 0) e)))
+side_listed q (inr (inr e)) = inr (inr (inr (inr (inl (ap (At 0) e)))))
 
-gate_listed : (x : ℕ) → IsFlatColumn 1 1 x → IsListed (At 1 (at x)) flat_nodes
-gate_listed x (inl (inl e)) = inr (inl (ap (λ k. At 1 (at k)) e))
-gate_listed x (inl (inr n)) = absurd n
-gate_listed x (inr (one, z, sum, inl e)) = let f : x ≡ 3 = omega arith in inr (inr (inr (inl (ap (λ k. At 1 (at k)) f))))
-gate_listed x (inr (one, z, sum, inr (inl e))) = let f : x ≡ 1 = omega arith in inr (inl (ap (λ k. At 1 (at k)) f))
-gate_listed x (inr (one, z, sum, inr (inr n))) = absurd n
+gate_listed : (cell : ℕ) (q : Square) → (q ≡ at 1) ⊎ ((cell ≡ 1) × (q ≡ at 3)) → IsListed (At 1 q) flat_nodes
+gate_listed cell q (inl e) = inr (inl (ap (At 1) e))
+gate_listed cell q (inr (one, e)) = inr (inr (inr (inl (ap (At 1) e))))
 
 node_listed : (n : Node) → InTop n → IsListed n flat_nodes
-node_listed (At zero q) h = let s = flat_column 1 0 q (omega arith) h in subst (λ k. IsListed (At 0 k) flat_nodes) (sym s.2) (side_listed s.0 s.1)
-node_listed (At (suc zero) q) h = let s = flat_column 1 1 q (omega arith) h in subst (λ k. IsListed (At 1 k) flat_nodes) (sym s.2) (gate_listed s.0 s.1)
+node_listed (At zero q) h = side_listed q (top_sides q h)
+node_listed (At (suc zero) q) h = gate_listed 1 q (poly_at 1 q h)
 node_listed (At (suc (suc zero)) q) h = absurd h
 node_listed (At (suc (suc (suc c))) q) h = absurd h
 node_listed (Ground g) h = let z : g ≡ 0 = omega arith in inr (inr (inr (inr (inr (inl (ap Ground z))))))
 
 listed_node : (n : Node) → IsListed n flat_nodes → InTop n
-listed_node n (inl e) = subst InTop (sym e) (column_flat 1 0 0 (omega arith) (inl refl))
-listed_node n (inr (inl e)) = subst InTop (sym e) (column_flat 1 1 1 (omega arith) (inl refl))
-listed_node n (inr (inr (inl e))) = subst InTop (sym e) (column_above 0 2 2 (omega arith) refl (inr (inl refl)))
-listed_node n (inr (inr (inr (inl e)))) = subst InTop (sym e) (column_above 1 1 3 (omega arith) refl (inl refl))
-listed_node n (inr (inr (inr (inr (inl e))))) = subst InTop (sym e) (column_above 0 0 4 (omega arith) refl (inl refl))
+listed_node n (inl e) = subst InTop (sym e) across_left
+listed_node n (inr (inl e)) = subst InTop (sym e) parent_poly
+listed_node n (inr (inr (inl e))) = subst InTop (sym e) across_right
+listed_node n (inr (inr (inr (inl e)))) = subst InTop (sym e) poly_above
+listed_node n (inr (inr (inr (inr (inl e))))) = subst InTop (sym e) last_side
 listed_node n (inr (inr (inr (inr (inr (inl e)))))) = subst InTop (sym e) (omega arith)
 listed_node n (inr (inr (inr (inr (inr (inr k)))))) = absurd k
 
 pub nodes : (n : Node) → InTop n ↔ IsListed n flat_nodes
 nodes n = (node_listed n, listed_node n)
 
--- of input layers all is kept
+-- the top keeps all that is flat
 top_kept_node : (n : Node) → InTop n → IsNode gate_wiring (kept gate_design gate_wiring 1) n
-top_kept_node (At zero q) h = h
+top_kept_node (At zero q) h = top_kept q h
 top_kept_node (At (suc zero) q) h = h
 top_kept_node (At (suc (suc zero)) q) h = absurd h
 top_kept_node (At (suc (suc (suc c))) q) h = absurd h

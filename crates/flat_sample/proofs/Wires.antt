@@ -1,21 +1,20 @@
 -- The tables of nets of the design with transistors are right: each net holds one square, or the global.
-use Rattle.std.proofs.Common.{◌≡◌, ◌⊎◌, ◌↔◌, inl, inr, ℕ, zero, suc, ◌+◌, ◌<◌, ◌≤◌, List, [], ◌∷◌, Option, Some, None, slice_get, refl, sym, ◌∙◌, ap, subst, arith}
+use Rattle.std.proofs.Common.{◌≡◌, ◌↔◌, inl, inr, ℕ, zero, suc, ◌+◌, ◌<◌, ◌≤◌, List, [], ◌∷◌, Option, Some, None, slice_get, refl, sym, ◌∙◌, ap, subst, arith}
 use Rattle.std.proofs.lemmas.Int.{ints}
 use Rattle.std.proofs.lemmas.Option.{same_Some}
-use Rattle.geo_base.specs.declared.shapes.Rect.{Rect}
-use Rattle.geo_base.specs.declared.shapes.Square.{Square}
 use Rattle.flat_laws.proofs.Squares.{touch_same}
 use Rattle.flat_layout.specs.Gates.{IsListed}
-use Rattle.flat_layout.specs.Layers.{IsKept, IsLocal, IsBelow}
-use Rattle.flat_layout.specs.Layout.{Place, IsOwn}
+use Rattle.flat_layout.specs.Layers.{IsLocal}
+use Rattle.flat_layout.specs.Layout.{Place}
 use Rattle.flat_layout.specs.Nets.{Item, Own, Child, Global, IsOf, HoldsAt, ItemHolds, NetHolds, IsItem, IsItemLink, AreNets, AreOwn, AreTables}
 use Rattle.flat_layout.specs.Plane.{IsIn}
 use Rattle.flat_layout.specs.Regions.{Node, At, Ground, Touches, moved, reading}
-use Rattle.flat_sample.proofs.Columns.{no_place, one_place, lower_cell, placed_here, height, reached_two, moved_column, in_unit, unit_in, one_column, rect_column, column_rect, own_column, column_own}
+use Rattle.flat_sample.proofs.Columns.{no_place, one_place, lower_cell, placed_here, height, reached_two, moved_column, in_unit, unit_in, one_column, rect_column, column_rect}
 use Rattle.flat_sample.proofs.Listing.{each_at}
-use Rattle.flat_sample.proofs.Right.{none_some, input_parted}
+use Rattle.flat_sample.proofs.Right.{none_some}
+use Rattle.flat_sample.proofs.Sides.{local_held, held_local, kept_parted}
 use Rattle.flat_sample.specs.Sample.{sample_height}
-use Rattle.flat_sample.specs.Transistors.{key_of, at, unit_rect, columns, own_of, mirrored, gate_design, gate_wiring, nets_of, gate_tables}
+use Rattle.flat_sample.specs.Transistors.{at, unit_rect, own_of, mirrored, gate_design, gate_wiring, nets_of, gate_tables, held}
 use Rattle.plain_netlist.proofs.Links.{single}
 use Rattle.plain_netlist.specs.Chains.{Reaches, IsChain}
 
@@ -32,17 +31,16 @@ node_of (Some x) = At (parity x) (at x)
 
 -- of each net of a cell, what it holds
 abbrev pub shows : ℕ → List (Option ℕ)
-shows zero = Some 0 ∷ (Some 2 ∷ (Some 1 ∷ (Some 3 ∷ (None ∷ []))))
+shows zero = Some 0 ∷ (Some 2 ∷ (Some 1 ∷ (None ∷ [])))
 shows (suc zero) = Some 0 ∷ (Some 1 ∷ (Some 4 ∷ (Some 2 ∷ (Some 3 ∷ (None ∷ [])))))
 shows (suc (suc n)) = []
 
 -- and the net of each
 abbrev pub net_at : ℕ → Option ℕ → ℕ
-net_at zero None = 4
+net_at zero None = 3
 net_at zero (Some zero) = 0
 net_at zero (Some (suc zero)) = 2
-net_at zero (Some (suc (suc zero))) = 1
-net_at zero (Some (suc (suc (suc x)))) = 3
+net_at zero (Some (suc (suc x))) = 1
 net_at (suc n) None = 5
 net_at (suc n) (Some zero) = 0
 net_at (suc n) (Some (suc zero)) = 1
@@ -79,14 +77,13 @@ low_shown : (net i : ℕ) (a : Item) → IsOf (nets_of 0) net i a → Shown 0 ne
 low_shown net zero a h = fit 0 0 net (Own 0 0) a (record { node = Some 0; item = (omega arith, omega arith); holds = own_holds 0 0 0 0 refl; there = refl; back = refl }) h.listed h.numbered
 low_shown net (suc zero) a h = fit 0 1 net (Own 0 1) a (record { node = Some 2; item = (omega arith, omega arith); holds = own_holds 0 0 1 2 refl; there = refl; back = refl }) h.listed h.numbered
 low_shown net (suc (suc zero)) a h = fit 0 2 net (Own 1 0) a (record { node = Some 1; item = (omega arith, omega arith); holds = own_holds 0 1 0 1 refl; there = refl; back = refl }) h.listed h.numbered
-low_shown net (suc (suc (suc zero))) a h = fit 0 3 net (Own 1 1) a (record { node = Some 3; item = (omega arith, omega arith); holds = own_holds 0 1 1 3 refl; there = refl; back = refl }) h.listed h.numbered
-low_shown net (suc (suc (suc (suc zero)))) a h = fit 0 4 net (Global 0) a (global_shown 0 4 refl refl) h.listed h.numbered
-low_shown net (suc (suc (suc (suc (suc i))))) a h = none_some a h.listed
+low_shown net (suc (suc (suc zero))) a h = fit 0 3 net (Global 0) a (global_shown 0 3 refl refl) h.listed h.numbered
+low_shown net (suc (suc (suc (suc i)))) a h = none_some a h.listed
 
 child_holds : (b i c r x y : ℕ) → IsOf (nets_of 0) b i (Own c r) → slice_get (own_of 0 c) r ≡ Some (unit_rect x) → x + y ≡ 4 → H 1 (Child 0 b) (At c (at y))
 child_holds b i c r x y is e sum = record { depth = 1; holds = (mirrored, placed_here, i, Own c r, is, At c (at x), (at x, unit_rect x, e, unit_in x, refl), ap (At c) (moved_column mirrored x y refl sum)) }
 
-child_item : (b : ℕ) → b < 5 → I 1 (Child 0 b)
+child_item : (b : ℕ) → b < 4 → I 1 (Child 0 b)
 child_item b lt = (mirrored, placed_here, lt)
 
 top_shown : (net i : ℕ) (a : Item) → IsOf (nets_of 1) net i a → Shown 1 net a
@@ -95,10 +92,9 @@ top_shown net (suc zero) a h = fit 1 1 net (Own 1 0) a (record { node = Some 1; 
 top_shown net (suc (suc zero)) a h = fit 1 2 net (Child 0 0) a (record { node = Some 4; item = child_item 0 (omega arith); holds = child_holds 0 0 0 0 0 4 (record { listed = refl; numbered = refl }) refl refl; there = refl; back = refl }) h.listed h.numbered
 top_shown net (suc (suc (suc zero))) a h = fit 1 3 net (Child 0 1) a (record { node = Some 2; item = child_item 1 (omega arith); holds = child_holds 1 1 0 1 2 2 (record { listed = refl; numbered = refl }) refl refl; there = refl; back = refl }) h.listed h.numbered
 top_shown net (suc (suc (suc (suc zero)))) a h = fit 1 4 net (Child 0 2) a (record { node = Some 3; item = child_item 2 (omega arith); holds = child_holds 2 2 1 0 1 3 (record { listed = refl; numbered = refl }) refl refl; there = refl; back = refl }) h.listed h.numbered
-top_shown net (suc (suc (suc (suc (suc zero))))) a h = fit 1 1 net (Child 0 3) a (record { node = Some 1; item = child_item 3 (omega arith); holds = child_holds 3 3 1 1 3 1 (record { listed = refl; numbered = refl }) refl refl; there = refl; back = refl }) h.listed h.numbered
-top_shown net (suc (suc (suc (suc (suc (suc zero)))))) a h = fit 1 5 net (Child 0 4) a (record { node = None; item = child_item 4 (omega arith); holds = record { depth = 1; holds = (mirrored, placed_here, 4, Global 0, record { listed = refl; numbered = refl }, Ground 0, refl, refl) }; there = refl; back = refl }) h.listed h.numbered
-top_shown net (suc (suc (suc (suc (suc (suc (suc zero))))))) a h = fit 1 5 net (Global 0) a (global_shown 1 5 refl refl) h.listed h.numbered
-top_shown net (suc (suc (suc (suc (suc (suc (suc (suc i)))))))) a h = none_some a h.listed
+top_shown net (suc (suc (suc (suc (suc zero))))) a h = fit 1 5 net (Child 0 3) a (record { node = None; item = child_item 3 (omega arith); holds = record { depth = 1; holds = (mirrored, placed_here, 3, Global 0, record { listed = refl; numbered = refl }, Ground 0, refl, refl) }; there = refl; back = refl }) h.listed h.numbered
+top_shown net (suc (suc (suc (suc (suc (suc zero)))))) a h = fit 1 5 net (Global 0) a (global_shown 1 5 refl refl) h.listed h.numbered
+top_shown net (suc (suc (suc (suc (suc (suc (suc i))))))) a h = none_some a h.listed
 
 pub shown : (cell net i : ℕ) (a : Item) → IsOf (nets_of cell) net i a → Shown cell net a
 shown zero net i a h = low_shown net i a h
@@ -115,13 +111,12 @@ parity_step zero e = absurd (omega arith)
 parity_step (suc zero) e = absurd (omega arith)
 parity_step (suc (suc n)) e = parity_step n e
 
-column_parity : (cell c x : ℕ) → IsListed x (columns cell c) → c ≡ parity x
+column_parity : (cell c x : ℕ) → IsListed x (held cell c) → c ≡ parity x
 column_parity zero zero x (inl e) = ap parity (sym e)
 column_parity zero zero x (inr (inl e)) = ap parity (sym e)
 column_parity zero zero x (inr (inr n)) = absurd n
 column_parity zero (suc zero) x (inl e) = ap parity (sym e)
-column_parity zero (suc zero) x (inr (inl e)) = ap parity (sym e)
-column_parity zero (suc zero) x (inr (inr n)) = absurd n
+column_parity zero (suc zero) x (inr n) = absurd n
 column_parity zero (suc (suc c)) x h = absurd h
 column_parity (suc zero) zero x (inl e) = ap parity (sym e)
 column_parity (suc zero) zero x (inr n) = absurd n
@@ -170,7 +165,7 @@ one_of cell (Global g) s u h k = h ∙ sym k
 
 seen_own : (cell c r : ℕ) (n : Node) → HoldsAt gate_design gate_tables 0 cell (Own c r) n → Seen cell (Own c r) n
 seen_own cell c r n (q, rect, e, i, f) =
-    let s = rect_column (columns cell c) r rect e in
+    let s = rect_column (held cell c) r rect e in
     let g : q ≡ at s.0 = in_unit q s.0 (subst (λ k. IsIn q k) s.2 i) in
     record {
       node = Some s.0;
@@ -191,7 +186,7 @@ seen_low (suc depth) (Global g) n item h = absurd h
 
 -- what the child's nets hold, seen in the parent
 lifted : (b : ℕ) (u : Option ℕ) → slice_get (shows 0) b ≡ Some u → (s : Option ℕ) × (moved mirrored.motion (node_of u) ≡ node_of s)
-lifted = each_at (λ b u. (s : Option ℕ) × (moved mirrored.motion (node_of u) ≡ node_of s)) (shows 0) ((Some 4, refl), ((Some 2, refl), ((Some 3, refl), ((Some 1, refl), ((None, refl), tt)))))
+lifted = each_at (λ b u. (s : Option ℕ) × (moved mirrored.motion (node_of u) ≡ node_of s)) (shows 0) ((Some 4, refl), ((Some 2, refl), ((Some 3, refl), ((None, refl), tt))))
 
 moved_as : (p : Place) (n : Node) → p ≡ mirrored → moved p.motion n ≡ moved mirrored.motion n
 moved_as p n e = ap (λ (k : Place). moved k.motion n) e
@@ -236,26 +231,27 @@ way cell a b (x ∷ xs) s lt item (l, rest) h =
 abbrev IsLow : ℕ → ℕ → ℕ → Type 0
 IsLow n i x = (x ≤ i) × (x < n)
 
-low_nets : (i x : ℕ) → slice_get (nets_of 0).net_of i ≡ Some x → IsLow 5 i x
-low_nets = each_at (IsLow 5) (nets_of 0).net_of ((omega arith, omega arith), ((omega arith, omega arith), ((omega arith, omega arith), ((omega arith, omega arith), ((omega arith, omega arith), tt)))))
+low_nets : (i x : ℕ) → slice_get (nets_of 0).net_of i ≡ Some x → IsLow 4 i x
+low_nets = each_at (IsLow 4) (nets_of 0).net_of ((omega arith, omega arith), ((omega arith, omega arith), ((omega arith, omega arith), ((omega arith, omega arith), tt))))
 
 top_nets : (i x : ℕ) → slice_get (nets_of 1).net_of i ≡ Some x → IsLow 6 i x
-top_nets = each_at (IsLow 6) (nets_of 1).net_of ((omega arith, omega arith), ((omega arith, omega arith), ((omega arith, omega arith), ((omega arith, omega arith), ((omega arith, omega arith), ((omega arith, omega arith), ((omega arith, omega arith), ((omega arith, omega arith), tt))))))))
+top_nets = each_at (IsLow 6) (nets_of 1).net_of ((omega arith, omega arith), ((omega arith, omega arith), ((omega arith, omega arith), ((omega arith, omega arith), ((omega arith, omega arith), ((omega arith, omega arith), ((omega arith, omega arith), tt)))))))
 
-first_five : (cell x : ℕ) → cell < 2 → x < 5 → slice_get (nets_of cell).net_of x ≡ Some x
-first_five zero zero lt small = refl
-first_five zero (suc zero) lt small = refl
-first_five zero (suc (suc zero)) lt small = refl
-first_five zero (suc (suc (suc zero))) lt small = refl
-first_five zero (suc (suc (suc (suc zero)))) lt small = refl
-first_five zero (suc (suc (suc (suc (suc x))))) lt small = absurd (omega arith)
-first_five (suc zero) zero lt small = refl
-first_five (suc zero) (suc zero) lt small = refl
-first_five (suc zero) (suc (suc zero)) lt small = refl
-first_five (suc zero) (suc (suc (suc zero))) lt small = refl
-first_five (suc zero) (suc (suc (suc (suc zero)))) lt small = refl
-first_five (suc zero) (suc (suc (suc (suc (suc x))))) lt small = absurd (omega arith)
-first_five (suc (suc n)) x lt small = absurd (omega arith)
+low_first : (x : ℕ) → x < 4 → slice_get (nets_of 0).net_of x ≡ Some x
+low_first zero small = refl
+low_first (suc zero) small = refl
+low_first (suc (suc zero)) small = refl
+low_first (suc (suc (suc zero))) small = refl
+low_first (suc (suc (suc (suc x)))) small = absurd (omega arith)
+
+top_first : (x : ℕ) → x < 6 → slice_get (nets_of 1).net_of x ≡ Some x
+top_first zero small = refl
+top_first (suc zero) small = refl
+top_first (suc (suc zero)) small = refl
+top_first (suc (suc (suc zero))) small = refl
+top_first (suc (suc (suc (suc zero)))) small = refl
+top_first (suc (suc (suc (suc (suc zero))))) small = refl
+top_first (suc (suc (suc (suc (suc (suc x)))))) small = absurd (omega arith)
 
 joined : (cell : ℕ) → cell < 2 → (i j : ℕ) (a b : Item) (x y : ℕ) → IsOf (nets_of cell) x i a → IsOf (nets_of cell) y j b → (x ≡ y) ↔ Reaches (L cell) a b
 joined cell lt i j a b x y h g =
@@ -277,69 +273,35 @@ nets zero lt = record {
   numbers = refl;
   joined = joined 0 lt;
   below = λ i x e. (low_nets i x e).1;
-  used = λ x small. (x, first_five 0 x lt small);
-  earlier = λ i x y e less. let z = low_nets i x e in let a = z.0 in let b = z.1 in (y, (omega arith), first_five 0 y lt (omega arith));
+  used = λ x small. (x, low_first x small);
+  earlier = λ i x y e less. let z = low_nets i x e in let a = z.0 in let b = z.1 in (y, (omega arith), low_first y (omega arith));
 }
 nets (suc zero) lt = record {
   items = refl;
   numbers = refl;
   joined = joined 1 lt;
   below = λ i x e. (top_nets i x e).1;
-  used = λ x small. last x small;
-  earlier = λ i x y e less. let z = top_nets i x e in let a = z.0 in let b = z.1 in (y, (omega arith), first_five 1 y lt (omega arith));
+  used = λ x small. (x, top_first x small);
+  earlier = λ i x y e less. let z = top_nets i x e in let a = z.0 in let b = z.1 in (y, (omega arith), top_first y (omega arith));
 }
-  where
-    last : (x : ℕ) → x < 6 → (i : ℕ) × (slice_get (nets_of 1).net_of i ≡ Some x)
-    last zero small = (0, refl)
-    last (suc zero) small = (1, refl)
-    last (suc (suc zero)) small = (2, refl)
-    last (suc (suc (suc zero))) small = (3, refl)
-    last (suc (suc (suc (suc zero)))) small = (4, refl)
-    last (suc (suc (suc (suc (suc zero))))) small = (6, refl)
-    last (suc (suc (suc (suc (suc (suc x)))))) small = absurd (omega arith)
 nets (suc (suc n)) lt = absurd (omega arith)
 
 own_right : (cell c : ℕ) → cell < 2 → AreOwn gate_design gate_wiring gate_tables cell c
 own_right cell c lt = record {
-  local = local cell c lt;
-  found = found cell c;
-  filled = λ r rect e. let s = rect_column (columns cell c) r rect e in (at s.0, subst (λ k. IsIn (at s.0) k) (sym s.2) (unit_in s.0));
+  local = λ r rect q e i.
+      let s = rect_column (held cell c) r rect e in
+      subst (IsLocal gate_design cell (reading gate_wiring c)) (sym (in_unit q s.0 (subst (λ k. IsIn q k) s.2 i))) (held_local cell c s.0 s.1);
+  found = λ q h.
+      let s = local_held cell c q lt h in
+      let t = column_rect s.0 (held cell c) s.1 in
+      (t.0, unit_rect s.0, t.1, subst (λ k. IsIn k (unit_rect s.0)) (sym s.2) (unit_in s.0));
+  filled = λ r rect e. let s = rect_column (held cell c) r rect e in (at s.0, subst (λ k. IsIn (at s.0) k) (sym s.2) (unit_in s.0));
 }
-  where
-    put : (cell c r : ℕ) (rect : Rect) (q : Square) → c < 2 → slice_get (own_of cell c) r ≡ Some rect → IsIn q rect → IsOwn gate_design cell (key_of c) q
-    put cell c r rect q small e i =
-        let s = rect_column (columns cell c) r rect e in
-        subst (λ k. IsOwn gate_design cell (key_of c) k) (sym (in_unit q s.0 (subst (λ k. IsIn q k) s.2 i))) (column_own cell c s.0 small s.1)
-
-    local : (cell c : ℕ) → cell < 2 → (r : ℕ) (rect : Rect) (q : Square) → slice_get (own_of cell c) r ≡ Some rect → IsIn q rect → IsLocal gate_design cell (reading gate_wiring c) q
-    local cell zero lt r rect q e i = put cell 0 r rect q (omega arith) e i
-    local cell (suc zero) lt r rect q e i = put cell 1 r rect q (omega arith) e i
-    local zero (suc (suc c)) lt r rect q e i = none_some rect e
-    local (suc zero) (suc (suc c)) lt r rect q e i = none_some rect e
-    local (suc (suc n)) (suc (suc c)) lt r rect q e i = none_some rect e
-
-    take : (cell c : ℕ) (q : Square) → c < 2 → IsOwn gate_design cell (key_of c) q → (r : ℕ) × (rect : Rect) × (slice_get (own_of cell c) r ≡ Some rect) × IsIn q rect
-    take cell c q small h =
-        let s = own_column cell c q small h in
-        let t = column_rect s.0 (columns cell c) s.1 in
-        (t.0, unit_rect s.0, t.1, subst (λ k. IsIn k (unit_rect s.0)) (sym s.2) (unit_in s.0))
-
-    found : (cell c : ℕ) (q : Square) → IsLocal gate_design cell (reading gate_wiring c) q → (r : ℕ) × (rect : Rect) × (slice_get (own_of cell c) r ≡ Some rect) × IsIn q rect
-    found cell zero q h = take cell 0 q (omega arith) h
-    found cell (suc zero) q h = take cell 1 q (omega arith) h
-    found cell (suc (suc zero)) q h = absurd h
-    found cell (suc (suc (suc c))) q h = absurd h
-
-parted : (cell c : ℕ) (q : Square) → IsKept gate_design cell (reading gate_wiring c) q → IsLocal gate_design cell (reading gate_wiring c) q ⊎ IsBelow gate_design cell (reading gate_wiring c) q
-parted cell zero q h = input_parted gate_design cell (key_of 0) q h.square h.path h.end h.takes h.own
-parted cell (suc zero) q h = input_parted gate_design cell (key_of 1) q h.square h.path h.end h.takes h.own
-parted cell (suc (suc zero)) q h = absurd h
-parted cell (suc (suc (suc c))) q h = absurd h
 
 pub wired : AreTables gate_design gate_wiring gate_tables sample_height
 wired = record {
   lower = height;
-  parted = λ cell c q reached h. parted cell c q h;
+  parted = λ cell c q reached h. kept_parted cell c q (reached_two cell reached) h;
   own = λ cell c reached. own_right cell c (reached_two cell reached);
   nets = λ cell reached. nets cell (reached_two cell reached);
 }

@@ -19,11 +19,11 @@ IsGood cell source gate drain = IsForm gate_design gate_wiring rule cell (at gat
 abbrev pub IsPart : ℕ → Square → Type 0
 IsPart c q = (s : Square) × IsOwn gate_design 0 (key_of c) s × (moved_square mirrored.motion s ≡ q)
 
--- both cells draw the gate, the parent its source, the child its drain
+-- the parent draws the poly over the gate and the active of the source, the child the active of gate and drain
 pub record IsAcross (source gate drain : ℕ) : Type 0 where
-  pub parent_source : IsOwn gate_design 1 (key_of 0) (at source)
-  pub parent_gate : IsOwn gate_design 1 (key_of 1) (at gate)
-  pub child_gate : IsPart 1 (at gate)
+  pub parent_poly : IsOwn gate_design 1 (key_of 1) (at gate)
+  pub parent_active : IsOwn gate_design 1 (key_of 0) (at source)
+  pub child_active : IsPart 0 (at gate)
   pub child_drain : IsPart 0 (at drain)
 
 -- the transistor across both stands in the top's circuit

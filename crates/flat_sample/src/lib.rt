@@ -6,12 +6,13 @@ ghost use Rattle.geo_base.specs.declared.shapes.Square.{Square};
 ghost use Rattle.flat_layout.specs.Circuits.{Climbs, Shows};
 ghost use Rattle.flat_layout.specs.Expanded.{AreExtracted, IsExpanded, IsFlatNetlist};
 ghost use Rattle.flat_layout.specs.Gates.{IsGateOf, IsFound, InGate, IsListed, IsSettled};
+ghost use Rattle.flat_layout.specs.Layers.{InFlat, IsKept};
 ghost use Rattle.flat_layout.specs.Layout.{IsReached};
 ghost use Rattle.flat_layout.specs.Nets.{AreTables, AreRegions};
 ghost use Rattle.flat_layout.specs.Regions.{Node, Ground, InOneRegion, IsNode, flat};
 ghost use Rattle.flat_sample.specs.Expansion.{IsGood, IsAcross, IsAcrossDevice, IsChildDevice, node_at, top_net, flat_nodes};
 ghost use Rattle.flat_sample.specs.Sample.{sample_design, sample_wiring, sample_tables, sample_plan, sample_netlist, sample_rules, sample_height};
-ghost use Rattle.flat_sample.specs.Transistors.{at, gate_design, gate_wiring, gate_tables, gate_plan, gate_netlist, gate_rules, rule};
+ghost use Rattle.flat_sample.specs.Transistors.{at, sides, gate_design, gate_wiring, gate_tables, gate_plan, gate_netlist, gate_rules, rule};
 ghost use Rattle.plain_netlist.specs.Netlist.{DeviceRow, Slot, InOneNet, HasDevice, IsTerminal, IsOnPin};
 
 /// A child and a parent whose rectangles overlap: their tables are right, and their nets the regions of what they keep.
@@ -26,9 +27,11 @@ pub fn sample_circuits()
     ensures netlist { IsFlatNetlist sample_design sample_wiring sample_tables sample_plan sample_netlist sample_rules 0 }
 {}
 
-/// A child with a transistor, placed mirrored in a parent with one across both, whose gate both draw: each is good and stands in its cell's list alone.
+/// A child with a transistor, placed mirrored in a parent whose poly crosses the child's active: a transistor across both.
+/// The child doesn't keep what lies under that poly, each gate is good, and each stands in its cell's list alone.
 pub fn sample_gates()
     ensures drawn { IsAcross 0 1 2 }
+    ensures crossed { InFlat gate_design 0 sides (at 3) × (IsKept gate_design 0 sides (at 3) → ⊥) }
     ensures child { (s : Square) → IsGateOf gate_design gate_wiring rule 0 s ↔ (s ≡ at 1) }
     ensures across { (s : Square) → IsGateOf gate_design gate_wiring rule 1 s ↔ (s ≡ at 1) }
     ensures child_good { IsGood 0 0 1 2 }
