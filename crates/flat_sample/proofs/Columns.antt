@@ -11,27 +11,27 @@ use Rattle.flat_layout.specs.Layout.{Place, Layer, Cell, Some_of, IsOwn, IsPlace
 use Rattle.flat_layout.specs.Plane.{IsIn}
 use Rattle.flat_sample.proofs.Right.{none_some}
 use Rattle.flat_sample.specs.Sample.{sample_height}
-use Rattle.flat_sample.specs.Transistors.{key_of, at, unit_rect, columns, rects_of, layers_of, child, mirrored, parent, gate_design}
+use Rattle.flat_sample.specs.Transistors.{key_of, at, unit_rect, columns, rects_of, layers_of, child, mirror_place, parent, gate_design}
 
 pub only_at : {A : Type 0} (x y : A) (k : ℕ) → slice_get (x ∷ []) k ≡ Some y → (k ≡ 0) × (y ≡ x)
 only_at x y zero e = (refl, (let f : y ≡ x = cc in f))
 only_at x y (suc k) e = none_some y e
 
-pub one_place : (cell k : ℕ) (p : Place) → IsPlaced gate_design cell k p → (cell ≡ 1) × (k ≡ 0) × (p ≡ mirrored)
+pub one_place : (cell k : ℕ) (p : Place) → IsPlaced gate_design cell k p → (cell ≡ 1) × (k ≡ 0) × (p ≡ mirror_place)
 one_place zero k p (c, e, f) =
     let g : child ≡ c = cc in
     let h : slice_get child.places k ≡ Some p = subst (λ (x : Cell). slice_get x.places k ≡ Some p) (sym g) f in none_some p h
 one_place (suc zero) k p (c, e, f) =
     let g : parent ≡ c = cc in
     let h : slice_get parent.places k ≡ Some p = subst (λ (x : Cell). slice_get x.places k ≡ Some p) (sym g) f in
-    let r = only_at mirrored p k h in (refl, r.0, r.1)
+    let r = only_at mirror_place p k h in (refl, r.0, r.1)
 one_place (suc (suc n)) k p (c, e, f) = none_some c e
 
 -- the placed cell is the child
 pub lower_cell : (cell k : ℕ) (p : Place) → IsPlaced gate_design cell k p → p.cell ≡ 0
 lower_cell cell k p placed = ap (λ (x : Place). x.cell) (one_place cell k p placed).2
 
-pub placed_here : IsPlaced gate_design 1 0 mirrored
+pub placed_here : IsPlaced gate_design 1 0 mirror_place
 placed_here = (parent, refl, refl)
 
 pub no_place : (cell k : ℕ) (p : Place) → cell ≡ 0 → IsPlaced gate_design cell k p → ⊥
@@ -52,8 +52,8 @@ pub reached_two : (cell : ℕ) → IsReached gate_design cell → cell < 2
 reached_two cell h = leads_two 1 cell h.path (omega arith) h.leads
 
 -- the placement takes column x to column y
-pub moved_column : (p : Place) (x y : ℕ) → p ≡ mirrored → x + y ≡ 4 → moved_square p.motion (at x) ≡ at y
-moved_column p x y e sum = subst (λ (k : Place). moved_square k.motion (at x) ≡ at y) (sym e) (same_square (moved_square mirrored.motion (at x)) (at y) (omega (arith, ints)) (omega (arith, ints)))
+pub moved_column : (p : Place) (x y : ℕ) → p ≡ mirror_place → x + y ≡ 4 → moved_square p.motion (at x) ≡ at y
+moved_column p x y e sum = subst (λ (k : Place). moved_square k.motion (at x) ≡ at y) (sym e) (same_square (moved_square mirror_place.motion (at x)) (at y) (omega (arith, ints)) (omega (arith, ints)))
 
 pub in_unit : (q : Square) (x : ℕ) → IsIn q (unit_rect x) → q ≡ at x
 in_unit q x (a, b, c, d) = same_square q (at x) (omega (arith, ints)) (omega (arith, ints))
@@ -150,7 +150,7 @@ pub column_flat : (cell c x : ℕ) → c < 2 → IsListed x (columns cell c) →
 column_flat cell c x lt h = record { path = []; end = cell; square = at x; takes = (refl, refl); own = column_own cell c x lt h }
 
 pub column_above : (c x y : ℕ) → c < 2 → x + y ≡ 4 → IsListed x (columns 0 c) → InFlatInput gate_design 1 (key_of c) (at y)
-column_above c x y lt sum h = record { path = 0 ∷ []; end = 0; square = at x; takes = (mirrored, placed_here, at x, (refl, refl), moved_column mirrored x y refl sum); own = column_own 0 c x lt h }
+column_above c x y lt sum h = record { path = 0 ∷ []; end = 0; square = at x; takes = (mirror_place, placed_here, at x, (refl, refl), moved_column mirror_place x y refl sum); own = column_own 0 c x lt h }
 
 poly_listed : (cell x : ℕ) → IsListed x (columns cell 1) → x ≡ 1
 poly_listed zero x (inl e) = e

@@ -11,7 +11,7 @@ use Rattle.flat_sample.proofs.Columns.{one_place, lower_cell, placed_here, no_pl
 use Rattle.flat_sample.proofs.Lone.{InG, gate_is, gate_self}
 use Rattle.flat_sample.proofs.Sides.{gates_odd, child_gate, across_gate, disturbed_near}
 use Rattle.flat_sample.specs.Sample.{sample_height}
-use Rattle.flat_sample.specs.Transistors.{at, mirrored, gate_design, gate_wiring, rule}
+use Rattle.flat_sample.specs.Transistors.{at, mirror_place, gate_design, gate_wiring, rule}
 
 pub child_settled : IsSettled gate_design gate_wiring rule 0 (at 1)
 child_settled = record {
@@ -43,7 +43,7 @@ below_three s h =
 
 -- the child's gate, seen in the parent
 below : InG 1 (at 3) → IsGateBelow gate_design gate_wiring rule 1 (at 3)
-below g = record { number = 0; place = mirrored; square = at 1; placed = placed_here; settled = child_settled; image = gate_self 1 (at 3) (moved_square mirrored.motion (at 1)) g (sym (moved_column mirrored 1 3 refl refl)) }
+below g = record { number = 0; place = mirror_place; square = at 1; placed = placed_here; settled = child_settled; image = gate_self 1 (at 3) (moved_square mirror_place.motion (at 1)) g (sym (moved_column mirror_place 1 3 refl refl)) }
 
 pub child_gate_of : IsGateOf gate_design gate_wiring rule 0 (at 1)
 child_gate_of = record { settled = child_settled; new = none_below (at 1) }

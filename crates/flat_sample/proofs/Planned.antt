@@ -9,7 +9,7 @@ use Rattle.flat_sample.proofs.Columns.{only_at, one_place, lower_cell, placed_he
 use Rattle.flat_sample.proofs.Listing.{each_at}
 use Rattle.flat_sample.proofs.Right.{none_some}
 use Rattle.flat_sample.proofs.Wires.{node_of, net_at, net_node, net_has}
-use Rattle.flat_sample.specs.Transistors.{mirrored, gate_design, gate_wiring, nets_of, gate_tables, row_on, drawing_of, number_of, gate_plan, child_circuit, parent_circuit, gate_netlist}
+use Rattle.flat_sample.specs.Transistors.{mirror_place, gate_design, gate_wiring, nets_of, gate_tables, row_on, drawing_of, number_of, gate_plan, child_circuit, parent_circuit, gate_netlist}
 use Rattle.plain_netlist.specs.Netlist.{Pole, Source, Gate, Drain, Bulk, DeviceRow, on, CallRow, Circuit, IsCircuit}
 
 not_true : {B : Type 0} → Some false ≡ Some true → B
@@ -135,7 +135,7 @@ top_unused : (b : ℕ) → IsUsedAbove gate_design gate_tables gate_plan 1 b →
 top_unused b h = let low = lower_cell h.parent h.number h.place h.placed in let e = h.here in absurd (omega arith)
 
 used_side : IsUsedAbove gate_design gate_tables gate_plan 0 1
-used_side = record { parent = 1; number = 0; place = mirrored; net = 3; reached = top_reached; placed = placed_here; here = refl; is_of = (3, record { listed = refl; numbered = refl }); used = inr (inl (0, row_on 0 1 3 5, refl, Drain, refl)) }
+used_side = record { parent = 1; number = 0; place = mirror_place; net = 3; reached = top_reached; placed = placed_here; here = refl; is_of = (3, record { listed = refl; numbered = refl }); used = inr (inl (0, row_on 0 1 3 5, refl, Drain, refl)) }
 
 child_marked : IsMarkedNet gate_design gate_wiring gate_tables gate_plan 0 3
 child_marked = record { node = Ground 0; holds = net_has 0 3 3 (Global 0) None (record { listed = refl; numbered = refl }) refl; marked = tt }
@@ -252,7 +252,7 @@ call_each i inner u e f =
       ((λ v g. subst (ComesOut 1) (same_Some _ _ g) (3, 5, refl, refl, (5, record { listed = refl; numbered = refl }))), tt),
     ) i inner e u f
 
-call_right : IsCallOf gate_design gate_tables gate_plan gate_netlist 1 0 mirrored call
+call_right : IsCallOf gate_design gate_tables gate_plan gate_netlist 1 0 mirror_place call
 call_right = record {
   circuit = refl;
   each = λ called i inner u is e f. call_each i inner u (subst (λ (c : Circuit). slice_get c.pins i ≡ Some inner) (sym (same_Some _ _ is)) e) f;
@@ -271,7 +271,7 @@ parent_right =
       rows_found = each_at (λ i own. (row : DeviceRow) × (slice_get parent_circuit.devices i ≡ Some row) × IsRow parent_nets own row) (drawing_of 1).rows ((row_on 0 1 2 3, refl, parent_row), tt);
       calls_apart = λ a b k e f. (only_at 0 k a e).0 ∙ sym (only_at 0 k b f).0;
       calls_each = each_at (λ a row. (k : ℕ) × (p : Place) × (slice_get (drawing_of 1).calls a ≡ Some k) × IsPlaced gate_design 1 k p × IsCallOf gate_design gate_tables gate_plan gate_netlist 1 k p row) parent_circuit.calls (
-        (0, mirrored, refl, placed_here, call_right),
+        (0, mirror_place, refl, placed_here, call_right),
         tt,
       );
       calls_found = each_at (λ a k. (row : CallRow) × (slice_get parent_circuit.calls a ≡ Some row)) (drawing_of 1).calls ((call, refl), tt);

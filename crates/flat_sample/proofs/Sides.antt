@@ -13,7 +13,7 @@ use Rattle.flat_layout.specs.Regions.{reading}
 use Rattle.flat_sample.proofs.Columns.{one_place, lower_cell, placed_here, no_place, height, moved_column, one_column, some_column, own_column, column_own, IsFlatColumn, flat_column, column_flat, column_above, poly_at, no_poly, child_poly, parent_poly, poly_above}
 use Rattle.flat_sample.proofs.Right.{input_parted}
 use Rattle.flat_sample.specs.Sample.{sample_height}
-use Rattle.flat_sample.specs.Transistors.{key_of, at, columns, mirrored, parent, gate_design, sides, crossings, gate_wiring, held}
+use Rattle.flat_sample.specs.Transistors.{key_of, at, columns, mirror_place, parent, gate_design, sides, crossings, gate_wiring, held}
 
 -- the child's sides stand in columns 0, 2 and 3
 child_sides : (q : Square) → InFlat gate_design 0 sides q → (q ≡ at 0) ⊎ ((q ≡ at 2) ⊎ (q ≡ at 3))
@@ -88,7 +88,7 @@ own_near key q (c, e, h) = let g : c ≡ parent = cc in of_layers (subst (λ (k 
 -- the one way from the top to the child
 record IsDown (path : List ℕ) (q s : Square) : Type 0 where
   only : path ≡ 0 ∷ []
-  same : moved_square mirrored.motion q ≡ s
+  same : moved_square mirror_place.motion q ≡ s
 
 down : (path : List ℕ) (q s : Square) → Takes gate_design 1 path 0 q s → IsDown path q s
 down [] q s h = let e = h.0 in absurd (omega arith)
@@ -105,7 +105,7 @@ beside_own key path (k ∷ ks) end s q only apart (p, placed, r, rest, e) own =
     absurd (apart (subst (λ (j : List ℕ). IsPrefix j (k ∷ ks)) (sym only) (ks, ap (λ (j : ℕ). j ∷ ks) (sym one.1))))
 
 -- what is disturbed in the child comes to stand in column 0 or 1
-pub disturbed_near : (keys : List LayerKey) (q : Square) → IsDisturbed gate_design keys 0 q → (x : ℕ) × (x ≤ 1) × (moved_square mirrored.motion q ≡ at x)
+pub disturbed_near : (keys : List LayerKey) (q : Square) → IsDisturbed gate_design keys 0 q → (x : ℕ) × (x ≤ 1) × (moved_square mirror_place.motion q ≡ at x)
 disturbed_near keys q h =
     let way = down h.path q h.place h.takes in
     let own = beside_own h.key h.path h.other h.end h.square h.place way.only h.apart h.others h.own in
@@ -129,7 +129,7 @@ crossed = record {
   place = at 1;
   key = key_of 1;
   listed = inr (inl refl);
-  takes = (mirrored, placed_here, at 3, (refl, refl), moved_column mirrored 3 1 refl refl);
+  takes = (mirror_place, placed_here, at 3, (refl, refl), moved_column mirror_place 3 1 refl refl);
   others = (refl, refl);
   own = column_own 1 1 1 (omega arith) (inl refl);
   apart = λ x. let e = x.1 in let z : ⊥ = cc in z;
@@ -168,10 +168,10 @@ below_far q h =
     ]
 
 below_last : IsBelow gate_design 1 sides (at 4)
-below_last = record { number = 0; place = mirrored; square = at 0; placed = placed_here; kept = kept_left; image = moved_column mirrored 0 4 refl refl }
+below_last = record { number = 0; place = mirror_place; square = at 0; placed = placed_here; kept = kept_left; image = moved_column mirror_place 0 4 refl refl }
 
 below_middle : IsBelow gate_design 1 sides (at 2)
-below_middle = record { number = 0; place = mirrored; square = at 2; placed = placed_here; kept = kept_right; image = moved_column mirrored 2 2 refl refl }
+below_middle = record { number = 0; place = mirror_place; square = at 2; placed = placed_here; kept = kept_right; image = moved_column mirror_place 2 2 refl refl }
 
 first_local : IsLocal gate_design 1 sides (at 0)
 first_local = (top_kept (at 0) across_left, λ h. elim (below_far (at 0) h) [ inl e ↦ (let f = one_column 0 4 e in absurd (omega arith)) | inr e ↦ (let f = one_column 0 2 e in absurd (omega arith)) ])

@@ -16,7 +16,7 @@ use Rattle.flat_sample.proofs.Sides.{top_sides, across_left, across_right, last_
 use Rattle.flat_sample.proofs.Wires.{node_of, shows, net_at, one_node, wired, net_node, net_has}
 use Rattle.flat_sample.specs.Expansion.{IsAcrossDevice, IsChildDevice, node_at, top_net, flat_nodes}
 use Rattle.flat_sample.specs.Sample.{sample_height}
-use Rattle.flat_sample.specs.Transistors.{mirrored, at, gate_design, gate_wiring, gate_tables, row_on, gate_plan, child_circuit, parent_circuit, gate_netlist}
+use Rattle.flat_sample.specs.Transistors.{mirror_place, at, gate_design, gate_wiring, gate_tables, row_on, gate_plan, child_circuit, parent_circuit, gate_netlist}
 use Rattle.plain_netlist.specs.Netlist.{Pole, Source, Gate, Drain, Bulk, DeviceRow, on, CallRow, Circuit, IsCall, IsDevice, IsPin, Slot, slot, InOneNet, HasDevice, IsTerminal, IsOnPin}
 
 child_device : (i : ℕ) (row : DeviceRow) → IsDevice gate_netlist 0 i row → (i ≡ 0) × (row ≡ row_on 0 2 1 3)
@@ -76,32 +76,32 @@ child_ends Source = record {
   is = refl;
   there = refl;
   back = refl;
-  climbs = (0, mirrored, refl, placed_here, 0, refl, (2, record { listed = refl; numbered = refl }));
-  sees = (0, mirrored, refl, placed_here, At 0 (at 0), (0, refl, net_has 0 0 0 (Own 0 0) (Some 0) (record { listed = refl; numbered = refl }) refl), ap (At 0) (moved_column mirrored 0 4 refl refl));
+  climbs = (0, mirror_place, refl, placed_here, 0, refl, (2, record { listed = refl; numbered = refl }));
+  sees = (0, mirror_place, refl, placed_here, At 0 (at 0), (0, refl, net_has 0 0 0 (Own 0 0) (Some 0) (record { listed = refl; numbered = refl }) refl), ap (At 0) (moved_column mirror_place 0 4 refl refl));
 }
 child_ends Gate = record {
   node = Some 3;
   is = refl;
   there = refl;
   back = refl;
-  climbs = (0, mirrored, refl, placed_here, 2, refl, (4, record { listed = refl; numbered = refl }));
-  sees = (0, mirrored, refl, placed_here, At 1 (at 1), (2, refl, net_has 0 2 2 (Own 1 0) (Some 1) (record { listed = refl; numbered = refl }) refl), ap (At 1) (moved_column mirrored 1 3 refl refl));
+  climbs = (0, mirror_place, refl, placed_here, 2, refl, (4, record { listed = refl; numbered = refl }));
+  sees = (0, mirror_place, refl, placed_here, At 1 (at 1), (2, refl, net_has 0 2 2 (Own 1 0) (Some 1) (record { listed = refl; numbered = refl }) refl), ap (At 1) (moved_column mirror_place 1 3 refl refl));
 }
 child_ends Drain = record {
   node = Some 2;
   is = refl;
   there = refl;
   back = refl;
-  climbs = (0, mirrored, refl, placed_here, 1, refl, (3, record { listed = refl; numbered = refl }));
-  sees = (0, mirrored, refl, placed_here, At 0 (at 2), (1, refl, net_has 0 1 1 (Own 0 1) (Some 2) (record { listed = refl; numbered = refl }) refl), ap (At 0) (moved_column mirrored 2 2 refl refl));
+  climbs = (0, mirror_place, refl, placed_here, 1, refl, (3, record { listed = refl; numbered = refl }));
+  sees = (0, mirror_place, refl, placed_here, At 0 (at 2), (1, refl, net_has 0 1 1 (Own 0 1) (Some 2) (record { listed = refl; numbered = refl }) refl), ap (At 0) (moved_column mirror_place 2 2 refl refl));
 }
 child_ends Bulk = record {
   node = None;
   is = refl;
   there = refl;
   back = refl;
-  climbs = (0, mirrored, refl, placed_here, 3, refl, (5, record { listed = refl; numbered = refl }));
-  sees = (0, mirrored, refl, placed_here, Ground 0, (3, refl, net_has 0 3 3 (Global 0) None (record { listed = refl; numbered = refl }) refl), refl);
+  climbs = (0, mirror_place, refl, placed_here, 3, refl, (5, record { listed = refl; numbered = refl }));
+  sees = (0, mirror_place, refl, placed_here, Ground 0, (3, refl, net_has 0 3 3 (Global 0) None (record { listed = refl; numbered = refl }) refl), refl);
 }
 
 ends_of : (path : List ℕ) (net i : ℕ) (row : DeviceRow) (pole : Pole) → IsAcrossDevice path i row ⊎ IsChildDevice path i row → on pole row ≡ net → Ends path net

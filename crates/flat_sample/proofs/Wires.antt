@@ -14,7 +14,7 @@ use Rattle.flat_sample.proofs.Listing.{each_at}
 use Rattle.flat_sample.proofs.Right.{none_some}
 use Rattle.flat_sample.proofs.Sides.{local_held, held_local, kept_parted}
 use Rattle.flat_sample.specs.Sample.{sample_height}
-use Rattle.flat_sample.specs.Transistors.{at, unit_rect, own_of, mirrored, gate_design, gate_wiring, nets_of, gate_tables, held}
+use Rattle.flat_sample.specs.Transistors.{at, unit_rect, own_of, mirror_place, gate_design, gate_wiring, nets_of, gate_tables, held}
 use Rattle.plain_netlist.proofs.Links.{single}
 use Rattle.plain_netlist.specs.Chains.{Reaches, IsChain}
 
@@ -81,10 +81,10 @@ low_shown net (suc (suc (suc zero))) a h = fit 0 3 net (Global 0) a (global_show
 low_shown net (suc (suc (suc (suc i)))) a h = none_some a h.listed
 
 child_holds : (b i c r x y : ℕ) → IsOf (nets_of 0) b i (Own c r) → slice_get (own_of 0 c) r ≡ Some (unit_rect x) → x + y ≡ 4 → H 1 (Child 0 b) (At c (at y))
-child_holds b i c r x y is e sum = record { depth = 1; holds = (mirrored, placed_here, i, Own c r, is, At c (at x), (at x, unit_rect x, e, unit_in x, refl), ap (At c) (moved_column mirrored x y refl sum)) }
+child_holds b i c r x y is e sum = record { depth = 1; holds = (mirror_place, placed_here, i, Own c r, is, At c (at x), (at x, unit_rect x, e, unit_in x, refl), ap (At c) (moved_column mirror_place x y refl sum)) }
 
 child_item : (b : ℕ) → b < 4 → I 1 (Child 0 b)
-child_item b lt = (mirrored, placed_here, lt)
+child_item b lt = (mirror_place, placed_here, lt)
 
 top_shown : (net i : ℕ) (a : Item) → IsOf (nets_of 1) net i a → Shown 1 net a
 top_shown net zero a h = fit 1 0 net (Own 0 0) a (record { node = Some 0; item = (omega arith, omega arith); holds = own_holds 1 0 0 0 refl; there = refl; back = refl }) h.listed h.numbered
@@ -92,7 +92,7 @@ top_shown net (suc zero) a h = fit 1 1 net (Own 1 0) a (record { node = Some 1; 
 top_shown net (suc (suc zero)) a h = fit 1 2 net (Child 0 0) a (record { node = Some 4; item = child_item 0 (omega arith); holds = child_holds 0 0 0 0 0 4 (record { listed = refl; numbered = refl }) refl refl; there = refl; back = refl }) h.listed h.numbered
 top_shown net (suc (suc (suc zero))) a h = fit 1 3 net (Child 0 1) a (record { node = Some 2; item = child_item 1 (omega arith); holds = child_holds 1 1 0 1 2 2 (record { listed = refl; numbered = refl }) refl refl; there = refl; back = refl }) h.listed h.numbered
 top_shown net (suc (suc (suc (suc zero)))) a h = fit 1 4 net (Child 0 2) a (record { node = Some 3; item = child_item 2 (omega arith); holds = child_holds 2 2 1 0 1 3 (record { listed = refl; numbered = refl }) refl refl; there = refl; back = refl }) h.listed h.numbered
-top_shown net (suc (suc (suc (suc (suc zero))))) a h = fit 1 5 net (Child 0 3) a (record { node = None; item = child_item 3 (omega arith); holds = record { depth = 1; holds = (mirrored, placed_here, 3, Global 0, record { listed = refl; numbered = refl }, Ground 0, refl, refl) }; there = refl; back = refl }) h.listed h.numbered
+top_shown net (suc (suc (suc (suc (suc zero))))) a h = fit 1 5 net (Child 0 3) a (record { node = None; item = child_item 3 (omega arith); holds = record { depth = 1; holds = (mirror_place, placed_here, 3, Global 0, record { listed = refl; numbered = refl }, Ground 0, refl, refl) }; there = refl; back = refl }) h.listed h.numbered
 top_shown net (suc (suc (suc (suc (suc (suc zero)))))) a h = fit 1 5 net (Global 0) a (global_shown 1 5 refl refl) h.listed h.numbered
 top_shown net (suc (suc (suc (suc (suc (suc (suc i))))))) a h = none_some a h.listed
 
@@ -147,7 +147,7 @@ one_node s u e = touching s u (subst (λ k. Touches gate_wiring (node_of s) k) e
 -- what an item holds
 abbrev pub NodeIs : ℕ → Item → Option ℕ → Type 0
 NodeIs cell (Own c r) s = (x : ℕ) × (slice_get (own_of cell c) r ≡ Some (unit_rect x)) × (s ≡ Some x)
-NodeIs cell (Child k b) s = (u : Option ℕ) × (slice_get (shows 0) b ≡ Some u) × (moved mirrored.motion (node_of u) ≡ node_of s)
+NodeIs cell (Child k b) s = (u : Option ℕ) × (slice_get (shows 0) b ≡ Some u) × (moved mirror_place.motion (node_of u) ≡ node_of s)
 NodeIs cell (Global g) s = s ≡ None
 
 pub record Seen (cell : ℕ) (a : Item) (n : Node) : Type 0 where
@@ -160,7 +160,7 @@ unit_column x y e = one_column x y (in_unit (at x) y (subst (λ k. IsIn (at x) k
 
 one_of : (cell : ℕ) (a : Item) (s u : Option ℕ) → NodeIs cell a s → NodeIs cell a u → s ≡ u
 one_of cell (Own c r) s u h g = h.2 ∙ ap Some (unit_column h.0 g.0 (same_Some _ _ (sym h.1 ∙ g.1))) ∙ sym g.2
-one_of cell (Child k b) s u h g = one_node s u (sym h.2 ∙ ap (λ j. moved mirrored.motion (node_of j)) (same_Some _ _ (sym h.1 ∙ g.1)) ∙ g.2)
+one_of cell (Child k b) s u h g = one_node s u (sym h.2 ∙ ap (λ j. moved mirror_place.motion (node_of j)) (same_Some _ _ (sym h.1 ∙ g.1)) ∙ g.2)
 one_of cell (Global g) s u h k = h ∙ sym k
 
 seen_own : (cell c r : ℕ) (n : Node) → HoldsAt gate_design gate_tables 0 cell (Own c r) n → Seen cell (Own c r) n
@@ -185,10 +185,10 @@ seen_low (suc depth) (Child k b) n item h = absurd (no_place 0 k h.0 refl h.1)
 seen_low (suc depth) (Global g) n item h = absurd h
 
 -- what the child's nets hold, seen in the parent
-lifted : (b : ℕ) (u : Option ℕ) → slice_get (shows 0) b ≡ Some u → (s : Option ℕ) × (moved mirrored.motion (node_of u) ≡ node_of s)
-lifted = each_at (λ b u. (s : Option ℕ) × (moved mirrored.motion (node_of u) ≡ node_of s)) (shows 0) ((Some 4, refl), ((Some 2, refl), ((Some 3, refl), ((None, refl), tt))))
+lifted : (b : ℕ) (u : Option ℕ) → slice_get (shows 0) b ≡ Some u → (s : Option ℕ) × (moved mirror_place.motion (node_of u) ≡ node_of s)
+lifted = each_at (λ b u. (s : Option ℕ) × (moved mirror_place.motion (node_of u) ≡ node_of s)) (shows 0) ((Some 4, refl), ((Some 2, refl), ((Some 3, refl), ((None, refl), tt))))
 
-moved_as : (p : Place) (n : Node) → p ≡ mirrored → moved p.motion n ≡ moved mirrored.motion n
+moved_as : (p : Place) (n : Node) → p ≡ mirror_place → moved p.motion n ≡ moved mirror_place.motion n
 moved_as p n e = ap (λ (k : Place). moved k.motion n) e
 
 seen_child : (depth k b : ℕ) (n : Node) → HoldsAt gate_design gate_tables (suc depth) 1 (Child k b) n → Seen 1 (Child k b) n

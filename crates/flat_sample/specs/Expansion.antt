@@ -5,7 +5,7 @@ use Rattle.geo_base.specs.declared.shapes.Square.{Square}
 use Rattle.flat_layout.specs.Gates.{Edge, IsForm}
 use Rattle.flat_layout.specs.Layout.{IsOwn}
 use Rattle.flat_layout.specs.Regions.{Node, At, Ground}
-use Rattle.flat_sample.specs.Transistors.{key_of, at, mirrored, gate_design, gate_wiring, rule, row_on}
+use Rattle.flat_sample.specs.Transistors.{key_of, at, mirror_place, gate_design, gate_wiring, rule, row_on}
 use Rattle.plain_netlist.specs.Netlist.{DeviceRow}
 
 abbrev pub edge_of : ℕ → ℕ → Edge
@@ -17,7 +17,7 @@ IsGood cell source gate drain = IsForm gate_design gate_wiring rule cell (at gat
 
 -- the child draws it, and its image is this square of the parent
 abbrev pub IsPart : ℕ → Square → Type 0
-IsPart c q = (s : Square) × IsOwn gate_design 0 (key_of c) s × (moved_square mirrored.motion s ≡ q)
+IsPart c q = (s : Square) × IsOwn gate_design 0 (key_of c) s × (moved_square mirror_place.motion s ≡ q)
 
 -- the parent draws the poly over the gate and the active of the source, the child the active of gate and drain
 pub record IsAcross (source gate drain : ℕ) : Type 0 where

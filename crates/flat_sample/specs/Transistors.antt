@@ -43,11 +43,11 @@ abbrev pub child : Cell
 child = record { layers = layers_of 0; texts = []; places = [] }
 
 -- the child's column x comes to stand in column 4 - x
-abbrev pub mirrored : Place
-mirrored = record { cell = 0; motion = record { turn = M180; dx = pos 5; dy = pos 0 } }
+abbrev pub mirror_place : Place
+mirror_place = record { cell = 0; motion = record { turn = M180; dx = pos 5; dy = pos 0 } }
 
 abbrev pub parent : Cell
-parent = record { layers = layers_of 1; texts = []; places = mirrored ∷ [] }
+parent = record { layers = layers_of 1; texts = []; places = mirror_place ∷ [] }
 
 abbrev pub gate_design : Design
 gate_design = record { cells = child ∷ (parent ∷ []); top = 1 }

@@ -6,7 +6,7 @@ use Rattle.flat_sample.proofs.Gated.{child_gate_of, across_gate_of, child_only, 
 use Rattle.flat_sample.proofs.Lone.{form}
 use Rattle.flat_sample.proofs.Sides.{lost, child_gate, child_left, child_right, across_gate, across_left, across_right}
 use Rattle.flat_sample.specs.Sample.{sample_height}
-use Rattle.flat_sample.specs.Transistors.{at, mirrored, gate_design, gate_wiring, rule}
+use Rattle.flat_sample.specs.Transistors.{at, mirror_place, gate_design, gate_wiring, rule}
 use Rattle.flat_sample.proofs.sample_gates.Goals as goal
 
 pub returns : goal.returns
@@ -14,8 +14,8 @@ returns c = record {
   drawn = record {
     parent_poly = column_own 1 1 1 (omega arith) (inl refl);
     parent_active = column_own 1 0 0 (omega arith) (inl refl);
-    child_active = (at 3, column_own 0 0 3 (omega arith) (inr (inr (inr (inl refl)))), moved_column mirrored 3 1 refl refl);
-    child_drain = (at 2, column_own 0 0 2 (omega arith) (inr (inr (inl refl))), moved_column mirrored 2 2 refl refl);
+    child_active = (at 3, column_own 0 0 3 (omega arith) (inr (inr (inr (inl refl)))), moved_column mirror_place 3 1 refl refl);
+    child_drain = (at 2, column_own 0 0 2 (omega arith) (inr (inr (inl refl))), moved_column mirror_place 2 2 refl refl);
   };
   crossed = lost;
   child = λ s. (child_only s, λ e. subst (IsGateOf gate_design gate_wiring rule 0) (sym e) child_gate_of);
