@@ -1,3 +1,12 @@
 pub mod Right
 pub mod Drawn
-pub mod Grounded
+pub mod Columns
+pub mod Sides
+pub mod Wires
+pub mod Lone
+pub mod Gated
+pub mod Listing
+pub mod Listed
+pub mod Planned
+pub mod Whole
+pub mod Terminals
