@@ -1,5 +1,5 @@
 -- The first entry with a path is the file that was lent for it.
-use Rattle.std.proofs.Common.{◌≡◌, ◌≢◌, ◌<◌, ◌+◌, ℕ, zero, suc, List, [], ◌∷◌, ◌++◌, refl, sym, subst, ap, ◌∙◌, true, false, get_or, length, arith, drop, if◌then◌else◌, Option, Some, None, MatchOption, inr}
+use Rattle.std.proofs.Common.{◌≡◌, ◌≢◌, ◌<◌, ◌+◌, ℕ, zero, suc, List, [], ◌∷◌, ◌++◌, sym, subst, ap, ◌∙◌, true, false, get_or, length, arith, drop, if◌then◌else◌, Option, Some, None, MatchOption, inr}
 use Rattle.std.specs.Borrow.{Bor}
 use Rattle.std.proofs.Math.ListN.{set}
 use Rattle.std.proofs.Math.Seq.{drop-cons, drop-length}
@@ -46,9 +46,6 @@ lent_or_not es other p i h = told_as (get_or es i no_lent).bytes ((found es p i 
 pub record Skips (es : List Lent) (p : List ℕ) (i : ℕ) : Type 0 where
   pub none : (other : Told) → told_or es other p ≡ told_or (drop i es) other p
   pub numbers : (k : ℕ) → is_first es p (i + k) ≡ is_first (drop i es) p k
-
-pub skips_none : (es : List Lent) (p : List ℕ) → Skips es p 0
-skips_none es p = record { none = λ other. refl; numbers = λ k. let e : 0 + k ≡ k = omega arith in ap (is_first es p) e }
 
 pub skips_more : (es : List Lent) (p : List ℕ) (i : ℕ) (d : Lent) → i < length es → bytes_eq (get_or es i d).path.now p ≡ false → Skips es p i → Skips es p (i + 1)
 unfolding told_or is_first

@@ -1,6 +1,6 @@
 use Rattle.std.proofs.Common.{◌≡◌, refl, rules}
 use Rattle.lvs_outside.specs.Store.{Holds}
-use Rattle.lvs_outside.proofs.LentRead.{goes_one}
+use Rattle.lvs_outside.proofs.OnePath.{goes_one}
 use Rattle.lvs_outside.proofs.quiet.QuietDepot.lend.Goals as goal
 
 pub returns-clause-ok : goal.returns-clause-ok

@@ -1,5 +1,5 @@
 use Rattle.std.proofs.Common.{refl, rules, take, length}
-use Rattle.lvs_outside.proofs.LentRead.{writes_untold, writes_forward}
+use Rattle.lvs_outside.proofs.OnePath.{writes_untold, writes_forward}
 use Rattle.lvs_outside.proofs.quiet.QuietDepotDepot.write.Goals as goal
 
 pub returns-clause-writes : goal.returns-clause-writes

@@ -1,10 +1,7 @@
--- What is told of a path that was lent, read or written.
-use Rattle.std.proofs.Common.{◌≡◌, ◌≢◌, ◌≤◌, ◌+◌, ℕ, nat_le, List, refl, sym, subst, ap, ◌∙◌, inl, inr, true, false, length, if◌then◌else◌, IsTrue}
-use Rattle.std.specs.Str.{bytes_eq}
-use Rattle.std.proofs.lemmas.Slice.Eq.{bytes_eq-Decides}
-use Rattle.std.proofs.lemmas.Bool.{leb-true}
+-- A step of one path's file, and a file that is written and not told.
+use Rattle.std.proofs.Common.{◌≡◌, ◌≢◌, ◌+◌, ℕ, List, refl, sym, subst, ap, ◌∙◌, inl, inr, true, IsTrue}
 use Rattle.lvs_outside.specs.Store.{Store, Told, Untold, NoFile, Holds, ChangesOne, IsWriting, Forward, appended, path_of}
-use Rattle.lvs_outside.specs.LentFiles.{is_read, is_untold, is_access, access_at}
+use Rattle.lvs_outside.specs.LentFiles.{is_untold, is_access, access_at}
 use Rattle.lvs_outside.specs.declared.lent.Access.{Access}
 use Rattle.lvs_outside.specs.declared.lent.Access.TheVariants.{Closed, Reading, Writing}
 use Rattle.lvs_outside.proofs.Told.{same_or_not}
@@ -14,15 +11,6 @@ pub goes_one : (old new : Store) (path : List ℕ) (step : Told → Told → Typ
 goes_one old new path step here others = record {
   each = λ p. elim (same_or_not p path) [ inl e ↦ inl (e, subst (λ q. step (old.file q) (new.file q)) (sym e) here) | inr ne ↦ inr (ne, others p ne) ];
 }
-
--- the bytes that are read are the file's
-pub read_within : (t : Told) (bytes : List ℕ) (at : ℕ) → is_read t bytes at ≡ true → (t ≡ Holds bytes) × (at ≤ length bytes)
-read_within Untold bytes at h = absurd (cc)
-read_within NoFile bytes at h = absurd (cc)
-read_within (Holds all) bytes at h = elim (bytes_eq all bytes) as (λ b. b ≡ bytes_eq all bytes → (if b then nat_le at (length bytes) else false) ≡ true → (Holds all ≡ Holds bytes) × (at ≤ length bytes)) [
-  | true ↦ λ e g. (ap Holds ((bytes_eq-Decides all bytes).0 (sym e)), leb-true at (length bytes) g)
-  | false ↦ λ e g. absurd (cc)
-] refl h
 
 untold_appended : (t : Told) (piece : List ℕ) → is_untold t ≡ true → t ≡ appended t piece
 untold_appended Untold piece h = refl
