@@ -13,10 +13,10 @@ use Rattle.lvs_outside.specs.declared.entries.Place.TheVariants.{Reading, Writin
 use Rattle.std.proofs.lemmas.Bool.{leb-true, le-leb}
 use Rattle.lvs_outside.proofs.Told.{same_or_not}
 
-alike : (a b : List ℕ) → a ≡ b → bytes_eq a b ≡ true
+pub alike : (a b : List ℕ) → a ≡ b → bytes_eq a b ≡ true
 alike a b e = (bytes_eq-Decides a b).1 e
 
-unlike : (a b : List ℕ) → a ≢ b → bytes_eq a b ≡ false
+pub unlike : (a b : List ℕ) → a ≢ b → bytes_eq a b ≡ false
 unlike a b ne = elim (bytes_eq a b) as (λ t. Decides t (a ≡ b) → t ≡ false) [ true ↦ λ d. absurd (ne (d.0 refl)) | false ↦ λ d. refl ] (bytes_eq-Decides a b)
 
 -- an entry that is a path's file is told

@@ -6,3 +6,5 @@ pub mod Loops
 pub mod Schedule
 pub mod Entries
 pub mod MemoryStore
+pub mod LentFiles
+pub mod QuietStore

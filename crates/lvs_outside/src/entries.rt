@@ -1,5 +1,5 @@
 // Files in memory, by path.
-ghost use Rattle.std.specs.Prelude.{◌≡◌, ◌+◌, ◌<◌, ◌≤◌, List, ℕ, length, IfOk, OnOk, OnErr, IsTrue, MatchOption, vec_len};
+ghost use Rattle.std.specs.Prelude.{◌≡◌, ◌+◌, ◌^◌, ◌<◌, ◌≤◌, List, ℕ, length, IfOk, OnOk, OnErr, IsTrue, MatchOption, vec_len};
 ghost use Rattle.lvs_outside.specs.Store.{NoFile, Holds, NextBytes, appended};
 ghost use Rattle.lvs_outside.specs.Entries.{told, is_file_of, one_if_open, Goes, IsSet};
 ghost use Rattle.lvs_outside.specs.Token.{count_of};
@@ -85,6 +85,7 @@ pub fn copy_next(from: &[u8], at: usize, buf: &mut [u8]) -> usize
     requires buffer { 0 < length buf.old }
     ensures fits { result ≤ length buf.new }
     ensures next { NextBytes (Holds from.now) at result buf.new }
+    ensures place { at + result < 2 ^ 64 }
 {
     let rest = &from[at..];
     let count = rest.len().min(buf.len());

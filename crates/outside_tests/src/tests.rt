@@ -2,8 +2,8 @@ ghost use Rattle.std.specs.Prelude.{◌≡◌, []};
 ghost use Rattle.lvs_outside.specs.Store.{HasRoom};
 
 use lvs_outside::{
-    Depot, FileDepot, MemoryDepot, MemorySink, ReadFault, StdoutSink, read_rest, write_all,
-    write_file,
+    Depot, Failed, FileDepot, MemoryDepot, MemorySink, QuietDepot, ReadFault, Sink, StdoutSink,
+    read_rest, write_all, write_file,
 };
 use std::fs;
 use std::test::Fail;
@@ -101,5 +101,77 @@ fn memory_sink_fails_where_it_is_told(rt: HostRuntime) -> Result<(), Fail> {
         assert_eq!(rt; out.bytes(), want.as_bytes());
         assert_eq!(rt; out.refused(), 0);
     }
+    Ok(())
+}
+
+// Reads the file three times, two bytes at most each time: the bytes and the three answers.
+fn read_in_twos(
+    depot: &mut QuietDepot<'_>,
+    path: &str,
+) -> Result<Option<([[u8; 2]; 3], [usize; 3])>, Failed> {
+    if !depot.open_read(path)? {
+        return Ok(None);
+    }
+    let mut first = [0; 2];
+    let mut second = [0; 2];
+    let mut third = [0; 2];
+    let counts = [
+        depot.read(&mut first)?,
+        depot.read(&mut second)?,
+        depot.read(&mut third)?,
+    ];
+    Ok(Some(([first, second, third], counts)))
+}
+
+#[test]
+fn quiet_depot_reads_what_is_lent(rt: HostRuntime) -> Result<(), Fail> {
+    let mut depot = QuietDepot::new(rt.alloc());
+    for (path, bytes) in [("a", "one"), ("b", "two"), ("a", "four")] {
+        depot.lend(path, bytes.as_bytes())?;
+    }
+    let rows = [
+        ("a", Some(([*b"fo", *b"ur", [0; 2]], [2, 2, 0]))),
+        ("b", Some(([*b"tw", *b"o\0", [0; 2]], [2, 1, 0]))),
+        ("c", None),
+    ];
+    for (path, want) in rows {
+        assert_eq!(rt; read_in_twos(&mut depot, path), Ok(want), "{path}");
+    }
+    assert_eq!(rt; depot.written(), 0);
+    Ok(())
+}
+
+#[test]
+fn quiet_depot_counts_what_is_written(rt: HostRuntime) -> Result<(), Fail> {
+    let mut depot = QuietDepot::new(rt.alloc());
+    depot.lend("a", b"one")?;
+    for path in ["a", "b"] {
+        assert!(rt; depot.start_write(path).is_ok());
+        assert_eq!(rt; Depot::write(&mut depot, b"line"), Ok(4));
+        assert_eq!(rt; Depot::write(&mut depot, b""), Ok(0));
+        assert_eq!(rt; Depot::write(&mut depot, b"\n"), Ok(1));
+        assert!(rt; depot.finish_write().is_ok());
+        assert_eq!(rt; depot.open_read(path), Ok(false), "{path}");
+    }
+    assert_eq!(rt; depot.written(), 10);
+    for piece in ["shapes", "", "\n"] {
+        assert_eq!(rt; Sink::write(&mut depot, piece.as_bytes()), Ok(piece.len()));
+    }
+    assert_eq!(rt; depot.written(), 17);
+    depot.lend("a", b"two")?;
+    assert_eq!(rt; depot.open_read("a"), Ok(true));
+    Ok(())
+}
+
+// The loops over any depot and any sink take it too.
+#[test]
+fn quiet_depot_goes_through_the_loops(rt: HostRuntime) -> Result<(), Fail> {
+    let alloc = rt.alloc();
+    let mut depot = QuietDepot::new(alloc);
+    let mut back = Vec::new(alloc);
+    let answer = write_and_read(&mut depot, "a", b"abc", &mut back);
+    assert_eq!(rt; answer, Ok(false));
+    assert!(rt; write_all(&mut depot, b"line\n").is_ok());
+    assert_eq!(rt; depot.written(), 8);
     Ok(())
 }
