@@ -1,7 +1,7 @@
 use Rattle.std.proofs.Common.{◌≡◌, ℕ, ◌<◌}
 use Rattle.flat_layout.specs.Layout.{Place, IsPlaced, IsReached}
-use Rattle.flat_slow.proofs.paths.+is_reached.Given as goal
-use Rattle.flat_slow.specs.Slow.{plain}
+use Rattle.slow_paths.proofs.paths.+is_reached.Given as goal
+use Rattle.slow_paths.specs.Slow.{plain}
 
 abbrev pub decreases-is_reached : goal.decreases-is_reached
 decreases-is_reached l = l.depth

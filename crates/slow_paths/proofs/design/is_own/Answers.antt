@@ -1,11 +1,11 @@
 use Rattle.std.proofs.Common.{◌≡◌, map, length, arith, pos, inl, inr}
 use Rattle.std.proofs.lemmas.Option.{slice_get-get_or, slice_get_within}
 use Rattle.std.proofs.lemmas.List.{length-map}
-use Rattle.flat_slow.specs.declared.design.SlowShape.{SlowShape}
-use Rattle.flat_slow.proofs.Ways.{key_same, key_other, has_in, has_out, yes_is, no_is, maps, at_some, some_at, none_more_of}
-use Rattle.flat_slow.specs.Slow.{plain_layer, IsOnLayer}
-use Rattle.flat_slow.proofs.design.is_own.Goals.{else-eq-via-then-eq+else-has, else-eq-via-else-eq}
-use Rattle.flat_slow.proofs.design.is_own.Goals as goal
+use Rattle.slow_paths.specs.declared.design.SlowShape.{SlowShape}
+use Rattle.slow_paths.proofs.Ways.{key_same, key_other, has_in, has_out, yes_is, no_is, maps, at_some, some_at, none_more_of}
+use Rattle.slow_paths.specs.Slow.{plain_layer, IsOnLayer}
+use Rattle.slow_paths.proofs.design.is_own.Goals.{else-eq-via-then-eq+else-has, else-eq-via-else-eq}
+use Rattle.slow_paths.proofs.design.is_own.Goals as goal
 
 abbrev no_shape : SlowShape
 no_shape = record { key = record { layer = 0; datatype = 0 }; rect = record { x1 = pos 0; y1 = pos 0; x2 = pos 0; y2 = pos 0 } }

@@ -1,6 +1,6 @@
 ghost use Rattle.std.specs.Prelude.{◌↔◌, IsTrue, IfSome, [], ◌∷◌};
 ghost use Rattle.flat_layout.specs.Layout.{InFlatInput, IsDisturbed, IsReached};
-ghost use Rattle.flat_slow.specs.Slow.{IsOver, plain};
+ghost use Rattle.slow_paths.specs.Slow.{IsOver, plain};
 
 use crate::design::{SlowDesign, has_place, is_own};
 use crate::moves::{image, origin};

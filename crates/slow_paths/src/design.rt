@@ -1,6 +1,6 @@
 ghost use Rattle.std.specs.Prelude.{◌≡◌, ◌↔◌, IsTrue, map};
 ghost use Rattle.flat_layout.specs.Layout.{Some_of};
-ghost use Rattle.flat_slow.specs.Slow.{IsOnLayer, plain_layer, plain_place};
+ghost use Rattle.slow_paths.specs.Slow.{IsOnLayer, plain_layer, plain_place};
 
 use geo_base::{LayerKey, Motion, Rect, Square};
 

@@ -18,10 +18,10 @@ use Rattle.flat_laws.proofs.Paths.{moved_square-injective, first_differs, same_p
 use Rattle.flat_laws.proofs.Cover.{reached_below}
 use Rattle.flat_laws.proofs.Names.{more_left, more_right}
 use Rattle.flat_laws.proofs.Zone.{zones}
-use Rattle.flat_slow.specs.declared.design.SlowPlace.{SlowPlace}
-use Rattle.flat_slow.specs.declared.design.SlowCell.{SlowCell}
-use Rattle.flat_slow.specs.declared.design.SlowDesign.{SlowDesign}
-use Rattle.flat_slow.specs.Slow.{plain_layer, plain_place, plain_cell, plain, IsOnLayer, IsOver, IsThrough, IsDisturbedBy}
+use Rattle.slow_paths.specs.declared.design.SlowPlace.{SlowPlace}
+use Rattle.slow_paths.specs.declared.design.SlowCell.{SlowCell}
+use Rattle.slow_paths.specs.declared.design.SlowDesign.{SlowDesign}
+use Rattle.slow_paths.specs.Slow.{plain_layer, plain_place, plain_cell, plain, IsOnLayer, IsOver, IsThrough, IsDisturbedBy}
 
 -- an item of a mapped list
 mapped_one : {A B : Type 0} (f : A → B) (o : Option A) (y : B) → option_map f o ≡ Some y → (x : A) × (o ≡ Some x) × (f x ≡ y)

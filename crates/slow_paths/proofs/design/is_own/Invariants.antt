@@ -1,6 +1,6 @@
 use Rattle.std.proofs.Common.{◌≡◌, ℕ, ◌<◌, Some, map, slice_get}
-use Rattle.flat_slow.proofs.design.is_own.Given as goal
-use Rattle.flat_slow.specs.Slow.{IsOnLayer, plain_layer}
+use Rattle.slow_paths.proofs.design.is_own.Given as goal
+use Rattle.slow_paths.specs.Slow.{IsOnLayer, plain_layer}
 use Rattle.flat_layout.specs.Layout.{Layer}
 
 abbrev pub invariant-loop-shape : goal.invariant-loop-shape

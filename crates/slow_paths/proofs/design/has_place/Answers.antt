@@ -2,9 +2,9 @@ use Rattle.std.proofs.Common.{◌≡◌, map, length, arith}
 use Rattle.std.proofs.lemmas.Option.{slice_get-get_or, slice_get_within}
 use Rattle.std.proofs.lemmas.List.{length-map}
 use Rattle.flat_layout.specs.Layout.{Place}
-use Rattle.flat_slow.proofs.Ways.{yes_is, no_is, maps, at_some, some_at, none_place, no_place}
-use Rattle.flat_slow.specs.Slow.{plain_place}
-use Rattle.flat_slow.proofs.design.has_place.Goals as goal
+use Rattle.slow_paths.proofs.Ways.{yes_is, no_is, maps, at_some, some_at, none_place, no_place}
+use Rattle.slow_paths.specs.Slow.{plain_place}
+use Rattle.slow_paths.proofs.design.has_place.Goals as goal
 
 pub returns-then-place-cell : goal.returns-then-place-cell
 returns-then-place-cell c =

@@ -1,7 +1,7 @@
 use Rattle.std.proofs.Common.{ℕ, ◌<◌}
 use Rattle.flat_layout.specs.Layout.{Place}
-use Rattle.flat_slow.proofs.paths.+is_disturbed.Given as goal
-use Rattle.flat_slow.specs.Slow.{IsDisturbedBy, plain}
+use Rattle.slow_paths.proofs.paths.+is_disturbed.Given as goal
+use Rattle.slow_paths.specs.Slow.{IsDisturbedBy, plain}
 
 abbrev pub decreases-is_disturbed : goal.decreases-is_disturbed
 decreases-is_disturbed l = l.depth

@@ -1,6 +1,6 @@
 use Rattle.std.proofs.Common.{◌≡◌, ℕ, ◌<◌, Some, map, slice_get}
-use Rattle.flat_slow.proofs.design.has_place.Given as goal
-use Rattle.flat_slow.specs.Slow.{plain_place}
+use Rattle.slow_paths.proofs.design.has_place.Given as goal
+use Rattle.slow_paths.specs.Slow.{plain_place}
 use Rattle.flat_layout.specs.Layout.{Place}
 
 abbrev pub invariant-loop-place : goal.invariant-loop-place

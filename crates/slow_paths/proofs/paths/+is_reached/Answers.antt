@@ -1,10 +1,10 @@
 use Rattle.std.proofs.Common.{◌≡◌, inl, inr, List, false, true, length, refl, sym, ◌∙◌, ap, arith}
 use Rattle.flat_layout.specs.Layout.{IsPlaced, IsReached}
-use Rattle.flat_slow.specs.declared.design.SlowCell.{SlowCell}
-use Rattle.flat_slow.proofs.Ways.{yes_is, no_is, loop_cell, placed_some, some_placed, placing_within, none_next, reached_from, reached_split}
-use Rattle.flat_slow.specs.Slow.{plain}
-use Rattle.flat_slow.proofs.paths.+is_reached.Goals.{then-has_place+else-depth-eq0+in_ok-is_reached+else-branch, else-has_place}
-use Rattle.flat_slow.proofs.paths.+is_reached.Goals as goal
+use Rattle.slow_paths.specs.declared.design.SlowCell.{SlowCell}
+use Rattle.slow_paths.proofs.Ways.{yes_is, no_is, loop_cell, placed_some, some_placed, placing_within, none_next, reached_from, reached_split}
+use Rattle.slow_paths.specs.Slow.{plain}
+use Rattle.slow_paths.proofs.paths.+is_reached.Goals.{then-has_place+else-depth-eq0+in_ok-is_reached+else-branch, else-has_place}
+use Rattle.slow_paths.proofs.paths.+is_reached.Goals as goal
 
 pub returns-then-branch : goal.returns-then-branch
 returns-then-branch t c =

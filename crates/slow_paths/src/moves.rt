@@ -30,22 +30,10 @@ fn unturned(turn: Turn, s: Square) -> Square
     ensures x { turned_x turn result.x result.y ≡ s.x }
     ensures y { turned_y turn result.x result.y ≡ s.y }
 {
-    let Square { x, y } = s;
     match turn {
-        Turn::R0 => s,
-        Turn::R90 => Square { x: y, y: -1 - x },
-        Turn::R180 => Square {
-            x: -1 - x,
-            y: -1 - y,
-        },
-        Turn::R270 => Square { x: -1 - y, y: x },
-        Turn::M0 => Square { x, y: -1 - y },
-        Turn::M90 => Square { x: y, y: x },
-        Turn::M180 => Square { x: -1 - x, y },
-        Turn::M270 => Square {
-            x: -1 - y,
-            y: -1 - x,
-        },
+        Turn::R90 => turned(Turn::R270, s),
+        Turn::R270 => turned(Turn::R90, s),
+        _ => turned(turn, s),
     }
 }
 

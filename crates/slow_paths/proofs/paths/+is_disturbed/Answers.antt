@@ -1,14 +1,14 @@
 use Rattle.std.proofs.Common.{◌≡◌, inl, inr, List, [], ◌∷◌, false, true, get_or, length, sym, ◌∙◌, ap, subst, arith}
 use Rattle.flat_layout.specs.Layout.{Place, IsDisturbed}
 use Rattle.flat_layout.specs.Zones.{IsBeside}
-use Rattle.flat_slow.specs.declared.design.SlowCell.{SlowCell}
-use Rattle.flat_slow.specs.declared.design.SlowPlace.{SlowPlace}
-use Rattle.flat_slow.proofs.Ways.{yes_is, no_is, no_place, loop_cell, item_at, placed_at, within, placing_within, none_next, none_place_next, disturbed_by, disturbed_split}
-use Rattle.flat_slow.specs.Slow.{plain, plain_place, IsDisturbedBy}
+use Rattle.slow_paths.specs.declared.design.SlowCell.{SlowCell}
+use Rattle.slow_paths.specs.declared.design.SlowPlace.{SlowPlace}
+use Rattle.slow_paths.proofs.Ways.{yes_is, no_is, no_place, loop_cell, item_at, placed_at, within, placing_within, none_next, none_place_next, disturbed_by, disturbed_split}
+use Rattle.slow_paths.specs.Slow.{plain, plain_place, IsDisturbedBy}
 use Rattle.flat_laws.proofs.Paths.{same_place}
 use Rattle.geo_base.specs.Motions.{moved_square}
-use Rattle.flat_slow.proofs.paths.+is_disturbed.Goals.{then-place-cell+else-depth-eq0+in_ok-is_reached+then-branch+in_ok-r+in_ok-is_over+else-branch-2+in_ok-is_disturbed+else-branch-3, then-place-cell+else-depth-eq0+in_ok-is_reached+else-branch, else-place-cell}
-use Rattle.flat_slow.proofs.paths.+is_disturbed.Goals as goal
+use Rattle.slow_paths.proofs.paths.+is_disturbed.Goals.{then-place-cell+else-depth-eq0+in_ok-is_reached+then-branch+in_ok-r+in_ok-is_over+else-branch-2+in_ok-is_disturbed+else-branch-3, then-place-cell+else-depth-eq0+in_ok-is_reached+else-branch, else-place-cell}
+use Rattle.slow_paths.proofs.paths.+is_disturbed.Goals as goal
 
 pub returns-then-branch-2 : goal.returns-then-branch-2
 returns-then-branch-2 t c =

@@ -1,11 +1,11 @@
 use Rattle.std.proofs.Common.{◌≡◌, List, false, true, get_or, map, length, refl, sym, ◌∙◌, ap, subst, arith}
 use Rattle.flat_layout.specs.Layout.{Some_of}
-use Rattle.flat_slow.specs.declared.design.SlowPlace.{SlowPlace}
-use Rattle.flat_slow.specs.declared.design.SlowShape.{SlowShape}
-use Rattle.flat_slow.proofs.Ways.{not_skipped, skipped, yes_is, no_is, no_own, own_to, cell_at, item_at, placed_at, no_place, over_own, over_through, none_more, through_from, none_within}
-use Rattle.flat_slow.specs.Slow.{plain, plain_place, plain_layer, IsOnLayer}
-use Rattle.flat_slow.proofs.paths.+is_over.Goals.{then-ne+else-depth-eq0+in_ok-r+in_ok-is_over+else-branch, else-ne}
-use Rattle.flat_slow.proofs.paths.+is_over.Goals as goal
+use Rattle.slow_paths.specs.declared.design.SlowPlace.{SlowPlace}
+use Rattle.slow_paths.specs.declared.design.SlowShape.{SlowShape}
+use Rattle.slow_paths.proofs.Ways.{not_skipped, skipped, yes_is, no_is, no_own, own_to, cell_at, item_at, placed_at, no_place, over_own, over_through, none_more, through_from, none_within}
+use Rattle.slow_paths.specs.Slow.{plain, plain_place, plain_layer, IsOnLayer}
+use Rattle.slow_paths.proofs.paths.+is_over.Goals.{then-ne+else-depth-eq0+in_ok-r+in_ok-is_over+else-branch, else-ne}
+use Rattle.slow_paths.proofs.paths.+is_over.Goals as goal
 
 pub returns-then-cell-len : goal.returns-then-cell-len
 returns-then-cell-len t c = no_is _ (no_own c.args.d.now c.args.cell c.args.skip c.args.key c.args.q (let a = c.if-cell-len.true in let b = c.len.ensures in let d = c.args.d.now.cells.ok.0 in omega arith))

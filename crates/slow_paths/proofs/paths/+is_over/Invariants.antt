@@ -1,7 +1,7 @@
 use Rattle.std.proofs.Common.{ℕ, ◌<◌}
 use Rattle.flat_layout.specs.Layout.{Place}
-use Rattle.flat_slow.proofs.paths.+is_over.Given as goal
-use Rattle.flat_slow.specs.Slow.{IsThrough, plain}
+use Rattle.slow_paths.proofs.paths.+is_over.Given as goal
+use Rattle.slow_paths.specs.Slow.{IsThrough, plain}
 
 abbrev pub decreases-is_over : goal.decreases-is_over
 decreases-is_over l = l.depth

@@ -1,7 +1,7 @@
 use Rattle.std.proofs.Common.{arith}
 use Rattle.std.proofs.lemmas.Int.{ints}
 use Rattle.flat_laws.proofs.Squares.{same_square}
-use Rattle.flat_slow.proofs.moves.origin.Goals as goal
+use Rattle.slow_paths.proofs.moves.origin.Goals as goal
 
 pub returns : goal.returns
 returns c =
