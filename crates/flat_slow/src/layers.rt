@@ -1,12 +1,11 @@
 ghost use Rattle.std.specs.Prelude.{◌↔◌, IsTrue, IfSome};
 ghost use Rattle.flat_layout.specs.Layers.{InFlat, IsKept, IsBelow, IsLocal, inputs};
 ghost use Rattle.flat_layout.specs.Layout.{IsDisturbed};
-ghost use Rattle.flat_slow.specs.Slow.{plain, reading};
+ghost use Rattle.flat_slow.specs.Slow.{reading};
+ghost use Rattle.slow_paths.specs.Slow.{plain};
 
-use crate::design::{SlowDesign, is_own};
-use crate::moves::origin;
-use crate::paths::{in_input, is_disturbed};
 use geo_base::{LayerKey, Op, Square};
+use slow_paths::{SlowDesign, in_input, is_disturbed, is_own, origin};
 
 /// A layer as what it is made of.
 #[derive(Debug, Drop)]
@@ -58,6 +57,15 @@ fn is_disturbed_for(
     }
 }
 
+// Whether the square is flat on the layer and isn't disturbed for its inputs.
+fn is_calm(d: &SlowDesign, depth: u32, cell: usize, layer: &Formula, q: Square) -> Option<bool>
+    ensures { IfSome result (λ b. IsTrue b ↔ (InFlat (plain d.now) cell (reading layer.now) q × (IsDisturbed (plain d.now) (inputs (reading layer.now)) cell q → ⊥))) }
+{
+    let flat = in_flat(d, depth, cell, layer, q)?;
+    let disturbed = is_disturbed_for(d, depth, cell, layer, q)?;
+    Some(flat && !disturbed)
+}
+
 /// Whether the cell keeps the square.
 pub fn is_kept(d: &SlowDesign, depth: u32, cell: usize, layer: &Formula, q: Square) -> Option<bool>
     ensures { IfSome result (λ b. IsTrue b ↔ IsKept (plain d.now) cell (reading layer.now) q) }
@@ -65,11 +73,7 @@ pub fn is_kept(d: &SlowDesign, depth: u32, cell: usize, layer: &Formula, q: Squa
     match layer {
         Formula::Input(key) => in_input(d, depth, cell, *key, q),
         Formula::Empty => Some(false),
-        Formula::Binary(_, _, _) => {
-            let flat = in_flat(d, depth, cell, layer, q)?;
-            let disturbed = is_disturbed_for(d, depth, cell, layer, q)?;
-            Some(flat && !disturbed)
-        }
+        Formula::Binary(_, _, _) => is_calm(d, depth, cell, layer, q),
     }
 }
 
@@ -89,6 +93,15 @@ fn is_below(d: &SlowDesign, depth: u32, cell: usize, layer: &Formula, q: Square)
     Some(false)
 }
 
+// Whether the cell keeps the square and no placed cell does.
+fn is_held(d: &SlowDesign, depth: u32, cell: usize, layer: &Formula, q: Square) -> Option<bool>
+    ensures { IfSome result (λ b. IsTrue b ↔ (IsKept (plain d.now) cell (reading layer.now) q × (IsBelow (plain d.now) cell (reading layer.now) q → ⊥))) }
+{
+    let kept = is_kept(d, depth, cell, layer, q)?;
+    let below = is_below(d, depth, cell, layer, q)?;
+    Some(kept && !below)
+}
+
 /// Whether the cell itself holds the square.
 pub fn is_local(d: &SlowDesign, depth: u32, cell: usize, layer: &Formula, q: Square) -> Option<bool>
     ensures { IfSome result (λ b. IsTrue b ↔ IsLocal (plain d.now) cell (reading layer.now) q) }
@@ -96,10 +109,6 @@ pub fn is_local(d: &SlowDesign, depth: u32, cell: usize, layer: &Formula, q: Squ
     match layer {
         Formula::Input(key) => Some(cell < d.cells.len() && is_own(&d.cells[cell].shapes, *key, q)),
         Formula::Empty => Some(false),
-        Formula::Binary(_, _, _) => {
-            let kept = is_kept(d, depth, cell, layer, q)?;
-            let below = is_below(d, depth, cell, layer, q)?;
-            Some(kept && !below)
-        }
+        Formula::Binary(_, _, _) => is_held(d, depth, cell, layer, q),
     }
 }

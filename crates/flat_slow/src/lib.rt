@@ -3,11 +3,7 @@
 //! An answer is `None` where a coordinate leaves 64 bits or cells stand deeper than `depth`; every other answer is the definition's.
 #![tactic(auto)]
 
-mod design;
 mod layers;
-mod moves;
-mod paths;
 
-pub use design::{SlowCell, SlowDesign, SlowPlace, SlowShape};
 pub use layers::{Formula, in_flat, is_kept, is_local};
-pub use paths::{in_input, is_disturbed};
+pub use slow_paths::{SlowCell, SlowDesign, SlowPlace, SlowShape, in_input, is_disturbed};

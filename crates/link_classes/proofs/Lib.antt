@@ -1,3 +1,4 @@
 pub mod Trees
 pub mod Tops
 pub mod Numbers
+pub mod Pushes

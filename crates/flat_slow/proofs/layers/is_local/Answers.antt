@@ -1,9 +1,10 @@
-use Rattle.std.proofs.Common.{◌↔◌, IsTrue, ◌<◌, List, map, sym, subst, arith, nat_lt}
-use Rattle.flat_layout.specs.Layers.{IsLocal}
+use Rattle.std.proofs.Common.{◌↔◌, IsTrue, IfSome, ◌<◌, List, map, sym, subst, arith, nat_lt}
+use Rattle.flat_layout.specs.Layers.{IsKept, IsBelow, IsLocal}
 use Rattle.flat_layout.specs.Layout.{Some_of}
-use Rattle.flat_slow.proofs.Ways.{cell_at, own_to, own_of, no_cell_at}
-use Rattle.flat_slow.specs.Slow.{plain, reading, plain_layer, IsOnLayer}
-use Rattle.flat_slow.specs.declared.design.SlowShape.{SlowShape}
+use Rattle.slow_paths.proofs.Ways.{cell_at, own_to, own_of, no_cell_at}
+use Rattle.flat_slow.specs.Slow.{reading}
+use Rattle.slow_paths.specs.Slow.{plain, plain_layer, IsOnLayer}
+use Rattle.slow_paths.specs.declared.design.SlowShape.{SlowShape}
 use Rattle.flat_slow.specs.declared.layers.Formula.{Formula}
 use Rattle.flat_slow.proofs.layers.is_local.Goals as goal
 
@@ -24,3 +25,7 @@ returns-else-cell-len c =
     let l = d.cells.ok.0 in
     subst (λ (f : Formula). IsTrue (nat_lt c.args.cell c.len.result) ↔ IsLocal (plain d) c.args.cell (reading f) c.args.q) (sym c.in-Input.is)
     ((λ t. let lt : c.args.cell < c.len.result = grind (arith, t) in absurd (omega arith)), (λ h. absurd (no_cell_at d c.args.cell h.0 (omega arith) h.1)))
+
+pub returns-in-Binary : goal.returns-in-Binary
+returns-in-Binary c = subst (λ (f : Formula). IfSome c.is_held.result (λ b. IsTrue b ↔ IsLocal (plain c.args.d.now) c.args.cell (reading f) c.args.q)) (sym c.in-Binary.is)
+    (subst (λ (f : Formula). IfSome c.is_held.result (λ b. IsTrue b ↔ (IsKept (plain c.args.d.now) c.args.cell (reading f) c.args.q × (IsBelow (plain c.args.d.now) c.args.cell (reading f) c.args.q → ⊥)))) c.in-Binary.is c.is_held.ensures)

@@ -1,6 +1,7 @@
-use Rattle.std.proofs.Common.{◌≡◌, ◌<◌, ℕ, [], ◌∷◌, ◌++◌, Some, None, get_or, length, refl, sym, ◌∙◌, ap, subst, arith, Vec, Global}
+use Rattle.std.proofs.Common.{◌≡◌, ◌<◌, ℕ, [], ◌∷◌, ◌++◌, List, Option, Some, None, get_or, length, refl, sym, ◌∙◌, ap, subst, arith, Vec, Global}
 use Rattle.std.proofs.lemmas.List.{get_or_default}
 use Rattle.link_classes.proofs.Numbers.{moved_on, push_old, push_new, numbered}
+use Rattle.link_classes.proofs.Pushes.{defaults_push, length_more}
 use Rattle.link_classes.proofs.forest.Forest.number.Goals.{in-Some+in_ok-push-in-Some, in-None+in_ok-push-in-None}
 use Rattle.link_classes.proofs.forest.Forest.number.Goals as goal
 use Rattle.link_classes.specs.Forest.{SoFar}
@@ -40,3 +41,12 @@ returns c =
     let end : c.loop-i.i ≡ length c.args.self.parent.items = omega arith in
     numbered c.args.self.parent.items c.loop-i.self.parent.items c.loop-i.self.rank.items c.loop-i.class_at.items c.loop-i.class_of.items c.loop-i.count c.loop-i.invariant.0
     (subst (λ k. SoFar c.args.self.parent.items c.loop-i.self.parent.items c.loop-i.class_at.items k c.loop-i.class_of.items c.loop-i.count) end so)
+
+pub overflow_add-count : goal.overflow_add-count
+overflow_add-count c = let few = c.loop-i.invariant.1.few in let short = c.requires.short in let wide = c.loop-i.invariant.1.wide in omega arith
+
+pub loop-preserved : goal.loop-preserved
+loop-preserved c =
+    let r = c.in_ok-push.ensures.items in
+    let h = c.loop.invariant in
+    (ap (λ (l : List (Option ℕ)). length l) r ∙ length_more c.loop.class_at.items None c.loop.counter h.0, λ k. ap (λ (l : List (Option ℕ)). get_or l k None) r ∙ defaults_push c.loop.class_at.items None h.1 k)
