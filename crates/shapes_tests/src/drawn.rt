@@ -4,8 +4,8 @@ use std::alloc::AllocError;
 /// Two corners of a rectangle: x1, y1, x2, y2.
 pub type Corners = [i32; 4];
 
-/// An element of a layout: its layer, its type, its form and its points.
-pub struct Element(pub u16, pub u16, pub Form, pub &'static [(i32, i32)]);
+/// An element of a layout: its layer, its type, its form, and x and y of each of its points.
+pub struct Element(pub u16, pub u16, pub Form, pub &'static [i32]);
 
 /// The form of an element: the kinds of its first record and of the one with its type, and the
 /// records before and after its points.
@@ -43,19 +43,18 @@ pub fn push(
     layer: u16,
     number: u16,
     form: &Form,
-    points: &[(i32, i32)],
+    points: &[i32],
 ) -> Result<(), AllocError> {
     out.extend_from_slice(&[0, 4, form.start, 0, 0, 6, 0x0D, 2])?;
     out.extend_from_slice(&layer.to_be_bytes())?;
     out.extend_from_slice(&[0, 6, form.kind, 2])?;
     out.extend_from_slice(&number.to_be_bytes())?;
     out.extend_from_slice(form.before)?;
-    let size = u16::try_from(points.len()).unwrap_or(0).saturating_mul(8);
+    let size = u16::try_from(points.len()).unwrap_or(0).saturating_mul(4);
     out.extend_from_slice(&size.saturating_add(4).to_be_bytes())?;
     out.extend_from_slice(&[0x10, 3])?;
-    for (x, y) in points {
-        out.extend_from_slice(&x.to_be_bytes())?;
-        out.extend_from_slice(&y.to_be_bytes())?;
+    for number in points {
+        out.extend_from_slice(&number.to_be_bytes())?;
     }
     out.extend_from_slice(form.after)?;
     out.extend_from_slice(&[0, 4, 0x11, 0])
@@ -69,6 +68,6 @@ pub fn push_rectangle(
     corners: Corners,
 ) -> Result<(), AllocError> {
     let [x1, y1, x2, y2] = corners;
-    let points = [(x1, y1), (x1, y2), (x2, y2), (x2, y1), (x1, y1)];
+    let points = [x1, y1, x1, y2, x2, y2, x2, y1, x1, y1];
     push(out, layer, number, &OUTLINE, &points)
 }
