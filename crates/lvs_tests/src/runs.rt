@@ -118,61 +118,29 @@ fn refuses(
 
 const SHAPES: [&str; 4] = ["shapes", "l", "r", "s"];
 
+// A word too few, another command, a path like an option or without a byte; absent files; a file
+// that is to be written and named twice.
 #[test]
 fn refused_words(rt: HostRuntime) -> Result<(), Fail> {
     let alloc = rt.alloc();
     let layout = stream(alloc, &OVERLAP)?;
     let words = "refused words\n";
-    refuses(&rt, alloc, &layout, RULES, &["shapes", "l", "r"], words)?;
-    refuses(
-        &rt,
-        alloc,
-        &layout,
-        RULES,
-        &["extract", "l", "r", "s"],
-        words,
-    )?;
-    refuses(
-        &rt,
-        alloc,
-        &layout,
-        RULES,
-        &["shapes", "l", "-r", "s"],
-        words,
-    )?;
-    refuses(&rt, alloc, &layout, RULES, &["shapes", "l", "", "s"], words)?;
-    refuses(
-        &rt,
-        alloc,
-        &layout,
-        RULES,
-        &["shapes", "l", "no file", "s"],
-        "refused absent no\\x20file\n",
-    )?;
-    refuses(
-        &rt,
-        alloc,
-        &layout,
-        RULES,
-        &["shapes", "x", "r", "s"],
-        "refused absent x\n",
-    )?;
-    refuses(
-        &rt,
-        alloc,
-        &layout,
-        RULES,
-        &["shapes", "x", "r", "x"],
-        "refused same x\n",
-    )?;
-    refuses(
-        &rt,
-        alloc,
-        &layout,
-        RULES,
-        &["shapes", "x", "r", "r"],
-        "refused same r\n",
-    )?;
+    let refused: [(&[&str], &str); 8] = [
+        (&["shapes", "l", "r"], words),
+        (&["extract", "l", "r", "s"], words),
+        (&["shapes", "l", "-r", "s"], words),
+        (&["shapes", "l", "", "s"], words),
+        (
+            &["shapes", "l", "no file", "s"],
+            "refused absent no\\x20file\n",
+        ),
+        (&["shapes", "x", "r", "s"], "refused absent x\n"),
+        (&["shapes", "x", "r", "x"], "refused same x\n"),
+        (&["shapes", "x", "r", "r"], "refused same r\n"),
+    ];
+    for (words, line) in refused {
+        refuses(&rt, alloc, &layout, RULES, words, line)?;
+    }
     Ok(())
 }
 
@@ -181,46 +149,20 @@ fn refused_words(rt: HostRuntime) -> Result<(), Fail> {
 fn refused_rules(rt: HostRuntime) -> Result<(), Fail> {
     let alloc = rt.alloc();
     let layout = stream(alloc, &OVERLAP)?;
-    refuses(
-        &rt,
-        alloc,
-        &layout,
-        b"a = input(1, 0)\na.width(10)\n",
-        &SHAPES,
-        "refused rules 30 line 2\n",
-    )?;
-    refuses(
-        &rt,
-        alloc,
-        &layout,
-        b"a = input(1, 0)\nx = a.sized(5)\n",
-        &SHAPES,
-        "refused rules 31 line 2\n",
-    )?;
-    refuses(
-        &rt,
-        alloc,
-        &layout,
-        b"a = input(1, 0)\nd = a & zz\n",
-        &SHAPES,
-        "refused rules 32 line 2\n",
-    )?;
-    refuses(
-        &rt,
-        alloc,
-        &layout,
-        b"a = input(1, 0)\na = input(1, 0)\n",
-        &SHAPES,
-        "refused rules 33 line 2\n",
-    )?;
-    refuses(
-        &rt,
-        alloc,
-        &layout,
-        b"\0",
-        &SHAPES,
-        "refused rules 36 offset 0\n",
-    )?;
+    for (second, line) in [
+        ("a.width(10)", "refused rules 30 line 2\n"),
+        ("x = a.sized(5)", "refused rules 31 line 2\n"),
+        ("d = a & zz", "refused rules 32 line 2\n"),
+        ("a = input(1, 0)", "refused rules 33 line 2\n"),
+        (
+            "t = labels(5, 1)\nt.output(9, 0)",
+            "refused rules 34 line 3\n",
+        ),
+        ("\0", "refused rules 36 offset 16\n"),
+    ] {
+        let rules = format!(in alloc; "a = input(1, 0)\n{second}\n")?;
+        refuses(&rt, alloc, &layout, rules.as_bytes(), &SHAPES, line)?;
+    }
     Ok(())
 }
 
@@ -257,29 +199,32 @@ fn refused_streams(rt: HostRuntime) -> Result<(), Fail> {
     Ok(())
 }
 
-// One damaged byte.
+// An edge that is neither upright nor level is refused with the record of its points: the second
+// or the last edge of the first outline, then the second edge of the other.
+#[test]
+fn slanted_edge(rt: HostRuntime) -> Result<(), Fail> {
+    let alloc = rt.alloc();
+    let layout = stream(alloc, &OVERLAP)?;
+    for (place, line) in [
+        (137, "refused layout 6 record 9 offset 110\n"),
+        (145, "refused layout 6 record 9 offset 110\n"),
+        (201, "refused layout 6 record 14 offset 174\n"),
+    ] {
+        let slanted = with_byte(alloc, &layout, place, 16)?;
+        refuses(&rt, alloc, &slanted, RULES, &SHAPES, line)?;
+    }
+    Ok(())
+}
+
+// A record of a kind that the format doesn't have, before an outline whose edges are slanted.
 #[test]
 fn damaged_streams(rt: HostRuntime) -> Result<(), Fail> {
     let alloc = rt.alloc();
     let layout = stream(alloc, &OVERLAP)?;
     let slanted = with_byte(alloc, &layout, 201, 16)?;
-    refuses(
-        &rt,
-        alloc,
-        &slanted,
-        RULES,
-        &SHAPES,
-        "refused layout 6 record 14 offset 174\n",
-    )?;
-    let unknown = with_byte(alloc, &layout, 164, 0x7F)?;
-    refuses(
-        &rt,
-        alloc,
-        &unknown,
-        RULES,
-        &SHAPES,
-        "refused layout 3 record 12 offset 162\n",
-    )?;
+    let unknown = with_byte(alloc, &slanted, 164, 0x7F)?;
+    let line = "refused layout 3 record 12 offset 162\n";
+    refuses(&rt, alloc, &unknown, RULES, &SHAPES, line)?;
     Ok(())
 }
 

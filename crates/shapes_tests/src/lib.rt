@@ -1,0 +1,13 @@
+//! Tests of whole runs over memory: drawn layouts with answers worked out by hand, and two combs.
+#![tactic(auto)]
+
+#[cfg(test)]
+mod cases;
+#[cfg(test)]
+mod combs;
+#[cfg(test)]
+mod drawn;
+#[cfg(test)]
+mod runs;
+#[cfg(test)]
+mod worked;

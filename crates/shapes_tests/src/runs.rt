@@ -1,0 +1,33 @@
+// Whole runs of `shapes` over memory.
+use lvs_outside::{MemoryDepot, MemorySink};
+use lvs_run::run_lvs;
+use std::alloc::{AllocError, Global};
+use std::process::Abort;
+
+/// Runs `shapes l r s` over the files l (the layout) and r (the rules): the status is 0, s has the
+/// wanted bytes, and the line says how many rectangles they hold.
+pub fn writes(
+    rt: &impl Abort,
+    alloc: Global,
+    layout: &[u8],
+    rules: &str,
+    wanted: &[u8],
+    name: &str,
+) -> Result<(), AllocError> {
+    let mut words = Vec::new(alloc);
+    for word in ["shapes", "l", "r", "s"] {
+        words.push(String::from_str(alloc, word)?)?;
+    }
+    let mut depot = MemoryDepot::new(alloc, Vec::new(alloc));
+    depot.put(alloc, "l", layout)?;
+    depot.put(alloc, "r", rules.as_bytes())?;
+    let mut sink = MemorySink::new(alloc, Vec::new(alloc));
+    let status = run_lvs(alloc, words.as_slice(), &mut depot, &mut sink);
+    assert_eq!(rt; status.code(), 0, "{name}");
+    let count = wanted.len().saturating_sub(106) / 64;
+    let line = format!(in alloc; "shapes cells 1 rectangles {count}\n")?;
+    assert_eq!(rt; sink.bytes(), line.as_bytes(), "{name}");
+    let shapes = depot.file("s").unwrap_or(&[]);
+    assert!(rt; shapes == wanted, "{name}: {shapes:?}");
+    Ok(())
+}
