@@ -5,7 +5,7 @@ use Rattle.geo_base.specs.declared.layer.LayerKey.{LayerKey}
 use Rattle.geo_base.specs.declared.shapes.Rect.{Rect}
 use Rattle.geo_base.specs.declared.shapes.Square.{Square}
 use Rattle.geo_base.specs.Rects.{has, IsRect}
-use Rattle.rect_sets.specs.Rects.{covers, IsCanonical}
+use Rattle.rect_sets.specs.Rects.{covers}
 use Rattle.poly_fill.specs.Fills.{in_boundary}
 use Rattle.gds_elements.specs.Meaning.{Cell}
 use Rattle.cell_layers.specs.Shapes.{is_key, own_covers}
@@ -15,10 +15,6 @@ use Rattle.gds_shapes.specs.Accepted.{written_cell}
 -- the outline of a rectangle covers exactly the rectangle's squares
 abbrev pub OutlineLaw : Type 0
 OutlineLaw = (r : Rect) → IsRect r → (s : Square) → in_boundary (corners r) s ≡ has r s
-
--- each rectangle of a canonical list has squares
-abbrev pub CanonicalLaw : Type 0
-CanonicalLaw = (rects : List Rect) → IsCanonical rects → All IsRect rects
 
 -- whether one of the lists on this layer covers the square
 abbrev pub layers_cover : List (LayerKey × List Rect) → LayerKey → Square → Bool

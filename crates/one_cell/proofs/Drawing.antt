@@ -9,7 +9,7 @@ use Rattle.geo_base.specs.declared.layer.LayerKey.{LayerKey}
 use Rattle.geo_base.specs.declared.shapes.Rect.{Rect}
 use Rattle.geo_base.specs.declared.shapes.Square.{Square}
 use Rattle.geo_base.specs.Rects.{IsRect}
-use Rattle.rect_sets.specs.Rects.{covers, IsCanonical, IsBlock}
+use Rattle.rect_sets.specs.Rects.{covers, IsCanonical, IsBlock, CanonicalLaw}
 use Rattle.gds_elements.specs.Meaning.{Cell, Library, Ref}
 use Rattle.gds_elements.specs.Faults.{Accepts}
 use Rattle.rule_text.specs.declared.rules.LayerRule.{LayerRule}
@@ -19,7 +19,7 @@ use Rattle.rule_text.specs.Sound.{AreApart, IsSound}
 use Rattle.cell_layers.specs.Shapes.{is_key, own_covers}
 use Rattle.cell_layers.specs.Readings.{readings, reading_covers, IsRight}
 use Rattle.gds_shapes.specs.Accepted.{IsRead, written_library, written_cell, ReadLaw}
-use Rattle.cell_laws.specs.Covering.{layers_cover, CanonicalLaw, WrittenLaw}
+use Rattle.cell_laws.specs.Covering.{layers_cover, WrittenLaw}
 use Rattle.one_cell.specs.OneCell.{alone, only_cell, only_of, name_at, AreDrawn}
 use Rattle.one_cell.specs.Written.{layer_at, written_of}
 use Rattle.one_cell.specs.Flat.{CoversFlat}

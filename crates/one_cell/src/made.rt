@@ -10,12 +10,12 @@ ghost use Rattle.one_cell.specs.OneCell.{only_cell, rectangle_count, IsMade, IsU
 ghost use Rattle.one_cell.specs.Written.{layer_at, written_of};
 
 use crate::reach::is_in_reach;
-use cell_laws::{canonical_rects, covering};
+use cell_laws::covering;
 use cell_layers::layer_sets;
 use gds_elements::{Library, RawCell};
 use gds_shapes::{Written, library_read, shapes_text};
 use geo_base::Rect;
-use rect_sets::RectSet;
+use rect_sets::{RectSet, canonical_rects};
 use rule_text::{Output, RuleSet};
 use std::alloc::{AllocError, Global};
 

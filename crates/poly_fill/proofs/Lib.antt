@@ -1,3 +1,4 @@
 pub mod EdgeSums
 pub mod Walks
 pub mod Widened
+pub mod Outlined

@@ -1,2 +1,3 @@
 pub mod Fills
 pub mod Edges
+pub mod Outlines

@@ -5,6 +5,8 @@ ghost use Rattle.poly_fill.specs.Fills.{IsClosed, in_boundary};
 ghost use Rattle.poly_fill.specs.Edges.{edges_between, edges_along};
 ghost use Rattle.geo_base.specs.declared.shapes.Square.{Square};
 
+use crate::outline::outlined;
+use crate::path::fill_box;
 use geo_base::Point;
 use rect_sets::{Edge, RectSet, Rule, sweep};
 use std::alloc::{AllocError, Global};
@@ -52,11 +54,15 @@ fn edges_along(alloc: Global, points: &[Point]) -> Result<Vec<Edge>, AllocError>
 
 /// The squares round whose centres the closed line of points winds a number of times that isn't 0. The points are in
 /// database units, the last is the first, and neighbours share x or y. O(p log p + k) for p points and k crossings of
-/// edges and strips. An `Err` is want of memory.
+/// edges and strips; O(1) for the outline of a rectangle. An `Err` is want of memory.
 pub fn fill_boundary(alloc: Global, points: &[Point]) -> Result<RectSet, AllocError>
     requires { IsClosed points.now }
     ensures { IfOk result (λ r. (s : Square) → covers r s ≡ in_boundary points.now s) }
 {
+    if let Some(rect) = outlined(points) {
+        let set = fill_box(alloc, rect)?;
+        return Ok(set);
+    }
     let edges = edges_along(alloc, points)?;
     let set = sweep(alloc, edges, Rule::First)?;
     Ok(set)

@@ -2,7 +2,9 @@
 #![tactic(auto)]
 
 mod boundary;
+mod outline;
 mod path;
 
 pub use boundary::fill_boundary;
+pub use outline::outline_laws;
 pub use path::{fill_box, fill_path};

@@ -12,3 +12,4 @@ pub mod Splitting
 pub mod Sweeping
 pub mod Unique
 pub mod Moving
+pub mod Single

@@ -1,7 +1,7 @@
 -- Finite sets of unit squares as lists of rectangles.
 use Rattle.std.specs.Prelude.{◌≡◌, ◌↔◌, ◌⊎◌, ℤ, pos, ◌-ℤ◌, ◌≤ℤ◌, ◌<ℤ◌, Bool, true, false, List, [], ◌∷◌}
-use Rattle.std.specs.List.{list_any}
-use Rattle.geo_base.specs.Rects.{has}
+use Rattle.std.specs.List.{All, list_any}
+use Rattle.geo_base.specs.Rects.{has, IsRect}
 use Rattle.geo_base.specs.declared.shapes.Rect.{Rect}
 use Rattle.geo_base.specs.declared.shapes.Square.{Square}
 
@@ -51,3 +51,7 @@ pub record IsCanonical (rects : List Rect) : Type 0 where
 -- canonical lists that cover the same squares are one
 abbrev pub OneListLaw : Type 0
 OneListLaw = (a b : List Rect) → IsCanonical a → IsCanonical b → ((s : Square) → covers a s ≡ covers b s) → a ≡ b
+
+-- each rectangle of a canonical list has squares
+abbrev pub CanonicalLaw : Type 0
+CanonicalLaw = (rects : List Rect) → IsCanonical rects → All IsRect rects

@@ -13,4 +13,4 @@ mod set;
 mod strips;
 
 pub use row::{Edge, Rule};
-pub use set::{RectSet, combine_rects, one_list, sweep};
+pub use set::{RectSet, canonical_rects, combine_rects, one_list, sweep};

@@ -1,7 +1,7 @@
 ghost use Rattle.std.specs.Prelude.{◌≡◌, IfOk};
 ghost use Rattle.std.specs.List.{All};
 ghost use Rattle.geo_base.specs.Rects.{IsRect};
-ghost use Rattle.rect_sets.specs.Rects.{covers, OneListLaw};
+ghost use Rattle.rect_sets.specs.Rects.{covers, CanonicalLaw, OneListLaw};
 ghost use Rattle.rect_sets.specs.Edges.{set_of, IsEdge, IsBalanced};
 ghost use Rattle.rect_sets.specs.Combined.{combined};
 ghost use Rattle.geo_base.specs.declared.shapes.Square.{Square};
@@ -75,6 +75,9 @@ impl RectSet {
         requires { All IsRect rects.items }
         ensures { IfOk result (λ r. (s : Square) → covers r s ≡ covers rects.items s) }
     {
+        if rects.len() <= 1 {
+            return Ok(RectSet { rects });
+        }
         let set = combine_rects(alloc, &rects, &[], Rule::First)?;
         Ok(set)
     }
@@ -142,4 +145,9 @@ pub fn sweep(alloc: Global, edges: Vec<Edge>, rule: Rule) -> Result<RectSet, All
 /// Each finite set has one canonical list: two that cover the same squares are equal.
 pub fn one_list()
     ensures { OneListLaw }
+{}
+
+/// Each rectangle of a canonical list has squares.
+pub fn canonical_rects()
+    ensures { CanonicalLaw }
 {}

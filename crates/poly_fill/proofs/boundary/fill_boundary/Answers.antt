@@ -12,4 +12,4 @@ pub sweep-requires-clause-balanced : goal.sweep-requires-clause-balanced
 sweep-requires-clause-balanced c = subst IsBalanced (sym c.in_ok-edges.ensures) (balanced_along c.args.points.now c.requires)
 
 pub returns : goal.returns
-returns c = λ s. c.in_ok-set.ensures s ∙ ap is_some (ap (λ (q : List Edge). weight first_of q s) c.in_ok-edges.ensures ∙ weight_along c.args.points.now s)
+returns c = λ s. c.in_ok-set-2.ensures s ∙ ap is_some (ap (λ (q : List Edge). weight first_of q s) c.in_ok-edges.ensures ∙ weight_along c.args.points.now s)

@@ -1,0 +1,51 @@
+// Boundaries that are outlines of rectangles.
+ghost use Rattle.std.specs.Prelude.{◌≡◌, [], ◌∷◌, IfSome};
+ghost use Rattle.geo_base.specs.Rects.{has, rect_between};
+ghost use Rattle.poly_fill.specs.Fills.{in_boundary};
+ghost use Rattle.poly_fill.specs.Outlines.{LevelLaw, UprightLaw};
+ghost use Rattle.geo_base.specs.declared.shapes.Square.{Square};
+
+use geo_base::{Point, Rect};
+
+fn between(p: Point, q: Point) -> Rect
+    ensures { result ≡ rect_between p q }
+{
+    Rect {
+        x1: p.x.min(q.x),
+        y1: p.y.min(q.y),
+        x2: p.x.max(q.x),
+        y2: p.y.max(q.y),
+    }
+}
+
+// The rectangle that the points go round; none where they don't go along two level sides.
+fn outline_of(a: Point, b: Point, c: Point, d: Point, e: Point) -> Option<Rect>
+    ensures { IfSome result (λ r. (s : Square) → in_boundary (a ∷ b ∷ c ∷ d ∷ e ∷ []) s ≡ has r s) }
+{
+    if e.y != a.y {
+        return None;
+    }
+    if b.y == c.y && d.y == a.y {
+        return Some(between(a, c));
+    }
+    if a.y == b.y && c.y == d.y {
+        return Some(between(b, d));
+    }
+    None
+}
+
+/// The rectangle that five points go round, from any corner and either way; it may have no area. `None` for other points. O(1).
+pub fn outlined(points: &[Point]) -> Option<Rect>
+    ensures { IfSome result (λ r. (s : Square) → in_boundary points.now s ≡ has r s) }
+{
+    match points {
+        [a, b, c, d, e] => outline_of(*a, *b, *c, *d, *e),
+        _ => None,
+    }
+}
+
+/// Five points two of whose sides lie level go round exactly a rectangle's squares.
+pub fn outline_laws()
+    ensures upright { UprightLaw }
+    ensures level { LevelLaw }
+{}
