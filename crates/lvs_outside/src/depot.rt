@@ -2,8 +2,11 @@
 ghost use Rattle.std.specs.Prelude.{◌<◌, length};
 ghost use Rattle.lvs_outside.specs.Store.{Store, HasRoom, IsReading, IsWriting, OpensRead, Reads, StartsWrite, Writes, Finishes};
 
+use thiserror::Error;
+
 /// A call on the outside failed.
-#[derive(Clone, Copy, Debug, PartialEq, Eq)]
+#[derive(Clone, Copy, Debug, PartialEq, Eq, Error)]
+#[error("a call on the outside failed")]
 pub struct Failed;
 
 /// A store of files by path, of which one at a time is open.

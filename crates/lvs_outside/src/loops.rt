@@ -7,15 +7,19 @@ ghost use Rattle.lvs_outside.specs.declared.loops.ReadFault.TheVariants.{NoMemor
 
 use crate::{Counted, Depot, Failed, Sink};
 use std::alloc::AllocError;
+use thiserror::Error;
 
 /// Why a file wasn't read whole.
-#[derive(Clone, Copy, Debug, PartialEq, Eq)]
+#[derive(Clone, Copy, Debug, PartialEq, Eq, Error)]
 pub enum ReadFault {
     /// A read failed.
+    #[error("a read failed")]
     Failed,
     /// More than `LIMIT` bytes were read.
+    #[error("the file is too long")]
     TooLong,
     /// No memory was left for the bytes.
+    #[error("no memory")]
     NoMemory,
 }
 
