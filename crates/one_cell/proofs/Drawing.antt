@@ -138,6 +138,7 @@ covers_flat canonical_law written_law read_law v r cell layers text only drawn a
       only = only;
       written = written_library v cell layers;
       accepted = accepted (first_read v v.cells cell only (recursion_from_All (λ c. IsRead v c) v.cells (read_law bytes v read)));
+      units = refl;
       drawn = written_cell cell layers;
       alone = refl;
       name = refl;
