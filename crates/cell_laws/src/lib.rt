@@ -1,6 +1,6 @@
 //! What written cells cover, and what the flat rules say of a cell that places no other: laws.
 //!
-//! No code runs here; each law is the contract of a function with an empty body.
+//! No code runs here; each law is the contract of a function that does nothing.
 #![tactic(auto)]
 
 ghost use Rattle.cell_laws.specs.Covering.{OutlineLaw, WrittenLaw};

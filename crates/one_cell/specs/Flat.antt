@@ -11,8 +11,9 @@ use Rattle.cell_layers.specs.Shapes.{is_key, own_covers}
 use Rattle.cell_layers.specs.Readings.{reading_covers}
 use Rattle.one_cell.specs.OneCell.{only_cell, name_at}
 
--- The text is itself an accepted stream, in the layout's units. Its only cell has the name of the layout's only cell, and no text. On the layer of each output line
--- it covers exactly the squares that the line's name has pointwise over what the layout's cell covers, and on all other layers none.
+-- The text is itself an accepted stream, in the layout's units. Its only cell has the name of the layout's only cell, and no
+-- text. On the layer of each output line it covers exactly the squares that the line's name has pointwise over what the layout's
+-- cell covers, and on all other layers none.
 pub record CoversFlat (v : Library) (r : Rules) (text : List ℕ) : Type 0 where
   pub cell : Cell
   pub only : only_cell v ≡ Some cell

@@ -18,7 +18,7 @@ fn between(p: Point, q: Point) -> Rect
     }
 }
 
-// The rectangle that the points go round; none where they don't go along two level sides.
+// The rectangle that the points go round, where two of their sides lie level.
 fn outline_of(a: Point, b: Point, c: Point, d: Point, e: Point) -> Option<Rect>
     ensures { IfSome result (λ r. (s : Square) → in_boundary (a ∷ b ∷ c ∷ d ∷ e ∷ []) s ≡ has r s) }
 {
@@ -34,7 +34,8 @@ fn outline_of(a: Point, b: Point, c: Point, d: Point, e: Point) -> Option<Rect>
     None
 }
 
-/// The rectangle that five points go round, from any corner and either way; it may have no area. `None` for other points. O(1).
+/// The rectangle that five points go round, from any corner and either way; it may have no area. `None` says nothing of the
+/// points: the code answers it for all others. O(1).
 pub fn outlined(points: &[Point]) -> Option<Rect>
     ensures { IfSome result (λ r. (s : Square) → in_boundary points.now s ≡ has r s) }
 {
