@@ -1,10 +1,11 @@
 -- Dropping what holds nothing leaves devices and their nets as they are.
 use Rattle.std.proofs.Common.{◌≡◌, ◌↔◌, ◌&&◌, inl, inr, ℕ, Bool, true, false, List, [], ◌∷◌, ◌++◌, Some, slice_get, refl, sym, ◌∙◌, ap, subst}
+use Rattle.plain_netlist.proofs.Once.{one_call}
 use Rattle.plain_netlist.specs.Netlist.{Pole, Source, Gate, Drain, Bulk, on, DeviceRow, CallRow, Netlist, IsCall, IsPin, Slot, Joins, IsJoin, IsEitherJoin, InOneNet, HasDevice, slot, IsOnPin}
 use Rattle.align_laws.specs.Flat.{below, IsRowImage, row_through}
-use Rattle.align_laws.specs.Prune.{Cuts, ArePruned, IsHeldSlot, new_slot, new_path, IsPrunedExpansion, PruneLaw}
+use Rattle.align_laws.proofs.Prune.{Cuts, ArePruned, IsHeldSlot, new_slot, new_path, IsPrunedExpansion, PruneLaw}
 use Rattle.plain_netlist.proofs.Links.{along}
-use Rattle.align_laws.proofs.Joined.{one_call, net_same, net_back, net_on, net_down, call_joins}
+use Rattle.align_laws.proofs.Joined.{net_same, net_back, net_on, net_down, call_joins}
 use Rattle.align_laws.proofs.Anchor.{is_it, HeldLink, held_chain, held_root}
 
 pole_through : (f : ℕ → ℕ) (pole : Pole) (r : DeviceRow) → on pole (row_through f r) ≡ f (on pole r)

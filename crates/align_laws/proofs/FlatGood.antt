@@ -1,14 +1,15 @@
 -- The flat netlist is good where the given one is.
 use Rattle.std.proofs.Common.{◌≡◌, inl, inr, ℕ, zero, suc, ◌<◌, Bool, List, [], ◌∷◌, map, length, refl, sym, ◌∙◌, ap, subst, arith}
+use Rattle.plain_netlist.proofs.Once.{one_call}
+use Rattle.plain_netlist.specs.Sound.{IsGood}
 use Rattle.plain_netlist.specs.Netlist.{CallRow, Circuit, Netlist, IsCircuit, IsCall}
 use Rattle.align_laws.specs.Flat.{Maps, AreInlined, call_through}
-use Rattle.align_laws.specs.Lists.{FlatCircuit, plain, AreFlat, IsGood, maps_of}
+use Rattle.align_laws.specs.Lists.{FlatCircuit, plain, AreFlat, maps_of}
 use Rattle.align_laws.specs.Words.{FlatGoodLaw}
-use Rattle.align_laws.proofs.Joined.{one_call}
 use Rattle.align_laws.proofs.Listed.{listed}
 use Rattle.align_laws.proofs.Held.{lower_calls}
 
-long_map : (f : ℕ → ℕ) (xs : List ℕ) → length (map f xs) ≡ length xs
+pub long_map : (f : ℕ → ℕ) (xs : List ℕ) → length (map f xs) ≡ length xs
 long_map f [] = refl
 long_map f (x ∷ xs) = ap suc (long_map f xs)
 

@@ -1,10 +1,12 @@
 -- Flattening leaves the expansion as it is.
 use Rattle.std.proofs.Common.{◌≡◌, ◌↔◌, inl, inr, ℕ, zero, suc, ◌<◌, List, [], ◌∷◌, ◌++◌, Some, slice_get, refl, sym, ◌∙◌, ap, subst, arith}
+use Rattle.plain_netlist.proofs.Once.{one_call}
+use Rattle.plain_netlist.proofs.Members.{map_at, from_map}
 use Rattle.plain_netlist.specs.Chains.{Reaches}
 use Rattle.plain_netlist.specs.Netlist.{Pole, Source, Gate, Drain, Bulk, on, DeviceRow, CallRow, Netlist, IsCall, IsDevice, IsPin, HasNet, IsSlot, Slot, Joins, IsEitherJoin, InOneNet, HasDevice, slot}
-use Rattle.align_laws.specs.Flat.{Inlay, Fate, Stays, Goes, Maps, below, beyond, inside, step, image, net_of, device_of, net_image, device_image, origin, IsInlaid, AreInlined, IsRowImage, IsSameExpansion, FlatLaw, row_through, call_through}
+use Rattle.align_laws.specs.Flat.{Placing, CallFate, Stays, Goes, Maps, below, beyond, inside, step, image, placed_net, placed_device, net_image, device_image, origin, IsPlacedInside, AreInlined, IsRowImage, IsSameExpansion, FlatLaw, row_through, call_through}
 use Rattle.plain_netlist.proofs.Links.{single, along}
-use Rattle.align_laws.proofs.Joined.{map_at, map_back, one_call, net_same, net_back, net_on, net_down, call_joins}
+use Rattle.align_laws.proofs.Joined.{net_same, net_back, net_on, net_down, call_joins}
 
 pole_through : (f : ℕ → ℕ) (pole : Pole) (r : DeviceRow) → on pole (row_through f r) ≡ f (on pole r)
 pole_through f Source r = refl
@@ -14,56 +16,56 @@ pole_through f Bulk r = refl
 
 module _ (g f : Netlist) (v : Maps) (height : ℕ → ℕ) (are : AreInlined g f v height) where
   -- joins of the called flat circuit are joins of the caller
-  inside_joins : (c k : ℕ) (row : CallRow) (i : Inlay) → IsInlaid g f v c k row i → (path : List ℕ) (outer e inner : ℕ) → Joins f row.circuit path outer e inner
-      → (s : Slot) → path ++ e ∷ [] ≡ s.path → s.net ≡ inner → Reaches (IsEitherJoin f c) (inside net_of i path outer) (inside net_of i s.path s.net)
+  inside_joins : (c k : ℕ) (row : CallRow) (i : Placing) → IsPlacedInside g f v c k row i → (path : List ℕ) (outer e inner : ℕ) → Joins f row.circuit path outer e inner
+      → (s : Slot) → path ++ e ∷ [] ≡ s.path → s.net ≡ inner → Reaches (IsEitherJoin f c) (inside placed_net i path outer) (inside placed_net i s.path s.net)
   inside_joins c k row i is [] outer e inner (own, call, called, at, p, net, pin) s deep low =
       let there = (is.call e own call).0 in
       let go : Reaches (IsEitherJoin f c) (slot [] (i.net outer)) (slot (i.call e ∷ []) inner) =
       call_joins f c (i.call e) (call_through i.net own) p (i.net outer) inner there (map_at i.net own.nets p outer net) (called, at, pin) in
-      subst (λ (q : List ℕ). Reaches (IsEitherJoin f c) (slot [] (i.net outer)) (inside net_of i q s.net)) deep
+      subst (λ (q : List ℕ). Reaches (IsEitherJoin f c) (slot [] (i.net outer)) (inside placed_net i q s.net)) deep
       (subst (λ (n : ℕ). Reaches (IsEitherJoin f c) (slot [] (i.net outer)) (slot (i.call e ∷ []) n)) (sym low) go)
   inside_joins c k row i is (x ∷ xs) outer e inner (own, call, rest) s deep low =
       let there = (is.call x own call).0 in
       let go : Reaches (IsEitherJoin f c) (slot (i.call x ∷ xs) outer) (slot (i.call x ∷ (xs ++ e ∷ [])) inner) =
       single (IsEitherJoin f c) (slot (i.call x ∷ xs) outer) (slot (i.call x ∷ (xs ++ e ∷ [])) inner)
       (inl (record { number = e; deeper = refl; joins = (call_through i.net own, there, rest) })) in
-      subst (λ (q : List ℕ). Reaches (IsEitherJoin f c) (slot (i.call x ∷ xs) outer) (inside net_of i q s.net)) deep
+      subst (λ (q : List ℕ). Reaches (IsEitherJoin f c) (slot (i.call x ∷ xs) outer) (inside placed_net i q s.net)) deep
       (subst (λ (n : ℕ). Reaches (IsEitherJoin f c) (slot (i.call x ∷ xs) outer) (slot (i.call x ∷ (xs ++ e ∷ [])) n)) (sym low) go)
 
-  into : Inlay → Slot → Slot
-  into i s = inside net_of i s.path s.net
+  into : Placing → Slot → Slot
+  into i s = inside placed_net i s.path s.net
 
-  inside_either : (c k : ℕ) (row : CallRow) (i : Inlay) → IsInlaid g f v c k row i → (a b : Slot) → IsEitherJoin f row.circuit a b → Reaches (IsEitherJoin f c) (inside net_of i a.path a.net) (inside net_of i b.path b.net)
+  inside_either : (c k : ℕ) (row : CallRow) (i : Placing) → IsPlacedInside g f v c k row i → (a b : Slot) → IsEitherJoin f row.circuit a b → Reaches (IsEitherJoin f c) (inside placed_net i a.path a.net) (inside placed_net i b.path b.net)
   inside_either c k row i is a b (inl h) = inside_joins c k row i is a.path a.net h.number b.net h.joins b h.deeper refl
-  inside_either c k row i is a b (inr h) = net_back f c (inside net_of i b.path b.net) (inside net_of i a.path a.net) (inside_joins c k row i is b.path b.net h.number a.net h.joins a h.deeper refl)
+  inside_either c k row i is a b (inr h) = net_back f c (inside placed_net i b.path b.net) (inside placed_net i a.path a.net) (inside_joins c k row i is b.path b.net h.number a.net h.joins a h.deeper refl)
 
-  inside_net : (c k : ℕ) (row : CallRow) (i : Inlay) → IsInlaid g f v c k row i → (a b : Slot) → InOneNet f row.circuit a b → InOneNet f c (inside net_of i a.path a.net) (inside net_of i b.path b.net)
-  inside_net c k row i is a b h = along (IsEitherJoin f row.circuit) (IsEitherJoin f c) (λ (s : Slot). inside net_of i s.path s.net) (inside_either c k row i is) a b h
+  inside_net : (c k : ℕ) (row : CallRow) (i : Placing) → IsPlacedInside g f v c k row i → (a b : Slot) → InOneNet f row.circuit a b → InOneNet f c (inside placed_net i a.path a.net) (inside placed_net i b.path b.net)
+  inside_net c k row i is a b h = along (IsEitherJoin f row.circuit) (IsEitherJoin f c) (λ (s : Slot). inside placed_net i s.path s.net) (inside_either c k row i is) a b h
 
   -- forward
   first_step : (c k : ℕ) (row : CallRow) (p outer inner : ℕ) → IsCall g c k row → slice_get row.nets p ≡ Some outer → IsPin g row.circuit p inner
-      → (x : Fate) → v.fate c k ≡ x → InOneNet f c (slot [] outer) (step net_of x (slot [] inner))
+      → (x : CallFate) → v.fate c k ≡ x → InOneNet f c (slot [] outer) (step placed_net x (slot [] inner))
   first_step c k row p outer inner call net pin (Stays e) is =
       call_joins f c e row p outer inner ((are.each c).stays k e row call is).0 net (((are.each row.circuit).pins p inner).0 pin)
   first_step c k row p outer inner call net pin (Goes i) is =
       net_same f c (slot [] outer) (slot [] (i.net inner)) (ap (slot []) (sym (((are.each c).goes k i row call is).pin p outer inner net pin)))
 
-  next_step : (c k : ℕ) (row : CallRow) (a b : Slot) → IsCall g c k row → InOneNet f row.circuit a b → (x : Fate) → v.fate c k ≡ x → InOneNet f c (step net_of x a) (step net_of x b)
+  next_step : (c k : ℕ) (row : CallRow) (a b : Slot) → IsCall g c k row → InOneNet f row.circuit a b → (x : CallFate) → v.fate c k ≡ x → InOneNet f c (step placed_net x a) (step placed_net x b)
   next_step c k row a b call h (Stays e) is = net_down f c e row ((are.each c).stays k e row call is).0 a b h
   next_step c k row a b call h (Goes i) is = inside_net c k row i ((are.each c).goes k i row call is) a b h
 
-  forth : (path : List ℕ) (c outer k inner : ℕ) → Joins g c path outer k inner → InOneNet f c (image v net_of c path outer) (image v net_of c (path ++ k ∷ []) inner)
+  forth : (path : List ℕ) (c outer k inner : ℕ) → Joins g c path outer k inner → InOneNet f c (image v placed_net c path outer) (image v placed_net c (path ++ k ∷ []) inner)
   forth [] c outer k inner (row, call, called, at, p, net, pin) = first_step c k row p outer inner call net (called, at, pin) (v.fate c k) refl
   forth (j ∷ js) c outer k inner (row, call, rest) =
       let target = (are.each c).target j row call in
-      let low : InOneNet f row.circuit (image v net_of (v.target c j) js outer) (image v net_of (v.target c j) (js ++ k ∷ []) inner) =
-      subst (λ (t : ℕ). InOneNet f row.circuit (image v net_of t js outer) (image v net_of t (js ++ k ∷ []) inner)) (sym target) (forth js row.circuit outer k inner rest) in
-      next_step c j row (image v net_of (v.target c j) js outer) (image v net_of (v.target c j) (js ++ k ∷ []) inner) call low (v.fate c j) refl
+      let low : InOneNet f row.circuit (image v placed_net (v.target c j) js outer) (image v placed_net (v.target c j) (js ++ k ∷ []) inner) =
+      subst (λ (t : ℕ). InOneNet f row.circuit (image v placed_net t js outer) (image v placed_net t (js ++ k ∷ []) inner)) (sym target) (forth js row.circuit outer k inner rest) in
+      next_step c j row (image v placed_net (v.target c j) js outer) (image v placed_net (v.target c j) (js ++ k ∷ []) inner) call low (v.fate c j) refl
 
   forth_either : (c : ℕ) (a b : Slot) → IsEitherJoin g c a b → InOneNet f c (net_image v c a) (net_image v c b)
-  forth_either c a b (inl h) = subst (λ (q : List ℕ). InOneNet f c (net_image v c a) (image v net_of c q b.net)) h.deeper (forth a.path c a.net h.number b.net h.joins)
+  forth_either c a b (inl h) = subst (λ (q : List ℕ). InOneNet f c (net_image v c a) (image v placed_net c q b.net)) h.deeper (forth a.path c a.net h.number b.net h.joins)
   forth_either c a b (inr h) = net_back f c (net_image v c b) (net_image v c a)
-      (subst (λ (q : List ℕ). InOneNet f c (net_image v c b) (image v net_of c q a.net)) h.deeper (forth b.path c b.net h.number a.net h.joins))
+      (subst (λ (q : List ℕ). InOneNet f c (net_image v c b) (image v placed_net c q a.net)) h.deeper (forth b.path c b.net h.number a.net h.joins))
 
   net_forth : (c : ℕ) (a b : Slot) → InOneNet g c a b → InOneNet f c (net_image v c a) (net_image v c b)
   net_forth c a b h = along (IsEitherJoin g c) (IsEitherJoin f c) (net_image v c) (forth_either c) a b h
@@ -72,7 +74,7 @@ module _ (g f : Netlist) (v : Maps) (height : ℕ → ℕ) (are : AreInlined g f
   from_own : (c n : ℕ) → HasNet g c n → v.net_from c n ≡ slot [] n
   from_own c n h = ((are.each c).net n h).1
 
-  from_inlaid : (c k : ℕ) (row : CallRow) (i : Inlay) (n : ℕ) → IsCall g c k row → IsInlaid g f v c k row i → HasNet f row.circuit n → InOneNet g c (v.net_from c (i.net n)) (below k (v.net_from row.circuit n))
+  from_inlaid : (c k : ℕ) (row : CallRow) (i : Placing) (n : ℕ) → IsCall g c k row → IsPlacedInside g f v c k row i → HasNet f row.circuit n → InOneNet g c (v.net_from c (i.net n)) (below k (v.net_from row.circuit n))
   from_inlaid c k row i n call is has = elim (is.net n has) [
     | inl (p, outer, net, pin) ↦
         let up : v.net_from c (i.net n) ≡ slot [] outer = ap (v.net_from c) (is.pin p outer n net pin) ∙ from_own c outer (are.within.calls c k p outer row call net) in
@@ -96,7 +98,7 @@ module _ (g f : Netlist) (v : Maps) (height : ℕ → ℕ) (are : AreInlined g f
         let inlaid = (are.each c).goes k i given is fate in
         let there = inlaid.call m own deep in
         let one : call_through i.net own ≡ row = one_call f c e (call_through i.net own) row (subst (λ (n : ℕ). IsCall f c n (call_through i.net own)) num there.0) call in
-        let n = map_back i.net own.nets p outer (subst (λ (r : CallRow). slice_get r.nets p ≡ Some outer) (sym one) net) in
+        let n = from_map i.net own.nets p outer (subst (λ (r : CallRow). slice_get r.nets p ≡ Some outer) (sym one) net) in
         let lower = are.lower c k given is in
         let deeper : height given.circuit < h = let a = low in omega arith in
         let rec = way_joins h given.circuit m own p n.0 inner deeper deep n.1 (subst (λ (r : CallRow). IsPin g r.circuit p inner) (sym one) pin) in
@@ -163,7 +165,7 @@ module _ (g f : Netlist) (v : Maps) (height : ℕ → ℕ) (are : AreInlined g f
     there : IsSlot f c t.path t.net
     back : InOneNet g c a (origin v v.net_from c t.path t.net)
 
-  inlaid_returns : (c k : ℕ) (row : CallRow) (i : Inlay) → IsCall g c k row → IsInlaid g f v c k row i → (a : Slot) (sp : List ℕ) (sn : ℕ) → Returns row.circuit a (slot sp sn) → Returns c (below k a) (inside net_of i sp sn)
+  inlaid_returns : (c k : ℕ) (row : CallRow) (i : Placing) → IsCall g c k row → IsPlacedInside g f v c k row i → (a : Slot) (sp : List ℕ) (sn : ℕ) → Returns row.circuit a (slot sp sn) → Returns c (below k a) (inside placed_net i sp sn)
   inlaid_returns c k row i call is a [] sn r = record {
     there = is.within sn r.there;
     back = net_on g c (below k a) (below k (v.net_from row.circuit sn)) (v.net_from c (i.net sn))
@@ -182,7 +184,7 @@ module _ (g f : Netlist) (v : Maps) (height : ℕ → ℕ) (are : AreInlined g f
             (subst (λ (w : List ℕ). InOneNet g c (below k a) (beyond w (origin v v.net_from (v.onward row.circuit e) es sn))) (sym moved.1) go);
       }
 
-  step_returns : (c k : ℕ) (row : CallRow) (a s : Slot) → IsCall g c k row → Returns row.circuit a s → (x : Fate) → v.fate c k ≡ x → Returns c (below k a) (step net_of x s)
+  step_returns : (c k : ℕ) (row : CallRow) (a s : Slot) → IsCall g c k row → Returns row.circuit a s → (x : CallFate) → v.fate c k ≡ x → Returns c (below k a) (step placed_net x s)
   step_returns c k row a s call r (Stays e) is =
       let there = (are.each c).stays k e row call is in
       let onward = (are.each c).onward e row there.0 in
@@ -194,14 +196,14 @@ module _ (g f : Netlist) (v : Maps) (height : ℕ → ℕ) (are : AreInlined g f
       }
   step_returns c k row a s call r (Goes i) is = inlaid_returns c k row i call ((are.each c).goes k i row call is) a s.path s.net r
 
-  returning : (path : List ℕ) (c n : ℕ) → IsSlot g c path n → Returns c (slot path n) (image v net_of c path n)
+  returning : (path : List ℕ) (c n : ℕ) → IsSlot g c path n → Returns c (slot path n) (image v placed_net c path n)
   returning [] c n h =
       let r = (are.each c).net n h in
       record { there = r.0; back = net_same g c (slot [] n) (v.net_from c n) (sym r.1) }
   returning (k ∷ ks) c n (row, call, h) =
       let target = (are.each c).target k row call in
-      let low = subst (λ (t : ℕ). Returns row.circuit (slot ks n) (image v net_of t ks n)) (sym target) (returning ks row.circuit n h) in
-      step_returns c k row (slot ks n) (image v net_of (v.target c k) ks n) call low (v.fate c k) refl
+      let low = subst (λ (t : ℕ). Returns row.circuit (slot ks n) (image v placed_net t ks n)) (sym target) (returning ks row.circuit n h) in
+      step_returns c k row (slot ks n) (image v placed_net (v.target c k) ks n) call low (v.fate c k) refl
 
   nets : (c : ℕ) (a b : Slot) → IsSlot g c a.path a.net → IsSlot g c b.path b.net → InOneNet g c a b ↔ InOneNet f c (net_image v c a) (net_image v c b)
   nets c a b at bt = (
@@ -234,14 +236,14 @@ module _ (g f : Netlist) (v : Maps) (height : ℕ → ℕ) (are : AreInlined g f
           length = h.image.length;
           width = h.image.width;
           poles = λ pole.
-              ap (λ (x : Fate). step net_of x (image v net_of (v.target c k) ks (on pole row))) fate
-              ∙ (ap (λ (t : ℕ). below e (image v net_of t ks (on pole row))) target ∙ (let low : image v net_of call.circuit ks (on pole row) ≡ slot s.path (on pole h.other) = h.image.poles pole in ap (below e) low));
+              ap (λ (x : CallFate). step placed_net x (image v placed_net (v.target c k) ks (on pole row))) fate
+              ∙ (ap (λ (t : ℕ). below e (image v placed_net t ks (on pole row))) target ∙ (let low : image v placed_net call.circuit ks (on pole row) ≡ slot s.path (on pole h.other) = h.image.poles pole in ap (below e) low));
         };
         back = ap (λ (w : List ℕ). beyond w (origin v v.device_from (v.onward c e) s.path s.net)) there.1
             ∙ (ap (λ (t : ℕ). below k (origin v v.device_from t s.path s.net)) onward ∙ ap (below k) h.back);
       }
 
-  inlaid_seen : (c k : ℕ) (i : Inlay) (call : CallRow) (ks : List ℕ) (j : ℕ) (row : DeviceRow) (sp : List ℕ) (sn : ℕ) → IsCall g c k call → v.fate c k ≡ Goes i → Seen call.circuit ks j row (slot sp sn) → Seen c (k ∷ ks) j row (inside device_of i sp sn)
+  inlaid_seen : (c k : ℕ) (i : Placing) (call : CallRow) (ks : List ℕ) (j : ℕ) (row : DeviceRow) (sp : List ℕ) (sn : ℕ) → IsCall g c k call → v.fate c k ≡ Goes i → Seen call.circuit ks j row (slot sp sn) → Seen c (k ∷ ks) j row (inside placed_device i sp sn)
   inlaid_seen c k i call ks j row [] sn is fate h =
       let inlaid = (are.each c).goes k i call is fate in
       let target = (are.each c).target k call is in
@@ -254,9 +256,9 @@ module _ (g f : Netlist) (v : Maps) (height : ℕ → ℕ) (are : AreInlined g f
           length = h.image.length;
           width = h.image.width;
           poles = λ pole.
-              ap (λ (x : Fate). step net_of x (image v net_of (v.target c k) ks (on pole row))) fate
-              ∙ (ap (λ (t : ℕ). step net_of (Goes i) (image v net_of t ks (on pole row))) target
-              ∙ (ap (step net_of (Goes i)) (h.image.poles pole) ∙ ap (slot []) (sym (pole_through i.net pole h.other))));
+              ap (λ (x : CallFate). step placed_net x (image v placed_net (v.target c k) ks (on pole row))) fate
+              ∙ (ap (λ (t : ℕ). step placed_net (Goes i) (image v placed_net t ks (on pole row))) target
+              ∙ (ap (step placed_net (Goes i)) (h.image.poles pole) ∙ ap (slot []) (sym (pole_through i.net pole h.other))));
         };
         back = there.1 ∙ ap (below k) h.back;
       }
@@ -275,15 +277,15 @@ module _ (g f : Netlist) (v : Maps) (height : ℕ → ℕ) (are : AreInlined g f
           length = h.image.length;
           width = h.image.width;
           poles = λ pole.
-              ap (λ (x : Fate). step net_of x (image v net_of (v.target c k) ks (on pole row))) fate
-              ∙ (ap (λ (t : ℕ). step net_of (Goes i) (image v net_of t ks (on pole row))) target
-              ∙ (let low : image v net_of call.circuit ks (on pole row) ≡ slot (e ∷ es) (on pole h.other) = h.image.poles pole in ap (step net_of (Goes i)) low));
+              ap (λ (x : CallFate). step placed_net x (image v placed_net (v.target c k) ks (on pole row))) fate
+              ∙ (ap (λ (t : ℕ). step placed_net (Goes i) (image v placed_net t ks (on pole row))) target
+              ∙ (let low : image v placed_net call.circuit ks (on pole row) ≡ slot (e ∷ es) (on pole h.other) = h.image.poles pole in ap (step placed_net (Goes i)) low));
         };
         back = ap (λ (w : List ℕ). beyond w (origin v v.device_from (v.onward c (i.call e)) es sn)) moved.1
             ∙ (ap (λ (t : ℕ). beyond (k ∷ v.way call.circuit e) (origin v v.device_from t es sn)) onward ∙ ap (below k) h.back);
       }
 
-  step_seen : (c k : ℕ) (call : CallRow) (ks : List ℕ) (j : ℕ) (row : DeviceRow) (s : Slot) → IsCall g c k call → Seen call.circuit ks j row s → (x : Fate) → v.fate c k ≡ x → Seen c (k ∷ ks) j row (step device_of x s)
+  step_seen : (c k : ℕ) (call : CallRow) (ks : List ℕ) (j : ℕ) (row : DeviceRow) (s : Slot) → IsCall g c k call → Seen call.circuit ks j row s → (x : CallFate) → v.fate c k ≡ x → Seen c (k ∷ ks) j row (step placed_device x s)
   step_seen c k call ks j row s is h (Stays e) fate = stay_seen c k e call ks j row s is fate h
   step_seen c k call ks j row s is h (Goes i) fate = inlaid_seen c k i call ks j row s.path s.net is fate h
 
@@ -293,18 +295,18 @@ module _ (g f : Netlist) (v : Maps) (height : ℕ → ℕ) (are : AreInlined g f
       record { other = row; has = r.0; image = record { class = refl; length = refl; width = refl; poles = λ pole. refl }; back = r.1 }
   seen (k ∷ ks) c j row (call, is, h) =
       let target = (are.each c).target k call is in
-      let low = subst (λ (t : ℕ). Seen call.circuit ks j row (image v device_of t ks j)) (sym target) (seen ks call.circuit j row h) in
-      step_seen c k call ks j row (image v device_of (v.target c k) ks j) is low (v.fate c k) refl
+      let low = subst (λ (t : ℕ). Seen call.circuit ks j row (image v placed_device t ks j)) (sym target) (seen ks call.circuit j row h) in
+      step_seen c k call ks j row (image v placed_device (v.target c k) ks j) is low (v.fate c k) refl
 
   -- a path behind a flat call's way stands behind the call
-  pub way_image : (h c e : ℕ) (row : CallRow) (path : List ℕ) (n : ℕ) → height c < h → IsCall f c e row → image v device_of c (v.way c e ++ path) n ≡ below e (image v device_of row.circuit path n)
+  pub way_image : (h c e : ℕ) (row : CallRow) (path : List ℕ) (n : ℕ) → height c < h → IsCall f c e row → image v placed_device c (v.way c e ++ path) n ≡ below e (image v placed_device row.circuit path n)
   way_image zero c e row path n low call = absurd (let l = low in omega arith)
   way_image (suc h) c e row path n low call = elim ((are.each c).calls e row call) [
     | inl (k, given, fate) ↦
         let w = ((are.each c).stays k e row given fate).1 in
         let target = (are.each c).target k row given in
-        ap (λ (q : List ℕ). image v device_of c (q ++ path) n) w
-        ∙ (ap (λ (x : Fate). step device_of x (image v device_of (v.target c k) path n)) fate ∙ ap (λ (t : ℕ). below e (image v device_of t path n)) target)
+        ap (λ (q : List ℕ). image v placed_device c (q ++ path) n) w
+        ∙ (ap (λ (x : CallFate). step placed_device x (image v placed_device (v.target c k) path n)) fate ∙ ap (λ (t : ℕ). below e (image v placed_device t path n)) target)
     | inr (k, given, i, m, own, is, fate, deep, num) ↦
         let inlaid = (are.each c).goes k i given is fate in
         let there = inlaid.call m own deep in
@@ -315,11 +317,11 @@ module _ (g f : Netlist) (v : Maps) (height : ℕ → ℕ) (are : AreInlined g f
         let rec = way_image h given.circuit m own path n deeper deep in
         let w : v.way c e ≡ k ∷ v.way given.circuit m = subst (λ (x : ℕ). v.way c x ≡ k ∷ v.way given.circuit m) num there.1 in
         let circuit : own.circuit ≡ row.circuit = ap (λ (r : CallRow). r.circuit) one in
-        ap (λ (q : List ℕ). image v device_of c (q ++ path) n) w
-        ∙ (ap (λ (x : Fate). step device_of x (image v device_of (v.target c k) (v.way given.circuit m ++ path) n)) fate
-        ∙ (ap (λ (t : ℕ). step device_of (Goes i) (image v device_of t (v.way given.circuit m ++ path) n)) target
-        ∙ (ap (step device_of (Goes i)) rec
-        ∙ (ap (λ (x : ℕ). below x (image v device_of own.circuit path n)) num ∙ ap (λ (t : ℕ). below e (image v device_of t path n)) circuit))))
+        ap (λ (q : List ℕ). image v placed_device c (q ++ path) n) w
+        ∙ (ap (λ (x : CallFate). step placed_device x (image v placed_device (v.target c k) (v.way given.circuit m ++ path) n)) fate
+        ∙ (ap (λ (t : ℕ). step placed_device (Goes i) (image v placed_device t (v.way given.circuit m ++ path) n)) target
+        ∙ (ap (step placed_device (Goes i)) rec
+        ∙ (ap (λ (x : ℕ). below x (image v placed_device own.circuit path n)) num ∙ ap (λ (t : ℕ). below e (image v placed_device t path n)) circuit))))
   ]
 
   record Found (c : ℕ) (es : List ℕ) (j : ℕ) : Type 0 where
@@ -341,9 +343,9 @@ module _ (g f : Netlist) (v : Maps) (height : ℕ → ℕ) (are : AreInlined g f
           place = below k r.place;
           own = r.own;
           has = (call, is, r.has);
-          is = ap (λ (x : Fate). step device_of x (image v device_of (v.target c k) r.place.path r.place.net)) fate
-              ∙ (ap (λ (t : ℕ). step device_of (Goes i) (image v device_of t r.place.path r.place.net)) target
-              ∙ (ap (step device_of (Goes i)) r.is ∙ ap (slot []) num));
+          is = ap (λ (x : CallFate). step placed_device x (image v placed_device (v.target c k) r.place.path r.place.net)) fate
+              ∙ (ap (λ (t : ℕ). step placed_device (Goes i) (image v placed_device t r.place.path r.place.net)) target
+              ∙ (ap (step placed_device (Goes i)) r.is ∙ ap (slot []) num));
         }
   ]
 

@@ -1,12 +1,12 @@
 -- The held nets are fixed by what is kept.
 use Rattle.std.proofs.Common.{◌≡◌, inl, inr, ℕ, zero, suc, ◌<◌, true, sym, ◌∙◌, ap, subst, arith}
+use Rattle.plain_netlist.proofs.Once.{one_call}
 use Rattle.plain_netlist.specs.Netlist.{CallRow, Netlist, IsCall}
 use Rattle.align_laws.specs.Flat.{Maps, AreInlined, call_through}
-use Rattle.align_laws.specs.Cut.{Choice}
-use Rattle.align_laws.specs.Words.{AreHeld, OneHeldLaw, LowerLaw}
-use Rattle.align_laws.proofs.Joined.{one_call}
+use Rattle.align_laws.specs.Cut.{Alignment, AreHeld}
+use Rattle.align_laws.specs.Words.{OneHeldLaw, LowerLaw}
 
-held_to : (f : Netlist) (a b : Choice) (height : ℕ → ℕ) → ((c k : ℕ) (row : CallRow) → IsCall f c k row → height row.circuit < height c) → AreHeld f a → AreHeld f b → ((c : ℕ) → a.kept c ≡ b.kept c)
+held_to : (f : Netlist) (a b : Alignment) (height : ℕ → ℕ) → ((c k : ℕ) (row : CallRow) → IsCall f c k row → height row.circuit < height c) → AreHeld f a → AreHeld f b → ((c : ℕ) → a.kept c ≡ b.kept c)
     → (h c n : ℕ) → height c < h → a.kept c ≡ true → a.held c n ≡ true → b.held c n ≡ true
 held_to f a b height lower ha hb same zero c n low kept h = absurd (let l = low in omega arith)
 held_to f a b height lower ha hb same (suc m) c n low kept h = elim ((ha c n kept).0 h) [

@@ -1,9 +1,9 @@
 -- Calls of a flat circuit are inner paths followed by a call that stays.
 use Rattle.std.proofs.Common.{◌≡◌, inl, inr, ℕ, zero, suc, ◌<◌, List, [], ◌∷◌, ◌++◌, refl, sym, ◌∙◌, ap, subst, arith}
+use Rattle.plain_netlist.proofs.Once.{one_call}
 use Rattle.plain_netlist.specs.Netlist.{CallRow, Netlist, IsCall, Slot, slot}
-use Rattle.align_laws.specs.Flat.{Maps, image, device_of, AreInlined, call_through}
+use Rattle.align_laws.specs.Flat.{Maps, image, placed_device, AreInlined, call_through}
 use Rattle.align_laws.specs.Words.{IsWay, AreCallsInside, InnerCallLaw}
-use Rattle.align_laws.proofs.Joined.{one_call}
 use Rattle.align_laws.proofs.Flatten.{way_image}
 
 module _ (g f : Netlist) (v : Maps) (height : ℕ → ℕ) (are : AreInlined g f v height) where
@@ -38,7 +38,7 @@ module _ (g f : Netlist) (v : Maps) (height : ℕ → ℕ) (are : AreInlined g f
   once c d e a b x y same =
       let p = way_image g f v height are (suc (height c)) c d a [] 0 (omega arith) x in
       let q = way_image g f v height are (suc (height c)) c e b [] 0 (omega arith) y in
-      let all : slot (d ∷ []) 0 ≡ slot (e ∷ []) 0 = sym p ∙ (ap (λ (w : List ℕ). image v device_of c (w ++ []) 0) same ∙ q) in
+      let all : slot (d ∷ []) 0 ≡ slot (e ∷ []) 0 = sym p ∙ (ap (λ (w : List ℕ). image v placed_device c (w ++ []) 0) same ∙ q) in
       let paths : d ∷ [] ≡ e ∷ [] = ap (λ (s : Slot). s.path) all in
       cc
 

@@ -1,31 +1,9 @@
 -- Nets of what circuits expand to, below a call.
-use Rattle.std.proofs.Common.{◌≡◌, inl, inr, ℕ, zero, suc, List, [], ◌∷◌, map, Some, slice_get, refl, ap, subst}
+use Rattle.std.proofs.Common.{◌≡◌, inl, inr, ℕ, List, [], ◌∷◌, Some, slice_get, refl, ap}
 use Rattle.plain_netlist.specs.Chains.{Reaches}
-use Rattle.plain_netlist.specs.Netlist.{DeviceRow, CallRow, Circuit, Netlist, IsCall, IsDevice, IsPin, Slot, IsJoin, IsEitherJoin, InOneNet, slot}
+use Rattle.plain_netlist.specs.Netlist.{CallRow, Netlist, IsCall, IsPin, Slot, IsJoin, IsEitherJoin, InOneNet, slot}
 use Rattle.align_laws.specs.Flat.{below}
 use Rattle.plain_netlist.proofs.Links.{stays, single, both, back, along}
-
-pub map_at : (f : ℕ → ℕ) (xs : List ℕ) (p n : ℕ) → slice_get xs p ≡ Some n → slice_get (map f xs) p ≡ Some (f n)
-map_at f [] p n h = absurd cc
-map_at f (x ∷ xs) zero n h = let e : Some x ≡ Some n = h in let s : x ≡ n = cc in ap (λ (z : ℕ). Some (f z)) s
-map_at f (x ∷ xs) (suc p) n h = map_at f xs p n h
-
-pub map_back : (f : ℕ → ℕ) (xs : List ℕ) (p m : ℕ) → slice_get (map f xs) p ≡ Some m → (n : ℕ) × (slice_get xs p ≡ Some n) × (f n ≡ m)
-map_back f [] p m h = absurd cc
-map_back f (x ∷ xs) zero m h = let e : Some (f x) ≡ Some m = h in (x, refl, cc)
-map_back f (x ∷ xs) (suc p) m h = map_back f xs p m h
-
-pub one_call : (nl : Netlist) (c k : ℕ) (a b : CallRow) → IsCall nl c k a → IsCall nl c k b → a ≡ b
-one_call nl c k a b (x, f, g) (y, h, i) =
-    let same : y ≡ x = cc in
-    let there : slice_get x.calls k ≡ Some b = subst (λ (z : Circuit). slice_get z.calls k ≡ Some b) same i in
-    cc
-
-pub one_device : (nl : Netlist) (c k : ℕ) (a b : DeviceRow) → IsDevice nl c k a → IsDevice nl c k b → a ≡ b
-one_device nl c k a b (x, f, g) (y, h, i) =
-    let same : y ≡ x = cc in
-    let there : slice_get x.devices k ≡ Some b = subst (λ (z : Circuit). slice_get z.devices k ≡ Some b) same i in
-    cc
 
 either_back : (nl : Netlist) (t : ℕ) (a b : Slot) → IsEitherJoin nl t a b → IsEitherJoin nl t b a
 either_back nl t a b (inl h) = inr h

@@ -1,291 +1,434 @@
--- There is one aligned netlist: what is kept, and under which numbers, determines its circuits.
-use Rattle.std.proofs.Common.{◌≡◌, inl, inr, ℕ, zero, suc, ◌<◌, ◌≤◌, ltb, Bool, true, false, not, cond, List, [], ◌∷◌, ◌++◌, map, length, Option, Some, None, slice_get, refl, sym, subst, ◌∙◌, ap, ap₂, arith}
+-- There is one aligned netlist: what is kept, and under which numbers, determines its circuits, whatever goes without bringing anything.
+use Rattle.std.proofs.Common.{◌≡◌, ◌⊎◌, inl, inr, ℕ, suc, ◌<◌, ◌≤◌, ltb, Bool, true, false, not, cond, List, [], ◌∷◌, ◌++◌, map, length, Some, slice_get, refl, sym, subst, ◌∙◌, ap, ap₂, arith}
+use Rattle.plain_netlist.proofs.Members.{map_at, from_map}
 use Rattle.std.specs.List.{flat_map}
-use Rattle.std.proofs.Math.Decide.{ℕ_discrete}
-use Rattle.std.proofs.lemmas.List.{append-nil, map-append}
-use Rattle.std.proofs.lemmas.Grind.{flat_map-append}
+use Rattle.std.proofs.lemmas.List.{map-append}
 use Rattle.std.proofs.lemmas.Simd.{map-map}
-use Rattle.std.proofs.Math.Path.{fun_ext}
-use Rattle.std.proofs.lemmas.Option.{same_Some, none-some, slice_get_within, slice_get_past}
+use Rattle.std.proofs.lemmas.Option.{none-some, same_Some, slice_get_past}
 use Rattle.std.proofs.lemmas.Bool.Decides.{Decides-ltb, not_from_Decides}
-use Rattle.plain_netlist.specs.Netlist.{Pole, Source, Gate, Drain, Bulk, on, DeviceRow, CallRow, Circuit, Netlist, IsCircuit, IsCall}
-use Rattle.align_laws.specs.Flat.{row_through}
-use Rattle.align_laws.specs.Lists.{FlatCircuit, pieces, place_of, given_of, plain, over, AreFlat, IsGood}
-use Rattle.align_laws.specs.Cut.{Choice, CutCall, held_pin, held_pins, cut_row, cut_call, cut_calls, cut, OnHeldPin, AreCut}
-use Rattle.align_laws.specs.Words.{AreNumbered}
-use Rattle.align_laws.specs.Aligned.{terminal_nets, appearances, IsNormal, OneAlignedLaw}
+use Rattle.plain_netlist.specs.Netlist.{Pole, Source, Gate, Drain, Bulk, on, DeviceRow, CallRow, Circuit, Netlist, IsCircuit, IsCall, IsPin, Slot}
+use Rattle.plain_netlist.specs.Normal.{terminal_nets, AreNumbered}
+use Rattle.plain_netlist.specs.Sound.{IsGood, IsCallPath, IsCalledFrom, HasDevices}
+use Rattle.plain_netlist.proofs.Heights.{goes_down}
+use Rattle.align_laws.specs.Flat.{AreInlined, row_through}
+use Rattle.align_laws.specs.Lists.{FlatCircuit, over, pieces, net_at_pin, given_of, plain, maps_of}
+use Rattle.align_laws.specs.Cut.{Alignment, CutCall, held_pin, held_pins, cut_row, cut_calls, cut}
+use Rattle.align_laws.specs.Aligned.{IsAlignedBy, OneAlignedLaw, AllFlattenedLaw}
 use Rattle.align_laws.proofs.Anchor.{is_it}
-use Rattle.align_laws.proofs.Pieces.{append_left, append_right, append_cases, map_at_of, map_of, place_pin, found_below}
+use Rattle.align_laws.proofs.Appear.{flat_in, terminal_at, old_nets, kept_calls, old, cut_kept, appear, given_at, held_there, call_pin, all_held}
 use Rattle.align_laws.proofs.CutList.{given_is, held_of, cut_is}
-use Rattle.align_laws.proofs.Unique.{pieces_same, one_list, one_number}
-use Rattle.align_laws.proofs.Held.{one_held}
 use Rattle.align_laws.proofs.FlatGood.{flat_is_good}
+use Rattle.align_laws.proofs.Kept.{MayGo, may_go, is_not}
+use Rattle.align_laws.proofs.Listed.{listed}
+use Rattle.align_laws.proofs.Origins.{from_one, own_from, net_name, named_from}
+use Rattle.align_laws.proofs.Pieces.{append_left, append_right}
+use Rattle.align_laws.proofs.Renumbered.{numbered_has, renumbered}
+use Rattle.align_laws.proofs.SameViews.{same_at, keep_from, left_from, right_from, devices_seen, calls_seen, held_to, pole_seen, reach_by}
+use Rattle.align_laws.proofs.Unique.{pieces_same}
+use Rattle.align_laws.proofs.Views.{Seen, seen, SeenCall, seen_call, keep, IsIdle, map_same_at}
 
--- lists
-get_ext : {X : Type 0} (xs ys : List X) → ((k : ℕ) → slice_get xs k ≡ slice_get ys k) → xs ≡ ys
+pub get_ext : {X : Type 0} (xs ys : List X) → ((k : ℕ) → slice_get xs k ≡ slice_get ys k) → xs ≡ ys
 get_ext [] [] h = refl
 get_ext [] (y ∷ ys) h = absurd (none-some y (h 0))
 get_ext (x ∷ xs) [] h = absurd (none-some x (sym (h 0)))
 get_ext {X} (x ∷ xs) (y ∷ ys) h = ap₂ (λ (z : X) (zs : List X). z ∷ zs) (same_Some _ _ (h 0)) (get_ext xs ys (λ k. h (suc k)))
 
-map_same_at : {A B : Type 0} (f g : A → B) (xs : List A) → ((i : ℕ) (x : A) → slice_get xs i ≡ Some x → f x ≡ g x) → map f xs ≡ map g xs
-map_same_at f g [] h = refl
-map_same_at {A} {B} f g (x ∷ xs) h = ap₂ (λ (z : B) (zs : List B). z ∷ zs) (h 0 x refl) (map_same_at f g xs (λ i y e. h (suc i) y e))
-
-flat_same : {A B : Type 0} (g h : A → List B) (xs : List A) → ((x : A) → g x ≡ h x) → flat_map g xs ≡ flat_map h xs
-flat_same g h [] e = refl
-flat_same {A} {B} g h (x ∷ xs) e = ap₂ (λ (us vs : List B). us ++ vs) (e x) (flat_same g h xs e)
-
-flat_in : {A B : Type 0} (g : A → List B) (xs : List A) (k q : ℕ) (x : A) (y : B) → slice_get xs k ≡ Some x → slice_get (g x) q ≡ Some y → (i : ℕ) × (slice_get (flat_map g xs) i ≡ Some y)
-flat_in g [] k q x y h e = absurd (none-some x h)
-flat_in {A} g (z ∷ zs) zero q x y h e = (q, append_left (g z) (flat_map g zs) q y (subst (λ (u : A). slice_get (g u) q ≡ Some y) (sym (same_Some _ _ h)) e))
-flat_in g (z ∷ zs) (suc k) q x y h e = let f = flat_in g zs k q x y h e in (over (g z) f.0, append_right (g z) (flat_map g zs) f.0 y f.1)
-
-flat_of : {A B : Type 0} (g : A → List B) (xs : List A) (i : ℕ) (y : B) → slice_get (flat_map g xs) i ≡ Some y → (k : ℕ) × (x : A) × (q : ℕ) × (slice_get xs k ≡ Some x) × (slice_get (g x) q ≡ Some y)
-flat_of g [] i y h = absurd (none-some y h)
-flat_of g (z ∷ zs) i y h = elim (append_cases (g z) (flat_map g zs) i y h) [
-  | inl l ↦ (0, z, i, refl, l)
-  | inr (m, at, e) ↦ let f = flat_of g zs m y at in (suc f.0, f.1, f.2, f.3, f.4)
-]
-
--- terminals of devices
-terminal_of : (d : DeviceRow) (q n : ℕ) → slice_get (terminal_nets d) q ≡ Some n → (pole : Pole) × (on pole d ≡ n)
-terminal_of d zero n h = (Drain, same_Some _ _ h)
-terminal_of d (suc zero) n h = (Gate, same_Some _ _ h)
-terminal_of d (suc (suc zero)) n h = (Source, same_Some _ _ h)
-terminal_of d (suc (suc (suc zero))) n h = (Bulk, same_Some _ _ h)
-terminal_of d (suc (suc (suc (suc q)))) n h = absurd (none-some n h)
-
-terminal_at : (d : DeviceRow) (pole : Pole) → (q : ℕ) × (slice_get (terminal_nets d) q ≡ Some (on pole d))
-terminal_at d Drain = (0, refl)
-terminal_at d Gate = (1, refl)
-terminal_at d Source = (2, refl)
-terminal_at d Bulk = (3, refl)
-
-flat_rows : (f : ℕ → ℕ) (ds : List DeviceRow) → flat_map terminal_nets (map (row_through f) ds) ≡ map f (flat_map terminal_nets ds)
-flat_rows f [] = refl
-flat_rows f (d ∷ ds) = ap (λ (zs : List ℕ). map f (terminal_nets d) ++ zs) (flat_rows f ds) ∙ sym (map-append f (terminal_nets d) (flat_map terminal_nets ds))
-
--- the nets of the flat circuit that the cut one names, in the order of appearance
-abbrev old_nets : Netlist → Choice → CallRow → List ℕ
-old_nets f w row = map (λ p. place_of row.nets (λ m. 0) p) (held_pins f w row.circuit)
-
-abbrev old_call : Netlist → Choice → CallRow → List ℕ
-old_call f w row = cond (w.kept row.circuit) (old_nets f w row) []
-
-abbrev old : Netlist → Choice → ℕ → List ℕ
-old f w c = held_pins f w c ++ (flat_map terminal_nets (given_of f c).devices ++ flat_map (old_call f w) (given_of f c).calls)
-
-abbrev rows_nets : List CutCall → List ℕ
-rows_nets rs = flat_map (λ (r : CallRow). r.nets) (map (λ (r : CutCall). r.row) rs)
-
-one_call : (f : Netlist) (w : Choice) (c k : ℕ) (row : CallRow) → rows_nets (cut_call f w c k row) ≡ map (w.new c) (old_call f w row)
-one_call f w c k row = known (w.kept row.circuit)
-  where
-    known : (t : Bool) → rows_nets (cond t (record { from = k; row = cut_row f w c row } ∷ []) []) ≡ map (w.new c) (cond t (old_nets f w row) [])
-    known true = append-nil (cut_row f w c row).nets ∙ sym (map-map (w.new c) (λ p. place_of row.nets (λ m. 0) p) (held_pins f w row.circuit))
-    known false = refl
-
-calls_flat : (f : Netlist) (w : Choice) (c : ℕ) (h : ℕ → CallRow → List CutCall) (rows : List CallRow) → ((k : ℕ) (row : CallRow) → rows_nets (h k row) ≡ map (w.new c) (old_call f w row))
-    → rows_nets (pieces h rows) ≡ map (w.new c) (flat_map (old_call f w) rows)
-calls_flat f w c h [] e = refl
-calls_flat f w c h (r ∷ rs) e =
-    ap (flat_map (λ (x : CallRow). x.nets)) (map-append (λ (x : CutCall). x.row) (h 0 r) (pieces (λ k. h (suc k)) rs))
-    ∙ (flat_map-append (λ (x : CallRow). x.nets) (map (λ (x : CutCall). x.row) (h 0 r)) (map (λ (x : CutCall). x.row) (pieces (λ k. h (suc k)) rs))
-    ∙ (ap₂ (λ (us vs : List ℕ). us ++ vs) (e 0 r) (calls_flat f w c (λ k. h (suc k)) rs (λ k row. e (suc k) row))
-    ∙ sym (map-append (w.new c) (old_call f w r) (flat_map (old_call f w) rs))))
-
-appear : (f : Netlist) (w : Choice) (c : ℕ) → appearances (cut f w c) ≡ map (w.new c) (old f w c)
-appear f w c =
-    ap₂ (λ (us vs : List ℕ). map (w.new c) (held_pins f w c) ++ (us ++ vs)) (flat_rows (w.new c) (given_of f c).devices) (calls_flat f w c (cut_call f w c) (given_of f c).calls (one_call f w c))
-    ∙ (ap (λ (us : List ℕ). map (w.new c) (held_pins f w c) ++ us) (sym (map-append (w.new c) (flat_map terminal_nets (given_of f c).devices) (flat_map (old_call f w) (given_of f c).calls)))
-    ∙ sym (map-append (w.new c) (held_pins f w c) (flat_map terminal_nets (given_of f c).devices ++ flat_map (old_call f w) (given_of f c).calls)))
-
--- each of them is held
-module _ (f o : Netlist) (w : Choice) (are : AreCut f o w) where
-  given_at : (c : ℕ) → w.kept c ≡ true → IsCircuit f c (given_of f c)
-  given_at c kept = let x = are.given c kept in x.1 ∙ ap Some (sym (given_is f o w are c x.0 x.1))
-
-  on_call : (c k q n : ℕ) (row : CallRow) → IsCall f c k row → slice_get (old_call f w row) q ≡ Some n → OnHeldPin f w c n
-  on_call c k q n row call at = elim (is_it (w.kept row.circuit)) [
-    | inl kept ↦
-        let there : slice_get (old_nets f w row) q ≡ Some n = subst (λ (t : Bool). slice_get (cond t (old_nets f w row) []) q ≡ Some n) kept at in
-        let m = map_of (λ p. place_of row.nets (λ m. 0) p) (held_pins f w row.circuit) q n there in
-        let d = are.called c k row call in
-        let h = held_of f o w are row.circuit q m.0 d.0 d.1 m.1 in
-        let pin = h.0 in
-        let same : pin.0 ≡ d.0 = same_Some _ _ (sym pin.1 ∙ d.1) in
-        let low : m.0 < length d.0.pins = subst (λ (x : Circuit). m.0 < length x.pins) same (slice_get_within pin.0.pins m.0 m.0 pin.2) in
-        let long = d.2 in
-        let outer = found_below row.nets m.0 (omega arith) in
-        let is : outer.0 ≡ n = sym (place_pin row.nets (λ m. 0) m.0 outer.0 outer.1) ∙ m.2 in
-        (k, row, m.0, m.0, call, kept, outer.1 ∙ ap Some is, pin, h.1)
-    | inr not ↦ absurd (none-some n (subst (λ (t : Bool). slice_get (cond t (old_nets f w row) []) q ≡ Some n) not at))
-  ]
-
-  all_held : (c i n : ℕ) → w.kept c ≡ true → slice_get (old f w c) i ≡ Some n → w.held c n ≡ true
-  all_held c i n kept at =
-      let x : Circuit = given_of f c in
-      let is = given_at c kept in
-      elim (append_cases (held_pins f w c) (flat_map terminal_nets x.devices ++ flat_map (old_call f w) x.calls) i n at) [
-        | inl pin ↦ (held_of f o w are c i n x is pin).1
-        | inr (m, rest, e) ↦ elim (append_cases (flat_map terminal_nets x.devices) (flat_map (old_call f w) x.calls) m n rest) [
-          | inl device ↦
-              let d = flat_of terminal_nets x.devices m n device in
-              let t = terminal_of d.1 d.2 n d.4 in
-              (are.held c n kept).1 (inl (d.0, d.1, t.0, (x, is, d.3), t.1))
-          | inr (j, call, g) ↦
-              let r = flat_of (old_call f w) x.calls j n call in
-              (are.held c n kept).1 (inr (on_call c r.0 r.2 n r.1 (x, is, r.3) r.4))
-        ]
-      ]
-
--- numbers that appear as 0, 1, 2, .. all appear
-numbered_has : (total next : ℕ) (xs : List ℕ) → AreNumbered total next xs → (m : ℕ) → next ≤ m → m < total → (i : ℕ) × (slice_get xs i ≡ Some m)
-numbered_has total next [] h m low high = absurd (let e = h in omega arith)
-numbered_has total next (x ∷ xs) h m low high = elim h [
-  | inl (l, rest) ↦ let f = numbered_has total next xs rest m low high in (suc f.0, f.1)
-  | inr (e, rest) ↦ elim (ℕ_discrete m next) [
-    | yes same ↦ (0, ap Some (e ∙ sym same))
-    | no not ↦ let f = numbered_has total (suc next) xs rest m (omega (arith, not)) high in (suc f.0, f.1)
-  ]
-]
-
--- two choices over one flat netlist
-module _ (f o p : Netlist) (a b : Choice) (ac : AreCut f o a) (bc : AreCut f p b) (kept_same : (c : ℕ) → a.kept c ≡ b.kept c) (number_same : (c : ℕ) → a.number c ≡ b.number c)
-    (held_same : (c n : ℕ) → a.kept c ≡ true → a.held c n ≡ b.held c n) where
-  pins_same : (c : ℕ) → a.kept c ≡ true → held_pins f a c ≡ held_pins f b c
-  pins_same c kept = pieces_same (held_pin f a c) (held_pin f b c) (given_of f c).pins (λ k n e. ap (λ (t : Bool). cond t (n ∷ []) []) (held_same c n kept))
-
-  nets_same : (row : CallRow) → old_call f a row ≡ old_call f b row
-  nets_same row = known (a.kept row.circuit) refl ∙ ap (λ (t : Bool). cond t (old_nets f b row) []) (kept_same row.circuit)
-    where
-      known : (t : Bool) → a.kept row.circuit ≡ t → cond t (old_nets f a row) [] ≡ cond t (old_nets f b row) []
-      known true e = ap (map (λ p. place_of row.nets (λ m. 0) p)) (pins_same row.circuit e)
-      known false e = refl
-
-  old_same : (c : ℕ) → a.kept c ≡ true → old f a c ≡ old f b c
-  old_same c kept = ap₂ (λ (us vs : List ℕ). us ++ (flat_map terminal_nets (given_of f c).devices ++ vs)) (pins_same c kept) (flat_same (old_call f a) (old_call f b) (given_of f c).calls nets_same)
-
-  module _ (c : ℕ) (kept : a.kept c ≡ true) (an : IsNormal f a c) (bn : IsNormal f b c) where
-    also : b.kept c ≡ true
-    also = sym (kept_same c) ∙ kept
-
-    held_a : (i x : ℕ) → slice_get (old f a c) i ≡ Some x → a.held c x ≡ true
-    held_a i x h = all_held f o a ac c i x kept h
-
-    numbered_a : AreNumbered (length (a.names c)) 0 (map (a.new c) (old f a c))
-    numbered_a = subst (λ (xs : List ℕ). AreNumbered (length (a.names c)) 0 xs) (appear f a c) an.numbered
-
-    numbered_b : AreNumbered (length (b.names c)) 0 (map (b.new c) (old f a c))
-    numbered_b =
-        subst (λ (xs : List ℕ). AreNumbered (length (b.names c)) 0 (map (b.new c) xs)) (sym (old_same c kept))
-        (subst (λ (xs : List ℕ). AreNumbered (length (b.names c)) 0 xs) (appear f b c) bn.numbered)
-
-    one : (length (a.names c) ≡ length (b.names c)) × ((i x : ℕ) → slice_get (old f a c) i ≡ Some x → a.new c x ≡ b.new c x)
-    one = one_number (a.held c) (a.new c) (b.new c)
-        (λ x y h g e. sym (ac.back c x h) ∙ (ap (a.old c) e ∙ ac.back c y g))
-        (λ x y h g e. sym (bc.back c x (sym (held_same c x kept) ∙ h)) ∙ (ap (b.old c) e ∙ bc.back c y (sym (held_same c y kept) ∙ g)))
-        (old f a c) (length (a.names c)) (length (b.names c)) held_a numbered_a numbered_b
-
-    names_same : a.names c ≡ b.names c
-    names_same = get_ext (a.names c) (b.names c) (λ k. at k (ltb k (length (a.names c))) refl)
-      where
-        at : (k : ℕ) (t : Bool) → ltb k (length (a.names c)) ≡ t → slice_get (a.names c) k ≡ slice_get (b.names c) k
-        at k true e =
-            let low : k < length (a.names c) = (Decides-ltb _ _).0 e in
-            let long = one.0 in
-            let i = numbered_has (length (a.names c)) 0 (map (a.new c) (old f a c)) numbered_a k (omega arith) low in
-            let x = map_of (a.new c) (old f a c) i.0 k i.1 in
-            let h : a.held c x.0 ≡ true = held_a i.0 x.0 x.1 in
-            let mine : a.old c k ≡ x.0 = ap (a.old c) (sym x.2) ∙ ac.back c x.0 h in
-            let yours : b.old c k ≡ x.0 = ap (b.old c) (sym x.2 ∙ one.1 i.0 x.0 x.1) ∙ bc.back c x.0 (sym (held_same c x.0 kept) ∙ h) in
-            an.named k low ∙ (ap (slice_get (given_of f c).nets) (mine ∙ sym yours) ∙ sym (bn.named k (omega arith)))
-        at k false e =
-            let high : length (a.names c) ≤ k = omega (arith, not_from_Decides _ (Decides-ltb k (length (a.names c))) e) in
-            let long = one.0 in
-            slice_get_past (a.names c) k high ∙ sym (slice_get_past (b.names c) k (omega arith))
-
-    new_pins : map (a.new c) (held_pins f a c) ≡ map (b.new c) (held_pins f b c)
-    new_pins =
-        map_same_at (a.new c) (b.new c) (held_pins f a c) (λ i x h. one.1 i x (append_left (held_pins f a c) (flat_map terminal_nets (given_of f c).devices ++ flat_map (old_call f a) (given_of f c).calls) i x h))
-        ∙ ap (map (b.new c)) (pins_same c kept)
-
-    new_devices : map (row_through (a.new c)) (given_of f c).devices ≡ map (row_through (b.new c)) (given_of f c).devices
-    new_devices = map_same_at (row_through (a.new c)) (row_through (b.new c)) (given_of f c).devices (λ j row h. rows row (λ pole.
-        let t = terminal_at row pole in
-        let i = flat_in terminal_nets (given_of f c).devices j t.0 row (on pole row) h t.1 in
-        let d = append_left (flat_map terminal_nets (given_of f c).devices) (flat_map (old_call f a) (given_of f c).calls) i.0 (on pole row) i.1 in
-        one.1 (over (held_pins f a c) i.0) (on pole row) (append_right (held_pins f a c) (flat_map terminal_nets (given_of f c).devices ++ flat_map (old_call f a) (given_of f c).calls) i.0 (on pole row) d)))
-      where
-        rows : (row : DeviceRow) → ((pole : Pole) → a.new c (on pole row) ≡ b.new c (on pole row)) → row_through (a.new c) row ≡ row_through (b.new c) row
-        rows row e =
-            ap₂ (λ (s g : ℕ). let r : DeviceRow = record { class = row.class; length = row.length; width = row.width; source = s; gate = g; drain = a.new c row.drain; bulk = a.new c row.bulk } in r) (e Source) (e Gate)
-            ∙ ap₂ (λ (d k : ℕ). let r : DeviceRow = record { class = row.class; length = row.length; width = row.width; source = b.new c row.source; gate = b.new c row.gate; drain = d; bulk = k } in r) (e Drain) (e Bulk)
-
-    call_same : (k : ℕ) (row : CallRow) → slice_get (given_of f c).calls k ≡ Some row → cut_call f a c k row ≡ cut_call f b c k row
-    call_same k row h = known (a.kept row.circuit) refl ∙ ap (λ (t : Bool). cond t (record { from = k; row = cut_row f b c row } ∷ []) []) (kept_same row.circuit)
-      where
-        row_nets : a.kept row.circuit ≡ true → map (λ p. a.new c (place_of row.nets (λ m. 0) p)) (held_pins f a row.circuit) ≡ map (λ p. b.new c (place_of row.nets (λ m. 0) p)) (held_pins f b row.circuit)
-        row_nets e =
-            map_same_at _ _ (held_pins f a row.circuit) (λ q p at.
-            let n : ℕ = place_of row.nets (λ m. 0) p in
-            let there : slice_get (old_nets f a row) q ≡ Some n = map_at_of (λ p. place_of row.nets (λ m. 0) p) (held_pins f a row.circuit) q p at in
-            let mine : slice_get (old_call f a row) q ≡ Some n = subst (λ (t : Bool). slice_get (cond t (old_nets f a row) []) q ≡ Some n) (sym e) there in
-            let i = flat_in (old_call f a) (given_of f c).calls k q row n h mine in
-            let d = append_right (flat_map terminal_nets (given_of f c).devices) (flat_map (old_call f a) (given_of f c).calls) i.0 n i.1 in
-            one.1 _ n (append_right (held_pins f a c) (flat_map terminal_nets (given_of f c).devices ++ flat_map (old_call f a) (given_of f c).calls) (over (flat_map terminal_nets (given_of f c).devices) i.0) n d))
-            ∙ ap (map (λ p. b.new c (place_of row.nets (λ m. 0) p))) (pins_same row.circuit e)
-
-        known : (t : Bool) → a.kept row.circuit ≡ t → cond t (record { from = k; row = cut_row f a c row } ∷ []) [] ≡ cond {A = List CutCall} t (record { from = k; row = cut_row f b c row } ∷ []) []
-        known true e = ap₂ (λ (m : ℕ) (ns : List ℕ). let r : CutCall = record { from = k; row = record { circuit = m; nets = ns } } in r ∷ []) (number_same row.circuit) (row_nets e)
-        known false e = refl
-
-    pub cut_one : cut f a c ≡ cut f b c
-    cut_one =
-        ap₂ (λ (ns : List (List ℕ)) (ps : List ℕ). let x : Circuit = record {
-          name = (given_of f c).name;
-          nets = ns;
-          pins = ps;
-          devices = map (row_through (a.new c)) (given_of f c).devices;
-          calls = map (λ (r : CutCall). r.row) (cut_calls f a c);
-        } in x) names_same new_pins
-        ∙ ap₂ (λ (ds : List DeviceRow) (rs : List CutCall). let x : Circuit = record {
-          name = (given_of f c).name;
-          nets = b.names c;
-          pins = map (b.new c) (held_pins f b c);
-          devices = ds;
-          calls = map (λ (r : CutCall). r.row) rs;
-        } in x) new_devices (pieces_same (cut_call f a c) (cut_call f b c) (given_of f c).calls call_same)
-
--- the flat netlists are one
-flat_one : (g f h : Netlist) (goes : ℕ → Bool) (xs ys : ℕ → FlatCircuit) (height : ℕ → ℕ) → IsGood g height → AreFlat g f goes xs → AreFlat g h goes ys → f ≡ h
-flat_one g f h goes xs ys height good fa ha =
-    ap (λ (cs : List Circuit). let n : Netlist = record { circuits = cs } in n) (get_ext f.circuits h.circuits (λ k. at k (slice_get g.circuits k) refl))
-  where
-    none_of : (x : Netlist) (zs : ℕ → FlatCircuit) (k : ℕ) → AreFlat g x goes zs → slice_get g.circuits k ≡ None → (r : Option Circuit) → slice_get x.circuits k ≡ r → r ≡ None
-    none_of x zs k are none None e = refl
-    none_of x zs k are none (Some c) e = let b = are.back k c e in absurd (none-some b.0 (sym none ∙ b.1))
-
-    at : (k : ℕ) (r : Option Circuit) → slice_get g.circuits k ≡ r → slice_get f.circuits k ≡ slice_get h.circuits k
-    at k (Some given) e = fa.there k given e ∙ (ap (λ (z : FlatCircuit). Some (plain z)) (one_list g goes xs ys height good fa.each ha.each k given e) ∙ sym (ha.there k given e))
-    at k None e = none_of f xs k fa e (slice_get f.circuits k) refl ∙ sym (none_of h ys k ha e (slice_get h.circuits k) refl)
-
-same_bool : (s t : Bool) → (s ≡ true → t ≡ true) → (t ≡ true → s ≡ true) → s ≡ t
+pub same_bool : (s t : Bool) → (s ≡ true → t ≡ true) → (t ≡ true → s ≡ true) → s ≡ t
 same_bool true t h g = sym (h refl)
 same_bool false true h g = g refl
 same_bool false false h g = refl
 
+keep_same : (k l : ℕ → Bool) (rows : List CallRow) → ((c : ℕ) → k c ≡ l c) → keep k rows ≡ keep l rows
+keep_same k l [] h = refl
+keep_same k l (r ∷ rs) h = ap₂ (λ (b : Bool) (xs : List CallRow). cond b (r ∷ xs) xs) (h r.circuit) (keep_same k l rs h)
+
+-- lists with equal images, item by item
+maps_matched : {A B C D : Type 0} (h : A → C) (k : B → C) (f : A → D) (g : B → D) (xs : List A) (ys : List B) → map h xs ≡ map k ys → ((i : ℕ) (x : A) (y : B) → slice_get xs i ≡ Some x → slice_get ys i ≡ Some y → h x ≡ k y → f x ≡ g y) → map f xs ≡ map g ys
+maps_matched h k f g [] [] e each = refl
+maps_matched h k f g [] (y ∷ ys) e each = absurd (let z : ⊥ = cc in z)
+maps_matched h k f g (x ∷ xs) [] e each = absurd (let z : ⊥ = cc in z)
+maps_matched {C = C} {D = D} h k f g (x ∷ xs) (y ∷ ys) e each =
+    let head : h x ≡ k y = cc in
+    let tail : map h xs ≡ map k ys = cc in
+    ap₂ (λ (z : D) (zs : List D). z ∷ zs) (each 0 x y refl refl head) (maps_matched h k f g xs ys tail (λ i u w a b q. each (suc i) u w a b q))
+
+flats_matched : {A B C : Type 0} (h : A → C) (k : B → C) (f : A → List ℕ) (g : B → List ℕ) (o p : ℕ → Slot) (xs : List A) (ys : List B) → map h xs ≡ map k ys
+    → ((i : ℕ) (x : A) (y : B) → slice_get xs i ≡ Some x → slice_get ys i ≡ Some y → h x ≡ k y → map o (f x) ≡ map p (g y)) → map o (flat_map f xs) ≡ map p (flat_map g ys)
+flats_matched h k f g o p [] [] e each = refl
+flats_matched h k f g o p [] (y ∷ ys) e each = absurd (let z : ⊥ = cc in z)
+flats_matched h k f g o p (x ∷ xs) [] e each = absurd (let z : ⊥ = cc in z)
+flats_matched h k f g o p (x ∷ xs) (y ∷ ys) e each =
+    let head : h x ≡ k y = cc in
+    let tail : map h xs ≡ map k ys = cc in
+    map-append o (f x) (flat_map f xs)
+    ∙ (ap₂ (λ (us vs : List Slot). us ++ vs) (each 0 x y refl refl head) (flats_matched h k f g o p xs ys tail (λ i u w a b q. each (suc i) u w a b q))
+    ∙ sym (map-append p (g y) (flat_map g ys)))
+
+seen_nets : Seen → List Slot
+seen_nets r = r.drain ∷ r.gate ∷ r.source ∷ r.bulk ∷ []
+
+terminals_seen : (o p : ℕ → Slot) (r s : DeviceRow) → seen o r ≡ seen p s → map o (terminal_nets r) ≡ map p (terminal_nets s)
+terminals_seen o p r s e = ap (λ (x : Seen). x.drain ∷ x.gate ∷ x.source ∷ x.bulk ∷ []) e
+
+rows_same : (f h : ℕ → ℕ) (r s : DeviceRow) → r.class ≡ s.class → r.length ≡ s.length → r.width ≡ s.width → ((pole : Pole) → f (on pole r) ≡ h (on pole s)) → row_through f r ≡ row_through h s
+rows_same f h r s c l w e =
+    ap₂ (λ (x : List ℕ) (y : ℕ). let d : DeviceRow = record { class = x; length = y; width = r.width; source = f r.source; gate = f r.gate; drain = f r.drain; bulk = f r.bulk } in d) c l
+    ∙ (ap₂ (λ (y x : ℕ). let d : DeviceRow = record { class = s.class; length = s.length; width = y; source = x; gate = f r.gate; drain = f r.drain; bulk = f r.bulk } in d) w (e Source)
+    ∙ (ap₂ (λ (x y : ℕ). let d : DeviceRow = record { class = s.class; length = s.length; width = s.width; source = h s.source; gate = x; drain = y; bulk = f r.bulk } in d) (e Gate) (e Drain)
+    ∙ ap (λ (x : ℕ). let d : DeviceRow = record { class = s.class; length = s.length; width = s.width; source = h s.source; gate = h s.gate; drain = h s.drain; bulk = x } in d) (e Bulk)))
+
+module _ (g : Netlist) (kept : ℕ → Bool) (height : ℕ → ℕ) (good : IsGood g height) (R : ℕ → Type 0) (down : (c k : ℕ) (row : CallRow) → R c → IsCall g c k row → R row.circuit)
+    (o : Netlist) (v : Alignment) (goes : ℕ → Bool) (a : IsAlignedBy goes g o v) (may : MayGo g kept goes) (v_kept : (c : ℕ) → v.kept c ≡ kept c)
+    (p : Netlist) (w : Alignment) (also_goes : ℕ → Bool) (b : IsAlignedBy also_goes g p w) (also_may : MayGo g kept also_goes) (w_kept : (c : ℕ) → w.kept c ≡ kept c)
+    (same : (c : ℕ) → R c → (goes c ≡ also_goes c) ⊎ IsIdle g kept c) where
+  abbrev L : ℕ → ℕ → Slot
+  L = left_from g kept height good R down o v goes a may v_kept p w also_goes b also_may w_kept same
+
+  abbrev S : ℕ → ℕ → Slot
+  S = right_from g kept height good R down o v goes a may v_kept p w also_goes b also_may w_kept same
+
+  turned_same : (c : ℕ) → R c → (also_goes c ≡ goes c) ⊎ IsIdle g kept c
+  turned_same c r = elim (same c r) [ inl e ↦ inl (sym e) | inr i ↦ inr i ]
+
+  left_good : IsGood a.flat height
+  left_good = flat_is_good g a.flat goes a.flats height good a.flattened
+
+  right_good : IsGood b.flat height
+  right_good = flat_is_good g b.flat also_goes b.flats height good b.flattened
+
+  left_are : AreInlined g a.flat (maps_of g goes a.flats) height
+  left_are = listed g a.flat goes a.flats height good a.flattened
+
+  right_are : AreInlined g b.flat (maps_of g also_goes b.flats) height
+  right_are = listed g b.flat also_goes b.flats height good b.flattened
+
+  -- both hold the same pins
+  held_same : (c n : ℕ) (x : Circuit) → R c → kept c ≡ true → IsCircuit g c x → IsPin g c n n → v.held c n ≡ w.held c n
+  held_same c n x r k is pin = same_bool (v.held c n) (w.held c n)
+      (λ h. held_to g kept height good R down o v goes a may v_kept p w also_goes b also_may w_kept same (suc (height c)) c n x (omega arith) r k is pin h)
+      (λ h. held_to g kept height good R down p w also_goes b also_may w_kept o v goes a may v_kept turned_same (suc (height c)) c n x (omega arith) r k is pin h)
+
+  left_given : (c : ℕ) (x : Circuit) → IsCircuit g c x → given_of a.flat c ≡ plain (a.flats c)
+  left_given c x is = given_is a.flat c (plain (a.flats c)) (a.flattened.there c x is)
+
+  right_given : (c : ℕ) (x : Circuit) → IsCircuit g c x → given_of b.flat c ≡ plain (b.flats c)
+  right_given c x is = given_is b.flat c (plain (b.flats c)) (b.flattened.there c x is)
+
+  left_pins : (c : ℕ) (x : Circuit) → IsCircuit g c x → (given_of a.flat c).pins ≡ x.pins
+  left_pins c x is = ap (λ (y : Circuit). y.pins) (left_given c x is) ∙ ap (λ (y : FlatCircuit). y.pins) (a.flattened.each c x is)
+
+  right_pins : (c : ℕ) (x : Circuit) → IsCircuit g c x → (given_of b.flat c).pins ≡ x.pins
+  right_pins c x is = ap (λ (y : Circuit). y.pins) (right_given c x is) ∙ ap (λ (y : FlatCircuit). y.pins) (b.flattened.each c x is)
+
+  pins_same : (c : ℕ) (x : Circuit) → R c → kept c ≡ true → IsCircuit g c x → held_pins a.flat v c ≡ held_pins b.flat w c
+  pins_same c x r k is =
+      ap (pieces (held_pin a.flat v c)) (left_pins c x is)
+      ∙ (pieces_same (held_pin a.flat v c) (held_pin b.flat w c) x.pins (λ i n at.
+      let pin : IsPin g c i n = (x, is, at) in
+      let number = good.pins c i n pin in
+      ap (λ (t : Bool). cond t (n ∷ []) []) (held_same c n x r k is (subst (λ (z : ℕ). IsPin g c z n) (sym number) pin)))
+      ∙ ap (pieces (held_pin b.flat w c)) (sym (right_pins c x is)))
+
+  module _ (c : ℕ) (x : Circuit) (is : IsCircuit g c x) (r : R c) (k : kept c ≡ true) where
+    left_kept : v.kept c ≡ true
+    left_kept = v_kept c ∙ k
+
+    right_kept : w.kept c ≡ true
+    right_kept = w_kept c ∙ k
+
+    -- the devices and the kept calls of both flat circuits
+    devices_matched : map (seen (L c)) (given_of a.flat c).devices ≡ map (seen (S c)) (given_of b.flat c).devices
+    devices_matched =
+        ap (λ (y : Circuit). map (seen (L c)) y.devices) (left_given c x is)
+        ∙ (devices_seen g kept height good R down o v goes a may v_kept p w also_goes b also_may w_kept same c x r is
+        ∙ ap (λ (y : Circuit). map (seen (S c)) y.devices) (sym (right_given c x is)))
+
+    calls_matched : map (seen_call (L c)) (kept_calls a.flat v c) ≡ map (seen_call (S c)) (kept_calls b.flat w c)
+    calls_matched =
+        ap (map (seen_call (L c))) (keep_same v.kept kept (given_of a.flat c).calls v_kept ∙ ap (λ (y : Circuit). keep kept y.calls) (left_given c x is))
+        ∙ (calls_seen g kept height good R down o v goes a may v_kept p w also_goes b also_may w_kept same c x r is
+        ∙ ap (map (seen_call (S c))) (sym (keep_same w.kept kept (given_of b.flat c).calls w_kept ∙ ap (λ (y : Circuit). keep kept y.calls) (right_given c x is))))
+
+    left_at : IsCircuit a.flat c (given_of a.flat c)
+    left_at = given_at a.flat o v a.cut_down height left_good c left_kept
+
+    right_at : IsCircuit b.flat c (given_of b.flat c)
+    right_at = given_at b.flat p w b.cut_down height right_good c right_kept
+
+    -- a held pin is from one place
+    pin_place : (i n : ℕ) → slice_get (held_pins a.flat v c) i ≡ Some n → L c n ≡ S c n
+    pin_place i n at =
+        let h = held_of a.flat v height left_good c i n (given_of a.flat c) left_at at in
+        let given : IsPin g c n n = ((left_are.each c).pins n n).1 h.0 in
+        let net = good.within.pins c n n given in
+        own_from g a.flat goes a.flats height good a.flattened c n net ∙ sym (own_from g b.flat also_goes b.flats height good b.flattened c n net)
+
+    -- a call that stays, on both sides
+    pub record Match (row also : CallRow) : Type 0 where
+      pub number : ℕ
+      pub call : IsCall a.flat c number row
+      pub other : ℕ
+      pub also_call : IsCall b.flat c other also
+      pub circuit : row.circuit ≡ also.circuit
+      pub nets : map (L c) row.nets ≡ map (S c) also.nets
+      pub stays : kept row.circuit ≡ true
+      pub given : Circuit
+      pub is_given : IsCircuit g row.circuit given
+      pub reached : R row.circuit
+
+    call_match : (i : ℕ) (row also : CallRow) → slice_get (kept_calls a.flat v c) i ≡ Some row → slice_get (kept_calls b.flat w c) i ≡ Some also → seen_call (L c) row ≡ seen_call (S c) also → Match row also
+    call_match i row also at there e =
+        let back = keep_from v.kept (given_of a.flat c).calls i row at in
+        let from = keep_from w.kept (given_of b.flat c).calls i also there in
+        let call : IsCall a.flat c back.0 row = (given_of a.flat c, left_at, back.1) in
+        let d = left_good.called c back.0 row call in
+        let y = a.flattened.back row.circuit d.0 d.1 in
+        record {
+          number = back.0;
+          call = call;
+          other = from.0;
+          also_call = (given_of b.flat c, right_at, from.1);
+          circuit = ap (λ (z : SeenCall). z.circuit) e;
+          nets = ap (λ (z : SeenCall). z.nets) e;
+          stays = sym (v_kept row.circuit) ∙ back.2;
+          given = y.0;
+          is_given = y.1;
+          reached = reach_by g kept height good R down o v goes a may v_kept p w also_goes b also_may w_kept same c back.0 row r call;
+        }
+
+    -- the held pins of the called circuit, and the places of the nets there
+    pins_called : (row also : CallRow) → Match row also → held_pins a.flat v row.circuit ≡ held_pins b.flat w also.circuit
+    pins_called row also m = pins_same row.circuit m.given m.reached m.stays m.is_given ∙ ap (held_pins b.flat w) m.circuit
+
+    net_place : (row also : CallRow) (m : Match row also) (q n : ℕ) → slice_get (held_pins a.flat v row.circuit) q ≡ Some n → L c (net_at_pin row.nets (λ z. 0) n) ≡ S c (net_at_pin also.nets (λ z. 0) n)
+    net_place row also m q n at =
+        let here = call_pin a.flat o v a.cut_down height left_good c m.number q n row m.call at in
+        let there = call_pin b.flat p w b.cut_down height right_good c m.other q n also m.also_call (subst (λ (ns : List ℕ). slice_get ns q ≡ Some n) (pins_called row also m) at) in
+        let s = same_at (L c) (S c) row.nets also.nets m.nets n here.0 here.1 in
+        let one : s.0 ≡ there.0 = same_Some _ _ (sym s.1 ∙ there.1) in
+        ap (L c) here.2 ∙ (sym s.2 ∙ ap (S c) (one ∙ sym there.2))
+
+    -- the places of what both cut circuits name
+    places : map (L c) (old a.flat v c) ≡ map (S c) (old b.flat w c)
+    places =
+        map-append (L c) (held_pins a.flat v c) (flat_map terminal_nets (given_of a.flat c).devices ++ flat_map (old_nets a.flat v) (kept_calls a.flat v c))
+        ∙ (ap₂ (λ (us vs : List Slot). us ++ vs) (map_same_at (L c) (S c) (held_pins a.flat v c) pin_place ∙ ap (map (S c)) (pins_same c x r k is))
+        (map-append (L c) (flat_map terminal_nets (given_of a.flat c).devices) (flat_map (old_nets a.flat v) (kept_calls a.flat v c))
+        ∙ (ap₂ (λ (us vs : List Slot). us ++ vs)
+        (flats_matched (seen (L c)) (seen (S c)) terminal_nets terminal_nets (L c) (S c) (given_of a.flat c).devices (given_of b.flat c).devices devices_matched (λ i d e at there q. terminals_seen (L c) (S c) d e q))
+        (flats_matched (seen_call (L c)) (seen_call (S c)) (old_nets a.flat v) (old_nets b.flat w) (L c) (S c) (kept_calls a.flat v c) (kept_calls b.flat w c) calls_matched call_places)
+        ∙ sym (map-append (S c) (flat_map terminal_nets (given_of b.flat c).devices) (flat_map (old_nets b.flat w) (kept_calls b.flat w c)))))
+        ∙ sym (map-append (S c) (held_pins b.flat w c) (flat_map terminal_nets (given_of b.flat c).devices ++ flat_map (old_nets b.flat w) (kept_calls b.flat w c))))
+      where
+        call_places : (i : ℕ) (row also : CallRow) → slice_get (kept_calls a.flat v c) i ≡ Some row → slice_get (kept_calls b.flat w c) i ≡ Some also → seen_call (L c) row ≡ seen_call (S c) also
+            → map (L c) (old_nets a.flat v row) ≡ map (S c) (old_nets b.flat w also)
+        call_places i row also at there e =
+            let m = call_match i row also at there e in
+            map-map (L c) (λ n. net_at_pin row.nets (λ z. 0) n) (held_pins a.flat v row.circuit)
+            ∙ (map_same_at _ _ (held_pins a.flat v row.circuit) (λ q n h. net_place row also m q n h)
+            ∙ (ap (map (λ n. S c (net_at_pin also.nets (λ z. 0) n))) (pins_called row also m)
+            ∙ sym (map-map (S c) (λ n. net_at_pin also.nets (λ z. 0) n) (held_pins b.flat w also.circuit))))
+
+    left_held : (i n : ℕ) → slice_get (old a.flat v c) i ≡ Some n → v.held c n ≡ true
+    left_held i n at = all_held a.flat o v a.cut_down height left_good c i n left_kept at
+
+    right_held : (i n : ℕ) → slice_get (old b.flat w c) i ≡ Some n → w.held c n ≡ true
+    right_held i n at = all_held b.flat p w b.cut_down height right_good c i n right_kept at
+
+    left_one : (m n : ℕ) → v.held c m ≡ true → v.held c n ≡ true → L c m ≡ L c n → m ≡ n
+    left_one m n h j e = from_one g a.flat goes a.flats height good a.flattened c m n (held_there a.flat o v a.cut_down height left_good c m left_kept h) (held_there a.flat o v a.cut_down height left_good c n left_kept j) e
+
+    right_one : (m n : ℕ) → w.held c m ≡ true → w.held c n ≡ true → S c m ≡ S c n → m ≡ n
+    right_one m n h j e = from_one g b.flat also_goes b.flats height good b.flattened c m n (held_there b.flat p w b.cut_down height right_good c m right_kept h) (held_there b.flat p w b.cut_down height right_good c n right_kept j) e
+
+    numbered_left : AreNumbered (length (v.names c)) 0 (map (v.new c) (old a.flat v c))
+    numbered_left = subst (λ (xs : List ℕ). AreNumbered (length (v.names c)) 0 xs) (appear a.flat v c) (a.normal c left_kept).numbered
+
+    numbered_right : AreNumbered (length (w.names c)) 0 (map (w.new c) (old b.flat w c))
+    numbered_right = subst (λ (xs : List ℕ). AreNumbered (length (w.names c)) 0 xs) (appear b.flat w c) (b.normal c right_kept).numbered
+
+    one : (length (v.names c) ≡ length (w.names c)) × ((i m n : ℕ) → slice_get (old a.flat v c) i ≡ Some m → slice_get (old b.flat w c) i ≡ Some n → v.new c m ≡ w.new c n)
+    one = renumbered (λ n. v.held c n ≡ true) (λ n. w.held c n ≡ true) (L c) (S c) (v.new c) (w.new c) left_one right_one
+        (λ m n h j e. sym (a.cut_down.back c m h) ∙ (ap (v.old c) e ∙ a.cut_down.back c n j))
+        (λ m n h j e. sym (b.cut_down.back c m h) ∙ (ap (w.old c) e ∙ b.cut_down.back c n j))
+        (old a.flat v c) (old b.flat w c) (length (v.names c)) (length (w.names c)) places left_held right_held numbered_left numbered_right
+
+    -- nets from one place have one number
+    new_same : (i m n : ℕ) → slice_get (old a.flat v c) i ≡ Some m → w.held c n ≡ true → L c m ≡ S c n → v.new c m ≡ w.new c n
+    new_same i m n at h e =
+        let s = same_at (L c) (S c) (old a.flat v c) (old b.flat w c) places i m at in
+        let same_net : s.0 ≡ n = right_one s.0 n (right_held i s.0 s.1) h (s.2 ∙ e) in
+        one.1 i m s.0 at s.1 ∙ ap (w.new c) same_net
+
+    names_same : v.names c ≡ w.names c
+    names_same = get_ext (v.names c) (w.names c) (λ j. at j (ltb j (length (v.names c))) refl)
+      where
+        at : (j : ℕ) (t : Bool) → ltb j (length (v.names c)) ≡ t → slice_get (v.names c) j ≡ slice_get (w.names c) j
+        at j true e =
+            let low : j < length (v.names c) = (Decides-ltb _ _).0 e in
+            let long = one.0 in
+            let i = numbered_has (length (v.names c)) 0 (map (v.new c) (old a.flat v c)) numbered_left j (omega arith) low in
+            let m = from_map (v.new c) (old a.flat v c) i.0 j i.1 in
+            let s = same_at (L c) (S c) (old a.flat v c) (old b.flat w c) places i.0 m.0 m.1 in
+            let h = left_held i.0 m.0 m.1 in
+            let g' = right_held i.0 s.0 s.1 in
+            let mine : v.old c j ≡ m.0 = ap (v.old c) (sym m.2) ∙ a.cut_down.back c m.0 h in
+            let yours : w.old c j ≡ s.0 = ap (w.old c) (sym m.2 ∙ one.1 i.0 m.0 s.0 m.1 s.1) ∙ b.cut_down.back c s.0 g' in
+            let left_name = named_from g a.flat goes a.flats height good a.flattened c m.0 (held_there a.flat o v a.cut_down height left_good c m.0 left_kept h) in
+            let right_name = named_from g b.flat also_goes b.flats height good b.flattened c s.0 (held_there b.flat p w b.cut_down height right_good c s.0 right_kept g') in
+            a.named c j left_kept low
+            ∙ (ap (slice_get (given_of a.flat c).nets) mine
+            ∙ (ap (λ (y : Circuit). slice_get y.nets m.0) (left_given c x is)
+            ∙ (left_name
+            ∙ (ap (λ (z : Slot). Some (net_name g z.path c z.net)) (sym s.2)
+            ∙ (sym right_name
+            ∙ (ap (λ (y : Circuit). slice_get y.nets s.0) (sym (right_given c x is))
+            ∙ (ap (slice_get (given_of b.flat c).nets) (sym yours) ∙ sym (b.named c j right_kept (omega arith)))))))))
+        at j false e =
+            let high : length (v.names c) ≤ j = omega (arith, not_from_Decides _ (Decides-ltb j (length (v.names c))) e) in
+            let long = one.0 in
+            slice_get_past (v.names c) j high ∙ sym (slice_get_past (w.names c) j (omega arith))
+
+    pins_new : map (v.new c) (held_pins a.flat v c) ≡ map (w.new c) (held_pins b.flat w c)
+    pins_new =
+        map_same_at (v.new c) (w.new c) (held_pins a.flat v c) (λ i n at.
+        let here : slice_get (old a.flat v c) i ≡ Some n = append_left (held_pins a.flat v c) (flat_map terminal_nets (given_of a.flat c).devices ++ flat_map (old_nets a.flat v) (kept_calls a.flat v c)) i n at in
+        let there : slice_get (held_pins b.flat w c) i ≡ Some n = subst (λ (ns : List ℕ). slice_get ns i ≡ Some n) (pins_same c x r k is) at in
+        one.1 i n n here (append_left (held_pins b.flat w c) (flat_map terminal_nets (given_of b.flat c).devices ++ flat_map (old_nets b.flat w) (kept_calls b.flat w c)) i n there))
+        ∙ ap (map (w.new c)) (pins_same c x r k is)
+
+    devices_new : map (row_through (v.new c)) (given_of a.flat c).devices ≡ map (row_through (w.new c)) (given_of b.flat c).devices
+    devices_new = maps_matched (seen (L c)) (seen (S c)) (row_through (v.new c)) (row_through (w.new c)) (given_of a.flat c).devices (given_of b.flat c).devices devices_matched (λ j d e at there q.
+        rows_same (v.new c) (w.new c) d e (ap (λ (z : Seen). z.class) q) (ap (λ (z : Seen). z.length) q) (ap (λ (z : Seen). z.width) q) (λ pole.
+        let t = terminal_at d pole in
+        let i = flat_in terminal_nets (given_of a.flat c).devices j t.0 d (on pole d) at t.1 in
+        let here = append_right (held_pins a.flat v c) (flat_map terminal_nets (given_of a.flat c).devices ++ flat_map (old_nets a.flat v) (kept_calls a.flat v c)) i.0 (on pole d)
+        (append_left (flat_map terminal_nets (given_of a.flat c).devices) (flat_map (old_nets a.flat v) (kept_calls a.flat v c)) i.0 (on pole d) i.1) in
+        new_same (over (held_pins a.flat v c) i.0) (on pole d) (on pole e) here ((b.cut_down.held c (on pole e) right_kept).1 (inl (j, e, pole, (given_of b.flat c, right_at, there), refl))) (pole_seen (L c) (S c) d e q pole)))
+
+    module _ (number_same : (d : ℕ) → kept d ≡ true → v.number d ≡ w.number d) where
+      row_new : (i : ℕ) (row also : CallRow) → slice_get (kept_calls a.flat v c) i ≡ Some row → slice_get (kept_calls b.flat w c) i ≡ Some also → seen_call (L c) row ≡ seen_call (S c) also
+          → cut_row a.flat v c row ≡ cut_row b.flat w c also
+      row_new i row also at there e =
+          let m = call_match i row also at there e in
+          ap₂ (λ (d : ℕ) (ns : List ℕ). let z : CallRow = record { circuit = d; nets = ns } in z) (number_same row.circuit m.stays ∙ ap w.number m.circuit)
+          (map_same_at _ _ (held_pins a.flat v row.circuit) (λ q n h. new_at i row also m at there q n h) ∙ ap (map (λ n. w.new c (net_at_pin also.nets (λ z. 0) n))) (pins_called row also m))
+        where
+          new_at : (i : ℕ) (row also : CallRow) (m : Match row also) → slice_get (kept_calls a.flat v c) i ≡ Some row → slice_get (kept_calls b.flat w c) i ≡ Some also → (q n : ℕ) → slice_get (held_pins a.flat v row.circuit) q ≡ Some n
+              → v.new c (net_at_pin row.nets (λ z. 0) n) ≡ w.new c (net_at_pin also.nets (λ z. 0) n)
+          new_at i row also m at there q n h =
+              let net = net_at_pin row.nets (λ z. 0) n in
+              let other = net_at_pin also.nets (λ z. 0) n in
+              let first = flat_in (old_nets a.flat v) (kept_calls a.flat v c) i q row net at (map_at (λ z. net_at_pin row.nets (λ y. 0) z) (held_pins a.flat v row.circuit) q n h) in
+              let here = append_right (held_pins a.flat v c) (flat_map terminal_nets (given_of a.flat c).devices ++ flat_map (old_nets a.flat v) (kept_calls a.flat v c)) (over (flat_map terminal_nets (given_of a.flat c).devices) first.0) net
+              (append_right (flat_map terminal_nets (given_of a.flat c).devices) (flat_map (old_nets a.flat v) (kept_calls a.flat v c)) first.0 net first.1) in
+              let on_right : slice_get (held_pins b.flat w also.circuit) q ≡ Some n = subst (λ (ns : List ℕ). slice_get ns q ≡ Some n) (pins_called row also m) h in
+              let second = flat_in (old_nets b.flat w) (kept_calls b.flat w c) i q also other there (map_at (λ z. net_at_pin also.nets (λ y. 0) z) (held_pins b.flat w also.circuit) q n on_right) in
+              let yonder = append_right (held_pins b.flat w c) (flat_map terminal_nets (given_of b.flat c).devices ++ flat_map (old_nets b.flat w) (kept_calls b.flat w c)) (over (flat_map terminal_nets (given_of b.flat c).devices) second.0) other
+              (append_right (flat_map terminal_nets (given_of b.flat c).devices) (flat_map (old_nets b.flat w) (kept_calls b.flat w c)) second.0 other second.1) in
+              new_same (over (held_pins a.flat v c) (over (flat_map terminal_nets (given_of a.flat c).devices) first.0)) net other here
+              (right_held (over (held_pins b.flat w c) (over (flat_map terminal_nets (given_of b.flat c).devices) second.0)) other yonder) (net_place row also m q n h)
+
+      calls_new : map (λ (z : CutCall). z.row) (cut_calls a.flat v c) ≡ map (λ (z : CutCall). z.row) (cut_calls b.flat w c)
+      calls_new =
+          cut_kept a.flat v c
+          ∙ (maps_matched (seen_call (L c)) (seen_call (S c)) (cut_row a.flat v c) (cut_row b.flat w c) (kept_calls a.flat v c) (kept_calls b.flat w c) calls_matched row_new
+          ∙ sym (cut_kept b.flat w c))
+
+      name_same : (given_of a.flat c).name ≡ (given_of b.flat c).name
+      name_same =
+          ap (λ (y : Circuit). y.name) (left_given c x is) ∙ (ap (λ (y : FlatCircuit). y.name) (a.flattened.each c x is)
+          ∙ (ap (λ (y : FlatCircuit). y.name) (sym (b.flattened.each c x is)) ∙ ap (λ (y : Circuit). y.name) (sym (right_given c x is))))
+
+      pub cut_one : cut a.flat v c ≡ cut b.flat w c
+      cut_one =
+          ap₂ (λ (n : List ℕ) (ns : List (List ℕ)). let z : Circuit = record {
+            name = n;
+            nets = ns;
+            pins = map (v.new c) (held_pins a.flat v c);
+            devices = map (row_through (v.new c)) (given_of a.flat c).devices;
+            calls = map (λ (u : CutCall). u.row) (cut_calls a.flat v c);
+          } in z) name_same names_same
+          ∙ (ap₂ (λ (ps : List ℕ) (ds : List DeviceRow). let z : Circuit = record {
+            name = (given_of b.flat c).name;
+            nets = w.names c;
+            pins = ps;
+            devices = ds;
+            calls = map (λ (u : CutCall). u.row) (cut_calls a.flat v c);
+          } in z) pins_new devices_new
+          ∙ ap (λ (rs : List CallRow). let z : Circuit = record {
+            name = (given_of b.flat c).name;
+            nets = w.names c;
+            pins = map (w.new c) (held_pins b.flat w c);
+            devices = map (row_through (w.new c)) (given_of b.flat c).devices;
+            calls = rs;
+          } in z) calls_new)
+
+-- a kept circuit was given
+given_kept : (g o : Netlist) (v : Alignment) (goes : ℕ → Bool) (a : IsAlignedBy goes g o v) (c : ℕ) → v.kept c ≡ true → (x : Circuit) × IsCircuit g c x
+given_kept g o v goes a c kept = let y = a.cut_down.given c kept in a.flattened.back c y.0 y.1
+
+kept_is : (g : Netlist) (k l goes : ℕ → Bool) → ((c : ℕ) → k c ≡ l c) → MayGo g l goes → MayGo g k goes
+kept_is g k l goes h may = record { stay = λ c e. may.stay c (sym (h c) ∙ e); go = λ c e d. may.go c (sym (h c) ∙ e) d }
+
 pub one_aligned : OneAlignedLaw
-one_aligned g o p a b x y kept_same number_same c kept m n is also =
-    let goes : (λ k. not (b.kept k)) ≡ (λ k. not (a.kept k)) = fun_ext (λ k. ap not (sym (kept_same k))) in
-    let flat : AreFlat g y.flat (λ k. not (a.kept k)) y.flats = subst (λ (v : ℕ → Bool). AreFlat g y.flat v y.flats) goes y.flattened in
-    let e : y.flat ≡ x.flat = flat_one g y.flat x.flat (λ k. not (a.kept k)) y.flats x.flats x.height x.good flat x.flattened in
-    let bc : AreCut x.flat p b = subst (λ (f : Netlist). AreCut f p b) e y.cut_down in
-    let bn : IsNormal x.flat b c = subst (λ (f : Netlist). IsNormal f b c) e (y.normal c (sym (kept_same c) ∙ kept)) in
-    let good = flat_is_good g x.flat (λ k. not (a.kept k)) x.flats x.height x.good x.flattened in
-    let held : (d k : ℕ) → a.kept d ≡ true → a.held d k ≡ b.held d k
-    = λ d k h. let r = one_held x.flat a b x.height good.lower x.cut_down.held bc.held kept_same d k h in same_bool (a.held d k) (b.held d k) r.0 r.1 in
-    cut_is x.flat o a x.cut_down c m kept is
-    ∙ (cut_one x.flat o p a b x.cut_down bc kept_same number_same held c kept (x.normal c kept) bn
-    ∙ sym (cut_is x.flat p b bc c n (sym (kept_same c) ∙ kept) (subst (λ (k : ℕ). IsCircuit p k n) (number_same c) also)))
+one_aligned g o p a b s t kept_same number_same c kept x y is also =
+    let given = given_kept g o a s.goes s.by c kept in
+    let goes_same : (d : ℕ) → s.goes d ≡ t.goes d = λ d. same_bool (s.goes d) (t.goes d) (λ h. let f = (s.going d).0 h in (t.going d).1 (sym (kept_same d) ∙ f.0, f.1)) (λ h. let f = (t.going d).0 h in (s.going d).1 (kept_same d ∙ f.0, f.1)) in
+    cut_is s.by.flat o a s.by.cut_down c x kept is
+    ∙ (cut_one g a.kept s.by.height s.by.good (λ d. Unit {0}) (λ d k row r call. tt) o a s.goes s.by (may_go g a.kept s.goes s.going) (λ d. refl) p b t.goes t.by
+    (kept_is g a.kept b.kept t.goes kept_same (may_go g b.kept t.goes t.going)) (λ d. sym (kept_same d)) (λ d r. inl (goes_same d)) c given.0 given.1 tt kept number_same
+    ∙ sym (cut_is t.by.flat p b t.by.cut_down c y (sym (kept_same c) ∙ kept) (subst (λ (k : ℕ). IsCircuit p k y) (number_same c kept) also)))
+
+-- paths of calls
+path_on : (g : Netlist) (path : List ℕ) (c d k : ℕ) (row : CallRow) → IsCallPath g c path d → IsCall g d k row → IsCalledFrom g c row.circuit
+path_on g [] c d k row h call = (k ∷ [], (row, subst (λ (m : ℕ). IsCall g m k row) (sym h) call, refl))
+path_on g (j ∷ js) c d k row (r, first, h) call = let rest = path_on g js r.circuit d k row h call in (j ∷ rest.0, (r, first, rest.1))
+
+devices_up : (g : Netlist) (path : List ℕ) (c d : ℕ) → IsCallPath g c path d → HasDevices g d → HasDevices g c
+devices_up g [] c d h has = subst (λ (m : ℕ). HasDevices g m) (sym h) has
+devices_up g (k ∷ ks) c d (row, call, h) has = let r = devices_up g ks row.circuit d h has in (k ∷ r.0, r.1, r.2, (row, call, r.3))
+
+below_top : (g : Netlist) (height : ℕ → ℕ) → IsGood g height → (path : List ℕ) (top d : ℕ) → IsCalledFrom g top d → IsCallPath g d path top → d ≡ top
+below_top g height good [] top d from h = h
+below_top g height good (k ∷ ks) top d from (row, call, h) =
+    let lower = good.lower d k row call in
+    let down = goes_down g height good from.0 top d from.1 in
+    let up = goes_down g height good ks row.circuit top h in
+    absurd (omega arith)
+
+pub all_flattened : AllFlattenedLaw
+all_flattened g o p a b top s t kept_same number_same tops c kept x y is also =
+    let given = given_kept g o a s.goes s.by c kept in
+    let may = may_go g a.kept s.goes s.going in
+    let other : MayGo g a.kept (λ d. not (b.kept d)) = record { stay = λ d e. ap not (sym (kept_same d) ∙ e); go = λ d e has. ap not (sym (kept_same d) ∙ e) } in
+    cut_is s.by.flat o a s.by.cut_down c x kept is
+    ∙ (cut_one g a.kept s.by.height s.by.good (IsCalledFrom g top) (λ d k row r call. path_on g r.0 top d k row r.1 call) o a s.goes s.by may (λ d. refl) p b (λ d. not (b.kept d)) t other
+    (λ d. sym (kept_same d)) (λ d r. differ d r) c given.0 given.1 (reached c kept) kept number_same
+    ∙ sym (cut_is t.flat p b t.cut_down c y (sym (kept_same c) ∙ kept) (subst (λ (k : ℕ). IsCircuit p k y) (number_same c kept) also)))
+  where
+    reached : (d : ℕ) → a.kept d ≡ true → IsCalledFrom g top d
+    reached d k = elim (tops d k) [ inl e ↦ ([], sym e) | inr r ↦ r.0 ]
+
+    nothing_below : (d : ℕ) → IsCalledFrom g top d → a.kept d ≡ false → (HasDevices g d → ⊥) → (e : ℕ) → IsCalledFrom g d e → a.kept e ≡ false
+    nothing_below d r gone none e h = elim (is_it (a.kept e)) [
+      | inr f ↦ f
+      | inl f ↦ elim (tops e f) [
+        | inl same ↦
+            let up : IsCallPath g d h.0 top = subst (λ (m : ℕ). IsCallPath g d h.0 m) same h.1 in
+            let is_top : d ≡ top = below_top g s.by.height s.by.good h.0 top d r up in
+            absurd (is_not (a.kept e) f (ap a.kept (same ∙ sym is_top) ∙ gone))
+        | inr (from, has) ↦ absurd (none (devices_up g h.0 d e h.1 has))
+      ]
+    ]
+
+    differ : (d : ℕ) → IsCalledFrom g top d → (s.goes d ≡ not (b.kept d)) ⊎ IsIdle g a.kept d
+    differ d r = elim (is_it (a.kept d)) [
+      | inl k ↦ inl ((may_go g a.kept s.goes s.going).stay d k ∙ sym (ap not (sym (kept_same d) ∙ k)))
+      | inr k ↦ elim (is_it (s.goes d)) [
+        | inl e ↦ inl (e ∙ sym (ap not (sym (kept_same d) ∙ k)))
+        | inr e ↦
+            let none : HasDevices g d → ⊥ = λ has. is_not (s.goes d) ((may_go g a.kept s.goes s.going).go d k has) e in
+            inr (record { none = none; kept_none = nothing_below d r k none })
+      ]
+    ]

@@ -1,6 +1,6 @@
 -- Lists made piece by piece.
-use Rattle.std.proofs.Common.{◌≡◌, ◌⊎◌, inl, inr, ℕ, zero, suc, ◌<◌, List, [], ◌∷◌, ◌++◌, map, length, Some, slice_get, refl, ◌∙◌, ap, subst, arith}
-use Rattle.align_laws.specs.Lists.{over, indexed, pieces, place, past, place_of}
+use Rattle.std.proofs.Common.{◌≡◌, ◌⊎◌, inl, inr, ℕ, zero, suc, List, [], ◌∷◌, ◌++◌, Some, slice_get, refl, ◌∙◌, ap, subst}
+use Rattle.align_laws.specs.Lists.{over, indexed, pieces, joined_place, past, net_at_pin}
 
 pub append_left : {B : Type 0} (xs ys : List B) (j : ℕ) (y : B) → slice_get xs j ≡ Some y → slice_get (xs ++ ys) j ≡ Some y
 append_left [] ys j y h = absurd cc
@@ -19,14 +19,14 @@ append_cases (x ∷ xs) ys (suc j) y h = elim (append_cases xs ys j y h) [
   | inr (m, at, e) ↦ inr (m, at, ap suc e)
 ]
 
-pub piece_at : {A B : Type 0} (f : ℕ → A → List B) (xs : List A) (i j : ℕ) (x : A) (y : B) → slice_get xs i ≡ Some x → slice_get (f i x) j ≡ Some y → slice_get (pieces f xs) (place f xs i j) ≡ Some y
+pub piece_at : {A B : Type 0} (f : ℕ → A → List B) (xs : List A) (i j : ℕ) (x : A) (y : B) → slice_get xs i ≡ Some x → slice_get (f i x) j ≡ Some y → slice_get (pieces f xs) (joined_place f xs i j) ≡ Some y
 piece_at f [] i j x y h g = absurd cc
 piece_at {A = A} {B = B} f (z ∷ zs) zero j x y h g =
     let e : Some z ≡ Some x = h in
     let s : x ≡ z = cc in
     append_left (f 0 z) (pieces (λ k. f (suc k)) zs) j y (subst (λ (w : A). slice_get (f 0 w) j ≡ Some y) s g)
 piece_at f (z ∷ zs) (suc i) j x y h g =
-    append_right (f 0 z) (pieces (λ k. f (suc k)) zs) (place (λ k. f (suc k)) zs i j) y (piece_at (λ k. f (suc k)) zs i j x y h g)
+    append_right (f 0 z) (pieces (λ k. f (suc k)) zs) (joined_place (λ k. f (suc k)) zs i j) y (piece_at (λ k. f (suc k)) zs i j x y h g)
 
 pub record Piece {A B : Type 0} (f : ℕ → A → List B) (xs : List A) (m : ℕ) (y : B) : Type 0 where
   pub item : ℕ
@@ -34,7 +34,7 @@ pub record Piece {A B : Type 0} (f : ℕ → A → List B) (xs : List A) (m : �
   pub of : A
   pub is : slice_get xs item ≡ Some of
   pub at : slice_get (f item of) number ≡ Some y
-  pub there : place f xs item number ≡ m
+  pub there : joined_place f xs item number ≡ m
 
 pub piece_of : {A B : Type 0} (f : ℕ → A → List B) (xs : List A) (m : ℕ) (y : B) → slice_get (pieces f xs) m ≡ Some y → Piece f xs m y
 piece_of f [] m y h = absurd cc
@@ -45,33 +45,18 @@ piece_of f (z ∷ zs) m y h = elim (append_cases (f 0 z) (pieces (λ k. f (suc k
       record { item = suc p.item; number = p.number; of = p.of; is = p.is; at = p.at; there = ap (λ (q : ℕ). over (f 0 z) q) p.there ∙ e }
 ]
 
-pub map_at_of : {A B : Type 0} (f : A → B) (xs : List A) (p : ℕ) (n : A) → slice_get xs p ≡ Some n → slice_get (map f xs) p ≡ Some (f n)
-map_at_of f [] p n h = absurd cc
-map_at_of {A = A} f (x ∷ xs) zero n h = let e : Some x ≡ Some n = h in let s : x ≡ n = cc in ap (λ (z : A). Some (f z)) s
-map_at_of f (x ∷ xs) (suc p) n h = map_at_of f xs p n h
-
-pub map_of : {A B : Type 0} (f : A → B) (xs : List A) (p : ℕ) (m : B) → slice_get (map f xs) p ≡ Some m → (n : A) × (slice_get xs p ≡ Some n) × (f n ≡ m)
-map_of f [] p m h = absurd cc
-map_of f (x ∷ xs) zero m h = let e : Some (f x) ≡ Some m = h in (x, refl, cc)
-map_of f (x ∷ xs) (suc p) m h = map_of f xs p m h
-
-pub place_pin : (xs : List ℕ) (far : ℕ → ℕ) (n o : ℕ) → slice_get xs n ≡ Some o → place_of xs far n ≡ o
+pub place_pin : (xs : List ℕ) (far : ℕ → ℕ) (n o : ℕ) → slice_get xs n ≡ Some o → net_at_pin xs far n ≡ o
 place_pin [] far n o h = absurd cc
 place_pin (x ∷ xs) far zero o h = let e : Some x ≡ Some o = h in cc
 place_pin (x ∷ xs) far (suc n) o h = place_pin xs far n o h
 
 -- a place among the pins, or past them
 pub place_cases : {B : Type 0} (xs : List ℕ) (ys : List B) (far : ℕ → ℕ) (n : ℕ) (y : B) → slice_get ys n ≡ Some y
-    → ((o : ℕ) × (slice_get xs n ≡ Some o)) ⊎ ((m : ℕ) × (slice_get (past xs ys) m ≡ Some y) × (place_of xs far n ≡ far m))
+    → ((o : ℕ) × (slice_get xs n ≡ Some o)) ⊎ ((m : ℕ) × (slice_get (past xs ys) m ≡ Some y) × (net_at_pin xs far n ≡ far m))
 place_cases [] ys far n y h = inr (n, h, refl)
 place_cases (x ∷ xs) [] far n y h = absurd cc
 place_cases (x ∷ xs) (z ∷ ys) far zero y h = inl (x, refl)
 place_cases (x ∷ xs) (z ∷ ys) far (suc n) y h = place_cases xs ys far n y h
-
-pub found_below : {B : Type 0} (xs : List B) (n : ℕ) → n < length xs → (x : B) × (slice_get xs n ≡ Some x)
-found_below [] n h = absurd (let l = h in omega arith)
-found_below (x ∷ xs) zero h = (x, refl)
-found_below (x ∷ xs) (suc n) h = found_below xs n (let l = h in omega arith)
 
 pub indexed_at : {A B : Type 0} (f : ℕ → A → B) (xs : List A) (i : ℕ) (x : A) → slice_get xs i ≡ Some x → slice_get (indexed f xs) i ≡ Some (f i x)
 indexed_at f [] i x h = absurd cc

@@ -1,16 +1,18 @@
 -- One list of flat circuits, one numbering.
 use Rattle.std.proofs.Common.{◌≡◌, inl, inr, ℕ, zero, suc, ◌<◌, Bool, true, cond, List, [], ◌∷◌, ◌++◌, map, Some, slice_get, refl, sym, ◌∙◌, ap, ap₂, subst, arith}
+use Rattle.plain_netlist.specs.Normal.{AreNumbered}
+use Rattle.plain_netlist.specs.Sound.{IsGood}
 use Rattle.std.proofs.Math.Decide.{ℕ_discrete}
 use Rattle.std.proofs.Math.Path.{fun_ext}
 use Rattle.plain_netlist.specs.Netlist.{CallRow, Circuit, Netlist, IsCircuit, IsCall}
-use Rattle.align_laws.specs.Lists.{NetAt, DeviceAt, CallAt, FlatCircuit, over, indexed, pieces, place, past, place_of, net_below, device_below, call_below, own_net, own_device, inner_nets, net_in, inner_devices, own_calls, inner_calls, inlined, IsGood}
-use Rattle.align_laws.specs.Words.{AreNumbered, OneFlatLaw, OneNumberLaw}
+use Rattle.align_laws.specs.Lists.{NetAt, DeviceAt, CallAt, FlatCircuit, over, indexed, pieces, joined_place, past, net_at_pin, net_below, device_below, call_below, own_net, own_device, inner_nets, net_in, inner_devices, own_calls, inner_calls, inlined}
+use Rattle.align_laws.specs.Words.{OneFlatLaw, OneNumberLaw}
 
 pub pieces_same : {A B : Type 0} (f g : ℕ → A → List B) (xs : List A) → ((k : ℕ) (x : A) → slice_get xs k ≡ Some x → f k x ≡ g k x) → pieces f xs ≡ pieces g xs
 pieces_same f g [] h = refl
 pieces_same {B = B} f g (x ∷ xs) h = ap₂ (λ (p q : List B). p ++ q) (h 0 x refl) (pieces_same (λ k. f (suc k)) (λ k. g (suc k)) xs (λ k y e. h (suc k) y e))
 
-place_same : {A B : Type 0} (f g : ℕ → A → List B) (xs : List A) (i j : ℕ) → ((k : ℕ) (x : A) → slice_get xs k ≡ Some x → f k x ≡ g k x) → place f xs i j ≡ place g xs i j
+place_same : {A B : Type 0} (f g : ℕ → A → List B) (xs : List A) (i j : ℕ) → ((k : ℕ) (x : A) → slice_get xs k ≡ Some x → f k x ≡ g k x) → joined_place f xs i j ≡ joined_place g xs i j
 place_same f g [] i j h = refl
 place_same f g (x ∷ xs) zero j h = refl
 place_same {B = B} f g (x ∷ xs) (suc i) j h = ap₂ (λ (p : List B) (q : ℕ). over p q) (h 0 x refl) (place_same (λ k. f (suc k)) (λ k. g (suc k)) xs i j (λ k y e. h (suc k) y e))
@@ -20,7 +22,7 @@ module _ (goes : ℕ → Bool) (a b : ℕ → FlatCircuit) (x : Circuit) (h : (k
   nets_same k row e = ap (λ (z : FlatCircuit). cond (goes row.circuit) (map (net_below k) (past row.nets z.nets)) []) (h k row e)
 
   to_same : (k : ℕ) (row : CallRow) → net_in goes a x k row ≡ net_in goes b x k row
-  to_same k row = ap (λ (far : ℕ → ℕ). place_of row.nets far) (fun_ext (λ m. ap (over (indexed own_net x.nets)) (place_same (inner_nets goes a) (inner_nets goes b) x.calls k m nets_same)))
+  to_same k row = ap (λ (far : ℕ → ℕ). net_at_pin row.nets far) (fun_ext (λ m. ap (over (indexed own_net x.nets)) (place_same (inner_nets goes a) (inner_nets goes b) x.calls k m nets_same)))
 
   devices_same : (k : ℕ) (row : CallRow) → slice_get x.calls k ≡ Some row → inner_devices goes a x k row ≡ inner_devices goes b x k row
   devices_same k row e = ap₂ (λ (to : ℕ → ℕ) (z : FlatCircuit). cond (goes row.circuit) (map (device_below k to) z.devices) []) (to_same k row) (h k row e)

@@ -2,10 +2,17 @@
 use Rattle.std.proofs.Common.{◌≡◌, ◌↔◌, ℕ, true, List, [], ◌∷◌, sym, ◌∙◌, ap, subst}
 use Rattle.plain_netlist.specs.Netlist.{Pole, on, DeviceRow, Netlist, IsSlot, Slot, InOneNet, HasDevice, IsTerminal, slot, IsOnPin}
 use Rattle.align_laws.specs.Flat.{Maps, IsRowImage, net_image, device_image, AreInlined, IsSameExpansion}
-use Rattle.align_laws.specs.Prune.{Cuts, ArePruned, IsHeldSlot, new_slot, new_path, IsPrunedExpansion}
-use Rattle.align_laws.specs.Whole.{IsKeptExpansion, whole_net, whole_device, AlignLaw}
+use Rattle.align_laws.proofs.Prune.{Cuts, ArePruned, IsHeldSlot, new_slot, new_path, IsPrunedExpansion}
+use Rattle.align_laws.specs.Aligned.{IsKeptExpansion}
 use Rattle.align_laws.proofs.Flatten.{same_expansion}
 use Rattle.align_laws.proofs.Dropped.{pruned_expansion}
+
+-- where a net, and a device, of the given netlist stands in the cut one
+abbrev pub whole_net : Maps → Cuts → ℕ → Slot → Slot
+whole_net v w c s = new_slot w c (net_image v c s).path (net_image v c s).net
+
+abbrev pub whole_device : Maps → Cuts → ℕ → Slot → Slot
+whole_device v w c s = slot (new_path w c (device_image v c s.path s.net).path) (device_image v c s.path s.net).net
 
 module _ (g f o : Netlist) (v : Maps) (w : Cuts) (height : ℕ → ℕ) (flat : AreInlined g f v height) (cut : ArePruned f o w) (c : ℕ) (kept : w.kept c ≡ true) where
   first : IsSameExpansion g f v c
@@ -75,6 +82,3 @@ module _ (g f o : Netlist) (v : Maps) (w : Cuts) (height : ℕ → ℕ) (flat : 
 
   pub kept_expansion : IsKeptExpansion g o c (w.number c) (whole_net v w c) (whole_device v w c)
   kept_expansion = record { each = each; back = back; one = one; nets = nets; pins = pins }
-
-pub aligned_whole : AlignLaw
-aligned_whole g f o v w height flat cut c kept = kept_expansion g f o v w height flat cut c kept

@@ -1,14 +1,9 @@
 -- Devices of a flat circuit are those at the ends of inner paths.
 use Rattle.std.proofs.Common.{◌≡◌, inl, inr, ℕ, zero, suc, ◌<◌, List, [], ◌∷◌, refl, sym, ◌∙◌, ap, subst, arith}
+use Rattle.plain_netlist.proofs.Once.{one_call}
 use Rattle.plain_netlist.specs.Netlist.{DeviceRow, CallRow, Netlist, IsDevice, Slot, HasDevice, slot}
-use Rattle.align_laws.specs.Flat.{Fate, Goes, Maps, below, step, image, device_of, device_image, AreInlined, row_through}
-use Rattle.align_laws.specs.Words.{IsInside, AreDevicesInside, InsideLaw, WholeLaw}
-use Rattle.align_laws.proofs.Joined.{one_call}
-use Rattle.align_laws.proofs.Listed.{listed}
-use Rattle.align_laws.proofs.CutList.{cut_pruned}
-use Rattle.align_laws.proofs.Wholly.{aligned_whole}
-use Rattle.align_laws.specs.Lists.{maps_of}
-use Rattle.align_laws.specs.Cut.{cuts_of}
+use Rattle.align_laws.specs.Flat.{CallFate, Goes, Maps, below, step, image, placed_device, device_image, AreInlined, row_through}
+use Rattle.align_laws.specs.Words.{IsInside, AreDevicesInside, InsideLaw}
 
 module _ (g f : Netlist) (v : Maps) (height : ℕ → ℕ) (are : AreInlined g f v height) where
   record Item (c j : ℕ) (s : Slot) : Type 0 where
@@ -34,8 +29,8 @@ module _ (g f : Netlist) (v : Maps) (height : ℕ → ℕ) (are : AreInlined g f
           inside = (call, is, i, fate, r.inside);
           own = r.own;
           has = (call, is, r.has);
-          is = ap (λ (x : Fate). step device_of x (image v device_of (v.target c k) s.path s.net)) fate
-              ∙ (ap (λ (t : ℕ). step device_of (Goes i) (image v device_of t s.path s.net)) target ∙ ap (step device_of (Goes i)) r.is);
+          is = ap (λ (x : CallFate). step placed_device x (image v placed_device (v.target c k) s.path s.net)) fate
+              ∙ (ap (λ (t : ℕ). step placed_device (Goes i) (image v placed_device t s.path s.net)) target ∙ ap (step placed_device (Goes i)) r.is);
         } in
         subst (λ (n : ℕ). Item c n (v.device_from c n)) num (subst (λ (s : Slot). Item c (i.device m) s) (sym from) up)
   ]
@@ -61,6 +56,3 @@ module _ (g f : Netlist) (v : Maps) (height : ℕ → ℕ) (are : AreInlined g f
 
 pub insides : InsideLaw
 insides g f v height are c = inside g f v height are c
-
-pub wholes : WholeLaw
-wholes g f o goes flats height w good flat cut = aligned_whole g f o (maps_of g goes flats) (cuts_of f w) height (listed g f goes flats height good flat) (cut_pruned f o w cut)

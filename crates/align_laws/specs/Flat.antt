@@ -1,22 +1,25 @@
--- Flattening: calls replaced by the flat circuits that they call, with all nets kept; and that this leaves the expansion as it is.
+-- Flattening: calls replaced by the flat circuits that they call, with all nets kept; and that this
+-- leaves the expansion as it is.
 use Rattle.std.specs.Prelude.{◌≡◌, ◌⊎◌, ◌↔◌, ◌<◌, ℕ, List, [], ◌∷◌, ◌++◌, map, Some, slice_get}
+use Rattle.plain_netlist.specs.Sound.{AreNetsThere}
 use Rattle.plain_netlist.specs.Netlist.{Pole, on, DeviceRow, CallRow, Netlist, IsCall, IsDevice, IsPin, HasNet, IsSlot, Slot, slot, InOneNet, HasDevice}
 
 -- where the nets, devices and calls of the called circuit stand in the caller
-pub record Inlay : Type 0 where
+pub record Placing : Type 0 where
   pub net : ℕ → ℕ
   pub device : ℕ → ℕ
   pub call : ℕ → ℕ
 
 -- a call stays, with a number of its own, or its circuit goes into the caller
-pub data Fate : Type 0 where
-  Stays : ℕ → Fate
-  Goes : Inlay → Fate
+pub data CallFate : Type 0 where
+  Stays : ℕ → CallFate
+  Goes : Placing → CallFate
 
--- of each circuit: what becomes of its calls, and where the nets, devices and calls of the flat circuit are from
+-- of each circuit: what becomes of its calls, and where the nets, devices and calls of the flat
+-- circuit are from
 pub record Maps : Type 0 where
   pub target : ℕ → ℕ → ℕ
-  pub fate : ℕ → ℕ → Fate
+  pub fate : ℕ → ℕ → CallFate
   pub onward : ℕ → ℕ → ℕ
   pub way : ℕ → ℕ → List ℕ
   pub net_from : ℕ → ℕ → Slot
@@ -24,7 +27,15 @@ pub record Maps : Type 0 where
 
 -- a row or a call with its nets put through a map
 abbrev pub row_through : (ℕ → ℕ) → DeviceRow → DeviceRow
-row_through f r = record { class = r.class; length = r.length; width = r.width; source = f r.source; gate = f r.gate; drain = f r.drain; bulk = f r.bulk }
+row_through f r = record {
+  class = r.class;
+  length = r.length;
+  width = r.width;
+  source = f r.source;
+  gate = f r.gate;
+  drain = f r.drain;
+  bulk = f r.bulk;
+}
 
 abbrev pub call_through : (ℕ → ℕ) → CallRow → CallRow
 call_through f r = record { circuit = r.circuit; nets = map f r.nets }
@@ -34,31 +45,31 @@ abbrev pub below : ℕ → Slot → Slot
 below k s = slot (k ∷ s.path) s.net
 
 -- where a slot of the called circuit stands in the caller
-abbrev pub inside : (Inlay → ℕ → ℕ) → Inlay → List ℕ → ℕ → Slot
+abbrev pub inside : (Placing → ℕ → ℕ) → Placing → List ℕ → ℕ → Slot
 inside pick i [] n = slot [] (pick i n)
 inside pick i (e ∷ es) n = slot (i.call e ∷ es) n
 
 -- what a call does to a slot below it
-abbrev pub step : (Inlay → ℕ → ℕ) → Fate → Slot → Slot
+abbrev pub step : (Placing → ℕ → ℕ) → CallFate → Slot → Slot
 step pick (Stays e) s = below e s
 step pick (Goes i) s = inside pick i s.path s.net
 
 -- the net or device of the flat netlist that one of the given netlist stands as
-abbrev pub image : Maps → (Inlay → ℕ → ℕ) → ℕ → List ℕ → ℕ → Slot
+abbrev pub image : Maps → (Placing → ℕ → ℕ) → ℕ → List ℕ → ℕ → Slot
 image v pick c [] n = slot [] n
 image v pick c (k ∷ ks) n = step pick (v.fate c k) (image v pick (v.target c k) ks n)
 
-abbrev pub net_of : Inlay → ℕ → ℕ
-net_of i n = i.net n
+abbrev pub placed_net : Placing → ℕ → ℕ
+placed_net i n = i.net n
 
-abbrev pub device_of : Inlay → ℕ → ℕ
-device_of i n = i.device n
+abbrev pub placed_device : Placing → ℕ → ℕ
+placed_device i n = i.device n
 
 abbrev pub net_image : Maps → ℕ → Slot → Slot
-net_image v c s = image v net_of c s.path s.net
+net_image v c s = image v placed_net c s.path s.net
 
 abbrev pub device_image : Maps → ℕ → List ℕ → ℕ → Slot
-device_image v c path j = image v device_of c path j
+device_image v c path j = image v placed_device c path j
 
 -- a slot seen from the start of a longer path
 abbrev pub beyond : List ℕ → Slot → Slot
@@ -70,39 +81,49 @@ origin v from c [] n = from c n
 origin v from c (e ∷ es) n = beyond (v.way c e) (origin v from (v.onward c e) es n)
 
 -- the flat circuit d stands in the flat circuit c for call k
-pub record IsInlaid (g f : Netlist) (v : Maps) (c k : ℕ) (row : CallRow) (i : Inlay) : Type 0 where
-  pub pin : (p outer inner : ℕ) → slice_get row.nets p ≡ Some outer → IsPin g row.circuit p inner → i.net inner ≡ outer
-  pub net : (n : ℕ) → HasNet f row.circuit n → ((p : ℕ) × (outer : ℕ) × (slice_get row.nets p ≡ Some outer) × IsPin g row.circuit p n) ⊎ (v.net_from c (i.net n) ≡ below k (v.net_from row.circuit n))
+pub record IsPlacedInside (g f : Netlist) (v : Maps) (c k : ℕ) (row : CallRow)
+    (i : Placing) : Type 0 where
+  pub pin : (p outer inner : ℕ) → slice_get row.nets p ≡ Some outer → IsPin g row.circuit p inner
+      → i.net inner ≡ outer
+  pub net : (n : ℕ) → HasNet f row.circuit n
+      → ((p : ℕ) × (outer : ℕ) × (slice_get row.nets p ≡ Some outer) × IsPin g row.circuit p n)
+      ⊎ (v.net_from c (i.net n) ≡ below k (v.net_from row.circuit n))
   pub within : (n : ℕ) → HasNet f row.circuit n → HasNet f c (i.net n)
-  pub device : (j : ℕ) (own : DeviceRow) → IsDevice f row.circuit j own → IsDevice f c (i.device j) (row_through i.net own) × (v.device_from c (i.device j) ≡ below k (v.device_from row.circuit j))
-  pub call : (e : ℕ) (own : CallRow) → IsCall f row.circuit e own → IsCall f c (i.call e) (call_through i.net own) × (v.way c (i.call e) ≡ k ∷ v.way row.circuit e)
+  pub device : (j : ℕ) (own : DeviceRow) → IsDevice f row.circuit j own
+      → IsDevice f c (i.device j) (row_through i.net own)
+      × (v.device_from c (i.device j) ≡ below k (v.device_from row.circuit j))
+  pub call : (e : ℕ) (own : CallRow) → IsCall f row.circuit e own
+      → IsCall f c (i.call e) (call_through i.net own)
+      × (v.way c (i.call e) ≡ k ∷ v.way row.circuit e)
 
--- the flat circuit c: the given one's own pins, nets, devices and calls that stay, then what the flattened calls bring, and nothing else
+-- the flat circuit c: the given one's own pins, nets, devices and calls that stay, then what the
+-- flattened calls bring, and nothing else
 pub record IsInlined (g f : Netlist) (v : Maps) (c : ℕ) : Type 0 where
   pub pins : (i n : ℕ) → IsPin g c i n ↔ IsPin f c i n
   pub target : (k : ℕ) (row : CallRow) → IsCall g c k row → v.target c k ≡ row.circuit
   pub onward : (e : ℕ) (row : CallRow) → IsCall f c e row → v.onward c e ≡ row.circuit
   pub net : (n : ℕ) → HasNet g c n → HasNet f c n × (v.net_from c n ≡ slot [] n)
-  pub device : (j : ℕ) (row : DeviceRow) → IsDevice g c j row → IsDevice f c j row × (v.device_from c j ≡ slot [] j)
-  pub stays : (k e : ℕ) (row : CallRow) → IsCall g c k row → v.fate c k ≡ Stays e → IsCall f c e row × (v.way c e ≡ k ∷ [])
-  pub goes : (k : ℕ) (i : Inlay) (row : CallRow) → IsCall g c k row → v.fate c k ≡ Goes i → IsInlaid g f v c k row i
+  pub device : (j : ℕ) (row : DeviceRow) → IsDevice g c j row
+      → IsDevice f c j row × (v.device_from c j ≡ slot [] j)
+  pub stays : (k e : ℕ) (row : CallRow) → IsCall g c k row → v.fate c k ≡ Stays e
+      → IsCall f c e row × (v.way c e ≡ k ∷ [])
+  pub goes : (k : ℕ) (i : Placing) (row : CallRow) → IsCall g c k row → v.fate c k ≡ Goes i
+      → IsPlacedInside g f v c k row i
   pub devices : (j : ℕ) (row : DeviceRow) → IsDevice f c j row → IsDevice g c j row
-      ⊎ ((k : ℕ) × (call : CallRow) × (i : Inlay) × (m : ℕ) × (own : DeviceRow) × IsCall g c k call × (v.fate c k ≡ Goes i) × IsDevice f call.circuit m own × (i.device m ≡ j))
-  pub calls : (e : ℕ) (row : CallRow) → IsCall f c e row → ((k : ℕ) × IsCall g c k row × (v.fate c k ≡ Stays e))
-      ⊎ ((k : ℕ) × (call : CallRow) × (i : Inlay) × (m : ℕ) × (own : CallRow) × IsCall g c k call × (v.fate c k ≡ Goes i) × IsCall f call.circuit m own × (i.call m ≡ e))
-
--- pins and the nets of calls and devices are nets
-pub record IsWithin (g : Netlist) : Type 0 where
-  pub pins : (c i n : ℕ) → IsPin g c i n → HasNet g c n
-  pub calls : (c k p n : ℕ) (row : CallRow) → IsCall g c k row → slice_get row.nets p ≡ Some n → HasNet g c n
-  pub devices : (c j : ℕ) (row : DeviceRow) (pole : Pole) → IsDevice g c j row → HasNet g c (on pole row)
+      ⊎ ((k : ℕ) × (call : CallRow) × (i : Placing) × (m : ℕ) × (own : DeviceRow)
+      × IsCall g c k call × (v.fate c k ≡ Goes i) × IsDevice f call.circuit m own
+      × (i.device m ≡ j))
+  pub calls : (e : ℕ) (row : CallRow) → IsCall f c e row
+      → ((k : ℕ) × IsCall g c k row × (v.fate c k ≡ Stays e))
+      ⊎ ((k : ℕ) × (call : CallRow) × (i : Placing) × (m : ℕ) × (own : CallRow) × IsCall g c k call
+      × (v.fate c k ≡ Goes i) × IsCall f call.circuit m own × (i.call m ≡ e))
 
 -- each circuit is flattened so, calls go down in height, and nets are nets
 pub record AreInlined (g f : Netlist) (v : Maps) (height : ℕ → ℕ) : Type 0 where
   pub each : (c : ℕ) → IsInlined g f v c
   pub lower : (c k : ℕ) (row : CallRow) → IsCall g c k row → height row.circuit < height c
-  pub within : IsWithin g
-  pub flat_within : IsWithin f
+  pub within : AreNetsThere g
+  pub flat_within : AreNetsThere f
 
 -- class and sizes as they are, each terminal on the image of its net
 pub record IsRowImage (image : ℕ → ℕ → Type 0) (row other : DeviceRow) : Type 0 where
@@ -111,18 +132,24 @@ pub record IsRowImage (image : ℕ → ℕ → Type 0) (row other : DeviceRow) :
   pub width : row.width ≡ other.width
   pub poles : (pole : Pole) → image (on pole row) (on pole other)
 
--- both netlists expand to the same: slots are on one net exactly where their images are, pins are the same, and devices go one to one
--- and onto, with class, sizes and terminals
+-- both netlists expand to the same: slots are on one net exactly where their images are, pins are
+-- the same, and devices go one to one and onto, with class, sizes and terminals
 pub record IsSameExpansion (g f : Netlist) (v : Maps) (c : ℕ) : Type 0 where
-  pub nets : (a b : Slot) → IsSlot g c a.path a.net → IsSlot g c b.path b.net → InOneNet g c a b ↔ InOneNet f c (net_image v c a) (net_image v c b)
+  pub nets : (a b : Slot) → IsSlot g c a.path a.net → IsSlot g c b.path b.net
+      → InOneNet g c a b ↔ InOneNet f c (net_image v c a) (net_image v c b)
   pub pins : (i n : ℕ) → IsPin g c i n ↔ IsPin f c i n
   pub device : (path : List ℕ) (j : ℕ) (row : DeviceRow) → HasDevice g c path j row
-      → (other : DeviceRow) × HasDevice f c (device_image v c path j).path (device_image v c path j).net other
-      × IsRowImage (λ a b. net_image v c (slot path a) ≡ slot (device_image v c path j).path b) row other
+      → (other : DeviceRow)
+      × HasDevice f c (device_image v c path j).path (device_image v c path j).net other
+      × IsRowImage (λ a b. net_image v c (slot path a)
+      ≡ slot (device_image v c path j).path b) row other
   pub back : (es : List ℕ) (j : ℕ) (row : DeviceRow) → HasDevice f c es j row
-      → (s : Slot) × (own : DeviceRow) × HasDevice g c s.path s.net own × (device_image v c s.path s.net ≡ slot es j)
-  pub one : (p q : List ℕ) (i j : ℕ) (a b : DeviceRow) → HasDevice g c p i a → HasDevice g c q j b → device_image v c p i ≡ device_image v c q j → slot p i ≡ slot q j
+      → (s : Slot) × (own : DeviceRow) × HasDevice g c s.path s.net own
+      × (device_image v c s.path s.net ≡ slot es j)
+  pub one : (p q : List ℕ) (i j : ℕ) (a b : DeviceRow) → HasDevice g c p i a → HasDevice g c q j b
+      → device_image v c p i ≡ device_image v c q j → slot p i ≡ slot q j
 
 -- flattening leaves the expansion as it is
 abbrev pub FlatLaw : Type 0
-FlatLaw = (g f : Netlist) (v : Maps) (height : ℕ → ℕ) → AreInlined g f v height → (c : ℕ) → IsSameExpansion g f v c
+FlatLaw = (g f : Netlist) (v : Maps) (height : ℕ → ℕ) → AreInlined g f v height → (c : ℕ)
+    → IsSameExpansion g f v c

@@ -1,7 +1,9 @@
--- Flat circuits as lists, made from the given circuit and the flat ones below it; each item with the place that it is from.
-use Rattle.std.specs.Prelude.{◌≡◌, ◌<◌, ℕ, zero, suc, Bool, cond, List, [], ◌∷◌, ◌++◌, map, length, Option, Some, None, slice_get, decimal}
-use Rattle.plain_netlist.specs.Netlist.{DeviceRow, CallRow, Circuit, Netlist, IsCircuit, IsCall, IsPin, Slot, slot}
-use Rattle.align_laws.specs.Flat.{Inlay, Stays, Goes, Maps, below, IsWithin, AreInlined, row_through, call_through}
+-- Flat circuits as lists, made from the given circuit and the flat ones below it; each item with
+-- the place that it is from.
+use Rattle.std.specs.Prelude.{◌≡◌, ℕ, zero, suc, Bool, cond, List, [], ◌∷◌, ◌++◌, map, Option, Some, None, slice_get, decimal}
+use Rattle.plain_netlist.specs.Sound.{IsGood}
+use Rattle.plain_netlist.specs.Netlist.{DeviceRow, CallRow, Circuit, Netlist, IsCircuit, Slot, slot}
+use Rattle.align_laws.specs.Flat.{Placing, Stays, Goes, Maps, below, AreInlined, row_through, call_through}
 
 -- a net, a device, a call of a flat circuit, with the path that it is from
 pub record NetAt : Type 0 where
@@ -39,10 +41,10 @@ pieces f [] = []
 pieces f (x ∷ xs) = f 0 x ++ pieces (λ k. f (suc k)) xs
 
 -- where place j of item i's list is in all
-abbrev pub place : {A B : Type 0} → (ℕ → A → List B) → List A → ℕ → ℕ → ℕ
-place f [] i j = j
-place f (x ∷ xs) zero j = j
-place f (x ∷ xs) (suc i) j = over (f 0 x) (place (λ k. f (suc k)) xs i j)
+abbrev pub joined_place : {A B : Type 0} → (ℕ → A → List B) → List A → ℕ → ℕ → ℕ
+joined_place f [] i j = j
+joined_place f (x ∷ xs) zero j = j
+joined_place f (x ∷ xs) (suc i) j = over (f 0 x) (joined_place (λ k. f (suc k)) xs i j)
 
 -- a list without as many items as the other has
 abbrev pub past : {A B : Type 0} → List A → List B → List B
@@ -51,10 +53,10 @@ past (x ∷ xs) [] = []
 past (x ∷ xs) (y ∷ ys) = past xs ys
 
 -- the net of a pin, or past the pins one of its own
-abbrev pub place_of : List ℕ → (ℕ → ℕ) → ℕ → ℕ
-place_of [] far n = far n
-place_of (x ∷ xs) far zero = x
-place_of (x ∷ xs) far (suc n) = place_of xs far n
+abbrev pub net_at_pin : List ℕ → (ℕ → ℕ) → ℕ → ℕ
+net_at_pin [] far n = far n
+net_at_pin (x ∷ xs) far zero = x
+net_at_pin (x ∷ xs) far (suc n) = net_at_pin xs far n
 
 -- Xk/ before the name, k the position from 1
 abbrev pub net_below : ℕ → NetAt → NetAt
@@ -74,20 +76,27 @@ own_device j row = record { from = slot [] j; row = row }
 
 module _ (goes : ℕ → Bool) (flats : ℕ → FlatCircuit) where
   abbrev pub inner_nets : ℕ → CallRow → List NetAt
-  inner_nets k row = cond (goes row.circuit) (map (net_below k) (past row.nets (flats row.circuit).nets)) []
+  inner_nets k row =
+      cond (goes row.circuit) (map (net_below k) (past row.nets (flats row.circuit).nets)) []
 
-  -- where net n of the flat circuit that call k names stands
+  -- where net m behind the pins of the flat circuit that call k names stands, and net n of it
+  abbrev pub far_in : Circuit → ℕ → ℕ → ℕ
+  far_in c k m = over (indexed own_net c.nets) (joined_place inner_nets c.calls k m)
+
   abbrev pub net_in : Circuit → ℕ → CallRow → ℕ → ℕ
-  net_in c k row n = place_of row.nets (λ m. over (indexed own_net c.nets) (place inner_nets c.calls k m)) n
+  net_in c k row n =
+      net_at_pin row.nets (far_in c k) n
 
   abbrev pub inner_devices : Circuit → ℕ → CallRow → List DeviceAt
-  inner_devices c k row = cond (goes row.circuit) (map (device_below k (net_in c k row)) (flats row.circuit).devices) []
+  inner_devices c k row =
+      cond (goes row.circuit) (map (device_below k (net_in c k row)) (flats row.circuit).devices) []
 
   abbrev pub own_calls : ℕ → CallRow → List CallAt
   own_calls k row = cond (goes row.circuit) [] (record { way = k ∷ []; row = row } ∷ [])
 
   abbrev pub inner_calls : Circuit → ℕ → CallRow → List CallAt
-  inner_calls c k row = cond (goes row.circuit) (map (call_below k (net_in c k row)) (flats row.circuit).calls) []
+  inner_calls c k row =
+      cond (goes row.circuit) (map (call_below k (net_in c k row)) (flats row.circuit).calls) []
 
   -- the circuit's own first, then what the calls bring, in order
   abbrev pub inlined : Circuit → FlatCircuit
@@ -101,20 +110,19 @@ module _ (goes : ℕ → Bool) (flats : ℕ → FlatCircuit) where
 
 -- the flat circuit without its places
 abbrev pub plain : FlatCircuit → Circuit
-plain x = record { name = x.name; nets = map (λ (n : NetAt). n.name) x.nets; pins = x.pins; devices = map (λ (d : DeviceAt). d.row) x.devices; calls = map (λ (r : CallAt). r.row) x.calls }
+plain x = record {
+  name = x.name;
+  nets = map (λ (n : NetAt). n.name) x.nets;
+  pins = x.pins;
+  devices = map (λ (d : DeviceAt). d.row) x.devices;
+  calls = map (λ (r : CallAt). r.row) x.calls;
+}
 
 -- the netlist f has the flat circuits of g
 pub record AreFlat (g f : Netlist) (goes : ℕ → Bool) (flats : ℕ → FlatCircuit) : Type 0 where
   pub each : (c : ℕ) (given : Circuit) → IsCircuit g c given → flats c ≡ inlined goes flats given
   pub there : (c : ℕ) (given : Circuit) → IsCircuit g c given → IsCircuit f c (plain (flats c))
   pub back : (c : ℕ) (flat : Circuit) → IsCircuit f c flat → (given : Circuit) × IsCircuit g c given
-
--- no fault, and pins are nets 0, 1, 2, ..
-pub record IsGood (g : Netlist) (height : ℕ → ℕ) : Type 0 where
-  pub within : IsWithin g
-  pub lower : (c k : ℕ) (row : CallRow) → IsCall g c k row → height row.circuit < height c
-  pub called : (c k : ℕ) (row : CallRow) → IsCall g c k row → (d : Circuit) × IsCircuit g row.circuit d × (length row.nets ≡ length d.pins)
-  pub pins : (c i n : ℕ) → IsPin g c i n → n ≡ i
 
 -- a circuit, a call or a place by its number, and something where there is none
 abbrev pub circuit_or : Option Circuit → Circuit
@@ -147,18 +155,25 @@ given_of g c = circuit_or (slice_get g.circuits c)
 abbrev pub row_of : Netlist → ℕ → ℕ → CallRow
 row_of g c k = call_or (slice_get (given_of g c).calls k)
 
-abbrev pub inlay_of : (ℕ → Bool) → (ℕ → FlatCircuit) → Circuit → ℕ → CallRow → Inlay
-inlay_of goes flats c k row = record {
+abbrev pub placing_of : (ℕ → Bool) → (ℕ → FlatCircuit) → Circuit → ℕ → CallRow → Placing
+placing_of goes flats c k row = record {
   net = net_in goes flats c k row;
-  device = λ j. over (indexed own_device c.devices) (place (inner_devices goes flats c) c.calls k j);
-  call = λ e. over (pieces (own_calls goes flats) c.calls) (place (inner_calls goes flats c) c.calls k e);
+  device =
+      λ j. over (indexed own_device c.devices)
+      (joined_place (inner_devices goes flats c) c.calls k j);
+  call =
+      λ e. over (pieces (own_calls goes flats) c.calls)
+      (joined_place (inner_calls goes flats c) c.calls k e);
 }
 
 -- the maps that these lists are
 abbrev pub maps_of : Netlist → (ℕ → Bool) → (ℕ → FlatCircuit) → Maps
 maps_of g goes flats = record {
   target = λ c k. (row_of g c k).circuit;
-  fate = λ c k. cond (goes (row_of g c k).circuit) (Goes (inlay_of goes flats (given_of g c) k (row_of g c k))) (Stays (place (own_calls goes flats) (given_of g c).calls k 0));
+  fate =
+      λ c k. cond (goes (row_of g c k).circuit)
+      (Goes (placing_of goes flats (given_of g c) k (row_of g c k)))
+      (Stays (joined_place (own_calls goes flats) (given_of g c).calls k 0));
   onward = λ c e. onward_or (slice_get (flats c).calls e);
   way = λ c e. way_or (slice_get (flats c).calls e);
   net_from = λ c n. net_or (slice_get (flats c).nets n);
@@ -167,4 +182,5 @@ maps_of g goes flats = record {
 
 -- circuits flattened as lists are flattened
 abbrev pub ListLaw : Type 0
-ListLaw = (g f : Netlist) (goes : ℕ → Bool) (flats : ℕ → FlatCircuit) (height : ℕ → ℕ) → IsGood g height → AreFlat g f goes flats → AreInlined g f (maps_of g goes flats) height
+ListLaw = (g f : Netlist) (goes : ℕ → Bool) (flats : ℕ → FlatCircuit) (height : ℕ → ℕ)
+    → IsGood g height → AreFlat g f goes flats → AreInlined g f (maps_of g goes flats) height

@@ -1,48 +1,29 @@
-//! How a netlist is made comparable with another one: circuits without a partner are flattened into their callers, nets that hold nothing and
-//! circuits without devices are dropped; and that this keeps what a circuit expands to. Definitions and laws.
+//! How a netlist is made comparable with another one: circuits without a partner are flattened into
+//! their callers, nets that hold nothing and circuits without devices are dropped; and that what a
+//! circuit expands to stays. Definitions and laws.
 //!
-//! The definitions stand in `specs/`: `Flat` (flattening), `Prune` (dropping), `Whole` (both), `Lists` and `Cut` (the same as lists), `Words` (the
-//! same in words of paths). No code runs here; each law is the contract of a function with an empty body.
+//! The definitions stand in `specs/`: `Flat` and `Lists` (flattening), `Cut` (dropping), `Aligned`
+//! (both, in normal form), `Partners` (which circuits are compared), `Words` (the same in words of
+//! paths). No code runs here; each law is the contract of a function with an empty body.
 #![tactic(auto)]
 
+ghost use Rattle.align_laws.specs.Aligned.{AlignedLaw, AlignedCorrespondsLaw, AlignedFaultLaw, AlignedSoundLaw, AllFlattenedLaw, NoFurtherLaw, OneAlignedLaw};
 ghost use Rattle.align_laws.specs.Flat.{FlatLaw};
-ghost use Rattle.align_laws.specs.Prune.{PruneLaw};
-ghost use Rattle.align_laws.specs.Whole.{AlignLaw};
 ghost use Rattle.align_laws.specs.Lists.{ListLaw};
-ghost use Rattle.align_laws.specs.Cut.{CutLaw};
-ghost use Rattle.align_laws.specs.Aligned.{AlignedLaw, OneAlignedLaw};
+ghost use Rattle.align_laws.specs.Partners.{AlignedSidesLaw, KeptLaw, LeftOrderLaw, OnePairLaw, OnePartnerLaw, SaidLaw};
 ghost use Rattle.align_laws.specs.Sample.{NestedLaw};
-ghost use Rattle.align_laws.specs.Words.{InsideLaw, WholeLaw, OneFlatLaw, OneNumberLaw, OneHeldLaw, LowerLaw, FlatGoodLaw, InnerNetLaw, InnerCallLaw};
+ghost use Rattle.align_laws.specs.Words.{InsideLaw, OneFlatLaw, OneNumberLaw, OneHeldLaw, LowerLaw, FlatGoodLaw, InnerNetLaw, InnerCallLaw};
 
-/// Flattening leaves the expansion as it is.
+/// Flattening leaves the expansion as it is, and lists made of a circuit and of the flat circuits
+/// below it are flattened circuits.
 pub fn flattening()
-    ensures { FlatLaw }
+    ensures expansion { FlatLaw }
+    ensures lists { ListLaw }
 {}
 
-/// Dropping leaves the expansion as it is.
-pub fn pruning()
-    ensures { PruneLaw }
-{}
-
-/// So do both.
-pub fn aligning()
-    ensures { AlignLaw }
-{}
-
-/// Lists made of a circuit and of the flat ones below it are flattened circuits.
-pub fn listing()
-    ensures { ListLaw }
-{}
-
-/// Lists cut by what is held are pruned circuits.
-pub fn cutting()
-    ensures { CutLaw }
-{}
-
-/// Devices, nets and calls of a flat circuit are those of paths through circuits that aren't kept, and the lists keep the expansion.
+/// Devices, nets and calls of a flat circuit are those of paths through circuits that go.
 pub fn wording()
     ensures inside { InsideLaw }
-    ensures whole { WholeLaw }
     ensures nets { InnerNetLaw }
     ensures calls { InnerCallLaw }
 {}
@@ -56,10 +37,27 @@ pub fn once()
     ensures good { FlatGoodLaw }
 {}
 
-/// An aligned netlist expands to the same devices and nets as the given one, and there is one for what is kept.
+/// An aligned netlist expands to the same devices and nets as the given one; what is kept
+/// determines it, and it has no fault but equal names of nets.
 pub fn aligned()
     ensures expansion { AlignedLaw }
+    ensures correspondence { AlignedCorrespondsLaw }
     ensures one { OneAlignedLaw }
+    ensures all_flattened { AllFlattenedLaw }
+    ensures sound { AlignedSoundLaw }
+    ensures fault { AlignedFaultLaw }
+    ensures no_further { NoFurtherLaw }
+{}
+
+/// What a line names pairs only so; partners are one to one; there is one aligned pair, and its two
+/// netlists can be compared by position.
+pub fn pairs()
+    ensures said { SaidLaw }
+    ensures one_partner { OnePartnerLaw }
+    ensures kept { KeptLaw }
+    ensures one_pair { OnePairLaw }
+    ensures sides { AlignedSidesLaw }
+    ensures order { LeftOrderLaw }
 {}
 
 /// Three nested circuits whose middle one is flattened: the definitions computed.

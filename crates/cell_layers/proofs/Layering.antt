@@ -12,7 +12,8 @@ use Rattle.rule_text.specs.declared.rules.LayerForm.TheVariants as form
 use Rattle.rule_text.specs.declared.rules.LayerRule.{LayerRule}
 use Rattle.rule_text.specs.declared.rules.Output.{Output}
 use Rattle.std.specs.List.{All}
-use Rattle.cell_layers.specs.Readings.{reading_by, readings_behind, reading_covers, IsRight}
+use Rattle.cell_layers.specs.Readings.{reading_covers, IsRight}
+use Rattle.rule_layers.specs.Readings.{reading_by, readings_behind}
 use Rattle.cell_layers.specs.Uses.{IsUsed, AreOperandsUsed, AreOperandsRight, AreKept, StayAfter}
 
 -- the sets are there, each right one behind them too

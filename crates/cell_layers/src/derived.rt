@@ -6,7 +6,8 @@ ghost use Rattle.rect_sets.specs.Rects.{covers, IsCanonical};
 ghost use Rattle.flat_layout.specs.Layers.{Reading};
 ghost use Rattle.gds_elements.specs.Reading.{cell_seen};
 ghost use Rattle.cell_layers.specs.Shapes.{own_covers};
-ghost use Rattle.cell_layers.specs.Readings.{readings, reading_by, reading_covers, IsRight};
+ghost use Rattle.cell_layers.specs.Readings.{reading_covers, IsRight};
+ghost use Rattle.rule_layers.specs.Readings.{readings, reading_by};
 ghost use Rattle.cell_layers.specs.Uses.{AreOperandsRight, StayAfter};
 
 use crate::own::own_set;

@@ -1,9 +1,9 @@
 // What a cell's own shapes cover.
 ghost use Rattle.std.specs.Prelude.{◌≡◌, ◌||◌, IfOk, OnOk, IsTrue};
 ghost use Rattle.std.specs.List.{All};
-ghost use Rattle.geo_base.specs.Near.{IsNear, IsNearPoint};
+ghost use Rattle.geo_base.specs.Near.{IsLong, IsLongPoint};
 ghost use Rattle.geo_base.specs.Rects.{IsRect};
-ghost use Rattle.poly_fill.specs.Fills.{IsClosed};
+ghost use Rattle.geo_base.specs.Outlines.{IsClosed};
 ghost use Rattle.geo_base.specs.declared.shapes.Square.{Square};
 ghost use Rattle.rect_sets.specs.Rects.{covers};
 ghost use Rattle.gds_elements.specs.Reading.{form_seen, shape_seen, cell_seen};
@@ -15,34 +15,33 @@ use poly_fill::{fill_boundary, fill_box, fill_path};
 use rect_sets::RectSet;
 use std::alloc::{AllocError, Global};
 
-const REACH: i64 = 1 << 40;
-
 // Adds some rectangles.
 fn push_rects(rects: &mut Vec<Rect>, more: &[Rect]) -> Result<(), AllocError>
     requires sound { All IsRect rects.old.items }
     requires more { All IsRect more.now }
     ensures sound { OnOk result (All IsRect rects.new.items) }
-    ensures covers { OnOk result ((s : Square) → covers rects.new.items s ≡ (covers rects.old.items s || covers more.now s)) }
+    ensures covers { OnOk result ((s : Square) → covers rects.new.items s
+        ≡ (covers rects.old.items s || covers more.now s)) }
 {
     rects.extend_from_slice(more)
 }
 
-fn is_near(number: i64) -> bool
-    ensures { IsTrue result → IsNear number }
+fn is_long(number: i64) -> bool
+    ensures { IsTrue result → IsLong number }
 {
-    -REACH <= number && number <= REACH
+    i32::try_from(number).is_ok()
 }
 
-fn is_near_point(point: &Point) -> bool
-    ensures { IsTrue result → IsNearPoint point.now }
+fn is_long_point(point: &Point) -> bool
+    ensures { IsTrue result → IsLongPoint point.now }
 {
-    is_near(point.x) && is_near(point.y)
+    is_long(point.x) && is_long(point.y)
 }
 
-fn are_near(points: &[Point]) -> bool
-    ensures { IsTrue result → All IsNearPoint points.now }
+fn are_long(points: &[Point]) -> bool
+    ensures { IsTrue result → All IsLongPoint points.now }
 {
-    points.iter().all(|p| is_near_point(p))
+    points.iter().all(|p| is_long_point(p))
 }
 
 // Whether the last point is the first.
@@ -61,7 +60,8 @@ fn is_closed(points: &[Point]) -> bool
     }
 }
 
-/// The squares that a shape covers. A reader accepts none that can't be filled: such a one is answered as want of memory.
+/// The squares that a shape covers. A reader accepts none that can't be filled: such a one is
+/// answered as want of memory.
 pub fn shape_set(alloc: Global, form: &ShapeForm) -> Result<RectSet, AllocError>
     ensures { IfOk result (λ r. (s : Square) → covers r s ≡ shape_covers (form_seen form.now) s) }
 {
@@ -72,7 +72,7 @@ pub fn shape_set(alloc: Global, form: &ShapeForm) -> Result<RectSet, AllocError>
             half,
             begin,
             end,
-        } if are_near(points) && is_near(*half) && is_near(*begin) && is_near(*end) => fill_path(
+        } if are_long(points) && is_long(*half) && is_long(*begin) && is_long(*end) => fill_path(
             alloc, points, *half, *begin, *end,
         ),
         ShapeForm::Box(rect) => fill_box(alloc, *rect),
@@ -89,7 +89,8 @@ fn push_shape(
 ) -> Result<(), AllocError>
     requires { All IsRect rects.old.items }
     ensures sound { OnOk result (All IsRect rects.new.items) }
-    ensures covers { OnOk result ((s : Square) → covers rects.new.items s ≡ (covers rects.old.items s || is_covering key (shape_seen shape.now) s)) }
+    ensures covers { OnOk result ((s : Square) → covers rects.new.items s
+        ≡ (covers rects.old.items s || is_covering key (shape_seen shape.now) s)) }
 {
     if shape.key.layer == key.layer && shape.key.datatype == key.datatype {
         let set = shape_set(alloc, &shape.form)?;
@@ -98,8 +99,8 @@ fn push_shape(
     Ok(())
 }
 
-/// The squares that the cell's own shapes on a layer cover. O(n log n + k) for n edges of them and k crossings of edges
-/// and strips, beside one look at each shape of the cell.
+/// The squares that the cell's own shapes on a layer cover. O(n log n + k) for n edges of them and
+/// k crossings of edges and strips, beside one look at each shape of the cell.
 pub fn own_set(alloc: Global, cell: &RawCell, key: LayerKey) -> Result<RectSet, AllocError>
     ensures { IfOk result (λ r. (s : Square) → covers r s ≡ own_covers (cell_seen cell.now) key s) }
 {

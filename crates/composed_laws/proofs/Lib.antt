@@ -1,3 +1,7 @@
 pub mod Slots
 pub mod Pairs
-pub mod Through
+pub mod PinLists
+pub mod Fitting
+pub mod Answered
+pub mod OneByOne
+pub mod Matching

@@ -1,22 +1,16 @@
 -- A match of each pair names pairs that are one to one and onto, so both netlists expand to the same.
-use Rattle.std.proofs.Common.{◌≡◌, inl, inr, ℕ, zero, suc, ◌<◌, List, [], ◌∷◌, length, slice_index, Option, Some, slice_get, refl, sym, ◌∙◌, ap, subst, arith}
+use Rattle.std.proofs.Common.{◌≡◌, inl, inr, ℕ, suc, ◌<◌, List, [], ◌∷◌, length, slice_index, Option, Some, slice_get, refl, sym, ◌∙◌, ap, subst, arith}
 use Rattle.std.proofs.lemmas.Option.{same_Some, slice_get_within, slice_get-get_or, get_or_from_slice_get}
-use Rattle.round_laws.specs.Web.{IsListed}
-use Rattle.plain_netlist.specs.Netlist.{Pole, Source, Gate, Drain, Bulk, on, DeviceRow, CallRow, Circuit, Netlist, IsCircuit, IsCall, IsDevice, HasNet, Slot, slot}
+use Rattle.plain_netlist.specs.Lists.{IsListed}
+use Rattle.plain_netlist.specs.Netlist.{Pole, Source, Gate, Drain, Bulk, on, DeviceRow, CallRow, Circuit, Netlist, IsCircuit, IsCall, IsDevice, HasNet, HasDevice, Slot, slot}
+use Rattle.plain_netlist.proofs.Members.{listed}
+use Rattle.plain_netlist.proofs.Once.{one_circuit}
 use Rattle.match_laws.specs.Circuits.{Pairing, IsOneToOne, IsCorrespondence, IsDeviceImage}
 use Rattle.match_laws.proofs.Sums.{found_at, index_below, index_one, index_found}
 use Rattle.composed_laws.specs.Paired.{AreRowsPaired, IsImaged, IsPaired, IsWholeMatch}
-use Rattle.composed_laws.specs.Corresponds.{Corresponds}
-use Rattle.composed_laws.specs.Composed.{IsMatch, IsSound, IsNetPair, IsDevicePair, IsCallPair, AreDevicesPaired, AreNetsPaired, WholeMatchLaw, ComposedLaw}
+use Rattle.plain_netlist.specs.Flats.{Row, AreRowsAlike, Corresponds, row_at, expanded}
+use Rattle.composed_laws.specs.Composed.{IsMatch, IsComparable, IsNetPair, IsDevicePair, IsCallPair, AreDevicesPaired, AreNetsPaired, WholeMatchLaw, MatchCorrespondsLaw}
 use Rattle.composed_laws.proofs.Slots.{whole}
-
-one_circuit : (nl : Netlist) (t : ℕ) (a b : Circuit) → IsCircuit nl t a → IsCircuit nl t b → a ≡ b
-one_circuit nl t a b h g = same_Some _ _ (sym h ∙ g)
-
-listed_at : (xs : List ℕ) (i x : ℕ) → slice_get xs i ≡ Some x → IsListed x xs
-listed_at [] i x h = absurd cc
-listed_at (y ∷ ys) zero x h = inl (sym (same_Some _ _ h))
-listed_at (y ∷ ys) (suc i) x h = inr (listed_at ys i x h)
 
 at_listed : (x : ℕ) (xs : List ℕ) → IsListed x xs → (i : ℕ) × (slice_get xs i ≡ Some x)
 at_listed x [] h = absurd h
@@ -41,7 +35,7 @@ list_one xs m n a b e one h g =
 list_there : (xs : List ℕ) (m n a : ℕ) → IsOneToOne xs m n → a < m → slice_get xs a ≡ Some (slice_index xs a)
 list_there xs m n a one h = let c = one.count in entry xs a (omega arith)
 
-module _ (left right : Netlist) (children : ℕ → Option (List ℕ)) (m : ℕ → Pairing) (match : IsMatch left right children m) (sl : IsSound left children) (sr : IsSound right children) where
+module _ (left right : Netlist) (children : ℕ → Option (List ℕ)) (m : ℕ → Pairing) (match : IsMatch left right children m) (sl : IsComparable left children) (sr : IsComparable right children) where
   abbrev Net : ℕ → ℕ → ℕ → Type 0
   Net = IsNetPair left m
 
@@ -202,14 +196,14 @@ module _ (left right : Netlist) (children : ℕ → Option (List ℕ)) (m : ℕ 
     pins = λ i a h.
         let p = pair_at c h.0 h.1 in
         let low : a < length h.0.nets = net_low c h.0 a h.1 (sl.within.pins c i a h) in
-        let f = at_listed (slice_index (m c).nets a) p.0.pins ((p.2.pin a low).0 (listed_at h.0.pins i a h.2)) in
+        let f = at_listed (slice_index (m c).nets a) p.0.pins ((p.2.pin a low).0 (listed h.0.pins i a h.2)) in
         (f.0, slice_index (m c).nets a, net_pair c a h.0 h.1 low, (p.0, p.1, f.1));
     pins_back = λ j b h.
         let p = pair_back c h.0 h.1 in
         let there = sr.within.pins c j b h in
         let low : b < length h.0.nets = subst (λ (z : Circuit). b < length z.nets) (one_circuit right c there.0 h.0 there.1 h.1) there.2 in
         let a = index_found (m c).nets _ _ b p.2.nets low in
-        let f = at_listed a.0 p.0.pins ((p.2.pin a.0 a.1).1 (subst (λ (z : ℕ). IsListed z h.0.pins) (sym a.2) (listed_at h.0.pins j b h.2))) in
+        let f = at_listed a.0 p.0.pins ((p.2.pin a.0 a.1).1 (subst (λ (z : ℕ). IsListed z h.0.pins) (sym a.2) (listed h.0.pins j b h.2))) in
         (f.0, a.0, (p.0, p.1, list_there (m c).nets _ _ a.0 p.2.nets a.1 ∙ ap Some a.2), (p.0, p.1, f.1));
     calls = calls c;
     calls_back = calls_back c;
@@ -220,39 +214,34 @@ module _ (left right : Netlist) (children : ℕ → Option (List ℕ)) (m : ℕ 
   pub composed_match : (top : ℕ) → IsWholeMatch left right Net Device Call top
   composed_match top = whole left right Net Device Call paired top
 
-  -- the net at a terminal of a paired row
-  pole_there : (net : ℕ → ℕ → Type 0) (d e : DeviceRow) → AreRowsPaired net d e → (pole : Pole) → (other : Pole) × net (on pole d) (on other e)
-  pole_there net d e h Source = elim h.channel [ inl p ↦ (Source, p.0) | inr p ↦ (Drain, p.0) ]
-  pole_there net d e h Gate = (Gate, h.gate)
-  pole_there net d e h Drain = elim h.channel [ inl p ↦ (Drain, p.1) | inr p ↦ (Source, p.1) ]
-  pole_there net d e h Bulk = (Bulk, h.bulk)
+  abbrev D : ℕ → Slot → Slot → Type 0
+  D top = AreDevicesPaired left m top
 
-  pole_back : (net : ℕ → ℕ → Type 0) (d e : DeviceRow) → AreRowsPaired net d e → (pole : Pole) → (own : Pole) × net (on own d) (on pole e)
-  pole_back net d e h Source = elim h.channel [ inl p ↦ (Source, p.0) | inr p ↦ (Drain, p.1) ]
-  pole_back net d e h Gate = (Gate, h.gate)
-  pole_back net d e h Drain = elim h.channel [ inl p ↦ (Drain, p.1) | inr p ↦ (Source, p.0) ]
-  pole_back net d e h Bulk = (Bulk, h.bulk)
+  abbrev N : ℕ → Slot → Slot → Type 0
+  N top = AreNetsPaired left m top
 
-  pub composed : (top : ℕ) → Corresponds left top right top (AreDevicesPaired left m top) (AreNetsPaired left m top)
+  alike : (top : ℕ) (a x : Slot) (row other : DeviceRow) → AreRowsPaired (λ i j. N top (slot a.path i) (slot x.path j)) row other → AreRowsAlike (N top) (row_at a.path row) (row_at x.path other)
+  alike top a x row other h = record { class = h.class; length = h.length; width = h.width; gate = h.gate; bulk = h.bulk; channel = h.channel }
+
+  there : (top : ℕ) (a : Slot) (r : Row Slot) (row : DeviceRow) → r ≡ row_at a.path row
+      → (x : Slot) × (other : DeviceRow) × HasDevice right top x.path x.net other × D top a x × AreRowsPaired (λ i j. N top (slot a.path i) (slot x.path j)) row other
+      → (x : Slot) × (s : Row Slot) × (expanded right top).has_device x s × D top a x × AreRowsAlike (N top) r s
+  there top a r row e (x, other, has, pair, rows) = (x, row_at x.path other, (other, has, refl), pair, subst (λ (y : Row Slot). AreRowsAlike (N top) y (row_at x.path other)) (sym e) (alike top a x row other rows))
+
+  back : (top : ℕ) (x : Slot) (s : Row Slot) (other : DeviceRow) → s ≡ row_at x.path other
+      → (a : Slot) × (row : DeviceRow) × HasDevice left top a.path a.net row × D top a x × AreRowsPaired (λ i j. N top (slot a.path i) (slot x.path j)) row other
+      → (a : Slot) × (r : Row Slot) × (expanded left top).has_device a r × D top a x × AreRowsAlike (N top) r s
+  back top x s other e (a, row, has, pair, rows) = (a, row_at a.path row, (row, has, refl), pair, subst (λ (y : Row Slot). AreRowsAlike (N top) (row_at a.path row) y) (sym e) (alike top a x row other rows))
+
+  pub composed : (top : ℕ) → Corresponds (expanded left top) (expanded right top) (AreDevicesPaired left m top) (AreNetsPaired left m top)
   composed top =
       let w = composed_match top in
       record {
-        there = w.devices;
-        one = λ a x y row other also h f g p q. w.device_one a x y p q;
-        back = w.devices_back;
-        one_back = λ a b x row also other h f g p q. w.device_one_back a b x p q;
-        net_there = λ a t.
-            let f = w.devices (slot a.path t.device) t.row t.has in
-            let o = pole_there _ t.row f.1 f.4 t.pole in
-            let x : Slot = slot f.0.path (on o.0 f.1) in
-            (x, record { device = f.0.net; row = f.1; pole = o.0; has = f.2; on = refl }, subst (λ (n : ℕ). AreNetsPaired left m top (slot a.path n) x) t.on o.1);
-        net_back = λ x t.
-            let f = w.devices_back (slot x.path t.device) t.row t.has in
-            let o = pole_back _ f.1 t.row f.4 t.pole in
-            let a : Slot = slot f.0.path (on o.0 f.1) in
-            (a, record { device = f.0.net; row = f.1; pole = o.0; has = f.2; on = refl }, subst (λ (n : ℕ). AreNetsPaired left m top a (slot x.path n)) t.on o.1);
-        nets = λ a b x y s t u v p q. w.nets a b x y p q;
-        pins = λ a x s t p. (
+        there = λ a r (row, has, e). there top a r row e (w.devices a row has);
+        back = λ x r (row, has, e). back top x r row e (w.devices_back x row has);
+        devices = λ a b x y p q. ((λ e. w.device_one b x y (subst (λ (z : Slot). AreDevicesPaired left m top z x) e p) q), (λ e. w.device_one_back a b y (subst (λ (z : Slot). AreDevicesPaired left m top a z) e p) q));
+        nets = w.nets;
+        pins = λ a x p. (
           (λ h. let f = (paired top).pins h.0 h.1 h.2 in (f.0, f.1, f.3, (w.nets a (slot [] h.1) x (slot [] f.1) p f.2).0 h.3)),
           (λ h. let f = (paired top).pins_back h.0 h.1 h.2 in (f.0, f.1, f.3, (w.nets a (slot [] f.1) x (slot [] h.1) p f.2).1 h.3)),
         );
@@ -261,5 +250,5 @@ module _ (left right : Netlist) (children : ℕ → Option (List ℕ)) (m : ℕ 
 pub whole_match : WholeMatchLaw
 whole_match left right children m match sl sr top = composed_match left right children m match sl sr top
 
-pub composes : ComposedLaw
+pub composes : MatchCorrespondsLaw
 composes left right children m match sl sr top = composed left right children m match sl sr top

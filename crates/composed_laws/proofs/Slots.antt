@@ -1,15 +1,10 @@
 -- Pairs of each circuit compose to pairs of what two netlists expand to.
 use Rattle.std.proofs.Common.{◌≡◌, ◌↔◌, inl, inr, ℕ, List, [], ◌∷◌, ◌++◌, Some, slice_get, refl, sym, ap, ap₂, subst}
 use Rattle.plain_netlist.specs.Chains.{IsChain}
-use Rattle.plain_netlist.specs.Netlist.{DeviceRow, CallRow, Circuit, Netlist, IsCall, Slot, slot, Joins, IsEitherJoin, InOneNet, HasDevice, IsSlot}
+use Rattle.plain_netlist.specs.Netlist.{DeviceRow, CallRow, Netlist, IsCall, Slot, slot, Joins, IsEitherJoin, InOneNet, HasDevice, IsSlot}
+use Rattle.plain_netlist.proofs.Once.{one_call}
 use Rattle.plain_netlist.proofs.Links.{stays, prepend}
 use Rattle.composed_laws.specs.Paired.{AreRowsPaired, IsImaged, IsPaired, IsSlotPair, ArePaired, IsWholeMatch}
-
-pub one_row : (nl : Netlist) (c k : ℕ) (a b : CallRow) → IsCall nl c k a → IsCall nl c k b → a ≡ b
-one_row nl c k a b (x, f, g) (y, h, i) =
-    let same : y ≡ x = cc in
-    let there : slice_get x.calls k ≡ Some b = subst (λ (z : Circuit). slice_get z.calls k ≡ Some b) same i in
-    cc
 
 pub slot_is : (s t : Slot) → s.path ≡ t.path → s.net ≡ t.net → s ≡ t
 slot_is s t p n = ap₂ (λ (q : List ℕ) (m : ℕ). slot q m) p n
@@ -23,7 +18,7 @@ slot_one l X call x_one call_one [] (x ∷ xs) ys c a b e h g = absurd h
 slot_one l X call x_one call_one (k ∷ ks) [] ys c a b e h g = absurd h
 slot_one l X call x_one call_one (k ∷ ks) (x ∷ xs) [] c a b e h g = absurd g
 slot_one l X call x_one call_one (k ∷ ks) (x ∷ xs) (y ∷ ys) c a b e (row, is, pair, below) (row', is', pair', below') =
-    let one : row' ≡ row = one_row l c k row' row is' is in
+    let one : row' ≡ row = one_call l c k row' row is' is in
     let first : x ≡ y = call_one c k x y pair pair' in
     let f = slot_one l X call x_one call_one ks xs ys row.circuit a b e below (subst (λ (v : CallRow). IsSlotPair l X call v.circuit ks a ys e) one below') in
     let tail : xs ≡ ys = f.0 in
@@ -43,7 +38,7 @@ module _ (l r : Netlist) (net call : ℕ → ℕ → ℕ → Type 0) (net_one : 
   join_on [] (e ∷ es) c a k inner b g h = absurd h
   join_on (j ∷ js) [] c a k inner b g h = absurd h
   join_on (j ∷ js) (x ∷ xs) c a k inner b (row, is, rest) (row', is', pair, below) =
-      let one : row' ≡ row = one_row l c j row' row is' is in
+      let one : row' ≡ row = one_call l c j row' row is' is in
       let m = calls c j row is in
       let image : m.0 ≡ x = call_one c j m.0 x m.2 pair in
       let down : P row.circuit js a xs b = subst (λ (v : CallRow). P v.circuit js a xs b) one below in
@@ -57,7 +52,7 @@ module _ (l r : Netlist) (net call : ℕ → ℕ → ℕ → Type 0) (net_one : 
   join_up : (path es : List ℕ) (c a k inner q : ℕ) → Joins l c path a k inner → P c (path ++ k ∷ []) inner es q → (xs : List ℕ) × (e : ℕ) × (b : ℕ) × (xs ++ e ∷ [] ≡ es) × P c path a xs b × Joins r c xs b e q
   join_up [] [] c a k inner q g h = absurd h
   join_up [] (x ∷ []) c a k inner q (row, is, called, at, i, outer, pin) (row', is', pair, below) =
-      let one : row' ≡ row = one_row l c k row' row is' is in
+      let one : row' ≡ row = one_call l c k row' row is' is in
       let m = calls c k row is in
       let image : m.0 ≡ x = call_one c k m.0 x m.2 pair in
       let f = m.5 called i a inner at outer pin in
@@ -67,7 +62,7 @@ module _ (l r : Netlist) (net call : ℕ → ℕ → ℕ → Type 0) (net_one : 
   join_up [] (x ∷ (y ∷ ys)) c a k inner q g (row', is', pair, below) = absurd below
   join_up (j ∷ js) [] c a k inner q g h = absurd h
   join_up (j ∷ js) (x ∷ xs) c a k inner q (row, is, rest) (row', is', pair, below) =
-      let one : row' ≡ row = one_row l c j row' row is' is in
+      let one : row' ≡ row = one_call l c j row' row is' is in
       let m = calls c j row is in
       let image : m.0 ≡ x = call_one c j m.0 x m.2 pair in
       let down = subst (λ (v : CallRow). P v.circuit (js ++ k ∷ []) inner xs q) one below in

@@ -1,3 +1,4 @@
 pub mod Paired
-pub mod Corresponds
 pub mod Composed
+pub mod Answered
+pub mod Matched

@@ -22,10 +22,12 @@ fn rule_of(op: Op) -> Rule
     }
 }
 
-/// The squares where the operator holds of the two sets: of both, of either, of the first alone, of one alone. In O(n log n + k + m log m): n
-/// rectangles of the two, k crossings of their upright edges with strips, m rectangles of the result. An `Err` is want of memory.
+/// The squares where the operator holds of the two sets: of both, of either, of the first alone, of
+/// one alone. In O(n log n + k + m log m): n rectangles of the two, k crossings of their upright
+/// edges with strips, m rectangles of the result. An `Err` is want of memory.
 pub fn combine(alloc: Global, a: &RectSet, b: &RectSet, op: Op) -> Result<RectSet, AllocError>
-    ensures { IfOk result (λ r. (s : Square) → covers r s ≡ operated op (covers a.now s) (covers b.now s)) }
+    ensures { IfOk result (λ r. (s : Square) → covers r s
+        ≡ operated op (covers a.now s) (covers b.now s)) }
 {
     let set = combine_rects(alloc, a.rects(), b.rects(), rule_of(op))?;
     Ok(set)

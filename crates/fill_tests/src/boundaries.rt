@@ -1,3 +1,5 @@
+//! Boundaries and boxes.
+
 use geo_base::{Point, Rect};
 use poly_fill::{fill_boundary, fill_box};
 use std::test::Fail;
@@ -12,7 +14,8 @@ macro_rules! line {
     };
 }
 
-// A line that goes round a hole and touches itself covers everything but the hole, whichever way it goes.
+// A line that goes round a hole and touches itself covers everything but the hole, whichever way it
+// goes.
 #[test]
 fn spiral_boundary(rt: HostRuntime) -> Result<(), Fail> {
     let alloc = rt.alloc();
@@ -109,7 +112,8 @@ fn two_loops_that_cross(rt: HostRuntime) -> Result<(), Fail> {
     Ok(())
 }
 
-// An inner loop the same way is covered twice; the other way round its windings cancel the outer loop's.
+// An inner loop the same way is covered twice; the other way round its windings cancel the outer
+// loop's.
 #[test]
 fn loop_in_a_loop(rt: HostRuntime) -> Result<(), Fail> {
     let alloc = rt.alloc();

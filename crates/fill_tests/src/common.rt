@@ -1,7 +1,8 @@
-// Paths from tables of numbers, which are tested first.
+//! Paths from tables of numbers, which are tested first.
+
 ghost use Rattle.std.specs.Prelude.{◌≡◌, true, IfOk};
 ghost use Rattle.std.specs.List.{All};
-ghost use Rattle.geo_base.specs.Near.{IsNear, IsNearPoint};
+ghost use Rattle.geo_base.specs.Near.{IsLong, IsLongPoint};
 
 use geo_base::Point;
 use poly_fill::fill_path;
@@ -9,20 +10,20 @@ use rect_sets::RectSet;
 use std::alloc::{AllocError, Global};
 
 fn is_near(number: i64) -> bool
-    ensures { result ≡ true → IsNear number }
+    ensures { result ≡ true → IsLong number }
 {
     -1_000_000 <= number && number <= 1_000_000
 }
 
 fn is_near_point(point: Point) -> bool
-    ensures { result ≡ true → IsNearPoint point }
+    ensures { result ≡ true → IsLongPoint point }
 {
     is_near(point.x) && is_near(point.y)
 }
 
 // Those within plus or minus a million.
 fn near_points(alloc: Global, corners: &[(i64, i64)]) -> Result<Vec<Point>, AllocError>
-    ensures { IfOk result (λ v. All IsNearPoint v.items) }
+    ensures { IfOk result (λ v. All IsLongPoint v.items) }
 {
     let mut out = Vec::new(alloc);
     for corner in corners {

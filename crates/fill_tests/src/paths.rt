@@ -1,3 +1,5 @@
+//! Paths.
+
 use crate::common::path_set;
 use geo_base::Rect;
 use std::test::Fail;

@@ -21,6 +21,7 @@ pub fn parse_value(text: &[u8]) -> Result<Femto, ValueFault>
     ensures not_number { (result ≡ Err ValueFault.NotNumber) ↔ IsNoNumber text.now }
     ensures too_large { (result ≡ Err ValueFault.TooLarge) ↔ IsTooLarge text.now }
     ensures too_fine { (result ≡ Err ValueFault.TooFine) ↔ IsTooFine text.now }
+    ensures answers { Answers (number_of text.now) result }
 {
     answer(text)
 }

@@ -1,12 +1,11 @@
 -- What the cells hold covers what a cell keeps.
-use Rattle.std.proofs.Common.{◌≡◌, inl, inr, ℕ, zero, suc, ◌<◌, ◌++◌, List, [], ◌∷◌, refl, sym, subst, arith}
+use Rattle.std.proofs.Common.{◌⊎◌, inl, inr, ℕ, zero, suc, ◌<◌, ◌++◌, List, [], ◌∷◌, refl, sym, subst, arith}
 use Rattle.flat_laws.specs.LayerLaws.{CoverLaw}
-use Rattle.flat_layout.specs.Layers.{Reading, Input, Empty, Binary, inputs, IsKept, IsBelow, IsLocal, IsCovered, IsDecided}
+use Rattle.flat_layout.specs.Layers.{Reading, Input, Empty, Binary, inputs, reach, IsKept, IsKeptBelow, IsLocal, IsCovered}
 use Rattle.flat_layout.specs.Layout.{Place, Design, IsPlaced, Leads, Takes, IsReached, IsHeight}
 use Rattle.geo_base.specs.Motions.{moved_square}
-use Rattle.geo_base.specs.declared.layer.Op.{Op}
 use Rattle.geo_base.specs.declared.shapes.Square.{Square}
-use Rattle.flat_laws.proofs.Names.{calm_above, same_flat}
+use Rattle.flat_laws.proofs.Names.{stirless_above, same_flat}
 
 leads_on : (d : Design) (from mid to k : ℕ) (p : Place) (ks : List ℕ) → Leads d from ks mid → IsPlaced d mid k p → Leads d from (ks ++ k ∷ []) p.cell
 leads_on d from mid to k p [] h placed = (p, subst (λ (c : ℕ). IsPlaced d c k p) (sym h) placed, refl)
@@ -20,7 +19,7 @@ pub kept_above : (d : Design) (cell k : ℕ) (p : Place) (name : Reading) (q : S
 kept_above d cell k p (Input key) q reached placed kept = record { path = k ∷ kept.path; end = kept.end; square = kept.square; takes = (p, placed, q, kept.takes, refl); own = kept.own }
 kept_above d cell k p Empty q reached placed kept = kept
 kept_above d cell k p (Binary op a b) q reached placed kept =
-    ((same_flat d (Binary op a b) cell k p q reached placed kept.1).1 kept.0, calm_above d (inputs a ++ inputs b) cell k p q placed kept.1)
+    ((same_flat d (Binary op a b) cell k p q reached placed kept.1).1 kept.0, stirless_above d (inputs (Binary op a b)) (reach (Binary op a b)) cell k p q placed kept.1)
 
 pub kept_here : (d : Design) (cell : ℕ) (name : Reading) (q : Square) → IsLocal d cell name q → IsKept d cell name q
 kept_here d cell (Input key) q h = record { path = []; end = cell; square = q; takes = (refl, refl); own = h }
@@ -34,31 +33,20 @@ kept_along d name (k ∷ ks) cell end s q reached takes here =
     let below = kept_along d name ks takes.0.cell end s takes.2 (reached_below d cell k takes.0 reached takes.1) takes.3 here in
     subst (λ (v : Square). IsKept d cell name v) takes.4 (kept_above d cell k takes.0 name takes.2 reached takes.1 below)
 
-found_here : (d : Design) (cell : ℕ) (name : Reading) (q : Square) → IsLocal d cell name q → IsCovered d cell name q
-found_here d cell name q h = record { path = []; end = cell; square = q; takes = (refl, refl); here = h }
-
-found_below : (d : Design) (cell k : ℕ) (p : Place) (name : Reading) (r q : Square) → IsPlaced d cell k p → moved_square p.motion r ≡ q → IsCovered d p.cell name r → IsCovered d cell name q
-found_below d cell k p name r q placed e h = record { path = k ∷ h.path; end = h.end; square = h.square; takes = (p, placed, r, h.takes, e); here = h.here }
-
-found : (d : Design) (height : ℕ → ℕ) (op : Op) (a b : Reading) → IsHeight d height → ((cell : ℕ) (q : Square) → IsDecided (IsBelow d cell (Binary op a b) q))
-    → (n cell : ℕ) (q : Square) → height cell < n → IsKept d cell (Binary op a b) q → IsCovered d cell (Binary op a b) q
-found d height op a b linked decided zero cell q lt kept = absurd (omega arith)
-found d height op a b linked decided (suc n) cell q lt kept =
-    elim (decided cell q) [
-      | inl below ↦
+found : (d : Design) (height : ℕ → ℕ) (name : Reading) → IsHeight d height → ((cell : ℕ) (q : Square) → IsReached d cell → IsKept d cell name q → IsLocal d cell name q ⊎ IsKeptBelow d cell name q)
+    → (n cell : ℕ) (q : Square) → height cell < n → IsReached d cell → IsKept d cell name q → IsCovered d cell name q
+found d height name linked parted zero cell q lt reached kept = absurd (omega arith)
+found d height name linked parted (suc n) cell q lt reached kept =
+    elim (parted cell q reached kept) [
+      | inl here ↦ record { path = []; end = cell; square = q; takes = (refl, refl); here = here }
+      | inr below ↦
           let down = linked cell below.number below.place below.placed in
-          found_below d cell below.number below.place (Binary op a b) below.square q below.placed below.image
-          (found d height op a b linked decided n below.place.cell below.square (omega arith) below.kept)
-      | inr none ↦ found_here d cell (Binary op a b) q (kept, none)
+          let h = found d height name linked parted n below.place.cell below.square (omega arith) (reached_below d cell below.number below.place reached below.placed) below.kept in
+          record { path = below.number ∷ h.path; end = h.end; square = h.square; takes = (below.place, below.placed, below.square, h.takes, below.image); here = h.here }
     ]
 
 pub cover : CoverLaw
-cover d height (Input key) linked decided cell q reached = (
-  (λ h. kept_along d (Input key) h.path cell h.end h.square q reached h.takes h.here),
-  (λ h. record { path = h.path; end = h.end; square = h.square; takes = h.takes; here = h.own }),
-)
-cover d height Empty linked decided cell q reached = ((λ h. h.here), (λ h. absurd h))
-cover d height (Binary op a b) linked decided cell q reached = (
-  (λ h. kept_along d (Binary op a b) h.path cell h.end h.square q reached h.takes h.here),
-  (λ h. let lt : height cell < suc (height cell) = omega arith in found d height op a b linked decided (suc (height cell)) cell q lt h),
+cover d height name linked parted cell q reached = (
+  (λ h. kept_along d name h.path cell h.end h.square q reached h.takes h.here),
+  (λ h. let lt : height cell < suc (height cell) = omega arith in found d height name linked parted (suc (height cell)) cell q lt reached h),
 )

@@ -1,11 +1,12 @@
 -- At the top what is kept is what is flat, so the netlist is that of the flat top.
 use Rattle.std.proofs.Common.{◌↔◌, ℕ, [], refl}
+use Rattle.flat_layout.specs.Gates.{geometry}
 use Rattle.flat_layout.specs.Layout.{Design, IsHeight, IsReached}
 use Rattle.flat_layout.specs.Regions.{Wiring, Node, At, Ground, IsNode, IsLink, InOneRegion, reading, kept, flat}
 use Rattle.flat_laws.proofs.Expand.{expanded}
 use Rattle.flat_laws.proofs.Once.{top_settled}
 use Rattle.flat_laws.proofs.OneNet.{regions}
-use Rattle.flat_laws.proofs.Poles.{top_kept}
+use Rattle.flat_laws.proofs.Terminals.{top_kept}
 use Rattle.flat_laws.specs.NetlistLaws.{FlatNetlistLaw, FlatRegionLaw}
 use Rattle.plain_netlist.proofs.Links.{single, along}
 
@@ -13,7 +14,7 @@ node_flat : (d : Design) (w : Wiring) (height : ℕ → ℕ) → IsHeight d heig
 node_flat d w height lower (At c q) = top_kept d height (reading w c) q lower
 node_flat d w height lower (Ground g) = ((λ h. h), (λ h. h))
 
-region_flat : (d : Design) (w : Wiring) (height : ℕ → ℕ) → IsHeight d height → (a b : Node) → InOneRegion w (kept d w d.top) a b ↔ InOneRegion w (flat d w d.top) a b
+pub region_flat : (d : Design) (w : Wiring) (height : ℕ → ℕ) → IsHeight d height → (a b : Node) → InOneRegion w (kept d w d.top) a b ↔ InOneRegion w (flat d w d.top) a b
 region_flat d w height lower a b =
     let K : Node → Node → Type 0 = IsLink w (kept d w d.top) in
     let F : Node → Node → Type 0 = IsLink w (flat d w d.top) in (
@@ -22,12 +23,12 @@ region_flat d w height lower a b =
     )
 
 pub flat_netlist : FlatNetlistLaw
-flat_netlist d w t g nl rules height x n num =
-    let whole = expanded d w t g nl rules height x n num in
+flat_netlist d w t g nl rules unit height x n num =
+    let whole = expanded d w t g nl rules unit height x n num in
     let lower = x.tables.lower in
     record {
       each = whole.devices.each;
-      found = λ r u s e f v l rule is form. whole.devices.found r u s e f v l rule (top_settled d w u height lower s is) form;
+      found = λ r u s e f v l rule is form. whole.devices.found r u s e f v l rule (top_settled d (geometry w u) height lower s is) form;
       once = whole.devices.once;
       nets = λ a b m k ta tb sa sb.
           let same = whole.nets a b m k ta tb sa sb in

@@ -1,40 +1,17 @@
 -- The list of a cell's items, and that over the same tables a cell has one table of nets.
-use Rattle.std.proofs.Common.{◌≡◌, ◌⊎◌, inl, inr, ℕ, zero, suc, ◌+◌, ◌<◌, ◌≤◌, List, [], ◌∷◌, ◌++◌, Some, slice_get, get_or, length, refl, sym, ◌∙◌, ap, subst, arith}
+use Rattle.std.proofs.Common.{◌≡◌, inl, inr, ℕ, zero, suc, ◌+◌, ◌<◌, ◌≤◌, List, [], ◌∷◌, ◌++◌, Some, slice_get, get_or, length, refl, sym, ◌∙◌, ap, subst, arith}
 use Rattle.std.proofs.lemmas.Option.{slice_get_within, slice_get-get_or, get_or_from_slice_get}
 use Rattle.std.proofs.lemmas.List.{ext_get_or, get_or_past}
 use Rattle.std.proofs.Math.Decide.{ℕ_discrete, dec_lt}
 use Rattle.flat_laws.specs.NetLaws.{OneTableLaw, ReadLaw, TogetherLaw}
-use Rattle.flat_layout.specs.Gates.{IsListed}
 use Rattle.flat_layout.specs.Layers.{Reading}
 use Rattle.flat_layout.specs.Layout.{Place, Cell, Design, IsPlaced, IsHeight}
-use Rattle.flat_layout.specs.Nets.{Item, Own, Child, Global, CellNets, Tables, IsItem, run, own_items, child_items, items_of, AreNets, AreOwn, IsUnder, AreRightBelow, IsNetsOf}
+use Rattle.flat_layout.specs.Nets.{Item, Own, Child, Global, CellNets, Tables, IsItem, run, own_items, child_items, items_of, no_cell, AreNets, AreListed, IsUnder, AreRightBelow, IsNetsOf}
 use Rattle.flat_layout.specs.Regions.{Wiring}
+use Rattle.plain_netlist.specs.Lists.{IsListed}
+use Rattle.plain_netlist.proofs.Members.{listed, position, in_left, in_right, either_side}
 
-listed_at : {A : Type 0} (a : A) (xs : List A) (i : ℕ) → slice_get xs i ≡ Some a → IsListed a xs
-listed_at a [] i h = cc
-listed_at a (x ∷ xs) zero h = inl (let e : Some x ≡ Some a = h in cc)
-listed_at a (x ∷ xs) (suc i) h = inr (listed_at a xs i h)
-
-at_listed : {A : Type 0} (a : A) (xs : List A) → IsListed a xs → (i : ℕ) × (slice_get xs i ≡ Some a)
-at_listed a [] h = absurd h
-at_listed a (x ∷ xs) (inl e) = (zero, ap Some (sym e))
-at_listed a (x ∷ xs) (inr h) = let r = at_listed a xs h in (suc r.0, r.1)
-
-listed_left : {A : Type 0} (a : A) (xs ys : List A) → IsListed a xs → IsListed a (xs ++ ys)
-listed_left a [] ys h = absurd h
-listed_left a (x ∷ xs) ys (inl e) = inl e
-listed_left a (x ∷ xs) ys (inr h) = inr (listed_left a xs ys h)
-
-listed_right : {A : Type 0} (a : A) (xs ys : List A) → IsListed a ys → IsListed a (xs ++ ys)
-listed_right a [] ys h = h
-listed_right a (x ∷ xs) ys h = inr (listed_right a xs ys h)
-
-listed_either : {A : Type 0} (a : A) (xs ys : List A) → IsListed a (xs ++ ys) → IsListed a xs ⊎ IsListed a ys
-listed_either a [] ys h = inr h
-listed_either a (x ∷ xs) ys (inl e) = inl (inl e)
-listed_either a (x ∷ xs) ys (inr h) = elim (listed_either a xs ys h) [ inl l ↦ inl (inr l) | inr r ↦ inr r ]
-
-in_run : (f : ℕ → Item) (k n : ℕ) (item : Item) → IsListed item (run f k n) → (j : ℕ) × (k ≤ j) × (j < k + n) × (item ≡ f j)
+pub in_run : (f : ℕ → Item) (k n : ℕ) (item : Item) → IsListed item (run f k n) → (j : ℕ) × (k ≤ j) × (j < k + n) × (item ≡ f j)
 in_run f k zero item h = absurd h
 in_run f k (suc n) item (inl e) = (k, omega arith, omega arith, e)
 in_run f k (suc n) item (inr h) = let r = in_run f (suc k) n item h in let a = r.1 in let b = r.2 in (r.0, omega arith, omega arith, r.3)
@@ -46,7 +23,7 @@ run_has f k (suc n) j a b = elim (ℕ_discrete j k) [ yes e ↦ inl (ap f e) | n
 in_own : (t : Tables) (cell c : ℕ) (names : List Reading) (item : Item) → IsListed item (own_items t cell c names) → (e r : ℕ) × (e < c + length names) × (r < length (t.own cell e)) × (item ≡ Own e r)
 in_own t cell c [] item h = absurd h
 in_own t cell c (x ∷ xs) item h =
-    elim (listed_either item (run (Own c) 0 (length (t.own cell c))) (own_items t cell (suc c) xs) h) [
+    elim (either_side (run (Own c) 0 (length (t.own cell c))) (own_items t cell (suc c) xs) item h) [
       | inl l ↦ let r = in_run (Own c) 0 (length (t.own cell c)) item l in let b = r.2 in (c, r.0, omega arith, omega arith, r.3)
       | inr l ↦ let r = in_own t cell (suc c) xs item l in let b = r.2 in (r.0, r.1, omega arith, r.3, r.4)
     ]
@@ -58,14 +35,14 @@ own_has t cell c (x ∷ xs) e r a b h =
       | yes same ↦
           let there : r < length (t.own cell c) = subst (λ i. r < length (t.own cell i)) (sym same) h in
           let item : IsListed (Own c r) (run (Own c) 0 (length (t.own cell c))) = run_has (Own c) 0 (length (t.own cell c)) r (omega arith) (omega arith) in
-          listed_left (Own e r) (run (Own c) 0 (length (t.own cell c))) (own_items t cell (suc c) xs) (subst (λ i. IsListed (Own i r) (run (Own c) 0 (length (t.own cell c)))) same item)
-      | no not ↦ listed_right (Own e r) (run (Own c) 0 (length (t.own cell c))) (own_items t cell (suc c) xs) (own_has t cell (suc c) xs e r (omega arith) (omega arith) h)
+          in_left (run (Own c) 0 (length (t.own cell c))) (own_items t cell (suc c) xs) (Own e r) (subst (λ i. IsListed (Own i r) (run (Own c) 0 (length (t.own cell c)))) same item)
+      | no not ↦ in_right (run (Own c) 0 (length (t.own cell c))) (own_items t cell (suc c) xs) (Own e r) (own_has t cell (suc c) xs e r (omega arith) (omega arith) h)
     ]
 
-in_child : (t : Tables) (k : ℕ) (places : List Place) (item : Item) → IsListed item (child_items t k places) → (j : ℕ) × (p : Place) × (b : ℕ) × (slice_get places j ≡ Some p) × (b < (t.nets p.cell).count) × (item ≡ Child (k + j) b)
+pub in_child : (t : Tables) (k : ℕ) (places : List Place) (item : Item) → IsListed item (child_items t k places) → (j : ℕ) × (p : Place) × (b : ℕ) × (slice_get places j ≡ Some p) × (b < (t.nets p.cell).count) × (item ≡ Child (k + j) b)
 in_child t k [] item h = absurd h
 in_child t k (p ∷ ps) item h =
-    elim (listed_either item (run (Child k) 0 (t.nets p.cell).count) (child_items t (suc k) ps) h) [
+    elim (either_side (run (Child k) 0 (t.nets p.cell).count) (child_items t (suc k) ps) item h) [
       | inl l ↦
           let r = in_run (Child k) 0 (t.nets p.cell).count item l in
           let b = r.2 in
@@ -83,17 +60,14 @@ child_has t k (q ∷ ps) zero p b e h =
     let same : q ≡ p = let f : Some q ≡ Some p = e in cc in
     let there : b < (t.nets q.cell).count = subst (λ (r : Place). b < (t.nets r.cell).count) (sym same) h in
     let z : k ≡ k + 0 = omega arith in
-    listed_left (Child (k + 0) b) (run (Child k) 0 (t.nets q.cell).count) (child_items t (suc k) ps)
+    in_left (run (Child k) 0 (t.nets q.cell).count) (child_items t (suc k) ps) (Child (k + 0) b)
     (subst (λ i. IsListed (Child i b) (run (Child k) 0 (t.nets q.cell).count)) z (run_has (Child k) 0 (t.nets q.cell).count b (omega arith) (omega arith)))
 child_has t k (q ∷ ps) (suc j) p b e h =
     let z : suc k + j ≡ k + suc j = omega arith in
-    listed_right (Child (k + suc j) b) (run (Child k) 0 (t.nets q.cell).count) (child_items t (suc k) ps)
+    in_right (run (Child k) 0 (t.nets q.cell).count) (child_items t (suc k) ps) (Child (k + suc j) b)
     (subst (λ i. IsListed (Child i b) (child_items t (suc k) ps)) z (child_has t (suc k) ps j p b e h))
 
-abbrev no_cell : Cell
-no_cell = record { layers = []; texts = []; places = [] }
-
-placed_at : (d : Design) (cell k : ℕ) (p : Place) → slice_get (get_or d.cells cell no_cell).places k ≡ Some p → IsPlaced d cell k p
+pub placed_at : (d : Design) (cell k : ℕ) (p : Place) → slice_get (get_or d.cells cell no_cell).places k ≡ Some p → IsPlaced d cell k p
 placed_at d cell k p h =
     elim (dec_lt cell (length d.cells)) [
       | yes lt ↦ (get_or d.cells cell no_cell, slice_get-get_or d.cells cell no_cell lt, h)
@@ -103,55 +77,55 @@ placed_at d cell k p h =
           cc
     ]
 
-at_placed : (d : Design) (cell k : ℕ) (p : Place) → IsPlaced d cell k p → slice_get (get_or d.cells cell no_cell).places k ≡ Some p
+pub at_placed : (d : Design) (cell k : ℕ) (p : Place) → IsPlaced d cell k p → slice_get (get_or d.cells cell no_cell).places k ≡ Some p
 at_placed d cell k p h = subst (λ (c : Cell). slice_get c.places k ≡ Some p) (sym (get_or_from_slice_get d.cells cell h.0 no_cell h.1)) h.2
 
 module _ (d : Design) (w : Wiring) (t : Tables) (cell : ℕ) where
   abbrev owned : List Item
-  owned = own_items t cell 0 w.names
+  owned = own_items t cell 0 w.conductors
 
   abbrev children : List Item
   children = child_items t 0 (get_or d.cells cell no_cell).places
 
   abbrev grounds : List Item
-  grounds = run Global 0 w.globals
+  grounds = run Global 0 (length w.globals)
 
-  is_item : (item : Item) → IsListed item (items_of d w t cell) → IsItem d w t cell item
+  pub is_item : (item : Item) → IsListed item (items_of d w t cell) → IsItem d w t cell item
   is_item item h =
-      elim (listed_either item owned (children ++ grounds) h) [
+      elim (either_side owned (children ++ grounds) item h) [
         | inl l ↦
-            let r = in_own t cell 0 w.names item l in
+            let r = in_own t cell 0 w.conductors item l in
             let lt = r.2 in
             let one : IsItem d w t cell (Own r.0 r.1) = (omega arith, r.3) in
             subst (λ i. IsItem d w t cell i) (sym r.4) one
-        | inr m ↦ elim (listed_either item children grounds m) [
+        | inr m ↦ elim (either_side children grounds item m) [
           | inl l ↦
               let r = in_child t 0 (get_or d.cells cell no_cell).places item l in
               let z : 0 + r.0 ≡ r.0 = omega arith in
               let one : IsItem d w t cell (Child (0 + r.0) r.2) = (r.1, placed_at d cell (0 + r.0) r.1 (subst (λ i. slice_get (get_or d.cells cell no_cell).places i ≡ Some r.1) (sym z) r.3), r.4) in
               subst (λ i. IsItem d w t cell i) (sym r.5) one
           | inr l ↦
-              let r = in_run Global 0 w.globals item l in
+              let r = in_run Global 0 (length w.globals) item l in
               let lt = r.2 in
               let one : IsItem d w t cell (Global r.0) = omega arith in
               subst (λ i. IsItem d w t cell i) (sym r.3) one
         ]
       ]
 
-  has_item : (item : Item) → IsItem d w t cell item → IsListed item (items_of d w t cell)
-  has_item (Own c r) h = let a = h.0 in listed_left (Own c r) owned (children ++ grounds) (own_has t cell 0 w.names c r (omega arith) (omega arith) h.1)
+  pub has_item : (item : Item) → IsItem d w t cell item → IsListed item (items_of d w t cell)
+  has_item (Own c r) h = let a = h.0 in in_left owned (children ++ grounds) (Own c r) (own_has t cell 0 w.conductors c r (omega arith) (omega arith) h.1)
   has_item (Child k b) h =
       let z : 0 + k ≡ k = omega arith in
-      listed_right (Child k b) owned (children ++ grounds) (listed_left (Child k b) children grounds
+      in_right owned (children ++ grounds) (Child k b) (in_left children grounds (Child k b)
       (subst (λ i. IsListed (Child i b) children) z (child_has t 0 (get_or d.cells cell no_cell).places k h.0 b (at_placed d cell k h.0 h.1) h.2)))
-  has_item (Global x) h = listed_right (Global x) owned (children ++ grounds) (listed_right (Global x) children grounds (run_has Global 0 w.globals x (omega arith) (omega arith)))
+  has_item (Global x) h = in_right owned (children ++ grounds) (Global x) (in_right children grounds (Global x) (run_has Global 0 (length w.globals) x (omega arith) (omega arith)))
 
 pub items_sound : (d : Design) (w : Wiring) (t : Tables) (cell : ℕ) (v : CellNets) → AreNets d w t cell v → (i : ℕ) (item : Item) → slice_get v.items i ≡ Some item → IsItem d w t cell item
-items_sound d w t cell v are i item h = is_item d w t cell item (listed_at item (items_of d w t cell) i (subst (λ (l : List Item). slice_get l i ≡ Some item) are.items h))
+items_sound d w t cell v are i item h = is_item d w t cell item (listed (items_of d w t cell) i item (subst (λ (l : List Item). slice_get l i ≡ Some item) are.items h))
 
 pub items_complete : (d : Design) (w : Wiring) (t : Tables) (cell : ℕ) (v : CellNets) → AreNets d w t cell v → (item : Item) → IsItem d w t cell item → (i : ℕ) × (slice_get v.items i ≡ Some item)
 items_complete d w t cell v are item h =
-    let r = at_listed item (items_of d w t cell) (has_item d w t cell item h) in
+    let r = position (items_of d w t cell) item (has_item d w t cell item h) in
     (r.0, subst (λ (l : List Item). slice_get l r.0 ≡ Some item) (sym are.items) r.1)
 
 module _ (d : Design) (w : Wiring) (t : Tables) (cell : ℕ) (v z : CellNets) (av : AreNets d w t cell v) (az : AreNets d w t cell z) where
@@ -244,7 +218,7 @@ pub read : ReadLaw
 read d w t cell k p v right placed is =
     one_table d w t p.cell v (t.nets p.cell) (is t (right_below d w t cell k p right placed)) (right.nets k p.cell p placed ([], refl))
 
-together_to : (d : Design) (w : Wiring) (t : Tables) (height : ℕ → ℕ) → IsHeight d height → (n cell : ℕ) → height cell < n → ((e c : ℕ) → IsUnder d cell e → AreOwn d w t e c) → ((e : ℕ) → IsUnder d cell e → IsNetsOf d w e (t.nets e))
+together_to : (d : Design) (w : Wiring) (t : Tables) (height : ℕ → ℕ) → IsHeight d height → (n cell : ℕ) → height cell < n → ((e c : ℕ) → IsUnder d cell e → AreListed d w t e c) → ((e : ℕ) → IsUnder d cell e → IsNetsOf d w e (t.nets e))
     → (e : ℕ) → IsUnder d cell e → AreNets d w t e (t.nets e)
 together_to d w t height linked zero cell lt own is e under = absurd (omega arith)
 together_to d w t height linked (suc n) cell lt own is e (k ∷ ks, (p, placed, rest)) =

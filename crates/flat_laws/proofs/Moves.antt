@@ -1,7 +1,7 @@
 -- Motions keep which squares lie beside and around each other, and reach each square.
-use Rattle.std.proofs.Common.{◌≡◌, ◌↔◌, inl, inr, ℤ, pos, ◌+ℤ◌, ◌-ℤ◌, ◌≤ℤ◌, arith}
+use Rattle.std.proofs.Common.{◌≡◌, ◌↔◌, inl, inr, ℕ, ◌+◌, ◌≤◌, ℤ, pos, ◌+ℤ◌, ◌-ℤ◌, ◌≤ℤ◌, arith}
 use Rattle.std.proofs.lemmas.Int.{ints}
-use Rattle.flat_layout.specs.Plane.{SharesEdge, IsAround}
+use Rattle.flat_layout.specs.Plane.{SharesEdge, AreWithin, IsAround}
 use Rattle.geo_base.specs.Motions.{moved_square, turned_x, turned_y}
 use Rattle.geo_base.specs.declared.motion.Motion.{Motion}
 use Rattle.geo_base.specs.declared.motion.Turn.{Turn}
@@ -46,39 +46,65 @@ edge_unmoved M270 a b c d u v (inr (e, inr f)) = inl (omega (arith, ints), inl (
 pub edges : (m : Motion) (p q : Square) → SharesEdge (moved_square m p) (moved_square m q) ↔ SharesEdge p q
 edges m p q = (edge_unmoved m.turn p.x p.y q.x q.y m.dx m.dy, edge_moved m.turn p.x p.y q.x q.y m.dx m.dy)
 
-abbrev AreRound : ℤ → ℤ → ℤ → ℤ → Type 0
-AreRound a b c d = (c ≤ℤ (a +ℤ pos 1)) × (a ≤ℤ (c +ℤ pos 1)) × (d ≤ℤ (b +ℤ pos 1)) × (b ≤ℤ (d +ℤ pos 1))
+abbrev AreNear : ℕ → ℤ → ℤ → ℤ → ℤ → Type 0
+AreNear n a b c d = (c ≤ℤ (a +ℤ pos n)) × (a ≤ℤ (c +ℤ pos n)) × (d ≤ℤ (b +ℤ pos n)) × (b ≤ℤ (d +ℤ pos n))
 
-around_moved : (t : Turn) (a b c d u v : ℤ) → AreRound a b c d → AreRound (turned_x t a b +ℤ u) (turned_y t a b +ℤ v) (turned_x t c d +ℤ u) (turned_y t c d +ℤ v)
-around_moved R0 a b c d u v (e, f, g, h) = (omega (arith, ints), omega (arith, ints), omega (arith, ints), omega (arith, ints))
-around_moved R90 a b c d u v (e, f, g, h) = (omega (arith, ints), omega (arith, ints), omega (arith, ints), omega (arith, ints))
-around_moved R180 a b c d u v (e, f, g, h) = (omega (arith, ints), omega (arith, ints), omega (arith, ints), omega (arith, ints))
-around_moved R270 a b c d u v (e, f, g, h) = (omega (arith, ints), omega (arith, ints), omega (arith, ints), omega (arith, ints))
-around_moved M0 a b c d u v (e, f, g, h) = (omega (arith, ints), omega (arith, ints), omega (arith, ints), omega (arith, ints))
-around_moved M90 a b c d u v (e, f, g, h) = (omega (arith, ints), omega (arith, ints), omega (arith, ints), omega (arith, ints))
-around_moved M180 a b c d u v (e, f, g, h) = (omega (arith, ints), omega (arith, ints), omega (arith, ints), omega (arith, ints))
-around_moved M270 a b c d u v (e, f, g, h) = (omega (arith, ints), omega (arith, ints), omega (arith, ints), omega (arith, ints))
+near_moved : (t : Turn) (n : ℕ) (a b c d u v : ℤ) → AreNear n a b c d → AreNear n (turned_x t a b +ℤ u) (turned_y t a b +ℤ v) (turned_x t c d +ℤ u) (turned_y t c d +ℤ v)
+near_moved R0 n a b c d u v (e, f, g, h) = (omega (arith, ints), omega (arith, ints), omega (arith, ints), omega (arith, ints))
+near_moved R90 n a b c d u v (e, f, g, h) = (omega (arith, ints), omega (arith, ints), omega (arith, ints), omega (arith, ints))
+near_moved R180 n a b c d u v (e, f, g, h) = (omega (arith, ints), omega (arith, ints), omega (arith, ints), omega (arith, ints))
+near_moved R270 n a b c d u v (e, f, g, h) = (omega (arith, ints), omega (arith, ints), omega (arith, ints), omega (arith, ints))
+near_moved M0 n a b c d u v (e, f, g, h) = (omega (arith, ints), omega (arith, ints), omega (arith, ints), omega (arith, ints))
+near_moved M90 n a b c d u v (e, f, g, h) = (omega (arith, ints), omega (arith, ints), omega (arith, ints), omega (arith, ints))
+near_moved M180 n a b c d u v (e, f, g, h) = (omega (arith, ints), omega (arith, ints), omega (arith, ints), omega (arith, ints))
+near_moved M270 n a b c d u v (e, f, g, h) = (omega (arith, ints), omega (arith, ints), omega (arith, ints), omega (arith, ints))
 
-around_unmoved : (t : Turn) (a b c d u v : ℤ) → AreRound (turned_x t a b +ℤ u) (turned_y t a b +ℤ v) (turned_x t c d +ℤ u) (turned_y t c d +ℤ v) → AreRound a b c d
-around_unmoved R0 a b c d u v (e, f, g, h) = (omega (arith, ints), omega (arith, ints), omega (arith, ints), omega (arith, ints))
-around_unmoved R90 a b c d u v (e, f, g, h) = (omega (arith, ints), omega (arith, ints), omega (arith, ints), omega (arith, ints))
-around_unmoved R180 a b c d u v (e, f, g, h) = (omega (arith, ints), omega (arith, ints), omega (arith, ints), omega (arith, ints))
-around_unmoved R270 a b c d u v (e, f, g, h) = (omega (arith, ints), omega (arith, ints), omega (arith, ints), omega (arith, ints))
-around_unmoved M0 a b c d u v (e, f, g, h) = (omega (arith, ints), omega (arith, ints), omega (arith, ints), omega (arith, ints))
-around_unmoved M90 a b c d u v (e, f, g, h) = (omega (arith, ints), omega (arith, ints), omega (arith, ints), omega (arith, ints))
-around_unmoved M180 a b c d u v (e, f, g, h) = (omega (arith, ints), omega (arith, ints), omega (arith, ints), omega (arith, ints))
-around_unmoved M270 a b c d u v (e, f, g, h) = (omega (arith, ints), omega (arith, ints), omega (arith, ints), omega (arith, ints))
+near_unmoved : (t : Turn) (n : ℕ) (a b c d u v : ℤ) → AreNear n (turned_x t a b +ℤ u) (turned_y t a b +ℤ v) (turned_x t c d +ℤ u) (turned_y t c d +ℤ v) → AreNear n a b c d
+near_unmoved R0 n a b c d u v (e, f, g, h) = (omega (arith, ints), omega (arith, ints), omega (arith, ints), omega (arith, ints))
+near_unmoved R90 n a b c d u v (e, f, g, h) = (omega (arith, ints), omega (arith, ints), omega (arith, ints), omega (arith, ints))
+near_unmoved R180 n a b c d u v (e, f, g, h) = (omega (arith, ints), omega (arith, ints), omega (arith, ints), omega (arith, ints))
+near_unmoved R270 n a b c d u v (e, f, g, h) = (omega (arith, ints), omega (arith, ints), omega (arith, ints), omega (arith, ints))
+near_unmoved M0 n a b c d u v (e, f, g, h) = (omega (arith, ints), omega (arith, ints), omega (arith, ints), omega (arith, ints))
+near_unmoved M90 n a b c d u v (e, f, g, h) = (omega (arith, ints), omega (arith, ints), omega (arith, ints), omega (arith, ints))
+near_unmoved M180 n a b c d u v (e, f, g, h) = (omega (arith, ints), omega (arith, ints), omega (arith, ints), omega (arith, ints))
+near_unmoved M270 n a b c d u v (e, f, g, h) = (omega (arith, ints), omega (arith, ints), omega (arith, ints), omega (arith, ints))
 
-pub arounds : (m : Motion) (p q : Square) → IsAround (moved_square m p) (moved_square m q) ↔ IsAround p q
-arounds m p q = (
-  (λ h. let r = around_unmoved m.turn p.x p.y q.x q.y m.dx m.dy (h.left, h.right, h.low, h.high) in record { left = r.0; right = r.1; low = r.2; high = r.3 }),
-  (λ h. let r = around_moved m.turn p.x p.y q.x q.y m.dx m.dy (h.left, h.right, h.low, h.high) in record { left = r.0; right = r.1; low = r.2; high = r.3 }),
+pub withins : (n : ℕ) (m : Motion) (p q : Square) → AreWithin n (moved_square m p) (moved_square m q) ↔ AreWithin n p q
+withins n m p q = (
+  (λ h. let r = near_unmoved m.turn n p.x p.y q.x q.y m.dx m.dy (h.left, h.right, h.low, h.high) in record { left = r.0; right = r.1; low = r.2; high = r.3 }),
+  (λ h. let r = near_moved m.turn n p.x p.y q.x q.y m.dx m.dy (h.left, h.right, h.low, h.high) in record { left = r.0; right = r.1; low = r.2; high = r.3 }),
 )
 
-pub around_same : (p : Square) → IsAround p p
-around_same p = record { left = omega (arith, ints); right = omega (arith, ints); low = omega (arith, ints); high = omega (arith, ints) }
+pub arounds : (m : Motion) (p q : Square) → IsAround (moved_square m p) (moved_square m q) ↔ IsAround p q
+arounds m p q = withins 1 m p q
 
-beside_round : (a b c d : ℤ) → AreBeside a b c d → AreRound a b c d
+pub within_same : (n : ℕ) (q : Square) → AreWithin n q q
+within_same n q = record { left = omega (arith, ints); right = omega (arith, ints); low = omega (arith, ints); high = omega (arith, ints) }
+
+pub around_same : (p : Square) → IsAround p p
+around_same p = within_same 1 p
+
+-- within 0 of a square lies that square alone
+pub within_none : (p q : Square) → AreWithin 0 p q → p ≡ q
+within_none p q h =
+    let a = h.left in let b = h.right in let c = h.low in let e = h.high in
+    same_square p q (omega (arith, ints)) (omega (arith, ints))
+
+pub within_back : (n : ℕ) (p q : Square) → AreWithin n p q → AreWithin n q p
+within_back n p q h = record { left = h.right; right = h.left; low = h.high; high = h.low }
+
+pub wider : (m n : ℕ) (p q : Square) → m ≤ n → AreWithin m p q → AreWithin n p q
+wider m n p q lt h =
+    let a = h.left in let b = h.right in let c = h.low in let e = h.high in
+    record { left = omega (arith, ints); right = omega (arith, ints); low = omega (arith, ints); high = omega (arith, ints) }
+
+pub farther : (m n : ℕ) (p q r : Square) → AreWithin m p q → AreWithin n q r → AreWithin (m + n) p r
+farther m n p q r h k =
+    let a = h.left in let b = h.right in let c = h.low in let e = h.high in
+    let a' = k.left in let b' = k.right in let c' = k.low in let e' = k.high in
+    record { left = omega (arith, ints); right = omega (arith, ints); low = omega (arith, ints); high = omega (arith, ints) }
+
+beside_round : (a b c d : ℤ) → AreBeside a b c d → AreNear 1 a b c d
 beside_round a b c d (inl (e, inl f)) = (omega (arith, ints), omega (arith, ints), omega (arith, ints), omega (arith, ints))
 beside_round a b c d (inl (e, inr f)) = (omega (arith, ints), omega (arith, ints), omega (arith, ints), omega (arith, ints))
 beside_round a b c d (inr (e, inl f)) = (omega (arith, ints), omega (arith, ints), omega (arith, ints), omega (arith, ints))

@@ -17,7 +17,7 @@ use Rattle.flat_laws.proofs.Items.{items_sound, items_complete}
 use Rattle.plain_netlist.proofs.Links.{stays, single, prepend, both, along}
 use Rattle.flat_laws.proofs.Squares.{touch_moved, touch_back, touch_same, across}
 
-link_back : (w : Wiring) (sets : ℕ → Square → Type 0) (a b : Node) → IsLink w sets a b → IsLink w sets b a
+pub link_back : (w : Wiring) (sets : ℕ → Square → Type 0) (a b : Node) → IsLink w sets a b → IsLink w sets b a
 link_back w sets a b h = record { from = h.to; to = h.from; touch = touch_back w a b h.touch }
 
 node_moved : (d : Design) (w : Wiring) (cell k : ℕ) (p : Place) → IsReached d cell → IsPlaced d cell k p → (n : Node) → IsNode w (kept d w p.cell) n → IsNode w (kept d w cell) (moved p.motion n)
@@ -65,7 +65,7 @@ module _ (d : Design) (w : Wiring) (t : Tables) (height : ℕ → ℕ) (tables :
       elim (tables.parted cell c q reached h) [
         | inl here ↦
             let f = (tables.own cell c reached).found q here in
-            (Own c f.0, (no_empty d cell w.names c q here, slice_get_within (t.own cell c) f.0 f.1 f.2), record { depth = zero; holds = (q, f.1, f.2, f.3, refl) })
+            (Own c f.0, (no_empty d cell w.conductors c q here, slice_get_within (t.own cell c) f.0 f.1 f.2), record { depth = zero; holds = (q, f.1, f.2, f.3, refl) })
         | inr down ↦
             let f = (below down.number down.place down.placed).complete (At c down.square) down.kept in (
               Child down.number f.0,

@@ -46,7 +46,7 @@ behind d from mid to (y ∷ ys) zs s r q (p, placed, v, rest, e) (p', placed', v
     let there : Takes d p.cell ys mid r v = subst (λ f. Takes d p.cell ys mid r f) square (subst (λ (f : Place). Takes d f.cell ys mid r v') place rest') in
     behind d p.cell mid to ys zs s r v rest there
 
-leads_of : (d : Design) (from to : ℕ) (ys : List ℕ) (s q : Square) → Takes d from ys to s q → Leads d from ys to
+pub leads_of : (d : Design) (from to : ℕ) (ys : List ℕ) (s q : Square) → Takes d from ys to s q → Leads d from ys to
 leads_of d from to [] s q h = h.0
 leads_of d from to (y ∷ ys) s q (p, placed, r, rest, e) = (p, placed, leads_of d p.cell to ys s r rest)
 

@@ -1,7 +1,7 @@
 -- The nets of cells as regions, and that each cell has one table of them.
 use Rattle.std.specs.Prelude.{◌≡◌, ℕ, ◌<◌}
 use Rattle.flat_layout.specs.Layout.{Design, IsHeight, IsPlaced, IsReached, Place}
-use Rattle.flat_layout.specs.Nets.{AreNets, AreOwn, AreRegions, AreRightBelow, AreTables, CellNets, IsNetsOf, IsUnder, LiesIn, Tables}
+use Rattle.flat_layout.specs.Nets.{AreListed, AreNets, AreRegions, AreRightBelow, AreTables, CellNets, IsNetsOf, IsUnder, LiesIn, Tables}
 use Rattle.flat_layout.specs.Regions.{Node, Touches, Wiring, moved}
 use Rattle.geo_base.specs.declared.motion.Motion.{Motion}
 
@@ -28,5 +28,5 @@ ReadLaw = (d : Design) (w : Wiring) (t : Tables) (cell k : ℕ) (p : Place) (v :
 
 -- and where each cell's nets are right by themselves, all are right together
 abbrev pub TogetherLaw : Type 0
-TogetherLaw = (d : Design) (w : Wiring) (t : Tables) (height : ℕ → ℕ) → IsHeight d height → (cell : ℕ) → ((e c : ℕ) → IsUnder d cell e → AreOwn d w t e c) → ((e : ℕ) → IsUnder d cell e → IsNetsOf d w e (t.nets e))
+TogetherLaw = (d : Design) (w : Wiring) (t : Tables) (height : ℕ → ℕ) → IsHeight d height → (cell : ℕ) → ((e c : ℕ) → IsUnder d cell e → AreListed d w t e c) → ((e : ℕ) → IsUnder d cell e → IsNetsOf d w e (t.nets e))
     → AreNets d w t cell (t.nets cell)

@@ -4,14 +4,23 @@
 //! covers the flat layers, their nets are the flat regions, their gates the flat gates, and their circuits expand to the flat netlist.
 #![tactic(auto)]
 
-ghost use Rattle.flat_laws.specs.GateLaws.{KeptGateLaw, OnePlaceLaw, GateLaw, TopLaw, PoleLaw, CauseLaw, OneCountLaw};
-ghost use Rattle.flat_laws.specs.LayerLaws.{ZoneLaw, UndisturbedLaw, CalmLaw, SameFlatLaw, CoverLaw, TopKeptLaw};
+ghost use Rattle.flat_laws.specs.FlatGates.{FlatGatesLaw};
+ghost use Rattle.flat_laws.specs.GateLaws.{ReadLayersLaw, KeptGateLaw, KeptFormLaw, OnePlaceLaw, GateLaw, TopLaw, TerminalNodeLaw, OneCountLaw, NotBothLaw, OneCauseLaw, SameGateLaw, CauseAlongLaw};
+ghost use Rattle.flat_laws.specs.LayerLaws.{ZoneLaw, UndisturbedLaw, StillLaw, NameStillLaw, NearInputLaw, CalmLaw, SameFlatLaw, CoverLaw, TopKeptLaw};
 ghost use Rattle.flat_laws.specs.NetLaws.{TouchLaw, RegionLaw, OneParentLaw, OneTableLaw, ReadLaw, TogetherLaw};
-ghost use Rattle.flat_laws.specs.NetlistLaws.{ClimbLaw, NetLaw, NetlistLaw, FlatNetlistLaw, FlatRegionLaw};
+ghost use Rattle.flat_laws.specs.NetlistLaws.{RowsLaw, PlannedLaw, PartLaw, NetLaw, NetlistLaw, FlatNetlistLaw, FlatRegionLaw};
+ghost use Rattle.flat_laws.specs.SeedLaws.{GateStillLaw, ReachLaw, SeedLaw, ThroughLaw, CalmThroughLaw, TestLaw, BelowLaw, OwnSeedLaw, KeptPartLaw, ClosedLaw, PartedLaw};
 
 /// Disturbed squares of a cell come from the cells that place it.
 pub fn zones()
     ensures { ZoneLaw }
+{}
+
+/// What lies within the reach of a name: for the names of today the square itself.
+pub fn reaches()
+    ensures still { StillLaw }
+    ensures name { NameStillLaw }
+    ensures near { NearInputLaw }
 {}
 
 /// Undisturbed squares look the same from above.
@@ -41,20 +50,51 @@ pub fn one_table()
     ensures together { TogetherLaw }
 {}
 
-/// The gates of the lists are the flat gates, each once, with their forms.
+/// The gates of the lists are the flat gates, each once, with their sizes or causes.
 pub fn gates()
+    ensures reads { ReadLayersLaw }
     ensures kept { KeptGateLaw }
+    ensures form { KeptFormLaw }
     ensures place { OnePlaceLaw }
     ensures once { GateLaw }
     ensures top { TopLaw }
-    ensures pole { PoleLaw }
-    ensures cause { CauseLaw }
+    ensures terminals { TerminalNodeLaw }
     ensures count { OneCountLaw }
+{}
+
+/// All lists of gates, seen from the top, are the gates of the flat top, each once, with their verdicts and terminals.
+pub fn flat_gates()
+    ensures { FlatGatesLaw }
+{}
+
+/// A gate is good or bad, for one cause, by each of its squares and seen from above.
+pub fn verdicts()
+    ensures not_both { NotBothLaw }
+    ensures one { OneCauseLaw }
+    ensures same { SameGateLaw }
+    ensures along { CauseAlongLaw }
+{}
+
+/// A cell's own gates touch its own shapes or what placed cells leave open, and which come from below is told by squares.
+pub fn own_gates()
+    ensures still { GateStillLaw }
+    ensures reach { ReachLaw }
+    ensures seed { SeedLaw }
+    ensures through { ThroughLaw }
+    ensures calm { CalmThroughLaw }
+    ensures test { TestLaw }
+    ensures below { BelowLaw }
+    ensures own { OwnSeedLaw }
+    ensures part { KeptPartLaw }
+    ensures closed { ClosedLaw }
+    ensures parted { PartedLaw }
 {}
 
 /// The netlist of the cells expands to that of the flat layout.
 pub fn netlist()
-    ensures climb { ClimbLaw }
+    ensures rows { RowsLaw }
+    ensures planned { PlannedLaw }
+    ensures part { PartLaw }
     ensures net { NetLaw }
     ensures devices { NetlistLaw }
     ensures flat { FlatNetlistLaw }

@@ -1,15 +1,73 @@
 -- The gates of a device rule in a cell: edge-connected parts of a flat layer, each with what lies round it.
-use Rattle.std.specs.Prelude.{◌≡◌, ◌⊎◌, ◌↔◌, ℕ, ◌<◌, List, [], ◌∷◌, ◌++◌, length, Option, Some, None}
+use Rattle.std.specs.Prelude.{◌≡◌, ◌⊎◌, ℕ, ◌*◌, ◌≤◌, max, List, ◌++◌, Option, Some, None}
 use Rattle.geo_base.specs.Motions.{moved_square}
 use Rattle.geo_base.specs.declared.layer.LayerKey.{LayerKey}
 use Rattle.geo_base.specs.declared.motion.Motion.{Motion}
 use Rattle.geo_base.specs.declared.shapes.Square.{Square}
-use Rattle.plain_netlist.specs.Chains.{Reaches}
-use Rattle.flat_layout.specs.Layers.{Reading, inputs, InFlat}
-use Rattle.flat_layout.specs.Layout.{Place, Design, IsPlaced, Takes, IsDisturbed}
-use Rattle.plain_netlist.specs.Netlist.{Pole, Source, Gate, Drain, Bulk}
-use Rattle.flat_layout.specs.Plane.{SharesEdge, IsAround}
+use Rattle.flat_layout.specs.Layers.{Reading, inputs, reach, InFlat, IsStirred}
+use Rattle.flat_layout.specs.Layout.{Place, Design, Some_of, IsPlaced, Takes}
+pub use Rattle.flat_layout.specs.Parts.{IsStep, IsLeast, Edge, Counts, AreClasses, Cause, Groups, OffGate, OffSd, NoBulk, NoLength}
+use Rattle.flat_layout.specs.Parts.{InPart, IsCloseTo, InRingOf, InSideOf, InGroupOf, IsBorderOf, IsWideOf, IsLongOf, AreGroupsOf, Sheets, IsGoodPart, IsBadPart}
+use Rattle.flat_layout.specs.Plane.{IsSquareBefore}
 use Rattle.flat_layout.specs.Regions.{Wiring, Node, At, Ground, reading, ground_of}
+use Rattle.plain_netlist.specs.Netlist.{Pole, Source, Gate, Drain, Bulk}
+
+-- what the geometry of a kind of device reads: the layer whose parts are its gates, the input layers on which a shape from elsewhere disturbs one,
+-- and how far from a gate's squares and its ring such a shape may lie
+pub record Geometry : Type 0 where
+  pub region : Reading
+  pub keys : List LayerKey
+  pub reach : ℕ
+
+-- it reads all that a name does
+pub record IsReadBy (g : Geometry) (name : Reading) : Type 0 where
+  pub keys : (key : LayerKey) → Some_of (λ k. k ≡ key) (inputs name) → Some_of (λ k. k ≡ key) g.keys
+  pub reach : reach name ≤ g.reach
+
+-- and so its gates' layer
+abbrev pub IsSoundGeometry : Geometry → Type 0
+IsSoundGeometry g = IsReadBy g g.region
+
+-- the edge-connected part of the cell's flat gate squares that has s
+abbrev pub InGate : Design → Geometry → ℕ → Square → Square → Type 0
+InGate d g cell s = InPart (InFlat d cell g.region) s
+
+-- a square of the gate or of its ring
+abbrev pub IsGateOrRing : Design → Geometry → ℕ → Square → Square → Type 0
+IsGateOrRing d g cell s = IsCloseTo (InGate d g cell s)
+
+-- a square of the ring
+abbrev pub InRing : Design → Geometry → ℕ → Square → Square → Type 0
+InRing d g cell s = InRingOf (InGate d g cell s)
+
+-- nothing from elsewhere disturbs the gate or its ring
+pub record IsSettled (d : Design) (g : Geometry) (cell : ℕ) (s : Square) : Type 0 where
+  pub is : InFlat d cell g.region s
+  pub calm : (q : Square) → IsGateOrRing d g cell s q → IsStirred d g.keys g.reach cell q → ⊥
+
+-- the gate is the image of a settled one
+pub record IsGateBelow (d : Design) (g : Geometry) (cell : ℕ) (s : Square) : Type 0 where
+  pub number : ℕ
+  pub place : Place
+  pub square : Square
+  pub placed : IsPlaced d cell number place
+  pub settled : IsSettled d g place.cell square
+  pub image : InGate d g cell s (moved_square place.motion square)
+
+-- a gate of the cell's own list: settled here, and not the image of a settled one
+pub record IsListedGate (d : Design) (g : Geometry) (cell : ℕ) (s : Square) : Type 0 where
+  pub settled : IsSettled d g cell s
+  pub new : IsGateBelow d g cell s → ⊥
+
+-- a gate of a list somewhere below, with its image
+pub record IsFound (d : Design) (g : Geometry) (cell : ℕ) (s : Square) : Type 0 where
+  pub path : List ℕ
+  pub end : ℕ
+  pub square : Square
+  pub place : Square
+  pub takes : Takes d cell path end square place
+  pub image : InGate d g cell s place
+  pub gate : IsListedGate d g end square
 
 -- a device rule: its class, the layers of source and drain, gate and well, and the conductors of the terminals
 pub record Rule : Type 0 where
@@ -29,162 +87,71 @@ ground w u = ground_of u.tb w.grounds
 abbrev pub gate_inputs : Wiring → Rule → List LayerKey
 gate_inputs w u = inputs u.sd ++ (inputs u.gate ++ (inputs u.well ++ (inputs (reading w u.ts) ++ (inputs (reading w u.tg) ++ inputs (reading w u.tb)))))
 
--- neighbours in a set
-pub record IsStep (set : Square → Type 0) (p q : Square) : Type 0 where
-  pub from : set p
-  pub to : set q
-  pub edge : SharesEdge p q
+-- the greatest reach of these layers
+abbrev pub gate_reach : Wiring → Rule → ℕ
+gate_reach w u = max (reach u.sd) (max (reach u.gate) (max (reach u.well) (max (reach (reading w u.ts)) (max (reach (reading w u.tg)) (reach (reading w u.tb))))))
 
--- the edge-connected part of the cell's flat gate squares that has s
-pub record InGate (d : Design) (u : Rule) (cell : ℕ) (s q : Square) : Type 0 where
-  pub from : InFlat d cell u.gate s
-  pub joined : Reaches (IsStep (InFlat d cell u.gate)) s q
+-- what the rule's geometry reads
+abbrev pub geometry : Wiring → Rule → Geometry
+geometry w u = record { region = u.gate; keys = gate_inputs w u; reach = gate_reach w u }
 
--- a square of the gate or of its ring
-pub record IsClose (d : Design) (u : Rule) (cell : ℕ) (s q : Square) : Type 0 where
-  pub square : Square
-  pub in_gate : InGate d u cell s square
-  pub around : IsAround square q
+-- the sizes of a rule's devices in femtometres, from twice the width and twice the length in squares, with the unit in picometres
+abbrev pub width_of : Rule → ℕ → ℕ → ℕ
+width_of u unit twice_w = twice_w * (unit * 500)
 
--- a square of the ring: outside the gate, sharing an edge or a corner with one of its squares
-pub record InRing (d : Design) (u : Rule) (cell : ℕ) (s q : Square) : Type 0 where
-  pub close : IsClose d u cell s q
-  pub outside : InGate d u cell s q → ⊥
-
--- nothing from elsewhere disturbs the gate or its ring
-pub record IsSettled (d : Design) (w : Wiring) (u : Rule) (cell : ℕ) (s : Square) : Type 0 where
-  pub is : InFlat d cell u.gate s
-  pub calm : (q : Square) → IsClose d u cell s q → IsDisturbed d (gate_inputs w u) cell q → ⊥
-
--- the gate is the image of a settled one
-pub record IsGateBelow (d : Design) (w : Wiring) (u : Rule) (cell : ℕ) (s : Square) : Type 0 where
-  pub number : ℕ
-  pub place : Place
-  pub square : Square
-  pub placed : IsPlaced d cell number place
-  pub settled : IsSettled d w u place.cell square
-  pub image : InGate d u cell s (moved_square place.motion square)
-
--- a gate of the cell's own list: settled here, and not the image of a settled one
-pub record IsGateOf (d : Design) (w : Wiring) (u : Rule) (cell : ℕ) (s : Square) : Type 0 where
-  pub settled : IsSettled d w u cell s
-  pub new : IsGateBelow d w u cell s → ⊥
+abbrev pub length_of : Rule → ℕ → ℕ → ℕ
+length_of u unit twice_l = twice_l * (unit * 500)
 
 -- source or drain squares of the ring
-pub record InSide (d : Design) (u : Rule) (cell : ℕ) (s q : Square) : Type 0 where
-  pub ring : InRing d u cell s q
-  pub sd : InFlat d cell u.sd q
+abbrev pub InSide : Design → Wiring → Rule → ℕ → Square → Square → Type 0
+InSide d w u cell s = InSideOf (InGate d (geometry w u) cell s) (InFlat d cell u.sd)
 
 -- joined by shared edges inside the ring
-abbrev pub InOneGroup : Design → Rule → ℕ → Square → Square → Square → Type 0
-InOneGroup d u cell s a b = Reaches (IsStep (InSide d u cell s)) a b
+abbrev pub InOneGroup : Design → Wiring → Rule → ℕ → Square → Square → Square → Type 0
+InOneGroup d w u cell s = InGroupOf (InGate d (geometry w u) cell s) (InFlat d cell u.sd)
 
--- a square of the gate, and one beside it in its ring
-pub record Edge : Type 0 where
-  pub inner : Square
-  pub outer : Square
+-- a boundary edge of the gate, and whether source or drain lies beyond
+abbrev pub IsBorder : Design → Wiring → Rule → ℕ → Square → Edge → Type 0
+IsBorder d w u cell s = IsBorderOf (InGate d (geometry w u) cell s)
 
--- a boundary edge of the gate
-pub record IsBorder (d : Design) (u : Rule) (cell : ℕ) (s : Square) (e : Edge) : Type 0 where
-  pub inside : InGate d u cell s e.inner
-  pub outside : InGate d u cell s e.outer → ⊥
-  pub edge : SharesEdge e.inner e.outer
+abbrev pub IsWide : Design → Wiring → Rule → ℕ → Square → Edge → Type 0
+IsWide d w u cell s = IsWideOf (InGate d (geometry w u) cell s) (InFlat d cell u.sd)
 
--- one that counts for twice the width: source or drain lies beyond
-pub record IsWide (d : Design) (u : Rule) (cell : ℕ) (s : Square) (e : Edge) : Type 0 where
-  pub border : IsBorder d u cell s e
-  pub sd : InFlat d cell u.sd e.outer
+abbrev pub IsLong : Design → Wiring → Rule → ℕ → Square → Edge → Type 0
+IsLong d w u cell s = IsLongOf (InGate d (geometry w u) cell s) (InFlat d cell u.sd)
 
--- one that counts for twice the length
-pub record IsLong (d : Design) (u : Rule) (cell : ℕ) (s : Square) (e : Edge) : Type 0 where
-  pub border : IsBorder d u cell s e
-  pub other : InFlat d cell u.sd e.outer → ⊥
+abbrev pub AreGroups : Design → Wiring → Rule → ℕ → Square → List Edge → Type 0
+AreGroups d w u cell s = AreGroupsOf (InGate d (geometry w u) cell s) (InFlat d cell u.sd)
 
--- a stands in the list
-abbrev pub IsListed : {A : Type 0} → A → List A → Type 0
-IsListed a [] = ⊥
-IsListed a (x ∷ xs) = (a ≡ x) ⊎ IsListed a xs
-
--- no two places have the same
-abbrev pub AreApart : {A : Type 0} → List A → Type 0
-AreApart [] = Unit {0}
-AreApart (x ∷ xs) = (IsListed x xs → ⊥) × AreApart xs
-
--- so many have P
-pub record Counts {A : Type 0} (P : A → Type 0) (n : ℕ) : Type 0 where
-  pub all : List A
-  pub apart : AreApart all
-  pub each : (a : A) → P a ↔ IsListed a all
-  pub count : length all ≡ n
-
--- one of each class
-pub record AreClasses {A : Type 0} (P : A → Type 0) (R : A → A → Type 0) (list : List A) : Type 0 where
-  pub each : (a : A) → IsListed a list → P a
-  pub found : (a : A) → P a → (b : A) × IsListed b list × R a b
-  pub one : (a b : A) → IsListed a list → IsListed b list → R a b → a ≡ b
-  pub apart : AreApart list
-
--- the groups, by an edge between the gate and each
-abbrev pub AreGroups : Design → Rule → ℕ → Square → List Edge → Type 0
-AreGroups d u cell s list = AreClasses (IsWide d u cell s) (λ e f. InOneGroup d u cell s e.outer f.outer) list
+-- the flat sets of the cell by which the rule's gates are judged
+abbrev pub sheets : Design → Wiring → Rule → ℕ → Sheets
+sheets d w u cell = record {
+  ends = InFlat d cell u.sd;
+  on_ends = InFlat d cell (reading w u.ts);
+  on_gate = InFlat d cell (reading w u.tg);
+  on_bulk = InFlat d cell (reading w u.tb);
+  loose = ground w u ≡ None;
+}
 
 -- a good gate: two groups, by an edge of each, its sizes, and its squares on the terminals' conductors
-pub record IsForm (d : Design) (w : Wiring) (u : Rule) (cell : ℕ) (s : Square) (e f : Edge) (twice_w twice_l : ℕ) : Type 0 where
-  pub groups : AreGroups d u cell s (e ∷ (f ∷ []))
-  pub wide : Counts (IsWide d u cell s) twice_w
-  pub long : Counts (IsLong d u cell s) twice_l
-  pub some : 0 < twice_l
-  pub gate_on : (q : Square) → InGate d u cell s q → InFlat d cell (reading w u.tg) q
-  pub ends_on : (q : Square) → InOneGroup d u cell s e.outer q ⊎ InOneGroup d u cell s f.outer q → InFlat d cell (reading w u.ts) q
-  pub bulk_on : ground w u ≡ None → (q : Square) → InGate d u cell s q → InFlat d cell (reading w u.tb) q
+abbrev pub IsGoodGate : Design → Wiring → Rule → ℕ → Square → Edge → Edge → ℕ → ℕ → Type 0
+IsGoodGate d w u cell s = IsGoodPart (sheets d w u cell) (InGate d (geometry w u) cell s)
+
+-- a bad one: the first test that it fails
+abbrev pub IsBadGate : Design → Wiring → Rule → ℕ → Square → Cause → Type 0
+IsBadGate d w u cell s = IsBadPart (sheets d w u cell) (InGate d (geometry w u) cell s)
+
+-- the source is the group with the least square: some square of it comes before each of the other group
+abbrev pub IsSourceFirst : Design → Wiring → Rule → ℕ → Square → Edge → Edge → Type 0
+IsSourceFirst d w u cell s e f = (p : Square) × InOneGroup d w u cell s e.outer p × ((q : Square) → InOneGroup d w u cell s f.outer q → IsSquareBefore p q)
 
 -- the nodes of a good gate's terminals
-abbrev pub IsPole : Design → Wiring → Rule → ℕ → Square → Edge → Edge → Pole → Node → Type 0
-IsPole d w u cell s e f Source n = (q : Square) × InOneGroup d u cell s e.outer q × (At u.ts q ≡ n)
-IsPole d w u cell s e f Drain n = (q : Square) × InOneGroup d u cell s f.outer q × (At u.ts q ≡ n)
-IsPole d w u cell s e f Gate n = (q : Square) × InGate d u cell s q × (At u.tg q ≡ n)
-IsPole d w u cell s e f Bulk n = ((g : ℕ) × (ground w u ≡ Some g) × (Ground g ≡ n)) ⊎ ((ground w u ≡ None) × ((q : Square) × InGate d u cell s q × (At u.tb q ≡ n)))
+abbrev pub IsTerminalNode : Design → Wiring → Rule → ℕ → Square → Edge → Edge → Pole → Node → Type 0
+IsTerminalNode d w u cell s e f Source n = (q : Square) × InOneGroup d w u cell s e.outer q × (At u.ts q ≡ n)
+IsTerminalNode d w u cell s e f Drain n = (q : Square) × InOneGroup d w u cell s f.outer q × (At u.ts q ≡ n)
+IsTerminalNode d w u cell s e f Gate n = (q : Square) × InGate d (geometry w u) cell s q × (At u.tg q ≡ n)
+IsTerminalNode d w u cell s e f Bulk n =
+    ((g : ℕ) × (ground w u ≡ Some g) × (Ground g ≡ n)) ⊎ ((ground w u ≡ None) × ((q : Square) × InGate d (geometry w u) cell s q × (At u.tb q ≡ n)))
 
 abbrev pub moved_edge : Motion → Edge → Edge
 moved_edge m e = record { inner = moved_square m e.inner; outer = moved_square m e.outer }
-
--- a gate of a list somewhere below, with its image
-pub record IsFound (d : Design) (w : Wiring) (u : Rule) (cell : ℕ) (s : Square) : Type 0 where
-  pub path : List ℕ
-  pub end : ℕ
-  pub square : Square
-  pub place : Square
-  pub takes : Takes d cell path end square place
-  pub image : InGate d u cell s place
-  pub gate : IsGateOf d w u end square
-
--- why a gate is bad
-pub data Cause : Type 0 where
-  Groups : (count : ℕ) → Cause
-  OffGate : Cause
-  OffSd : Cause
-  NoBulk : Cause
-  NoLength : Cause
-
--- each gate square lies on the conductor
-abbrev pub IsGateOn : Design → Wiring → Rule → ℕ → Square → ℕ → Type 0
-IsGateOn d w u cell s c = (q : Square) → InGate d u cell s q → InFlat d cell (reading w c) q
-
--- some doesn't
-abbrev pub IsGateOff : Design → Wiring → Rule → ℕ → Square → ℕ → Type 0
-IsGateOff d w u cell s c = (q : Square) × InGate d u cell s q × (InFlat d cell (reading w c) q → ⊥)
-
--- each square of the two groups lies on the conductor of source and drain
-abbrev pub AreEndsOn : Design → Wiring → Rule → ℕ → Square → Edge → Edge → Type 0
-AreEndsOn d w u cell s e f = (q : Square) → InOneGroup d u cell s e.outer q ⊎ InOneGroup d u cell s f.outer q → InFlat d cell (reading w u.ts) q
-
-abbrev pub AreEndsOff : Design → Wiring → Rule → ℕ → Square → Edge → Edge → Type 0
-AreEndsOff d w u cell s e f = (q : Square) × (InOneGroup d u cell s e.outer q ⊎ InOneGroup d u cell s f.outer q) × (InFlat d cell (reading w u.ts) q → ⊥)
-
--- the first test that a bad gate fails
-abbrev pub IsBad : Design → Wiring → Rule → ℕ → Square → Cause → Type 0
-IsBad d w u cell s (Groups count) = (list : List Edge) × AreGroups d u cell s list × (length list ≡ count) × (count ≡ 2 → ⊥)
-IsBad d w u cell s OffGate = (e f : Edge) × AreGroups d u cell s (e ∷ (f ∷ [])) × IsGateOff d w u cell s u.tg
-IsBad d w u cell s OffSd = (e f : Edge) × AreGroups d u cell s (e ∷ (f ∷ [])) × IsGateOn d w u cell s u.tg × AreEndsOff d w u cell s e f
-IsBad d w u cell s NoBulk = (e f : Edge) × AreGroups d u cell s (e ∷ (f ∷ [])) × IsGateOn d w u cell s u.tg × AreEndsOn d w u cell s e f × (ground w u ≡ None) × IsGateOff d w u cell s u.tb
-IsBad d w u cell s NoLength = (e f : Edge) × AreGroups d u cell s (e ∷ (f ∷ [])) × IsGateOn d w u cell s u.tg × AreEndsOn d w u cell s e f × (ground w u ≡ None → IsGateOn d w u cell s u.tb) × Counts (IsLong d u cell s) 0

@@ -1,11 +1,12 @@
 -- Derived layers over a flat layout, and what of them a cell keeps and holds itself.
-use Rattle.std.specs.Prelude.{◌≡◌, ◌⊎◌, ℕ, List, [], ◌∷◌, ◌++◌}
+use Rattle.std.specs.Prelude.{◌≡◌, ◌⊎◌, ℕ, max, List, [], ◌∷◌, ◌++◌}
 use Rattle.geo_base.specs.Motions.{moved_square}
 use Rattle.geo_base.specs.declared.layer.LayerKey.{LayerKey}
 use Rattle.geo_base.specs.declared.layer.Op.{Op}
 use Rattle.geo_base.specs.declared.layer.Op.TheVariants.{And, Or, Not, Xor}
 use Rattle.geo_base.specs.declared.shapes.Square.{Square}
 use Rattle.flat_layout.specs.Layout.{Place, Design, IsOwn, IsPlaced, Takes, InFlatInput, IsDisturbed}
+use Rattle.flat_layout.specs.Plane.{AreWithin}
 
 -- a name of the rules as the tree of what it reads; an empty layer reads nothing
 pub data Reading : Type 0 where
@@ -18,6 +19,12 @@ abbrev pub inputs : Reading → List LayerKey
 inputs (Input key) = key ∷ []
 inputs Empty = []
 inputs (Binary op a b) = inputs a ++ inputs b
+
+-- how far from a square the shapes may lie that decide whether the name has it
+abbrev pub reach : Reading → ℕ
+reach (Input key) = 0
+reach Empty = 0
+reach (Binary op a b) = max (reach a) (reach b)
 
 -- the Booleans of the rules, on whether a square lies in each of two layers
 abbrev pub Combines : Op → Type 0 → Type 0 → Type 0
@@ -32,14 +39,20 @@ InFlat d cell (Input key) q = InFlatInput d cell key q
 InFlat d cell Empty q = ⊥
 InFlat d cell (Binary op a b) q = Combines op (InFlat d cell a q) (InFlat d cell b q)
 
--- the cell keeps q: a flat square that isn't disturbed for the name's inputs; of an input layer each flat square
+-- a square within n of q is disturbed in the cell for some layers
+pub record IsStirred (d : Design) (keys : List LayerKey) (n cell : ℕ) (q : Square) : Type 0 where
+  pub square : Square
+  pub within : AreWithin n square q
+  pub disturbed : IsDisturbed d keys cell square
+
+-- the cell keeps q: a flat square within whose reach nothing is disturbed for the name's inputs; of an input layer each flat square
 abbrev pub IsKept : Design → ℕ → Reading → Square → Type 0
 IsKept d cell (Input key) q = InFlatInput d cell key q
 IsKept d cell Empty q = ⊥
-IsKept d cell (Binary op a b) q = InFlat d cell (Binary op a b) q × (IsDisturbed d (inputs (Binary op a b)) cell q → ⊥)
+IsKept d cell (Binary op a b) q = InFlat d cell (Binary op a b) q × (IsStirred d (inputs (Binary op a b)) (reach (Binary op a b)) cell q → ⊥)
 
 -- q is the image of a kept square of a placed cell
-pub record IsBelow (d : Design) (cell : ℕ) (name : Reading) (q : Square) : Type 0 where
+pub record IsKeptBelow (d : Design) (cell : ℕ) (name : Reading) (q : Square) : Type 0 where
   pub number : ℕ
   pub place : Place
   pub square : Square
@@ -51,7 +64,7 @@ pub record IsBelow (d : Design) (cell : ℕ) (name : Reading) (q : Square) : Typ
 abbrev pub IsLocal : Design → ℕ → Reading → Square → Type 0
 IsLocal d cell (Input key) q = IsOwn d cell key q
 IsLocal d cell Empty q = ⊥
-IsLocal d cell (Binary op a b) q = IsKept d cell (Binary op a b) q × (IsBelow d cell (Binary op a b) q → ⊥)
+IsLocal d cell (Binary op a b) q = IsKept d cell (Binary op a b) q × (IsKeptBelow d cell (Binary op a b) q → ⊥)
 
 -- q is the image of what a cell at or below this one holds itself
 pub record IsCovered (d : Design) (cell : ℕ) (name : Reading) (q : Square) : Type 0 where
@@ -61,5 +74,6 @@ pub record IsCovered (d : Design) (cell : ℕ) (name : Reading) (q : Square) : T
   pub takes : Takes d cell path end square q
   pub here : IsLocal d end name square
 
+-- it is known whether it holds
 abbrev pub IsDecided : Type 0 → Type 0
 IsDecided A = A ⊎ (A → ⊥)

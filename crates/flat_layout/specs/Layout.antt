@@ -1,4 +1,4 @@
--- A hierarchical layout as plain records: cells with their own squares and texts and numbered placements, paths of placements, flat input layers, disturbed squares.
+-- A hierarchical layout as plain records: named cells with their own squares and texts and numbered placements, paths of placements, flat input layers, disturbed squares.
 use Rattle.std.specs.Prelude.{◌≡◌, ◌⊎◌, ℕ, ◌<◌, List, [], ◌∷◌, ◌++◌, Some, slice_get}
 use Rattle.geo_base.specs.Motions.{moved_square}
 use Rattle.geo_base.specs.declared.layer.LayerKey.{LayerKey}
@@ -18,6 +18,7 @@ pub record Layer : Type 0 where
   pub key : LayerKey
   pub rects : List Rect
 
+-- a text of a layout whose string is empty names nothing, and isn't among the texts of a cell
 pub record Text : Type 0 where
   pub key : LayerKey
   pub at : Point
@@ -25,10 +26,12 @@ pub record Text : Type 0 where
 
 -- placements are numbered from 0; an array stands as its placements
 pub record Cell : Type 0 where
+  pub name : List ℕ
   pub layers : List Layer
   pub texts : List Text
   pub places : List Place
 
+-- cells are numbered from 0 in the order of the file
 pub record Design : Type 0 where
   pub cells : List Cell
   pub top : ℕ

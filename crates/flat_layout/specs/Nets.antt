@@ -3,7 +3,8 @@ use Rattle.std.specs.Prelude.{◌≡◌, ◌⊎◌, ◌↔◌, ℕ, zero, suc, �
 use Rattle.geo_base.specs.declared.shapes.Rect.{Rect}
 use Rattle.geo_base.specs.declared.shapes.Square.{Square}
 use Rattle.plain_netlist.specs.Chains.{Reaches}
-use Rattle.flat_layout.specs.Layers.{Reading, IsKept, IsBelow, IsLocal}
+use Rattle.rect_sets.specs.Rects.{IsCanonical}
+use Rattle.flat_layout.specs.Layers.{Reading, IsKept, IsKeptBelow, IsLocal}
 use Rattle.flat_layout.specs.Layout.{Place, Cell, Design, IsPlaced, Leads, IsReached, IsHeight}
 use Rattle.flat_layout.specs.Plane.{IsIn}
 use Rattle.flat_layout.specs.Regions.{Wiring, Node, At, Ground, Touches, IsNode, InOneRegion, moved, reading, kept}
@@ -53,9 +54,9 @@ pub record NetHolds (d : Design) (t : Tables) (cell net : ℕ) (n : Node) : Type
 
 -- what stands among the items of a cell
 abbrev pub IsItem : Design → Wiring → Tables → ℕ → Item → Type 0
-IsItem d w t cell (Own c r) = (c < length w.names) × (r < length (t.own cell c))
+IsItem d w t cell (Own c r) = (c < length w.conductors) × (r < length (t.own cell c))
 IsItem d w t cell (Child k b) = (p : Place) × IsPlaced d cell k p × (b < (t.nets p.cell).count)
-IsItem d w t cell (Global g) = g < w.globals
+IsItem d w t cell (Global g) = g < length w.globals
 
 -- squares of the two touch, or a square of the one and a global of the other, or they hold one node
 pub record IsItemLink (d : Design) (w : Wiring) (t : Tables) (cell : ℕ) (a b : Item) : Type 0 where
@@ -83,11 +84,11 @@ child_items t k [] = []
 child_items t k (p ∷ ps) = run (Child k) 0 (t.nets p.cell).count ++ child_items t (suc k) ps
 
 abbrev pub no_cell : Cell
-no_cell = record { layers = []; texts = []; places = [] }
+no_cell = record { name = []; layers = []; texts = []; places = [] }
 
 -- the items of a cell in order: for each conductor its rectangles, for each placement the placed cell's nets, each global
 abbrev pub items_of : Design → Wiring → Tables → ℕ → List Item
-items_of d w t cell = own_items t cell 0 w.names ++ (child_items t 0 (get_or d.cells cell no_cell).places ++ run Global 0 w.globals)
+items_of d w t cell = own_items t cell 0 w.conductors ++ (child_items t 0 (get_or d.cells cell no_cell).places ++ run Global 0 (length w.globals))
 
 -- the items of a cell, and the classes of those that chains of links join, numbered from 0 by their least item
 pub record AreNets (d : Design) (w : Wiring) (t : Tables) (cell : ℕ) (v : CellNets) : Type 0 where
@@ -104,10 +105,15 @@ pub record AreOwn (d : Design) (w : Wiring) (t : Tables) (cell c : ℕ) : Type 0
   pub found : (q : Square) → IsLocal d cell (reading w c) q → (r : ℕ) × (rect : Rect) × (slice_get (t.own cell c) r ≡ Some rect) × IsIn q rect
   pub filled : (r : ℕ) (rect : Rect) → slice_get (t.own cell c) r ≡ Some rect → (q : Square) × IsIn q rect
 
+-- and they are the one canonical list, so that they are determined
+pub record AreListed (d : Design) (w : Wiring) (t : Tables) (cell c : ℕ) : Type 0 where
+  pub own : AreOwn d w t cell c
+  pub canonical : IsCanonical (t.own cell c)
+
 -- the tables are right in each reached cell, and it is known of each kept square whether it comes from below
 pub record AreTables (d : Design) (w : Wiring) (t : Tables) (height : ℕ → ℕ) : Type 0 where
   pub lower : IsHeight d height
-  pub parted : (cell c : ℕ) (q : Square) → IsReached d cell → IsKept d cell (reading w c) q → IsLocal d cell (reading w c) q ⊎ IsBelow d cell (reading w c) q
+  pub parted : (cell c : ℕ) (q : Square) → IsReached d cell → IsKept d cell (reading w c) q → IsLocal d cell (reading w c) q ⊎ IsKeptBelow d cell (reading w c) q
   pub own : (cell c : ℕ) → IsReached d cell → AreOwn d w t cell c
   pub nets : (cell : ℕ) → IsReached d cell → AreNets d w t cell (t.nets cell)
 
@@ -128,7 +134,7 @@ IsUnder d cell c = (path : List ℕ) × Leads d cell path c
 
 -- the tables are right in each cell below this one
 pub record AreRightBelow (d : Design) (w : Wiring) (t : Tables) (cell : ℕ) : Type 0 where
-  pub own : (e c : ℕ) → IsUnder d cell e → AreOwn d w t e c
+  pub own : (e c : ℕ) → IsUnder d cell e → AreListed d w t e c
   pub nets : (k e : ℕ) (p : Place) → IsPlaced d cell k p → IsUnder d p.cell e → AreNets d w t e (t.nets e)
 
 -- the nets of a cell, without a word of other tables: they are right over all that is right below

@@ -1,5 +1,5 @@
 -- Unit squares beside and around each other, and in rectangles.
-use Rattle.std.specs.Prelude.{◌≡◌, ◌⊎◌, ◌≤ℤ◌, ◌<ℤ◌, pos, ◌+ℤ◌}
+use Rattle.std.specs.Prelude.{◌≡◌, ◌⊎◌, ℕ, ◌≤ℤ◌, ◌<ℤ◌, pos, ◌+ℤ◌}
 use Rattle.geo_base.specs.declared.shapes.Point.{Point}
 use Rattle.geo_base.specs.declared.shapes.Rect.{Rect}
 use Rattle.geo_base.specs.declared.shapes.Square.{Square}
@@ -16,12 +16,20 @@ SharesEdge p q = ((p.x ≡ q.x) × ((p.y +ℤ pos 1 ≡ q.y) ⊎ (q.y +ℤ pos 1
 abbrev pub IsNear : Square → Square → Type 0
 IsNear p q = (p ≡ q) ⊎ SharesEdge p q
 
+-- their x and their y differ by at most n
+pub record AreWithin (n : ℕ) (p q : Square) : Type 0 where
+  pub left : q.x ≤ℤ (p.x +ℤ pos n)
+  pub right : p.x ≤ℤ (q.x +ℤ pos n)
+  pub low : q.y ≤ℤ (p.y +ℤ pos n)
+  pub high : p.y ≤ℤ (q.y +ℤ pos n)
+
 -- they are one square or share an edge or a corner
-pub record IsAround (p q : Square) : Type 0 where
-  pub left : q.x ≤ℤ (p.x +ℤ pos 1)
-  pub right : p.x ≤ℤ (q.x +ℤ pos 1)
-  pub low : q.y ≤ℤ (p.y +ℤ pos 1)
-  pub high : p.y ≤ℤ (q.y +ℤ pos 1)
+abbrev pub IsAround : Square → Square → Type 0
+IsAround = AreWithin 1
+
+-- p comes before q in the order of squares: by y, then x
+abbrev pub IsSquareBefore : Square → Square → Type 0
+IsSquareBefore p q = (p.y <ℤ q.y) ⊎ ((p.y ≡ q.y) × (p.x <ℤ q.x))
 
 -- the point is a corner of the square
 pub record IsCorner (p : Point) (q : Square) : Type 0 where

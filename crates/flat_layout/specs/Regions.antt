@@ -1,5 +1,5 @@
 -- Connected regions of a family of sets of squares, one set for each conductor.
-use Rattle.std.specs.Prelude.{◌≡◌, ◌⊎◌, ℕ, ◌<◌, ◌==◌, if◌then◌else◌, List, [], ◌∷◌, Option, Some, None, get_or}
+use Rattle.std.specs.Prelude.{◌≡◌, ◌⊎◌, ℕ, ◌<◌, ◌==◌, if◌then◌else◌, List, [], ◌∷◌, Option, Some, None, get_or, length}
 use Rattle.geo_base.specs.Motions.{moved_square}
 use Rattle.geo_base.specs.declared.layer.LayerKey.{LayerKey}
 use Rattle.geo_base.specs.declared.motion.Motion.{Motion}
@@ -19,14 +19,14 @@ pub record Label : Type 0 where
   pub key : LayerKey
   pub conductor : ℕ
 
--- conductors by number, the lines between two of them, those to a global, those to texts, how many globals, and the unit in picometres
+-- what each name of the rules reads as a conductor, nothing where it is none, so that a conductor's number is its name's;
+-- the lines between two conductors, those to a global, those to texts; and the globals' names, by their first lines
 pub record Wiring : Type 0 where
-  pub names : List Reading
+  pub conductors : List Reading
   pub joins : List Line
   pub grounds : List Line
   pub labels : List Label
-  pub globals : ℕ
-  pub unit : ℕ
+  pub globals : List (List ℕ)
 
 pub data Node : Type 0 where
   At : (conductor : ℕ) (square : Square) → Node
@@ -53,7 +53,7 @@ Touches w (Ground g) (Ground h) = g ≡ h
 
 abbrev pub IsNode : Wiring → (ℕ → Square → Type 0) → Node → Type 0
 IsNode w sets (At c q) = sets c q
-IsNode w sets (Ground g) = g < w.globals
+IsNode w sets (Ground g) = g < length w.globals
 
 pub record IsLink (w : Wiring) (sets : ℕ → Square → Type 0) (a b : Node) : Type 0 where
   pub from : IsNode w sets a
@@ -70,7 +70,7 @@ moved m (Ground g) = Ground g
 
 -- what a conductor reads; numbers past the end read nothing
 abbrev pub reading : Wiring → ℕ → Reading
-reading w c = get_or w.names c Empty
+reading w c = get_or w.conductors c Empty
 
 -- what a cell keeps of each conductor
 abbrev pub kept : Design → Wiring → ℕ → ℕ → Square → Type 0

@@ -6,11 +6,12 @@ use Rattle.geo_base.specs.declared.layer.LayerKey.{LayerKey}
 use Rattle.geo_base.specs.declared.shapes.Rect.{Rect}
 use Rattle.geo_base.specs.declared.shapes.Square.{Square}
 use Rattle.flat_laws.proofs.Squares.{same_square}
-use Rattle.flat_layout.specs.Gates.{IsListed}
-use Rattle.flat_layout.specs.Layout.{Place, Layer, Cell, Some_of, IsOwn, IsPlaced, IsHeight, Leads, Takes, IsReached, InFlatInput}
+use Rattle.flat_layout.specs.Layout.{Place, Layer, Cell, Some_of, IsOwn, IsPlaced, Leads, Takes, IsReached, InFlatInput}
+use Rattle.flat_layout.specs.Order.{AreLevels}
 use Rattle.flat_layout.specs.Plane.{IsIn}
+use Rattle.plain_netlist.specs.Lists.{IsListed}
 use Rattle.flat_sample.proofs.Right.{none_some}
-use Rattle.flat_sample.specs.Sample.{sample_height}
+use Rattle.flat_sample.specs.Sample.{sample_level}
 use Rattle.flat_sample.specs.Transistors.{key_of, at, unit_rect, columns, rects_of, layers_of, child, mirror_place, parent, gate_design}
 
 pub only_at : {A : Type 0} (x y : A) (k : ℕ) → slice_get (x ∷ []) k ≡ Some y → (k ≡ 0) × (y ≡ x)
@@ -37,8 +38,18 @@ placed_here = (parent, refl, refl)
 pub no_place : (cell k : ℕ) (p : Place) → cell ≡ 0 → IsPlaced gate_design cell k p → ⊥
 no_place cell k p e placed = let f = (one_place cell k p placed).0 in absurd (omega arith)
 
-pub height : IsHeight gate_design sample_height
-height cell k p placed = let a = (one_place cell k p placed).0 in let b = lower_cell cell k p placed in omega arith
+pub levels : AreLevels gate_design sample_level
+levels = record {
+  lower = λ cell k p placed.
+      let down : sample_level 0 < sample_level 1 = omega arith in
+      subst (λ n. sample_level p.cell < sample_level n) (sym (one_place cell k p placed).0) (subst (λ n. sample_level n < sample_level 1) (sym (lower_cell cell k p placed)) down);
+  some = some;
+}
+  where
+    some : (cell : ℕ) → (sample_level cell ≡ 0) ⊎ ((k : ℕ) × (p : Place) × IsPlaced gate_design cell k p × (sample_level cell ≡ suc (sample_level p.cell)))
+    some zero = inl refl
+    some (suc zero) = inr (0, mirror_place, placed_here, refl)
+    some (suc (suc n)) = inl refl
 
 pub top_reached : IsReached gate_design 1
 top_reached = record { path = []; leads = refl }

@@ -1,12 +1,14 @@
 pub mod Right
+pub mod Listing
 pub mod Drawn
 pub mod Columns
 pub mod Sides
 pub mod Wires
 pub mod Lone
 pub mod Gated
-pub mod Listing
 pub mod Listed
+pub mod Pinned
 pub mod Planned
 pub mod Whole
 pub mod Terminals
+pub mod Wrong

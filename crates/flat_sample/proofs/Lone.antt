@@ -3,14 +3,19 @@ use Rattle.std.proofs.Common.{◌≡◌, ◌⊎◌, inl, inr, ℕ, zero, suc, �
 use Rattle.std.proofs.lemmas.Int.{ints}
 use Rattle.geo_base.specs.declared.shapes.Square.{Square}
 use Rattle.flat_laws.proofs.Squares.{same_square}
-use Rattle.flat_layout.specs.Gates.{IsStep, InGate, InSide, InOneGroup, Edge, IsBorder, IsWide, IsLong, IsListed, AreApart, AreGroups, IsForm}
+use Rattle.flat_layout.specs.Gates.{Geometry, geometry, IsStep, InGate, InSide, InOneGroup, Edge, IsBorder, IsWide, IsLong, AreGroups, IsGoodGate, IsSourceFirst, IsLeast}
+use Rattle.plain_netlist.specs.Lists.{IsListed, AreApart}
 use Rattle.flat_layout.specs.Layers.{Input, InFlat}
-use Rattle.flat_layout.specs.Plane.{SharesEdge, IsAround}
+use Rattle.flat_layout.specs.Plane.{SharesEdge, IsAround, IsSquareBefore}
 use Rattle.flat_sample.proofs.Columns.{one_column}
 use Rattle.flat_sample.proofs.Sides.{side_column, gates_odd}
 use Rattle.flat_sample.specs.Transistors.{key_of, at, gate_design, gate_wiring, rule}
 use Rattle.plain_netlist.proofs.Links.{stays}
 use Rattle.plain_netlist.specs.Chains.{Reaches, IsChain}
+
+-- what the rule's geometry reads
+abbrev pub geo : Geometry
+geo = geometry gate_wiring rule
 
 abbrev pub InG : ℕ → Square → Type 0
 InG cell = InFlat gate_design cell rule.gate
@@ -53,10 +58,10 @@ gates_apart cell p q g h e =
     ]
 
 -- a gate has one square
-pub gate_is : (cell : ℕ) (s q : Square) → InGate gate_design rule cell s q → s ≡ q
+pub gate_is : (cell : ℕ) (s q : Square) → InGate gate_design geo cell s q → s ≡ q
 gate_is cell s q h = alone (InG cell) (gates_apart cell) s q h.joined
 
-pub gate_self : (cell : ℕ) (s q : Square) → InG cell s → s ≡ q → InGate gate_design rule cell s q
+pub gate_self : (cell : ℕ) (s q : Square) → InG cell s → s ≡ q → InGate gate_design geo cell s q
 gate_self cell s q g e = record { from = g; joined = stays (IsStep (InG cell)) s q e }
 
 abbrev pub gate_at : ℕ → Square
@@ -104,10 +109,10 @@ one_of_three zero (suc n) a b = absurd (omega arith)
 one_of_three (suc k) (suc n) a b = elim (one_of_three k n (omega arith) (omega arith)) [ inl e ↦ inl (ap suc e) | inr f ↦ inr (elim f [ inl e ↦ inl (ap suc e) | inr e ↦ inr (ap suc e) ]) ]
 
 -- the ring's sides are those left and right
-ring_side : (cell m : ℕ) (q : Square) → InG cell (gate_at m) → InSide gate_design rule cell (gate_at m) q → (q ≡ left_at m) ⊎ (q ≡ right_at m)
+ring_side : (cell m : ℕ) (q : Square) → InG cell (gate_at m) → InSide gate_design gate_wiring rule cell (gate_at m) q → (q ≡ left_at m) ⊎ (q ≡ right_at m)
 ring_side cell m q gate h =
     let close = h.ring.close in
-    let e = gate_is cell (gate_at m) close.square close.in_gate in
+    let e = gate_is cell (gate_at m) close.square close.in_part in
     let near : IsAround (gate_at m) q = subst (λ k. IsAround k q) (sym e) close.around in
     let c = side_column cell q h.sd in
     let x = ap (λ (k : Square). k.x) c.1 in
@@ -118,7 +123,7 @@ ring_side cell m q gate h =
       | inr f ↦ elim f [ inl g ↦ absurd (h.sd.1 (subst (InFlat gate_design cell (Input (key_of 1))) (sym (c.1 ∙ ap at g)) gate.1)) | inr g ↦ inr (c.1 ∙ ap at g) ]
     ]
 
-ring_apart : (cell m : ℕ) (p q : Square) → InG cell (gate_at m) → InSide gate_design rule cell (gate_at m) p → InSide gate_design rule cell (gate_at m) q → SharesEdge p q → ⊥
+ring_apart : (cell m : ℕ) (p q : Square) → InG cell (gate_at m) → InSide gate_design gate_wiring rule cell (gate_at m) p → InSide gate_design gate_wiring rule cell (gate_at m) q → SharesEdge p q → ⊥
 ring_apart cell m p q gate g h e =
     let n = m + m in
     elim (ring_side cell m p gate g) [
@@ -127,20 +132,20 @@ ring_apart cell m p q gate g h e =
     ]
 
 -- so a group has one square too
-group_is : (cell m : ℕ) (a b : Square) → InG cell (gate_at m) → InOneGroup gate_design rule cell (gate_at m) a b → a ≡ b
-group_is cell m a b gate h = alone (InSide gate_design rule cell (gate_at m)) (λ p q x y e. ring_apart cell m p q gate x y e) a b h
+pub group_is : (cell m : ℕ) (a b : Square) → InG cell (gate_at m) → InOneGroup gate_design gate_wiring rule cell (gate_at m) a b → a ≡ b
+group_is cell m a b gate h = alone (InSide gate_design gate_wiring rule cell (gate_at m)) (λ p q x y e. ring_apart cell m p q gate x y e) a b h
 
-pub group_self : (cell : ℕ) (s a : Square) → InOneGroup gate_design rule cell s a a
-group_self cell s a = stays (IsStep (InSide gate_design rule cell s)) a a refl
+pub group_self : (cell : ℕ) (s a : Square) → InOneGroup gate_design gate_wiring rule cell s a a
+group_self cell s a = stays (IsStep (InSide gate_design gate_wiring rule cell s)) a a refl
 
 module _ (cell m : ℕ) (gate : InG cell (gate_at m)) (left : InS cell (left_at m)) (right : InS cell (right_at m)) where
   abbrev Wide : Edge → Type 0
-  Wide = IsWide gate_design rule cell (gate_at m)
+  Wide = IsWide gate_design gate_wiring rule cell (gate_at m)
 
   abbrev Long : Edge → Type 0
-  Long = IsLong gate_design rule cell (gate_at m)
+  Long = IsLong gate_design gate_wiring rule cell (gate_at m)
 
-  border : (q : Square) → (gate_at m ≡ q → ⊥) → SharesEdge (gate_at m) q → IsBorder gate_design rule cell (gate_at m) (edge_to m q)
+  border : (q : Square) → (gate_at m ≡ q → ⊥) → SharesEdge (gate_at m) q → IsBorder gate_design gate_wiring rule cell (gate_at m) (edge_to m q)
   border q other edge = record { inside = gate_self cell (gate_at m) (gate_at m) gate refl; outside = λ h. other (gate_is cell (gate_at m) q h); edge = edge }
 
   wide_left : Wide (edge_to m (left_at m))
@@ -167,7 +172,7 @@ module _ (cell m : ℕ) (gate : InG cell (gate_at m)) (left : InS cell (left_at 
   abbrev ends : List Edge
   ends = edge_to m (up_at m) ∷ (edge_to m (down_at m) ∷ [])
 
-  outward : (e : Edge) → IsBorder gate_design rule cell (gate_at m) e → (gate_at m ≡ e.inner) × IsBeside m e.outer
+  outward : (e : Edge) → IsBorder gate_design gate_wiring rule cell (gate_at m) e → (gate_at m ≡ e.inner) × IsBeside m e.outer
   outward e b = let g = gate_is cell (gate_at m) e.inner b.inside in (g, beside m e.outer (subst (λ k. SharesEdge k e.outer) (sym g) b.edge))
 
   side_of : (e : Edge) → gate_at m ≡ e.inner → IsBeside m e.outer → InS cell e.outer → IsListed e sides
@@ -219,7 +224,7 @@ module _ (cell m : ℕ) (gate : InG cell (gate_at m)) (left : InS cell (left_at 
   one_side a b (inr (inl e)) (inr (inr n)) g = absurd n
   one_side a b (inr (inr n)) l g = absurd n
 
-  groups : AreGroups gate_design rule cell (gate_at m) sides
+  groups : AreGroups gate_design gate_wiring rule cell (gate_at m) sides
   groups = record {
     each = listed_wide;
     found = λ a h. (a, wide_listed a h, group_self cell (gate_at m) a.outer);
@@ -227,12 +232,12 @@ module _ (cell m : ℕ) (gate : InG cell (gate_at m)) (left : InS cell (left_at 
     apart = sides_apart_here;
   }
 
-  end_on : (q : Square) → InOneGroup gate_design rule cell (gate_at m) (left_at m) q ⊎ InOneGroup gate_design rule cell (gate_at m) (right_at m) q → InS cell q
+  end_on : (q : Square) → InOneGroup gate_design gate_wiring rule cell (gate_at m) (left_at m) q ⊎ InOneGroup gate_design gate_wiring rule cell (gate_at m) (right_at m) q → InS cell q
   end_on q (inl h) = subst (InS cell) (group_is cell m (left_at m) q gate h) left
   end_on q (inr h) = subst (InS cell) (group_is cell m (right_at m) q gate h) right
 
   -- two edges wide, two long
-  pub form : IsForm gate_design gate_wiring rule cell (gate_at m) (edge_to m (left_at m)) (edge_to m (right_at m)) 2 2
+  pub form : IsGoodGate gate_design gate_wiring rule cell (gate_at m) (edge_to m (left_at m)) (edge_to m (right_at m)) 2 2
   form = record {
     groups = groups;
     wide = record { all = sides; apart = sides_apart_here; each = λ a. (wide_listed a, listed_wide a); count = refl };
@@ -242,3 +247,11 @@ module _ (cell m : ℕ) (gate : InG cell (gate_at m)) (left : InS cell (left_at 
     ends_on = end_on;
     bulk_on = λ e. absurd (let z : ⊥ = cc in z);
   }
+
+  -- the source is the side on the left
+  pub first : IsSourceFirst gate_design gate_wiring rule cell (gate_at m) (edge_to m (left_at m)) (edge_to m (right_at m))
+  first = (left_at m, group_self cell (gate_at m) (left_at m), λ q h. subst (λ k. IsSquareBefore (left_at m) k) (group_is cell m (right_at m) q gate h) (inr (refl, omega (arith, ints))))
+
+  -- and the one square is the least
+  pub least : IsLeast (InGate gate_design geo cell (gate_at m)) (gate_at m)
+  least = record { has = gate_self cell (gate_at m) (gate_at m) gate refl; least = λ q h. inl (gate_is cell (gate_at m) q h) }

@@ -1,311 +1,335 @@
 -- The tables of pins, drawn nets and circuits of the design with transistors are right.
-use Rattle.std.proofs.Common.{◌≡◌, ◌⊎◌, ◌↔◌, inl, inr, ℕ, zero, suc, ◌<◌, true, false, List, [], ◌∷◌, Option, Some, None, slice_get, refl, sym, ◌∙◌, ap, subst, arith}
+use Rattle.std.proofs.Common.{◌≡◌, ◌⊎◌, ◌↔◌, inl, inr, ℕ, zero, suc, ◌<◌, true, List, [], ◌∷◌, Some, None, slice_get, refl, sym, ◌∙◌, ap, subst, arith}
+use Rattle.std.specs.Prelude.{decimal}
+use Rattle.std.proofs.lemmas.Fmt.{decimal_digit}
 use Rattle.std.proofs.lemmas.Option.{same_Some}
-use Rattle.flat_layout.specs.Circuits.{IsPinNet, IsDrawn, IsNetOf, HasGate, IsUsed, IsMarked, IsMarkedNet, IsUsedAbove, IsDrawnBelow, IsRow, IsCallOf, IsCircuitOf, ArePlanned}
-use Rattle.flat_layout.specs.Layout.{Place, IsPlaced}
-use Rattle.flat_layout.specs.Nets.{Item, Child, Global, IsOf, NetHolds}
-use Rattle.flat_layout.specs.Regions.{Node, At, Ground}
-use Rattle.flat_sample.proofs.Columns.{only_at, one_place, lower_cell, placed_here, no_place, reached_two, top_reached}
+use Rattle.flat_layout.specs.Circuits.{AreCircuitCells, AreDrawn, HasCircuit, IsCallOf, IsCircuitOf, IsDeviceOfGate, IsDrawn, IsNetlistOf, drawn_names}
+use Rattle.flat_layout.specs.GateTables.{terminal_net}
+use Rattle.flat_layout.specs.Layout.{Place, Text, IsPlaced, IsReached}
+use Rattle.flat_layout.specs.Nets.{Child, Global, NetHolds}
+use Rattle.flat_layout.specs.Pins.{ArePins, IsBase, IsNetOf, IsTag}
+use Rattle.flat_layout.specs.Regions.{At, Ground}
+use Rattle.flat_sample.proofs.Columns.{only_at, one_place, placed_here, no_place, reached_two, top_reached}
 use Rattle.flat_sample.proofs.Listing.{each_at}
+use Rattle.flat_sample.proofs.Pinned.{IsMarkable, drain_holds, drain_on, drawn_from, drawn_gate, gate_drawn, global_net, good, not_true, only_text, pins, text_net}
 use Rattle.flat_sample.proofs.Right.{none_some}
-use Rattle.flat_sample.proofs.Wires.{node_of, net_at, net_node, net_has}
-use Rattle.flat_sample.specs.Transistors.{mirror_place, gate_design, gate_wiring, nets_of, gate_tables, row_on, drawing_of, number_of, gate_plan, child_circuit, parent_circuit, gate_netlist}
-use Rattle.plain_netlist.specs.Netlist.{Pole, Source, Gate, Drain, Bulk, DeviceRow, on, CallRow, Circuit, IsCircuit}
+use Rattle.flat_sample.proofs.Wires.{net_at, net_has}
+use Rattle.flat_sample.specs.Sample.{sample_level}
+use Rattle.flat_sample.specs.Transistors.{at, drain_text, big_d, mirror_place, gate_design, gate_wiring, gate_tables, vss, gate_rules, rule, child_gate, across_gate, gates_of, pins_of, drawn_of, parts_of, row_on, dollar, big_vss, child_circuit, parent_circuit, gate_netlist}
+use Rattle.plain_netlist.specs.Lists.{AreApart, IsListed}
+use Rattle.plain_netlist.proofs.Listing.{at_apart}
+use Rattle.plain_netlist.specs.Netlist.{Pole, Source, Gate, Drain, Bulk, on, CallRow, Circuit, IsCircuit}
 
-not_true : {B : Type 0} → Some false ≡ Some true → B
-not_true e = absurd (let z : ⊥ = cc in z)
+-- tags are the global's name, and the parent's text
+abbrev IsKnownTag : ℕ → ℕ → List ℕ → Type 0
+IsKnownTag cell x s = ((x ≡ net_at cell None) × (s ≡ vss)) ⊎ ((cell ≡ 1) × (x ≡ 3) × (s ≡ drain_text.string))
 
--- a gate's terminals are drawn
-gate_drawn : (cell x : ℕ) → HasGate gate_plan cell x → IsDrawn gate_plan cell x
-gate_drawn zero x (i, row, e, pole, f) = of_pole pole (ap (on pole) (sym (only_at (row_on 0 2 1 3) row i e).1) ∙ f)
+tag_at : (cell x : ℕ) (s : List ℕ) → cell < 2 → IsTag gate_design gate_wiring gate_tables cell x s → IsKnownTag cell x s
+tag_at cell x s lt (At c q, holds, (text, on, is)) =
+    let r = text_net cell c x q text lt holds on in
+    inr (r.0, r.1, sym is ∙ ap (λ (t : Text). t.string) (only_text cell text on.has).1)
+tag_at cell x s lt (Ground g, holds, tag) = inl (global_net cell x g lt holds, (only_at vss s g tag).1)
+
+no_tag : (cell x : ℕ) → cell < 2 → (IsMarkable cell x → ⊥) → IsBase gate_design gate_wiring gate_tables cell x []
+no_tag cell x lt not = record { tags = []; each = λ s. ((λ n. absurd n), (λ h. absurd (elim (tag_at cell x s lt h) [ inl k ↦ not (inl k.0) | inr (one, three, is) ↦ not (inr (one, three)) ]))); rising = tt; joined = refl }
+
+-- a net with one tag
+one_tag : (cell x : ℕ) (tag : List ℕ) → IsTag gate_design gate_wiring gate_tables cell x tag → ((s : List ℕ) → IsTag gate_design gate_wiring gate_tables cell x s → s ≡ tag) → IsBase gate_design gate_wiring gate_tables cell x tag
+one_tag cell x tag there only = record {
+  tags = tag ∷ [];
+  each = λ s. (
+    (λ l. elim l [ inl e ↦ subst (IsTag gate_design gate_wiring gate_tables cell x) (sym e) there | inr n ↦ absurd n ]),
+    (λ h. inl (only s h)),
+  );
+  rising = ((λ y n. absurd n), tt);
+  joined = refl;
+}
+
+global_tag : (cell x : ℕ) → cell < 2 → (x ≡ 3 → cell ≡ 1 → ⊥) → NetHolds gate_design gate_tables cell x (Ground 0) → IsBase gate_design gate_wiring gate_tables cell x vss
+global_tag cell x lt not holds = one_tag cell x vss (Ground 0, holds, refl) (λ s h. elim (tag_at cell x s lt h) [ inl k ↦ k.1 | inr (one, three, is) ↦ absurd (not three one) ])
+
+text_tag : IsBase gate_design gate_wiring gate_tables 1 3 drain_text.string
+text_tag = one_tag 1 3 drain_text.string (At 0 (at 2), drain_holds, (drain_text, drain_on, refl)) (λ s h. elim (tag_at 1 3 s (omega arith) h) [ inl k ↦ (let e = k.0 in absurd (omega arith)) | inr k ↦ k.2 ])
+
+child_names : (b : ℕ) (base : List ℕ) → slice_get (pins_of 0).names b ≡ Some base → IsBase gate_design gate_wiring gate_tables 0 b base
+child_names = each_at (IsBase gate_design gate_wiring gate_tables 0) (pins_of 0).names (
+  no_tag 0 0 (omega arith) (λ m. elim m [ inl e ↦ absurd (omega arith) | inr (e, f) ↦ absurd (omega arith) ]),
+  (
+    no_tag 0 1 (omega arith) (λ m. elim m [ inl e ↦ absurd (omega arith) | inr (e, f) ↦ absurd (omega arith) ]),
+    (
+      no_tag 0 2 (omega arith) (λ m. elim m [ inl e ↦ absurd (omega arith) | inr (e, f) ↦ absurd (omega arith) ]),
+      (global_tag 0 3 (omega arith) (λ e f. absurd (omega arith)) (net_has 0 3 3 (Global 0) None (record { listed = refl; numbered = refl }) refl), tt),
+    ),
+  ),
+)
+
+parent_names : (b : ℕ) (base : List ℕ) → slice_get (pins_of 1).names b ≡ Some base → IsBase gate_design gate_wiring gate_tables 1 b base
+parent_names = each_at (IsBase gate_design gate_wiring gate_tables 1) (pins_of 1).names (
+  no_tag 1 0 (omega arith) (λ m. elim m [ inl e ↦ absurd (omega arith) | inr (e, f) ↦ absurd (omega arith) ]),
+  (
+    no_tag 1 1 (omega arith) (λ m. elim m [ inl e ↦ absurd (omega arith) | inr (e, f) ↦ absurd (omega arith) ]),
+    (
+      no_tag 1 2 (omega arith) (λ m. elim m [ inl e ↦ absurd (omega arith) | inr (e, f) ↦ absurd (omega arith) ]),
+      (
+        text_tag,
+        (
+          no_tag 1 4 (omega arith) (λ m. elim m [ inl e ↦ absurd (omega arith) | inr (e, f) ↦ absurd (omega arith) ]),
+          (global_tag 1 5 (omega arith) (λ e f. absurd (omega arith)) (net_has 1 5 6 (Global 0) None (record { listed = refl; numbered = refl }) refl), tt),
+        ),
+      ),
+    ),
+  ),
+)
+
+pinned_at : (cell : ℕ) → cell < 2 → ArePins gate_design gate_wiring gate_tables gates_of pins_of cell (pins_of cell)
+pinned_at zero lt = record { count = refl; each = λ b small. pins 0 b small; named = refl; names = child_names }
+pinned_at (suc zero) lt = record { count = refl; each = λ b small. pins 1 b small; named = refl; names = parent_names }
+pinned_at (suc (suc n)) lt = absurd (omega arith)
+
+pub pinned : (cell : ℕ) → IsReached gate_design cell → ArePins gate_design gate_wiring gate_tables gates_of pins_of cell (pins_of cell)
+pinned cell reached = pinned_at cell (reached_two cell reached)
+
+drawn_at : (cell : ℕ) → cell < 2 → AreDrawn gate_design gate_tables gates_of pins_of drawn_of cell (drawn_of cell)
+drawn_at zero lt = record { count = refl; each = λ x small. ((λ h. inl (drawn_gate 0 x h)), (λ h. elim h [ inl g ↦ gate_drawn 0 x g | inr b ↦ drawn_from 0 x lt b ])) }
+drawn_at (suc zero) lt = record { count = refl; each = λ x small. ((λ h. inl (drawn_gate 1 x h)), (λ h. elim h [ inl g ↦ gate_drawn 1 x g | inr b ↦ drawn_from 1 x lt b ])) }
+drawn_at (suc (suc n)) lt = absurd (omega arith)
+
+pub drawn : (cell : ℕ) → IsReached gate_design cell → AreDrawn gate_design gate_tables gates_of pins_of drawn_of cell (drawn_of cell)
+drawn cell reached = drawn_at cell (reached_two cell reached)
+
+-- both cells have a circuit
+child_reached : IsReached gate_design 0
+child_reached = record { path = 0 ∷ []; leads = (mirror_place, placed_here, refl) }
+
+circuit_in : (cell : ℕ) → IsListed cell (0 ∷ (1 ∷ [])) → IsReached gate_design cell × HasCircuit gate_design gates_of cell
+circuit_in cell (inl e) = subst (λ k. IsReached gate_design k × HasCircuit gate_design gates_of k) (sym e) (child_reached, inr (0, ([], refl), good child_gate, inl refl))
+circuit_in cell (inr (inl e)) = subst (λ k. IsReached gate_design k × HasCircuit gate_design gates_of k) (sym e) (top_reached, inl refl)
+circuit_in cell (inr (inr n)) = absurd n
+
+in_circuit : (cell : ℕ) → cell < 2 → IsListed cell (0 ∷ (1 ∷ []))
+in_circuit zero lt = inl refl
+in_circuit (suc zero) lt = inr (inl refl)
+in_circuit (suc (suc n)) lt = absurd (omega arith)
+
+pub cells : AreCircuitCells gate_design sample_level gates_of (0 ∷ (1 ∷ []))
+cells = record {
+  each = λ cell. (circuit_in cell, λ h. in_circuit cell (reached_two cell h.0));
+  rising = ((λ y l. elim l [ inl e ↦ subst (λ k. (0 < sample_level k) ⊎ ((0 ≡ sample_level k) × (0 < k))) (sym e) (inl (omega arith)) | inr n ↦ absurd n ]), ((λ y n. absurd n), tt));
+}
+
+-- the names of the drawn nets
+abbrev four_names : List (List ℕ)
+four_names = dollar 49 ∷ (dollar 50 ∷ (dollar 51 ∷ (big_vss ∷ [])))
+
+abbrev parent_four : List (List ℕ)
+parent_four = dollar 49 ∷ (dollar 50 ∷ (big_d ∷ (big_vss ∷ [])))
+
+child_names_are : drawn_names (pins_of 0) (drawn_of 0) ≡ four_names
+child_names_are = by_digits
   where
-    of_pole : (pole : Pole) → on pole (row_on 0 2 1 3) ≡ x → IsDrawn gate_plan 0 x
-    of_pole Source e = subst (IsDrawn gate_plan 0) e refl
-    of_pole Gate e = subst (IsDrawn gate_plan 0) e refl
-    of_pole Drain e = subst (IsDrawn gate_plan 0) e refl
-    of_pole Bulk e = subst (IsDrawn gate_plan 0) e refl
-gate_drawn (suc zero) x (i, row, e, pole, f) = of_pole pole (ap (on pole) (sym (only_at (row_on 0 1 3 5) row i e).1) ∙ f)
+    by_digits : (36 ∷ decimal 1) ∷ ((36 ∷ decimal 2) ∷ ((36 ∷ decimal 3) ∷ (big_vss ∷ []))) ≡ four_names
+    by_digits = ap (λ (t : List ℕ). (36 ∷ t) ∷ ((36 ∷ decimal 2) ∷ ((36 ∷ decimal 3) ∷ (big_vss ∷ [])))) (decimal_digit 1 (omega arith))
+        ∙ ap (λ (t : List ℕ). dollar 49 ∷ ((36 ∷ t) ∷ ((36 ∷ decimal 3) ∷ (big_vss ∷ [])))) (decimal_digit 2 (omega arith))
+        ∙ ap (λ (t : List ℕ). dollar 49 ∷ (dollar 50 ∷ ((36 ∷ t) ∷ (big_vss ∷ [])))) (decimal_digit 3 (omega arith))
+
+parent_names_are : drawn_names (pins_of 1) (drawn_of 1) ≡ parent_four
+parent_names_are = by_digits
   where
-    of_pole : (pole : Pole) → on pole (row_on 0 1 3 5) ≡ x → IsDrawn gate_plan 1 x
-    of_pole Source e = subst (IsDrawn gate_plan 1) e refl
-    of_pole Gate e = subst (IsDrawn gate_plan 1) e refl
-    of_pole Drain e = subst (IsDrawn gate_plan 1) e refl
-    of_pole Bulk e = subst (IsDrawn gate_plan 1) e refl
-gate_drawn (suc (suc n)) x (i, row, e, pole, f) = none_some row e
+    by_digits : (36 ∷ decimal 1) ∷ ((36 ∷ decimal 2) ∷ (big_d ∷ (big_vss ∷ []))) ≡ parent_four
+    by_digits = ap (λ (t : List ℕ). (36 ∷ t) ∷ ((36 ∷ decimal 2) ∷ (big_d ∷ (big_vss ∷ [])))) (decimal_digit 1 (omega arith))
+        ∙ ap (λ (t : List ℕ). dollar 49 ∷ ((36 ∷ t) ∷ (big_d ∷ (big_vss ∷ [])))) (decimal_digit 2 (omega arith))
 
-drawn_gate : (cell x : ℕ) → IsDrawn gate_plan cell x → HasGate gate_plan cell x
-drawn_gate zero zero h = (0, row_on 0 2 1 3, refl, Source, refl)
-drawn_gate zero (suc zero) h = (0, row_on 0 2 1 3, refl, Drain, refl)
-drawn_gate zero (suc (suc zero)) h = (0, row_on 0 2 1 3, refl, Gate, refl)
-drawn_gate zero (suc (suc (suc zero))) h = (0, row_on 0 2 1 3, refl, Bulk, refl)
-drawn_gate zero (suc (suc (suc (suc x)))) h = none_some true h
-drawn_gate (suc zero) zero h = (0, row_on 0 1 3 5, refl, Source, refl)
-drawn_gate (suc zero) (suc zero) h = (0, row_on 0 1 3 5, refl, Gate, refl)
-drawn_gate (suc zero) (suc (suc zero)) h = not_true h
-drawn_gate (suc zero) (suc (suc (suc zero))) h = (0, row_on 0 1 3 5, refl, Drain, refl)
-drawn_gate (suc zero) (suc (suc (suc (suc zero)))) h = not_true h
-drawn_gate (suc zero) (suc (suc (suc (suc (suc zero))))) h = (0, row_on 0 1 3 5, refl, Bulk, refl)
-drawn_gate (suc zero) (suc (suc (suc (suc (suc (suc x)))))) h = none_some true h
-drawn_gate (suc (suc n)) x h = none_some true h
+-- where the nets of a circuit stand in it
+abbrev child_spot : ℕ → ℕ
+child_spot zero = 3
+child_spot (suc zero) = 0
+child_spot (suc (suc zero)) = 2
+child_spot (suc (suc (suc x))) = 1
 
--- the parent's net of each net of the child
-abbrev above : List ℕ
-above = 2 ∷ (3 ∷ (4 ∷ (5 ∷ [])))
-
-child_net : (k b i x : ℕ) → IsOf (nets_of 1) x i (Child k b) → slice_get above b ≡ Some x
-child_net k b zero x h = let e = h.listed in absurd (let z : ⊥ = cc in z)
-child_net k b (suc zero) x h = let e = h.listed in absurd (let z : ⊥ = cc in z)
-child_net k b (suc (suc zero)) x h = let e = h.listed in let f : 0 ≡ b = cc in subst (λ j. slice_get above j ≡ Some x) f h.numbered
-child_net k b (suc (suc (suc zero))) x h = let e = h.listed in let f : 1 ≡ b = cc in subst (λ j. slice_get above j ≡ Some x) f h.numbered
-child_net k b (suc (suc (suc (suc zero)))) x h = let e = h.listed in let f : 2 ≡ b = cc in subst (λ j. slice_get above j ≡ Some x) f h.numbered
-child_net k b (suc (suc (suc (suc (suc zero))))) x h = let e = h.listed in let f : 3 ≡ b = cc in subst (λ j. slice_get above j ≡ Some x) f h.numbered
-child_net k b (suc (suc (suc (suc (suc (suc zero)))))) x h = let e = h.listed in absurd (let z : ⊥ = cc in z)
-child_net k b (suc (suc (suc (suc (suc (suc (suc i))))))) x h = none_some (Child k b) h.listed
-
-below_drawn : (u x : ℕ) → slice_get above u ≡ Some x → IsPinNet gate_plan 0 u → IsDrawn gate_plan 0 u → IsDrawn gate_plan 1 x
-below_drawn zero x e pin drawn = not_true pin
-below_drawn (suc zero) x e pin drawn = subst (IsDrawn gate_plan 1) (same_Some _ _ e) refl
-below_drawn (suc (suc zero)) x e pin drawn = not_true pin
-below_drawn (suc (suc (suc zero))) x e pin drawn = subst (IsDrawn gate_plan 1) (same_Some _ _ e) refl
-below_drawn (suc (suc (suc (suc u)))) x e pin drawn = none_some x e
-
-drawn_from : (cell x : ℕ) → cell < 2 → IsDrawnBelow gate_design gate_tables gate_plan cell x → IsDrawn gate_plan cell x
-drawn_from zero x lt h = absurd (no_place 0 h.number h.place refl h.placed)
-drawn_from (suc zero) x lt h =
-    let low = lower_cell 1 h.number h.place h.placed in
-    below_drawn h.net x (child_net h.number h.net h.is_of.0 x h.is_of.1) (subst (λ k. IsPinNet gate_plan k h.net) low h.pin) (subst (λ k. IsDrawn gate_plan k h.net) low h.drawn)
-drawn_from (suc (suc n)) x lt h = absurd (omega arith)
-
--- only a net with the global is marked
-marked_at : (cell x : ℕ) (n : Node) → cell < 2 → NetHolds gate_design gate_tables cell x n → IsMarked gate_design gate_wiring cell n → x ≡ net_at cell None
-marked_at cell x (At c q) lt h m = absurd m.line
-marked_at cell x (Ground g) lt h m = let s = net_node cell x (Ground g) lt h in of_node s.0 s.1 s.2
-  where
-    of_node : (s : Option ℕ) → Ground g ≡ node_of s → x ≡ net_at cell s → x ≡ net_at cell None
-    of_node None e f = f
-    of_node (Some y) e f = absurd (let z : ⊥ = cc in z)
-
-marked_net : (cell x : ℕ) → cell < 2 → IsMarkedNet gate_design gate_wiring gate_tables gate_plan cell x → x ≡ net_at cell None
-marked_net cell x lt h = marked_at cell x h.node lt h.holds h.marked
-
--- the nets of the child's first transistor alone have one item in the parent
-one_item : (x i : ℕ) (a : Item) → IsOf (nets_of 1) x i a → (x ≡ 2 → a ≡ Child 0 0) × (x ≡ 4 → a ≡ Child 0 2)
-one_item x zero a h = let f : 0 ≡ x = same_Some _ _ h.numbered in ((λ e. absurd (omega arith)), (λ e. absurd (omega arith)))
-one_item x (suc zero) a h = let f : 1 ≡ x = same_Some _ _ h.numbered in ((λ e. absurd (omega arith)), (λ e. absurd (omega arith)))
-one_item x (suc (suc zero)) a h = let f : 2 ≡ x = same_Some _ _ h.numbered in ((λ e. sym (same_Some _ _ h.listed)), (λ e. absurd (omega arith)))
-one_item x (suc (suc (suc zero))) a h = let f : 3 ≡ x = same_Some _ _ h.numbered in ((λ e. absurd (omega arith)), (λ e. absurd (omega arith)))
-one_item x (suc (suc (suc (suc zero)))) a h = let f : 4 ≡ x = same_Some _ _ h.numbered in ((λ e. absurd (omega arith)), (λ e. sym (same_Some _ _ h.listed)))
-one_item x (suc (suc (suc (suc (suc zero))))) a h = let f : 5 ≡ x = same_Some _ _ h.numbered in ((λ e. absurd (omega arith)), (λ e. absurd (omega arith)))
-one_item x (suc (suc (suc (suc (suc (suc zero)))))) a h = let f : 5 ≡ x = same_Some _ _ h.numbered in ((λ e. absurd (omega arith)), (λ e. absurd (omega arith)))
-one_item x (suc (suc (suc (suc (suc (suc (suc i))))))) a h = none_some a h.listed
-
-unused_side : IsUsed gate_tables gate_plan 1 (Child 0 0) 2 → ⊥
-unused_side (inl (other, differs, is)) = differs ((one_item 2 is.0 other is.1).0 refl)
-unused_side (inr (inl g)) = not_true (gate_drawn 1 2 g)
-unused_side (inr (inr pin)) = not_true pin
-
-unused_gate : IsUsed gate_tables gate_plan 1 (Child 0 2) 4 → ⊥
-unused_gate (inl (other, differs, is)) = differs ((one_item 4 is.0 other is.1).1 refl)
-unused_gate (inr (inl g)) = not_true (gate_drawn 1 4 g)
-unused_gate (inr (inr pin)) = not_true pin
-
--- what is used above is used by the one placement
-record IsUsedThere (b x : ℕ) : Type 0 where
-  net : slice_get above b ≡ Some x
-  used : IsUsed gate_tables gate_plan 1 (Child 0 b) x
-
-used_there : (b parent k x : ℕ) → parent ≡ 1 → k ≡ 0 → IsNetOf (nets_of parent) (Child k b) x → IsUsed gate_tables gate_plan parent (Child k b) x → IsUsedThere b x
-used_there b parent k x e f is used =
-    let is_one : IsNetOf (nets_of 1) (Child k b) x = subst (λ j. IsNetOf (nets_of j) (Child k b) x) e is in
-    record {
-      net = child_net k b is_one.0 x is_one.1;
-      used = subst (λ j. IsUsed gate_tables gate_plan 1 (Child j b) x) f (subst (λ j. IsUsed gate_tables gate_plan j (Child k b) x) e used);
-    }
-
-used_by : (b : ℕ) (h : IsUsedAbove gate_design gate_tables gate_plan 0 b) → IsUsedThere b h.net
-used_by b h = let one = one_place h.parent h.number h.place h.placed in used_there b h.parent h.number h.net one.0 one.1 h.is_of h.used
-
-side_unused : IsUsedAbove gate_design gate_tables gate_plan 0 0 → ⊥
-side_unused h = let u = used_by 0 h in let e : 2 ≡ h.net = same_Some _ _ u.net in unused_side (subst (λ j. IsUsed gate_tables gate_plan 1 (Child 0 0) j) (sym e) u.used)
-
-gate_unused : IsUsedAbove gate_design gate_tables gate_plan 0 2 → ⊥
-gate_unused h = let u = used_by 2 h in let e : 4 ≡ h.net = same_Some _ _ u.net in unused_gate (subst (λ j. IsUsed gate_tables gate_plan 1 (Child 0 2) j) (sym e) u.used)
-
-top_unused : (b : ℕ) → IsUsedAbove gate_design gate_tables gate_plan 1 b → ⊥
-top_unused b h = let low = lower_cell h.parent h.number h.place h.placed in let e = h.here in absurd (omega arith)
-
-used_side : IsUsedAbove gate_design gate_tables gate_plan 0 1
-used_side = record { parent = 1; number = 0; place = mirror_place; net = 3; reached = top_reached; placed = placed_here; here = refl; is_of = (3, record { listed = refl; numbered = refl }); used = inr (inl (0, row_on 0 1 3 5, refl, Drain, refl)) }
-
-child_marked : IsMarkedNet gate_design gate_wiring gate_tables gate_plan 0 3
-child_marked = record { node = Ground 0; holds = net_has 0 3 3 (Global 0) None (record { listed = refl; numbered = refl }) refl; marked = tt }
-
-top_marked : IsMarkedNet gate_design gate_wiring gate_tables gate_plan 1 5
-top_marked = record { node = Ground 0; holds = net_has 1 5 6 (Global 0) None (record { listed = refl; numbered = refl }) refl; marked = tt }
-
-abbrev IsWanted : ℕ → ℕ → Type 0
-IsWanted cell b = IsMarkedNet gate_design gate_wiring gate_tables gate_plan cell b ⊎ IsUsedAbove gate_design gate_tables gate_plan cell b
-
-top_plain : (b : ℕ) → b < 5 → IsWanted 1 b → ⊥
-top_plain b lt (inl m) = let e = marked_net 1 b (omega arith) m in absurd (omega arith)
-top_plain b lt (inr u) = top_unused b u
-
-side_plain : IsWanted 0 0 → ⊥
-side_plain (inl m) = let e = marked_net 0 0 (omega arith) m in absurd (omega arith)
-side_plain (inr u) = side_unused u
-
-gate_plain : IsWanted 0 2 → ⊥
-gate_plain (inl m) = let e = marked_net 0 2 (omega arith) m in absurd (omega arith)
-gate_plain (inr u) = gate_unused u
-
-pins : (cell b : ℕ) → b < (gate_tables.nets cell).count → IsPinNet gate_plan cell b ↔ IsWanted cell b
-pins zero zero lt = ((λ h. not_true h), (λ h. absurd (side_plain h)))
-pins zero (suc zero) lt = ((λ h. inr used_side), (λ h. refl))
-pins zero (suc (suc zero)) lt = ((λ h. not_true h), (λ h. absurd (gate_plain h)))
-pins zero (suc (suc (suc zero))) lt = ((λ h. inl child_marked), (λ h. refl))
-pins zero (suc (suc (suc (suc b)))) lt = absurd (omega arith)
-pins (suc zero) zero lt = ((λ h. not_true h), (λ h. absurd (top_plain 0 (omega arith) h)))
-pins (suc zero) (suc zero) lt = ((λ h. not_true h), (λ h. absurd (top_plain 1 (omega arith) h)))
-pins (suc zero) (suc (suc zero)) lt = ((λ h. not_true h), (λ h. absurd (top_plain 2 (omega arith) h)))
-pins (suc zero) (suc (suc (suc zero))) lt = ((λ h. not_true h), (λ h. absurd (top_plain 3 (omega arith) h)))
-pins (suc zero) (suc (suc (suc (suc zero)))) lt = ((λ h. not_true h), (λ h. absurd (top_plain 4 (omega arith) h)))
-pins (suc zero) (suc (suc (suc (suc (suc zero))))) lt = ((λ h. inl top_marked), (λ h. refl))
-pins (suc zero) (suc (suc (suc (suc (suc (suc b)))))) lt = absurd (omega arith)
-pins (suc (suc n)) b lt = absurd (omega arith)
-
--- the net of the parent's circuit that is net x of the parent
 abbrev parent_spot : ℕ → ℕ
-parent_spot zero = 0
-parent_spot (suc zero) = 1
-parent_spot (suc (suc zero)) = 2
-parent_spot (suc (suc (suc zero))) = 2
-parent_spot (suc (suc (suc (suc x)))) = 3
+parent_spot zero = 3
+parent_spot (suc zero) = 2
+parent_spot (suc (suc zero)) = 1
+parent_spot (suc (suc (suc zero))) = 0
+parent_spot (suc (suc (suc (suc x)))) = 1
+
+-- and among the drawn nets
+abbrev parent_order : ℕ → ℕ
+parent_order zero = 0
+parent_order (suc zero) = 1
+parent_order (suc (suc zero)) = 2
+parent_order (suc (suc (suc zero))) = 2
+parent_order (suc (suc (suc (suc x)))) = 3
 
 abbrev child_nets : List ℕ
-child_nets = (drawing_of 0).nets
+child_nets = 1 ∷ (3 ∷ (2 ∷ (0 ∷ [])))
 
 abbrev parent_nets : List ℕ
-parent_nets = (drawing_of 1).nets
+parent_nets = 3 ∷ (5 ∷ (1 ∷ (0 ∷ [])))
 
-child_found : (x : ℕ) → IsDrawn gate_plan 0 x → (a : ℕ) × (slice_get child_nets a ≡ Some x)
-child_found zero h = (0, refl)
-child_found (suc zero) h = (1, refl)
-child_found (suc (suc zero)) h = (2, refl)
-child_found (suc (suc (suc zero))) h = (3, refl)
-child_found (suc (suc (suc (suc x)))) h = none_some true h
+child_apart : AreApart child_nets
+child_apart = at_apart child_nets (λ i j a e f. spot i a e ∙ sym (spot j a f))
+  where
+    spot : (i a : ℕ) → slice_get child_nets i ≡ Some a → i ≡ child_spot a
+    spot = each_at (λ i a. i ≡ child_spot a) child_nets (refl, (refl, (refl, (refl, tt))))
 
-parent_found : (x : ℕ) → IsDrawn gate_plan 1 x → (a : ℕ) × (slice_get parent_nets a ≡ Some x)
-parent_found zero h = (0, refl)
-parent_found (suc zero) h = (1, refl)
-parent_found (suc (suc zero)) h = not_true h
-parent_found (suc (suc (suc zero))) h = (2, refl)
-parent_found (suc (suc (suc (suc zero)))) h = not_true h
-parent_found (suc (suc (suc (suc (suc zero))))) h = (3, refl)
-parent_found (suc (suc (suc (suc (suc (suc x)))))) h = none_some true h
+parent_apart : AreApart parent_nets
+parent_apart = at_apart parent_nets (λ i j a e f. spot i a e ∙ sym (spot j a f))
+  where
+    spot : (i a : ℕ) → slice_get parent_nets i ≡ Some a → i ≡ parent_spot a
+    spot = each_at (λ i a. i ≡ parent_spot a) parent_nets (refl, (refl, (refl, (refl, tt))))
 
-child_poles : (pole : Pole) → slice_get child_nets (on pole (row_on 0 2 1 3)) ≡ Some (on pole (row_on 0 2 1 3))
+child_drawn : (x : ℕ) → IsListed x child_nets ↔ IsDrawn drawn_of 0 x
+child_drawn x = (of_list, of_drawn x)
+  where
+    of_list : IsListed x child_nets → IsDrawn drawn_of 0 x
+    of_list (inl e) = subst (IsDrawn drawn_of 0) (sym e) refl
+    of_list (inr (inl e)) = subst (IsDrawn drawn_of 0) (sym e) refl
+    of_list (inr (inr (inl e))) = subst (IsDrawn drawn_of 0) (sym e) refl
+    of_list (inr (inr (inr (inl e)))) = subst (IsDrawn drawn_of 0) (sym e) refl
+    of_list (inr (inr (inr (inr n)))) = absurd n
+
+    of_drawn : (y : ℕ) → IsDrawn drawn_of 0 y → IsListed y child_nets
+    of_drawn zero h = inr (inr (inr (inl refl)))
+    of_drawn (suc zero) h = inl refl
+    of_drawn (suc (suc zero)) h = inr (inr (inl refl))
+    of_drawn (suc (suc (suc zero))) h = inr (inl refl)
+    of_drawn (suc (suc (suc (suc y)))) h = none_some true h
+
+parent_drawn : (x : ℕ) → IsListed x parent_nets ↔ IsDrawn drawn_of 1 x
+parent_drawn x = (of_list, of_drawn x)
+  where
+    of_list : IsListed x parent_nets → IsDrawn drawn_of 1 x
+    of_list (inl e) = subst (IsDrawn drawn_of 1) (sym e) refl
+    of_list (inr (inl e)) = subst (IsDrawn drawn_of 1) (sym e) refl
+    of_list (inr (inr (inl e))) = subst (IsDrawn drawn_of 1) (sym e) refl
+    of_list (inr (inr (inr (inl e)))) = subst (IsDrawn drawn_of 1) (sym e) refl
+    of_list (inr (inr (inr (inr n)))) = absurd n
+
+    of_drawn : (y : ℕ) → IsDrawn drawn_of 1 y → IsListed y parent_nets
+    of_drawn zero h = inr (inr (inr (inl refl)))
+    of_drawn (suc zero) h = inr (inr (inl refl))
+    of_drawn (suc (suc zero)) h = not_true h
+    of_drawn (suc (suc (suc zero))) h = inl refl
+    of_drawn (suc (suc (suc (suc zero)))) h = not_true h
+    of_drawn (suc (suc (suc (suc (suc zero))))) h = inr (inl refl)
+    of_drawn (suc (suc (suc (suc (suc (suc y)))))) h = none_some true h
+
+child_named : (a k x : ℕ) → slice_get child_nets a ≡ Some x → slice_get (0 ∷ (1 ∷ (2 ∷ (3 ∷ [])))) k ≡ Some x → slice_get child_circuit.nets a ≡ slice_get (drawn_names (pins_of 0) (drawn_of 0)) k
+child_named a k x e f =
+    let spot : k ≡ x = each_at (λ i y. i ≡ y) (0 ∷ (1 ∷ (2 ∷ (3 ∷ [])))) (refl, (refl, (refl, (refl, tt)))) k x f in
+    each_at (λ i y. slice_get child_circuit.nets i ≡ slice_get four_names y) child_nets (refl, (refl, (refl, (refl, tt)))) a x e
+    ∙ ap (slice_get four_names) (sym spot) ∙ ap (λ (l : List (List ℕ)). slice_get l k) (sym child_names_are)
+
+parent_named : (a k x : ℕ) → slice_get parent_nets a ≡ Some x → slice_get (0 ∷ (1 ∷ (3 ∷ (5 ∷ [])))) k ≡ Some x → slice_get parent_circuit.nets a ≡ slice_get (drawn_names (pins_of 1) (drawn_of 1)) k
+parent_named a k x e f =
+    let spot : k ≡ parent_order x = each_at (λ i y. i ≡ parent_order y) (0 ∷ (1 ∷ (3 ∷ (5 ∷ [])))) (refl, (refl, (refl, (refl, tt)))) k x f in
+    each_at (λ i y. slice_get parent_circuit.nets i ≡ slice_get parent_four (parent_order y)) parent_nets (refl, (refl, (refl, (refl, tt)))) a x e
+    ∙ ap (slice_get parent_four) (sym spot) ∙ ap (λ (l : List (List ℕ)). slice_get l k) (sym parent_names_are)
+
+child_poles : (pole : Pole) → slice_get child_nets (on pole (row_on 3 2 0 1)) ≡ Some (terminal_net pole child_gate)
 child_poles Source = refl
 child_poles Gate = refl
 child_poles Drain = refl
 child_poles Bulk = refl
 
-parent_poles : (pole : Pole) → slice_get parent_nets (on pole (row_on 0 1 2 3)) ≡ Some (on pole (row_on 0 1 3 5))
+parent_poles : (pole : Pole) → slice_get parent_nets (on pole (row_on 3 2 0 1)) ≡ Some (terminal_net pole across_gate)
 parent_poles Source = refl
 parent_poles Gate = refl
 parent_poles Drain = refl
 parent_poles Bulk = refl
 
-child_row : IsRow child_nets (row_on 0 2 1 3) (row_on 0 2 1 3)
-child_row = record { class = refl; length = refl; width = refl; each = child_poles }
+child_row : IsDeviceOfGate gate_rules 1000 child_nets (good child_gate) (row_on 3 2 0 1)
+child_row = record { rule = rule; is = refl; class = refl; width = refl; length = refl; poles = child_poles }
 
-parent_row : IsRow parent_nets (row_on 0 1 3 5) (row_on 0 1 2 3)
-parent_row = record { class = refl; length = refl; width = refl; each = parent_poles }
+parent_row : IsDeviceOfGate gate_rules 1000 parent_nets (good across_gate) (row_on 3 2 0 1)
+parent_row = record { rule = rule; is = refl; class = refl; width = refl; length = refl; poles = parent_poles }
 
-child_right : IsCircuitOf gate_design gate_tables gate_plan gate_netlist 0 child_circuit
-child_right =
-    let spot : (a x : ℕ) → slice_get child_nets a ≡ Some x → a ≡ x = each_at (λ a x. a ≡ x) child_nets (refl, (refl, (refl, (refl, tt)))) in
-    record {
-      nets_apart = λ a b x e f. spot a x e ∙ sym (spot b x f);
-      nets_each = each_at (λ a x. IsDrawn gate_plan 0 x) child_nets (refl, (refl, (refl, (refl, tt))));
-      nets_found = child_found;
-      pins_each = each_at (λ i a. (x : ℕ) × (slice_get child_nets a ≡ Some x) × IsPinNet gate_plan 0 x) child_circuit.pins ((1, refl, refl), ((3, refl, refl), tt));
-      pins_found = each_at (λ a x. IsPinNet gate_plan 0 x → (i : ℕ) × (slice_get child_circuit.pins i ≡ Some a)) child_nets ((λ h. not_true h), ((λ h. (0, refl)), ((λ h. not_true h), ((λ h. (1, refl)), tt))));
-      rows_each = each_at (λ i row. (own : DeviceRow) × (slice_get (drawing_of 0).rows i ≡ Some own) × IsRow child_nets own row) child_circuit.devices ((row_on 0 2 1 3, refl, child_row), tt);
-      rows_found = each_at (λ i own. (row : DeviceRow) × (slice_get child_circuit.devices i ≡ Some row) × IsRow child_nets own row) (drawing_of 0).rows ((row_on 0 2 1 3, refl, child_row), tt);
-      calls_apart = λ a b k e f. none_some k e;
-      calls_each = λ a row e. none_some row e;
-      calls_found = λ a k e. none_some k e;
-      calls_all = λ k m p placed e. absurd (no_place 0 k p refl placed);
-    }
+abbrev Right : ℕ → ℕ → Circuit → Type 0
+Right n cell c = IsCircuitOf gate_design gate_tables gates_of pins_of drawn_of gate_rules 1000 (0 ∷ (1 ∷ [])) n cell (parts_of cell) c
+
+child_right : Right 0 0 child_circuit
+child_right = record {
+  has_name = refl;
+  has_nets = record { apart = child_apart; each = child_drawn; count = refl; named = child_named };
+  has_pins = record { count = refl; each = each_at (λ i x. slice_get child_nets i ≡ Some x) (1 ∷ (3 ∷ [])) (refl, (refl, tt)) };
+  has_devices = record {
+    count = refl;
+    each = λ i gate row e f.
+        let g = only_at (good child_gate) gate i e in
+        let r = only_at (row_on 3 2 0 1) row i f in
+        subst (λ k. IsDeviceOfGate gate_rules 1000 child_nets k row) (sym g.1) (subst (IsDeviceOfGate gate_rules 1000 child_nets (good child_gate)) (sym r.1) child_row);
+  };
+  has_calls = record {
+    placements = λ k. ((λ n. absurd n), (λ h. absurd (no_place 0 k h.0 refl h.1)));
+    rising = tt;
+    count = refl;
+    each = λ a k p row e. none_some k e;
+  };
+  normal = record {
+    pins = each_at (λ i n. n ≡ i) (0 ∷ (1 ∷ [])) (refl, (refl, tt));
+    numbered = inr (refl, inr (refl, inl (omega arith, inr (refl, inr (refl, inl (omega arith, refl))))));
+  };
+}
 
 abbrev call : CallRow
-call = record { circuit = 0; nets = 2 ∷ (3 ∷ []) }
+call = record { circuit = 0; nets = 0 ∷ (1 ∷ []) }
 
 -- where a pin's net of the child comes out
 abbrev ComesOut : ℕ → ℕ → Type 0
-ComesOut i u = (outer : ℕ) × (x : ℕ) × (slice_get call.nets i ≡ Some outer) × (slice_get parent_nets outer ≡ Some x) × IsNetOf (nets_of 1) (Child 0 u) x
+ComesOut inner outer = (x : ℕ) × (slice_get parent_nets outer ≡ Some x) × IsNetOf (gate_tables.nets 1) (Child 0 inner) x
 
-call_each : (i inner u : ℕ) → slice_get child_circuit.pins i ≡ Some inner → slice_get child_nets inner ≡ Some u → ComesOut i u
-call_each i inner u e f =
-    each_at (λ j a. (v : ℕ) → slice_get child_nets a ≡ Some v → ComesOut j v) child_circuit.pins (
-      (λ v g. subst (ComesOut 0) (same_Some _ _ g) (2, 3, refl, refl, (3, record { listed = refl; numbered = refl }))),
-      ((λ v g. subst (ComesOut 1) (same_Some _ _ g) (3, 5, refl, refl, (5, record { listed = refl; numbered = refl }))), tt),
-    ) i inner e u f
+call_each : (i inner outer : ℕ) → slice_get (1 ∷ (3 ∷ [])) i ≡ Some inner → slice_get call.nets i ≡ Some outer → ComesOut inner outer
+call_each i inner outer e f =
+    each_at (λ j a. (o : ℕ) → slice_get call.nets j ≡ Some o → ComesOut a o) (1 ∷ (3 ∷ [])) (
+      (λ o g. subst (ComesOut 1) (same_Some _ _ g) (3, refl, (3, record { listed = refl; numbered = refl }))),
+      ((λ o g. subst (ComesOut 3) (same_Some _ _ g) (5, refl, (5, record { listed = refl; numbered = refl }))), tt),
+    ) i inner e outer f
 
-call_right : IsCallOf gate_design gate_tables gate_plan gate_netlist 1 0 mirror_place call
-call_right = record {
-  circuit = refl;
-  each = λ called i inner u is e f. call_each i inner u (subst (λ (c : Circuit). slice_get c.pins i ≡ Some inner) (sym (same_Some _ _ is)) e) f;
+abbrev IsCalled : ℕ → Place → CallRow → Type 0
+IsCalled k p row = IsCallOf gate_tables pins_of drawn_of (0 ∷ (1 ∷ [])) 1 k p parent_nets row
+
+call_right : IsCalled 0 mirror_place call
+call_right = record { circuit = refl; count = refl; each = call_each }
+
+parent_right : Right 1 1 parent_circuit
+parent_right = record {
+  has_name = refl;
+  has_nets = record { apart = parent_apart; each = parent_drawn; count = refl; named = parent_named };
+  has_pins = record { count = refl; each = each_at (λ i x. slice_get parent_nets i ≡ Some x) (3 ∷ (5 ∷ [])) (refl, (refl, tt)) };
+  has_devices = record {
+    count = refl;
+    each = λ i gate row e f.
+        let g = only_at (good across_gate) gate i e in
+        let r = only_at (row_on 3 2 0 1) row i f in
+        subst (λ k. IsDeviceOfGate gate_rules 1000 parent_nets k row) (sym g.1) (subst (IsDeviceOfGate gate_rules 1000 parent_nets (good across_gate)) (sym r.1) parent_row);
+  };
+  has_calls = record {
+    placements = λ k. (
+      (λ l. elim l [ inl e ↦ subst (λ j. (p : Place) × IsPlaced gate_design 1 j p × IsListed p.cell (0 ∷ (1 ∷ []))) (sym e) (mirror_place, placed_here, inl refl) | inr n ↦ absurd n ]),
+      (λ h. inl (one_place 1 k h.0 h.1).1),
+    );
+    rising = ((λ y n. absurd n), tt);
+    count = refl;
+    each = λ a k p row e placed f.
+        let one = one_place 1 k p placed in
+        let r = only_at call row a f in
+        subst (λ j. IsCalled j p row) (sym one.1) (subst (λ (j : Place). IsCalled 0 j row) (sym one.2) (subst (IsCalled 0 mirror_place) (sym r.1) call_right));
+  };
+  normal = record {
+    pins = each_at (λ i n. n ≡ i) (0 ∷ (1 ∷ [])) (refl, (refl, tt));
+    numbered = inr (refl, inr (refl, inl (omega arith, inr (refl, inr (refl, inl (omega arith, inl (omega arith, inl (omega arith, refl))))))));
+  };
 }
 
-parent_right : IsCircuitOf gate_design gate_tables gate_plan gate_netlist 1 parent_circuit
-parent_right =
-    let spot : (a x : ℕ) → slice_get parent_nets a ≡ Some x → a ≡ parent_spot x = each_at (λ a x. a ≡ parent_spot x) parent_nets (refl, (refl, (refl, (refl, tt)))) in
-    record {
-      nets_apart = λ a b x e f. spot a x e ∙ sym (spot b x f);
-      nets_each = each_at (λ a x. IsDrawn gate_plan 1 x) parent_nets (refl, (refl, (refl, (refl, tt))));
-      nets_found = parent_found;
-      pins_each = each_at (λ i a. (x : ℕ) × (slice_get parent_nets a ≡ Some x) × IsPinNet gate_plan 1 x) parent_circuit.pins ((5, refl, refl), tt);
-      pins_found = each_at (λ a x. IsPinNet gate_plan 1 x → (i : ℕ) × (slice_get parent_circuit.pins i ≡ Some a)) parent_nets ((λ h. not_true h), ((λ h. not_true h), ((λ h. not_true h), ((λ h. (0, refl)), tt))));
-      rows_each = each_at (λ i row. (own : DeviceRow) × (slice_get (drawing_of 1).rows i ≡ Some own) × IsRow parent_nets own row) parent_circuit.devices ((row_on 0 1 3 5, refl, parent_row), tt);
-      rows_found = each_at (λ i own. (row : DeviceRow) × (slice_get parent_circuit.devices i ≡ Some row) × IsRow parent_nets own row) (drawing_of 1).rows ((row_on 0 1 2 3, refl, parent_row), tt);
-      calls_apart = λ a b k e f. (only_at 0 k a e).0 ∙ sym (only_at 0 k b f).0;
-      calls_each = each_at (λ a row. (k : ℕ) × (p : Place) × (slice_get (drawing_of 1).calls a ≡ Some k) × IsPlaced gate_design 1 k p × IsCallOf gate_design gate_tables gate_plan gate_netlist 1 k p row) parent_circuit.calls (
-        (0, mirror_place, refl, placed_here, call_right),
-        tt,
-      );
-      calls_found = each_at (λ a k. (row : CallRow) × (slice_get parent_circuit.calls a ≡ Some row)) (drawing_of 1).calls ((call, refl), tt);
-      calls_all = λ k m p placed e. (0, ap Some (sym (one_place 1 k p placed).1));
-    }
+circuit_at : (n cell : ℕ) (c : Circuit) → slice_get (0 ∷ (1 ∷ [])) n ≡ Some cell → IsCircuit gate_netlist n c → Right n cell c
+circuit_at zero cell c e is =
+    let f : child_circuit ≡ c = same_Some _ _ is in
+    subst (λ k. Right 0 k c) (same_Some _ _ e) (subst (Right 0 0) f child_right)
+circuit_at (suc zero) cell c e is =
+    let f : parent_circuit ≡ c = same_Some _ _ is in
+    subst (λ k. Right 1 k c) (same_Some _ _ e) (subst (Right 1 1) f parent_right)
+circuit_at (suc (suc n)) cell c e is = none_some cell e
 
-circuits : (cell n : ℕ) (c : Circuit) → number_of cell ≡ Some n → IsCircuit gate_netlist n c → IsCircuitOf gate_design gate_tables gate_plan gate_netlist cell c
-circuits zero n c e is =
-    let f : Some child_circuit ≡ Some c = subst (λ k. IsCircuit gate_netlist k c) (sym (same_Some _ _ e)) is in
-    subst (IsCircuitOf gate_design gate_tables gate_plan gate_netlist 0) (same_Some _ _ f) child_right
-circuits (suc zero) n c e is =
-    let f : Some parent_circuit ≡ Some c = subst (λ k. IsCircuit gate_netlist k c) (sym (same_Some _ _ e)) is in
-    subst (IsCircuitOf gate_design gate_tables gate_plan gate_netlist 1) (same_Some _ _ f) parent_right
-circuits (suc (suc m)) n c e is = none_some n e
-
-found : (cell n : ℕ) → number_of cell ≡ Some n → (c : Circuit) × IsCircuit gate_netlist n c
-found zero n e = (child_circuit, subst (λ k. IsCircuit gate_netlist k child_circuit) (same_Some _ _ e) refl)
-found (suc zero) n e = (parent_circuit, subst (λ k. IsCircuit gate_netlist k parent_circuit) (same_Some _ _ e) refl)
-found (suc (suc m)) n e = none_some n e
-
-numbered : (cell : ℕ) → cell < 2 → (n : ℕ) × (number_of cell ≡ Some n)
-numbered zero lt = (0, refl)
-numbered (suc zero) lt = (1, refl)
-numbered (suc (suc n)) lt = absurd (omega arith)
-
-pub planned : ArePlanned gate_design gate_wiring gate_tables gate_plan gate_netlist
-planned = record {
-  pins = λ cell b reached lt. pins cell b lt;
-  drawn = λ cell x reached. (
-    (λ h. inl (drawn_gate cell x h)),
-    (λ h. elim h [ inl g ↦ gate_drawn cell x g | inr b ↦ drawn_from cell x (reached_two cell reached) b ]),
-  );
-  circuits = λ cell n c reached num is. circuits cell n c num is;
-  found = λ cell n reached num. found cell n num;
-  gates = λ cell i row reached e. numbered cell (reached_two cell reached);
-  placing = λ cell k m p reached placed e. numbered cell (reached_two cell reached);
-}
+pub circuits : IsNetlistOf gate_design gate_tables gates_of pins_of drawn_of gate_rules 1000 (0 ∷ (1 ∷ [])) parts_of gate_netlist
+circuits = record { count = refl; each = circuit_at }

@@ -1,23 +1,24 @@
 -- The tables of the small design are right.
-use Rattle.std.proofs.Common.{◌≡◌, ◌⊎◌, inl, inr, ℕ, zero, suc, List, [], ◌∷◌, Some, None, slice_get, pos, refl, sym, ◌∙◌, ap, subst, arith}
+use Rattle.std.proofs.Common.{◌≡◌, ◌⊎◌, inl, inr, ℕ, zero, suc, ◌<◌, List, [], ◌∷◌, Some, None, slice_get, pos, refl, sym, ◌∙◌, ap, subst, arith}
 use Rattle.std.proofs.lemmas.Int.{ints}
 use Rattle.geo_base.specs.declared.layer.LayerKey.{LayerKey}
 use Rattle.geo_base.specs.declared.shapes.Rect.{Rect}
 use Rattle.geo_base.specs.declared.shapes.Square.{Square}
 use Rattle.plain_netlist.specs.Chains.{Reaches}
 use Rattle.plain_netlist.proofs.Links.{stays, single}
-use Rattle.flat_layout.specs.Layers.{Input, IsKept, IsLocal, IsBelow}
-use Rattle.flat_layout.specs.Layout.{Place, Layer, Cell, Design, Some_of, IsOwn, IsPlaced, Takes, IsHeight}
+use Rattle.flat_layout.specs.Layers.{Input, IsKept, IsLocal, IsKeptBelow}
+use Rattle.flat_layout.specs.Layout.{Place, Layer, Cell, Design, Some_of, IsOwn, IsPlaced, Takes}
 use Rattle.flat_layout.specs.Nets.{Item, Own, Child, IsOf, HoldsAt, ItemHolds, IsItem, IsItemLink, AreNets, AreOwn, AreTables}
+use Rattle.flat_layout.specs.Order.{AreLevels}
 use Rattle.flat_layout.specs.Plane.{IsIn}
 use Rattle.flat_layout.specs.Regions.{At, reading}
-use Rattle.flat_sample.specs.Sample.{metal, child_rect, parent_rect, child, place, parent, sample_design, sample_wiring, nets_of, sample_tables, sample_height}
+use Rattle.flat_sample.specs.Sample.{metal, child_rect, parent_rect, child, place, parent, sample_design, sample_wiring, nets_of, sample_tables, sample_level}
 
 pub none_some : {A : Type 0} {B : Type 0} (x : A) → None ≡ Some x → B
 none_some x e = absurd (let z : ⊥ = cc in z)
 
 -- a flat square of an input layer is the cell's own or comes from below
-pub input_parted : (d : Design) (cell : ℕ) (key : LayerKey) (q s : Square) (path : List ℕ) (end : ℕ) → Takes d cell path end s q → IsOwn d end key s → IsOwn d cell key q ⊎ IsBelow d cell (Input key) q
+pub input_parted : (d : Design) (cell : ℕ) (key : LayerKey) (q s : Square) (path : List ℕ) (end : ℕ) → Takes d cell path end s q → IsOwn d end key s → IsOwn d cell key q ⊎ IsKeptBelow d cell (Input key) q
 input_parted d cell key q s [] end takes own = inl (subst (λ c. IsOwn d c key q) (sym takes.0) (subst (λ x. IsOwn d end key x) takes.1 own))
 input_parted d cell key q s (k ∷ ks) end (p, placed, r, rest, e) own =
     inr (record { number = k; place = p; square = r; placed = placed; kept = record { path = ks; end = end; square = s; takes = rest; own = own }; image = e })
@@ -37,14 +38,21 @@ one_place (suc zero) k p (c, e, f) =
     at_zero (suc k) x p e = none_some p e
 one_place (suc (suc n)) k p (c, e, f) = none_some c e
 
-height : IsHeight sample_design sample_height
-height cell k p placed =
-    let h = one_place cell k p placed in
-    let a = h.0 in
-    let b : p.cell ≡ 0 = ap (λ (x : Place). x.cell) h.2 in
-    omega arith
+pub levels : AreLevels sample_design sample_level
+levels = record {
+  lower = λ cell k p placed.
+      let h = one_place cell k p placed in
+      let down : sample_level 0 < sample_level 1 = omega arith in
+      subst (λ n. sample_level p.cell < sample_level n) (sym h.0) (subst (λ (x : Place). sample_level x.cell < sample_level 1) (sym h.2) down);
+  some = some;
+}
+  where
+    some : (cell : ℕ) → (sample_level cell ≡ 0) ⊎ ((k : ℕ) × (p : Place) × IsPlaced sample_design cell k p × (sample_level cell ≡ suc (sample_level p.cell)))
+    some zero = inl refl
+    some (suc zero) = inr (0, place, (parent, refl, refl), refl)
+    some (suc (suc n)) = inl refl
 
-parted : (cell c : ℕ) (q : Square) → IsKept sample_design cell (reading sample_wiring c) q → IsLocal sample_design cell (reading sample_wiring c) q ⊎ IsBelow sample_design cell (reading sample_wiring c) q
+parted : (cell c : ℕ) (q : Square) → IsKept sample_design cell (reading sample_wiring c) q → IsLocal sample_design cell (reading sample_wiring c) q ⊎ IsKeptBelow sample_design cell (reading sample_wiring c) q
 parted cell zero q h = input_parted sample_design cell metal q h.square h.path h.end h.takes h.own
 parted cell (suc c) q h = absurd h
 
@@ -143,5 +151,5 @@ nets (suc (suc n)) = record {
   earlier = λ i x y e lt. none_some x e;
 }
 
-pub right : AreTables sample_design sample_wiring sample_tables sample_height
-right = record { lower = height; parted = λ cell c q reached h. parted cell c q h; own = λ cell c reached. own_tables cell c; nets = λ cell reached. nets cell }
+pub right : AreTables sample_design sample_wiring sample_tables sample_level
+right = record { lower = levels.lower; parted = λ cell c q reached h. parted cell c q h; own = λ cell c reached. own_tables cell c; nets = λ cell reached. nets cell }

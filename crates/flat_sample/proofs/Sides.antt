@@ -5,14 +5,15 @@ use Rattle.geo_base.specs.Motions.{moved_square}
 use Rattle.geo_base.specs.declared.layer.LayerKey.{LayerKey}
 use Rattle.geo_base.specs.declared.shapes.Square.{Square}
 use Rattle.flat_laws.proofs.Once.{calm_top}
-use Rattle.flat_layout.specs.Gates.{IsListed}
-use Rattle.flat_layout.specs.Layers.{Input, InFlat, IsKept, IsBelow, IsLocal, inputs}
+use Rattle.flat_layout.specs.Layers.{Input, InFlat, IsKept, IsKeptBelow, IsLocal, inputs, reach, IsStirred}
 use Rattle.flat_layout.specs.Layout.{Place, Layer, Cell, Some_of, IsOwn, Takes, IsPrefix, IsDisturbed}
 use Rattle.flat_layout.specs.Plane.{IsIn}
 use Rattle.flat_layout.specs.Regions.{reading}
-use Rattle.flat_sample.proofs.Columns.{one_place, lower_cell, placed_here, no_place, height, moved_column, one_column, some_column, own_column, column_own, IsFlatColumn, flat_column, column_flat, column_above, poly_at, no_poly, child_poly, parent_poly, poly_above}
+use Rattle.plain_netlist.specs.Lists.{IsListed}
+use Rattle.flat_laws.proofs.Names.{name_still}
+use Rattle.flat_sample.proofs.Columns.{one_place, lower_cell, placed_here, no_place, levels, moved_column, one_column, some_column, own_column, column_own, IsFlatColumn, flat_column, column_flat, column_above, poly_at, no_poly, child_poly, parent_poly, poly_above}
 use Rattle.flat_sample.proofs.Right.{input_parted}
-use Rattle.flat_sample.specs.Sample.{sample_height}
+use Rattle.flat_sample.specs.Sample.{sample_level}
 use Rattle.flat_sample.specs.Transistors.{key_of, at, columns, mirror_place, parent, gate_design, sides, crossings, gate_wiring, held}
 
 -- the child's sides stand in columns 0, 2 and 3
@@ -119,6 +120,9 @@ calm_column keys x small h =
     let e = ap (λ (k : Square). k.x) near.2 in
     absurd (omega (arith, ints))
 
+calm_reach : (x : ℕ) → x ≤ 2 → IsStirred gate_design (inputs sides) (reach sides) 0 (at x) → ⊥
+calm_reach x small h = calm_column (inputs sides) x small ((name_still gate_design sides 0 (at x)).0 h)
+
 -- the parent's poly lies over the child's column 3
 crossed : IsDisturbed gate_design (inputs sides) 0 (at 3)
 crossed = record {
@@ -137,28 +141,28 @@ crossed = record {
 
 -- the child keeps its sides in columns 0 and 2
 child_kept : (q : Square) → IsKept gate_design 0 sides q → (q ≡ at 0) ⊎ (q ≡ at 2)
-child_kept q h = elim (child_sides q h.0) [ inl e ↦ inl e | inr f ↦ elim f [ inl e ↦ inr e | inr e ↦ absurd (h.1 (subst (IsDisturbed gate_design (inputs sides) 0) (sym e) crossed)) ] ]
+child_kept q h = elim (child_sides q h.0) [ inl e ↦ inl e | inr f ↦ elim f [ inl e ↦ inr e | inr e ↦ absurd (h.1 ((name_still gate_design sides 0 q).1 (subst (IsDisturbed gate_design (inputs sides) 0) (sym e) crossed))) ] ]
 
 -- and not the one in column 3
 pub lost : InFlat gate_design 0 sides (at 3) × (IsKept gate_design 0 sides (at 3) → ⊥)
 lost =
     let bare : InFlat gate_design 0 (Input (key_of 1)) (at 3) → ⊥ = λ h. elim (poly_at 0 (at 3) h) [ inl e ↦ (let f = one_column 3 1 e in absurd (omega arith)) | inr e ↦ (let f = e.0 in absurd (omega arith)) ] in
-    ((column_flat 0 0 3 (omega arith) (inr (inr (inr (inl refl)))), bare), λ h. h.1 crossed)
+    ((column_flat 0 0 3 (omega arith) (inr (inr (inr (inl refl)))), bare), λ h. h.1 ((name_still gate_design sides 0 (at 3)).1 crossed))
 
 kept_left : IsKept gate_design 0 sides (at 0)
-kept_left = (child_left, calm_column (inputs sides) 0 (omega arith))
+kept_left = (child_left, calm_reach 0 (omega arith))
 
 kept_right : IsKept gate_design 0 sides (at 2)
-kept_right = (child_right, calm_column (inputs sides) 2 (omega arith))
+kept_right = (child_right, calm_reach 2 (omega arith))
 
 pub top_kept : (q : Square) → InFlat gate_design 1 sides q → IsKept gate_design 1 sides q
-top_kept q h = (h, calm_top gate_design sample_height height (inputs sides) q)
+top_kept q h = (h, λ s. calm_top gate_design sample_level levels.lower (inputs sides) s.square s.disturbed)
 
-none_below : (q : Square) → IsBelow gate_design 0 sides q → ⊥
+none_below : (q : Square) → IsKeptBelow gate_design 0 sides q → ⊥
 none_below q h = no_place 0 h.number h.place refl h.placed
 
 -- of the parent's sides those in columns 2 and 4 come from the child
-below_far : (q : Square) → IsBelow gate_design 1 sides q → (q ≡ at 4) ⊎ (q ≡ at 2)
+below_far : (q : Square) → IsKeptBelow gate_design 1 sides q → (q ≡ at 4) ⊎ (q ≡ at 2)
 below_far q h =
     let low = lower_cell 1 h.number h.place h.placed in
     let is = (one_place 1 h.number h.place h.placed).2 in
@@ -167,21 +171,21 @@ below_far q h =
       | inr e ↦ inr (sym h.image ∙ ap (moved_square h.place.motion) e ∙ moved_column h.place 2 2 is refl)
     ]
 
-below_last : IsBelow gate_design 1 sides (at 4)
+below_last : IsKeptBelow gate_design 1 sides (at 4)
 below_last = record { number = 0; place = mirror_place; square = at 0; placed = placed_here; kept = kept_left; image = moved_column mirror_place 0 4 refl refl }
 
-below_middle : IsBelow gate_design 1 sides (at 2)
+below_middle : IsKeptBelow gate_design 1 sides (at 2)
 below_middle = record { number = 0; place = mirror_place; square = at 2; placed = placed_here; kept = kept_right; image = moved_column mirror_place 2 2 refl refl }
 
 first_local : IsLocal gate_design 1 sides (at 0)
 first_local = (top_kept (at 0) across_left, λ h. elim (below_far (at 0) h) [ inl e ↦ (let f = one_column 0 4 e in absurd (omega arith)) | inr e ↦ (let f = one_column 0 2 e in absurd (omega arith)) ])
 
-pub sides_parted : (cell : ℕ) (q : Square) → cell < 2 → IsKept gate_design cell sides q → IsLocal gate_design cell sides q ⊎ IsBelow gate_design cell sides q
+pub sides_parted : (cell : ℕ) (q : Square) → cell < 2 → IsKept gate_design cell sides q → IsLocal gate_design cell sides q ⊎ IsKeptBelow gate_design cell sides q
 sides_parted zero q lt h = inl (h, none_below q)
 sides_parted (suc zero) q lt h =
     elim (top_sides q h.0) [
       | inl e ↦ inl (subst (IsLocal gate_design 1 sides) (sym e) first_local)
-      | inr f ↦ inr (elim f [ inl e ↦ subst (IsBelow gate_design 1 sides) (sym e) below_middle | inr e ↦ subst (IsBelow gate_design 1 sides) (sym e) below_last ])
+      | inr f ↦ inr (elim f [ inl e ↦ subst (IsKeptBelow gate_design 1 sides) (sym e) below_middle | inr e ↦ subst (IsKeptBelow gate_design 1 sides) (sym e) below_last ])
     ]
 sides_parted (suc (suc n)) q lt h = absurd (omega arith)
 
@@ -193,7 +197,7 @@ local_side zero q lt h = elim (child_kept q h.0) [ inl e ↦ (0, inl refl, e) | 
 local_side (suc zero) q lt h =
     elim (top_sides q h.0.0) [
       | inl e ↦ (0, inl refl, e)
-      | inr f ↦ absurd (h.1 (elim f [ inl e ↦ subst (IsBelow gate_design 1 sides) (sym e) below_middle | inr e ↦ subst (IsBelow gate_design 1 sides) (sym e) below_last ]))
+      | inr f ↦ absurd (h.1 (elim f [ inl e ↦ subst (IsKeptBelow gate_design 1 sides) (sym e) below_middle | inr e ↦ subst (IsKeptBelow gate_design 1 sides) (sym e) below_last ]))
     ]
 local_side (suc (suc n)) q lt h = absurd (omega arith)
 
@@ -232,7 +236,7 @@ held_local cell zero x h = side_local cell x h
 held_local cell (suc zero) x h = poly_own cell x h
 held_local cell (suc (suc c)) x h = absurd (nothing cell c x h)
 
-pub kept_parted : (cell c : ℕ) (q : Square) → cell < 2 → IsKept gate_design cell (reading gate_wiring c) q → IsLocal gate_design cell (reading gate_wiring c) q ⊎ IsBelow gate_design cell (reading gate_wiring c) q
+pub kept_parted : (cell c : ℕ) (q : Square) → cell < 2 → IsKept gate_design cell (reading gate_wiring c) q → IsLocal gate_design cell (reading gate_wiring c) q ⊎ IsKeptBelow gate_design cell (reading gate_wiring c) q
 kept_parted cell zero q lt h = sides_parted cell q lt h
 kept_parted cell (suc zero) q lt h = input_parted gate_design cell (key_of 1) q h.square h.path h.end h.takes h.own
 kept_parted cell (suc (suc zero)) q lt h = absurd h

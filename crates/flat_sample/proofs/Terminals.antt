@@ -2,31 +2,31 @@
 use Rattle.std.proofs.Common.{◌≡◌, ◌⊎◌, ◌↔◌, inl, inr, ℕ, zero, suc, List, [], ◌∷◌, Option, Some, None, slice_get, refl, sym, ◌∙◌, ap, subst, arith}
 use Rattle.std.proofs.lemmas.Option.{same_Some}
 use Rattle.geo_base.specs.declared.shapes.Square.{Square}
-use Rattle.flat_laws.proofs.Climb.{climbing}
+use Rattle.flat_laws.proofs.Climb.{parts}
 use Rattle.flat_laws.proofs.Flat.{flat_regions}
 use Rattle.flat_laws.proofs.OneNet.{regions}
-use Rattle.flat_layout.specs.Circuits.{Climbs, Shows}
-use Rattle.flat_layout.specs.Gates.{IsListed}
+use Rattle.flat_layout.specs.Expanded.{IsPartOfNet, ShowsNode}
 use Rattle.flat_layout.specs.Nets.{Own, Child, Global, NetHolds}
 use Rattle.flat_layout.specs.Regions.{Node, At, Ground, IsNode, InOneRegion, kept, flat}
 use Rattle.flat_sample.proofs.Columns.{only_at, placed_here, moved_column, top_reached, poly_at, parent_poly, poly_above}
-use Rattle.flat_sample.proofs.Planned.{planned}
 use Rattle.flat_sample.proofs.Right.{none_some}
 use Rattle.flat_sample.proofs.Sides.{top_sides, across_left, across_right, last_side, top_kept}
+use Rattle.flat_sample.proofs.Whole.{right}
 use Rattle.flat_sample.proofs.Wires.{node_of, shows, net_at, one_node, wired, net_node, net_has}
 use Rattle.flat_sample.specs.Expansion.{IsAcrossDevice, IsChildDevice, node_at, top_net, flat_nodes}
-use Rattle.flat_sample.specs.Sample.{sample_height}
-use Rattle.flat_sample.specs.Transistors.{mirror_place, at, gate_design, gate_wiring, gate_tables, row_on, gate_plan, child_circuit, parent_circuit, gate_netlist}
+use Rattle.flat_sample.specs.Sample.{sample_level}
+use Rattle.flat_sample.specs.Transistors.{mirror_place, at, gate_design, gate_wiring, gate_tables, gate_rules, gate_circuits, row_on, child_circuit, parent_circuit, gate_netlist}
+use Rattle.plain_netlist.specs.Lists.{IsListed}
 use Rattle.plain_netlist.specs.Netlist.{Pole, Source, Gate, Drain, Bulk, DeviceRow, on, CallRow, Circuit, IsCall, IsDevice, IsPin, Slot, slot, InOneNet, HasDevice, IsTerminal, IsOnPin}
 
-child_device : (i : ℕ) (row : DeviceRow) → IsDevice gate_netlist 0 i row → (i ≡ 0) × (row ≡ row_on 0 2 1 3)
-child_device i row (c, is, e) = only_at (row_on 0 2 1 3) row i (subst (λ (k : Circuit). slice_get k.devices i ≡ Some row) (sym (same_Some _ _ is)) e)
+child_device : (i : ℕ) (row : DeviceRow) → IsDevice gate_netlist 0 i row → (i ≡ 0) × (row ≡ row_on 3 2 0 1)
+child_device i row (c, is, e) = only_at (row_on 3 2 0 1) row i (subst (λ (k : Circuit). slice_get k.devices i ≡ Some row) (sym (same_Some _ _ is)) e)
 
-parent_device : (i : ℕ) (row : DeviceRow) → IsDevice gate_netlist 1 i row → (i ≡ 0) × (row ≡ row_on 0 1 2 3)
-parent_device i row (c, is, e) = only_at (row_on 0 1 2 3) row i (subst (λ (k : Circuit). slice_get k.devices i ≡ Some row) (sym (same_Some _ _ is)) e)
+parent_device : (i : ℕ) (row : DeviceRow) → IsDevice gate_netlist 1 i row → (i ≡ 0) × (row ≡ row_on 3 2 0 1)
+parent_device i row (c, is, e) = only_at (row_on 3 2 0 1) row i (subst (λ (k : Circuit). slice_get k.devices i ≡ Some row) (sym (same_Some _ _ is)) e)
 
 abbrev call : CallRow
-call = record { circuit = 0; nets = 2 ∷ (3 ∷ []) }
+call = record { circuit = 0; nets = 0 ∷ (1 ∷ []) }
 
 one_call : (k : ℕ) (row : CallRow) → IsCall gate_netlist 1 k row → (k ≡ 0) × (row ≡ call)
 one_call k row (c, is, e) = only_at call row k (subst (λ (j : Circuit). slice_get j.calls k ≡ Some row) (sym (same_Some _ _ is)) e)
@@ -46,10 +46,10 @@ device_out (k ∷ (j ∷ js)) i row (c, is, h) = absurd (no_call j h.0 (subst (�
 
 pub device_in : (path : List ℕ) (i : ℕ) (row : DeviceRow) → IsAcrossDevice path i row ⊎ IsChildDevice path i row → HasDevice gate_netlist 1 path i row
 device_in path i row (inl (e, f, g)) =
-    let h : HasDevice gate_netlist 1 [] 0 (row_on 0 1 2 3) = (parent_circuit, refl, refl) in
+    let h : HasDevice gate_netlist 1 [] 0 (row_on 3 2 0 1) = (parent_circuit, refl, refl) in
     subst (λ (k : List ℕ). HasDevice gate_netlist 1 k i row) (sym e) (subst (λ j. HasDevice gate_netlist 1 [] j row) (sym f) (subst (HasDevice gate_netlist 1 [] 0) (sym g) h))
 device_in path i row (inr (e, f, g)) =
-    let h : HasDevice gate_netlist 1 (0 ∷ []) 0 (row_on 0 2 1 3) = (call, (parent_circuit, refl, refl), (child_circuit, refl, refl)) in
+    let h : HasDevice gate_netlist 1 (0 ∷ []) 0 (row_on 3 2 0 1) = (call, (parent_circuit, refl, refl), (child_circuit, refl, refl)) in
     subst (λ (k : List ℕ). HasDevice gate_netlist 1 k i row) (sym e) (subst (λ j. HasDevice gate_netlist 1 (0 ∷ []) j row) (sym f) (subst (HasDevice gate_netlist 1 (0 ∷ []) 0) (sym g) h))
 
 pub devices : (path : List ℕ) (i : ℕ) (row : DeviceRow) → HasDevice gate_netlist 1 path i row ↔ (IsAcrossDevice path i row ⊎ IsChildDevice path i row)
@@ -61,16 +61,16 @@ pub record Ends (path : List ℕ) (net : ℕ) : Type 0 where
   pub is : node_at path net ≡ node_of node
   pub there : slice_get (shows 1) (top_net path net) ≡ Some node
   pub back : top_net path net ≡ net_at 1 node
-  pub climbs : Climbs gate_design gate_tables gate_plan 1 path net (top_net path net)
-  pub sees : Shows gate_design gate_tables gate_plan 1 path net (node_of node)
+  pub climbs : IsPartOfNet gate_design gate_tables gate_circuits 1 path net (top_net path net)
+  pub sees : ShowsNode gate_design gate_tables gate_circuits 1 path net (node_of node)
 
-across_ends : (pole : Pole) → Ends [] (on pole (row_on 0 1 2 3))
+across_ends : (pole : Pole) → Ends [] (on pole (row_on 3 2 0 1))
 across_ends Source = record { node = Some 0; is = refl; there = refl; back = refl; climbs = refl; sees = (0, refl, net_has 1 0 0 (Own 0 0) (Some 0) (record { listed = refl; numbered = refl }) refl) }
 across_ends Gate = record { node = Some 1; is = refl; there = refl; back = refl; climbs = refl; sees = (1, refl, net_has 1 1 1 (Own 1 0) (Some 1) (record { listed = refl; numbered = refl }) refl) }
 across_ends Drain = record { node = Some 2; is = refl; there = refl; back = refl; climbs = refl; sees = (3, refl, net_has 1 3 3 (Child 0 1) (Some 2) (record { listed = refl; numbered = refl }) refl) }
 across_ends Bulk = record { node = None; is = refl; there = refl; back = refl; climbs = refl; sees = (5, refl, net_has 1 5 6 (Global 0) None (record { listed = refl; numbered = refl }) refl) }
 
-child_ends : (pole : Pole) → Ends (0 ∷ []) (on pole (row_on 0 2 1 3))
+child_ends : (pole : Pole) → Ends (0 ∷ []) (on pole (row_on 3 2 0 1))
 child_ends Source = record {
   node = Some 4;
   is = refl;
@@ -111,14 +111,14 @@ ends_of path net i row pole (inr (e, f, g)) h = subst (λ (k : List ℕ). Ends k
 ends : (a : Slot) → IsTerminal gate_netlist 1 a → Ends a.path a.net
 ends a h = ends_of a.path a.net h.device h.row h.pole (device_out a.path h.device h.row h.has) h.on
 
-pub sees : (a : Slot) → IsTerminal gate_netlist 1 a → Shows gate_design gate_tables gate_plan 1 a.path a.net (node_at a.path a.net)
-sees a h = let s = ends a h in subst (Shows gate_design gate_tables gate_plan 1 a.path a.net) (sym s.is) s.sees
+pub sees : (a : Slot) → IsTerminal gate_netlist 1 a → ShowsNode gate_design gate_tables gate_circuits 1 a.path a.net (node_at a.path a.net)
+sees a h = let s = ends a h in subst (ShowsNode gate_design gate_tables gate_circuits 1 a.path a.net) (sym s.is) s.sees
 
-pub climbs : (a : Slot) → IsTerminal gate_netlist 1 a → Climbs gate_design gate_tables gate_plan 1 a.path a.net (top_net a.path a.net)
+pub climbs : (a : Slot) → IsTerminal gate_netlist 1 a → IsPartOfNet gate_design gate_tables gate_circuits 1 a.path a.net (top_net a.path a.net)
 climbs a h = (ends a h).climbs
 
 pub one_number : (a b : Slot) → IsTerminal gate_netlist 1 a → IsTerminal gate_netlist 1 b → InOneNet gate_netlist 1 a b ↔ (top_net a.path a.net ≡ top_net b.path b.net)
-one_number a b h g = climbing gate_design gate_wiring gate_tables sample_height gate_plan gate_netlist wired planned 1 1 top_reached refl a b (top_net a.path a.net) (top_net b.path b.net) h g (climbs a h) (climbs b g)
+one_number a b h g = parts gate_design gate_wiring gate_tables gate_circuits gate_netlist gate_rules 1000 sample_level right 1 1 top_reached refl a b (top_net a.path a.net) (top_net b.path b.net) h g (climbs a h) (climbs b g)
 
 pub one_net : (a b : Slot) → IsTerminal gate_netlist 1 a → IsTerminal gate_netlist 1 b → InOneNet gate_netlist 1 a b ↔ (node_at a.path a.net ≡ node_at b.path b.net)
 one_net a b h g =
@@ -129,17 +129,28 @@ one_net a b h g =
       (λ e. same.1 (s.back ∙ ap (net_at 1) (one_node s.node t.node (sym s.is ∙ e ∙ t.is)) ∙ sym t.back)),
     )
 
--- the one pin is the bulk of the transistor across both
-bulk : IsTerminal gate_netlist 1 (slot [] 3)
-bulk = record { device = 0; row = row_on 0 1 2 3; pole = Bulk; has = (parent_circuit, refl, refl); on = refl }
+-- the pins are drain and bulk of the transistor across both
+pin_net : (pole : Pole) (a : ℕ) → on pole (row_on 3 2 0 1) ≡ a → IsTerminal gate_netlist 1 (slot [] a)
+pin_net pole a e = record { device = 0; row = row_on 3 2 0 1; pole = pole; has = (parent_circuit, refl, refl); on = e }
 
-pin_three : (i n : ℕ) → IsPin gate_netlist 1 i n → n ≡ 3
-pin_three i n (c, is, e) = (only_at 3 n i (subst (λ (k : Circuit). slice_get k.pins i ≡ Some n) (sym (same_Some _ _ is)) e)).1
+pin_two : (i n : ℕ) → IsPin gate_netlist 1 i n → (n ≡ 0) ⊎ (n ≡ 1)
+pin_two i n (c, is, e) = two i (subst (λ (k : Circuit). slice_get k.pins i ≡ Some n) (sym (same_Some _ _ is)) e)
+  where
+    two : (i : ℕ) → slice_get (0 ∷ (1 ∷ [])) i ≡ Some n → (n ≡ 0) ⊎ (n ≡ 1)
+    two zero e = inl (sym (same_Some _ _ e))
+    two (suc zero) e = inr (sym (same_Some _ _ e))
+    two (suc (suc i)) e = none_some n e
 
-pub on_pin : (a : Slot) → IsTerminal gate_netlist 1 a → IsOnPin gate_netlist 1 a ↔ (node_at a.path a.net ≡ Ground 0)
+pub on_pin : (a : Slot) → IsTerminal gate_netlist 1 a → IsOnPin gate_netlist 1 a ↔ ((node_at a.path a.net ≡ Ground 0) ⊎ (node_at a.path a.net ≡ At 0 (at 2)))
 on_pin a h = (
-  (λ (i, n, pin, joined). (one_net a (slot [] 3) h bulk).0 (subst (λ k. InOneNet gate_netlist 1 a (slot [] k)) (pin_three i n pin) joined)),
-  (λ e. (0, 3, (parent_circuit, refl, refl), (one_net a (slot [] 3) h bulk).1 e)),
+  (λ (i, n, pin, joined). elim (pin_two i n pin) [
+    | inl e ↦ inr ((one_net a (slot [] 0) h (pin_net Drain 0 refl)).0 (subst (λ k. InOneNet gate_netlist 1 a (slot [] k)) e joined))
+    | inr e ↦ inl ((one_net a (slot [] 1) h (pin_net Bulk 1 refl)).0 (subst (λ k. InOneNet gate_netlist 1 a (slot [] k)) e joined))
+  ]),
+  (λ e. elim e [
+    | inl f ↦ (1, 1, (parent_circuit, refl, refl), (one_net a (slot [] 1) h (pin_net Bulk 1 refl)).1 f)
+    | inr f ↦ (0, 0, (parent_circuit, refl, refl), (one_net a (slot [] 0) h (pin_net Drain 0 refl)).1 f)
+  ]),
 )
 
 abbrev InTop : Node → Type 0
@@ -182,7 +193,7 @@ top_kept_node (At (suc (suc (suc c))) q) h = absurd h
 top_kept_node (Ground g) h = h
 
 held : (n : Node) → InTop n → (x : ℕ) × NetHolds gate_design gate_tables 1 x n
-held n h = (regions gate_design gate_wiring gate_tables sample_height wired 1 top_reached).complete n (top_kept_node n h)
+held n h = (regions gate_design gate_wiring gate_tables sample_level wired 1 top_reached).complete n (top_kept_node n h)
 
 pub one_region : (m n : Node) → InTop m → InTop n → InOneRegion gate_wiring (flat gate_design gate_wiring 1) m n ↔ (m ≡ n)
 one_region m n h g =
@@ -190,7 +201,7 @@ one_region m n h g =
     let b = held n g in
     let s = net_node 1 a.0 m (omega arith) a.1 in
     let t = net_node 1 b.0 n (omega arith) b.1 in
-    let same = (flat_regions gate_design gate_wiring gate_tables sample_height wired a.0 b.0 m n a.1 b.1).1 in (
+    let same = (flat_regions gate_design gate_wiring gate_tables sample_level wired a.0 b.0 m n a.1 b.1).1 in (
       (λ way. s.1 ∙ ap node_of (same_Some _ _ (sym s.3 ∙ ap (slice_get (shows 1)) (same.1 way) ∙ t.3)) ∙ sym t.1),
       (λ e. same.0 (s.2 ∙ ap (net_at 1) (one_node s.0 t.0 (sym s.1 ∙ e ∙ t.1)) ∙ sym t.2)),
     )

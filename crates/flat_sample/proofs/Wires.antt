@@ -3,20 +3,20 @@ use Rattle.std.proofs.Common.{◌≡◌, ◌↔◌, inl, inr, ℕ, zero, suc, �
 use Rattle.std.proofs.lemmas.Int.{ints}
 use Rattle.std.proofs.lemmas.Option.{same_Some}
 use Rattle.flat_laws.proofs.Squares.{touch_same}
-use Rattle.flat_layout.specs.Gates.{IsListed}
 use Rattle.flat_layout.specs.Layers.{IsLocal}
 use Rattle.flat_layout.specs.Layout.{Place}
 use Rattle.flat_layout.specs.Nets.{Item, Own, Child, Global, IsOf, HoldsAt, ItemHolds, NetHolds, IsItem, IsItemLink, AreNets, AreOwn, AreTables}
 use Rattle.flat_layout.specs.Plane.{IsIn}
 use Rattle.flat_layout.specs.Regions.{Node, At, Ground, Touches, moved, reading}
-use Rattle.flat_sample.proofs.Columns.{no_place, one_place, lower_cell, placed_here, height, reached_two, moved_column, in_unit, unit_in, one_column, rect_column, column_rect}
+use Rattle.flat_sample.proofs.Columns.{no_place, one_place, lower_cell, placed_here, levels, reached_two, moved_column, in_unit, unit_in, one_column, rect_column, column_rect}
 use Rattle.flat_sample.proofs.Listing.{each_at}
 use Rattle.flat_sample.proofs.Right.{none_some}
 use Rattle.flat_sample.proofs.Sides.{local_held, held_local, kept_parted}
-use Rattle.flat_sample.specs.Sample.{sample_height}
+use Rattle.flat_sample.specs.Sample.{sample_level}
 use Rattle.flat_sample.specs.Transistors.{at, unit_rect, own_of, mirror_place, gate_design, gate_wiring, nets_of, gate_tables, held}
 use Rattle.plain_netlist.proofs.Links.{single}
 use Rattle.plain_netlist.specs.Chains.{Reaches, IsChain}
+use Rattle.plain_netlist.specs.Lists.{IsListed}
 
 -- even columns belong to conductor 0, odd ones to conductor 1
 abbrev pub parity : ℕ → ℕ
@@ -298,9 +298,9 @@ own_right cell c lt = record {
   filled = λ r rect e. let s = rect_column (held cell c) r rect e in (at s.0, subst (λ k. IsIn (at s.0) k) (sym s.2) (unit_in s.0));
 }
 
-pub wired : AreTables gate_design gate_wiring gate_tables sample_height
+pub wired : AreTables gate_design gate_wiring gate_tables sample_level
 wired = record {
-  lower = height;
+  lower = levels.lower;
   parted = λ cell c q reached h. kept_parted cell c q (reached_two cell reached) h;
   own = λ cell c reached. own_right cell c (reached_two cell reached);
   nets = λ cell reached. nets cell (reached_two cell reached);

@@ -2,7 +2,7 @@
 use Rattle.std.specs.Prelude.{◌≡◌, ℕ, zero, suc, List, [], ◌∷◌}
 use Rattle.geo_base.specs.Motions.{moved_square}
 use Rattle.geo_base.specs.declared.shapes.Square.{Square}
-use Rattle.flat_layout.specs.Gates.{Edge, IsForm}
+use Rattle.flat_layout.specs.Gates.{Edge, IsGoodGate}
 use Rattle.flat_layout.specs.Layout.{IsOwn}
 use Rattle.flat_layout.specs.Regions.{Node, At, Ground}
 use Rattle.flat_sample.specs.Transistors.{key_of, at, mirror_place, gate_design, gate_wiring, rule, row_on}
@@ -13,7 +13,7 @@ edge_of x y = record { inner = at x; outer = at y }
 
 -- a good gate in a column, its source left and its drain right, two edges wide and two long
 abbrev pub IsGood : ℕ → ℕ → ℕ → ℕ → Type 0
-IsGood cell source gate drain = IsForm gate_design gate_wiring rule cell (at gate) (edge_of gate source) (edge_of gate drain) 2 2
+IsGood cell source gate drain = IsGoodGate gate_design gate_wiring rule cell (at gate) (edge_of gate source) (edge_of gate drain) 2 2
 
 -- the child draws it, and its image is this square of the parent
 abbrev pub IsPart : ℕ → Square → Type 0
@@ -28,33 +28,33 @@ pub record IsAcross (source gate drain : ℕ) : Type 0 where
 
 -- the transistor across both stands in the top's circuit
 abbrev pub IsAcrossDevice : List ℕ → ℕ → DeviceRow → Type 0
-IsAcrossDevice path i row = (path ≡ []) × (i ≡ 0) × (row ≡ row_on 0 1 2 3)
+IsAcrossDevice path i row = (path ≡ []) × (i ≡ 0) × (row ≡ row_on 3 2 0 1)
 
 -- the child's below the one call
 abbrev pub IsChildDevice : List ℕ → ℕ → DeviceRow → Type 0
-IsChildDevice path i row = (path ≡ 0 ∷ []) × (i ≡ 0) × (row ≡ row_on 0 2 1 3)
+IsChildDevice path i row = (path ≡ 0 ∷ []) × (i ≡ 0) × (row ≡ row_on 3 2 0 1)
 
 -- what the nets of the top's circuit show, and those of the child's: column 2 is the drain of both transistors
 abbrev pub node_at : List ℕ → ℕ → Node
-node_at [] zero = At 0 (at 0)
-node_at [] (suc zero) = At 1 (at 1)
-node_at [] (suc (suc zero)) = At 0 (at 2)
-node_at [] (suc (suc (suc a))) = Ground 0
-node_at (k ∷ ks) zero = At 0 (at 4)
-node_at (k ∷ ks) (suc zero) = At 0 (at 2)
+node_at [] zero = At 0 (at 2)
+node_at [] (suc zero) = Ground 0
+node_at [] (suc (suc zero)) = At 1 (at 1)
+node_at [] (suc (suc (suc a))) = At 0 (at 0)
+node_at (k ∷ ks) zero = At 0 (at 2)
+node_at (k ∷ ks) (suc zero) = Ground 0
 node_at (k ∷ ks) (suc (suc zero)) = At 1 (at 3)
-node_at (k ∷ ks) (suc (suc (suc a))) = Ground 0
+node_at (k ∷ ks) (suc (suc (suc a))) = At 0 (at 4)
 
 -- the top's net that each of these nets is part of
 abbrev pub top_net : List ℕ → ℕ → ℕ
-top_net [] zero = 0
-top_net [] (suc zero) = 1
-top_net [] (suc (suc zero)) = 3
-top_net [] (suc (suc (suc a))) = 5
-top_net (k ∷ ks) zero = 2
-top_net (k ∷ ks) (suc zero) = 3
+top_net [] zero = 3
+top_net [] (suc zero) = 5
+top_net [] (suc (suc zero)) = 1
+top_net [] (suc (suc (suc a))) = 0
+top_net (k ∷ ks) zero = 3
+top_net (k ∷ ks) (suc zero) = 5
 top_net (k ∷ ks) (suc (suc zero)) = 4
-top_net (k ∷ ks) (suc (suc (suc a))) = 5
+top_net (k ∷ ks) (suc (suc (suc a))) = 2
 
 -- the nodes of the flat top
 abbrev pub flat_nodes : List Node

@@ -1,3 +1,4 @@
 pub mod Sample
 pub mod Transistors
 pub mod Expansion
+pub mod Refused

@@ -1,15 +1,19 @@
 -- A child cell and a parent that places it mirrored, all squares in one row: a transistor in the child, and one across both, where the parent's poly crosses the child's active.
-use Rattle.std.specs.Prelude.{ℕ, zero, suc, Bool, true, false, List, [], ◌∷◌, Option, Some, None, map, pos}
+-- A text of the parent names the side that both transistors share.
+use Rattle.std.specs.Prelude.{ℕ, zero, suc, Bool, true, false, List, [], ◌∷◌, map, pos}
 use Rattle.geo_base.specs.declared.layer.LayerKey.{LayerKey}
 use Rattle.geo_base.specs.declared.layer.Op.TheVariants.{And, Not}
 use Rattle.geo_base.specs.declared.motion.Turn.TheVariants.{M180}
 use Rattle.geo_base.specs.declared.shapes.Rect.{Rect}
 use Rattle.geo_base.specs.declared.shapes.Square.{Square}
-use Rattle.flat_layout.specs.Circuits.{Drawing, Plan}
+use Rattle.flat_layout.specs.Circuits.{CircuitParts}
+use Rattle.flat_layout.specs.Expanded.{CircuitTables}
 use Rattle.flat_layout.specs.Gates.{Rule}
+use Rattle.flat_layout.specs.GateTables.{GateEntry, GateRow, Good}
 use Rattle.flat_layout.specs.Layers.{Reading, Input, Empty, Binary}
-use Rattle.flat_layout.specs.Layout.{Place, Layer, Cell, Design}
+use Rattle.flat_layout.specs.Layout.{Place, Layer, Text, Cell, Design}
 use Rattle.flat_layout.specs.Nets.{Own, Child, Global, CellNets, Tables}
+use Rattle.flat_layout.specs.Pins.{CellPins}
 use Rattle.flat_layout.specs.Regions.{Wiring}
 use Rattle.plain_netlist.specs.Netlist.{Circuit, DeviceRow, Netlist}
 
@@ -39,15 +43,21 @@ rects_of cell c = map unit_rect (columns cell c)
 abbrev pub layers_of : ℕ → List Layer
 layers_of cell = (record { key = key_of 0; rects = rects_of cell 0 }) ∷ ((record { key = key_of 1; rects = rects_of cell 1 }) ∷ [])
 
+-- "c"
 abbrev pub child : Cell
-child = record { layers = layers_of 0; texts = []; places = [] }
+child = record { name = 99 ∷ []; layers = layers_of 0; texts = []; places = [] }
 
 -- the child's column x comes to stand in column 4 - x
 abbrev pub mirror_place : Place
 mirror_place = record { cell = 0; motion = record { turn = M180; dx = pos 5; dy = pos 0 } }
 
+-- "d", on layer 2, at the corner between columns 1 and 2
+abbrev pub drain_text : Text
+drain_text = record { key = key_of 2; at = record { x = pos 2; y = pos 0 }; string = 100 ∷ [] }
+
+-- "p"
 abbrev pub parent : Cell
-parent = record { layers = layers_of 1; texts = []; places = mirror_place ∷ [] }
+parent = record { name = 112 ∷ []; layers = layers_of 1; texts = drain_text ∷ []; places = mirror_place ∷ [] }
 
 abbrev pub gate_design : Design
 gate_design = record { cells = child ∷ (parent ∷ []); top = 1 }
@@ -59,9 +69,13 @@ sides = Binary Not (Input (key_of 0)) (Input (key_of 1))
 abbrev pub crossings : Reading
 crossings = Binary And (Input (key_of 0)) (Input (key_of 1))
 
--- conductor 0 is the sides, 1 poly, 2 the substrate, an empty layer that belongs to the one global
+-- "vss"
+abbrev pub vss : List ℕ
+vss = 118 ∷ (115 ∷ (115 ∷ []))
+
+-- conductor 0 is the sides, 1 poly, 2 the substrate, an empty layer that belongs to the one global; texts on layer 2 name sides
 abbrev pub gate_wiring : Wiring
-gate_wiring = record { names = sides ∷ (Input (key_of 1) ∷ (Empty ∷ [])); joins = []; grounds = (record { first = 2; second = 0 }) ∷ []; labels = []; globals = 1; unit = 1000 }
+gate_wiring = record { conductors = sides ∷ (Input (key_of 1) ∷ (Empty ∷ [])); joins = []; grounds = (record { first = 2; second = 0 }) ∷ []; labels = (record { key = key_of 2; conductor = 0 }) ∷ []; globals = vss ∷ [] }
 
 -- the columns that a cell itself holds of a conductor: not the child's side in column 3, which lies under the parent's poly, nor the parent's sides that come from the child
 abbrev pub held : ℕ → ℕ → List ℕ
@@ -99,29 +113,30 @@ rule = record { class = nmos; sd = sides; gate = crossings; well = Empty; ts = 0
 abbrev pub gate_rules : List Rule
 gate_rules = rule ∷ []
 
--- a transistor of one square: one unit of 1,000 picometres wide and long, in femtometres
-abbrev pub row_on : ℕ → ℕ → ℕ → ℕ → DeviceRow
-row_on source gate drain bulk = record { class = nmos; length = 1000000; width = 1000000; source = source; gate = gate; drain = drain; bulk = bulk }
+-- a gate of one square between two sides, two edges wide and two long, over the cell's nets
+abbrev pub gate_on : ℕ → ℕ → ℕ → ℕ → GateRow
+gate_on source gate drain bulk = record { twice_w = 2; twice_l = 2; source = source; gate = gate; drain = drain; bulk = bulk }
 
-abbrev pub no_drawing : Drawing
-no_drawing = record { spots = []; rows = []; nets = []; calls = [] }
+abbrev pub entry : GateRow → GateEntry
+entry row = record { at = record { rule = 0; square = at 1 }; verdict = Good row }
 
--- either cell's gate stands in its column 1; rows are over the cell's nets
-abbrev pub drawing_of : ℕ → Drawing
-drawing_of zero = record { spots = (record { rule = 0; square = at 1 }) ∷ []; rows = row_on 0 2 1 3 ∷ []; nets = 0 ∷ (1 ∷ (2 ∷ (3 ∷ []))); calls = [] }
-drawing_of (suc zero) = record { spots = (record { rule = 0; square = at 1 }) ∷ []; rows = row_on 0 1 3 5 ∷ []; nets = 0 ∷ (1 ∷ (3 ∷ (5 ∷ []))); calls = 0 ∷ [] }
-drawing_of (suc (suc n)) = no_drawing
+abbrev pub child_gate : GateRow
+child_gate = gate_on 0 2 1 3
 
-abbrev pub number_of : ℕ → Option ℕ
-number_of zero = Some 0
-number_of (suc zero) = Some 1
-number_of (suc (suc n)) = None
+abbrev pub across_gate : GateRow
+across_gate = gate_on 0 1 3 5
 
--- pins of the child: the side that the parent's transistor uses, and the global
-abbrev pub pins_of : ℕ → List Bool
-pins_of zero = false ∷ (true ∷ (false ∷ (true ∷ [])))
-pins_of (suc zero) = false ∷ (false ∷ (false ∷ (false ∷ (false ∷ (true ∷ [])))))
-pins_of (suc (suc n)) = []
+-- either cell's gate stands in its column 1
+abbrev pub gates_of : ℕ → List GateEntry
+gates_of zero = entry child_gate ∷ []
+gates_of (suc zero) = entry across_gate ∷ []
+gates_of (suc (suc n)) = []
+
+-- pins of the child: the side that the parent's transistor uses, and the global; of the parent: the side with the text, and the global
+abbrev pub pins_of : ℕ → CellPins
+pins_of zero = record { pins = false ∷ (true ∷ (false ∷ (true ∷ []))); names = [] ∷ ([] ∷ ([] ∷ (vss ∷ []))) }
+pins_of (suc zero) = record { pins = false ∷ (false ∷ (false ∷ (true ∷ (false ∷ (true ∷ []))))); names = [] ∷ ([] ∷ ([] ∷ ((100 ∷ []) ∷ ([] ∷ (vss ∷ []))))) }
+pins_of (suc (suc n)) = record { pins = []; names = [] }
 
 -- nets with a transistor's terminal at or below the cell
 abbrev pub drawn_of : ℕ → List Bool
@@ -129,20 +144,36 @@ drawn_of zero = true ∷ (true ∷ (true ∷ (true ∷ [])))
 drawn_of (suc zero) = true ∷ (true ∷ (false ∷ (true ∷ (false ∷ (true ∷ [])))))
 drawn_of (suc (suc n)) = []
 
-abbrev pub gate_plan : Plan
-gate_plan = record { number = number_of; drawing = drawing_of; pins = pins_of; drawn = drawn_of }
+-- pins first, the others as the devices name them
+abbrev pub parts_of : ℕ → CircuitParts
+parts_of zero = record { nets = 1 ∷ (3 ∷ (2 ∷ (0 ∷ []))); calls = [] }
+parts_of (suc zero) = record { nets = 3 ∷ (5 ∷ (1 ∷ (0 ∷ []))); calls = 0 ∷ [] }
+parts_of (suc (suc n)) = record { nets = []; calls = [] }
 
--- "0" to "3"
-abbrev pub four_names : List (List ℕ)
-four_names = (48 ∷ []) ∷ ((49 ∷ []) ∷ ((50 ∷ []) ∷ ((51 ∷ []) ∷ [])))
+abbrev pub gate_circuits : CircuitTables
+gate_circuits = record { gates = gates_of; pins = pins_of; drawn = drawn_of; cells = 0 ∷ (1 ∷ []); parts = parts_of }
 
--- rows are over the circuit's nets
+-- a transistor of one square: one unit of 1,000 picometres wide and long, in femtometres
+abbrev pub row_on : ℕ → ℕ → ℕ → ℕ → DeviceRow
+row_on source gate drain bulk = record { class = nmos; length = 1000000; width = 1000000; source = source; gate = gate; drain = drain; bulk = bulk }
+
+-- "$1" to "$3", "D" and "VSS"
+abbrev pub dollar : ℕ → List ℕ
+dollar digit = 36 ∷ (digit ∷ [])
+
+abbrev pub big_d : List ℕ
+big_d = 68 ∷ []
+
+abbrev pub big_vss : List ℕ
+big_vss = 86 ∷ (83 ∷ (83 ∷ []))
+
+-- "C"; rows are over the circuit's nets
 abbrev pub child_circuit : Circuit
-child_circuit = record { name = 99 ∷ []; nets = four_names; pins = 1 ∷ (3 ∷ []); devices = row_on 0 2 1 3 ∷ []; calls = [] }
+child_circuit = record { name = 67 ∷ []; nets = dollar 50 ∷ (big_vss ∷ (dollar 51 ∷ (dollar 49 ∷ []))); pins = 0 ∷ (1 ∷ []); devices = row_on 3 2 0 1 ∷ []; calls = [] }
 
--- the call's pins are the drain of the transistor across both and the global
+-- "P"; the call's pins are the drain of the transistor across both and the global
 abbrev pub parent_circuit : Circuit
-parent_circuit = record { name = 112 ∷ []; nets = four_names; pins = 3 ∷ []; devices = row_on 0 1 2 3 ∷ []; calls = (record { circuit = 0; nets = 2 ∷ (3 ∷ []) }) ∷ [] }
+parent_circuit = record { name = 80 ∷ []; nets = big_d ∷ (big_vss ∷ (dollar 50 ∷ (dollar 49 ∷ []))); pins = 0 ∷ (1 ∷ []); devices = row_on 3 2 0 1 ∷ []; calls = (record { circuit = 0; nets = 0 ∷ (1 ∷ []) }) ∷ [] }
 
 abbrev pub gate_netlist : Netlist
 gate_netlist = record { circuits = child_circuit ∷ (parent_circuit ∷ []) }

@@ -1,5 +1,5 @@
 ghost use Rattle.std.specs.Prelude.{◌↔◌, IsTrue, IfSome};
-ghost use Rattle.flat_layout.specs.Layers.{InFlat, IsKept, IsBelow, IsLocal, inputs};
+ghost use Rattle.flat_layout.specs.Layers.{InFlat, IsKept, IsKeptBelow, IsLocal, inputs};
 ghost use Rattle.flat_layout.specs.Layout.{IsDisturbed};
 ghost use Rattle.flat_slow.specs.Slow.{reading};
 ghost use Rattle.slow_paths.specs.Slow.{plain};
@@ -79,7 +79,7 @@ pub fn is_kept(d: &SlowDesign, depth: u32, cell: usize, layer: &Formula, q: Squa
 
 // Whether the square is the image of one that a placed cell keeps.
 fn is_below(d: &SlowDesign, depth: u32, cell: usize, layer: &Formula, q: Square) -> Option<bool>
-    ensures { IfSome result (λ b. IsTrue b ↔ IsBelow (plain d.now) cell (reading layer.now) q) }
+    ensures { IfSome result (λ b. IsTrue b ↔ IsKeptBelow (plain d.now) cell (reading layer.now) q) }
 {
     if cell >= d.cells.len() {
         return Some(false);
@@ -95,7 +95,7 @@ fn is_below(d: &SlowDesign, depth: u32, cell: usize, layer: &Formula, q: Square)
 
 // Whether the cell keeps the square and no placed cell does.
 fn is_held(d: &SlowDesign, depth: u32, cell: usize, layer: &Formula, q: Square) -> Option<bool>
-    ensures { IfSome result (λ b. IsTrue b ↔ (IsKept (plain d.now) cell (reading layer.now) q × (IsBelow (plain d.now) cell (reading layer.now) q → ⊥))) }
+    ensures { IfSome result (λ b. IsTrue b ↔ (IsKept (plain d.now) cell (reading layer.now) q × (IsKeptBelow (plain d.now) cell (reading layer.now) q → ⊥))) }
 {
     let kept = is_kept(d, depth, cell, layer, q)?;
     let below = is_below(d, depth, cell, layer, q)?;

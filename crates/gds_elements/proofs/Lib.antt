@@ -7,3 +7,4 @@ pub mod Step
 pub mod Runs
 pub mod Unique
 pub mod PieceLemmas
+pub mod WholeText

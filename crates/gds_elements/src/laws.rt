@@ -1,10 +1,15 @@
 //! Laws of the definitions: a byte list has one meaning.
 
-ghost use Rattle.gds_elements.specs.Once.{NoFaultLaw, OneFaultLaw, OneLibraryLaw};
+ghost use Rattle.gds_elements.specs.Once.{DerivedLaw, NoFaultLaw, OneFaultLaw, OneLibraryLaw};
 
 /// A byte list means one library or has one first fault, never both.
 pub fn one_meaning()
     ensures library { OneLibraryLaw }
     ensures apart { NoFaultLaw }
     ensures fault { OneFaultLaw }
+{}
+
+/// The grammar derives the kinds of what is accepted.
+pub fn derived()
+    ensures { DerivedLaw }
 {}

@@ -12,7 +12,7 @@ mod reader;
 mod reading;
 mod stream;
 
-pub use laws::one_meaning;
+pub use laws::{derived, one_meaning};
 pub use library::{GdsFault, Library, RawCell, RawRef, RawShape, RawText, ShapeForm};
 pub use pieces::LibraryReader;
 pub use reading::read_library;

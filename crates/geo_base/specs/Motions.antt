@@ -1,4 +1,5 @@
--- Motions of the plane: a turn, mirror first, then a shift; and the unit squares that they take to one another.
+-- Motions of the plane: a turn, mirror first, then a shift; and the unit squares that they take to
+-- one another.
 use Rattle.std.specs.Prelude.{◌≡◌, ℤ, pos, ◌+ℤ◌, ◌-ℤ◌}
 use Rattle.geo_base.specs.declared.shapes.Point.{Point}
 use Rattle.geo_base.specs.declared.shapes.Square.{Square}
@@ -37,7 +38,8 @@ pub record IsImage (m : Motion) (s t : Square) : Type 0 where
   pub x : (twice_centre t).x ≡ ((turned m.turn (twice_centre s)).x +ℤ m.dx) +ℤ m.dx
   pub y : (twice_centre t).y ≡ ((turned m.turn (twice_centre s)).y +ℤ m.dy) +ℤ m.dy
 
--- the one square that is the image, by its lower left corner: the turned corner, or the corner beside it
+-- the one square that is the image, by its lower left corner: the turned corner, or the corner
+-- beside it
 abbrev pub turned_x : Turn → ℤ → ℤ → ℤ
 turned_x R0 x y = x
 turned_x R90 x y = pos 0 -ℤ y -ℤ pos 1
@@ -59,4 +61,8 @@ turned_y M180 x y = y
 turned_y M270 x y = pos 0 -ℤ x -ℤ pos 1
 
 abbrev pub moved_square : Motion → Square → Square
-moved_square m s = record { x = turned_x m.turn s.x s.y +ℤ m.dx; y = turned_y m.turn s.x s.y +ℤ m.dy }
+moved_square m s = record {
+  x = turned_x m.turn s.x s.y +ℤ m.dx;
+  y = turned_y m.turn s.x s.y
+      +ℤ m.dy;
+}

@@ -22,7 +22,12 @@ pub record IsRect (r : Rect) : Type 0 where
 
 -- the rectangle between two opposite corners
 abbrev pub rect_between : Point → Point → Rect
-rect_between p q = record { x1 = int_min p.x q.x; y1 = int_min p.y q.y; x2 = int_max p.x q.x; y2 = int_max p.y q.y }
+rect_between p q = record {
+  x1 = int_min p.x q.x;
+  y1 = int_min p.y q.y;
+  x2 = int_max p.x q.x;
+  y2 = int_max p.y q.y;
+}
 
 -- the rectangle between the images of two opposite corners
 abbrev pub moved_rect : Motion → Rect → Rect

@@ -1,4 +1,5 @@
-//! The plane of a layout: points, unit squares, rectangles, and the motions that take them to one another.
+//! The plane of a layout: points, unit squares, rectangles, and the motions that take them to one
+//! another.
 #![tactic(auto)]
 
 mod layer;

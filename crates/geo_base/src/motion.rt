@@ -1,3 +1,5 @@
+//! Motions of the plane and their turns.
+
 ghost use Rattle.std.specs.Prelude.{◌≡◌, ◌^◌};
 ghost use Rattle.geo_base.specs.declared.shapes.Point.{Point};
 ghost use Rattle.geo_base.specs.declared.shapes.Square.{Square};
@@ -8,7 +10,8 @@ ghost use Rattle.geo_base.specs.Laws.{OneImageLaw, DifferentImagesLaw, OntoLaw, 
 
 use crate::shapes::{Point, Rect, Square};
 
-/// A turn about the origin. M turns mirror about the X axis first; then all go 0, 1, 2 or 3 quarters counterclockwise.
+/// A turn about the origin. M turns mirror about the X axis first; then all go 0, 1, 2 or 3
+/// quarters counterclockwise.
 #[derive(Clone, Copy, Debug, PartialEq, Eq)]
 pub enum Turn {
     R0,
@@ -136,7 +139,8 @@ impl Turn {
     }
 }
 
-/// A turn, then a shift by (dx, dy), in database units (GDSII Stream Format, STRANS, ANGLE and XY of a reference).
+/// A turn, then a shift by (dx, dy), in database units (GDSII Stream Format, STRANS, ANGLE and XY
+/// of a reference).
 #[derive(Clone, Copy, Debug, PartialEq, Eq)]
 pub struct Motion {
     pub turn: Turn,
@@ -232,8 +236,8 @@ impl Motion {
     }
 }
 
-/// What holds of the images of squares under every motion: each square has one image, different squares have different
-/// ones, and each square is the image of one.
+/// What holds of the images of squares under every motion: each square has one image, different
+/// squares have different ones, and each square is the image of one.
 pub fn image_laws()
     ensures one { OneImageLaw }
     ensures different { DifferentImagesLaw }

@@ -1,3 +1,5 @@
+//! Points, unit squares and rectangles.
+
 ghost use Rattle.std.specs.Prelude.{◌≡◌};
 ghost use Rattle.geo_base.specs.Rects.{is_between, has};
 

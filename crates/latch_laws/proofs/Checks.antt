@@ -1,10 +1,10 @@
 -- Tests over all nodes by which given colours are seen to be the classes of a round.
-use Rattle.std.proofs.Common.{◌≡◌, inl, inr, ℕ, zero, suc, ◌==◌, ◌&&◌, cond, Bool, true, false, List, [], ◌∷◌, ◌++◌, map, filter, Some, slice_get, refl, sym, subst, ◌∙◌, ap₂}
+use Rattle.std.proofs.Common.{◌≡◌, inl, inr, ℕ, suc, ◌==◌, ◌&&◌, cond, Bool, true, false, List, [], ◌∷◌, ◌++◌, map, filter, refl, sym, subst, ◌∙◌, ap₂}
 use Rattle.std.specs.List.{list_all, count_by}
 use Rattle.std.specs.Bool.{beq}
-use Rattle.std.proofs.lemmas.Option.{same_Some}
 use Rattle.std.proofs.lemmas.Bool.Decides.{Decides-eqb}
-use Rattle.round_laws.specs.Web.{IsListed, Web, IsWeb, IsNode, agree, same_ends, on_left, on_right, IsEven, IsStable, first_of}
+use Rattle.plain_netlist.specs.Lists.{IsListed}
+use Rattle.round_laws.specs.Web.{Web, IsWeb, IsNode, agree, same_ends, on_left, on_right, IsEven, IsStable, first_of}
 use Rattle.round_laws.proofs.Agree.{first, second, count_same, in_left, in_right}
 use Rattle.round_laws.proofs.Stable.{ends_alike}
 
@@ -12,11 +12,6 @@ pub all_at : {X : Type 0} (p : X → Bool) (x : X) (xs : List X) → list_all p 
 all_at p x [] h i = absurd i
 all_at {X} p x (y ∷ ys) h (inl e) = subst (λ (z : X). p z ≡ true) (sym e) (first (p y) _ h)
 all_at p x (y ∷ ys) h (inr i) = all_at p x ys (second (p y) _ h) i
-
-pub listed_of : {X : Type 0} (xs : List X) (k : ℕ) (x : X) → slice_get xs k ≡ Some x → IsListed x xs
-listed_of [] k x h = absurd cc
-listed_of (y ∷ ys) zero x h = inl (sym (same_Some _ _ h))
-listed_of (y ∷ ys) (suc k) x h = inr (listed_of ys k x h)
 
 beq_is : (a b : Bool) → beq a b ≡ true → a ≡ b
 beq_is true true h = refl

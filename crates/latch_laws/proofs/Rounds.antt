@@ -1,5 +1,6 @@
 -- The rounds of the two latches, without a guess and with one, and the answer.
 use Rattle.std.proofs.Common.{◌≡◌, inl, inr, ℕ, zero, suc, ◌==◌, ◌&&◌, ◌||◌, ◌<◌, ◌≤◌, ltb, not, Bool, true, List, [], ◌∷◌, ◌++◌, length, slice_get, slice_index, refl, sym, subst, ◌∙◌, ap, ap₂, arith}
+use Rattle.plain_netlist.proofs.Members.{listed}
 use Rattle.std.specs.List.{list_all, count_by}
 use Rattle.std.proofs.lemmas.Option.{none-some}
 use Rattle.std.proofs.lemmas.Bool.Decides.{Decides-eqb, Decides-ltb}
@@ -13,7 +14,7 @@ use Rattle.match_laws.specs.Answer.{Match, equal_names, setting_of, IsAnswer}
 use Rattle.match_laws.proofs.Images.{web_good, nodes_has, size}
 use Rattle.match_laws.proofs.Sums.{in_numbers}
 use Rattle.latch_laws.specs.Latch.{latches, swapped}
-use Rattle.latch_laws.proofs.Checks.{all_at, listed_of, Holds, started, went_on, stable_by, left_by, even_by, single_left, single_right, filter_same, first_same, map_same}
+use Rattle.latch_laws.proofs.Checks.{all_at, Holds, started, went_on, stable_by, left_by, even_by, single_left, single_right, filter_same, first_same, map_same}
 
 fits_by : (side : Side) → list_all (λ d. list_all (λ (e : End Node). ltb e.node.number 7) (device_ends side d)) (circuit_of latches side).devices ≡ true
 fits_by Layout = refl
@@ -31,7 +32,7 @@ pub fits : (side : Side) → IsFitting latches side
 fits side = record {
   devices = λ k d h e i.
       let low : e.node.number < 7 = (Decides-ltb _ _).0 (all_at (λ (x : End Node). ltb x.node.number 7) e (device_ends side d)
-      (all_at (λ (y : DeviceRow). list_all (λ (x : End Node). ltb x.node.number 7) (device_ends side y)) d (circuit_of latches side).devices (fits_by side) (listed_of _ k d h)) i) in
+      (all_at (λ (y : DeviceRow). list_all (λ (x : End Node). ltb x.node.number 7) (device_ends side y)) d (circuit_of latches side).devices (fits_by side) (listed _ k d h)) i) in
       subst (λ (n : ℕ). e.node.number < n) (sym (seven side)) low;
   calls = λ k c h n i. absurd (none-some c (ap (λ (cs : List _). slice_get cs k) (sym (no_calls side)) ∙ h));
   pins = λ k c h pins m. absurd (none-some pins m);

@@ -1,24 +1,26 @@
 -- The two latches as netlists: aligned as they are, sound, and matched.
-use Rattle.std.proofs.Common.{◌≡◌, ◌⊎◌, inl, inr, ℕ, zero, suc, ◌==◌, ◌<◌, ltb, cond, Bool, true, false, List, [], ◌∷◌, length, Some, slice_get, not, refl, sym, subst, ◌∙◌, ap, arith, true≢false}
+use Rattle.std.proofs.Common.{◌≡◌, inl, inr, ℕ, zero, suc, ◌==◌, ◌<◌, ltb, true, false, [], ◌∷◌, length, Some, slice_get, refl, sym, subst, ◌∙◌, ap, arith, true≢false}
+use Rattle.plain_netlist.proofs.Members.{listed}
 use Rattle.std.specs.List.{list_all}
 use Rattle.std.proofs.lemmas.Option.{none-some, same_Some}
 use Rattle.std.proofs.lemmas.Bool.Decides.{Decides-eqb, Decides-ltb}
+use Rattle.plain_netlist.specs.Lists.{IsListed}
 use Rattle.plain_netlist.specs.Netlist.{Pole, Source, Gate, Drain, Bulk, on, DeviceRow, CallRow, Circuit, IsCircuit, IsCall, IsDevice, IsPin, HasNet}
-use Rattle.round_laws.specs.Web.{IsListed}
+use Rattle.plain_netlist.specs.Normal.{terminal_nets, appearances, IsNormalCircuit}
+use Rattle.plain_netlist.specs.Sound.{AreNetsThere, IsGood, HasDevices, IsCalledFrom}
+use Rattle.plain_netlist.proofs.Numbered.{numbered}
 use Rattle.round_laws.specs.Nodes.{Side, Layout, Schematic}
-use Rattle.match_laws.specs.Circuits.{circuit_of, IsCorrespondence}
-use Rattle.match_laws.proofs.Answer.{matched}
-use Rattle.match_laws.specs.Answer.{equal_names}
-use Rattle.align_laws.specs.Flat.{IsWithin}
-use Rattle.align_laws.specs.Lists.{FlatCircuit, inlined, plain, AreFlat, IsGood}
+use Rattle.match_laws.specs.Circuits.{circuit_of}
+use Rattle.match_laws.specs.Answer.{Match, equal_names, IsAnswer}
+use Rattle.align_laws.specs.Lists.{FlatCircuit, inlined, plain, given_of, AreFlat}
 use Rattle.align_laws.specs.Cut.{cut, AreCut}
-use Rattle.align_laws.specs.Words.{AreNumbered}
-use Rattle.align_laws.specs.Aligned.{appearances, terminal_nets, IsNormal, IsAligned}
-use Rattle.composed_laws.specs.Composed.{IsMatch, IsSound}
-use Rattle.composed_laws.proofs.Through.{netlists}
-use Rattle.latch_laws.specs.Latch.{latches, swapped, netlist_of, pairings, choice_of, WholeLatchLaw}
-use Rattle.latch_laws.proofs.Checks.{all_at, listed_of}
-use Rattle.latch_laws.proofs.Rounds.{fits, answered}
+use Rattle.align_laws.specs.Aligned.{IsAlignedBy, IsAligned, HasOnlyKept}
+use Rattle.align_laws.specs.Partners.{IsPartnerByName, IsPartner, IsPair, ArePairs}
+use Rattle.composed_laws.specs.Answered.{pair_in, AreAnswers}
+use Rattle.composed_laws.proofs.Matching.{matched_tops}
+use Rattle.latch_laws.specs.Latch.{latches, swapped, netlist_of, answers, pairings, alignment_of, IsLatchPair, WholeLatchLaw}
+use Rattle.latch_laws.proofs.Checks.{all_at}
+use Rattle.latch_laws.proofs.Rounds.{answered}
 
 -- the netlist has this one circuit
 one_only : (side : Side) (c : ℕ) (x : Circuit) → IsCircuit (netlist_of side) c x → (c ≡ 0) × (circuit_of latches side ≡ x)
@@ -59,16 +61,16 @@ pin_in : (side : Side) (c i n : ℕ) → IsPin (netlist_of side) c i n → slice
 pin_in side c i n (x, is, h) = subst (λ (z : Circuit). slice_get z.pins i ≡ Some n) (sym (one_only side c x is).1) h
 
 device_in : (side : Side) (c j : ℕ) (d : DeviceRow) → IsDevice (netlist_of side) c j d → IsListed d (circuit_of latches side).devices
-device_in side c j d (x, is, h) = listed_of _ j d (subst (λ (z : Circuit). slice_get z.devices j ≡ Some d) (sym (one_only side c x is).1) h)
+device_in side c j d (x, is, h) = listed _ j d (subst (λ (z : Circuit). slice_get z.devices j ≡ Some d) (sym (one_only side c x is).1) h)
 
 terminal_low : (side : Side) (c j : ℕ) (d : DeviceRow) (pole : Pole) → IsDevice (netlist_of side) c j d → on pole d < 7
 terminal_low side c j d pole h =
     (Decides-ltb _ _).0 (all_at (λ n. ltb n 7) (on pole d) (terminal_nets d)
     (all_at (λ (x : DeviceRow). list_all (λ n. ltb n 7) (terminal_nets x)) d (circuit_of latches side).devices (devices_by side) (device_in side c j d h)) (terminal_listed pole d))
 
-within : (side : Side) → IsWithin (netlist_of side)
+within : (side : Side) → AreNetsThere (netlist_of side)
 within side = record {
-  pins = λ c i n h. has_net side c n h.0 h.1 ((Decides-ltb _ _).0 (all_at _ n (circuit_of latches side).pins (pins_by side) (listed_of _ i n (pin_in side c i n h))));
+  pins = λ c i n h. has_net side c n h.0 h.1 ((Decides-ltb _ _).0 (all_at _ n (circuit_of latches side).pins (pins_by side) (listed _ i n (pin_in side c i n h))));
   calls = λ c k p n row h e. absurd (no_call side c k row h);
   devices = λ c j row pole h. has_net side c (on pole row) h.0 h.1 (terminal_low side c j row pole h);
 }
@@ -86,8 +88,8 @@ pin_is : (side : Side) (i n : ℕ) → slice_get (circuit_of latches side).pins 
 pin_is Layout i n h = pin_at i n h
 pin_is Schematic i n h = pin_at i n h
 
-good : (side : Side) → IsGood (netlist_of side) (λ c. 0)
-good side = record {
+good : (side : Side) (height : ℕ → ℕ) → IsGood (netlist_of side) height
+good side height = record {
   within = within side;
   lower = λ c k row h. absurd (no_call side c k row h);
   called = λ c k row h. absurd (no_call side c k row h);
@@ -98,10 +100,10 @@ abbrev nothing : FlatCircuit
 nothing = record { name = []; nets = []; pins = []; devices = []; calls = [] }
 
 abbrev flats_of : Side → ℕ → FlatCircuit
-flats_of side c = inlined (λ k. not (k == 0)) (λ k. nothing) (circuit_of latches side)
+flats_of side c = inlined (λ k. false) (λ k. nothing) (circuit_of latches side)
 
 -- without calls it doesn't matter what they would bring
-flat_same : (side : Side) → flats_of side 0 ≡ inlined (λ k. not (k == 0)) (flats_of side) (circuit_of latches side)
+flat_same : (side : Side) → flats_of side 0 ≡ inlined (λ k. false) (flats_of side) (circuit_of latches side)
 flat_same Layout = refl
 flat_same Schematic = refl
 
@@ -109,14 +111,14 @@ plain_same : (side : Side) → plain (flats_of side 0) ≡ circuit_of latches si
 plain_same Layout = refl
 plain_same Schematic = refl
 
-flattened : (side : Side) → AreFlat (netlist_of side) (netlist_of side) (λ k. not (k == 0)) (flats_of side)
+flattened : (side : Side) → AreFlat (netlist_of side) (netlist_of side) (λ k. false) (flats_of side)
 flattened side = record {
-  each = λ c x h. flat_same side ∙ ap (inlined (λ k. not (k == 0)) (flats_of side)) (one_only side c x h).1;
+  each = λ c x h. flat_same side ∙ ap (inlined (λ k. false) (flats_of side)) (one_only side c x h).1;
   there = λ c x h. h ∙ ap Some (sym (one_only side c x h).1 ∙ sym (plain_same side));
   back = λ c x h. (x, h);
 }
 
-cut_same : (side : Side) → cut (netlist_of side) (choice_of side) 0 ≡ circuit_of latches side
+cut_same : (side : Side) → cut (netlist_of side) (alignment_of side) 0 ≡ circuit_of latches side
 cut_same Layout = refl
 cut_same Schematic = refl
 
@@ -142,10 +144,10 @@ held_one Schematic (suc (suc (suc (suc (suc zero))))) h = (0, _, Drain, refl, re
 held_one Schematic (suc (suc (suc (suc (suc (suc zero)))))) h = (0, _, Gate, refl, refl)
 held_one Schematic (suc (suc (suc (suc (suc (suc (suc n))))))) h = absurd (omega arith)
 
-cut_down : (side : Side) → AreCut (netlist_of side) (netlist_of side) (choice_of side)
+cut_down : (side : Side) → AreCut (netlist_of side) (netlist_of side) (alignment_of side)
 cut_down side = record {
   given = λ c k. (circuit_of latches side, subst (λ (n : ℕ). IsCircuit (netlist_of side) n (circuit_of latches side)) (sym (first_only c k)) refl);
-  there = λ c k. subst (λ (n : ℕ). IsCircuit (netlist_of side) n (cut (netlist_of side) (choice_of side) n)) (sym (first_only c k)) (ap Some (sym (cut_same side)));
+  there = λ c k. subst (λ (n : ℕ). IsCircuit (netlist_of side) n (cut (netlist_of side) (alignment_of side) n)) (sym (first_only c k)) (ap Some (sym (cut_same side)));
   held = λ c n k. (
     (λ h.
         let t = held_one side n ((Decides-ltb _ _).0 h) in
@@ -156,70 +158,90 @@ cut_down side = record {
     ]),
   );
   back = λ c n h. refl;
-  dead = λ c k row kept h goes. absurd (no_call side c k row h);
-  pins = λ c i n h. pin_is side i n (pin_in side c i n h);
-  called = λ c k row h. absurd (no_call side c k row h);
 }
 
--- a test for numbers that appear as 0, 1, 2, ..
-abbrev numbered_by : ℕ → ℕ → List ℕ → Bool
-numbered_by total next [] = next == total
-numbered_by total next (x ∷ xs) = cond (ltb x next) (numbered_by total next xs) (cond (x == next) (numbered_by total (suc next) xs) false)
+normal_first : (side : Side) → IsNormalCircuit (cut (netlist_of side) (alignment_of side) 0)
+normal_first Layout = record { pins = pin_at; numbered = numbered 7 0 (appearances (cut (netlist_of Layout) (alignment_of Layout) 0)) refl }
+normal_first Schematic = record { pins = pin_at; numbered = numbered 7 0 (appearances (cut (netlist_of Schematic) (alignment_of Schematic) 0)) refl }
 
-pick : (x next : ℕ) (P Q : Type 0) (p q : Bool) → (p ≡ true → P) → (q ≡ true → Q) → (b c : Bool) → ltb x next ≡ b → (x == next) ≡ c → cond b p (cond c q false) ≡ true
-    → ((x < next) × P) ⊎ ((x ≡ next) × Q)
-pick x next P Q p q f g true c e d k = inl ((Decides-ltb x next).0 e, f k)
-pick x next P Q p q f g false true e d k = inr ((Decides-eqb x next).0 d, g k)
-pick x next P Q p q f g false false e d k = absurd (true≢false (sym k))
+abbrev IsNamedAt : Side → ℕ → ℕ → Type 0
+IsNamedAt side c m = slice_get (circuit_of latches side).nets m ≡ slice_get (given_of (netlist_of side) c).nets m
 
-numbered : (total next : ℕ) (xs : List ℕ) → numbered_by total next xs ≡ true → AreNumbered total next xs
-numbered total next [] h = (Decides-eqb _ _).0 h
-numbered total next (x ∷ xs) h =
-    pick x next (AreNumbered total next xs) (AreNumbered total (suc next) xs) (numbered_by total next xs) (numbered_by total (suc next) xs)
-    (λ k. numbered total next xs k) (λ k. numbered total (suc next) xs k) (ltb x next) (x == next) refl refl h
+named_first : (side : Side) (m : ℕ) → IsNamedAt side 0 m
+named_first side m = refl
 
-normal_first : (side : Side) → IsNormal (netlist_of side) (choice_of side) 0
-normal_first Layout = record { numbered = numbered 7 0 (appearances (cut (netlist_of Layout) (choice_of Layout) 0)) refl; named = λ m low. refl }
-normal_first Schematic = record { numbered = numbered 7 0 (appearances (cut (netlist_of Schematic) (choice_of Schematic) 0)) refl; named = λ m low. refl }
-
-pub aligned : (side : Side) → IsAligned (netlist_of side) (netlist_of side) (choice_of side)
-aligned side = record {
+aligned_by : (side : Side) → IsAlignedBy (λ c. false) (netlist_of side) (netlist_of side) (alignment_of side)
+aligned_by side = record {
   height = λ c. 0;
-  good = good side;
+  good = good side (λ c. 0);
   flat = netlist_of side;
   flats = flats_of side;
   flattened = flattened side;
   cut_down = cut_down side;
-  normal = λ c k. subst (λ (n : ℕ). IsNormal (netlist_of side) (choice_of side) n) (sym (first_only c k)) (normal_first side);
+  normal = λ c k. subst (λ (n : ℕ). IsNormalCircuit (cut (netlist_of side) (alignment_of side) n)) (sym (first_only c k)) (normal_first side);
+  named = λ c m k low. subst (λ (n : ℕ). IsNamedAt side n m) (sym (first_only c k)) (named_first side m);
 }
 
-pub sound : (side : Side) → IsSound (netlist_of side) latches.children
-sound side = record {
-  within = within side;
-  called = λ c k row h. absurd (no_call side c k row h);
-  lists = λ c k row pins h m. absurd (no_call side c k row h);
+-- no circuit but the kept one has devices
+devices_first : (side : Side) (c : ℕ) → HasDevices (netlist_of side) c → c ≡ 0
+devices_first side c ([], i, row, (x, is, h)) = (one_only side c x is).0
+devices_first side c ((k ∷ ks), i, row, (call, is, h)) = absurd (no_call side c k call is)
+
+pub aligned : (side : Side) → IsAligned (netlist_of side) (netlist_of side) (alignment_of side)
+aligned side = record {
+  goes = λ c. false;
+  going = λ c. ((λ h. absurd (true≢false (sym h))), (λ (gone, has). absurd (true≢false (subst (λ (n : ℕ). (n == 0) ≡ false) (devices_first side c has) gone))));
+  by = aligned_by side;
 }
 
-corresponds : IsCorrespondence latches swapped
-corresponds = matched latches (equal_names latches) 1 swapped (fits Layout) (fits Schematic) (answered 1 (omega arith))
-
-pub match : IsMatch (netlist_of Layout) (netlist_of Schematic) latches.children pairings
-match = record {
-  there = λ k c h. (circuit_of latches Schematic, subst (λ (n : ℕ). IsCircuit (netlist_of Schematic) n (circuit_of latches Schematic)) (sym (one_only Layout k c h).0) refl);
-  back = λ k d h. (circuit_of latches Layout, subst (λ (n : ℕ). IsCircuit (netlist_of Layout) n (circuit_of latches Layout)) (sym (one_only Schematic k d h).0) refl);
-  each = λ k c d h g.
-      subst (λ (x : Circuit). IsCorrespondence (record { left = x; right = d; children = latches.children }) swapped) (one_only Layout k c h).1
-      (subst (λ (y : Circuit). IsCorrespondence (record { left = circuit_of latches Layout; right = y; children = latches.children }) swapped) (one_only Schematic k d g).1 corresponds);
-  pins = λ k c d pins h g none. absurd (none-some pins none);
+pub only : (side : Side) → HasOnlyKept (netlist_of side) (alignment_of side)
+only side = record {
+  from = λ i x is. (i, (Decides-eqb i 0).1 (one_only side i x is).0, refl);
+  apart = λ a b h k e. e;
 }
+
+by_name : IsPartnerByName (netlist_of Layout) (netlist_of Schematic) 0 [] 0 0
+by_name = inr ((λ (l, i, n). absurd i), (λ (l, i, n). absurd i), ((circuit_of latches Layout).name, (circuit_of latches Layout, refl, refl), (circuit_of latches Schematic, refl, refl)))
+
+partner : IsPartner (netlist_of Layout) (netlist_of Schematic) 0 [] 0 0
+partner = inr (by_name, λ h. h.unnamed 0 by_name)
+
+pair : IsPair (netlist_of Layout) (netlist_of Schematic) 0 [] 0 0 0
+pair = record { tops = partner; partner = partner; called = ([], refl); right_called = ([], refl); devices = inl refl }
+
+-- no other circuits are called
+called_first : (side : Side) (c : ℕ) → IsCalledFrom (netlist_of side) 0 c → 0 ≡ c
+called_first side c ([], h) = h
+called_first side c ((k ∷ ks), (row, call, h)) = absurd (no_call side 0 k row call)
+
+pairs : ArePairs (netlist_of Layout) (netlist_of Schematic) 0 [] 0 (alignment_of Layout) (alignment_of Schematic)
+pairs = record {
+  left_kept = λ a. (
+    (λ h. (0, subst (λ (n : ℕ). IsPair (netlist_of Layout) (netlist_of Schematic) 0 [] 0 n 0) (sym (first_only a h)) pair)),
+    (λ (b, p). (Decides-eqb a 0).1 (sym (called_first Layout a p.called))),
+  );
+  right_kept = λ b. (
+    (λ h. (0, subst (λ (n : ℕ). IsPair (netlist_of Layout) (netlist_of Schematic) 0 [] 0 0 n) (sym (first_only b h)) pair)),
+    (λ (a, p). (Decides-eqb b 0).1 (sym (called_first Schematic b p.right_called))),
+  );
+  together = λ a b p. sym (called_first Layout a p.called) ∙ called_first Schematic b p.right_called;
+  rising = λ a b low h k. low;
+}
+
+pub aligned_pair : IsLatchPair
+aligned_pair = record { partner = partner; pairs = pairs; left_aligned = aligned Layout; right_aligned = aligned Schematic; left_only = only Layout; right_only = only Schematic }
+
+are_answers : AreAnswers (netlist_of Layout) (netlist_of Schematic) 1 answers
+are_answers k c d is also =
+    subst (λ (x : Circuit). IsAnswer (pair_in (netlist_of Layout) answers x d) (equal_names (pair_in (netlist_of Layout) answers x d)) 1 (Match swapped)) (one_only Layout k c is).1
+    (subst (λ (y : Circuit). IsAnswer (pair_in (netlist_of Layout) answers (circuit_of latches Layout) y) (equal_names (pair_in (netlist_of Layout) answers (circuit_of latches Layout) y)) 1 (Match swapped)) (one_only Schematic k d also).1
+    (answered 1 (omega arith)))
 
 pub whole : WholeLatchLaw
 whole = (
-  aligned Layout,
-  aligned Schematic,
-  match,
-  sound Layout,
-  sound Schematic,
-  netlists (netlist_of Layout) (netlist_of Layout) (netlist_of Schematic) (netlist_of Schematic) (choice_of Layout) (choice_of Schematic) (aligned Layout) (aligned Schematic)
-      latches.children pairings match (sound Layout) (sound Schematic) 0 0 refl refl refl,
+  aligned_pair,
+  are_answers,
+  (λ k c is. refl),
+  matched_tops (netlist_of Layout) (netlist_of Schematic) 0 0 [] (netlist_of Layout) (netlist_of Schematic) (alignment_of Layout) (alignment_of Schematic) aligned_pair 1 answers pairings
+      are_answers (λ k c is. refl),
 )

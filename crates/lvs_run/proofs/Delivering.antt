@@ -11,11 +11,12 @@ use Rattle.lvs_run.specs.declared.run.Output.{Output}
 use Rattle.lvs_run.specs.Words.{Paths}
 use Rattle.lvs_run.specs.Answers.{Answer, Outside, refused}
 use Rattle.lvs_run.specs.Lines.{line_of}
-use Rattle.lvs_run.specs.Runs.{Leaves}
-use Rattle.lvs_run.specs.Inputs.{Quiet, Stops, IsReady, stopped}
+use Rattle.lvs_run.specs.Runs.{WritesPart}
+use Rattle.lvs_run.specs.Inputs.{Quiet, Stops, IsReady, ComesOf, stopped}
+use Rattle.lvs_run.specs.Outcomes.{IsOutcome}
 use Rattle.lvs_run.specs.declared.input.Stop.{Stop}
 use Rattle.lvs_run.specs.declared.input.Stop.TheVariants as stop
-use Rattle.lvs_run.specs.Ends.{Took, Delivered, Refused, ComesOut}
+use Rattle.lvs_run.specs.Ends.{Took, TookPart, Delivered, Refused, ComesOut, FailsAt, AtInput, AtRefusal, AtFile, AtLine}
 
 appended-nil : (t : Told) → t ≡ appended t []
 appended-nil Untold = refl
@@ -32,19 +33,14 @@ part_since old mid new path text same h = record { front = h.front; behind = h.b
 whole_as_part : (old new : Store) (path text : List ℕ) → HoldsNow old new path text → ForPrefix text (HoldsNow old new path)
 whole_as_part old new path text h = record { front = text; behind = []; whole = append-nil text; holds = h }
 
--- nothing was sent
-says_none : (before after : SinkState) → after.told ≡ before.told → (line : List ℕ) × ForPrefix line (λ front. after.told ≡ appended before.told front)
-says_none before after e = ([], record { front = []; behind = []; whole = refl; holds = e ∙ appended-nil before.told })
+-- the line or the file that a fault stopped
+part_left : (p : Paths) (old mid new : Store) (path text : List ℕ) → path ≡ p.shapes → SameFiles old mid
+    → SameFiles mid new ⊎ ForPrefix text (HoldsNow mid new path) → WritesPart (Some p) old new text
+part_left p old mid new path text e same (inl h) = inl (λ q. h q ∙ same q)
+part_left p old mid new path text e same (inr h) = inr (subst (λ (q : List ℕ). ForPrefix text (HoldsNow old new q)) e (part_since old mid new path text same h))
 
-left_outside : (p : Paths) (old mid new : Store) (path text : List ℕ) → path ≡ p.shapes → SameFiles old mid
-    → SameFiles mid new ⊎ ForPrefix text (HoldsNow mid new path) → Leaves (Some p) old new [] Outside
-left_outside p old mid new path text e same (inl h) = inl (λ q. h q ∙ same q)
-left_outside p old mid new path text e same (inr h) = inr (text, subst (λ (q : List ℕ). ForPrefix text (HoldsNow old new q)) e (part_since old mid new path text same h))
-
-went_outside : (p : Paths) (old mid new : Store) (before after : SinkState) (path text : List ℕ) → path ≡ p.shapes → SameFiles old mid
-    → SameFiles mid new ⊎ ForPrefix text (HoldsNow mid new path) → (line : List ℕ) × ForPrefix line (λ front. after.told ≡ appended before.told front)
-    → ComesOut (Some p) old new before after Outside
-went_outside p old mid new before after path text e same files says = record { text = []; count = 0; comes = tt; leaves = left_outside p old mid new path text e same files; says = says }
+went_outside : (said : Option Paths) (old new : Store) (before after : SinkState) → FailsAt said old new before after → ComesOut said old new before after Outside
+went_outside said old new before after fails = record { text = []; count = 0; comes = tt; leaves = tt; says = tt; fails = fails }
 
 delivered_to : (p : Paths) (old mid new : Store) (before after : SinkState) (o : Output) (a : Answer)
     → Quiet old mid → string_bytes o.path ≡ p.shapes → IsReady (Some p) old mid o → Delivered o mid new before after a → ComesOut (Some p) old new before after a
@@ -57,13 +53,15 @@ delivered_to p old mid new before after o a quiet path ready (inl h) =
       comes = ready.comes;
       leaves = (subst (λ (q : List ℕ). HoldsNow old new q o.text.items) path file, h.1.left_open ∙ quiet.starts.left_open);
       says = h.2.told ∙ ap (appended before.told) ready.line;
+      fails = tt;
     })
 delivered_to p old mid new before after o a quiet path ready (inr (inl h)) =
+    let file = holds_since old mid new (string_bytes o.path) o.text.items quiet.starts.files h.1.file in
     subst (ComesOut (Some p) old new before after) (sym h.0)
-    (went_outside p old mid new before after (string_bytes o.path) o.text.items path quiet.starts.files (inr (whole_as_part mid new (string_bytes o.path) o.text.items h.1.file)) (o.line.items, h.2.told))
+    (went_outside (Some p) old new before after (AtLine o.text.items o.count ready.comes (subst (λ (q : List ℕ). HoldsNow old new q o.text.items) path file) (subst (TookPart before after) ready.line h.2)))
 delivered_to p old mid new before after o a quiet path ready (inr (inr h)) =
     subst (ComesOut (Some p) old new before after) (sym h.0)
-    (went_outside p old mid new before after (string_bytes o.path) o.text.items path quiet.starts.files h.1.file (says_none before after h.2.told))
+    (went_outside (Some p) old new before after (AtFile o.text.items o.count ready.comes (part_left p old mid new (string_bytes o.path) o.text.items path quiet.starts.files h.1.file) h.2))
 
 pub delivered : (stated : Option Paths) (old mid new : Store) (before after : SinkState) (o : Output) (a : Answer)
     → Quiet old mid → IsReady stated old mid o → Delivered o mid new before after a → ComesOut stated old new before after a
@@ -74,22 +72,33 @@ delivered stated old mid new before after o a quiet ready h =
 -- a refusal's line was sent whole
 sent : (stated : Option Paths) (old new : Store) (before after : SinkState) (why : Refusal)
     → Quiet old new → Stops stated old new (refused why) → Took before after (line_of (refused why) 0) → ComesOut stated old new before after (refused why)
-sent stated old new before after Words quiet stops took = record { text = []; count = 0; comes = stops.comes [] 0; leaves = quiet.starts; says = took.told }
-sent stated old new before after (SamePath path) quiet stops took = record { text = []; count = 0; comes = stops.comes [] 0; leaves = quiet.starts; says = took.told }
-sent stated old new before after (Absent path) quiet stops took = record { text = []; count = 0; comes = stops.comes [] 0; leaves = quiet.starts; says = took.told }
-sent stated old new before after (TooLong path) quiet stops took = record { text = []; count = 0; comes = stops.comes [] 0; leaves = quiet.starts; says = took.told }
-sent stated old new before after (Rules fault) quiet stops took = record { text = []; count = 0; comes = stops.comes [] 0; leaves = quiet.starts; says = took.told }
-sent stated old new before after (Layout (gds.Bad n i o)) quiet stops took = record { text = []; count = 0; comes = stops.comes [] 0; leaves = quiet.starts; says = took.told }
-sent stated old new before after (Layout gds.NoMemory) quiet stops took = record { text = []; count = 0; comes = stops.comes [] 0; leaves = quiet.starts; says = took.told }
-sent stated old new before after (Unbuilt path) quiet stops took = record { text = []; count = 0; comes = stops.comes [] 0; leaves = quiet.starts; says = took.told }
+sent stated old new before after Words quiet stops took = record { text = []; count = 0; comes = stops.comes [] 0; leaves = quiet.starts; says = took.told; fails = tt }
+sent stated old new before after (SamePath path) quiet stops took = record { text = []; count = 0; comes = stops.comes [] 0; leaves = quiet.starts; says = took.told; fails = tt }
+sent stated old new before after (Absent path) quiet stops took = record { text = []; count = 0; comes = stops.comes [] 0; leaves = quiet.starts; says = took.told; fails = tt }
+sent stated old new before after (TooLong path) quiet stops took = record { text = []; count = 0; comes = stops.comes [] 0; leaves = quiet.starts; says = took.told; fails = tt }
+sent stated old new before after (Rules fault) quiet stops took = record { text = []; count = 0; comes = stops.comes [] 0; leaves = quiet.starts; says = took.told; fails = tt }
+sent stated old new before after (Layout (gds.Bad n i o)) quiet stops took = record { text = []; count = 0; comes = stops.comes [] 0; leaves = quiet.starts; says = took.told; fails = tt }
+sent stated old new before after (Layout gds.NoMemory) quiet stops took = record { text = []; count = 0; comes = stops.comes [] 0; leaves = quiet.starts; says = took.told; fails = tt }
+sent stated old new before after (Unbuilt path) quiet stops took = record { text = []; count = 0; comes = stops.comes [] 0; leaves = quiet.starts; says = took.told; fails = tt }
+
+-- the outcome of a refusal
+refusal_comes : (stated : Option Paths) (old : Store) (why : Refusal) → ComesOf stated old (refused why) → IsOutcome stated old.file (refused why) [] 0
+refusal_comes stated old Words comes = comes [] 0
+refusal_comes stated old (SamePath path) comes = comes [] 0
+refusal_comes stated old (Absent path) comes = comes [] 0
+refusal_comes stated old (TooLong path) comes = comes [] 0
+refusal_comes stated old (Rules fault) comes = comes [] 0
+refusal_comes stated old (Layout (gds.Bad n i o)) comes = comes [] 0
+refusal_comes stated old (Layout gds.NoMemory) comes = comes [] 0
+refusal_comes stated old (Unbuilt path) comes = comes [] 0
 
 refused_out : (stated : Option Paths) (old new : Store) (before after : SinkState) (why : Refusal) (a : Answer)
     → Quiet old new → Stops stated old new (refused why) → Refused (refused why) before after a → ComesOut stated old new before after a
 refused_out stated old new before after why a quiet stops (inl h) = subst (ComesOut stated old new before after) (sym h.0) (sent stated old new before after why quiet stops h.1)
 refused_out stated old new before after why a quiet stops (inr (inl h)) =
-    subst (ComesOut stated old new before after) (sym h.0) (record { text = []; count = 0; comes = tt; leaves = inl quiet.starts.files; says = (line_of (refused why) 0, h.1.told) })
+    subst (ComesOut stated old new before after) (sym h.0) (went_outside stated old new before after (AtRefusal (refused why) (refusal_comes stated old why stops.comes) quiet.starts h.1))
 refused_out stated old new before after why a quiet stops (inr (inr h)) =
-    subst (ComesOut stated old new before after) (sym h.0) (record { text = []; count = 0; comes = tt; leaves = quiet.starts; says = (h.1.told, h.1.write_calls) })
+    subst (ComesOut stated old new before after) (sym h.0) (record { text = []; count = 0; comes = tt; leaves = quiet.starts; says = (h.1.told, h.1.write_calls); fails = tt })
 
 -- the same, from the stop that is the refusal
 pub stop_out : (stated : Option Paths) (old new : Store) (before after : SinkState) (s : Stop) (why : Refusal) (a : Answer)
@@ -97,4 +106,4 @@ pub stop_out : (stated : Option Paths) (old new : Store) (before after : SinkSta
 stop_out stated old new before after s why a e quiet stops h = refused_out stated old new before after why a quiet (subst (λ (t : Stop). Stops stated old new (stopped t)) e stops) h
 
 pub stopped_outside : (stated : Option Paths) (old new : Store) (sink : SinkState) → Quiet old new → ComesOut stated old new sink sink Outside
-stopped_outside stated old new sink quiet = record { text = []; count = 0; comes = tt; leaves = inl quiet.starts.files; says = says_none sink sink refl }
+stopped_outside stated old new sink quiet = went_outside stated old new sink sink (AtInput quiet.starts (record { told = refl; write_calls = refl; faults = refl }))

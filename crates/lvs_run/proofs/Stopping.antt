@@ -92,7 +92,7 @@ of_rules p file a text count e h = subst (λ (o : Option (List ℕ)). OfPaths o 
 -- the rules are refused
 module _ (p : Paths) (old new : Store) (apart : same_path p ≡ None) where
   rules_cause : (a : Answer) → NoRules old new p.rules a → HasCauseIn (Some p) old new a
-  rules_cause (RefusedAbsent path) h = ((apart, inl h.0), record { one = h.2.one; last = h.2.last ∙ sym h.0 })
+  rules_cause (RefusedAbsent path) h = ((apart, inl h.0), record { one = h.2.one; last = h.2.last ∙ sym h.0; closed = h.2.closed })
   rules_cause (RefusedLong path) h = ((apart, inl h.0), subst (IsReadTooFar new.opened) (sym h.0) h.2, h.3)
   rules_cause (RefusedRules fault) h = ((apart, read_whole old new p.rules h.bytes new.opened h.got.opened h.got.told), h.got.absent)
   rules_cause Outside h = tt
@@ -149,7 +149,7 @@ module _ (p : Paths) (old mid new : Store) (r : Rules) (apart : same_path p ≡ 
       (SoundRules r rules.is (subst (λ (t : Told). OfLayout t r p a text count) same_file h)))
 
   layout_cause : (a : Answer) → NoLibrary mid new p.layout a → HasCauseIn (Some p) old new a
-  layout_cause (RefusedAbsent path) h = ((apart, inr h.0), record { one = h.2.one ∙ ap (λ (n : ℕ). n + 1) rules.got.absent; last = h.2.last ∙ sym h.0 })
+  layout_cause (RefusedAbsent path) h = ((apart, inr h.0), record { one = h.2.one ∙ ap (λ (n : ℕ). n + 1) rules.got.absent; last = h.2.last ∙ sym h.0; closed = h.2.closed })
   layout_cause (RefusedLong path) h = ((apart, inr h.0), subst (IsReadTooFar new.opened) (sym h.0) h.2, h.3 ∙ rules.got.absent)
   layout_cause (RefusedLayout n i o) h = ((apart, read_whole old new p.layout h.bytes new.opened h.got.opened (subst (IsInput h.bytes) same_file h.got.told)), h.got.absent ∙ rules.got.absent)
   layout_cause Outside h = tt

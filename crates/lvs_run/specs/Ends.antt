@@ -1,10 +1,10 @@
 -- What the end of a run comes to: the line of a refusal, or the file and its line.
-use Rattle.std.specs.Prelude.{◌≡◌, ◌⊎◌, ◌<◌, ℕ, List, Option, string_bytes}
+use Rattle.std.specs.Prelude.{◌≡◌, ◌⊎◌, ◌<◌, ℕ, List, [], Option, string_bytes}
 use Rattle.lvs_outside.specs.Store.{Store, SameFiles, appended}
 use Rattle.lvs_outside.specs.Summary.{SinkState}
 use Rattle.lvs_outside.specs.Loops.{HoldsNow, ForPrefix}
 use Rattle.lvs_run.specs.Answers.{Answer, Good, Outside, NoMemory}
-use Rattle.lvs_run.specs.Runs.{depot_faults, sink_faults, Leaves, Says}
+use Rattle.lvs_run.specs.Runs.{depot_faults, sink_faults, Leaves, Says, StartsNone, WritesPart, WritesShapes}
 use Rattle.lvs_run.specs.Lines.{line_of}
 use Rattle.lvs_run.specs.Outcomes.{IsOutcome}
 use Rattle.lvs_run.specs.Words.{Paths}
@@ -57,6 +57,19 @@ IsOrElse Outside P = Unit {0}
 IsOrElse NoMemory P = Unit {0}
 IsOrElse a P = P
 
+-- Where a run was when the outside failed: reading its inputs, with nothing written or sent; sending the line of the refusal
+-- that the told files come to; writing the text that they come to, with no line sent; or sending the line behind that text.
+pub data FailsAt (said : Option Paths) (old new : Store) (before after : SinkState) : Type 0 where
+  AtInput : StartsNone old new → TookNone before after → FailsAt said old new before after
+  AtRefusal : (wanted : Answer) → IsOutcome said old.file wanted [] 0 → StartsNone old new → TookPart before after (line_of wanted 0) → FailsAt said old new before after
+  AtFile : (text : List ℕ) (count : ℕ) → IsOutcome said old.file Good text count → WritesPart said old new text → TookNone before after → FailsAt said old new before after
+  AtLine : (text : List ℕ) (count : ℕ) → IsOutcome said old.file Good text count → WritesShapes said old new text → TookPart before after (line_of Good count) → FailsAt said old new before after
+
+-- after Outside the run failed at one of these places
+abbrev pub Fails : Option Paths → Store → Store → SinkState → SinkState → Answer → Type 0
+Fails said old new before after Outside = FailsAt said old new before after
+Fails said old new before after a = Unit {0}
+
 -- the outcome: of the told files and what is written, with the line of it; after Outside and NoMemory what they leave
 pub record ComesOut (said : Option Paths) (old new : Store) (before after : SinkState) (a : Answer) : Type 0 where
   pub text : List ℕ
@@ -64,3 +77,4 @@ pub record ComesOut (said : Option Paths) (old new : Store) (before after : Sink
   pub comes : IsOrElse a (IsOutcome said old.file a text count)
   pub leaves : Leaves said old new text a
   pub says : Says a count before after
+  pub fails : Fails said old new before after a

@@ -73,10 +73,11 @@ abbrev pub IsLayout : Option Paths → List ℕ → Type 0
 IsLayout None path = ⊥
 IsLayout (Some p) path = path ≡ p.layout
 
--- the last absent answer was for this path, and there was one
+-- there was one absent answer, for this path, and nothing was opened after it
 pub record WasAbsent (old new : Store) (path : List ℕ) : Type 0 where
   pub one : new.absent ≡ old.absent + 1
   pub last : new.last_absent ≡ path
+  pub closed : new.opened ≡ Closed
 
 -- what stands behind an answer: each refusal has its cause, and other answers come only without one
 abbrev pub HasCauseIn : Option Paths → Store → Store → Answer → Type 0
@@ -104,19 +105,19 @@ abbrev pub WritesShapes : Option Paths → Store → Store → List ℕ → Type
 WritesShapes None old new text = ⊥
 WritesShapes (Some p) old new text = HoldsNow old new p.shapes text
 
--- the shapes file holds a prefix of one text, and all other files stay
-abbrev pub WritesPart : Option Paths → Store → Store → Type 0
-WritesPart None old new = ⊥
-WritesPart (Some p) old new = (text : List ℕ) × ForPrefix text (HoldsNow old new p.shapes)
+-- the shapes file is as it was or holds a prefix of this text, and all other files stay
+abbrev pub WritesPart : Option Paths → Store → Store → List ℕ → Type 0
+WritesPart None old new text = ⊥
+WritesPart (Some p) old new text = SameFiles old new ⊎ ForPrefix text (HoldsNow old new p.shapes)
 
--- what was written by each answer; the text is what Good writes
+-- what was written by each answer but Outside; the text is what Good writes
 abbrev pub Leaves : Option Paths → Store → Store → List ℕ → Answer → Type 0
 Leaves said old new text Good = WritesShapes said old new text × (new.left_open ≡ old.left_open)
-Leaves said old new text Outside = SameFiles old new ⊎ WritesPart said old new
+Leaves said old new text Outside = Unit {0}
 Leaves said old new text a = StartsNone old new
 
--- the sink took the answer's line, a prefix of one after a fault, and nothing where memory ran out
+-- the sink took the answer's line, and nothing where memory ran out; Outside says nothing of it here
 abbrev pub Says : Answer → ℕ → SinkState → SinkState → Type 0
-Says Outside count before after = (line : List ℕ) × ForPrefix line (λ front. after.told ≡ appended before.told front)
+Says Outside count before after = Unit {0}
 Says NoMemory count before after = (after.told ≡ before.told) × (after.write_calls ≡ before.write_calls)
 Says a count before after = after.told ≡ appended before.told (line_of a count)

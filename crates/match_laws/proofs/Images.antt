@@ -6,17 +6,18 @@ use Rattle.std.specs.Bool.{Decides, beq}
 use Rattle.std.proofs.lemmas.List.Sums.{sum_by-cons, sum_by-append}
 use Rattle.std.proofs.lemmas.Bool.Decides.{Decides-eqb}
 use Rattle.std.proofs.lemmas.Slice.Eq.{bytes_eq-Decides}
-use Rattle.round_laws.specs.Web.{Port, Channel, Gate, Bulk, Pin, IsListed, End, IsWeb, Carries}
+use Rattle.plain_netlist.specs.Lists.{IsListed}
+use Rattle.round_laws.specs.Web.{Port, Channel, Gate, Bulk, Pin, End, IsWeb, IsWebMap}
 use Rattle.round_laws.specs.Nodes.{Node, Side, Layout, Schematic, Kind, Net, Device, Call}
 use Rattle.plain_netlist.specs.Netlist.{DeviceRow, CallRow}
-use Rattle.match_laws.specs.Circuits.{Pair, circuit_of, place, numbers_from, node, end_at, device_ends, call_ends, terminals, terminals_of, owners, nodes, same_side, same_kind, same_node, turned, near_at, Own, OfNet, OfDevice, OfCall, OfNone, same_own, own_at, own, web_of, IsOneToOne, Pairing, IsDeviceImage, IsCallImage, IsCorrespondence, IsFitting, image_at, carried}
+use Rattle.match_laws.specs.Circuits.{Pair, circuit_of, right_pin, numbers_from, node, end_at, device_ends, call_ends, terminals, terminals_of, owners, nodes, same_side, same_kind, same_node, ends_on, near_at, Own, OfNet, OfDevice, OfCall, OfNone, same_own, own_at, own, web_of, IsOneToOne, Pairing, IsDeviceImage, IsCallImage, IsCorrespondence, IsFitting, image_at, node_image}
 use Rattle.round_laws.proofs.Agree.{at_equivalence, both, first, second, same_test, is_it, in_left, in_right}
 use Rattle.round_laws.proofs.Stable.{in_either, any_found, any_of}
 use Rattle.round_laws.proofs.Unique.{node_is}
 use Rattle.match_laws.proofs.Sums.{decided_equivalence, sum_same, sum-map, sum-flat, in_numbers, numbers_has, onto_sum, index_below, index_one, listed_index, found_at, map_has, in_map}
 
 -- nodes
-side_decides : (a b : Side) → Decides (same_side a b) (a ≡ b)
+pub side_decides : (a b : Side) → Decides (same_side a b) (a ≡ b)
 side_decides Layout Layout = ((λ _. refl), (λ _. refl))
 side_decides Layout Schematic = ((λ h. absurd (true≢false (sym h))), (λ h. absurd cc))
 side_decides Schematic Layout = ((λ h. absurd (true≢false (sym h))), (λ h. absurd cc))
@@ -89,14 +90,14 @@ each_node p side P h a i =
     subst (λ (s : Side). P (node s a.kind a.number)) (sym t.stands) (h a.kind a.number t.below)
 
 -- sums over the nodes of a side
-sum_nodes : (p : Pair) (side : Side) (g : Node → ℕ) → sum_by g (nodes p side)
+pub sum_nodes : (p : Pair) (side : Side) (g : Node → ℕ) → sum_by g (nodes p side)
     ≡ sum_by (λ k. g (node side Net k)) (numbers_from 0 (size p side Net)) + sum_by g (owners p side)
 sum_nodes p side g =
     let a = sum_by-append g (map (node side Net) (numbers_from 0 (size p side Net))) (owners p side) in
     let b = sum-map g (node side Net) (numbers_from 0 (size p side Net)) in
     omega arith
 
-sum_owners : (p : Pair) (side : Side) (g : Node → ℕ) → sum_by g (owners p side)
+pub sum_owners : (p : Pair) (side : Side) (g : Node → ℕ) → sum_by g (owners p side)
     ≡ sum_by (λ k. g (node side Device k)) (numbers_from 0 (size p side Device)) + sum_by (λ k. g (node side Call k)) (numbers_from 0 (size p side Call))
 sum_owners p side g =
     let a = sum_by-append g (map (node side Device) (numbers_from 0 (size p side Device))) (map (node side Call) (numbers_from 0 (size p side Call))) in
@@ -126,11 +127,11 @@ image_below p f c kind k h = let b = index_below (list_of f kind) _ _ k (maps p 
 image_one : (p : Pair) (f : Pairing) → IsCorrespondence p f → (kind : Kind) (j k : ℕ) → j < size p Layout kind → k < size p Layout kind → image_at f kind j ≡ image_at f kind k → j ≡ k
 image_one p f c kind j k a b e = index_one (list_of f kind) _ _ j k (maps p f c kind) a b (sym (image_is f kind j) ∙ (e ∙ image_is f kind k))
 
-pub carried_there : (p : Pair) (f : Pairing) → IsCorrespondence p f → (a : Node) → IsListed a (nodes p Layout) → IsListed (carried f a) (nodes p Schematic)
-carried_there p f c a i = each_node p Layout (λ x. IsListed (carried f x) (nodes p Schematic))
+pub carried_there : (p : Pair) (f : Pairing) → IsCorrespondence p f → (a : Node) → IsListed a (nodes p Layout) → IsListed (node_image f a) (nodes p Schematic)
+carried_there p f c a i = each_node p Layout (λ x. IsListed (node_image f x) (nodes p Schematic))
     (λ kind k h. nodes_has p Schematic kind (image_at f kind k) (image_below p f c kind k h)) a i
 
-carried_one : (p : Pair) (f : Pairing) → IsCorrespondence p f → (a b : Node) → IsListed a (nodes p Layout) → IsListed b (nodes p Layout) → carried f a ≡ carried f b → a ≡ b
+carried_one : (p : Pair) (f : Pairing) → IsCorrespondence p f → (a b : Node) → IsListed a (nodes p Layout) → IsListed b (nodes p Layout) → node_image f a ≡ node_image f b → a ≡ b
 carried_one p f c a b i j e =
     let s = nodes_there p Layout a i in
     let t = nodes_there p Layout b j in
@@ -140,23 +141,23 @@ carried_one p f c a b i j e =
     node_is a b (s.stands ∙ sym t.stands) kind (image_one p f c a.kind a.number b.number s.below below number)
 
 onto_kind : (p : Pair) (f : Pairing) → IsCorrespondence p f → (kind : Kind) (g : Node → ℕ)
-    → sum_by (λ k. g (node Schematic kind k)) (numbers_from 0 (size p Schematic kind)) ≡ sum_by (λ k. g (carried f (node Layout kind k))) (numbers_from 0 (size p Layout kind))
+    → sum_by (λ k. g (node Schematic kind k)) (numbers_from 0 (size p Schematic kind)) ≡ sum_by (λ k. g (node_image f (node Layout kind k))) (numbers_from 0 (size p Layout kind))
 onto_kind p f c kind g =
     onto_sum (list_of f kind) _ _ (maps p f c kind) (λ k. g (node Schematic kind k))
     ∙ sum_same _ _ (numbers_from 0 (size p Layout kind)) (λ k i. ap (λ (n : ℕ). g (node Schematic kind n)) (sym (image_is f kind k)))
 
-onto_owners : (p : Pair) (f : Pairing) → IsCorrespondence p f → (g : Node → ℕ) → sum_by g (owners p Schematic) ≡ sum_by (λ a. g (carried f a)) (owners p Layout)
+onto_owners : (p : Pair) (f : Pairing) → IsCorrespondence p f → (g : Node → ℕ) → sum_by g (owners p Schematic) ≡ sum_by (λ a. g (node_image f a)) (owners p Layout)
 onto_owners p f c g =
     let a = sum_owners p Schematic g in
-    let b = sum_owners p Layout (λ x. g (carried f x)) in
+    let b = sum_owners p Layout (λ x. g (node_image f x)) in
     let d = onto_kind p f c Device g in
     let e = onto_kind p f c Call g in
     omega arith
 
-onto_nodes : (p : Pair) (f : Pairing) → IsCorrespondence p f → (g : Node → ℕ) → sum_by g (nodes p Schematic) ≡ sum_by (λ a. g (carried f a)) (nodes p Layout)
+onto_nodes : (p : Pair) (f : Pairing) → IsCorrespondence p f → (g : Node → ℕ) → sum_by g (nodes p Schematic) ≡ sum_by (λ a. g (node_image f a)) (nodes p Layout)
 onto_nodes p f c g =
     let a = sum_nodes p Schematic g in
-    let b = sum_nodes p Layout (λ x. g (carried f x)) in
+    let b = sum_nodes p Layout (λ x. g (node_image f x)) in
     let d = onto_kind p f c Net g in
     let e = onto_owners p f c g in
     omega arith
@@ -209,10 +210,10 @@ device_own o = elim o [ None ↦ OfNone | Some d ↦ OfDevice d.class d.length d
 abbrev call_own : Option CallRow → Own
 call_own o = elim o [ None ↦ OfNone | Some c ↦ OfCall c.circuit ]
 
-listed_any : (n : ℕ) (xs : List ℕ) → IsListed n xs → list_any (λ x. x == n) xs ≡ true
+pub listed_any : (n : ℕ) (xs : List ℕ) → IsListed n xs → list_any (λ x. x == n) xs ≡ true
 listed_any n xs i = any_of (λ x. x == n) n xs i ((Decides-eqb n n).1 refl)
 
-any_listed : (n : ℕ) (xs : List ℕ) → list_any (λ x. x == n) xs ≡ true → IsListed n xs
+pub any_listed : (n : ℕ) (xs : List ℕ) → list_any (λ x. x == n) xs ≡ true → IsListed n xs
 any_listed n xs h =
     let f = any_found (λ x. x == n) xs h in
     subst (λ (x : ℕ). IsListed x xs) ((Decides-eqb f.0 n).0 f.2) f.1
@@ -229,8 +230,8 @@ own_carried p f c Call k h =
     let t = call_at p f c k h in
     ap call_own t.1 ∙ (ap OfCall t.4.pair ∙ sym (ap call_own t.3))
 
-carried_alike : (p : Pair) (f : Pairing) → IsCorrespondence p f → (a : Node) → IsListed a (nodes p Layout) → same_own (own p a) (own p (carried f a)) ≡ true
-carried_alike p f c a i = each_node p Layout (λ x. same_own (own p x) (own p (carried f x)) ≡ true)
+carried_alike : (p : Pair) (f : Pairing) → IsCorrespondence p f → (a : Node) → IsListed a (nodes p Layout) → same_own (own p a) (own p (node_image f a)) ≡ true
+carried_alike p f c a i = each_node p Layout (λ x. same_own (own p x) (own p (node_image f x)) ≡ true)
     (λ kind k h. (own_decides (own_at p Layout kind k) (own_at p Schematic kind (image_at f kind k))).1 (own_carried p f c kind k h)) a i
 
 -- terminals
@@ -241,7 +242,7 @@ abbrev pub call_terms : Pair → Side → Option CallRow → List (End Node)
 call_terms p side o = elim o [ None ↦ [] | Some c ↦ call_ends p side c ]
 
 abbrev moved : Pairing → End Node → End Node
-moved f e = end_at e.port (carried f e.node)
+moved f e = end_at e.port (node_image f e.node)
 
 pub sum_four : {X : Type 0} (g : X → ℕ) (a b c d : X) → sum_by g (a ∷ b ∷ c ∷ d ∷ []) ≡ g a + (g b + (g c + g d))
 sum_four g a b c d =
@@ -278,13 +279,13 @@ call_sums p f c e g i one =
     ∙ (ap (λ (n : ℕ). sum_by (λ j. g (end_at (Pin e.circuit j) (node Schematic Net (slice_index e.nets j)))) (numbers_from 0 n)) (sym i.count)
     ∙ (onto_sum i.pins (length c.nets) (length c.nets) one (λ j. g (end_at (Pin e.circuit j) (node Schematic Net (slice_index e.nets j))))
     ∙ (sum_same _ _ (numbers_from 0 (length c.nets)) (λ j l. ap g (end_same p f c e i j (let b = in_numbers j 0 (length c.nets) l in let t = b.1 in omega arith)))
-    ∙ sym (sum-map (λ x. g (moved f x)) (λ j. end_at (Pin c.circuit (place p Layout c.circuit j)) (node Layout Net (slice_index c.nets j))) (numbers_from 0 (length c.nets))))))
+    ∙ sym (sum-map (λ x. g (moved f x)) (λ j. end_at (Pin c.circuit (right_pin p Layout c.circuit j)) (node Layout Net (slice_index c.nets j))) (numbers_from 0 (length c.nets))))))
   where
     end_same : (p : Pair) (f : Pairing) (c e : CallRow) (i : IsCallImage p.children f.nets c e) (j : ℕ) → j < length c.nets
         → end_at (Pin e.circuit (slice_index i.pins j)) (node Schematic Net (slice_index e.nets (slice_index i.pins j)))
-        ≡ end_at (Pin c.circuit (place p Layout c.circuit j)) (node Schematic Net (slice_index f.nets (slice_index c.nets j)))
+        ≡ end_at (Pin c.circuit (right_pin p Layout c.circuit j)) (node Schematic Net (slice_index f.nets (slice_index c.nets j)))
     end_same p f c e i j h =
-        let at_place : slice_index i.pins j ≡ place p Layout c.circuit j = sym (ap (λ (o : Option (List ℕ)). elim o [ None ↦ j | Some pins ↦ slice_index pins j ]) i.matched) in
+        let at_place : slice_index i.pins j ≡ right_pin p Layout c.circuit j = sym (ap (λ (o : Option (List ℕ)). elim o [ None ↦ j | Some pins ↦ slice_index pins j ]) i.matched) in
         ap₂ (λ (port : Port) (n : ℕ). end_at port (node Schematic Net n)) (ap₂ Pin (sym i.pair) at_place) (sym (i.at j h))
 
 terminals_carried : (p : Pair) (f : Pairing) → IsFitting p Layout → IsCorrespondence p f → (kind : Kind) (k : ℕ) → k < size p Layout kind → (g : End Node → ℕ)
@@ -300,11 +301,11 @@ terminals_carried p f fit c Call k h g =
     ∙ (call_sums p f t.0 t.2 g t.4 (fit.pins k t.0 t.1 t.4.pins t.4.matched) ∙ sym (ap (λ (o : Option CallRow). sum_by (λ x. g (moved f x)) (call_terms p Layout o)) t.1))
 
 -- the nodes at the terminals
-seen : {X : Type 0} (o : Option X) → (o ≡ None) ⊎ ((x : X) × (o ≡ Some x))
+pub seen : {X : Type 0} (o : Option X) → (o ≡ None) ⊎ ((x : X) × (o ≡ Some x))
 seen None = inl refl
 seen (Some x) = inr (x, refl)
 
-in_device : (side : Side) (d : DeviceRow) (e : End Node) → IsListed e (device_ends side d) → e.node ≡ node side Net e.node.number
+pub in_device : (side : Side) (d : DeviceRow) (e : End Node) → IsListed e (device_ends side d) → e.node ≡ node side Net e.node.number
 in_device side d e i = elim i [
   | inl h ↦ subst (λ (x : End Node). x.node ≡ node side Net x.node.number) (sym h) refl
   | inr j ↦ elim j [
@@ -319,7 +320,7 @@ in_device side d e i = elim i [
   ]
 ]
 
-terminals_listed : (p : Pair) (side : Side) → IsFitting p side → (kind : Kind) (k : ℕ) (e : End Node) → IsListed e (terminals p side kind k) → IsListed e.node (nodes p side)
+pub terminals_listed : (p : Pair) (side : Side) → IsFitting p side → (kind : Kind) (k : ℕ) (e : End Node) → IsListed e (terminals p side kind k) → IsListed e.node (nodes p side)
 terminals_listed p side fit Net k e i = absurd i
 terminals_listed p side fit Device k e i = elim (seen (slice_get (circuit_of p side).devices k)) [
   | inl none ↦ absurd (subst (λ (o : Option DeviceRow). IsListed e (device_terms side o)) none i)
@@ -331,33 +332,33 @@ terminals_listed p side fit Call k e i = elim (seen (slice_get (circuit_of p sid
   | inl none ↦ absurd (subst (λ (o : Option CallRow). IsListed e (call_terms p side o)) none i)
   | inr some ↦
       let j : IsListed e (call_ends p side some.0) = subst (λ (o : Option CallRow). IsListed e (call_terms p side o)) some.1 i in
-      let m = in_map (λ x. end_at (Pin some.0.circuit (place p side some.0.circuit x)) (node side Net (slice_index some.0.nets x))) e (numbers_from 0 (length some.0.nets)) j in
+      let m = in_map (λ x. end_at (Pin some.0.circuit (right_pin p side some.0.circuit x)) (node side Net (slice_index some.0.nets x))) e (numbers_from 0 (length some.0.nets)) j in
       let b = in_numbers m.0 0 (length some.0.nets) m.1 in
       let high = b.1 in
       subst (λ (x : End Node). IsListed x.node (nodes p side)) (sym m.2)
       (nodes_has p side Net (slice_index some.0.nets m.0) (fit.calls k some.0 some.1 (slice_index some.0.nets m.0) (listed_index some.0.nets m.0 (omega arith))))
 ]
 
-in_flat : {X Y : Type 0} (h : X → List Y) (y : Y) (xs : List X) → IsListed y (flat_map h xs) → (x : X) × IsListed x xs × IsListed y (h x)
+pub in_flat : {X Y : Type 0} (h : X → List Y) (y : Y) (xs : List X) → IsListed y (flat_map h xs) → (x : X) × IsListed x xs × IsListed y (h x)
 in_flat h y [] i = absurd i
 in_flat h y (x ∷ xs) i = elim (in_either y (h x) (flat_map h xs) i) [
   | inl j ↦ (x, inl refl, j)
   | inr j ↦ let f = in_flat h y xs j in (f.0, inr f.1, f.2)
 ]
 
-in_turned : (net owner : Node) (es : List (End Node)) (e : End Node) → IsListed e (turned net owner es) → e.node ≡ owner
+pub in_turned : (net owner : Node) (es : List (End Node)) (e : End Node) → IsListed e (ends_on net owner es) → e.node ≡ owner
 in_turned net owner [] e i = absurd i
 in_turned net owner (x ∷ xs) e i = elim (is_it (same_node x.node net)) [
-  | inl r ↦ elim (subst (λ (b : Bool). IsListed e (cond b (end_at x.port owner ∷ turned net owner xs) (turned net owner xs))) r i) [
+  | inl r ↦ elim (subst (λ (b : Bool). IsListed e (cond b (end_at x.port owner ∷ ends_on net owner xs) (ends_on net owner xs))) r i) [
     | inl h ↦ ap (λ (y : End Node). y.node) h
     | inr j ↦ in_turned net owner xs e j
   ]
-  | inr r ↦ in_turned net owner xs e (subst (λ (b : Bool). IsListed e (cond b (end_at x.port owner ∷ turned net owner xs) (turned net owner xs))) r i)
+  | inr r ↦ in_turned net owner xs e (subst (λ (b : Bool). IsListed e (cond b (end_at x.port owner ∷ ends_on net owner xs) (ends_on net owner xs))) r i)
 ]
 
-near_listed : (p : Pair) (side : Side) → IsFitting p side → (kind : Kind) (k : ℕ) (e : End Node) → IsListed e (near_at p side kind k) → IsListed e.node (nodes p side)
+pub near_listed : (p : Pair) (side : Side) → IsFitting p side → (kind : Kind) (k : ℕ) (e : End Node) → IsListed e (near_at p side kind k) → IsListed e.node (nodes p side)
 near_listed p side fit Net k e i =
-    let f = in_flat (λ o. turned (node side Net k) o (terminals_of p o)) e (owners p side) i in
+    let f = in_flat (λ o. ends_on (node side Net k) o (terminals_of p o)) e (owners p side) i in
     subst (λ (n : Node). IsListed n (nodes p side)) (sym (in_turned (node side Net k) f.0 (terminals_of p f.0) e f.2))
     (in_right f.0 (map (node side Net) (numbers_from 0 (size p side Net))) (owners p side) f.1)
 near_listed p side fit Device k e i = terminals_listed p side fit Device k e i
@@ -373,53 +374,53 @@ web_good p l r = record {
 }
 
 -- nets
-sum-turned : (g : End Node → ℕ) (net owner : Node) (es : List (End Node)) → sum_by g (turned net owner es) ≡ sum_by (λ e. cond (same_node e.node net) (g (end_at e.port owner)) 0) es
+pub sum-turned : (g : End Node → ℕ) (net owner : Node) (es : List (End Node)) → sum_by g (ends_on net owner es) ≡ sum_by (λ e. cond (same_node e.node net) (g (end_at e.port owner)) 0) es
 sum-turned g net owner [] = refl
 sum-turned g net owner (e ∷ es) =
     let b = sum_by-cons (λ x. cond {A = ℕ} (same_node x.node net) (g (end_at x.port owner)) 0) e es in
     let rest = sum-turned g net owner es in
     elim (is_it (same_node e.node net)) [
       | inl r ↦
-          let h : sum_by g (turned net owner (e ∷ es)) ≡ sum_by g (end_at e.port owner ∷ turned net owner es)
-          = ap (λ (t : Bool). sum_by g (cond t (end_at e.port owner ∷ turned net owner es) (turned net owner es))) r in
-          let a = sum_by-cons g (end_at e.port owner) (turned net owner es) in
+          let h : sum_by g (ends_on net owner (e ∷ es)) ≡ sum_by g (end_at e.port owner ∷ ends_on net owner es)
+          = ap (λ (t : Bool). sum_by g (cond t (end_at e.port owner ∷ ends_on net owner es) (ends_on net owner es))) r in
+          let a = sum_by-cons g (end_at e.port owner) (ends_on net owner es) in
           let one : ◌≡◌ {A = ℕ} (cond (same_node e.node net) (g (end_at e.port owner)) 0) (g (end_at e.port owner)) = ap (λ (t : Bool). cond {A = ℕ} t (g (end_at e.port owner)) 0) r in
           omega arith
       | inr r ↦
-          let h : sum_by g (turned net owner (e ∷ es)) ≡ sum_by g (turned net owner es)
-          = ap (λ (t : Bool). sum_by g (cond t (end_at e.port owner ∷ turned net owner es) (turned net owner es))) r in
+          let h : sum_by g (ends_on net owner (e ∷ es)) ≡ sum_by g (ends_on net owner es)
+          = ap (λ (t : Bool). sum_by g (cond t (end_at e.port owner ∷ ends_on net owner es) (ends_on net owner es))) r in
           let none : ◌≡◌ {A = ℕ} (cond (same_node e.node net) (g (end_at e.port owner)) 0) 0 = ap (λ (t : Bool). cond {A = ℕ} t (g (end_at e.port owner)) 0) r in
           omega arith
     ]
 
-same_carried : (p : Pair) (f : Pairing) → IsCorrespondence p f → (a b : Node) → IsListed a (nodes p Layout) → IsListed b (nodes p Layout) → same_node (carried f a) (carried f b) ≡ same_node a b
+same_carried : (p : Pair) (f : Pairing) → IsCorrespondence p f → (a b : Node) → IsListed a (nodes p Layout) → IsListed b (nodes p Layout) → same_node (node_image f a) (node_image f b) ≡ same_node a b
 same_carried p f c a b i j = same_test _ _
-    (λ h. (node_decides a b).1 (carried_one p f c a b i j ((node_decides (carried f a) (carried f b)).0 h)))
-    (λ h. (node_decides (carried f a) (carried f b)).1 (ap (carried f) ((node_decides a b).0 h)))
+    (λ h. (node_decides a b).1 (carried_one p f c a b i j ((node_decides (node_image f a) (node_image f b)).0 h)))
+    (λ h. (node_decides (node_image f a) (node_image f b)).1 (ap (node_image f) ((node_decides a b).0 h)))
 
 turned_carried : (p : Pair) (f : Pairing) → IsFitting p Layout → IsCorrespondence p f → (k : ℕ) → k < size p Layout Net → (g : End Node → ℕ) (kind : Kind) (j : ℕ) → j < size p Layout kind
-    → sum_by g (turned (carried f (node Layout Net k)) (carried f (node Layout kind j)) (terminals_of p (carried f (node Layout kind j))))
-    ≡ sum_by (λ e. g (moved f e)) (turned (node Layout Net k) (node Layout kind j) (terminals_of p (node Layout kind j)))
+    → sum_by g (ends_on (node_image f (node Layout Net k)) (node_image f (node Layout kind j)) (terminals_of p (node_image f (node Layout kind j))))
+    ≡ sum_by (λ e. g (moved f e)) (ends_on (node Layout Net k) (node Layout kind j) (terminals_of p (node Layout kind j)))
 turned_carried p f fit c k low g kind j h =
-    sum-turned g (carried f (node Layout Net k)) (carried f (node Layout kind j)) (terminals p Schematic kind (image_at f kind j))
-    ∙ (terminals_carried p f fit c kind j h (λ e. cond (same_node e.node (carried f (node Layout Net k))) (g (end_at e.port (carried f (node Layout kind j)))) 0)
-    ∙ (sum_same _ _ (terminals p Layout kind j) (λ e i. ap (λ (t : Bool). cond {A = ℕ} t (g (end_at e.port (carried f (node Layout kind j)))) 0)
+    sum-turned g (node_image f (node Layout Net k)) (node_image f (node Layout kind j)) (terminals p Schematic kind (image_at f kind j))
+    ∙ (terminals_carried p f fit c kind j h (λ e. cond (same_node e.node (node_image f (node Layout Net k))) (g (end_at e.port (node_image f (node Layout kind j)))) 0)
+    ∙ (sum_same _ _ (terminals p Layout kind j) (λ e i. ap (λ (t : Bool). cond {A = ℕ} t (g (end_at e.port (node_image f (node Layout kind j)))) 0)
     (same_carried p f c e.node (node Layout Net k) (terminals_listed p Layout fit kind j e i) (nodes_has p Layout Net k low)))
     ∙ sym (sum-turned (λ e. g (moved f e)) (node Layout Net k) (node Layout kind j) (terminals p Layout kind j))))
 
 near_carried : (p : Pair) (f : Pairing) → IsFitting p Layout → IsCorrespondence p f → (kind : Kind) (k : ℕ) → k < size p Layout kind → (g : End Node → ℕ)
     → sum_by g (near_at p Schematic kind (image_at f kind k)) ≡ sum_by (λ x. g (moved f x)) (near_at p Layout kind k)
 near_carried p f fit c Net k h g =
-    sum-flat g (λ o. turned (carried f (node Layout Net k)) o (terminals_of p o)) (owners p Schematic)
-    ∙ (onto_owners p f c (λ o. sum_by g (turned (carried f (node Layout Net k)) o (terminals_of p o)))
+    sum-flat g (λ o. ends_on (node_image f (node Layout Net k)) o (terminals_of p o)) (owners p Schematic)
+    ∙ (onto_owners p f c (λ o. sum_by g (ends_on (node_image f (node Layout Net k)) o (terminals_of p o)))
     ∙ (sum_same _ _ (owners p Layout) (λ o i. each_node p Layout
-    (λ x. sum_by g (turned (carried f (node Layout Net k)) (carried f x) (terminals_of p (carried f x))) ≡ sum_by (λ e. g (moved f e)) (turned (node Layout Net k) x (terminals_of p x)))
+    (λ x. sum_by g (ends_on (node_image f (node Layout Net k)) (node_image f x) (terminals_of p (node_image f x))) ≡ sum_by (λ e. g (moved f e)) (ends_on (node Layout Net k) x (terminals_of p x)))
     (λ kind j l. turned_carried p f fit c k h g kind j l) o (in_right o (map (node Layout Net) (numbers_from 0 (size p Layout Net))) (owners p Layout) i))
-    ∙ sym (sum-flat (λ e. g (moved f e)) (λ o. turned (node Layout Net k) o (terminals_of p o)) (owners p Layout))))
+    ∙ sym (sum-flat (λ e. g (moved f e)) (λ o. ends_on (node Layout Net k) o (terminals_of p o)) (owners p Layout))))
 near_carried p f fit c Device k h g = terminals_carried p f fit c Device k h g
 near_carried p f fit c Call k h g = terminals_carried p f fit c Call k h g
 
-pub carries : (p : Pair) (f : Pairing) → IsFitting p Layout → IsFitting p Schematic → IsCorrespondence p f → Carries (web_of p) (carried f)
+pub carries : (p : Pair) (f : Pairing) → IsFitting p Layout → IsFitting p Schematic → IsCorrespondence p f → IsWebMap (web_of p) (node_image f)
 carries p f l r c = record {
   there = λ a i. carried_there p f c a i;
   one = λ a b i j e. carried_one p f c a b i j e;

@@ -2,7 +2,8 @@
 use Rattle.std.proofs.Common.{◌≡◌, ◌⊎◌, inl, inr, ℕ, cond, Bool, List, [], ◌∷◌, map, length, slice_get, refl, sym, subst, ◌∙◌, ap, ap₂, arith}
 use Rattle.std.proofs.Math.Decide.{ℕ_discrete}
 use Rattle.std.proofs.lemmas.Option.{same_Some, none-some}
-use Rattle.round_laws.specs.Web.{IsListed, Web, IsWeb, on_left, on_right, IsEven, IsUneven, IsRefuted, Guess, under, first_of, mate}
+use Rattle.plain_netlist.specs.Lists.{IsListed}
+use Rattle.round_laws.specs.Web.{Web, IsWeb, on_left, on_right, IsEven, IsUneven, IsRefuted, Guess, under, first_of, mate}
 use Rattle.round_laws.specs.Nodes.{Node, Side, Layout, Schematic, Kind, Net, Device, Call}
 use Rattle.round_laws.specs.Guesses.{Search, Ended, Stopped, Found, Refuted, Below, Open, HasEnded, HasFound, IsWholeSearch, Row, rows, HasStopped, solved_guesses}
 use Rattle.plain_netlist.specs.Netlist.{CallRow}

@@ -4,10 +4,11 @@ use Rattle.std.specs.List.{count_by, list_any}
 use Rattle.std.proofs.Math.Decide.{ℕ_discrete}
 use Rattle.std.proofs.lemmas.Option.{same_Some, slice_get_within}
 use Rattle.std.proofs.lemmas.Bool.Decides.{Decides-eqb}
-use Rattle.round_laws.specs.Web.{Port, Channel, Gate, Bulk, Pin, same_port, IsListed, End, Carries}
+use Rattle.plain_netlist.specs.Lists.{IsListed}
+use Rattle.round_laws.specs.Web.{Port, Channel, Gate, Bulk, Pin, same_port, End, IsWebMap}
 use Rattle.round_laws.specs.Nodes.{Node, Side, Layout, Schematic, Kind, Net, Device, Call}
 use Rattle.plain_netlist.specs.Netlist.{DeviceRow, CallRow}
-use Rattle.match_laws.specs.Circuits.{Pair, circuit_of, place, numbers_from, node, end_at, device_ends, call_ends, nodes, same_node, near_at, Own, OfNet, OfDevice, OfCall, OfNone, own_at, own, web_of, IsOneToOne, IsDeviceImage, IsCallImage, IsCorrespondence, IsFitting, numbers_of, pairing_of, AreMatched}
+use Rattle.match_laws.specs.Circuits.{Pair, circuit_of, right_pin, numbers_from, node, end_at, device_ends, call_ends, nodes, same_node, near_at, Own, OfNet, OfDevice, OfCall, OfNone, own_at, own, web_of, IsOneToOne, IsDeviceImage, IsCallImage, IsCorrespondence, IsFitting, numbers_of, pairing_of, AreMatched}
 use Rattle.round_laws.proofs.Agree.{count-cons, both, first, second, same_test, is_it, count_same, port_same}
 use Rattle.round_laws.proofs.Stable.{any_found, any_of}
 use Rattle.round_laws.proofs.Solved.{count-has, cut, here_mid}
@@ -37,7 +38,7 @@ record HasImage (p : Pair) (f : Node → Node) (kind : Kind) (k : ℕ) : Type 0 
   below : (f (node Layout kind k)).number < size p Schematic kind
   own : own_at p Layout kind k ≡ own_at p Schematic kind (f (node Layout kind k)).number
 
-image : (p : Pair) (f : Node → Node) → Carries (web_of p) f → (kind : Kind) (k : ℕ) → k < size p Layout kind → HasImage p f kind k
+image : (p : Pair) (f : Node → Node) → IsWebMap (web_of p) f → (kind : Kind) (k : ℕ) → k < size p Layout kind → HasImage p f kind k
 image p f c kind k h =
     let i = nodes_has p Layout kind k h in
     let t = nodes_there p Schematic (f (node Layout kind k)) (c.there (node Layout kind k) i) in
@@ -69,7 +70,7 @@ length-images h a zero = refl
 length-images h a (suc m) = let rest = length-images h (suc a) m in omega arith
 
 -- each schematic node is the image of one of its kind
-came_from : (p : Pair) (f : Node → Node) → Carries (web_of p) f → (kind : Kind) (j : ℕ) → j < size p Schematic kind
+came_from : (p : Pair) (f : Node → Node) → IsWebMap (web_of p) f → (kind : Kind) (j : ℕ) → j < size p Schematic kind
     → (k : ℕ) × (k < size p Layout kind) × ((f (node Layout kind k)).number ≡ j)
 came_from p f c kind j h =
     let there = count-has (same_node (node Schematic kind j)) (node Schematic kind j) (nodes p Schematic) (nodes_has p Schematic kind j h) ((node_decides (node Schematic kind j) (node Schematic kind j)).1 refl) in
@@ -86,7 +87,7 @@ came_from p f c kind j h =
       subst (λ (y : Kind). (f (node Layout y x.item.number)).number ≡ j) k (sym (ap (λ (n : Node). n.number) e)),
     )
 
-one_to_one : (p : Pair) (f : Node → Node) → Carries (web_of p) f → (kind : Kind) → IsOneToOne (numbers_of f kind (size p Layout kind)) (size p Layout kind) (size p Schematic kind)
+one_to_one : (p : Pair) (f : Node → Node) → IsWebMap (web_of p) f → (kind : Kind) → IsOneToOne (numbers_of f kind (size p Layout kind)) (size p Layout kind) (size p Schematic kind)
 one_to_one p f c kind = record {
   count = length-images (λ k. (f (node Layout kind k)).number) 0 (size p Layout kind);
   below = λ x i.
@@ -110,7 +111,7 @@ one_to_one p f c kind = record {
       ∙ number_once k.0 0 (size p Layout kind) (omega arith) (omega arith));
 }
   where
-    number_one : (p : Pair) (f : Node → Node) → Carries (web_of p) f → (kind : Kind) (j k : ℕ) → j < size p Layout kind → k < size p Layout kind
+    number_one : (p : Pair) (f : Node → Node) → IsWebMap (web_of p) f → (kind : Kind) (j k : ℕ) → j < size p Layout kind → k < size p Layout kind
         → (f (node Layout kind j)).number ≡ (f (node Layout kind k)).number → j ≡ k
     number_one p f c kind j k a b e =
         let x = image p f c kind j a in
@@ -168,7 +169,7 @@ two_of_two s d t u h =
 abbrev at_net : Port → ℕ → End Node → Bool
 at_net port m x = same_port port x.port && (m == x.node.number)
 
-device_near : (p : Pair) (f : Node → Node) → Carries (web_of p) f → (k : ℕ) (d e : DeviceRow) → k < size p Layout Device → slice_get p.left.devices k ≡ Some d
+device_near : (p : Pair) (f : Node → Node) → IsWebMap (web_of p) f → (k : ℕ) (d e : DeviceRow) → k < size p Layout Device → slice_get p.left.devices k ≡ Some d
     → slice_get p.right.devices (f (node Layout Device k)).number ≡ Some e → (q : End Node → Bool)
     → count_by q (device_ends Schematic e) ≡ count_by (λ x. q (end_at x.port (f x.node))) (device_ends Layout d)
 device_near p f c k d e h left right q =
@@ -178,7 +179,7 @@ device_near p f c k d e h left right q =
     ∙ (c.near (node Layout Device k) (nodes_has p Layout Device k h) q
     ∙ ap (λ (o : Option DeviceRow). count_by (λ x. q (end_at x.port (f x.node))) (device_terms Layout o)) left))
 
-device_image : (p : Pair) (f : Node → Node) → IsFitting p Layout → Carries (web_of p) f → (k : ℕ) (d e : DeviceRow) → k < size p Layout Device → slice_get p.left.devices k ≡ Some d
+device_image : (p : Pair) (f : Node → Node) → IsFitting p Layout → IsWebMap (web_of p) f → (k : ℕ) (d e : DeviceRow) → k < size p Layout Device → slice_get p.left.devices k ≡ Some d
     → slice_get p.right.devices (f (node Layout Device k)).number ≡ Some e → IsDeviceImage (numbers_of f Net (length p.left.nets)) d e
 device_image p f fit c k d e h left right =
     let m = image p f c Device k h in
@@ -235,7 +236,7 @@ length-ends : {X : Type 0} (h : ℕ → X) (a n : ℕ) → length (map h (number
 length-ends h a zero = refl
 length-ends h a (suc n) = let rest = length-ends h (suc a) n in omega arith
 
-call_near : (p : Pair) (f : Node → Node) → Carries (web_of p) f → (k : ℕ) (d e : CallRow) → k < size p Layout Call → slice_get p.left.calls k ≡ Some d
+call_near : (p : Pair) (f : Node → Node) → IsWebMap (web_of p) f → (k : ℕ) (d e : CallRow) → k < size p Layout Call → slice_get p.left.calls k ≡ Some d
     → slice_get p.right.calls (f (node Layout Call k)).number ≡ Some e → (q : End Node → Bool)
     → count_by q (call_ends p Schematic e) ≡ count_by (λ x. q (end_at x.port (f x.node))) (call_ends p Layout d)
 call_near p f c k d e h left right q =
@@ -245,7 +246,7 @@ call_near p f c k d e h left right q =
     ∙ (c.near (node Layout Call k) (nodes_has p Layout Call k h) q
     ∙ ap (λ (o : Option CallRow). count_by (λ x. q (end_at x.port (f x.node))) (call_terms p Layout o)) left))
 
-call_image : (p : Pair) (f : Node → Node) → IsFitting p Layout → AreMatched p → Carries (web_of p) f → (k : ℕ) (d e : CallRow) → k < size p Layout Call → slice_get p.left.calls k ≡ Some d
+call_image : (p : Pair) (f : Node → Node) → IsFitting p Layout → AreMatched p → IsWebMap (web_of p) f → (k : ℕ) (d e : CallRow) → k < size p Layout Call → slice_get p.left.calls k ≡ Some d
     → slice_get p.right.calls (f (node Layout Call k)).number ≡ Some e → IsCallImage p.children (numbers_of f Net (length p.left.nets)) d e
 call_image p f fit matched c k d e h left right =
     let m = image p f c Call k h in
@@ -256,8 +257,8 @@ call_image p f fit matched c k d e h left right =
     let total = ends (λ x. true) in
     let there = all_count (call_ends p Schematic e) in
     let here = all_count (call_ends p Layout d) in
-    let there_long = length-ends (λ i. end_at (Pin e.circuit (place p Schematic e.circuit i)) (node Schematic Net (slice_index e.nets i))) 0 (length e.nets) in
-    let here_long = length-ends (λ i. end_at (Pin d.circuit (place p Layout d.circuit i)) (node Layout Net (slice_index d.nets i))) 0 (length d.nets) in
+    let there_long = length-ends (λ i. end_at (Pin e.circuit (right_pin p Schematic e.circuit i)) (node Schematic Net (slice_index e.nets i))) 0 (length e.nets) in
+    let here_long = length-ends (λ i. end_at (Pin d.circuit (right_pin p Layout d.circuit i)) (node Layout Net (slice_index d.nets i))) 0 (length d.nets) in
     record {
       pair = pair;
       pins = pins.0;
@@ -274,12 +275,12 @@ call_image p f fit matched c k d e h left right =
     pin_of p f d e pins matched i l h =
         let m : ℕ = (f (node Layout Net (slice_index d.nets i))).number in
         let q : End Node → Bool = at_net (Pin d.circuit (slice_index pins i)) m in
-        let at_place : slice_index pins i ≡ place p Layout d.circuit i = sym (ap (λ (o : Option (List ℕ)). elim o [ None ↦ i | Some ps ↦ slice_index ps i ]) matched) in
-        let port : same_port (Pin d.circuit (slice_index pins i)) (Pin d.circuit (place p Layout d.circuit i)) ≡ true = (port_same _ _).1 (ap (Pin d.circuit) at_place) in
-        let mine : End Node = end_at (Pin d.circuit (place p Layout d.circuit i)) (node Layout Net (slice_index d.nets i)) in
+        let at_place : slice_index pins i ≡ right_pin p Layout d.circuit i = sym (ap (λ (o : Option (List ℕ)). elim o [ None ↦ i | Some ps ↦ slice_index ps i ]) matched) in
+        let port : same_port (Pin d.circuit (slice_index pins i)) (Pin d.circuit (right_pin p Layout d.circuit i)) ≡ true = (port_same _ _).1 (ap (Pin d.circuit) at_place) in
+        let mine : End Node = end_at (Pin d.circuit (right_pin p Layout d.circuit i)) (node Layout Net (slice_index d.nets i)) in
         let some = count-has (λ x. q (end_at x.port (f x.node))) mine (call_ends p Layout d)
-        (map_has (λ j. end_at (Pin d.circuit (place p Layout d.circuit j)) (node Layout Net (slice_index d.nets j))) i (numbers_from 0 (length d.nets)) (numbers_has i 0 (length d.nets) (omega arith) (omega arith)))
-        (both (same_port (Pin d.circuit (slice_index pins i)) (Pin d.circuit (place p Layout d.circuit i))) (m == m) port ((Decides-eqb m m).1 refl)) in
+        (map_has (λ j. end_at (Pin d.circuit (right_pin p Layout d.circuit j)) (node Layout Net (slice_index d.nets j))) i (numbers_from 0 (length d.nets)) (numbers_has i 0 (length d.nets) (omega arith) (omega arith)))
+        (both (same_port (Pin d.circuit (slice_index pins i)) (Pin d.circuit (right_pin p Layout d.circuit i))) (m == m) port ((Decides-eqb m m).1 refl)) in
         let x = cut (at_net (Pin d.circuit (slice_index pins i)) m) (call_ends p Schematic e) (omega arith) in
         let listed : IsListed x.item (call_ends p Schematic e) = subst (λ (y : List (End Node)). IsListed x.item y) (sym x.is) (here_mid x.before x.item x.behind) in
         let j = in_map (λ y. end_at (Pin e.circuit y) (node Schematic Net (slice_index e.nets y))) x.item (numbers_from 0 (length e.nets)) listed in
@@ -289,7 +290,7 @@ call_image p f fit matched c k d e h left right =
         let number : slice_index pins i ≡ j.0 = cc in
         net_is ∙ (ap (λ (y : End Node). y.node.number) j.2 ∙ ap (slice_index e.nets) (sym number))
 
-pub reads : (p : Pair) (f : Node → Node) → IsFitting p Layout → IsFitting p Schematic → AreMatched p → Carries (web_of p) f → IsCorrespondence p (pairing_of p f)
+pub reads : (p : Pair) (f : Node → Node) → IsFitting p Layout → IsFitting p Schematic → AreMatched p → IsWebMap (web_of p) f → IsCorrespondence p (pairing_of p f)
 reads p f l r matched c = record {
   nets = one_to_one p f c Net;
   devices = one_to_one p f c Device;

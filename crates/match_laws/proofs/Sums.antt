@@ -6,7 +6,7 @@ use Rattle.std.specs.Bool.{Decides}
 use Rattle.std.proofs.Math.Decide.{ℕ_discrete}
 use Rattle.std.proofs.lemmas.List.Sums.{sum_by-cons, sum_by-append}
 use Rattle.std.proofs.lemmas.Bool.Decides.{Decides-eqb, Decides-ltb, not_from_Decides}
-use Rattle.round_laws.specs.Web.{IsListed}
+use Rattle.plain_netlist.specs.Lists.{IsListed}
 use Rattle.match_laws.specs.Circuits.{numbers_from, IsOneToOne}
 use Rattle.round_laws.proofs.Agree.{count-cons, count_none, same_test, is_it}
 use Rattle.round_laws.proofs.Solved.{count-has, cut, in_mid, here_mid, count-mid}

@@ -1,6 +1,6 @@
 -- What the answers say of two circuits.
 use Rattle.round_laws.specs.Web.{mate}
-use Rattle.match_laws.specs.Circuits.{web_of, pairing_of, carried}
+use Rattle.match_laws.specs.Circuits.{web_of, pairing_of, node_image}
 use Rattle.match_laws.specs.Verdict.{RefutedPairLaw, EndedPairLaw, SolvedPairLaw, FoundPairLaw}
 use Rattle.round_laws.proofs.Agree.{counts_even}
 use Rattle.round_laws.proofs.Solved.{solved_carries}
@@ -9,11 +9,11 @@ use Rattle.match_laws.proofs.Images.{carries, web_good}
 use Rattle.match_laws.proofs.Read.{reads}
 
 pub refuted_pair : RefutedPairLaw
-refuted_pair p r l s h f c = h.uneven.counts (counts_even (web_of p) (carried f) (web_good p l s) (carries p f l s c) r h.node h.uneven.node)
+refuted_pair p r l s h f c = h.uneven.counts (counts_even (web_of p) (node_image f) (web_good p l s) (carries p f l s c) r h.node h.uneven.node)
 
 pub ended_pair : EndedPairLaw
 ended_pair p same limit found l s whole ended f c =
-    ended_none (record { web = web_of p; same_name = same; limit = limit }) found (web_good p l s) whole ended (carried f) (carries p f l s c)
+    ended_none (record { web = web_of p; same_name = same; limit = limit }) found (web_good p l s) whole ended (node_image f) (carries p f l s c)
 
 pub solved_pair : SolvedPairLaw
 solved_pair p l s m solved = reads p (mate (web_of p) solved.round) l s m (solved_carries (web_of p) (web_good p l s) solved)

@@ -1,9 +1,11 @@
--- Two circuits as a web, and what a correspondence of two circuits is, given the right pin of each left pin of the called pairs.
+-- Two circuits as a web, and what a correspondence of two circuits is, given the right pin of each
+-- left pin of the called pairs.
 use Rattle.std.specs.Prelude.{◌≡◌, ◌⊎◌, ◌↔◌, ◌<◌, ◌==◌, ◌&&◌, ℕ, zero, suc, Bool, true, false, cond, List, [], ◌∷◌, ◌++◌, map, length, count_by, flat_map, Option, Some, None, slice_get, slice_index, bytes_eq}
 use Rattle.std.specs.Bool.{beq}
 use Rattle.std.specs.List.{list_any}
 use Rattle.plain_netlist.specs.Netlist.{DeviceRow, CallRow, Circuit}
-use Rattle.round_laws.specs.Web.{Port, Channel, Gate, Bulk, Pin, IsListed, End, Web, Carries}
+use Rattle.plain_netlist.specs.Lists.{IsListed}
+use Rattle.round_laws.specs.Web.{Port, Channel, Gate, Bulk, Pin, End, Web, IsWebMap}
 use Rattle.round_laws.specs.Nodes.{Node, Side, Layout, Schematic, Kind, Net, Device, Call}
 
 -- two circuits to be compared; children: for each matched pair the right pin of each left pin
@@ -19,9 +21,9 @@ circuit_of p Layout = p.left
 circuit_of p Schematic = p.right
 
 -- the right pin that stands for the i-th pin
-abbrev pub place : Pair → Side → ℕ → ℕ → ℕ
-place p Layout pair i = elim (p.children pair) [ None ↦ i | Some pins ↦ slice_index pins i ]
-place p Schematic pair i = i
+abbrev pub right_pin : Pair → Side → ℕ → ℕ → ℕ
+right_pin p Layout pair i = elim (p.children pair) [ None ↦ i | Some pins ↦ slice_index pins i ]
+right_pin p Schematic pair i = i
 
 -- n numbers from a on
 abbrev pub numbers_from : ℕ → ℕ → List ℕ
@@ -36,28 +38,37 @@ end_at port n = record { port = port; node = n }
 
 -- the terminals of a device: source and drain are of one kind
 abbrev pub device_ends : Side → DeviceRow → List (End Node)
-device_ends side d = end_at Channel (node side Net d.source) ∷ end_at Gate (node side Net d.gate) ∷ end_at Channel (node side Net d.drain) ∷ end_at Bulk (node side Net d.bulk) ∷ []
+device_ends side d =
+    end_at Channel (node side Net d.source) ∷ end_at Gate (node side Net d.gate)
+    ∷ end_at Channel (node side Net d.drain) ∷ end_at Bulk (node side Net d.bulk) ∷ []
 
 -- the terminals of a call, each by the right pin that it stands at
 abbrev pub call_ends : Pair → Side → CallRow → List (End Node)
-call_ends p side c = map (λ i. end_at (Pin c.circuit (place p side c.circuit i)) (node side Net (slice_index c.nets i))) (numbers_from 0 (length c.nets))
+call_ends p side c =
+    map (λ i. end_at (Pin c.circuit (right_pin p side c.circuit i))
+    (node side Net (slice_index c.nets i))) (numbers_from 0 (length c.nets))
 
 -- the terminals of a device or call; a net has none of its own
 abbrev pub terminals : Pair → Side → Kind → ℕ → List (End Node)
 terminals p side Net k = []
-terminals p side Device k = elim (slice_get (circuit_of p side).devices k) [ None ↦ [] | Some d ↦ device_ends side d ]
-terminals p side Call k = elim (slice_get (circuit_of p side).calls k) [ None ↦ [] | Some c ↦ call_ends p side c ]
+terminals p side Device k =
+    elim (slice_get (circuit_of p side).devices k) [ None ↦ [] | Some d ↦ device_ends side d ]
+terminals p side Call k =
+    elim (slice_get (circuit_of p side).calls k) [ None ↦ [] | Some c ↦ call_ends p side c ]
 
 abbrev pub terminals_of : Pair → Node → List (End Node)
 terminals_of p n = terminals p n.side n.kind n.number
 
 -- the devices and calls of a side, by number
 abbrev pub owners : Pair → Side → List Node
-owners p side = map (node side Device) (numbers_from 0 (length (circuit_of p side).devices)) ++ map (node side Call) (numbers_from 0 (length (circuit_of p side).calls))
+owners p side =
+    map (node side Device) (numbers_from 0 (length (circuit_of p side).devices))
+    ++ map (node side Call) (numbers_from 0 (length (circuit_of p side).calls))
 
 -- all nodes of a side: nets, devices, calls, by number
 abbrev pub nodes : Pair → Side → List Node
-nodes p side = map (node side Net) (numbers_from 0 (length (circuit_of p side).nets)) ++ owners p side
+nodes p side =
+    map (node side Net) (numbers_from 0 (length (circuit_of p side).nets)) ++ owners p side
 
 abbrev pub same_side : Side → Side → Bool
 same_side Layout Layout = true
@@ -76,17 +87,20 @@ abbrev pub same_node : Node → Node → Bool
 same_node a b = same_side a.side b.side && (same_kind a.kind b.kind && (a.number == b.number))
 
 -- the terminals that stand on the net, seen from the net
-abbrev pub turned : Node → Node → List (End Node) → List (End Node)
-turned net owner [] = []
-turned net owner (e ∷ es) = cond (same_node e.node net) (end_at e.port owner ∷ turned net owner es) (turned net owner es)
+abbrev pub ends_on : Node → Node → List (End Node) → List (End Node)
+ends_on net owner [] = []
+ends_on net owner (e ∷ es) =
+    cond (same_node e.node net) (end_at e.port owner ∷ ends_on net owner es) (ends_on net owner es)
 
 -- the terminals of a node: a net has those that stand on it
 abbrev pub near_at : Pair → Side → Kind → ℕ → List (End Node)
-near_at p side Net k = flat_map (λ o. turned (node side Net k) o (terminals_of p o)) (owners p side)
+near_at p side Net k =
+    flat_map (λ o. ends_on (node side Net k) o (terminals_of p o)) (owners p side)
 near_at p side Device k = terminals p side Device k
 near_at p side Call k = terminals p side Call k
 
--- what the first round goes by: a net by being a pin, a device by class and sizes, a call by its pair
+-- what the first round goes by: a net by being a pin, a device by class and sizes, a call by its
+-- pair
 pub data Own : Type 0 where
   OfNet : (is_pin : Bool) → Own
   OfDevice : (class : List ℕ) (length width : ℕ) → Own
@@ -102,8 +116,13 @@ same_own a b = false
 
 abbrev pub own_at : Pair → Side → Kind → ℕ → Own
 own_at p side Net k = OfNet (list_any (λ n. n == k) (circuit_of p side).pins)
-own_at p side Device k = elim (slice_get (circuit_of p side).devices k) [ None ↦ OfNone | Some d ↦ OfDevice d.class d.length d.width ]
-own_at p side Call k = elim (slice_get (circuit_of p side).calls k) [ None ↦ OfNone | Some c ↦ OfCall c.circuit ]
+own_at p side Device k =
+    elim (slice_get (circuit_of p side).devices k) [
+      | None ↦ OfNone
+      | Some d ↦ OfDevice d.class d.length d.width
+    ]
+own_at p side Call k =
+    elim (slice_get (circuit_of p side).calls k) [ None ↦ OfNone | Some c ↦ OfCall c.circuit ]
 
 abbrev pub own : Pair → Node → Own
 own p n = own_at p n.side n.kind n.number
@@ -118,7 +137,8 @@ web_of p = record {
   near = λ n. near_at p n.side n.kind n.number;
 }
 
--- a one-to-one map of m numbers onto n, as a list: each entry is below n, and each number below n stands once
+-- a one-to-one map of m numbers onto n, as a list: each entry is below n, and each number below n
+-- stands once
 pub record IsOneToOne (xs : List ℕ) (m n : ℕ) : Type 0 where
   pub count : length xs ≡ m
   pub below : (x : ℕ) → IsListed x xs → x < n
@@ -130,37 +150,52 @@ pub record Pairing : Type 0 where
   pub devices : List ℕ
   pub calls : List ℕ
 
--- class and sizes are kept; gate and bulk go to gate and bulk; source and drain go to the two, in either order
+-- class and sizes are kept; gate and bulk go to gate and bulk; source and drain go to the two, in
+-- either order
 pub record IsDeviceImage (nets : List ℕ) (d e : DeviceRow) : Type 0 where
   pub class : d.class ≡ e.class
   pub length : d.length ≡ e.length
   pub width : d.width ≡ e.width
   pub gate : slice_index nets d.gate ≡ e.gate
   pub bulk : slice_index nets d.bulk ≡ e.bulk
-  pub channel : ((slice_index nets d.source ≡ e.source) × (slice_index nets d.drain ≡ e.drain)) ⊎ ((slice_index nets d.source ≡ e.drain) × (slice_index nets d.drain ≡ e.source))
+  pub channel : ((slice_index nets d.source ≡ e.source) × (slice_index nets d.drain ≡ e.drain))
+      ⊎ ((slice_index nets d.source ≡ e.drain) × (slice_index nets d.drain ≡ e.source))
 
--- the same pair is called, and the net at left pin i goes to the net at the paired right pin; a call of a pair that isn't matched has no image
-pub record IsCallImage (children : ℕ → Option (List ℕ)) (nets : List ℕ) (c e : CallRow) : Type 0 where
+-- the same pair is called, and the net at left pin i goes to the net at the paired right pin; a
+-- call of a pair that isn't matched has no image
+pub record IsCallImage (children : ℕ
+    → Option (List ℕ)) (nets : List ℕ) (c e : CallRow) : Type 0 where
   pub pair : c.circuit ≡ e.circuit
   pub pins : List ℕ
   pub matched : children c.circuit ≡ Some pins
   pub count : length c.nets ≡ length e.nets
-  pub at : (i : ℕ) → i < length c.nets → slice_index nets (slice_index c.nets i) ≡ slice_index e.nets (slice_index pins i)
+  pub at : (i : ℕ) → i < length c.nets
+      → slice_index nets (slice_index c.nets i) ≡ slice_index e.nets (slice_index pins i)
 
--- three one-to-one maps, each onto all: nets, with pins to pins and only pins, devices to their images, calls to their images
+-- three one-to-one maps, each onto all: nets, with pins to pins and only pins, devices to their
+-- images, calls to their images
 pub record IsCorrespondence (p : Pair) (f : Pairing) : Type 0 where
   pub nets : IsOneToOne f.nets (length p.left.nets) (length p.right.nets)
   pub devices : IsOneToOne f.devices (length p.left.devices) (length p.right.devices)
   pub calls : IsOneToOne f.calls (length p.left.calls) (length p.right.calls)
-  pub pin : (n : ℕ) → n < length p.left.nets → IsListed n p.left.pins ↔ IsListed (slice_index f.nets n) p.right.pins
-  pub device : (k : ℕ) (d e : DeviceRow) → slice_get p.left.devices k ≡ Some d → slice_get p.right.devices (slice_index f.devices k) ≡ Some e → IsDeviceImage f.nets d e
-  pub call : (k : ℕ) (c e : CallRow) → slice_get p.left.calls k ≡ Some c → slice_get p.right.calls (slice_index f.calls k) ≡ Some e → IsCallImage p.children f.nets c e
+  pub pin : (n : ℕ) → n < length p.left.nets
+      → IsListed n p.left.pins ↔ IsListed (slice_index f.nets n) p.right.pins
+  pub device : (k : ℕ) (d e : DeviceRow) → slice_get p.left.devices k ≡ Some d
+      → slice_get p.right.devices (slice_index f.devices k) ≡ Some e → IsDeviceImage f.nets d e
+  pub call : (k : ℕ) (c e : CallRow) → slice_get p.left.calls k ≡ Some c
+      → slice_get p.right.calls (slice_index f.calls k) ≡ Some e → IsCallImage p.children f.nets c e
 
--- the pair fits on a side: the nets of devices and calls are nets, and the list of each called pair is one to one over the call's pins
+-- the pair fits on a side: the nets of devices and calls are nets, and the list of each called pair
+-- is one to one over the call's pins
 pub record IsFitting (p : Pair) (side : Side) : Type 0 where
-  pub devices : (k : ℕ) (d : DeviceRow) → slice_get (circuit_of p side).devices k ≡ Some d → (e : End Node) → IsListed e (device_ends side d) → e.node.number < length (circuit_of p side).nets
-  pub calls : (k : ℕ) (c : CallRow) → slice_get (circuit_of p side).calls k ≡ Some c → (n : ℕ) → IsListed n c.nets → n < length (circuit_of p side).nets
-  pub pins : (k : ℕ) (c : CallRow) → slice_get (circuit_of p side).calls k ≡ Some c → (pins : List ℕ) → p.children c.circuit ≡ Some pins → IsOneToOne pins (length c.nets) (length c.nets)
+  pub devices : (k : ℕ) (d : DeviceRow) → slice_get (circuit_of p side).devices k ≡ Some d
+      → (e : End Node) → IsListed e (device_ends side d)
+      → e.node.number < length (circuit_of p side).nets
+  pub calls : (k : ℕ) (c : CallRow) → slice_get (circuit_of p side).calls k ≡ Some c → (n : ℕ)
+      → IsListed n c.nets → n < length (circuit_of p side).nets
+  pub pins : (k : ℕ) (c : CallRow) → slice_get (circuit_of p side).calls k ≡ Some c
+      → (pins : List ℕ) → p.children c.circuit ≡ Some pins
+      → IsOneToOne pins (length c.nets) (length c.nets)
 
 abbrev pub image_at : Pairing → Kind → ℕ → ℕ
 image_at f Net k = slice_index f.nets k
@@ -168,12 +203,13 @@ image_at f Device k = slice_index f.devices k
 image_at f Call k = slice_index f.calls k
 
 -- the map of nodes that a pairing is
-abbrev pub carried : Pairing → Node → Node
-carried f n = node Schematic n.kind (image_at f n.kind n.number)
+abbrev pub node_image : Pairing → Node → Node
+node_image f n = node Schematic n.kind (image_at f n.kind n.number)
 
 -- a correspondence of the circuits is one of their web
-abbrev pub CarryLaw : Type 0
-CarryLaw = (p : Pair) (f : Pairing) → IsFitting p Layout → IsFitting p Schematic → IsCorrespondence p f → Carries (web_of p) (carried f)
+abbrev pub WebMapLaw : Type 0
+WebMapLaw = (p : Pair) (f : Pairing) → IsFitting p Layout → IsFitting p Schematic
+    → IsCorrespondence p f → IsWebMap (web_of p) (node_image f)
 
 -- the number lists of a map of nodes
 abbrev pub numbers_of : (Node → Node) → Kind → ℕ → List ℕ
@@ -188,8 +224,10 @@ pairing_of p f = record {
 
 -- each pair that the left circuit calls is matched
 abbrev pub AreMatched : Pair → Type 0
-AreMatched p = (k : ℕ) (c : CallRow) → slice_get p.left.calls k ≡ Some c → (pins : List ℕ) × (p.children c.circuit ≡ Some pins)
+AreMatched p = (k : ℕ) (c : CallRow) → slice_get p.left.calls k ≡ Some c
+    → (pins : List ℕ) × (p.children c.circuit ≡ Some pins)
 
 -- a correspondence of the web is one of the circuits
 abbrev pub ReadLaw : Type 0
-ReadLaw = (p : Pair) (f : Node → Node) → IsFitting p Layout → IsFitting p Schematic → AreMatched p → Carries (web_of p) f → IsCorrespondence p (pairing_of p f)
+ReadLaw = (p : Pair) (f : Node → Node) → IsFitting p Layout → IsFitting p Schematic → AreMatched p
+    → IsWebMap (web_of p) f → IsCorrespondence p (pairing_of p f)

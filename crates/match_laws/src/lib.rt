@@ -1,20 +1,24 @@
-//! What a match of two circuits is, and what each answer of a comparison says: definitions and laws.
+//! What a match of two circuits is, and what each answer of a comparison says: definitions and
+//! laws.
 //!
-//! The definitions stand in `specs/`: `Circuits` (a pair of circuits as a web, correspondences), `Answer` (the answer of a pair with its evidence),
-//! `Verdict` (what rounds and guesses say of two circuits). No code runs here; each law is the contract of a function with an empty body.
+//! The definitions stand in `specs/`: `Circuits` (a pair of circuits as a web, correspondences),
+//! `Answer` (the answer of a pair with its evidence), `Verdict` (what rounds and guesses say of two
+//! circuits). No code runs here; each law is the contract of a function with an empty body.
 #![tactic(auto)]
 
-ghost use Rattle.match_laws.specs.Circuits.{CarryLaw, ReadLaw};
+ghost use Rattle.match_laws.specs.Circuits.{WebMapLaw, ReadLaw};
 ghost use Rattle.match_laws.specs.Verdict.{RefutedPairLaw, EndedPairLaw, SolvedPairLaw, FoundPairLaw};
 ghost use Rattle.match_laws.specs.Answer.{MatchedLaw, DiffersLaw, OneAnswerLaw, UnevenLaw, SingleLaw, UndecidedLaw};
 
-/// A correspondence of two circuits is one of their web, and one of the web is read off as one of the circuits.
+/// A correspondence of two circuits is one of their web, and one of the web is read off as one of
+/// the circuits.
 pub fn correspondences()
-    ensures carried { CarryLaw }
+    ensures web_map { WebMapLaw }
     ensures read { ReadLaw }
 {}
 
-/// Refuted rounds and ended searches exclude every correspondence of the circuits; solved rounds and found searches give one.
+/// Refuted rounds and ended searches exclude every correspondence of the circuits; solved rounds
+/// and found searches give one.
 pub fn verdicts()
     ensures refuted { RefutedPairLaw }
     ensures ended { EndedPairLaw }

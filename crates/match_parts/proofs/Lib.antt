@@ -1,2 +1,5 @@
 pub mod Numbering
 pub mod Marked
+pub mod Fitted
+pub mod Read
+pub mod Listed

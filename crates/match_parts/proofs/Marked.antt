@@ -7,7 +7,7 @@ use Rattle.std.proofs.Math.ListN.{set}
 use Rattle.std.proofs.lemmas.List.{get_or-set_same, get_or-set_other}
 use Rattle.std.proofs.lemmas.List.Sums.{sum_by-cons, sum_by-take-le, count_by_more_yes, count_by_more_no}
 use Rattle.std.proofs.lemmas.Bool.Decides.{Decides-eqb}
-use Rattle.round_laws.specs.Web.{IsListed}
+use Rattle.plain_netlist.specs.Lists.{IsListed}
 use Rattle.match_laws.specs.Circuits.{IsOneToOne}
 use Rattle.match_laws.proofs.Sums.{index_below}
 use Rattle.match_parts.specs.Marks.{StandsOnce, IsMarked, AreUnset}
@@ -78,7 +78,7 @@ ones : (n : ℕ) → below_sum (λ j. 1) n ≡ n
 ones zero = refl
 ones (suc n) = let h = ones n in omega arith
 
-one_long : (xs : List ℕ) (n : ℕ) → StandsOnce xs n → length xs ≡ n
+pub one_long : (xs : List ℕ) (n : ℕ) → StandsOnce xs n → length xs ≡ n
 one_long xs n one = sym (total xs n one.below) ∙ (sum_same _ (λ j. 1) n (λ j l. one.once j l) ∙ ones n)
 
 mark_most : (b : Bool) → cond {A = ℕ} b 1 0 ≤ 1

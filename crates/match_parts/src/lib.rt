@@ -6,5 +6,5 @@ mod marks;
 mod rows;
 
 pub use classes::split;
-pub use marks::is_one_to_one;
+pub use marks::{is_one_to_one, mark};
 pub use rows::{DeviceView, is_device_image};

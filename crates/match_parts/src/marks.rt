@@ -1,6 +1,6 @@
 ghost use Rattle.std.specs.Prelude.{◌≡◌, length, Decides};
 ghost use Rattle.match_laws.specs.Circuits.{IsOneToOne};
-ghost use Rattle.match_parts.specs.Marks.{AreUnset};
+ghost use Rattle.match_parts.specs.Marks.{AreMarked, AreUnset};
 
 /// Whether the numbers are a one-to-one map onto the numbers below the number of marks. What the marks hold is lost. Takes no memory, and time
 /// in proportion to both lengths.
@@ -19,6 +19,20 @@ pub fn is_one_to_one(numbers: &[u32], marks: &mut [bool]) -> bool
         marks[place] = true;
     }
     numbers.len() == marks.len()
+}
+
+/// Sets the marks of the listed numbers, and no others. Numbers that have no mark are passed over. Takes no memory, and time in proportion to
+/// both lengths.
+pub fn mark(numbers: &[u32], marks: &mut [bool])
+    ensures { AreMarked numbers.now marks.new }
+{
+    clear(marks);
+    for i in 0..numbers.len() {
+        let place = numbers[i] as usize;
+        if place < marks.len() {
+            marks[place] = true;
+        }
+    }
 }
 
 fn clear(marks: &mut [bool])

@@ -1,6 +1,6 @@
 ghost use Rattle.std.specs.Prelude.{length, Decides};
 ghost use Rattle.match_laws.specs.Circuits.{IsDeviceImage};
-ghost use Rattle.match_parts.specs.Rows.{device_of, AreNets};
+ghost use Rattle.match_parts.specs.Rows.{device_of, AreTerminalsBelow};
 
 /// A transistor as it is compared: its class, its sizes in femtometres, and the nets of its terminals.
 #[derive(Clone, Copy)]
@@ -17,7 +17,7 @@ pub struct DeviceView<'a> {
 /// Whether the right device is the image of the left one, by the right number of each left net: the same class, length and width, gate and bulk on
 /// their images, source and drain on theirs in either order.
 pub fn is_device_image(nets: &[u32], left: &DeviceView<'_>, right: &DeviceView<'_>) -> bool
-    requires { AreNets (device_of left.now) (length nets.now) }
+    requires { AreTerminalsBelow (device_of left.now) (length nets.now) }
     ensures { Decides result (IsDeviceImage nets.now (device_of left.now) (device_of right.now)) }
 {
     if left.class != right.class {

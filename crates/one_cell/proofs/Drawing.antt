@@ -17,7 +17,8 @@ use Rattle.rule_text.specs.declared.rules.Output.{Output}
 use Rattle.rule_text.specs.Rules.{Rules}
 use Rattle.rule_text.specs.Sound.{AreApart, IsSound}
 use Rattle.cell_layers.specs.Shapes.{is_key, own_covers}
-use Rattle.cell_layers.specs.Readings.{readings, reading_covers, IsRight}
+use Rattle.cell_layers.specs.Readings.{reading_covers, IsRight}
+use Rattle.rule_layers.specs.Readings.{readings}
 use Rattle.gds_shapes.specs.Accepted.{IsRead, written_library, written_cell, ReadLaw}
 use Rattle.cell_laws.specs.Covering.{layers_cover, WrittenLaw}
 use Rattle.one_cell.specs.OneCell.{alone, only_cell, only_of, name_at, AreDrawn}

@@ -13,7 +13,8 @@ use Rattle.rule_text.specs.Rules.{Rules}
 use Rattle.rule_text.specs.declared.rules.LayerRule.{LayerRule}
 use Rattle.rule_text.specs.declared.rules.Output.{Output}
 use Rattle.cell_layers.specs.Shapes.{shape_covers, own_covers}
-use Rattle.cell_layers.specs.Readings.{readings, reading_covers}
+use Rattle.cell_layers.specs.Readings.{reading_covers}
+use Rattle.rule_layers.specs.Readings.{readings}
 use Rattle.gds_shapes.specs.Stream.{stream_bytes}
 
 -- ---- the cell

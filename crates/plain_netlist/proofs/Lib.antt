@@ -1,1 +1,8 @@
 pub mod Links
+pub mod Alike
+pub mod Members
+pub mod Listing
+pub mod Once
+pub mod Faults
+pub mod Numbered
+pub mod Heights

@@ -70,10 +70,14 @@ pub record Slot : Type 0 where
 abbrev pub slot : List ℕ → ℕ → Slot
 slot path net = record { path = path; net = net }
 
--- call k of the circuit at the end of the path joins the net outer with the called circuit's pin net inner
+-- call k of the circuit at the end of the path joins its net outer with the called circuit's pin
+-- net inner
 abbrev pub Joins : Netlist → ℕ → List ℕ → ℕ → ℕ → ℕ → Type 0
-Joins nl t [] outer k inner = (row : CallRow) × IsCall nl t k row × (called : Circuit) × IsCircuit nl row.circuit called × (i : ℕ) × (slice_get row.nets i ≡ Some outer) × (slice_get called.pins i ≡ Some inner)
-Joins nl t (j ∷ js) outer k inner = (row : CallRow) × IsCall nl t j row × Joins nl row.circuit js outer k inner
+Joins nl t [] outer k inner = (row : CallRow) × IsCall nl t k row
+    × (called : Circuit) × IsCircuit nl row.circuit called
+    × (i : ℕ) × (slice_get row.nets i ≡ Some outer) × (slice_get called.pins i ≡ Some inner)
+Joins nl t (j ∷ js) outer k inner =
+    (row : CallRow) × IsCall nl t j row × Joins nl row.circuit js outer k inner
 
 -- a call joins its net a with the pin net b, one call deeper
 pub record IsJoin (nl : Netlist) (t : ℕ) (a b : Slot) : Type 0 where
@@ -89,10 +93,11 @@ IsEitherJoin nl t a b = IsJoin nl t a b ⊎ IsJoin nl t b a
 abbrev pub InOneNet : Netlist → ℕ → Slot → Slot → Type 0
 InOneNet nl t a b = Reaches (IsEitherJoin nl t) a b
 
--- device i of the circuit at the end of a path of calls from circuit t: a device of what t expands to
+-- device i of the circuit at the end of a path of calls: a device of what circuit t expands to
 abbrev pub HasDevice : Netlist → ℕ → List ℕ → ℕ → DeviceRow → Type 0
 HasDevice nl t [] i row = IsDevice nl t i row
-HasDevice nl t (k ∷ ks) i row = (call : CallRow) × IsCall nl t k call × HasDevice nl call.circuit ks i row
+HasDevice nl t (k ∷ ks) i row =
+    (call : CallRow) × IsCall nl t k call × HasDevice nl call.circuit ks i row
 
 -- the circuit at the end of a path of calls has a net n
 abbrev pub IsSlot : Netlist → ℕ → List ℕ → ℕ → Type 0

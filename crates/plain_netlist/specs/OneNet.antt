@@ -12,4 +12,5 @@ TurnLaw = (nl : Netlist) (t : ℕ) (a b : Slot) → InOneNet nl t a b → InOneN
 
 -- and through a third
 abbrev pub ThroughLaw : Type 0
-ThroughLaw = (nl : Netlist) (t : ℕ) (a b c : Slot) → InOneNet nl t a b → InOneNet nl t b c → InOneNet nl t a c
+ThroughLaw = (nl : Netlist) (t : ℕ) (a b c : Slot)
+    → InOneNet nl t a b → InOneNet nl t b c → InOneNet nl t a c

@@ -7,7 +7,8 @@ use Rattle.geo_base.specs.declared.shapes.Square.{Square}
 use Rattle.std.proofs.lemmas.List.Elements.{All-append, All-nil, All-cons}
 use Rattle.rect_sets.specs.declared.row.Edge.{Edge}
 use Rattle.rect_sets.specs.Edges.{first_of, second_of, sum_where, crosses, acts_on, weight, total, IsEdge, IsBalanced}
-use Rattle.poly_fill.specs.Fills.{turns, winding, last_from, IsClosed}
+use Rattle.poly_fill.specs.Fills.{turns, winding}
+use Rattle.geo_base.specs.Outlines.{last_from, IsClosed}
 use Rattle.poly_fill.specs.Edges.{edges_between, edges_from, edges_along}
 
 sum_where-append : (test : Edge → Bool) (field : Edge → ℤ) (xs ys : List Edge) → sum_where test field (xs ++ ys) ≡ sum_where test field xs +ℤ sum_where test field ys

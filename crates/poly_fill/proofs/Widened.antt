@@ -3,7 +3,7 @@ use Rattle.std.proofs.Common.{◌≡◌, ℕ, ◌+◌, ◌<◌, ◌≤◌, ℤ, 
 use Rattle.std.proofs.lemmas.Int.{ints}
 use Rattle.std.proofs.lemmas.Bool.Decides.{Decides-int_eq}
 use mir.Val.{to_z, of_z}
-use Rattle.geo_base.specs.Near.{IsNear}
+use Rattle.geo_base.specs.Near.{IsLong}
 use Rattle.std.proofs.lemmas.List.{drop_more, drop_all}
 use Rattle.std.proofs.lemmas.List.Folds.{list_any-append}
 use Rattle.std.specs.Ordering.{int_eq}
@@ -22,7 +22,7 @@ rect_same a b c d e f g h p q r s = cc
 pub along : (f : ℤ → ℤ → ℤ → ℤ → ℤ) (a b c d e g h i : ℤ) → a ≡ e → b ≡ g → c ≡ h → d ≡ i → f a b c d ≡ f e g h i
 along f a b c d e g h i p q r s = cc
 
-pub near_value : (z : ℤ) → IsNear z → to_z w64 (of_z w64 z) ≡ z
+pub near_value : (z : ℤ) → IsLong z → to_z w64 (of_z w64 z) ≡ z
 near_value z near = omega (arith, ints)
 
 pub level_segment : (half begin end : ℤ) (a b : Point) → a.y ≡ b.y

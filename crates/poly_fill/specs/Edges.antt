@@ -6,8 +6,22 @@ use Rattle.rect_sets.specs.declared.row.Edge.{Edge}
 -- of weight 1 where it goes up and -1 where it goes down; none where a and b have one height
 abbrev pub edges_between : Point → Point → List Edge
 edges_between a b =
-    if int_lt a.y b.y then record { x = a.x; y1 = a.y; y2 = b.y; first = pos 1; second = pos 0 } ∷ []
-    else (if int_lt b.y a.y then record { x = a.x; y1 = b.y; y2 = a.y; first = negsuc 0; second = pos 0 } ∷ [] else [])
+    if int_lt a.y b.y then record {
+      x =
+          a.x;
+      y1 = a.y;
+      y2 = b.y;
+      first = pos 1;
+      second = pos 0;
+    } ∷ []
+    else (if int_lt b.y a.y then record {
+      x =
+          a.x;
+      y1 = b.y;
+      y2 = a.y;
+      first = negsuc 0;
+      second = pos 0;
+    } ∷ [] else [])
 
 -- those of the line that begins at p and goes through the points
 abbrev pub edges_from : Point → List Point → List Edge

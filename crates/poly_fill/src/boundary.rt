@@ -1,8 +1,10 @@
-// The fill of a boundary.
+//! The fill of a boundary.
+
 ghost use Rattle.std.specs.Prelude.{◌≡◌, ◌++◌, IfOk, OnOk};
 ghost use Rattle.rect_sets.specs.Rects.{covers};
-ghost use Rattle.poly_fill.specs.Fills.{IsClosed, in_boundary};
+ghost use Rattle.poly_fill.specs.Fills.{in_boundary};
 ghost use Rattle.poly_fill.specs.Edges.{edges_between, edges_along};
+ghost use Rattle.geo_base.specs.Outlines.{IsClosed};
 ghost use Rattle.geo_base.specs.declared.shapes.Square.{Square};
 
 use crate::outline::outlined;
@@ -52,9 +54,10 @@ fn edges_along(alloc: Global, points: &[Point]) -> Result<Vec<Edge>, AllocError>
     Ok(edges)
 }
 
-/// The squares round whose centres the closed line of points winds a number of times that isn't 0. The points are in
-/// database units, the last is the first, and neighbours share x or y. O(p log p + k) for p points and k crossings of
-/// edges and strips; O(1) for the outline of a rectangle. An `Err` is want of memory.
+/// The squares round whose centres the closed line of points winds a number of times that isn't 0.
+/// The points are in database units, the last is the first, and neighbours share x or y. O(p log p
+/// + k) for p points and k crossings of edges and strips; O(1) for the outline of a rectangle. An
+/// `Err` is want of memory.
 pub fn fill_boundary(alloc: Global, points: &[Point]) -> Result<RectSet, AllocError>
     requires { IsClosed points.now }
     ensures { IfOk result (λ r. (s : Square) → covers r s ≡ in_boundary points.now s) }

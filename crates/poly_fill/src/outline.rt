@@ -1,4 +1,5 @@
-// Boundaries that are outlines of rectangles.
+//! Boundaries that are outlines of rectangles.
+
 ghost use Rattle.std.specs.Prelude.{◌≡◌, [], ◌∷◌, IfSome};
 ghost use Rattle.geo_base.specs.Rects.{has, rect_between};
 ghost use Rattle.poly_fill.specs.Fills.{in_boundary};
@@ -34,8 +35,8 @@ fn outline_of(a: Point, b: Point, c: Point, d: Point, e: Point) -> Option<Rect>
     None
 }
 
-/// The rectangle that five points go round, from any corner and either way; it may have no area. `None` says nothing of the
-/// points: the code answers it for all others. O(1).
+/// The rectangle that five points go round, from any corner and either way; it may have no area.
+/// `None` says nothing of the points: the code answers it for all others. O(1).
 pub fn outlined(points: &[Point]) -> Option<Rect>
     ensures { IfSome result (λ r. (s : Square) → in_boundary points.now s ≡ has r s) }
 {

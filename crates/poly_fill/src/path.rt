@@ -1,10 +1,11 @@
-// The fills of paths and boxes.
+//! The fills of paths and boxes.
+
 ghost use Rattle.std.specs.Prelude.{◌≡◌, ◌||◌, IfOk, OnOk};
 ghost use Rattle.std.specs.List.{All};
 ghost use Rattle.rect_sets.specs.Rects.{covers};
 ghost use Rattle.poly_fill.specs.Fills.{low_of, high_of, segment, distinct, segments, in_path};
 ghost use Rattle.geo_base.specs.Rects.{has, IsRect};
-ghost use Rattle.geo_base.specs.Near.{IsNear, IsNearPoint};
+ghost use Rattle.geo_base.specs.Near.{IsLong, IsLongPoint};
 ghost use Rattle.geo_base.specs.declared.shapes.Square.{Square};
 
 use geo_base::{Point, Rect};
@@ -13,10 +14,10 @@ use std::alloc::{AllocError, Global};
 
 // The least coordinate of a segment from a to b that is lengthened at both ends.
 fn low_of(a: i64, b: i64, begin: i64, end: i64) -> i64
-    requires a { IsNear a }
-    requires b { IsNear b }
-    requires begin { IsNear begin }
-    requires end { IsNear end }
+    requires a { IsLong a }
+    requires b { IsLong b }
+    requires begin { IsLong begin }
+    requires end { IsLong end }
     ensures { result ≡ low_of a b begin end }
 {
     if a <= b { a - begin } else { b - end }
@@ -24,10 +25,10 @@ fn low_of(a: i64, b: i64, begin: i64, end: i64) -> i64
 
 // Its greatest.
 fn high_of(a: i64, b: i64, begin: i64, end: i64) -> i64
-    requires a { IsNear a }
-    requires b { IsNear b }
-    requires begin { IsNear begin }
-    requires end { IsNear end }
+    requires a { IsLong a }
+    requires b { IsLong b }
+    requires begin { IsLong begin }
+    requires end { IsLong end }
     ensures { result ≡ high_of a b begin end }
 {
     if a <= b { b + end } else { a + begin }
@@ -35,11 +36,11 @@ fn high_of(a: i64, b: i64, begin: i64, end: i64) -> i64
 
 // The rectangle of the segment from a to b, lengthened at both ends and widened to both sides.
 fn segment(half: i64, begin: i64, end: i64, a: Point, b: Point) -> Rect
-    requires half { IsNear half }
-    requires begin { IsNear begin }
-    requires end { IsNear end }
-    requires a { IsNearPoint a }
-    requires b { IsNearPoint b }
+    requires half { IsLong half }
+    requires begin { IsLong begin }
+    requires end { IsLong end }
+    requires a { IsLongPoint a }
+    requires b { IsLongPoint b }
     ensures { result ≡ segment half begin end a b }
 {
     if a.y == b.y {
@@ -63,7 +64,8 @@ fn segment(half: i64, begin: i64, end: i64, a: Point, b: Point) -> Rect
 fn push_rect(rects: &mut Vec<Rect>, r: Rect) -> Result<(), AllocError>
     requires { All IsRect rects.old.items }
     ensures sound { OnOk result (All IsRect rects.new.items) }
-    ensures covers { OnOk result ((s : Square) → covers rects.new.items s ≡ (covers rects.old.items s || has r s)) }
+    ensures covers { OnOk result ((s : Square) → covers rects.new.items s
+        ≡ (covers rects.old.items s || has r s)) }
 {
     if r.x1 < r.x2 && r.y1 < r.y2 {
         rects.push(r)?;
@@ -97,12 +99,13 @@ fn segment_rects(
     begin: i64,
     end: i64,
 ) -> Result<Vec<Rect>, AllocError>
-    requires points { All IsNearPoint points.now }
-    requires half { IsNear half }
-    requires begin { IsNear begin }
-    requires end { IsNear end }
+    requires points { All IsLongPoint points.now }
+    requires half { IsLong half }
+    requires begin { IsLong begin }
+    requires end { IsLong end }
     ensures sound { IfOk result (λ v. All IsRect v.items) }
-    ensures covers { IfOk result (λ v. (s : Square) → covers v.items s ≡ covers (segments half begin end points.now) s) }
+    ensures covers { IfOk result (λ v. (s : Square) → covers v.items s
+        ≡ covers (segments half begin end points.now) s) }
 {
     let mut rects = Vec::new(alloc);
     if let [first, rest @ ..] = points {
@@ -118,10 +121,12 @@ fn segment_rects(
     Ok(rects)
 }
 
-/// The squares of a path: of the rectangles of its segments, each widened by `half` to both sides and lengthened by `half`
-/// at inner joints, by `begin` at the first point and by `end` at the last. Equal neighbours count once; a rectangle without
-/// width or height has no square; negative lengths shorten. All numbers are database units, within plus or minus 2^40.
-/// O(p log p + k) for p points and k crossings of edges and strips. An `Err` is want of memory.
+/// The squares of a path: of the rectangles of its segments, each widened by `half` to both sides
+/// and lengthened by `half` at inner joints, by `begin` at the first point and by `end` at the
+/// last. Equal neighbours count once; a rectangle without width or height has no square; negative
+/// lengths shorten. All numbers are database units of 32 bits with a sign, as a stream's are, so
+/// that each coordinate of the path lies within plus or minus 2^32. O(p log p + k) for p points and
+/// k crossings of edges and strips. An `Err` is want of memory.
 pub fn fill_path(
     alloc: Global,
     points: &[Point],
@@ -129,10 +134,10 @@ pub fn fill_path(
     begin: i64,
     end: i64,
 ) -> Result<RectSet, AllocError>
-    requires points { All IsNearPoint points.now }
-    requires half { IsNear half }
-    requires begin { IsNear begin }
-    requires end { IsNear end }
+    requires points { All IsLongPoint points.now }
+    requires half { IsLong half }
+    requires begin { IsLong begin }
+    requires end { IsLong end }
     ensures { IfOk result (λ r. (s : Square) → covers r s ≡ in_path half begin end points.now s) }
 {
     let corners = distinct_points(alloc, points)?;
@@ -141,7 +146,8 @@ pub fn fill_path(
     Ok(set)
 }
 
-/// The squares of a rectangle, none where it has no width or height. O(1). An `Err` is want of memory.
+/// The squares of a rectangle, none where it has no width or height. O(1). An `Err` is want of
+/// memory.
 pub fn fill_box(alloc: Global, r: Rect) -> Result<RectSet, AllocError>
     ensures { IfOk result (λ a. (s : Square) → covers a s ≡ has r s) }
 {

@@ -146,38 +146,13 @@ balanced field edges y low at active p next later cross z =
     let full = full_total y field active cross in
     omega (arith, ints, all, none, full, z)
 
-one_each : Edge → ℤ
-one_each e = pos 1
-
-count_all : (active : List Edge) → weight_of_all (λ e. pos 1) active ≡ pos (length active)
-count_all [] = refl
-count_all (e ∷ active) = omega (arith, ints, count_all active)
-
-count_up : (test : Edge → Bool) (edges : List Edge) → (pos 0 ≤ℤ sum_where test (λ e. pos 1) edges) × (sum_where test (λ e. pos 1) edges ≤ℤ pos (length edges))
-count_up test [] = (omega (arith, ints), omega (arith, ints))
-count_up test (e ∷ edges) = let h = count_up test edges in let k = one_up (test e) in (omega (arith, ints, h.0, k.0), omega (arith, ints, h.1, k.1))
-  where
-    one_up : (b : Bool) → (pos 0 ≤ℤ (if b then pos 1 else pos 0)) × ((if b then pos 1 else pos 0) ≤ℤ pos 1)
-    one_up true = (omega (arith, ints), omega (arith, ints))
-    one_up false = (omega (arith, ints), omega (arith, ints))
-
-pub few_active : (edges : List Edge) (y : ℤ) (at : ℕ) (active : List Edge) → Parts y edges at active → AreCrossing y active → length active ≤ length edges
-few_active edges y at active p cross =
-    let all = p (crosses y) (λ e. pos 1) (crosses_ignores y y (omega (arith, ints))) in
-    let full = full_total y (λ e. pos 1) active cross in
-    let count = count_all active in
-    let up = (count_up (crosses y) edges).1 in
-    let rest = (count_up (crosses y) (drop at edges)).0 in
-    omega (arith, ints, all, full, count, up, rest)
-
-pub is_row : (rule : Rule) (edges : List Edge) (y : ℤ) (at at' : ℕ) (active merged : List Edge) (opens : List Open) (closed : List Rect) → SweepState rule edges y at active opens closed → Merged y active edges at at' merged → IsBalanced edges → length edges < 2147483648 → IsRow leftmost merged
-is_row rule edges y at at' active merged opens closed h m b few =
+pub is_row : (rule : Rule) (edges : List Edge) (y : ℤ) (at at' : ℕ) (active merged : List Edge) (opens : List Open) (closed : List Rect) → SweepState rule edges y at active opens closed → Merged y active edges at at' merged → IsBalanced edges → IsRow leftmost merged
+is_row rule edges y at at' active merged opens closed h m b =
     let p : Parts y edges at' merged = parts rule edges y at at' active merged opens closed h m in
     record {
       in_order = m.order;
       first_balanced = balanced first_of edges y m.low at' merged p m.next m.later m.crossing (b.first y);
       second_balanced = balanced second_of edges y m.low at' merged p m.next m.later m.crossing (b.second y);
-      few = (let up = few_active edges y at' merged p m.crossing in omega arith);
     }
 
 -- the strip

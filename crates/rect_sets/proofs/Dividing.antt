@@ -378,10 +378,21 @@ highs_rects c (r ∷ rects) h =
     (λ lt. subst (λ (xs : List Rect). All IsRect xs) (sym (if_true (ends_after c r) (high_part c r ∷ highs c rects) (highs c rects) (lt_true c.at (high_end c.axis r) lt))) (with_first (high_part c r) (highs c rects) (high_rect c.axis c.at r lt (h 0 r (omega arith))) rest))
     (λ le. subst (λ (xs : List Rect). All IsRect xs) (sym (if_false (ends_after c r) (high_part c r ∷ highs c rects) (highs c rects) (lt_false c.at (high_end c.axis r) le))) rest)
 
-pub rest_rects : (c : Cut) (f g : Square → Bool) (low high : List Rect) → AreBlocks f low → AreBlocks g high → All IsRect (cut_off c low ++ cut_off c high)
-rest_rects c f g low high h k = all_rects (cut_off c low ++ cut_off c high) (λ r l. elim (listed_either r (cut_off c low) (cut_off c high) l) [
-  | inl a ↦ rect_of f r ((h.each r).0 (cut_from c low r a).0)
-  | inr b ↦ rect_of g r ((k.each r).0 (cut_from c high r b).0)
+-- the rectangles of a set's blocks have squares, and so have those of them that touch a cut
+pub block_rects : (set : Square → Bool) (rects : List Rect) → AreBlocks set rects → All IsRect rects
+block_rects set rects h = all_rects rects (λ r l. rect_of set r ((h.each r).0 l))
+
+rect_in : (rects : List Rect) (r : Rect) → All IsRect rects → IsListed r rects → IsRect r
+rect_in [] r h l = absurd l
+rect_in (q ∷ rects) r h l = elim l [
+  | inl e ↦ subst (λ (p : Rect). IsRect p) (sym e) (h 0 q (omega arith))
+  | inr k ↦ rect_in rects r (λ k d lt. h (suc k) d (omega arith)) k
+]
+
+pub cut_rects : (c : Cut) (low high : List Rect) → All IsRect low → All IsRect high → All IsRect (cut_off c low ++ cut_off c high)
+cut_rects c low high h k = all_rects (cut_off c low ++ cut_off c high) (λ r l. elim (listed_either r (cut_off c low) (cut_off c high) l) [
+  | inl a ↦ rect_in low r h (cut_from c low r a).0
+  | inr b ↦ rect_in high r k (cut_from c high r b).0
 ])
 
 combined_and : (rule : Rule) (a b l : Bool) → combined rule (a && l) (b && l) ≡ (combined rule a b && l)
@@ -409,12 +420,14 @@ blocks_same f g rects same h = record {
   same = λ s. h.same s ∙ same s;
 }
 
-pub divided : (rule : Rule) (cut : Cut) (a b left right joined : List Rect) → AreBlocks (combined_set rule (lows cut a) (lows cut b)) left → AreBlocks (combined_set rule (highs cut a) (highs cut b)) right → AreBlocks (combined_set First (cut_off cut left ++ cut_off cut right) []) joined → AreBlocks (combined_set rule a b) ((kept cut left ++ kept cut right) ++ joined)
-divided rule cut a b left right joined h k j =
-    halves (combined_set rule a b) cut left right joined
-    (blocks_same (combined_set rule (lows cut a) (lows cut b)) (low_half (combined_set rule a b) cut) left (λ s. ap (λ p. combined rule p (covers (lows cut b) s)) (covers_lows cut a s) ∙ ap (λ p. combined rule (covers a s && int_lt (place cut.axis s) cut.at) p) (covers_lows cut b s) ∙ combined_and rule (covers a s) (covers b s) (int_lt (place cut.axis s) cut.at)) h)
-    (blocks_same (combined_set rule (highs cut a) (highs cut b)) (high_half (combined_set rule a b) cut) right (λ s. ap (λ p. combined rule p (covers (highs cut b) s)) (covers_highs cut a s) ∙ ap (λ p. combined rule (covers a s && int_le cut.at (place cut.axis s)) p) (covers_highs cut b s) ∙ combined_and rule (covers a s) (covers b s) (int_le cut.at (place cut.axis s))) k)
-    j
+-- what the rule gives of the lower parts is the lower half of what it gives, and so of the upper
+pub low_blocks : (rule : Rule) (cut : Cut) (a b rects : List Rect) → AreBlocks (combined_set rule (lows cut a) (lows cut b)) rects → AreBlocks (low_half (combined_set rule a b) cut) rects
+low_blocks rule cut a b rects h =
+    blocks_same (combined_set rule (lows cut a) (lows cut b)) (low_half (combined_set rule a b) cut) rects (λ s. ap (λ p. combined rule p (covers (lows cut b) s)) (covers_lows cut a s) ∙ ap (λ p. combined rule (covers a s && int_lt (place cut.axis s) cut.at) p) (covers_lows cut b s) ∙ combined_and rule (covers a s) (covers b s) (int_lt (place cut.axis s) cut.at)) h
+
+pub high_blocks : (rule : Rule) (cut : Cut) (a b rects : List Rect) → AreBlocks (combined_set rule (highs cut a) (highs cut b)) rects → AreBlocks (high_half (combined_set rule a b) cut) rects
+high_blocks rule cut a b rects h =
+    blocks_same (combined_set rule (highs cut a) (highs cut b)) (high_half (combined_set rule a b) cut) rects (λ s. ap (λ p. combined rule p (covers (highs cut b) s)) (covers_highs cut a s) ∙ ap (λ p. combined rule (covers a s && int_le cut.at (place cut.axis s)) p) (covers_highs cut b s) ∙ combined_and rule (covers a s) (covers b s) (int_le cut.at (place cut.axis s))) h
 
 -- the loops
 

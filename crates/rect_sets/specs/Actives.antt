@@ -12,7 +12,13 @@ leftmost = negsuc 9223372036854775807
 
 -- the edge at a place
 abbrev pub edge_at : List Edge → ℕ → Edge
-edge_at edges k = slice_index_or edges k (record { x = pos 0; y1 = pos 0; y2 = pos 0; first = pos 0; second = pos 0 })
+edge_at edges k = slice_index_or edges k (record {
+  x = pos 0;
+  y1 = pos 0;
+  y2 = pos 0;
+  first = pos 0;
+  second = pos 0;
+})
 
 -- the edge comes at or after a place in the order of y1, then x
 abbrev pub Follows : ℤ → ℤ → Edge → Type 0
@@ -21,7 +27,8 @@ Follows y x e = (y <ℤ e.y1) ⊎ ((y ≡ e.y1) × (x ≤ℤ e.x))
 -- in order of y1, then x, from a place on; none is empty or too far left
 abbrev pub AreNext : ℤ → ℤ → List Edge → Type 0
 AreNext y x [] = Unit {0}
-AreNext y x (e ∷ edges) = Follows y x e × (leftmost ≤ℤ e.x) × (e.y1 <ℤ e.y2) × AreNext e.y1 e.x edges
+AreNext y x (e ∷ edges) =
+    Follows y x e × (leftmost ≤ℤ e.x) × (e.y1 <ℤ e.y2) × AreNext e.y1 e.x edges
 
 -- all begin at or below a row
 abbrev pub HaveBegun : ℤ → List Edge → Type 0
@@ -40,10 +47,14 @@ EndFrom end (e ∷ edges) = (end ≤ℤ e.y2) × EndFrom end edges
 
 -- which comes next: an active edge that has ended, one that goes on, or one that begins, by x
 abbrev pub IsPick : ℤ → List Edge → ℕ → List Edge → ℕ → Pick → Type 0
-IsPick y active i edges j Done = (length active ≤ i) × (j < length edges → y <ℤ (edge_at edges j).y1)
+IsPick y active i edges j Done =
+    (length active ≤ i) × (j < length edges → y <ℤ (edge_at edges j).y1)
 IsPick y active i edges j Ended = (i < length active) × ((edge_at active i).y2 ≤ℤ y)
-IsPick y active i edges j Active = (i < length active) × (y <ℤ (edge_at active i).y2) × (j < length edges → (y <ℤ (edge_at edges j).y1) ⊎ ((edge_at active i).x ≤ℤ (edge_at edges j).x))
-IsPick y active i edges j Starting = (j < length edges) × ((edge_at edges j).y1 ≤ℤ y) × (i < length active → (edge_at edges j).x ≤ℤ (edge_at active i).x)
+IsPick y active i edges j Active = (i < length active) × (y <ℤ (edge_at active i).y2)
+    × (j < length edges → (y <ℤ (edge_at edges j).y1)
+    ⊎ ((edge_at active i).x ≤ℤ (edge_at edges j).x))
+IsPick y active i edges j Starting = (j < length edges) × ((edge_at edges j).y1 ≤ℤ y)
+    × (i < length active → (edge_at edges j).x ≤ℤ (edge_at active i).x)
 
 -- in the midst of a merge: what was taken crosses the row, and what is left is in order
 pub record MergeState (y : ℤ) (active edges : List Edge) (i j : ℕ) (out : List Edge) : Type 0 where
@@ -63,9 +74,14 @@ abbrev pub Ignores : ℤ → (Edge → Bool) → Type 0
 Ignores y test = (e : Edge) → e.y2 ≤ℤ y → test e ≡ false
 
 -- one edge was taken or left out; sums of those that still count stay the same
-pub record Takes (y : ℤ) (active edges : List Edge) (i i' j j' : ℕ) (out out' : List Edge) (more : Bool) : Type 0 where
+pub record Takes (y : ℤ) (active edges : List Edge) (i i' j j' : ℕ) (out out' : List Edge)
+    (more : Bool) : Type 0 where
   pub state : MergeState y active edges i' j' out'
-  pub sums : (test : Edge → Bool) (field : Edge → ℤ) → Ignores y test → (sum_where test field out' +ℤ (sum_where test field (drop i' active) +ℤ sum_where test field (drop j' edges))) ≡ (sum_where test field out +ℤ (sum_where test field (drop i active) +ℤ sum_where test field (drop j edges)))
+  pub sums : (test : Edge → Bool) (field : Edge → ℤ) → Ignores y test
+      → (sum_where test field out' +ℤ (sum_where test field (drop i' active)
+      +ℤ sum_where test field (drop j' edges)))
+      ≡ (sum_where test field out +ℤ (sum_where test field (drop i active)
+      +ℤ sum_where test field (drop j edges)))
   pub on : more ≡ true → i + j < i' + j'
   pub not_back : i + j ≤ i' + j'
   pub end : more ≡ false → (length active ≤ i') × (j' < length edges → y <ℤ (edge_at edges j').y1)
@@ -78,9 +94,13 @@ pub record IsReady (y : ℤ) (active edges : List Edge) (at : ℕ) : Type 0 wher
   pub next : AreNext y leftmost (drop at edges)
 
 -- the same from the beginning on
-pub record MergeSoFar (y : ℤ) (active edges : List Edge) (at i j : ℕ) (out : List Edge) (more : Bool) : Type 0 where
+pub record MergeSoFar (y : ℤ) (active edges : List Edge) (at i j : ℕ) (out : List Edge)
+    (more : Bool) : Type 0 where
   pub state : MergeState y active edges i j out
-  pub sums : (test : Edge → Bool) (field : Edge → ℤ) → Ignores y test → (sum_where test field out +ℤ (sum_where test field (drop i active) +ℤ sum_where test field (drop j edges))) ≡ (sum_where test field active +ℤ sum_where test field (drop at edges))
+  pub sums : (test : Edge → Bool) (field : Edge → ℤ) → Ignores y test
+      → (sum_where test field out +ℤ (sum_where test field (drop i active)
+      +ℤ sum_where test field (drop j edges))) ≡ (sum_where test field active
+      +ℤ sum_where test field (drop at edges))
   pub end : more ≡ false → (length active ≤ i) × (j < length edges → y <ℤ (edge_at edges j).y1)
 
 -- the edges that cross row y are active, and the others begin later
@@ -91,7 +111,9 @@ pub record Merged (y : ℤ) (active edges : List Edge) (at at' : ℕ) (out : Lis
   pub low : ℤ
   pub next : AreNext y low (drop at' edges)
   pub later : at' < length edges → y <ℤ (edge_at edges at').y1
-  pub sums : (test : Edge → Bool) (field : Edge → ℤ) → Ignores y test → (sum_where test field out +ℤ sum_where test field (drop at' edges)) ≡ (sum_where test field active +ℤ sum_where test field (drop at edges))
+  pub sums : (test : Edge → Bool) (field : Edge → ℤ) → Ignores y test
+      → (sum_where test field out +ℤ sum_where test field (drop at' edges))
+      ≡ (sum_where test field active +ℤ sum_where test field (drop at edges))
 
 -- above y, and up to there no active edge ends and no other begins
 pub record IsEnd (y : ℤ) (active edges : List Edge) (at : ℕ) (end : ℤ) : Type 0 where

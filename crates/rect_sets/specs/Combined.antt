@@ -19,12 +19,19 @@ left_of first second r = record { x = r.x1; y1 = r.y1; y2 = r.y2; first = first;
 
 -- the right edge takes the weights back
 abbrev pub right_of : ℤ → ℤ → Rect → Edge
-right_of first second r = record { x = r.x2; y1 = r.y1; y2 = r.y2; first = pos 0 -ℤ first; second = pos 0 -ℤ second }
+right_of first second r = record {
+  x = r.x2;
+  y1 = r.y1;
+  y2 = r.y2;
+  first = pos 0 -ℤ first;
+  second = pos 0 -ℤ second;
+}
 
 -- the two upright edges of each rectangle
 abbrev pub edges_of : ℤ → ℤ → List Rect → List Edge
 edges_of first second [] = []
-edges_of first second (r ∷ rects) = left_of first second r ∷ right_of first second r ∷ edges_of first second rects
+edges_of first second (r ∷ rects) =
+    left_of first second r ∷ right_of first second r ∷ edges_of first second rects
 
 -- what a rule says of one square, given whether each of two sets has it
 abbrev pub combined : Rule → Bool → Bool → Bool

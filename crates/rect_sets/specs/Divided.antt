@@ -36,8 +36,18 @@ low_at Y at r = record { x1 = r.x1; y1 = r.y1; x2 = r.x2; y2 = if int_lt at r.y2
 
 -- the part on the upper side
 abbrev pub high_at : Axis → ℤ → Rect → Rect
-high_at X at r = record { x1 = if int_lt r.x1 at then at else r.x1; y1 = r.y1; x2 = r.x2; y2 = r.y2 }
-high_at Y at r = record { x1 = r.x1; y1 = if int_lt r.y1 at then at else r.y1; x2 = r.x2; y2 = r.y2 }
+high_at X at r = record {
+  x1 = if int_lt r.x1 at then at else r.x1;
+  y1 = r.y1;
+  x2 = r.x2;
+  y2 = r.y2;
+}
+high_at Y at r = record {
+  x1 = r.x1;
+  y1 = if int_lt r.y1 at then at else r.y1;
+  x2 = r.x2;
+  y2 = r.y2;
+}
 
 -- the parts on either side of a cut
 abbrev pub low_part : Cut → Rect → Rect

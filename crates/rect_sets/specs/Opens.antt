@@ -47,7 +47,8 @@ is_among o (s ∷ runs) = is_same o s || is_among o runs
 -- those that are no runs of the strip end below it
 abbrev pub ended : ℤ → List Open → List Span → List Rect
 ended y [] runs = []
-ended y (o ∷ opens) runs = if is_among o runs then ended y opens runs else rect_of y o ∷ ended y opens runs
+ended y (o ∷ opens) runs =
+    if is_among o runs then ended y opens runs else rect_of y o ∷ ended y opens runs
 
 -- the open rectangle at a place
 abbrev pub open_at : List Open → ℕ → Open
@@ -63,11 +64,16 @@ pub record HasLeft (opens : List Open) (j : ℕ) (runs : List Span) (i : ℕ) : 
   pub i_in : i ≤ length runs
   pub some : j + i < length opens + length runs
 
--- which comes next, by its left end: an open rectangle that goes on, one that ends, or a run that begins one
+-- which comes next, by its left end: an open rectangle that goes on, one that ends, or a run that
+-- begins one
 abbrev pub IsTurn : List Open → ℕ → List Span → ℕ → Turn → Type 0
-IsTurn opens j runs i Same = (j < length opens) × (i < length runs) × (is_same (open_at opens j) (run_at runs i) ≡ true)
-IsTurn opens j runs i Close = (j < length opens) × (i < length runs → ((open_at opens j).x1 ≤ℤ (run_at runs i).x1) × (is_same (open_at opens j) (run_at runs i) ≡ false))
-IsTurn opens j runs i Fresh = (i < length runs) × (j < length opens → (run_at runs i).x1 <ℤ (open_at opens j).x1)
+IsTurn opens j runs i Same =
+    (j < length opens) × (i < length runs) × (is_same (open_at opens j) (run_at runs i) ≡ true)
+IsTurn opens j runs i Close = (j < length opens) × (i < length runs
+    → ((open_at opens j).x1 ≤ℤ (run_at runs i).x1) × (is_same (open_at opens j) (run_at runs i)
+    ≡ false))
+IsTurn opens j runs i Fresh =
+    (i < length runs) × (j < length opens → (run_at runs i).x1 <ℤ (open_at opens j).x1)
 
 -- what is left of two lists is apart
 pub record ArePartsApart (opens : List Open) (j : ℕ) (runs : List Span) (i : ℕ) : Type 0 where
@@ -77,16 +83,20 @@ pub record ArePartsApart (opens : List Open) (j : ℕ) (runs : List Span) (i : �
   pub runs_apart : AreApart runs_from (drop i runs)
 
 -- some of the work is done, and what is left is said by the same definitions
-pub record Advances (y : ℤ) (opens : List Open) (runs : List Span) (j j' i i' : ℕ) (next next' : List Open) (closed closed' : List Rect) : Type 0 where
+pub record Advances (y : ℤ) (opens : List Open) (runs : List Span) (j j' i i' : ℕ)
+    (next next' : List Open) (closed closed' : List Rect) : Type 0 where
   pub j_in : j' ≤ length opens
   pub i_in : i' ≤ length runs
   pub more : j + i < j' + i'
   pub apart : ArePartsApart opens j' runs i'
-  pub next_same : next' ++ nexts y (drop j' opens) (drop i' runs) ≡ next ++ nexts y (drop j opens) (drop i runs)
-  pub closed_same : closed' ++ ended y (drop j' opens) (drop i' runs) ≡ closed ++ ended y (drop j opens) (drop i runs)
+  pub next_same : next' ++ nexts y (drop j' opens) (drop i' runs) ≡ next
+      ++ nexts y (drop j opens) (drop i runs)
+  pub closed_same : closed' ++ ended y (drop j' opens) (drop i' runs) ≡ closed
+      ++ ended y (drop j opens) (drop i runs)
 
 -- the same from the beginning on
-pub record StepSoFar (y : ℤ) (opens : List Open) (runs : List Span) (j i : ℕ) (next : List Open) (before closed : List Rect) : Type 0 where
+pub record StepSoFar (y : ℤ) (opens : List Open) (runs : List Span) (j i : ℕ) (next : List Open)
+    (before closed : List Rect) : Type 0 where
   pub j_in : j ≤ length opens
   pub i_in : i ≤ length runs
   pub apart : ArePartsApart opens j runs i

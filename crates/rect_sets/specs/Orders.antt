@@ -14,11 +14,13 @@ IsNotAfter r s = (r.y1 <ℤ s.y1) ⊎ ((r.y1 ≡ s.y1) × (r.x1 ≤ℤ s.x1))
 
 -- neighbours are in order
 abbrev pub AreSortedRects : List Rect → Type 0
-AreSortedRects rects = (k : ℕ) (d : Rect) → k + 1 < length rects → IsNotAfter (slice_index_or rects k d) (slice_index_or rects (k + 1) d)
+AreSortedRects rects = (k : ℕ) (d : Rect) → k + 1 < length rects
+    → IsNotAfter (slice_index_or rects k d) (slice_index_or rects (k + 1) d)
 
 -- the last of a list, if there is one
 abbrev pub LastNotAfter : List Rect → Rect → Type 0
-LastNotAfter rects r = (front : List Rect) (last : Rect) → rects ≡ front ++ last ∷ [] → IsNotAfter last r
+LastNotAfter rects r =
+    (front : List Rect) (last : Rect) → rects ≡ front ++ last ∷ [] → IsNotAfter last r
 
 -- an ordered list that a rectangle may be added to at the end
 pub record IsRoom (rects : List Rect) (r : Rect) : Type 0 where

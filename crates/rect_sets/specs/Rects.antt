@@ -42,15 +42,17 @@ abbrev pub IsListed : Rect → List Rect → Type 0
 IsListed r [] = ⊥
 IsListed r (s ∷ rects) = (r ≡ s) ⊎ IsListed r rects
 
--- The one list of the set that the rectangles cover. A rectangle is in the list exactly where, in each of its rows, its x range is a maximal
--- run of the set, and neither the row below nor the row above has this same run. The list is ordered by y1, then x1.
+-- The one list of the set that the rectangles cover. A rectangle is in the list exactly where, in
+-- each of its rows, its x range is a maximal run of the set, and neither the row below nor the row
+-- above has this same run. The list is ordered by y1, then x1.
 pub record IsCanonical (rects : List Rect) : Type 0 where
   pub each : (r : Rect) → IsListed r rects ↔ IsBlock (covers rects) r
   pub ordered : IsOrdered rects
 
 -- canonical lists that cover the same squares are one
 abbrev pub OneListLaw : Type 0
-OneListLaw = (a b : List Rect) → IsCanonical a → IsCanonical b → ((s : Square) → covers a s ≡ covers b s) → a ≡ b
+OneListLaw = (a b : List Rect) → IsCanonical a → IsCanonical b
+    → ((s : Square) → covers a s ≡ covers b s) → a ≡ b
 
 -- each rectangle of a canonical list has squares
 abbrev pub CanonicalLaw : Type 0

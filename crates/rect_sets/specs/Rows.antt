@@ -1,5 +1,5 @@
 -- One row of a set that is given by weighted edges.
-use Rattle.std.specs.Prelude.{◌≡◌, ℕ, ℤ, pos, ◌*◌, ◌<◌, ◌+ℤ◌, ◌-ℤ◌, ◌≤ℤ◌, int_le, int_lt, Bool, ◌&&◌, ◌||◌, List, [], ◌∷◌, length, take, drop, if◌then◌else◌}
+use Rattle.std.specs.Prelude.{◌≡◌, ℕ, ℤ, pos, ◌*◌, ◌+ℤ◌, ◌-ℤ◌, ◌≤ℤ◌, int_le, int_lt, Bool, ◌&&◌, ◌||◌, List, [], ◌∷◌, take, drop, if◌then◌else◌}
 use Rattle.geo_base.specs.Rects.{is_between}
 use Rattle.rect_sets.specs.Edges.{holds, first_of, second_of}
 use Rattle.rect_sets.specs.Spans.{covers, AreApart}
@@ -10,7 +10,8 @@ use Rattle.rect_sets.specs.declared.row.Rule.{Rule}
 -- the sum of the weights up to a number, whatever the rows of the edges
 abbrev pub weight_up_to : (Edge → ℤ) → List Edge → ℤ → ℤ
 weight_up_to field [] x = pos 0
-weight_up_to field (e ∷ edges) x = (if int_le e.x x then field e else pos 0) +ℤ weight_up_to field edges x
+weight_up_to field (e ∷ edges) x =
+    (if int_le e.x x then field e else pos 0) +ℤ weight_up_to field edges x
 
 -- the sum of all weights
 abbrev pub weight_of_all : (Edge → ℤ) → List Edge → ℤ
@@ -27,7 +28,6 @@ pub record IsRow (low : ℤ) (edges : List Edge) : Type 0 where
   pub in_order : AreInOrder low edges
   pub first_balanced : weight_of_all first_of edges ≡ pos 0
   pub second_balanced : weight_of_all second_of edges ≡ pos 0
-  pub few : length edges < 2147483648
 
 -- none ends past this number
 abbrev pub EndUpTo : ℤ → List Span → Type 0
@@ -49,9 +49,11 @@ pub record Grows (old new : List Span) (from to : ℤ) (inside : Bool) : Type 0 
 pub record HasRunsOf (rule : Rule) (edges : List Edge) (spans : List Span) : Type 0 where
   pub from : ℤ
   pub apart : AreApart from spans
-  pub same : (x : ℤ) → covers spans x ≡ holds rule (weight_up_to first_of edges x) (weight_up_to second_of edges x)
+  pub same : (x : ℤ) → covers spans x ≡ holds rule (weight_up_to first_of edges x)
+      (weight_up_to second_of edges x)
 
--- the sum of the first weights, which have 32 bits each
+-- the sum of the first weights, which have 32 bits each; 128 bits hold it, as a list has fewer than
+-- 2^64 edges
 pub record IsSumOf (field : Edge → ℤ) (edges : List Edge) (seen : ℕ) (sum : ℤ) : Type 0 where
   pub is : sum ≡ weight_of_all field (take seen edges)
   pub low : (pos 0 -ℤ pos (2147483648 * seen)) ≤ℤ sum
@@ -63,10 +65,13 @@ AreUpTo low [] = Unit {0}
 AreUpTo low (e ∷ edges) = (e.x ≤ℤ low) × AreUpTo low edges
 
 -- the runs up to where the sums of the seen edges reach
-pub record RowSoFar (rule : Rule) (edges : List Edge) (seen : ℕ) (low first second : ℤ) (out : List Span) : Type 0 where
+pub record RowSoFar (rule : Rule) (edges : List Edge) (seen : ℕ) (low first second : ℤ)
+    (out : List Span) : Type 0 where
   pub rest : AreInOrder low (drop seen edges)
   pub done : AreUpTo low (take seen edges)
   pub first_sum : IsSumOf first_of edges seen first
   pub second_sum : IsSumOf second_of edges seen second
   pub runs : AreRunsUpTo low out
-  pub same : (x : ℤ) → covers out x ≡ (int_lt x low && holds rule (weight_up_to first_of (take seen edges) x) (weight_up_to second_of (take seen edges) x))
+  pub same : (x : ℤ) → covers out x
+      ≡ (int_lt x low && holds rule (weight_up_to first_of (take seen edges) x)
+      (weight_up_to second_of (take seen edges) x))

@@ -50,13 +50,15 @@ pub record ListHas (rects : List Rect) (s : Square) : Type 0 where
   pub listed : IsListed one rects
   pub inside : has one s ≡ true
 
--- all rows below y are done: the blocks that end below it are closed, and the runs of the row below it are open
-pub record Swept (set : Square → Bool) (y : ℤ) (opens : List Open) (closed : List Rect) : Type 0 where
-  pub row : IsRowOf set (y -ℤ pos 1) (spans_of opens)
-  pub each_open : (o : Open) → IsAmong o opens → IsOpenRun set y o
-  pub each_closed : (r : Rect) → IsListed r closed → IsBlock set r × (r.y2 <ℤ y)
-  pub all_closed : (r : Rect) → IsBlock set r → r.y2 <ℤ y → IsListed r closed
-  pub covered : (s : Square) → set s ≡ true → s.y <ℤ y → OpenHas opens s ⊎ ListHas closed s
+-- all rows below y are done: the blocks that end below it are closed, and the runs of the row below
+-- it are open
+pub record Swept (set : Square → Bool) (y : ℤ) (opens : List Open) (closed : List Rect) : Type 0
+  where
+    pub row : IsRowOf set (y -ℤ pos 1) (spans_of opens)
+    pub each_open : (o : Open) → IsAmong o opens → IsOpenRun set y o
+    pub each_closed : (r : Rect) → IsListed r closed → IsBlock set r × (r.y2 <ℤ y)
+    pub all_closed : (r : Rect) → IsBlock set r → r.y2 <ℤ y → IsListed r closed
+    pub covered : (s : Square) → set s ≡ true → s.y <ℤ y → OpenHas opens s ⊎ ListHas closed s
 
 -- exactly the blocks of the set, and they cover it
 pub record AreBlocks (set : Square → Bool) (rects : List Rect) : Type 0 where

@@ -1,4 +1,5 @@
-// Booleans of lists of rectangles.
+//! Booleans of lists of rectangles.
+
 ghost use Rattle.std.specs.Prelude.{◌≡◌, ℕ, ℤ, pos, ◌+◌, ◌<◌, ◌≤ℤ◌, ◌<ℤ◌, ◌++◌, length, IfOk, OnOk};
 ghost use Rattle.std.specs.List.{All};
 ghost use Rattle.geo_base.specs.Rects.{IsRect};
@@ -61,7 +62,8 @@ pub fn combine(alloc: Global, a: &[Rect], b: &[Rect], rule: Rule) -> Result<Vec<
     requires b { All IsRect b.now }
     ensures { IfOk result (λ r. AreBlocks (combined_set rule a.now b.now) r.items) }
 {
-    let mut edges = Vec::new(alloc);
+    let count = a.len().saturating_add(b.len()).saturating_mul(2);
+    let mut edges = Vec::with_capacity(alloc, count)?;
     push_edges(&mut edges, a, 1, 0)?;
     push_edges(&mut edges, b, 0, 1)?;
     let rects = blocks(alloc, edges, rule)?;

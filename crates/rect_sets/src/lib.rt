@@ -8,6 +8,7 @@ mod divide;
 mod moves;
 mod opens;
 mod order;
+mod parts;
 mod row;
 mod set;
 mod strips;

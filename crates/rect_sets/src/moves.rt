@@ -1,4 +1,5 @@
-// Parts and images of lists of rectangles.
+//! Parts and images of lists of rectangles.
+
 ghost use Rattle.std.specs.Prelude.{◌≡◌, ◌++◌, IfOk, OnOk, [], ◌∷◌};
 ghost use Rattle.std.specs.List.{All};
 ghost use Rattle.geo_base.specs.Rects.{IsRect};
@@ -81,7 +82,8 @@ pub fn images(alloc: Global, rects: &[Rect], m: &Motion) -> Result<Vec<Rect>, Al
     requires near { All IsNearRect rects.now }
     requires motion { IsNearMotion m.now }
     ensures rects { IfOk result (λ r. All IsRect r.items) }
-    ensures same { IfOk result (λ r. (s : Square) → covers r.items (moved_square m.now s) ≡ covers rects.now s) }
+    ensures same { IfOk result (λ r. (s : Square) → covers r.items (moved_square m.now s)
+        ≡ covers rects.now s) }
 {
     let mut out = Vec::new(alloc);
     for rect in rects {

@@ -1,4 +1,5 @@
-// From strip to strip.
+//! From strip to strip.
+
 ghost use Rattle.std.specs.Prelude.{◌≡◌, ℤ, ◌<◌, ◌++◌, length, OnOk};
 ghost use Rattle.rect_sets.specs.Spans.{AreApart};
 ghost use Rattle.rect_sets.specs.Opens.{spans_of, nexts, ended, rect_of, fresh, is_same, IsTurn, HasLeft, ArePartsApart, Advances};
@@ -81,7 +82,8 @@ fn advance(
 ) -> Result<(), AllocError>
     requires left { HasLeft opens.now j.old runs.now i.old }
     requires apart { ArePartsApart opens.now j.old runs.now i.old }
-    ensures { OnOk result (Advances y opens.now runs.now j.old j.new i.old i.new next.old.items next.new.items closed.old.items closed.new.items) }
+    ensures { OnOk result (Advances y opens.now runs.now j.old j.new i.old i.new next.old.items
+        next.new.items closed.old.items closed.new.items) }
 {
     match turn_of(opens, *j, runs, *i) {
         Turn::Same => {
@@ -103,7 +105,8 @@ fn advance(
     }
 }
 
-/// Closes the open rectangles that are no runs of the next strip, which begins at y, and opens its other runs.
+/// Closes the open rectangles that are no runs of the next strip, which begins at y, and opens its
+/// other runs.
 pub fn step(
     opens: &[Open],
     runs: &[Span],
@@ -114,7 +117,8 @@ pub fn step(
     requires opens { (from : ℤ) × AreApart from (spans_of opens.now) }
     requires runs { (from : ℤ) × AreApart from runs.now }
     ensures next { OnOk result (next.new.items ≡ nexts y opens.now runs.now) }
-    ensures closed { OnOk result (closed.new.items ≡ closed.old.items ++ ended y opens.now runs.now) }
+    ensures closed { OnOk result (closed.new.items ≡ closed.old.items
+        ++ ended y opens.now runs.now) }
 {
     next.clear();
     let mut j = 0;

@@ -1,4 +1,5 @@
-// Rectangles in order.
+//! Rectangles in order.
+
 ghost use Rattle.std.specs.Prelude.{◌≡◌, ℕ, ℤ, ◌<◌, IfOk, OnOk, length};
 ghost use Rattle.std.specs.List.Sorted.{IsPermutation};
 ghost use Rattle.rect_sets.specs.Rects.{IsOrdered, IsListed, IsCanonical, covers};
@@ -43,7 +44,7 @@ fn join_all(alloc: Global, sorted: &[Rect]) -> Result<Vec<Rect>, AllocError>
     requires { AreSortedRects sorted.now }
     ensures { IfOk result (λ r. IsInOrder sorted.now r.items) }
 {
-    let mut out = Vec::new(alloc);
+    let mut out = Vec::with_capacity(alloc, sorted.len())?;
     for rect in sorted {
         join(&mut out, *rect)?;
     }

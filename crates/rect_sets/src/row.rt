@@ -1,4 +1,5 @@
-// The runs of one row.
+//! The runs of one row.
+
 ghost use Rattle.std.specs.Prelude.{◌≡◌, ℤ, ◌≤ℤ◌, ◌<ℤ◌, OnOk, OnErr};
 ghost use Rattle.rect_sets.specs.Edges.{holds, is_some};
 ghost use Rattle.rect_sets.specs.Rows.{IsRow, AreRunsUpTo, Grows, HasRunsOf};
@@ -31,7 +32,7 @@ pub enum Rule {
     Xor,
 }
 
-fn is_some(weight: i64) -> bool
+fn is_some(weight: i128) -> bool
     ensures { result ≡ is_some weight }
 {
     weight < 0 || 0 < weight
@@ -41,7 +42,7 @@ impl Rule {
     ghost use Rattle.std.specs.Prelude.{◌≡◌};
     ghost use Rattle.rect_sets.specs.Edges.{holds};
 
-    pub fn holds(self, first: i64, second: i64) -> bool
+    pub fn holds(self, first: i128, second: i128) -> bool
         ensures { result ≡ holds self first second }
     {
         let a = is_some(first);
@@ -85,13 +86,13 @@ pub fn row_runs(edges: &[Edge], low: i64, rule: Rule, out: &mut Vec<Span>) -> Re
 {
     out.clear();
     let mut from = low;
-    let mut first = 0i64;
-    let mut second = 0i64;
+    let mut first = 0i128;
+    let mut second = 0i128;
     for edge in edges {
         let inside = rule.holds(first, second);
         grow(out, from, edge.x, inside)?;
-        first += i64::from(edge.first);
-        second += i64::from(edge.second);
+        first += i128::from(edge.first);
+        second += i128::from(edge.second);
         from = edge.x;
     }
     Ok(())

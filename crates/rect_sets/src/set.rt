@@ -1,3 +1,5 @@
+//! Sets as their canonical lists of rectangles.
+
 ghost use Rattle.std.specs.Prelude.{◌≡◌, IfOk};
 ghost use Rattle.std.specs.List.{All};
 ghost use Rattle.geo_base.specs.Rects.{IsRect};
@@ -6,6 +8,7 @@ ghost use Rattle.rect_sets.specs.Edges.{set_of, IsEdge, IsBalanced};
 ghost use Rattle.rect_sets.specs.Combined.{combined};
 ghost use Rattle.geo_base.specs.declared.shapes.Square.{Square};
 
+use crate::cuts::Plane;
 use crate::divide::combine_halves;
 use crate::moves::{images, meeting, shifted};
 use crate::order::in_order;
@@ -15,8 +18,12 @@ use geo_base::{Motion, Rect, Square, Turn};
 use std::alloc::{AllocError, Global};
 use std::marker::Model;
 
-/// A finite set of unit squares, as its canonical list of rectangles. A rectangle is in the list exactly where, in each of its rows, its x
-/// range is a maximal run of the set, and neither the row below nor the row above has this same run. The list is ordered by y1, then x1.
+// No part is cut more often than this.
+const DEEPEST: u32 = 64;
+
+/// A finite set of unit squares, as its canonical list of rectangles. A rectangle is in the list
+/// exactly where, in each of its rows, its x range is a maximal run of the set, and neither the row
+/// below nor the row above has this same run. The list is ordered by y1, then x1.
 #[derive(Drop)]
 pub struct RectSet {
     rects: Vec<Rect>,
@@ -69,8 +76,9 @@ impl RectSet {
         self.rects.as_slice()
     }
 
-    /// The union of any rectangles, in O(n log n + k + m log m) and O(n + m) memory: n rectangles, k crossings of upright edges with strips
-    /// within a part of the plane, m rectangles of the result. An `Err` is want of memory, for which 2^30 rectangles or more are taken, too.
+    /// The union of any rectangles, in O(n log n + k + m log m) and O(n + m) memory: n rectangles,
+    /// k crossings of upright edges with strips within a part of the plane, m rectangles of the
+    /// result. An `Err` is want of memory.
     pub fn canon(alloc: Global, rects: Vec<Rect>) -> Result<RectSet, AllocError>
         requires { All IsRect rects.items }
         ensures { IfOk result (λ r. (s : Square) → covers r s ≡ covers rects.items s) }
@@ -78,11 +86,11 @@ impl RectSet {
         if rects.len() <= 1 {
             return Ok(RectSet { rects });
         }
-        let set = combine_rects(alloc, &rects, &[], Rule::First)?;
-        Ok(set)
+        combine_rects(alloc, &rects, &[], Rule::First)
     }
 
-    /// The part of the set in a rectangle, in O(n) and the cost of `canon` for the rectangles that reach into it.
+    /// The part of the set in a rectangle, in O(n) and the cost of `canon` for the rectangles that
+    /// reach into it.
     pub fn window(&self, alloc: Global, w: Rect) -> Result<RectSet, AllocError>
         requires { IsRect w }
         ensures { IfOk result (λ r. (s : Square) → covers r s ≡ (covers self.now s && has w s)) }
@@ -96,7 +104,8 @@ impl RectSet {
     pub fn moved(&self, alloc: Global, m: &Motion) -> Result<RectSet, AllocError>
         requires near { IsNearSet self.now }
         requires motion { IsNearMotion m.now }
-        ensures { IfOk result (λ r. (s : Square) → covers r (moved_square m.now s) ≡ covers self.now s) }
+        ensures { IfOk result (λ r. (s : Square) → covers r (moved_square m.now s)
+            ≡ covers self.now s) }
     {
         match m.turn {
             Turn::R0 => {
@@ -105,14 +114,14 @@ impl RectSet {
             }
             _ => {
                 let rects = images(alloc, self.rects(), m)?;
-                let set = RectSet::canon(alloc, rects)?;
-                Ok(set)
+                RectSet::canon(alloc, rects)
             }
         }
     }
 }
 
-/// The squares where the rule holds of two unions of rectangles: of First, those of `a`. Cost as `RectSet::canon`.
+/// The squares where the rule holds of two unions of rectangles: of First, those of `a`. Cost as
+/// `RectSet::canon`.
 pub fn combine_rects(
     alloc: Global,
     a: &[Rect],
@@ -121,17 +130,17 @@ pub fn combine_rects(
 ) -> Result<RectSet, AllocError>
     requires a { All IsRect a.now }
     requires b { All IsRect b.now }
-    ensures { IfOk result (λ r. (s : Square) → covers r s ≡ combined rule (covers a.now s) (covers b.now s)) }
+    ensures { IfOk result (λ r. (s : Square) → covers r s
+        ≡ combined rule (covers a.now s) (covers b.now s)) }
 {
-    let spare = a.len().saturating_add(b.len()).saturating_mul(2);
-    let found = combine_halves(alloc, a, b, rule, 64, spare)?;
+    let found = combine_halves(alloc, a, b, rule, DEEPEST, &Plane::of(a, b))?;
     let rects = in_order(alloc, found)?;
     Ok(RectSet { rects })
 }
 
-/// The squares where the rule holds of the two sums of the weights of the edges that act on them, as in a fill by winding number. The edges may
-/// come in any order; the weights of each row sum to 0. In O(n log n + k + m log m), without cuts. An `Err` is want of memory, for which 2^31
-/// edges or more are taken, too.
+/// The squares where the rule holds of the two sums of the weights of the edges that act on them,
+/// as in a fill by winding number. The edges may come in any order; the weights of each row sum to
+/// 0. In O(n log n + k + m log m), without cuts. An `Err` is want of memory.
 pub fn sweep(alloc: Global, edges: Vec<Edge>, rule: Rule) -> Result<RectSet, AllocError>
     requires edges { All IsEdge edges.items }
     requires balanced { IsBalanced edges.items }

@@ -1,5 +1,6 @@
-// From edges to rectangles.
-ghost use Rattle.std.specs.Prelude.{◌≡◌, ℕ, ℤ, ◌<◌, length, IfOk};
+//! From edges to rectangles.
+
+ghost use Rattle.std.specs.Prelude.{◌≡◌, IfOk, OnOk};
 ghost use Rattle.rect_sets.specs.Edges.{set_of, IsBalanced, IsEdge};
 ghost use Rattle.rect_sets.specs.Sweeps.{AreBlocks};
 ghost use Rattle.rect_sets.specs.Blocks.{HaveRoom, AreSortedEdges};
@@ -12,9 +13,6 @@ use crate::row::{Edge, Rule, row_runs};
 use geo_base::Rect;
 use std::alloc::{AllocError, Global};
 use std::mem;
-
-// So many edges and more are taken for want of memory: the sums of their weights must not run over.
-const MOST_EDGES: usize = 2147483648;
 
 // Reads each x, so that what its type says of it is known of all: it isn't left of -2^63.
 fn read_all(edges: &[Edge])
@@ -30,7 +28,6 @@ fn sorted_blocks(alloc: Global, edges: &[Edge], rule: Rule) -> Result<Vec<Rect>,
     requires edges { All IsEdge edges.now }
     requires sorted { AreSortedEdges edges.now }
     requires balanced { IsBalanced edges.now }
-    requires few { length edges.now < 2147483648 }
     ensures { IfOk result (λ r. AreBlocks (set_of rule edges.now) r.items) }
 {
     read_all(edges);
@@ -59,12 +56,13 @@ fn sorted_blocks(alloc: Global, edges: &[Edge], rule: Rule) -> Result<Vec<Rect>,
     Ok(closed)
 }
 
-// By y1, then x.
-fn sort_edges(edges: &mut Vec<Edge>)
-    ensures permutation { IsPermutation edges.old.items edges.new.items }
-    ensures sorted { AreSortedEdges edges.new.items }
+// By y1, then x. The edges of a list of rectangles in order are one run, and two runs are merged.
+fn sort_edges(edges: &mut Vec<Edge>) -> Result<(), AllocError>
+    ensures permutation { OnOk result (IsPermutation edges.old.items edges.new.items) }
+    ensures sorted { OnOk result (AreSortedEdges edges.new.items) }
 {
-    edges.sort_unstable_by_key(|edge| (edge.y1, edge.x));
+    edges.sort_by_key(|edge| (edge.y1, edge.x))?;
+    Ok(())
 }
 
 /// The rectangles of the set that the edges give.
@@ -73,10 +71,7 @@ pub fn blocks(alloc: Global, mut edges: Vec<Edge>, rule: Rule) -> Result<Vec<Rec
     requires balanced { IsBalanced edges.items }
     ensures { IfOk result (λ r. AreBlocks (set_of rule edges.items) r.items) }
 {
-    if MOST_EDGES <= edges.len() {
-        return Err(AllocError);
-    }
-    sort_edges(&mut edges);
+    sort_edges(&mut edges)?;
     let rects = sorted_blocks(alloc, &edges, rule)?;
     Ok(rects)
 }

@@ -6,7 +6,8 @@ use Rattle.std.specs.Bool.{Decides, beq}
 use Rattle.std.proofs.Math.Path.{fun_ext}
 use Rattle.std.proofs.lemmas.List.Sums.{sum_by-cons}
 use Rattle.std.proofs.lemmas.Bool.Decides.{Decides-eqb}
-use Rattle.round_laws.specs.Web.{Port, Channel, Gate, Bulk, Pin, same_port, IsListed, End, Web, fits, same_ends, agree, IsWeb, IsEven, Carries, Guess, under, alike_under, names, Keeps, IsRefuted}
+use Rattle.plain_netlist.specs.Lists.{IsListed}
+use Rattle.round_laws.specs.Web.{Port, Channel, Gate, Bulk, Pin, same_port, End, Web, fits, same_ends, agree, IsWeb, IsEven, IsWebMap, Guess, under, alike_under, names, Keeps, IsRefuted}
 
 -- counts
 pub count-cons : {X : Type 0} (p : X → Bool) (x : X) (xs : List X) → count_by p (x ∷ xs) ≡ cond (p x) 1 0 + count_by p xs
@@ -140,7 +141,7 @@ image_same w f web k c a h =
     eq.symm c a ∙ (eq.congr a (f a) c h ∙ eq.symm (f a) c)
 
 -- a correspondence
-pub image_agrees : {N : Type 0} (w : Web N) (f : N → N) → IsWeb w → Carries w f → (k : ℕ) (a : N) → IsListed a w.left → agree w k a (f a) ≡ true
+pub image_agrees : {N : Type 0} (w : Web N) (f : N → N) → IsWeb w → IsWebMap w f → (k : ℕ) (a : N) → IsListed a w.left → agree w k a (f a) ≡ true
 image_agrees w f web carries zero a i = carries.alike a i
 image_agrees {N} w f web carries (suc k) a i =
     both (agree w k a (f a)) _ (image_agrees w f web carries k a i) (ends_same (agree w k) (w.near a) (w.near (f a)) (λ c.
@@ -149,7 +150,7 @@ image_agrees {N} w f web carries (suc k) a i =
     (image_same w f web k c.node e.node (image_agrees w f web carries k e.node (web.left_near a i e j))))
     ∙ sym (carries.near a i (fits (agree w k) c))))
 
-pub counts_even : {N : Type 0} (w : Web N) (f : N → N) → IsWeb w → Carries w f → (k : ℕ) → IsEven w k
+pub counts_even : {N : Type 0} (w : Web N) (f : N → N) → IsWeb w → IsWebMap w f → (k : ℕ) → IsEven w k
 counts_even w f web carries k c node =
     count_same (agree w k c) (λ a. agree w k c (f a)) w.left (λ a i. image_same w f web k c a (image_agrees w f web carries k a i))
     ∙ sym (carries.onto (agree w k c))
@@ -197,7 +198,7 @@ either_right false b h = h
 beq_same : (a b : Bool) → a ≡ b → beq a b ≡ true
 beq_same a b h = subst (λ (c : Bool). beq a c ≡ true) h (bool_eq_equiv.refl a)
 
-named_alike : {N : Type 0} (w : Web N) (f : N → N) → IsWeb w → Carries w f → (g : Guess N) → f g.left ≡ g.right → IsListed g.left w.left → IsListed g.right w.right
+named_alike : {N : Type 0} (w : Web N) (f : N → N) → IsWeb w → IsWebMap w f → (g : Guess N) → f g.left ≡ g.right → IsListed g.left w.left → IsListed g.right w.right
     → (a : N) → IsListed a w.left → names w g a ≡ names w g (f a)
 named_alike {N} w f web carries g kept left right a i = same_test (names w g a) (names w g (f a))
     (λ h. elim (either _ _ h) [
@@ -209,7 +210,7 @@ named_alike {N} w f web carries g kept left right a i = same_test (names w g a) 
       | inr e ↦ either_left _ (w.is g.right a) ((web.is g.left a).1 (carries.one g.left a left i (kept ∙ (web.is g.right (f a)).0 e)))
     ])
 
-alike_kept : {N : Type 0} (w : Web N) (f : N → N) (guesses : List (Guess N)) → IsWeb w → Carries w f → Keeps f guesses
+alike_kept : {N : Type 0} (w : Web N) (f : N → N) (guesses : List (Guess N)) → IsWeb w → IsWebMap w f → Keeps f guesses
     → ((g : Guess N) → IsListed g guesses → (IsListed g.left w.left) × IsListed g.right w.right)
     → (a : N) → IsListed a w.left → alike_under w guesses a (f a) ≡ true
 alike_kept w f [] web carries keeps there a i = carries.alike a i
@@ -217,8 +218,8 @@ alike_kept w f (g ∷ gs) web carries keeps there a i =
     both _ _ (beq_same _ _ (named_alike w f web carries g (keeps g (inl refl)) (there g (inl refl)).0 (there g (inl refl)).1 a i))
     (alike_kept w f gs web carries (λ h j. keeps h (inr j)) (λ h j. there h (inr j)) a i)
 
-pub carries_under : {N : Type 0} (w : Web N) (f : N → N) (guesses : List (Guess N)) → IsWeb w → Carries w f → Keeps f guesses
-    → ((g : Guess N) → IsListed g guesses → (IsListed g.left w.left) × IsListed g.right w.right) → Carries (under w guesses) f
+pub carries_under : {N : Type 0} (w : Web N) (f : N → N) (guesses : List (Guess N)) → IsWeb w → IsWebMap w f → Keeps f guesses
+    → ((g : Guess N) → IsListed g guesses → (IsListed g.left w.left) × IsListed g.right w.right) → IsWebMap (under w guesses) f
 carries_under w f guesses web carries keeps there = record {
   there = carries.there;
   one = carries.one;
@@ -227,7 +228,7 @@ carries_under w f guesses web carries keeps there = record {
   near = carries.near;
 }
 
-pub refuted_none : {N : Type 0} (w : Web N) (f : N → N) (guesses : List (Guess N)) (r : ℕ) → IsWeb w → Carries w f → Keeps f guesses
+pub refuted_none : {N : Type 0} (w : Web N) (f : N → N) (guesses : List (Guess N)) (r : ℕ) → IsWeb w → IsWebMap w f → Keeps f guesses
     → ((g : Guess N) → IsListed g guesses → (IsListed g.left w.left) × IsListed g.right w.right)
     → IsRefuted (under w guesses) r → ⊥
 refuted_none w f guesses r web carries keeps there h =

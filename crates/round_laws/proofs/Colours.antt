@@ -2,7 +2,8 @@
 use Rattle.std.proofs.Common.{◌≡◌, inl, inr, ℕ, suc, ◌==◌, ◌&&◌, Bool, true, false, List, ◌++◌, sym, subst, ◌∙◌, ap, true≢false}
 use Rattle.std.specs.List.{count_by, list_any}
 use Rattle.std.proofs.lemmas.Bool.Decides.{Decides-eqb}
-use Rattle.round_laws.specs.Web.{Port, same_port, IsListed, End, Web, IsWeb, IsNode, fits, agree, same_ends}
+use Rattle.plain_netlist.specs.Lists.{IsListed}
+use Rattle.round_laws.specs.Web.{Port, same_port, End, Web, IsWeb, IsNode, fits, agree, same_ends}
 use Rattle.round_laws.specs.Colours.{IsChanged, changed_ends, AreColours, ends_of, SplitsBy}
 use Rattle.round_laws.proofs.Agree.{count_same, count_none, both, first, second, same_test, is_it, equivalence, ends_count, port_same, in_left, in_right}
 use Rattle.round_laws.proofs.Stable.{near_node, in_either, any_found, any_of}
@@ -24,7 +25,7 @@ same_by_counts {N} w k colour h xs ys nx ny counts = ends_same_in (agree w k) xs
     let node : IsNode w c.node = elim l [ inl i ↦ nx c i | inr i ↦ ny c i ] in
     count_colour w k colour h c node xs nx ∙ (counts c.port (colour c.node) ∙ sym (count_colour w k colour h c node ys ny)))
 
-counts_by_same : {N : Type 0} (w : Web N) (k : ℕ) (colour : N → ℕ) → IsWeb w → AreColours w k colour → (xs ys : List (End N)) → ((e : End N) → IsListed e xs → IsNode w e.node) → ((e : End N) → IsListed e ys → IsNode w e.node)
+pub counts_by_same : {N : Type 0} (w : Web N) (k : ℕ) (colour : N → ℕ) → IsWeb w → AreColours w k colour → (xs ys : List (End N)) → ((e : End N) → IsListed e xs → IsNode w e.node) → ((e : End N) → IsListed e ys → IsNode w e.node)
     → same_ends (agree w k) xs ys ≡ true → (port : Port) (c : ℕ) → ends_of colour port c xs ≡ ends_of colour port c ys
 counts_by_same {N} w k colour web h xs ys nx ny same port c =
     elim (is_it (list_any (λ e. same_port port e.port && (c == colour e.node)) (xs ++ ys))) [

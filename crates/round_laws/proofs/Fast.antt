@@ -3,7 +3,8 @@ use Rattle.std.proofs.Common.{◌≡◌, ◌⊎◌, inl, inr, ℕ, suc, ◌+◌,
 use Rattle.std.specs.List.{count_by, list_all}
 use Rattle.std.specs.Cmp.{IsEquivalence}
 use Rattle.std.proofs.lemmas.Bool.Decides.{Decides-eqb}
-use Rattle.round_laws.specs.Web.{same_port, IsListed, End, Web, IsWeb, IsNode, fits, agree, same_ends}
+use Rattle.plain_netlist.specs.Lists.{IsListed}
+use Rattle.round_laws.specs.Web.{same_port, End, Web, IsWeb, IsNode, fits, agree, same_ends}
 use Rattle.round_laws.specs.Colours.{IsChanged, changed_ends}
 use Rattle.round_laws.proofs.Agree.{count-cons, count_same, count_none, both, first, second, same_test, is_it, equivalence, ends_count}
 use Rattle.round_laws.proofs.Stable.{agreed_before, near_node, in_either}
@@ -17,7 +18,7 @@ all_listed p (x ∷ xs) h = both (p x) _ (h x (inl refl)) (all_listed p xs (λ y
 pub ends_same_in : {N : Type 0} (same : N → N → Bool) (xs ys : List (End N)) → ((c : End N) → IsListed c xs ⊎ IsListed c ys → count_by (fits same c) xs ≡ count_by (fits same c) ys) → same_ends same xs ys ≡ true
 ends_same_in same xs ys h = all_listed _ (xs ++ ys) (λ c i. (Decides-eqb _ _).1 (h c (in_either c xs ys i)))
 
-count-filter : {X : Type 0} (p q : X → Bool) (xs : List X) → count_by p (filter q xs) ≡ count_by (λ x. q x && p x) xs
+pub count-filter : {X : Type 0} (p q : X → Bool) (xs : List X) → count_by p (filter q xs) ≡ count_by (λ x. q x && p x) xs
 count-filter p q [] = refl
 count-filter {X} p q (x ∷ xs) =
     let step = count-cons (λ y. q y && p y) x xs in
@@ -34,7 +35,7 @@ count-filter {X} p q (x ∷ xs) =
           omega arith
     ]
 
-count_split : {X : Type 0} (p q r : X → Bool) (xs : List X) → ((x : X) → IsListed x xs → ◌≡◌ {A = ℕ} (cond (p x) 1 0) (cond (q x) 1 0 + cond (r x) 1 0))
+pub count_split : {X : Type 0} (p q r : X → Bool) (xs : List X) → ((x : X) → IsListed x xs → ◌≡◌ {A = ℕ} (cond (p x) 1 0) (cond (q x) 1 0 + cond (r x) 1 0))
     → count_by p xs ≡ count_by q xs + count_by r xs
 count_split p q r [] h = refl
 count_split p q r (x ∷ xs) h =
@@ -45,7 +46,7 @@ count_split p q r (x ∷ xs) h =
     let rest = count_split p q r xs (λ y i. h y (inr i)) in
     omega arith
 
-false_if : (b : Bool) → (b ≡ true → ⊥) → b ≡ false
+pub false_if : (b : Bool) → (b ≡ true → ⊥) → b ≡ false
 false_if true h = absurd (h refl)
 false_if false h = refl
 

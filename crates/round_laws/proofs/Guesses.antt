@@ -1,6 +1,7 @@
 -- What a search that ended excludes, and what one that found gives.
 use Rattle.std.proofs.Common.{◌≡◌, ◌⊎◌, inl, inr, ℕ, suc, ◌+◌, ◌<◌, arith, ◌&&◌, cond, not, Bool, true, List, [], ◌∷◌, sym, subst, ap, filter}
-use Rattle.round_laws.specs.Web.{IsListed, Web, IsWeb, agree, Carries, Guess, under, Keeps, mate}
+use Rattle.plain_netlist.specs.Lists.{IsListed}
+use Rattle.round_laws.specs.Web.{Web, IsWeb, agree, IsWebMap, Guess, under, Keeps, mate}
 use Rattle.round_laws.specs.Nodes.{Node}
 use Rattle.round_laws.specs.Guesses.{Setting, candidates, Search, Ended, Stopped, Found, Refuted, Below, Open, HasEnded, HasFound, HasStopped, refuted_in, guessed, IsSearch, IsWholeSearch}
 use Rattle.round_laws.proofs.Agree.{both, is_it, in_left, in_right, image_agrees, carries_under, under_web, refuted_none}
@@ -74,7 +75,7 @@ there_more w above a b there i j g l =
     ]
 
 -- no correspondence that keeps the guesses above takes the node to a candidate
-excludes : (s : Setting) (f : Node → Node) → IsWeb s.web → Carries s.web f
+excludes : (s : Setting) (f : Node → Node) → IsWeb s.web → IsWebMap s.web f
     → (t : Search) (above : List (Guess Node)) (a : Node) (tries : List Node) (used : ℕ)
     → IsSearch s above a tries used t → HasEnded t → Keeps f above
     → ((g : Guess Node) → IsListed g above → (IsListed g.left s.web.left) × IsListed g.right s.web.right)
@@ -103,7 +104,7 @@ excludes s f web carries (Below b c below rest) above a tries used h ended keeps
     ]
 excludes s f web carries (Open b c below) above a tries used h ended keeps there left i = ended
 
-pub ended_none : (s : Setting) (found : Search) → IsWeb s.web → IsWholeSearch s found → HasEnded found → (f : Node → Node) → Carries s.web f → ⊥
+pub ended_none : (s : Setting) (found : Search) → IsWeb s.web → IsWholeSearch s found → HasEnded found → (f : Node → Node) → IsWebMap s.web f → ⊥
 ended_none s found web whole ended f carries =
     excludes s f web carries found [] whole.node (candidates s s.web whole.round whole.node) 0 whole.search ended
     (λ g i. absurd i) (λ g i. absurd i) whole.chosen.there
@@ -111,7 +112,7 @@ ended_none s found web whole ended f carries =
     (image_agrees s.web f web carries whole.round whole.node whole.chosen.there))
 
 gives : (s : Setting) → IsWeb s.web → (t : Search) (above : List (Guess Node)) (a : Node) (tries : List Node) (used : ℕ)
-    → IsSearch s above a tries used t → HasFound t → (f : Node → Node) × Carries s.web f
+    → IsSearch s above a tries used t → HasFound t → (f : Node → Node) × IsWebMap s.web f
 gives s web Ended above a tries used h found = absurd found
 gives s web Stopped above a tries used h found = absurd found
 gives s web (Found b) above a tries used h found = (mate (under s.web (guessed above a b)) h.2.round, solved_under s.web (guessed above a b) web h.2)
@@ -119,7 +120,7 @@ gives s web (Refuted b r rest) above a tries used h found = gives s web rest abo
 gives s web (Below b c below rest) above a tries used h found = gives s web rest above a h.0 _ h.6 found
 gives s web (Open b c below) above a tries used h found = gives s web below (guessed above a b) c _ used h.4 found
 
-pub found_some : (s : Setting) (found : Search) → IsWeb s.web → IsWholeSearch s found → HasFound found → (f : Node → Node) × Carries s.web f
+pub found_some : (s : Setting) (found : Search) → IsWeb s.web → IsWholeSearch s found → HasFound found → (f : Node → Node) × IsWebMap s.web f
 found_some s t web whole found = gives s web t [] whole.node _ 0 whole.search found
 
 -- a search that stopped used up the limit

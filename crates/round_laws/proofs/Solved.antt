@@ -2,7 +2,8 @@
 use Rattle.std.proofs.Common.{◌≡◌, ◌⊎◌, inl, inr, ℕ, ◌+◌, ◌≤◌, cond, Bool, true, false, List, [], ◌∷◌, ◌++◌, refl, sym, subst, ◌∙◌, ap, ap₂, arith, true≢false}
 use Rattle.std.specs.List.{list_any, count_by}
 use Rattle.std.specs.Cmp.{IsEquivalence}
-use Rattle.round_laws.specs.Web.{Port, same_port, IsListed, End, Web, fits, agree, IsWeb, IsNode, IsSolved, Carries, Guess, under, alike_under, first_of, mate, on_right}
+use Rattle.plain_netlist.specs.Lists.{IsListed}
+use Rattle.round_laws.specs.Web.{Port, same_port, End, Web, fits, agree, IsWeb, IsNode, IsSolved, IsWebMap, Guess, under, alike_under, first_of, mate, on_right}
 use Rattle.round_laws.proofs.Agree.{count-cons, count_like, count_none, first, second, same_test, is_it, equivalence, ends_count, under_web, fits_refl, fits_congr, port_same, in_left, in_right}
 use Rattle.round_laws.proofs.Stable.{agreed_first, any_found, any_of, in_either}
 
@@ -126,7 +127,7 @@ matched_counts {X} same eq q p (x ∷ xs) ys counts alike =
         let heads : one_if (r x) ≡ one_if (r y) = ap one_if e in
         omega arith
 
-all_classes : {X : Type 0} (same : X → X → Bool) → IsEquivalence same → (xs ys : List X)
+pub all_classes : {X : Type 0} (same : X → X → Bool) → IsEquivalence same → (xs ys : List X)
     → ((c : X) → IsListed c xs ⊎ IsListed c ys → count_by (same c) xs ≡ count_by (same c) ys)
     → (c : X) → count_by (same c) xs ≡ count_by (same c) ys
 all_classes {X} same eq xs ys h c =
@@ -162,7 +163,7 @@ mated w k single a i = let one = single a (inl i) in first_passes (agree w k a) 
 mate_is : {N : Type 0} (w : Web N) (k : ℕ) → ((c : N) → IsNode w c → on_right w k c ≡ 1) → (a b : N) → IsListed a w.left → IsListed b w.right → agree w k a b ≡ true → mate w k a ≡ b
 mate_is w k single a b i j h = let m = mated w k single a i in only_one (agree w k a) w.right (mate w k a) b (single a (inl i)) m.1 j m.0 h
 
-pub solved_carries : {N : Type 0} (w : Web N) → IsWeb w → (solved : IsSolved w) → Carries w (mate w solved.round)
+pub solved_carries : {N : Type 0} (w : Web N) → IsWeb w → (solved : IsSolved w) → IsWebMap w (mate w solved.round)
 solved_carries {N} w web solved =
     let k : ℕ = solved.round in
     let eq : IsEquivalence (agree w k) = equivalence w web.alike k in
@@ -189,7 +190,7 @@ solved_carries {N} w web solved =
         let node : mate w k e.node ≡ d.node = mate_is w k single e.node d.node (web.left_near a i e s) (web.right_near b j d t) (second (same_port e.port d.port) _ h) in
         ap₂ (λ (p : Port) (n : N). let r : End N = record { port = p; node = n } in r) port node
 
-pub solved_under : {N : Type 0} (w : Web N) (guesses : List (Guess N)) → IsWeb w → (solved : IsSolved (under w guesses)) → Carries w (mate (under w guesses) solved.round)
+pub solved_under : {N : Type 0} (w : Web N) (guesses : List (Guess N)) → IsWeb w → (solved : IsSolved (under w guesses)) → IsWebMap w (mate (under w guesses) solved.round)
 solved_under w guesses web solved =
     let c = solved_carries (under w guesses) (under_web w guesses web) solved in
     record { there = c.there; one = c.one; onto = c.onto; alike = λ a i. alike_from w guesses a _ (c.alike a i); near = c.near }

@@ -3,7 +3,8 @@ use Rattle.std.proofs.Common.{◌≡◌, ◌⊎◌, inl, inr, ℕ, zero, suc, �
 use Rattle.std.specs.List.{list_all, list_any}
 use Rattle.std.specs.Cmp.{IsEquivalence}
 use Rattle.std.proofs.Math.Decide.{ℕ_discrete}
-use Rattle.round_laws.specs.Web.{same_port, IsListed, End, Web, fits, same_ends, agree, IsWeb, IsNode, IsStable, classes}
+use Rattle.plain_netlist.specs.Lists.{IsListed}
+use Rattle.round_laws.specs.Web.{same_port, End, Web, fits, same_ends, agree, IsWeb, IsNode, IsStable, classes}
 use Rattle.round_laws.proofs.Agree.{count_same, both, first, second, same_test, either, either_left, either_right, equivalence, in_left, in_right}
 
 pub agreed_before : {N : Type 0} (w : Web N) (k : ℕ) (a b : N) → agree w (suc k) a b ≡ true → agree w k a b ≡ true

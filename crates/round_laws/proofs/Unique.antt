@@ -1,7 +1,8 @@
 -- The pair and the limit determine the search.
 use Rattle.std.proofs.Common.{◌≡◌, ◌⊎◌, inl, inr, ℕ, zero, suc, ◌+◌, ◌<◌, ◌≤◌, ◌&&◌, cond, not, Bool, List, [], ◌∷◌, ◌++◌, filter, refl, sym, subst, ◌∙◌, ap, ap₂, arith}
 use Rattle.std.proofs.Math.Decide.{ℕ_discrete}
-use Rattle.round_laws.specs.Web.{IsListed, Web, IsWeb, IsNode, agree, on_left, IsEven, IsStable, IsRefuted, IsSolved, Guess, under}
+use Rattle.plain_netlist.specs.Lists.{IsListed}
+use Rattle.round_laws.specs.Web.{Web, IsWeb, IsNode, agree, on_left, IsEven, IsStable, IsRefuted, IsSolved, Guess, under}
 use Rattle.round_laws.specs.Nodes.{Node, Side, Kind, Net, Device, Call}
 use Rattle.round_laws.specs.Guesses.{Setting, rank, IsNoLater, IsChosen, candidates, Search, Ended, Stopped, Found, Refuted, Below, Open, refuted_in, HasEnded, guessed, IsNext, IsSearch, IsWholeSearch}
 use Rattle.round_laws.proofs.Agree.{count_same, under_web}

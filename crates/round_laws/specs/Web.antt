@@ -1,6 +1,8 @@
--- Two graphs whose nodes are told apart round by round: agreeing, even classes, stable rounds, guesses, correspondences.
+-- Two graphs whose nodes are told apart round by round: agreeing, even classes, stable rounds,
+-- guesses, correspondences.
 use Rattle.std.specs.Prelude.{◌≡◌, ◌≢◌, ◌⊎◌, ◌<◌, ◌≤◌, ◌==◌, ◌&&◌, ◌||◌, ℕ, zero, suc, Bool, true, false, List, [], ◌∷◌, ◌++◌, ◌+◌, cond, count_by, Decides}
 use Rattle.std.specs.List.{list_all, list_any}
+use Rattle.plain_netlist.specs.Lists.{IsListed}
 use Rattle.std.specs.Cmp.{IsEquivalence}
 use Rattle.std.specs.Bool.{beq}
 
@@ -19,17 +21,13 @@ same_port Bulk Bulk = true
 same_port (Pin p i) (Pin q j) = (p == q) && (i == j)
 same_port p q = false
 
--- the item stands in the list
-abbrev pub IsListed : {X : Type 0} → X → List X → Type 0
-IsListed x [] = ⊥
-IsListed x (y ∷ ys) = (x ≡ y) ⊎ IsListed x ys
-
 -- a terminal of a node, and the node that it is joined to
 pub record End (N : Type 0) : Type 0 where
   pub port : Port
   pub node : N
 
--- the nodes of both sides, which are equal, which look alike before the first round, and the terminals of each
+-- the nodes of both sides, which are equal, which look alike before the first round, and the
+-- terminals of each
 pub record Web (N : Type 0) : Type 0 where
   pub left : List N
   pub right : List N
@@ -43,9 +41,11 @@ fits same c e = same_port c.port e.port && same c.node e.node
 
 -- equal multisets: as many ends of each kind in the one list as in the other
 abbrev pub same_ends : {N : Type 0} → (N → N → Bool) → List (End N) → List (End N) → Bool
-same_ends same xs ys = list_all (λ c. count_by (fits same c) xs == count_by (fits same c) ys) (xs ++ ys)
+same_ends same xs ys =
+    list_all (λ c. count_by (fits same c) xs == count_by (fits same c) ys) (xs ++ ys)
 
--- whether two nodes agree in round k: so far, and by the multisets of their terminals and neighbours
+-- whether two nodes agree in round k: so far, and by the multisets of their terminals and
+-- neighbours
 abbrev pub agree : {N : Type 0} → Web N → ℕ → N → N → Bool
 agree w zero a b = w.alike a b
 agree w (suc k) a b = agree w k a b && same_ends (agree w k) (w.near a) (w.near b)
@@ -54,12 +54,15 @@ agree w (suc k) a b = agree w k a b && same_ends (agree w k) (w.near a) (w.near 
 abbrev pub IsNode : {N : Type 0} → Web N → N → Type 0
 IsNode w a = IsListed a w.left ⊎ IsListed a w.right
 
--- equality is decided, looking alike is an equivalence, terminals stay on their side, and the sides share no node
+-- equality is decided, looking alike is an equivalence, terminals stay on their side, and the sides
+-- share no node
 pub record IsWeb {N : Type 0} (w : Web N) : Type 0 where
   pub is : (a b : N) → Decides (w.is a b) (a ≡ b)
   pub alike : IsEquivalence w.alike
-  pub left_near : (a : N) → IsListed a w.left → (e : End N) → IsListed e (w.near a) → IsListed e.node w.left
-  pub right_near : (a : N) → IsListed a w.right → (e : End N) → IsListed e (w.near a) → IsListed e.node w.right
+  pub left_near : (a : N) → IsListed a w.left → (e : End N) → IsListed e (w.near a)
+      → IsListed e.node w.left
+  pub right_near : (a : N) → IsListed a w.right → (e : End N) → IsListed e (w.near a)
+      → IsListed e.node w.right
   pub apart : (a : N) → IsListed a w.left → IsListed a w.right → ⊥
 
 -- how many left nodes agree with the node in round k
@@ -81,7 +84,8 @@ pub record IsUneven {N : Type 0} (w : Web N) (k : ℕ) (c : N) : Type 0 where
 
 -- no class splits after round k
 abbrev pub IsStable : {N : Type 0} → Web N → ℕ → Type 0
-IsStable {N} w k = (a b : N) → IsNode w a → IsNode w b → agree w k a b ≡ true → agree w (suc k) a b ≡ true
+IsStable {N} w k = (a b : N) → IsNode w a → IsNode w b → agree w k a b ≡ true
+    → agree w (suc k) a b ≡ true
 
 -- refuted in round r: it is the first with unequal counts
 pub record IsRefuted {N : Type 0} (w : Web N) (r : ℕ) : Type 0 where
@@ -97,14 +101,16 @@ pub record IsSolved {N : Type 0} (w : Web N) : Type 0 where
   pub left : (c : N) → IsNode w c → on_left w round c ≡ 1
   pub right : (c : N) → IsNode w c → on_right w round c ≡ 1
 
--- a correspondence: a left node goes to a right node, one to one, onto all (as many right nodes pass each test as
--- left nodes by their images), to one that looks alike, with its terminals
-pub record Carries {N : Type 0} (w : Web N) (f : N → N) : Type 0 where
+-- a correspondence: a left node goes to a right node, one to one, onto all (as many right nodes
+-- pass each test as left nodes by their images), to one that looks alike, with its terminals
+pub record IsWebMap {N : Type 0} (w : Web N) (f : N → N) : Type 0 where
   pub there : (a : N) → IsListed a w.left → IsListed (f a) w.right
   pub one : (a b : N) → IsListed a w.left → IsListed b w.left → f a ≡ f b → a ≡ b
   pub onto : (p : N → Bool) → count_by p w.right ≡ count_by (λ a. p (f a)) w.left
   pub alike : (a : N) → IsListed a w.left → w.alike a (f a) ≡ true
-  pub near : (a : N) → IsListed a w.left → (p : End N → Bool) → count_by p (w.near (f a)) ≡ count_by (λ e. p (record { port = e.port; node = f e.node })) (w.near a)
+  pub near : (a : N) → IsListed a w.left → (p : End N → Bool)
+      → count_by p (w.near (f a))
+      ≡ count_by (λ e. p (record { port = e.port; node = f e.node })) (w.near a)
 
 -- a left node that is taken to go to a right one
 pub record Guess (N : Type 0) : Type 0 where
@@ -122,7 +128,13 @@ alike_under w (g ∷ gs) a b = beq (names w g a) (names w g b) && alike_under w 
 
 -- the web in which each guess gives its pair a colour of its own
 abbrev pub under : {N : Type 0} → Web N → List (Guess N) → Web N
-under w guesses = record { left = w.left; right = w.right; is = w.is; alike = alike_under w guesses; near = w.near }
+under w guesses = record {
+  left = w.left;
+  right = w.right;
+  is = w.is;
+  alike = alike_under w guesses;
+  near = w.near;
+}
 
 -- the map takes each guessed left node to its right one
 abbrev pub Keeps : {N : Type 0} → (N → N) → List (Guess N) → Type 0

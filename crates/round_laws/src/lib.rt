@@ -1,8 +1,9 @@
-//! Two graphs whose nodes are told apart round by round, and the search over guesses where rounds leave ties: definitions and laws.
+//! Two graphs whose nodes are told apart round by round, and the search over guesses where rounds
+//! leave ties: definitions and laws.
 //!
-//! The definitions stand in `specs/`: `Web` (agreeing in round k, even and stable classes, guesses, correspondences), `Nodes`, `Guesses` (the
-//! search), `Colours` (rounds by colours), `Stack` (a search under way). No code runs here; each law is the contract of a function with an
-//! empty body.
+//! The definitions stand in `specs/`: `Web` (agreeing in round k, even and stable classes, guesses,
+//! correspondences), `Nodes`, `Guesses` (the search), `Colours` (rounds by colours), `Stack` (a
+//! search under way). No code runs here; each law is the contract of a function with an empty body.
 #![tactic(auto)]
 
 ghost use Rattle.round_laws.specs.Rounds.{EquivalenceLaw, AgreeLaw, EvenLaw, RefutedLaw, StableLaw, FiniteLaw, SolvedLaw};
@@ -10,7 +11,8 @@ ghost use Rattle.round_laws.specs.Guesses.{EndedLaw, FoundLaw, StoppedLaw, Enoug
 ghost use Rattle.round_laws.specs.Colours.{FastLaw, QuietLaw, RoundLaw, FastRoundLaw};
 ghost use Rattle.round_laws.specs.Stack.{RefuteLaw, PassLaw, CloseLaw, RowsLaw};
 
-/// Agreeing in a round is an equivalence, a correspondence keeps it and evens all counts, and refuted guesses have none.
+/// Agreeing in a round is an equivalence, a correspondence keeps it and evens all counts, and
+/// refuted guesses have none.
 pub fn agreeing()
     ensures equivalence { EquivalenceLaw }
     ensures agree { AgreeLaw }
@@ -29,8 +31,8 @@ pub fn solving()
     ensures { SolvedLaw }
 {}
 
-/// A search that ended excludes every correspondence, one that found gives one, one that stopped used up its limit; a larger
-/// limit changes neither of the first two; and there is one search.
+/// A search that ended excludes every correspondence, one that found gives one, one that stopped
+/// used up its limit; a larger limit changes neither of the first two; and there is one search.
 pub fn guessing()
     ensures ended { EndedLaw }
     ensures found { FoundLaw }

@@ -85,7 +85,7 @@ place_step : (b : Bool) (n m : ℕ) (rest : Bool) → (b || rest) ≡ true → (
 place_step true n m rest e h = omega arith
 place_step false n m rest e h = omega (arith, h e)
 
-place_below : {A : Type 0} (p : A → Bool) (xs : List A) → list_any p xs ≡ true → position_or_len p xs < length xs
+pub place_below : {A : Type 0} (p : A → Bool) (xs : List A) → list_any p xs ≡ true → position_or_len p xs < length xs
 place_below p [] e = absurd cc
 place_below p (x ∷ xs) e = place_step (p x) (position_or_len p xs) (length xs) (list_any p xs) e (λ h. place_below p xs h)
 

@@ -50,7 +50,7 @@ pub struct RuleSet {
 }
 
 impl RuleSet {
-    ghost use Rattle.std.specs.Prelude.{◌≡◌, ◌≤◌, ◌==◌, ◌||◌, length, IfOk};
+    ghost use Rattle.std.specs.Prelude.{◌≡◌, ◌≤◌, ◌^◌, ◌==◌, ◌||◌, length, IfOk};
     ghost use Rattle.std.specs.List.{list_any};
     ghost use Rattle.rule_text.specs.Rules.{has_texts};
     ghost use Rattle.rule_text.specs.Reading.{is_conductor, is_connected, first_loose, TellsConductors};
@@ -86,8 +86,9 @@ impl RuleSet {
 
     /// Which names are conductors. Linear in the names times the `connect` and `connect_global` lines.
     pub fn conductors(&self, alloc: Global) -> Result<Vec<bool>, AllocError>
-        requires { length self.now.names.items ≤ 256 }
-        ensures { IfOk result (λ table. TellsConductors table.items (rules_seen self.now)) }
+        requires { length self.now.names.items ≤ 2 ^ 32 }
+        ensures all { IfOk result (λ table. length table.items ≡ length self.now.names.items) }
+        ensures each { IfOk result (λ table. TellsConductors table.items (rules_seen self.now)) }
     {
         let mut table = Vec::new(alloc);
         for layer in 0..self.names.len() {

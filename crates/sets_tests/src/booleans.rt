@@ -1,3 +1,5 @@
+//! Booleans of sets, and the sets themselves.
+
 use crate::common::set_of;
 use edge_boolean::combine;
 use geo_base::{Op, Rect, Square};
@@ -169,5 +171,20 @@ fn random_sets_square_by_square(rt: HostRuntime) -> Result<(), Fail> {
             }
         }
     }
+    Ok(())
+}
+
+// 40,000 rectangles on top of one another with gaps between them: no row crosses two, so that all
+// 80,000 edges are swept at once.
+#[test]
+fn one_sweep_of_many(rt: HostRuntime) -> Result<(), Fail> {
+    let alloc = rt.alloc();
+    let mut stack = Vec::new(alloc);
+    for k in 0..40_000u16 {
+        let y = i64::from(k) * 2;
+        stack.push(rect(0, y, 10, y + 1))?;
+    }
+    let set = set_of(alloc, &stack)?;
+    assert!(rt; set.rects() == stack.as_slice());
     Ok(())
 }

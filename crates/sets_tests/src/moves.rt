@@ -1,3 +1,5 @@
+//! Windows of sets and their images.
+
 use crate::common::{is_rect, near_part, set_of, swept};
 use geo_base::{Motion, Rect, Square, Turn};
 use rect_sets::RectSet;

@@ -1,4 +1,4 @@
-//! Tests of whole runs over memory: drawn layouts with answers worked out by hand, and two combs.
+//! Tests of whole runs over memory: drawn layouts with answers worked out by hand, two combs, and layouts at the limits.
 #![tactic(auto)]
 
 #[cfg(test)]
@@ -7,6 +7,8 @@ mod cases;
 mod combs;
 #[cfg(test)]
 mod drawn;
+#[cfg(test)]
+mod limits;
 #[cfg(test)]
 mod runs;
 #[cfg(test)]

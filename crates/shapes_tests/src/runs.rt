@@ -14,6 +14,20 @@ pub fn writes(
     wanted: &[u8],
     name: &str,
 ) -> Result<(), AllocError> {
+    let count = wanted.len().saturating_sub(106) / 64;
+    writes_count(rt, alloc, layout, rules, wanted, count, name)
+}
+
+/// The same, where the cell's name isn't `TOP`: the line says this number of rectangles.
+pub fn writes_count(
+    rt: &impl Abort,
+    alloc: Global,
+    layout: &[u8],
+    rules: &str,
+    wanted: &[u8],
+    count: usize,
+    name: &str,
+) -> Result<(), AllocError> {
     let mut words = Vec::new(alloc);
     for word in ["shapes", "l", "r", "s"] {
         words.push(String::from_str(alloc, word)?)?;
@@ -24,7 +38,6 @@ pub fn writes(
     let mut sink = MemorySink::new(alloc, Vec::new(alloc));
     let status = run_lvs(alloc, words.as_slice(), &mut depot, &mut sink);
     assert_eq!(rt; status.code(), 0, "{name}");
-    let count = wanted.len().saturating_sub(106) / 64;
     let line = format!(in alloc; "shapes cells 1 rectangles {count}\n")?;
     assert_eq!(rt; sink.bytes(), line.as_bytes(), "{name}");
     let shapes = depot.file("s").unwrap_or(&[]);

@@ -18,7 +18,7 @@ abbrev pub plain_place : SlowPlace → Place
 plain_place p = record { cell = p.cell; motion = p.motion }
 
 abbrev pub plain_cell : SlowCell → Cell
-plain_cell c = record { layers = map plain_layer c.shapes.items; texts = []; places = map plain_place c.places.items }
+plain_cell c = record { name = []; layers = map plain_layer c.shapes.items; texts = []; places = map plain_place c.places.items }
 
 abbrev pub plain : SlowDesign → Design
 plain d = record { cells = map plain_cell d.cells.items; top = d.top }

@@ -1,9 +1,7 @@
-use Rattle.align_laws.proofs.OneAligned.{one_aligned}
-use Rattle.align_laws.proofs.Worded.{wholes}
+use Rattle.align_laws.proofs.Kept.{kept_alike, aligned_corresponds}
+use Rattle.align_laws.proofs.OneAligned.{one_aligned, all_flattened}
+use Rattle.align_laws.proofs.Soundness.{aligned_sound, aligned_fault, no_further}
 use Rattle.align_laws.proofs.aligned.Goals as goal
 
-pub returns-clause-expansion : goal.returns-clause-expansion
-returns-clause-expansion c = λ g o w a t kept. wholes g a.flat o _ a.flats a.height w a.good a.flattened a.cut_down t kept
-
-pub returns-clause-one : goal.returns-clause-one
-returns-clause-one c = one_aligned
+pub returns : goal.returns
+returns c = record { expansion = kept_alike; correspondence = aligned_corresponds; one = one_aligned; all_flattened = all_flattened; sound = aligned_sound; fault = aligned_fault; no_further = no_further }

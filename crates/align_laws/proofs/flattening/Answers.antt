@@ -1,5 +1,6 @@
 use Rattle.align_laws.proofs.Flatten.{flattened}
+use Rattle.align_laws.proofs.Listed.{listed}
 use Rattle.align_laws.proofs.flattening.Goals as goal
 
 pub returns : goal.returns
-returns c = flattened
+returns c = record { expansion = flattened; lists = listed }

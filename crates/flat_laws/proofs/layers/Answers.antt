@@ -1,5 +1,5 @@
 use Rattle.flat_laws.proofs.Cover.{cover}
-use Rattle.flat_laws.proofs.Poles.{top_kept}
+use Rattle.flat_laws.proofs.Terminals.{top_kept}
 use Rattle.flat_laws.proofs.layers.Goals as goal
 
 pub returns : goal.returns

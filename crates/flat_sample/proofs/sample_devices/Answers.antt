@@ -2,4 +2,4 @@ use Rattle.flat_sample.proofs.Terminals.{devices, climbs, one_number, sees, one_
 use Rattle.flat_sample.proofs.sample_devices.Goals as goal
 
 pub returns : goal.returns
-returns c = record { devices = devices; climbs = climbs; climb = one_number; shows = sees; nets = one_net; pins = on_pin; nodes = nodes; regions = one_region }
+returns c = record { devices = devices; part = climbs; one = one_number; shows = sees; nets = one_net; pins = on_pin; nodes = nodes; regions = one_region }

@@ -1,11 +1,12 @@
 use Rattle.std.proofs.Common.{inl, inr, sym, subst, refl, arith}
+use Rattle.flat_laws.proofs.Formed.{read_layers}
 use Rattle.flat_laws.proofs.Once.{each_once}
-use Rattle.flat_layout.specs.Gates.{IsGateOf}
-use Rattle.flat_sample.proofs.Columns.{height, column_own, moved_column}
+use Rattle.flat_layout.specs.Gates.{IsListedGate}
+use Rattle.flat_sample.proofs.Columns.{levels, column_own, moved_column, reached_two}
 use Rattle.flat_sample.proofs.Gated.{child_gate_of, across_gate_of, child_only, across_only, gates_parted}
-use Rattle.flat_sample.proofs.Lone.{form}
+use Rattle.flat_sample.proofs.Lone.{geo, form}
 use Rattle.flat_sample.proofs.Sides.{lost, child_gate, child_left, child_right, across_gate, across_left, across_right}
-use Rattle.flat_sample.specs.Sample.{sample_height}
+use Rattle.flat_sample.specs.Sample.{sample_level}
 use Rattle.flat_sample.specs.Transistors.{at, mirror_place, gate_design, gate_wiring, rule}
 use Rattle.flat_sample.proofs.sample_gates.Goals as goal
 
@@ -18,9 +19,9 @@ returns c = record {
     child_drain = (at 2, column_own 0 0 2 (omega arith) (inr (inr (inl refl))), moved_column mirror_place 2 2 refl refl);
   };
   crossed = lost;
-  child = λ s. (child_only s, λ e. subst (IsGateOf gate_design gate_wiring rule 0) (sym e) child_gate_of);
-  across = λ s. (across_only s, λ e. subst (IsGateOf gate_design gate_wiring rule 1) (sym e) across_gate_of);
+  child = λ s. (child_only s, λ e. subst (IsListedGate gate_design geo 0) (sym e) child_gate_of);
+  across = λ s. (across_only s, λ e. subst (IsListedGate gate_design geo 1) (sym e) across_gate_of);
   child_good = form 0 0 child_gate child_left child_right;
   across_good = form 1 0 across_gate across_left across_right;
-  found = each_once gate_design gate_wiring rule sample_height height gates_parted;
+  found = each_once gate_design geo sample_level (read_layers gate_wiring rule).gate levels.lower (λ cell s reached h. gates_parted cell s (reached_two cell reached) h);
 }

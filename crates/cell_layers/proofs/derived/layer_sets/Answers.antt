@@ -3,7 +3,7 @@ use Rattle.geo_base.specs.declared.shapes.Rect.{Rect}
 use Rattle.rule_text.specs.declared.rules.LayerRule.{LayerRule}
 use Rattle.gds_elements.specs.Reading.{cell_seen}
 use Rattle.cell_layers.specs.Shapes.{own_covers}
-use Rattle.cell_layers.specs.Readings.{reading_by}
+use Rattle.rule_layers.specs.Readings.{reading_by}
 use Rattle.cell_layers.specs.Uses.{AreOperandsUsed, StayAfter}
 use Rattle.cell_layers.proofs.Layering.{one_more, one_on, operands_right}
 use Rattle.cell_layers.proofs.derived.layer_sets.Goals as goal

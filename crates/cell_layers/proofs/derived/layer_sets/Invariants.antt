@@ -4,7 +4,7 @@ use Rattle.rect_sets.specs.Rects.{IsCanonical}
 use Rattle.flat_layout.specs.Layers.{Reading}
 use Rattle.gds_elements.specs.Reading.{cell_seen}
 use Rattle.cell_layers.specs.Shapes.{own_covers}
-use Rattle.cell_layers.specs.Readings.{readings, readings_behind}
+use Rattle.rule_layers.specs.Readings.{readings, readings_behind}
 use Rattle.cell_layers.specs.Uses.{AreKept}
 use Rattle.cell_layers.proofs.derived.layer_sets.Given as goal
 

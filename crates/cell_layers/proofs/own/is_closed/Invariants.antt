@@ -1,5 +1,5 @@
 use Rattle.std.proofs.Common.{◌≡◌, drop}
-use Rattle.poly_fill.specs.Fills.{last_from}
+use Rattle.geo_base.specs.Outlines.{last_from}
 use Rattle.cell_layers.proofs.own.is_closed.Given as goal
 
 abbrev pub invariant-loop-point : goal.invariant-loop-point

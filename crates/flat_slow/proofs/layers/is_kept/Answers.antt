@@ -1,9 +1,9 @@
 use Rattle.std.proofs.Common.{◌↔◌, IsTrue, IfSome, sym, subst}
-use Rattle.flat_layout.specs.Layers.{InFlat, IsKept, inputs}
-use Rattle.flat_layout.specs.Layout.{IsDisturbed}
+use Rattle.flat_layout.specs.Layers.{InFlat, IsKept, IsStirred, inputs, reach}
 use Rattle.flat_slow.specs.Slow.{reading}
 use Rattle.slow_paths.specs.Slow.{plain}
 use Rattle.flat_slow.specs.declared.layers.Formula.{Formula}
+use Rattle.flat_slow.proofs.Calm.{stirless}
 use Rattle.flat_slow.proofs.layers.is_kept.Goals as goal
 
 pub returns-in-Input : goal.returns-in-Input
@@ -11,4 +11,5 @@ returns-in-Input c = subst (λ (f : Formula). IfSome c.in_input.result (λ b. Is
 
 pub returns-in-Binary : goal.returns-in-Binary
 returns-in-Binary c = subst (λ (f : Formula). IfSome c.is_calm.result (λ b. IsTrue b ↔ IsKept (plain c.args.d.now) c.args.cell (reading f) c.args.q)) (sym c.in-Binary.is)
-    (subst (λ (f : Formula). IfSome c.is_calm.result (λ b. IsTrue b ↔ (InFlat (plain c.args.d.now) c.args.cell (reading f) c.args.q × (IsDisturbed (plain c.args.d.now) (inputs (reading f)) c.args.cell c.args.q → ⊥)))) c.in-Binary.is c.is_calm.ensures)
+    (subst (λ (f : Formula). IfSome c.is_calm.result (λ b. IsTrue b ↔ (InFlat (plain c.args.d.now) c.args.cell (reading f) c.args.q × (IsStirred (plain c.args.d.now) (inputs (reading f)) (reach (reading f)) c.args.cell c.args.q → ⊥)))) c.in-Binary.is
+    (stirless (plain c.args.d.now) (reading c.args.layer.now) c.args.cell c.args.q c.is_calm.result c.is_calm.ensures))

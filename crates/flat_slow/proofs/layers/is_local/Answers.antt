@@ -1,5 +1,5 @@
 use Rattle.std.proofs.Common.{◌↔◌, IsTrue, IfSome, ◌<◌, List, map, sym, subst, arith, nat_lt}
-use Rattle.flat_layout.specs.Layers.{IsKept, IsBelow, IsLocal}
+use Rattle.flat_layout.specs.Layers.{IsKept, IsKeptBelow, IsLocal}
 use Rattle.flat_layout.specs.Layout.{Some_of}
 use Rattle.slow_paths.proofs.Ways.{cell_at, own_to, own_of, no_cell_at}
 use Rattle.flat_slow.specs.Slow.{reading}
@@ -28,4 +28,4 @@ returns-else-cell-len c =
 
 pub returns-in-Binary : goal.returns-in-Binary
 returns-in-Binary c = subst (λ (f : Formula). IfSome c.is_held.result (λ b. IsTrue b ↔ IsLocal (plain c.args.d.now) c.args.cell (reading f) c.args.q)) (sym c.in-Binary.is)
-    (subst (λ (f : Formula). IfSome c.is_held.result (λ b. IsTrue b ↔ (IsKept (plain c.args.d.now) c.args.cell (reading f) c.args.q × (IsBelow (plain c.args.d.now) c.args.cell (reading f) c.args.q → ⊥)))) c.in-Binary.is c.is_held.ensures)
+    (subst (λ (f : Formula). IfSome c.is_held.result (λ b. IsTrue b ↔ (IsKept (plain c.args.d.now) c.args.cell (reading f) c.args.q × (IsKeptBelow (plain c.args.d.now) c.args.cell (reading f) c.args.q → ⊥)))) c.in-Binary.is c.is_held.ensures)

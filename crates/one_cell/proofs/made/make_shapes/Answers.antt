@@ -9,7 +9,8 @@ use Rattle.rule_text.specs.Seen.{rules_seen}
 use Rattle.rule_text.specs.declared.rules.LayerRule.{LayerRule}
 use Rattle.rule_text.specs.declared.rules.Output.{Output}
 use Rattle.cell_layers.specs.Shapes.{own_covers}
-use Rattle.cell_layers.specs.Readings.{readings, IsRight}
+use Rattle.cell_layers.specs.Readings.{IsRight}
+use Rattle.rule_layers.specs.Readings.{readings}
 use Rattle.one_cell.specs.OneCell.{rectangle_count}
 use Rattle.one_cell.specs.Written.{written_of}
 use Rattle.one_cell.proofs.Drawing.{are_drawn, covers_flat}

@@ -3,7 +3,7 @@ use mir.Val.{to_z, of_z}
 use Rattle.std.proofs.lemmas.List.Elements.{All-get_or, All-take, All-drop}
 use Rattle.geo_base.specs.declared.shapes.Point.{Point}
 use Rattle.geo_base.specs.declared.shapes.Rect.{Rect}
-use Rattle.geo_base.specs.Near.{IsNear, IsNearPoint}
+use Rattle.geo_base.specs.Near.{IsLong, IsLongPoint}
 use Rattle.rect_sets.specs.Rects.{covers}
 use Rattle.poly_fill.specs.Fills.{segments}
 use Rattle.poly_fill.proofs.Widened.{near_value, covers_more, covers_all, no_segments, along_three}
@@ -31,8 +31,8 @@ loop-i-preserved c =
     ] in
     record {
       sound = c.in_ok-push_rect.ensures.sound;
-      from = All-get_or IsNearPoint rest i zero lt (All-take IsNearPoint (length points - 1) (drop 1 points) (All-drop IsNearPoint 1 points c.requires.points));
-      before = subst (λ (z : ℤ). IsNear z) (sym (near_value c.args.half c.requires.half)) c.requires.half;
+      from = All-get_or IsLongPoint rest i zero lt (All-take IsLongPoint (length points - 1) (drop 1 points) (All-drop IsLongPoint 1 points c.requires.points));
+      before = subst (λ (z : ℤ). IsLong z) (sym (near_value c.args.half c.requires.half)) c.requires.half;
       covers = λ s. covers_more half before after end c.loop-i.from rest i zero (covers c.loop-i.rects.items s) (covers c.push_rect.new.rects.items s)
           (covers (segments half (to_z w64 (of_z w64 c.args.begin)) end points) s) c.segment.result s lt last inner c.segment.ensures
           (c.in_ok-push_rect.ensures.covers s) (c.loop-i.invariant.covers s);

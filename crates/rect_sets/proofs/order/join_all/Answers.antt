@@ -5,7 +5,7 @@ use Rattle.rect_sets.proofs.Ordering.{order_none, order_room, order_more, order_
 use Rattle.rect_sets.proofs.order.join_all.Goals as goal
 
 pub loop-rect-init : goal.loop-rect-init
-loop-rect-init c = rw c.new-out.ensures.items (order_none c.args.sorted.now)
+loop-rect-init c = rw c.in_ok-out.ensures.items (order_none c.args.sorted.now)
 
 pub join-requires : goal.join-requires
 join-requires c =

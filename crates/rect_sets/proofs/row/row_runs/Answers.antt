@@ -1,4 +1,5 @@
 use Rattle.std.proofs.Common.{rules, arith, ◌≡◌, ◌+◌, ◌+ℤ◌, pos, ℤ, w32, subst, get_or, w64, sym}
+use Rattle.std.specs.Int.{w128}
 use mir.Val.{SFits, to_z, of_z}
 use Rattle.std.proofs.lemmas.Int.{ints, to_z-of_z}
 use Rattle.rect_sets.proofs.RowRuns.{row_none, row_more, row_all, sum_more, next_in_order}
@@ -29,10 +30,10 @@ loop-edge-preserved c =
     let r1 = c.from-first.ensures in
     let r2 = c.from-second.ensures in
     let so = c.loop-edge.invariant in
-    let first = to_z w64 (of_z w64 (to_z w64 c.loop-edge.first-bits +ℤ to_z w64 (of_z w64 c.from-first.result))) in
-    let second = to_z w64 (of_z w64 (to_z w64 c.loop-edge.second-bits +ℤ to_z w64 (of_z w64 c.from-second.result))) in
-    let e1 : first ≡ to_z w64 c.loop-edge.first-bits +ℤ (get_or edges i zero).first = omega (arith, ints, r1) in
-    let e2 : second ≡ to_z w64 c.loop-edge.second-bits +ℤ (get_or edges i zero).second = omega (arith, ints, r2) in
+    let first = to_z w128 (of_z w128 (to_z w128 c.loop-edge.first-bits +ℤ to_z w128 (of_z w128 c.from-first.result))) in
+    let second = to_z w128 (of_z w128 (to_z w128 c.loop-edge.second-bits +ℤ to_z w128 (of_z w128 c.from-second.result))) in
+    let e1 : first ≡ to_z w128 c.loop-edge.first-bits +ℤ (get_or edges i zero).first = omega (arith, ints, r1) in
+    let e2 : second ≡ to_z w128 c.loop-edge.second-bits +ℤ (get_or edges i zero).second = omega (arith, ints, r2) in
     let s1 : IsSumOf first_of edges (i + 1) first = subst (λ (z : ℤ). IsSumOf first_of edges (i + 1) z) (sym e1) (sum_more first_of edges i zero _ (omega arith) (omega (arith, ints)) (omega (arith, ints)) so.first_sum) in
     let s2 : IsSumOf second_of edges (i + 1) second = subst (λ (z : ℤ). IsSumOf second_of edges (i + 1) z) (sym e2) (sum_more second_of edges i zero _ (omega arith) (omega (arith, ints)) (omega (arith, ints)) so.second_sum) in
     let ex : to_z w64 (of_z w64 (get_or edges i zero).x) ≡ (get_or edges i zero).x = to_z-of_z w64 (get_or edges i zero).x f1 in
@@ -40,4 +41,4 @@ loop-edge-preserved c =
     rw ex (row_more c.args.rule edges i zero _ _ _ first second c.loop-edge.out.items c.grow.new.out.items (omega arith) so grown s1 s2)
 
 pub returns : goal.returns
-returns c = row_all c.args.rule c.args.edges.now c.loop-edge.edge-index (to_z w64 c.loop-edge.from-bits) (to_z w64 c.loop-edge.first-bits) (to_z w64 c.loop-edge.second-bits) c.loop-edge.out.items (omega arith) c.requires.first_balanced c.requires.second_balanced c.loop-edge.invariant
+returns c = row_all c.args.rule c.args.edges.now c.loop-edge.edge-index (to_z w64 c.loop-edge.from-bits) (to_z w128 c.loop-edge.first-bits) (to_z w128 c.loop-edge.second-bits) c.loop-edge.out.items (omega arith) c.requires.first_balanced c.requires.second_balanced c.loop-edge.invariant

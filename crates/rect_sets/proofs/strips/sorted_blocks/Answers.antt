@@ -21,7 +21,7 @@ pub row_runs-requires : goal.row_runs-requires
 row_runs-requires c =
     let m = rw c.deref.ensures.value at c.in_ok-merge.ensures in
     rw (c.deref-in-strips-2.ensures.value, c.swap.ensures.x_after)
-    (is_row c.args.rule c.args.edges.now (to_z w64 c.strips.y-bits) c.strips.at c.merge.new.at c.strips.active.items c.merge.new.out.items c.strips.opens.items c.strips.closed.items c.strips.invariant m c.requires.balanced c.requires.few)
+    (is_row c.args.rule c.args.edges.now (to_z w64 c.strips.y-bits) c.strips.at c.merge.new.at c.strips.active.items c.merge.new.out.items c.strips.opens.items c.strips.closed.items c.strips.invariant m c.requires.balanced)
 
 pub strips-preserved : goal.strips-preserved
 strips-preserved c =

@@ -1,5 +1,0 @@
-use Rattle.align_laws.proofs.Wholly.{aligned_whole}
-use Rattle.align_laws.proofs.aligning.Goals as goal
-
-pub returns : goal.returns
-returns c = aligned_whole

@@ -1,0 +1,6 @@
+pub mod Times
+pub mod Parts
+pub mod Reaching
+pub mod Visiting
+pub mod Collecting
+pub mod Gathering

@@ -1,0 +1,4 @@
+pub mod Steps
+pub mod Arrays
+pub mod Visits
+pub mod Over

@@ -1,0 +1,161 @@
+// Flat squares of a cell in a window.
+ghost use Rattle.std.specs.Prelude.{slice_get, ◌≡◌, ◌↔◌, ◌||◌, ◌&&◌, ◌<◌, ◌^◌, ℕ, OnOk, IfOk, true, length, Option, Some, None};
+ghost use Rattle.std.specs.List.{All};
+ghost use Rattle.geo_base.specs.Near.{IsNearMotion, IsNearRect};
+ghost use Rattle.geo_base.specs.Rects.{IsRect, has};
+ghost use Rattle.geo_base.specs.Motions.{moved_square};
+ghost use Rattle.geo_base.specs.declared.shapes.Square.{Square};
+ghost use Rattle.rect_sets.specs.Rects.{covers};
+ghost use Rattle.flat_layout.specs.Layout.{InFlatInput, Some_of};
+ghost use Rattle.cell_graph.specs.Linked.{IsRectWithin, cell_at, places_at, plain};
+ghost use Rattle.cell_context.specs.Over.{IsOver, IsVisit, AreVisited, AreVisitedOf, IsPiece, OverLaw};
+ghost use Rattle.cell_context.specs.Visits.{IsVisited};
+ghost use Rattle.cell_graph.specs.declared.cells.Place.{Place};
+
+use crate::arrays::{Visit, meet, place_visits};
+use cell_graph::{Design, Place};
+use geo_base::{LayerKey, Motion, Rect};
+use rect_sets::RectSet;
+use std::alloc::{AllocError, Global};
+
+// Adds the part of a rectangle that lies in the window.
+fn push_piece(out: &mut Vec<Rect>, rect: &Rect, window: &Rect) -> Result<(), AllocError>
+    requires pieces { All (IsPiece window.now) out.old.items }
+    ensures pieces { OnOk result (All (IsPiece window.now) out.new.items) }
+    ensures covers { OnOk result ((q : Square) → covers out.new.items q ≡ (covers out.old.items q || (has rect.now q && has window.now q))) }
+{
+    if let Some(piece) = meet(rect, window) {
+        out.push(piece)?;
+    }
+    Ok(())
+}
+
+// Adds the parts of rectangles that lie in the window.
+fn push_pieces(out: &mut Vec<Rect>, rects: &[Rect], window: &Rect) -> Result<(), AllocError>
+    requires pieces { All (IsPiece window.now) out.old.items }
+    ensures pieces { OnOk result (All (IsPiece window.now) out.new.items) }
+    ensures covers { OnOk result ((q : Square) → covers out.new.items q ≡ (covers out.old.items q || (covers rects.now q && has window.now q))) }
+{
+    for rect in rects {
+        push_piece(out, rect, window)?;
+    }
+    Ok(())
+}
+
+/// Adds the parts of the images of rectangles that lie in the window.
+pub fn push_images(
+    out: &mut Vec<Rect>,
+    rects: &[Rect],
+    motion: &Motion,
+    window: &Rect,
+) -> Result<(), AllocError>
+    requires pieces { All (IsPiece window.now) out.old.items }
+    requires near { IsNearMotion motion.now }
+    requires rects { All IsRect rects.now }
+    requires near_rects { All IsNearRect rects.now }
+    ensures pieces { OnOk result (All (IsPiece window.now) out.new.items) }
+    ensures covers { OnOk result ((s : Square) → covers out.new.items (moved_square motion.now s) ≡ (covers out.old.items (moved_square motion.now s) || (covers rects.now s && has window.now (moved_square motion.now s)))) }
+{
+    for rect in rects {
+        push_piece(out, &motion.rect(*rect), window)?;
+    }
+    Ok(())
+}
+
+// Adds the visits of one reference.
+fn push_visits(
+    alloc: Global,
+    out: &mut Vec<Visit>,
+    design: &Design,
+    cell: u32,
+    index: usize,
+    place: &Place,
+    window: &Rect,
+    skip: Option<usize>,
+) -> Result<(), AllocError>
+    requires there { slice_get (places_at (cell_at design.now cell)) index ≡ Some place.now }
+    requires kept { skip ≡ Some index → ⊥ }
+    requires window { IsRectWithin (2 ^ 39) window.now }
+    requires each { All (IsVisit design.now cell skip window.now) out.old.items }
+    ensures each { OnOk result (All (IsVisit design.now cell skip window.now) out.new.items) }
+    ensures found { OnOk result (AreVisitedOf design.now cell index place.now window.now out.new.items) }
+    ensures stay { OnOk result ((row column : ℕ) (p : Place) (q : Square) → Some_of (IsVisited p row column q) out.old.items → Some_of (IsVisited p row column q) out.new.items) }
+{
+    design.sound();
+    if let Some(hull) = design.hull(place.cell) {
+        let more = place_visits(alloc, place, &hull, window)?;
+        out.extend_from_slice(&more)?;
+    }
+    Ok(())
+}
+
+/// The elements of a cell's references whose images reach into a window, but for one reference to be skipped.
+pub fn visits(
+    alloc: Global,
+    design: &Design,
+    cell: u32,
+    window: &Rect,
+    skip: Option<usize>,
+) -> Result<Vec<Visit>, AllocError>
+    requires cell { cell < length design.now.cells }
+    requires window { IsRectWithin (2 ^ 39) window.now }
+    ensures each { IfOk result (λ v. All (IsVisit design.now cell skip window.now) v.items) }
+    ensures found { IfOk result (λ v. AreVisited design.now cell skip window.now v.items) }
+{
+    let mut out = Vec::new(alloc);
+    for (i, place) in design.places(cell).iter().enumerate() {
+        if skip != Some(i) {
+            push_visits(alloc, &mut out, design, cell, i, place, window, skip)?;
+        }
+    }
+    Ok(out)
+}
+
+/// Rectangles that cover exactly what lies over the squares of a window in a cell, other than through a reference to be skipped: its own shapes
+/// on the layer and the flat squares of the cells that its other references place.
+pub fn gather(
+    alloc: Global,
+    design: &Design,
+    cell: u32,
+    key: LayerKey,
+    window: &Rect,
+    skip: Option<usize>,
+) -> Result<Vec<Rect>, AllocError>
+    requires cell { cell < length design.now.cells }
+    requires window { IsRectWithin (2 ^ 39) window.now }
+    ensures pieces { IfOk result (λ r. All (IsPiece window.now) r.items) }
+    ensures exact { IfOk result (λ r. (q : Square) → (covers r.items q ≡ true) ↔ ((has window.now q ≡ true) × IsOver design.now cell skip key q)) }
+{
+    design.sound();
+    let mut out = Vec::new(alloc);
+    push_pieces(&mut out, design.own(cell, key).rects(), window)?;
+    let list = visits(alloc, design, cell, window, skip)?;
+    for visit in &list {
+        let below = gather(alloc, design, visit.cell, key, &visit.window, None)?;
+        push_images(&mut out, &below, &visit.motion, window)?;
+    }
+    Ok(out)
+}
+
+/// Exactly the flat squares of the cell on an input layer in the window.
+pub fn collect(
+    alloc: Global,
+    design: &Design,
+    cell: u32,
+    key: LayerKey,
+    window: &Rect,
+) -> Result<RectSet, AllocError>
+    requires cell { cell < length design.now.cells }
+    requires window { IsRectWithin (2 ^ 39) window.now }
+    ensures { IfOk result (λ r. (q : Square) → (covers r q ≡ true) ↔ ((has window.now q ≡ true) × InFlatInput (plain design.now) cell key q)) }
+{
+    design.sound();
+    let rects = gather(alloc, design, cell, key, window, None)?;
+    let set = RectSet::canon(alloc, rects)?;
+    Ok(set)
+}
+
+/// Where nothing is skipped, what lies over a square is the flat layer.
+pub fn over_laws()
+    ensures { OverLaw }
+{}

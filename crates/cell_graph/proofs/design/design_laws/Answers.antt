@@ -1,0 +1,5 @@
+use Rattle.cell_graph.proofs.Bridge.{own, heights, hulls}
+use Rattle.cell_graph.proofs.design.design_laws.Goals as goal
+
+pub returns : goal.returns
+returns c = record { own = own; height = heights; hull = hulls }

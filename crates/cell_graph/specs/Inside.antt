@@ -1,0 +1,11 @@
+-- The fields of a design.
+use Rattle.std.specs.Prelude.{◌≡◌, []}
+use Rattle.cell_graph.specs.Linked.{Linked, IsSound}
+use Rattle.cell_graph.specs.declared.design.Design.TheInside.{Inside}
+
+abbrev pub linked : Inside → Linked
+linked a = record { cells = a.cells.items; top = a.top; order = a.order.items }
+
+pub record IsLinked (a : Inside) : Type 0 where
+  pub sound : IsSound (linked a)
+  pub nothing : a.nothing ≡ []

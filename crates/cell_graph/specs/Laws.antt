@@ -1,0 +1,19 @@
+-- What holds of each sound design.
+use Rattle.std.specs.Prelude.{◌≡◌, ◌↔◌, ℕ, true}
+use Rattle.geo_base.specs.declared.layer.LayerKey.{LayerKey}
+use Rattle.geo_base.specs.declared.shapes.Square.{Square}
+use Rattle.rect_sets.specs.Rects.{covers}
+use Rattle.flat_layout.specs.Layout.{IsOwn, InFlatInput, IsHeight}
+use Rattle.cell_graph.specs.Linked.{Linked, IsSound, plain, cell_at, own_of, hull_of, HullHas, height_at}
+
+-- own squares are those of the own rectangles
+abbrev pub OwnLaw : Type 0
+OwnLaw = (d : Linked) → IsSound d → (cell : ℕ) (key : LayerKey) (q : Square) → IsOwn (plain d) cell key q ↔ (covers (own_of (cell_at d cell) key) q ≡ true)
+
+-- no cell stands below itself
+abbrev pub HeightLaw : Type 0
+HeightLaw = (d : Linked) → IsSound d → IsHeight (plain d) (height_at d)
+
+-- flat squares lie in the hull
+abbrev pub HullLaw : Type 0
+HullLaw = (d : Linked) → IsSound d → (cell : ℕ) (key : LayerKey) (q : Square) → InFlatInput (plain d) cell key q → HullHas (hull_of (cell_at d cell)) q

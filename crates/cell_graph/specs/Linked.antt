@@ -1,0 +1,177 @@
+-- Linked cells as plain values, and the hierarchical layout that they stand for.
+use Rattle.std.specs.Prelude.{◌≡◌, ◌⊎◌, ℕ, ◌+◌, ◌*◌, ◌<◌, ◌≤◌, ◌^◌, ℤ, pos, ◌+ℤ◌, ◌*ℤ◌, ◌≤ℤ◌, List, [], ◌∷◌, ◌++◌, Option, Some, None, map, length, slice_get, slice_index, get_or, Bool, true, ◌==◌, ◌&&◌, if◌then◌else◌}
+use Rattle.std.specs.List.{All}
+use Rattle.geo_base.specs.Near.{IsWithin}
+use Rattle.geo_base.specs.Rects.{IsRect, has, moved_rect}
+use Rattle.geo_base.specs.declared.layer.LayerKey.{LayerKey}
+use Rattle.geo_base.specs.declared.motion.Motion.{Motion}
+use Rattle.geo_base.specs.declared.motion.Turn.TheVariants.{R0}
+use Rattle.geo_base.specs.declared.shapes.Rect.{Rect}
+use Rattle.geo_base.specs.declared.shapes.Square.{Square}
+use Rattle.flat_layout.specs.Arrays.{Reference, place_at, places_of}
+use Rattle.flat_layout.specs.Layout as flat
+use Rattle.cell_graph.specs.declared.cells.OwnLayer.{OwnLayer}
+use Rattle.cell_graph.specs.declared.cells.RawText.{RawText}
+use Rattle.cell_graph.specs.declared.cells.Place.{Place}
+use Rattle.cell_graph.specs.declared.cells.CellPart.{CellPart}
+
+-- what a design is to its callers
+pub record Linked : Type 0 where
+  pub cells : List CellPart
+  pub top : ℕ
+  pub order : List ℕ
+
+abbrev pub linked_of : List CellPart → ℕ → List ℕ → Linked
+linked_of cells top order = record { cells = cells; top = top; order = order }
+
+-- the reference that stands for an array of placements
+abbrev pub reference : Place → Reference
+reference p = record { cell = p.cell; turn = p.motion.turn; origin = record { x = p.motion.dx; y = p.motion.dy }; columns = p.columns; rows = p.rows; column_step = p.column_step; row_step = p.row_step }
+
+abbrev pub plain_layer : OwnLayer → flat.Layer
+plain_layer l = record { key = l.key; rects = l.set }
+
+abbrev pub plain_text : RawText → flat.Text
+plain_text t = record { key = t.key; at = t.at; string = t.text.items }
+
+abbrev pub plain_cell : CellPart → flat.Cell
+plain_cell c = record { name = c.name; layers = map plain_layer c.layers.items; texts = map plain_text c.texts.items; places = places_of (map reference c.places.items) }
+
+-- the plain layout: arrays stand as their placements
+abbrev pub plain : Linked → flat.Design
+plain d = record { cells = map plain_cell d.cells; top = d.top }
+
+-- how an element of an array is moved
+abbrev pub motion_at : Place → ℕ → ℕ → Motion
+motion_at p row column = (place_at (reference p) row column).motion
+
+-- the rectangle lies within another
+pub record IsInside (a b : Rect) : Type 0 where
+  pub x1 : b.x1 ≤ℤ a.x1
+  pub y1 : b.y1 ≤ℤ a.y1
+  pub x2 : a.x2 ≤ℤ b.x2
+  pub y2 : a.y2 ≤ℤ b.y2
+
+-- all sides lie so far from 0 at most
+pub record IsRectWithin (reach : ℕ) (r : Rect) : Type 0 where
+  pub x1 : IsWithin reach r.x1
+  pub y1 : IsWithin reach r.y1
+  pub x2 : IsWithin reach r.x2
+  pub y2 : IsWithin reach r.y2
+
+-- a hull of squares: within plus or minus 2^30
+pub record IsHull (h : Rect) : Type 0 where
+  pub some : IsRect h
+  pub near : IsRectWithin (2 ^ 30) h
+
+-- a rectangle that may be a grown hull: within plus or minus 2^31
+pub record IsFrame (h : Rect) : Type 0 where
+  pub some : IsRect h
+  pub near : IsRectWithin (2 ^ 31) h
+
+-- where the placed cell has a hull, the placing cell's hull holds its image
+abbrev pub HoldsImage : Option Rect → Option Rect → Motion → Type 0
+HoldsImage outer None m = Unit {0}
+HoldsImage None (Some g) m = ⊥
+HoldsImage (Some h) (Some g) m = IsInside (moved_rect m g) h
+
+-- the hull holds the rectangles
+abbrev pub HoldsRects : Option Rect → List Rect → Type 0
+HoldsRects None rects = rects ≡ []
+HoldsRects (Some h) rects = All (λ r. IsInside r h) rects
+
+-- one element of an array: its shift is near, and the hull holds its image
+pub record IsElement (outer inner : Option Rect) (m : Motion) : Type 0 where
+  pub dx : IsWithin (2 ^ 30) m.dx
+  pub dy : IsWithin (2 ^ 30) m.dy
+  pub image : HoldsImage outer inner m
+
+-- a reference to a lower cell
+pub record IsReference (cells : List CellPart) (c : CellPart) (p : Place) : Type 0 where
+  pub placed : CellPart
+  pub there : slice_get cells p.cell ≡ Some placed
+  pub lower : placed.height < c.height
+  pub columns : 0 < p.columns
+  pub few : p.columns < 2 ^ 15
+  pub rows : 0 < p.rows
+  pub elements : (row column : ℕ) → row < p.rows → column < p.columns → IsElement c.hull placed.hull (motion_at p row column)
+
+-- no two entries of a list of layers have one key
+abbrev pub HasNone : LayerKey → List OwnLayer → Type 0
+HasNone key [] = Unit {0}
+HasNone key (l ∷ layers) = (l.key ≡ key → ⊥) × HasNone key layers
+
+abbrev pub AreApart : List OwnLayer → Type 0
+AreApart [] = Unit {0}
+AreApart (l ∷ layers) = HasNone l.key layers × AreApart layers
+
+abbrev pub HullIsSound : Option Rect → Type 0
+HullIsSound None = Unit {0}
+HullIsSound (Some h) = IsHull h
+
+pub record IsSoundCell (cells : List CellPart) (c : CellPart) : Type 0 where
+  pub height : c.height ≤ 64
+  pub hull : HullIsSound c.hull
+  pub apart : AreApart c.layers.items
+  pub own : All (λ l. HoldsRects c.hull l.set) c.layers.items
+  pub places : All (IsReference cells c) c.places.items
+
+-- the cell of a number; past the last there is none
+abbrev pub cell_at : Linked → ℕ → Option CellPart
+cell_at d i = slice_get d.cells i
+
+abbrev pub height_of : Option CellPart → ℕ
+height_of None = 0
+height_of (Some c) = c.height
+
+-- a cell's height
+abbrev pub height_at : Linked → ℕ → ℕ
+height_at d cell = height_of (cell_at d cell)
+
+-- the cells that the top reaches, each once, none above a later one
+pub record IsOrder (d : Linked) : Type 0 where
+  pub few : length d.order < 2 ^ 32
+  pub inside : (k : ℕ) → k < length d.order → slice_index d.order k < length d.cells
+  pub reached : (k : ℕ) → k < length d.order → flat.IsReached (plain d) (slice_index d.order k)
+  pub all : (cell : ℕ) → flat.IsReached (plain d) cell → (k : ℕ) × (k < length d.order) × (slice_index d.order k ≡ cell)
+  pub once : (j k : ℕ) → j < length d.order → k < length d.order → slice_index d.order j ≡ slice_index d.order k → j ≡ k
+  pub rising : (j k : ℕ) → j < k → k < length d.order → height_at d (slice_index d.order j) ≤ height_at d (slice_index d.order k)
+
+-- what `link` gives and callers need
+pub record IsSound (d : Linked) : Type 0 where
+  pub count : length d.cells < 2 ^ 32
+  pub top : d.top < length d.cells
+  pub each : (i : ℕ) (c : CellPart) → slice_get d.cells i ≡ Some c → IsSoundCell d.cells c
+  pub order : IsOrder d
+
+-- same layer and datatype
+abbrev pub is_key : LayerKey → LayerKey → Bool
+is_key k m = k.layer == m.layer && k.datatype == m.datatype
+
+-- a cell's own rectangles on a layer: of the first entry of the key
+abbrev pub own_rects : List OwnLayer → LayerKey → List Rect
+own_rects [] key = []
+own_rects (l ∷ layers) key = if is_key l.key key then l.set else own_rects layers key
+
+abbrev pub own_of : Option CellPart → LayerKey → List Rect
+own_of None key = []
+own_of (Some c) key = own_rects c.layers.items key
+
+abbrev pub hull_of : Option CellPart → Option Rect
+hull_of None = None
+hull_of (Some c) = c.hull
+
+abbrev pub places_at : Option CellPart → List Place
+places_at None = []
+places_at (Some c) = c.places.items
+
+-- an element of a reference of a cell
+pub record IsStep (d : Linked) (cell i row column : ℕ) (p : Place) : Type 0 where
+  pub there : slice_get (places_at (cell_at d cell)) i ≡ Some p
+  pub row_in : row < p.rows
+  pub column_in : column < p.columns
+
+-- the hull has the square
+abbrev pub HullHas : Option Rect → Square → Type 0
+HullHas None q = ⊥
+HullHas (Some h) q = has h q ≡ true

@@ -1,0 +1,142 @@
+ghost use Rattle.std.specs.Prelude.{◌≡◌, ◌<◌, ℕ, length, [], Some};
+ghost use Rattle.cell_graph.specs.Linked.{is_key, own_rects, own_of, cell_at, hull_of, places_at, linked_of, IsSound};
+ghost use Rattle.cell_graph.specs.Laws.{OwnLaw, HeightLaw, HullLaw};
+ghost use Rattle.cell_graph.specs.declared.cells.CellPart.{CellPart};
+
+use crate::cells::{CellPart, OwnLayer, Place, RawText};
+use geo_base::{LayerKey, Rect};
+use net_names::Name;
+use rect_sets::RectSet;
+use std::alloc::Global;
+use std::marker::Model;
+
+/// Linked cells: each reference names a cell, no cell stands below itself, and hulls hold what is below.
+#[derive(Drop)]
+pub struct Design {
+    cells: Vec<CellPart>,
+    top: u32,
+    order: Vec<u32>,
+    nothing: RectSet,
+}
+
+impl Model for Design {
+    ghost use Rattle.cell_graph.specs.Linked.{Linked};
+
+    ghost Value = { Linked };
+
+    ghost use Rattle.cell_graph.specs.Inside.{linked, IsLinked};
+
+    ghost view = { linked };
+
+    ghost invariant = { IsLinked };
+}
+
+fn is_key(a: LayerKey, b: LayerKey) -> bool
+    ensures { result ≡ is_key a b }
+{
+    a.layer == b.layer && a.datatype == b.datatype
+}
+
+// The set of the first entry of the key.
+fn find<'a>(layers: &'a [OwnLayer], key: LayerKey, nothing: &'a RectSet) -> &'a RectSet
+    requires { nothing.now ≡ [] }
+    ensures { result.now ≡ own_rects layers.now key }
+{
+    for layer in layers {
+        if is_key(layer.key, key) {
+            return &layer.set;
+        }
+    }
+    nothing
+}
+
+impl Design {
+    /// The design of cells that are linked already.
+    pub fn from_parts(alloc: Global, cells: Vec<CellPart>, top: u32, order: Vec<u32>) -> Design
+        requires { IsSound (linked_of cells.items top order.items) }
+        ensures { result ≡ linked_of cells.items top order.items }
+    {
+        Design {
+            cells,
+            top,
+            order,
+            nothing: RectSet::empty(alloc),
+        }
+    }
+
+    /// What each design promises.
+    pub fn sound(&self)
+        ensures { IsSound self.now }
+    {
+        let _ = &self.top;
+    }
+
+    /// The number of cells.
+    pub fn cells(&self) -> u32
+        ensures { result ≡ length self.now.cells }
+    {
+        self.cells.len() as u32
+    }
+
+    /// The top cell.
+    pub fn top(&self) -> u32
+        ensures { result ≡ self.now.top }
+    {
+        self.top
+    }
+
+    /// The name of a cell.
+    pub fn name(&self, cell: u32) -> &Name
+        requires { cell < length self.now.cells }
+        ensures { (c : CellPart) → cell_at self.now cell ≡ Some c → result.now ≡ c.name }
+    {
+        &self.cells[cell as usize].name
+    }
+
+    /// A cell's own squares on a layer.
+    pub fn own(&self, cell: u32, key: LayerKey) -> &RectSet
+        requires { cell < length self.now.cells }
+        ensures { result.now ≡ own_of (cell_at self.now cell) key }
+    {
+        let part = &self.cells[cell as usize];
+        find(&part.layers, key, &self.nothing)
+    }
+
+    /// A cell's texts.
+    pub fn texts(&self, cell: u32) -> &[RawText]
+        requires { cell < length self.now.cells }
+        ensures { (c : CellPart) → cell_at self.now cell ≡ Some c → result.now ≡ c.texts.items }
+    {
+        &self.cells[cell as usize].texts
+    }
+
+    /// A cell's references.
+    pub fn places(&self, cell: u32) -> &[Place]
+        requires { cell < length self.now.cells }
+        ensures { result.now ≡ places_at (cell_at self.now cell) }
+    {
+        &self.cells[cell as usize].places
+    }
+
+    /// The range of what stands in and below a cell; none where it holds no square.
+    pub fn hull(&self, cell: u32) -> Option<Rect>
+        requires { cell < length self.now.cells }
+        ensures { result ≡ hull_of (cell_at self.now cell) }
+    {
+        self.cells[cell as usize].hull
+    }
+
+    /// The cells reached from the top, by height, then file order.
+    pub fn order(&self) -> &[u32]
+        ensures { result.now ≡ self.now.order }
+    {
+        &self.order
+    }
+}
+
+/// What holds of each design beside the plain layout that it stands for.
+pub fn design_laws()
+    ensures own { OwnLaw }
+    ensures height { HeightLaw }
+    ensures hull { HullLaw }
+{}

@@ -1,0 +1,6 @@
+//! Where local squares of a cell can lie, and where its disturbed squares come from, by references with their arrays.
+#![tactic(auto)]
+
+mod laws;
+
+pub use laws::{layer_laws, zone_laws};

@@ -1,0 +1,9 @@
+use Rattle.std.proofs.Common.{◌≡◌, length}
+use Rattle.deep_tables.specs.Positions.{ArePositions}
+use Rattle.deep_tables.proofs.tables.positions.Given as goal
+
+abbrev pub invariant-loop-k : goal.invariant-loop-k
+invariant-loop-k l = record {
+  count : length l.places.items ≡ l.count;
+  places : ArePositions l.order l.k l.places.items;
+}

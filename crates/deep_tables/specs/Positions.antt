@@ -1,0 +1,11 @@
+-- Positions of numbers in a list.
+use Rattle.std.specs.Prelude.{◌≡◌, ℕ, ◌<◌, List, length, slice_index}
+
+-- the numbers are below a count, and no two are equal
+pub record AreApart (count : ℕ) (order : List ℕ) : Type 0 where
+  pub inside : (k : ℕ) → k < length order → slice_index order k < count
+  pub once : (j k : ℕ) → j < length order → k < length order → slice_index order j ≡ slice_index order k → j ≡ k
+
+-- the first n numbers of the list are found by their positions
+abbrev pub ArePositions : List ℕ → ℕ → List ℕ → Type 0
+ArePositions order n places = (k : ℕ) → k < n → slice_index places (slice_index order k) ≡ k

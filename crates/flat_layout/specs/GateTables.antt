@@ -1,0 +1,87 @@
+-- The gates of a cell's list: good ones over the nets of the cell, bad ones with their cause.
+use Rattle.std.specs.Prelude.{◌≡◌, ◌⊎◌, ℕ, ◌<◌, List, [], ◌∷◌, Some, slice_get}
+use Rattle.geo_base.specs.declared.shapes.Square.{Square}
+use Rattle.flat_layout.specs.Gates.{Rule, Edge, Cause, geometry, InGate, IsSettled, IsGateBelow, IsListedGate, IsLeast, IsGoodGate, IsBadGate, IsSourceFirst, IsTerminalNode}
+use Rattle.flat_layout.specs.Layout.{Design}
+use Rattle.flat_layout.specs.Nets.{Tables, NetHolds}
+use Rattle.flat_layout.specs.Plane.{IsSquareBefore}
+use Rattle.flat_layout.specs.Regions.{Wiring, Node}
+use Rattle.plain_netlist.specs.Lists.{IsListed, AreRising}
+use Rattle.plain_netlist.specs.Netlist.{Pole, Source, Gate, Drain, Bulk}
+
+-- a gate, by its rule's number and one of its squares
+pub record GateSquare : Type 0 where
+  pub rule : ℕ
+  pub square : Square
+
+-- by rule, then least square
+abbrev pub IsGateBefore : GateSquare → GateSquare → Type 0
+IsGateBefore a b = (a.rule < b.rule) ⊎ ((a.rule ≡ b.rule) × IsSquareBefore a.square b.square)
+
+-- a good gate over the nets of its cell: twice its width and its length in squares, and the nets of its terminals
+pub record GateRow : Type 0 where
+  pub twice_w : ℕ
+  pub twice_l : ℕ
+  pub source : ℕ
+  pub gate : ℕ
+  pub drain : ℕ
+  pub bulk : ℕ
+
+abbrev pub terminal_net : Pole → GateRow → ℕ
+terminal_net Source r = r.source
+terminal_net Gate r = r.gate
+terminal_net Drain r = r.drain
+terminal_net Bulk r = r.bulk
+
+-- the verdict on a gate
+pub data Verdict : Type 0 where
+  Good : (row : GateRow) → Verdict
+  Bad : (cause : Cause) → Verdict
+
+-- a gate of a cell's list, by its least square
+pub record GateEntry : Type 0 where
+  pub at : GateSquare
+  pub verdict : Verdict
+
+-- the row of a good gate; its source is the group with the least square
+pub record IsGateRow (d : Design) (w : Wiring) (t : Tables) (u : Rule) (cell : ℕ) (s : Square) (row : GateRow) : Type 0 where
+  pub source : Edge
+  pub drain : Edge
+  pub good : IsGoodGate d w u cell s source drain row.twice_w row.twice_l
+  pub first : IsSourceFirst d w u cell s source drain
+  pub nets : (pole : Pole) → (n : Node) × IsTerminalNode d w u cell s source drain pole n × NetHolds d t cell (terminal_net pole row) n
+
+abbrev pub IsVerdict : Design → Wiring → Tables → Rule → ℕ → Square → Verdict → Type 0
+IsVerdict d w t u cell s (Good row) = IsGateRow d w t u cell s row
+IsVerdict d w t u cell s (Bad cause) = IsBadGate d w u cell s cause
+
+-- the entry is right: a gate of the cell's list, under its least square
+pub record IsGateEntry (d : Design) (w : Wiring) (t : Tables) (rules : List Rule) (cell : ℕ) (x : GateEntry) : Type 0 where
+  pub rule : Rule
+  pub is : slice_get rules x.at.rule ≡ Some rule
+  pub gate : IsListedGate d (geometry w rule) cell x.at.square
+  pub least : IsLeast (InGate d (geometry w rule) cell x.at.square) x.at.square
+  pub verdict : IsVerdict d w t rule cell x.at.square x.verdict
+
+-- over right nets, the gates of the cell's list, each once, in order; and of a settled gate it is known whether it is one of these or comes from below
+pub record AreGates (d : Design) (w : Wiring) (t : Tables) (rules : List Rule) (cell : ℕ) (v : List GateEntry) : Type 0 where
+  pub each : (x : GateEntry) → IsListed x v → IsGateEntry d w t rules cell x
+  pub found : (r : ℕ) (u : Rule) (s : Square) → slice_get rules r ≡ Some u → IsListedGate d (geometry w u) cell s
+      → (x : GateEntry) × IsListed x v × (x.at.rule ≡ r) × InGate d (geometry w u) cell s x.at.square
+  pub rising : AreRising (λ x y. IsGateBefore x.at y.at) v
+  pub parted : (r : ℕ) (u : Rule) (s : Square) → slice_get rules r ≡ Some u → IsSettled d (geometry w u) cell s
+      → IsListedGate d (geometry w u) cell s ⊎ IsGateBelow d (geometry w u) cell s
+
+-- a good gate of a list
+pub record GoodGate : Type 0 where
+  pub at : GateSquare
+  pub row : GateRow
+
+abbrev pub with_good : GateSquare → Verdict → List GoodGate → List GoodGate
+with_good at (Good row) gates = record { at = at; row = row } ∷ gates
+with_good at (Bad cause) gates = gates
+
+-- the good gates, in order
+abbrev pub good_gates : List GateEntry → List GoodGate
+good_gates [] = []
+good_gates (x ∷ xs) = with_good x.at x.verdict (good_gates xs)

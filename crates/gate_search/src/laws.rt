@@ -1,0 +1,9 @@
+// The gates of a cell among the parts of what was gathered.
+ghost use Rattle.gate_search.specs.SearchLaws.{PartLaw, FoundLaw, KnownLaw};
+
+/// What was gathered around the seeds holds all gates of the cell's own, part by part.
+pub fn searched()
+    ensures part { PartLaw }
+    ensures found { FoundLaw }
+    ensures known { KnownLaw }
+{}

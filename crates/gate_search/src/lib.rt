@@ -1,0 +1,10 @@
+//! Whole gates from where they may be: window by window, so that nothing far from them is looked at.
+#![tactic(auto)]
+
+mod laws;
+mod whole;
+mod windows;
+
+pub use laws::searched;
+pub use whole::Whole;
+pub use windows::{GateLayer, gather, gather_around};

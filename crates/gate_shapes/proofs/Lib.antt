@@ -1,0 +1,12 @@
+pub mod Counting
+pub mod Areas
+pub mod Borders
+pub mod Rings
+pub mod Touching
+pub mod Joined
+pub mod Members
+pub mod PartsOf
+pub mod Groups
+pub mod Judging
+pub mod Looking
+pub mod Meeting

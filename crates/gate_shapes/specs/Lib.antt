@@ -1,0 +1,7 @@
+pub mod Sets
+pub mod Borders
+pub mod Contacts
+pub mod PartLists
+pub mod Sorted
+pub mod Shapes
+pub mod LookLaws

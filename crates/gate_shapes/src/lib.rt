@@ -1,0 +1,14 @@
+//! Edge-connected parts of a set of unit squares, and each of them judged as the gate of a transistor.
+#![tactic(auto)]
+
+mod area;
+mod border;
+mod contacts;
+mod laws;
+mod pieces;
+mod shape;
+
+pub use border::{border_of, grown, sides_of};
+pub use laws::looks;
+pub use pieces::{least, parts};
+pub use shape::{Around, GateCause, GateForm, GateShape, shape_of};

@@ -1,0 +1,84 @@
+// The edge-connected parts of a set.
+ghost use Rattle.std.specs.Prelude.{◌≡◌, ◌↔◌, ℕ, ◌^◌, ◌<◌, length, slice_get, slice_index, Some, IfOk, MatchOption};
+ghost use Rattle.geo_base.specs.declared.shapes.Rect.{Rect};
+ghost use Rattle.geo_base.specs.declared.shapes.Square.{Square};
+ghost use Rattle.gate_shapes.specs.Sets.{in_set};
+ghost use Rattle.gate_shapes.specs.PartLists.{AreParts, members};
+ghost use Rattle.flat_layout.specs.Parts.{IsLeast};
+ghost use Rattle.gate_shapes.specs.Sorted.{AreSortedOut, AreSetsOf, HaveRects};
+
+use crate::contacts::contacts;
+use geo_base::{Rect, Square};
+use link_classes::joined_classes;
+use rect_sets::{RectSet, Rule, combine_rects};
+use std::alloc::{AllocError, Global};
+
+fn short(rects: &[Rect]) -> Result<u32, AllocError>
+    ensures { IfOk result (λ n. n ≡ length rects.now) }
+{
+    match u32::try_from(rects.len()) {
+        Ok(n) => Ok(n),
+        Err(_) => Err(AllocError),
+    }
+}
+
+// The rectangles of each class.
+fn sorted_out(
+    alloc: Global,
+    rects: &[Rect],
+    class_of: &[u32],
+    count: u32,
+) -> Result<Vec<Vec<Rect>>, AllocError>
+    requires long { length class_of.now ≡ length rects.now }
+    requires below { (i : ℕ) → i < length rects.now → slice_index class_of.now i < count }
+    ensures { IfOk result (λ v. AreSortedOut rects.now class_of.now count v.items) }
+{
+    let mut lists: Vec<Vec<Rect>> = Vec::new(alloc);
+    for _n in 0..count {
+        lists.push(Vec::new(alloc))?;
+    }
+    for (i, rect) in rects.iter().enumerate() {
+        let list = &mut lists[class_of[i] as usize];
+        list.push(*rect)?;
+    }
+    Ok(lists)
+}
+
+fn sets_of(alloc: Global, lists: &[Vec<Rect>]) -> Result<Vec<RectSet>, AllocError>
+    requires { HaveRects lists.now }
+    ensures { IfOk result (λ v. AreSetsOf lists.now v.items) }
+{
+    let mut sets = Vec::new(alloc);
+    for list in lists {
+        let set = combine_rects(alloc, list, &[], Rule::First)?;
+        sets.push(set)?;
+    }
+    Ok(sets)
+}
+
+/// The edge-connected parts of a set: two squares that share an edge are in one part, a common corner doesn't join. In order of their least
+/// squares, in O(n log n) for n rectangles and the cost of a union of each part.
+pub fn parts(alloc: Global, set: &RectSet) -> Result<Vec<RectSet>, AllocError>
+    ensures { IfOk result (λ v. AreParts set.now v.items) }
+{
+    let rects = set.rects();
+    let n = short(rects)?;
+    let links = contacts(alloc, rects)?;
+    let classes = joined_classes(alloc, n, &links)?;
+    let lists = sorted_out(alloc, rects, &classes.class_of, classes.count)?;
+    let sets = sets_of(alloc, &lists)?;
+    Ok(sets)
+}
+
+/// The least square of a set, by y, then x.
+pub fn least(set: &RectSet) -> Option<Square>
+    ensures { MatchOption result ((q : Square) → in_set set.now q → ⊥) (IsLeast (in_set set.now)) }
+{
+    match set.rects().first() {
+        Some(rect) => Some(Square {
+            x: rect.x1,
+            y: rect.y1,
+        }),
+        None => None,
+    }
+}

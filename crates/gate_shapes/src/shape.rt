@@ -1,0 +1,155 @@
+// A part as the gate of a transistor.
+ghost use Rattle.std.specs.Prelude.{◌≡◌, ◌↔◌, ℕ, Bool, IfOk};
+ghost use Rattle.geo_base.specs.declared.shapes.Square.{Square};
+ghost use Rattle.rect_sets.specs.Near.{IsNearSet};
+ghost use Rattle.gate_shapes.specs.Sets.{in_set};
+ghost use Rattle.flat_layout.specs.Parts.{IsLeast};
+ghost use Rattle.gate_shapes.specs.Shapes.{TellsOn, TellsMeet, AreKept, IsFirstFault, sheets_of, IsShape};
+
+use crate::border::{border_of, sides_of};
+use crate::pieces::{least, parts};
+use geo_base::Square;
+use rect_sets::{RectSet, Rule, combine_rects};
+use std::alloc::{AllocError, Global};
+
+/// Why a gate is bad: the first of these that holds.
+#[derive(Clone, Copy, Debug, PartialEq, Eq)]
+pub enum GateCause {
+    Groups(u64),
+    OffGate,
+    OffSd,
+    NoBulk,
+    NoLength,
+}
+
+/// A good gate: its sizes in unit edges, and the least squares of its two groups. The source is the group with the least square.
+#[derive(Clone, Copy, Debug, PartialEq, Eq)]
+pub struct GateForm {
+    pub twice_w: u64,
+    pub twice_l: u64,
+    pub source: Square,
+    pub drain: Square,
+}
+
+#[derive(Clone, Copy, Debug, PartialEq, Eq)]
+pub enum GateShape {
+    Good(GateForm),
+    Bad(GateCause),
+}
+
+fn is_on(alloc: Global, set: &RectSet, other: &RectSet) -> Result<bool, AllocError>
+    ensures { IfOk result (λ b. TellsOn set.now other.now b) }
+{
+    let off = combine_rects(alloc, set.rects(), other.rects(), Rule::Not)?;
+    match least(&off) {
+        Some(_) => Ok(false),
+        None => Ok(true),
+    }
+}
+
+fn first_square(set: &RectSet) -> Square
+    requires { (q : Square) × in_set set.now q }
+    ensures { IsLeast (in_set set.now) result }
+{
+    match least(set) {
+        Some(square) => square,
+        None => unreachable!(),
+    }
+}
+
+// In most cases the first rectangle tells.
+fn meets(alloc: Global, set: &RectSet, other: &RectSet) -> Result<bool, AllocError>
+    ensures { IfOk result (λ b. TellsMeet set.now other.now b) }
+{
+    for rect in set.rects() {
+        let near = other.window(alloc, *rect)?;
+        match least(&near) {
+            Some(_) => return Ok(true),
+            None => {}
+        }
+    }
+    Ok(false)
+}
+
+// Those that have a touched square, by their places.
+fn kept(alloc: Global, groups: &[RectSet], touched: &RectSet) -> Result<Vec<usize>, AllocError>
+    ensures { IfOk result (λ v. AreKept groups.now touched.now v.items) }
+{
+    let mut kept = Vec::new(alloc);
+    for (i, group) in groups.iter().enumerate() {
+        if meets(alloc, group, touched)? {
+            kept.push(i)?;
+        }
+    }
+    Ok(kept)
+}
+
+/// The sets by which a part is judged: source and drain, and the conductors of the terminals. Where the bulk has no global the gate is loose,
+/// and its squares must lie on the bulk's conductor.
+#[derive(Clone, Copy)]
+pub struct Around<'a> {
+    pub ends: &'a RectSet,
+    pub on_ends: &'a RectSet,
+    pub on_gate: &'a RectSet,
+    pub on_bulk: &'a RectSet,
+    pub loose: bool,
+}
+
+// The first fault of a part with two groups.
+fn first_fault(
+    alloc: Global,
+    part: &RectSet,
+    source: &RectSet,
+    drain: &RectSet,
+    around: &Around,
+    long: u64,
+) -> Result<Option<GateCause>, AllocError>
+    ensures { IfOk result (λ f. IsFirstFault (sheets_of around.now.ends.now around.now.on_ends.now around.now.on_gate.now around.now.on_bulk.now around.now.loose) part.now source.now drain.now long f) }
+{
+    if !is_on(alloc, part, around.on_gate)? {
+        return Ok(Some(GateCause::OffGate));
+    }
+    if !is_on(alloc, source, around.on_ends)? {
+        return Ok(Some(GateCause::OffSd));
+    }
+    if !is_on(alloc, drain, around.on_ends)? {
+        return Ok(Some(GateCause::OffSd));
+    }
+    if around.loose {
+        if !is_on(alloc, part, around.on_bulk)? {
+            return Ok(Some(GateCause::NoBulk));
+        }
+    }
+    if long == 0 {
+        return Ok(Some(GateCause::NoLength));
+    }
+    Ok(None)
+}
+
+/// The part as a gate: its sizes and the least squares of its two groups, or its first fault. Only the squares of the part and of its ring
+/// count, so the sets around may be cut to the part's box grown by one. In O(n log n) for n rectangles of the part and of the sets there, and
+/// the number of groups times the cost of one Boolean; no square is looked at alone. More edges than 64 bits can count are taken for want of
+/// memory.
+pub fn shape_of(alloc: Global, part: &RectSet, around: &Around) -> Result<GateShape, AllocError>
+    requires { IsNearSet part.now }
+    ensures { IfOk result (λ s. IsShape (sheets_of around.now.ends.now around.now.on_ends.now around.now.on_gate.now around.now.on_bulk.now around.now.loose) (in_set part.now) s) }
+{
+    let border = border_of(alloc, part, around.ends)?;
+    let sides = sides_of(alloc, part, around.ends)?;
+    let groups = parts(alloc, &sides)?;
+    let places = kept(alloc, &groups, &border.touched)?;
+    if places.len() != 2 {
+        return Ok(GateShape::Bad(GateCause::Groups(places.len() as u64)));
+    }
+    let one = &groups[places[0]];
+    let other = &groups[places[1]];
+    match first_fault(alloc, part, one, other, around, border.long)? {
+        Some(cause) => Ok(GateShape::Bad(cause)),
+        None => Ok(GateShape::Good(GateForm {
+            twice_w: border.wide,
+            twice_l: border.long,
+            source: first_square(one),
+            drain: first_square(other),
+        })),
+    }
+}

@@ -1,0 +1,50 @@
+// Sets from lists of rectangles.
+ghost use Rattle.std.specs.Prelude.{◌≡◌, true, IfOk};
+ghost use Rattle.std.specs.List.{All};
+ghost use Rattle.geo_base.specs.Rects.{IsRect};
+ghost use Rattle.rect_sets.specs.Near.{IsNearSet};
+
+use geo_base::Rect;
+use rect_sets::RectSet;
+use std::alloc::{AllocError, Global};
+
+/// Whether the rectangle has a square.
+pub fn is_rect(rect: &Rect) -> bool
+    ensures { result ≡ true → IsRect rect.now }
+{
+    rect.x1 < rect.x2 && rect.y1 < rect.y2
+}
+
+// Those with a square.
+fn with_area(alloc: Global, rects: &[Rect]) -> Result<Vec<Rect>, AllocError>
+    ensures { IfOk result (λ r. All IsRect r.items) }
+{
+    let mut out = Vec::new(alloc);
+    for rect in rects {
+        if is_rect(rect) {
+            out.push(*rect)?;
+        }
+    }
+    Ok(out)
+}
+
+/// The union of some rectangles; those without area add nothing.
+pub fn set_of(alloc: Global, rects: &[Rect]) -> Result<RectSet, AllocError> {
+    let kept = with_area(alloc, rects)?;
+    let set = RectSet::canon(alloc, kept)?;
+    Ok(set)
+}
+
+/// The part of a set within plus or minus a billion.
+pub fn near_part(alloc: Global, set: &RectSet) -> Result<RectSet, AllocError>
+    ensures { IfOk result (λ r. IsNearSet r) }
+{
+    let near = Rect {
+        x1: -1_000_000_000,
+        y1: -1_000_000_000,
+        x2: 1_000_000_000,
+        y2: 1_000_000_000,
+    };
+    let part = set.window(alloc, near)?;
+    Ok(part)
+}

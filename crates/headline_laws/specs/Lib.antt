@@ -1,0 +1,2 @@
+pub mod FlatNetlist
+pub mod Headline

@@ -1,0 +1,74 @@
+-- The two devices of the flat layout.
+use Rattle.std.proofs.Common.{◌≡◌, ◌⊎◌, inl, inr, ℕ, refl, sym, ◌∙◌, ap, subst, arith}
+use Rattle.flat_layout.specs.GateTables.{GateSquare}
+use Rattle.flat_layout.specs.Gates.{IsTerminalNode, Rule}
+use Rattle.flat_layout.specs.Layers.{InFlat}
+use Rattle.flat_layout.specs.Regions.{At, Ground, Node}
+use Rattle.flat_sample.proofs.Columns.{column_above, only_at, poly_above}
+use Rattle.flat_sample.proofs.Lone.{edge_to, form, gate_at, gate_self, group_self, InG, InS, left_at, right_at}
+use Rattle.flat_sample.proofs.Sides as sides
+use Rattle.flat_sample.specs.Transistors.{at, gate_design, gate_rules, gate_wiring, nmos, rule}
+use Rattle.headline_laws.specs.FlatNetlist.{IsFlatDevice}
+use Rattle.headline_sample.specs.Matched.{TwoDevicesLaw}
+use Rattle.geo_base.specs.declared.shapes.Square.{Square}
+use Rattle.plain_netlist.specs.Flats.{Row}
+use Rattle.plain_netlist.specs.Netlist.{Bulk, Drain, Gate, Pole, Source}
+
+abbrev spot : ℕ → GateSquare
+spot x = record { rule = 0; square = at x }
+
+abbrev Device : GateSquare → Type 0
+Device g = (row : Row Node) × IsFlatDevice gate_design gate_wiring gate_rules 1000 g row
+
+abbrev node_on : ℕ → Pole → Node
+node_on m Source = At 0 (left_at m)
+node_on m Gate = At 1 (gate_at m)
+node_on m Drain = At 0 (right_at m)
+node_on m Bulk = Ground 0
+
+nodes : (m : ℕ) → InG 1 (gate_at m) → (pole : Pole) → IsTerminalNode gate_design gate_wiring rule 1 (gate_at m) (edge_to m (left_at m)) (edge_to m (right_at m)) pole (node_on m pole)
+nodes m gate Source = (left_at m, group_self 1 (gate_at m) (left_at m), refl)
+nodes m gate Gate = (gate_at m, gate_self 1 (gate_at m) (gate_at m) gate refl, refl)
+nodes m gate Drain = (right_at m, group_self 1 (gate_at m) (right_at m), refl)
+nodes m gate Bulk = inl (0, refl, refl)
+
+-- a gate between two sides is a device
+device : (m : ℕ) → InG 1 (gate_at m) → InS 1 (left_at m) → InS 1 (right_at m) → Device (record { rule = 0; square = gate_at m })
+device m gate left right = (
+  record { class = nmos; length = 1000000; width = 1000000; net = node_on m },
+  record {
+    rule = rule;
+    is = refl;
+    source = edge_to m (left_at m);
+    drain = edge_to m (right_at m);
+    twice_w = 2;
+    twice_l = 2;
+    good = form 1 m gate left right;
+    class = refl;
+    width = refl;
+    length = refl;
+    nodes = nodes m gate;
+  },
+)
+
+last_gate : InG 1 (at 3)
+last_gate = (column_above 0 1 3 (omega arith) (omega arith) (inr (inl refl)), poly_above)
+
+same_spot : (g : GateSquare) (x : ℕ) → g.rule ≡ 0 → g.square ≡ at x → g ≡ spot x
+same_spot g x r e = ap (λ (k : ℕ). let v : GateSquare = record { rule = k; square = g.square } in v) r ∙ ap (λ (q : Square). let v : GateSquare = record { rule = 0; square = q } in v) e
+
+out : (g : GateSquare) → Device g → (g ≡ spot 1) ⊎ (g ≡ spot 3)
+out g (row, h) =
+    let one = only_at rule h.rule g.rule h.is in
+    let gate : InFlat gate_design 1 h.rule.gate g.square = (h.good.groups.each h.source (inl refl)).border.inside.from in
+    elim (sides.gates_odd 1 g.square (subst (λ (r : Rule). InFlat gate_design 1 r.gate g.square) one.1 gate)) [
+      | inl e ↦ inl (same_spot g 1 one.0 e)
+      | inr (top, e) ↦ inr (same_spot g 3 one.0 e)
+    ]
+
+into : (g : GateSquare) → (g ≡ spot 1) ⊎ (g ≡ spot 3) → Device g
+into g (inl e) = subst Device (sym e) (device 0 sides.across_gate sides.across_left sides.across_right)
+into g (inr e) = subst Device (sym e) (device 1 last_gate sides.across_right sides.last_side)
+
+pub two_devices : TwoDevicesLaw
+two_devices g = (out g, into g)

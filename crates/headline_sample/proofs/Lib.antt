@@ -1,0 +1,5 @@
+pub mod Kept
+pub mod Circuits
+pub mod Partnered
+pub mod Answering
+pub mod Devices

@@ -1,0 +1,25 @@
+use Rattle.std.proofs.Common.{[], refl}
+use Rattle.flat_sample.proofs.Whole.{right}
+use Rattle.flat_sample.specs.Sample.{sample_level}
+use Rattle.flat_sample.specs.Transistors.{child_circuit, gate_circuits, gate_design, gate_netlist, gate_rules, gate_tables, gate_wiring, parent_circuit}
+use Rattle.headline_laws.proofs.Whole.{matched_layout}
+use Rattle.headline_sample.proofs.Answering.{answered}
+use Rattle.headline_sample.proofs.Devices.{two_devices}
+use Rattle.headline_sample.proofs.Partnered.{sample_pair}
+use Rattle.headline_sample.specs.Matched.{answers, as_it_is, pairings, part, schematic, whole}
+use Rattle.headline_sample.proofs.matched_layout.Goals as goal
+
+pub returns : goal.returns
+returns c = record {
+  matched = (
+    right,
+    refl,
+    (
+      sample_pair,
+      answered,
+      (λ k x h. refl),
+      matched_layout gate_design gate_wiring gate_tables gate_circuits gate_netlist gate_rules 1000 sample_level right 1 refl schematic 1 [] gate_netlist schematic (as_it_is child_circuit parent_circuit) (as_it_is part whole) sample_pair 1 answers pairings answered (λ k x h. refl),
+    ),
+  );
+  devices = two_devices;
+}

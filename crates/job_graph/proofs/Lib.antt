@@ -1,0 +1,13 @@
+pub mod Inputs
+pub mod Over
+pub mod ByLevel
+pub mod Placed
+pub mod Finding
+pub mod Taken
+pub mod Events
+pub mod Once
+pub mod States
+pub mod Booking
+pub mod Booked
+pub mod Knowing
+pub mod Lent

@@ -1,0 +1,4 @@
+pub mod Assembly
+pub mod Looking
+pub mod Keeping
+pub mod Telling

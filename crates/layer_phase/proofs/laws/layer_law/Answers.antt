@@ -1,0 +1,5 @@
+use Rattle.layer_phase.proofs.Assembly.{layer}
+use Rattle.layer_phase.proofs.laws.layer_law.Goals as goal
+
+pub returns : goal.returns
+returns c = layer

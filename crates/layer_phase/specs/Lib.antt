@@ -1,0 +1,4 @@
+pub mod Parts
+pub mod Looks
+pub mod Keeps
+pub mod Bridge

@@ -1,0 +1,40 @@
+-- The parts of which a cell's layer is made.
+use Rattle.std.specs.Prelude.{◌≡◌, ◌↔◌, ℕ, true, ◌&&◌, not, List}
+use Rattle.geo_base.specs.declared.layer.Op.{Op}
+use Rattle.geo_base.specs.declared.shapes.Rect.{Rect}
+use Rattle.geo_base.specs.declared.shapes.Square.{Square}
+use Rattle.geo_base.specs.Motions.{moved_square}
+use Rattle.rect_sets.specs.Rects.{covers}
+use Rattle.flat_layout.specs.Layers.{Reading, Binary, inputs, InFlat}
+use Rattle.flat_layout.specs.Layout.{IsReached, IsPlaced, IsDisturbed, Place}
+use Rattle.cell_graph.specs.Linked.{Linked, IsSound, HullHas, hull_of, cell_at, plain}
+use Rattle.deep_laws.specs.Layers.{IsOwnOn, IsFromDisturbed}
+use Rattle.deep_tables.specs.Entries.{IsZone, IsLayer}
+
+-- a square of a placed cell's hull that isn't disturbed there comes to q
+pub record IsFromCalmHull (d : Linked) (name : Reading) (cell : ℕ) (q : Square) : Type 0 where
+  pub number : ℕ
+  pub place : Place
+  pub square : Square
+  pub placed : IsPlaced (plain d) cell number place
+  pub held : HullHas (hull_of (cell_at d place.cell)) square
+  pub calm : IsDisturbed (plain d) (inputs name) place.cell square → ⊥
+  pub image : moved_square place.motion square ≡ q
+
+-- squares that are looked at, the flat ones of these, the disturbed ones, and those that placed cells keep
+pub record AreParts (d : Linked) (name : Reading) (cell : ℕ) (places flat zone calm : List Rect) : Type 0 where
+  pub own : (q : Square) → IsOwnOn (plain d) (inputs name) cell q → covers places q ≡ true
+  pub disturbed : (q : Square) → IsFromDisturbed (plain d) (inputs name) cell q → covers places q ≡ true
+  pub flats : (q : Square) → (covers flat q ≡ true) ↔ ((covers places q ≡ true) × InFlat (plain d) cell name q)
+  pub zones : IsZone d name cell zone
+  pub calms : (q : Square) → covers places q ≡ true → (covers calm q ≡ true) ↔ IsFromCalmHull d name cell q
+
+-- the zones of the placed cells decide which of their squares are disturbed
+abbrev pub HaveZones : Linked → Reading → ℕ → Type 0
+HaveZones d name cell = (k : ℕ) (p : Place) → IsPlaced (plain d) cell k p → (zone : List Rect) × IsZone d name p.cell zone
+
+-- flat squares among those looked at, without the disturbed ones and those that placed cells keep: the cell's layer
+abbrev pub LayerLaw : Type 0
+LayerLaw = (d : Linked) (op : Op) (a b : Reading) (cell : ℕ) (places flat zone calm local : List Rect) → IsSound d → IsReached (plain d) cell → HaveZones d (Binary op a b) cell
+    → AreParts d (Binary op a b) cell places flat zone calm → ((q : Square) → covers local q ≡ ((covers flat q && not (covers zone q)) && not (covers calm q)))
+    → IsLayer d (Binary op a b) cell local

@@ -1,0 +1,9 @@
+pub mod Listed
+pub mod Filled
+pub mod Numbered
+pub mod Placed
+pub mod Joined
+pub mod Near
+pub mod Paired
+pub mod Built
+pub mod Named

@@ -1,0 +1,5 @@
+pub mod Numbering
+pub mod Graph
+pub mod Edges
+pub mod Filling
+pub mod Kinds

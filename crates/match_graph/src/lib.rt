@@ -1,0 +1,12 @@
+//! Two circuits as one graph in flat arrays: nets, transistors and calls as numbered nodes, each with its ends.
+#![tactic(auto)]
+
+mod edges;
+mod filling;
+mod graph;
+mod kinds;
+mod sizes;
+mod small;
+
+pub use graph::{End, Graph, Port};
+pub use sizes::Sizes;

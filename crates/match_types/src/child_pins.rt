@@ -1,0 +1,42 @@
+ghost use Rattle.std.specs.Prelude.{◌≡◌, ◌≢◌, ℕ, None, Some, IfSome, IsNone, OnOk, ◌↔◌};
+ghost use Rattle.match_types.specs.Children.{children_of};
+
+use std::alloc::{AllocError, Global};
+use std::collections::HashMap;
+
+/// For each pair the position of the right pin for each left pin, or nothing where the pair isn't matched or not yet compared.
+#[derive(Drop)]
+pub struct ChildPins {
+    lists: HashMap<u32, Vec<u32>>,
+}
+
+impl ChildPins {
+    /// Nothing for every pair.
+    pub fn new(alloc: Global) -> ChildPins
+        ensures { (q : ℕ) → children_of result q ≡ None }
+    {
+        ChildPins {
+            lists: HashMap::new(alloc),
+        }
+    }
+
+    /// Gives a pair its list.
+    pub fn set(&mut self, pair: u32, pins: Vec<u32>) -> Result<(), AllocError>
+        ensures set { OnOk result (children_of self.new pair ≡ Some pins.items) }
+        ensures rest { OnOk result ((q : ℕ) → q ≢ pair → children_of self.new q ≡ children_of self.old q) }
+    {
+        self.lists.insert(pair, pins)?;
+        Ok(())
+    }
+
+    /// The list of a pair.
+    pub fn get(&self, pair: u32) -> Option<&[u32]>
+        ensures some { IfSome result (λ pins. children_of self.now pair ≡ Some pins.now) }
+        ensures none { IsNone result ↔ (children_of self.now pair ≡ None) }
+    {
+        match self.lists.get(&pair) {
+            Some(pins) => Some(pins.as_slice()),
+            None => None,
+        }
+    }
+}

@@ -1,0 +1,5 @@
+pub mod Found
+pub mod Collected
+pub mod Windows
+pub mod Laws
+pub mod Places

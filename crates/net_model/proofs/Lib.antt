@@ -1,0 +1,4 @@
+pub mod FirstLemmas
+pub mod CallLemmas
+pub mod FaultLemmas
+pub mod CheckLemmas

@@ -1,0 +1,9 @@
+pub mod Insides
+pub mod Adding
+pub mod Walking
+pub mod Seeing
+pub mod Pairing
+pub mod Alikes
+pub mod Spanning
+pub mod Owning
+pub mod OwnBeside

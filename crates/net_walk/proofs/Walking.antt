@@ -1,0 +1,235 @@
+-- What a walk has collected, placement after placement.
+use Rattle.std.proofs.Common.{◌≡◌, ◌⊎◌, inl, inr, ℕ, zero, suc, ◌+◌, ◌<◌, ◌≤◌, ◌-◌, List, [], ◌∷◌, Some, slice_get, get_or, length, map, pos, refl, sym, ap, ◌∙◌, subst, arith}
+use Rattle.std.proofs.Math.Decide.{ℕ_discrete}
+use Rattle.std.proofs.lemmas.Option.{slice_get_within, slice_get-get_or}
+use Rattle.flat_laws.proofs.Items.{placed_at, at_placed, items_sound}
+use Rattle.flat_layout.specs.Layout.{Design, Place, IsPlaced}
+use Rattle.flat_layout.specs.Nets.{Item, Own, Child, Global, Tables, ItemHolds, NetHolds, AreNets, items_of}
+use Rattle.flat_layout.specs.Plane.{IsIn}
+use Rattle.flat_layout.specs.Regions.{Wiring, At}
+use Rattle.geo_base.specs.Motions.{moved_square}
+use Rattle.geo_base.specs.Near.{IsNearMotion}
+use Rattle.std.proofs.lemmas.Int.{ints}
+use Rattle.geo_base.specs.declared.motion.Turn.TheVariants.{R0}
+use Rattle.geo_base.specs.declared.shapes.Rect.{Rect}
+use Rattle.geo_base.specs.declared.shapes.Square.{Square}
+use Rattle.net_link_laws.proofs.Held.{no_square, own_held, own_holds, child_held_at, child_holds, square_below, one_net}
+use Rattle.net_link_laws.proofs.Standing.{own_place, child_place, items_long, nets_under, owned_under}
+use Rattle.net_link_laws.specs.Collected.{IsOver, AreCollected, IsInNet}
+use Rattle.net_link_laws.specs.Places.{owned_before, nets_before, places_of}
+use Rattle.net_link_laws.specs.declared.piece.NetPiece.{NetPiece}
+use Rattle.net_walk.proofs.Adding.{added_none, added_both}
+use Rattle.net_walk.specs.Walk.{place_of, AreInside, AddsPieces, AreListed, AreNear, IsCollection, IsOfOwn, IsOfMoved, IsPart, HasNoPart}
+use Rattle.net_walk.specs.declared.cells.Element.{Element}
+
+-- an item of the cell itself, or of the first n placements
+abbrev IsFirst : ℕ → Item → Type 0
+IsFirst n (Own c r) = Unit {0}
+IsFirst n (Child k b) = k < n
+IsFirst n (Global g) = ⊥
+
+-- a square in the window, held by such an item of the net
+pub record IsSoFar (d : Design) (t : Tables) (cell c : ℕ) (window : Rect) (n x : ℕ) (q : Square) : Type 0 where
+  pub within : IsIn q window
+  pub item : Item
+  pub in_net : IsInNet (t.nets cell) item x
+  pub first : IsFirst n item
+  pub holds : ItemHolds d t cell item (At c q)
+
+first_more : (n : ℕ) (item : Item) → IsFirst n item → IsFirst (n + 1) item
+first_more n (Own c r) h = tt
+first_more n (Child k b) h = omega arith
+first_more n (Global g) h = h
+
+-- the placements of a list of elements
+abbrev pub no_element : Element
+no_element = record { cell = 0; motion = record { turn = R0; dx = pos 0; dy = pos 0 } }
+
+at_map : (es : List Element) (k : ℕ) → k < length es → slice_get (map place_of es) k ≡ Some (place_of (get_or es k no_element))
+at_map [] k lt = absurd (omega arith)
+at_map (e ∷ es) zero lt = refl
+at_map (e ∷ es) (suc k) lt = at_map es k (omega arith)
+
+long_map : (es : List Element) → length (map place_of es) ≡ length es
+long_map [] = refl
+long_map (e ∷ es) = let h = long_map es in omega (arith, h)
+
+pub owned_step : (t : Tables) (cell c n : ℕ) → c < n → owned_before t cell c + length (t.own cell c) ≤ owned_before t cell n
+owned_step t cell c n lt =
+    let split : (k : ℕ) × (suc c + k ≡ n) = (n - suc c, omega arith) in
+    let h = owned_under t cell (suc c) split.0 in
+    let e = ap (owned_before t cell) split.1 in
+    omega (arith, h, e)
+
+module _ (d : Design) (w : Wiring) (t : Tables) (cell : ℕ) (nets : AreNets d w t cell (t.nets cell)) where
+  -- the net of the item at a place
+  net_at : (i x : ℕ) (item : Item) → slice_get (items_of d w t cell) i ≡ Some item → slice_get (t.nets cell).net_of i ≡ Some x → IsInNet (t.nets cell) item x
+  net_at i x item h g = (i, record { listed = subst (λ (l : List Item). slice_get l i ≡ Some item) (sym nets.items) h; numbered = g })
+
+  at_net : (i x : ℕ) (item : Item) → slice_get (items_of d w t cell) i ≡ Some item → IsInNet (t.nets cell) item x → slice_get (t.nets cell).net_of i ≡ Some x
+  at_net i x item h g =
+      let within : i < length (items_of d w t cell) = slice_get_within (items_of d w t cell) i item h in
+      let same : length (t.nets cell).net_of ≡ length (items_of d w t cell) = nets.numbers ∙ ap (λ (l : List Item). length l) nets.items in
+      let enough : i < length (t.nets cell).net_of = omega arith in
+      let y = get_or (t.nets cell).net_of i 0 in
+      let numbered : slice_get (t.nets cell).net_of i ≡ Some y = slice_get-get_or (t.nets cell).net_of i 0 enough in
+      let is : y ≡ x = one_net d w t cell (t.nets cell) item y x nets (net_at i y item h numbered) g in
+      numbered ∙ ap Some is
+
+  net_long : length (t.nets cell).net_of ≡ owned_before t cell (length w.conductors) + (nets_before t (places_of d cell) (length (places_of d cell)) + length w.globals)
+  net_long = nets.numbers ∙ ap (λ (l : List Item). length l) nets.items ∙ items_long d w t cell
+
+  -- the places of own rectangles lie in the list
+  pub own_fits : (c : ℕ) → c < length w.conductors → owned_before t cell c + length (t.own cell c) ≤ length (t.nets cell).net_of
+  own_fits c lt = let long = net_long in let h = owned_step t cell c (length w.conductors) lt in omega (arith, long, h)
+
+  pub owned_fits : owned_before t cell (length w.conductors) ≤ length (t.nets cell).net_of
+  owned_fits = let long = net_long in omega (arith, long)
+
+  -- and those of a placed cell's nets
+  pub child_fits : (k : ℕ) (p : Place) → slice_get (places_of d cell) k ≡ Some p → (owned_before t cell (length w.conductors) + nets_before t (places_of d cell) k) + (t.nets p.cell).count ≤ length (t.nets cell).net_of
+  child_fits k p h = let long = net_long in let u = nets_under t (places_of d cell) k p h in omega (arith, long, u)
+
+  module _ (c : ℕ) (window : Rect) (known : c < length w.conductors) where
+    abbrev OwnPart : ℕ → Square → Type 0
+    OwnPart = IsOfOwn window (t.own cell c) (t.nets cell).net_of (owned_before t cell c) (length (t.own cell c))
+
+    own_from : (x : ℕ) (q : Square) → OwnPart x q → IsSoFar d t cell c window 0 x q
+    own_from x q k = record {
+      within = k.6;
+      item = Own c k.0;
+      in_net = net_at (owned_before t cell c + k.0) x (Own c k.0) (own_place d w t cell c k.0 known k.1) k.4;
+      first = tt;
+      holds = own_holds d t cell c k.0 k.2 q k.3 k.5;
+    }
+
+    own_to : (x : ℕ) (q : Square) → IsIn q window → (item : Item) → IsInNet (t.nets cell) item x → IsFirst 0 item → ItemHolds d t cell item (At c q) → OwnPart x q
+    own_to x q within (Own e r) net first h =
+        let o = own_held d t cell e r c q h in
+        let listed : slice_get (t.own cell c) r ≡ Some o.rect = subst (λ i. slice_get (t.own cell i) r ≡ Some o.rect) o.same o.listed in
+        let lt = slice_get_within (t.own cell c) r o.rect listed in
+        let its : IsInNet (t.nets cell) (Own c r) x = subst (λ i. IsInNet (t.nets cell) (Own i r) x) o.same net in
+        (r, lt, o.rect, listed, at_net (owned_before t cell c + r) x (Own c r) (own_place d w t cell c r known lt) its, o.inside, within)
+    own_to x q within (Child k b) net first h = absurd (omega arith)
+    own_to x q within (Global g) net first h = absurd first
+
+    pub own_first : (old new : List NetPiece) → AddsPieces window OwnPart old new → AddsPieces window (IsSoFar d t cell c window 0) old new
+    own_first old new h =
+        added_both window OwnPart (λ x q. ⊥) (IsSoFar d t cell c window 0) old new new h (added_none window (λ x q. ⊥) new (λ x q e. e))
+        (λ x q. ((λ k. inl (own_to x q k.within k.item k.in_net k.first k.holds)), (λ k. elim k [ inl a ↦ own_from x q a | inr b ↦ absurd b ])))
+
+    so_far_more : (n x : ℕ) (q : Square) → IsSoFar d t cell c window n x q → IsSoFar d t cell c window (n + 1) x q
+    so_far_more n x q h = record { within = h.within; item = h.item; in_net = h.in_net; first = first_more n h.item h.first; holds = h.holds }
+
+    -- of the next placement, or of those before
+    so_far_split : (k x : ℕ) (q : Square) → IsIn q window → (item : Item) → IsInNet (t.nets cell) item x → IsFirst (k + 1) item → ItemHolds d t cell item (At c q)
+        → IsSoFar d t cell c window k x q ⊎ ((b : ℕ) × IsInNet (t.nets cell) (Child k b) x × ItemHolds d t cell (Child k b) (At c q))
+    so_far_split k x q within (Own e r) net first h = inl (record { within = within; item = Own e r; in_net = net; first = tt; holds = h })
+    so_far_split k x q within (Child j b) net first h = elim (ℕ_discrete j k) [
+      | yes e ↦ inr (b, subst (λ i. IsInNet (t.nets cell) (Child i b) x) e net, subst (λ i. ItemHolds d t cell (Child i b) (At c q)) e h)
+      | no n ↦ inl (record { within = within; item = Child j b; in_net = net; first = (let lt : j < k = omega arith in lt); holds = h })
+    ]
+    so_far_split k x q within (Global g) net first h = absurd first
+
+    module _ (k : ℕ) (p : Place) (there : slice_get (places_of d cell) k ≡ Some p) (nets_too : AreNets d w t p.cell (t.nets p.cell)) where
+      abbrev at : ℕ
+      at = owned_before t cell (length w.conductors) + nets_before t (places_of d cell) k
+
+      placed : IsPlaced d cell k p
+      placed = placed_at d cell k p there
+
+      net_below : (b : ℕ) (m : Square) → NetHolds d t p.cell b (At c m) → b < (t.nets p.cell).count
+      net_below b m h = nets_too.below h.index b h.is_of.numbered
+
+      child_at : (b : ℕ) → b < (t.nets p.cell).count → slice_get (items_of d w t cell) (at + b) ≡ Some (Child k b)
+      child_at b lt =
+          let z : owned_before t cell (length w.conductors) + (nets_before t (places_of d cell) k + b) ≡ at + b = omega arith in
+          subst (λ i. slice_get (items_of d w t cell) i ≡ Some (Child k b)) z (child_place d w t cell k b p there lt)
+
+      pub child_none : (old new : List NetPiece) → HasNoPart d t p window → AddsPieces window (IsSoFar d t cell c window k) old new → AddsPieces window (IsSoFar d t cell c window (k + 1)) old new
+      child_none old new none h =
+          added_both window (IsSoFar d t cell c window k) (λ x q. ⊥) (IsSoFar d t cell c window (k + 1)) old new new h (added_none window (λ x q. ⊥) new (λ x q e. e))
+          (λ x q. (
+            (λ s. elim (so_far_split k x q s.within s.item s.in_net s.first s.holds) [
+              | inl a ↦ inl a
+              | inr b ↦
+                  let m = square_below d t p b.0 c q (child_held_at d t cell k b.0 p (At c q) placed b.2) in
+                  absurd (none c b.0 m.square m.holds (subst (λ (v : Square). IsIn v window) (sym m.image) s.within))
+            ]),
+            (λ s. elim s [ inl a ↦ so_far_more k x q a | inr b ↦ absurd b ]),
+          ))
+
+      module _ (inner : Rect) (below : List NetPiece) (part : IsPart d t p window inner) (seen : AreCollected d t p.cell c inner below) where
+        child_from : (x : ℕ) (q : Square) → IsOfMoved p.motion below (t.nets cell).net_of at x q → IsSoFar d t cell c window (k + 1) x q
+        child_from x q h =
+            let held = seen.each h.0 h.1 h.2 in
+            record {
+              within = subst (λ (v : Square). IsIn v window) h.4 (part.inside h.1 held.0);
+              item = Child k h.0;
+              in_net = net_at (at + h.0) x (Child k h.0) (child_at h.0 (net_below h.0 h.1 held.1)) h.3;
+              first = (let lt : k < k + 1 = omega arith in lt);
+              holds = child_holds d t cell k h.0 p (At c h.1) (At c q) placed held.1 (ap (At c) h.4);
+            }
+
+        child_to : (x : ℕ) (q : Square) (b : ℕ) → IsIn q window → IsInNet (t.nets cell) (Child k b) x → ItemHolds d t cell (Child k b) (At c q) → IsOfMoved p.motion below (t.nets cell).net_of at x q
+        child_to x q b within net h =
+            let m = square_below d t p b c q (child_held_at d t cell k b p (At c q) placed h) in
+            let image : IsIn (moved_square p.motion m.square) window = subst (λ (v : Square). IsIn v window) (sym m.image) within in
+            (b, m.square, seen.found b m.square (part.all c b m.square m.holds image) m.holds, at_net (at + b) x (Child k b) (child_at b (net_below b m.square m.holds)) net, m.image)
+
+        pub child_more : (old mid new : List NetPiece) → AddsPieces window (IsSoFar d t cell c window k) old mid → AddsPieces window (IsOfMoved p.motion below (t.nets cell).net_of at) mid new → AddsPieces window (IsSoFar d t cell c window (k + 1)) old new
+        child_more old mid new h g =
+            added_both window (IsSoFar d t cell c window k) (IsOfMoved p.motion below (t.nets cell).net_of at) (IsSoFar d t cell c window (k + 1)) old mid new h g
+            (λ x q. (
+              (λ s. elim (so_far_split k x q s.within s.item s.in_net s.first s.holds) [ inl a ↦ inl a | inr b ↦ inr (child_to x q b.0 s.within b.1 b.2) ]),
+              (λ s. elim s [ inl a ↦ so_far_more k x q a | inr b ↦ child_from x q b ]),
+            ))
+
+        listed : (ps : List NetPiece) → ((x : ℕ) (q : Square) → IsOver ps x q → IsOver below x q) → AreInside inner ps → AreListed (length (t.nets cell).net_of) at ps
+        listed [] f h = tt
+        listed (o ∷ ps) f h =
+            let q : Square = record { x = o.rect.x1; y = o.rect.y1 } in
+            let wide = h.0.rect.wide in
+            let high = h.0.rect.high in
+            let inside : IsIn q o.rect = (omega (arith, ints), wide, omega (arith, ints), high) in
+            let held = seen.each o.net q (f o.net q (inl (refl, inside))) in
+            let lt = net_below o.net q held.1 in
+            let fits = child_fits k p there in
+            (omega (arith, lt, fits), listed ps (λ x v g. f x v (inr g)) h.1)
+
+        pub below_listed : AreInside inner below → AreListed (length (t.nets cell).net_of) at below
+        below_listed h = listed below (λ x q g. g) h
+
+    -- all placements
+
+    all_first : (x : ℕ) (item : Item) → IsInNet (t.nets cell) item x → (q : Square) → ItemHolds d t cell item (At c q) → IsFirst (length (places_of d cell)) item
+    all_first x (Own e r) net q h = tt
+    all_first x (Child k b) net q h =
+        let is = items_sound d w t cell (t.nets cell) nets net.0 (Child k b) net.1.listed in
+        slice_get_within (places_of d cell) k is.0 (at_placed d cell k is.0 is.1)
+    all_first x (Global g) net q h = absurd (no_square d t cell g c q h)
+
+    pub all_collected : (n : ℕ) (out : List NetPiece) → n ≡ length (places_of d cell) → AddsPieces window (IsSoFar d t cell c window n) [] out → IsCollection d t cell c window out
+    all_collected n out e h = record {
+      collected = record {
+        each = λ x q o. elim ((h.over x q).0 o) [
+          | inl a ↦ absurd a
+          | inr s ↦ (s.within, record { index = s.in_net.0; item = s.item; is_of = s.in_net.1; holds = s.holds })
+        ];
+        found = λ x q within net.
+            let first = all_first x net.item (net.index, net.is_of) q net.holds in
+            (h.over x q).1 (inr (record { within = within; item = net.item; in_net = (net.index, net.is_of); first = subst (λ i. IsFirst i net.item) (sym e) first; holds = net.holds }));
+      };
+      inside = h.inside tt;
+    }
+
+pub element_at : (es : List Element) (ps : List Place) (k : ℕ) → map place_of es ≡ ps → k < length es → slice_get ps k ≡ Some (place_of (get_or es k no_element))
+element_at es ps k e lt = subst (λ (l : List Place). slice_get l k ≡ Some (place_of (get_or es k no_element))) e (at_map es k lt)
+
+pub as_long : (es : List Element) (ps : List Place) → map place_of es ≡ ps → length es ≡ length ps
+as_long es ps e = sym (long_map es) ∙ ap (λ (l : List Place). length l) e
+
+pub near_at : (es : List Element) (k : ℕ) → AreNear es → k < length es → IsNearMotion (get_or es k no_element).motion
+near_at [] k h lt = absurd (omega arith)
+near_at (e ∷ es) zero h lt = h.0
+near_at (e ∷ es) (suc k) h lt = near_at es k h.1 (omega arith)

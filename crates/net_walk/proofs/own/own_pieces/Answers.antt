@@ -1,0 +1,69 @@
+use Rattle.std.proofs.Common.{◌≡◌, ◌<◌, ℕ, List, length, ap, arith, subst, []}
+use Rattle.geo_base.specs.declared.shapes.Rect.{Rect}
+use Rattle.net_link_laws.proofs.Standing.{own_next}
+use Rattle.net_walk.proofs.Owning.{none_owned, owned_more}
+use Rattle.net_walk.proofs.Walking.{owned_step}
+use Rattle.net_walk.proofs.own.own_pieces.Goals as goal
+use Rattle.net_walk.specs.Owned.{IsOwned}
+use Rattle.net_walk.specs.Seen.{AddsSeen}
+
+pub push_rects-requires-clause-room : goal.push_rects-requires-clause-room
+push_rects-requires-clause-room g c =
+    let t = g.C.Cells.tables c.args.cells.now in
+    let n = length (g.C.Cells.wiring c.args.cells.now).conductors in
+    let k = c.loop-conductor.conductor in
+    let conductors = c.conductors-conductor-end.ensures in
+    let test = c.loop-conductor-test.true in
+    let lt : k < n = omega (arith, conductors, test) in
+    let h = owned_step t c.args.cell k n lt in
+    let e = ap (λ (l : List Rect). length l) c.own-own.ensures.all in
+    let i = c.loop-conductor.invariant.at in
+    let r = c.requires in
+    omega (arith, h, e, i, r)
+
+pub overflow_cast-at : goal.overflow_cast-at
+overflow_cast-at g c =
+    let t = g.C.Cells.tables c.args.cells.now in
+    let n = length (g.C.Cells.wiring c.args.cells.now).conductors in
+    let k = c.loop-conductor.conductor in
+    let conductors = c.conductors-conductor-end.ensures in
+    let test = c.loop-conductor-test.true in
+    let lt : k < n = omega (arith, conductors, test) in
+    let h = owned_step t c.args.cell k n lt in
+    let e = ap (λ (l : List Rect). length l) c.own-own.ensures.all in
+    let i = c.loop-conductor.invariant.at in
+    let r = c.requires in
+    omega (arith, h, e, i, r)
+
+pub overflow_add-at : goal.overflow_add-at
+overflow_add-at g c =
+    let t = g.C.Cells.tables c.args.cells.now in
+    let n = length (g.C.Cells.wiring c.args.cells.now).conductors in
+    let k = c.loop-conductor.conductor in
+    let conductors = c.conductors-conductor-end.ensures in
+    let test = c.loop-conductor-test.true in
+    let lt : k < n = omega (arith, conductors, test) in
+    let h = owned_step t c.args.cell k n lt in
+    let e = ap (λ (l : List Rect). length l) c.own-own.ensures.all in
+    let i = c.loop-conductor.invariant.at in
+    let r = c.requires in
+    omega (arith, h, e, i, r)
+
+pub loop-conductor-init : goal.loop-conductor-init
+loop-conductor-init g c = record { at = (let z : 0 ≡ 0 = omega arith in z); so_far = rw c.new-out.ensures.items (none_owned (g.C.Cells.tables c.args.cells.now) c.args.cell) }
+
+pub loop-conductor-preserved : goal.loop-conductor-preserved
+loop-conductor-preserved g c =
+    let t = g.C.Cells.tables c.args.cells.now in
+    let k = c.loop-conductor.conductor in
+    let next = own_next t c.args.cell k in
+    let e = ap (λ (l : List Rect). length l) c.own-own.ensures.all in
+    let i = c.loop-conductor.invariant.at in
+    let added = rw c.own-own.ensures.all at c.in_ok-push_rects.ensures in
+    record { at = omega (arith, next, e, i); so_far = owned_more t c.args.cell k c.loop-conductor.at [] c.loop-conductor.out.items c.push_rects.new.out.items i c.loop-conductor.invariant.so_far added }
+
+pub returns : goal.returns
+returns g c =
+    let conductors = c.conductors-conductor-end.ensures in
+    let end : c.loop-conductor.conductor ≡ length (g.C.Cells.wiring c.args.cells.now).conductors = omega (arith, conductors) in
+    subst (λ (n : ℕ). AddsSeen (IsOwned (g.C.Cells.tables c.args.cells.now) c.args.cell n) [] c.loop-conductor.out.items) end c.loop-conductor.invariant.so_far

@@ -1,0 +1,10 @@
+use Rattle.std.proofs.Common.{arith}
+use Rattle.std.proofs.lemmas.Int.{ints, clamps}
+use Rattle.geo_base.proofs.Spans.{same_rect}
+use Rattle.net_walk.proofs.rects.grown.Goals as goal
+
+pub returns : goal.returns
+returns c =
+    let x1 = c.requires.x1 in
+    let n = c.requires in
+    same_rect _ _ (omega (arith, ints, clamps)) (omega (arith, ints, clamps)) (omega (arith, ints, clamps)) (omega (arith, ints, clamps))

@@ -1,0 +1,31 @@
+-- Links of a rectangle of a cell and a placement.
+use Rattle.std.specs.Prelude.{◌≡◌, ◌⊎◌, ◌↔◌, ℕ, ◌+◌, List, Some, slice_get, length}
+use Rattle.flat_layout.specs.Layout.{Design, Place}
+use Rattle.flat_layout.specs.Nets.{Item, Own, Child, Tables, IsItem, AreRightBelow, items_of}
+use Rattle.flat_layout.specs.Plane.{IsIn}
+use Rattle.flat_layout.specs.Regions.{Wiring, IsJoined}
+use Rattle.geo_base.specs.declared.shapes.Rect.{Rect}
+use Rattle.geo_base.specs.declared.shapes.Square.{Square}
+use Rattle.link_classes.specs.Classes.{IsLinked}
+use Rattle.link_classes.specs.declared.classes.Link.{Link}
+use Rattle.net_link_laws.specs.Found.{IsSquareLink}
+use Rattle.net_link_laws.specs.Places.{owned_before, places_of}
+use Rattle.net_link_laws.specs.Windows.{grown}
+use Rattle.net_walk.specs.Pairs.{first_of}
+use Rattle.net_walk.specs.Seen.{AreLinksOver, IsSeen}
+use Rattle.touching_pieces.specs.Pairs.{AreJoined}
+use Rattle.touching_pieces.specs.declared.conductors.Joined.{Joined}
+
+-- of the rectangle, or of the placement in the window round it
+abbrev pub IsBesideSeen : Design → Tables → Rect → ℕ → ℕ → ℕ → Place → ℕ → ℕ → ℕ → Square → Type 0
+IsBesideSeen d t rect conductor item n p at c i q = ((conductor ≡ c) × (item ≡ i) × IsIn q rect) ⊎ IsSeen d t p (grown rect) at n c i q
+
+-- each link is one by squares between items, and each such link of the two is found
+pub record AreBesideLinks (d : Design) (w : Wiring) (t : Tables) (cell c r k : ℕ) (links : List Link) : Type 0 where
+  pub each : (i j : ℕ) → IsLinked links i j → (a : Item) × (b : Item) × (slice_get (items_of d w t cell) i ≡ Some a) × (slice_get (items_of d w t cell) j ≡ Some b) × IsSquareLink d w t cell a b
+  pub found : (x : ℕ) → IsSquareLink d w t cell (Own c r) (Child k x) → (owned_before t cell c + r ≡ first_of d w t cell k + x) ⊎ IsLinked links (owned_before t cell c + r) (first_of d w t cell k + x)
+
+abbrev pub BesidePairLaw : Type 0
+BesidePairLaw = (d : Design) (w : Wiring) (t : Tables) (cell c r k : ℕ) (p : Place) (rect : Rect) (joins : List Joined) (links : List Link) → AreRightBelow d w t cell → IsItem d w t cell (Own c r) → slice_get (t.own cell c) r ≡ Some rect
+    → slice_get (places_of d cell) k ≡ Some p → ((a e : ℕ) → AreJoined joins a e ↔ IsJoined w a e)
+    → AreLinksOver joins (IsBesideSeen d t rect c (owned_before t cell c + r) (length w.conductors) p (first_of d w t cell k)) links → AreBesideLinks d w t cell c r k links

@@ -1,0 +1,6 @@
+pub mod Walk
+pub mod Seen
+pub mod Pairs
+pub mod Relative
+pub mod Owned
+pub mod Beside

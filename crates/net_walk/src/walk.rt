@@ -1,0 +1,97 @@
+ghost use Rattle.std.specs.Prelude.{◌≡◌, ◌<◌, ◌^◌, length, IfOk, IfSome, IfNone};
+ghost use Rattle.geo_base.specs.Near.{IsNearRect, IsNearMotion};
+ghost use Rattle.geo_base.specs.Rects.{IsRect};
+ghost use Rattle.net_link_laws.specs.Laws.{AreNetsUnder};
+ghost use Rattle.net_link_laws.specs.Places.{owned_before};
+ghost use Rattle.net_walk.specs.Walk.{place_of, HasNoPart, IsCollection, IsPart, IsPartIn};
+ghost use Rattle.flat_layout.specs.Plane.{IsIn};
+ghost use Rattle.geo_base.specs.Motions.{moved_square};
+ghost use Rattle.geo_base.specs.declared.shapes.Square.{Square};
+
+use crate::cells::{Cells, Element};
+use crate::pushes::{push_moved, push_own};
+use crate::rects::{common, is_rect};
+use geo_base::{Motion, Rect};
+use net_link_laws::NetPiece;
+use std::alloc::{AllocError, Global};
+
+// Of a hull, what a motion brings into the window, where there is something.
+fn part_in(hull: &Rect, motion: &Motion, window: &Rect) -> Option<Rect>
+    requires rect { IsRect hull.now }
+    requires near { IsNearRect hull.now }
+    requires near_motion { IsNearMotion motion.now }
+    requires near_window { IsNearRect window.now }
+    ensures some { IfSome result (IsPartIn hull.now motion.now window.now) }
+    ensures none { IfNone result ((m : Square) → IsIn m hull.now → IsIn (moved_square motion.now m) window.now → ⊥) }
+{
+    let span = motion.rect(*hull);
+    let part = common(&span, window);
+    if is_rect(&part) {
+        return Some(motion.inverse().rect(part));
+    }
+    None
+}
+
+// The part of a placed cell that its placement brings into the window, where there is one.
+pub fn part_of<C: Cells>(cells: &C, element: &Element, window: &Rect) -> Option<Rect>
+    requires motion { IsNearMotion element.now.motion }
+    requires near { IsNearRect window.now }
+    ensures some { IfSome result (IsPart (C.design cells.now) (C.tables cells.now) (place_of element.now) window.now) }
+    ensures none { IfNone result (HasNoPart (C.design cells.now) (C.tables cells.now) (place_of element.now) window.now) }
+{
+    match cells.hull(element.cell) {
+        None => None,
+        Some(hull) => part_in(&hull, &element.motion, window),
+    }
+}
+
+// How many rectangles the first conductors have.
+fn owned_before<C: Cells>(cells: &C, cell: u32, conductors: u32) -> usize
+    requires { owned_before (C.tables cells.now) cell conductors < 2 ^ 64 }
+    ensures { result ≡ owned_before (C.tables cells.now) cell conductors }
+{
+    let mut at = 0;
+    for conductor in 0..conductors {
+        at += cells.own(cell, conductor).len();
+    }
+    at
+}
+
+/// The cell's nets over the squares of a conductor in the window.
+pub fn collect_nets<C: Cells>(
+    alloc: Global,
+    cells: &C,
+    cell: u32,
+    conductor: u32,
+    window: &Rect,
+) -> Result<Vec<NetPiece>, AllocError>
+    requires known { conductor < length (C.wiring cells.now).conductors }
+    requires nets { AreNetsUnder (C.design cells.now) (C.wiring cells.now) (C.tables cells.now) cell }
+    requires near { IsNearRect window.now }
+    ensures { IfOk result (λ v. IsCollection (C.design cells.now) (C.tables cells.now) cell conductor window.now v.items) }
+{
+    let mut out = Vec::new(alloc);
+    let net_of = cells.net_of(cell);
+    let first = owned_before(cells, cell, conductor);
+    push_own(cells.own(cell, conductor), net_of, first, window, &mut out)?;
+    let mut at = owned_before(cells, cell, cells.conductors());
+    for element in cells.places(cell) {
+        match part_of(cells, element, window) {
+            None => {}
+            Some(inner) => {
+                let below = collect_nets(alloc, cells, element.cell, conductor, &inner)?;
+                push_moved(
+                    &below,
+                    &element.motion,
+                    net_of,
+                    at,
+                    window,
+                    &inner,
+                    &mut out,
+                )?;
+            }
+        }
+        at += cells.count(element.cell) as usize;
+    }
+    Ok(out)
+}

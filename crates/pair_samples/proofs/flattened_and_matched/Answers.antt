@@ -1,0 +1,34 @@
+use Rattle.std.proofs.Common.{refl}
+use Rattle.composed_laws.proofs.Matching.{matched_tops}
+use Rattle.pair_samples.specs.Chain.{layout, schematic, same, left, layout_alignment, schematic_alignment, answers, pairings}
+use Rattle.pair_samples.proofs.Answering.{answered}
+use Rattle.pair_samples.proofs.Chained.{chain_pair, all_flattened, further}
+use Rattle.pair_samples.proofs.Partnered.{names_apart, namesakes}
+use Rattle.pair_samples.proofs.Sound.{sound_layout, sound_schematic, normal_layout, normal_schematic, good_layout}
+use Rattle.pair_samples.proofs.Widths.{no_width}
+use Rattle.pair_samples.proofs.flattened_and_matched.Goals as goal
+
+pub returns-clause-matched : goal.returns-clause-matched
+returns-clause-matched c = (
+  sound_layout,
+  sound_schematic,
+  normal_layout,
+  normal_schematic,
+  good_layout,
+  (chain_pair, answered, (λ k x h. refl), matched_tops layout schematic 3 1 same left schematic layout_alignment schematic_alignment chain_pair 1 answers pairings answered (λ k x h. refl)),
+)
+
+pub returns-clause-all_flattened : goal.returns-clause-all_flattened
+returns-clause-all_flattened c = all_flattened
+
+pub returns-clause-names : goal.returns-clause-names
+returns-clause-names c = names_apart
+
+pub returns-clause-namesakes : goal.returns-clause-namesakes
+returns-clause-namesakes c = namesakes
+
+pub returns-clause-further : goal.returns-clause-further
+returns-clause-further c = further
+
+pub returns-clause-width : goal.returns-clause-width
+returns-clause-width c = no_width

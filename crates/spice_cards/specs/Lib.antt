@@ -1,0 +1,4 @@
+pub mod Tokens
+pub mod Cards
+pub mod Parts
+pub mod Seen

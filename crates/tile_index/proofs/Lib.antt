@@ -1,0 +1,3 @@
+pub mod Meeting
+pub mod Positions
+pub mod Walks

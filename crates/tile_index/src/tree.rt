@@ -1,0 +1,166 @@
+// A tree over entries. A node stands for neighbouring ones; its rectangle holds theirs. The nodes
+// that it is made of stand right before it, those of later entries first, so that a walk from the
+// last node to the first passes over them in one step where it need not look.
+ghost use Rattle.std.specs.Prelude.{◌≡◌, ◌+◌, ◌-◌, ◌<◌, ◌≤◌, ◌++◌, IfOk, OnOk, length, map, [], take, drop};
+ghost use Rattle.std.specs.List.{filter};
+ghost use Rattle.tile_index.specs.Windows.{overlap, meets, union};
+ghost use Rattle.tile_index.specs.Entries.{hits};
+ghost use Rattle.tile_index.specs.Trees.{AreNodes, IsAbove, Grows, HoldsAll, begin_of, IsTree, IsPart, part};
+
+use crate::entries::Entry;
+use geo_base::Rect;
+use std::alloc::{AllocError, Global};
+
+/// How many entries are looked at one by one.
+const BUNCH: usize = 16;
+
+/// Stands for the entries from one number up to another. `skip` counts the nodes that stand before
+/// those that it is made of.
+#[derive(Clone, Copy, Debug)]
+pub struct Node {
+    pub hull: Rect,
+    pub from: usize,
+    pub to: usize,
+    pub skip: usize,
+}
+
+// Whether two ranges share a number, where each ends before its second.
+fn overlap(low: i64, high: i64, from: i64, to: i64) -> bool
+    ensures { result ≡ overlap low high from to }
+{
+    low.max(from) < high.min(to)
+}
+
+// Whether two rectangles share a square.
+fn meets(a: &Rect, b: &Rect) -> bool
+    ensures { result ≡ meets a.now b.now }
+{
+    overlap(a.x1, a.x2, b.x1, b.x2) && overlap(a.y1, a.y2, b.y1, b.y2)
+}
+
+// The least rectangle that holds both.
+fn union(a: &Rect, b: &Rect) -> Rect
+    ensures { result ≡ union a.now b.now }
+{
+    Rect {
+        x1: a.x1.min(b.x1),
+        y1: a.y1.min(b.y1),
+        x2: a.x2.max(b.x2),
+        y2: a.y2.max(b.y2),
+    }
+}
+
+// The least rectangle that holds those of the entries.
+fn hull_of(entries: &[Entry]) -> Rect
+    requires { 0 < length entries.now }
+    ensures { HoldsAll entries.now result }
+{
+    let mut hull = entries[0].rect;
+    for entry in entries {
+        hull = union(&hull, &entry.rect);
+    }
+    hull
+}
+
+// Adds the node of the entries from one number up to another, made of the nodes from `skip` on.
+fn push_node(
+    nodes: &mut Vec<Node>,
+    entries: &[Entry],
+    from: usize,
+    to: usize,
+    skip: usize,
+) -> Result<(), AllocError>
+    requires some { from < to }
+    requires inside { to ≤ length entries.now }
+    requires nodes { AreNodes entries.now nodes.old.items }
+    requires above { IsAbove entries.now nodes.old.items from to skip }
+    ensures { OnOk result (Grows entries.now from nodes.old.items nodes.new.items) }
+{
+    let hull = hull_of(&entries[from..to]);
+    nodes.push(Node {
+        hull,
+        from,
+        to,
+        skip,
+    })?;
+    Ok(())
+}
+
+// Adds the nodes of the entries from one number up to another.
+fn grow(nodes: &mut Vec<Node>, entries: &[Entry], from: usize, to: usize) -> Result<(), AllocError>
+    requires some { from < to }
+    requires inside { to ≤ length entries.now }
+    requires nodes { AreNodes entries.now nodes.old.items }
+    requires next { begin_of entries.now nodes.old.items (length nodes.old.items) ≡ to }
+    ensures { OnOk result (Grows entries.now from nodes.old.items nodes.new.items) }
+{
+    let skip = nodes.len();
+    if to - from <= BUNCH {
+        return push_node(nodes, entries, from, to, skip);
+    }
+    let middle = from + (to - from) / 2;
+    grow(nodes, entries, middle, to)?;
+    grow(nodes, entries, from, middle)?;
+    push_node(nodes, entries, from, to, skip)
+}
+
+/// The nodes of all entries.
+pub fn tree_of(alloc: Global, entries: &[Entry]) -> Result<Vec<Node>, AllocError>
+    ensures { IfOk result (λ v. IsTree entries.now v.items) }
+{
+    let mut nodes = Vec::new(alloc);
+    if entries.is_empty() {
+        return Ok(nodes);
+    }
+    grow(&mut nodes, entries, 0, entries.len())?;
+    Ok(nodes)
+}
+
+// Adds the positions of the entries that share a square with the window.
+fn push_hits(found: &mut Vec<u32>, entries: &[Entry], w: &Rect) -> Result<(), AllocError>
+    ensures { OnOk result (found.new.items ≡ found.old.items ++ hits w.now entries.now) }
+{
+    for entry in entries {
+        if meets(&entry.rect, w) {
+            found.push(entry.position)?;
+        }
+    }
+    Ok(())
+}
+
+// Adds those under a node.
+fn push_under(
+    found: &mut Vec<u32>,
+    entries: &[Entry],
+    node: &Node,
+    w: &Rect,
+) -> Result<(), AllocError>
+    requires { IsPart entries.now node.now }
+    ensures { OnOk result (found.new.items ≡ found.old.items ++ hits w.now (part entries.now node.now)) }
+{
+    push_hits(found, &entries[node.from..node.to], w)
+}
+
+/// The positions of the entries that share a square with the window.
+pub fn hits(
+    alloc: Global,
+    nodes: &[Node],
+    entries: &[Entry],
+    w: &Rect,
+) -> Result<Vec<u32>, AllocError>
+    requires { IsTree entries.now nodes.now }
+    ensures { IfOk result (λ v. v.items ≡ hits w.now entries.now) }
+{
+    let mut found = Vec::new(alloc);
+    let mut i = nodes.len();
+    while 0 < i {
+        i -= 1;
+        let node = &nodes[i];
+        if !meets(&node.hull, w) {
+            i = node.skip;
+        } else if node.skip == i {
+            push_under(&mut found, entries, node, w)?;
+        }
+    }
+    Ok(found)
+}

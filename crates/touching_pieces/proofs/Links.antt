@@ -1,0 +1,403 @@
+-- Links that are added for pieces in touch.
+use Rattle.std.proofs.Common.{◌≡◌, ◌⊎◌, inl, inr, ℕ, ◌<◌, ◌+◌, ◌==◌, ℤ, pos, ◌<ℤ◌, ◌≤ℤ◌, int_le, int_lt, Bool, true, false, List, [], ◌∷◌, ◌++◌, length, take, get_or, refl, sym, ap, ◌∙◌, subst, arith, ◌↔◌}
+use Rattle.std.specs.List.{filter}
+use Rattle.std.proofs.Math.Decide.{ℕ_discrete}
+use Rattle.std.proofs.Math.Seq.{take-length}
+use Rattle.std.proofs.lemmas.Int.{ints, by_lt_z}
+use Rattle.std.proofs.lemmas.Bool.{false≢true, eq-eqb}
+use Rattle.std.proofs.lemmas.List.{take_more}
+use Rattle.std.proofs.lemmas.Bool.Decides.{eqb_tells}
+use Rattle.flat_layout.specs.Layout.{Some_of}
+use Rattle.geo_base.specs.declared.shapes.Rect.{Rect}
+use Rattle.link_classes.specs.Classes.{IsLinked, IsOf}
+use Rattle.link_classes.specs.declared.classes.Link.{Link}
+use Rattle.plain_netlist.proofs.Links.{stays, single, along}
+use Rattle.touching_pieces.proofs.Sides.{AreBeside, sides, touching_turned, le_to, lt_to}
+use Rattle.touching_pieces.specs.Pairs.{IsAmong, AreInTouch, AddsLinks, AddsTouching, begins_by, ends_behind, lows, highs, of_conductor, AreOf, AreInTouchVia, AreInTouchOf, AreJoined, AreTied, AreLinksOf}
+use Rattle.touching_pieces.specs.Touching.{AreTouching}
+use Rattle.touching_pieces.specs.declared.conductors.Joined.{Joined}
+use Rattle.touching_pieces.specs.declared.cuts.Axis.TheVariants.{X, Y}
+use Rattle.touching_pieces.specs.declared.cuts.Cut.{Cut}
+use Rattle.touching_pieces.specs.declared.pieces.Piece.{Piece}
+
+-- links
+
+of_back : (l : Link) (i j : ℕ) → IsOf l i j → IsOf l j i
+of_back l i j (inl e) = inr e
+of_back l i j (inr e) = inl e
+
+pub linked_back : (ls : List Link) (i j : ℕ) → IsLinked ls i j → IsLinked ls j i
+linked_back [] i j h = absurd h
+linked_back (l ∷ ls) i j (inl h) = inl (of_back l i j h)
+linked_back (l ∷ ls) i j (inr h) = inr (linked_back ls i j h)
+
+linked_left : (ls ms : List Link) (i j : ℕ) → IsLinked ls i j → IsLinked (ls ++ ms) i j
+linked_left [] ms i j h = absurd h
+linked_left (l ∷ ls) ms i j (inl h) = inl h
+linked_left (l ∷ ls) ms i j (inr h) = inr (linked_left ls ms i j h)
+
+linked_last : (ls : List Link) (l : Link) (i j : ℕ) → IsOf l i j → IsLinked (ls ++ l ∷ []) i j
+linked_last [] l i j h = inl h
+linked_last (m ∷ ls) l i j h = inr (linked_last ls l i j h)
+
+linked_either : (ls : List Link) (l : Link) (i j : ℕ) → IsLinked (ls ++ l ∷ []) i j → IsLinked ls i j ⊎ IsOf l i j
+linked_either [] l i j (inl h) = inr h
+linked_either [] l i j (inr h) = absurd h
+linked_either (m ∷ ls) l i j (inl h) = inl (inl h)
+linked_either (m ∷ ls) l i j (inr h) = elim (linked_either ls l i j h) [ inl a ↦ inl (inr a) | inr b ↦ inr b ]
+
+-- adding links
+
+pub added_none : (R : ℕ → ℕ → Type 0) (ls : List Link) → ((i j : ℕ) → R i j → i ≡ j) → AddsLinks R ls ls
+added_none R ls same = record { kept = λ i j h. h; each = λ i j h. inl h; found = λ i j h. inl (same i j h) }
+
+-- a link for the one pair of a relation
+pub added_one : (R : ℕ → ℕ → Type 0) (ls : List Link) (a b : ℕ) → R a b → ((i j : ℕ) → R i j → (a ≡ i) × (b ≡ j)) → AddsLinks R ls (ls ++ record { one = a; other = b } ∷ [])
+added_one R ls a b r same =
+    let l : Link = record { one = a; other = b } in
+    record {
+      kept = λ i j h. linked_left ls (l ∷ []) i j h;
+      each = λ i j h. elim (linked_either ls l i j h) [
+        | inl k ↦ inl k
+        | inr k ↦ inr (elim k [
+          | inl e ↦ inl (subst (λ x. R x j) e.0 (subst (λ y. R a y) e.1 r))
+          | inr e ↦ inr (subst (λ x. R x i) e.0 (subst (λ y. R a y) e.1 r))
+        ])
+      ];
+      found = λ i j h. inr (linked_last ls l i j (inl (same i j h)));
+    }
+
+-- links for one relation and then for another are links for a third that is either
+pub added_both : (R S T : ℕ → ℕ → Type 0) (old mid new : List Link) → AddsLinks R old mid → AddsLinks S mid new
+    → ((i j : ℕ) → R i j → T i j) → ((i j : ℕ) → S i j → T i j) → ((i j : ℕ) → T i j → R i j ⊎ S i j) → AddsLinks T old new
+added_both R S T old mid new h g r s t = record {
+  kept = λ i j k. g.kept i j (h.kept i j k);
+  each = λ i j k. elim (g.each i j k) [
+    | inl m ↦ elim (h.each i j m) [
+      | inl o ↦ inl o
+      | inr o ↦ inr (elim o [ inl a ↦ inl (r i j a) | inr b ↦ inr (r j i b) ])
+    ]
+    | inr m ↦ inr (elim m [ inl a ↦ inl (s i j a) | inr b ↦ inr (s j i b) ])
+  ];
+  found = λ i j k. elim (t i j k) [
+    | inl a ↦ elim (h.found i j a) [ inl e ↦ inl e | inr m ↦ inr (g.kept i j m) ]
+    | inr b ↦ g.found i j b
+  ];
+}
+
+-- the same links for a relation that is the same
+pub added_same : (R S : ℕ → ℕ → Type 0) (old new : List Link) → AddsLinks R old new → ((i j : ℕ) → R i j ↔ S i j) → AddsLinks S old new
+added_same R S old new h e = record {
+  kept = h.kept;
+  each = λ i j k. elim (h.each i j k) [ inl m ↦ inl m | inr m ↦ inr (elim m [ inl a ↦ inl ((e i j).0 a) | inr b ↦ inr ((e j i).0 b) ]) ];
+  found = λ i j k. h.found i j ((e i j).1 k);
+}
+
+-- lists of pieces
+
+among_left : (ps qs : List Piece) (p : Piece) → IsAmong p ps → IsAmong p (ps ++ qs)
+among_left [] qs p h = absurd h
+among_left (x ∷ ps) qs p (inl e) = inl e
+among_left (x ∷ ps) qs p (inr h) = inr (among_left ps qs p h)
+
+among_right : (ps qs : List Piece) (p : Piece) → IsAmong p qs → IsAmong p (ps ++ qs)
+among_right [] qs p h = h
+among_right (x ∷ ps) qs p h = inr (among_right ps qs p h)
+
+among_either : (ps qs : List Piece) (p : Piece) → IsAmong p (ps ++ qs) → IsAmong p ps ⊎ IsAmong p qs
+among_either [] qs p h = inr h
+among_either (x ∷ ps) qs p (inl e) = inl (inl e)
+among_either (x ∷ ps) qs p (inr h) = elim (among_either ps qs p h) [ inl a ↦ inl (inr a) | inr b ↦ inr b ]
+
+in_touch_weaker : (ms bs cs ds : List Piece) → ((p : Piece) → IsAmong p ms → IsAmong p cs) → ((p : Piece) → IsAmong p bs → IsAmong p ds) → (i j : ℕ) → AreInTouch ms bs i j → AreInTouch cs ds i j
+in_touch_weaker ms bs cs ds f g i j h = record { one = h.one; other = h.other; in_ones = f h.one h.in_ones; in_others = g h.other h.in_others; touching = h.touching; from = h.from; to = h.to }
+
+pub others_more : (ps qs rs : List Piece) (old mid new : List Link) → AddsTouching ps qs old mid → AddsTouching ps rs mid new → AddsTouching ps (qs ++ rs) old new
+others_more ps qs rs old mid new h g =
+    added_both (AreInTouch ps qs) (AreInTouch ps rs) (AreInTouch ps (qs ++ rs)) old mid new h g
+    (in_touch_weaker ps qs ps (qs ++ rs) (λ p k. k) (among_left qs rs))
+    (in_touch_weaker ps rs ps (qs ++ rs) (λ p k. k) (among_right qs rs))
+    (λ i j k. elim (among_either qs rs k.other k.in_others) [
+      | inl m ↦ inl (record { one = k.one; other = k.other; in_ones = k.in_ones; in_others = m; touching = k.touching; from = k.from; to = k.to })
+      | inr m ↦ inr (record { one = k.one; other = k.other; in_ones = k.in_ones; in_others = m; touching = k.touching; from = k.from; to = k.to })
+    ])
+
+pub ones_more : (ps qs rs : List Piece) (old mid new : List Link) → AddsTouching ps rs old mid → AddsTouching qs rs mid new → AddsTouching (ps ++ qs) rs old new
+ones_more ps qs rs old mid new h g =
+    added_both (AreInTouch ps rs) (AreInTouch qs rs) (AreInTouch (ps ++ qs) rs) old mid new h g
+    (in_touch_weaker ps rs (ps ++ qs) rs (among_left ps qs) (λ p k. k))
+    (in_touch_weaker qs rs (ps ++ qs) rs (among_right ps qs) (λ p k. k))
+    (λ i j k. elim (among_either ps qs k.one k.in_ones) [
+      | inl m ↦ inl (record { one = k.one; other = k.other; in_ones = m; in_others = k.in_others; touching = k.touching; from = k.from; to = k.to })
+      | inr m ↦ inr (record { one = k.one; other = k.other; in_ones = m; in_others = k.in_others; touching = k.touching; from = k.from; to = k.to })
+    ])
+
+pub others_at : (ps qs : List Piece) (k : ℕ) (d : Piece) (old mid new : List Link) → k < length qs → AddsTouching ps (take k qs) old mid → AddsTouching ps (get_or qs k d ∷ []) mid new → AddsTouching ps (take (k + 1) qs) old new
+others_at ps qs k d old mid new lt h g = subst (λ (xs : List Piece). AddsTouching ps xs old new) (sym (take_more qs k d lt)) (others_more ps (take k qs) (get_or qs k d ∷ []) old mid new h g)
+
+pub ones_at : (ps qs : List Piece) (k : ℕ) (d : Piece) (old mid new : List Link) → k < length ps → AddsTouching (take k ps) qs old mid → AddsTouching (get_or ps k d ∷ []) qs mid new → AddsTouching (take (k + 1) ps) qs old new
+ones_at ps qs k d old mid new lt h g = subst (λ (xs : List Piece). AddsTouching xs qs old new) (sym (take_more ps k d lt)) (ones_more (take k ps) (get_or ps k d ∷ []) qs old mid new h g)
+
+pub others_all : (ps qs : List Piece) (k : ℕ) (old new : List Link) → k ≡ length qs → AddsTouching ps (take k qs) old new → AddsTouching ps qs old new
+others_all ps qs k old new e h = subst (λ (xs : List Piece). AddsTouching ps xs old new) (ap (λ n. take n qs) e ∙ take-length qs) h
+
+pub ones_all : (ps qs : List Piece) (k : ℕ) (old new : List Link) → k ≡ length ps → AddsTouching (take k ps) qs old new → AddsTouching ps qs old new
+ones_all ps qs k old new e h = subst (λ (xs : List Piece). AddsTouching xs qs old new) (ap (λ n. take n ps) e ∙ take-length ps) h
+
+-- a piece that stands past a list's end
+abbrev pub no_piece : Piece
+no_piece = record { conductor = 0; rect = record { x1 = pos 0; y1 = pos 0; x2 = pos 0; y2 = pos 0 }; item = 0 }
+
+pub nothing_others : (ps : List Piece) (ls : List Link) → AddsTouching ps [] ls ls
+nothing_others ps ls = added_none (AreInTouch ps []) ls (λ i j h. absurd h.in_others)
+
+pub nothing_ones : (qs : List Piece) (ls : List Link) → AddsTouching [] qs ls ls
+nothing_ones qs ls = added_none (AreInTouch [] qs) ls (λ i j h. absurd h.in_ones)
+
+-- one piece beside another
+
+are : (p q : Piece) (i j : ℕ) → AreInTouch (p ∷ []) (q ∷ []) i j → (p.item ≡ i) × (q.item ≡ j) × AreTouching p.rect q.rect
+are p q i j h =
+    let e : h.one ≡ p = elim h.in_ones [ inl k ↦ k | inr k ↦ absurd k ] in
+    let f : h.other ≡ q = elim h.in_others [ inl k ↦ k | inr k ↦ absurd k ] in (
+      subst (λ (x : Piece). x.item ≡ i) e h.from,
+      subst (λ (x : Piece). x.item ≡ j) f h.to,
+      subst (λ (x : Piece). AreTouching p.rect x.rect) f (subst (λ (x : Piece). AreTouching x.rect h.other.rect) e h.touching),
+    )
+
+pub one_linked : (p q : Piece) (ls : List Link) → AreTouching p.rect q.rect → AddsTouching (p ∷ []) (q ∷ []) ls (ls ++ record { one = p.item; other = q.item } ∷ [])
+one_linked p q ls t =
+    added_one (AreInTouch (p ∷ []) (q ∷ [])) ls p.item q.item
+    (record { one = p; other = q; in_ones = inl refl; in_others = inl refl; touching = t; from = refl; to = refl })
+    (λ i j h. let k = are p q i j h in (k.0, k.1))
+
+pub one_apart : (p q : Piece) (ls : List Link) → (AreTouching p.rect q.rect → ⊥) → AddsTouching (p ∷ []) (q ∷ []) ls ls
+one_apart p q ls not = added_none (AreInTouch (p ∷ []) (q ∷ [])) ls (λ i j h. absurd (not (are p q i j h).2))
+
+pub one_same : (p q : Piece) (ls : List Link) → p.item ≡ q.item → AddsTouching (p ∷ []) (q ∷ []) ls ls
+one_same p q ls e = added_none (AreInTouch (p ∷ []) (q ∷ [])) ls (λ i j h. let k = are p q i j h in sym k.0 ∙ e ∙ k.1)
+
+-- what a filter keeps
+
+either : (b : Bool) → (b ≡ true) ⊎ (b ≡ false)
+either true = inl refl
+either false = inr refl
+
+among_of : (f : Piece → Bool) (ps : List Piece) (p : Piece) → IsAmong p (filter f ps) → IsAmong p ps × (f p ≡ true)
+among_of f [] p h = absurd h
+among_of f (x ∷ ps) p h = elim (either (f x)) [
+  | inl e ↦
+      let k : IsAmong p (x ∷ filter f ps) = rw e at h in
+      elim k [
+        | inl same ↦ (inl same, subst (λ (y : Piece). f y ≡ true) (sym same) e)
+        | inr m ↦ let g = among_of f ps p m in (inr g.0, g.1)
+      ]
+  | inr e ↦
+      let k : IsAmong p (filter f ps) = rw e at h in
+      let g = among_of f ps p k in (inr g.0, g.1)
+]
+
+among_to : (f : Piece → Bool) (ps : List Piece) (p : Piece) → IsAmong p ps → f p ≡ true → IsAmong p (filter f ps)
+among_to f [] p h e = absurd h
+among_to f (x ∷ ps) p (inl same) e =
+    let k : f x ≡ true = subst (λ (y : Piece). f y ≡ true) same e in
+    rw k (inl same)
+among_to f (x ∷ ps) p (inr h) e = elim (either (f x)) [
+  | inl k ↦ rw k (inr (among_to f ps p h e))
+  | inr k ↦ rw k (among_to f ps p h e)
+]
+
+split : (at a c b d : ℤ) → a <ℤ c → b <ℤ d → a ≤ℤ d → b ≤ℤ c → ((int_le a at ≡ true) × (int_le b at ≡ true)) ⊎ ((int_lt at c ≡ true) × (int_lt at d ≡ true))
+split at a c b d s t h g = by_lt_z at a
+    (λ lt. inr (lt_to at c (omega (arith, ints)), lt_to at d (omega (arith, ints))))
+    (λ le. by_lt_z at b
+    (λ lt. inr (lt_to at c (omega (arith, ints)), lt_to at d (omega (arith, ints))))
+    (λ ke. inl (le_to a at le, le_to b at ke)))
+
+-- two that touch lie both in the one part or both in the other
+low_or_high : (cut : Cut) (a b : Rect) → AreBeside a b → ((begins_by cut a ≡ true) × (begins_by cut b ≡ true)) ⊎ ((ends_behind cut a ≡ true) × (ends_behind cut b ≡ true))
+low_or_high cut a b h = elim cut.axis as (λ x. ((elim x [ X ↦ int_le a.x1 cut.at | Y ↦ int_le a.y1 cut.at ] ≡ true) × (elim x [ X ↦ int_le b.x1 cut.at | Y ↦ int_le b.y1 cut.at ] ≡ true)) ⊎ ((elim x [ X ↦ int_lt cut.at a.x2 | Y ↦ int_lt cut.at a.y2 ] ≡ true) × (elim x [ X ↦ int_lt cut.at b.x2 | Y ↦ int_lt cut.at b.y2 ] ≡ true))) [
+  | X ↦ split cut.at a.x1 a.x2 b.x1 b.x2 h.wide h.wide' h.x h.x'
+  | Y ↦ split cut.at a.y1 a.y2 b.y1 b.y2 h.high h.high' h.y h.y'
+]
+
+pub halves : (cut : Cut) (ps qs : List Piece) (old mid new : List Link) → AddsTouching (lows cut ps) (lows cut qs) old mid → AddsTouching (highs cut ps) (highs cut qs) mid new → AddsTouching ps qs old new
+halves cut ps qs old mid new h g =
+    let f : Piece → Bool = λ (p : Piece). begins_by cut p.rect in
+    let e : Piece → Bool = λ (p : Piece). ends_behind cut p.rect in
+    added_both (AreInTouch (lows cut ps) (lows cut qs)) (AreInTouch (highs cut ps) (highs cut qs)) (AreInTouch ps qs) old mid new h g
+    (in_touch_weaker (lows cut ps) (lows cut qs) ps qs (λ p k. (among_of f ps p k).0) (λ p k. (among_of f qs p k).0))
+    (in_touch_weaker (highs cut ps) (highs cut qs) ps qs (λ p k. (among_of e ps p k).0) (λ p k. (among_of e qs p k).0))
+    (λ i j k. elim (low_or_high cut k.one.rect k.other.rect (sides k.one.rect k.other.rect k.touching)) [
+      | inl m ↦ inl (record { one = k.one; other = k.other; in_ones = among_to f ps k.one k.in_ones m.0; in_others = among_to f qs k.other k.in_others m.1; touching = k.touching; from = k.from; to = k.to })
+      | inr m ↦ inr (record { one = k.one; other = k.other; in_ones = among_to e ps k.one k.in_ones m.0; in_others = among_to e qs k.other k.in_others m.1; touching = k.touching; from = k.from; to = k.to })
+    ])
+
+-- pieces of conductors
+
+test_of : (a b : ℕ) → (a == b) ≡ true → a ≡ b
+test_of a b e = elim (eqb_tells a b) [ inl h ↦ h.1 | inr h ↦ absurd (false≢true (sym h.0 ∙ e)) ]
+
+of_to : (ps : List Piece) (p : Piece) (c : ℕ) → IsAmong p ps → p.conductor ≡ c → IsAmong p (of_conductor c ps)
+of_to ps p c h e = among_to (λ (q : Piece). q.conductor == c) ps p h (eq-eqb p.conductor c e)
+
+of_from : (ps : List Piece) (p : Piece) (c : ℕ) → IsAmong p (of_conductor c ps) → IsAmong p ps × (p.conductor ≡ c)
+of_from ps p c h = let k = among_of (λ (q : Piece). q.conductor == c) ps p h in (k.0, test_of p.conductor c k.1)
+
+abbrev Via : Joined → List Piece → ℕ → ℕ → ℕ → Type 0
+Via l ps c i j = (l.first ≡ c) × AreInTouch (of_conductor c ps) (of_conductor l.second ps) i j
+
+via_left : (ls : List Joined) (l : Joined) (ps : List Piece) (c i j : ℕ) → AreInTouchVia ls ps c i j → AreInTouchVia (ls ++ l ∷ []) ps c i j
+via_left [] l ps c i j h = absurd h
+via_left (x ∷ ls) l ps c i j (inl h) = inl h
+via_left (x ∷ ls) l ps c i j (inr h) = inr (via_left ls l ps c i j h)
+
+via_last : (ls : List Joined) (l : Joined) (ps : List Piece) (c i j : ℕ) → Via l ps c i j → AreInTouchVia (ls ++ l ∷ []) ps c i j
+via_last [] l ps c i j h = inl h
+via_last (x ∷ ls) l ps c i j h = inr (via_last ls l ps c i j h)
+
+via_either : (ls : List Joined) (l : Joined) (ps : List Piece) (c i j : ℕ) → AreInTouchVia (ls ++ l ∷ []) ps c i j → AreInTouchVia ls ps c i j ⊎ Via l ps c i j
+via_either [] l ps c i j (inl h) = inr h
+via_either [] l ps c i j (inr h) = absurd h
+via_either (x ∷ ls) l ps c i j (inl h) = inl (inl h)
+via_either (x ∷ ls) l ps c i j (inr h) = elim (via_either ls l ps c i j h) [ inl a ↦ inl (inr a) | inr b ↦ inr b ]
+
+pub no_line : (ps : List Piece) (c : ℕ) (old new : List Link) → AddsTouching (of_conductor c ps) (of_conductor c ps) old new → AddsLinks (AreInTouchOf [] ps c) old new
+no_line ps c old new h = added_same (AreInTouch (of_conductor c ps) (of_conductor c ps)) (AreInTouchOf [] ps c) old new h (λ i j. ((λ k. inl k), (λ k. elim k [ inl m ↦ m | inr m ↦ absurd m ])))
+
+pub line_more : (ls : List Joined) (l : Joined) (ps : List Piece) (c : ℕ) (old mid new : List Link) → AddsLinks (AreInTouchOf ls ps c) old mid → l.first ≡ c
+    → AddsTouching (of_conductor c ps) (of_conductor l.second ps) mid new → AddsLinks (AreInTouchOf (ls ++ l ∷ []) ps c) old new
+line_more ls l ps c old mid new h e g =
+    added_both (AreInTouchOf ls ps c) (AreInTouch (of_conductor c ps) (of_conductor l.second ps)) (AreInTouchOf (ls ++ l ∷ []) ps c) old mid new h g
+    (λ i j k. elim k [ inl m ↦ inl m | inr m ↦ inr (via_left ls l ps c i j m) ])
+    (λ i j k. inr (via_last ls l ps c i j (e, k)))
+    (λ i j k. elim k [
+      | inl m ↦ inl (inl m)
+      | inr m ↦ elim (via_either ls l ps c i j m) [ inl a ↦ inl (inr a) | inr b ↦ inr b.1 ]
+    ])
+
+pub line_other : (ls : List Joined) (l : Joined) (ps : List Piece) (c : ℕ) (old new : List Link) → AddsLinks (AreInTouchOf ls ps c) old new → (l.first ≡ c → ⊥) → AddsLinks (AreInTouchOf (ls ++ l ∷ []) ps c) old new
+line_other ls l ps c old new h not =
+    added_same (AreInTouchOf ls ps c) (AreInTouchOf (ls ++ l ∷ []) ps c) old new h (λ i j. (
+      (λ k. elim k [ inl m ↦ inl m | inr m ↦ inr (via_left ls l ps c i j m) ]),
+      (λ k. elim k [
+        | inl m ↦ inl m
+        | inr m ↦ elim (via_either ls l ps c i j m) [ inl a ↦ inr a | inr b ↦ absurd (not b.0) ]
+      ]),
+    ))
+
+pub line_at : (ls : List Joined) (k : ℕ) (d : Joined) (ps : List Piece) (c : ℕ) (old mid new : List Link) → k < length ls → AddsLinks (AreInTouchOf (take k ls) ps c) old mid
+    → ((get_or ls k d).first ≡ c → AddsTouching (of_conductor c ps) (of_conductor (get_or ls k d).second ps) mid new) → (((get_or ls k d).first ≡ c → ⊥) → new ≡ mid)
+    → AddsLinks (AreInTouchOf (take (k + 1) ls) ps c) old new
+line_at ls k d ps c old mid new lt h line other =
+    let l = get_or ls k d in
+    let now : AddsLinks (AreInTouchOf (take k ls ++ l ∷ []) ps c) old new = elim (ℕ_discrete l.first c) [
+      | yes e ↦ line_more (take k ls) l ps c old mid new h e (line e)
+      | no n ↦ subst (λ (xs : List Link). AddsLinks (AreInTouchOf (take k ls ++ l ∷ []) ps c) old xs) (sym (other n)) (line_other (take k ls) l ps c old mid h n)
+    ] in
+    subst (λ (xs : List Joined). AddsLinks (AreInTouchOf xs ps c) old new) (sym (take_more ls k d lt)) now
+
+pub lines_all : (ls : List Joined) (k : ℕ) (ps : List Piece) (c : ℕ) (old new : List Link) → k ≡ length ls → AddsLinks (AreInTouchOf (take k ls) ps c) old new → AddsLinks (AreInTouchOf ls ps c) old new
+lines_all ls k ps c old new e h = subst (λ (xs : List Joined). AddsLinks (AreInTouchOf xs ps c) old new) (ap (λ n. take n ls) e ∙ take-length ls) h
+
+abbrev pub no_line_at : Joined
+no_line_at = record { first = 0; second = 0 }
+
+-- the first conductors
+
+abbrev UpTo : List Joined → List Piece → ℕ → ℕ → ℕ → Type 0
+UpTo joins ps n i j = (c : ℕ) × (c < n) × AreInTouchOf joins ps c i j
+
+pub none_yet : (joins : List Joined) (ps : List Piece) → AddsLinks (λ i j. UpTo joins ps 0 i j) [] []
+none_yet joins ps = added_none (λ i j. UpTo joins ps 0 i j) [] (λ i j h. let lt = h.1 in absurd (omega arith))
+
+pub conductor_more : (joins : List Joined) (ps : List Piece) (n : ℕ) (mid new : List Link) → AddsLinks (λ i j. UpTo joins ps n i j) [] mid → AddsLinks (AreInTouchOf joins ps n) mid new → AddsLinks (λ i j. UpTo joins ps (n + 1) i j) [] new
+conductor_more joins ps n mid new h g =
+    added_both (λ i j. UpTo joins ps n i j) (AreInTouchOf joins ps n) (λ i j. UpTo joins ps (n + 1) i j) [] mid new h g
+    (λ i j k. let lt = k.1 in (k.0, omega arith, k.2))
+    (λ i j k. (n, omega arith, k))
+    (λ i j k. elim (ℕ_discrete k.0 n) [
+      | yes e ↦ inr (subst (λ c. AreInTouchOf joins ps c i j) e k.2)
+      | no m ↦ let lt = k.1 in inl (k.0, omega arith, k.2)
+    ])
+
+via_tied : (joins : List Joined) (ps : List Piece) (c i j : ℕ) → AreInTouchVia joins ps c i j
+    → (l : Joined) × Some_of (λ m. m ≡ l) joins × (l.first ≡ c) × AreInTouch (of_conductor c ps) (of_conductor l.second ps) i j
+via_tied [] ps c i j h = absurd h
+via_tied (l ∷ ls) ps c i j (inl h) = (l, inl refl, h.0, h.1)
+via_tied (l ∷ ls) ps c i j (inr h) = let k = via_tied ls ps c i j h in (k.0, inr k.1, k.2, k.3)
+
+joined_by : (joins : List Joined) (l : Joined) → Some_of (λ m. m ≡ l) joins → AreJoined joins l.first l.second
+joined_by [] l h = absurd h
+joined_by (m ∷ ls) l (inl e) = inr (inl (inl (ap (λ (k : Joined). k.first) e, ap (λ (k : Joined). k.second) e)))
+joined_by (m ∷ ls) l (inr h) = elim (joined_by ls l h) [ inl e ↦ inl e | inr k ↦ inr (inr k) ]
+
+tied_of : (joins : List Joined) (ps : List Piece) (c i j : ℕ) → AreInTouchOf joins ps c i j → AreTied joins ps i j
+tied_of joins ps c i j (inl h) =
+    let a = of_from ps h.one c h.in_ones in
+    let b = of_from ps h.other c h.in_others in
+    record { one = h.one; other = h.other; in_ones = a.0; in_others = b.0; joined = inl (a.1 ∙ sym b.1); touching = h.touching; from = h.from; to = h.to }
+tied_of joins ps c i j (inr h) =
+    let v = via_tied joins ps c i j h in
+    let l = v.0 in
+    let t = v.3 in
+    let a = of_from ps t.one c t.in_ones in
+    let b = of_from ps t.other l.second t.in_others in
+    let first : l.first ≡ t.one.conductor = v.2 ∙ sym a.1 in
+    let m : AreJoined joins t.one.conductor t.other.conductor = subst (λ x. AreJoined joins x t.other.conductor) first (subst (λ x. AreJoined joins l.first x) (sym b.1) (joined_by joins l v.1)) in
+    record { one = t.one; other = t.other; in_ones = a.0; in_others = b.0; joined = m; touching = t.touching; from = t.from; to = t.to }
+
+turned : (c e : ℕ) (ls : List Joined) → Some_of (λ l. ((l.first ≡ c) × (l.second ≡ e)) ⊎ ((l.first ≡ e) × (l.second ≡ c))) ls → Some_of (λ l. ((l.first ≡ e) × (l.second ≡ c)) ⊎ ((l.first ≡ c) × (l.second ≡ e))) ls
+turned c e [] k = absurd k
+turned c e (l ∷ ls) (inl (inl k)) = inl (inr k)
+turned c e (l ∷ ls) (inl (inr k)) = inl (inl k)
+turned c e (l ∷ ls) (inr k) = inr (turned c e ls k)
+
+joined_back : (joins : List Joined) (c e : ℕ) → AreJoined joins c e → AreJoined joins e c
+joined_back joins c e (inl h) = inl (sym h)
+joined_back joins c e (inr h) = inr (turned c e joins h)
+
+pub tied_back : (joins : List Joined) (ps : List Piece) (i j : ℕ) → AreTied joins ps i j → AreTied joins ps j i
+tied_back joins ps i j h =
+    record { one = h.other; other = h.one; in_ones = h.in_others; in_others = h.in_ones; joined = joined_back joins h.one.conductor h.other.conductor h.joined; touching = touching_turned h.one.rect h.other.rect h.touching; from = h.to; to = h.from }
+
+-- a tie is found from the one conductor or from the other
+found_via : (joins : List Joined) (ps : List Piece) (p q : Piece) → IsAmong p ps → IsAmong q ps → AreTouching p.rect q.rect
+    → Some_of (λ l. ((l.first ≡ p.conductor) × (l.second ≡ q.conductor)) ⊎ ((l.first ≡ q.conductor) × (l.second ≡ p.conductor))) joins
+    → AreInTouchVia joins ps p.conductor p.item q.item ⊎ AreInTouchVia joins ps q.conductor q.item p.item
+found_via [] ps p q a b t h = absurd h
+found_via (l ∷ ls) ps p q a b t (inl (inl e)) =
+    inl (inl (e.0, record { one = p; other = q; in_ones = of_to ps p p.conductor a refl; in_others = of_to ps q l.second b (sym e.1); touching = t; from = refl; to = refl }))
+found_via (l ∷ ls) ps p q a b t (inl (inr e)) =
+    inr (inl (e.0, record { one = q; other = p; in_ones = of_to ps q q.conductor b refl; in_others = of_to ps p l.second a (sym e.1); touching = touching_turned p.rect q.rect t; from = refl; to = refl }))
+found_via (l ∷ ls) ps p q a b t (inr h) = elim (found_via ls ps p q a b t h) [ inl k ↦ inl (inr k) | inr k ↦ inr (inr k) ]
+
+module _ (joins : List Joined) (ps : List Piece) (n : ℕ) (links : List Link) (few : AreOf n ps) (h : AddsLinks (λ i j. UpTo joins ps n i j) [] links) where
+  each : (i j : ℕ) → IsLinked links i j → AreTied joins ps i j
+  each i j k = elim (h.each i j k) [
+    | inl m ↦ absurd m
+    | inr m ↦ elim m [ inl a ↦ tied_of joins ps a.0 i j a.2 | inr b ↦ tied_back joins ps j i (tied_of joins ps b.0 j i b.2) ]
+  ]
+
+  found_at : (p q : Piece) → IsAmong p ps → IsAmong q ps → AreTouching p.rect q.rect → AreJoined joins p.conductor q.conductor → (p.item ≡ q.item) ⊎ IsLinked links p.item q.item
+  found_at p q a b t (inl e) =
+      h.found p.item q.item (p.conductor, few p a, inl (record { one = p; other = q; in_ones = of_to ps p p.conductor a refl; in_others = of_to ps q p.conductor b (sym e); touching = t; from = refl; to = refl }))
+  found_at p q a b t (inr e) = elim (found_via joins ps p q a b t e) [
+    | inl k ↦ h.found p.item q.item (p.conductor, few p a, inr k)
+    | inr k ↦ elim (h.found q.item p.item (q.conductor, few q b, inr k)) [ inl m ↦ inl (sym m) | inr m ↦ inr (linked_back links q.item p.item m) ]
+  ]
+
+  found : (i j : ℕ) → AreTied joins ps i j → (i ≡ j) ⊎ IsLinked links i j
+  found i j t =
+      let k = found_at t.one t.other t.in_ones t.in_others t.touching t.joined in
+      subst (λ x. (x ≡ j) ⊎ IsLinked links x j) t.from (subst (λ y. (t.one.item ≡ y) ⊎ IsLinked links t.one.item y) t.to k)
+
+  pub all_conductors : AreLinksOf joins ps links
+  all_conductors = record {
+    each = each;
+    found = found;
+    chains = λ i j. (
+      along (IsLinked links) (AreTied joins ps) (λ x. x) (λ a b k. single (AreTied joins ps) a b (each a b k)) i j,
+      along (AreTied joins ps) (IsLinked links) (λ x. x) (λ a b k. elim (found a b k) [ inl e ↦ stays (IsLinked links) a b e | inr m ↦ single (IsLinked links) a b m ]) i j,
+    );
+  }

@@ -1,0 +1,116 @@
+// Where pieces are cut; any cut gives the same links.
+use crate::pieces::Piece;
+use geo_base::Rect;
+
+// A list this short is compared with the other as it is.
+const FEW: usize = 8;
+
+#[derive(Clone, Copy, Debug)]
+pub enum Axis {
+    X,
+    Y,
+}
+
+/// An upright line at x, or a level line at y.
+#[derive(Clone, Copy, Debug)]
+pub struct Cut {
+    pub axis: Axis,
+    pub at: i64,
+}
+
+impl Cut {
+    /// The parts of a rectangle on the lower side and on the upper.
+    pub fn halves(&self, r: &Rect) -> (Rect, Rect) {
+        let mut low = *r;
+        let mut high = *r;
+        match self.axis {
+            Axis::X => {
+                low.x2 = self.at;
+                high.x1 = self.at;
+            }
+            Axis::Y => {
+                low.y2 = self.at;
+                high.y1 = self.at;
+            }
+        }
+        (low, high)
+    }
+}
+
+/// What bounds no piece.
+pub const NOWHERE: Rect = Rect {
+    x1: i64::MAX,
+    y1: i64::MAX,
+    x2: i64::MIN,
+    y2: i64::MIN,
+};
+
+/// The least rectangle that bounds the pieces and this one.
+pub fn grown(bounds: Rect, pieces: &[Piece]) -> Rect {
+    let mut all = bounds;
+    for piece in pieces {
+        all.x1 = all.x1.min(piece.rect.x1);
+        all.y1 = all.y1.min(piece.rect.y1);
+        all.x2 = all.x2.max(piece.rect.x2);
+        all.y2 = all.y2.max(piece.rect.y2);
+    }
+    all
+}
+
+fn middle(low: i64, high: i64) -> i64 {
+    (low >> 1) + (high >> 1)
+}
+
+fn is_crossing(rect: &Rect, cut: &Cut) -> bool {
+    match cut.axis {
+        Axis::X => rect.x1 <= cut.at && cut.at < rect.x2,
+        Axis::Y => rect.y1 <= cut.at && cut.at < rect.y2,
+    }
+}
+
+fn crossings(pieces: &[Piece], cut: &Cut) -> usize {
+    let mut count = 0usize;
+    for piece in pieces {
+        if is_crossing(&piece.rect, cut) {
+            count = count.saturating_add(1);
+        }
+    }
+    count
+}
+
+/// The middle line of what bounds the pieces within a rectangle that goes through fewer of them, where it leaves at
+/// least half of them whole and no more are cut than can be spared.
+pub fn cut_of(ones: &[Piece], others: &[Piece], within: &Rect, spare: usize) -> Option<Cut> {
+    if ones.len() <= FEW || others.len() <= FEW {
+        return None;
+    }
+    let all = grown(grown(NOWHERE, ones), others);
+    let upright = Cut {
+        axis: Axis::X,
+        at: middle(all.x1.max(within.x1), all.x2.min(within.x2)),
+    };
+    let level = Cut {
+        axis: Axis::Y,
+        at: middle(all.y1.max(within.y1), all.y2.min(within.y2)),
+    };
+    let crossed = crossings(ones, &upright).saturating_add(crossings(others, &upright));
+    let crossed_level = crossings(ones, &level).saturating_add(crossings(others, &level));
+    let fewest = crossed.min(crossed_level);
+    if fewest > ones.len().saturating_add(others.len()) / 2 || fewest > spare {
+        return None;
+    }
+    Some(if crossed <= crossed_level {
+        upright
+    } else {
+        level
+    })
+}
+
+/// The part of what can be spared that falls to some of all pieces.
+pub fn share(spare: usize, some: usize, all: usize) -> usize {
+    if all == 0 {
+        0
+    } else {
+        spare.saturating_mul(some) / all
+    }
+}

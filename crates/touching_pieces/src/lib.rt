@@ -1,0 +1,11 @@
+//! Which rectangles touch, and what that joins, without comparing each with each.
+#![tactic(auto)]
+
+mod conductors;
+mod cuts;
+mod pairs;
+mod pieces;
+
+pub use conductors::{Joined, touching_links};
+pub use pairs::touching_pairs;
+pub use pieces::{Piece, touches};

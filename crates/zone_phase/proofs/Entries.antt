@@ -1,0 +1,92 @@
+-- Entries of parents.
+use Rattle.std.proofs.Common.{◌≡◌, ◌⊎◌, ◌↔◌, inl, inr, ℕ, ℤ, zero, suc, pos, ◌<◌, ◌+◌, ◌-◌, ◌^◌, ◌+ℤ◌, ◌-ℤ◌, ◌<ℤ◌, Bool, true, false, List, [], ◌∷◌, Option, Some, None, refl, sym, ◌∙◌, ap, subst, arith, length, slice_get, slice_index, slice_index_or, IfSome}
+use Rattle.std.specs.List.{All}
+use Rattle.std.proofs.lemmas.Int.{ints}
+use Rattle.std.proofs.Math.Decide.{ℕ_discrete}
+use Rattle.geo_base.specs.Near.{IsWithin}
+use Rattle.geo_base.specs.Rects.{has, IsRect}
+use Rattle.geo_base.specs.declared.layer.LayerKey.{LayerKey}
+use Rattle.geo_base.specs.declared.shapes.Rect.{Rect}
+use Rattle.geo_base.specs.declared.shapes.Square.{Square}
+use Rattle.rect_sets.specs.Rects.{covers}
+use Rattle.flat_layout.specs.Layers.{Input}
+use Rattle.flat_layout.specs.Layout.{IsReached}
+use Rattle.cell_graph.specs.Linked.{Linked, IsSound, IsHull, IsFrame, IsRectWithin, HullIsSound, hull_of, cell_at, plain}
+use Rattle.cell_graph.proofs.Bridge.{in_has, or_left, or_right, hull_sound}
+use Rattle.cell_context.proofs.Visiting.{within_inside, inside_from}
+use Rattle.deep_tables.specs.declared.cells.CellZones.{CellZones}
+use Rattle.deep_tables.specs.Entries.{IsZone, IsInGrown, grown, zone_cell}
+use Rattle.zone_phase.specs.Parents.{IsFromReferences}
+use Rattle.zone_phase.specs.Jobs.{IsEntry, zone_in, IsFromJob, IsFromJobs}
+
+one_less : (z : ℤ) → IsWithin (2 ^ 30) z → IsWithin (2 ^ 31) (z -ℤ pos 1)
+one_less z h = let l = h.low in let u = h.high in record { low = omega (arith, ints); high = omega (arith, ints) }
+
+one_more : (z : ℤ) → IsWithin (2 ^ 30) z → IsWithin (2 ^ 31) (z +ℤ pos 1)
+one_more z h = let l = h.low in let u = h.high in record { low = omega (arith, ints); high = omega (arith, ints) }
+
+farther : (z : ℤ) → IsWithin (2 ^ 31) z → IsWithin (2 ^ 39) z
+farther z h = let l = h.low in let u = h.high in record { low = omega (arith, ints); high = omega (arith, ints) }
+
+pub grown_frame : (h : Rect) → IsHull h → IsFrame (grown h)
+grown_frame h s = let w = s.some.wide in let u = s.some.high in record {
+  some = record { wide = omega (arith, ints); high = omega (arith, ints) };
+  near = record { x1 = one_less h.x1 s.near.x1; y1 = one_less h.y1 s.near.y1; x2 = one_more h.x2 s.near.x2; y2 = one_more h.y2 s.near.y2 };
+}
+
+covers_at : (xs : List Rect) (k : ℕ) (z : Rect) (q : Square) → k < length xs → has (slice_index_or xs k z) q ≡ true → covers xs q ≡ true
+covers_at [] k z q lt e = absurd (let w : ⊥ = omega arith in w)
+covers_at (x ∷ xs) zero z q lt e = or_left (has x q) (covers xs q) e
+covers_at (x ∷ xs) (suc k) z q lt e = or_right (has x q) (covers xs q) (covers_at xs k z q (omega arith) e)
+
+rect_within : (o : Option Rect) (r : Rect) → HullIsSound o → IsRect r → ((q : Square) → has r q ≡ true → IsInGrown o q) → IsRectWithin (2 ^ 39) r
+rect_within None r sound some h =
+    let w = some.wide in let u = some.high in
+    let low : Square = record { x = r.x1; y = r.y1 } in
+    absurd (h low (in_has r low ((omega (arith, ints)), (omega (arith, ints)), (omega (arith, ints)), (omega (arith, ints)))))
+rect_within (Some x) r sound some h =
+    let f = (grown_frame x sound).near in
+    within_inside (2 ^ 39) r (grown x) some (inside_from r (grown x) some h) (record { x1 = farther _ f.x1; y1 = farther _ f.y1; x2 = farther _ f.x2; y2 = farther _ f.y2 })
+
+pub zone_within : (d : Linked) (cell : ℕ) (zone : List Rect) → IsSound d → All IsRect zone → ((q : Square) → covers zone q ≡ true → IsInGrown (hull_of (cell_at d cell)) q) → All (IsRectWithin (2 ^ 39)) zone
+zone_within d cell zone sound rects h = λ k z lt. rect_within (hull_of (cell_at d cell)) (slice_index_or zone k z) (hull_sound d cell sound) (rects k z lt) (λ q e. h q (covers_at zone k z q lt e))
+
+pub if_some : {A : Type 0} (P : A → Type 0) (o : Option A) (x : A) → o ≡ Some x → IfSome o P → P x
+if_some P o x e h = subst (λ p. IfSome p P) e h
+
+pub jobs_more : (d : Linked) (value : ℕ → Option CellZones) (name cell : ℕ) (key : LayerKey) (g : Rect) (jobs : List ℕ) (k : ℕ) (old out new : List Rect)
+    → ((q : Square) → (covers out q ≡ true) ↔ ((covers old q ≡ true) ⊎ IsFromJobs d value name cell key g jobs k q))
+    → ((q : Square) → (covers new q ≡ true) ↔ ((covers out q ≡ true) ⊎ IsFromJob d value name cell key g q (slice_index jobs k)))
+    → (q : Square) → (covers new q ≡ true) ↔ ((covers old q ≡ true) ⊎ IsFromJobs d value name cell key g jobs (k + 1) q)
+jobs_more d value name cell key g jobs k old out new first second q = (
+  (λ e. elim ((second q).0 e) [
+    | inl f ↦ elim ((first q).0 f) [ inl h ↦ inl h | inr j ↦ let lt = j.1 in inr (j.0, (omega arith), j.2) ]
+    | inr j ↦ inr (k, (omega arith), j)
+  ]),
+  (λ h. elim h [
+    | inl e ↦ (second q).1 (inl ((first q).1 (inl e)))
+    | inr j ↦ let lt = j.1 in elim (ℕ_discrete j.0 k) [
+      | yes e ↦ (second q).1 (inr (subst (λ i. IsFromJob d value name cell key g q (slice_index jobs i)) e j.2))
+      | no not ↦ (second q).1 (inl ((first q).1 (inr (j.0, (omega arith), j.2))))
+    ]
+  ]))
+
+pub entry_zone : (d : Linked) (key : LayerKey) (name cell : ℕ) (o : Option CellZones) → (v : CellZones) × (o ≡ Some v) → IfSome o (IsEntry d key name cell) → IsZone d (Input key) cell (zone_in o name)
+entry_zone d key name cell o (v, e) h = subst (λ x. IsZone d (Input key) cell (zone_in x name)) (sym e) (if_some (IsEntry d key name cell) o v e h).1
+
+pub at_any : {A : Type 0} (xs : List A) (k : ℕ) (a b : A) → k < length xs → slice_index_or xs k a ≡ slice_index_or xs k b
+at_any [] k a b lt = absurd (let z : ⊥ = omega arith in z)
+at_any (x ∷ xs) zero a b lt = refl
+at_any (x ∷ xs) (suc k) a b lt = at_any xs k a b (omega arith)
+
+pub job_reached : (d : Linked) (job : ℕ) → IsSound d → job < length d.order → IsReached (plain d) (zone_cell d job)
+job_reached d job sound lt = sound.order.reached (length d.order - 1 - job) (omega arith)
+
+pub made_of : (d : Linked) (value : ℕ → Option CellZones) (name cell : ℕ) (key : LayerKey) (g : Rect) (jobs : List ℕ) (set old out : List Rect) → old ≡ [] → ((s : Square) → covers set s ≡ covers out s)
+    → ((q : Square) → (covers out q ≡ true) ↔ ((covers old q ≡ true) ⊎ IsFromJobs d value name cell key g jobs (length jobs) q)) → (q : Square) → (covers set q ≡ true) ↔ IsFromJobs d value name cell key g jobs (length jobs) q
+made_of d value name cell key g jobs set old out none same h q = (
+  (λ e. elim ((h q).0 (sym (same q) ∙ e)) [
+    | inl f ↦ let x : false ≡ true = subst (λ l. covers l q ≡ true) none f in absurd (let z : ⊥ = cc in z)
+    | inr j ↦ j
+  ]),
+  (λ j. same q ∙ (h q).1 (inr j)))

@@ -1,0 +1,11 @@
+pub mod Steps
+pub mod Pulling
+pub mod Around
+pub mod Bringing
+pub mod Covering
+pub mod Gathered
+pub mod Joining
+pub mod Uniting
+pub mod Jobs
+pub mod Entries
+pub mod Parenting

@@ -1,0 +1,63 @@
+-- Windows of visits as a set.
+use Rattle.std.proofs.Common.{◌≡◌, ◌⊎◌, ◌↔◌, inl, inr, ℕ, zero, suc, ◌<◌, ◌+◌, Bool, true, false, ◌||◌, ◌&&◌, List, [], ◌∷◌, ◌++◌, length, slice_index_or, refl, sym, ◌∙◌, ap, subst, arith}
+use Rattle.std.specs.List.{All}
+use Rattle.std.proofs.Math.Decide.{ℕ_discrete}
+use Rattle.geo_base.specs.Motions.{moved_square}
+use Rattle.geo_base.specs.Rects.{has}
+use Rattle.geo_base.specs.declared.motion.Motion.{Motion}
+use Rattle.geo_base.specs.declared.shapes.Rect.{Rect}
+use Rattle.geo_base.specs.declared.shapes.Square.{Square}
+use Rattle.rect_sets.specs.Rects.{covers}
+use Rattle.cell_graph.specs.declared.cells.Place.{Place}
+use Rattle.cell_graph.specs.Linked.{motion_at}
+use Rattle.cell_graph.proofs.Bridge.{or_split, or_left, or_right}
+use Rattle.cell_context.specs.declared.arrays.Visit.{Visit}
+use Rattle.cell_context.specs.Visits.{IsElementVisit, IsMet, IsVisited, IsFound}
+use Rattle.cell_context.proofs.Collecting.{covers_append, and_right}
+use Rattle.cell_context.proofs.Gathering.{some_at}
+use Rattle.zone_phase.specs.Pulls.{IsTaken, IsPulled}
+
+and_left : (a b : Bool) → (a && b) ≡ true → a ≡ true
+and_left true b e = refl
+and_left false b e = e
+
+or_none : (b : Bool) → (b || false) ≡ b
+or_none true = refl
+or_none false = refl
+
+pub pushed : (xs : List Rect) (x : Rect) (q : Square) → covers (xs ++ x ∷ []) q ≡ (covers xs q || has x q)
+pushed xs x q = covers_append xs (x ∷ []) q ∙ ap (λ c. covers xs q || c) (or_none (has x q))
+
+-- a visit's square is taken into the rectangle
+pub taken : (p : Place) (hull rect : Rect) (v : Visit) (q : Square) → IsElementVisit p hull rect v → has v.window q ≡ true → IsTaken p hull rect q
+taken p hull rect v q h e =
+    let both = sym (h.has q) ∙ e in
+    record {
+      row = h.row;
+      column = h.column;
+      row_in = h.row_in;
+      column_in = h.column_in;
+      met = record {
+        inner = and_left (has hull q) (has rect (moved_square v.motion q)) both;
+        outer = ap (λ (m : Motion). has rect (moved_square m q)) (sym h.motion) ∙ and_right (has hull q) (has rect (moved_square v.motion q)) both;
+      };
+    }
+
+pub right_more : (p : Place) (hull rect : Rect) (old out new : List Rect) (v : Visit) → new ≡ out ++ v.window ∷ [] → IsElementVisit p hull rect v
+    → ((q : Square) → covers out q ≡ true → IsPulled p hull rect old q) → (q : Square) → covers new q ≡ true → IsPulled p hull rect old q
+right_more p hull rect old out new v e h right q f = elim (or_split (covers out q) (has v.window q) (sym (ap (λ l. covers l q) e ∙ pushed out v.window q) ∙ f)) [
+  | inl g ↦ right q g
+  | inr g ↦ inr (taken p hull rect v q h g)
+]
+
+pub stays : (out new : List Rect) (x : Rect) (q : Square) → new ≡ out ++ x ∷ [] → covers out q ≡ true → covers new q ≡ true
+stays out new x q e f = ap (λ l. covers l q) e ∙ pushed out x q ∙ or_left (covers out q) (has x q) f
+
+pub comes : (out new : List Rect) (x : Rect) (q : Square) → new ≡ out ++ x ∷ [] → has x q ≡ true → covers new q ≡ true
+comes out new x q e f = ap (λ l. covers l q) e ∙ pushed out x q ∙ or_right (covers out q) (has x q) f
+
+pub all_there : (p : Place) (hull rect : Rect) (out : List Rect) (vs : List Visit) (none : Visit) → ((k : ℕ) → k < length vs → (q : Square) → has (slice_index_or vs k none).window q ≡ true → covers out q ≡ true)
+    → ((row column : ℕ) (q : Square) → row < p.rows → column < p.columns → IsMet p hull rect row column q → IsFound p row column q vs) → (q : Square) → IsTaken p hull rect q → covers out q ≡ true
+all_there p hull rect out vs none there found q t =
+    let s = some_at (IsVisited p t.row t.column q) vs none (found t.row t.column q t.row_in t.column_in t.met) in
+    there s.0 s.1 q s.2.has

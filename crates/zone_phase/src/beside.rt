@@ -1,0 +1,63 @@
+// Squares of a cell that elements of an array take onto what stands in the parent.
+ghost use Rattle.std.specs.Prelude.{◌≡◌, ◌<◌, ◌^◌, length, Some, OnOk, slice_get};
+ghost use Rattle.std.specs.List.{All};
+ghost use Rattle.geo_base.specs.Rects.{IsRect};
+ghost use Rattle.cell_graph.specs.Linked.{IsFrame, IsRectWithin, cell_at, places_at};
+ghost use Rattle.cell_context.specs.Arrays.{IsNearArray};
+ghost use Rattle.zone_phase.specs.Pulls.{Adds, OnRects, BesideIn};
+
+use crate::pulls::push_pulled;
+use cell_context::gather;
+use cell_graph::{Design, Place};
+use geo_base::{LayerKey, Rect};
+use std::alloc::{AllocError, Global};
+
+// Adds the squares of a hull that some element takes onto rectangles.
+pub fn push_onto(
+    alloc: Global,
+    out: &mut Vec<Rect>,
+    place: &Place,
+    hull: &Rect,
+    rects: &[Rect],
+) -> Result<(), AllocError>
+    requires near { IsNearArray place.now }
+    requires some { 0 < place.now.columns }
+    requires hull { IsFrame hull.now }
+    requires within { All (IsRectWithin (2 ^ 39)) rects.now }
+    requires rects { All IsRect out.old.items }
+    ensures rects { OnOk result (All IsRect out.new.items) }
+    ensures exact { OnOk result (Adds place.now hull.now (OnRects place.now rects.now) out.old.items out.new.items) }
+{
+    for rect in rects {
+        push_pulled(alloc, out, place, hull, rect)?;
+    }
+    Ok(())
+}
+
+// Adds the squares of a hull that some element takes, in windows of the parent, onto shapes beside the array.
+pub fn push_beside(
+    alloc: Global,
+    out: &mut Vec<Rect>,
+    design: &Design,
+    parent: u32,
+    index: usize,
+    place: &Place,
+    key: LayerKey,
+    hull: &Rect,
+    windows: &[Rect],
+) -> Result<(), AllocError>
+    requires parent { parent < length design.now.cells }
+    requires near { IsNearArray place.now }
+    requires some { 0 < place.now.columns }
+    requires hull { IsFrame hull.now }
+    requires within { All (IsRectWithin (2 ^ 39)) windows.now }
+    requires rects { All IsRect out.old.items }
+    ensures rects { OnOk result (All IsRect out.new.items) }
+    ensures exact { OnOk result (Adds place.now hull.now (BesideIn windows.now design.now parent index key place.now) out.old.items out.new.items) }
+{
+    for window in windows {
+        let rects = gather(alloc, design, parent, key, window, Some(index))?;
+        push_onto(alloc, out, place, hull, &rects)?;
+    }
+    Ok(())
+}

@@ -1,0 +1,19 @@
+// Disturbed squares for the inputs of two names together.
+ghost use Rattle.std.specs.Prelude.{◌≡◌, ℕ, IfOk};
+ghost use Rattle.flat_layout.specs.Layers.{Reading, Binary};
+ghost use Rattle.geo_base.specs.declared.layer.Op.{Op};
+ghost use Rattle.cell_graph.specs.Linked.{Linked};
+ghost use Rattle.deep_tables.specs.Entries.{IsZone};
+
+use edge_boolean::combine;
+use geo_base::Op;
+use rect_sets::RectSet;
+use std::alloc::{AllocError, Global};
+
+/// The union of two names' disturbed squares: those of a name that reads both.
+pub fn both_zones(alloc: Global, a: &RectSet, b: &RectSet) -> Result<RectSet, AllocError>
+    ensures { IfOk result (λ r. (d : Linked) (op : Op) (x y : Reading) (cell : ℕ) → IsZone d x cell a.now → IsZone d y cell b.now → IsZone d (Binary op x y) cell r) }
+{
+    let set = combine(alloc, a, b, Op::Or)?;
+    Ok(set)
+}
