@@ -59,10 +59,10 @@ mark_new marks stack cell lt e =
       lower = λ i h. on_left stack (cell ∷ []) i h;
       upper = λ i h. on_split stack cell i h;
       size =
-        let a = sum_by-set one_if_free marks cell true false lt in
-        let b : one_if_free (get_or marks cell false) ≡ 1 = ap one_if_free e in
-        let l = length-append stack (cell ∷ []) in
-        let f : length (stack ++ cell ∷ []) + unmarked (set marks cell true) ≡ length stack + unmarked marks = omega arith in f;
+          let a = sum_by-set one_if_free marks cell true false lt in
+          let b : one_if_free (get_or marks cell false) ≡ 1 = ap one_if_free e in
+          let l = length-append stack (cell ∷ []) in
+          let f : length (stack ++ cell ∷ []) + unmarked (set marks cell true) ≡ length stack + unmarked marks = omega arith in f;
     }
 
 pub none_marked : (places : List Place) (marks : List Bool) (stack : List ℕ) → AddsMarks (IsAmongFirst places 0) marks marks stack stack

@@ -168,14 +168,19 @@ pub record IsFirstFar (cells : List CellDraft) (name : List ℕ) : Type 0 where
 -- the tests that found nothing
 abbrev pub HasFew : List CellDraft → Type 0
 HasFew cells = length cells ≤ 2 ^ 14
+
 abbrev pub HasNoRepeat : List CellDraft → Type 0
 HasNoRepeat cells = (i : ℕ) → IsRepeat cells i → ⊥
+
 abbrev pub HasNoLoose : List CellDraft → Type 0
 HasNoLoose cells = (i k : ℕ) → IsLoose cells i k → ⊥
+
 abbrev pub HasNoCycle : List CellDraft → Type 0
 HasNoCycle cells = (i : ℕ) → IsOnCycle (Refers cells) i → ⊥
+
 abbrev pub HasNoDeep : List CellDraft → Type 0
 HasNoDeep cells = (i : ℕ) → IsTooDeep (Refers cells) i → ⊥
+
 abbrev pub HasNoFar : List CellDraft → Type 0
 HasNoFar cells = (i : ℕ) → IsFar cells i → ⊥
 

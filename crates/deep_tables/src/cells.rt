@@ -28,7 +28,6 @@ impl Defined for CellZones {
     type Key = DeepKey;
 
     ghost use Rattle.deep_tables.specs.Entries.{IsZonesOf, zone_cell};
-
     ghost use Rattle.rule_layers.specs.Readings.{readings};
 
     ghost is_defined = { λ key job v. IsZonesOf key.design.value (readings key.rules.value.names.items) (zone_cell key.design.value job) v };
@@ -38,7 +37,6 @@ impl Defined for CellLayers {
     type Key = DeepKey;
 
     ghost use Rattle.deep_tables.specs.Entries.{IsLayersOf, layer_cell};
-
     ghost use Rattle.rule_layers.specs.Readings.{readings};
 
     ghost is_defined = { λ key job v. IsLayersOf key.design.value (readings key.rules.value.names.items) (layer_cell key.design.value job) v };

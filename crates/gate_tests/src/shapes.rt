@@ -60,7 +60,10 @@ fn a_transistor(rt: HostRuntime) -> Result<(), Fail> {
 fn one_group(rt: HostRuntime) -> Result<(), Fail> {
     let alloc = rt.alloc();
     let found = judged(alloc, &[rect(0, 0, 30, 30)], &[rect(10, -5, 20, 15)])?;
-    assert_eq!(rt; found.as_slice(), [GateShape::Bad(GateCause::Groups(1))].as_slice());
+    assert_eq!(rt;
+        found.as_slice(),
+        [GateShape::Bad(GateCause::Groups(1))].as_slice()
+    );
     Ok(())
 }
 
@@ -74,7 +77,10 @@ fn a_closed_ring(rt: HostRuntime) -> Result<(), Fail> {
         rect(30, 20, 40, 30),
     ];
     let found = judged(alloc, &[rect(0, 0, 50, 50)], &ring)?;
-    assert_eq!(rt; found.as_slice(), [GateShape::Bad(GateCause::NoLength)].as_slice());
+    assert_eq!(rt;
+        found.as_slice(),
+        [GateShape::Bad(GateCause::NoLength)].as_slice()
+    );
     Ok(())
 }
 
@@ -111,7 +117,10 @@ fn corners_do_not_join(rt: HostRuntime) -> Result<(), Fail> {
     )?;
     let found = parts(alloc, &set)?;
     assert_eq!(rt; found.len(), 2);
-    for (part, want) in found.iter().zip([Square { x: 0, y: 0 }, Square { x: 2, y: 2 }]) {
+    for (part, want) in found
+        .iter()
+        .zip([Square { x: 0, y: 0 }, Square { x: 2, y: 2 }])
+    {
         assert_eq!(rt; least(part), Some(want));
     }
     Ok(())
@@ -136,7 +145,12 @@ fn seeds_gather_whole_parts(rt: HostRuntime) -> Result<(), Fail> {
         (rect(50, 10, 51, 11), [rect(40, 0, 50, 10)].as_slice()),
         (
             rect(29, 40, 30, 41),
-            [rect(0, 0, 10, 10), rect(4, 10, 30, 14), rect(28, 14, 29, 40)].as_slice(),
+            [
+                rect(0, 0, 10, 10),
+                rect(4, 10, 30, 14),
+                rect(28, 14, 29, 40),
+            ]
+            .as_slice(),
         ),
         (rect(52, 0, 53, 10), [].as_slice()),
     ] {

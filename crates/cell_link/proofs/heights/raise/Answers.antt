@@ -26,10 +26,10 @@ loop-i-preserved c =
     let over : IsOver part.items hs height = subst (λ xs. IsOver xs hs height) ps_are (subst (λ ys. IsOver ps ys height) hs_are above.over) in
     let just : IsJustOver part.items hs height = subst (λ xs. IsJustOver xs hs height) ps_are (subst (λ ys. IsJustOver ps ys height) hs_are above.just) in
     elim c.if-index-height.branch [
-      then-index-height w ↦
-        let f = one_higher parts i old hs c.loop-i.rose part height c.requires.resolved c.loop-i-test.true there just above.low (subst (λ v. v < height) here w.if-index-height.true) c.loop-i.invariant in
-        rw w.heights-is (rw w.rose-is f)
-    | else-index-height w ↦
-        let f = none_higher parts i old hs c.loop-i.rose part height there over (subst (λ v. height ≤ v) here w.if-index-height.false) c.loop-i.invariant in
-        rw w.heights-is (rw w.rose-is f)
+      | then-index-height w ↦
+          let f = one_higher parts i old hs c.loop-i.rose part height c.requires.resolved c.loop-i-test.true there just above.low (subst (λ v. v < height) here w.if-index-height.true) c.loop-i.invariant in
+          rw w.heights-is (rw w.rose-is f)
+      | else-index-height w ↦
+          let f = none_higher parts i old hs c.loop-i.rose part height there over (subst (λ v. height ≤ v) here w.if-index-height.false) c.loop-i.invariant in
+          rw w.heights-is (rw w.rose-is f)
     ]
