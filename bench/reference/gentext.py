@@ -1,0 +1,304 @@
+"""Random rule files and schematics that fit random layouts."""
+
+from names import escape, folded
+from netlist import DIODE, RESISTOR, terminals
+import features
+
+NOISE = [b"deep", b"netlist", b"align", b"compare", b"schematic('x.cir')", b"# a comment", b"",
+         b"  \t", b"netlist # 'x"]
+
+
+PASSED = [b"\n", b"*\n", b".model n nmos (level=1)\n", b".option a\n"]
+
+
+class RuleMaker:
+    """Makes the lines of a rule file."""
+
+    def __init__(self, rng):
+        self.rng, self.lines, self.names = rng, [], []
+
+    def layers(self):
+        """Booleans over four inputs, with outputs."""
+        rng = self.rng
+        for k in range(1, 5):
+            self.lines.append(b"in%d = input(%d, 0)" % (k, k))
+            self.names.append(b"in%d" % k)
+        if rng.random() < 0.3:
+            self.lines.append(b"none = polygon_layer")
+            self.names.append(b"none")
+        self.booleans(rng.randint(1, 5))
+        self.outputs()
+
+    def booleans(self, count):
+        """Derived layers of what is there."""
+        rng = self.rng
+        for k in range(count):
+            name = b"d%d" % k
+            if features.SIZED and rng.random() < 0.3:
+                size = rng.choice([1, 2, 3, -1, -2])
+                self.lines.append(b"%s = %s.sized(%d)" % (name, rng.choice(self.names), size))
+            else:
+                self.lines.append(b"%s = %s %s %s" % (
+                    name, rng.choice(self.names), rng.choice([b"&", b"|", b"-", b"^"]),
+                    rng.choice(self.names)))
+            self.names.append(name)
+
+    def outputs(self):
+        """Some output lines on pairs of their own."""
+        rng = self.rng
+        for k, name in enumerate(rng.sample(self.names, min(len(self.names), rng.randint(0, 4)))):
+            self.lines.append(b"%s.output(%d, %d)" % (name, 10 + k, rng.choice([0, 7])))
+
+    def plain(self):
+        """One kind of transistor, for layouts whose wires are metal."""
+        self.lines += [
+            b"active = input(2, 0)", b"poly = input(3, 0)", b"metal = input(5, 0)",
+            b"txt = labels(5, 1)", b"bulk = polygon_layer", b"gate = active & poly",
+            b"sd = active - poly", b"connect(sd, metal)", b"connect(poly, txt)",
+            b"extract_devices(mos4('N'), { 'SD' => sd, 'G' => gate, 'W' => bulk, 'tG' => poly })",
+            b"connect_global(bulk, 'VSS')"]
+        if self.rng.random() < 0.5:
+            self.lines.append(b"connect_global(poly, 'G')")
+
+    def devices(self):
+        """Transistor rules with connections."""
+        rng, add = self.rng, self.lines.append
+        well = rng.random() < 0.4
+        for name, layer in ((b"well", 1), (b"active", 2), (b"poly", 3), (b"contact", 4),
+                            (b"metal", 5)):
+            add(b"%s = input(%d, 0)" % (name, layer))
+        self.names = [b"well", b"active", b"poly", b"contact", b"metal"]
+        add(b"txt = labels(5, 1)")
+        more_texts = rng.random() < 0.3
+        if more_texts:
+            add(b"txt2 = labels(5, 2)")
+        add(b"bulk = polygon_layer")
+        bulk_layer = b"bulk"
+        if well:
+            add(b"pact = active & well")
+            add(b"nact = active - well")
+            kinds = [(b"PMOS", b"p", b"pact", b"well"), (b"NMOS", b"n", b"nact", bulk_layer)]
+        else:
+            kinds = [(rng.choice([b"NMOS", b"nmos", b"N 4"]), b"", b"active", bulk_layer)]
+        connects = []
+        for device_class, prefix, active, bulk in kinds:
+            gate, sd = prefix + b"gate", prefix + b"sd"
+            add(b"%s = %s & poly" % (gate, active))
+            add(b"%s = %s - poly" % (sd, active))
+            self.names += [gate, sd]
+            keys = [b'"SD" => ' + sd, b'"G" => ' + gate, b'"W" => ' + bulk, b"'tG' => poly"]
+            if rng.random() < 0.15:
+                keys += [b'"tS" => active', b'"tD" => active']
+                connects.append((b"active", b"metal"))
+            if bulk == b"well" and rng.random() < 0.3:
+                keys.append(b'"tB" => well')
+            rng.shuffle(keys)
+            add(b'extract_devices(mos4("%s"), { %s })' % (device_class, b", ".join(keys)))
+            connects.append((sd, rng.choice([b"metal", b"contact", b"txt"])))
+        connects += [(b"poly", rng.choice([b"contact", b"metal", b"txt"])), (b"metal", b"txt")]
+        if rng.random() < 0.8:
+            connects.append((b"contact", b"metal"))
+        if well and (rng.random() < 0.5):
+            connects.append((b"well", rng.choice([b"metal", b"txt"])))
+        elif well:
+            add(b'connect_global(well, "%s")' % rng.choice([b"VDD", b"VSS", b"nw"]))
+        if more_texts:
+            connects.append((rng.choice([b"poly", b"metal"]), b"txt2"))
+        for pair in connects:
+            add(b"connect(%s, %s)" % (pair if rng.random() < 0.7 else pair[::-1]))
+        if rng.random() < 0.9:
+            add(b'connect_global(bulk, "%s")' % rng.choice([b"VSS", b"VSS", b"gnd", b"SUB!"]))
+        else:
+            add(b"connect(bulk, metal)")
+        if rng.random() < 0.1:
+            add(b'connect_global(%s, "VSS")' % rng.choice([b"poly", b"contact"]))
+        self.further()
+        self.booleans(rng.randint(0, 2))
+        self.outputs()
+
+    def further(self):
+        """Perhaps a resistor or a diode."""
+        rng, add = self.rng, self.lines.append
+        if not features.MORE:
+            return
+        if rng.random() < 0.5:
+            rho = rng.choice([b"", b", 50", b", 0.5"])
+            add(b'extract_devices(resistor_with_bulk("RES"%s), '
+                b'{ "R" => contact, "C" => metal, "W" => bulk })' % rho)
+        if rng.random() < 0.5:
+            add(b'extract_devices(diode("DIO"), { "P" => contact, "N" => metal })')
+            add(b"connect(contact, txt)")
+
+    def text(self):
+        """The file."""
+        rng = self.rng
+        lines = []
+        for line in self.lines:
+            while rng.random() < 0.07:
+                lines.append(rng.choice(NOISE))
+            if rng.random() < 0.1:
+                line += b"  # note"
+            if rng.random() < 0.05:
+                line = line.replace(b", ", b"\t,  ")
+            lines.append(line)
+        end = b"\r\n" if rng.random() < 0.2 else b"\n"
+        return end.join(lines) + (end if rng.random() < 0.9 else b"")
+
+
+class SchematicMaker:
+    """Writes circuits in a random spelling, perhaps with a damage."""
+
+    DAMAGES = ["width", "exchange", "more", "less", "class", "call", "pin"]
+
+    def __init__(self, rng, circuits):
+        self.rng = rng
+        self.circuits = circuits
+        self.names, self.same = {}, []
+
+    def damage(self, kind):
+        """Changes one thing in one circuit, where it has one."""
+        rng = self.rng
+        full = [c for c in self.circuits if c.devices]
+        if kind in ("width", "exchange", "more", "less", "class") and full:
+            circuit = rng.choice(full)
+            place = rng.randrange(len(circuit.devices))
+            device = circuit.devices[place]
+            if kind == "width":
+                device = device._replace(width=device.width * 2)
+            elif kind == "class":
+                device = device._replace(device_class=device.device_class + b"X")
+            elif kind == "exchange":
+                key = rng.choice(["gate", "drain", "source"])
+                if device.device_class[0] > 2:
+                    device = device._replace(**{key: rng.randrange(len(circuit.nets))})
+            elif kind == "more":
+                circuit.devices.insert(rng.randrange(place + 1), device)
+            else:
+                del circuit.devices[place]
+                return
+            circuit.devices[place] = device
+        elif kind == "call":
+            full = [c for c in self.circuits if c.calls]
+            if full:
+                calls = rng.choice(full).calls
+                call = rng.choice(calls)
+                if len(call.nets) > 1:
+                    call.nets[0], call.nets[1] = call.nets[1], call.nets[0]
+        elif kind == "pin":
+            top = self.circuits[-1]
+            free = [n for n in range(len(top.nets)) if n not in top.pins]
+            if free:
+                top.pins.append(rng.choice(free))
+
+    def text(self):
+        """The file's text; `same` gets the pairs that rule lines must name."""
+        rng = self.rng
+        style = rng.choice(["plain", "renamed", "renamed", "shuffled"])
+        for circuit in self.circuits:
+            self.names[circuit.name] = circuit.name
+            if rng.random() < 0.1:
+                other = b"Z" + circuit.name
+                self.names[circuit.name] = other
+                if rng.random() < 0.6:
+                    self.same.append((circuit.name, other))
+        self.globals = set()
+        if rng.random() < 0.25:
+            shared = [{c.nets[p] for p in c.pins} for c in self.circuits]
+            every = set.intersection(*shared) if shared else set()
+            self.globals = {n for n in every if n.isalpha()}
+        pieces = [self._circuit(c, style) for c in self.circuits]
+        if rng.random() < 0.4:
+            rng.shuffle(pieces)
+        lines = [line for piece in pieces for line in piece]
+        if self.globals:
+            card = b".global " + b" ".join(sorted(self.globals))
+            lines.insert(0 if rng.random() < 0.5 else len(lines), card)
+        if rng.random() < 0.5:
+            lines.append(rng.choice([b".END", b".end", b".End\nnothing (at) all"]))
+        return self._folded_lines(lines)
+
+    def _folded_lines(self, lines):
+        rng, out = self.rng, [b"* made\n"]
+        end = b"\r\n" if rng.random() < 0.2 else b"\n"
+        for line in lines:
+            words = line.split(b" ")
+            while rng.random() < 0.15 and len(words) > 3:
+                place = rng.randrange(1, len(words))
+                words[place] = rng.choice([b"\n+", b"\n+ ", b"\n* x\n+\t", b"\n\n+"]) + words[place]
+            out.append(b" ".join(words) + end)
+            if rng.random() < 0.03:
+                out.append(rng.choice(PASSED))
+        return b"".join(out)
+
+    def _spelled(self, name, style, inner):
+        rng = self.rng
+        if style == "renamed" and inner:
+            name = b"w%s" % name.replace(b"$", b"_")
+        text = escape(name)
+        if rng.random() < 0.2:
+            text = text.lower() if b"\\" not in text else text
+        if rng.random() < 0.03 and text[:1].isalpha():
+            text = b"\\" + text if text[:1] not in b"xX" else text
+        return text
+
+    def _size(self, femto):
+        rng = self.rng
+        spellings = [b"%dF" % femto, b"%de-15" % femto, b"%d.0E-9Umeter" % femto]
+        for suffix, power in ((b"n", 6), (b"u", 9), (b"P", 3)):
+            if femto % 10 ** power == 0:
+                spellings.append(b"%d%s" % (femto // 10 ** power, suffix))
+        return rng.choice(spellings)
+
+    def _area(self, square_pico):
+        return self.rng.choice([b"%dE-24" % square_pico, b"%de-12p" % square_pico])
+
+    def _circuit(self, circuit, style):
+        rng = self.rng
+        words = {}
+        for k, name in enumerate(circuit.nets):
+            hidden = name in self.globals
+            words[k] = self._spelled(name, style, k not in circuit.pins and not hidden)
+        cards = []
+        for device in circuit.devices:
+            cards.append(self._device(device, words))
+        for call in circuit.calls:
+            called = self.circuits[call.circuit]
+            nets = [words[n] for n, p in zip(call.nets, called.pins)
+                    if called.nets[p] not in self.globals]
+            cards.append(b" ".join([b"X"] + nets + [escape(self.names[called.name])]))
+        if style != "plain":
+            rng.shuffle(cards)
+        pins = [words[p] for p in circuit.pins if circuit.nets[p] not in self.globals]
+        head = b" ".join([rng.choice([b".SUBCKT", b".subckt"]), escape(self.names[circuit.name])]
+                         + pins)
+        cards = [card[:1] + b"%d" % k + card[1:] for k, card in enumerate(cards, 1)]
+        return [head] + cards + [rng.choice([b".ENDS", b".ends x"])]
+
+    def _device(self, device, words):
+        rng = self.rng
+        drain, gate, source, bulk = (words[n] for n in terminals(device))
+        if device.device_class[:1] == DIODE:
+            params = [b"A=" + self._area(device.width), b"P=" + self._size(device.length)]
+            head = [b"D", source, bulk, escape(device.device_class[1:])]
+        else:
+            params = [b"L=" + self._size(device.length), b"w = " + self._size(device.width)]
+            if rng.random() < 0.4:
+                drain, source = source, drain
+            if device.device_class[:1] == RESISTOR:
+                head = [b"R", source, drain, bulk, escape(device.device_class[1:])]
+            else:
+                head = [b"M", drain, gate, source, bulk, escape(device.device_class)]
+                if rng.random() < 0.1:
+                    params += [b"AS=1p", b"nrd=x"]
+        if rng.random() < 0.1:
+            params.append(b"m=1")
+        rng.shuffle(params)
+        return b" ".join(head + params)
+
+
+def same_lines(pairs):
+    """The rule lines for pairs of circuits whose names can stand in quotes."""
+    def fits(name):
+        return all(32 <= b <= 126 and b not in b"\"'" for b in name)
+    return [b'same_circuits("%s", "%s")' % pair for pair in pairs
+            if fits(pair[0]) and fits(pair[1]) and folded(pair[0])]

@@ -1,0 +1,49 @@
+"""The text of the comparison report."""
+
+from match import CALL, DEVICE, NET
+from names import escape
+
+SIDES = (b"layout", b"schematic")
+
+
+def report_text(extracted, pairs, answers):
+    """The report; `pairs` and `answers` are None where the top has no partner."""
+    layout = extracted.layout
+    top = extracted.circuits[extracted.top].name
+    if pairs is None:
+        partner = b"none"
+    else:
+        partner = next(escape(right.name) for left, right in pairs if left.name == top)
+    lines = [b"lvs report 1", b"top %s %s" % (escape(top), partner),
+             b"bad %d" % len(extracted.bad)]
+    for cell, gate in extracted.bad:
+        lines.append(b"gate %s %s %d %d %s" % (
+            escape(layout.names[cell]), escape(gate.device.device_class),
+            gate.least[0], gate.least[1], gate.cause))
+    for number in range(len(pairs or ())):
+        lines += pair_lines(pairs, number, answers[number])
+    lines.append(b"end")
+    return b"".join(line + b"\n" for line in lines)
+
+
+def pair_lines(pairs, number, answer):
+    """The lines of one pair."""
+    left, right = pairs[number]
+    word = answer.word.encode()
+    if answer.skipped is not None:
+        word += b" " + escape(pairs[answer.skipped][0].name)
+    lines = [b"pair %s %s %s" % (escape(left.name), escape(right.name), word)]
+    if answer.pairing:
+        lines += [b"net %s %s" % (escape(left.nets[k]), escape(right.nets[other]))
+                  for k, other in enumerate(answer.pairing[NET])]
+        for kind in (DEVICE, CALL):
+            lines += [b"%s %d %d" % (kind.encode(), k + 1, other + 1)
+                      for k, other in enumerate(answer.pairing[kind])]
+    if answer.evidence:
+        turn, side, kind, node, ours, theirs = answer.evidence
+        lines.append(b"round %d of %s %s %d layout %d schematic %d" % (
+            turn, SIDES[side], kind.encode(), node + 1, ours, theirs))
+    for depth, kind, ours, theirs, end in answer.guesses or ():
+        lines.append(b"guess %d %s %d %d %s" % (depth, kind.encode(), ours + 1, theirs + 1,
+                                                str(end).encode()))
+    return lines
