@@ -1,8 +1,8 @@
-use Rattle.std.proofs.Common.{◌≡◌, ◌<◌, ◌≤◌, ◌+◌, ◌++◌, ◌∷◌, [], ℕ, List, Some, length, slice_get, sym, subst, arith, ◌∙◌, ap, Bool, length-append}
+use Rattle.std.proofs.Common.{◌≡◌, ◌++◌, ◌∷◌, [], ℕ, List, Some, length, slice_get, sym, subst, arith, ◌∙◌, ap, Bool, length-append}
 use Rattle.std.proofs.lemmas.List.{length-replicate}
 use Rattle.std.proofs.lemmas.Option.{slice_get-get_or}
-use Rattle.cell_link.specs.Parts.{Part, AreInside, IsAmong}
-use Rattle.cell_link.specs.Marking.{AddsMarks, IsMarked, IsOn, unmarked}
+use Rattle.cell_link.specs.Parts.{IsAmong}
+use Rattle.cell_link.specs.Marking.{AddsMarks, IsMarked}
 use Rattle.cell_link.proofs.Walks.{walk_begins, walk_goes_on, walk_ends, none_yet, next_inside, no_items}
 use Rattle.cell_link.proofs.walking.below.Goals as goal
 
@@ -28,8 +28,8 @@ loop-next-init c =
     let none : (i : ℕ) → IsMarked ms i → ⊥ = λ i h. none_yet (length parts) i (subst (λ (xs : List Bool). IsMarked xs i) fresh h) in
     let adds = c.in_ok-mark_placed.ensures {u = tt} in
     walk_begins parts c.args.cell part ms c.mark_placed.new.marks.items c.mark_placed.new.stack.items there count none
-      (subst (λ ps. AddsMarks (IsAmong ps) ms c.mark_placed.new.marks.items [] c.mark_placed.new.stack.items) ps_are
-        (subst (λ st. AddsMarks (IsAmong c.deref.result.now) ms c.mark_placed.new.marks.items st c.mark_placed.new.stack.items) c.new-stack.ensures.items adds))
+    (subst (λ ps. AddsMarks (IsAmong ps) ms c.mark_placed.new.marks.items [] c.mark_placed.new.stack.items) ps_are
+    (subst (λ st. AddsMarks (IsAmong c.deref.result.now) ms c.mark_placed.new.marks.items st c.mark_placed.new.stack.items) c.new-stack.ensures.items adds))
 
 pub bounds-parts-next : goal.bounds-parts-next
 bounds-parts-next c = next_inside c.args.parts.now c.args.cell c.in-Some.next c.loop-next.marks.items c.loop-next.stack.items c.pop.new.self.items (c.in-Some.ensures {u = tt}).items c.loop-next.invariant
@@ -54,7 +54,7 @@ loop-next-preserved c =
     let m1 = c.mark_placed-in-Some.new.marks.items in
     let s1 = c.mark_placed-in-Some.new.stack.items in
     walk_goes_on parts c.args.cell c.in-Some.next part c.loop-next.marks.items m1 c.loop-next.stack.items c.pop.new.self.items s1 there popped c.loop-next.invariant
-      (subst (λ ps. AddsMarks (IsAmong ps) c.loop-next.marks.items m1 c.pop.new.self.items s1) ps_are (c.in_ok-mark_placed-2.ensures {u = tt}))
+    (subst (λ ps. AddsMarks (IsAmong ps) c.loop-next.marks.items m1 c.pop.new.self.items s1) ps_are (c.in_ok-mark_placed-2.ensures {u = tt}))
 
 pub loop-next-smaller : goal.loop-next-smaller
 loop-next-smaller c =
