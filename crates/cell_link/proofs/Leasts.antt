@@ -1,11 +1,10 @@
 -- Least ranges, point by point.
-use Rattle.std.proofs.Common.{◌≡◌, ◌⊎◌, inl, inr, ℤ, ◌≤ℤ◌, Option, Some, None, refl, sym, ◌∙◌, ap, subst, arith}
+use Rattle.std.proofs.Common.{◌≡◌, ◌⊎◌, inl, inr, ℤ, ◌≤ℤ◌, Option, Some, None, refl, sym, ◌∙◌, ap, arith}
 use Rattle.std.proofs.lemmas.Int.{ints}
 use Rattle.geo_base.specs.declared.shapes.Point.{Point}
-use Rattle.geo_base.specs.declared.shapes.Rect.{Rect}
 use Rattle.cell_link.specs.declared.bounds.Bounds.{Bounds}
 use Rattle.cell_link.specs.Drafts.{IsLeastRange}
-use Rattle.cell_link.specs.Bounds.{IsLow, IsHigh, IsJust, IsWider, IsWith, IsLeast, range_of}
+use Rattle.cell_link.specs.Bounds.{IsJust, IsWider, IsWith, IsLeast, range_of}
 
 at_point : (p : Point) (r : Bounds) (q : Point) → IsJust p r → q ≡ p → (r.x1 ≤ℤ q.x) × (q.x ≤ℤ r.x2) × (r.y1 ≤ℤ q.y) × (q.y ≤ℤ r.y2)
 at_point p r q h e =

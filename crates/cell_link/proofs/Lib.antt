@@ -3,6 +3,9 @@ pub mod Raising
 pub mod Walks
 pub mod Naming
 pub mod Orders
-pub mod Depths
+pub mod Firsts
 pub mod Resolving
 pub mod Leasts
+pub mod Looking
+pub mod Calling
+pub mod Roots

@@ -1,13 +1,12 @@
 -- Names without a repeat.
-use Rattle.std.proofs.Common.{◌≡◌, ◌⊎◌, ◌↔◌, inl, inr, ℕ, zero, suc, ◌+◌, ◌<◌, ◌≤◌, List, [], ◌∷◌, ◌++◌, Option, Some, None, map, take, length, get_or, slice_get, refl, sym, ◌∙◌, ap, subst, arith, true, false, Bool, ◌||◌}
+use Rattle.std.proofs.Common.{◌≡◌, ◌⊎◌, inl, inr, ℕ, zero, suc, ◌+◌, ◌<◌, ◌≤◌, List, [], ◌∷◌, ◌++◌, Some, None, take, length, slice_get, refl, sym, ◌∙◌, ap, subst, arith, true, false, Bool, ◌||◌}
 use Rattle.std.proofs.Math.Decide.{ℕ_discrete}
 use Rattle.std.specs.List.{list_any}
 use Rattle.std.specs.Str.{bytes_eq}
 use Rattle.std.proofs.lemmas.List.{take_all}
 use Rattle.std.proofs.lemmas.Slice.Eq.{bytes_eq-Decides}
-use Rattle.std.proofs.lemmas.Option.{slice_get_within, slice_get-get_or}
+use Rattle.std.proofs.lemmas.Option.{slice_get_within}
 use Rattle.cell_link.specs.declared.drafts.CellDraft.{CellDraft}
-use Rattle.cell_link.specs.Chains.{IsFirst}
 use Rattle.cell_link.specs.Drafts.{names_of, IsNamed, IsRepeat, HasNoRepeat, IsFirstNamed}
 
 pub record NamesSoFar (cells : List CellDraft) (n : ℕ) (names : List (List ℕ)) : Type 0 where

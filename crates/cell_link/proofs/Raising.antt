@@ -1,14 +1,13 @@
 -- Heights on their way up.
-use Rattle.std.proofs.Common.{◌≡◌, ◌⊎◌, inl, inr, ℕ, zero, suc, ◌+◌, ◌*◌, ◌<◌, ◌≤◌, List, [], ◌∷◌, Some, length, get_or, set, slice_get, refl, sym, ◌∙◌, ap, subst, arith, true, false, Bool}
+use Rattle.std.proofs.Common.{◌≡◌, ◌⊎◌, inl, inr, ℕ, zero, suc, ◌+◌, ◌<◌, ◌≤◌, List, Some, length, get_or, set, slice_get, refl, sym, ◌∙◌, ap, subst, arith}
 use Rattle.std.proofs.Math.Decide.{ℕ_discrete}
 use Rattle.std.proofs.Math.ListN.{replicate}
-use Rattle.std.proofs.lemmas.List.{get_or-set_same, get_or-set_other, get_or_default, length-set, get_or-replicate, length-replicate}
-use Rattle.std.proofs.lemmas.List.Sums.{sum_by-set, sum_by-le}
+use Rattle.std.proofs.lemmas.List.{get_or-set_same, get_or-set_other, length-set, get_or-replicate, length-replicate}
 use Rattle.std.proofs.lemmas.Option.{slice_get_within, slice_get-get_or}
 use Rattle.cell_graph.specs.declared.cells.Place.{Place}
-use Rattle.cell_link.specs.Chains.{Leads, HasChain, IsTooDeep, IsHeightOf, AreHeights}
-use Rattle.cell_link.specs.Parts.{Part, IsAmong, Places, AreInside, AreResolved}
-use Rattle.cell_link.specs.Rising.{AreRising, AreSettled, IsRaised, HasRisen, total, height_in, IsOver, IsJustOver, IsHigher}
+use Rattle.cell_link.specs.Chains.{Leads, HasChain, AreHeights}
+use Rattle.cell_link.specs.Parts.{Part, IsAmong, Places, AreResolved}
+use Rattle.cell_link.specs.Rising.{AreRising, AreSettled, height_in, IsOver, IsJustOver, IsHigher}
 use Rattle.cell_link.specs.Marking.{IsAmongFirst}
 
 -- the height after the first places
@@ -33,7 +32,7 @@ pub longer : (R : ℕ → ℕ → Type 0) (i j n : ℕ) → R i j → HasChain R
 longer R i j n r (k, l) = (k, (j, r, l))
 
 -- heights fall along a chain
-falls : (parts : List Part) (hs : List ℕ) → length hs ≡ length parts → AreResolved parts → AreSettled parts hs (length parts)
+falls : (parts : List Part) (hs : List ℕ) → length hs ≡ length parts → AreResolved parts → AreSettled parts hs (λ i. i < length parts)
     → (n i j : ℕ) → i < length parts → height_in hs i < 65 → Leads (Places parts) i n j → height_in hs j + n ≤ height_in hs i
 falls parts hs e resolved settled zero i j lt h l = let f : height_in hs i ≡ height_in hs j = ap (height_in hs) l in omega arith
 falls parts hs e resolved settled (suc n) i j lt h (k, r, l) =
@@ -43,7 +42,7 @@ falls parts hs e resolved settled (suc n) i j lt h (k, r, l) =
       | inr high ↦ absurd (let z : ⊥ = omega arith in z)
     ]
 
-pub at_end : (parts : List Part) (hs : List ℕ) → AreResolved parts → AreRising parts hs → AreSettled parts hs (length parts) → AreHeights (Places parts) hs
+pub at_end : (parts : List Part) (hs : List ℕ) → AreResolved parts → AreRising parts hs → AreSettled parts hs (λ i. i < length parts) → AreHeights (Places parts) hs
 at_end parts hs resolved rising settled = record {
   height = λ i lt h. record {
     chain = rising.chain i lt;
@@ -75,59 +74,29 @@ above_next places hs n most more p there le over just low h = record {
 pub above_all : (places : List Place) (hs : List ℕ) (n most : ℕ) → length places ≤ n → AboveSoFar places hs n most → IsOver places hs most
 above_all places hs n most le h j (k, p, at, is) = let lt = slice_get_within places k p at in h.over j (k, p, (let f : k < n = omega arith in f), at, is)
 
--- one cell of a round
-pub none_higher : (parts : List Part) (n : ℕ) (old hs : List ℕ) (rose : Bool) (part : Part) (height : ℕ) → slice_get parts n ≡ Some part
-    → IsOver part.items hs height → height ≤ height_in hs n → IsRaised parts n old hs rose → IsRaised parts (n + 1) old hs rose
-none_higher parts n old hs rose part height there over le h = record {
-  rising = h.rising;
-  risen = h.risen;
-  settled = λ e i j lt r. elim (ℕ_discrete i n) [
-    | yes is ↦
-        let at : slice_get parts n ≡ Some r.part = subst (λ k. slice_get parts k ≡ Some r.part) is r.there in
-        let same : r.part ≡ part = (let g : Some r.part ≡ Some part = sym at ∙ there in cc) in
-        let up : height ≤ height_in hs i = subst (λ k. height ≤ height_in hs k) (sym is) le in
-        elim (over j (subst (λ (c : Part). IsAmong c.items j) same r.among)) [ inl a ↦ inl (let f : height_in hs j < height_in hs i = omega arith in f) | inr a ↦ inr (let f : 65 ≤ height_in hs i = omega arith in f) ]
-    | no not ↦ h.settled e i j (let f : i < n = omega arith in f) r
-  ];
-}
-
-grown : (rose : Bool) (old new : List ℕ) → HasRisen rose old new → total old ≤ total new
-grown true old new h = omega arith
-grown false old new h = let e : total new ≡ total old = ap total h in omega arith
-
-pub one_higher : (parts : List Part) (n : ℕ) (old hs : List ℕ) (rose : Bool) (part : Part) (height : ℕ) → AreResolved parts → n < length parts → slice_get parts n ≡ Some part
-    → IsJustOver part.items hs height → height ≤ 65 → height_in hs n < height → IsRaised parts n old hs rose → IsRaised parts (n + 1) old (set hs n height) true
-one_higher parts n old hs rose part height resolved inside there just low lt h =
-    let rising = h.rising in
+-- the height of one more cell
+pub set_rising : (parts : List Part) (n : ℕ) (hs : List ℕ) (part : Part) (height : ℕ) → AreResolved parts → n < length parts → slice_get parts n ≡ Some part
+    → IsJustOver part.items hs height → height ≤ 65 → AreRising parts hs → AreRising parts (set hs n height)
+set_rising parts n hs part height resolved inside there just low rising =
     let in_hs : n < length hs = subst (λ m. n < m) (sym rising.count) inside in
     let chain : HasChain (Places parts) n height = elim just [
-      | inl e ↦ absurd (let z : ⊥ = omega arith in z)
+      | inl e ↦ subst (HasChain (Places parts) n) (sym e) (n, refl)
       | inr (j, among, le) ↦
           let in_j : j < length hs = subst (λ m. j < m) (sym rising.count) (subst (λ c. c < length parts) among.3 (resolved.inside n part there among.0 among.1 among.2)) in
           let place : Places parts n j = record { part = part; there = there; among = among } in
           short (Places parts) n height (suc (height_in hs j)) (omega arith) (longer (Places parts) n j (height_in hs j) place (rising.chain j in_j))
     ] in
     record {
-      rising = record {
-        count = length-set hs n height ∙ rising.count;
-        low = λ i. elim (ℕ_discrete i n) [
-          | yes e ↦ subst (λ k. height_in (set hs n height) k ≤ 65) (sym e) (subst (λ v. v ≤ 65) (sym (get_or-set_same hs n height 0 in_hs)) low)
-          | no e ↦ subst (λ v. v ≤ 65) (sym (get_or-set_other hs n i height 0 e)) (rising.low i)
-        ];
-        chain = λ i lt'. elim (ℕ_discrete i n) [
-          | yes e ↦ subst (λ k. HasChain (Places parts) k (height_in (set hs n height) k)) (sym e) (subst (HasChain (Places parts) n) (sym (get_or-set_same hs n height 0 in_hs)) chain)
-          | no e ↦ subst (HasChain (Places parts) i) (sym (get_or-set_other hs n i height 0 e)) (rising.chain i (subst (λ m. i < m) (length-set hs n height) lt'))
-        ];
-      };
-      risen = let a = grown rose old hs h.risen in let b = sum_by-set (λ x. x) hs n height 0 in_hs in let f : total old < total (set hs n height) = omega arith in f;
-      settled = λ e. absurd (let z : ⊥ = cc in z);
+      count = length-set hs n height ∙ rising.count;
+      low = λ i. elim (ℕ_discrete i n) [
+        | yes e ↦ subst (λ k. height_in (set hs n height) k ≤ 65) (sym e) (subst (λ v. v ≤ 65) (sym (get_or-set_same hs n height 0 in_hs)) low)
+        | no e ↦ subst (λ v. v ≤ 65) (sym (get_or-set_other hs n i height 0 e)) (rising.low i)
+      ];
+      chain = λ i lt'. elim (ℕ_discrete i n) [
+        | yes e ↦ subst (λ k. HasChain (Places parts) k (height_in (set hs n height) k)) (sym e) (subst (HasChain (Places parts) n) (sym (get_or-set_same hs n height 0 in_hs)) chain)
+        | no e ↦ subst (HasChain (Places parts) i) (sym (get_or-set_other hs n i height 0 e)) (rising.chain i (subst (λ m. i < m) (length-set hs n height) lt'))
+      ];
     }
-
-pub total_low : (parts : List Part) (hs : List ℕ) → AreRising parts hs → total hs ≤ 65 * length parts
-total_low parts hs h =
-    let f = sum_by-le (λ x. x) 65 hs (λ k d lt. subst (λ v. v ≤ 65) (get_or_default hs k 0 d lt) (h.low k)) in
-    let e = h.count in
-    omega arith
 
 pub all_zero : (parts : List Part) → AreRising parts (replicate (length parts) 0)
 all_zero parts = record {

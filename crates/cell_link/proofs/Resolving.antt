@@ -1,18 +1,12 @@
 -- Resolved references are those of the drafts.
-use Rattle.std.proofs.Common.{◌≡◌, ◌⊎◌, ◌↔◌, inl, inr, ℕ, zero, suc, ◌+◌, ◌<◌, ◌≤◌, List, [], ◌∷◌, Option, Some, None, map, length, get_or, slice_get, refl, sym, ◌∙◌, ap, subst, arith, true, false, Bool, if◌then◌else◌}
-use Rattle.std.specs.List.{position_or_len}
-use Rattle.std.specs.Str.{bytes_eq}
-use Rattle.std.proofs.lemmas.Slice.Eq.{bytes_eq-Decides}
-use Rattle.std.proofs.lemmas.Option.{slice_get_within, slice_get-get_or}
-use Rattle.cell_graph.specs.declared.cells.Place.{Place}
-use Rattle.cell_link.specs.declared.drafts.DraftRef.{DraftRef}
+use Rattle.std.proofs.Common.{◌≡◌, ◌⊎◌, inl, inr, ℕ, zero, suc, ◌<◌, List, [], ◌∷◌, Some, None, length, slice_get, refl, sym, ap, subst, arith}
 use Rattle.cell_link.specs.declared.drafts.CellDraft.{CellDraft}
-use Rattle.cell_link.specs.Chains.{Leads, IsBelow, IsOnCycle, HasChain, IsTooDeep, IsHeightOf}
-use Rattle.cell_link.specs.Parts.{Part, IsAmong, Places}
-use Rattle.cell_link.specs.Drafts.{names_of, IsNamed, IsMissing, HasRef, Refers, HasNoRepeat, IsResolved, AreAllResolved, AreParts}
+use Rattle.cell_link.specs.Chains.{Leads, IsOnCycle, IsTooDeep, IsHeightOf}
+use Rattle.cell_link.specs.Parts.{Part, Places}
+use Rattle.cell_link.specs.Drafts.{IsNamed, Refers, HasNoRepeat, AreParts}
 
 -- what stands at a place of one list stands at that of another as long
-at_too : {A B : Type 0} (xs : List A) (ys : List B) (k : ℕ) (x : A) → length xs ≡ length ys → slice_get xs k ≡ Some x → (y : B) × (slice_get ys k ≡ Some y)
+pub at_too : {A B : Type 0} (xs : List A) (ys : List B) (k : ℕ) (x : A) → length xs ≡ length ys → slice_get xs k ≡ Some x → (y : B) × (slice_get ys k ≡ Some y)
 at_too [] ys k x e h = let f : None ≡ Some x = h in absurd (let z : ⊥ = cc in z)
 at_too (a ∷ xs) [] k x e h = absurd (let z : ⊥ = omega arith in z)
 at_too (a ∷ xs) (b ∷ ys) zero x e h = (b, refl)

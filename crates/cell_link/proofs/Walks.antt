@@ -1,14 +1,13 @@
 -- Marks, a stack, and the walk that they keep.
-use Rattle.std.proofs.Common.{◌≡◌, ◌⊎◌, inl, inr, ℕ, zero, suc, ◌+◌, ◌<◌, ◌≤◌, List, [], ◌∷◌, ◌++◌, Some, None, length, get_or, set, slice_get, refl, sym, ◌∙◌, ap, subst, arith, true, false, Bool, length-append, if◌then◌else◌}
+use Rattle.std.proofs.Common.{◌≡◌, ◌⊎◌, inl, inr, ℕ, zero, suc, ◌+◌, ◌<◌, ◌≤◌, List, [], ◌∷◌, ◌++◌, Some, None, length, get_or, set, slice_get, refl, sym, ◌∙◌, ap, subst, arith, true, false, Bool, length-append}
 use Rattle.std.proofs.Math.Decide.{ℕ_discrete}
 use Rattle.std.proofs.Math.ListN.{replicate}
-use Rattle.std.specs.List.{sum_by}
-use Rattle.std.proofs.lemmas.List.{get_or-set_same, get_or-set_other, get_or_default, length-set, get_or-replicate, length-replicate}
+use Rattle.std.proofs.lemmas.List.{get_or-set_same, get_or-set_other, length-set}
 use Rattle.std.proofs.lemmas.List.Sums.{sum_by-set}
 use Rattle.std.proofs.lemmas.Option.{slice_get_within, slice_get-get_or}
 use Rattle.cell_graph.specs.declared.cells.Place.{Place}
-use Rattle.cell_link.specs.Chains.{Leads, IsBelow}
-use Rattle.cell_link.specs.Parts.{Part, IsAmong, Places, AreInside, AreResolved}
+use Rattle.cell_link.specs.Chains.{Leads}
+use Rattle.cell_link.specs.Parts.{Part, IsAmong, Places}
 use Rattle.cell_link.specs.Marking.{IsMarked, IsOn, IsAmongFirst, AddsMarks, IsWalk, AreMarked, unmarked, one_if_free}
 
 pub on_left : (s t : List ℕ) (j : ℕ) → IsOn s j → IsOn (s ++ t) j

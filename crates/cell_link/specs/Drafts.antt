@@ -1,6 +1,5 @@
 -- What drafts of cells name: the design, or the first fault (01, section 5, `cell_graph`).
-use Rattle.std.specs.Prelude.{◌≡◌, ◌⊎◌, ℕ, zero, suc, ◌+◌, ◌<◌, ◌≤◌, ◌^◌, ℤ, pos, ◌-ℤ◌, ◌≤ℤ◌, List, [], ◌∷◌, Option, Some, None, length, map, slice_get, slice_index, Result, Ok, Err}
-use Rattle.std.specs.List.{All}
+use Rattle.std.specs.Prelude.{◌≡◌, ◌⊎◌, ℕ, zero, suc, ◌<◌, ◌≤◌, ◌^◌, ◌≤ℤ◌, List, [], Option, Some, None, length, map, slice_get, slice_index, Result, Ok, Err}
 use Rattle.geo_base.specs.Motions.{moved_point}
 use Rattle.geo_base.specs.Near.{IsWithin}
 use Rattle.geo_base.specs.declared.motion.Motion.{Motion}
@@ -9,8 +8,6 @@ use Rattle.geo_base.specs.declared.shapes.Rect.{Rect}
 use Rattle.flat_layout.specs.Arrays.{Reference, place_at}
 use Rattle.flat_layout.specs.Layout.{Some_of}
 use Rattle.cell_graph.specs.Linked.{Linked, cell_at}
-use Rattle.cell_graph.specs.declared.cells.OwnLayer.{OwnLayer}
-use Rattle.cell_graph.specs.declared.cells.RawText.{RawText}
 use Rattle.cell_graph.specs.declared.cells.Place.{Place}
 use Rattle.cell_graph.specs.declared.cells.CellPart.{CellPart}
 use Rattle.cell_link.specs.declared.drafts.DraftRef.{DraftRef}
@@ -18,7 +15,7 @@ use Rattle.cell_link.specs.declared.drafts.CellDraft.{CellDraft}
 use Rattle.cell_link.specs.declared.drafts.LinkFault.{LinkFault}
 use Rattle.cell_link.specs.declared.drafts.LinkFault.TheVariants.{TooManyCells, DuplicateCell, NoSuchCell, Cycle, TooDeep, NoTop, TopUnclear, CoordinateRange, NoMemory}
 use Rattle.cell_link.specs.Parts.{Part}
-use Rattle.cell_link.specs.Chains.{Leads, IsBelow, IsOnCycle, IsTooDeep, IsHeightOf, IsFirst, AreFirstTwo}
+use Rattle.cell_link.specs.Chains.{Leads, IsOnCycle, IsTooDeep, IsHeightOf, IsFirst, AreFirstTwo}
 
 abbrev pub names_of : List CellDraft → List (List ℕ)
 names_of cells = map (λ c. c.name) cells

@@ -6,3 +6,5 @@ pub mod Marking
 pub mod Ordering
 pub mod Drafts
 pub mod Bounds
+pub mod Naming
+pub mod Tops

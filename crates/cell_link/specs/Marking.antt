@@ -2,8 +2,8 @@
 use Rattle.std.specs.Prelude.{◌≡◌, ◌⊎◌, ◌↔◌, ℕ, ◌+◌, ◌<◌, Bool, true, false, List, Some, length, get_or, slice_get, if◌then◌else◌}
 use Rattle.std.specs.List.{sum_by}
 use Rattle.cell_graph.specs.declared.cells.Place.{Place}
-use Rattle.cell_link.specs.Chains.{Leads, IsBelow}
-use Rattle.cell_link.specs.Parts.{Part, IsAmong, Places}
+use Rattle.cell_link.specs.Chains.{IsBelow}
+use Rattle.cell_link.specs.Parts.{Part, Places}
 
 abbrev pub IsMarked : List Bool → ℕ → Type 0
 IsMarked marks i = get_or marks i false ≡ true

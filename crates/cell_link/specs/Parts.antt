@@ -1,5 +1,5 @@
 -- The references of cells that are resolved already.
-use Rattle.std.specs.Prelude.{◌≡◌, ℕ, ◌<◌, ◌^◌, List, Some, length, slice_get}
+use Rattle.std.specs.Prelude.{◌≡◌, ℕ, ◌<◌, ◌^◌, List, Some, length, map, slice_get}
 use Rattle.cell_graph.specs.declared.cells.Place.{Place}
 use Rattle.std.specs.Global.{Vec}
 
@@ -24,3 +24,7 @@ AreInside places n = (k : ℕ) (p : Place) → slice_get places k ≡ Some p →
 pub record AreResolved (parts : List Part) : Type 0 where
   pub inside : (i : ℕ) (c : Part) → slice_get parts i ≡ Some c → AreInside c.items (length parts)
   pub few : length parts < 2 ^ 32
+
+-- for each cell, those that it places
+abbrev pub called : List Part → List (List ℕ)
+called parts = map (λ part. map (λ place. place.cell) part.items) parts

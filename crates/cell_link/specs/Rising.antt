@@ -1,15 +1,14 @@
 -- Heights on their way up.
-use Rattle.std.specs.Prelude.{◌≡◌, ◌⊎◌, ℕ, ◌+◌, ◌<◌, ◌≤◌, Bool, true, false, List, Some, length, get_or, slice_get}
-use Rattle.std.specs.List.{sum_by}
+use Rattle.std.specs.Prelude.{◌≡◌, ◌⊎◌, ℕ, ◌+◌, ◌<◌, ◌≤◌, List, length, take, get_or}
+use Rattle.plain_netlist.specs.Lists.{IsListed}
 use Rattle.cell_graph.specs.declared.cells.Place.{Place}
-use Rattle.cell_link.specs.Chains.{HasChain}
+use Rattle.cell_link.specs.Chains.{HasChain, IsHeightOf}
+use Rattle.cell_link.specs.declared.drafts.CellDraft.{CellDraft}
+use Rattle.cell_link.specs.Drafts.{Refers}
 use Rattle.cell_link.specs.Parts.{Part, IsAmong, Places}
 
 abbrev pub height_in : List ℕ → ℕ → ℕ
 height_in heights i = get_or heights i 0
-
-abbrev pub total : List ℕ → ℕ
-total heights = sum_by (λ h. h) heights
 
 -- above each placed cell, or at the end
 abbrev pub IsOver : List Place → List ℕ → ℕ → Type 0
@@ -25,18 +24,19 @@ pub record AreRising (parts : List Part) (heights : List ℕ) : Type 0 where
   pub low : (i : ℕ) → height_in heights i ≤ 65
   pub chain : (i : ℕ) → i < length heights → HasChain (Places parts) i (height_in heights i)
 
--- the first cells stand above those that they place
-abbrev pub AreSettled : List Part → List ℕ → ℕ → Type 0
-AreSettled parts heights n = (i j : ℕ) → i < n → Places parts i j → (height_in heights j < height_in heights i) ⊎ (65 ≤ height_in heights i)
+-- these cells stand above those that they place
+abbrev pub AreSettled : List Part → List ℕ → (ℕ → Type 0) → Type 0
+AreSettled parts heights P = (i j : ℕ) → P i → Places parts i j → (height_in heights j < height_in heights i) ⊎ (65 ≤ height_in heights i)
 
-abbrev pub HasRisen : Bool → List ℕ → List ℕ → Type 0
-HasRisen true old new = total old < total new
-HasRisen false old new = new ≡ old
+-- along an order, the first n stand above those that they place
+pub record AreSettledTo (parts : List Part) (order : List ℕ) (n : ℕ) (heights : List ℕ) : Type 0 where
+  pub rising : AreRising parts heights
+  pub settled : AreSettled parts heights (λ i. IsListed i (take n order))
 
-pub record IsRaised (parts : List Part) (n : ℕ) (old new : List ℕ) (rose : Bool) : Type 0 where
-  pub rising : AreRising parts new
-  pub risen : HasRisen rose old new
-  pub settled : rose ≡ false → AreSettled parts new n
+-- the height of each cell
+pub record HaveHeights (cells : List CellDraft) (heights : List ℕ) : Type 0 where
+  pub count : length heights ≡ length cells
+  pub each : (i : ℕ) → i < length cells → IsHeightOf (Refers cells) i (height_in heights i)
 
 -- the least number that is no less and is above the other, at most 65
 pub record IsHigher (most below more : ℕ) : Type 0 where

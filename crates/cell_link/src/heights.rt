@@ -1,8 +1,9 @@
 // Heights of cells: the longest chain of references below each.
-ghost use Rattle.std.specs.Prelude.{◌≡◌, ◌≤◌, ◌*◌, length, IfOk, false};
+ghost use Rattle.std.specs.Prelude.{◌≡◌, ◌≤◌, length, IfOk};
+ghost use Rattle.call_order.specs.Order.{IsCallOrder};
 ghost use Rattle.cell_link.specs.Chains.{AreHeights};
-ghost use Rattle.cell_link.specs.Parts.{AreInside, AreResolved, Places};
-ghost use Rattle.cell_link.specs.Rising.{AreRising, IsOver, IsJustOver, IsRaised, IsHigher};
+ghost use Rattle.cell_link.specs.Parts.{AreInside, AreResolved, Places, called};
+ghost use Rattle.cell_link.specs.Rising.{IsOver, IsJustOver, IsHigher};
 
 use cell_graph::Place;
 use std::alloc::{AllocError, Global};
@@ -35,31 +36,23 @@ fn above(places: &[Place], heights: &[u32]) -> u32
     most
 }
 
-// Raises each height once; tells whether one rose.
-fn raise(parts: &[Vec<Place>], heights: &mut Vec<u32>) -> bool
+/// The height of each cell, `DEEP` where a chain of more references goes down from it; `order` has each cell behind those
+/// that it places. Linear in the references.
+pub fn heights_along(
+    alloc: Global,
+    parts: &[Vec<Place>],
+    order: &[u32],
+) -> Result<Vec<u32>, AllocError>
     requires resolved { AreResolved parts.now }
-    requires rising { AreRising parts.now heights.old.items }
-    ensures { IsRaised parts.now (length parts.now) heights.old.items heights.new.items result }
-{
-    let mut rose = false;
-    for i in 0..parts.len() {
-        let height = above(&parts[i], heights);
-        if heights[i] < height {
-            heights[i] = height;
-            rose = true;
-        }
-    }
-    rose
-}
-
-/// The height of each cell, `DEEP` where a chain of more references goes down from it. Each round takes time in proportion
-/// to the references; there are as many rounds as the heights need, at most `DEEP` and one.
-pub fn heights_of(alloc: Global, parts: &[Vec<Place>]) -> Result<Vec<u32>, AllocError>
-    requires { AreResolved parts.now }
+    requires order { IsCallOrder (called parts.now) order.now }
     ensures count { IfOk result (λ v. length v.items ≡ length parts.now) }
     ensures heights { IfOk result (λ v. AreHeights (Places parts.now) v.items) }
 {
     let mut heights = vec![in alloc; 0; parts.len()]?;
-    while raise(parts, &mut heights) {}
+    for cell in order {
+        let i = *cell as usize;
+        let height = above(&parts[i], &heights);
+        heights[i] = height;
+    }
     Ok(heights)
 }

@@ -2,17 +2,20 @@
 #![tactic(auto)]
 
 mod bounds;
-mod deep;
+mod depths;
 mod drafts;
 mod heights;
 mod names;
 mod ordering;
+mod references;
+mod tops;
 mod walking;
 
 pub use bounds::{Bounds, with_point};
-pub use deep::{first_deep, first_on_cycle};
+pub use depths::sound_heights;
 pub use drafts::{CellDraft, DraftRef, LinkFault};
-pub use heights::heights_of;
 pub use names::{NameTable, names_of};
 pub use ordering::by_height;
+pub use references::{name_at, parts_of};
+pub use tops::top_of;
 pub use walking::below;

@@ -1,7 +1,7 @@
 use Rattle.std.proofs.Common.{rules, FitsSigned, w64}
 use Rattle.std.proofs.lemmas.Int.{to_z-of_z}
 use Rattle.cell_link.specs.declared.bounds.Bounds.{Bounds}
-use Rattle.cell_link.specs.Bounds.{IsLow, IsHigh, IsWider, IsWith}
+use Rattle.cell_link.specs.Bounds.{IsLow, IsHigh, IsWider}
 use Rattle.cell_link.proofs.bounds.with_point.Goals as goal
 
 pub returns-in-Some : goal.returns-in-Some

@@ -1,4 +1,3 @@
-use Rattle.std.proofs.Common.{◌≡◌, take}
 use Rattle.cell_link.proofs.names.names_of.Given as goal
 use Rattle.cell_link.proofs.Naming.{NamesSoFar}
 

@@ -1,8 +1,8 @@
-use Rattle.std.proofs.Common.{◌≡◌, ◌<◌, ◌≤◌, ◌+◌, ◌++◌, ◌∷◌, [], ℕ, List, Some, length, slice_get, sym, subst, arith, ◌∙◌, ap, Bool, length-append}
+use Rattle.std.proofs.Common.{◌≡◌, ◌++◌, ◌∷◌, [], ℕ, List, Some, length, slice_get, sym, subst, arith, ◌∙◌, ap, Bool, length-append}
 use Rattle.std.proofs.lemmas.List.{length-replicate}
 use Rattle.std.proofs.lemmas.Option.{slice_get-get_or}
-use Rattle.cell_link.specs.Parts.{Part, AreInside, IsAmong}
-use Rattle.cell_link.specs.Marking.{AddsMarks, IsMarked, IsOn, unmarked}
+use Rattle.cell_link.specs.Parts.{IsAmong}
+use Rattle.cell_link.specs.Marking.{AddsMarks, IsMarked}
 use Rattle.cell_link.proofs.Walks.{walk_begins, walk_goes_on, walk_ends, none_yet, next_inside, no_items}
 use Rattle.cell_link.proofs.walking.below.Goals as goal
 

@@ -1,6 +1,6 @@
 use Rattle.std.proofs.Common.{◌≡◌, get_or, sym, ◌∙◌, false}
 use Rattle.std.proofs.lemmas.List.{get_or_default}
-use Rattle.cell_link.proofs.Walks.{mark_new, mark_old}
+use Rattle.cell_link.proofs.Walks.{mark_new}
 use Rattle.cell_link.proofs.walking.mark.Goals as goal
 
 pub returns-in_ok-push : goal.returns-in_ok-push
