@@ -8,3 +8,4 @@ pub mod Runs
 pub mod Unique
 pub mod PieceLemmas
 pub mod WholeText
+pub mod FillableLaw

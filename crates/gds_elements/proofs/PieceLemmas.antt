@@ -1,8 +1,8 @@
 -- A reader in pieces.
-use Rattle.std.proofs.Common.{◌≡◌, ◌≢◌, ◌⊎◌, inl, inr, ℕ, ◌%◌, ◌≤◌, Bool, true, false, cond, ltb, List, [], ◌∷◌, ◌++◌, length, take, drop, Option, Some, None, Ok, Err, refl, sym, ap, ◌∙◌, append_assoc, arith}
+use Rattle.std.proofs.Common.{◌≡◌, ◌≢◌, ◌⊎◌, inl, inr, ℕ, ◌+◌, ◌-◌, ◌%◌, ◌≤◌, Bool, true, false, cond, ltb, List, [], ◌∷◌, ◌++◌, length, take, drop, Option, Some, None, Ok, Err, refl, sym, ap, subst, ◌∙◌, append_assoc, append-nil, vec_len, arith}
 use Rattle.std.specs.Prelude.{slice_index, ◌==◌, ◌||◌, not}
 use Rattle.std.proofs.lemmas.Bool.{ltb-false, le-ltb}
-use Rattle.std.proofs.lemmas.List.{take-append-drop, length-append}
+use Rattle.std.proofs.lemmas.List.{take-append-drop, take_all, length-append, length-drop, length-take}
 use Rattle.gds_records.specs.Records.{record_bytes, framing, declared_length, is_listed}
 use Rattle.gds_elements.specs.declared.library.GdsFault.{GdsFault}
 use Rattle.gds_elements.specs.declared.library.GdsFault.TheVariants.{Bad, NoMemory}
@@ -12,7 +12,8 @@ use Rattle.gds_elements.specs.Meaning.{library_of}
 use Rattle.gds_elements.specs.Faults.{Accepts, FirstFault, IsNextFault, OfFrame, OfRecord}
 use Rattle.gds_elements.specs.declared.library.Library as lib
 use Rattle.gds_elements.specs.Reading.{Holds, Runs, Stands, library_seen}
-use Rattle.gds_elements.specs.Pieces.{Goes, HasFault}
+use Rattle.gds_elements.specs.declared.pieces.Pieces.{Pieces}
+use Rattle.gds_elements.specs.Pieces.{Fed, FedTo, Goes, HasFault}
 use Rattle.gds_elements.proofs.Unique.{no_fault, one_fault}
 
 abbrev tested : Bool → Bool → Bool → Bool → Bool → Option ℕ
@@ -168,3 +169,74 @@ run_faults fed piece held stream new NoMemory g h = tt
 pub accepted_now : (fed held : List ℕ) (stream : Stream) (v : lib.Library) → Goes fed held stream → stream.ended ≡ true → ((rs : Records) → Holds rs stream.kept → library_seen v ≡ library_of rs)
     → Accepts fed (library_seen v)
 accepted_now fed held stream v g e same = (g.records, g.rest, record { whole = g.whole; passes = g.stands.passes }, sym g.stands.ended ∙ e, sym (same g.records g.stands.kept))
+
+pub no_items : (xs : List ℕ) → length xs ≡ 0 → xs ≡ []
+no_items [] e = refl
+no_items (x ∷ xs) e = absurd (omega (arith, e))
+
+pub going_bare : (fed held : List ℕ) (stream : Stream) → stream.ended ≡ false → held ≡ [] → Goes fed held stream → Going fed [] stream
+going_bare fed held stream going e g = subst (λ (ws : List ℕ). Going fed ws stream) e (going_of fed held stream going g)
+
+-- a piece of which a front was taken
+pub record Fronted (piece rest : List ℕ) (old now : Pieces) : Type 0 where
+  pub front : List ℕ
+  pub split : front ++ rest ≡ piece
+  pub reading : (fed : List ℕ) → Fed fed old → Fed (fed ++ front) now
+  pub sound : now.fault ≡ None
+  pub count : now.stream.count ≤ now.stream.offset
+  pub room : now.stream.offset + vec_len now.held + length rest ≤ old.stream.offset + vec_len old.held + length piece
+
+pub fronted_none : (piece : List ℕ) (s : Pieces) → s.fault ≡ None → s.stream.count ≤ s.stream.offset → Fronted piece piece s s
+fronted_none piece s e h = record {
+  front = [];
+  split = refl;
+  reading = λ fed f. subst (λ (ws : List ℕ). Fed ws s) (sym (append-nil fed)) f;
+  sound = e;
+  count = h;
+  room = omega arith;
+}
+
+pub front_more : (front head tail rest piece : List ℕ) → front ++ rest ≡ piece → head ++ tail ≡ rest → (front ++ head) ++ tail ≡ piece
+front_more front head tail rest piece e f = append_assoc front head tail ∙ ap (λ (ws : List ℕ). front ++ ws) f ∙ e
+
+pub fed_more : (fed front head : List ℕ) (s : Pieces) → Fed ((fed ++ front) ++ head) s → Fed (fed ++ (front ++ head)) s
+fed_more fed front head s f = subst (λ (ws : List ℕ). Fed ws s) (append_assoc fed front head) f
+
+-- a fault in a front is one in the whole
+pub fault_whole : (fed front head tail piece : List ℕ) (f : GdsFault) → (front ++ head) ++ tail ≡ piece → HasFault ((fed ++ front) ++ head) f → HasFault (fed ++ piece) f
+fault_whole fed front head tail piece f e h =
+    subst (λ (ws : List ℕ). HasFault ws f)
+    (ap (λ (ws : List ℕ). ws ++ tail) (append_assoc fed front head) ∙ append_assoc fed (front ++ head) tail ∙ ap (λ (ws : List ℕ). fed ++ ws) e)
+    (has_more ((fed ++ front) ++ head) tail f h)
+
+pub whole_front : (front piece : List ℕ) → front ++ [] ≡ piece → front ≡ piece
+whole_front front piece e = sym (append-nil front) ∙ e
+
+pub fronted_more : (piece rest : List ℕ) (old now new : Pieces) (count : ℕ) → Fronted piece rest old now → count ≤ length rest
+    → ((fed : List ℕ) → Fed fed now → Fed (fed ++ take count rest) new) → new.fault ≡ None → new.stream.count ≤ new.stream.offset
+    → new.stream.offset + vec_len new.held ≤ now.stream.offset + vec_len now.held + length (take count rest)
+    → Fronted piece (take (length rest - count) (drop count rest)) old new
+fronted_more piece rest old now new count f within reading sound counted room =
+    let tail : take (length rest - count) (drop count rest) ≡ drop count rest = take_all _ _ (omega (arith, length-drop count rest)) in
+    subst (λ (ws : List ℕ). Fronted piece ws old new) (sym tail) record {
+      front = f.front ++ take count rest;
+      split = front_more f.front (take count rest) (drop count rest) rest piece f.split (take-append-drop count rest);
+      reading = λ fed h. fed_more fed f.front (take count rest) new (reading (fed ++ f.front) (f.reading fed h));
+      sound = sound;
+      count = counted;
+      room = omega (arith, f.room, room, length-drop count rest, length-take count rest);
+    }
+
+pub fronted_fault : (piece rest : List ℕ) (old now new : Pieces) (count : ℕ) (fault : GdsFault) (f : Fronted piece rest old now)
+    → ((fed : List ℕ) → Fed fed now → HasFault (fed ++ take count rest) fault) → (fed : List ℕ) → Fed fed old → HasFault (fed ++ piece) fault
+fronted_fault piece rest old now new count fault f tells fed h =
+    fault_whole fed f.front (take count rest) (drop count rest) piece fault (front_more f.front (take count rest) (drop count rest) rest piece f.split (take-append-drop count rest))
+    (tells (fed ++ f.front) (f.reading fed h))
+
+-- all of the piece was taken
+pub fronted_all : (piece rest : List ℕ) (old now : Pieces) (f : Fronted piece rest old now) → length rest ≡ 0
+    → (fed : List ℕ) → Fed fed old → Fed (fed ++ piece) now × ((number index offset : ℕ) → number ≢ 1 → FirstFault (fed ++ piece) number index offset → ⊥)
+fronted_all piece rest old now f none fed h =
+    let e : f.front ≡ piece = whole_front f.front piece (subst (λ (ws : List ℕ). f.front ++ ws ≡ piece) (no_items rest none) f.split) in
+    let g : Fed (fed ++ piece) now = subst (λ (ws : List ℕ). Fed (fed ++ ws) now) e (f.reading fed h) in
+    (g, goes_tells (fed ++ piece) now.held.items now.stream (subst (λ (o : Option GdsFault). FedTo (fed ++ piece) now.held.items now.stream o) f.sound g))

@@ -1,6 +1,5 @@
 -- What is accepted is a text of the grammar.
-use Rattle.std.proofs.Common.{◌≡◌, ℕ, Bool, true, false, List, [], ◌∷◌, ◌++◌, Option, Some, None, refl, sym, subst, ◌∙◌, append_assoc}
-use Rattle.std.proofs.lemmas.Bool.{eqb-true}
+use Rattle.std.proofs.Common.{◌≡◌, ℕ, Bool, true, false, List, [], ◌∷◌, ◌++◌, None, refl, sym, subst, ◌∙◌, append_assoc}
 use Rattle.gds_records.specs.Records.{Rec, Records, NoRecords, ◌▸◌}
 use Rattle.gds_grammar.specs.Pattern.{Allows}
 use Rattle.gds_grammar.specs.Grammar.{library}

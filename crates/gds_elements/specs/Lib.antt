@@ -5,3 +5,7 @@ pub mod Faults
 pub mod Reading
 pub mod Pieces
 pub mod Once
+pub mod Fillable
+pub mod Token
+pub mod FedSoFar
+pub mod Fed

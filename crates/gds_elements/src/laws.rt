@@ -1,5 +1,6 @@
 //! Laws of the definitions: a byte list has one meaning.
 
+ghost use Rattle.gds_elements.specs.Fillable.{FillableLaw};
 ghost use Rattle.gds_elements.specs.Once.{DerivedLaw, NoFaultLaw, OneFaultLaw, OneLibraryLaw};
 
 /// A byte list means one library or has one first fault, never both.
@@ -12,4 +13,9 @@ pub fn one_meaning()
 /// The grammar derives the kinds of what is accepted.
 pub fn derived()
     ensures { DerivedLaw }
+{}
+
+/// Each shape of what is accepted can be filled: outlines end where they begin, and all numbers are those of four bytes.
+pub fn fillable()
+    ensures { FillableLaw }
 {}

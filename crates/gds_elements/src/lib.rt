@@ -4,15 +4,17 @@
 mod data;
 mod element;
 mod faults;
+mod fed;
 mod laws;
 mod library;
+mod library_reader;
 mod pieces;
 mod points;
 mod reader;
 mod reading;
 mod stream;
 
-pub use laws::{derived, one_meaning};
+pub use laws::{derived, fillable, one_meaning};
 pub use library::{GdsFault, Library, RawCell, RawRef, RawShape, RawText, ShapeForm};
-pub use pieces::LibraryReader;
+pub use library_reader::LibraryReader;
 pub use reading::read_library;

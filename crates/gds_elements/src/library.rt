@@ -1,7 +1,11 @@
 //! What a stream holds.
 
+ghost use Rattle.std.specs.Prelude.{◌≡◌};
+ghost use Rattle.gds_elements.specs.declared.library.GdsFault.TheVariants.{NoMemory};
+
 use geo_base::{LayerKey, Motion, Point, Rect};
 use net_names::Name;
+use std::alloc::AllocError;
 use thiserror::Error;
 
 /// A library: the data of HEADER, BGNLIB and UNITS, the name of LIBNAME without trailing NULs, and the cells in order.
@@ -77,4 +81,12 @@ pub enum GdsFault {
     Bad { number: u8, index: u64, offset: u64 },
     #[error("out of memory")]
     NoMemory,
+}
+
+impl From<AllocError> for GdsFault {
+    ghost from_gives = { λ _ e. e ≡ NoMemory };
+
+    fn from(_: AllocError) -> GdsFault {
+        GdsFault::NoMemory
+    }
 }

@@ -1,46 +1,87 @@
-//! A stream that comes in pieces.
+//! A stream that comes in pieces: the records taken, and the bytes of the one that isn't whole.
 
-ghost use Rattle.std.specs.Prelude.{◌≡◌, ◌<◌, ◌+◌, ◌≤◌, ◌^◌, ℕ, List, [], ◌++◌, length, vec_len, Result, IfOk, IfErr, IfSome};
+ghost use Rattle.std.specs.Prelude.{◌≡◌, ◌<◌, ◌+◌, ◌≤◌, ◌^◌, false, ℕ, List, [], ◌++◌, length, vec_len, IfOk, IfErr, IfSome, None, Some, Err, OnOk, OnErr};
 ghost use Rattle.gds_elements.specs.Faults.{Accepts};
 ghost use Rattle.gds_elements.specs.Reading.{library_seen, IsFaultOf};
-ghost use Rattle.gds_elements.specs.Pieces.{Fed, Tells};
+ghost use Rattle.gds_elements.specs.Pieces.{Advances, Fed, Goes, IsOfMemory, Tells};
 
 use crate::library::{GdsFault, Library};
 use crate::reading::TRUNCATED;
 use crate::stream::Stream;
 use std::alloc::Global;
 
-/// Reads a library in pieces: the answers don't depend on how the bytes are cut. It holds the bytes of a record that
-/// isn't there whole, and the library so far.
+/// What is held of the bytes fed: those of a record that isn't whole, the library so far, and the fault.
 #[derive(Drop)]
-pub struct LibraryReader {
-    held: Vec<u8>,
-    stream: Stream,
-    fault: Option<GdsFault>,
+pub struct Pieces {
+    pub held: Vec<u8>,
+    pub stream: Stream,
+    pub fault: Option<GdsFault>,
 }
 
-impl LibraryReader {
-    /// A reader that was fed nothing.
-    pub fn new(alloc: Global) -> LibraryReader
+// How many bytes of a piece to take next: all of them where none are held, else no more than the record held lacks, of
+// its first four bytes or of all that its length counts.
+fn next_count(held: &[u8], left: usize) -> usize
+    requires { 0 < left }
+    ensures some { 0 < result }
+    ensures within { result ≤ left }
+{
+    let lacking = match held {
+        [] => left,
+        [high, low, _, _, ..] => {
+            usize::from(u16::from_be_bytes([*high, *low])).saturating_sub(held.len())
+        }
+        _ => 4 - held.len(),
+    };
+    lacking.min(left).max(1)
+}
+
+impl Pieces {
+    /// Nothing was fed.
+    pub(crate) fn new(alloc: Global) -> Pieces
         ensures start { Fed [] result }
+        ensures sound { result.fault ≡ None }
         ensures empty { (result.stream.count ≡ 0) × (result.stream.offset ≡ 0) × (vec_len result.held ≡ 0) }
     {
-        LibraryReader {
+        Pieces {
             held: Vec::new(alloc),
             stream: Stream::new(alloc),
             fault: None,
         }
     }
 
-    /// Takes the next piece: a fault exactly where the bytes so far have one that more bytes don't mend, so not one for
-    /// too few bytes. A fault is kept, and each later call answers it. Cost: the piece and the bytes held.
-    pub fn feed(&mut self, alloc: Global, piece: &[u8]) -> Result<(), GdsFault>
+    // Takes the whole records of the bytes held and a piece behind them. The piece is copied only from the record on
+    // that isn't whole, where no bytes are held.
+    fn advance(&mut self, alloc: Global, piece: &[u8]) -> Result<(), GdsFault>
+        requires going { self.old.stream.ended ≡ false }
+        requires count { self.old.stream.count ≤ self.old.stream.offset }
+        requires offset { self.old.stream.offset + vec_len self.old.held + length piece.now < 2 ^ 63 }
+        ensures reading { (fed : List ℕ) → Goes fed self.old.held.items self.old.stream → Advances (fed ++ piece.now) result self.new }
+        ensures fault { self.new.fault ≡ self.old.fault }
+        ensures count { self.new.stream.count ≤ self.new.stream.offset }
+        ensures room { OnOk result (self.new.stream.offset + vec_len self.new.held ≤ self.old.stream.offset + vec_len self.old.held + length piece.now) }
+        ensures failed { OnErr result (self.new.stream.offset ≤ self.old.stream.offset + vec_len self.old.held + length piece.now) }
+    {
+        if self.held.is_empty() {
+            let at = self.stream.run(alloc, piece)?;
+            self.held = Vec::from_slice(alloc, &piece[at..])?;
+            return Ok(());
+        }
+        self.held.extend_from_slice(piece)?;
+        let at = self.stream.run(alloc, &self.held)?;
+        if at > 0 {
+            self.held = Vec::from_slice(alloc, &self.held[at..])?;
+        }
+        Ok(())
+    }
+
+    // Takes the next piece. A fault is kept, and the bytes held are let go.
+    fn take(&mut self, alloc: Global, piece: &[u8]) -> Result<(), GdsFault>
         requires count { self.old.stream.count ≤ self.old.stream.offset }
         requires offset { self.old.stream.offset + vec_len self.old.held + length piece.now < 2 ^ 63 }
         ensures reading { (fed : List ℕ) → Fed fed self.old → Fed (fed ++ piece.now) self.new × Tells (fed ++ piece.now) result }
         ensures keeps { IfErr result (λ fault. self.new.fault ≡ Some fault) }
+        ensures sound { OnOk result (self.new.fault ≡ None) }
         ensures again { IfSome self.old.fault (λ fault. result ≡ Err fault) }
-        // What the next call asks.
         ensures count { self.new.stream.count ≤ self.new.stream.offset }
         ensures room { self.new.stream.offset + vec_len self.new.held ≤ self.old.stream.offset + vec_len self.old.held + length piece.now }
     {
@@ -50,22 +91,8 @@ impl LibraryReader {
         if self.stream.ended {
             return Ok(());
         }
-        if self.held.extend_from_slice(piece).is_err() {
-            self.fault = Some(GdsFault::NoMemory);
-            return Err(GdsFault::NoMemory);
-        }
-        match self.stream.run(alloc, &self.held) {
-            Ok(at) => match Vec::from_slice(alloc, &self.held[at..]) {
-                Ok(rest) => {
-                    self.held = rest;
-                    Ok(())
-                }
-                Err(_) => {
-                    self.held = Vec::new(alloc);
-                    self.fault = Some(GdsFault::NoMemory);
-                    Err(GdsFault::NoMemory)
-                }
-            },
+        match self.advance(alloc, piece) {
+            Ok(()) => Ok(()),
             Err(fault) => {
                 self.held = Vec::new(alloc);
                 self.fault = Some(fault);
@@ -74,12 +101,38 @@ impl LibraryReader {
         }
     }
 
+    /// Takes the next piece: a fault exactly where the bytes so far have one that more bytes don't mend, so not one for
+    /// too few bytes. A fault is kept, and each later call answers it. Cost: the piece; bytes of a record that isn't
+    /// whole are copied, and no others.
+    pub(crate) fn feed(&mut self, alloc: Global, piece: &[u8]) -> Result<(), GdsFault>
+        requires count { self.old.stream.count ≤ self.old.stream.offset }
+        requires offset { self.old.stream.offset + vec_len self.old.held + length piece.now < 2 ^ 63 }
+        ensures reading { (fed : List ℕ) → Fed fed self.old → Fed (fed ++ piece.now) self.new × Tells (fed ++ piece.now) result }
+        ensures keeps { IfErr result (λ fault. self.new.fault ≡ Some fault) }
+        ensures sound { OnOk result (self.new.fault ≡ None) }
+        ensures again { IfSome self.old.fault (λ fault. result ≡ Err fault) }
+        ensures count { self.new.stream.count ≤ self.new.stream.offset }
+        ensures room { self.new.stream.offset + vec_len self.new.held ≤ self.old.stream.offset + vec_len self.old.held + length piece.now }
+    {
+        if let Some(fault) = self.fault {
+            return Err(fault);
+        }
+        let mut rest = piece;
+        while !rest.is_empty() {
+            let count = next_count(&self.held, rest.len());
+            self.take(alloc, &rest[..count])?;
+            rest = &rest[count..];
+        }
+        Ok(())
+    }
+
     /// The library of the bytes fed, or their first fault.
-    pub fn finish(self) -> Result<Library, GdsFault>
+    pub(crate) fn finish(self) -> Result<Library, GdsFault>
         ensures found { (fed : List ℕ) → Fed fed self → IfOk result (λ v. Accepts fed (library_seen v)) }
         ensures fault { (fed : List ℕ) → Fed fed self → IfErr result (λ e. IsFaultOf fed e) }
+        ensures memory { IfErr result (λ e. IsOfMemory e self.fault) }
     {
-        let LibraryReader { stream, fault, .. } = self;
+        let Pieces { stream, fault, .. } = self;
         if let Some(fault) = fault {
             return Err(fault);
         }

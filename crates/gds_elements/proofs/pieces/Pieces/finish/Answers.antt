@@ -3,7 +3,7 @@ use Rattle.gds_elements.specs.declared.library.GdsFault.{GdsFault}
 use Rattle.gds_elements.specs.Pieces.{FedTo, Goes}
 use Rattle.gds_elements.proofs.PieceLemmas.{accepted_now, cut_now}
 use Rattle.gds_elements.proofs.Runs.{not_true, not_false}
-use Rattle.gds_elements.proofs.pieces.LibraryReader.finish.Goals as goal
+use Rattle.gds_elements.proofs.pieces.Pieces.finish.Goals as goal
 
 pub returns-then-not-stream-clause-fault : goal.returns-then-not-stream-clause-fault
 returns-then-not-stream-clause-fault c = λ fed h.

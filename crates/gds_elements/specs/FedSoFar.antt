@@ -1,0 +1,8 @@
+-- What a reader in pieces is in contracts.
+use Rattle.std.specs.Prelude.{ℕ, List, Option}
+use Rattle.gds_elements.specs.declared.library.GdsFault.{GdsFault}
+
+-- the bytes fed to it, and the fault that it answered
+pub record FedSoFar : Type 0 where
+  pub fed : List ℕ
+  pub fault : Option GdsFault
