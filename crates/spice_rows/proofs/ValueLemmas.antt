@@ -1,0 +1,55 @@
+-- A value's answer is that of its number.
+use Rattle.std.proofs.Common.{◌≡◌, ◌⊎◌, inl, inr, ℕ, zero, suc, ◌+◌, ◌*◌, ◌^◌, ◌/◌, ◌%◌, ◌<◌, ◌≤◌, ◌==◌, Bool, true, false, Option, Some, None, Result, Ok, Err, refl, sym, ap, arith}
+use Rattle.std.specs.Prelude.{nat_lt}
+use Rattle.std.proofs.Math.Nat.{mul-div_cancel, mul-mod_left, mul-le-mul_right, mod-add-div', pow-suc}
+use Rattle.std.proofs.lemmas.Bool.Decides.{Decides-eqb}
+use Rattle.fixed_num.specs.declared.femto.Femto.{Femto}
+use Rattle.fixed_num.specs.declared.femto.ValueFault.{ValueFault}
+use Rattle.fixed_num.specs.declared.femto.ValueFault.TheVariants.{NotNumber, TooLarge, TooFine}
+use Rattle.fixed_num.specs.Values.{Number}
+use Rattle.fixed_num.specs.Scan.{Answers}
+use Rattle.spice_rows.specs.Sizes.{value_at, settled}
+use Rattle.spice_rows.specs.Seen.{value_seen}
+
+positive : (n : ℕ) → 0 < 10 ^ n
+positive zero = omega arith
+positive (suc n) = let h = positive n in omega (arith, pow-suc 10 n)
+
+either : (t : Bool) → (t ≡ true) ⊎ (t ≡ false)
+either true = inl refl
+either false = inr refl
+
+not_lt : (a b : ℕ) → b ≤ a → nat_lt a b ≡ false
+not_lt a b h = elim (either (nat_lt a b)) [ inl t ↦ absurd (grind (arith, t, h)) | inr f ↦ f ]
+
+is_lt : (a b : ℕ) → a < b → nat_lt a b ≡ true
+is_lt a b h = elim (either (nat_lt a b)) [ inl t ↦ t | inr f ↦ absurd (grind (arith, f, h)) ]
+
+whole : (a d f : ℕ) → 0 < d → a ≡ f * d → f ≤ 10 ^ 18 → settled a d ≡ Ok f
+whole a d f p e l =
+    let low : nat_lt (10 ^ 18 * d) (f * d) ≡ false = not_lt (10 ^ 18 * d) (f * d) (mul-le-mul_right d l) in
+    let none : (f * d) % d ≡ 0 = mul-mod_left f d in
+    let zero_is : ((f * d) % d == 0) ≡ true = (Decides-eqb ((f * d) % d) 0).1 none in
+    rw e (rw (low, zero_is) (ap (λ (n : ℕ). let r : Result ℕ ValueFault = Ok n in r) (mul-div_cancel f p)))
+
+large : (a d : ℕ) → 10 ^ 18 * d < a → settled a d ≡ Err TooLarge
+large a d l = rw (is_lt (10 ^ 18 * d) a l) refl
+
+fine : (a d : ℕ) → (10 ^ 18 * d < a → ⊥) → ((f : ℕ) → a ≡ f * d → ⊥) → settled a d ≡ Err TooFine
+fine a d l none = elim (either (nat_lt (10 ^ 18 * d) a)) [
+  | inl t ↦ absurd (l (grind (arith, t)))
+  | inr f ↦ elim (either (a % d == 0)) [
+    | inl z ↦ let zero_is : a % d ≡ 0 = (Decides-eqb (a % d) 0).0 z in let split : a % d + a / d * d ≡ a = mod-add-div' a d in absurd (none (a / d) (omega (arith, split, zero_is)))
+    | inr n ↦ rw (f, n) refl
+  ]
+]
+
+pub answer_is : (o : Option Number) (r : Result Femto ValueFault) → Answers o r → value_seen r ≡ value_at o
+answer_is None (Ok f) h = absurd h
+answer_is None (Err NotNumber) h = refl
+answer_is None (Err TooLarge) h = absurd h
+answer_is None (Err TooFine) h = absurd h
+answer_is (Some n) (Ok f) h = sym (whole (n.mantissa * 10 ^ n.up) (10 ^ n.down) f.0 (positive n.down) h.0 h.1)
+answer_is (Some n) (Err NotNumber) h = absurd h
+answer_is (Some n) (Err TooLarge) h = sym (large (n.mantissa * 10 ^ n.up) (10 ^ n.down) h)
+answer_is (Some n) (Err TooFine) h = sym (fine (n.mantissa * 10 ^ n.up) (10 ^ n.down) h.0 h.1)

@@ -1,0 +1,6 @@
+pub mod Gather
+pub mod Circuits
+pub mod Faults
+pub mod Search
+pub mod Seen
+pub mod Ordered

@@ -1,0 +1,10 @@
+//! Netlist texts: SPICE read and written.
+#![tactic(auto)]
+
+mod calls;
+mod faults;
+mod gather;
+mod ordered;
+
+pub use gather::{CircuitCards, Gathered, gather_cards};
+pub use ordered::{OrderedCards, order_cards};

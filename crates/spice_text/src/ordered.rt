@@ -1,0 +1,89 @@
+ghost use Rattle.std.specs.Prelude.{◌≡◌, IfOk, IfErr, map, OnOk};
+ghost use Rattle.call_order.specs.Order.{lists};
+ghost use Rattle.spice_text.specs.Faults.{AreOrdered, IsCircuitsFault, IsWholeFault};
+ghost use Rattle.spice_text.specs.Ordered.{IsOrdered};
+ghost use Rattle.spice_text.specs.Gather.{closed};
+ghost use Rattle.spice_text.specs.Seen.{circuit_seen, some_circuit, cards_seen};
+
+use crate::calls::call_lists;
+use crate::faults::{circuit_names, first_missing, first_other_count};
+use crate::gather::{CircuitCards, Gathered};
+use call_order::{CallOrder, call_order};
+use net_names::Name;
+use spice_rows::SpiceFault;
+use std::alloc::{AllocError, Global};
+
+/// Circuits, whose calls fit, with an order of them in which each stands behind those that it
+/// calls.
+#[derive(Drop)]
+pub struct OrderedCards {
+    pub circuits: Vec<CircuitCards>,
+    pub globals: Vec<Name>,
+    pub calls: Vec<Vec<u32>>,
+    pub order: Vec<u32>,
+}
+
+// All circuits, that of the cards outside last.
+fn all_of(
+    circuits: Vec<CircuitCards>,
+    outside: Option<CircuitCards>,
+) -> Result<Vec<CircuitCards>, AllocError>
+    ensures { IfOk result (λ all. map circuit_seen all.items
+        ≡ closed (map circuit_seen circuits.items) (some_circuit outside)) }
+{
+    let mut all = circuits;
+    if let Some(top) = outside {
+        all.push(top)?;
+    }
+    Ok(all)
+}
+
+/// The circuits of a text's cards in an order of calls, or what is first wrong with them as a
+/// whole: a circuit that doesn't end, a second circuit of a name, a call of no circuit, a call
+/// with another number of nets than pins, a circuit that calls itself. Linear in the cards.
+pub fn order_cards(alloc: Global, all: Gathered) -> Result<OrderedCards, SpiceFault>
+    ensures ordered { IfOk result (IsOrdered (cards_seen all)) }
+    ensures fault { IfErr result (IsWholeFault (cards_seen all)) }
+{
+    if let Some(open) = &all.open_one {
+        return Err(SpiceFault::NotClosed(open.line));
+    }
+    let circuits = all_of(all.circuits, all.outside)?;
+    match ordered(alloc, &circuits) {
+        Ok((calls, order)) => Ok(OrderedCards {
+            circuits,
+            globals: all.globals,
+            calls,
+            order,
+        }),
+        Err(e) => Err(e),
+    }
+}
+
+fn ordered(
+    alloc: Global,
+    circuits: &[CircuitCards],
+) -> Result<(Vec<Vec<u32>>, Vec<u32>), SpiceFault>
+    ensures ordered { IfOk result (λ r. AreOrdered (map circuit_seen circuits.now)
+        (lists r.0.items) r.1.items) }
+    ensures fault { IfErr result (IsCircuitsFault (map circuit_seen circuits.now)) }
+{
+    let names = circuit_names(alloc, circuits)?;
+    if let Some(line) = first_missing(&names, circuits) {
+        return Err(SpiceFault::NoSuchCircuit(line));
+    }
+    if let Some(line) = first_other_count(&names, circuits) {
+        return Err(SpiceFault::PinCount(line));
+    }
+    if circuits.len() > 0xFFFF_FFFF {
+        return Err(SpiceFault::NoMemory);
+    }
+    let calls = call_lists(alloc, &names, circuits)?;
+    match call_order(alloc, &calls)? {
+        CallOrder::CalleesFirst(order) => Ok((calls, order)),
+        CallOrder::Cycle(k) => {
+            let name = circuits[k as usize].name.try_clone(alloc)?;
+            Err(SpiceFault::CircuitCycle(name))
+        }
+    }
+}
