@@ -18,7 +18,7 @@ use Rattle.cell_graph.proofs.Bridge.{has_in, in_has, step_held, hull_sound}
 use Rattle.cell_context.specs.Over.{IsOver}
 use Rattle.deep_laws.specs.Zones.{IsFromSibling, IsDisturbedFrom}
 use Rattle.deep_laws.proofs.Zones.{array_zones}
-use Rattle.deep_tables.specs.Entries.{IsZone, IsInGrown, grown}
+use Rattle.deep_tables.specs.Frames.{IsFramedZone, IsInGrown, grown}
 use Rattle.zone_phase.specs.Steps.{GrownLaw, IsBrought, ZoneStepLaw}
 
 -- a number within one step of a range is within one step of a number of it

@@ -7,7 +7,7 @@ ghost use Rattle.geo_base.specs.declared.shapes.Square.{Square};
 ghost use Rattle.rect_sets.specs.Rects.{covers};
 ghost use Rattle.cell_graph.specs.Linked.{IsFrame, IsHull, IsInside, IsRectWithin, motion_at};
 ghost use Rattle.cell_context.specs.Arrays.{IsNearArray};
-ghost use Rattle.deep_tables.specs.Entries.{grown};
+ghost use Rattle.deep_tables.specs.Frames.{grown};
 ghost use Rattle.zone_phase.specs.Pulls.{OnRects, AreCovering};
 
 use cell_context::motion_at;
