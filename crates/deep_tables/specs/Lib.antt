@@ -1,3 +1,6 @@
 pub mod Entries
+pub mod Frames
+pub mod Laws
+pub mod Layers
 pub mod Positions
-pub mod Tables
+pub mod Zones

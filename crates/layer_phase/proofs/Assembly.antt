@@ -12,7 +12,7 @@ use Rattle.cell_graph.specs.Linked.{Linked, IsSound, HullHas, hull_of, cell_at, 
 use Rattle.cell_graph.proofs.Bridge.{hulls, has_in, in_has}
 use Rattle.deep_laws.specs.Layers.{AreDecidedBelow}
 use Rattle.deep_laws.proofs.Layers.{candidate, below}
-use Rattle.deep_tables.specs.Entries.{IsInGrown, grown}
+use Rattle.deep_tables.specs.Frames.{IsInGrown, grown}
 use Rattle.layer_phase.specs.Parts.{IsFromCalmHull, HaveZones, LayerLaw}
 
 pub in_grown : (o : Option Rect) (q : Square) → HullHas o q → IsInGrown o q
@@ -52,9 +52,10 @@ below_held d name cell q op a b sound h =
     record { number = h.number; place = h.place; square = h.square; placed = h.placed; held = hulls d sound h.place.cell u.0 h.square u.2; calm = λ e. h.kept.1 ((name_still (plain d) (Binary op a b) h.place.cell h.square).1 e); image = h.image }
 
 pub layer : LayerLaw
-layer d op a b cell places flat zone calm local sound reached zones parts made = record {
-  local = λ q. (to q, from q);
-  parted = part;
+layer d op a b cell places flat zone calm local sound reached zones parts canonical made = record {
+  canonical = canonical;
+  each = λ q. (to q, from q);
+  parted = λ q kept. elim (part q kept) [ inl e ↦ inl (to q e) | inr h ↦ inr h ];
 }
   where
     name : Reading

@@ -1,61 +1,62 @@
 -- A right table tells what placed cells keep.
-use Rattle.std.proofs.Common.{◌≡◌, inl, inr, ℕ, ◌<◌, false, [], Some, slice_index_or, sym, ◌∙◌, ap, subst}
+use Rattle.std.proofs.Common.{◌≡◌, inl, inr, ℕ, false, List, Option, Some, sym, ◌∙◌, ap, subst}
+use Rattle.geo_base.specs.declared.shapes.Rect.{Rect}
 use Rattle.geo_base.specs.Motions.{moved_square}
 use Rattle.geo_base.specs.declared.shapes.Square.{Square}
 use Rattle.rect_sets.specs.Rects.{covers}
 use Rattle.flat_layout.specs.Arrays.{place_at}
-use Rattle.flat_layout.specs.Layers.{Empty, inputs}
+use Rattle.flat_layout.specs.Layers.{inputs}
 use Rattle.flat_layout.specs.Layout as flat
 use Rattle.flat_layout.specs.Layout.{IsReached, IsPlaced, IsDisturbed}
 use Rattle.flat_laws.proofs.Cover.{reached_below}
 use Rattle.cell_graph.specs.declared.cells.Place.{Place}
 use Rattle.cell_graph.specs.Linked.{Linked, IsStep, HullHas, hull_of, cell_at, plain, reference}
 use Rattle.cell_graph.proofs.Bridge.{step_of, placed_of}
-use Rattle.deep_tables.specs.declared.cells.CellZones.{CellZones}
-use Rattle.deep_tables.specs.declared.tables.Zones.{Zones}
-use Rattle.deep_tables.specs.Tables.{ZoneAt}
+use Rattle.deep_tables.specs.declared.zones.CellZones.{CellZones}
+use Rattle.deep_tables.specs.Frames.{IsFramedZone}
+use Rattle.deep_tables.proofs.Framing.{framed}
+use Rattle.deep_tables.proofs.Reading.{zone_at}
 use Rattle.layer_phase.specs.Parts.{IsFromCalmHull}
-use Rattle.layer_phase.specs.Keeps.{IsKeptBy}
+use Rattle.layer_phase.specs.Keeps.{IsKeptBy, IsZoneAt}
 use Rattle.layer_phase.specs.Bridge.{KeptLaw}
 use Rattle.layer_phase.proofs.Assembly.{in_grown, is_or_not, not_both}
 
 reached_step : (d : Linked) (cell i row column : ℕ) (p : Place) → IsReached (plain d) cell → IsStep d cell i row column p → IsReached (plain d) p.cell
 reached_step d cell i row column p reached step = reached_below (plain d) cell _ (place_at (reference p) row column) reached (placed_of d cell i row column p step)
 
-one_entry : (z : Zones) (cell : ℕ) (v w : CellZones) → ZoneAt z cell v → ZoneAt z cell w → v ≡ w
-one_entry z cell v w h g = let a = h.there in let b = g.there in let e : Some v ≡ Some w = sym a ∙ b in cc
+one_entry : (z : List (Option CellZones)) (cell name : ℕ) (v w : List Rect) → IsZoneAt z cell name v → IsZoneAt z cell name w → v ≡ w
+one_entry z cell name v w h g = let e : Some v ≡ Some w = sym h ∙ g in cc
 
 pub kept : KeptLaw
-kept d names z cell name sound right reached lt = record {
-  entries = λ i row column p step.
-      let r = right p.cell (reached_step d cell i row column p reached step) in
-      (r.0, r.1, subst (λ n. name < n) (sym r.2.count) lt);
-  zones = λ k p placed.
-      let r = right p.cell (reached_below (plain d) cell k p reached placed) in
-      (slice_index_or r.0.layers.items name [], r.2.each name lt);
+kept d r z x cell name sound hulls right reached named = record {
+  entries = λ i row column p step. let e = at p.cell (reached_step d cell i row column p reached step) in (e.0, e.1);
+  zones = λ k p placed. let e = at p.cell (reached_below (plain d) cell k p reached placed) in (e.0, e.2);
   kept = λ q. (to q, from q);
 }
   where
-    to : (q : Square) → IsKeptBy d z cell name q → IsFromCalmHull d (slice_index_or names name Empty) cell q
+    at : (e : ℕ) → IsReached (plain d) e → (zone : List Rect) × IsZoneAt z e name zone × IsFramedZone d (inputs x) e zone
+    at e there = let h = zone_at (plain d) r z e name x right there named in (h.0, h.1, (framed d (inputs x) e h.0 (hulls e there) h.2.canonical).0 h.2)
+
+    to : (q : Square) → IsKeptBy d z cell name q → IsFromCalmHull d x cell q
     to q h =
-        let r = right h.from.cell (reached_step d cell h.index h.row h.column h.from reached h.step) in
-        let same : r.0 ≡ h.entry = one_entry z h.from.cell r.0 h.entry r.1 h.at in
-        let off : covers (slice_index_or r.0.layers.items name []) h.square ≡ false = subst (λ (v : CellZones). covers (slice_index_or v.layers.items name []) h.square ≡ false) (sym same) h.off in
+        let e = at h.from.cell (reached_step d cell h.index h.row h.column h.from reached h.step) in
+        let same : e.0 ≡ h.entry = one_entry z h.from.cell name e.0 h.entry e.1 h.at in
+        let off : covers e.0 h.square ≡ false = subst (λ (v : List Rect). covers v h.square ≡ false) (sym same) h.off in
         record {
           number = _;
           place = place_at (reference h.from) h.row h.column;
           square = h.square;
           placed = placed_of d cell h.index h.row h.column h.from h.step;
           held = h.held;
-          calm = λ g. not_both (covers (slice_index_or r.0.layers.items name []) h.square) ((r.2.each name lt h.square).1 (g, in_grown (hull_of (cell_at d h.from.cell)) h.square h.held)) off;
+          calm = λ g. not_both (covers e.0 h.square) ((e.2 h.square).1 (g, in_grown (hull_of (cell_at d h.from.cell)) h.square h.held)) off;
           image = h.image;
         }
 
-    from : (q : Square) → IsFromCalmHull d (slice_index_or names name Empty) cell q → IsKeptBy d z cell name q
+    from : (q : Square) → IsFromCalmHull d x cell q → IsKeptBy d z cell name q
     from q h =
         let t = step_of d cell h.number h.place h.placed in
-        let r = right t.from.cell (reached_step d cell t.index t.row t.column t.from reached t.step) in
-        let calm : IsDisturbed (plain d) (inputs (slice_index_or names name Empty)) t.from.cell h.square → ⊥ = subst (λ (x : flat.Place). IsDisturbed (plain d) (inputs (slice_index_or names name Empty)) x.cell h.square → ⊥) t.is h.calm in
+        let e = at t.from.cell (reached_step d cell t.index t.row t.column t.from reached t.step) in
+        let calm : IsDisturbed (plain d) (inputs x) t.from.cell h.square → ⊥ = subst (λ (y : flat.Place). IsDisturbed (plain d) (inputs x) y.cell h.square → ⊥) t.is h.calm in
         record {
           index = t.index;
           row = t.row;
@@ -63,12 +64,12 @@ kept d names z cell name sound right reached lt = record {
           from = t.from;
           step = t.step;
           square = h.square;
-          held = subst (λ (x : flat.Place). HullHas (hull_of (cell_at d x.cell)) h.square) t.is h.held;
-          entry = r.0;
-          at = r.1;
-          off = elim (is_or_not (covers (slice_index_or r.0.layers.items name []) h.square)) [
-            | inl e ↦ absurd (calm ((r.2.each name lt h.square).0 e).0)
-            | inr e ↦ e
+          held = subst (λ (y : flat.Place). HullHas (hull_of (cell_at d y.cell)) h.square) t.is h.held;
+          entry = e.0;
+          at = e.1;
+          off = elim (is_or_not (covers e.0 h.square)) [
+            | inl c ↦ absurd (calm ((e.2 h.square).0 c).0)
+            | inr c ↦ c
           ];
-          image = ap (λ (x : flat.Place). moved_square x.motion h.square) (sym t.is) ∙ h.image;
+          image = ap (λ (y : flat.Place). moved_square y.motion h.square) (sym t.is) ∙ h.image;
         }

@@ -1,5 +1,5 @@
 // The parts of which a cell's layers are made.
-ghost use Rattle.std.specs.Prelude.{◌≡◌, ◌↔◌, ◌<◌, ◌^◌, ◌&&◌, not, ℕ, IfOk, OnOk, true, length, slice_index_or, []};
+ghost use Rattle.std.specs.Prelude.{◌≡◌, ◌↔◌, ◌<◌, ◌^◌, ◌&&◌, not, ℕ, IfOk, OnOk, true, length, List};
 ghost use Rattle.std.specs.List.{All};
 ghost use Rattle.geo_base.specs.Rects.{IsRect, has};
 ghost use Rattle.geo_base.specs.declared.shapes.Rect.{Rect};
@@ -8,15 +8,14 @@ ghost use Rattle.rect_sets.specs.Rects.{covers};
 ghost use Rattle.flat_layout.specs.Layers.{Reading, IsLocal};
 ghost use Rattle.flat_layout.specs.Layout.{InFlatInput, IsReached};
 ghost use Rattle.cell_graph.specs.Linked.{IsRectWithin, plain};
-ghost use Rattle.deep_tables.specs.Tables.{ZoneAt};
-ghost use Rattle.layer_phase.specs.Keeps.{HasEntry, HaveEntries, IsKeptBy};
+ghost use Rattle.layer_phase.specs.Keeps.{HasEntry, HaveEntries, IsKeptBy, IsZoneAt};
 ghost use Rattle.cell_context.specs.Over.{IsPiece};
-ghost use Rattle.deep_tables.specs.declared.cells.CellZones.{CellZones};
+ghost use Rattle.deep_tables.specs.declared.zones.CellZones.{CellZones};
 ghost use Rattle.layer_phase.specs.Looks.{AreNear};
 
 use cell_context::{Visit, gather, push_images, visits};
 use cell_graph::Design;
-use deep_tables::Zones;
+use deep_tables::{ZoneKey, Zones};
 use edge_boolean::combine;
 use geo_base::{LayerKey, Op, Rect};
 use rect_sets::{RectSet, Rule, combine_rects};
@@ -48,9 +47,9 @@ pub fn input_squares(
 fn calm_part(alloc: Global, zones: &Zones, visit: &Visit, name: u32) -> Result<RectSet, AllocError>
     requires window { IsRect visit.now.window }
     requires entry { HasEntry zones.now visit.now.cell name }
-    ensures { IfOk result (λ r. (v : CellZones) → ZoneAt zones.now visit.now.cell v → (s : Square) → covers r s ≡ (has visit.now.window s && not (covers (slice_index_or v.layers.items name []) s))) }
+    ensures { IfOk result (λ r. (v : List Rect) → IsZoneAt zones.now visit.now.cell name v → (s : Square) → covers r s ≡ (has visit.now.window s && not (covers v s))) }
 {
-    let zone = zones.disturbed(visit.cell, name);
+    let zone = zones.disturbed(visit.cell, ZoneKey::Layer(name));
     let keep = combine_rects(alloc, &[visit.window], zone.rects(), Rule::Not)?;
     Ok(keep)
 }

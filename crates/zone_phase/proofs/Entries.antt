@@ -14,8 +14,9 @@ use Rattle.flat_layout.specs.Layout.{IsReached}
 use Rattle.cell_graph.specs.Linked.{Linked, IsSound, IsHull, IsFrame, IsRectWithin, HullIsSound, hull_of, cell_at, plain}
 use Rattle.cell_graph.proofs.Bridge.{in_has, or_left, or_right, hull_sound}
 use Rattle.cell_context.proofs.Visiting.{within_inside, inside_from}
-use Rattle.deep_tables.specs.declared.cells.CellZones.{CellZones}
-use Rattle.deep_tables.specs.Entries.{IsZone, IsInGrown, grown, zone_cell}
+use Rattle.deep_tables.specs.declared.zones.CellZones.{CellZones}
+use Rattle.deep_tables.specs.Frames.{IsFramedZone, IsInGrown, grown}
+use Rattle.deep_tables.specs.Entries.{downward_cell}
 use Rattle.zone_phase.specs.Parents.{IsFromReferences}
 use Rattle.zone_phase.specs.Jobs.{IsEntry, zone_in, IsFromJob, IsFromJobs}
 
@@ -69,18 +70,17 @@ jobs_more d value name cell key g jobs k old out new first second q = (
       | yes e ↦ (second q).1 (inr (subst (λ i. IsFromJob d value name cell key g q (slice_index jobs i)) e j.2))
       | no not ↦ (second q).1 (inl ((first q).1 (inr (j.0, (omega arith), j.2))))
     ]
-  ]),
-)
+  ]))
 
-pub entry_zone : (d : Linked) (key : LayerKey) (name cell : ℕ) (o : Option CellZones) → (v : CellZones) × (o ≡ Some v) → IfSome o (IsEntry d key name cell) → IsZone d (Input key) cell (zone_in o name)
-entry_zone d key name cell o (v, e) h = subst (λ x. IsZone d (Input key) cell (zone_in x name)) (sym e) (if_some (IsEntry d key name cell) o v e h).1
+pub entry_zone : (d : Linked) (key : LayerKey) (name cell : ℕ) (o : Option CellZones) → (v : CellZones) × (o ≡ Some v) → IfSome o (IsEntry d key name cell) → IsFramedZone d (key ∷ []) cell (zone_in o name)
+entry_zone d key name cell o (v, e) h = subst (λ x. IsFramedZone d (key ∷ []) cell (zone_in x name)) (sym e) (if_some (IsEntry d key name cell) o v e h).1
 
 pub at_any : {A : Type 0} (xs : List A) (k : ℕ) (a b : A) → k < length xs → slice_index_or xs k a ≡ slice_index_or xs k b
 at_any [] k a b lt = absurd (let z : ⊥ = omega arith in z)
 at_any (x ∷ xs) zero a b lt = refl
 at_any (x ∷ xs) (suc k) a b lt = at_any xs k a b (omega arith)
 
-pub job_reached : (d : Linked) (job : ℕ) → IsSound d → job < length d.order → IsReached (plain d) (zone_cell d job)
+pub job_reached : (d : Linked) (job : ℕ) → IsSound d → job < length d.order → IsReached (plain d) (downward_cell d job)
 job_reached d job sound lt = sound.order.reached (length d.order - 1 - job) (omega arith)
 
 pub made_of : (d : Linked) (value : ℕ → Option CellZones) (name cell : ℕ) (key : LayerKey) (g : Rect) (jobs : List ℕ) (set old out : List Rect) → old ≡ [] → ((s : Square) → covers set s ≡ covers out s)
@@ -90,5 +90,4 @@ made_of d value name cell key g jobs set old out none same h q = (
     | inl f ↦ let x : false ≡ true = subst (λ l. covers l q ≡ true) none f in absurd (let z : ⊥ = cc in z)
     | inr j ↦ j
   ]),
-  (λ j. same q ∙ (h q).1 (inr j)),
-)
+  (λ j. same q ∙ (h q).1 (inr j)))

@@ -1,14 +1,14 @@
 -- Parents by their jobs.
-use Rattle.std.specs.Prelude.{◌≡◌, ℕ, ◌<◌, List, [], Option, Some, None, length, slice_get, slice_index, slice_index_or}
+use Rattle.std.specs.Prelude.{◌≡◌, ℕ, ◌<◌, List, [], ◌∷◌, Option, Some, None, length, slice_get, slice_index, slice_index_or}
 use Rattle.geo_base.specs.declared.layer.LayerKey.{LayerKey}
 use Rattle.geo_base.specs.declared.shapes.Rect.{Rect}
 use Rattle.geo_base.specs.declared.shapes.Square.{Square}
-use Rattle.flat_layout.specs.Layers.{Input}
 use Rattle.flat_layout.specs.Layout.{IsReached}
 use Rattle.cell_graph.specs.declared.cells.Place.{Place}
 use Rattle.cell_graph.specs.Linked.{Linked, plain, cell_at, places_at}
-use Rattle.deep_tables.specs.declared.cells.CellZones.{CellZones}
-use Rattle.deep_tables.specs.Entries.{IsZone, zone_cell}
+use Rattle.deep_tables.specs.declared.zones.CellZones.{CellZones}
+use Rattle.deep_tables.specs.Frames.{IsFramedZone}
+use Rattle.deep_tables.specs.Entries.{downward_cell}
 use Rattle.zone_phase.specs.Parents.{IsFromReferences}
 
 -- a name's squares of an entry
@@ -18,11 +18,11 @@ zone_in (Some v) name = slice_index_or v.layers.items name []
 
 -- the entry has the name's squares, and these are the cell's
 abbrev pub IsEntry : Linked → LayerKey → ℕ → ℕ → CellZones → Type 0
-IsEntry d key name cell v = (name < length v.layers.items) × IsZone d (Input key) cell (slice_index_or v.layers.items name [])
+IsEntry d key name cell v = (name < length v.layers.items) × IsFramedZone d (key ∷ []) cell (slice_index_or v.layers.items name [])
 
 -- a job's parent brings q
 abbrev pub IsFromJob : Linked → (ℕ → Option CellZones) → ℕ → ℕ → LayerKey → Rect → Square → ℕ → Type 0
-IsFromJob d value name cell key g q job = IsFromReferences d (zone_in (value job) name) (zone_cell d job) (length (places_at (cell_at d (zone_cell d job)))) cell key g q
+IsFromJob d value name cell key g q job = IsFromReferences d (zone_in (value job) name) (downward_cell d job) (length (places_at (cell_at d (downward_cell d job)))) cell key g q
 
 -- one of the first jobs of the list brings q
 abbrev pub IsFromJobs : Linked → (ℕ → Option CellZones) → ℕ → ℕ → LayerKey → Rect → List ℕ → ℕ → Square → Type 0
@@ -30,4 +30,4 @@ IsFromJobs d value name cell key g jobs bound q = (k : ℕ) × (k < bound) × Is
 
 -- each reached cell that places the cell has its job among these
 abbrev pub AreParents : Linked → ℕ → List ℕ → Type 0
-AreParents d cell jobs = (parent i : ℕ) (p : Place) → IsReached (plain d) parent → slice_get (places_at (cell_at d parent)) i ≡ Some p → p.cell ≡ cell → (k : ℕ) × (k < length jobs) × (zone_cell d (slice_index jobs k) ≡ parent)
+AreParents d cell jobs = (parent i : ℕ) (p : Place) → IsReached (plain d) parent → slice_get (places_at (cell_at d parent)) i ≡ Some p → p.cell ≡ cell → (k : ℕ) × (k < length jobs) × (downward_cell d (slice_index jobs k) ≡ parent)

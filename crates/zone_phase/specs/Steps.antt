@@ -1,17 +1,16 @@
 -- Disturbed squares of a cell from those of its parents.
-use Rattle.std.specs.Prelude.{◌≡◌, ◌⊎◌, ◌↔◌, ℕ, true, List, Some}
+use Rattle.std.specs.Prelude.{◌≡◌, ◌⊎◌, ◌↔◌, ℕ, true, List, [], ◌∷◌, Some}
 use Rattle.geo_base.specs.Motions.{moved_square}
 use Rattle.geo_base.specs.declared.layer.LayerKey.{LayerKey}
 use Rattle.geo_base.specs.declared.shapes.Rect.{Rect}
 use Rattle.geo_base.specs.declared.shapes.Square.{Square}
 use Rattle.rect_sets.specs.Rects.{covers}
-use Rattle.flat_layout.specs.Layers.{Input}
 use Rattle.flat_layout.specs.Layout.{IsReached}
 use Rattle.cell_graph.specs.declared.cells.Place.{Place}
 use Rattle.cell_graph.specs.Linked.{Linked, IsSound, IsStep, plain, motion_at, hull_of, cell_at}
 use Rattle.cell_context.specs.Over.{IsOver}
 use Rattle.deep_laws.specs.Zones.{IsFromSibling}
-use Rattle.deep_tables.specs.Entries.{IsZone, IsInGrown}
+use Rattle.deep_tables.specs.Frames.{IsFramedZone, IsInGrown}
 
 -- a placed cell's grown hull comes to lie in the grown hull of the cell that places it
 abbrev pub GrownLaw : Type 0
@@ -29,11 +28,11 @@ pub record IsBrought (d : Linked) (zones : ℕ → List Rect) (cell : ℕ) (key 
   pub step : IsStep d parent index row column from
   pub here : from.cell ≡ cell
   pub why : (covers (zones parent) (moved_square (motion_at from row column) q) ≡ true)
-      ⊎ (IsOver d parent (Some index) key (moved_square (motion_at from row column) q) ⊎ IsFromSibling d from row column key q)
+    ⊎ (IsOver d parent (Some index) key (moved_square (motion_at from row column) q) ⊎ IsFromSibling d from row column key q)
 
 -- where each reached parent has its disturbed squares, the cell has those that its parents' references bring into its grown hull
 abbrev pub ZoneStepLaw : Type 0
 ZoneStepLaw = (d : Linked) (zones : ℕ → List Rect) (cell : ℕ) (key : LayerKey) (zone : List Rect) → IsSound d
-    → ((parent i row column : ℕ) (p : Place) → IsReached (plain d) parent → IsStep d parent i row column p → p.cell ≡ cell → IsZone d (Input key) parent (zones parent))
+    → ((parent i row column : ℕ) (p : Place) → IsReached (plain d) parent → IsStep d parent i row column p → p.cell ≡ cell → IsFramedZone d (key ∷ []) parent (zones parent))
     → ((q : Square) → (covers zone q ≡ true) ↔ (IsBrought d zones cell key q × IsInGrown (hull_of (cell_at d cell)) q))
-    → IsZone d (Input key) cell zone
+    → IsFramedZone d (key ∷ []) cell zone

@@ -1,13 +1,13 @@
 // A cell's disturbed squares for one input layer.
-ghost use Rattle.std.specs.Prelude.{◌≡◌, ◌↔◌, ◌⊎◌, ◌<◌, ◌^◌, ◌-◌, ℕ, true, length, Some, OnOk, IfOk, IfSome, slice_get, slice_index};
+ghost use Rattle.std.specs.Prelude.{◌≡◌, ◌↔◌, ◌⊎◌, ◌<◌, ◌^◌, ◌-◌, ℕ, true, length, Some, OnOk, IfOk, IfSome, slice_get, slice_index, [], ◌∷◌};
 ghost use Rattle.std.specs.List.{All};
 ghost use Rattle.geo_base.specs.Rects.{IsRect};
 ghost use Rattle.geo_base.specs.declared.shapes.Square.{Square};
 ghost use Rattle.rect_sets.specs.Rects.{covers};
 ghost use Rattle.cell_graph.specs.Linked.{IsFrame, IsRectWithin, cell_at, hull_of, places_at};
-ghost use Rattle.flat_layout.specs.Layers.{Input};
-ghost use Rattle.deep_tables.specs.declared.cells.CellZones.{CellZones};
-ghost use Rattle.deep_tables.specs.Entries.{IsZone, zone_cell};
+ghost use Rattle.deep_tables.specs.declared.zones.CellZones.{CellZones};
+ghost use Rattle.deep_tables.specs.Frames.{IsFramedZone};
+ghost use Rattle.deep_tables.specs.Entries.{downward_cell};
 ghost use Rattle.zone_phase.specs.Jobs.{IsEntry, IsFromJob, IsFromJobs, AreParents};
 
 use crate::parents::push_parent;
@@ -34,7 +34,7 @@ pub fn push_job<R: Reads<CellZones>>(
 ) -> Result<(), AllocError>
     requires job { job < length design.now.order }
     requires may { R.may_read reads.now job }
-    requires entry { IfSome (R.value reads.now job) (IsEntry design.now key name (zone_cell design.now job)) }
+    requires entry { IfSome (R.value reads.now job) (IsEntry design.now key name (downward_cell design.now job)) }
     requires hull { hull_of (cell_at design.now cell) ≡ Some hull.now }
     requires grown { IsFrame grown.now }
     requires rects { All IsRect out.old.items }
@@ -46,17 +46,7 @@ pub fn push_job<R: Reads<CellZones>>(
     let order = design.order();
     let parent = order[order.len() - 1 - job as usize];
     let zones = reads.get(job);
-    push_parent(
-        alloc,
-        out,
-        design,
-        zones.layers[name as usize].rects(),
-        parent,
-        cell,
-        key,
-        hull,
-        grown,
-    )?;
+    push_parent(alloc, out, design, zones.layers[name as usize].rects(), parent, cell, key, hull, grown)?;
     Ok(())
 }
 
@@ -75,7 +65,7 @@ pub fn push_jobs<R: Reads<CellZones>>(
 ) -> Result<(), AllocError>
     requires jobs { (k : ℕ) → k < length jobs.now → slice_index jobs.now k < length design.now.order }
     requires may { (k : ℕ) → k < length jobs.now → R.may_read reads.now (slice_index jobs.now k) }
-    requires entries { (k : ℕ) → k < length jobs.now → IfSome (R.value reads.now (slice_index jobs.now k)) (IsEntry design.now key name (zone_cell design.now (slice_index jobs.now k))) }
+    requires entries { (k : ℕ) → k < length jobs.now → IfSome (R.value reads.now (slice_index jobs.now k)) (IsEntry design.now key name (downward_cell design.now (slice_index jobs.now k))) }
     requires hull { hull_of (cell_at design.now cell) ≡ Some hull.now }
     requires grown { IsFrame grown.now }
     requires rects { All IsRect out.old.items }
@@ -84,9 +74,7 @@ pub fn push_jobs<R: Reads<CellZones>>(
     ensures present { OnOk result ((k : ℕ) → k < length jobs.now → (v : CellZones) × (R.value reads.now (slice_index jobs.now k) ≡ Some v)) }
 {
     for job in jobs {
-        push_job(
-            alloc, out, design, reads, *job, name, cell, key, hull, grown,
-        )?;
+        push_job(alloc, out, design, reads, *job, name, cell, key, hull, grown)?;
     }
     Ok(())
 }
@@ -105,16 +93,14 @@ fn hull_zone<R: Reads<CellZones>>(
     requires hull { hull_of (cell_at design.now cell) ≡ Some hull.now }
     requires jobs { (k : ℕ) → k < length jobs.now → slice_index jobs.now k < length design.now.order }
     requires may { (k : ℕ) → k < length jobs.now → R.may_read reads.now (slice_index jobs.now k) }
-    requires entries { (k : ℕ) → k < length jobs.now → IfSome (R.value reads.now (slice_index jobs.now k)) (IsEntry design.now key name (zone_cell design.now (slice_index jobs.now k))) }
+    requires entries { (k : ℕ) → k < length jobs.now → IfSome (R.value reads.now (slice_index jobs.now k)) (IsEntry design.now key name (downward_cell design.now (slice_index jobs.now k))) }
     requires parents { AreParents design.now cell jobs.now }
-    ensures { IfOk result (IsZone design.now (Input key) cell) }
+    ensures { IfOk result (IsFramedZone design.now (key ∷ []) cell) }
 {
     design.sound();
     let mut out = Vec::new(alloc);
     let wide = grown(hull);
-    push_jobs(
-        alloc, &mut out, design, reads, jobs, name, cell, key, hull, &wide,
-    )?;
+    push_jobs(alloc, &mut out, design, reads, jobs, name, cell, key, hull, &wide)?;
     let set = RectSet::canon(alloc, out)?;
     Ok(set)
 }
@@ -132,9 +118,9 @@ pub fn key_zone<R: Reads<CellZones>>(
     requires cell { cell < length design.now.cells }
     requires jobs { (k : ℕ) → k < length jobs.now → slice_index jobs.now k < length design.now.order }
     requires may { (k : ℕ) → k < length jobs.now → R.may_read reads.now (slice_index jobs.now k) }
-    requires entries { (k : ℕ) → k < length jobs.now → IfSome (R.value reads.now (slice_index jobs.now k)) (IsEntry design.now key name (zone_cell design.now (slice_index jobs.now k))) }
+    requires entries { (k : ℕ) → k < length jobs.now → IfSome (R.value reads.now (slice_index jobs.now k)) (IsEntry design.now key name (downward_cell design.now (slice_index jobs.now k))) }
     requires parents { AreParents design.now cell jobs.now }
-    ensures { IfOk result (IsZone design.now (Input key) cell) }
+    ensures { IfOk result (IsFramedZone design.now (key ∷ []) cell) }
 {
     match design.hull(cell) {
         Some(hull) => hull_zone(alloc, design, reads, jobs, name, cell, key, &hull),

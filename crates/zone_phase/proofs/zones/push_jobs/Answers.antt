@@ -2,7 +2,7 @@ use Rattle.std.proofs.Common.{◌≡◌, ◌⊎◌, ◌↔◌, ◌<◌, ℕ, Som
 use Rattle.geo_base.specs.declared.shapes.Square.{Square}
 use Rattle.rect_sets.specs.Rects.{covers}
 use Rattle.cell_context.proofs.Visiting.{up_to}
-use Rattle.deep_tables.specs.declared.cells.CellZones.{CellZones}
+use Rattle.deep_tables.specs.declared.zones.CellZones.{CellZones}
 use Rattle.zone_phase.specs.Jobs.{IsFromJobs}
 use Rattle.zone_phase.proofs.Entries.{jobs_more}
 use Rattle.zone_phase.proofs.zones.push_jobs.Goals as goal

@@ -3,7 +3,7 @@ use Rattle.std.specs.List.{All}
 use Rattle.geo_base.specs.Rects.{IsRect}
 use Rattle.geo_base.specs.declared.shapes.Square.{Square}
 use Rattle.rect_sets.specs.Rects.{covers}
-use Rattle.deep_tables.specs.declared.cells.CellZones.{CellZones}
+use Rattle.deep_tables.specs.declared.zones.CellZones.{CellZones}
 use Rattle.zone_phase.specs.Jobs.{IsFromJobs}
 use Rattle.zone_phase.proofs.zones.push_jobs.Given as goal
 

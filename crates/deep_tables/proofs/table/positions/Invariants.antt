@@ -1,6 +1,6 @@
 use Rattle.std.proofs.Common.{◌≡◌, length}
 use Rattle.deep_tables.specs.Positions.{ArePositions}
-use Rattle.deep_tables.proofs.tables.positions.Given as goal
+use Rattle.deep_tables.proofs.table.positions.Given as goal
 
 abbrev pub invariant-loop-k : goal.invariant-loop-k
 invariant-loop-k l = record {

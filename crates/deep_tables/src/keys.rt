@@ -1,0 +1,11 @@
+//! What phases are made from.
+use cell_graph::Design;
+use rule_text::RuleSet;
+use std::snapshot::Snapshot;
+
+/// The layout and the rules that a phase is made from: tokens of no bytes.
+#[derive(Drop)]
+pub struct DeepKey {
+    pub design: Snapshot<Design>,
+    pub rules: Snapshot<RuleSet>,
+}
