@@ -126,9 +126,9 @@ part_of d cell c e = mapped plain_cell d.cells cell c e
 pub own : OwnLaw
 own d sound cell key q = (
   (λ h.
-    let m = part_of d cell h.0 h.1 in
-    let s : Some_of (IsOn key q) (map plain_layer m.0.layers.items) = subst (λ (c : flat.Cell). Some_of (IsOn key q) c.layers) (sym m.2) h.2 in
-    subst (λ o. covers (own_of o key) q ≡ true) (sym m.1) (own_to m.0.layers.items key q (sound.each cell m.0 m.1).apart s)),
+      let m = part_of d cell h.0 h.1 in
+      let s : Some_of (IsOn key q) (map plain_layer m.0.layers.items) = subst (λ (c : flat.Cell). Some_of (IsOn key q) c.layers) (sym m.2) h.2 in
+      subst (λ o. covers (own_of o key) q ≡ true) (sym m.1) (own_to m.0.layers.items key q (sound.each cell m.0 m.1).apart s)),
   (λ e. from (cell_at d cell) refl e),
 )
   where

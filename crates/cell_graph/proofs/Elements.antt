@@ -46,7 +46,6 @@ row_at r row column (suc n) (suc k) lt = row_at r row (suc column) n k (omega ar
 abbrev pub element_number : Reference → ℕ → ℕ → ℕ
 element_number r row column = row * r.columns + column
 
-
 mul_zero : (c : ℕ) → 0 * c ≡ 0
 mul_zero c = omega arith
 
