@@ -8,7 +8,8 @@ use Rattle.geo_base.specs.Rects.{has, IsRect}
 use Rattle.rect_sets.specs.Rects.{covers}
 use Rattle.poly_fill.specs.Fills.{in_boundary}
 use Rattle.gds_elements.specs.Meaning.{Cell}
-use Rattle.cell_layers.specs.Shapes.{is_key, own_covers}
+use Rattle.geo_base.specs.Layers.{is_same_key}
+use Rattle.cell_layers.specs.Shapes.{own_covers}
 use Rattle.gds_shapes.specs.Stream.{corners}
 use Rattle.gds_shapes.specs.Accepted.{written_cell}
 
@@ -18,7 +19,7 @@ OutlineLaw = (r : Rect) → IsRect r → (s : Square) → in_boundary (corners r
 
 -- whether one of the lists on this layer covers the square
 abbrev pub layers_cover : List (LayerKey × List Rect) → LayerKey → Square → Bool
-layers_cover layers key s = list_any (λ l. is_key l.0 key && covers l.1 s) layers
+layers_cover layers key s = list_any (λ l. is_same_key l.0 key && covers l.1 s) layers
 
 -- a cell that was written covers on each layer exactly what was written there
 abbrev pub WrittenLaw : Type 0

@@ -1,6 +1,7 @@
 -- Which unit squares a cell's own shapes cover.
-use Rattle.std.specs.Prelude.{Bool, ◌==◌, ◌&&◌, List}
+use Rattle.std.specs.Prelude.{Bool, ◌&&◌, List}
 use Rattle.std.specs.List.{list_any}
+use Rattle.geo_base.specs.Layers.{is_same_key}
 use Rattle.geo_base.specs.declared.layer.LayerKey.{LayerKey}
 use Rattle.geo_base.specs.declared.shapes.Square.{Square}
 use Rattle.geo_base.specs.Rects.{has}
@@ -13,13 +14,9 @@ shape_covers (Boundary points) s = in_boundary points s
 shape_covers (Path points half begin end) s = in_path half begin end points s
 shape_covers (Box r) s = has r s
 
--- the same layer and datatype
-abbrev pub is_key : LayerKey → LayerKey → Bool
-is_key k m = k.layer == m.layer && k.datatype == m.datatype
-
 -- whether the shape is on the layer and covers the square
 abbrev pub is_covering : LayerKey → Shape → Square → Bool
-is_covering key shape s = is_key shape.key key && shape_covers shape.form s
+is_covering key shape s = is_same_key shape.key key && shape_covers shape.form s
 
 -- whether one of these shapes on a layer covers the square
 abbrev pub shapes_cover : LayerKey → List Shape → Square → Bool

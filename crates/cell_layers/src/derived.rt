@@ -4,6 +4,7 @@ ghost use Rattle.std.specs.List.{All};
 ghost use Rattle.geo_base.specs.declared.shapes.Square.{Square};
 ghost use Rattle.rect_sets.specs.Rects.{covers, IsCanonical};
 ghost use Rattle.flat_layout.specs.Layers.{Reading};
+ghost use Rattle.gds_elements.specs.Fillable.{AreFillable};
 ghost use Rattle.gds_elements.specs.Reading.{cell_seen};
 ghost use Rattle.cell_layers.specs.Shapes.{own_covers};
 ghost use Rattle.cell_layers.specs.Readings.{reading_covers, IsRight};
@@ -25,6 +26,7 @@ fn form_set(
     before: &[RectSet],
     form: LayerForm,
 ) -> Result<RectSet, AllocError>
+    requires { AreFillable (cell_seen cell.now) }
     ensures { (trees : List Reading) → AreOperandsRight (own_covers (cell_seen cell.now)) trees before.now form → IfOk result (λ r. (s : Square) → covers r s ≡ reading_covers (own_covers (cell_seen cell.now)) (reading_by trees form) s) }
 {
     match form {
@@ -85,6 +87,7 @@ pub fn layer_sets(
     names: &[LayerRule],
     outputs: &[Output],
 ) -> Result<Vec<RectSet>, AllocError>
+    requires { AreFillable (cell_seen cell.now) }
     ensures layers { IfOk result (λ sets. All (λ o. IsRight (own_covers (cell_seen cell.now)) (readings names.now) sets.items o.layer) outputs.now) }
     ensures canonical { IfOk result (λ sets. All IsCanonical sets.items) }
 {

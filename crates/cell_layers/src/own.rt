@@ -1,16 +1,15 @@
 // What a cell's own shapes cover.
-ghost use Rattle.std.specs.Prelude.{◌≡◌, ◌||◌, IfOk, OnOk, IsTrue};
+ghost use Rattle.std.specs.Prelude.{◌≡◌, ◌||◌, IfOk, OnOk};
 ghost use Rattle.std.specs.List.{All};
-ghost use Rattle.geo_base.specs.Near.{IsLong, IsLongPoint};
 ghost use Rattle.geo_base.specs.Rects.{IsRect};
-ghost use Rattle.geo_base.specs.Outlines.{IsClosed};
 ghost use Rattle.geo_base.specs.declared.shapes.Square.{Square};
 ghost use Rattle.rect_sets.specs.Rects.{covers};
+ghost use Rattle.gds_elements.specs.Fillable.{AreFillable, IsFillable};
 ghost use Rattle.gds_elements.specs.Reading.{form_seen, shape_seen, cell_seen};
 ghost use Rattle.cell_layers.specs.Shapes.{shape_covers, is_covering, own_covers};
 
 use gds_elements::{RawCell, RawShape, ShapeForm};
-use geo_base::{LayerKey, Point, Rect};
+use geo_base::{LayerKey, Rect};
 use poly_fill::{fill_boundary, fill_box, fill_path};
 use rect_sets::RectSet;
 use std::alloc::{AllocError, Global};
@@ -26,57 +25,20 @@ fn push_rects(rects: &mut Vec<Rect>, more: &[Rect]) -> Result<(), AllocError>
     rects.extend_from_slice(more)
 }
 
-fn is_long(number: i64) -> bool
-    ensures { IsTrue result → IsLong number }
-{
-    i32::try_from(number).is_ok()
-}
-
-fn is_long_point(point: &Point) -> bool
-    ensures { IsTrue result → IsLongPoint point.now }
-{
-    is_long(point.x) && is_long(point.y)
-}
-
-fn are_long(points: &[Point]) -> bool
-    ensures { IsTrue result → All IsLongPoint points.now }
-{
-    points.iter().all(|p| is_long_point(p))
-}
-
-// Whether the last point is the first.
-fn is_closed(points: &[Point]) -> bool
-    ensures { IsTrue result → IsClosed points.now }
-{
-    match points {
-        [first, rest @ ..] => {
-            let mut last = *first;
-            for point in rest {
-                last = *point;
-            }
-            last == *first
-        }
-        [] => true,
-    }
-}
-
-/// The squares that a shape covers. A reader accepts none that can't be filled: such a one is
-/// answered as want of memory.
+/// The squares that a shape covers. An `Err` is want of memory.
 pub fn shape_set(alloc: Global, form: &ShapeForm) -> Result<RectSet, AllocError>
+    requires { IsFillable (form_seen form.now) }
     ensures { IfOk result (λ r. (s : Square) → covers r s ≡ shape_covers (form_seen form.now) s) }
 {
     match form {
-        ShapeForm::Boundary(points) if is_closed(points) => fill_boundary(alloc, points),
+        ShapeForm::Boundary(points) => fill_boundary(alloc, points),
         ShapeForm::Path {
             points,
             half,
             begin,
             end,
-        } if are_long(points) && is_long(*half) && is_long(*begin) && is_long(*end) => fill_path(
-            alloc, points, *half, *begin, *end,
-        ),
+        } => fill_path(alloc, points, *half, *begin, *end),
         ShapeForm::Box(rect) => fill_box(alloc, *rect),
-        _ => Err(AllocError),
     }
 }
 
@@ -87,12 +49,13 @@ fn push_shape(
     shape: &RawShape,
     key: LayerKey,
 ) -> Result<(), AllocError>
-    requires { All IsRect rects.old.items }
+    requires fillable { IsFillable (form_seen shape.now.form) }
+    requires sound { All IsRect rects.old.items }
     ensures sound { OnOk result (All IsRect rects.new.items) }
     ensures covers { OnOk result ((s : Square) → covers rects.new.items s
         ≡ (covers rects.old.items s || is_covering key (shape_seen shape.now) s)) }
 {
-    if shape.key.layer == key.layer && shape.key.datatype == key.datatype {
+    if shape.key.is_same(key) {
         let set = shape_set(alloc, &shape.form)?;
         push_rects(rects, set.rects())?;
     }
@@ -102,6 +65,7 @@ fn push_shape(
 /// The squares that the cell's own shapes on a layer cover. O(n log n + k) for n edges of them and
 /// k crossings of edges and strips, beside one look at each shape of the cell.
 pub fn own_set(alloc: Global, cell: &RawCell, key: LayerKey) -> Result<RectSet, AllocError>
+    requires { AreFillable (cell_seen cell.now) }
     ensures { IfOk result (λ r. (s : Square) → covers r s ≡ own_covers (cell_seen cell.now) key s) }
 {
     let mut rects = Vec::new(alloc);

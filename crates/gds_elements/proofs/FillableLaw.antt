@@ -237,5 +237,5 @@ cells_fillable NoRecords p = tt
 cells_fillable (before ▸ r) p = cells_more (r.kind == ENDSTR) (cells_of before) (open_cells before) (cells_fillable before p.0) (open_cell before p.0)
 
 pub fillable_law : FillableLaw
-fillable_law bytes library (rs, rest, begins, ended, is) =
+fillable_law library (bytes, (rs, rest, begins, ended, is)) =
     subst (λ (v : Library). All AreFillable v.cells) is (All-from_recursion AreFillable (cells_of rs) (cells_fillable rs begins.passes))

@@ -105,6 +105,10 @@ pub record BeginsWith (bytes : List ℕ) (rs : Records) (rest : List ℕ) : Type
 abbrev pub Accepts : List ℕ → Library → Type 0
 Accepts bytes value = (rs : Records) × (rest : List ℕ) × BeginsWith bytes rs rest × IsEnded rs × (library_of rs ≡ value)
 
+-- some bytes are accepted as this library
+abbrev pub IsAccepted : Library → Type 0
+IsAccepted value = (bytes : List ℕ) × Accepts bytes value
+
 -- the place behind so many records that pass has this fault, at this offset
 pub record FirstFault (bytes : List ℕ) (number index offset : ℕ) : Type 0 where
   pub before : Records

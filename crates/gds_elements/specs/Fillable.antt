@@ -5,7 +5,7 @@ use Rattle.geo_base.specs.declared.shapes.Point.{Point}
 use Rattle.geo_base.specs.Near.{IsLong, IsLongPoint, IsLongRect}
 use Rattle.geo_base.specs.Outlines.{IsClosed}
 use Rattle.gds_elements.specs.Meaning.{Form, Boundary, Path, Box, Cell, Library}
-use Rattle.gds_elements.specs.Faults.{Accepts}
+use Rattle.gds_elements.specs.Faults.{IsAccepted}
 
 -- an outline ends where it begins, at numbers of four bytes
 pub record IsOutline (points : List Point) : Type 0 where
@@ -31,5 +31,4 @@ AreFillable cell = All (λ shape. IsFillable shape.form) cell.shapes
 
 -- each shape of an accepted library can be filled
 abbrev pub FillableLaw : Type 0
-FillableLaw = (bytes : List ℕ) (library : Library) → Accepts bytes library
-    → All AreFillable library.cells
+FillableLaw = (library : Library) → IsAccepted library → All AreFillable library.cells

@@ -1,5 +1,5 @@
 -- Data as bytes: each is a byte, and it is read as what it was written from.
-use Rattle.std.proofs.Common.{◌≡◌, ℕ, zero, suc, ◌+◌, ◌%◌, ◌^◌, ◌<◌, Bool, true, false, cond, List, [], ◌∷◌, ◌++◌, length, refl, ap, ◌∙◌, arith, ℤ, pos, negsuc, ◌/◌, w16, w32, SFits, length-append}
+use Rattle.std.proofs.Common.{◌≡◌, ℕ, zero, suc, ◌+◌, ◌%◌, ◌^◌, ◌<◌, Bool, true, false, cond, List, [], ◌∷◌, ◌++◌, length, refl, ap, ◌∙◌, arith, ℤ, pos, negsuc, ◌/◌, w16, w32, w64, SFits, to_z, of_z, length-append}
 use Rattle.std.specs.Prelude.{◌==◌}
 use Rattle.std.specs.List.{flat_map}
 use Rattle.std.specs.Int.{to_be_bytes, cast_signed, cast_unsigned}
@@ -10,7 +10,8 @@ use Rattle.geo_base.specs.declared.shapes.Point.{Point}
 use Rattle.geo_base.specs.declared.shapes.Rect.{Rect}
 use Rattle.gds_records.specs.Records.{IsBytes}
 use Rattle.gds_elements.specs.Data.{number, coordinate, points_of, put_before, trimmed}
-use Rattle.gds_shapes.specs.Stream.{IsLong, IsLongRect, IsShort, corners, filled, long_bytes, outline, point_bytes}
+use Rattle.geo_base.specs.Near.{IsLong, IsLongRect}
+use Rattle.gds_shapes.specs.Stream.{IsShort, corners, filled, long_bytes, outline, point_bytes}
 
 -- ---- bytes
 
@@ -105,3 +106,19 @@ read_corners r = refl
 
 pub same_corners : (r : Rect) → IsLongRect r → points_of (outline r) ≡ corners r
 same_corners r h = read_corners r ∙ ap (λ (s : Rect). corners s) (same_rect r h)
+
+-- a coordinate that was made one of four bytes, and is passed on
+abbrev passed : ℤ → ℤ
+passed z = to_z w32 (of_z w32 z)
+
+far_fits : (z : ℤ) → IsLong z → SFits w64 z
+far_fits (pos n) h = record { sfits = omega (arith, ints, h.high) }
+far_fits (negsuc n) h = record { sfits = omega (arith, ints, h.low) }
+
+same_passed : (z x : ℤ) → IsLong z → x ≡ to_z w64 (of_z w64 z) → passed x ≡ z
+same_passed z x h e = ap (λ (y : ℤ). passed y) (e ∙ to_z-of_z w64 z (far_fits z h)) ∙ to_z-of_z w32 z (fits z h)
+
+pub passed_rect : (r : Rect) (x1 y1 x2 y2 : ℤ) → IsLongRect r
+    → x1 ≡ to_z w64 (of_z w64 r.x1) → y1 ≡ to_z w64 (of_z w64 r.y1) → x2 ≡ to_z w64 (of_z w64 r.x2) → y2 ≡ to_z w64 (of_z w64 r.y2)
+    → (let s : Rect = record { x1 = passed x1; y1 = passed y1; x2 = passed x2; y2 = passed y2 } in s) ≡ r
+passed_rect r x1 y1 x2 y2 h e f g i = rw (same_passed r.x1 x1 h.x1 e, same_passed r.y1 y1 h.y1 f, same_passed r.x2 x2 h.x2 g, same_passed r.y2 y2 h.y2 i) refl

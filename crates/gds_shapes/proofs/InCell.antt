@@ -17,7 +17,8 @@ use Rattle.gds_elements.specs.Kinds.{HEADER, BGNLIB, LIBNAME, UNITS, BGNSTR, STR
 use Rattle.gds_elements.specs.Meaning.{Boundary, Shape, Cell, Library, opened, last_kind, columns_of, rows_of, head_part, cell_part, open_shapes, shapes_of, texts_of, refs_of, cells_of}
 use Rattle.gds_elements.specs.Faults.{is_second_points, is_plain, content_fault, fault_of, Passes}
 use Rattle.gds_elements.specs.Reading.{rec}
-use Rattle.gds_shapes.specs.Stream.{IsKey, IsLongRect, FitsLayer, bare, boundary, filled, layer, number, outline}
+use Rattle.geo_base.specs.Near.{IsLongRect}
+use Rattle.gds_shapes.specs.Stream.{IsKey, FitsLayer, bare, boundary, filled, layer, number, outline}
 use Rattle.gds_shapes.specs.Accepted.{rect_shape, layer_shapes}
 use Rattle.gds_shapes.proofs.Bodies.{number_bytes, outline_bytes, number_back, same_corners}
 use Rattle.gds_shapes.proofs.Outlines.{outline_passes}

@@ -15,3 +15,8 @@ pub in_turn : {X : Type 0} (f : X → List ℕ) (front middle : List X) (a b c d
     → p ≡ o ++ flat_map f front → q ≡ p ++ f a → r ≡ q ++ f b → s ≡ r ++ flat_map f middle → t ≡ s ++ f c → u ≡ t ++ f d
     → u ≡ flat_map f (front ++ (a ∷ b ∷ middle ++ c ∷ []) ++ d ∷ [])
 in_turn f front middle a b c d o p q r s t u e0 e1 e2 e3 e4 e5 e6 = rw (e6, e5, e4, e3, e2, e1, e0) (simp (flat_map-append, append_assoc, append-nil) refl)
+
+-- five pieces, before the last of which four stand
+pub five : {X : Type 0} (f : X → List ℕ) (a b c d e : X) (o p q r s : List ℕ) → p ≡ o ++ f a → q ≡ p ++ f b → r ≡ q ++ f c → s ≡ r ++ f d
+    → s ++ f e ≡ o ++ flat_map f (a ∷ b ∷ c ∷ d ∷ e ∷ [])
+five f a b c d e o p q r s e1 e2 e3 e4 = rw (e4, e3, e2, e1) (simp (append_assoc, append-nil) refl)

@@ -2,6 +2,7 @@
 use Rattle.std.specs.Prelude.{ℕ, ◌%◌, ◌^◌, ◌≤◌, ◌<◌, ◌==◌, ℤ, pos, ◌-ℤ◌, ◌≤ℤ◌, ◌<ℤ◌, List, [], ◌∷◌, ◌++◌, length, if◌then◌else◌}
 use Rattle.std.specs.List.{All, flat_map}
 use Rattle.std.specs.Int.{w16, w32, to_be_bytes, cast_unsigned}
+use Rattle.geo_base.specs.Near.{IsLongRect}
 use Rattle.geo_base.specs.declared.layer.LayerKey.{LayerKey}
 use Rattle.geo_base.specs.declared.shapes.Point.{Point}
 use Rattle.geo_base.specs.declared.shapes.Rect.{Rect}
@@ -79,18 +80,6 @@ stream_bytes library cell layers = bytes_of (stream_records library cell layers)
 
 -- ---- what can be written
 
--- a number that four bytes of two's complement hold
-pub record IsLong (z : ℤ) : Type 0 where
-  pub low : (pos 0 -ℤ pos (2 ^ 31)) ≤ℤ z
-  pub high : z <ℤ pos (2 ^ 31)
-
--- each coordinate is such a number
-pub record IsLongRect (r : Rect) : Type 0 where
-  pub x1 : IsLong r.x1
-  pub y1 : IsLong r.y1
-  pub x2 : IsLong r.x2
-  pub y2 : IsLong r.y2
-
 -- one record holds the text
 abbrev pub IsShort : List ℕ → Type 0
 IsShort text = length text ≤ 65530
@@ -105,11 +94,9 @@ pub record FitsLayer (l : LayerKey × List Rect) : Type 0 where
   pub key : IsKey l.0
   pub rects : All IsLongRect l.1
 
--- all that is written has room in its records
-pub record Fits (library : Library) (cell : Cell) (layers : List (LayerKey × List Rect)) : Type 0 where
-  pub name : IsShort library.name
-  pub cell_name : IsShort cell.name
-  pub each : All FitsLayer layers
+-- each rectangle of the layers has room in its record
+abbrev pub AreLong : List (LayerKey × List Rect) → Type 0
+AreLong layers = All (λ l. All IsLongRect l.1) layers
 
 -- what is written of a layer, as it is seen
 abbrev pub layer_seen : Written → LayerKey × List Rect

@@ -6,7 +6,8 @@ ghost use Rattle.gds_records.specs.Records.{record_bytes};
 ghost use Rattle.gds_elements.specs.Faults.{Accepts};
 ghost use Rattle.gds_elements.specs.Reading.{library_seen, cell_seen};
 ghost use Rattle.gds_shapes.specs.Accepted.{IsRead, written_library};
-ghost use Rattle.gds_shapes.specs.Stream.{IsLong, IsLongRect, IsShort, Fits, FitsLayer, boundary, header, layer, layer_seen, long_bytes, outline, string, stream_bytes};
+ghost use Rattle.geo_base.specs.Near.{IsLong, IsLongRect};
+ghost use Rattle.gds_shapes.specs.Stream.{IsShort, AreLong, FitsLayer, boundary, header, layer, layer_seen, long_bytes, outline, string, stream_bytes};
 
 use byteorder::{BigEndian, ByteOrder};
 use gds_elements::{Library, RawCell};
@@ -32,20 +33,19 @@ const REALS: u8 = 5;
 
 const STRING: u8 = 6;
 
-// The greatest even number of bytes that a record's length can count beside its own four.
-const LONGEST: usize = 65_530;
-
-/// The stream of a library with this one cell, whose rectangles are boundaries, layer by layer. A coordinate beyond 32
-/// bits has no room in a record and is answered like want of memory; so is a name of more than 65,530 bytes, which no
-/// library that was read has. Cost: the bytes written.
+/// The stream of a library with this one cell, whose rectangles are boundaries, layer by layer: names that one record
+/// holds, as those of each library that was read, and coordinates of 32 bits. An `Err` is want of memory. Cost: the
+/// bytes written.
 pub fn shapes_text(
     alloc: Global,
     library: &Library,
     cell: &RawCell,
     written: &[Written],
 ) -> Result<Vec<u8>, AllocError>
+    requires name { IsShort library.now.name.items }
+    requires cell_name { IsShort cell.now.name }
+    requires long { AreLong (map layer_seen written.now) }
     ensures exact { IfOk result (λ text. text.items ≡ stream_bytes (library_seen library.now) (cell_seen cell.now) (map layer_seen written.now)) }
-    ensures fits { OnOk result (Fits (library_seen library.now) (cell_seen cell.now) (map layer_seen written.now)) }
     ensures accepted { IfOk result (λ text. IsRead (library_seen library.now) (cell_seen cell.now) → Accepts text.items (written_library (library_seen library.now) (cell_seen cell.now) (map layer_seen written.now))) }
 {
     let mut out = Vec::new(alloc);
@@ -59,8 +59,8 @@ pub fn shapes_text(
 }
 
 fn write_header(alloc: Global, out: &mut Vec<u8>, library: &Library) -> Result<(), AllocError>
-    ensures written { OnOk result (out.new.items ≡ out.old.items ++ flat_map record_bytes (header (library_seen library.now))) }
-    ensures short { OnOk result (IsShort library.now.name.items) }
+    requires { IsShort library.now.name.items }
+    ensures { OnOk result (out.new.items ≡ out.old.items ++ flat_map record_bytes (header (library_seen library.now))) }
 {
     write_record(out, kinds::HEADER, NUMBERS, &library.version)?;
     write_record(out, kinds::BGNLIB, NUMBERS, &library.dates)?;
@@ -70,12 +70,9 @@ fn write_header(alloc: Global, out: &mut Vec<u8>, library: &Library) -> Result<(
 
 // A string, with one NUL at its end where its length is odd.
 fn write_string(alloc: Global, out: &mut Vec<u8>, kind: u8, text: &[u8]) -> Result<(), AllocError>
-    ensures written { OnOk result (out.new.items ≡ out.old.items ++ record_bytes (string kind text.now)) }
-    ensures short { OnOk result (IsShort text.now) }
+    requires { IsShort text.now }
+    ensures { OnOk result (out.new.items ≡ out.old.items ++ record_bytes (string kind text.now)) }
 {
-    if text.len() > LONGEST {
-        return Err(AllocError);
-    }
     let mut body = text.to_vec(alloc)?;
     if text.len() % 2 != 0 {
         body.push(0)?;
@@ -84,6 +81,7 @@ fn write_string(alloc: Global, out: &mut Vec<u8>, kind: u8, text: &[u8]) -> Resu
 }
 
 fn write_layers(out: &mut Vec<u8>, written: &[Written]) -> Result<(), AllocError>
+    requires { AreLong (map layer_seen written.now) }
     ensures written { OnOk result (out.new.items ≡ out.old.items ++ flat_map record_bytes (flat_map layer (map layer_seen written.now))) }
     ensures fits { OnOk result (All FitsLayer (map layer_seen written.now)) }
 {
@@ -94,6 +92,7 @@ fn write_layers(out: &mut Vec<u8>, written: &[Written]) -> Result<(), AllocError
 }
 
 fn write_layer(out: &mut Vec<u8>, key: LayerKey, rects: &[Rect]) -> Result<(), AllocError>
+    requires { All IsLongRect rects.now }
     ensures written { OnOk result (out.new.items ≡ out.old.items ++ flat_map record_bytes (layer (key, rects.now))) }
     ensures fits { OnOk result (FitsLayer (key, rects.now)) }
 {
@@ -104,33 +103,42 @@ fn write_layer(out: &mut Vec<u8>, key: LayerKey, rects: &[Rect]) -> Result<(), A
 }
 
 fn write_boundary(out: &mut Vec<u8>, key: LayerKey, rect: Rect) -> Result<(), AllocError>
-    ensures written { OnOk result (out.new.items ≡ out.old.items ++ flat_map record_bytes (boundary key rect)) }
-    ensures long { OnOk result (IsLongRect rect) }
+    requires { IsLongRect rect }
+    ensures { OnOk result (out.new.items ≡ out.old.items ++ flat_map record_bytes (boundary key rect)) }
 {
     write_record(out, kinds::BOUNDARY, NONE, &[])?;
     write_record(out, kinds::LAYER, NUMBERS, &key.layer.to_be_bytes())?;
     write_record(out, kinds::DATATYPE, NUMBERS, &key.datatype.to_be_bytes())?;
-    let points = outline(rect)?;
+    let points = outline(rect);
     write_record(out, kinds::XY, LONGS, &points)?;
     write_record(out, kinds::ENDEL, NONE, &[])
 }
 
-// The corners, the first of them again at the end.
-fn outline(rect: Rect) -> Result<[u8; 40], AllocError>
-    ensures points { IfOk result (λ bytes. bytes ≡ outline rect) }
-    ensures long { OnOk result (IsLongRect rect) }
+// The corners of a rectangle with these sides, the first of them again at the end.
+fn corners(x1: i32, y1: i32, x2: i32, y2: i32) -> [u8; 40]
+    ensures { result ≡ outline record { x1 = x1; y1 = y1; x2 = x2; y2 = y2 } }
 {
-    let (x1, y1) = (long(rect.x1)?, long(rect.y1)?);
-    let (x2, y2) = (long(rect.x2)?, long(rect.y2)?);
     let mut bytes = [0; 40];
     BigEndian::write_i32_into(&[x1, y1, x1, y2, x2, y2, x2, y1, x1, y1], &mut bytes);
-    Ok(bytes)
+    bytes
 }
 
 // A coordinate of a record.
-fn long(number: i64) -> Result<i32, AllocError>
-    ensures same { IfOk result (λ n. n ≡ number) }
-    ensures long { OnOk result (IsLong number) }
+fn long(number: i64) -> i32
+    requires { IsLong number }
+    ensures { result ≡ number }
 {
-    i32::try_from(number).map_err(|_| AllocError)
+    number as i32
+}
+
+// The data of a rectangle's XY.
+fn outline(rect: Rect) -> [u8; 40]
+    requires { IsLongRect rect }
+    ensures { result ≡ outline rect }
+{
+    let x1 = long(rect.x1);
+    let y1 = long(rect.y1);
+    let x2 = long(rect.x2);
+    let y2 = long(rect.y2);
+    corners(x1, y1, x2, y2)
 }

@@ -1,7 +1,7 @@
 // The run of the program.
 ghost use Rattle.std.specs.Prelude.{◌≡◌, map, string_bytes, IfOk, IfErr, Some, None};
 ghost use Rattle.std.specs.Str.{bytes_eq};
-ghost use Rattle.gds_elements.specs.Faults.{Accepts};
+ghost use Rattle.gds_elements.specs.Faults.{Accepts, IsAccepted};
 ghost use Rattle.gds_elements.specs.Reading.{library_seen};
 ghost use Rattle.lvs_outside.specs.Store.{HasRoom};
 ghost use Rattle.lvs_outside.specs.Summary.{SinkHasRoom};
@@ -30,7 +30,7 @@ use std::alloc::Global;
 struct Output {
     path: String,
     text: Vec<u8>,
-    count: u64,
+    count: u128,
     line: Vec<u8>,
 }
 
@@ -87,6 +87,7 @@ fn output_of(
     layout: String,
     shapes: String,
 ) -> Result<Output, Stop>
+    requires { IsAccepted (library_seen library.now) }
     ensures made { IfOk result (λ o. IsOutput (string_bytes shapes) (library_seen library.now) (rules_seen rules.now) o) }
     ensures stops { IfErr result (λ why. NotMade (string_bytes layout) (library_seen library.now) (stopped why)) }
 {

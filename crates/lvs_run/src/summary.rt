@@ -100,7 +100,7 @@ pub fn refusal_line(alloc: Global, why: &Refusal) -> Result<Vec<u8>, AllocError>
 }
 
 /// The line of a run that wrote so many rectangles.
-pub fn good_line(alloc: Global, count: u64) -> Result<Vec<u8>, AllocError>
+pub fn good_line(alloc: Global, count: u128) -> Result<Vec<u8>, AllocError>
     ensures { IfOk result (λ line. line.items ≡ line_of Good count) }
 {
     let text = format!(in alloc; "shapes cells 1 rectangles {count}\n")?;

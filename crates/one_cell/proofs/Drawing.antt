@@ -16,7 +16,8 @@ use Rattle.rule_text.specs.declared.rules.LayerRule.{LayerRule}
 use Rattle.rule_text.specs.declared.rules.Output.{Output}
 use Rattle.rule_text.specs.Rules.{Rules}
 use Rattle.rule_text.specs.Sound.{AreApart, IsSound}
-use Rattle.cell_layers.specs.Shapes.{is_key, own_covers}
+use Rattle.geo_base.specs.Layers.{is_same_key}
+use Rattle.cell_layers.specs.Shapes.{own_covers}
 use Rattle.cell_layers.specs.Readings.{reading_covers, IsRight}
 use Rattle.rule_layers.specs.Readings.{readings}
 use Rattle.gds_shapes.specs.Accepted.{IsRead, written_library, written_cell, ReadLaw}
@@ -27,13 +28,13 @@ use Rattle.one_cell.specs.Flat.{CoversFlat}
 
 -- ---- keys
 
-same_key : (k m : LayerKey) → is_key k m ≡ true → k ≡ m
+same_key : (k m : LayerKey) → is_same_key k m ≡ true → k ≡ m
 same_key k m h =
     let a : k.layer ≡ m.layer = grind (arith) in
     let b : k.datatype ≡ m.datatype = grind (arith) in
     ap (λ n. let q : LayerKey = record { layer = n; datatype = k.datatype } in q) a ∙ ap (λ n. let q : LayerKey = record { layer = m.layer; datatype = n } in q) b
 
-itself : (k : LayerKey) → is_key k k ≡ true
+itself : (k : LayerKey) → is_same_key k k ≡ true
 itself k = grind (arith)
 
 -- ---- Booleans
@@ -78,20 +79,20 @@ are_drawn own names outputs sets layers right canonical e =
 apart_behind : {A : Type 0} (x : A) (xs : List A) → AreApart (x ∷ xs) → AreApart xs
 apart_behind x xs h j k y e f = let s : suc j ≡ suc k = h (suc j) (suc k) y e f in omega (arith, s)
 
-not_at : (k key : LayerKey) (t : Bool) → is_key k key ≡ t → (k ≡ key → ⊥) → is_key k key ≡ false
+not_at : (k key : LayerKey) (t : Bool) → is_same_key k key ≡ t → (k ≡ key → ⊥) → is_same_key k key ≡ false
 not_at k key false e h = e
 not_at k key true e h = absurd (h (same_key k key e))
 
 none_by : (own : LayerKey → Square → Bool) (names : List LayerRule) (outputs : List Output) (layers : List (LayerKey × List Rect)) (key : LayerKey) (s : Square)
-    → AreDrawn own names outputs layers → ByRecursion (λ o. is_key o.key key ≡ false) outputs → layers_cover layers key s ≡ false
+    → AreDrawn own names outputs layers → ByRecursion (λ o. is_same_key o.key key ≡ false) outputs → layers_cover layers key s ≡ false
 none_by own names [] [] key s drawn h = refl
 none_by own names [] (l ∷ layers) key s drawn h = absurd drawn
 none_by own names (o ∷ outputs) [] key s drawn h = absurd drawn
-none_by own names (o ∷ outputs) (l ∷ layers) key s drawn h = skipped (is_key l.0 key) (covers l.1 s) (layers_cover layers key s) false (ap (λ k. is_key k key) drawn.0.key ∙ h.0) (none_by own names outputs layers key s drawn.1 h.1)
+none_by own names (o ∷ outputs) (l ∷ layers) key s drawn h = skipped (is_same_key l.0 key) (covers l.1 s) (layers_cover layers key s) false (ap (λ k. is_same_key k key) drawn.0.key ∙ h.0) (none_by own names outputs layers key s drawn.1 h.1)
 
-others_apart : (first : LayerKey) (outputs : List Output) → ((j : ℕ) → slice_get (map (λ o. o.key) outputs) j ≡ Some first → ⊥) → ByRecursion (λ o. is_key o.key first ≡ false) outputs
+others_apart : (first : LayerKey) (outputs : List Output) → ((j : ℕ) → slice_get (map (λ o. o.key) outputs) j ≡ Some first → ⊥) → ByRecursion (λ o. is_same_key o.key first ≡ false) outputs
 others_apart first [] h = tt
-others_apart first (o ∷ outputs) h = (not_at o.key first (is_key o.key first) refl (λ e. h 0 (ap Some e)), others_apart first outputs (λ j. h (suc j)))
+others_apart first (o ∷ outputs) h = (not_at o.key first (is_same_key o.key first) refl (λ e. h 0 (ap Some e)), others_apart first outputs (λ j. h (suc j)))
 
 key_at : (outputs : List Output) (k : ℕ) (o : Output) → slice_get outputs k ≡ Some o → slice_get (map (λ q. q.key) outputs) k ≡ Some o.key
 key_at outputs k o h = slice_get-map (λ q. q.key) outputs k ∙ ap (option_map (λ q. q.key)) h
@@ -103,11 +104,11 @@ line_by own names (p ∷ outputs) [] s drawn apart k o h = absurd drawn
 line_by own names (p ∷ outputs) (l ∷ layers) s drawn apart zero o h =
     let e : p ≡ o = cc in
     subst (λ (q : Output). layers_cover (l ∷ layers) q.key s ≡ reading_covers own (name_at names q.layer) s) e
-    (alone_at (is_key l.0 p.key) (covers l.1 s) (layers_cover layers p.key s) (ap (λ k. is_key k p.key) drawn.0.key ∙ itself p.key)
+    (alone_at (is_same_key l.0 p.key) (covers l.1 s) (layers_cover layers p.key s) (ap (λ k. is_same_key k p.key) drawn.0.key ∙ itself p.key)
     (none_by own names outputs layers p.key s drawn.1 (others_apart p.key outputs (λ j f. let g : 0 ≡ suc j = apart 0 (suc j) p.key refl f in omega (arith, g)))) ∙ drawn.0.squares s)
 line_by own names (p ∷ outputs) (l ∷ layers) s drawn apart (suc k) o h =
-    skipped (is_key l.0 o.key) (covers l.1 s) (layers_cover layers o.key s) (reading_covers own (name_at names o.layer) s)
-    (ap (λ m. is_key m o.key) drawn.0.key ∙ not_at p.key o.key (is_key p.key o.key) refl (λ e. let g : 0 ≡ suc k = apart 0 (suc k) o.key (ap Some e) (key_at outputs k o h) in omega (arith, g)))
+    skipped (is_same_key l.0 o.key) (covers l.1 s) (layers_cover layers o.key s) (reading_covers own (name_at names o.layer) s)
+    (ap (λ m. is_same_key m o.key) drawn.0.key ∙ not_at p.key o.key (is_same_key p.key o.key) refl (λ e. let g : 0 ≡ suc k = apart 0 (suc k) o.key (ap Some e) (key_at outputs k o h) in omega (arith, g)))
     (line_by own names outputs layers s drawn.1 (apart_behind p.key (map (λ q. q.key) outputs) apart) k o h)
 
 are_rects : CanonicalLaw → (own : LayerKey → Square → Bool) (names : List LayerRule) (outputs : List Output) (layers : List (LayerKey × List Rect)) → AreDrawn own names outputs layers → ByRecursion (λ l. All IsRect l.1) layers
@@ -145,5 +146,5 @@ covers_flat canonical_law written_law read_law v r cell layers text only drawn a
       name = refl;
       texts = refl;
       lines = λ k o at s. covered o.key s ∙ line_by (own_covers cell) r.names r.outputs layers s drawn sound.formed.keys k o at;
-      others = λ key none s. covered key s ∙ none_by (own_covers cell) r.names r.outputs layers key s drawn (recursion_from_All (λ o. is_key o.key key ≡ false) r.outputs none);
+      others = λ key none s. covered key s ∙ none_by (own_covers cell) r.names r.outputs layers key s drawn (recursion_from_All (λ o. is_same_key o.key key ≡ false) r.outputs none);
     }

@@ -7,7 +7,8 @@ use Rattle.gds_elements.specs.Meaning.{Cell, Library}
 use Rattle.gds_elements.specs.Faults.{Accepts}
 use Rattle.rule_text.specs.Rules.{Rules}
 use Rattle.rule_text.specs.Sound.{Each}
-use Rattle.cell_layers.specs.Shapes.{is_key, own_covers}
+use Rattle.geo_base.specs.Layers.{is_same_key}
+use Rattle.cell_layers.specs.Shapes.{own_covers}
 use Rattle.cell_layers.specs.Readings.{reading_covers}
 use Rattle.one_cell.specs.OneCell.{only_cell, name_at}
 
@@ -25,4 +26,4 @@ pub record CoversFlat (v : Library) (r : Rules) (text : List ℕ) : Type 0 where
   pub name : drawn.name ≡ cell.name
   pub texts : drawn.texts ≡ []
   pub lines : Each (λ k o. (s : Square) → own_covers drawn o.key s ≡ reading_covers (own_covers cell) (name_at r.names o.layer) s) r.outputs
-  pub others : (key : LayerKey) → All (λ o. is_key o.key key ≡ false) r.outputs → (s : Square) → own_covers drawn key s ≡ false
+  pub others : (key : LayerKey) → All (λ o. is_same_key o.key key ≡ false) r.outputs → (s : Square) → own_covers drawn key s ≡ false

@@ -3,7 +3,7 @@ ghost use Rattle.std.specs.Prelude.{◌≡◌, ℕ, List, Some, None, map, IfOk,
 ghost use Rattle.gds_elements.specs.Reading.{cell_seen, library_seen};
 ghost use Rattle.gds_shapes.specs.Stream.{layer_seen};
 ghost use Rattle.rule_text.specs.Seen.{rules_seen};
-ghost use Rattle.gds_elements.specs.Faults.{Accepts};
+ghost use Rattle.gds_elements.specs.Faults.{Accepts, IsAccepted};
 ghost use Rattle.rule_text.specs.Sound.{IsSound};
 ghost use Rattle.one_cell.specs.Flat.{CoversFlat};
 ghost use Rattle.one_cell.specs.OneCell.{only_cell, rectangle_count, IsMade, IsUnbuilt};
@@ -12,7 +12,7 @@ ghost use Rattle.one_cell.specs.Written.{layer_at, written_of};
 use crate::reach::is_in_reach;
 use cell_laws::covering;
 use cell_layers::layer_sets;
-use gds_elements::{Library, RawCell};
+use gds_elements::{Library, RawCell, fillable};
 use gds_shapes::{Written, library_read, shapes_text};
 use geo_base::Rect;
 use rect_sets::{RectSet, canonical_rects};
@@ -23,7 +23,7 @@ use std::alloc::{AllocError, Global};
 #[derive(Drop)]
 pub struct Shapes {
     pub text: Vec<u8>,
-    pub rectangles: u64,
+    pub rectangles: u128,
 }
 
 fn only_cell(library: &Library) -> Option<&RawCell>
@@ -62,23 +62,25 @@ fn written_layers<'a>(
     Ok(written)
 }
 
-fn count(written: &[Written]) -> Option<u64>
-    ensures { IfSome result (λ n. n ≡ rectangle_count (map layer_seen written.now)) }
+// How many rectangles there are: fewer than 2^63 layers of fewer than 2^63 each.
+fn count(written: &[Written]) -> u128
+    ensures { result ≡ rectangle_count (map layer_seen written.now) }
 {
-    let mut count: u64 = 0;
+    let mut count: u128 = 0;
     for layer in written {
-        count = count.checked_add(layer.rects.len() as u64)?;
+        count += layer.rects.len() as u128;
     }
-    Some(count)
+    count
 }
 
-/// What is written for a library of one cell without references within plus or minus 2^30, `None` for any other. Cost: each shape filled
-/// twice, each Boolean once, and the bytes written. 2^64 rectangles, more than memory holds, are answered like want of memory.
+/// What is written for a library that was read, of one cell without references within plus or minus 2^30; `None` for any
+/// other. Cost: each shape filled twice, each Boolean once, and the bytes written. An `Err` is want of memory.
 pub fn make_shapes(
     alloc: Global,
     library: &Library,
     rules: &RuleSet,
 ) -> Result<Option<Shapes>, AllocError>
+    requires { IsAccepted (library_seen library.now) }
     ensures made { IfOk result (λ m. IfSome m (λ shapes. IsMade (library_seen library.now) (rules_seen rules.now) shapes.text.items shapes.rectangles)) }
     // The text covers exactly the flat rules' squares, where library and rules were read.
     ensures flat { IfOk result (λ m. IfSome m (λ shapes. (bytes : List ℕ) → Accepts bytes (library_seen library.now) → IsSound (rules_seen rules.now) → CoversFlat (library_seen library.now) (rules_seen rules.now) shapes.text.items)) }
@@ -87,16 +89,17 @@ pub fn make_shapes(
     let Some(cell) = only_cell(library) else {
         return Ok(None);
     };
+    fillable();
+    library_read();
     let within = is_in_reach(alloc, cell)?;
     if !within {
         return Ok(None);
     }
     let sets = layer_sets(alloc, cell, &rules.names, &rules.outputs)?;
     let written = written_layers(alloc, &rules.outputs, &sets)?;
-    let text = shapes_text(alloc, library, cell, &written)?;
     covering();
     canonical_rects();
-    library_read();
-    let rectangles = count(&written).ok_or(AllocError)?;
+    let text = shapes_text(alloc, library, cell, &written)?;
+    let rectangles = count(&written);
     Ok(Some(Shapes { text, rectangles }))
 }

@@ -1,7 +1,8 @@
 // Whether a cell lies within plus or minus 2^30.
 ghost use Rattle.std.specs.Prelude.{◌≡◌, true, false, map, IfOk};
 ghost use Rattle.std.specs.List.{All, Any, list_all};
-ghost use Rattle.gds_elements.specs.Reading.{shape_seen, cell_seen};
+ghost use Rattle.gds_elements.specs.Fillable.{AreFillable, IsFillable};
+ghost use Rattle.gds_elements.specs.Reading.{form_seen, shape_seen, cell_seen};
 ghost use Rattle.one_cell.specs.OneCell.{range_in_reach, point_in_reach, IsShapeInReach, LeavesByShape, IsInReach, LeavesReach};
 ghost use Rattle.one_cell.specs.Within.{rect_in_reach};
 
@@ -41,6 +42,7 @@ fn are_texts_in_reach(texts: &[RawText]) -> bool
 }
 
 fn is_shape_in_reach(alloc: Global, shape: &RawShape) -> Result<bool, AllocError>
+    requires { IsFillable (form_seen shape.now.form) }
     ensures within { IfOk result (λ r. r ≡ true → IsShapeInReach (shape_seen shape.now)) }
     ensures beyond { IfOk result (λ r. r ≡ false → LeavesByShape (shape_seen shape.now)) }
 {
@@ -50,6 +52,7 @@ fn is_shape_in_reach(alloc: Global, shape: &RawShape) -> Result<bool, AllocError
 }
 
 fn are_shapes_in_reach(alloc: Global, shapes: &[RawShape]) -> Result<bool, AllocError>
+    requires { All (λ s. IsFillable s.form) (map shape_seen shapes.now) }
     ensures within { IfOk result (λ r. r ≡ true → All IsShapeInReach (map shape_seen shapes.now)) }
     ensures beyond { IfOk result (λ r. r ≡ false → Any LeavesByShape (map shape_seen shapes.now)) }
 {
@@ -64,6 +67,7 @@ fn are_shapes_in_reach(alloc: Global, shapes: &[RawShape]) -> Result<bool, Alloc
 
 /// Whether all that the cell's shapes cover, and each text's point, lies within plus or minus 2^30. Cost: the fill of each shape.
 pub fn is_in_reach(alloc: Global, cell: &RawCell) -> Result<bool, AllocError>
+    requires { AreFillable (cell_seen cell.now) }
     ensures within { IfOk result (λ r. r ≡ true → IsInReach (cell_seen cell.now)) }
     ensures beyond { IfOk result (λ r. r ≡ false → LeavesReach (cell_seen cell.now)) }
 {

@@ -1,13 +1,10 @@
--- Each coordinate passed the test of `long`.
-use Rattle.std.proofs.Common.{rules}
-use Rattle.gds_shapes.proofs.More.{as_held}
+use Rattle.std.proofs.Common.{◌∙◌, ap}
+use Rattle.geo_base.specs.declared.shapes.Rect.{Rect}
+use Rattle.gds_shapes.specs.Stream.{outline}
+use Rattle.gds_shapes.proofs.Bodies.{passed_rect}
 use Rattle.gds_shapes.proofs.shapes.outline.Goals as goal
 
-pub returns-clause-long : goal.returns-clause-long
-returns-clause-long c =
-    record {
-      x1 = as_held _ (search rules) c.in_ok-x1.ensures.long;
-      y1 = as_held _ (search rules) c.in_ok-y1.ensures.long;
-      x2 = as_held _ (search rules) c.in_ok-x2.ensures.long;
-      y2 = as_held _ (search rules) c.in_ok-y2.ensures.long;
-    }
+pub returns : goal.returns
+returns c =
+    c.corners.ensures ∙ ap (λ (r : Rect). outline r)
+    (passed_rect c.args.rect c.long-x1.result c.long-y1.result c.long-x2.result c.long-y2.result c.requires c.long-x1.ensures c.long-y1.ensures c.long-x2.ensures c.long-y2.ensures)

@@ -19,9 +19,9 @@ returns-clause-exact c =
     let layers = map layer_seen c.args.written.now in
     in_turn record_bytes (header library) (flat_map layer layers) (numbers BGNSTR cell.dates) (string STRNAME cell.name) (bare ENDSTR) (bare ENDLIB) _ _ _ _ _ _ _
     c.new-out.ensures.items
-    c.in_ok-write_header.ensures.written
+    c.in_ok-write_header.ensures
     c.in_ok-write_record.ensures.written
-    (c.in_ok-write_string.ensures.written ∙ ap (λ (name : List ℕ). c.write_record.new.out.items ++ record_bytes (string STRNAME name)) c.bytes.ensures.same)
+    (c.in_ok-write_string.ensures ∙ ap (λ (name : List ℕ). c.write_record.new.out.items ++ record_bytes (string STRNAME name)) c.bytes.ensures.same)
     c.in_ok-write_layers.ensures.written
     c.in_ok-write_record-2.ensures.written
     c.in_ok-write_record-3.ensures.written

@@ -3,7 +3,8 @@ use Rattle.std.proofs.Common.{pos}
 use Rattle.std.proofs.lemmas.List.{take_more}
 use Rattle.std.proofs.lemmas.List.Elements.{All-more}
 use Rattle.geo_base.specs.declared.shapes.Rect.{Rect}
-use Rattle.gds_shapes.specs.Stream.{IsLongRect, boundary}
+use Rattle.geo_base.specs.Near.{IsLongRect}
+use Rattle.gds_shapes.specs.Stream.{boundary}
 use Rattle.gds_shapes.proofs.More.{texts_push}
 use Rattle.gds_shapes.proofs.shapes.write_layer.Goals as goal
 
@@ -13,7 +14,4 @@ none = record { x1 = pos 0; y1 = pos 0; x2 = pos 0; y2 = pos 0 }
 pub loop-rect-preserved : goal.loop-rect-preserved
 loop-rect-preserved c =
     let more = take_more c.args.rects.now c.loop-rect.rect-index none c.loop-rect-test.true in
-    record {
-      written = texts_push (λ r. boundary c.args.key r) _ _ _ _ _ _ more c.loop-rect.invariant.written c.in_ok-write_boundary.ensures.written;
-      long = All-more IsLongRect c.args.rects.now c.loop-rect.rect-index none c.loop-rect-test.true c.loop-rect.invariant.long c.in_ok-write_boundary.ensures.long;
-    }
+    texts_push (λ r. boundary c.args.key r) _ _ _ _ _ _ more c.loop-rect.invariant c.in_ok-write_boundary.ensures
