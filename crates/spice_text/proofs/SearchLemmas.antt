@@ -104,6 +104,7 @@ in_calls test (r ∷ rs) P o h = elim (either (test r)) [
     taken : (n : ℕ) → IsCallOn (r ∷ rs) test n → (P n ⊎ (n ≡ r.line)) ⊎ IsCallOn rs test n
     taken n (s, inl e, t, at) = inl (inr (sym at ∙ ap (λ (x : CallCard). x.line) e))
     taken n (s, inr l, t, at) = inr (s, l, t, at)
+
     left : test r ≡ false → (n : ℕ) → IsCallOn (r ∷ rs) test n → IsCallOn rs test n
     left f n (s, inl e, t, at) = let z : ⊥ = cc in absurd z
     left f n (s, inr l, t, at) = (s, l, t, at)
@@ -113,9 +114,9 @@ in_all : (test : CallCard → Bool) (cs : List Circuit) (P : ℕ → Type 0) (o 
 in_all test [] P o h = same P (λ n. P n ⊎ HasCall [] test n) o (λ n p. inl p) (λ n q. elim q [ inl p ↦ p | inr c ↦ absurd c.1 ]) h
 in_all test (c ∷ cs) P o h =
     same (λ n. (P n ⊎ IsCallOn c.calls test n) ⊎ HasCall cs test n) (λ n. P n ⊎ HasCall (c ∷ cs) test n) (least_in_all test (least_in test o c.calls) cs)
-      (λ n q. elim q [ inl a ↦ elim a [ inl p ↦ inl p | inr x ↦ inr (c, inl refl, x) ] | inr x ↦ inr (x.0, inr x.1, x.2) ])
-      (λ n q. elim q [ inl p ↦ inl (inl p) | inr x ↦ parted n x ])
-      (in_all test cs (λ n. P n ⊎ IsCallOn c.calls test n) (least_in test o c.calls) (in_calls test c.calls P o h))
+    (λ n q. elim q [ inl a ↦ elim a [ inl p ↦ inl p | inr x ↦ inr (c, inl refl, x) ] | inr x ↦ inr (x.0, inr x.1, x.2) ])
+    (λ n q. elim q [ inl p ↦ inl (inl p) | inr x ↦ parted n x ])
+    (in_all test cs (λ n. P n ⊎ IsCallOn c.calls test n) (least_in test o c.calls) (in_calls test c.calls P o h))
   where
     parted : (n : ℕ) → HasCall (c ∷ cs) test n → (P n ⊎ IsCallOn c.calls test n) ⊎ HasCall cs test n
     parted n (d, inl e, x) = inl (inr (subst (λ (y : Circuit). IsCallOn y.calls test n) e x))
