@@ -4,3 +4,5 @@ pub mod Faults
 pub mod Search
 pub mod Seen
 pub mod Ordered
+pub mod Needs
+pub mod Table

@@ -4,6 +4,7 @@
 mod calls;
 mod faults;
 mod gather;
+mod needs;
 mod ordered;
 
 pub use gather::{CircuitCards, Gathered, gather_cards};

@@ -1,0 +1,14 @@
+use Rattle.std.proofs.Common.{◌≡◌, ◌++◌, [], ◌∷◌, map, length, None}
+use Rattle.std.specs.Prelude.{flat_map}
+use Rattle.spice_rows.specs.Rows.{CallCard}
+use Rattle.spice_rows.specs.Seen.{call_seen, device_seen}
+use Rattle.spice_text.specs.Needs.{first_seen, device_nets, used_nets}
+use Rattle.spice_text.specs.Table.{bools, row_from}
+use Rattle.spice_text.specs.Seen.{circuit_seen}
+use Rattle.spice_text.proofs.needs.see_devices.Given as goal
+
+abbrev pub invariant-devices : goal.invariant-devices
+invariant-devices l = first_seen l.table (flat_map device_nets (map device_seen l.rest)) ≡ first_seen l.fn.table (flat_map device_nets (map device_seen l.devices))
+
+abbrev pub decreases-devices : goal.decreases-devices
+decreases-devices l = length l.rest
