@@ -1,6 +1,10 @@
+pub mod Circuits
 pub mod Entries
 pub mod Frames
+pub mod Gates
 pub mod Laws
 pub mod Layers
+pub mod Nets
+pub mod Pins
 pub mod Positions
 pub mod Zones
