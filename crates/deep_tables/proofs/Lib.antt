@@ -2,3 +2,4 @@ pub mod Finding
 pub mod Framing
 pub mod Reading
 pub mod Together
+pub mod Agreeing

@@ -5,6 +5,7 @@ pub mod Gates
 pub mod Laws
 pub mod Layers
 pub mod Nets
+pub mod OverAny
 pub mod Pins
 pub mod Positions
 pub mod Zones

@@ -6,6 +6,7 @@ ghost use Rattle.deep_tables.specs.Gates.{AreCellGates, GatesAtLaw, RightGatesLa
 ghost use Rattle.deep_tables.specs.Layers.{AreCellLayers, LayerAtLaw};
 ghost use Rattle.deep_tables.specs.Laws.{DownwardLaw, UpwardLaw};
 ghost use Rattle.deep_tables.specs.Nets.{AreCellNets, NetsAtLaw, RightNetsLaw};
+ghost use Rattle.deep_tables.specs.OverAny.{NetsOverAnyLaw, OneTablesLaw};
 ghost use Rattle.deep_tables.specs.Pins.{AreCellPins, PinsAtLaw, RightPinsLaw};
 ghost use Rattle.deep_tables.specs.Zones.{AreCellZones, DeviceZoneAtLaw, ZoneAtLaw};
 ghost use Rattle.deep_tables.specs.declared.circuits.CellCircuit.{CellCircuit};
@@ -59,4 +60,10 @@ pub fn circuit_table()
     ensures jobs { (unit : ℕ) → UpwardLaw CellCircuit (IsCellCircuit unit) }
     ensures at { CircuitsAtLaw }
     ensures all { AllTablesLaw }
+{}
+
+/// What is right over one choice of right tables is right over all, so that a phase may work over the tables that it has.
+pub fn over_any()
+    ensures tables { OneTablesLaw }
+    ensures nets { NetsOverAnyLaw }
 {}

@@ -20,7 +20,7 @@ pub use circuits::{CellCircuit, CircuitKey, Circuits};
 pub use gates::{BadGate, CellGates, Gate, GateCause, GateState, Gates};
 pub use keys::DeepKey;
 pub use laws::{
-    circuit_table, gate_table, layer_table, net_table, pin_table, zone_frames, zone_table,
+    circuit_table, gate_table, layer_table, net_table, over_any, pin_table, zone_frames, zone_table,
 };
 pub use layers::{CellLayers, Layers};
 pub use nets::{CellNets, Item, NetSource, Nets};

@@ -1,0 +1,5 @@
+use Rattle.deep_tables.proofs.Agreeing.{nets_over_any, one_tables}
+use Rattle.deep_tables.proofs.laws.over_any.Goals as goal
+
+pub returns : goal.returns
+returns c = record { tables = one_tables; nets = nets_over_any }
