@@ -3,3 +3,4 @@ pub mod Framing
 pub mod Reading
 pub mod Together
 pub mod Agreeing
+pub mod Gating
