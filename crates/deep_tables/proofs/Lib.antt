@@ -4,3 +4,4 @@ pub mod Reading
 pub mod Together
 pub mod Agreeing
 pub mod Gating
+pub mod Pinning
