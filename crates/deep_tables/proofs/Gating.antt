@@ -1,11 +1,11 @@
 -- Over right nets a cell has one list of gates, and it is the same over all right nets.
-use Rattle.std.proofs.Common.{◌≡◌, ◌⊎◌, inl, inr, ℕ, ◌<◌, ◌+ℤ◌, ◌<ℤ◌, List, [], ◌∷◌, Some, slice_get, length, refl, sym, ◌∙◌, ap, subst, arith}
+use Rattle.std.proofs.Common.{◌≡◌, ◌⊎◌, inl, inr, ℕ, ◌<◌, List, [], ◌∷◌, Some, slice_get, length, refl, sym, ◌∙◌, ap, subst, arith}
 use Rattle.std.proofs.lemmas.Int.{ints}
 use Rattle.std.proofs.lemmas.Option.{same_Some}
 use Rattle.geo_base.specs.declared.shapes.Square.{Square}
-use Rattle.flat_layout.specs.Gates.{Cause, Edge, Rule, AreGroups, InGate, InSide, InOneGroup, IsGoodGate, IsLeast, IsSettled, IsSourceFirst, IsStep, IsTerminalNode, IsWide, geometry, ground}
-use Rattle.flat_layout.specs.GateTables.{AreGates, Bad, GateEntry, GateRow, GateSquare, Good, IsGateBefore, IsGateEntry, IsGateRow, IsVerdict, Verdict, terminal_net}
-use Rattle.flat_layout.specs.Layout.{Design, IsHeight, IsReached}
+use Rattle.flat_layout.specs.Gates.{Edge, Rule, AreGroups, InGate, InSide, InOneGroup, IsLeast, IsSettled, IsSourceFirst, IsStep, IsTerminalNode, IsWide, geometry, ground}
+use Rattle.flat_layout.specs.GateTables.{AreGates, Bad, GateEntry, GateRow, Good, IsGateBefore, IsGateRow, IsVerdict, Verdict, terminal_net}
+use Rattle.flat_layout.specs.Layout.{Design, IsReached}
 use Rattle.flat_layout.specs.Nets.{AreTables, NetHolds, Tables}
 use Rattle.flat_layout.specs.Plane.{IsSquareBefore}
 use Rattle.flat_layout.specs.Regions.{Node, Wiring}
@@ -21,11 +21,9 @@ use Rattle.flat_laws.proofs.Squares.{edge_back}
 use Rattle.flat_laws.proofs.Terminals.{terminals}
 use Rattle.cell_graph.specs.Linked.{plain, height_at}
 use Rattle.cell_graph.proofs.Bridge.{heights}
-use Rattle.rule_text.specs.Rules.{Rules}
 use Rattle.rule_layers.specs.Meaning.{device_rules, wiring_of}
 use Rattle.rule_layers.proofs.Wired.{known}
 use Rattle.table_laws.proofs.Tabled as tabled
-use Rattle.deep_tables.specs.Nets.{AreRightNets}
 use Rattle.deep_tables.specs.OverAny.{GatesOverAnyLaw, OneGatesLaw}
 use Rattle.deep_tables.proofs.Agreeing.{held_alike, one_tables}
 

@@ -5,3 +5,4 @@ pub mod Together
 pub mod Agreeing
 pub mod Gating
 pub mod Pinning
+pub mod Circuiting

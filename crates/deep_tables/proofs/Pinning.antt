@@ -1,11 +1,9 @@
 -- Pins are the same over all right nets and gates.
-use Rattle.std.proofs.Common.{◌≡◌, ◌⊎◌, ◌↔◌, inl, inr, ℕ, zero, suc, ◌<◌, ◌+◌, Bool, true, List, [], Some, slice_get, length, refl, sym, ◌∙◌, ap, subst, arith}
-use Rattle.flat_layout.specs.Gates.{Rule}
-use Rattle.flat_layout.specs.GateTables.{GateEntry, GoodGate, good_gates}
-use Rattle.flat_layout.specs.GateTables as gates
-use Rattle.flat_layout.specs.Layout.{Design, IsHeight, IsPlaced, IsReached}
+use Rattle.std.proofs.Common.{◌≡◌, ◌⊎◌, inl, inr, ℕ, zero, suc, ◌<◌, ◌+◌, true, List, [], Some, slice_get, refl, sym, ◌∙◌, ap, subst, arith}
+use Rattle.flat_layout.specs.GateTables.{GateEntry, good_gates}
+use Rattle.flat_layout.specs.Layout.{Design, IsHeight, IsReached}
 use Rattle.flat_layout.specs.Nets.{CellNets, Child, Item, NetHolds, Tables}
-use Rattle.flat_layout.specs.Pins.{ArePins, ArePinsOf, CellPins, HasGate, IsAbove, IsBase, IsMarkedNet, IsNetOf, IsTag, IsUsed, IsUsedAbove}
+use Rattle.flat_layout.specs.Pins.{ArePins, CellPins, HasGate, IsAbove, IsMarkedNet, IsNetOf, IsTag, IsUsed, IsUsedAbove}
 use Rattle.flat_layout.specs.Regions.{Node, Wiring}
 use Rattle.flat_laws.proofs.Planned.{lower}
 use Rattle.cell_graph.specs.Linked.{Linked, IsSound, plain, height_at}

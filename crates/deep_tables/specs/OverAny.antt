@@ -6,9 +6,11 @@ use Rattle.flat_layout.specs.Layout.{IsReached}
 use Rattle.flat_layout.specs.Nets.{AreNets, AreRightBelow, CellNets, IsNetsOf, Tables}
 use Rattle.flat_layout.specs.Pins.{ArePinsOf, CellPins}
 use Rattle.flat_layout.specs.Regions.{Wiring}
+use Rattle.flat_layout.specs.Values.{CellCircuit, IsCellCircuitOf}
 use Rattle.cell_graph.specs.Linked.{Linked, IsSound, plain}
 use Rattle.rule_text.specs.Rules.{Rules}
 use Rattle.rule_layers.specs.Meaning.{device_rules, wiring_of}
+use Rattle.deep_tables.specs.Circuits.{AreMakings}
 use Rattle.deep_tables.specs.Gates.{AreRightGates}
 use Rattle.deep_tables.specs.Nets.{AreRightNets}
 
@@ -41,3 +43,11 @@ PinsOverAnyLaw = (d : Linked) (r : Rules) (s : Tables) (of : ℕ → List GateEn
     → AreRightGates (plain d) (wiring_of r) s (device_rules r) of → IsReached (plain d) cell → ArePinsOf (plain d) (wiring_of r) s of cell v
     → (t : Tables) (others : ℕ → List GateEntry) → AreRightNets (plain d) (wiring_of r) t → AreRightGates (plain d) (wiring_of r) t (device_rules r) others
     → ArePinsOf (plain d) (wiring_of r) t others cell v
+
+-- circuits that are right over one choice of right nets, gates and pins
+abbrev pub CircuitsOverAnyLaw : Type 0
+CircuitsOverAnyLaw = (d : Linked) (r : Rules) (unit : ℕ) (s : Tables) (of : ℕ → List GateEntry) (pins : ℕ → CellPins) (level : ℕ → ℕ) (cells : List ℕ) (cell : ℕ) (v : CellCircuit) → IsSound d
+    → AreMakings (plain d) (wiring_of r) s (device_rules r) of pins level cells → IsReached (plain d) cell → IsCellCircuitOf (plain d) s of pins (device_rules r) unit cells cell v
+    → (t : Tables) (others : ℕ → List GateEntry) (other_pins : ℕ → CellPins) (other_level : ℕ → ℕ) (other_cells : List ℕ)
+    → AreMakings (plain d) (wiring_of r) t (device_rules r) others other_pins other_level other_cells
+    → IsCellCircuitOf (plain d) t others other_pins (device_rules r) unit other_cells cell v

@@ -6,7 +6,7 @@ ghost use Rattle.deep_tables.specs.Gates.{AreCellGates, GatesAtLaw, RightGatesLa
 ghost use Rattle.deep_tables.specs.Layers.{AreCellLayers, LayerAtLaw};
 ghost use Rattle.deep_tables.specs.Laws.{DownwardLaw, UpwardLaw};
 ghost use Rattle.deep_tables.specs.Nets.{AreCellNets, NetsAtLaw, RightNetsLaw};
-ghost use Rattle.deep_tables.specs.OverAny.{GatesOverAnyLaw, NetsOverAnyLaw, OneGatesLaw, OneTablesLaw, PinsOverAnyLaw};
+ghost use Rattle.deep_tables.specs.OverAny.{CircuitsOverAnyLaw, GatesOverAnyLaw, NetsOverAnyLaw, OneGatesLaw, OneTablesLaw, PinsOverAnyLaw};
 ghost use Rattle.deep_tables.specs.Pins.{AreCellPins, PinsAtLaw, RightPinsLaw};
 ghost use Rattle.deep_tables.specs.Zones.{AreCellZones, DeviceZoneAtLaw, ZoneAtLaw};
 ghost use Rattle.deep_tables.specs.declared.circuits.CellCircuit.{CellCircuit};
@@ -69,4 +69,5 @@ pub fn over_any()
     ensures one_gates { OneGatesLaw }
     ensures gates { GatesOverAnyLaw }
     ensures pins { PinsOverAnyLaw }
+    ensures circuits { CircuitsOverAnyLaw }
 {}
