@@ -23,7 +23,11 @@ plain_item (Child k b) = flat.Child k b
 plain_item (Global g) = flat.Global g
 
 abbrev pub plain_nets : CellNets → flat.CellNets
-plain_nets v = record { items = map plain_item v.items.items; net_of = v.net_of.items; count = v.count }
+plain_nets v = record {
+  items = map plain_item v.items.items;
+  net_of = v.net_of.items;
+  count = v.count;
+}
 
 -- the nets of a cell are right over all layers and nets that are right below it
 abbrev pub AreCellNets : Design → Rules → ℕ → CellNets → Type 0
@@ -41,7 +45,8 @@ abbrev pub rects_in : Option (List Rect) → List Rect
 rects_in None = []
 rects_in (Some rects) = rects
 
--- what the tables of layers and nets say: the rectangles that each cell holds itself of each conductor, and its nets
+-- what the tables of layers and nets say: the rectangles that each cell holds itself of each
+-- conductor, and its nets
 abbrev pub tables_of : Rules → List (Option CellLayers) → List (Option CellNets) → Tables
 tables_of r layers nets = record {
   own = λ cell c. if is_conductor c r then rects_in (layer_of layers cell c) else [];
@@ -55,9 +60,11 @@ pub record AreRightNets (d : Design) (w : Wiring) (t : Tables) : Type 0 where
 
 -- right layers and right nets are right together
 abbrev pub RightNetsLaw : Type 0
-RightNetsLaw = (d : Design) (r : Rules) (layers : List (Option CellLayers)) (nets : List (Option CellNets)) → AreLayers d r layers → AreNets d r nets
+RightNetsLaw = (d : Design) (r : Rules) (layers : List (Option CellLayers))
+    (nets : List (Option CellNets)) → AreLayers d r layers → AreNets d r nets
     → AreRightNets d (wiring_of r) (tables_of r layers nets)
 
 -- and the accessor's condition is met at each reached cell
 abbrev pub NetsAtLaw : Type 0
-NetsAtLaw = (d : Design) (r : Rules) (table : List (Option CellNets)) (cell : ℕ) → AreNets d r table → IsReached d cell → IsSome (entry table cell)
+NetsAtLaw = (d : Design) (r : Rules) (table : List (Option CellNets)) (cell : ℕ) → AreNets d r table
+    → IsReached d cell → IsSome (entry table cell)

@@ -22,9 +22,11 @@ name_in (Some name) = name
 abbrev pub plain_pins : CellPins → flat.CellPins
 plain_pins v = record { pins = v.pin.items; names = map name_in v.names.items }
 
--- the pins of a cell, right over all nets and gates that are right, and over all pins that are right above
+-- the pins of a cell, right over all nets and gates that are right, and over all pins that are
+-- right above
 abbrev pub AreCellPins : Design → Rules → ℕ → CellPins → Type 0
-AreCellPins d r cell v = (t : Tables) (gates : ℕ → List GateEntry) → AreRightNets d (wiring_of r) t → AreRightGates d (wiring_of r) t (device_rules r) gates
+AreCellPins d r cell v = (t : Tables) (gates : ℕ → List GateEntry) → AreRightNets d (wiring_of r) t
+    → AreRightGates d (wiring_of r) t (device_rules r) gates
     → ArePinsOf d (wiring_of r) t gates cell (plain_pins v)
 
 -- each reached cell has its pins
@@ -40,14 +42,19 @@ abbrev pub pins_of : List (Option CellPins) → ℕ → flat.CellPins
 pins_of table cell = pins_in (entry table cell)
 
 -- each reached cell's pins are right over these nets and gates
-abbrev pub AreRightPins : Design → Wiring → Tables → (ℕ → List GateEntry) → (ℕ → flat.CellPins) → Type 0
-AreRightPins d w t gates pins = (cell : ℕ) → IsReached d cell → flat.ArePins d w t gates pins cell (pins cell)
+abbrev pub AreRightPins : Design → Wiring → Tables → (ℕ → List GateEntry) → (ℕ → flat.CellPins)
+    → Type 0
+AreRightPins d w t gates pins = (cell : ℕ) → IsReached d cell
+    → flat.ArePins d w t gates pins cell (pins cell)
 
 -- right pins over right nets and gates are right together
 abbrev pub RightPinsLaw : Type 0
-RightPinsLaw = (d : Linked) (r : Rules) (t : Tables) (gates : ℕ → List GateEntry) (table : List (Option CellPins)) → IsSound d → AreRightNets (plain d) (wiring_of r) t
-    → AreRightGates (plain d) (wiring_of r) t (device_rules r) gates → ArePins (plain d) r table → AreRightPins (plain d) (wiring_of r) t gates (pins_of table)
+RightPinsLaw = (d : Linked) (r : Rules) (t : Tables) (gates : ℕ → List GateEntry)
+    (table : List (Option CellPins)) → IsSound d → AreRightNets (plain d) (wiring_of r) t
+    → AreRightGates (plain d) (wiring_of r) t (device_rules r) gates → ArePins (plain d) r table
+    → AreRightPins (plain d) (wiring_of r) t gates (pins_of table)
 
 -- and the accessor's condition is met at each reached cell
 abbrev pub PinsAtLaw : Type 0
-PinsAtLaw = (d : Design) (r : Rules) (table : List (Option CellPins)) (cell : ℕ) → ArePins d r table → IsReached d cell → IsSome (entry table cell)
+PinsAtLaw = (d : Design) (r : Rules) (table : List (Option CellPins)) (cell : ℕ) → ArePins d r table
+    → IsReached d cell → IsSome (entry table cell)

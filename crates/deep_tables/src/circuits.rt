@@ -12,7 +12,8 @@ use std::alloc::{AllocError, Global};
 use std::marker::Model;
 use std::snapshot::Snapshot;
 
-/// What circuits are made from: the layout, the rules, and the database unit in picometres. Tokens of no bytes.
+/// What circuits are made from: the layout, the rules, and the database unit in picometres. Tokens
+/// of no bytes.
 #[derive(Drop)]
 pub struct CircuitKey {
     pub design: Snapshot<Design>,
@@ -36,10 +37,12 @@ impl Defined for CellCircuit {
     ghost use Rattle.deep_tables.specs.Entries.{upward_cell};
     ghost use Rattle.deep_tables.specs.Circuits.{IsCellCircuit};
 
-    ghost is_defined = { λ key job v. IsCellCircuit key.unit_pm.value (plain key.design.value) (rules_seen key.rules.value) (upward_cell key.design.value job) v };
+    ghost is_defined = { λ key job v. IsCellCircuit key.unit_pm.value (plain key.design.value)
+        (rules_seen key.rules.value) (upward_cell key.design.value job) v };
 }
 
-/// The circuit of each cell that the top reaches. Contracts see a list with an entry, or none, for each cell.
+/// The circuit of each cell that the top reaches. Contracts see a list with an entry, or none, for
+/// each cell.
 #[derive(Drop)]
 pub struct Circuits {
     table: Table<CellCircuit>,

@@ -28,7 +28,8 @@ pub enum GateCause {
     NoLength,
 }
 
-/// A good gate has twice its width and twice its length, in sides of unit squares, and the nets of its terminals.
+/// A good gate has twice its width and twice its length, in sides of unit squares, and the nets of
+/// its terminals.
 /// Its source is the group with the least square.
 #[derive(Clone, Copy, Debug, PartialEq, Eq)]
 pub enum GateState {
@@ -43,7 +44,8 @@ pub enum GateState {
     Bad(GateCause),
 }
 
-/// A gate of a cell: its device rule, its squares, the first of these by y, then x, and the verdict.
+/// A gate of a cell: its device rule, its squares, the first of these by y, then x, and the
+/// verdict.
 #[derive(Drop)]
 pub struct Gate {
     pub device: u32,
@@ -66,10 +68,12 @@ impl Defined for CellGates {
     ghost use Rattle.deep_tables.specs.Entries.{upward_cell};
     ghost use Rattle.deep_tables.specs.Gates.{AreCellGates};
 
-    ghost is_defined = { λ key job v. AreCellGates (plain key.design.value) (rules_seen key.rules.value) (upward_cell key.design.value job) v };
+    ghost is_defined = { λ key job v. AreCellGates (plain key.design.value)
+        (rules_seen key.rules.value) (upward_cell key.design.value job) v };
 }
 
-/// A bad gate of a layout: its cell, its rule's class, its least square in the cell, and why it is bad.
+/// A bad gate of a layout: its cell, its rule's class, its least square in the cell, and why it is
+/// bad.
 #[derive(Drop)]
 pub struct BadGate {
     pub cell: u32,
@@ -78,7 +82,8 @@ pub struct BadGate {
     pub cause: GateCause,
 }
 
-/// The gates of each cell that the top reaches. Contracts see a list with an entry, or none, for each cell.
+/// The gates of each cell that the top reaches. Contracts see a list with an entry, or none, for
+/// each cell.
 #[derive(Drop)]
 pub struct Gates {
     table: Table<CellGates>,

@@ -16,14 +16,16 @@ ghost use Rattle.deep_tables.specs.declared.nets.CellNets.{CellNets};
 ghost use Rattle.deep_tables.specs.declared.pins.CellPins.{CellPins};
 ghost use Rattle.deep_tables.specs.declared.zones.CellZones.{CellZones};
 
-/// Where each job's disturbed squares are right, so is the table; and a right table has those of each reached cell.
+/// Where each job's disturbed squares are right, so is the table; and a right table has those of
+/// each reached cell.
 pub fn zone_table()
     ensures jobs { DownwardLaw CellZones AreCellZones }
     ensures at { ZoneAtLaw }
     ensures device_at { DeviceZoneAtLaw }
 {}
 
-/// Where each job's layers are right, so is the table; and a right table has those of each reached cell.
+/// Where each job's layers are right, so is the table; and a right table has those of each reached
+/// cell.
 pub fn layer_table()
     ensures jobs { UpwardLaw CellLayers AreCellLayers }
     ensures at { LayerAtLaw }
@@ -34,7 +36,8 @@ pub fn zone_frames()
     ensures { FrameLaw }
 {}
 
-/// Where each job's nets are right, so is the table; right layers and right nets are right together.
+/// Where each job's nets are right, so is the table; right layers and right nets are right
+/// together.
 pub fn net_table()
     ensures jobs { UpwardLaw CellNets AreCellNets }
     ensures at { NetsAtLaw }
@@ -48,21 +51,24 @@ pub fn gate_table()
     ensures right { RightGatesLaw }
 {}
 
-/// Where each job's pins are right, so is the table; over right nets and gates they are right together.
+/// Where each job's pins are right, so is the table; over right nets and gates they are right
+/// together.
 pub fn pin_table()
     ensures jobs { DownwardLaw CellPins AreCellPins }
     ensures at { PinsAtLaw }
     ensures right { RightPinsLaw }
 {}
 
-/// Where each job's circuit is right, so is the table; and all tables, each right by itself, are right together.
+/// Where each job's circuit is right, so is the table; and all tables, each right by itself, are
+/// right together.
 pub fn circuit_table()
     ensures jobs { (unit : ℕ) → UpwardLaw CellCircuit (IsCellCircuit unit) }
     ensures at { CircuitsAtLaw }
     ensures all { AllTablesLaw }
 {}
 
-/// What is right over one choice of right tables is right over all, so that a phase may work over the tables that it has.
+/// What is right over one choice of right tables is right over all, so that a phase may work over
+/// the tables that it has.
 pub fn over_any()
     ensures tables { OneTablesLaw }
     ensures nets { NetsOverAnyLaw }

@@ -1,9 +1,11 @@
 //! What was found for each cell that the top reaches: disturbed squares, local layers, nets, gates,
 //! pins and circuits.
 //!
-//! A table is made from the results of its phase. Contracts see it as a list with an entry, or none,
+//! A table is made from the results of its phase. Contracts see it as a list with an entry, or
+//! none,
 //! for each cell of the design. What an entry must be is said over whatever is right of the cells
-//! that its job reads, in the words of the flat layout; the laws say that tables so filled are right.
+//! that its job reads, in the words of the flat layout; the laws say that tables so filled are
+//! right.
 #![tactic(auto)]
 
 mod circuits;

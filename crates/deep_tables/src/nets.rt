@@ -13,7 +13,8 @@ use std::marker::Model;
 /// What a net of a cell is made of.
 #[derive(Clone, Copy, Debug, PartialEq, Eq)]
 pub enum Item {
-    /// A rectangle of the squares that the cell holds itself of a conductor, by the conductor's name and the rectangle's place.
+    /// A rectangle of the squares that the cell holds itself of a conductor, by the conductor's
+    /// name and the rectangle's place.
     Own { conductor: u32, rect: u32 },
     /// A net of a placed cell. Placements are numbered by reference, then row, then column.
     Child { place: u64, net: u32 },
@@ -21,7 +22,8 @@ pub enum Item {
     Global { global: u32 },
 }
 
-/// The items of a cell in order, the net of each, and the number of nets. Nets are numbered by their least item.
+/// The items of a cell in order, the net of each, and the number of nets. Nets are numbered by
+/// their least item.
 #[derive(Drop)]
 pub struct CellNets {
     pub items: Vec<Item>,
@@ -37,7 +39,8 @@ impl Defined for CellNets {
     ghost use Rattle.deep_tables.specs.Entries.{upward_cell};
     ghost use Rattle.deep_tables.specs.Nets.{AreCellNets};
 
-    ghost is_defined = { λ key job v. AreCellNets (plain key.design.value) (rules_seen key.rules.value) (upward_cell key.design.value job) v };
+    ghost is_defined = { λ key job v. AreCellNets (plain key.design.value)
+        (rules_seen key.rules.value) (upward_cell key.design.value job) v };
 }
 
 /// Where the nets of cells are read: of all cells, or of those below the one that a phase works on.
@@ -52,7 +55,8 @@ pub trait NetSource {
         ensures { nets self.now cell ≡ Some result.now };
 }
 
-/// The nets of each cell that the top reaches. Contracts see a list with an entry, or none, for each cell.
+/// The nets of each cell that the top reaches. Contracts see a list with an entry, or none, for
+/// each cell.
 #[derive(Drop)]
 pub struct Nets {
     table: Table<CellNets>,

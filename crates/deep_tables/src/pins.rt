@@ -10,7 +10,8 @@ use net_names::Name;
 use std::alloc::{AllocError, Global};
 use std::marker::Model;
 
-/// For each net of a cell, whether it is a pin, and its base name: its texts and globals in byte order, joined by commas; none
+/// For each net of a cell, whether it is a pin, and its base name: its texts and globals in byte
+/// order, joined by commas; none
 /// where it has none.
 #[derive(Drop)]
 pub struct CellPins {
@@ -26,10 +27,12 @@ impl Defined for CellPins {
     ghost use Rattle.deep_tables.specs.Entries.{downward_cell};
     ghost use Rattle.deep_tables.specs.Pins.{AreCellPins};
 
-    ghost is_defined = { λ key job v. AreCellPins (plain key.design.value) (rules_seen key.rules.value) (downward_cell key.design.value job) v };
+    ghost is_defined = { λ key job v. AreCellPins (plain key.design.value)
+        (rules_seen key.rules.value) (downward_cell key.design.value job) v };
 }
 
-/// The pins of each cell that the top reaches. Contracts see a list with an entry, or none, for each cell.
+/// The pins of each cell that the top reaches. Contracts see a list with an entry, or none, for
+/// each cell.
 #[derive(Drop)]
 pub struct Pins {
     table: Table<CellPins>,
