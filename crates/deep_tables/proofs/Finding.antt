@@ -1,12 +1,12 @@
 -- Entries of tables.
-use Rattle.std.proofs.Common.{◌≡◌, [], ◌∷◌, zero, suc, inl, inr, ℕ, ◌<◌, ◌≤◌, ◌-◌, List, Option, Some, None, IsSome, IsSomeAnd, is_some, true, false, length, map, get_or, slice_get, slice_index, slice_index_or, refl, sym, ◌∙◌, ap, subst, arith}
+use Rattle.std.proofs.Common.{◌≡◌, [], ◌∷◌, zero, suc, inl, inr, ℕ, ◌<◌, ◌-◌, List, Option, Some, None, IsSome, IsSomeAnd, is_some, true, false, length, map, slice_get, slice_index, slice_index_or, refl, sym, ◌∙◌, ap, subst, arith}
 use Rattle.std.proofs.lemmas.List.{get_or-map, length-map}
 use Rattle.std.proofs.lemmas.Option.{slice_get_cases}
-use Rattle.cell_graph.specs.Linked.{Linked, IsOrder, IsSound, plain}
-use Rattle.flat_layout.specs.Layout.{Design, IsReached}
+use Rattle.cell_graph.specs.Linked.{Linked, IsOrder, plain}
+use Rattle.flat_layout.specs.Layout.{Design}
 use Rattle.rule_text.specs.Rules.{Rules}
-use Rattle.deep_tables.specs.Entries.{entry, AreEntries, IsByJobs, IsDownward, IsUpward, downward_cell, upward_cell}
-use Rattle.deep_tables.specs.Laws.{AreJobs, DownwardLaw, UpwardLaw}
+use Rattle.deep_tables.specs.Entries.{entry, IsDownward, IsUpward, downward_cell, upward_cell}
+use Rattle.deep_tables.specs.Laws.{DownwardLaw, UpwardLaw}
 use Rattle.deep_tables.specs.Positions.{ArePositions, AreReversed}
 
 -- a list of jobs as a table
@@ -64,3 +64,8 @@ job_in {X} values jobs table cell job is some e =
     let here : IsSome (entry (seen values jobs) cell) = subst (λ (t : List (Option X)). IsSome (entry t cell)) (sym is) some in
     let at = get_or-map (λ j. slice_get values j) jobs cell job None (cell_in values jobs cell here) ∙ ap (slice_get values) (sym e) in
     inside values job (subst (λ (o : Option X). IsSome o) at here)
+
+-- an entry that is right is there
+pub some_at : {X : Type 0} (P : X → Type 0) (o : Option X) → IsSomeAnd o P → IsSome o
+some_at {X} P None h = absurd h
+some_at {X} P (Some x) h = refl

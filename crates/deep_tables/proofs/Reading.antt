@@ -1,7 +1,6 @@
 -- What accessors find in right tables.
-use Rattle.std.proofs.Common.{◌≡◌, inl, inr, ℕ, ◌<◌, List, Option, Some, None, IsSomeAnd, length, slice_get, refl, sym, ◌∙◌, ap, subst, arith}
+use Rattle.std.proofs.Common.{◌≡◌, inl, inr, ℕ, List, Option, Some, None, IsSomeAnd, length, slice_get, refl, sym, ◌∙◌, ap, arith}
 use Rattle.std.proofs.lemmas.Option.{slice_get_cases}
-use Rattle.flat_layout.specs.Layout.{Design}
 use Rattle.deep_tables.specs.Zones.{AreCellZones, ZoneAtLaw, DeviceZoneAtLaw, squares_for}
 use Rattle.deep_tables.specs.Layers.{AreCellLayers, LayerAtLaw, squares_on}
 use Rattle.deep_tables.specs.Entries.{entry}

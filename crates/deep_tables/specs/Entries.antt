@@ -7,7 +7,8 @@ use Rattle.cell_graph.specs.Linked.{Linked}
 abbrev pub entry : {T : Type 0} → List (Option T) → ℕ → Option T
 entry table cell = get_or table cell None
 
--- the cell of a job, where each cell comes after those that it places, and where it comes after those that place it
+-- the cell of a job, where each cell comes after those that it places, and where it comes after
+-- those that place it
 abbrev pub upward_cell : Linked → ℕ → ℕ
 upward_cell d job = slice_index d.order job
 
@@ -15,7 +16,8 @@ abbrev pub downward_cell : Linked → ℕ → ℕ
 downward_cell d job = slice_index d.order (length d.order - 1 - job)
 
 -- each reached cell's entry is the value of its job
-pub record IsByJobs {T : Type 0} (cell_of : ℕ → ℕ) (d : Linked) (values : List T) (table : List (Option T)) : Type 0 where
+pub record IsByJobs {T : Type 0} (cell_of : ℕ → ℕ) (d : Linked) (values : List T)
+    (table : List (Option T)) : Type 0 where
   pub count : length table ≡ length d.cells
   pub each : (job : ℕ) → job < length d.order → entry table (cell_of job) ≡ slice_get values job
 

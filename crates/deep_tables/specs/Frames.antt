@@ -20,13 +20,16 @@ IsInGrown (Some h) q = has (grown h) q ≡ true
 
 -- the hulls of a design are those of its reached cells
 abbrev pub HasHulls : Linked → Type 0
-HasHulls d = (cell : ℕ) → IsReached (plain d) cell → IsHullOf (plain d) cell (hull_of (cell_at d cell))
+HasHulls d = (cell : ℕ) → IsReached (plain d) cell → IsHullOf (plain d) cell
+    (hull_of (cell_at d cell))
 
 -- exactly the cell's disturbed squares for some layers, within the grown hull that the design has
 abbrev pub IsFramedZone : Linked → List LayerKey → ℕ → List Rect → Type 0
-IsFramedZone d keys cell zone = (q : Square) → (covers zone q ≡ true) ↔ (IsDisturbed (plain d) keys cell q × IsInGrown (hull_of (cell_at d cell)) q)
+IsFramedZone d keys cell zone = (q : Square) → (covers zone q ≡ true)
+    ↔ (IsDisturbed (plain d) keys cell q × IsInGrown (hull_of (cell_at d cell)) q)
 
 -- for a cell with its own hull these are its disturbed squares
 abbrev pub FrameLaw : Type 0
-FrameLaw = (d : Linked) (keys : List LayerKey) (cell : ℕ) (zone : List Rect) → IsHullOf (plain d) cell (hull_of (cell_at d cell)) → IsCanonical zone
+FrameLaw = (d : Linked) (keys : List LayerKey) (cell : ℕ) (zone : List Rect)
+    → IsHullOf (plain d) cell (hull_of (cell_at d cell)) → IsCanonical zone
     → IsZone (plain d) keys 1 cell zone ↔ IsFramedZone d keys cell zone

@@ -12,7 +12,8 @@ use Rattle.deep_tables.specs.declared.layers.CellLayers.{CellLayers}
 -- for each name of the rules, the squares that the cell holds itself
 pub record AreCellLayers (d : Design) (r : Rules) (cell : ℕ) (v : CellLayers) : Type 0 where
   pub names : length v.layers.items ≡ length (readings r.names)
-  pub layers : (i : ℕ) (x : Reading) (layer : List Rect) → slice_get (readings r.names) i ≡ Some x → slice_get v.layers.items i ≡ Some layer → IsLocalLayer d x cell layer
+  pub layers : (i : ℕ) (x : Reading) (layer : List Rect) → slice_get (readings r.names) i ≡ Some x
+      → slice_get v.layers.items i ≡ Some layer → IsLocalLayer d x cell layer
 
 -- each reached cell has the squares that it holds itself
 abbrev pub AreLayers : Design → Rules → List (Option CellLayers) → Type 0
@@ -28,5 +29,7 @@ layer_of table cell layer = squares_on (entry table cell) layer
 
 -- so the accessor's condition is met at each reached cell, for each name of the rules
 abbrev pub LayerAtLaw : Type 0
-LayerAtLaw = (d : Design) (r : Rules) (table : List (Option CellLayers)) (cell i : ℕ) (x : Reading) → AreLayers d r table → IsReached d cell
-    → slice_get (readings r.names) i ≡ Some x → (layer : List Rect) × (layer_of table cell i ≡ Some layer) × IsLocalLayer d x cell layer
+LayerAtLaw = (d : Design) (r : Rules) (table : List (Option CellLayers)) (cell i : ℕ) (x : Reading)
+    → AreLayers d r table → IsReached d cell
+    → slice_get (readings r.names) i ≡ Some x → (layer : List Rect)
+    × (layer_of table cell i ≡ Some layer) × IsLocalLayer d x cell layer

@@ -1,6 +1,11 @@
+pub mod Circuits
 pub mod Entries
 pub mod Frames
+pub mod Gates
 pub mod Laws
 pub mod Layers
+pub mod Nets
+pub mod OverAny
+pub mod Pins
 pub mod Positions
 pub mod Zones

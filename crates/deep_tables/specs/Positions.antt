@@ -4,7 +4,8 @@ use Rattle.std.specs.Prelude.{◌≡◌, ℕ, ◌<◌, ◌-◌, List, length, sl
 -- the numbers are below a count, and no two are equal
 pub record AreApart (count : ℕ) (order : List ℕ) : Type 0 where
   pub inside : (k : ℕ) → k < length order → slice_index order k < count
-  pub once : (j k : ℕ) → j < length order → k < length order → slice_index order j ≡ slice_index order k → j ≡ k
+  pub once : (j k : ℕ) → j < length order → k < length order
+      → slice_index order j ≡ slice_index order k → j ≡ k
 
 -- the first n numbers of the list are found by their positions
 abbrev pub ArePositions : List ℕ → ℕ → List ℕ → Type 0
@@ -12,4 +13,5 @@ ArePositions order n places = (k : ℕ) → k < n → slice_index places (slice_
 
 -- and by their positions from the end
 abbrev pub AreReversed : List ℕ → ℕ → List ℕ → Type 0
-AreReversed order n places = (k : ℕ) → k < n → slice_index places (slice_index order k) ≡ length order - 1 - k
+AreReversed order n places = (k : ℕ) → k < n → slice_index places
+    (slice_index order k) ≡ length order - 1 - k

@@ -14,12 +14,15 @@ use Rattle.deep_tables.specs.declared.zones.CellZones.{CellZones}
 use Rattle.deep_tables.specs.declared.zones.ZoneKey.{ZoneKey}
 use Rattle.deep_tables.specs.declared.zones.ZoneKey.TheVariants.{Layer, Device}
 
--- for each name of the rules, and for each device rule, the disturbed squares for what it reads, in the cell's hull grown by one
+-- for each name of the rules, and for each device rule, the disturbed squares for what it reads, in
+-- the cell's hull grown by one
 pub record AreCellZones (d : Design) (r : Rules) (cell : ℕ) (v : CellZones) : Type 0 where
   pub names : length v.layers.items ≡ length (readings r.names)
-  pub layers : (i : ℕ) (x : Reading) (zone : List Rect) → slice_get (readings r.names) i ≡ Some x → slice_get v.layers.items i ≡ Some zone → IsZone d (inputs x) 1 cell zone
+  pub layers : (i : ℕ) (x : Reading) (zone : List Rect) → slice_get (readings r.names) i ≡ Some x
+      → slice_get v.layers.items i ≡ Some zone → IsZone d (inputs x) 1 cell zone
   pub rules : length v.devices.items ≡ length (device_rules r)
-  pub devices : (i : ℕ) (u : Rule) (zone : List Rect) → slice_get (device_rules r) i ≡ Some u → slice_get v.devices.items i ≡ Some zone → IsZone d (gate_inputs (wiring_of r) u) 1 cell zone
+  pub devices : (i : ℕ) (u : Rule) (zone : List Rect) → slice_get (device_rules r) i ≡ Some u
+      → slice_get v.devices.items i ≡ Some zone → IsZone d (gate_inputs (wiring_of r) u) 1 cell zone
 
 -- each reached cell has its disturbed squares
 abbrev pub AreZones : Design → Rules → List (Option CellZones) → Type 0
@@ -34,14 +37,19 @@ squares_for (Some v) (Device i) = slice_get v.devices.items i
 abbrev pub zone_of : List (Option CellZones) → ℕ → ZoneKey → Option (List Rect)
 zone_of table cell key = squares_for (entry table cell) key
 
--- so the accessor's condition is met at each reached cell, for each name of the rules and each device rule
+-- so the accessor's condition is met at each reached cell, for each name of the rules and each
+-- device rule
 abbrev pub HasZone : Design → List (Option CellZones) → ℕ → ZoneKey → List LayerKey → Type 0
-HasZone d table cell key keys = (zone : List Rect) × (zone_of table cell key ≡ Some zone) × IsZone d keys 1 cell zone
+HasZone d table cell key keys = (zone : List Rect) × (zone_of table cell key ≡ Some zone)
+    × IsZone d keys 1 cell zone
 
 abbrev pub ZoneAtLaw : Type 0
-ZoneAtLaw = (d : Design) (r : Rules) (table : List (Option CellZones)) (cell i : ℕ) (x : Reading) → AreZones d r table → IsReached d cell
+ZoneAtLaw = (d : Design) (r : Rules) (table : List (Option CellZones)) (cell i : ℕ) (x : Reading)
+    → AreZones d r table → IsReached d cell
     → slice_get (readings r.names) i ≡ Some x → HasZone d table cell (Layer i) (inputs x)
 
 abbrev pub DeviceZoneAtLaw : Type 0
-DeviceZoneAtLaw = (d : Design) (r : Rules) (table : List (Option CellZones)) (cell i : ℕ) (u : Rule) → AreZones d r table → IsReached d cell
-    → slice_get (device_rules r) i ≡ Some u → HasZone d table cell (Device i) (gate_inputs (wiring_of r) u)
+DeviceZoneAtLaw = (d : Design) (r : Rules) (table : List (Option CellZones)) (cell i : ℕ) (u : Rule)
+    → AreZones d r table → IsReached d cell
+    → slice_get (device_rules r) i ≡ Some u → HasZone d table cell (Device i)
+    (gate_inputs (wiring_of r) u)

@@ -11,7 +11,8 @@ use rect_sets::RectSet;
 use std::alloc::{AllocError, Global};
 use std::marker::Model;
 
-/// The squares that a cell holds itself, for each name of the rules. At a labels name there are none.
+/// The squares that a cell holds itself, for each name of the rules. At a labels name there are
+/// none.
 #[derive(Drop)]
 pub struct CellLayers {
     pub layers: Vec<RectSet>,
@@ -25,10 +26,12 @@ impl Defined for CellLayers {
     ghost use Rattle.deep_tables.specs.Entries.{upward_cell};
     ghost use Rattle.deep_tables.specs.Layers.{AreCellLayers};
 
-    ghost is_defined = { λ key job v. AreCellLayers (plain key.design.value) (rules_seen key.rules.value) (upward_cell key.design.value job) v };
+    ghost is_defined = { λ key job v. AreCellLayers (plain key.design.value)
+        (rules_seen key.rules.value) (upward_cell key.design.value job) v };
 }
 
-/// The squares that each cell that the top reaches holds itself. Contracts see a list with an entry, or none, for each cell.
+/// The squares that each cell that the top reaches holds itself. Contracts see a list with an
+/// entry, or none, for each cell.
 #[derive(Drop)]
 pub struct Layers {
     table: Table<CellLayers>,

@@ -1,15 +1,30 @@
-//! What was found for each cell that the top reaches: its disturbed squares and the squares that it holds itself.
+//! What was found for each cell that the top reaches: disturbed squares, local layers, nets, gates,
+//! pins and circuits.
 //!
-//! A table is made from the results of its phase. Contracts see it as a list with an entry, or none, for each cell of the design.
+//! A table is made from the results of its phase. Contracts see it as a list with an entry, or
+//! none,
+//! for each cell of the design. What an entry must be is said over whatever is right of the cells
+//! that its job reads, in the words of the flat layout; the laws say that tables so filled are
+//! right.
 #![tactic(auto)]
 
+mod circuits;
+mod gates;
 mod keys;
 mod laws;
 mod layers;
+mod nets;
+mod pins;
 mod table;
 mod zones;
 
+pub use circuits::{CellCircuit, CircuitKey, Circuits};
+pub use gates::{BadGate, CellGates, Gate, GateCause, GateState, Gates};
 pub use keys::DeepKey;
-pub use laws::{layer_table, zone_frames, zone_table};
+pub use laws::{
+    circuit_table, gate_table, layer_table, net_table, over_any, pin_table, zone_frames, zone_table,
+};
 pub use layers::{CellLayers, Layers};
+pub use nets::{CellNets, Item, NetSource, Nets};
+pub use pins::{CellPins, Pins};
 pub use zones::{CellZones, ZoneKey, Zones};

@@ -52,7 +52,8 @@ fn positions_from_end(alloc: Global, count: u32, order: &[u32]) -> Result<Vec<u3
 }
 
 impl<T: Drop> Table<T> {
-    /// The table of a phase whose jobs go through the design's order, so that each cell comes after those that it places.
+    /// The table of a phase whose jobs go through the design's order, so that each cell comes after
+    /// those that it places.
     pub fn upward(
         alloc: Global,
         design: &Design,
@@ -65,7 +66,8 @@ impl<T: Drop> Table<T> {
         Ok(Table { jobs, results })
     }
 
-    /// The table of a phase whose jobs go through the design's order from its end, so that each cell comes after those that place it.
+    /// The table of a phase whose jobs go through the design's order from its end, so that each
+    /// cell comes after those that place it.
     pub fn downward(
         alloc: Global,
         design: &Design,

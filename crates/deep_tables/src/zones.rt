@@ -11,7 +11,8 @@ use rect_sets::RectSet;
 use std::alloc::{AllocError, Global};
 use std::marker::Model;
 
-/// A cell's disturbed squares within one square round its hull: for each name of the rules, and for each device rule.
+/// A cell's disturbed squares within one square round its hull: for each name of the rules, and for
+/// each device rule.
 /// At a labels name there are none.
 #[derive(Drop)]
 pub struct CellZones {
@@ -27,7 +28,8 @@ impl Defined for CellZones {
     ghost use Rattle.deep_tables.specs.Entries.{downward_cell};
     ghost use Rattle.deep_tables.specs.Zones.{AreCellZones};
 
-    ghost is_defined = { λ key job v. AreCellZones (plain key.design.value) (rules_seen key.rules.value) (downward_cell key.design.value job) v };
+    ghost is_defined = { λ key job v. AreCellZones (plain key.design.value)
+        (rules_seen key.rules.value) (downward_cell key.design.value job) v };
 }
 
 /// What squares are disturbed for: the inputs of a name, or of a device rule's layers.
@@ -37,7 +39,8 @@ pub enum ZoneKey {
     Device(u32),
 }
 
-/// The disturbed squares of each cell that the top reaches. Contracts see a list with an entry, or none, for each cell.
+/// The disturbed squares of each cell that the top reaches. Contracts see a list with an entry, or
+/// none, for each cell.
 #[derive(Drop)]
 pub struct Zones {
     table: Table<CellZones>,

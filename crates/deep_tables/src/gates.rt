@@ -1,0 +1,121 @@
+//! Gates of cells.
+ghost use Rattle.std.specs.Prelude.{◌≡◌, IfOk, IsSome, Some};
+ghost use Rattle.deep_tables.specs.Entries.{entry, IsUpward};
+ghost use Rattle.deep_tables.specs.Gates.{list_of};
+
+use crate::keys::DeepKey;
+use crate::table::Table;
+use cell_graph::Design;
+use geo_base::Square;
+use job_graph::{Defined, Results};
+use net_names::Name;
+use rect_sets::RectSet;
+use std::alloc::{AllocError, Global};
+use std::marker::Model;
+
+/// Why a gate is bad: the first test that it fails.
+#[derive(Clone, Copy, Debug, PartialEq, Eq)]
+pub enum GateCause {
+    /// It hasn't two groups of source or drain, but so many.
+    Groups(u64),
+    /// A square of it isn't on the conductor of gates.
+    OffGate,
+    /// A square of a group isn't on the conductor of sources and drains.
+    OffSd,
+    /// The conductor of bulks has no global, and a square of the gate isn't on it.
+    NoBulk,
+    /// It has no boundary but to source and drain.
+    NoLength,
+}
+
+/// A good gate has twice its width and twice its length, in sides of unit squares, and the nets of
+/// its terminals.
+/// Its source is the group with the least square.
+#[derive(Clone, Copy, Debug, PartialEq, Eq)]
+pub enum GateState {
+    Good {
+        twice_w: u64,
+        twice_l: u64,
+        source: u32,
+        drain: u32,
+        gate: u32,
+        bulk: u32,
+    },
+    Bad(GateCause),
+}
+
+/// A gate of a cell: its device rule, its squares, the first of these by y, then x, and the
+/// verdict.
+#[derive(Drop)]
+pub struct Gate {
+    pub device: u32,
+    pub area: RectSet,
+    pub least: Square,
+    pub state: GateState,
+}
+
+/// The gates of a cell's own list, by device rule, then least square.
+#[derive(Drop)]
+pub struct CellGates {
+    pub gates: Vec<Gate>,
+}
+
+impl Defined for CellGates {
+    type Key = DeepKey;
+
+    ghost use Rattle.cell_graph.specs.Linked.{plain};
+    ghost use Rattle.rule_text.specs.Seen.{rules_seen};
+    ghost use Rattle.deep_tables.specs.Entries.{upward_cell};
+    ghost use Rattle.deep_tables.specs.Gates.{AreCellGates};
+
+    ghost is_defined = { λ key job v. AreCellGates (plain key.design.value)
+        (rules_seen key.rules.value) (upward_cell key.design.value job) v };
+}
+
+/// A bad gate of a layout: its cell, its rule's class, its least square in the cell, and why it is
+/// bad.
+#[derive(Drop)]
+pub struct BadGate {
+    pub cell: u32,
+    pub class: Name,
+    pub least: Square,
+    pub cause: GateCause,
+}
+
+/// The gates of each cell that the top reaches. Contracts see a list with an entry, or none, for
+/// each cell.
+#[derive(Drop)]
+pub struct Gates {
+    table: Table<CellGates>,
+}
+
+impl Model for Gates {
+    ghost use Rattle.std.specs.Prelude.{List, Option};
+    ghost use Rattle.deep_tables.specs.declared.gates.CellGates.{CellGates};
+
+    ghost Value = { List (Option CellGates) };
+
+    ghost view = { λ t. t.table };
+}
+
+impl Gates {
+    /// The table of a phase's results: its jobs go through the design's order.
+    pub fn new(
+        alloc: Global,
+        design: &Design,
+        results: Results<CellGates>,
+    ) -> Result<Gates, AllocError>
+        ensures { IfOk result (IsUpward design.now results) }
+    {
+        let table = Table::upward(alloc, design, results)?;
+        Ok(Gates { table })
+    }
+
+    /// The gates of a cell's own list, in constant time.
+    pub fn of(&self, cell: u32) -> &[Gate]
+        requires { IsSome (entry self.now cell) }
+        ensures { list_of (entry self.now cell) ≡ Some result.now }
+    {
+        &self.table.of(cell).gates
+    }
+}
