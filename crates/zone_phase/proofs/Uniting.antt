@@ -19,4 +19,5 @@ united a b r e d op x y cell h g q = (
   (λ z. e q ∙ elim ((union (plain d) (inputs x) (inputs y) cell q).0 z.0) [
     | inl i ↦ or_left (covers a q) (covers b q) ((h q).1 (i, z.1))
     | inr i ↦ or_right (covers a q) (covers b q) ((g q).1 (i, z.1))
-  ]))
+  ]),
+)
