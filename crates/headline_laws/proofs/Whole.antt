@@ -6,7 +6,6 @@ use Rattle.headline_laws.specs.FlatNetlist.{flat_netlist, IsFlatGateOf, IsFlatRe
 use Rattle.headline_laws.specs.Headline.{MatchedLayoutLaw}
 use Rattle.plain_netlist.proofs.Alike.{reversed, through}
 use Rattle.plain_netlist.specs.Flats.{expanded, Reversed}
-use Rattle.table_laws.proofs.Sound.{extracted_good}
 
 pub matched_layout : MatchedLayoutLaw
 matched_layout d w t g layout rules unit level right top is schematic right_top same left far v c p limit answers pairings are all =
@@ -17,4 +16,4 @@ matched_layout d w t g layout rules unit level right top is schematic right_top 
     (AreDevicesMatched layout left far schematic v c p.left_aligned p.right_aligned pairings top right_top)
     (AreNetsMatched layout left far schematic v c p.left_aligned p.right_aligned pairings top right_top)
     (reversed E F (IsFlatGateOf d w g layout top rules) (IsFlatRegionOf d w t g layout top) (flat_corresponds d w t g layout rules unit level right top is))
-    (matched_tops layout schematic top right_top same left far v c p limit answers pairings (extracted_good d w t g layout rules unit level right).0 are all)
+    (matched_tops layout schematic top right_top same left far v c p limit answers pairings are all)
