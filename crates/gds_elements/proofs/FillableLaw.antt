@@ -13,7 +13,8 @@ use Rattle.geo_base.specs.Near.{IsLong, IsLongPoint, IsLongRect}
 use Rattle.geo_base.specs.Outlines.{IsClosed, last_from}
 use Rattle.gds_records.specs.Records.{Rec, Records, NoRecords, ◌▸◌}
 use Rattle.gds_grammar.specs.Order.{can_go_on}
-use Rattle.gds_elements.specs.Kinds.{BOUNDARY, PATH, BOX, WIDTH, XY, ENDEL, ENDSTR, PATHTYPE, BGNEXTN, ENDEXTN, is_start, is_bound}
+use Rattle.gds_records.specs.Kinds.{BOUNDARY, PATH, BOX, WIDTH, XY, ENDEL, ENDSTR, PATHTYPE, BGNEXTN, ENDEXTN}
+use Rattle.gds_elements.specs.Bounds.{is_start, is_bound}
 use Rattle.gds_elements.specs.Data.{number, coordinate, long, origin, points_of, is_same, first_of, last_of, is_closed, widened, hull, has_area}
 use Rattle.gds_elements.specs.Meaning.{Boundary, Path, Box, Shape, Cell, Library, opened, last_kind, columns_of, rows_of, part, is_cell_bound, key_of, half_of, beyond, box_form, shapes_by, open_shapes, open_points, shapes_of, open_cells, cells_of}
 use Rattle.gds_elements.specs.Faults.{is_second_points, is_plain, outline_fault, points_fault, array_fault, or_else, content_fault, fault_of, Passes}

@@ -3,7 +3,8 @@ use Rattle.std.proofs.Common.{◌≡◌, ℕ, Bool, true, false, cond, [], ◌++
 use Rattle.std.specs.Prelude.{◌==◌, ◌||◌}
 use Rattle.std.proofs.lemmas.Bool.{eqb-true}
 use Rattle.gds_records.specs.Records.{Rec, Records, ◌▸◌}
-use Rattle.gds_elements.specs.Kinds.{ENDEL, is_start, is_bound}
+use Rattle.gds_records.specs.Kinds.{ENDEL}
+use Rattle.gds_elements.specs.Bounds.{is_start, is_bound}
 use Rattle.gds_elements.specs.Meaning.{opened, found, cells_of, open_cells}
 
 neither : (a b : Bool) → (a || b) ≡ false → (a ≡ false) × (b ≡ false)

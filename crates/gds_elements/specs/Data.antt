@@ -1,5 +1,9 @@
--- What the data of a record says: numbers, strings, points and eight-byte reals (GDSII Stream Format, Release 6, data types).
-use Rattle.std.specs.Prelude.{ℕ, zero, suc, ◌+◌, ◌-◌, ◌*◌, ◌%◌, ◌^◌, ℤ, pos, ◌-ℤ◌, Bool, true, false, ◌==◌, ◌||◌, ◌&&◌, not, nat_lt, nat_le, int_lt, int_div, unsigned_abs, List, [], ◌∷◌, length, take, drop, replicate, slice_index, get_or, fold, Option, Some, None, if◌then◌else◌}
+-- What the data of a record says: numbers, strings, points and eight-byte reals (GDSII Stream
+-- Format, Release 6, data types).
+use Rattle.std.specs.Prelude.{ℕ, zero, suc, ◌+◌, ◌-◌, ◌*◌, ◌%◌, ◌^◌, ℤ, pos, ◌-ℤ◌, Bool, true}
+use Rattle.std.specs.Prelude.{false, ◌==◌, ◌||◌, ◌&&◌, not, nat_lt, nat_le, int_lt, int_div}
+use Rattle.std.specs.Prelude.{unsigned_abs, List, [], ◌∷◌, length, take, drop, replicate}
+use Rattle.std.specs.Prelude.{slice_index, get_or, fold, Option, Some, None, if◌then◌else◌}
 use Rattle.std.specs.List.{list_all, list_any, zip}
 use Rattle.std.specs.Option.{option_map}
 use Rattle.std.specs.Ordering.{int_eq}
@@ -16,7 +20,8 @@ number bytes = if length bytes == 2 then from_be_bytes w16 bytes else 0
 
 -- four bytes from a place on, in two's complement
 abbrev pub coordinate : List ℕ → ℕ → ℤ
-coordinate bytes at = cast_signed w32 (from_be_bytes w32 (slice_index bytes at ∷ slice_index bytes (at + 1) ∷ slice_index bytes (at + 2) ∷ slice_index bytes (at + 3) ∷ []))
+coordinate bytes at = cast_signed w32 (from_be_bytes w32 (slice_index bytes at ∷ slice_index bytes
+    (at + 1) ∷ slice_index bytes (at + 2) ∷ slice_index bytes (at + 3) ∷ []))
 
 -- four bytes in two's complement, 0 for data of another length
 abbrev pub long : List ℕ → ℤ
@@ -27,7 +32,8 @@ abbrev pub columns_in : List ℕ → ℕ
 columns_in bytes = if length bytes == 4 then from_be_bytes w16 bytes else 0
 
 abbrev pub rows_in : List ℕ → ℕ
-rows_in bytes = if length bytes == 4 then from_be_bytes w16 (slice_index bytes 2 ∷ slice_index bytes 3 ∷ []) else 0
+rows_in bytes = if length bytes == 4 then from_be_bytes w16 (slice_index bytes 2
+    ∷ slice_index bytes 3 ∷ []) else 0
 
 -- two bytes that are at least 1 in two's complement
 abbrev pub is_count : ℕ → Bool
@@ -64,7 +70,8 @@ first_point bytes = record { x = coordinate bytes 0; y = coordinate bytes 4 }
 
 -- eight bytes a point; bytes that are too few for one more are none
 abbrev pub points_of : List ℕ → List Point
-points_of (a ∷ b ∷ c ∷ d ∷ e ∷ f ∷ g ∷ h ∷ rest) = first_point (a ∷ b ∷ c ∷ d ∷ e ∷ f ∷ g ∷ h ∷ []) ∷ points_of rest
+points_of (a ∷ b ∷ c ∷ d ∷ e ∷ f ∷ g ∷ h ∷ rest) = first_point (a ∷ b ∷ c ∷ d ∷ e ∷ f ∷ g ∷ h
+    ∷ []) ∷ points_of rest
 points_of _ = []
 
 abbrev pub is_same : Point → Point → Bool
@@ -99,11 +106,21 @@ is_closed ps = is_same (first_of ps) (last_of ps)
 
 -- a rectangle, and with a point more
 abbrev pub widened : Rect → Point → Rect
-widened r p = record { x1 = int_min r.x1 p.x; y1 = int_min r.y1 p.y; x2 = int_max r.x2 p.x; y2 = int_max r.y2 p.y }
+widened r p = record {
+  x1 = int_min r.x1 p.x;
+  y1 = int_min r.y1 p.y;
+  x2 = int_max r.x2 p.x;
+  y2 = int_max r.y2 p.y;
+}
 
 -- from the least to the greatest coordinates
 abbrev pub hull : List Point → Rect
-hull ps = let p = first_of ps in fold (λ r q. widened r q) record { x1 = p.x; y1 = p.y; x2 = p.x; y2 = p.y } ps
+hull ps = let p = first_of ps in fold (λ r q. widened r q) record {
+  x1 = p.x;
+  y1 = p.y;
+  x2 = p.x;
+  y2 = p.y;
+} ps
 
 abbrev pub has_area : Rect → Bool
 has_area r = int_lt r.x1 r.x2 && int_lt r.y1 r.y2
@@ -112,15 +129,24 @@ has_area r = int_lt r.x1 r.x2 && int_lt r.y1 r.y2
 
 -- from the first point to the one that begins at a place
 abbrev pub side : List ℕ → ℕ → Point
-side bytes at = if length bytes == 24 then record { x = coordinate bytes at -ℤ coordinate bytes 0; y = coordinate bytes (at + 4) -ℤ coordinate bytes 4 } else origin
+side bytes at = if length bytes == 24
+    then record {
+      x = coordinate bytes at -ℤ coordinate bytes 0;
+      y = coordinate bytes
+          (at + 4) -ℤ coordinate bytes 4;
+    } else origin
 
 -- a whole number of times, in x and in y
 abbrev pub goes_into : ℕ → Point → Bool
-goes_into count p = not (count == 0) && (unsigned_abs p.x % count) == 0 && (unsigned_abs p.y % count) == 0
+goes_into count p = not (count == 0) && (unsigned_abs p.x % count) == 0
+    && (unsigned_abs p.y % count) == 0
 
 -- one of so many equal steps along a side
 abbrev pub step : Point → ℕ → Point
-step p count = if count == 0 then origin else record { x = int_div p.x (pos count); y = int_div p.y (pos count) }
+step p count = if count == 0 then origin else record {
+  x = int_div p.x (pos count);
+  y = int_div p.y (pos count);
+}
 
 -- ---- reals
 
@@ -130,7 +156,8 @@ is_negative bytes = nat_le 128 (slice_index (exactly 8 bytes) 0)
 
 -- 16 ^ 78 times the value without its sign: 56 bits as a fraction, times a power of 16 in excess 64
 abbrev pub whole : List ℕ → ℕ
-whole bytes = number_of_bytes (drop 1 (exactly 8 bytes)) * 16 ^ (slice_index (exactly 8 bytes) 0 % 128)
+whole bytes = number_of_bytes (drop 1 (exactly 8 bytes)) * 16 ^ (slice_index
+    (exactly 8 bytes) 0 % 128)
 
 -- the value is 1; zeros stand for data of another length
 abbrev pub is_one : List ℕ → Bool
@@ -151,11 +178,14 @@ turns_of bytes =
 
 -- the quarters of a turn, 0 to 3, where the value is a multiple of 90 from -360 to 360
 abbrev pub quarter_of : List ℕ → Option ℕ
-quarter_of bytes = option_map (λ turns. (if is_negative bytes then 4 - turns else turns) % 4) (turns_of bytes)
+quarter_of bytes = option_map (λ turns. (if is_negative bytes then 4 - turns else turns) % 4)
+    (turns_of bytes)
 
--- the value times 10 ^ 12, rounded to the nearest whole number, halves upwards, is one of 1 to 1,000,000
+-- the value times 10 ^ 12, rounded to the nearest whole number, halves upwards, is one of 1 to
+-- 1,000,000
 abbrev pub is_unit : List ℕ → Bool
-is_unit bytes = not (is_negative bytes) && nat_le (16 ^ 78) (2 * 10 ^ 12 * whole bytes) && nat_lt (2 * 10 ^ 12 * whole bytes) (2000001 * 16 ^ 78)
+is_unit bytes = not (is_negative bytes) && nat_le (16 ^ 78) (2 * 10 ^ 12 * whole bytes) && nat_lt
+    (2 * 10 ^ 12 * whole bytes) (2000001 * 16 ^ 78)
 
 -- the second of the two reals in the data of UNITS: the database unit in metres
 abbrev pub unit_in : List ℕ → List ℕ

@@ -1,4 +1,4 @@
-pub mod Kinds
+pub mod Bounds
 pub mod Data
 pub mod Meaning
 pub mod Faults

@@ -13,11 +13,13 @@ OneLibraryLaw = (bytes : List ℕ) (v w : Library) → Accepts bytes v → Accep
 
 -- and have no first fault
 abbrev pub NoFaultLaw : Type 0
-NoFaultLaw = (bytes : List ℕ) (v : Library) (number index offset : ℕ) → Accepts bytes v → FirstFault bytes number index offset → ⊥
+NoFaultLaw = (bytes : List ℕ) (v : Library) (number index offset : ℕ) → Accepts bytes v
+    → FirstFault bytes number index offset → ⊥
 
 -- bytes have one first fault at most
 abbrev pub OneFaultLaw : Type 0
-OneFaultLaw = (bytes : List ℕ) (m i o n j q : ℕ) → FirstFault bytes m i o → FirstFault bytes n j q → (m ≡ n) × (i ≡ j) × (o ≡ q)
+OneFaultLaw = (bytes : List ℕ) (m i o n j q : ℕ) → FirstFault bytes m i o
+    → FirstFault bytes n j q → (m ≡ n) × (i ≡ j) × (o ≡ q)
 
 -- the kinds of the records that are accepted are a text of the grammar
 abbrev pub DerivedLaw : Type 0

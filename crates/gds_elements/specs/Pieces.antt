@@ -1,5 +1,6 @@
 -- What is held of a stream's bytes that come in pieces.
-use Rattle.std.specs.Prelude.{◌≡◌, ◌≢◌, ◌⊎◌, ℕ, List, ◌++◌, true, false, Option, Some, None, Result, Ok, Err}
+use Rattle.std.specs.Prelude.{◌≡◌, ◌≢◌, ◌⊎◌, ℕ, List, ◌++◌, true, false, Option, Some, None, Result}
+use Rattle.std.specs.Prelude.{Ok, Err}
 use Rattle.gds_records.specs.Records.{framing}
 use Rattle.gds_elements.specs.declared.library.GdsFault.{GdsFault}
 use Rattle.gds_elements.specs.declared.library.GdsFault.TheVariants.{Bad, NoMemory}
@@ -20,7 +21,8 @@ pub record Goes (fed held : List ℕ) (stream : Stream) : Type 0 where
   pub rest : List ℕ
   pub whole : fed ≡ bytes_of records ++ rest
   pub stands : Stands records stream
-  pub end : (stream.ended ≡ true) ⊎ ((stream.ended ≡ false) × (rest ≡ held) × (framing held ≡ Some 1))
+  pub end : (stream.ended ≡ true) ⊎ ((stream.ended ≡ false) × (rest ≡ held) × (framing held
+      ≡ Some 1))
 
 -- the bytes fed so far, by whether a fault was found in them
 abbrev pub FedTo : List ℕ → List ℕ → Stream → Option GdsFault → Type 0

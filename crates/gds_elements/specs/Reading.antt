@@ -1,7 +1,9 @@
 -- What a reader holds behind records.
-use Rattle.std.specs.Prelude.{◌≡◌, ◌≢◌, ℕ, List, [], ◌∷◌, map, length, take, drop, true, false, ◌⊎◌, ◌++◌, ◌+◌, ◌<◌, ◌≤◌, Result, Ok, Err, Option, Some, None}
+use Rattle.std.specs.Prelude.{◌≡◌, ◌≢◌, ℕ, List, [], ◌∷◌, map, length, take, drop, true, false, ◌⊎◌}
+use Rattle.std.specs.Prelude.{◌++◌, ◌+◌, ◌<◌, ◌≤◌, Result, Ok, Err, Option, Some, None}
 use Rattle.gds_records.specs.Records.{Rec, Records, ◌▸◌, bytes_of, count_of, framing, record_bytes}
-use Rattle.gds_elements.specs.Kinds.{HEADER, BGNLIB, LIBNAME, UNITS, BGNSTR, STRNAME, LAYER, WIDTH, XY, ANGLE, PATHTYPE, BGNEXTN, ENDEXTN}
+use Rattle.gds_records.specs.Kinds.{HEADER, BGNLIB, LIBNAME, UNITS, BGNSTR, STRNAME, LAYER, WIDTH}
+use Rattle.gds_records.specs.Kinds.{XY, ANGLE, PATHTYPE, BGNEXTN, ENDEXTN}
 use Rattle.gds_elements.specs.Data.{number, long, exactly, trimmed, side, first_of}
 use Rattle.gds_elements.specs.declared.library.ShapeForm.{ShapeForm}
 use Rattle.gds_elements.specs.declared.library.ShapeForm.TheVariants.{Boundary, Path, Box}
@@ -41,13 +43,32 @@ abbrev pub text_seen : RawText → m.Text
 text_seen t = record { key = t.key; at = t.at; text = t.text.items }
 
 abbrev pub ref_seen : RawRef → m.Ref
-ref_seen r = record { cell = r.cell; motion = r.motion; columns = r.columns; rows = r.rows; column_step = r.column_step; row_step = r.row_step }
+ref_seen r = record {
+  cell = r.cell;
+  motion = r.motion;
+  columns = r.columns;
+  rows = r.rows;
+  column_step = r.column_step;
+  row_step = r.row_step;
+}
 
 abbrev pub cell_seen : RawCell → m.Cell
-cell_seen c = record { dates = c.dates; name = c.name; shapes = map shape_seen c.shapes.items; texts = map text_seen c.texts.items; refs = map ref_seen c.refs.items }
+cell_seen c = record {
+  dates = c.dates;
+  name = c.name;
+  shapes = map shape_seen c.shapes.items;
+  texts = map text_seen c.texts.items;
+  refs = map ref_seen c.refs.items;
+}
 
 abbrev pub library_seen : Library → m.Library
-library_seen v = record { version = v.version; dates = v.dates; name = v.name.items; units = v.units; cells = map cell_seen v.cells.items }
+library_seen v = record {
+  version = v.version;
+  dates = v.dates;
+  name = v.name.items;
+  units = v.units;
+  cells = map cell_seen v.cells.items;
+}
 
 -- ---- what is held
 
@@ -86,15 +107,22 @@ pub record HoldsStructure (rs : Records) (s : Structure) : Type 0 where
 
 -- the element's lists, and a structure that gained them
 abbrev pub shapes_in : Element → List m.Shape
-shapes_in e = let d = e.drawing in m.shapes_by e.start record { layer = d.layer; datatype = d.datatype } d.path_type d.width d.begin d.end e.points.items
+shapes_in e = let d = e.drawing in m.shapes_by e.start record {
+  layer = d.layer;
+  datatype = d.datatype;
+} d.path_type d.width d.begin d.end e.points.items
 
 abbrev pub texts_in : Element → List m.Text
-texts_in e = m.texts_by e.start record { layer = e.drawing.layer; datatype = e.drawing.datatype } (first_of e.points.items) e.text.items
+texts_in e = m.texts_by e.start record { layer = e.drawing.layer; datatype = e.drawing.datatype }
+    (first_of e.points.items) e.text.items
 
 abbrev pub refs_in : Element → List m.Ref
-refs_in e = let p = e.placing in m.refs_by e.start e.text.items (m.motion_of (m.turn_of p.mirrored p.quarter) (first_of e.points.items)) p.columns p.rows p.column_side p.row_side
+refs_in e = let p = e.placing in m.refs_by e.start e.text.items (m.motion_of
+    (m.turn_of p.mirrored p.quarter)
+    (first_of e.points.items)) p.columns p.rows p.column_side p.row_side
 
-pub record Gains (old new : Structure) (more_shapes : List m.Shape) (more_texts : List m.Text) (more_refs : List m.Ref) : Type 0 where
+pub record Gains (old new : Structure) (more_shapes : List m.Shape) (more_texts : List m.Text)
+    (more_refs : List m.Ref) : Type 0 where
   pub dates : new.dates ≡ old.dates
   pub name : new.name ≡ old.name
   pub shapes : map shape_seen new.shapes.items ≡ map shape_seen old.shapes.items ++ more_shapes
@@ -134,8 +162,10 @@ Takes before r (Err NoMemory) new = Unit {0}
 -- what came of the place in the bytes
 abbrev pub Steps : Records → List ℕ → ℕ → Result (Option ℕ) GdsFault → Stream → Type 0
 Steps before bytes at (Ok None) new = Stands before new × (framing (drop at bytes) ≡ Some 1)
-Steps before bytes at (Ok (Some end)) new = (r : Rec) × (drop at bytes ≡ record_bytes r ++ drop end bytes) × Stands (before ▸ r) new
-Steps before bytes at (Err (Bad number index offset)) new = (index ≡ count_of before) × (offset ≡ length (bytes_of before)) × IsNextFault before (drop at bytes) number × (number ≢ 1)
+Steps before bytes at (Ok (Some end)) new = (r : Rec) × (drop at bytes ≡ record_bytes r
+    ++ drop end bytes) × Stands (before ▸ r) new
+Steps before bytes at (Err (Bad number index offset)) new = (index ≡ count_of before) × (offset
+    ≡ length (bytes_of before)) × IsNextFault before (drop at bytes) number × (number ≢ 1)
 Steps before bytes at (Err fault.NoMemory) new = Unit {0}
 
 -- the place went on by one record
@@ -151,9 +181,12 @@ pub record Reached (before rs : Records) (bytes : List ℕ) (at : ℕ) : Type 0 
 
 -- what came of whole records up to a place
 abbrev pub Runs : Records → List ℕ → Result ℕ GdsFault → Stream → Type 0
-Runs before bytes (Ok at) new = (rs : Records) × Reached before rs bytes at × Stands rs new × ((new.ended ≡ true) ⊎ (framing (drop at bytes) ≡ Some 1))
+Runs before bytes (Ok at) new = (rs : Records) × Reached before rs bytes at × Stands rs new
+    × ((new.ended ≡ true) ⊎ (framing (drop at bytes) ≡ Some 1))
 Runs before bytes (Err (Bad number index offset)) new =
-    (rs : Records) × (at : ℕ) × Reached before rs bytes at × Passes rs × (is_ended rs ≡ false) × (index ≡ count_of rs) × (offset ≡ length (bytes_of rs)) × IsNextFault rs (drop at bytes) number × (number ≢ 1)
+    (rs : Records) × (at : ℕ) × Reached before rs bytes at × Passes rs × (is_ended rs ≡ false)
+    × (index ≡ count_of rs) × (offset ≡ length (bytes_of rs)) × IsNextFault rs
+    (drop at bytes) number × (number ≢ 1)
 Runs before bytes (Err fault.NoMemory) new = Unit {0}
 
 -- the fault is the bytes' first one

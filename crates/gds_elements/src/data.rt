@@ -1,7 +1,9 @@
 //! Numbers, strings and reals in the data of records.
 
 ghost use Rattle.std.specs.Prelude.{◌≡◌, ◌≤◌, ◌+◌, length, slice_index, is_some, IsTrue};
-ghost use Rattle.gds_elements.specs.Data.{columns_in, coordinate, exactly, is_count, is_one, is_unit, long, number, quarter_of, rows_in, trimmed, unit_in};
+ghost use Rattle.gds_elements.specs.Data.{columns_in, coordinate, exactly, is_count, is_one};
+ghost use Rattle.gds_elements.specs.Data.{is_unit, long, number, quarter_of, rows_in, trimmed};
+ghost use Rattle.gds_elements.specs.Data.{unit_in};
 
 use fixed_num::{Real8, dbu_pm};
 

@@ -3,9 +3,11 @@
 ghost use Rattle.std.specs.Prelude.{◌≡◌, ℕ, List, true, false, OnOk};
 ghost use Rattle.gds_records.specs.Records.{Records, NoRecords, ◌▸◌};
 ghost use Rattle.gds_elements.specs.Data.{points_of};
-ghost use Rattle.gds_elements.specs.Kinds.{is_start, is_bound};
-ghost use Rattle.gds_elements.specs.Meaning.{array, beyond, box_form, path_form, single, turn_of, motion_of};
-ghost use Rattle.gds_elements.specs.Reading.{HoldsDrawing, HoldsPlacing, HoldsElement, form_seen, ref_seen, rec};
+ghost use Rattle.gds_elements.specs.Bounds.{is_start, is_bound};
+ghost use Rattle.gds_elements.specs.Meaning.{array, beyond, box_form, path_form, single, turn_of};
+ghost use Rattle.gds_elements.specs.Meaning.{motion_of};
+ghost use Rattle.gds_elements.specs.Reading.{HoldsDrawing, HoldsPlacing, HoldsElement, form_seen};
+ghost use Rattle.gds_elements.specs.Reading.{ref_seen, rec};
 
 use crate::data::{columns_in, long, number, quarter_of, rows_in, trimmed};
 use crate::library::{RawRef, ShapeForm};
@@ -77,7 +79,8 @@ impl Drawing {
 
     fn keep(&mut self, kind: u8, body: &[u8])
         requires { is_bound kind ≡ false }
-        ensures { (before : Records) (form : ℕ) → HoldsDrawing before self.old → HoldsDrawing (before ▸ rec kind form body.now) self.new }
+        ensures { (before : Records) (form : ℕ) → HoldsDrawing before self.old → HoldsDrawing
+            (before ▸ rec kind form body.now) self.new }
     {
         match kind {
             kinds::LAYER => self.layer = number(body),
@@ -112,7 +115,8 @@ impl Placing {
 
     fn keep(&mut self, kind: u8, body: &[u8])
         requires { is_bound kind ≡ false }
-        ensures { (before : Records) (form : ℕ) → HoldsPlacing before self.old → HoldsPlacing (before ▸ rec kind form body.now) self.new }
+        ensures { (before : Records) (form : ℕ) → HoldsPlacing before self.old → HoldsPlacing
+            (before ▸ rec kind form body.now) self.new }
     {
         match kind {
             kinds::STRANS => self.mirrored = number(body) >= 0x8000,
@@ -133,8 +137,10 @@ impl Placing {
 impl Element {
     /// An element of which nothing but its start is read; none is open where the start is 0.
     pub(crate) fn open(alloc: Global, start: u8) -> Element
-        ensures opened { is_start start ≡ true → (before : Records) (form : ℕ) (body : List ℕ) → HoldsElement (before ▸ rec start form body) result }
-        ensures closed { start ≡ 0 → (before : Records) (form : ℕ) (body : List ℕ) → HoldsElement (before ▸ rec 0x11 form body) result }
+        ensures opened { is_start start ≡ true → (before : Records) (form : ℕ) (body : List ℕ)
+            → HoldsElement (before ▸ rec start form body) result }
+        ensures closed { start ≡ 0 → (before : Records) (form : ℕ) (body : List ℕ) → HoldsElement
+            (before ▸ rec 0x11 form body) result }
         ensures none { start ≡ 0 → HoldsElement NoRecords result }
     {
         Element {
@@ -146,7 +152,8 @@ impl Element {
         }
     }
 
-    /// Goes on by a record that doesn't end the element: one that begins the next, a part, or another.
+    /// Goes on by a record that doesn't end the element: one that begins the next, a part, or
+    /// another.
     pub(crate) fn next(
         &mut self,
         alloc: Global,
@@ -156,7 +163,8 @@ impl Element {
     ) -> Result<(), AllocError>
         requires going { kind ≡ 0x11 → ⊥ }
         requires points { kind ≡ 0x10 → points.items ≡ points_of body.now }
-        ensures { OnOk result ((before : Records) (form : ℕ) → HoldsElement before self.old → HoldsElement (before ▸ rec kind form body.now) self.new) }
+        ensures { OnOk result ((before : Records) (form : ℕ) → HoldsElement before self.old
+            → HoldsElement (before ▸ rec kind form body.now) self.new) }
     {
         if is_start(kind) {
             *self = Element::open(alloc, kind);
@@ -175,7 +183,8 @@ impl Element {
     ) -> Result<(), AllocError>
         requires inside { is_bound kind ≡ false }
         requires points { kind ≡ 0x10 → points.items ≡ points_of body.now }
-        ensures { OnOk result ((before : Records) (form : ℕ) → HoldsElement before self.old → HoldsElement (before ▸ rec kind form body.now) self.new) }
+        ensures { OnOk result ((before : Records) (form : ℕ) → HoldsElement before self.old
+            → HoldsElement (before ▸ rec kind form body.now) self.new) }
     {
         self.drawing.keep(kind, body);
         self.placing.keep(kind, body);
@@ -252,7 +261,8 @@ impl Placing {
 
     /// The cell placed once.
     pub(crate) fn single(&self, cell: Name, at: Point) -> RawRef
-        ensures { ref_seen result ≡ single cell (motion_of (turn_of self.now.mirrored self.now.quarter) at) }
+        ensures { ref_seen result ≡ single cell (motion_of
+            (turn_of self.now.mirrored self.now.quarter) at) }
     {
         RawRef {
             cell,
@@ -266,7 +276,8 @@ impl Placing {
 
     /// The cell placed in columns and rows.
     pub(crate) fn array(&self, cell: Name, at: Point) -> RawRef
-        ensures { ref_seen result ≡ array cell (motion_of (turn_of self.now.mirrored self.now.quarter) at) self.now.columns self.now.rows self.now.column_side self.now.row_side }
+        ensures { ref_seen result ≡ array cell (motion_of
+            (turn_of self.now.mirrored self.now.quarter) at) self.now.columns self.now.rows self.now.column_side self.now.row_side }
     {
         RawRef {
             cell,

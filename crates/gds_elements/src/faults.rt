@@ -2,7 +2,9 @@
 
 ghost use Rattle.std.specs.Prelude.{◌≡◌, ◌==◌, ◌%◌, length, Some, None, if◌then◌else◌};
 ghost use Rattle.gds_elements.specs.Data.{points_of};
-ghost use Rattle.gds_elements.specs.Faults.{array_fault, content_fault, is_plain, is_second_points, outline_fault, part_fault, path_fault, points_fault, turn_fault};
+ghost use Rattle.gds_elements.specs.Faults.{array_fault, content_fault, is_plain, is_second_points};
+ghost use Rattle.gds_elements.specs.Faults.{outline_fault, part_fault, path_fault, points_fault};
+ghost use Rattle.gds_elements.specs.Faults.{turn_fault};
 
 use crate::data::{
     columns_in, has_unit, is_count, is_one, long, number, quarter_of, rows_in, trimmed,
@@ -41,7 +43,8 @@ pub(crate) fn is_second_points(start: u8, last: u8, kind: u8) -> bool
     kind == kinds::XY && last == kinds::XY && (start == kinds::BOUNDARY || start == kinds::PATH)
 }
 
-/// Whether the record has its kind's form, length and plain content. Those of options aren't looked at.
+/// Whether the record has its kind's form, length and plain content. Those of options aren't looked
+/// at.
 pub(crate) fn is_plain(kind: u8, form: u8, body: &[u8]) -> bool
     ensures { result ≡ is_plain kind form body.now }
 {

@@ -15,7 +15,8 @@ pub fn derived()
     ensures { DerivedLaw }
 {}
 
-/// Each shape of what is accepted can be filled: outlines end where they begin, and all numbers are those of four bytes.
+/// Each shape of what is accepted can be filled: outlines end where they begin, and all numbers are
+/// those of four bytes.
 pub fn fillable()
     ensures { FillableLaw }
 {}

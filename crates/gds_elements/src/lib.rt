@@ -1,4 +1,5 @@
-//! The library of a GDSII stream (GDSII Stream Format, Release 6), or the first fault of the stream.
+//! The library of a GDSII stream (GDSII Stream Format, Release 6), or the first fault of the
+//! stream.
 #![tactic(auto)]
 
 mod data;

@@ -8,7 +8,8 @@ use net_names::Name;
 use std::alloc::AllocError;
 use thiserror::Error;
 
-/// A library: the data of HEADER, BGNLIB and UNITS, the name of LIBNAME without trailing NULs, and the cells in order.
+/// A library: the data of HEADER, BGNLIB and UNITS, the name of LIBNAME without trailing NULs, and
+/// the cells in order.
 #[derive(Drop)]
 pub struct Library {
     pub version: [u8; 2],
@@ -38,7 +39,8 @@ pub struct RawShape {
 /// What a shape covers, in database units.
 #[derive(Drop)]
 pub enum ShapeForm {
-    /// The closed outline of a BOUNDARY, or of a BOX without area: its first point stands at its end again.
+    /// The closed outline of a BOUNDARY, or of a BOX without area: its first point stands at its
+    /// end again.
     Boundary(Vec<Point>),
     /// A PATH, half its width, and how far it goes beyond its first and its last point.
     Path {
@@ -59,7 +61,8 @@ pub struct RawText {
     pub text: Vec<u8>,
 }
 
-/// An SREF (one column, one row, steps of 0) or an AREF: the placement in a column and a row is moved on by so many
+/// An SREF (one column, one row, steps of 0) or an AREF: the placement in a column and a row is
+/// moved on by so many
 /// column steps and row steps.
 #[derive(Drop)]
 pub struct RawRef {
@@ -74,9 +77,12 @@ pub struct RawRef {
 /// Why a stream isn't read.
 #[derive(Clone, Copy, Debug, Error)]
 pub enum GdsFault {
-    /// The first record that doesn't pass, counted from 0, with the byte where it begins: 1 too few bytes, 2 a bad
-    /// length, 3 an unknown kind, 4 a kind out of order, 5 bad data, 6 a slanted edge, 7 a round path, 8 an odd width,
-    /// 9 magnified, 10 a bad angle, 11 an absolute bit, 12 a bad array, 13 bad units, 14 too many points.
+    /// The first record that doesn't pass, counted from 0, with the byte where it begins: 1 too few
+    /// bytes, 2 a bad
+    /// length, 3 an unknown kind, 4 a kind out of order, 5 bad data, 6 a slanted edge, 7 a round
+    /// path, 8 an odd width,
+    /// 9 magnified, 10 a bad angle, 11 an absolute bit, 12 a bad array, 13 bad units, 14 too many
+    /// points.
     #[error("fault {number} in record {index} at offset {offset}")]
     Bad { number: u8, index: u64, offset: u64 },
     #[error("out of memory")]

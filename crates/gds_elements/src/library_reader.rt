@@ -1,6 +1,7 @@
 //! The reader of a library whose bytes come in pieces.
 
-ghost use Rattle.std.specs.Prelude.{◌≡◌, ◌<◌, ◌+◌, ◌^◌, ◌++◌, [], ℕ, None, Some, length, Err, IfOk, IfErr, IfSome, OnOk};
+ghost use Rattle.std.specs.Prelude.{◌≡◌, ◌<◌, ◌+◌, ◌^◌, ◌++◌, [], ℕ, None, Some, length, Err, IfOk};
+ghost use Rattle.std.specs.Prelude.{IfErr, IfSome, OnOk};
 ghost use Rattle.gds_elements.specs.Faults.{Accepts, FirstFault};
 ghost use Rattle.gds_elements.specs.Meaning.{Library as ValueOf};
 ghost use Rattle.gds_elements.specs.Reading.{IsFaultOf, OnlyFault, OnlyLibrary, library_seen};
@@ -13,7 +14,8 @@ use std::alloc::Global;
 use std::marker::Model;
 use std::snapshot::Snapshot;
 
-/// Reads a library in pieces: the answers don't depend on how the bytes are cut. It holds the library so far, and of
+/// Reads a library in pieces: the answers don't depend on how the bytes are cut. It holds the
+/// library so far, and of
 /// the bytes those of a record that isn't whole.
 ///
 /// In contracts it is the bytes fed to it and the fault that it answered.
@@ -47,8 +49,10 @@ impl LibraryReader {
         }
     }
 
-    /// Takes the next piece: a fault exactly where the bytes so far have one that more bytes don't mend, so not one for
-    /// too few bytes. A fault is kept, and each later call answers it. Cost: the piece; bytes of a record that isn't
+    /// Takes the next piece: a fault exactly where the bytes so far have one that more bytes don't
+    /// mend, so not one for
+    /// too few bytes. A fault is kept, and each later call answers it. Cost: the piece; bytes of a
+    /// record that isn't
     /// whole are copied, and no others.
     pub fn feed(&mut self, alloc: Global, piece: &[u8]) -> Result<(), GdsFault>
         requires { length self.old.fed + length piece.now < 2 ^ 63 }
@@ -63,12 +67,14 @@ impl LibraryReader {
         told
     }
 
-    /// The library of the bytes fed, or their first fault. Want of memory is answered only where a piece met it.
+    /// The library of the bytes fed, or their first fault. Want of memory is answered only where a
+    /// piece met it.
     pub fn finish(self) -> Result<Library, GdsFault>
         ensures found { IfOk result (λ v. Accepts self.fed (library_seen v)) }
         ensures fault { IfErr result (λ e. IsFaultOf self.fed e) }
         ensures only { (v : ValueOf) → Accepts self.fed v → OnlyLibrary v result }
-        ensures only_fault { (number index offset : ℕ) → FirstFault self.fed number index offset → OnlyFault number index offset result }
+        ensures only_fault { (number index offset : ℕ) → FirstFault self.fed number index offset
+            → OnlyFault number index offset result }
         ensures memory { IfErr result (λ e. IsOfMemory e self.fault) }
     {
         let LibraryReader { pieces, .. } = self;

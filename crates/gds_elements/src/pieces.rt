@@ -1,6 +1,7 @@
 //! A stream that comes in pieces: the records taken, and the bytes of the one that isn't whole.
 
-ghost use Rattle.std.specs.Prelude.{◌≡◌, ◌<◌, ◌+◌, ◌≤◌, ◌^◌, false, ℕ, List, [], ◌++◌, length, vec_len, IfOk, IfErr, IfSome, None, Some, Err, OnOk, OnErr};
+ghost use Rattle.std.specs.Prelude.{◌≡◌, ◌<◌, ◌+◌, ◌≤◌, ◌^◌, false, ℕ, List, [], ◌++◌, length};
+ghost use Rattle.std.specs.Prelude.{vec_len, IfOk, IfErr, IfSome, None, Some, Err, OnOk, OnErr};
 ghost use Rattle.gds_elements.specs.Faults.{Accepts};
 ghost use Rattle.gds_elements.specs.Reading.{library_seen, IsFaultOf};
 ghost use Rattle.gds_elements.specs.Pieces.{Advances, Fed, Goes, IsOfMemory, Tells};
@@ -10,7 +11,8 @@ use crate::reading::TRUNCATED;
 use crate::stream::Stream;
 use std::alloc::Global;
 
-/// What is held of the bytes fed: those of a record that isn't whole, the library so far, and the fault.
+/// What is held of the bytes fed: those of a record that isn't whole, the library so far, and the
+/// fault.
 #[derive(Drop)]
 pub struct Pieces {
     pub held: Vec<u8>,
@@ -18,7 +20,8 @@ pub struct Pieces {
     pub fault: Option<GdsFault>,
 }
 
-// How many bytes of a piece to take next: all of them where none are held, else no more than the record held lacks, of
+// How many bytes of a piece to take next: all of them where none are held, else no more than the
+// record held lacks, of
 // its first four bytes or of all that its length counts.
 fn next_count(held: &[u8], left: usize) -> usize
     requires { 0 < left }
@@ -40,7 +43,8 @@ impl Pieces {
     pub(crate) fn new(alloc: Global) -> Pieces
         ensures start { Fed [] result }
         ensures sound { result.fault ≡ None }
-        ensures empty { (result.stream.count ≡ 0) × (result.stream.offset ≡ 0) × (vec_len result.held ≡ 0) }
+        ensures empty { (result.stream.count ≡ 0) × (result.stream.offset ≡ 0)
+            × (vec_len result.held ≡ 0) }
     {
         Pieces {
             held: Vec::new(alloc),
@@ -49,13 +53,15 @@ impl Pieces {
         }
     }
 
-    // Takes the whole records of the bytes held and a piece behind them. The piece is copied only from the record on
+    // Takes the whole records of the bytes held and a piece behind them. The piece is copied only
+    // from the record on
     // that isn't whole, where no bytes are held.
     fn advance(&mut self, alloc: Global, piece: &[u8]) -> Result<(), GdsFault>
         requires going { self.old.stream.ended ≡ false }
         requires count { self.old.stream.count ≤ self.old.stream.offset }
         requires offset { self.old.stream.offset + vec_len self.old.held + length piece.now < 2 ^ 63 }
-        ensures reading { (fed : List ℕ) → Goes fed self.old.held.items self.old.stream → Advances (fed ++ piece.now) result self.new }
+        ensures reading { (fed : List ℕ) → Goes fed self.old.held.items self.old.stream → Advances
+            (fed ++ piece.now) result self.new }
         ensures fault { self.new.fault ≡ self.old.fault }
         ensures count { self.new.stream.count ≤ self.new.stream.offset }
         ensures room { OnOk result (self.new.stream.offset + vec_len self.new.held ≤ self.old.stream.offset + vec_len self.old.held + length piece.now) }
@@ -78,7 +84,8 @@ impl Pieces {
     fn take(&mut self, alloc: Global, piece: &[u8]) -> Result<(), GdsFault>
         requires count { self.old.stream.count ≤ self.old.stream.offset }
         requires offset { self.old.stream.offset + vec_len self.old.held + length piece.now < 2 ^ 63 }
-        ensures reading { (fed : List ℕ) → Fed fed self.old → Fed (fed ++ piece.now) self.new × Tells (fed ++ piece.now) result }
+        ensures reading { (fed : List ℕ) → Fed fed self.old → Fed (fed ++ piece.now) self.new
+            × Tells (fed ++ piece.now) result }
         ensures keeps { IfErr result (λ fault. self.new.fault ≡ Some fault) }
         ensures sound { OnOk result (self.new.fault ≡ None) }
         ensures again { IfSome self.old.fault (λ fault. result ≡ Err fault) }
@@ -101,13 +108,16 @@ impl Pieces {
         }
     }
 
-    /// Takes the next piece: a fault exactly where the bytes so far have one that more bytes don't mend, so not one for
-    /// too few bytes. A fault is kept, and each later call answers it. Cost: the piece; bytes of a record that isn't
+    /// Takes the next piece: a fault exactly where the bytes so far have one that more bytes don't
+    /// mend, so not one for
+    /// too few bytes. A fault is kept, and each later call answers it. Cost: the piece; bytes of a
+    /// record that isn't
     /// whole are copied, and no others.
     pub(crate) fn feed(&mut self, alloc: Global, piece: &[u8]) -> Result<(), GdsFault>
         requires count { self.old.stream.count ≤ self.old.stream.offset }
         requires offset { self.old.stream.offset + vec_len self.old.held + length piece.now < 2 ^ 63 }
-        ensures reading { (fed : List ℕ) → Fed fed self.old → Fed (fed ++ piece.now) self.new × Tells (fed ++ piece.now) result }
+        ensures reading { (fed : List ℕ) → Fed fed self.old → Fed (fed ++ piece.now) self.new
+            × Tells (fed ++ piece.now) result }
         ensures keeps { IfErr result (λ fault. self.new.fault ≡ Some fault) }
         ensures sound { OnOk result (self.new.fault ≡ None) }
         ensures again { IfSome self.old.fault (λ fault. result ≡ Err fault) }
@@ -128,7 +138,8 @@ impl Pieces {
 
     /// The library of the bytes fed, or their first fault.
     pub(crate) fn finish(self) -> Result<Library, GdsFault>
-        ensures found { (fed : List ℕ) → Fed fed self → IfOk result (λ v. Accepts fed (library_seen v)) }
+        ensures found { (fed : List ℕ) → Fed fed self → IfOk result (λ v. Accepts fed
+            (library_seen v)) }
         ensures fault { (fed : List ℕ) → Fed fed self → IfErr result (λ e. IsFaultOf fed e) }
         ensures memory { IfErr result (λ e. IsOfMemory e self.fault) }
     {

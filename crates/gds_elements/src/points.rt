@@ -2,7 +2,9 @@
 
 ghost use Rattle.std.specs.Prelude.{◌≡◌, ◌≤◌, ◌<◌, ◌+◌, ◌-ℤ◌, length, IfOk};
 ghost use Rattle.std.specs.Int.{int_min, int_max};
-ghost use Rattle.gds_elements.specs.Data.{coordinate, first_of, first_point, goes_into, has_area, has_length, hull, is_closed, is_level, is_same, is_straight, last_of, points_of, side, step, widened};
+ghost use Rattle.gds_elements.specs.Data.{coordinate, first_of, first_point, goes_into, has_area};
+ghost use Rattle.gds_elements.specs.Data.{has_length, hull, is_closed, is_level, is_same};
+ghost use Rattle.gds_elements.specs.Data.{is_straight, last_of, points_of, side, step, widened};
 
 use crate::data::coordinate;
 use geo_base::{Point, Rect};

@@ -3,8 +3,11 @@
 ghost use Rattle.std.specs.Prelude.{◌≡◌, ℕ, List, [], ◌∷◌, ◌++◌, map, replicate, true, false, OnOk};
 ghost use Rattle.gds_records.specs.Records.{Records, NoRecords, ◌▸◌};
 ghost use Rattle.gds_elements.specs.Data.{exactly, points_of};
-ghost use Rattle.gds_elements.specs.Meaning.{library_of, motion_of, open_cells, refs_by, text_at, turn_of};
-ghost use Rattle.gds_elements.specs.Reading.{Gains, Holds, HoldsElement, HoldsHeader, HoldsStructure, cell_seen, library_seen, rec, refs_in, shape_seen, shapes_in, texts_in};
+ghost use Rattle.gds_elements.specs.Meaning.{library_of, motion_of, open_cells, refs_by, text_at};
+ghost use Rattle.gds_elements.specs.Meaning.{turn_of};
+ghost use Rattle.gds_elements.specs.Reading.{Gains, Holds, HoldsElement, HoldsHeader};
+ghost use Rattle.gds_elements.specs.Reading.{HoldsStructure, cell_seen, library_seen, rec, refs_in};
+ghost use Rattle.gds_elements.specs.Reading.{shape_seen, shapes_in, texts_in};
 
 use crate::data::{exactly, trimmed};
 use crate::element::{Element, Placing, box_form, path_form};
@@ -38,7 +41,8 @@ impl Header {
     }
 
     fn keep(&mut self, alloc: Global, kind: u8, body: &[u8]) -> Result<(), AllocError>
-        ensures { OnOk result ((before : Records) (form : ℕ) → HoldsHeader before self.old → HoldsHeader (before ▸ rec kind form body.now) self.new) }
+        ensures { OnOk result ((before : Records) (form : ℕ) → HoldsHeader before self.old
+            → HoldsHeader (before ▸ rec kind form body.now) self.new) }
     {
         match kind {
             kinds::HEADER => self.version = exactly(body),
@@ -63,8 +67,10 @@ pub struct Structure {
 
 impl Structure {
     fn new(alloc: Global, dates: [u8; 24]) -> Structure
-        ensures begun { (before : Records) (form : ℕ) (body : List ℕ) → dates ≡ exactly 24 body → HoldsStructure (before ▸ rec 0x05 form body) result }
-        ensures ended { dates ≡ replicate 24 0 → (before : Records) (form : ℕ) (body : List ℕ) → HoldsStructure (before ▸ rec 0x07 form body) result }
+        ensures begun { (before : Records) (form : ℕ) (body : List ℕ) → dates ≡ exactly 24 body
+            → HoldsStructure (before ▸ rec 0x05 form body) result }
+        ensures ended { dates ≡ replicate 24 0 → (before : Records) (form : ℕ) (body : List ℕ)
+            → HoldsStructure (before ▸ rec 0x07 form body) result }
         ensures none { dates ≡ replicate 24 0 → HoldsStructure NoRecords result }
     {
         Structure {
@@ -80,7 +86,8 @@ impl Structure {
     fn keep(&mut self, alloc: Global, kind: u8, body: &[u8]) -> Result<(), AllocError>
         requires element { (kind ≡ 0x11 → ⊥) }
         requires structure { (kind ≡ 0x07 → ⊥) }
-        ensures { OnOk result ((before : Records) (form : ℕ) → HoldsStructure before self.old → HoldsStructure (before ▸ rec kind form body.now) self.new) }
+        ensures { OnOk result ((before : Records) (form : ℕ) → HoldsStructure before self.old
+            → HoldsStructure (before ▸ rec kind form body.now) self.new) }
     {
         match kind {
             kinds::BGNSTR => *self = Structure::new(alloc, exactly(body)),
@@ -114,7 +121,8 @@ impl Structure {
         at: Point,
         text: Vec<u8>,
     ) -> Result<(), AllocError>
-        ensures { OnOk result (Gains self.old self.new [] [] (refs_by start text.items (motion_of (turn_of placing.mirrored placing.quarter) at) placing.columns placing.rows placing.column_side placing.row_side)) }
+        ensures { OnOk result (Gains self.old self.new [] [] (refs_by start text.items (motion_of
+            (turn_of placing.mirrored placing.quarter) at) placing.columns placing.rows placing.column_side placing.row_side)) }
     {
         if text.is_empty() {
             return Ok(());
@@ -128,9 +136,11 @@ impl Structure {
         Ok(())
     }
 
-    /// Adds the element that ends: a shape, a text or a reference. Nodes, and texts with an empty string, are dropped.
+    /// Adds the element that ends: a shape, a text or a reference. Nodes, and texts with an empty
+    /// string, are dropped.
     fn add(&mut self, element: Element) -> Result<(), AllocError>
-        ensures { OnOk result (Gains self.old self.new (shapes_in element) (texts_in element) (refs_in element)) }
+        ensures { OnOk result (Gains self.old self.new (shapes_in element) (texts_in element)
+            (refs_in element)) }
     {
         let Element {
             start,
@@ -185,9 +195,13 @@ impl Reader {
 
     /// Ends the open element.
     fn end_element(&mut self, alloc: Global) -> Result<(), AllocError>
-        ensures structure { OnOk result ((before : Records) (form : ℕ) (body : List ℕ) → HoldsElement before self.old.element → HoldsStructure before self.old.structure → HoldsStructure (before ▸ rec 0x11 form body) self.new.structure) }
-        ensures element { OnOk result ((before : Records) (form : ℕ) (body : List ℕ) → HoldsElement (before ▸ rec 0x11 form body) self.new.element) }
-        ensures rest { OnOk result ((self.new.header ≡ self.old.header) × (self.new.cells ≡ self.old.cells)) }
+        ensures structure { OnOk result ((before : Records) (form : ℕ) (body : List ℕ)
+            → HoldsElement before self.old.element → HoldsStructure before self.old.structure
+            → HoldsStructure (before ▸ rec 0x11 form body) self.new.structure) }
+        ensures element { OnOk result ((before : Records) (form : ℕ) (body : List ℕ)
+            → HoldsElement (before ▸ rec 0x11 form body) self.new.element) }
+        ensures rest { OnOk result ((self.new.header ≡ self.old.header) × (self.new.cells
+            ≡ self.old.cells)) }
     {
         let element = mem::replace(&mut self.element, Element::open(alloc, 0));
         self.structure.add(element)
@@ -195,9 +209,13 @@ impl Reader {
 
     /// Ends the open structure.
     fn end_structure(&mut self, alloc: Global) -> Result<(), AllocError>
-        ensures structure { OnOk result ((before : Records) (form : ℕ) (body : List ℕ) → HoldsStructure (before ▸ rec 0x07 form body) self.new.structure) }
-        ensures cells { OnOk result ((before : Records) → HoldsStructure before self.old.structure → map cell_seen self.new.cells.items ≡ map cell_seen self.old.cells.items ++ open_cells before) }
-        ensures rest { OnOk result ((self.new.header ≡ self.old.header) × (self.new.element ≡ self.old.element)) }
+        ensures structure { OnOk result ((before : Records) (form : ℕ) (body : List ℕ)
+            → HoldsStructure (before ▸ rec 0x07 form body) self.new.structure) }
+        ensures cells { OnOk result ((before : Records)
+            → HoldsStructure before self.old.structure → map cell_seen self.new.cells.items
+            ≡ map cell_seen self.old.cells.items ++ open_cells before) }
+        ensures rest { OnOk result ((self.new.header ≡ self.old.header) × (self.new.element
+            ≡ self.old.element)) }
     {
         let Structure {
             dates,
@@ -228,7 +246,8 @@ impl Reader {
         points: Vec<Point>,
     ) -> Result<(), AllocError>
         requires { kind ≡ 0x10 → points.items ≡ points_of body.now }
-        ensures { OnOk result ((before : Records) (form : ℕ) → Holds before self.old → Holds (before ▸ rec kind form body.now) self.new) }
+        ensures { OnOk result ((before : Records) (form : ℕ) → Holds before self.old → Holds
+            (before ▸ rec kind form body.now) self.new) }
     {
         self.header.keep(alloc, kind, body)?;
         if kind == kinds::ENDEL {

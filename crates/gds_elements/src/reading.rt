@@ -28,7 +28,8 @@ fn read(alloc: Global, bytes: &[u8]) -> Result<Library, GdsFault>
     Ok(kept.library())
 }
 
-/// The library of a GDSII stream, or its first fault. Nothing behind ENDLIB is read. Cost: one pass; memory as large as
+/// The library of a GDSII stream, or its first fault. Nothing behind ENDLIB is read. Cost: one
+/// pass; memory as large as
 /// the library.
 pub fn read_library(alloc: Global, bytes: &[u8]) -> Result<Library, GdsFault>
     // What is answered is the library of the bytes, or their first fault.
@@ -36,7 +37,8 @@ pub fn read_library(alloc: Global, bytes: &[u8]) -> Result<Library, GdsFault>
     ensures fault { IfErr result (λ e. IsFaultOf bytes.now e) }
     // A library or a fault that the bytes have is answered, unless memory runs out.
     ensures only { (v : ValueOf) → Accepts bytes.now v → OnlyLibrary v result }
-    ensures only_fault { (number index offset : ℕ) → FirstFault bytes.now number index offset → OnlyFault number index offset result }
+    ensures only_fault { (number index offset : ℕ) → FirstFault bytes.now number index offset
+        → OnlyFault number index offset result }
 {
     read(alloc, bytes)
 }

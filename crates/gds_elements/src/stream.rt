@@ -1,6 +1,7 @@
 //! Records taken one after another.
 
-ghost use Rattle.std.specs.Prelude.{◌≡◌, ◌<◌, ◌+◌, ◌-◌, ◌^◌, ◌≤◌, length, IfOk, IfSome, IfNone, OnOk, OnErr};
+ghost use Rattle.std.specs.Prelude.{◌≡◌, ◌<◌, ◌+◌, ◌-◌, ◌^◌, ◌≤◌, length, IfOk, IfSome, IfNone};
+ghost use Rattle.std.specs.Prelude.{OnOk, OnErr};
 ghost use Rattle.gds_records.specs.Records.{IsRecord, Records, NoRecords};
 ghost use Rattle.gds_elements.specs.Data.{points_of};
 ghost use Rattle.gds_elements.specs.Reading.{GoesOn, Runs, Stands, Steps, Takes, rec};
@@ -36,7 +37,8 @@ impl From<AllocError> for TakeError {
     }
 }
 
-/// Where a reader stands behind the records that it took: the place in the grammar, their number and bytes, the last
+/// Where a reader stands behind the records that it took: the place in the grammar, their number
+/// and bytes, the last
 /// one's kind, whether it was ENDLIB, and what they say.
 #[derive(Drop)]
 pub struct Stream {
@@ -79,10 +81,12 @@ impl Stream {
     fn take(&mut self, alloc: Global, kind: u8, form: u8, body: &[u8]) -> Result<(), TakeError>
         requires count { self.old.count < 2 ^ 64 - 1 }
         requires offset { self.old.offset + length body.now + 4 < 2 ^ 64 }
-        ensures reading { (before : Records) → Stands before self.old → IsRecord (rec kind form body.now) → Takes before (rec kind form body.now) result self.new }
+        ensures reading { (before : Records) → Stands before self.old → IsRecord
+            (rec kind form body.now) → Takes before (rec kind form body.now) result self.new }
         ensures count { OnOk result (self.new.count ≡ self.old.count + 1) }
         ensures offset { OnOk result (self.new.offset ≡ self.old.offset + (length body.now + 4)) }
-        ensures still { OnErr result ((self.new.count ≡ self.old.count) × (self.new.offset ≡ self.old.offset)) }
+        ensures still { OnErr result ((self.new.count ≡ self.old.count) × (self.new.offset
+            ≡ self.old.offset)) }
     {
         if is_second_points(self.kept.element.start, self.last, kind) {
             return Err(TakeError::Fault(TOO_MANY_POINTS));
@@ -111,10 +115,14 @@ impl Stream {
         requires within { at ≤ length bytes.now }
         requires count { self.old.count < 2 ^ 64 - 1 }
         requires offset { self.old.offset + (length bytes.now - at) + 4 < 2 ^ 64 }
-        ensures reading { (before : Records) → Stands before self.old → Steps before bytes.now at result self.new }
-        ensures on { IfOk result (λ o. IfSome o (λ end. GoesOn at end (length bytes.now) self.old self.new)) }
-        ensures still { IfOk result (λ o. IfNone o ((self.new.count ≡ self.old.count) × (self.new.offset ≡ self.old.offset))) }
-        ensures failed { OnErr result ((self.new.count ≡ self.old.count) × (self.new.offset ≡ self.old.offset)) }
+        ensures reading { (before : Records) → Stands before self.old
+            → Steps before bytes.now at result self.new }
+        ensures on { IfOk result (λ o. IfSome o (λ end. GoesOn at end
+            (length bytes.now) self.old self.new)) }
+        ensures still { IfOk result (λ o. IfNone o ((self.new.count ≡ self.old.count)
+            × (self.new.offset ≡ self.old.offset))) }
+        ensures failed { OnErr result ((self.new.count ≡ self.old.count) × (self.new.offset
+            ≡ self.old.offset)) }
     {
         let (index, offset) = (self.count, self.offset);
         let record = match next_record(bytes, at) {
@@ -155,7 +163,8 @@ impl Stream {
         ensures count { self.new.count ≤ self.new.offset }
         ensures offset { IfOk result (λ at. self.new.offset ≡ self.old.offset + at) }
         ensures room { self.new.offset ≤ self.old.offset + length bytes.now }
-        ensures reading { (before : Records) → Stands before self.old → Runs before bytes.now result self.new }
+        ensures reading { (before : Records) → Stands before self.old
+            → Runs before bytes.now result self.new }
     {
         let mut at = 0;
         while !self.ended {

@@ -1,4 +1,5 @@
--- The grammar of a library in the kinds of its records (GDSII Stream Format, Release 6, stream syntax).
+-- The grammar of a library in the kinds of its records (GDSII Stream Format, Release 6, stream
+-- syntax).
 use Rattle.gds_grammar.specs.Pattern.{Pattern, Done, One, Then, Or, Many}
 
 -- at most once
@@ -129,7 +130,8 @@ ENDEXTN = One 0x31
 
 -- REFLIBS, FONTS, GENERATIONS, ATTRTABLE, FORMAT, MASK, ENDMASKS
 abbrev pub option : Pattern
-option = One 0x1F ∣ One 0x20 ∣ One 0x22 ∣ One 0x23 ∣ One 0x36 ∣ One 0x37 ∣ One 0x38
+option = One 0x1F ∣ One 0x20 ∣ One 0x22 ∣ One 0x23
+    ∣ One 0x36 ∣ One 0x37 ∣ One 0x38
 
 -- the mirror, the magnification and the angle of a text or a reference
 abbrev pub turn : Pattern
@@ -140,7 +142,8 @@ abbrev pub boundary_parts : Pattern
 boundary_parts = maybe ELFLAGS · maybe PLEX · LAYER · DATATYPE · XY
 
 abbrev pub path_parts : Pattern
-path_parts = maybe ELFLAGS · maybe PLEX · LAYER · DATATYPE · maybe PATHTYPE · maybe WIDTH · maybe BGNEXTN · maybe ENDEXTN · XY
+path_parts = maybe ELFLAGS · maybe PLEX · LAYER · DATATYPE
+    · maybe PATHTYPE · maybe WIDTH · maybe BGNEXTN · maybe ENDEXTN · XY
 
 abbrev pub sref_parts : Pattern
 sref_parts = maybe ELFLAGS · maybe PLEX · SNAME · turn · XY
@@ -149,7 +152,8 @@ abbrev pub aref_parts : Pattern
 aref_parts = maybe ELFLAGS · maybe PLEX · SNAME · turn · COLROW · XY
 
 abbrev pub text_parts : Pattern
-text_parts = maybe ELFLAGS · maybe PLEX · LAYER · TEXTTYPE · maybe PRESENTATION · maybe PATHTYPE · maybe WIDTH · turn · XY · STRING
+text_parts = maybe ELFLAGS · maybe PLEX · LAYER · TEXTTYPE
+    · maybe PRESENTATION · maybe PATHTYPE · maybe WIDTH · turn · XY · STRING
 
 abbrev pub node_parts : Pattern
 node_parts = maybe ELFLAGS · maybe PLEX · LAYER · NODETYPE · XY

@@ -1,7 +1,13 @@
 -- What the grammar leaves of a library at each place.
 use Rattle.std.specs.Prelude.{List, [], ◌∷◌, Option, Some, None}
 use Rattle.gds_grammar.specs.Pattern.{Pattern, Done, Many}
-use Rattle.gds_grammar.specs.Grammar.{maybe, ◌·◌, BGNLIB, LIBNAME, UNITS, ENDLIB, STRNAME, ENDSTR, LAYER, DATATYPE, WIDTH, XY, ENDEL, SNAME, COLROW, TEXTTYPE, PRESENTATION, STRING, MAG, ANGLE, PATHTYPE, NODETYPE, PROPATTR, PROPVALUE, BOXTYPE, PLEX, BGNEXTN, ENDEXTN, option, turn, boundary_parts, path_parts, sref_parts, aref_parts, text_parts, node_parts, box_parts, element, structure, library}
+use Rattle.gds_grammar.specs.Grammar.{maybe, ◌·◌, BGNLIB, LIBNAME, UNITS, ENDLIB, STRNAME, ENDSTR}
+use Rattle.gds_grammar.specs.Grammar.{LAYER, DATATYPE, WIDTH, XY, ENDEL, SNAME, COLROW, TEXTTYPE}
+use Rattle.gds_grammar.specs.Grammar.{PRESENTATION, STRING, MAG, ANGLE, PATHTYPE, NODETYPE}
+use Rattle.gds_grammar.specs.Grammar.{PROPATTR, PROPVALUE, BOXTYPE, PLEX, BGNEXTN, ENDEXTN, option}
+use Rattle.gds_grammar.specs.Grammar.{turn, boundary_parts, path_parts, sref_parts, aref_parts}
+use Rattle.gds_grammar.specs.Grammar.{text_parts, node_parts, box_parts, element, structure}
+use Rattle.gds_grammar.specs.Grammar.{library}
 use Rattle.gds_grammar.specs.declared.place.BoundaryPlace.{BoundaryPlace}
 use Rattle.gds_grammar.specs.declared.place.BoundaryPlace.TheVariants as boundary
 use Rattle.gds_grammar.specs.declared.place.PathPlace.{PathPlace}
@@ -45,8 +51,10 @@ boundary_left boundary.Datatype = XY
 
 abbrev pub path_left : PathPlace → Pattern
 path_left path.Start = path_parts
-path_left path.Flags = maybe PLEX · LAYER · DATATYPE · maybe PATHTYPE · maybe WIDTH · maybe BGNEXTN · maybe ENDEXTN · XY
-path_left path.Plex = LAYER · DATATYPE · maybe PATHTYPE · maybe WIDTH · maybe BGNEXTN · maybe ENDEXTN · XY
+path_left path.Flags = maybe PLEX · LAYER · DATATYPE · maybe PATHTYPE · maybe WIDTH
+    · maybe BGNEXTN · maybe ENDEXTN · XY
+path_left path.Plex = LAYER · DATATYPE · maybe PATHTYPE · maybe WIDTH · maybe BGNEXTN
+    · maybe ENDEXTN · XY
 path_left path.Layer = DATATYPE · maybe PATHTYPE · maybe WIDTH · maybe BGNEXTN · maybe ENDEXTN · XY
 path_left path.Datatype = maybe PATHTYPE · maybe WIDTH · maybe BGNEXTN · maybe ENDEXTN · XY
 path_left path.Pathtype = maybe WIDTH · maybe BGNEXTN · maybe ENDEXTN · XY
@@ -75,9 +83,12 @@ aref_left aref.Colrow = XY
 
 abbrev pub text_left : TextPlace → Pattern
 text_left text.Start = text_parts
-text_left text.Flags = maybe PLEX · LAYER · TEXTTYPE · maybe PRESENTATION · maybe PATHTYPE · maybe WIDTH · turn · XY · STRING
-text_left text.Plex = LAYER · TEXTTYPE · maybe PRESENTATION · maybe PATHTYPE · maybe WIDTH · turn · XY · STRING
-text_left text.Layer = TEXTTYPE · maybe PRESENTATION · maybe PATHTYPE · maybe WIDTH · turn · XY · STRING
+text_left text.Flags = maybe PLEX · LAYER · TEXTTYPE · maybe PRESENTATION · maybe PATHTYPE
+    · maybe WIDTH · turn · XY · STRING
+text_left text.Plex = LAYER · TEXTTYPE · maybe PRESENTATION · maybe PATHTYPE · maybe WIDTH
+    · turn · XY · STRING
+text_left text.Layer = TEXTTYPE · maybe PRESENTATION · maybe PATHTYPE · maybe WIDTH · turn · XY
+    · STRING
 text_left text.Texttype = maybe PRESENTATION · maybe PATHTYPE · maybe WIDTH · turn · XY · STRING
 text_left text.Presentation = maybe PATHTYPE · maybe WIDTH · turn · XY · STRING
 text_left text.Pathtype = maybe WIDTH · turn · XY · STRING

@@ -1,5 +1,7 @@
 -- Which kinds may follow a record list: what the grammar leaves behind it.
-use Rattle.std.specs.Prelude.{◌≡◌, ℕ, Bool, true, false, List, [], ◌∷◌, ◌++◌, not, IsTrue, ◌↔◌, ◌==◌}
+use Rattle.std.specs.Prelude.{◌≡◌, ℕ, Bool, true, false, List, [], ◌∷◌, ◌++◌, not, IsTrue, ◌↔◌}
+use Rattle.std.specs.Prelude.{◌==◌}
+use Rattle.gds_records.specs.Kinds.{ENDLIB}
 use Rattle.gds_records.specs.Records.{Records, NoRecords, ◌▸◌}
 use Rattle.gds_grammar.specs.Pattern.{Pattern, Allows, after_any}
 use Rattle.gds_grammar.specs.Grammar.{library}
@@ -34,7 +36,7 @@ GrammarLaw = (before : Records) (kind : ℕ) → IsTrue (can_go_on before kind) 
 -- the last record is ENDLIB
 abbrev pub is_ended : Records → Bool
 is_ended NoRecords = false
-is_ended (before ▸ r) = r.kind == 0x04
+is_ended (before ▸ r) = r.kind == ENDLIB
 
 abbrev pub IsEnded : Records → Type 0
 IsEnded rs = is_ended rs ≡ true

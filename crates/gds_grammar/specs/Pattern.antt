@@ -1,5 +1,6 @@
 -- Patterns of kinds: the texts that a pattern allows, and which kinds may come next in one.
-use Rattle.std.specs.Prelude.{◌≡◌, ◌⊎◌, ℕ, Bool, true, false, ◌==◌, ◌&&◌, ◌||◌, List, [], ◌∷◌, ◌++◌, if◌then◌else◌, map}
+use Rattle.std.specs.Prelude.{◌≡◌, ◌⊎◌, ℕ, Bool, true, false, ◌==◌, ◌&&◌, ◌||◌, List, [], ◌∷◌, ◌++◌}
+use Rattle.std.specs.Prelude.{if◌then◌else◌, map}
 
 -- nothing, one kind, one pattern behind another, either of two, any number of one
 pub data Pattern : Type 0 where
@@ -25,7 +26,8 @@ Allows Done ks = ks ≡ []
 Allows (One kind) ks = ks ≡ kind ∷ []
 Allows (Then a b) ks = (xs : List ℕ) × (ys : List ℕ) × (ks ≡ xs ++ ys) × Allows a xs × Allows b ys
 Allows (Or a b) ks = Allows a ks ⊎ Allows b ks
-Allows (Many a) ks = (parts : List (List ℕ)) × (ks ≡ joined parts) × EachOf (λ xs. Allows a xs) parts
+Allows (Many a) ks = (parts : List (List ℕ)) × (ks ≡ joined parts) × EachOf
+    (λ xs. Allows a xs) parts
 
 -- it allows the empty text
 abbrev pub may_be_empty : Pattern → Bool
@@ -52,7 +54,8 @@ pub record Next : Type 0 where
 abbrev pub nexts : Pattern → List Next
 nexts Done = []
 nexts (One k) = record { kind = k; left = Done } ∷ []
-nexts (Then a b) = map (λ n. record { kind = n.kind; left = followed_by n.left b }) (nexts a) ++ (if may_be_empty a then nexts b else [])
+nexts (Then a b) = map (λ n. record { kind = n.kind; left = followed_by n.left b }) (nexts a)
+    ++ (if may_be_empty a then nexts b else [])
 nexts (Or a b) = nexts a ++ nexts b
 nexts (Many a) = map (λ n. record { kind = n.kind; left = followed_by n.left (Many a) }) (nexts a)
 

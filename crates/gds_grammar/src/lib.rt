@@ -1,4 +1,5 @@
-//! The grammar of a GDSII stream (GDSII Stream Format, Release 6, stream syntax): which kinds of records may follow
+//! The grammar of a GDSII stream (GDSII Stream Format, Release 6, stream syntax): which kinds of
+//! records may follow
 //! which.
 #![tactic(auto)]
 
@@ -10,7 +11,8 @@ pub use place::{
     ArefPlace, BoundaryPlace, BoxPlace, NodePlace, PathPlace, Place, SrefPlace, TextPlace, follow,
 };
 
-/// The grammar can go on with a kind exactly where some text of it begins with the kinds so far and this one.
+/// The grammar can go on with a kind exactly where some text of it begins with the kinds so far and
+/// this one.
 pub fn grammar()
     ensures { GrammarLaw }
 {}

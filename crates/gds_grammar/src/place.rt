@@ -1,8 +1,10 @@
-//! Where a reader of records stands in the grammar: for each element its parts so far, the last of which names the place.
+//! Where a reader of records stands in the grammar: for each element its parts so far, the last of
+//! which names the place.
 
 ghost use Rattle.std.specs.Prelude.{◌≡◌};
 ghost use Rattle.gds_grammar.specs.Pattern.{after};
-ghost use Rattle.gds_grammar.specs.Left.{left_of, lefts_of, boundary_left, path_left, sref_left, aref_left, text_left, node_left, box_left, in_body};
+ghost use Rattle.gds_grammar.specs.Left.{left_of, lefts_of, boundary_left, path_left, sref_left};
+ghost use Rattle.gds_grammar.specs.Left.{aref_left, text_left, node_left, box_left, in_body};
 
 use gds_records::kinds::*;
 

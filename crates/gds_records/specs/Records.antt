@@ -1,10 +1,14 @@
 -- Records of a GDSII stream: their bytes, lists of them, and what a place of a byte list holds.
-use Rattle.std.specs.Prelude.{◌≡◌, ◌≤◌, ◌<◌, ◌^◌, ◌+◌, ℕ, Bool, ◌==◌, ◌||◌, not, nat_lt, ◌%◌, List, [], ◌∷◌, ◌++◌, length, drop, slice_index, slice_range, Option, Some, None, if◌then◌else◌, IsTrue, ◌⊎◌}
+use Rattle.std.specs.Prelude.{◌≡◌, ◌≤◌, ◌<◌, ◌^◌, ◌+◌, ℕ, Bool, ◌==◌, ◌||◌, not, nat_lt, ◌%◌, List}
+use Rattle.std.specs.Prelude.{[], ◌∷◌, ◌++◌, length, drop, slice_index, slice_range, Option, Some}
+use Rattle.std.specs.Prelude.{None, if◌then◌else◌, IsTrue, ◌⊎◌}
 use Rattle.std.specs.List.{list_any}
 use Rattle.std.specs.Int.{w16, to_be_bytes, from_be_bytes}
+use Rattle.gds_records.specs.Kinds.{kinds}
 use Rattle.gds_records.specs.declared.reading.Record.{Record}
 use Rattle.gds_records.specs.declared.reading.RecordFault.{RecordFault}
-use Rattle.gds_records.specs.declared.reading.RecordFault.TheVariants.{Truncated, BadLength, UnknownType}
+use Rattle.gds_records.specs.declared.reading.RecordFault.TheVariants.{Truncated, BadLength}
+use Rattle.gds_records.specs.declared.reading.RecordFault.TheVariants.{UnknownType}
 
 -- a record: its kind, its form and its data
 pub record Rec : Type 0 where
@@ -16,10 +20,6 @@ pub record Rec : Type 0 where
 abbrev pub record_bytes : Rec → List ℕ
 record_bytes r = to_be_bytes w16 (length r.body + 4) ++ r.kind ∷ r.form ∷ r.body
 
--- the kinds that the format has
-abbrev pub kinds : List ℕ
-kinds = 0x00 ∷ 0x01 ∷ 0x02 ∷ 0x03 ∷ 0x04 ∷ 0x05 ∷ 0x06 ∷ 0x07 ∷ 0x08 ∷ 0x09 ∷ 0x0A ∷ 0x0B ∷ 0x0C ∷ 0x0D ∷ 0x0E ∷ 0x0F ∷ 0x10 ∷ 0x11 ∷ 0x12 ∷ 0x13 ∷ 0x15 ∷ 0x16 ∷ 0x17 ∷ 0x19 ∷ 0x1A ∷ 0x1B ∷ 0x1C ∷ 0x1F ∷ 0x20 ∷ 0x21 ∷ 0x22 ∷ 0x23 ∷ 0x26 ∷ 0x2A ∷ 0x2B ∷ 0x2C ∷ 0x2D ∷ 0x2E ∷ 0x2F ∷ 0x30 ∷ 0x31 ∷ 0x36 ∷ 0x37 ∷ 0x38 ∷ []
-
 -- the format has records of the kind
 abbrev pub is_listed : ℕ → Bool
 is_listed kind = list_any (λ k. k == kind) kinds
@@ -28,7 +28,8 @@ is_listed kind = list_any (λ k. k == kind) kinds
 abbrev pub IsBytes : List ℕ → Type 0
 IsBytes bytes = (i : ℕ) → slice_index bytes i < 256
 
--- a record of the format: of a known kind, with an even number of data bytes that its length can count
+-- a record of the format: of a known kind, with an even number of data bytes that its length can
+-- count
 pub record IsRecord (r : Rec) : Type 0 where
   pub kind : IsTrue (is_listed r.kind)
   pub form : r.form < 256
@@ -106,4 +107,5 @@ GoesOnFrom rs ss = (more : List Rec) × (ss ≡ followed_by_all rs more)
 
 -- of two record lists that bytes start with, one goes on from the other
 abbrev pub OneReadingLaw : Type 0
-OneReadingLaw = (bytes : List ℕ) (rs ss : Records) → StartsWithRecords bytes rs → StartsWithRecords bytes ss → GoesOnFrom rs ss ⊎ GoesOnFrom ss rs
+OneReadingLaw = (bytes : List ℕ) (rs ss : Records) → StartsWithRecords bytes rs
+    → StartsWithRecords bytes ss → GoesOnFrom rs ss ⊎ GoesOnFrom ss rs

@@ -1,4 +1,5 @@
-//! Records of a GDSII stream (GDSII Stream Format, Release 6): a two-byte length that counts its own four header
+//! Records of a GDSII stream (GDSII Stream Format, Release 6): a two-byte length that counts its
+//! own four header
 //! bytes, a kind byte, a form byte and the data. Numbers are big-endian.
 #![tactic(auto)]
 

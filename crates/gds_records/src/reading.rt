@@ -34,11 +34,14 @@ fn is_known(kind: u8) -> bool
     kinds::ALL.iter().any(|known| *known == kind)
 }
 
-/// The record that begins at the place, or the first thing wrong with its frame: fewer than four bytes, a length
-/// below 4 or odd, fewer bytes than the length, an unknown kind. It reads four bytes and copies none.
+/// The record that begins at the place, or the first thing wrong with its frame: fewer than four
+/// bytes, a length
+/// below 4 or odd, fewer bytes than the length, an unknown kind. It reads four bytes and copies
+/// none.
 pub fn next_record(bytes: &[u8], place: usize) -> Result<Record, RecordFault>
     requires { place ≤ length bytes.now }
-    ensures { MatchResult result (λ r. IsNext bytes.now place r) (λ e. IsFramingFault bytes.now place e) }
+    ensures { MatchResult result (λ r. IsNext bytes.now place r)
+        (λ e. IsFramingFault bytes.now place e) }
 {
     let rest = &bytes[place..];
     if rest.len() < 4 {
@@ -63,7 +66,8 @@ pub fn next_record(bytes: &[u8], place: usize) -> Result<Record, RecordFault>
     })
 }
 
-/// Bytes can be read as records in one way alone: of two record lists that they start with, one goes on from the other.
+/// Bytes can be read as records in one way alone: of two record lists that they start with, one
+/// goes on from the other.
 pub fn one_reading()
     ensures { OneReadingLaw }
 {}

@@ -8,7 +8,7 @@ use Rattle.geo_base.specs.declared.shapes.Rect.{Rect}
 use Rattle.gds_records.specs.Records.{IsRecord, is_listed, Records, NoRecords, ◌▸◌, bytes_of, followed_by_all}
 use Rattle.gds_grammar.specs.Pattern.{Pattern, after_any}
 use Rattle.gds_grammar.specs.Order.{left_after}
-use Rattle.gds_elements.specs.Kinds.{HEADER, BGNLIB, LIBNAME, UNITS, ENDLIB, BGNSTR, STRNAME, ENDSTR}
+use Rattle.gds_records.specs.Kinds.{HEADER, BGNLIB, LIBNAME, UNITS, ENDLIB, BGNSTR, STRNAME, ENDSTR}
 use Rattle.gds_elements.specs.Data.{exactly, is_empty, trimmed}
 use Rattle.gds_elements.specs.Meaning.{Shape, Text, Ref, Cell, Library, opened, cells_of, cell_by, open_cells, library_of}
 use Rattle.gds_elements.specs.Faults.{fault_of, Passes}

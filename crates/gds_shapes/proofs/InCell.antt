@@ -13,7 +13,7 @@ use Rattle.gds_grammar.specs.Left.{left_of}
 use Rattle.gds_grammar.specs.Order.{left_after, is_empty, can_go_on}
 use Rattle.gds_grammar.specs.declared.place.Place.TheVariants.{InCell as InCellPlace}
 use Rattle.gds_elements.specs.Data as read
-use Rattle.gds_elements.specs.Kinds.{HEADER, BGNLIB, LIBNAME, UNITS, BGNSTR, STRNAME, BOUNDARY, LAYER, DATATYPE, XY, ENDEL}
+use Rattle.gds_records.specs.Kinds.{HEADER, BGNLIB, LIBNAME, UNITS, BGNSTR, STRNAME, BOUNDARY, LAYER, DATATYPE, XY, ENDEL}
 use Rattle.gds_elements.specs.Meaning.{Boundary, Shape, Cell, Library, opened, last_kind, columns_of, rows_of, head_part, cell_part, open_shapes, shapes_of, texts_of, refs_of, cells_of}
 use Rattle.gds_elements.specs.Faults.{is_second_points, is_plain, content_fault, fault_of, Passes}
 use Rattle.gds_elements.specs.Reading.{rec}

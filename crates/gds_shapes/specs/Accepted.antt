@@ -19,11 +19,23 @@ layer_shapes l = map (λ r. rect_shape l.0 r) l.1
 
 -- the cell with these shapes alone
 abbrev pub written_cell : Cell → List (LayerKey × List Rect) → Cell
-written_cell cell layers = record { dates = cell.dates; name = cell.name; shapes = flat_map layer_shapes layers; texts = []; refs = [] }
+written_cell cell layers = record {
+  dates = cell.dates;
+  name = cell.name;
+  shapes = flat_map layer_shapes layers;
+  texts = [];
+  refs = [];
+}
 
 -- the library with this cell alone
 abbrev pub written_library : Library → Cell → List (LayerKey × List Rect) → Library
-written_library library cell layers = record { version = library.version; dates = library.dates; name = library.name; units = library.units; cells = written_cell cell layers ∷ [] }
+written_library library cell layers = record {
+  version = library.version;
+  dates = library.dates;
+  name = library.name;
+  units = library.units;
+  cells = written_cell cell layers ∷ [];
+}
 
 -- so many bytes
 pub record IsData (size : ℕ) (body : List ℕ) : Type 0 where
@@ -36,7 +48,8 @@ pub record IsText (text : List ℕ) : Type 0 where
   pub short : IsShort text
   pub trimmed : trimmed text ≡ text
 
--- a library's header and a cell's as they are read: data of their sizes, a database unit, and names without NULs at their ends
+-- a library's header and a cell's as they are read: data of their sizes, a database unit, and names
+-- without NULs at their ends
 pub record IsRead (library : Library) (cell : Cell) : Type 0 where
   pub version : IsData 2 library.version
   pub dates : IsData 24 library.dates
@@ -47,11 +60,14 @@ pub record IsRead (library : Library) (cell : Cell) : Type 0 where
   pub cell_name : IsText cell.name
   pub named : is_empty cell.name ≡ false
 
--- what is written of a library that was read is accepted, as the library with this cell and the outlines of its rectangles
+-- what is written of a library that was read is accepted, as the library with this cell and the
+-- outlines of its rectangles
 abbrev pub AcceptedLaw : Type 0
-AcceptedLaw = (library : Library) (cell : Cell) (layers : List (LayerKey × List Rect)) → IsRead library cell → All FitsLayer layers
+AcceptedLaw = (library : Library) (cell : Cell) (layers : List (LayerKey × List Rect))
+    → IsRead library cell → All FitsLayer layers
     → Accepts (stream_bytes library cell layers) (written_library library cell layers)
 
 -- an accepted library is such a library, with each of its cells
 abbrev pub ReadLaw : Type 0
-ReadLaw = (bytes : List ℕ) (library : Library) → Accepts bytes library → All (λ cell. IsRead library cell) library.cells
+ReadLaw = (bytes : List ℕ) (library : Library) → Accepts bytes library
+    → All (λ cell. IsRead library cell) library.cells

@@ -1,5 +1,7 @@
--- The written stream of a cell: the records that rectangles on layers are written as (GDSII Stream Format, Release 6).
-use Rattle.std.specs.Prelude.{ℕ, ◌%◌, ◌^◌, ◌≤◌, ◌<◌, ◌==◌, ℤ, pos, ◌-ℤ◌, ◌≤ℤ◌, ◌<ℤ◌, List, [], ◌∷◌, ◌++◌, length, if◌then◌else◌}
+-- The written stream of a cell: the records that rectangles on layers are written as (GDSII Stream
+-- Format, Release 6).
+use Rattle.std.specs.Prelude.{ℕ, ◌%◌, ◌^◌, ◌≤◌, ◌<◌, ◌==◌, ℤ, pos, ◌-ℤ◌, ◌≤ℤ◌, ◌<ℤ◌, List, [], ◌∷◌}
+use Rattle.std.specs.Prelude.{◌++◌, length, if◌then◌else◌}
 use Rattle.std.specs.List.{All, flat_map}
 use Rattle.std.specs.Int.{w16, w32, to_be_bytes, cast_unsigned}
 use Rattle.geo_base.specs.Near.{IsLongRect}
@@ -7,7 +9,8 @@ use Rattle.geo_base.specs.declared.layer.LayerKey.{LayerKey}
 use Rattle.geo_base.specs.declared.shapes.Point.{Point}
 use Rattle.geo_base.specs.declared.shapes.Rect.{Rect}
 use Rattle.gds_records.specs.Records.{Rec, Records, NoRecords, bytes_of, followed_by_all}
-use Rattle.gds_elements.specs.Kinds.{HEADER, BGNLIB, LIBNAME, UNITS, ENDLIB, BGNSTR, STRNAME, ENDSTR, BOUNDARY, LAYER, DATATYPE, XY, ENDEL}
+use Rattle.gds_records.specs.Kinds.{HEADER, BGNLIB, LIBNAME, UNITS, ENDLIB, BGNSTR, STRNAME, ENDSTR}
+use Rattle.gds_records.specs.Kinds.{BOUNDARY, LAYER, DATATYPE, XY, ENDEL}
 use Rattle.gds_elements.specs.Meaning.{Library, Cell}
 use Rattle.gds_elements.specs.Reading.{rec}
 use Rattle.gds_shapes.specs.declared.shapes.Written.{Written}
@@ -45,7 +48,10 @@ point_bytes p = long_bytes p.x ++ long_bytes p.y
 
 -- the corners of a rectangle from the lower left one on, up first, and that one again
 abbrev pub corners : Rect → List Point
-corners r = record { x = r.x1; y = r.y1 } ∷ record { x = r.x1; y = r.y2 } ∷ record { x = r.x2; y = r.y2 } ∷ record { x = r.x2; y = r.y1 } ∷ record { x = r.x1; y = r.y1 } ∷ []
+corners r = record { x = r.x1; y = r.y1 } ∷ record { x = r.x1; y = r.y2 } ∷ record {
+  x = r.x2;
+  y = r.y2;
+} ∷ record { x = r.x2; y = r.y1 } ∷ record { x = r.x1; y = r.y1 } ∷ []
 
 -- the corners as data of XY
 abbrev pub outline : Rect → List ℕ
@@ -53,7 +59,8 @@ outline r = flat_map point_bytes (corners r)
 
 -- a rectangle on a layer as an element
 abbrev pub boundary : LayerKey → Rect → List Rec
-boundary key r = bare BOUNDARY ∷ number LAYER key.layer ∷ number DATATYPE key.datatype ∷ rec XY 3 (outline r) ∷ bare ENDEL ∷ []
+boundary key r = bare BOUNDARY ∷ number LAYER key.layer ∷ number DATATYPE key.datatype ∷ rec XY 3
+    (outline r) ∷ bare ENDEL ∷ []
 
 -- a layer: its rectangles in order
 abbrev pub layer : LayerKey × List Rect → List Rec
@@ -61,11 +68,13 @@ layer l = flat_map (λ r. boundary l.0 r) l.1
 
 -- a cell: its dates and name, and the layers in order
 abbrev pub structure : Cell → List (LayerKey × List Rect) → List Rec
-structure cell layers = numbers BGNSTR cell.dates ∷ string STRNAME cell.name ∷ flat_map layer layers ++ bare ENDSTR ∷ []
+structure cell layers = numbers BGNSTR cell.dates ∷ string STRNAME cell.name
+    ∷ flat_map layer layers ++ bare ENDSTR ∷ []
 
 -- what stands before the cells
 abbrev pub header : Library → List Rec
-header library = numbers HEADER library.version ∷ numbers BGNLIB library.dates ∷ string LIBNAME library.name ∷ rec UNITS 5 library.units ∷ []
+header library = numbers HEADER library.version ∷ numbers BGNLIB library.dates
+    ∷ string LIBNAME library.name ∷ rec UNITS 5 library.units ∷ []
 
 -- a library of this one cell
 abbrev pub stream_list : Library → Cell → List (LayerKey × List Rect) → List Rec

@@ -2,7 +2,8 @@
 
 ghost use Rattle.gds_shapes.specs.Accepted.{AcceptedLaw, ReadLaw};
 
-/// What is written of a library that was read is a stream of the format, and is read as that library with this one cell,
+/// What is written of a library that was read is a stream of the format, and is read as that
+/// library with this one cell,
 /// whose shapes are the outlines of the rectangles.
 pub fn accepted()
     ensures { AcceptedLaw }

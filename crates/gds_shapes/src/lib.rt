@@ -1,4 +1,5 @@
-//! The GDSII stream of a cell (GDSII Stream Format, Release 6): rectangles on layers, written as boundaries.
+//! The GDSII stream of a cell (GDSII Stream Format, Release 6): rectangles on layers, written as
+//! boundaries.
 #![tactic(auto)]
 
 mod laws;

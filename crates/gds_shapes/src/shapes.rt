@@ -7,7 +7,8 @@ ghost use Rattle.gds_elements.specs.Faults.{Accepts};
 ghost use Rattle.gds_elements.specs.Reading.{library_seen, cell_seen};
 ghost use Rattle.gds_shapes.specs.Accepted.{IsRead, written_library};
 ghost use Rattle.geo_base.specs.Near.{IsLong, IsLongRect};
-ghost use Rattle.gds_shapes.specs.Stream.{IsShort, AreLong, FitsLayer, boundary, header, layer, layer_seen, long_bytes, outline, string, stream_bytes};
+ghost use Rattle.gds_shapes.specs.Stream.{IsShort, AreLong, FitsLayer, boundary, header, layer};
+ghost use Rattle.gds_shapes.specs.Stream.{layer_seen, long_bytes, outline, string, stream_bytes};
 
 use byteorder::{BigEndian, ByteOrder};
 use gds_elements::{Library, RawCell};
@@ -33,8 +34,10 @@ const REALS: u8 = 5;
 
 const STRING: u8 = 6;
 
-/// The stream of a library with this one cell, whose rectangles are boundaries, layer by layer: names that one record
-/// holds, as those of each library that was read, and coordinates of 32 bits. An `Err` is want of memory. Cost: the
+/// The stream of a library with this one cell, whose rectangles are boundaries, layer by layer:
+/// names that one record
+/// holds, as those of each library that was read, and coordinates of 32 bits. An `Err` is want of
+/// memory. Cost: the
 /// bytes written.
 pub fn shapes_text(
     alloc: Global,
@@ -45,8 +48,11 @@ pub fn shapes_text(
     requires name { IsShort library.now.name.items }
     requires cell_name { IsShort cell.now.name }
     requires long { AreLong (map layer_seen written.now) }
-    ensures exact { IfOk result (λ text. text.items ≡ stream_bytes (library_seen library.now) (cell_seen cell.now) (map layer_seen written.now)) }
-    ensures accepted { IfOk result (λ text. IsRead (library_seen library.now) (cell_seen cell.now) → Accepts text.items (written_library (library_seen library.now) (cell_seen cell.now) (map layer_seen written.now))) }
+    ensures exact { IfOk result (λ text. text.items ≡ stream_bytes (library_seen library.now)
+        (cell_seen cell.now) (map layer_seen written.now)) }
+    ensures accepted { IfOk result (λ text. IsRead (library_seen library.now)
+        (cell_seen cell.now) → Accepts text.items (written_library (library_seen library.now)
+        (cell_seen cell.now) (map layer_seen written.now))) }
 {
     let mut out = Vec::new(alloc);
     write_header(alloc, &mut out, library)?;
@@ -60,7 +66,8 @@ pub fn shapes_text(
 
 fn write_header(alloc: Global, out: &mut Vec<u8>, library: &Library) -> Result<(), AllocError>
     requires { IsShort library.now.name.items }
-    ensures { OnOk result (out.new.items ≡ out.old.items ++ flat_map record_bytes (header (library_seen library.now))) }
+    ensures { OnOk result (out.new.items ≡ out.old.items ++ flat_map record_bytes (header
+        (library_seen library.now))) }
 {
     write_record(out, kinds::HEADER, NUMBERS, &library.version)?;
     write_record(out, kinds::BGNLIB, NUMBERS, &library.dates)?;
@@ -82,7 +89,8 @@ fn write_string(alloc: Global, out: &mut Vec<u8>, kind: u8, text: &[u8]) -> Resu
 
 fn write_layers(out: &mut Vec<u8>, written: &[Written]) -> Result<(), AllocError>
     requires { AreLong (map layer_seen written.now) }
-    ensures written { OnOk result (out.new.items ≡ out.old.items ++ flat_map record_bytes (flat_map layer (map layer_seen written.now))) }
+    ensures written { OnOk result (out.new.items ≡ out.old.items ++ flat_map record_bytes
+        (flat_map layer (map layer_seen written.now))) }
     ensures fits { OnOk result (All FitsLayer (map layer_seen written.now)) }
 {
     for layer in written {
@@ -93,7 +101,8 @@ fn write_layers(out: &mut Vec<u8>, written: &[Written]) -> Result<(), AllocError
 
 fn write_layer(out: &mut Vec<u8>, key: LayerKey, rects: &[Rect]) -> Result<(), AllocError>
     requires { All IsLongRect rects.now }
-    ensures written { OnOk result (out.new.items ≡ out.old.items ++ flat_map record_bytes (layer (key, rects.now))) }
+    ensures written { OnOk result (out.new.items ≡ out.old.items ++ flat_map record_bytes (layer
+        (key, rects.now))) }
     ensures fits { OnOk result (FitsLayer (key, rects.now)) }
 {
     for rect in rects {
@@ -104,7 +113,8 @@ fn write_layer(out: &mut Vec<u8>, key: LayerKey, rects: &[Rect]) -> Result<(), A
 
 fn write_boundary(out: &mut Vec<u8>, key: LayerKey, rect: Rect) -> Result<(), AllocError>
     requires { IsLongRect rect }
-    ensures { OnOk result (out.new.items ≡ out.old.items ++ flat_map record_bytes (boundary key rect)) }
+    ensures { OnOk result (out.new.items ≡ out.old.items ++ flat_map record_bytes
+        (boundary key rect)) }
 {
     write_record(out, kinds::BOUNDARY, NONE, &[])?;
     write_record(out, kinds::LAYER, NUMBERS, &key.layer.to_be_bytes())?;

@@ -85,6 +85,76 @@ fn first_faults(rt: HostRuntime) -> Result<(), Fail> {
     Ok(())
 }
 
+const HEADER: &str = "00060002 0258";
+
+const BGNLIB: &str = "001C0102 000000000000000000000000000000000000000000000000";
+
+const LIBNAME: &str = "00060206 4C00";
+
+const UNITS: &str = "00140305 3E4189374BC6A7F0 3944B82FA09B5A54";
+
+// What stands before the cells, with the fault of its last record.
+#[test]
+fn faulty_headers(rt: HostRuntime) -> Result<(), Fail> {
+    let alloc = rt.alloc();
+    let rows: [(&[&str], u8, u64, u64); 9] = [
+        (&["00060003 0258"], 5, 0, 0),
+        (&["00080002 02580258"], 5, 0, 0),
+        (&[BGNLIB], 4, 0, 0),
+        (&[HEADER, HEADER], 4, 1, 6),
+        (
+            &[
+                HEADER,
+                "001A0102 00000000000000000000000000000000000000000000",
+            ],
+            5,
+            1,
+            6,
+        ),
+        (&[HEADER, LIBNAME], 4, 1, 6),
+        (&[HEADER, BGNLIB, "00060202 4C00"], 5, 2, 34),
+        (&[HEADER, BGNLIB, UNITS], 4, 2, 34),
+        (&[HEADER, BGNLIB, LIBNAME, LIBNAME], 4, 3, 40),
+    ];
+    for (texts, number, index, offset) in rows {
+        let stream = bytes(alloc, texts)?;
+        assert_eq!(rt;
+            fault(alloc, &stream),
+            Some((number, index, offset)),
+            "{texts:?}"
+        );
+    }
+    Ok(())
+}
+
+// REFLIBS, FONTS and GENERATIONS before the name, ATTRTABLE, FORMAT, MASK and ENDMASKS behind it,
+// and each of them behind UNITS, where none may stand.
+#[test]
+fn options(rt: HostRuntime) -> Result<(), Fail> {
+    let alloc = rt.alloc();
+    let before = "00061F06 4C4C 00042006 00062202 0003";
+    let behind = "00062306 4100 00063602 0000 00063706 4100 00043800";
+    let stream = bytes(
+        alloc,
+        &[HEADER, BGNLIB, before, LIBNAME, behind, UNITS, "00040400"],
+    )?;
+    let library = read_library(alloc, &stream)?;
+    assert_eq!(rt; written(alloc, &library)?.as_str(), "library 76\n");
+    let stream = bytes(
+        alloc,
+        &[HEADER, BGNLIB, behind, LIBNAME, before, UNITS, "00040400"],
+    )?;
+    let library = read_library(alloc, &stream)?;
+    assert_eq!(rt; written(alloc, &library)?.as_str(), "library 76\n");
+    for option in [
+        "00041F06", "00042006", "00042202", "00042306", "00043602", "00043706", "00043800",
+    ] {
+        let stream = bytes(alloc, &[HEAD, option])?;
+        assert_eq!(rt; fault(alloc, &stream), Some((4, 4, 60)), "{option}");
+    }
+    Ok(())
+}
+
 #[test]
 fn refused_streams(rt: HostRuntime) -> Result<(), Fail> {
     let alloc = rt.alloc();

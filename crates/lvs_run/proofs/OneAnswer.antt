@@ -17,8 +17,8 @@ use Rattle.cell_layers.specs.Shapes.{own_covers}
 use Rattle.one_cell.specs.OneCell.{IsInReach, IsShapeInReach, LeavesReach, AreDrawn, IsDrawn, IsMade, IsUnbuilt, rectangle_count}
 use Rattle.lvs_run.specs.Words.{Paths, same_path}
 use Rattle.lvs_run.specs.Answers.{Answer, Good, RefusedWords, RefusedSame, RefusedAbsent, RefusedLong, RefusedRules, RefusedLayout, RefusedUnbuilt}
-use Rattle.lvs_run.specs.Outcomes.{OfLibrary, OfStream, FaultyStream, SoundStream, OfLength, OfLayout, OfRuleText, FaultyRules, SoundRules, OfRules, OfPaths}
-use Rattle.lvs_run.specs.Once.{IsTold, IsSameOutcome, OneOutcomeLaw}
+use Rattle.lvs_run.proofs.Steps.{InTurn, in_turn, OfLibrary, OfStream, FaultyStream, SoundStream, OfLength, OfLayout, OfRuleText, FaultyRules, SoundRules, OfRules, OfPaths}
+use Rattle.lvs_run.specs.Once.{IsTold, AreInputsTold, IsSameOutcome, OneOutcomeLaw}
 
 -- by the laws of the readers and of canonical lists
 module _ (lists : OneListLaw) (meanings : MeaningLaw) (faults : FaultLaw) (libraries : OneLibraryLaw) (no_faults : NoFaultLaw) (one_faults : OneFaultLaw) where
@@ -122,6 +122,10 @@ module _ (lists : OneListLaw) (meanings : MeaningLaw) (faults : FaultLaw) (libra
   on_paths (Some path) file p a b text other count number told there x y = refused_once (RefusedSame path) a b text other count number (λ e. cc) x y
   on_paths None file p a b text other count number told there x y = on_rules (file p.rules) (file p.layout) p a b text other count number told there x y
 
+  on_turn : (said : Option Paths) (file : List ℕ → Told) (a b : Answer) (text other : List ℕ) (count number : ℕ) → AreInputsTold said file → InTurn said file a text count → InTurn said file b other number
+      → IsSameOutcome a b text other count number
+  on_turn None file a b text other count number told x y = refused_once RefusedWords a b text other count number (λ e. cc) x y
+  on_turn (Some p) file a b text other count number told x y = on_paths (same_path p) file p a b text other count number told.0 told.1 x y
+
   pub one_answer : OneOutcomeLaw
-  one_answer None file a b text other count number told x y = refused_once RefusedWords a b text other count number (λ e. cc) x y
-  one_answer (Some p) file a b text other count number told x y = on_paths (same_path p) file p a b text other count number told.0 told.1 x y
+  one_answer said file a b text other count number told x y = on_turn said file a b text other count number told (in_turn said file a text count x) (in_turn said file b other number y)

@@ -1,5 +1,5 @@
 -- What the inputs, read one after the other, come to.
-use Rattle.std.proofs.Common.{◌≡◌, inl, inr, ◌+◌, ◌<◌, ℕ, List, Option, Some, None, Bool, true, false, ◌||◌, if◌then◌else◌, refl, sym, ap, subst, ◌∙◌, length}
+use Rattle.std.proofs.Common.{◌≡◌, ◌⊎◌, inl, inr, ◌+◌, ◌<◌, ℕ, List, Option, Some, None, Bool, true, false, ◌||◌, if◌then◌else◌, refl, sym, ap, subst, ◌∙◌, length}
 use Rattle.std.specs.Str.{bytes_eq}
 use Rattle.lvs_outside.specs.Store.{Store, Told, Untold, NoFile, Holds, IsAbsent, Open, Reading}
 use Rattle.gds_elements.specs.Meaning.{Library}
@@ -12,7 +12,8 @@ use Rattle.rule_text.specs.Reading.{Means, Answers}
 use Rattle.lvs_run.specs.Words.{Paths, same_path}
 use Rattle.lvs_run.specs.Answers.{Answer, Good, Bad, RefusedWords, RefusedSame, RefusedAbsent, RefusedLong, RefusedRules, RefusedLayout, RefusedUnbuilt, Undecided, Outside, NoMemory, refused_rules}
 use Rattle.lvs_run.specs.Runs.{HasLength, IsReadWhole, IsReadTooFar, HasCauseIn}
-use Rattle.lvs_run.specs.Outcomes.{OfLibrary, OfStream, FaultyStream, SoundStream, OfLayout, OfRuleText, FaultyRules, SoundRules, OfRules, OfPaths, IsOutcome}
+use Rattle.lvs_run.specs.Outcomes.{IsOutcome, SamePath}
+use Rattle.lvs_run.proofs.Steps.{OfLibrary, OfStream, FaultyStream, SoundStream, OfLayout, OfRuleText, FaultyRules, SoundRules, OfRules, of_rules}
 use Rattle.lvs_run.specs.Inputs.{Quiet, DepotFaults, IsInput, IsLong, Got, ReadAs, NoRules, NoLibrary, RefusesRules, RefusesLayout, NotMade, ComesOf, Stops}
 
 -- a fault of the rules that isn't want of memory is the first
@@ -85,9 +86,17 @@ long_layout Untold r p a text count h e = tt
 long_layout NoFile r p a text count h e = absurd h
 long_layout (Holds all) r p a text count h e = inl (h, e)
 
--- paths without a clash lead to the rules
-of_rules : (p : Paths) (file : List ℕ → Told) (a : Answer) (text : List ℕ) (count : ℕ) → same_path p ≡ None → OfRules (file p.rules) (file p.layout) p a text count → IsOutcome (Some p) file a text count
-of_rules p file a text count e h = subst (λ (o : Option (List ℕ)). OfPaths o file p a text count) (sym e) h
+clash : (a b : Bool) (path : List ℕ) → (a ≡ true) ⊎ (b ≡ true) → (if a || b then Some path else None) ≡ Some path
+clash true b path h = refl
+clash false true path h = refl
+clash false false path (inl h) = absurd (let e : false ≡ true = h in cc)
+clash false false path (inr h) = absurd (let e : false ≡ true = h in cc)
+
+-- a file that is to be written is named twice
+pub same_stop : (p : Paths) (s : Store) → (bytes_eq p.layout p.shapes ≡ true) ⊎ (bytes_eq p.rules p.shapes ≡ true) → Stops (Some p) s s (RefusedSame p.shapes)
+same_stop p s h =
+    let same = clash (bytes_eq p.layout p.shapes) (bytes_eq p.rules p.shapes) p.shapes h in
+    record { cause = (same, refl); faults = refl; comes = λ text count. SamePath p p.shapes refl same refl }
 
 -- the rules are refused
 module _ (p : Paths) (old new : Store) (apart : same_path p ≡ None) where

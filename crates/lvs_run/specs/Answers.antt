@@ -7,9 +7,11 @@ use Rattle.rule_text.specs.declared.fault.RuleFault.TheVariants as rule
 use Rattle.lvs_run.specs.declared.status.Status.{Status}
 use Rattle.lvs_run.specs.declared.status.Status.TheVariants as status
 use Rattle.lvs_run.specs.declared.status.Refusal.{Refusal}
-use Rattle.lvs_run.specs.declared.status.Refusal.TheVariants.{Words, SamePath, Absent, TooLong, Rules, Layout, Unbuilt}
+use Rattle.lvs_run.specs.declared.status.Refusal.TheVariants.{Words, SamePath, Absent, TooLong}
+use Rattle.lvs_run.specs.declared.status.Refusal.TheVariants.{Rules, Layout, Unbuilt}
 
--- an answer, with the bytes of its path; a layout's fault has its number, its record's and its offset
+-- an answer, with the bytes of its path; a layout's fault has its number, its record's and its
+-- offset
 pub data Answer : Type 0 where
   Good : Answer
   Bad : Answer

@@ -1,7 +1,8 @@
 -- The exit status of the program.
 use Rattle.std.specs.Prelude.{ℕ}
 use Rattle.lvs_run.specs.declared.status.Status.{Status}
-use Rattle.lvs_run.specs.declared.status.Status.TheVariants.{Good, Bad, Refused, Undecided, Outside, NoMemory}
+use Rattle.lvs_run.specs.declared.status.Status.TheVariants.{Good, Bad, Refused, Undecided, Outside}
+use Rattle.lvs_run.specs.declared.status.Status.TheVariants.{NoMemory}
 
 abbrev pub code_of : Status → ℕ
 code_of Good = 0

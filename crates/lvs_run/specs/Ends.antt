@@ -4,7 +4,8 @@ use Rattle.lvs_outside.specs.Store.{Store, SameFiles, appended}
 use Rattle.lvs_outside.specs.Summary.{SinkState}
 use Rattle.lvs_outside.specs.Loops.{HoldsNow, ForPrefix}
 use Rattle.lvs_run.specs.Answers.{Answer, Good, Outside, NoMemory}
-use Rattle.lvs_run.specs.Runs.{depot_faults, sink_faults, Leaves, Says, StartsNone, WritesPart, WritesShapes}
+use Rattle.lvs_run.specs.Runs.{depot_faults, sink_faults, Leaves, Says, StartsNone, WritesPart}
+use Rattle.lvs_run.specs.Runs.{WritesShapes}
 use Rattle.lvs_run.specs.Lines.{line_of}
 use Rattle.lvs_run.specs.Outcomes.{IsOutcome}
 use Rattle.lvs_run.specs.Words.{Paths}
@@ -30,7 +31,8 @@ pub record TookNone (before after : SinkState) : Type 0 where
 abbrev pub Refused : Answer → SinkState → SinkState → Answer → Type 0
 Refused wanted before after a =
     ((a ≡ wanted) × Took before after (line_of wanted 0))
-    ⊎ (((a ≡ Outside) × TookPart before after (line_of wanted 0)) ⊎ ((a ≡ NoMemory) × TookNone before after))
+    ⊎ (((a ≡ Outside) × TookPart before after (line_of wanted 0)) ⊎ ((a ≡ NoMemory)
+    × TookNone before after))
 
 -- the file is written whole, and nothing failed
 pub record WroteWhole (old new : Store) (path text : List ℕ) : Type 0 where
@@ -47,9 +49,12 @@ pub record WrotePart (old new : Store) (path text : List ℕ) : Type 0 where
 -- file and line were written, or one of the two failed
 abbrev pub Delivered : Output → Store → Store → SinkState → SinkState → Answer → Type 0
 Delivered o old new before after a =
-    ((a ≡ Good) × WroteWhole old new (string_bytes o.path) o.text.items × Took before after o.line.items)
-    ⊎ (((a ≡ Outside) × WroteWhole old new (string_bytes o.path) o.text.items × TookPart before after o.line.items)
-    ⊎ ((a ≡ Outside) × WrotePart old new (string_bytes o.path) o.text.items × TookNone before after))
+    ((a ≡ Good) × WroteWhole old new (string_bytes o.path) o.text.items
+    × Took before after o.line.items)
+    ⊎ (((a ≡ Outside) × WroteWhole old new (string_bytes o.path) o.text.items
+    × TookPart before after o.line.items)
+    ⊎ ((a ≡ Outside) × WrotePart old new (string_bytes o.path) o.text.items
+    × TookNone before after))
 
 -- a fact, but after Outside and NoMemory
 abbrev pub IsOrElse : Answer → Type 0 → Type 0
@@ -57,21 +62,29 @@ IsOrElse Outside P = Unit {0}
 IsOrElse NoMemory P = Unit {0}
 IsOrElse a P = P
 
--- Where a run was when the outside failed: reading its inputs, with nothing written or sent; sending the line of the refusal
--- that the told files come to; writing the text that they come to, with no line sent; or sending the line behind that text.
+-- Where a run was when the outside failed: reading its inputs, with nothing written or sent;
+-- sending the line of the refusal
+-- that the told files come to; writing the text that they come to, with no line sent; or sending
+-- the line behind that text.
 pub data FailsAt (said : Option Paths) (old new : Store) (before after : SinkState) : Type 0 where
   AtInput : StartsNone old new → TookNone before after → FailsAt said old new before after
-  AtRefusal : (wanted : Answer) → IsOutcome said old.file wanted [] 0 → StartsNone old new → TookPart before after (line_of wanted 0) → FailsAt said old new before after
-  AtFile : (text : List ℕ) (count : ℕ) → IsOutcome said old.file Good text count → WritesPart said old new text → TookNone before after → FailsAt said old new before after
-  AtLine : (text : List ℕ) (count : ℕ) → IsOutcome said old.file Good text count → WritesShapes said old new text → TookPart before after (line_of Good count) → FailsAt said old new before after
+  AtRefusal : (wanted : Answer) → IsOutcome said old.file wanted [] 0 → StartsNone old new
+      → TookPart before after (line_of wanted 0) → FailsAt said old new before after
+  AtFile : (text : List ℕ) (count : ℕ) → IsOutcome said old.file Good text count
+      → WritesPart said old new text → TookNone before after → FailsAt said old new before after
+  AtLine : (text : List ℕ) (count : ℕ) → IsOutcome said old.file Good text count
+      → WritesShapes said old new text → TookPart before after (line_of Good count)
+      → FailsAt said old new before after
 
 -- after Outside the run failed at one of these places
 abbrev pub Fails : Option Paths → Store → Store → SinkState → SinkState → Answer → Type 0
 Fails said old new before after Outside = FailsAt said old new before after
 Fails said old new before after a = Unit {0}
 
--- the outcome: of the told files and what is written, with the line of it; after Outside and NoMemory what they leave
-pub record ComesOut (said : Option Paths) (old new : Store) (before after : SinkState) (a : Answer) : Type 0 where
+-- the outcome: of the told files and what is written, with the line of it; after Outside and
+-- NoMemory what they leave
+pub record ComesOut (said : Option Paths) (old new : Store) (before after : SinkState)
+    (a : Answer) : Type 0 where
   pub text : List ℕ
   pub count : ℕ
   pub comes : IsOrElse a (IsOutcome said old.file a text count)

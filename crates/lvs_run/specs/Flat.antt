@@ -1,4 +1,5 @@
--- What the shapes file of a run covers: the flat rules' unit squares of the layout, where the files are told.
+-- What the shapes file of a run covers: the flat rules' unit squares of the layout, where the files
+-- are told.
 use Rattle.std.specs.Prelude.{ℕ, List, Option, Some, None}
 use Rattle.lvs_outside.specs.Store.{Store, Told, Holds}
 use Rattle.lvs_outside.specs.Loops.{HoldsNow}
@@ -10,7 +11,8 @@ use Rattle.rule_text.specs.Reading.{Means}
 use Rattle.lvs_run.specs.Words.{Paths}
 use Rattle.lvs_run.specs.Answers.{Answer, Good}
 
--- the rules' bytes mean rules, the layout's bytes are a library, and the text covers exactly the flat rules' squares of it
+-- the rules' bytes mean rules, the layout's bytes are a library, and the text covers exactly the
+-- flat rules' squares of it
 pub record IsFlatShapes (rules layout text : List ℕ) : Type 0 where
   pub rule_set : Rules
   pub meant : Means rules rule_set
@@ -26,7 +28,8 @@ TellsFlat _ _ text = Unit {0}
 -- the shapes file covers exactly the flat rules' unit squares of the layout
 abbrev pub HoldsFlat : Option Paths → Store → Store → Type 0
 HoldsFlat None old new = ⊥
-HoldsFlat (Some p) old new = (text : List ℕ) × HoldsNow old new p.shapes text × TellsFlat (old.file p.rules) (old.file p.layout) text
+HoldsFlat (Some p) old new = (text : List ℕ) × HoldsNow old new p.shapes text × TellsFlat
+    (old.file p.rules) (old.file p.layout) text
 
 -- so it is after Good
 abbrev pub WritesFlat : Option Paths → Store → Store → Answer → Type 0

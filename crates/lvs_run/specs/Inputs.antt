@@ -10,7 +10,8 @@ use Rattle.rule_text.specs.Rules.{Rules}
 use Rattle.rule_text.specs.Reading.{IsFirstFault as IsFirstRuleFault}
 use Rattle.rule_text.specs.Sound.{IsSound}
 use Rattle.lvs_run.specs.Words.{Paths}
-use Rattle.lvs_run.specs.Answers.{Answer, Good, RefusedAbsent, RefusedLong, RefusedRules, RefusedLayout, RefusedUnbuilt, Outside, NoMemory, refused}
+use Rattle.lvs_run.specs.Answers.{Answer, Good, RefusedAbsent, RefusedLong, RefusedRules}
+use Rattle.lvs_run.specs.Answers.{RefusedLayout, RefusedUnbuilt, Outside, NoMemory, refused}
 use Rattle.lvs_run.specs.Runs.{IsReadTooFar, WasAbsent, StartsNone, HasCauseIn}
 use Rattle.lvs_run.specs.Lines.{line_of}
 use Rattle.lvs_run.specs.Outcomes.{IsOutcome}
@@ -56,8 +57,10 @@ pub record Got (old new : Store) (path bytes : List ℕ) : Type 0 where
 
 -- why it wasn't
 abbrev pub NotGot : Store → Store → List ℕ → Answer → Type 0
-NotGot old new path (RefusedAbsent p) = (p ≡ path) × IsAbsent (old.file path) × WasAbsent old new path
-NotGot old new path (RefusedLong p) = (p ≡ path) × IsLong (old.file path) × IsReadTooFar new.opened path × (new.absent ≡ old.absent)
+NotGot old new path (RefusedAbsent p) = (p ≡ path) × IsAbsent (old.file path)
+    × WasAbsent old new path
+NotGot old new path (RefusedLong p) = (p ≡ path) × IsLong (old.file path)
+    × IsReadTooFar new.opened path × (new.absent ≡ old.absent)
 NotGot old new path Outside = Unit {0}
 NotGot old new path NoMemory = Unit {0}
 NotGot old new path a = ⊥
@@ -75,12 +78,14 @@ pub record ReadAs (old new : Store) (path : List ℕ) (P : List ℕ → Type 0) 
 
 -- why the rule file gave no rules
 abbrev pub NoRules : Store → Store → List ℕ → Answer → Type 0
-NoRules old new path (RefusedRules fault) = ReadAs old new path (λ bytes. IsFirstRuleFault bytes fault)
+NoRules old new path (RefusedRules fault) = ReadAs old new path
+    (λ bytes. IsFirstRuleFault bytes fault)
 NoRules old new path a = NotGot old new path a
 
 -- why the layout's file gave no library
 abbrev pub NoLibrary : Store → Store → List ℕ → Answer → Type 0
-NoLibrary old new path (RefusedLayout number index offset) = ReadAs old new path (λ bytes. FirstFault bytes number index offset)
+NoLibrary old new path (RefusedLayout number index offset) = ReadAs old new path
+    (λ bytes. FirstFault bytes number index offset)
 NoLibrary old new path a = NotGot old new path a
 
 pub record RefusesRules (old new : Store) (path : List ℕ) (a : Answer) : Type 0 where
@@ -110,7 +115,8 @@ ComesOf said old Outside = Unit {0}
 ComesOf said old NoMemory = Unit {0}
 ComesOf said old a = (text : List ℕ) (count : ℕ) → IsOutcome said old.file a text count
 
--- a run that stops before it writes: the depot shows the cause and its faults, and the told files come to it
+-- a run that stops before it writes: the depot shows the cause and its faults, and the told files
+-- come to it
 pub record Stops (said : Option Paths) (old new : Store) (a : Answer) : Type 0 where
   pub cause : HasCauseIn said old new a
   pub faults : DepotFaults a old new

@@ -3,9 +3,13 @@ use Rattle.std.specs.Prelude.{ℕ, List, [], ◌∷◌, ◌++◌, codes}
 use Rattle.std.specs.Fmt.{decimal}
 use Rattle.net_names.specs.Escapes.{escaped}
 use Rattle.rule_text.specs.declared.fault.RuleFault.{RuleFault}
-use Rattle.rule_text.specs.declared.fault.RuleFault.TheVariants.{UnknownStatement, BadForm, UnknownName, NameTwice, NotConductor, TooManyLayers, NotText}
+use Rattle.rule_text.specs.declared.fault.RuleFault.TheVariants.{UnknownStatement, BadForm}
+use Rattle.rule_text.specs.declared.fault.RuleFault.TheVariants.{UnknownName, NameTwice}
+use Rattle.rule_text.specs.declared.fault.RuleFault.TheVariants.{NotConductor, TooManyLayers}
+use Rattle.rule_text.specs.declared.fault.RuleFault.TheVariants.{NotText}
 use Rattle.rule_text.specs.declared.fault.RuleFault.TheVariants as rule
-use Rattle.lvs_run.specs.Answers.{Answer, Good, RefusedWords, RefusedSame, RefusedAbsent, RefusedLong, RefusedRules, RefusedLayout, RefusedUnbuilt}
+use Rattle.lvs_run.specs.Answers.{Answer, Good, RefusedWords, RefusedSame, RefusedAbsent}
+use Rattle.lvs_run.specs.Answers.{RefusedLong, RefusedRules, RefusedLayout, RefusedUnbuilt}
 
 -- a fault's number and its line; of a byte that no text has, its offset
 abbrev pub rule_place : RuleFault → List ℕ
@@ -26,6 +30,7 @@ line_of (RefusedSame path) count = codes "refused same " ++ escaped path ++ 10 �
 line_of (RefusedAbsent path) count = codes "refused absent " ++ escaped path ++ 10 ∷ []
 line_of (RefusedLong path) count = codes "refused long " ++ escaped path ++ 10 ∷ []
 line_of (RefusedRules fault) count = codes "refused rules " ++ rule_place fault ++ 10 ∷ []
-line_of (RefusedLayout number index offset) count = codes "refused layout " ++ decimal number ++ codes " record " ++ decimal index ++ codes " offset " ++ decimal offset ++ 10 ∷ []
+line_of (RefusedLayout number index offset) count = codes "refused layout " ++ decimal number
+    ++ codes " record " ++ decimal index ++ codes " offset " ++ decimal offset ++ 10 ∷ []
 line_of (RefusedUnbuilt path) count = codes "refused unbuilt " ++ escaped path ++ 10 ∷ []
 line_of a count = []

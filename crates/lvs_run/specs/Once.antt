@@ -24,5 +24,7 @@ pub record IsSameOutcome (a b : Answer) (xs ys : List ℕ) (n m : ℕ) : Type 0 
 
 -- words and told inputs have one outcome
 abbrev pub OneOutcomeLaw : Type 0
-OneOutcomeLaw = (said : Option Paths) (file : List ℕ → Told) (a b : Answer) (text other : List ℕ) (count number : ℕ) → AreInputsTold said file
-    → IsOutcome said file a text count → IsOutcome said file b other number → IsSameOutcome a b text other count number
+OneOutcomeLaw = (said : Option Paths) (file : List ℕ → Told) (a b : Answer) (text other : List ℕ)
+    (count number : ℕ) → AreInputsTold said file
+    → IsOutcome said file a text count → IsOutcome said file b other number
+    → IsSameOutcome a b text other count number

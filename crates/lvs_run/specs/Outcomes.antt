@@ -1,5 +1,5 @@
--- What a run comes to where the files are told: its answer and what it writes, in the order of its decisions.
-use Rattle.std.specs.Prelude.{◌≡◌, ◌⊎◌, ℕ, ◌<◌, ◌≤◌, List, length, Option, Some, None}
+-- What a run comes to where the files are told: its answer, and what it writes.
+use Rattle.std.specs.Prelude.{◌≡◌, ℕ, ◌<◌, ◌≤◌, List, length, Option, Some, None}
 use Rattle.lvs_outside.specs.Store.{Told, Untold, NoFile, Holds}
 use Rattle.lvs_outside.specs.Loops.{limit}
 use Rattle.gds_elements.specs.Meaning.{Library}
@@ -9,44 +9,64 @@ use Rattle.rule_text.specs.declared.fault.RuleFault.{RuleFault}
 use Rattle.rule_text.specs.Rules.{Rules}
 use Rattle.rule_text.specs.Reading.{Means, IsFirstFault}
 use Rattle.lvs_run.specs.Words.{Paths, same_path}
-use Rattle.lvs_run.specs.Answers.{Answer, Good, RefusedWords, RefusedSame, RefusedAbsent, RefusedLong, RefusedRules, RefusedLayout, RefusedUnbuilt}
+use Rattle.lvs_run.specs.Answers.{Answer, Good, RefusedWords, RefusedSame, RefusedAbsent}
+use Rattle.lvs_run.specs.Answers.{RefusedLong, RefusedRules, RefusedLayout, RefusedUnbuilt}
 
--- the layout is a library: one that isn't of the form that is read yet, or the text is what the rules make of it
-abbrev pub OfLibrary : Library → Rules → Paths → Answer → List ℕ → ℕ → Type 0
-OfLibrary v r p a text count = ((a ≡ RefusedUnbuilt p.layout) × IsUnbuilt v) ⊎ ((a ≡ Good) × IsMade v r text count)
+-- the words state a command of these paths, and no file that it writes is named twice
+pub record Runs (said : Option Paths) (p : Paths) : Type 0 where
+  pub stated : said ≡ Some p
+  pub apart : same_path p ≡ None
 
--- the layout's bytes: their first fault, or their library
-pub data OfStream (bytes : List ℕ) (r : Rules) (p : Paths) (a : Answer) (text : List ℕ) (count : ℕ) : Type 0 where
-  FaultyStream : (number index offset : ℕ) → FirstFault bytes number index offset → a ≡ RefusedLayout number index offset → OfStream bytes r p a text count
-  SoundStream : (v : Library) → Accepts bytes v → OfLibrary v r p a text count → OfStream bytes r p a text count
+-- it is told that the path's file holds these bytes, and they aren't too many
+pub record HasFile (file : List ℕ → Told) (path bytes : List ℕ) : Type 0 where
+  pub told : file path ≡ Holds bytes
+  pub short : length bytes ≤ limit
 
--- a file's bytes, which are too many or not
-abbrev pub OfLength : List ℕ → Type 0 → Type 0 → Type 0
-OfLength bytes long short = ((limit < length bytes) × long) ⊎ ((length bytes ≤ limit) × short)
+-- the command's rule file means these rules
+pub record ReadsRules (said : Option Paths) (file : List ℕ → Told) (p : Paths)
+    (r : Rules) : Type 0 where
+  pub runs : Runs said p
+  pub bytes : List ℕ
+  pub held : HasFile file p.rules bytes
+  pub means : Means bytes r
 
--- the layout's file; nothing is said of one that isn't told
-abbrev pub OfLayout : Told → Rules → Paths → Answer → List ℕ → ℕ → Type 0
-OfLayout Untold r p a text count = Unit {0}
-OfLayout NoFile r p a text count = a ≡ RefusedAbsent p.layout
-OfLayout (Holds bytes) r p a text count = OfLength bytes (a ≡ RefusedLong p.layout) (OfStream bytes r p a text count)
+-- and its layout is this library
+pub record ReadsLayout (said : Option Paths) (file : List ℕ → Told) (p : Paths) (r : Rules)
+    (v : Library) : Type 0 where
+  pub rules : ReadsRules said file p r
+  pub bytes : List ℕ
+  pub held : HasFile file p.layout bytes
+  pub accepted : Accepts bytes v
 
--- the rules' bytes: their first fault, or what they mean
-pub data OfRuleText (bytes : List ℕ) (layout : Told) (p : Paths) (a : Answer) (text : List ℕ) (count : ℕ) : Type 0 where
-  FaultyRules : (fault : RuleFault) → IsFirstFault bytes fault → a ≡ RefusedRules fault → OfRuleText bytes layout p a text count
-  SoundRules : (r : Rules) → Means bytes r → OfLayout layout r p a text count → OfRuleText bytes layout p a text count
-
--- the rules' file
-abbrev pub OfRules : Told → Told → Paths → Answer → List ℕ → ℕ → Type 0
-OfRules Untold layout p a text count = Unit {0}
-OfRules NoFile layout p a text count = a ≡ RefusedAbsent p.rules
-OfRules (Holds bytes) layout p a text count = OfLength bytes (a ≡ RefusedLong p.rules) (OfRuleText bytes layout p a text count)
-
--- the paths: one that is to be written may not be named twice
-abbrev pub OfPaths : Option (List ℕ) → (List ℕ → Told) → Paths → Answer → List ℕ → ℕ → Type 0
-OfPaths (Some path) file p a text count = a ≡ RefusedSame path
-OfPaths None file p a text count = OfRules (file p.rules) (file p.layout) p a text count
-
--- the words, then the paths, the rules, the layout: the first of them that is refused gives the answer, else the text is written
-abbrev pub IsOutcome : Option Paths → (List ℕ → Told) → Answer → List ℕ → ℕ → Type 0
-IsOutcome None file a text count = a ≡ RefusedWords
-IsOutcome (Some p) file a text count = OfPaths (same_path p) file p a text count
+-- The answer, and after Good the text that is written with so many rectangles. The words are looked
+-- at first, then the paths, the rule file and the layout, and the first of them that is refused
+-- gives the answer. Nothing is said where a file that comes next isn't told.
+pub data IsOutcome (said : Option Paths) (file : List ℕ → Told) (a : Answer) (text : List ℕ)
+    (count : ℕ) : Type 0 where
+  WrongWords : said ≡ None → a ≡ RefusedWords → IsOutcome said file a text count
+  SamePath : (p : Paths) (path : List ℕ) → said ≡ Some p → same_path p ≡ Some path
+      → a ≡ RefusedSame path → IsOutcome said file a text count
+  NoRules : (p : Paths) → Runs said p → file p.rules ≡ NoFile → a ≡ RefusedAbsent p.rules
+      → IsOutcome said file a text count
+  LongRules : (p : Paths) (bytes : List ℕ) → Runs said p → file p.rules ≡ Holds bytes
+      → limit < length bytes → a ≡ RefusedLong p.rules → IsOutcome said file a text count
+  BadRules : (p : Paths) (bytes : List ℕ) (fault : RuleFault) → Runs said p
+      → HasFile file p.rules bytes → IsFirstFault bytes fault → a ≡ RefusedRules fault
+      → IsOutcome said file a text count
+  NoLayout : (p : Paths) (r : Rules) → ReadsRules said file p r → file p.layout ≡ NoFile
+      → a ≡ RefusedAbsent p.layout → IsOutcome said file a text count
+  LongLayout : (p : Paths) (r : Rules) (bytes : List ℕ) → ReadsRules said file p r
+      → file p.layout ≡ Holds bytes → limit < length bytes → a ≡ RefusedLong p.layout
+      → IsOutcome said file a text count
+  BadLayout : (p : Paths) (r : Rules) (bytes : List ℕ) (number index offset : ℕ)
+      → ReadsRules said file p r → HasFile file p.layout bytes
+      → FirstFault bytes number index offset → a ≡ RefusedLayout number index offset
+      → IsOutcome said file a text count
+  Unbuilt : (p : Paths) (r : Rules) (v : Library) → ReadsLayout said file p r v → IsUnbuilt v
+      → a ≡ RefusedUnbuilt p.layout → IsOutcome said file a text count
+  Drawn : (p : Paths) (r : Rules) (v : Library) → ReadsLayout said file p r v
+      → IsMade v r text count → a ≡ Good → IsOutcome said file a text count
+  UntoldRules : (p : Paths) → Runs said p → file p.rules ≡ Untold
+      → IsOutcome said file a text count
+  UntoldLayout : (p : Paths) (r : Rules) → ReadsRules said file p r → file p.layout ≡ Untold
+      → IsOutcome said file a text count

@@ -1,10 +1,13 @@
 -- What each answer of a run says of the depot and the sink that it was lent, whatever they tell.
 use Rattle.std.specs.Prelude.{◌≡◌, ◌⊎◌, ℕ, ◌+◌, ◌<◌, List, Option, Some, None, length}
-use Rattle.lvs_outside.specs.Store.{Store, Told, Untold, NoFile, Holds, Open, Closed, Reading, Writing, SameFiles, appended}
+use Rattle.lvs_outside.specs.Store.{Store, Told, Untold, NoFile, Holds, Open, Closed, Reading}
+use Rattle.lvs_outside.specs.Store.{Writing, SameFiles, appended}
 use Rattle.lvs_outside.specs.Summary.{SinkState}
 use Rattle.lvs_outside.specs.Loops.{limit, HoldsNow, ForPrefix}
 use Rattle.lvs_run.specs.Words.{Paths, same_path}
-use Rattle.lvs_run.specs.Answers.{Answer, Good, Bad, RefusedWords, RefusedSame, RefusedAbsent, RefusedLong, RefusedRules, RefusedLayout, RefusedUnbuilt, Undecided, Outside, NoMemory}
+use Rattle.lvs_run.specs.Answers.{Answer, Good, Bad, RefusedWords, RefusedSame, RefusedAbsent}
+use Rattle.lvs_run.specs.Answers.{RefusedLong, RefusedRules, RefusedLayout, RefusedUnbuilt}
+use Rattle.lvs_run.specs.Answers.{Undecided, Outside, NoMemory}
 use Rattle.lvs_run.specs.Lines.{line_of}
 
 -- faults of the depot and of the sink, an empty take being one
@@ -16,7 +19,8 @@ sink_faults s = s.faults + s.empty_takes
 
 -- a count of faults rose in the call, or neither did
 abbrev pub HaveRisen : Store → Store → SinkState → SinkState → Type 0
-HaveRisen old new before after = (depot_faults old < depot_faults new) ⊎ (sink_faults before < sink_faults after)
+HaveRisen old new before after = (depot_faults old < depot_faults new)
+    ⊎ (sink_faults before < sink_faults after)
 
 pub record HaveStood (old new : Store) (before after : SinkState) : Type 0 where
   pub depot : depot_faults new ≡ depot_faults old
@@ -86,10 +90,13 @@ HasCauseIn said old new Bad = ⊥
 HasCauseIn said old new RefusedWords = (said ≡ None) × (new.absent ≡ old.absent)
 HasCauseIn said old new (RefusedSame path) = IsSame said path × (new.absent ≡ old.absent)
 HasCauseIn said old new (RefusedAbsent path) = IsInputPath said path × WasAbsent old new path
-HasCauseIn said old new (RefusedLong path) = IsInputPath said path × IsReadTooFar new.opened path × (new.absent ≡ old.absent)
+HasCauseIn said old new (RefusedLong path) = IsInputPath said path × IsReadTooFar new.opened path
+    × (new.absent ≡ old.absent)
 HasCauseIn said old new (RefusedRules fault) = AreRulesRead said old new × (new.absent ≡ old.absent)
-HasCauseIn said old new (RefusedLayout number index offset) = IsLayoutRead said old new × (new.absent ≡ old.absent)
-HasCauseIn said old new (RefusedUnbuilt path) = IsLayoutRead said old new × IsLayout said path × (new.absent ≡ old.absent)
+HasCauseIn said old new (RefusedLayout number index offset) = IsLayoutRead said old new
+    × (new.absent ≡ old.absent)
+HasCauseIn said old new (RefusedUnbuilt path) = IsLayoutRead said old new × IsLayout said path
+    × (new.absent ≡ old.absent)
 HasCauseIn said old new Undecided = ⊥
 HasCauseIn said old new Outside = Unit {0}
 HasCauseIn said old new NoMemory = Unit {0}
@@ -116,8 +123,10 @@ Leaves said old new text Good = WritesShapes said old new text × (new.left_open
 Leaves said old new text Outside = Unit {0}
 Leaves said old new text a = StartsNone old new
 
--- the sink took the answer's line, and nothing where memory ran out; Outside says nothing of it here
+-- the sink took the answer's line, and nothing where memory ran out; Outside says nothing of it
+-- here
 abbrev pub Says : Answer → ℕ → SinkState → SinkState → Type 0
 Says Outside count before after = Unit {0}
-Says NoMemory count before after = (after.told ≡ before.told) × (after.write_calls ≡ before.write_calls)
+Says NoMemory count before after = (after.told ≡ before.told) × (after.write_calls
+    ≡ before.write_calls)
 Says a count before after = after.told ≡ appended before.told (line_of a count)

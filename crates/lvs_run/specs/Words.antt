@@ -1,5 +1,6 @@
 -- What the words after the program's name state.
-use Rattle.std.specs.Prelude.{◌≡◌, ℕ, ◌==◌, ◌&&◌, ◌||◌, not, Bool, false, List, [], ◌∷◌, Option, Some, None, if◌then◌else◌, string_bytes, codes}
+use Rattle.std.specs.Prelude.{◌≡◌, ℕ, ◌==◌, ◌&&◌, ◌||◌, not, Bool, false, List, [], ◌∷◌, Option}
+use Rattle.std.specs.Prelude.{Some, None, if◌then◌else◌, string_bytes, codes}
 use Rattle.std.specs.Str.{bytes_eq}
 use Rattle.lvs_run.specs.declared.words.Command.{Command}
 use Rattle.lvs_run.specs.declared.words.Command.TheVariants.{Shapes}
@@ -27,8 +28,10 @@ said words = None
 
 -- the command holds these paths
 abbrev pub IsSaid : Option Paths → Command → Type 0
-IsSaid stated (Shapes layout rules shapes) = stated ≡ Some (paths_of (string_bytes layout) (string_bytes rules) (string_bytes shapes))
+IsSaid stated (Shapes layout rules shapes) = stated ≡ Some (paths_of (string_bytes layout)
+    (string_bytes rules) (string_bytes shapes))
 
 -- the path that is to be written, where another file of the command has it too
 abbrev pub same_path : Paths → Option (List ℕ)
-same_path p = if bytes_eq p.layout p.shapes || bytes_eq p.rules p.shapes then Some p.shapes else None
+same_path p = if bytes_eq p.layout p.shapes || bytes_eq p.rules p.shapes then Some p.shapes
+    else None

@@ -28,8 +28,10 @@ impl From<AllocError> for Stop {
 pub fn read_input<D: Depot>(alloc: Global, depot: &mut D, path: &String) -> Result<Vec<u8>, Stop>
     requires { HasRoom (D.state depot.old) }
     ensures quiet { Quiet (D.state depot.old) (D.state depot.new) }
-    ensures got { IfOk result (λ bytes. Got (D.state depot.old) (D.state depot.new) (string_bytes path.now) bytes.items) }
-    ensures refused { IfErr result (λ why. Refuses (D.state depot.old) (D.state depot.new) (string_bytes path.now) (stopped why)) }
+    ensures got { IfOk result (λ bytes. Got (D.state depot.old) (D.state depot.new)
+        (string_bytes path.now) bytes.items) }
+    ensures refused { IfErr result (λ why. Refuses (D.state depot.old) (D.state depot.new)
+        (string_bytes path.now) (stopped why)) }
 {
     match depot.open_read(path.as_str()) {
         Ok(true) => {}

@@ -8,7 +8,8 @@ ghost use Rattle.lvs_outside.specs.Summary.{SinkHasRoom};
 ghost use Rattle.lvs_run.specs.Answers.{answer_of, refused, refused_rules};
 ghost use Rattle.lvs_run.specs.Ends.{ComesOut, Delivered, Refused};
 ghost use Rattle.lvs_run.specs.Flat.{WritesFlat};
-ghost use Rattle.lvs_run.specs.Inputs.{IsOutput, IsReady, NotMade, Quiet, ReadAs, RefusesLayout, RefusesRules, Stops, stopped};
+ghost use Rattle.lvs_run.specs.Inputs.{IsOutput, IsReady, NotMade, Quiet, ReadAs, RefusesLayout};
+ghost use Rattle.lvs_run.specs.Inputs.{RefusesRules, Stops, stopped};
 ghost use Rattle.lvs_run.specs.Runs.{HasCauseIn, ShowsFaults};
 ghost use Rattle.lvs_run.specs.Words.{paths_of, said, same_path};
 ghost use Rattle.rule_text.specs.Reading.{Means};
@@ -47,9 +48,11 @@ fn rules_stop(fault: RuleFault) -> Stop
 fn rules_of<D: Depot>(alloc: Global, depot: &mut D, path: &String) -> Result<RuleSet, Stop>
     requires { HasRoom (D.state depot.old) }
     ensures quiet { Quiet (D.state depot.old) (D.state depot.new) }
-    ensures found { IfOk result (λ r. ReadAs (D.state depot.old) (D.state depot.new) (string_bytes path.now) (λ bytes. Means bytes (rules_seen r))) }
+    ensures found { IfOk result (λ r. ReadAs (D.state depot.old) (D.state depot.new)
+        (string_bytes path.now) (λ bytes. Means bytes (rules_seen r))) }
     ensures sound { IfOk result (λ r. IsSound (rules_seen r)) }
-    ensures refused { IfErr result (λ why. RefusesRules (D.state depot.old) (D.state depot.new) (string_bytes path.now) (stopped why)) }
+    ensures refused { IfErr result (λ why. RefusesRules (D.state depot.old) (D.state depot.new)
+        (string_bytes path.now) (stopped why)) }
 {
     let bytes = match read_input(alloc, depot, path) {
         Ok(bytes) => bytes,
@@ -65,8 +68,10 @@ fn rules_of<D: Depot>(alloc: Global, depot: &mut D, path: &String) -> Result<Rul
 fn library_of<D: Depot>(alloc: Global, depot: &mut D, path: &String) -> Result<Library, Stop>
     requires { HasRoom (D.state depot.old) }
     ensures quiet { Quiet (D.state depot.old) (D.state depot.new) }
-    ensures found { IfOk result (λ v. ReadAs (D.state depot.old) (D.state depot.new) (string_bytes path.now) (λ bytes. Accepts bytes (library_seen v))) }
-    ensures refused { IfErr result (λ why. RefusesLayout (D.state depot.old) (D.state depot.new) (string_bytes path.now) (stopped why)) }
+    ensures found { IfOk result (λ v. ReadAs (D.state depot.old) (D.state depot.new)
+        (string_bytes path.now) (λ bytes. Accepts bytes (library_seen v))) }
+    ensures refused { IfErr result (λ why. RefusesLayout (D.state depot.old) (D.state depot.new)
+        (string_bytes path.now) (stopped why)) }
 {
     let bytes = match read_input(alloc, depot, path) {
         Ok(bytes) => bytes,
@@ -88,8 +93,10 @@ fn output_of(
     shapes: String,
 ) -> Result<Output, Stop>
     requires { IsAccepted (library_seen library.now) }
-    ensures made { IfOk result (λ o. IsOutput (string_bytes shapes) (library_seen library.now) (rules_seen rules.now) o) }
-    ensures stops { IfErr result (λ why. NotMade (string_bytes layout) (library_seen library.now) (stopped why)) }
+    ensures made { IfOk result (λ o. IsOutput (string_bytes shapes) (library_seen library.now)
+        (rules_seen rules.now) o) }
+    ensures stops { IfErr result (λ why. NotMade (string_bytes layout) (library_seen library.now)
+        (stopped why)) }
 {
     let Some(made) = make_shapes(alloc, library, rules)? else {
         return Err(Stop::Refused(Refusal::Unbuilt(layout)));
@@ -119,8 +126,11 @@ fn shapes_output<D: Depot>(
 ) -> Result<Output, Stop>
     requires { HasRoom (D.state depot.old) }
     ensures quiet { Quiet (D.state depot.old) (D.state depot.new) }
-    ensures ready { IfOk result (λ o. IsReady (Some (paths_of (string_bytes layout) (string_bytes rules) (string_bytes shapes))) (D.state depot.old) (D.state depot.new) o) }
-    ensures stops { IfErr result (λ why. Stops (Some (paths_of (string_bytes layout) (string_bytes rules) (string_bytes shapes))) (D.state depot.old) (D.state depot.new) (stopped why)) }
+    ensures ready { IfOk result (λ o. IsReady (Some (paths_of (string_bytes layout)
+        (string_bytes rules) (string_bytes shapes))) (D.state depot.old) (D.state depot.new) o) }
+    ensures stops { IfErr result (λ why. Stops (Some (paths_of (string_bytes layout)
+        (string_bytes rules) (string_bytes shapes))) (D.state depot.old) (D.state depot.new)
+        (stopped why)) }
 {
     if is_same(&layout, &shapes) || is_same(&rules, &shapes) {
         return Err(Stop::Refused(Refusal::SamePath(shapes)));
@@ -143,8 +153,10 @@ fn shapes_output<D: Depot>(
 fn prepare<D: Depot>(alloc: Global, words: &[String], depot: &mut D) -> Result<Output, Stop>
     requires { HasRoom (D.state depot.old) }
     ensures quiet { Quiet (D.state depot.old) (D.state depot.new) }
-    ensures ready { IfOk result (λ o. IsReady (said (map string_bytes words.now)) (D.state depot.old) (D.state depot.new) o) }
-    ensures stops { IfErr result (λ why. Stops (said (map string_bytes words.now)) (D.state depot.old) (D.state depot.new) (stopped why)) }
+    ensures ready { IfOk result (λ o. IsReady (said (map string_bytes words.now))
+        (D.state depot.old) (D.state depot.new) o) }
+    ensures stops { IfErr result (λ why. Stops (said (map string_bytes words.now))
+        (D.state depot.old) (D.state depot.new) (stopped why)) }
 {
     match read_words(alloc, words) {
         Ok(
@@ -177,7 +189,8 @@ fn refuse<S: Sink>(alloc: Global, why: Refusal, out: &mut S) -> Status
 fn deliver<D: Depot, S: Sink>(output: &Output, depot: &mut D, out: &mut S) -> Status
     requires depot { HasRoom (D.state depot.old) }
     requires out { SinkHasRoom (S.state out.old) }
-    ensures { Delivered output.now (D.state depot.old) (D.state depot.new) (S.state out.old) (S.state out.new) (answer_of result) }
+    ensures { Delivered output.now (D.state depot.old) (D.state depot.new) (S.state out.old)
+        (S.state out.new) (answer_of result) }
 {
     if write_file(depot, output.path.as_str(), output.text.as_slice()).is_err() {
         return Status::Outside;
@@ -188,9 +201,11 @@ fn deliver<D: Depot, S: Sink>(output: &Output, depot: &mut D, out: &mut S) -> St
     Status::Good
 }
 
-/// Runs the command that the words state, over the files of the depot, and gives the sink its summary line.
+/// Runs the command that the words state, over the files of the depot, and gives the sink its
+/// summary line.
 ///
-/// All that is written is complete in memory before the first write. After a failed call neither object is called again.
+/// All that is written is complete in memory before the first write. After a failed call neither
+/// object is called again.
 /// The layout is read to its end, or past the limit, before its fault is answered.
 pub fn run_lvs<D: Depot, S: Sink>(
     alloc: Global,
@@ -201,13 +216,19 @@ pub fn run_lvs<D: Depot, S: Sink>(
     requires depot { HasRoom (D.state depot.old) }
     requires out { SinkHasRoom (S.state out.old) }
     // Outside is answered exactly where a count of faults rose.
-    ensures faults { ShowsFaults (answer_of result) (D.state depot.old) (D.state depot.new) (S.state out.old) (S.state out.new) }
-    // Each refusal has its cause, and other answers come only without one, whatever depot and sink tell.
-    ensures cause { HasCauseIn (said (map string_bytes words.now)) (D.state depot.old) (D.state depot.new) (answer_of result) }
+    ensures faults { ShowsFaults (answer_of result) (D.state depot.old) (D.state depot.new)
+        (S.state out.old) (S.state out.new) }
+    // Each refusal has its cause, and other answers come only without one, whatever depot and sink
+    // tell.
+    ensures cause { HasCauseIn (said (map string_bytes words.now)) (D.state depot.old)
+        (D.state depot.new) (answer_of result) }
     // Where the files are told, the answer, the written file and the line are what they come to.
-    ensures outcome { ComesOut (said (map string_bytes words.now)) (D.state depot.old) (D.state depot.new) (S.state out.old) (S.state out.new) (answer_of result) }
-    // What is written after Good covers exactly the flat rules' unit squares of the layout, where the files are told.
-    ensures flat { WritesFlat (said (map string_bytes words.now)) (D.state depot.old) (D.state depot.new) (answer_of result) }
+    ensures outcome { ComesOut (said (map string_bytes words.now)) (D.state depot.old)
+        (D.state depot.new) (S.state out.old) (S.state out.new) (answer_of result) }
+    // What is written after Good covers exactly the flat rules' unit squares of the layout, where
+    // the files are told.
+    ensures flat { WritesFlat (said (map string_bytes words.now)) (D.state depot.old)
+        (D.state depot.new) (answer_of result) }
 {
     match prepare(alloc, words, depot) {
         Ok(output) => deliver(&output, depot, out),

@@ -34,7 +34,8 @@ pub enum Refusal {
     Rules(RuleFault),
     /// The layout's first fault.
     Layout(GdsFault),
-    /// The layout is sound, and this program doesn't read its form yet: it isn't one cell without references within
+    /// The layout is sound, and this program doesn't read its form yet: it isn't one cell without
+    /// references within
     /// plus or minus 2^30.
     Unbuilt(String),
 }

@@ -1,7 +1,8 @@
 // The words after the program's name.
 ghost use Rattle.std.specs.Prelude.{◌≡◌, ◌≢◌, map, IfOk, IfErr, IsErrOf, None, Some, string_bytes};
 ghost use Rattle.lvs_run.specs.Words.{said, IsSaid, is_value};
-ghost use Rattle.lvs_run.specs.declared.words.WordFault.TheVariants.{Refused as RefusedWords, NoMemory as NoMemoryWords};
+ghost use Rattle.lvs_run.specs.declared.words.WordFault.TheVariants.{Refused as RefusedWords};
+ghost use Rattle.lvs_run.specs.declared.words.WordFault.TheVariants.{NoMemory as NoMemoryWords};
 
 use std::alloc::{AllocError, Global};
 use thiserror::Error;
@@ -43,7 +44,8 @@ fn is_value(word: &str) -> bool
     }
 }
 
-/// The command that the words state. `Refused` where they state none. Takes memory for the three paths.
+/// The command that the words state. `Refused` where they state none. Takes memory for the three
+/// paths.
 pub fn read_words(alloc: Global, words: &[String]) -> Result<Command, WordFault>
     ensures found { IfOk result (λ c. IsSaid (said (map string_bytes words.now)) c) }
     ensures refused { IsErrOf result WordFault.Refused → said (map string_bytes words.now) ≡ None }

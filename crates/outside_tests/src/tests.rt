@@ -30,13 +30,26 @@ fn write_and_read<D: Depot>(
 fn file_depot_keeps_a_file(rt: HostRuntime) -> Result<(), Fail> {
     let alloc = rt.alloc();
     let mut back = Vec::new(alloc);
-    let path = "/tmp/lvs_outside_tests_file";
+    let path = "lvs_outside_tests_file";
     let answer = write_and_read(&mut FileDepot::new(&rt), path, b"GDS\x00\xff", &mut back);
     fs::remove_file(&rt, path)?;
     assert_eq!(rt; answer, Ok(true));
     assert_eq!(rt; back.as_slice(), b"GDS\x00\xff".as_slice());
     let absent = FileDepot::new(&rt).open_read(path);
     assert_eq!(rt; absent, Ok(false));
+    Ok(())
+}
+
+// A folder that isn't there: the file can't be started, and none is found. A full device takes no byte.
+#[test]
+fn file_depot_fails(rt: HostRuntime) -> Result<(), Fail> {
+    let alloc = rt.alloc();
+    let mut back = Vec::new(alloc);
+    let mut depot = FileDepot::new(&rt);
+    let answer = write_and_read(&mut depot, "no_folder/file", b"GDS", &mut back);
+    assert_eq!(rt; answer, Err(ReadFault::Failed));
+    assert_eq!(rt; depot.open_read("no_folder/file"), Ok(false));
+    assert!(rt; write_file(&mut FileDepot::new(&rt), "/dev/full", b"GDS").is_err());
     Ok(())
 }
 

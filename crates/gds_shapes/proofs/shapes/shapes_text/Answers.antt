@@ -3,7 +3,7 @@ use Rattle.std.proofs.Common.{◌∙◌, sym, ap, subst, ℕ, List, ◌++◌}
 use Rattle.std.specs.Prelude.{map}
 use Rattle.std.specs.List.{flat_map}
 use Rattle.gds_records.specs.Records.{record_bytes, NoRecords}
-use Rattle.gds_elements.specs.Kinds.{BGNSTR, STRNAME, ENDSTR, ENDLIB}
+use Rattle.gds_records.specs.Kinds.{BGNSTR, STRNAME, ENDSTR, ENDLIB}
 use Rattle.gds_elements.specs.Faults.{Accepts}
 use Rattle.gds_elements.specs.Reading.{library_seen, cell_seen}
 use Rattle.gds_shapes.specs.Stream.{bare, numbers, string, header, layer, layer_seen, stream_list}

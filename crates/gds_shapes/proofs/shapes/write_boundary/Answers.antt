@@ -1,7 +1,7 @@
 use Rattle.std.proofs.Common.{◌∙◌, ℕ, List, ◌++◌, ap}
 use Rattle.std.proofs.lemmas.Result.{IfOk-equal}
 use Rattle.gds_records.specs.Records.{record_bytes}
-use Rattle.gds_elements.specs.Kinds.{BOUNDARY, LAYER, DATATYPE, XY, ENDEL}
+use Rattle.gds_records.specs.Kinds.{BOUNDARY, LAYER, DATATYPE, XY, ENDEL}
 use Rattle.gds_elements.specs.Reading.{rec}
 use Rattle.gds_shapes.specs.Stream.{bare, number, outline}
 use Rattle.gds_shapes.proofs.Joined.{five}

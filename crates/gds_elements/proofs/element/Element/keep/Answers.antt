@@ -1,7 +1,8 @@
 use Rattle.std.proofs.Common.{◌≡◌, ℕ, false, List, rules, refl, sym, ap, ◌∙◌, eq-eqb}
 use Rattle.std.specs.Prelude.{◌==◌, ◌||◌}
 use Rattle.gds_records.specs.Records.{◌▸◌}
-use Rattle.gds_elements.specs.Kinds.{XY, STRING, SNAME, is_bound}
+use Rattle.gds_records.specs.Kinds.{XY, STRING, SNAME}
+use Rattle.gds_elements.specs.Bounds.{is_bound}
 use Rattle.gds_elements.specs.Data.{points_of, trimmed}
 use Rattle.gds_elements.specs.Meaning.{part, text_part}
 use Rattle.gds_elements.specs.Reading.{rec}

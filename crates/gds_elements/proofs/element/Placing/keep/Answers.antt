@@ -1,6 +1,6 @@
 use Rattle.std.proofs.Common.{◌≡◌, ℕ, List, rules, ap, ◌∙◌}
 use Rattle.gds_records.specs.Records.{◌▸◌}
-use Rattle.gds_elements.specs.Kinds.{STRANS, ANGLE, COLROW, XY}
+use Rattle.gds_records.specs.Kinds.{STRANS, ANGLE, COLROW, XY}
 use Rattle.gds_elements.specs.Data.{number, side, columns_in, rows_in}
 use Rattle.std.specs.Prelude.{nat_le}
 use Rattle.gds_elements.specs.Meaning.{part, quarters}

@@ -1,5 +1,5 @@
--- The kinds of records by name (GDSII Stream Format, Release 6).
-use Rattle.std.specs.Prelude.{ℕ, Bool, ◌==◌, ◌||◌}
+-- The kinds of records by name (GDSII Stream Format, Release 6, record types).
+use Rattle.std.specs.Prelude.{ℕ, List, [], ◌∷◌}
 
 abbrev pub HEADER : ℕ
 HEADER = 0x00
@@ -82,8 +82,20 @@ MAG = 0x1B
 abbrev pub ANGLE : ℕ
 ANGLE = 0x1C
 
+abbrev pub REFLIBS : ℕ
+REFLIBS = 0x1F
+
+abbrev pub FONTS : ℕ
+FONTS = 0x20
+
 abbrev pub PATHTYPE : ℕ
 PATHTYPE = 0x21
+
+abbrev pub GENERATIONS : ℕ
+GENERATIONS = 0x22
+
+abbrev pub ATTRTABLE : ℕ
+ATTRTABLE = 0x23
 
 abbrev pub ELFLAGS : ℕ
 ELFLAGS = 0x26
@@ -112,10 +124,20 @@ BGNEXTN = 0x30
 abbrev pub ENDEXTN : ℕ
 ENDEXTN = 0x31
 
--- an element begins
-abbrev pub is_start : ℕ → Bool
-is_start kind = kind == BOUNDARY || kind == PATH || kind == SREF || kind == AREF || kind == TEXT || kind == NODE || kind == BOX
+abbrev pub FORMAT : ℕ
+FORMAT = 0x36
 
--- an element begins or ends
-abbrev pub is_bound : ℕ → Bool
-is_bound kind = is_start kind || kind == ENDEL
+abbrev pub MASK : ℕ
+MASK = 0x37
+
+abbrev pub ENDMASKS : ℕ
+ENDMASKS = 0x38
+
+-- the kinds that the format has
+abbrev pub kinds : List ℕ
+kinds =
+    HEADER ∷ BGNLIB ∷ LIBNAME ∷ UNITS ∷ ENDLIB ∷ BGNSTR ∷ STRNAME ∷ ENDSTR ∷ BOUNDARY ∷ PATH ∷
+    SREF ∷ AREF ∷ TEXT ∷ LAYER ∷ DATATYPE ∷ WIDTH ∷ XY ∷ ENDEL ∷ SNAME ∷ COLROW ∷ NODE ∷
+    TEXTTYPE ∷ PRESENTATION ∷ STRING ∷ STRANS ∷ MAG ∷ ANGLE ∷ REFLIBS ∷ FONTS ∷ PATHTYPE ∷
+    GENERATIONS ∷ ATTRTABLE ∷ ELFLAGS ∷ NODETYPE ∷ PROPATTR ∷ PROPVALUE ∷ BOX ∷ BOXTYPE ∷ PLEX ∷
+    BGNEXTN ∷ ENDEXTN ∷ FORMAT ∷ MASK ∷ ENDMASKS ∷ []
