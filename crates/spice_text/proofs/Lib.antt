@@ -1,3 +1,4 @@
 pub mod SearchLemmas
 pub mod CallLemmas
 pub mod NeedLemmas
+pub mod MeansLemmas
