@@ -2,3 +2,4 @@ pub mod SearchLemmas
 pub mod CallLemmas
 pub mod NeedLemmas
 pub mod MeansLemmas
+pub mod WriteLemmas

@@ -7,3 +7,4 @@ pub mod Ordered
 pub mod Needs
 pub mod Table
 pub mod Means
+pub mod Written

@@ -10,6 +10,8 @@ mod nets;
 mod numbers;
 mod ordered;
 mod read;
+mod write;
 
 pub use read::read_spice;
 pub use spice_rows::SpiceFault;
+pub use write::write_spice;
