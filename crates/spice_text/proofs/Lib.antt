@@ -1,3 +1,5 @@
 pub mod SearchLemmas
 pub mod CallLemmas
 pub mod NeedLemmas
+pub mod MeansLemmas
+pub mod WriteLemmas

@@ -1,5 +1,5 @@
 -- What is first wrong with the cards of a text as a whole.
-use Rattle.std.specs.Prelude.{◌≡◌, ◌<◌, ◌==◌, ℕ, Bool, true, false, not, List, length, take, slice_get, Option, Some, None}
+use Rattle.std.specs.Prelude.{◌≡◌, ◌<◌, ◌==◌, ◌^◌, ℕ, Bool, true, false, not, List, length, take, slice_get, Option, Some, None}
 use Rattle.plain_netlist.specs.Lists.{IsListed}
 use Rattle.text_table.specs.Texts.{has_text}
 use Rattle.call_order.specs.Order.{ReachesItself, IsFirstInCycle, IsCallOrder}
@@ -72,10 +72,12 @@ IsWholeFault cards (NotClosed line) = (c : Circuit) × (cards.open_one ≡ Some 
 IsWholeFault cards NoMemory = Unit {0}
 IsWholeFault cards fault = (cards.open_one ≡ None) × IsCircuitsFault (all_of cards) fault
 
--- nothing is wrong with circuits, whose calls are these
-pub record AreOrdered (cs : List Circuit) (calls : List (List ℕ)) (order : List ℕ) : Type 0 where
+-- nothing is wrong with circuits, whose names and calls are these
+pub record AreOrdered (cs : List Circuit) (names : List (List ℕ)) (calls : List (List ℕ)) (order : List ℕ) : Type 0 where
   pub one : Lacks (IsSecond cs)
   pub called : Lacks (HasCall cs (is_missing cs))
   pub counts : Lacks (HasCall cs (is_other_count cs))
+  pub few : length cs < 2 ^ 32
+  pub texts : names ≡ names_of cs
   pub lists : calls ≡ call_lists cs
   pub in_order : IsCallOrder (call_lists cs) order

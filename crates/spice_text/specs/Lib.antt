@@ -6,3 +6,5 @@ pub mod Seen
 pub mod Ordered
 pub mod Needs
 pub mod Table
+pub mod Means
+pub mod Written

@@ -12,4 +12,4 @@ pub record IsOrdered (cards : Cards) (o : OrderedCards) : Type 0 where
   pub ended : cards.open_one ≡ None
   pub circuits : map circuit_seen o.circuits.items ≡ all_of cards
   pub globals : o.globals.items ≡ cards.globals
-  pub order : AreOrdered (all_of cards) (lists o.calls.items) o.order.items
+  pub order : AreOrdered (all_of cards) o.names (lists o.calls.items) o.order.items

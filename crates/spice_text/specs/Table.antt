@@ -1,12 +1,12 @@
 -- A table of needs: for each circuit, which of the global names it needs.
-use Rattle.std.specs.Prelude.{◌≡◌, ◌↔◌, ℕ, ◌+◌, ◌<◌, Bool, true, false, not, ◌&&◌, ◌||◌, List, [], ◌∷◌, length, map, set, slice_get, slice_index_or, Option, Some, None}
+use Rattle.std.specs.Prelude.{◌≡◌, ◌↔◌, ℕ, ◌+◌, ◌<◌, Bool, true, false, not, ◌&&◌, ◌||◌, List, [], ◌∷◌, length, map, set, slice_get, slice_index_or, Option, Some, None, if◌then◌else◌}
 use Rattle.std.specs.Global.{Vec}
 use Rattle.std.specs.List.{list_any}
 use Rattle.plain_netlist.specs.Lists.{IsListed}
 use Rattle.text_table.specs.Texts.{has_text}
 use Rattle.spice_rows.specs.Rows.{CallCard}
 use Rattle.spice_text.specs.Gather.{Circuit}
-use Rattle.spice_text.specs.Circuits.{call_lists}
+use Rattle.spice_text.specs.Circuits.{called_in, call_lists}
 use Rattle.spice_text.specs.Needs.{first_seen, used_nets, is_pin, is_used, Needs}
 
 abbrev pub bools : List (Vec Bool) → List (List Bool)
@@ -59,3 +59,19 @@ pub record AreSettled (cs : List Circuit) (globals : List (List ℕ)) (done : Li
 pub record IsNeedTable (cs : List Circuit) (globals : List (List ℕ)) (rows : List (List Bool)) : Type 0 where
   pub count : length rows ≡ length cs
   pub each : (k j : ℕ) (g : List ℕ) → k < length cs → slice_get globals j ≡ Some g → (bit rows k j ≡ true) ↔ Needs cs g k
+
+-- the names that a row says
+abbrev pub picked : List Bool → List (List ℕ) → List (List ℕ)
+picked bits [] = []
+picked [] (g ∷ gs) = []
+picked (b ∷ bs) (g ∷ gs) = if b then g ∷ picked bs gs else picked bs gs
+
+-- the names that the table says of circuit k
+abbrev pub needed_of : List (List Bool) → List (List ℕ) → ℕ → List (List ℕ)
+needed_of rows globals k = picked (slice_index_or rows k []) globals
+
+-- some names and then those of calls with what the called circuits need, each once
+abbrev pub seen_with_needs : List (List ℕ) → (ℕ → List (List ℕ)) → List (List ℕ) → List CallCard → List (List ℕ)
+seen_with_needs names needed seen [] = seen
+seen_with_needs names needed seen (r ∷ rs) =
+    seen_with_needs names needed (first_seen (first_seen seen r.nets) (needed (called_in names r))) rs

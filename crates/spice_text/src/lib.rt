@@ -2,10 +2,16 @@
 #![tactic(auto)]
 
 mod calls;
+mod circuits;
 mod faults;
 mod gather;
 mod needs;
+mod nets;
+mod numbers;
 mod ordered;
+mod read;
+mod write;
 
-pub use gather::{CircuitCards, Gathered, gather_cards};
-pub use ordered::{OrderedCards, order_cards};
+pub use read::read_spice;
+pub use spice_rows::SpiceFault;
+pub use write::write_spice;

@@ -12,13 +12,15 @@ use call_order::{CallOrder, call_order};
 use net_names::Name;
 use spice_rows::SpiceFault;
 use std::alloc::{AllocError, Global};
+use text_table::TextTable;
 
 /// Circuits, whose calls fit, with an order of them in which each stands behind those that it
-/// calls.
+/// calls. `names` has the circuits' names, and `calls` the numbers of those that each calls.
 #[derive(Drop)]
 pub struct OrderedCards {
     pub circuits: Vec<CircuitCards>,
     pub globals: Vec<Name>,
+    pub names: TextTable,
     pub calls: Vec<Vec<u32>>,
     pub order: Vec<u32>,
 }
@@ -50,9 +52,10 @@ pub fn order_cards(alloc: Global, all: Gathered) -> Result<OrderedCards, SpiceFa
     }
     let circuits = all_of(all.circuits, all.outside)?;
     match ordered(alloc, &circuits) {
-        Ok((calls, order)) => Ok(OrderedCards {
+        Ok((names, calls, order)) => Ok(OrderedCards {
             circuits,
             globals: all.globals,
+            names,
             calls,
             order,
         }),
@@ -63,9 +66,9 @@ pub fn order_cards(alloc: Global, all: Gathered) -> Result<OrderedCards, SpiceFa
 fn ordered(
     alloc: Global,
     circuits: &[CircuitCards],
-) -> Result<(Vec<Vec<u32>>, Vec<u32>), SpiceFault>
+) -> Result<(TextTable, Vec<Vec<u32>>, Vec<u32>), SpiceFault>
     ensures ordered { IfOk result (λ r. AreOrdered (map circuit_seen circuits.now)
-        (lists r.0.items) r.1.items) }
+        r.0 (lists r.1.items) r.2.items) }
     ensures fault { IfErr result (IsCircuitsFault (map circuit_seen circuits.now)) }
 {
     let names = circuit_names(alloc, circuits)?;
@@ -80,7 +83,7 @@ fn ordered(
     }
     let calls = call_lists(alloc, &names, circuits)?;
     match call_order(alloc, &calls)? {
-        CallOrder::CalleesFirst(order) => Ok((calls, order)),
+        CallOrder::CalleesFirst(order) => Ok((names, calls, order)),
         CallOrder::Cycle(k) => {
             let name = circuits[k as usize].name.try_clone(alloc)?;
             Err(SpiceFault::CircuitCycle(name))

@@ -25,8 +25,8 @@ call_order-requires-clause-few c =
     let b = c.if-circuits-gt4294967295.false in
     rw v (rw n (search rules))
 
-pub returns-clause-fault : goal.returns-clause-fault
-returns-clause-fault c =
+pub returns-in_ok-name-in-Cycle-clause-fault : goal.returns-in_ok-name-in-Cycle-clause-fault
+returns-in_ok-name-in-Cycle-clause-fault c =
     let cs = map circuit_seen c.args.circuits.now in
     let missing : Lacks (HasCall cs (is_missing cs)) = subst (λ (o : Option ℕ). FindsLeast (HasCall cs (is_missing cs)) o) c.in_default.is c.first_missing.ensures in
     let other : Lacks (HasCall cs (is_other_count cs)) = subst (λ (o : Option ℕ). FindsLeast (HasCall cs (is_other_count cs)) o) c.in_default-first_other_count.is c.first_other_count.ensures in

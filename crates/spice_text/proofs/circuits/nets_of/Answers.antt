@@ -1,0 +1,18 @@
+use Rattle.std.proofs.Common.{◌≡◌, ◌∙◌, Result, Ok, Err, IfOk, [], List, ℕ}
+use Rattle.std.specs.Prelude.{flat_map}
+use Rattle.spice_text.specs.Needs.{first_seen, device_nets}
+use Rattle.spice_text.specs.Table.{bools, needed_of, seen_with_needs}
+use Rattle.spice_text.specs.Means.{net_names}
+use Rattle.spice_text.specs.Seen.{circuit_seen}
+use Rattle.spice_text.specs.declared.nets.Nets.{Nets}
+use Rattle.spice_text.proofs.MeansLemmas.{seen_appearances}
+use Rattle.spice_text.proofs.circuits.nets_of.Goals as goal
+
+over : {E : Type 0} (r : Result Nets E) (a b : List (List ℕ)) → a ≡ b → IfOk r (λ nets. nets.table ≡ a) → IfOk r (λ nets. nets.table ≡ b)
+over (Ok nets) a b e h = h ∙ e
+over (Err x) a b e h = h
+
+pub returns-clause-table : goal.returns-clause-table
+returns-clause-table c =
+    let names = c.args.names.now in
+    over c.seen_nets.result _ _ (seen_appearances names (needed_of (bools c.args.rows.now) c.args.globals.now) c.args.k (circuit_seen c.args.c.now)) c.seen_nets.ensures.table

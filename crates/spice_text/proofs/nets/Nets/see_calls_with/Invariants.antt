@@ -1,0 +1,12 @@
+use Rattle.std.proofs.Common.{◌≡◌, ◌++◌, [], ◌∷◌, map, length, None}
+use Rattle.std.specs.Prelude.{flat_map}
+use Rattle.spice_rows.specs.Seen.{call_seen, device_seen}
+use Rattle.spice_text.specs.Needs.{first_seen, device_nets}
+use Rattle.spice_text.specs.Table.{bools, picked, needed_of, seen_in_calls, seen_with_needs}
+use Rattle.spice_text.proofs.nets.Nets.see_calls_with.Given as goal
+
+abbrev pub invariant-calls : goal.invariant-calls
+invariant-calls l = (l.self.names.items ≡ l.self.table) × (seen_with_needs l.names (needed_of (bools l.rows) l.globals) l.self.table (map call_seen l.rest) ≡ seen_with_needs l.names (needed_of (bools l.rows) l.globals) l.fn.self.table (map call_seen l.calls))
+
+abbrev pub decreases-calls : goal.decreases-calls
+decreases-calls l = length l.rest

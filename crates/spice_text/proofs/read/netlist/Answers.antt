@@ -1,0 +1,9 @@
+use Rattle.std.proofs.Common.{◌≡◌}
+use Rattle.net_model.specs.Rows.{plain_netlist}
+use Rattle.spice_text.proofs.MeansLemmas.{netlist_is}
+use Rattle.spice_text.proofs.read.netlist.Goals as goal
+
+pub returns : goal.returns
+returns c = netlist_is c.args.cards.now.circuits.items c.deref-2.result.now c.deref-8.result.now c.args.cards.now.globals.items c.deref.result.now c.in_ok-globals.globals.items c.deref-5.result.now c.deref-7.result.now
+    c.args.cards.now.names c.in_ok-rows.rows.items c.deref-6.result.now (plain_netlist record { circuits = c.in_ok-circuits.circuits }) c.deref-2.ensures.value c.deref-8.ensures.value c.deref.ensures.value c.in_ok-globals.ensures
+    c.deref-5.ensures.value c.deref-7.ensures.value c.deref-6.ensures.value c.requires.texts c.in_ok-rows.ensures c.in_ok-circuits.ensures

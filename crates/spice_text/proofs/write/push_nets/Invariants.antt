@@ -1,0 +1,10 @@
+use Rattle.std.proofs.Common.{◌≡◌, ◌++◌, ◌≤◌, ◌+◌, [], ◌∷◌, map, length, None}
+use Rattle.net_model.specs.Rows.{plain_device, plain_call, plain_circuit}
+use Rattle.spice_text.specs.Written.{nets_text, calls_text, IsDeviceText, IsCircuitText, HasWritten}
+use Rattle.spice_text.proofs.write.push_nets.Given as goal
+
+abbrev pub invariant-nets : goal.invariant-nets
+invariant-nets l = l.out.items ++ nets_text l.nets l.rest ≡ l.initial.out.items ++ nets_text l.nets l.numbers
+
+abbrev pub decreases-nets : goal.decreases-nets
+decreases-nets l = length l.rest

@@ -1,0 +1,10 @@
+use Rattle.std.proofs.Common.{◌≡◌, ◌++◌, ◌≤◌, ◌+◌, [], ◌∷◌, map, length, None}
+use Rattle.net_model.specs.Rows.{plain_device, plain_call, plain_circuit}
+use Rattle.spice_text.specs.Written.{nets_text, calls_text, IsDeviceText, IsCircuitText, HasWritten}
+use Rattle.spice_text.proofs.write.write_calls.Given as goal
+
+abbrev pub invariant-calls : goal.invariant-calls
+invariant-calls l = (l.out.items ++ calls_text (map plain_circuit l.circuits) l.nets l.k (map plain_call l.rest) ≡ l.initial.out.items ++ calls_text (map plain_circuit l.circuits) l.nets 1 (map plain_call l.calls)) × (l.k + length l.rest ≤ length l.calls + 1)
+
+abbrev pub decreases-calls : goal.decreases-calls
+decreases-calls l = length l.rest

@@ -1,0 +1,121 @@
+ghost use Rattle.std.specs.Prelude.{◌≡◌, ◌<◌, ◌^◌, [], flat_map, map, length, IfOk};
+ghost use Rattle.net_model.specs.Rows.{plain_circuit};
+ghost use Rattle.spice_text.specs.Needs.{first_seen, device_nets};
+ghost use Rattle.spice_text.specs.Table.{bools, needed_of, seen_with_needs};
+ghost use Rattle.spice_text.specs.Means.{net_names, row_over, circuit_row, rows_from};
+ghost use Rattle.spice_text.specs.Seen.{circuit_seen};
+
+use crate::gather::CircuitCards;
+use crate::nets::{Nets, row_at};
+use crate::numbers::{call_rows, device_rows, net_numbers};
+use net_model::Circuit;
+use net_names::Name;
+use std::alloc::{AllocError, Global};
+use text_table::TextTable;
+
+fn seen_nets(
+    alloc: Global,
+    names: &TextTable,
+    rows: &[Vec<bool>],
+    globals: &[Name],
+    k: usize,
+    c: &CircuitCards,
+) -> Result<Nets, AllocError>
+    ensures table { IfOk result (λ nets. nets.table
+        ≡ seen_with_needs names.now (needed_of (bools rows.now) globals.now)
+        (first_seen (first_seen (first_seen [] (circuit_seen c.now).pins)
+        (needed_of (bools rows.now) globals.now k))
+        (flat_map device_nets (circuit_seen c.now).devices)) (circuit_seen c.now).calls) }
+    ensures names { IfOk result (λ nets. nets.names.items ≡ nets.table) }
+{
+    let mut nets = Nets::new(alloc);
+    nets.see_all(alloc, &c.pins)?;
+    nets.see_needed(alloc, row_at(rows, k), globals)?;
+    nets.see_devices(alloc, &c.devices)?;
+    nets.see_calls_with(alloc, &c.calls, names, rows, globals)?;
+    Ok(nets)
+}
+
+fn nets_of(
+    alloc: Global,
+    names: &TextTable,
+    rows: &[Vec<bool>],
+    globals: &[Name],
+    k: usize,
+    c: &CircuitCards,
+) -> Result<Nets, AllocError>
+    ensures table { IfOk result (λ nets. nets.table
+        ≡ net_names names.now (needed_of (bools rows.now) globals.now) k (circuit_seen c.now)) }
+    ensures names { IfOk result (λ nets. nets.names.items ≡ nets.table) }
+{
+    seen_nets(alloc, names, rows, globals, k, c)
+}
+
+fn circuit_over(
+    alloc: Global,
+    names: &TextTable,
+    rows: &[Vec<bool>],
+    globals: &[Name],
+    k: usize,
+    c: &CircuitCards,
+    nets: Nets,
+) -> Result<Circuit, AllocError>
+    requires names { length names.now < 2 ^ 32 }
+    requires nets { nets.names.items ≡ nets.table }
+    ensures { IfOk result (λ circuit. plain_circuit circuit
+        ≡ row_over names.now (needed_of (bools rows.now) globals.now) k (circuit_seen c.now)
+        nets.table) }
+{
+    if nets.table.len() > 0xFFFF_FFFF {
+        return Err(AllocError);
+    }
+    let pins = net_numbers(alloc, &nets.table, &c.pins, row_at(rows, k), globals)?;
+    let devices = device_rows(alloc, &nets.table, &c.devices)?;
+    let calls = call_rows(alloc, names, rows, globals, &nets.table, &c.calls)?;
+    Ok(Circuit {
+        name: c.name.try_clone(alloc)?,
+        nets: nets.names,
+        pins,
+        devices,
+        calls,
+    })
+}
+
+fn circuit(
+    alloc: Global,
+    names: &TextTable,
+    rows: &[Vec<bool>],
+    globals: &[Name],
+    k: usize,
+    c: &CircuitCards,
+) -> Result<Circuit, AllocError>
+    requires { length names.now < 2 ^ 32 }
+    ensures { IfOk result (λ circuit. plain_circuit circuit
+        ≡ circuit_row names.now (needed_of (bools rows.now) globals.now) k (circuit_seen c.now)) }
+{
+    let nets = nets_of(alloc, names, rows, globals, k, c)?;
+    circuit_over(alloc, names, rows, globals, k, c, nets)
+}
+
+/// The circuits with their nets by number, in normal form. `rows` says which of the global names
+/// each circuit needs. Linear in what is made.
+pub fn circuit_rows(
+    alloc: Global,
+    names: &TextTable,
+    rows: &[Vec<bool>],
+    globals: &[Name],
+    circuits: &[CircuitCards],
+) -> Result<Vec<Circuit>, AllocError>
+    requires { length names.now < 2 ^ 32 }
+    ensures { IfOk result (λ out. map plain_circuit out.items
+        ≡ rows_from names.now (needed_of (bools rows.now) globals.now) 0
+        (map circuit_seen circuits.now)) }
+{
+    let mut out = Vec::with_capacity(alloc, circuits.len())?;
+    let mut rest = circuits;
+    'circuits: while let [c, more @ ..] = rest {
+        out.push(circuit(alloc, names, rows, globals, out.len(), c)?)?;
+        rest = more;
+    }
+    Ok(out)
+}

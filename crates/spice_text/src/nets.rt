@@ -1,0 +1,147 @@
+ghost use Rattle.std.specs.Prelude.{◌≡◌, ◌∷◌, [], ◌<◌, ◌^◌, flat_map, map, length, slice_index_or, IfOk, OnOk};
+ghost use Rattle.spice_rows.specs.Seen.{device_seen, call_seen};
+ghost use Rattle.spice_text.specs.Needs.{first_seen, device_nets};
+ghost use Rattle.spice_text.specs.Table.{bools, picked, needed_of, seen_in_calls, seen_with_needs};
+
+use net_names::Name;
+use spice_rows::{CallCard, DeviceCard};
+use std::alloc::{AllocError, Global};
+use text_table::TextTable;
+
+/// The names of nets by their numbers, in order of first appearance.
+#[derive(Drop)]
+pub struct Nets {
+    pub table: TextTable,
+    pub names: Vec<Name>,
+}
+
+impl Nets {
+    ghost use Rattle.std.specs.Prelude.{◌≡◌, ◌∷◌, [], flat_map, map, OnOk};
+    ghost use Rattle.spice_rows.specs.Seen.{device_seen, call_seen};
+    ghost use Rattle.spice_text.specs.Needs.{first_seen, device_nets};
+    ghost use Rattle.spice_text.specs.Table.{bools, picked, needed_of, seen_in_calls, seen_with_needs};
+
+    /// No nets.
+    pub fn new(alloc: Global) -> Nets
+        ensures table { result.table ≡ [] }
+        ensures names { result.names.items ≡ [] }
+    {
+        Nets {
+            table: TextTable::new(alloc),
+            names: Vec::new(alloc),
+        }
+    }
+
+    fn see(&mut self, alloc: Global, name: &Name) -> Result<(), AllocError>
+        requires { self.old.names.items ≡ self.old.table }
+        ensures table { OnOk result (self.new.table ≡ first_seen self.old.table (name.now ∷ [])) }
+        ensures names { OnOk result (self.new.names.items ≡ self.new.table) }
+    {
+        if !self.table.contains(name.bytes()) {
+            self.table.add(alloc, name.bytes())?;
+            self.names.push(name.try_clone(alloc)?)?;
+        }
+        Ok(())
+    }
+
+    pub fn see_all(&mut self, alloc: Global, names: &[Name]) -> Result<(), AllocError>
+        requires { self.old.names.items ≡ self.old.table }
+        ensures table { OnOk result (self.new.table ≡ first_seen self.old.table names.now) }
+        ensures names { OnOk result (self.new.names.items ≡ self.new.table) }
+    {
+        let mut rest = names;
+        'names: while let [name, more @ ..] = rest {
+            self.see(alloc, name)?;
+            rest = more;
+        }
+        Ok(())
+    }
+
+    /// The global names that a row says are needed.
+    pub fn see_needed(
+        &mut self,
+        alloc: Global,
+        row: &[bool],
+        globals: &[Name],
+    ) -> Result<(), AllocError>
+        requires { self.old.names.items ≡ self.old.table }
+        ensures table { OnOk result
+            (self.new.table ≡ first_seen self.old.table (picked row.now globals.now)) }
+        ensures names { OnOk result (self.new.names.items ≡ self.new.table) }
+    {
+        let mut bits = row;
+        let mut rest = globals;
+        'names: while let [name, more @ ..] = rest {
+            let [needed, behind @ ..] = bits else {
+                return Ok(());
+            };
+            if *needed {
+                self.see(alloc, name)?;
+            }
+            bits = behind;
+            rest = more;
+        }
+        Ok(())
+    }
+
+    fn see_device(&mut self, alloc: Global, d: &DeviceCard) -> Result<(), AllocError>
+        requires { self.old.names.items ≡ self.old.table }
+        ensures table { OnOk result
+            (self.new.table ≡ first_seen self.old.table (device_nets (device_seen d.now))) }
+        ensures names { OnOk result (self.new.names.items ≡ self.new.table) }
+    {
+        self.see(alloc, &d.drain)?;
+        self.see(alloc, &d.gate)?;
+        self.see(alloc, &d.source)?;
+        self.see(alloc, &d.bulk)
+    }
+
+    pub fn see_devices(&mut self, alloc: Global, devices: &[DeviceCard]) -> Result<(), AllocError>
+        requires { self.old.names.items ≡ self.old.table }
+        ensures table { OnOk result (self.new.table
+            ≡ first_seen self.old.table (flat_map device_nets (map device_seen devices.now))) }
+        ensures names { OnOk result (self.new.names.items ≡ self.new.table) }
+    {
+        let mut rest = devices;
+        'devices: while let [device, more @ ..] = rest {
+            self.see_device(alloc, device)?;
+            rest = more;
+        }
+        Ok(())
+    }
+
+    /// The nets of calls, with the global names that the called circuits need.
+    pub fn see_calls_with(
+        &mut self,
+        alloc: Global,
+        calls: &[CallCard],
+        names: &TextTable,
+        rows: &[Vec<bool>],
+        globals: &[Name],
+    ) -> Result<(), AllocError>
+        requires { self.old.names.items ≡ self.old.table }
+        ensures table { OnOk result (self.new.table
+            ≡ seen_with_needs names.now (needed_of (bools rows.now) globals.now) self.old.table
+            (map call_seen calls.now)) }
+        ensures names { OnOk result (self.new.names.items ≡ self.new.table) }
+    {
+        let mut rest = calls;
+        'calls: while let [call, more @ ..] = rest {
+            self.see_all(alloc, &call.nets)?;
+            let row = row_at(rows, names.place(call.circuit.bytes()));
+            self.see_needed(alloc, row, globals)?;
+            rest = more;
+        }
+        Ok(())
+    }
+}
+
+/// The row of a circuit, or an empty one.
+pub fn row_at(rows: &[Vec<bool>], k: usize) -> &[bool]
+    ensures { result.now ≡ slice_index_or (bools rows.now) k [] }
+{
+    match rows.get(k) {
+        None => &[],
+        Some(row) => row.as_slice(),
+    }
+}

@@ -1,0 +1,153 @@
+ghost use Rattle.std.specs.Prelude.{◌≡◌, ◌++◌, ◌<◌, ◌^◌, map, length, IfOk, OnOk};
+ghost use Rattle.text_table.specs.Texts.{place_of};
+ghost use Rattle.net_model.specs.Rows.{plain_device, plain_call};
+ghost use Rattle.spice_rows.specs.Seen.{device_seen, call_seen};
+ghost use Rattle.spice_text.specs.Table.{bools, picked, needed_of};
+ghost use Rattle.spice_text.specs.Means.{device_row, call_row};
+
+use crate::nets::row_at;
+use net_model::{CallRow, DeviceRow};
+use net_names::Name;
+use spice_rows::{CallCard, DeviceCard};
+use std::alloc::{AllocError, Global};
+use text_table::TextTable;
+
+fn number(nets: &TextTable, name: &Name) -> u32
+    requires { length nets.now < 2 ^ 32 }
+    ensures { result ≡ place_of nets.now name.now }
+{
+    nets.place(name.bytes()) as u32
+}
+
+fn push_numbers(out: &mut Vec<u32>, nets: &TextTable, names: &[Name]) -> Result<(), AllocError>
+    requires { length nets.now < 2 ^ 32 }
+    ensures { OnOk result (out.new.items ≡ out.old.items ++ map (place_of nets.now) names.now) }
+{
+    let mut rest = names;
+    'names: while let [name, more @ ..] = rest {
+        out.push(number(nets, name))?;
+        rest = more;
+    }
+    Ok(())
+}
+
+fn push_needed(
+    out: &mut Vec<u32>,
+    nets: &TextTable,
+    row: &[bool],
+    globals: &[Name],
+) -> Result<(), AllocError>
+    requires { length nets.now < 2 ^ 32 }
+    ensures { OnOk result
+        (out.new.items ≡ out.old.items ++ map (place_of nets.now) (picked row.now globals.now)) }
+{
+    let mut bits = row;
+    let mut rest = globals;
+    'names: while let [name, more @ ..] = rest {
+        let [needed, behind @ ..] = bits else {
+            return Ok(());
+        };
+        if *needed {
+            out.push(number(nets, name))?;
+        }
+        bits = behind;
+        rest = more;
+    }
+    Ok(())
+}
+
+/// The numbers of some nets and of the global names that a row says are needed.
+pub fn net_numbers(
+    alloc: Global,
+    nets: &TextTable,
+    names: &[Name],
+    row: &[bool],
+    globals: &[Name],
+) -> Result<Vec<u32>, AllocError>
+    requires { length nets.now < 2 ^ 32 }
+    ensures { IfOk result (λ out. out.items
+        ≡ map (place_of nets.now) (names.now ++ picked row.now globals.now)) }
+{
+    let mut out = Vec::with_capacity(alloc, names.len())?;
+    push_numbers(&mut out, nets, names)?;
+    push_needed(&mut out, nets, row, globals)?;
+    Ok(out)
+}
+
+fn device_row(alloc: Global, nets: &TextTable, d: &DeviceCard) -> Result<DeviceRow, AllocError>
+    requires { length nets.now < 2 ^ 32 }
+    ensures { IfOk result (λ row. plain_device row ≡ device_row nets.now (device_seen d.now)) }
+{
+    Ok(DeviceRow {
+        class: d.class.try_clone(alloc)?,
+        length: d.length,
+        width: d.width,
+        source: number(nets, &d.source),
+        gate: number(nets, &d.gate),
+        drain: number(nets, &d.drain),
+        bulk: number(nets, &d.bulk),
+    })
+}
+
+/// Devices with their nets by number.
+pub fn device_rows(
+    alloc: Global,
+    nets: &TextTable,
+    devices: &[DeviceCard],
+) -> Result<Vec<DeviceRow>, AllocError>
+    requires { length nets.now < 2 ^ 32 }
+    ensures { IfOk result (λ rows. map plain_device rows.items
+        ≡ map (device_row nets.now) (map device_seen devices.now)) }
+{
+    let mut rows = Vec::with_capacity(alloc, devices.len())?;
+    let mut rest = devices;
+    'devices: while let [device, more @ ..] = rest {
+        rows.push(device_row(alloc, nets, device)?)?;
+        rest = more;
+    }
+    Ok(rows)
+}
+
+fn call_row(
+    alloc: Global,
+    names: &TextTable,
+    rows: &[Vec<bool>],
+    globals: &[Name],
+    nets: &TextTable,
+    call: &CallCard,
+) -> Result<CallRow, AllocError>
+    requires names { length names.now < 2 ^ 32 }
+    requires nets { length nets.now < 2 ^ 32 }
+    ensures { IfOk result (λ row. plain_call row
+        ≡ call_row names.now (needed_of (bools rows.now) globals.now) nets.now
+        (call_seen call.now)) }
+{
+    let circuit = number(names, &call.circuit);
+    let row = row_at(rows, circuit as usize);
+    let nets = net_numbers(alloc, nets, &call.nets, row, globals)?;
+    Ok(CallRow { circuit, nets })
+}
+
+/// Calls with their nets by number.
+pub fn call_rows(
+    alloc: Global,
+    names: &TextTable,
+    rows: &[Vec<bool>],
+    globals: &[Name],
+    nets: &TextTable,
+    calls: &[CallCard],
+) -> Result<Vec<CallRow>, AllocError>
+    requires names { length names.now < 2 ^ 32 }
+    requires nets { length nets.now < 2 ^ 32 }
+    ensures { IfOk result (λ out. map plain_call out.items
+        ≡ map (call_row names.now (needed_of (bools rows.now) globals.now) nets.now)
+        (map call_seen calls.now)) }
+{
+    let mut out = Vec::with_capacity(alloc, calls.len())?;
+    let mut rest = calls;
+    'calls: while let [call, more @ ..] = rest {
+        out.push(call_row(alloc, names, rows, globals, nets, call)?)?;
+        rest = more;
+    }
+    Ok(out)
+}

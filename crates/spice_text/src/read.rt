@@ -1,0 +1,48 @@
+ghost use Rattle.std.specs.Prelude.{◌≡◌, IfOk, IfErr, map};
+ghost use Rattle.call_order.specs.Order.{lists};
+ghost use Rattle.net_model.specs.Rows.{plain_netlist};
+ghost use Rattle.spice_text.specs.Faults.{AreOrdered};
+ghost use Rattle.spice_text.specs.Means.{IsNetlistOf, Means, SaysFirst};
+ghost use Rattle.spice_text.specs.Seen.{circuit_seen};
+
+use crate::circuits::circuit_rows;
+use crate::gather::gather_cards;
+use crate::needs::{each_once, need_table};
+use crate::ordered::{OrderedCards, order_cards};
+use call_order::order_laws;
+use net_model::Netlist;
+use spice_rows::SpiceFault;
+use std::alloc::{AllocError, Global};
+
+fn netlist(alloc: Global, cards: &OrderedCards) -> Result<Netlist, AllocError>
+    requires { AreOrdered (map circuit_seen cards.now.circuits.items) cards.now.names
+        (lists cards.now.calls.items) cards.now.order.items }
+    ensures { IfOk result (λ n. IsNetlistOf (map circuit_seen cards.now.circuits.items)
+        cards.now.globals.items (plain_netlist n)) }
+{
+    let globals = each_once(alloc, &cards.globals)?;
+    let rows = need_table(alloc, &cards.circuits, &cards.calls, &cards.order, &globals)?;
+    let circuits = circuit_rows(alloc, &cards.names, &rows, &globals, &cards.circuits)?;
+    Ok(Netlist { circuits })
+}
+
+/// The netlist that a SPICE text means, or the text's first fault: that of the first card that has
+/// one, or else of the cards as a whole. See `SpiceFault` for the faults.
+///
+/// Linear in the text, and in circuits and calls times global names.
+pub fn read_spice(alloc: Global, bytes: &[u8]) -> Result<Netlist, SpiceFault>
+    ensures netlist { IfOk result (λ n. Means bytes.now (plain_netlist n)) }
+    ensures fault { IfErr result (SaysFirst bytes.now) }
+{
+    let all = match gather_cards(alloc, bytes) {
+        Ok(all) => all,
+        Err(e) => return Err(e),
+    };
+    let cards = match order_cards(alloc, all) {
+        Ok(cards) => cards,
+        Err(e) => return Err(e),
+    };
+    order_laws();
+    let netlist = netlist(alloc, &cards)?;
+    Ok(netlist)
+}
