@@ -1,5 +1,5 @@
 -- Tables that are each right by themselves are right together.
-use Rattle.std.proofs.Common.{◌≡◌, inl, inr, ℕ, Bool, true, false, List, [], Option, None, if◌then◌else◌, get_or, refl, sym, ◌∙◌, ap, subst, arith}
+use Rattle.std.proofs.Common.{◌≡◌, inl, inr, ℕ, Bool, true, false, List, [], ◌∷◌, ◌++◌, Option, None, if◌then◌else◌, get_or, refl, sym, ◌∙◌, ap, subst, arith}
 use Rattle.std.proofs.lemmas.Int.{ints}
 use Rattle.std.proofs.lemmas.Option.{get_or_from_slice_get, slice_get_cases, slice_get_past}
 use Rattle.std.proofs.lemmas.List.{get_or_past}
@@ -7,7 +7,7 @@ use Rattle.geo_base.specs.declared.shapes.Rect.{Rect}
 use Rattle.rect_sets.specs.Rects.{covers, IsBlock}
 use Rattle.flat_layout.specs.Layers.{Empty}
 use Rattle.flat_layout.specs.Layout.{Design, IsReached}
-use Rattle.flat_layout.specs.Nets.{IsNetsOf, Tables}
+use Rattle.flat_layout.specs.Nets.{AreListed, IsNetsOf, Tables}
 use Rattle.flat_layout.specs.Pins as flat
 use Rattle.flat_layout.specs.GateTables as gate_tables
 use Rattle.flat_layout.specs.Values.{IsCellCircuitOf, IsLocalLayer}
@@ -19,6 +19,8 @@ use Rattle.rule_text.specs.Rules.{Rules}
 use Rattle.rule_layers.specs.Meaning.{device_rules, wiring_of}
 use Rattle.rule_layers.specs.Readings.{readings}
 use Rattle.rule_layers.proofs.Wired.{conductors}
+use Rattle.flat_laws.proofs.Items.{together as nets_together}
+use Rattle.table_laws.proofs.Tabled.{leads_both, reached_under}
 use Rattle.table_laws.proofs.Tabled as tabled
 use Rattle.table_laws.proofs.Pinned.{pins_together}
 use Rattle.table_laws.proofs.Drawing.{drawn_together}
@@ -26,7 +28,7 @@ use Rattle.table_laws.proofs.Circuited.{together}
 use Rattle.deep_tables.specs.declared.layers.CellLayers.{CellLayers}
 use Rattle.deep_tables.specs.Entries.{entry}
 use Rattle.deep_tables.specs.Layers.{AreCellLayers, AreLayers, layer_of, squares_on}
-use Rattle.deep_tables.specs.Nets.{AreCellNets, AreRightNets, RightNetsLaw, nets_in, rects_in, tables_of}
+use Rattle.deep_tables.specs.Nets.{AreCellNets, AreRightNets, ReadNetsLaw, RightNetsLaw, nets_in, own_of, rects_in, tables_of}
 use Rattle.deep_tables.specs.Gates.{AreCellGates, AreRightGates, RightGatesLaw, gates_in, gates_of}
 use Rattle.deep_tables.specs.Pins.{AreCellPins, AreRightPins, RightPinsLaw, pins_in, pins_of}
 use Rattle.deep_tables.specs.Circuits.{AllTablesLaw, IsCellCircuit, value_in, value_of}
@@ -72,6 +74,22 @@ right_nets d r layers nets are_layers are_nets = record {
       let v = some_and (AreCellNets d r cell) (entry nets cell) (are_nets cell reached) in
       subst (λ o. IsNetsOf d (wiring_of r) cell (nets_in o)) (sym v.1) v.2;
 }
+
+-- each cell below is right by itself, and so together
+pub read_nets : ReadNetsLaw
+read_nets d r layers cell nets sound right reached by_itself = record {
+  own = λ e c under. own_at e c (reached_under (plain d) cell e reached under);
+  nets = λ k e p placed under.
+      nets_together (plain d) (wiring_of r) t (height_at d) (heights d sound) e
+      (λ f c more. own_at f c (reached_under (plain d) e f (reached_under (plain d) cell e reached (k ∷ under.0, (p, placed, under.1))) more))
+      (λ f more. by_itself k f p placed (under.0 ++ more.0, leads_both (plain d) p.cell e f under.0 more.0 under.1 more.1));
+}
+  where
+    t : Tables
+    t = record { own = own_of r layers; nets = nets }
+
+    own_at : (e c : ℕ) → IsReached (plain d) e → AreListed (plain d) (wiring_of r) t e c
+    own_at e c there = tabled.own_of (plain d) (wiring_of r) t e c (by_kind (plain d) r layers e c right there (is_conductor c r) refl)
 
 pub right_gates : RightGatesLaw
 right_gates d r t table nets right cell reached =

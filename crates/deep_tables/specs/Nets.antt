@@ -1,11 +1,12 @@
 -- The nets of cells.
 use Rattle.std.specs.Prelude.{ℕ, List, [], Option, Some, None, IsSome, map, if◌then◌else◌}
 use Rattle.geo_base.specs.declared.shapes.Rect.{Rect}
-use Rattle.flat_layout.specs.Layout.{Design, IsReached}
+use Rattle.flat_layout.specs.Layout.{Design, Place, IsPlaced, IsReached}
 use Rattle.flat_layout.specs.Nets as flat
-use Rattle.flat_layout.specs.Nets.{IsNetsOf, Tables}
+use Rattle.flat_layout.specs.Nets.{AreRightBelow, IsNetsOf, IsUnder, Tables}
 use Rattle.flat_layout.specs.Regions.{Wiring, reading}
 use Rattle.flat_layout.specs.Values.{IsLocalLayer}
+use Rattle.cell_graph.specs.Linked.{Linked, IsSound, plain}
 use Rattle.rule_text.specs.Reading.{is_conductor}
 use Rattle.rule_text.specs.Rules.{Rules}
 use Rattle.rule_layers.specs.Meaning.{wiring_of}
@@ -45,11 +46,14 @@ abbrev pub rects_in : Option (List Rect) → List Rect
 rects_in None = []
 rects_in (Some rects) = rects
 
--- what the tables of layers and nets say: the rectangles that each cell holds itself of each
--- conductor, and its nets
+-- what the table of layers says: the rectangles that each cell holds itself of each conductor
+abbrev pub own_of : Rules → List (Option CellLayers) → ℕ → ℕ → List Rect
+own_of r layers cell c = if is_conductor c r then rects_in (layer_of layers cell c) else []
+
+-- and with it the table of nets
 abbrev pub tables_of : Rules → List (Option CellLayers) → List (Option CellNets) → Tables
 tables_of r layers nets = record {
-  own = λ cell c. if is_conductor c r then rects_in (layer_of layers cell c) else [];
+  own = own_of r layers;
   nets = λ cell. nets_in (entry nets cell);
 }
 
@@ -68,3 +72,12 @@ RightNetsLaw = (d : Design) (r : Rules) (layers : List (Option CellLayers))
 abbrev pub NetsAtLaw : Type 0
 NetsAtLaw = (d : Design) (r : Rules) (table : List (Option CellNets)) (cell : ℕ) → AreNets d r table
     → IsReached d cell → IsSome (entry table cell)
+
+-- right layers, and nets that are right by themselves in each cell below, are tables that are right
+-- below the cell: over these a job works
+abbrev pub ReadNetsLaw : Type 0
+ReadNetsLaw = (d : Linked) (r : Rules) (layers : List (Option CellLayers)) (cell : ℕ)
+    (nets : ℕ → flat.CellNets) → IsSound d → AreLayers (plain d) r layers → IsReached (plain d) cell
+    → ((k e : ℕ) (p : Place) → IsPlaced (plain d) cell k p → IsUnder (plain d) p.cell e
+    → IsNetsOf (plain d) (wiring_of r) e (nets e))
+    → AreRightBelow (plain d) (wiring_of r) (record { own = own_of r layers; nets = nets }) cell

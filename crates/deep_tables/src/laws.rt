@@ -5,7 +5,7 @@ ghost use Rattle.deep_tables.specs.Frames.{FrameLaw};
 ghost use Rattle.deep_tables.specs.Gates.{AreCellGates, GatesAtLaw, RightGatesLaw};
 ghost use Rattle.deep_tables.specs.Layers.{AreCellLayers, LayerAtLaw};
 ghost use Rattle.deep_tables.specs.Laws.{DownwardLaw, UpwardLaw};
-ghost use Rattle.deep_tables.specs.Nets.{AreCellNets, NetsAtLaw, RightNetsLaw};
+ghost use Rattle.deep_tables.specs.Nets.{AreCellNets, NetsAtLaw, ReadNetsLaw, RightNetsLaw};
 ghost use Rattle.deep_tables.specs.OverAny.{CircuitsOverAnyLaw, GatesOverAnyLaw, NetsOverAnyLaw, OneGatesLaw, OneTablesLaw, PinsOverAnyLaw};
 ghost use Rattle.deep_tables.specs.Pins.{AreCellPins, PinsAtLaw, RightPinsLaw};
 ghost use Rattle.deep_tables.specs.Zones.{AreCellZones, DeviceZoneAtLaw, ZoneAtLaw};
@@ -42,6 +42,7 @@ pub fn net_table()
     ensures jobs { UpwardLaw CellNets AreCellNets }
     ensures at { NetsAtLaw }
     ensures right { RightNetsLaw }
+    ensures read { ReadNetsLaw }
 {}
 
 /// Where each job's gates are right, so is the table; over right nets they are right together.

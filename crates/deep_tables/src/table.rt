@@ -8,7 +8,8 @@ use job_graph::{Reads, Results};
 use std::alloc::{AllocError, Global};
 use std::marker::Model;
 
-/// Contracts see it as a list with an entry, or none, for each cell.
+/// The entries of the cells that the top reaches, each found by its job. Contracts see a list with
+/// an entry, or none, for each cell.
 #[derive(Drop)]
 pub struct Table<T> {
     jobs: Vec<u32>,
