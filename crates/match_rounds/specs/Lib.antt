@@ -1,0 +1,5 @@
+pub mod Counts
+pub mod Marks
+pub mod Order
+pub mod Classes
+pub mod Pieces
