@@ -46,6 +46,6 @@ pub returns-then-is_same-clause-stops : goal.returns-then-is_same-clause-stops
 returns-then-is_same-clause-stops g c =
     let p = paths_of (string_bytes c.args.layout) (string_bytes c.args.rules) (string_bytes c.args.shapes) in
     elim c.then-is_same.branch [
-      goal.then-is_same-via-then-is_same w ↦ same_stop p _ (inl (sym c.is_same.ensures ∙ w.if-is_same.true))
-    | goal.then-is_same-via-else-is_same+then-is_same-2 w ↦ same_stop p _ (inr (sym w.is_same-else-is_same.ensures ∙ w.if-is_same-2.true))
+      | goal.then-is_same-via-then-is_same w ↦ same_stop p _ (inl (sym c.is_same.ensures ∙ w.if-is_same.true))
+      | goal.then-is_same-via-else-is_same+then-is_same-2 w ↦ same_stop p _ (inr (sym w.is_same-else-is_same.ensures ∙ w.if-is_same-2.true))
     ]
