@@ -6,3 +6,4 @@ pub mod Agreeing
 pub mod Gating
 pub mod Pinning
 pub mod Circuiting
+pub mod Nothing

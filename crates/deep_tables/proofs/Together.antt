@@ -1,10 +1,7 @@
 -- Tables that are each right by themselves are right together.
 use Rattle.std.proofs.Common.{◌≡◌, inl, inr, ℕ, Bool, true, false, List, [], ◌∷◌, ◌++◌, Option, None, if◌then◌else◌, get_or, refl, sym, ◌∙◌, ap, subst, arith}
-use Rattle.std.proofs.lemmas.Int.{ints}
 use Rattle.std.proofs.lemmas.Option.{get_or_from_slice_get, slice_get_cases, slice_get_past}
 use Rattle.std.proofs.lemmas.List.{get_or_past}
-use Rattle.geo_base.specs.declared.shapes.Rect.{Rect}
-use Rattle.rect_sets.specs.Rects.{covers, IsBlock}
 use Rattle.flat_layout.specs.Layers.{Empty}
 use Rattle.flat_layout.specs.Layout.{Design, IsReached}
 use Rattle.flat_layout.specs.Nets.{AreListed, IsNetsOf, Tables}
@@ -32,19 +29,8 @@ use Rattle.deep_tables.specs.Nets.{AreCellNets, AreRightNets, ReadNetsLaw, Right
 use Rattle.deep_tables.specs.Gates.{AreCellGates, AreRightGates, RightGatesLaw, gates_in, gates_of}
 use Rattle.deep_tables.specs.Pins.{AreCellPins, AreRightPins, RightPinsLaw, pins_in, pins_of}
 use Rattle.deep_tables.specs.Circuits.{AllTablesLaw, IsCellCircuit, value_in, value_of}
+use Rattle.deep_tables.proofs.Nothing.{no_squares}
 use Rattle.deep_tables.proofs.Reading.{layer_at, some_and}
-
-no_block : (r : Rect) → IsBlock (covers []) r → ⊥
-no_block r b =
-    let run = b.rows r.y1 (omega (arith, ints)) b.some in
-    let covered : false ≡ true = run.inside r.x1 (omega (arith, ints)) run.some in cc
-
-no_squares : (d : Design) (cell : ℕ) → IsLocalLayer d Empty cell []
-no_squares d cell = record {
-  canonical = record { each = λ r. ((λ h. absurd h), (λ b. no_block r b)); ordered = tt };
-  each = λ q. ((λ e. let f : false ≡ true = e in let z : ⊥ = cc in absurd z), (λ h. absurd h));
-  parted = λ q h. absurd h;
-}
 
 -- past the rules' names the table has no squares, and nothing is read
 named : (d : Design) (r : Rules) (layers : List (Option CellLayers)) (cell c : ℕ) → AreLayers d r layers → IsReached d cell → IsLocalLayer d (get_or (readings r.names) c Empty) cell (rects_in (layer_of layers cell c))

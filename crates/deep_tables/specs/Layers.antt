@@ -1,7 +1,7 @@
 -- The squares that cells hold themselves.
-use Rattle.std.specs.Prelude.{◌≡◌, ℕ, List, Option, Some, None, length, slice_get}
+use Rattle.std.specs.Prelude.{◌≡◌, ℕ, List, [], Option, Some, None, length, slice_get}
 use Rattle.geo_base.specs.declared.shapes.Rect.{Rect}
-use Rattle.flat_layout.specs.Layers.{Reading}
+use Rattle.flat_layout.specs.Layers.{Reading, Empty}
 use Rattle.flat_layout.specs.Layout.{Design, IsReached}
 use Rattle.flat_layout.specs.Values.{IsLocalLayer}
 use Rattle.rule_text.specs.Rules.{Rules}
@@ -33,3 +33,7 @@ LayerAtLaw = (d : Design) (r : Rules) (table : List (Option CellLayers)) (cell i
     → AreLayers d r table → IsReached d cell
     → slice_get (readings r.names) i ≡ Some x → (layer : List Rect)
     × (layer_of table cell i ≡ Some layer) × IsLocalLayer d x cell layer
+
+-- an empty layer, and a labels name, has no squares
+abbrev pub EmptyLayerLaw : Type 0
+EmptyLayerLaw = (d : Design) (cell : ℕ) → IsLocalLayer d Empty cell []

@@ -1,5 +1,5 @@
 -- The disturbed squares of cells.
-use Rattle.std.specs.Prelude.{◌≡◌, ℕ, List, Option, Some, None, length, slice_get}
+use Rattle.std.specs.Prelude.{◌≡◌, ℕ, List, [], Option, Some, None, length, slice_get}
 use Rattle.geo_base.specs.declared.layer.LayerKey.{LayerKey}
 use Rattle.geo_base.specs.declared.shapes.Rect.{Rect}
 use Rattle.flat_layout.specs.Gates.{gate_inputs, Rule}
@@ -53,3 +53,7 @@ DeviceZoneAtLaw = (d : Design) (r : Rules) (table : List (Option CellZones)) (ce
     → AreZones d r table → IsReached d cell
     → slice_get (device_rules r) i ≡ Some u → HasZone d table cell (Device i)
     (gate_inputs (wiring_of r) u)
+
+-- for no layers nothing is disturbed
+abbrev pub EmptyZoneLaw : Type 0
+EmptyZoneLaw = (d : Design) (n cell : ℕ) → IsZone d [] n cell []

@@ -3,12 +3,12 @@ ghost use Rattle.std.specs.Prelude.{ℕ};
 ghost use Rattle.deep_tables.specs.Circuits.{AllTablesLaw, CircuitsAtLaw, IsCellCircuit};
 ghost use Rattle.deep_tables.specs.Frames.{FrameLaw};
 ghost use Rattle.deep_tables.specs.Gates.{AreCellGates, GatesAtLaw, RightGatesLaw};
-ghost use Rattle.deep_tables.specs.Layers.{AreCellLayers, LayerAtLaw};
+ghost use Rattle.deep_tables.specs.Layers.{AreCellLayers, EmptyLayerLaw, LayerAtLaw};
 ghost use Rattle.deep_tables.specs.Laws.{DownwardLaw, UpwardLaw};
 ghost use Rattle.deep_tables.specs.Nets.{AreCellNets, NetsAtLaw, ReadNetsLaw, RightNetsLaw};
 ghost use Rattle.deep_tables.specs.OverAny.{CircuitsOverAnyLaw, GatesOverAnyLaw, NetsOverAnyLaw, OneGatesLaw, OneTablesLaw, PinsOverAnyLaw};
 ghost use Rattle.deep_tables.specs.Pins.{AreCellPins, PinsAtLaw, RightPinsLaw};
-ghost use Rattle.deep_tables.specs.Zones.{AreCellZones, DeviceZoneAtLaw, ZoneAtLaw};
+ghost use Rattle.deep_tables.specs.Zones.{AreCellZones, DeviceZoneAtLaw, EmptyZoneLaw, ZoneAtLaw};
 ghost use Rattle.deep_tables.specs.declared.circuits.CellCircuit.{CellCircuit};
 ghost use Rattle.deep_tables.specs.declared.gates.CellGates.{CellGates};
 ghost use Rattle.deep_tables.specs.declared.layers.CellLayers.{CellLayers};
@@ -22,6 +22,7 @@ pub fn zone_table()
     ensures jobs { DownwardLaw CellZones AreCellZones }
     ensures at { ZoneAtLaw }
     ensures device_at { DeviceZoneAtLaw }
+    ensures empty { EmptyZoneLaw }
 {}
 
 /// Where each job's layers are right, so is the table; and a right table has those of each reached
@@ -29,6 +30,7 @@ pub fn zone_table()
 pub fn layer_table()
     ensures jobs { UpwardLaw CellLayers AreCellLayers }
     ensures at { LayerAtLaw }
+    ensures empty { EmptyLayerLaw }
 {}
 
 /// Disturbed squares in a hull grown by one, by the hull that the design has.

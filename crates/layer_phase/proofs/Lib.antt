@@ -2,3 +2,4 @@ pub mod Assembly
 pub mod Looking
 pub mod Keeping
 pub mod Telling
+pub mod Inputs

@@ -1,14 +1,15 @@
 -- The parts of which a cell's layer is made.
 use Rattle.std.specs.Prelude.{◌≡◌, ◌↔◌, ℕ, true, ◌&&◌, not, List}
+use Rattle.geo_base.specs.declared.layer.LayerKey.{LayerKey}
 use Rattle.geo_base.specs.declared.layer.Op.{Op}
 use Rattle.geo_base.specs.declared.shapes.Rect.{Rect}
 use Rattle.geo_base.specs.declared.shapes.Square.{Square}
 use Rattle.geo_base.specs.Motions.{moved_square}
 use Rattle.rect_sets.specs.Rects.{covers, IsCanonical}
-use Rattle.flat_layout.specs.Layers.{Reading, Binary, inputs, InFlat}
+use Rattle.flat_layout.specs.Layers.{Reading, Input, Binary, inputs, InFlat}
 use Rattle.flat_layout.specs.Layout.{IsReached, IsPlaced, IsDisturbed, Place}
 use Rattle.flat_layout.specs.Values.{IsLocalLayer}
-use Rattle.cell_graph.specs.Linked.{Linked, IsSound, HullHas, hull_of, cell_at, plain}
+use Rattle.cell_graph.specs.Linked.{Linked, IsSound, HullHas, hull_of, cell_at, own_of, plain}
 use Rattle.deep_laws.specs.Layers.{IsOwnOn, IsFromDisturbed}
 use Rattle.deep_tables.specs.Frames.{IsFramedZone}
 
@@ -39,3 +40,8 @@ abbrev pub LayerLaw : Type 0
 LayerLaw = (d : Linked) (op : Op) (a b : Reading) (cell : ℕ) (places flat zone calm local : List Rect) → IsSound d → IsReached (plain d) cell → HaveZones d (Binary op a b) cell
     → AreParts d (Binary op a b) cell places flat zone calm → IsCanonical local → ((q : Square) → covers local q ≡ ((covers flat q && not (covers zone q)) && not (covers calm q)))
     → IsLocalLayer (plain d) (Binary op a b) cell local
+
+-- of an input layer a cell holds its own squares
+abbrev pub InputLayerLaw : Type 0
+InputLayerLaw = (d : Linked) (cell : ℕ) (key : LayerKey) → IsSound d → IsCanonical (own_of (cell_at d cell) key)
+    → IsLocalLayer (plain d) (Input key) cell (own_of (cell_at d cell) key)

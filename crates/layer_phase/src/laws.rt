@@ -1,9 +1,10 @@
 ghost use Rattle.layer_phase.specs.Bridge.{KeptLaw};
-ghost use Rattle.layer_phase.specs.Parts.{LayerLaw};
+ghost use Rattle.layer_phase.specs.Parts.{InputLayerLaw, LayerLaw};
 
-/// The parts that the phase makes give a cell's layer.
+/// The parts that the phase makes give a cell's layer; of an input layer it has its own squares.
 pub fn layer_law()
-    ensures { LayerLaw }
+    ensures binary { LayerLaw }
+    ensures input { InputLayerLaw }
 {}
 
 /// A right table of disturbed squares tells what placed cells keep.
