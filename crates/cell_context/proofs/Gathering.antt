@@ -97,18 +97,20 @@ right_more d cell skip key w old new below v sound h right exact adds q e =
       | inl f ↦ right (moved_square v.motion s) f
       | inr f ↦
           let b = (exact s).0 (and_left (covers below s) (has w (moved_square v.motion s)) f) in
-          let there = (over_flat d sound v.cell key s).0 b.1 in
-          (and_right (covers below s) (has w (moved_square v.motion s)) f, inr (record {
-            index = h.index;
-            row = h.row;
-            column = h.column;
-            from = h.from;
-            step = h.step;
-            kept = h.kept;
-            square = s;
-            flat = subst (λ c. InFlatInput (plain d) c key s) h.cell_is there;
-            image = ap (λ (m : Motion). moved_square m s) (sym h.motion_is);
-          }))
+          let there = (over_flat d sound v.cell key s).0 b.1 in (
+            and_right (covers below s) (has w (moved_square v.motion s)) f,
+            inr (record {
+              index = h.index;
+              row = h.row;
+              column = h.column;
+              from = h.from;
+              step = h.step;
+              kept = h.kept;
+              square = s;
+              flat = subst (λ c. InFlatInput (plain d) c key s) h.cell_is there;
+              image = ap (λ (m : Motion). moved_square m s) (sym h.motion_is);
+            }),
+          )
     ]
 
 -- what was there stays

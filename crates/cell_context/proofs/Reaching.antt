@@ -84,10 +84,10 @@ pub is_reach : (p : Place) (hull w t : Rect) (r : Reach) → IsFrame hull → Is
     → r.x_low ≡ w.x1 -ℤ t.x2 → r.x_high ≡ w.x2 -ℤ t.x1 → r.y_low ≡ w.y1 -ℤ t.y2 → r.y_high ≡ w.y2 -ℤ t.y1 → IsReach p hull w r
 is_reach p hull w t r h g near e a b c d = record {
   near = record {
-  x_low = subst (IsWithin (2 ^ 41)) (sym a) (far w.x1 t.x2 g.x1 near.x2);
-  x_high = subst (IsWithin (2 ^ 41)) (sym b) (far w.x2 t.x1 g.x2 near.x1);
-  y_low = subst (IsWithin (2 ^ 41)) (sym c) (far w.y1 t.y2 g.y1 near.y2);
-  y_high = subst (IsWithin (2 ^ 41)) (sym d) (far w.y2 t.y1 g.y2 near.y1);
+    x_low = subst (IsWithin (2 ^ 41)) (sym a) (far w.x1 t.x2 g.x1 near.x2);
+    x_high = subst (IsWithin (2 ^ 41)) (sym b) (far w.x2 t.x1 g.x2 near.x1);
+    y_low = subst (IsWithin (2 ^ 41)) (sym c) (far w.y1 t.y2 g.y1 near.y2);
+    y_high = subst (IsWithin (2 ^ 41)) (sym d) (far w.y2 t.y1 g.y2 near.y1);
   };
   all = λ row column q i j.
       let s = shifted p hull w t row column q h.some e i j in

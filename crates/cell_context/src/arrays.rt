@@ -74,8 +74,20 @@ fn element_motion(place: &Place, row: u32, column: u32) -> Motion
 {
     Motion {
         turn: place.motion.turn,
-        dx: shift(place.motion.dx, column, place.column_step.x, row, place.row_step.x),
-        dy: shift(place.motion.dy, column, place.column_step.y, row, place.row_step.y),
+        dx: shift(
+            place.motion.dx,
+            column,
+            place.column_step.x,
+            row,
+            place.row_step.x,
+        ),
+        dy: shift(
+            place.motion.dy,
+            column,
+            place.column_step.y,
+            row,
+            place.row_step.y,
+        ),
     }
 }
 
@@ -224,7 +236,13 @@ fn wide_axis(count: u32, step: i64, start: i64, low: i64, high: i64, extent: Ext
     ensures within { result.to ≤ count }
     ensures all { (i : ℕ) (z : ℤ) → i < count → extent.low ≤ℤ z → z ≤ℤ extent.high → low <ℤ ((start +ℤ z) +ℤ (pos i *ℤ step)) → ((start +ℤ z) +ℤ (pos i *ℤ step)) <ℤ high → Includes result i }
 {
-    axis(count, step, start, widened(low, extent.high), widened(high, extent.low))
+    axis(
+        count,
+        step,
+        start,
+        widened(low, extent.high),
+        widened(high, extent.low),
+    )
 }
 
 // The columns of a row whose elements may meet the window.
@@ -255,8 +273,22 @@ fn rows_meeting(place: &Place, reach: &Reach) -> Steps
     let rows = place.rows as u32;
     let x = extent_of(columns, place.column_step.x);
     let y = extent_of(columns, place.column_step.y);
-    let across = wide_axis(rows, place.row_step.x, place.motion.dx, reach.x_low, reach.x_high, x);
-    let up = wide_axis(rows, place.row_step.y, place.motion.dy, reach.y_low, reach.y_high, y);
+    let across = wide_axis(
+        rows,
+        place.row_step.x,
+        place.motion.dx,
+        reach.x_low,
+        reach.x_high,
+        x,
+    );
+    let up = wide_axis(
+        rows,
+        place.row_step.y,
+        place.motion.dy,
+        reach.y_low,
+        reach.y_high,
+        y,
+    );
     both(across, up)
 }
 

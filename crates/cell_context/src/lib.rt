@@ -1,9 +1,9 @@
 //! What of a layout below a cell lies in a window.
 #![tactic(auto)]
 
+mod arrays;
 mod flats;
 mod steps;
-mod arrays;
 
-pub use flats::{collect, gather, over_laws, push_images, visits};
 pub use arrays::{Visit, meet, motion_at, place_visits};
+pub use flats::{collect, gather, over_laws, push_images, visits};

@@ -20,13 +20,21 @@ fn steps_up(count: u32, step: u64, low: i64, high: i64) -> Steps
         0
     } else {
         let passed = low as u64 / step;
-        if passed < count as u64 { passed as u32 + 1 } else { count }
+        if passed < count as u64 {
+            passed as u32 + 1
+        } else {
+            count
+        }
     };
     let to = if high <= 0 {
         0
     } else {
         let last = (high - 1) as u64 / step;
-        if last < count as u64 { last as u32 + 1 } else { count }
+        if last < count as u64 {
+            last as u32 + 1
+        } else {
+            count
+        }
     };
     Steps { from, to }
 }

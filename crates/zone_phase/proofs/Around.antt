@@ -97,22 +97,42 @@ outward d p key q h =
     let n = p.columns in let m = p.rows in
     elim (compared h.row or) [
       | inl lt ↦ inl (record {
-        row = or - h.row - 1; column = oc + (n - 1) - h.column; row_in = omega arith; column_in = omega arith; square = s.square; flat = s.flat;
+        row = or - h.row - 1;
+        column = oc + (n - 1) - h.column;
+        row_in = omega arith;
+        column_in = omega arith;
+        square = s.square;
+        flat = s.flat;
         image = forth p 1 0 0 (n - 1) (m - 1) (2 * n - 1) or oc h.row h.column (or - h.row - 1) (oc + (n - 1) - h.column) (omega arith) (omega arith) s.square q s.image;
       })
       | inr g ↦ elim g [
         | inr gt ↦ inr (inl (record {
-          row = or + (m - 1) - h.row; column = oc + (n - 1) - h.column; row_in = omega arith; column_in = omega arith; square = s.square; flat = s.flat;
+          row = or + (m - 1) - h.row;
+          column = oc + (n - 1) - h.column;
+          row_in = omega arith;
+          column_in = omega arith;
+          square = s.square;
+          flat = s.flat;
           image = forth p 0 (m - 1) 0 (n - 1) (m - 1) (2 * n - 1) or oc h.row h.column (or + (m - 1) - h.row) (oc + (n - 1) - h.column) (omega arith) (omega arith) s.square q s.image;
         }))
         | inl e ↦ elim (compared h.column oc) [
           | inl lt ↦ inr (inr (inl (record {
-            row = 0; column = oc - h.column - 1; row_in = omega arith; column_in = omega arith; square = s.square; flat = s.flat;
+            row = 0;
+            column = oc - h.column - 1;
+            row_in = omega arith;
+            column_in = omega arith;
+            square = s.square;
+            flat = s.flat;
             image = forth p 0 0 1 0 1 (n - 1) or oc h.row h.column 0 (oc - h.column - 1) (omega arith) (omega arith) s.square q s.image;
           })))
           | inr k ↦ elim k [
             | inr gt ↦ inr (inr (inr (inl (record {
-              row = 0; column = oc + (n - 1) - h.column; row_in = omega arith; column_in = omega arith; square = s.square; flat = s.flat;
+              row = 0;
+              column = oc + (n - 1) - h.column;
+              row_in = omega arith;
+              column_in = omega arith;
+              square = s.square;
+              flat = s.flat;
               image = forth p 0 0 0 (n - 1) 1 (n - 1) or oc h.row h.column 0 (oc + (n - 1) - h.column) (omega arith) (omega arith) s.square q s.image;
             }))))
             | inl f ↦ absurd (s.other (sym e, sym f))
@@ -125,44 +145,72 @@ inward : (d : Linked) (p : Place) (key : LayerKey) (q : Square) → 0 < p.rows �
 inward d p key q some_rows some_columns (inl b) =
     let c = pair p.columns b.column b.column_in in let i = b.row_in in
     record {
-      row = 0; column = c.column; row_in = some_rows; column_in = c.column_in;
+      row = 0;
+      column = c.column;
+      row_in = some_rows;
+      column_in = c.column_in;
       sibling = record {
-        other_row = b.row + 1; other_column = c.other; row_in = omega arith; column_in = c.other_in;
+        other_row = b.row + 1;
+        other_column = c.other;
+        row_in = omega arith;
+        column_in = c.other_in;
         other = λ g. let z = g.0 in let y : ⊥ = omega arith in y;
-        square = b.square; flat = b.flat;
+        square = b.square;
+        flat = b.flat;
         image = again p 1 0 0 (p.columns - 1) (p.rows - 1) (2 * p.columns - 1) (b.row + 1) c.other 0 c.column b.row b.column (omega arith) c.sum b.square q b.image;
       };
     }
 inward d p key q some_rows some_columns (inr (inl b)) =
     let c = pair p.columns b.column b.column_in in let i = b.row_in in
     record {
-      row = p.rows - 1 - b.row; column = c.column; row_in = omega arith; column_in = c.column_in;
+      row = p.rows - 1 - b.row;
+      column = c.column;
+      row_in = omega arith;
+      column_in = c.column_in;
       sibling = record {
-        other_row = 0; other_column = c.other; row_in = some_rows; column_in = c.other_in;
+        other_row = 0;
+        other_column = c.other;
+        row_in = some_rows;
+        column_in = c.other_in;
         other = λ g. let z = g.0 in let y : ⊥ = omega arith in y;
-        square = b.square; flat = b.flat;
+        square = b.square;
+        flat = b.flat;
         image = again p 0 (p.rows - 1) 0 (p.columns - 1) (p.rows - 1) (2 * p.columns - 1) 0 c.other (p.rows - 1 - b.row) c.column b.row b.column (omega arith) c.sum b.square q b.image;
       };
     }
 inward d p key q some_rows some_columns (inr (inr (inl b))) =
     let i = b.row_in in let j = b.column_in in
     record {
-      row = 0; column = 0; row_in = some_rows; column_in = some_columns;
+      row = 0;
+      column = 0;
+      row_in = some_rows;
+      column_in = some_columns;
       sibling = record {
-        other_row = 0; other_column = b.column + 1; row_in = some_rows; column_in = omega arith;
+        other_row = 0;
+        other_column = b.column + 1;
+        row_in = some_rows;
+        column_in = omega arith;
         other = λ g. let z = g.1 in let y : ⊥ = omega arith in y;
-        square = b.square; flat = b.flat;
+        square = b.square;
+        flat = b.flat;
         image = again p 0 0 1 0 1 (p.columns - 1) 0 (b.column + 1) 0 0 b.row b.column (omega arith) (omega arith) b.square q b.image;
       };
     }
 inward d p key q some_rows some_columns (inr (inr (inr (inl b)))) =
     let i = b.row_in in let j = b.column_in in
     record {
-      row = 0; column = p.columns - 1 - b.column; row_in = some_rows; column_in = omega arith;
+      row = 0;
+      column = p.columns - 1 - b.column;
+      row_in = some_rows;
+      column_in = omega arith;
       sibling = record {
-        other_row = 0; other_column = 0; row_in = some_rows; column_in = some_columns;
+        other_row = 0;
+        other_column = 0;
+        row_in = some_rows;
+        column_in = some_columns;
         other = λ g. let z = g.1 in let y : ⊥ = omega arith in y;
-        square = b.square; flat = b.flat;
+        square = b.square;
+        flat = b.flat;
         image = again p 0 0 0 (p.columns - 1) 1 (p.columns - 1) 0 0 0 (p.columns - 1 - b.column) b.row b.column (omega arith) (omega arith) b.square q b.image;
       };
     }

@@ -80,15 +80,18 @@ right_more d p key hull w start old new list v sound h right exact adds q e =
       | inl f ↦ right (moved_square v.motion s) f
       | inr f ↦
           let b = (exact s).0 (left_of (covers list s) (has w (moved_square v.motion s)) f) in
-          inr (and_right (covers list s) (has w (moved_square v.motion s)) f, record {
-            row = h.row;
-            column = h.column;
-            row_in = h.row_in;
-            column_in = h.column_in;
-            square = s;
-            flat = (over_flat d sound p.cell key s).0 b.1;
-            image = ap (λ (m : Motion). moved_square m s) (sym h.motion);
-          })
+          inr (
+            and_right (covers list s) (has w (moved_square v.motion s)) f,
+            record {
+              row = h.row;
+              column = h.column;
+              row_in = h.row_in;
+              column_in = h.column_in;
+              square = s;
+              flat = (over_flat d sound p.cell key s).0 b.1;
+              image = ap (λ (m : Motion). moved_square m s) (sym h.motion);
+            },
+          )
     ]
 
 -- all that the array brings is there

@@ -70,7 +70,8 @@ jobs_more d value name cell key g jobs k old out new first second q = (
       | yes e ↦ (second q).1 (inr (subst (λ i. IsFromJob d value name cell key g q (slice_index jobs i)) e j.2))
       | no not ↦ (second q).1 (inl ((first q).1 (inr (j.0, (omega arith), j.2))))
     ]
-  ]))
+  ]),
+)
 
 pub entry_zone : (d : Linked) (key : LayerKey) (name cell : ℕ) (o : Option CellZones) → (v : CellZones) × (o ≡ Some v) → IfSome o (IsEntry d key name cell) → IsFramedZone d (key ∷ []) cell (zone_in o name)
 entry_zone d key name cell o (v, e) h = subst (λ x. IsFramedZone d (key ∷ []) cell (zone_in x name)) (sym e) (if_some (IsEntry d key name cell) o v e h).1
@@ -90,4 +91,5 @@ made_of d value name cell key g jobs set old out none same h q = (
     | inl f ↦ let x : false ≡ true = subst (λ l. covers l q ≡ true) none f in absurd (let z : ⊥ = cc in z)
     | inr j ↦ j
   ]),
-  (λ j. same q ∙ (h q).1 (inr j)))
+  (λ j. same q ∙ (h q).1 (inr j)),
+)

@@ -30,7 +30,6 @@ module _ (d : Linked) (p : Place) (key : LayerKey) (w : Rect) (t0 t1 t2 t3 t4 : 
     (b2 : Brings d (around p 0 (p.rows - 1) 0 (p.columns - 1) (p.rows - 1) (2 * p.columns - 1)) key w t1 t2)
     (b3 : Brings d (around p 0 0 1 0 1 (p.columns - 1)) key w t2 t3)
     (b4 : Brings d (around p 0 0 0 (p.columns - 1) 1 (p.columns - 1)) key w t3 t4) (q : Square) where
-
   s : Square
   s = moved_square (motion_at p 0 0) q
 
@@ -99,12 +98,14 @@ pub reference_adds : (d : Linked) (zone windows : List Rect) (parent index : ℕ
     → Adds p g (OnRects p zone) o1 o2 → Adds p g (BesideIn windows d parent index key p) o2 o3 → Adds p g (λ row column q. IsFromSibling d p row column key q) o3 o4 → Adds p g (Why zone d parent index key p) o1 o4
 reference_adds d zone windows parent index key p g o1 o2 o3 o4 covering a b c =
     joined p g (λ row column q. OnRects p zone row column q ⊎ Beside d parent index key p row column q) (λ row column q. IsFromSibling d p row column key q) (Why zone d parent index key p) o1 o3 o4
-      (λ row column q i j h. (
-        (λ x. elim x [ inl z ↦ inl (inl z) | inr y ↦ elim y [ inl o ↦ inl (inr o) | inr s ↦ inr s ] ]),
-        (λ x. elim x [ inl y ↦ elim y [ inl z ↦ inl z | inr o ↦ inr (inl o) ] | inr s ↦ inr (inr s) ])))
-      (joined p g (OnRects p zone) (BesideIn windows d parent index key p) (λ row column q. OnRects p zone row column q ⊎ Beside d parent index key p row column q) o1 o2 o3
-        (λ row column q i j h. (
-          (λ x. elim x [ inl z ↦ inl z | inr o ↦ inr (covering row column q i j h, o) ]),
-          (λ x. elim x [ inl z ↦ inl z | inr o ↦ inr o.1 ])))
-        a b)
-      c
+    (λ row column q i j h. (
+      (λ x. elim x [ inl z ↦ inl (inl z) | inr y ↦ elim y [ inl o ↦ inl (inr o) | inr s ↦ inr s ] ]),
+      (λ x. elim x [ inl y ↦ elim y [ inl z ↦ inl z | inr o ↦ inr (inl o) ] | inr s ↦ inr (inr s) ]),
+    ))
+    (joined p g (OnRects p zone) (BesideIn windows d parent index key p) (λ row column q. OnRects p zone row column q ⊎ Beside d parent index key p row column q) o1 o2 o3
+    (λ row column q i j h. (
+      (λ x. elim x [ inl z ↦ inl z | inr o ↦ inr (covering row column q i j h, o) ]),
+      (λ x. elim x [ inl z ↦ inl z | inr o ↦ inr o.1 ]),
+    ))
+    a b)
+    c

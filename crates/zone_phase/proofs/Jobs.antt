@@ -36,21 +36,23 @@ job_step d value name cell key hull g jobs zone sound is wide right all made q =
     to e =
         let h = (made q).0 e in
         let b = h.2 in
-        let r = right h.0 h.1 in
-        ((array_zones d sound cell key q).1 (record {
-          parent = downward_cell d (slice_index jobs h.0);
-          index = b.index;
-          row = b.row;
-          column = b.column;
-          from = b.from;
-          reached = r.0;
-          step = b.step;
-          here = b.here;
-          why = elim b.why [
-            | inl z ↦ inl ((r.1 (moved_square (motion_at b.from b.row b.column) q)).0 z).0
-            | inr o ↦ inr o
-          ];
-        }), in_grown (hull_of (cell_at d cell)) hull g q is wide b.inner)
+        let r = right h.0 h.1 in (
+          (array_zones d sound cell key q).1 (record {
+            parent = downward_cell d (slice_index jobs h.0);
+            index = b.index;
+            row = b.row;
+            column = b.column;
+            from = b.from;
+            reached = r.0;
+            step = b.step;
+            here = b.here;
+            why = elim b.why [
+              | inl z ↦ inl ((r.1 (moved_square (motion_at b.from b.row b.column) q)).0 z).0
+              | inr o ↦ inr o
+            ];
+          }),
+          in_grown (hull_of (cell_at d cell)) hull g q is wide b.inner,
+        )
 
     from : IsDisturbed (plain d) (key ∷ []) cell q × IsInGrown (hull_of (cell_at d cell)) q → covers zone q ≡ true
     from (h, i) =
@@ -60,20 +62,24 @@ job_step d value name cell key hull g jobs zone sound is wide right all made q =
         let r = right j.0 j.1 in
         let m = moved_square (motion_at b.from b.row b.column) q in
         let step = subst (λ c. IsStep d c b.index b.row b.column b.from) (sym j.2) b.step in
-        (made q).1 (j.0, j.1, record {
-          index = b.index;
-          row = b.row;
-          column = b.column;
-          from = b.from;
-          index_in = slice_get_within (places_at (cell_at d (downward_cell d (slice_index jobs j.0)))) b.index b.from step.there;
-          step = step;
-          here = b.here;
-          inner = has_grown (hull_of (cell_at d cell)) hull g q is wide i;
-          why = elim b.why [
-            | inl z ↦ inl ((r.1 m).1 (subst (λ c. IsDisturbed (plain d) (key ∷ []) c m) (sym j.2) z, subst (λ c. IsInGrown (hull_of (cell_at d c)) m) (sym j.2) up))
-            | inr o ↦ inr (elim o [ inl x ↦ inl (subst (λ c. IsOver d c (Some b.index) key m) (sym j.2) x) | inr y ↦ inr y ])
-          ];
-        })
+        (made q).1 (
+          j.0,
+          j.1,
+          record {
+            index = b.index;
+            row = b.row;
+            column = b.column;
+            from = b.from;
+            index_in = slice_get_within (places_at (cell_at d (downward_cell d (slice_index jobs j.0)))) b.index b.from step.there;
+            step = step;
+            here = b.here;
+            inner = has_grown (hull_of (cell_at d cell)) hull g q is wide i;
+            why = elim b.why [
+              | inl z ↦ inl ((r.1 m).1 (subst (λ c. IsDisturbed (plain d) (key ∷ []) c m) (sym j.2) z, subst (λ c. IsInGrown (hull_of (cell_at d c)) m) (sym j.2) up))
+              | inr o ↦ inr (elim o [ inl x ↦ inl (subst (λ c. IsOver d c (Some b.index) key m) (sym j.2) x) | inr y ↦ inr y ])
+            ];
+          },
+        )
 
 -- a cell without squares has no zone
 pub no_zone : (d : Linked) (cell : ℕ) (key : LayerKey) (zone : List Rect) → None ≡ hull_of (cell_at d cell) → ((q : Square) → covers zone q ≡ true → ⊥) → IsFramedZone d (key ∷ []) cell zone

@@ -44,17 +44,19 @@ same_still p hull P old none q = (λ e. inl e, λ h. elim h [ inl e ↦ e | inr 
 pub one_grows : (p : Place) (hull rect : Rect) (old new : List Rect) → ((q : Square) → (covers new q ≡ true) ↔ IsPulled p hull rect old q) → Adds p hull (λ row column q. has rect (moved_square (motion_at p row column) q) ≡ true) old new
 one_grows p hull rect old new h q = (
   (λ e. elim ((h q).0 e) [ inl f ↦ inl f | inr t ↦ inr (record { row = t.row; column = t.column; row_in = t.row_in; column_in = t.column_in; inner = t.met.inner; holds = t.met.outer }) ]),
-  (λ g. (h q).1 (elim g [ inl f ↦ inl f | inr s ↦ inr (record { row = s.row; column = s.column; row_in = s.row_in; column_in = s.column_in; met = record { inner = s.inner; outer = s.holds } }) ])))
+  (λ g. (h q).1 (elim g [ inl f ↦ inl f | inr s ↦ inr (record { row = s.row; column = s.column; row_in = s.row_in; column_in = s.column_in; met = record { inner = s.inner; outer = s.holds } }) ])),
+)
 
 -- the growth of one more rectangle
 pub rect_more : (p : Place) (hull : Rect) (rects : List Rect) (k : ℕ) (z : Rect) (old out new : List Rect) → k < length rects → Adds p hull (OnRects p (take k rects)) old out
     → ((q : Square) → (covers new q ≡ true) ↔ IsPulled p hull (slice_index_or rects k z) out q) → Adds p hull (OnRects p (take (k + 1) rects)) old new
 rect_more p hull rects k z old out new lt first second =
     joined p hull (OnRects p (take k rects)) (λ row column q. has (slice_index_or rects k z) (moved_square (motion_at p row column) q) ≡ true) (OnRects p (take (k + 1) rects)) old out new
-      (λ row column q a b c. let m = moved_square (motion_at p row column) q in let e = covers_more rects k z m lt in
-        (λ h. or_split (covers (take k rects) m) (has (slice_index_or rects k z) m) (sym e ∙ h),
-         λ h. e ∙ elim h [ inl f ↦ or_left (covers (take k rects) m) (has (slice_index_or rects k z) m) f | inr f ↦ or_right (covers (take k rects) m) (has (slice_index_or rects k z) m) f ]))
-      first (one_grows p hull (slice_index_or rects k z) out new second)
+    (λ row column q a b c. let m = moved_square (motion_at p row column) q in let e = covers_more rects k z m lt in (
+      λ h. or_split (covers (take k rects) m) (has (slice_index_or rects k z) m) (sym e ∙ h),
+      λ h. e ∙ elim h [ inl f ↦ or_left (covers (take k rects) m) (has (slice_index_or rects k z) m) f | inr f ↦ or_right (covers (take k rects) m) (has (slice_index_or rects k z) m) f ],
+    ))
+    first (one_grows p hull (slice_index_or rects k z) out new second)
 
 -- the growth of one more window
 pub window_more : (d : Linked) (parent index : ℕ) (key : LayerKey) (p : Place) (hull : Rect) (windows : List Rect) (k : ℕ) (z : Rect) (rects old out new : List Rect) → k < length windows
@@ -62,13 +64,14 @@ pub window_more : (d : Linked) (parent index : ℕ) (key : LayerKey) (p : Place)
     → Adds p hull (BesideIn (take k windows) d parent index key p) old out → Adds p hull (OnRects p rects) out new → Adds p hull (BesideIn (take (k + 1) windows) d parent index key p) old new
 window_more d parent index key p hull windows k z rects old out new lt exact first second =
     joined p hull (BesideIn (take k windows) d parent index key p) (OnRects p rects) (BesideIn (take (k + 1) windows) d parent index key p) old out new
-      (λ row column q a b c. let m = moved_square (motion_at p row column) q in let e = covers_more windows k z m lt in
-        (λ h. elim (or_split (covers (take k windows) m) (has (slice_index_or windows k z) m) (sym e ∙ h.0)) [ inl f ↦ inl (f, h.1) | inr f ↦ inr ((exact m).1 (f, h.1)) ],
-         λ h. elim h [
-           | inl f ↦ (e ∙ or_left (covers (take k windows) m) (has (slice_index_or windows k z) m) f.0, f.1)
-           | inr f ↦ let g = (exact m).0 f in (e ∙ or_right (covers (take k windows) m) (has (slice_index_or windows k z) m) g.0, g.1)
-         ]))
-      first second
+    (λ row column q a b c. let m = moved_square (motion_at p row column) q in let e = covers_more windows k z m lt in (
+      λ h. elim (or_split (covers (take k windows) m) (has (slice_index_or windows k z) m) (sym e ∙ h.0)) [ inl f ↦ inl (f, h.1) | inr f ↦ inr ((exact m).1 (f, h.1)) ],
+      λ h. elim h [
+        | inl f ↦ (e ∙ or_left (covers (take k windows) m) (has (slice_index_or windows k z) m) f.0, f.1)
+        | inr f ↦ let g = (exact m).0 f in (e ∙ or_right (covers (take k windows) m) (has (slice_index_or windows k z) m) g.0, g.1)
+      ],
+    ))
+    first second
 
 -- pieces of a window are near
 pub pieces_within : (w : Rect) (rects : List Rect) → IsRectWithin (2 ^ 39) w → All (IsPiece w) rects → All (IsRectWithin (2 ^ 39)) rects

@@ -41,7 +41,8 @@ one_more d zone parent i cell key g place old out new there here first second q 
   (λ h. elim h [
     | inl e ↦ (second q).1 (inl ((first q).1 (inl e)))
     | inr r ↦ elim (split d zone parent i cell key g q place there r) [ inl s ↦ (second q).1 (inl ((first q).1 (inr s))) | inr s ↦ (second q).1 (inr s.1) ]
-  ]))
+  ]),
+)
 
 pub one_less : (d : Linked) (zone : List Rect) (parent i cell : ℕ) (key : LayerKey) (g : Rect) (place : Place) (old out : List Rect) → slice_get (places_at (cell_at d parent)) i ≡ Some place → (place.cell ≡ cell → ⊥)
     → Grown d zone parent i cell key g old out → Grown d zone parent (i + 1) cell key g old out
@@ -50,7 +51,8 @@ one_less d zone parent i cell key g place old out there other first q = (
   (λ h. elim h [
     | inl e ↦ (first q).1 (inl e)
     | inr r ↦ elim (split d zone parent i cell key g q place there r) [ inl s ↦ (first q).1 (inr s) | inr s ↦ absurd (other s.0) ]
-  ]))
+  ]),
+)
 
 -- none was looked at
 pub none_yet : (d : Linked) (zone : List Rect) (parent cell : ℕ) (key : LayerKey) (g : Rect) (old : List Rect) → Grown d zone parent 0 cell key g old old

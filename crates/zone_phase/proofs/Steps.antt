@@ -59,37 +59,42 @@ zone_step d zones cell key zone sound above made q = (to, from)
     to : covers zone q ≡ true → IsDisturbed (plain d) (key ∷ []) cell q × IsInGrown (hull_of (cell_at d cell)) q
     to e =
         let h = (made q).0 e in
-        let b = h.0 in
-        ((array_zones d sound cell key q).1 (record {
-          parent = b.parent;
-          index = b.index;
-          row = b.row;
-          column = b.column;
-          from = b.from;
-          reached = b.reached;
-          step = b.step;
-          here = b.here;
-          why = elim b.why [
-            | inl z ↦ inl ((above b.parent b.index b.row b.column b.from b.reached b.step b.here (moved_square (motion_at b.from b.row b.column) q)).0 z).0
-            | inr o ↦ inr o
-          ];
-        }), h.1)
+        let b = h.0 in (
+          (array_zones d sound cell key q).1 (record {
+            parent = b.parent;
+            index = b.index;
+            row = b.row;
+            column = b.column;
+            from = b.from;
+            reached = b.reached;
+            step = b.step;
+            here = b.here;
+            why = elim b.why [
+              | inl z ↦ inl ((above b.parent b.index b.row b.column b.from b.reached b.step b.here (moved_square (motion_at b.from b.row b.column) q)).0 z).0
+              | inr o ↦ inr o
+            ];
+          }),
+          h.1,
+        )
 
     from : IsDisturbed (plain d) (key ∷ []) cell q × IsInGrown (hull_of (cell_at d cell)) q → covers zone q ≡ true
     from (h, g) =
         let b = (array_zones d sound cell key q).0 h in
         let up = grown_up d b.parent b.index b.row b.column b.from q sound b.step (subst (λ c. IsInGrown (hull_of (cell_at d c)) q) (sym b.here) g) in
-        (made q).1 (record {
-          parent = b.parent;
-          index = b.index;
-          row = b.row;
-          column = b.column;
-          from = b.from;
-          reached = b.reached;
-          step = b.step;
-          here = b.here;
-          why = elim b.why [
-            | inl z ↦ inl ((above b.parent b.index b.row b.column b.from b.reached b.step b.here (moved_square (motion_at b.from b.row b.column) q)).1 (z, up))
-            | inr o ↦ inr o
-          ];
-        }, g)
+        (made q).1 (
+          record {
+            parent = b.parent;
+            index = b.index;
+            row = b.row;
+            column = b.column;
+            from = b.from;
+            reached = b.reached;
+            step = b.step;
+            here = b.here;
+            why = elim b.why [
+              | inl z ↦ inl ((above b.parent b.index b.row b.column b.from b.reached b.step b.here (moved_square (motion_at b.from b.row b.column) q)).1 (z, up))
+              | inr o ↦ inr o
+            ];
+          },
+          g,
+        )

@@ -28,7 +28,7 @@ pub record IsBrought (d : Linked) (zones : ℕ → List Rect) (cell : ℕ) (key 
   pub step : IsStep d parent index row column from
   pub here : from.cell ≡ cell
   pub why : (covers (zones parent) (moved_square (motion_at from row column) q) ≡ true)
-    ⊎ (IsOver d parent (Some index) key (moved_square (motion_at from row column) q) ⊎ IsFromSibling d from row column key q)
+      ⊎ (IsOver d parent (Some index) key (moved_square (motion_at from row column) q) ⊎ IsFromSibling d from row column key q)
 
 -- where each reached parent has its disturbed squares, the cell has those that its parents' references bring into its grown hull
 abbrev pub ZoneStepLaw : Type 0

@@ -63,7 +63,15 @@ fn offset(ahead: u32, back: u32, step: i64) -> i64
     less(times(ahead, step), times(back, step))
 }
 
-fn begun(start: i64, right: u32, left: u32, column_step: i64, up: u32, down: u32, row_step: i64) -> i64
+fn begun(
+    start: i64,
+    right: u32,
+    left: u32,
+    column_step: i64,
+    up: u32,
+    down: u32,
+    row_step: i64,
+) -> i64
     requires start { IsWithin (2 ^ 30) start }
     requires right { IsWithin (2 ^ 31) (pos right *ℤ column_step) }
     requires left { IsWithin (2 ^ 31) (pos left *ℤ column_step) }
@@ -94,8 +102,24 @@ fn around(
         cell: place.cell,
         motion: Motion {
             turn: place.motion.turn,
-            dx: begun(place.motion.dx, right, left, place.column_step.x, up, down, place.row_step.x),
-            dy: begun(place.motion.dy, right, left, place.column_step.y, up, down, place.row_step.y),
+            dx: begun(
+                place.motion.dx,
+                right,
+                left,
+                place.column_step.x,
+                up,
+                down,
+                place.row_step.x,
+            ),
+            dy: begun(
+                place.motion.dy,
+                right,
+                left,
+                place.column_step.y,
+                up,
+                down,
+                place.row_step.y,
+            ),
         },
         columns,
         rows,
@@ -193,10 +217,54 @@ pub fn push_siblings(
     let rows = place.rows - 1;
     let columns = place.columns - 1;
     let mut there = Vec::new(alloc);
-    push_around(alloc, &mut there, design, place, key, hull, &window, 1, 0, 0, columns as u32, rows, 2 * place.columns - 1)?;
-    push_around(alloc, &mut there, design, place, key, hull, &window, 0, rows as u32, 0, columns as u32, rows, 2 * place.columns - 1)?;
-    push_around(alloc, &mut there, design, place, key, hull, &window, 0, 0, 1, 0, 1, columns)?;
-    push_around(alloc, &mut there, design, place, key, hull, &window, 0, 0, 0, columns as u32, 1, columns)?;
+    push_around(
+        alloc,
+        &mut there,
+        design,
+        place,
+        key,
+        hull,
+        &window,
+        1,
+        0,
+        0,
+        columns as u32,
+        rows,
+        2 * place.columns - 1,
+    )?;
+    push_around(
+        alloc,
+        &mut there,
+        design,
+        place,
+        key,
+        hull,
+        &window,
+        0,
+        rows as u32,
+        0,
+        columns as u32,
+        rows,
+        2 * place.columns - 1,
+    )?;
+    push_around(
+        alloc, &mut there, design, place, key, hull, &window, 0, 0, 1, 0, 1, columns,
+    )?;
+    push_around(
+        alloc,
+        &mut there,
+        design,
+        place,
+        key,
+        hull,
+        &window,
+        0,
+        0,
+        0,
+        columns as u32,
+        1,
+        columns,
+    )?;
     let mut more = Vec::new(alloc);
     push_images(&mut more, &there, &first.inverse(), grown)?;
     out.extend_from_slice(&more)?;

@@ -103,12 +103,7 @@ fn is_dense(element: &Rect, row: &Rect, columns: u32) -> bool {
 }
 
 // Adds one window for each element of a row.
-fn push_each(
-    out: &mut Vec<Rect>,
-    place: &Place,
-    row: u32,
-    hull: &Rect,
-) -> Result<(), AllocError>
+fn push_each(out: &mut Vec<Rect>, place: &Place, row: u32, hull: &Rect) -> Result<(), AllocError>
     requires near { IsNearArray place.now }
     requires row { row < place.now.rows }
     requires hull { IsFrame hull.now }
@@ -125,12 +120,7 @@ fn push_each(
 }
 
 // Adds one window for a row that is dense, and else one for each element.
-fn push_row(
-    out: &mut Vec<Rect>,
-    place: &Place,
-    row: u32,
-    hull: &Rect,
-) -> Result<(), AllocError>
+fn push_row(out: &mut Vec<Rect>, place: &Place, row: u32, hull: &Rect) -> Result<(), AllocError>
     requires near { IsNearArray place.now }
     requires row { row < place.now.rows }
     requires some { 0 < place.now.columns }

@@ -46,7 +46,17 @@ pub fn push_job<R: Reads<CellZones>>(
     let order = design.order();
     let parent = order[order.len() - 1 - job as usize];
     let zones = reads.get(job);
-    push_parent(alloc, out, design, zones.layers[name as usize].rects(), parent, cell, key, hull, grown)?;
+    push_parent(
+        alloc,
+        out,
+        design,
+        zones.layers[name as usize].rects(),
+        parent,
+        cell,
+        key,
+        hull,
+        grown,
+    )?;
     Ok(())
 }
 
@@ -74,7 +84,9 @@ pub fn push_jobs<R: Reads<CellZones>>(
     ensures present { OnOk result ((k : ℕ) → k < length jobs.now → (v : CellZones) × (R.value reads.now (slice_index jobs.now k) ≡ Some v)) }
 {
     for job in jobs {
-        push_job(alloc, out, design, reads, *job, name, cell, key, hull, grown)?;
+        push_job(
+            alloc, out, design, reads, *job, name, cell, key, hull, grown,
+        )?;
     }
     Ok(())
 }
@@ -100,7 +112,9 @@ fn hull_zone<R: Reads<CellZones>>(
     design.sound();
     let mut out = Vec::new(alloc);
     let wide = grown(hull);
-    push_jobs(alloc, &mut out, design, reads, jobs, name, cell, key, hull, &wide)?;
+    push_jobs(
+        alloc, &mut out, design, reads, jobs, name, cell, key, hull, &wide,
+    )?;
     let set = RectSet::canon(alloc, out)?;
     Ok(set)
 }

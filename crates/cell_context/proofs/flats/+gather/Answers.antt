@@ -42,15 +42,18 @@ loop-visit-preserved t c =
       right = right_more c.args.design.now c.args.cell c.args.skip c.args.key c.args.window.now c.loop-visit.out.items c.push_images.new.out.items c.in_ok-below.below.items v c.sound.ensures h c.loop-visit.invariant.right c.in_ok-below.ensures.exact adds;
       own = λ q e g. stays_there c.loop-visit.out.items c.push_images.new.out.items c.in_ok-below.below.items v.motion c.args.window.now adds q (c.loop-visit.invariant.own q e g);
       found = up_to (λ k. Brings c.args.design.now c.args.key c.args.window.now c.push_images.new.out.items (slice_index_or c.deref-visit-items.result.now k no_visit)) c.loop-visit.visit-index
-        (λ k lt r a b d. stays_there c.loop-visit.out.items c.push_images.new.out.items c.in_ok-below.below.items v.motion c.args.window.now adds _ (c.loop-visit.invariant.found k lt r a b d))
-        (brings_here c.args.design.now c.args.key c.args.window.now c.loop-visit.out.items c.push_images.new.out.items c.in_ok-below.below.items v c.sound.ensures c.in_ok-below.ensures.exact adds);
+          (λ k lt r a b d. stays_there c.loop-visit.out.items c.push_images.new.out.items c.in_ok-below.below.items v.motion c.args.window.now adds _ (c.loop-visit.invariant.found k lt r a b d))
+          (brings_here c.args.design.now c.args.key c.args.window.now c.loop-visit.out.items c.push_images.new.out.items c.in_ok-below.below.items v c.sound.ensures c.in_ok-below.ensures.exact adds);
     }
 
 pub returns-clause-exact : goal.returns-clause-exact
-returns-clause-exact t c = λ q. (c.loop-visit.invariant.right q, λ h.
-    all_there c.args.design.now c.args.cell c.args.skip c.args.key c.args.window.now c.loop-visit.out.items c.deref-visit-items.result.now no_visit c.sound.ensures c.loop-visit.invariant.own
-    (λ k lt. c.loop-visit.invariant.found k (let past = c.loop-visit-test.false in omega arith))
-    (subst (λ (l : List Visit). AreVisited c.args.design.now c.args.cell c.args.skip c.args.window.now l) (sym c.deref-visit-items.ensures.value) c.in_ok-list.ensures.found) q h.0 h.1)
+returns-clause-exact t c = λ q. (
+  c.loop-visit.invariant.right q,
+  λ h.
+      all_there c.args.design.now c.args.cell c.args.skip c.args.key c.args.window.now c.loop-visit.out.items c.deref-visit-items.result.now no_visit c.sound.ensures c.loop-visit.invariant.own
+      (λ k lt. c.loop-visit.invariant.found k (let past = c.loop-visit-test.false in omega arith))
+      (subst (λ (l : List Visit). AreVisited c.args.design.now c.args.cell c.args.skip c.args.window.now l) (sym c.deref-visit-items.ensures.value) c.in_ok-list.ensures.found) q h.0 h.1,
+)
 
 pub push_images-requires-clause-near_rects : goal.push_images-requires-clause-near_rects
 push_images-requires-clause-near_rects t c =

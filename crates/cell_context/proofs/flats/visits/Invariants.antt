@@ -14,5 +14,5 @@ abbrev pub invariant-loop-i : goal.invariant-loop-i
 invariant-loop-i l = record {
   each : All (IsVisit l.design l.cell l.skip l.window) l.out.items;
   found : (i row column : ℕ) (p : Place) (q : Square) → i < l.i → IsStep l.design l.cell i row column p → (l.skip ≡ Some i → ⊥)
-    → HullHas (hull_of (cell_at l.design p.cell)) q → has l.window (moved_square (motion_at p row column) q) ≡ true → Some_of (IsVisited p row column q) l.out.items;
+      → HullHas (hull_of (cell_at l.design p.cell)) q → has l.window (moved_square (motion_at p row column) q) ≡ true → Some_of (IsVisited p row column q) l.out.items;
 }

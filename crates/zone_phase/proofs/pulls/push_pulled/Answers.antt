@@ -22,14 +22,17 @@ loop-visit-preserved c =
       right = right_more c.args.place.now c.args.hull.now c.args.rect.now c.args.out.now.items c.loop-visit.out.items c.push.new.self.items v e h c.loop-visit.invariant.right;
       old = λ q g. stays c.loop-visit.out.items c.push.new.self.items v.window q e (c.loop-visit.invariant.old q g);
       found = up_to (λ k. (q : Square) → has (slice_index_or c.deref-visit-items.result.now k no_visit).window q ≡ true → covers c.push.new.self.items q ≡ true) c.loop-visit.visit-index
-        (λ k lt q g. stays c.loop-visit.out.items c.push.new.self.items v.window q e (c.loop-visit.invariant.found k lt q g))
-        (λ q g. comes c.loop-visit.out.items c.push.new.self.items v.window q e g);
+          (λ k lt q g. stays c.loop-visit.out.items c.push.new.self.items v.window q e (c.loop-visit.invariant.found k lt q g))
+          (λ q g. comes c.loop-visit.out.items c.push.new.self.items v.window q e g);
     }
 
 pub returns-clause-exact : goal.returns-clause-exact
-returns-clause-exact c = λ q. (c.loop-visit.invariant.right q, λ h. elim h [
-  | inl g ↦ c.loop-visit.invariant.old q g
-  | inr t ↦ all_there c.args.place.now c.args.hull.now c.args.rect.now c.loop-visit.out.items c.deref-visit-items.result.now no_visit
-      (λ k lt. c.loop-visit.invariant.found k (let past = c.loop-visit-test.false in omega arith))
-      (subst (λ (l : List Visit). (row column : ℕ) (q : Square) → row < c.args.place.now.rows → column < c.args.place.now.columns → IsMet c.args.place.now c.args.hull.now c.args.rect.now row column q → IsFound c.args.place.now row column q l) (sym c.deref-visit-items.ensures.value) c.in_ok-place_visits.ensures.found) q t
-])
+returns-clause-exact c = λ q. (
+  c.loop-visit.invariant.right q,
+  λ h. elim h [
+    | inl g ↦ c.loop-visit.invariant.old q g
+    | inr t ↦ all_there c.args.place.now c.args.hull.now c.args.rect.now c.loop-visit.out.items c.deref-visit-items.result.now no_visit
+        (λ k lt. c.loop-visit.invariant.found k (let past = c.loop-visit-test.false in omega arith))
+        (subst (λ (l : List Visit). (row column : ℕ) (q : Square) → row < c.args.place.now.rows → column < c.args.place.now.columns → IsMet c.args.place.now c.args.hull.now c.args.rect.now row column q → IsFound c.args.place.now row column q l) (sym c.deref-visit-items.ensures.value) c.in_ok-place_visits.ensures.found) q t
+  ],
+)

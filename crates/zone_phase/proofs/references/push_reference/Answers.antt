@@ -48,7 +48,7 @@ push_siblings-requires-clause-frame c = is_hull c.args.design.now c.args.place.n
 pub returns-clause-exact : goal.returns-clause-exact
 returns-clause-exact c =
     reference_adds c.args.design.now c.args.zone.now c.in_ok-list.list.items c.args.parent c.args.index c.args.key c.args.place.now c.args.grown.now
-      c.args.out.now.items c.push_onto.new.out.items c.push_beside.new.out.items c.push_siblings.new.out.items c.in_ok-list.ensures.covered
-      c.in_ok-push_onto.ensures.exact
-      (subst (λ (l : List Rect). Adds c.args.place.now c.args.grown.now (BesideIn l c.args.design.now c.args.parent c.args.index c.args.key c.args.place.now) c.push_onto.new.out.items c.push_beside.new.out.items) c.deref.ensures.value c.in_ok-push_beside.ensures.exact)
-      c.in_ok-push_siblings.ensures.exact
+    c.args.out.now.items c.push_onto.new.out.items c.push_beside.new.out.items c.push_siblings.new.out.items c.in_ok-list.ensures.covered
+    c.in_ok-push_onto.ensures.exact
+    (subst (λ (l : List Rect). Adds c.args.place.now c.args.grown.now (BesideIn l c.args.design.now c.args.parent c.args.index c.args.key c.args.place.now) c.push_onto.new.out.items c.push_beside.new.out.items) c.deref.ensures.value c.in_ok-push_beside.ensures.exact)
+    c.in_ok-push_siblings.ensures.exact

@@ -30,7 +30,7 @@ push_images-requires-clause-near_rects c =
     let each = subst (All (IsElementVisit c.args.other.now c.args.hull.now c.args.window.now)) (sym c.deref-visit-items.ensures.value) c.in_ok-place_visits.ensures.each in
     subst (λ (l : List Rect). All IsNearRect l) (sym c.deref.ensures.value)
     (pieces_near (slice_index_or c.deref-visit-items.result.now c.loop-visit.visit-index no_visit).window c.in_ok-below.below.items
-      (visit_within c.args.other.now c.args.hull.now c.args.window.now _ (each c.loop-visit.visit-index no_visit c.loop-visit-test.true)) c.in_ok-below.ensures.pieces)
+    (visit_within c.args.other.now c.args.hull.now c.args.window.now _ (each c.loop-visit.visit-index no_visit c.loop-visit-test.true)) c.in_ok-below.ensures.pieces)
 
 pub loop-visit-preserved : goal.loop-visit-preserved
 loop-visit-preserved c =
@@ -44,15 +44,18 @@ loop-visit-preserved c =
       old = λ s e. stays_there c.loop-visit.there.items c.push_images.new.out.items c.in_ok-below.below.items v.motion c.args.window.now adds s (c.loop-visit.invariant.old s e);
       found = up_to (λ k. (r : Square) → has (slice_index_or c.deref-visit-items.result.now k no_visit).window r ≡ true → InFlatInput (plain c.args.design.now) c.args.other.now.cell c.args.key r
           → has c.args.window.now (moved_square (slice_index_or c.deref-visit-items.result.now k no_visit).motion r) ≡ true → covers c.push_images.new.out.items (moved_square (slice_index_or c.deref-visit-items.result.now k no_visit).motion r) ≡ true) c.loop-visit.visit-index
-        (λ k lt r a b d. stays_there c.loop-visit.there.items c.push_images.new.out.items c.in_ok-below.below.items v.motion c.args.window.now adds _ (c.loop-visit.invariant.found k lt r a b d))
-        (brings_flat c.args.design.now c.args.other.now c.args.key c.args.hull.now c.args.window.now c.loop-visit.there.items c.push_images.new.out.items c.in_ok-below.below.items v c.sound.ensures c.in_ok-below.ensures.exact adds);
+          (λ k lt r a b d. stays_there c.loop-visit.there.items c.push_images.new.out.items c.in_ok-below.below.items v.motion c.args.window.now adds _ (c.loop-visit.invariant.found k lt r a b d))
+          (brings_flat c.args.design.now c.args.other.now c.args.key c.args.hull.now c.args.window.now c.loop-visit.there.items c.push_images.new.out.items c.in_ok-below.below.items v c.sound.ensures c.in_ok-below.ensures.exact adds);
     }
 
 pub returns-clause-exact : goal.returns-clause-exact
-returns-clause-exact c = λ s. (c.loop-visit.invariant.right s, λ h. elim h [
-  | inl e ↦ c.loop-visit.invariant.old s e
-  | inr b ↦ all_brought c.args.design.now c.args.other.now c.args.key c.args.hull.now c.args.window.now c.loop-visit.there.items c.deref-visit-items.result.now no_visit c.sound.ensures c.requires.hull
-      (λ k lt. c.loop-visit.invariant.found k (let past = c.loop-visit-test.false in omega arith))
-      (subst (λ (l : List Visit). (row column : ℕ) (q : Square) → row < c.args.other.now.rows → column < c.args.other.now.columns → IsMet c.args.other.now c.args.hull.now c.args.window.now row column q → IsFound c.args.other.now row column q l) (sym c.deref-visit-items.ensures.value) c.in_ok-place_visits.ensures.found)
-      s b.0 b.1
-])
+returns-clause-exact c = λ s. (
+  c.loop-visit.invariant.right s,
+  λ h. elim h [
+    | inl e ↦ c.loop-visit.invariant.old s e
+    | inr b ↦ all_brought c.args.design.now c.args.other.now c.args.key c.args.hull.now c.args.window.now c.loop-visit.there.items c.deref-visit-items.result.now no_visit c.sound.ensures c.requires.hull
+        (λ k lt. c.loop-visit.invariant.found k (let past = c.loop-visit-test.false in omega arith))
+        (subst (λ (l : List Visit). (row column : ℕ) (q : Square) → row < c.args.other.now.rows → column < c.args.other.now.columns → IsMet c.args.other.now c.args.hull.now c.args.window.now row column q → IsFound c.args.other.now row column q l) (sym c.deref-visit-items.ensures.value) c.in_ok-place_visits.ensures.found)
+        s b.0 b.1
+  ],
+)

@@ -17,5 +17,5 @@ invariant-loop-visit l = record {
   right : (s : Square) → covers l.there.items s ≡ true → (covers l.fn.there.items s ≡ true) ⊎ ((has l.window s ≡ true) × IsBroughtTo l.design l.other l.key s);
   old : (s : Square) → covers l.fn.there.items s ≡ true → covers l.there.items s ≡ true;
   found : (k : ℕ) → k < l.visit-index → (r : Square) → has (slice_index_or l.visit-items k no_visit).window r ≡ true → InFlatInput (plain l.design) l.other.cell l.key r
-    → has l.window (moved_square (slice_index_or l.visit-items k no_visit).motion r) ≡ true → covers l.there.items (moved_square (slice_index_or l.visit-items k no_visit).motion r) ≡ true;
+      → has l.window (moved_square (slice_index_or l.visit-items k no_visit).motion r) ≡ true → covers l.there.items (moved_square (slice_index_or l.visit-items k no_visit).motion r) ≡ true;
 }

@@ -12,4 +12,4 @@ returns-in_ok-push-clause-within c = rw c.in_ok-push.ensures.items (All-push (Is
 pub returns-in_ok-push-clause-covered : goal.returns-in_ok-push-clause-covered
 returns-in_ok-push-clause-covered c = λ column q lt h.
     comes c.args.out.now.items c.push.new.self.items c.bounds-both.result (moved_square (motion_at c.args.place.now c.args.row column) q) c.in_ok-push.ensures.items
-      (row_window c.args.place.now c.args.row column c.args.hull.now c.element_rect-first.result c.element_rect-last.result c.bounds-both.result q c.requires.hull.some lt c.element_rect-first.ensures.exact c.element_rect-last.ensures.exact c.bounds-both.ensures.first c.bounds-both.ensures.second h)
+    (row_window c.args.place.now c.args.row column c.args.hull.now c.element_rect-first.result c.element_rect-last.result c.bounds-both.result q c.requires.hull.some lt c.element_rect-first.ensures.exact c.element_rect-last.ensures.exact c.bounds-both.ensures.first c.bounds-both.ensures.second h)
