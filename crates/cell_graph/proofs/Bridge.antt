@@ -1,6 +1,6 @@
 -- A design beside the plain layout that it stands for.
-use Rattle.std.proofs.Common.{◌≡◌, ◌⊎◌, ◌↔◌, inl, inr, ℕ, zero, suc, ◌+◌, ◌<◌, ◌≤◌, List, [], ◌∷◌, ◌++◌, Option, Some, None, Bool, true, false, ◌&&◌, ◌||◌, map, slice_get, length, refl, sym, ◌∙◌, ap, subst, arith, if◌then◌else◌}
-use Rattle.std.specs.List.{All, list_any}
+use Rattle.std.proofs.Common.{◌≡◌, ◌⊎◌, inl, inr, ℕ, zero, suc, ◌<◌, List, [], ◌∷◌, Option, Some, None, Bool, true, false, ◌||◌, map, slice_get, length, refl, sym, ◌∙◌, ap, subst, arith, if◌then◌else◌}
+use Rattle.std.specs.List.{All}
 use Rattle.std.specs.Option.{option_map}
 use Rattle.std.proofs.lemmas.Option.{slice_get-map, slice_get_within}
 use Rattle.std.proofs.lemmas.List.Elements.{All-head, All-tail}
@@ -17,7 +17,7 @@ use Rattle.flat_layout.specs.Plane.{IsIn}
 use Rattle.flat_layout.specs.Arrays.{place_at, places_of}
 use Rattle.flat_layout.specs.Layout as flat
 use Rattle.flat_layout.specs.Layout.{Some_of, IsOwn, IsPlaced, Takes, InFlatInput, IsHeight}
-use Rattle.cell_graph.specs.Linked.{Linked, IsSound, IsSoundCell, IsReference, IsElement, IsInside, IsHull, HoldsImage, HoldsRects, HullHas, HullIsSound, HasNone, AreApart, is_key, own_rects, own_of, cell_at, hull_of, places_at, height_at, height_of, plain, plain_cell, plain_layer, reference, motion_at, IsStep}
+use Rattle.cell_graph.specs.Linked.{Linked, IsSound, IsReference, IsInside, HoldsImage, HoldsRects, HullHas, HullIsSound, HasNone, AreApart, is_key, own_rects, own_of, cell_at, hull_of, places_at, height_at, height_of, plain, plain_cell, plain_layer, reference, motion_at, IsStep}
 use Rattle.cell_graph.specs.Laws.{OwnLaw, HeightLaw, HullLaw}
 use Rattle.cell_graph.specs.declared.cells.OwnLayer.{OwnLayer}
 use Rattle.cell_graph.specs.declared.cells.Place.{Place}
@@ -126,9 +126,9 @@ part_of d cell c e = mapped plain_cell d.cells cell c e
 pub own : OwnLaw
 own d sound cell key q = (
   (λ h.
-    let m = part_of d cell h.0 h.1 in
-    let s : Some_of (IsOn key q) (map plain_layer m.0.layers.items) = subst (λ (c : flat.Cell). Some_of (IsOn key q) c.layers) (sym m.2) h.2 in
-    subst (λ o. covers (own_of o key) q ≡ true) (sym m.1) (own_to m.0.layers.items key q (sound.each cell m.0 m.1).apart s)),
+      let m = part_of d cell h.0 h.1 in
+      let s : Some_of (IsOn key q) (map plain_layer m.0.layers.items) = subst (λ (c : flat.Cell). Some_of (IsOn key q) c.layers) (sym m.2) h.2 in
+      subst (λ o. covers (own_of o key) q ≡ true) (sym m.1) (own_to m.0.layers.items key q (sound.each cell m.0 m.1).apart s)),
   (λ e. from (cell_at d cell) refl e),
 )
   where

@@ -1,8 +1,7 @@
 -- Placements of arrays by reference, row and column.
-use Rattle.std.proofs.Common.{◌≡◌, ◌⊎◌, inl, inr, ℕ, zero, suc, ◌+◌, ◌-◌, ◌*◌, ◌<◌, ◌≤◌, List, [], ◌∷◌, ◌++◌, Option, Some, None, map, slice_get, length, refl, sym, ◌∙◌, ap, subst, arith, length-append, ◌/◌}
+use Rattle.std.proofs.Common.{◌≡◌, ◌⊎◌, inl, inr, ℕ, zero, suc, ◌+◌, ◌*◌, ◌<◌, List, [], ◌∷◌, ◌++◌, Some, None, slice_get, length, refl, sym, ◌∙◌, ap, subst, arith, length-append, ◌/◌}
 use Rattle.std.proofs.Math.Nat.{mul-le-mul_right}
 use Rattle.std.proofs.lemmas.Nat.{div-mul-add}
-use Rattle.std.proofs.Math.Decide.{ℕ_discrete}
 use Rattle.flat_layout.specs.Arrays.{Reference, place_at, row_places, array_places, places_of}
 use Rattle.flat_layout.specs.Layout as flat
 
@@ -45,7 +44,6 @@ row_at r row column (suc n) (suc k) lt = row_at r row (suc column) n k (omega ar
 -- the number of an element within its array
 abbrev pub element_number : Reference → ℕ → ℕ → ℕ
 element_number r row column = row * r.columns + column
-
 
 mul_zero : (c : ℕ) → 0 * c ≡ 0
 mul_zero c = omega arith

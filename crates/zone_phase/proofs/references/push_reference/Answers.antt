@@ -1,4 +1,4 @@
-use Rattle.std.proofs.Common.{◌≡◌, List, sym, subst}
+use Rattle.std.proofs.Common.{List, sym, subst}
 use Rattle.geo_base.specs.declared.shapes.Rect.{Rect}
 use Rattle.cell_graph.proofs.Bridge.{reference_at, lower}
 use Rattle.cell_context.proofs.Collecting.{near_array, close_array, is_hull}
@@ -36,9 +36,6 @@ push_siblings-requires-clause-rows c = (reference_at c.args.design.now c.args.pa
 pub push_siblings-requires-clause-columns : goal.push_siblings-requires-clause-columns
 push_siblings-requires-clause-columns c = (reference_at c.args.design.now c.args.parent c.args.index c.args.place.now c.sound.ensures c.requires.there).2.columns
 
-pub push_siblings-requires-clause-few : goal.push_siblings-requires-clause-few
-push_siblings-requires-clause-few c = (reference_at c.args.design.now c.args.parent c.args.index c.args.place.now c.sound.ensures c.requires.there).2.few
-
 pub push_siblings-requires-clause-cell : goal.push_siblings-requires-clause-cell
 push_siblings-requires-clause-cell c = (lower c.args.design.now c.args.parent c.args.index c.args.place.now c.sound.ensures c.requires.there).0
 
@@ -48,7 +45,7 @@ push_siblings-requires-clause-frame c = is_hull c.args.design.now c.args.place.n
 pub returns-clause-exact : goal.returns-clause-exact
 returns-clause-exact c =
     reference_adds c.args.design.now c.args.zone.now c.in_ok-list.list.items c.args.parent c.args.index c.args.key c.args.place.now c.args.grown.now
-      c.args.out.now.items c.push_onto.new.out.items c.push_beside.new.out.items c.push_siblings.new.out.items c.in_ok-list.ensures.covered
-      c.in_ok-push_onto.ensures.exact
-      (subst (λ (l : List Rect). Adds c.args.place.now c.args.grown.now (BesideIn l c.args.design.now c.args.parent c.args.index c.args.key c.args.place.now) c.push_onto.new.out.items c.push_beside.new.out.items) c.deref.ensures.value c.in_ok-push_beside.ensures.exact)
-      c.in_ok-push_siblings.ensures.exact
+    c.args.out.now.items c.push_onto.new.out.items c.push_beside.new.out.items c.push_siblings.new.out.items c.in_ok-list.ensures.covered
+    c.in_ok-push_onto.ensures.exact
+    (subst (λ (l : List Rect). Adds c.args.place.now c.args.grown.now (BesideIn l c.args.design.now c.args.parent c.args.index c.args.key c.args.place.now) c.push_onto.new.out.items c.push_beside.new.out.items) c.deref.ensures.value c.in_ok-push_beside.ensures.exact)
+    c.in_ok-push_siblings.ensures.exact
