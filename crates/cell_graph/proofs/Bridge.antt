@@ -1,6 +1,6 @@
 -- A design beside the plain layout that it stands for.
-use Rattle.std.proofs.Common.{◌≡◌, ◌⊎◌, ◌↔◌, inl, inr, ℕ, zero, suc, ◌+◌, ◌<◌, ◌≤◌, List, [], ◌∷◌, ◌++◌, Option, Some, None, Bool, true, false, ◌&&◌, ◌||◌, map, slice_get, length, refl, sym, ◌∙◌, ap, subst, arith, if◌then◌else◌}
-use Rattle.std.specs.List.{All, list_any}
+use Rattle.std.proofs.Common.{◌≡◌, ◌⊎◌, inl, inr, ℕ, zero, suc, ◌<◌, List, [], ◌∷◌, Option, Some, None, Bool, true, false, ◌||◌, map, slice_get, length, refl, sym, ◌∙◌, ap, subst, arith, if◌then◌else◌}
+use Rattle.std.specs.List.{All}
 use Rattle.std.specs.Option.{option_map}
 use Rattle.std.proofs.lemmas.Option.{slice_get-map, slice_get_within}
 use Rattle.std.proofs.lemmas.List.Elements.{All-head, All-tail}
@@ -17,7 +17,7 @@ use Rattle.flat_layout.specs.Plane.{IsIn}
 use Rattle.flat_layout.specs.Arrays.{place_at, places_of}
 use Rattle.flat_layout.specs.Layout as flat
 use Rattle.flat_layout.specs.Layout.{Some_of, IsOwn, IsPlaced, Takes, InFlatInput, IsHeight}
-use Rattle.cell_graph.specs.Linked.{Linked, IsSound, IsSoundCell, IsReference, IsElement, IsInside, IsHull, HoldsImage, HoldsRects, HullHas, HullIsSound, HasNone, AreApart, is_key, own_rects, own_of, cell_at, hull_of, places_at, height_at, height_of, plain, plain_cell, plain_layer, reference, motion_at, IsStep}
+use Rattle.cell_graph.specs.Linked.{Linked, IsSound, IsReference, IsInside, HoldsImage, HoldsRects, HullHas, HullIsSound, HasNone, AreApart, is_key, own_rects, own_of, cell_at, hull_of, places_at, height_at, height_of, plain, plain_cell, plain_layer, reference, motion_at, IsStep}
 use Rattle.cell_graph.specs.Laws.{OwnLaw, HeightLaw, HullLaw}
 use Rattle.cell_graph.specs.declared.cells.OwnLayer.{OwnLayer}
 use Rattle.cell_graph.specs.declared.cells.Place.{Place}

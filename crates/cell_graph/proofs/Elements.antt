@@ -1,8 +1,7 @@
 -- Placements of arrays by reference, row and column.
-use Rattle.std.proofs.Common.{◌≡◌, ◌⊎◌, inl, inr, ℕ, zero, suc, ◌+◌, ◌-◌, ◌*◌, ◌<◌, ◌≤◌, List, [], ◌∷◌, ◌++◌, Option, Some, None, map, slice_get, length, refl, sym, ◌∙◌, ap, subst, arith, length-append, ◌/◌}
+use Rattle.std.proofs.Common.{◌≡◌, ◌⊎◌, inl, inr, ℕ, zero, suc, ◌+◌, ◌*◌, ◌<◌, List, [], ◌∷◌, ◌++◌, Some, None, slice_get, length, refl, sym, ◌∙◌, ap, subst, arith, length-append, ◌/◌}
 use Rattle.std.proofs.Math.Nat.{mul-le-mul_right}
 use Rattle.std.proofs.lemmas.Nat.{div-mul-add}
-use Rattle.std.proofs.Math.Decide.{ℕ_discrete}
 use Rattle.flat_layout.specs.Arrays.{Reference, place_at, row_places, array_places, places_of}
 use Rattle.flat_layout.specs.Layout as flat
 

@@ -1,11 +1,10 @@
 -- Linked cells as plain values, and the hierarchical layout that they stand for.
-use Rattle.std.specs.Prelude.{◌≡◌, ◌⊎◌, ℕ, ◌+◌, ◌*◌, ◌<◌, ◌≤◌, ◌^◌, ℤ, pos, ◌+ℤ◌, ◌*ℤ◌, ◌≤ℤ◌, List, [], ◌∷◌, ◌++◌, Option, Some, None, map, length, slice_get, slice_index, get_or, Bool, true, ◌==◌, ◌&&◌, if◌then◌else◌}
+use Rattle.std.specs.Prelude.{◌≡◌, ℕ, ◌<◌, ◌≤◌, ◌^◌, ◌≤ℤ◌, List, [], ◌∷◌, Option, Some, None, map, length, slice_get, slice_index, Bool, true, ◌==◌, ◌&&◌, if◌then◌else◌}
 use Rattle.std.specs.List.{All}
 use Rattle.geo_base.specs.Near.{IsWithin}
 use Rattle.geo_base.specs.Rects.{IsRect, has, moved_rect}
 use Rattle.geo_base.specs.declared.layer.LayerKey.{LayerKey}
 use Rattle.geo_base.specs.declared.motion.Motion.{Motion}
-use Rattle.geo_base.specs.declared.motion.Turn.TheVariants.{R0}
 use Rattle.geo_base.specs.declared.shapes.Rect.{Rect}
 use Rattle.geo_base.specs.declared.shapes.Square.{Square}
 use Rattle.flat_layout.specs.Arrays.{Reference, place_at, places_of}
@@ -92,7 +91,6 @@ pub record IsReference (cells : List CellPart) (c : CellPart) (p : Place) : Type
   pub there : slice_get cells p.cell ≡ Some placed
   pub lower : placed.height < c.height
   pub columns : 0 < p.columns
-  pub few : p.columns < 2 ^ 15
   pub rows : 0 < p.rows
   pub elements : (row column : ℕ) → row < p.rows → column < p.columns → IsElement c.hull placed.hull (motion_at p row column)
 

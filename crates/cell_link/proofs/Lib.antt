@@ -5,7 +5,14 @@ pub mod Naming
 pub mod Orders
 pub mod Firsts
 pub mod Resolving
-pub mod Leasts
+pub mod Widening
+pub mod Extending
+pub mod Ranges
+pub mod Turned
+pub mod Hulls
+pub mod Rounds
+pub mod Finishes
+pub mod Sound
 pub mod Looking
 pub mod Calling
 pub mod Roots

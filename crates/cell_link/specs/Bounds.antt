@@ -3,7 +3,6 @@ use Rattle.std.specs.Prelude.{◌≡◌, ◌⊎◌, ℤ, ◌≤ℤ◌, Option, S
 use Rattle.geo_base.specs.declared.shapes.Point.{Point}
 use Rattle.geo_base.specs.declared.shapes.Rect.{Rect}
 use Rattle.cell_link.specs.declared.bounds.Bounds.{Bounds}
-use Rattle.cell_link.specs.Drafts.{IsLeastRange}
 
 pub record IsLow (a b r : ℤ) : Type 0 where
   pub left : r ≤ℤ a
@@ -34,8 +33,3 @@ IsWith (Some b) p r = IsWider b p r
 
 abbrev pub range_of : Bounds → Rect
 range_of b = record { x1 = b.x1; y1 = b.y1; x2 = b.x2; y2 = b.y2 }
-
--- the least bounds of the points, none where there is none
-abbrev pub IsLeast : (Point → Type 0) → Option Bounds → Type 0
-IsLeast P None = (p : Point) → P p → ⊥
-IsLeast P (Some b) = IsLeastRange P (range_of b)

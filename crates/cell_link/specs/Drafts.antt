@@ -1,4 +1,4 @@
--- What drafts of cells name: the design, or the first fault (01, section 5, `cell_graph`).
+-- What drafts of cells name: the design, or the first fault.
 use Rattle.std.specs.Prelude.{◌≡◌, ◌⊎◌, ℕ, zero, suc, ◌<◌, ◌≤◌, ◌^◌, ◌≤ℤ◌, List, [], Option, Some, None, length, map, slice_get, slice_index, Result, Ok, Err}
 use Rattle.geo_base.specs.Motions.{moved_point}
 use Rattle.geo_base.specs.Near.{IsWithin}

@@ -8,3 +8,7 @@ pub mod Drafts
 pub mod Bounds
 pub mod Naming
 pub mod Tops
+pub mod Sides
+pub mod Arrays
+pub mod Extents
+pub mod Finished

@@ -1,5 +1,7 @@
-// The least ranges of x and of y that hold points.
+//! The least ranges of x and of y that hold points.
+ghost use Rattle.std.specs.Prelude.{◌≡◌, ◌⊎◌, Some};
 ghost use Rattle.cell_link.specs.Bounds.{IsLow, IsHigh, IsWith};
+ghost use Rattle.cell_link.specs.Sides.{Widens};
 
 use geo_base::Point;
 
@@ -42,4 +44,12 @@ pub fn with_point(bounds: Option<Bounds>, p: Point) -> Bounds
             y2: high(b.y2, p.y),
         },
     }
+}
+
+/// The least bounds that hold these and two points.
+pub fn with_corners(bounds: Option<Bounds>, low: Point, high: Point) -> Bounds
+    ensures { Widens bounds (λ p. (p ≡ low) ⊎ (p ≡ high)) (Some result) }
+{
+    let one = with_point(bounds, low);
+    with_point(Some(one), high)
 }

@@ -1,4 +1,4 @@
-// Which cells stand below themselves, and how high all stand; both linear in the references.
+//! Which cells stand below themselves, and how high all stand; both linear in the references.
 ghost use Rattle.std.specs.Prelude.{◌≡◌, ◌<◌, ◌≤◌, ℕ, length, take, map, List, Option, IfOk, IfErr, OnOk};
 ghost use Rattle.call_order.specs.Order.{lists, IsCallOrder};
 ghost use Rattle.cell_link.specs.Chains.{AreHeights, IsTooDeep};

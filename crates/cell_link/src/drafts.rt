@@ -1,3 +1,5 @@
+//! Cells as a file has them, and why they can't be linked.
+
 ghost use Rattle.std.specs.Prelude.{◌≡◌};
 
 use cell_graph::{OwnLayer, RawText};
@@ -6,7 +8,8 @@ use net_names::Name;
 use std::alloc::AllocError;
 use thiserror::Error;
 
-/// A reference by name.
+/// A reference by name (SREF and AREF of the GDSII Stream Format): an array of placements, in database units. A single
+/// placement has one column, one row and steps of 0.
 #[derive(Drop)]
 pub struct DraftRef {
     pub cell: Name,
@@ -26,7 +29,7 @@ pub struct CellDraft {
     pub refs: Vec<DraftRef>,
 }
 
-/// Why cells can't be linked: the first fault in the order of 01.
+/// Why cells can't be linked. The tests come in the order of the variants; the first that finds something gives the fault.
 #[derive(Debug, Drop, Error)]
 pub enum LinkFault {
     #[error("more cells than 16384")]

@@ -1,4 +1,4 @@
-// Heights of cells: the longest chain of references below each.
+//! Heights of cells: the longest chain of references below each.
 ghost use Rattle.std.specs.Prelude.{◌≡◌, ◌≤◌, length, IfOk};
 ghost use Rattle.call_order.specs.Order.{IsCallOrder};
 ghost use Rattle.cell_link.specs.Chains.{AreHeights};

@@ -1,4 +1,4 @@
-// The names of cells, each with its number.
+//! The names of cells, each with its number.
 ghost use Rattle.std.specs.Prelude.{◌≡◌, false, ℕ, ◌≤◌, length, List, [], ◌∷◌, ◌++◌, map, OnOk, IfOk, IfErr, Option, Some, None};
 ghost use Rattle.std.specs.List.{list_any, position_or_len};
 ghost use Rattle.std.specs.Str.{bytes_eq};

@@ -1,4 +1,4 @@
-// References by name, resolved to numbers of cells.
+//! References by name, resolved to numbers of cells.
 ghost use Rattle.std.specs.Prelude.{◌≡◌, ◌<◌, ℕ, length, List, Option, Some, slice_get, IfOk, IfErr, OnOk};
 ghost use Rattle.cell_link.specs.declared.drafts.CellDraft.{CellDraft};
 ghost use Rattle.cell_link.specs.Drafts.{HasFew, HasNoRepeat, IsLoose, IsFault, AreAllResolved, AreParts, names_of, IsNamed};

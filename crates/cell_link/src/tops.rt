@@ -1,4 +1,4 @@
-// The top cell: the one of the given name, or the only one that no cell refers to.
+//! The top cell: the one of the given name, or the only one that no cell refers to.
 ghost use Rattle.std.specs.Prelude.{◌≡◌, ◌<◌, ◌≤◌, length, None, IfOk, IfErr};
 ghost use Rattle.cell_link.specs.Drafts.{AreSound, AreParts, IsFault, IsTop, names_of};
 ghost use Rattle.cell_link.specs.Parts.{AreInside, AreResolved, IsAmong};

@@ -1,4 +1,4 @@
-// Which cells chains of references lead to.
+//! Which cells chains of references lead to.
 ghost use Rattle.std.specs.Prelude.{◌≡◌, ℕ, ◌<◌, length, IfOk, OnOk, Some, slice_get};
 ghost use Rattle.cell_link.specs.Parts.{AreInside, AreResolved, IsAmong};
 ghost use Rattle.cell_link.specs.Marking.{AddsMarks, AreMarked};

@@ -2,6 +2,7 @@ pub mod Steps
 pub mod Pulling
 pub mod Around
 pub mod Bringing
+pub mod Rows
 pub mod Covering
 pub mod Gathered
 pub mod Joining

@@ -1,5 +1,5 @@
 -- The other elements of an array, as arrays round one element.
-use Rattle.std.specs.Prelude.{◌≡◌, ◌⊎◌, ◌↔◌, true, ◌≤◌, ℕ, ◌+◌, ◌-◌, ◌*◌, ◌<◌, ℤ, pos, ◌+ℤ◌, ◌-ℤ◌, ◌*ℤ◌, List, [], ◌∷◌}
+use Rattle.std.specs.Prelude.{◌≡◌, ◌⊎◌, ◌↔◌, true, ◌≤◌, ℕ, ◌-◌, ◌*◌, ◌<◌, pos, ◌+ℤ◌, ◌-ℤ◌, ◌*ℤ◌, List, [], ◌∷◌}
 use Rattle.geo_base.specs.Motions.{moved_square}
 use Rattle.geo_base.specs.Rects.{has}
 use Rattle.geo_base.specs.declared.shapes.Rect.{Rect}
@@ -80,3 +80,10 @@ pub record AreShifts (p : Place) (up down right left rows columns : ℕ) : Type 
   pub left_in : left < p.columns
   pub rows_in : rows ≤ p.rows
   pub columns_in : columns < 2 * p.columns
+
+-- shifts by whole rows that stay near
+pub record AreRowShifts (p : Place) (up down rows : ℕ) : Type 0 where
+  pub along : (up ≡ 0) ⊎ (down ≡ 0)
+  pub up_in : up < p.rows
+  pub down_in : down < p.rows
+  pub rows_in : rows ≤ p.rows

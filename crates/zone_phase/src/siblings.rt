@@ -11,7 +11,7 @@ ghost use Rattle.cell_context.specs.Arrays.{IsNearArray, IsCloseArray};
 ghost use Rattle.cell_context.specs.Over.{IsPiece};
 ghost use Rattle.deep_laws.specs.Zones.{IsFromSibling};
 ghost use Rattle.zone_phase.specs.Pulls.{Adds};
-ghost use Rattle.zone_phase.specs.Siblings.{around, Brings, AreShifts};
+ghost use Rattle.zone_phase.specs.Siblings.{around, Brings, AreShifts, AreRowShifts};
 
 use crate::windows::element_rect;
 use cell_context::{gather, motion_at, place_visits, push_images};
@@ -189,6 +189,64 @@ fn push_around(
     Ok(())
 }
 
+// Adds what whole rows bring, as seen from each of their columns: by two arrays, so that both counts of columns fit.
+fn push_rows(
+    alloc: Global,
+    there: &mut Vec<Rect>,
+    design: &Design,
+    place: &Place,
+    key: LayerKey,
+    hull: &Rect,
+    window: &Rect,
+    up: u32,
+    down: u32,
+    rows: u16,
+) -> Result<(), AllocError>
+    requires close { IsCloseArray place.now }
+    requires columns { 0 < place.now.columns }
+    requires shifts { 0 < rows → AreRowShifts place.now up down rows }
+    requires cell { place.now.cell < length design.now.cells }
+    requires hull { hull_of (cell_at design.now place.now.cell) ≡ Some hull.now }
+    requires frame { IsFrame hull.now }
+    requires window { IsRectWithin (2 ^ 39) window.now }
+    requires pieces { All (IsPiece window.now) there.old.items }
+    ensures pieces { OnOk result (All (IsPiece window.now) there.new.items) }
+    ensures exact { OnOk result (Brings design.now (around place.now up down 0 (place.now.columns - 1) rows (2 * place.now.columns - 1)) key window.now there.old.items there.new.items) }
+{
+    let left = place.columns - 1;
+    push_around(
+        alloc,
+        there,
+        design,
+        place,
+        key,
+        hull,
+        window,
+        up,
+        down,
+        0,
+        left as u32,
+        rows,
+        left,
+    )?;
+    push_around(
+        alloc,
+        there,
+        design,
+        place,
+        key,
+        hull,
+        window,
+        up,
+        down,
+        0,
+        0,
+        rows,
+        place.columns,
+    )?;
+    Ok(())
+}
+
 // Adds the squares of a grown hull over which some element of the array has a sibling: four arrays round the first element tell.
 pub fn push_siblings(
     alloc: Global,
@@ -203,7 +261,6 @@ pub fn push_siblings(
     requires near { IsNearArray place.now }
     requires rows { 0 < place.now.rows }
     requires columns { 0 < place.now.columns }
-    requires few { place.now.columns < 2 ^ 15 }
     requires cell { place.now.cell < length design.now.cells }
     requires hull { hull_of (cell_at design.now place.now.cell) ≡ Some hull.now }
     requires frame { IsFrame hull.now }
@@ -217,22 +274,10 @@ pub fn push_siblings(
     let rows = place.rows - 1;
     let columns = place.columns - 1;
     let mut there = Vec::new(alloc);
-    push_around(
-        alloc,
-        &mut there,
-        design,
-        place,
-        key,
-        hull,
-        &window,
-        1,
-        0,
-        0,
-        columns as u32,
-        rows,
-        2 * place.columns - 1,
+    push_rows(
+        alloc, &mut there, design, place, key, hull, &window, 1, 0, rows,
     )?;
-    push_around(
+    push_rows(
         alloc,
         &mut there,
         design,
@@ -242,10 +287,7 @@ pub fn push_siblings(
         &window,
         0,
         rows as u32,
-        0,
-        columns as u32,
         rows,
-        2 * place.columns - 1,
     )?;
     push_around(
         alloc, &mut there, design, place, key, hull, &window, 0, 0, 1, 0, 1, columns,

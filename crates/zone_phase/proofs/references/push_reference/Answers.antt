@@ -1,4 +1,4 @@
-use Rattle.std.proofs.Common.{◌≡◌, List, sym, subst}
+use Rattle.std.proofs.Common.{List, sym, subst}
 use Rattle.geo_base.specs.declared.shapes.Rect.{Rect}
 use Rattle.cell_graph.proofs.Bridge.{reference_at, lower}
 use Rattle.cell_context.proofs.Collecting.{near_array, close_array, is_hull}
@@ -35,9 +35,6 @@ push_siblings-requires-clause-rows c = (reference_at c.args.design.now c.args.pa
 
 pub push_siblings-requires-clause-columns : goal.push_siblings-requires-clause-columns
 push_siblings-requires-clause-columns c = (reference_at c.args.design.now c.args.parent c.args.index c.args.place.now c.sound.ensures c.requires.there).2.columns
-
-pub push_siblings-requires-clause-few : goal.push_siblings-requires-clause-few
-push_siblings-requires-clause-few c = (reference_at c.args.design.now c.args.parent c.args.index c.args.place.now c.sound.ensures c.requires.there).2.few
 
 pub push_siblings-requires-clause-cell : goal.push_siblings-requires-clause-cell
 push_siblings-requires-clause-cell c = (lower c.args.design.now c.args.parent c.args.index c.args.place.now c.sound.ensures c.requires.there).0
