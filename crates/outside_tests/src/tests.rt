@@ -45,10 +45,10 @@ fn file_depot_keeps_a_file(rt: HostRuntime) -> Result<(), Fail> {
 fn file_depot_fails(rt: HostRuntime) -> Result<(), Fail> {
     let alloc = rt.alloc();
     let mut back = Vec::new(alloc);
-    let mut depot = FileDepot::new(&rt);
-    let answer = write_and_read(&mut depot, "no_folder/file", b"GDS", &mut back);
+    let path = "no_folder/file";
+    let answer = write_and_read(&mut FileDepot::new(&rt), path, b"GDS", &mut back);
     assert_eq!(rt; answer, Err(ReadFault::Failed));
-    assert_eq!(rt; depot.open_read("no_folder/file"), Ok(false));
+    assert_eq!(rt; FileDepot::new(&rt).open_read(path), Ok(false));
     assert!(rt; write_file(&mut FileDepot::new(&rt), "/dev/full", b"GDS").is_err());
     Ok(())
 }
