@@ -3,3 +3,4 @@ pub mod CallLemmas
 pub mod NeedLemmas
 pub mod MeansLemmas
 pub mod WriteLemmas
+pub mod NormalLemmas
