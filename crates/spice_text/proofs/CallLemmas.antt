@@ -39,7 +39,7 @@ row_at g [] (suc a) b h = absurd h
 row_at g (c ∷ cs) zero b h = (c, refl, inl refl, h)
 row_at g (c ∷ cs) (suc a) b h = let r = row_at g cs a b h in (r.0, r.1, inr r.2, r.3)
 
-is_there : (cs : List Circuit) (c : Circuit) (r : CallCard) → Lacks (HasCall cs (is_missing cs)) → IsListed c cs → IsListed r c.calls → has_text (names_of cs) r.circuit ≡ true
+pub is_there : (cs : List Circuit) (c : Circuit) (r : CallCard) → Lacks (HasCall cs (is_missing cs)) → IsListed c cs → IsListed r c.calls → has_text (names_of cs) r.circuit ≡ true
 is_there cs c r none at in_it = elim (either (has_text (names_of cs) r.circuit)) [
   | inl t ↦ t
   | inr f ↦ absurd (none r.line (c, at, (r, in_it, (rw f refl), refl)))

@@ -4,3 +4,4 @@ pub mod NeedLemmas
 pub mod MeansLemmas
 pub mod WriteLemmas
 pub mod NormalLemmas
+pub mod SoundLemmas

@@ -75,7 +75,7 @@ get_is [] i x d l e = absurd (omega arith)
 get_is {A = A} (y ∷ ys) zero x d l e = ap (λ (z : A). let o : Option A = Some z in o) (sym e)
 get_is (y ∷ ys) (suc i) x d l e = get_is ys i x d (omega arith) e
 
-get_listed : {A : Type 0} (xs : List A) (i : ℕ) (x : A) → slice_get xs i ≡ Some x → IsListed x xs
+pub get_listed : {A : Type 0} (xs : List A) (i : ℕ) (x : A) → slice_get xs i ≡ Some x → IsListed x xs
 get_listed [] i x e = let z : ⊥ = cc in absurd z
 get_listed (y ∷ ys) zero x e = let s : x ≡ y = cc in inl s
 get_listed (y ∷ ys) (suc i) x e = inr (get_listed ys i x e)
@@ -93,13 +93,13 @@ listed_take (y ∷ ys) zero j x e l = absurd (omega arith)
 listed_take (y ∷ ys) (suc i) zero x e l = let s : x ≡ y = cc in inl s
 listed_take (y ∷ ys) (suc i) (suc j) x e l = inr (listed_take ys i j x e (omega arith))
 
-once : {A : Type 0} (xs : List A) (i j : ℕ) (x : A) → AreApart xs → slice_get xs i ≡ Some x → slice_get xs j ≡ Some x → j < i → ⊥
+pub once : {A : Type 0} (xs : List A) (i j : ℕ) (x : A) → AreApart xs → slice_get xs i ≡ Some x → slice_get xs j ≡ Some x → j < i → ⊥
 once [] i j x a ei ej l = let z : ⊥ = cc in z
 once (y ∷ ys) zero j x a ei ej l = absurd (omega arith)
 once {A = A} (y ∷ ys) (suc i) zero x a ei ej l = let s : x ≡ y = cc in a.0 (subst (λ (z : A). IsListed z ys) s (get_listed ys i x ei))
 once (y ∷ ys) (suc i) (suc j) x a ei ej l = once ys i j x a.1 ei ej (omega arith)
 
-last_or : {A : Type 0} (xs : List A) (x y : A) → IsListed x (xs ++ y ∷ []) → IsListed x xs ⊎ (x ≡ y)
+pub last_or : {A : Type 0} (xs : List A) (x y : A) → IsListed x (xs ++ y ∷ []) → IsListed x xs ⊎ (x ≡ y)
 last_or [] x y (inl e) = inr e
 last_or [] x y (inr h) = absurd h
 last_or (z ∷ zs) x y (inl e) = inl (inl e)
@@ -233,7 +233,7 @@ used_lt (x ∷ xs) g (suc k) e = let l = used_lt xs g k e in omega arith
 calls_lt : (cs : List Circuit) (a b : ℕ) → Calls (call_lists cs) a b → a < length cs
 calls_lt cs a b h = let r = row_at (λ (c : Circuit). map (called_in (names_of cs)) c.calls) cs a b h in get_lt cs a r.0 r.1
 
-count_lists : (cs : List Circuit) → length (call_lists cs) ≡ length cs
+pub count_lists : (cs : List Circuit) → length (call_lists cs) ≡ length cs
 count_lists cs = length-map cs (λ (c : Circuit). map (called_in (names_of cs)) c.calls)
 
 of_and : (p : Bool) (q : Bool) → (not p && q) ≡ true → (p ≡ false) × (q ≡ true)

@@ -1,4 +1,4 @@
-use Rattle.std.proofs.Common.{◌≡◌, map, subst, List, ℕ}
+use Rattle.std.proofs.Common.{◌≡◌, sym, map, subst, List, ℕ}
 use Rattle.net_model.specs.Rows.{plain_netlist}
 use Rattle.spice_text.specs.Gather.{Circuit}
 use Rattle.spice_text.specs.Circuits.{all_of, call_lists, names_of}
@@ -6,6 +6,9 @@ use Rattle.spice_text.specs.Means.{IsNetlistOf}
 use Rattle.spice_text.specs.Ordered.{IsOrdered}
 use Rattle.spice_text.specs.Seen.{cards_seen, circuit_seen}
 use Rattle.spice_text.proofs.NormalLemmas.{all_numbered}
+use Rattle.spice_text.proofs.SoundLemmas.{sound_is}
+use Rattle.spice_text.specs.Faults.{AreOrdered}
+use Rattle.call_order.specs.Order.{lists}
 use Rattle.spice_text.proofs.read.read_spice.Goals as goal
 
 pub returns-clause-netlist : goal.returns-clause-netlist
@@ -29,3 +32,12 @@ pub returns-clause-numbered : goal.returns-clause-numbered
 returns-clause-numbered c =
     let made = c.in_ok-netlist.ensures in
     all_numbered (names_of (map circuit_seen c.in-Ok-order_cards.cards.circuits.items)) made.needed (map circuit_seen c.in-Ok-order_cards.cards.circuits.items) (plain_netlist c.in_ok-netlist.netlist) made.rows
+
+pub returns-clause-sound : goal.returns-clause-sound
+returns-clause-sound c =
+    let cs = map circuit_seen c.in-Ok-order_cards.cards.circuits.items in
+    let o : IsOrdered (cards_seen c.in-Ok.all) c.in-Ok-order_cards.cards = c.in-Ok-order_cards.ensures.ordered in
+    let made = c.in_ok-netlist.ensures in
+    let order = subst (λ (x : List Circuit). AreOrdered x c.in-Ok-order_cards.cards.names (lists c.in-Ok-order_cards.cards.calls.items) c.in-Ok-order_cards.cards.order.items) (sym o.circuits) o.order in
+    sound_is cs made.needed (plain_netlist c.in_ok-netlist.netlist) order.one order.called order.counts
+    (c.order_laws.ensures.no_cycle (call_lists cs) c.in-Ok-order_cards.cards.order.items order.in_order) c.call_list_laws.ensures made.rows
