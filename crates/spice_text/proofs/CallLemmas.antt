@@ -1,15 +1,15 @@
 -- The calls of circuits by number.
-use Rattle.std.proofs.Common.{◌≡◌, ◌⊎◌, inl, inr, ℕ, zero, suc, ◌+◌, ◌<◌, ◌≤◌, Bool, true, false, ◌||◌, not, List, [], ◌∷◌, ◌++◌, map, take, length, Option, Some, None, refl, sym, subst, ap, ◌∙◌, arith}
+use Rattle.std.proofs.Common.{◌≡◌, inl, inr, ℕ, zero, suc, ◌<◌, Bool, true, ◌||◌, List, [], ◌∷◌, map, length, Option, Some, None, refl, sym, subst, ap, ◌∙◌, arith}
 use Rattle.std.specs.Prelude.{slice_get, slice_index_or, get_or}
 use Rattle.std.specs.List.{list_any, position_or_len}
 use Rattle.std.proofs.lemmas.List.{length-map}
 use Rattle.plain_netlist.specs.Lists.{IsListed}
-use Rattle.text_table.specs.Texts.{has_text, place_of}
-use Rattle.call_order.specs.Order.{AreInRange, Calls, IsFirstInCycle}
+use Rattle.text_table.specs.Texts.{has_text}
+use Rattle.call_order.specs.Order.{AreInRange, IsFirstInCycle}
 use Rattle.spice_rows.specs.Rows.{CallCard}
 use Rattle.spice_text.specs.Gather.{Circuit, Cards}
 use Rattle.spice_text.specs.Circuits.{all_of, names_of, called_in, call_lists}
-use Rattle.spice_text.specs.Faults.{is_missing, HasCall, Lacks, IsCircuitsFault, IsWholeFault, IsCycle}
+use Rattle.spice_text.specs.Faults.{is_missing, HasCall, Lacks, IsCircuitsFault, IsWholeFault}
 use Rattle.std.specs.Global.{Vec}
 use Rattle.call_order.specs.Order.{lists}
 use Rattle.spice_text.specs.declared.gather.CircuitCards.{CircuitCards}

@@ -5,3 +5,4 @@ pub mod MeansLemmas
 pub mod WriteLemmas
 pub mod NormalLemmas
 pub mod SoundLemmas
+pub mod PinLemmas

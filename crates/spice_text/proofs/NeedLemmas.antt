@@ -1,11 +1,10 @@
 -- The table of needs, row by row in an order of calls.
-use Rattle.std.proofs.Common.{◌≡◌, ◌≢◌, ◌⊎◌, inl, inr, ◌↔◌, ℕ, zero, suc, ◌+◌, ◌<◌, ◌≤◌, Bool, true, false, ◌||◌, ◌&&◌, not, List, [], ◌∷◌, ◌++◌, map, take, set, length, Option, Some, None, refl, sym, subst, ap, ◌∙◌, arith, append_assoc}
+use Rattle.std.proofs.Common.{◌≡◌, ◌≢◌, ◌⊎◌, inl, inr, ℕ, zero, suc, ◌+◌, ◌<◌, Bool, true, false, ◌||◌, ◌&&◌, not, List, [], ◌∷◌, ◌++◌, map, take, set, length, Option, Some, refl, sym, subst, ap, ◌∙◌, arith}
 use Rattle.spice_rows.specs.Rows.{CallCard}
 use Rattle.std.specs.Prelude.{flat_map, slice_get, slice_index_or, get_or}
 use Rattle.std.specs.Global.{Vec}
 use Rattle.std.specs.List.{list_any}
 use Rattle.std.specs.Str.{bytes_eq}
-use Rattle.std.proofs.Math.Decide.{ℕ_discrete}
 use Rattle.std.proofs.lemmas.List.{get_or-set_other, get_or-set_same, map-set, length-map, length-set, take_more}
 use Rattle.std.proofs.lemmas.List.Folds.{list_any-append}
 use Rattle.std.proofs.lemmas.Slice.Eq.{bytes_eq-Decides}
@@ -220,7 +219,7 @@ listed_at [] k h = absurd h
 listed_at (x ∷ xs) k (inl e) = (0, ap (λ (z : ℕ). let o : Option ℕ = Some z in o) (sym e))
 listed_at (x ∷ xs) k (inr h) = let r = listed_at xs k h in (suc r.0, r.1)
 
-get_lt : (cs : List Circuit) (k : ℕ) (c : Circuit) → slice_get cs k ≡ Some c → k < length cs
+pub get_lt : (cs : List Circuit) (k : ℕ) (c : Circuit) → slice_get cs k ≡ Some c → k < length cs
 get_lt [] k c e = let z : ⊥ = cc in absurd z
 get_lt (x ∷ xs) zero c e = omega arith
 get_lt (x ∷ xs) (suc k) c e = let l = get_lt xs k c e in omega arith

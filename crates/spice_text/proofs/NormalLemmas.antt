@@ -1,5 +1,5 @@
 -- The nets of a circuit's row are numbered as they first appear.
-use Rattle.std.proofs.Common.{◌≡◌, ◌⊎◌, inl, inr, ℕ, zero, suc, ◌+◌, ◌<◌, ◌≤◌, Bool, true, false, ◌||◌, not, List, [], ◌∷◌, ◌++◌, map, length, Option, Some, None, refl, sym, subst, ap, ◌∙◌, arith, append_assoc}
+use Rattle.std.proofs.Common.{◌≡◌, inl, inr, ℕ, zero, suc, ◌+◌, Bool, true, false, ◌||◌, List, [], ◌∷◌, ◌++◌, map, length, Some, refl, sym, subst, ap, ◌∙◌, arith, append_assoc}
 use Rattle.std.specs.Prelude.{flat_map, slice_get}
 use Rattle.std.specs.List.{list_any, position_or_len}
 use Rattle.std.specs.Str.{bytes_eq}
@@ -16,7 +16,7 @@ use Rattle.spice_text.proofs.SearchLemmas.{either}
 use Rattle.spice_text.proofs.CallLemmas.{place_lt}
 
 -- what was seen stays in front
-more : (seen ns : List (List ℕ)) → (extra : List (List ℕ)) × (first_seen seen ns ≡ seen ++ extra)
+pub more : (seen ns : List (List ℕ)) → (extra : List (List ℕ)) × (first_seen seen ns ≡ seen ++ extra)
 more seen [] = ([], sym (append-nil seen))
 more seen (n ∷ ns) = elim (either (has_text seen n)) [
   | inl t ↦ rw t (more seen ns)
@@ -65,7 +65,7 @@ calls_map names needed nets (r ∷ rs) =
     ap (λ (xs : List ℕ). map (place_of nets) (call_names names needed r) ++ xs) (calls_map names needed nets rs)
     ∙ sym (map-append (place_of nets) (call_names names needed r) (flat_map (call_names names needed) rs))
 
-row_map : (names : List (List ℕ)) (needed : ℕ → List (List ℕ)) (k : ℕ) (c : Circuit) (nets : List (List ℕ))
+pub row_map : (names : List (List ℕ)) (needed : ℕ → List (List ℕ)) (k : ℕ) (c : Circuit) (nets : List (List ℕ))
     → normal.appearances (row_over names needed k c nets) ≡ map (place_of nets) (appearances names needed k c)
 row_map names needed k c nets =
     let f = place_of nets in

@@ -1,14 +1,14 @@
 -- The netlist of ordered circuits is sound.
-use Rattle.std.proofs.Common.{◌≡◌, ◌≢◌, ◌⊎◌, inl, inr, ◌↔◌, ℕ, zero, suc, ◌+◌, ◌<◌, ◌≤◌, ◌==◌, Bool, true, false, ◌||◌, not, List, [], ◌∷◌, ◌++◌, map, take, length, Option, Some, None, refl, sym, subst, ap, ◌∙◌, arith, true≢false}
+use Rattle.std.proofs.Common.{◌≡◌, inl, inr, ℕ, zero, suc, ◌+◌, ◌<◌, ◌≤◌, ◌==◌, Bool, true, false, ◌||◌, not, List, [], ◌∷◌, ◌++◌, map, take, length, Option, Some, None, refl, sym, subst, ap, ◌∙◌, arith, true≢false}
 use Rattle.std.specs.Prelude.{slice_get, nat_lt}
 use Rattle.std.specs.Str.{bytes_eq}
 use Rattle.std.proofs.Math.Decide.{ℕ_discrete}
 use Rattle.std.proofs.lemmas.Bool.Decides.{Decides-eqb}
 use Rattle.std.proofs.lemmas.List.{length-map, length-append}
 use Rattle.std.proofs.lemmas.Slice.Eq.{bytes_eq-Decides}
-use Rattle.text_table.specs.Texts.{has_text, with_text, place_of}
+use Rattle.text_table.specs.Texts.{has_text, place_of}
 use Rattle.call_order.specs.Order.{ReachesItself}
-use Rattle.plain_netlist.specs.Lists.{IsListed, AreApart}
+use Rattle.plain_netlist.specs.Lists.{AreApart}
 use Rattle.plain_netlist.specs.Netlist as plain
 use Rattle.plain_netlist.specs.Normal as normal
 use Rattle.plain_netlist.specs.Sound as sound
@@ -21,7 +21,7 @@ use Rattle.spice_text.specs.Gather.{Circuit}
 use Rattle.spice_text.specs.Circuits.{names_of, called_in, call_lists}
 use Rattle.spice_text.specs.Faults.{IsSecond, HasCall, is_missing, is_other_count, is_other_than, Lacks}
 use Rattle.spice_text.specs.Needs.{first_seen}
-use Rattle.spice_text.specs.Means.{call_names, appearances, net_names, call_row, circuit_row, rows_from}
+use Rattle.spice_text.specs.Means.{appearances, net_names, call_row, circuit_row, rows_from}
 use Rattle.spice_text.proofs.SearchLemmas.{either}
 use Rattle.spice_text.proofs.CallLemmas.{place_lt, is_there}
 use Rattle.spice_text.proofs.NeedLemmas.{once, last_or, get_listed}
@@ -66,7 +66,7 @@ snoc_apart (x ∷ xs) n a f =
     let s = or_none (bytes_eq n x) (has_text xs n) f in
     ((λ h. elim (last_or xs x n h) [ inl l ↦ a.0 l | inr e ↦ true≢false (sym ((bytes_eq-Decides n x).1 (sym e)) ∙ s.0) ]), snoc_apart xs n a.1 s.1)
 
-seen_apart : (seen ns : List (List ℕ)) → AreApart seen → AreApart (first_seen seen ns)
+pub seen_apart : (seen ns : List (List ℕ)) → AreApart seen → AreApart (first_seen seen ns)
 seen_apart seen [] a = a
 seen_apart seen (n ∷ ns) a = elim (either (has_text seen n)) [
   | inl t ↦ rw t (seen_apart seen ns a)

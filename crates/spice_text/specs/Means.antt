@@ -1,9 +1,8 @@
 -- The netlist that a text means, or its first fault.
-use Rattle.std.specs.Prelude.{◌≡◌, ◌⊎◌, ℕ, ◌+◌, ◌<◌, List, [], ◌∷◌, ◌++◌, length, map, flat_map, Option, Some, None, Result, Ok, Err}
+use Rattle.std.specs.Prelude.{◌≡◌, ◌⊎◌, ℕ, ◌+◌, ◌<◌, List, [], ◌∷◌, ◌++◌, length, map, flat_map, None, Ok, Err}
 use Rattle.text_table.specs.Texts.{place_of}
 use Rattle.call_order.specs.Order.{ReachesItself}
 use Rattle.plain_netlist.specs.Netlist as plain
-use Rattle.plain_netlist.specs.Normal.{AreNumbered, appearances as normal_order}
 use Rattle.spice_rows.specs.Rows.{DeviceCard, CallCard}
 use Rattle.spice_rows.specs.declared.fault.SpiceFault.{SpiceFault}
 use Rattle.spice_rows.specs.declared.fault.SpiceFault.TheVariants.{NoMemory}
@@ -88,8 +87,3 @@ IsFirstFault bytes fault =
 abbrev pub SaysFirst : List ℕ → SpiceFault → Type 0
 SaysFirst bytes NoMemory = Unit {0}
 SaysFirst bytes fault = IsFirstFault bytes fault
-
--- the nets of each circuit are numbered as its pins, devices and calls first name them
-abbrev pub AreNumberedRows : plain.Netlist → Type 0
-AreNumberedRows n = (k : ℕ) (x : plain.Circuit) → plain.IsCircuit n k x
-    → AreNumbered (length x.nets) 0 (normal_order x)

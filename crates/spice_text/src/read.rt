@@ -1,9 +1,10 @@
 ghost use Rattle.std.specs.Prelude.{◌≡◌, IfOk, IfErr, map};
 ghost use Rattle.call_order.specs.Order.{lists};
 ghost use Rattle.net_model.specs.Rows.{plain_netlist};
+ghost use Rattle.plain_netlist.specs.Normal.{IsNormalNetlist};
 ghost use Rattle.plain_netlist.specs.Sound.{IsSoundNetlist};
 ghost use Rattle.spice_text.specs.Faults.{AreOrdered};
-ghost use Rattle.spice_text.specs.Means.{AreNumberedRows, IsNetlistOf, Means, SaysFirst};
+ghost use Rattle.spice_text.specs.Means.{IsNetlistOf, Means, SaysFirst};
 ghost use Rattle.spice_text.specs.Seen.{circuit_seen};
 
 use crate::circuits::circuit_rows;
@@ -34,7 +35,7 @@ fn netlist(alloc: Global, cards: &OrderedCards) -> Result<Netlist, AllocError>
 pub fn read_spice(alloc: Global, bytes: &[u8]) -> Result<Netlist, SpiceFault>
     ensures netlist { IfOk result (λ n. Means bytes.now (plain_netlist n)) }
     ensures sound { IfOk result (λ n. IsSoundNetlist (plain_netlist n)) }
-    ensures numbered { IfOk result (λ n. AreNumberedRows (plain_netlist n)) }
+    ensures normal { IfOk result (λ n. IsNormalNetlist (plain_netlist n)) }
     ensures fault { IfErr result (SaysFirst bytes.now) }
 {
     let all = match gather_cards(alloc, bytes) {

@@ -1,11 +1,11 @@
-use Rattle.std.proofs.Common.{◌≡◌, sym, map, subst, List, ℕ}
+use Rattle.std.proofs.Common.{sym, map, subst, List, ℕ}
 use Rattle.net_model.specs.Rows.{plain_netlist}
 use Rattle.spice_text.specs.Gather.{Circuit}
-use Rattle.spice_text.specs.Circuits.{all_of, call_lists, names_of}
+use Rattle.spice_text.specs.Circuits.{all_of, call_lists}
 use Rattle.spice_text.specs.Means.{IsNetlistOf}
 use Rattle.spice_text.specs.Ordered.{IsOrdered}
 use Rattle.spice_text.specs.Seen.{cards_seen, circuit_seen}
-use Rattle.spice_text.proofs.NormalLemmas.{all_numbered}
+use Rattle.spice_text.proofs.PinLemmas.{normal_is}
 use Rattle.spice_text.proofs.SoundLemmas.{sound_is}
 use Rattle.spice_text.specs.Faults.{AreOrdered}
 use Rattle.call_order.specs.Order.{lists}
@@ -28,10 +28,14 @@ returns-clause-netlist c =
       netlist = subst (λ (gs : List (List ℕ)). IsNetlistOf (all_of cards) gs n) o.globals one;
     }
 
-pub returns-clause-numbered : goal.returns-clause-numbered
-returns-clause-numbered c =
-    let made = c.in_ok-netlist.ensures in
-    all_numbered (names_of (map circuit_seen c.in-Ok-order_cards.cards.circuits.items)) made.needed (map circuit_seen c.in-Ok-order_cards.cards.circuits.items) (plain_netlist c.in_ok-netlist.netlist) made.rows
+pub returns-clause-normal : goal.returns-clause-normal
+returns-clause-normal c =
+    let cards = cards_seen c.in-Ok.all in
+    let o : IsOrdered cards c.in-Ok-order_cards.cards = c.in-Ok-order_cards.ensures.ordered in
+    let n = plain_netlist c.in_ok-netlist.netlist in
+    let one = subst (λ (cs : List Circuit). IsNetlistOf cs c.in-Ok-order_cards.cards.globals.items n) o.circuits c.in_ok-netlist.ensures in
+    let made = subst (λ (gs : List (List ℕ)). IsNetlistOf (all_of cards) gs n) o.globals one in
+    normal_is c.args.bytes.now cards made.needed n c.in-Ok.ensures.cards made.needs made.rows
 
 pub returns-clause-sound : goal.returns-clause-sound
 returns-clause-sound c =
