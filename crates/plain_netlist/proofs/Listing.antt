@@ -46,8 +46,8 @@ one_rising R not (x ∷ xs) [] h g to from = absurd (to x (inl refl))
 one_rising R not (x ∷ xs) (y ∷ ys) h g to from =
     let first = first_same R not x y xs ys h g (to x (inl refl)) (from y (inl refl)) in
     let rest = one_rising R not xs ys h.1 g.1
-        (λ a l. rest_of R not a x y xs ys h first l (to a (inr l)))
-        (λ a l. rest_of R not a y x ys xs g (sym first) l (from a (inr l))) in
+    (λ a l. rest_of R not a x y xs ys h first l (to a (inr l)))
+    (λ a l. rest_of R not a y x ys xs g (sym first) l (from a (inr l))) in
     cc
   where
     first_same : {A : Type 0} (R : A → A → Type 0) → ((a b : A) → R a b → R b a → ⊥) → (x y : A) (xs ys : List A) → AreRising R (x ∷ xs) → AreRising R (y ∷ ys) → IsListed x (y ∷ ys) → IsListed y (x ∷ xs) → x ≡ y
