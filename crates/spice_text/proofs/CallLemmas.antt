@@ -1,15 +1,15 @@
 -- The calls of circuits by number.
-use Rattle.std.proofs.Common.{◌≡◌, ◌⊎◌, inl, inr, ℕ, zero, suc, ◌+◌, ◌<◌, ◌≤◌, Bool, true, false, ◌||◌, not, List, [], ◌∷◌, ◌++◌, map, take, length, Option, Some, None, refl, sym, subst, ap, ◌∙◌, arith}
+use Rattle.std.proofs.Common.{◌≡◌, inl, inr, ℕ, zero, suc, ◌<◌, Bool, true, ◌||◌, List, [], ◌∷◌, map, length, Option, Some, None, refl, sym, subst, ap, ◌∙◌, arith}
 use Rattle.std.specs.Prelude.{slice_get, slice_index_or, get_or}
 use Rattle.std.specs.List.{list_any, position_or_len}
 use Rattle.std.proofs.lemmas.List.{length-map}
 use Rattle.plain_netlist.specs.Lists.{IsListed}
-use Rattle.text_table.specs.Texts.{has_text, place_of}
-use Rattle.call_order.specs.Order.{AreInRange, Calls, IsFirstInCycle}
+use Rattle.text_table.specs.Texts.{has_text}
+use Rattle.call_order.specs.Order.{AreInRange, IsFirstInCycle}
 use Rattle.spice_rows.specs.Rows.{CallCard}
 use Rattle.spice_text.specs.Gather.{Circuit, Cards}
 use Rattle.spice_text.specs.Circuits.{all_of, names_of, called_in, call_lists}
-use Rattle.spice_text.specs.Faults.{is_missing, HasCall, Lacks, IsCircuitsFault, IsWholeFault, IsCycle}
+use Rattle.spice_text.specs.Faults.{is_missing, HasCall, Lacks, IsCircuitsFault, IsWholeFault}
 use Rattle.std.specs.Global.{Vec}
 use Rattle.call_order.specs.Order.{lists}
 use Rattle.spice_text.specs.declared.gather.CircuitCards.{CircuitCards}
@@ -39,7 +39,7 @@ row_at g [] (suc a) b h = absurd h
 row_at g (c ∷ cs) zero b h = (c, refl, inl refl, h)
 row_at g (c ∷ cs) (suc a) b h = let r = row_at g cs a b h in (r.0, r.1, inr r.2, r.3)
 
-is_there : (cs : List Circuit) (c : Circuit) (r : CallCard) → Lacks (HasCall cs (is_missing cs)) → IsListed c cs → IsListed r c.calls → has_text (names_of cs) r.circuit ≡ true
+pub is_there : (cs : List Circuit) (c : Circuit) (r : CallCard) → Lacks (HasCall cs (is_missing cs)) → IsListed c cs → IsListed r c.calls → has_text (names_of cs) r.circuit ≡ true
 is_there cs c r none at in_it = elim (either (has_text (names_of cs) r.circuit)) [
   | inl t ↦ t
   | inr f ↦ absurd (none r.line (c, at, (r, in_it, (rw f refl), refl)))

@@ -1,12 +1,12 @@
 -- The names of a circuit's nets, and the names that a row says.
-use Rattle.std.proofs.Common.{◌≡◌, ◌⊎◌, inl, inr, ◌↔◌, ℕ, zero, suc, ◌+◌, ◌<◌, Bool, true, false, List, [], ◌∷◌, ◌++◌, map, length, Option, Some, None, Result, Ok, Err, refl, sym, subst, ap, ◌∙◌, arith, true≢false}
+use Rattle.std.proofs.Common.{◌≡◌, inl, inr, ◌↔◌, ℕ, suc, ◌<◌, Bool, true, false, List, [], ◌∷◌, ◌++◌, map, length, Some, refl, sym, subst, ap, ◌∙◌, true≢false}
 use Rattle.std.specs.Prelude.{flat_map, slice_get, slice_index_or}
 use Rattle.spice_rows.specs.Rows.{CallCard}
 use Rattle.spice_text.specs.Gather.{Circuit}
 use Rattle.spice_text.specs.Circuits.{called_in, names_of}
 use Rattle.spice_text.specs.Needs.{first_seen, device_nets, Needs, Picks}
-use Rattle.spice_text.specs.Table.{bools, bit, picked, needed_of, seen_with_needs, IsNeedTable}
-use Rattle.spice_text.specs.Means.{call_names, appearances, net_names, rows_from, IsNetlistOf}
+use Rattle.spice_text.specs.Table.{bools, picked, needed_of, seen_with_needs, IsNeedTable}
+use Rattle.spice_text.specs.Means.{call_names, net_names, rows_from, IsNetlistOf}
 use Rattle.std.specs.Global.{Vec}
 use Rattle.plain_netlist.specs.Netlist as plain
 use Rattle.spice_text.specs.declared.gather.CircuitCards.{CircuitCards}

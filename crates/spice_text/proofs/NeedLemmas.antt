@@ -1,11 +1,10 @@
 -- The table of needs, row by row in an order of calls.
-use Rattle.std.proofs.Common.{◌≡◌, ◌≢◌, ◌⊎◌, inl, inr, ◌↔◌, ℕ, zero, suc, ◌+◌, ◌<◌, ◌≤◌, Bool, true, false, ◌||◌, ◌&&◌, not, List, [], ◌∷◌, ◌++◌, map, take, set, length, Option, Some, None, refl, sym, subst, ap, ◌∙◌, arith, append_assoc}
+use Rattle.std.proofs.Common.{◌≡◌, ◌≢◌, ◌⊎◌, inl, inr, ℕ, zero, suc, ◌+◌, ◌<◌, Bool, true, false, ◌||◌, ◌&&◌, not, List, [], ◌∷◌, ◌++◌, map, take, set, length, Option, Some, refl, sym, subst, ap, ◌∙◌, arith}
 use Rattle.spice_rows.specs.Rows.{CallCard}
 use Rattle.std.specs.Prelude.{flat_map, slice_get, slice_index_or, get_or}
 use Rattle.std.specs.Global.{Vec}
 use Rattle.std.specs.List.{list_any}
 use Rattle.std.specs.Str.{bytes_eq}
-use Rattle.std.proofs.Math.Decide.{ℕ_discrete}
 use Rattle.std.proofs.lemmas.List.{get_or-set_other, get_or-set_same, map-set, length-map, length-set, take_more}
 use Rattle.std.proofs.lemmas.List.Folds.{list_any-append}
 use Rattle.std.proofs.lemmas.Slice.Eq.{bytes_eq-Decides}
@@ -75,7 +74,7 @@ get_is [] i x d l e = absurd (omega arith)
 get_is {A = A} (y ∷ ys) zero x d l e = ap (λ (z : A). let o : Option A = Some z in o) (sym e)
 get_is (y ∷ ys) (suc i) x d l e = get_is ys i x d (omega arith) e
 
-get_listed : {A : Type 0} (xs : List A) (i : ℕ) (x : A) → slice_get xs i ≡ Some x → IsListed x xs
+pub get_listed : {A : Type 0} (xs : List A) (i : ℕ) (x : A) → slice_get xs i ≡ Some x → IsListed x xs
 get_listed [] i x e = let z : ⊥ = cc in absurd z
 get_listed (y ∷ ys) zero x e = let s : x ≡ y = cc in inl s
 get_listed (y ∷ ys) (suc i) x e = inr (get_listed ys i x e)
@@ -93,13 +92,13 @@ listed_take (y ∷ ys) zero j x e l = absurd (omega arith)
 listed_take (y ∷ ys) (suc i) zero x e l = let s : x ≡ y = cc in inl s
 listed_take (y ∷ ys) (suc i) (suc j) x e l = inr (listed_take ys i j x e (omega arith))
 
-once : {A : Type 0} (xs : List A) (i j : ℕ) (x : A) → AreApart xs → slice_get xs i ≡ Some x → slice_get xs j ≡ Some x → j < i → ⊥
+pub once : {A : Type 0} (xs : List A) (i j : ℕ) (x : A) → AreApart xs → slice_get xs i ≡ Some x → slice_get xs j ≡ Some x → j < i → ⊥
 once [] i j x a ei ej l = let z : ⊥ = cc in z
 once (y ∷ ys) zero j x a ei ej l = absurd (omega arith)
 once {A = A} (y ∷ ys) (suc i) zero x a ei ej l = let s : x ≡ y = cc in a.0 (subst (λ (z : A). IsListed z ys) s (get_listed ys i x ei))
 once (y ∷ ys) (suc i) (suc j) x a ei ej l = once ys i j x a.1 ei ej (omega arith)
 
-last_or : {A : Type 0} (xs : List A) (x y : A) → IsListed x (xs ++ y ∷ []) → IsListed x xs ⊎ (x ≡ y)
+pub last_or : {A : Type 0} (xs : List A) (x y : A) → IsListed x (xs ++ y ∷ []) → IsListed x xs ⊎ (x ≡ y)
 last_or [] x y (inl e) = inr e
 last_or [] x y (inr h) = absurd h
 last_or (z ∷ zs) x y (inl e) = inl (inl e)
@@ -220,7 +219,7 @@ listed_at [] k h = absurd h
 listed_at (x ∷ xs) k (inl e) = (0, ap (λ (z : ℕ). let o : Option ℕ = Some z in o) (sym e))
 listed_at (x ∷ xs) k (inr h) = let r = listed_at xs k h in (suc r.0, r.1)
 
-get_lt : (cs : List Circuit) (k : ℕ) (c : Circuit) → slice_get cs k ≡ Some c → k < length cs
+pub get_lt : (cs : List Circuit) (k : ℕ) (c : Circuit) → slice_get cs k ≡ Some c → k < length cs
 get_lt [] k c e = let z : ⊥ = cc in absurd z
 get_lt (x ∷ xs) zero c e = omega arith
 get_lt (x ∷ xs) (suc k) c e = let l = get_lt xs k c e in omega arith
@@ -233,7 +232,7 @@ used_lt (x ∷ xs) g (suc k) e = let l = used_lt xs g k e in omega arith
 calls_lt : (cs : List Circuit) (a b : ℕ) → Calls (call_lists cs) a b → a < length cs
 calls_lt cs a b h = let r = row_at (λ (c : Circuit). map (called_in (names_of cs)) c.calls) cs a b h in get_lt cs a r.0 r.1
 
-count_lists : (cs : List Circuit) → length (call_lists cs) ≡ length cs
+pub count_lists : (cs : List Circuit) → length (call_lists cs) ≡ length cs
 count_lists cs = length-map cs (λ (c : Circuit). map (called_in (names_of cs)) c.calls)
 
 of_and : (p : Bool) (q : Bool) → (not p && q) ≡ true → (p ≡ false) × (q ≡ true)

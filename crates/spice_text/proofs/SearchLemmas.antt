@@ -1,14 +1,13 @@
 -- The searches find what is first wrong.
-use Rattle.std.proofs.Common.{◌≡◌, ◌⊎◌, inl, inr, ℕ, zero, suc, ◌+◌, ◌<◌, ◌≤◌, Bool, true, false, ◌||◌, not, List, [], ◌∷◌, ◌++◌, map, take, length, Option, Some, None, refl, sym, subst, ap, ◌∙◌, arith}
-use Rattle.std.specs.Prelude.{slice_get, slice_index_or, nat_lt}
+use Rattle.std.proofs.Common.{◌≡◌, ◌⊎◌, inl, inr, ℕ, zero, suc, ◌<◌, ◌≤◌, Bool, true, false, List, [], ◌∷◌, ◌++◌, take, Option, Some, None, refl, sym, subst, ap, ◌∙◌, arith}
+use Rattle.std.specs.Prelude.{slice_get, nat_lt}
 use Rattle.std.proofs.lemmas.List.{append-nil}
 use Rattle.std.proofs.Common.{append_assoc}
-use Rattle.plain_netlist.specs.Lists.{IsListed}
 use Rattle.text_table.specs.Texts.{has_text}
 use Rattle.spice_rows.specs.Rows.{CallCard}
 use Rattle.spice_text.specs.Gather.{Circuit}
 use Rattle.spice_text.specs.Circuits.{names_of}
-use Rattle.spice_text.specs.Faults.{IsSecond, IsCallOn, HasCall, IsLeast, Lacks, FindsLeast, IsClash, IsCircuitsFault}
+use Rattle.spice_text.specs.Faults.{IsSecond, IsCallOn, HasCall, IsLeast, Lacks, FindsLeast, IsCircuitsFault}
 use Rattle.spice_text.specs.Search.{first_twice, SaysClash, lesser, least_in, least_in_all}
 use Rattle.spice_rows.specs.declared.fault.SpiceFault.{SpiceFault}
 use Rattle.spice_rows.specs.declared.fault.SpiceFault.TheVariants.{UnknownCard, BadLine, ParameterRefused, Value, NotClosed, NameClash, NoSuchCircuit, PinCount, CircuitCycle, NoMemory}

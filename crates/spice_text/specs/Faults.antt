@@ -2,7 +2,7 @@
 use Rattle.std.specs.Prelude.{◌≡◌, ◌<◌, ◌==◌, ◌^◌, ℕ, Bool, true, false, not, List, length, take, slice_get, Option, Some, None}
 use Rattle.plain_netlist.specs.Lists.{IsListed}
 use Rattle.text_table.specs.Texts.{has_text}
-use Rattle.call_order.specs.Order.{ReachesItself, IsFirstInCycle, IsCallOrder}
+use Rattle.call_order.specs.Order.{IsFirstInCycle, IsCallOrder}
 use Rattle.spice_rows.specs.Rows.{CallCard}
 use Rattle.spice_text.specs.Gather.{Circuit, Cards}
 use Rattle.spice_text.specs.Circuits.{all_of, names_of, called_in, call_lists}

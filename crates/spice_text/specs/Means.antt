@@ -1,5 +1,5 @@
 -- The netlist that a text means, or its first fault.
-use Rattle.std.specs.Prelude.{◌≡◌, ◌⊎◌, ℕ, ◌+◌, ◌<◌, List, [], ◌∷◌, ◌++◌, length, map, flat_map, Option, Some, None, Result, Ok, Err}
+use Rattle.std.specs.Prelude.{◌≡◌, ◌⊎◌, ℕ, ◌+◌, ◌<◌, List, [], ◌∷◌, ◌++◌, length, map, flat_map, None, Ok, Err}
 use Rattle.text_table.specs.Texts.{place_of}
 use Rattle.call_order.specs.Order.{ReachesItself}
 use Rattle.plain_netlist.specs.Netlist as plain

@@ -1,6 +1,8 @@
 ghost use Rattle.std.specs.Prelude.{◌≡◌, IfOk, IfErr, map};
 ghost use Rattle.call_order.specs.Order.{lists};
 ghost use Rattle.net_model.specs.Rows.{plain_netlist};
+ghost use Rattle.plain_netlist.specs.Normal.{IsNormalNetlist};
+ghost use Rattle.plain_netlist.specs.Sound.{IsSoundNetlist};
 ghost use Rattle.spice_text.specs.Faults.{AreOrdered};
 ghost use Rattle.spice_text.specs.Means.{IsNetlistOf, Means, SaysFirst};
 ghost use Rattle.spice_text.specs.Seen.{circuit_seen};
@@ -10,7 +12,7 @@ use crate::gather::gather_cards;
 use crate::needs::{each_once, need_table};
 use crate::ordered::{OrderedCards, order_cards};
 use call_order::order_laws;
-use net_model::Netlist;
+use net_model::{Netlist, call_list_laws};
 use spice_rows::SpiceFault;
 use std::alloc::{AllocError, Global};
 
@@ -32,6 +34,8 @@ fn netlist(alloc: Global, cards: &OrderedCards) -> Result<Netlist, AllocError>
 /// Linear in the text, and in circuits and calls times global names.
 pub fn read_spice(alloc: Global, bytes: &[u8]) -> Result<Netlist, SpiceFault>
     ensures netlist { IfOk result (λ n. Means bytes.now (plain_netlist n)) }
+    ensures sound { IfOk result (λ n. IsSoundNetlist (plain_netlist n)) }
+    ensures normal { IfOk result (λ n. IsNormalNetlist (plain_netlist n)) }
     ensures fault { IfErr result (SaysFirst bytes.now) }
 {
     let all = match gather_cards(alloc, bytes) {
@@ -43,6 +47,7 @@ pub fn read_spice(alloc: Global, bytes: &[u8]) -> Result<Netlist, SpiceFault>
         Err(e) => return Err(e),
     };
     order_laws();
+    call_list_laws();
     let netlist = netlist(alloc, &cards)?;
     Ok(netlist)
 }

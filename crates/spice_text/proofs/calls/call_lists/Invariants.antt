@@ -1,8 +1,6 @@
-use Rattle.std.proofs.Common.{◌≡◌, ◌++◌, [], ◌∷◌, map, length, None}
+use Rattle.std.proofs.Common.{◌≡◌, ◌++◌, map, length}
 use Rattle.call_order.specs.Order.{lists}
-use Rattle.spice_rows.specs.Seen.{call_seen}
 use Rattle.spice_text.specs.Circuits.{names_of, called_in, call_lists}
-use Rattle.spice_text.specs.Search.{first_twice, least_in, least_in_all, test_of}
 use Rattle.spice_text.specs.Seen.{circuit_seen}
 use Rattle.spice_text.proofs.calls.call_lists.Given as goal
 

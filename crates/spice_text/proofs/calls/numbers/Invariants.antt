@@ -1,9 +1,6 @@
-use Rattle.std.proofs.Common.{◌≡◌, ◌++◌, [], ◌∷◌, map, length, None}
-use Rattle.call_order.specs.Order.{lists}
+use Rattle.std.proofs.Common.{◌≡◌, ◌++◌, map, length}
 use Rattle.spice_rows.specs.Seen.{call_seen}
-use Rattle.spice_text.specs.Circuits.{names_of, called_in, call_lists}
-use Rattle.spice_text.specs.Search.{first_twice, least_in, least_in_all, test_of}
-use Rattle.spice_text.specs.Seen.{circuit_seen}
+use Rattle.spice_text.specs.Circuits.{called_in}
 use Rattle.spice_text.proofs.calls.numbers.Given as goal
 
 abbrev pub invariant-calls : goal.invariant-calls

@@ -1,8 +1,5 @@
-use Rattle.std.proofs.Common.{◌≡◌, ◌∙◌, Result, Ok, Err, IfOk, [], List, ℕ}
-use Rattle.std.specs.Prelude.{flat_map}
-use Rattle.spice_text.specs.Needs.{first_seen, device_nets}
-use Rattle.spice_text.specs.Table.{bools, needed_of, seen_with_needs}
-use Rattle.spice_text.specs.Means.{net_names}
+use Rattle.std.proofs.Common.{◌≡◌, ◌∙◌, Result, Ok, Err, IfOk, List, ℕ}
+use Rattle.spice_text.specs.Table.{bools, needed_of}
 use Rattle.spice_text.specs.Seen.{circuit_seen}
 use Rattle.spice_text.specs.declared.nets.Nets.{Nets}
 use Rattle.spice_text.proofs.MeansLemmas.{seen_appearances}

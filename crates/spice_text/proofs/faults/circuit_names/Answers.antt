@@ -1,7 +1,6 @@
 use Rattle.std.proofs.Common.{◌≡◌, Result, Ok, Err, None, OnOk, IfErr, map, []}
 use Rattle.text_table.specs.declared.table.TextTable.{TextTable}
 use Rattle.spice_rows.specs.declared.fault.SpiceFault.{SpiceFault}
-use Rattle.spice_text.specs.Gather.{Circuit}
 use Rattle.spice_text.specs.Faults.{Lacks, IsSecond, IsCircuitsFault}
 use Rattle.spice_text.specs.Search.{first_twice, SaysClash}
 use Rattle.spice_text.specs.Seen.{circuit_seen}

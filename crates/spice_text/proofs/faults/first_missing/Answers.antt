@@ -1,4 +1,4 @@
-use Rattle.std.proofs.Common.{◌≡◌, sym, subst, map, Option, ℕ}
+use Rattle.std.proofs.Common.{sym, subst, map, Option, ℕ}
 use Rattle.spice_text.specs.Faults.{HasCall, FindsLeast, is_missing}
 use Rattle.spice_text.specs.Seen.{circuit_seen}
 use Rattle.spice_text.proofs.SearchLemmas.{least_is}

@@ -1,10 +1,5 @@
-use Rattle.std.proofs.Common.{◌≡◌, ◌++◌, [], ◌∷◌, map, length, None}
-use Rattle.std.specs.Prelude.{flat_map}
-use Rattle.spice_rows.specs.Rows.{CallCard}
-use Rattle.spice_rows.specs.Seen.{call_seen, device_seen}
-use Rattle.spice_text.specs.Needs.{first_seen, device_nets, used_nets}
+use Rattle.std.proofs.Common.{◌≡◌, ◌++◌, length}
 use Rattle.spice_text.specs.Table.{bools, row_from}
-use Rattle.spice_text.specs.Seen.{circuit_seen}
 use Rattle.spice_text.proofs.needs.row_from.Given as goal
 
 abbrev pub invariant-globals : goal.invariant-globals

@@ -1,10 +1,7 @@
-use Rattle.std.proofs.Common.{◌≡◌, ◌++◌, [], ◌∷◌, map, length, None}
+use Rattle.std.proofs.Common.{◌≡◌, map, length}
 use Rattle.std.specs.Prelude.{flat_map}
-use Rattle.spice_rows.specs.Rows.{CallCard}
-use Rattle.spice_rows.specs.Seen.{call_seen, device_seen}
-use Rattle.spice_text.specs.Needs.{first_seen, device_nets, used_nets}
-use Rattle.spice_text.specs.Table.{bools, row_from}
-use Rattle.spice_text.specs.Seen.{circuit_seen}
+use Rattle.spice_rows.specs.Seen.{device_seen}
+use Rattle.spice_text.specs.Needs.{first_seen, device_nets}
 use Rattle.spice_text.proofs.needs.see_devices.Given as goal
 
 abbrev pub invariant-devices : goal.invariant-devices

@@ -1,4 +1,3 @@
-use Rattle.std.proofs.Common.{◌≡◌, sym}
 use Rattle.spice_text.proofs.NeedLemmas.{row_set}
 use Rattle.spice_text.proofs.needs.settle.Goals as goal
 

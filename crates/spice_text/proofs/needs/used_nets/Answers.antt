@@ -1,4 +1,4 @@
-use Rattle.std.proofs.Common.{◌≡◌, ◌∙◌, ap, map, [], List, ℕ}
+use Rattle.std.proofs.Common.{◌∙◌, ap, map, [], List, ℕ}
 use Rattle.std.specs.Prelude.{flat_map}
 use Rattle.spice_rows.specs.declared.card.DeviceCard.{DeviceCard}
 use Rattle.spice_rows.specs.declared.card.CallCard.{CallCard}

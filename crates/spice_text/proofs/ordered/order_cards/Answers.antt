@@ -1,6 +1,5 @@
-use Rattle.std.proofs.Common.{◌≡◌, ◌∙◌, sym, subst, ap, refl, map, List}
+use Rattle.std.proofs.Common.{◌∙◌, ap, refl, map, List}
 use Rattle.spice_text.specs.Seen.{circuit_seen, some_circuit, cards_seen}
-use Rattle.spice_text.specs.Circuits.{all_of}
 use Rattle.spice_text.specs.declared.gather.CircuitCards.{CircuitCards}
 use Rattle.spice_text.proofs.CallLemmas.{whole_fault}
 use Rattle.spice_text.proofs.ordered.order_cards.Goals as goal

@@ -1,4 +1,4 @@
-use Rattle.std.proofs.Common.{rules, ◌≡◌, ◌∙◌, sym, subst, ap, map, Option, ℕ, List, arith}
+use Rattle.std.proofs.Common.{rules, ◌≡◌, ◌∙◌, sym, subst, ap, map, Option, ℕ, List}
 use Rattle.std.specs.Global.{Vec}
 use Rattle.call_order.specs.Order.{lists, AreInRange, IsFound, IsFirstInCycle}
 use Rattle.call_order.specs.declared.order.CallOrder.{CallOrder}

@@ -1,4 +1,3 @@
-use Rattle.std.proofs.Common.{◌≡◌}
 use Rattle.net_model.specs.Rows.{plain_netlist}
 use Rattle.spice_text.proofs.MeansLemmas.{netlist_is}
 use Rattle.spice_text.proofs.read.netlist.Goals as goal

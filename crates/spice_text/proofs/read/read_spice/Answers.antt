@@ -1,10 +1,14 @@
-use Rattle.std.proofs.Common.{◌≡◌, subst, List, ℕ}
+use Rattle.std.proofs.Common.{sym, map, subst, List, ℕ}
 use Rattle.net_model.specs.Rows.{plain_netlist}
 use Rattle.spice_text.specs.Gather.{Circuit}
 use Rattle.spice_text.specs.Circuits.{all_of, call_lists}
 use Rattle.spice_text.specs.Means.{IsNetlistOf}
 use Rattle.spice_text.specs.Ordered.{IsOrdered}
-use Rattle.spice_text.specs.Seen.{cards_seen}
+use Rattle.spice_text.specs.Seen.{cards_seen, circuit_seen}
+use Rattle.spice_text.proofs.PinLemmas.{normal_is}
+use Rattle.spice_text.proofs.SoundLemmas.{sound_is}
+use Rattle.spice_text.specs.Faults.{AreOrdered}
+use Rattle.call_order.specs.Order.{lists}
 use Rattle.spice_text.proofs.read.read_spice.Goals as goal
 
 pub returns-clause-netlist : goal.returns-clause-netlist
@@ -23,3 +27,21 @@ returns-clause-netlist c =
       cycles = c.order_laws.ensures.no_cycle (call_lists (all_of cards)) c.in-Ok-order_cards.cards.order.items o.order.in_order;
       netlist = subst (λ (gs : List (List ℕ)). IsNetlistOf (all_of cards) gs n) o.globals one;
     }
+
+pub returns-clause-normal : goal.returns-clause-normal
+returns-clause-normal c =
+    let cards = cards_seen c.in-Ok.all in
+    let o : IsOrdered cards c.in-Ok-order_cards.cards = c.in-Ok-order_cards.ensures.ordered in
+    let n = plain_netlist c.in_ok-netlist.netlist in
+    let one = subst (λ (cs : List Circuit). IsNetlistOf cs c.in-Ok-order_cards.cards.globals.items n) o.circuits c.in_ok-netlist.ensures in
+    let made = subst (λ (gs : List (List ℕ)). IsNetlistOf (all_of cards) gs n) o.globals one in
+    normal_is c.args.bytes.now cards made.needed n c.in-Ok.ensures.cards made.needs made.rows
+
+pub returns-clause-sound : goal.returns-clause-sound
+returns-clause-sound c =
+    let cs = map circuit_seen c.in-Ok-order_cards.cards.circuits.items in
+    let o : IsOrdered (cards_seen c.in-Ok.all) c.in-Ok-order_cards.cards = c.in-Ok-order_cards.ensures.ordered in
+    let made = c.in_ok-netlist.ensures in
+    let order = subst (λ (x : List Circuit). AreOrdered x c.in-Ok-order_cards.cards.names (lists c.in-Ok-order_cards.cards.calls.items) c.in-Ok-order_cards.cards.order.items) (sym o.circuits) o.order in
+    sound_is cs made.needed (plain_netlist c.in_ok-netlist.netlist) order.one order.called order.counts
+    (c.order_laws.ensures.no_cycle (call_lists cs) c.in-Ok-order_cards.cards.order.items order.in_order) c.call_list_laws.ensures made.rows

@@ -1,6 +1,5 @@
-use Rattle.std.proofs.Common.{◌≡◌, ◌++◌, ◌≤◌, ◌+◌, [], ◌∷◌, map, length, None}
-use Rattle.net_model.specs.Rows.{plain_device, plain_call, plain_circuit}
-use Rattle.spice_text.specs.Written.{nets_text, calls_text, IsDeviceText, IsCircuitText, HasWritten}
+use Rattle.std.proofs.Common.{◌≡◌, ◌++◌, length}
+use Rattle.spice_text.specs.Written.{nets_text}
 use Rattle.spice_text.proofs.write.push_nets.Given as goal
 
 abbrev pub invariant-nets : goal.invariant-nets

@@ -1,6 +1,6 @@
-use Rattle.std.proofs.Common.{◌≡◌, ◌++◌, ◌≤◌, ◌+◌, [], ◌∷◌, map, length, None}
-use Rattle.net_model.specs.Rows.{plain_device, plain_call, plain_circuit}
-use Rattle.spice_text.specs.Written.{nets_text, calls_text, IsDeviceText, IsCircuitText, HasWritten}
+use Rattle.std.proofs.Common.{◌≡◌, ◌++◌, ◌≤◌, ◌+◌, map, length}
+use Rattle.net_model.specs.Rows.{plain_call, plain_circuit}
+use Rattle.spice_text.specs.Written.{calls_text}
 use Rattle.spice_text.proofs.write.write_calls.Given as goal
 
 abbrev pub invariant-calls : goal.invariant-calls

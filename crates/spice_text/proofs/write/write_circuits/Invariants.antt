@@ -1,6 +1,6 @@
-use Rattle.std.proofs.Common.{◌≡◌, ◌++◌, ◌≤◌, ◌+◌, [], ◌∷◌, drop, map, length, None}
-use Rattle.net_model.specs.Rows.{plain_device, plain_call, plain_circuit}
-use Rattle.spice_text.specs.Written.{nets_text, calls_text, AreOneByOne, IsCircuitText, HasWritten}
+use Rattle.std.proofs.Common.{drop, map}
+use Rattle.net_model.specs.Rows.{plain_circuit}
+use Rattle.spice_text.specs.Written.{AreOneByOne, IsCircuitText, HasWritten}
 use Rattle.spice_text.proofs.write.write_circuits.Given as goal
 
 abbrev pub invariant-circuits : goal.invariant-circuits

@@ -1,4 +1,4 @@
-use Rattle.std.proofs.Common.{◌≡◌, ◌+◌, ◌∷◌, [], map, drop, subst, sym, ap, refl, List, ℕ}
+use Rattle.std.proofs.Common.{◌+◌, [], map, drop, subst, refl, List}
 use Rattle.std.proofs.lemmas.List.{drop_all}
 use Rattle.plain_netlist.specs.Netlist.{DeviceRow as PlainDevice}
 use Rattle.net_model.specs.Rows.{plain_device}

@@ -1,6 +1,6 @@
-use Rattle.std.proofs.Common.{◌≡◌, ◌++◌, ◌≤◌, ◌+◌, [], ◌∷◌, drop, map, length, None}
-use Rattle.net_model.specs.Rows.{plain_device, plain_call, plain_circuit}
-use Rattle.spice_text.specs.Written.{nets_text, calls_text, AreTexts, IsDeviceText, HasWritten}
+use Rattle.std.proofs.Common.{◌+◌, drop, map}
+use Rattle.net_model.specs.Rows.{plain_device}
+use Rattle.spice_text.specs.Written.{AreTexts, IsDeviceText, HasWritten}
 use Rattle.spice_text.proofs.write.write_devices.Given as goal
 
 abbrev pub invariant-devices : goal.invariant-devices

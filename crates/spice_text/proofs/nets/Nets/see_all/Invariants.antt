@@ -1,8 +1,5 @@
-use Rattle.std.proofs.Common.{◌≡◌, ◌++◌, [], ◌∷◌, map, length, None}
-use Rattle.std.specs.Prelude.{flat_map}
-use Rattle.spice_rows.specs.Seen.{call_seen, device_seen}
-use Rattle.spice_text.specs.Needs.{first_seen, device_nets}
-use Rattle.spice_text.specs.Table.{bools, picked, needed_of, seen_in_calls, seen_with_needs}
+use Rattle.std.proofs.Common.{◌≡◌, length}
+use Rattle.spice_text.specs.Needs.{first_seen}
 use Rattle.spice_text.proofs.nets.Nets.see_all.Given as goal
 
 abbrev pub invariant-names : goal.invariant-names

@@ -1,0 +1,5 @@
+//! Netlist texts, read and written.
+#![tactic(auto)]
+
+mod faults;
+mod read;

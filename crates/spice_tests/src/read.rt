@@ -1,0 +1,87 @@
+use spice_text::{read_spice, write_spice};
+use std::test::Fail;
+
+// Texts, and the text of what is read from each.
+const TEXTS: [(&str, &str); 14] = [
+    // No card.
+    ("", "* lvs netlist\n.END\n"),
+    // The first line isn't a title; comments and blank lines stand between a card and its
+    // continuation; a CR belongs to the line's end; nothing is read behind `.END`.
+    (
+        "* title\r\nM1 D g s\r\n\r\n* more\r\n+ b nch w = 0.5u\r\n+ L= 180n m=1 as=3\r\n.END\r\nfoo\r\n",
+        "* lvs netlist\n.SUBCKT .TOP\nM1 D G S B NCH L=0.18U W=0.5U\n.ENDS .TOP\n.END\n",
+    ),
+    // A global name that a card uses is a further pin, and the caller's call has it too.
+    (
+        ".global vss\n.subckt a x\nm1 x x vss vss n l=1u w=1u\n.ends\n.subckt b x\nx1 x a\n.ends\n",
+        "* lvs netlist\n.SUBCKT A X VSS\nM1 X X VSS VSS N L=1U W=1U\n.ENDS A\n.SUBCKT B X VSS\nX1 X VSS A\n.ENDS B\n.END\n",
+    ),
+    // A circuit that lists the name as a pin keeps it from its callers.
+    (
+        ".global vss\n.subckt a x vss\nm1 x x vss vss n l=1u w=1u\n.ends\n.subckt b x y\nx1 x y a\n.ends\n",
+        "* lvs netlist\n.SUBCKT A X VSS\nM1 X X VSS VSS N L=1U W=1U\n.ENDS A\n.SUBCKT B X Y\nX1 X Y A\n.ENDS B\n.END\n",
+    ),
+    // Needed names stand in the order of the `.GLOBAL` cards, each once, wherever these stand.
+    (
+        ".subckt a\nm1 x x p q n l=1u w=1u\n.ends\n.global q p\n.global p r\n",
+        "* lvs netlist\n.SUBCKT A Q P\nM1 X X P Q N L=1U W=1U\n.ENDS A\n.END\n",
+    ),
+    // Through a circuit without cards of its own that use the name.
+    (
+        ".global g\n.subckt c\nx1 b\n.ends\n.subckt b\nx1 a\n.ends\n.subckt a\nm1 g g g g n l=1u w=1u\n.ends\n",
+        "* lvs netlist\n.SUBCKT C G\nX1 G B\n.ENDS C\n.SUBCKT B G\nX1 G A\n.ENDS B\n.SUBCKT A G\nM1 G G G G N L=1U W=1U\n.ENDS A\n.END\n",
+    ),
+    // Escapes are read before letters are folded; an escaped `=` is part of its name.
+    (
+        ".subckt \\x41b\\= a\\\\ \\q\nx9 a\\x5c Q c\n.ends foo\n.subckt c p q\n.ends",
+        "* lvs netlist\n.SUBCKT AB\\= A\\\\ Q\nX1 A\\\\ Q C\n.ENDS AB\\=\n.SUBCKT C P Q\n.ENDS C\n.END\n",
+    ),
+    // Bytes that aren't printable.
+    (
+        ".subckt a \\x00\\xff\\X20\n.ends\n",
+        "* lvs netlist\n.SUBCKT A \\x00\\xFF\\x20\n.ENDS A\n.END\n",
+    ),
+    // Passed-over cards and parameters; the node 0 is a name like others.
+    (
+        ".model n nmos level=1\n.option scale=1\n.options a b\nm 0 1 2 3 n l=1e-6 w=2.5um ad=x as=y ps=1 pd=1 nrd=1 nrs=1 nf=2 m=1\n",
+        "* lvs netlist\n.SUBCKT .TOP\nM1 0 1 2 3 N L=1U W=2.5U\n.ENDS .TOP\n.END\n",
+    ),
+    // The circuit of the cards outside is the last.
+    (
+        "x1 a\n.subckt a\n.ends\nx2 a m=1\n",
+        "* lvs netlist\n.SUBCKT A\n.ENDS A\n.SUBCKT .TOP\nX1 A\nX2 A\n.ENDS .TOP\n.END\n",
+    ),
+    // A pin that is used nowhere stays.
+    (
+        ".subckt a b c\n.ends\n",
+        "* lvs netlist\n.SUBCKT A B C\n.ENDS A\n.END\n",
+    ),
+    // Values: suffixes, letters behind them, an exponent, the least and the greatest.
+    (
+        "m1 a b c d n l=1f w=1k\nm2 a b c d n l=.000001megm w=1mm\nm3 a b c d n l=.5E-3 w=2.\n",
+        "* lvs netlist\n.SUBCKT .TOP\nM1 A B C D N L=0.000000001U W=1000000000U\nM2 A B C D N L=1000000U W=1000U\nM3 A B C D N L=500U W=2000000U\n.ENDS .TOP\n.END\n",
+    ),
+    // A tab separates; a `+` may stand alone; a last line without LF.
+    (
+        "m1\ta b\n+\n+ c\td n l=1u w=1u\n+",
+        "* lvs netlist\n.SUBCKT .TOP\nM1 A B C D N L=1U W=1U\n.ENDS .TOP\n.END\n",
+    ),
+    // Calls before what they call, and nets in order of first appearance.
+    (
+        ".subckt b z\nx1 y z w a\n.ends\n.subckt a p q r\n.ends\n",
+        "* lvs netlist\n.SUBCKT B Z\nX1 Y Z W A\n.ENDS B\n.SUBCKT A P Q R\n.ENDS A\n.END\n",
+    ),
+];
+
+#[test]
+fn read_and_written(rt: HostRuntime) -> Result<(), Fail> {
+    for (text, want) in TEXTS {
+        let read = read_spice(rt.alloc(), text.as_bytes()).map_err(|e| Fail::from("read"))?;
+        let out = write_spice(rt.alloc(), &read)?;
+        assert_eq!(rt; out.as_slice(), want.as_bytes(), "of {text}");
+        let again = read_spice(rt.alloc(), &out).map_err(|e| Fail::from("again"))?;
+        let twice = write_spice(rt.alloc(), &again)?;
+        assert_eq!(rt; twice.as_slice(), want.as_bytes(), "again of {text}");
+    }
+    Ok(())
+}
