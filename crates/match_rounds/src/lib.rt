@@ -6,5 +6,8 @@ mod counts;
 mod groups;
 mod marks;
 mod order;
+mod pairs;
+mod sorting;
+mod starting;
 
 pub use classes::Classes;
