@@ -10,3 +10,5 @@ pub mod Loose
 pub mod Whole
 pub mod Pairing
 pub mod Started
+pub mod Spans
+pub mod Ordered

@@ -5,3 +5,5 @@ pub mod Classes
 pub mod Pieces
 pub mod Pairs
 pub mod Start
+pub mod Members
+pub mod Touching
