@@ -12,3 +12,4 @@ pub mod Pairing
 pub mod Started
 pub mod Spans
 pub mod Ordered
+pub mod Runs

@@ -109,7 +109,7 @@ fn list_kinds(alloc: Global, graph: &Graph) -> Result<Vec<Part>, AllocError>
     for node in 0..graph.node_count() {
         parts.push(Part {
             class: 0,
-            count: graph.kind(node),
+            count: graph.kind(node) as usize,
             node,
         })?;
     }

@@ -2,8 +2,11 @@ ghost use Rattle.std.specs.Prelude.{◌≡◌, ◌<◌, ℕ, length, slice_index
 ghost use Rattle.std.specs.List.{flat_map};
 ghost use Rattle.std.specs.List.Sorted.{IsPermutation};
 ghost use Rattle.match_graph.specs.Graph.{IsGraph, ends_at, nodes_of};
-ghost use Rattle.match_rounds.specs.Touching.{AreInOrder};
+ghost use Rattle.match_rounds.specs.Classes.{node_count};
+ghost use Rattle.match_rounds.specs.Touching.{AreInOrder, AreParts, IsPortRun, IsRun, end_at};
 
+use crate::classes::Classes;
+use crate::groups::Part;
 use match_graph::{End, Graph};
 use std::alloc::AllocError;
 
@@ -30,4 +33,58 @@ pub fn sort_ends(touched: &mut Vec<End>)
     ensures permutation { IsPermutation touched.old.items touched.new.items }
 {
     touched.sort_unstable();
+}
+
+/// Where the ends stop that are equal to this one.
+pub fn key_end(touched: &[End], from: usize) -> usize
+    requires { from < length touched.now }
+    ensures { IsRun touched.now from result }
+{
+    for i in from + 1..touched.len() {
+        if touched[i].port != touched[from].port || touched[i].node != touched[from].node {
+            return i;
+        }
+    }
+    touched.len()
+}
+
+/// Where the ends stop that have this one's port.
+pub fn port_end(touched: &[End], from: usize) -> usize
+    requires { from < length touched.now }
+    ensures { IsPortRun touched.now from result }
+{
+    for i in from + 1..touched.len() {
+        if touched[i].port != touched[from].port {
+            return i;
+        }
+    }
+    touched.len()
+}
+
+/// The nodes of the ends from here up to there, which have one port, each with the number of its ends.
+pub fn list_parts(
+    classes: &Classes,
+    touched: &[End],
+    from: usize,
+    to: usize,
+    parts: &mut Vec<Part>,
+) -> Result<(), AllocError>
+    requires order { AreInOrder touched.now }
+    requires run { IsPortRun touched.now from to }
+    requires nodes { (k : ℕ) → k < length touched.now → (end_at touched.now k).node < node_count classes.now }
+    ensures { OnOk result (AreParts classes.now touched.now from to parts.new.items) }
+{
+    parts.clear();
+    let mut i = from;
+    while i < to {
+        let end = key_end(touched, i);
+        let node = touched[i].node;
+        parts.push(Part {
+            class: classes.class_of[node as usize],
+            count: end - i,
+            node,
+        })?;
+        i = end;
+    }
+    Ok(())
 }
