@@ -4,3 +4,12 @@ pub mod Counting
 pub mod Parted
 pub mod Apart
 pub mod Grouped
+pub mod Sorted
+pub mod Reordered
+pub mod Loose
+pub mod Whole
+pub mod Pairing
+pub mod Started
+pub mod Spans
+pub mod Ordered
+pub mod Runs

@@ -3,3 +3,7 @@ pub mod Marks
 pub mod Order
 pub mod Classes
 pub mod Pieces
+pub mod Pairs
+pub mod Start
+pub mod Members
+pub mod Touching

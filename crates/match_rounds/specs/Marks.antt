@@ -1,5 +1,5 @@
 -- The classes that a round looks at.
-use Rattle.std.specs.Prelude.{◌≡◌, ◌≢◌, ◌⊎◌, ◌<◌, ◌+◌, ℕ, Bool, true, false, List, length, slice_index, slice_index_or}
+use Rattle.std.specs.Prelude.{◌≡◌, ◌≢◌, ◌⊎◌, ◌<◌, ◌≤◌, ◌+◌, ℕ, Bool, true, false, List, length, slice_index, slice_index_or}
 use Rattle.match_rounds.specs.declared.marks.Marks.{Marks}
 
 abbrev pub is_marked : Marks → ℕ → Bool
@@ -18,3 +18,9 @@ pub record IsHalved (old new : Marks) (w : ℕ) : Type 0 where
   pub rest : (d : ℕ) → d < length old.is_fresh.items → d ≢ w → is_marked new d ≡ is_marked old d
   pub one : (is_marked new w ≡ true) ⊎ (is_marked new (length old.is_fresh.items) ≡ true)
   pub both : is_marked old w ≡ true → (is_marked new w ≡ true) × (is_marked new (length old.is_fresh.items) ≡ true)
+
+-- the first i of the listed classes are marked no more
+pub record AreCleared (old new : Marks) (i : ℕ) : Type 0 where
+  pub long : length new.is_fresh.items ≡ length old.is_fresh.items
+  pub list : new.fresh ≡ old.fresh
+  pub none : (d : ℕ) → (is_marked new d ≡ false) ⊎ ((j : ℕ) × (i ≤ j) × (j < length old.fresh.items) × (slice_index old.fresh.items j ≡ d))

@@ -12,13 +12,22 @@ IsSameKey p q = (p.class ≡ q.class) × (p.count ≡ q.count)
 abbrev pub IsNoLaterPart : Part → Part → Type 0
 IsNoLaterPart p q = (p.class < q.class) ⊎ ((p.class ≡ q.class) × (p.count ≤ q.count))
 
--- distinct nodes of these classes, ordered by class and count; no count is 0
+-- ordered by class and count
+abbrev pub AreOrdered : List Part → Type 0
+AreOrdered parts = (e f : ℕ) → f < length parts → e ≤ f → IsNoLaterPart (entry parts e) (entry parts f)
+
+-- distinct nodes of these classes
+pub record AreLoose (classes : List ℕ) (parts : List Part) (n : ℕ) : Type 0 where
+  pub below : (e : ℕ) → e < length parts → (entry parts e).node < n
+  pub class : (e : ℕ) → e < length parts → (entry parts e).class ≡ slice_index classes (entry parts e).node
+  pub once : (e f : ℕ) → e < length parts → f < e → (entry parts f).node ≢ (entry parts e).node
+
+-- distinct nodes of these classes, ordered by class and count
 pub record ArePieces (classes : List ℕ) (parts : List Part) (n : ℕ) : Type 0 where
   pub below : (e : ℕ) → e < length parts → (entry parts e).node < n
   pub class : (e : ℕ) → e < length parts → (entry parts e).class ≡ slice_index classes (entry parts e).node
-  pub some : (e : ℕ) → e < length parts → 0 < (entry parts e).count
   pub once : (e f : ℕ) → e < length parts → f < e → (entry parts f).node ≢ (entry parts e).node
-  pub sorted : (e f : ℕ) → f < length parts → e ≤ f → IsNoLaterPart (entry parts e) (entry parts f)
+  pub sorted : AreOrdered parts
 
 -- the entries from here up to the end are all that have this one's key
 pub record IsGroup (parts : List Part) (from end : ℕ) : Type 0 where

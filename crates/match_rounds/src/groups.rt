@@ -9,7 +9,7 @@ use std::alloc::AllocError;
 #[derive(Clone, Copy, PartialEq, Eq, PartialOrd, Ord, Debug)]
 pub struct Part {
     pub class: u32,
-    pub count: u32,
+    pub count: usize,
     pub node: u32,
 }
 

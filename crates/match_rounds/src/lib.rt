@@ -5,6 +5,11 @@ mod classes;
 mod counts;
 mod groups;
 mod marks;
+mod members;
 mod order;
+mod pairs;
+mod sorting;
+mod starting;
+mod touching;
 
 pub use classes::Classes;

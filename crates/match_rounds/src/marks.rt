@@ -12,8 +12,8 @@ pub struct Marks {
 }
 
 impl Marks {
-    ghost use Rattle.std.specs.Prelude.{◌≡◌, ◌<◌, ◌^◌, length, OnOk};
-    ghost use Rattle.match_rounds.specs.Marks.{AreListed, IsHalved};
+    ghost use Rattle.std.specs.Prelude.{◌≡◌, ◌<◌, ◌^◌, ℕ, false, length, OnOk};
+    ghost use Rattle.match_rounds.specs.Marks.{AreListed, IsHalved, is_marked};
 
     /// Adds a class that was part of this one. Where the whole was to be looked at, both parts are; else the smaller one is.
     pub fn split_off(&mut self, whole: u32, is_smaller: bool) -> Result<(), AllocError>
@@ -33,5 +33,20 @@ impl Marks {
             self.fresh.push(whole)?;
         }
         Ok(())
+    }
+
+    /// Marks no class any more.
+    pub fn clear(&mut self)
+        requires { AreListed self.old }
+        ensures listed { AreListed self.new }
+        ensures long { length self.new.is_fresh.items ≡ length self.old.is_fresh.items }
+        ensures none { (d : ℕ) → is_marked self.new d ≡ false }
+        ensures empty { length self.new.fresh.items ≡ 0 }
+    {
+        for i in 0..self.fresh.len() {
+            let class = self.fresh[i] as usize;
+            self.is_fresh[class] = false;
+        }
+        self.fresh.clear();
     }
 }

@@ -1,0 +1,5 @@
+use Rattle.std.proofs.Common.{◌≡◌, ◌<◌, ℕ, length, slice_index}
+use Rattle.match_rounds.proofs.starting.numbers_below.Given as goal
+
+abbrev pub invariant-loop-k : goal.invariant-loop-k
+invariant-loop-k l = (length l.numbers.items ≡ l.k) × ((j : ℕ) → j < l.k → slice_index l.numbers.items j ≡ j)

@@ -1,0 +1,57 @@
+-- The ends at the nodes of one class.
+use Rattle.std.specs.Prelude.{◌≡◌, ◌≢◌, ◌⊎◌, ◌<◌, ◌≤◌, ◌+◌, ℕ, List, length, slice_index_or}
+use Rattle.match_graph.specs.declared.graph.Port.{Port}
+use Rattle.match_graph.specs.declared.graph.Port.TheVariants as port
+use Rattle.match_graph.specs.declared.graph.End.{End}
+use Rattle.match_graph.specs.Filling.{end}
+use Rattle.match_rounds.specs.declared.classes.Classes.{Classes}
+use Rattle.match_rounds.specs.declared.groups.Part.{Part}
+use Rattle.match_rounds.specs.Classes.{class_in}
+use Rattle.match_rounds.specs.Pieces.{entry}
+
+-- the ports in order
+abbrev pub port_rank : Port → ℕ
+port_rank port.Channel = 0
+port_rank port.Gate = 1
+port_rank port.Bulk = 2
+port_rank (port.Pin i) = 3 + i
+
+abbrev pub end_at : List End → ℕ → End
+end_at ends i = slice_index_or ends i (end port.Channel 0)
+
+-- d stands before e, or they are equal
+abbrev pub IsNoLaterEnd : End → End → Type 0
+IsNoLaterEnd d e = (port_rank d.port < port_rank e.port) ⊎ ((port_rank d.port ≡ port_rank e.port) × (d.node ≤ e.node))
+
+abbrev pub AreInOrder : List End → Type 0
+AreInOrder ends = (i j : ℕ) → i ≤ j → j < length ends → IsNoLaterEnd (end_at ends i) (end_at ends j)
+
+-- the ends from here on up to there are equal, and the next one is another
+pub record IsRun (ends : List End) (from to : ℕ) : Type 0 where
+  pub some : from < to
+  pub fits : to ≤ length ends
+  pub port : (k : ℕ) → from ≤ k → k < to → (end_at ends k).port ≡ (end_at ends from).port
+  pub node : (k : ℕ) → from ≤ k → k < to → (end_at ends k).node ≡ (end_at ends from).node
+  pub next : to < length ends → (end_at ends to).port ≡ (end_at ends from).port → (end_at ends to).node ≢ (end_at ends from).node
+
+-- the ends from here on up to there have one port, and the next one has another
+pub record IsPortRun (ends : List End) (from to : ℕ) : Type 0 where
+  pub some : from < to
+  pub fits : to ≤ length ends
+  pub port : (k : ℕ) → from ≤ k → k < to → (end_at ends k).port ≡ (end_at ends from).port
+  pub next : to < length ends → (end_at ends to).port ≢ (end_at ends from).port
+
+-- a part that stands for one run of ends among these
+pub record IsPart (c : Classes) (ends : List End) (from to : ℕ) (p : Part) : Type 0 where
+  pub start : ℕ
+  pub low : from ≤ start
+  pub high : start + p.count ≤ to
+  pub run : IsRun ends start (start + p.count)
+  pub node : p.node ≡ (end_at ends start).node
+  pub class : p.class ≡ class_in c p.node
+
+-- one part for each node of the ends from here up to there
+pub record AreParts (c : Classes) (ends : List End) (from to : ℕ) (parts : List Part) : Type 0 where
+  pub each : (e : ℕ) → e < length parts → IsPart c ends from to (entry parts e)
+  pub all : (k : ℕ) → from ≤ k → k < to → (e : ℕ) × (e < length parts) × ((entry parts e).node ≡ (end_at ends k).node)
+  pub once : (e f : ℕ) → e < length parts → f < e → (entry parts f).node ≢ (entry parts e).node
