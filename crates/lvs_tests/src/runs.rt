@@ -228,6 +228,43 @@ fn damaged_streams(rt: HostRuntime) -> Result<(), Fail> {
     Ok(())
 }
 
+// NULs behind ENDLIB aren't read: the file that is written is the same.
+#[test]
+fn nothing_behind_the_end(rt: HostRuntime) -> Result<(), Fail> {
+    let alloc = rt.alloc();
+    let layout = stream(alloc, &OVERLAP)?;
+    let mut longer = layout.to_vec(alloc)?;
+    longer.extend_from_slice(&[0; 1818])?;
+    assert_eq!(rt; longer.len(), 2048);
+    let run = run_of(alloc, &longer, RULES, &SHAPES, NONE)?;
+    assert_eq!(rt; run.code, 0);
+    assert_eq!(rt;
+        run.line.as_slice(),
+        b"shapes cells 1 rectangles 1\n".as_slice()
+    );
+    assert_eq!(rt; run.shapes, Some(stream(alloc, &[(10, 5, 5, 10, 10)])?));
+    Ok(())
+}
+
+// UNITS whose two reals are 0.
+#[test]
+fn units_of_zeros(rt: HostRuntime) -> Result<(), Fail> {
+    let alloc = rt.alloc();
+    let mut layout = stream(alloc, &OVERLAP)?;
+    for byte in layout.iter_mut().skip(44).take(16) {
+        *byte = 0;
+    }
+    refuses(
+        &rt,
+        alloc,
+        &layout,
+        RULES,
+        &SHAPES,
+        "refused layout 13 record 3 offset 40\n",
+    )?;
+    Ok(())
+}
+
 // A cell on the border of what is read, and one beyond it.
 #[test]
 fn reach(rt: HostRuntime) -> Result<(), Fail> {
