@@ -13,3 +13,4 @@ pub mod Started
 pub mod Spans
 pub mod Ordered
 pub mod Runs
+pub mod Turned

@@ -4,6 +4,7 @@ ghost use Rattle.std.specs.List.Sorted.{IsPermutation};
 ghost use Rattle.match_graph.specs.Graph.{IsGraph, ends_at, nodes_of};
 ghost use Rattle.match_rounds.specs.Classes.{node_count};
 ghost use Rattle.match_rounds.specs.Touching.{AreInOrder, AreParts, IsPortRun, IsRun, end_at};
+ghost use Rattle.match_rounds.specs.Turned.{TouchLaw};
 
 use crate::classes::Classes;
 use crate::groups::Part;
@@ -26,6 +27,11 @@ pub fn list_touched(
     }
     Ok(())
 }
+
+/// A node stands as often among the ends of a class's members as it has ends at them.
+pub fn turning()
+    ensures touched { TouchLaw }
+{}
 
 /// Orders ends by port and node.
 pub fn sort_ends(touched: &mut Vec<End>)
