@@ -1,17 +1,16 @@
 -- How many ends a node has at the members of a class.
-use Rattle.std.proofs.Common.{◌≡◌, ◌≢◌, ◌⊎◌, inl, inr, ◌<◌, ◌≤◌, ◌+◌, ◌==◌, ◌&&◌, ◌||◌, ℕ, zero, suc, Bool, true, false, cond, count_by, List, [], ◌∷◌, ◌++◌, length, map, slice_index, refl, sym, subst, ◌∙◌, ap, arith, true≢false}
+use Rattle.std.proofs.Common.{◌≡◌, ◌≢◌, ◌<◌, ◌+◌, ◌==◌, ◌&&◌, ◌||◌, ℕ, suc, Bool, true, false, cond, count_by, List, [], ◌∷◌, ◌++◌, length, map, slice_index, refl, sym, ◌∙◌, ap, arith, true≢false}
 use Rattle.std.specs.List.{flat_map, list_any}
 use Rattle.std.proofs.lemmas.Bool.Decides.{Decides-eqb}
 use Rattle.std.proofs.lemmas.List.{map-append}
-use Rattle.plain_netlist.specs.Lists.{IsListed}
-use Rattle.round_laws.specs.Web.{Port, same_port, End, Web, IsNode}
+use Rattle.round_laws.specs.Web.{Port, same_port}
 use Rattle.round_laws.specs.Colours.{ends_of}
-use Rattle.round_laws.proofs.Agree.{count-cons, count_same, count_none, same_test, both, first, second}
-use Rattle.round_laws.proofs.Fast.{count_split, false_if}
+use Rattle.round_laws.proofs.Agree.{count-cons, count_same, count_none, same_test}
+use Rattle.round_laws.proofs.Fast.{count_split}
 use Rattle.round_laws.proofs.Stable.{near_node}
 use Rattle.match_graph.specs.declared.graph.Graph.{Graph}
 use Rattle.match_graph.specs.Graph.{IsGraph, graph_web, plain_end, ends_at, nodes_of}
-use Rattle.match_rounds.specs.Turned.{AreAllOf, TouchLaw}
+use Rattle.match_rounds.specs.Turned.{TouchLaw}
 use Rattle.match_rounds.proofs.Counting.{any_index, first_apart, rest_apart}
 use Rattle.match_rounds.proofs.Started.{node_below, below_node}
 

@@ -21,7 +21,8 @@ end_at ends i = slice_index_or ends i (end port.Channel 0)
 
 -- d stands before e, or they are equal
 abbrev pub IsNoLaterEnd : End → End → Type 0
-IsNoLaterEnd d e = (port_rank d.port < port_rank e.port) ⊎ ((port_rank d.port ≡ port_rank e.port) × (d.node ≤ e.node))
+IsNoLaterEnd d e = (port_rank d.port < port_rank e.port) ⊎ ((port_rank d.port ≡ port_rank e.port)
+    × (d.node ≤ e.node))
 
 abbrev pub AreInOrder : List End → Type 0
 AreInOrder ends = (i j : ℕ) → i ≤ j → j < length ends → IsNoLaterEnd (end_at ends i) (end_at ends j)
@@ -32,7 +33,8 @@ pub record IsRun (ends : List End) (from to : ℕ) : Type 0 where
   pub fits : to ≤ length ends
   pub port : (k : ℕ) → from ≤ k → k < to → (end_at ends k).port ≡ (end_at ends from).port
   pub node : (k : ℕ) → from ≤ k → k < to → (end_at ends k).node ≡ (end_at ends from).node
-  pub next : to < length ends → (end_at ends to).port ≡ (end_at ends from).port → (end_at ends to).node ≢ (end_at ends from).node
+  pub next : to < length ends → (end_at ends to).port ≡ (end_at ends from).port
+      → (end_at ends to).node ≢ (end_at ends from).node
 
 -- the ends from here on up to there have one port, and the next one has another
 pub record IsPortRun (ends : List End) (from to : ℕ) : Type 0 where
@@ -53,5 +55,6 @@ pub record IsPart (c : Classes) (ends : List End) (from to : ℕ) (p : Part) : T
 -- one part for each node of the ends from here up to there
 pub record AreParts (c : Classes) (ends : List End) (from to : ℕ) (parts : List Part) : Type 0 where
   pub each : (e : ℕ) → e < length parts → IsPart c ends from to (entry parts e)
-  pub all : (k : ℕ) → from ≤ k → k < to → (e : ℕ) × (e < length parts) × ((entry parts e).node ≡ (end_at ends k).node)
+  pub all : (k : ℕ) → from ≤ k → k < to → (e : ℕ) × (e < length parts)
+      × ((entry parts e).node ≡ (end_at ends k).node)
   pub once : (e f : ℕ) → e < length parts → f < e → (entry parts f).node ≢ (entry parts e).node

@@ -15,6 +15,8 @@ pub record AreAllOf (colour : ℕ → ℕ) (c : ℕ) (members : List ℕ) (n : �
 
 -- a node stands as often among the ends of a class's members as it has ends at them
 abbrev pub TouchLaw : Type 0
-TouchLaw = (g : Graph) (colour : ℕ → ℕ) (c : ℕ) (members : List ℕ) → IsGraph g → AreAllOf colour c members (nodes_of g)
+TouchLaw = (g : Graph) (colour : ℕ → ℕ) (c : ℕ) (members : List ℕ) → IsGraph g
+    → AreAllOf colour c members (nodes_of g)
     → (a : ℕ) (port : Port) → a < nodes_of g
-    → ends_of (λ x. x) port a (map plain_end (flat_map (ends_at g) members)) ≡ ends_of colour port c (map plain_end (ends_at g a))
+    → ends_of (λ x. x) port a (map plain_end (flat_map (ends_at g) members))
+    ≡ ends_of colour port c (map plain_end (ends_at g a))

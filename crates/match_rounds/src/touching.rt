@@ -11,7 +11,8 @@ use crate::groups::Part;
 use match_graph::{End, Graph};
 use std::alloc::AllocError;
 
-/// The ends of the members of a class: how each node that has an end there meets it, once for each such end.
+/// The ends of the members of a class: how each node that has an end there meets it, once for each
+/// such end.
 pub fn list_touched(
     graph: &Graph,
     members: &[u32],
@@ -67,7 +68,8 @@ pub fn port_end(touched: &[End], from: usize) -> usize
     touched.len()
 }
 
-/// The nodes of the ends from here up to there, which have one port, each with the number of its ends.
+/// The nodes of the ends from here up to there, which have one port, each with the number of its
+/// ends.
 pub fn list_parts(
     classes: &Classes,
     touched: &[End],
