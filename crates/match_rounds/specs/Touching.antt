@@ -43,7 +43,7 @@ pub record IsPortRun (ends : List End) (from to : ℕ) : Type 0 where
   pub port : (k : ℕ) → from ≤ k → k < to → (end_at ends k).port ≡ (end_at ends from).port
   pub next : to < length ends → (end_at ends to).port ≢ (end_at ends from).port
 
--- a part that stands for one run of ends among these
+-- a part that stands for the one run of its node's ends among these
 pub record IsPart (c : Classes) (ends : List End) (from to : ℕ) (p : Part) : Type 0 where
   pub start : ℕ
   pub low : from ≤ start
@@ -51,6 +51,7 @@ pub record IsPart (c : Classes) (ends : List End) (from to : ℕ) (p : Part) : T
   pub run : IsRun ends start (start + p.count)
   pub node : p.node ≡ (end_at ends start).node
   pub class : p.class ≡ class_in c p.node
+  pub first : (k : ℕ) → from ≤ k → k < start → (end_at ends k).node ≢ p.node
 
 -- one part for each node of the ends from here up to there
 pub record AreParts (c : Classes) (ends : List End) (from to : ℕ) (parts : List Part) : Type 0 where
