@@ -14,3 +14,4 @@ pub mod Spans
 pub mod Ordered
 pub mod Runs
 pub mod Turned
+pub mod PartCounts

@@ -17,7 +17,7 @@ between d e f (inr a) (inl b) p n = let c = a.0 in absurd (omega arith)
 between d e f (inr a) (inr b) p n = let c = a.1 in let g = b.1 in omega arith
 
 -- a run that ends no later than i has another node than end i
-apart : (ends : List End) (from to i b t : ℕ) → AreInOrder ends → IsPortRun ends from to → i < to → from ≤ b → IsRun ends b t → t ≤ i → (end_at ends b).node ≢ (end_at ends i).node
+pub apart : (ends : List End) (from to i b t : ℕ) → AreInOrder ends → IsPortRun ends from to → i < to → from ≤ b → IsRun ends b t → t ≤ i → (end_at ends b).node ≢ (end_at ends i).node
 apart ends from to i b t order h li lb run lt same =
     let some = run.some in
     let fits = h.fits in

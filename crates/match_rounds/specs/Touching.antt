@@ -1,5 +1,7 @@
 -- The ends at the nodes of one class.
-use Rattle.std.specs.Prelude.{◌≡◌, ◌≢◌, ◌⊎◌, ◌<◌, ◌≤◌, ◌+◌, ℕ, List, length, slice_index_or}
+use Rattle.std.specs.Prelude.{◌≡◌, ◌≢◌, ◌⊎◌, ◌<◌, ◌≤◌, ◌+◌, ◌==◌, ◌&&◌, ℕ, List, length, count_by, slice_index_or}
+use Rattle.round_laws.specs.Web.{same_port}
+use Rattle.match_graph.specs.Graph.{plain_port}
 use Rattle.match_graph.specs.declared.graph.Port.{Port}
 use Rattle.match_graph.specs.declared.graph.Port.TheVariants as port
 use Rattle.match_graph.specs.declared.graph.End.{End}
@@ -59,3 +61,18 @@ pub record AreParts (c : Classes) (ends : List End) (from to : ℕ) (parts : Lis
   pub all : (k : ℕ) → from ≤ k → k < to → (e : ℕ) × (e < length parts)
       × ((entry parts e).node ≡ (end_at ends k).node)
   pub once : (e f : ℕ) → e < length parts → f < e → (entry parts f).node ≢ (entry parts e).node
+
+-- no end before these has their port
+abbrev pub IsPortStart : List End → ℕ → Type 0
+IsPortStart ends from = (k : ℕ) → k < from → (end_at ends k).port ≢ (end_at ends from).port
+
+-- how many of the ends are of this port and node
+abbrev pub count_at : List End → Port → ℕ → ℕ
+count_at ends port a =
+    count_by (λ e. same_port (plain_port port) (plain_port e.port) && (a == e.node)) ends
+
+-- a part's count is how many ends of the port its node has
+abbrev pub PartLaw : Type 0
+PartLaw = (c : Classes) (ends : List End) (from to : ℕ) (p : Part) → AreInOrder ends
+    → IsPortRun ends from to → IsPortStart ends from → IsPart c ends from to p
+    → count_at ends (end_at ends from).port p.node ≡ p.count

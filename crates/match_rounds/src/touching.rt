@@ -3,7 +3,7 @@ ghost use Rattle.std.specs.List.{flat_map};
 ghost use Rattle.std.specs.List.Sorted.{IsPermutation};
 ghost use Rattle.match_graph.specs.Graph.{IsGraph, ends_at, nodes_of};
 ghost use Rattle.match_rounds.specs.Classes.{node_count};
-ghost use Rattle.match_rounds.specs.Touching.{AreInOrder, AreParts, IsPortRun, IsRun, end_at};
+ghost use Rattle.match_rounds.specs.Touching.{AreInOrder, AreParts, IsPortRun, IsRun, PartLaw, end_at};
 ghost use Rattle.match_rounds.specs.Turned.{TouchLaw};
 
 use crate::classes::Classes;
@@ -29,9 +29,11 @@ pub fn list_touched(
     Ok(())
 }
 
-/// A node stands as often among the ends of a class's members as it has ends at them.
+/// A node stands as often among the ends of a class's members as it has ends at them, and its part
+/// counts how often that is.
 pub fn turning()
     ensures touched { TouchLaw }
+    ensures part { PartLaw }
 {}
 
 /// Orders ends by port and node.
