@@ -1,13 +1,13 @@
 -- What parting off says of two nodes.
-use Rattle.std.proofs.Common.{◌≡◌, ◌≢◌, ◌↔◌, ◌⊎◌, inl, inr, ◌<◌, ◌≤◌, ◌+◌, ◌-◌, ◌==◌, ◌||◌, ℕ, zero, suc, Bool, true, false, cond, List, [], ◌∷◌, length, slice_index, take, refl, sym, subst, ◌∙◌, ap, arith, true≢false, nat_eq}
+use Rattle.std.proofs.Common.{◌≡◌, ◌≢◌, ◌⊎◌, inl, inr, ◌<◌, ◌≤◌, ◌+◌, ◌-◌, ◌==◌, ◌||◌, ℕ, zero, suc, Bool, true, false, cond, List, [], ◌∷◌, length, slice_index, take, refl, sym, subst, ◌∙◌, ap, arith, true≢false, nat_eq}
 use Rattle.std.specs.List.{list_any, IsDistinct, AllByRecursion}
 use Rattle.std.proofs.Math.Decide.{ℕ_discrete}
 use Rattle.std.proofs.lemmas.List.Folds.{list_any_more}
 use Rattle.std.proofs.lemmas.Bool.Decides.{Decides-eqb}
 use Rattle.std.proofs.lemmas.Map.Steps.{length-le_from_distinct_below}
 use Rattle.match_rounds.specs.declared.classes.Classes.{Classes}
-use Rattle.match_rounds.specs.Order.{class_at, StandsAt, whole_of, is_among}
-use Rattle.match_rounds.specs.Classes.{AreClasses, AreAlike, IsPartedOff, PartedLaw, class_count, class_in}
+use Rattle.match_rounds.specs.Order.{class_at, whole_of, is_among}
+use Rattle.match_rounds.specs.Classes.{AreClasses, AreAlike, PartedLaw, class_count}
 
 pub is_it : (b : Bool) → (b ≡ true) ⊎ (b ≡ false)
 is_it true = inl refl

@@ -1,5 +1,5 @@
 -- How many of the first nodes are of a class, before and after some nodes became a class.
-use Rattle.std.proofs.Common.{◌≡◌, ◌≢◌, ◌⊎◌, inl, inr, ◌<◌, ◌≤◌, ◌+◌, ◌-◌, ◌==◌, ◌||◌, ◌&&◌, ℕ, zero, suc, Bool, true, false, cond, count_by, nat_lt, not, List, [], ◌∷◌, length, slice_index, take, refl, sym, subst, ◌∙◌, ap, arith, true≢false}
+use Rattle.std.proofs.Common.{◌≡◌, ◌≢◌, ◌⊎◌, inl, inr, ◌<◌, ◌≤◌, ◌+◌, ◌==◌, ◌||◌, ◌&&◌, ℕ, suc, Bool, true, false, cond, count_by, nat_lt, not, List, [], ◌∷◌, length, slice_index, take, refl, sym, ◌∙◌, ap, arith, true≢false}
 use Rattle.std.specs.List.{list_any}
 use Rattle.std.proofs.lemmas.Bool.Decides.{Decides-eqb, Decides-ltb}
 use Rattle.plain_netlist.specs.Lists.{IsListed}
@@ -17,7 +17,7 @@ is_it false = inr refl
 in_list : List ℕ → ℕ → Bool
 in_list xs a = list_any (λ x. x == a) xs
 
-any_index : (xs : List ℕ) (a : ℕ) → list_any (λ x. x == a) xs ≡ true → (i : ℕ) × (i < length xs) × (slice_index xs i ≡ a)
+pub any_index : (xs : List ℕ) (a : ℕ) → list_any (λ x. x == a) xs ≡ true → (i : ℕ) × (i < length xs) × (slice_index xs i ≡ a)
 any_index [] a h = absurd (true≢false (sym h))
 any_index (x ∷ xs) a h = elim (either (x == a) (list_any (λ x. x == a) xs) h) [
   | inl e ↦ (0, omega arith, (Decides-eqb x a).0 e)
@@ -27,10 +27,10 @@ any_index (x ∷ xs) a h = elim (either (x == a) (list_any (λ x. x == a) xs) h)
 IsApart : List ℕ → Type 0
 IsApart xs = (i j : ℕ) → i < length xs → j < i → slice_index xs j ≢ slice_index xs i
 
-rest_apart : (x : ℕ) (xs : List ℕ) → ((i j : ℕ) → i < length (x ∷ xs) → j < i → slice_index (x ∷ xs) j ≢ slice_index (x ∷ xs) i) → (i j : ℕ) → i < length xs → j < i → slice_index xs j ≢ slice_index xs i
+pub rest_apart : (x : ℕ) (xs : List ℕ) → ((i j : ℕ) → i < length (x ∷ xs) → j < i → slice_index (x ∷ xs) j ≢ slice_index (x ∷ xs) i) → (i j : ℕ) → i < length xs → j < i → slice_index xs j ≢ slice_index xs i
 rest_apart x xs h i j l m = h (suc i) (suc j) (omega arith) (omega arith)
 
-first_apart : (x : ℕ) (xs : List ℕ) → ((i j : ℕ) → i < length (x ∷ xs) → j < i → slice_index (x ∷ xs) j ≢ slice_index (x ∷ xs) i) → list_any (λ y. y == x) xs ≡ false
+pub first_apart : (x : ℕ) (xs : List ℕ) → ((i j : ℕ) → i < length (x ∷ xs) → j < i → slice_index (x ∷ xs) j ≢ slice_index (x ∷ xs) i) → list_any (λ y. y == x) xs ≡ false
 first_apart x xs h = false_if (list_any (λ y. y == x) xs) (λ t. let g = any_index xs x t in let l = g.1 in h (suc g.0) 0 (omega arith) (omega arith) (sym g.2))
 
 one_at : (x m : ℕ) → count_by (λ a. x == a) (numbers_from 0 m) ≡ cond (nat_lt x m) 1 0

@@ -1,12 +1,12 @@
 -- One group of entries more is parted off.
-use Rattle.std.proofs.Common.{◌≡◌, ◌≢◌, ◌↔◌, ◌⊎◌, inl, inr, ◌<◌, ◌≤◌, ◌+◌, ◌-◌, ℕ, Bool, true, false, List, length, slice_index, refl, sym, subst, ◌∙◌, ap, arith, true≢false}
+use Rattle.std.proofs.Common.{◌≡◌, inl, inr, ◌<◌, ◌≤◌, ◌+◌, ◌-◌, ℕ, Bool, true, false, List, length, slice_index, refl, sym, subst, ◌∙◌, ap, arith}
 use Rattle.std.proofs.lemmas.Bool.{cases_lt}
 use Rattle.match_rounds.specs.declared.classes.Classes.{Classes}
 use Rattle.match_rounds.specs.declared.groups.Part.{Part}
-use Rattle.match_rounds.specs.Order.{whole_of, is_among}
+use Rattle.match_rounds.specs.Order.{is_among}
 use Rattle.match_rounds.specs.Classes.{AreClasses, AreAlike, IsPartedOff, KeepsFresh}
-use Rattle.match_rounds.specs.Pieces.{entry, IsSameKey, IsNoLaterPart, ArePieces, IsGroup, AreNodesOf, HasCount, HaveOneCount, ArePartedBy, ArePartedSoFar}
-use Rattle.match_rounds.proofs.Apart.{found, has, is_it, parted}
+use Rattle.match_rounds.specs.Pieces.{entry, IsSameKey, IsNoLaterPart, ArePieces, IsGroup, AreNodesOf, HasCount, HaveOneCount, ArePartedSoFar}
+use Rattle.match_rounds.proofs.Apart.{found, has, parted}
 
 same_test : (a b : Bool) → (a ≡ true → b ≡ true) → (b ≡ true → a ≡ true) → a ≡ b
 same_test true b f g = sym (f refl)

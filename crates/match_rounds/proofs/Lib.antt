@@ -13,3 +13,5 @@ pub mod Started
 pub mod Spans
 pub mod Ordered
 pub mod Runs
+pub mod Turned
+pub mod PartCounts

@@ -1,8 +1,7 @@
 -- Parts after they were sorted.
-use Rattle.std.proofs.Common.{◌≡◌, ◌≢◌, ◌⊎◌, inl, inr, ◌↔◌, ◌<◌, ◌≤◌, ℕ, List, length, slice_index, refl, sym, subst, ◌∙◌, ap, arith}
+use Rattle.std.proofs.Common.{◌≡◌, ◌≢◌, inl, inr, ◌↔◌, ◌<◌, ℕ, List, length, slice_index, sym, subst, ◌∙◌, ap, arith}
 use Rattle.std.specs.List.Sorted.{IsPermutation}
 use Rattle.std.proofs.lemmas.Bool.{cases_lt}
-use Rattle.std.proofs.Math.Decide.{ℕ_discrete}
 use Rattle.match_rounds.specs.declared.groups.Part.{Part}
 use Rattle.match_rounds.specs.Pieces.{entry, AreOrdered, AreLoose, ArePieces, ArePartedBy, HasCount}
 use Rattle.match_rounds.proofs.Reordered.{IsReordered, reordered}

@@ -1,5 +1,5 @@
 -- Ends in order.
-use Rattle.std.proofs.Common.{◌≡◌, ◌⊎◌, inl, inr, ◌<◌, ◌≤◌, ◌+◌, ℕ, Bool, true, false, List, length, refl, sym, arith, true≢false}
+use Rattle.std.proofs.Common.{◌≡◌, inl, inr, ◌<◌, ◌≤◌, ℕ, false, List, refl, arith, true≢false}
 use Rattle.std.specs.declared.cmp.Ordering.{Ordering}
 use Rattle.std.specs.declared.cmp.Ordering.TheVariants.{Less, Equal, Greater}
 use Rattle.std.specs.Ordering.{nat_cmp, ordering_then, is_lt}
@@ -13,7 +13,7 @@ use Rattle.match_graph.specs.contracts.graph.PortOrd.TheImpl as port_order
 use Rattle.match_graph.specs.contracts.graph.EndOrd.TheImpl as end_order
 use Rattle.match_graph.specs.contracts.graph.EndOrd.TheImpl.Laws as end_laws
 use Rattle.match_graph.specs.Filling.{end}
-use Rattle.match_rounds.specs.Touching.{port_rank, end_at, IsNoLaterEnd, AreInOrder}
+use Rattle.match_rounds.specs.Touching.{end_at, IsNoLaterEnd, AreInOrder}
 
 by_node : (m n : ℕ) (o : Ordering) → o ≡ nat_cmp n m → is_lt o ≡ false → m ≤ n
 by_node m n Less e h = absurd (true≢false h)

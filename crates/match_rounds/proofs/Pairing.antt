@@ -1,12 +1,10 @@
 -- Two nodes as parts.
-use Rattle.std.proofs.Common.{◌≡◌, ◌≢◌, ◌⊎◌, inl, inr, ◌↔◌, ◌<◌, ◌≤◌, ◌+◌, ◌==◌, ◌||◌, ℕ, zero, suc, Bool, true, false, List, length, slice_index, refl, sym, subst, ◌∙◌, ap, arith, true≢false}
+use Rattle.std.proofs.Common.{◌≡◌, ◌≢◌, inl, inr, ◌<◌, ◌==◌, ℕ, zero, suc, true, slice_index, refl, sym, ◌∙◌, arith}
 use Rattle.std.proofs.lemmas.Bool.Decides.{Decides-eqb}
 use Rattle.round_laws.proofs.Agree.{same_test, either, either_left, either_right}
 use Rattle.match_rounds.specs.declared.classes.Classes.{Classes}
-use Rattle.match_rounds.specs.declared.groups.Part.{Part}
-use Rattle.match_rounds.specs.Classes.{class_in}
 use Rattle.match_rounds.specs.Pieces.{entry, AreLoose, ArePartedBy, HasCount}
-use Rattle.match_rounds.specs.Pairs.{part_at, pair_of, is_of_pair, IsPairParted}
+use Rattle.match_rounds.specs.Pairs.{pair_of, is_of_pair, IsPairParted}
 
 pub loose : (c : Classes) (a b n : ℕ) → a < n → b < n → a ≢ b → AreLoose c.class_of.items (pair_of c a b) n
 loose c a b n la lb not = record {

@@ -1,9 +1,9 @@
 -- Classes after some nodes were made a class of their own.
-use Rattle.std.proofs.Common.{◌≡◌, ◌≢◌, ◌⊎◌, inl, inr, ◌<◌, ◌≤◌, ◌+◌, ◌-◌, ◌==◌, ℕ, cond, count_by, nat_lt, Bool, true, false, List, [], ◌∷◌, ◌++◌, length, slice_index, get_or, refl, sym, subst, ◌∙◌, ap, arith, true≢false, length-set, length-append}
+use Rattle.std.proofs.Common.{◌≡◌, inl, inr, ◌<◌, ◌≤◌, ◌+◌, ◌-◌, ◌==◌, ℕ, cond, count_by, nat_lt, Bool, true, false, List, [], ◌∷◌, ◌++◌, length, slice_index, refl, sym, subst, ◌∙◌, ap, arith, true≢false, length-append}
 use Rattle.std.proofs.Math.Decide.{ℕ_discrete}
 use Rattle.std.proofs.lemmas.List.{get_or_push, get_or_append_left}
 use Rattle.match_laws.specs.Circuits.{numbers_from}
-use Rattle.match_rounds.specs.Order.{IsPlaced, StandsAt, whole_of, AreToPull, ArePulled, is_among}
+use Rattle.match_rounds.specs.Order.{StandsAt, whole_of, AreToPull, ArePulled, is_among}
 use Rattle.match_rounds.specs.Counts.{AreFlagged, AreSplit}
 use Rattle.match_rounds.specs.Marks.{AreListed, IsHalved, is_marked}
 use Rattle.match_rounds.specs.Classes.{AreClasses, AreAlike, AreCounted, IsPartition, IsPartedOff, KeepsFresh, class_in, class_count, is_fresh, members}

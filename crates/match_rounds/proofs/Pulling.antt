@@ -1,5 +1,5 @@
 -- One node more is pulled out of its class.
-use Rattle.std.proofs.Common.{◌≡◌, ◌≢◌, ◌↔◌, ◌⊎◌, inl, inr, ◌<◌, ◌≤◌, ◌+◌, ◌-◌, ◌==◌, ◌||◌, ℕ, zero, suc, Bool, true, false, cond, List, [], ◌∷◌, length, slice_index, get_or, take, refl, sym, subst, ◌∙◌, ap, arith, true≢false, length-set}
+use Rattle.std.proofs.Common.{◌≡◌, ◌≢◌, ◌⊎◌, inl, inr, ◌<◌, ◌≤◌, ◌+◌, ◌-◌, ◌==◌, ◌||◌, ℕ, zero, suc, Bool, true, false, cond, List, length, slice_index, get_or, take, refl, sym, subst, ◌∙◌, ap, arith, length-set}
 use Rattle.std.specs.List.{list_any}
 use Rattle.std.proofs.Math.Decide.{ℕ_discrete}
 use Rattle.std.proofs.Math.ListN.{set}
@@ -7,7 +7,7 @@ use Rattle.std.proofs.lemmas.List.{get_or-set_same, get_or-set_other}
 use Rattle.std.proofs.lemmas.List.Folds.{list_any_more}
 use Rattle.std.proofs.lemmas.Bool.Decides.{Decides-eqb}
 use Rattle.match_rounds.specs.declared.order.Order.{Order}
-use Rattle.match_rounds.specs.Order.{IsPlaced, IsSwapped, class_at, StandsAt, whole_of, AreToPull, is_among, ArePulled}
+use Rattle.match_rounds.specs.Order.{IsPlaced, IsSwapped, class_at, whole_of, AreToPull, is_among, ArePulled}
 
 is_it : (b : Bool) → (b ≡ true) ⊎ (b ≡ false)
 is_it true = inl refl

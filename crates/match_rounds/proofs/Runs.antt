@@ -1,5 +1,5 @@
 -- One run of ends more is a part.
-use Rattle.std.proofs.Common.{◌≡◌, ◌≢◌, ◌⊎◌, inl, inr, ◌<◌, ◌≤◌, ◌+◌, ◌-◌, ℕ, List, [], ◌∷◌, ◌++◌, length, refl, sym, subst, ◌∙◌, ap, arith, length-append}
+use Rattle.std.proofs.Common.{◌≡◌, ◌≢◌, inl, inr, ◌<◌, ◌≤◌, ◌+◌, ◌-◌, ℕ, List, [], ◌∷◌, ◌++◌, length, refl, sym, subst, ◌∙◌, ap, arith, length-append}
 use Rattle.std.proofs.lemmas.Bool.{cases_lt}
 use Rattle.std.proofs.lemmas.List.{get_or_push, get_or_append_left}
 use Rattle.match_graph.specs.declared.graph.End.{End}
@@ -17,7 +17,7 @@ between d e f (inr a) (inl b) p n = let c = a.0 in absurd (omega arith)
 between d e f (inr a) (inr b) p n = let c = a.1 in let g = b.1 in omega arith
 
 -- a run that ends no later than i has another node than end i
-apart : (ends : List End) (from to i b t : ℕ) → AreInOrder ends → IsPortRun ends from to → i < to → from ≤ b → IsRun ends b t → t ≤ i → (end_at ends b).node ≢ (end_at ends i).node
+pub apart : (ends : List End) (from to i b t : ℕ) → AreInOrder ends → IsPortRun ends from to → i < to → from ≤ b → IsRun ends b t → t ≤ i → (end_at ends b).node ≢ (end_at ends i).node
 apart ends from to i b t order h li lb run lt same =
     let some = run.some in
     let fits = h.fits in
@@ -28,7 +28,7 @@ apart ends from to i b t order h li lb run lt same =
     run.next (omega arith) (pt ∙ sym pb) (sym node)
 
 wider : (c : Classes) (ends : List End) (from i j : ℕ) (p : Part) → i ≤ j → IsPart c ends from i p → IsPart c ends from j p
-wider c ends from i j p l h = record { start = h.start; low = h.low; high = (let a = h.high in omega arith); run = h.run; node = h.node; class = h.class }
+wider c ends from i j p l h = record { start = h.start; low = h.low; high = (let a = h.high in omega arith); run = h.run; node = h.node; class = h.class; first = h.first }
 
 pub none : (c : Classes) (ends : List End) (from : ℕ) → AreParts c ends from from []
 none c ends from = record { each = λ e l. absurd (omega arith); all = λ k l m. absurd (omega arith); once = λ e f l m. absurd (omega arith) }
@@ -56,7 +56,18 @@ more c ends from to i j parts p order h lf li run was pc pn pd =
         | inr m ↦
             let is : e ≡ length parts = omega arith in
             subst (λ (q : Part). IsPart c ends from j q) (sym last ∙ ap (entry (parts ++ p ∷ [])) (sym is))
-            (record { start = i; low = lf; high = omega arith; run = subst (λ (x : ℕ). IsRun ends i x) (sym till) run; node = pd; class = pc })
+            (record {
+              start = i;
+              low = lf;
+              high = omega arith;
+              run = subst (λ (x : ℕ). IsRun ends i x) (sym till) run;
+              node = pd;
+              class = pc;
+              first = λ k lk ki same.
+                  let w = was.all k lk ki in
+                  let q = was.each w.0 w.1 in
+                  apart ends from to i q.start (q.start + (entry parts w.0).count) order h li q.low q.run q.high (sym q.node ∙ (w.2 ∙ (same ∙ pd)));
+            })
       ];
       all = λ k l m. elim (cases_lt k i) [
         | inl n ↦ let w = was.all k l n in let b = w.1 in (w.0, omega arith, ap (λ (q : Part). q.node) (old w.0 b) ∙ w.2)

@@ -1,7 +1,7 @@
 -- The classes before the first round.
-use Rattle.std.proofs.Common.{◌≡◌, ◌≢◌, ◌⊎◌, inl, inr, ◌↔◌, ◌<◌, ◌≤◌, ◌+◌, ◌-◌, ◌==◌, ◌&&◌, ◌||◌, ℕ, zero, suc, Bool, true, false, List, [], ◌∷◌, ◌++◌, length, map, take, slice_index, slice_index_or, refl, sym, subst, ◌∙◌, ap, arith, true≢false}
+use Rattle.std.proofs.Common.{◌≡◌, ◌⊎◌, inl, inr, ◌↔◌, ◌<◌, ◌+◌, ◌-◌, ℕ, Bool, true, false, List, [], ◌∷◌, ◌++◌, length, map, take, slice_index, refl, sym, subst, ◌∙◌, ap, arith, true≢false}
 use Rattle.std.specs.Bool.{beq}
-use Rattle.round_laws.specs.Web.{Web, IsNode, Guess, names, alike_under, agree}
+use Rattle.round_laws.specs.Web.{Web, IsNode, Guess, names, alike_under}
 use Rattle.round_laws.specs.Colours.{AreColours}
 use Rattle.round_laws.proofs.Agree.{both, first, second}
 use Rattle.match_laws.proofs.Sums.{in_numbers, numbers_has}
@@ -13,8 +13,8 @@ use Rattle.match_graph.specs.Graph.{graph_web, kind_at, left_of, nodes_of}
 use Rattle.match_rounds.specs.declared.classes.Classes.{Classes}
 use Rattle.match_rounds.specs.declared.groups.Part.{Part}
 use Rattle.match_rounds.specs.Classes.{class_in, is_fresh, KeepsFresh}
-use Rattle.match_rounds.specs.Pieces.{entry, ArePartedBy, HasCount}
-use Rattle.match_rounds.specs.Pairs.{is_of_pair, IsPairParted}
+use Rattle.match_rounds.specs.Pieces.{ArePartedBy, HasCount}
+use Rattle.match_rounds.specs.Pairs.{IsPairParted}
 use Rattle.match_rounds.specs.Start.{plain_guess, guessed_web, guess_at, AreKindParts, AreStarted}
 
 has_kind : (g : Graph) (parts : List Part) (n a v : ℕ) → AreKindParts g parts n → HasCount parts (length parts) a v → kind_at g a ≡ v

@@ -1,5 +1,5 @@
 -- All nodes in one class.
-use Rattle.std.proofs.Common.{◌≡◌, ◌≢◌, ◌⊎◌, inl, inr, ◌↔◌, ◌<◌, ◌≤◌, ◌+◌, ◌*◌, ◌^◌, ◌==◌, ℕ, zero, suc, Bool, true, false, not, nat_eq, cond, count_by, List, [], ◌∷◌, length, slice_index, slice_index_or, refl, sym, subst, ◌∙◌, ap, arith, true≢false}
+use Rattle.std.proofs.Common.{◌≡◌, ◌≢◌, ◌⊎◌, inl, inr, ◌↔◌, ◌<◌, ◌≤◌, ◌*◌, ◌^◌, ◌==◌, ℕ, zero, suc, Bool, true, false, not, nat_eq, count_by, List, [], ◌∷◌, length, slice_index, slice_index_or, refl, sym, ◌∙◌, ap, arith, true≢false}
 use Rattle.std.proofs.lemmas.Bool.Decides.{Decides-eqb}
 use Rattle.std.proofs.Math.ListN.{replicate}
 use Rattle.std.proofs.lemmas.List.{length-replicate, get_or-replicate}
@@ -7,9 +7,8 @@ use Rattle.round_laws.proofs.Agree.{count-cons, count_same}
 use Rattle.match_laws.specs.Circuits.{numbers_from}
 use Rattle.match_laws.proofs.Sums.{in_numbers}
 use Rattle.match_rounds.specs.Order.{IsPlaced}
-use Rattle.match_rounds.specs.Counts.{HasUneven}
 use Rattle.match_rounds.specs.Marks.{is_marked}
-use Rattle.match_rounds.specs.Classes.{IsPartition, class_in, class_count, members}
+use Rattle.match_rounds.specs.Classes.{IsPartition, members}
 use Rattle.match_rounds.specs.declared.classes.Classes.{Classes}
 
 -- a list that has one value m times

@@ -7,3 +7,4 @@ pub mod Pairs
 pub mod Start
 pub mod Members
 pub mod Touching
+pub mod Turned

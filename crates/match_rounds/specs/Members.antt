@@ -6,7 +6,8 @@ use Rattle.match_rounds.specs.declared.classes.Classes.{Classes}
 pub record IsCopied (old new nodes : List ℕ) (from to : ℕ) : Type 0 where
   pub long : length new + from ≡ length old + to
   pub kept : (k : ℕ) → k < length old → slice_index new k ≡ slice_index old k
-  pub each : (k : ℕ) → from + k < to → slice_index new (length old + k) ≡ slice_index nodes (from + k)
+  pub each : (k : ℕ) → from + k < to → slice_index new (length old + k)
+      ≡ slice_index nodes (from + k)
 
 -- where the nodes of the j-th class begin
 abbrev pub start_at : List ℕ → ℕ → ℕ
@@ -21,7 +22,8 @@ pub record IsSpan (c : Classes) (members ends : List ℕ) (j : ℕ) : Type 0 whe
   pub end : slice_index ends j ≡ start_at ends j + slice_index c.counts.size.items (fresh_at c j)
   pub fits : slice_index ends j ≤ length members
   pub each : (k : ℕ) → k < slice_index c.counts.size.items (fresh_at c j)
-      → slice_index members (start_at ends j + k) ≡ slice_index c.order.node_at.items (slice_index c.begin.items (fresh_at c j) + k)
+      → slice_index members (start_at ends j + k)
+      ≡ slice_index c.order.node_at.items (slice_index c.begin.items (fresh_at c j) + k)
 
 -- so do those of the first i of them
 pub record AreMembers (c : Classes) (members ends : List ℕ) (i : ℕ) : Type 0 where

@@ -17,4 +17,5 @@ is_of_pair a b x = (a == x) || (b == x)
 -- nodes are of one class now exactly where they were, and both or neither are of the pair
 abbrev pub IsPairParted : Classes → Classes → ℕ → ℕ → ℕ → Type 0
 IsPairParted old new a b n = (x y : ℕ) → x < n → y < n
-    → (class_in new x ≡ class_in new y) ↔ ((class_in old x ≡ class_in old y) × (is_of_pair a b x ≡ is_of_pair a b y))
+    → (class_in new x ≡ class_in new y) ↔ ((class_in old x ≡ class_in old y)
+    × (is_of_pair a b x ≡ is_of_pair a b y))

@@ -35,4 +35,5 @@ pub record AreKindParts (g : Graph) (parts : List Part) (n : ℕ) : Type 0 where
 -- nodes are of one class where they look alike under these guesses
 abbrev pub AreStarted : Graph → List (ℕ × ℕ) → Classes → Type 0
 AreStarted g guesses c = (a b : ℕ) → a < nodes_of g → b < nodes_of g
-    → (class_in c a ≡ class_in c b) ↔ (alike_under (graph_web g) (map plain_guess guesses) a b ≡ true)
+    → (class_in c a ≡ class_in c b) ↔ (alike_under (graph_web g) (map plain_guess guesses) a b
+    ≡ true)

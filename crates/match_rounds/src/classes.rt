@@ -20,7 +20,8 @@ pub struct Classes {
 }
 
 impl Classes {
-    /// Makes these nodes, which are of one class, a class of their own, unless they are all of their class. It takes time in proportion to
+    /// Makes these nodes, which are of one class, a class of their own, unless they are all of
+    /// their class. It takes time in proportion to
     /// their number.
     pub fn part(&mut self, nodes: &[u32], left_count: u32) -> Result<(), AllocError>
         requires partition { IsPartition self.old left_count (node_count self.old) }

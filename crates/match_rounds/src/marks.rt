@@ -15,7 +15,8 @@ impl Marks {
     ghost use Rattle.std.specs.Prelude.{◌≡◌, ◌<◌, ◌^◌, ℕ, false, length, OnOk};
     ghost use Rattle.match_rounds.specs.Marks.{AreListed, IsHalved, is_marked};
 
-    /// Adds a class that was part of this one. Where the whole was to be looked at, both parts are; else the smaller one is.
+    /// Adds a class that was part of this one. Where the whole was to be looked at, both parts
+    /// are; else the smaller one is.
     pub fn split_off(&mut self, whole: u32, is_smaller: bool) -> Result<(), AllocError>
         requires listed { AreListed self.old }
         requires whole { whole < length self.old.is_fresh.items }

@@ -63,7 +63,8 @@ fn numbers_below(alloc: Global, count: u32) -> Result<Vec<u32>, AllocError>
 }
 
 impl Classes {
-    /// The classes before the first round: nodes are of one class where they look alike, but each guessed pair is a class of its own.
+    /// The classes before the first round: nodes are of one class where they look alike, but each
+    /// guessed pair is a class of its own.
     pub fn start(
         alloc: Global,
         graph: &Graph,

@@ -3,14 +3,16 @@ ghost use Rattle.std.specs.List.{flat_map};
 ghost use Rattle.std.specs.List.Sorted.{IsPermutation};
 ghost use Rattle.match_graph.specs.Graph.{IsGraph, ends_at, nodes_of};
 ghost use Rattle.match_rounds.specs.Classes.{node_count};
-ghost use Rattle.match_rounds.specs.Touching.{AreInOrder, AreParts, IsPortRun, IsRun, end_at};
+ghost use Rattle.match_rounds.specs.Touching.{AreInOrder, AreParts, IsPortRun, IsRun, PartLaw, end_at};
+ghost use Rattle.match_rounds.specs.Turned.{TouchLaw};
 
 use crate::classes::Classes;
 use crate::groups::Part;
 use match_graph::{End, Graph};
 use std::alloc::AllocError;
 
-/// The ends of the members of a class: how each node that has an end there meets it, once for each such end.
+/// The ends of the members of a class: how each node that has an end there meets it, once for each
+/// such end.
 pub fn list_touched(
     graph: &Graph,
     members: &[u32],
@@ -26,6 +28,13 @@ pub fn list_touched(
     }
     Ok(())
 }
+
+/// A node stands as often among the ends of a class's members as it has ends at them, and its part
+/// counts how often that is.
+pub fn turning()
+    ensures touched { TouchLaw }
+    ensures part { PartLaw }
+{}
 
 /// Orders ends by port and node.
 pub fn sort_ends(touched: &mut Vec<End>)
@@ -61,7 +70,8 @@ pub fn port_end(touched: &[End], from: usize) -> usize
     touched.len()
 }
 
-/// The nodes of the ends from here up to there, which have one port, each with the number of its ends.
+/// The nodes of the ends from here up to there, which have one port, each with the number of its
+/// ends.
 pub fn list_parts(
     classes: &Classes,
     touched: &[End],

@@ -1,4 +1,4 @@
-use Rattle.std.proofs.Common.{◌≡◌, ◌≤◌, ℕ, List, length, sym, subst, arith}
+use Rattle.std.proofs.Common.{◌≡◌, ℕ, List, length, sym, subst, arith}
 use Rattle.match_rounds.specs.Classes.{AreAlike, IsPartition, IsPartedOff, KeepsFresh, node_count}
 use Rattle.match_rounds.specs.Pieces.{ArePartedBy, AreNodesOf}
 use Rattle.match_rounds.proofs.Grouped.{step, fresh_on, group_alike}

@@ -1,4 +1,4 @@
-use Rattle.std.proofs.Common.{◌-◌, ℕ, length}
+use Rattle.std.proofs.Common.{◌-◌, length}
 use Rattle.match_rounds.specs.Classes.{IsPartition, KeepsFresh, node_count}
 use Rattle.match_rounds.specs.Pieces.{ArePartedSoFar}
 use Rattle.match_rounds.proofs.groups.part_all.Given as goal

@@ -1,4 +1,4 @@
-use Rattle.std.proofs.Common.{◌≡◌, ◌<◌, ◌∙◌, ◌∷◌, ◌++◌, [], ℕ, length, slice_index, ap, arith}
+use Rattle.std.proofs.Common.{◌<◌, ◌∙◌, ◌∷◌, ◌++◌, [], ℕ, ap, arith}
 use Rattle.match_parts.proofs.Read.{read}
 use Rattle.match_rounds.specs.Classes.{class_count}
 use Rattle.match_rounds.proofs.Spans.{extended}

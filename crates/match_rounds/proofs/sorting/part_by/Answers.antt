@@ -1,4 +1,4 @@
-use Rattle.std.proofs.Common.{◌≡◌, ℕ, List, length, sym, subst, OnOk}
+use Rattle.std.proofs.Common.{List, length, sym, subst}
 use Rattle.match_rounds.specs.Classes.{node_count}
 use Rattle.match_rounds.specs.Pieces.{ArePieces, ArePartedBy}
 use Rattle.match_rounds.specs.declared.groups.Part.{Part}

@@ -1,4 +1,4 @@
-use Rattle.std.proofs.Common.{refl, inl, inr, true, false, arith, sym, ◌∙◌}
+use Rattle.std.proofs.Common.{refl, inl, inr, false, arith}
 use Rattle.match_rounds.proofs.Whole.{whole, full}
 use Rattle.match_rounds.proofs.starting.one_class.Goals as goal
 use Rattle.match_rounds.proofs.starting.one_class.Goals.{then-count-eq0, else-count-eq0}

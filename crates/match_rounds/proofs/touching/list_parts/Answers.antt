@@ -1,4 +1,4 @@
-use Rattle.std.proofs.Common.{◌≡◌, ◌≤◌, ◌-◌, List, refl, sym, subst, arith}
+use Rattle.std.proofs.Common.{◌-◌, List, refl, sym, subst, arith}
 use Rattle.match_parts.proofs.Read.{read}
 use Rattle.match_rounds.specs.declared.groups.Part.{Part}
 use Rattle.match_rounds.specs.Touching.{AreParts, end_at}

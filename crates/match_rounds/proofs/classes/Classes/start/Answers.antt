@@ -1,4 +1,4 @@
-use Rattle.std.proofs.Common.{◌≡◌, ℕ, length, subst, arith}
+use Rattle.std.proofs.Common.{ℕ, subst, arith}
 use Rattle.match_graph.specs.Graph.{left_of, nodes_of}
 use Rattle.match_rounds.specs.Classes.{IsPartition, KeepsFresh, node_count}
 use Rattle.match_rounds.specs.Pairs.{IsPairParted}

@@ -1,4 +1,4 @@
-use Rattle.std.proofs.Common.{rules, refl, arith}
+use Rattle.std.proofs.Common.{refl, arith}
 use Rattle.match_parts.proofs.Read.{read}
 use Rattle.match_rounds.proofs.Split.{flagged_by}
 use Rattle.match_rounds.proofs.counts.Counts.split_off.Goals as goal
