@@ -20,7 +20,7 @@ use Rattle.cell_link.proofs.Resolving.{at_too, one_named}
 use Rattle.cell_link.proofs.Turned.{turned_side, shift, moved_value, corner, corner_value, corner_is, corner_in}
 use Rattle.cell_link.proofs.Widening.{swapped}
 
-some_among : {A : Type 0} (P : A → Type 0) (xs : List A) → Some_of P xs → (k : ℕ) × (x : A) × (slice_get xs k ≡ Some x) × P x
+pub some_among : {A : Type 0} (P : A → Type 0) (xs : List A) → Some_of P xs → (k : ℕ) × (x : A) × (slice_get xs k ≡ Some x) × P x
 some_among P [] h = absurd h
 some_among P (x ∷ xs) (inl h) = (0, x, refl, h)
 some_among P (x ∷ xs) (inr h) = let r = some_among P xs h in (suc r.0, r.1, r.2, r.3)
@@ -55,7 +55,7 @@ same_motion cells r p row column is =
     ∙ ap (λ a. moved_by r.motion a p.row_step row column) is.column_step
     ∙ ap (λ b. moved_by r.motion r.column_step b row column) is.row_step
 
-element_from : (cells : List CellDraft) (i : ℕ) (c : CellDraft) (places : List Place) (m : Motion) (j : ℕ) → HasNoRepeat cells → slice_get cells i ≡ Some c → AreAllResolved cells c.refs.items places
+pub element_from : (cells : List CellDraft) (i : ℕ) (c : CellDraft) (places : List Place) (m : Motion) (j : ℕ) → HasNoRepeat cells → slice_get cells i ≡ Some c → AreAllResolved cells c.refs.items places
     → IsElementOf cells i m j → IsPartElement places m j
 element_from cells i c places m j once there all e =
     let same : e.has.cell ≡ c = (let f : Some e.has.cell ≡ Some c = sym e.has.there ∙ there in cc) in
@@ -98,14 +98,14 @@ le_all : (a b c d : ℤ) → a ≤ℤ b → b ≡ c → c ≤ℤ d → a ≤ℤ 
 le_all a b c d h e g = omega (arith, ints)
 
 -- images of what bounds hold are held where those of the corners are
-image_held : (Q : Point → Type 0) (inner b : Option Bounds) (m : Motion) (q : Point) → Widens None Q inner → Q q
+pub image_held : (inner b : Option Bounds) (m : Motion) (q : Point) → Holds inner q
     → ((c : Point) → IsCornerPoint inner c → Holds b (moved_point m c)) → Holds b (moved_point m q)
-image_held Q None b m q least h corners = absurd (least.holds q h)
-image_held Q (Some g) None m q least h corners = absurd (corners (corner Left g) (corner_is Left g))
-image_held Q (Some g) (Some b) m q least h corners = λ s.
+image_held None b m q h corners = absurd h
+image_held (Some g) None m q h corners = absurd (corners (corner Left g) (corner_is Left g))
+image_held (Some g) (Some b) m q h corners = λ s.
     let t = turned_side m.turn s in
     let at : side_of s b ≤ℤ value s (moved_point m (corner t g)) = corners (corner t g) (corner_is t g) s in
-    let inside : side_of t g ≤ℤ value t q = least.holds q h t in
+    let inside : side_of t g ≤ℤ value t q = h t in
     let le : value t (corner t g) ≤ℤ value t q = subst (λ z. z ≤ℤ value t q) (sym (corner_value t g)) inside in
     subst (λ z. side_of s b ≤ℤ z) (sym (moved_value m s q))
     (le_all (side_of s b) (value s (moved_point m (corner t g))) (value t (corner t g) +ℤ shift s m) (value t q +ℤ shift s m) at (moved_value m s (corner t g)) (add_le (value t (corner t g)) (value t q) (shift s m) le))
@@ -150,7 +150,7 @@ cell_least cells i c places found b once there all children least =
         let f = element_from cells i c places m j once there all e in
         let m' = motion_at f.place f.row f.column in
         let q_in : IsHullPoint cells f.place.cell q = subst (λ k. IsHullPoint cells k q) (sym f.cell_is) (n, h) in
-        let g = image_held (IsHullPoint cells f.place.cell) (found_at found f.place.cell) b m' q (children f.index f.place f.there) q_in
+        let g = image_held (found_at found f.place.cell) b m' q ((children f.index f.place f.there).holds q q_in)
         (λ d is_corner. least.holds (moved_point m' d) (inr (f.index, f.place, f.there, (f.row, f.column, f.in_rows, f.in_columns, inr (d, is_corner, refl))))) in
         subst (Holds b) (ap (λ m. moved_point m q) f.is ∙ is) g
 

@@ -13,6 +13,7 @@ pub mod Hulls
 pub mod Rounds
 pub mod Finishes
 pub mod Sound
+pub mod PlainHulls
 pub mod Looking
 pub mod Calling
 pub mod Roots

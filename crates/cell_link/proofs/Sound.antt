@@ -19,7 +19,7 @@ use Rattle.cell_graph.specs.declared.cells.OwnLayer.{OwnLayer}
 use Rattle.cell_graph.specs.declared.cells.RawText.{RawText}
 use Rattle.cell_graph.specs.declared.cells.Place.{Place}
 use Rattle.cell_graph.specs.declared.cells.CellPart.{CellPart}
-use Rattle.cell_graph.specs.Linked.{linked_of, plain, motion_at, cell_at, places_at, height_at, height_of, IsInside, IsHull, HoldsImage, HoldsRects, IsReference, AreApart, HullIsSound, IsSoundCell, IsOrder, IsSound, IsStep}
+use Rattle.cell_graph.specs.Linked.{linked_of, plain, motion_at, cell_at, places_at, height_at, height_of, IsInside, IsHull, HoldsImage, HoldsRects, IsReference, AreApart, HullIsSound, IsSoundCell, IsOrder, IsStep}
 use Rattle.cell_graph.proofs.Bridge.{step_of, placed_of}
 use Rattle.cell_link.specs.declared.bounds.Bounds.{Bounds}
 use Rattle.cell_link.specs.declared.drafts.CellDraft.{CellDraft}
@@ -51,14 +51,14 @@ pub record IsDone (cells : List CellDraft) (parts : List Part) (hs order : List 
   pub arrays : HaveArrays cells
   pub top_in : top < length cells
 
-record MadeAt (cells : List CellDraft) (parts : List Part) (hs : List ℕ) (found : List (Option Bounds)) (i : ℕ) (p : CellPart) : Type 0 where
+pub record MadeAt (cells : List CellDraft) (parts : List Part) (hs : List ℕ) (found : List (Option Bounds)) (i : ℕ) (p : CellPart) : Type 0 where
   pub draft : CellDraft
   pub part : Part
   pub there : slice_get cells i ≡ Some draft
   pub part_there : slice_get parts i ≡ Some part
   pub is : IsMade draft part.items (found_at found i) (height_in hs i) p
 
-made_at : (cells : List CellDraft) (parts : List Part) (hs : List ℕ) (found : List (Option Bounds)) (ds : List CellPart) → AreParts cells parts → AreMade cells parts found hs ds
+pub made_at : (cells : List CellDraft) (parts : List Part) (hs : List ℕ) (found : List (Option Bounds)) (ds : List CellPart) → AreParts cells parts → AreMade cells parts found hs ds
     → (i : ℕ) (p : CellPart) → slice_get ds i ≡ Some p → MadeAt cells parts hs found i p
 made_at cells parts hs found ds are made i p at =
     let c = at_too ds cells i p made.count at in
@@ -123,10 +123,10 @@ image_inside (Some x) (Some b) (Some s) (Some r) m is_h is_g corners =
     } in
     subst (λ (r : Rect). IsInside (moved_rect m r) s) (sym is_g.0) (subst (IsInside (moved_rect m (range_of b))) (sym is_h.0) inside)
 
-up : (a b c : ℤ) → a ≤ℤ b → b ≤ℤ c → a ≤ℤ c
+pub up : (a b c : ℤ) → a ≤ℤ b → b ≤ℤ c → a ≤ℤ c
 up a b c e f = omega (arith, ints)
 
-corner_held : (Q : Point → Type 0) (inner b : Option Bounds) (m : Motion) → Widens None Q inner → ((p : Point) → Q p → Holds b (moved_point m p))
+pub corner_held : (Q : Point → Type 0) (inner b : Option Bounds) (m : Motion) → Widens None Q inner → ((p : Point) → Q p → Holds b (moved_point m p))
     → (c : Point) → IsCornerPoint inner c → Holds b (moved_point m c)
 corner_held Q inner None m least held c is = let r = image_reached Q inner m c Left least is in absurd (held r.0 r.1)
 corner_held Q inner (Some b) m least held c is = λ s.
@@ -162,7 +162,7 @@ hull_exact Q (Some b) None least is =
     inr (range_of b, least_of Q b least, elim is [ inl f ↦ inl (flat_side b.x1 b.x2 o.0 f) | inr f ↦ inr (flat_side b.y1 b.y2 o.1 f) ])
 hull_exact Q (Some b) (Some r) least is = subst (IsLeastRange Q) (sym is.0) (least_of Q b least)
 
-some_at : {A : Type 0} (xs : List A) (k : ℕ) → k < length xs → (x : A) × (slice_get xs k ≡ Some x)
+pub some_at : {A : Type 0} (xs : List A) (k : ℕ) → k < length xs → (x : A) × (slice_get xs k ≡ Some x)
 some_at [] k lt = absurd (let z : ⊥ = omega arith in z)
 some_at (x ∷ xs) zero lt = (x, refl)
 some_at (x ∷ xs) (suc k) lt = some_at xs k (let f : k < length xs = omega arith in f)
@@ -229,7 +229,7 @@ own_sound cells parts hs found bounds i p m = subst (λ ls. All (λ (l : OwnLaye
 all_from : {A : Type 0} (P : A → Type 0) (xs : List A) → ((k : ℕ) (x : A) → slice_get xs k ≡ Some x → P x) → All P xs
 all_from P xs h = λ k d lt. h k (get_or xs k d) (slice_get-get_or xs k d lt)
 
-cell_sound : (cells : List CellDraft) (parts : List Part) (hs order : List ℕ) (found : List (Option Bounds)) (top : ℕ) (kept : List ℕ) (ds : List CellPart) → IsDone cells parts hs order found top kept ds
+pub cell_sound : (cells : List CellDraft) (parts : List Part) (hs order : List ℕ) (found : List (Option Bounds)) (top : ℕ) (kept : List ℕ) (ds : List CellPart) → IsDone cells parts hs order found top kept ds
     → (i : ℕ) (p : CellPart) → slice_get ds i ≡ Some p → IsSoundCell ds p
 cell_sound cells parts hs order found top kept ds done i p at =
     let m = made_at cells parts hs found ds done.are done.made i p at in
@@ -298,7 +298,7 @@ stays_inside : (cells : List CellDraft) (parts : List Part) → AreParts cells p
 stays_inside cells parts are zero i j lt l = subst (λ i. i < length cells) l lt
 stays_inside cells parts are (suc n) i j lt (c, r, l) = let f = places_refers cells parts are i c r in stays_inside cells parts are n c j (slice_get_within cells c f.names.cell f.names.there) l
 
-order_sound : (cells : List CellDraft) (parts : List Part) (hs order : List ℕ) (found : List (Option Bounds)) (top : ℕ) (kept : List ℕ) (ds : List CellPart) → IsDone cells parts hs order found top kept ds
+pub order_sound : (cells : List CellDraft) (parts : List Part) (hs order : List ℕ) (found : List (Option Bounds)) (top : ℕ) (kept : List ℕ) (ds : List CellPart) → IsDone cells parts hs order found top kept ds
     → IsOrder (linked_of ds top kept)
 order_sound cells parts hs order found top kept ds done = record {
   few = (let a = few kept (length cells) apart (λ x l. (let p = place_in kept x l in subst (λ x. x < length cells) p.2 (in_cells p.0 p.1))) in let b = done.sound.few in omega arith);
@@ -350,15 +350,6 @@ order_sound cells parts hs order found top kept ds done = record {
 
     apart : lists.AreApart kept
     apart = apart_by kept once
-
-pub all_sound : (cells : List CellDraft) (parts : List Part) (hs order : List ℕ) (found : List (Option Bounds)) (top : ℕ) (kept : List ℕ) (ds : List CellPart) → IsDone cells parts hs order found top kept ds
-    → IsSound (linked_of ds top kept)
-all_sound cells parts hs order found top kept ds done = record {
-  count = (let a = done.made.count in let b = done.sound.few in omega arith);
-  top = subst (λ n. top < n) (sym done.made.count) done.top_in;
-  each = λ i p at. cell_sound cells parts hs order found top kept ds done i p at;
-  order = order_sound cells parts hs order found top kept ds done;
-}
 
 pub is_link : (cells : List CellDraft) (parts : List Part) (hs order : List ℕ) (found : List (Option Bounds)) (top : ℕ) (kept : List ℕ) (ds : List CellPart) (name : Option (List ℕ))
     → IsDone cells parts hs order found top kept ds → IsTop cells name top → IsLink cells name (linked_of ds top kept)

@@ -7,7 +7,8 @@ use Rattle.cell_link.specs.Drafts.{IsFault, IsLink}
 use Rattle.cell_link.specs.Extents.{HaveArrays}
 use Rattle.cell_link.specs.Finished.{IsExamined, AreMade}
 use Rattle.cell_link.specs.Tops.{now_of}
-use Rattle.cell_link.proofs.Sound.{IsDone, all_sound, is_link, top_inside}
+use Rattle.cell_link.proofs.PlainHulls.{all_sound}
+use Rattle.cell_link.proofs.Sound.{IsDone, is_link, top_inside}
 use Rattle.cell_link.proofs.linking.link.Goals as goal
 
 pub examined-requires : goal.examined-requires
