@@ -64,7 +64,8 @@ impl Design {
         }
     }
 
-    /// What each design promises; among it, that each hull is the least range of what stands in and below its cell.
+    /// What each design promises; among it, that each hull is the least range of what stands in and
+    /// below its cell.
     pub fn sound(&self)
         ensures { IsSound self.now }
     {
