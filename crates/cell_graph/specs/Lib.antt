@@ -1,3 +1,17 @@
 pub mod Linked
 pub mod Inside
 pub mod Laws
+pub mod Chains
+pub mod Parts
+pub mod Rising
+pub mod Firsts
+pub mod Marking
+pub mod Ordering
+pub mod Drafts
+pub mod Bounds
+pub mod Naming
+pub mod Tops
+pub mod Sides
+pub mod Arrays
+pub mod Extents
+pub mod Finished

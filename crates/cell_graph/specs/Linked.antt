@@ -8,6 +8,7 @@ use Rattle.geo_base.specs.declared.motion.Motion.{Motion}
 use Rattle.geo_base.specs.declared.shapes.Rect.{Rect}
 use Rattle.geo_base.specs.declared.shapes.Square.{Square}
 use Rattle.flat_layout.specs.Arrays.{Reference, place_at, places_of}
+use Rattle.flat_layout.specs.Hull.{IsHullOf}
 use Rattle.flat_layout.specs.Layout as flat
 use Rattle.cell_graph.specs.declared.cells.OwnLayer.{OwnLayer}
 use Rattle.cell_graph.specs.declared.cells.RawText.{RawText}
@@ -126,6 +127,10 @@ height_of (Some c) = c.height
 abbrev pub height_at : Linked → ℕ → ℕ
 height_at d cell = height_of (cell_at d cell)
 
+abbrev pub hull_of : Option CellPart → Option Rect
+hull_of None = None
+hull_of (Some c) = c.hull
+
 -- the cells that the top reaches, each once, none above a later one
 pub record IsOrder (d : Linked) : Type 0 where
   pub few : length d.order < 2 ^ 32
@@ -135,11 +140,16 @@ pub record IsOrder (d : Linked) : Type 0 where
   pub once : (j k : ℕ) → j < length d.order → k < length d.order → slice_index d.order j ≡ slice_index d.order k → j ≡ k
   pub rising : (j k : ℕ) → j < k → k < length d.order → height_at d (slice_index d.order j) ≤ height_at d (slice_index d.order k)
 
+-- each cell's stored hull is the least rectangle that holds what stands in and below it
+pub record HaveHulls (d : Linked) : Type 0 where
+  pub each : (cell : ℕ) → IsHullOf (plain d) cell (hull_of (cell_at d cell))
+
 -- what `link` gives and callers need
 pub record IsSound (d : Linked) : Type 0 where
   pub count : length d.cells < 2 ^ 32
   pub top : d.top < length d.cells
   pub each : (i : ℕ) (c : CellPart) → slice_get d.cells i ≡ Some c → IsSoundCell d.cells c
+  pub hulls : HaveHulls d
   pub order : IsOrder d
 
 -- same layer and datatype
@@ -154,10 +164,6 @@ own_rects (l ∷ layers) key = if is_key l.key key then l.set else own_rects lay
 abbrev pub own_of : Option CellPart → LayerKey → List Rect
 own_of None key = []
 own_of (Some c) key = own_rects c.layers.items key
-
-abbrev pub hull_of : Option CellPart → Option Rect
-hull_of None = None
-hull_of (Some c) = c.hull
 
 abbrev pub places_at : Option CellPart → List Place
 places_at None = []

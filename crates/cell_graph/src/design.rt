@@ -52,7 +52,12 @@ fn find<'a>(layers: &'a [OwnLayer], key: LayerKey, nothing: &'a RectSet) -> &'a 
 
 impl Design {
     /// The design of cells that are linked already.
-    pub fn from_parts(alloc: Global, cells: Vec<CellPart>, top: u32, order: Vec<u32>) -> Design
+    pub(crate) fn from_parts(
+        alloc: Global,
+        cells: Vec<CellPart>,
+        top: u32,
+        order: Vec<u32>,
+    ) -> Design
         requires { IsSound (linked_of cells.items top order.items) }
         ensures { result ≡ linked_of cells.items top order.items }
     {
@@ -64,7 +69,8 @@ impl Design {
         }
     }
 
-    /// What each design promises.
+    /// What each design promises; among it, that each hull is the least range of what stands in and
+    /// below its cell.
     pub fn sound(&self)
         ensures { IsSound self.now }
     {

@@ -1,8 +1,23 @@
-//! Linked cells: own sets, texts, references with their arrays, hulls.
+//! Cells that refer to one another by name, linked: own sets, texts, references with their arrays,
+//! hulls; or the first fault in them.
 #![tactic(auto)]
 
+mod arrays;
+mod bounds;
 mod cells;
+mod depths;
 mod design;
+mod drafts;
+mod extents;
+mod finishing;
+mod heights;
+mod linking;
+mod names;
+mod ordering;
+mod references;
+mod tops;
+mod walking;
 
 pub use cells::{CellPart, OwnLayer, Place, RawText};
 pub use design::{Design, design_laws};
+pub use drafts::{CellDraft, DraftRef, LinkFault};

@@ -1,7 +1,7 @@
 use Rattle.std.proofs.Common.{◌≡◌, sym, subst, ◌∙◌, ap, ℕ, Some}
 use Rattle.std.specs.List.{All}
 use Rattle.std.proofs.lemmas.List.Elements.{All-append}
-use Rattle.cell_graph.proofs.Bridge.{lower}
+use Rattle.cell_graph.proofs.Bridge.{lower, reference_at}
 use Rattle.cell_context.specs.Visits.{IsVisited}
 use Rattle.cell_context.specs.Over.{IsVisit}
 use Rattle.cell_context.proofs.Collecting.{near_array, is_hull, visits_of, hull_has, no_hull}
@@ -13,6 +13,9 @@ hull-requires c = (lower c.args.design.now c.args.cell c.args.index c.args.place
 
 pub place_visits-requires-clause-near : goal.place_visits-requires-clause-near
 place_visits-requires-clause-near c = near_array c.args.design.now c.args.cell c.args.index c.args.place.now c.sound.ensures c.requires.there
+
+pub place_visits-requires-clause-some : goal.place_visits-requires-clause-some
+place_visits-requires-clause-some c = (reference_at c.args.design.now c.args.cell c.args.index c.args.place.now c.sound.ensures c.requires.there).2.columns
 
 pub place_visits-requires-clause-hull : goal.place_visits-requires-clause-hull
 place_visits-requires-clause-hull c = is_hull c.args.design.now c.args.place.now.cell c.in-Some.hull c.sound.ensures c.in-Some.ensures

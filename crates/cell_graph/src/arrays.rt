@@ -1,0 +1,161 @@
+//! The bounds of all elements of an array, by the ranges of their origins: nothing is done for each element.
+ghost use Rattle.std.specs.Prelude.{◌≡◌, ◌↔◌, ◌<◌, ◌≤◌, ◌≤ℤ◌, ◌^◌, ◌+ℤ◌, ◌*ℤ◌, pos, true, None, Some, MatchOption};
+ghost use Rattle.geo_base.specs.Near.{IsWithin};
+ghost use Rattle.cell_graph.specs.Arrays.{IsReachOr, AreOriginsOr, TurnedPoint, ArrayPoint, HasFarOrigin, IsNearSpan, IsSpread};
+ghost use Rattle.cell_graph.specs.Sides.{IsCornerPoint, Widens, AreNear, AreNearIfAny};
+
+use crate::bounds::{Bounds, with_corners, with_point};
+use crate::cells::Place;
+use geo_base::{Motion, Point, REACH, Turn};
+
+/// A range of numbers, both ends among them.
+#[derive(Clone, Copy, Debug)]
+pub struct Span {
+    pub low: i64,
+    pub high: i64,
+}
+
+/// Whether a number lies in the range of hulls.
+pub fn is_near(z: i64) -> bool
+    ensures { (result ≡ true) ↔ IsWithin (2 ^ 30) z }
+{
+    -REACH <= z && z <= REACH
+}
+
+fn times(count: u16, step: i64) -> i64
+    requires { IsWithin (2 ^ 31) step }
+    ensures exact { result ≡ pos count *ℤ step }
+    ensures near { IsWithin (2 ^ 47) result }
+{
+    count as i64 * step
+}
+
+// The range of the first multiples of a step, of which there are so many; none where two of them are too far apart.
+fn reach(step: i64, count: u16) -> Option<Span>
+    requires { 0 < count }
+    ensures { IsReachOr step count result }
+{
+    if count == 1 {
+        return Some(Span { low: 0, high: 0 });
+    }
+    if step < -2 * REACH || 2 * REACH < step {
+        return None;
+    }
+    let last = times(count - 1, step);
+    Some(Span {
+        low: last.min(0),
+        high: last.max(0),
+    })
+}
+
+fn sum(a: i64, b: i64, c: i64) -> i64
+    requires a { IsWithin (2 ^ 47) a }
+    requires b { IsWithin (2 ^ 47) b }
+    requires c { IsWithin (2 ^ 47) c }
+    ensures { result ≡ (a +ℤ b) +ℤ c }
+{
+    a + b + c
+}
+
+// The range of the elements' origins along one axis; none where one is out of range.
+fn origins(start: i64, column_step: i64, row_step: i64, rows: u16, columns: u16) -> Option<Span>
+    requires rows { 0 < rows }
+    requires columns { 0 < columns }
+    ensures { AreOriginsOr start column_step row_step rows columns result }
+{
+    if !is_near(start) {
+        return None;
+    }
+    let Some(across) = reach(column_step, columns) else {
+        return None;
+    };
+    let Some(along) = reach(row_step, rows) else {
+        return None;
+    };
+    let low = sum(start, across.low, along.low);
+    let high = sum(start, across.high, along.high);
+    if is_near(low) && is_near(high) {
+        Some(Span { low, high })
+    } else {
+        None
+    }
+}
+
+// The bounds of the origin and of the corners that a turn makes of bounds.
+fn turned_bounds(turn: Turn, inner: Option<Bounds>) -> Bounds
+    requires { AreNearIfAny inner }
+    ensures least { Widens None (TurnedPoint turn (IsCornerPoint inner)) (Some result) }
+    ensures near { AreNear result }
+{
+    let origin = Point { x: 0, y: 0 };
+    let Some(b) = inner else {
+        return with_point(None, origin);
+    };
+    let m = Motion { turn, dx: 0, dy: 0 };
+    let low = m.point(Point { x: b.x1, y: b.y1 });
+    let high = m.point(Point { x: b.x2, y: b.y2 });
+    let first = with_point(None, origin);
+    with_corners(Some(first), low, high)
+}
+
+fn plus(a: i64, b: i64) -> i64
+    requires a { IsWithin (2 ^ 30) a }
+    requires b { IsWithin (2 ^ 30) b }
+    ensures { result ≡ a +ℤ b }
+{
+    a + b
+}
+
+// The bounds of sums of a point and an origin.
+fn spread(b: Bounds, x: Span, y: Span) -> Bounds
+    requires near { AreNear b }
+    requires x { IsNearSpan x }
+    requires y { IsNearSpan y }
+    ensures { IsSpread b x y result }
+{
+    Bounds {
+        x1: plus(b.x1, x.low),
+        y1: plus(b.y1, y.low),
+        x2: plus(b.x2, x.high),
+        y2: plus(b.y2, y.high),
+    }
+}
+
+/// The bounds with the origins of all elements of an array and their images of the placed cell's bounds; none where an
+/// origin is out of range. It takes the same time for every number of elements.
+pub fn with_array(bounds: Option<Bounds>, inner: Option<Bounds>, place: &Place) -> Option<Bounds>
+    requires rows { 0 < place.now.rows }
+    requires columns { 0 < place.now.columns }
+    requires near { AreNearIfAny inner }
+    ensures { MatchOption result (HasFarOrigin place.now) (λ b. Widens bounds (ArrayPoint place.now (IsCornerPoint inner)) (Some b)) }
+{
+    let m = place.motion;
+    let Some(x) = origins(
+        m.dx,
+        place.column_step.x,
+        place.row_step.x,
+        place.rows,
+        place.columns,
+    ) else {
+        return None;
+    };
+    let Some(y) = origins(
+        m.dy,
+        place.column_step.y,
+        place.row_step.y,
+        place.rows,
+        place.columns,
+    ) else {
+        return None;
+    };
+    let all = spread(turned_bounds(m.turn, inner), x, y);
+    let low = Point {
+        x: all.x1,
+        y: all.y1,
+    };
+    let high = Point {
+        x: all.x2,
+        y: all.y2,
+    };
+    Some(with_corners(bounds, low, high))
+}

@@ -1,5 +1,0 @@
-use Rattle.cell_link.proofs.extents.all_bounds.Given as goal
-use Rattle.cell_link.specs.Extents.{AreBoundsTo}
-
-abbrev pub invariant-loop-cell : goal.invariant-loop-cell
-invariant-loop-cell l = AreBoundsTo l.cells l.order l.cell-index l.found.items

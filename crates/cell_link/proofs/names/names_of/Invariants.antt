@@ -1,5 +1,0 @@
-use Rattle.cell_link.proofs.names.names_of.Given as goal
-use Rattle.cell_link.proofs.Naming.{NamesSoFar}
-
-abbrev pub invariant-loop-cell : goal.invariant-loop-cell
-invariant-loop-cell l = NamesSoFar l.cells l.cell-index l.names

@@ -1,6 +1,0 @@
-use Rattle.cell_link.proofs.tops.mark_cells.Given as goal
-use Rattle.cell_link.specs.Marking.{IsAmongFirst}
-use Rattle.cell_link.specs.Tops.{MarksMore}
-
-abbrev pub invariant-loop-place : goal.invariant-loop-place
-invariant-loop-place l = MarksMore (IsAmongFirst l.places l.place-index) l.fn.marks.items l.marks.items
