@@ -1,15 +1,13 @@
 -- Entries of parents.
-use Rattle.std.proofs.Common.{◌≡◌, ◌⊎◌, ◌↔◌, inl, inr, ℕ, ℤ, zero, suc, pos, ◌<◌, ◌+◌, ◌-◌, ◌^◌, ◌+ℤ◌, ◌-ℤ◌, ◌<ℤ◌, Bool, true, false, List, [], ◌∷◌, Option, Some, None, refl, sym, ◌∙◌, ap, subst, arith, length, slice_get, slice_index, slice_index_or, IfSome}
+use Rattle.std.proofs.Common.{◌≡◌, ◌⊎◌, ◌↔◌, inl, inr, ℕ, ℤ, zero, suc, pos, ◌<◌, ◌-◌, ◌^◌, ◌+ℤ◌, ◌-ℤ◌, true, false, List, [], ◌∷◌, Option, Some, None, refl, sym, ◌∙◌, subst, arith, length, slice_index_or, IsSomeAnd}
 use Rattle.std.specs.List.{All}
 use Rattle.std.proofs.lemmas.Int.{ints}
-use Rattle.std.proofs.Math.Decide.{ℕ_discrete}
 use Rattle.geo_base.specs.Near.{IsWithin}
 use Rattle.geo_base.specs.Rects.{has, IsRect}
 use Rattle.geo_base.specs.declared.layer.LayerKey.{LayerKey}
 use Rattle.geo_base.specs.declared.shapes.Rect.{Rect}
 use Rattle.geo_base.specs.declared.shapes.Square.{Square}
 use Rattle.rect_sets.specs.Rects.{covers}
-use Rattle.flat_layout.specs.Layers.{Input}
 use Rattle.flat_layout.specs.Layout.{IsReached}
 use Rattle.cell_graph.specs.Linked.{Linked, IsSound, IsHull, IsFrame, IsRectWithin, HullIsSound, hull_of, cell_at, plain}
 use Rattle.cell_graph.proofs.Bridge.{in_has, or_left, or_right, hull_sound}
@@ -17,8 +15,8 @@ use Rattle.cell_context.proofs.Visiting.{within_inside, inside_from}
 use Rattle.deep_tables.specs.declared.zones.CellZones.{CellZones}
 use Rattle.deep_tables.specs.Frames.{IsFramedZone, IsInGrown, grown}
 use Rattle.deep_tables.specs.Entries.{downward_cell}
-use Rattle.zone_phase.specs.Parents.{IsFromReferences}
-use Rattle.zone_phase.specs.Jobs.{IsEntry, zone_in, IsFromJob, IsFromJobs}
+use Rattle.zone_phase.specs.declared.uses.Use.{Use}
+use Rattle.zone_phase.specs.Jobs.{IsEntry, zone_in, IsFromUses}
 
 one_less : (z : ℤ) → IsWithin (2 ^ 30) z → IsWithin (2 ^ 31) (z -ℤ pos 1)
 one_less z h = let l = h.low in let u = h.high in record { low = omega (arith, ints); high = omega (arith, ints) }
@@ -52,41 +50,24 @@ rect_within (Some x) r sound some h =
 pub zone_within : (d : Linked) (cell : ℕ) (zone : List Rect) → IsSound d → All IsRect zone → ((q : Square) → covers zone q ≡ true → IsInGrown (hull_of (cell_at d cell)) q) → All (IsRectWithin (2 ^ 39)) zone
 zone_within d cell zone sound rects h = λ k z lt. rect_within (hull_of (cell_at d cell)) (slice_index_or zone k z) (hull_sound d cell sound) (rects k z lt) (λ q e. h q (covers_at zone k z q lt e))
 
-pub if_some : {A : Type 0} (P : A → Type 0) (o : Option A) (x : A) → o ≡ Some x → IfSome o P → P x
-if_some P o x e h = subst (λ p. IfSome p P) e h
-
-pub jobs_more : (d : Linked) (value : ℕ → Option CellZones) (name cell : ℕ) (key : LayerKey) (g : Rect) (jobs : List ℕ) (k : ℕ) (old out new : List Rect)
-    → ((q : Square) → (covers out q ≡ true) ↔ ((covers old q ≡ true) ⊎ IsFromJobs d value name cell key g jobs k q))
-    → ((q : Square) → (covers new q ≡ true) ↔ ((covers out q ≡ true) ⊎ IsFromJob d value name cell key g q (slice_index jobs k)))
-    → (q : Square) → (covers new q ≡ true) ↔ ((covers old q ≡ true) ⊎ IsFromJobs d value name cell key g jobs (k + 1) q)
-jobs_more d value name cell key g jobs k old out new first second q = (
-  (λ e. elim ((second q).0 e) [
-    | inl f ↦ elim ((first q).0 f) [ inl h ↦ inl h | inr j ↦ let lt = j.1 in inr (j.0, (omega arith), j.2) ]
-    | inr j ↦ inr (k, (omega arith), j)
-  ]),
-  (λ h. elim h [
-    | inl e ↦ (second q).1 (inl ((first q).1 (inl e)))
-    | inr j ↦ let lt = j.1 in elim (ℕ_discrete j.0 k) [
-      | yes e ↦ (second q).1 (inr (subst (λ i. IsFromJob d value name cell key g q (slice_index jobs i)) e j.2))
-      | no not ↦ (second q).1 (inl ((first q).1 (inr (j.0, (omega arith), j.2))))
-    ]
-  ]),
-)
-
-pub entry_zone : (d : Linked) (key : LayerKey) (name cell : ℕ) (o : Option CellZones) → (v : CellZones) × (o ≡ Some v) → IfSome o (IsEntry d key name cell) → IsFramedZone d (key ∷ []) cell (zone_in o name)
-entry_zone d key name cell o (v, e) h = subst (λ x. IsFramedZone d (key ∷ []) cell (zone_in x name)) (sym e) (if_some (IsEntry d key name cell) o v e h).1
-
 pub at_any : {A : Type 0} (xs : List A) (k : ℕ) (a b : A) → k < length xs → slice_index_or xs k a ≡ slice_index_or xs k b
 at_any [] k a b lt = absurd (let z : ⊥ = omega arith in z)
 at_any (x ∷ xs) zero a b lt = refl
 at_any (x ∷ xs) (suc k) a b lt = at_any xs k a b (omega arith)
 
+pub some_and : {A : Type 0} (P : A → Type 0) (o : Option A) (x : A) → o ≡ Some x → IsSomeAnd o P → P x
+some_and P o x e h = subst (λ p. IsSomeAnd p P) e h
+
+pub entry_zone : (d : Linked) (key : LayerKey) (name cell : ℕ) (o : Option CellZones) → IsSomeAnd o (IsEntry d key name cell) → IsFramedZone d (key ∷ []) cell (zone_in o name)
+entry_zone d key name cell None h = absurd h
+entry_zone d key name cell (Some v) h = h.1
+
 pub job_reached : (d : Linked) (job : ℕ) → IsSound d → job < length d.order → IsReached (plain d) (downward_cell d job)
 job_reached d job sound lt = sound.order.reached (length d.order - 1 - job) (omega arith)
 
-pub made_of : (d : Linked) (value : ℕ → Option CellZones) (name cell : ℕ) (key : LayerKey) (g : Rect) (jobs : List ℕ) (set old out : List Rect) → old ≡ [] → ((s : Square) → covers set s ≡ covers out s)
-    → ((q : Square) → (covers out q ≡ true) ↔ ((covers old q ≡ true) ⊎ IsFromJobs d value name cell key g jobs (length jobs) q)) → (q : Square) → (covers set q ≡ true) ↔ IsFromJobs d value name cell key g jobs (length jobs) q
-made_of d value name cell key g jobs set old out none same h q = (
+pub made_of : (d : Linked) (value : ℕ → Option CellZones) (name cell : ℕ) (key : LayerKey) (g : Rect) (uses : List Use) (set old out : List Rect) → old ≡ [] → ((s : Square) → covers set s ≡ covers out s)
+    → ((q : Square) → (covers out q ≡ true) ↔ ((covers old q ≡ true) ⊎ IsFromUses d value name cell key g uses (length uses) q)) → (q : Square) → (covers set q ≡ true) ↔ IsFromUses d value name cell key g uses (length uses) q
+made_of d value name cell key g uses set old out none same h q = (
   (λ e. elim ((h q).0 (sym (same q) ∙ e)) [
     | inl f ↦ let x : false ≡ true = subst (λ l. covers l q ≡ true) none f in absurd (let z : ⊥ = cc in z)
     | inr j ↦ j

@@ -1,33 +1,49 @@
--- Parents by their jobs.
-use Rattle.std.specs.Prelude.{◌≡◌, ℕ, ◌<◌, List, [], ◌∷◌, Option, Some, None, length, slice_get, slice_index, slice_index_or}
+-- What the references to a cell bring, from the entries of their jobs.
+use Rattle.std.specs.Prelude.{◌≡◌, ℕ, ◌<◌, true, List, [], ◌∷◌, Option, Some, None, IsSomeAnd, length, slice_get, get_or}
+use Rattle.geo_base.specs.Rects.{has}
 use Rattle.geo_base.specs.declared.layer.LayerKey.{LayerKey}
 use Rattle.geo_base.specs.declared.shapes.Rect.{Rect}
 use Rattle.geo_base.specs.declared.shapes.Square.{Square}
-use Rattle.flat_layout.specs.Layout.{IsReached}
 use Rattle.cell_graph.specs.declared.cells.Place.{Place}
-use Rattle.cell_graph.specs.Linked.{Linked, plain, cell_at, places_at}
+use Rattle.cell_graph.specs.Linked.{Linked, IsStep}
 use Rattle.deep_tables.specs.declared.zones.CellZones.{CellZones}
 use Rattle.deep_tables.specs.Frames.{IsFramedZone}
 use Rattle.deep_tables.specs.Entries.{downward_cell}
-use Rattle.zone_phase.specs.Parents.{IsFromReferences}
+use Rattle.zone_phase.specs.declared.uses.Use.{Use}
+use Rattle.zone_phase.specs.Pulls.{Why}
 
 -- a name's squares of an entry
 abbrev pub zone_in : Option CellZones → ℕ → List Rect
 zone_in None name = []
-zone_in (Some v) name = slice_index_or v.layers.items name []
+zone_in (Some v) name = get_or v.layers.items name []
 
 -- the entry has the name's squares, and these are the cell's
 abbrev pub IsEntry : Linked → LayerKey → ℕ → ℕ → CellZones → Type 0
-IsEntry d key name cell v = (name < length v.layers.items) × IsFramedZone d (key ∷ []) cell (slice_index_or v.layers.items name [])
+IsEntry d key name cell v = (name < length v.layers.items) × IsFramedZone d (key ∷ []) cell (get_or v.layers.items name [])
 
--- a job's parent brings q
-abbrev pub IsFromJob : Linked → (ℕ → Option CellZones) → ℕ → ℕ → LayerKey → Rect → Square → ℕ → Type 0
-IsFromJob d value name cell key g q job = IsFromReferences d (zone_in (value job) name) (downward_cell d job) (length (places_at (cell_at d (downward_cell d job)))) cell key g q
+-- the entries of the references' jobs have the name's squares
+abbrev pub HaveEntries : Linked → (ℕ → Option CellZones) → LayerKey → ℕ → List Use → Type 0
+HaveEntries d value key name uses = (k : ℕ) (u : Use) → slice_get uses k ≡ Some u
+    → IsSomeAnd (value u.job) (IsEntry d key name (downward_cell d u.job))
 
--- one of the first jobs of the list brings q
-abbrev pub IsFromJobs : Linked → (ℕ → Option CellZones) → ℕ → ℕ → LayerKey → Rect → List ℕ → ℕ → Square → Type 0
-IsFromJobs d value name cell key g jobs bound q = (k : ℕ) × (k < bound) × IsFromJob d value name cell key g q (slice_index jobs k)
+-- the entries of the references' jobs may be read
+abbrev pub MayRead : (ℕ → Type 0) → List Use → Type 0
+MayRead may uses = (k : ℕ) (u : Use) → slice_get uses k ≡ Some u → may u.job
 
--- each reached cell that places the cell has its job among these
-abbrev pub AreParents : Linked → ℕ → List ℕ → Type 0
-AreParents d cell jobs = (parent i : ℕ) (p : Place) → IsReached (plain d) parent → slice_get (places_at (cell_at d parent)) i ≡ Some p → p.cell ≡ cell → (k : ℕ) × (k < length jobs) × (downward_cell d (slice_index jobs k) ≡ parent)
+-- the reference brings q, a square of the grown hull, onto its parent's disturbed squares, or onto shapes beside it
+pub record IsFromUse (d : Linked) (zone : List Rect) (cell : ℕ) (key : LayerKey) (g : Rect) (q : Square) (u : Use) : Type 0 where
+  pub row : ℕ
+  pub column : ℕ
+  pub from : Place
+  pub step : IsStep d (downward_cell d u.job) u.index row column from
+  pub here : from.cell ≡ cell
+  pub inner : has g q ≡ true
+  pub why : Why zone d (downward_cell d u.job) u.index key from row column q
+
+-- one of the first references brings q
+pub record IsFromUses (d : Linked) (value : ℕ → Option CellZones) (name cell : ℕ) (key : LayerKey) (g : Rect) (uses : List Use) (bound : ℕ) (q : Square) : Type 0 where
+  pub at : ℕ
+  pub found : Use
+  pub at_in : at < bound
+  pub there : slice_get uses at ≡ Some found
+  pub brings : IsFromUse d (zone_in (value found.job) name) cell key g q found

@@ -1,5 +1,8 @@
-pub mod Steps
+pub mod Graph
+pub mod Jobs
+pub mod Names
+pub mod Phase
 pub mod Pulls
 pub mod Siblings
-pub mod Parents
-pub mod Jobs
+pub mod Steps
+pub mod Uses

@@ -2,13 +2,18 @@
 #![tactic(auto)]
 
 mod beside;
+mod devices;
 mod laws;
+mod names;
 mod parents;
+mod phase;
 mod pulls;
 mod references;
 mod siblings;
 mod unions;
+mod uses;
 mod windows;
 mod zones;
 
 pub use laws::{sibling_law, zone_law};
+pub use phase::ZonePhase;

@@ -1,41 +1,51 @@
-// Squares of a cell that the references of its parents bring onto what stands there.
-ghost use Rattle.std.specs.Prelude.{◌≡◌, ◌↔◌, ◌⊎◌, ◌<◌, ◌^◌, ℕ, true, length, Some, OnOk, slice_get};
-ghost use Rattle.std.specs.List.{All};
-ghost use Rattle.geo_base.specs.Rects.{IsRect};
-ghost use Rattle.geo_base.specs.declared.shapes.Square.{Square};
-ghost use Rattle.rect_sets.specs.Rects.{covers};
-ghost use Rattle.cell_graph.specs.Linked.{IsFrame, IsRectWithin, cell_at, hull_of, places_at};
-ghost use Rattle.zone_phase.specs.Parents.{IsFromReferences};
+//! The graph of jobs by which a cell comes after those that place it.
+ghost use Rattle.std.specs.Prelude.{◌≡◌, ◌<◌, ◌+◌, ◌||◌, ◌==◌, ℕ, length, IfOk, OnOk};
+ghost use Rattle.job_graph.specs.Graph.{AreAscending, has};
+ghost use Rattle.zone_phase.specs.Graph.{AreJobsOf, AreParentJobs};
+ghost use Rattle.zone_phase.specs.Uses.{AreRising, AreUses, lists_of};
 
-use crate::references::push_reference;
+use crate::uses::Use;
 use cell_graph::Design;
-use geo_base::{LayerKey, Rect};
+use job_graph::Graph;
 use std::alloc::{AllocError, Global};
 
-// Adds the squares of a cell's grown hull that references of a parent bring onto its disturbed squares, or onto shapes beside them.
-pub fn push_parent(
-    alloc: Global,
-    out: &mut Vec<Rect>,
-    design: &Design,
-    zone: &[Rect],
-    parent: u32,
-    cell: u32,
-    key: LayerKey,
-    hull: &Rect,
-    grown: &Rect,
-) -> Result<(), AllocError>
-    requires parent { parent < length design.now.cells }
-    requires hull { hull_of (cell_at design.now cell) ≡ Some hull.now }
-    requires grown { IsFrame grown.now }
-    requires zone { All (IsRectWithin (2 ^ 39)) zone.now }
-    requires rects { All IsRect out.old.items }
-    ensures rects { OnOk result (All IsRect out.new.items) }
-    ensures exact { OnOk result ((q : Square) → (covers out.new.items q ≡ true) ↔ ((covers out.old.items q ≡ true) ⊎ IsFromReferences design.now zone.now parent (length (places_at (cell_at design.now parent))) cell key grown.now q)) }
+// Adds a job, unless it is the last one already.
+fn push_job(jobs: &mut Vec<u32>, job: u32) -> Result<(), AllocError>
+    requires { AreAscending 0 jobs.old.items (job + 1) }
+    ensures ascend { OnOk result (AreAscending 0 jobs.new.items (job + 1)) }
+    ensures all { OnOk result ((i : ℕ) → has i jobs.new.items ≡ (has i jobs.old.items || (i == job))) }
 {
-    for (i, place) in design.places(parent).iter().enumerate() {
-        if place.cell == cell {
-            push_reference(alloc, out, design, zone, parent, i, place, key, hull, grown)?;
-        }
+    let count = jobs.len();
+    if count == 0 || jobs[count - 1] != job {
+        jobs.push(job)?;
     }
     Ok(())
+}
+
+// The jobs of references, each once.
+fn jobs_of(alloc: Global, uses: &[Use]) -> Result<Vec<u32>, AllocError>
+    requires { AreRising uses.now }
+    ensures { IfOk result (λ v. AreJobsOf uses.now (length uses.now) v.items) }
+{
+    let mut jobs = Vec::new(alloc);
+    for found in uses {
+        push_job(&mut jobs, found.job)?;
+    }
+    Ok(jobs)
+}
+
+/// The graph of jobs in which each cell waits for those that place it: linear in the references.
+pub fn parent_graph(alloc: Global, design: &Design, uses: &[Vec<Use>]) -> Result<Graph, AllocError>
+    requires { AreUses design.now (lists_of uses.now) }
+    ensures { IfOk result (AreParentJobs design.now) }
+{
+    design.sound();
+    let order = design.order();
+    let mut inputs = Vec::new(alloc);
+    for job in 0..order.len() {
+        let cell = order[order.len() - 1 - job];
+        let jobs = jobs_of(alloc, &uses[cell as usize])?;
+        inputs.push(jobs)?;
+    }
+    Graph::from_inputs(alloc, inputs)
 }

@@ -1,0 +1,29 @@
+use Rattle.std.proofs.Common.{◌≡◌, ℕ, slice_index_or, arith, subst, length}
+use Rattle.std.proofs.lemmas.Option.{slice_get-get_or}
+use Rattle.zone_phase.specs.declared.uses.Use.{Use}
+use Rattle.zone_phase.proofs.Using.{GrownBy, uses_more}
+use Rattle.zone_phase.proofs.zones.push_uses.Goals as goal
+
+abbrev no_use : Use
+no_use = record { job = 0; index = 0 }
+
+pub push_use-requires-clause-found : goal.push_use-requires-clause-found
+push_use-requires-clause-found g c = c.requires.uses.each c.loop-found.found-index _ (slice_get-get_or c.args.uses.now c.loop-found.found-index no_use c.loop-found-test.true)
+
+pub push_use-requires-clause-may : goal.push_use-requires-clause-may
+push_use-requires-clause-may g c = c.requires.may c.loop-found.found-index _ (slice_get-get_or c.args.uses.now c.loop-found.found-index no_use c.loop-found-test.true)
+
+pub push_use-requires-clause-entry : goal.push_use-requires-clause-entry
+push_use-requires-clause-entry g c = c.requires.entries c.loop-found.found-index _ (slice_get-get_or c.args.uses.now c.loop-found.found-index no_use c.loop-found-test.true)
+
+pub loop-found-preserved : goal.loop-found-preserved
+loop-found-preserved g c = record {
+  rects = c.in_ok-push_use.ensures.rects;
+  exact = uses_more c.args.design.now (g.R.Reads.value c.args.reads.now) c.args.name c.args.cell c.args.key c.args.grown.now c.args.uses.now c.loop-found.found-index (slice_index_or c.args.uses.now c.loop-found.found-index no_use)
+      c.args.out.now.items c.loop-found.out.items c.push_use.new.out.items (slice_get-get_or c.args.uses.now c.loop-found.found-index no_use c.loop-found-test.true) c.loop-found.invariant.exact c.in_ok-push_use.ensures.exact;
+}
+
+pub returns-clause-exact : goal.returns-clause-exact
+returns-clause-exact g c =
+    let e : c.loop-found.found-index ≡ length c.args.uses.now = (let a = c.loop-found-test.false in let b = c.loop-found.auto.found-index-end in omega arith) in
+    subst (λ (n : ℕ). GrownBy c.args.design.now (g.R.Reads.value c.args.reads.now) c.args.name c.args.cell c.args.key c.args.grown.now c.args.uses.now n c.args.out.now.items c.loop-found.out.items) e c.loop-found.invariant.exact

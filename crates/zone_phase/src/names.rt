@@ -1,0 +1,94 @@
+//! A cell's disturbed squares for each name of the rules.
+ghost use Rattle.std.specs.Prelude.{◌≡◌, ◌<◌, ◌∷◌, [], ◌++◌, ℕ, List, get_or, length, IfOk, OnOk};
+ghost use Rattle.std.specs.List.{All};
+ghost use Rattle.cell_graph.specs.Linked.{Linked};
+ghost use Rattle.deep_tables.specs.Frames.{IsFramedZone};
+ghost use Rattle.flat_layout.specs.Layers.{Reading, Empty, inputs};
+ghost use Rattle.rect_sets.specs.Rects.{IsCanonical};
+ghost use Rattle.rule_layers.specs.Readings.{reading_by, readings};
+ghost use Rattle.zone_phase.specs.Jobs.{MayRead};
+ghost use Rattle.zone_phase.specs.Names.{AreNameZones, HaveForm, HaveInputs};
+ghost use Rattle.zone_phase.specs.Uses.{AreUsesOf};
+
+use crate::unions::{set_at, with_name};
+use crate::uses::Use;
+use crate::zones::key_zone;
+use cell_graph::Design;
+use deep_tables::CellZones;
+use job_graph::Reads;
+use rect_sets::RectSet;
+use rule_text::{LayerForm, LayerRule, MosRule};
+use std::alloc::{AllocError, Global};
+
+// The union for two names.
+fn two_zones(alloc: Global, sets: &[RectSet], a: u32, b: u32) -> Result<RectSet, AllocError>
+    ensures { IfOk result (λ r. (d : Linked) (cell : ℕ) (trees : List Reading) → AreNameZones d cell trees sets.now
+        → IsFramedZone d (inputs (get_or trees a Empty) ++ inputs (get_or trees b Empty)) cell r) }
+{
+    let none = RectSet::empty(alloc);
+    let set = with_name(alloc, sets, a, set_at(sets, b, &none))?;
+    Ok(set)
+}
+
+// A name's disturbed squares, over those of the names before it.
+fn form_zone<R: Reads<CellZones>>(
+    alloc: Global,
+    design: &Design,
+    reads: &R,
+    uses: &[Use],
+    cell: u32,
+    name: usize,
+    form: LayerForm,
+    before: &[RectSet],
+) -> Result<RectSet, AllocError>
+    requires cell { cell < length design.now.cells }
+    requires uses { AreUsesOf design.now cell uses.now }
+    requires may { MayRead (R.may_read reads.now) uses.now }
+    requires entries { HaveForm design.now (R.value reads.now) name uses.now form }
+    ensures { IfOk result (λ r. (trees : List Reading) → AreNameZones design.now cell trees before.now
+        → IsFramedZone design.now (inputs (reading_by trees form)) cell r) }
+{
+    match form {
+        LayerForm::Input(key) => key_zone(alloc, design, reads, uses, name, cell, key),
+        LayerForm::Labels(_) => Ok(RectSet::empty(alloc)),
+        LayerForm::Empty => Ok(RectSet::empty(alloc)),
+        LayerForm::Binary(_, a, b) => two_zones(alloc, before, a, b),
+    }
+}
+
+/// Adds a set.
+pub fn push_set(sets: &mut Vec<RectSet>, set: RectSet) -> Result<(), AllocError>
+    requires { All IsCanonical sets.old.items }
+    ensures list { OnOk result (sets.new.items ≡ sets.old.items ++ set ∷ []) }
+    ensures canonical { OnOk result (All IsCanonical sets.new.items) }
+{
+    let _canonical = set.rects();
+    sets.push(set)?;
+    Ok(())
+}
+
+/// A cell's disturbed squares for each name, in the order of the rules: one walk of the references
+/// to the cell for each input layer, and one union for each other name.
+pub fn name_zones<R: Reads<CellZones>>(
+    alloc: Global,
+    design: &Design,
+    reads: &R,
+    uses: &[Use],
+    cell: u32,
+    names: &[LayerRule],
+) -> Result<Vec<RectSet>, AllocError>
+    requires cell { cell < length design.now.cells }
+    requires uses { AreUsesOf design.now cell uses.now }
+    requires may { MayRead (R.may_read reads.now) uses.now }
+    requires entries { HaveInputs design.now (R.value reads.now) (readings names.now) uses.now }
+    ensures count { IfOk result (λ v. length v.items ≡ length (readings names.now)) }
+    ensures zones { IfOk result (λ v. AreNameZones design.now cell (readings names.now) v.items) }
+    ensures canonical { IfOk result (λ v. All IsCanonical v.items) }
+{
+    let mut sets = Vec::new(alloc);
+    for (name, rule) in names.iter().enumerate() {
+        let set = form_zone(alloc, design, reads, uses, cell, name, rule.form, &sets)?;
+        push_set(&mut sets, set)?;
+    }
+    Ok(sets)
+}

@@ -1,0 +1,101 @@
+//! The phase of disturbed squares.
+ghost use Rattle.std.specs.Prelude.{◌≡◌, IfOk};
+ghost use Rattle.deep_tables.specs.Frames.{HasHulls};
+ghost use Rattle.rule_text.specs.Seen.{rules_seen};
+ghost use Rattle.rule_text.specs.Sound.{IsSound};
+ghost use Rattle.zone_phase.specs.Graph.{AreParentJobs};
+
+use crate::devices::device_zones;
+use crate::names::name_zones;
+use crate::parents::parent_graph;
+use crate::uses::{Use, find_uses};
+use cell_graph::Design;
+use deep_tables::{CellZones, DeepKey};
+use job_graph::{Graph, Phase, Reads};
+use rule_text::RuleSet;
+use std::alloc::{AllocError, Global};
+use std::marker::Model;
+use std::snapshot::Snapshot;
+
+/// The disturbed squares of each cell that the top reaches, for each name of the rules and for each
+/// device rule. Its jobs go through the design's order from its end, so that each cell comes after
+/// those that place it.
+#[derive(Drop)]
+pub struct ZonePhase<'a> {
+    design: &'a Design,
+    rules: &'a RuleSet,
+    uses: Vec<Vec<Use>>,
+    graph: Graph,
+}
+
+impl<'a> Model for ZonePhase<'a> {
+    ghost use Rattle.zone_phase.specs.Phase.{IsZonePhase, ZoneJobs, jobs_seen};
+
+    ghost Value = { ZoneJobs };
+
+    ghost view = { jobs_seen };
+
+    ghost invariant = { IsZonePhase };
+}
+
+impl<'a> ZonePhase<'a> {
+    /// The phase of a layout whose hulls are those of its cells. Linear in the references.
+    pub fn new(
+        alloc: Global,
+        design: &'a Design,
+        rules: &'a RuleSet,
+    ) -> Result<ZonePhase<'a>, AllocError>
+        requires hulls { HasHulls design.now }
+        requires rules { IsSound (rules_seen rules.now) }
+        ensures design { IfOk result (λ p. p.design ≡ design.now) }
+        ensures rules { IfOk result (λ p. p.rules ≡ rules.now) }
+        ensures jobs { IfOk result (λ p. AreParentJobs design.now p.graph) }
+    {
+        let uses = find_uses(alloc, design)?;
+        let graph = parent_graph(alloc, design, &uses)?;
+        Ok(ZonePhase {
+            design,
+            rules,
+            uses,
+            graph,
+        })
+    }
+}
+
+impl Phase for ZonePhase<'_> {
+    type Out = CellZones;
+
+    ghost graph = { λ p. p.graph };
+
+    ghost key = { λ p. record {
+      design = record { marker = record {}; value = p.design };
+      rules = record { marker = record {}; value = p.rules };
+    } };
+
+    fn graph(&self) -> &Graph {
+        &self.graph
+    }
+
+    fn key(&self) -> DeepKey {
+        DeepKey {
+            design: Snapshot::of(self.design),
+            rules: Snapshot::of(self.rules),
+        }
+    }
+
+    fn work<R: Reads<CellZones>>(
+        &self,
+        alloc: Global,
+        job: u32,
+        reads: &R,
+    ) -> Result<CellZones, AllocError> {
+        let design = self.design;
+        design.sound();
+        let order = design.order();
+        let cell = order[order.len() - 1 - job as usize];
+        let uses = &self.uses[cell as usize];
+        let layers = name_zones(alloc, design, reads, uses, cell, &self.rules.names)?;
+        let devices = device_zones(alloc, &layers, &self.rules.devices)?;
+        Ok(CellZones { layers, devices })
+    }
+}
