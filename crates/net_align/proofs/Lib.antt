@@ -1,0 +1,2 @@
+pub mod LaidLists
+pub mod Laying
