@@ -1,1 +1,4 @@
 pub mod Laid
+pub mod Names
+pub mod Marks
+pub mod Found

@@ -3,3 +3,6 @@
 #![tactic(auto)]
 
 mod inline;
+mod marks;
+mod names;
+mod partners;
