@@ -63,7 +63,7 @@ missing (x ∷ xs) q none = elim (either (bytes_eq q x)) [
   | inr f ↦ rw f (missing xs q (λ i e. none (suc i) e))
 ]
 
-taken : {A : Type 0} (xs : List A) (n i : ℕ) (x : A) → slice_get (take n xs) i ≡ Some x → (slice_get xs i ≡ Some x) × (i < n)
+pub taken : {A : Type 0} (xs : List A) (n i : ℕ) (x : A) → slice_get (take n xs) i ≡ Some x → (slice_get xs i ≡ Some x) × (i < n)
 taken [] zero i x e = absurd (let z : ⊥ = cc in z)
 taken [] (suc n) i x e = absurd (let z : ⊥ = cc in z)
 taken (y ∷ xs) zero i x e = absurd (let z : ⊥ = cc in z)

@@ -5,3 +5,4 @@ pub mod Laying
 pub mod Marking
 pub mod Partnered
 pub mod Rows
+pub mod Walking

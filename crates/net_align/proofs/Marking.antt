@@ -83,7 +83,7 @@ by_is (x ∷ cs) marks c b low (inl e) l =
     by_stays cs (marked (called_by x) marks) b k (marked_is (called_by x) marks b low (subst (λ (y : Circuit). IsListed b (called_by y)) e l))
 by_is (x ∷ cs) marks c b low (inr h) l = by_is cs (marked (called_by x) marks) c b (let e = marked_long (called_by x) marks in omega (arith, e, low)) h l
 
-none_set : (n b : ℕ) → Is (replicate n false) b → ⊥
+pub none_set : (n b : ℕ) → Is (replicate n false) b → ⊥
 none_set zero b h = true≢false (sym h)
 none_set (suc n) zero h = true≢false (sym h)
 none_set (suc n) (suc b) h = none_set n b h

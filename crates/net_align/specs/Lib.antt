@@ -2,3 +2,4 @@ pub mod Laid
 pub mod Names
 pub mod Marks
 pub mod Found
+pub mod Walked

@@ -6,3 +6,4 @@ mod inline;
 mod marks;
 mod names;
 mod partners;
+mod walk;
