@@ -74,7 +74,7 @@ module _ (nl : Netlist) (order : List ℕ) (is : IsCallOrder (call_lists nl) ord
   path_more [] c d e k row h call same = (row, subst (λ (x : ℕ). IsCall nl x k row) (sym h) call, same)
   path_more (p ∷ path) c d e k row (r, first, h) call same = (r, first, path_more path r.circuit d e k row h call same)
 
-  called_further : (top a b : ℕ) → IsCalledFrom nl top a → Calls (call_lists nl) a b → IsCalledFrom nl top b
+  pub called_further : (top a b : ℕ) → IsCalledFrom nl top a → Calls (call_lists nl) a b → IsCalledFrom nl top b
   called_further top a b (path, h) call =
       let c = (calls_law nl a b).0 call in
       (path ++ c.0 ∷ [], path_more path top a b c.0 c.1 h c.2 c.3)

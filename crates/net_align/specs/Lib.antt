@@ -3,3 +3,4 @@ pub mod Names
 pub mod Marks
 pub mod Found
 pub mod Walked
+pub mod Flattened

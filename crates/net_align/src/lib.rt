@@ -2,6 +2,7 @@
 //! flattened into their callers, and what holds no device is dropped.
 #![tactic(auto)]
 
+mod flatten;
 mod inline;
 mod marks;
 mod names;
