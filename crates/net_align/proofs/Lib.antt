@@ -1,0 +1,10 @@
+pub mod ByName
+pub mod Existing
+pub mod Finding
+pub mod LaidLists
+pub mod Laying
+pub mod Marking
+pub mod Partnered
+pub mod Rows
+pub mod There
+pub mod Walking

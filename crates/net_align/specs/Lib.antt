@@ -1,0 +1,6 @@
+pub mod Laid
+pub mod Names
+pub mod Marks
+pub mod Found
+pub mod Walked
+pub mod Flattened

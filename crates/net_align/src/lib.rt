@@ -1,0 +1,10 @@
+//! Two netlists made comparable: circuits are paired by name, circuits without a partner are
+//! flattened into their callers, and what holds no device is dropped.
+#![tactic(auto)]
+
+mod flatten;
+mod inline;
+mod marks;
+mod names;
+mod partners;
+mod walk;
