@@ -1,0 +1,6 @@
+pub mod Counting
+pub mod Keeping
+pub mod Slots
+pub mod SlotSteps
+pub mod Steps
+pub mod Seats
