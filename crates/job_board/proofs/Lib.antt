@@ -4,3 +4,5 @@ pub mod Slots
 pub mod SlotSteps
 pub mod Steps
 pub mod Seats
+pub mod Waiting
+pub mod Edges

@@ -3,3 +3,4 @@ pub mod Rule
 pub mod Plays
 pub mod Notes
 pub mod Pieces
+pub mod Layout
