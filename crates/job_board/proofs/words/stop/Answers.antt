@@ -1,0 +1,9 @@
+use Rattle.std.proofs.Common.{◌<◌, arith}
+use Rattle.std.proofs.Common.{None}
+use Rattle.job_board.specs.Notes.{IsRight}
+use Rattle.job_board.proofs.Steps.{stops}
+use Rattle.job_board.proofs.words.stop.Goals as goal
+
+pub fetch_or-requires : goal.fetch_or-requires
+fetch_or-requires g c = let b = c.requires.board in let w = b.words in let in' : 0 < c.args.table.now.shared.table_id.words = omega arith in
+    (b.seat, in', stops None (IsRight g.T.Defined.is_defined) c.args.table.now.shared.key _ _ _ b.plan)

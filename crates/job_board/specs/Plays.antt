@@ -1,0 +1,128 @@
+-- What each step tells its caller.
+use Rattle.std.specs.Prelude.{◌≡◌, ◌≢◌, ℕ, suc, ◌+◌, ◌*◌, ◌/◌, ◌^◌, ◌<◌, Bool, true, ◌||◌, ◌==◌, List, ◌∷◌, ◌++◌, drop, length, Option, Some, None}
+use Rattle.atomic_table.specs.Table.{Me, Step, rest}
+use Rattle.job_board.specs.declared.view.View.{View}
+use Rattle.job_board.specs.declared.view.Work.TheVariants.{Resting, Working}
+use Rattle.atomic_table.specs.Seated.{TableId}
+use Rattle.job_board.specs.declared.view.Plan.{Plan}
+use Rattle.job_graph.specs.Graph.{inputs_of}
+use Rattle.job_board.specs.Slots.{taken, AreRight}
+use Rattle.job_board.specs.Rule.{graph_of, graph_in, dependents_in}
+
+module _ {T K : Type 0} where
+  -- the seat saw that the job awaits nothing
+  abbrev pub readied : View T K → ℕ → View T K
+  readied v j = record {
+    plan = v.plan;
+    claims = v.claims;
+    work = v.work;
+    ready = j ∷ v.ready;
+    full = v.full;
+    stopped = v.stopped;
+  }
+
+  -- the seat claimed the job, as the seat w
+  abbrev pub claiming : View T K → ℕ → ℕ → View T K
+  claiming v j w = record {
+    plan = v.plan;
+    claims = (j, w) ∷ v.claims;
+    work = Working j 0;
+    ready = v.ready;
+    full = v.full;
+    stopped = v.stopped;
+  }
+
+  -- the seat told q dependents of the job
+  abbrev pub telling : View T K → ℕ → ℕ → View T K
+  telling v j q = record {
+    plan = v.plan;
+    claims = v.claims;
+    work = Working j q;
+    ready = v.ready;
+    full = v.full;
+    stopped = v.stopped;
+  }
+
+  -- the seat is at no job
+  abbrev pub resting : View T K → View T K
+  resting v = record {
+    plan = v.plan;
+    claims = v.claims;
+    work = Resting;
+    ready = v.ready;
+    full = v.full;
+    stopped = v.stopped;
+  }
+
+  -- the seat saw whether all jobs are finished
+  abbrev pub counting : View T K → Bool → View T K
+  counting v b = record {
+    plan = v.plan;
+    claims = v.claims;
+    work = v.work;
+    ready = v.ready;
+    full = v.full || b;
+    stopped = v.stopped;
+  }
+
+  -- the seat stopped the board
+  abbrev pub stopping : View T K → View T K
+  stopping v = record {
+    plan = v.plan;
+    claims = v.claims;
+    work = v.work;
+    ready = v.ready;
+    full = v.full;
+    stopped = true;
+  }
+
+  module _ {S : Type 0} where
+    abbrev pub right_in : (Plan T K → ℕ → S → Type 0) → Option (Plan T K) → ℕ → S → Type 0
+    right_in right None = λ _ _. ⊥
+    right_in right (Some q) = right q
+
+    -- a load of the count of j that reads n
+    abbrev pub Looks : Step S → Me S (View T K) → ℕ → Me S (View T K) → Type 0
+    Looks st m n m' =
+        (j : ℕ) → st.word ≡ 2 * j + 2
+        → (n ≡ 0 → m' ≡ (readied m.0 j, m.1)) × (n ≢ 0 → m' ≡ m)
+
+    module _ (empty : S) (right : Plan T K → ℕ → S → Type 0) where
+      -- the job is the seat's, and the seat holds its slots, with a right note of each input
+      abbrev pub Took : ℕ → Me S (View T K) → Me S (View T K) → Type 0
+      Took j m m' =
+          let g = graph_in m.0.plan in let d = dependents_in m.0.plan in
+          (w : ℕ) × (ys : List S) × AreRight (right_in right m.0.plan) (inputs_of g j) ys
+          × (m' ≡ (claiming m.0 j w, taken empty g d j ys ++ m.1))
+
+      abbrev pub Claimed : ℕ → ℕ → Me S (View T K) → Me S (View T K) → Type 0
+      Claimed j n m m' = (n ≡ 0 → Took j m m') × (n ≢ 0 → m' ≡ m)
+
+      -- a fetch_or of the claim of j that reads n
+      abbrev pub Claims : Step S → Me S (View T K) → ℕ → Me S (View T K) → Type 0
+      Claims st m n m' = (j : ℕ) → st.word ≡ 2 * j + 1 → Claimed j n m m'
+
+    -- a fetch_sub of the count of the next dependent
+    abbrev pub Tells : Step S → Me S (View T K) → ℕ → Me S (View T K) → Type 0
+    Tells st m n m' = (j q : ℕ) → m.0.work ≡ Working j q → m' ≡ (telling m.0 j (suc q), rest m.1)
+
+    -- a fetch_add of the done word
+    abbrev pub Ends : Step S → Me S (View T K) → ℕ → Me S (View T K) → Type 0
+    Ends st m n m' =
+        (j q : ℕ) → m.0.work ≡ Working j q
+        → m' ≡ (resting m.0, drop (suc (length (inputs_of (graph_in m.0.plan) j))) m.1)
+
+    -- a load of the done word that reads n
+    abbrev pub Counts : Step S → Me S (View T K) → ℕ → Me S (View T K) → Type 0
+    Counts st m n m' = m' ≡ (counting m.0 (n / 2 == length (graph_in m.0.plan)), m.1)
+
+    -- a fetch_or of the stop bit
+    abbrev pub Stops : Step S → Me S (View T K) → ℕ → Me S (View T K) → Type 0
+    Stops st m n m' = m' ≡ (stopping m.0, m.1)
+
+  -- the table of this plan has its words, and the seat is one of it
+  pub record IsFor (z : TableId) (p : Plan T K) (y : TableId) (v : View T K) : Type 0 where
+    pub seat : y ≡ z
+    pub plan : v.plan ≡ Some p
+    pub words : z.words ≡ 2 * length (graph_of p) + 1
+    pub small : length (graph_of p) < 2 ^ 32

@@ -1,0 +1,117 @@
+//! The calls on the board's words.
+ghost use Rattle.std.specs.Prelude.{◌≡◌, ◌≢◌, ◌+◌, ◌*◌, ◌/◌, ◌%◌, ◌<◌, ◌^◌, ◌==◌, true, false, length, ℕ, suc, List, [], ◌∷◌, ◌++◌, drop, slice_index, None, Option};
+ghost use Rattle.job_graph.specs.Graph.{has};
+ghost use Rattle.job_graph.specs.Graph.{inputs_of};
+ghost use Rattle.job_board.specs.Rule.{graph_of, graph_in, split_off, joined_view};
+ghost use Rattle.job_board.specs.Notes.{IsRight};
+ghost use Rattle.job_board.specs.Slots.{edge_slot, held_by};
+ghost use Rattle.job_board.specs.Pieces.{MayTell, MayEnd};
+ghost use Rattle.job_board.specs.declared.view.Work.TheVariants.{Working};
+ghost use Rattle.job_board.specs.Plays.{readied, claiming, counting, stopping, telling, resting, IsFor, Claimed};
+
+use crate::plays::{Claim, Count, Cut, End, Glue, Look, Stop, Tell};
+use crate::view::{BoardTable, TableSeat};
+use job_graph::Defined;
+
+/// The count of the job: 0 where all of its inputs have arrived.
+pub(crate) fn look<T: Defined>(table: &BoardTable<T>, seat: &mut TableSeat<T>, job: u32) -> u64
+    requires board { IsFor table.now.shared.table_id table.now.shared.key seat.old.table_id
+        seat.old.me.0 }
+    requires job { job < length (graph_of table.now.shared.key) }
+    ensures seat { (seat.new.table_id ≡ seat.old.table_id) × (seat.new.id ≡ seat.old.id) }
+    ensures ready { result ≡ 0 → seat.new.me ≡ (readied seat.old.me.0 job, seat.old.me.1) }
+    ensures waits { result ≢ 0 → seat.new.me ≡ seat.old.me }
+{
+    table.shared.load::<Look>(seat, 2 * job as usize + 2)
+}
+
+/// 0 where the job is this seat's from now on.
+pub(crate) fn claim<T: Defined>(table: &BoardTable<T>, seat: &mut TableSeat<T>, job: u32) -> u64
+    requires board { IsFor table.now.shared.table_id table.now.shared.key seat.old.table_id
+        seat.old.me.0 }
+    requires job { job < length (graph_of table.now.shared.key) }
+    requires ready { has job seat.old.me.0.ready ≡ true }
+    ensures seat { (seat.new.table_id ≡ seat.old.table_id) × (seat.new.id ≡ seat.old.id) }
+    ensures claim { Claimed None (IsRight T.is_defined) job result seat.old.me seat.new.me }
+{
+    table
+        .shared
+        .fetch_or::<Claim<T>>(seat, 2 * job as usize + 1, 1)
+}
+
+/// The number of finished jobs, and whether the board was stopped.
+pub(crate) fn progress<T: Defined>(table: &BoardTable<T>, seat: &mut TableSeat<T>) -> (u64, bool)
+    requires board { IsFor table.now.shared.table_id table.now.shared.key seat.old.table_id
+        seat.old.me.0 }
+    ensures seat { (seat.new.table_id ≡ seat.old.table_id) × (seat.new.id ≡ seat.old.id) }
+    ensures count { seat.new.me ≡ (
+      counting seat.old.me.0
+          (result.0 == length (graph_in seat.old.me.0.plan)),
+      seat.old.me.1,
+    ) }
+{
+    let word = table.shared.load::<Count>(seat, 0);
+    (word / 2, word % 2 == 1)
+}
+
+pub(crate) fn stop<T: Defined>(table: &BoardTable<T>, seat: &mut TableSeat<T>)
+    requires board { IsFor table.now.shared.table_id table.now.shared.key seat.old.table_id
+        seat.old.me.0 }
+    ensures seat { (seat.new.table_id ≡ seat.old.table_id) × (seat.new.id ≡ seat.old.id) }
+    ensures stop { seat.new.me ≡ (stopping seat.old.me.0, seat.old.me.1) }
+{
+    table.shared.fetch_or::<Stop>(seat, 0, 1);
+}
+
+/// Gives the note of the job's value to one dependent, the next one, and lowers its count.
+pub(crate) fn tell<T: Defined>(
+    table: &BoardTable<T>,
+    seat: &mut TableSeat<T>,
+    job: u32,
+    told: usize,
+    to: u32,
+)
+    requires board { IsFor table.now.shared.table_id table.now.shared.key seat.old.table_id
+        seat.old.me.0 }
+    requires work { MayTell (IsRight T.is_defined) table.now.shared.key seat.old.me job told to }
+    ensures seat { (seat.new.table_id ≡ seat.old.table_id) × (seat.new.id ≡ seat.old.id) }
+    ensures told { seat.new.me ≡ (telling seat.old.me.0 job (suc told), drop 1 seat.old.me.1) }
+{
+    table.shared.fetch_sub::<Tell>(seat, 2 * to as usize + 2, 1);
+}
+
+/// Gives the job's own slot and those of its inputs back: all dependents were told.
+pub(crate) fn end<T: Defined>(table: &BoardTable<T>, seat: &mut TableSeat<T>, job: u32)
+    requires board { IsFor table.now.shared.table_id table.now.shared.key seat.old.table_id
+        seat.old.me.0 }
+    requires work { MayEnd None (IsRight T.is_defined) table.now.shared.key seat.old.me job }
+    ensures seat { (seat.new.table_id ≡ seat.old.table_id) × (seat.new.id ≡ seat.old.id) }
+    ensures ended { seat.new.me ≡ (
+      resting seat.old.me.0,
+      drop
+          (suc (length (inputs_of (graph_in seat.old.me.0.plan) job))) seat.old.me.1,
+    ) }
+{
+    table.shared.fetch_add::<End>(seat, 0, 2);
+}
+
+pub(crate) fn split<T: Defined>(table: &BoardTable<T>, seat: &mut TableSeat<T>) -> TableSeat<T>
+    requires board { IsFor table.now.shared.table_id table.now.shared.key seat.old.table_id
+        seat.old.me.0 }
+    ensures seat { (seat.new.table_id ≡ seat.old.table_id) × (seat.new.id ≡ seat.old.id)
+        × (seat.new.me ≡ seat.old.me) }
+    ensures further { (result.table_id ≡ seat.old.table_id)
+        × (result.me ≡ (split_off seat.old.me.0, [])) }
+{
+    table.shared.split_seat::<Cut>(seat)
+}
+
+pub(crate) fn join<T: Defined>(table: &BoardTable<T>, seat: &mut TableSeat<T>, other: TableSeat<T>)
+    requires board { IsFor table.now.shared.table_id table.now.shared.key seat.old.table_id
+        seat.old.me.0 }
+    requires other { (other.table_id ≡ table.now.shared.table_id) × (other.me.1 ≡ []) }
+    ensures { (seat.new.table_id ≡ seat.old.table_id) × (seat.new.id ≡ seat.old.id)
+        × (seat.new.me ≡ (joined_view seat.old.me.0 other.me.0, seat.old.me.1)) }
+{
+    table.shared.join_seat::<Glue>(seat, other);
+}
