@@ -1,4 +1,5 @@
--- What a cell has of the rules' names: flat squares among those looked at, and squares that it holds itself.
+-- What a cell has of the rules' names: flat squares among those looked at, and squares that it
+-- holds itself.
 use Rattle.std.specs.Prelude.{◌≡◌, ◌↔◌, ℕ, ◌<◌, ◌^◌, true, List, [], Option, Some, length, get_or, slice_get}
 use Rattle.geo_base.specs.declared.shapes.Rect.{Rect}
 use Rattle.geo_base.specs.declared.shapes.Square.{Square}
@@ -14,15 +15,18 @@ use Rattle.deep_tables.specs.Zones.{AreZones}
 
 -- exactly the tree's flat squares among those looked at
 abbrev pub IsFlatIn : Linked → ℕ → List Rect → Reading → List Rect → Type 0
-IsFlatIn d cell looks x set = (q : Square) → (covers set q ≡ true) ↔ ((covers looks q ≡ true) × InFlat (plain d) cell x q)
+IsFlatIn d cell looks x set = (q : Square) → (covers set q ≡ true) ↔ ((covers looks q ≡ true)
+    × InFlat (plain d) cell x q)
 
 -- the same of each tree; past the end both are empty
 abbrev pub AreFlats : Linked → ℕ → List Rect → List Reading → List (List Rect) → Type 0
-AreFlats d cell looks trees sets = (k : ℕ) → IsFlatIn d cell looks (get_or trees k Empty) (get_or sets k [])
+AreFlats d cell looks trees sets = (k : ℕ)
+    → IsFlatIn d cell looks (get_or trees k Empty) (get_or sets k [])
 
 -- the squares that the cell holds itself of each tree
 abbrev pub AreLocals : Linked → ℕ → List Reading → List (List Rect) → Type 0
-AreLocals d cell trees sets = (k : ℕ) (x : Reading) (set : List Rect) → slice_get trees k ≡ Some x → slice_get sets k ≡ Some set
+AreLocals d cell trees sets = (k : ℕ) (x : Reading) (set : List Rect)
+    → slice_get trees k ≡ Some x → slice_get sets k ≡ Some set
     → IsLocalLayer (plain d) x cell set
 
 -- a reached cell of a layout with its hulls, and right disturbed squares for the rules

@@ -53,7 +53,8 @@ fn form_flat(
 ) -> Result<RectSet, AllocError>
     requires cell { cell < length design.now.cells }
     requires near { AreNear looks.now }
-    ensures { IfOk result (λ r. (trees : List Reading) → AreFlats design.now cell looks.now trees before.now
+    ensures { IfOk result (λ r. (trees : List Reading)
+        → AreFlats design.now cell looks.now trees before.now
         → IsFlatIn design.now cell looks.now (reading_by trees form) r) }
 {
     match form {
@@ -76,7 +77,8 @@ pub fn name_flats(
     requires cell { cell < length design.now.cells }
     requires near { AreNear looks.now }
     ensures count { IfOk result (λ v. length v.items ≡ length names.now) }
-    ensures flats { IfOk result (λ v. AreFlats design.now cell looks.now (readings names.now) v.items) }
+    ensures flats { IfOk result (λ v. AreFlats design.now cell looks.now (readings names.now)
+        v.items) }
 {
     let mut flats = Vec::new(alloc);
     for rule in names {

@@ -109,7 +109,8 @@ pub fn name_layers(
     requires cell { cell < length design.now.cells }
     requires ready { IsReady design.now (rules_seen rules.now) zones.now cell }
     ensures count { IfOk result (λ v. length v.items ≡ length (readings rules.now.names.items)) }
-    ensures layers { IfOk result (λ v. AreLocals design.now cell (readings rules.now.names.items) v.items) }
+    ensures layers { IfOk result (λ v. AreLocals design.now cell (readings rules.now.names.items)
+        v.items) }
 {
     design.sound();
     let names = rules.names.as_slice();

@@ -125,7 +125,8 @@ fn push_names(
     requires pieces { All (IsPiece window.now) out.old.items }
     ensures pieces { OnOk result (All (IsPiece window.now) out.new.items) }
     ensures grows { OnOk result (Grows out.old.items out.new.items) }
-    ensures brings { OnOk result (BringsNames zones.now names.now (length names.now) place.now below.now
+    ensures brings { OnOk result (BringsNames zones.now names.now (length names.now) place.now
+        below.now
         window.now out.new.items) }
 {
     for (name, rule) in names.iter().enumerate() {
@@ -162,7 +163,8 @@ fn push_reference(
     requires pieces { All (IsPiece window.now) out.old.items }
     ensures pieces { OnOk result (All (IsPiece window.now) out.new.items) }
     ensures grows { OnOk result (Grows out.old.items out.new.items) }
-    ensures brings { OnOk result (BringsHull design.now zones.now names.now place.now window.now out.new.items) }
+    ensures brings { OnOk result (BringsHull design.now zones.now names.now place.now window.now
+        out.new.items) }
 {
     design.sound();
     match design.hull(place.cell) {
@@ -187,7 +189,8 @@ fn push_references(
     requires entries { HaveAll design.now zones.now cell (length names.now) }
     requires pieces { All (IsPiece window.now) out.old.items }
     ensures pieces { OnOk result (All (IsPiece window.now) out.new.items) }
-    ensures brings { OnOk result ((i : ℕ) (p : Place) → slice_get (places_at (cell_at design.now cell)) i ≡ Some p
+    ensures brings { OnOk result ((i : ℕ) (p : Place)
+        → slice_get (places_at (cell_at design.now cell)) i ≡ Some p
         → BringsHull design.now zones.now names.now p window.now out.new.items) }
 {
     for (i, place) in design.places(cell).iter().enumerate() {
@@ -232,7 +235,8 @@ fn push_all_own(
     ensures rects { OnOk result (All IsRect out.new.items) }
     ensures held { OnOk result (AreHeld (hull_of (cell_at design.now cell)) out.new.items) }
     ensures grows { OnOk result (Grows out.old.items out.new.items) }
-    ensures brings { OnOk result (BringsOwn design.now cell names.now (length names.now) out.new.items) }
+    ensures brings { OnOk result (BringsOwn design.now cell names.now (length names.now)
+        out.new.items) }
 {
     for rule in names {
         push_own(out, design, cell, rule.form)?;
