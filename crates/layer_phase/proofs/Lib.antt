@@ -1,5 +1,10 @@
 pub mod Assembly
-pub mod Looking
-pub mod Keeping
-pub mod Telling
+pub mod Bringing
+pub mod Deriving
+pub mod Flattening
+pub mod Held
 pub mod Inputs
+pub mod Keeping
+pub mod Looking
+pub mod Results
+pub mod Telling

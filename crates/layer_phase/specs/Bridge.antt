@@ -12,12 +12,16 @@ use Rattle.deep_tables.specs.Zones.{AreZones}
 use Rattle.layer_phase.specs.Parts.{IsFromCalmHull, HaveZones}
 use Rattle.layer_phase.specs.Keeps.{HaveEntries, IsKeptBy}
 
--- a table of disturbed squares has the entries of all placed cells, decides what is disturbed there, and tells what they keep
-pub record TellsKept (d : Linked) (z : List (Option CellZones)) (x : Reading) (cell name : ℕ) : Type 0 where
+-- a table of disturbed squares has the entries of all placed cells, decides what is disturbed
+-- there, and tells what they keep
+pub record TellsKept (d : Linked) (z : List (Option CellZones)) (x : Reading) (cell name : ℕ) :
+    Type 0 where
   pub entries : HaveEntries d z cell name
   pub zones : HaveZones d x cell
   pub kept : (q : Square) → IsKeptBy d z cell name q ↔ IsFromCalmHull d x cell q
 
 abbrev pub KeptLaw : Type 0
-KeptLaw = (d : Linked) (r : Rules) (z : List (Option CellZones)) (x : Reading) (cell name : ℕ) → IsSound d → HasHulls d → AreZones (plain d) r z
-    → IsReached (plain d) cell → slice_get (readings r.names) name ≡ Some x → TellsKept d z x cell name
+KeptLaw = (d : Linked) (r : Rules) (z : List (Option CellZones)) (x : Reading) (cell name : ℕ)
+    → IsSound d → HasHulls d → AreZones (plain d) r z
+    → IsReached (plain d) cell → slice_get (readings r.names) name ≡ Some x
+    → TellsKept d z x cell name

@@ -19,10 +19,12 @@ HasEntry z cell name = (zone : List Rect) × IsZoneAt z cell name zone
 
 -- and those of all cells that the cell places
 abbrev pub HaveEntries : Linked → List (Option CellZones) → ℕ → ℕ → Type 0
-HaveEntries d z cell name = (i row column : ℕ) (p : Place) → IsStep d cell i row column p → HasEntry z p.cell name
+HaveEntries d z cell name = (i row column : ℕ) (p : Place) → IsStep d cell i row column p
+    → HasEntry z p.cell name
 
 -- a square of a placed cell's hull comes to q that isn't disturbed there
-pub record IsKeptBy (d : Linked) (z : List (Option CellZones)) (cell name : ℕ) (q : Square) : Type 0 where
+pub record IsKeptBy (d : Linked) (z : List (Option CellZones)) (cell name : ℕ) (q : Square) : Type
+    0 where
   pub index : ℕ
   pub row : ℕ
   pub column : ℕ

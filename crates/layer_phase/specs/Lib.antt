@@ -1,4 +1,6 @@
 pub mod Parts
-pub mod Looks
 pub mod Keeps
+pub mod Looks
 pub mod Bridge
+pub mod Names
+pub mod Phase

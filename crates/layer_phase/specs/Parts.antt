@@ -23,25 +23,35 @@ pub record IsFromCalmHull (d : Linked) (name : Reading) (cell : ℕ) (q : Square
   pub calm : IsDisturbed (plain d) (inputs name) place.cell square → ⊥
   pub image : moved_square place.motion square ≡ q
 
--- squares that are looked at, the flat ones of these, the disturbed ones, and those that placed cells keep
-pub record AreParts (d : Linked) (name : Reading) (cell : ℕ) (places flat zone calm : List Rect) : Type 0 where
+-- squares that are looked at, the flat ones of these, the disturbed ones, and those that placed
+-- cells keep
+pub record AreParts (d : Linked) (name : Reading) (cell : ℕ) (places flat zone calm : List Rect) :
+    Type 0 where
   pub own : (q : Square) → IsOwnOn (plain d) (inputs name) cell q → covers places q ≡ true
-  pub disturbed : (q : Square) → IsFromDisturbed (plain d) (inputs name) cell q → covers places q ≡ true
-  pub flats : (q : Square) → (covers flat q ≡ true) ↔ ((covers places q ≡ true) × InFlat (plain d) cell name q)
+  pub disturbed : (q : Square) → IsFromDisturbed (plain d) (inputs name) cell q
+      → covers places q ≡ true
+  pub flats : (q : Square) → (covers flat q ≡ true) ↔ ((covers places q ≡ true)
+      × InFlat (plain d) cell name q)
   pub zones : IsFramedZone d (inputs name) cell zone
-  pub calms : (q : Square) → covers places q ≡ true → (covers calm q ≡ true) ↔ IsFromCalmHull d name cell q
+  pub calms : (q : Square) → covers places q ≡ true → (covers calm q ≡ true)
+      ↔ IsFromCalmHull d name cell q
 
 -- the zones of the placed cells decide which of their squares are disturbed
 abbrev pub HaveZones : Linked → Reading → ℕ → Type 0
-HaveZones d name cell = (k : ℕ) (p : Place) → IsPlaced (plain d) cell k p → (zone : List Rect) × IsFramedZone d (inputs name) p.cell zone
+HaveZones d name cell = (k : ℕ) (p : Place) → IsPlaced (plain d) cell k p → (zone : List Rect)
+    × IsFramedZone d (inputs name) p.cell zone
 
--- flat squares among those looked at, without the disturbed ones and those that placed cells keep: the cell's layer
+-- flat squares among those looked at, without the disturbed ones and those that placed cells keep:
+-- the cell's layer
 abbrev pub LayerLaw : Type 0
-LayerLaw = (d : Linked) (op : Op) (a b : Reading) (cell : ℕ) (places flat zone calm local : List Rect) → IsSound d → IsReached (plain d) cell → HaveZones d (Binary op a b) cell
-    → AreParts d (Binary op a b) cell places flat zone calm → IsCanonical local → ((q : Square) → covers local q ≡ ((covers flat q && not (covers zone q)) && not (covers calm q)))
+LayerLaw = (d : Linked) (op : Op) (a b : Reading) (cell : ℕ) (places flat zone calm local : List
+    Rect) → IsSound d → IsReached (plain d) cell → HaveZones d (Binary op a b) cell
+    → AreParts d (Binary op a b) cell places flat zone calm → IsCanonical local → ((q : Square)
+    → covers local q ≡ ((covers flat q && not (covers zone q)) && not (covers calm q)))
     → IsLocalLayer (plain d) (Binary op a b) cell local
 
 -- of an input layer a cell holds its own squares
 abbrev pub InputLayerLaw : Type 0
-InputLayerLaw = (d : Linked) (cell : ℕ) (key : LayerKey) → IsSound d → IsCanonical (own_of (cell_at d cell) key)
+InputLayerLaw = (d : Linked) (cell : ℕ) (key : LayerKey) → IsSound d
+    → IsCanonical (own_of (cell_at d cell) key)
     → IsLocalLayer (plain d) (Input key) cell (own_of (cell_at d cell) key)

@@ -1,3 +1,4 @@
+//! Laws on layers, each the contract of a function that does nothing.
 ghost use Rattle.layer_phase.specs.Bridge.{KeptLaw};
 ghost use Rattle.layer_phase.specs.Parts.{InputLayerLaw, LayerLaw};
 

@@ -1,8 +1,12 @@
 //! The squares that each cell holds itself.
 #![tactic(auto)]
 
+mod flats;
 mod laws;
+mod layers;
+mod looks;
 mod parts;
+mod phase;
 
 pub use laws::{kept_law, layer_law};
-pub use parts::{calm_pieces, calm_squares, input_squares, local_squares};
+pub use phase::LayerPhase;

@@ -1,4 +1,4 @@
-// The parts of which a cell's layers are made.
+//! The parts of which a cell's layers are made.
 ghost use Rattle.std.specs.Prelude.{◌≡◌, ◌↔◌, ◌<◌, ◌^◌, ◌&&◌, not, ℕ, IfOk, OnOk, true, length, List};
 ghost use Rattle.std.specs.List.{All};
 ghost use Rattle.geo_base.specs.Rects.{IsRect, has};
@@ -21,7 +21,8 @@ use geo_base::{LayerKey, Op, Rect};
 use rect_sets::{RectSet, Rule, combine_rects};
 use std::alloc::{AllocError, Global};
 
-/// The flat squares of a cell on an input layer among the squares that are looked at: one walk for each rectangle of these.
+/// The flat squares of a cell on an input layer among the squares that are looked at: one walk for
+/// each rectangle of these.
 pub fn input_squares(
     alloc: Global,
     design: &Design,
@@ -31,7 +32,8 @@ pub fn input_squares(
 ) -> Result<RectSet, AllocError>
     requires cell { cell < length design.now.cells }
     requires near { AreNear places.now }
-    ensures { IfOk result (λ r. (q : Square) → (covers r q ≡ true) ↔ ((covers places.now q ≡ true) × InFlatInput (plain design.now) cell key q)) }
+    ensures { IfOk result (λ r. (q : Square) → (covers r q ≡ true)
+        ↔ ((covers places.now q ≡ true) × InFlatInput (plain design.now) cell key q)) }
 {
     design.sound();
     let mut out = Vec::new(alloc);
@@ -47,14 +49,16 @@ pub fn input_squares(
 fn calm_part(alloc: Global, zones: &Zones, visit: &Visit, name: u32) -> Result<RectSet, AllocError>
     requires window { IsRect visit.now.window }
     requires entry { HasEntry zones.now visit.now.cell name }
-    ensures { IfOk result (λ r. (v : List Rect) → IsZoneAt zones.now visit.now.cell name v → (s : Square) → covers r s ≡ (has visit.now.window s && not (covers v s))) }
+    ensures { IfOk result (λ r. (v : List Rect) → IsZoneAt zones.now visit.now.cell name v
+        → (s : Square) → covers r s ≡ (has visit.now.window s && not (covers v s))) }
 {
     let zone = zones.disturbed(visit.cell, ZoneKey::Layer(name));
     let keep = combine_rects(alloc, &[visit.window], zone.rects(), Rule::Not)?;
     Ok(keep)
 }
 
-/// What the placed cells keep of a name's flat squares in a window: the parts of their hulls that aren't disturbed.
+/// What the placed cells keep of a name's flat squares in a window: the parts of their hulls that
+/// aren't disturbed.
 pub fn calm_pieces(
     alloc: Global,
     design: &Design,
@@ -67,7 +71,8 @@ pub fn calm_pieces(
     requires window { IsRectWithin (2 ^ 39) window.now }
     requires entries { HaveEntries design.now zones.now cell name }
     ensures pieces { IfOk result (λ r. All (IsPiece window.now) r.items) }
-    ensures exact { IfOk result (λ r. (q : Square) → (covers r.items q ≡ true) ↔ ((has window.now q ≡ true) × IsKeptBy design.now zones.now cell name q)) }
+    ensures exact { IfOk result (λ r. (q : Square) → (covers r.items q ≡ true)
+        ↔ ((has window.now q ≡ true) × IsKeptBy design.now zones.now cell name q)) }
 {
     design.sound();
     let mut out = Vec::new(alloc);
@@ -91,7 +96,8 @@ pub fn calm_squares(
     requires cell { cell < length design.now.cells }
     requires near { AreNear places.now }
     requires entries { HaveEntries design.now zones.now cell name }
-    ensures { IfOk result (λ r. (q : Square) → (covers r q ≡ true) ↔ ((covers places.now q ≡ true) × IsKeptBy design.now zones.now cell name q)) }
+    ensures { IfOk result (λ r. (q : Square) → (covers r q ≡ true)
+        ↔ ((covers places.now q ≡ true) × IsKeptBy design.now zones.now cell name q)) }
 {
     let mut out = Vec::new(alloc);
     for rect in places.rects() {
@@ -109,7 +115,8 @@ pub fn local_squares(
     zone: &RectSet,
     calm: &RectSet,
 ) -> Result<RectSet, AllocError>
-    ensures { IfOk result (λ r. (q : Square) → covers r q ≡ ((covers flat.now q && not (covers zone.now q)) && not (covers calm.now q))) }
+    ensures { IfOk result (λ r. (q : Square)
+        → covers r q ≡ ((covers flat.now q && not (covers zone.now q)) && not (covers calm.now q))) }
 {
     let undisturbed = combine(alloc, flat, zone, Op::Not)?;
     let local = combine(alloc, &undisturbed, calm, Op::Not)?;

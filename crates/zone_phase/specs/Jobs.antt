@@ -19,7 +19,8 @@ zone_in (Some v) name = get_or v.layers.items name []
 
 -- the entry has the name's squares, and these are the cell's
 abbrev pub IsEntry : Linked → LayerKey → ℕ → ℕ → CellZones → Type 0
-IsEntry d key name cell v = (name < length v.layers.items) × IsFramedZone d (key ∷ []) cell (get_or v.layers.items name [])
+IsEntry d key name cell v = (name < length v.layers.items)
+    × IsFramedZone d (key ∷ []) cell (get_or v.layers.items name [])
 
 -- the entries of the references' jobs have the name's squares
 abbrev pub HaveEntries : Linked → (ℕ → Option CellZones) → LayerKey → ℕ → List Use → Type 0
@@ -30,8 +31,10 @@ HaveEntries d value key name uses = (k : ℕ) (u : Use) → slice_get uses k ≡
 abbrev pub MayRead : (ℕ → Type 0) → List Use → Type 0
 MayRead may uses = (k : ℕ) (u : Use) → slice_get uses k ≡ Some u → may u.job
 
--- the reference brings q, a square of the grown hull, onto its parent's disturbed squares, or onto shapes beside it
-pub record IsFromUse (d : Linked) (zone : List Rect) (cell : ℕ) (key : LayerKey) (g : Rect) (q : Square) (u : Use) : Type 0 where
+-- the reference brings q, a square of the grown hull, onto its parent's disturbed squares, or onto
+-- shapes beside it
+pub record IsFromUse (d : Linked) (zone : List Rect) (cell : ℕ) (key : LayerKey) (g : Rect) (q :
+    Square) (u : Use) : Type 0 where
   pub row : ℕ
   pub column : ℕ
   pub from : Place
@@ -41,7 +44,9 @@ pub record IsFromUse (d : Linked) (zone : List Rect) (cell : ℕ) (key : LayerKe
   pub why : Why zone d (downward_cell d u.job) u.index key from row column q
 
 -- one of the first references brings q
-pub record IsFromUses (d : Linked) (value : ℕ → Option CellZones) (name cell : ℕ) (key : LayerKey) (g : Rect) (uses : List Use) (bound : ℕ) (q : Square) : Type 0 where
+pub record IsFromUses (d : Linked) (value : ℕ
+    → Option CellZones) (name cell : ℕ) (key : LayerKey) (g : Rect) (uses : List Use) (bound : ℕ)
+    (q : Square) : Type 0 where
   pub at : ℕ
   pub found : Use
   pub at_in : at < bound

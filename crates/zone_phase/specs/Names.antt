@@ -14,7 +14,8 @@ use Rattle.zone_phase.specs.Jobs.{HaveEntries}
 
 -- each tree's set is the cell's disturbed squares for what it reads; past the end both are empty
 abbrev pub AreNameZones : Linked → ℕ → List Reading → List (List Rect) → Type 0
-AreNameZones d cell trees sets = (k : ℕ) → IsFramedZone d (inputs (get_or trees k Empty)) cell (get_or sets k [])
+AreNameZones d cell trees sets = (k : ℕ)
+    → IsFramedZone d (inputs (get_or trees k Empty)) cell (get_or sets k [])
 
 -- where the name is an input layer, the entries of the references' jobs have its squares
 abbrev pub HaveForm : Linked → (ℕ → Option CellZones) → ℕ → List Use → LayerForm → Type 0
@@ -23,16 +24,20 @@ HaveForm d value name uses _ = Unit {0}
 
 -- the same of all input layers
 abbrev pub HaveInputs : Linked → (ℕ → Option CellZones) → List Reading → List Use → Type 0
-HaveInputs d value trees uses = (name : ℕ) (key : LayerKey) → slice_get trees name ≡ Some (Input key)
+HaveInputs d value trees uses = (name : ℕ) (key : LayerKey)
+    → slice_get trees name ≡ Some (Input key)
     → HaveEntries d value key name uses
 
 -- the input layers that the six layers of a device rule read
 abbrev pub mos_inputs : List Reading → MosRule → List LayerKey
 mos_inputs trees m =
-    inputs (get_or trees m.sd Empty) ++ (inputs (get_or trees m.g Empty) ++ (inputs (get_or trees m.w Empty)
-    ++ (inputs (get_or trees m.ts Empty) ++ (inputs (get_or trees m.tg Empty) ++ inputs (get_or trees m.tb Empty)))))
+    inputs (get_or trees m.sd Empty) ++ (inputs (get_or trees m.g Empty) ++ (inputs (get_or trees
+    m.w Empty)
+    ++ (inputs (get_or trees m.ts Empty) ++ (inputs (get_or trees m.tg Empty) ++ inputs (get_or
+    trees m.tb Empty)))))
 
 -- each device rule's set is the cell's disturbed squares for what its layers read
 abbrev pub AreMosZones : Linked → ℕ → List Reading → List MosRule → List (List Rect) → Type 0
-AreMosZones d cell trees rules sets = (k : ℕ) (m : MosRule) (set : List Rect) → slice_get rules k ≡ Some m
+AreMosZones d cell trees rules sets = (k : ℕ) (m : MosRule) (set : List Rect)
+    → slice_get rules k ≡ Some m
     → slice_get sets k ≡ Some set → IsFramedZone d (mos_inputs trees m) cell set

@@ -25,7 +25,8 @@ abbrev pub IsPulled : Place → Rect → Rect → List Rect → Square → Type 
 IsPulled p hull rect old q = (covers old q ≡ true) ⊎ IsTaken p hull rect q
 
 -- an element of the array for which this holds of q, a square of the hull
-pub record IsSome (p : Place) (hull : Rect) (P : ℕ → ℕ → Square → Type 0) (q : Square) : Type 0 where
+pub record IsSome (p : Place) (hull : Rect) (P : ℕ → ℕ → Square
+    → Type 0) (q : Square) : Type 0 where
   pub row : ℕ
   pub column : ℕ
   pub row_in : row < p.rows
@@ -35,7 +36,8 @@ pub record IsSome (p : Place) (hull : Rect) (P : ℕ → ℕ → Square → Type
 
 -- a list of rectangles grew by the squares of the hull for which this holds of some element
 abbrev pub Adds : Place → Rect → (ℕ → ℕ → Square → Type 0) → List Rect → List Rect → Type 0
-Adds p hull P old new = (q : Square) → (covers new q ≡ true) ↔ ((covers old q ≡ true) ⊎ IsSome p hull P q)
+Adds p hull P old new = (q : Square) → (covers new q ≡ true) ↔ ((covers old q ≡ true)
+    ⊎ IsSome p hull P q)
 
 -- the element takes q onto the rectangles
 abbrev pub OnRects : Place → List Rect → ℕ → ℕ → Square → Type 0
@@ -43,16 +45,20 @@ OnRects p rects row column q = covers rects (moved_square (motion_at p row colum
 
 -- the element takes q onto what stands beside the array in the parent
 abbrev pub Beside : Linked → ℕ → ℕ → LayerKey → Place → ℕ → ℕ → Square → Type 0
-Beside d parent index key p row column q = IsOver d parent (Some index) key (moved_square (motion_at p row column) q)
+Beside d parent index key p row column q = IsOver d parent (Some index) key (moved_square
+    (motion_at p row column) q)
 
 -- the same in windows of the parent
 abbrev pub BesideIn : List Rect → Linked → ℕ → ℕ → LayerKey → Place → ℕ → ℕ → Square → Type 0
-BesideIn windows d parent index key p row column q = OnRects p windows row column q × Beside d parent index key p row column q
+BesideIn windows d parent index key p row column q = OnRects p windows row column q
+    × Beside d parent index key p row column q
 
 -- the windows hold the images of the hull
 abbrev pub AreCovering : Place → Rect → List Rect → Type 0
-AreCovering p hull windows = (row column : ℕ) (q : Square) → row < p.rows → column < p.columns → has hull q ≡ true → OnRects p windows row column q
+AreCovering p hull windows = (row column : ℕ) (q : Square) → row < p.rows → column < p.columns
+    → has hull q ≡ true → OnRects p windows row column q
 
 -- the element takes q onto the parent's disturbed squares, or onto shapes beside it
 abbrev pub Why : List Rect → Linked → ℕ → ℕ → LayerKey → Place → ℕ → ℕ → Square → Type 0
-Why zone d parent index key p row column q = OnRects p zone row column q ⊎ (Beside d parent index key p row column q ⊎ IsFromSibling d p row column key q)
+Why zone d parent index key p row column q = OnRects p zone row column q
+    ⊎ (Beside d parent index key p row column q ⊎ IsFromSibling d p row column key q)

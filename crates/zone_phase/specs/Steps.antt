@@ -14,11 +14,15 @@ use Rattle.deep_tables.specs.Frames.{IsFramedZone, IsInGrown}
 
 -- a placed cell's grown hull comes to lie in the grown hull of the cell that places it
 abbrev pub GrownLaw : Type 0
-GrownLaw = (d : Linked) (cell i row column : ℕ) (p : Place) (q : Square) → IsSound d → IsStep d cell i row column p
-    → IsInGrown (hull_of (cell_at d p.cell)) q → IsInGrown (hull_of (cell_at d cell)) (moved_square (motion_at p row column) q)
+GrownLaw = (d : Linked) (cell i row column : ℕ) (p : Place) (q : Square) → IsSound d
+    → IsStep d cell i row column p
+    → IsInGrown (hull_of (cell_at d p.cell)) q
+    → IsInGrown (hull_of (cell_at d cell)) (moved_square (motion_at p row column) q)
 
--- a reference of a reached parent brings q onto the parent's disturbed squares, or onto shapes beside it
-pub record IsBrought (d : Linked) (zones : ℕ → List Rect) (cell : ℕ) (key : LayerKey) (q : Square) : Type 0 where
+-- a reference of a reached parent brings q onto the parent's disturbed squares, or onto shapes
+-- beside it
+pub record IsBrought (d : Linked) (zones : ℕ
+    → List Rect) (cell : ℕ) (key : LayerKey) (q : Square) : Type 0 where
   pub parent : ℕ
   pub index : ℕ
   pub row : ℕ
@@ -28,11 +32,17 @@ pub record IsBrought (d : Linked) (zones : ℕ → List Rect) (cell : ℕ) (key 
   pub step : IsStep d parent index row column from
   pub here : from.cell ≡ cell
   pub why : (covers (zones parent) (moved_square (motion_at from row column) q) ≡ true)
-      ⊎ (IsOver d parent (Some index) key (moved_square (motion_at from row column) q) ⊎ IsFromSibling d from row column key q)
+      ⊎ (IsOver d parent (Some index) key (moved_square (motion_at from row column) q)
+      ⊎ IsFromSibling d from row column key q)
 
--- where each reached parent has its disturbed squares, the cell has those that its parents' references bring into its grown hull
+-- where each reached parent has its disturbed squares, the cell has those that its parents'
+-- references bring into its grown hull
 abbrev pub ZoneStepLaw : Type 0
-ZoneStepLaw = (d : Linked) (zones : ℕ → List Rect) (cell : ℕ) (key : LayerKey) (zone : List Rect) → IsSound d
-    → ((parent i row column : ℕ) (p : Place) → IsReached (plain d) parent → IsStep d parent i row column p → p.cell ≡ cell → IsFramedZone d (key ∷ []) parent (zones parent))
-    → ((q : Square) → (covers zone q ≡ true) ↔ (IsBrought d zones cell key q × IsInGrown (hull_of (cell_at d cell)) q))
+ZoneStepLaw = (d : Linked) (zones : ℕ
+    → List Rect) (cell : ℕ) (key : LayerKey) (zone : List Rect) → IsSound d
+    → ((parent i row column : ℕ) (p : Place) → IsReached (plain d) parent
+    → IsStep d parent i row column p → p.cell ≡ cell
+    → IsFramedZone d (key ∷ []) parent (zones parent))
+    → ((q : Square) → (covers zone q ≡ true) ↔ (IsBrought d zones cell key q
+    × IsInGrown (hull_of (cell_at d cell)) q))
     → IsFramedZone d (key ∷ []) cell zone

@@ -31,7 +31,8 @@ pub record HasUse (uses : List Use) (j i : ℕ) : Type 0 where
 
 -- jobs don't descend along the list
 abbrev pub AreRising : List Use → Type 0
-AreRising uses = (j k : ℕ) (u v : Use) → j < k → slice_get uses j ≡ Some u → slice_get uses k ≡ Some v
+AreRising uses = (j k : ℕ) (u v : Use) → j < k → slice_get uses j ≡ Some u
+    → slice_get uses k ≡ Some v
     → u.job ≤ v.job
 
 -- for each cell of the design, the references of reached cells to it
@@ -39,7 +40,8 @@ pub record AreUses (d : Linked) (lists : List (List Use)) : Type 0 where
   pub count : length lists ≡ length d.cells
   pub each : (cell k : ℕ) (u : Use) → slice_get (uses_of lists cell) k ≡ Some u → IsUse d cell u
   pub all : (j i : ℕ) (p : Place) → j < length d.order
-      → slice_get (places_at (cell_at d (downward_cell d j))) i ≡ Some p → HasUse (uses_of lists p.cell) j i
+      → slice_get (places_at (cell_at d (downward_cell d j))) i ≡ Some p
+      → HasUse (uses_of lists p.cell) j i
   pub rising : (cell : ℕ) → AreRising (uses_of lists cell)
 
 -- in an earlier job, or earlier in the same
@@ -52,7 +54,8 @@ pub record AreUsesTo (d : Linked) (lists : List (List Use)) (job index : ℕ) : 
   pub each : (cell k : ℕ) (u : Use) → slice_get (uses_of lists cell) k ≡ Some u
       → IsUse d cell u × IsBefore u.job u.index job index
   pub all : (j i : ℕ) (p : Place) → IsBefore j i job index
-      → slice_get (places_at (cell_at d (downward_cell d j))) i ≡ Some p → HasUse (uses_of lists p.cell) j i
+      → slice_get (places_at (cell_at d (downward_cell d j))) i ≡ Some p
+      → HasUse (uses_of lists p.cell) j i
   pub rising : (cell : ℕ) → AreRising (uses_of lists cell)
 
 -- a reference was put behind the others to its cell

@@ -1,4 +1,4 @@
-// Squares of a cell that elements of an array take onto what stands in the parent.
+//! Squares of a cell that elements of an array take onto what stands in the parent.
 ghost use Rattle.std.specs.Prelude.{◌≡◌, ◌<◌, ◌^◌, length, Some, OnOk, slice_get};
 ghost use Rattle.std.specs.List.{All};
 ghost use Rattle.geo_base.specs.Rects.{IsRect};
@@ -26,7 +26,8 @@ pub fn push_onto(
     requires within { All (IsRectWithin (2 ^ 39)) rects.now }
     requires rects { All IsRect out.old.items }
     ensures rects { OnOk result (All IsRect out.new.items) }
-    ensures exact { OnOk result (Adds place.now hull.now (OnRects place.now rects.now) out.old.items out.new.items) }
+    ensures exact { OnOk result (Adds place.now hull.now (OnRects place.now rects.now)
+        out.old.items out.new.items) }
 {
     for rect in rects {
         push_pulled(alloc, out, place, hull, rect)?;
@@ -34,7 +35,8 @@ pub fn push_onto(
     Ok(())
 }
 
-// Adds the squares of a hull that some element takes, in windows of the parent, onto shapes beside the array.
+// Adds the squares of a hull that some element takes, in windows of the parent, onto shapes beside
+// the array.
 pub fn push_beside(
     alloc: Global,
     out: &mut Vec<Rect>,
@@ -53,7 +55,8 @@ pub fn push_beside(
     requires within { All (IsRectWithin (2 ^ 39)) windows.now }
     requires rects { All IsRect out.old.items }
     ensures rects { OnOk result (All IsRect out.new.items) }
-    ensures exact { OnOk result (Adds place.now hull.now (BesideIn windows.now design.now parent index key place.now) out.old.items out.new.items) }
+    ensures exact { OnOk result (Adds place.now hull.now (BesideIn windows.now design.now parent
+        index key place.now) out.old.items out.new.items) }
 {
     for window in windows {
         let rects = gather(alloc, design, parent, key, window, Some(index))?;

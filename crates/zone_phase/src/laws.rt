@@ -1,3 +1,4 @@
+//! Laws on disturbed squares, each the contract of a function that does nothing.
 ghost use Rattle.zone_phase.specs.Siblings.{SiblingLaw};
 ghost use Rattle.zone_phase.specs.Steps.{GrownLaw, ZoneStepLaw};
 

@@ -22,7 +22,8 @@ use std::alloc::{AllocError, Global};
 
 // The union for two names.
 fn two_zones(alloc: Global, sets: &[RectSet], a: u32, b: u32) -> Result<RectSet, AllocError>
-    ensures { IfOk result (λ r. (d : Linked) (cell : ℕ) (trees : List Reading) → AreNameZones d cell trees sets.now
+    ensures { IfOk result (λ r. (d : Linked) (cell : ℕ) (trees : List Reading)
+        → AreNameZones d cell trees sets.now
         → IsFramedZone d (inputs (get_or trees a Empty) ++ inputs (get_or trees b Empty)) cell r) }
 {
     let none = RectSet::empty(alloc);
@@ -45,7 +46,8 @@ fn form_zone<R: Reads<CellZones>>(
     requires uses { AreUsesOf design.now cell uses.now }
     requires may { MayRead (R.may_read reads.now) uses.now }
     requires entries { HaveForm design.now (R.value reads.now) name uses.now form }
-    ensures { IfOk result (λ r. (trees : List Reading) → AreNameZones design.now cell trees before.now
+    ensures { IfOk result (λ r. (trees : List Reading)
+        → AreNameZones design.now cell trees before.now
         → IsFramedZone design.now (inputs (reading_by trees form)) cell r) }
 {
     match form {

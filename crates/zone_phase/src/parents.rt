@@ -13,7 +13,8 @@ use std::alloc::{AllocError, Global};
 fn push_job(jobs: &mut Vec<u32>, job: u32) -> Result<(), AllocError>
     requires { AreAscending 0 jobs.old.items (job + 1) }
     ensures ascend { OnOk result (AreAscending 0 jobs.new.items (job + 1)) }
-    ensures all { OnOk result ((i : ℕ) → has i jobs.new.items ≡ (has i jobs.old.items || (i == job))) }
+    ensures all { OnOk result ((i : ℕ)
+        → has i jobs.new.items ≡ (has i jobs.old.items || (i == job))) }
 {
     let count = jobs.len();
     if count == 0 || jobs[count - 1] != job {

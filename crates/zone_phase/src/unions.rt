@@ -11,11 +11,13 @@ use geo_base::Op;
 use rect_sets::RectSet;
 use std::alloc::{AllocError, Global};
 
-/// The union of disturbed squares for two lists of layers: those of a name that reads two others, or
+/// The union of disturbed squares for two lists of layers: those of a name that reads two others,
+/// or
 /// of a device rule.
 pub fn both_zones(alloc: Global, a: &RectSet, b: &RectSet) -> Result<RectSet, AllocError>
     ensures { IfOk result (λ r. (d : Linked) (xs ys : List LayerKey) (cell : ℕ)
-        → IsFramedZone d xs cell a.now → IsFramedZone d ys cell b.now → IsFramedZone d (xs ++ ys) cell r) }
+        → IsFramedZone d xs cell a.now → IsFramedZone d ys cell b.now
+        → IsFramedZone d (xs ++ ys) cell r) }
 {
     let set = combine(alloc, a, b, Op::Or)?;
     Ok(set)

@@ -42,7 +42,8 @@ fn push_use<R: Reads<CellZones>>(
     requires rects { All IsRect out.old.items }
     ensures rects { OnOk result (All IsRect out.new.items) }
     ensures exact { OnOk result ((q : Square) → (covers out.new.items q ≡ true)
-        ↔ ((covers out.old.items q ≡ true) ⊎ IsFromUse design.now (zone_in (R.value reads.now found.now.job) name)
+        ↔ ((covers out.old.items q ≡ true)
+        ⊎ IsFromUse design.now (zone_in (R.value reads.now found.now.job) name)
         cell key grown.now q found.now)) }
 {
     design.sound();
@@ -85,7 +86,8 @@ fn push_uses<R: Reads<CellZones>>(
     requires rects { All IsRect out.old.items }
     ensures rects { OnOk result (All IsRect out.new.items) }
     ensures exact { OnOk result ((q : Square) → (covers out.new.items q ≡ true)
-        ↔ ((covers out.old.items q ≡ true) ⊎ IsFromUses design.now (R.value reads.now) name cell key grown.now
+        ↔ ((covers out.old.items q ≡ true)
+        ⊎ IsFromUses design.now (R.value reads.now) name cell key grown.now
         uses.now (length uses.now) q)) }
 {
     for found in uses {

@@ -1,0 +1,88 @@
+-- A derived layer of a cell, from what is looked at.
+use Rattle.std.proofs.Common.{◌≡◌, ◌↔◌, inl, inr, ℕ, true, not, ◌&&◌, List, [], ◌∷◌, Option, Some, refl, sym, ◌∙◌, ap, subst, slice_get}
+use Rattle.geo_base.specs.Motions.{moved_square}
+use Rattle.geo_base.specs.declared.layer.LayerKey.{LayerKey}
+use Rattle.geo_base.specs.declared.layer.Op.{Op}
+use Rattle.geo_base.specs.declared.shapes.Rect.{Rect}
+use Rattle.geo_base.specs.declared.shapes.Square.{Square}
+use Rattle.rect_sets.specs.Rects.{covers, IsCanonical}
+use Rattle.flat_layout.specs.Layers.{Reading, Binary, inputs}
+use Rattle.flat_layout.specs.Layout as flat
+use Rattle.flat_layout.specs.Layout.{IsDisturbed, IsOwn, IsReached, Some_of}
+use Rattle.flat_layout.specs.Values.{IsLocalLayer}
+use Rattle.flat_laws.proofs.Cover.{reached_below}
+use Rattle.cell_graph.specs.Linked.{Linked, IsSound, HullHas, cell_at, hull_of, motion_at, plain}
+use Rattle.cell_graph.proofs.Bridge.{hulls, own, step_of}
+use Rattle.deep_laws.specs.Layers.{IsFromDisturbed, IsOwnOn}
+use Rattle.rule_text.specs.Rules.{Rules}
+use Rattle.rule_layers.specs.Readings.{readings}
+use Rattle.deep_tables.specs.declared.zones.CellZones.{CellZones}
+use Rattle.deep_tables.specs.Frames.{IsFramedZone}
+use Rattle.deep_tables.proofs.Framing.{framed}
+use Rattle.deep_tables.proofs.Reading.{zone_at}
+use Rattle.layer_phase.specs.Bridge.{TellsKept}
+use Rattle.layer_phase.specs.Keeps.{IsKeptBy, IsZoneAt}
+use Rattle.layer_phase.specs.Looks.{AreLooks}
+use Rattle.layer_phase.specs.Names.{IsFlatIn, IsReady}
+use Rattle.layer_phase.specs.Parts.{AreParts}
+use Rattle.layer_phase.proofs.Assembly.{in_grown, layer}
+use Rattle.layer_phase.proofs.Flattening.{known, named}
+use Rattle.layer_phase.proofs.Telling.{kept}
+
+one_zone : (o : Option (List Rect)) (v w : List Rect) → o ≡ Some v → o ≡ Some w → v ≡ w
+one_zone o v w h g = let e : Some v ≡ Some w = sym h ∙ g in cc
+
+-- what the table of disturbed squares tells of a name
+pub tells : (d : Linked) (r : Rules) (z : List (Option CellZones)) (cell name : ℕ) (x : Reading) → IsSound d → IsReady d r z cell → slice_get (readings r.names) name ≡ Some x → TellsKept d z x cell name
+tells d r z cell name x sound ready at = kept d r z x cell name sound ready.hulls ready.zones ready.reached at
+
+some_key : (d : Linked) (cell : ℕ) (q : Square) (keys : List LayerKey) → IsOwnOn (plain d) keys cell q → (key : LayerKey) × Some_of (λ k. k ≡ key) keys × IsOwn (plain d) cell key q
+some_key d cell q [] h = absurd h
+some_key d cell q (k ∷ keys) (inl h) = (k, inl refl, h)
+some_key d cell q (k ∷ keys) (inr h) = let r = some_key d cell q keys h in (r.0, inr r.1, r.2)
+
+module _ (d : Linked) (r : Rules) (z : List (Option CellZones)) (cell name : ℕ) (op : Op) (a b : Reading) (looks flats zone calm : List Rect) (sound : IsSound d) (ready : IsReady d r z cell)
+    (at : slice_get (readings r.names) name ≡ Some (Binary op a b)) (seen : AreLooks d z r.names cell looks) (flat_in : IsFlatIn d cell looks (Binary op a b) flats)
+    (entry : IsZoneAt z cell name zone) (keeps : (q : Square) → (covers calm q ≡ true) ↔ ((covers looks q ≡ true) × IsKeptBy d z cell name q)) where
+  own_seen : (q : Square) → IsOwnOn (plain d) (inputs (Binary op a b)) cell q → covers looks q ≡ true
+  own_seen q h =
+      let k = some_key d cell q (inputs (Binary op a b)) h in
+      let j = known r.names name (Binary op a b) k.0 at k.1 in
+      seen.own j.0 k.0 q j.1 ((own d sound cell k.0 q).0 k.2)
+
+  disturbed_seen : (q : Square) → IsFromDisturbed (plain d) (inputs (Binary op a b)) cell q → covers looks q ≡ true
+  disturbed_seen q h =
+      let t = step_of d cell h.number h.place h.placed in
+      let e = h.disturbed in
+      let key = e.key in
+      let j = known r.names name (Binary op a b) key at e.listed in
+      let reached = reached_below (plain d) cell h.number h.place ready.reached h.placed in
+      let there = zone_at (plain d) r z h.place.cell j.0 _ ready.zones reached (named r.names j.0 key j.1) in
+      let held : HullHas (hull_of (cell_at d h.place.cell)) h.square = hulls d sound h.place.cell h.key h.square h.flat in
+      let one : IsDisturbed (plain d) (key ∷ []) h.place.cell h.square = record { path = e.path; other = e.other; end = e.end; square = e.square; place = e.place; key = key; listed = inl refl; takes = e.takes; others = e.others; own = e.own; apart = e.apart } in
+      let frame = (framed d (key ∷ []) h.place.cell there.0 (ready.hulls h.place.cell reached) there.2.canonical).0 there.2 in
+      let covered = (frame h.square).1 (one, in_grown (hull_of (cell_at d h.place.cell)) h.square held) in
+      let image : moved_square (motion_at t.from t.row t.column) h.square ≡ q = ap (λ (y : flat.Place). moved_square y.motion h.square) (sym t.is) ∙ h.image in
+      subst (λ s. covers looks s ≡ true) image
+      (seen.below t.index t.from t.step.there j.0 key there.0 t.row t.column h.square j.1
+      (subst (λ (y : flat.Place). IsZoneAt z y.cell j.0 there.0) t.is there.1) t.step.row_in t.step.column_in
+      (subst (λ (y : flat.Place). HullHas (hull_of (cell_at d y.cell)) h.square) t.is held) covered)
+
+  framed_zone : IsFramedZone d (inputs (Binary op a b)) cell zone
+  framed_zone =
+      let h = zone_at (plain d) r z cell name (Binary op a b) ready.zones ready.reached at in
+      let same = one_zone _ h.0 zone h.1 entry in
+      let frame = (framed d (inputs (Binary op a b)) cell h.0 (ready.hulls cell ready.reached) h.2.canonical).0 h.2 in
+      subst (IsFramedZone d (inputs (Binary op a b)) cell) same frame
+
+  parts : AreParts d (Binary op a b) cell looks flats zone calm
+  parts = record {
+    own = own_seen;
+    disturbed = disturbed_seen;
+    flats = flat_in;
+    zones = framed_zone;
+    calms = λ q e. let k = (tells d r z cell name (Binary op a b) sound ready at).kept q in ((λ c. k.0 ((keeps q).0 c).1), (λ h. (keeps q).1 (e, k.1 h)));
+  }
+
+  pub derived : (local : List Rect) → IsCanonical local → ((q : Square) → covers local q ≡ ((covers flats q && not (covers zone q)) && not (covers calm q))) → IsLocalLayer (plain d) (Binary op a b) cell local
+  derived local canonical made = layer d op a b cell looks flats zone calm local sound ready.reached (tells d r z cell name (Binary op a b) sound ready at).zones parts canonical made

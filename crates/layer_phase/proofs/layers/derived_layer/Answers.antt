@@ -1,0 +1,28 @@
+use Rattle.std.proofs.Common.{◌≡◌, Some, IsSome, Option, refl, sym, subst}
+use Rattle.std.proofs.lemmas.Option.{slice_get-get_or}
+use Rattle.cell_graph.specs.Linked.{plain}
+use Rattle.flat_layout.specs.Layers.{Empty}
+use Rattle.rule_layers.specs.Readings.{readings}
+use Rattle.rule_text.specs.Seen.{rules_seen}
+use Rattle.deep_tables.proofs.Reading.{zone_at}
+use Rattle.layer_phase.proofs.Deriving.{derived, tells}
+use Rattle.layer_phase.proofs.layers.derived_layer.Goals as goal
+
+some_is : {A : Type 0} (o : Option A) (x : A) → o ≡ Some x → IsSome o
+some_is o x e = subst IsSome (sym e) refl
+
+pub calm_squares-requires-clause-entries : goal.calm_squares-requires-clause-entries
+calm_squares-requires-clause-entries c =
+    let r = rules_seen c.args.rules.now in
+    (tells c.args.design.now r c.args.zones.now c.args.cell c.args.name _ c.sound.ensures c.requires.ready (slice_get-get_or (readings r.names) c.args.name Empty c.requires.name)).entries
+
+pub disturbed-zone-requires : goal.disturbed-zone-requires
+disturbed-zone-requires c =
+    let r = rules_seen c.args.rules.now in
+    let h = zone_at (plain c.args.design.now) r c.args.zones.now c.args.cell c.args.name _ c.requires.ready.zones c.requires.ready.reached (slice_get-get_or (readings r.names) c.args.name Empty c.requires.name) in
+    some_is _ h.0 h.1
+
+pub returns : goal.returns
+returns c = λ op a b at flat_in.
+    derived c.args.design.now (rules_seen c.args.rules.now) c.args.zones.now c.args.cell c.args.name op a b c.args.looks.now c.args.flat.now c.disturbed-zone.result.now c.in_ok-calm.calm
+    c.sound.ensures c.requires.ready at c.requires.looks flat_in c.disturbed-zone.ensures c.in_ok-calm.ensures c.in_ok-local.local c.rects-canonical.ensures.canonical c.in_ok-local.ensures

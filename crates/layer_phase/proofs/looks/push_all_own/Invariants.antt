@@ -1,0 +1,13 @@
+use Rattle.std.specs.List.{All}
+use Rattle.geo_base.specs.Rects.{IsRect}
+use Rattle.cell_graph.specs.Linked.{cell_at, hull_of}
+use Rattle.layer_phase.specs.Looks.{AreHeld, BringsOwn, Grows}
+use Rattle.layer_phase.proofs.looks.push_all_own.Given as goal
+
+abbrev pub invariant-loop-rule : goal.invariant-loop-rule
+invariant-loop-rule l = record {
+  rects : All IsRect l.out.items;
+  held : AreHeld (hull_of (cell_at l.design l.cell)) l.out.items;
+  grows : Grows l.fn.out.items l.out.items;
+  brings : BringsOwn l.design l.cell l.names l.rule-index l.out.items;
+}

@@ -1,0 +1,29 @@
+-- What a phase of layers is made from.
+use Rattle.std.specs.Prelude.{◌≡◌, ◌<◌, ◌^◌, ℕ, List, length}
+use Rattle.job_graph.specs.Graph.{Waits}
+use Rattle.cell_graph.specs.Linked.{Linked, plain}
+use Rattle.deep_tables.specs.Frames.{HasHulls}
+use Rattle.deep_tables.specs.Zones.{AreZones}
+use Rattle.rule_text.specs.declared.rules.RuleSet.{RuleSet}
+use Rattle.rule_text.specs.Seen.{rules_seen}
+use Rattle.layer_phase.specs.declared.phase.LayerPhase.TheInside.{Inside}
+
+-- the jobs go through the design's order, and wait for none
+pub record AreFreeJobs (d : Linked) (graph : List (List ℕ)) : Type 0 where
+  pub jobs : length graph ≡ length d.order
+  pub waits : (job input : ℕ) → Waits graph job input → ⊥
+
+-- the layout, the rules and the jobs
+pub record LayerJobs : Type 0 where
+  pub design : Linked
+  pub rules : RuleSet
+  pub graph : List (List ℕ)
+
+abbrev pub jobs_seen : Inside → LayerJobs
+jobs_seen a = record { design = a.design.now; rules = a.rules.now; graph = a.graph }
+
+pub record IsLayerPhase (a : Inside) : Type 0 where
+  pub hulls : HasHulls a.design.now
+  pub zones : AreZones (plain a.design.now) (rules_seen a.rules.now) a.zones.now
+  pub few : length a.rules.now.names.items < 2 ^ 32
+  pub graph : AreFreeJobs a.design.now a.graph

@@ -1,0 +1,89 @@
+//! The flat squares of a cell among those that are looked at, for each name of the rules.
+ghost use Rattle.std.specs.Prelude.{◌≡◌, ◌<◌, ℕ, List, [], get_or, length, IfOk};
+ghost use Rattle.cell_graph.specs.Linked.{Linked};
+ghost use Rattle.flat_layout.specs.Layers.{Binary, Empty, Reading};
+ghost use Rattle.geo_base.specs.declared.shapes.Rect.{Rect};
+ghost use Rattle.rule_layers.specs.Readings.{reading_by, readings};
+ghost use Rattle.layer_phase.specs.Looks.{AreNear};
+ghost use Rattle.layer_phase.specs.Names.{AreFlats, IsFlatIn};
+
+use crate::parts::input_squares;
+use cell_graph::Design;
+use edge_boolean::combine;
+use geo_base::Op;
+use rect_sets::RectSet;
+use rule_text::{LayerForm, LayerRule};
+use std::alloc::{AllocError, Global};
+
+// The set of a name, and none past the last.
+fn set_at<'a>(sets: &'a [RectSet], name: u32, none: &'a RectSet) -> &'a RectSet
+    requires { none.now ≡ [] }
+    ensures { result.now ≡ get_or sets.now name [] }
+{
+    sets.get(name as usize).unwrap_or(none)
+}
+
+// The flat squares of a name that reads two others.
+fn two_flats(
+    alloc: Global,
+    before: &[RectSet],
+    op: Op,
+    a: u32,
+    b: u32,
+) -> Result<RectSet, AllocError>
+    ensures { IfOk result (λ r. (d : Linked) (cell : ℕ) (looks : List Rect) (trees : List Reading)
+        → AreFlats d cell looks trees before.now
+        → IsFlatIn d cell looks (Binary op (get_or trees a Empty) (get_or trees b Empty)) r) }
+{
+    let none = RectSet::empty(alloc);
+    let first = set_at(before, a, &none);
+    let second = set_at(before, b, &none);
+    let set = combine(alloc, first, second, op)?;
+    Ok(set)
+}
+
+// A name's flat squares, over those of the names before it.
+fn form_flat(
+    alloc: Global,
+    design: &Design,
+    cell: u32,
+    looks: &RectSet,
+    before: &[RectSet],
+    form: LayerForm,
+) -> Result<RectSet, AllocError>
+    requires cell { cell < length design.now.cells }
+    requires near { AreNear looks.now }
+    ensures { IfOk result (λ r. (trees : List Reading)
+        → AreFlats design.now cell looks.now trees before.now
+        → IsFlatIn design.now cell looks.now (reading_by trees form) r) }
+{
+    match form {
+        LayerForm::Input(key) => input_squares(alloc, design, cell, key, looks),
+        LayerForm::Labels(_) => Ok(RectSet::empty(alloc)),
+        LayerForm::Empty => Ok(RectSet::empty(alloc)),
+        LayerForm::Binary(op, a, b) => two_flats(alloc, before, op, a, b),
+    }
+}
+
+/// The flat squares of a cell among those that are looked at, for each name in the order of the
+/// rules: one walk below the cell for each input layer, and one Boolean for each other name.
+pub fn name_flats(
+    alloc: Global,
+    design: &Design,
+    cell: u32,
+    looks: &RectSet,
+    names: &[LayerRule],
+) -> Result<Vec<RectSet>, AllocError>
+    requires cell { cell < length design.now.cells }
+    requires near { AreNear looks.now }
+    ensures count { IfOk result (λ v. length v.items ≡ length names.now) }
+    ensures flats { IfOk result (λ v. AreFlats design.now cell looks.now (readings names.now)
+        v.items) }
+{
+    let mut flats = Vec::new(alloc);
+    for rule in names {
+        let set = form_flat(alloc, design, cell, looks, &flats, rule.form)?;
+        flats.push(set)?;
+    }
+    Ok(flats)
+}

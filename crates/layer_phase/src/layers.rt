@@ -1,0 +1,136 @@
+//! The squares that a cell holds itself, for each name of the rules.
+ghost use Rattle.std.specs.Prelude.{◌≡◌, ◌<◌, ◌^◌, ℕ, List, Some, length, slice_get, IfOk};
+ghost use Rattle.cell_graph.specs.Linked.{plain};
+ghost use Rattle.flat_layout.specs.Layers.{Binary, Input, Reading};
+ghost use Rattle.flat_layout.specs.Values.{IsLocalLayer};
+ghost use Rattle.geo_base.specs.declared.layer.Op.{Op};
+ghost use Rattle.rule_layers.specs.Readings.{reading_by, readings};
+ghost use Rattle.rule_text.specs.Seen.{rules_seen};
+ghost use Rattle.layer_phase.specs.Looks.{AreLooks};
+ghost use Rattle.layer_phase.specs.Names.{AreLocals, IsFlatIn, IsReady};
+
+use crate::flats::name_flats;
+use crate::looks::looks;
+use crate::parts::{calm_squares, local_squares};
+use cell_graph::Design;
+use deep_tables::{ZoneKey, Zones};
+use geo_base::LayerKey;
+use rect_sets::RectSet;
+use rule_text::{LayerForm, RuleSet};
+use std::alloc::{AllocError, Global};
+
+// Of an input layer a cell holds its own squares.
+fn own_layer(
+    alloc: Global,
+    design: &Design,
+    cell: u32,
+    key: LayerKey,
+) -> Result<RectSet, AllocError>
+    requires { cell < length design.now.cells }
+    ensures { IfOk result (IsLocalLayer (plain design.now) (Input key) cell) }
+{
+    design.sound();
+    let mut rects = Vec::new(alloc);
+    rects.extend_from_slice(design.own(cell, key).rects())?;
+    let set = RectSet::canon(alloc, rects)?;
+    let _canonical = set.rects();
+    Ok(set)
+}
+
+// Of a derived name it holds flat squares that aren't disturbed and that no placed cell keeps.
+fn derived_layer(
+    alloc: Global,
+    design: &Design,
+    rules: &RuleSet,
+    zones: &Zones,
+    cell: u32,
+    name: u32,
+    looks: &RectSet,
+    flat: &RectSet,
+) -> Result<RectSet, AllocError>
+    requires cell { cell < length design.now.cells }
+    requires ready { IsReady design.now (rules_seen rules.now) zones.now cell }
+    requires looks { AreLooks design.now zones.now rules.now.names.items cell looks.now }
+    requires name { name < length (readings rules.now.names.items) }
+    ensures { IfOk result (λ r. (op : Op) (a b : Reading)
+        → slice_get (readings rules.now.names.items) name ≡ Some (Binary op a b)
+        → IsFlatIn design.now cell looks.now (Binary op a b) flat.now
+        → IsLocalLayer (plain design.now) (Binary op a b) cell r) }
+{
+    design.sound();
+    let _ = rules;
+    let calm = calm_squares(alloc, design, zones, cell, name, looks)?;
+    let zone = zones.disturbed(cell, ZoneKey::Layer(name));
+    let local = local_squares(alloc, flat, zone, &calm)?;
+    let _canonical = local.rects();
+    Ok(local)
+}
+
+// The squares of a name that the cell holds itself.
+fn form_layer(
+    alloc: Global,
+    design: &Design,
+    rules: &RuleSet,
+    zones: &Zones,
+    cell: u32,
+    name: u32,
+    form: LayerForm,
+    looks: &RectSet,
+    flat: &RectSet,
+) -> Result<RectSet, AllocError>
+    requires cell { cell < length design.now.cells }
+    requires ready { IsReady design.now (rules_seen rules.now) zones.now cell }
+    requires looks { AreLooks design.now zones.now rules.now.names.items cell looks.now }
+    requires name { name < length (readings rules.now.names.items) }
+    ensures { IfOk result (λ r. (trees : List Reading)
+        → slice_get (readings rules.now.names.items) name ≡ Some (reading_by trees form)
+        → IsFlatIn design.now cell looks.now (reading_by trees form) flat.now
+        → IsLocalLayer (plain design.now) (reading_by trees form) cell r) }
+{
+    match form {
+        LayerForm::Input(key) => own_layer(alloc, design, cell, key),
+        LayerForm::Labels(_) => Ok(RectSet::empty(alloc)),
+        LayerForm::Empty => Ok(RectSet::empty(alloc)),
+        LayerForm::Binary(_, _, _) => {
+            derived_layer(alloc, design, rules, zones, cell, name, looks, flat)
+        }
+    }
+}
+
+/// The squares that a cell holds itself, for each name in the order of the rules. What placed cells
+/// keep is never walked: the work goes with the squares that have to be looked at.
+pub fn name_layers(
+    alloc: Global,
+    design: &Design,
+    rules: &RuleSet,
+    zones: &Zones,
+    cell: u32,
+) -> Result<Vec<RectSet>, AllocError>
+    requires cell { cell < length design.now.cells }
+    requires ready { IsReady design.now (rules_seen rules.now) zones.now cell }
+    ensures count { IfOk result (λ v. length v.items ≡ length (readings rules.now.names.items)) }
+    ensures layers { IfOk result (λ v. AreLocals design.now cell (readings rules.now.names.items)
+        v.items) }
+{
+    design.sound();
+    let names = rules.names.as_slice();
+    let set = looks(alloc, design, zones, cell, names)?;
+    let flats = name_flats(alloc, design, cell, &set, names)?;
+    let mut layers = Vec::new(alloc);
+    for (name, rule) in names.iter().enumerate() {
+        let flat = &flats[name];
+        let layer = form_layer(
+            alloc,
+            design,
+            rules,
+            zones,
+            cell,
+            name as u32,
+            rule.form,
+            &set,
+            flat,
+        )?;
+        layers.push(layer)?;
+    }
+    Ok(layers)
+}

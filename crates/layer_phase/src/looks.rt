@@ -1,0 +1,290 @@
+//! The squares of a cell that have to be looked at: its own shapes, and what is disturbed in the
+//! cells that it places. Everywhere else a placed cell keeps what lies there.
+ghost use Rattle.std.specs.Prelude.{◌≡◌, ◌<◌, ◌^◌, ℕ, length, slice_get, Some, IfOk, OnOk};
+ghost use Rattle.std.specs.List.{All};
+ghost use Rattle.geo_base.specs.Near.{IsNearRect};
+ghost use Rattle.geo_base.specs.Rects.{IsRect};
+ghost use Rattle.geo_base.specs.declared.layer.LayerKey.{LayerKey};
+ghost use Rattle.cell_context.specs.Arrays.{IsNearArray};
+ghost use Rattle.cell_context.specs.Over.{IsPiece};
+ghost use Rattle.cell_graph.specs.Linked.{IsHull, cell_at, hull_of, own_of, places_at};
+ghost use Rattle.cell_graph.specs.declared.cells.Place.{Place};
+ghost use Rattle.rule_text.specs.declared.rules.LayerForm.TheVariants.{Input};
+ghost use Rattle.layer_phase.specs.Keeps.{HasEntry};
+ghost use Rattle.layer_phase.specs.Looks.{AreHeld, AreLooks, Brings, BringsHull, BringsNames, BringsOwn, BringsZone, Grows, HasAll, HaveAll};
+
+use cell_context::{place_visits, push_images};
+use cell_graph::{Design, Place};
+use deep_tables::{ZoneKey, Zones};
+use geo_base::Rect;
+use rect_sets::RectSet;
+use rule_text::{LayerForm, LayerRule};
+use std::alloc::{AllocError, Global};
+
+// Adds the images of rectangles of the placed cell through all elements of an array, in the window.
+fn push_array(
+    alloc: Global,
+    out: &mut Vec<Rect>,
+    place: &Place,
+    below: &Rect,
+    rects: &[Rect],
+    window: &Rect,
+) -> Result<(), AllocError>
+    requires near { IsNearArray place.now }
+    requires some { 0 < place.now.columns }
+    requires below { IsHull below.now }
+    requires window { IsHull window.now }
+    requires rects { All IsRect rects.now }
+    requires near_rects { All IsNearRect rects.now }
+    requires pieces { All (IsPiece window.now) out.old.items }
+    ensures pieces { OnOk result (All (IsPiece window.now) out.new.items) }
+    ensures grows { OnOk result (Grows out.old.items out.new.items) }
+    ensures brings { OnOk result (Brings place.now below.now rects.now window.now out.new.items) }
+{
+    for visit in &place_visits(alloc, place, below, window)? {
+        push_images(out, rects, &visit.motion, window)?;
+    }
+    Ok(())
+}
+
+// The same of the part of a set in the placed cell's hull. Where it is empty no element is visited.
+fn push_part(
+    alloc: Global,
+    out: &mut Vec<Rect>,
+    place: &Place,
+    below: &Rect,
+    zone: &RectSet,
+    window: &Rect,
+) -> Result<(), AllocError>
+    requires near { IsNearArray place.now }
+    requires some { 0 < place.now.columns }
+    requires below { IsHull below.now }
+    requires window { IsHull window.now }
+    requires pieces { All (IsPiece window.now) out.old.items }
+    ensures pieces { OnOk result (All (IsPiece window.now) out.new.items) }
+    ensures grows { OnOk result (Grows out.old.items out.new.items) }
+    ensures brings { OnOk result (Brings place.now below.now zone.now window.now out.new.items) }
+{
+    if zone.rects().is_empty() {
+        return Ok(());
+    }
+    let part = zone.window(alloc, *below)?;
+    if part.rects().is_empty() {
+        return Ok(());
+    }
+    push_array(alloc, out, place, below, part.rects(), window)
+}
+
+// Adds the images of what is disturbed in the placed cell for a name, where it is an input layer.
+fn push_form(
+    alloc: Global,
+    out: &mut Vec<Rect>,
+    zones: &Zones,
+    place: &Place,
+    below: &Rect,
+    name: u32,
+    form: LayerForm,
+    window: &Rect,
+) -> Result<(), AllocError>
+    requires near { IsNearArray place.now }
+    requires some { 0 < place.now.columns }
+    requires below { IsHull below.now }
+    requires window { IsHull window.now }
+    requires entry { HasEntry zones.now place.now.cell name }
+    requires pieces { All (IsPiece window.now) out.old.items }
+    ensures pieces { OnOk result (All (IsPiece window.now) out.new.items) }
+    ensures grows { OnOk result (Grows out.old.items out.new.items) }
+    ensures brings { OnOk result ((key : LayerKey) → form ≡ Input key
+        → BringsZone zones.now place.now name below.now window.now out.new.items) }
+{
+    match form {
+        LayerForm::Input(_) => {
+            let zone = zones.disturbed(place.cell, ZoneKey::Layer(name));
+            push_part(alloc, out, place, below, zone, window)
+        }
+        _ => Ok(()),
+    }
+}
+
+// The same for all names.
+fn push_names(
+    alloc: Global,
+    out: &mut Vec<Rect>,
+    zones: &Zones,
+    place: &Place,
+    below: &Rect,
+    names: &[LayerRule],
+    window: &Rect,
+) -> Result<(), AllocError>
+    requires near { IsNearArray place.now }
+    requires some { 0 < place.now.columns }
+    requires below { IsHull below.now }
+    requires window { IsHull window.now }
+    requires few { length names.now < 2 ^ 32 }
+    requires entries { HasAll zones.now place.now.cell (length names.now) }
+    requires pieces { All (IsPiece window.now) out.old.items }
+    ensures pieces { OnOk result (All (IsPiece window.now) out.new.items) }
+    ensures grows { OnOk result (Grows out.old.items out.new.items) }
+    ensures brings { OnOk result (BringsNames zones.now names.now (length names.now) place.now
+        below.now
+        window.now out.new.items) }
+{
+    for (name, rule) in names.iter().enumerate() {
+        push_form(
+            alloc,
+            out,
+            zones,
+            place,
+            below,
+            name as u32,
+            rule.form,
+            window,
+        )?;
+    }
+    Ok(())
+}
+
+// The same by the placed cell's hull, where it has one.
+fn push_reference(
+    alloc: Global,
+    out: &mut Vec<Rect>,
+    design: &Design,
+    zones: &Zones,
+    cell: u32,
+    index: usize,
+    place: &Place,
+    names: &[LayerRule],
+    window: &Rect,
+) -> Result<(), AllocError>
+    requires there { slice_get (places_at (cell_at design.now cell)) index ≡ Some place.now }
+    requires window { IsHull window.now }
+    requires few { length names.now < 2 ^ 32 }
+    requires entries { HasAll zones.now place.now.cell (length names.now) }
+    requires pieces { All (IsPiece window.now) out.old.items }
+    ensures pieces { OnOk result (All (IsPiece window.now) out.new.items) }
+    ensures grows { OnOk result (Grows out.old.items out.new.items) }
+    ensures brings { OnOk result (BringsHull design.now zones.now names.now place.now window.now
+        out.new.items) }
+{
+    design.sound();
+    match design.hull(place.cell) {
+        Some(below) => push_names(alloc, out, zones, place, &below, names, window),
+        None => Ok(()),
+    }
+}
+
+// The same of all references of a cell.
+fn push_references(
+    alloc: Global,
+    out: &mut Vec<Rect>,
+    design: &Design,
+    zones: &Zones,
+    cell: u32,
+    names: &[LayerRule],
+    window: &Rect,
+) -> Result<(), AllocError>
+    requires cell { cell < length design.now.cells }
+    requires window { IsHull window.now }
+    requires few { length names.now < 2 ^ 32 }
+    requires entries { HaveAll design.now zones.now cell (length names.now) }
+    requires pieces { All (IsPiece window.now) out.old.items }
+    ensures pieces { OnOk result (All (IsPiece window.now) out.new.items) }
+    ensures brings { OnOk result ((i : ℕ) (p : Place)
+        → slice_get (places_at (cell_at design.now cell)) i ≡ Some p
+        → BringsHull design.now zones.now names.now p window.now out.new.items) }
+{
+    for (i, place) in design.places(cell).iter().enumerate() {
+        push_reference(alloc, out, design, zones, cell, i, place, names, window)?;
+    }
+    Ok(())
+}
+
+// Adds a cell's own squares on a name, where it is an input layer.
+fn push_own(
+    out: &mut Vec<Rect>,
+    design: &Design,
+    cell: u32,
+    form: LayerForm,
+) -> Result<(), AllocError>
+    requires cell { cell < length design.now.cells }
+    requires rects { All IsRect out.old.items }
+    requires held { AreHeld (hull_of (cell_at design.now cell)) out.old.items }
+    ensures rects { OnOk result (All IsRect out.new.items) }
+    ensures held { OnOk result (AreHeld (hull_of (cell_at design.now cell)) out.new.items) }
+    ensures grows { OnOk result (Grows out.old.items out.new.items) }
+    ensures brings { OnOk result ((key : LayerKey) → form ≡ Input key
+        → Grows (own_of (cell_at design.now cell) key) out.new.items) }
+{
+    design.sound();
+    match form {
+        LayerForm::Input(key) => out.extend_from_slice(design.own(cell, key).rects()),
+        _ => Ok(()),
+    }
+}
+
+// The same of all names.
+fn push_all_own(
+    out: &mut Vec<Rect>,
+    design: &Design,
+    cell: u32,
+    names: &[LayerRule],
+) -> Result<(), AllocError>
+    requires cell { cell < length design.now.cells }
+    requires rects { All IsRect out.old.items }
+    requires held { AreHeld (hull_of (cell_at design.now cell)) out.old.items }
+    ensures rects { OnOk result (All IsRect out.new.items) }
+    ensures held { OnOk result (AreHeld (hull_of (cell_at design.now cell)) out.new.items) }
+    ensures grows { OnOk result (Grows out.old.items out.new.items) }
+    ensures brings { OnOk result (BringsOwn design.now cell names.now (length names.now)
+        out.new.items) }
+{
+    for rule in names {
+        push_own(out, design, cell, rule.form)?;
+    }
+    Ok(())
+}
+
+// The squares to be looked at of a cell that has a hull.
+fn looks_in(
+    alloc: Global,
+    design: &Design,
+    zones: &Zones,
+    cell: u32,
+    names: &[LayerRule],
+    hull: &Rect,
+) -> Result<RectSet, AllocError>
+    requires cell { cell < length design.now.cells }
+    requires hull { hull_of (cell_at design.now cell) ≡ Some hull.now }
+    requires few { length names.now < 2 ^ 32 }
+    requires entries { HaveAll design.now zones.now cell (length names.now) }
+    ensures { IfOk result (AreLooks design.now zones.now names.now cell) }
+{
+    design.sound();
+    let mut out = Vec::new(alloc);
+    push_references(alloc, &mut out, design, zones, cell, names, hull)?;
+    push_all_own(&mut out, design, cell, names)?;
+    let set = RectSet::canon(alloc, out)?;
+    let _near = set.rects();
+    Ok(set)
+}
+
+/// The squares of a cell that have to be looked at. An array costs one look, and beside that only
+/// what is disturbed in the placed cell, once for each element.
+pub fn looks(
+    alloc: Global,
+    design: &Design,
+    zones: &Zones,
+    cell: u32,
+    names: &[LayerRule],
+) -> Result<RectSet, AllocError>
+    requires cell { cell < length design.now.cells }
+    requires few { length names.now < 2 ^ 32 }
+    requires entries { HaveAll design.now zones.now cell (length names.now) }
+    ensures { IfOk result (AreLooks design.now zones.now names.now cell) }
+{
+    design.sound();
+    match design.hull(cell) {
+        Some(hull) => looks_in(alloc, design, zones, cell, names, &hull),
+        None => Ok(RectSet::empty(alloc)),
+    }
+}

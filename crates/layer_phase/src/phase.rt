@@ -1,0 +1,112 @@
+//! The phase of the squares that cells hold themselves.
+ghost use Rattle.std.specs.Prelude.{◌≡◌, IfOk};
+ghost use Rattle.cell_graph.specs.Linked.{plain};
+ghost use Rattle.deep_tables.specs.Frames.{HasHulls};
+ghost use Rattle.deep_tables.specs.Zones.{AreZones};
+ghost use Rattle.rule_text.specs.Seen.{rules_seen};
+ghost use Rattle.layer_phase.specs.Phase.{AreFreeJobs};
+
+use crate::layers::name_layers;
+use cell_graph::Design;
+use deep_tables::{CellLayers, DeepKey, Zones};
+use job_graph::{Graph, Phase, Reads};
+use rule_text::RuleSet;
+use std::alloc::{AllocError, Global};
+use std::marker::Model;
+use std::snapshot::Snapshot;
+
+/// The squares that each cell that the top reaches holds itself, for each name of the rules. Its
+/// jobs go through the design's order. They read the disturbed squares alone, so none waits for
+/// another.
+#[derive(Drop)]
+pub struct LayerPhase<'a> {
+    design: &'a Design,
+    rules: &'a RuleSet,
+    zones: &'a Zones,
+    graph: Graph,
+}
+
+impl<'a> Model for LayerPhase<'a> {
+    ghost use Rattle.layer_phase.specs.Phase.{IsLayerPhase, LayerJobs, jobs_seen};
+
+    ghost Value = { LayerJobs };
+
+    ghost view = { jobs_seen };
+
+    ghost invariant = { IsLayerPhase };
+}
+
+// A job for each reached cell, and none waits.
+fn free_graph(alloc: Global, design: &Design) -> Result<Graph, AllocError>
+    ensures { IfOk result (AreFreeJobs design.now) }
+{
+    let mut inputs = Vec::new(alloc);
+    for _ in 0..design.order().len() {
+        inputs.push(Vec::new(alloc))?;
+    }
+    Graph::from_inputs(alloc, inputs)
+}
+
+impl<'a> LayerPhase<'a> {
+    /// The phase of a layout whose hulls are those of its cells, and of its disturbed squares for
+    /// these rules. 2^32 names or more are refused. Linear in the reached cells.
+    pub fn new(
+        alloc: Global,
+        design: &'a Design,
+        rules: &'a RuleSet,
+        zones: &'a Zones,
+    ) -> Result<LayerPhase<'a>, AllocError>
+        requires hulls { HasHulls design.now }
+        requires zones { AreZones (plain design.now) (rules_seen rules.now) zones.now }
+        ensures design { IfOk result (λ p. p.design ≡ design.now) }
+        ensures rules { IfOk result (λ p. p.rules ≡ rules.now) }
+        ensures jobs { IfOk result (λ p. AreFreeJobs design.now p.graph) }
+    {
+        if rules.names.len() > u32::MAX as usize {
+            return Err(AllocError);
+        }
+        let graph = free_graph(alloc, design)?;
+        Ok(LayerPhase {
+            design,
+            rules,
+            zones,
+            graph,
+        })
+    }
+}
+
+impl Phase for LayerPhase<'_> {
+    type Out = CellLayers;
+
+    ghost graph = { λ p. p.graph };
+
+    ghost key = { λ p. record {
+      design = record { marker = record {}; value = p.design };
+      rules = record { marker = record {}; value = p.rules };
+    } };
+
+    fn graph(&self) -> &Graph {
+        &self.graph
+    }
+
+    fn key(&self) -> DeepKey {
+        DeepKey {
+            design: Snapshot::of(self.design),
+            rules: Snapshot::of(self.rules),
+        }
+    }
+
+    fn work<R: Reads<CellLayers>>(
+        &self,
+        alloc: Global,
+        job: u32,
+        reads: &R,
+    ) -> Result<CellLayers, AllocError> {
+        let _ = reads;
+        let design = self.design;
+        design.sound();
+        let cell = design.order()[job as usize];
+        let layers = name_layers(alloc, design, self.rules, self.zones, cell)?;
+        Ok(CellLayers { layers })
+    }
+}
