@@ -6,5 +6,7 @@ pub mod Laying
 pub mod Marking
 pub mod Partnered
 pub mod Rows
+pub mod Seeing
+pub mod Shortened
 pub mod There
 pub mod Walking

@@ -4,3 +4,4 @@ pub mod Marks
 pub mod Found
 pub mod Walked
 pub mod Flattened
+pub mod Sights

@@ -2,9 +2,12 @@
 //! flattened into their callers, and what holds no device is dropped.
 #![tactic(auto)]
 
+mod cut;
 mod flatten;
 mod inline;
 mod marks;
 mod names;
+mod numbers;
 mod partners;
+mod sights;
 mod walk;
