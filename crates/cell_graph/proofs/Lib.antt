@@ -19,3 +19,6 @@ pub mod PlainHulls
 pub mod Looking
 pub mod Calling
 pub mod Roots
+pub mod Sweeping
+pub mod Indexing
+pub mod Windows

@@ -5,7 +5,7 @@ use Rattle.std.proofs.lemmas.Int.{ints}
 use Rattle.std.proofs.Math.IntN.{pos-*ℤ-pos, pos-*ℤ-negsuc, neg_ℤ}
 use Rattle.std.proofs.Math.Nat.{mul-le-mul_right}
 use Rattle.geo_base.specs.Near.{IsWithin}
-use Rattle.cell_graph.specs.declared.arrays.Span.{Span}
+use Rattle.cell_graph.specs.declared.arrays.Interval.{Interval}
 use Rattle.cell_graph.specs.Arrays.{IsReach, IsTooLong, origin, SomeOrigin, AreOrigins}
 
 minus_pos : (k : ℕ) → neg_ℤ (pos k) ≡ pos 0 -ℤ pos k
@@ -28,7 +28,7 @@ ends i n (negsuc m) h =
     let a = pos-*ℤ-negsuc i m ∙ minus_pos (i * suc m) in let b = pos-*ℤ-negsuc n m ∙ minus_pos (n * suc m) in let le = mul-le-mul_right (suc m) h in
     inr ((omega (arith, ints)), (omega (arith, ints)))
 
-pub one_reach : (step : ℤ) (n : ℕ) (r : Span) → n ≡ 1 → r.low ≡ pos 0 → r.high ≡ pos 0 → IsReach step n r
+pub one_reach : (step : ℤ) (n : ℕ) (r : Interval) → n ≡ 1 → r.low ≡ pos 0 → r.high ≡ pos 0 → IsReach step n r
 one_reach step n r one low high =
     let first : pos 0 *ℤ step ≡ pos 0 = none_times step in
     record {
@@ -40,7 +40,7 @@ one_reach step n r one low high =
       high_near = record { low = omega (arith, ints); high = omega (arith, ints) };
     }
 
-pub last_reach : (step : ℤ) (n : ℕ) (last : ℤ) (r : Span) → 0 < n → last ≡ pos (n - 1) *ℤ step → IsWithin (2 ^ 47) last
+pub last_reach : (step : ℤ) (n : ℕ) (last : ℤ) (r : Interval) → 0 < n → last ≡ pos (n - 1) *ℤ step → IsWithin (2 ^ 47) last
     → (r.low ≡ last) ⊎ (r.low ≡ pos 0) → r.low ≤ℤ last → r.low ≤ℤ pos 0 → (r.high ≡ last) ⊎ (r.high ≡ pos 0) → last ≤ℤ r.high → pos 0 ≤ℤ r.high → IsReach step n r
 last_reach step n last r some is near low l0 l1 high h0 h1 = record {
   low = attained r.low low;
@@ -82,13 +82,13 @@ far_row start cs rs rows columns some near (more, long) =
     sum : (s a b c : ℤ) → a ≡ pos 0 → b ≡ c → (s +ℤ a) +ℤ b ≡ s +ℤ c
     sum s a b c e f = omega (arith, ints)
 
-pub low_origin : (start cs rs : ℤ) (rows columns : ℕ) (across along : Span) (z : ℤ) → IsReach cs columns across → IsReach rs rows along → z ≡ (start +ℤ across.low) +ℤ along.low
+pub low_origin : (start cs rs : ℤ) (rows columns : ℕ) (across along : Interval) (z : ℤ) → IsReach cs columns across → IsReach rs rows along → z ≡ (start +ℤ across.low) +ℤ along.low
     → SomeOrigin start cs rs rows columns (λ y. y ≡ z)
 low_origin start cs rs rows columns across along z a b e =
     let c = a.low in let r = b.low in
     (r.0, c.0, r.1, c.1, sym (e ∙ ap (λ v. (start +ℤ v) +ℤ along.low) c.2 ∙ ap (λ v. (start +ℤ (pos c.0 *ℤ cs)) +ℤ v) r.2))
 
-pub high_origin : (start cs rs : ℤ) (rows columns : ℕ) (across along : Span) (z : ℤ) → IsReach cs columns across → IsReach rs rows along → z ≡ (start +ℤ across.high) +ℤ along.high
+pub high_origin : (start cs rs : ℤ) (rows columns : ℕ) (across along : Interval) (z : ℤ) → IsReach cs columns across → IsReach rs rows along → z ≡ (start +ℤ across.high) +ℤ along.high
     → SomeOrigin start cs rs rows columns (λ y. y ≡ z)
 high_origin start cs rs rows columns across along z a b e =
     let c = a.high in let r = b.high in
@@ -97,7 +97,7 @@ high_origin start cs rs rows columns across along z a b e =
 pub far_origin : (start cs rs : ℤ) (rows columns : ℕ) (z : ℤ) → SomeOrigin start cs rs rows columns (λ y. y ≡ z) → (IsWithin (2 ^ 30) z → ⊥) → SomeOrigin start cs rs rows columns (λ y. IsWithin (2 ^ 30) y → ⊥)
 far_origin start cs rs rows columns z (row, column, in_rows, in_columns, e) far = (row, column, in_rows, in_columns, (λ h. far (subst (IsWithin (2 ^ 30)) e h)))
 
-pub all_origins : (start cs rs : ℤ) (rows columns : ℕ) (across along r : Span) → IsReach cs columns across → IsReach rs rows along
+pub all_origins : (start cs rs : ℤ) (rows columns : ℕ) (across along r : Interval) → IsReach cs columns across → IsReach rs rows along
     → r.low ≡ (start +ℤ across.low) +ℤ along.low → r.high ≡ (start +ℤ across.high) +ℤ along.high → IsWithin (2 ^ 30) r.low → IsWithin (2 ^ 30) r.high → AreOrigins start cs rs rows columns r
 all_origins start cs rs rows columns across along r a b e f low high = record {
   low = low_origin start cs rs rows columns across along r.low a b e;

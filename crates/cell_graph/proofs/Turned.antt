@@ -10,7 +10,7 @@ use Rattle.geo_base.specs.declared.shapes.Point.{Point}
 use Rattle.geo_base.proofs.Turning.{same_point}
 use Rattle.cell_graph.specs.declared.cells.Place.{Place}
 use Rattle.cell_graph.specs.Linked.{motion_at}
-use Rattle.cell_graph.specs.declared.arrays.Span.{Span}
+use Rattle.cell_graph.specs.declared.arrays.Interval.{Interval}
 use Rattle.cell_graph.specs.declared.bounds.Bounds.{Bounds}
 use Rattle.cell_graph.specs.Sides.{Side, Left, Low, Right, High, value, side_of, Holds, Widens, AreNear, AreNearIfAny, IsCornerPoint, low_corner, high_corner}
 use Rattle.cell_graph.specs.Arrays.{origin, AreOrigins, TurnedPoint, ArrayPoint, IsSpread}
@@ -215,7 +215,7 @@ point_sum place C p (row, column, in_rows, in_columns, inr (q, c, e)) = record {
     turn_sum : (a z o : ℤ) → a +ℤ o ≡ z → z ≡ o +ℤ a
     turn_sum a z o e = omega (arith, ints)
 
-pub spread_least : (place : Place) (C : Point → Type 0) (t r : Bounds) (x y : Span)
+pub spread_least : (place : Place) (C : Point → Type 0) (t r : Bounds) (x y : Interval)
     → AreOrigins place.motion.dx place.column_step.x place.row_step.x place.rows place.columns x
     → AreOrigins place.motion.dy place.column_step.y place.row_step.y place.rows place.columns y
     → Widens None (TurnedPoint place.motion.turn C) (Some t) → IsSpread t x y r → Widens None (ArrayPoint place C) (Some r)

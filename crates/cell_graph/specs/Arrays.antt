@@ -6,12 +6,13 @@ use Rattle.geo_base.specs.declared.motion.Turn.{Turn}
 use Rattle.geo_base.specs.declared.shapes.Point.{Point}
 use Rattle.cell_graph.specs.declared.cells.Place.{Place}
 use Rattle.cell_graph.specs.Linked.{motion_at}
-use Rattle.cell_graph.specs.declared.arrays.Span.{Span}
+use Rattle.cell_graph.specs.declared.arrays.Interval.{Interval}
+use Rattle.cell_graph.specs.declared.arrays.ElementOrigins.{ElementOrigins}
 use Rattle.cell_graph.specs.declared.bounds.Bounds.{Bounds}
 use Rattle.cell_graph.specs.Drafts.{IsOrigin}
 
 -- the least range of the first n multiples of a step
-pub record IsReach (step : ℤ) (n : ℕ) (r : Span) : Type 0 where
+pub record IsReach (step : ℤ) (n : ℕ) (r : Interval) : Type 0 where
   pub low : (k : ℕ) × (k < n) × (r.low ≡ pos k *ℤ step)
   pub high : (k : ℕ) × (k < n) × (r.high ≡ pos k *ℤ step)
   pub holds : (k : ℕ) → k < n → (r.low ≤ℤ (pos k *ℤ step)) × ((pos k *ℤ step) ≤ℤ r.high)
@@ -22,7 +23,7 @@ pub record IsReach (step : ℤ) (n : ℕ) (r : Span) : Type 0 where
 abbrev pub IsTooLong : ℤ → ℕ → Type 0
 IsTooLong step n = (1 < n) × (IsWithin (2 ^ 31) step → ⊥)
 
-abbrev pub IsReachOr : ℤ → ℕ → Option Span → Type 0
+abbrev pub IsReachOr : ℤ → ℕ → Option Interval → Type 0
 IsReachOr step n None = IsTooLong step n
 IsReachOr step n (Some r) = IsReach step n r
 
@@ -35,7 +36,7 @@ abbrev pub SomeOrigin : ℤ → ℤ → ℤ → ℕ → ℕ → (ℤ → Type 0)
 SomeOrigin start column_step row_step rows columns P = (row : ℕ) × (column : ℕ) × (row < rows) × (column < columns) × P (origin start column_step row_step row column)
 
 -- the least range of the elements' origins along one axis
-pub record AreOrigins (start column_step row_step : ℤ) (rows columns : ℕ) (r : Span) : Type 0 where
+pub record AreOrigins (start column_step row_step : ℤ) (rows columns : ℕ) (r : Interval) : Type 0 where
   pub low : SomeOrigin start column_step row_step rows columns (λ z. z ≡ r.low)
   pub high : SomeOrigin start column_step row_step rows columns (λ z. z ≡ r.high)
   pub holds : (row column : ℕ) → row < rows → column < columns → (r.low ≤ℤ origin start column_step row_step row column) × (origin start column_step row_step row column ≤ℤ r.high)
@@ -43,7 +44,7 @@ pub record AreOrigins (start column_step row_step : ℤ) (rows columns : ℕ) (r
   pub high_near : IsWithin (2 ^ 30) r.high
 
 -- or one that is out of range
-abbrev pub AreOriginsOr : ℤ → ℤ → ℤ → ℕ → ℕ → Option Span → Type 0
+abbrev pub AreOriginsOr : ℤ → ℤ → ℤ → ℕ → ℕ → Option Interval → Type 0
 AreOriginsOr start column_step row_step rows columns None = SomeOrigin start column_step row_step rows columns (λ z. IsWithin (2 ^ 30) z → ⊥)
 AreOriginsOr start column_step row_step rows columns (Some r) = AreOrigins start column_step row_step rows columns r
 
@@ -62,12 +63,17 @@ HasFarOrigin place =
     SomeOrigin place.motion.dx place.column_step.x place.row_step.x place.rows place.columns (λ z. IsWithin (2 ^ 30) z → ⊥)
     ⊎ SomeOrigin place.motion.dy place.column_step.y place.row_step.y place.rows place.columns (λ z. IsWithin (2 ^ 30) z → ⊥)
 
-pub record IsNearSpan (r : Span) : Type 0 where
+-- the least ranges of x and of y of all origins
+pub record AreOriginsOf (place : Place) (o : ElementOrigins) : Type 0 where
+  pub x : AreOrigins place.motion.dx place.column_step.x place.row_step.x place.rows place.columns o.x
+  pub y : AreOrigins place.motion.dy place.column_step.y place.row_step.y place.rows place.columns o.y
+
+pub record IsNearInterval (r : Interval) : Type 0 where
   pub low : IsWithin (2 ^ 30) r.low
   pub high : IsWithin (2 ^ 30) r.high
 
 -- the sums of the ends
-pub record IsSpread (b : Bounds) (x y : Span) (r : Bounds) : Type 0 where
+pub record IsSpread (b : Bounds) (x y : Interval) (r : Bounds) : Type 0 where
   pub left_is : r.x1 ≡ b.x1 +ℤ x.low
   pub low_is : r.y1 ≡ b.y1 +ℤ y.low
   pub right_is : r.x2 ≡ b.x2 +ℤ x.high

@@ -1,6 +1,7 @@
 -- The fields of a design.
 use Rattle.std.specs.Prelude.{◌≡◌, []}
 use Rattle.cell_graph.specs.Linked.{Linked, IsSound}
+use Rattle.cell_graph.specs.Indexes.{AreIndexed}
 use Rattle.cell_graph.specs.declared.design.Design.TheInside.{Inside}
 
 abbrev pub linked : Inside → Linked
@@ -9,3 +10,4 @@ linked a = record { cells = a.cells.items; top = a.top; order = a.order.items }
 pub record IsLinked (a : Inside) : Type 0 where
   pub sound : IsSound (linked a)
   pub nothing : a.nothing ≡ []
+  pub indexed : AreIndexed a.cells.items a.indexes.items

@@ -15,3 +15,5 @@ pub mod Sides
 pub mod Arrays
 pub mod Extents
 pub mod Finished
+pub mod Spans
+pub mod Indexes

@@ -1,7 +1,7 @@
 //! The bounds of all elements of an array, by the ranges of their origins: nothing is done for each element.
 ghost use Rattle.std.specs.Prelude.{◌≡◌, ◌↔◌, ◌<◌, ◌≤◌, ◌≤ℤ◌, ◌^◌, ◌+ℤ◌, ◌*ℤ◌, pos, true, None, Some, MatchOption};
 ghost use Rattle.geo_base.specs.Near.{IsWithin};
-ghost use Rattle.cell_graph.specs.Arrays.{IsReachOr, AreOriginsOr, TurnedPoint, ArrayPoint, HasFarOrigin, IsNearSpan, IsSpread};
+ghost use Rattle.cell_graph.specs.Arrays.{IsReachOr, AreOriginsOr, TurnedPoint, ArrayPoint, HasFarOrigin, AreOriginsOf, IsNearInterval, IsSpread};
 ghost use Rattle.cell_graph.specs.Sides.{IsCornerPoint, Widens, AreNear, AreNearIfAny};
 
 use crate::bounds::{Bounds, with_corners, with_point};
@@ -10,9 +10,16 @@ use geo_base::{Motion, Point, REACH, Turn};
 
 /// A range of numbers, both ends among them.
 #[derive(Clone, Copy, Debug)]
-pub struct Span {
+pub struct Interval {
     pub low: i64,
     pub high: i64,
+}
+
+/// The ranges of x and of y in which the origins of an array's elements lie.
+#[derive(Clone, Copy, Debug)]
+pub struct ElementOrigins {
+    pub x: Interval,
+    pub y: Interval,
 }
 
 /// Whether a number lies in the range of hulls.
@@ -31,18 +38,18 @@ fn times(count: u16, step: i64) -> i64
 }
 
 // The range of the first multiples of a step, of which there are so many; none where two of them are too far apart.
-fn reach(step: i64, count: u16) -> Option<Span>
+fn reach(step: i64, count: u16) -> Option<Interval>
     requires { 0 < count }
     ensures { IsReachOr step count result }
 {
     if count == 1 {
-        return Some(Span { low: 0, high: 0 });
+        return Some(Interval { low: 0, high: 0 });
     }
     if step < -2 * REACH || 2 * REACH < step {
         return None;
     }
     let last = times(count - 1, step);
-    Some(Span {
+    Some(Interval {
         low: last.min(0),
         high: last.max(0),
     })
@@ -58,7 +65,7 @@ fn sum(a: i64, b: i64, c: i64) -> i64
 }
 
 // The range of the elements' origins along one axis; none where one is out of range.
-fn origins(start: i64, column_step: i64, row_step: i64, rows: u16, columns: u16) -> Option<Span>
+fn origins(start: i64, column_step: i64, row_step: i64, rows: u16, columns: u16) -> Option<Interval>
     requires rows { 0 < rows }
     requires columns { 0 < columns }
     ensures { AreOriginsOr start column_step row_step rows columns result }
@@ -75,10 +82,27 @@ fn origins(start: i64, column_step: i64, row_step: i64, rows: u16, columns: u16)
     let low = sum(start, across.low, along.low);
     let high = sum(start, across.high, along.high);
     if is_near(low) && is_near(high) {
-        Some(Span { low, high })
+        Some(Interval { low, high })
     } else {
         None
     }
+}
+
+/// The ranges of the origins of all elements of an array; none where one is out of range.
+pub fn origins_of(place: &Place) -> Option<ElementOrigins>
+    requires rows { 0 < place.now.rows }
+    requires columns { 0 < place.now.columns }
+    ensures { MatchOption result (HasFarOrigin place.now) (AreOriginsOf place.now) }
+{
+    let m = place.motion;
+    let (across, along) = (place.column_step, place.row_step);
+    let Some(x) = origins(m.dx, across.x, along.x, place.rows, place.columns) else {
+        return None;
+    };
+    let Some(y) = origins(m.dy, across.y, along.y, place.rows, place.columns) else {
+        return None;
+    };
+    Some(ElementOrigins { x, y })
 }
 
 // The bounds of the origin and of the corners that a turn makes of bounds.
@@ -98,7 +122,8 @@ fn turned_bounds(turn: Turn, inner: Option<Bounds>) -> Bounds
     with_corners(Some(first), low, high)
 }
 
-fn plus(a: i64, b: i64) -> i64
+/// The sum of two numbers in the range of hulls.
+pub fn plus(a: i64, b: i64) -> i64
     requires a { IsWithin (2 ^ 30) a }
     requires b { IsWithin (2 ^ 30) b }
     ensures { result ≡ a +ℤ b }
@@ -107,10 +132,10 @@ fn plus(a: i64, b: i64) -> i64
 }
 
 // The bounds of sums of a point and an origin.
-fn spread(b: Bounds, x: Span, y: Span) -> Bounds
+fn spread(b: Bounds, x: Interval, y: Interval) -> Bounds
     requires near { AreNear b }
-    requires x { IsNearSpan x }
-    requires y { IsNearSpan y }
+    requires x { IsNearInterval x }
+    requires y { IsNearInterval y }
     ensures { IsSpread b x y result }
 {
     Bounds {
@@ -129,26 +154,14 @@ pub fn with_array(bounds: Option<Bounds>, inner: Option<Bounds>, place: &Place) 
     requires near { AreNearIfAny inner }
     ensures { MatchOption result (HasFarOrigin place.now) (λ b. Widens bounds (ArrayPoint place.now (IsCornerPoint inner)) (Some b)) }
 {
-    let m = place.motion;
-    let Some(x) = origins(
-        m.dx,
-        place.column_step.x,
-        place.row_step.x,
-        place.rows,
-        place.columns,
-    ) else {
+    let Some(origins) = origins_of(place) else {
         return None;
     };
-    let Some(y) = origins(
-        m.dy,
-        place.column_step.y,
-        place.row_step.y,
-        place.rows,
-        place.columns,
-    ) else {
-        return None;
-    };
-    let all = spread(turned_bounds(m.turn, inner), x, y);
+    let all = spread(
+        turned_bounds(place.motion.turn, inner),
+        origins.x,
+        origins.y,
+    );
     let low = Point {
         x: all.x1,
         y: all.y1,

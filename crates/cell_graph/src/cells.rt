@@ -1,3 +1,6 @@
+ghost use Rattle.std.specs.Prelude.{◌≡◌};
+ghost use Rattle.cell_graph.specs.Linked.{is_key};
+
 use geo_base::{LayerKey, Motion, Point, Rect};
 use net_names::Name;
 use rect_sets::RectSet;
@@ -7,6 +10,13 @@ use rect_sets::RectSet;
 pub struct OwnLayer {
     pub key: LayerKey,
     pub set: RectSet,
+}
+
+/// Whether two keys are one layer and one datatype.
+pub fn is_key(a: LayerKey, b: LayerKey) -> bool
+    ensures { result ≡ is_key a b }
+{
+    a.layer == b.layer && a.datatype == b.datatype
 }
 
 /// A text with its point.

@@ -1,13 +1,16 @@
-ghost use Rattle.std.specs.Prelude.{◌≡◌, ◌<◌, ℕ, length, [], Some};
-ghost use Rattle.cell_graph.specs.Linked.{is_key, own_rects, own_of, cell_at, hull_of, places_at, linked_of, IsSound};
+ghost use Rattle.std.specs.Prelude.{◌≡◌, ◌<◌, ℕ, length, [], Some, IfOk};
+ghost use Rattle.tile_index.specs.Windows.{ArePositions};
+ghost use Rattle.cell_graph.specs.Linked.{own_rects, own_of, cell_at, hull_of, places_at, linked_of, IsSound};
+ghost use Rattle.cell_graph.specs.Spans.{ArePlacesIn};
 ghost use Rattle.cell_graph.specs.Laws.{OwnLaw, HeightLaw, HullLaw};
 ghost use Rattle.cell_graph.specs.declared.cells.CellPart.{CellPart};
 
-use crate::cells::{CellPart, OwnLayer, Place, RawText};
+use crate::cells::{CellPart, OwnLayer, Place, RawText, is_key};
+use crate::indexes::{CellIndex, find_index, indexes_of, numbers_at};
 use geo_base::{LayerKey, Rect};
 use net_names::Name;
 use rect_sets::RectSet;
-use std::alloc::Global;
+use std::alloc::{AllocError, Global};
 use std::marker::Model;
 
 /// Linked cells: each reference names a cell, no cell stands below itself, and hulls hold what is below.
@@ -17,6 +20,7 @@ pub struct Design {
     top: u32,
     order: Vec<u32>,
     nothing: RectSet,
+    indexes: Vec<CellIndex>,
 }
 
 impl Model for Design {
@@ -29,12 +33,6 @@ impl Model for Design {
     ghost view = { linked };
 
     ghost invariant = { IsLinked };
-}
-
-fn is_key(a: LayerKey, b: LayerKey) -> bool
-    ensures { result ≡ is_key a b }
-{
-    a.layer == b.layer && a.datatype == b.datatype
 }
 
 // The set of the first entry of the key.
@@ -57,16 +55,18 @@ impl Design {
         cells: Vec<CellPart>,
         top: u32,
         order: Vec<u32>,
-    ) -> Design
+    ) -> Result<Design, AllocError>
         requires { IsSound (linked_of cells.items top order.items) }
-        ensures { result ≡ linked_of cells.items top order.items }
+        ensures { IfOk result (λ d. d ≡ linked_of cells.items top order.items) }
     {
-        Design {
+        let indexes = indexes_of(alloc, &cells)?;
+        Ok(Design {
             cells,
             top,
             order,
             nothing: RectSet::empty(alloc),
-        }
+            indexes,
+        })
     }
 
     /// What each design promises; among it, that each hull is the least range of what stands in and
@@ -108,6 +108,26 @@ impl Design {
         find(&part.layers, key, &self.nothing)
     }
 
+    /// The positions in `own(cell, key)` of the rectangles that share a square with the window,
+    /// ascending. About O(log n + k log k) for k of n rectangles.
+    pub fn own_in(
+        &self,
+        alloc: Global,
+        cell: u32,
+        key: LayerKey,
+        w: Rect,
+    ) -> Result<Vec<u32>, AllocError>
+        requires { cell < length self.now.cells }
+        ensures { IfOk result (λ v. ArePositions (own_of (cell_at self.now cell) key) w v.items) }
+    {
+        let part = &self.cells[cell as usize];
+        let index = &self.indexes[cell as usize];
+        match find_index(&part.layers, &index.own, key) {
+            Some(rects) => rects.query(alloc, w),
+            None => Ok(Vec::new(alloc)),
+        }
+    }
+
     /// A cell's texts.
     pub fn texts(&self, cell: u32) -> &[RawText]
         requires { cell < length self.now.cells }
@@ -122,6 +142,19 @@ impl Design {
         ensures { result.now ≡ places_at (cell_at self.now cell) }
     {
         &self.cells[cell as usize].places
+    }
+
+    /// The positions in `places(cell)` of the references whose span shares a square with the window,
+    /// ascending. The span is the least rectangle that holds the images of the placed cell's hull by
+    /// all elements of the array; where that cell has no hull, there is none. About O(log n + k log k)
+    /// for k of n references.
+    pub fn places_in(&self, alloc: Global, cell: u32, w: Rect) -> Result<Vec<u32>, AllocError>
+        requires { cell < length self.now.cells }
+        ensures { IfOk result (λ v. ArePlacesIn self.now cell w v.items) }
+    {
+        let index = &self.indexes[cell as usize];
+        let found = index.spans.query(alloc, w)?;
+        numbers_at(alloc, &index.spanned, &found)
     }
 
     /// The range of what stands in and below a cell; none where it holds no square.

@@ -11,10 +11,12 @@ mod drafts;
 mod extents;
 mod finishing;
 mod heights;
+mod indexes;
 mod linking;
 mod names;
 mod ordering;
 mod references;
+mod spans;
 mod tops;
 mod walking;
 

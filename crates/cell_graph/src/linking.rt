@@ -74,6 +74,7 @@ impl Design {
     {
         let found = examined(alloc, &cells, top)?;
         let made = finished(alloc, cells, found.parts, &found.bounds, &found.heights)?;
-        Ok(Design::from_parts(alloc, made, found.top, found.order))
+        let design = Design::from_parts(alloc, made, found.top, found.order)?;
+        Ok(design)
     }
 }

@@ -1,7 +1,7 @@
 use Rattle.std.proofs.Common.{◌≡◌, ◌+ℤ◌, ◌^◌, ◌↔◌, true, refl, rules, FitsSigned, w64}
 use Rattle.std.proofs.lemmas.Int.{to_z-of_z}
 use Rattle.geo_base.specs.Near.{IsWithin}
-use Rattle.cell_graph.specs.declared.arrays.Span.{Span}
+use Rattle.cell_graph.specs.declared.arrays.Interval.{Interval}
 use Rattle.cell_graph.specs.Arrays.{IsReach, IsTooLong}
 use Rattle.cell_graph.proofs.Ranges.{far_column, far_row, low_origin, high_origin, far_origin, all_origins, farther}
 use Rattle.cell_graph.proofs.arrays.origins.Goals as goal
@@ -54,7 +54,7 @@ returns-then-is_near-2 c =
     let f : c.sum-high.result ≡ (c.args.start +ℤ across.high) +ℤ along.high = simp to_z-of_z at c.sum-high.ensures in
     let near_low : IsWithin (2 ^ 30) c.sum-low.result = simp to_z-of_z at ((c.if-is_near.ensures {u = tt}).0 refl) in
     let near_high : IsWithin (2 ^ 30) c.sum-high.result = simp to_z-of_z at ((c.if-is_near-2.ensures {u = tt}).0 refl) in
-    let r : Span = record { low = c.sum-low.result; high = c.sum-high.result } in
+    let r : Interval = record { low = c.sum-low.result; high = c.sum-high.result } in
     simp to_z-of_z (all_origins c.args.start c.args.column_step c.args.row_step c.args.rows c.args.columns across along r a b e f near_low near_high)
 
 pub returns-else-is_near : goal.returns-else-is_near

@@ -1,7 +1,7 @@
 use Rattle.std.proofs.Common.{◌≡◌, ◌≤ℤ◌, ◌*ℤ◌, pos, ◌-◌, rules, FitsSigned, w64}
 use Rattle.std.proofs.lemmas.Int.{to_z-of_z}
 use Rattle.std.specs.Int.{int_min, int_max}
-use Rattle.cell_graph.specs.declared.arrays.Span.{Span}
+use Rattle.cell_graph.specs.declared.arrays.Interval.{Interval}
 use Rattle.cell_graph.proofs.Ranges.{last_reach, min_one, max_one}
 use Rattle.cell_graph.proofs.arrays.reach.Goals as goal
 
@@ -18,6 +18,6 @@ returns c =
     let max : c.max.result ≡ int_max last (pos 0) = simp to_z-of_z at c.max.ensures.value in
     let min0 : c.min.result ≤ℤ last = simp to_z-of_z at c.min.ensures.self_bound in
     let max0 : last ≤ℤ c.max.result = simp to_z-of_z at c.max.ensures.self_bound in
-    let r : Span = record { low = c.min.result; high = c.max.result } in
+    let r : Interval = record { low = c.min.result; high = c.max.result } in
     simp to_z-of_z (last_reach step c.args.count last r c.requires exact c.times-last.ensures.near
     (min_one last (pos 0) c.min.result min) min0 c.min.ensures.other_bound (max_one last (pos 0) c.max.result max) max0 c.max.ensures.other_bound)

@@ -1,38 +1,20 @@
-use Rattle.std.proofs.Common.{◌≡◌, ◌⊎◌, inr, ◌^◌, Some, rules, FitsSigned, w64}
+use Rattle.std.proofs.Common.{◌≡◌, ◌⊎◌, Some, rules, FitsSigned, w64}
 use Rattle.std.proofs.lemmas.Int.{to_z-of_z}
-use Rattle.geo_base.specs.Near.{IsWithin}
 use Rattle.cell_graph.specs.Sides.{Widens, IsCornerPoint, low_corner, high_corner}
-use Rattle.cell_graph.specs.Arrays.{SomeOrigin, AreOrigins, ArrayPoint}
+use Rattle.cell_graph.specs.Arrays.{AreOriginsOf, ArrayPoint}
 use Rattle.cell_graph.proofs.Turned.{spread_least, from_corners}
 use Rattle.cell_graph.proofs.arrays.with_array.Goals as goal
-
-pub returns-in_default-origins : goal.returns-in_default-origins
-returns-in_default-origins c =
-    let p = c.args.place.now in
-    let f1 : FitsSigned w64 p.motion.dy = search rules in
-    let f2 : FitsSigned w64 p.column_step.y = search rules in
-    let f3 : FitsSigned w64 p.row_step.y = search rules in
-    let far : SomeOrigin p.motion.dy p.column_step.y p.row_step.y p.rows p.columns (λ z. IsWithin (2 ^ 30) z → ⊥) = simp to_z-of_z at (c.in_default-origins.ensures {u = tt}) in
-    inr far
 
 pub returns : goal.returns
 returns c =
     let p = c.args.place.now in
-    let f1 : FitsSigned w64 p.motion.dy = search rules in
-    let f2 : FitsSigned w64 p.column_step.y = search rules in
-    let f3 : FitsSigned w64 p.row_step.y = search rules in
-    let f4 : FitsSigned w64 p.motion.dx = search rules in
-    let f5 : FitsSigned w64 p.column_step.x = search rules in
-    let f6 : FitsSigned w64 p.row_step.x = search rules in
-    let x = c.in-Some.x in
-    let y = c.in-Some-origins.y in
-    let ox : AreOrigins p.motion.dx p.column_step.x p.row_step.x p.rows p.columns x = simp to_z-of_z at (c.in-Some.ensures {u = tt}) in
-    let oy : AreOrigins p.motion.dy p.column_step.y p.row_step.y p.rows p.columns y = simp to_z-of_z at (c.in-Some-origins.ensures {u = tt}) in
+    let o = c.in-Some.origins in
     let all = c.spread-all.result in
     let a1 : FitsSigned w64 all.x1 = search rules in
     let a2 : FitsSigned w64 all.y1 = search rules in
     let a3 : FitsSigned w64 all.x2 = search rules in
     let a4 : FitsSigned w64 all.y2 = search rules in
+    let origins : AreOriginsOf p o = c.in-Some.ensures {u = tt} in
     let corners : Widens c.args.bounds (λ q. (q ≡ low_corner all) ⊎ (q ≡ high_corner all)) (Some c.with_corners.result) = simp to_z-of_z at c.with_corners.ensures in
     from_corners c.args.bounds (ArrayPoint p (IsCornerPoint c.args.inner)) all c.with_corners.result
-    (spread_least p (IsCornerPoint c.args.inner) c.turned_bounds.result all x y ox oy c.turned_bounds.ensures.least c.spread-all.ensures) corners
+    (spread_least p (IsCornerPoint c.args.inner) c.turned_bounds.result all o.x o.y origins.x origins.y c.turned_bounds.ensures.least c.spread-all.ensures) corners

@@ -61,5 +61,5 @@ returns-clause-design c =
       arrays = c.requires.arrays;
       top_in = top_inside cells (now_of c.args.top) e.top x.tops;
     } in
-    subst (λ (d : Linked). IsLink cells (now_of c.args.top) d) (sym c.from_parts.ensures)
+    subst (λ (d : Linked). IsLink cells (now_of c.args.top) d) (sym (c.in_ok-design.ensures {u = tt}))
     (is_link cells e.parts.items e.heights.items x.all e.bounds.items e.top e.order.items c.in_ok-made.made.items (now_of c.args.top) done x.tops)
