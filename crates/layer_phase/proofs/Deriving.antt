@@ -48,7 +48,7 @@ module _ (d : Linked) (r : Rules) (z : List (Option CellZones)) (cell name : ℕ
   own_seen q h =
       let k = some_key d cell q (inputs (Binary op a b)) h in
       let j = known r.names name (Binary op a b) k.0 at k.1 in
-      seen.own j.0 k.0 q j.1 ((own d sound cell k.0 q).0 k.2)
+      seen.own j.0 k.0 j.1 q ((own d sound cell k.0 q).0 k.2)
 
   disturbed_seen : (q : Square) → IsFromDisturbed (plain d) (inputs (Binary op a b)) cell q → covers looks q ≡ true
   disturbed_seen q h =

@@ -1,7 +1,7 @@
 -- Flat squares of names among those looked at.
-use Rattle.std.proofs.Common.{◌≡◌, ◌⊎◌, inl, inr, ℕ, zero, suc, ◌<◌, ◌≤◌, ◌+◌, Bool, true, false, List, [], ◌∷◌, ◌++◌, Option, Some, None, refl, sym, ap, ◌∙◌, subst, arith, drop, length, length-append, get_or, slice_get}
+use Rattle.std.proofs.Common.{◌≡◌, ◌⊎◌, inl, inr, ℕ, zero, suc, ◌<◌, ◌≤◌, ◌+◌, Bool, true, false, ◌==◌, List, [], ◌∷◌, ◌++◌, Option, Some, None, refl, sym, ap, ◌∙◌, subst, arith, drop, length, length-append, get_or, slice_get}
 use Rattle.std.proofs.Math.Decide.{ℕ_discrete}
-use Rattle.std.proofs.lemmas.Bool.{cases_lt}
+use Rattle.std.proofs.lemmas.Bool.{cases_lt, eqb-true}
 use Rattle.std.proofs.lemmas.List.{at_drop_more, get_or_append_left, get_or_push, get_or_past}
 use Rattle.std.proofs.lemmas.Option.{slice_get-get_or}
 use Rattle.geo_base.specs.declared.layer.LayerKey.{LayerKey}
@@ -14,12 +14,13 @@ use Rattle.edge_boolean.specs.Ops.{operated}
 use Rattle.flat_layout.specs.Layers.{Reading, Input, Empty, Binary, inputs, InFlat, Combines}
 use Rattle.flat_layout.specs.Layout.{Some_of}
 use Rattle.flat_layout.specs.Values.{IsLocalLayer}
-use Rattle.cell_graph.specs.Linked.{Linked, plain}
+use Rattle.cell_graph.specs.Linked.{Linked, IsSound, cell_at, own_of, places_at, plain}
+use Rattle.cell_context.proofs.Gathering.{over_flat}
 use Rattle.rule_text.specs.declared.rules.LayerForm.{LayerForm}
 use Rattle.rule_text.specs.declared.rules.LayerForm.TheVariants as form
 use Rattle.rule_text.specs.declared.rules.LayerRule.{LayerRule}
 use Rattle.rule_layers.specs.Readings.{readings, reading_by, readings_behind}
-use Rattle.layer_phase.specs.Looks.{IsInput}
+use Rattle.layer_phase.specs.Looks.{Grows, IsInput}
 use Rattle.layer_phase.specs.Names.{AreFlats, AreLocals, IsFlatIn}
 
 -- one operator on squares among those looked at
@@ -191,3 +192,20 @@ locals_more d cell all x sets set at h is k y s there found = elim (push_cases s
       let same : y ≡ x = one_tree (slice_get all (length sets)) y x (subst (λ i. slice_get all i ≡ Some y) new.0 there) at in
       subst (λ t. IsLocalLayer (plain d) t cell s) (sym same) (subst (IsLocalLayer (plain d) x cell) new.1 is)
 ]
+
+no_items : {A : Type 0} (xs : List A) → (length xs == 0) ≡ true → xs ≡ []
+no_items [] e = refl
+no_items (x ∷ xs) e = let z : suc (length xs) ≡ 0 = eqb-true _ _ e in absurd (let w : ⊥ = omega arith in w)
+
+-- a cell that places no other has its own squares alone
+pub leaf_flat : (d : Linked) (cell : ℕ) (key : LayerKey) (looks set : List Rect) → IsSound d → (length (places_at (cell_at d cell)) == 0) ≡ true → Grows (own_of (cell_at d cell) key) looks
+    → ((q : Square) → covers set q ≡ covers (own_of (cell_at d cell) key) q) → IsFlatIn d cell looks (Input key) set
+leaf_flat d cell key looks set sound none grows same q =
+    let over = over_flat d sound cell key q in
+    let empty = no_items (places_at (cell_at d cell)) none in (
+      (λ e. let o = sym (same q) ∙ e in (grows q o, over.0 (inl o))),
+      (λ h. same q ∙ elim (over.1 h.1) [
+        | inl o ↦ o
+        | inr t ↦ absurd (none_some t.from (subst (λ l. slice_get l t.index ≡ Some t.from) empty t.step.there))
+      ]),
+    )

@@ -76,13 +76,17 @@ BringsOwn d cell names bound out = (name : ℕ) (key : LayerKey) → name < boun
     → IsInput names name key
     → Grows (own_of (cell_at d cell) key) out
 
+-- the cell's own squares on input layers are among those looked at
+abbrev pub HoldsOwn : Linked → List LayerRule → ℕ → List Rect → Type 0
+HoldsOwn d names cell looks = (name : ℕ) (key : LayerKey) → IsInput names name key
+    → Grows (own_of (cell_at d cell) key) looks
+
 -- near squares with the cell's own on input layers, and with all images of what is disturbed in
 -- placed cells for these
 pub record AreLooks (d : Linked) (z : List (Option CellZones)) (names : List LayerRule) (cell : ℕ)
     (looks : List Rect) : Type 0 where
   pub near : AreNear looks
-  pub own : (name : ℕ) (key : LayerKey) (q : Square) → IsInput names name key
-      → covers (own_of (cell_at d cell) key) q ≡ true → covers looks q ≡ true
+  pub own : HoldsOwn d names cell looks
   pub below : (i : ℕ) (p : Place) → slice_get (places_at (cell_at d cell)) i ≡ Some p
       → (name : ℕ) (key : LayerKey) (zone : List Rect) (row column : ℕ) (s : Square)
       → IsInput names name key

@@ -1,16 +1,19 @@
 //! The flat squares of a cell among those that are looked at, for each name of the rules.
 ghost use Rattle.std.specs.Prelude.{◌≡◌, ◌<◌, ℕ, List, [], get_or, length, IfOk};
-ghost use Rattle.cell_graph.specs.Linked.{Linked};
-ghost use Rattle.flat_layout.specs.Layers.{Binary, Empty, Reading};
+ghost use Rattle.cell_graph.specs.Linked.{Linked, cell_at, own_of};
+ghost use Rattle.flat_layout.specs.Layers.{Binary, Empty, Input, Reading};
 ghost use Rattle.geo_base.specs.declared.shapes.Rect.{Rect};
+ghost use Rattle.rule_text.specs.declared.rules.LayerForm.TheVariants.{Input as InputForm};
+ghost use Rattle.geo_base.specs.declared.layer.LayerKey.{LayerKey};
 ghost use Rattle.rule_layers.specs.Readings.{reading_by, readings};
-ghost use Rattle.layer_phase.specs.Looks.{AreNear};
+ghost use Rattle.layer_phase.specs.Looks.{AreNear, Grows, HoldsOwn};
 ghost use Rattle.layer_phase.specs.Names.{AreFlats, IsFlatIn};
 
+use crate::own::own_copy;
 use crate::parts::input_squares;
 use cell_graph::Design;
 use edge_boolean::combine;
-use geo_base::Op;
+use geo_base::{LayerKey, Op};
 use rect_sets::RectSet;
 use rule_text::{LayerForm, LayerRule};
 use std::alloc::{AllocError, Global};
@@ -42,6 +45,26 @@ fn two_flats(
     Ok(set)
 }
 
+// The flat squares of an input layer. A cell that places no other has its own alone.
+fn input_flat(
+    alloc: Global,
+    design: &Design,
+    cell: u32,
+    key: LayerKey,
+    looks: &RectSet,
+) -> Result<RectSet, AllocError>
+    requires cell { cell < length design.now.cells }
+    requires near { AreNear looks.now }
+    requires own { Grows (own_of (cell_at design.now cell) key) looks.now }
+    ensures { IfOk result (IsFlatIn design.now cell looks.now (Input key)) }
+{
+    design.sound();
+    if design.places(cell).is_empty() {
+        return own_copy(alloc, design, cell, key);
+    }
+    input_squares(alloc, design, cell, key, looks)
+}
+
 // A name's flat squares, over those of the names before it.
 fn form_flat(
     alloc: Global,
@@ -53,12 +76,14 @@ fn form_flat(
 ) -> Result<RectSet, AllocError>
     requires cell { cell < length design.now.cells }
     requires near { AreNear looks.now }
+    requires own { (key : LayerKey) → form ≡ InputForm key
+        → Grows (own_of (cell_at design.now cell) key) looks.now }
     ensures { IfOk result (λ r. (trees : List Reading)
         → AreFlats design.now cell looks.now trees before.now
         → IsFlatIn design.now cell looks.now (reading_by trees form) r) }
 {
     match form {
-        LayerForm::Input(key) => input_squares(alloc, design, cell, key, looks),
+        LayerForm::Input(key) => input_flat(alloc, design, cell, key, looks),
         LayerForm::Labels(_) => Ok(RectSet::empty(alloc)),
         LayerForm::Empty => Ok(RectSet::empty(alloc)),
         LayerForm::Binary(op, a, b) => two_flats(alloc, before, op, a, b),
@@ -76,6 +101,7 @@ pub fn name_flats(
 ) -> Result<Vec<RectSet>, AllocError>
     requires cell { cell < length design.now.cells }
     requires near { AreNear looks.now }
+    requires own { HoldsOwn design.now names.now cell looks.now }
     ensures count { IfOk result (λ v. length v.items ≡ length names.now) }
     ensures flats { IfOk result (λ v. AreFlats design.now cell looks.now (readings names.now)
         v.items) }

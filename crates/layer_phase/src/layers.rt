@@ -11,6 +11,7 @@ ghost use Rattle.layer_phase.specs.Names.{AreLocals, IsFlatIn, IsReady};
 
 use crate::flats::name_flats;
 use crate::looks::looks;
+use crate::own::own_copy;
 use crate::parts::{calm_squares, local_squares};
 use cell_graph::Design;
 use deep_tables::{ZoneKey, Zones};
@@ -30,9 +31,8 @@ fn own_layer(
     ensures { IfOk result (IsLocalLayer (plain design.now) (Input key) cell) }
 {
     design.sound();
-    let mut rects = Vec::new(alloc);
-    rects.extend_from_slice(design.own(cell, key).rects())?;
-    let set = RectSet::canon(alloc, rects)?;
+    let _sound = design.own(cell, key).rects();
+    let set = own_copy(alloc, design, cell, key)?;
     let _canonical = set.rects();
     Ok(set)
 }

@@ -5,6 +5,7 @@ mod flats;
 mod laws;
 mod layers;
 mod looks;
+mod own;
 mod parts;
 mod phase;
 

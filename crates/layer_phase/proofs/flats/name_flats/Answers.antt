@@ -1,9 +1,16 @@
-use Rattle.std.proofs.Common.{◌≡◌, ◌∙◌, ◌+◌, ◌++◌, ◌∷◌, [], ℕ, List, ap, sym, subst, length, length-append}
+use Rattle.std.proofs.Common.{◌≡◌, ◌∙◌, ◌+◌, ◌++◌, ◌∷◌, [], ℕ, Some, List, ap, sym, subst, length, length-append}
+use Rattle.std.proofs.lemmas.Option.{slice_get-get_or}
 use Rattle.geo_base.specs.declared.shapes.Rect.{Rect}
 use Rattle.rule_layers.specs.Readings.{reading_by}
 use Rattle.layer_phase.specs.Names.{AreFlats}
 use Rattle.layer_phase.proofs.Flattening.{flats_more, one_on}
 use Rattle.layer_phase.proofs.flats.name_flats.Goals as goal
+
+pub form_flat-requires-clause-own : goal.form_flat-requires-clause-own
+form_flat-requires-clause-own c = λ key e.
+    let rule = c.rule-item.result in
+    let at = slice_get-get_or c.args.names.now c.loop-rule.rule-index rule c.loop-rule-test.true ∙ ap Some (sym c.rule-item.is) in
+    c.requires.own c.loop-rule.rule-index key (rule, at, e)
 
 pub loop-rule-preserved : goal.loop-rule-preserved
 loop-rule-preserved c =

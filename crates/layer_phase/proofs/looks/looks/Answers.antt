@@ -10,7 +10,7 @@ returns-in-None c =
     let d = c.args.design.now in let none = sym c.hull.ensures ∙ c.in-None.is in
     record {
       near = subst AreNear (sym c.empty.ensures) (λ k r lt. absurd (let z : ⊥ = omega (arith, lt) in z));
-      own = λ name key q is e. absurd (subst (λ o. HullHas o q) none (own_in_hull d c.args.cell key q c.sound.ensures e));
+      own = λ name key is q e. absurd (subst (λ o. HullHas o q) none (own_in_hull d c.args.cell key q c.sound.ensures e));
       below = λ i p at name key zone row column s is entry a b held covered.
           absurd (subst (λ o. HullHas o (moved_square (motion_at p row column) s)) none (step_held d c.args.cell i row column p s c.sound.ensures (record { there = at; row_in = a; column_in = b }) held));
     }

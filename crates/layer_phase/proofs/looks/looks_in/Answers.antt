@@ -16,7 +16,7 @@ returns c =
     let same = c.in_ok-set.ensures in let own = c.in_ok-push_all_own.ensures in
     record {
       near = held_near o c.args.hull.now set c.requires.hull (hull_sound d c.args.cell c.sound.ensures) c.rects-near.ensures.sound (λ q e. own.held q (sym (same q) ∙ e));
-      own = λ name key q is e. same q ∙ own.brings name key (slice_get_within c.args.names.now name is.0 is.1) is q e;
+      own = λ name key is q e. same q ∙ own.brings name key (slice_get_within c.args.names.now name is.0 is.1) is q e;
       below = λ i p at name key zone row column s is entry a b held covered.
           let met = subst (λ x. HullHas x (moved_square (motion_at p row column) s)) c.requires.hull (step_held d c.args.cell i row column p s c.sound.ensures (record { there = at; row_in = a; column_in = b }) held) in
           same _ ∙ own.grows _ (c.in_ok-push_references.ensures.brings i p at name key zone row column s is entry a b held covered met);
