@@ -1,0 +1,61 @@
+//! Derived layers, cell by cell.
+ghost use Rattle.std.specs.Prelude.{◌≤◌, IfOk};
+ghost use Rattle.cell_graph.specs.Linked.{plain};
+ghost use Rattle.deep_tables.specs.Frames.{HasHulls};
+ghost use Rattle.deep_tables.specs.Layers.{AreLayers};
+ghost use Rattle.deep_tables.specs.Zones.{AreZones};
+ghost use Rattle.rule_text.specs.Seen.{rules_seen};
+ghost use Rattle.rule_text.specs.Sound.{IsSound};
+
+use cell_graph::Design;
+use deep_tables::{Layers, Zones};
+use job_graph::run_levels;
+use layer_phase::LayerPhase;
+use rule_text::RuleSet;
+use std::alloc::{AllocError, Global};
+use std::sync::Wait;
+use std::thread::Threads;
+use zone_phase::ZonePhase;
+
+// The disturbed squares of each reached cell.
+fn find_zones<R: Threads + Wait + Sync>(
+    rt: &R,
+    alloc: Global,
+    design: &Design,
+    rules: &RuleSet,
+    workers: usize,
+) -> Result<Zones, AllocError>
+    requires workers { (1 ≤ workers) × (workers ≤ 64) }
+    requires hulls { HasHulls design.now }
+    requires rules { IsSound (rules_seen rules.now) }
+    ensures { IfOk result (AreZones (plain design.now) (rules_seen rules.now)) }
+{
+    design.sound();
+    let phase = ZonePhase::new(alloc, design, rules)?;
+    let results = run_levels(rt, alloc, &phase, workers)?;
+    let zones = Zones::new(alloc, design, results)?;
+    Ok(zones)
+}
+
+/// The squares that each reached cell holds itself, for each name of the rules, of a layout whose
+/// hulls are those of its cells. Nothing is flattened: a cell is worked once, however often it is
+/// placed. The answer is the same for every number of workers. An `Err` is want of memory.
+pub fn derive_layers<R: Threads + Wait + Sync>(
+    rt: &R,
+    alloc: Global,
+    design: &Design,
+    rules: &RuleSet,
+    workers: usize,
+) -> Result<Layers, AllocError>
+    requires workers { (1 ≤ workers) × (workers ≤ 64) }
+    requires hulls { HasHulls design.now }
+    requires rules { IsSound (rules_seen rules.now) }
+    ensures { IfOk result (AreLayers (plain design.now) (rules_seen rules.now)) }
+{
+    design.sound();
+    let zones = find_zones(rt, alloc, design, rules, workers)?;
+    let phase = LayerPhase::new(alloc, design, rules, &zones)?;
+    let results = run_levels(rt, alloc, &phase, workers)?;
+    let layers = Layers::new(alloc, design, results)?;
+    Ok(layers)
+}
