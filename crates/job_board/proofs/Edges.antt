@@ -1,20 +1,18 @@
 -- The lists of edges grow as jobs are added.
-use Rattle.std.proofs.Common.{◌≡◌, ◌≢◌, ℕ, zero, suc, ◌+◌, ◌<◌, ◌≤◌, Bool, true, false, ◌||◌, ◌==◌, if◌then◌else◌, List, [], ◌∷◌, ◌++◌, map, filter, take, length, get_or, set, slice_index, refl, sym, ap, ◌∙◌, subst, arith, append-nil, append_assoc, get_or-set_same, get_or-set_other}
+use Rattle.std.proofs.Common.{◌≡◌, ◌≢◌, ℕ, suc, ◌+◌, ◌<◌, Bool, true, false, ◌||◌, ◌==◌, if◌then◌else◌, List, [], ◌∷◌, ◌++◌, map, take, length, get_or, set, slice_index, refl, sym, ap, ◌∙◌, arith, append-nil, get_or-set_same, get_or-set_other}
 use Rattle.std.specs.Global.{Vec}
-use Rattle.std.specs.List.{range_with_len}
 use Rattle.std.proofs.lemmas.Bool.Decides.{nat_tests}
 use Rattle.std.proofs.lemmas.List.{length-map, map-append, map-set, get_or-map, take_more}
 use Rattle.std.proofs.Math.Decide.{ℕ_discrete}
 use mathlib.Core.Logic.{dite}
-use Rattle.job_graph.specs.Graph.{inputs_of, AreAscending, AreInputs, has}
+use Rattle.job_graph.specs.Graph.{inputs_of, AreAscending, has}
 use Rattle.job_graph.proofs.Booking.{has_more}
 use Rattle.job_graph.proofs.Taken.{none_before}
 use Rattle.job_board.specs.declared.layout.Edge.{Edge}
-use Rattle.job_board.specs.Rule.{dependents}
-use Rattle.job_board.specs.Slots.{first, place, edge_slot}
-use Rattle.job_board.specs.Layout.{edges_at, edge_to, edges_of, new_edge}
+use Rattle.job_board.specs.Slots.{first, place}
+use Rattle.job_board.specs.Layout.{edges_at, edge_to, new_edge}
 use Rattle.job_board.proofs.Slots.{placed, has_index, apart_at}
-use Rattle.job_board.proofs.Waiting.{waiting, filter_next, dependents_at}
+use Rattle.job_board.proofs.Waiting.{waiting, filter_next}
 
 -- the new edge from a job, once the first q inputs were seen
 abbrev pub edge_so_far : List ℕ → ℕ → ℕ → ℕ → ℕ → List Edge
@@ -33,9 +31,10 @@ module _ (inputs : List ℕ) (job first q : ℕ) (a : AreAscending 0 inputs job)
       let test : (j == slice_index inputs q) ≡ true = grind (arith, nat_tests) in
       let now : has j (take (q + 1) inputs) ≡ true = seen_more j ∙ ap (λ b. b || has j (take q inputs)) test in
       let h : has j inputs ≡ true = ap (λ z. has z inputs) e ∙ has_index inputs q l in let p = placed j inputs h in
-      let at : place j inputs ≡ q = apart_at 0 inputs job (place j inputs) q a p.0 l (p.1 ∙ e) in
-      (ap (λ b. if b then record { to = job; slot = first + place j inputs } ∷ [] else []) before,
-       ap (λ b. if b then record { to = job; slot = first + place j inputs } ∷ [] else []) now ∙ ap (λ z. record { to = job; slot = first + z } ∷ []) at)
+      let at : place j inputs ≡ q = apart_at 0 inputs job (place j inputs) q a p.0 l (p.1 ∙ e) in (
+        ap (λ b. if b then record { to = job; slot = first + place j inputs } ∷ [] else []) before,
+        ap (λ b. if b then record { to = job; slot = first + place j inputs } ∷ [] else []) now ∙ ap (λ z. record { to = job; slot = first + z } ∷ []) at,
+      )
 
   so_far_else : (j : ℕ) → j ≢ slice_index inputs q → edge_so_far inputs job first (q + 1) j ≡ edge_so_far inputs job first q j
   so_far_else j d =
@@ -52,9 +51,9 @@ module _ (inputs : List ℕ) (job first q : ℕ) (a : AreAscending 0 inputs job)
       let stood : edges_at now i ≡ v.items = get_or-map (λ (x : Vec Edge). x.items) now i v [] inside ∙ ap (λ (x : Vec Edge). x.items) (sym at) in
       ap (λ z. edges_at z j) is ∙ ap (λ z. get_or z j []) (edges_set now i w) ∙ dite (ℕ_discrete j i)
       (λ e. let s = so_far_here j e in
-        ap (λ z. get_or (set (map (λ (x : Vec Edge). x.items) now) i w.items) z []) e ∙ get_or-set_same (map (λ (x : Vec Edge). x.items) now) i w.items [] (omega arith) ∙ more
-        ∙ ap (λ z. z ++ record { to = job; slot = first + q } ∷ []) (sym stood ∙ ap (edges_at now) (sym e) ∙ h j ∙ ap (λ z. edges_at old j ++ z) s.0 ∙ append-nil (edges_at old j))
-        ∙ ap (λ z. edges_at old j ++ z) (sym s.1))
+      ap (λ z. get_or (set (map (λ (x : Vec Edge). x.items) now) i w.items) z []) e ∙ get_or-set_same (map (λ (x : Vec Edge). x.items) now) i w.items [] (omega arith) ∙ more
+      ∙ ap (λ z. z ++ record { to = job; slot = first + q } ∷ []) (sym stood ∙ ap (edges_at now) (sym e) ∙ h j ∙ ap (λ z. edges_at old j ++ z) s.0 ∙ append-nil (edges_at old j))
+      ∙ ap (λ z. edges_at old j ++ z) (sym s.1))
       (λ d. get_or-set_other (map (λ (x : Vec Edge). x.items) now) i j w.items [] d ∙ h j ∙ ap (λ z. edges_at old j ++ z) (sym (so_far_else j d)))
 
 mapped : (g : List (List ℕ)) (j k : ℕ) (b : Bool) → map (edge_to g j) (if b then k ∷ [] else []) ≡ (if b then edge_to g j k ∷ [] else [])
