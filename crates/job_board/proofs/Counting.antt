@@ -1,5 +1,6 @@
 -- How many of the numbers below n.
-use Rattle.std.proofs.Common.{◌≡◌, ◌≢◌, ℕ, zero, suc, ◌+◌, ◌<◌, ◌≤◌, Bool, true, false, refl, sym, ap, ◌∙◌, arith}
+use Rattle.std.proofs.Common.{◌==◌, ◌≡◌, ◌≢◌, ℕ, zero, suc, ◌+◌, ◌<◌, ◌≤◌, Bool, true, false, refl, sym, ap, ◌∙◌, arith}
+use Rattle.std.proofs.lemmas.Bool.Decides.{nat_tests}
 use Rattle.std.proofs.Math.Decide.{ℕ_discrete}
 use mathlib.Core.Logic.{dite}
 use Rattle.job_board.specs.Rule.{how_many, one_if}
@@ -30,3 +31,10 @@ one_more f g j zero l a b e = absurd (omega arith)
 one_more f g j (suc n) l a b e = dite (ℕ_discrete j n)
     (λ s. let h = same_many g f n (λ k m. e k (λ z. absurd (omega arith))) in let x : one_if (f n) ≡ 0 = ap (λ z. one_if (f z)) (sym s) ∙ ap one_if a in let y : one_if (g n) ≡ 1 = ap (λ z. one_if (g z)) (sym s) ∙ ap one_if b in omega arith)
     (λ s. let h = one_more f g j n (omega arith) a b e in let x = ap one_if (e n (λ z. s (sym z))) in omega arith)
+
+pub how_many_all : (f : ℕ → Bool) (n : ℕ) → ((j : ℕ) → j < n → f j ≡ true) → how_many f n ≡ n
+how_many_all f zero e = refl
+how_many_all f (suc n) e = let a = how_many_all f n (λ j l. e j (omega arith)) in let b = ap one_if (e n (omega arith)) in omega arith
+
+pub is_same : (a b : ℕ) → a ≡ b → (a == b) ≡ true
+is_same a b e = grind (arith, nat_tests)

@@ -1,20 +1,18 @@
 -- The lists of edges grow as jobs are added.
-use Rattle.std.proofs.Common.{◌≡◌, ◌≢◌, ℕ, zero, suc, ◌+◌, ◌<◌, ◌≤◌, Bool, true, false, ◌||◌, ◌==◌, if◌then◌else◌, List, [], ◌∷◌, ◌++◌, map, filter, take, length, get_or, set, slice_index, refl, sym, ap, ◌∙◌, subst, arith, append-nil, append_assoc, get_or-set_same, get_or-set_other}
+use Rattle.std.proofs.Common.{◌≡◌, ◌≢◌, ℕ, suc, ◌+◌, ◌<◌, Bool, true, false, ◌||◌, ◌==◌, if◌then◌else◌, List, [], ◌∷◌, ◌++◌, map, take, length, get_or, set, slice_index, refl, sym, ap, ◌∙◌, arith, append-nil, get_or-set_same, get_or-set_other}
 use Rattle.std.specs.Global.{Vec}
-use Rattle.std.specs.List.{range_with_len}
 use Rattle.std.proofs.lemmas.Bool.Decides.{nat_tests}
 use Rattle.std.proofs.lemmas.List.{length-map, map-append, map-set, get_or-map, take_more}
 use Rattle.std.proofs.Math.Decide.{ℕ_discrete}
 use mathlib.Core.Logic.{dite}
-use Rattle.job_graph.specs.Graph.{inputs_of, AreAscending, AreInputs, has}
+use Rattle.job_graph.specs.Graph.{inputs_of, AreAscending, has}
 use Rattle.job_graph.proofs.Booking.{has_more}
 use Rattle.job_graph.proofs.Taken.{none_before}
 use Rattle.job_board.specs.declared.layout.Edge.{Edge}
-use Rattle.job_board.specs.Rule.{dependents}
-use Rattle.job_board.specs.Slots.{first, place, edge_slot}
-use Rattle.job_board.specs.Layout.{edges_at, edge_to, edges_of, new_edge}
+use Rattle.job_board.specs.Slots.{first, place}
+use Rattle.job_board.specs.Layout.{edges_at, edge_to, new_edge}
 use Rattle.job_board.proofs.Slots.{placed, has_index, apart_at}
-use Rattle.job_board.proofs.Waiting.{waiting, filter_next, dependents_at}
+use Rattle.job_board.proofs.Waiting.{waiting, filter_next}
 
 -- the new edge from a job, once the first q inputs were seen
 abbrev pub edge_so_far : List ℕ → ℕ → ℕ → ℕ → ℕ → List Edge

@@ -6,3 +6,7 @@ pub mod Steps
 pub mod Seats
 pub mod Waiting
 pub mod Edges
+pub mod Pieces
+pub mod Closing
+pub mod Known
+pub mod Ended

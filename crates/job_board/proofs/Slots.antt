@@ -24,10 +24,10 @@ one_slot g k l a b kn ln ak bl e = dite (dec_lt k l) (λ h. let r = block g k l 
     (λ n. dite (dec_lt l k) (λ h. let r = block g l k h (omega arith) in absurd (omega arith)) (λ m. let s : k ≡ l = omega arith in let f : first g k ≡ first g l = ap (first g) s in (s, omega arith)))
 
 -- places in a list
-place_here : (x y : ℕ) (ys : List ℕ) → x ≡ y → place x (y ∷ ys) ≡ 0
+pub place_here : (x y : ℕ) (ys : List ℕ) → x ≡ y → place x (y ∷ ys) ≡ 0
 place_here x y ys e = grind (arith, nat_tests)
 
-place_else : (x y : ℕ) (ys : List ℕ) → x ≢ y → place x (y ∷ ys) ≡ suc (place x ys)
+pub place_else : (x y : ℕ) (ys : List ℕ) → x ≢ y → place x (y ∷ ys) ≡ suc (place x ys)
 place_else x y ys e = grind (arith, nat_tests)
 
 pub placed : (x : ℕ) (ys : List ℕ) → has x ys ≡ true → (place x ys < length ys) × (slice_index ys (place x ys) ≡ x)

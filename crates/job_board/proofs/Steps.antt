@@ -29,7 +29,7 @@ use Rattle.job_board.specs.Slots.{first, edge_slot, SlotsOk, taken, AreRight, he
 use Rattle.job_board.proofs.Slots.{take_them, carried_them, give_them, gives_valid}
 use Rattle.job_board.proofs.SlotSteps.{claimed_at, filled, claimed_slots, told_slots, held_length, given_drop, ended_slots, opened_slots}
 use Rattle.job_board.specs.Plays.{readied, claiming, telling, resting, counting, stopping, Looks, Claims, Took, right_in, Tells, Ends, Counts, Stops}
-use Rattle.job_board.proofs.Counting.{one_if_small, how_many_small, all_of_them, same_many, one_more}
+use Rattle.job_board.proofs.Counting.{one_if_small, how_many_small, all_of_them, how_many_all, is_same, same_many, one_more}
 use Rattle.job_board.proofs.Keeping.{job_stays, made_stays, ready_stays, moved, views_change, is_there, unmoved, moves}
 
 -- one more event
@@ -363,7 +363,11 @@ module _ {T K S : Type 0} (empty : S) (right : Plan T K → ℕ → S → Type 0
               eqb_is (st.stage j) (last_stage d j) (all_of_them (λ b. st.stage b == last_stage d b) (length g) (omega arith) j l)) a;
           stopped = ok.stopped;
         } (λ z. z)) r.slots,
-        refl,
+        (
+          refl,
+          λ f. let all = how_many_all (λ b. st.stage b == last_stage d b) (length g) (λ b l. is_same (st.stage b) (last_stage d b) (ok.full f b l)) in let was = h.done in let bit = one_if_small st.stopped in
+              let n : length (graph_in me.0.plan) ≡ length g = ap (λ (y : Option (Plan T K)). length (graph_in y)) planned in omega arith,
+        ),
       )
 
   pub stops : Allows Rule slots id me 0 (λ n. bit_or n 1) (Stops (step slots 0 1 0 none) me)

@@ -1,11 +1,11 @@
 -- Where the slots of each job are, and which edges lead to its dependents.
-use Rattle.std.specs.Prelude.{◌≡◌, ◌+◌, ◌<◌, ◌≤◌, ℕ, Bool, true, false, if◌then◌else◌, List, [], ◌∷◌, map, length, get_or, slice_index}
+use Rattle.std.specs.Prelude.{◌≡◌, ◌+◌, ◌<◌, ◌≤◌, ℕ, if◌then◌else◌, List, [], ◌∷◌, map, length, get_or, slice_index}
 use Rattle.std.specs.Global.{Vec}
-use Rattle.job_graph.specs.Graph.{inputs_of, has}
+use Rattle.job_graph.specs.Graph.{inputs_of, AreInputs, has}
 use Rattle.job_board.specs.declared.layout.Edge.{Edge}
 use Rattle.job_board.specs.declared.layout.Layout.{Layout}
 use Rattle.job_board.specs.Rule.{dependents}
-use Rattle.job_board.specs.Slots.{first, place, edge_slot}
+use Rattle.job_board.specs.Slots.{first, own_slot, place, edge_slot}
 
 -- the edges from a job
 abbrev pub edges_at : List (Vec Edge) → ℕ → List Edge
@@ -26,10 +26,11 @@ new_edge inputs job first from =
 
 -- the layout is that of the graph
 pub record IsLayout (g : List (List ℕ)) (x : Layout) : Type 0 where
+  pub sound : AreInputs g
   pub graph : x.graph ≡ g
   pub edge_count : length x.edges.items ≡ length g
-  pub first_count : length x.firsts.items ≡ length g
+  pub own_count : length x.owns.items ≡ length g
   pub edges : (job : ℕ) → job < length g → edges_at x.edges.items job ≡ edges_of g job
-  pub firsts : (job : ℕ) → job < length g → slice_index x.firsts.items job ≡ first g job
+  pub owns : (job : ℕ) → job < length g → slice_index x.owns.items job ≡ own_slot g job
   pub slots : x.slots ≡ first g (length g)
   pub most : (job : ℕ) → job < length g → length (inputs_of g job) ≤ x.most

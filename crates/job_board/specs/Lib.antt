@@ -4,3 +4,7 @@ pub mod Plays
 pub mod Notes
 pub mod Pieces
 pub mod Layout
+pub mod Inputs
+pub mod Board
+pub mod Answers
+pub mod Work

@@ -29,13 +29,6 @@ module _ {T K S : Type 0} where
     pub hand : (y : S) × (c : List (ℕ × S)) × (me.1 ≡ held_by empty (graph_of p) j y ++ c)
         × right p j y
 
--- the slots of the edges from j to these jobs
-abbrev pub AreSlots : List (List ℕ) → ℕ → List ℕ → List ℕ → Type 0
-AreSlots g j [] [] = Unit {0}
-AreSlots g j (k ∷ ks) (e ∷ es) = (e ≡ edge_slot g j k) × AreSlots g j ks es
-AreSlots g j [] (e ∷ es) = ⊥
-AreSlots g j (k ∷ ks) [] = ⊥
-
 -- these slots, empty
 abbrev pub waiting_slots : {S : Type 0} → S → List (List ℕ) → ℕ → List ℕ → List (ℕ × S)
 waiting_slots empty g j ks = map (λ k. (edge_slot g j k, empty)) ks
@@ -46,6 +39,13 @@ abbrev pub HasTaken : {T K S : Type 0} → S → (Plan T K → ℕ → S → Typ
     → List (ℕ × S) → Type 0
 HasTaken {S = S} empty right p j c = (ys : List S) × AreRight (right p) (inputs_of (graph_of p) j)
     ys × (c ≡ taken empty (graph_of p) (dependents_of p) j ys)
+
+-- what the seat holds once these notes are out: the empty slots of the job's edges, its own, and
+-- those of its inputs
+abbrev pub IsOut : {T K S : Type 0} → S → Plan T K → ℕ → List (ℕ × S) → Type 0
+IsOut empty p j c =
+    c ≡ waiting_slots empty (graph_of p) j (inputs_of (dependents_of p) j)
+    ++ held_by empty (graph_of p) j empty
 
 -- the own slot of each job
 pub record AreOwn (g : List (List ℕ)) (own : List ℕ) : Type 0 where

@@ -114,7 +114,9 @@ module _ {T K : Type 0} where
 
     -- a load of the done word that reads n
     abbrev pub Counts : Step S → Me S (View T K) → ℕ → Me S (View T K) → Type 0
-    Counts st m n m' = m' ≡ (counting m.0 (n / 2 == length (graph_in m.0.plan)), m.1)
+    Counts st m n m' =
+        (m' ≡ (counting m.0 (n / 2 == length (graph_in m.0.plan)), m.1))
+        × (m.0.full ≡ true → n / 2 ≡ length (graph_in m.0.plan))
 
     -- a fetch_or of the stop bit
     abbrev pub Stops : Step S → Me S (View T K) → ℕ → Me S (View T K) → Type 0

@@ -2,7 +2,6 @@
 ghost use Rattle.std.specs.Prelude.{◌≡◌, ◌<◌, ◌≤◌, ◌+◌, ◌^◌, ℕ, ◌++◌, length, map, replicate, [], IfOk, OnOk};
 ghost use Rattle.job_graph.specs.Graph.{AreAscending, AreInputs, inputs_of};
 ghost use Rattle.job_board.specs.Layout.{IsLayout, edges_at, edges_of, new_edge};
-ghost use Rattle.job_board.specs.Slots.{first};
 
 use job_graph::Graph;
 use std::alloc::{AllocError, Global};
@@ -14,12 +13,13 @@ pub(crate) struct Edge {
     pub slot: usize,
 }
 
-/// Of each job what it waits for, its edges to its dependents, and its first slot.
+/// Of each job what it waits for, its edges to its dependents, and its own slot.
 #[derive(Drop)]
 pub(crate) struct Layout {
     pub graph: Graph,
     pub edges: Vec<Vec<Edge>>,
-    pub firsts: Vec<usize>,
+    /// A job's own slot stands behind those of its inputs.
+    pub owns: Vec<usize>,
     /// The number of all slots.
     pub slots: usize,
     /// No job has more inputs.
@@ -80,32 +80,23 @@ impl Layout {
         ensures { IfOk result (IsLayout graph.now) }
     {
         let mut edges = no_edges(alloc, graph.jobs())?;
-        let mut firsts = Vec::with_capacity(alloc, graph.jobs() as usize)?;
+        let mut owns = Vec::with_capacity(alloc, graph.jobs() as usize)?;
         let mut slots = 0;
         let mut most = 0;
         for job in 0..graph.jobs() {
             let inputs = graph.inputs(job);
             add_edges(&mut edges, inputs, job, slots)?;
-            firsts.push(slots)?;
+            owns.push(slots + inputs.len())?;
             most = most.max(inputs.len());
             slots += inputs.len() + 1;
         }
         Ok(Layout {
             graph: copied(alloc, graph)?,
             edges,
-            firsts,
+            owns,
             slots,
             most,
         })
-    }
-
-    /// The first slot of a job.
-    pub(crate) fn first(&self, job: u32) -> usize
-        requires layout { IsLayout self.now.graph self.now }
-        requires job { job < length self.now.graph }
-        ensures { result ≡ first self.now.graph job }
-    {
-        self.firsts[job as usize]
     }
 
     /// The edges from a job to its dependents, ascending.

@@ -41,19 +41,21 @@ pub(crate) fn claim<T: Defined>(table: &BoardTable<T>, seat: &mut TableSeat<T>, 
 
 /// The number of finished jobs, and whether the board was stopped.
 pub(crate) fn progress<T: Defined>(table: &BoardTable<T>, seat: &mut TableSeat<T>) -> (u64, bool)
-    requires board { IsFor table.now.shared.table_id table.now.shared.key seat.old.table_id
-        seat.old.me.0 }
+    requires board { IsFor table.now.shared.table_id table.now.shared.key
+        seat.old.table_id seat.old.me.0 }
     ensures seat { (seat.new.table_id ≡ seat.old.table_id) × (seat.new.id ≡ seat.old.id) }
     ensures count { seat.new.me ≡ (
       counting seat.old.me.0
           (result.0 == length (graph_in seat.old.me.0.plan)),
       seat.old.me.1,
     ) }
+    ensures full { seat.old.me.0.full ≡ true → result.0 ≡ length (graph_in seat.old.me.0.plan) }
 {
     let word = table.shared.load::<Count>(seat, 0);
     (word / 2, word % 2 == 1)
 }
 
+/// Stops the board.
 pub(crate) fn stop<T: Defined>(table: &BoardTable<T>, seat: &mut TableSeat<T>)
     requires board { IsFor table.now.shared.table_id table.now.shared.key seat.old.table_id
         seat.old.me.0 }
@@ -95,6 +97,7 @@ pub(crate) fn end<T: Defined>(table: &BoardTable<T>, seat: &mut TableSeat<T>, jo
     table.shared.fetch_add::<End>(seat, 0, 2);
 }
 
+/// A further seat.
 pub(crate) fn split<T: Defined>(table: &BoardTable<T>, seat: &mut TableSeat<T>) -> TableSeat<T>
     requires board { IsFor table.now.shared.table_id table.now.shared.key seat.old.table_id
         seat.old.me.0 }
@@ -106,6 +109,7 @@ pub(crate) fn split<T: Defined>(table: &BoardTable<T>, seat: &mut TableSeat<T>) 
     table.shared.split_seat::<Cut>(seat)
 }
 
+/// Takes a seat that holds no slot into this one.
 pub(crate) fn join<T: Defined>(table: &BoardTable<T>, seat: &mut TableSeat<T>, other: TableSeat<T>)
     requires board { IsFor table.now.shared.table_id table.now.shared.key seat.old.table_id
         seat.old.me.0 }

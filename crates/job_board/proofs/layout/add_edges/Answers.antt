@@ -1,4 +1,4 @@
-use Rattle.std.proofs.Common.{rules, ◌≡◌, ◌<◌, ◌≤◌, ℕ, List, length, slice_index, refl, ◌∙◌, arith, length-set}
+use Rattle.std.proofs.Common.{rules, ◌<◌, ℕ, List, length, slice_index, refl, ◌∙◌, arith, length-set}
 use Rattle.job_graph.specs.Graph.{AreAscending}
 use Rattle.job_graph.proofs.Inputs.{has_within, item_has}
 use Rattle.job_board.proofs.Edges.{edge_pushed}

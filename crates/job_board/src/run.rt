@@ -1,0 +1,86 @@
+//! Workers on the board of a phase.
+ghost use Rattle.std.specs.Prelude.{◌≡◌, ◌≤◌, All, IfOk, OnOk};
+ghost use Rattle.job_graph.specs.Table.{AreDefined};
+ghost use Rattle.job_board.specs.Board.{IsSeatOf};
+ghost use Rattle.job_board.specs.Work.{IsBoardOf, MayGoOn};
+
+use crate::board::Board;
+use crate::gate::Gate;
+use crate::seat::BoardSeat;
+use crate::work::work_all;
+use job_graph::{Defined, Phase, Results};
+use std::alloc::{AllocError, Global};
+use std::sync::Wait;
+use std::thread;
+use std::thread::Threads;
+
+/// A seat for each worker, with the worker's number.
+fn split_seats<T: Defined + Drop>(
+    alloc: Global,
+    board: &Board<T>,
+    seat: &mut BoardSeat<T>,
+    workers: u32,
+) -> Result<Vec<(u32, BoardSeat<T>)>, AllocError>
+    requires { IsSeatOf board.now seat.old }
+    ensures seat { seat.new ≡ seat.old }
+    ensures seats { IfOk result (λ v. All (λ w. MayGoOn board.now w.1) v.items) }
+{
+    let mut seats = Vec::with_capacity(alloc, workers as usize)?;
+    for worker in 0..workers {
+        let further = board.split(alloc, seat)?;
+        seats.push((worker, further))?;
+    }
+    Ok(seats)
+}
+
+/// Takes the workers' seats into one. A worker that found no memory ends it.
+fn join_seats<T: Defined + Drop>(
+    board: &Board<T>,
+    seat: &mut BoardSeat<T>,
+    ended: Vec<Result<BoardSeat<T>, AllocError>>,
+) -> Result<(), AllocError>
+    requires seat { IsSeatOf board.now seat.old }
+    requires ended { All (λ r. IfOk r (MayGoOn board.now)) ended.items }
+    ensures { IsSeatOf board.now seat.new }
+{
+    for end in ended {
+        board.join(seat, end?);
+    }
+    Ok(())
+}
+
+/// The value of each job of a phase, worked by this many workers at once without a lock: a worker
+/// takes any job whose inputs are all published, enters the gate and works it. The calling thread
+/// is one of them, so a thread that can't be started changes no answer. A worker that finds no
+/// memory stops the others. The values stand in the order of the jobs, and are the same for every
+/// number of workers and every order in which jobs come free. O(jobs + inputs) beside the work
+/// itself and the waiting.
+pub fn run_phase<R: Threads + Wait + Sync, P: Phase + Sync, G: Gate + Sync>(
+    rt: &R,
+    alloc: Global,
+    phase: &P,
+    workers: usize,
+    gate: &G,
+) -> Result<Results<P::Out>, AllocError>
+    requires { (1 ≤ workers) × (workers ≤ 64) }
+    ensures { IfOk result (AreDefined P.Out.is_defined (P.key phase.now) (P.graph phase.now)) }
+{
+    let (board, seat) = Board::new(alloc, phase.graph(), phase.key())?;
+    let mut seat = seat;
+    let seats = split_seats(alloc, &board, &mut seat, workers as u32)?;
+    let shared = &board;
+    let ended = thread::map_vec(
+        rt,
+        seats,
+        &|worker: (u32, BoardSeat<P::Out>)| -> Result<BoardSeat<P::Out>, AllocError>
+            requires board { IsBoardOf (P.graph phase.now) (P.key phase.now) shared.now }
+            requires seat { MayGoOn shared.now worker.1 }
+            ensures { IfOk result (MayGoOn shared.entry.now) }
+        { work_all(rt, alloc, phase, gate, shared, worker.0, worker.1) },
+    )?;
+    join_seats(shared, &mut seat, ended)?;
+    match board.close(seat) {
+        Ok(results) => Ok(results),
+        Err(_) => Err(AllocError),
+    }
+}

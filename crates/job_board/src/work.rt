@@ -1,0 +1,130 @@
+//! What one worker does: it claims jobs that are ready, works them and publishes their values.
+ghost use Rattle.std.specs.Prelude.{◌≡◌, ◌<◌, ℕ, length, IfOk, OnOk};
+ghost use Rattle.job_board.specs.Board.{IsFree, IsSeatOf, IsTicket, HasTicket, jobs_on, key_on};
+ghost use Rattle.job_board.specs.Work.{IsBoardOf, MayGoOn};
+
+use crate::board::Board;
+use crate::gate::Gate;
+use crate::seat::{BoardSeat, Claim, Look, Ticket};
+use crate::tries::Tries;
+use job_graph::Phase;
+use std::alloc::{AllocError, Global};
+use std::sync::Wait;
+use std::thread;
+
+/// Works a claimed job and publishes its value.
+fn work_ticket<R: Wait, P: Phase>(
+    rt: &R,
+    alloc: Global,
+    phase: &P,
+    board: &Board<P::Out>,
+    seat: &mut BoardSeat<P::Out>,
+    ticket: Ticket<P::Out>,
+) -> Result<(), AllocError>
+    requires board { IsBoardOf (P.graph phase.now) (P.key phase.now) board.now }
+    requires seat { IsSeatOf board.now seat.old }
+    requires ticket { IsTicket P.Out.is_defined board.now ticket }
+    requires mine { HasTicket board.now seat.old ticket }
+    ensures seat { IsSeatOf board.now seat.new }
+    ensures free { OnOk result (IsFree board.now seat.new) }
+{
+    let value = phase.work(alloc, ticket.job(), &board.reads(&ticket))?;
+    let value = Box::new(alloc, value)?;
+    board.publish(rt, seat, ticket, value);
+    Ok(())
+}
+
+/// Works a job where it is ready and no seat has it, and says whether it did.
+fn try_job<R: Wait, P: Phase, G: Gate>(
+    rt: &R,
+    alloc: Global,
+    phase: &P,
+    gate: &G,
+    board: &Board<P::Out>,
+    seat: &mut BoardSeat<P::Out>,
+    job: u32,
+) -> Result<bool, AllocError>
+    requires board { IsBoardOf (P.graph phase.now) (P.key phase.now) board.now }
+    requires seat { IsSeatOf board.now seat.old }
+    requires free { IsFree board.now seat.old }
+    requires job { job < length (jobs_on board.now) }
+    ensures seat { IsSeatOf board.now seat.new }
+    ensures free { OnOk result (IsFree board.now seat.new) }
+{
+    let Look::Ready(ready) = board.look(seat, job) else {
+        return Ok(false);
+    };
+    let Claim::Mine(ticket) = board.claim(seat, ready) else {
+        return Ok(false);
+    };
+    gate.enter(job);
+    work_ticket(rt, alloc, phase, board, seat, ticket)?;
+    Ok(true)
+}
+
+/// Tries jobs until all are finished or the board is stopped. After a job those that wait for it
+/// come first.
+fn work_on<R: Wait, P: Phase, G: Gate>(
+    rt: &R,
+    alloc: Global,
+    phase: &P,
+    gate: &G,
+    board: &Board<P::Out>,
+    seat: &mut BoardSeat<P::Out>,
+    tries: &mut Tries,
+) -> Result<(), AllocError>
+    requires board { IsBoardOf (P.graph phase.now) (P.key phase.now) board.now }
+    requires seat { IsSeatOf board.now seat.old }
+    requires free { IsFree board.now seat.old }
+    requires tries { tries.old ≡ length (jobs_on board.now) }
+    ensures seat { IsSeatOf board.now seat.new }
+    ensures free { OnOk result (IsFree board.now seat.new) }
+{
+    let jobs = u64::from(board.jobs());
+    for _ in rt.forever() {
+        let progress = board.progress(seat);
+        if progress.stopped || progress.finished == jobs {
+            return Ok(());
+        }
+        let job = tries.next();
+        if try_job(rt, alloc, phase, gate, board, seat, job)? {
+            board.add_dependents(job, tries);
+        } else {
+            thread::yield_now();
+        }
+    }
+    unreachable!();
+}
+
+/// What one worker does with its seat, from a place of its own on. A worker that finds no memory
+/// stops the board.
+pub(crate) fn work_all<R: Wait, P: Phase, G: Gate>(
+    rt: &R,
+    alloc: Global,
+    phase: &P,
+    gate: &G,
+    board: &Board<P::Out>,
+    place: u32,
+    seat: BoardSeat<P::Out>,
+) -> Result<BoardSeat<P::Out>, AllocError>
+    requires board { IsBoardOf (P.graph phase.now) (P.key phase.now) board.now }
+    requires seat { MayGoOn board.now seat }
+    ensures { IfOk result (MayGoOn board.now) }
+{
+    let mut seat = seat;
+    let jobs = board.jobs();
+    if jobs == 0 {
+        return Ok(seat);
+    }
+    let Ok(mut tries) = Tries::new(alloc, jobs, place % jobs) else {
+        board.stop(&mut seat);
+        return Err(AllocError);
+    };
+    match work_on(rt, alloc, phase, gate, board, &mut seat, &mut tries) {
+        Ok(()) => Ok(seat),
+        Err(e) => {
+            board.stop(&mut seat);
+            Err(e)
+        }
+    }
+}
