@@ -1,6 +1,8 @@
 pub mod ByName
 pub mod Existing
 pub mod Finding
+pub mod Firsts
+pub mod Holding
 pub mod LaidLists
 pub mod Laying
 pub mod Marking
@@ -8,5 +10,6 @@ pub mod Partnered
 pub mod Rows
 pub mod Seeing
 pub mod Shortened
+pub mod Sided
 pub mod There
 pub mod Walking

@@ -51,7 +51,7 @@ firsts_more (y ∷ xs) seen x = firsts_more xs (with_first seen y) x
 
 -- ---- a table of places
 
-at_end : {A : Type 0} (xs : List A) (x y : A) (k : ℕ) → slice_get (xs ++ x ∷ []) k ≡ Some y → (slice_get xs k ≡ Some y) ⊎ ((k ≡ length xs) × (x ≡ y))
+pub at_end : {A : Type 0} (xs : List A) (x y : A) (k : ℕ) → slice_get (xs ++ x ∷ []) k ≡ Some y → (slice_get xs k ≡ Some y) ⊎ ((k ≡ length xs) × (x ≡ y))
 at_end [] x y zero e = inr (refl, let k : x ≡ y = cc in k)
 at_end [] x y (suc k) e = absurd (let z : ⊥ = cc in z)
 at_end (z ∷ xs) x y zero e = inl e

@@ -5,3 +5,4 @@ pub mod Found
 pub mod Walked
 pub mod Flattened
 pub mod Sights
+pub mod Kept

@@ -4,6 +4,7 @@
 
 mod cut;
 mod flatten;
+mod held;
 mod inline;
 mod marks;
 mod names;
