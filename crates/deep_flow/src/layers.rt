@@ -1,7 +1,6 @@
 //! Derived layers, cell by cell.
 ghost use Rattle.std.specs.Prelude.{◌≤◌, IfOk};
 ghost use Rattle.cell_graph.specs.Linked.{plain};
-ghost use Rattle.deep_tables.specs.Frames.{HasHulls};
 ghost use Rattle.deep_tables.specs.Layers.{AreLayers};
 ghost use Rattle.deep_tables.specs.Zones.{AreZones};
 ghost use Rattle.rule_text.specs.Seen.{rules_seen};
@@ -26,7 +25,6 @@ fn find_zones<R: Threads + Wait + Sync>(
     workers: usize,
 ) -> Result<Zones, AllocError>
     requires workers { (1 ≤ workers) × (workers ≤ 64) }
-    requires hulls { HasHulls design.now }
     requires rules { IsSound (rules_seen rules.now) }
     ensures { IfOk result (AreZones (plain design.now) (rules_seen rules.now)) }
 {
@@ -37,8 +35,7 @@ fn find_zones<R: Threads + Wait + Sync>(
     Ok(zones)
 }
 
-/// The squares that each reached cell holds itself, for each name of the rules, of a layout whose
-/// hulls are those of its cells. Nothing is flattened: a cell is worked once, however often it is
+/// The squares that each reached cell holds itself, for each name of the rules. Nothing is flattened: a cell is worked once, however often it is
 /// placed. The answer is the same for every number of workers. An `Err` is want of memory.
 pub fn derive_layers<R: Threads + Wait + Sync>(
     rt: &R,
@@ -48,7 +45,6 @@ pub fn derive_layers<R: Threads + Wait + Sync>(
     workers: usize,
 ) -> Result<Layers, AllocError>
     requires workers { (1 ≤ workers) × (workers ≤ 64) }
-    requires hulls { HasHulls design.now }
     requires rules { IsSound (rules_seen rules.now) }
     ensures { IfOk result (AreLayers (plain design.now) (rules_seen rules.now)) }
 {

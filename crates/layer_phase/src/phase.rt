@@ -1,7 +1,6 @@
 //! The phase of the squares that cells hold themselves.
 ghost use Rattle.std.specs.Prelude.{◌≡◌, IfOk};
 ghost use Rattle.cell_graph.specs.Linked.{plain};
-ghost use Rattle.deep_tables.specs.Frames.{HasHulls};
 ghost use Rattle.deep_tables.specs.Zones.{AreZones};
 ghost use Rattle.rule_text.specs.Seen.{rules_seen};
 ghost use Rattle.layer_phase.specs.Phase.{AreFreeJobs};
@@ -48,15 +47,14 @@ fn free_graph(alloc: Global, design: &Design) -> Result<Graph, AllocError>
 }
 
 impl<'a> LayerPhase<'a> {
-    /// The phase of a layout whose hulls are those of its cells, and of its disturbed squares for
-    /// these rules. 2^32 names or more are refused. Linear in the reached cells.
+    /// The phase of a layout and of its disturbed squares for these rules. 2^32 names or more are
+    /// refused. Linear in the reached cells.
     pub fn new(
         alloc: Global,
         design: &'a Design,
         rules: &'a RuleSet,
         zones: &'a Zones,
     ) -> Result<LayerPhase<'a>, AllocError>
-        requires hulls { HasHulls design.now }
         requires zones { AreZones (plain design.now) (rules_seen rules.now) zones.now }
         ensures design { IfOk result (λ p. p.design ≡ design.now) }
         ensures rules { IfOk result (λ p. p.rules ≡ rules.now) }
@@ -65,6 +63,7 @@ impl<'a> LayerPhase<'a> {
         if rules.names.len() > u32::MAX as usize {
             return Err(AllocError);
         }
+        design.sound();
         let graph = free_graph(alloc, design)?;
         Ok(LayerPhase {
             design,

@@ -1,7 +1,6 @@
 -- What a phase of disturbed squares is made from.
 use Rattle.std.specs.Prelude.{List, ℕ}
 use Rattle.cell_graph.specs.Linked.{Linked}
-use Rattle.deep_tables.specs.Frames.{HasHulls}
 use Rattle.rule_text.specs.declared.rules.RuleSet.{RuleSet}
 use Rattle.rule_text.specs.Seen.{rules_seen}
 use Rattle.rule_text.specs.Sound.{IsSound}
@@ -19,7 +18,6 @@ abbrev pub jobs_seen : Inside → ZoneJobs
 jobs_seen a = record { design = a.design.now; rules = a.rules.now; graph = a.graph }
 
 pub record IsZonePhase (a : Inside) : Type 0 where
-  pub hulls : HasHulls a.design.now
   pub rules : IsSound (rules_seen a.rules.now)
   pub uses : AreUses a.design.now (lists_of a.uses.items)
   pub graph : AreParentJobs a.design.now a.graph

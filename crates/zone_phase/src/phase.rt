@@ -1,6 +1,5 @@
 //! The phase of disturbed squares.
 ghost use Rattle.std.specs.Prelude.{◌≡◌, IfOk};
-ghost use Rattle.deep_tables.specs.Frames.{HasHulls};
 ghost use Rattle.rule_text.specs.Seen.{rules_seen};
 ghost use Rattle.rule_text.specs.Sound.{IsSound};
 ghost use Rattle.zone_phase.specs.Graph.{AreParentJobs};
@@ -39,13 +38,12 @@ impl<'a> Model for ZonePhase<'a> {
 }
 
 impl<'a> ZonePhase<'a> {
-    /// The phase of a layout whose hulls are those of its cells. Linear in the references.
+    /// The phase of a layout. Linear in the references.
     pub fn new(
         alloc: Global,
         design: &'a Design,
         rules: &'a RuleSet,
     ) -> Result<ZonePhase<'a>, AllocError>
-        requires hulls { HasHulls design.now }
         requires rules { IsSound (rules_seen rules.now) }
         ensures design { IfOk result (λ p. p.design ≡ design.now) }
         ensures rules { IfOk result (λ p. p.rules ≡ rules.now) }

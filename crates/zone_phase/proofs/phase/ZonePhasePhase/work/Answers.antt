@@ -53,7 +53,7 @@ name_zones-requires-clause-entries g c = λ name key named k u at.
     (c.requires.right i (subst (λ (z : ZoneJobs). Waits z.graph c.args.job i) c.self.view_is w)))
     k u there in
     some_more (AreCellZones (plain d) r (downward_cell d u.job)) (IsEntry d key name (downward_cell d u.job)) (value u.job)
-    (λ v. entry_of d r (downward_cell d u.job) name key v a.hulls (job_reached d u.job c.sound.ensures (a.uses.each (downward_cell d c.args.job) k u there).job_in)
+    (λ v. entry_of d r (downward_cell d u.job) name key v (λ n there. c.sound.ensures.hulls.each n) (job_reached d u.job c.sound.ensures (a.uses.each (downward_cell d c.args.job) k u there).job_in)
     (subst (λ (l : List LayerRule). slice_get (readings l) name ≡ Some (Input key)) c.deref-2.ensures.value named)) right
 
 pub returns : goal.returns
@@ -67,7 +67,7 @@ returns g c =
     subst (λ n. AreNameZones d n (readings r.names) c.in_ok-layers.layers.items) cell
     (subst (λ (l : List LayerRule). AreNameZones d (slice_index c.order-order.result.now (length c.order-order.result.now - 1 - job)) (readings l) c.in_ok-layers.layers.items) c.deref-2.ensures.value c.in_ok-layers.ensures.zones) in
     subst (λ (z : ZoneJobs). AreCellZones (plain z.design) (rules_seen z.rules) (downward_cell z.design job) v) c.self.view_is
-    (cell_zones d r (downward_cell d job) v a.hulls a.rules (job_reached d job c.sound.ensures lt)
+    (cell_zones d r (downward_cell d job) v (λ n there. c.sound.ensures.hulls.each n) a.rules (job_reached d job c.sound.ensures lt)
     (c.in_ok-layers.ensures.count ∙ ap (λ (l : List LayerRule). length (readings l)) c.deref-2.ensures.value) zones c.in_ok-layers.ensures.canonical
     (c.in_ok-devices.ensures.count ∙ ap length c.deref-4.ensures.value)
     (subst (λ (l : List MosRule). AreMosZones d (downward_cell d job) (readings r.names) l c.in_ok-devices.devices.items) c.deref-4.ensures.value
