@@ -1,0 +1,10 @@
+//! Tests of the board of jobs and of the machine, with a small phase and gates that watch workers.
+#![tactic(auto)]
+
+#[cfg(test)]
+mod board;
+mod graphs;
+#[cfg(test)]
+mod phase;
+
+pub use graphs::graph_of;
