@@ -11,5 +11,6 @@ pub mod Rows
 pub mod Seeing
 pub mod Shortened
 pub mod Sided
+pub mod Sides
 pub mod There
 pub mod Walking

@@ -6,3 +6,4 @@ pub mod Walked
 pub mod Flattened
 pub mod Sights
 pub mod Kept
+pub mod Side

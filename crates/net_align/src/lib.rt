@@ -10,5 +10,6 @@ mod marks;
 mod names;
 mod numbers;
 mod partners;
+mod side;
 mod sights;
 mod walk;
