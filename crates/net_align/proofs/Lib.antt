@@ -6,6 +6,7 @@ pub mod Holding
 pub mod LaidLists
 pub mod Laying
 pub mod Marking
+pub mod Pairing
 pub mod Partnered
 pub mod Rows
 pub mod Seeing

@@ -7,3 +7,4 @@ pub mod Flattened
 pub mod Sights
 pub mod Kept
 pub mod Side
+pub mod Paired

@@ -9,6 +9,7 @@ mod inline;
 mod marks;
 mod names;
 mod numbers;
+mod pairs;
 mod partners;
 mod side;
 mod sights;
