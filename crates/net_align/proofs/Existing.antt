@@ -51,53 +51,58 @@ at_indexed f [] i y e = absurd (let z : ⊥ = cc in z)
 at_indexed f (x ∷ xs) zero y e = (x, refl)
 at_indexed f (x ∷ xs) (suc i) y e = at_indexed (λ k. f (suc k)) xs i y e
 
-module _ (g : Netlist) (height : ℕ → ℕ) (good : IsGood g height) (goes : ℕ → Bool) where
-  nothing : FlatCircuit
+module _ (g : Netlist) (goes : ℕ → Bool) where
+  abbrev pub nothing : FlatCircuit
   nothing = record { name = []; nets = []; pins = []; devices = []; calls = [] }
 
   -- with n levels
-  abbrev flat_at : ℕ → ℕ → FlatCircuit
+  abbrev pub flat_at : ℕ → ℕ → FlatCircuit
   flat_at zero c = nothing
   flat_at (suc n) c = inlined goes (flat_at n) (given_of g c)
 
+-- each circuit with as many levels as it is high
+abbrev pub flattening_of : Netlist → (ℕ → ℕ) → (ℕ → Bool) → Flattening
+flattening_of g height goes = record {
+  flat = record { circuits = indexed (λ (c : ℕ) (x : Circuit). plain (flat_at g goes (suc (height c)) c)) g.circuits };
+  flats = λ c. flat_at g goes (suc (height c)) c;
+  height = height;
+}
+
+module _ (g : Netlist) (height : ℕ → ℕ) (good : IsGood g height) (goes : ℕ → Bool) where
   given_is : (c : ℕ) (given : Circuit) → IsCircuit g c given → given_of g c ≡ given
   given_is c given is = ap circuit_or is
 
   below : (c k : ℕ) (row : CallRow) (given : Circuit) → IsCircuit g c given → slice_get (given_of g c).calls k ≡ Some row → IsCall g c k row
   below c k row given is e = (given, is, subst (λ (x : Circuit). slice_get x.calls k ≡ Some row) (given_is c given is) e)
 
-  stable : (n m c : ℕ) (given : Circuit) → IsCircuit g c given → height c < n → height c < m → flat_at n c ≡ flat_at m c
+  stable : (n m c : ℕ) (given : Circuit) → IsCircuit g c given → height c < n → height c < m → flat_at g goes n c ≡ flat_at g goes m c
   stable zero m c given is l k = absurd (let z = l in omega arith)
   stable (suc n) zero c given is l k = absurd (let z = k in omega arith)
   stable (suc n) (suc m) c given is l k =
-      made_same goes (flat_at n) (flat_at m) (given_of g c) (λ j row e.
+      made_same goes (flat_at g goes n) (flat_at g goes m) (given_of g c) (λ j row e.
       let call = below c j row given is e in
       let d = good.called c j row call in
       let deeper = good.lower c j row call in
       stable n m row.circuit d.0 d.1 (omega (arith, l, deeper)) (omega (arith, k, deeper)))
 
   abbrev all : ℕ → FlatCircuit
-  all c = flat_at (suc (height c)) c
+  all c = flat_at g goes (suc (height c)) c
 
   each : (c : ℕ) (given : Circuit) → IsCircuit g c given → all c ≡ inlined goes all given
   each c given is =
-      made_same goes (flat_at (height c)) all (given_of g c) (λ j row e.
+      made_same goes (flat_at g goes (height c)) all (given_of g c) (λ j row e.
       let call = below c j row given is e in
       let d = good.called c j row call in
       let deeper = good.lower c j row call in
       stable (height c) (suc (height row.circuit)) row.circuit d.0 d.1 deeper (omega arith))
       ∙ ap (inlined goes all) (given_is c given is)
 
-  pub flattening : (f : Flattening) × IsFlattening g goes f
-  flattening =
-      let flat : Netlist = record { circuits = indexed (λ (c : ℕ) (x : Circuit). plain (all c)) g.circuits } in (
-        record { flat = flat; flats = all; height = height },
-        record {
-          good = good;
-          are = record {
-            each = each;
-            there = λ c given is. indexed_at (λ (k : ℕ) (x : Circuit). plain (all k)) g.circuits c given is;
-            back = λ c x is. at_indexed (λ (k : ℕ) (y : Circuit). plain (all k)) g.circuits c x is;
-          };
-        },
-      )
+  pub is_flattening : IsFlattening g goes (flattening_of g height goes)
+  is_flattening = record {
+    good = good;
+    are = record {
+      each = each;
+      there = λ c given is. indexed_at (λ (k : ℕ) (x : Circuit). plain (all k)) g.circuits c given is;
+      back = λ c x is. at_indexed (λ (k : ℕ) (y : Circuit). plain (all k)) g.circuits c x is;
+    };
+  }

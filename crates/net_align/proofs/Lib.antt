@@ -6,10 +6,12 @@ pub mod Holding
 pub mod LaidLists
 pub mod Laying
 pub mod Marking
+pub mod Pairing
 pub mod Partnered
 pub mod Rows
 pub mod Seeing
 pub mod Shortened
 pub mod Sided
+pub mod Sides
 pub mod There
 pub mod Walking

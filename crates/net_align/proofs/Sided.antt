@@ -62,7 +62,7 @@ filter_once p (x ∷ xs) once =
           subst (λ (ys : List ℕ). AreOnce ys) (sym e) rest
     ]
 
-from_firsts : (xs seen : List ℕ) (n : ℕ) → IsListed n (firsts_from seen xs) → IsListed n seen ⊎ IsListed n xs
+pub from_firsts : (xs seen : List ℕ) (n : ℕ) → IsListed n (firsts_from seen xs) → IsListed n seen ⊎ IsListed n xs
 from_firsts [] seen n h = inl h
 from_firsts (x ∷ xs) seen n h = elim (from_firsts xs (with_first seen x) n h) [
   | inr r ↦ inr (inr r)

@@ -6,3 +6,5 @@ pub mod Walked
 pub mod Flattened
 pub mod Sights
 pub mod Kept
+pub mod Side
+pub mod Paired

@@ -9,6 +9,8 @@ mod inline;
 mod marks;
 mod names;
 mod numbers;
+mod pairs;
 mod partners;
+mod side;
 mod sights;
 mod walk;
