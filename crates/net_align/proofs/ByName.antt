@@ -1,9 +1,9 @@
 -- The partner by name that the tables give is the one of the definition.
-use Rattle.std.proofs.Common.{◌≡◌, ◌↔◌, inl, inr, ℕ, List, length, map, Option, Some, None, slice_get, option_map, refl, sym, subst, ◌∙◌, ap, arith}
+use Rattle.std.proofs.Common.{◌≡◌, ◌↔◌, inl, inr, ℕ, List, map, Option, Some, None, slice_get, option_map, refl, sym, ◌∙◌, ap}
 use Rattle.std.proofs.lemmas.Option.{none-some, slice_get-map}
 use Rattle.net_names.specs.Folding.{folded_bytes}
 use Rattle.plain_netlist.specs.Lists.{IsListed}
-use Rattle.plain_netlist.specs.Netlist.{Circuit, Netlist, IsCircuit}
+use Rattle.plain_netlist.specs.Netlist.{Circuit, Netlist}
 use Rattle.plain_netlist.proofs.Members.{listed, position}
 use Rattle.align_laws.specs.Partners.{HasName, IsLeftSaid, IsRightSaid, AreSaidSame, AreNamesakes, IsPartnerByName}
 use Rattle.net_align.specs.Names.{FindsNames, names_of, left_names, right_names, look_other, by_lines}

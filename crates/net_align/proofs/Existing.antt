@@ -1,9 +1,9 @@
 -- Flat circuits exist: those made with as many levels as a circuit is high.
-use Rattle.std.proofs.Common.{◌≡◌, ℕ, zero, suc, ◌+◌, ◌<◌, Bool, cond, List, [], ◌∷◌, ◌++◌, map, length, Option, Some, None, slice_get, refl, sym, subst, ◌∙◌, ap, ap₂, arith}
+use Rattle.std.proofs.Common.{◌≡◌, ℕ, zero, suc, ◌<◌, Bool, cond, List, [], ◌∷◌, ◌++◌, map, Some, slice_get, refl, subst, ◌∙◌, ap, ap₂, arith}
 use Rattle.std.proofs.Math.Path.{fun_ext}
 use Rattle.plain_netlist.specs.Netlist.{CallRow, Circuit, Netlist, IsCircuit, IsCall}
 use Rattle.plain_netlist.specs.Sound.{IsGood}
-use Rattle.align_laws.specs.Lists.{NetAt, DeviceAt, CallAt, FlatCircuit, over, indexed, pieces, joined_place, past, net_at_pin, net_below, device_below, call_below, own_net, own_device, inner_nets, net_in, inner_devices, own_calls, inner_calls, inlined, plain, given_of, circuit_or, AreFlat}
+use Rattle.align_laws.specs.Lists.{NetAt, DeviceAt, CallAt, FlatCircuit, over, indexed, pieces, joined_place, past, net_at_pin, net_below, device_below, call_below, own_net, own_device, inner_nets, net_in, inner_devices, own_calls, inner_calls, inlined, plain, given_of, circuit_or}
 use Rattle.align_laws.proofs.Unique.{pieces_same}
 use Rattle.net_align.specs.Flattened.{Flattening, IsFlattening}
 

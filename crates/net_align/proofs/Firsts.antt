@@ -1,10 +1,10 @@
 -- Numbers as first seen are numbered in the order of their appearance.
-use Rattle.std.proofs.Common.{◌≡◌, ◌≢◌, ◌⊎◌, inl, inr, ℕ, zero, suc, ◌+◌, ◌<◌, ◌≤◌, Bool, true, false, List, [], ◌∷◌, ◌++◌, length, map, Option, Some, None, slice_get, refl, sym, ◌∙◌, ap, subst, arith, true≢false, length-append}
+use Rattle.std.proofs.Common.{◌≡◌, ◌⊎◌, inl, inr, ℕ, zero, suc, ◌+◌, true, false, List, [], ◌∷◌, ◌++◌, length, map, Some, slice_get, refl, sym, ◌∙◌, ap, subst, arith, true≢false, length-append}
 use Rattle.std.proofs.lemmas.Option.{slice_get_within}
 use Rattle.plain_netlist.specs.Lists.{IsListed}
 use Rattle.plain_netlist.specs.Normal.{AreNumbered}
 use Rattle.plain_netlist.proofs.Members.{listed, position}
-use Rattle.net_align.specs.Sights.{has_number, with_first, firsts_from, firsts, place_in}
+use Rattle.net_align.specs.Sights.{has_number, with_first, firsts_from, place_in}
 use Rattle.net_align.proofs.Finding.{either}
 use Rattle.net_align.proofs.Seeing.{has_listed, listed_has, at_end, end_at, still_at, place_there}
 

@@ -1,13 +1,13 @@
 -- The held nets and pins of flat circuits.
-use Rattle.std.proofs.Common.{◌≡◌, ◌≢◌, ◌⊎◌, inl, inr, ℕ, zero, suc, ◌+◌, ◌<◌, ◌≤◌, Bool, true, false, cond, List, [], ◌∷◌, ◌++◌, length, map, Option, Some, None, slice_get, refl, sym, ◌∙◌, ap, ap₂, subst, arith, true≢false}
+use Rattle.std.proofs.Common.{◌≡◌, ◌⊎◌, inl, inr, ℕ, zero, suc, ◌+◌, ◌<◌, ◌≤◌, Bool, true, false, cond, List, [], ◌∷◌, ◌++◌, length, map, Option, Some, slice_get, refl, sym, ◌∙◌, ap, subst, arith, true≢false}
 use Rattle.std.specs.Prelude.{slice_set, slice_index, slice_index_or, flat_map, filter}
 use Rattle.std.specs.Global.{Vec}
 use Rattle.std.proofs.Math.Decide.{ℕ_discrete}
-use Rattle.std.proofs.lemmas.List.{get_or-set_same, get_or-set_other, length-set, length-map}
+use Rattle.std.proofs.lemmas.List.{get_or-set_same, get_or-set_other, length-set}
 use Rattle.std.proofs.lemmas.Option.{slice_get_within, slice_get-get_or}
-use Rattle.call_order.specs.Order.{lists, Calls, IsCallOrder}
+use Rattle.call_order.specs.Order.{lists, IsCallOrder}
 use Rattle.plain_netlist.specs.Lists.{IsListed}
-use Rattle.plain_netlist.specs.Netlist.{Pole, Source, Gate, Drain, Bulk, on, DeviceRow, CallRow, Circuit, Netlist, IsCircuit, IsCall, IsDevice, HasNet}
+use Rattle.plain_netlist.specs.Netlist.{Pole, Source, Gate, Drain, Bulk, on, DeviceRow, CallRow, Circuit, Netlist, IsCircuit, IsCall, HasNet}
 use Rattle.plain_netlist.specs.Normal.{terminal_nets}
 use Rattle.plain_netlist.specs.Sound.{IsGood}
 use Rattle.plain_netlist.proofs.Members.{listed, position, in_left, in_right, either_side, in_all, from_all}
@@ -21,10 +21,10 @@ use Rattle.net_align.specs.Laid.{AreBelow, AreCircuitsBelow}
 use Rattle.net_align.specs.Flattened.{Flattening, IsFlattening}
 use Rattle.net_align.specs.Kept.{AreHeights, AreHeldPins, AreHeldBelow}
 use Rattle.net_align.specs.Sights.{has_number, is_kept, pins_of, net_of, call_nets, inner_sights, own_pins, sights}
-use Rattle.net_align.proofs.ByName.{at_map, map_at}
+use Rattle.net_align.proofs.ByName.{at_map}
 use Rattle.net_align.proofs.Finding.{either}
 use Rattle.net_align.proofs.Partnered.{at_or}
-use Rattle.net_align.proofs.Seeing.{has_listed, listed_has, flat_map_on}
+use Rattle.net_align.proofs.Seeing.{listed_has, flat_map_on}
 use Rattle.net_align.proofs.Walking.{has_place, one_place, place_low}
 
 pub in_filter : (p : ℕ → Bool) (xs : List ℕ) (x : ℕ) → IsListed x xs → p x ≡ true → IsListed x (filter p xs)

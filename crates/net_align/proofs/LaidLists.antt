@@ -1,11 +1,11 @@
 -- The flat circuit that the code makes is the one of the lists.
-use Rattle.std.proofs.Common.{◌≡◌, ℕ, zero, suc, ◌+◌, ◌<◌, ◌≤◌, Bool, true, false, cond, List, [], ◌∷◌, ◌++◌, map, drop, length, decimal, refl, sym, subst, ◌∙◌, ap, ap₂, arith, length-append, append-nil, append_assoc}
+use Rattle.std.proofs.Common.{◌≡◌, ℕ, suc, ◌+◌, Bool, true, false, cond, List, [], ◌∷◌, ◌++◌, map, drop, length, decimal, refl, sym, ◌∙◌, ap, ap₂, arith, length-append, append-nil, append_assoc}
 use Rattle.std.proofs.Math.Path.{fun_ext}
-use Rattle.std.proofs.lemmas.List.{map-append, length-map, length-drop}
+use Rattle.std.proofs.lemmas.List.{map-append, length-map}
 use Rattle.plain_netlist.specs.Netlist.{DeviceRow, CallRow, Circuit}
 use Rattle.align_laws.specs.Flat.{row_through, call_through}
-use Rattle.align_laws.specs.Lists.{NetAt, DeviceAt, CallAt, FlatCircuit, over, indexed, pieces, joined_place, past, net_at_pin, net_below, device_below, call_below, own_net, own_device, inner_nets, net_in, inner_devices, own_calls, inner_calls, inlined, plain}
-use Rattle.net_align.specs.Laid.{LaidLaw, name_below, stands, laid, all_laid, stayed, own_part, laid_out}
+use Rattle.align_laws.specs.Lists.{NetAt, DeviceAt, CallAt, FlatCircuit, over, indexed, pieces, joined_place, past, net_at_pin, net_below, device_below, call_below, own_net, own_device, inner_nets, inner_devices, own_calls, inner_calls, plain}
+use Rattle.net_align.specs.Laid.{LaidLaw, name_below, stands, laid, all_laid, stayed, own_part}
 use Rattle.net_align.proofs.Laying.{parts_same}
 
 pub over_is : {A : Type 0} (xs : List A) (j : ℕ) → over xs j ≡ length xs + j

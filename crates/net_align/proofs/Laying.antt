@@ -1,5 +1,5 @@
 -- Where a called circuit's nets stand, and its rows put there.
-use Rattle.std.proofs.Common.{◌≡◌, ℕ, zero, suc, ◌+◌, ◌<◌, ◌≤◌, Bool, true, false, cond, List, [], ◌∷◌, ◌++◌, map, take, get_or, length, slice_get, slice_index, Some, refl, sym, subst, ◌∙◌, ap, ap₂, arith, length-append, append-nil}
+use Rattle.std.proofs.Common.{◌≡◌, ℕ, zero, suc, ◌+◌, ◌<◌, Bool, true, false, cond, List, [], ◌∷◌, ◌++◌, map, take, get_or, length, slice_index, refl, sym, subst, ◌∙◌, ap, ap₂, arith, length-append, append-nil}
 use Rattle.std.proofs.Math.Decide.{ℕ_discrete}
 use Rattle.std.proofs.lemmas.List.{get_or_append_left, get_or_push, take_more, map-append, length-map, length-take-le}
 use Rattle.plain_netlist.specs.Netlist.{DeviceRow, CallRow, Circuit}
@@ -8,7 +8,7 @@ use Rattle.align_laws.specs.Lists.{net_at_pin}
 use Rattle.net_model.specs.Rows.{plain_device, plain_call}
 use Rattle.net_model.specs.declared.netlist.DeviceRow.{DeviceRow as Device}
 use Rattle.net_model.specs.declared.netlist.CallRow.{CallRow as Call}
-use Rattle.net_align.specs.Laid.{AreBelow, IsRowBelow, AreRowsBelow, AreCallsBelow, device_put, call_put, stands, AreStands, stayed, all_laid, laid}
+use Rattle.net_align.specs.Laid.{AreBelow, AreRowsBelow, AreCallsBelow, device_put, call_put, stands, AreStands, stayed, all_laid, laid}
 
 place_near : (pins : List ℕ) (far : ℕ → ℕ) (n : ℕ) → n < length pins → slice_index pins n ≡ net_at_pin pins far n
 place_near [] far n low = absurd (let l = low in omega arith)

@@ -1,14 +1,13 @@
 -- What marks say.
-use Rattle.std.proofs.Common.{◌≡◌, ◌≢◌, ◌⊎◌, inl, inr, ◌↔◌, ℕ, zero, suc, ◌+◌, ◌<◌, ◌≤◌, Bool, true, false, List, [], ◌∷◌, ◌++◌, length, map, take, replicate, Option, Some, None, slice_get, refl, sym, ◌∙◌, ap, subst, arith, true≢false}
+use Rattle.std.proofs.Common.{◌≡◌, ◌⊎◌, inl, inr, ℕ, zero, suc, ◌+◌, ◌<◌, ◌≤◌, Bool, true, false, List, [], ◌∷◌, ◌++◌, length, map, replicate, Option, Some, None, refl, sym, ◌∙◌, ap, subst, arith, true≢false}
 use Rattle.std.specs.Prelude.{slice_set, slice_index_or}
 use Rattle.std.proofs.Math.Decide.{ℕ_discrete}
-use Rattle.std.proofs.lemmas.List.{get_or-set_same, get_or-set_other, get_or-replicate, length-set, length-replicate}
-use Rattle.std.proofs.lemmas.Option.{slice_get_within}
+use Rattle.std.proofs.lemmas.List.{get_or-set_same, get_or-set_other, length-set, length-replicate}
 use Rattle.plain_netlist.specs.Lists.{IsListed}
 use Rattle.plain_netlist.specs.Netlist.{CallRow, Circuit, Netlist, IsCall}
 use Rattle.plain_netlist.proofs.Members.{listed, position}
 use Rattle.net_model.specs.Faults.{called_by}
-use Rattle.net_align.specs.Marks.{AreCallsOfCircuits, IsUnmarked, IsSole, SoleBelow, FindsSole, marked, marked_by, circuits_called}
+use Rattle.net_align.specs.Marks.{AreCallsOfCircuits, SoleBelow, FindsSole, marked, marked_by, circuits_called}
 use Rattle.net_align.proofs.ByName.{at_map, map_at}
 
 pub marked_long : (bs : List ℕ) (marks : List Bool) → length (marked bs marks) ≡ length marks

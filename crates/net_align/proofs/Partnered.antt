@@ -1,20 +1,19 @@
 -- The partners that are found are those of the definition.
-use Rattle.std.proofs.Common.{◌≡◌, ◌≢◌, ◌⊎◌, inl, inr, ◌↔◌, ℕ, ◌<◌, ◌≤◌, Bool, true, false, List, [], ◌∷◌, length, map, get_or, Option, Some, None, slice_get, refl, sym, subst, ◌∙◌, ap, arith, true≢false}
-use Rattle.std.specs.Prelude.{slice_index_or, ◌==◌, if◌then◌else◌}
+use Rattle.std.proofs.Common.{◌≡◌, inl, inr, ◌↔◌, ℕ, ◌<◌, false, List, [], length, get_or, Option, Some, None, slice_get, refl, sym, subst, ◌∙◌, ap, arith, true≢false}
+use Rattle.std.specs.Prelude.{slice_index_or, ◌==◌}
 use Rattle.std.proofs.lemmas.Bool.Decides.{Decides-eqb}
 use Rattle.std.proofs.lemmas.List.{length-map}
 use Rattle.std.proofs.lemmas.Option.{none-some, slice_get_within, slice_get-get_or}
 use Rattle.net_names.specs.Folding.{folded_bytes}
-use Rattle.plain_netlist.specs.Lists.{IsListed}
-use Rattle.plain_netlist.specs.Netlist.{CallRow, Circuit, Netlist, IsCircuit, IsCall}
+use Rattle.plain_netlist.specs.Netlist.{Circuit, Netlist, IsCircuit}
 use Rattle.plain_netlist.proofs.Members.{listed, position}
-use Rattle.align_laws.specs.Partners.{HasName, IsLeftSaid, IsRightSaid, IsPartnerByName, IsUncalled, IsPartnerOfTop, IsPartner}
+use Rattle.align_laws.specs.Partners.{IsLeftSaid, IsRightSaid, IsPartnerByName, IsUncalled, IsPartnerOfTop, IsPartner}
 use Rattle.net_align.specs.declared.names.Naming.{Naming}
-use Rattle.net_align.specs.Names.{AreOnce, FindsNames, IsNaming, found_in, names_of, left_names, right_names, by_lines, partner_named, partners_named}
+use Rattle.net_align.specs.Names.{AreOnce, IsNaming, found_in, names_of, left_names, right_names, by_lines, partner_named, partners_named}
 use Rattle.net_align.specs.Marks.{AreCallsOfCircuits, IsUnmarked, circuits_called}
 use Rattle.net_align.specs.Found.{ArePartners, IsPlaced, FindsPlaced, settled, other_than, AreSettled}
 use Rattle.net_align.proofs.Finding.{either, finds_names}
-use Rattle.net_align.proofs.ByName.{at_map, map_at, name_at, at_name, by_name, line_place, said}
+use Rattle.net_align.proofs.ByName.{at_map, map_at, name_at, at_name, by_name}
 use Rattle.net_align.proofs.Marking.{called_is, is_called, called_long}
 
 -- what isn't something is nothing

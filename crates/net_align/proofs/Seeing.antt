@@ -1,6 +1,6 @@
 -- Numbers in the order of first sight, and what is among them.
-use Rattle.std.proofs.Common.{◌≡◌, ◌≢◌, ◌⊎◌, inl, inr, ℕ, zero, suc, ◌+◌, ◌<◌, ◌≤◌, Bool, true, false, cond, List, [], ◌∷◌, ◌++◌, length, map, take, replicate, get_or, Option, Some, None, slice_get, refl, sym, ◌∙◌, ap, ap₂, subst, arith, true≢false, length-append, append_assoc, append-nil}
-use Rattle.std.specs.Prelude.{slice_set, slice_index, slice_index_or, ◌==◌, flat_map, filter, is_some, is_none, unwrap_or, if◌then◌else◌}
+use Rattle.std.proofs.Common.{◌≡◌, ◌≢◌, ◌⊎◌, inl, inr, ℕ, zero, suc, ◌<◌, Bool, true, false, cond, List, [], ◌∷◌, ◌++◌, length, map, replicate, get_or, Option, Some, None, slice_get, refl, sym, ◌∙◌, ap, ap₂, subst, arith, true≢false, append_assoc, append-nil}
+use Rattle.std.specs.Prelude.{slice_set, slice_index, slice_index_or, ◌==◌, flat_map, filter, is_none, unwrap_or}
 use Rattle.std.specs.Global.{Vec}
 use Rattle.std.proofs.Math.Decide.{ℕ_discrete}
 use Rattle.std.proofs.lemmas.Bool.Decides.{Decides-eqb}
@@ -12,7 +12,7 @@ use Rattle.net_model.proofs.FirstLemmas.{any_listed, any_has}
 use Rattle.call_order.specs.Order.{lists}
 use Rattle.net_align.specs.Laid.{AreBelow}
 use Rattle.net_align.specs.Marks.{marked}
-use Rattle.net_align.specs.Sights.{has_number, with_first, firsts_from, firsts, IsNumbering, place_in, new_of}
+use Rattle.net_align.specs.Sights.{has_number, with_first, firsts_from, IsNumbering, place_in, new_of}
 use Rattle.net_align.proofs.Finding.{either}
 use Rattle.net_align.proofs.Marking.{marked_is, marked_or, none_set}
 

@@ -1,5 +1,5 @@
 -- The parts of a cut circuit.
-use Rattle.std.proofs.Common.{◌≡◌, ◌⊎◌, inl, inr, ℕ, zero, suc, ◌<◌, Bool, true, false, cond, List, [], ◌∷◌, ◌++◌, length, map, Option, Some, None, refl, sym, ◌∙◌, ap, ap₂, subst, true≢false}
+use Rattle.std.proofs.Common.{◌≡◌, ◌⊎◌, inl, inr, ℕ, Bool, true, false, cond, List, [], ◌∷◌, ◌++◌, map, Option, Some, None, refl, sym, ◌∙◌, ap, ap₂, subst}
 use Rattle.std.specs.Prelude.{slice_index_or, flat_map, is_some, unwrap_or}
 use Rattle.std.proofs.lemmas.List.{map-append}
 use Rattle.plain_netlist.specs.Lists.{IsListed}
@@ -7,13 +7,12 @@ use Rattle.plain_netlist.specs.Netlist.{DeviceRow, CallRow as PlainCall, Circuit
 use Rattle.plain_netlist.specs.Normal.{terminal_nets}
 use Rattle.plain_netlist.proofs.Members.{in_left, in_right, in_all}
 use Rattle.align_laws.specs.Flat.{row_through}
-use Rattle.net_model.specs.Rows.{plain_call, plain_device, plain_circuit}
+use Rattle.net_model.specs.Rows.{plain_call, plain_device}
 use Rattle.net_model.specs.declared.netlist.CallRow.{CallRow}
 use Rattle.net_model.specs.declared.netlist.DeviceRow.{DeviceRow as Device}
 use Rattle.net_align.specs.Laid.{device_put}
-use Rattle.net_align.specs.Sights.{is_kept, number_of, pins_of, net_of, call_nets, inner_sights, sights, short_call, firsts, place_in, new_of, cut_down}
+use Rattle.net_align.specs.Sights.{is_kept, number_of, pins_of, net_of, call_nets, inner_sights, sights, short_call, firsts, place_in, cut_down}
 use Rattle.net_align.proofs.Finding.{either}
-use Rattle.net_align.proofs.Laying.{parts_same}
 use Rattle.net_align.proofs.Seeing.{map_on, flat_map_on}
 
 module _ (numbers : List (Option ℕ)) (held : List (List ℕ)) (to : ℕ → ℕ) (r : CallRow) where

@@ -1,18 +1,18 @@
 -- The tables of the code make an aligned netlist.
-use Rattle.std.proofs.Common.{◌≡◌, ◌≢◌, ◌⊎◌, inl, inr, ◌↔◌, ℕ, zero, suc, ◌+◌, ◌<◌, ◌≤◌, Bool, true, false, cond, List, [], ◌∷◌, ◌++◌, length, map, Option, Some, None, slice_get, refl, sym, ◌∙◌, ap, ap₂, subst, arith, true≢false}
+use Rattle.std.proofs.Common.{◌≡◌, ◌⊎◌, inl, inr, ℕ, zero, suc, ◌+◌, ◌<◌, Bool, true, false, cond, List, [], ◌∷◌, ◌++◌, length, map, Option, Some, None, slice_get, refl, sym, ◌∙◌, ap, ap₂, subst, arith, true≢false}
 use Rattle.std.specs.Prelude.{slice_index_or, flat_map, filter, unwrap_or, is_some}
 use Rattle.std.proofs.lemmas.List.{length-map}
 use Rattle.std.proofs.lemmas.Simd.{map-map}
-use Rattle.std.proofs.lemmas.Option.{slice_get_within, slice_get-get_or}
+use Rattle.std.proofs.lemmas.Option.{slice_get-get_or}
 use Rattle.plain_netlist.specs.Lists.{IsListed}
-use Rattle.plain_netlist.specs.Netlist.{Pole, on, DeviceRow, CallRow, Circuit, Netlist, IsCircuit, IsCall, IsPin, HasNet}
+use Rattle.plain_netlist.specs.Netlist.{CallRow, Circuit, Netlist, IsCircuit, IsCall, IsPin}
 use Rattle.plain_netlist.specs.Normal.{AreNumbered, IsNormalCircuit, appearances, terminal_nets}
-use Rattle.plain_netlist.proofs.Members.{listed, position, in_left, in_right, either_side}
+use Rattle.plain_netlist.proofs.Members.{listed, position, in_right, either_side}
 use Rattle.align_laws.specs.Aligned.{IsAlignedBy, HasOnlyKept}
-use Rattle.align_laws.specs.Cut.{Alignment, CutCall, held_pin, held_pins, cut_row, cut_calls, cut, OnDevice, OnHeldPin, AreHeld, AreCut}
+use Rattle.align_laws.specs.Cut.{Alignment, CutCall, held_pins, cut_row, cut_calls, cut, AreHeld}
 use Rattle.align_laws.specs.Flat.{row_through}
-use Rattle.align_laws.specs.Lists.{FlatCircuit, pieces, net_at_pin, given_of, circuit_or, plain}
-use Rattle.align_laws.proofs.Appear.{old_nets, kept_calls, old, cut_kept, appear}
+use Rattle.align_laws.specs.Lists.{pieces, net_at_pin, given_of, circuit_or, plain}
+use Rattle.align_laws.proofs.Appear.{old_nets, old, cut_kept, appear}
 use Rattle.align_laws.proofs.Views.{keep}
 use Rattle.net_align.specs.Flattened.{Flattening, IsFlattening}
 use Rattle.net_align.specs.Kept.{AreHeldPins, cut_of}
@@ -20,7 +20,7 @@ use Rattle.net_align.specs.Sights.{has_number, is_kept, number_of, pins_of, net_
 use Rattle.net_align.proofs.ByName.{at_map, map_at}
 use Rattle.net_align.proofs.Finding.{either}
 use Rattle.net_align.proofs.Firsts.{AreOnce, firsts_once, place_is, numbered_firsts, first_places}
-use Rattle.net_align.proofs.Holding.{in_filter, from_filter, sight_on, on_sight, OnTablePin, flat_of, good, flat_there, pin_net, net_low, sight_net, all_pins}
+use Rattle.net_align.proofs.Holding.{in_filter, from_filter, sight_on, on_sight, good, flat_there, pin_net, net_low, sight_net, all_pins}
 use Rattle.net_align.proofs.Partnered.{at_or}
 use Rattle.net_align.proofs.Seeing.{has_listed, listed_has, first_in, place_there, map_on}
 use Rattle.net_align.proofs.Shortened.{cut_same}

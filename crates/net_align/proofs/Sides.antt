@@ -1,14 +1,12 @@
 -- One side of an aligned pair, from the tables.
-use Rattle.std.proofs.Common.{◌≡◌, ◌⊎◌, inl, inr, ◌↔◌, ℕ, zero, suc, ◌+◌, ◌<◌, ◌≤◌, Bool, true, false, List, [], ◌∷◌, ◌++◌, length, map, Option, Some, None, slice_get, refl, sym, ◌∙◌, ap, ap₂, subst, arith, true≢false, append-nil}
+use Rattle.std.proofs.Common.{◌≡◌, inl, inr, ℕ, zero, suc, ◌+◌, ◌<◌, ◌≤◌, Bool, true, false, List, [], ◌∷◌, length, map, Option, Some, None, slice_get, refl, sym, ◌∙◌, ap, ap₂, subst, arith, true≢false, append-nil}
 use Rattle.std.specs.Prelude.{slice_index_or, nat_lt, not, ◌&&◌, is_some, unwrap_or}
 use Rattle.std.proofs.Math.Path.{fun_ext}
-use Rattle.std.proofs.Math.Decide.{ℕ_discrete}
-use Rattle.std.proofs.lemmas.Option.{none-some, slice_get_within}
+use Rattle.std.proofs.lemmas.Option.{slice_get_within}
 use Rattle.plain_netlist.specs.Lists.{IsListed}
-use Rattle.plain_netlist.specs.Netlist.{Netlist, Circuit, DeviceRow, HasDevice}
+use Rattle.plain_netlist.specs.Netlist.{Netlist}
 use Rattle.plain_netlist.specs.Sound.{HasDevices}
 use Rattle.plain_netlist.proofs.Members.{listed, position}
-use Rattle.align_laws.specs.Aligned.{IsAligned, IsAlignedBy, HasOnlyKept}
 use Rattle.align_laws.specs.Lists.{FlatCircuit}
 use Rattle.net_model.specs.declared.netlist.Circuit.{Circuit as CircuitRow}
 use Rattle.net_align.specs.Flattened.{Flattening, IsFlattening, AreFlats}
@@ -16,7 +14,7 @@ use Rattle.net_align.specs.Kept.{AreHeldPins, AreKeptMarked, cut_of}
 use Rattle.net_align.specs.Laid.{goes_of}
 use Rattle.net_align.specs.Sights.{has_number, is_kept, number_of, IsNumbering, firsts}
 use Rattle.net_align.specs.Side.{AreApart, AreMarkedCircuits, AreGoing, IsSide}
-use Rattle.net_align.specs.Walked.{IsMarked, AreHolding}
+use Rattle.net_align.specs.Walked.{AreHolding}
 use Rattle.net_align.proofs.Finding.{either}
 use Rattle.net_align.proofs.Firsts.{firsts_once, first_places}
 use Rattle.net_align.proofs.Seeing.{has_listed, listed_has}

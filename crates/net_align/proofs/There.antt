@@ -1,21 +1,20 @@
 -- A flat circuit that stands earlier in the order is what a call needs.
-use Rattle.std.proofs.Common.{◌≡◌, ℕ, zero, suc, ◌+◌, ◌<◌, ◌≤◌, Bool, true, false, true≢false, List, [], ◌∷◌, ◌++◌, map, length, Option, Some, None, slice_get, slice_index, get_or, refl, sym, subst, ◌∙◌, ap, arith}
+use Rattle.std.proofs.Common.{◌≡◌, ℕ, zero, suc, ◌+◌, ◌<◌, ◌≤◌, Bool, false, true≢false, List, length, Option, Some, None, slice_get, slice_index, get_or, refl, sym, subst, ◌∙◌, ap, arith}
 use Rattle.std.specs.Prelude.{slice_set, slice_index_or}
 use Rattle.std.proofs.Math.Decide.{ℕ_discrete}
-use Rattle.std.proofs.lemmas.List.{length-map, length-set, get_or-set_same, get_or-set_other}
+use Rattle.std.proofs.lemmas.List.{length-set, get_or-set_same, get_or-set_other}
 use Rattle.std.proofs.lemmas.Option.{slice_get_within, slice_get-get_or}
 use Rattle.call_order.specs.Order.{Calls, IsCallOrder}
-use Rattle.plain_netlist.specs.Netlist.{DeviceRow, CallRow, Circuit, Netlist, Pole, Source, Gate, Drain, Bulk, on, IsCircuit, IsCall, IsDevice, HasNet}
-use Rattle.plain_netlist.specs.Sound.{IsGood, IsCalledFrom, IsCallPath}
-use Rattle.align_laws.specs.Lists.{FlatCircuit, plain, AreFlat, inlined}
+use Rattle.plain_netlist.specs.Netlist.{CallRow, Circuit, Netlist, Source, Gate, Drain, Bulk, on, IsCircuit, IsCall, IsDevice, HasNet}
+use Rattle.plain_netlist.specs.Sound.{IsGood}
+use Rattle.align_laws.specs.Lists.{FlatCircuit, plain}
 use Rattle.align_laws.proofs.FlatGood.{flat_is_good}
-use Rattle.net_model.specs.Faults.{call_lists, called_by}
+use Rattle.net_model.specs.Faults.{call_lists}
 use Rattle.net_model.specs.Rows.{plain_device, plain_call, plain_circuit}
-use Rattle.net_model.specs.declared.netlist.DeviceRow.{DeviceRow as Device}
 use Rattle.net_model.specs.declared.netlist.CallRow.{CallRow as Call}
 use Rattle.net_model.specs.declared.netlist.Circuit.{Circuit as CircuitRow}
 use Rattle.net_model.proofs.CallLemmas.{calls_law}
-use Rattle.net_align.specs.Laid.{AreBelow, IsRowBelow, AreRowsBelow, AreCallsBelow, AreCircuitsBelow, IsFlatThere, laid_out}
+use Rattle.net_align.specs.Laid.{AreRowsBelow, AreCallsBelow, AreCircuitsBelow, IsFlatThere, laid_out}
 use Rattle.net_align.specs.Flattened.{Flattening, IsFlattening, HasFlat, AreClosed, AreFlats, AreFlatsBelow}
 use Rattle.net_align.specs.Walked.{IsMarked, AreReached}
 use Rattle.net_align.proofs.ByName.{at_map}

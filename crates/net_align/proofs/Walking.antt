@@ -1,12 +1,12 @@
 -- Walks along an order of calls.
-use Rattle.std.proofs.Common.{◌≡◌, ◌≢◌, ◌⊎◌, inl, inr, ◌↔◌, ℕ, zero, suc, ◌+◌, ◌-◌, ◌<◌, ◌≤◌, Bool, true, false, List, [], ◌∷◌, ◌++◌, length, map, take, replicate, Option, Some, None, slice_get, refl, sym, ◌∙◌, ap, subst, arith, true≢false}
-use Rattle.std.specs.Prelude.{slice_set, slice_index_or, ◌==◌, ◌||◌, not}
+use Rattle.std.proofs.Common.{◌≡◌, ◌≢◌, inl, inr, ◌↔◌, ℕ, zero, suc, ◌+◌, ◌<◌, ◌≤◌, Bool, true, false, List, [], ◌∷◌, ◌++◌, length, map, take, replicate, Some, slice_get, refl, sym, ◌∙◌, ap, subst, arith, true≢false}
+use Rattle.std.specs.Prelude.{slice_set, slice_index_or, ◌==◌, not}
 use Rattle.std.specs.List.{list_any}
 use Rattle.std.proofs.Math.Decide.{ℕ_discrete}
 use Rattle.std.proofs.lemmas.Bool.Decides.{Decides-eqb}
 use Rattle.std.proofs.lemmas.List.{get_or-set_same, get_or-set_other, length-set, length-replicate, length-map}
 use Rattle.std.proofs.lemmas.Option.{slice_get_within}
-use Rattle.plain_netlist.specs.Lists.{IsListed, AreApart}
+use Rattle.plain_netlist.specs.Lists.{IsListed}
 use Rattle.plain_netlist.specs.Netlist.{DeviceRow, CallRow as PlainCall, Circuit as PlainCircuit, Netlist, IsCircuit, IsCall, HasDevice}
 use Rattle.plain_netlist.specs.Sound.{HasDevices, IsCallPath, IsCalledFrom}
 use Rattle.plain_netlist.proofs.Listing.{apart_at}
@@ -21,7 +21,7 @@ use Rattle.net_model.proofs.CallLemmas.{calls_law}
 use Rattle.net_model.proofs.FirstLemmas.{any_listed, any_has, left_or, right_or, of_or}
 use Rattle.net_model.specs.Rows.{plain_device}
 use Rattle.net_align.specs.Marks.{AreCallsOfCircuits, marked}
-use Rattle.net_align.specs.Walked.{IsMarked, AreMarks, AreReached, AreHolding, IsReaching, IsHoldingBelow, holds}
+use Rattle.net_align.specs.Walked.{IsMarked, AreReached, AreHolding, IsReaching, IsHoldingBelow, holds}
 use Rattle.net_align.proofs.ByName.{at_map, map_at}
 use Rattle.net_align.proofs.Finding.{taken, either}
 use Rattle.net_align.proofs.Marking.{marked_long, marked_or, marked_stays, marked_is, set_or, set_is, none_set}

@@ -1,5 +1,5 @@
 -- The held pins of kept circuits, and the kept circuits, cut.
-use Rattle.std.specs.Prelude.{◌≡◌, ◌<◌, ℕ, Bool, true, List, length, map, Option, Some, slice_get}
+use Rattle.std.specs.Prelude.{◌≡◌, ◌<◌, ℕ, Bool, true, List, length, Option, Some, slice_get}
 use Rattle.plain_netlist.specs.Netlist.{Circuit, Netlist}
 use Rattle.align_laws.specs.Lists.{FlatCircuit, plain}
 use Rattle.net_align.specs.Flattened.{Flattening}

@@ -1,5 +1,6 @@
--- A circuit with a called circuit laid into it, as the code makes it: appended behind what is there.
-use Rattle.std.specs.Prelude.{◌≡◌, ◌<◌, ◌≤◌, ◌+◌, ℕ, suc, Bool, cond, List, [], ◌∷◌, ◌++◌, map, length, drop, take, Option, Some, slice_get, slice_index, slice_index_or, false, decimal}
+-- A circuit with a called circuit laid into it, as the code makes it: appended behind what is
+-- there.
+use Rattle.std.specs.Prelude.{◌≡◌, ◌<◌, ◌≤◌, ◌+◌, ℕ, suc, Bool, cond, List, [], ◌∷◌, ◌++◌, map, length, drop, Option, Some, slice_get, slice_index, slice_index_or, false, decimal}
 use Rattle.plain_netlist.specs.Netlist.{DeviceRow, CallRow, Circuit}
 use Rattle.align_laws.specs.Flat.{row_through, call_through}
 use Rattle.align_laws.specs.Lists.{FlatCircuit, net_at_pin, inlined, plain}
@@ -101,7 +102,8 @@ laid_out goes flats c = all_laid goes flats 0 c.calls (own_part goes c)
 
 -- the table has the flat circuit that call r names, with at least as many nets as the call, and its
 -- rows on its nets
-pub record IsFlatThere (flats : List (Option CircuitRow)) (f : ℕ → Circuit) (r : Call) : Type 0 where
+pub record IsFlatThere (flats : List (Option CircuitRow)) (f : ℕ → Circuit)
+    (r : Call) : Type 0 where
   pub inner : CircuitRow
   pub there : slice_get flats r.circuit ≡ Some (Some inner)
   pub is : plain_circuit inner ≡ f r.circuit

@@ -1,5 +1,5 @@
 -- Circuits and lines by their folded names, and what is found among names.
-use Rattle.std.specs.Prelude.{◌≡◌, ◌↔◌, ◌<◌, ℕ, List, map, length, nat_lt, Option, Some, None, slice_get, if◌then◌else◌}
+use Rattle.std.specs.Prelude.{◌≡◌, ◌↔◌, ℕ, List, map, length, nat_lt, Option, Some, None, slice_get, if◌then◌else◌}
 use Rattle.net_names.specs.Folding.{folded_bytes}
 use Rattle.plain_netlist.specs.Netlist.{Circuit, Netlist}
 use Rattle.text_table.specs.Texts.{place_of}
@@ -49,7 +49,8 @@ partner_named n name =
     (found_in n.lefts name) (found_in n.rights name)
 
 -- the tables are those of the schematic and of the lines
-pub record IsNaming (schematic : Netlist) (same : List (List ℕ × List ℕ)) (n : Naming) : Type 0 where
+pub record IsNaming (schematic : Netlist) (same : List (List ℕ × List ℕ))
+    (n : Naming) : Type 0 where
   pub circuits : n.circuits ≡ names_of schematic
   pub lefts : n.lefts ≡ left_names same
   pub rights : n.rights ≡ right_names same

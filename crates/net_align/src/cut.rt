@@ -12,9 +12,9 @@ use net_model::{CallRow, Circuit, DeviceRow};
 use net_names::Name;
 use std::alloc::{AllocError, Global};
 
-/// The circuit with its held nets alone, numbered as they are first seen, and with the calls of kept
-/// circuits alone, under their numbers. `held` has the held pins of each kept circuit, `own` those of
-/// this one. Linear.
+/// The circuit with its held nets alone, numbered as they are first seen, and with the calls of
+/// kept circuits alone, under their numbers. `held` has the held pins of each kept circuit, `own`
+/// those of this one. Linear.
 pub fn cut(
     alloc: Global,
     flat: &Circuit,

@@ -10,8 +10,8 @@ use net_model::{CallRow, Circuit, DeviceRow};
 use net_names::Name;
 use std::alloc::{AllocError, Global};
 
-/// The circuit with those of its calls replaced that go: by the nets past the pins, the devices and
-/// the calls of the flat circuit that they call. `flats` has the flat circuit of each one that goes.
+/// The circuit with those of its calls replaced that go: by the nets past the pins, the devices
+/// and the calls of the flat circuit that they call. `flats` has the flat circuit of each that goes.
 ///
 /// Linear in the result.
 pub fn inline(

@@ -13,8 +13,8 @@ use crate::walk::is_marked;
 use net_model::{CallRow, Circuit, DeviceRow};
 use std::alloc::{AllocError, Global};
 
-/// The nets that a device terminal or a held pin of a kept circuit's call is on, in order. `numbers`
-/// has the number of each kept circuit, `held` its held pins. Linear.
+/// The nets that a device terminal or a held pin of a kept circuit's call is on, in order.
+/// `numbers` has the number of each kept circuit, `held` its held pins. Linear.
 pub fn inner_sights(
     alloc: Global,
     flat: &Circuit,

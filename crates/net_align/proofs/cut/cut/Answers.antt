@@ -1,8 +1,7 @@
-use Rattle.std.proofs.Common.{◌≡◌, ◌<◌, ◌++◌, [], ℕ, List, Option, inr, map, length, refl, sym, subst, ap, ap₂, ◌∙◌, rules, arith}
-use Rattle.std.specs.Prelude.{slice_index, slice_index_or, flat_map}
+use Rattle.std.proofs.Common.{◌≡◌, [], ℕ, List, inr, map, length, refl, sym, subst, ap, ap₂, ◌∙◌, rules, arith}
+use Rattle.std.specs.Prelude.{slice_index_or, flat_map}
 use Rattle.call_order.specs.Order.{lists}
 use Rattle.plain_netlist.specs.Lists.{IsListed}
-use Rattle.plain_netlist.specs.Netlist.{DeviceRow, CallRow as PlainCall, Circuit as PlainCircuit}
 use Rattle.net_model.specs.Rows.{plain_call, plain_device, plain_circuit}
 use Rattle.net_model.specs.declared.netlist.DeviceRow.{DeviceRow as Device}
 use Rattle.net_model.specs.declared.netlist.CallRow.{CallRow as Call}

@@ -1,5 +1,5 @@
-use Rattle.std.proofs.Common.{◌≡◌, ◌<◌, ◌++◌, ◌∷◌, [], ℕ, Bool, true, false, cond, List, Option, Some, None, take, map, length, refl, sym, ap, ap₂, ◌∙◌, rules, append-nil}
-use Rattle.std.specs.Prelude.{slice_index_or, flat_map, is_some, unwrap_or}
+use Rattle.std.proofs.Common.{◌≡◌, ◌<◌, ◌++◌, ℕ, List, Some, None, take, map, length, refl, sym, ap, ap₂, ◌∙◌, rules, append-nil}
+use Rattle.std.specs.Prelude.{slice_index_or, flat_map}
 use Rattle.std.proofs.lemmas.Option.{slice_get_read}
 use Rattle.call_order.specs.Order.{lists}
 use Rattle.plain_netlist.specs.Netlist.{CallRow as PlainCall}

@@ -1,11 +1,11 @@
-use Rattle.std.proofs.Common.{◌≡◌, ◌<◌, ◌≤◌, ◌+◌, ℕ, Bool, true, false, List, Option, Some, length, slice_get, slice_set, slice_index_or, refl, sym, subst, ap, ◌∙◌, rules, arith}
+use Rattle.std.proofs.Common.{◌≡◌, ◌<◌, ◌≤◌, ◌+◌, true, false, List, Option, Some, length, slice_get, slice_set, slice_index_or, refl, sym, subst, ap, ◌∙◌, rules, arith}
 use Rattle.std.proofs.lemmas.List.{length-map}
 use Rattle.std.proofs.lemmas.Option.{slice_get-get_or}
 use Rattle.align_laws.specs.Lists.{plain}
 use Rattle.plain_netlist.specs.Netlist.{IsCircuit}
 use Rattle.net_model.specs.Rows.{plain_netlist, plain_circuit}
 use Rattle.net_model.specs.declared.netlist.Circuit.{Circuit as CircuitRow}
-use Rattle.net_align.specs.Laid.{IsFlatThere, goes_of, laid_out}
+use Rattle.net_align.specs.Laid.{IsFlatThere, goes_of}
 use Rattle.net_align.specs.Flattened.{AreFlatsBelow}
 use Rattle.net_align.proofs.Rows.{circuit_at}
 use Rattle.net_align.proofs.Walking.{place_low}

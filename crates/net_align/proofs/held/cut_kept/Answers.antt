@@ -1,7 +1,7 @@
-use Rattle.std.proofs.Common.{◌≡◌, ◌<◌, ◌≤◌, ◌+◌, ◌++◌, ◌∷◌, [], ℕ, Bool, true, false, List, Option, Some, None, map, take, length, refl, sym, subst, ap, ap₂, ◌∙◌, rules, arith}
-use Rattle.std.specs.Prelude.{slice_get, slice_index_or}
+use Rattle.std.proofs.Common.{◌≡◌, ◌<◌, ◌+◌, ◌++◌, ◌∷◌, [], ℕ, List, Some, map, take, length, sym, subst, ap, ap₂, ◌∙◌, rules, arith}
+use Rattle.std.specs.Prelude.{slice_index_or}
 use Rattle.std.proofs.lemmas.List.{length-map, map-append, take_more}
-use Rattle.std.proofs.lemmas.Option.{none-some, slice_get-get_or, slice_get_within}
+use Rattle.std.proofs.lemmas.Option.{none-some, slice_get-get_or}
 use Rattle.std.specs.Global.{Vec}
 use Rattle.call_order.specs.Order.{lists}
 use Rattle.plain_netlist.specs.Netlist.{Circuit as PlainCircuit}
@@ -9,7 +9,7 @@ use Rattle.net_model.specs.Rows.{plain_circuit}
 use Rattle.net_model.specs.declared.netlist.Circuit.{Circuit}
 use Rattle.net_align.specs.Laid.{AreBelow, AreCircuitsBelow}
 use Rattle.net_align.specs.Kept.{cut_of}
-use Rattle.net_align.specs.Sights.{is_kept, pins_of, sights, own_pins, cut_down}
+use Rattle.net_align.specs.Sights.{pins_of, sights, cut_down}
 use Rattle.net_align.proofs.Holding.{all_pins, row_calls, row_sights, read_is}
 use Rattle.net_align.proofs.Seeing.{lists_at}
 use Rattle.net_align.proofs.held.cut_kept.Goals.{in-Some+in_ok-cut+in_ok-push, in_default}

@@ -1,4 +1,4 @@
-use Rattle.std.proofs.Common.{◌≡◌, ◌++◌, map, take, drop, slice_index}
+use Rattle.std.proofs.Common.{◌≡◌, ◌++◌, map, take, slice_index}
 use Rattle.net_model.specs.Rows.{plain_call}
 use Rattle.net_align.specs.Laid.{call_put}
 use Rattle.net_align.proofs.inline.add_calls.Given as goal

@@ -1,4 +1,4 @@
-use Rattle.std.proofs.Common.{◌≡◌, ◌++◌, map, take, drop, slice_index}
+use Rattle.std.proofs.Common.{◌≡◌, ◌++◌, map, take, slice_index}
 use Rattle.net_model.specs.Rows.{plain_device}
 use Rattle.net_align.specs.Laid.{device_put}
 use Rattle.net_align.proofs.inline.add_devices.Given as goal

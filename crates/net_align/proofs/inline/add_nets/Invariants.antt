@@ -1,4 +1,4 @@
-use Rattle.std.proofs.Common.{◌≡◌, ◌++◌, map, take, drop, slice_index}
+use Rattle.std.proofs.Common.{◌≡◌, ◌++◌, map, take, drop}
 use Rattle.net_align.specs.Laid.{name_below}
 use Rattle.net_align.proofs.inline.add_nets.Given as goal
 

@@ -1,10 +1,8 @@
-use Rattle.std.proofs.Common.{◌≡◌, ℕ, ◌+◌, ◌<◌, List, [], ◌∷◌, ◌++◌, map, drop, length, slice_index, sym, subst, ap, ap₂, ◌∙◌, arith, rules}
+use Rattle.std.proofs.Common.{◌≡◌, ℕ, ◌+◌, ◌<◌, List, ◌++◌, map, drop, length, slice_index, ap, ap₂, ◌∙◌, rules}
 use Rattle.plain_netlist.specs.Netlist.{DeviceRow, CallRow}
 use Rattle.align_laws.specs.Lists.{net_at_pin}
 use Rattle.align_laws.specs.Flat.{row_through, call_through}
 use Rattle.net_model.specs.Rows.{plain_device, plain_call}
-use Rattle.net_model.specs.declared.netlist.DeviceRow.{DeviceRow as Device}
-use Rattle.net_model.specs.declared.netlist.CallRow.{CallRow as Call}
 use Rattle.net_align.specs.Laid.{name_below, stands, device_put, call_put}
 use Rattle.net_align.proofs.Laying.{parts_same, devices_put, calls_put}
 use Rattle.net_align.proofs.inline.lay_in.Goals as goal

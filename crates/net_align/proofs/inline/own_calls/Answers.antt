@@ -1,8 +1,6 @@
-use Rattle.std.proofs.Common.{◌≡◌, ℕ, ◌+◌, ◌<◌, Bool, true, false, cond, List, [], ◌∷◌, ◌++◌, map, take, get_or, length, refl, sym, subst, ap, ◌∙◌, arith, rules}
-use Rattle.plain_netlist.specs.Netlist.{CallRow}
+use Rattle.std.proofs.Common.{◌≡◌, ◌<◌, true, false, cond, [], ◌∷◌, ◌++◌, map, length, refl, ap, ◌∙◌, rules}
 use Rattle.net_model.specs.Rows.{plain_call}
-use Rattle.net_model.specs.declared.netlist.CallRow.{CallRow as Call}
-use Rattle.net_align.specs.Laid.{stayed, goes_of}
+use Rattle.net_align.specs.Laid.{goes_of}
 use Rattle.net_align.proofs.Laying.{own_step, stays_step, goes_step}
 use Rattle.net_align.proofs.inline.own_calls.Goals.{then-not-goes-call+in_ok-to_vec+in_ok-push, else-not-goes-call}
 use Rattle.net_align.proofs.inline.own_calls.Goals as goal

@@ -1,4 +1,4 @@
-use Rattle.std.proofs.Common.{◌≡◌, ◌++◌, map, take, drop, slice_index}
+use Rattle.std.proofs.Common.{◌≡◌, map, take}
 use Rattle.net_model.specs.Rows.{plain_call}
 use Rattle.net_align.specs.Laid.{stayed, goes_of}
 use Rattle.net_align.proofs.inline.own_calls.Given as goal

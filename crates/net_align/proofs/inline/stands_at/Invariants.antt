@@ -1,4 +1,3 @@
-use Rattle.std.proofs.Common.{◌≡◌, ◌≤◌, length}
 use Rattle.net_align.specs.Laid.{AreStands}
 use Rattle.net_align.proofs.inline.stands_at.Given as goal
 

@@ -1,10 +1,9 @@
-use Rattle.std.proofs.Common.{◌≡◌, ◌<◌, ℕ, Bool, false, List, Some, map, take, length, replicate, refl, sym, subst, ap, ap₂, ◌∙◌, rules, arith}
+use Rattle.std.proofs.Common.{◌≡◌, ◌<◌, ℕ, Bool, false, List, Some, map, take, length, replicate, sym, subst, ap, ap₂, ◌∙◌, rules, arith}
 use Rattle.std.specs.Prelude.{slice_get}
 use Rattle.std.proofs.lemmas.List.{length-map, length-replicate}
 use Rattle.plain_netlist.specs.Netlist.{Circuit as PlainCircuit, IsCircuit}
 use Rattle.net_model.specs.Rows.{plain_circuit, plain_call, plain_netlist}
 use Rattle.net_model.specs.declared.netlist.CallRow.{CallRow}
-use Rattle.net_model.specs.declared.netlist.Circuit.{Circuit}
 use Rattle.net_model.proofs.CheckLemmas.{called_same}
 use Rattle.net_align.specs.Marks.{marked, marked_by}
 use Rattle.net_align.proofs.ByName.{at_map}

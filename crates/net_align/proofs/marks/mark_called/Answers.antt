@@ -1,4 +1,4 @@
-use Rattle.std.proofs.Common.{◌≡◌, ◌<◌, ℕ, Bool, true, List, map, take, length, sym, ap, ◌∙◌, rules}
+use Rattle.std.proofs.Common.{◌<◌, ℕ, Bool, true, List, map, take, length, sym, ap, ◌∙◌, rules}
 use Rattle.std.specs.Prelude.{slice_set}
 use Rattle.net_model.specs.declared.netlist.CallRow.{CallRow}
 use Rattle.net_align.specs.Marks.{marked}

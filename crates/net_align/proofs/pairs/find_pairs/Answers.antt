@@ -1,4 +1,4 @@
-use Rattle.std.proofs.Common.{◌≡◌, ◌+◌, ◌++◌, ◌∷◌, [], ℕ, List, Option, Some, None, refl, sym, subst, ap, ap₂, ◌∙◌, rules}
+use Rattle.std.proofs.Common.{◌≡◌, ◌+◌, ◌++◌, ◌∷◌, [], ℕ, List, Some, None, sym, subst, ap, ◌∙◌, rules}
 use Rattle.std.specs.Prelude.{slice_index_or}
 use Rattle.net_align.specs.Paired.{ArePairsBelow, are_compared, compared_partner}
 use Rattle.net_align.proofs.Pairing.{pair_added, none_added}

@@ -1,6 +1,5 @@
-use Rattle.std.proofs.Common.{◌≡◌, ◌<◌, ℕ, List, [], Option, Some, None, length, refl, sym, ap, ◌∙◌, rules}
+use Rattle.std.proofs.Common.{◌≡◌, ℕ, List, [], Option, Some, None, sym, ap, ◌∙◌, rules}
 use Rattle.std.specs.Prelude.{slice_index_or}
-use Rattle.net_names.specs.Folding.{folded_bytes}
 use Rattle.net_model.specs.Rows.{plain_netlist}
 use Rattle.net_align.specs.Names.{found_in, names_of}
 use Rattle.net_align.specs.Found.{if_unsaid}

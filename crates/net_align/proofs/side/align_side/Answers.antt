@@ -1,5 +1,5 @@
-use Rattle.std.proofs.Common.{◌≡◌, ◌<◌, ℕ, Bool, true, false, List, Option, map, length, refl, sym, subst, ap, ap₂, ◌∙◌, rules, arith}
-use Rattle.std.specs.Prelude.{slice_get, slice_index, slice_index_or}
+use Rattle.std.proofs.Common.{◌≡◌, ℕ, Bool, true, List, Option, map, length, sym, subst, ap₂, ◌∙◌, rules, arith}
+use Rattle.std.specs.Prelude.{slice_index}
 use Rattle.std.specs.Global.{Vec}
 use Rattle.std.proofs.lemmas.List.{length-map}
 use Rattle.std.proofs.lemmas.Option.{slice_get-get_or}
@@ -7,11 +7,11 @@ use Rattle.call_order.specs.Order.{lists, IsCallOrder}
 use Rattle.plain_netlist.specs.Netlist.{Netlist}
 use Rattle.net_model.specs.Faults.{call_lists}
 use Rattle.net_model.specs.Rows.{plain_circuit, plain_netlist}
-use Rattle.net_align.specs.Flattened.{IsFlattening, AreFlats}
-use Rattle.net_align.specs.Kept.{AreHeldPins, AreKeptMarked, cut_of}
+use Rattle.net_align.specs.Flattened.{IsFlattening}
+use Rattle.net_align.specs.Kept.{AreHeldPins, cut_of}
 use Rattle.net_align.specs.Laid.{goes_of}
 use Rattle.net_align.specs.Side.{AreGoing}
-use Rattle.net_align.specs.Sights.{IsNumbering, firsts, is_kept}
+use Rattle.net_align.specs.Sights.{IsNumbering, is_kept}
 use Rattle.net_align.proofs.Sides.{numbers_are, listed_kept, kept_marked, goes_same, side_made, flats_to, marked_to}
 use Rattle.net_align.proofs.side.align_side.Goals as goal
 

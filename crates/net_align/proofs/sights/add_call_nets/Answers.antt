@@ -1,5 +1,5 @@
 use Rattle.std.proofs.Common.{◌≡◌, ◌<◌, ◌++◌, [], ℕ, Bool, true, false, cond, List, Option, take, map, length, refl, sym, ap, ap₂, ◌∙◌, rules, append-nil, append_assoc}
-use Rattle.std.specs.Prelude.{slice_index_or, flat_map, is_some, None}
+use Rattle.std.specs.Prelude.{flat_map, is_some}
 use Rattle.std.proofs.lemmas.Option.{slice_get_read}
 use Rattle.call_order.specs.Order.{lists}
 use Rattle.plain_netlist.specs.Netlist.{CallRow as PlainCall}

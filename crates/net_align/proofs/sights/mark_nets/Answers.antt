@@ -1,4 +1,4 @@
-use Rattle.std.proofs.Common.{◌≡◌, ◌<◌, ℕ, Bool, true, List, take, length, sym, ap, ◌∙◌, rules}
+use Rattle.std.proofs.Common.{◌<◌, ℕ, Bool, true, List, take, length, sym, ap, ◌∙◌, rules}
 use Rattle.std.specs.Prelude.{slice_set, slice_index_or}
 use Rattle.std.proofs.lemmas.List.{take_more}
 use Rattle.net_align.specs.Marks.{marked}

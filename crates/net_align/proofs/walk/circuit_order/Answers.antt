@@ -1,8 +1,7 @@
-use Rattle.std.proofs.Common.{◌≡◌, ℕ, List, [], map, sym, subst, ap, ◌∙◌}
+use Rattle.std.proofs.Common.{◌≡◌, ℕ, List, map, sym, subst, ap, ◌∙◌}
 use Rattle.std.specs.Global.{Vec}
 use Rattle.call_order.specs.Order.{lists, AreInRange, IsFound, IsFirstInCycle, ReachesItself}
 use Rattle.call_order.specs.declared.order.CallOrder.{CallOrder}
-use Rattle.call_order.specs.declared.order.CallOrder.TheVariants.{CalleesFirst, Cycle}
 use Rattle.net_model.specs.Faults.{call_lists, called_by}
 use Rattle.net_model.specs.Rows.{plain_netlist, plain_circuit}
 use Rattle.net_model.specs.declared.netlist.Circuit.{Circuit}

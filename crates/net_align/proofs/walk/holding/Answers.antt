@@ -1,11 +1,11 @@
-use Rattle.std.proofs.Common.{◌≡◌, ◌<◌, ◌≤◌, ℕ, Bool, List, Some, length, slice_get, slice_set, slice_index_or, refl, sym, ap, ◌∙◌, rules, arith}
+use Rattle.std.proofs.Common.{◌≡◌, ◌<◌, ◌≤◌, Bool, List, Some, length, slice_get, slice_set, slice_index_or, ap, ◌∙◌, rules, arith}
 use Rattle.std.proofs.lemmas.List.{length-map}
 use Rattle.std.proofs.lemmas.Option.{slice_get-get_or}
 use Rattle.plain_netlist.specs.Netlist.{IsCircuit}
 use Rattle.net_model.specs.Rows.{plain_netlist, plain_circuit}
 use Rattle.net_align.specs.Walked.{holds}
 use Rattle.net_align.proofs.Rows.{circuit_at}
-use Rattle.net_align.proofs.Walking.{place_low, hold_step, all_hold, none_hold}
+use Rattle.net_align.proofs.Walking.{place_low, hold_step, all_hold}
 use Rattle.net_align.proofs.walk.holding.Goals as goal
 
 pub index-requires : goal.index-requires

@@ -1,4 +1,4 @@
-use Rattle.std.proofs.Common.{◌≡◌, ◌≤◌, ℕ, List, map, take, length, ap, ◌∙◌, rules}
+use Rattle.std.proofs.Common.{List, map, ap, ◌∙◌, rules}
 use Rattle.std.proofs.lemmas.List.{take_all}
 use Rattle.net_names.specs.Folding.{folded_bytes}
 use Rattle.net_model.specs.declared.netlist.Circuit.{Circuit}

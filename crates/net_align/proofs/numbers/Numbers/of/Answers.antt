@@ -1,4 +1,4 @@
-use Rattle.std.proofs.Common.{◌≡◌, ◌<◌, ◌++◌, ◌∷◌, [], ℕ, List, Option, take, length, refl, sym, subst, ap, ◌∙◌, rules}
+use Rattle.std.proofs.Common.{◌<◌, [], ℕ, List, take, length, sym, subst, ap, ◌∙◌, rules}
 use Rattle.std.specs.Prelude.{slice_index_or}
 use Rattle.std.proofs.lemmas.List.{take_more}
 use Rattle.net_align.specs.Sights.{with_first, firsts, IsNumbering}

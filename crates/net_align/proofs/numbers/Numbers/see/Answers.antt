@@ -1,8 +1,8 @@
-use Rattle.std.proofs.Common.{◌≡◌, ◌<◌, ◌++◌, ◌∷◌, [], ℕ, Bool, true, false, List, Option, Some, None, length, refl, sym, subst, ap, ◌∙◌, rules}
+use Rattle.std.proofs.Common.{◌≡◌, ◌++◌, ◌∷◌, [], ℕ, true, false, List, Option, Some, None, length, refl, sym, subst, ap, ◌∙◌, rules}
 use Rattle.std.specs.Prelude.{slice_set, slice_get, slice_index_or, is_none}
 use Rattle.std.proofs.lemmas.Option.{slice_get_read}
 use Rattle.net_align.proofs.Partnered.{at_or}
-use Rattle.net_align.specs.Sights.{with_first, IsNumbering}
+use Rattle.net_align.specs.Sights.{IsNumbering}
 use Rattle.net_align.proofs.Seeing.{seen_before, seen_first, numbered_more, some_of, none_of}
 use Rattle.net_align.proofs.numbers.Numbers.see.Goals as goal
 
