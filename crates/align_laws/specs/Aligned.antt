@@ -1,9 +1,12 @@
 -- An aligned netlist: flattened, cut and in normal form; that it keeps what each circuit expands
 -- to, and that there is one.
-use Rattle.std.specs.Prelude.{◌≡◌, ◌⊎◌, ◌↔◌, ◌<◌, ℕ, Bool, true, false, not, List, [], ◌∷◌, ◌++◌, length, slice_get}
-use Rattle.plain_netlist.specs.Netlist.{DeviceRow, Circuit, Netlist, IsCircuit, Slot, slot, InOneNet, HasDevice, IsTerminal, IsOnPin}
+use Rattle.std.specs.Prelude.{◌≡◌, ◌⊎◌, ◌↔◌, ◌<◌, ℕ, Bool, true, false, not, List, [], ◌∷◌, ◌++◌}
+use Rattle.std.specs.Prelude.{length, slice_get}
+use Rattle.plain_netlist.specs.Netlist.{DeviceRow, Circuit, Netlist, IsCircuit, Slot, slot}
+use Rattle.plain_netlist.specs.Netlist.{InOneNet, HasDevice, IsTerminal, IsOnPin}
 use Rattle.plain_netlist.specs.Normal.{IsNormalCircuit, IsNormalNetlist}
-use Rattle.plain_netlist.specs.Sound.{HasDevices, HasNetTwins, IsCalledFrom, IsGood, IsSoundNetlist, NetlistFault, NameClash, ShowsFault}
+use Rattle.plain_netlist.specs.Sound.{HasDevices, HasNetTwins, IsCalledFrom, IsGood, IsSoundNetlist}
+use Rattle.plain_netlist.specs.Sound.{NetlistFault, NameClash, ShowsFault}
 use Rattle.plain_netlist.specs.Flats.{Corresponds, expanded}
 use Rattle.align_laws.specs.Flat.{IsRowImage, net_image, device_image}
 use Rattle.align_laws.specs.Lists.{FlatCircuit, given_of, maps_of, AreFlat}

@@ -1,7 +1,9 @@
 -- Dropping: of each kept circuit the held nets and pins, its devices and its calls of kept
 -- circuits, under new numbers.
-use Rattle.std.specs.Prelude.{◌≡◌, ◌⊎◌, ◌↔◌, ℕ, Bool, true, cond, List, [], ◌∷◌, map, Some, slice_get}
-use Rattle.plain_netlist.specs.Netlist.{Pole, on, DeviceRow, CallRow, Circuit, Netlist, IsCircuit, IsCall, IsDevice, IsPin, Slot, slot}
+use Rattle.std.specs.Prelude.{◌≡◌, ◌⊎◌, ◌↔◌, ℕ, Bool, true, cond, List, [], ◌∷◌, map, Some}
+use Rattle.std.specs.Prelude.{slice_get}
+use Rattle.plain_netlist.specs.Netlist.{Pole, on, DeviceRow, CallRow, Circuit, Netlist, IsCircuit}
+use Rattle.plain_netlist.specs.Netlist.{IsCall, IsDevice, IsPin, Slot, slot}
 use Rattle.align_laws.specs.Flat.{below, row_through}
 use Rattle.align_laws.specs.Lists.{pieces, joined_place, net_at_pin, given_of, row_of}
 

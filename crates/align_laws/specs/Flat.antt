@@ -2,7 +2,8 @@
 -- leaves the expansion as it is.
 use Rattle.std.specs.Prelude.{◌≡◌, ◌⊎◌, ◌↔◌, ◌<◌, ℕ, List, [], ◌∷◌, ◌++◌, map, Some, slice_get}
 use Rattle.plain_netlist.specs.Sound.{AreNetsThere}
-use Rattle.plain_netlist.specs.Netlist.{Pole, on, DeviceRow, CallRow, Netlist, IsCall, IsDevice, IsPin, HasNet, IsSlot, Slot, slot, InOneNet, HasDevice}
+use Rattle.plain_netlist.specs.Netlist.{Pole, on, DeviceRow, CallRow, Netlist, IsCall, IsDevice}
+use Rattle.plain_netlist.specs.Netlist.{IsPin, HasNet, IsSlot, Slot, slot, InOneNet, HasDevice}
 
 -- where the nets, devices and calls of the called circuit stand in the caller
 pub record Placing : Type 0 where

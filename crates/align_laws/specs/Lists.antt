@@ -1,9 +1,11 @@
 -- Flat circuits as lists, made from the given circuit and the flat ones below it; each item with
 -- the place that it is from.
-use Rattle.std.specs.Prelude.{◌≡◌, ℕ, zero, suc, Bool, cond, List, [], ◌∷◌, ◌++◌, map, Option, Some, None, slice_get, decimal}
+use Rattle.std.specs.Prelude.{◌≡◌, ℕ, zero, suc, Bool, cond, List, [], ◌∷◌, ◌++◌, map, Option, Some}
+use Rattle.std.specs.Prelude.{None, slice_get, decimal}
 use Rattle.plain_netlist.specs.Sound.{IsGood}
 use Rattle.plain_netlist.specs.Netlist.{DeviceRow, CallRow, Circuit, Netlist, IsCircuit, Slot, slot}
-use Rattle.align_laws.specs.Flat.{Placing, Stays, Goes, Maps, below, AreInlined, row_through, call_through}
+use Rattle.align_laws.specs.Flat.{Placing, Stays, Goes, Maps, below, AreInlined, row_through}
+use Rattle.align_laws.specs.Flat.{call_through}
 
 -- a net, a device, a call of a flat circuit, with the path that it is from
 pub record NetAt : Type 0 where

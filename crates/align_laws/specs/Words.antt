@@ -1,9 +1,11 @@
 -- What a flat circuit is in words of paths through circuits that go; and that its lists and numbers
 -- are determined.
-use Rattle.std.specs.Prelude.{◌≡◌, ◌⊎◌, ◌↔◌, ◌<◌, ℕ, Bool, true, List, [], ◌∷◌, map, Some, slice_get}
+use Rattle.std.specs.Prelude.{◌≡◌, ◌⊎◌, ◌↔◌, ◌<◌, ℕ, Bool, true, List, [], ◌∷◌, map, Some}
+use Rattle.std.specs.Prelude.{slice_get}
 use Rattle.plain_netlist.specs.Sound.{IsGood}
 use Rattle.plain_netlist.specs.Chains.{Reaches}
-use Rattle.plain_netlist.specs.Netlist.{DeviceRow, CallRow, Circuit, Netlist, IsCircuit, IsCall, IsDevice, HasNet, IsSlot, IsJoin, Slot, HasDevice, slot}
+use Rattle.plain_netlist.specs.Netlist.{DeviceRow, CallRow, Circuit, Netlist, IsCircuit, IsCall}
+use Rattle.plain_netlist.specs.Netlist.{IsDevice, HasNet, IsSlot, IsJoin, Slot, HasDevice, slot}
 use Rattle.align_laws.specs.Flat.{Placing, Stays, Goes, Maps, net_image, AreInlined}
 use Rattle.align_laws.specs.Lists.{FlatCircuit, inlined, AreFlat}
 use Rattle.align_laws.specs.Cut.{Alignment, AreHeld}

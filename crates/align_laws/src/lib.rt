@@ -7,12 +7,16 @@
 //! paths). No code runs here; each law is the contract of a function with an empty body.
 #![tactic(auto)]
 
-ghost use Rattle.align_laws.specs.Aligned.{AlignedLaw, AlignedCorrespondsLaw, AlignedFaultLaw, AlignedSoundLaw, AllFlattenedLaw, NoFurtherLaw, OneAlignedLaw};
+ghost use Rattle.align_laws.specs.Aligned.{AlignedLaw, AlignedCorrespondsLaw, AlignedFaultLaw};
+ghost use Rattle.align_laws.specs.Aligned.{AlignedSoundLaw, AllFlattenedLaw, NoFurtherLaw};
+ghost use Rattle.align_laws.specs.Aligned.{OneAlignedLaw};
 ghost use Rattle.align_laws.specs.Flat.{FlatLaw};
 ghost use Rattle.align_laws.specs.Lists.{ListLaw};
-ghost use Rattle.align_laws.specs.Partners.{AlignedSidesLaw, KeptLaw, LeftOrderLaw, OnePairLaw, OnePartnerLaw, SaidLaw};
+ghost use Rattle.align_laws.specs.Partners.{AlignedSidesLaw, KeptLaw, LeftOrderLaw, OnePairLaw};
+ghost use Rattle.align_laws.specs.Partners.{OnePartnerLaw, SaidLaw};
 ghost use Rattle.align_laws.specs.Sample.{NestedLaw};
-ghost use Rattle.align_laws.specs.Words.{InsideLaw, OneFlatLaw, OneNumberLaw, OneHeldLaw, LowerLaw, FlatGoodLaw, InnerNetLaw, InnerCallLaw};
+ghost use Rattle.align_laws.specs.Words.{InsideLaw, OneFlatLaw, OneNumberLaw, OneHeldLaw, LowerLaw};
+ghost use Rattle.align_laws.specs.Words.{FlatGoodLaw, InnerNetLaw, InnerCallLaw};
 
 /// Flattening leaves the expansion as it is, and lists made of a circuit and of the flat circuits
 /// below it are flattened circuits.

@@ -1,6 +1,7 @@
 use geo_base::{Motion, Point, Rect, Square, Turn};
 
-// One square and one rectangle off both axes under each turn, and a shift, worked out with pen and paper.
+// One square and one rectangle off both axes under each turn, and a shift, worked out with pen and
+// paper.
 #[test]
 fn eight_turns(rt: HostRuntime) {
     let square = Square { x: 3, y: 1 };

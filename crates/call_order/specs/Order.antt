@@ -1,5 +1,6 @@
 -- Numbers that call numbers: orders of calls, and numbers that reach themselves.
-use Rattle.std.specs.Prelude.{◌≡◌, ℕ, ◌<◌, List, [], length, take, map, slice_get, slice_index_or, Some}
+use Rattle.std.specs.Prelude.{◌≡◌, ℕ, ◌<◌, List, [], length, take, map, slice_get, slice_index_or}
+use Rattle.std.specs.Prelude.{Some}
 use Rattle.std.specs.Global.{Vec}
 use Rattle.plain_netlist.specs.Chains.{Reaches}
 use Rattle.plain_netlist.specs.Lists.{IsListed, AreApart}

@@ -1,5 +1,7 @@
 -- A walk along calls, deep first, that finds rings: numbers that reach each other.
-use Rattle.std.specs.Prelude.{◌≡◌, ◌⊎◌, ℕ, ◌+◌, ◌-◌, ◌*◌, ◌<◌, ◌≤◌, Bool, true, false, ◌==◌, nat_lt, List, [], ◌∷◌, ◌++◌, length, take, drop, reverse, slice_index, slice_index_or, slice_set, Option, Some, None, if◌then◌else◌}
+use Rattle.std.specs.Prelude.{◌≡◌, ◌⊎◌, ℕ, ◌+◌, ◌-◌, ◌*◌, ◌<◌, ◌≤◌, Bool, true, false, ◌==◌, nat_lt}
+use Rattle.std.specs.Prelude.{List, [], ◌∷◌, ◌++◌, length, take, drop, reverse, slice_index}
+use Rattle.std.specs.Prelude.{slice_index_or, slice_set, Option, Some, None, if◌then◌else◌}
 use Rattle.plain_netlist.specs.Chains.{Reaches}
 use Rattle.plain_netlist.specs.Lists.{IsListed, AreApart}
 use Rattle.call_order.specs.Order.{Calls, AreInRange, ReachesItself}

@@ -1,6 +1,8 @@
 ghost use Rattle.std.specs.Prelude.{◌≡◌, [], ◌<◌, ℕ, IfOk, OnOk, MatchOption, length};
 ghost use Rattle.call_order.specs.Order.{lists, AreInRange, IsFound};
-ghost use Rattle.call_order.specs.Walk.{seen, opened, begun, joined, arrived, TakesCall, rested, left, without, lesser, IsLast, IsUnmet, AreThere, HasMet, IsWalk, IsFurther};
+ghost use Rattle.call_order.specs.Walk.{seen, opened, begun, joined, arrived, TakesCall, rested};
+ghost use Rattle.call_order.specs.Walk.{left, without, lesser, IsLast, IsUnmet, AreThere, HasMet};
+ghost use Rattle.call_order.specs.Walk.{IsWalk, IsFurther};
 
 use crate::order::CallOrder;
 use std::alloc::{AllocError, Global};

@@ -1,11 +1,13 @@
 -- The answers of all pairs of two sides; and that they compose to a match where each is one.
-use Rattle.std.specs.Prelude.{◌≡◌, ◌↔◌, ◌==◌, ℕ, zero, suc, Bool, true, cond, List, length, take, Option, Some, None}
+use Rattle.std.specs.Prelude.{◌≡◌, ◌↔◌, ◌==◌, ℕ, zero, suc, Bool, true, cond, List, length, take}
+use Rattle.std.specs.Prelude.{Option, Some, None}
 use Rattle.std.specs.List.{list_any}
 use Rattle.plain_netlist.specs.Netlist.{Circuit, CallRow, Netlist, IsCircuit}
 use Rattle.plain_netlist.specs.Sound.{IsGood}
 use Rattle.round_laws.specs.Nodes.{Layout, Schematic}
 use Rattle.match_laws.specs.Circuits.{Pair, Pairing, IsFitting}
-use Rattle.match_laws.specs.Answer.{Answer, Match, DiffersInRound, DiffersByTree, Undecided, Skipped, IsAnswer, equal_names}
+use Rattle.match_laws.specs.Answer.{Answer, Match, DiffersInRound, DiffersByTree, Undecided}
+use Rattle.match_laws.specs.Answer.{Skipped, IsAnswer, equal_names}
 use Rattle.align_laws.specs.Lists.{given_of}
 use Rattle.align_laws.specs.Partners.{AreSides}
 use Rattle.composed_laws.specs.Composed.{IsMatch, IsComparable}

@@ -2,7 +2,9 @@
 -- compose to.
 use Rattle.std.specs.Prelude.{◌≡◌, ◌↔◌, ℕ, List, [], ◌∷◌, Some, slice_get}
 use Rattle.plain_netlist.specs.Flats.{AreRowsAlike, row_of}
-use Rattle.plain_netlist.specs.Netlist.{DeviceRow, CallRow, Circuit, Netlist, IsCircuit, IsCall, IsDevice, IsPin, HasNet, Slot, slot, InOneNet, HasDevice, IsSlot}
+use Rattle.plain_netlist.specs.Netlist.{DeviceRow, CallRow, Circuit, Netlist, IsCircuit, IsCall}
+use Rattle.plain_netlist.specs.Netlist.{IsDevice, IsPin, HasNet, Slot, slot, InOneNet, HasDevice}
+use Rattle.plain_netlist.specs.Netlist.{IsSlot}
 
 -- class and sizes are kept; gate and bulk are paired; source and drain are paired with the two
 abbrev pub AreRowsPaired : (net : ℕ → ℕ → Type 0) → DeviceRow → DeviceRow → Type 0

@@ -7,7 +7,8 @@
 //! contract of a function with an empty body.
 #![tactic(auto)]
 
-ghost use Rattle.composed_laws.specs.Answered.{AnsweredLaw, OneAnswerOfLaw, ReadAnswersLaw, TogetherAnswersLaw};
+ghost use Rattle.composed_laws.specs.Answered.{AnsweredLaw, OneAnswerOfLaw, ReadAnswersLaw};
+ghost use Rattle.composed_laws.specs.Answered.{TogetherAnswersLaw};
 ghost use Rattle.composed_laws.specs.Composed.{WholeMatchLaw, MatchCorrespondsLaw};
 ghost use Rattle.composed_laws.specs.Matched.{AlignedMatchLaw, MatchedNetlistsLaw, MatchedTopsLaw};
 

@@ -5,18 +5,20 @@ use Rattle.geo_base.specs.declared.layer.LayerKey.{LayerKey}
 use Rattle.geo_base.specs.declared.layer.Op.{Op}
 use Rattle.geo_base.specs.declared.shapes.Square.{Square}
 use Rattle.flat_layout.specs.Layers.{Reading, Binary, inputs, InFlat, IsKeptBelow, IsDecided}
-use Rattle.flat_layout.specs.Layout.{Design, Place, Some_of, IsOwn, IsPlaced, IsReached, IsDisturbed, InFlatInput}
+use Rattle.flat_layout.specs.Layout.{Design, Place, Some_of, IsOwn, IsPlaced, IsReached}
+use Rattle.flat_layout.specs.Layout.{IsDisturbed, InFlatInput}
 
 -- the square comes from a placed cell, where it is disturbed for some layers
-pub record IsFromDisturbed (d : Design) (keys : List LayerKey) (cell : ℕ) (q : Square) : Type 0 where
-  pub number : ℕ
-  pub place : Place
-  pub square : Square
-  pub placed : IsPlaced d cell number place
-  pub key : LayerKey
-  pub flat : InFlatInput d place.cell key square
-  pub disturbed : IsDisturbed d keys place.cell square
-  pub image : moved_square place.motion square ≡ q
+pub record IsFromDisturbed (d : Design) (keys : List LayerKey) (cell : ℕ) (q : Square) : Type 0
+  where
+    pub number : ℕ
+    pub place : Place
+    pub square : Square
+    pub placed : IsPlaced d cell number place
+    pub key : LayerKey
+    pub flat : InFlatInput d place.cell key square
+    pub disturbed : IsDisturbed d keys place.cell square
+    pub image : moved_square place.motion square ≡ q
 
 -- or where it isn't
 pub record IsFromCalm (d : Design) (keys : List LayerKey) (cell : ℕ) (q : Square) : Type 0 where
@@ -33,14 +35,19 @@ IsOwnOn d keys cell q = Some_of (λ key. IsOwn d cell key q) keys
 
 -- it is decided which flat squares of placed cells are disturbed
 abbrev pub AreDecidedBelow : Design → List LayerKey → ℕ → Type 0
-AreDecidedBelow d keys cell = (k : ℕ) (p : Place) (key : LayerKey) (r : Square) → IsPlaced d cell k p → InFlatInput d p.cell key r → IsDecided (IsDisturbed d keys p.cell r)
+AreDecidedBelow d keys cell = (k : ℕ) (p : Place) (key : LayerKey) (r : Square)
+    → IsPlaced d cell k p → InFlatInput d p.cell key r → IsDecided (IsDisturbed d keys p.cell r)
 
--- a flat square that isn't over own shapes, nor over disturbed squares of placed cells, is kept by a placed cell
+-- a flat square that isn't over own shapes, nor over disturbed squares of placed cells, is kept by
+-- a placed cell
 abbrev pub CandidateLaw : Type 0
-CandidateLaw = (d : Design) (op : Op) (a b : Reading) (cell : ℕ) (q : Square) → IsReached d cell → AreDecidedBelow d (inputs (Binary op a b)) cell → InFlat d cell (Binary op a b) q
-    → IsOwnOn d (inputs (Binary op a b)) cell q ⊎ (IsFromDisturbed d (inputs (Binary op a b)) cell q ⊎ IsKeptBelow d cell (Binary op a b) q)
+CandidateLaw = (d : Design) (op : Op) (a b : Reading) (cell : ℕ) (q : Square) → IsReached d cell
+    → AreDecidedBelow d (inputs (Binary op a b)) cell → InFlat d cell (Binary op a b) q
+    → IsOwnOn d (inputs (Binary op a b)) cell q
+    ⊎ (IsFromDisturbed d (inputs (Binary op a b)) cell q ⊎ IsKeptBelow d cell (Binary op a b) q)
 
 -- of the flat squares, the placed cells keep those that aren't disturbed there
 abbrev pub BelowLaw : Type 0
-BelowLaw = (d : Design) (op : Op) (a b : Reading) (cell : ℕ) (q : Square) → IsReached d cell → InFlat d cell (Binary op a b) q
+BelowLaw = (d : Design) (op : Op) (a b : Reading) (cell : ℕ) (q : Square) → IsReached d cell
+    → InFlat d cell (Binary op a b) q
     → IsKeptBelow d cell (Binary op a b) q ↔ IsFromCalm d (inputs (Binary op a b)) cell q

@@ -1,7 +1,8 @@
 ghost use Rattle.deep_laws.specs.Layers.{CandidateLaw, BelowLaw};
 ghost use Rattle.deep_laws.specs.Zones.{ArrayZoneLaw, UnionLaw};
 
-/// Local squares lie over own shapes or over disturbed squares of placed cells; below lies what isn't disturbed there.
+/// Local squares lie over own shapes or over disturbed squares of placed cells; below lies what
+/// isn't disturbed there.
 pub fn layer_laws()
     ensures candidate { CandidateLaw }
     ensures below { BelowLaw }

@@ -1,4 +1,5 @@
-//! Where local squares of a cell can lie, and where its disturbed squares come from, by references with their arrays.
+//! Where local squares of a cell can lie, and where its disturbed squares come from, by references
+//! with their arrays.
 #![tactic(auto)]
 
 mod laws;

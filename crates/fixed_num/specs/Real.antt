@@ -1,6 +1,7 @@
 -- The value of an eight-byte real, by cross multiplication of whole numbers: the value without its
 -- sign is `mantissa * 16 ^ (exponent - 78)`, which is `whole` over `16 ^ 78`.
-use Rattle.std.specs.Prelude.{◌≡◌, ◌⊎◌, ℕ, ◌+◌, ◌-◌, ◌*◌, ◌^◌, ◌<◌, ◌≤◌, ◌%◌, List, true, false, fold}
+use Rattle.std.specs.Prelude.{◌≡◌, ◌⊎◌, ℕ, ◌+◌, ◌-◌, ◌*◌, ◌^◌, ◌<◌, ◌≤◌, ◌%◌, List, true, false}
+use Rattle.std.specs.Prelude.{fold}
 use Rattle.fixed_num.specs.declared.real.Real8.{Real8}
 
 -- the number that bytes are, the highest first
@@ -21,8 +22,10 @@ IsAngle r v = whole r ≡ v * 16 ^ 78
 
 -- k is below 4, and the value is 90 times a whole number from -4 to 4 that is k modulo 4
 pub data IsQuarter (r : Real8) : ℕ → Type 0 where
-  Forward : (turns : ℕ) → turns ≤ 4 → r.negative ≡ false → IsAngle r (90 * turns) → IsQuarter r (turns % 4)
-  Backward : (turns : ℕ) → turns ≤ 4 → r.negative ≡ true → IsAngle r (90 * turns) → IsQuarter r ((4 - turns) % 4)
+  Forward : (turns : ℕ) → turns ≤ 4 → r.negative ≡ false → IsAngle r (90 * turns)
+      → IsQuarter r (turns % 4)
+  Backward : (turns : ℕ) → turns ≤ 4 → r.negative ≡ true → IsAngle r (90 * turns)
+      → IsQuarter r ((4 - turns) % 4)
 
 -- k is the whole number nearest to 10 ^ 12 times w over 16 ^ 78, halves upwards:
 -- 2 * k - 1 ≤ 2 * 10 ^ 12 * w / 16 ^ 78 < 2 * k + 1

@@ -1,5 +1,7 @@
 -- What one pass over a value's text finds, and what its steps keep.
-use Rattle.std.specs.Prelude.{◌≡◌, ℕ, ◌+◌, ◌*◌, ◌^◌, ◌<◌, ◌≤◌, ◌%◌, Bool, true, false, ◌==◌, ◌&&◌, List, [], ◌∷◌, ◌++◌, length, map, drop, Option, Some, None, Result, Ok, Err, if◌then◌else◌}
+use Rattle.std.specs.Prelude.{◌≡◌, ℕ, ◌+◌, ◌*◌, ◌^◌, ◌<◌, ◌≤◌, ◌%◌, Bool, true, false, ◌==◌, ◌&&◌}
+use Rattle.std.specs.Prelude.{List, [], ◌∷◌, ◌++◌, length, map, drop, Option, Some, None, Result}
+use Rattle.std.specs.Prelude.{Ok, Err, if◌then◌else◌}
 use Rattle.std.specs.List.{list_all, prefix_len, take_while}
 use Rattle.std.specs.Char.{is_ascii_digit, is_ascii_alphabetic, to_ascii_lowercase}
 use Rattle.std.specs.Str.Parse.{digits_value}
@@ -44,7 +46,8 @@ power_with minus text = record { minus = minus; digits = digits_of text; rest = 
 -- an optional sign and the digits
 abbrev pub signed_power : List ℕ → Power
 signed_power [] = power_with false []
-signed_power (b ∷ bs) = if b == 43 then power_with false bs else if b == 45 then power_with true bs else power_with false (b ∷ bs)
+signed_power (b ∷ bs) = if b == 43 then power_with false bs else if b
+    == 45 then power_with true bs else power_with false (b ∷ bs)
 
 -- an exponent of one digit or more
 abbrev pub has_digits : Power → Option Power
@@ -53,11 +56,14 @@ has_digits p = if length p.digits == 0 then None else Some p
 -- what stands behind a value's digits: an exponent, where it begins with e (101)
 abbrev pub power_of : List ℕ → Option Power
 power_of [] = Some (record { minus = false; digits = []; rest = [] })
-power_of (b ∷ bs) = if to_ascii_lowercase b == 101 then has_digits (signed_power bs) else Some (record { minus = false; digits = []; rest = b ∷ bs })
+power_of (b ∷ bs) = if to_ascii_lowercase b
+    == 101 then has_digits (signed_power bs) else Some
+    (record { minus = false; digits = []; rest = b ∷ bs })
 
 -- the suffix of what stands behind the number, where that is letters
 abbrev pub unit_of : List ℕ → Option ℕ
-unit_of rest = if list_all is_ascii_alphabetic rest then suffix_of (map to_ascii_lowercase rest) else None
+unit_of rest =
+    if list_all is_ascii_alphabetic rest then suffix_of (map to_ascii_lowercase rest) else None
 
 -- the number of its parts
 abbrev pub number_at : List ℕ → List ℕ → Power → ℕ → Number
@@ -78,11 +84,13 @@ with_power whole places (Some p) = with_unit whole places p (unit_of p.rest)
 
 -- the number, where there is a digit
 abbrev pub with_digits : List ℕ → List ℕ → List ℕ → Option Number
-with_digits whole places rest = if length whole == 0 && length places == 0 then None else with_power whole places (power_of rest)
+with_digits whole places rest = if length whole == 0 && length places
+    == 0 then None else with_power whole places (power_of rest)
 
 -- the number that a text is: its digits, those behind its point, its exponent and its suffix
 abbrev pub number_of : List ℕ → Option Number
-number_of text = with_digits (digits_of text) (fraction_of (after_digits text)) (after_fraction (after_digits text))
+number_of text = with_digits (digits_of text) (fraction_of (after_digits text))
+    (after_fraction (after_digits text))
 
 -- what the code found of an exponent
 abbrev pub power_seen : ScannedPower → Power
@@ -99,7 +107,8 @@ Answers (Some n) (Err NotNumber) = ⊥
 Answers (Some n) (Err TooLarge) = IsAbove n
 Answers (Some n) (Err TooFine) = (IsAbove n → ⊥) × ((f : ℕ) → IsWorth n f → ⊥)
 
--- m is its significant digits, which are counted, and the zeros behind them; value is their worth where they are 19 at most
+-- m is its significant digits, which are counted, and the zeros behind them; value is their worth
+-- where they are 19 at most
 pub record IsStripped (count value zeros m : ℕ) : Type 0 where
   pub significant : ℕ
   pub number : significant * 10 ^ zeros ≡ m

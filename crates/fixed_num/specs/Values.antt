@@ -1,5 +1,6 @@
 -- What the text of a SPICE value is worth: an exact fraction, in femtometres.
-use Rattle.std.specs.Prelude.{◌≡◌, ℕ, ◌+◌, ◌*◌, ◌^◌, ◌<◌, Bool, true, false, ◌==◌, ◌&&◌, List, [], ◌∷◌, ◌++◌, length, map, Option, Some, None, if◌then◌else◌}
+use Rattle.std.specs.Prelude.{◌≡◌, ℕ, ◌+◌, ◌*◌, ◌^◌, ◌<◌, Bool, true, false, ◌==◌, ◌&&◌, List, []}
+use Rattle.std.specs.Prelude.{◌∷◌, ◌++◌, length, map, Option, Some, None, if◌then◌else◌}
 use Rattle.std.specs.List.{list_all}
 use Rattle.std.specs.Char.{is_ascii_digit, is_ascii_alphabetic, to_ascii_lowercase}
 use Rattle.std.specs.Str.Parse.{digits_value}
@@ -30,7 +31,8 @@ pub record Exponent : Type 0 where
   pub sign : Sign
   pub digits : List ℕ
 
--- a value in its parts: the digits before the point, those behind it where there is one, an exponent, and letters
+-- a value in its parts: the digits before the point, those behind it where there is one, an
+-- exponent, and letters
 pub record Parts : Type 0 where
   pub whole : List ℕ
   pub fraction : Option (List ℕ)
@@ -75,16 +77,19 @@ IsExponent (Some x) = (to_ascii_lowercase x.mark ≡ 101) × AreDigits x.digits 
 abbrev pub milli_or_mega : List ℕ → Option ℕ
 milli_or_mega [] = Some 12
 milli_or_mega (a ∷ []) = Some 12
-milli_or_mega (a ∷ b ∷ bs) = if a == 105 && b == 108 then None else if a == 101 && b == 103 then Some 21 else Some 12
+milli_or_mega (a ∷ b ∷ bs) =
+    if a == 105 && b == 108 then None else if a == 101 && b == 103 then Some 21 else Some 12
 
--- the suffix that small letters begin with, as a power of ten of femtometres: f (102), p (112), n (110), u (117),
--- m (109), k (107), g (103), t (116), or no letter
+-- the suffix that small letters begin with, as a power of ten of femtometres: f (102), p (112), n
+-- (110), u (117), m (109), k (107), g (103), t (116), or no letter
 abbrev pub suffix_of : List ℕ → Option ℕ
 suffix_of [] = Some 15
 suffix_of (b ∷ bs) =
-    if b == 102 then Some 0 else if b == 112 then Some 3 else if b == 110 then Some 6 else if b == 117 then Some 9
+    if b == 102 then Some 0 else if b == 112 then Some 3 else if b == 110 then Some 6 else if b
+    == 117 then Some 9
     else if b == 109 then milli_or_mega bs
-    else if b == 107 then Some 18 else if b == 103 then Some 24 else if b == 116 then Some 27 else None
+    else if b == 107 then Some 18 else if b == 103 then Some 24 else if b
+    == 116 then Some 27 else None
 
 -- the text is that of the parts, and each part is in order
 pub record IsSpelled (text : List ℕ) (p : Parts) (suffix : ℕ) : Type 0 where

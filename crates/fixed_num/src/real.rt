@@ -1,4 +1,5 @@
-ghost use Rattle.std.specs.Prelude.{◌≡◌, ◌*◌, ◌%◌, ◌<◌, ◌≤◌, ◌^◌, ◌↔◌, ℕ, IsTrue, MatchOption, slice_index, drop};
+ghost use Rattle.std.specs.Prelude.{◌≡◌, ◌*◌, ◌%◌, ◌<◌, ◌≤◌, ◌^◌, ◌↔◌, ℕ, IsTrue, MatchOption};
+ghost use Rattle.std.specs.Prelude.{slice_index, drop};
 
 /// An eight-byte real of the GDSII Stream Format: the value is `mantissa * 16^(exponent - 78)`,
 /// below 0 where `negative`.
@@ -14,7 +15,8 @@ pub struct Real8 {
 }
 
 impl Real8 {
-    ghost use Rattle.fixed_num.specs.Real.{number_of_bytes, IsOne, IsAngle, IsQuarter, IsDivisor, IsFarFromOne};
+    ghost use Rattle.fixed_num.specs.Real.{number_of_bytes, IsOne, IsAngle, IsQuarter, IsDivisor};
+    ghost use Rattle.fixed_num.specs.Real.{IsFarFromOne};
 
     /// The real that eight bytes of a stream are.
     pub fn from_bytes(b: [u8; 8]) -> Real8

@@ -1,8 +1,10 @@
-ghost use Rattle.std.specs.Prelude.{◌≡◌, ◌≤◌, length, IsTrue, MatchOption, Option, Some, None, option_map, map};
+ghost use Rattle.std.specs.Prelude.{◌≡◌, ◌≤◌, length, IsTrue, MatchOption, Option, Some, None};
+ghost use Rattle.std.specs.Prelude.{option_map, map};
 ghost use Rattle.std.specs.List.{prefix_len, list_all};
 ghost use Rattle.std.specs.Char.{is_ascii_alphabetic, is_ascii_digit, to_ascii_lowercase};
 ghost use Rattle.fixed_num.specs.Values.{suffix_of, milli_or_mega};
-ghost use Rattle.fixed_num.specs.Scan.{digits_of, after_digits, fraction_of, after_fraction, power_with, signed_power, power_of, unit_of, power_seen};
+ghost use Rattle.fixed_num.specs.Scan.{digits_of, after_digits, fraction_of, after_fraction};
+ghost use Rattle.fixed_num.specs.Scan.{power_with, signed_power, power_of, unit_of, power_seen};
 
 use crate::power::Power;
 

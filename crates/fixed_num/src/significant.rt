@@ -69,7 +69,8 @@ impl Significant {
         requires digits { IsTrue (list_all is_ascii_digit digits.now) }
         requires room { self.count + self.zeros < 2 ^ 90 }
         ensures number { (m : ℕ) → IsStripped self.count self.value self.zeros m
-            → IsStripped result.count result.value result.zeros (digits_value_after 10 m digits.now) }
+            → IsStripped result.count result.value result.zeros
+            (digits_value_after 10 m digits.now) }
         ensures room { result.count + result.zeros ≤ self.count + self.zeros + length digits.now }
     {
         let mut number = self;
@@ -93,7 +94,8 @@ impl Significant {
         }
         let up = up + self.zeros;
         if up < down {
-            // Less than a femtometre is left over, behind 19 places or more where it is above 10^18.
+            // Less than a femtometre is left over, behind 19 places or more where it is above
+            // 10^18.
             if self.count + up < down + 19 {
                 return Err(ValueFault::TooFine);
             }

@@ -1,7 +1,10 @@
--- The gates of the cells' lists, seen from the top along all paths, are the gates of the flat top, each once.
+-- The gates of the cells' lists, seen from the top along all paths, are the gates of the flat top,
+-- each once.
 use Rattle.std.specs.Prelude.{◌≡◌, ℕ, List, Some, slice_get}
-use Rattle.flat_layout.specs.Gates.{Edge, Cause, Rule, geometry, InGate, IsGoodGate, IsBadGate, IsTerminalNode}
-use Rattle.flat_layout.specs.GateTables.{AreGates, Bad, GateEntry, GateRow, Good, IsGateRow, Verdict}
+use Rattle.flat_layout.specs.Gates.{Edge, Cause, Rule, geometry, InGate, IsGoodGate, IsBadGate}
+use Rattle.flat_layout.specs.Gates.{IsTerminalNode}
+use Rattle.flat_layout.specs.GateTables.{AreGates, Bad, GateEntry, GateRow, Good, IsGateRow}
+use Rattle.flat_layout.specs.GateTables.{Verdict}
 use Rattle.flat_layout.specs.Layers.{InFlat}
 use Rattle.flat_layout.specs.Layout.{Design, IsHeight, IsReached, Leads, Takes}
 use Rattle.flat_layout.specs.Nets.{Tables}

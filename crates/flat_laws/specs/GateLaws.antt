@@ -1,6 +1,9 @@
 -- Gates of a placed cell and of its parent.
 use Rattle.std.specs.Prelude.{◌≡◌, ◌⊎◌, ◌↔◌, ℕ, ◌<◌, List, Some, length}
-use Rattle.flat_layout.specs.Gates.{Cause, Counts, Edge, Geometry, InGate, InOneGroup, InRing, InSide, IsBadGate, IsFound, IsGateBelow, IsGoodGate, IsListedGate, IsLong, IsReadBy, IsSettled, IsSoundGeometry, IsTerminalNode, IsWide, Rule, geometry, ground, moved_edge}
+use Rattle.flat_layout.specs.Gates.{Cause, Counts, Edge, Geometry, InGate, InOneGroup, InRing}
+use Rattle.flat_layout.specs.Gates.{InSide, IsBadGate, IsFound, IsGateBelow, IsGoodGate}
+use Rattle.flat_layout.specs.Gates.{IsListedGate, IsLong, IsReadBy, IsSettled, IsSoundGeometry}
+use Rattle.flat_layout.specs.Gates.{IsTerminalNode, IsWide, Rule, geometry, ground, moved_edge}
 use Rattle.flat_layout.specs.Layers.{InFlat}
 use Rattle.flat_layout.specs.Layout.{Design, IsHeight, IsPlaced, IsReached, Place, Takes}
 use Rattle.flat_layout.specs.Regions.{InOneRegion, IsNode, Node, Wiring, kept, reading}
@@ -23,61 +26,93 @@ ReadLayersLaw = (w : Wiring) (u : Rule) → IsReadWhole w u
 -- the image of a settled gate is a settled gate, with its ring
 pub record IsGateKept (d : Design) (g : Geometry) (cell : ℕ) (p : Place) (s : Square) : Type 0 where
   pub settled : IsSettled d g cell (moved_square p.motion s)
-  pub squares : (q : Square) → InGate d g cell (moved_square p.motion s) (moved_square p.motion q) ↔ InGate d g p.cell s q
-  pub ring : (q : Square) → InRing d g cell (moved_square p.motion s) (moved_square p.motion q) ↔ InRing d g p.cell s q
+  pub squares : (q : Square) → InGate d g cell (moved_square p.motion s) (moved_square p.motion q)
+      ↔ InGate d g p.cell s q
+  pub ring : (q : Square) → InRing d g cell (moved_square p.motion s) (moved_square p.motion q)
+      ↔ InRing d g p.cell s q
 
 abbrev pub KeptGateLaw : Type 0
-KeptGateLaw = (d : Design) (g : Geometry) (cell k : ℕ) (p : Place) (s : Square) → IsSoundGeometry g → IsReached d cell → IsPlaced d cell k p → IsSettled d g p.cell s → IsGateKept d g cell p s
+KeptGateLaw = (d : Design) (g : Geometry) (cell k : ℕ) (p : Place) (s : Square) → IsSoundGeometry g
+    → IsReached d cell → IsPlaced d cell k p → IsSettled d g p.cell s → IsGateKept d g cell p s
 
 -- with its sides, groups and sizes, and good or bad for the same cause
-pub record IsFormKept (d : Design) (w : Wiring) (u : Rule) (cell : ℕ) (p : Place) (s : Square) : Type 0 where
-  pub sides : (q : Square) → InSide d w u cell (moved_square p.motion s) (moved_square p.motion q) ↔ InSide d w u p.cell s q
-  pub groups : (a b : Square) → InOneGroup d w u cell (moved_square p.motion s) (moved_square p.motion a) (moved_square p.motion b) ↔ InOneGroup d w u p.cell s a b
-  pub wide : (n : ℕ) → Counts (IsWide d w u p.cell s) n → Counts (IsWide d w u cell (moved_square p.motion s)) n
-  pub long : (n : ℕ) → Counts (IsLong d w u p.cell s) n → Counts (IsLong d w u cell (moved_square p.motion s)) n
-  pub good : (e f : Edge) (m n : ℕ) → IsGoodGate d w u p.cell s e f m n → IsGoodGate d w u cell (moved_square p.motion s) (moved_edge p.motion e) (moved_edge p.motion f) m n
-  pub good_back : (e f : Edge) (m n : ℕ) → IsGoodGate d w u cell (moved_square p.motion s) (moved_edge p.motion e) (moved_edge p.motion f) m n → IsGoodGate d w u p.cell s e f m n
-  pub bad : (c : Cause) → IsBadGate d w u p.cell s c → IsBadGate d w u cell (moved_square p.motion s) c
+pub record IsFormKept (d : Design) (w : Wiring) (u : Rule) (cell : ℕ) (p : Place)
+    (s : Square) : Type 0 where
+  pub sides : (q : Square) → InSide d w u cell (moved_square p.motion s) (moved_square p.motion q)
+      ↔ InSide d w u p.cell s q
+  pub groups : (a b : Square) → InOneGroup d w u cell (moved_square p.motion s)
+      (moved_square p.motion a) (moved_square p.motion b) ↔ InOneGroup d w u p.cell s a b
+  pub wide : (n : ℕ) → Counts (IsWide d w u p.cell s) n
+      → Counts (IsWide d w u cell (moved_square p.motion s)) n
+  pub long : (n : ℕ) → Counts (IsLong d w u p.cell s) n
+      → Counts (IsLong d w u cell (moved_square p.motion s)) n
+  pub good : (e f : Edge) (m n : ℕ) → IsGoodGate d w u p.cell s e f m n
+      → IsGoodGate d w u cell (moved_square p.motion s) (moved_edge p.motion e)
+      (moved_edge p.motion f) m n
+  pub good_back : (e f : Edge) (m n : ℕ)
+      → IsGoodGate d w u cell (moved_square p.motion s) (moved_edge p.motion e)
+      (moved_edge p.motion f) m n → IsGoodGate d w u p.cell s e f m n
+  pub bad : (c : Cause) → IsBadGate d w u p.cell s c
+      → IsBadGate d w u cell (moved_square p.motion s) c
 
 abbrev pub KeptFormLaw : Type 0
-KeptFormLaw = (d : Design) (w : Wiring) (u : Rule) (cell k : ℕ) (p : Place) (s : Square) → IsReached d cell → IsPlaced d cell k p → IsSettled d (geometry w u) p.cell s → IsFormKept d w u cell p s
+KeptFormLaw = (d : Design) (w : Wiring) (u : Rule) (cell k : ℕ) (p : Place) (s : Square)
+    → IsReached d cell → IsPlaced d cell k p → IsSettled d (geometry w u) p.cell s
+    → IsFormKept d w u cell p s
 
 -- a settled gate is the image of settled ones through one placement at most
 abbrev pub OnePlaceLaw : Type 0
-OnePlaceLaw = (d : Design) (g : Geometry) (cell : ℕ) (s : Square) → IsSoundGeometry g → IsReached d cell → (a b : IsGateBelow d g cell s) → a.number ≡ b.number
+OnePlaceLaw = (d : Design) (g : Geometry) (cell : ℕ) (s : Square) → IsSoundGeometry g
+    → IsReached d cell → (a b : IsGateBelow d g cell s) → a.number ≡ b.number
 
 -- each settled gate is the image of one listed gate along one path
 abbrev pub GateLaw : Type 0
-GateLaw = (d : Design) (g : Geometry) (height : ℕ → ℕ) → IsSoundGeometry g → IsHeight d height → ((cell : ℕ) (s : Square) → IsReached d cell → IsSettled d g cell s → IsListedGate d g cell s ⊎ IsGateBelow d g cell s)
+GateLaw = (d : Design) (g : Geometry) (height : ℕ → ℕ) → IsSoundGeometry g → IsHeight d height
+    → ((cell : ℕ) (s : Square) → IsReached d cell → IsSettled d g cell s → IsListedGate d g cell s
+    ⊎ IsGateBelow d g cell s)
     → (cell : ℕ) (s : Square) → IsReached d cell → IsSettled d g cell s
-    → (f : IsFound d g cell s) × ((h : IsFound d g cell s) → (h.path ≡ f.path) × InGate d g f.end f.square h.square)
+    → (f : IsFound d g cell s) × ((h : IsFound d g cell s) → (h.path ≡ f.path)
+    × InGate d g f.end f.square h.square)
 
 -- no square of the top is disturbed
 abbrev pub TopLaw : Type 0
-TopLaw = (d : Design) (g : Geometry) (height : ℕ → ℕ) → IsHeight d height → (s : Square) → InFlat d d.top g.region s → IsSettled d g d.top s
+TopLaw = (d : Design) (g : Geometry) (height : ℕ → ℕ) → IsHeight d height → (s : Square)
+    → InFlat d d.top g.region s → IsSettled d g d.top s
 
 -- the nodes of a settled good gate's terminal are kept, and in one region
 abbrev pub TerminalNodeLaw : Type 0
-TerminalNodeLaw = (d : Design) (w : Wiring) (u : Rule) (cell : ℕ) (s : Square) (e f : Edge) (k l : ℕ) (pole : Pole) (m n : Node) → IsReached d cell → IsSettled d (geometry w u) cell s → IsGoodGate d w u cell s e f k l
-    → ((g : ℕ) → ground w u ≡ Some g → g < length w.globals) → IsTerminalNode d w u cell s e f pole m → IsTerminalNode d w u cell s e f pole n → IsNode w (kept d w cell) m × InOneRegion w (kept d w cell) m n
+TerminalNodeLaw = (d : Design) (w : Wiring) (u : Rule) (cell : ℕ) (s : Square) (e f : Edge)
+    (k l : ℕ) (pole : Pole) (m n : Node) → IsReached d cell → IsSettled d (geometry w u) cell s
+    → IsGoodGate d w u cell s e f k l
+    → ((g : ℕ) → ground w u ≡ Some g → g < length w.globals)
+    → IsTerminalNode d w u cell s e f pole m → IsTerminalNode d w u cell s e f pole n
+    → IsNode w (kept d w cell) m × InOneRegion w (kept d w cell) m n
 
 -- a count is one number, so a gate has one pair of sizes
 abbrev pub OneCountLaw : Type 0
-OneCountLaw = (d : Design) (w : Wiring) (u : Rule) (cell : ℕ) (s : Square) (m n : ℕ) → (Counts (IsWide d w u cell s) m → Counts (IsWide d w u cell s) n → m ≡ n) × (Counts (IsLong d w u cell s) m → Counts (IsLong d w u cell s) n → m ≡ n)
+OneCountLaw = (d : Design) (w : Wiring) (u : Rule) (cell : ℕ) (s : Square) (m n : ℕ)
+    → (Counts (IsWide d w u cell s) m → Counts (IsWide d w u cell s) n → m ≡ n)
+    × (Counts (IsLong d w u cell s) m → Counts (IsLong d w u cell s) n → m ≡ n)
 
 -- a good gate isn't bad
 abbrev pub NotBothLaw : Type 0
-NotBothLaw = (d : Design) (w : Wiring) (u : Rule) (cell : ℕ) (s : Square) (e f : Edge) (m n : ℕ) (c : Cause) → IsGoodGate d w u cell s e f m n → IsBadGate d w u cell s c → ⊥
+NotBothLaw = (d : Design) (w : Wiring) (u : Rule) (cell : ℕ) (s : Square) (e f : Edge) (m n : ℕ)
+    (c : Cause) → IsGoodGate d w u cell s e f m n → IsBadGate d w u cell s c → ⊥
 
 -- and a bad one has one cause
 abbrev pub OneCauseLaw : Type 0
-OneCauseLaw = (d : Design) (w : Wiring) (u : Rule) (cell : ℕ) (s : Square) (a b : Cause) → IsBadGate d w u cell s a → IsBadGate d w u cell s b → a ≡ b
+OneCauseLaw = (d : Design) (w : Wiring) (u : Rule) (cell : ℕ) (s : Square) (a b : Cause)
+    → IsBadGate d w u cell s a → IsBadGate d w u cell s b → a ≡ b
 
 -- a gate is good, or bad for a cause, by each of its squares
 abbrev pub SameGateLaw : Type 0
-SameGateLaw = (d : Design) (w : Wiring) (u : Rule) (cell : ℕ) (s q : Square) → InGate d (geometry w u) cell s q
-    → ((e f : Edge) (m n : ℕ) → IsGoodGate d w u cell s e f m n → IsGoodGate d w u cell q e f m n) × ((c : Cause) → IsBadGate d w u cell s c → IsBadGate d w u cell q c)
+SameGateLaw = (d : Design) (w : Wiring) (u : Rule) (cell : ℕ) (s q : Square)
+    → InGate d (geometry w u) cell s q
+    → ((e f : Edge) (m n : ℕ) → IsGoodGate d w u cell s e f m n → IsGoodGate d w u cell q e f m n)
+    × ((c : Cause) → IsBadGate d w u cell s c → IsBadGate d w u cell q c)
 
 -- the image of a settled bad gate along a path is bad for the same cause
 abbrev pub CauseAlongLaw : Type 0
-CauseAlongLaw = (d : Design) (w : Wiring) (u : Rule) (path : List ℕ) (cell end : ℕ) (s q : Square) (c : Cause) → IsReached d cell → Takes d cell path end s q → IsSettled d (geometry w u) end s → IsBadGate d w u end s c → IsBadGate d w u cell q c
+CauseAlongLaw = (d : Design) (w : Wiring) (u : Rule) (path : List ℕ) (cell end : ℕ) (s q : Square)
+    (c : Cause) → IsReached d cell → Takes d cell path end s q → IsSettled d (geometry w u) end s
+    → IsBadGate d w u end s c → IsBadGate d w u cell q c

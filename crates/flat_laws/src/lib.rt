@@ -1,15 +1,24 @@
 //! Deep equals flat: the laws of `flat_layout`, each the contract of a function that does nothing.
 //!
-//! A square of a cell that nothing outside its own placement touches looks the same from every cell above. So what cells hold
-//! covers the flat layers, their nets are the flat regions, their gates the flat gates, and their circuits expand to the flat netlist.
+//! A square of a cell that nothing outside its own placement touches looks the same from every cell
+//! above. So what cells hold covers the flat layers, their nets are the flat regions, their gates
+//! the flat gates, and their circuits expand to the flat netlist.
 #![tactic(auto)]
 
 ghost use Rattle.flat_laws.specs.FlatGates.{FlatGatesLaw};
-ghost use Rattle.flat_laws.specs.GateLaws.{ReadLayersLaw, KeptGateLaw, KeptFormLaw, OnePlaceLaw, GateLaw, TopLaw, TerminalNodeLaw, OneCountLaw, NotBothLaw, OneCauseLaw, SameGateLaw, CauseAlongLaw};
-ghost use Rattle.flat_laws.specs.LayerLaws.{ZoneLaw, UndisturbedLaw, StillLaw, NameStillLaw, NearInputLaw, CalmLaw, SameFlatLaw, CoverLaw, TopKeptLaw};
-ghost use Rattle.flat_laws.specs.NetLaws.{TouchLaw, RegionLaw, OneParentLaw, OneTableLaw, ReadLaw, TogetherLaw};
-ghost use Rattle.flat_laws.specs.NetlistLaws.{RowsLaw, PlannedLaw, PartLaw, NetLaw, NetlistLaw, FlatNetlistLaw, FlatRegionLaw};
-ghost use Rattle.flat_laws.specs.SeedLaws.{GateStillLaw, ReachLaw, SeedLaw, ThroughLaw, CalmThroughLaw, TestLaw, BelowLaw, OwnSeedLaw, KeptPartLaw, ClosedLaw, PartedLaw};
+ghost use Rattle.flat_laws.specs.GateLaws.{ReadLayersLaw, KeptGateLaw, KeptFormLaw, OnePlaceLaw};
+ghost use Rattle.flat_laws.specs.GateLaws.{GateLaw, TopLaw, TerminalNodeLaw, OneCountLaw};
+ghost use Rattle.flat_laws.specs.GateLaws.{NotBothLaw, OneCauseLaw, SameGateLaw, CauseAlongLaw};
+ghost use Rattle.flat_laws.specs.LayerLaws.{ZoneLaw, UndisturbedLaw, StillLaw, NameStillLaw};
+ghost use Rattle.flat_laws.specs.LayerLaws.{NearInputLaw, CalmLaw, SameFlatLaw, CoverLaw};
+ghost use Rattle.flat_laws.specs.LayerLaws.{TopKeptLaw};
+ghost use Rattle.flat_laws.specs.NetLaws.{TouchLaw, RegionLaw, OneParentLaw, OneTableLaw, ReadLaw};
+ghost use Rattle.flat_laws.specs.NetLaws.{TogetherLaw};
+ghost use Rattle.flat_laws.specs.NetlistLaws.{RowsLaw, PlannedLaw, PartLaw, NetLaw, NetlistLaw};
+ghost use Rattle.flat_laws.specs.NetlistLaws.{FlatNetlistLaw, FlatRegionLaw};
+ghost use Rattle.flat_laws.specs.SeedLaws.{GateStillLaw, ReachLaw, SeedLaw, ThroughLaw};
+ghost use Rattle.flat_laws.specs.SeedLaws.{CalmThroughLaw, TestLaw, BelowLaw, OwnSeedLaw};
+ghost use Rattle.flat_laws.specs.SeedLaws.{KeptPartLaw, ClosedLaw, PartedLaw};
 
 /// Disturbed squares of a cell come from the cells that place it.
 pub fn zones()
@@ -62,7 +71,8 @@ pub fn gates()
     ensures count { OneCountLaw }
 {}
 
-/// All lists of gates, seen from the top, are the gates of the flat top, each once, with their verdicts and terminals.
+/// All lists of gates, seen from the top, are the gates of the flat top, each once, with their
+/// verdicts and terminals.
 pub fn flat_gates()
     ensures { FlatGatesLaw }
 {}
@@ -75,7 +85,8 @@ pub fn verdicts()
     ensures along { CauseAlongLaw }
 {}
 
-/// A cell's own gates touch its own shapes or what placed cells leave open, and which come from below is told by squares.
+/// A cell's own gates touch its own shapes or what placed cells leave open, and which come from
+/// below is told by squares.
 pub fn own_gates()
     ensures still { GateStillLaw }
     ensures reach { ReachLaw }

@@ -1,4 +1,5 @@
--- References of a cell (SREF and AREF of a GDSII stream) as numbered placements: by reference, then row, then column.
+-- References of a cell (SREF and AREF of a GDSII stream) as numbered placements: by reference, then
+-- row, then column.
 use Rattle.std.specs.Prelude.{ℕ, zero, suc, pos, ◌+ℤ◌, ◌*ℤ◌, List, [], ◌∷◌, ◌++◌}
 use Rattle.geo_base.specs.declared.motion.Turn.{Turn}
 use Rattle.geo_base.specs.declared.shapes.Point.{Point}

@@ -1,9 +1,12 @@
 -- The gates of a cell's list: good ones over the nets of the cell, bad ones with their cause.
-use Rattle.std.specs.Prelude.{◌≡◌, ◌⊎◌, ℕ, ◌<◌, List, [], ◌∷◌, Some, slice_get}
+use Rattle.std.specs.Prelude.{◌≡◌, ◌⊎◌, ◌++◌, ℕ, ◌<◌, List, [], ◌∷◌, Some, slice_get}
 use Rattle.geo_base.specs.declared.shapes.Square.{Square}
-use Rattle.flat_layout.specs.Gates.{Rule, Edge, Cause, geometry, InGate, IsSettled, IsGateBelow, IsListedGate, IsLeast, IsGoodGate, IsBadGate, IsSourceFirst, IsTerminalNode}
+use Rattle.flat_layout.specs.Gates.{Rule, Edge, Cause, geometry, InGate, IsSettled, IsGateBelow}
+use Rattle.flat_layout.specs.Gates.{IsListedGate, IsLeast, IsGoodGate, IsBadGate, IsSourceFirst}
+use Rattle.flat_layout.specs.Gates.{IsTerminalNode}
 use Rattle.flat_layout.specs.Layout.{Design}
 use Rattle.flat_layout.specs.Nets.{Tables, NetHolds}
+use Rattle.flat_layout.specs.Order.{IsOrder}
 use Rattle.flat_layout.specs.Plane.{IsSquareBefore}
 use Rattle.flat_layout.specs.Regions.{Wiring, Node}
 use Rattle.plain_netlist.specs.Lists.{IsListed, AreRising}
@@ -18,7 +21,8 @@ pub record GateSquare : Type 0 where
 abbrev pub IsGateBefore : GateSquare → GateSquare → Type 0
 IsGateBefore a b = (a.rule < b.rule) ⊎ ((a.rule ≡ b.rule) × IsSquareBefore a.square b.square)
 
--- a good gate over the nets of its cell: twice its width and its length in squares, and the nets of its terminals
+-- a good gate over the nets of its cell: twice its width and its length in squares, and the nets of
+-- its terminals
 pub record GateRow : Type 0 where
   pub twice_w : ℕ
   pub twice_l : ℕ
@@ -44,32 +48,40 @@ pub record GateEntry : Type 0 where
   pub verdict : Verdict
 
 -- the row of a good gate; its source is the group with the least square
-pub record IsGateRow (d : Design) (w : Wiring) (t : Tables) (u : Rule) (cell : ℕ) (s : Square) (row : GateRow) : Type 0 where
+pub record IsGateRow (d : Design) (w : Wiring) (t : Tables) (u : Rule) (cell : ℕ) (s : Square)
+    (row : GateRow) : Type 0 where
   pub source : Edge
   pub drain : Edge
   pub good : IsGoodGate d w u cell s source drain row.twice_w row.twice_l
   pub first : IsSourceFirst d w u cell s source drain
-  pub nets : (pole : Pole) → (n : Node) × IsTerminalNode d w u cell s source drain pole n × NetHolds d t cell (terminal_net pole row) n
+  pub nets : (pole : Pole) → (n : Node) × IsTerminalNode d w u cell s source drain pole n
+      × NetHolds d t cell (terminal_net pole row) n
 
 abbrev pub IsVerdict : Design → Wiring → Tables → Rule → ℕ → Square → Verdict → Type 0
 IsVerdict d w t u cell s (Good row) = IsGateRow d w t u cell s row
 IsVerdict d w t u cell s (Bad cause) = IsBadGate d w u cell s cause
 
 -- the entry is right: a gate of the cell's list, under its least square
-pub record IsGateEntry (d : Design) (w : Wiring) (t : Tables) (rules : List Rule) (cell : ℕ) (x : GateEntry) : Type 0 where
+pub record IsGateEntry (d : Design) (w : Wiring) (t : Tables) (rules : List Rule) (cell : ℕ)
+    (x : GateEntry) : Type 0 where
   pub rule : Rule
   pub is : slice_get rules x.at.rule ≡ Some rule
   pub gate : IsListedGate d (geometry w rule) cell x.at.square
   pub least : IsLeast (InGate d (geometry w rule) cell x.at.square) x.at.square
   pub verdict : IsVerdict d w t rule cell x.at.square x.verdict
 
--- over right nets, the gates of the cell's list, each once, in order; and of a settled gate it is known whether it is one of these or comes from below
-pub record AreGates (d : Design) (w : Wiring) (t : Tables) (rules : List Rule) (cell : ℕ) (v : List GateEntry) : Type 0 where
+-- over right nets, the gates of the cell's list, each once, in order; and of a settled gate it is
+-- known whether it is one of these or comes from below
+pub record AreGates (d : Design) (w : Wiring) (t : Tables) (rules : List Rule) (cell : ℕ)
+    (v : List GateEntry) : Type 0 where
   pub each : (x : GateEntry) → IsListed x v → IsGateEntry d w t rules cell x
-  pub found : (r : ℕ) (u : Rule) (s : Square) → slice_get rules r ≡ Some u → IsListedGate d (geometry w u) cell s
-      → (x : GateEntry) × IsListed x v × (x.at.rule ≡ r) × InGate d (geometry w u) cell s x.at.square
+  pub found : (r : ℕ) (u : Rule) (s : Square) → slice_get rules r ≡ Some u
+      → IsListedGate d (geometry w u) cell s
+      → (x : GateEntry) × IsListed x v × (x.at.rule ≡ r)
+      × InGate d (geometry w u) cell s x.at.square
   pub rising : AreRising (λ x y. IsGateBefore x.at y.at) v
-  pub parted : (r : ℕ) (u : Rule) (s : Square) → slice_get rules r ≡ Some u → IsSettled d (geometry w u) cell s
+  pub parted : (r : ℕ) (u : Rule) (s : Square) → slice_get rules r ≡ Some u
+      → IsSettled d (geometry w u) cell s
       → IsListedGate d (geometry w u) cell s ⊎ IsGateBelow d (geometry w u) cell s
 
 -- a good gate of a list
@@ -85,3 +97,28 @@ with_good at (Bad cause) gates = gates
 abbrev pub good_gates : List GateEntry → List GoodGate
 good_gates [] = []
 good_gates (x ∷ xs) = with_good x.at x.verdict (good_gates xs)
+
+-- a bad gate of a list, with the cell whose list it is
+pub record BadGate : Type 0 where
+  pub cell : ℕ
+  pub at : GateSquare
+  pub cause : Cause
+
+abbrev pub with_bad : ℕ → GateSquare → Verdict → List BadGate → List BadGate
+with_bad cell at (Good row) bad = bad
+with_bad cell at (Bad cause) bad = record { cell = cell; at = at; cause = cause } ∷ bad
+
+-- the bad gates of a cell's list, in its order
+abbrev pub bad_gates : ℕ → List GateEntry → List BadGate
+bad_gates cell [] = []
+bad_gates cell (x ∷ xs) = with_bad cell x.at x.verdict (bad_gates cell xs)
+
+-- the bad gates of these cells, cell by cell
+abbrev pub all_bad_gates : (ℕ → List GateEntry) → List ℕ → List BadGate
+all_bad_gates gates [] = []
+all_bad_gates gates (cell ∷ cells) = bad_gates cell (gates cell) ++ all_bad_gates gates cells
+
+-- the bad gates of the design: of each reached cell, the cells in the design's order
+abbrev pub AreBadGates : Design → (ℕ → ℕ) → (ℕ → List GateEntry) → List BadGate → Type 0
+AreBadGates d level gates bad =
+    (cells : List ℕ) × IsOrder d level cells × (bad ≡ all_bad_gates gates cells)

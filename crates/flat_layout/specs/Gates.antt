@@ -1,4 +1,5 @@
--- The gates of a device rule in a cell: edge-connected parts of a flat layer, each with what lies round it.
+-- The gates of a device rule in a cell: edge-connected parts of a flat layer, each with what lies
+-- round it.
 use Rattle.std.specs.Prelude.{◌≡◌, ◌⊎◌, ℕ, ◌*◌, ◌≤◌, max, List, ◌++◌, Option, Some, None}
 use Rattle.geo_base.specs.Motions.{moved_square}
 use Rattle.geo_base.specs.declared.layer.LayerKey.{LayerKey}
@@ -6,14 +7,17 @@ use Rattle.geo_base.specs.declared.motion.Motion.{Motion}
 use Rattle.geo_base.specs.declared.shapes.Square.{Square}
 use Rattle.flat_layout.specs.Layers.{Reading, inputs, reach, InFlat, IsStirred}
 use Rattle.flat_layout.specs.Layout.{Place, Design, Some_of, IsPlaced, Takes}
-pub use Rattle.flat_layout.specs.Parts.{IsStep, IsLeast, Edge, Counts, AreClasses, Cause, Groups, OffGate, OffSd, NoBulk, NoLength}
-use Rattle.flat_layout.specs.Parts.{InPart, IsCloseTo, InRingOf, InSideOf, InGroupOf, IsBorderOf, IsWideOf, IsLongOf, AreGroupsOf, Sheets, IsGoodPart, IsBadPart}
+pub use Rattle.flat_layout.specs.Parts.{IsStep, IsLeast, Edge, Counts, AreClasses, Cause, Groups}
+pub use Rattle.flat_layout.specs.Parts.{OffGate, OffSd, NoBulk, NoLength}
+use Rattle.flat_layout.specs.Parts.{InPart, IsCloseTo, InRingOf, InSideOf, InGroupOf, IsBorderOf}
+use Rattle.flat_layout.specs.Parts.{IsWideOf, IsLongOf, AreGroupsOf, Sheets, IsGoodPart, IsBadPart}
 use Rattle.flat_layout.specs.Plane.{IsSquareBefore}
 use Rattle.flat_layout.specs.Regions.{Wiring, Node, At, Ground, reading, ground_of}
 use Rattle.plain_netlist.specs.Netlist.{Pole, Source, Gate, Drain, Bulk}
 
--- what the geometry of a kind of device reads: the layer whose parts are its gates, the input layers on which a shape from elsewhere disturbs one,
--- and how far from a gate's squares and its ring such a shape may lie
+-- what the geometry of a kind of device reads: the layer whose parts are its gates, the input
+-- layers on which a shape from elsewhere disturbs one, and how far from a gate's squares and its
+-- ring such a shape may lie
 pub record Geometry : Type 0 where
   pub region : Reading
   pub keys : List LayerKey
@@ -69,7 +73,8 @@ pub record IsFound (d : Design) (g : Geometry) (cell : ℕ) (s : Square) : Type 
   pub image : InGate d g cell s place
   pub gate : IsListedGate d g end square
 
--- a device rule: its class, the layers of source and drain, gate and well, and the conductors of the terminals
+-- a device rule: its class, the layers of source and drain, gate and well, and the conductors of
+-- the terminals
 pub record Rule : Type 0 where
   pub class : List ℕ
   pub sd : Reading
@@ -85,17 +90,22 @@ ground w u = ground_of u.tb w.grounds
 
 -- the input layers on which a shape from elsewhere disturbs the rule's gates
 abbrev pub gate_inputs : Wiring → Rule → List LayerKey
-gate_inputs w u = inputs u.sd ++ (inputs u.gate ++ (inputs u.well ++ (inputs (reading w u.ts) ++ (inputs (reading w u.tg) ++ inputs (reading w u.tb)))))
+gate_inputs w u = inputs u.sd ++ (inputs u.gate
+    ++ (inputs u.well ++ (inputs (reading w u.ts)
+    ++ (inputs (reading w u.tg) ++ inputs (reading w u.tb)))))
 
 -- the greatest reach of these layers
 abbrev pub gate_reach : Wiring → Rule → ℕ
-gate_reach w u = max (reach u.sd) (max (reach u.gate) (max (reach u.well) (max (reach (reading w u.ts)) (max (reach (reading w u.tg)) (reach (reading w u.tb))))))
+gate_reach w u = max (reach u.sd) (max (reach u.gate)
+    (max (reach u.well) (max (reach (reading w u.ts))
+    (max (reach (reading w u.tg)) (reach (reading w u.tb))))))
 
 -- what the rule's geometry reads
 abbrev pub geometry : Wiring → Rule → Geometry
 geometry w u = record { region = u.gate; keys = gate_inputs w u; reach = gate_reach w u }
 
--- the sizes of a rule's devices in femtometres, from twice the width and twice the length in squares, with the unit in picometres
+-- the sizes of a rule's devices in femtometres, from twice the width and twice the length in
+-- squares, with the unit in picometres
 abbrev pub width_of : Rule → ℕ → ℕ → ℕ
 width_of u unit twice_w = twice_w * (unit * 500)
 
@@ -133,7 +143,8 @@ sheets d w u cell = record {
   loose = ground w u ≡ None;
 }
 
--- a good gate: two groups, by an edge of each, its sizes, and its squares on the terminals' conductors
+-- a good gate: two groups, by an edge of each, its sizes, and its squares on the terminals'
+-- conductors
 abbrev pub IsGoodGate : Design → Wiring → Rule → ℕ → Square → Edge → Edge → ℕ → ℕ → Type 0
 IsGoodGate d w u cell s = IsGoodPart (sheets d w u cell) (InGate d (geometry w u) cell s)
 
@@ -141,17 +152,24 @@ IsGoodGate d w u cell s = IsGoodPart (sheets d w u cell) (InGate d (geometry w u
 abbrev pub IsBadGate : Design → Wiring → Rule → ℕ → Square → Cause → Type 0
 IsBadGate d w u cell s = IsBadPart (sheets d w u cell) (InGate d (geometry w u) cell s)
 
--- the source is the group with the least square: some square of it comes before each of the other group
+-- the source is the group with the least square: some square of it comes before each of the other
+-- group
 abbrev pub IsSourceFirst : Design → Wiring → Rule → ℕ → Square → Edge → Edge → Type 0
-IsSourceFirst d w u cell s e f = (p : Square) × InOneGroup d w u cell s e.outer p × ((q : Square) → InOneGroup d w u cell s f.outer q → IsSquareBefore p q)
+IsSourceFirst d w u cell s e f = (p : Square) × InOneGroup d w u cell s e.outer p
+    × ((q : Square) → InOneGroup d w u cell s f.outer q → IsSquareBefore p q)
 
 -- the nodes of a good gate's terminals
 abbrev pub IsTerminalNode : Design → Wiring → Rule → ℕ → Square → Edge → Edge → Pole → Node → Type 0
-IsTerminalNode d w u cell s e f Source n = (q : Square) × InOneGroup d w u cell s e.outer q × (At u.ts q ≡ n)
-IsTerminalNode d w u cell s e f Drain n = (q : Square) × InOneGroup d w u cell s f.outer q × (At u.ts q ≡ n)
-IsTerminalNode d w u cell s e f Gate n = (q : Square) × InGate d (geometry w u) cell s q × (At u.tg q ≡ n)
+IsTerminalNode d w u cell s e f Source n =
+    (q : Square) × InOneGroup d w u cell s e.outer q × (At u.ts q ≡ n)
+IsTerminalNode d w u cell s e f Drain n =
+    (q : Square) × InOneGroup d w u cell s f.outer q × (At u.ts q ≡ n)
+IsTerminalNode d w u cell s e f Gate n =
+    (q : Square) × InGate d (geometry w u) cell s q × (At u.tg q ≡ n)
 IsTerminalNode d w u cell s e f Bulk n =
-    ((g : ℕ) × (ground w u ≡ Some g) × (Ground g ≡ n)) ⊎ ((ground w u ≡ None) × ((q : Square) × InGate d (geometry w u) cell s q × (At u.tb q ≡ n)))
+    ((g : ℕ) × (ground w u ≡ Some g) × (Ground g ≡ n))
+    ⊎ ((ground w u ≡ None) × ((q : Square) × InGate d (geometry w u) cell s q
+    × (At u.tb q ≡ n)))
 
 abbrev pub moved_edge : Motion → Edge → Edge
 moved_edge m e = record { inner = moved_square m e.inner; outer = moved_square m e.outer }

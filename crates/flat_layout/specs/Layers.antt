@@ -5,7 +5,8 @@ use Rattle.geo_base.specs.declared.layer.LayerKey.{LayerKey}
 use Rattle.geo_base.specs.declared.layer.Op.{Op}
 use Rattle.geo_base.specs.declared.layer.Op.TheVariants.{And, Or, Not, Xor}
 use Rattle.geo_base.specs.declared.shapes.Square.{Square}
-use Rattle.flat_layout.specs.Layout.{Place, Design, IsOwn, IsPlaced, Takes, InFlatInput, IsDisturbed}
+use Rattle.flat_layout.specs.Layout.{Place, Design, IsOwn, IsPlaced, Takes, InFlatInput}
+use Rattle.flat_layout.specs.Layout.{IsDisturbed}
 use Rattle.flat_layout.specs.Plane.{AreWithin}
 
 -- a name of the rules as the tree of what it reads; an empty layer reads nothing
@@ -45,11 +46,13 @@ pub record IsStirred (d : Design) (keys : List LayerKey) (n cell : ℕ) (q : Squ
   pub within : AreWithin n square q
   pub disturbed : IsDisturbed d keys cell square
 
--- the cell keeps q: a flat square within whose reach nothing is disturbed for the name's inputs; of an input layer each flat square
+-- the cell keeps q: a flat square within whose reach nothing is disturbed for the name's inputs; of
+-- an input layer each flat square
 abbrev pub IsKept : Design → ℕ → Reading → Square → Type 0
 IsKept d cell (Input key) q = InFlatInput d cell key q
 IsKept d cell Empty q = ⊥
-IsKept d cell (Binary op a b) q = InFlat d cell (Binary op a b) q × (IsStirred d (inputs (Binary op a b)) (reach (Binary op a b)) cell q → ⊥)
+IsKept d cell (Binary op a b) q = InFlat d cell (Binary op a b) q
+    × (IsStirred d (inputs (Binary op a b)) (reach (Binary op a b)) cell q → ⊥)
 
 -- q is the image of a kept square of a placed cell
 pub record IsKeptBelow (d : Design) (cell : ℕ) (name : Reading) (q : Square) : Type 0 where
@@ -64,7 +67,8 @@ pub record IsKeptBelow (d : Design) (cell : ℕ) (name : Reading) (q : Square) :
 abbrev pub IsLocal : Design → ℕ → Reading → Square → Type 0
 IsLocal d cell (Input key) q = IsOwn d cell key q
 IsLocal d cell Empty q = ⊥
-IsLocal d cell (Binary op a b) q = IsKept d cell (Binary op a b) q × (IsKeptBelow d cell (Binary op a b) q → ⊥)
+IsLocal d cell (Binary op a b) q =
+    IsKept d cell (Binary op a b) q × (IsKeptBelow d cell (Binary op a b) q → ⊥)
 
 -- q is the image of what a cell at or below this one holds itself
 pub record IsCovered (d : Design) (cell : ℕ) (name : Reading) (q : Square) : Type 0 where

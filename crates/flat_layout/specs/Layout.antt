@@ -1,4 +1,5 @@
--- A hierarchical layout as plain records: named cells with their own squares and texts and numbered placements, paths of placements, flat input layers, disturbed squares.
+-- A hierarchical layout as plain records: named cells with their own squares and texts and numbered
+-- placements, paths of placements, flat input layers, disturbed squares.
 use Rattle.std.specs.Prelude.{◌≡◌, ◌⊎◌, ℕ, ◌<◌, List, [], ◌∷◌, ◌++◌, Some, slice_get}
 use Rattle.geo_base.specs.Motions.{moved_square}
 use Rattle.geo_base.specs.declared.layer.LayerKey.{LayerKey}
@@ -43,15 +44,18 @@ Some_of P (x ∷ xs) = P x ⊎ Some_of P xs
 
 -- the cell's own shapes on the layer cover the square
 abbrev pub IsOwn : Design → ℕ → LayerKey → Square → Type 0
-IsOwn d cell key s = (c : Cell) × (slice_get d.cells cell ≡ Some c) × Some_of (λ layer. (layer.key ≡ key) × Some_of (IsIn s) layer.rects) c.layers
+IsOwn d cell key s = (c : Cell) × (slice_get d.cells cell ≡ Some c)
+    × Some_of (λ layer. (layer.key ≡ key) × Some_of (IsIn s) layer.rects) c.layers
 
 -- the text stands in the cell
 abbrev pub HasText : Design → ℕ → Text → Type 0
-HasText d cell text = (c : Cell) × (slice_get d.cells cell ≡ Some c) × Some_of (λ t. t ≡ text) c.texts
+HasText d cell text =
+    (c : Cell) × (slice_get d.cells cell ≡ Some c) × Some_of (λ t. t ≡ text) c.texts
 
 -- the k-th placement of the cell is this one
 abbrev pub IsPlaced : Design → ℕ → ℕ → Place → Type 0
-IsPlaced d cell k p = (c : Cell) × (slice_get d.cells cell ≡ Some c) × (slice_get c.places k ≡ Some p)
+IsPlaced d cell k p =
+    (c : Cell) × (slice_get d.cells cell ≡ Some c) × (slice_get c.places k ≡ Some p)
 
 -- no cell stands below itself: each placement goes down
 abbrev pub IsHeight : Design → (ℕ → ℕ) → Type 0
@@ -65,7 +69,8 @@ Leads d from (k ∷ ks) to = (p : Place) × IsPlaced d from k p × Leads d p.cel
 -- and takes a square s of its end to the square q, the innermost motion first
 abbrev pub Takes : Design → ℕ → List ℕ → ℕ → Square → Square → Type 0
 Takes d from [] to s q = (from ≡ to) × (s ≡ q)
-Takes d from (k ∷ ks) to s q = (p : Place) × IsPlaced d from k p × (r : Square) × Takes d p.cell ks to s r × (moved_square p.motion r ≡ q)
+Takes d from (k ∷ ks) to s q = (p : Place) × IsPlaced d from k p × (r : Square)
+    × Takes d p.cell ks to s r × (moved_square p.motion r ≡ q)
 
 abbrev pub IsPrefix : List ℕ → List ℕ → Type 0
 IsPrefix xs ys = (rest : List ℕ) × (xs ++ rest ≡ ys)
@@ -83,7 +88,8 @@ pub record InFlatInput (d : Design) (cell : ℕ) (key : LayerKey) (q : Square) :
   pub takes : Takes d cell path end square q
   pub own : IsOwn d end key square
 
--- q is disturbed in the cell for some layers: over its image by a path from the top to the cell lies a shape of one of these layers whose own path doesn't begin with that path
+-- q is disturbed in the cell for some layers: over its image by a path from the top to the cell
+-- lies a shape of one of these layers whose own path doesn't begin with that path
 pub record IsDisturbed (d : Design) (keys : List LayerKey) (cell : ℕ) (q : Square) : Type 0 where
   pub path : List ℕ
   pub other : List ℕ

@@ -1,11 +1,17 @@
--- The names of a circuit's nets and of the circuits, so that no two nets of a circuit and no two circuits have one name.
-use Rattle.std.specs.Prelude.{ℕ, suc, Bool, true, false, ◌==◌, ◌&&◌, ◌||◌, if◌then◌else◌, List, [], ◌∷◌, ◌++◌, decimal, bytes_eq}
+-- The names of a circuit's nets and of the circuits, so that no two nets of a circuit and no two
+-- circuits have one name.
+use Rattle.std.specs.Prelude.{ℕ, suc, Bool, true, false, ◌==◌, ◌&&◌, ◌||◌, if◌then◌else◌, List, []}
+use Rattle.std.specs.Prelude.{◌∷◌, ◌++◌, decimal, bytes_eq}
 use Rattle.std.specs.List.{list_any}
 
--- each base as it is or, where a test of the earlier bases and itself says so, with an ending of its number, k being the first one's
-abbrev pub apart_names : (List (List ℕ) → List ℕ → Bool) → (ℕ → List ℕ) → List (List ℕ) → ℕ → List (List ℕ) → List (List ℕ)
+-- each base as it is or, where a test of the earlier bases and itself says so, with an ending of
+-- its number, k being the first one's
+abbrev pub apart_names : (List (List ℕ) → List ℕ → Bool) → (ℕ → List ℕ) → List (List ℕ) → ℕ
+    → List (List ℕ) → List (List ℕ)
 apart_names needs ending earlier k [] = []
-apart_names needs ending earlier k (b ∷ bs) = (if needs earlier b then b ++ ending k else b) ∷ apart_names needs ending (b ∷ earlier) (suc k) bs
+apart_names needs ending earlier k (b ∷ bs) =
+    (if needs earlier b then b ++ ending k else b)
+    ∷ apart_names needs ending (b ∷ earlier) (suc k) bs
 
 abbrev pub is_empty : List ℕ → Bool
 is_empty [] = true

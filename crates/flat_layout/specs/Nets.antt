@@ -1,5 +1,6 @@
 -- The nets of a cell, over those of the cells that it places.
-use Rattle.std.specs.Prelude.{◌≡◌, ◌⊎◌, ◌↔◌, ℕ, zero, suc, ◌<◌, List, [], ◌∷◌, ◌++◌, Some, slice_get, get_or, length}
+use Rattle.std.specs.Prelude.{◌≡◌, ◌⊎◌, ◌↔◌, ℕ, zero, suc, ◌<◌, List, [], ◌∷◌, ◌++◌, Some}
+use Rattle.std.specs.Prelude.{slice_get, get_or, length}
 use Rattle.geo_base.specs.declared.shapes.Rect.{Rect}
 use Rattle.geo_base.specs.declared.shapes.Square.{Square}
 use Rattle.plain_netlist.specs.Chains.{Reaches}
@@ -7,7 +8,8 @@ use Rattle.rect_sets.specs.Rects.{IsCanonical}
 use Rattle.flat_layout.specs.Layers.{Reading, IsKept, IsKeptBelow, IsLocal}
 use Rattle.flat_layout.specs.Layout.{Place, Cell, Design, IsPlaced, Leads, IsReached, IsHeight}
 use Rattle.flat_layout.specs.Plane.{IsIn}
-use Rattle.flat_layout.specs.Regions.{Wiring, Node, At, Ground, Touches, IsNode, InOneRegion, moved, reading, kept}
+use Rattle.flat_layout.specs.Regions.{Wiring, Node, At, Ground, Touches, IsNode, InOneRegion, moved}
+use Rattle.flat_layout.specs.Regions.{reading, kept}
 
 -- what a net of a cell is made of: rectangles of the cell itself, nets of placed cells, globals
 pub data Item : Type 0 where
@@ -33,14 +35,18 @@ pub record IsOf (v : CellNets) (net i : ℕ) (item : Item) : Type 0 where
 
 -- an item holds a node that lies so many placements deep
 abbrev pub HoldsAt : Design → Tables → ℕ → ℕ → Item → Node → Type 0
-HoldsAt d t zero cell (Own c r) n = (q : Square) × (rect : Rect) × (slice_get (t.own cell c) r ≡ Some rect) × IsIn q rect × (At c q ≡ n)
+HoldsAt d t zero cell (Own c r) n = (q : Square) × (rect : Rect)
+    × (slice_get (t.own cell c) r ≡ Some rect) × IsIn q rect × (At c q ≡ n)
 HoldsAt d t zero cell (Child k b) n = ⊥
 HoldsAt d t zero cell (Global g) n = Ground g ≡ n
 HoldsAt d t (suc h) cell (Own c r) n = ⊥
-HoldsAt d t (suc h) cell (Child k b) n = (p : Place) × IsPlaced d cell k p × (i : ℕ) × (item : Item) × IsOf (t.nets p.cell) b i item × (m : Node) × HoldsAt d t h p.cell item m × (moved p.motion m ≡ n)
+HoldsAt d t (suc h) cell (Child k b) n = (p : Place) × IsPlaced d cell k p × (i : ℕ) × (item : Item)
+    × IsOf (t.nets p.cell) b i item × (m : Node) × HoldsAt d t h p.cell item m
+    × (moved p.motion m ≡ n)
 HoldsAt d t (suc h) cell (Global g) n = ⊥
 
--- an item holds a node: a square of the rectangle, the image of what the placed cell's net holds, or the global
+-- an item holds a node: a square of the rectangle, the image of what the placed cell's net holds,
+-- or the global
 pub record ItemHolds (d : Design) (t : Tables) (cell : ℕ) (item : Item) (n : Node) : Type 0 where
   pub depth : ℕ
   pub holds : HoldsAt d t depth cell item n
@@ -86,34 +92,44 @@ child_items t k (p ∷ ps) = run (Child k) 0 (t.nets p.cell).count ++ child_item
 abbrev pub no_cell : Cell
 no_cell = record { name = []; layers = []; texts = []; places = [] }
 
--- the items of a cell in order: for each conductor its rectangles, for each placement the placed cell's nets, each global
+-- the items of a cell in order: for each conductor its rectangles, for each placement the placed
+-- cell's nets, each global
 abbrev pub items_of : Design → Wiring → Tables → ℕ → List Item
-items_of d w t cell = own_items t cell 0 w.conductors ++ (child_items t 0 (get_or d.cells cell no_cell).places ++ run Global 0 (length w.globals))
+items_of d w t cell = own_items t cell 0 w.conductors
+    ++ (child_items t 0 (get_or d.cells cell no_cell).places ++ run Global 0 (length w.globals))
 
--- the items of a cell, and the classes of those that chains of links join, numbered from 0 by their least item
+-- the items of a cell, and the classes of those that chains of links join, numbered from 0 by their
+-- least item
 pub record AreNets (d : Design) (w : Wiring) (t : Tables) (cell : ℕ) (v : CellNets) : Type 0 where
   pub items : v.items ≡ items_of d w t cell
   pub numbers : length v.net_of ≡ length v.items
-  pub joined : (i j : ℕ) (a b : Item) (x y : ℕ) → IsOf v x i a → IsOf v y j b → (x ≡ y) ↔ Reaches (IsItemLink d w t cell) a b
+  pub joined : (i j : ℕ) (a b : Item) (x y : ℕ) → IsOf v x i a → IsOf v y j b → (x ≡ y)
+      ↔ Reaches (IsItemLink d w t cell) a b
   pub below : (i x : ℕ) → slice_get v.net_of i ≡ Some x → x < v.count
   pub used : (x : ℕ) → x < v.count → (i : ℕ) × (slice_get v.net_of i ≡ Some x)
-  pub earlier : (i x y : ℕ) → slice_get v.net_of i ≡ Some x → y < x → (j : ℕ) × (j < i) × (slice_get v.net_of j ≡ Some y)
+  pub earlier : (i x y : ℕ) → slice_get v.net_of i ≡ Some x → y < x → (j : ℕ) × (j < i)
+      × (slice_get v.net_of j ≡ Some y)
 
 -- the rectangles of a table cover what the cell itself holds, and none is empty
 pub record AreOwn (d : Design) (w : Wiring) (t : Tables) (cell c : ℕ) : Type 0 where
-  pub local : (r : ℕ) (rect : Rect) (q : Square) → slice_get (t.own cell c) r ≡ Some rect → IsIn q rect → IsLocal d cell (reading w c) q
-  pub found : (q : Square) → IsLocal d cell (reading w c) q → (r : ℕ) × (rect : Rect) × (slice_get (t.own cell c) r ≡ Some rect) × IsIn q rect
-  pub filled : (r : ℕ) (rect : Rect) → slice_get (t.own cell c) r ≡ Some rect → (q : Square) × IsIn q rect
+  pub local : (r : ℕ) (rect : Rect) (q : Square) → slice_get (t.own cell c) r ≡ Some rect
+      → IsIn q rect → IsLocal d cell (reading w c) q
+  pub found : (q : Square) → IsLocal d cell (reading w c) q → (r : ℕ) × (rect : Rect)
+      × (slice_get (t.own cell c) r ≡ Some rect) × IsIn q rect
+  pub filled : (r : ℕ) (rect : Rect) → slice_get (t.own cell c) r ≡ Some rect → (q : Square)
+      × IsIn q rect
 
 -- and they are the one canonical list, so that they are determined
 pub record AreListed (d : Design) (w : Wiring) (t : Tables) (cell c : ℕ) : Type 0 where
   pub own : AreOwn d w t cell c
   pub canonical : IsCanonical (t.own cell c)
 
--- the tables are right in each reached cell, and it is known of each kept square whether it comes from below
+-- the tables are right in each reached cell, and it is known of each kept square whether it comes
+-- from below
 pub record AreTables (d : Design) (w : Wiring) (t : Tables) (height : ℕ → ℕ) : Type 0 where
   pub lower : IsHeight d height
-  pub parted : (cell c : ℕ) (q : Square) → IsReached d cell → IsKept d cell (reading w c) q → IsLocal d cell (reading w c) q ⊎ IsKeptBelow d cell (reading w c) q
+  pub parted : (cell c : ℕ) (q : Square) → IsReached d cell → IsKept d cell (reading w c) q
+      → IsLocal d cell (reading w c) q ⊎ IsKeptBelow d cell (reading w c) q
   pub own : (cell c : ℕ) → IsReached d cell → AreOwn d w t cell c
   pub nets : (cell : ℕ) → IsReached d cell → AreNets d w t cell (t.nets cell)
 
@@ -121,7 +137,8 @@ pub record AreTables (d : Design) (w : Wiring) (t : Tables) (height : ℕ → �
 pub record AreRegions (d : Design) (w : Wiring) (t : Tables) (cell : ℕ) : Type 0 where
   pub sound : (x : ℕ) (n : Node) → NetHolds d t cell x n → IsNode w (kept d w cell) n
   pub complete : (n : Node) → IsNode w (kept d w cell) n → (x : ℕ) × NetHolds d t cell x n
-  pub joined : (x y : ℕ) (a b : Node) → NetHolds d t cell x a → NetHolds d t cell y b → (x ≡ y) ↔ InOneRegion w (kept d w cell) a b
+  pub joined : (x y : ℕ) (a b : Node) → NetHolds d t cell x a → NetHolds d t cell y b → (x ≡ y)
+      ↔ InOneRegion w (kept d w cell) a b
   pub filled : (x : ℕ) → x < (t.nets cell).count → (n : Node) × NetHolds d t cell x n
 
 -- the nodes of a placed cell's net lie, by the placement, in one net of its parent, and in no other
@@ -135,7 +152,8 @@ IsUnder d cell c = (path : List ℕ) × Leads d cell path c
 -- the tables are right in each cell below this one
 pub record AreRightBelow (d : Design) (w : Wiring) (t : Tables) (cell : ℕ) : Type 0 where
   pub own : (e c : ℕ) → IsUnder d cell e → AreListed d w t e c
-  pub nets : (k e : ℕ) (p : Place) → IsPlaced d cell k p → IsUnder d p.cell e → AreNets d w t e (t.nets e)
+  pub nets : (k e : ℕ) (p : Place) → IsPlaced d cell k p → IsUnder d p.cell e
+      → AreNets d w t e (t.nets e)
 
 -- the nets of a cell, without a word of other tables: they are right over all that is right below
 abbrev pub IsNetsOf : Design → Wiring → ℕ → CellNets → Type 0

@@ -1,4 +1,5 @@
--- The edge-connected parts of a set of unit squares, and what lies round one: its ring, the groups beside it, its boundary edges.
+-- The edge-connected parts of a set of unit squares, and what lies round one: its ring, the groups
+-- beside it, its boundary edges.
 use Rattle.std.specs.Prelude.{◌≡◌, ◌⊎◌, ◌↔◌, ℕ, ◌<◌, List, [], ◌∷◌, length}
 use Rattle.geo_base.specs.declared.shapes.Square.{Square}
 use Rattle.plain_netlist.specs.Chains.{Reaches}
@@ -70,17 +71,20 @@ pub record Counts {A : Type 0} (P : A → Type 0) (n : ℕ) : Type 0 where
   pub count : length all ≡ n
 
 -- one of each class
-pub record AreClasses {A : Type 0} (P : A → Type 0) (R : A → A → Type 0) (list : List A) : Type 0 where
-  pub each : (a : A) → IsListed a list → P a
-  pub found : (a : A) → P a → (b : A) × IsListed b list × R a b
-  pub one : (a b : A) → IsListed a list → IsListed b list → R a b → a ≡ b
-  pub apart : AreApart list
+pub record AreClasses {A : Type 0} (P : A → Type 0) (R : A → A → Type 0) (list : List A) : Type 0
+  where
+    pub each : (a : A) → IsListed a list → P a
+    pub found : (a : A) → P a → (b : A) × IsListed b list × R a b
+    pub one : (a b : A) → IsListed a list → IsListed b list → R a b → a ≡ b
+    pub apart : AreApart list
 
 -- the groups, by an edge between the part and each
 abbrev pub AreGroupsOf : (Square → Type 0) → (Square → Type 0) → List Edge → Type 0
-AreGroupsOf part ends list = AreClasses (IsWideOf part ends) (λ e f. InGroupOf part ends e.outer f.outer) list
+AreGroupsOf part ends list =
+    AreClasses (IsWideOf part ends) (λ e f. InGroupOf part ends e.outer f.outer) list
 
--- the sets by which a part is judged as a gate: source and drain, the conductors of the terminals, and whether the bulk needs its own
+-- the sets by which a part is judged as a gate: source and drain, the conductors of the terminals,
+-- and whether the bulk needs its own
 pub record Sheets : Type 1 where
   pub ends : Square → Type 0
   pub on_ends : Square → Type 0
@@ -100,8 +104,10 @@ SomeOff part sheet = (q : Square) × part q × (sheet q → ⊥)
 abbrev pub InEnds : (Square → Type 0) → (Square → Type 0) → Edge → Edge → Square → Type 0
 InEnds part ends e f q = InGroupOf part ends e.outer q ⊎ InGroupOf part ends f.outer q
 
--- a good gate: two groups, by an edge of each, its sizes, and its squares on the terminals' conductors
-pub record IsGoodPart (g : Sheets) (part : Square → Type 0) (e f : Edge) (twice_w twice_l : ℕ) : Type 0 where
+-- a good gate: two groups, by an edge of each, its sizes, and its squares on the terminals'
+-- conductors
+pub record IsGoodPart (g : Sheets) (part : Square → Type 0) (e f : Edge)
+    (twice_w twice_l : ℕ) : Type 0 where
   pub groups : AreGroupsOf part g.ends (e ∷ (f ∷ []))
   pub wide : Counts (IsWideOf part g.ends) twice_w
   pub long : Counts (IsLongOf part g.ends) twice_l
@@ -120,8 +126,15 @@ pub data Cause : Type 0 where
 
 -- the first test that a bad gate fails
 abbrev pub IsBadPart : Sheets → (Square → Type 0) → Cause → Type 0
-IsBadPart g part (Groups count) = (list : List Edge) × AreGroupsOf part g.ends list × (length list ≡ count) × (count ≡ 2 → ⊥)
-IsBadPart g part OffGate = (e f : Edge) × AreGroupsOf part g.ends (e ∷ (f ∷ [])) × SomeOff part g.on_gate
-IsBadPart g part OffSd = (e f : Edge) × AreGroupsOf part g.ends (e ∷ (f ∷ [])) × AllOn part g.on_gate × SomeOff (InEnds part g.ends e f) g.on_ends
-IsBadPart g part NoBulk = (e f : Edge) × AreGroupsOf part g.ends (e ∷ (f ∷ [])) × AllOn part g.on_gate × AllOn (InEnds part g.ends e f) g.on_ends × g.loose × SomeOff part g.on_bulk
-IsBadPart g part NoLength = (e f : Edge) × AreGroupsOf part g.ends (e ∷ (f ∷ [])) × AllOn part g.on_gate × AllOn (InEnds part g.ends e f) g.on_ends × (g.loose → AllOn part g.on_bulk) × Counts (IsLongOf part g.ends) 0
+IsBadPart g part (Groups count) =
+    (list : List Edge) × AreGroupsOf part g.ends list × (length list ≡ count) × (count ≡ 2 → ⊥)
+IsBadPart g part OffGate =
+    (e f : Edge) × AreGroupsOf part g.ends (e ∷ (f ∷ [])) × SomeOff part g.on_gate
+IsBadPart g part OffSd = (e f : Edge) × AreGroupsOf part g.ends (e ∷ (f ∷ []))
+    × AllOn part g.on_gate × SomeOff (InEnds part g.ends e f) g.on_ends
+IsBadPart g part NoBulk = (e f : Edge) × AreGroupsOf part g.ends (e ∷ (f ∷ []))
+    × AllOn part g.on_gate × AllOn (InEnds part g.ends e f) g.on_ends × g.loose
+    × SomeOff part g.on_bulk
+IsBadPart g part NoLength = (e f : Edge) × AreGroupsOf part g.ends (e ∷ (f ∷ []))
+    × AllOn part g.on_gate × AllOn (InEnds part g.ends e f) g.on_ends
+    × (g.loose → AllOn part g.on_bulk) × Counts (IsLongOf part g.ends) 0

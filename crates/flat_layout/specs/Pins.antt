@@ -1,18 +1,22 @@
 -- Texts on the nets of a cell, the nets' base names, and which nets are pins.
-use Rattle.std.specs.Prelude.{◌≡◌, ◌⊎◌, ◌↔◌, ℕ, ◌<◌, Bool, true, List, [], ◌∷◌, ◌++◌, Some, length, slice_get}
+use Rattle.std.specs.Prelude.{◌≡◌, ◌⊎◌, ◌↔◌, ℕ, ◌<◌, Bool, true, List, [], ◌∷◌, ◌++◌, Some, length}
+use Rattle.std.specs.Prelude.{slice_get}
 use Rattle.std.specs.Ordering.{is_lt, nat_cmp}
 use Rattle.std.specs.Cmp.Lexicographic.{slice_cmp}
 use Rattle.geo_base.specs.declared.shapes.Square.{Square}
 use Rattle.flat_layout.specs.GateTables.{GateEntry, GoodGate, good_gates, terminal_net}
-use Rattle.flat_layout.specs.Layout.{Place, Text, Design, Some_of, HasText, IsPlaced, Leads, IsReached}
+use Rattle.flat_layout.specs.Layout.{Place, Text, Design, Some_of, HasText, IsPlaced, Leads}
+use Rattle.flat_layout.specs.Layout.{IsReached}
 use Rattle.flat_layout.specs.Nets.{Item, Child, CellNets, Tables, IsOf, NetHolds}
 use Rattle.flat_layout.specs.Plane.{IsCorner}
 use Rattle.flat_layout.specs.Regions.{Wiring, Node, At, Ground}
 use Rattle.plain_netlist.specs.Lists.{IsListed, AreRising}
 use Rattle.plain_netlist.specs.Netlist.{Pole}
 
--- a text of the cell, on a layer of texts that a line connects to the conductor, stands at a corner of the square
-pub record IsTextOn (d : Design) (w : Wiring) (cell conductor : ℕ) (q : Square) (text : Text) : Type 0 where
+-- a text of the cell, on a layer of texts that a line connects to the conductor, stands at a corner
+-- of the square
+pub record IsTextOn (d : Design) (w : Wiring) (cell conductor : ℕ) (q : Square)
+    (text : Text) : Type 0 where
   pub has : HasText d cell text
   pub line : Some_of (λ l. (l.key ≡ text.key) × (l.conductor ≡ conductor)) w.labels
   pub corner : IsCorner text.at q
@@ -47,7 +51,8 @@ with_commas [] = []
 with_commas (s ∷ []) = s
 with_commas (s ∷ r ∷ rest) = s ++ 44 ∷ with_commas (r ∷ rest)
 
--- the base name of a net: the set of its tags, in byte order, joined by commas; empty where it has none
+-- the base name of a net: the set of its tags, in byte order, joined by commas; empty where it has
+-- none
 pub record IsBase (d : Design) (w : Wiring) (t : Tables) (cell x : ℕ) (base : List ℕ) : Type 0 where
   pub tags : List (List ℕ)
   pub each : (s : List ℕ) → IsListed s tags ↔ IsTag d w t cell x s
@@ -67,14 +72,19 @@ IsNetOf v item x = (i : ℕ) × IsOf v x i item
 
 -- a good gate of the cell has a terminal on the net
 abbrev pub HasGate : (ℕ → List GateEntry) → ℕ → ℕ → Type 0
-HasGate gates cell x = (i : ℕ) × (gate : GoodGate) × (slice_get (good_gates (gates cell)) i ≡ Some gate) × (pole : Pole) × (terminal_net pole gate.row ≡ x)
+HasGate gates cell x = (i : ℕ) × (gate : GoodGate)
+    × (slice_get (good_gates (gates cell)) i ≡ Some gate) × (pole : Pole)
+    × (terminal_net pole gate.row ≡ x)
 
--- what makes a placed cell's net a pin: its net in the parent has another item, a gate's terminal, or is a pin
+-- what makes a placed cell's net a pin: its net in the parent has another item, a gate's terminal,
+-- or is a pin
 abbrev pub IsUsed : Tables → (ℕ → List GateEntry) → (ℕ → CellPins) → ℕ → Item → ℕ → Type 0
-IsUsed t gates pins cell item x = ((other : Item) × (other ≡ item → ⊥) × IsNetOf (t.nets cell) other x) ⊎ (HasGate gates cell x ⊎ IsPinNet pins cell x)
+IsUsed t gates pins cell item x = ((other : Item) × (other ≡ item → ⊥)
+    × IsNetOf (t.nets cell) other x) ⊎ (HasGate gates cell x ⊎ IsPinNet pins cell x)
 
 -- some reached cell's placement has the net in use
-pub record IsUsedAbove (d : Design) (t : Tables) (gates : ℕ → List GateEntry) (pins : ℕ → CellPins) (cell b : ℕ) : Type 0 where
+pub record IsUsedAbove (d : Design) (t : Tables) (gates : ℕ → List GateEntry) (pins : ℕ → CellPins)
+    (cell b : ℕ) : Type 0 where
   pub parent : ℕ
   pub number : ℕ
   pub place : Place
@@ -85,10 +95,13 @@ pub record IsUsedAbove (d : Design) (t : Tables) (gates : ℕ → List GateEntry
   pub is_of : IsNetOf (t.nets parent) (Child number b) net
   pub used : IsUsed t gates pins parent (Child number b) net
 
--- over right nets and gates and the pins of the cells above, the pins of a cell, and the base names of its nets
-pub record ArePins (d : Design) (w : Wiring) (t : Tables) (gates : ℕ → List GateEntry) (pins : ℕ → CellPins) (cell : ℕ) (v : CellPins) : Type 0 where
+-- over right nets and gates and the pins of the cells above, the pins of a cell, and the base names
+-- of its nets
+pub record ArePins (d : Design) (w : Wiring) (t : Tables) (gates : ℕ → List GateEntry)
+    (pins : ℕ → CellPins) (cell : ℕ) (v : CellPins) : Type 0 where
   pub count : length v.pins ≡ (t.nets cell).count
-  pub each : (b : ℕ) → b < (t.nets cell).count → (slice_get v.pins b ≡ Some true) ↔ (IsMarkedNet d w t cell b ⊎ IsUsedAbove d t gates pins cell b)
+  pub each : (b : ℕ) → b < (t.nets cell).count → (slice_get v.pins b ≡ Some true)
+      ↔ (IsMarkedNet d w t cell b ⊎ IsUsedAbove d t gates pins cell b)
   pub named : length v.names ≡ (t.nets cell).count
   pub names : (b : ℕ) (base : List ℕ) → slice_get v.names b ≡ Some base → IsBase d w t cell b base
 
@@ -96,6 +109,9 @@ pub record ArePins (d : Design) (w : Wiring) (t : Tables) (gates : ℕ → List 
 abbrev pub IsAbove : Design → ℕ → ℕ → Type 0
 IsAbove d e cell = IsReached d e × ((k : ℕ) × (path : List ℕ) × Leads d e (k ∷ path) cell)
 
--- the pins of a cell, without a word of other cells' pins: they are right over all that are right above
+-- the pins of a cell, without a word of other cells' pins: they are right over all that are right
+-- above
 abbrev pub ArePinsOf : Design → Wiring → Tables → (ℕ → List GateEntry) → ℕ → CellPins → Type 0
-ArePinsOf d w t gates cell v = (pins : ℕ → CellPins) → ((e : ℕ) → IsAbove d e cell → ArePins d w t gates pins e (pins e)) → ArePins d w t gates pins cell v
+ArePinsOf d w t gates cell v = (pins : ℕ → CellPins)
+    → ((e : ℕ) → IsAbove d e cell → ArePins d w t gates pins e (pins e))
+    → ArePins d w t gates pins cell v

@@ -10,7 +10,8 @@ IsIn s r = (r.x1 ≤ℤ s.x) × (s.x <ℤ r.x2) × (r.y1 ≤ℤ s.y) × (s.y <�
 
 -- the squares share an edge
 abbrev pub SharesEdge : Square → Square → Type 0
-SharesEdge p q = ((p.x ≡ q.x) × ((p.y +ℤ pos 1 ≡ q.y) ⊎ (q.y +ℤ pos 1 ≡ p.y))) ⊎ ((p.y ≡ q.y) × ((p.x +ℤ pos 1 ≡ q.x) ⊎ (q.x +ℤ pos 1 ≡ p.x)))
+SharesEdge p q = ((p.x ≡ q.x) × ((p.y +ℤ pos 1 ≡ q.y) ⊎ (q.y +ℤ pos 1 ≡ p.y)))
+    ⊎ ((p.y ≡ q.y) × ((p.x +ℤ pos 1 ≡ q.x) ⊎ (q.x +ℤ pos 1 ≡ p.x)))
 
 -- they are one square or share an edge: a common corner doesn't join
 abbrev pub IsNear : Square → Square → Type 0

@@ -1,5 +1,6 @@
 -- Connected regions of a family of sets of squares, one set for each conductor.
-use Rattle.std.specs.Prelude.{◌≡◌, ◌⊎◌, ℕ, ◌<◌, ◌==◌, if◌then◌else◌, List, [], ◌∷◌, Option, Some, None, get_or, length}
+use Rattle.std.specs.Prelude.{◌≡◌, ◌⊎◌, ℕ, ◌<◌, ◌==◌, if◌then◌else◌, List, [], ◌∷◌, Option, Some}
+use Rattle.std.specs.Prelude.{None, get_or, length}
 use Rattle.geo_base.specs.Motions.{moved_square}
 use Rattle.geo_base.specs.declared.layer.LayerKey.{LayerKey}
 use Rattle.geo_base.specs.declared.motion.Motion.{Motion}
@@ -19,8 +20,9 @@ pub record Label : Type 0 where
   pub key : LayerKey
   pub conductor : ℕ
 
--- what each name of the rules reads as a conductor, nothing where it is none, so that a conductor's number is its name's;
--- the lines between two conductors, those to a global, those to texts; and the globals' names, by their first lines
+-- what each name of the rules reads as a conductor, nothing where it is none, so that a conductor's
+-- number is its name's; the lines between two conductors, those to a global, those to texts; and
+-- the globals' names, by their first lines
 pub record Wiring : Type 0 where
   pub conductors : List Reading
   pub joins : List Line
@@ -34,7 +36,8 @@ pub data Node : Type 0 where
 
 -- one conductor, or two of a line
 abbrev pub IsJoined : Wiring → ℕ → ℕ → Type 0
-IsJoined w c e = (c ≡ e) ⊎ Some_of (λ l. ((l.first ≡ c) × (l.second ≡ e)) ⊎ ((l.first ≡ e) × (l.second ≡ c))) w.joins
+IsJoined w c e = (c ≡ e) ⊎ Some_of (λ l. ((l.first ≡ c) × (l.second ≡ e))
+    ⊎ ((l.first ≡ e) × (l.second ≡ c))) w.joins
 
 abbrev pub IsGrounded : Wiring → ℕ → ℕ → Type 0
 IsGrounded w c g = Some_of (λ l. (l.first ≡ c) × (l.second ≡ g)) w.grounds
@@ -44,7 +47,8 @@ abbrev pub ground_of : ℕ → List Line → Option ℕ
 ground_of c [] = None
 ground_of c (l ∷ ls) = if l.first == c then Some l.second else ground_of c ls
 
--- near squares of joined conductors, a square and a global of its conductor, and each node and itself
+-- near squares of joined conductors, a square and a global of its conductor, and each node and
+-- itself
 abbrev pub Touches : Wiring → Node → Node → Type 0
 Touches w (At c p) (At e q) = IsJoined w c e × IsNear p q
 Touches w (At c p) (Ground g) = IsGrounded w c g

@@ -1,10 +1,12 @@
--- Where a cell may have gates of its own: at its own shapes, and at what placed cells leave open; for geometries that reach no further than their squares.
+-- Where a cell may have gates of its own: at its own shapes, and at what placed cells leave open;
+-- for geometries that reach no further than their squares.
 use Rattle.std.specs.Prelude.{◌≡◌, ◌⊎◌, ℕ, List, Bool, true}
 use Rattle.geo_base.specs.Motions.{moved_square}
 use Rattle.geo_base.specs.declared.layer.LayerKey.{LayerKey}
 use Rattle.geo_base.specs.declared.shapes.Square.{Square}
 use Rattle.flat_layout.specs.Gates.{Geometry, IsGateOrRing, IsSettled, IsSoundGeometry}
-use Rattle.flat_layout.specs.Layout.{Place, Design, Some_of, IsOwn, IsPlaced, InFlatInput, IsDisturbed}
+use Rattle.flat_layout.specs.Layout.{Place, Design, Some_of, IsOwn, IsPlaced, InFlatInput}
+use Rattle.flat_layout.specs.Layout.{IsDisturbed}
 use Rattle.flat_layout.specs.Layers.{IsKept}
 use Rattle.flat_layout.specs.Parts.{IsStep, InPart, IsCloseTo}
 use Rattle.flat_layout.specs.Plane.{IsAround}
@@ -42,19 +44,25 @@ abbrev pub IsSeed : Design → List LayerKey → ℕ → Square → Type 0
 IsSeed d keys cell q = IsOwnSeed d keys cell q ⊎ IsPlacedSeed d keys cell q
 
 -- the gate is the image, through this placement, of a settled one
-pub record IsGateThrough (d : Design) (g : Geometry) (cell : ℕ) (s : Square) (p : Place) : Type 0 where
-  pub square : Square
-  pub settled : IsSettled d g p.cell square
-  pub image : moved_square p.motion square ≡ s
+pub record IsGateThrough (d : Design) (g : Geometry) (cell : ℕ) (s : Square) (p : Place) : Type 0
+  where
+    pub square : Square
+    pub settled : IsSettled d g p.cell square
+    pub image : moved_square p.motion square ≡ s
 
--- all that is close to the gate, pulled back through the placement, lies in reach of the placed cell and isn't disturbed there
-pub record IsFreeThrough (d : Design) (g : Geometry) (cell : ℕ) (s : Square) (p : Place) : Type 0 where
-  pub reach : (q : Square) → IsGateOrRing d g cell s (moved_square p.motion q) → IsInReach d g.keys p.cell q
-  pub calm : (q : Square) → IsGateOrRing d g cell s (moved_square p.motion q) → IsDisturbed d g.keys p.cell q → ⊥
+-- all that is close to the gate, pulled back through the placement, lies in reach of the placed
+-- cell and isn't disturbed there
+pub record IsFreeThrough (d : Design) (g : Geometry) (cell : ℕ) (s : Square) (p : Place) : Type 0
+  where
+    pub reach : (q : Square) → IsGateOrRing d g cell s (moved_square p.motion q)
+        → IsInReach d g.keys p.cell q
+    pub calm : (q : Square) → IsGateOrRing d g cell s (moved_square p.motion q)
+        → IsDisturbed d g.keys p.cell q → ⊥
 
 -- nothing is disturbed close to the part of the kept gate squares that has s
 pub record IsCalmPart (d : Design) (g : Geometry) (cell : ℕ) (s : Square) : Type 0 where
-  pub calm : (q : Square) → IsCloseTo (InPart (IsKept d cell g.region) s) q → IsDisturbed d g.keys cell q → ⊥
+  pub calm : (q : Square) → IsCloseTo (InPart (IsKept d cell g.region) s) q
+      → IsDisturbed d g.keys cell q → ⊥
 
 -- found squares are kept gate squares, with all that steps lead to
 pub record IsClosed (d : Design) (g : Geometry) (cell : ℕ) (found : Square → Bool) : Type 0 where

@@ -1,9 +1,13 @@
--- Wrong variants of the samples' tables: none of them is right. And nets that are right by themselves.
+-- Wrong variants of the samples' tables: none of them is right. And nets that are right by
+-- themselves.
 use Rattle.std.specs.Prelude.{◌≡◌, ℕ, List, [], ◌∷◌, ◌++◌}
 use Rattle.flat_layout.specs.Expanded.{AreTablesRight, CircuitTables}
 use Rattle.flat_layout.specs.Nets.{AreListed, IsNetsOf, Tables}
-use Rattle.flat_sample.specs.Sample.{child_rect, nets_of, sample_design, sample_level, sample_tables, sample_wiring}
-use Rattle.flat_sample.specs.Transistors.{child_circuit, entry, gate_circuits, gate_design, gate_netlist, gate_on, gate_rules, gate_tables, gate_wiring, parent_circuit}
+use Rattle.flat_sample.specs.Sample.{child_rect, nets_of, sample_design, sample_level}
+use Rattle.flat_sample.specs.Sample.{sample_tables, sample_wiring}
+use Rattle.flat_sample.specs.Transistors.{child_circuit, entry, gate_circuits, gate_design}
+use Rattle.flat_sample.specs.Transistors.{gate_netlist, gate_on, gate_rules, gate_tables}
+use Rattle.flat_sample.specs.Transistors.{gate_wiring, parent_circuit}
 use Rattle.plain_netlist.specs.Netlist.{Circuit, Netlist}
 
 -- the child's nets, over all right tables

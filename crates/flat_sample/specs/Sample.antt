@@ -1,4 +1,5 @@
--- A child cell and a parent that places it, each with one rectangle of one conductor; the rectangles overlap.
+-- A child cell and a parent that places it, each with one rectangle of one conductor; the
+-- rectangles overlap.
 use Rattle.std.specs.Prelude.{ℕ, zero, suc, Bool, true, false, List, [], ◌∷◌, pos}
 use Rattle.geo_base.specs.declared.layer.LayerKey.{LayerKey}
 use Rattle.geo_base.specs.declared.motion.Turn.TheVariants.{R0}
@@ -22,19 +23,32 @@ abbrev pub parent_rect : Rect
 parent_rect = record { x1 = pos 1; y1 = pos 0; x2 = pos 3; y2 = pos 1 }
 
 abbrev pub child : Cell
-child = record { name = 97 ∷ []; layers = (record { key = metal; rects = child_rect ∷ [] }) ∷ []; texts = []; places = [] }
+child = record {
+  name = 97 ∷ [];
+  layers =
+      (record { key = metal; rects = child_rect ∷ [] }) ∷ [];
+  texts = [];
+  places = [];
+}
 
 abbrev pub place : Place
 place = record { cell = 0; motion = record { turn = R0; dx = pos 0; dy = pos 0 } }
 
 abbrev pub parent : Cell
-parent = record { name = 98 ∷ []; layers = (record { key = metal; rects = parent_rect ∷ [] }) ∷ []; texts = []; places = place ∷ [] }
+parent = record {
+  name = 98 ∷ [];
+  layers =
+      (record { key = metal; rects = parent_rect ∷ [] }) ∷ [];
+  texts = [];
+  places = place ∷ [];
+}
 
 abbrev pub sample_design : Design
 sample_design = record { cells = child ∷ (parent ∷ []); top = 1 }
 
 abbrev pub sample_wiring : Wiring
-sample_wiring = record { conductors = Input metal ∷ []; joins = []; grounds = []; labels = []; globals = [] }
+sample_wiring =
+    record { conductors = Input metal ∷ []; joins = []; grounds = []; labels = []; globals = [] }
 
 abbrev pub own_of : ℕ → ℕ → List Rect
 own_of zero zero = child_rect ∷ []
@@ -71,7 +85,14 @@ drawn_of (suc (suc n)) = []
 
 -- the top alone has a circuit
 abbrev pub small_circuits : CircuitTables
-small_circuits = record { gates = λ cell. []; pins = pins_of; drawn = drawn_of; cells = 1 ∷ []; parts = λ cell. record { nets = []; calls = [] } }
+small_circuits = record {
+  gates = λ cell. [];
+  pins = pins_of;
+  drawn = drawn_of;
+  cells =
+      1 ∷ [];
+  parts = λ cell. record { nets = []; calls = [] };
+}
 
 -- "B"
 abbrev pub top_circuit : Circuit

@@ -1,5 +1,6 @@
--- A child cell and a parent that places it mirrored, all squares in one row: a transistor in the child, and one across both, where the parent's poly crosses the child's active.
--- A text of the parent names the side that both transistors share.
+-- A child cell and a parent that places it mirrored, all squares in one row: a transistor in the
+-- child, and one across both, where the parent's poly crosses the child's active. A text of the
+-- parent names the side that both transistors share.
 use Rattle.std.specs.Prelude.{ℕ, zero, suc, Bool, true, false, List, [], ◌∷◌, map, pos}
 use Rattle.geo_base.specs.declared.layer.LayerKey.{LayerKey}
 use Rattle.geo_base.specs.declared.layer.Op.TheVariants.{And, Not}
@@ -41,7 +42,8 @@ abbrev pub rects_of : ℕ → ℕ → List Rect
 rects_of cell c = map unit_rect (columns cell c)
 
 abbrev pub layers_of : ℕ → List Layer
-layers_of cell = (record { key = key_of 0; rects = rects_of cell 0 }) ∷ ((record { key = key_of 1; rects = rects_of cell 1 }) ∷ [])
+layers_of cell = (record { key = key_of 0; rects = rects_of cell 0 })
+    ∷ ((record { key = key_of 1; rects = rects_of cell 1 }) ∷ [])
 
 -- "c"
 abbrev pub child : Cell
@@ -57,7 +59,13 @@ drain_text = record { key = key_of 2; at = record { x = pos 2; y = pos 0 }; stri
 
 -- "p"
 abbrev pub parent : Cell
-parent = record { name = 112 ∷ []; layers = layers_of 1; texts = drain_text ∷ []; places = mirror_place ∷ [] }
+parent = record {
+  name = 112 ∷ [];
+  layers = layers_of 1;
+  texts = drain_text ∷ [];
+  places =
+      mirror_place ∷ [];
+}
 
 abbrev pub gate_design : Design
 gate_design = record { cells = child ∷ (parent ∷ []); top = 1 }
@@ -73,11 +81,21 @@ crossings = Binary And (Input (key_of 0)) (Input (key_of 1))
 abbrev pub vss : List ℕ
 vss = 118 ∷ (115 ∷ (115 ∷ []))
 
--- conductor 0 is the sides, 1 poly, 2 the substrate, an empty layer that belongs to the one global; texts on layer 2 name sides
+-- conductor 0 is the sides, 1 poly, 2 the substrate, an empty layer that belongs to the one global;
+-- texts on layer 2 name sides
 abbrev pub gate_wiring : Wiring
-gate_wiring = record { conductors = sides ∷ (Input (key_of 1) ∷ (Empty ∷ [])); joins = []; grounds = (record { first = 2; second = 0 }) ∷ []; labels = (record { key = key_of 2; conductor = 0 }) ∷ []; globals = vss ∷ [] }
+gate_wiring = record {
+  conductors = sides ∷ (Input (key_of 1) ∷ (Empty ∷ []));
+  joins = [];
+  grounds =
+      (record { first = 2; second = 0 }) ∷ [];
+  labels =
+      (record { key = key_of 2; conductor = 0 }) ∷ [];
+  globals = vss ∷ [];
+}
 
--- the columns that a cell itself holds of a conductor: not the child's side in column 3, which lies under the parent's poly, nor the parent's sides that come from the child
+-- the columns that a cell itself holds of a conductor: not the child's side in column 3, which lies
+-- under the parent's poly, nor the parent's sides that come from the child
 abbrev pub held : ℕ → ℕ → List ℕ
 held zero zero = 0 ∷ (2 ∷ [])
 held zero (suc zero) = 1 ∷ []
@@ -92,9 +110,15 @@ own_of cell c = map unit_rect (held cell c)
 
 -- each square is a net, and the global is the last one
 abbrev pub nets_of : ℕ → CellNets
-nets_of zero = record { items = Own 0 0 ∷ (Own 0 1 ∷ (Own 1 0 ∷ (Global 0 ∷ []))); net_of = 0 ∷ (1 ∷ (2 ∷ (3 ∷ []))); count = 4 }
+nets_of zero = record {
+  items = Own 0 0 ∷ (Own 0 1 ∷ (Own 1 0 ∷ (Global 0 ∷ [])));
+  net_of =
+      0 ∷ (1 ∷ (2 ∷ (3 ∷ [])));
+  count = 4;
+}
 nets_of (suc zero) = record {
-  items = Own 0 0 ∷ (Own 1 0 ∷ (Child 0 0 ∷ (Child 0 1 ∷ (Child 0 2 ∷ (Child 0 3 ∷ (Global 0 ∷ []))))));
+  items = Own 0 0 ∷ (Own 1 0 ∷ (Child 0 0
+      ∷ (Child 0 1 ∷ (Child 0 2 ∷ (Child 0 3 ∷ (Global 0 ∷ []))))));
   net_of = 0 ∷ (1 ∷ (2 ∷ (3 ∷ (4 ∷ (5 ∷ (5 ∷ []))))));
   count = 6;
 }
@@ -115,7 +139,8 @@ gate_rules = rule ∷ []
 
 -- a gate of one square between two sides, two edges wide and two long, over the cell's nets
 abbrev pub gate_on : ℕ → ℕ → ℕ → ℕ → GateRow
-gate_on source gate drain bulk = record { twice_w = 2; twice_l = 2; source = source; gate = gate; drain = drain; bulk = bulk }
+gate_on source gate drain bulk =
+    record { twice_w = 2; twice_l = 2; source = source; gate = gate; drain = drain; bulk = bulk }
 
 abbrev pub entry : GateRow → GateEntry
 entry row = record { at = record { rule = 0; square = at 1 }; verdict = Good row }
@@ -132,10 +157,17 @@ gates_of zero = entry child_gate ∷ []
 gates_of (suc zero) = entry across_gate ∷ []
 gates_of (suc (suc n)) = []
 
--- pins of the child: the side that the parent's transistor uses, and the global; of the parent: the side with the text, and the global
+-- pins of the child: the side that the parent's transistor uses, and the global; of the parent: the
+-- side with the text, and the global
 abbrev pub pins_of : ℕ → CellPins
-pins_of zero = record { pins = false ∷ (true ∷ (false ∷ (true ∷ []))); names = [] ∷ ([] ∷ ([] ∷ (vss ∷ []))) }
-pins_of (suc zero) = record { pins = false ∷ (false ∷ (false ∷ (true ∷ (false ∷ (true ∷ []))))); names = [] ∷ ([] ∷ ([] ∷ ((100 ∷ []) ∷ ([] ∷ (vss ∷ []))))) }
+pins_of zero =
+    record { pins = false ∷ (true ∷ (false ∷ (true ∷ []))); names = [] ∷ ([] ∷ ([] ∷ (vss ∷ []))) }
+pins_of (suc zero) = record {
+  pins = false
+      ∷ (false ∷ (false ∷ (true ∷ (false ∷ (true ∷ [])))));
+  names =
+      [] ∷ ([] ∷ ([] ∷ ((100 ∷ []) ∷ ([] ∷ (vss ∷ [])))));
+}
 pins_of (suc (suc n)) = record { pins = []; names = [] }
 
 -- nets with a transistor's terminal at or below the cell
@@ -151,11 +183,27 @@ parts_of (suc zero) = record { nets = 3 ∷ (5 ∷ (1 ∷ (0 ∷ []))); calls = 
 parts_of (suc (suc n)) = record { nets = []; calls = [] }
 
 abbrev pub gate_circuits : CircuitTables
-gate_circuits = record { gates = gates_of; pins = pins_of; drawn = drawn_of; cells = 0 ∷ (1 ∷ []); parts = parts_of }
+gate_circuits = record {
+  gates = gates_of;
+  pins = pins_of;
+  drawn = drawn_of;
+  cells =
+      0 ∷ (1 ∷ []);
+  parts = parts_of;
+}
 
 -- a transistor of one square: one unit of 1,000 picometres wide and long, in femtometres
 abbrev pub row_on : ℕ → ℕ → ℕ → ℕ → DeviceRow
-row_on source gate drain bulk = record { class = nmos; length = 1000000; width = 1000000; source = source; gate = gate; drain = drain; bulk = bulk }
+row_on source gate drain bulk = record {
+  class = nmos;
+  length = 1000000;
+  width = 1000000;
+  source = source;
+  gate = gate;
+  drain =
+      drain;
+  bulk = bulk;
+}
 
 -- "$1" to "$3", "D" and "VSS"
 abbrev pub dollar : ℕ → List ℕ
@@ -169,11 +217,27 @@ big_vss = 86 ∷ (83 ∷ (83 ∷ []))
 
 -- "C"; rows are over the circuit's nets
 abbrev pub child_circuit : Circuit
-child_circuit = record { name = 67 ∷ []; nets = dollar 50 ∷ (big_vss ∷ (dollar 51 ∷ (dollar 49 ∷ []))); pins = 0 ∷ (1 ∷ []); devices = row_on 3 2 0 1 ∷ []; calls = [] }
+child_circuit = record {
+  name = 67 ∷ [];
+  nets =
+      dollar 50 ∷ (big_vss ∷ (dollar 51 ∷ (dollar 49 ∷ [])));
+  pins = 0 ∷ (1 ∷ []);
+  devices =
+      row_on 3 2 0 1 ∷ [];
+  calls = [];
+}
 
 -- "P"; the call's pins are the drain of the transistor across both and the global
 abbrev pub parent_circuit : Circuit
-parent_circuit = record { name = 80 ∷ []; nets = big_d ∷ (big_vss ∷ (dollar 50 ∷ (dollar 49 ∷ []))); pins = 0 ∷ (1 ∷ []); devices = row_on 3 2 0 1 ∷ []; calls = (record { circuit = 0; nets = 0 ∷ (1 ∷ []) }) ∷ [] }
+parent_circuit = record {
+  name = 80 ∷ [];
+  nets =
+      big_d ∷ (big_vss ∷ (dollar 50 ∷ (dollar 49 ∷ [])));
+  pins = 0 ∷ (1 ∷ []);
+  devices =
+      row_on 3 2 0 1 ∷ [];
+  calls = (record { circuit = 0; nets = 0 ∷ (1 ∷ []) }) ∷ [];
+}
 
 abbrev pub gate_netlist : Netlist
 gate_netlist = record { circuits = child_circuit ∷ (parent_circuit ∷ []) }

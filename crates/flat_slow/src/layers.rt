@@ -43,7 +43,8 @@ fn is_disturbed_for(
     layer: &Formula,
     q: Square,
 ) -> Option<bool>
-    ensures { IfSome result (λ b. IsTrue b ↔ IsDisturbed (plain d.now) (inputs (reading layer.now)) cell q) }
+    ensures { IfSome result (λ b. IsTrue b
+        ↔ IsDisturbed (plain d.now) (inputs (reading layer.now)) cell q) }
 {
     match layer {
         Formula::Input(key) => is_disturbed(d, depth, cell, *key, q),
@@ -59,7 +60,9 @@ fn is_disturbed_for(
 
 // Whether the square is flat on the layer and isn't disturbed for its inputs.
 fn is_calm(d: &SlowDesign, depth: u32, cell: usize, layer: &Formula, q: Square) -> Option<bool>
-    ensures { IfSome result (λ b. IsTrue b ↔ (InFlat (plain d.now) cell (reading layer.now) q × (IsDisturbed (plain d.now) (inputs (reading layer.now)) cell q → ⊥))) }
+    ensures { IfSome result (λ b. IsTrue b
+        ↔ (InFlat (plain d.now) cell (reading layer.now) q
+        × (IsDisturbed (plain d.now) (inputs (reading layer.now)) cell q → ⊥))) }
 {
     let flat = in_flat(d, depth, cell, layer, q)?;
     let disturbed = is_disturbed_for(d, depth, cell, layer, q)?;
@@ -95,7 +98,9 @@ fn is_below(d: &SlowDesign, depth: u32, cell: usize, layer: &Formula, q: Square)
 
 // Whether the cell keeps the square and no placed cell does.
 fn is_held(d: &SlowDesign, depth: u32, cell: usize, layer: &Formula, q: Square) -> Option<bool>
-    ensures { IfSome result (λ b. IsTrue b ↔ (IsKept (plain d.now) cell (reading layer.now) q × (IsKeptBelow (plain d.now) cell (reading layer.now) q → ⊥))) }
+    ensures { IfSome result (λ b. IsTrue b
+        ↔ (IsKept (plain d.now) cell (reading layer.now) q
+        × (IsKeptBelow (plain d.now) cell (reading layer.now) q → ⊥))) }
 {
     let kept = is_kept(d, depth, cell, layer, q)?;
     let below = is_below(d, depth, cell, layer, q)?;

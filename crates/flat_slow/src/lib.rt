@@ -1,6 +1,8 @@
-//! The flat, kept and local squares of a small design, square by square, straight from the definitions: slow, for tests to compare with.
+//! The flat, kept and local squares of a small design, square by square, straight from the
+//! definitions: slow, for tests to compare with.
 //!
-//! An answer is `None` where a coordinate leaves 64 bits or cells stand deeper than `depth`; every other answer is the definition's.
+//! An answer is `None` where a coordinate leaves 64 bits or cells stand deeper than `depth`; every
+//! other answer is the definition's.
 #![tactic(auto)]
 
 mod layers;

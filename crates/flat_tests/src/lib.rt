@@ -1,4 +1,5 @@
-//! Tests of flat, kept and local squares on small hierarchies, and of classes of links, with ample memory.
+//! Tests of flat, kept and local squares on small hierarchies, and of classes of links, with ample
+//! memory.
 #![tactic(auto)]
 
 #[cfg(test)]

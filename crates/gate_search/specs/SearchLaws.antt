@@ -11,30 +11,41 @@ use Rattle.gate_shapes.specs.PartLists.{AreParts}
 use Rattle.gate_shapes.specs.Sets.{in_set}
 use Rattle.gate_search.specs.Gather.{IsGatheredAround}
 
--- the seeds hold all squares where gates may begin, and the parts are those of what was gathered around them
-pub record IsSearch (d : Design) (g : Geometry) (cell : ℕ) (seeds found : List Rect) (parts : List (List Rect)) : Type 0 where
+-- the seeds hold all squares where gates may begin, and the parts are those of what was gathered
+-- around them
+pub record IsSearch (d : Design) (g : Geometry) (cell : ℕ) (seeds found : List Rect)
+    (parts : List (List Rect)) : Type 0 where
   pub still : IsStillGeometry g
   pub reached : IsReached d cell
   pub all : (q : Square) → IsSeed d g.keys cell q → in_set seeds q
   pub gathered : IsGatheredAround (IsKept d cell g.region) seeds found
   pub parted : AreParts found parts
 
--- a part is settled exactly where no square close to it is disturbed, and is then the gate of each of its squares
-pub record IsTold (d : Design) (g : Geometry) (cell : ℕ) (part : List Rect) (s : Square) : Type 0 where
-  pub settled : IsSettled d g cell s ↔ ((q : Square) → IsCloseTo (in_set part) q → IsDisturbed d g.keys cell q → ⊥)
-  pub squares : IsSettled d g cell s → (q : Square) → in_set part q ↔ InGate d g cell s q
+-- a part is settled exactly where no square close to it is disturbed, and is then the gate of each
+-- of its squares
+pub record IsTold (d : Design) (g : Geometry) (cell : ℕ) (part : List Rect) (s : Square) : Type 0
+  where
+    pub settled : IsSettled d g cell s ↔ ((q : Square) → IsCloseTo (in_set part) q
+        → IsDisturbed d g.keys cell q → ⊥)
+    pub squares : IsSettled d g cell s → (q : Square) → in_set part q ↔ InGate d g cell s q
 
 abbrev pub PartLaw : Type 0
-PartLaw = (d : Design) (g : Geometry) (cell : ℕ) (seeds found : List Rect) (parts : List (List Rect)) → IsSearch d g cell seeds found parts
-    → (i : ℕ) (part : List Rect) (s : Square) → slice_get parts i ≡ Some part → in_set part s → IsTold d g cell part s
+PartLaw = (d : Design) (g : Geometry) (cell : ℕ) (seeds found : List Rect)
+    (parts : List (List Rect)) → IsSearch d g cell seeds found parts
+    → (i : ℕ) (part : List Rect) (s : Square) → slice_get parts i ≡ Some part → in_set part s
+    → IsTold d g cell part s
 
 -- each gate of the cell's own is one of the parts
 abbrev pub FoundLaw : Type 0
-FoundLaw = (d : Design) (g : Geometry) (cell : ℕ) (seeds found : List Rect) (parts : List (List Rect)) → IsSearch d g cell seeds found parts
-    → (s : Square) → IsListedGate d g cell s → (i : ℕ) × (part : List Rect) × (slice_get parts i ≡ Some part) × in_set part s
+FoundLaw = (d : Design) (g : Geometry) (cell : ℕ) (seeds found : List Rect)
+    (parts : List (List Rect)) → IsSearch d g cell seeds found parts
+    → (s : Square) → IsListedGate d g cell s → (i : ℕ) × (part : List Rect)
+    × (slice_get parts i ≡ Some part) × in_set part s
 
 -- what is known of the settled parts is known of all settled gates
 abbrev pub KnownLaw : Type 0
-KnownLaw = (d : Design) (g : Geometry) (cell : ℕ) (seeds found : List Rect) (parts : List (List Rect)) → IsSearch d g cell seeds found parts
-    → ((i : ℕ) (part : List Rect) (s : Square) → slice_get parts i ≡ Some part → in_set part s → IsSettled d g cell s → IsListedGate d g cell s ⊎ IsGateBelow d g cell s)
+KnownLaw = (d : Design) (g : Geometry) (cell : ℕ) (seeds found : List Rect)
+    (parts : List (List Rect)) → IsSearch d g cell seeds found parts
+    → ((i : ℕ) (part : List Rect) (s : Square) → slice_get parts i ≡ Some part → in_set part s
+    → IsSettled d g cell s → IsListedGate d g cell s ⊎ IsGateBelow d g cell s)
     → (s : Square) → IsSettled d g cell s → IsListedGate d g cell s ⊎ IsGateBelow d g cell s

@@ -1,4 +1,5 @@
-//! Whole gates from where they may be: window by window, so that nothing far from them is looked at.
+//! Whole gates from where they may be: window by window, so that nothing far from them is looked
+//! at.
 #![tactic(auto)]
 
 mod laws;

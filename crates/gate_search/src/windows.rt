@@ -45,8 +45,9 @@ fn around<L: GateLayer>(alloc: Global, layer: &L, windows: &[Rect]) -> Result<Re
     Ok(set)
 }
 
-/// Squares of the layer with all that steps lead to, among them those in the windows of the seeds. A round for each step from rectangle to
-/// rectangle; what no round's windows reach isn't asked for.
+/// Squares of the layer with all that steps lead to, among them those in the windows of the seeds.
+/// A round for each step from rectangle to rectangle; what no round's windows reach isn't asked
+/// for.
 pub fn gather<L: GateLayer>(alloc: Global, layer: &L, seeds: &[Rect]) -> Result<RectSet, AllocError>
     requires { All IsRect seeds.now }
     ensures { IfOk result (λ r. IsGathered (L.keeps layer.now) seeds.now r) }
@@ -65,7 +66,8 @@ pub fn gather<L: GateLayer>(alloc: Global, layer: &L, seeds: &[Rect]) -> Result<
     Err(AllocError)
 }
 
-/// The squares of the layer that are seeds or share a side or a corner with one, with all that steps lead to: whole parts of the layer.
+/// The squares of the layer that are seeds or share a side or a corner with one, with all that
+/// steps lead to: whole parts of the layer.
 pub fn gather_around<L: GateLayer>(
     alloc: Global,
     layer: &L,

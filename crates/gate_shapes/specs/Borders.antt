@@ -30,16 +30,19 @@ IsOnSide side e = e.inner ≡ behind side e.outer
 
 -- a rectangle and the squares around it
 abbrev pub grown_rect : Rect → Rect
-grown_rect r = record { x1 = r.x1 -ℤ pos 1; y1 = r.y1 -ℤ pos 1; x2 = r.x2 +ℤ pos 1; y2 = r.y2 +ℤ pos 1 }
+grown_rect r =
+    record { x1 = r.x1 -ℤ pos 1; y1 = r.y1 -ℤ pos 1; x2 = r.x2 +ℤ pos 1; y2 = r.y2 +ℤ pos 1 }
 
 -- what is found on one side
 pub record IsFlank (part ends : List Rect) (side : Side) (f : Flank) : Type 0 where
   pub wide : Counts (λ e. IsWideOf (in_set part) (in_set ends) e × IsOnSide side e) f.wide
   pub long : Counts (λ e. IsLongOf (in_set part) (in_set ends) e × IsOnSide side e) f.long
-  pub touched : (q : Square) → in_set f.touched q ↔ ((e : Edge) × IsWideOf (in_set part) (in_set ends) e × IsOnSide side e × (e.outer ≡ q))
+  pub touched : (q : Square) → in_set f.touched q
+      ↔ ((e : Edge) × IsWideOf (in_set part) (in_set ends) e × IsOnSide side e × (e.outer ≡ q))
 
 -- and on all four
 pub record IsBorder (part ends : List Rect) (f : Flank) : Type 0 where
   pub wide : Counts (IsWideOf (in_set part) (in_set ends)) f.wide
   pub long : Counts (IsLongOf (in_set part) (in_set ends)) f.long
-  pub touched : (q : Square) → in_set f.touched q ↔ ((e : Edge) × IsWideOf (in_set part) (in_set ends) e × (e.outer ≡ q))
+  pub touched : (q : Square) → in_set f.touched q
+      ↔ ((e : Edge) × IsWideOf (in_set part) (in_set ends) e × (e.outer ≡ q))

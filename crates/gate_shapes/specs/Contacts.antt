@@ -1,5 +1,7 @@
 -- Rectangles that share an edge, the one standing on the other.
-use Rattle.std.specs.Prelude.{◌≡◌, ◌⊎◌, ℕ, suc, ◌+◌, ◌<◌, ◌≤ℤ◌, ◌<ℤ◌, int_le, int_lt, Bool, ◌&&◌, ◌||◌, List, [], ◌∷◌, length, if◌then◌else◌, Some, slice_get, slice_index_or}
+use Rattle.std.specs.Prelude.{◌≡◌, ◌⊎◌, ℕ, suc, ◌+◌, ◌<◌, ◌≤ℤ◌, ◌<ℤ◌, int_le, int_lt, Bool, ◌&&◌}
+use Rattle.std.specs.Prelude.{◌||◌, List, [], ◌∷◌, length, if◌then◌else◌, Some, slice_get}
+use Rattle.std.specs.Prelude.{slice_index_or}
 use Rattle.std.specs.Ordering.{int_eq}
 use Rattle.geo_base.specs.declared.shapes.Rect.{Rect}
 use Rattle.link_classes.specs.Classes.{IsLinked, AreInRange}
@@ -14,7 +16,8 @@ crosses a b = int_lt a.x1 b.x2 && int_lt b.x1 a.x2
 abbrev pub is_over : Rect → Rect → Bool
 is_over a b = int_eq a.y2 b.y1 && crosses a b
 
--- the first one's upper side lies below the second one's lower side, or in one row with it and ends no later
+-- the first one's upper side lies below the second one's lower side, or in one row with it and ends
+-- no later
 abbrev pub ends_first : Rect → Rect → Bool
 ends_first a b = int_lt a.y2 b.y1 || (int_eq a.y2 b.y1 && int_le a.x2 b.x2)
 
@@ -37,7 +40,8 @@ abbrev pub IsNotLater : Top → Top → Type 0
 IsNotLater s t = (s.rect.y2 <ℤ t.rect.y2) ⊎ ((s.rect.y2 ≡ t.rect.y2) × (s.rect.x1 ≤ℤ t.rect.x1))
 
 abbrev pub AreSortedTops : List Top → Type 0
-AreSortedTops tops = (k : ℕ) (d : Top) → k + 1 < length tops → IsNotLater (slice_index_or tops k d) (slice_index_or tops (k + 1) d)
+AreSortedTops tops = (k : ℕ) (d : Top) → k + 1 < length tops
+    → IsNotLater (slice_index_or tops k d) (slice_index_or tops (k + 1) d)
 
 -- at these places of the list, the second stands on the first
 pub record IsContact (rects : List Rect) (x y : ℕ) : Type 0 where
@@ -54,14 +58,19 @@ pub record AreContacts (rects : List Rect) (links : List Link) : Type 0 where
   pub inside : AreInRange (length rects) links
 
 -- of the first i tops and the first j rectangles, all contacts are found
-pub record ContactsSoFar (rects : List Rect) (tops : List Top) (i j : ℕ) (links : List Link) : Type 0 where
+pub record ContactsSoFar (rects : List Rect) (tops : List Top) (i j : ℕ)
+    (links : List Link) : Type 0 where
   pub sound : (x y : ℕ) → IsLinked links x y → IsContact rects x y ⊎ IsContact rects y x
   pub inside : AreInRange (length rects) links
-  pub seen : (a b : ℕ) (t : Top) (s : Rect) → slice_get tops a ≡ Some t → slice_get rects b ≡ Some s → (a < i) ⊎ (b < j) → IsOver t.rect s → IsLinked links t.index b
+  pub seen : (a b : ℕ) (t : Top) (s : Rect) → slice_get tops a ≡ Some t → slice_get rects b ≡ Some s
+      → (a < i) ⊎ (b < j) → IsOver t.rect s → IsLinked links t.index b
 
--- the tops of the list, in order: an earlier one is the same, or lies in a lower row, or ends no later than the other begins
+-- the tops of the list, in order: an earlier one is the same, or lies in a lower row, or ends no
+-- later than the other begins
 pub record AreTops (rects : List Rect) (tops : List Top) : Type 0 where
   pub each : (a : ℕ) (t : Top) → slice_get tops a ≡ Some t → slice_get rects t.index ≡ Some t.rect
-  pub all : (x : ℕ) (r : Rect) → slice_get rects x ≡ Some r → (a : ℕ) × (slice_get tops a ≡ Some (record { rect = r; index = x }))
+  pub all : (x : ℕ) (r : Rect) → slice_get rects x ≡ Some r → (a : ℕ)
+      × (slice_get tops a ≡ Some (record { rect = r; index = x }))
   pub order : (a b : ℕ) (s t : Top) → a < b → slice_get tops a ≡ Some s → slice_get tops b ≡ Some t
-      → (s.index ≡ t.index) ⊎ ((s.rect.y2 <ℤ t.rect.y2) ⊎ ((s.rect.y2 ≡ t.rect.y2) × (s.rect.x2 ≤ℤ t.rect.x1)))
+      → (s.index ≡ t.index) ⊎ ((s.rect.y2 <ℤ t.rect.y2)
+      ⊎ ((s.rect.y2 ≡ t.rect.y2) × (s.rect.x2 ≤ℤ t.rect.x1)))

@@ -12,10 +12,12 @@ use Rattle.gate_shapes.specs.declared.shape.GateShape.{GateShape}
 
 -- at the gate and its ring the list covers the flat squares of the name
 abbrev pub IsExactNear : Design → Wiring → Rule → ℕ → Square → List Rect → Reading → Type 0
-IsExactNear d w u cell s rects name = (q : Square) → IsGateOrRing d (geometry w u) cell s q → in_set rects q ↔ InFlat d cell name q
+IsExactNear d w u cell s rects name =
+    (q : Square) → IsGateOrRing d (geometry w u) cell s q → in_set rects q ↔ InFlat d cell name q
 
 -- the lists are those of a gate
-pub record AreAround (d : Design) (w : Wiring) (u : Rule) (cell : ℕ) (s : Square) (part ends on_ends on_gate on_bulk : List Rect) (loose : Bool) : Type 0 where
+pub record AreAround (d : Design) (w : Wiring) (u : Rule) (cell : ℕ) (s : Square)
+    (part ends on_ends on_gate on_bulk : List Rect) (loose : Bool) : Type 0 where
   pub part_is : (q : Square) → in_set part q ↔ InGate d (geometry w u) cell s q
   pub ends_are : IsExactNear d w u cell s ends u.sd
   pub on_ends_are : IsExactNear d w u cell s on_ends (reading w u.ts)
@@ -25,5 +27,8 @@ pub record AreAround (d : Design) (w : Wiring) (u : Rule) (cell : ℕ) (s : Squa
 
 -- what is found of the lists holds of the gate
 abbrev pub LookLaw : Type 0
-LookLaw = (d : Design) (w : Wiring) (u : Rule) (cell : ℕ) (s : Square) (part ends on_ends on_gate on_bulk : List Rect) (loose : Bool) (shape : GateShape) → AreAround d w u cell s part ends on_ends on_gate on_bulk loose
-    → IsShape (sheets_of ends on_ends on_gate on_bulk loose) (in_set part) shape → IsShape (sheets d w u cell) (InGate d (geometry w u) cell s) shape
+LookLaw = (d : Design) (w : Wiring) (u : Rule) (cell : ℕ) (s : Square)
+    (part ends on_ends on_gate on_bulk : List Rect) (loose : Bool) (shape : GateShape)
+    → AreAround d w u cell s part ends on_ends on_gate on_bulk loose
+    → IsShape (sheets_of ends on_ends on_gate on_bulk loose) (in_set part) shape
+    → IsShape (sheets d w u cell) (InGate d (geometry w u) cell s) shape

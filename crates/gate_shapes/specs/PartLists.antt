@@ -13,12 +13,17 @@ pub record IsPart (rects part : List Rect) (s : Square) : Type 0 where
 
 -- each part of the set, once, in order of their least squares
 pub record AreParts (rects : List Rect) (parts : List (List Rect)) : Type 0 where
-  pub each : (i : ℕ) (part : List Rect) → slice_get parts i ≡ Some part → (s : Square) × IsPart rects part s
-  pub found : (q : Square) → in_set rects q → (i : ℕ) × (part : List Rect) × (slice_get parts i ≡ Some part) × in_set part q
-  pub order : (i j : ℕ) (a b : List Rect) (s t : Square) → i < j → slice_get parts i ≡ Some a → slice_get parts j ≡ Some b → IsLeast (in_set a) s → IsLeast (in_set b) t → IsSquareBefore s t
+  pub each : (i : ℕ) (part : List Rect) → slice_get parts i ≡ Some part → (s : Square)
+      × IsPart rects part s
+  pub found : (q : Square) → in_set rects q → (i : ℕ) × (part : List Rect)
+      × (slice_get parts i ≡ Some part) × in_set part q
+  pub order : (i j : ℕ) (a b : List Rect) (s t : Square) → i < j → slice_get parts i ≡ Some a
+      → slice_get parts j ≡ Some b → IsLeast (in_set a) s → IsLeast (in_set b) t
+      → IsSquareBefore s t
 
 -- the rectangles of one class
 abbrev pub members : ℕ → List ℕ → List Rect → List Rect
 members x [] rects = []
 members x (c ∷ classes) [] = []
-members x (c ∷ classes) (r ∷ rects) = if c == x then r ∷ members x classes rects else members x classes rects
+members x (c ∷ classes) (r ∷ rects) =
+    if c == x then r ∷ members x classes rects else members x classes rects

@@ -1,13 +1,18 @@
 -- A part judged as a gate.
-use Rattle.std.specs.Prelude.{◌≡◌, ◌⊎◌, ℕ, ◌<◌, Bool, true, false, List, Option, Some, None, slice_get}
+use Rattle.std.specs.Prelude.{◌≡◌, ◌⊎◌, ℕ, ◌<◌, Bool, true, false, List, Option, Some, None}
+use Rattle.std.specs.Prelude.{slice_get}
 use Rattle.geo_base.specs.declared.shapes.Rect.{Rect}
 use Rattle.geo_base.specs.declared.shapes.Square.{Square}
-use Rattle.flat_layout.specs.Parts.{Edge, InGroupOf, Sheets, AllOn, SomeOff, IsGoodPart, Cause, Groups as GroupsCause, OffGate as OffGateCause, OffSd as OffSdCause, NoBulk as NoBulkCause, NoLength as NoLengthCause, IsBadPart}
+use Rattle.flat_layout.specs.Parts.{Edge, InGroupOf, Sheets, AllOn, SomeOff, IsGoodPart, Cause}
+use Rattle.flat_layout.specs.Parts.{Groups as GroupsCause, OffGate as OffGateCause}
+use Rattle.flat_layout.specs.Parts.{OffSd as OffSdCause, NoBulk as NoBulkCause}
+use Rattle.flat_layout.specs.Parts.{NoLength as NoLengthCause, IsBadPart}
 use Rattle.flat_layout.specs.Parts.{IsLeast}
 use Rattle.flat_layout.specs.Plane.{IsSquareBefore}
 use Rattle.gate_shapes.specs.Sets.{in_set}
 use Rattle.gate_shapes.specs.declared.shape.GateCause.{GateCause}
-use Rattle.gate_shapes.specs.declared.shape.GateCause.TheVariants.{Groups, OffGate, OffSd, NoBulk, NoLength}
+use Rattle.gate_shapes.specs.declared.shape.GateCause.TheVariants.{Groups, OffGate, OffSd, NoBulk}
+use Rattle.gate_shapes.specs.declared.shape.GateCause.TheVariants.{NoLength}
 use Rattle.gate_shapes.specs.declared.shape.GateForm.{GateForm}
 use Rattle.gate_shapes.specs.declared.shape.GateShape.{GateShape}
 use Rattle.gate_shapes.specs.declared.shape.GateShape.TheVariants.{Good, Bad}
@@ -31,22 +36,39 @@ MissEachOther set other = (q : Square) → in_set set q → in_set other q → �
 
 -- the places of the groups that meet a set, in order
 pub record AreKept (groups : List (List Rect)) (touched : List Rect) (kept : List ℕ) : Type 0 where
-  pub each : (a i : ℕ) → slice_get kept a ≡ Some i → (group : List Rect) × (slice_get groups i ≡ Some group) × Meet group touched
-  pub found : (i : ℕ) (group : List Rect) → slice_get groups i ≡ Some group → Meet group touched → (a : ℕ) × (slice_get kept a ≡ Some i)
+  pub each : (a i : ℕ) → slice_get kept a ≡ Some i → (group : List Rect)
+      × (slice_get groups i ≡ Some group) × Meet group touched
+  pub found : (i : ℕ) (group : List Rect) → slice_get groups i ≡ Some group → Meet group touched
+      → (a : ℕ) × (slice_get kept a ≡ Some i)
   pub rising : (a b i j : ℕ) → a < b → slice_get kept a ≡ Some i → slice_get kept b ≡ Some j → i < j
 
 -- the sets by which a part is judged
 abbrev pub sheets_of : List Rect → List Rect → List Rect → List Rect → Bool → Sheets
-sheets_of ends on_ends on_gate on_bulk loose = record { ends = in_set ends; on_ends = in_set on_ends; on_gate = in_set on_gate; on_bulk = in_set on_bulk; loose = loose ≡ true }
+sheets_of ends on_ends on_gate on_bulk loose =
+    record {
+      ends = in_set ends;
+      on_ends = in_set on_ends;
+      on_gate = in_set on_gate;
+      on_bulk =
+          in_set on_bulk;
+      loose = loose ≡ true;
+    }
 
 -- the first fault of a part with these two groups, if it has one
 abbrev pub IsFirstFault : Sheets → List Rect → List Rect → List Rect → ℕ → Option GateCause → Type 0
-IsFirstFault g part source drain long None = AllOn (in_set part) g.on_gate × (AllOn (in_set source) g.on_ends × AllOn (in_set drain) g.on_ends) × (g.loose → AllOn (in_set part) g.on_bulk) × (0 < long)
+IsFirstFault g part source drain long None = AllOn (in_set part) g.on_gate
+    × (AllOn (in_set source) g.on_ends × AllOn (in_set drain) g.on_ends)
+    × (g.loose → AllOn (in_set part) g.on_bulk) × (0 < long)
 IsFirstFault g part source drain long (Some (Groups n)) = ⊥
 IsFirstFault g part source drain long (Some OffGate) = SomeOff (in_set part) g.on_gate
-IsFirstFault g part source drain long (Some OffSd) = AllOn (in_set part) g.on_gate × (SomeOff (in_set source) g.on_ends ⊎ SomeOff (in_set drain) g.on_ends)
-IsFirstFault g part source drain long (Some NoBulk) = AllOn (in_set part) g.on_gate × (AllOn (in_set source) g.on_ends × AllOn (in_set drain) g.on_ends) × g.loose × SomeOff (in_set part) g.on_bulk
-IsFirstFault g part source drain long (Some NoLength) = AllOn (in_set part) g.on_gate × (AllOn (in_set source) g.on_ends × AllOn (in_set drain) g.on_ends) × (g.loose → AllOn (in_set part) g.on_bulk) × (long ≡ 0)
+IsFirstFault g part source drain long (Some OffSd) = AllOn (in_set part) g.on_gate
+    × (SomeOff (in_set source) g.on_ends ⊎ SomeOff (in_set drain) g.on_ends)
+IsFirstFault g part source drain long (Some NoBulk) = AllOn (in_set part) g.on_gate
+    × (AllOn (in_set source) g.on_ends × AllOn (in_set drain) g.on_ends) × g.loose
+    × SomeOff (in_set part) g.on_bulk
+IsFirstFault g part source drain long (Some NoLength) = AllOn (in_set part) g.on_gate
+    × (AllOn (in_set source) g.on_ends × AllOn (in_set drain) g.on_ends)
+    × (g.loose → AllOn (in_set part) g.on_bulk) × (long ≡ 0)
 
 abbrev pub cause_of : GateCause → Cause
 cause_of (Groups n) = GroupsCause n
@@ -70,7 +92,10 @@ IsShape g part (Good f) = IsGood g part f
 IsShape g part (Bad c) = IsBadPart g part (cause_of c)
 
 -- the same of the first n groups
-pub record KeptSoFar (groups : List (List Rect)) (touched : List Rect) (n : ℕ) (kept : List ℕ) : Type 0 where
-  pub each : (a i : ℕ) → slice_get kept a ≡ Some i → (i < n) × (group : List Rect) × (slice_get groups i ≡ Some group) × Meet group touched
-  pub found : (i : ℕ) (group : List Rect) → i < n → slice_get groups i ≡ Some group → Meet group touched → (a : ℕ) × (slice_get kept a ≡ Some i)
+pub record KeptSoFar (groups : List (List Rect)) (touched : List Rect) (n : ℕ)
+    (kept : List ℕ) : Type 0 where
+  pub each : (a i : ℕ) → slice_get kept a ≡ Some i → (i < n) × (group : List Rect)
+      × (slice_get groups i ≡ Some group) × Meet group touched
+  pub found : (i : ℕ) (group : List Rect) → i < n → slice_get groups i ≡ Some group
+      → Meet group touched → (a : ℕ) × (slice_get kept a ≡ Some i)
   pub rising : (a b i j : ℕ) → a < b → slice_get kept a ≡ Some i → slice_get kept b ≡ Some j → i < j

@@ -37,7 +37,8 @@ fn area(rects: &[Rect]) -> Result<u64, AllocError>
     Ok(sum)
 }
 
-/// How many squares the set has, in O(n) for n rectangles. More than 64 bits can count are taken for want of memory.
+/// How many squares the set has, in O(n) for n rectangles. More than 64 bits can count are taken
+/// for want of memory.
 pub fn count(set: &RectSet) -> Result<u64, AllocError>
     ensures { IfOk result (λ n. Counts (in_set set.now) n) }
 {

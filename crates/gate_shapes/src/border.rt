@@ -52,7 +52,8 @@ impl Side {
 /// The squares on one side of a part, outside it.
 fn beside(alloc: Global, part: &RectSet, side: Side) -> Result<RectSet, AllocError>
     requires { IsNearSet part.now }
-    ensures { IfOk result (λ r. (q : Square) → covers r q ≡ (covers part.now (behind side q) && not (covers part.now q))) }
+    ensures { IfOk result (λ r. (q : Square)
+        → covers r q ≡ (covers part.now (behind side q) && not (covers part.now q))) }
 {
     let step = Motion {
         turn: Turn::R0,
@@ -64,7 +65,8 @@ fn beside(alloc: Global, part: &RectSet, side: Side) -> Result<RectSet, AllocErr
     Ok(out)
 }
 
-/// The edges on one side of a part's squares: how many have a square of `ends` beyond, how many have none, and those squares.
+/// The edges on one side of a part's squares: how many have a square of `ends` beyond, how many
+/// have none, and those squares.
 #[derive(Drop)]
 pub struct Flank {
     pub wide: u64,
@@ -102,7 +104,8 @@ fn joined(
     c: &RectSet,
     d: &RectSet,
 ) -> Result<RectSet, AllocError>
-    ensures { IfOk result (λ r. (q : Square) → covers r q ≡ (((covers a.now q || covers b.now q) || covers c.now q) || covers d.now q)) }
+    ensures { IfOk result (λ r. (q : Square)
+        → covers r q ≡ (((covers a.now q || covers b.now q) || covers c.now q) || covers d.now q)) }
 {
     let two = combine_rects(alloc, a.rects(), b.rects(), Rule::Or)?;
     let three = combine_rects(alloc, two.rects(), c.rects(), Rule::Or)?;
@@ -110,7 +113,8 @@ fn joined(
     Ok(four)
 }
 
-/// The boundary edges of a part: how many have a square of `ends` beyond, how many have none, and those squares.
+/// The boundary edges of a part: how many have a square of `ends` beyond, how many have none, and
+/// those squares.
 pub fn border_of(alloc: Global, part: &RectSet, ends: &RectSet) -> Result<Flank, AllocError>
     requires { IsNearSet part.now }
     ensures { IfOk result (λ f. IsBorder part.now ends.now f) }
@@ -162,7 +166,8 @@ pub fn grown(alloc: Global, rects: &[Rect]) -> Result<Vec<Rect>, AllocError>
 /// The squares of `ends` in the ring of a part.
 pub fn sides_of(alloc: Global, part: &RectSet, ends: &RectSet) -> Result<RectSet, AllocError>
     requires { IsNearSet part.now }
-    ensures { IfOk result (λ r. (q : Square) → in_set r q ↔ InSideOf (in_set part.now) (in_set ends.now) q) }
+    ensures { IfOk result (λ r. (q : Square) → in_set r q
+        ↔ InSideOf (in_set part.now) (in_set ends.now) q) }
 {
     let around = grown(alloc, part.rects())?;
     let near = combine_rects(alloc, &around, ends.rects(), Rule::And)?;

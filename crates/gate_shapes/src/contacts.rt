@@ -1,8 +1,11 @@
-// Which rectangles of a canonical list share an edge. Runs of one row are apart, so one always stands on the other.
-ghost use Rattle.std.specs.Prelude.{◌≡◌, ℕ, ◌+◌, ◌^◌, ◌<◌, ◌++◌, length, IfOk, OnOk, slice_index_or};
+// Which rectangles of a canonical list share an edge. Runs of one row are apart, so one always
+// stands on the other.
+ghost use Rattle.std.specs.Prelude.{◌≡◌, ℕ, ◌+◌, ◌^◌, ◌<◌, ◌++◌, length, IfOk, OnOk};
+ghost use Rattle.std.specs.Prelude.{slice_index_or};
 ghost use Rattle.std.specs.List.Sorted.{IsPermutation};
 ghost use Rattle.rect_sets.specs.Rects.{IsCanonical};
-ghost use Rattle.gate_shapes.specs.Contacts.{crosses, is_over, ends_first, tops_from, found, AreContacts, AreSortedTops};
+ghost use Rattle.gate_shapes.specs.Contacts.{crosses, is_over, ends_first, tops_from, found};
+ghost use Rattle.gate_shapes.specs.Contacts.{AreContacts, AreSortedTops};
 
 use geo_base::Rect;
 use link_classes::Link;
@@ -67,8 +70,8 @@ fn push_contact(links: &mut Vec<Link>, top: &Top, rect: &Rect, index: u32) -> Re
     Ok(())
 }
 
-/// A link for each two rectangles of a canonical list that share an edge, by their places: two walks, along the upper and the lower sides
-/// of each row. In O(n log n), with fewer than 2n links.
+/// A link for each two rectangles of a canonical list that share an edge, by their places: two
+/// walks, along the upper and the lower sides of each row. In O(n log n), with fewer than 2n links.
 pub fn contacts(alloc: Global, rects: &[Rect]) -> Result<Vec<Link>, AllocError>
     requires canonical { IsCanonical rects.now }
     requires few { length rects.now < 2 ^ 32 }

@@ -1,4 +1,5 @@
-//! Edge-connected parts of a set of unit squares, and each of them judged as the gate of a transistor.
+//! Edge-connected parts of a set of unit squares, and each of them judged as the gate of a
+//! transistor.
 #![tactic(auto)]
 
 mod area;

@@ -1,5 +1,6 @@
 // The edge-connected parts of a set.
-ghost use Rattle.std.specs.Prelude.{◌≡◌, ◌↔◌, ℕ, ◌^◌, ◌<◌, length, slice_get, slice_index, Some, IfOk, MatchOption};
+ghost use Rattle.std.specs.Prelude.{◌≡◌, ◌↔◌, ℕ, ◌^◌, ◌<◌, length, slice_get, slice_index, Some};
+ghost use Rattle.std.specs.Prelude.{IfOk, MatchOption};
 ghost use Rattle.geo_base.specs.declared.shapes.Rect.{Rect};
 ghost use Rattle.geo_base.specs.declared.shapes.Square.{Square};
 ghost use Rattle.gate_shapes.specs.Sets.{in_set};
@@ -56,8 +57,9 @@ fn sets_of(alloc: Global, lists: &[Vec<Rect>]) -> Result<Vec<RectSet>, AllocErro
     Ok(sets)
 }
 
-/// The edge-connected parts of a set: two squares that share an edge are in one part, a common corner doesn't join. In order of their least
-/// squares, in O(n log n) for n rectangles and the cost of a union of each part.
+/// The edge-connected parts of a set: two squares that share an edge are in one part, a common
+/// corner doesn't join. In order of their least squares, in O(n log n) for n rectangles and the
+/// cost of a union of each part.
 pub fn parts(alloc: Global, set: &RectSet) -> Result<Vec<RectSet>, AllocError>
     ensures { IfOk result (λ v. AreParts set.now v.items) }
 {

@@ -4,7 +4,8 @@ ghost use Rattle.geo_base.specs.declared.shapes.Square.{Square};
 ghost use Rattle.rect_sets.specs.Near.{IsNearSet};
 ghost use Rattle.gate_shapes.specs.Sets.{in_set};
 ghost use Rattle.flat_layout.specs.Parts.{IsLeast};
-ghost use Rattle.gate_shapes.specs.Shapes.{TellsOn, TellsMeet, AreKept, IsFirstFault, sheets_of, IsShape};
+ghost use Rattle.gate_shapes.specs.Shapes.{TellsOn, TellsMeet, AreKept, IsFirstFault, sheets_of};
+ghost use Rattle.gate_shapes.specs.Shapes.{IsShape};
 
 use crate::border::{border_of, sides_of};
 use crate::pieces::{least, parts};
@@ -22,7 +23,8 @@ pub enum GateCause {
     NoLength,
 }
 
-/// A good gate: its sizes in unit edges, and the least squares of its two groups. The source is the group with the least square.
+/// A good gate: its sizes in unit edges, and the least squares of its two groups. The source is the
+/// group with the least square.
 #[derive(Clone, Copy, Debug, PartialEq, Eq)]
 pub struct GateForm {
     pub twice_w: u64,
@@ -84,8 +86,8 @@ fn kept(alloc: Global, groups: &[RectSet], touched: &RectSet) -> Result<Vec<usiz
     Ok(kept)
 }
 
-/// The sets by which a part is judged: source and drain, and the conductors of the terminals. Where the bulk has no global the gate is loose,
-/// and its squares must lie on the bulk's conductor.
+/// The sets by which a part is judged: source and drain, and the conductors of the terminals. Where
+/// the bulk has no global the gate is loose, and its squares must lie on the bulk's conductor.
 #[derive(Clone, Copy)]
 pub struct Around<'a> {
     pub ends: &'a RectSet,
@@ -104,7 +106,9 @@ fn first_fault(
     around: &Around,
     long: u64,
 ) -> Result<Option<GateCause>, AllocError>
-    ensures { IfOk result (λ f. IsFirstFault (sheets_of around.now.ends.now around.now.on_ends.now around.now.on_gate.now around.now.on_bulk.now around.now.loose) part.now source.now drain.now long f) }
+    ensures { IfOk result (λ f. IsFirstFault
+        (sheets_of around.now.ends.now around.now.on_ends.now around.now.on_gate.now
+        around.now.on_bulk.now around.now.loose) part.now source.now drain.now long f) }
 {
     if !is_on(alloc, part, around.on_gate)? {
         return Ok(Some(GateCause::OffGate));
@@ -126,13 +130,16 @@ fn first_fault(
     Ok(None)
 }
 
-/// The part as a gate: its sizes and the least squares of its two groups, or its first fault. Only the squares of the part and of its ring
-/// count, so the sets around may be cut to the part's box grown by one. In O(n log n) for n rectangles of the part and of the sets there, and
-/// the number of groups times the cost of one Boolean; no square is looked at alone. More edges than 64 bits can count are taken for want of
-/// memory.
+/// The part as a gate: its sizes and the least squares of its two groups, or its first fault. Only
+/// the squares of the part and of its ring count, so the sets around may be cut to the part's box
+/// grown by one. In O(n log n) for n rectangles of the part and of the sets there, and the number
+/// of groups times the cost of one Boolean; no square is looked at alone. More edges than 64 bits
+/// can count are taken for want of memory.
 pub fn shape_of(alloc: Global, part: &RectSet, around: &Around) -> Result<GateShape, AllocError>
     requires { IsNearSet part.now }
-    ensures { IfOk result (λ s. IsShape (sheets_of around.now.ends.now around.now.on_ends.now around.now.on_gate.now around.now.on_bulk.now around.now.loose) (in_set part.now) s) }
+    ensures { IfOk result (λ s. IsShape
+        (sheets_of around.now.ends.now around.now.on_ends.now around.now.on_gate.now
+        around.now.on_bulk.now around.now.loose) (in_set part.now) s) }
 {
     let border = border_of(alloc, part, around.ends)?;
     let sides = sides_of(alloc, part, around.ends)?;

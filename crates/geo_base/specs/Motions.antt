@@ -4,7 +4,8 @@ use Rattle.std.specs.Prelude.{◌≡◌, ℤ, pos, ◌+ℤ◌, ◌-ℤ◌}
 use Rattle.geo_base.specs.declared.shapes.Point.{Point}
 use Rattle.geo_base.specs.declared.shapes.Square.{Square}
 use Rattle.geo_base.specs.declared.motion.Turn.{Turn}
-use Rattle.geo_base.specs.declared.motion.Turn.TheVariants.{R0, R90, R180, R270, M0, M90, M180, M270}
+use Rattle.geo_base.specs.declared.motion.Turn.TheVariants.{R0, R90, R180, R270, M0, M90, M180}
+use Rattle.geo_base.specs.declared.motion.Turn.TheVariants.{M270}
 use Rattle.geo_base.specs.declared.motion.Motion.{Motion}
 
 -- about the X axis

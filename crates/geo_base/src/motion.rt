@@ -3,10 +3,13 @@
 ghost use Rattle.std.specs.Prelude.{◌≡◌, ◌^◌};
 ghost use Rattle.geo_base.specs.declared.shapes.Point.{Point};
 ghost use Rattle.geo_base.specs.declared.shapes.Square.{Square};
-ghost use Rattle.geo_base.specs.Motions.{mirrored, quarter_turned, turned, turned_x, turned_y, moved_point, moved_square, IsImage};
-ghost use Rattle.geo_base.specs.Near.{IsWithin, IsNearPoint, IsNearSquare, IsNearRect, IsNearMotion};
+ghost use Rattle.geo_base.specs.Motions.{mirrored, quarter_turned, turned, turned_x, turned_y};
+ghost use Rattle.geo_base.specs.Motions.{moved_point, moved_square, IsImage};
+ghost use Rattle.geo_base.specs.Near.{IsWithin, IsNearPoint, IsNearSquare, IsNearRect};
+ghost use Rattle.geo_base.specs.Near.{IsNearMotion};
 ghost use Rattle.geo_base.specs.Rects.{has, IsRect, moved_rect};
-ghost use Rattle.geo_base.specs.Laws.{OneImageLaw, DifferentImagesLaw, OntoLaw, IsTurnAfter, IsMotionAfter, IsUndone};
+ghost use Rattle.geo_base.specs.Laws.{OneImageLaw, DifferentImagesLaw, OntoLaw, IsTurnAfter};
+ghost use Rattle.geo_base.specs.Laws.{IsMotionAfter, IsUndone};
 
 use crate::shapes::{Point, Rect, Square};
 

@@ -3,7 +3,8 @@
 use Rattle.std.specs.Prelude.{◌≡◌, ℕ, List, Some, slice_get}
 use Rattle.flat_layout.specs.Circuits.{IsCircuitCell}
 use Rattle.flat_layout.specs.Expanded.{AreTablesRight, CircuitTables, IsGateOfDevice, ShowsNode}
-use Rattle.flat_layout.specs.Gates.{Edge, Rule, geometry, width_of, length_of, InGate, IsGoodGate, IsTerminalNode}
+use Rattle.flat_layout.specs.Gates.{Edge, Rule, geometry, width_of, length_of, InGate, IsGoodGate}
+use Rattle.flat_layout.specs.Gates.{IsTerminalNode}
 use Rattle.flat_layout.specs.GateTables.{GateSquare}
 use Rattle.flat_layout.specs.Layout.{Design}
 use Rattle.flat_layout.specs.Nets.{Tables}

@@ -1,7 +1,9 @@
-//! The whole of the check in one law: where all pairs are reported as matched, the flat layout's netlist corresponds to the flattened schematic.
+//! The whole of the check in one law: where all pairs are reported as matched, the flat layout's
+//! netlist corresponds to the flattened schematic.
 //!
-//! The flat layout's netlist knows no cells and no circuits: its devices are the good gates of the flat top, its nets the
-//! regions of the flat top. No code runs here; the laws are contracts of functions with empty bodies.
+//! The flat layout's netlist knows no cells and no circuits: its devices are the good gates of the
+//! flat top, its nets the regions of the flat top. No code runs here; the laws are contracts of
+//! functions with empty bodies.
 #![tactic(auto)]
 
 ghost use Rattle.headline_laws.specs.FlatNetlist.{FlatCorrespondsLaw, TopCircuitLaw};

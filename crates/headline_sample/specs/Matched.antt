@@ -1,5 +1,6 @@
 -- The layout with transistors against a schematic whose circuits have other names for nets, pins in
--- another order, and source and drain exchanged: all premises of a reported match, and what it says.
+-- another order, and source and drain exchanged: all premises of a reported match, and what it
+-- says.
 use Rattle.std.specs.Prelude.{◌≡◌, ◌⊎◌, ◌↔◌, ℕ, zero, suc, ltb, List, [], ◌∷◌}
 use Rattle.align_laws.specs.Cut.{Alignment}
 use Rattle.align_laws.specs.Partners.{IsAlignedPair}
@@ -10,8 +11,11 @@ use Rattle.flat_layout.specs.Expanded.{AreTablesRight}
 use Rattle.flat_layout.specs.GateTables.{GateSquare}
 use Rattle.flat_layout.specs.Regions.{Node}
 use Rattle.flat_sample.specs.Sample.{sample_level}
-use Rattle.flat_sample.specs.Transistors.{at, child_circuit, gate_circuits, gate_design, gate_netlist, gate_rules, gate_tables, gate_wiring, parent_circuit, row_on}
-use Rattle.headline_laws.specs.FlatNetlist.{flat_netlist, IsFlatDevice, IsFlatGateOf, IsFlatRegionOf}
+use Rattle.flat_sample.specs.Transistors.{at, child_circuit, gate_circuits, gate_design}
+use Rattle.flat_sample.specs.Transistors.{gate_netlist, gate_rules, gate_tables, gate_wiring}
+use Rattle.flat_sample.specs.Transistors.{parent_circuit, row_on}
+use Rattle.headline_laws.specs.FlatNetlist.{flat_netlist, IsFlatDevice, IsFlatGateOf}
+use Rattle.headline_laws.specs.FlatNetlist.{IsFlatRegionOf}
 use Rattle.match_laws.specs.Answer.{Answer, Match}
 use Rattle.match_laws.specs.Circuits.{Pairing}
 use Rattle.plain_netlist.specs.Flats.{Corresponds, expanded, Reversed, Row, Through}
@@ -85,9 +89,11 @@ MatchedSampleLaw =
     × ((p : IsSamplePair) × AreAnswers gate_netlist schematic 1 answers
     × AreMatches gate_netlist answers pairings
     × Corresponds (flat_netlist gate_design gate_wiring gate_rules 1000) (expanded schematic 1)
-    (Through (Reversed (IsFlatGateOf gate_design gate_wiring gate_circuits gate_netlist 1 gate_rules))
+    (Through (Reversed (IsFlatGateOf gate_design gate_wiring gate_circuits gate_netlist 1
+    gate_rules))
     (AreDevicesMatched _ _ _ _ _ _ p.left_aligned p.right_aligned pairings 1 1))
-    (Through (Reversed (IsFlatRegionOf gate_design gate_wiring gate_tables gate_circuits gate_netlist 1))
+    (Through (Reversed (IsFlatRegionOf gate_design gate_wiring gate_tables gate_circuits
+    gate_netlist 1))
     (AreNetsMatched _ _ _ _ _ _ p.left_aligned p.right_aligned pairings 1 1)))
 
 -- the flat layout has two devices, in columns 1 and 3

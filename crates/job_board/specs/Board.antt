@@ -1,5 +1,6 @@
 -- What contracts see of a board, of its seats, and of what it hands out.
-use Rattle.std.specs.Prelude.{◌≡◌, ◌<◌, ◌≤◌, ℕ, true, false, List, [], ◌∷◌, map, length, Option, None, vec_capacity}
+use Rattle.std.specs.Prelude.{◌≡◌, ◌<◌, ◌≤◌, ℕ, true, false, List, [], ◌∷◌, map, length, Option}
+use Rattle.std.specs.Prelude.{None, vec_capacity}
 use Rattle.std.specs.Global.{Vec}
 use Rattle.atomic_table.specs.Table.{Me}
 use Rattle.atomic_table.specs.Seated.{TableId}

@@ -1,5 +1,6 @@
 -- Where the slots of each job are, and which edges lead to its dependents.
-use Rattle.std.specs.Prelude.{◌≡◌, ◌+◌, ◌<◌, ◌≤◌, ℕ, if◌then◌else◌, List, [], ◌∷◌, map, length, get_or, slice_index}
+use Rattle.std.specs.Prelude.{◌≡◌, ◌+◌, ◌<◌, ◌≤◌, ℕ, if◌then◌else◌, List, [], ◌∷◌, map, length}
+use Rattle.std.specs.Prelude.{get_or, slice_index}
 use Rattle.std.specs.Global.{Vec}
 use Rattle.job_graph.specs.Graph.{inputs_of, AreInputs, has}
 use Rattle.job_board.specs.declared.layout.Edge.{Edge}

@@ -1,5 +1,6 @@
 -- What a note in a slot of the board says.
-use Rattle.std.specs.Prelude.{◌≡◌, ◌≢◌, ◌⊎◌, ◌+◌, ◌++◌, ℕ, List, [], ◌∷◌, ◌<◌, length, slice_get, IsSomeAnd, map, slice_index, Option, Some, None}
+use Rattle.std.specs.Prelude.{◌≡◌, ◌≢◌, ◌⊎◌, ◌+◌, ◌++◌, ℕ, List, [], ◌∷◌, ◌<◌, length, slice_get}
+use Rattle.std.specs.Prelude.{IsSomeAnd, map, slice_index, Option, Some, None}
 use Rattle.once_cell.specs.Once.{cell_name}
 use Rattle.job_graph.specs.declared.notes.CellNote.{CellNote}
 use Rattle.job_board.specs.declared.view.Plan.{Plan}

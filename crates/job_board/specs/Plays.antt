@@ -1,5 +1,6 @@
 -- What each step tells its caller.
-use Rattle.std.specs.Prelude.{◌≡◌, ◌≢◌, ℕ, suc, ◌+◌, ◌*◌, ◌/◌, ◌^◌, ◌<◌, Bool, true, ◌||◌, ◌==◌, List, ◌∷◌, ◌++◌, drop, length, Option, Some, None}
+use Rattle.std.specs.Prelude.{◌≡◌, ◌≢◌, ℕ, suc, ◌+◌, ◌*◌, ◌/◌, ◌^◌, ◌<◌, Bool, true, ◌||◌, ◌==◌}
+use Rattle.std.specs.Prelude.{List, ◌∷◌, ◌++◌, drop, length, Option, Some, None}
 use Rattle.atomic_table.specs.Table.{Me, Step, rest}
 use Rattle.job_board.specs.declared.view.View.{View}
 use Rattle.job_board.specs.declared.view.Work.TheVariants.{Resting, Working}

@@ -3,7 +3,9 @@
 -- 2 j + 1 is 1 once the job j is claimed, and word 2 j + 2 is the number of inputs that j awaits.
 -- A job's stage is 0 before it is claimed, q + 1 while it is worked and q of its dependents were
 -- told, and 2 more than it has dependents once it is finished.
-use Rattle.std.specs.Prelude.{◌≡◌, ℕ, zero, suc, ◌+◌, ◌*◌, ◌<◌, ◌≤◌, Bool, true, false, not, ◌||◌, ◌==◌, ltb, filter, map, List, [], ◌∷◌, ◌++◌, length, slice_index, Option, Some, None, is_some}
+use Rattle.std.specs.Prelude.{◌≡◌, ℕ, zero, suc, ◌+◌, ◌*◌, ◌<◌, ◌≤◌, Bool, true, false, not, ◌||◌}
+use Rattle.std.specs.Prelude.{◌==◌, ltb, filter, map, List, [], ◌∷◌, ◌++◌, length, slice_index}
+use Rattle.std.specs.Prelude.{Option, Some, None, is_some}
 use mathlib.Core.Option.{some}
 use lib.ListN.{get_elem?}
 use Rattle.std.specs.List.{range_with_len}

@@ -1,9 +1,11 @@
 //! The board: its calls for workers.
-ghost use Rattle.std.specs.Prelude.{◌≡◌, ◌≢◌, ◌<◌, ℕ, [], ◌∷◌, ◌++◌, length, slice_index, slice_get, IfOk, IsSomeAnd, Some};
+ghost use Rattle.std.specs.Prelude.{◌≡◌, ◌≢◌, ◌<◌, ℕ, [], ◌∷◌, ◌++◌, length, slice_index};
+ghost use Rattle.std.specs.Prelude.{slice_get, IfOk, IsSomeAnd, Some};
 ghost use Rattle.job_graph.specs.Graph.{Waits, inputs_of};
 ghost use Rattle.job_board.specs.Inputs.{MayRead, value_of};
 ghost use Rattle.job_graph.specs.Notes.{known_values};
-ghost use Rattle.job_board.specs.Board.{IsFree, IsSeatOf, IsTicket, HasTicket, KeepsSeat, KeepsSeen};
+ghost use Rattle.job_board.specs.Board.{IsFree, IsSeatOf, IsTicket, HasTicket, KeepsSeat};
+ghost use Rattle.job_board.specs.Board.{KeepsSeen};
 ghost use Rattle.job_board.specs.Board.{SawReady, SawAll, Stopped, claims_of, jobs_on, key_on};
 ghost use Rattle.job_board.specs.Answers.{IfReady, IfNotReady, IfMine, IfTaken};
 

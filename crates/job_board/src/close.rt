@@ -1,7 +1,9 @@
 //! The end of a board: its notes move out of the table.
-ghost use Rattle.std.specs.Prelude.{◌≡◌, ◌≢◌, ◌<◌, ◌≤◌, ℕ, true, [], length, slice_index, IsSome, IsOk, IfOk, IfErr, Some, None, vec_capacity};
+ghost use Rattle.std.specs.Prelude.{◌≡◌, ◌≢◌, ◌<◌, ◌≤◌, ℕ, true, [], length, slice_index, IsSome};
+ghost use Rattle.std.specs.Prelude.{IsOk, IfOk, IfErr, Some, None, vec_capacity};
 ghost use Rattle.job_graph.specs.Table.{AreDefined};
-ghost use Rattle.job_board.specs.Board.{AreOnce, IsSeatOf, KeepsSeat, SawAll, claims_of, jobs_on, key_on};
+ghost use Rattle.job_board.specs.Board.{AreOnce, IsSeatOf, KeepsSeat, SawAll, claims_of, jobs_on};
+ghost use Rattle.job_board.specs.Board.{key_on};
 ghost use Rattle.job_board.specs.Rule.{graph_of, IsOnce};
 ghost use Rattle.job_board.specs.Notes.{IsRight, EachRight, KeptOwn};
 ghost use Rattle.job_board.specs.Pieces.{AreOwn};

@@ -1,5 +1,6 @@
 //! Where the slots of each job are, and which edges lead to its dependents.
-ghost use Rattle.std.specs.Prelude.{◌≡◌, ◌<◌, ◌≤◌, ◌+◌, ◌^◌, ℕ, ◌++◌, length, map, replicate, [], IfOk, OnOk};
+ghost use Rattle.std.specs.Prelude.{◌≡◌, ◌<◌, ◌≤◌, ◌+◌, ◌^◌, ℕ, ◌++◌, length, map, replicate, []};
+ghost use Rattle.std.specs.Prelude.{IfOk, OnOk};
 ghost use Rattle.job_graph.specs.Graph.{AreAscending, AreInputs, inputs_of};
 ghost use Rattle.job_board.specs.Layout.{IsLayout, edges_at, edges_of, new_edge};
 

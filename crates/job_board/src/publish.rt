@@ -1,9 +1,11 @@
 //! The notes of a job: those of its inputs, which its claim took, and those of its own value.
-ghost use Rattle.std.specs.Prelude.{◌≡◌, ◌+◌, ◌*◌, ◌<◌, ◌≤◌, ◌^◌, ℕ, suc, List, [], ◌∷◌, ◌++◌, map, replicate, length, slice_index, Some, None, vec_capacity};
+ghost use Rattle.std.specs.Prelude.{◌≡◌, ◌+◌, ◌*◌, ◌<◌, ◌≤◌, ◌^◌, ℕ, suc, List, [], ◌∷◌, ◌++◌, map};
+ghost use Rattle.std.specs.Prelude.{replicate, length, slice_index, Some, None, vec_capacity};
 ghost use Rattle.job_graph.specs.Graph.{inputs_of};
 ghost use Rattle.job_board.specs.Rule.{AreDependents, graph_of, dependents_of};
 ghost use Rattle.job_board.specs.Notes.{IsRight, AreNotes};
-ghost use Rattle.job_board.specs.Slots.{edge_slot, own_slot, held_by, numbered, AreRight, first as first_slot};
+ghost use Rattle.job_board.specs.Slots.{edge_slot, own_slot, held_by, numbered, AreRight};
+ghost use Rattle.job_board.specs.Slots.{first as first_slot};
 ghost use Rattle.job_board.specs.Layout.{edges_of};
 ghost use Rattle.job_board.specs.Plays.{telling, resting, IsFor};
 ghost use Rattle.job_board.specs.Pieces.{waiting_slots, HasTaken, IsOut};

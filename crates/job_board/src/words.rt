@@ -1,5 +1,7 @@
 //! The calls on the board's words.
-ghost use Rattle.std.specs.Prelude.{◌≡◌, ◌≢◌, ◌+◌, ◌*◌, ◌/◌, ◌%◌, ◌<◌, ◌^◌, ◌==◌, true, false, length, ℕ, suc, List, [], ◌∷◌, ◌++◌, drop, slice_index, None, Option};
+ghost use Rattle.std.specs.Prelude.{◌≡◌, ◌≢◌, ◌+◌, ◌*◌, ◌/◌, ◌%◌, ◌<◌, ◌^◌, ◌==◌, true, false};
+ghost use Rattle.std.specs.Prelude.{length, ℕ, suc, List, [], ◌∷◌, ◌++◌, drop, slice_index, None};
+ghost use Rattle.std.specs.Prelude.{Option};
 ghost use Rattle.job_graph.specs.Graph.{has};
 ghost use Rattle.job_graph.specs.Graph.{inputs_of};
 ghost use Rattle.job_board.specs.Rule.{graph_of, graph_in, split_off, joined_view};
@@ -7,7 +9,8 @@ ghost use Rattle.job_board.specs.Notes.{IsRight};
 ghost use Rattle.job_board.specs.Slots.{edge_slot, held_by};
 ghost use Rattle.job_board.specs.Pieces.{MayTell, MayEnd};
 ghost use Rattle.job_board.specs.declared.view.Work.TheVariants.{Working};
-ghost use Rattle.job_board.specs.Plays.{readied, claiming, counting, stopping, telling, resting, IsFor, Claimed};
+ghost use Rattle.job_board.specs.Plays.{readied, claiming, counting, stopping, telling, resting};
+ghost use Rattle.job_board.specs.Plays.{IsFor, Claimed};
 
 use crate::plays::{Claim, Count, Cut, End, Glue, Look, Stop, Tell};
 use crate::view::{BoardTable, TableSeat};

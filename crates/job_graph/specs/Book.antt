@@ -1,5 +1,6 @@
 -- What a run by levels writes into its book, a state of the machine of jobs.
-use Rattle.std.specs.Prelude.{◌≡◌, ◌<◌, ℕ, true, false, ◌||◌, if◌then◌else◌, List, [], length, Some, None}
+use Rattle.std.specs.Prelude.{◌≡◌, ◌<◌, ℕ, true, false, ◌||◌, if◌then◌else◌, List, [], length, Some}
+use Rattle.std.specs.Prelude.{None}
 use Rattle.job_graph.specs.Graph.{inputs_of, Waits, AreAscending, has}
 use Rattle.job_graph.specs.Machine.{Machine, put}
 

@@ -1,5 +1,6 @@
 -- Jobs and the jobs that they wait for: their inputs.
-use Rattle.std.specs.Prelude.{◌≡◌, ℕ, suc, ◌<◌, ◌≤◌, ◌^◌, Bool, true, false, ◌||◌, ◌==◌, List, [], ◌∷◌, map, length, get_or}
+use Rattle.std.specs.Prelude.{◌≡◌, ℕ, suc, ◌<◌, ◌≤◌, ◌^◌, Bool, true, false, ◌||◌, ◌==◌, List, []}
+use Rattle.std.specs.Prelude.{◌∷◌, map, length, get_or}
 use Rattle.std.specs.Global.{Vec}
 
 abbrev pub lists : List (Vec ℕ) → List (List ℕ)

@@ -1,5 +1,6 @@
 -- The machine of jobs: which events change it, how, and what holds after every list of events.
-use Rattle.std.specs.Prelude.{◌≡◌, ◌+◌, ℕ, ◌≤◌, Bool, true, false, not, ◌&&◌, ◌==◌, if◌then◌else◌, ltb, List, [], ◌∷◌, length, get_or, Option, Some, None, is_some}
+use Rattle.std.specs.Prelude.{◌≡◌, ◌+◌, ℕ, ◌≤◌, Bool, true, false, not, ◌&&◌, ◌==◌, if◌then◌else◌}
+use Rattle.std.specs.Prelude.{ltb, List, [], ◌∷◌, length, get_or, Option, Some, None, is_some}
 use Rattle.job_graph.specs.Graph.{lists, inputs_of, Waits, AreInputs, has}
 use Rattle.job_graph.specs.declared.machine.Event.{Event}
 use Rattle.job_graph.specs.declared.machine.Event.TheVariants.{Claim, Publish, Arrive}
@@ -16,7 +17,8 @@ less x (y ∷ ys) = if x == y then ys else (y ∷ less x ys)
 abbrev pub put : {A : Type 0} → (ℕ → A) → ℕ → A → ℕ → A
 put f i a j = if j == i then a else f j
 
--- of each job: the inputs whose edge has not arrived, the worker that claimed it, whether it is published
+-- of each job: the inputs whose edge has not arrived, the worker that claimed it, whether it is
+-- published
 pub record Machine : Type 0 where
   pub awaits : ℕ → List ℕ
   pub claimed : ℕ → Option ℕ

@@ -1,4 +1,5 @@
--- What the graph of a phase is: its jobs are cells (or pairs), and it waits as the cells need each other.
+-- What the graph of a phase is: its jobs are cells (or pairs), and it waits as the cells need each
+-- other.
 use Rattle.std.specs.Prelude.{◌≡◌, ◌↔◌, ℕ, ◌<◌, ◌+◌, true, List, map, length, slice_index}
 use Rattle.job_graph.specs.Graph.{inputs_of, Waits, AreInputs, AreAscending, has}
 
@@ -9,12 +10,13 @@ AreApart xs =
 
 -- the jobs are these cells, each once, and the job of a cell waits exactly for those of the cells
 -- that this one needs
-pub record IsGraphOver (needs : ℕ → ℕ → Type 0) (cells : List ℕ) (graph : List (List ℕ)) : Type 0 where
-  pub jobs : length graph ≡ length cells
-  pub once : AreApart cells
-  pub inputs :
-      (job input : ℕ) → job < length cells → input < length cells
-      → Waits graph job input ↔ needs (slice_index cells job) (slice_index cells input)
+pub record IsGraphOver (needs : ℕ → ℕ → Type 0) (cells : List ℕ) (graph : List (List ℕ)) : Type 0
+  where
+    pub jobs : length graph ≡ length cells
+    pub once : AreApart cells
+    pub inputs :
+        (job input : ℕ) → job < length cells → input < length cells
+        → Waits graph job input ↔ needs (slice_index cells job) (slice_index cells input)
 
 -- a job names each of its inputs once
 abbrev pub OnceLaw : Type 0

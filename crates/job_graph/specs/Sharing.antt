@@ -1,5 +1,6 @@
 -- What was found so far, and what the workers of a level are given and give back.
-use Rattle.std.specs.Prelude.{◌≡◌, ◌<◌, ℕ, List, length, Option, None, Result, slice_index_or, All, IsSome, IfSome, IfOk}
+use Rattle.std.specs.Prelude.{◌≡◌, ◌<◌, ℕ, List, length, Option, None, Result, slice_index_or, All}
+use Rattle.std.specs.Prelude.{IsSome, IfSome, IfOk}
 use Rattle.std.specs.Global.{Vec}
 use Rattle.job_graph.specs.Graph.{Waits}
 

@@ -3,7 +3,8 @@
 ghost use Rattle.std.specs.Prelude.{◌≡◌};
 ghost use Rattle.job_graph.specs.Graph.{AreInputs};
 ghost use Rattle.job_graph.specs.Machine.{IsStateOf, machine_of};
-ghost use Rattle.job_graph.specs.Book.{AreFree, MayClaim, MayPublish, arrived, with_claimed, with_published};
+ghost use Rattle.job_graph.specs.Book.{AreFree, MayClaim, MayPublish, arrived, with_claimed};
+ghost use Rattle.job_graph.specs.Book.{with_published};
 
 use crate::graph::Graph;
 use crate::machine::{Event, JobState, Step};

@@ -1,5 +1,6 @@
 //! The values that were found so far.
-ghost use Rattle.std.specs.Prelude.{◌≡◌, ◌<◌, ◌↔◌, ℕ, map, replicate, length, IfOk, IsTrue, Some, None, slice_set};
+ghost use Rattle.std.specs.Prelude.{◌≡◌, ◌<◌, ◌↔◌, ℕ, map, replicate, length, IfOk, IsTrue, Some};
+ghost use Rattle.std.specs.Prelude.{None, slice_set};
 ghost use Rattle.job_graph.specs.Sharing.{IsFound};
 
 use crate::notes::set_cell;

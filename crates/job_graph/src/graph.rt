@@ -56,7 +56,8 @@ impl Graph {
 }
 
 /// What holds of every graph: a job waits for jobs of lower numbers alone and names each once. And
-/// what makes a graph: numbers that ascend below the job's own, over the cells (or pairs) of a phase.
+/// what makes a graph: numbers that ascend below the job's own, over the cells (or pairs) of a
+/// phase.
 pub fn graph_laws()
     ensures lower { LowerLaw }
     ensures once { OnceLaw }

@@ -1,7 +1,8 @@
 //! The machine of jobs: events claim a job, publish it and let the edge to a dependent arrive.
 ghost use Rattle.std.specs.Prelude.{◌≡◌, ◌<◌, ◌^◌, ℕ, length, IfOk};
 ghost use Rattle.job_graph.specs.Graph.{AreAscending, AreInputs, has};
-ghost use Rattle.job_graph.specs.Machine.{MachineLaw, machine_of, IsStateOf, start as started, answer, next, less};
+ghost use Rattle.job_graph.specs.Machine.{MachineLaw, machine_of, IsStateOf, start as started};
+ghost use Rattle.job_graph.specs.Machine.{answer, next, less};
 ghost use Rattle.job_graph.specs.declared.machine.Event.TheVariants.{Claim, Publish, Arrive};
 
 use crate::graph::Graph;
@@ -98,7 +99,8 @@ impl JobState {
     fn claim(&mut self, graph: &Graph, worker: u32, job: u32) -> Step
         requires { IsStateOf graph.now self.old }
         ensures answer { result ≡ answer graph.now (machine_of self.old) (Claim worker job) }
-        ensures next { machine_of self.new ≡ next graph.now (machine_of self.old) (Claim worker job) }
+        ensures next { machine_of self.new
+            ≡ next graph.now (machine_of self.old) (Claim worker job) }
         ensures state { IsStateOf graph.now self.new }
     {
         if job >= graph.jobs() {
@@ -118,7 +120,8 @@ impl JobState {
     fn publish(&mut self, graph: &Graph, worker: u32, job: u32) -> Step
         requires { IsStateOf graph.now self.old }
         ensures answer { result ≡ answer graph.now (machine_of self.old) (Publish worker job) }
-        ensures next { machine_of self.new ≡ next graph.now (machine_of self.old) (Publish worker job) }
+        ensures next { machine_of self.new
+            ≡ next graph.now (machine_of self.old) (Publish worker job) }
         ensures state { IsStateOf graph.now self.new }
     {
         if job >= graph.jobs() || self.published[job as usize] {

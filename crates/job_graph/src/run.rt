@@ -4,7 +4,8 @@ ghost use Rattle.job_graph.specs.Graph.{lists};
 ghost use Rattle.job_graph.specs.Levels.{AreLevels};
 ghost use Rattle.job_graph.specs.Machine.{IsStateOf, machine_of};
 ghost use Rattle.job_graph.specs.Table.{AreDefined};
-ghost use Rattle.job_graph.specs.Sharing.{AreFound, AreRight, AreShares, IsFound, IsReady, KeepsFound};
+ghost use Rattle.job_graph.specs.Sharing.{AreFound, AreRight, AreShares, IsFound, IsReady};
+ghost use Rattle.job_graph.specs.Sharing.{KeepsFound};
 
 use crate::book::{claim_level, publish_level};
 use crate::found::Found;
@@ -63,7 +64,8 @@ fn keep_shares<P: Phase>(
     found: &mut Found<P::Out>,
     shares: Vec<Result<Vec<(u32, P::Out)>, AllocError>>,
 ) -> Result<(), AllocError>
-    requires shares { AreShares P.Out.is_defined (P.key phase.now) (P.graph phase.now) shares.items }
+    requires shares { AreShares P.Out.is_defined (P.key phase.now) (P.graph phase.now)
+        shares.items }
     requires right { AreFound P.Out.is_defined (P.key phase.now) (P.graph phase.now) found.old }
     ensures right { OnOk result
         (AreFound P.Out.is_defined (P.key phase.now) (P.graph phase.now) found.new) }
@@ -149,7 +151,8 @@ fn work_levels<R: Threads + Sync, P: Phase + Sync>(
         (λ r. (job : ℕ) → job < length (P.graph phase.now) → IsFound r.0 job) }
     ensures book { IfOk result (λ r. IsStateOf (P.graph phase.now) r.1) }
     ensures published { IfOk result
-        (λ r. (job : ℕ) → job < length (P.graph phase.now) → (machine_of r.1).published job ≡ true) }
+        (λ r. (job : ℕ) → job < length (P.graph phase.now)
+        → (machine_of r.1).published job ≡ true) }
 {
     let graph = phase.graph();
     let mut found = Found::nothing(alloc, graph.jobs())?;

@@ -17,10 +17,13 @@ abbrev pub AreInRange : ℕ → List Link → Type 0
 AreInRange n [] = Unit {0}
 AreInRange n (l ∷ ls) = (l.one < n) × (l.other < n) × AreInRange n ls
 
--- of the numbers below n, those that a chain of links joins have one class, and others have not; each class has a member, and each smaller class an earlier one
+-- of the numbers below n, those that a chain of links joins have one class, and others have not;
+-- each class has a member, and each smaller class an earlier one
 pub record AreClasses (n : ℕ) (links : List Link) (class_of : List ℕ) (count : ℕ) : Type 0 where
   pub long : length class_of ≡ n
-  pub joined : (i j : ℕ) → i < n → j < n → (get_or class_of i 0 ≡ get_or class_of j 0) ↔ Reaches (IsLinked links) i j
+  pub joined : (i j : ℕ) → i < n → j < n → (get_or class_of i 0 ≡ get_or class_of j 0)
+      ↔ Reaches (IsLinked links) i j
   pub below : (i : ℕ) → i < n → get_or class_of i 0 < count
   pub used : (x : ℕ) → x < count → (i : ℕ) × (i < n) × (get_or class_of i 0 ≡ x)
-  pub earlier : (i y : ℕ) → i < n → y < get_or class_of i 0 → (j : ℕ) × (j < i) × (get_or class_of j 0 ≡ y)
+  pub earlier : (i y : ℕ) → i < n → y < get_or class_of i 0 → (j : ℕ) × (j < i)
+      × (get_or class_of j 0 ≡ y)

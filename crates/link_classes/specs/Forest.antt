@@ -1,5 +1,6 @@
 -- Trees of numbers, as the list of each number's parent.
-use Rattle.std.specs.Prelude.{◌≡◌, ◌≢◌, ◌⊎◌, ◌↔◌, ℕ, suc, ◌+◌, ◌<◌, ◌≤◌, ◌==◌, Bool, true, false, List, [], ◌∷◌, length, get_or, Option, Some, None}
+use Rattle.std.specs.Prelude.{◌≡◌, ◌≢◌, ◌⊎◌, ◌↔◌, ℕ, suc, ◌+◌, ◌<◌, ◌≤◌, ◌==◌, Bool, true, false}
+use Rattle.std.specs.Prelude.{List, [], ◌∷◌, length, get_or, Option, Some, None}
 use Rattle.link_classes.specs.Classes.{IsLinked, IsOf}
 use Rattle.link_classes.specs.declared.classes.Link.{Link}
 use Rattle.plain_netlist.specs.Chains.{Reaches}
@@ -31,7 +32,8 @@ tops_from k (x ∷ xs) = one_if (x == k) + tops_from (suc k) xs
 pub record IsForest (p rank : List ℕ) : Type 0 where
   pub long : length rank ≡ length p
   pub inside : (i : ℕ) → i < length p → get_or p i 0 < length p
-  pub rises : (i : ℕ) → i < length p → get_or p i 0 ≢ i → get_or rank i 0 < get_or rank (get_or p i 0) 0
+  pub rises : (i : ℕ) → i < length p → get_or p i 0 ≢ i
+      → get_or rank i 0 < get_or rank (get_or p i 0) 0
   pub few : (i : ℕ) → i < length p → get_or rank i 0 + tops_from 0 p ≤ length p
 
 -- the same numbers in one tree, with the same tops
@@ -58,23 +60,27 @@ pub record AreTreesOf (p : List ℕ) (n : ℕ) (links : List Link) : Type 0 wher
 -- the trees as classes, numbered by their least members
 pub record AreNumbered (p c : List ℕ) (count : ℕ) : Type 0 where
   pub long : length c ≡ length p
-  pub joined : (i j : ℕ) → i < length p → j < length p → (get_or c i 0 ≡ get_or c j 0) ↔ InOneTree p i j
+  pub joined : (i j : ℕ) → i < length p → j < length p → (get_or c i 0 ≡ get_or c j 0)
+      ↔ InOneTree p i j
   pub below : (i : ℕ) → i < length p → get_or c i 0 < count
   pub used : (x : ℕ) → x < count → (i : ℕ) × (i < length p) × (get_or c i 0 ≡ x)
   pub earlier : (i y : ℕ) → i < length p → y < get_or c i 0 → (j : ℕ) × (j < i) × (get_or c j 0 ≡ y)
 
 -- the first i numbers have their classes, and the tops of their trees have the same
-pub record SoFar (p q : List ℕ) (at : List (Option ℕ)) (i : ℕ) (c : List ℕ) (count : ℕ) : Type 0 where
-  pub same : SameTrees p q
-  pub wide : length at ≡ length p
-  pub long : length c ≡ i
-  pub few : count ≤ i
-  pub met : (j : ℕ) → j < i → (r : ℕ) × IsTop q r × InOneTree p j r × (get_or at r None ≡ Some (get_or c j 0))
-  pub told : (r x : ℕ) → get_or at r None ≡ Some x → IsTop q r × (j : ℕ) × (j < i) × (get_or c j 0 ≡ x) × InOneTree p j r
-  pub below : (j : ℕ) → j < i → get_or c j 0 < count
-  pub used : (x : ℕ) → x < count → (j : ℕ) × (j < i) × (get_or c j 0 ≡ x)
-  pub earlier : (j y : ℕ) → j < i → y < get_or c j 0 → (k : ℕ) × (k < j) × (get_or c k 0 ≡ y)
-  pub apart : (r s x : ℕ) → get_or at r None ≡ Some x → get_or at s None ≡ Some x → r ≡ s
+pub record SoFar (p q : List ℕ) (at : List (Option ℕ)) (i : ℕ) (c : List ℕ) (count : ℕ) : Type 0
+  where
+    pub same : SameTrees p q
+    pub wide : length at ≡ length p
+    pub long : length c ≡ i
+    pub few : count ≤ i
+    pub met : (j : ℕ) → j < i → (r : ℕ) × IsTop q r × InOneTree p j r
+        × (get_or at r None ≡ Some (get_or c j 0))
+    pub told : (r x : ℕ) → get_or at r None ≡ Some x → IsTop q r × (j : ℕ) × (j < i)
+        × (get_or c j 0 ≡ x) × InOneTree p j r
+    pub below : (j : ℕ) → j < i → get_or c j 0 < count
+    pub used : (x : ℕ) → x < count → (j : ℕ) × (j < i) × (get_or c j 0 ≡ x)
+    pub earlier : (j y : ℕ) → j < i → y < get_or c j 0 → (k : ℕ) × (k < j) × (get_or c k 0 ≡ y)
+    pub apart : (r s x : ℕ) → get_or at r None ≡ Some x → get_or at s None ≡ Some x → r ≡ s
 
 -- on the way up from start
 pub record IsOnWay (p q rank : List ℕ) (start x : ℕ) : Type 0 where

@@ -18,9 +18,11 @@ pub struct Classes {
     pub count: u32,
 }
 
-/// The classes of the numbers below `n` that chains of the links join, numbered from 0 by their least members.
+/// The classes of the numbers below `n` that chains of the links join, numbered from 0 by their
+/// least members.
 ///
-/// Takes time in proportion to `n` and the number of links (times the inverse of Ackermann's function, at most 4).
+/// Takes time in proportion to `n` and the number of links (times the inverse of Ackermann's
+/// function, at most 4).
 pub fn joined_classes(alloc: Global, n: u32, links: &[Link]) -> Result<Classes, AllocError>
     requires { AreInRange n links.now }
     ensures { IfOk result (λ c. AreClasses n links.now c.class_of.items c.count) }

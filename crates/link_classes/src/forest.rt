@@ -1,10 +1,12 @@
 ghost use Rattle.std.specs.Prelude.{◌≡◌, ◌≢◌, ◌<◌, ◌≤◌, ◌^◌, length, get_or, set, IfOk};
-ghost use Rattle.link_classes.specs.Forest.{AreAlone, AreNumbered, InOneTree, IsForest, IsTop, IsJoinedBy, SameTrees};
+ghost use Rattle.link_classes.specs.Forest.{AreAlone, AreNumbered, InOneTree, IsForest, IsTop};
+ghost use Rattle.link_classes.specs.Forest.{IsJoinedBy, SameTrees};
 
 use crate::classes::{Classes, Link};
 use std::alloc::{AllocError, Global};
 
-/// Trees of numbers: each number's parent, and a rank that rises on the way up. The number at a tree's top is its own parent.
+/// Trees of numbers: each number's parent, and a rank that rises on the way up. The number at a
+/// tree's top is its own parent.
 #[derive(Drop)]
 pub struct Forest {
     parent: Vec<u32>,
@@ -26,7 +28,8 @@ impl Forest {
         Ok(Forest { parent, rank })
     }
 
-    /// The number at the top of the tree of `start`. Each number on the way is hung on the next but one (path halving).
+    /// The number at the top of the tree of `start`. Each number on the way is hung on the next but
+    /// one (path halving).
     fn top(&mut self, start: u32) -> u32
         requires forest { IsForest self.old.parent.items self.old.rank.items }
         requires in_range { start < length self.old.parent.items }

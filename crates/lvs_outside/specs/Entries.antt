@@ -1,7 +1,9 @@
 -- Files in memory: a list of entries, of which the first with a path is that path's file.
-use Rattle.std.specs.Prelude.{◌≡◌, ◌≢◌, ◌⊎◌, ℕ, nat_le, List, [], ◌∷◌, Bool, true, false, length, zero, suc, IsTrue, if◌then◌else◌, string_bytes}
+use Rattle.std.specs.Prelude.{◌≡◌, ◌≢◌, ◌⊎◌, ℕ, nat_le, List, [], ◌∷◌, Bool, true, false, length}
+use Rattle.std.specs.Prelude.{zero, suc, IsTrue, if◌then◌else◌, string_bytes}
 use Rattle.std.specs.Str.{bytes_eq}
-use Rattle.lvs_outside.specs.Store.{Told, Untold, NoFile, Holds, Open, Closed as ClosedFile, Reading as ReadingFile, Writing as WritingFile}
+use Rattle.lvs_outside.specs.Store.{Told, Untold, NoFile, Holds, Open, Closed as ClosedFile}
+use Rattle.lvs_outside.specs.Store.{Reading as ReadingFile, Writing as WritingFile}
 use Rattle.lvs_outside.specs.declared.entries.Entry.{Entry}
 use Rattle.lvs_outside.specs.declared.entries.Place.{Place}
 use Rattle.lvs_outside.specs.declared.entries.Place.TheVariants.{Closed, Reading, Writing}
@@ -15,7 +17,8 @@ told (e ∷ es) p = if bytes_eq (string_bytes e.path) p then Holds e.bytes.items
 unfoldable pub is_file_of : List Entry → List ℕ → ℕ → Bool
 is_file_of [] p i = false
 is_file_of (e ∷ es) p zero = bytes_eq (string_bytes e.path) p
-is_file_of (e ∷ es) p (suc i) = if bytes_eq (string_bytes e.path) p then false else is_file_of es p i
+is_file_of (e ∷ es) p (suc i) =
+    if bytes_eq (string_bytes e.path) p then false else is_file_of es p i
 
 -- a file has at least n bytes
 abbrev pub reaches : Told → ℕ → Bool
@@ -43,7 +46,8 @@ one_if_open (Writing i) = 1
 
 -- one path's file goes by this step, and each other path's stays
 pub record Goes (old new : List Entry) (path : List ℕ) (step : Told → Told → Type 0) : Type 0 where
-  pub each : (p : List ℕ) → ((p ≡ path) × step (told old p) (told new p)) ⊎ ((p ≢ path) × (told new p ≡ told old p))
+  pub each : (p : List ℕ) → ((p ≡ path) × step (told old p) (told new p))
+      ⊎ ((p ≢ path) × (told new p ≡ told old p))
 
 -- an entry is the path's file now, and that is these bytes
 pub record IsSet (old new : List Entry) (path bytes : List ℕ) (i : ℕ) : Type 0 where

@@ -1,6 +1,8 @@
--- What the trusted edge means: std's files as a store and standard output as a sink tell nothing of contents.
+-- What the trusted edge means: std's files as a store and standard output as a sink tell nothing of
+-- contents.
 use Rattle.std.specs.Prelude.{ℕ, ◌+◌, List}
-use Rattle.lvs_outside.specs.Store.{Store, Untold, Open, Closed as ClosedFile, Reading as ReadingFile, Writing as WritingFile}
+use Rattle.lvs_outside.specs.Store.{Store, Untold, Open, Closed as ClosedFile}
+use Rattle.lvs_outside.specs.Store.{Reading as ReadingFile, Writing as WritingFile}
 use Rattle.lvs_outside.specs.Summary.{SinkState}
 use Rattle.lvs_outside.specs.Token.{count_of, bytes_of}
 use Rattle.lvs_outside.specs.declared.file.FileDepot.{FileDepot}
@@ -35,4 +37,10 @@ store_of d = record {
 
 -- standard output as a sink
 abbrev pub sink_of : {R : Type 0} → StdoutSink R → SinkState
-sink_of s = record { told = Untold; write_calls = count_of s.write_calls.value; faults = s.faults; empty_takes = s.empty_takes }
+sink_of s = record {
+  told = Untold;
+  write_calls = count_of s.write_calls.value;
+  faults =
+      s.faults;
+  empty_takes = s.empty_takes;
+}

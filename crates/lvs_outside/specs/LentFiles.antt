@@ -1,9 +1,11 @@
 -- Files that are lent: a list of entries, of which the first with a path is that path's.
-use Rattle.std.specs.Prelude.{◌≡◌, ◌⊎◌, ℕ, nat_le, List, [], ◌∷◌, length, Bool, true, false, zero, suc, Option, Some, None, if◌then◌else◌}
+use Rattle.std.specs.Prelude.{◌≡◌, ◌⊎◌, ℕ, nat_le, List, [], ◌∷◌, length, Bool, true, false, zero}
+use Rattle.std.specs.Prelude.{suc, Option, Some, None, if◌then◌else◌}
 use Rattle.std.specs.Borrow.{Bor}
 use Rattle.std.specs.List.{list_any}
 use Rattle.std.specs.Str.{bytes_eq}
-use Rattle.lvs_outside.specs.Store.{Told, Untold, NoFile, Holds, Open, Closed as ClosedFile, Reading as ReadingFile, Writing as WritingFile}
+use Rattle.lvs_outside.specs.Store.{Told, Untold, NoFile, Holds, Open, Closed as ClosedFile}
+use Rattle.lvs_outside.specs.Store.{Reading as ReadingFile, Writing as WritingFile}
 use Rattle.lvs_outside.specs.declared.lent.Lent.{Lent}
 use Rattle.lvs_outside.specs.declared.lent.Access.{Access}
 use Rattle.lvs_outside.specs.declared.lent.Access.TheVariants.{Closed, Reading, Writing}
@@ -47,7 +49,8 @@ is_untold Untold = true
 is_untold NoFile = false
 is_untold (Holds bytes) = false
 
--- the open file is as told: the bytes that are read are its own, and a file that is written isn't told
+-- the open file is as told: the bytes that are read are its own, and a file that is written isn't
+-- told
 abbrev pub is_access : Told → Access → Bool
 is_access told Closed = true
 is_access told (Reading bytes at) = is_read told bytes.now at

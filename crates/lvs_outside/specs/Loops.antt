@@ -1,6 +1,9 @@
 -- What a whole file read, a whole text written and a whole summary sent come to.
-use Rattle.std.specs.Prelude.{◌≡◌, ◌⊎◌, ℕ, ◌+◌, ◌<◌, ◌≤◌, List, ◌++◌, length, take, drop, Result, Ok, Err, OnOk, OnErr}
-use Rattle.lvs_outside.specs.Store.{Store, Told, Untold, NoFile, Holds, Closed, Reading, Writing, Forward, SameFiles, SameRest, HasCause, ChangesOne, appended, path_of}
+use Rattle.std.specs.Prelude.{◌≡◌, ◌⊎◌, ℕ, ◌+◌, ◌<◌, ◌≤◌, List, ◌++◌, length, take, drop, Result}
+use Rattle.std.specs.Prelude.{Ok, Err, OnOk, OnErr}
+use Rattle.lvs_outside.specs.Store.{Store, Told, Untold, NoFile, Holds, Closed, Reading, Writing}
+use Rattle.lvs_outside.specs.Store.{Forward, SameFiles, SameRest, HasCause, ChangesOne, appended}
+use Rattle.lvs_outside.specs.Store.{path_of}
 use Rattle.lvs_outside.specs.Summary.{SinkState}
 use Rattle.lvs_outside.specs.declared.loops.ReadFault.{ReadFault}
 use Rattle.lvs_outside.specs.declared.loops.ReadFault.TheVariants.{Failed, TooLong, NoMemory}
@@ -11,7 +14,8 @@ limit = 268435456
 
 -- a fact on what is told of the file that is open for reading, and on how far it was read
 abbrev pub OfOpenFile : Store → (Told → ℕ → Type 0) → Type 0
-OfOpenFile s P = elim s.opened [ Closed ↦ Unit {0} | Reading p t ↦ P (s.file p) t | Writing p t ↦ Unit {0} ]
+OfOpenFile s P =
+    elim s.opened [ Closed ↦ Unit {0} | Reading p t ↦ P (s.file p) t | Writing p t ↦ Unit {0} ]
 
 -- where the file is told, these bytes are all of it from a place on
 abbrev pub IsRest : List ℕ → Told → ℕ → Type 0
@@ -66,7 +70,8 @@ ReadAnswer old new bytes (Err Failed) = ReadFailed old new bytes
 ReadAnswer old new bytes (Err NoMemory) = new.faults ≡ old.faults
 
 -- `read_rest`: what came of it, and the file's next bytes in every case
-pub record ReadsRest (old new : Store) (bytes : List ℕ) (result : Result (Unit {0}) ReadFault) : Type 0 where
+pub record ReadsRest (old new : Store) (bytes : List ℕ)
+    (result : Result (Unit {0}) ReadFault) : Type 0 where
   pub answer : ReadAnswer old new bytes result
   pub next : TellsNext old bytes
   pub rest : SameRest old new
@@ -78,7 +83,8 @@ pub record Follows (old new : Store) (bytes : List ℕ) : Type 0 where
   pub rest : SameRest old new
   pub faults : new.faults ≡ old.faults
 
--- the open file has this text behind what it held, and nothing else changed but counts of calls and faults
+-- the open file has this text behind what it held, and nothing else changed but counts of calls and
+-- faults
 pub record Appended (old new : Store) (text : List ℕ) : Type 0 where
   pub file : ChangesOne old new (path_of old.opened) (λ t u. u ≡ appended t text)
   pub opened : new.opened ≡ Forward old.opened (length text)
@@ -96,7 +102,8 @@ pub record ForPrefix (text : List ℕ) (P : List ℕ → Type 0) : Type 0 where
   pub holds : P front
 
 -- `write_whole`: the whole text stands behind what the file held, or after a fault a prefix of it
-pub record AppendsWhole {E : Type 0} (old new : Store) (text : List ℕ) (result : Result (Unit {0}) E) : Type 0 where
+pub record AppendsWhole {E : Type 0} (old new : Store) (text : List ℕ)
+    (result : Result (Unit {0}) E) : Type 0 where
   pub ok : OnOk result (Appended old new text)
   pub err : OnErr result (ForPrefix text (Appended old new))
   pub cause : HasCause old.faults new.faults result
@@ -127,7 +134,8 @@ pub record PartWritten (old new : Store) (path text : List ℕ) : Type 0 where
   pub left_open : new.left_open ≡ old.left_open + 1
 
 -- `write_file`: the file is the text, or after a fault it is as it was or a prefix of the text
-pub record WritesFile {E : Type 0} (old new : Store) (path text : List ℕ) (result : Result (Unit {0}) E) : Type 0 where
+pub record WritesFile {E : Type 0} (old new : Store) (path text : List ℕ)
+    (result : Result (Unit {0}) E) : Type 0 where
   pub ok : OnOk result (WroteFile old new path text)
   pub err : OnErr result (NoneWritten old new ⊎ PartWritten old new path text)
   pub absent : new.absent ≡ old.absent
@@ -143,7 +151,8 @@ pub record Sent (old new : SinkState) (text : List ℕ) : Type 0 where
   pub empty_takes : new.empty_takes ≡ old.empty_takes
 
 -- `write_all`: the sink took the whole text, or after a fault a prefix of it
-pub record SendsWhole {E : Type 0} (old new : SinkState) (text : List ℕ) (result : Result (Unit {0}) E) : Type 0 where
+pub record SendsWhole {E : Type 0} (old new : SinkState) (text : List ℕ)
+    (result : Result (Unit {0}) E) : Type 0 where
   pub ok : OnOk result (Sent old new text)
   pub err : OnErr result (ForPrefix text (Sent old new))
   pub cause : HasCause old.faults new.faults result

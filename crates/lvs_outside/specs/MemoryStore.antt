@@ -28,7 +28,13 @@ schedule_of d = d.schedule
 
 -- bytes in memory as a sink
 abbrev pub memory_sink : MemorySink → SinkState
-memory_sink s = record { told = Holds s.bytes.items; write_calls = count_of s.write_calls.value; faults = faults_of s.schedule; empty_takes = 0 }
+memory_sink s = record {
+  told = Holds s.bytes.items;
+  write_calls =
+      count_of s.write_calls.value;
+  faults = faults_of s.schedule;
+  empty_takes = 0;
+}
 
 -- which calls on it fail
 abbrev pub sink_schedule : MemorySink → Schedule

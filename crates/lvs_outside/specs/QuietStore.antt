@@ -21,7 +21,8 @@ quiet_store d = record {
 
 -- the taker of a summary, which tells nothing of it and never fails
 abbrev pub quiet_sink : QuietDepot → SinkState
-quiet_sink d = record { told = Untold; write_calls = count_of d.sends.value; faults = 0; empty_takes = 0 }
+quiet_sink d =
+    record { told = Untold; write_calls = count_of d.sends.value; faults = 0; empty_takes = 0 }
 
 -- how many bytes were taken so far, of files and of summaries
 abbrev pub taken_by : QuietDepot → ℕ

@@ -1,5 +1,7 @@
--- Which calls on a memory object fail: those that are listed by number, and those that were refused memory.
-use Rattle.std.specs.Prelude.{◌≡◌, ◌⊎◌, ℕ, ◌+◌, ◌-◌, ◌<◌, ◌^◌, ◌==◌, nat_lt, List, Bool, false, IsTrue, Result, OnOk, OnErr, zero, suc, if◌then◌else◌}
+-- Which calls on a memory object fail: those that are listed by number, and those that were refused
+-- memory.
+use Rattle.std.specs.Prelude.{◌≡◌, ◌⊎◌, ℕ, ◌+◌, ◌-◌, ◌<◌, ◌^◌, ◌==◌, nat_lt, List, Bool, false}
+use Rattle.std.specs.Prelude.{IsTrue, Result, OnOk, OnErr, zero, suc, if◌then◌else◌}
 use Rattle.std.specs.List.{list_any}
 use Rattle.lvs_outside.specs.declared.schedule.Schedule.{Schedule}
 
@@ -16,12 +18,14 @@ contains_number failing n = list_any (λ k. k == n) failing
 
 -- the next call has a number, and that is listed
 abbrev pub is_next_listed : Schedule → Bool
-is_next_listed s = if nat_lt s.calls last_number then contains_number s.failing.items (s.calls + 1) else false
+is_next_listed s =
+    if nat_lt s.calls last_number then contains_number s.failing.items (s.calls + 1) else false
 
 -- how many of the first calls are listed
 unfoldable pub listed_calls : List ℕ → ℕ → ℕ
 listed_calls failing zero = 0
-listed_calls failing (suc k) = listed_calls failing k + (if contains_number failing (k + 1) then 1 else 0)
+listed_calls failing (suc k) =
+    listed_calls failing k + (if contains_number failing (k + 1) then 1 else 0)
 
 -- the growths refused, and the listed calls that were reached
 abbrev pub faults_of : Schedule → ℕ

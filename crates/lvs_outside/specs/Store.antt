@@ -1,5 +1,7 @@
 -- What a store of files by path means to its callers, and what each call on it does to that.
-use Rattle.std.specs.Prelude.{◌≡◌, ◌≢◌, ◌⊎◌, ℕ, ◌+◌, ◌-◌, ◌<◌, ◌≤◌, ◌^◌, List, [], ◌++◌, Bool, true, false, length, take, drop, Result, Ok, Err, OnOk, OnErr, IfOk, if◌then◌else◌, ◌==◌}
+use Rattle.std.specs.Prelude.{◌≡◌, ◌≢◌, ◌⊎◌, ℕ, ◌+◌, ◌-◌, ◌<◌, ◌≤◌, ◌^◌, List, [], ◌++◌, Bool, true}
+use Rattle.std.specs.Prelude.{false, length, take, drop, Result, Ok, Err, OnOk, OnErr, IfOk}
+use Rattle.std.specs.Prelude.{if◌then◌else◌, ◌==◌}
 
 -- what a store tells of one path
 pub data Told : Type 0 where
@@ -118,7 +120,8 @@ OpenAnswer old new path (Ok false) = FoundNone old new path
 OpenAnswer old new path (Err e) = FailedToOpen old new
 
 -- `open_read`: closes what was open, then opens the file or answers that there is none
-pub record OpensRead {E : Type 0} (old new : Store) (path : List ℕ) (result : Result Bool E) : Type 0 where
+pub record OpensRead {E : Type 0} (old new : Store) (path : List ℕ)
+    (result : Result Bool E) : Type 0 where
   pub answer : OpenAnswer old new path result
   pub files : SameFiles old new
   pub write_calls : new.write_calls ≡ old.write_calls
@@ -132,14 +135,17 @@ Forward Closed k = Closed
 Forward (Reading p t) k = Reading p (t + k)
 Forward (Writing p t) k = Writing p (t + k)
 
--- where the file is told, the buffer's first n bytes are the file's next n, and n is 0 at its end alone
+-- where the file is told, the buffer's first n bytes are the file's next n, and n is 0 at its end
+-- alone
 abbrev pub NextBytes : Told → ℕ → ℕ → List ℕ → Type 0
 NextBytes Untold at n buf = Unit {0}
 NextBytes NoFile at n buf = ⊥
-NextBytes (Holds bytes) at n buf = (take n buf ≡ take n (drop at bytes)) × (at + n ≤ length bytes) × (n ≡ 0 → at ≡ length bytes)
+NextBytes (Holds bytes) at n buf =
+    (take n buf ≡ take n (drop at bytes)) × (at + n ≤ length bytes) × (n ≡ 0 → at ≡ length bytes)
 
 abbrev pub TakesNext : Store → ℕ → List ℕ → Type 0
-TakesNext old n buf = elim old.opened [ Closed ↦ ⊥ | Reading p t ↦ NextBytes (old.file p) t n buf | Writing p t ↦ ⊥ ]
+TakesNext old n buf =
+    elim old.opened [ Closed ↦ ⊥ | Reading p t ↦ NextBytes (old.file p) t n buf | Writing p t ↦ ⊥ ]
 
 pub record ReadBytes (old new : Store) (n : ℕ) (buf : List ℕ) : Type 0 where
   pub fits : n ≤ length buf
@@ -155,7 +161,8 @@ pub record Reads {E : Type 0} (old new : Store) (buf : List ℕ) (result : Resul
 
 -- the file of one path goes by this step, and each other stays
 pub record ChangesOne (old new : Store) (path : List ℕ) (step : Told → Told → Type 0) : Type 0 where
-  pub each : (p : List ℕ) → ((p ≡ path) × step (old.file p) (new.file p)) ⊎ ((p ≢ path) × (new.file p ≡ old.file p))
+  pub each : (p : List ℕ) → ((p ≡ path) × step (old.file p) (new.file p))
+      ⊎ ((p ≢ path) × (new.file p ≡ old.file p))
 
 -- where it is told, the file is empty now
 abbrev pub IsEmptied : Told → Told → Type 0
@@ -185,7 +192,8 @@ pub record NotStarted (old new : Store) : Type 0 where
   pub left_open : new.left_open ≡ old.left_open
 
 -- `start_write`: closes what was open, makes the path's file empty and opens it for writing
-pub record StartsWrite {E : Type 0} (old new : Store) (path : List ℕ) (result : Result (Unit {0}) E) : Type 0 where
+pub record StartsWrite {E : Type 0} (old new : Store) (path : List ℕ)
+    (result : Result (Unit {0}) E) : Type 0 where
   pub ok : OnOk result (Started old new path)
   pub err : OnErr result (NotStarted old new)
   pub absent : new.absent ≡ old.absent
@@ -210,14 +218,15 @@ pub record NotWritten (old new : Store) : Type 0 where
   pub empty_takes : new.empty_takes ≡ old.empty_takes
 
 -- `write`: appends a prefix of the piece to the open file and answers its length
-pub record Writes {E : Type 0} (old new : Store) (piece : List ℕ) (result : Result ℕ E) : Type 0 where
-  pub ok : IfOk result (Wrote old new piece)
-  pub err : OnErr result (NotWritten old new)
-  pub absent : new.absent ≡ old.absent
-  pub last_absent : new.last_absent ≡ old.last_absent
-  pub write_calls : new.write_calls ≡ old.write_calls + 1
-  pub left_open : new.left_open ≡ old.left_open
-  pub cause : HasCause old.faults new.faults result
+pub record Writes {E : Type 0} (old new : Store) (piece : List ℕ) (result : Result ℕ E) : Type 0
+  where
+    pub ok : IfOk result (Wrote old new piece)
+    pub err : OnErr result (NotWritten old new)
+    pub absent : new.absent ≡ old.absent
+    pub last_absent : new.last_absent ≡ old.last_absent
+    pub write_calls : new.write_calls ≡ old.write_calls + 1
+    pub left_open : new.left_open ≡ old.left_open
+    pub cause : HasCause old.faults new.faults result
 
 pub record Finished (old new : Store) : Type 0 where
   pub opened : new.opened ≡ Closed
@@ -240,4 +249,15 @@ pub record Finishes {E : Type 0} (old new : Store) (result : Result (Unit {0}) E
 
 -- a store whose empty takes are counted as faults
 abbrev pub counted : Store → Store
-counted s = record { file = s.file; opened = s.opened; absent = s.absent; last_absent = s.last_absent; write_calls = s.write_calls; left_open = s.left_open; faults = s.faults + s.empty_takes; empty_takes = 0 }
+counted s = record {
+  file = s.file;
+  opened = s.opened;
+  absent = s.absent;
+  last_absent =
+      s.last_absent;
+  write_calls = s.write_calls;
+  left_open = s.left_open;
+  faults =
+      s.faults + s.empty_takes;
+  empty_takes = 0;
+}

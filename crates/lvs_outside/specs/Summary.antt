@@ -1,5 +1,6 @@
 -- What a taker of summary bytes means to its callers, and what a write does to that.
-use Rattle.std.specs.Prelude.{◌≡◌, ℕ, ◌+◌, ◌-◌, ◌<◌, ◌≤◌, ◌^◌, List, take, length, Result, OnErr, IfOk}
+use Rattle.std.specs.Prelude.{◌≡◌, ℕ, ◌+◌, ◌-◌, ◌<◌, ◌≤◌, ◌^◌, List, take, length, Result, OnErr}
+use Rattle.std.specs.Prelude.{IfOk}
 use Rattle.lvs_outside.specs.Store.{Told, HasCause, appended, empty_take}
 
 -- all that a sink means
@@ -33,12 +34,19 @@ pub record NotTaken (old new : SinkState) : Type 0 where
   pub empty_takes : new.empty_takes ≡ old.empty_takes
 
 -- `write`: takes a prefix of the piece and answers its length
-pub record Takes {E : Type 0} (old new : SinkState) (piece : List ℕ) (result : Result ℕ E) : Type 0 where
-  pub ok : IfOk result (Took old new piece)
-  pub err : OnErr result (NotTaken old new)
-  pub write_calls : new.write_calls ≡ old.write_calls + 1
-  pub cause : HasCause old.faults new.faults result
+pub record Takes {E : Type 0} (old new : SinkState) (piece : List ℕ) (result : Result ℕ E) : Type 0
+  where
+    pub ok : IfOk result (Took old new piece)
+    pub err : OnErr result (NotTaken old new)
+    pub write_calls : new.write_calls ≡ old.write_calls + 1
+    pub cause : HasCause old.faults new.faults result
 
 -- a sink whose empty takes are counted as faults
 abbrev pub counted_sink : SinkState → SinkState
-counted_sink s = record { told = s.told; write_calls = s.write_calls; faults = s.faults + s.empty_takes; empty_takes = 0 }
+counted_sink s = record {
+  told = s.told;
+  write_calls = s.write_calls;
+  faults =
+      s.faults + s.empty_takes;
+  empty_takes = 0;
+}

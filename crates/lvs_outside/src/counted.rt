@@ -1,6 +1,7 @@
 // An adapter that counts empty takes as faults.
 ghost use Rattle.std.specs.Prelude.{◌≡◌, ◌<◌, length, if◌then◌else◌};
-ghost use Rattle.lvs_outside.specs.Store.{Store, HasRoom, IsReading, IsWriting, OpensRead, Reads, StartsWrite, Writes, Finishes, empty_take, counted};
+ghost use Rattle.lvs_outside.specs.Store.{Store, HasRoom, IsReading, IsWriting, OpensRead, Reads};
+ghost use Rattle.lvs_outside.specs.Store.{StartsWrite, Writes, Finishes, empty_take, counted};
 ghost use Rattle.lvs_outside.specs.Summary.{SinkState, SinkHasRoom, Takes, counted_sink};
 
 use crate::{Depot, Failed, Sink};
@@ -12,8 +13,9 @@ pub fn is_empty_take(piece: &[u8], count: usize) -> bool
     count == 0 && !piece.is_empty()
 }
 
-/// A depot or a sink that answers `Failed` in an empty take too: in a write that took nothing of a piece that isn't
-/// empty. Its count of faults is that of the inner one plus the inner one's empty takes.
+/// A depot or a sink that answers `Failed` in an empty take too: in a write that took nothing of a
+/// piece that isn't empty. Its count of faults is that of the inner one plus the inner one's empty
+/// takes.
 #[derive(Drop)]
 pub struct Counted<'a, D> {
     inner: &'a mut D,
@@ -35,7 +37,8 @@ impl<D: Depot> Depot for Counted<'_, D> {
     fn open_read(&mut self, path: &str) -> Result<bool, Failed>
         requires { HasRoom (counted (D.state self.old.inner.now)) }
         ensures same_reference { self.new.inner.ghost_name ≡ self.old.inner.ghost_name }
-        ensures opens { OpensRead (counted (D.state self.old.inner.now)) (counted (D.state self.new.inner.now)) path.now result }
+        ensures opens { OpensRead (counted (D.state self.old.inner.now))
+            (counted (D.state self.new.inner.now)) path.now result }
     {
         self.inner.open_read(path)
     }
@@ -45,7 +48,8 @@ impl<D: Depot> Depot for Counted<'_, D> {
         requires open { IsReading (counted (D.state self.old.inner.now)).opened }
         requires buffer { 0 < length buf.old }
         ensures same_reference { self.new.inner.ghost_name ≡ self.old.inner.ghost_name }
-        ensures reads { Reads (counted (D.state self.old.inner.now)) (counted (D.state self.new.inner.now)) buf.new result }
+        ensures reads { Reads (counted (D.state self.old.inner.now))
+            (counted (D.state self.new.inner.now)) buf.new result }
     {
         self.inner.read(buf)
     }
@@ -53,7 +57,8 @@ impl<D: Depot> Depot for Counted<'_, D> {
     fn start_write(&mut self, path: &str) -> Result<(), Failed>
         requires { HasRoom (counted (D.state self.old.inner.now)) }
         ensures same_reference { self.new.inner.ghost_name ≡ self.old.inner.ghost_name }
-        ensures starts { StartsWrite (counted (D.state self.old.inner.now)) (counted (D.state self.new.inner.now)) path.now result }
+        ensures starts { StartsWrite (counted (D.state self.old.inner.now))
+            (counted (D.state self.new.inner.now)) path.now result }
     {
         self.inner.start_write(path)
     }
@@ -62,7 +67,8 @@ impl<D: Depot> Depot for Counted<'_, D> {
         requires room { HasRoom (counted (D.state self.old.inner.now)) }
         requires open { IsWriting (counted (D.state self.old.inner.now)).opened }
         ensures same_reference { self.new.inner.ghost_name ≡ self.old.inner.ghost_name }
-        ensures writes { Writes (counted (D.state self.old.inner.now)) (counted (D.state self.new.inner.now)) piece.now result }
+        ensures writes { Writes (counted (D.state self.old.inner.now))
+            (counted (D.state self.new.inner.now)) piece.now result }
     {
         let count = self.inner.write(piece)?;
         if is_empty_take(piece, count) {
@@ -75,7 +81,8 @@ impl<D: Depot> Depot for Counted<'_, D> {
         requires room { HasRoom (counted (D.state self.old.inner.now)) }
         requires open { IsWriting (counted (D.state self.old.inner.now)).opened }
         ensures same_reference { self.new.inner.ghost_name ≡ self.old.inner.ghost_name }
-        ensures finishes { Finishes (counted (D.state self.old.inner.now)) (counted (D.state self.new.inner.now)) result }
+        ensures finishes { Finishes (counted (D.state self.old.inner.now))
+            (counted (D.state self.new.inner.now)) result }
     {
         self.inner.finish_write()
     }
@@ -87,7 +94,8 @@ impl<S: Sink> Sink for Counted<'_, S> {
     fn write(&mut self, piece: &[u8]) -> Result<usize, Failed>
         requires { SinkHasRoom (counted_sink (S.state self.old.inner.now)) }
         ensures same_reference { self.new.inner.ghost_name ≡ self.old.inner.ghost_name }
-        ensures takes { Takes (counted_sink (S.state self.old.inner.now)) (counted_sink (S.state self.new.inner.now)) piece.now result }
+        ensures takes { Takes (counted_sink (S.state self.old.inner.now))
+            (counted_sink (S.state self.new.inner.now)) piece.now result }
     {
         match self.inner.write(piece)? {
             count if is_empty_take(piece, count) => Err(Failed),

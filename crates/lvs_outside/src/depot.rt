@@ -1,6 +1,7 @@
 // A store of files by path.
 ghost use Rattle.std.specs.Prelude.{◌<◌, length};
-ghost use Rattle.lvs_outside.specs.Store.{Store, HasRoom, IsReading, IsWriting, OpensRead, Reads, StartsWrite, Writes, Finishes};
+ghost use Rattle.lvs_outside.specs.Store.{Store, HasRoom, IsReading, IsWriting, OpensRead, Reads};
+ghost use Rattle.lvs_outside.specs.Store.{StartsWrite, Writes, Finishes};
 
 use thiserror::Error;
 
@@ -11,18 +12,20 @@ pub struct Failed;
 
 /// A store of files by path, of which one at a time is open.
 ///
-/// A call answers `Failed` exactly where the count of faults rose in it, and it leaves the files that are told as they
-/// were.
+/// A call answers `Failed` exactly where the count of faults rose in it, and it leaves the files
+/// that are told as they were.
 pub trait Depot {
     /// The files that are told, what is open, and the counts.
     ghost state: { Self → Store };
 
-    /// Opens the path's file at its first byte, or answers false where it has none. It closes what was open.
+    /// Opens the path's file at its first byte, or answers false where it has none. It closes what
+    /// was open.
     fn open_read(&mut self, path: &str) -> Result<bool, Failed>
         requires { HasRoom (state self.old) }
         ensures { OpensRead (state self.old) (state self.new) path.now result };
 
-    /// Fills the front of the buffer with the next bytes of the open file and answers their number: 0 is the end.
+    /// Fills the front of the buffer with the next bytes of the open file and answers their number:
+    /// 0 is the end.
     fn read(&mut self, buf: &mut [u8]) -> Result<usize, Failed>
         requires room { HasRoom (state self.old) }
         requires open { IsReading (state self.old).opened }

@@ -1,5 +1,6 @@
 // Files in memory, by path.
-ghost use Rattle.std.specs.Prelude.{◌≡◌, ◌+◌, ◌^◌, ◌<◌, ◌≤◌, List, ℕ, length, IfOk, OnOk, OnErr, IsTrue, MatchOption, vec_len};
+ghost use Rattle.std.specs.Prelude.{◌≡◌, ◌+◌, ◌^◌, ◌<◌, ◌≤◌, List, ℕ, length, IfOk, OnOk, OnErr};
+ghost use Rattle.std.specs.Prelude.{IsTrue, MatchOption, vec_len};
 ghost use Rattle.lvs_outside.specs.Store.{NoFile, Holds, NextBytes, appended};
 ghost use Rattle.lvs_outside.specs.Entries.{told, is_file_of, one_if_open, Goes, IsSet};
 ghost use Rattle.lvs_outside.specs.Token.{count_of};
@@ -25,7 +26,8 @@ pub enum Place {
 // Closes what is open: a file that was being written is left unfinished.
 pub fn close(place: &mut Place, unfinished: &mut Snapshot<Count>)
     ensures place { place.new ≡ Place.Closed }
-    ensures unfinished { count_of unfinished.new.value ≡ count_of unfinished.old.value + one_if_open place.old }
+    ensures unfinished { count_of unfinished.new.value ≡ count_of unfinished.old.value
+        + one_if_open place.old }
 {
     if let Place::Writing(_) = place {
         raise(unfinished, 1);
@@ -35,7 +37,8 @@ pub fn close(place: &mut Place, unfinished: &mut Snapshot<Count>)
 
 // The number of the path's entry.
 pub fn find(files: &[Entry], path: &str) -> Option<usize>
-    ensures { MatchOption result (told files.now path.now ≡ NoFile) (λ i. IsTrue (is_file_of files.now path.now i)) }
+    ensures { MatchOption result (told files.now path.now ≡ NoFile)
+        (λ i. IsTrue (is_file_of files.now path.now i)) }
 {
     for (number, entry) in files.iter().enumerate() {
         if entry.path.as_str() == path {
@@ -72,14 +75,17 @@ pub fn set_file(
 // Puts the piece behind an entry's bytes.
 pub fn append(files: &mut Vec<Entry>, number: usize, piece: &[u8]) -> Result<(), AllocError>
     requires { number < vec_len files.old }
-    ensures first { (p : List ℕ) → is_file_of files.new.items p number ≡ is_file_of files.old.items p number }
-    ensures ok { (p : List ℕ) → IsTrue (is_file_of files.old.items p number) → OnOk result (Goes files.old.items files.new.items p (λ t u. u ≡ appended t piece.now)) }
+    ensures first { (p : List ℕ) → is_file_of files.new.items p number
+        ≡ is_file_of files.old.items p number }
+    ensures ok { (p : List ℕ) → IsTrue (is_file_of files.old.items p number)
+        → OnOk result (Goes files.old.items files.new.items p (λ t u. u ≡ appended t piece.now)) }
     ensures err { OnErr result ((p : List ℕ) → told files.new.items p ≡ told files.old.items p) }
 {
     files[number].bytes.extend_from_slice(piece)
 }
 
-// Copies the bytes from a place on into the buffer's front, as many as fit, and answers their number.
+// Copies the bytes from a place on into the buffer's front, as many as fit, and answers their
+// number.
 pub fn copy_next(from: &[u8], at: usize, buf: &mut [u8]) -> usize
     requires start { at ≤ length from.now }
     requires buffer { 0 < length buf.old }

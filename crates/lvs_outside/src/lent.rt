@@ -22,7 +22,8 @@ pub enum Access<'a> {
 
 // The number of the path's entry.
 fn find_lent(files: &[Lent<'_>], path: &str) -> Option<usize>
-    ensures { MatchOption result ((other : Told) → told_or files.now other path.now ≡ other) (λ i. IsTrue (is_first files.now path.now i)) }
+    ensures { MatchOption result ((other : Told) → told_or files.now other path.now ≡ other)
+        (λ i. IsTrue (is_first files.now path.now i)) }
 {
     for (number, lent) in files.iter().enumerate() {
         if lent.path == path {
@@ -34,7 +35,8 @@ fn find_lent(files: &[Lent<'_>], path: &str) -> Option<usize>
 
 // The path's bytes, where it was lent and wasn't written since.
 pub fn lent_bytes<'a>(files: &[Lent<'a>], path: &str) -> Option<&'a [u8]>
-    ensures { (other : Told) → MatchOption result (IsUnheld files.now other path.now) (λ b. told_or files.now other path.now ≡ Holds b.now) }
+    ensures { (other : Told) → MatchOption result (IsUnheld files.now other path.now)
+        (λ b. told_or files.now other path.now ≡ Holds b.now) }
 {
     let number = find_lent(files, path)?;
     files[number].bytes
@@ -46,8 +48,10 @@ pub fn put_lent<'a>(
     path: &'a str,
     bytes: &'a [u8],
 ) -> Result<(), AllocError>
-    ensures here { OnOk result ((other : Told) → told_or files.new.items other path.now ≡ Holds bytes.now) }
-    ensures others { (other : Told) (p : List ℕ) → p ≢ path.now → told_or files.new.items other p ≡ told_or files.old.items other p }
+    ensures here { OnOk result ((other : Told)
+        → told_or files.new.items other path.now ≡ Holds bytes.now) }
+    ensures others { (other : Told) (p : List ℕ) → p ≢ path.now
+        → told_or files.new.items other p ≡ told_or files.old.items other p }
     ensures err { OnErr result (files.new.items ≡ files.old.items) }
 {
     let bytes = Some(bytes);
@@ -66,7 +70,8 @@ pub fn put_lent<'a>(
 // Tells the path's bytes no more, where it was lent.
 pub fn drop_lent(files: &mut Vec<Lent<'_>>, path: &str)
     ensures here { told_or files.new.items Untold path.now ≡ Untold }
-    ensures others { (other : Told) (p : List ℕ) → p ≢ path.now → told_or files.new.items other p ≡ told_or files.old.items other p }
+    ensures others { (other : Told) (p : List ℕ) → p ≢ path.now
+        → told_or files.new.items other p ≡ told_or files.old.items other p }
 {
     if let Some(number) = find_lent(files.as_slice(), path) {
         files[number].bytes = None;

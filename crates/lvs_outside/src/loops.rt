@@ -45,8 +45,8 @@ impl From<Failed> for ReadFault {
 /// The most bytes of a file that are taken: 2^28.
 pub const LIMIT: usize = 268_435_456;
 
-/// Reads the file that is open for reading into `bytes`, from where it stands to its end or until more than `LIMIT`
-/// bytes were read, in pieces of at most 4,096 bytes.
+/// Reads the file that is open for reading into `bytes`, from where it stands to its end or until
+/// more than `LIMIT` bytes were read, in pieces of at most 4,096 bytes.
 pub fn read_rest<D: Depot>(depot: &mut D, bytes: &mut Vec<u8>) -> Result<(), ReadFault>
     requires room { HasRoom (D.state depot.old) }
     requires open { IsReading (D.state depot.old).opened }
@@ -76,7 +76,8 @@ fn write_some<D: Depot>(depot: &mut D, piece: &[u8]) -> Result<usize, Failed>
 // One write to a sink, in which an empty take is a fault.
 fn take_some<S: Sink>(out: &mut S, piece: &[u8]) -> Result<usize, Failed>
     requires { SinkHasRoom (S.state out.old) }
-    ensures { Takes (counted_sink (S.state out.old)) (counted_sink (S.state out.new)) piece.now result }
+    ensures { Takes (counted_sink (S.state out.old)) (counted_sink (S.state out.new)) piece.now
+        result }
 {
     Sink::write(&mut Counted::new(out), piece)
 }
@@ -85,7 +86,8 @@ fn take_some<S: Sink>(out: &mut S, piece: &[u8]) -> Result<usize, Failed>
 pub fn write_whole<D: Depot>(depot: &mut D, text: &[u8]) -> Result<(), Failed>
     requires room { HasRoom (D.state depot.old) }
     requires open { IsWriting (D.state depot.old).opened }
-    ensures { AppendsWhole (counted (D.state depot.old)) (counted (D.state depot.new)) text.now result }
+    ensures { AppendsWhole (counted (D.state depot.old)) (counted (D.state depot.new)) text.now
+        result }
 {
     let mut rest = text;
     while !rest.is_empty() {
@@ -98,7 +100,8 @@ pub fn write_whole<D: Depot>(depot: &mut D, text: &[u8]) -> Result<(), Failed>
 /// Makes the path's file this text. An empty take is a fault.
 pub fn write_file<D: Depot>(depot: &mut D, path: &str, text: &[u8]) -> Result<(), Failed>
     requires { HasRoom (D.state depot.old) }
-    ensures { WritesFile (counted (D.state depot.old)) (counted (D.state depot.new)) path.now text.now result }
+    ensures { WritesFile (counted (D.state depot.old)) (counted (D.state depot.new)) path.now
+        text.now result }
 {
     depot.start_write(path)?;
     write_whole(depot, text)?;
@@ -108,7 +111,8 @@ pub fn write_file<D: Depot>(depot: &mut D, path: &str, text: &[u8]) -> Result<()
 /// Sends the whole text. An empty take is a fault.
 pub fn write_all<S: Sink>(out: &mut S, text: &[u8]) -> Result<(), Failed>
     requires { SinkHasRoom (S.state out.old) }
-    ensures { SendsWhole (counted_sink (S.state out.old)) (counted_sink (S.state out.new)) text.now result }
+    ensures { SendsWhole (counted_sink (S.state out.old)) (counted_sink (S.state out.new)) text.now
+        result }
 {
     let mut rest = text;
     while !rest.is_empty() {

@@ -10,10 +10,11 @@ use crate::{Depot, Failed};
 use std::alloc::{AllocError, Global};
 use std::snapshot::Snapshot;
 
-/// Files in memory, and the calls that are to fail, by number from 1 over all calls of `Depot` on it. It tells
-/// everything.
+/// Files in memory, and the calls that are to fail, by number from 1 over all calls of `Depot` on
+/// it. It tells everything.
 ///
-/// A growth that is refused in `start_write` or `write` is a fault. Calls have numbers up to 2^64 - 2.
+/// A growth that is refused in `start_write` or `write` is a fault. Calls have numbers up to 2^64 -
+/// 2.
 #[derive(Drop)]
 pub struct MemoryDepot {
     alloc: Global,
@@ -32,7 +33,8 @@ pub struct MemoryDepot {
 impl MemoryDepot {
     ghost use Rattle.std.specs.Prelude.{◌≡◌, List, ℕ, OnOk, OnErr, MatchOption};
     ghost use Rattle.lvs_outside.specs.Store.{NoFile, Holds, IsFresh};
-    ghost use Rattle.lvs_outside.specs.MemoryStore.{memory_store, schedule_of, HasNoFiles, Puts, Stays};
+    ghost use Rattle.lvs_outside.specs.MemoryStore.{memory_store, schedule_of, HasNoFiles, Puts};
+    ghost use Rattle.lvs_outside.specs.MemoryStore.{Stays};
 
     /// No files, and the numbers of the calls that are to fail.
     pub fn new(alloc: Global, failing: Vec<u64>) -> MemoryDepot
@@ -58,7 +60,8 @@ impl MemoryDepot {
 
     /// Makes the path's file these bytes, and closes what was open. It is no call of `Depot`.
     pub fn put(&mut self, alloc: Global, path: &str, bytes: &[u8]) -> Result<(), AllocError>
-        ensures ok { OnOk result (Puts (memory_store self.old) (memory_store self.new) path.now bytes.now) }
+        ensures ok { OnOk result (Puts (memory_store self.old) (memory_store self.new) path.now
+            bytes.now) }
         ensures err { OnErr result (Stays (memory_store self.old) (memory_store self.new)) }
         ensures schedule { schedule_of self.new ≡ schedule_of self.old }
     {
@@ -70,14 +73,15 @@ impl MemoryDepot {
 
     /// The path's bytes, or None exactly where no file has the path.
     pub fn file(&self, path: &str) -> Option<&[u8]>
-        ensures { MatchOption result ((memory_store self.now).file path.now ≡ NoFile) (λ b. (memory_store self.now).file path.now ≡ Holds b.now) }
+        ensures { MatchOption result ((memory_store self.now).file path.now ≡ NoFile)
+            (λ b. (memory_store self.now).file path.now ≡ Holds b.now) }
     {
         let number = find(self.files.as_slice(), path)?;
         Some(self.files[number].bytes.as_slice())
     }
 
-    /// The growths refused so far. The count of faults is this number plus the number of listed calls that were
-    /// reached.
+    /// The growths refused so far. The count of faults is this number plus the number of listed
+    /// calls that were reached.
     pub fn refused(&self) -> u64
         ensures { result ≡ (schedule_of self.now).refused }
     {
@@ -87,7 +91,8 @@ impl MemoryDepot {
 
 impl Depot for MemoryDepot {
     ghost use Rattle.std.specs.Prelude.{◌≡◌, ◌<◌, length};
-    ghost use Rattle.lvs_outside.specs.Store.{HasRoom, IsReading, IsWriting, OpensRead, Reads, StartsWrite, Writes, Finishes};
+    ghost use Rattle.lvs_outside.specs.Store.{HasRoom, IsReading, IsWriting, OpensRead, Reads};
+    ghost use Rattle.lvs_outside.specs.Store.{StartsWrite, Writes, Finishes};
     ghost use Rattle.lvs_outside.specs.Schedule.{IsNumbered};
     ghost use Rattle.lvs_outside.specs.MemoryStore.{memory_store, schedule_of};
 
@@ -138,7 +143,8 @@ impl Depot for MemoryDepot {
 
     fn start_write(&mut self, path: &str) -> Result<(), Failed>
         requires { HasRoom (memory_store self.old) }
-        ensures starts { StartsWrite (memory_store self.old) (memory_store self.new) path.now result }
+        ensures starts { StartsWrite (memory_store self.old) (memory_store self.new) path.now
+            result }
         ensures numbered { IsNumbered (schedule_of self.old) (schedule_of self.new) result }
     {
         raise(&mut self.write_calls, 1);

@@ -7,7 +7,8 @@ use crate::{Failed, Sink};
 use std::alloc::Global;
 use std::snapshot::Snapshot;
 
-/// Summary bytes in memory, and the calls of `Sink` that are to fail, by number from 1. It tells everything.
+/// Summary bytes in memory, and the calls of `Sink` that are to fail, by number from 1. It tells
+/// everything.
 ///
 /// A growth that is refused is a fault. Calls have numbers up to 2^64 - 2.
 #[derive(Drop)]
@@ -45,8 +46,8 @@ impl MemorySink {
         self.bytes.as_slice()
     }
 
-    /// The growths refused so far. The count of faults is this number plus the number of listed calls that were
-    /// reached.
+    /// The growths refused so far. The count of faults is this number plus the number of listed
+    /// calls that were reached.
     pub fn refused(&self) -> u64
         ensures { result ≡ (sink_schedule self.now).refused }
     {

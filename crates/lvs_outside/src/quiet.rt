@@ -11,21 +11,22 @@ use crate::{Depot, Failed, Sink};
 use std::alloc::{AllocError, Global};
 use std::snapshot::Snapshot;
 
-/// Files that were lent for reading, behind a depot and a sink that take every write whole and keep only the number of
-/// bytes.
+/// Files that were lent for reading, behind a depot and a sink that take every write whole and keep
+/// only the number of bytes.
 ///
-/// It tells the files lent and none that is written. Nothing is kept of a written file: `open_read` answers false of
-/// its path, whether that was lent before or not, until it is lent again.
+/// It tells the files lent and none that is written. Nothing is kept of a written file: `open_read`
+/// answers false of its path, whether that was lent before or not, until it is lent again.
 ///
-/// No call answers `Failed`, and none but `lend` takes memory. `lend`, `open_read` and `start_write` go over the list
-/// of all paths lent.
+/// No call answers `Failed`, and none but `lend` takes memory. `lend`, `open_read` and
+/// `start_write` go over the list of all paths lent.
 #[derive(Drop)]
 pub struct QuietDepot<'a> {
     lent: Vec<Lent<'a>>,
     written_paths: Snapshot<Paths>,
     path: Snapshot<Bytes>,
     access: Access<'a>,
-    ghost in_place: { IsTrue (is_access (told_lent lent.items (paths_of written_paths.value) (bytes_of path.value)) access) },
+    ghost in_place: { IsTrue (is_access
+        (told_lent lent.items (paths_of written_paths.value) (bytes_of path.value)) access) },
     moved: Snapshot<Count>,
     absent: Snapshot<Count>,
     last_absent: Snapshot<Bytes>,
@@ -38,7 +39,8 @@ pub struct QuietDepot<'a> {
 // Closes what is open: a file that was being written is left unfinished.
 fn close(access: &mut Access<'_>, unfinished: &mut Snapshot<Count>)
     ensures access { access.new ≡ Access.Closed }
-    ensures unfinished { count_of unfinished.new.value ≡ count_of unfinished.old.value + one_if_written access.old }
+    ensures unfinished { count_of unfinished.new.value ≡ count_of unfinished.old.value
+        + one_if_written access.old }
 {
     if let Access::Writing = access {
         raise(unfinished, 1);
@@ -75,10 +77,11 @@ impl<'a> QuietDepot<'a> {
         }
     }
 
-    /// Makes the path's file these bytes, and closes what was open. It is no call of `Depot`. Only a path that wasn't
-    /// lent before takes memory: one entry of the list.
+    /// Makes the path's file these bytes, and closes what was open. It is no call of `Depot`. Only
+    /// a path that wasn't lent before takes memory: one entry of the list.
     pub fn lend(&mut self, path: &'a str, bytes: &'a [u8]) -> Result<(), AllocError>
-        ensures ok { OnOk result (Puts (quiet_store self.old) (quiet_store self.new) path.now bytes.now) }
+        ensures ok { OnOk result (Puts (quiet_store self.old) (quiet_store self.new) path.now
+            bytes.now) }
         ensures err { OnErr result (quiet_store self.new ≡ quiet_store self.old) }
         ensures sink { quiet_sink self.new ≡ quiet_sink self.old }
         ensures taken { taken_by self.new ≡ taken_by self.old }
@@ -88,7 +91,8 @@ impl<'a> QuietDepot<'a> {
         Ok(())
     }
 
-    /// The bytes taken so far by the writes of files and of summaries, or 2^64 - 1 where they are more.
+    /// The bytes taken so far by the writes of files and of summaries, or 2^64 - 1 where they are
+    /// more.
     pub fn written(&self) -> u64
         ensures { result ≡ min (taken_by self.now) (2 ^ 64 - 1) }
     {
@@ -98,7 +102,8 @@ impl<'a> QuietDepot<'a> {
 
 impl Depot for QuietDepot<'_> {
     ghost use Rattle.std.specs.Prelude.{◌<◌, length, IsOk};
-    ghost use Rattle.lvs_outside.specs.Store.{Untold, IsReading, IsWriting, OpensRead, Reads, StartsWrite, Writes, Finishes};
+    ghost use Rattle.lvs_outside.specs.Store.{Untold, IsReading, IsWriting, OpensRead, Reads};
+    ghost use Rattle.lvs_outside.specs.Store.{StartsWrite, Writes, Finishes};
     ghost use Rattle.lvs_outside.specs.QuietStore.{quiet_store, quiet_sink, taken_by, is_held};
 
     ghost state = { quiet_store };

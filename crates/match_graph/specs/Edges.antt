@@ -1,5 +1,6 @@
 -- The terminals of a circuit's devices and calls as edges.
-use Rattle.std.specs.Prelude.{◌≡◌, ◌<◌, ℕ, ◌+◌, suc, List, [], ◌∷◌, ◌++◌, length, map, slice_index, Option, Some, None}
+use Rattle.std.specs.Prelude.{◌≡◌, ◌<◌, ℕ, ◌+◌, suc, List, [], ◌∷◌, ◌++◌, length, map, slice_index}
+use Rattle.std.specs.Prelude.{Option, Some, None}
 use Rattle.std.specs.Borrow.{Bor}
 use Rattle.plain_netlist.specs.Netlist.{DeviceRow, CallRow, Circuit}
 use Rattle.round_laws.specs.Nodes.{Side, Layout, Schematic}
@@ -14,7 +15,9 @@ edge owner port net = record { owner = owner; port = port; net = net }
 
 -- the terminals of a device, where the first net of its circuit is this node
 abbrev pub device_edges : ℕ → ℕ → DeviceRow → List Edge
-device_edges first owner d = edge owner port.Channel (first + d.source) ∷ edge owner port.Gate (first + d.gate) ∷ edge owner port.Channel (first + d.drain) ∷ edge owner port.Bulk (first + d.bulk) ∷ []
+device_edges first owner d = edge owner port.Channel (first + d.source)
+    ∷ edge owner port.Gate (first + d.gate) ∷ edge owner port.Channel (first + d.drain)
+    ∷ edge owner port.Bulk (first + d.bulk) ∷ []
 
 -- the right pin that stands for pin i of a called pair, where this is its list
 abbrev pub pin_in : Option (List ℕ) → ℕ → ℕ
@@ -42,10 +45,12 @@ HasPin (Some pins) i = i < length pins
 
 -- the first n terminals of a call
 abbrev pub pin_edges : ℕ → ℕ → Option (List ℕ) → List ℕ → ℕ → List Edge
-pin_edges first owner pins nets n = map (λ i. edge owner (port.Pin (pin_in pins i)) (first + slice_index nets i)) (numbers_from 0 n)
+pin_edges first owner pins nets n =
+    map (λ i. edge owner (port.Pin (pin_in pins i)) (first + slice_index nets i)) (numbers_from 0 n)
 
 abbrev pub call_edges : (ℕ → Option (List ℕ)) → Side → ℕ → ℕ → CallRow → List Edge
-call_edges children side first owner c = pin_edges first owner (pins_on children side c.circuit) c.nets (length c.nets)
+call_edges children side first owner c =
+    pin_edges first owner (pins_on children side c.circuit) c.nets (length c.nets)
 
 -- the terminals of rows whose nodes are numbered from here on
 abbrev pub edges_from : {X : Type 0} → (ℕ → X → List Edge) → ℕ → List X → List Edge
@@ -55,8 +60,11 @@ edges_from f owner (x ∷ xs) = f owner x ++ edges_from f (suc owner) xs
 -- the terminals of a circuit whose nodes are numbered from here on
 abbrev pub side_edges : (ℕ → Option (List ℕ)) → Side → ℕ → Circuit → List Edge
 side_edges children side first c =
-    edges_from (device_edges first) (first + length c.nets) c.devices ++ edges_from (call_edges children side first) (first + length c.nets + length c.devices) c.calls
+    edges_from (device_edges first) (first + length c.nets) c.devices
+    ++ edges_from (call_edges children side first) (first + length c.nets + length c.devices)
+    c.calls
 
 -- the terminals of both circuits
 abbrev pub pair_edges : Pair → List Edge
-pair_edges p = side_edges p.children Layout 0 p.left ++ side_edges p.children Schematic (nodes_in p.left) p.right
+pair_edges p = side_edges p.children Layout 0 p.left
+    ++ side_edges p.children Schematic (nodes_in p.left) p.right

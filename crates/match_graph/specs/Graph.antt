@@ -1,6 +1,8 @@
 -- Graphs in flat arrays.
-use Rattle.std.specs.Prelude.{◌≡◌, ◌<◌, ◌≤◌, ◌+◌, ◌-◌, ◌==◌, ℕ, List, length, map, slice_index, slice_range, nat_eq}
-use Rattle.round_laws.specs.Web.{Port as PlainPort, Channel, Gate, Bulk, Pin, End as PlainEnd, Web, IsWeb, IsNode}
+use Rattle.std.specs.Prelude.{◌≡◌, ◌<◌, ◌≤◌, ◌+◌, ◌-◌, ◌==◌, ℕ, List, length, map, slice_index}
+use Rattle.std.specs.Prelude.{slice_range, nat_eq}
+use Rattle.round_laws.specs.Web.{Port as PlainPort, Channel, Gate, Bulk, Pin, End as PlainEnd, Web}
+use Rattle.round_laws.specs.Web.{IsWeb, IsNode}
 use Rattle.round_laws.specs.Nodes.{Node}
 use Rattle.round_laws.specs.Colours.{ends_of}
 use Rattle.part_laws.specs.Renamed.{IsRenamed}
@@ -37,7 +39,8 @@ nodes_of g = end_of g.right
 
 -- the ends of a node
 abbrev pub ends_at : Graph → ℕ → List End
-ends_at g a = slice_range g.ends.items (slice_index g.begins.items a) (slice_index g.begins.items (a + 1))
+ends_at g a =
+    slice_range g.ends.items (slice_index g.begins.items a) (slice_index g.begins.items (a + 1))
 
 -- the number of a node's kind
 abbrev pub kind_at : Graph → ℕ → ℕ
@@ -58,12 +61,14 @@ pub record IsGraph (g : Graph) : Type 0 where
   pub first : g.left.first ≡ 0
   pub next : left_of g ≡ end_of g.left
   pub begins : length g.begins.items ≡ nodes_of g + 1
-  pub rises : (a : ℕ) → a < nodes_of g → slice_index g.begins.items a ≤ slice_index g.begins.items (a + 1)
+  pub rises : (a : ℕ) → a < nodes_of g
+      → slice_index g.begins.items a ≤ slice_index g.begins.items (a + 1)
   pub fits : (a : ℕ) → a < nodes_of g → slice_index g.begins.items (a + 1) ≤ length g.ends.items
   pub kinds : length g.kinds.items ≡ nodes_of g
   pub web : IsWeb (graph_web g)
   pub turned : (a b : ℕ) (port : PlainPort) → a < nodes_of g → b < nodes_of g
-      → ends_of (λ x. x) port b (map plain_end (ends_at g a)) ≡ ends_of (λ x. x) port a (map plain_end (ends_at g b))
+      → ends_of (λ x. x) port b (map plain_end (ends_at g a))
+      ≡ ends_of (λ x. x) port a (map plain_end (ends_at g b))
 
 -- the graph is that of the pair of circuits, its nodes numbered
 pub record IsGraphOf (p : Pair) (g : Graph) : Type 0 where

@@ -1,9 +1,11 @@
 -- Nodes numbered by what the first round goes by.
-use Rattle.std.specs.Prelude.{◌≡◌, ◌↔◌, ◌<◌, ◌==◌, ℕ, Bool, List, ◌++◌, length, map, Option, Some, slice_index, slice_index_or}
+use Rattle.std.specs.Prelude.{◌≡◌, ◌↔◌, ◌<◌, ◌==◌, ℕ, Bool, List, ◌++◌, length, map, Option, Some}
+use Rattle.std.specs.Prelude.{slice_index, slice_index_or}
 use Rattle.std.specs.HashMap.{get, hash_map_len}
 use Rattle.std.specs.List.{list_any}
 use Rattle.plain_netlist.specs.Netlist.{DeviceRow, CallRow, Circuit}
-use Rattle.match_laws.specs.Circuits.{Own as PlainOwn, OfNet, OfDevice, OfCall, OfNone, numbers_from}
+use Rattle.match_laws.specs.Circuits.{Own as PlainOwn, OfNet, OfDevice, OfCall, OfNone}
+use Rattle.match_laws.specs.Circuits.{numbers_from}
 use Rattle.match_graph.specs.declared.kinds.Kinds.{Kinds}
 use Rattle.match_graph.specs.declared.kinds.Own.{Own}
 use Rattle.match_graph.specs.declared.kinds.Own.TheVariants.{Net, Device, Call}
@@ -26,10 +28,13 @@ call_own r = OfCall r.circuit
 abbrev pub circuit_owns : Circuit → List PlainOwn
 circuit_owns c = net_owns c ++ map device_own c.devices ++ map call_own c.calls
 
--- equal ones have one number below the count, others have others; and each of the list has its number
-pub record IsNumbering (owns : List PlainOwn) (number : Own → Option ℕ) (count : ℕ) (kinds : List ℕ) : Type 0 where
+-- equal ones have one number below the count, others have others; and each of the list has its
+-- number
+pub record IsNumbering (owns : List PlainOwn) (number : Own → Option ℕ) (count : ℕ)
+    (kinds : List ℕ) : Type 0 where
   pub long : length kinds ≡ length owns
-  pub given : (i : ℕ) → i < length owns → (q : Own) → plain_own q ≡ slice_index_or owns i OfNone → number q ≡ Some (slice_index kinds i)
+  pub given : (i : ℕ) → i < length owns → (q : Own) → plain_own q ≡ slice_index_or owns i OfNone
+      → number q ≡ Some (slice_index kinds i)
   pub made : (i : ℕ) → i < length owns → (q : Own) × (plain_own q ≡ slice_index_or owns i OfNone)
   pub low : (q : Own) (v : ℕ) → number q ≡ Some v → v < count
   pub one : (q r : Own) (v : ℕ) → number q ≡ Some v → number r ≡ Some v → plain_own q ≡ plain_own r
@@ -38,9 +43,13 @@ pub record IsNumbering (owns : List PlainOwn) (number : Own → Option ℕ) (cou
 -- equal numbers exactly where the two are equal
 pub record AreKindsOf (kinds : List ℕ) (owns : List PlainOwn) : Type 0 where
   pub long : length kinds ≡ length owns
-  pub same : (i j : ℕ) → i < length owns → j < length owns → (slice_index kinds i ≡ slice_index kinds j) ↔ (slice_index_or owns i OfNone ≡ slice_index_or owns j OfNone)
+  pub same : (i j : ℕ) → i < length owns → j < length owns
+      → (slice_index kinds i ≡ slice_index kinds j)
+      ↔ (slice_index_or owns i OfNone ≡ slice_index_or owns j OfNone)
 
 -- each numbering of the old kinds goes on over these
 abbrev pub Adds : (Own → Own → Bool) → Kinds → Kinds → List PlainOwn → Type 0
-Adds same old new more = (owns : List PlainOwn) → IsNumbering owns (get same old.numbers) (hash_map_len old.numbers) old.of_nodes.items
-    → IsNumbering (owns ++ more) (get same new.numbers) (hash_map_len new.numbers) new.of_nodes.items
+Adds same old new more = (owns : List PlainOwn)
+    → IsNumbering owns (get same old.numbers) (hash_map_len old.numbers) old.of_nodes.items
+    → IsNumbering (owns ++ more) (get same new.numbers) (hash_map_len new.numbers)
+    new.of_nodes.items

@@ -1,4 +1,5 @@
--- The nodes of two circuits by number: of the left circuit the nets, the devices, the calls, then those of the right one.
+-- The nodes of two circuits by number: of the left circuit the nets, the devices, the calls, then
+-- those of the right one.
 use Rattle.std.specs.Prelude.{◌≡◌, ◌+◌, ℕ, length}
 use Rattle.plain_netlist.specs.Netlist.{Circuit}
 use Rattle.round_laws.specs.Nodes.{Node, Side, Layout, Schematic, Kind, Net, Device, Call}

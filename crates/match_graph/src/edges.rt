@@ -1,12 +1,16 @@
-ghost use Rattle.std.specs.Prelude.{◌≡◌, ◌<◌, ◌+◌, ◌++◌, ◌∷◌, [], ◌^◌, ℕ, length, slice_index, OnOk, IfOk};
+ghost use Rattle.std.specs.Prelude.{◌≡◌, ◌<◌, ◌+◌, ◌++◌, ◌∷◌, [], ◌^◌, ℕ, length, slice_index};
+ghost use Rattle.std.specs.Prelude.{OnOk, IfOk};
 ghost use Rattle.round_laws.specs.Nodes.{Layout, Schematic};
 ghost use Rattle.match_laws.specs.Circuits.{IsFitting};
 ghost use Rattle.net_model.specs.Rows.{plain_circuit, plain_device, plain_call};
 ghost use Rattle.match_types.specs.Plain.{pair_of, plain_side};
 ghost use Rattle.match_types.specs.Children.{children_of};
-ghost use Rattle.match_parts.specs.Rows.{AreTerminalsBelow, AreDevicesOn, AreCallsOn, AreBelow, ArePinsOf};
+ghost use Rattle.match_parts.specs.Rows.{AreTerminalsBelow, AreDevicesOn, AreCallsOn, AreBelow};
+ghost use Rattle.match_parts.specs.Rows.{ArePinsOf};
 ghost use Rattle.match_graph.specs.Numbering.{AreSizesOf, nodes_in};
-ghost use Rattle.match_graph.specs.Edges.{call_edges, device_edges, edges_from, pair_edges, pin_edges, side_edges, HasPin, HavePins, now_of, pin_in, pins_on};
+ghost use Rattle.match_graph.specs.Edges.{call_edges, device_edges, edges_from, pair_edges};
+ghost use Rattle.match_graph.specs.Edges.{pin_edges, side_edges, HasPin, HavePins, now_of, pin_in};
+ghost use Rattle.match_graph.specs.Edges.{pins_on};
 
 use crate::graph::Port;
 use crate::sizes::Sizes;
@@ -15,7 +19,8 @@ use match_types::{ChildPins, Side};
 use net_model::{Circuit, DeviceRow};
 use std::alloc::{AllocError, Global};
 
-/// A terminal: the node of the transistor or call, the kind of the terminal, and the node of the net.
+/// A terminal: the node of the transistor or call, the kind of the terminal, and the node of the
+/// net.
 #[derive(Clone, Copy, Debug)]
 pub struct Edge {
     pub owner: u32,
@@ -35,8 +40,10 @@ pub fn list_edges(
     requires left { IsFitting (pair_of left.now right.now children.now) Layout }
     requires right { IsFitting (pair_of left.now right.now children.now) Schematic }
     requires left_sizes { AreSizesOf left_sizes.now 0 (plain_circuit left.now) }
-    requires right_sizes { AreSizesOf right_sizes.now (nodes_in (plain_circuit left.now)) (plain_circuit right.now) }
-    ensures { IfOk result (λ edges. edges.items ≡ pair_edges (pair_of left.now right.now children.now)) }
+    requires right_sizes { AreSizesOf right_sizes.now (nodes_in (plain_circuit left.now))
+        (plain_circuit right.now) }
+    ensures { IfOk result (λ edges. edges.items
+        ≡ pair_edges (pair_of left.now right.now children.now)) }
 {
     let mut edges = Vec::new(alloc);
     list_side(left, left_sizes, children, Side::Layout, &mut edges)?;
@@ -44,8 +51,8 @@ pub fn list_edges(
     Ok(edges)
 }
 
-// Adds the terminals of a circuit's transistors and calls, in order. Those of a call are at right pins, which the list of its pair gives on
-// the left side.
+// Adds the terminals of a circuit's transistors and calls, in order. Those of a call are at right
+// pins, which the list of its pair gives on the left side.
 fn list_side(
     circuit: &Circuit,
     sizes: &Sizes,
@@ -57,7 +64,9 @@ fn list_side(
     requires devices { AreDevicesOn (plain_circuit circuit.now) (length circuit.now.nets.items) }
     requires calls { AreCallsOn (plain_circuit circuit.now) (length circuit.now.nets.items) }
     requires pins { ArePinsOf (plain_circuit circuit.now) (children_of children.now) }
-    ensures { OnOk result (edges.new.items ≡ edges.old.items ++ side_edges (children_of children.now) (plain_side side) sizes.now.first (plain_circuit circuit.now)) }
+    ensures { OnOk result (edges.new.items ≡ edges.old.items
+        ++ side_edges (children_of children.now) (plain_side side) sizes.now.first
+        (plain_circuit circuit.now)) }
 {
     list_device_edges(circuit, sizes, edges)?;
     list_call_edges(circuit, sizes, children, side, edges)
@@ -70,7 +79,9 @@ fn list_device_edges(
 ) -> Result<(), AllocError>
     requires sizes { AreSizesOf sizes.now sizes.now.first (plain_circuit circuit.now) }
     requires nets { AreDevicesOn (plain_circuit circuit.now) sizes.now.nets }
-    ensures { OnOk result (edges.new.items ≡ edges.old.items ++ edges_from (device_edges sizes.now.first) (sizes.now.first + sizes.now.nets) (plain_circuit circuit.now).devices) }
+    ensures { OnOk result (edges.new.items ≡ edges.old.items
+        ++ edges_from (device_edges sizes.now.first) (sizes.now.first + sizes.now.nets)
+        (plain_circuit circuit.now).devices) }
 {
     for k in 0..circuit.devices.len() {
         let owner = sizes.first_device() + k as u32;
@@ -90,7 +101,8 @@ fn push_device(
     requires gate { first + row.now.gate < 2 ^ 32 }
     requires drain { first + row.now.drain < 2 ^ 32 }
     requires bulk { first + row.now.bulk < 2 ^ 32 }
-    ensures { OnOk result (edges.new.items ≡ edges.old.items ++ device_edges first owner (plain_device row.now)) }
+    ensures { OnOk result (edges.new.items ≡ edges.old.items
+        ++ device_edges first owner (plain_device row.now)) }
 {
     push_edge(owner, Port::Channel, first + row.source, edges)?;
     push_edge(owner, Port::Gate, first + row.gate, edges)?;
@@ -99,7 +111,8 @@ fn push_device(
 }
 
 fn push_edge(owner: u32, port: Port, net: u32, edges: &mut Vec<Edge>) -> Result<(), AllocError>
-    ensures { OnOk result (edges.new.items ≡ edges.old.items ++ record { owner = owner; port = port; net = net } ∷ []) }
+    ensures { OnOk result (edges.new.items ≡ edges.old.items
+        ++ record { owner = owner; port = port; net = net } ∷ []) }
 {
     edges.push(Edge { owner, port, net })?;
     Ok(())
@@ -115,7 +128,9 @@ fn list_call_edges(
     requires sizes { AreSizesOf sizes.now sizes.now.first (plain_circuit circuit.now) }
     requires nets { AreCallsOn (plain_circuit circuit.now) sizes.now.nets }
     requires pins { ArePinsOf (plain_circuit circuit.now) (children_of children.now) }
-    ensures { OnOk result (edges.new.items ≡ edges.old.items ++ edges_from (call_edges (children_of children.now) (plain_side side) sizes.now.first) (sizes.now.first + sizes.now.nets + sizes.now.devices) (plain_circuit circuit.now).calls) }
+    ensures { OnOk result (edges.new.items ≡ edges.old.items
+        ++ edges_from (call_edges (children_of children.now) (plain_side side) sizes.now.first)
+        (sizes.now.first + sizes.now.nets + sizes.now.devices) (plain_circuit circuit.now).calls) }
 {
     for k in 0..circuit.calls.len() {
         let owner = sizes.first_call() + k as u32;
@@ -146,7 +161,8 @@ fn push_call(
 ) -> Result<(), AllocError>
     requires nets { (i : ℕ) → i < length nets.now → first + slice_index nets.now i < 2 ^ 32 }
     requires pins { HavePins (now_of pins) (length nets.now) }
-    ensures { OnOk result (edges.new.items ≡ edges.old.items ++ pin_edges first owner (now_of pins.entry) nets.now (length nets.now)) }
+    ensures { OnOk result (edges.new.items ≡ edges.old.items
+        ++ pin_edges first owner (now_of pins.entry) nets.now (length nets.now)) }
 {
     for i in 0..nets.len() {
         let pin = right_pin(pins, i)?;

@@ -2,7 +2,8 @@ ghost use Rattle.std.specs.Prelude.{◌≡◌, ◌<◌, IfOk};
 ghost use Rattle.round_laws.specs.Nodes.{Layout, Schematic};
 ghost use Rattle.match_laws.specs.Circuits.{Pair, IsFitting};
 ghost use Rattle.match_types.specs.Plain.{pair_of, plain_node};
-ghost use Rattle.match_graph.specs.Graph.{IsGraph, IsGraphOf, IsNumbered, ends_at, kind_at, left_of, nodes_of};
+ghost use Rattle.match_graph.specs.Graph.{IsGraph, IsGraphOf, IsNumbered, ends_at, kind_at};
+ghost use Rattle.match_graph.specs.Graph.{left_of, nodes_of};
 
 use crate::edges::list_edges;
 use crate::filling::{begins_of, ends_of};
@@ -13,7 +14,8 @@ use match_types::{ChildPins, Node, Side};
 use net_model::Circuit;
 use std::alloc::{AllocError, Global};
 
-/// How a transistor or a call meets a net: source or drain, gate, bulk, or a right pin of the called pair.
+/// How a transistor or a call meets a net: source or drain, gate, bulk, or a right pin of the
+/// called pair.
 #[derive(Clone, Copy, PartialEq, Eq, PartialOrd, Ord, Debug)]
 pub enum Port {
     Channel,
@@ -29,8 +31,9 @@ pub struct End {
     pub node: u32,
 }
 
-/// The nets, transistors and calls of two circuits as nodes: those of the left circuit first, of each the nets, then the transistors, then the
-/// calls, by number. Each node has its ends, and the number of its kind.
+/// The nets, transistors and calls of two circuits as nodes: those of the left circuit first, of
+/// each the nets, then the transistors, then the calls, by number. Each node has its ends, and the
+/// number of its kind.
 #[derive(Drop)]
 pub struct Graph {
     pub left: Sizes,
@@ -43,7 +46,8 @@ pub struct Graph {
 }
 
 impl Graph {
-    /// The graph of two circuits. The time is in proportion to their sizes, expected over the hashes of what their nodes look like.
+    /// The graph of two circuits. The time is in proportion to their sizes, expected over the
+    /// hashes of what their nodes look like.
     pub fn of_pair(
         alloc: Global,
         left: &Circuit,
@@ -105,7 +109,8 @@ impl Graph {
         }
     }
 
-    /// The number of the node's kind: nodes have one number exactly where they look alike before the first round.
+    /// The number of the node's kind: nodes have one number exactly where they look alike before
+    /// the first round.
     pub fn kind(&self, node: u32) -> u32
         requires graph { IsGraph self.now }
         requires node { node < nodes_of self.now }

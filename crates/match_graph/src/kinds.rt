@@ -1,7 +1,8 @@
 ghost use Rattle.std.specs.Prelude.{◌≡◌, ◌++◌, ◌∷◌, [], length, map, OnOk, IfOk};
 ghost use Rattle.net_model.specs.Rows.{plain_circuit};
 ghost use Rattle.match_parts.specs.Marks.{AreMarked};
-ghost use Rattle.match_graph.specs.Kinds.{Adds, AreKindsOf, call_own, circuit_owns, device_own, net_owns, plain_own};
+ghost use Rattle.match_graph.specs.Kinds.{Adds, AreKindsOf, call_own, circuit_owns, device_own};
+ghost use Rattle.match_graph.specs.Kinds.{net_owns, plain_own};
 
 use crate::small::number;
 use match_parts::mark;
@@ -9,7 +10,8 @@ use net_model::Circuit;
 use std::alloc::{AllocError, Global};
 use std::collections::HashMap;
 
-/// What the first round goes by: a net by being a pin, a transistor by class and sizes, a call by its pair.
+/// What the first round goes by: a net by being a pin, a transistor by class and sizes, a call by
+/// its pair.
 #[derive(Clone, Copy, PartialEq, Eq, Hash)]
 enum Own<'a> {
     Net {
@@ -32,9 +34,11 @@ struct Kinds<'a> {
     of_nodes: Vec<u32>,
 }
 
-/// For each node of both circuits a number: equal numbers exactly where the nodes look alike before the first round.
+/// For each node of both circuits a number: equal numbers exactly where the nodes look alike before
+/// the first round.
 pub fn list_kinds(alloc: Global, left: &Circuit, right: &Circuit) -> Result<Vec<u32>, AllocError>
-    ensures { IfOk result (λ kinds. AreKindsOf kinds.items (circuit_owns (plain_circuit left.now) ++ circuit_owns (plain_circuit right.now))) }
+    ensures { IfOk result (λ kinds. AreKindsOf kinds.items
+        (circuit_owns (plain_circuit left.now) ++ circuit_owns (plain_circuit right.now))) }
 {
     let mut kinds = Kinds {
         numbers: HashMap::new(alloc),
@@ -48,7 +52,8 @@ pub fn list_kinds(alloc: Global, left: &Circuit, right: &Circuit) -> Result<Vec<
 impl<'a> Kinds<'a> {
     // Adds the nets, transistors and calls of a circuit.
     fn add_circuit(&mut self, alloc: Global, circuit: &'a Circuit) -> Result<(), AllocError>
-        ensures { OnOk result (Adds ⟦<Own<'a> as PartialEq>⟧.eq self.old self.new (circuit_owns (plain_circuit circuit.now))) }
+        ensures { OnOk result (Adds ⟦<Own<'a> as PartialEq>⟧.eq self.old self.new
+            (circuit_owns (plain_circuit circuit.now))) }
     {
         let marks = pin_marks(alloc, circuit)?;
         self.add_nets(circuit, &marks)?;
@@ -61,7 +66,8 @@ impl<'a> Kinds<'a> {
     fn add_nets(&mut self, circuit: &Circuit, marks: &[bool]) -> Result<(), AllocError>
         requires count { length marks.now ≡ length circuit.now.nets.items }
         requires pins { AreMarked circuit.now.pins.items marks.now }
-        ensures { OnOk result (Adds ⟦<Own<'a> as PartialEq>⟧.eq self.old self.new (net_owns (plain_circuit circuit.now))) }
+        ensures { OnOk result (Adds ⟦<Own<'a> as PartialEq>⟧.eq self.old self.new
+            (net_owns (plain_circuit circuit.now))) }
     {
         for n in 0..marks.len() {
             let is_pin = marks[n];
@@ -71,7 +77,8 @@ impl<'a> Kinds<'a> {
     }
 
     fn add_devices(&mut self, circuit: &'a Circuit) -> Result<(), AllocError>
-        ensures { OnOk result (Adds ⟦<Own<'a> as PartialEq>⟧.eq self.old self.new (map device_own (plain_circuit circuit.now).devices)) }
+        ensures { OnOk result (Adds ⟦<Own<'a> as PartialEq>⟧.eq self.old self.new
+            (map device_own (plain_circuit circuit.now).devices)) }
     {
         for k in 0..circuit.devices.len() {
             let row = &circuit.devices[k];
@@ -85,7 +92,8 @@ impl<'a> Kinds<'a> {
     }
 
     fn add_calls(&mut self, circuit: &'a Circuit) -> Result<(), AllocError>
-        ensures { OnOk result (Adds ⟦<Own<'a> as PartialEq>⟧.eq self.old self.new (map call_own (plain_circuit circuit.now).calls)) }
+        ensures { OnOk result (Adds ⟦<Own<'a> as PartialEq>⟧.eq self.old self.new
+            (map call_own (plain_circuit circuit.now).calls)) }
     {
         for k in 0..circuit.calls.len() {
             let pair = circuit.calls[k].circuit;
@@ -96,7 +104,8 @@ impl<'a> Kinds<'a> {
 
     // Adds a node.
     fn add(&mut self, own: Own<'a>) -> Result<(), AllocError>
-        ensures { OnOk result (Adds ⟦<Own<'a> as PartialEq>⟧.eq self.old self.new (plain_own own.entry ∷ [])) }
+        ensures { OnOk result (Adds ⟦<Own<'a> as PartialEq>⟧.eq self.old self.new
+            (plain_own own.entry ∷ [])) }
     {
         let kind = match self.numbers.get(&own) {
             Some(known) => *known,

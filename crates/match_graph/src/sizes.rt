@@ -5,7 +5,8 @@ use match_types::NodeKind;
 use net_model::Circuit;
 use std::alloc::AllocError;
 
-/// How many nets, transistors and calls a circuit has, and the number of its first net among the nodes.
+/// How many nets, transistors and calls a circuit has, and the number of its first net among the
+/// nodes.
 #[derive(Clone, Copy, Debug)]
 pub struct Sizes {
     pub first: u32,

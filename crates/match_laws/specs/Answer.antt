@@ -1,11 +1,15 @@
 -- The answer of a pair of circuits: match, difference with its evidence, undecided, skipped; and
 -- what each answer says.
-use Rattle.std.specs.Prelude.{◌≡◌, ◌⊎◌, ◌<◌, ◌≤◌, ℕ, Bool, false, List, [], Option, Some, None, slice_get, bytes_eq}
-use Rattle.round_laws.specs.Web.{Web, on_left, on_right, IsEven, IsUneven, IsSolved, Guess, under, mate}
+use Rattle.std.specs.Prelude.{◌≡◌, ◌⊎◌, ◌<◌, ◌≤◌, ℕ, Bool, false, List, [], Option, Some, None}
+use Rattle.std.specs.Prelude.{slice_get, bytes_eq}
+use Rattle.round_laws.specs.Web.{Web, on_left, on_right, IsEven, IsUneven, IsSolved, Guess, under}
+use Rattle.round_laws.specs.Web.{mate}
 use Rattle.round_laws.specs.Nodes.{Node, Side, Layout, Schematic, Kind, Net, Device, Call}
-use Rattle.round_laws.specs.Guesses.{Setting, Search, HasEnded, HasFound, HasStopped, solved_guesses, refuted_in, IsWholeSearch, Row, rows}
+use Rattle.round_laws.specs.Guesses.{Setting, Search, HasEnded, HasFound, HasStopped}
+use Rattle.round_laws.specs.Guesses.{solved_guesses, refuted_in, IsWholeSearch, Row, rows}
 use Rattle.plain_netlist.specs.Netlist.{CallRow}
-use Rattle.match_laws.specs.Circuits.{Pair, circuit_of, web_of, Pairing, AreMatched, pairing_of, IsFitting, IsCorrespondence}
+use Rattle.match_laws.specs.Circuits.{Pair, circuit_of, web_of, Pairing, AreMatched, pairing_of}
+use Rattle.match_laws.specs.Circuits.{IsFitting, IsCorrespondence}
 
 -- a correspondence; the first round with unequal counts, the least node that shows it and both
 -- counts; all guesses, where each ended; the guesses, where the limit stopped them; or the first

@@ -1,6 +1,8 @@
 -- Two circuits as a web, and what a correspondence of two circuits is, given the right pin of each
 -- left pin of the called pairs.
-use Rattle.std.specs.Prelude.{◌≡◌, ◌⊎◌, ◌↔◌, ◌<◌, ◌==◌, ◌&&◌, ℕ, zero, suc, Bool, true, false, cond, List, [], ◌∷◌, ◌++◌, map, length, count_by, flat_map, Option, Some, None, slice_get, slice_index, bytes_eq}
+use Rattle.std.specs.Prelude.{◌≡◌, ◌⊎◌, ◌↔◌, ◌<◌, ◌==◌, ◌&&◌, ℕ, zero, suc, Bool, true, false, cond}
+use Rattle.std.specs.Prelude.{List, [], ◌∷◌, ◌++◌, map, length, count_by, flat_map, Option, Some}
+use Rattle.std.specs.Prelude.{None, slice_get, slice_index, bytes_eq}
 use Rattle.std.specs.Bool.{beq}
 use Rattle.std.specs.List.{list_any}
 use Rattle.plain_netlist.specs.Netlist.{DeviceRow, CallRow, Circuit}

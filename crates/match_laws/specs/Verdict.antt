@@ -3,7 +3,8 @@ use Rattle.std.specs.Prelude.{ℕ, Bool}
 use Rattle.round_laws.specs.Web.{IsRefuted, IsSolved, mate}
 use Rattle.round_laws.specs.Nodes.{Node, Layout, Schematic}
 use Rattle.round_laws.specs.Guesses.{Search, HasEnded, HasFound, IsWholeSearch}
-use Rattle.match_laws.specs.Circuits.{Pair, web_of, Pairing, IsCorrespondence, IsFitting, AreMatched, pairing_of}
+use Rattle.match_laws.specs.Circuits.{Pair, web_of, Pairing, IsCorrespondence, IsFitting}
+use Rattle.match_laws.specs.Circuits.{AreMatched, pairing_of}
 
 -- where a round has unequal counts, there is no correspondence
 abbrev pub RefutedPairLaw : Type 0

@@ -7,8 +7,10 @@
 #![tactic(auto)]
 
 ghost use Rattle.match_laws.specs.Circuits.{WebMapLaw, ReadLaw};
-ghost use Rattle.match_laws.specs.Verdict.{RefutedPairLaw, EndedPairLaw, SolvedPairLaw, FoundPairLaw};
-ghost use Rattle.match_laws.specs.Answer.{MatchedLaw, DiffersLaw, OneAnswerLaw, UnevenLaw, SingleLaw, UndecidedLaw};
+ghost use Rattle.match_laws.specs.Verdict.{RefutedPairLaw, EndedPairLaw, SolvedPairLaw};
+ghost use Rattle.match_laws.specs.Verdict.{FoundPairLaw};
+ghost use Rattle.match_laws.specs.Answer.{MatchedLaw, DiffersLaw, OneAnswerLaw, UnevenLaw};
+ghost use Rattle.match_laws.specs.Answer.{SingleLaw, UndecidedLaw};
 
 /// A correspondence of two circuits is one of their web, and one of the web is read off as one of
 /// the circuits.

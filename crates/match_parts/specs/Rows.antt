@@ -6,7 +6,16 @@ use Rattle.match_parts.specs.declared.rows.DeviceView.{DeviceView}
 
 -- the row as a plain one
 abbrev pub device_of : DeviceView → DeviceRow
-device_of d = record { class = d.class.now; length = d.length; width = d.width; source = d.source; gate = d.gate; drain = d.drain; bulk = d.bulk }
+device_of d = record {
+  class = d.class.now;
+  length = d.length;
+  width = d.width;
+  source =
+      d.source;
+  gate = d.gate;
+  drain = d.drain;
+  bulk = d.bulk;
+}
 
 -- the terminals stand on nets below n
 pub record AreTerminalsBelow (d : DeviceRow) (n : ℕ) : Type 0 where
@@ -29,7 +38,8 @@ AreCallsOn c n = (k : ℕ) (r : CallRow) → slice_get c.calls k ≡ Some r → 
 
 -- the list of a call's pair is one to one over its pins
 abbrev pub AreCallPins : (ℕ → Option (List ℕ)) → CallRow → Type 0
-AreCallPins children r = (pins : List ℕ) → children r.circuit ≡ Some pins → IsOneToOne pins (length r.nets) (length r.nets)
+AreCallPins children r = (pins : List ℕ) → children r.circuit ≡ Some pins
+    → IsOneToOne pins (length r.nets) (length r.nets)
 
 abbrev pub ArePinsOf : Circuit → (ℕ → Option (List ℕ)) → Type 0
 ArePinsOf c children = (k : ℕ) (r : CallRow) → slice_get c.calls k ≡ Some r → AreCallPins children r

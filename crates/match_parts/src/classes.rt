@@ -4,7 +4,8 @@ ghost use Rattle.match_parts.specs.Split.{IsSplit};
 use std::alloc::{AllocError, Global};
 use std::collections::HashMap;
 
-/// New colours from 0 on, one for each colour with one count. Takes time in proportion to the number of places.
+/// New colours from 0 on, one for each colour with one count. Takes time in proportion to the
+/// number of places.
 pub fn split(alloc: Global, colours: &[u32], counts: &[u32]) -> Result<Vec<u32>, AllocError>
     requires same { length colours.now ≡ length counts.now }
     requires few { length colours.now < 2 ^ 32 }

@@ -1,4 +1,5 @@
-//! Small parts of the comparison of two circuits: classes split by a count, a test for maps that are one to one, and for the image of a device.
+//! Small parts of the comparison of two circuits: classes split by a count, a test for maps that
+//! are one to one, and for the image of a device.
 #![tactic(auto)]
 
 mod classes;

@@ -2,8 +2,8 @@ ghost use Rattle.std.specs.Prelude.{◌≡◌, length, Decides};
 ghost use Rattle.match_laws.specs.Circuits.{IsOneToOne};
 ghost use Rattle.match_parts.specs.Marks.{AreMarked, AreUnset};
 
-/// Whether the numbers are a one-to-one map onto the numbers below the number of marks. What the marks hold is lost. Takes no memory, and time
-/// in proportion to both lengths.
+/// Whether the numbers are a one-to-one map onto the numbers below the number of marks. What the
+/// marks hold is lost. Takes no memory, and time in proportion to both lengths.
 pub fn is_one_to_one(numbers: &[u32], marks: &mut [bool]) -> bool
     ensures { Decides result (IsOneToOne numbers.now (length numbers.now) (length marks.old)) }
 {
@@ -21,8 +21,8 @@ pub fn is_one_to_one(numbers: &[u32], marks: &mut [bool]) -> bool
     numbers.len() == marks.len()
 }
 
-/// Sets the marks of the listed numbers, and no others. Numbers that have no mark are passed over. Takes no memory, and time in proportion to
-/// both lengths.
+/// Sets the marks of the listed numbers, and no others. Numbers that have no mark are passed over.
+/// Takes no memory, and time in proportion to both lengths.
 pub fn mark(numbers: &[u32], marks: &mut [bool])
     ensures { AreMarked numbers.now marks.new }
 {

@@ -2,7 +2,8 @@ ghost use Rattle.std.specs.Prelude.{length, Decides};
 ghost use Rattle.match_laws.specs.Circuits.{IsDeviceImage};
 ghost use Rattle.match_parts.specs.Rows.{device_of, AreTerminalsBelow};
 
-/// A transistor as it is compared: its class, its sizes in femtometres, and the nets of its terminals.
+/// A transistor as it is compared: its class, its sizes in femtometres, and the nets of its
+/// terminals.
 #[derive(Clone, Copy)]
 pub struct DeviceView<'a> {
     pub class: &'a [u8],
@@ -14,8 +15,9 @@ pub struct DeviceView<'a> {
     pub bulk: u32,
 }
 
-/// Whether the right device is the image of the left one, by the right number of each left net: the same class, length and width, gate and bulk on
-/// their images, source and drain on theirs in either order.
+/// Whether the right device is the image of the left one, by the right number of each left net: the
+/// same class, length and width, gate and bulk on their images, source and drain on theirs in
+/// either order.
 pub fn is_device_image(nets: &[u32], left: &DeviceView<'_>, right: &DeviceView<'_>) -> bool
     requires { AreTerminalsBelow (device_of left.now) (length nets.now) }
     ensures { Decides result (IsDeviceImage nets.now (device_of left.now) (device_of right.now)) }
@@ -41,7 +43,8 @@ pub fn is_device_image(nets: &[u32], left: &DeviceView<'_>, right: &DeviceView<'
 mod tests {
     use super::*;
 
-    // The inverters and the access transistors of a latch whose two inner nets are drawn the other way round.
+    // The inverters and the access transistors of a latch whose two inner nets are drawn the other
+    // way round.
     #[test]
     fn latch_swapped(rt: HostRuntime) {
         let nets = [0, 1, 2, 3, 4, 6, 5];

@@ -1,9 +1,11 @@
 -- Pairs, pairings and answers as plain records.
 use Rattle.std.specs.Prelude.{map}
-use Rattle.round_laws.specs.Nodes.{Node as PlainNode, Side as PlainSide, Layout, Schematic, Kind, Net, Device, Call}
+use Rattle.round_laws.specs.Nodes.{Node as PlainNode, Side as PlainSide, Layout, Schematic, Kind}
+use Rattle.round_laws.specs.Nodes.{Net, Device, Call}
 use Rattle.round_laws.specs.Guesses.{Row, Outcome, IsRefutedIn, IsBelow, IsOpen}
 use Rattle.match_laws.specs.Circuits.{Pair, Pairing as PlainPairing, node}
-use Rattle.match_laws.specs.Answer.{Answer as PlainAnswer, Match, DiffersInRound, DiffersByTree, Undecided, Skipped}
+use Rattle.match_laws.specs.Answer.{Answer as PlainAnswer, Match, DiffersInRound, DiffersByTree}
+use Rattle.match_laws.specs.Answer.{Undecided, Skipped}
 use Rattle.net_model.specs.declared.netlist.Circuit.{Circuit}
 use Rattle.net_model.specs.Rows.{plain_circuit}
 use Rattle.match_types.specs.Children.{children_of}
@@ -24,7 +26,12 @@ use Rattle.match_types.specs.declared.answer.Answer.TheVariants as answer
 
 -- two circuits to be compared, as plain records
 abbrev pub pair_of : Circuit → Circuit → ChildPins → Pair
-pair_of left right children = record { left = plain_circuit left; right = plain_circuit right; children = children_of children }
+pair_of left right children = record {
+  left = plain_circuit left;
+  right =
+      plain_circuit right;
+  children = children_of children;
+}
 
 abbrev pub plain_pairing : Pairing → PlainPairing
 plain_pairing f = record { nets = f.nets.items; devices = f.devices.items; calls = f.calls.items }
@@ -56,7 +63,8 @@ row_of g = record {
 }
 
 abbrev pub plain_evidence : Evidence → PlainAnswer
-plain_evidence (evidence.Round round node left right) = DiffersInRound round (plain_node node) left right
+plain_evidence (evidence.Round round node left right) =
+    DiffersInRound round (plain_node node) left right
 plain_evidence (evidence.Tree guesses) = DiffersByTree (map row_of guesses.items)
 
 abbrev pub plain_answer : Answer → PlainAnswer

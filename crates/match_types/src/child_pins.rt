@@ -4,7 +4,8 @@ ghost use Rattle.match_types.specs.Children.{children_of};
 use std::alloc::{AllocError, Global};
 use std::collections::HashMap;
 
-/// For each pair the position of the right pin for each left pin, or nothing where the pair isn't matched or not yet compared.
+/// For each pair the position of the right pin for each left pin, or nothing where the pair isn't
+/// matched or not yet compared.
 #[derive(Drop)]
 pub struct ChildPins {
     lists: HashMap<u32, Vec<u32>>,
@@ -23,7 +24,8 @@ impl ChildPins {
     /// Gives a pair its list.
     pub fn set(&mut self, pair: u32, pins: Vec<u32>) -> Result<(), AllocError>
         ensures set { OnOk result (children_of self.new pair ≡ Some pins.items) }
-        ensures rest { OnOk result ((q : ℕ) → q ≢ pair → children_of self.new q ≡ children_of self.old q) }
+        ensures rest { OnOk result ((q : ℕ) → q ≢ pair
+            → children_of self.new q ≡ children_of self.old q) }
     {
         self.lists.insert(pair, pins)?;
         Ok(())

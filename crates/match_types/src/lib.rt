@@ -1,4 +1,5 @@
-//! What the comparison of two circuits takes and gives: the pins of the called pairs, pairings, nodes, guesses, answers.
+//! What the comparison of two circuits takes and gives: the pins of the called pairs, pairings,
+//! nodes, guesses, answers.
 #![tactic(auto)]
 
 mod answer;

@@ -1,5 +1,6 @@
 -- The partners that are found.
-use Rattle.std.specs.Prelude.{◌≡◌, ◌↔◌, ◌<◌, ℕ, ◌==◌, List, [], length, slice_get, slice_index_or, Option, Some, None, if◌then◌else◌}
+use Rattle.std.specs.Prelude.{◌≡◌, ◌↔◌, ◌<◌, ℕ, ◌==◌, List, [], length, slice_get, slice_index_or}
+use Rattle.std.specs.Prelude.{Option, Some, None, if◌then◌else◌}
 use Rattle.plain_netlist.specs.Netlist.{Netlist}
 use Rattle.align_laws.specs.Partners.{IsPartner}
 use Rattle.net_align.specs.Marks.{IsSole, circuits_called}

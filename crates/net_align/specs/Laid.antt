@@ -1,6 +1,8 @@
 -- A circuit with a called circuit laid into it, as the code makes it: appended behind what is
 -- there.
-use Rattle.std.specs.Prelude.{◌≡◌, ◌<◌, ◌≤◌, ◌+◌, ℕ, suc, Bool, cond, List, [], ◌∷◌, ◌++◌, map, length, drop, Option, Some, slice_get, slice_index, slice_index_or, false, decimal}
+use Rattle.std.specs.Prelude.{◌≡◌, ◌<◌, ◌≤◌, ◌+◌, ℕ, suc, Bool, cond, List, [], ◌∷◌, ◌++◌, map}
+use Rattle.std.specs.Prelude.{length, drop, Option, Some, slice_get, slice_index, slice_index_or}
+use Rattle.std.specs.Prelude.{false, decimal}
 use Rattle.plain_netlist.specs.Netlist.{DeviceRow, CallRow, Circuit}
 use Rattle.align_laws.specs.Flat.{row_through, call_through}
 use Rattle.align_laws.specs.Lists.{FlatCircuit, net_at_pin, inlined, plain}

@@ -1,5 +1,6 @@
 -- Marks of circuits.
-use Rattle.std.specs.Prelude.{◌≡◌, ◌<◌, ℕ, Bool, true, false, List, [], ◌∷◌, length, replicate, slice_set, slice_index_or, Option, Some, None}
+use Rattle.std.specs.Prelude.{◌≡◌, ◌<◌, ℕ, Bool, true, false, List, [], ◌∷◌, length, replicate}
+use Rattle.std.specs.Prelude.{slice_set, slice_index_or, Option, Some, None}
 use Rattle.plain_netlist.specs.Netlist.{CallRow, Circuit, Netlist, IsCall}
 use Rattle.net_model.specs.Faults.{called_by}
 

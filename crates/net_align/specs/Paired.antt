@@ -1,5 +1,6 @@
 -- The pairs that are compared, as two lists.
-use Rattle.std.specs.Prelude.{◌≡◌, ◌<◌, ◌==◌, ◌&&◌, ◌||◌, ℕ, Bool, false, List, length, Option, Some, None, slice_get, slice_index_or, if◌then◌else◌}
+use Rattle.std.specs.Prelude.{◌≡◌, ◌<◌, ◌==◌, ◌&&◌, ◌||◌, ℕ, Bool, false, List, length, Option}
+use Rattle.std.specs.Prelude.{Some, None, slice_get, slice_index_or, if◌then◌else◌}
 
 -- both are called from the tops, and are the tops or have devices; the marks say so of each side
 abbrev pub are_compared : ℕ → List Bool → List Bool → List Bool → List Bool → ℕ → ℕ → Bool

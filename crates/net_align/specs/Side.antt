@@ -1,5 +1,6 @@
 -- One side of an aligned pair.
-use Rattle.std.specs.Prelude.{◌≡◌, ◌<◌, ◌&&◌, ℕ, Bool, true, not, List, length, Option, Some, slice_get, slice_index_or, false}
+use Rattle.std.specs.Prelude.{◌≡◌, ◌<◌, ◌&&◌, ℕ, Bool, true, not, List, length, Option, Some}
+use Rattle.std.specs.Prelude.{slice_get, slice_index_or, false}
 use Rattle.plain_netlist.specs.Netlist.{Netlist}
 use Rattle.align_laws.specs.Aligned.{IsAligned, HasOnlyKept}
 use Rattle.align_laws.specs.Cut.{Alignment}

@@ -1,5 +1,7 @@
 -- The nets of a flat circuit that are held, in the order in which they are seen.
-use Rattle.std.specs.Prelude.{ℕ, suc, ◌==◌, Bool, cond, List, [], ◌∷◌, ◌++◌, length, map, filter, flat_map, slice_get, slice_index_or, Option, Some, None, is_some, unwrap_or, if◌then◌else◌, ◌≡◌}
+use Rattle.std.specs.Prelude.{ℕ, suc, ◌==◌, Bool, cond, List, [], ◌∷◌, ◌++◌, length, map, filter}
+use Rattle.std.specs.Prelude.{flat_map, slice_get, slice_index_or, Option, Some, None, is_some}
+use Rattle.std.specs.Prelude.{unwrap_or, if◌then◌else◌, ◌≡◌}
 use Rattle.std.specs.List.{list_any}
 use Rattle.plain_netlist.specs.Netlist.{CallRow, Circuit}
 use Rattle.plain_netlist.specs.Normal.{terminal_nets}

@@ -1,5 +1,6 @@
 -- The circuits that are called from the top, and those with devices.
-use Rattle.std.specs.Prelude.{◌≡◌, ◌↔◌, ◌+◌, ◌<◌, ◌≤◌, ℕ, Bool, true, false, ◌==◌, ◌||◌, not, List, length, Some, slice_get, slice_index_or}
+use Rattle.std.specs.Prelude.{◌≡◌, ◌↔◌, ◌+◌, ◌<◌, ◌≤◌, ℕ, Bool, true, false, ◌==◌, ◌||◌, not, List}
+use Rattle.std.specs.Prelude.{length, Some, slice_get, slice_index_or}
 use Rattle.std.specs.List.{list_any}
 use Rattle.call_order.specs.Order.{Calls}
 use Rattle.plain_netlist.specs.Netlist.{Netlist}

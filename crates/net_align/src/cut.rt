@@ -1,5 +1,6 @@
 //! Flat circuits cut down to what is held.
-ghost use Rattle.std.specs.Prelude.{◌≡◌, ◌++◌, ℕ, [], IfOk, OnOk, length, map, flat_map, slice_index_or};
+ghost use Rattle.std.specs.Prelude.{◌≡◌, ◌++◌, ℕ, [], IfOk, OnOk, length, map, flat_map};
+ghost use Rattle.std.specs.Prelude.{slice_index_or};
 ghost use Rattle.call_order.specs.Order.{lists};
 ghost use Rattle.net_align.specs.Laid.{AreBelow, AreCircuitsBelow, device_put};
 ghost use Rattle.net_align.specs.Sights.{cut_down, new_of, net_of, short_call, sights};

@@ -1,8 +1,11 @@
 //! A circuit with called circuits laid into it.
-ghost use Rattle.std.specs.Prelude.{◌≡◌, ◌<◌, ◌≤◌, ◌+◌, ◌++◌, ℕ, IfOk, OnOk, length, map, drop, slice_index, slice_get, Some, true};
+ghost use Rattle.std.specs.Prelude.{◌≡◌, ◌<◌, ◌≤◌, ◌+◌, ◌++◌, ℕ, IfOk, OnOk, length, map, drop};
+ghost use Rattle.std.specs.Prelude.{slice_index, slice_get, Some, true};
 ghost use Rattle.align_laws.specs.Lists.{net_at_pin};
 ghost use Rattle.net_model.specs.Rows.{plain_device, plain_call, plain_circuit};
-ghost use Rattle.net_align.specs.Laid.{AreBelow, AreRowsBelow, AreCallsBelow, name_below, device_on, device_put, call_put, laid, stayed, own_part, laid_out, goes_of, AreCircuitsBelow, IsFlatThere, LaidLaw};
+ghost use Rattle.net_align.specs.Laid.{AreBelow, AreRowsBelow, AreCallsBelow, name_below};
+ghost use Rattle.net_align.specs.Laid.{device_on, device_put, call_put, laid, stayed, own_part};
+ghost use Rattle.net_align.specs.Laid.{laid_out, goes_of, AreCircuitsBelow, IsFlatThere, LaidLaw};
 ghost use Rattle.plain_netlist.specs.Netlist.{Circuit as PlainCircuit};
 ghost use Rattle.net_model.specs.declared.netlist.CallRow.{CallRow as Call};
 
@@ -11,7 +14,8 @@ use net_names::Name;
 use std::alloc::{AllocError, Global};
 
 /// The circuit with those of its calls replaced that go: by the nets past the pins, the devices
-/// and the calls of the flat circuit that they call. `flats` has the flat circuit of each that goes.
+/// and the calls of the flat circuit that they call. `flats` has the flat circuit of each that
+/// goes.
 ///
 /// Linear in the result.
 pub fn inline(

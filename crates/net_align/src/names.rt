@@ -1,6 +1,7 @@
 //! The partner of a layout's circuit by its name.
 ghost use Rattle.std.specs.Prelude.{◌≡◌, IfOk, length};
-ghost use Rattle.net_align.specs.Names.{AreOnce, IsNaming, found_in, names_of, left_names, right_names, partner_named, partners_named};
+ghost use Rattle.net_align.specs.Names.{AreOnce, IsNaming, found_in, names_of, left_names};
+ghost use Rattle.net_align.specs.Names.{right_names, partner_named, partners_named};
 ghost use Rattle.net_model.specs.Rows.{plain_netlist};
 
 use net_model::Netlist;

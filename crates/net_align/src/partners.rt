@@ -2,7 +2,8 @@
 ghost use Rattle.std.specs.Prelude.{◌≡◌, ◌<◌, IfOk, IfSome, length, slice_index_or, []};
 ghost use Rattle.net_align.specs.Marks.{AreCallsOfCircuits};
 ghost use Rattle.net_align.specs.Names.{AreOnce, found_in, names_of, left_names, right_names};
-ghost use Rattle.net_align.specs.Found.{ArePartners, AreSettled, FindsPlaced, if_unsaid, other_than, settled};
+ghost use Rattle.net_align.specs.Found.{ArePartners, AreSettled, FindsPlaced, if_unsaid};
+ghost use Rattle.net_align.specs.Found.{other_than, settled};
 ghost use Rattle.net_model.specs.Rows.{plain_netlist};
 
 use crate::marks::{called_circuits, sole_unmarked};

@@ -1,6 +1,7 @@
 //! The nets of a flat circuit that are held: those with a device terminal or a held pin of a kept
 //! circuit's call.
-ghost use Rattle.std.specs.Prelude.{◌≡◌, ◌++◌, ℕ, IfOk, OnOk, length, map, filter, flat_map, slice_index_or};
+ghost use Rattle.std.specs.Prelude.{◌≡◌, ◌++◌, ℕ, IfOk, OnOk, length, map, filter, flat_map};
+ghost use Rattle.std.specs.Prelude.{slice_index_or};
 ghost use Rattle.call_order.specs.Order.{lists};
 ghost use Rattle.net_align.specs.Laid.{AreBelow, AreCircuitsBelow};
 ghost use Rattle.net_align.specs.Sights.{has_number, net_of, call_nets, inner_sights};

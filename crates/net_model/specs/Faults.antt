@@ -5,7 +5,9 @@ use Rattle.plain_netlist.specs.Sound as sound
 use Rattle.plain_netlist.specs.Sound.{IsFirstFault, IsInCycle}
 use Rattle.call_order.specs.Order.{Calls, ReachesItself, IsFirstInCycle}
 use Rattle.net_model.specs.declared.fault.NetFault.{NetFault}
-use Rattle.net_model.specs.declared.fault.NetFault.TheVariants.{NameClash, BadTerminal, NoSuchCircuit, PinCount, CircuitCycle, NoMemory}
+use Rattle.net_model.specs.declared.fault.NetFault.TheVariants.{NameClash, BadTerminal}
+use Rattle.net_model.specs.declared.fault.NetFault.TheVariants.{NoSuchCircuit, PinCount}
+use Rattle.net_model.specs.declared.fault.NetFault.TheVariants.{CircuitCycle, NoMemory}
 
 -- the answer names the netlist's first fault and the first circuit that shows it; want of memory
 -- says nothing of the netlist

@@ -1,6 +1,7 @@
 -- Netlists as plain records.
 use Rattle.std.specs.Prelude.{map}
-use Rattle.plain_netlist.specs.Netlist.{DeviceRow as PlainDevice, CallRow as PlainCall, Circuit as PlainCircuit, Netlist as PlainNetlist}
+use Rattle.plain_netlist.specs.Netlist.{DeviceRow as PlainDevice, CallRow as PlainCall}
+use Rattle.plain_netlist.specs.Netlist.{Circuit as PlainCircuit, Netlist as PlainNetlist}
 use Rattle.net_model.specs.declared.netlist.DeviceRow.{DeviceRow}
 use Rattle.net_model.specs.declared.netlist.CallRow.{CallRow}
 use Rattle.net_model.specs.declared.netlist.Circuit.{Circuit}

@@ -1,5 +1,6 @@
 ghost use Rattle.std.specs.Prelude.{◌≡◌, ◌<◌, ◌^◌, length, map};
-ghost use Rattle.net_model.specs.Tests.{is_out, is_bad_device, is_bad_call, has_bad_terminal, calls_none, is_other_count, has_other_count, first_of};
+ghost use Rattle.net_model.specs.Tests.{is_out, is_bad_device, is_bad_call, has_bad_terminal};
+ghost use Rattle.net_model.specs.Tests.{calls_none, is_other_count, has_other_count, first_of};
 ghost use Rattle.net_model.specs.Rows.{plain_circuit, plain_call, plain_device};
 ghost use Rattle.std.specs.Prelude.{slice_get};
 ghost use Rattle.std.specs.List.{list_any};

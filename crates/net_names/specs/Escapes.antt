@@ -1,5 +1,8 @@
--- Names as SPICE text spells them: bytes that stand for themselves, and escapes that begin with a backslash.
-use Rattle.std.specs.Prelude.{ℕ, zero, suc, ◌+◌, ◌-◌, ◌*◌, ◌/◌, ◌%◌, Bool, not, nat_lt, ◌==◌, ◌||◌, List, [], ◌∷◌, ◌++◌, slice_index, Option, Some, None, if◌then◌else◌, codes}
+-- Names as SPICE text spells them: bytes that stand for themselves, and escapes that begin with a
+-- backslash.
+use Rattle.std.specs.Prelude.{ℕ, zero, suc, ◌+◌, ◌-◌, ◌*◌, ◌/◌, ◌%◌, Bool, not, nat_lt, ◌==◌, ◌||◌}
+use Rattle.std.specs.Prelude.{List, [], ◌∷◌, ◌++◌, slice_index, Option, Some, None, if◌then◌else◌}
+use Rattle.std.specs.Prelude.{codes}
 use Rattle.std.specs.Int.{is_in_range}
 use Rattle.std.specs.Char.{is_ascii_alphanumeric, is_ascii_graphic}
 use Rattle.std.specs.List.{list_any}
@@ -12,7 +15,8 @@ is_plain b = is_ascii_alphanumeric b || list_any (λ sign. sign == b) (codes "_.
 abbrev pub hex_digit : ℕ → ℕ
 hex_digit n = if nat_lt n 10 then 0x30 + n else 0x37 + n
 
--- how a byte is written: as it is, behind a backslash if it is printable, or else as \x and two hexadecimal digits
+-- how a byte is written: as it is, behind a backslash if it is printable, or else as \x and two
+-- hexadecimal digits
 abbrev pub spelling : ℕ → List ℕ
 spelling b =
     if is_plain b then b ∷ []
@@ -37,17 +41,23 @@ abbrev pub hex_byte : Option ℕ → Option ℕ → Option ℕ
 hex_byte (Some high) (Some low) = Some (high * 16 + low)
 hex_byte _ _ = None
 
--- what stands at the front of a text: the byte that is spelled there, none for a bad escape, and how many bytes that takes
+-- what stands at the front of a text: the byte that is spelled there, none for a bad escape, and
+-- how many bytes that takes
 pub record Front : Type 0 where
   pub byte : Option ℕ
   pub width : ℕ
 
--- the front of a text whose first bytes are b and c: a byte but the backslash is itself; \x and \X take two hexadecimal
--- digits of either case; a backslash before another printable byte is that byte
+-- the front of a text whose first bytes are b and c: a byte but the backslash is itself; \x and \X
+-- take two hexadecimal digits of either case; a backslash before another printable byte is that
+-- byte
 abbrev pub front_at : ℕ → ℕ → List ℕ → Front
 front_at b c text =
     if not (b == 0x5C) then record { byte = Some b; width = 1 }
-    else if (c == 0x78 || c == 0x58) then record { byte = hex_byte (hex_value (slice_index text 2)) (hex_value (slice_index text 3)); width = 4 }
+    else if (c == 0x78 || c == 0x58) then record {
+      byte = hex_byte (hex_value (slice_index text 2)) (hex_value (slice_index text 3));
+      width =
+          4;
+    }
     else if is_ascii_graphic c then record { byte = Some c; width = 2 }
     else record { byte = None; width = 1 }
 
@@ -63,7 +73,8 @@ onto _ _ = None
 -- what a text spells behind its first n bytes, none where an escape is bad
 abbrev pub unescaped_behind : ℕ → List ℕ → Option (List ℕ)
 unescaped_behind n [] = Some []
-unescaped_behind zero (b ∷ text) = onto (front (b ∷ text)).byte (unescaped_behind ((front (b ∷ text)).width - 1) text)
+unescaped_behind zero (b ∷ text) =
+    onto (front (b ∷ text)).byte (unescaped_behind ((front (b ∷ text)).width - 1) text)
 unescaped_behind (suc n) (b ∷ text) = unescaped_behind n text
 
 -- the name that a text spells, none where an escape is bad

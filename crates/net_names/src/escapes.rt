@@ -1,5 +1,7 @@
-ghost use Rattle.std.specs.Prelude.{◌≡◌, ◌<◌, ◌≤◌, ◌++◌, length, slice_index, IfOk, OnOk, IfSome, IsErrOf, Some, None};
-ghost use Rattle.net_names.specs.Escapes.{is_plain, hex_digit, spelling, escaped, hex_value, hex_byte, front, unescaped};
+ghost use Rattle.std.specs.Prelude.{◌≡◌, ◌<◌, ◌≤◌, ◌++◌, length, slice_index, IfOk, OnOk, IfSome};
+ghost use Rattle.std.specs.Prelude.{IsErrOf, Some, None};
+ghost use Rattle.net_names.specs.Escapes.{is_plain, hex_digit, spelling, escaped, hex_value};
+ghost use Rattle.net_names.specs.Escapes.{hex_byte, front, unescaped};
 ghost use Rattle.net_names.specs.Spells.{ReadAsSpelledLaw, WrittenAsSpelledLaw};
 
 use crate::name::Name;
@@ -15,8 +17,8 @@ pub enum NameFault {
     NoMemory,
 }
 
-/// The name as SPICE text writes it. Letters, digits and `_./[]<>#:!-` are themselves, other printable bytes stand behind
-/// a backslash, and all others are `\x` and two hexadecimal capitals.
+/// The name as SPICE text writes it. Letters, digits and `_./[]<>#:!-` are themselves, other
+/// printable bytes stand behind a backslash, and all others are `\x` and two hexadecimal capitals.
 pub fn escape(alloc: Global, name: &Name) -> Result<Vec<u8>, AllocError>
     ensures exact { IfOk result (λ text. text.items ≡ escaped name.now) }
     ensures read_back { IfOk result (λ text. unescaped text.items ≡ Some name.now) }
@@ -28,8 +30,8 @@ pub fn escape(alloc: Global, name: &Name) -> Result<Vec<u8>, AllocError>
     Ok(text)
 }
 
-/// The name that SPICE text spells. `\x` or `\X` and two hexadecimal digits are a byte, a backslash before another
-/// printable byte is that byte, and any other backslash is a `BadEscape`.
+/// The name that SPICE text spells. `\x` or `\X` and two hexadecimal digits are a byte, a backslash
+/// before another printable byte is that byte, and any other backslash is a `BadEscape`.
 pub fn unescape(alloc: Global, text: &[u8]) -> Result<Name, NameFault>
     requires { 0 < length text.now }
     ensures name { IfOk result (λ name. unescaped text.now ≡ Some name) }
@@ -148,8 +150,8 @@ fn hex_byte(high: Option<u8>, low: Option<u8>) -> Option<u8>
     }
 }
 
-/// What holds of all texts: what `unescape` reads is what the text spells by rule, and what `escape` writes spells its
-/// name.
+/// What holds of all texts: what `unescape` reads is what the text spells by rule, and what
+/// `escape` writes spells its name.
 pub fn spelling_laws()
     ensures read { ReadAsSpelledLaw }
     ensures written { WrittenAsSpelledLaw }

@@ -1,4 +1,5 @@
-//! Names of cells, nets and devices, which are bytes, and the escapes by which SPICE text spells them.
+//! Names of cells, nets and devices, which are bytes, and the escapes by which SPICE text spells
+//! them.
 #![tactic(auto)]
 
 mod escapes;

@@ -40,7 +40,8 @@ fn file_depot_keeps_a_file(rt: HostRuntime) -> Result<(), Fail> {
     Ok(())
 }
 
-// A folder that isn't there: the file can't be started, and none is found. A full device takes no byte.
+// A folder that isn't there: the file can't be started, and none is found. A full device takes no
+// byte.
 #[test]
 fn file_depot_fails(rt: HostRuntime) -> Result<(), Fail> {
     let alloc = rt.alloc();

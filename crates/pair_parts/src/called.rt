@@ -9,8 +9,10 @@ use net_model::Circuit;
 
 /// The pair of the first call of the left circuit whose pair isn't matched, if there is one.
 pub fn first_unmatched(left: &Circuit, children: &ChildPins) -> Option<u32>
-    ensures some { IfSome result (λ pair. (right : Circuit) → IsFirstUnmatched (pair_of left.now right children.now) pair) }
-    ensures none { IsNone result → (right : Circuit) → AreMatched (pair_of left.now right children.now) }
+    ensures some { IfSome result (λ pair. (right : Circuit)
+        → IsFirstUnmatched (pair_of left.now right children.now) pair) }
+    ensures none { IsNone result → (right : Circuit)
+        → AreMatched (pair_of left.now right children.now) }
 {
     for k in 0..left.calls.len() {
         let pair = left.calls[k].circuit;

@@ -10,7 +10,8 @@ use Rattle.match_laws.specs.Circuits.{Pairing}
 use Rattle.match_laws.specs.Answer.{Answer, Match}
 use Rattle.align_laws.specs.Aligned.{IsAlignedBy, HasOnlyKept, AreKeptFrom}
 use Rattle.align_laws.specs.Cut.{Alignment}
-use Rattle.align_laws.specs.Partners.{IsAlignedPair, AreNamesakes, IsPartner, AreNamesApart, AreLinesApart}
+use Rattle.align_laws.specs.Partners.{IsAlignedPair, AreNamesakes, IsPartner, AreNamesApart}
+use Rattle.align_laws.specs.Partners.{AreLinesApart}
 use Rattle.composed_laws.specs.Answered.{AreAnswers, AreMatches}
 use Rattle.composed_laws.specs.Matched.{AreDevicesMatched, AreNetsMatched}
 

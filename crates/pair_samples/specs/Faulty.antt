@@ -1,7 +1,8 @@
 -- Small netlists that show each fault, and which fault and circuit come first.
 use Rattle.std.specs.Prelude.{ℕ, List, [], ◌∷◌}
 use Rattle.plain_netlist.specs.Netlist.{CallRow, Circuit, Netlist}
-use Rattle.plain_netlist.specs.Sound.{NameClash, BadTerminal, NoSuchCircuit, PinCount, CircuitCycle, IsFirstFault}
+use Rattle.plain_netlist.specs.Sound.{NameClash, BadTerminal, NoSuchCircuit, PinCount, CircuitCycle}
+use Rattle.plain_netlist.specs.Sound.{IsFirstFault}
 
 -- a circuit A without devices
 abbrev pub circuit : List (List ℕ) → List ℕ → List CallRow → Circuit

@@ -6,7 +6,8 @@
 //! No code runs here; the laws are the contract of a function with an empty body.
 #![tactic(auto)]
 
-ghost use Rattle.pair_samples.specs.Chain.{AllFlattenedChainLaw, FurtherChainLaw, MatchedChainLaw, NamesChainLaw, NamesakesChainLaw, WidthChainLaw};
+ghost use Rattle.pair_samples.specs.Chain.{AllFlattenedChainLaw, FurtherChainLaw, MatchedChainLaw};
+ghost use Rattle.pair_samples.specs.Chain.{NamesChainLaw, NamesakesChainLaw, WidthChainLaw};
 ghost use Rattle.pair_samples.specs.Faulty.{FirstFaultsLaw};
 
 /// Each pair matches, so both netlists expand to the same; and what isn't an aligned pair is

@@ -22,16 +22,22 @@ pub record AreMaps (left right : CircuitRow) (f : Pairing) : Type 0 where
 
 -- a net is a pin exactly where its image is
 abbrev pub ArePinsKept : Circuit → Circuit → List ℕ → Type 0
-ArePinsKept left right nets = (n : ℕ) → n < length nets → IsListed n left.pins ↔ IsListed (slice_index nets n) right.pins
+ArePinsKept left right nets =
+    (n : ℕ) → n < length nets → IsListed n left.pins ↔ IsListed (slice_index nets n) right.pins
 
 -- each device goes to its image
 abbrev pub AreDeviceImages : Circuit → Circuit → List ℕ → List ℕ → Type 0
-AreDeviceImages left right nets devices = (k : ℕ) (d e : DeviceRow) → slice_get left.devices k ≡ Some d → slice_get right.devices (slice_index devices k) ≡ Some e → IsDeviceImage nets d e
+AreDeviceImages left right nets devices = (k : ℕ) (d e : DeviceRow)
+    → slice_get left.devices k ≡ Some d → slice_get right.devices (slice_index devices k) ≡ Some e
+    → IsDeviceImage nets d e
 
 -- each call goes to its image
 abbrev pub AreCallImages : (ℕ → Option (List ℕ)) → Circuit → Circuit → List ℕ → List ℕ → Type 0
-AreCallImages children left right nets calls = (k : ℕ) (c e : CallRow) → slice_get left.calls k ≡ Some c → slice_get right.calls (slice_index calls k) ≡ Some e → IsCallImage children nets c e
+AreCallImages children left right nets calls = (k : ℕ) (c e : CallRow)
+    → slice_get left.calls k ≡ Some c → slice_get right.calls (slice_index calls k) ≡ Some e
+    → IsCallImage children nets c e
 
 -- the net at each left pin goes to the net at its right pin
 abbrev pub HasImagePins : List ℕ → List ℕ → List ℕ → List ℕ → Type 0
-HasImagePins nets pins left right = (i : ℕ) → i < length left → slice_index nets (slice_index left i) ≡ slice_index right (slice_index pins i)
+HasImagePins nets pins left right = (i : ℕ) → i < length left
+    → slice_index nets (slice_index left i) ≡ slice_index right (slice_index pins i)

@@ -20,7 +20,8 @@ pub fn calls_kept(
     requires pins { ArePinsOf (plain_circuit left.now) (children_of children.now) }
     requires count { length calls.now ≡ length left.now.calls.items }
     requires onto { AreBelow calls.now (length right.now.calls.items) }
-    ensures { Decides result (AreCallImages (children_of children.now) (plain_circuit left.now) (plain_circuit right.now) nets.now calls.now) }
+    ensures { Decides result (AreCallImages (children_of children.now) (plain_circuit left.now)
+        (plain_circuit right.now) nets.now calls.now) }
 {
     for k in 0..calls.len() {
         let image = &right.calls[calls[k] as usize];
@@ -35,7 +36,8 @@ pub fn calls_kept(
 fn is_call_image(children: &ChildPins, nets: &[u32], left: &CallRow, right: &CallRow) -> bool
     requires nets { AreBelow left.now.nets.items (length nets.now) }
     requires pins { AreCallPins (children_of children.now) (plain_call left.now) }
-    ensures { Decides result (IsCallImage (children_of children.now) nets.now (plain_call left.now) (plain_call right.now)) }
+    ensures { Decides result (IsCallImage (children_of children.now) nets.now (plain_call left.now)
+        (plain_call right.now)) }
 {
     if left.circuit != right.circuit || left.nets.len() != right.nets.len() {
         return false;

@@ -35,7 +35,8 @@ impl Marks {
     }
 }
 
-/// Whether the pairing is a correspondence of the two circuits. It takes no memory, and time in proportion to the size of the circuits.
+/// Whether the pairing is a correspondence of the two circuits. It takes no memory, and time in
+/// proportion to the size of the circuits.
 pub fn check_pairing(
     left: &Circuit,
     right: &Circuit,
@@ -46,7 +47,8 @@ pub fn check_pairing(
     requires room { AreMarksFor marks.old right.now }
     requires left { IsFitting (pair_of left.now right.now children.now) Layout }
     requires right { IsFitting (pair_of left.now right.now children.now) Schematic }
-    ensures exact { Decides result (IsCorrespondence (pair_of left.now right.now children.now) (plain_pairing pairing.now)) }
+    ensures exact { Decides result (IsCorrespondence (pair_of left.now right.now children.now)
+        (plain_pairing pairing.now)) }
     ensures room { AreMarksFor marks.new right.now }
 {
     if !maps_onto(left, right, pairing, marks) {
@@ -76,7 +78,8 @@ fn maps_onto(left: &Circuit, right: &Circuit, pairing: &Pairing, marks: &mut Mar
     is_onto_map(&pairing.calls, left.calls.len(), &mut marks.calls)
 }
 
-// Whether the numbers are a one-to-one map of the numbers below `count` onto those below the number of marks.
+// Whether the numbers are a one-to-one map of the numbers below `count` onto those below the number
+// of marks.
 fn is_onto_map(numbers: &[u32], count: usize, marks: &mut [bool]) -> bool
     ensures { Decides result (IsOneToOne numbers.now count (length marks.old)) }
 {

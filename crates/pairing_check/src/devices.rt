@@ -12,7 +12,8 @@ pub fn devices_kept(left: &Circuit, right: &Circuit, nets: &[u32], devices: &[u3
     requires nets { AreDevicesOn (plain_circuit left.now) (length nets.now) }
     requires count { length devices.now ≡ length left.now.devices.items }
     requires onto { AreBelow devices.now (length right.now.devices.items) }
-    ensures { Decides result (AreDeviceImages (plain_circuit left.now) (plain_circuit right.now) nets.now devices.now) }
+    ensures { Decides result (AreDeviceImages (plain_circuit left.now) (plain_circuit right.now)
+        nets.now devices.now) }
 {
     for k in 0..devices.len() {
         let image = &right.devices[devices[k] as usize];

@@ -17,7 +17,8 @@ pub fn pins_kept(
     requires count { length nets.now ≡ length left.now.nets.items }
     requires onto { AreBelow nets.now (length right_marks.old) }
     requires same { length left_marks.old ≡ length nets.now }
-    ensures { Decides result (ArePinsKept (plain_circuit left.now) (plain_circuit right.now) nets.now) }
+    ensures { Decides result (ArePinsKept (plain_circuit left.now) (plain_circuit right.now)
+        nets.now) }
 {
     mark(&left.pins, left_marks);
     mark(&right.pins, right_marks);

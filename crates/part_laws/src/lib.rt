@@ -1,9 +1,11 @@
-//! Rounds that look at some classes only, and rounds that go on from stable classes when one more pair is guessed: laws.
+//! Rounds that look at some classes only, and rounds that go on from stable classes when one more
+//! pair is guessed: laws.
 //!
 //! No code runs here; each law is the contract of a function with an empty body.
 #![tactic(auto)]
 
-ghost use Rattle.part_laws.specs.Parting.{FewLaw, PairLaw, UnionLaw, StartLaw, StepLaw, EndLaw, BeforeLaw, LastLaw};
+ghost use Rattle.part_laws.specs.Parting.{FewLaw, PairLaw, UnionLaw, StartLaw, StepLaw, EndLaw};
+ghost use Rattle.part_laws.specs.Parting.{BeforeLaw, LastLaw};
 ghost use Rattle.part_laws.specs.Renamed.{RenamedLaw};
 
 /// A round may look at all parts but one of each class that was parted in the round before.
@@ -11,8 +13,9 @@ pub fn parting()
     ensures few { FewLaw }
 {}
 
-/// Stable classes under one more guess come from the stable classes without it: the pair is singled out, and the classes are parted until no
-/// part is left to look at. Where those classes are even on the way, so are the stable ones.
+/// Stable classes under one more guess come from the stable classes without it: the pair is singled
+/// out, and the classes are parted until no part is left to look at. Where those classes are even
+/// on the way, so are the stable ones.
 pub fn resuming()
     ensures pair { PairLaw }
     ensures start { StartLaw }

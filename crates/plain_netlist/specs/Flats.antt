@@ -1,6 +1,7 @@
 -- Flat netlists of any kind, what a circuit expands to as one, and when two are the same.
 use Rattle.std.specs.Prelude.{◌≡◌, ◌⊎◌, ◌↔◌, ℕ, List}
-use Rattle.plain_netlist.specs.Netlist.{Pole, Source, Gate, Drain, Bulk, DeviceRow, on, Netlist, Slot, slot, InOneNet, HasDevice, IsOnPin}
+use Rattle.plain_netlist.specs.Netlist.{Pole, Source, Gate, Drain, Bulk, DeviceRow, on, Netlist}
+use Rattle.plain_netlist.specs.Netlist.{Slot, slot, InOneNet, HasDevice, IsOnPin}
 
 -- a transistor over nets of any kind: its class, its sizes in femtometres, its terminals' nets
 pub record Row (N : Type 0) : Type 0 where

@@ -1,7 +1,9 @@
 -- What can be wrong with a netlist, which circuit shows it first, and what a sound netlist is.
-use Rattle.std.specs.Prelude.{◌≡◌, ◌≢◌, ◌⊎◌, ◌↔◌, ◌<◌, ◌≤◌, ℕ, List, [], ◌∷◌, length, Some, slice_get}
+use Rattle.std.specs.Prelude.{◌≡◌, ◌≢◌, ◌⊎◌, ◌↔◌, ◌<◌, ◌≤◌, ℕ, List, [], ◌∷◌, length, Some}
+use Rattle.std.specs.Prelude.{slice_get}
 use Rattle.plain_netlist.specs.Lists.{IsListed}
-use Rattle.plain_netlist.specs.Netlist.{Pole, on, DeviceRow, CallRow, Circuit, Netlist, IsCircuit, IsCall, IsDevice, IsPin, HasNet, HasDevice}
+use Rattle.plain_netlist.specs.Netlist.{Pole, on, DeviceRow, CallRow, Circuit, Netlist, IsCircuit}
+use Rattle.plain_netlist.specs.Netlist.{IsCall, IsDevice, IsPin, HasNet, HasDevice}
 use Rattle.plain_netlist.specs.Normal.{appearances, IsNormalNetlist}
 
 -- a path of calls leads from circuit c to circuit d
@@ -120,7 +122,8 @@ OneFaultLaw = (nl : Netlist) (f g : NetlistFault) (c d : ℕ)
 -- the calls of a sound netlist go down in some height
 abbrev pub HeightLaw : Type 0
 HeightLaw = (nl : Netlist) → IsSoundNetlist nl
-    → (height : ℕ → ℕ) × ((c k : ℕ) (row : CallRow) → IsCall nl c k row → height row.circuit < height c)
+    → (height : ℕ → ℕ) × ((c k : ℕ) (row : CallRow) → IsCall nl c k row
+    → height row.circuit < height c)
 
 -- in normal form it is good with that height
 abbrev pub GoodLaw : Type 0

@@ -7,9 +7,11 @@
 //! each law is the contract of a function with an empty body.
 #![tactic(auto)]
 
-ghost use Rattle.plain_netlist.specs.FlatLaws.{ComposedLaw, OneImageLaw, ReversedLaw, SameLaw, TerminalLaw};
+ghost use Rattle.plain_netlist.specs.FlatLaws.{ComposedLaw, OneImageLaw, ReversedLaw, SameLaw};
+ghost use Rattle.plain_netlist.specs.FlatLaws.{TerminalLaw};
 ghost use Rattle.plain_netlist.specs.OneNet.{SelfLaw, TurnLaw, ThroughLaw};
-ghost use Rattle.plain_netlist.specs.Sound.{GoodFaultLaw, GoodLaw, HeightLaw, NormalNetsLaw, OneFaultLaw, SoundLaw};
+ghost use Rattle.plain_netlist.specs.Sound.{GoodFaultLaw, GoodLaw, HeightLaw, NormalNetsLaw};
+ghost use Rattle.plain_netlist.specs.Sound.{OneFaultLaw, SoundLaw};
 
 /// Standing on one net is an equivalence, so that a net is named by any of its slots.
 pub fn net_classes()

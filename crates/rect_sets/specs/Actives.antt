@@ -1,5 +1,6 @@
 -- Edges that cross a row.
-use Rattle.std.specs.Prelude.{◌≡◌, ◌⊎◌, ℕ, ℤ, pos, negsuc, ◌+◌, ◌<◌, ◌≤◌, ◌+ℤ◌, ◌≤ℤ◌, ◌<ℤ◌, Bool, true, false, List, [], ◌∷◌, length, take, drop, slice_index_or}
+use Rattle.std.specs.Prelude.{◌≡◌, ◌⊎◌, ℕ, ℤ, pos, negsuc, ◌+◌, ◌<◌, ◌≤◌, ◌+ℤ◌, ◌≤ℤ◌, ◌<ℤ◌, Bool}
+use Rattle.std.specs.Prelude.{true, false, List, [], ◌∷◌, length, take, drop, slice_index_or}
 use Rattle.rect_sets.specs.Edges.{sum_where}
 use Rattle.rect_sets.specs.Rows.{AreInOrder, AreUpTo}
 use Rattle.rect_sets.specs.declared.row.Edge.{Edge}

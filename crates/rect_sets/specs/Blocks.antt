@@ -1,5 +1,6 @@
 -- Edges that are swept.
-use Rattle.std.specs.Prelude.{◌≡◌, ℕ, ℤ, ◌+ℤ◌, ◌≤ℤ◌, Bool, List, [], ◌∷◌, length, drop, ◌+◌, ◌<◌, slice_index_or}
+use Rattle.std.specs.Prelude.{◌≡◌, ℕ, ℤ, ◌+ℤ◌, ◌≤ℤ◌, Bool, List, [], ◌∷◌, length, drop, ◌+◌, ◌<◌}
+use Rattle.std.specs.Prelude.{slice_index_or}
 use Rattle.std.specs.List.{All}
 use Rattle.rect_sets.specs.Edges.{sum_where, set_of}
 use Rattle.rect_sets.specs.Actives.{leftmost, Follows, AreNext, Ignores, IsReady}

@@ -1,5 +1,6 @@
 -- Rectangles in order.
-use Rattle.std.specs.Prelude.{◌≡◌, ◌⊎◌, ℕ, ◌+◌, ◌<◌, ◌≤ℤ◌, ◌<ℤ◌, Bool, ◌&&◌, List, [], ◌∷◌, ◌++◌, length, take, slice_index_or}
+use Rattle.std.specs.Prelude.{◌≡◌, ◌⊎◌, ℕ, ◌+◌, ◌<◌, ◌≤ℤ◌, ◌<ℤ◌, Bool, ◌&&◌, List, [], ◌∷◌, ◌++◌}
+use Rattle.std.specs.Prelude.{length, take, slice_index_or}
 use Rattle.std.specs.Ordering.{int_eq}
 use Rattle.rect_sets.specs.Rects.{IsOrdered, IsListed}
 use Rattle.geo_base.specs.declared.shapes.Rect.{Rect}

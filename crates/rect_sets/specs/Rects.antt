@@ -1,5 +1,6 @@
 -- Finite sets of unit squares as lists of rectangles.
-use Rattle.std.specs.Prelude.{◌≡◌, ◌↔◌, ◌⊎◌, ℤ, pos, ◌-ℤ◌, ◌≤ℤ◌, ◌<ℤ◌, Bool, true, false, List, [], ◌∷◌}
+use Rattle.std.specs.Prelude.{◌≡◌, ◌↔◌, ◌⊎◌, ℤ, pos, ◌-ℤ◌, ◌≤ℤ◌, ◌<ℤ◌, Bool, true, false, List, []}
+use Rattle.std.specs.Prelude.{◌∷◌}
 use Rattle.std.specs.List.{All, list_any}
 use Rattle.geo_base.specs.Rects.{has, IsRect}
 use Rattle.geo_base.specs.declared.shapes.Rect.{Rect}

@@ -1,5 +1,6 @@
 -- One row of a set that is given by weighted edges.
-use Rattle.std.specs.Prelude.{◌≡◌, ℕ, ℤ, pos, ◌*◌, ◌+ℤ◌, ◌-ℤ◌, ◌≤ℤ◌, int_le, int_lt, Bool, ◌&&◌, ◌||◌, List, [], ◌∷◌, take, drop, if◌then◌else◌}
+use Rattle.std.specs.Prelude.{◌≡◌, ℕ, ℤ, pos, ◌*◌, ◌+ℤ◌, ◌-ℤ◌, ◌≤ℤ◌, int_le, int_lt, Bool, ◌&&◌}
+use Rattle.std.specs.Prelude.{◌||◌, List, [], ◌∷◌, take, drop, if◌then◌else◌}
 use Rattle.geo_base.specs.Rects.{is_between}
 use Rattle.rect_sets.specs.Edges.{holds, first_of, second_of}
 use Rattle.rect_sets.specs.Spans.{covers, AreApart}

@@ -5,7 +5,8 @@ ghost use Rattle.std.specs.List.{All};
 ghost use Rattle.geo_base.specs.Rects.{IsRect};
 ghost use Rattle.rect_sets.specs.Rects.{covers};
 ghost use Rattle.rect_sets.specs.Sweeps.{AreBlocks};
-ghost use Rattle.rect_sets.specs.Combined.{IsWeight, left_of, right_of, edges_of, combined, combined_set};
+ghost use Rattle.rect_sets.specs.Combined.{IsWeight, left_of, right_of, edges_of, combined};
+ghost use Rattle.rect_sets.specs.Combined.{combined_set};
 
 use crate::row::{Edge, Rule};
 use crate::strips::blocks;

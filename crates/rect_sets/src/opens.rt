@@ -2,7 +2,8 @@
 
 ghost use Rattle.std.specs.Prelude.{◌≡◌, ℤ, ◌<◌, ◌++◌, length, OnOk};
 ghost use Rattle.rect_sets.specs.Spans.{AreApart};
-ghost use Rattle.rect_sets.specs.Opens.{spans_of, nexts, ended, rect_of, fresh, is_same, IsTurn, HasLeft, ArePartsApart, Advances};
+ghost use Rattle.rect_sets.specs.Opens.{spans_of, nexts, ended, rect_of, fresh, is_same, IsTurn};
+ghost use Rattle.rect_sets.specs.Opens.{HasLeft, ArePartsApart, Advances};
 
 use crate::row::Span;
 use geo_base::Rect;

@@ -1,7 +1,8 @@
 //! Rectangles cut in two by a line, and those that touch it.
 
 ghost use Rattle.std.specs.Prelude.{◌≡◌, ◌++◌, OnOk, [], ◌∷◌};
-ghost use Rattle.rect_sets.specs.Divided.{low_part, high_part, begins_before, ends_after, lows, highs, touches, kept, cut_off};
+ghost use Rattle.rect_sets.specs.Divided.{low_part, high_part, begins_before, ends_after, lows};
+ghost use Rattle.rect_sets.specs.Divided.{highs, touches, kept, cut_off};
 
 use crate::cuts::{Axis, Cut};
 use geo_base::Rect;

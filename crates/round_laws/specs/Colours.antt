@@ -1,6 +1,7 @@
 -- Colours in place of classes: a round by colours, and a round that looks at changed neighbours
 -- alone.
-use Rattle.std.specs.Prelude.{◌≡◌, ◌↔◌, ℕ, suc, ◌==◌, ◌&&◌, Bool, true, false, List, [], filter, count_by}
+use Rattle.std.specs.Prelude.{◌≡◌, ◌↔◌, ℕ, suc, ◌==◌, ◌&&◌, Bool, true, false, List, [], filter}
+use Rattle.std.specs.Prelude.{count_by}
 use Rattle.round_laws.specs.Web.{Port, same_port, End, Web, IsWeb, IsNode, agree, same_ends}
 use Rattle.round_laws.specs.Nodes.{Node}
 

@@ -1,8 +1,10 @@
 -- The search over guesses, where the rounds leave ties: whom it guesses, in which order, with which
 -- ends, up to which limit.
-use Rattle.std.specs.Prelude.{◌≡◌, ◌≢◌, ◌⊎◌, ◌<◌, ◌≤◌, ◌+◌, ◌&&◌, ℕ, suc, Bool, not, List, [], ◌∷◌, ◌++◌, filter}
+use Rattle.std.specs.Prelude.{◌≡◌, ◌≢◌, ◌⊎◌, ◌<◌, ◌≤◌, ◌+◌, ◌&&◌, ℕ, suc, Bool, not, List, [], ◌∷◌}
+use Rattle.std.specs.Prelude.{◌++◌, filter}
 use Rattle.plain_netlist.specs.Lists.{IsListed}
-use Rattle.round_laws.specs.Web.{Web, IsWeb, agree, on_left, IsEven, IsStable, IsRefuted, IsSolved, IsWebMap, Guess, under}
+use Rattle.round_laws.specs.Web.{Web, IsWeb, agree, on_left, IsEven, IsStable, IsRefuted, IsSolved}
+use Rattle.round_laws.specs.Web.{IsWebMap, Guess, under}
 use Rattle.round_laws.specs.Nodes.{Node, Kind, Net, Device, Call}
 
 -- a web, which nodes have equal names, and how many guesses may end refuted

@@ -2,7 +2,8 @@
 use Rattle.std.specs.Prelude.{◌≡◌, ◌≤◌, ℕ, true, List, ◌++◌, length}
 use Rattle.std.specs.Cmp.{IsEquivalence}
 use Rattle.plain_netlist.specs.Lists.{IsListed}
-use Rattle.round_laws.specs.Web.{Web, IsWeb, IsNode, agree, IsEven, IsStable, IsRefuted, IsSolved, IsWebMap, Guess, under, Keeps, mate}
+use Rattle.round_laws.specs.Web.{Web, IsWeb, IsNode, agree, IsEven, IsStable, IsRefuted, IsSolved}
+use Rattle.round_laws.specs.Web.{IsWebMap, Guess, under, Keeps, mate}
 use Rattle.round_laws.specs.Nodes.{Node}
 
 -- agreeing is an equivalence in each round

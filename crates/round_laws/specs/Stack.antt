@@ -2,7 +2,9 @@
 use Rattle.std.specs.Prelude.{◌≡◌, ◌↔◌, ◌+◌, ℕ, suc, List, [], ◌∷◌, ◌++◌, length}
 use Rattle.round_laws.specs.Web.{IsRefuted, Guess, under}
 use Rattle.round_laws.specs.Nodes.{Node}
-use Rattle.round_laws.specs.Guesses.{Setting, IsChosen, candidates, Search, Ended, Refuted, Below, refuted_in, HasEnded, HasFound, solved_guesses, guessed, IsNext, IsSearch, Row, IsOpen, rows}
+use Rattle.round_laws.specs.Guesses.{Setting, IsChosen, candidates, Search, Ended, Refuted, Below}
+use Rattle.round_laws.specs.Guesses.{refuted_in, HasEnded, HasFound, solved_guesses, guessed}
+use Rattle.round_laws.specs.Guesses.{IsNext, IsSearch, Row, IsOpen, rows}
 
 -- a candidate that was tried, to no avail
 pub data Entry : Type 0 where

@@ -1,6 +1,7 @@
 -- Two graphs whose nodes are told apart round by round: agreeing, even classes, stable rounds,
 -- guesses, correspondences.
-use Rattle.std.specs.Prelude.{◌≡◌, ◌≢◌, ◌⊎◌, ◌<◌, ◌≤◌, ◌==◌, ◌&&◌, ◌||◌, ℕ, zero, suc, Bool, true, false, List, [], ◌∷◌, ◌++◌, ◌+◌, cond, count_by, Decides}
+use Rattle.std.specs.Prelude.{◌≡◌, ◌≢◌, ◌⊎◌, ◌<◌, ◌≤◌, ◌==◌, ◌&&◌, ◌||◌, ℕ, zero, suc, Bool, true}
+use Rattle.std.specs.Prelude.{false, List, [], ◌∷◌, ◌++◌, ◌+◌, cond, count_by, Decides}
 use Rattle.std.specs.List.{list_all, list_any}
 use Rattle.plain_netlist.specs.Lists.{IsListed}
 use Rattle.std.specs.Cmp.{IsEquivalence}

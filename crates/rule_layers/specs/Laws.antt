@@ -1,4 +1,5 @@
--- Conductors are read as their names; grounds are known globals; the terminals of a sound rule set's devices are conductors.
+-- Conductors are read as their names; grounds are known globals; the terminals of a sound rule
+-- set's devices are conductors.
 use Rattle.std.specs.Prelude.{◌≡◌, ◌<◌, ℕ, true, false, length, slice_get, get_or, Some}
 use Rattle.flat_layout.specs.Gates.{Rule, ground}
 use Rattle.flat_layout.specs.Layers.{Empty}
@@ -11,7 +12,8 @@ use Rattle.rule_layers.specs.Meaning.{device_rules, wiring_of}
 
 -- what a name reads as a conductor
 pub record IsReadAs (r : Rules) (k : ℕ) : Type 0 where
-  pub conductor : is_conductor k r ≡ true → reading (wiring_of r) k ≡ get_or (readings r.names) k Empty
+  pub conductor : is_conductor k r ≡ true
+      → reading (wiring_of r) k ≡ get_or (readings r.names) k Empty
   pub none : is_conductor k r ≡ false → reading (wiring_of r) k ≡ Empty
 
 abbrev pub ConductorLaw : Type 0
@@ -19,7 +21,8 @@ ConductorLaw = (r : Rules) (k : ℕ) → IsReadAs r k
 
 -- a conductor's global is one of the globals
 abbrev pub KnownGlobalLaw : Type 0
-KnownGlobalLaw = (r : Rules) (u : Rule) (g : ℕ) → ground (wiring_of r) u ≡ Some g → g < length (wiring_of r).globals
+KnownGlobalLaw = (r : Rules) (u : Rule) (g : ℕ) → ground (wiring_of r) u ≡ Some g
+    → g < length (wiring_of r).globals
 
 -- the terminals of a device are conductors
 pub record AreTerminalsConductors (r : Rules) (u : Rule) : Type 0 where
@@ -28,4 +31,5 @@ pub record AreTerminalsConductors (r : Rules) (u : Rule) : Type 0 where
   pub tb : is_conductor u.tb r ≡ true
 
 abbrev pub TerminalConductorLaw : Type 0
-TerminalConductorLaw = (r : Rules) (n : ℕ) (u : Rule) → IsSound r → slice_get (device_rules r) n ≡ Some u → AreTerminalsConductors r u
+TerminalConductorLaw = (r : Rules) (n : ℕ) (u : Rule) → IsSound r
+    → slice_get (device_rules r) n ≡ Some u → AreTerminalsConductors r u

@@ -1,5 +1,7 @@
--- What a rule set says of conductors, globals, labels and devices, in the plain words of the layout.
-use Rattle.std.specs.Prelude.{ℕ, suc, ◌||◌, if◌then◌else◌, List, [], ◌∷◌, ◌++◌, map, flat_map, slice_get, get_or, Option, Some, None}
+-- What a rule set says of conductors, globals, labels and devices, in the plain words of the
+-- layout.
+use Rattle.std.specs.Prelude.{ℕ, suc, ◌||◌, if◌then◌else◌, List, [], ◌∷◌, ◌++◌, map, flat_map}
+use Rattle.std.specs.Prelude.{slice_get, get_or, Option, Some, None}
 use Rattle.std.specs.List.{list_any, position_or_len}
 use Rattle.std.specs.Str.{bytes_eq}
 use Rattle.net_names.specs.Folding.{folded_bytes}
@@ -18,14 +20,16 @@ use Rattle.rule_layers.specs.Readings.{readings}
 -- what each name reads as a conductor, k being the first name's number: nothing where it is none
 abbrev pub conductor_readings : Rules → ℕ → List Reading → List Reading
 conductor_readings r k [] = []
-conductor_readings r k (x ∷ xs) = (if is_conductor k r then x else Empty) ∷ conductor_readings r (suc k) xs
+conductor_readings r k (x ∷ xs) =
+    (if is_conductor k r then x else Empty) ∷ conductor_readings r (suc k) xs
 
 abbrev pub line : ℕ → ℕ → Line
 line a b = record { first = a; second = b }
 
 -- a connect line joins two conductors, unless one of its names is a labels name
 abbrev pub joins_of : Rules → List Line
-joins_of r = flat_map (λ c. if has_texts c.0 r.names || has_texts c.1 r.names then [] else line c.0 c.1 ∷ []) r.connects
+joins_of r = flat_map (λ c. if has_texts c.0 r.names
+    || has_texts c.1 r.names then [] else line c.0 c.1 ∷ []) r.connects
 
 -- the layer of texts of a labels name
 abbrev pub form_texts : LayerForm → List LayerKey
@@ -44,12 +48,14 @@ labels_by conductor keys = map (λ key. record { key = key; conductor = conducto
 
 -- then it connects texts to the other name, on whichever side the labels name stands
 abbrev pub labels_of : Rules → List Label
-labels_of r = flat_map (λ c. labels_by c.1 (texts_of r c.0) ++ labels_by c.0 (texts_of r c.1)) r.connects
+labels_of r =
+    flat_map (λ c. labels_by c.1 (texts_of r c.0) ++ labels_by c.0 (texts_of r c.1)) r.connects
 
 -- the different names of globals, behind those that were seen
 abbrev pub globals_behind : List (List ℕ) → List (ℕ × List ℕ) → List (List ℕ)
 globals_behind seen [] = seen
-globals_behind seen (g ∷ gs) = globals_behind (if list_any (bytes_eq g.1) seen then seen else seen ++ g.1 ∷ []) gs
+globals_behind seen (g ∷ gs) =
+    globals_behind (if list_any (bytes_eq g.1) seen then seen else seen ++ g.1 ∷ []) gs
 
 -- by first line
 abbrev pub globals_of : Rules → List (List ℕ)

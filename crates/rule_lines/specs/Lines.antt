@@ -1,5 +1,6 @@
 -- The lines of a text: an LF or a CR LF ends one.
-use Rattle.std.specs.Prelude.{ℕ, ◌-◌, Bool, false, ◌==◌, ◌&&◌, ◌||◌, nat_le, List, [], ◌∷◌, length, take, slice_index, if◌then◌else◌}
+use Rattle.std.specs.Prelude.{ℕ, ◌-◌, Bool, false, ◌==◌, ◌&&◌, ◌||◌, nat_le, List, [], ◌∷◌, length}
+use Rattle.std.specs.Prelude.{take, slice_index, if◌then◌else◌}
 
 -- a byte that stands in no text
 abbrev pub is_no_text : ℕ → Bool
@@ -23,4 +24,5 @@ lines_of (c ∷ cs) =
 
 -- without a CR at its end
 abbrev pub chopped : List ℕ → List ℕ
-chopped line = if slice_index line (length line - 1) == 0x0D then take (length line - 1) line else line
+chopped line =
+    if slice_index line (length line - 1) == 0x0D then take (length line - 1) line else line

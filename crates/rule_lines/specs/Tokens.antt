@@ -1,8 +1,11 @@
--- The tokens of a line: what stands at its front and how many bytes that takes, then the tokens behind.
-use Rattle.std.specs.Prelude.{ℕ, zero, suc, ◌+◌, ◌-◌, Bool, ◌==◌, ◌&&◌, ◌||◌, nat_lt, nat_le, List, [], ◌∷◌, ◌++◌, length, take, drop, slice_index, if◌then◌else◌}
+-- The tokens of a line: what stands at its front and how many bytes that takes, then the tokens
+-- behind.
+use Rattle.std.specs.Prelude.{ℕ, zero, suc, ◌+◌, ◌-◌, Bool, ◌==◌, ◌&&◌, ◌||◌, nat_lt, nat_le, List}
+use Rattle.std.specs.Prelude.{[], ◌∷◌, ◌++◌, length, take, drop, slice_index, if◌then◌else◌}
 use Rattle.std.specs.List.{prefix_len, position_or_len}
 
--- a word is a run of letters, digits and _; a text is what two equal quotes enclose; bad is what begins no token, with the rest of the line
+-- a word is a run of letters, digits and _; a text is what two equal quotes enclose; bad is what
+-- begins no token, with the rest of the line
 pub data Token : Type 0 where
   Word : (bytes : List ℕ) → Token
   Text : (bytes : List ℕ) → Token
@@ -33,7 +36,8 @@ is_quote b = b == 0x22 || b == 0x27
 
 -- & ( ) , - . = ^ { | }
 abbrev pub is_mark : ℕ → Bool
-is_mark b = b == 0x26 || b == 0x28 || b == 0x29 || b == 0x2C || b == 0x2D || b == 0x2E || b == 0x3D || b == 0x5E || b == 0x7B || b == 0x7C || b == 0x7D
+is_mark b = b == 0x26 || b == 0x28 || b == 0x29 || b == 0x2C || b == 0x2D || b == 0x2E || b == 0x3D
+    || b == 0x5E || b == 0x7B || b == 0x7C || b == 0x7D
 
 -- what stands at the front of some bytes, and how many of them it takes
 pub record Piece : Type 0 where
@@ -48,14 +52,16 @@ one t n = record { tokens = t ∷ []; width = n }
 
 -- the text behind a quote, where the next such quote stands at n
 abbrev pub text_until : ℕ → List ℕ → Piece
-text_until n behind = if nat_lt n (length behind) then one (Text (take n behind)) (n + 2) else one Bad (length behind + 1)
+text_until n behind = if nat_lt n (length behind) then one (Text (take n behind)) (n + 2) else one
+    Bad (length behind + 1)
 
 -- blanks and the comment are passed over
 abbrev pub piece_at : ℕ → List ℕ → Piece
 piece_at c bytes =
     if is_blank c then passed 1
     else if c == 0x23 then passed (length bytes)
-    else if is_word c then one (Word (take (prefix_len is_word bytes) bytes)) (prefix_len is_word bytes)
+    else if is_word c then one (Word (take (prefix_len is_word bytes) bytes))
+    (prefix_len is_word bytes)
     else if is_quote c then text_until (position_or_len (λ b. b == c) (drop 1 bytes)) (drop 1 bytes)
     else if c == 0x3D && slice_index bytes 1 == 0x3E then one Arrow 2
     else if is_mark c then one (Mark c) 1
@@ -67,7 +73,8 @@ piece bytes = piece_at (slice_index bytes 0) bytes
 -- the tokens behind so many bytes
 abbrev pub tokens_behind : ℕ → List ℕ → List Token
 tokens_behind n [] = []
-tokens_behind zero (c ∷ cs) = (piece (c ∷ cs)).tokens ++ tokens_behind ((piece (c ∷ cs)).width - 1) cs
+tokens_behind zero (c ∷ cs) =
+    (piece (c ∷ cs)).tokens ++ tokens_behind ((piece (c ∷ cs)).width - 1) cs
 tokens_behind (suc n) (c ∷ cs) = tokens_behind n cs
 
 abbrev pub tokens_of : List ℕ → List Token

@@ -1,13 +1,14 @@
 ghost use Rattle.std.specs.Prelude.{◌≡◌, ◌==◌, ◌<◌, ◌≤◌, ◌++◌, length, drop, IfOk, OnOk};
 ghost use Rattle.std.specs.List.{prefix_len, position_or_len};
-ghost use Rattle.rule_lines.specs.Tokens.{is_digit, is_small, is_word, is_mark, piece, text_until, tokens_of};
+ghost use Rattle.rule_lines.specs.Tokens.{is_digit, is_small, is_word, is_mark, piece, text_until};
+ghost use Rattle.rule_lines.specs.Tokens.{tokens_of};
 ghost use Rattle.rule_lines.specs.Seen.{seen_all, seen_some};
 
 use crate::lines::place_of;
 use std::alloc::{AllocError, Global};
 
-/// A token of a rule line. A word is a run of letters, digits and `_`; a text is what stands between two quotes; an arrow is `=>`;
-/// bad is what begins no token, with the rest of its line.
+/// A token of a rule line. A word is a run of letters, digits and `_`; a text is what stands
+/// between two quotes; an arrow is `=>`; bad is what begins no token, with the rest of its line.
 #[derive(Clone, Copy)]
 pub enum Token<'a> {
     Word(&'a [u8]),
@@ -33,7 +34,8 @@ pub fn read_tokens(alloc: Global, line: &[u8]) -> Result<Vec<Token>, AllocError>
 // Takes what stands at the front, and says how many bytes it has.
 fn take_piece<'a>(out: &mut Vec<Token<'a>>, bytes: &'a [u8]) -> Result<usize, AllocError>
     requires { 0 < length bytes.now }
-    ensures tokens { OnOk result (seen_all out.new.items ≡ seen_all out.old.items ++ (piece bytes.now).tokens) }
+    ensures tokens { OnOk result (seen_all out.new.items ≡ seen_all out.old.items
+        ++ (piece bytes.now).tokens) }
     ensures width { IfOk result (λ n. n ≡ (piece bytes.now).width) }
     ensures some { IfOk result (λ n. 0 < n) }
     ensures within { IfOk result (λ n. n ≤ length bytes.now) }
@@ -77,8 +79,11 @@ fn piece(bytes: &[u8]) -> (Option<Token>, usize)
 
 fn text(bytes: &[u8], quote: u8) -> (Option<Token>, usize)
     requires { 0 < length bytes.now }
-    ensures tokens { seen_some result.0 ≡ (text_until (position_or_len (λ b. b == quote) (drop 1 bytes.now)) (drop 1 bytes.now)).tokens }
-    ensures width { result.1 ≡ (text_until (position_or_len (λ b. b == quote) (drop 1 bytes.now)) (drop 1 bytes.now)).width }
+    ensures tokens { seen_some result.0
+        ≡ (text_until (position_or_len (λ b. b == quote) (drop 1 bytes.now))
+        (drop 1 bytes.now)).tokens }
+    ensures width { result.1 ≡ (text_until (position_or_len (λ b. b == quote) (drop 1 bytes.now))
+        (drop 1 bytes.now)).width }
     ensures some { 0 < result.1 }
     ensures within { result.1 ≤ length bytes.now }
 {

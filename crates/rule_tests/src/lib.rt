@@ -1,4 +1,5 @@
-//! Tests of the rule file's reader: worked files with their whole rule set, each fault with its line, and the edges of lines and limits.
+//! Tests of the rule file's reader: worked files with their whole rule set, each fault with its
+//! line, and the edges of lines and limits.
 #![tactic(auto)]
 
 #[cfg(test)]

@@ -1,7 +1,10 @@
 -- The numbers of the faults.
 use Rattle.std.specs.Prelude.{ℕ, Option, Some, None}
 use Rattle.rule_text.specs.declared.fault.RuleFault.{RuleFault}
-use Rattle.rule_text.specs.declared.fault.RuleFault.TheVariants.{UnknownStatement, BadForm, UnknownName, NameTwice, NotConductor, TooManyLayers, NotText, NoMemory}
+use Rattle.rule_text.specs.declared.fault.RuleFault.TheVariants.{UnknownStatement, BadForm}
+use Rattle.rule_text.specs.declared.fault.RuleFault.TheVariants.{UnknownName, NameTwice}
+use Rattle.rule_text.specs.declared.fault.RuleFault.TheVariants.{NotConductor, TooManyLayers}
+use Rattle.rule_text.specs.declared.fault.RuleFault.TheVariants.{NotText, NoMemory}
 
 abbrev pub number_of : RuleFault → Option ℕ
 number_of (UnknownStatement line) = Some 30

@@ -1,7 +1,8 @@
 -- What fits its slot has a byte or lies in its range.
 use Rattle.std.specs.Prelude.{ℕ, ◌+◌, ◌<◌, ◌≤◌, List, [], ◌∷◌, length, unwrap_or}
 use Rattle.rule_lines.specs.Tokens.{Token}
-use Rattle.rule_text.specs.Rows.{Slot, Fresh, Name, Quoted, Guesses, Statement, Define, Global, Extract, Same, MaxGuesses, guesses_of, word_at}
+use Rattle.rule_text.specs.Rows.{Slot, Fresh, Name, Quoted, Guesses, Statement, Define, Global}
+use Rattle.rule_text.specs.Rows.{Extract, Same, MaxGuesses, guesses_of, word_at}
 
 abbrev pub IsGuessLimit : ℕ → Type 0
 IsGuessLimit n = (1 ≤ n) × (n ≤ 1000000)

@@ -1,5 +1,6 @@
 -- What a reader holds between two lines.
-use Rattle.std.specs.Prelude.{◌≡◌, ℕ, ◌≤◌, List, ◌++◌, length, map, Option, Some, None, Result, Ok, Err}
+use Rattle.std.specs.Prelude.{◌≡◌, ℕ, ◌≤◌, List, ◌++◌, length, map, Option, Some, None, Result, Ok}
+use Rattle.std.specs.Prelude.{Err}
 use Rattle.net_names.specs.Folding.{folded_bytes}
 use Rattle.rule_lines.specs.Tokens.{Token}
 use Rattle.rule_text.specs.declared.fault.RuleFault.{RuleFault}

@@ -1,5 +1,7 @@
 -- What a rule file means: its rule set, or its first fault.
-use Rattle.std.specs.Prelude.{◌≡◌, ◌↔◌, ◌⊎◌, ℕ, ◌+◌, Bool, ◌==◌, ◌&&◌, ◌||◌, not, List, [], ◌∷◌, ◌++◌, length, slice_get, position, Option, Some, None, Result, Ok, Err, if◌then◌else◌}
+use Rattle.std.specs.Prelude.{◌≡◌, ◌↔◌, ◌⊎◌, ℕ, ◌+◌, Bool, ◌==◌, ◌&&◌, ◌||◌, not, List, [], ◌∷◌}
+use Rattle.std.specs.Prelude.{◌++◌, length, slice_get, position, Option, Some, None, Result, Ok}
+use Rattle.std.specs.Prelude.{Err, if◌then◌else◌}
 use Rattle.std.specs.List.{list_any}
 use Rattle.rule_lines.specs.Lines.{is_no_text, lines_of}
 use Rattle.rule_lines.specs.Tokens.{tokens_of}
@@ -10,7 +12,8 @@ use Rattle.rule_text.specs.Rules.{Rules, no_rules, has_texts, fault_of, with_lin
 
 -- some connect or connect_global names the layer
 abbrev pub is_joined : ℕ → Rules → Bool
-is_joined k r = list_any (λ c. c.0 == k || c.1 == k) r.connects || list_any (λ g. g.0 == k) r.globals
+is_joined k r =
+    list_any (λ c. c.0 == k || c.1 == k) r.connects || list_any (λ g. g.0 == k) r.globals
 
 -- a polygon layer that some connect or connect_global names
 abbrev pub is_conductor : ℕ → Rules → Bool
@@ -27,7 +30,8 @@ is_connected d r = is_conductor d.ts r && is_conductor d.tg r && is_conductor d.
 -- each line passes behind those before it
 abbrev pub Pass : ℕ → Rules → List (List ℕ) → Type 0
 Pass number r [] = Unit {0}
-Pass number r (line ∷ lines) = (fault_of r number (tokens_of line) ≡ None) × Pass (number + 1) (with_line r (tokens_of line)) lines
+Pass number r (line ∷ lines) = (fault_of r number (tokens_of line) ≡ None)
+    × Pass (number + 1) (with_line r (tokens_of line)) lines
 
 -- the rules that lines state behind some rules
 abbrev pub rules_of : Rules → List (List ℕ) → Rules
@@ -37,7 +41,8 @@ rules_of r (line ∷ lines) = rules_of (with_line r (tokens_of line)) lines
 -- the numbers of the extract_devices lines
 abbrev pub device_lines : ℕ → List (List ℕ) → List ℕ
 device_lines number [] = []
-device_lines number (line ∷ lines) = device_line number (tokens_of line) ++ device_lines (number + 1) lines
+device_lines number (line ∷ lines) =
+    device_line number (tokens_of line) ++ device_lines (number + 1) lines
 
 -- the line of the first device that isn't connected
 abbrev pub first_loose : Rules → List MosRule → List ℕ → Option ℕ
@@ -61,13 +66,14 @@ pub record IsTextFault (bytes : List ℕ) (fault : RuleFault) : Type 0 where
   pub first : position is_no_text bytes ≡ Some offset
 
 -- the first line that doesn't pass, of lines that begin with this number behind some rules
-pub record IsLineFault (number : ℕ) (r : Rules) (lines : List (List ℕ)) (fault : RuleFault) : Type 0 where
-  pub before : List (List ℕ)
-  pub line : List ℕ
-  pub after : List (List ℕ)
-  pub parts : lines ≡ before ++ line ∷ after
-  pub passed : Pass number r before
-  pub is : fault_of (rules_of r before) (number + length before) (tokens_of line) ≡ Some fault
+pub record IsLineFault (number : ℕ) (r : Rules) (lines : List (List ℕ)) (fault : RuleFault) : Type 0
+  where
+    pub before : List (List ℕ)
+    pub line : List ℕ
+    pub after : List (List ℕ)
+    pub parts : lines ≡ before ++ line ∷ after
+    pub passed : Pass number r before
+    pub is : fault_of (rules_of r before) (number + length before) (tokens_of line) ≡ Some fault
 
 -- each line passes, and a device isn't connected in the end
 pub record IsDeviceFault (lines : List (List ℕ)) (fault : RuleFault) : Type 0 where
@@ -79,7 +85,8 @@ pub record IsDeviceFault (lines : List (List ℕ)) (fault : RuleFault) : Type 0 
 abbrev pub IsFirstFault : List ℕ → RuleFault → Type 0
 IsFirstFault bytes fault =
     IsTextFault bytes fault
-    ⊎ ((position is_no_text bytes ≡ None) × (IsLineFault 1 no_rules (lines_of bytes) fault ⊎ IsDeviceFault (lines_of bytes) fault))
+    ⊎ ((position is_no_text bytes ≡ None)
+    × (IsLineFault 1 no_rules (lines_of bytes) fault ⊎ IsDeviceFault (lines_of bytes) fault))
 
 -- the answer is the first fault, or that there is no memory
 abbrev pub Answers : List ℕ → RuleFault → Type 0
@@ -94,7 +101,8 @@ fault_or (Some fault) rest = Err fault
 
 abbrev pub reading : ℕ → Rules → List (List ℕ) → Result Rules RuleFault
 reading number r [] = Ok r
-reading number r (line ∷ lines) = fault_or (fault_of r number (tokens_of line)) (reading (number + 1) (with_line r (tokens_of line)) lines)
+reading number r (line ∷ lines) = fault_or (fault_of r number (tokens_of line))
+    (reading (number + 1) (with_line r (tokens_of line)) lines)
 
 abbrev pub connected_or : Option ℕ → Rules → Result Rules RuleFault
 connected_or None r = Ok r
@@ -109,10 +117,12 @@ text_or None rest = rest
 text_or (Some offset) rest = Err (NotText offset)
 
 abbrev pub reading_of : List ℕ → Result Rules RuleFault
-reading_of bytes = text_or (position is_no_text bytes) (closed (device_lines 1 (lines_of bytes)) (reading 1 no_rules (lines_of bytes)))
+reading_of bytes = text_or (position is_no_text bytes)
+    (closed (device_lines 1 (lines_of bytes)) (reading 1 no_rules (lines_of bytes)))
 
 abbrev pub MeaningLaw : Type 0
 MeaningLaw = (bytes : List ℕ) (r : Rules) → (reading_of bytes ≡ Ok r) ↔ Means bytes r
 
 abbrev pub FaultLaw : Type 0
-FaultLaw = (bytes : List ℕ) (fault : RuleFault) → (reading_of bytes ≡ Err fault) ↔ IsFirstFault bytes fault
+FaultLaw =
+    (bytes : List ℕ) (fault : RuleFault) → (reading_of bytes ≡ Err fault) ↔ IsFirstFault bytes fault

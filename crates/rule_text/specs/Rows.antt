@@ -1,5 +1,8 @@
--- The table of statements: a row is a list of slots, one for each token, and a line means the one row that its tokens fit.
-use Rattle.std.specs.Prelude.{ℕ, ◌+◌, ◌-◌, ◌*◌, Bool, true, false, ◌==◌, ◌&&◌, ◌||◌, not, nat_le, List, [], ◌∷◌, length, slice_index, slice_get, codes, Option, Some, None, is_some, unwrap_or, if◌then◌else◌}
+-- The table of statements: a row is a list of slots, one for each token, and a line means the one
+-- row that its tokens fit.
+use Rattle.std.specs.Prelude.{ℕ, ◌+◌, ◌-◌, ◌*◌, Bool, true, false, ◌==◌, ◌&&◌, ◌||◌, not, nat_le}
+use Rattle.std.specs.Prelude.{List, [], ◌∷◌, length, slice_index, slice_get, codes, Option, Some}
+use Rattle.std.specs.Prelude.{None, is_some, unwrap_or, if◌then◌else◌}
 use Rattle.std.specs.List.{list_any, list_all}
 use Rattle.std.specs.Str.{bytes_eq}
 use Rattle.rule_lines.specs.Tokens.{Token, Word, Text, Mark, Arrow, is_small, is_digit}
@@ -25,8 +28,8 @@ is_name w = is_small (slice_index w 0) && nat_le (length w) 64
 
 abbrev pub statement_words : List (List ℕ)
 statement_words =
-    codes "connect" ∷ codes "connect_global" ∷ codes "extract_devices" ∷ codes "same_circuits" ∷ codes "max_guesses"
-    ∷ codes "deep" ∷ codes "netlist" ∷ codes "align" ∷ codes "compare" ∷ codes "schematic"
+    codes "connect" ∷ codes "connect_global" ∷ codes "extract_devices" ∷ codes "same_circuits"
+    ∷ codes "max_guesses" ∷ codes "deep" ∷ codes "netlist" ∷ codes "align" ∷ codes "compare" ∷ codes "schematic"
     ∷ codes "input" ∷ codes "labels" ∷ codes "polygon_layer" ∷ codes "output" ∷ codes "mos4" ∷ []
 
 unfoldable pub is_statement_word : List ℕ → Bool
@@ -35,11 +38,13 @@ is_statement_word w = list_any (bytes_eq w) statement_words
 -- the number that digits spell behind n, where it is at most the limit
 abbrev pub number_from : ℕ → ℕ → List ℕ → Option ℕ
 number_from limit n [] = Some n
-number_from limit n (b ∷ bs) = if is_digit b && nat_le (n * 10 + (b - 0x30)) limit then number_from limit (n * 10 + (b - 0x30)) bs else None
+number_from limit n (b ∷ bs) = if is_digit b
+    && nat_le (n * 10 + (b - 0x30)) limit then number_from limit (n * 10 + (b - 0x30)) bs else None
 
 -- one to seven digits
 abbrev pub number_of : ℕ → List ℕ → Option ℕ
-number_of limit w = if nat_le 1 (length w) && nat_le (length w) 7 then number_from limit 0 w else None
+number_of limit w =
+    if nat_le 1 (length w) && nat_le (length w) 7 then number_from limit 0 w else None
 
 abbrev pub layer_of : List ℕ → Option ℕ
 layer_of w = number_of 65535 w
@@ -133,7 +138,8 @@ global_row = Key (codes "connect_global") ∷ Sign OPEN ∷ Name ∷ Sign COMMA 
 
 -- extract_devices(mos4("CLASS"), {
 abbrev pub devices_row : List Slot
-devices_row = Key (codes "extract_devices") ∷ Sign OPEN ∷ Key (codes "mos4") ∷ Sign OPEN ∷ Quoted ∷ Sign CLOSE ∷ Sign COMMA ∷ Sign BRACE ∷ []
+devices_row =
+    Key (codes "extract_devices") ∷ Sign OPEN ∷ Key (codes "mos4") ∷ Sign OPEN ∷ Quoted ∷ Sign CLOSE ∷ Sign COMMA ∷ Sign BRACE ∷ []
 
 -- same_circuits("A", "B")
 abbrev pub same_row : List Slot
@@ -206,7 +212,8 @@ definition_of ts =
     if fits input_row ts then Some (Define (word_at 0 ts) (Input (key_at 4 6 ts)))
     else if fits labels_row ts then Some (Define (word_at 0 ts) (Labels (key_at 4 6 ts)))
     else if fits polygon_layer_row ts then Some (Define (word_at 0 ts) Empty)
-    else if fits binary_row ts then Some (Define (word_at 0 ts) (Binary (op_of (sign_at 3 ts)) (word_at 2 ts) (word_at 4 ts)))
+    else if fits binary_row ts then Some
+    (Define (word_at 0 ts) (Binary (op_of (sign_at 3 ts)) (word_at 2 ts) (word_at 4 ts)))
     else None
 
 -- what is written and what conducts
@@ -220,8 +227,8 @@ wiring_of ts =
 -- a blank line, deep, netlist, align, compare and schematic("P") change nothing
 unfoldable pub is_accepted : List Token → Bool
 is_accepted ts =
-    fits [] ts || fits (Key (codes "deep") ∷ []) ts || fits (Key (codes "netlist") ∷ []) ts || fits (Key (codes "align") ∷ []) ts
-    || fits (Key (codes "compare") ∷ []) ts || fits schematic_row ts
+    fits [] ts || fits (Key (codes "deep") ∷ []) ts || fits (Key (codes "netlist") ∷ []) ts
+    || fits (Key (codes "align") ∷ []) ts || fits (Key (codes "compare") ∷ []) ts || fits schematic_row ts
 
 -- what only the comparison reads, and what changes nothing
 unfoldable pub setting_of : List Token → Option Statement

@@ -1,5 +1,8 @@
--- The rules that some lines state, what is wrong with a line behind them, and the rules with that line.
-use Rattle.std.specs.Prelude.{ℕ, Bool, true, false, ◌==◌, ◌&&◌, ◌||◌, not, nat_le, List, [], ◌∷◌, ◌++◌, length, map, codes, slice_get, Option, Some, None, if◌then◌else◌}
+-- The rules that some lines state, what is wrong with a line behind them, and the rules with that
+-- line.
+use Rattle.std.specs.Prelude.{ℕ, Bool, true, false, ◌==◌, ◌&&◌, ◌||◌, not, nat_le, List, [], ◌∷◌}
+use Rattle.std.specs.Prelude.{◌++◌, length, map, codes, slice_get, Option, Some, None}
+use Rattle.std.specs.Prelude.{if◌then◌else◌}
 use Rattle.std.specs.List.{list_any, list_all, position_or_len}
 use Rattle.std.specs.Str.{bytes_eq}
 use Rattle.net_names.specs.Folding.{folded_bytes}
@@ -11,8 +14,12 @@ use Rattle.rule_text.specs.declared.rules.LayerRule.{LayerRule}
 use Rattle.rule_text.specs.declared.rules.Output.{Output}
 use Rattle.rule_text.specs.declared.rules.MosRule.{MosRule}
 use Rattle.rule_text.specs.declared.fault.RuleFault.{RuleFault}
-use Rattle.rule_text.specs.declared.fault.RuleFault.TheVariants.{UnknownStatement, BadForm, UnknownName, NameTwice, NotConductor, TooManyLayers}
-use Rattle.rule_text.specs.Rows.{Form, Input, Labels, Empty, Binary, Mos, Statement, Define, Draw, Connect, Global, Extract, Same, MaxGuesses, Accepted, EQUALS, DOT, is_name, is_statement_word, definition_of, wiring_of, setting_of}
+use Rattle.rule_text.specs.declared.fault.RuleFault.TheVariants.{UnknownStatement, BadForm}
+use Rattle.rule_text.specs.declared.fault.RuleFault.TheVariants.{UnknownName, NameTwice}
+use Rattle.rule_text.specs.declared.fault.RuleFault.TheVariants.{NotConductor, TooManyLayers}
+use Rattle.rule_text.specs.Rows.{Form, Input, Labels, Empty, Binary, Mos, Statement, Define, Draw}
+use Rattle.rule_text.specs.Rows.{Connect, Global, Extract, Same, MaxGuesses, Accepted, EQUALS, DOT}
+use Rattle.rule_text.specs.Rows.{is_name, is_statement_word, definition_of, wiring_of, setting_of}
 use Rattle.rule_text.specs.Devices.{devices_of}
 
 -- a rule set with plain lists
@@ -26,7 +33,16 @@ pub record Rules : Type 0 where
   pub max_guesses : ℕ
 
 abbrev pub no_rules : Rules
-no_rules = record { names = []; outputs = []; connects = []; globals = []; devices = []; same = []; max_guesses = 1000 }
+no_rules = record {
+  names = [];
+  outputs = [];
+  connects = [];
+  globals = [];
+  devices = [];
+  same =
+      [];
+  max_guesses = 1000;
+}
 
 -- the names in order of their definition
 abbrev pub names_of : Rules → List (List ℕ)
@@ -75,14 +91,17 @@ uses_of (Same a b) = []
 uses_of (MaxGuesses n) = []
 uses_of Accepted = []
 
--- what may stand once alone was there before; classes and circuits are compared with their letters folded
+-- what may stand once alone was there before; classes and circuits are compared with their letters
+-- folded
 abbrev pub is_twice : Rules → Statement → Bool
 is_twice r (Define name form) = is_defined name r
 is_twice r (Draw name key) = list_any (is_same_key key) (map (λ o. o.key) r.outputs)
 is_twice r (Connect a b) = false
 is_twice r (Global a net) = false
-is_twice r (Extract m) = list_any (bytes_eq (folded_bytes m.class)) (map (λ d. folded_bytes d.class) r.devices)
-is_twice r (Same a b) = list_any (bytes_eq (folded_bytes a)) (map (λ p. folded_bytes p.0) r.same) || list_any (bytes_eq (folded_bytes b)) (map (λ p. folded_bytes p.1) r.same)
+is_twice r (Extract m) =
+    list_any (bytes_eq (folded_bytes m.class)) (map (λ d. folded_bytes d.class) r.devices)
+is_twice r (Same a b) = list_any (bytes_eq (folded_bytes a)) (map (λ p. folded_bytes p.0) r.same)
+    || list_any (bytes_eq (folded_bytes b)) (map (λ p. folded_bytes p.1) r.same)
 is_twice r (MaxGuesses n) = false
 is_twice r Accepted = false
 
@@ -110,7 +129,8 @@ or_else (Some s) t = Some s
 
 -- the statement of a line's tokens; no two rows fit one line
 abbrev pub statement_of : List Token → Option Statement
-statement_of ts = or_else (definition_of ts) (or_else (wiring_of ts) (or_else (devices_of ts) (setting_of ts)))
+statement_of ts =
+    or_else (definition_of ts) (or_else (wiring_of ts) (or_else (devices_of ts) (setting_of ts)))
 
 abbrev pub is_output_next : List Token → Bool
 is_output_next (Word w ∷ ts) = bytes_eq w (codes "output")
@@ -132,7 +152,8 @@ form_fault r line (Some s) = statement_fault r line s
 
 -- the first test that a line's tokens fail behind the rules of the lines before
 abbrev pub fault_of : Rules → ℕ → List Token → Option RuleFault
-fault_of r line ts = if is_unknown ts then Some (UnknownStatement line) else form_fault r line (statement_of ts)
+fault_of r line ts =
+    if is_unknown ts then Some (UnknownStatement line) else form_fault r line (statement_of ts)
 
 -- a form with numbers in place of its operands' names
 abbrev pub numbered : Rules → Form → LayerForm
@@ -156,7 +177,8 @@ abbrev pub named : Rules → List ℕ → LayerForm → Rules
 named r name form = record r { names = r.names ++ record { name = name; form = form } ∷ [] }
 
 abbrev pub drawn : Rules → List ℕ → LayerKey → Rules
-drawn r name key = record r { outputs = r.outputs ++ record { layer = place_of name r; key = key } ∷ [] }
+drawn r name key =
+    record r { outputs = r.outputs ++ record { layer = place_of name r; key = key } ∷ [] }
 
 abbrev pub extracting : Rules → Mos → Rules
 extracting r m = record r { devices = r.devices ++ mos_rule r m ∷ [] }
@@ -168,7 +190,8 @@ paired r a b = record r { same = r.same ++ (a, b) ∷ [] }
 abbrev pub with_statement : Rules → Statement → Rules
 with_statement r (Define name form) = named r name (numbered r form)
 with_statement r (Draw name key) = drawn r name key
-with_statement r (Connect a b) = record r { connects = r.connects ++ (place_of a r, place_of b r) ∷ [] }
+with_statement r (Connect a b) =
+    record r { connects = r.connects ++ (place_of a r, place_of b r) ∷ [] }
 with_statement r (Global a net) = record r { globals = r.globals ++ (place_of a r, net) ∷ [] }
 with_statement r (Extract m) = extracting r m
 with_statement r (Same a b) = paired r a b

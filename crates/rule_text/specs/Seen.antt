@@ -41,7 +41,16 @@ form found_form.Empty = rows.Empty
 form (found_form.Binary op a b) = rows.Binary op a.now b.now
 
 abbrev pub mos : FoundMos → Mos
-mos m = record { class = m.class.now; sd = m.sd.now; g = m.g.now; w = m.w.now; ts = m.ts.now; tg = m.tg.now; tb = m.tb.now }
+mos m = record {
+  class = m.class.now;
+  sd = m.sd.now;
+  g = m.g.now;
+  w = m.w.now;
+  ts = m.ts.now;
+  tg =
+      m.tg.now;
+  tb = m.tb.now;
+}
 
 abbrev pub statement : Found → Statement
 statement (found.Define name f) = rows.Define name.now (form f)

@@ -1,4 +1,5 @@
--- Sound rule sets: operands stand before their names, numbers are numbers of layers, nothing is there twice, and devices are connected.
+-- Sound rule sets: operands stand before their names, numbers are numbers of layers, nothing is
+-- there twice, and devices are connected.
 use Rattle.std.specs.Prelude.{◌≡◌, ℕ, ◌<◌, true, false, ◌&&◌, List, length, map, slice_get, Some}
 use Rattle.net_names.specs.Folding.{folded_bytes}
 use Rattle.rule_text.specs.declared.rules.LayerForm.{LayerForm}

@@ -1,6 +1,8 @@
 ghost use Rattle.std.specs.Prelude.{◌≡◌, ◌<◌, ◌≤◌, true, IfSome, length, take, drop};
 ghost use Rattle.rule_lines.specs.Seen.{seen_all};
-ghost use Rattle.rule_text.specs.Devices.{is_key, entry, entry_or, is_entry_at, is_comma_at, is_last_at, are_entries, has_parts, are_one_layer, mos_of, are_mos_entries, is_head, devices_of};
+ghost use Rattle.rule_text.specs.Devices.{is_key, entry, entry_or, is_entry_at, is_comma_at};
+ghost use Rattle.rule_text.specs.Devices.{is_last_at, are_entries, has_parts, are_one_layer};
+ghost use Rattle.rule_text.specs.Devices.{mos_of, are_mos_entries, is_head, devices_of};
 ghost use Rattle.rule_text.specs.Rows.{word_at};
 ghost use Rattle.rule_text.specs.Seen.{word, mos, statement, statements};
 ghost use Rattle.rule_text.specs.Filled.{IsFilled};

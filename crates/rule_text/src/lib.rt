@@ -1,4 +1,5 @@
-//! Rule files: a table of statements, what their lines mean together, and the fault of the first line that fails.
+//! Rule files: a table of statements, what their lines mean together, and the fault of the first
+//! line that fails.
 #![tactic(auto)]
 
 ghost use Rattle.std.specs.Prelude.{◌≡◌, Ok, IfOk, IfErr};
@@ -35,8 +36,9 @@ fn read(alloc: Global, bytes: &[u8]) -> Result<RuleSet, RuleFault>
     reader.close(alloc)
 }
 
-/// The rules of a rule file, or its first fault: a byte that no text has; else the first line that fails a test; else a transistor one of
-/// whose terminals has no conductor. Linear in the file's bytes: names, layers, classes and circuits are looked up by their hashes.
+/// The rules of a rule file, or its first fault: a byte that no text has; else the first line that
+/// fails a test; else a transistor one of whose terminals has no conductor. Linear in the file's
+/// bytes: names, layers, classes and circuits are looked up by their hashes.
 #[tactic(auto, using(crate::proofs::ReadingLemmas::means, crate::proofs::ReadingLemmas::answers))]
 pub fn read_rules(alloc: Global, bytes: &[u8]) -> Result<RuleSet, RuleFault>
     ensures found { IfOk result (λ r. Means bytes.now (rules_seen r)) }

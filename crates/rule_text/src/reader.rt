@@ -2,7 +2,8 @@ ghost use Rattle.std.specs.Prelude.{◌≡◌, ◌<◌, length, IfOk, IfSome};
 ghost use Rattle.rule_lines.specs.Seen.{seen_all};
 ghost use Rattle.net_names.specs.Folding.{folded_bytes};
 ghost use Rattle.rule_text.specs.Rules.{uses_of, is_definition, statement_of, is_unknown, goes_on};
-ghost use Rattle.rule_text.specs.Seen.{words as words_seen, statement as statement_seen, statements};
+ghost use Rattle.rule_text.specs.Seen.{words as words_seen, statement as statement_seen};
+ghost use Rattle.rule_text.specs.Seen.{statements};
 ghost use Rattle.rule_text.specs.Filled.{IsFilled};
 
 use crate::devices::devices_of;
@@ -19,7 +20,8 @@ use std::alloc::{AllocError, Global};
 /// The most names that a rule file may define.
 const MOST_NAMES: usize = 256;
 
-/// The rules so far; tables of what may stand once alone (classes and circuits with their letters folded); the lines of the devices.
+/// The rules so far; tables of what may stand once alone (classes and circuits with their letters
+/// folded); the lines of the devices.
 #[derive(Drop)]
 pub struct Reader {
     pub rules: RuleSet,
@@ -33,7 +35,8 @@ pub struct Reader {
 
 impl<'a> Statement<'a> {
     fn uses(&self, alloc: Global) -> Result<Vec<&'a [u8]>, AllocError>
-        ensures { IfOk result (λ found. words_seen found.items ≡ uses_of (statement_seen self.now)) }
+        ensures { IfOk result (λ found. words_seen found.items
+            ≡ uses_of (statement_seen self.now)) }
     {
         match self {
             Statement::Define(_, Form::Binary(_, a, b)) => Ok(vec![in alloc; *a, *b]?),
@@ -107,16 +110,21 @@ fn name_of(alloc: Global, bytes: &[u8]) -> Result<Name, AllocError>
 }
 
 impl Reader {
-    ghost use Rattle.std.specs.Prelude.{◌≡◌, ◌≤◌, ◌<◌, ◌++◌, [], ◌∷◌, Ok, Some, None, true, false, length, ◌&&◌, nat_le, not, map, IfOk, IfErr, IfSome, OnOk};
+    ghost use Rattle.std.specs.Prelude.{◌≡◌, ◌≤◌, ◌<◌, ◌++◌, [], ◌∷◌, Ok, Some, None, true, false};
+    ghost use Rattle.std.specs.Prelude.{length, ◌&&◌, nat_le, not, map, IfOk, IfErr, IfSome, OnOk};
     ghost use Rattle.std.specs.List.{list_all, list_any};
     ghost use Rattle.rule_lines.specs.Lines.{lines_of};
     ghost use Rattle.rule_lines.specs.Tokens.{tokens_of};
     ghost use Rattle.rule_lines.specs.Seen.{seen_all};
     ghost use Rattle.net_names.specs.Folding.{folded_bytes};
     ghost use Rattle.std.specs.Str.{bytes_eq};
-    ghost use Rattle.rule_text.specs.Rules.{no_rules, is_defined, place_of, is_labels, is_same_key, uses_of, is_twice, is_misplaced, statement_fault, fault_of, numbered, named, drawn, extracting, paired, with_statement, extraction_line};
+    ghost use Rattle.rule_text.specs.Rules.{no_rules, is_defined, place_of, is_labels, is_same_key};
+    ghost use Rattle.rule_text.specs.Rules.{uses_of, is_twice, is_misplaced, statement_fault};
+    ghost use Rattle.rule_text.specs.Rules.{fault_of, numbered, named, drawn, extracting, paired};
+    ghost use Rattle.rule_text.specs.Rules.{with_statement, extraction_line};
     ghost use Rattle.rule_text.specs.Reading.{reading, closed};
-    ghost use Rattle.rule_text.specs.Seen.{words as words_seen, form as form_seen, mos as mos_seen, statement as statement_seen, rules_seen};
+    ghost use Rattle.rule_text.specs.Seen.{words as words_seen, form as form_seen, mos as mos_seen};
+    ghost use Rattle.rule_text.specs.Seen.{statement as statement_seen, rules_seen};
     ghost use Rattle.rule_text.specs.Filled.{IsFilled};
     ghost use Rattle.rule_text.specs.Sound.{IsFormed, IsSound};
     ghost use Rattle.rule_text.specs.Reader.{IsReady, Takes, TakesAll, Says, SaysFirst};
@@ -169,7 +177,8 @@ impl Reader {
 
     fn are_defined(&self, words: &[&[u8]]) -> bool
         requires { IsReady self.now }
-        ensures { result ≡ list_all (λ w. is_defined w (rules_seen self.now.rules)) (words_seen words.now) }
+        ensures { result ≡ list_all (λ w. is_defined w (rules_seen self.now.rules))
+            (words_seen words.now) }
     {
         match words {
             [] => true,
@@ -179,7 +188,8 @@ impl Reader {
 
     fn has_labels(&self, words: &[&[u8]]) -> bool
         requires { IsReady self.now }
-        ensures { result ≡ list_any (λ w. is_labels w (rules_seen self.now.rules)) (words_seen words.now) }
+        ensures { result ≡ list_any (λ w. is_labels w (rules_seen self.now.rules))
+            (words_seen words.now) }
     {
         match words {
             [] => false,
@@ -190,7 +200,8 @@ impl Reader {
     fn is_twice(&self, alloc: Global, s: &Statement) -> Result<bool, AllocError>
         requires ready { IsReady self.now }
         requires filled { IsFilled (statement_seen s.now) }
-        ensures { IfOk result (λ b. b ≡ is_twice (rules_seen self.now.rules) (statement_seen s.now)) }
+        ensures { IfOk result (λ b. b ≡ is_twice (rules_seen self.now.rules)
+            (statement_seen s.now)) }
     {
         match s {
             Statement::Define(name, _) => Ok(self.is_defined(name)),
@@ -221,8 +232,10 @@ impl Reader {
     fn check(&self, alloc: Global, s: &Statement, line: u64) -> Result<(), RuleFault>
         requires ready { IsReady self.now }
         requires filled { IsFilled (statement_seen s.now) }
-        ensures passed { OnOk result (statement_fault (rules_seen self.now.rules) line (statement_seen s.now) ≡ None) }
-        ensures fault { IfErr result (λ e. Says e (statement_fault (rules_seen self.now.rules) line (statement_seen s.now))) }
+        ensures passed { OnOk result (statement_fault (rules_seen self.now.rules) line
+            (statement_seen s.now) ≡ None) }
+        ensures fault { IfErr result (λ e.
+            Says e (statement_fault (rules_seen self.now.rules) line (statement_seen s.now))) }
     {
         let uses = s.uses(alloc)?;
         if !self.are_defined(&uses) {
@@ -245,8 +258,10 @@ impl Reader {
         requires filled { 0 < length name.now }
         requires fresh { is_defined name.now (rules_seen self.old.rules) ≡ false }
         requires room { length self.old.rules.names.items < 256 }
-        ensures rules { OnOk result (rules_seen self.new.rules ≡ named (rules_seen self.old.rules) name.now form) }
-        ensures device_lines { OnOk result (self.new.device_lines.items ≡ self.old.device_lines.items) }
+        ensures rules { OnOk result (rules_seen self.new.rules
+            ≡ named (rules_seen self.old.rules) name.now form) }
+        ensures device_lines { OnOk result
+            (self.new.device_lines.items ≡ self.old.device_lines.items) }
         ensures ready { OnOk result (IsReady self.new) }
     {
         self.names.add(alloc, name)?;
@@ -259,9 +274,12 @@ impl Reader {
 
     fn draw(&mut self, name: &[u8], key: LayerKey) -> Result<(), AllocError>
         requires ready { IsReady self.old }
-        requires fresh { list_any (is_same_key key) (map (λ o. o.key) self.old.rules.outputs.items) ≡ false }
-        ensures rules { OnOk result (rules_seen self.new.rules ≡ drawn (rules_seen self.old.rules) name.now key) }
-        ensures device_lines { OnOk result (self.new.device_lines.items ≡ self.old.device_lines.items) }
+        requires fresh { list_any (is_same_key key) (map (λ o. o.key) self.old.rules.outputs.items)
+            ≡ false }
+        ensures rules { OnOk result (rules_seen self.new.rules
+            ≡ drawn (rules_seen self.old.rules) name.now key) }
+        ensures device_lines { OnOk result
+            (self.new.device_lines.items ≡ self.old.device_lines.items) }
         ensures ready { OnOk result (IsReady self.new) }
     {
         let layer = self.place(name);
@@ -273,9 +291,12 @@ impl Reader {
     fn extract(&mut self, alloc: Global, m: &Mos, line: u64) -> Result<(), AllocError>
         requires ready { IsReady self.old }
         requires filled { 0 < length m.now.class.now }
-        requires fresh { list_any (bytes_eq (folded_bytes m.now.class.now)) (map (λ d. folded_bytes d.class) self.old.rules.devices.items) ≡ false }
-        ensures rules { OnOk result (rules_seen self.new.rules ≡ extracting (rules_seen self.old.rules) (mos_seen m.now)) }
-        ensures device_lines { OnOk result (self.new.device_lines.items ≡ self.old.device_lines.items ++ line ∷ []) }
+        requires fresh { list_any (bytes_eq (folded_bytes m.now.class.now))
+            (map (λ d. folded_bytes d.class) self.old.rules.devices.items) ≡ false }
+        ensures rules { OnOk result (rules_seen self.new.rules
+            ≡ extracting (rules_seen self.old.rules) (mos_seen m.now)) }
+        ensures device_lines { OnOk result
+            (self.new.device_lines.items ≡ self.old.device_lines.items ++ line ∷ []) }
         ensures ready { OnOk result (IsReady self.new) }
     {
         let device = MosRule {
@@ -298,10 +319,14 @@ impl Reader {
         requires ready { IsReady self.old }
         requires filled_a { 0 < length a.now }
         requires filled_b { 0 < length b.now }
-        requires fresh_a { list_any (bytes_eq (folded_bytes a.now)) (map (λ p. folded_bytes p.0) self.old.rules.same.items) ≡ false }
-        requires fresh_b { list_any (bytes_eq (folded_bytes b.now)) (map (λ p. folded_bytes p.1) self.old.rules.same.items) ≡ false }
-        ensures rules { OnOk result (rules_seen self.new.rules ≡ paired (rules_seen self.old.rules) a.now b.now) }
-        ensures device_lines { OnOk result (self.new.device_lines.items ≡ self.old.device_lines.items) }
+        requires fresh_a { list_any (bytes_eq (folded_bytes a.now))
+            (map (λ p. folded_bytes p.0) self.old.rules.same.items) ≡ false }
+        requires fresh_b { list_any (bytes_eq (folded_bytes b.now))
+            (map (λ p. folded_bytes p.1) self.old.rules.same.items) ≡ false }
+        ensures rules { OnOk result (rules_seen self.new.rules
+            ≡ paired (rules_seen self.old.rules) a.now b.now) }
+        ensures device_lines { OnOk result
+            (self.new.device_lines.items ≡ self.old.device_lines.items) }
         ensures ready { OnOk result (IsReady self.new) }
     {
         self.layouts.add(alloc, folded_copy(alloc, a)?.bytes())?;
@@ -328,9 +353,13 @@ impl Reader {
     fn keep(&mut self, alloc: Global, s: &Statement, line: u64) -> Result<(), AllocError>
         requires ready { IsReady self.old }
         requires filled { IsFilled (statement_seen s.now) }
-        requires passed { statement_fault (rules_seen self.old.rules) line (statement_seen s.now) ≡ None }
-        ensures rules { OnOk result (rules_seen self.new.rules ≡ with_statement (rules_seen self.old.rules) (statement_seen s.now)) }
-        ensures device_lines { OnOk result (self.new.device_lines.items ≡ self.old.device_lines.items ++ extraction_line line (Some (statement_seen s.now))) }
+        requires passed { statement_fault (rules_seen self.old.rules) line (statement_seen s.now)
+            ≡ None }
+        ensures rules { OnOk result (rules_seen self.new.rules
+            ≡ with_statement (rules_seen self.old.rules) (statement_seen s.now)) }
+        ensures device_lines { OnOk result
+            (self.new.device_lines.items ≡ self.old.device_lines.items
+            ++ extraction_line line (Some (statement_seen s.now))) }
         ensures ready { OnOk result (IsReady self.new) }
     {
         match s {
@@ -363,7 +392,8 @@ impl Reader {
     fn tokens(&mut self, alloc: Global, tokens: &[Token], line: u64) -> Result<(), RuleFault>
         requires { IsReady self.old }
         ensures taken { OnOk result (Takes self.old self.new line (seen_all tokens.now)) }
-        ensures fault { IfErr result (λ e. Says e (fault_of (rules_seen self.old.rules) line (seen_all tokens.now))) }
+        ensures fault { IfErr result (λ e.
+            Says e (fault_of (rules_seen self.old.rules) line (seen_all tokens.now))) }
     {
         if is_unknown(tokens) {
             return Err(RuleFault::UnknownStatement(line));
@@ -379,7 +409,8 @@ impl Reader {
     fn line(&mut self, alloc: Global, bytes: &[u8], line: u64) -> Result<(), RuleFault>
         requires { IsReady self.old }
         ensures taken { OnOk result (Takes self.old self.new line (tokens_of bytes.now)) }
-        ensures fault { IfErr result (λ e. Says e (fault_of (rules_seen self.old.rules) line (tokens_of bytes.now))) }
+        ensures fault { IfErr result (λ e.
+            Says e (fault_of (rules_seen self.old.rules) line (tokens_of bytes.now))) }
     {
         let found = read_tokens(alloc, bytes)?;
         self.tokens(alloc, &found, line)
@@ -389,7 +420,8 @@ impl Reader {
     pub fn lines(&mut self, alloc: Global, bytes: &[u8]) -> Result<(), RuleFault>
         requires { IsReady self.old }
         ensures taken { OnOk result (TakesAll self.old self.new (lines_of bytes.now)) }
-        ensures fault { IfErr result (λ e. SaysFirst e (reading 1 (rules_seen self.old.rules) (lines_of bytes.now))) }
+        ensures fault { IfErr result (λ e.
+            SaysFirst e (reading 1 (rules_seen self.old.rules) (lines_of bytes.now))) }
     {
         let mut rest = bytes;
         let mut number = 1;
@@ -405,9 +437,12 @@ impl Reader {
     /// The rules, where each device is connected in the end.
     pub fn close(self, alloc: Global) -> Result<RuleSet, RuleFault>
         requires { IsReady self }
-        ensures ok { IfOk result (λ r. closed self.device_lines.items (Ok (rules_seen self.rules)) ≡ Ok (rules_seen r)) }
-        ensures sound { IfOk result (λ r. IsFormed (rules_seen self.rules) → IsSound (rules_seen r)) }
-        ensures fault { IfErr result (λ e. SaysFirst e (closed self.device_lines.items (Ok (rules_seen self.rules)))) }
+        ensures ok { IfOk result (λ r. closed self.device_lines.items (Ok (rules_seen self.rules))
+            ≡ Ok (rules_seen r)) }
+        ensures sound { IfOk result (λ r. IsFormed (rules_seen self.rules)
+            → IsSound (rules_seen r)) }
+        ensures fault { IfErr result (λ e.
+            SaysFirst e (closed self.device_lines.items (Ok (rules_seen self.rules)))) }
     {
         let conductors = self.rules.conductors(alloc)?;
         match self.rules.first_loose(&conductors, &self.device_lines) {

@@ -25,7 +25,8 @@ pub struct Output {
     pub key: LayerKey,
 }
 
-/// A transistor's class, as the file writes it, and its layers: source and drain, gate, bulk, and the conductors of the terminals.
+/// A transistor's class, as the file writes it, and its layers: source and drain, gate, bulk, and
+/// the conductors of the terminals.
 #[derive(Drop)]
 pub struct MosRule {
     pub class: Name,
@@ -53,7 +54,8 @@ impl RuleSet {
     ghost use Rattle.std.specs.Prelude.{◌≡◌, ◌≤◌, ◌^◌, ◌==◌, ◌||◌, length, IfOk};
     ghost use Rattle.std.specs.List.{list_any};
     ghost use Rattle.rule_text.specs.Rules.{has_texts};
-    ghost use Rattle.rule_text.specs.Reading.{is_conductor, is_connected, first_loose, TellsConductors};
+    ghost use Rattle.rule_text.specs.Reading.{is_conductor, is_connected, first_loose};
+    ghost use Rattle.rule_text.specs.Reading.{TellsConductors};
     ghost use Rattle.rule_text.specs.Seen.{rules_seen};
 
     /// Whether the name of this number is a labels name.
@@ -84,7 +86,8 @@ impl RuleSet {
         !self.has_texts(layer as usize) && (self.is_connect_end(layer) || self.is_global(layer))
     }
 
-    /// Which names are conductors. Linear in the names times the `connect` and `connect_global` lines.
+    /// Which names are conductors. Linear in the names times the `connect` and `connect_global`
+    /// lines.
     pub fn conductors(&self, alloc: Global) -> Result<Vec<bool>, AllocError>
         requires { length self.now.names.items ≤ 2 ^ 32 }
         ensures all { IfOk result (λ table. length table.items ≡ length self.now.names.items) }

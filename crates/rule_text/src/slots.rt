@@ -2,15 +2,17 @@ ghost use Rattle.std.specs.Prelude.{◌≡◌, true, ◌≤◌, ◌<◌, ◌^◌
 ghost use Rattle.std.specs.List.{list_all, list_any};
 ghost use Rattle.std.specs.Str.{bytes_eq};
 ghost use Rattle.rule_lines.specs.Seen.{seen, seen_all};
-ghost use Rattle.rule_text.specs.Rows.{is_name, is_statement_word, number_of, layer_of, guesses_of, is_printable, is_string, is_operator, fits_slot, fits, word_at, sign_at, layer_at, key_at};
+ghost use Rattle.rule_text.specs.Rows.{is_name, is_statement_word, number_of, layer_of, guesses_of};
+ghost use Rattle.rule_text.specs.Rows.{is_printable, is_string, is_operator, fits_slot, fits};
+ghost use Rattle.rule_text.specs.Rows.{word_at, sign_at, layer_at, key_at};
 ghost use Rattle.rule_text.specs.Seen.{slot as slot_seen, slots as slots_seen, words as words_seen};
 ghost use Rattle.rule_text.specs.Filled.{AreFilled};
 
 use geo_base::LayerKey;
 use rule_lines::{Token, is_digit, is_small};
 
-/// What may stand at a place of a row: a name that may be defined, a name, a layer number, a number of guesses, a string, an operator,
-/// a given word or sign, or `=>`.
+/// What may stand at a place of a row: a name that may be defined, a name, a layer number, a number
+/// of guesses, a string, an operator, a given word or sign, or `=>`.
 #[derive(Clone, Copy)]
 pub enum Slot<'a> {
     Fresh,
@@ -153,7 +155,8 @@ fn all_fit(row: &[Slot], tokens: &[Token]) -> bool
 }
 
 #[tactic(auto, using(crate::proofs::FilledLemmas::filled))]
-/// Whether each token fits its slot. A name or string then has a byte, and a number of guesses lies in its range.
+/// Whether each token fits its slot. A name or string then has a byte, and a number of guesses lies
+/// in its range.
 pub fn fits(row: &[Slot], tokens: &[Token]) -> bool
     ensures fits { result ≡ fits (slots_seen row.now) (seen_all tokens.now) }
     ensures filled { result ≡ true → AreFilled 0 (slots_seen row.now) (seen_all tokens.now) }

@@ -1,6 +1,8 @@
-//! The flat and disturbed squares of a small design on one input layer, square by square, straight from the definitions: slow, for tests to compare with.
+//! The flat and disturbed squares of a small design on one input layer, square by square, straight
+//! from the definitions: slow, for tests to compare with.
 //!
-//! An answer is `None` where a coordinate leaves 64 bits or cells stand deeper than `depth`; every other answer is the definition's.
+//! An answer is `None` where a coordinate leaves 64 bits or cells stand deeper than `depth`; every
+//! other answer is the definition's.
 #![tactic(auto)]
 
 mod design;

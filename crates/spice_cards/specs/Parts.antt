@@ -1,5 +1,6 @@
 -- A card's words, and its parameters behind them.
-use Rattle.std.specs.Prelude.{ℕ, Bool, true, false, List, [], ◌∷◌, Option, Some, None, if◌then◌else◌}
+use Rattle.std.specs.Prelude.{ℕ, Bool, true, false, List, [], ◌∷◌, Option, Some, None}
+use Rattle.std.specs.Prelude.{if◌then◌else◌}
 use Rattle.spice_cards.specs.Tokens.{Token, Word, Equals}
 
 pub record Param : Type 0 where

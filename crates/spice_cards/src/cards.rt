@@ -1,8 +1,10 @@
-ghost use Rattle.std.specs.Prelude.{◌≡◌, ◌++◌, ◌∷◌, [], ◌+◌, ◌<◌, ◌^◌, true, IfOk, OnOk, MatchOption, MatchResult, Some, None, length};
+ghost use Rattle.std.specs.Prelude.{◌≡◌, ◌++◌, ◌∷◌, [], ◌+◌, ◌<◌, ◌^◌, true, IfOk, OnOk};
+ghost use Rattle.std.specs.Prelude.{MatchOption, MatchResult, Some, None, length};
 ghost use Rattle.std.specs.List.{list_all};
 ghost use Rattle.rule_lines.specs.Lines.{lines_of};
 ghost use Rattle.spice_cards.specs.Tokens.{is_blank};
-ghost use Rattle.spice_cards.specs.Cards.{is_passed, is_more, cut, cards_of, early_more_in, early_more, is_at_card, IsShown};
+ghost use Rattle.spice_cards.specs.Cards.{is_passed, is_more, cut, cards_of, early_more_in};
+ghost use Rattle.spice_cards.specs.Cards.{early_more, is_at_card, IsShown};
 ghost use Rattle.spice_cards.specs.Seen.{tokens_seen};
 
 use crate::tokens::{Token, is_blank, take_tokens};

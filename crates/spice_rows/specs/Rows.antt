@@ -1,6 +1,8 @@
 -- What a card says behind the cards before it, or its first fault. In each row a form that doesn't
 -- fit comes before a parameter that can't be taken, and that before a value that is none.
-use Rattle.std.specs.Prelude.{ℕ, Bool, true, false, ◌==◌, ◌||◌, not, List, [], ◌∷◌, length, slice_index, Option, Some, None, Result, Ok, Err, if◌then◌else◌, codes}
+use Rattle.std.specs.Prelude.{ℕ, Bool, true, false, ◌==◌, ◌||◌, not, List, [], ◌∷◌, length}
+use Rattle.std.specs.Prelude.{slice_index, Option, Some, None, Result, Ok, Err, if◌then◌else◌}
+use Rattle.std.specs.Prelude.{codes}
 use Rattle.std.specs.List.{list_any}
 use Rattle.fixed_num.specs.declared.femto.ValueFault.{ValueFault}
 use Rattle.net_names.specs.Folding.{folded_byte}
@@ -10,7 +12,8 @@ use Rattle.spice_rows.specs.Names.{names_of, are_apart, is_text}
 use Rattle.spice_rows.specs.Params.{is_once, is_one, is_refused}
 use Rattle.spice_rows.specs.Sizes.{Sizes, sizes_of}
 use Rattle.spice_rows.specs.declared.fault.SpiceFault.{SpiceFault}
-use Rattle.spice_rows.specs.declared.fault.SpiceFault.TheVariants.{UnknownCard, BadLine, ParameterRefused, Value}
+use Rattle.spice_rows.specs.declared.fault.SpiceFault.TheVariants.{UnknownCard, BadLine}
+use Rattle.spice_rows.specs.declared.fault.SpiceFault.TheVariants.{ParameterRefused, Value}
 
 -- a transistor as its card names it
 pub record DeviceCard : Type 0 where

@@ -1,7 +1,8 @@
 ghost use Rattle.std.specs.Prelude.{◌≡◌};
 ghost use Rattle.spice_cards.specs.Seen.{tokens_seen, words_seen, params_seen};
 ghost use Rattle.spice_rows.specs.Names.{names_of};
-ghost use Rattle.spice_rows.specs.Rows.{device_row, call_row, open_row, end_row, global_row, stop_row, row_of, card_row, is_passed, begin, is_known};
+ghost use Rattle.spice_rows.specs.Rows.{device_row, call_row, open_row, end_row, global_row};
+ghost use Rattle.spice_rows.specs.Rows.{stop_row, row_of, card_row, is_passed, begin, is_known};
 ghost use Rattle.spice_rows.specs.Seen.{Says};
 
 use crate::card::{CallCard, CardRow, DeviceCard};

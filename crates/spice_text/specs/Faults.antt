@@ -1,5 +1,6 @@
 -- What is first wrong with the cards of a text as a whole.
-use Rattle.std.specs.Prelude.{◌≡◌, ◌<◌, ◌==◌, ◌^◌, ℕ, Bool, true, false, not, List, length, take, slice_get, Option, Some, None}
+use Rattle.std.specs.Prelude.{◌≡◌, ◌<◌, ◌==◌, ◌^◌, ℕ, Bool, true, false, not, List, length, take}
+use Rattle.std.specs.Prelude.{slice_get, Option, Some, None}
 use Rattle.plain_netlist.specs.Lists.{IsListed}
 use Rattle.text_table.specs.Texts.{has_text}
 use Rattle.call_order.specs.Order.{IsFirstInCycle, IsCallOrder}
@@ -7,7 +8,9 @@ use Rattle.spice_rows.specs.Rows.{CallCard}
 use Rattle.spice_text.specs.Gather.{Circuit, Cards}
 use Rattle.spice_text.specs.Circuits.{all_of, names_of, called_in, call_lists}
 use Rattle.spice_rows.specs.declared.fault.SpiceFault.{SpiceFault}
-use Rattle.spice_rows.specs.declared.fault.SpiceFault.TheVariants.{NotClosed, NameClash, NoSuchCircuit, PinCount, CircuitCycle, NoMemory}
+use Rattle.spice_rows.specs.declared.fault.SpiceFault.TheVariants.{NotClosed, NameClash}
+use Rattle.spice_rows.specs.declared.fault.SpiceFault.TheVariants.{NoSuchCircuit, PinCount}
+use Rattle.spice_rows.specs.declared.fault.SpiceFault.TheVariants.{CircuitCycle, NoMemory}
 
 -- circuit k has the name of one before it
 abbrev pub IsSecond : List Circuit → ℕ → Type 0
@@ -58,11 +61,14 @@ IsCycle cs name = (k : ℕ) × IsFirstInCycle (call_lists cs) k
 -- the first fault of circuits; want of memory says nothing of them
 abbrev pub IsCircuitsFault : List Circuit → SpiceFault → Type 0
 IsCircuitsFault cs (NameClash line) = IsClash cs line
-IsCircuitsFault cs (NoSuchCircuit line) = Lacks (IsSecond cs) × IsLeast (HasCall cs (is_missing cs)) line
+IsCircuitsFault cs (NoSuchCircuit line) =
+    Lacks (IsSecond cs) × IsLeast (HasCall cs (is_missing cs)) line
 IsCircuitsFault cs (PinCount line) =
-    Lacks (IsSecond cs) × Lacks (HasCall cs (is_missing cs)) × IsLeast (HasCall cs (is_other_count cs)) line
+    Lacks (IsSecond cs) × Lacks (HasCall cs (is_missing cs))
+    × IsLeast (HasCall cs (is_other_count cs)) line
 IsCircuitsFault cs (CircuitCycle name) =
-    Lacks (IsSecond cs) × Lacks (HasCall cs (is_missing cs)) × Lacks (HasCall cs (is_other_count cs)) × IsCycle cs name
+    Lacks (IsSecond cs) × Lacks (HasCall cs (is_missing cs))
+    × Lacks (HasCall cs (is_other_count cs)) × IsCycle cs name
 IsCircuitsFault cs NoMemory = Unit {0}
 IsCircuitsFault cs fault = ⊥
 
@@ -73,7 +79,8 @@ IsWholeFault cards NoMemory = Unit {0}
 IsWholeFault cards fault = (cards.open_one ≡ None) × IsCircuitsFault (all_of cards) fault
 
 -- nothing is wrong with circuits, whose names and calls are these
-pub record AreOrdered (cs : List Circuit) (names : List (List ℕ)) (calls : List (List ℕ)) (order : List ℕ) : Type 0 where
+pub record AreOrdered (cs : List Circuit) (names : List (List ℕ)) (calls : List (List ℕ))
+    (order : List ℕ) : Type 0 where
   pub one : Lacks (IsSecond cs)
   pub called : Lacks (HasCall cs (is_missing cs))
   pub counts : Lacks (HasCall cs (is_other_count cs))

@@ -1,7 +1,9 @@
 -- Cards in their circuits.
-use Rattle.std.specs.Prelude.{ℕ, List, [], ◌∷◌, ◌++◌, Option, Some, None, is_some, Result, Ok, Err, codes}
+use Rattle.std.specs.Prelude.{ℕ, List, [], ◌∷◌, ◌++◌, Option, Some, None, is_some, Result, Ok, Err}
+use Rattle.std.specs.Prelude.{codes}
 use Rattle.spice_cards.specs.Cards.{Card, cards_of, early_more}
-use Rattle.spice_rows.specs.Rows.{DeviceCard, CallCard, CardRow, Opens, Ends, Globals, Stops, Passed, Device, Call, card_row}
+use Rattle.spice_rows.specs.Rows.{DeviceCard, CallCard, CardRow, Opens, Ends, Globals, Stops}
+use Rattle.spice_rows.specs.Rows.{Passed, Device, Call, card_row}
 use Rattle.spice_rows.specs.declared.fault.SpiceFault.{SpiceFault}
 use Rattle.spice_rows.specs.declared.fault.SpiceFault.TheVariants.{BadLine}
 

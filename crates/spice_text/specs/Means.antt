@@ -1,5 +1,6 @@
 -- The netlist that a text means, or its first fault.
-use Rattle.std.specs.Prelude.{◌≡◌, ◌⊎◌, ℕ, ◌+◌, ◌<◌, List, [], ◌∷◌, ◌++◌, length, map, flat_map, None, Ok, Err}
+use Rattle.std.specs.Prelude.{◌≡◌, ◌⊎◌, ℕ, ◌+◌, ◌<◌, List, [], ◌∷◌, ◌++◌, length, map, flat_map}
+use Rattle.std.specs.Prelude.{None, Ok, Err}
 use Rattle.text_table.specs.Texts.{place_of}
 use Rattle.call_order.specs.Order.{ReachesItself}
 use Rattle.plain_netlist.specs.Netlist as plain
@@ -8,7 +9,8 @@ use Rattle.spice_rows.specs.declared.fault.SpiceFault.{SpiceFault}
 use Rattle.spice_rows.specs.declared.fault.SpiceFault.TheVariants.{NoMemory}
 use Rattle.spice_text.specs.Gather.{Circuit, Cards, reading_of}
 use Rattle.spice_text.specs.Circuits.{all_of, names_of, called_in, call_lists}
-use Rattle.spice_text.specs.Faults.{IsSecond, HasCall, is_missing, is_other_count, Lacks, IsWholeFault}
+use Rattle.spice_text.specs.Faults.{IsSecond, HasCall, is_missing, is_other_count, Lacks}
+use Rattle.spice_text.specs.Faults.{IsWholeFault}
 use Rattle.spice_text.specs.Needs.{first_seen, device_nets, Needs, Picks}
 
 -- the nets of a call: those of its card, then the needed global names of the called circuit
@@ -19,7 +21,8 @@ call_names names needed r = r.nets ++ needed (called_in names r)
 -- its devices (drain, gate, source, bulk), those of its calls
 abbrev pub appearances : List (List ℕ) → (ℕ → List (List ℕ)) → ℕ → Circuit → List (List ℕ)
 appearances names needed k c =
-    c.pins ++ (needed k ++ (flat_map device_nets c.devices ++ flat_map (call_names names needed) c.calls))
+    c.pins ++ (needed k ++ (flat_map device_nets c.devices
+    ++ flat_map (call_names names needed) c.calls))
 
 abbrev pub net_names : List (List ℕ) → (ℕ → List (List ℕ)) → ℕ → Circuit → List (List ℕ)
 net_names names needed k c = first_seen [] (appearances names needed k c)
@@ -43,7 +46,8 @@ call_row names needed nets r = record {
 }
 
 -- circuit k, whose nets have these names
-abbrev pub row_over : List (List ℕ) → (ℕ → List (List ℕ)) → ℕ → Circuit → List (List ℕ) → plain.Circuit
+abbrev pub row_over : List (List ℕ) → (ℕ → List (List ℕ)) → ℕ → Circuit → List (List ℕ)
+    → plain.Circuit
 row_over names needed k c nets = record {
   name = c.name;
   nets = nets;
@@ -61,11 +65,12 @@ rows_from names needed k [] = []
 rows_from names needed k (c ∷ cs) = circuit_row names needed k c ∷ rows_from names needed (k + 1) cs
 
 -- the netlist of circuits that are ordered, by the global names that each needs
-pub record IsNetlistOf (cs : List Circuit) (globals : List (List ℕ)) (n : plain.Netlist) : Type 0 where
-  pub needed : ℕ → List (List ℕ)
-  pub needs : (k : ℕ) → k < length cs
-      → Picks (λ g. Needs cs g k) (first_seen [] globals) (needed k)
-  pub rows : n.circuits ≡ rows_from (names_of cs) needed 0 cs
+pub record IsNetlistOf (cs : List Circuit) (globals : List (List ℕ)) (n : plain.Netlist) : Type 0
+  where
+    pub needed : ℕ → List (List ℕ)
+    pub needs : (k : ℕ) → k < length cs
+        → Picks (λ g. Needs cs g k) (first_seen [] globals) (needed k)
+    pub rows : n.circuits ≡ rows_from (names_of cs) needed 0 cs
 
 -- a text means this netlist
 pub record Means (bytes : List ℕ) (n : plain.Netlist) : Type 0 where
@@ -81,7 +86,8 @@ pub record Means (bytes : List ℕ) (n : plain.Netlist) : Type 0 where
 -- a text's first fault is that of a card, or else that of the cards as a whole
 abbrev pub IsFirstFault : List ℕ → SpiceFault → Type 0
 IsFirstFault bytes fault =
-    (reading_of bytes ≡ Err fault) ⊎ ((cards : Cards) × (reading_of bytes ≡ Ok cards) × IsWholeFault cards fault)
+    (reading_of bytes ≡ Err fault) ⊎ ((cards : Cards) × (reading_of bytes ≡ Ok cards)
+    × IsWholeFault cards fault)
 
 -- want of memory says nothing of a text
 abbrev pub SaysFirst : List ℕ → SpiceFault → Type 0

@@ -1,6 +1,7 @@
 -- Which global names a circuit needs: a chain of calls, none of whose circuits lists the name as a
 -- pin, leads to a card that uses it.
-use Rattle.std.specs.Prelude.{◌≡◌, ◌⊎◌, ℕ, Bool, true, false, List, [], ◌∷◌, ◌++◌, flat_map, slice_get, Option, Some, None}
+use Rattle.std.specs.Prelude.{◌≡◌, ◌⊎◌, ℕ, Bool, true, false, List, [], ◌∷◌, ◌++◌, flat_map}
+use Rattle.std.specs.Prelude.{slice_get, Option, Some, None}
 use Rattle.plain_netlist.specs.Chains.{IsChain}
 use Rattle.call_order.specs.Order.{Calls}
 use Rattle.text_table.specs.Texts.{has_text, with_text}

@@ -1,5 +1,6 @@
 -- What the searches for faults find.
-use Rattle.std.specs.Prelude.{◌≡◌, ℕ, Bool, nat_lt, List, [], ◌∷◌, ◌++◌, Option, Some, None, if◌then◌else◌}
+use Rattle.std.specs.Prelude.{◌≡◌, ℕ, Bool, nat_lt, List, [], ◌∷◌, ◌++◌, Option, Some, None}
+use Rattle.std.specs.Prelude.{if◌then◌else◌}
 use Rattle.text_table.specs.Texts.{has_text}
 use Rattle.spice_rows.specs.Rows.{CallCard}
 use Rattle.spice_text.specs.Gather.{Circuit}

@@ -1,5 +1,6 @@
 -- The text of a netlist.
-use Rattle.std.specs.Prelude.{◌≡◌, ℕ, ◌+◌, List, [], ◌∷◌, ◌++◌, Option, Some, None, slice_get, codes, decimal}
+use Rattle.std.specs.Prelude.{◌≡◌, ℕ, ◌+◌, List, [], ◌∷◌, ◌++◌, Option, Some, None, slice_get}
+use Rattle.std.specs.Prelude.{codes, decimal}
 use Rattle.fixed_num.specs.Microns.{IsMicrons}
 use Rattle.net_names.specs.Escapes.{escaped}
 use Rattle.plain_netlist.specs.Netlist.{DeviceRow, CallRow, Circuit, Netlist}
@@ -36,7 +37,8 @@ abbrev pub device_text : List (List ℕ) → ℕ → DeviceRow → List ℕ → 
 device_text names k d l w = device_nets_text names k d ++ sizes_text d.class l w
 
 abbrev pub IsDeviceText : List (List ℕ) → ℕ → DeviceRow → List ℕ → Type 0
-IsDeviceText names k d text = (l : List ℕ) × IsMicrons d.length l × (w : List ℕ) × IsMicrons d.width w
+IsDeviceText names k d text =
+    (l : List ℕ) × IsMicrons d.length l × (w : List ℕ) × IsMicrons d.width w
     × (text ≡ device_text names k d l w)
 
 -- `Xk nets circuit`
@@ -71,7 +73,8 @@ circuit_text cs c devices =
 
 abbrev pub IsCircuitText : List Circuit → Circuit → List ℕ → Type 0
 IsCircuitText cs c text =
-    (devices : List ℕ) × AreTexts (IsDeviceText c.nets) 1 c.devices devices × (text ≡ circuit_text cs c devices)
+    (devices : List ℕ) × AreTexts (IsDeviceText c.nets) 1 c.devices devices
+    × (text ≡ circuit_text cs c devices)
 
 -- the text of a netlist
 abbrev pub IsWritten : Netlist → List ℕ → Type 0

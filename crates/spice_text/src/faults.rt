@@ -1,8 +1,10 @@
 ghost use Rattle.std.specs.Prelude.{◌≡◌, [], None, map, IfOk, IfErr, OnOk};
 ghost use Rattle.spice_rows.specs.Seen.{call_seen};
 ghost use Rattle.spice_text.specs.Circuits.{names_of};
-ghost use Rattle.spice_text.specs.Faults.{HasCall, IsSecond, is_missing, is_other_count, Lacks, FindsLeast, IsCircuitsFault};
-ghost use Rattle.spice_text.specs.Search.{first_twice, least_in, least_in_all, test_of, SaysClash, lesser};
+ghost use Rattle.spice_text.specs.Faults.{HasCall, IsSecond, is_missing, is_other_count, Lacks};
+ghost use Rattle.spice_text.specs.Faults.{FindsLeast, IsCircuitsFault};
+ghost use Rattle.spice_text.specs.Search.{first_twice, least_in, least_in_all, test_of, SaysClash};
+ghost use Rattle.spice_text.specs.Search.{lesser};
 ghost use Rattle.spice_text.specs.Seen.{circuit_seen};
 
 use crate::gather::CircuitCards;

@@ -1,9 +1,11 @@
-ghost use Rattle.std.specs.Prelude.{◌≡◌, ◌<◌, ◌++◌, ◌∷◌, [], flat_map, map, length, set, slice_index_or, IfOk, OnOk};
+ghost use Rattle.std.specs.Prelude.{◌≡◌, ◌<◌, ◌++◌, ◌∷◌, [], flat_map, map, length, set};
+ghost use Rattle.std.specs.Prelude.{slice_index_or, IfOk, OnOk};
 ghost use Rattle.call_order.specs.Order.{lists, IsCallOrder};
 ghost use Rattle.spice_rows.specs.Seen.{device_seen, call_seen};
 ghost use Rattle.spice_text.specs.Circuits.{call_lists};
 ghost use Rattle.spice_text.specs.Needs.{first_seen, device_nets, used_nets};
-ghost use Rattle.spice_text.specs.Table.{bools, seen_in_calls, bit, needed_below, row_from, need_row, IsRowSet, IsNeedTable};
+ghost use Rattle.spice_text.specs.Table.{bools, seen_in_calls, bit, needed_below, row_from};
+ghost use Rattle.spice_text.specs.Table.{need_row, IsRowSet, IsNeedTable};
 ghost use Rattle.spice_text.specs.Seen.{circuit_seen};
 
 use crate::gather::CircuitCards;

@@ -1,4 +1,5 @@
-ghost use Rattle.std.specs.Prelude.{◌≡◌, ◌∷◌, [], ◌<◌, ◌^◌, flat_map, map, length, slice_index_or, IfOk, OnOk};
+ghost use Rattle.std.specs.Prelude.{◌≡◌, ◌∷◌, [], ◌<◌, ◌^◌, flat_map, map, length, slice_index_or};
+ghost use Rattle.std.specs.Prelude.{IfOk, OnOk};
 ghost use Rattle.spice_rows.specs.Seen.{device_seen, call_seen};
 ghost use Rattle.spice_text.specs.Needs.{first_seen, device_nets};
 ghost use Rattle.spice_text.specs.Table.{bools, picked, needed_of, seen_in_calls, seen_with_needs};
@@ -19,7 +20,8 @@ impl Nets {
     ghost use Rattle.std.specs.Prelude.{◌≡◌, ◌∷◌, [], flat_map, map, OnOk};
     ghost use Rattle.spice_rows.specs.Seen.{device_seen, call_seen};
     ghost use Rattle.spice_text.specs.Needs.{first_seen, device_nets};
-    ghost use Rattle.spice_text.specs.Table.{bools, picked, needed_of, seen_in_calls, seen_with_needs};
+    ghost use Rattle.spice_text.specs.Table.{bools, picked, needed_of, seen_in_calls};
+    ghost use Rattle.spice_text.specs.Table.{seen_with_needs};
 
     /// No nets.
     pub fn new(alloc: Global) -> Nets

@@ -2,7 +2,10 @@ ghost use Rattle.std.specs.Prelude.{◌≡◌, ◌++◌, ◌∷◌, OnOk, IfOk, 
 ghost use Rattle.net_names.specs.Escapes.{escaped};
 ghost use Rattle.net_model.specs.Rows.{plain_device, plain_call, plain_circuit, plain_netlist};
 ghost use Rattle.plain_netlist.specs.Netlist.{DeviceRow as PlainDevice};
-ghost use Rattle.spice_text.specs.Written.{net_text, nets_text, device_text, IsDeviceText, call_text, calls_text, AreTexts, AreOneByOne, device_nets_text, sizes_text, circuit_text, IsCircuitText, IsWritten, Adds, name_in};
+ghost use Rattle.spice_text.specs.Written.{net_text, nets_text, device_text, IsDeviceText};
+ghost use Rattle.spice_text.specs.Written.{call_text, calls_text, AreTexts, AreOneByOne};
+ghost use Rattle.spice_text.specs.Written.{device_nets_text, sizes_text, circuit_text};
+ghost use Rattle.spice_text.specs.Written.{IsCircuitText, IsWritten, Adds, name_in};
 
 use fixed_num::micron_text;
 use net_model::{CallRow, Circuit, DeviceRow, Netlist};

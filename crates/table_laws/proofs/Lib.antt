@@ -1,3 +1,4 @@
+pub mod Badness
 pub mod Corners
 pub mod Tabled
 pub mod Pinned

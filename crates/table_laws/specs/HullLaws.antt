@@ -16,7 +16,8 @@ pub record IsInGrown (n : ℕ) (h : Rect) (q : Square) : Type 0 where
 
 -- a cell's grown hull is its hull's rectangle, grown
 abbrev pub GrownLaw : Type 0
-GrownLaw = (d : Design) (cell n : ℕ) (h : Rect) (q : Square) → IsHullRect d cell h → IsInHull d cell n q ↔ IsInGrown n h q
+GrownLaw = (d : Design) (cell n : ℕ) (h : Rect) (q : Square) → IsHullRect d cell h
+    → IsInHull d cell n q ↔ IsInGrown n h q
 
 -- and where it holds no square, it grows to nothing
 abbrev pub NoHullLaw : Type 0
@@ -24,8 +25,11 @@ NoHullLaw = (d : Design) (cell n : ℕ) (q : Square) → IsHullOf d cell None �
 
 -- flat squares lie in the hull
 abbrev pub FlatHullLaw : Type 0
-FlatHullLaw = (d : Design) (cell : ℕ) (key : LayerKey) (q : Square) → InFlatInput d cell key q → IsInHull d cell 0 q
+FlatHullLaw = (d : Design) (cell : ℕ) (key : LayerKey) (q : Square) → InFlatInput d cell key q
+    → IsInHull d cell 0 q
 
--- what lies at or around one lies in the hull grown by one, so that the disturbed squares of this window are enough for gates and their rings
+-- what lies at or around one lies in the hull grown by one, so that the disturbed squares of this
+-- window are enough for gates and their rings
 abbrev pub ReachHullLaw : Type 0
-ReachHullLaw = (d : Design) (keys : List LayerKey) (cell : ℕ) (q : Square) → IsInReach d keys cell q → IsInHull d cell 1 q
+ReachHullLaw = (d : Design) (keys : List LayerKey) (cell : ℕ) (q : Square) → IsInReach d keys cell q
+    → IsInHull d cell 1 q

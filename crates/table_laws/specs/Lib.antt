@@ -1,3 +1,4 @@
+pub mod BadLaws
 pub mod HullLaws
 pub mod TableLaws
 pub mod NameLaws

@@ -1,5 +1,6 @@
 -- Nodes over entries: each stands for some that are neighbours, and its rectangle holds theirs.
-use Rattle.std.specs.Prelude.{◌≡◌, ◌<◌, ◌≤◌, ℕ, zero, suc, List, ◌++◌, ◌-◌, take, drop, Option, Some, None, length, slice_get}
+use Rattle.std.specs.Prelude.{◌≡◌, ◌<◌, ◌≤◌, ℕ, zero, suc, List, ◌++◌, ◌-◌, take, drop, Option}
+use Rattle.std.specs.Prelude.{Some, None, length, slice_get}
 use Rattle.geo_base.specs.declared.shapes.Rect.{Rect}
 use Rattle.tile_index.specs.declared.entries.Entry.{Entry}
 use Rattle.tile_index.specs.declared.tree.Node.{Node}

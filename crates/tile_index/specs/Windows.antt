@@ -1,5 +1,6 @@
 -- What a window finds in a list of rectangles.
-use Rattle.std.specs.Prelude.{◌≡◌, ◌↔◌, ℕ, ℤ, ◌≤ℤ◌, int_lt, List, Some, Bool, true, ◌&&◌, slice_get, Contains}
+use Rattle.std.specs.Prelude.{◌≡◌, ◌↔◌, ℕ, ℤ, ◌≤ℤ◌, int_lt, List, Some, Bool, true, ◌&&◌, slice_get}
+use Rattle.std.specs.Prelude.{Contains}
 use Rattle.std.specs.Int.{int_min, int_max}
 use Rattle.std.specs.List.Sorted.{IsStrictlyIncreasing}
 use Rattle.geo_base.specs.Rects.{has}

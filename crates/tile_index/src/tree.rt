@@ -1,11 +1,13 @@
 // A tree over entries. A node stands for neighbouring ones; its rectangle holds theirs. The nodes
 // that it is made of stand right before it, those of later entries first, so that a walk from the
 // last node to the first passes over them in one step where it need not look.
-ghost use Rattle.std.specs.Prelude.{◌≡◌, ◌+◌, ◌-◌, ◌<◌, ◌≤◌, ◌++◌, IfOk, OnOk, length, map, [], take, drop};
+ghost use Rattle.std.specs.Prelude.{◌≡◌, ◌+◌, ◌-◌, ◌<◌, ◌≤◌, ◌++◌, IfOk, OnOk, length, map, []};
+ghost use Rattle.std.specs.Prelude.{take, drop};
 ghost use Rattle.std.specs.List.{filter};
 ghost use Rattle.tile_index.specs.Windows.{overlap, meets, union};
 ghost use Rattle.tile_index.specs.Entries.{hits};
-ghost use Rattle.tile_index.specs.Trees.{AreNodes, IsAbove, Grows, HoldsAll, begin_of, IsTree, IsPart, part};
+ghost use Rattle.tile_index.specs.Trees.{AreNodes, IsAbove, Grows, HoldsAll, begin_of, IsTree};
+ghost use Rattle.tile_index.specs.Trees.{IsPart, part};
 
 use crate::entries::Entry;
 use geo_base::Rect;
@@ -136,7 +138,8 @@ fn push_under(
     w: &Rect,
 ) -> Result<(), AllocError>
     requires { IsPart entries.now node.now }
-    ensures { OnOk result (found.new.items ≡ found.old.items ++ hits w.now (part entries.now node.now)) }
+    ensures { OnOk result (found.new.items ≡ found.old.items
+        ++ hits w.now (part entries.now node.now)) }
 {
     push_hits(found, &entries[node.from..node.to], w)
 }

@@ -61,15 +61,18 @@ AreOf n ps = (p : Piece) → IsAmong p ps → p.conductor < n
 -- pieces of the conductor touch pieces of one that a line joins to it
 abbrev pub AreInTouchVia : List Joined → List Piece → ℕ → ℕ → ℕ → Type 0
 AreInTouchVia [] ps c i j = ⊥
-AreInTouchVia (l ∷ ls) ps c i j = ((l.first ≡ c) × AreInTouch (of_conductor c ps) (of_conductor l.second ps) i j) ⊎ AreInTouchVia ls ps c i j
+AreInTouchVia (l ∷ ls) ps c i j = ((l.first ≡ c)
+    × AreInTouch (of_conductor c ps) (of_conductor l.second ps) i j) ⊎ AreInTouchVia ls ps c i j
 
 -- or pieces of the conductor touch
 abbrev pub AreInTouchOf : List Joined → List Piece → ℕ → ℕ → ℕ → Type 0
-AreInTouchOf joins ps c i j = AreInTouch (of_conductor c ps) (of_conductor c ps) i j ⊎ AreInTouchVia joins ps c i j
+AreInTouchOf joins ps c i j =
+    AreInTouch (of_conductor c ps) (of_conductor c ps) i j ⊎ AreInTouchVia joins ps c i j
 
 -- one conductor, or two that are joined
 abbrev pub AreJoined : List Joined → ℕ → ℕ → Type 0
-AreJoined joins c e = (c ≡ e) ⊎ Some_of (λ l. ((l.first ≡ c) × (l.second ≡ e)) ⊎ ((l.first ≡ e) × (l.second ≡ c))) joins
+AreJoined joins c e = (c ≡ e) ⊎ Some_of
+    (λ l. ((l.first ≡ c) × (l.second ≡ e)) ⊎ ((l.first ≡ e) × (l.second ≡ c))) joins
 
 -- pieces of these items touch, and their conductors are one or joined
 pub record AreTied (joins : List Joined) (pieces : List Piece) (i j : ℕ) : Type 0 where
@@ -82,7 +85,8 @@ pub record AreTied (joins : List Joined) (pieces : List Piece) (i j : ℕ) : Typ
   pub from : one.item ≡ i
   pub to : other.item ≡ j
 
--- a link for each two tied items that differ, and no other; so chains of links join what chains of touching pieces join
+-- a link for each two tied items that differ, and no other; so chains of links join what chains of
+-- touching pieces join
 pub record AreLinksOf (joins : List Joined) (pieces : List Piece) (links : List Link) : Type 0 where
   pub each : (i j : ℕ) → IsLinked links i j → AreTied joins pieces i j
   pub found : (i j : ℕ) → AreTied joins pieces i j → (i ≡ j) ⊎ IsLinked links i j

@@ -11,7 +11,8 @@ pub record AreTouching (a b : Rect) : Type 0 where
   pub in_other : IsIn other b
   pub near : IsNear one other
 
--- two spans of numbers, each from its low end up to, but not at, its high end, have a number in common
+-- two spans of numbers, each from its low end up to, but not at, its high end, have a number in
+-- common
 abbrev pub overlaps : ℤ → ℤ → ℤ → ℤ → Bool
 overlaps low high other_low other_high = int_lt low other_high && int_lt other_low high
 
@@ -25,7 +26,8 @@ is_rect r = int_lt r.x1 r.x2 && int_lt r.y1 r.y2
 
 -- they share a number in one direction, and share or meet in the other
 abbrev pub is_near : Rect → Rect → Bool
-is_near a b = (meets a.x1 a.x2 b.x1 b.x2 && overlaps a.y1 a.y2 b.y1 b.y2) || (overlaps a.x1 a.x2 b.x1 b.x2 && meets a.y1 a.y2 b.y1 b.y2)
+is_near a b = (meets a.x1 a.x2 b.x1 b.x2 && overlaps a.y1 a.y2 b.y1 b.y2)
+    || (overlaps a.x1 a.x2 b.x1 b.x2 && meets a.y1 a.y2 b.y1 b.y2)
 
 -- the same as touching, by the sides of the rectangles
 abbrev pub touches : Rect → Rect → Bool

@@ -1,6 +1,7 @@
 // Pieces of several conductors, some of which are joined.
 ghost use Rattle.std.specs.Prelude.{◌≡◌, ◌≢◌, OnOk, IfOk};
-ghost use Rattle.touching_pieces.specs.Pairs.{AddsLinks, AddsTouching, AreInTouchOf, AreLinksOf, AreOf, of_conductor};
+ghost use Rattle.touching_pieces.specs.Pairs.{AddsLinks, AddsTouching, AreInTouchOf, AreLinksOf};
+ghost use Rattle.touching_pieces.specs.Pairs.{AreOf, of_conductor};
 
 use crate::pairs::touching_pairs;
 use crate::pieces::Piece;
@@ -34,7 +35,9 @@ fn link_line(
     out: &mut Vec<Link>,
 ) -> Result<(), AllocError>
     requires { own.now ≡ of_conductor conductor pieces.now }
-    ensures line { OnOk result (line.now.first ≡ conductor → AddsTouching (of_conductor conductor pieces.now) (of_conductor line.now.second pieces.now) out.old.items out.new.items) }
+    ensures line { OnOk result (line.now.first ≡ conductor
+        → AddsTouching (of_conductor conductor pieces.now) (of_conductor line.now.second pieces.now)
+        out.old.items out.new.items) }
     ensures other { OnOk result (line.now.first ≢ conductor → out.new.items ≡ out.old.items) }
 {
     if line.first != conductor {
@@ -45,7 +48,8 @@ fn link_line(
     Ok(())
 }
 
-// Links the pieces of one conductor with each other, and with those of the conductors that lines join to it.
+// Links the pieces of one conductor with each other, and with those of the conductors that lines
+// join to it.
 fn link_conductor(
     alloc: Global,
     pieces: &[Piece],
@@ -53,7 +57,8 @@ fn link_conductor(
     joins: &[Joined],
     out: &mut Vec<Link>,
 ) -> Result<(), AllocError>
-    ensures { OnOk result (AddsLinks (AreInTouchOf joins.now pieces.now conductor) out.old.items out.new.items) }
+    ensures { OnOk result (AddsLinks (AreInTouchOf joins.now pieces.now conductor) out.old.items
+        out.new.items) }
 {
     let own = of_conductor(alloc, pieces, conductor)?;
     touching_pairs(alloc, &own, &own, out)?;
@@ -63,9 +68,11 @@ fn link_conductor(
     Ok(())
 }
 
-/// A link for each two items that have touching pieces of one conductor or of two that a line joins.
+/// A link for each two items that have touching pieces of one conductor or of two that a line
+/// joins.
 ///
-/// Takes a pass over the pieces for each conductor and each line beside what `touching_pairs` takes.
+/// Takes a pass over the pieces for each conductor and each line beside what `touching_pairs`
+/// takes.
 pub fn touching_links(
     alloc: Global,
     pieces: &[Piece],

@@ -78,8 +78,8 @@ fn crossings(pieces: &[Piece], cut: &Cut) -> usize {
     count
 }
 
-/// The middle line of what bounds the pieces within a rectangle that goes through fewer of them, where it leaves at
-/// least half of them whole and no more are cut than can be spared.
+/// The middle line of what bounds the pieces within a rectangle that goes through fewer of them,
+/// where it leaves at least half of them whole and no more are cut than can be spared.
 pub fn cut_of(ones: &[Piece], others: &[Piece], within: &Rect, spare: usize) -> Option<Cut> {
     if ones.len() <= FEW || others.len() <= FEW {
         return None;

@@ -1,4 +1,5 @@
-// Pieces of two lists that touch, found by cutting the plane in two again and again: two that touch lie whole on one side or the other.
+// Pieces of two lists that touch, found by cutting the plane in two again and again: two that touch
+// lie whole on one side or the other.
 ghost use Rattle.std.specs.Prelude.{◌≡◌, OnOk, IfOk, [], ◌∷◌};
 ghost use Rattle.touching_pieces.specs.Pairs.{AddsTouching, begins_by, ends_behind, lows, highs};
 
@@ -51,7 +52,8 @@ fn highs(alloc: Global, pieces: &[Piece], cut: &Cut) -> Result<Vec<Piece>, Alloc
 
 // Links the two pieces where they touch.
 fn link_two(one: &Piece, other: &Piece, out: &mut Vec<Link>) -> Result<(), AllocError>
-    ensures { OnOk result (AddsTouching (one.now ∷ []) (other.now ∷ []) out.old.items out.new.items) }
+    ensures { OnOk result (AddsTouching (one.now ∷ []) (other.now ∷ []) out.old.items
+        out.new.items) }
 {
     if one.item == other.item {
         return Ok(());
@@ -141,7 +143,8 @@ fn link_halves(
 
 /// Adds a link for each two items that differ and have pieces, one in each list, that touch.
 ///
-/// Near (n + m) log (n + m) + the number of such pairs, for lists of n and m pieces of which few lie over one another.
+/// Near (n + m) log (n + m) + the number of such pairs, for lists of n and m pieces of which few
+/// lie over one another.
 pub fn touching_pairs(
     alloc: Global,
     ones: &[Piece],

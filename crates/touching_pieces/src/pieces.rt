@@ -1,5 +1,6 @@
 ghost use Rattle.std.specs.Prelude.{◌≡◌, ◌↔◌, ◌&&◌, true};
-ghost use Rattle.touching_pieces.specs.Touching.{is_near, is_rect, meets, overlaps, touches, AreTouching};
+ghost use Rattle.touching_pieces.specs.Touching.{is_near, is_rect, meets, overlaps, touches};
+ghost use Rattle.touching_pieces.specs.Touching.{AreTouching};
 
 use geo_base::Rect;
 
@@ -42,13 +43,15 @@ fn is_rect(r: &Rect) -> bool
 }
 
 fn is_beside(a: &Rect, b: &Rect) -> bool
-    ensures { result ≡ (meets a.now.x1 a.now.x2 b.now.x1 b.now.x2 && overlaps a.now.y1 a.now.y2 b.now.y1 b.now.y2) }
+    ensures { result ≡ (meets a.now.x1 a.now.x2 b.now.x1 b.now.x2
+        && overlaps a.now.y1 a.now.y2 b.now.y1 b.now.y2) }
 {
     meets_x(a, b) && overlaps_y(a, b)
 }
 
 fn is_over(a: &Rect, b: &Rect) -> bool
-    ensures { result ≡ (overlaps a.now.x1 a.now.x2 b.now.x1 b.now.x2 && meets a.now.y1 a.now.y2 b.now.y1 b.now.y2) }
+    ensures { result ≡ (overlaps a.now.x1 a.now.x2 b.now.x1 b.now.x2
+        && meets a.now.y1 a.now.y2 b.now.y1 b.now.y2) }
 {
     overlaps_x(a, b) && meets_y(a, b)
 }
@@ -71,7 +74,8 @@ fn touches_by_sides(a: &Rect, b: &Rect) -> bool
     is_near(a, b) && are_rects(a, b)
 }
 
-/// Whether the rectangles have a square in common, or squares that share an edge; a common corner isn't enough.
+/// Whether the rectangles have a square in common, or squares that share an edge; a common corner
+/// isn't enough.
 pub fn touches(a: &Rect, b: &Rect) -> bool
     ensures { (result ≡ true) ↔ AreTouching a.now b.now }
 {
