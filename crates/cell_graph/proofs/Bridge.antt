@@ -17,7 +17,8 @@ use Rattle.flat_layout.specs.Plane.{IsIn}
 use Rattle.flat_layout.specs.Arrays.{place_at, places_of}
 use Rattle.flat_layout.specs.Layout as flat
 use Rattle.flat_layout.specs.Layout.{Some_of, IsOwn, IsPlaced, Takes, InFlatInput, IsHeight}
-use Rattle.cell_graph.specs.Linked.{Linked, IsSound, IsReference, IsInside, HoldsImage, HoldsRects, HullHas, HullIsSound, HasNone, AreApart, is_key, own_rects, own_of, cell_at, hull_of, places_at, height_at, height_of, plain, plain_cell, plain_layer, reference, motion_at, IsStep}
+use Rattle.cell_graph.specs.Linked.{Linked, IsSound, IsReference, IsInside, HoldsImage, HoldsRects, HullHas, HullIsSound, HasNone, AreApart, own_rects, own_of, cell_at, hull_of, places_at, height_at, height_of, plain, plain_cell, plain_layer, reference, motion_at, IsStep}
+use Rattle.geo_base.specs.Layers.{is_same_key}
 use Rattle.cell_graph.specs.Laws.{OwnLaw, HeightLaw, HullLaw}
 use Rattle.cell_graph.specs.declared.cells.OwnLayer.{OwnLayer}
 use Rattle.cell_graph.specs.declared.cells.Place.{Place}
@@ -72,24 +73,24 @@ some_covers (r ∷ rects) q (inl h) = or_left (has r q) (covers rects q) (in_has
 some_covers (r ∷ rects) q (inr h) = or_right (has r q) (covers rects q) (some_covers rects q h)
 
 -- same keys
-key_is : (a b : LayerKey) → (is_key a b ≡ true) ⊎ (is_key a b ≡ false)
-key_is a b = bool_is (is_key a b)
+key_is : (a b : LayerKey) → (is_same_key a b ≡ true) ⊎ (is_same_key a b ≡ false)
+key_is a b = bool_is (is_same_key a b)
   where
     bool_is : (c : Bool) → (c ≡ true) ⊎ (c ≡ false)
     bool_is true = inl refl
     bool_is false = inr refl
 
-key_same : (a b : LayerKey) → is_key a b ≡ true → a ≡ b
+key_same : (a b : LayerKey) → is_same_key a b ≡ true → a ≡ b
 key_same a b h =
     let x : a.layer ≡ b.layer = grind arith in
     let y : a.datatype ≡ b.datatype = grind arith in
     ap (λ (v : ℕ). let k : LayerKey = record { layer = v; datatype = a.datatype } in k) x ∙ ap (λ (v : ℕ). let k : LayerKey = record { layer = b.layer; datatype = v } in k) y
 
-key_own : (a : LayerKey) → is_key a a ≡ true
+key_own : (a : LayerKey) → is_same_key a a ≡ true
 key_own a = grind arith
 
-key_other : (a b : LayerKey) → is_key a b ≡ false → a ≡ b → ⊥
-key_other a b h e = let f : is_key a b ≡ true = subst (λ k. is_key a k ≡ true) e (key_own a) in let z : ⊥ = cc in z
+key_other : (a b : LayerKey) → is_same_key a b ≡ false → a ≡ b → ⊥
+key_other a b h e = let f : is_same_key a b ≡ true = subst (λ k. is_same_key a k ≡ true) e (key_own a) in let z : ⊥ = cc in z
 
 abbrev IsOn : LayerKey → Square → flat.Layer → Type 0
 IsOn key q layer = (layer.key ≡ key) × Some_of (IsIn q) layer.rects

@@ -3,6 +3,7 @@ use Rattle.std.specs.Prelude.{◌≡◌, ℕ, ◌<◌, ◌≤◌, ◌^◌, ◌�
 use Rattle.std.specs.List.{All}
 use Rattle.geo_base.specs.Near.{IsWithin}
 use Rattle.geo_base.specs.Rects.{IsRect, has, moved_rect}
+use Rattle.geo_base.specs.Layers.{is_same_key}
 use Rattle.geo_base.specs.declared.layer.LayerKey.{LayerKey}
 use Rattle.geo_base.specs.declared.motion.Motion.{Motion}
 use Rattle.geo_base.specs.declared.shapes.Rect.{Rect}
@@ -152,14 +153,10 @@ pub record IsSound (d : Linked) : Type 0 where
   pub hulls : HaveHulls d
   pub order : IsOrder d
 
--- same layer and datatype
-abbrev pub is_key : LayerKey → LayerKey → Bool
-is_key k m = k.layer == m.layer && k.datatype == m.datatype
-
 -- a cell's own rectangles on a layer: of the first entry of the key
 abbrev pub own_rects : List OwnLayer → LayerKey → List Rect
 own_rects [] key = []
-own_rects (l ∷ layers) key = if is_key l.key key then l.set else own_rects layers key
+own_rects (l ∷ layers) key = if is_same_key l.key key then l.set else own_rects layers key
 
 abbrev pub own_of : Option CellPart → LayerKey → List Rect
 own_of None key = []

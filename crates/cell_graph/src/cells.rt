@@ -1,5 +1,5 @@
 ghost use Rattle.std.specs.Prelude.{◌≡◌};
-ghost use Rattle.cell_graph.specs.Linked.{is_key};
+ghost use Rattle.geo_base.specs.Layers.{is_same_key};
 
 use geo_base::{LayerKey, Motion, Point, Rect};
 use net_names::Name;
@@ -13,8 +13,8 @@ pub struct OwnLayer {
 }
 
 /// Whether two keys are one layer and one datatype.
-pub fn is_key(a: LayerKey, b: LayerKey) -> bool
-    ensures { result ≡ is_key a b }
+pub fn is_same_key(a: LayerKey, b: LayerKey) -> bool
+    ensures { result ≡ is_same_key a b }
 {
     a.layer == b.layer && a.datatype == b.datatype
 }

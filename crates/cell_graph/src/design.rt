@@ -5,7 +5,7 @@ ghost use Rattle.cell_graph.specs.Spans.{ArePlacesIn};
 ghost use Rattle.cell_graph.specs.Laws.{OwnLaw, HeightLaw, HullLaw};
 ghost use Rattle.cell_graph.specs.declared.cells.CellPart.{CellPart};
 
-use crate::cells::{CellPart, OwnLayer, Place, RawText, is_key};
+use crate::cells::{CellPart, OwnLayer, Place, RawText, is_same_key};
 use crate::indexes::{CellIndex, find_index, indexes_of, numbers_at};
 use geo_base::{LayerKey, Rect};
 use net_names::Name;
@@ -41,7 +41,7 @@ fn find<'a>(layers: &'a [OwnLayer], key: LayerKey, nothing: &'a RectSet) -> &'a 
     ensures { result.now ≡ own_rects layers.now key }
 {
     for layer in layers {
-        if is_key(layer.key, key) {
+        if is_same_key(layer.key, key) {
             return &layer.set;
         }
     }

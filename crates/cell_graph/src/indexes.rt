@@ -7,7 +7,7 @@ ghost use Rattle.cell_graph.specs.declared.cells.CellPart.{CellPart};
 ghost use Rattle.cell_graph.specs.Indexes.{sets_of, AreSpans, IsIndexed, AreIndexed, AreSoundCells};
 ghost use Rattle.cell_graph.specs.Linked.{IsSoundCell, own_rects};
 
-use crate::cells::{CellPart, OwnLayer, is_key};
+use crate::cells::{CellPart, OwnLayer, is_same_key};
 use crate::spans::span_of;
 use geo_base::{LayerKey, Rect};
 use std::alloc::{AllocError, Global};
@@ -111,7 +111,7 @@ pub fn find_index<'a>(
     ensures { MatchOption result (own_rects layers.now key ≡ []) (λ index. index.now ≡ own_rects layers.now key) }
 {
     for i in 0..layers.len() {
-        if is_key(layers[i].key, key) {
+        if is_same_key(layers[i].key, key) {
             return Some(&own[i]);
         }
     }

@@ -8,7 +8,7 @@ use Rattle.geo_base.specs.declared.shapes.Square.{Square}
 use Rattle.flat_layout.specs.Layout.{Cell, Place, Design, IsOwn, IsPlaced, Takes}
 use Rattle.flat_layout.specs.Layers.{Input, Empty, Binary, Combines, InFlat}
 use Rattle.edge_boolean.specs.Ops.{operated}
-use Rattle.cell_layers.specs.Readings.{reading_covers}
+use Rattle.cell_layers.specs.Formulas.{formula_covers}
 use Rattle.cell_laws.specs.Alone.{PlacesNone, AloneLaw, FlatLaw}
 
 none_placed : (d : Design) (cell k : ℕ) (p : Place) → PlacesNone d cell → IsPlaced d cell k p → ⊥
@@ -56,4 +56,4 @@ flat_law d cell own none tells (Input key) s =
     ((λ h. (tells key s).0 ((alone_law d cell none key s).0 h)), (λ h. (alone_law d cell none key s).1 ((tells key s).1 h)))
 flat_law d cell own none tells Empty s = ((λ h. absurd h), (λ h. absurd (let e : false ≡ true = h in cc)))
 flat_law d cell own none tells (Binary op a b) s =
-    combined op (InFlat d cell a s) (InFlat d cell b s) (reading_covers own a s) (reading_covers own b s) (flat_law d cell own none tells a s) (flat_law d cell own none tells b s)
+    combined op (InFlat d cell a s) (InFlat d cell b s) (formula_covers own a s) (formula_covers own b s) (flat_law d cell own none tells a s) (flat_law d cell own none tells b s)

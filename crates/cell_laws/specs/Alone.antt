@@ -3,8 +3,8 @@ use Rattle.std.specs.Prelude.{◌≡◌, ◌↔◌, ℕ, Bool, true, [], Some, s
 use Rattle.geo_base.specs.declared.layer.LayerKey.{LayerKey}
 use Rattle.geo_base.specs.declared.shapes.Square.{Square}
 use Rattle.flat_layout.specs.Layout.{Cell, Design, IsOwn, InFlatInput}
-use Rattle.flat_layout.specs.Layers.{Reading, InFlat}
-use Rattle.cell_layers.specs.Readings.{reading_covers}
+use Rattle.flat_layout.specs.Layers.{Formula, InFlat}
+use Rattle.cell_layers.specs.Formulas.{formula_covers}
 
 -- the cell of this number places no other
 abbrev pub PlacesNone : Design → ℕ → Type 0
@@ -21,4 +21,4 @@ TellsOwn d cell own = (key : LayerKey) (s : Square) → IsOwn d cell key s ↔ (
 -- and its flat squares on a name are those that the name covers over them
 abbrev pub FlatLaw : Type 0
 FlatLaw = (d : Design) (cell : ℕ) (own : LayerKey → Square → Bool) → PlacesNone d cell → TellsOwn d cell own
-    → (name : Reading) (s : Square) → InFlat d cell name s ↔ (reading_covers own name s ≡ true)
+    → (name : Formula) (s : Square) → InFlat d cell name s ↔ (formula_covers own name s ≡ true)

@@ -1,3 +1,3 @@
 pub mod Shapes
-pub mod Readings
+pub mod Formulas
 pub mod Uses

@@ -4,12 +4,12 @@ use Rattle.std.specs.List.{All}
 use Rattle.geo_base.specs.declared.layer.LayerKey.{LayerKey}
 use Rattle.geo_base.specs.declared.shapes.Rect.{Rect}
 use Rattle.geo_base.specs.declared.shapes.Square.{Square}
-use Rattle.flat_layout.specs.Layers.{Reading}
+use Rattle.flat_layout.specs.Layers.{Formula}
 use Rattle.rule_text.specs.declared.rules.LayerForm.{LayerForm}
 use Rattle.rule_text.specs.declared.rules.LayerForm.TheVariants as form
 use Rattle.rule_text.specs.declared.rules.LayerRule.{LayerRule}
 use Rattle.rule_text.specs.declared.rules.Output.{Output}
-use Rattle.cell_layers.specs.Readings.{IsRight}
+use Rattle.cell_layers.specs.Formulas.{IsRight}
 
 -- the name of this number is kept up to this moment at least
 abbrev pub IsUsed : List ℕ → ℕ → ℕ → Type 0
@@ -31,12 +31,12 @@ pub record AreUses (names : List LayerRule) (outputs : List Output) (last : List
   pub written : All (λ o. IsUsed last o.layer (length names)) outputs
 
 -- the sets of the form's operands are right
-abbrev pub AreOperandsRight : (LayerKey → Square → Bool) → List Reading → List (List Rect) → LayerForm → Type 0
+abbrev pub AreOperandsRight : (LayerKey → Square → Bool) → List Formula → List (List Rect) → LayerForm → Type 0
 AreOperandsRight own trees sets (form.Binary op a b) = IsRight own trees sets a × IsRight own trees sets b
 AreOperandsRight own trees sets _ = Unit {0}
 
 -- one set for each tree; those that are kept up to this moment or longer are right
-pub record AreKept (own : LayerKey → Square → Bool) (trees : List Reading) (last : List ℕ) (moment : ℕ) (sets : List (List Rect)) : Type 0 where
+pub record AreKept (own : LayerKey → Square → Bool) (trees : List Formula) (last : List ℕ) (moment : ℕ) (sets : List (List Rect)) : Type 0 where
   pub count : length sets ≡ length trees
   pub each : (k : ℕ) → k < length trees → moment ≤ slice_index_or last k 0 → IsRight own trees sets k
 

@@ -3,12 +3,12 @@ ghost use Rattle.std.specs.Prelude.{◌≡◌, [], ◌∷◌, ◌++◌, List, If
 ghost use Rattle.std.specs.List.{All};
 ghost use Rattle.geo_base.specs.declared.shapes.Square.{Square};
 ghost use Rattle.rect_sets.specs.Rects.{covers, IsCanonical};
-ghost use Rattle.flat_layout.specs.Layers.{Reading};
+ghost use Rattle.flat_layout.specs.Layers.{Formula};
 ghost use Rattle.gds_elements.specs.Fillable.{AreFillable};
 ghost use Rattle.gds_elements.specs.Reading.{cell_seen};
 ghost use Rattle.cell_layers.specs.Shapes.{own_covers};
-ghost use Rattle.cell_layers.specs.Readings.{reading_covers, IsRight};
-ghost use Rattle.rule_layers.specs.Readings.{readings, reading_by};
+ghost use Rattle.cell_layers.specs.Formulas.{formula_covers, IsRight};
+ghost use Rattle.rule_layers.specs.Formulas.{formulas, formula_by};
 ghost use Rattle.cell_layers.specs.Uses.{AreOperandsRight, StayAfter};
 
 use crate::own::own_set;
@@ -27,7 +27,7 @@ fn form_set(
     form: LayerForm,
 ) -> Result<RectSet, AllocError>
     requires { AreFillable (cell_seen cell.now) }
-    ensures { (trees : List Reading) → AreOperandsRight (own_covers (cell_seen cell.now)) trees before.now form → IfOk result (λ r. (s : Square) → covers r s ≡ reading_covers (own_covers (cell_seen cell.now)) (reading_by trees form) s) }
+    ensures { (trees : List Formula) → AreOperandsRight (own_covers (cell_seen cell.now)) trees before.now form → IfOk result (λ r. (s : Square) → covers r s ≡ formula_covers (own_covers (cell_seen cell.now)) (formula_by trees form) s) }
 {
     match form {
         LayerForm::Input(key) => own_set(alloc, cell, key),
@@ -88,7 +88,7 @@ pub fn layer_sets(
     outputs: &[Output],
 ) -> Result<Vec<RectSet>, AllocError>
     requires { AreFillable (cell_seen cell.now) }
-    ensures layers { IfOk result (λ sets. All (λ o. IsRight (own_covers (cell_seen cell.now)) (readings names.now) sets.items o.layer) outputs.now) }
+    ensures layers { IfOk result (λ sets. All (λ o. IsRight (own_covers (cell_seen cell.now)) (formulas names.now) sets.items o.layer) outputs.now) }
     ensures canonical { IfOk result (λ sets. All IsCanonical sets.items) }
 {
     let last = last_uses(alloc, names, outputs)?;

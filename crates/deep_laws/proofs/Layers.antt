@@ -4,13 +4,13 @@ use Rattle.geo_base.specs.Motions.{moved_square}
 use Rattle.geo_base.specs.declared.layer.LayerKey.{LayerKey}
 use Rattle.geo_base.specs.declared.layer.Op.{Op}
 use Rattle.geo_base.specs.declared.shapes.Square.{Square}
-use Rattle.flat_layout.specs.Layers.{Reading, Binary, inputs, reach, InFlat, IsKept, IsKeptBelow, IsStirred}
+use Rattle.flat_layout.specs.Layers.{Formula, Binary, inputs, reach, InFlat, IsKept, IsKeptBelow, IsStirred}
 use Rattle.flat_layout.specs.Layout.{Design, Place, Some_of, IsOwn, IsPlaced, IsReached, IsDisturbed, Takes}
 use Rattle.flat_laws.proofs.Names.{name_still, same_flat, under_input}
 use Rattle.deep_laws.specs.Layers.{CandidateLaw, BelowLaw, IsFromDisturbed, IsOwnOn, AreDecidedBelow}
 
 -- the placed cell keeps its square where that isn't disturbed
-kept_there : (d : Design) (op : Op) (a b : Reading) (cell k : ℕ) (p : Place) (r q : Square) → IsReached d cell → IsPlaced d cell k p → (IsDisturbed d (inputs (Binary op a b)) p.cell r → ⊥) → moved_square p.motion r ≡ q
+kept_there : (d : Design) (op : Op) (a b : Formula) (cell k : ℕ) (p : Place) (r q : Square) → IsReached d cell → IsPlaced d cell k p → (IsDisturbed d (inputs (Binary op a b)) p.cell r → ⊥) → moved_square p.motion r ≡ q
     → InFlat d cell (Binary op a b) q → IsKept d p.cell (Binary op a b) r
 kept_there d op a b cell k p r q reached placed calm e flat =
     let still : IsStirred d (inputs (Binary op a b)) (reach (Binary op a b)) p.cell r → ⊥ = λ h. calm ((name_still d (Binary op a b) p.cell r).0 h) in
@@ -21,7 +21,7 @@ own_on d [] key cell q s o = absurd s
 own_on d (k ∷ keys) key cell q (inl e) o = inl (subst (λ j. IsOwn d cell j q) (sym e) o)
 own_on d (k ∷ keys) key cell q (inr s) o = inr (own_on d keys key cell q s o)
 
-by_path : (d : Design) (op : Op) (a b : Reading) (cell : ℕ) (q : Square) → IsReached d cell → AreDecidedBelow d (inputs (Binary op a b)) cell → InFlat d cell (Binary op a b) q
+by_path : (d : Design) (op : Op) (a b : Formula) (cell : ℕ) (q : Square) → IsReached d cell → AreDecidedBelow d (inputs (Binary op a b)) cell → InFlat d cell (Binary op a b) q
     → (key : LayerKey) → Some_of (λ k. k ≡ key) (inputs (Binary op a b)) → (path : List ℕ) (end : ℕ) (s : Square) → Takes d cell path end s q → IsOwn d end key s
     → IsOwnOn d (inputs (Binary op a b)) cell q ⊎ (IsFromDisturbed d (inputs (Binary op a b)) cell q ⊎ IsKeptBelow d cell (Binary op a b) q)
 by_path d op a b cell q reached decided flat key listed [] end s takes o =

@@ -4,7 +4,7 @@ use Rattle.geo_base.specs.Motions.{moved_square}
 use Rattle.geo_base.specs.declared.layer.LayerKey.{LayerKey}
 use Rattle.geo_base.specs.declared.layer.Op.{Op}
 use Rattle.geo_base.specs.declared.shapes.Square.{Square}
-use Rattle.flat_layout.specs.Layers.{Reading, Binary, inputs, InFlat, IsKeptBelow, IsDecided}
+use Rattle.flat_layout.specs.Layers.{Formula, Binary, inputs, InFlat, IsKeptBelow, IsDecided}
 use Rattle.flat_layout.specs.Layout.{Design, Place, Some_of, IsOwn, IsPlaced, IsReached}
 use Rattle.flat_layout.specs.Layout.{IsDisturbed, InFlatInput}
 
@@ -41,13 +41,13 @@ AreDecidedBelow d keys cell = (k : ℕ) (p : Place) (key : LayerKey) (r : Square
 -- a flat square that isn't over own shapes, nor over disturbed squares of placed cells, is kept by
 -- a placed cell
 abbrev pub CandidateLaw : Type 0
-CandidateLaw = (d : Design) (op : Op) (a b : Reading) (cell : ℕ) (q : Square) → IsReached d cell
+CandidateLaw = (d : Design) (op : Op) (a b : Formula) (cell : ℕ) (q : Square) → IsReached d cell
     → AreDecidedBelow d (inputs (Binary op a b)) cell → InFlat d cell (Binary op a b) q
     → IsOwnOn d (inputs (Binary op a b)) cell q
     ⊎ (IsFromDisturbed d (inputs (Binary op a b)) cell q ⊎ IsKeptBelow d cell (Binary op a b) q)
 
 -- of the flat squares, the placed cells keep those that aren't disturbed there
 abbrev pub BelowLaw : Type 0
-BelowLaw = (d : Design) (op : Op) (a b : Reading) (cell : ℕ) (q : Square) → IsReached d cell
+BelowLaw = (d : Design) (op : Op) (a b : Formula) (cell : ℕ) (q : Square) → IsReached d cell
     → InFlat d cell (Binary op a b) q
     → IsKeptBelow d cell (Binary op a b) q ↔ IsFromCalm d (inputs (Binary op a b)) cell q

@@ -1,7 +1,7 @@
 -- Tables that agree below a cell hold the same there.
 use Rattle.std.proofs.Common.{◌≡◌, ℕ, zero, suc, ◌<◌, ◌++◌, List, [], ◌∷◌, Some, get_or, slice_get, length, refl, sym, ◌∙◌, ap, subst, arith}
 use Rattle.geo_base.specs.declared.shapes.Rect.{Rect}
-use Rattle.flat_layout.specs.Layers.{Reading}
+use Rattle.flat_layout.specs.Layers.{Formula}
 use Rattle.flat_layout.specs.Layout.{Design, Place, IsHeight, IsPlaced, IsReached}
 use Rattle.flat_layout.specs.Nets.{AreNets, AreRightBelow, CellNets, Child, Global, HoldsAt, IsItem, IsItemLink, IsOf, IsUnder, Item, ItemHolds, NetHolds, Own, Tables, child_items, items_of, no_cell, own_items, run}
 use Rattle.flat_layout.specs.Regions.{Node, Wiring}
@@ -70,7 +70,7 @@ item_link d w s t cell a x y h = record {
 linked : (d : Design) (w : Wiring) (s t : Tables) (cell : ℕ) → AgreeBelow d s t cell → (x y : Item) → Reaches (IsItemLink d w s cell) x y → Reaches (IsItemLink d w t cell) x y
 linked d w s t cell a x y h = along (IsItemLink d w s cell) (IsItemLink d w t cell) (λ i. i) (λ i j l. single (IsItemLink d w t cell) i j (item_link d w s t cell a i j l)) x y h
 
-same_own : (d : Design) (s t : Tables) (cell c : ℕ) (xs : List Reading) → AgreeBelow d s t cell → own_items s cell c xs ≡ own_items t cell c xs
+same_own : (d : Design) (s t : Tables) (cell c : ℕ) (xs : List Formula) → AgreeBelow d s t cell → own_items s cell c xs ≡ own_items t cell c xs
 same_own d s t cell c [] a = refl
 same_own d s t cell c (x ∷ xs) a =
     ap (λ (l : List Rect). run (Own c) 0 (length l) ++ own_items s cell (suc c) xs) (a.own cell c ([], refl)) ∙ ap (λ (l : List Item). run (Own c) 0 (length (t.own cell c)) ++ l) (same_own d s t cell (suc c) xs a)

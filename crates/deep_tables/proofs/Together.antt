@@ -8,13 +8,13 @@ use Rattle.flat_layout.specs.Nets.{AreListed, IsNetsOf, Tables}
 use Rattle.flat_layout.specs.Pins as flat
 use Rattle.flat_layout.specs.GateTables as gate_tables
 use Rattle.flat_layout.specs.Values.{IsCellCircuitOf, IsLocalLayer}
-use Rattle.flat_layout.specs.Regions.{reading}
+use Rattle.flat_layout.specs.Regions.{formula}
 use Rattle.cell_graph.specs.Linked.{plain, height_at}
 use Rattle.cell_graph.proofs.Bridge.{heights}
 use Rattle.rule_text.specs.Reading.{is_conductor}
 use Rattle.rule_text.specs.Rules.{Rules}
 use Rattle.rule_layers.specs.Meaning.{device_rules, wiring_of}
-use Rattle.rule_layers.specs.Readings.{readings}
+use Rattle.rule_layers.specs.Formulas.{formulas}
 use Rattle.rule_layers.proofs.Wired.{conductors}
 use Rattle.flat_laws.proofs.Items.{together as nets_together}
 use Rattle.table_laws.proofs.Tabled.{leads_both, reached_under}
@@ -33,23 +33,23 @@ use Rattle.deep_tables.proofs.Nothing.{no_squares}
 use Rattle.deep_tables.proofs.Reading.{layer_at, some_and}
 
 -- past the rules' names the table has no squares, and nothing is read
-named : (d : Design) (r : Rules) (layers : List (Option CellLayers)) (cell c : ℕ) → AreLayers d r layers → IsReached d cell → IsLocalLayer d (get_or (readings r.names) c Empty) cell (rects_in (layer_of layers cell c))
-named d r layers cell c right reached = elim (slice_get_cases (readings r.names) c).1 [
+named : (d : Design) (r : Rules) (layers : List (Option CellLayers)) (cell c : ℕ) → AreLayers d r layers → IsReached d cell → IsLocalLayer d (get_or (formulas r.names) c Empty) cell (rects_in (layer_of layers cell c))
+named d r layers cell c right reached = elim (slice_get_cases (formulas r.names) c).1 [
   | inl h ↦
       let found = layer_at d r layers cell c h.0 right reached h.2 in
-      subst (λ x. IsLocalLayer d x cell (rects_in (layer_of layers cell c))) (sym (get_or_from_slice_get (readings r.names) c h.0 Empty h.2))
+      subst (λ x. IsLocalLayer d x cell (rects_in (layer_of layers cell c))) (sym (get_or_from_slice_get (formulas r.names) c h.0 Empty h.2))
       (subst (λ o. IsLocalLayer d h.0 cell (rects_in o)) (sym found.1) found.2)
   | inr h ↦
       let v = some_and (AreCellLayers d r cell) (entry layers cell) (right cell reached) in
       let le = h.0 in let same = v.2.names in
       let none : layer_of layers cell c ≡ None = ap (λ o. squares_on o c) v.1 ∙ slice_get_past v.0.layers.items c (omega arith) in
-      subst (λ x. IsLocalLayer d x cell (rects_in (layer_of layers cell c))) (sym (get_or_past (readings r.names) c Empty le))
+      subst (λ x. IsLocalLayer d x cell (rects_in (layer_of layers cell c))) (sym (get_or_past (formulas r.names) c Empty le))
       (subst (λ o. IsLocalLayer d Empty cell (rects_in o)) (sym none) (no_squares d cell))
 ]
 
 -- of a conductor, and of none
 by_kind : (d : Design) (r : Rules) (layers : List (Option CellLayers)) (cell c : ℕ) → AreLayers d r layers → IsReached d cell → (b : Bool) → is_conductor c r ≡ b
-    → IsLocalLayer d (reading (wiring_of r) c) cell (if b then rects_in (layer_of layers cell c) else [])
+    → IsLocalLayer d (formula (wiring_of r) c) cell (if b then rects_in (layer_of layers cell c) else [])
 by_kind d r layers cell c right reached true e = subst (λ x. IsLocalLayer d x cell (rects_in (layer_of layers cell c))) (sym ((conductors r c).conductor e)) (named d r layers cell c right reached)
 by_kind d r layers cell c right reached false e = subst (λ x. IsLocalLayer d x cell []) (sym ((conductors r c).none e)) (no_squares d cell)
 

@@ -4,7 +4,7 @@ use Rattle.geo_base.specs.declared.shapes.Rect.{Rect}
 use Rattle.flat_layout.specs.Layout.{Design, Place, IsPlaced, IsReached}
 use Rattle.flat_layout.specs.Nets as flat
 use Rattle.flat_layout.specs.Nets.{AreRightBelow, IsNetsOf, IsUnder, Tables}
-use Rattle.flat_layout.specs.Regions.{Wiring, reading}
+use Rattle.flat_layout.specs.Regions.{Wiring, formula}
 use Rattle.flat_layout.specs.Values.{IsLocalLayer}
 use Rattle.cell_graph.specs.Linked.{Linked, IsSound, plain}
 use Rattle.rule_text.specs.Reading.{is_conductor}
@@ -59,7 +59,7 @@ tables_of r layers nets = record {
 
 -- each reached cell's own rectangles and nets are right
 pub record AreRightNets (d : Design) (w : Wiring) (t : Tables) : Type 0 where
-  pub own : (cell c : ℕ) → IsReached d cell → IsLocalLayer d (reading w c) cell (t.own cell c)
+  pub own : (cell c : ℕ) → IsReached d cell → IsLocalLayer d (formula w c) cell (t.own cell c)
   pub nets : (cell : ℕ) → IsReached d cell → IsNetsOf d w cell (t.nets cell)
 
 -- right layers and right nets are right together

@@ -3,12 +3,12 @@ use Rattle.std.specs.Prelude.{◌≡◌, ℕ, List, [], Option, Some, None, leng
 use Rattle.geo_base.specs.declared.layer.LayerKey.{LayerKey}
 use Rattle.geo_base.specs.declared.shapes.Rect.{Rect}
 use Rattle.flat_layout.specs.Gates.{gate_inputs, Rule}
-use Rattle.flat_layout.specs.Layers.{Reading, inputs}
+use Rattle.flat_layout.specs.Layers.{Formula, inputs}
 use Rattle.flat_layout.specs.Layout.{Design, IsReached}
 use Rattle.flat_layout.specs.Values.{IsZone}
 use Rattle.rule_text.specs.Rules.{Rules}
 use Rattle.rule_layers.specs.Meaning.{device_rules, wiring_of}
-use Rattle.rule_layers.specs.Readings.{readings}
+use Rattle.rule_layers.specs.Formulas.{formulas}
 use Rattle.deep_tables.specs.Entries.{entry, AreEntries}
 use Rattle.deep_tables.specs.declared.zones.CellZones.{CellZones}
 use Rattle.deep_tables.specs.declared.zones.ZoneKey.{ZoneKey}
@@ -17,8 +17,8 @@ use Rattle.deep_tables.specs.declared.zones.ZoneKey.TheVariants.{Layer, Device}
 -- for each name of the rules, and for each device rule, the disturbed squares for what it reads, in
 -- the cell's hull grown by one
 pub record AreCellZones (d : Design) (r : Rules) (cell : ℕ) (v : CellZones) : Type 0 where
-  pub names : length v.layers.items ≡ length (readings r.names)
-  pub layers : (i : ℕ) (x : Reading) (zone : List Rect) → slice_get (readings r.names) i ≡ Some x
+  pub names : length v.layers.items ≡ length (formulas r.names)
+  pub layers : (i : ℕ) (x : Formula) (zone : List Rect) → slice_get (formulas r.names) i ≡ Some x
       → slice_get v.layers.items i ≡ Some zone → IsZone d (inputs x) 1 cell zone
   pub rules : length v.devices.items ≡ length (device_rules r)
   pub devices : (i : ℕ) (u : Rule) (zone : List Rect) → slice_get (device_rules r) i ≡ Some u
@@ -44,9 +44,9 @@ HasZone d table cell key keys = (zone : List Rect) × (zone_of table cell key �
     × IsZone d keys 1 cell zone
 
 abbrev pub ZoneAtLaw : Type 0
-ZoneAtLaw = (d : Design) (r : Rules) (table : List (Option CellZones)) (cell i : ℕ) (x : Reading)
+ZoneAtLaw = (d : Design) (r : Rules) (table : List (Option CellZones)) (cell i : ℕ) (x : Formula)
     → AreZones d r table → IsReached d cell
-    → slice_get (readings r.names) i ≡ Some x → HasZone d table cell (Layer i) (inputs x)
+    → slice_get (formulas r.names) i ≡ Some x → HasZone d table cell (Layer i) (inputs x)
 
 abbrev pub DeviceZoneAtLaw : Type 0
 DeviceZoneAtLaw = (d : Design) (r : Rules) (table : List (Option CellZones)) (cell i : ℕ) (u : Rule)

@@ -1,7 +1,7 @@
 -- What the cells hold covers what a cell keeps.
 use Rattle.std.proofs.Common.{◌⊎◌, inl, inr, ℕ, zero, suc, ◌<◌, ◌++◌, List, [], ◌∷◌, refl, sym, subst, arith}
 use Rattle.flat_laws.specs.LayerLaws.{CoverLaw}
-use Rattle.flat_layout.specs.Layers.{Reading, Input, Empty, Binary, inputs, reach, IsKept, IsKeptBelow, IsLocal, IsCovered}
+use Rattle.flat_layout.specs.Layers.{Formula, Input, Empty, Binary, inputs, reach, IsKept, IsKeptBelow, IsLocal, IsCovered}
 use Rattle.flat_layout.specs.Layout.{Place, Design, IsPlaced, Leads, Takes, IsReached, IsHeight}
 use Rattle.geo_base.specs.Motions.{moved_square}
 use Rattle.geo_base.specs.declared.shapes.Square.{Square}
@@ -15,25 +15,25 @@ pub reached_below : (d : Design) (cell k : ℕ) (p : Place) → IsReached d cell
 reached_below d cell k p r placed = record { path = r.path ++ k ∷ []; leads = leads_on d d.top cell p.cell k p r.path r.leads placed }
 
 -- what a placed cell keeps, its parent keeps
-pub kept_above : (d : Design) (cell k : ℕ) (p : Place) (name : Reading) (q : Square) → IsReached d cell → IsPlaced d cell k p → IsKept d p.cell name q → IsKept d cell name (moved_square p.motion q)
+pub kept_above : (d : Design) (cell k : ℕ) (p : Place) (name : Formula) (q : Square) → IsReached d cell → IsPlaced d cell k p → IsKept d p.cell name q → IsKept d cell name (moved_square p.motion q)
 kept_above d cell k p (Input key) q reached placed kept = record { path = k ∷ kept.path; end = kept.end; square = kept.square; takes = (p, placed, q, kept.takes, refl); own = kept.own }
 kept_above d cell k p Empty q reached placed kept = kept
 kept_above d cell k p (Binary op a b) q reached placed kept =
     ((same_flat d (Binary op a b) cell k p q reached placed kept.1).1 kept.0, stirless_above d (inputs (Binary op a b)) (reach (Binary op a b)) cell k p q placed kept.1)
 
-pub kept_here : (d : Design) (cell : ℕ) (name : Reading) (q : Square) → IsLocal d cell name q → IsKept d cell name q
+pub kept_here : (d : Design) (cell : ℕ) (name : Formula) (q : Square) → IsLocal d cell name q → IsKept d cell name q
 kept_here d cell (Input key) q h = record { path = []; end = cell; square = q; takes = (refl, refl); own = h }
 kept_here d cell Empty q h = h
 kept_here d cell (Binary op a b) q h = h.0
 
-kept_along : (d : Design) (name : Reading) (path : List ℕ) (cell end : ℕ) (s q : Square) → IsReached d cell → Takes d cell path end s q → IsLocal d end name s → IsKept d cell name q
+kept_along : (d : Design) (name : Formula) (path : List ℕ) (cell end : ℕ) (s q : Square) → IsReached d cell → Takes d cell path end s q → IsLocal d end name s → IsKept d cell name q
 kept_along d name [] cell end s q reached takes here =
     subst (λ (c : ℕ). IsKept d c name q) (sym takes.0) (subst (λ (v : Square). IsKept d end name v) takes.1 (kept_here d end name s here))
 kept_along d name (k ∷ ks) cell end s q reached takes here =
     let below = kept_along d name ks takes.0.cell end s takes.2 (reached_below d cell k takes.0 reached takes.1) takes.3 here in
     subst (λ (v : Square). IsKept d cell name v) takes.4 (kept_above d cell k takes.0 name takes.2 reached takes.1 below)
 
-found : (d : Design) (height : ℕ → ℕ) (name : Reading) → IsHeight d height → ((cell : ℕ) (q : Square) → IsReached d cell → IsKept d cell name q → IsLocal d cell name q ⊎ IsKeptBelow d cell name q)
+found : (d : Design) (height : ℕ → ℕ) (name : Formula) → IsHeight d height → ((cell : ℕ) (q : Square) → IsReached d cell → IsKept d cell name q → IsLocal d cell name q ⊎ IsKeptBelow d cell name q)
     → (n cell : ℕ) (q : Square) → height cell < n → IsReached d cell → IsKept d cell name q → IsCovered d cell name q
 found d height name linked parted zero cell q lt reached kept = absurd (omega arith)
 found d height name linked parted (suc n) cell q lt reached kept =

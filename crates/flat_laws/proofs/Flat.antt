@@ -2,7 +2,7 @@
 use Rattle.std.proofs.Common.{◌↔◌, ℕ, [], refl}
 use Rattle.flat_layout.specs.Gates.{geometry}
 use Rattle.flat_layout.specs.Layout.{Design, IsHeight, IsReached}
-use Rattle.flat_layout.specs.Regions.{Wiring, Node, At, Ground, IsNode, IsLink, InOneRegion, reading, kept, flat}
+use Rattle.flat_layout.specs.Regions.{Wiring, Node, At, Ground, IsNode, IsLink, InOneRegion, formula, kept, flat}
 use Rattle.flat_laws.proofs.Expand.{expanded}
 use Rattle.flat_laws.proofs.Once.{top_settled}
 use Rattle.flat_laws.proofs.OneNet.{regions}
@@ -11,7 +11,7 @@ use Rattle.flat_laws.specs.NetlistLaws.{FlatNetlistLaw, FlatRegionLaw}
 use Rattle.plain_netlist.proofs.Links.{single, along}
 
 node_flat : (d : Design) (w : Wiring) (height : ℕ → ℕ) → IsHeight d height → (n : Node) → IsNode w (kept d w d.top) n ↔ IsNode w (flat d w d.top) n
-node_flat d w height lower (At c q) = top_kept d height (reading w c) q lower
+node_flat d w height lower (At c q) = top_kept d height (formula w c) q lower
 node_flat d w height lower (Ground g) = ((λ h. h), (λ h. h))
 
 pub region_flat : (d : Design) (w : Wiring) (height : ℕ → ℕ) → IsHeight d height → (a b : Node) → InOneRegion w (kept d w d.top) a b ↔ InOneRegion w (flat d w d.top) a b

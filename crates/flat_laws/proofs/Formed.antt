@@ -4,10 +4,10 @@ use Rattle.std.proofs.Math.Nat.{le-max_left, le-max_right}
 use Rattle.std.proofs.lemmas.List.{length-map}
 use Rattle.flat_laws.specs.GateLaws.{IsReadWhole, KeptFormLaw, ReadLayersLaw}
 use Rattle.flat_layout.specs.Gates.{Rule, Geometry, geometry, gate_inputs, IsReadBy, IsStep, InGate, IsGateOrRing, InRing, IsSettled, InSide, InOneGroup, Edge, IsBorder, IsWide, IsLong, AreGroups, IsGoodGate, IsTerminalNode, Cause, Groups, OffGate, OffSd, NoBulk, NoLength, IsBadGate, moved_edge}
-use Rattle.flat_layout.specs.Layers.{Reading, inputs, reach, InFlat}
+use Rattle.flat_layout.specs.Layers.{Formula, inputs, reach, InFlat}
 use Rattle.flat_layout.specs.Layout.{Place, Design, Some_of, IsPlaced, IsReached}
 use Rattle.flat_layout.specs.Parts.{AllOn, SomeOff, InEnds}
-use Rattle.flat_layout.specs.Regions.{Wiring, Node, At, Ground, moved, reading}
+use Rattle.flat_layout.specs.Regions.{Wiring, Node, At, Ground, moved, formula}
 use Rattle.geo_base.specs.declared.layer.LayerKey.{LayerKey}
 use Rattle.geo_base.specs.Motions.{moved_square}
 use Rattle.geo_base.specs.declared.shapes.Square.{Square}
@@ -22,13 +22,13 @@ use Rattle.flat_laws.proofs.Kept.{close_in, close_by, same_read, gate_up, gate_d
 
 -- some gate square is off the conductor; each square of the two groups is on that of source and drain; some isn't
 abbrev IsGateOff : Design → Wiring → Rule → ℕ → Square → ℕ → Type 0
-IsGateOff d w u cell s c = SomeOff (InGate d (geometry w u) cell s) (InFlat d cell (reading w c))
+IsGateOff d w u cell s c = SomeOff (InGate d (geometry w u) cell s) (InFlat d cell (formula w c))
 
 abbrev AreEndsOn : Design → Wiring → Rule → ℕ → Square → Edge → Edge → Type 0
-AreEndsOn d w u cell s e f = AllOn (InEnds (InGate d (geometry w u) cell s) (InFlat d cell u.sd) e f) (InFlat d cell (reading w u.ts))
+AreEndsOn d w u cell s e f = AllOn (InEnds (InGate d (geometry w u) cell s) (InFlat d cell u.sd) e f) (InFlat d cell (formula w u.ts))
 
 abbrev AreEndsOff : Design → Wiring → Rule → ℕ → Square → Edge → Edge → Type 0
-AreEndsOff d w u cell s e f = SomeOff (InEnds (InGate d (geometry w u) cell s) (InFlat d cell u.sd) e f) (InFlat d cell (reading w u.ts))
+AreEndsOff d w u cell s e f = SomeOff (InEnds (InGate d (geometry w u) cell s) (InFlat d cell u.sd) e f) (InFlat d cell (formula w u.ts))
 
 abbrev AreIn : List LayerKey → List LayerKey → Type 0
 AreIn xs ys = (key : LayerKey) → Some_of (λ k. k ≡ key) xs → Some_of (λ k. k ≡ key) ys
@@ -43,19 +43,19 @@ well_in : (w : Wiring) (u : Rule) → AreIn (inputs u.well) (gate_inputs w u)
 well_in w u key h = more_right (λ k. k ≡ key) (inputs u.sd) _ (more_right (λ k. k ≡ key) (inputs u.gate) _ (more_left (λ k. k ≡ key) (inputs u.well) _ h))
 
 abbrev tail_ts : Wiring → Rule → List LayerKey
-tail_ts w u = inputs (reading w u.ts) ++ (inputs (reading w u.tg) ++ inputs (reading w u.tb))
+tail_ts w u = inputs (formula w u.ts) ++ (inputs (formula w u.tg) ++ inputs (formula w u.tb))
 
 well_more : (w : Wiring) (u : Rule) (key : LayerKey) → Some_of (λ k. k ≡ key) (tail_ts w u) → Some_of (λ k. k ≡ key) (gate_inputs w u)
 well_more w u key h = more_right (λ k. k ≡ key) (inputs u.sd) _ (more_right (λ k. k ≡ key) (inputs u.gate) _ (more_right (λ k. k ≡ key) (inputs u.well) _ h))
 
-ts_in : (w : Wiring) (u : Rule) → AreIn (inputs (reading w u.ts)) (gate_inputs w u)
-ts_in w u key h = well_more w u key (more_left (λ k. k ≡ key) (inputs (reading w u.ts)) _ h)
+ts_in : (w : Wiring) (u : Rule) → AreIn (inputs (formula w u.ts)) (gate_inputs w u)
+ts_in w u key h = well_more w u key (more_left (λ k. k ≡ key) (inputs (formula w u.ts)) _ h)
 
-tg_in : (w : Wiring) (u : Rule) → AreIn (inputs (reading w u.tg)) (gate_inputs w u)
-tg_in w u key h = well_more w u key (more_right (λ k. k ≡ key) (inputs (reading w u.ts)) _ (more_left (λ k. k ≡ key) (inputs (reading w u.tg)) _ h))
+tg_in : (w : Wiring) (u : Rule) → AreIn (inputs (formula w u.tg)) (gate_inputs w u)
+tg_in w u key h = well_more w u key (more_right (λ k. k ≡ key) (inputs (formula w u.ts)) _ (more_left (λ k. k ≡ key) (inputs (formula w u.tg)) _ h))
 
-tb_in : (w : Wiring) (u : Rule) → AreIn (inputs (reading w u.tb)) (gate_inputs w u)
-tb_in w u key h = well_more w u key (more_right (λ k. k ≡ key) (inputs (reading w u.ts)) _ (more_right (λ k. k ≡ key) (inputs (reading w u.tg)) _ h))
+tb_in : (w : Wiring) (u : Rule) → AreIn (inputs (formula w u.tb)) (gate_inputs w u)
+tb_in w u key h = well_more w u key (more_right (λ k. k ≡ key) (inputs (formula w u.ts)) _ (more_right (λ k. k ≡ key) (inputs (formula w u.tg)) _ h))
 
 -- one of six numbers is at most their greatest
 module _ (a b c e f g : ℕ) where
@@ -94,7 +94,7 @@ module _ (a b c e f g : ℕ) where
 
 pub read_layers : ReadLayersLaw
 read_layers w u =
-    let a = reach u.sd in let b = reach u.gate in let c = reach u.well in let e = reach (reading w u.ts) in let f = reach (reading w u.tg) in let g = reach (reading w u.tb) in
+    let a = reach u.sd in let b = reach u.gate in let c = reach u.well in let e = reach (formula w u.ts) in let f = reach (formula w u.tg) in let g = reach (formula w u.tb) in
     record {
       sd = record { keys = sd_in w u; reach = first_most a b c e f g };
       gate = record { keys = gate_in w u; reach = second_most a b c e f g };
@@ -114,7 +114,7 @@ module _ (d : Design) (w : Wiring) (u : Rule) (cell k : ℕ) (p : Place) (s : Sq
   whole : IsReadWhole w u
   whole = read_layers w u
 
-  same : (name : Reading) → IsReadBy geo name → (q : Square) → IsGateOrRing d geo p.cell s q → InFlat d cell name (f q) ↔ InFlat d p.cell name q
+  same : (name : Formula) → IsReadBy geo name → (q : Square) → IsGateOrRing d geo p.cell s q → InFlat d cell name (f q) ↔ InFlat d p.cell name q
   same = same_read d geo whole.gate cell k p s reached placed settled
 
   rings : (q : Square) → InRing d geo cell (f s) (f q) ↔ InRing d geo p.cell s q
@@ -193,12 +193,12 @@ module _ (d : Design) (w : Wiring) (u : Rule) (cell k : ℕ) (p : Place) (s : Sq
   )
 
   -- the squares of the gate on a name that the rule reads
-  all_on : (name : Reading) → IsReadBy geo name → ((q : Square) → InGate d geo p.cell s q → InFlat d p.cell name q) → (q : Square) → InGate d geo cell (f s) q → InFlat d cell name q
+  all_on : (name : Formula) → IsReadBy geo name → ((q : Square) → InGate d geo p.cell s q → InFlat d p.cell name q) → (q : Square) → InGate d geo cell (f s) q → InFlat d cell name q
   all_on name inside h q i =
       let r = gates_down q i in
       subst (λ y. InFlat d cell name y) r.1 ((same name inside r.0 (close_in d geo p.cell s r.0 r.2)).1 (h r.0 r.2))
 
-  all_back : (name : Reading) → IsReadBy geo name → ((q : Square) → InGate d geo cell (f s) q → InFlat d cell name q) → (q : Square) → InGate d geo p.cell s q → InFlat d p.cell name q
+  all_back : (name : Formula) → IsReadBy geo name → ((q : Square) → InGate d geo cell (f s) q → InFlat d cell name q) → (q : Square) → InGate d geo p.cell s q → InFlat d p.cell name q
   all_back name inside h q i = (same name inside q (close_in d geo p.cell s q i)).0 (h (f q) (gates_up q i))
 
   -- a group's squares lie in the ring
@@ -206,7 +206,7 @@ module _ (d : Design) (w : Wiring) (u : Rule) (cell k : ℕ) (p : Place) (s : Sq
   in_side a q [] h chain = subst (λ y. InSide d w u p.cell s y) chain h
   in_side a q (x ∷ xs) h chain = in_side x q xs chain.0.to chain.1
 
-  end_on : (name : Reading) → IsReadBy geo name → (e : Edge) → IsWide d w u p.cell s e → ((q : Square) → InOneGroup d w u p.cell s e.outer q → InFlat d p.cell name q)
+  end_on : (name : Formula) → IsReadBy geo name → (e : Edge) → IsWide d w u p.cell s e → ((q : Square) → InOneGroup d w u p.cell s e.outer q → InFlat d p.cell name q)
       → (q : Square) → InOneGroup d w u cell (f s) (f e.outer) q → InFlat d cell name q
   end_on name inside e v h q i =
       let r = onto p.motion q in
@@ -214,7 +214,7 @@ module _ (d : Design) (w : Wiring) (u : Rule) (cell k : ℕ) (p : Place) (s : Sq
       let side = in_side e.outer r.0 g.via (side_of e v) g.chain in
       subst (λ y. InFlat d cell name y) r.1 ((same name inside r.0 side.ring.close).1 (h r.0 g))
 
-  end_back : (name : Reading) → IsReadBy geo name → (e : Edge) → IsWide d w u p.cell s e → ((q : Square) → InOneGroup d w u cell (f s) (f e.outer) q → InFlat d cell name q)
+  end_back : (name : Formula) → IsReadBy geo name → (e : Edge) → IsWide d w u p.cell s e → ((q : Square) → InOneGroup d w u cell (f s) (f e.outer) q → InFlat d cell name q)
       → (q : Square) → InOneGroup d w u p.cell s e.outer q → InFlat d p.cell name q
   end_back name inside e v h q g =
       let side = in_side e.outer q g.via (side_of e v) g.chain in
@@ -229,12 +229,12 @@ module _ (d : Design) (w : Wiring) (u : Rule) (cell k : ℕ) (p : Place) (s : Sq
         wide = counts_map both_ends one_edge (IsWide d w u p.cell s) (IsWide d w u cell (f s)) wide onto_edge m h.wide;
         long = counts_map both_ends one_edge (IsLong d w u p.cell s) (IsLong d w u cell (f s)) long onto_edge n h.long;
         some = h.some;
-        gate_on = all_on (reading w u.tg) whole.tg h.gate_on;
+        gate_on = all_on (formula w u.tg) whole.tg h.gate_on;
         ends_on = λ q i. elim i [
-          | inl a ↦ end_on (reading w u.ts) whole.ts e first (λ r k. h.ends_on r (inl k)) q a
-          | inr a ↦ end_on (reading w u.ts) whole.ts g second (λ r k. h.ends_on r (inr k)) q a
+          | inl a ↦ end_on (formula w u.ts) whole.ts e first (λ r k. h.ends_on r (inl k)) q a
+          | inr a ↦ end_on (formula w u.ts) whole.ts g second (λ r k. h.ends_on r (inr k)) q a
         ];
-        bulk_on = λ none. all_on (reading w u.tb) whole.tb (h.bulk_on none);
+        bulk_on = λ none. all_on (formula w u.tb) whole.tb (h.bulk_on none);
       }
 
   -- the edge that an edge is the image of
@@ -281,30 +281,30 @@ module _ (d : Design) (w : Wiring) (u : Rule) (cell k : ℕ) (p : Place) (s : Sq
         wide = counts_map pulled pulled_one (IsWide d w u cell (f s)) (IsWide d w u p.cell s) pulled_wide pulled_onto m h.wide;
         long = counts_map pulled pulled_one (IsLong d w u cell (f s)) (IsLong d w u p.cell s) pulled_long pulled_onto n h.long;
         some = h.some;
-        gate_on = all_back (reading w u.tg) whole.tg h.gate_on;
+        gate_on = all_back (formula w u.tg) whole.tg h.gate_on;
         ends_on = λ q i. elim i [
-          | inl a ↦ end_back (reading w u.ts) whole.ts e first (λ r k. h.ends_on r (inl k)) q a
-          | inr a ↦ end_back (reading w u.ts) whole.ts g second (λ r k. h.ends_on r (inr k)) q a
+          | inl a ↦ end_back (formula w u.ts) whole.ts e first (λ r k. h.ends_on r (inl k)) q a
+          | inr a ↦ end_back (formula w u.ts) whole.ts g second (λ r k. h.ends_on r (inr k)) q a
         ];
-        bulk_on = λ none. all_back (reading w u.tb) whole.tb (h.bulk_on none);
+        bulk_on = λ none. all_back (formula w u.tb) whole.tb (h.bulk_on none);
       }
 
   same_groups : (list : List Edge) → AreGroups d w u p.cell s list → AreGroups d w u cell (f s) (map both_ends list)
   same_groups list h = classes_map both_ends one_edge (IsWide d w u p.cell s) (IsWide d w u cell (f s)) (λ a b. InOneGroup d w u p.cell s a.outer b.outer) (λ a b. InOneGroup d w u cell (f s) a.outer b.outer) wide (λ a b. groups a.outer b.outer) onto_edge list h
 
-  gate_off : (c : ℕ) → IsReadBy geo (reading w c) → IsGateOff d w u p.cell s c → IsGateOff d w u cell (f s) c
-  gate_off c inside h = (f h.0, gates_up h.0 h.1, λ g. h.2 ((same (reading w c) inside h.0 (close_in d geo p.cell s h.0 h.1)).0 g))
+  gate_off : (c : ℕ) → IsReadBy geo (formula w c) → IsGateOff d w u p.cell s c → IsGateOff d w u cell (f s) c
+  gate_off c inside h = (f h.0, gates_up h.0 h.1, λ g. h.2 ((same (formula w c) inside h.0 (close_in d geo p.cell s h.0 h.1)).0 g))
 
   ends_on : (e g : Edge) → AreGroups d w u p.cell s (e ∷ (g ∷ [])) → AreEndsOn d w u p.cell s e g → AreEndsOn d w u cell (f s) (both_ends e) (both_ends g)
   ends_on e g two h q i = elim i [
-    | inl a ↦ end_on (reading w u.ts) whole.ts e (two.each e (inl refl)) (λ r k. h r (inl k)) q a
-    | inr a ↦ end_on (reading w u.ts) whole.ts g (two.each g (inr (inl refl))) (λ r k. h r (inr k)) q a
+    | inl a ↦ end_on (formula w u.ts) whole.ts e (two.each e (inl refl)) (λ r k. h r (inl k)) q a
+    | inr a ↦ end_on (formula w u.ts) whole.ts g (two.each g (inr (inl refl))) (λ r k. h r (inr k)) q a
   ]
 
-  off_end : (e : Edge) (q : Square) → IsWide d w u p.cell s e → InOneGroup d w u p.cell s e.outer q → (InFlat d p.cell (reading w u.ts) q → ⊥) → InFlat d cell (reading w u.ts) (f q) → ⊥
+  off_end : (e : Edge) (q : Square) → IsWide d w u p.cell s e → InOneGroup d w u p.cell s e.outer q → (InFlat d p.cell (formula w u.ts) q → ⊥) → InFlat d cell (formula w u.ts) (f q) → ⊥
   off_end e q v i not h =
       let side = in_side e.outer q i.via (side_of e v) i.chain in
-      not ((same (reading w u.ts) whole.ts q side.ring.close).0 h)
+      not ((same (formula w u.ts) whole.ts q side.ring.close).0 h)
 
   ends_off : (e g : Edge) → AreGroups d w u p.cell s (e ∷ (g ∷ [])) → AreEndsOff d w u p.cell s e g → AreEndsOff d w u cell (f s) (both_ends e) (both_ends g)
   ends_off e g two (q, inl i, not) = (f q, inl ((groups e.outer q).1 i), off_end e q (two.each e (inl refl)) i not)
@@ -313,15 +313,15 @@ module _ (d : Design) (w : Wiring) (u : Rule) (cell k : ℕ) (p : Place) (s : Sq
   pub bad : (c : Cause) → IsBadGate d w u p.cell s c → IsBadGate d w u cell (f s) c
   bad (Groups count) (list, h, long, not) = (map both_ends list, same_groups list h, length-map list both_ends ∙ long, not)
   bad OffGate (e, g, h, off) = (both_ends e, both_ends g, same_groups (e ∷ (g ∷ [])) h, gate_off u.tg whole.tg off)
-  bad OffSd (e, g, h, tg, off) = (both_ends e, both_ends g, same_groups (e ∷ (g ∷ [])) h, all_on (reading w u.tg) whole.tg tg, ends_off e g h off)
-  bad NoBulk (e, g, h, tg, ts, none, off) = (both_ends e, both_ends g, same_groups (e ∷ (g ∷ [])) h, all_on (reading w u.tg) whole.tg tg, ends_on e g h ts, none, gate_off u.tb whole.tb off)
+  bad OffSd (e, g, h, tg, off) = (both_ends e, both_ends g, same_groups (e ∷ (g ∷ [])) h, all_on (formula w u.tg) whole.tg tg, ends_off e g h off)
+  bad NoBulk (e, g, h, tg, ts, none, off) = (both_ends e, both_ends g, same_groups (e ∷ (g ∷ [])) h, all_on (formula w u.tg) whole.tg tg, ends_on e g h ts, none, gate_off u.tb whole.tb off)
   bad NoLength (e, g, h, tg, ts, tb, zero_long) = (
     both_ends e,
     both_ends g,
     same_groups (e ∷ (g ∷ [])) h,
-    all_on (reading w u.tg) whole.tg tg,
+    all_on (formula w u.tg) whole.tg tg,
     ends_on e g h ts,
-    (λ none. all_on (reading w u.tb) whole.tb (tb none)),
+    (λ none. all_on (formula w u.tb) whole.tb (tb none)),
     counts_map both_ends one_edge (IsLong d w u p.cell s) (IsLong d w u cell (f s)) long onto_edge 0 zero_long,
   )
 

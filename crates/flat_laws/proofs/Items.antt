@@ -4,7 +4,7 @@ use Rattle.std.proofs.lemmas.Option.{slice_get_within, slice_get-get_or, get_or_
 use Rattle.std.proofs.lemmas.List.{ext_get_or, get_or_past}
 use Rattle.std.proofs.Math.Decide.{ℕ_discrete, dec_lt}
 use Rattle.flat_laws.specs.NetLaws.{OneTableLaw, ReadLaw, TogetherLaw}
-use Rattle.flat_layout.specs.Layers.{Reading}
+use Rattle.flat_layout.specs.Layers.{Formula}
 use Rattle.flat_layout.specs.Layout.{Place, Cell, Design, IsPlaced, IsHeight}
 use Rattle.flat_layout.specs.Nets.{Item, Own, Child, Global, CellNets, Tables, IsItem, run, own_items, child_items, items_of, no_cell, AreNets, AreListed, IsUnder, AreRightBelow, IsNetsOf}
 use Rattle.flat_layout.specs.Regions.{Wiring}
@@ -20,7 +20,7 @@ run_has : (f : ℕ → Item) (k n j : ℕ) → k ≤ j → j < k + n → IsListe
 run_has f k zero j a b = absurd (omega arith)
 run_has f k (suc n) j a b = elim (ℕ_discrete j k) [ yes e ↦ inl (ap f e) | no not ↦ inr (run_has f (suc k) n j (omega arith) (omega arith)) ]
 
-in_own : (t : Tables) (cell c : ℕ) (names : List Reading) (item : Item) → IsListed item (own_items t cell c names) → (e r : ℕ) × (e < c + length names) × (r < length (t.own cell e)) × (item ≡ Own e r)
+in_own : (t : Tables) (cell c : ℕ) (names : List Formula) (item : Item) → IsListed item (own_items t cell c names) → (e r : ℕ) × (e < c + length names) × (r < length (t.own cell e)) × (item ≡ Own e r)
 in_own t cell c [] item h = absurd h
 in_own t cell c (x ∷ xs) item h =
     elim (either_side (run (Own c) 0 (length (t.own cell c))) (own_items t cell (suc c) xs) item h) [
@@ -28,7 +28,7 @@ in_own t cell c (x ∷ xs) item h =
       | inr l ↦ let r = in_own t cell (suc c) xs item l in let b = r.2 in (r.0, r.1, omega arith, r.3, r.4)
     ]
 
-own_has : (t : Tables) (cell c : ℕ) (names : List Reading) (e r : ℕ) → c ≤ e → e < c + length names → r < length (t.own cell e) → IsListed (Own e r) (own_items t cell c names)
+own_has : (t : Tables) (cell c : ℕ) (names : List Formula) (e r : ℕ) → c ≤ e → e < c + length names → r < length (t.own cell e) → IsListed (Own e r) (own_items t cell c names)
 own_has t cell c [] e r a b h = absurd (omega arith)
 own_has t cell c (x ∷ xs) e r a b h =
     elim (ℕ_discrete c e) [

@@ -6,7 +6,7 @@ use Rattle.flat_layout.specs.Gates.{Rule, geometry, Groups, OffGate, OffSd, NoBu
 use Rattle.flat_layout.specs.Parts.{AllOn, SomeOff, InEnds}
 use Rattle.flat_layout.specs.Layout.{Design}
 use Rattle.flat_layout.specs.Layers.{InFlat}
-use Rattle.flat_layout.specs.Regions.{Wiring, reading}
+use Rattle.flat_layout.specs.Regions.{Wiring, formula}
 use Rattle.plain_netlist.specs.Lists.{IsListed, AreApart}
 use Rattle.plain_netlist.proofs.Links.{both, back}
 use Rattle.flat_laws.proofs.Count.{fewer, counts}
@@ -89,10 +89,10 @@ module _ (d : Design) (w : Wiring) (u : Rule) (cell : ℕ) (s : Square) where
           pick z (inr (inl i)) k = inr (subst (λ (v : Edge). InOneGroup d w u cell s v.outer q) i k)
           pick z (inr (inr i)) k = absurd i
 
-  on_off : (c : ℕ) → AllOn (InGate d (geometry w u) cell s) (InFlat d cell (reading w c)) → SomeOff (InGate d (geometry w u) cell s) (InFlat d cell (reading w c)) → ⊥
+  on_off : (c : ℕ) → AllOn (InGate d (geometry w u) cell s) (InFlat d cell (formula w c)) → SomeOff (InGate d (geometry w u) cell s) (InFlat d cell (formula w c)) → ⊥
   on_off c h k = k.2 (h k.0 k.1)
 
-  ends_clash : (e f a b : Edge) → AreGroups d w u cell s (e ∷ (f ∷ [])) → AreGroups d w u cell s (a ∷ (b ∷ [])) → AllOn (InEnds (InGate d (geometry w u) cell s) (InFlat d cell u.sd) a b) (InFlat d cell (reading w u.ts)) → SomeOff (InEnds (InGate d (geometry w u) cell s) (InFlat d cell u.sd) e f) (InFlat d cell (reading w u.ts)) → ⊥
+  ends_clash : (e f a b : Edge) → AreGroups d w u cell s (e ∷ (f ∷ [])) → AreGroups d w u cell s (a ∷ (b ∷ [])) → AllOn (InEnds (InGate d (geometry w u) cell s) (InFlat d cell u.sd) a b) (InFlat d cell (formula w u.ts)) → SomeOff (InEnds (InGate d (geometry w u) cell s) (InFlat d cell u.sd) e f) (InFlat d cell (formula w u.ts)) → ⊥
   ends_clash e f a b x y h k = k.2 (h k.0 (ends_same e f a b x y k.0 k.1))
 
   many : (l : List Edge) (e f : Edge) (count : ℕ) → AreGroups d w u cell s l → length l ≡ count → (count ≡ 2 → ⊥) → AreGroups d w u cell s (e ∷ (f ∷ [])) → ⊥

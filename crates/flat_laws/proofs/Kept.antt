@@ -2,7 +2,7 @@
 use Rattle.std.proofs.Common.{◌≡◌, ◌↔◌, ℕ, List, [], ◌∷◌, refl, sym, ap, subst}
 use Rattle.flat_laws.specs.GateLaws.{KeptGateLaw}
 use Rattle.flat_layout.specs.Gates.{Geometry, IsReadBy, IsSoundGeometry, IsStep, InGate, IsGateOrRing, InRing, IsSettled}
-use Rattle.flat_layout.specs.Layers.{Reading, inputs, reach, InFlat, IsStirred}
+use Rattle.flat_layout.specs.Layers.{Formula, inputs, reach, InFlat, IsStirred}
 use Rattle.flat_layout.specs.Layout.{Place, Design, IsPlaced, IsReached}
 use Rattle.flat_layout.specs.Plane.{SharesEdge, IsAround}
 use Rattle.geo_base.specs.Motions.{moved_square}
@@ -38,7 +38,7 @@ module _ (d : Design) (g : Geometry) (sound : IsSoundGeometry g) (cell k : ℕ) 
   one_square a c e = moved_square-injective p.motion a c e
 
   -- close to the gate, the flat sets that the geometry reads are the same
-  pub same_read : (name : Reading) → IsReadBy g name → (q : Square) → IsGateOrRing d g p.cell s q → InFlat d cell name (f q) ↔ InFlat d p.cell name q
+  pub same_read : (name : Formula) → IsReadBy g name → (q : Square) → IsGateOrRing d g p.cell s q → InFlat d cell name (f q) ↔ InFlat d p.cell name q
   same_read name read q near = same_flat d name cell k p q reached placed (λ h. settled.calm q near (fewer_stirred d (inputs name) g.keys (reach name) g.reach p.cell q read.reach read.keys h))
 
   same : (q : Square) → IsGateOrRing d g p.cell s q → InFlat d cell g.region (f q) ↔ InFlat d p.cell g.region q

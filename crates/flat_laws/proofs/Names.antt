@@ -2,7 +2,7 @@
 use Rattle.std.proofs.Common.{◌≡◌, inl, inr, ◌↔◌, ℕ, max, ◌≤◌, List, [], ◌∷◌, ◌++◌, refl, sym, subst, ◌∙◌, ap, append_assoc}
 use Rattle.std.proofs.Math.Nat.{le-max_left, le-max_right}
 use Rattle.flat_laws.specs.LayerLaws.{CalmLaw, NameStillLaw, NearInputLaw, SameFlatLaw, StillLaw}
-use Rattle.flat_layout.specs.Layers.{Reading, Input, Empty, Binary, inputs, reach, Combines, InFlat, IsStirred}
+use Rattle.flat_layout.specs.Layers.{Formula, Input, Empty, Binary, inputs, reach, Combines, InFlat, IsStirred}
 use Rattle.flat_layout.specs.Layout.{Place, Design, Some_of, IsPlaced, Takes, InFlatInput, IsPrefix, IsDisturbed}
 use Rattle.flat_layout.specs.Plane.{AreWithin}
 use Rattle.geo_base.specs.declared.layer.LayerKey.{LayerKey}
@@ -51,7 +51,7 @@ still d keys cell q = (
   stirs d keys 0 cell q,
 )
 
-pub reach_none : (name : Reading) → reach name ≡ 0
+pub reach_none : (name : Formula) → reach name ≡ 0
 reach_none (Input key) = refl
 reach_none Empty = refl
 reach_none (Binary op a b) = ap (λ n. max n (reach b)) (reach_none a) ∙ ap (λ n. max 0 n) (reach_none b)
@@ -85,10 +85,10 @@ combined Not A B C D f g h = (f.0 h.0, λ k. h.1 (g.1 k))
 combined Xor A B C D f g (inl h) = inl (f.0 h.0, λ k. h.1 (g.1 k))
 combined Xor A B C D f g (inr h) = inr (g.0 h.0, λ k. h.1 (f.1 k))
 
-left_part : (d : Design) (a b : Reading) (cell : ℕ) (q : Square) → IsStirred d (inputs a) (reach a) cell q → IsStirred d (inputs a ++ inputs b) (max (reach a) (reach b)) cell q
+left_part : (d : Design) (a b : Formula) (cell : ℕ) (q : Square) → IsStirred d (inputs a) (reach a) cell q → IsStirred d (inputs a ++ inputs b) (max (reach a) (reach b)) cell q
 left_part d a b cell q h = fewer_stirred d (inputs a) (inputs a ++ inputs b) (reach a) (max (reach a) (reach b)) cell q (le-max_left (reach a) (reach b)) (λ key l. more_left (λ j. j ≡ key) (inputs a) (inputs b) l) h
 
-right_part : (d : Design) (a b : Reading) (cell : ℕ) (q : Square) → IsStirred d (inputs b) (reach b) cell q → IsStirred d (inputs a ++ inputs b) (max (reach a) (reach b)) cell q
+right_part : (d : Design) (a b : Formula) (cell : ℕ) (q : Square) → IsStirred d (inputs b) (reach b) cell q → IsStirred d (inputs a ++ inputs b) (max (reach a) (reach b)) cell q
 right_part d a b cell q h = fewer_stirred d (inputs b) (inputs a ++ inputs b) (reach b) (max (reach a) (reach b)) cell q (le-max_right (reach a) (reach b)) (λ key l. more_right (λ j. j ≡ key) (inputs a) (inputs b) l) h
 
 pub same_flat : SameFlatLaw
@@ -101,13 +101,13 @@ same_flat d (Binary op a b) parent k p q reached placed calm =
       (λ h. combined op _ _ _ _ (one.1, one.0) (two.1, two.0) h),
     )
 
-abbrev IsNearInput : Design → ℕ → Reading → Square → Type 0
+abbrev IsNearInput : Design → ℕ → Formula → Square → Type 0
 IsNearInput d cell name q = (key : LayerKey) × Some_of (λ k. k ≡ key) (inputs name) × (z : Square) × AreWithin (reach name) z q × InFlatInput d cell key z
 
-from_left : (d : Design) (cell : ℕ) (op : Op) (a b : Reading) (q : Square) → IsNearInput d cell a q → IsNearInput d cell (Binary op a b) q
+from_left : (d : Design) (cell : ℕ) (op : Op) (a b : Formula) (q : Square) → IsNearInput d cell a q → IsNearInput d cell (Binary op a b) q
 from_left d cell op a b q h = (h.0, more_left (λ j. j ≡ h.0) (inputs a) (inputs b) h.1, h.2, wider (reach a) (max (reach a) (reach b)) h.2 q (le-max_left (reach a) (reach b)) h.3, h.4)
 
-from_right : (d : Design) (cell : ℕ) (op : Op) (a b : Reading) (q : Square) → IsNearInput d cell b q → IsNearInput d cell (Binary op a b) q
+from_right : (d : Design) (cell : ℕ) (op : Op) (a b : Formula) (q : Square) → IsNearInput d cell b q → IsNearInput d cell (Binary op a b) q
 from_right d cell op a b q h = (h.0, more_right (λ j. j ≡ h.0) (inputs a) (inputs b) h.1, h.2, wider (reach b) (max (reach a) (reach b)) h.2 q (le-max_right (reach a) (reach b)) h.3, h.4)
 
 pub near_input : NearInputLaw
@@ -121,7 +121,7 @@ near_input d cell (Binary Xor a b) q (inl h) = from_left d cell Xor a b q (near_
 near_input d cell (Binary Xor a b) q (inr h) = from_right d cell Xor a b q (near_input d cell b q h.0)
 
 -- a flat square of a name lies under a shape on one of its inputs
-pub under_input : (d : Design) (cell : ℕ) (name : Reading) (q : Square) → InFlat d cell name q → (key : LayerKey) × Some_of (λ k. k ≡ key) (inputs name) × InFlatInput d cell key q
+pub under_input : (d : Design) (cell : ℕ) (name : Formula) (q : Square) → InFlat d cell name q → (key : LayerKey) × Some_of (λ k. k ≡ key) (inputs name) × InFlatInput d cell key q
 under_input d cell name q h =
     let r = near_input d cell name q h in
     let near : AreWithin 0 r.2 q = subst (λ n. AreWithin n r.2 q) (reach_none name) r.3 in

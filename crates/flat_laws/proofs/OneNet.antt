@@ -4,11 +4,11 @@ use Rattle.std.proofs.lemmas.Option.{slice_get_within, slice_get-get_or}
 use Rattle.std.proofs.lemmas.List.{get_or_past}
 use Rattle.std.proofs.Math.Decide.{dec_lt}
 use Rattle.flat_laws.specs.NetLaws.{RegionLaw, OneParentLaw}
-use Rattle.flat_layout.specs.Layers.{Reading, Empty, IsLocal}
+use Rattle.flat_layout.specs.Layers.{Formula, Empty, IsLocal}
 use Rattle.flat_layout.specs.Layout.{Place, Design, IsPlaced, IsReached}
 use Rattle.flat_layout.specs.Nets.{Item, Own, Child, Global, CellNets, Tables, IsOf, HoldsAt, ItemHolds, NetHolds, IsItem, IsItemLink, AreTables, AreRegions, LiesIn}
 use Rattle.flat_layout.specs.Plane.{IsIn}
-use Rattle.flat_layout.specs.Regions.{Wiring, Node, At, Ground, Touches, IsNode, IsLink, moved, reading, kept}
+use Rattle.flat_layout.specs.Regions.{Wiring, Node, At, Ground, Touches, IsNode, IsLink, moved, formula, kept}
 use Rattle.geo_base.specs.declared.shapes.Square.{Square}
 use Rattle.plain_netlist.specs.Chains.{IsChain, Reaches}
 use Rattle.flat_laws.proofs.Paths.{same_place}
@@ -21,7 +21,7 @@ pub link_back : (w : Wiring) (sets : ℕ → Square → Type 0) (a b : Node) →
 link_back w sets a b h = record { from = h.to; to = h.from; touch = touch_back w a b h.touch }
 
 node_moved : (d : Design) (w : Wiring) (cell k : ℕ) (p : Place) → IsReached d cell → IsPlaced d cell k p → (n : Node) → IsNode w (kept d w p.cell) n → IsNode w (kept d w cell) (moved p.motion n)
-node_moved d w cell k p reached placed (At c q) h = kept_above d cell k p (reading w c) q reached placed h
+node_moved d w cell k p reached placed (At c q) h = kept_above d cell k p (formula w c) q reached placed h
 node_moved d w cell k p reached placed (Ground g) h = h
 
 link_moved : (d : Design) (w : Wiring) (cell k : ℕ) (p : Place) → IsReached d cell → IsPlaced d cell k p → (a b : Node) → IsLink w (kept d w p.cell) a b → Reaches (IsLink w (kept d w cell)) (moved p.motion a) (moved p.motion b)
@@ -32,17 +32,17 @@ link_moved d w cell k p reached placed a b h =
       touch = touch_moved w p.motion a b h.touch;
     })
 
-no_empty : (d : Design) (cell : ℕ) (names : List Reading) (c : ℕ) (q : Square) → IsLocal d cell (get_or names c Empty) q → c < length names
+no_empty : (d : Design) (cell : ℕ) (names : List Formula) (c : ℕ) (q : Square) → IsLocal d cell (get_or names c Empty) q → c < length names
 no_empty d cell names c q h =
     elim (dec_lt c (length names)) [
       | yes lt ↦ lt
-      | no not ↦ let past : length names ≤ c = omega arith in let none = subst (λ (r : Reading). IsLocal d cell r q) (get_or_past names c Empty past) h in absurd none
+      | no not ↦ let past : length names ≤ c = omega arith in let none = subst (λ (r : Formula). IsLocal d cell r q) (get_or_past names c Empty past) h in absurd none
     ]
 
 module _ (d : Design) (w : Wiring) (t : Tables) (height : ℕ → ℕ) (tables : AreTables d w t height) (cell : ℕ) (reached : IsReached d cell) (below : (k : ℕ) (p : Place) → IsPlaced d cell k p → AreRegions d w t p.cell) where
   -- what an item holds, the cell keeps
   item_sound : (item : Item) (n : Node) → IsItem d w t cell item → (depth : ℕ) → HoldsAt d t depth cell item n → IsNode w (kept d w cell) n
-  item_sound (Own c r) n is zero h = subst (λ m. IsNode w (kept d w cell) m) h.4 (kept_here d cell (reading w c) h.0 ((tables.own cell c reached).local r h.1 h.0 h.2 h.3))
+  item_sound (Own c r) n is zero h = subst (λ m. IsNode w (kept d w cell) m) h.4 (kept_here d cell (formula w c) h.0 ((tables.own cell c reached).local r h.1 h.0 h.2 h.3))
   item_sound (Own c r) n is (suc k) h = absurd h
   item_sound (Child k b) n is zero h = absurd h
   item_sound (Child k b) n is (suc depth) h =
@@ -82,7 +82,7 @@ module _ (d : Design) (w : Wiring) (t : Tables) (height : ℕ → ℕ) (tables :
   one_item (Own c r) a b is zero zero h g =
       let same : h.1 ≡ g.1 = cc in
       let second : IsIn g.0 h.1 = subst (λ s. IsIn g.0 s) (sym same) g.3 in
-      let local : (s : Square) → IsIn s h.1 → kept d w cell c s = λ s i. kept_here d cell (reading w c) s ((tables.own cell c reached).local r h.1 s h.2 i) in
+      let local : (s : Square) → IsIn s h.1 → kept d w cell c s = λ s i. kept_here d cell (formula w c) s ((tables.own cell c reached).local r h.1 s h.2 i) in
       let way = across R (At c) h.1 (link_back w (kept d w cell))
       (λ p q i j e. record { from = local p i; to = local q j; touch = (inl refl, inr e) }) h.0 g.0 h.3 second in
       subst (λ m. Reaches R m b) h.4 (subst (λ m. Reaches R (At c h.0) m) g.4 way)

@@ -5,7 +5,7 @@ use Rattle.flat_layout.specs.Gates.{Rule, Geometry, geometry, IsStep, InGate, Is
 use Rattle.flat_layout.specs.Layers.{InFlat}
 use Rattle.flat_layout.specs.Layout.{Design}
 use Rattle.flat_layout.specs.Parts.{AllOn, SomeOff, InEnds}
-use Rattle.flat_layout.specs.Regions.{Wiring, reading}
+use Rattle.flat_layout.specs.Regions.{Wiring, formula}
 use Rattle.geo_base.specs.declared.shapes.Square.{Square}
 use Rattle.plain_netlist.proofs.Links.{single, along}
 use Rattle.flat_laws.proofs.Mapped.{counts_map, classes_map}
@@ -85,17 +85,17 @@ module _ (d : Design) (w : Wiring) (u : Rule) (cell : ℕ) (s z : Square) (one :
 
   pub bad_same : (c : Cause) → IsBadGate d w u cell s c → IsBadGate d w u cell z c
   bad_same (Groups count) (list, h, long, not) = (list, same_groups list h, long, not)
-  bad_same OffGate (e, g, h, off) = (e, g, same_groups (e ∷ (g ∷ [])) h, off_same (InFlat d cell (reading w u.tg)) off)
-  bad_same OffSd (e, g, h, tg, (q, i, not)) = (e, g, same_groups (e ∷ (g ∷ [])) h, all_same (InFlat d cell (reading w u.tg)) tg, (q, (end_same e g q).0 i, not))
+  bad_same OffGate (e, g, h, off) = (e, g, same_groups (e ∷ (g ∷ [])) h, off_same (InFlat d cell (formula w u.tg)) off)
+  bad_same OffSd (e, g, h, tg, (q, i, not)) = (e, g, same_groups (e ∷ (g ∷ [])) h, all_same (InFlat d cell (formula w u.tg)) tg, (q, (end_same e g q).0 i, not))
   bad_same NoBulk (e, g, h, tg, ts, none, off) =
-      (e, g, same_groups (e ∷ (g ∷ [])) h, all_same (InFlat d cell (reading w u.tg)) tg, ends_same e g (InFlat d cell (reading w u.ts)) ts, none, off_same (InFlat d cell (reading w u.tb)) off)
+      (e, g, same_groups (e ∷ (g ∷ [])) h, all_same (InFlat d cell (formula w u.tg)) tg, ends_same e g (InFlat d cell (formula w u.ts)) ts, none, off_same (InFlat d cell (formula w u.tb)) off)
   bad_same NoLength (e, g, h, tg, ts, tb, none) = (
     e,
     g,
     same_groups (e ∷ (g ∷ [])) h,
-    all_same (InFlat d cell (reading w u.tg)) tg,
-    ends_same e g (InFlat d cell (reading w u.ts)) ts,
-    (λ no. all_same (InFlat d cell (reading w u.tb)) (tb no)),
+    all_same (InFlat d cell (formula w u.tg)) tg,
+    ends_same e g (InFlat d cell (formula w u.ts)) ts,
+    (λ no. all_same (InFlat d cell (formula w u.tb)) (tb no)),
     counts_map (λ (x : Edge). x) (λ a b k. k) (IsLong d w u cell s) (IsLong d w u cell z) long_same (λ b. (b, refl)) 0 none,
   )
 

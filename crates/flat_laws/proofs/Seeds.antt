@@ -6,11 +6,11 @@ use Rattle.std.proofs.lemmas.Bool.{false≢true}
 use Rattle.std.proofs.Common.{◌≡◌, ◌↔◌, inl, inr, ℕ, List, [], ◌∷◌, refl, sym, subst, Bool, true, false, ◌⊎◌}
 use Rattle.flat_laws.specs.SeedLaws.{GateStillLaw, ReachLaw, SeedLaw, ThroughLaw, CalmThroughLaw, TestLaw, BelowLaw, OwnSeedLaw, KeptPartLaw, ClosedLaw, PartedLaw}
 use Rattle.flat_layout.specs.Gates.{Geometry, IsStep, InGate, IsGateOrRing, IsSettled, IsGateBelow}
-use Rattle.flat_layout.specs.Layers.{inputs, InFlat, Reading, Input, Empty, Binary, IsKept, IsStirred}
+use Rattle.flat_layout.specs.Layers.{inputs, InFlat, Formula, Input, Empty, Binary, IsKept, IsStirred}
 use Rattle.flat_layout.specs.Layout.{Place, Design, Some_of, IsOwn, IsPlaced, Takes, InFlatInput, IsDisturbed, IsReached}
 use Rattle.flat_layout.specs.Parts.{InPart}
 use Rattle.flat_layout.specs.Plane.{IsAround, SharesEdge}
-use Rattle.flat_layout.specs.Regions.{reading}
+use Rattle.flat_layout.specs.Regions.{formula}
 use Rattle.flat_layout.specs.Seeds.{IsInReach, IsSeed, IsFreeThrough, IsCalmPart, IsClosed, IsStillGeometry}
 use Rattle.geo_base.specs.declared.layer.LayerKey.{LayerKey}
 use Rattle.geo_base.specs.Motions.{moved_square}
@@ -27,7 +27,7 @@ use Rattle.flat_laws.proofs.Paths.{disturbs}
 pub gate_still : GateStillLaw
 gate_still w u = record {
   sound = (read_layers w u).gate;
-  still = rw (reach_none u.sd, reach_none u.gate, reach_none u.well, reach_none (reading w u.ts), reach_none (reading w u.tg), reach_none (reading w u.tb)) refl;
+  still = rw (reach_none u.sd, reach_none u.gate, reach_none u.well, reach_none (formula w u.ts), reach_none (formula w u.tg), reach_none (formula w u.tb)) refl;
 }
 
 module _ (d : Design) (geo : Geometry) (small : IsStillGeometry geo) (cell : ℕ) (q : Square) where
@@ -173,7 +173,7 @@ own_seed d geo cell s q small reached gate near own h =
 
 -- kept gate squares
 
-kept_flat : (d : Design) (cell : ℕ) (name : Reading) (q : Square) → IsKept d cell name q → InFlat d cell name q
+kept_flat : (d : Design) (cell : ℕ) (name : Formula) (q : Square) → IsKept d cell name q → InFlat d cell name q
 kept_flat d cell (Input key) q h = h
 kept_flat d cell Empty q h = h
 kept_flat d cell (Binary op a b) q h = h.0

@@ -3,9 +3,9 @@ use Rattle.std.proofs.Common.{◌≡◌, inl, inr, ℕ, ◌<◌, List, [], ◌�
 use Rattle.flat_laws.specs.GateLaws.{IsReadWhole, TerminalNodeLaw}
 use Rattle.flat_laws.specs.LayerLaws.{TopKeptLaw}
 use Rattle.flat_layout.specs.Gates.{Rule, Geometry, geometry, ground, IsReadBy, IsStep, InGate, InSide, InOneGroup, Edge, IsWide, IsSettled, IsGoodGate, IsTerminalNode}
-use Rattle.flat_layout.specs.Layers.{Reading, Input, Empty, Binary, inputs, reach, InFlat, IsKept, IsStirred}
+use Rattle.flat_layout.specs.Layers.{Formula, Input, Empty, Binary, inputs, reach, InFlat, IsKept, IsStirred}
 use Rattle.flat_layout.specs.Layout.{Design}
-use Rattle.flat_layout.specs.Regions.{Wiring, Node, At, Ground, IsNode, IsLink, InOneRegion, reading, kept}
+use Rattle.flat_layout.specs.Regions.{Wiring, Node, At, Ground, IsNode, IsLink, InOneRegion, formula, kept}
 use Rattle.geo_base.specs.declared.shapes.Square.{Square}
 use Rattle.plain_netlist.specs.Chains.{IsChain, Reaches}
 use Rattle.plain_netlist.specs.Netlist.{Pole, Source, Gate, Drain, Bulk}
@@ -17,7 +17,7 @@ use Rattle.flat_laws.proofs.Kept.{close_in, close_by, in_next}
 use Rattle.flat_laws.proofs.Once.{gate_between, calm_top}
 
 -- a flat square near which nothing is disturbed is kept
-pub keep : (d : Design) (g : Geometry) (cell : ℕ) (name : Reading) (q : Square) → IsReadBy g name → (IsStirred d g.keys g.reach cell q → ⊥) → InFlat d cell name q → IsKept d cell name q
+pub keep : (d : Design) (g : Geometry) (cell : ℕ) (name : Formula) (q : Square) → IsReadBy g name → (IsStirred d g.keys g.reach cell q → ⊥) → InFlat d cell name q → IsKept d cell name q
 keep d g cell (Input key) q read calm h = h
 keep d g cell Empty q read calm h = h
 keep d g cell (Binary op a b) q read calm h = (h, λ k. calm (fewer_stirred d (inputs (Binary op a b)) g.keys (reach (Binary op a b)) g.reach cell q read.reach read.keys k))
@@ -41,8 +41,8 @@ module _ (d : Design) (w : Wiring) (u : Rule) (cell : ℕ) (s : Square) (e f : E
   run : (c : ℕ) (P : Square → Type 0) → ((q : Square) → P q → kept d w cell c q) → (a b : Square) → Reaches (IsStep P) a b → InOneRegion w (kept d w cell) (At c a) (At c b)
   run c P held a b h = along (IsStep P) R (At c) (λ x y g. single R (At c x) (At c y) (record { from = held x g.from; to = held y g.to; touch = (inl refl, inr g.edge) })) a b h
 
-  gate_kept : (c : ℕ) → IsReadBy geo (reading w c) → ((q : Square) → InGate d geo cell s q → InFlat d cell (reading w c) q) → (q : Square) → InGate d geo cell s q → kept d w cell c q
-  gate_kept c inside h q i = keep d geo cell (reading w c) q inside (settled.calm q (close_in d geo cell s q i)) (h q i)
+  gate_kept : (c : ℕ) → IsReadBy geo (formula w c) → ((q : Square) → InGate d geo cell s q → InFlat d cell (formula w c) q) → (q : Square) → InGate d geo cell s q → kept d w cell c q
+  gate_kept c inside h q i = keep d geo cell (formula w c) q inside (settled.calm q (close_in d geo cell s q i)) (h q i)
 
   in_gate : (a b : Square) (via : List Square) → InGate d geo cell s a → IsChain (IsStep (InFlat d cell u.gate)) a via b → IsChain (IsStep (InGate d geo cell s)) a via b
   in_gate a b [] h chain = chain
@@ -50,7 +50,7 @@ module _ (d : Design) (w : Wiring) (u : Rule) (cell : ℕ) (s : Square) (e f : E
       let next = in_next d geo cell s a x h chain.0 in
       (record { from = h; to = next; edge = chain.0.edge }, in_gate x b xs next chain.1)
 
-  on_gate : (c : ℕ) → IsReadBy geo (reading w c) → ((q : Square) → InGate d geo cell s q → InFlat d cell (reading w c) q) → (a b : Square) → InGate d geo cell s a → InGate d geo cell s b
+  on_gate : (c : ℕ) → IsReadBy geo (formula w c) → ((q : Square) → InGate d geo cell s q → InFlat d cell (formula w c) q) → (a b : Square) → InGate d geo cell s a → InGate d geo cell s b
       → kept d w cell c a × InOneRegion w (kept d w cell) (At c a) (At c b)
   on_gate c inside h a b i j =
       let way = gate_between d geo cell s a b i j in
@@ -68,11 +68,11 @@ module _ (d : Design) (w : Wiring) (u : Rule) (cell : ℕ) (s : Square) (e f : E
   last_side a b [] h chain = subst (λ q. InSide d w u cell s q) chain h
   last_side a b (x ∷ xs) h chain = last_side x b xs chain.0.to chain.1
 
-  end_kept : (x : Edge) → IsWide d w u cell s x → ((q : Square) → InEnd x q → InFlat d cell (reading w u.ts) q) → (q : Square) → InEnd x q → kept d w cell u.ts q
+  end_kept : (x : Edge) → IsWide d w u cell s x → ((q : Square) → InEnd x q → InFlat d cell (formula w u.ts) q) → (q : Square) → InEnd x q → kept d w cell u.ts q
   end_kept x wide h q i =
       let first : InSide d w u cell s x.outer = record { ring = record { close = close_by d geo cell s x.inner x.outer wide.border.inside wide.border.edge; outside = wide.border.outside }; sd = wide.sd } in
       let side = last_side x.outer q i.via first i.chain in
-      keep d geo cell (reading w u.ts) q whole.ts (settled.calm q side.ring.close) (h q i)
+      keep d geo cell (formula w u.ts) q whole.ts (settled.calm q side.ring.close) (h q i)
 
   in_end : (x : Edge) (a b : Square) (via : List Square) → InEnd x a → IsChain (IsStep (InSide d w u cell s)) a via b → IsChain (IsStep (InEnd x)) a via b
   in_end x a b [] h chain = chain
@@ -80,7 +80,7 @@ module _ (d : Design) (w : Wiring) (u : Rule) (cell : ℕ) (s : Square) (e f : E
       let next : InEnd x y = both (IsStep (InSide d w u cell s)) x.outer a y h (single (IsStep (InSide d w u cell s)) a y chain.0) in
       (record { from = h; to = next; edge = chain.0.edge }, in_end x y b ys next chain.1)
 
-  on_end : (x : Edge) → IsWide d w u cell s x → ((q : Square) → InEnd x q → InFlat d cell (reading w u.ts) q) → (a b : Square) → InEnd x a → InEnd x b → kept d w cell u.ts a × InOneRegion w (kept d w cell) (At u.ts a) (At u.ts b)
+  on_end : (x : Edge) → IsWide d w u cell s x → ((q : Square) → InEnd x q → InFlat d cell (formula w u.ts) q) → (a b : Square) → InEnd x a → InEnd x b → kept d w cell u.ts a × InOneRegion w (kept d w cell) (At u.ts a) (At u.ts b)
   on_end x wide h a b i j =
       let held = end_kept x wide h in
       let way = both (IsStep (InSide d w u cell s)) a x.outer b (back (IsStep (InSide d w u cell s)) side_step_back x.outer a i) j in

@@ -6,7 +6,7 @@ use Rattle.flat_layout.specs.Gates.{IsListedGate, IsLong, IsReadBy, IsSettled, I
 use Rattle.flat_layout.specs.Gates.{IsTerminalNode, IsWide, Rule, geometry, ground, moved_edge}
 use Rattle.flat_layout.specs.Layers.{InFlat}
 use Rattle.flat_layout.specs.Layout.{Design, IsHeight, IsPlaced, IsReached, Place, Takes}
-use Rattle.flat_layout.specs.Regions.{InOneRegion, IsNode, Node, Wiring, kept, reading}
+use Rattle.flat_layout.specs.Regions.{InOneRegion, IsNode, Node, Wiring, kept, formula}
 use Rattle.geo_base.specs.Motions.{moved_square}
 use Rattle.geo_base.specs.declared.shapes.Square.{Square}
 use Rattle.plain_netlist.specs.Netlist.{Pole}
@@ -16,9 +16,9 @@ pub record IsReadWhole (w : Wiring) (u : Rule) : Type 0 where
   pub sd : IsReadBy (geometry w u) u.sd
   pub gate : IsSoundGeometry (geometry w u)
   pub well : IsReadBy (geometry w u) u.well
-  pub ts : IsReadBy (geometry w u) (reading w u.ts)
-  pub tg : IsReadBy (geometry w u) (reading w u.tg)
-  pub tb : IsReadBy (geometry w u) (reading w u.tb)
+  pub ts : IsReadBy (geometry w u) (formula w u.ts)
+  pub tg : IsReadBy (geometry w u) (formula w u.tg)
+  pub tb : IsReadBy (geometry w u) (formula w u.tb)
 
 abbrev pub ReadLayersLaw : Type 0
 ReadLayersLaw = (w : Wiring) (u : Rule) → IsReadWhole w u

@@ -1,7 +1,7 @@
 -- Flat, disturbed, kept and local squares of a cell and of the cells that it places.
 use Rattle.std.specs.Prelude.{◌≡◌, ◌⊎◌, ◌↔◌, ℕ, List}
 use Rattle.flat_layout.specs.Layers.{InFlat, IsCovered, IsKept, IsKeptBelow, IsLocal, IsStirred}
-use Rattle.flat_layout.specs.Layers.{Reading, inputs, reach}
+use Rattle.flat_layout.specs.Layers.{Formula, inputs, reach}
 use Rattle.flat_layout.specs.Layout.{Design, InFlatInput, IsDisturbed, IsHeight, IsPlaced}
 use Rattle.flat_layout.specs.Layout.{IsReached, Place, Some_of}
 use Rattle.flat_layout.specs.Plane.{AreWithin}
@@ -32,12 +32,12 @@ StillLaw = (d : Design) (keys : List LayerKey) (cell : ℕ) (q : Square) → IsS
 
 -- no name reaches further than its square
 abbrev pub NameStillLaw : Type 0
-NameStillLaw = (d : Design) (name : Reading) (cell : ℕ) (q : Square)
+NameStillLaw = (d : Design) (name : Formula) (cell : ℕ) (q : Square)
     → IsStirred d (inputs name) (reach name) cell q ↔ IsDisturbed d (inputs name) cell q
 
 -- a flat square of a name lies within its reach of a shape on one of its inputs
 abbrev pub NearInputLaw : Type 0
-NearInputLaw = (d : Design) (cell : ℕ) (name : Reading) (q : Square) → InFlat d cell name q
+NearInputLaw = (d : Design) (cell : ℕ) (name : Formula) (q : Square) → InFlat d cell name q
     → (key : LayerKey) × Some_of (λ k. k ≡ key) (inputs name) × (z : Square)
     × AreWithin (reach name) z q × InFlatInput d cell key z
 
@@ -49,19 +49,19 @@ CalmLaw = (d : Design) (keys : List LayerKey) (n parent k : ℕ) (p : Place) (q 
 
 -- the flat squares of a name stay where nothing is disturbed within its reach
 abbrev pub SameFlatLaw : Type 0
-SameFlatLaw = (d : Design) (name : Reading) (parent k : ℕ) (p : Place) (q : Square)
+SameFlatLaw = (d : Design) (name : Formula) (parent k : ℕ) (p : Place) (q : Square)
     → IsReached d parent → IsPlaced d parent k p
     → (IsStirred d (inputs name) (reach name) p.cell q → ⊥)
     → InFlat d parent name (moved_square p.motion q) ↔ InFlat d p.cell name q
 
 -- what the cells hold at and below a cell covers what it keeps
 abbrev pub CoverLaw : Type 0
-CoverLaw = (d : Design) (height : ℕ → ℕ) (name : Reading) → IsHeight d height
+CoverLaw = (d : Design) (height : ℕ → ℕ) (name : Formula) → IsHeight d height
     → ((cell : ℕ) (q : Square) → IsReached d cell → IsKept d cell name q → IsLocal d cell name q
     ⊎ IsKeptBelow d cell name q)
     → (cell : ℕ) (q : Square) → IsReached d cell → IsCovered d cell name q ↔ IsKept d cell name q
 
 -- the top keeps its whole flat layout
 abbrev pub TopKeptLaw : Type 0
-TopKeptLaw = (d : Design) (height : ℕ → ℕ) (name : Reading) (q : Square) → IsHeight d height
+TopKeptLaw = (d : Design) (height : ℕ → ℕ) (name : Formula) (q : Square) → IsHeight d height
     → IsKept d d.top name q ↔ InFlat d d.top name q

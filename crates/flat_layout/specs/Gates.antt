@@ -5,26 +5,26 @@ use Rattle.geo_base.specs.Motions.{moved_square}
 use Rattle.geo_base.specs.declared.layer.LayerKey.{LayerKey}
 use Rattle.geo_base.specs.declared.motion.Motion.{Motion}
 use Rattle.geo_base.specs.declared.shapes.Square.{Square}
-use Rattle.flat_layout.specs.Layers.{Reading, inputs, reach, InFlat, IsStirred}
+use Rattle.flat_layout.specs.Layers.{Formula, inputs, reach, InFlat, IsStirred}
 use Rattle.flat_layout.specs.Layout.{Place, Design, Some_of, IsPlaced, Takes}
 pub use Rattle.flat_layout.specs.Parts.{IsStep, IsLeast, Edge, Counts, AreClasses, Cause, Groups}
 pub use Rattle.flat_layout.specs.Parts.{OffGate, OffSd, NoBulk, NoLength}
 use Rattle.flat_layout.specs.Parts.{InPart, IsCloseTo, InRingOf, InSideOf, InGroupOf, IsBorderOf}
 use Rattle.flat_layout.specs.Parts.{IsWideOf, IsLongOf, AreGroupsOf, Sheets, IsGoodPart, IsBadPart}
 use Rattle.flat_layout.specs.Plane.{IsSquareBefore}
-use Rattle.flat_layout.specs.Regions.{Wiring, Node, At, Ground, reading, ground_of}
+use Rattle.flat_layout.specs.Regions.{Wiring, Node, At, Ground, formula, ground_of}
 use Rattle.plain_netlist.specs.Netlist.{Pole, Source, Gate, Drain, Bulk}
 
 -- what the geometry of a kind of device reads: the layer whose parts are its gates, the input
 -- layers on which a shape from elsewhere disturbs one, and how far from a gate's squares and its
 -- ring such a shape may lie
 pub record Geometry : Type 0 where
-  pub region : Reading
+  pub region : Formula
   pub keys : List LayerKey
   pub reach : ℕ
 
 -- it reads all that a name does
-pub record IsReadBy (g : Geometry) (name : Reading) : Type 0 where
+pub record IsReadBy (g : Geometry) (name : Formula) : Type 0 where
   pub keys : (key : LayerKey) → Some_of (λ k. k ≡ key) (inputs name) → Some_of (λ k. k ≡ key) g.keys
   pub reach : reach name ≤ g.reach
 
@@ -77,9 +77,9 @@ pub record IsFound (d : Design) (g : Geometry) (cell : ℕ) (s : Square) : Type 
 -- the terminals
 pub record Rule : Type 0 where
   pub class : List ℕ
-  pub sd : Reading
-  pub gate : Reading
-  pub well : Reading
+  pub sd : Formula
+  pub gate : Formula
+  pub well : Formula
   pub ts : ℕ
   pub tg : ℕ
   pub tb : ℕ
@@ -91,14 +91,14 @@ ground w u = ground_of u.tb w.grounds
 -- the input layers on which a shape from elsewhere disturbs the rule's gates
 abbrev pub gate_inputs : Wiring → Rule → List LayerKey
 gate_inputs w u = inputs u.sd ++ (inputs u.gate
-    ++ (inputs u.well ++ (inputs (reading w u.ts)
-    ++ (inputs (reading w u.tg) ++ inputs (reading w u.tb)))))
+    ++ (inputs u.well ++ (inputs (formula w u.ts)
+    ++ (inputs (formula w u.tg) ++ inputs (formula w u.tb)))))
 
 -- the greatest reach of these layers
 abbrev pub gate_reach : Wiring → Rule → ℕ
 gate_reach w u = max (reach u.sd) (max (reach u.gate)
-    (max (reach u.well) (max (reach (reading w u.ts))
-    (max (reach (reading w u.tg)) (reach (reading w u.tb))))))
+    (max (reach u.well) (max (reach (formula w u.ts))
+    (max (reach (formula w u.tg)) (reach (formula w u.tb))))))
 
 -- what the rule's geometry reads
 abbrev pub geometry : Wiring → Rule → Geometry
@@ -137,9 +137,9 @@ AreGroups d w u cell s = AreGroupsOf (InGate d (geometry w u) cell s) (InFlat d 
 abbrev pub sheets : Design → Wiring → Rule → ℕ → Sheets
 sheets d w u cell = record {
   ends = InFlat d cell u.sd;
-  on_ends = InFlat d cell (reading w u.ts);
-  on_gate = InFlat d cell (reading w u.tg);
-  on_bulk = InFlat d cell (reading w u.tb);
+  on_ends = InFlat d cell (formula w u.ts);
+  on_gate = InFlat d cell (formula w u.tg);
+  on_bulk = InFlat d cell (formula w u.tb);
   loose = ground w u ≡ None;
 }
 

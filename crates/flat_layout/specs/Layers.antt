@@ -10,19 +10,19 @@ use Rattle.flat_layout.specs.Layout.{IsDisturbed}
 use Rattle.flat_layout.specs.Plane.{AreWithin}
 
 -- a name of the rules as the tree of what it reads; an empty layer reads nothing
-pub data Reading : Type 0 where
-  Input : (key : LayerKey) → Reading
-  Empty : Reading
-  Binary : (op : Op) (a b : Reading) → Reading
+pub data Formula : Type 0 where
+  Input : (key : LayerKey) → Formula
+  Empty : Formula
+  Binary : (op : Op) (a b : Formula) → Formula
 
 -- the input layers that a name reads
-abbrev pub inputs : Reading → List LayerKey
+abbrev pub inputs : Formula → List LayerKey
 inputs (Input key) = key ∷ []
 inputs Empty = []
 inputs (Binary op a b) = inputs a ++ inputs b
 
 -- how far from a square the shapes may lie that decide whether the name has it
-abbrev pub reach : Reading → ℕ
+abbrev pub reach : Formula → ℕ
 reach (Input key) = 0
 reach Empty = 0
 reach (Binary op a b) = max (reach a) (reach b)
@@ -35,7 +35,7 @@ Combines Not A B = A × (B → ⊥)
 Combines Xor A B = (A × (B → ⊥)) ⊎ (B × (A → ⊥))
 
 -- q is a flat square of the cell on a name: pointwise over the flat input layers
-abbrev pub InFlat : Design → ℕ → Reading → Square → Type 0
+abbrev pub InFlat : Design → ℕ → Formula → Square → Type 0
 InFlat d cell (Input key) q = InFlatInput d cell key q
 InFlat d cell Empty q = ⊥
 InFlat d cell (Binary op a b) q = Combines op (InFlat d cell a q) (InFlat d cell b q)
@@ -48,14 +48,14 @@ pub record IsStirred (d : Design) (keys : List LayerKey) (n cell : ℕ) (q : Squ
 
 -- the cell keeps q: a flat square within whose reach nothing is disturbed for the name's inputs; of
 -- an input layer each flat square
-abbrev pub IsKept : Design → ℕ → Reading → Square → Type 0
+abbrev pub IsKept : Design → ℕ → Formula → Square → Type 0
 IsKept d cell (Input key) q = InFlatInput d cell key q
 IsKept d cell Empty q = ⊥
 IsKept d cell (Binary op a b) q = InFlat d cell (Binary op a b) q
     × (IsStirred d (inputs (Binary op a b)) (reach (Binary op a b)) cell q → ⊥)
 
 -- q is the image of a kept square of a placed cell
-pub record IsKeptBelow (d : Design) (cell : ℕ) (name : Reading) (q : Square) : Type 0 where
+pub record IsKeptBelow (d : Design) (cell : ℕ) (name : Formula) (q : Square) : Type 0 where
   pub number : ℕ
   pub place : Place
   pub square : Square
@@ -64,14 +64,14 @@ pub record IsKeptBelow (d : Design) (cell : ℕ) (name : Reading) (q : Square) :
   pub image : moved_square place.motion square ≡ q
 
 -- the cell itself holds q: it keeps q, and no placed cell does; of an input layer its own squares
-abbrev pub IsLocal : Design → ℕ → Reading → Square → Type 0
+abbrev pub IsLocal : Design → ℕ → Formula → Square → Type 0
 IsLocal d cell (Input key) q = IsOwn d cell key q
 IsLocal d cell Empty q = ⊥
 IsLocal d cell (Binary op a b) q =
     IsKept d cell (Binary op a b) q × (IsKeptBelow d cell (Binary op a b) q → ⊥)
 
 -- q is the image of what a cell at or below this one holds itself
-pub record IsCovered (d : Design) (cell : ℕ) (name : Reading) (q : Square) : Type 0 where
+pub record IsCovered (d : Design) (cell : ℕ) (name : Formula) (q : Square) : Type 0 where
   pub path : List ℕ
   pub end : ℕ
   pub square : Square

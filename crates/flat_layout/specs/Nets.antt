@@ -5,11 +5,11 @@ use Rattle.geo_base.specs.declared.shapes.Rect.{Rect}
 use Rattle.geo_base.specs.declared.shapes.Square.{Square}
 use Rattle.plain_netlist.specs.Chains.{Reaches}
 use Rattle.rect_sets.specs.Rects.{IsCanonical}
-use Rattle.flat_layout.specs.Layers.{Reading, IsKept, IsKeptBelow, IsLocal}
+use Rattle.flat_layout.specs.Layers.{Formula, IsKept, IsKeptBelow, IsLocal}
 use Rattle.flat_layout.specs.Layout.{Place, Cell, Design, IsPlaced, Leads, IsReached, IsHeight}
 use Rattle.flat_layout.specs.Plane.{IsIn}
 use Rattle.flat_layout.specs.Regions.{Wiring, Node, At, Ground, Touches, IsNode, InOneRegion, moved}
-use Rattle.flat_layout.specs.Regions.{reading, kept}
+use Rattle.flat_layout.specs.Regions.{formula, kept}
 
 -- what a net of a cell is made of: rectangles of the cell itself, nets of placed cells, globals
 pub data Item : Type 0 where
@@ -80,7 +80,7 @@ run f k zero = []
 run f k (suc n) = f k ∷ run f (suc k) n
 
 -- from the c-th conductor on, its rectangles
-abbrev pub own_items : Tables → ℕ → ℕ → List Reading → List Item
+abbrev pub own_items : Tables → ℕ → ℕ → List Formula → List Item
 own_items t cell c [] = []
 own_items t cell c (x ∷ xs) = run (Own c) 0 (length (t.own cell c)) ++ own_items t cell (suc c) xs
 
@@ -113,8 +113,8 @@ pub record AreNets (d : Design) (w : Wiring) (t : Tables) (cell : ℕ) (v : Cell
 -- the rectangles of a table cover what the cell itself holds, and none is empty
 pub record AreOwn (d : Design) (w : Wiring) (t : Tables) (cell c : ℕ) : Type 0 where
   pub local : (r : ℕ) (rect : Rect) (q : Square) → slice_get (t.own cell c) r ≡ Some rect
-      → IsIn q rect → IsLocal d cell (reading w c) q
-  pub found : (q : Square) → IsLocal d cell (reading w c) q → (r : ℕ) × (rect : Rect)
+      → IsIn q rect → IsLocal d cell (formula w c) q
+  pub found : (q : Square) → IsLocal d cell (formula w c) q → (r : ℕ) × (rect : Rect)
       × (slice_get (t.own cell c) r ≡ Some rect) × IsIn q rect
   pub filled : (r : ℕ) (rect : Rect) → slice_get (t.own cell c) r ≡ Some rect → (q : Square)
       × IsIn q rect
@@ -128,8 +128,8 @@ pub record AreListed (d : Design) (w : Wiring) (t : Tables) (cell c : ℕ) : Typ
 -- from below
 pub record AreTables (d : Design) (w : Wiring) (t : Tables) (height : ℕ → ℕ) : Type 0 where
   pub lower : IsHeight d height
-  pub parted : (cell c : ℕ) (q : Square) → IsReached d cell → IsKept d cell (reading w c) q
-      → IsLocal d cell (reading w c) q ⊎ IsKeptBelow d cell (reading w c) q
+  pub parted : (cell c : ℕ) (q : Square) → IsReached d cell → IsKept d cell (formula w c) q
+      → IsLocal d cell (formula w c) q ⊎ IsKeptBelow d cell (formula w c) q
   pub own : (cell c : ℕ) → IsReached d cell → AreOwn d w t cell c
   pub nets : (cell : ℕ) → IsReached d cell → AreNets d w t cell (t.nets cell)
 

@@ -6,7 +6,7 @@ use Rattle.geo_base.specs.declared.layer.LayerKey.{LayerKey}
 use Rattle.geo_base.specs.declared.motion.Motion.{Motion}
 use Rattle.geo_base.specs.declared.shapes.Square.{Square}
 use Rattle.plain_netlist.specs.Chains.{Reaches}
-use Rattle.flat_layout.specs.Layers.{Reading, Empty, InFlat, IsKept}
+use Rattle.flat_layout.specs.Layers.{Formula, Empty, InFlat, IsKept}
 use Rattle.flat_layout.specs.Layout.{Design, Some_of}
 use Rattle.flat_layout.specs.Plane.{IsNear}
 
@@ -24,7 +24,7 @@ pub record Label : Type 0 where
 -- number is its name's; the lines between two conductors, those to a global, those to texts; and
 -- the globals' names, by their first lines
 pub record Wiring : Type 0 where
-  pub conductors : List Reading
+  pub conductors : List Formula
   pub joins : List Line
   pub grounds : List Line
   pub labels : List Label
@@ -73,13 +73,13 @@ moved m (At c q) = At c (moved_square m q)
 moved m (Ground g) = Ground g
 
 -- what a conductor reads; numbers past the end read nothing
-abbrev pub reading : Wiring → ℕ → Reading
-reading w c = get_or w.conductors c Empty
+abbrev pub formula : Wiring → ℕ → Formula
+formula w c = get_or w.conductors c Empty
 
 -- what a cell keeps of each conductor
 abbrev pub kept : Design → Wiring → ℕ → ℕ → Square → Type 0
-kept d w cell c q = IsKept d cell (reading w c) q
+kept d w cell c q = IsKept d cell (formula w c) q
 
 -- the flat squares of a cell on each conductor
 abbrev pub flat : Design → Wiring → ℕ → ℕ → Square → Type 0
-flat d w cell c q = InFlat d cell (reading w c) q
+flat d w cell c q = InFlat d cell (formula w c) q

@@ -10,7 +10,7 @@ use Rattle.flat_layout.specs.Circuits.{AreDrawn, CircuitParts, IsCircuitCell, Is
 use Rattle.flat_layout.specs.Gates.{Rule}
 use Rattle.flat_layout.specs.GateTables.{GateEntry}
 use Rattle.flat_layout.specs.Hull.{IsInHull}
-use Rattle.flat_layout.specs.Layers.{Reading, IsKept, IsKeptBelow, IsLocal}
+use Rattle.flat_layout.specs.Layers.{Formula, IsKept, IsKeptBelow, IsLocal}
 use Rattle.flat_layout.specs.Layout.{Design, Place, IsDisturbed, IsPlaced}
 use Rattle.flat_layout.specs.Nets.{Tables, IsUnder}
 use Rattle.flat_layout.specs.Pins.{CellPins}
@@ -24,7 +24,7 @@ pub record IsZone (d : Design) (keys : List LayerKey) (n cell : ℕ) (v : List R
 
 -- the squares that a cell itself holds of a name; and of each kept square it is known whether it is
 -- one of these or comes from below
-pub record IsLocalLayer (d : Design) (name : Reading) (cell : ℕ) (v : List Rect) : Type 0 where
+pub record IsLocalLayer (d : Design) (name : Formula) (cell : ℕ) (v : List Rect) : Type 0 where
   pub canonical : IsCanonical v
   pub each : (q : Square) → (covers v q ≡ true) ↔ IsLocal d cell name q
   pub parted : (q : Square) → IsKept d cell name q → IsLocal d cell name q

@@ -11,7 +11,7 @@ use Rattle.flat_layout.specs.Layout.{Place, Layer, Cell, Design, Some_of, IsOwn,
 use Rattle.flat_layout.specs.Nets.{Item, Own, Child, IsOf, HoldsAt, ItemHolds, IsItem, IsItemLink, AreNets, AreOwn, AreTables}
 use Rattle.flat_layout.specs.Order.{AreLevels}
 use Rattle.flat_layout.specs.Plane.{IsIn}
-use Rattle.flat_layout.specs.Regions.{At, reading}
+use Rattle.flat_layout.specs.Regions.{At, formula}
 use Rattle.flat_sample.specs.Sample.{metal, child_rect, parent_rect, child, place, parent, sample_design, sample_wiring, nets_of, sample_tables, sample_level}
 
 pub none_some : {A : Type 0} {B : Type 0} (x : A) → None ≡ Some x → B
@@ -52,7 +52,7 @@ levels = record {
     some (suc zero) = inr (0, place, (parent, refl, refl), refl)
     some (suc (suc n)) = inl refl
 
-parted : (cell c : ℕ) (q : Square) → IsKept sample_design cell (reading sample_wiring c) q → IsLocal sample_design cell (reading sample_wiring c) q ⊎ IsKeptBelow sample_design cell (reading sample_wiring c) q
+parted : (cell c : ℕ) (q : Square) → IsKept sample_design cell (formula sample_wiring c) q → IsLocal sample_design cell (formula sample_wiring c) q ⊎ IsKeptBelow sample_design cell (formula sample_wiring c) q
 parted cell zero q h = input_parted sample_design cell metal q h.square h.path h.end h.takes h.own
 parted cell (suc c) q h = absurd h
 

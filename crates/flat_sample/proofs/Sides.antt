@@ -8,7 +8,7 @@ use Rattle.flat_laws.proofs.Once.{calm_top}
 use Rattle.flat_layout.specs.Layers.{Input, InFlat, IsKept, IsKeptBelow, IsLocal, inputs, reach, IsStirred}
 use Rattle.flat_layout.specs.Layout.{Place, Layer, Cell, Some_of, IsOwn, Takes, IsPrefix, IsDisturbed}
 use Rattle.flat_layout.specs.Plane.{IsIn}
-use Rattle.flat_layout.specs.Regions.{reading}
+use Rattle.flat_layout.specs.Regions.{formula}
 use Rattle.plain_netlist.specs.Lists.{IsListed}
 use Rattle.flat_laws.proofs.Names.{name_still}
 use Rattle.flat_sample.proofs.Columns.{one_place, lower_cell, placed_here, no_place, levels, moved_column, one_column, some_column, own_column, column_own, IsFlatColumn, flat_column, column_flat, column_above, poly_at, no_poly, child_poly, parent_poly, poly_above}
@@ -225,18 +225,18 @@ nothing (suc zero) c x h = h
 nothing (suc (suc n)) c x h = h
 
 -- what a cell itself holds of a conductor
-pub local_held : (cell c : ℕ) (q : Square) → cell < 2 → IsLocal gate_design cell (reading gate_wiring c) q → Held cell c q
+pub local_held : (cell c : ℕ) (q : Square) → cell < 2 → IsLocal gate_design cell (formula gate_wiring c) q → Held cell c q
 local_held cell zero q lt h = local_side cell q lt h
 local_held cell (suc zero) q lt h = own_poly cell q lt h
 local_held cell (suc (suc zero)) q lt h = absurd h
 local_held cell (suc (suc (suc c))) q lt h = absurd h
 
-pub held_local : (cell c x : ℕ) → IsListed x (held cell c) → IsLocal gate_design cell (reading gate_wiring c) (at x)
+pub held_local : (cell c x : ℕ) → IsListed x (held cell c) → IsLocal gate_design cell (formula gate_wiring c) (at x)
 held_local cell zero x h = side_local cell x h
 held_local cell (suc zero) x h = poly_own cell x h
 held_local cell (suc (suc c)) x h = absurd (nothing cell c x h)
 
-pub kept_parted : (cell c : ℕ) (q : Square) → cell < 2 → IsKept gate_design cell (reading gate_wiring c) q → IsLocal gate_design cell (reading gate_wiring c) q ⊎ IsKeptBelow gate_design cell (reading gate_wiring c) q
+pub kept_parted : (cell c : ℕ) (q : Square) → cell < 2 → IsKept gate_design cell (formula gate_wiring c) q → IsLocal gate_design cell (formula gate_wiring c) q ⊎ IsKeptBelow gate_design cell (formula gate_wiring c) q
 kept_parted cell zero q lt h = sides_parted cell q lt h
 kept_parted cell (suc zero) q lt h = input_parted gate_design cell (key_of 1) q h.square h.path h.end h.takes h.own
 kept_parted cell (suc (suc zero)) q lt h = absurd h

@@ -7,7 +7,7 @@ use Rattle.flat_layout.specs.Layers.{IsLocal}
 use Rattle.flat_layout.specs.Layout.{Place}
 use Rattle.flat_layout.specs.Nets.{Item, Own, Child, Global, IsOf, HoldsAt, ItemHolds, NetHolds, IsItem, IsItemLink, AreNets, AreOwn, AreTables}
 use Rattle.flat_layout.specs.Plane.{IsIn}
-use Rattle.flat_layout.specs.Regions.{Node, At, Ground, Touches, moved, reading}
+use Rattle.flat_layout.specs.Regions.{Node, At, Ground, Touches, moved, formula}
 use Rattle.flat_sample.proofs.Columns.{no_place, one_place, lower_cell, placed_here, levels, reached_two, moved_column, in_unit, unit_in, one_column, rect_column, column_rect}
 use Rattle.flat_sample.proofs.Listing.{each_at}
 use Rattle.flat_sample.proofs.Right.{none_some}
@@ -290,7 +290,7 @@ own_right : (cell c : ℕ) → cell < 2 → AreOwn gate_design gate_wiring gate_
 own_right cell c lt = record {
   local = λ r rect q e i.
       let s = rect_column (held cell c) r rect e in
-      subst (IsLocal gate_design cell (reading gate_wiring c)) (sym (in_unit q s.0 (subst (λ k. IsIn q k) s.2 i))) (held_local cell c s.0 s.1);
+      subst (IsLocal gate_design cell (formula gate_wiring c)) (sym (in_unit q s.0 (subst (λ k. IsIn q k) s.2 i))) (held_local cell c s.0 s.1);
   found = λ q h.
       let s = local_held cell c q lt h in
       let t = column_rect s.0 (held cell c) s.1 in

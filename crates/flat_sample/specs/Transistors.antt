@@ -11,7 +11,7 @@ use Rattle.flat_layout.specs.Circuits.{CircuitParts}
 use Rattle.flat_layout.specs.Expanded.{CircuitTables}
 use Rattle.flat_layout.specs.Gates.{Rule}
 use Rattle.flat_layout.specs.GateTables.{GateEntry, GateRow, Good}
-use Rattle.flat_layout.specs.Layers.{Reading, Input, Empty, Binary}
+use Rattle.flat_layout.specs.Layers.{Formula, Input, Empty, Binary}
 use Rattle.flat_layout.specs.Layout.{Place, Layer, Text, Cell, Design}
 use Rattle.flat_layout.specs.Nets.{Own, Child, Global, CellNets, Tables}
 use Rattle.flat_layout.specs.Pins.{CellPins}
@@ -71,10 +71,10 @@ abbrev pub gate_design : Design
 gate_design = record { cells = child ∷ (parent ∷ []); top = 1 }
 
 -- active without poly, and with it
-abbrev pub sides : Reading
+abbrev pub sides : Formula
 sides = Binary Not (Input (key_of 0)) (Input (key_of 1))
 
-abbrev pub crossings : Reading
+abbrev pub crossings : Formula
 crossings = Binary And (Input (key_of 0)) (Input (key_of 1))
 
 -- "vss"

@@ -1,7 +1,7 @@
 ghost use Rattle.std.specs.Prelude.{◌↔◌, IsTrue, IfSome};
 ghost use Rattle.flat_layout.specs.Layers.{InFlat, IsKept, IsKeptBelow, IsLocal, inputs};
 ghost use Rattle.flat_layout.specs.Layout.{IsDisturbed};
-ghost use Rattle.flat_slow.specs.Slow.{reading};
+ghost use Rattle.flat_slow.specs.Slow.{plain_formula};
 ghost use Rattle.slow_paths.specs.Slow.{plain};
 
 use geo_base::{LayerKey, Op, Square};
@@ -17,7 +17,7 @@ pub enum Formula {
 
 /// Whether the square is a flat square of the cell on the layer.
 pub fn in_flat(d: &SlowDesign, depth: u32, cell: usize, layer: &Formula, q: Square) -> Option<bool>
-    ensures { IfSome result (λ b. IsTrue b ↔ InFlat (plain d.now) cell (reading layer.now) q) }
+    ensures { IfSome result (λ b. IsTrue b ↔ InFlat (plain d.now) cell (plain_formula layer.now) q) }
 {
     match layer {
         Formula::Input(key) => in_input(d, depth, cell, *key, q),
@@ -44,7 +44,7 @@ fn is_disturbed_for(
     q: Square,
 ) -> Option<bool>
     ensures { IfSome result (λ b. IsTrue b
-        ↔ IsDisturbed (plain d.now) (inputs (reading layer.now)) cell q) }
+        ↔ IsDisturbed (plain d.now) (inputs (plain_formula layer.now)) cell q) }
 {
     match layer {
         Formula::Input(key) => is_disturbed(d, depth, cell, *key, q),
@@ -61,8 +61,8 @@ fn is_disturbed_for(
 // Whether the square is flat on the layer and isn't disturbed for its inputs.
 fn is_calm(d: &SlowDesign, depth: u32, cell: usize, layer: &Formula, q: Square) -> Option<bool>
     ensures { IfSome result (λ b. IsTrue b
-        ↔ (InFlat (plain d.now) cell (reading layer.now) q
-        × (IsDisturbed (plain d.now) (inputs (reading layer.now)) cell q → ⊥))) }
+        ↔ (InFlat (plain d.now) cell (plain_formula layer.now) q
+        × (IsDisturbed (plain d.now) (inputs (plain_formula layer.now)) cell q → ⊥))) }
 {
     let flat = in_flat(d, depth, cell, layer, q)?;
     let disturbed = is_disturbed_for(d, depth, cell, layer, q)?;
@@ -71,7 +71,7 @@ fn is_calm(d: &SlowDesign, depth: u32, cell: usize, layer: &Formula, q: Square) 
 
 /// Whether the cell keeps the square.
 pub fn is_kept(d: &SlowDesign, depth: u32, cell: usize, layer: &Formula, q: Square) -> Option<bool>
-    ensures { IfSome result (λ b. IsTrue b ↔ IsKept (plain d.now) cell (reading layer.now) q) }
+    ensures { IfSome result (λ b. IsTrue b ↔ IsKept (plain d.now) cell (plain_formula layer.now) q) }
 {
     match layer {
         Formula::Input(key) => in_input(d, depth, cell, *key, q),
@@ -82,7 +82,7 @@ pub fn is_kept(d: &SlowDesign, depth: u32, cell: usize, layer: &Formula, q: Squa
 
 // Whether the square is the image of one that a placed cell keeps.
 fn is_below(d: &SlowDesign, depth: u32, cell: usize, layer: &Formula, q: Square) -> Option<bool>
-    ensures { IfSome result (λ b. IsTrue b ↔ IsKeptBelow (plain d.now) cell (reading layer.now) q) }
+    ensures { IfSome result (λ b. IsTrue b ↔ IsKeptBelow (plain d.now) cell (plain_formula layer.now) q) }
 {
     if cell >= d.cells.len() {
         return Some(false);
@@ -99,8 +99,8 @@ fn is_below(d: &SlowDesign, depth: u32, cell: usize, layer: &Formula, q: Square)
 // Whether the cell keeps the square and no placed cell does.
 fn is_held(d: &SlowDesign, depth: u32, cell: usize, layer: &Formula, q: Square) -> Option<bool>
     ensures { IfSome result (λ b. IsTrue b
-        ↔ (IsKept (plain d.now) cell (reading layer.now) q
-        × (IsKeptBelow (plain d.now) cell (reading layer.now) q → ⊥))) }
+        ↔ (IsKept (plain d.now) cell (plain_formula layer.now) q
+        × (IsKeptBelow (plain d.now) cell (plain_formula layer.now) q → ⊥))) }
 {
     let kept = is_kept(d, depth, cell, layer, q)?;
     let below = is_below(d, depth, cell, layer, q)?;
@@ -109,7 +109,7 @@ fn is_held(d: &SlowDesign, depth: u32, cell: usize, layer: &Formula, q: Square) 
 
 /// Whether the cell itself holds the square.
 pub fn is_local(d: &SlowDesign, depth: u32, cell: usize, layer: &Formula, q: Square) -> Option<bool>
-    ensures { IfSome result (λ b. IsTrue b ↔ IsLocal (plain d.now) cell (reading layer.now) q) }
+    ensures { IfSome result (λ b. IsTrue b ↔ IsLocal (plain d.now) cell (plain_formula layer.now) q) }
 {
     match layer {
         Formula::Input(key) => Some(cell < d.cells.len() && is_own(&d.cells[cell].shapes, *key, q)),

@@ -6,8 +6,8 @@ use Rattle.flat_layout.specs.Parts.{Edge, IsStep, IsCloseTo, InSideOf, InGroupOf
 use Rattle.flat_layout.specs.Parts.{IsLeast}
 use Rattle.geo_base.specs.declared.shapes.Rect.{Rect}
 use Rattle.flat_layout.specs.Gates.{InGate, geometry, sheets}
-use Rattle.flat_layout.specs.Layers.{Reading, InFlat}
-use Rattle.flat_layout.specs.Regions.{reading}
+use Rattle.flat_layout.specs.Layers.{Formula, InFlat}
+use Rattle.flat_layout.specs.Regions.{formula}
 use Rattle.gate_shapes.specs.LookLaws.{IsExactNear, LookLaw}
 use Rattle.gate_shapes.specs.Sets.{in_set}
 use Rattle.gate_shapes.specs.Shapes.{IsShape, cause_of, sheets_of}
@@ -144,7 +144,7 @@ module _ (P Q : Square → Type 0) (same : (q : Square) → P q ↔ Q q) (g h : 
 
 pub look : LookLaw
 look d w u cell s part ends on_ends on_gate on_bulk loose v around h =
-    let near : (name : Reading) (rects : List Rect) → IsExactNear d w u cell s rects name → AgreeNear (in_set part) (in_set rects) (InFlat d cell name) =
+    let near : (name : Formula) (rects : List Rect) → IsExactNear d w u cell s rects name → AgreeNear (in_set part) (in_set rects) (InFlat d cell name) =
     λ name rects exact q c. exact q (record { square = c.square; in_part = (around.part_is c.square).0 c.in_part; around = c.around }) in
     shape (in_set part) (InGate d (geometry w u) cell s) around.part_is (sheets_of ends on_ends on_gate on_bulk loose) (sheets d w u cell)
-    (near u.sd ends around.ends_are) (near (reading w u.ts) on_ends around.on_ends_are) (near (reading w u.tg) on_gate around.on_gate_are) (near (reading w u.tb) on_bulk around.on_bulk_are) around.loose_is v h
+    (near u.sd ends around.ends_are) (near (formula w u.ts) on_ends around.on_ends_are) (near (formula w u.tg) on_gate around.on_gate_are) (near (formula w u.tb) on_bulk around.on_bulk_are) around.loose_is v h

@@ -3,15 +3,15 @@ use Rattle.std.specs.Prelude.{◌≡◌, ◌↔◌, ℕ, Bool, true, None, List}
 use Rattle.geo_base.specs.declared.shapes.Rect.{Rect}
 use Rattle.geo_base.specs.declared.shapes.Square.{Square}
 use Rattle.flat_layout.specs.Gates.{Rule, InGate, IsGateOrRing, geometry, ground, sheets}
-use Rattle.flat_layout.specs.Layers.{Reading, InFlat}
+use Rattle.flat_layout.specs.Layers.{Formula, InFlat}
 use Rattle.flat_layout.specs.Layout.{Design}
-use Rattle.flat_layout.specs.Regions.{Wiring, reading}
+use Rattle.flat_layout.specs.Regions.{Wiring, formula}
 use Rattle.gate_shapes.specs.Sets.{in_set}
 use Rattle.gate_shapes.specs.Shapes.{sheets_of, IsShape}
 use Rattle.gate_shapes.specs.declared.shape.GateShape.{GateShape}
 
 -- at the gate and its ring the list covers the flat squares of the name
-abbrev pub IsExactNear : Design → Wiring → Rule → ℕ → Square → List Rect → Reading → Type 0
+abbrev pub IsExactNear : Design → Wiring → Rule → ℕ → Square → List Rect → Formula → Type 0
 IsExactNear d w u cell s rects name =
     (q : Square) → IsGateOrRing d (geometry w u) cell s q → in_set rects q ↔ InFlat d cell name q
 
@@ -20,9 +20,9 @@ pub record AreAround (d : Design) (w : Wiring) (u : Rule) (cell : ℕ) (s : Squa
     (part ends on_ends on_gate on_bulk : List Rect) (loose : Bool) : Type 0 where
   pub part_is : (q : Square) → in_set part q ↔ InGate d (geometry w u) cell s q
   pub ends_are : IsExactNear d w u cell s ends u.sd
-  pub on_ends_are : IsExactNear d w u cell s on_ends (reading w u.ts)
-  pub on_gate_are : IsExactNear d w u cell s on_gate (reading w u.tg)
-  pub on_bulk_are : IsExactNear d w u cell s on_bulk (reading w u.tb)
+  pub on_ends_are : IsExactNear d w u cell s on_ends (formula w u.ts)
+  pub on_gate_are : IsExactNear d w u cell s on_gate (formula w u.tg)
+  pub on_bulk_are : IsExactNear d w u cell s on_bulk (formula w u.tb)
   pub loose_is : (loose ≡ true) ↔ (ground w u ≡ None)
 
 -- what is found of the lists holds of the gate

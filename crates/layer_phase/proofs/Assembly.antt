@@ -5,7 +5,7 @@ use Rattle.geo_base.specs.declared.layer.Op.{Op}
 use Rattle.geo_base.specs.declared.shapes.Rect.{Rect}
 use Rattle.geo_base.specs.declared.shapes.Square.{Square}
 use Rattle.rect_sets.specs.Rects.{covers}
-use Rattle.flat_layout.specs.Layers.{Reading, Binary, inputs, InFlat, IsKeptBelow, IsKept}
+use Rattle.flat_layout.specs.Layers.{Formula, Binary, inputs, InFlat, IsKeptBelow, IsKept}
 use Rattle.flat_layout.specs.Layout.{IsDisturbed}
 use Rattle.flat_laws.proofs.Names.{name_still, under_input}
 use Rattle.cell_graph.specs.Linked.{Linked, IsSound, HullHas, hull_of, cell_at, plain}
@@ -37,7 +37,7 @@ split_local false z c e = let g : false ≡ true = e in absurd (let z : ⊥ = cc
 join_local : (f z c : Bool) → f ≡ true → z ≡ false → c ≡ false → ((f && not z) && not c) ≡ true
 join_local f z c e g h = ap (λ b. (b && not z) && not c) e ∙ ap (λ b. (true && not b) && not c) g ∙ ap (λ b. (true && not false) && not b) h
 
-decided : (d : Linked) (name : Reading) (cell : ℕ) → IsSound d → HaveZones d name cell → AreDecidedBelow (plain d) (inputs name) cell
+decided : (d : Linked) (name : Formula) (cell : ℕ) → IsSound d → HaveZones d name cell → AreDecidedBelow (plain d) (inputs name) cell
 decided d name cell sound zones k p key r placed flat =
     let z = zones k p placed in
     elim (is_or_not (covers z.0 r)) [
@@ -46,7 +46,7 @@ decided d name cell sound zones k p key r placed flat =
     ]
 
 -- a kept square below lies in the placed cell's hull
-below_held : (d : Linked) (name : Reading) (cell : ℕ) (q : Square) (op : Op) (a b : Reading) → IsSound d → IsKeptBelow (plain d) cell (Binary op a b) q → IsFromCalmHull d (Binary op a b) cell q
+below_held : (d : Linked) (name : Formula) (cell : ℕ) (q : Square) (op : Op) (a b : Formula) → IsSound d → IsKeptBelow (plain d) cell (Binary op a b) q → IsFromCalmHull d (Binary op a b) cell q
 below_held d name cell q op a b sound h =
     let u = under_input (plain d) h.place.cell (Binary op a b) h.square h.kept.0 in
     record { number = h.number; place = h.place; square = h.square; placed = h.placed; held = hulls d sound h.place.cell u.0 h.square u.2; calm = λ e. h.kept.1 ((name_still (plain d) (Binary op a b) h.place.cell h.square).1 e); image = h.image }
@@ -58,7 +58,7 @@ layer d op a b cell places flat zone calm local sound reached zones parts canoni
   parted = λ q kept. elim (part q kept) [ inl e ↦ inl (to q e) | inr h ↦ inr h ];
 }
   where
-    name : Reading
+    name : Formula
     name = Binary op a b
 
     grown_of : (q : Square) → InFlat (plain d) cell (Binary op a b) q → IsInGrown (hull_of (cell_at d cell)) q

@@ -6,7 +6,7 @@ use Rattle.geo_base.specs.declared.layer.Op.{Op}
 use Rattle.geo_base.specs.declared.shapes.Rect.{Rect}
 use Rattle.geo_base.specs.declared.shapes.Square.{Square}
 use Rattle.rect_sets.specs.Rects.{covers, IsCanonical}
-use Rattle.flat_layout.specs.Layers.{Reading, Binary, inputs}
+use Rattle.flat_layout.specs.Layers.{Formula, Binary, inputs}
 use Rattle.flat_layout.specs.Layout as flat
 use Rattle.flat_layout.specs.Layout.{IsDisturbed, IsOwn, IsReached, Some_of}
 use Rattle.flat_layout.specs.Values.{IsLocalLayer}
@@ -15,7 +15,7 @@ use Rattle.cell_graph.specs.Linked.{Linked, IsSound, HullHas, cell_at, hull_of, 
 use Rattle.cell_graph.proofs.Bridge.{hulls, own, step_of}
 use Rattle.deep_laws.specs.Layers.{IsFromDisturbed, IsOwnOn}
 use Rattle.rule_text.specs.Rules.{Rules}
-use Rattle.rule_layers.specs.Readings.{readings}
+use Rattle.rule_layers.specs.Formulas.{formulas}
 use Rattle.deep_tables.specs.declared.zones.CellZones.{CellZones}
 use Rattle.deep_tables.specs.Frames.{IsFramedZone}
 use Rattle.deep_tables.proofs.Framing.{framed}
@@ -33,7 +33,7 @@ one_zone : (o : Option (List Rect)) (v w : List Rect) → o ≡ Some v → o ≡
 one_zone o v w h g = let e : Some v ≡ Some w = sym h ∙ g in cc
 
 -- what the table of disturbed squares tells of a name
-pub tells : (d : Linked) (r : Rules) (z : List (Option CellZones)) (cell name : ℕ) (x : Reading) → IsSound d → IsReady d r z cell → slice_get (readings r.names) name ≡ Some x → TellsKept d z x cell name
+pub tells : (d : Linked) (r : Rules) (z : List (Option CellZones)) (cell name : ℕ) (x : Formula) → IsSound d → IsReady d r z cell → slice_get (formulas r.names) name ≡ Some x → TellsKept d z x cell name
 tells d r z cell name x sound ready at = kept d r z x cell name sound ready.hulls ready.zones ready.reached at
 
 some_key : (d : Linked) (cell : ℕ) (q : Square) (keys : List LayerKey) → IsOwnOn (plain d) keys cell q → (key : LayerKey) × Some_of (λ k. k ≡ key) keys × IsOwn (plain d) cell key q
@@ -41,8 +41,8 @@ some_key d cell q [] h = absurd h
 some_key d cell q (k ∷ keys) (inl h) = (k, inl refl, h)
 some_key d cell q (k ∷ keys) (inr h) = let r = some_key d cell q keys h in (r.0, inr r.1, r.2)
 
-module _ (d : Linked) (r : Rules) (z : List (Option CellZones)) (cell name : ℕ) (op : Op) (a b : Reading) (looks flats zone calm : List Rect) (sound : IsSound d) (ready : IsReady d r z cell)
-    (at : slice_get (readings r.names) name ≡ Some (Binary op a b)) (seen : AreLooks d z r.names cell looks) (flat_in : IsFlatIn d cell looks (Binary op a b) flats)
+module _ (d : Linked) (r : Rules) (z : List (Option CellZones)) (cell name : ℕ) (op : Op) (a b : Formula) (looks flats zone calm : List Rect) (sound : IsSound d) (ready : IsReady d r z cell)
+    (at : slice_get (formulas r.names) name ≡ Some (Binary op a b)) (seen : AreLooks d z r.names cell looks) (flat_in : IsFlatIn d cell looks (Binary op a b) flats)
     (entry : IsZoneAt z cell name zone) (keeps : (q : Square) → (covers calm q ≡ true) ↔ ((covers looks q ≡ true) × IsKeptBy d z cell name q)) where
   own_seen : (q : Square) → IsOwnOn (plain d) (inputs (Binary op a b)) cell q → covers looks q ≡ true
   own_seen q h =

@@ -11,7 +11,7 @@ use Rattle.geo_base.specs.declared.shapes.Rect.{Rect}
 use Rattle.geo_base.specs.declared.shapes.Square.{Square}
 use Rattle.rect_sets.specs.Rects.{covers}
 use Rattle.edge_boolean.specs.Ops.{operated}
-use Rattle.flat_layout.specs.Layers.{Reading, Input, Empty, Binary, inputs, InFlat, Combines}
+use Rattle.flat_layout.specs.Layers.{Formula, Input, Empty, Binary, inputs, InFlat, Combines}
 use Rattle.flat_layout.specs.Layout.{Some_of}
 use Rattle.flat_layout.specs.Values.{IsLocalLayer}
 use Rattle.cell_graph.specs.Linked.{Linked, IsSound, cell_at, own_of, places_at, plain}
@@ -19,7 +19,7 @@ use Rattle.cell_context.proofs.Gathering.{over_flat}
 use Rattle.rule_text.specs.declared.rules.LayerForm.{LayerForm}
 use Rattle.rule_text.specs.declared.rules.LayerForm.TheVariants as form
 use Rattle.rule_text.specs.declared.rules.LayerRule.{LayerRule}
-use Rattle.rule_layers.specs.Readings.{readings, reading_by, readings_behind}
+use Rattle.rule_layers.specs.Formulas.{formulas, formula_by, formulas_behind}
 use Rattle.layer_phase.specs.Looks.{Grows, IsInput}
 use Rattle.layer_phase.specs.Names.{AreFlats, AreLocals, IsFlatIn}
 
@@ -54,7 +54,7 @@ op_from Xor L A B true false fa ga fb gb h = refl
 op_from Xor L A B false true fa ga fb gb h = refl
 op_from Xor L A B false false fa ga fb gb h = elim h.1 [ inl x ↦ ga (h.0, x.0) | inr y ↦ gb (h.0, y.0) ]
 
-pub combined : (d : Linked) (cell : ℕ) (looks : List Rect) (op : Op) (x y : Reading) (a b r : List Rect) → ((s : Square) → covers r s ≡ operated op (covers a s) (covers b s))
+pub combined : (d : Linked) (cell : ℕ) (looks : List Rect) (op : Op) (x y : Formula) (a b r : List Rect) → ((s : Square) → covers r s ≡ operated op (covers a s) (covers b s))
     → IsFlatIn d cell looks x a → IsFlatIn d cell looks y b → IsFlatIn d cell looks (Binary op x y) r
 combined d cell looks op x y a b r e h g q = (
   (λ c. op_to op (covers looks q ≡ true) (InFlat (plain d) cell x q) (InFlat (plain d) cell y q) (covers a q) (covers b q) (h q).0 (h q).1 (g q).0 (g q).1 (sym (e q) ∙ c)),
@@ -65,7 +65,7 @@ combined d cell looks op x y a b r e h g q = (
 pub no_flat : (d : Linked) (cell : ℕ) (looks : List Rect) → IsFlatIn d cell looks Empty []
 no_flat d cell looks q = ((λ e. let f : false ≡ true = e in absurd (let z : ⊥ = cc in z)), (λ h. absurd h.1))
 
-pub flats_more : (d : Linked) (cell : ℕ) (looks : List Rect) (trees : List Reading) (tree : Reading) (sets : List (List Rect)) (set : List Rect) → length sets ≡ length trees
+pub flats_more : (d : Linked) (cell : ℕ) (looks : List Rect) (trees : List Formula) (tree : Formula) (sets : List (List Rect)) (set : List Rect) → length sets ≡ length trees
     → AreFlats d cell looks trees sets → IsFlatIn d cell looks tree set → AreFlats d cell looks (trees ++ tree ∷ []) (sets ++ set ∷ [])
 flats_more d cell looks trees tree sets set count h is k = elim (cases_lt k (length trees)) [
   | inl below ↦
@@ -102,53 +102,53 @@ push_new [] x = refl
 push_new (y ∷ xs) x = push_new xs x
 
 -- names before stay where they are
-pub behind_stays : (before : List Reading) (names : List LayerRule) (k : ℕ) (x : Reading) → slice_get before k ≡ Some x → slice_get (readings_behind before names) k ≡ Some x
+pub behind_stays : (before : List Formula) (names : List LayerRule) (k : ℕ) (x : Formula) → slice_get before k ≡ Some x → slice_get (formulas_behind before names) k ≡ Some x
 behind_stays before [] k x e = e
-behind_stays before (n ∷ names) k x e = behind_stays (before ++ reading_by before n.form ∷ []) names k x (push_old before (reading_by before n.form) x k e)
+behind_stays before (n ∷ names) k x e = behind_stays (before ++ formula_by before n.form ∷ []) names k x (push_old before (formula_by before n.form) x k e)
 
 -- the trees of what is left of the names
-pub one_on : (trees : List Reading) (names : List LayerRule) (i : ℕ) (rule : LayerRule) → i < length names → get_or names i rule ≡ rule
-    → readings_behind (trees ++ reading_by trees rule.form ∷ []) (drop (i + 1) names) ≡ readings_behind trees (drop i names)
+pub one_on : (trees : List Formula) (names : List LayerRule) (i : ℕ) (rule : LayerRule) → i < length names → get_or names i rule ≡ rule
+    → formulas_behind (trees ++ formula_by trees rule.form ∷ []) (drop (i + 1) names) ≡ formulas_behind trees (drop i names)
 one_on trees names i rule lt is =
-    sym (at_drop_more (readings_behind trees) names i rule lt
-    ∙ ap (λ (r : LayerRule). readings_behind (trees ++ reading_by trees r.form ∷ []) (drop (i + 1) names)) is)
+    sym (at_drop_more (formulas_behind trees) names i rule lt
+    ∙ ap (λ (r : LayerRule). formulas_behind (trees ++ formula_by trees r.form ∷ []) (drop (i + 1) names)) is)
 
 -- each name has a tree
-pub count_behind : (before : List Reading) (names : List LayerRule) → length (readings_behind before names) ≡ length before + length names
+pub count_behind : (before : List Formula) (names : List LayerRule) → length (formulas_behind before names) ≡ length before + length names
 count_behind before [] = omega arith
-count_behind before (n ∷ names) = let r = count_behind (before ++ reading_by before n.form ∷ []) names in let m = length-append before (reading_by before n.form ∷ []) in omega arith
+count_behind before (n ∷ names) = let r = count_behind (before ++ formula_by before n.form ∷ []) names in let m = length-append before (formula_by before n.form ∷ []) in omega arith
 
 -- the tree of an input layer
-pub input_tree : (before : List Reading) (names : List LayerRule) (k : ℕ) (key : LayerKey) → IsInput names k key → slice_get (readings_behind before names) (length before + k) ≡ Some (Input key)
+pub input_tree : (before : List Formula) (names : List LayerRule) (k : ℕ) (key : LayerKey) → IsInput names k key → slice_get (formulas_behind before names) (length before + k) ≡ Some (Input key)
 input_tree before [] k key is = absurd (none_some is.0 is.1)
 input_tree before (n ∷ names) zero key is =
     let same : n ≡ is.0 = (let e : Some n ≡ Some is.0 = is.1 in cc) in
-    let tree : reading_by before n.form ≡ Input key = ap (λ (r : LayerRule). reading_by before r.form) same ∙ ap (reading_by before) is.2 in
+    let tree : formula_by before n.form ≡ Input key = ap (λ (r : LayerRule). formula_by before r.form) same ∙ ap (formula_by before) is.2 in
     let place : length before ≡ length before + 0 = omega arith in
-    behind_stays (before ++ reading_by before n.form ∷ []) names (length before + 0) (Input key)
-    (subst (λ i. slice_get (before ++ reading_by before n.form ∷ []) i ≡ Some (Input key)) place (push_new before (reading_by before n.form) ∙ ap Some tree))
+    behind_stays (before ++ formula_by before n.form ∷ []) names (length before + 0) (Input key)
+    (subst (λ i. slice_get (before ++ formula_by before n.form ∷ []) i ≡ Some (Input key)) place (push_new before (formula_by before n.form) ∙ ap Some tree))
 input_tree before (n ∷ names) (suc k) key is =
-    let m = length-append before (reading_by before n.form ∷ []) in
-    let place : length (before ++ reading_by before n.form ∷ []) + k ≡ length before + suc k = omega arith in
-    subst (λ i. slice_get (readings_behind (before ++ reading_by before n.form ∷ []) names) i ≡ Some (Input key)) place (input_tree (before ++ reading_by before n.form ∷ []) names k key is)
+    let m = length-append before (formula_by before n.form ∷ []) in
+    let place : length (before ++ formula_by before n.form ∷ []) + k ≡ length before + suc k = omega arith in
+    subst (λ i. slice_get (formulas_behind (before ++ formula_by before n.form ∷ []) names) i ≡ Some (Input key)) place (input_tree (before ++ formula_by before n.form ∷ []) names k key is)
 
 -- what trees read are input layers among the names
-abbrev Known : List LayerRule → List Reading → Type 0
-Known all trees = (i : ℕ) (x : Reading) → slice_get trees i ≡ Some x → (key : LayerKey) → Some_of (λ k. k ≡ key) (inputs x) → (j : ℕ) × IsInput all j key
+abbrev Known : List LayerRule → List Formula → Type 0
+Known all trees = (i : ℕ) (x : Formula) → slice_get trees i ≡ Some x → (key : LayerKey) → Some_of (λ k. k ≡ key) (inputs x) → (j : ℕ) × IsInput all j key
 
 some_split : {A : Type 0} (P : A → Type 0) (xs ys : List A) → Some_of P (xs ++ ys) → Some_of P xs ⊎ Some_of P ys
 some_split P [] ys h = inr h
 some_split P (x ∷ xs) ys (inl h) = inl (inl h)
 some_split P (x ∷ xs) ys (inr h) = elim (some_split P xs ys h) [ inl g ↦ inl (inr g) | inr g ↦ inr g ]
 
-tree_at : (all : List LayerRule) (before : List Reading) (a : ℕ) (key : LayerKey) → Known all before → Some_of (λ k. k ≡ key) (inputs (get_or before a Empty)) → (j : ℕ) × IsInput all j key
+tree_at : (all : List LayerRule) (before : List Formula) (a : ℕ) (key : LayerKey) → Known all before → Some_of (λ k. k ≡ key) (inputs (get_or before a Empty)) → (j : ℕ) × IsInput all j key
 tree_at all before a key known listed = elim (cases_lt a (length before)) [
   | inl lt ↦ known a (get_or before a Empty) (slice_get-get_or before a Empty lt) key listed
   | inr le ↦ absurd (subst (λ x. Some_of (λ k. k ≡ key) (inputs x)) (get_or_past before a Empty (omega (arith, le))) listed)
 ]
 
-form_known : (all : List LayerRule) (before : List Reading) (n : ℕ) (rule : LayerRule) (f : LayerForm) (key : LayerKey) → rule.form ≡ f → slice_get all n ≡ Some rule → Known all before
-    → Some_of (λ k. k ≡ key) (inputs (reading_by before f)) → (j : ℕ) × IsInput all j key
+form_known : (all : List LayerRule) (before : List Formula) (n : ℕ) (rule : LayerRule) (f : LayerForm) (key : LayerKey) → rule.form ≡ f → slice_get all n ≡ Some rule → Known all before
+    → Some_of (λ k. k ≡ key) (inputs (formula_by before f)) → (j : ℕ) × IsInput all j key
 form_known all before n rule (form.Input k) key e at known (inl same) = (n, (rule, at, e ∙ ap form.Input same))
 form_known all before n rule (form.Input k) key e at known (inr none) = absurd none
 form_known all before n rule (form.Labels k) key e at known listed = absurd listed
@@ -158,33 +158,33 @@ form_known all before n rule (form.Binary op a b) key e at known listed = elim (
   | inr h ↦ tree_at all before b key known h
 ]
 
-known_behind : (all : List LayerRule) (before : List Reading) (rest : List LayerRule) (n : ℕ) → ((k : ℕ) (rule : LayerRule) → slice_get rest k ≡ Some rule → slice_get all (n + k) ≡ Some rule) → Known all before → Known all (readings_behind before rest)
+known_behind : (all : List LayerRule) (before : List Formula) (rest : List LayerRule) (n : ℕ) → ((k : ℕ) (rule : LayerRule) → slice_get rest k ≡ Some rule → slice_get all (n + k) ≡ Some rule) → Known all before → Known all (formulas_behind before rest)
 known_behind all before [] n at known = known
 known_behind all before (rule ∷ rest) n at known =
     let here : slice_get all n ≡ Some rule = (let z : n + 0 ≡ n = omega arith in subst (λ i. slice_get all i ≡ Some rule) z (at 0 rule refl)) in
-    known_behind all (before ++ reading_by before rule.form ∷ []) rest (n + 1)
+    known_behind all (before ++ formula_by before rule.form ∷ []) rest (n + 1)
     (λ k r e. let z : n + suc k ≡ (n + 1) + k = omega arith in subst (λ i. slice_get all i ≡ Some r) z (at (suc k) r e))
-    (λ i x e key listed. elim (push_cases before (reading_by before rule.form) x i e) [
+    (λ i x e key listed. elim (push_cases before (formula_by before rule.form) x i e) [
       | inl old ↦ known i x old key listed
       | inr new ↦ form_known all before n rule rule.form key refl here known (subst (λ t. Some_of (λ k. k ≡ key) (inputs t)) (sym new.1) listed)
     ])
 
-pub known : (names : List LayerRule) (i : ℕ) (x : Reading) (key : LayerKey) → slice_get (readings names) i ≡ Some x → Some_of (λ k. k ≡ key) (inputs x) → (j : ℕ) × IsInput names j key
+pub known : (names : List LayerRule) (i : ℕ) (x : Formula) (key : LayerKey) → slice_get (formulas names) i ≡ Some x → Some_of (λ k. k ≡ key) (inputs x) → (j : ℕ) × IsInput names j key
 known names i x key at listed =
     known_behind names [] names 0 (λ k rule e. let z : k ≡ 0 + k = omega arith in subst (λ n. slice_get names n ≡ Some rule) z e) (λ j y e. absurd (none_some y e)) i x at key listed
 
-pub named : (names : List LayerRule) (k : ℕ) (key : LayerKey) → IsInput names k key → slice_get (readings names) k ≡ Some (Input key)
-named names k key is = let z : 0 + k ≡ k = omega arith in subst (λ n. slice_get (readings names) n ≡ Some (Input key)) z (input_tree [] names k key is)
+pub named : (names : List LayerRule) (k : ℕ) (key : LayerKey) → IsInput names k key → slice_get (formulas names) k ≡ Some (Input key)
+named names k key is = let z : 0 + k ≡ k = omega arith in subst (λ n. slice_get (formulas names) n ≡ Some (Input key)) z (input_tree [] names k key is)
 
 pub any_default : {A : Type 0} (xs : List A) (k : ℕ) (a b : A) → k < length xs → get_or xs k a ≡ get_or xs k b
 any_default [] k a b lt = absurd (let z : ⊥ = omega arith in z)
 any_default (x ∷ xs) zero a b lt = refl
 any_default (x ∷ xs) (suc k) a b lt = any_default xs k a b (omega arith)
 
-one_tree : (o : Option Reading) (a b : Reading) → o ≡ Some a → o ≡ Some b → a ≡ b
+one_tree : (o : Option Formula) (a b : Formula) → o ≡ Some a → o ≡ Some b → a ≡ b
 one_tree o a b e f = let g : Some a ≡ Some b = sym e ∙ f in cc
 
-pub locals_more : (d : Linked) (cell : ℕ) (all : List Reading) (x : Reading) (sets : List (List Rect)) (set : List Rect) → slice_get all (length sets) ≡ Some x → AreLocals d cell all sets
+pub locals_more : (d : Linked) (cell : ℕ) (all : List Formula) (x : Formula) (sets : List (List Rect)) (set : List Rect) → slice_get all (length sets) ≡ Some x → AreLocals d cell all sets
     → IsLocalLayer (plain d) x cell set → AreLocals d cell all (sets ++ set ∷ [])
 locals_more d cell all x sets set at h is k y s there found = elim (push_cases sets set s k found) [
   | inl old ↦ h k y s there old

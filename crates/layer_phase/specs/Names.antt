@@ -4,7 +4,7 @@ use Rattle.std.specs.Prelude.{◌≡◌, ◌↔◌, ℕ, ◌<◌, ◌^◌, true,
 use Rattle.geo_base.specs.declared.shapes.Rect.{Rect}
 use Rattle.geo_base.specs.declared.shapes.Square.{Square}
 use Rattle.rect_sets.specs.Rects.{covers}
-use Rattle.flat_layout.specs.Layers.{Reading, Empty, InFlat}
+use Rattle.flat_layout.specs.Layers.{Formula, Empty, InFlat}
 use Rattle.flat_layout.specs.Layout.{IsReached}
 use Rattle.flat_layout.specs.Values.{IsLocalLayer}
 use Rattle.cell_graph.specs.Linked.{Linked, plain}
@@ -14,18 +14,18 @@ use Rattle.deep_tables.specs.Frames.{HasHulls}
 use Rattle.deep_tables.specs.Zones.{AreZones}
 
 -- exactly the tree's flat squares among those looked at
-abbrev pub IsFlatIn : Linked → ℕ → List Rect → Reading → List Rect → Type 0
+abbrev pub IsFlatIn : Linked → ℕ → List Rect → Formula → List Rect → Type 0
 IsFlatIn d cell looks x set = (q : Square) → (covers set q ≡ true) ↔ ((covers looks q ≡ true)
     × InFlat (plain d) cell x q)
 
 -- the same of each tree; past the end both are empty
-abbrev pub AreFlats : Linked → ℕ → List Rect → List Reading → List (List Rect) → Type 0
+abbrev pub AreFlats : Linked → ℕ → List Rect → List Formula → List (List Rect) → Type 0
 AreFlats d cell looks trees sets = (k : ℕ)
     → IsFlatIn d cell looks (get_or trees k Empty) (get_or sets k [])
 
 -- the squares that the cell holds itself of each tree
-abbrev pub AreLocals : Linked → ℕ → List Reading → List (List Rect) → Type 0
-AreLocals d cell trees sets = (k : ℕ) (x : Reading) (set : List Rect)
+abbrev pub AreLocals : Linked → ℕ → List Formula → List (List Rect) → Type 0
+AreLocals d cell trees sets = (k : ℕ) (x : Formula) (set : List Rect)
     → slice_get trees k ≡ Some x → slice_get sets k ≡ Some set
     → IsLocalLayer (plain d) x cell set
 

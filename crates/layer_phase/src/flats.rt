@@ -1,11 +1,11 @@
 //! The flat squares of a cell among those that are looked at, for each name of the rules.
 ghost use Rattle.std.specs.Prelude.{◌≡◌, ◌<◌, ℕ, List, [], get_or, length, IfOk};
 ghost use Rattle.cell_graph.specs.Linked.{Linked, cell_at, own_of};
-ghost use Rattle.flat_layout.specs.Layers.{Binary, Empty, Input, Reading};
+ghost use Rattle.flat_layout.specs.Layers.{Binary, Empty, Input, Formula};
 ghost use Rattle.geo_base.specs.declared.shapes.Rect.{Rect};
 ghost use Rattle.rule_text.specs.declared.rules.LayerForm.TheVariants.{Input as InputForm};
 ghost use Rattle.geo_base.specs.declared.layer.LayerKey.{LayerKey};
-ghost use Rattle.rule_layers.specs.Readings.{reading_by, readings};
+ghost use Rattle.rule_layers.specs.Formulas.{formula_by, formulas};
 ghost use Rattle.layer_phase.specs.Looks.{AreNear, Grows, HoldsOwn};
 ghost use Rattle.layer_phase.specs.Names.{AreFlats, IsFlatIn};
 
@@ -34,7 +34,7 @@ fn two_flats(
     a: u32,
     b: u32,
 ) -> Result<RectSet, AllocError>
-    ensures { IfOk result (λ r. (d : Linked) (cell : ℕ) (looks : List Rect) (trees : List Reading)
+    ensures { IfOk result (λ r. (d : Linked) (cell : ℕ) (looks : List Rect) (trees : List Formula)
         → AreFlats d cell looks trees before.now
         → IsFlatIn d cell looks (Binary op (get_or trees a Empty) (get_or trees b Empty)) r) }
 {
@@ -78,9 +78,9 @@ fn form_flat(
     requires near { AreNear looks.now }
     requires own { (key : LayerKey) → form ≡ InputForm key
         → Grows (own_of (cell_at design.now cell) key) looks.now }
-    ensures { IfOk result (λ r. (trees : List Reading)
+    ensures { IfOk result (λ r. (trees : List Formula)
         → AreFlats design.now cell looks.now trees before.now
-        → IsFlatIn design.now cell looks.now (reading_by trees form) r) }
+        → IsFlatIn design.now cell looks.now (formula_by trees form) r) }
 {
     match form {
         LayerForm::Input(key) => input_flat(alloc, design, cell, key, looks),
@@ -103,7 +103,7 @@ pub fn name_flats(
     requires near { AreNear looks.now }
     requires own { HoldsOwn design.now names.now cell looks.now }
     ensures count { IfOk result (λ v. length v.items ≡ length names.now) }
-    ensures flats { IfOk result (λ v. AreFlats design.now cell looks.now (readings names.now)
+    ensures flats { IfOk result (λ v. AreFlats design.now cell looks.now (formulas names.now)
         v.items) }
 {
     let mut flats = Vec::new(alloc);

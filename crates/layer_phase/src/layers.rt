@@ -1,10 +1,10 @@
 //! The squares that a cell holds itself, for each name of the rules.
 ghost use Rattle.std.specs.Prelude.{◌≡◌, ◌<◌, ◌^◌, ℕ, List, Some, length, slice_get, IfOk};
 ghost use Rattle.cell_graph.specs.Linked.{plain};
-ghost use Rattle.flat_layout.specs.Layers.{Binary, Input, Reading};
+ghost use Rattle.flat_layout.specs.Layers.{Binary, Input, Formula};
 ghost use Rattle.flat_layout.specs.Values.{IsLocalLayer};
 ghost use Rattle.geo_base.specs.declared.layer.Op.{Op};
-ghost use Rattle.rule_layers.specs.Readings.{reading_by, readings};
+ghost use Rattle.rule_layers.specs.Formulas.{formula_by, formulas};
 ghost use Rattle.rule_text.specs.Seen.{rules_seen};
 ghost use Rattle.layer_phase.specs.Looks.{AreLooks};
 ghost use Rattle.layer_phase.specs.Names.{AreLocals, IsFlatIn, IsReady};
@@ -51,9 +51,9 @@ fn derived_layer(
     requires cell { cell < length design.now.cells }
     requires ready { IsReady design.now (rules_seen rules.now) zones.now cell }
     requires looks { AreLooks design.now zones.now rules.now.names.items cell looks.now }
-    requires name { name < length (readings rules.now.names.items) }
-    ensures { IfOk result (λ r. (op : Op) (a b : Reading)
-        → slice_get (readings rules.now.names.items) name ≡ Some (Binary op a b)
+    requires name { name < length (formulas rules.now.names.items) }
+    ensures { IfOk result (λ r. (op : Op) (a b : Formula)
+        → slice_get (formulas rules.now.names.items) name ≡ Some (Binary op a b)
         → IsFlatIn design.now cell looks.now (Binary op a b) flat.now
         → IsLocalLayer (plain design.now) (Binary op a b) cell r) }
 {
@@ -81,11 +81,11 @@ fn form_layer(
     requires cell { cell < length design.now.cells }
     requires ready { IsReady design.now (rules_seen rules.now) zones.now cell }
     requires looks { AreLooks design.now zones.now rules.now.names.items cell looks.now }
-    requires name { name < length (readings rules.now.names.items) }
-    ensures { IfOk result (λ r. (trees : List Reading)
-        → slice_get (readings rules.now.names.items) name ≡ Some (reading_by trees form)
-        → IsFlatIn design.now cell looks.now (reading_by trees form) flat.now
-        → IsLocalLayer (plain design.now) (reading_by trees form) cell r) }
+    requires name { name < length (formulas rules.now.names.items) }
+    ensures { IfOk result (λ r. (trees : List Formula)
+        → slice_get (formulas rules.now.names.items) name ≡ Some (formula_by trees form)
+        → IsFlatIn design.now cell looks.now (formula_by trees form) flat.now
+        → IsLocalLayer (plain design.now) (formula_by trees form) cell r) }
 {
     match form {
         LayerForm::Input(key) => own_layer(alloc, design, cell, key),
@@ -108,8 +108,8 @@ pub fn name_layers(
 ) -> Result<Vec<RectSet>, AllocError>
     requires cell { cell < length design.now.cells }
     requires ready { IsReady design.now (rules_seen rules.now) zones.now cell }
-    ensures count { IfOk result (λ v. length v.items ≡ length (readings rules.now.names.items)) }
-    ensures layers { IfOk result (λ v. AreLocals design.now cell (readings rules.now.names.items)
+    ensures count { IfOk result (λ v. length v.items ≡ length (formulas rules.now.names.items)) }
+    ensures layers { IfOk result (λ v. AreLocals design.now cell (formulas rules.now.names.items)
         v.items) }
 {
     design.sound();

@@ -5,7 +5,7 @@ ghost use Rattle.geo_base.specs.Rects.{IsRect, has};
 ghost use Rattle.geo_base.specs.declared.shapes.Rect.{Rect};
 ghost use Rattle.geo_base.specs.declared.shapes.Square.{Square};
 ghost use Rattle.rect_sets.specs.Rects.{covers};
-ghost use Rattle.flat_layout.specs.Layers.{Reading, IsLocal};
+ghost use Rattle.flat_layout.specs.Layers.{Formula, IsLocal};
 ghost use Rattle.flat_layout.specs.Layout.{InFlatInput, IsReached};
 ghost use Rattle.cell_graph.specs.Linked.{IsRectWithin, plain};
 ghost use Rattle.layer_phase.specs.Keeps.{HasEntry, HaveEntries, IsKeptBy, IsZoneAt};

@@ -4,7 +4,7 @@ use Rattle.std.proofs.lemmas.Option.{slice_get_within, slice_get-get_or, get_or_
 use Rattle.flat_laws.proofs.Items.{in_run, in_child, has_item}
 use Rattle.plain_netlist.proofs.Members.{listed, position, either_side}
 use Rattle.plain_netlist.specs.Lists.{IsListed}
-use Rattle.flat_layout.specs.Layers.{Reading}
+use Rattle.flat_layout.specs.Layers.{Formula}
 use Rattle.flat_layout.specs.Layout.{Place, Design}
 use Rattle.flat_layout.specs.Nets.{Item, Own, Child, Global, Tables, IsItem, IsItemLink, AreRightBelow, run, own_items, child_items, items_of, no_cell}
 use Rattle.flat_layout.specs.Regions.{Wiring}
@@ -42,7 +42,7 @@ child_one k i j e = cc
 global_one : (i j : ℕ) → Global i ≡ Global j → i ≡ j
 global_one i j e = cc
 
-own_from : (t : Tables) (cell c : ℕ) (names : List Reading) (item : Item) → IsListed item (own_items t cell c names) → (e r : ℕ) × (c ≤ e) × (item ≡ Own e r)
+own_from : (t : Tables) (cell c : ℕ) (names : List Formula) (item : Item) → IsListed item (own_items t cell c names) → (e r : ℕ) × (c ≤ e) × (item ≡ Own e r)
 own_from t cell c [] item h = absurd h
 own_from t cell c (x ∷ xs) item h =
     elim (either_side (run (Own c) 0 (length (t.own cell c))) (own_items t cell (suc c) xs) item h) [
@@ -56,7 +56,7 @@ own_not c e i r le same = let f : c ≡ e = cc in omega arith
 child_not : (k j i b : ℕ) → Child k i ≡ Child (suc k + j) b → ⊥
 child_not k j i b same = let f : k ≡ suc k + j = cc in omega arith
 
-apart_own : (t : Tables) (cell c : ℕ) (names : List Reading) → AreApart (own_items t cell c names)
+apart_own : (t : Tables) (cell c : ℕ) (names : List Formula) → AreApart (own_items t cell c names)
 apart_own t cell c [] = tt
 apart_own t cell c (x ∷ xs) =
     apart_append (run (Own c) 0 (length (t.own cell c))) (own_items t cell (suc c) xs) (apart_run (Own c) (own_one c) 0 (length (t.own cell c))) (apart_own t cell (suc c) xs)

@@ -1,6 +1,6 @@
 -- Where the items of a cell stand in their list.
 use Rattle.std.proofs.Common.{◌≡◌, ◌≤◌, ℕ, zero, suc, ◌+◌, ◌<◌, List, [], ◌∷◌, ◌++◌, Some, slice_get, length, refl, sym, ◌∙◌, ap, subst, arith}
-use Rattle.flat_layout.specs.Layers.{Reading}
+use Rattle.flat_layout.specs.Layers.{Formula}
 use Rattle.flat_layout.specs.Layout.{Design, Place}
 use Rattle.flat_layout.specs.Nets.{Item, Own, Child, Global, Tables, run, own_items, child_items, items_of}
 use Rattle.flat_layout.specs.Regions.{Wiring}
@@ -63,7 +63,7 @@ span_before t cell (suc c) =
     let g : span t cell 0 (suc c) ≡ owned_before t cell c + length (t.own cell c) = omega (arith, h, e, f) in
     g
 
-own_long : (t : Tables) (cell c : ℕ) (names : List Reading) → length (own_items t cell c names) ≡ span t cell c (length names)
+own_long : (t : Tables) (cell c : ℕ) (names : List Formula) → length (own_items t cell c names) ≡ span t cell c (length names)
 unfolding span
 own_long t cell c [] = refl
 own_long t cell c (x ∷ xs) =
@@ -71,7 +71,7 @@ own_long t cell c (x ∷ xs) =
     let b = own_long t cell (suc c) xs in
     length_append (run (Own c) 0 (length (t.own cell c))) (own_items t cell (suc c) xs) (length (t.own cell c)) (span t cell (suc c) (length xs)) a b
 
-own_at : (t : Tables) (cell c : ℕ) (names : List Reading) (e r : ℕ) → e < length names → r < length (t.own cell (c + e)) → slice_get (own_items t cell c names) (span t cell c e + r) ≡ Some (Own (c + e) r)
+own_at : (t : Tables) (cell c : ℕ) (names : List Formula) (e r : ℕ) → e < length names → r < length (t.own cell (c + e)) → slice_get (own_items t cell c names) (span t cell c e + r) ≡ Some (Own (c + e) r)
 unfolding span
 own_at t cell c [] e r lt less = absurd (omega arith)
 own_at t cell c (x ∷ xs) zero r lt less =

@@ -18,8 +18,8 @@ use Rattle.rule_text.specs.Rules.{Rules}
 use Rattle.rule_text.specs.Sound.{AreApart, IsSound}
 use Rattle.geo_base.specs.Layers.{is_same_key}
 use Rattle.cell_layers.specs.Shapes.{own_covers}
-use Rattle.cell_layers.specs.Readings.{reading_covers, IsRight}
-use Rattle.rule_layers.specs.Readings.{readings}
+use Rattle.cell_layers.specs.Formulas.{formula_covers, IsRight}
+use Rattle.rule_layers.specs.Formulas.{formulas}
 use Rattle.gds_shapes.specs.Accepted.{IsRead, written_library, written_cell, ReadLaw}
 use Rattle.cell_laws.specs.Covering.{layers_cover, WrittenLaw}
 use Rattle.one_cell.specs.OneCell.{alone, only_cell, only_of, name_at, AreDrawn}
@@ -63,16 +63,16 @@ canonical_at [] k h = empty_canonical
 canonical_at (rects ∷ sets) zero h = h.0
 canonical_at (rects ∷ sets) (suc k) h = canonical_at sets k h.1
 
-drawn_by : (own : LayerKey → Square → Bool) (names : List LayerRule) (sets : List (List Rect)) (outputs : List Output) → ByRecursion (λ o. IsRight own (readings names) sets o.layer) outputs → ByRecursion IsCanonical sets
+drawn_by : (own : LayerKey → Square → Bool) (names : List LayerRule) (sets : List (List Rect)) (outputs : List Output) → ByRecursion (λ o. IsRight own (formulas names) sets o.layer) outputs → ByRecursion IsCanonical sets
     → AreDrawn own names outputs (written_of outputs sets)
 drawn_by own names sets [] right canonical = tt
 drawn_by own names sets (o ∷ outputs) right canonical =
     (record { key = refl; canonical = canonical_at sets o.layer canonical; squares = right.0 }, drawn_by own names sets outputs right.1 canonical)
 
-pub are_drawn : (own : LayerKey → Square → Bool) (names : List LayerRule) (outputs : List Output) (sets : List (List Rect)) (layers : List (LayerKey × List Rect)) → All (λ o. IsRight own (readings names) sets o.layer) outputs
+pub are_drawn : (own : LayerKey → Square → Bool) (names : List LayerRule) (outputs : List Output) (sets : List (List Rect)) (layers : List (LayerKey × List Rect)) → All (λ o. IsRight own (formulas names) sets o.layer) outputs
     → All IsCanonical sets → layers ≡ written_of outputs sets → AreDrawn own names outputs layers
 are_drawn own names outputs sets layers right canonical e =
-    subst (AreDrawn own names outputs) (sym e) (drawn_by own names sets outputs (recursion_from_All (λ o. IsRight own (readings names) sets o.layer) outputs right) (recursion_from_All IsCanonical sets canonical))
+    subst (AreDrawn own names outputs) (sym e) (drawn_by own names sets outputs (recursion_from_All (λ o. IsRight own (formulas names) sets o.layer) outputs right) (recursion_from_All IsCanonical sets canonical))
 
 -- ---- one line's layer among all
 
@@ -98,16 +98,16 @@ key_at : (outputs : List Output) (k : ℕ) (o : Output) → slice_get outputs k 
 key_at outputs k o h = slice_get-map (λ q. q.key) outputs k ∙ ap (option_map (λ q. q.key)) h
 
 line_by : (own : LayerKey → Square → Bool) (names : List LayerRule) (outputs : List Output) (layers : List (LayerKey × List Rect)) (s : Square) → AreDrawn own names outputs layers → AreApart (map (λ o. o.key) outputs)
-    → (k : ℕ) (o : Output) → slice_get outputs k ≡ Some o → layers_cover layers o.key s ≡ reading_covers own (name_at names o.layer) s
+    → (k : ℕ) (o : Output) → slice_get outputs k ≡ Some o → layers_cover layers o.key s ≡ formula_covers own (name_at names o.layer) s
 line_by own names [] layers s drawn apart k o h = cc
 line_by own names (p ∷ outputs) [] s drawn apart k o h = absurd drawn
 line_by own names (p ∷ outputs) (l ∷ layers) s drawn apart zero o h =
     let e : p ≡ o = cc in
-    subst (λ (q : Output). layers_cover (l ∷ layers) q.key s ≡ reading_covers own (name_at names q.layer) s) e
+    subst (λ (q : Output). layers_cover (l ∷ layers) q.key s ≡ formula_covers own (name_at names q.layer) s) e
     (alone_at (is_same_key l.0 p.key) (covers l.1 s) (layers_cover layers p.key s) (ap (λ k. is_same_key k p.key) drawn.0.key ∙ itself p.key)
     (none_by own names outputs layers p.key s drawn.1 (others_apart p.key outputs (λ j f. let g : 0 ≡ suc j = apart 0 (suc j) p.key refl f in omega (arith, g)))) ∙ drawn.0.squares s)
 line_by own names (p ∷ outputs) (l ∷ layers) s drawn apart (suc k) o h =
-    skipped (is_same_key l.0 o.key) (covers l.1 s) (layers_cover layers o.key s) (reading_covers own (name_at names o.layer) s)
+    skipped (is_same_key l.0 o.key) (covers l.1 s) (layers_cover layers o.key s) (formula_covers own (name_at names o.layer) s)
     (ap (λ m. is_same_key m o.key) drawn.0.key ∙ not_at p.key o.key (is_same_key p.key o.key) refl (λ e. let g : 0 ≡ suc k = apart 0 (suc k) o.key (ap Some e) (key_at outputs k o h) in omega (arith, g)))
     (line_by own names outputs layers s drawn.1 (apart_behind p.key (map (λ q. q.key) outputs) apart) k o h)
 

@@ -13,12 +13,12 @@ use Rattle.geo_base.specs.declared.shapes.Rect.{Rect}
 use Rattle.geo_base.specs.declared.shapes.Square.{Square}
 use Rattle.rect_sets.specs.Rects.{covers, CanonicalLaw}
 use Rattle.edge_boolean.specs.Ops.{operated}
-use Rattle.flat_layout.specs.Layers.{Reading, Input, Empty, Binary}
+use Rattle.flat_layout.specs.Layers.{Formula, Input, Empty, Binary}
 use Rattle.gds_elements.specs.Meaning.{Cell, Ref, Shape}
 use Rattle.rule_text.specs.declared.rules.LayerRule.{LayerRule}
 use Rattle.rule_text.specs.declared.rules.Output.{Output}
 use Rattle.cell_layers.specs.Shapes.{shape_covers, shapes_cover, own_covers}
-use Rattle.cell_layers.specs.Readings.{reading_covers}
+use Rattle.cell_layers.specs.Formulas.{formula_covers}
 use Rattle.gds_shapes.specs.Stream.{AreLong}
 use Rattle.one_cell.specs.OneCell.{alone, only_of, lowest, highest, in_reach, name_at, IsShapeInReach, IsInReach, AreDrawn}
 
@@ -45,12 +45,12 @@ some_operand Or false false h = inr h
 some_operand Not false false h = inr h
 some_operand Xor false false h = inr h
 
-name_within : (own : LayerKey → Square → Bool) → ((key : LayerKey) → Within (own key)) → (name : Reading) → Within (reading_covers own name)
+name_within : (own : LayerKey → Square → Bool) → ((key : LayerKey) → Within (own key)) → (name : Formula) → Within (formula_covers own name)
 name_within own h (Input key) s e = h key s e
 name_within own h Empty s e = cc
-name_within own h (Binary op a b) s e = by_test (some_operand op (reading_covers own a s) (reading_covers own b s) e) (name_within own h a s) (name_within own h b s)
+name_within own h (Binary op a b) s e = by_test (some_operand op (formula_covers own a s) (formula_covers own b s) e) (name_within own h a s) (name_within own h b s)
   where
-    by_test : ((reading_covers own a s ≡ true) ⊎ (reading_covers own b s ≡ true)) → (reading_covers own a s ≡ true → in_reach s ≡ true) → (reading_covers own b s ≡ true → in_reach s ≡ true) → in_reach s ≡ true
+    by_test : ((formula_covers own a s ≡ true) ⊎ (formula_covers own b s ≡ true)) → (formula_covers own a s ≡ true → in_reach s ≡ true) → (formula_covers own b s ≡ true → in_reach s ≡ true) → in_reach s ≡ true
     by_test (inl f) left right = left f
     by_test (inr f) left right = right f
 

@@ -9,7 +9,7 @@ use Rattle.rule_text.specs.Rules.{Rules}
 use Rattle.rule_text.specs.Sound.{Each}
 use Rattle.geo_base.specs.Layers.{is_same_key}
 use Rattle.cell_layers.specs.Shapes.{own_covers}
-use Rattle.cell_layers.specs.Readings.{reading_covers}
+use Rattle.cell_layers.specs.Formulas.{formula_covers}
 use Rattle.one_cell.specs.OneCell.{only_cell, name_at}
 
 -- The text is itself an accepted stream, in the layout's units. Its only cell has the name of the layout's only cell, and no
@@ -25,5 +25,5 @@ pub record CoversFlat (v : Library) (r : Rules) (text : List ℕ) : Type 0 where
   pub alone : only_cell written ≡ Some drawn
   pub name : drawn.name ≡ cell.name
   pub texts : drawn.texts ≡ []
-  pub lines : Each (λ k o. (s : Square) → own_covers drawn o.key s ≡ reading_covers (own_covers cell) (name_at r.names o.layer) s) r.outputs
+  pub lines : Each (λ k o. (s : Square) → own_covers drawn o.key s ≡ formula_covers (own_covers cell) (name_at r.names o.layer) s) r.outputs
   pub others : (key : LayerKey) → All (λ o. is_same_key o.key key ≡ false) r.outputs → (s : Square) → own_covers drawn key s ≡ false

@@ -7,14 +7,14 @@ use Rattle.geo_base.specs.declared.shapes.Rect.{Rect}
 use Rattle.geo_base.specs.declared.shapes.Square.{Square}
 use Rattle.geo_base.specs.Rects.{is_between}
 use Rattle.rect_sets.specs.Rects.{covers, IsCanonical}
-use Rattle.flat_layout.specs.Layers.{Reading, Empty}
+use Rattle.flat_layout.specs.Layers.{Formula, Empty}
 use Rattle.gds_elements.specs.Meaning.{Library, Cell, Shape, Ref}
 use Rattle.rule_text.specs.Rules.{Rules}
 use Rattle.rule_text.specs.declared.rules.LayerRule.{LayerRule}
 use Rattle.rule_text.specs.declared.rules.Output.{Output}
 use Rattle.cell_layers.specs.Shapes.{shape_covers, own_covers}
-use Rattle.cell_layers.specs.Readings.{reading_covers}
-use Rattle.rule_layers.specs.Readings.{readings}
+use Rattle.cell_layers.specs.Formulas.{formula_covers}
+use Rattle.rule_layers.specs.Formulas.{formulas}
 use Rattle.gds_shapes.specs.Stream.{stream_bytes}
 
 -- ---- the cell
@@ -81,14 +81,14 @@ LeavesReach c = Any LeavesByShape c.shapes ⊎ (texts_in_reach c ≡ false)
 -- ---- what is written
 
 -- the name of this number as the tree of what it reads
-abbrev pub name_at : List LayerRule → ℕ → Reading
-name_at names k = get_or (readings names) k Empty
+abbrev pub name_at : List LayerRule → ℕ → Formula
+name_at names k = get_or (formulas names) k Empty
 
 -- What an output line writes: on its pair, the canonical list of exactly the squares that its name has pointwise over what the input layers cover.
 pub record IsDrawn (own : LayerKey → Square → Bool) (names : List LayerRule) (o : Output) (layer : LayerKey × List Rect) : Type 0 where
   pub key : layer.0 ≡ o.key
   pub canonical : IsCanonical layer.1
-  pub squares : (s : Square) → covers layer.1 s ≡ reading_covers own (name_at names o.layer) s
+  pub squares : (s : Square) → covers layer.1 s ≡ formula_covers own (name_at names o.layer) s
 
 -- the output lines' layers, in order
 abbrev pub AreDrawn : (LayerKey → Square → Bool) → List LayerRule → List Output → List (LayerKey × List Rect) → Type 0

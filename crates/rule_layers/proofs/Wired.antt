@@ -6,23 +6,23 @@ use Rattle.std.proofs.lemmas.List.Folds.{list_any-append}
 use Rattle.std.proofs.lemmas.Option.{same_Some}
 use Rattle.std.proofs.lemmas.Slice.Eq.{bytes_eq-Decides}
 use Rattle.flat_layout.specs.Gates.{Rule}
-use Rattle.flat_layout.specs.Layers.{Reading, Empty}
+use Rattle.flat_layout.specs.Layers.{Formula, Empty}
 use Rattle.flat_layout.specs.Regions.{Line, ground_of}
 use Rattle.rule_text.specs.declared.rules.MosRule.{MosRule}
 use Rattle.rule_text.specs.Rules.{Rules}
 use Rattle.rule_text.specs.Reading.{is_conductor, is_connected}
 use Rattle.rule_text.proofs.SoundLemmas.{place_below}
 use Rattle.rule_layers.specs.Laws.{ConductorLaw, KnownGlobalLaw, TerminalConductorLaw, AreTerminalsConductors}
-use Rattle.rule_layers.specs.Meaning.{conductor_readings, device_rule, globals_behind, globals_of, line}
-use Rattle.rule_layers.specs.Readings.{readings}
+use Rattle.rule_layers.specs.Meaning.{conductor_formulas, device_rule, globals_behind, globals_of, line}
+use Rattle.rule_layers.specs.Formulas.{formulas}
 
 -- from number n on, place k is that of name n + k
-is_read : (r : Rules) (n : ℕ) (xs : List Reading) (k : ℕ) → is_conductor (n + k) r ≡ true → get_or (conductor_readings r n xs) k Empty ≡ get_or xs k Empty
+is_read : (r : Rules) (n : ℕ) (xs : List Formula) (k : ℕ) → is_conductor (n + k) r ≡ true → get_or (conductor_formulas r n xs) k Empty ≡ get_or xs k Empty
 is_read r n [] k h = refl
 is_read r n (x ∷ xs) zero h = ap (λ b. if b then x else Empty) (ap (λ m. is_conductor m r) (let e : n ≡ n + 0 = omega arith in e) ∙ h)
 is_read r n (x ∷ xs) (suc k) h = is_read r (suc n) xs k (ap (λ m. is_conductor m r) (let e : suc n + k ≡ n + suc k = omega arith in e) ∙ h)
 
-isnt_read : (r : Rules) (n : ℕ) (xs : List Reading) (k : ℕ) → is_conductor (n + k) r ≡ false → get_or (conductor_readings r n xs) k Empty ≡ Empty
+isnt_read : (r : Rules) (n : ℕ) (xs : List Formula) (k : ℕ) → is_conductor (n + k) r ≡ false → get_or (conductor_formulas r n xs) k Empty ≡ Empty
 isnt_read r n [] k h = refl
 isnt_read r n (x ∷ xs) zero h = ap (λ b. if b then x else Empty) (ap (λ m. is_conductor m r) (let e : n ≡ n + 0 = omega arith in e) ∙ h)
 isnt_read r n (x ∷ xs) (suc k) h = isnt_read r (suc n) xs k (ap (λ m. is_conductor m r) (let e : suc n + k ≡ n + suc k = omega arith in e) ∙ h)
@@ -30,8 +30,8 @@ isnt_read r n (x ∷ xs) (suc k) h = isnt_read r (suc n) xs k (ap (λ m. is_cond
 pub conductors : ConductorLaw
 conductors r k =
     let e : 0 + k ≡ k = omega arith in record {
-      conductor = λ h. is_read r 0 (readings r.names) k (ap (λ m. is_conductor m r) e ∙ h);
-      none = λ h. isnt_read r 0 (readings r.names) k (ap (λ m. is_conductor m r) e ∙ h);
+      conductor = λ h. is_read r 0 (formulas r.names) k (ap (λ m. is_conductor m r) e ∙ h);
+      none = λ h. isnt_read r 0 (formulas r.names) k (ap (λ m. is_conductor m r) e ∙ h);
     }
 
 own_name : (b : List ℕ) → bytes_eq b b ≡ true

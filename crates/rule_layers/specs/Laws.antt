@@ -3,18 +3,18 @@
 use Rattle.std.specs.Prelude.{◌≡◌, ◌<◌, ℕ, true, false, length, slice_get, get_or, Some}
 use Rattle.flat_layout.specs.Gates.{Rule, ground}
 use Rattle.flat_layout.specs.Layers.{Empty}
-use Rattle.flat_layout.specs.Regions.{reading}
+use Rattle.flat_layout.specs.Regions.{formula}
 use Rattle.rule_text.specs.Rules.{Rules}
 use Rattle.rule_text.specs.Reading.{is_conductor}
 use Rattle.rule_text.specs.Sound.{IsSound}
-use Rattle.rule_layers.specs.Readings.{readings}
+use Rattle.rule_layers.specs.Formulas.{formulas}
 use Rattle.rule_layers.specs.Meaning.{device_rules, wiring_of}
 
 -- what a name reads as a conductor
 pub record IsReadAs (r : Rules) (k : ℕ) : Type 0 where
   pub conductor : is_conductor k r ≡ true
-      → reading (wiring_of r) k ≡ get_or (readings r.names) k Empty
-  pub none : is_conductor k r ≡ false → reading (wiring_of r) k ≡ Empty
+      → formula (wiring_of r) k ≡ get_or (formulas r.names) k Empty
+  pub none : is_conductor k r ≡ false → formula (wiring_of r) k ≡ Empty
 
 abbrev pub ConductorLaw : Type 0
 ConductorLaw = (r : Rules) (k : ℕ) → IsReadAs r k

@@ -1,3 +1,3 @@
-pub mod Readings
+pub mod Formulas
 pub mod Meaning
 pub mod Laws

@@ -6,7 +6,7 @@ use Rattle.std.specs.List.{list_any, position_or_len}
 use Rattle.std.specs.Str.{bytes_eq}
 use Rattle.net_names.specs.Folding.{folded_bytes}
 use Rattle.geo_base.specs.declared.layer.LayerKey.{LayerKey}
-use Rattle.flat_layout.specs.Layers.{Reading, Empty}
+use Rattle.flat_layout.specs.Layers.{Formula, Empty}
 use Rattle.flat_layout.specs.Regions.{Wiring, Line, Label}
 use Rattle.flat_layout.specs.Gates.{Rule}
 use Rattle.rule_text.specs.declared.rules.LayerForm.{LayerForm}
@@ -15,13 +15,13 @@ use Rattle.rule_text.specs.declared.rules.LayerRule.{LayerRule}
 use Rattle.rule_text.specs.declared.rules.MosRule.{MosRule}
 use Rattle.rule_text.specs.Rules.{Rules, has_texts}
 use Rattle.rule_text.specs.Reading.{is_conductor}
-use Rattle.rule_layers.specs.Readings.{readings}
+use Rattle.rule_layers.specs.Formulas.{formulas}
 
 -- what each name reads as a conductor, k being the first name's number: nothing where it is none
-abbrev pub conductor_readings : Rules → ℕ → List Reading → List Reading
-conductor_readings r k [] = []
-conductor_readings r k (x ∷ xs) =
-    (if is_conductor k r then x else Empty) ∷ conductor_readings r (suc k) xs
+abbrev pub conductor_formulas : Rules → ℕ → List Formula → List Formula
+conductor_formulas r k [] = []
+conductor_formulas r k (x ∷ xs) =
+    (if is_conductor k r then x else Empty) ∷ conductor_formulas r (suc k) xs
 
 abbrev pub line : ℕ → ℕ → Line
 line a b = record { first = a; second = b }
@@ -67,7 +67,7 @@ grounds_of r = map (λ g. line g.0 (position_or_len (bytes_eq g.1) (globals_of r
 
 abbrev pub wiring_of : Rules → Wiring
 wiring_of r = record {
-  conductors = conductor_readings r 0 (readings r.names);
+  conductors = conductor_formulas r 0 (formulas r.names);
   joins = joins_of r;
   grounds = grounds_of r;
   labels = labels_of r;
@@ -78,9 +78,9 @@ wiring_of r = record {
 abbrev pub device_rule : Rules → MosRule → Rule
 device_rule r m = record {
   class = folded_bytes m.class;
-  sd = get_or (readings r.names) m.sd Empty;
-  gate = get_or (readings r.names) m.g Empty;
-  well = get_or (readings r.names) m.w Empty;
+  sd = get_or (formulas r.names) m.sd Empty;
+  gate = get_or (formulas r.names) m.g Empty;
+  well = get_or (formulas r.names) m.w Empty;
   ts = m.ts;
   tg = m.tg;
   tb = m.tb;

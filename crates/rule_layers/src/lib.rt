@@ -1,7 +1,7 @@
 //! What a rule set means for a layout: its names as trees of input layers, its conductors, globals,
 //! labels and device rules.
 //!
-//! `specs/Readings` has the trees, `Meaning` the wiring and the device rules; definitions alone.
+//! `specs/Formulas` has the trees, `Meaning` the wiring and the device rules; definitions alone.
 #![tactic(auto)]
 
 ghost use Rattle.rule_layers.specs.Laws.{ConductorLaw, KnownGlobalLaw, TerminalConductorLaw};

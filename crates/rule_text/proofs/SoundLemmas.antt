@@ -14,7 +14,8 @@ use Rattle.rule_text.specs.declared.rules.LayerRule.{LayerRule}
 use Rattle.rule_text.specs.declared.rules.Output.{Output}
 use Rattle.rule_text.specs.declared.rules.MosRule.{MosRule}
 use Rattle.rule_text.specs.Rows.{Form, Input, Labels, Empty, Binary, Mos, Statement, Define, Draw, Connect, Global, Extract, Same, MaxGuesses, Accepted}
-use Rattle.rule_text.specs.Rules.{Rules, no_rules, names_of, place_of, is_defined, is_text_rule, has_texts, is_labels, is_same_key, operands_of, uses_of, is_twice, is_misplaced, statement_fault, numbered, mos_rule, named, drawn, extracting, paired, with_statement}
+use Rattle.rule_text.specs.Rules.{Rules, no_rules, names_of, place_of, is_defined, is_text_rule, has_texts, is_labels, operands_of, uses_of, is_twice, is_misplaced, statement_fault, numbered, mos_rule, named, drawn, extracting, paired, with_statement}
+use Rattle.geo_base.specs.Layers.{is_same_key}
 use Rattle.rule_text.specs.Filled.{IsFilled}
 use Rattle.rule_text.specs.Reading.{is_connected, first_loose}
 use Rattle.rule_text.specs.Sound.{Each, AreApart, IsLayer, AreOperands, AreJoined, AreMosLayers, IsFormed, IsSound}

@@ -6,6 +6,7 @@ use Rattle.std.specs.Prelude.{if◌then◌else◌}
 use Rattle.std.specs.List.{list_any, list_all, position_or_len}
 use Rattle.std.specs.Str.{bytes_eq}
 use Rattle.net_names.specs.Folding.{folded_bytes}
+use Rattle.geo_base.specs.Layers.{is_same_key}
 use Rattle.geo_base.specs.declared.layer.LayerKey.{LayerKey}
 use Rattle.rule_lines.specs.Tokens.{Token, Word, Mark}
 use Rattle.rule_text.specs.declared.rules.LayerForm.{LayerForm}
@@ -69,9 +70,6 @@ has_texts k names = is_text_rule (slice_get names k)
 
 abbrev pub is_labels : List ℕ → Rules → Bool
 is_labels w r = has_texts (place_of w r) r.names
-
-abbrev pub is_same_key : LayerKey → LayerKey → Bool
-is_same_key k m = k.layer == m.layer && k.datatype == m.datatype
 
 -- the operands of a form
 abbrev pub operands_of : Form → List (List ℕ)

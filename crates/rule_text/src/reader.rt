@@ -118,7 +118,8 @@ impl Reader {
     ghost use Rattle.rule_lines.specs.Seen.{seen_all};
     ghost use Rattle.net_names.specs.Folding.{folded_bytes};
     ghost use Rattle.std.specs.Str.{bytes_eq};
-    ghost use Rattle.rule_text.specs.Rules.{no_rules, is_defined, place_of, is_labels, is_same_key};
+    ghost use Rattle.rule_text.specs.Rules.{no_rules, is_defined, place_of, is_labels};
+    ghost use Rattle.geo_base.specs.Layers.{is_same_key};
     ghost use Rattle.rule_text.specs.Rules.{uses_of, is_twice, is_misplaced, statement_fault};
     ghost use Rattle.rule_text.specs.Rules.{fault_of, numbered, named, drawn, extracting, paired};
     ghost use Rattle.rule_text.specs.Rules.{with_statement, extraction_line};

@@ -1,7 +1,7 @@
 ghost use Rattle.std.specs.Prelude.{◌≡◌, false, ℕ, ◌≤◌, length, List, [], ◌∷◌, ◌++◌, map, OnOk};
 ghost use Rattle.std.specs.List.{list_any, position_or_len};
 ghost use Rattle.std.specs.Str.{bytes_eq};
-ghost use Rattle.rule_text.specs.Rules.{is_same_key};
+ghost use Rattle.geo_base.specs.Layers.{is_same_key};
 
 use geo_base::LayerKey;
 use indexmap::IndexSet;

@@ -12,7 +12,7 @@ use Rattle.rect_sets.proofs.Unique.{all_rects, one_list, rect_of}
 use Rattle.flat_layout.specs.Layout.{Design, IsReached, Leads}
 use Rattle.flat_layout.specs.Nets.{AreListed, Tables, IsUnder}
 use Rattle.flat_layout.specs.Plane.{IsIn}
-use Rattle.flat_layout.specs.Regions.{Wiring, reading}
+use Rattle.flat_layout.specs.Regions.{Wiring, formula}
 use Rattle.flat_layout.specs.Values.{IsLocalLayer}
 use Rattle.flat_laws.proofs.Items.{together}
 use Rattle.table_laws.specs.TableLaws.{OneLayerLaw, OneOwnLaw, OneZoneLaw, TablesLaw}
@@ -80,7 +80,7 @@ has_corner : (rect : Rect) → IsRect rect → (q : Square) × IsIn q rect
 has_corner rect is = let a = is.wide in let b = is.high in (record { x = rect.x1; y = rect.y1 }, (omega (arith, ints), omega (arith, ints), omega (arith, ints), omega (arith, ints)))
 
 -- a local layer as a table
-pub own_of : (d : Design) (w : Wiring) (t : Tables) (cell c : ℕ) → IsLocalLayer d (reading w c) cell (t.own cell c) → AreListed d w t cell c
+pub own_of : (d : Design) (w : Wiring) (t : Tables) (cell c : ℕ) → IsLocalLayer d (formula w c) cell (t.own cell c) → AreListed d w t cell c
 own_of d w t cell c h = record {
   own = record {
     local = λ r rect q e i. (h.each q).0 (tells (t.own cell c) r rect q e i);

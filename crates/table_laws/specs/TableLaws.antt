@@ -7,11 +7,11 @@ use Rattle.flat_layout.specs.Circuits.{AreCircuitCells, AreDrawn, CircuitParts, 
 use Rattle.flat_layout.specs.Circuits.{IsCircuitOf, IsNetlistOf}
 use Rattle.flat_layout.specs.Gates.{Rule}
 use Rattle.flat_layout.specs.GateTables.{GateEntry}
-use Rattle.flat_layout.specs.Layers.{Reading}
+use Rattle.flat_layout.specs.Layers.{Formula}
 use Rattle.flat_layout.specs.Layout.{Design, Place, IsHeight, IsPlaced, IsReached}
 use Rattle.flat_layout.specs.Nets.{AreListed, AreNets, AreTables, IsNetsOf, Tables}
 use Rattle.flat_layout.specs.Pins.{ArePins, ArePinsOf, CellPins, IsAbove}
-use Rattle.flat_layout.specs.Regions.{Wiring, reading}
+use Rattle.flat_layout.specs.Regions.{Wiring, formula}
 use Rattle.flat_layout.specs.Values.{AreDrawnBelow, AreDrawnOf, CellCircuit, IsCellCircuitOf}
 use Rattle.flat_layout.specs.Values.{IsLocalLayer, IsZone}
 use Rattle.plain_netlist.specs.Netlist.{Circuit, Netlist, IsCircuit}
@@ -22,7 +22,7 @@ OneZoneLaw = (d : Design) (keys : List LayerKey) (n cell : ℕ) (v z : List Rect
     → IsZone d keys n cell v → IsZone d keys n cell z → v ≡ z
 
 abbrev pub OneLayerLaw : Type 0
-OneLayerLaw = (d : Design) (name : Reading) (cell : ℕ) (v z : List Rect)
+OneLayerLaw = (d : Design) (name : Formula) (cell : ℕ) (v z : List Rect)
     → IsLocalLayer d name cell v → IsLocalLayer d name cell z → v ≡ z
 
 -- and one list of rectangles for each conductor
@@ -33,7 +33,7 @@ OneOwnLaw = (d : Design) (w : Wiring) (s t : Tables) (cell c : ℕ) → AreListe
 -- local layers of all conductors, and nets that are right by themselves, are right tables
 abbrev pub TablesLaw : Type 0
 TablesLaw = (d : Design) (w : Wiring) (t : Tables) (height : ℕ → ℕ) → IsHeight d height
-    → ((cell c : ℕ) → IsReached d cell → IsLocalLayer d (reading w c) cell (t.own cell c))
+    → ((cell c : ℕ) → IsReached d cell → IsLocalLayer d (formula w c) cell (t.own cell c))
     → ((cell : ℕ) → IsReached d cell → IsNetsOf d w cell (t.nets cell))
     → AreTables d w t height × ((cell c : ℕ) → IsReached d cell → AreListed d w t cell c)
 

@@ -9,14 +9,14 @@ use Rattle.rect_sets.specs.Rects.{IsCanonical}
 use Rattle.flat_layout.specs.Gates.{gate_inputs}
 use Rattle.flat_layout.specs.Layers.{Input, Empty, inputs}
 use Rattle.flat_layout.specs.Layout.{IsReached}
-use Rattle.flat_layout.specs.Regions.{reading}
+use Rattle.flat_layout.specs.Regions.{formula}
 use Rattle.cell_graph.specs.Linked.{Linked, IsSound, plain, cell_at, places_at}
 use Rattle.cell_graph.proofs.Bridge.{mapped}
 use Rattle.rule_text.specs.Rules.{Rules}
 use Rattle.rule_text.specs.Sound as rules
 use Rattle.rule_text.specs.declared.rules.MosRule.{MosRule}
 use Rattle.rule_layers.specs.Meaning.{device_rule, device_rules, wiring_of}
-use Rattle.rule_layers.specs.Readings.{readings}
+use Rattle.rule_layers.specs.Formulas.{formulas}
 use Rattle.rule_layers.proofs.Wired.{conductors, terminals}
 use Rattle.deep_tables.specs.declared.zones.CellZones.{CellZones}
 use Rattle.deep_tables.specs.Entries.{downward_cell}
@@ -52,11 +52,11 @@ waited d lists graph job P uses jobs lt f k u at =
     f u.job ((jobs.waits job u.job (omega arith)).1 (is.job_in, (u.index, is.place, is.there, is.here)))
 
 -- a right entry has the squares of each input layer
-pub entry_of : (d : Linked) (r : Rules) (cell name : ℕ) (key : LayerKey) (v : CellZones) → HasHulls d → IsReached (plain d) cell → slice_get (readings r.names) name ≡ Some (Input key)
+pub entry_of : (d : Linked) (r : Rules) (cell name : ℕ) (key : LayerKey) (v : CellZones) → HasHulls d → IsReached (plain d) cell → slice_get (formulas r.names) name ≡ Some (Input key)
     → AreCellZones (plain d) r cell v → IsEntry d key name cell v
 entry_of d r cell name key v hulls reached at h =
     let count = h.names in
-    let named = slice_get_within (readings r.names) name (Input key) at in
+    let named = slice_get_within (formulas r.names) name (Input key) at in
     let within : name < length v.layers.items = omega arith in
     let zone = get_or v.layers.items name [] in
     let is = h.layers name (Input key) zone at (slice_get-get_or v.layers.items name [] within) in
@@ -67,32 +67,32 @@ some_more P Q None f h = h
 some_more P Q (Some x) f h = f x h
 
 -- a device rule's terminals are read as names
-keys_same : (r : Rules) (n : ℕ) (m : MosRule) → rules.IsSound r → slice_get (device_rules r) n ≡ Some (device_rule r m) → mos_inputs (readings r.names) m ≡ gate_inputs (wiring_of r) (device_rule r m)
+keys_same : (r : Rules) (n : ℕ) (m : MosRule) → rules.IsSound r → slice_get (device_rules r) n ≡ Some (device_rule r m) → mos_inputs (formulas r.names) m ≡ gate_inputs (wiring_of r) (device_rule r m)
 keys_same r n m sound at =
     let t = terminals r n (device_rule r m) sound at in
-    let a = get_or (readings r.names) m.sd Empty in let b = get_or (readings r.names) m.g Empty in let w = get_or (readings r.names) m.w Empty in
+    let a = get_or (formulas r.names) m.sd Empty in let b = get_or (formulas r.names) m.g Empty in let w = get_or (formulas r.names) m.w Empty in
     let ts = sym ((conductors r m.ts).conductor t.ts) in let tg = sym ((conductors r m.tg).conductor t.tg) in let tb = sym ((conductors r m.tb).conductor t.tb) in
-    ap (λ x. inputs a ++ (inputs b ++ (inputs w ++ (inputs x ++ (inputs (get_or (readings r.names) m.tg Empty) ++ inputs (get_or (readings r.names) m.tb Empty)))))) ts
-    ∙ ap (λ x. inputs a ++ (inputs b ++ (inputs w ++ (inputs (reading (wiring_of r) m.ts) ++ (inputs x ++ inputs (get_or (readings r.names) m.tb Empty)))))) tg
-    ∙ ap (λ x. inputs a ++ (inputs b ++ (inputs w ++ (inputs (reading (wiring_of r) m.ts) ++ (inputs (reading (wiring_of r) m.tg) ++ inputs x))))) tb
+    ap (λ x. inputs a ++ (inputs b ++ (inputs w ++ (inputs x ++ (inputs (get_or (formulas r.names) m.tg Empty) ++ inputs (get_or (formulas r.names) m.tb Empty)))))) ts
+    ∙ ap (λ x. inputs a ++ (inputs b ++ (inputs w ++ (inputs (formula (wiring_of r) m.ts) ++ (inputs x ++ inputs (get_or (formulas r.names) m.tb Empty)))))) tg
+    ∙ ap (λ x. inputs a ++ (inputs b ++ (inputs w ++ (inputs (formula (wiring_of r) m.ts) ++ (inputs (formula (wiring_of r) m.tg) ++ inputs x))))) tb
 
 canonical_at : (sets : List (List Rect)) (k : ℕ) (set : List Rect) → All IsCanonical sets → slice_get sets k ≡ Some set → IsCanonical set
 canonical_at sets k set all at = subst IsCanonical (get_or_from_slice_get sets k set [] at) (all k [] (slice_get_within sets k set at))
 
 -- the entry of a cell
 pub cell_zones : (d : Linked) (r : Rules) (cell : ℕ) (v : CellZones) → HasHulls d → rules.IsSound r → IsReached (plain d) cell
-    → length v.layers.items ≡ length (readings r.names) → AreNameZones d cell (readings r.names) v.layers.items → All IsCanonical v.layers.items
-    → length v.devices.items ≡ length r.devices → AreMosZones d cell (readings r.names) r.devices v.devices.items → All IsCanonical v.devices.items → AreCellZones (plain d) r cell v
+    → length v.layers.items ≡ length (formulas r.names) → AreNameZones d cell (formulas r.names) v.layers.items → All IsCanonical v.layers.items
+    → length v.devices.items ≡ length r.devices → AreMosZones d cell (formulas r.names) r.devices v.devices.items → All IsCanonical v.devices.items → AreCellZones (plain d) r cell v
 cell_zones d r cell v hulls sound reached names zones canonical rules mos mos_canonical = record {
   names = names;
   layers = λ i x zone at there.
       let is : IsFramedZone d (inputs x) cell zone =
-      subst (λ t. IsFramedZone d (inputs t) cell zone) (get_or_from_slice_get (readings r.names) i x Empty at) (subst (IsFramedZone d (inputs (get_or (readings r.names) i Empty)) cell) (get_or_from_slice_get v.layers.items i zone [] there) (zones i)) in
+      subst (λ t. IsFramedZone d (inputs t) cell zone) (get_or_from_slice_get (formulas r.names) i x Empty at) (subst (IsFramedZone d (inputs (get_or (formulas r.names) i Empty)) cell) (get_or_from_slice_get v.layers.items i zone [] there) (zones i)) in
       (framed d (inputs x) cell zone (hulls cell reached) (canonical_at v.layers.items i zone canonical there)).1 is;
   rules = rules ∙ sym (length-map r.devices (device_rule r));
   devices = λ i u zone at there.
       let m = mapped (device_rule r) r.devices i u at in
-      let same : mos_inputs (readings r.names) m.0 ≡ gate_inputs (wiring_of r) u =
+      let same : mos_inputs (formulas r.names) m.0 ≡ gate_inputs (wiring_of r) u =
       keys_same r i m.0 sound (at ∙ ap Some (sym m.2)) ∙ ap (gate_inputs (wiring_of r)) m.2 in
       (framed d (gate_inputs (wiring_of r) u) cell zone (hulls cell reached) (canonical_at v.devices.items i zone mos_canonical there)).1
       (subst (λ k. IsFramedZone d k cell zone) same (mos i m.0 zone m.1 there));

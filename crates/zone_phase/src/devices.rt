@@ -3,7 +3,7 @@ ghost use Rattle.std.specs.Prelude.{◌≡◌, ℕ, List, length, IfOk};
 ghost use Rattle.std.specs.List.{All};
 ghost use Rattle.cell_graph.specs.Linked.{Linked};
 ghost use Rattle.deep_tables.specs.Frames.{IsFramedZone};
-ghost use Rattle.flat_layout.specs.Layers.{Reading};
+ghost use Rattle.flat_layout.specs.Layers.{Formula};
 ghost use Rattle.rect_sets.specs.Rects.{IsCanonical};
 ghost use Rattle.zone_phase.specs.Names.{AreMosZones, AreNameZones, mos_inputs};
 
@@ -15,7 +15,7 @@ use std::alloc::{AllocError, Global};
 
 // The union for the six layers of a device rule.
 fn device_zone(alloc: Global, sets: &[RectSet], rule: &MosRule) -> Result<RectSet, AllocError>
-    ensures { IfOk result (λ r. (d : Linked) (cell : ℕ) (trees : List Reading)
+    ensures { IfOk result (λ r. (d : Linked) (cell : ℕ) (trees : List Formula)
         → AreNameZones d cell trees sets.now → IsFramedZone d (mos_inputs trees rule.now) cell r) }
 {
     let none = RectSet::empty(alloc);
@@ -35,7 +35,7 @@ pub fn device_zones(
     rules: &[MosRule],
 ) -> Result<Vec<RectSet>, AllocError>
     ensures count { IfOk result (λ v. length v.items ≡ length rules.now) }
-    ensures zones { IfOk result (λ v. (d : Linked) (cell : ℕ) (trees : List Reading)
+    ensures zones { IfOk result (λ v. (d : Linked) (cell : ℕ) (trees : List Formula)
         → AreNameZones d cell trees sets.now → AreMosZones d cell trees rules.now v.items) }
     ensures canonical { IfOk result (λ v. All IsCanonical v.items) }
 {

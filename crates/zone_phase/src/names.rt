@@ -3,9 +3,9 @@ ghost use Rattle.std.specs.Prelude.{◌≡◌, ◌<◌, ◌∷◌, [], ◌++◌,
 ghost use Rattle.std.specs.List.{All};
 ghost use Rattle.cell_graph.specs.Linked.{Linked};
 ghost use Rattle.deep_tables.specs.Frames.{IsFramedZone};
-ghost use Rattle.flat_layout.specs.Layers.{Reading, Empty, inputs};
+ghost use Rattle.flat_layout.specs.Layers.{Formula, Empty, inputs};
 ghost use Rattle.rect_sets.specs.Rects.{IsCanonical};
-ghost use Rattle.rule_layers.specs.Readings.{reading_by, readings};
+ghost use Rattle.rule_layers.specs.Formulas.{formula_by, formulas};
 ghost use Rattle.zone_phase.specs.Jobs.{MayRead};
 ghost use Rattle.zone_phase.specs.Names.{AreNameZones, HaveForm, HaveInputs};
 ghost use Rattle.zone_phase.specs.Uses.{AreUsesOf};
@@ -22,7 +22,7 @@ use std::alloc::{AllocError, Global};
 
 // The union for two names.
 fn two_zones(alloc: Global, sets: &[RectSet], a: u32, b: u32) -> Result<RectSet, AllocError>
-    ensures { IfOk result (λ r. (d : Linked) (cell : ℕ) (trees : List Reading)
+    ensures { IfOk result (λ r. (d : Linked) (cell : ℕ) (trees : List Formula)
         → AreNameZones d cell trees sets.now
         → IsFramedZone d (inputs (get_or trees a Empty) ++ inputs (get_or trees b Empty)) cell r) }
 {
@@ -46,9 +46,9 @@ fn form_zone<R: Reads<CellZones>>(
     requires uses { AreUsesOf design.now cell uses.now }
     requires may { MayRead (R.may_read reads.now) uses.now }
     requires entries { HaveForm design.now (R.value reads.now) name uses.now form }
-    ensures { IfOk result (λ r. (trees : List Reading)
+    ensures { IfOk result (λ r. (trees : List Formula)
         → AreNameZones design.now cell trees before.now
-        → IsFramedZone design.now (inputs (reading_by trees form)) cell r) }
+        → IsFramedZone design.now (inputs (formula_by trees form)) cell r) }
 {
     match form {
         LayerForm::Input(key) => key_zone(alloc, design, reads, uses, name, cell, key),
@@ -82,9 +82,9 @@ pub fn name_zones<R: Reads<CellZones>>(
     requires cell { cell < length design.now.cells }
     requires uses { AreUsesOf design.now cell uses.now }
     requires may { MayRead (R.may_read reads.now) uses.now }
-    requires entries { HaveInputs design.now (R.value reads.now) (readings names.now) uses.now }
-    ensures count { IfOk result (λ v. length v.items ≡ length (readings names.now)) }
-    ensures zones { IfOk result (λ v. AreNameZones design.now cell (readings names.now) v.items) }
+    requires entries { HaveInputs design.now (R.value reads.now) (formulas names.now) uses.now }
+    ensures count { IfOk result (λ v. length v.items ≡ length (formulas names.now)) }
+    ensures zones { IfOk result (λ v. AreNameZones design.now cell (formulas names.now) v.items) }
     ensures canonical { IfOk result (λ v. All IsCanonical v.items) }
 {
     let mut sets = Vec::new(alloc);

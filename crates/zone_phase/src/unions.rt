@@ -3,7 +3,7 @@ ghost use Rattle.std.specs.Prelude.{◌≡◌, ◌++◌, ℕ, List, [], get_or, 
 ghost use Rattle.geo_base.specs.declared.layer.LayerKey.{LayerKey};
 ghost use Rattle.cell_graph.specs.Linked.{Linked};
 ghost use Rattle.deep_tables.specs.Frames.{IsFramedZone};
-ghost use Rattle.flat_layout.specs.Layers.{Reading, Empty, inputs};
+ghost use Rattle.flat_layout.specs.Layers.{Formula, Empty, inputs};
 ghost use Rattle.zone_phase.specs.Names.{AreNameZones};
 
 use edge_boolean::combine;
@@ -38,7 +38,7 @@ pub fn with_name(
     name: u32,
     others: &RectSet,
 ) -> Result<RectSet, AllocError>
-    ensures { IfOk result (λ r. (d : Linked) (cell : ℕ) (trees : List Reading) (ys : List LayerKey)
+    ensures { IfOk result (λ r. (d : Linked) (cell : ℕ) (trees : List Formula) (ys : List LayerKey)
         → AreNameZones d cell trees sets.now → IsFramedZone d ys cell others.now
         → IsFramedZone d (inputs (get_or trees name Empty) ++ ys) cell r) }
 {

@@ -3,7 +3,7 @@ use Rattle.geo_base.specs.declared.shapes.Rect.{Rect}
 use Rattle.rule_text.specs.declared.rules.LayerRule.{LayerRule}
 use Rattle.gds_elements.specs.Reading.{cell_seen}
 use Rattle.cell_layers.specs.Shapes.{own_covers}
-use Rattle.rule_layers.specs.Readings.{reading_by}
+use Rattle.rule_layers.specs.Formulas.{formula_by}
 use Rattle.cell_layers.specs.Uses.{AreOperandsUsed, StayAfter}
 use Rattle.cell_layers.proofs.Layering.{one_more, one_on, operands_right}
 use Rattle.cell_layers.proofs.derived.layer_sets.Goals as goal
@@ -13,7 +13,7 @@ loop-number-preserved c =
     let had = c.loop-number.invariant in
     let own = own_covers (cell_seen c.args.cell.now) in
     let rule = c.index-names-number.result in
-    let tree = reading_by had.0 rule.form in
+    let tree = formula_by had.0 rule.form in
     let last = c.in_ok-last.last.items in
     let uses = c.in_ok-last.ensures in
     let lt : c.loop-number.number < length c.args.names.now = search rules in

@@ -6,7 +6,7 @@ use Rattle.flat_layout.specs.Layout.{Place, IsPlaced}
 use Rattle.flat_laws.proofs.Paths.{same_place, moved_square-injective}
 use Rattle.slow_paths.specs.declared.design.SlowPlace.{SlowPlace}
 use Rattle.slow_paths.proofs.Ways.{yes_is, no_is, no_place, cell_at, item_at, placed_at, within, none_place_next}
-use Rattle.flat_slow.specs.Slow.{reading}
+use Rattle.flat_slow.specs.Slow.{plain_formula}
 use Rattle.slow_paths.specs.Slow.{plain, plain_place}
 use Rattle.flat_slow.proofs.layers.is_below.Goals as goal
 
@@ -30,12 +30,12 @@ loop-place-preserved c =
     let there = item_at c.deref-place-items.result.now c.index.result.now.places.items c.loop-place.place-index no_place c.deref-place-items.ensures.value c.loop-place-test.true in
     let place = plain_place (get_or c.deref-place-items.result.now c.loop-place.place-index no_place) in
     let placed = placed_at c.args.d.now c.args.cell c.index.result.now c.loop-place.place-index _ here there in
-    none_place_next (λ k p. IsPlaced (plain c.args.d.now) c.args.cell k p × ((r : Square) × IsKept (plain c.args.d.now) p.cell (reading c.args.layer.now) r × (moved_square p.motion r ≡ c.args.q)))
+    none_place_next (λ k p. IsPlaced (plain c.args.d.now) c.args.cell k p × ((r : Square) × IsKept (plain c.args.d.now) p.cell (plain_formula c.args.layer.now) r × (moved_square p.motion r ≡ c.args.q)))
     c.loop-place.place-index c.loop-place.invariant (λ p (at, (r, kept, is)).
     let same : p ≡ place = same_place (plain c.args.d.now) c.args.cell c.loop-place.place-index p place at placed in
     let to : moved_square place.motion r ≡ c.args.q = subst (λ (x : Place). moved_square x.motion r ≡ c.args.q) same is in
     let one : r ≡ c.in_ok-r.r = moved_square-injective place.motion r c.in_ok-r.r (to ∙ sym c.in_ok-r.ensures) in
-    let found : IsKept (plain c.args.d.now) place.cell (reading c.args.layer.now) c.in_ok-r.r = subst (λ (x : Place). IsKept (plain c.args.d.now) x.cell (reading c.args.layer.now) c.in_ok-r.r) same (subst (λ x. IsKept (plain c.args.d.now) p.cell (reading c.args.layer.now) x) one kept) in
+    let found : IsKept (plain c.args.d.now) place.cell (plain_formula c.args.layer.now) c.in_ok-r.r = subst (λ (x : Place). IsKept (plain c.args.d.now) x.cell (plain_formula c.args.layer.now) c.in_ok-r.r) same (subst (λ x. IsKept (plain c.args.d.now) p.cell (plain_formula c.args.layer.now) x) one kept) in
     let e = c.in_ok-is_kept.ensures.1 found in let f = c.if-branch.false in let g : false ≡ true = sym f ∙ e in let z : ⊥ = cc in z)
 
 pub returns : goal.returns

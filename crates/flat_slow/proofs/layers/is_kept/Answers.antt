@@ -1,15 +1,15 @@
 use Rattle.std.proofs.Common.{◌↔◌, IsTrue, IfSome, sym, subst}
 use Rattle.flat_layout.specs.Layers.{InFlat, IsKept, IsStirred, inputs, reach}
-use Rattle.flat_slow.specs.Slow.{reading}
+use Rattle.flat_slow.specs.Slow.{plain_formula}
 use Rattle.slow_paths.specs.Slow.{plain}
 use Rattle.flat_slow.specs.declared.layers.Formula.{Formula}
 use Rattle.flat_slow.proofs.Calm.{stirless}
 use Rattle.flat_slow.proofs.layers.is_kept.Goals as goal
 
 pub returns-in-Input : goal.returns-in-Input
-returns-in-Input c = subst (λ (f : Formula). IfSome c.in_input.result (λ b. IsTrue b ↔ IsKept (plain c.args.d.now) c.args.cell (reading f) c.args.q)) (sym c.in-Input.is) c.in_input.ensures
+returns-in-Input c = subst (λ (f : Formula). IfSome c.in_input.result (λ b. IsTrue b ↔ IsKept (plain c.args.d.now) c.args.cell (plain_formula f) c.args.q)) (sym c.in-Input.is) c.in_input.ensures
 
 pub returns-in-Binary : goal.returns-in-Binary
-returns-in-Binary c = subst (λ (f : Formula). IfSome c.is_calm.result (λ b. IsTrue b ↔ IsKept (plain c.args.d.now) c.args.cell (reading f) c.args.q)) (sym c.in-Binary.is)
-    (subst (λ (f : Formula). IfSome c.is_calm.result (λ b. IsTrue b ↔ (InFlat (plain c.args.d.now) c.args.cell (reading f) c.args.q × (IsStirred (plain c.args.d.now) (inputs (reading f)) (reach (reading f)) c.args.cell c.args.q → ⊥)))) c.in-Binary.is
-    (stirless (plain c.args.d.now) (reading c.args.layer.now) c.args.cell c.args.q c.is_calm.result c.is_calm.ensures))
+returns-in-Binary c = subst (λ (f : Formula). IfSome c.is_calm.result (λ b. IsTrue b ↔ IsKept (plain c.args.d.now) c.args.cell (plain_formula f) c.args.q)) (sym c.in-Binary.is)
+    (subst (λ (f : Formula). IfSome c.is_calm.result (λ b. IsTrue b ↔ (InFlat (plain c.args.d.now) c.args.cell (plain_formula f) c.args.q × (IsStirred (plain c.args.d.now) (inputs (plain_formula f)) (reach (plain_formula f)) c.args.cell c.args.q → ⊥)))) c.in-Binary.is
+    (stirless (plain c.args.d.now) (plain_formula c.args.layer.now) c.args.cell c.args.q c.is_calm.result c.is_calm.ensures))

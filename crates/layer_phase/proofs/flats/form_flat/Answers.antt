@@ -1,5 +1,5 @@
 use Rattle.std.proofs.Common.{subst, sym}
-use Rattle.rule_layers.specs.Readings.{reading_by}
+use Rattle.rule_layers.specs.Formulas.{formula_by}
 use Rattle.rule_text.specs.declared.rules.LayerForm.{LayerForm}
 use Rattle.layer_phase.specs.Names.{IsFlatIn}
 use Rattle.layer_phase.proofs.Results.{if_ok}
@@ -9,5 +9,5 @@ pub returns-in-Binary : goal.returns-in-Binary
 returns-in-Binary c =
     let d = c.args.design.now in let looks = c.args.looks.now in
     if_ok _ _ c.two_flats.result
-    (λ r h trees all. subst (λ (f : LayerForm). IsFlatIn d c.args.cell looks (reading_by trees f) r) (sym c.in-Binary.is) (h d c.args.cell looks trees all))
+    (λ r h trees all. subst (λ (f : LayerForm). IsFlatIn d c.args.cell looks (formula_by trees f) r) (sym c.in-Binary.is) (h d c.args.cell looks trees all))
     c.two_flats.ensures

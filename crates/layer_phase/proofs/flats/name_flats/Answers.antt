@@ -1,7 +1,7 @@
 use Rattle.std.proofs.Common.{◌≡◌, ◌∙◌, ◌+◌, ◌++◌, ◌∷◌, [], ℕ, Some, List, ap, sym, subst, length, length-append}
 use Rattle.std.proofs.lemmas.Option.{slice_get-get_or}
 use Rattle.geo_base.specs.declared.shapes.Rect.{Rect}
-use Rattle.rule_layers.specs.Readings.{reading_by}
+use Rattle.rule_layers.specs.Formulas.{formula_by}
 use Rattle.layer_phase.specs.Names.{AreFlats}
 use Rattle.layer_phase.proofs.Flattening.{flats_more, one_on}
 use Rattle.layer_phase.proofs.flats.name_flats.Goals as goal
@@ -15,7 +15,7 @@ form_flat-requires-clause-own c = λ key e.
 pub loop-rule-preserved : goal.loop-rule-preserved
 loop-rule-preserved c =
     let had = c.loop-rule.invariant in let names = c.args.names.now in let rule = c.rule-item.result in let name = c.loop-rule.rule-index in
-    let d = c.args.design.now in let looks = c.args.looks.now in let tree = reading_by had.0 rule.form in let sets = c.loop-rule.flats.items in let set = c.in_ok-set.set in
+    let d = c.args.design.now in let looks = c.args.looks.now in let tree = formula_by had.0 rule.form in let sets = c.loop-rule.flats.items in let set = c.in_ok-set.set in
     let e : c.push.new.self.items ≡ sets ++ set ∷ [] = (c.in_ok-push.ensures {u = tt}).items in (
       had.0 ++ tree ∷ [],
       one_on had.0 names name rule c.loop-rule-test.true (sym c.rule-item.is) ∙ had.1,

@@ -12,8 +12,8 @@ use Rattle.rule_text.specs.Seen.{rules_seen}
 use Rattle.rule_text.specs.declared.rules.LayerRule.{LayerRule}
 use Rattle.rule_text.specs.declared.rules.Output.{Output}
 use Rattle.cell_layers.specs.Shapes.{own_covers}
-use Rattle.cell_layers.specs.Readings.{IsRight}
-use Rattle.rule_layers.specs.Readings.{readings}
+use Rattle.cell_layers.specs.Formulas.{IsRight}
+use Rattle.rule_layers.specs.Formulas.{formulas}
 use Rattle.one_cell.specs.OneCell.{rectangle_count}
 use Rattle.one_cell.specs.Written.{written_of}
 use Rattle.one_cell.proofs.Drawing.{are_drawn, covers_flat}
@@ -25,9 +25,9 @@ returns-clause-made c =
     let r = rules_seen c.args.rules.now in
     let cell = cell_seen c.in-Some.cell.now in
     let layers = map layer_seen c.in_ok-written.written.items in
-    let tells : All (λ (o : Output). IsRight (own_covers cell) (readings r.names) c.in_ok-sets.sets.items o.layer) r.outputs =
-    subst (λ (os : List Output). All (λ (o : Output). IsRight (own_covers cell) (readings r.names) c.in_ok-sets.sets.items o.layer) os) c.deref-2.ensures.value
-    (subst (λ (names : List LayerRule). All (λ (o : Output). IsRight (own_covers cell) (readings names) c.in_ok-sets.sets.items o.layer) c.deref-2.result.now) c.deref.ensures.value c.in_ok-sets.ensures.layers) in
+    let tells : All (λ (o : Output). IsRight (own_covers cell) (formulas r.names) c.in_ok-sets.sets.items o.layer) r.outputs =
+    subst (λ (os : List Output). All (λ (o : Output). IsRight (own_covers cell) (formulas r.names) c.in_ok-sets.sets.items o.layer) os) c.deref-2.ensures.value
+    (subst (λ (names : List LayerRule). All (λ (o : Output). IsRight (own_covers cell) (formulas names) c.in_ok-sets.sets.items o.layer) c.deref-2.result.now) c.deref.ensures.value c.in_ok-sets.ensures.layers) in
     let e : layers ≡ written_of r.outputs c.in_ok-sets.sets.items = c.in_ok-written.ensures ∙ ap (λ (os : List Output). written_of os c.deref-4.result.now) c.deref-3.ensures.value ∙ ap (λ (ss : List (List Rect)). written_of r.outputs ss) c.deref-4.ensures.value in
     record {
       cell = cell;
@@ -44,9 +44,9 @@ returns-clause-flat c =
     let r = rules_seen c.args.rules.now in
     let cell = cell_seen c.in-Some.cell.now in
     let layers = map layer_seen c.in_ok-written.written.items in
-    let tells : All (λ (o : Output). IsRight (own_covers cell) (readings r.names) c.in_ok-sets.sets.items o.layer) r.outputs =
-    subst (λ (os : List Output). All (λ (o : Output). IsRight (own_covers cell) (readings r.names) c.in_ok-sets.sets.items o.layer) os) c.deref-2.ensures.value
-    (subst (λ (names : List LayerRule). All (λ (o : Output). IsRight (own_covers cell) (readings names) c.in_ok-sets.sets.items o.layer) c.deref-2.result.now) c.deref.ensures.value c.in_ok-sets.ensures.layers) in
+    let tells : All (λ (o : Output). IsRight (own_covers cell) (formulas r.names) c.in_ok-sets.sets.items o.layer) r.outputs =
+    subst (λ (os : List Output). All (λ (o : Output). IsRight (own_covers cell) (formulas r.names) c.in_ok-sets.sets.items o.layer) os) c.deref-2.ensures.value
+    (subst (λ (names : List LayerRule). All (λ (o : Output). IsRight (own_covers cell) (formulas names) c.in_ok-sets.sets.items o.layer) c.deref-2.result.now) c.deref.ensures.value c.in_ok-sets.ensures.layers) in
     let e : layers ≡ written_of r.outputs c.in_ok-sets.sets.items = c.in_ok-written.ensures ∙ ap (λ (os : List Output). written_of os c.deref-4.result.now) c.deref-3.ensures.value ∙ ap (λ (ss : List (List Rect)). written_of r.outputs ss) c.deref-4.ensures.value in
     covers_flat c.canonical_rects.ensures c.covering.ensures.written c.library_read.ensures (library_seen c.args.library.now) r cell layers c.in_ok-text.text.items c.in-Some.ensures
     (are_drawn (own_covers cell) r.names r.outputs c.in_ok-sets.sets.items layers tells c.in_ok-sets.ensures.canonical e)
@@ -79,9 +79,9 @@ shapes_text-requires-clause-long c =
     let r = rules_seen c.args.rules.now in
     let cell = cell_seen c.in-Some.cell.now in
     let layers = map layer_seen c.in_ok-written.written.items in
-    let tells : All (λ (o : Output). IsRight (own_covers cell) (readings r.names) c.in_ok-sets.sets.items o.layer) r.outputs =
-    subst (λ (os : List Output). All (λ (o : Output). IsRight (own_covers cell) (readings r.names) c.in_ok-sets.sets.items o.layer) os) c.deref-2.ensures.value
-    (subst (λ (names : List LayerRule). All (λ (o : Output). IsRight (own_covers cell) (readings names) c.in_ok-sets.sets.items o.layer) c.deref-2.result.now) c.deref.ensures.value c.in_ok-sets.ensures.layers) in
+    let tells : All (λ (o : Output). IsRight (own_covers cell) (formulas r.names) c.in_ok-sets.sets.items o.layer) r.outputs =
+    subst (λ (os : List Output). All (λ (o : Output). IsRight (own_covers cell) (formulas r.names) c.in_ok-sets.sets.items o.layer) os) c.deref-2.ensures.value
+    (subst (λ (names : List LayerRule). All (λ (o : Output). IsRight (own_covers cell) (formulas names) c.in_ok-sets.sets.items o.layer) c.deref-2.result.now) c.deref.ensures.value c.in_ok-sets.ensures.layers) in
     let e : layers ≡ written_of r.outputs c.in_ok-sets.sets.items = c.in_ok-written.ensures ∙ ap (λ (os : List Output). written_of os c.deref-4.result.now) c.deref-3.ensures.value ∙ ap (λ (ss : List (List Rect)). written_of r.outputs ss) c.deref-4.ensures.value in
     let long : AreLong layers = are_long c.canonical_rects.ensures cell (c.in_ok-within.ensures.within c.if-not-within.false) r.names r.outputs layers
     (are_drawn (own_covers cell) r.names r.outputs c.in_ok-sets.sets.items layers tells c.in_ok-sets.ensures.canonical e) in

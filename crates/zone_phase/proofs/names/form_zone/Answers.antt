@@ -1,7 +1,7 @@
 use Rattle.std.proofs.Common.{subst, sym}
 use Rattle.flat_layout.specs.Layers.{inputs}
 use Rattle.deep_tables.specs.Frames.{IsFramedZone}
-use Rattle.rule_layers.specs.Readings.{reading_by}
+use Rattle.rule_layers.specs.Formulas.{formula_by}
 use Rattle.rule_text.specs.declared.rules.LayerForm.{LayerForm}
 use Rattle.zone_phase.proofs.Results.{if_ok}
 use Rattle.zone_phase.proofs.names.form_zone.Goals as goal
@@ -9,5 +9,5 @@ use Rattle.zone_phase.proofs.names.form_zone.Goals as goal
 pub returns-in-Binary : goal.returns-in-Binary
 returns-in-Binary g c =
     if_ok _ _ c.two_zones.result
-    (λ r h trees all. subst (λ (f : LayerForm). IsFramedZone c.args.design.now (inputs (reading_by trees f)) c.args.cell r) (sym c.in-Binary.is) (h c.args.design.now c.args.cell trees all))
+    (λ r h trees all. subst (λ (f : LayerForm). IsFramedZone c.args.design.now (inputs (formula_by trees f)) c.args.cell r) (sym c.in-Binary.is) (h c.args.design.now c.args.cell trees all))
     c.two_zones.ensures

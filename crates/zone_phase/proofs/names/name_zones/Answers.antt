@@ -1,6 +1,6 @@
 use Rattle.std.proofs.Common.{◌≡◌, ◌∙◌, ◌+◌, ◌++◌, ◌∷◌, [], ℕ, Some, List, ap, sym, subst, drop, length, length-append, slice_get}
-use Rattle.flat_layout.specs.Layers.{Reading}
-use Rattle.rule_layers.specs.Readings.{readings, reading_by}
+use Rattle.flat_layout.specs.Layers.{Formula}
+use Rattle.rule_layers.specs.Formulas.{formulas, formula_by}
 use Rattle.zone_phase.specs.Names.{AreNameZones}
 use Rattle.zone_phase.proofs.Naming.{behind_stays, form_entries, names_more, one_on}
 use Rattle.zone_phase.proofs.names.name_zones.Goals as goal
@@ -8,14 +8,14 @@ use Rattle.zone_phase.proofs.names.name_zones.Goals as goal
 pub form_zone-requires-clause-entries : goal.form_zone-requires-clause-entries
 form_zone-requires-clause-entries g c =
     let had = c.loop-name.invariant in let names = c.args.names.now in let rule = c.index-names-name.result in let name = c.loop-name.name in
-    form_entries c.args.design.now (g.R.Reads.value c.args.reads.now) had.0 (readings names) name c.args.uses.now rule.form had.2
-    (λ k x e. subst (λ (l : List Reading). slice_get l k ≡ Some x) (one_on had.0 names name rule c.loop-name-test.true (sym c.index-names-name.is) ∙ had.1) (behind_stays (had.0 ++ reading_by had.0 rule.form ∷ []) (drop (name + 1) names) k x e))
+    form_entries c.args.design.now (g.R.Reads.value c.args.reads.now) had.0 (formulas names) name c.args.uses.now rule.form had.2
+    (λ k x e. subst (λ (l : List Formula). slice_get l k ≡ Some x) (one_on had.0 names name rule c.loop-name-test.true (sym c.index-names-name.is) ∙ had.1) (behind_stays (had.0 ++ formula_by had.0 rule.form ∷ []) (drop (name + 1) names) k x e))
     c.requires.entries
 
 pub loop-name-preserved : goal.loop-name-preserved
 loop-name-preserved g c =
     let had = c.loop-name.invariant in let names = c.args.names.now in let rule = c.index-names-name.result in let name = c.loop-name.name in
-    let d = c.args.design.now in let tree = reading_by had.0 rule.form in let sets = c.loop-name.sets.items in let set = c.in_ok-set.set in
+    let d = c.args.design.now in let tree = formula_by had.0 rule.form in let sets = c.loop-name.sets.items in let set = c.in_ok-set.set in
     let e = c.in_ok-push_set.ensures.list in (
       had.0 ++ tree ∷ [],
       one_on had.0 names name rule c.loop-name-test.true (sym c.index-names-name.is) ∙ had.1,

@@ -1,12 +1,12 @@
 use Rattle.std.proofs.Common.{◌≡◌, List, drop, length}
 use Rattle.std.specs.List.{All}
 use Rattle.rect_sets.specs.Rects.{IsCanonical}
-use Rattle.flat_layout.specs.Layers.{Reading}
-use Rattle.rule_layers.specs.Readings.{readings, readings_behind}
+use Rattle.flat_layout.specs.Layers.{Formula}
+use Rattle.rule_layers.specs.Formulas.{formulas, formulas_behind}
 use Rattle.zone_phase.specs.Names.{AreNameZones}
 use Rattle.zone_phase.proofs.names.name_zones.Given as goal
 
 abbrev pub invariant-loop-name : goal.invariant-loop-name
 invariant-loop-name g l =
-    (trees : List Reading) × (readings_behind trees (drop l.name l.names) ≡ readings l.names) × (length trees ≡ l.name) × (length l.sets.items ≡ l.name)
+    (trees : List Formula) × (formulas_behind trees (drop l.name l.names) ≡ formulas l.names) × (length trees ≡ l.name) × (length l.sets.items ≡ l.name)
     × AreNameZones l.design l.cell trees l.sets.items × All IsCanonical l.sets.items

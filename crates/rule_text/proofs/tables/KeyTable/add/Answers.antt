@@ -1,7 +1,7 @@
 use Rattle.std.proofs.Common.{List, [], ◌∷◌, ◌++◌, ap, ◌∙◌}
 use Rattle.std.specs.List.{list_any}
 use Rattle.geo_base.specs.declared.layer.LayerKey.{LayerKey}
-use Rattle.rule_text.specs.Rules.{is_same_key}
+use Rattle.geo_base.specs.Layers.{is_same_key}
 use Rattle.rule_text.proofs.TableLemmas.{pushed}
 use Rattle.rule_text.proofs.tables.KeyTable.add.Goals as goal
 

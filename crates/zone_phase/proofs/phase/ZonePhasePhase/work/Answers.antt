@@ -4,7 +4,7 @@ use Rattle.cell_graph.specs.Linked.{plain}
 use Rattle.rule_text.specs.Seen.{rules_seen}
 use Rattle.rule_text.specs.declared.rules.LayerRule.{LayerRule}
 use Rattle.rule_text.specs.declared.rules.MosRule.{MosRule}
-use Rattle.rule_layers.specs.Readings.{readings}
+use Rattle.rule_layers.specs.Formulas.{formulas}
 use Rattle.flat_layout.specs.Layers.{Input}
 use Rattle.deep_tables.specs.declared.zones.CellZones.{CellZones}
 use Rattle.deep_tables.specs.Entries.{downward_cell}
@@ -54,7 +54,7 @@ name_zones-requires-clause-entries g c = λ name key named k u at.
     k u there in
     some_more (AreCellZones (plain d) r (downward_cell d u.job)) (IsEntry d key name (downward_cell d u.job)) (value u.job)
     (λ v. entry_of d r (downward_cell d u.job) name key v (λ n there. c.sound.ensures.hulls.each n) (job_reached d u.job c.sound.ensures (a.uses.each (downward_cell d c.args.job) k u there).job_in)
-    (subst (λ (l : List LayerRule). slice_get (readings l) name ≡ Some (Input key)) c.deref-2.ensures.value named)) right
+    (subst (λ (l : List LayerRule). slice_get (formulas l) name ≡ Some (Input key)) c.deref-2.ensures.value named)) right
 
 pub returns : goal.returns
 returns g c =
@@ -63,13 +63,13 @@ returns g c =
     let job = c.args.job in
     let lt : job < length d.order = subst (λ n. job < n) (ap (λ (z : ZoneJobs). length z.graph) (sym c.self.view_is) ∙ a.graph.jobs) c.requires.job in
     let cell = ap (λ (o : List ℕ). slice_index o (length o - 1 - job)) c.order-order.ensures in
-    let zones : AreNameZones d (downward_cell d job) (readings r.names) c.in_ok-layers.layers.items =
-    subst (λ n. AreNameZones d n (readings r.names) c.in_ok-layers.layers.items) cell
-    (subst (λ (l : List LayerRule). AreNameZones d (slice_index c.order-order.result.now (length c.order-order.result.now - 1 - job)) (readings l) c.in_ok-layers.layers.items) c.deref-2.ensures.value c.in_ok-layers.ensures.zones) in
+    let zones : AreNameZones d (downward_cell d job) (formulas r.names) c.in_ok-layers.layers.items =
+    subst (λ n. AreNameZones d n (formulas r.names) c.in_ok-layers.layers.items) cell
+    (subst (λ (l : List LayerRule). AreNameZones d (slice_index c.order-order.result.now (length c.order-order.result.now - 1 - job)) (formulas l) c.in_ok-layers.layers.items) c.deref-2.ensures.value c.in_ok-layers.ensures.zones) in
     subst (λ (z : ZoneJobs). AreCellZones (plain z.design) (rules_seen z.rules) (downward_cell z.design job) v) c.self.view_is
     (cell_zones d r (downward_cell d job) v (λ n there. c.sound.ensures.hulls.each n) a.rules (job_reached d job c.sound.ensures lt)
-    (c.in_ok-layers.ensures.count ∙ ap (λ (l : List LayerRule). length (readings l)) c.deref-2.ensures.value) zones c.in_ok-layers.ensures.canonical
+    (c.in_ok-layers.ensures.count ∙ ap (λ (l : List LayerRule). length (formulas l)) c.deref-2.ensures.value) zones c.in_ok-layers.ensures.canonical
     (c.in_ok-devices.ensures.count ∙ ap length c.deref-4.ensures.value)
-    (subst (λ (l : List MosRule). AreMosZones d (downward_cell d job) (readings r.names) l c.in_ok-devices.devices.items) c.deref-4.ensures.value
-    (c.in_ok-devices.ensures.zones d (downward_cell d job) (readings r.names) (subst (AreNameZones d (downward_cell d job) (readings r.names)) (sym c.deref-3.ensures.value) zones)))
+    (subst (λ (l : List MosRule). AreMosZones d (downward_cell d job) (formulas r.names) l c.in_ok-devices.devices.items) c.deref-4.ensures.value
+    (c.in_ok-devices.ensures.zones d (downward_cell d job) (formulas r.names) (subst (AreNameZones d (downward_cell d job) (formulas r.names)) (sym c.deref-3.ensures.value) zones)))
     c.in_ok-devices.ensures.canonical)

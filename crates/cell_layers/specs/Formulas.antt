@@ -5,14 +5,14 @@ use Rattle.geo_base.specs.declared.shapes.Rect.{Rect}
 use Rattle.geo_base.specs.declared.shapes.Square.{Square}
 use Rattle.rect_sets.specs.Rects.{covers}
 use Rattle.edge_boolean.specs.Ops.{operated}
-use Rattle.flat_layout.specs.Layers.{Reading, Input, Empty, Binary}
+use Rattle.flat_layout.specs.Layers.{Formula, Input, Empty, Binary}
 
 -- whether a name's layer covers the square: pointwise over the input layers
-abbrev pub reading_covers : (LayerKey → Square → Bool) → Reading → Square → Bool
-reading_covers own (Input key) s = own key s
-reading_covers own Empty s = false
-reading_covers own (Binary op a b) s = operated op (reading_covers own a s) (reading_covers own b s)
+abbrev pub formula_covers : (LayerKey → Square → Bool) → Formula → Square → Bool
+formula_covers own (Input key) s = own key s
+formula_covers own Empty s = false
+formula_covers own (Binary op a b) s = operated op (formula_covers own a s) (formula_covers own b s)
 
 -- the set of this number covers exactly the squares that the tree of this number does; past the end both have none
-abbrev pub IsRight : (LayerKey → Square → Bool) → List Reading → List (List Rect) → ℕ → Type 0
-IsRight own trees sets k = (s : Square) → covers (slice_index_or sets k []) s ≡ reading_covers own (get_or trees k Empty) s
+abbrev pub IsRight : (LayerKey → Square → Bool) → List Formula → List (List Rect) → ℕ → Type 0
+IsRight own trees sets k = (s : Square) → covers (slice_index_or sets k []) s ≡ formula_covers own (get_or trees k Empty) s
