@@ -7,6 +7,9 @@ pub mod Step
 pub mod Runs
 pub mod Unique
 pub mod PieceLemmas
+pub mod Walks
+pub mod Fillers
+pub mod Begun
 pub mod WholeText
 pub mod FillableLaw
 pub mod Arrays

@@ -10,7 +10,7 @@ use Rattle.gds_elements.specs.Faults.{Passes, fault_of}
 use Rattle.gds_elements.proofs.Step.{never_behind_end}
 
 -- a record passes only where the grammar can go on
-goes : (before : Records) (r : Rec) (b : Bool) → can_go_on before r.kind ≡ b → fault_of before r ≡ None → b ≡ true
+pub goes : (before : Records) (r : Rec) (b : Bool) → can_go_on before r.kind ≡ b → fault_of before r ≡ None → b ≡ true
 goes before r true e passed = refl
 goes before r false e passed = absurd (never_behind_end before r e passed)
 
