@@ -1,4 +1,5 @@
 pub mod Reals
+pub mod Turns
 pub mod Digits
 pub mod Stripped
 pub mod Decisions

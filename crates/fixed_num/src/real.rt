@@ -1,5 +1,4 @@
-ghost use Rattle.std.specs.Prelude.{◌≡◌, ◌*◌, ◌%◌, ◌<◌, ◌≤◌, ◌^◌, ◌↔◌, ℕ, IsTrue, MatchOption};
-ghost use Rattle.std.specs.Prelude.{slice_index, drop};
+ghost use Rattle.std.specs.Prelude.{◌≡◌, ◌*◌, ◌<◌, ◌≤◌, ◌^◌, ℕ, MatchOption};
 
 /// An eight-byte real of the GDSII Stream Format: the value is `mantissa * 16^(exponent - 78)`,
 /// below 0 where `negative`.
@@ -15,14 +14,12 @@ pub struct Real8 {
 }
 
 impl Real8 {
-    ghost use Rattle.fixed_num.specs.Real.{number_of_bytes, IsOne, IsAngle, IsQuarter, IsDivisor};
-    ghost use Rattle.fixed_num.specs.Real.{IsFarFromOne};
+    ghost use Rattle.fixed_num.specs.Real.{IsAngle, IsDivisor, IsFarFromOne, is_one, quarter_of};
+    ghost use Rattle.fixed_num.specs.Real.{real_of, real_seen};
 
     /// The real that eight bytes of a stream are.
     pub fn from_bytes(b: [u8; 8]) -> Real8
-        ensures sign { IsTrue result.negative ↔ (128 ≤ slice_index b 0) }
-        ensures exponent { result.exponent ≡ slice_index b 0 % 128 }
-        ensures mantissa { result.mantissa ≡ number_of_bytes (drop 1 b) }
+        ensures { real_seen result ≡ real_of b }
     {
         Real8 {
             negative: b[0] >= 128,
@@ -33,7 +30,7 @@ impl Real8 {
 
     /// Whether the value is 1, normalised or not.
     pub fn is_one(&self) -> bool
-        ensures { IsTrue result ↔ IsOne self.now }
+        ensures { result ≡ is_one (real_seen self.now) }
     {
         match self.divisor() {
             Some(divisor) => !self.negative && u128::from(self.mantissa) == divisor,
@@ -44,9 +41,7 @@ impl Real8 {
     /// The quarter turns, 0 to 3, of an angle in degrees: `None` exactly where the value is no
     /// whole multiple of 90 from -360 to 360.
     pub fn quarter(&self) -> Option<u8>
-        ensures { MatchOption result
-            ((k : ℕ) → IsQuarter self.now k → ⊥)
-            (λ k. IsQuarter self.now k) }
+        ensures { result ≡ quarter_of (real_seen self.now) }
     {
         let degrees = self.whole_degrees()?;
         let turns = turns_of(degrees)?;
@@ -59,8 +54,8 @@ impl Real8 {
     // The value without its sign, where it may be 90 times a number up to 4.
     fn whole_degrees(&self) -> Option<u128>
         ensures { MatchOption result
-            ((a : ℕ) → a ≤ 4 → IsAngle self.now (90 * a) → ⊥)
-            (λ v. IsAngle self.now v) }
+            ((a : ℕ) → a ≤ 4 → IsAngle (real_seen self.now) (90 * a) → ⊥)
+            (λ v. IsAngle (real_seen self.now) v) }
     {
         if self.mantissa == 0 {
             return Some(0);
@@ -78,7 +73,7 @@ impl Real8 {
 
     // The number by which the mantissa is divided to give the value, where it is one to 2^96.
     pub(crate) fn divisor(&self) -> Option<u128>
-        ensures { MatchOption result (IsFarFromOne self.now) (λ d. IsDivisor self.now d) }
+        ensures { MatchOption result (IsFarFromOne (real_seen self.now)) (λ d. IsDivisor (real_seen self.now) d) }
     {
         if self.exponent < 54 || self.exponent > 78 {
             return None;

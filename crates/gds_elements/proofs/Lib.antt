@@ -1,6 +1,5 @@
 pub mod PointLemmas
 pub mod Trimmed
-pub mod Reals
 pub mod Parts
 pub mod Ends
 pub mod Step

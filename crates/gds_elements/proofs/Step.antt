@@ -8,7 +8,8 @@ use Rattle.gds_grammar.specs.Pattern.{Pattern, after, after_any}
 use Rattle.gds_grammar.specs.Left.{left_of, lefts_of}
 use Rattle.gds_grammar.specs.Order.{left_after, is_empty, can_go_on}
 use Rattle.geo_base.specs.declared.shapes.Point.{Point}
-use Rattle.gds_elements.specs.Data.{number, long, columns_in, rows_in, is_count, points_of, is_closed, is_straight, has_length, side, goes_into, is_one, quarter_of, is_unit, unit_in}
+use Rattle.gds_elements.specs.Data.{number, long, columns_in, rows_in, is_count, points_of, is_closed, is_straight, has_length, side, goes_into, real_in, unit_in}
+use Rattle.fixed_num.specs.Real.{is_one, quarter_of, is_unit}
 use Rattle.gds_elements.specs.Meaning.{opened, last_kind, columns_of, rows_of}
 use Rattle.gds_elements.specs.Faults.{is_second_points, is_plain, outline_fault, points_fault, array_fault, or_else, part_fault, path_fault, turn_fault, content_fault, fault_of}
 
@@ -127,15 +128,15 @@ fault_not_one before r n e = not_one n (fault_of before r) e (fault before r)
     turn : (kind : ℕ) (body : List ℕ) → NotOne (turn_fault kind body)
     turn kind body =
         either (kind == 0x1A) _ _ (either (bit_and (number body) 6 == 0) _ _ tt (λ e. cc))
-        (either (kind == 0x1B) _ _ (either (is_one body) _ _ tt (λ e. cc))
-        (either (kind == 0x1C) _ _ (either (is_some (quarter_of body)) _ _ tt (λ e. cc)) tt))
+        (either (kind == 0x1B) _ _ (either (is_one (real_in body)) _ _ tt (λ e. cc))
+        (either (kind == 0x1C) _ _ (either (is_some (quarter_of (real_in body))) _ _ tt (λ e. cc)) tt))
 
     parts : (start kind : ℕ) (body : List ℕ) → NotOne (part_fault start kind body)
     parts start kind body = either (start == 0x09) _ _ (path kind body) (either (start == 0x0A || start == 0x0B) _ _ (turn kind body) tt)
 
     inner : (start columns rows kind : ℕ) (body : List ℕ) → NotOne (content_fault start columns rows kind body)
     inner start columns rows kind body =
-        either (kind == 0x03) _ _ (either (is_unit (unit_in body)) _ _ tt (λ e. cc))
+        either (kind == 0x03) _ _ (either (is_unit (real_in (unit_in body))) _ _ tt (λ e. cc))
         (either (kind == 0x13) _ _ (either (is_count (columns_in body) && is_count (rows_in body)) _ _ tt (λ e. cc))
         (either (kind == 0x10) _ _ (or_else-not_one _ _ (points start ((length body % 8) == 0) (points_of body)) (array start columns rows body))
         (parts start kind body)))

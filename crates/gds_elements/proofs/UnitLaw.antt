@@ -11,11 +11,12 @@ use Rattle.gds_grammar.specs.Grammar as g
 use Rattle.gds_grammar.specs.Order.{kinds_of, can_go_on, IsEnded}
 use Rattle.gds_grammar.proofs.GrammarLaw.{grammar_law}
 use Rattle.gds_grammar.proofs.LastRecord.{stops}
-use Rattle.gds_elements.specs.Data.{exactly, is_unit, unit_in}
+use Rattle.gds_elements.specs.Data.{exactly, real_in, unit_in}
+use Rattle.fixed_num.specs.Real.{is_unit}
 use Rattle.gds_elements.specs.Meaning.{Library, opened, last_kind, columns_of, rows_of, head_part}
 use Rattle.gds_elements.specs.Faults.{is_second_points, is_plain, content_fault, fault_of, Passes}
 use Rattle.gds_elements.specs.Units.{IsUnit, MeasuredLaw}
-use Rattle.gds_elements.proofs.Reals.{unit_nearest}
+use Rattle.fixed_num.proofs.Turns.{unit_nearest}
 
 -- ---- a library has UNITS, which pass
 
@@ -82,20 +83,20 @@ or_left : (a b : Bool) → b ≡ false → (a || b) ≡ true → a ≡ true
 or_left true b e h = refl
 or_left false b e h = absurd (true_false (sym h ∙ e))
 
-unit_more : (before : Records) (r : Rec) → fault_of before r ≡ None → (has_units (kinds_of before) ≡ true → is_unit (unit_in (head_part UNITS before)) ≡ true)
-    → has_units (kinds_of (before ▸ r)) ≡ true → is_unit (unit_in (head_part UNITS (before ▸ r))) ≡ true
+unit_more : (before : Records) (r : Rec) → fault_of before r ≡ None → (has_units (kinds_of before) ≡ true → is_unit (real_in (unit_in (head_part UNITS before))) ≡ true)
+    → has_units (kinds_of (before ▸ r)) ≡ true → is_unit (real_in (unit_in (head_part UNITS (before ▸ r)))) ≡ true
 unit_more before r p so_far h = by_test (r.kind == 0x03) refl
   where
-    by_test : (b : Bool) → (r.kind == 0x03) ≡ b → is_unit (unit_in (cond b r.body (head_part UNITS before))) ≡ true
+    by_test : (b : Bool) → (r.kind == 0x03) ≡ b → is_unit (real_in (unit_in (cond b r.body (head_part UNITS before)))) ≡ true
     by_test true e =
         let content = content_sound (is_second_points (opened before) (last_kind before) r.kind) (can_go_on before r.kind) (is_plain r.kind r.form r.body) (content_fault (opened before) (columns_of before) (rows_of before) r.kind r.body) p in
         let kind : r.kind ≡ 0x03 = eqb-true _ _ e in
-        unit_tested (is_unit (unit_in r.body)) 13 (subst (λ (k : ℕ). content_fault (opened before) (columns_of before) (rows_of before) k r.body ≡ None) kind content)
+        unit_tested (is_unit (real_in (unit_in r.body))) 13 (subst (λ (k : ℕ). content_fault (opened before) (columns_of before) (rows_of before) k r.body ≡ None) kind content)
     by_test false e =
         let parts = sym (list_any-append (λ (k : ℕ). k == 0x03) (kinds_of before) (r.kind ∷ [])) ∙ h in
         so_far (or_left (has_units (kinds_of before)) _ (ap (λ (b : Bool). b || false) e) parts)
 
-unit_read : (rs : Records) → Passes rs → has_units (kinds_of rs) ≡ true → is_unit (unit_in (head_part UNITS rs)) ≡ true
+unit_read : (rs : Records) → Passes rs → has_units (kinds_of rs) ≡ true → is_unit (real_in (unit_in (head_part UNITS rs))) ≡ true
 unit_read NoRecords p h = absurd cc
 unit_read (before ▸ r) p h = unit_more before r p.2 (unit_read before p.0) h
 
@@ -111,6 +112,6 @@ exactly_twice bytes = by_test (length bytes == 16) refl
 pub measured_law : MeasuredLaw
 measured_law library (bytes, (rs, rest, begins, ended, is)) =
     let named = head_part UNITS rs in
-    let unit : is_unit (unit_in named) ≡ true = unit_read rs begins.passes (ended_units rs begins.passes ended) in
-    let again : is_unit (unit_in (exactly 16 named)) ≡ true = ap (λ (ks : List ℕ). is_unit (take 8 (drop 8 ks))) (exactly_twice named) ∙ unit in
-    subst (λ (v : Library). (k : ℕ) × IsUnit (unit_in v.units) k) is (unit_nearest (unit_in (exactly 16 named)) again)
+    let unit : is_unit (real_in (unit_in named)) ≡ true = unit_read rs begins.passes (ended_units rs begins.passes ended) in
+    let again : is_unit (real_in (unit_in (exactly 16 named))) ≡ true = ap (λ (ks : List ℕ). is_unit (real_in (take 8 (drop 8 ks)))) (exactly_twice named) ∙ unit in
+    subst (λ (v : Library). (k : ℕ) × IsUnit (unit_in v.units) k) is (unit_nearest (real_in (unit_in (exactly 16 named))) again)

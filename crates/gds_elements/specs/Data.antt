@@ -8,7 +8,7 @@ use Rattle.std.specs.List.{list_all, list_any, zip}
 use Rattle.std.specs.Option.{option_map}
 use Rattle.std.specs.Ordering.{int_eq}
 use Rattle.std.specs.Int.{w16, w32, from_be_bytes, cast_signed, int_min, int_max}
-use Rattle.fixed_num.specs.Real.{number_of_bytes}
+use Rattle.fixed_num.specs.Real.{Real, real_of}
 use Rattle.geo_base.specs.declared.shapes.Point.{Point}
 use Rattle.geo_base.specs.declared.shapes.Rect.{Rect}
 
@@ -150,42 +150,9 @@ step p count = if count == 0 then origin else record {
 
 -- ---- reals
 
--- the value is below 0
-abbrev pub is_negative : List ℕ → Bool
-is_negative bytes = nat_le 128 (slice_index (exactly 8 bytes) 0)
-
--- 16 ^ 78 times the value without its sign: 56 bits as a fraction, times a power of 16 in excess 64
-abbrev pub whole : List ℕ → ℕ
-whole bytes = number_of_bytes (drop 1 (exactly 8 bytes)) * 16 ^ (slice_index
-    (exactly 8 bytes) 0 % 128)
-
--- the value is 1; zeros stand for data of another length
-abbrev pub is_one : List ℕ → Bool
-is_one bytes = not (is_negative bytes) && whole bytes == 16 ^ 78
-
--- the value without its sign is 90 times that number
-abbrev pub is_turns : List ℕ → ℕ → Bool
-is_turns bytes turns = whole bytes == 90 * turns * 16 ^ 78
-
-abbrev pub turns_of : List ℕ → Option ℕ
-turns_of bytes =
-    if is_turns bytes 0 then Some 0
-    else if is_turns bytes 1 then Some 1
-    else if is_turns bytes 2 then Some 2
-    else if is_turns bytes 3 then Some 3
-    else if is_turns bytes 4 then Some 4
-    else None
-
--- the quarters of a turn, 0 to 3, where the value is a multiple of 90 from -360 to 360
-abbrev pub quarter_of : List ℕ → Option ℕ
-quarter_of bytes = option_map (λ turns. (if is_negative bytes then 4 - turns else turns) % 4)
-    (turns_of bytes)
-
--- the value times 10 ^ 12, rounded to the nearest whole number, halves upwards, is one of 1 to
--- 1,000,000
-abbrev pub is_unit : List ℕ → Bool
-is_unit bytes = not (is_negative bytes) && nat_le (16 ^ 78) (2 * 10 ^ 12 * whole bytes) && nat_lt
-    (2 * 10 ^ 12 * whole bytes) (2000001 * 16 ^ 78)
+-- the eight-byte real; zeros stand for data of another length
+abbrev pub real_in : List ℕ → Real
+real_in bytes = real_of (exactly 8 bytes)
 
 -- the second of the two reals in the data of UNITS: the database unit in metres
 abbrev pub unit_in : List ℕ → List ℕ

@@ -13,7 +13,8 @@ use Rattle.gds_records.specs.Kinds.{STRANS, MAG, ANGLE, PATHTYPE, ELFLAGS, NODET
 use Rattle.gds_records.specs.Kinds.{PROPVALUE, BOX, BOXTYPE, PLEX, BGNEXTN, ENDEXTN}
 use Rattle.gds_elements.specs.Data.{number, long, columns_in, rows_in, is_count, is_empty, trimmed}
 use Rattle.gds_elements.specs.Data.{points_of, is_closed, is_straight, has_length, side, goes_into}
-use Rattle.gds_elements.specs.Data.{is_one, quarter_of, is_unit, unit_in}
+use Rattle.gds_elements.specs.Data.{real_in, unit_in}
+use Rattle.fixed_num.specs.Real.{is_one, is_unit, quarter_of}
 use Rattle.gds_elements.specs.Meaning.{opened, last_kind, columns_of, rows_of, Library, library_of}
 
 -- 14: an XY behind the XY of a boundary or a path
@@ -87,8 +88,8 @@ path_fault kind body =
 abbrev pub turn_fault : ℕ → List ℕ → Option ℕ
 turn_fault kind body =
     if kind == STRANS then (if bit_and (number body) 6 == 0 then None else Some 11)
-    else if kind == MAG then (if is_one body then None else Some 9)
-    else if kind == ANGLE then (if is_some (quarter_of body) then None else Some 10)
+    else if kind == MAG then (if is_one (real_in body) then None else Some 9)
+    else if kind == ANGLE then (if is_some (quarter_of (real_in body)) then None else Some 10)
     else None
 
 -- the parts of the element that began so
@@ -101,7 +102,7 @@ part_fault start kind body =
 -- the tests of content: 13 the database unit, 12 no column or no row, and those of the open element
 abbrev pub content_fault : ℕ → ℕ → ℕ → ℕ → List ℕ → Option ℕ
 content_fault start columns rows kind body =
-    if kind == UNITS then (if is_unit (unit_in body) then None else Some 13)
+    if kind == UNITS then (if is_unit (real_in (unit_in body)) then None else Some 13)
     else if kind == COLROW
     then (if is_count (columns_in body) && is_count (rows_in body) then None else Some 12)
     else if kind == XY

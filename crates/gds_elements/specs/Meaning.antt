@@ -17,7 +17,8 @@ use Rattle.gds_records.specs.Kinds.{BOX, BOXTYPE, BGNEXTN, ENDEXTN}
 use Rattle.gds_elements.specs.Bounds.{is_start, is_bound}
 use Rattle.gds_elements.specs.Data.{number, long, columns_in, rows_in, exactly, is_empty, trimmed}
 use Rattle.gds_elements.specs.Data.{origin, points_of, first_of, hull, has_area, side, step}
-use Rattle.gds_elements.specs.Data.{quarter_of}
+use Rattle.gds_elements.specs.Data.{real_in}
+use Rattle.fixed_num.specs.Real.{quarter_of}
 
 -- ---- what a library is
 
@@ -161,7 +162,7 @@ is_mirrored rs = nat_le 32768 (number (part STRANS rs))
 
 -- the quarters of ANGLE
 abbrev pub quarters : List ℕ → ℕ
-quarters bytes = unwrap_or (quarter_of bytes) 0
+quarters bytes = unwrap_or (quarter_of (real_in bytes)) 0
 
 abbrev pub turn_of : Bool → ℕ → Turn
 turn_of mirrored quarter =

@@ -2,8 +2,9 @@
 
 ghost use Rattle.std.specs.Prelude.{◌≡◌, ◌≤◌, ◌+◌, ℕ, length, slice_index, is_some, IsTrue};
 ghost use Rattle.std.specs.Prelude.{MatchOption};
-ghost use Rattle.gds_elements.specs.Data.{columns_in, coordinate, exactly, is_count, is_one};
-ghost use Rattle.gds_elements.specs.Data.{is_unit, long, number, quarter_of, rows_in, trimmed};
+ghost use Rattle.fixed_num.specs.Real.{is_one, is_unit, quarter_of};
+ghost use Rattle.gds_elements.specs.Data.{columns_in, coordinate, exactly, is_count, real_in};
+ghost use Rattle.gds_elements.specs.Data.{long, number, rows_in, trimmed};
 ghost use Rattle.gds_elements.specs.Data.{unit_in};
 ghost use Rattle.gds_elements.specs.Units.{IsUnit};
 
@@ -92,14 +93,14 @@ pub(crate) fn trimmed(body: &[u8]) -> &[u8]
 
 /// Whether the real is 1; zeros stand for data of another length.
 pub(crate) fn is_one(body: &[u8]) -> bool
-    ensures { result ≡ is_one body.now }
+    ensures { result ≡ is_one (real_in body.now) }
 {
     Real8::from_bytes(exactly(body)).is_one()
 }
 
 /// The quarters of a turn that the real is in degrees.
 pub(crate) fn quarter_of(body: &[u8]) -> Option<u8>
-    ensures { result ≡ quarter_of body.now }
+    ensures { result ≡ quarter_of (real_in body.now) }
 {
     Real8::from_bytes(exactly(body)).quarter()
 }
@@ -116,14 +117,14 @@ pub fn unit_of(units: &[u8; 16]) -> Option<u32>
 
 /// Whether the real in metres is a database unit of 1 to 1,000,000 picometres.
 fn is_unit(bytes: &[u8]) -> bool
-    ensures { result ≡ is_unit bytes.now }
+    ensures { result ≡ is_unit (real_in bytes.now) }
 {
     dbu_pm(&Real8::from_bytes(exactly(bytes))).is_some()
 }
 
 /// Whether the second real of UNITS is such a database unit.
 pub(crate) fn has_unit(body: &[u8]) -> bool
-    ensures { result ≡ is_unit (unit_in body.now) }
+    ensures { result ≡ is_unit (real_in (unit_in body.now)) }
 {
     let units: [u8; 16] = exactly(body);
     is_unit(&units[8..])

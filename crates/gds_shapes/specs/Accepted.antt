@@ -4,7 +4,8 @@ use Rattle.std.specs.List.{All, flat_map}
 use Rattle.geo_base.specs.declared.layer.LayerKey.{LayerKey}
 use Rattle.geo_base.specs.declared.shapes.Rect.{Rect}
 use Rattle.gds_records.specs.Records.{IsBytes}
-use Rattle.gds_elements.specs.Data.{is_empty, trimmed, is_unit, unit_in}
+use Rattle.gds_elements.specs.Data.{is_empty, real_in, trimmed, unit_in}
+use Rattle.fixed_num.specs.Real.{is_unit}
 use Rattle.gds_elements.specs.Meaning.{Boundary, Shape, Cell, Library}
 use Rattle.gds_elements.specs.Faults.{Accepts}
 use Rattle.gds_shapes.specs.Stream.{IsShort, FitsLayer, corners, stream_bytes}
@@ -55,7 +56,7 @@ pub record IsRead (library : Library) (cell : Cell) : Type 0 where
   pub dates : IsData 24 library.dates
   pub name : IsText library.name
   pub units : IsData 16 library.units
-  pub unit : IsTrue (is_unit (unit_in library.units))
+  pub unit : IsTrue (is_unit (real_in (unit_in library.units)))
   pub cell_dates : IsData 24 cell.dates
   pub cell_name : IsText cell.name
   pub named : is_empty cell.name ≡ false
