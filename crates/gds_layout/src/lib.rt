@@ -2,6 +2,8 @@
 //! and linked.
 #![tactic(auto)]
 
+mod keys;
 mod layout;
+mod piles;
 
 pub use layout::{Header, Layout, LayoutFault};
