@@ -16,8 +16,9 @@ use Rattle.gds_records.specs.Kinds.{HEADER, BGNLIB, LIBNAME, UNITS, BGNSTR, STRN
 use Rattle.gds_elements.specs.Data.{exactly, is_empty, trimmed, put_before, is_unit, unit_in}
 use Rattle.gds_elements.specs.Meaning.{Shape, Text, Ref, Cell, Library, opened, last_kind, columns_of, rows_of, found, head_part, is_cell_bound, cell_part, shapes_of, texts_of, refs_of, cells_of, cell_by, open_cells, library_of}
 use Rattle.gds_elements.specs.Faults.{is_second_points, is_plain, content_fault, fault_of, Passes}
-use Rattle.gds_shapes.specs.Stream.{IsShort}
-use Rattle.gds_shapes.specs.Accepted.{IsData, IsText, IsRead, ReadLaw}
+use Rattle.gds_shapes.specs.Data.{IsShort, IsData, IsText, IsNamed}
+use Rattle.gds_shapes.specs.Stream.{heading_of}
+use Rattle.gds_shapes.specs.Accepted.{IsHeading, IsRead, ReadHeadingLaw, ReadLaw}
 
 -- ---- data
 
@@ -212,22 +213,29 @@ cells_read (before ▸ r) p =
     let one = cell_read _ _ (shapes_of before) (texts_of before) (refs_of before) (exactly_data 24 (cell_part BGNSTR before) (cell_bytes BGNSTR before p.0)) (cell_name before p.0) in
     either (r.kind == ENDSTR) (cells_of before ++ open_cells before) (cells_of before) (All-append IsCell (cells_of before) (open_cells before) all one) all
 
-whole_read : (rs : Records) → Passes rs → IsEnded rs → All (λ cell. IsRead (library_of rs) cell) (cells_of rs)
-whole_read rs p e =
+heading_read : (rs : Records) → Passes rs → IsEnded rs → IsHeading (heading_of (library_of rs))
+heading_read rs p e =
     let units = exactly_data 16 (head_part UNITS rs) (head_bytes UNITS rs p) in
     let unit : is_unit (unit_in (exactly 16 (head_part UNITS rs))) ≡ true =
     ap (λ (bytes : List ℕ). is_unit (take 8 (drop 8 bytes))) (exactly_again 16 (exactly 16 (head_part UNITS rs)) units.whole) ∙ unit_read rs p (ended_units rs p e) in
-    All-weaker IsCell (λ (cell : Cell). IsRead (library_of rs) cell)
-    (λ cell c. record {
+    record {
       version = exactly_data 2 (head_part HEADER rs) (head_bytes HEADER rs p);
       dates = exactly_data 24 (head_part BGNLIB rs) (head_bytes BGNLIB rs p);
       name = library_name rs p;
       units = units;
       unit = unit;
-      cell_dates = c.dates;
-      cell_name = c.name;
-      named = c.named;
-    }) (cells_of rs) (cells_read rs p)
+    }
+
+whole_read : (rs : Records) → Passes rs → IsEnded rs → All (λ cell. IsRead (library_of rs) cell) (cells_of rs)
+whole_read rs p e =
+    let heading = heading_read rs p e in
+    All-weaker IsCell (λ (cell : Cell). IsRead (library_of rs) cell)
+    (λ cell c. record { heading = heading; cell_dates = c.dates; cell_name = record { text = c.name; named = c.named } }) (cells_of rs) (cells_read rs p)
+
+pub heading_law : ReadHeadingLaw
+heading_law bytes value h =
+    let P : Library → Type 0 = λ v. IsHeading (heading_of v) in
+    subst P h.4 (heading_read h.0 h.2.passes h.3)
 
 pub law : ReadLaw
 law bytes value h =
