@@ -215,7 +215,7 @@ shapes_fillable (before ▸ r) p =
 
 -- ---- cells
 
-abbrev Each : List Cell → Type 0
+abbrev pub Each : List Cell → Type 0
 Each cells = ByRecursion AreFillable cells
 
 cells_joined : (xs ys : List Cell) → Each xs → Each ys → Each (xs ++ ys)
@@ -233,9 +233,17 @@ cells_more : (b : Bool) (xs ys : List Cell) → Each xs → Each ys → Each (co
 cells_more true xs ys f g = cells_joined xs ys f g
 cells_more false xs ys f g = f
 
-cells_fillable : (rs : Records) → Passes rs → Each (cells_of rs)
+pub cells_fillable : (rs : Records) → Passes rs → Each (cells_of rs)
 cells_fillable NoRecords p = tt
 cells_fillable (before ▸ r) p = cells_more (r.kind == ENDSTR) (cells_of before) (open_cells before) (cells_fillable before p.0) (open_cell before p.0)
+
+last_of_each : (xs ys : List Cell) → Each (xs ++ ys) → Each ys
+last_of_each [] ys f = f
+last_of_each (x ∷ xs) ys f = last_of_each xs ys f.1
+
+-- the last cells behind some
+pub last_fillable : (rs : Records) (xs ys : List Cell) → Passes rs → xs ++ ys ≡ cells_of rs → All AreFillable ys
+last_fillable rs xs ys p e = All-from_recursion AreFillable ys (last_of_each xs ys (subst (λ (cs : List Cell). Each cs) (sym e) (cells_fillable rs p)))
 
 pub fillable_law : FillableLaw
 fillable_law library (bytes, (rs, rest, begins, ended, is)) =

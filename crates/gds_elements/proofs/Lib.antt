@@ -9,3 +9,5 @@ pub mod Unique
 pub mod PieceLemmas
 pub mod WholeText
 pub mod FillableLaw
+pub mod Arrays
+pub mod UnitLaw

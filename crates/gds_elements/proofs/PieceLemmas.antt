@@ -7,11 +7,12 @@ use Rattle.gds_records.specs.Records.{record_bytes, framing, declared_length, is
 use Rattle.gds_elements.specs.declared.library.GdsFault.{GdsFault}
 use Rattle.gds_elements.specs.declared.library.GdsFault.TheVariants.{Bad, NoMemory}
 use Rattle.gds_elements.specs.declared.stream.Stream.{Stream}
+use Rattle.gds_elements.specs.declared.reader.Reader.{Reader}
 use Rattle.gds_records.specs.Records.{Records, bytes_of}
 use Rattle.gds_elements.specs.Meaning.{library_of}
 use Rattle.gds_elements.specs.Faults.{Accepts, FirstFault, IsNextFault, OfFrame, OfRecord}
 use Rattle.gds_elements.specs.declared.library.Library as lib
-use Rattle.gds_elements.specs.Reading.{Holds, Runs, Stands, library_seen}
+use Rattle.gds_elements.specs.Reading.{Holds, Runs, Stands, library_after, taken_cells}
 use Rattle.gds_elements.specs.declared.pieces.Pieces.{Pieces}
 use Rattle.gds_elements.specs.Pieces.{Fed, FedTo, Goes, HasFault}
 use Rattle.gds_elements.proofs.Unique.{no_fault, one_fault}
@@ -166,8 +167,8 @@ run_faults fed piece held stream new (Bad number index offset) g (rs, at, reache
     )
 run_faults fed piece held stream new NoMemory g h = tt
 
-pub accepted_now : (fed held : List ℕ) (stream : Stream) (v : lib.Library) → Goes fed held stream → stream.ended ≡ true → ((rs : Records) → Holds rs stream.kept → library_seen v ≡ library_of rs)
-    → Accepts fed (library_seen v)
+pub accepted_now : (fed held : List ℕ) (stream : Stream) (v : lib.Library) → Goes fed held stream → stream.ended ≡ true → ((rs : Records) → Holds rs stream.kept → library_after (taken_cells stream.kept.taken.value) v ≡ library_of rs)
+    → Accepts fed (library_after (taken_cells stream.kept.taken.value) v)
 accepted_now fed held stream v g e same = (g.records, g.rest, record { whole = g.whole; passes = g.stands.passes }, sym g.stands.ended ∙ e, sym (same g.records g.stands.kept))
 
 pub no_items : (xs : List ℕ) → length xs ≡ 0 → xs ≡ []
@@ -185,6 +186,7 @@ pub record Fronted (piece rest : List ℕ) (old now : Pieces) : Type 0 where
   pub sound : now.fault ≡ None
   pub count : now.stream.count ≤ now.stream.offset
   pub room : now.stream.offset + vec_len now.held + length rest ≤ old.stream.offset + vec_len old.held + length piece
+  pub taken : now.stream.kept.taken ≡ old.stream.kept.taken
 
 pub fronted_none : (piece : List ℕ) (s : Pieces) → s.fault ≡ None → s.stream.count ≤ s.stream.offset → Fronted piece piece s s
 fronted_none piece s e h = record {
@@ -194,6 +196,7 @@ fronted_none piece s e h = record {
   sound = e;
   count = h;
   room = omega arith;
+  taken = refl;
 }
 
 pub front_more : (front head tail rest piece : List ℕ) → front ++ rest ≡ piece → head ++ tail ≡ rest → (front ++ head) ++ tail ≡ piece
@@ -214,9 +217,9 @@ whole_front front piece e = sym (append-nil front) ∙ e
 
 pub fronted_more : (piece rest : List ℕ) (old now new : Pieces) (count : ℕ) → Fronted piece rest old now → count ≤ length rest
     → ((fed : List ℕ) → Fed fed now → Fed (fed ++ take count rest) new) → new.fault ≡ None → new.stream.count ≤ new.stream.offset
-    → new.stream.offset + vec_len new.held ≤ now.stream.offset + vec_len now.held + length (take count rest)
+    → new.stream.offset + vec_len new.held ≤ now.stream.offset + vec_len now.held + length (take count rest) → new.stream.kept.taken ≡ now.stream.kept.taken
     → Fronted piece (take (length rest - count) (drop count rest)) old new
-fronted_more piece rest old now new count f within reading sound counted room =
+fronted_more piece rest old now new count f within reading sound counted room taken =
     let tail : take (length rest - count) (drop count rest) ≡ drop count rest = take_all _ _ (omega (arith, length-drop count rest)) in
     subst (λ (ws : List ℕ). Fronted piece ws old new) (sym tail) record {
       front = f.front ++ take count rest;
@@ -225,6 +228,7 @@ fronted_more piece rest old now new count f within reading sound counted room =
       sound = sound;
       count = counted;
       room = omega (arith, f.room, room, length-drop count rest, length-take count rest);
+      taken = taken ∙ f.taken;
     }
 
 pub fronted_fault : (piece rest : List ℕ) (old now new : Pieces) (count : ℕ) (fault : GdsFault) (f : Fronted piece rest old now)
@@ -240,3 +244,21 @@ fronted_all piece rest old now f none fed h =
     let e : f.front ≡ piece = whole_front f.front piece (subst (λ (ws : List ℕ). f.front ++ ws ≡ piece) (no_items rest none) f.split) in
     let g : Fed (fed ++ piece) now = subst (λ (ws : List ℕ). Fed (fed ++ ws) now) e (f.reading fed h) in
     (g, goes_tells (fed ++ piece) now.held.items now.stream (subst (λ (o : Option GdsFault). FedTo (fed ++ piece) now.held.items now.stream o) f.sound g))
+
+-- the same with another of what is held behind the records
+pub goes_kept : (fed held : List ℕ) (stream : Stream) (kept : Reader) → ((rs : Records) → Holds rs stream.kept → Holds rs kept) → Goes fed held stream → Goes fed held (record stream { kept = kept })
+goes_kept fed held stream kept holds g = record {
+  records = g.records;
+  rest = g.rest;
+  whole = g.whole;
+  stands = record {
+    place = g.stands.place;
+    count = g.stands.count;
+    offset = g.stands.offset;
+    ended = g.stands.ended;
+    passes = g.stands.passes;
+    last = g.stands.last;
+    kept = holds g.records g.stands.kept;
+  };
+  end = g.end;
+}

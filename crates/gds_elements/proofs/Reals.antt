@@ -6,6 +6,7 @@ use Rattle.fixed_num.specs.declared.real.Real8.{Real8}
 use Rattle.fixed_num.specs.Real as real
 use Rattle.fixed_num.specs.Real.{number_of_bytes, IsAngle, IsQuarter, Forward, Backward, IsPicometres}
 use Rattle.gds_elements.specs.Data.{exactly, is_negative, whole, quarter_of, is_unit}
+use Rattle.gds_elements.specs.Units.{IsUnit}
 
 -- the bytes are the real
 pub record Reads (bytes : List ℕ) (r : Real8) : Type 0 where
@@ -109,27 +110,45 @@ is_picometres bytes r k s p =
     (le_true _ _ (omega (arith, low, p.least)))
     (lt_true _ _ (omega (arith, high, p.most)))
 
+-- the unit that the test finds
+pub unit_nearest : (bytes : List ℕ) → is_unit bytes ≡ true → (k : ℕ) × IsUnit bytes k
+unit_nearest bytes e =
+    let p = parts (is_negative bytes) (nat_le (16 ^ 78) (2 * 10 ^ 12 * whole bytes)) (nat_lt (2 * 10 ^ 12 * whole bytes) (2000001 * 16 ^ 78)) e in
+    let low = true_le _ _ p.1 in
+    let high = true_lt _ _ p.2 in
+    let w = whole bytes in
+    let k = (2 * 10 ^ 12 * w + 16 ^ 78) / (2 * 16 ^ 78) in
+    let near : ((2 * k - 1) * 16 ^ 78 ≤ 2 * w * 10 ^ 12) × (2 * w * 10 ^ 12 < (2 * k + 1) * 16 ^ 78) × (1 ≤ k) × (k ≤ 1000000) = (omega (arith, low, high), omega (arith, low, high), omega (arith, low, high), omega (arith, low, high)) in
+    (k, record { sign = p.0; least = near.2; most = near.3; nearest = record { low = near.0; high = near.1 } })
+
+pub unit_of_real : (bytes : List ℕ) (r : Real8) (k : ℕ) → Reads bytes r → IsPicometres r k → IsUnit bytes k
+unit_of_real bytes r k s p = record {
+  sign = sym s.sign ∙ p.sign;
+  least = p.least;
+  most = p.most;
+  nearest = record {
+    low = subst (λ (w : ℕ). (2 * k - 1) * 16 ^ 78 ≤ 2 * w * 10 ^ 12) s.size p.nearest.low;
+    high = subst (λ (w : ℕ). 2 * w * 10 ^ 12 < (2 * k + 1) * 16 ^ 78) s.size p.nearest.high;
+  };
+}
+
+pub real_of_unit : (bytes : List ℕ) (r : Real8) (k : ℕ) → Reads bytes r → IsUnit bytes k → IsPicometres r k
+real_of_unit bytes r k s p = record {
+  sign = s.sign ∙ p.sign;
+  least = p.least;
+  most = p.most;
+  nearest = record {
+    low = subst (λ (w : ℕ). (2 * k - 1) * 16 ^ 78 ≤ 2 * w * 10 ^ 12) (sym s.size) p.nearest.low;
+    high = subst (λ (w : ℕ). 2 * w * 10 ^ 12 < (2 * k + 1) * 16 ^ 78) (sym s.size) p.nearest.high;
+  };
+}
+
 pub unit_is : (bytes : List ℕ) (r : Real8) (o : Option ℕ) → Reads bytes r → MatchOption o ((k : ℕ) → IsPicometres r k → ⊥) (λ k. IsPicometres r k) → is_some o ≡ is_unit bytes
 unit_is bytes r (Some k) s h = sym (is_picometres bytes r k s h)
 unit_is bytes r None s h = none (is_unit bytes) (λ e. unit e)
   where
     unit : is_unit bytes ≡ true → ⊥
-    unit e =
-        let p = parts (is_negative bytes) (nat_le (16 ^ 78) (2 * 10 ^ 12 * whole bytes)) (nat_lt (2 * 10 ^ 12 * whole bytes) (2000001 * 16 ^ 78)) e in
-        let low = true_le _ _ p.1 in
-        let high = true_lt _ _ p.2 in
-        let w = whole bytes in
-        let k = (2 * 10 ^ 12 * w + 16 ^ 78) / (2 * 16 ^ 78) in
-        let near : ((2 * k - 1) * 16 ^ 78 ≤ 2 * w * 10 ^ 12) × (2 * w * 10 ^ 12 < (2 * k + 1) * 16 ^ 78) × (1 ≤ k) × (k ≤ 1000000) = (omega (arith, low, high), omega (arith, low, high), omega (arith, low, high), omega (arith, low, high)) in
-        h k record {
-          sign = s.sign ∙ p.0;
-          least = near.2;
-          most = near.3;
-          nearest = record {
-            low = subst (λ (v : ℕ). (2 * k - 1) * 16 ^ 78 ≤ 2 * v * 10 ^ 12) (sym s.size) near.0;
-            high = subst (λ (v : ℕ). 2 * v * 10 ^ 12 < (2 * k + 1) * 16 ^ 78) (sym s.size) near.1;
-          };
-        }
+    unit e = let u = unit_nearest bytes e in h u.0 (real_of_unit bytes r u.0 s u.1)
 
     none : (c : Bool) → (c ≡ true → ⊥) → false ≡ c
     none true f = absurd (f refl)

@@ -1,5 +1,5 @@
 -- Records, one after another.
-use Rattle.std.proofs.Common.{◌≡◌, inl, inr, ℕ, ◌+◌, ◌-◌, ◌<◌, ◌≤◌, Bool, true, false, List, ◌++◌, length, take, drop, Ok, Err, refl, sym, ap, ◌∙◌, append_assoc, arith}
+use Rattle.std.proofs.Common.{◌≡◌, inl, inr, ℕ, ◌+◌, ◌-◌, ◌<◌, ◌≤◌, Bool, true, false, List, [], ◌++◌, length, take, drop, Ok, Err, refl, sym, ap, ◌∙◌, append_assoc, arith}
 use Rattle.std.specs.Prelude.{not}
 use Rattle.std.proofs.lemmas.List.{take_at, take-append-drop, length-append, length-drop}
 use Rattle.std.proofs.Math.Seq.{take-add}
@@ -12,7 +12,7 @@ use Rattle.gds_records.specs.Records.{Records, NoRecords, ◌▸◌, bytes_of}
 use Rattle.gds_elements.specs.Meaning as m
 use Rattle.gds_elements.specs.Faults.{Accepts, FirstFault, OfFrame, Passes}
 use Rattle.gds_grammar.specs.Order.{is_ended}
-use Rattle.gds_elements.specs.Reading.{Reached, Runs, Steps, Holds, library_seen, IsFaultOf}
+use Rattle.gds_elements.specs.Reading.{Reached, Runs, Steps, Holds, library_after, library_seen, taken_cells, IsFaultOf}
 
 pub one_more : (before rs : Records) (r : Rec) (bytes : List ℕ) (at end : ℕ) → Reached before rs bytes at → drop at bytes ≡ record_bytes r ++ drop end bytes
     → at < end → end ≤ length bytes → Reached before (rs ▸ r) bytes end
@@ -57,9 +57,10 @@ is_cut bytes at new (rs, reached, stands, inr short) open_yet =
     }
 
 pub is_accepted : (bytes : List ℕ) (at : ℕ) (new : Stream) (v : lib.Library) → Runs NoRecords bytes (Ok at) new → new.ended ≡ true
-    → ((rs : Records) → Holds rs new.kept → library_seen v ≡ m.library_of rs) → Accepts bytes (library_seen v)
-is_accepted bytes at new v (rs, reached, stands, end) ended same =
-    (rs, drop at bytes, record { whole = whole rs bytes at reached; passes = stands.passes }, sym stands.ended ∙ ended, sym (same rs stands.kept))
+    → taken_cells new.kept.taken.value ≡ [] → ((rs : Records) → Holds rs new.kept → library_after (taken_cells new.kept.taken.value) v ≡ m.library_of rs) → Accepts bytes (library_seen v)
+is_accepted bytes at new v (rs, reached, stands, end) ended none same =
+    let is : library_seen v ≡ m.library_of rs = ap (λ (cs : List m.Cell). library_after cs v) (sym none) ∙ same rs stands.kept in
+    (rs, drop at bytes, record { whole = whole rs bytes at reached; passes = stands.passes }, sym stands.ended ∙ ended, sym is)
 
 pub run_fault : (before rs : Records) (bytes : List ℕ) (at : ℕ) (e : GdsFault) (new : Stream) → Reached before rs bytes at → Passes rs → is_ended rs ≡ false → Steps rs bytes at (Err e) new
     → Runs before bytes (Err e) new

@@ -6,12 +6,12 @@ use Rattle.gds_records.proofs.Frame.{record_framed}
 use Rattle.gds_records.proofs.OneReading.{compared, first_same, texts, Same, Before, After}
 use Rattle.gds_grammar.specs.Order.{IsEnded}
 use Rattle.gds_grammar.proofs.LastRecord.{stops}
-use Rattle.gds_elements.specs.Meaning.{Library, library_of}
+use Rattle.gds_elements.specs.Meaning.{Cell, Library, library_of}
 use Rattle.gds_elements.specs.Faults.{Passes, fault_of, Accepts, FirstFault, IsNextFault, OfFrame, OfRecord}
 use Rattle.gds_elements.specs.declared.library.Library as lib
 use Rattle.gds_elements.specs.declared.library.GdsFault.{GdsFault}
 use Rattle.gds_elements.specs.declared.library.GdsFault.TheVariants.{Bad, NoMemory}
-use Rattle.gds_elements.specs.Reading.{library_seen, IsFaultOf, OnlyLibrary, OnlyFault}
+use Rattle.gds_elements.specs.Reading.{library_after, library_seen, IsFaultOf, OnlyLibrary, OnlyRest, OnlyFault}
 use Rattle.gds_elements.proofs.Step.{never_behind_end}
 
 -- what passes, passes up to each of its records
@@ -92,8 +92,14 @@ only_library bytes v (Ok w) found fault h = one_library bytes (library_seen w) v
 only_library bytes v (Err (Bad n i o)) found fault h = no_fault bytes v n i o h fault
 only_library bytes v (Err NoMemory) found fault h = tt
 
-pub only_fault : (bytes : List ℕ) (number index offset : ℕ) (result : Result lib.Library GdsFault) → IfOk result (λ w. Accepts bytes (library_seen w)) → IfErr result (λ e. IsFaultOf bytes e)
+pub only_rest : (bytes : List ℕ) (taken : List Cell) (v : Library) (result : Result lib.Library GdsFault) → IfOk result (λ w. Accepts bytes (library_after taken w)) → IfErr result (λ e. IsFaultOf bytes e)
+    → Accepts bytes v → OnlyRest taken v result
+only_rest bytes taken v (Ok w) found fault h = one_library bytes (library_after taken w) v found h
+only_rest bytes taken v (Err (Bad n i o)) found fault h = no_fault bytes v n i o h fault
+only_rest bytes taken v (Err NoMemory) found fault h = tt
+
+pub only_fault : (bytes : List ℕ) (taken : List Cell) (number index offset : ℕ) (result : Result lib.Library GdsFault) → IfOk result (λ w. Accepts bytes (library_after taken w)) → IfErr result (λ e. IsFaultOf bytes e)
     → FirstFault bytes number index offset → OnlyFault number index offset result
-only_fault bytes number index offset (Ok w) found fault h = no_fault bytes (library_seen w) number index offset found h
-only_fault bytes number index offset (Err (Bad n i o)) found fault h = one_fault bytes n i o number index offset fault h
-only_fault bytes number index offset (Err NoMemory) found fault h = tt
+only_fault bytes taken number index offset (Ok w) found fault h = no_fault bytes (library_after taken w) number index offset found h
+only_fault bytes taken number index offset (Err (Bad n i o)) found fault h = one_fault bytes n i o number index offset fault h
+only_fault bytes taken number index offset (Err NoMemory) found fault h = tt

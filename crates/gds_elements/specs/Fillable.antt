@@ -1,5 +1,5 @@
 -- The shapes of accepted bytes can be filled.
-use Rattle.std.specs.Prelude.{ℕ, ℤ, List}
+use Rattle.std.specs.Prelude.{ℤ, List}
 use Rattle.std.specs.List.{All}
 use Rattle.geo_base.specs.declared.shapes.Point.{Point}
 use Rattle.geo_base.specs.Near.{IsLong, IsLongPoint, IsLongRect}

@@ -9,3 +9,5 @@ pub mod Fillable
 pub mod Token
 pub mod FedSoFar
 pub mod Fed
+pub mod Placeable
+pub mod Units

@@ -18,6 +18,7 @@ use Rattle.gds_elements.specs.declared.element.Element.{Element}
 use Rattle.gds_elements.specs.declared.reader.Structure.{Structure}
 use Rattle.gds_elements.specs.declared.reader.Header.{Header}
 use Rattle.gds_elements.specs.declared.reader.Reader.{Reader}
+use Rattle.gds_elements.specs.declared.taken.Taken.{Taken, Nothing, More'}
 use Rattle.gds_elements.specs.declared.stream.Stream.{Stream}
 use Rattle.gds_elements.specs.declared.stream.TakeError.{TakeError}
 use Rattle.gds_elements.specs.declared.stream.TakeError.TheVariants.{Fault, NoMemory}
@@ -69,6 +70,21 @@ library_seen v = record {
   units = v.units;
   cells = map cell_seen v.cells.items;
 }
+
+-- the library with structures in front of it that were handed over before
+abbrev pub library_after : List m.Cell → Library → m.Library
+library_after taken v = record {
+  version = v.version;
+  dates = v.dates;
+  name = v.name.items;
+  units = v.units;
+  cells = taken ++ map cell_seen v.cells.items;
+}
+
+-- the structures of a token, the last list of which it names first
+abbrev pub taken_cells : Taken → List m.Cell
+taken_cells Nothing = []
+taken_cells (More' cells p before) = taken_cells before ++ map cell_seen cells.value.items
 
 -- ---- what is held
 
@@ -139,7 +155,7 @@ pub record Holds (rs : Records) (k : Reader) : Type 0 where
   pub header : HoldsHeader rs k.header
   pub structure : HoldsStructure rs k.structure
   pub element : HoldsElement rs k.element
-  pub cells : map cell_seen k.cells.items ≡ m.cells_of rs
+  pub cells : taken_cells k.taken.value ++ map cell_seen k.cells.items ≡ m.cells_of rs
 
 -- ---- where a reader stands
 
@@ -199,6 +215,12 @@ abbrev pub OnlyLibrary : m.Library → Result Library GdsFault → Type 0
 OnlyLibrary v (Ok w) = library_seen w ≡ v
 OnlyLibrary v (Err (Bad number index offset)) = ⊥
 OnlyLibrary v (Err fault.NoMemory) = Unit {0}
+
+-- the same of a library whose first structures were handed over
+abbrev pub OnlyRest : List m.Cell → m.Library → Result Library GdsFault → Type 0
+OnlyRest taken v (Ok w) = library_after taken w ≡ v
+OnlyRest taken v (Err (Bad number index offset)) = ⊥
+OnlyRest taken v (Err fault.NoMemory) = Unit {0}
 
 abbrev pub OnlyFault : ℕ → ℕ → ℕ → Result Library GdsFault → Type 0
 OnlyFault number index offset (Ok w) = ⊥

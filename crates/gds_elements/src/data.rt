@@ -1,9 +1,11 @@
 //! Numbers, strings and reals in the data of records.
 
-ghost use Rattle.std.specs.Prelude.{◌≡◌, ◌≤◌, ◌+◌, length, slice_index, is_some, IsTrue};
+ghost use Rattle.std.specs.Prelude.{◌≡◌, ◌≤◌, ◌+◌, ℕ, length, slice_index, is_some, IsTrue};
+ghost use Rattle.std.specs.Prelude.{MatchOption};
 ghost use Rattle.gds_elements.specs.Data.{columns_in, coordinate, exactly, is_count, is_one};
 ghost use Rattle.gds_elements.specs.Data.{is_unit, long, number, quarter_of, rows_in, trimmed};
 ghost use Rattle.gds_elements.specs.Data.{unit_in};
+ghost use Rattle.gds_elements.specs.Units.{IsUnit};
 
 use fixed_num::{Real8, dbu_pm};
 
@@ -100,6 +102,16 @@ pub(crate) fn quarter_of(body: &[u8]) -> Option<u8>
     ensures { result ≡ quarter_of body.now }
 {
     Real8::from_bytes(exactly(body)).quarter()
+}
+
+/// The database unit in picometres that the data of UNITS names, the second of its reals being that
+/// unit in metres: rounded to the nearest, halves upwards. `None` exactly where it isn't one of 1 to
+/// 1,000,000. O(1).
+pub fn unit_of(units: &[u8; 16]) -> Option<u32>
+    ensures { MatchOption result ((k : ℕ) → IsUnit (unit_in units.now) k → ⊥) (λ k. IsUnit
+        (unit_in units.now) k) }
+{
+    dbu_pm(&Real8::from_bytes(exactly(&units[8..])))
 }
 
 /// Whether the real in metres is a database unit of 1 to 1,000,000 picometres.

@@ -1,6 +1,8 @@
 //! Laws of the definitions: a byte list has one meaning.
 
 ghost use Rattle.gds_elements.specs.Fillable.{FillableLaw};
+ghost use Rattle.gds_elements.specs.Placeable.{PlaceableLaw};
+ghost use Rattle.gds_elements.specs.Units.{MeasuredLaw};
 ghost use Rattle.gds_elements.specs.Once.{DerivedLaw, NoFaultLaw, OneFaultLaw, OneLibraryLaw};
 
 /// A byte list means one library or has one first fault, never both.
@@ -19,4 +21,14 @@ pub fn derived()
 /// those of four bytes.
 pub fn fillable()
     ensures { FillableLaw }
+{}
+
+/// Each reference of what is accepted has a column and a row.
+pub fn placeable()
+    ensures { PlaceableLaw }
+{}
+
+/// What is accepted has a database unit.
+pub fn measured()
+    ensures { MeasuredLaw }
 {}

@@ -14,8 +14,10 @@ mod points;
 mod reader;
 mod reading;
 mod stream;
+mod taken;
 
-pub use laws::{derived, fillable, one_meaning};
+pub use data::unit_of;
+pub use laws::{derived, fillable, measured, one_meaning, placeable};
 pub use library::{GdsFault, Library, RawCell, RawRef, RawShape, RawText, ShapeForm};
 pub use library_reader::LibraryReader;
 pub use reading::read_library;

@@ -1,24 +1,28 @@
 //! The reader of a library whose bytes come in pieces.
 
-ghost use Rattle.std.specs.Prelude.{◌≡◌, ◌<◌, ◌+◌, ◌^◌, ◌++◌, [], ℕ, None, Some, length, Err, IfOk};
-ghost use Rattle.std.specs.Prelude.{IfErr, IfSome, OnOk};
+ghost use Rattle.std.specs.Prelude.{◌≡◌, ◌<◌, ◌+◌, ◌^◌, ◌++◌, [], ℕ, None, Some, length, map, Err};
+ghost use Rattle.std.specs.Prelude.{IfOk, IfErr, IfSome, OnOk};
+ghost use Rattle.std.specs.List.{All};
 ghost use Rattle.gds_elements.specs.Faults.{Accepts, FirstFault};
+ghost use Rattle.gds_elements.specs.Fillable.{AreFillable};
 ghost use Rattle.gds_elements.specs.Meaning.{Library as ValueOf};
-ghost use Rattle.gds_elements.specs.Reading.{IsFaultOf, OnlyFault, OnlyLibrary, library_seen};
+ghost use Rattle.gds_elements.specs.Reading.{IsFaultOf, OnlyFault, OnlyRest, cell_seen, library_after};
 ghost use Rattle.gds_elements.specs.Pieces.{IsOfMemory, Tells};
+ghost use Rattle.gds_elements.specs.declared.library.GdsFault.TheVariants.{NoMemory};
 
 use crate::fed::{Bytes, add_bytes, no_bytes};
-use crate::library::{GdsFault, Library};
+use crate::library::{GdsFault, Library, RawCell};
 use crate::pieces::Pieces;
 use std::alloc::Global;
 use std::marker::Model;
 use std::snapshot::Snapshot;
 
 /// Reads a library in pieces: the answers don't depend on how the bytes are cut. It holds the
-/// library so far, and of
-/// the bytes those of a record that isn't whole.
+/// library so far, without the structures that it handed over, and of the bytes those of a record
+/// that isn't whole.
 ///
-/// In contracts it is the bytes fed to it and the fault that it answered.
+/// In contracts it is the bytes fed to it, the fault that it answered, and the structures that it
+/// handed over.
 #[derive(Drop)]
 pub struct LibraryReader {
     pieces: Pieces,
@@ -42,6 +46,7 @@ impl LibraryReader {
     pub fn new(alloc: Global) -> LibraryReader
         ensures fed { result.fed ≡ [] }
         ensures fault { result.fault ≡ None }
+        ensures taken { result.taken ≡ [] }
     {
         LibraryReader {
             pieces: Pieces::new(alloc),
@@ -61,18 +66,39 @@ impl LibraryReader {
         ensures keeps { IfErr result (λ fault. self.new.fault ≡ Some fault) }
         ensures sound { OnOk result (self.new.fault ≡ None) }
         ensures again { IfSome self.old.fault (λ fault. result ≡ Err fault) }
+        ensures taken { OnOk result (self.new.taken ≡ self.old.taken) }
     {
         let told = self.pieces.feed(alloc, piece);
         add_bytes(&mut self.fed, piece);
         told
     }
 
-    /// The library of the bytes fed, or their first fault. Want of memory is answered only where a
-    /// piece met it.
+    /// Hands over the structures that are whole and that it didn't hand over before, in order. O(1).
+    pub fn take_cells(&mut self, alloc: Global) -> Vec<RawCell>
+        requires { self.old.fault ≡ None }
+        ensures taken { self.new.taken ≡ self.old.taken ++ map cell_seen result.items }
+        ensures fillable { All AreFillable (map cell_seen result.items) }
+        ensures fed { self.new.fed ≡ self.old.fed }
+        ensures fault { self.new.fault ≡ None }
+    {
+        self.pieces.take_cells(alloc)
+    }
+
+    /// Ends for want of memory, which each later call answers: what was read is let go.
+    pub fn give_up(&mut self, alloc: Global)
+        ensures fed { self.new.fed ≡ self.old.fed }
+        ensures fault { self.new.fault ≡ Some NoMemory }
+    {
+        self.pieces.give_up(alloc);
+    }
+
+    /// The library of the bytes fed, without the structures that were handed over before, or their
+    /// first fault. Want of memory is answered only where a piece met it.
     pub fn finish(self) -> Result<Library, GdsFault>
-        ensures found { IfOk result (λ v. Accepts self.fed (library_seen v)) }
+        ensures found { IfOk result (λ v. Accepts self.fed (library_after self.taken v)) }
         ensures fault { IfErr result (λ e. IsFaultOf self.fed e) }
-        ensures only { (v : ValueOf) → Accepts self.fed v → OnlyLibrary v result }
+        ensures again { IfSome self.fault (λ fault. result ≡ Err fault) }
+        ensures only { (v : ValueOf) → Accepts self.fed v → OnlyRest self.taken v result }
         ensures only_fault { (number index offset : ℕ) → FirstFault self.fed number index offset
             → OnlyFault number index offset result }
         ensures memory { IfErr result (λ e. IsOfMemory e self.fault) }

@@ -1,12 +1,15 @@
 //! A stream that comes in pieces: the records taken, and the bytes of the one that isn't whole.
 
 ghost use Rattle.std.specs.Prelude.{◌≡◌, ◌<◌, ◌+◌, ◌≤◌, ◌^◌, false, ℕ, List, [], ◌++◌, length};
-ghost use Rattle.std.specs.Prelude.{vec_len, IfOk, IfErr, IfSome, None, Some, Err, OnOk, OnErr};
+ghost use Rattle.std.specs.Prelude.{vec_len, map, IfOk, IfErr, IfSome, None, Some, Err, OnOk, OnErr};
+ghost use Rattle.std.specs.List.{All};
 ghost use Rattle.gds_elements.specs.Faults.{Accepts};
-ghost use Rattle.gds_elements.specs.Reading.{library_seen, IsFaultOf};
+ghost use Rattle.gds_elements.specs.Fillable.{AreFillable};
+ghost use Rattle.gds_elements.specs.Reading.{cell_seen, library_after, taken_cells, IsFaultOf};
 ghost use Rattle.gds_elements.specs.Pieces.{Advances, Fed, Goes, IsOfMemory, Tells};
+ghost use Rattle.gds_elements.specs.declared.library.GdsFault.TheVariants.{NoMemory};
 
-use crate::library::{GdsFault, Library};
+use crate::library::{GdsFault, Library, RawCell};
 use crate::reading::TRUNCATED;
 use crate::stream::Stream;
 use std::alloc::Global;
@@ -45,6 +48,7 @@ impl Pieces {
         ensures sound { result.fault ≡ None }
         ensures empty { (result.stream.count ≡ 0) × (result.stream.offset ≡ 0)
             × (vec_len result.held ≡ 0) }
+        ensures taken { taken_cells result.stream.kept.taken.value ≡ [] }
     {
         Pieces {
             held: Vec::new(alloc),
@@ -66,6 +70,7 @@ impl Pieces {
         ensures count { self.new.stream.count ≤ self.new.stream.offset }
         ensures room { OnOk result (self.new.stream.offset + vec_len self.new.held ≤ self.old.stream.offset + vec_len self.old.held + length piece.now) }
         ensures failed { OnErr result (self.new.stream.offset ≤ self.old.stream.offset + vec_len self.old.held + length piece.now) }
+        ensures taken { OnOk result (self.new.stream.kept.taken ≡ self.old.stream.kept.taken) }
     {
         if self.held.is_empty() {
             let at = self.stream.run(alloc, piece)?;
@@ -91,6 +96,7 @@ impl Pieces {
         ensures again { IfSome self.old.fault (λ fault. result ≡ Err fault) }
         ensures count { self.new.stream.count ≤ self.new.stream.offset }
         ensures room { self.new.stream.offset + vec_len self.new.held ≤ self.old.stream.offset + vec_len self.old.held + length piece.now }
+        ensures taken { OnOk result (self.new.stream.kept.taken ≡ self.old.stream.kept.taken) }
     {
         if let Some(fault) = self.fault {
             return Err(fault);
@@ -123,6 +129,7 @@ impl Pieces {
         ensures again { IfSome self.old.fault (λ fault. result ≡ Err fault) }
         ensures count { self.new.stream.count ≤ self.new.stream.offset }
         ensures room { self.new.stream.offset + vec_len self.new.held ≤ self.old.stream.offset + vec_len self.old.held + length piece.now }
+        ensures taken { OnOk result (self.new.stream.kept.taken ≡ self.old.stream.kept.taken) }
     {
         if let Some(fault) = self.fault {
             return Err(fault);
@@ -136,12 +143,39 @@ impl Pieces {
         Ok(())
     }
 
-    /// The library of the bytes fed, or their first fault.
+    /// Hands over the structures that are whole.
+    pub(crate) fn take_cells(&mut self, alloc: Global) -> Vec<RawCell>
+        requires { self.old.fault ≡ None }
+        ensures reading { (fed : List ℕ) → Fed fed self.old → Fed fed self.new }
+        ensures taken { taken_cells self.new.stream.kept.taken.value
+            ≡ taken_cells self.old.stream.kept.taken.value ++ map cell_seen result.items }
+        ensures fillable { (fed : List ℕ) → Fed fed self.old → All AreFillable
+            (map cell_seen result.items) }
+        ensures fault { self.new.fault ≡ None }
+        ensures count { self.new.stream.count ≡ self.old.stream.count }
+        ensures offset { self.new.stream.offset ≡ self.old.stream.offset }
+        ensures held { vec_len self.new.held ≡ vec_len self.old.held }
+    {
+        self.stream.kept.take_cells(alloc)
+    }
+
+    /// Ends for want of memory: what was read is let go.
+    pub(crate) fn give_up(&mut self, alloc: Global)
+        ensures fault { self.new.fault ≡ Some NoMemory }
+        ensures empty { (self.new.stream.count ≡ 0) × (self.new.stream.offset ≡ 0)
+            × (vec_len self.new.held ≡ 0) }
+    {
+        *self = Pieces::new(alloc);
+        self.fault = Some(GdsFault::NoMemory);
+    }
+
+    /// The library of the bytes fed, without the structures handed over, or their first fault.
     pub(crate) fn finish(self) -> Result<Library, GdsFault>
         ensures found { (fed : List ℕ) → Fed fed self → IfOk result (λ v. Accepts fed
-            (library_seen v)) }
+            (library_after (taken_cells self.stream.kept.taken.value) v)) }
         ensures fault { (fed : List ℕ) → Fed fed self → IfErr result (λ e. IsFaultOf fed e) }
         ensures memory { IfErr result (λ e. IsOfMemory e self.fault) }
+        ensures again { IfSome self.fault (λ fault. result ≡ Err fault) }
     {
         let Pieces { stream, fault, .. } = self;
         if let Some(fault) = fault {

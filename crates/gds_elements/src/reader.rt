@@ -1,23 +1,28 @@
 //! What is read so far: the header, the open structure and the open element.
 
 ghost use Rattle.std.specs.Prelude.{◌≡◌, ℕ, List, [], ◌∷◌, ◌++◌, map, replicate, true, false, OnOk};
+ghost use Rattle.std.specs.List.{All};
 ghost use Rattle.gds_records.specs.Records.{Records, NoRecords, ◌▸◌};
+ghost use Rattle.gds_elements.specs.Faults.{Passes};
+ghost use Rattle.gds_elements.specs.Fillable.{AreFillable};
 ghost use Rattle.gds_elements.specs.Data.{exactly, points_of};
 ghost use Rattle.gds_elements.specs.Meaning.{library_of, motion_of, open_cells, refs_by, text_at};
 ghost use Rattle.gds_elements.specs.Meaning.{turn_of};
 ghost use Rattle.gds_elements.specs.Reading.{Gains, Holds, HoldsElement, HoldsHeader};
-ghost use Rattle.gds_elements.specs.Reading.{HoldsStructure, cell_seen, library_seen, rec, refs_in};
-ghost use Rattle.gds_elements.specs.Reading.{shape_seen, shapes_in, texts_in};
+ghost use Rattle.gds_elements.specs.Reading.{HoldsStructure, cell_seen, library_after, rec, refs_in};
+ghost use Rattle.gds_elements.specs.Reading.{shape_seen, shapes_in, taken_cells, texts_in};
 
 use crate::data::{exactly, trimmed};
 use crate::element::{Element, Placing, box_form, path_form};
 use crate::library::{Library, RawCell, RawRef, RawShape, RawText, ShapeForm};
 use crate::points::first_of;
+use crate::taken::{Taken, add_taken, nothing_taken};
 use gds_records::kinds;
 use geo_base::{LayerKey, Point};
 use net_names::Name;
 use std::alloc::{AllocError, Global};
 use std::mem;
+use std::snapshot::Snapshot;
 
 /// What HEADER, BGNLIB, LIBNAME and UNITS say.
 #[derive(Drop)]
@@ -171,25 +176,28 @@ impl Structure {
     }
 }
 
-/// What is read so far.
+/// What is read so far: of the structures that are whole, those that weren't handed over.
 #[derive(Drop)]
 pub struct Reader {
     pub header: Header,
     pub structure: Structure,
     pub element: Element,
     pub cells: Vec<RawCell>,
+    pub taken: Snapshot<Taken>,
 }
 
 impl Reader {
     /// Nothing is read.
     pub(crate) fn new(alloc: Global) -> Reader
-        ensures { Holds NoRecords result }
+        ensures holds { Holds NoRecords result }
+        ensures taken { taken_cells result.taken.value ≡ [] }
     {
         Reader {
             header: Header::new(alloc),
             structure: Structure::new(alloc, [0; 24]),
             element: Element::open(alloc, 0),
             cells: Vec::new(alloc),
+            taken: nothing_taken(),
         }
     }
 
@@ -202,6 +210,7 @@ impl Reader {
             → HoldsElement (before ▸ rec 0x11 form body) self.new.element) }
         ensures rest { OnOk result ((self.new.header ≡ self.old.header) × (self.new.cells
             ≡ self.old.cells)) }
+        ensures taken { OnOk result (self.new.taken ≡ self.old.taken) }
     {
         let element = mem::replace(&mut self.element, Element::open(alloc, 0));
         self.structure.add(element)
@@ -216,6 +225,7 @@ impl Reader {
             ≡ map cell_seen self.old.cells.items ++ open_cells before) }
         ensures rest { OnOk result ((self.new.header ≡ self.old.header) × (self.new.element
             ≡ self.old.element)) }
+        ensures taken { OnOk result (self.new.taken ≡ self.old.taken) }
     {
         let Structure {
             dates,
@@ -246,8 +256,9 @@ impl Reader {
         points: Vec<Point>,
     ) -> Result<(), AllocError>
         requires { kind ≡ 0x10 → points.items ≡ points_of body.now }
-        ensures { OnOk result ((before : Records) (form : ℕ) → Holds before self.old → Holds
+        ensures holds { OnOk result ((before : Records) (form : ℕ) → Holds before self.old → Holds
             (before ▸ rec kind form body.now) self.new) }
+        ensures taken { OnOk result (self.new.taken ≡ self.old.taken) }
     {
         self.header.keep(alloc, kind, body)?;
         if kind == kinds::ENDEL {
@@ -263,9 +274,23 @@ impl Reader {
         Ok(())
     }
 
-    /// What is read, as a library.
+    /// Hands over the structures that are whole.
+    pub(crate) fn take_cells(&mut self, alloc: Global) -> Vec<RawCell>
+        ensures holds { (rs : Records) → Holds rs self.old → Holds rs self.new }
+        ensures taken { taken_cells self.new.taken.value ≡ taken_cells self.old.taken.value
+            ++ map cell_seen result.items }
+        ensures fillable { (rs : Records) → Holds rs self.old → Passes rs → All AreFillable
+            (map cell_seen result.items) }
+    {
+        let cells = mem::replace(&mut self.cells, Vec::new(alloc));
+        add_taken(&mut self.taken, &cells);
+        cells
+    }
+
+    /// What is read, as a library, without the structures handed over.
     pub(crate) fn library(self) -> Library
-        ensures { (rs : Records) → Holds rs self → library_seen result ≡ library_of rs }
+        ensures { (rs : Records) → Holds rs self
+            → library_after (taken_cells self.taken.value) result ≡ library_of rs }
     {
         let Reader { header, cells, .. } = self;
         let Header {

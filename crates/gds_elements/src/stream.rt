@@ -1,10 +1,10 @@
 //! Records taken one after another.
 
-ghost use Rattle.std.specs.Prelude.{◌≡◌, ◌<◌, ◌+◌, ◌-◌, ◌^◌, ◌≤◌, length, IfOk, IfSome, IfNone};
+ghost use Rattle.std.specs.Prelude.{◌≡◌, ◌<◌, ◌+◌, ◌-◌, ◌^◌, ◌≤◌, [], length, IfOk, IfSome, IfNone};
 ghost use Rattle.std.specs.Prelude.{OnOk, OnErr};
 ghost use Rattle.gds_records.specs.Records.{IsRecord, Records, NoRecords};
 ghost use Rattle.gds_elements.specs.Data.{points_of};
-ghost use Rattle.gds_elements.specs.Reading.{GoesOn, Runs, Stands, Steps, Takes, rec};
+ghost use Rattle.gds_elements.specs.Reading.{GoesOn, Runs, Stands, Steps, Takes, rec, taken_cells};
 ghost use Rattle.gds_elements.specs.declared.stream.TakeError.TheVariants.{NoMemory};
 
 use crate::faults::{
@@ -66,6 +66,7 @@ impl Stream {
         ensures start { Stands NoRecords result }
         ensures count { result.count ≡ 0 }
         ensures offset { result.offset ≡ 0 }
+        ensures taken { taken_cells result.kept.taken.value ≡ [] }
     {
         Stream {
             place: Place::Start,
@@ -87,6 +88,7 @@ impl Stream {
         ensures offset { OnOk result (self.new.offset ≡ self.old.offset + (length body.now + 4)) }
         ensures still { OnErr result ((self.new.count ≡ self.old.count) × (self.new.offset
             ≡ self.old.offset)) }
+        ensures taken { OnOk result (self.new.kept.taken ≡ self.old.kept.taken) }
     {
         if is_second_points(self.kept.element.start, self.last, kind) {
             return Err(TakeError::Fault(TOO_MANY_POINTS));
@@ -123,6 +125,7 @@ impl Stream {
             × (self.new.offset ≡ self.old.offset))) }
         ensures failed { OnErr result ((self.new.count ≡ self.old.count) × (self.new.offset
             ≡ self.old.offset)) }
+        ensures taken { OnOk result (self.new.kept.taken ≡ self.old.kept.taken) }
     {
         let (index, offset) = (self.count, self.offset);
         let record = match next_record(bytes, at) {
@@ -165,6 +168,7 @@ impl Stream {
         ensures room { self.new.offset ≤ self.old.offset + length bytes.now }
         ensures reading { (before : Records) → Stands before self.old
             → Runs before bytes.now result self.new }
+        ensures taken { OnOk result (self.new.kept.taken ≡ self.old.kept.taken) }
     {
         let mut at = 0;
         while !self.ended {

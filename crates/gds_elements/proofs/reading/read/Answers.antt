@@ -1,5 +1,7 @@
+use Rattle.std.proofs.Common.{ap, ◌∙◌}
 use Rattle.std.proofs.lemmas.Result.{err_from_is_err_and}
 use Rattle.gds_records.specs.Records.{NoRecords}
+use Rattle.gds_elements.specs.Reading.{taken_cells}
 use Rattle.gds_elements.proofs.Runs.{is_fault, is_cut, is_accepted}
 use Rattle.gds_elements.proofs.reading.read.Goals as goal
 
@@ -14,4 +16,5 @@ returns-then-not-stream-clause-fault c =
 
 pub returns-clause-found : goal.returns-clause-found
 returns-clause-found c =
-    is_accepted c.args.bytes.now c.in_ok-run.field-0 c.run.new.self c.library.result (c.in_ok-run.ensures.reading NoRecords c.new-stream.ensures.start) c.if-not-stream.false c.library.ensures
+    is_accepted c.args.bytes.now c.in_ok-run.field-0 c.run.new.self c.library.result (c.in_ok-run.ensures.reading NoRecords c.new-stream.ensures.start) c.if-not-stream.false
+    (ap (λ s. taken_cells s.value) c.in_ok-run.ensures.taken ∙ c.new-stream.ensures.taken) c.library.ensures

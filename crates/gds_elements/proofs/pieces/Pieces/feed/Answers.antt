@@ -10,7 +10,7 @@ pub loop-rest-preserved : goal.loop-rest-preserved
 loop-rest-preserved c =
     let told = c.in_ok-take.ensures in
     fronted_more c.args.piece.now c.loop-rest.rest.now c.args.self.now c.loop-rest.self c.take.new.self c.next_count-count.result c.loop-rest.invariant c.next_count-count.ensures.within
-    (λ fed h. (told.reading fed h).0) told.sound told.count told.room
+    (λ fed h. (told.reading fed h).0) told.sound told.count told.room told.taken
 
 pub returns-in-Some-clause-reading : goal.returns-in-Some-clause-reading
 returns-in-Some-clause-reading c = λ fed h.

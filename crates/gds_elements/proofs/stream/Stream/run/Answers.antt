@@ -13,6 +13,7 @@ loop-self-preserved c =
       within = on.within;
       count = omega (arith, on.count, on.offset, on.later, was.count);
       offset = omega (arith, on.offset, was.offset);
+      taken = c.in_ok-end.ensures.taken ∙ was.taken;
       reading = λ before h.
           let so_far = was.reading before h in
           let next = told so_far.0 so_far.2 in

@@ -8,6 +8,7 @@ invariant-loop-self l = record {
   within : l.at ≤ length l.bytes;
   count : l.self.count ≤ l.self.offset;
   offset : l.self.offset ≡ l.fn.self.offset + l.at;
+  taken : l.self.kept.taken ≡ l.fn.self.kept.taken;
   reading : (before : Records) → Stands before l.fn.self → (rs : Records) × Reached before rs l.bytes l.at × Stands rs l.self;
 }
 

@@ -1,0 +1,39 @@
+//! What a stream holds as a layout, and why one isn't read.
+
+use cell_graph::{Design, LinkFault};
+use gds_elements::GdsFault;
+use thiserror::Error;
+
+/// What stands before the cells: the data of HEADER, BGNLIB and UNITS, the name of LIBNAME without
+/// trailing NULs, and the database unit of UNITS in picometres, 1 to 1,000,000.
+#[derive(Drop)]
+pub struct Header {
+    pub version: [u8; 2],
+    pub dates: [u8; 24],
+    pub name: Vec<u8>,
+    pub units: [u8; 16],
+    pub unit_pm: u32,
+}
+
+/// A layout: its header, the data of each cell's BGNSTR, and the linked cells. The lists have the
+/// cells in the order of the stream.
+#[derive(Drop)]
+pub struct Layout {
+    pub header: Header,
+    pub cell_dates: Vec<[u8; 24]>,
+    pub design: Design,
+}
+
+/// Why a stream isn't read as a layout. Want of memory is always `NoMemory` and never stands within
+/// another variant.
+#[derive(Debug, Drop, Error)]
+pub enum LayoutFault {
+    /// The first record that doesn't pass.
+    #[error("{0}")]
+    Gds(GdsFault),
+    /// The first fault of the cells' names and references.
+    #[error("{0}")]
+    Link(LinkFault),
+    #[error("out of memory")]
+    NoMemory,
+}
