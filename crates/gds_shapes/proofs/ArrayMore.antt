@@ -1,10 +1,9 @@
 -- An array more in an open cell.
-use Rattle.std.proofs.Common.{◌≡◌, ℕ, ◌+◌, ◌%◌, ◌^◌, ◌<◌, Bool, true, false, cond, List, [], ◌∷◌, ◌++◌, length, Option, Some, None, refl, sym, ap, subst, ◌∙◌, arith, pos}
+use Rattle.std.proofs.Common.{◌≡◌, ℕ, Bool, true, false, cond, List, [], ◌∷◌, ◌++◌, Option, Some, None, refl, sym, ap, subst, ◌∙◌, arith}
 use Rattle.std.specs.Prelude.{◌==◌, ◌||◌, ◌&&◌, not}
 use Rattle.std.specs.Int.{w16, to_be_bytes}
 use Rattle.std.specs.List.{flat_map}
 use Rattle.std.proofs.lemmas.List.{append-nil}
-use Rattle.geo_base.specs.Near.{IsLongPoint}
 use Rattle.geo_base.specs.declared.motion.Turn.{Turn}
 use Rattle.geo_base.specs.declared.shapes.Point.{Point}
 use Rattle.gds_records.specs.Records.{IsRecord, Records, ◌▸◌, followed_by_all}
@@ -12,17 +11,17 @@ use Rattle.gds_records.specs.Kinds.{SREF, AREF, PATH, SNAME, COLROW, XY, ANGLE, 
 use Rattle.gds_grammar.specs.Pattern.{Pattern, after_any}
 use Rattle.gds_grammar.specs.Order.{left_after, is_empty}
 use Rattle.gds_elements.specs.Data as read
-use Rattle.gds_elements.specs.Meaning.{Shape, Ref, Cell, opened, last_kind, columns_of, rows_of, part, text_part, is_mirrored, quarters, turn_of, motion_of, array, open_points, open_refs, refs_by}
-use Rattle.gds_elements.specs.Faults.{content_fault, fault_of, is_second_points}
+use Rattle.gds_elements.specs.Meaning.{Shape, Ref, Cell, opened, columns_of, rows_of, part, text_part, is_mirrored, quarters, turn_of, motion_of, open_points, open_refs, refs_by}
+use Rattle.gds_elements.specs.Faults.{content_fault, fault_of}
 use Rattle.gds_shapes.specs.Data.{bare, filled, string, point_bytes, IsNamed}
 use Rattle.gds_shapes.specs.References.{IsCount, start, column_end, row_end, points, counts, turning, FitsReference}
 use Rattle.gds_shapes.specs.References as r
 use Rattle.gds_shapes.specs.Stream.{Heading, Drawn}
 use Rattle.gds_shapes.proofs.Bodies.{number_bytes, joined}
 use Rattle.gds_shapes.proofs.Context.{inside, InCell, passes_next, goes_on, shut_passes, bare_record, head_more, body_more, head_end, body_end, followed-append}
-use Rattle.gds_shapes.proofs.Turnings.{Named, Placed, IsTurnPlace, turning_more, any_none}
+use Rattle.gds_shapes.proofs.Turnings.{Named, IsTurnPlace, turning_more, any_none}
 use Rattle.gds_shapes.proofs.Steps.{multiple, goes, stepped_back, first_side, second_side, columns_back, rows_back, is_counted}
-use Rattle.gds_shapes.proofs.Placements.{named_left, string_record, name_back, name_plain, points_record, same_point, second_not, shapes_none, texts_none}
+use Rattle.gds_shapes.proofs.Placements.{named_left, string_record, name_back, name_plain, points_record, same_point, shapes_none, texts_none}
 
 aref_named : (h : Heading) (cells : List Cell) (cell : Drawn) (shapes : List Shape) (refs : List Ref) (rs : Records) (name : List ℕ) → IsNamed name → InCell h cells cell shapes refs rs
     → Named h cells cell shapes refs AREF (named_left AREF) (filled name) (rs ▸ bare AREF ▸ string SNAME name)

@@ -10,7 +10,6 @@ use Rattle.gds_grammar.specs.declared.place.Place.TheVariants.{InCell as InCellP
 use Rattle.gds_records.specs.Kinds.{HEADER, BGNLIB, LIBNAME, UNITS, BGNSTR, STRNAME, ENDSTR, ENDEL}
 use Rattle.gds_elements.specs.Meaning.{Shape, Ref, Cell, opened, last_kind, columns_of, rows_of, head_part, cell_part, is_cell_bound, open_shapes, open_texts, open_refs, shapes_of, texts_of, refs_of, cells_of, open_cells}
 use Rattle.gds_elements.specs.Faults.{is_second_points, is_plain, content_fault, fault_of, Passes}
-use Rattle.gds_elements.specs.Reading.{rec}
 use Rattle.gds_shapes.specs.Data.{bare, filled, number}
 use Rattle.gds_shapes.specs.Stream.{Heading, Drawn}
 use Rattle.gds_shapes.proofs.Bodies.{number_bytes}

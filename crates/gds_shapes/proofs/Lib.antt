@@ -11,3 +11,4 @@ pub mod Steps
 pub mod ArrayMore
 pub mod WrittenLaws
 pub mod ReadLaw
+pub mod ReadReferences

@@ -1,29 +1,26 @@
 -- A single placement more in an open cell.
-use Rattle.std.proofs.Common.{◌≡◌, ℕ, suc, ◌+◌, ◌%◌, ◌^◌, ◌<◌, ◌≤◌, ◌*◌, Bool, true, false, cond, List, [], ◌∷◌, ◌++◌, length, Option, Some, None, refl, sym, ap, subst, ◌∙◌, append_assoc, arith, ℤ, pos, negsuc, eq-eqb}
-use Rattle.std.specs.Prelude.{◌==◌, ◌||◌, ◌&&◌, not, IsTrue, map, nat_lt, nat_le, unsigned_abs, int_div, ◌+ℤ◌, ◌-ℤ◌, ◌*ℤ◌}
-use Rattle.std.specs.Int.{w16, w32, to_be_bytes, from_be_bytes}
-use Rattle.std.specs.List.{All, flat_map}
+use Rattle.std.proofs.Common.{◌≡◌, ℕ, ◌+◌, ◌%◌, ◌^◌, ◌<◌, Bool, true, false, List, [], ◌∷◌, ◌++◌, length, None, refl, sym, ap, subst, ◌∙◌, arith, ℤ}
+use Rattle.std.specs.Prelude.{◌==◌, ◌||◌, ◌&&◌, not, IsTrue}
+use Rattle.std.specs.List.{flat_map}
 use Rattle.std.proofs.lemmas.List.{append-nil}
-use Rattle.std.proofs.lemmas.List.Elements.{All-head, All-tail}
-use Rattle.geo_base.specs.Near.{IsLong, IsLongPoint}
+use Rattle.geo_base.specs.Near.{IsLongPoint}
 use Rattle.geo_base.specs.declared.layer.LayerKey.{LayerKey}
 use Rattle.geo_base.specs.declared.motion.Motion.{Motion}
 use Rattle.geo_base.specs.declared.motion.Turn.{Turn}
 use Rattle.geo_base.specs.declared.shapes.Point.{Point}
-use Rattle.gds_records.specs.Records.{Rec, IsBytes, IsRecord, is_listed, Records, ◌▸◌, followed_by_all}
-use Rattle.gds_records.specs.Kinds.{SREF, AREF, TEXT, BOUNDARY, PATH, BOX, SNAME, COLROW, XY, ANGLE, ENDEL, PATHTYPE, WIDTH, BGNEXTN, ENDEXTN}
+use Rattle.gds_records.specs.Records.{IsRecord, is_listed, Records, ◌▸◌, followed_by_all}
+use Rattle.gds_records.specs.Kinds.{SREF, AREF, TEXT, BOUNDARY, PATH, BOX, SNAME, XY, ANGLE, ENDEL, PATHTYPE, WIDTH, BGNEXTN, ENDEXTN}
 use Rattle.gds_grammar.specs.Pattern.{Pattern, after_any}
 use Rattle.gds_grammar.specs.Order.{left_after, is_empty}
 use Rattle.gds_elements.specs.Data as read
-use Rattle.gds_elements.specs.Meaning.{Shape, Text, Ref, Cell, opened, last_kind, columns_of, rows_of, part, text_part, key_of, is_mirrored, quarters, turn_of, motion_of, single, array, open_points, open_shapes, open_texts, open_refs, shapes_by, texts_by, refs_by}
+use Rattle.gds_elements.specs.Meaning.{Shape, Ref, Cell, opened, last_kind, columns_of, rows_of, part, text_part, key_of, is_mirrored, quarters, turn_of, motion_of, single, open_points, open_shapes, open_texts, open_refs, shapes_by, texts_by, refs_by}
 use Rattle.gds_elements.specs.Faults.{content_fault, fault_of, is_second_points}
-use Rattle.gds_elements.specs.Reading.{rec}
-use Rattle.gds_shapes.specs.Data.{bare, filled, string, long_bytes, point_bytes, IsShort, IsNamed}
-use Rattle.gds_shapes.specs.References.{start, points, placement, turning, reference_read, FitsReference}
+use Rattle.gds_shapes.specs.Data.{bare, filled, string, long_bytes, point_bytes, IsNamed}
+use Rattle.gds_shapes.specs.References.{start, points, placement, turning, FitsReference}
 use Rattle.gds_shapes.specs.Stream.{Heading, Drawn}
-use Rattle.gds_shapes.proofs.Bodies.{Filled, string_filled, points_fit, same_long}
-use Rattle.gds_shapes.proofs.Context.{inside, InCell, Head, Body, passes_next, goes_on, shut_passes, bare_record, head_more, body_more, head_end, body_end, followed-append}
-use Rattle.gds_shapes.proofs.Turnings.{Named, Placed, IsTurnPlace, turning_more, any_none}
+use Rattle.gds_shapes.proofs.Bodies.{string_filled, points_fit, same_long}
+use Rattle.gds_shapes.proofs.Context.{inside, InCell, passes_next, goes_on, shut_passes, bare_record, head_more, body_more, head_end, body_end, followed-append}
+use Rattle.gds_shapes.proofs.Turnings.{Named, IsTurnPlace, turning_more, any_none}
 
 pub string_record : (kind : ℕ) (text : List ℕ) → IsTrue (is_listed kind) → IsNamed text → IsRecord (string kind text)
 string_record kind text h n =

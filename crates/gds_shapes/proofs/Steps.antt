@@ -1,16 +1,15 @@
 -- The sides of an array as they are read, and its steps.
-use Rattle.std.proofs.Common.{◌≡◌, ℕ, zero, suc, ◌+◌, ◌*◌, ◌%◌, ◌/◌, ◌^◌, ◌<◌, Bool, true, false, cond, List, [], ◌∷◌, ◌++◌, Option, None, refl, sym, ap, ◌∙◌, arith, ℤ, pos, negsuc}
+use Rattle.std.proofs.Common.{◌≡◌, ℕ, zero, suc, ◌+◌, ◌*◌, ◌%◌, ◌/◌, ◌^◌, ◌<◌, Bool, true, false, cond, [], ◌∷◌, ◌++◌, refl, sym, ap, ◌∙◌, arith, ℤ, pos, negsuc}
 use Rattle.std.specs.Prelude.{◌==◌, ◌&&◌, not, unsigned_abs, int_div, ◌+ℤ◌, ◌-ℤ◌, ◌*ℤ◌, neg_ℤ}
 use Rattle.std.specs.Int.{w16, to_be_bytes}
 use Rattle.std.specs.List.{flat_map}
-use Rattle.std.proofs.lemmas.Bool.{eqb-false}
 use Rattle.std.proofs.lemmas.Int.{ints, unsigned_abs-mul}
 use Rattle.std.proofs.lemmas.Nat.{from_be_bytes-to_be_bytes_2}
 use Rattle.std.proofs.Math.Nat.{mul-div_cancel_left, mul-mod_right}
-use Rattle.geo_base.specs.Near.{IsLong, IsLongPoint}
+use Rattle.geo_base.specs.Near.{IsLongPoint}
 use Rattle.geo_base.specs.declared.shapes.Point.{Point}
-use Rattle.gds_elements.specs.Data.{coordinate, side, goes_into, step, is_count, columns_in, rows_in}
-use Rattle.gds_shapes.specs.Data.{long_bytes, point_bytes}
+use Rattle.gds_elements.specs.Data.{side, goes_into, step, is_count, columns_in, rows_in}
+use Rattle.gds_shapes.specs.Data.{point_bytes}
 use Rattle.gds_shapes.specs.References.{IsCount, stepped}
 use Rattle.gds_shapes.proofs.Bodies.{read_back, same_long}
 

@@ -1,16 +1,16 @@
 -- The open reference's turn, as it is read behind its STRANS and ANGLE.
-use Rattle.std.proofs.Common.{◌≡◌, ℕ, ◌<◌, Bool, true, false, cond, List, [], ◌∷◌, Option, None, refl, sym, ap, subst, ◌∙◌, arith}
+use Rattle.std.proofs.Common.{◌≡◌, ℕ, ◌<◌, Bool, true, false, cond, List, [], ◌∷◌, Option, None, refl, ap, ◌∙◌, arith}
 use Rattle.std.specs.Prelude.{◌==◌, ◌||◌, not, nat_le}
 use Rattle.geo_base.specs.declared.motion.Turn.{Turn}
 use Rattle.geo_base.specs.declared.motion.Turn.TheVariants.{R0, R90, R180, R270, M0, M90, M180, M270}
-use Rattle.gds_records.specs.Records.{Rec, IsBytes, IsRecord, Records, ◌▸◌, followed_by_all}
+use Rattle.gds_records.specs.Records.{IsRecord, Records, ◌▸◌, followed_by_all}
 use Rattle.gds_records.specs.Kinds.{PATH, SREF, AREF, STRANS, ANGLE}
 use Rattle.gds_grammar.specs.Pattern.{Pattern, after_any}
 use Rattle.gds_grammar.specs.Order.{left_after, is_empty}
 use Rattle.gds_elements.specs.Data.{number}
-use Rattle.gds_elements.specs.Meaning.{Shape, Ref, Cell, opened, last_kind, columns_of, rows_of, part, text_part, is_mirrored, quarters, turn_of}
-use Rattle.gds_elements.specs.Faults.{part_fault, turn_fault, content_fault, fault_of}
-use Rattle.gds_shapes.specs.References.{plain, mirrored, degrees_90, degrees_180, degrees_270, strans, angle, turning}
+use Rattle.gds_elements.specs.Meaning.{Shape, Ref, Cell, opened, columns_of, rows_of, part, text_part, is_mirrored, quarters, turn_of}
+use Rattle.gds_elements.specs.Faults.{turn_fault, content_fault, fault_of}
+use Rattle.gds_shapes.specs.References.{strans, angle, turning}
 use Rattle.gds_shapes.specs.Stream.{Heading, Drawn}
 use Rattle.gds_shapes.proofs.Bodies.{nil, cons}
 use Rattle.gds_shapes.proofs.Context.{Head, Body, passes_next, goes_on, head_more, body_more}

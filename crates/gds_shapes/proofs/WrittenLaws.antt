@@ -1,26 +1,24 @@
 -- The written stream is accepted, as the library of the written cells.
 use Rattle.std.proofs.Common.{◌≡◌, ℕ, ◌+◌, ◌%◌, ◌^◌, ◌<◌, Bool, true, false, cond, List, [], ◌∷◌, ◌++◌, length, replicate, Option, Some, None, refl, sym, ap, subst, ◌∙◌, append_assoc, arith, eq-eqb}
-use Rattle.std.specs.Prelude.{◌==◌, not, map, IsTrue}
+use Rattle.std.specs.Prelude.{◌==◌, map, IsTrue}
 use Rattle.std.specs.List.{All, flat_map}
 use Rattle.std.proofs.lemmas.List.{append-nil}
 use Rattle.std.proofs.lemmas.List.Elements.{All-head, All-tail, All-nil, All-cons}
-use Rattle.geo_base.specs.declared.layer.LayerKey.{LayerKey}
-use Rattle.geo_base.specs.declared.shapes.Rect.{Rect}
-use Rattle.gds_records.specs.Records.{Rec, IsRecord, is_listed, record_bytes, Records, NoRecords, ◌▸◌, bytes_of, followed_by_all}
+use Rattle.gds_records.specs.Records.{IsRecord, is_listed, Records, NoRecords, ◌▸◌, bytes_of, followed_by_all}
 use Rattle.gds_records.specs.Kinds.{HEADER, BGNLIB, LIBNAME, UNITS, ENDLIB, BGNSTR, STRNAME, ENDSTR}
 use Rattle.gds_grammar.specs.Pattern.{Pattern, after_any}
 use Rattle.gds_grammar.specs.Order.{left_after}
 use Rattle.gds_elements.specs.Data.{exactly, is_empty, trimmed}
-use Rattle.gds_elements.specs.Meaning.{Shape, Text, Ref, Cell, Library, opened, cells_of, cell_by, open_cells, library_of, single}
-use Rattle.gds_elements.specs.Faults.{Accepts, fault_of, Passes}
+use Rattle.gds_elements.specs.Meaning.{Shape, Text, Ref, Cell, Library, opened, cell_by, open_cells, library_of, single}
+use Rattle.gds_elements.specs.Faults.{fault_of, Passes}
 use Rattle.gds_elements.specs.Reading.{rec}
-use Rattle.gds_shapes.specs.Data.{bare, filled, numbers, string, IsData, IsText, IsNamed}
+use Rattle.gds_shapes.specs.Data.{bare, filled, numbers, string, IsData}
 use Rattle.gds_shapes.specs.References.{is_single, placement, array, reference, reference_read, FitsReference}
-use Rattle.gds_shapes.specs.Stream.{Heading, Drawn, FitsLayer, layer, structure, stream, library_bytes, heading_of, alone}
-use Rattle.gds_shapes.specs.Accepted.{IsHeading, FitsCell, IsRead, WrittenLaw, AcceptedLaw, layer_shapes, cell_read, library_read}
+use Rattle.gds_shapes.specs.Stream.{Heading, Drawn, layer, structure, stream, library_bytes, heading_of, alone}
+use Rattle.gds_shapes.specs.Accepted.{IsHeading, FitsCell, WrittenLaw, AcceptedLaw, layer_shapes, cell_read}
 use Rattle.gds_shapes.proofs.Bodies.{Filled, string_filled}
 use Rattle.gds_shapes.proofs.Joined.{bytes_more}
-use Rattle.gds_shapes.proofs.Context.{inside, between, Head, InCell, Between, passes_next, goes_on, shut_passes, shut_content, bare_record, followed-append}
+use Rattle.gds_shapes.proofs.Context.{inside, between, InCell, Between, passes_next, goes_on, shut_passes, shut_content, bare_record, followed-append}
 use Rattle.gds_shapes.proofs.InCell.{layers_more}
 use Rattle.gds_shapes.proofs.Placements.{string_record as named_record, name_back, name_plain, placement_more}
 use Rattle.gds_shapes.proofs.ArrayMore.{array_more}

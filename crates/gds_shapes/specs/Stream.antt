@@ -11,7 +11,7 @@ use Rattle.gds_records.specs.Kinds.{HEADER, BGNLIB, LIBNAME, UNITS, ENDLIB, BGNS
 use Rattle.gds_records.specs.Kinds.{BOUNDARY, LAYER, DATATYPE, XY, ENDEL}
 use Rattle.gds_elements.specs.Meaning.{Library, Cell, Ref}
 use Rattle.gds_elements.specs.Reading.{rec}
-use Rattle.gds_shapes.specs.Data.{bare, numbers, number, string, point_bytes, IsShort}
+use Rattle.gds_shapes.specs.Data.{bare, numbers, number, string, point_bytes}
 use Rattle.gds_shapes.specs.References.{reference}
 use Rattle.gds_shapes.specs.declared.heading.Heading as code
 use Rattle.gds_shapes.specs.declared.shapes.Written.{Written}

@@ -1,12 +1,9 @@
-use Rattle.std.proofs.Common.{◌≡◌, ◌%◌, ◌≤◌, ◌*◌, ◌++◌, ℕ, List, pos, ap, sym, ◌∙◌, arith, length, subst}
-use Rattle.std.specs.List.{flat_map}
-use Rattle.std.proofs.lemmas.List.{take_all}
+use Rattle.std.proofs.Common.{◌++◌, ℕ, List, pos, ap, ◌∙◌, arith}
 use Rattle.std.proofs.lemmas.Result.{IfOk-equal}
 use Rattle.geo_base.specs.declared.shapes.Point.{Point}
 use Rattle.gds_records.specs.Records.{record_bytes}
 use Rattle.gds_records.specs.Kinds.{XY}
 use Rattle.gds_elements.specs.Reading.{rec}
-use Rattle.gds_shapes.specs.Data.{point_bytes}
 use Rattle.gds_shapes.proofs.PointData.{point_push, all_points, all_length}
 use Rattle.gds_shapes.proofs.references.write_points.Goals as goal
 
