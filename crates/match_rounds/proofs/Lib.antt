@@ -15,3 +15,6 @@ pub mod Ordered
 pub mod Runs
 pub mod Turned
 pub mod PartCounts
+pub mod PortsDone
+pub mod TouchedNodes
+pub mod SpanColours

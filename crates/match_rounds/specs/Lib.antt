@@ -8,3 +8,5 @@ pub mod Start
 pub mod Members
 pub mod Touching
 pub mod Turned
+pub mod Looking
+pub mod Rounds

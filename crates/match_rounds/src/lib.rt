@@ -4,10 +4,12 @@
 mod classes;
 mod counts;
 mod groups;
+mod looking;
 mod marks;
 mod members;
 mod order;
 mod pairs;
+mod rounds;
 mod sorting;
 mod starting;
 mod touching;
