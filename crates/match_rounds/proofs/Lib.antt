@@ -18,3 +18,6 @@ pub mod PartCounts
 pub mod PortsDone
 pub mod TouchedNodes
 pub mod SpanColours
+pub mod Evenness
+pub mod Refining
+pub mod SingledOut

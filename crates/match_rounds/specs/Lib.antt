@@ -10,3 +10,4 @@ pub mod Touching
 pub mod Turned
 pub mod Looking
 pub mod Rounds
+pub mod Refined

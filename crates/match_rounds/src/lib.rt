@@ -9,9 +9,13 @@ mod marks;
 mod members;
 mod order;
 mod pairs;
+mod refinement;
+mod resuming;
 mod rounds;
 mod sorting;
 mod starting;
 mod touching;
 
 pub use classes::Classes;
+pub use refinement::{Verdict, refine};
+pub use resuming::single_out;
