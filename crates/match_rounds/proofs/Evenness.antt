@@ -13,6 +13,7 @@ use Rattle.match_graph.proofs.Placed.{numbers_join}
 use Rattle.match_rounds.specs.declared.classes.Classes.{Classes}
 use Rattle.match_rounds.specs.Counts.{HasUneven}
 use Rattle.match_rounds.specs.Classes.{IsPartition, class_in, class_count, members}
+use Rattle.match_rounds.specs.Sides.{left_members, right_members}
 use Rattle.match_rounds.proofs.Started.{node_below, below_node}
 use Rattle.match_rounds.proofs.Turned.{count_append}
 
@@ -20,14 +21,7 @@ use Rattle.match_rounds.proofs.Turned.{count_append}
 abbrev pub with_alike : Graph → (ℕ → ℕ → Bool) → Web ℕ
 with_alike g same = record { left = (graph_web g).left; right = (graph_web g).right; is = (graph_web g).is; alike = same; near = (graph_web g).near }
 
--- how many nodes of class d are on each side
-abbrev pub left_members : Graph → Classes → ℕ → ℕ
-left_members g c d = count_by (λ a. d == class_in c a) (graph_web g).left
-
-abbrev pub right_members : Graph → Classes → ℕ → ℕ
-right_members g c d = count_by (λ a. d == class_in c a) (graph_web g).right
-
-both_sides : (g : Graph) (c : Classes) (d : ℕ) → left_of g ≤ nodes_of g → members c.class_of.items d (nodes_of g) ≡ left_members g c d + right_members g c d
+pub both_sides : (g : Graph) (c : Classes) (d : ℕ) → left_of g ≤ nodes_of g → members c.class_of.items d (nodes_of g) ≡ left_members g c d + right_members g c d
 both_sides g c d l =
     let n : left_of g + (nodes_of g - left_of g) ≡ nodes_of g = omega arith in
     let z : 0 + left_of g ≡ left_of g = omega arith in
@@ -72,7 +66,7 @@ some_uneven g c h flag =
       subst (λ (d : ℕ). left_members g c d ≢ right_members g c d) (sym class_is) (uneven_class g c u.0 h u.1 u.2),
     )
 
-test_is : (w : Web ℕ) (k : ℕ) (colour : ℕ → ℕ) → AreColours w k colour → (a b : ℕ) → IsNode w a → IsNode w b → agree w k a b ≡ (colour a == colour b)
+pub test_is : (w : Web ℕ) (k : ℕ) (colour : ℕ → ℕ) → AreColours w k colour → (a b : ℕ) → IsNode w a → IsNode w b → agree w k a b ≡ (colour a == colour b)
 test_is w k colour h a b i j = same_test _ _
     (λ t. (Decides-eqb (colour a) (colour b)).1 ((h a b i j).1 t))
     (λ t. (h a b i j).0 ((Decides-eqb (colour a) (colour b)).0 t))

@@ -138,7 +138,7 @@ loose c ends i j n parts are lj below = record {
   once = are.once;
 }
 
-count-map : {X Y : Type 0} (p : Y → Bool) (h : X → Y) (xs : List X) → count_by p (map h xs) ≡ count_by (λ x. p (h x)) xs
+pub count-map : {X Y : Type 0} (p : Y → Bool) (h : X → Y) (xs : List X) → count_by p (map h xs) ≡ count_by (λ x. p (h x)) xs
 count-map p h [] = refl
 count-map p h (x ∷ xs) = count-cons p (h x) (map h xs) ∙ (ap (λ (n : ℕ). cond (p (h x)) 1 0 + n) (count-map p h xs) ∙ sym (count-cons (λ y. p (h y)) x xs))
 

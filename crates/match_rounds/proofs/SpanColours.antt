@@ -77,10 +77,10 @@ any_at (x ∷ xs) zero a l e = either_left (x == a) (list_any (λ y. y == a) xs)
 any_at (x ∷ xs) (suc i) a l e = either_right (x == a) (list_any (λ y. y == a) xs) (any_at xs i a (omega arith) e)
 
 -- where the j-th class stands among the members
-record IsStanding (c : Classes) (span : List ℕ) (d n : ℕ) : Type 0 where
-  low : d < class_count c
-  long : length span ≡ slice_index c.counts.size.items d
-  each : (k : ℕ) → k < slice_index c.counts.size.items d → slice_index span k ≡ slice_index c.order.node_at.items (slice_index c.begin.items d + k)
+pub record IsStanding (c : Classes) (span : List ℕ) (d n : ℕ) : Type 0 where
+  pub low : d < class_count c
+  pub long : length span ≡ slice_index c.counts.size.items d
+  pub each : (k : ℕ) → k < slice_index c.counts.size.items d → slice_index span k ≡ slice_index c.order.node_at.items (slice_index c.begin.items d + k)
 
 standing : (c : Classes) (members ends : List ℕ) (i j n : ℕ) → AreClasses c n → AreListed c.marks → AreMembers c members ends i → i ≡ length c.marks.fresh.items → j < i
     → IsStanding c (span_at members ends j) (fresh_at c j) n
@@ -97,7 +97,7 @@ standing c members ends i j n h listed are ei l =
     }
 
 -- they are all nodes of the class
-all_of : (c : Classes) (span : List ℕ) (d n : ℕ) → AreClasses c n → IsStanding c span d n → AreAllOf (class_in c) d span n
+pub all_of : (c : Classes) (span : List ℕ) (d n : ℕ) → AreClasses c n → IsStanding c span d n → AreAllOf (class_in c) d span n
 all_of c span d n h s =
     let long = s.long in
     let low = s.low in
@@ -151,6 +151,21 @@ members_below c members ends i n h listed are ei k l =
     let fits = h.fits (fresh_at c r.0) (omega arith) in
     subst (λ (x : ℕ). x < n) (sym (s.each (k - start_at ends r.0) (omega arith)) ∙ ap (slice_index members) at)
     (h.placed.node_below (slice_index c.begin.items (fresh_at c r.0) + (k - start_at ends r.0)) (omega arith))
+
+-- so are those that stand at the places of a class
+pub at_places : (c : Classes) (nodes : List ℕ) (d b s n : ℕ) → AreClasses c n → d < class_count c → nodes ≡ c.order.node_at.items → b ≡ slice_index c.begin.items d → s ≡ slice_index c.counts.size.items d
+    → AreAllOf (class_in c) d (take ((b + s) - b) (drop b nodes)) n
+at_places c nodes d b s n h l en eb es =
+    let fits = h.fits d l in
+    let long = h.placed.nodes in
+    let size : (b + s) - b ≡ s = omega arith in
+    let there : length nodes ≡ n = ap length en ∙ long in
+    all_of c (take ((b + s) - b) (drop b nodes)) d n h (record {
+      low = l;
+      long = length-take ((b + s) - b) (drop b nodes) ∙ (let e = length-drop b nodes in omega arith);
+      each = λ k m. get_or-take ((b + s) - b) (drop b nodes) k 0 (omega arith)
+          ∙ (get_or-drop b nodes k 0 ∙ (ap (λ (xs : List ℕ). slice_index xs (b + k)) en ∙ ap (λ (x : ℕ). slice_index c.order.node_at.items (x + k)) eb));
+    })
 
 marked_below : (m : Marks) (d : ℕ) → is_marked m d ≡ true → d < length m.is_fresh.items
 marked_below m d t = below m.is_fresh.items d t

@@ -11,3 +11,4 @@ pub mod Turned
 pub mod Looking
 pub mod Rounds
 pub mod Refined
+pub mod Sides

@@ -9,6 +9,7 @@ mod marks;
 mod members;
 mod order;
 mod pairs;
+mod reading;
 mod refinement;
 mod resuming;
 mod rounds;
