@@ -4,7 +4,7 @@ use Rattle.std.proofs.lemmas.Bool.{cases_lt}
 use Rattle.match_rounds.specs.declared.classes.Classes.{Classes}
 use Rattle.match_rounds.specs.declared.groups.Part.{Part}
 use Rattle.match_rounds.specs.Order.{is_among}
-use Rattle.match_rounds.specs.Classes.{AreClasses, AreAlike, IsPartedOff, KeepsFresh}
+use Rattle.match_rounds.specs.Classes.{AreClasses, AreAlike, IsPartedOff, KeepsFresh, IsGrown}
 use Rattle.match_rounds.specs.Pieces.{entry, IsSameKey, IsNoLaterPart, ArePieces, IsGroup, AreNodesOf, HasCount, HaveOneCount, ArePartedSoFar}
 use Rattle.match_rounds.proofs.Apart.{found, has, parted}
 
@@ -163,3 +163,13 @@ fresh_on old mid new n h g = record {
 
 pub fresh_same : (c : Classes) (n : ℕ) → KeepsFresh c c n
 fresh_same c n = record { kept = λ a b la lb e fa fb. e; older = λ a la fa. fa }
+
+-- no class went on the way
+pub grown_on : (old mid new : Classes) → IsGrown old mid → IsGrown mid new → IsGrown old new
+grown_on old mid new h g =
+    let first = h.count in
+    let second = g.count in
+    record { count = omega arith; same = λ e. g.same (omega arith) ∙ h.same (omega arith) }
+
+pub grown_same : (c : Classes) → IsGrown c c
+grown_same c = record { count = omega arith; same = λ e. refl }

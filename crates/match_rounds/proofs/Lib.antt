@@ -15,3 +15,9 @@ pub mod Ordered
 pub mod Runs
 pub mod Turned
 pub mod PartCounts
+pub mod PortsDone
+pub mod TouchedNodes
+pub mod SpanColours
+pub mod Evenness
+pub mod Refining
+pub mod SingledOut

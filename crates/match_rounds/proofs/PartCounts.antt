@@ -35,7 +35,7 @@ interval q d (x ∷ xs) zero zero l pass only =
     count-cons q x xs ∙ (ap (λ (t : Bool). cond {A = ℕ} t 1 0 + count_by q xs) none ∙ (let e = rest in omega arith))
 
 -- ports of one rank are one
-one_port : (p q : Port) → port_rank p ≡ port_rank q → p ≡ q
+pub one_port : (p q : Port) → port_rank p ≡ port_rank q → p ≡ q
 one_port port.Channel port.Channel e = refl
 one_port port.Gate port.Gate e = refl
 one_port port.Bulk port.Bulk e = refl
@@ -54,7 +54,7 @@ one_port (port.Pin i) port.Gate e = absurd (omega arith)
 one_port (port.Pin i) port.Bulk e = absurd (omega arith)
 
 -- and so are those of one plain port
-one_plain : (p q : Port) → plain_port p ≡ plain_port q → p ≡ q
+pub one_plain : (p q : Port) → plain_port p ≡ plain_port q → p ≡ q
 one_plain port.Channel port.Channel e = refl
 one_plain port.Gate port.Gate e = refl
 one_plain port.Bulk port.Bulk e = refl
@@ -72,8 +72,15 @@ one_plain (port.Pin i) port.Channel e = absurd cc
 one_plain (port.Pin i) port.Gate e = absurd cc
 one_plain (port.Pin i) port.Bulk e = absurd cc
 
+-- what stands between two ends of one port has it too
+pub squeezed : (d f g : End) → IsNoLaterEnd d f → IsNoLaterEnd f g → port_rank g.port ≡ port_rank d.port → port_rank f.port ≡ port_rank d.port
+squeezed d f g (inl a) (inl b) p = absurd (omega arith)
+squeezed d f g (inl a) (inr b) p = let c = b.0 in absurd (omega arith)
+squeezed d f g (inr a) (inl b) p = let c = a.0 in absurd (omega arith)
+squeezed d f g (inr a) (inr b) p = sym a.0
+
 -- an end of the port stands between these places
-in_run : (ends : List End) (from to k : ℕ) → AreInOrder ends → IsPortRun ends from to → IsPortStart ends from → k < length ends → (end_at ends k).port ≡ (end_at ends from).port → (from ≤ k) × (k < to)
+pub in_run : (ends : List End) (from to k : ℕ) → AreInOrder ends → IsPortRun ends from to → IsPortStart ends from → k < length ends → (end_at ends k).port ≡ (end_at ends from).port → (from ≤ k) × (k < to)
 in_run ends from to k order h start lk e = elim (cases_lt k from) [
   | inl l ↦ absurd (start k l e)
   | inr l ↦ elim (cases_lt k to) [
@@ -84,12 +91,6 @@ in_run ends from to k order h start lk e = elim (cases_lt k from) [
         (squeezed (end_at ends from) (end_at ends to) (end_at ends k) (order from to (omega arith) (omega arith)) (order to k m lk) (ap port_rank e))))
   ]
 ]
-  where
-    squeezed : (d f g : End) → IsNoLaterEnd d f → IsNoLaterEnd f g → port_rank g.port ≡ port_rank d.port → port_rank f.port ≡ port_rank d.port
-    squeezed d f g (inl a) (inl b) p = absurd (omega arith)
-    squeezed d f g (inl a) (inr b) p = let c = b.0 in absurd (omega arith)
-    squeezed d f g (inr a) (inl b) p = let c = a.0 in absurd (omega arith)
-    squeezed d f g (inr a) (inr b) p = sym a.0
 
 pub counted : PartLaw
 counted c ends from to p order h start w =

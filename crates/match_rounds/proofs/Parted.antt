@@ -6,7 +6,7 @@ use Rattle.match_laws.specs.Circuits.{numbers_from}
 use Rattle.match_rounds.specs.Order.{StandsAt, whole_of, AreToPull, ArePulled, is_among}
 use Rattle.match_rounds.specs.Counts.{AreFlagged, AreSplit}
 use Rattle.match_rounds.specs.Marks.{AreListed, IsHalved, is_marked}
-use Rattle.match_rounds.specs.Classes.{AreClasses, AreAlike, AreCounted, IsPartition, IsPartedOff, KeepsFresh, class_in, class_count, is_fresh, members}
+use Rattle.match_rounds.specs.Classes.{AreClasses, AreAlike, AreCounted, IsPartition, IsPartedOff, KeepsFresh, class_in, class_count, is_fresh, members, IsGrown}
 use Rattle.match_rounds.specs.declared.classes.Classes.{Classes}
 use Rattle.match_rounds.proofs.Apart.{found, is_it}
 use Rattle.match_rounds.proofs.Split.{IsSplitList, split_at}
@@ -235,6 +235,7 @@ pub record HasParted (old new : Classes) (nodes : List ℕ) (left n : ℕ) : Typ
   pub partition : IsPartition new left n
   pub parted : IsPartedOff old new nodes n
   pub fresh : KeepsFresh old new n
+  pub grown : IsGrown old new
 
 pub finish : (old new : Classes) (nodes before after : List ℕ) (left w begin size fresh l : ℕ) → IsPartition old left (length old.class_of.items) → AreAlike old.class_of.items nodes (length old.class_of.items)
     → before ≡ old.class_of.items → after ≡ new.class_of.items → w ≡ whole_of old.class_of.items nodes → begin ≡ slice_index old.begin.items w → size ≡ slice_index old.counts.size.items w → fresh ≡ class_count old
@@ -267,4 +268,5 @@ finish old new nodes before after left w begin size fresh l h a eb ea ew eg es e
       };
       parted = inl p5.classes;
       fresh = keeps_fresh old new nodes (length old.class_of.items) w l was;
+      grown = (let long = (sizes_of old new nodes (length old.class_of.items) w l was).long in record { count = omega arith; same = λ e. absurd (omega arith) });
     }

@@ -80,7 +80,7 @@ alike_last w (o ∷ gs) g a b =
           both (beq (names w o a) (names w o b)) (alike_under w (gs ++ g ∷ []) a b) here (h.1 (rest, t.1))),
     )
 
-map_last : (gs : List (ℕ × ℕ)) (g : ℕ × ℕ) → map plain_guess (gs ++ g ∷ []) ≡ map plain_guess gs ++ plain_guess g ∷ []
+pub map_last : (gs : List (ℕ × ℕ)) (g : ℕ × ℕ) → map plain_guess (gs ++ g ∷ []) ≡ map plain_guess gs ++ plain_guess g ∷ []
 map_last [] g = refl
 map_last (o ∷ gs) g = ap (λ (xs : List (Guess ℕ)). plain_guess o ∷ xs) (map_last gs g)
 

@@ -21,7 +21,7 @@ split_or true true false h = refl
 split_or true false true h = refl
 split_or true false false h = refl
 
-count_append : {X : Type 0} (p : X → Bool) (xs ys : List X) → count_by p (xs ++ ys) ≡ count_by p xs + count_by p ys
+pub count_append : {X : Type 0} (p : X → Bool) (xs ys : List X) → count_by p (xs ++ ys) ≡ count_by p xs + count_by p ys
 count_append p [] ys = omega arith
 count_append p (x ∷ xs) ys =
     let a = count-cons p x (xs ++ ys) in

@@ -8,3 +8,7 @@ pub mod Start
 pub mod Members
 pub mod Touching
 pub mod Turned
+pub mod Looking
+pub mod Rounds
+pub mod Refined
+pub mod Sides

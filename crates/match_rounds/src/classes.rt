@@ -1,5 +1,5 @@
 ghost use Rattle.std.specs.Prelude.{◌≡◌, ◌<◌, ◌^◌, count_by, length, OnOk, nat_lt};
-ghost use Rattle.match_rounds.specs.Classes.{AreAlike, IsPartedOff, IsPartition, KeepsFresh, node_count};
+ghost use Rattle.match_rounds.specs.Classes.{AreAlike, IsGrown, IsPartedOff, IsPartition, KeepsFresh, class_count, node_count};
 
 use crate::counts::Counts;
 use crate::marks::Marks;
@@ -20,6 +20,13 @@ pub struct Classes {
 }
 
 impl Classes {
+    /// How many classes there are.
+    pub fn count(&self) -> usize
+        ensures { result ≡ class_count self.now }
+    {
+        self.counts.size.len()
+    }
+
     /// Makes these nodes, which are of one class, a class of their own, unless they are all of
     /// their class. It takes time in proportion to
     /// their number.
@@ -29,6 +36,7 @@ impl Classes {
         ensures partition { OnOk result (IsPartition self.new left_count (node_count self.old)) }
         ensures parted { OnOk result (IsPartedOff self.old self.new nodes.now (node_count self.old)) }
         ensures fresh { OnOk result (KeepsFresh self.old self.new (node_count self.old)) }
+        ensures grown { OnOk result (IsGrown self.old self.new) }
     {
         let whole = self.class_of[nodes[0] as usize];
         let size = self.counts.size[whole as usize];

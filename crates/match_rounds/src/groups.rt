@@ -1,5 +1,5 @@
 ghost use Rattle.std.specs.Prelude.{◌<◌, ◌≤◌, length, OnOk};
-ghost use Rattle.match_rounds.specs.Classes.{IsPartition, KeepsFresh, node_count};
+ghost use Rattle.match_rounds.specs.Classes.{IsGrown, IsPartition, KeepsFresh, node_count};
 ghost use Rattle.match_rounds.specs.Pieces.{ArePartedBy, ArePieces, AreNodesOf, IsGroup};
 
 use crate::classes::Classes;
@@ -25,6 +25,7 @@ pub fn part_all(
     ensures partition { OnOk result (IsPartition classes.new left_count (node_count classes.old)) }
     ensures parted { OnOk result (ArePartedBy classes.old.class_of.items classes.new.class_of.items parts.now (length parts.now) (node_count classes.old)) }
     ensures fresh { OnOk result (KeepsFresh classes.old classes.new (node_count classes.old)) }
+    ensures grown { OnOk result (IsGrown classes.old classes.new) }
 {
     let mut i = 0;
     while i < parts.len() {

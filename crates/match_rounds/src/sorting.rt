@@ -1,6 +1,6 @@
 ghost use Rattle.std.specs.Prelude.{length, OnOk};
 ghost use Rattle.std.specs.List.Sorted.{IsPermutation};
-ghost use Rattle.match_rounds.specs.Classes.{IsPartition, KeepsFresh, node_count};
+ghost use Rattle.match_rounds.specs.Classes.{IsGrown, IsPartition, KeepsFresh, node_count};
 ghost use Rattle.match_rounds.specs.Pieces.{ArePartedBy, AreLoose, AreOrdered};
 
 use crate::classes::Classes;
@@ -19,6 +19,7 @@ pub fn part_by(
     ensures partition { OnOk result (IsPartition classes.new left_count (node_count classes.old)) }
     ensures parted { OnOk result (ArePartedBy classes.old.class_of.items classes.new.class_of.items parts.old.items (length parts.old.items) (node_count classes.old)) }
     ensures fresh { OnOk result (KeepsFresh classes.old classes.new (node_count classes.old)) }
+    ensures grown { OnOk result (IsGrown classes.old classes.new) }
 {
     sort_parts(parts);
     part_all(classes, left_count, parts, group)?;

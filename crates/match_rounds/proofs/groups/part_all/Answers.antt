@@ -1,7 +1,7 @@
 use Rattle.std.proofs.Common.{◌≡◌, ℕ, List, length, sym, subst, arith}
 use Rattle.match_rounds.specs.Classes.{AreAlike, IsPartition, IsPartedOff, KeepsFresh, node_count}
 use Rattle.match_rounds.specs.Pieces.{ArePartedBy, AreNodesOf}
-use Rattle.match_rounds.proofs.Grouped.{step, fresh_on, group_alike}
+use Rattle.match_rounds.proofs.Grouped.{step, fresh_on, group_alike, grown_on}
 use Rattle.match_rounds.proofs.groups.part_all.Goals as goal
 
 pub loop-i-preserved : goal.loop-i-preserved
@@ -14,6 +14,7 @@ loop-i-preserved c =
       step c.args.classes.now.class_of.items c.loop-i.classes c.part.new.self c.args.parts.now c.loop-i.i c.group_end-end.result (node_count c.args.classes.now) c.deref.result.now
           c.requires.parts c.group_end-end.ensures nodes c.loop-i.invariant.2 c.loop-i.invariant.0.classes
           (subst (λ (m : ℕ). IsPartedOff c.loop-i.classes c.part.new.self c.deref.result.now m) long c.in_ok-part.ensures.parted),
+      grown_on c.args.classes.now c.loop-i.classes c.part.new.self c.loop-i.invariant.3 c.in_ok-part.ensures.grown,
     )
 
 pub returns-clause-parted : goal.returns-clause-parted

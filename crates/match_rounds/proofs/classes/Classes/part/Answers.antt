@@ -88,3 +88,6 @@ returns-clause-parted c = (finished c (was_read (goal.at.returns-clause-parted c
 
 pub returns-clause-fresh : goal.returns-clause-fresh
 returns-clause-fresh c = (finished c (was_read (goal.at.returns-clause-fresh c).After-len-fresh)).fresh
+
+pub returns-clause-grown : goal.returns-clause-grown
+returns-clause-grown c = (finished c (was_read (goal.at.returns-clause-grown c).After-len-fresh)).grown

@@ -1,0 +1,12 @@
+use Rattle.std.proofs.Common.{◌-◌}
+use Rattle.match_graph.specs.Graph.{nodes_of}
+use Rattle.match_rounds.specs.Classes.{class_count}
+use Rattle.match_rounds.specs.Start.{guessed_web}
+use Rattle.match_rounds.specs.Refined.{AreRoundsSoFar}
+use Rattle.match_rounds.proofs.refinement.refine.Given as goal
+
+abbrev pub invariant-loop-classes : goal.invariant-loop-classes
+invariant-loop-classes l = AreRoundsSoFar l.graph (guessed_web l.graph l.guesses) l.classes l.round
+
+abbrev pub decreases-loop-classes : goal.decreases-loop-classes
+decreases-loop-classes l = nodes_of l.graph - class_count l.classes
