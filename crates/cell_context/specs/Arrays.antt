@@ -1,5 +1,6 @@
 -- Arrays of placements and windows.
-use Rattle.std.specs.Prelude.{◌≡◌, ℕ, ◌<◌, ◌≤◌, ◌^◌, ◌-◌, ℤ, pos, ◌+ℤ◌, ◌-ℤ◌, ◌*ℤ◌, ◌<ℤ◌, ◌≤ℤ◌, Bool, true, false, ◌&&◌, Option, Some, None}
+use Rattle.std.specs.Prelude.{◌≡◌, ℕ, ◌<◌, ◌≤◌, ◌^◌, ◌-◌, ℤ, pos, ◌+ℤ◌, ◌-ℤ◌, ◌*ℤ◌, ◌<ℤ◌, ◌≤ℤ◌}
+use Rattle.std.specs.Prelude.{Bool, true, false, ◌&&◌, Option, Some, None}
 use Rattle.geo_base.specs.Near.{IsWithin}
 use Rattle.geo_base.specs.Rects.{IsRect, has, moved_rect}
 use Rattle.geo_base.specs.Motions.{moved_square}
@@ -14,8 +15,10 @@ use Rattle.cell_context.specs.declared.arrays.Reach.{Reach}
 pub record IsNearArray (p : Place) : Type 0 where
   pub dx : IsWithin (2 ^ 33) p.motion.dx
   pub dy : IsWithin (2 ^ 33) p.motion.dy
-  pub column_x : (column : ℕ) → column < p.columns → IsWithin (2 ^ 32) (pos column *ℤ p.column_step.x)
-  pub column_y : (column : ℕ) → column < p.columns → IsWithin (2 ^ 32) (pos column *ℤ p.column_step.y)
+  pub column_x : (column : ℕ) → column < p.columns
+      → IsWithin (2 ^ 32) (pos column *ℤ p.column_step.x)
+  pub column_y : (column : ℕ) → column < p.columns
+      → IsWithin (2 ^ 32) (pos column *ℤ p.column_step.y)
   pub row_x : (row : ℕ) → row < p.rows → IsWithin (2 ^ 32) (pos row *ℤ p.row_step.x)
   pub row_y : (row : ℕ) → row < p.rows → IsWithin (2 ^ 32) (pos row *ℤ p.row_step.y)
 
@@ -23,8 +26,10 @@ pub record IsNearArray (p : Place) : Type 0 where
 pub record IsCloseArray (p : Place) : Type 0 where
   pub dx : IsWithin (2 ^ 30) p.motion.dx
   pub dy : IsWithin (2 ^ 30) p.motion.dy
-  pub column_x : (column : ℕ) → column < p.columns → IsWithin (2 ^ 31) (pos column *ℤ p.column_step.x)
-  pub column_y : (column : ℕ) → column < p.columns → IsWithin (2 ^ 31) (pos column *ℤ p.column_step.y)
+  pub column_x : (column : ℕ) → column < p.columns
+      → IsWithin (2 ^ 31) (pos column *ℤ p.column_step.x)
+  pub column_y : (column : ℕ) → column < p.columns
+      → IsWithin (2 ^ 31) (pos column *ℤ p.column_step.y)
   pub row_x : (row : ℕ) → row < p.rows → IsWithin (2 ^ 31) (pos row *ℤ p.row_step.x)
   pub row_y : (row : ℕ) → row < p.rows → IsWithin (2 ^ 31) (pos row *ℤ p.row_step.y)
 
@@ -65,7 +70,9 @@ pub record IsNearReach (r : Reach) : Type 0 where
   pub y_low : IsWithin (2 ^ 41) r.y_low
   pub y_high : IsWithin (2 ^ 41) r.y_high
 
--- each element whose image of the hull shares a square with the window has its shift between the numbers
+-- each element whose image of the hull shares a square with the window has its shift between the
+-- numbers
 pub record IsReach (p : Place) (hull window : Rect) (r : Reach) : Type 0 where
   pub near : IsNearReach r
-  pub all : (row column : ℕ) (q : Square) → has hull q ≡ true → has window (moved_square (motion_at p row column) q) ≡ true → MayMeet r p row column
+  pub all : (row column : ℕ) (q : Square) → has hull q ≡ true
+      → has window (moved_square (motion_at p row column) q) ≡ true → MayMeet r p row column

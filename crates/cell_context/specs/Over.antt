@@ -8,12 +8,14 @@ use Rattle.geo_base.specs.declared.shapes.Square.{Square}
 use Rattle.rect_sets.specs.Rects.{covers}
 use Rattle.flat_layout.specs.Layout.{InFlatInput, Some_of}
 use Rattle.cell_graph.specs.declared.cells.Place.{Place}
-use Rattle.cell_graph.specs.Linked.{Linked, IsSound, IsStep, IsFrame, IsInside, HullHas, hull_of, cell_at, own_of, plain, motion_at}
+use Rattle.cell_graph.specs.Linked.{Linked, IsSound, IsStep, IsFrame, IsInside, HullHas, hull_of}
+use Rattle.cell_graph.specs.Linked.{cell_at, own_of, plain, motion_at}
 use Rattle.cell_context.specs.declared.arrays.Visit.{Visit}
 use Rattle.cell_context.specs.Visits.{IsVisited}
 
 -- a flat square of a placed cell comes to q, other than through the reference to be skipped
-pub record IsThrough (d : Linked) (cell : ℕ) (skip : Option ℕ) (key : LayerKey) (q : Square) : Type 0 where
+pub record IsThrough (d : Linked) (cell : ℕ) (skip : Option ℕ) (key : LayerKey)
+    (q : Square) : Type 0 where
   pub index : ℕ
   pub row : ℕ
   pub column : ℕ
@@ -26,11 +28,13 @@ pub record IsThrough (d : Linked) (cell : ℕ) (skip : Option ℕ) (key : LayerK
 
 -- a shape lies over q in the cell, other than through the reference to be skipped
 abbrev pub IsOver : Linked → ℕ → Option ℕ → LayerKey → Square → Type 0
-IsOver d cell skip key q = (covers (own_of (cell_at d cell) key) q ≡ true) ⊎ IsThrough d cell skip key q
+IsOver d cell skip key q =
+    (covers (own_of (cell_at d cell) key) q ≡ true) ⊎ IsThrough d cell skip key q
 
 -- where nothing is skipped these are the flat squares
 abbrev pub OverLaw : Type 0
-OverLaw = (d : Linked) → IsSound d → (cell : ℕ) (key : LayerKey) (q : Square) → IsOver d cell None key q ↔ InFlatInput (plain d) cell key q
+OverLaw = (d : Linked) → IsSound d → (cell : ℕ) (key : LayerKey) (q : Square)
+    → IsOver d cell None key q ↔ InFlatInput (plain d) cell key q
 
 -- a part of a placed cell that reaches into the window
 pub record IsVisit (d : Linked) (cell : ℕ) (skip : Option ℕ) (w : Rect) (v : Visit) : Type 0 where
@@ -49,12 +53,17 @@ pub record IsVisit (d : Linked) (cell : ℕ) (skip : Option ℕ) (w : Rect) (v :
 -- each element's squares that come into the window are visited, of one reference
 abbrev pub AreVisitedOf : Linked → ℕ → ℕ → Place → Rect → List Visit → Type 0
 AreVisitedOf d cell i p w visits = (row column : ℕ) (q : Square) → IsStep d cell i row column p
-    → HullHas (hull_of (cell_at d p.cell)) q → has w (moved_square (motion_at p row column) q) ≡ true → Some_of (IsVisited p row column q) visits
+    → HullHas (hull_of (cell_at d p.cell)) q
+    → has w (moved_square (motion_at p row column) q) ≡ true
+    → Some_of (IsVisited p row column q) visits
 
 -- and of all
 abbrev pub AreVisited : Linked → ℕ → Option ℕ → Rect → List Visit → Type 0
-AreVisited d cell skip w visits = (i row column : ℕ) (p : Place) (q : Square) → IsStep d cell i row column p → (skip ≡ Some i → ⊥)
-    → HullHas (hull_of (cell_at d p.cell)) q → has w (moved_square (motion_at p row column) q) ≡ true → Some_of (IsVisited p row column q) visits
+AreVisited d cell skip w visits =
+    (i row column : ℕ) (p : Place) (q : Square) → IsStep d cell i row column p → (skip ≡ Some i → ⊥)
+    → HullHas (hull_of (cell_at d p.cell)) q
+    → has w (moved_square (motion_at p row column) q) ≡ true
+    → Some_of (IsVisited p row column q) visits
 
 -- a rectangle within the window
 pub record IsPiece (w r : Rect) : Type 0 where

@@ -1,13 +1,15 @@
 // Which placements of a cell reach into a window.
 ghost use Rattle.std.specs.List.{All};
 ghost use Rattle.cell_context.specs.Visits.{IsElementVisit, IsMet, IsFound};
-ghost use Rattle.std.specs.Prelude.{OnOk, IfOk, ◌≡◌, ◌<◌, ◌≤◌, ◌-◌, ◌^◌, ◌&&◌, ℕ, ℤ, pos, ◌+ℤ◌, ◌-ℤ◌, ◌*ℤ◌, ◌≤ℤ◌, ◌<ℤ◌};
+ghost use Rattle.std.specs.Prelude.{OnOk, IfOk, ◌≡◌, ◌<◌, ◌≤◌, ◌-◌, ◌^◌, ◌&&◌, ℕ, ℤ, pos, ◌+ℤ◌};
+ghost use Rattle.std.specs.Prelude.{◌-ℤ◌, ◌*ℤ◌, ◌≤ℤ◌, ◌<ℤ◌};
 ghost use Rattle.geo_base.specs.Near.{IsWithin, IsNearMotion};
 ghost use Rattle.geo_base.specs.Rects.{IsRect, has, moved_rect};
 ghost use Rattle.geo_base.specs.Motions.{moved_square};
 ghost use Rattle.geo_base.specs.declared.shapes.Square.{Square};
 ghost use Rattle.cell_graph.specs.Linked.{IsInside, IsFrame, IsRectWithin, motion_at};
-ghost use Rattle.cell_context.specs.Arrays.{IsNearArray, IsMeet, IsReach, IsNearReach, turn_of, shift_x, shift_y, MayMeet};
+ghost use Rattle.cell_context.specs.Arrays.{IsNearArray, IsMeet, IsReach, IsNearReach, turn_of};
+ghost use Rattle.cell_context.specs.Arrays.{shift_x, shift_y, MayMeet};
 ghost use Rattle.cell_context.specs.Steps.{Includes};
 
 use crate::steps::{Steps, steps_between};
@@ -191,7 +193,8 @@ fn axis(count: u32, step: i64, start: i64, low: i64, high: i64) -> Steps
     requires low { IsWithin (2 ^ 43) low }
     requires high { IsWithin (2 ^ 43) high }
     ensures within { result.to ≤ count }
-    ensures all { (i : ℕ) → i < count → low <ℤ (start +ℤ (pos i *ℤ step)) → (start +ℤ (pos i *ℤ step)) <ℤ high → Includes result i }
+    ensures all { (i : ℕ) → i < count → low <ℤ (start +ℤ (pos i *ℤ step))
+        → (start +ℤ (pos i *ℤ step)) <ℤ high → Includes result i }
 {
     steps_between(count, step, less(low, start), less(high, start))
 }
@@ -208,7 +211,8 @@ fn extent_of(count: u32, step: i64) -> Extent
     requires near { IsWithin (2 ^ 32) (pos (count - 1) *ℤ step) }
     ensures low { IsWithin (2 ^ 33) result.low }
     ensures high { IsWithin (2 ^ 33) result.high }
-    ensures all { (i : ℕ) → i < count → (result.low ≤ℤ (pos i *ℤ step)) × ((pos i *ℤ step) ≤ℤ result.high) }
+    ensures all { (i : ℕ) → i < count → (result.low ≤ℤ (pos i *ℤ step))
+        × ((pos i *ℤ step) ≤ℤ result.high) }
 {
     let far = times(count - 1, step);
     Extent {
@@ -234,7 +238,9 @@ fn wide_axis(count: u32, step: i64, start: i64, low: i64, high: i64, extent: Ext
     requires extent_low { IsWithin (2 ^ 33) extent.low }
     requires extent_high { IsWithin (2 ^ 33) extent.high }
     ensures within { result.to ≤ count }
-    ensures all { (i : ℕ) (z : ℤ) → i < count → extent.low ≤ℤ z → z ≤ℤ extent.high → low <ℤ ((start +ℤ z) +ℤ (pos i *ℤ step)) → ((start +ℤ z) +ℤ (pos i *ℤ step)) <ℤ high → Includes result i }
+    ensures all { (i : ℕ) (z : ℤ) → i < count → extent.low ≤ℤ z → z ≤ℤ extent.high
+        → low <ℤ ((start +ℤ z) +ℤ (pos i *ℤ step)) → ((start +ℤ z) +ℤ (pos i *ℤ step)) <ℤ high
+        → Includes result i }
 {
     axis(
         count,
@@ -251,7 +257,8 @@ fn columns_meeting(place: &Place, reach: &Reach, row: u32) -> Steps
     requires reach { IsNearReach reach.now }
     requires row { row < place.now.rows }
     ensures within { result.to ≤ place.now.columns }
-    ensures all { (column : ℕ) → column < place.now.columns → MayMeet reach.now place.now row column → Includes result column }
+    ensures all { (column : ℕ) → column < place.now.columns → MayMeet reach.now place.now row column
+        → Includes result column }
 {
     let x = start_at(place.motion.dx, row, place.row_step.x);
     let y = start_at(place.motion.dy, row, place.row_step.y);
@@ -267,7 +274,8 @@ fn rows_meeting(place: &Place, reach: &Reach) -> Steps
     requires reach { IsNearReach reach.now }
     requires some { 0 < place.now.columns }
     ensures within { result.to ≤ place.now.rows }
-    ensures all { (row column : ℕ) → row < place.now.rows → column < place.now.columns → MayMeet reach.now place.now row column → Includes result row }
+    ensures all { (row column : ℕ) → row < place.now.rows → column < place.now.columns
+        → MayMeet reach.now place.now row column → Includes result row }
 {
     let columns = place.columns as u32;
     let rows = place.rows as u32;
@@ -308,8 +316,10 @@ fn push_visit(
     requires window { IsRectWithin (2 ^ 39) window.now }
     requires each { All (IsElementVisit place.now hull.now window.now) out.old.items }
     ensures each { OnOk result (All (IsElementVisit place.now hull.now window.now) out.new.items) }
-    ensures found { OnOk result ((q : Square) → IsMet place.now hull.now window.now row column q → IsFound place.now row column q out.new.items) }
-    ensures kept { OnOk result ((r c : ℕ) (q : Square) → IsFound place.now r c q out.old.items → IsFound place.now r c q out.new.items) }
+    ensures found { OnOk result ((q : Square) → IsMet place.now hull.now window.now row column q
+        → IsFound place.now row column q out.new.items) }
+    ensures kept { OnOk result ((r c : ℕ) (q : Square) → IsFound place.now r c q out.old.items
+        → IsFound place.now r c q out.new.items) }
 {
     let motion = motion_at(place, row, column);
     if let Some(part) = meet(&motion.rect(*hull), window) {
@@ -335,7 +345,9 @@ pub fn place_visits(
     requires hull { IsFrame hull.now }
     requires window { IsRectWithin (2 ^ 39) window.now }
     ensures each { IfOk result (λ v. All (IsElementVisit place.now hull.now window.now) v.items) }
-    ensures found { IfOk result (λ v. (row column : ℕ) (q : Square) → row < place.now.rows → column < place.now.columns → IsMet place.now hull.now window.now row column q → IsFound place.now row column q v.items) }
+    ensures found { IfOk result (λ v. (row column : ℕ) (q : Square) → row < place.now.rows
+        → column < place.now.columns → IsMet place.now hull.now window.now row column q
+        → IsFound place.now row column q v.items) }
 {
     let mut out = Vec::new(alloc);
     let reach = reach_of(place, hull, window);

@@ -1,5 +1,6 @@
 // Flat squares of a cell in a window.
-ghost use Rattle.std.specs.Prelude.{slice_get, ◌≡◌, ◌↔◌, ◌||◌, ◌&&◌, ◌<◌, ◌^◌, ℕ, OnOk, IfOk, true, length, Option, Some, None};
+ghost use Rattle.std.specs.Prelude.{slice_get, ◌≡◌, ◌↔◌, ◌||◌, ◌&&◌, ◌<◌, ◌^◌, ℕ, OnOk, IfOk, true};
+ghost use Rattle.std.specs.Prelude.{length, Option, Some, None};
 ghost use Rattle.std.specs.List.{All};
 ghost use Rattle.geo_base.specs.Near.{IsNearMotion, IsNearRect};
 ghost use Rattle.geo_base.specs.Rects.{IsRect, has};
@@ -8,7 +9,8 @@ ghost use Rattle.geo_base.specs.declared.shapes.Square.{Square};
 ghost use Rattle.rect_sets.specs.Rects.{covers};
 ghost use Rattle.flat_layout.specs.Layout.{InFlatInput, Some_of};
 ghost use Rattle.cell_graph.specs.Linked.{IsRectWithin, cell_at, places_at, plain};
-ghost use Rattle.cell_context.specs.Over.{IsOver, IsVisit, AreVisited, AreVisitedOf, IsPiece, OverLaw};
+ghost use Rattle.cell_context.specs.Over.{IsOver, IsVisit, AreVisited, AreVisitedOf, IsPiece};
+ghost use Rattle.cell_context.specs.Over.{OverLaw};
 ghost use Rattle.cell_context.specs.Visits.{IsVisited};
 ghost use Rattle.cell_graph.specs.declared.cells.Place.{Place};
 
@@ -22,7 +24,9 @@ use std::alloc::{AllocError, Global};
 fn push_piece(out: &mut Vec<Rect>, rect: &Rect, window: &Rect) -> Result<(), AllocError>
     requires pieces { All (IsPiece window.now) out.old.items }
     ensures pieces { OnOk result (All (IsPiece window.now) out.new.items) }
-    ensures covers { OnOk result ((q : Square) → covers out.new.items q ≡ (covers out.old.items q || (has rect.now q && has window.now q))) }
+    ensures covers { OnOk result ((q : Square)
+        → covers out.new.items q ≡ (covers out.old.items q
+        || (has rect.now q && has window.now q))) }
 {
     if let Some(piece) = meet(rect, window) {
         out.push(piece)?;
@@ -34,7 +38,9 @@ fn push_piece(out: &mut Vec<Rect>, rect: &Rect, window: &Rect) -> Result<(), All
 fn push_pieces(out: &mut Vec<Rect>, rects: &[Rect], window: &Rect) -> Result<(), AllocError>
     requires pieces { All (IsPiece window.now) out.old.items }
     ensures pieces { OnOk result (All (IsPiece window.now) out.new.items) }
-    ensures covers { OnOk result ((q : Square) → covers out.new.items q ≡ (covers out.old.items q || (covers rects.now q && has window.now q))) }
+    ensures covers { OnOk result ((q : Square)
+        → covers out.new.items q ≡ (covers out.old.items q
+        || (covers rects.now q && has window.now q))) }
 {
     for rect in rects {
         push_piece(out, rect, window)?;
@@ -54,7 +60,10 @@ pub fn push_images(
     requires rects { All IsRect rects.now }
     requires near_rects { All IsNearRect rects.now }
     ensures pieces { OnOk result (All (IsPiece window.now) out.new.items) }
-    ensures covers { OnOk result ((s : Square) → covers out.new.items (moved_square motion.now s) ≡ (covers out.old.items (moved_square motion.now s) || (covers rects.now s && has window.now (moved_square motion.now s)))) }
+    ensures covers { OnOk result ((s : Square)
+        → covers out.new.items (moved_square motion.now s)
+        ≡ (covers out.old.items (moved_square motion.now s)
+        || (covers rects.now s && has window.now (moved_square motion.now s)))) }
 {
     for rect in rects {
         push_piece(out, &motion.rect(*rect), window)?;
@@ -78,8 +87,11 @@ fn push_visits(
     requires window { IsRectWithin (2 ^ 39) window.now }
     requires each { All (IsVisit design.now cell skip window.now) out.old.items }
     ensures each { OnOk result (All (IsVisit design.now cell skip window.now) out.new.items) }
-    ensures found { OnOk result (AreVisitedOf design.now cell index place.now window.now out.new.items) }
-    ensures stay { OnOk result ((row column : ℕ) (p : Place) (q : Square) → Some_of (IsVisited p row column q) out.old.items → Some_of (IsVisited p row column q) out.new.items) }
+    ensures found { OnOk result (AreVisitedOf design.now cell index place.now window.now
+        out.new.items) }
+    ensures stay { OnOk result ((row column : ℕ) (p : Place) (q : Square)
+        → Some_of (IsVisited p row column q) out.old.items
+        → Some_of (IsVisited p row column q) out.new.items) }
 {
     design.sound();
     if let Some(hull) = design.hull(place.cell) {
@@ -89,7 +101,8 @@ fn push_visits(
     Ok(())
 }
 
-/// The elements of a cell's references whose images reach into a window, but for one reference to be skipped.
+/// The elements of a cell's references whose images reach into a window, but for one reference to
+/// be skipped.
 pub fn visits(
     alloc: Global,
     design: &Design,
@@ -111,8 +124,9 @@ pub fn visits(
     Ok(out)
 }
 
-/// Rectangles that cover exactly what lies over the squares of a window in a cell, other than through a reference to be skipped: its own shapes
-/// on the layer and the flat squares of the cells that its other references place.
+/// Rectangles that cover exactly what lies over the squares of a window in a cell, other than
+/// through a reference to be skipped: its own shapes on the layer and the flat squares of the cells
+/// that its other references place.
 pub fn gather(
     alloc: Global,
     design: &Design,
@@ -124,7 +138,8 @@ pub fn gather(
     requires cell { cell < length design.now.cells }
     requires window { IsRectWithin (2 ^ 39) window.now }
     ensures pieces { IfOk result (λ r. All (IsPiece window.now) r.items) }
-    ensures exact { IfOk result (λ r. (q : Square) → (covers r.items q ≡ true) ↔ ((has window.now q ≡ true) × IsOver design.now cell skip key q)) }
+    ensures exact { IfOk result (λ r. (q : Square) → (covers r.items q ≡ true)
+        ↔ ((has window.now q ≡ true) × IsOver design.now cell skip key q)) }
 {
     design.sound();
     let mut out = Vec::new(alloc);
@@ -147,7 +162,8 @@ pub fn collect(
 ) -> Result<RectSet, AllocError>
     requires cell { cell < length design.now.cells }
     requires window { IsRectWithin (2 ^ 39) window.now }
-    ensures { IfOk result (λ r. (q : Square) → (covers r q ≡ true) ↔ ((has window.now q ≡ true) × InFlatInput (plain design.now) cell key q)) }
+    ensures { IfOk result (λ r. (q : Square) → (covers r q ≡ true)
+        ↔ ((has window.now q ≡ true) × InFlatInput (plain design.now) cell key q)) }
 {
     design.sound();
     let rects = gather(alloc, design, cell, key, window, None)?;

@@ -14,7 +14,8 @@ pub struct Steps {
 fn steps_up(count: u32, step: u64, low: i64, high: i64) -> Steps
     requires step { 0 < step }
     ensures within { result.to ≤ count }
-    ensures all { (i : ℕ) → i < count → low <ℤ pos (i * step) → pos (i * step) <ℤ high → Includes result i }
+    ensures all { (i : ℕ) → i < count → low <ℤ pos (i * step) → pos (i * step) <ℤ high
+        → Includes result i }
 {
     let from = if low < 0 {
         0
@@ -39,12 +40,14 @@ fn steps_up(count: u32, step: u64, low: i64, high: i64) -> Steps
     Steps { from, to }
 }
 
-/// The numbers below `count` whose multiples of the step may lie between the two; each such number is among them.
+/// The numbers below `count` whose multiples of the step may lie between the two; each such number
+/// is among them.
 pub fn steps_between(count: u32, step: i64, low: i64, high: i64) -> Steps
     requires low { IsWithin (2 ^ 50) low }
     requires high { IsWithin (2 ^ 50) high }
     ensures within { result.to ≤ count }
-    ensures all { (i : ℕ) → i < count → low <ℤ (pos i *ℤ step) → (pos i *ℤ step) <ℤ high → Includes result i }
+    ensures all { (i : ℕ) → i < count → low <ℤ (pos i *ℤ step) → (pos i *ℤ step) <ℤ high
+        → Includes result i }
 {
     if step > 0 {
         steps_up(count, step.unsigned_abs(), low, high)

@@ -38,6 +38,7 @@ pub record AreFirstTwo (P : ℕ → Type 0) (i j : ℕ) : Type 0 where
 
 -- what the heights are: right where they are below 65, and 65 where there is a chain too long
 pub record AreHeights (R : ℕ → ℕ → Type 0) (heights : List ℕ) : Type 0 where
-  pub height : (i : ℕ) → i < length heights → get_or heights i 0 < 65 → IsHeightOf R i (get_or heights i 0)
+  pub height : (i : ℕ) → i < length heights → get_or heights i 0 < 65
+      → IsHeightOf R i (get_or heights i 0)
   pub low : (i : ℕ) → i < length heights → get_or heights i 0 ≤ 65
   pub deep : (i : ℕ) → i < length heights → get_or heights i 0 ≡ 65 → IsTooDeep R i

@@ -1,5 +1,6 @@
 -- What drafts of cells name: the design, or the first fault.
-use Rattle.std.specs.Prelude.{◌≡◌, ◌⊎◌, ℕ, zero, suc, ◌<◌, ◌≤◌, ◌^◌, ◌≤ℤ◌, List, [], Option, Some, None, length, map, slice_get, slice_index, Result, Ok, Err}
+use Rattle.std.specs.Prelude.{◌≡◌, ◌⊎◌, ℕ, zero, suc, ◌<◌, ◌≤◌, ◌^◌, ◌≤ℤ◌, List, [], Option, Some}
+use Rattle.std.specs.Prelude.{None, length, map, slice_get, slice_index, Result, Ok, Err}
 use Rattle.geo_base.specs.Motions.{moved_point}
 use Rattle.geo_base.specs.Near.{IsWithin}
 use Rattle.geo_base.specs.declared.motion.Motion.{Motion}
@@ -13,7 +14,10 @@ use Rattle.cell_graph.specs.declared.cells.CellPart.{CellPart}
 use Rattle.cell_graph.specs.declared.drafts.DraftRef.{DraftRef}
 use Rattle.cell_graph.specs.declared.drafts.CellDraft.{CellDraft}
 use Rattle.cell_graph.specs.declared.drafts.LinkFault.{LinkFault}
-use Rattle.cell_graph.specs.declared.drafts.LinkFault.TheVariants.{TooManyCells, DuplicateCell, NoSuchCell, Cycle, TooDeep, NoTop, TopUnclear, CoordinateRange, NoMemory}
+use Rattle.cell_graph.specs.declared.drafts.LinkFault.TheVariants.{TooManyCells, DuplicateCell}
+use Rattle.cell_graph.specs.declared.drafts.LinkFault.TheVariants.{NoSuchCell, Cycle, TooDeep}
+use Rattle.cell_graph.specs.declared.drafts.LinkFault.TheVariants.{NoTop, TopUnclear}
+use Rattle.cell_graph.specs.declared.drafts.LinkFault.TheVariants.{CoordinateRange, NoMemory}
 use Rattle.cell_graph.specs.Parts.{Part}
 use Rattle.cell_graph.specs.Chains.{Leads, IsOnCycle, IsTooDeep, IsHeightOf, IsFirst, AreFirstTwo}
 
@@ -87,7 +91,17 @@ HasTwoTops cells (Some name) i j = ⊥
 
 -- the array of a reference, whatever cell it places
 abbrev pub array_of : DraftRef → Reference
-array_of r = record { cell = 0; turn = r.motion.turn; origin = record { x = r.motion.dx; y = r.motion.dy }; columns = r.columns; rows = r.rows; column_step = r.column_step; row_step = r.row_step }
+array_of r = record {
+  cell = 0;
+  turn = r.motion.turn;
+  origin =
+      record { x = r.motion.dx; y = r.motion.dy };
+  columns = r.columns;
+  rows = r.rows;
+  column_step =
+      r.column_step;
+  row_step = r.row_step;
+}
 
 abbrev pub element_motion : DraftRef → ℕ → ℕ → Motion
 element_motion r row column = (place_at (array_of r) row column).motion
@@ -111,17 +125,20 @@ IsCorner r p = ((p.x ≡ r.x1) ⊎ (p.x ≡ r.x2)) × ((p.y ≡ r.y1) ⊎ (p.y �
 abbrev pub IsOrigin : Motion → Point → Type 0
 IsOrigin m p = (p.x ≡ m.dx) × (p.y ≡ m.dy)
 
--- a point of the cell itself: a corner of its own squares, a text's point or the origin of an element
+-- a point of the cell itself: a corner of its own squares, a text's point or the origin of an
+-- element
 abbrev pub IsOwnPoint : List CellDraft → ℕ → Point → Type 0
 IsOwnPoint cells i p =
-    ((c : CellDraft) × (slice_get cells i ≡ Some c) × Some_of (λ l. Some_of (λ r. IsCorner r p) l.set) c.layers.items)
+    ((c : CellDraft) × (slice_get cells i ≡ Some c)
+    × Some_of (λ l. Some_of (λ r. IsCorner r p) l.set) c.layers.items)
     ⊎ ((c : CellDraft) × (slice_get cells i ≡ Some c) × Some_of (λ t. t.at ≡ p) c.texts.items)
     ⊎ ((m : Motion) × (j : ℕ) × IsElementOf cells i m j × IsOrigin m p)
 
 -- a chain of n elements takes such a point of its end to p
 abbrev pub IsPointBy : List CellDraft → ℕ → ℕ → Point → Type 0
 IsPointBy cells zero i p = IsOwnPoint cells i p
-IsPointBy cells (suc n) i p = (m : Motion) × (j : ℕ) × IsElementOf cells i m j × (q : Point) × IsPointBy cells n j q × (moved_point m q ≡ p)
+IsPointBy cells (suc n) i p = (m : Motion) × (j : ℕ) × IsElementOf cells i m j × (q : Point)
+    × IsPointBy cells n j q × (moved_point m q ≡ p)
 
 -- a point that the cell's hull holds
 abbrev pub IsHullPoint : List CellDraft → ℕ → Point → Type 0
@@ -143,10 +160,12 @@ pub record IsLeastRange (P : Point → Type 0) (r : Rect) : Type 0 where
   pub right : (p : Point) × P p × (p.x ≡ r.x2)
   pub high : (p : Point) × P p × (p.y ≡ r.y2)
 
--- a hull with squares is the least range; without, there is no point, or the range has no width or no height
+-- a hull with squares is the least range; without, there is no point, or the range has no width or
+-- no height
 abbrev pub IsHullOf : (Point → Type 0) → Option Rect → Type 0
 IsHullOf P (Some r) = IsLeastRange P r
-IsHullOf P None = ((p : Point) → P p → ⊥) ⊎ ((r : Rect) × IsLeastRange P r × ((r.x1 ≡ r.x2) ⊎ (r.y1 ≡ r.y2)))
+IsHullOf P None =
+    ((p : Point) → P p → ⊥) ⊎ ((r : Rect) × IsLeastRange P r × ((r.x1 ≡ r.x2) ⊎ (r.y1 ≡ r.y2)))
 
 -- the earlier cell by height, then file order
 pub record IsEarlier (cells : List CellDraft) (i j : ℕ) : Type 0 where
@@ -198,11 +217,15 @@ abbrev pub IsFault : List CellDraft → Option (List ℕ) → LinkFault → Type
 IsFault cells top TooManyCells = 2 ^ 14 < length cells
 IsFault cells top (DuplicateCell name) = HasFew cells × IsFirstNamed cells (IsRepeat cells) name
 IsFault cells top (NoSuchCell name) = HasFew cells × HasNoRepeat cells × IsFirstLoose cells name
-IsFault cells top (Cycle name) = HasFew cells × HasNoRepeat cells × HasNoLoose cells × IsFirstNamed cells (IsOnCycle (Refers cells)) name
-IsFault cells top (TooDeep name) = HasFew cells × HasNoRepeat cells × HasNoLoose cells × HasNoCycle cells × IsFirstNamed cells (IsTooDeep (Refers cells)) name
+IsFault cells top (Cycle name) = HasFew cells × HasNoRepeat cells × HasNoLoose cells
+    × IsFirstNamed cells (IsOnCycle (Refers cells)) name
+IsFault cells top (TooDeep name) = HasFew cells × HasNoRepeat cells × HasNoLoose cells
+    × HasNoCycle cells × IsFirstNamed cells (IsTooDeep (Refers cells)) name
 IsFault cells top NoTop = AreSound cells × HasNoTop cells top
-IsFault cells top (TopUnclear one other) = AreSound cells × (i : ℕ) × (j : ℕ) × IsNamed cells one i × IsNamed cells other j × HasTwoTops cells top i j
-IsFault cells top (CoordinateRange name) = AreSound cells × ((i : ℕ) × IsTop cells top i) × IsFirstFar cells name
+IsFault cells top (TopUnclear one other) = AreSound cells × (i : ℕ) × (j : ℕ) × IsNamed cells one i
+    × IsNamed cells other j × HasTwoTops cells top i j
+IsFault cells top (CoordinateRange name) =
+    AreSound cells × ((i : ℕ) × IsTop cells top i) × IsFirstFar cells name
 IsFault cells top NoMemory = Unit {0}
 
 -- a reference resolved
@@ -215,9 +238,11 @@ pub record IsResolved (cells : List CellDraft) (r : DraftRef) (p : Place) : Type
   pub row_step : p.row_step ≡ r.row_step
 
 -- all references in order
-pub record AreAllResolved (cells : List CellDraft) (refs : List DraftRef) (places : List Place) : Type 0 where
+pub record AreAllResolved (cells : List CellDraft) (refs : List DraftRef)
+    (places : List Place) : Type 0 where
   pub count : length places ≡ length refs
-  pub each : (k : ℕ) (r : DraftRef) (p : Place) → slice_get refs k ≡ Some r → slice_get places k ≡ Some p → IsResolved cells r p
+  pub each : (k : ℕ) (r : DraftRef) (p : Place) → slice_get refs k ≡ Some r
+      → slice_get places k ≡ Some p → IsResolved cells r p
 
 -- the cell that a draft becomes
 pub record IsPartOf (cells : List CellDraft) (i : ℕ) (c : CellDraft) (p : CellPart) : Type 0 where
@@ -230,16 +255,20 @@ pub record IsPartOf (cells : List CellDraft) (i : ℕ) (c : CellDraft) (p : Cell
 
 -- the cells that the top reaches, by height and then file order
 pub record IsLinkOrder (cells : List CellDraft) (top : ℕ) (order : List ℕ) : Type 0 where
-  pub reached : (k : ℕ) → k < length order → (n : ℕ) × Leads (Refers cells) top n (slice_index order k)
-  pub all : (n i : ℕ) → Leads (Refers cells) top n i → (k : ℕ) × (k < length order) × (slice_index order k ≡ i)
-  pub rising : (j k : ℕ) → j < k → k < length order → IsEarlier cells (slice_index order j) (slice_index order k)
+  pub reached : (k : ℕ) → k < length order → (n : ℕ)
+      × Leads (Refers cells) top n (slice_index order k)
+  pub all : (n i : ℕ) → Leads (Refers cells) top n i → (k : ℕ) × (k < length order)
+      × (slice_index order k ≡ i)
+  pub rising : (j k : ℕ) → j < k → k < length order
+      → IsEarlier cells (slice_index order j) (slice_index order k)
 
 -- the design that the drafts name
 pub record IsLink (cells : List CellDraft) (top : Option (List ℕ)) (d : Linked) : Type 0 where
   pub sound : AreSound cells
   pub near : HasNoFar cells
   pub count : length d.cells ≡ length cells
-  pub each : (i : ℕ) (c : CellDraft) (p : CellPart) → slice_get cells i ≡ Some c → cell_at d i ≡ Some p → IsPartOf cells i c p
+  pub each : (i : ℕ) (c : CellDraft) (p : CellPart) → slice_get cells i ≡ Some c
+      → cell_at d i ≡ Some p → IsPartOf cells i c p
   pub tops : IsTop cells top d.top
   pub order : IsLinkOrder cells d.top d.order
 
@@ -251,4 +280,5 @@ IsAnswer cells top (Err f) = IsFault cells top f
 -- all references of all cells are resolved
 pub record AreParts (cells : List CellDraft) (parts : List Part) : Type 0 where
   pub count : length parts ≡ length cells
-  pub each : (i : ℕ) (c : CellDraft) (p : Part) → slice_get cells i ≡ Some c → slice_get parts i ≡ Some p → AreAllResolved cells c.refs.items p.items
+  pub each : (i : ℕ) (c : CellDraft) (p : Part) → slice_get cells i ≡ Some c
+      → slice_get parts i ≡ Some p → AreAllResolved cells c.refs.items p.items

@@ -48,16 +48,19 @@ abbrev pub PlacesPoint : List Place → List (Option Bounds) → Point → Type 
 PlacesPoint places found = Among (PlacePoint found) places
 
 abbrev pub CellPoint : CellDraft → List Place → List (Option Bounds) → Point → Type 0
-CellPoint c places found p = (Among (λ l. Among IsCorner l.set) c.layers.items p ⊎ Among (λ t q. t.at ≡ q) c.texts.items p) ⊎ PlacesPoint places found p
+CellPoint c places found p = (Among (λ l. Among IsCorner l.set) c.layers.items p
+    ⊎ Among (λ t q. t.at ≡ q) c.texts.items p) ⊎ PlacesPoint places found p
 
 -- the least bounds of what stands in and below a cell, in range
-pub record IsCellBounds (c : CellDraft) (places : List Place) (found : List (Option Bounds)) (b : Option Bounds) : Type 0 where
+pub record IsCellBounds (c : CellDraft) (places : List Place) (found : List (Option Bounds))
+    (b : Option Bounds) : Type 0 where
   pub least : Widens None (CellPoint c places found) b
   pub near : AreNearIfAny b
 
 -- an element's origin, or those bounds, are out of range
 abbrev pub IsCellFar : CellDraft → List Place → List (Option Bounds) → Type 0
-IsCellFar c places found = HasFar places ⊎ ((b : Option Bounds) × Widens None (CellPoint c places found) b × IsFarAway b)
+IsCellFar c places found =
+    HasFar places ⊎ ((b : Option Bounds) × Widens None (CellPoint c places found) b × IsFarAway b)
 
 -- own sets are lists of rectangles
 abbrev pub AreRects : List OwnLayer → Type 0
@@ -70,7 +73,8 @@ pub record IsBoundsOf (cells : List CellDraft) (i : ℕ) (b : Option Bounds) : T
   pub rects : (c : CellDraft) → slice_get cells i ≡ Some c → AreRects c.layers.items
 
 -- along an order, those of the first n cells
-pub record AreBoundsTo (cells : List CellDraft) (order : List ℕ) (n : ℕ) (found : List (Option Bounds)) : Type 0 where
+pub record AreBoundsTo (cells : List CellDraft) (order : List ℕ) (n : ℕ)
+    (found : List (Option Bounds)) : Type 0 where
   pub count : length found ≡ length cells
   pub near : (i : ℕ) → AreNearIfAny (found_at found i)
   pub each : (k i : ℕ) → k < n → slice_get order k ≡ Some i → IsBoundsOf cells i (found_at found i)

@@ -1,5 +1,6 @@
 -- The cells and the order of a finished design.
-use Rattle.std.specs.Prelude.{◌≡◌, ◌⊎◌, ℕ, ◌<◌, ◌<ℤ◌, ◌≤ℤ◌, List, Option, Some, None, length, slice_get}
+use Rattle.std.specs.Prelude.{◌≡◌, ◌⊎◌, ℕ, ◌<◌, ◌<ℤ◌, ◌≤ℤ◌, List, Option, Some, None, length}
+use Rattle.std.specs.Prelude.{slice_get}
 use Rattle.geo_base.specs.declared.shapes.Rect.{Rect}
 use Rattle.cell_graph.specs.declared.cells.CellPart.{CellPart}
 use Rattle.cell_graph.specs.declared.cells.Place.{Place}
@@ -21,7 +22,8 @@ IsBoundsHull (Some b) None = (b.x2 ≤ℤ b.x1) ⊎ (b.y2 ≤ℤ b.y1)
 IsBoundsHull (Some b) (Some r) = (r ≡ range_of b) × (b.x1 <ℤ b.x2) × (b.y1 <ℤ b.y2)
 
 -- the cell that a draft becomes
-pub record IsMade (c : CellDraft) (places : List Place) (b : Option Bounds) (height : ℕ) (p : CellPart) : Type 0 where
+pub record IsMade (c : CellDraft) (places : List Place) (b : Option Bounds) (height : ℕ)
+    (p : CellPart) : Type 0 where
   pub name_is : p.name ≡ c.name
   pub layers_are : p.layers ≡ c.layers
   pub texts_are : p.texts ≡ c.texts
@@ -30,23 +32,31 @@ pub record IsMade (c : CellDraft) (places : List Place) (b : Option Bounds) (hei
   pub hull_is : IsBoundsHull b p.hull
 
 -- the cells that the first n drafts become
-pub record AreMadeTo (drafts : List CellDraft) (parts : List Part) (bounds : List (Option Bounds)) (heights : List ℕ) (n : ℕ) (cells : List CellPart) : Type 0 where
+pub record AreMadeTo (drafts : List CellDraft) (parts : List Part) (bounds : List (Option Bounds))
+    (heights : List ℕ) (n : ℕ) (cells : List CellPart) : Type 0 where
   pub count : length cells ≡ n
-  pub each : (i : ℕ) (c : CellDraft) (part : Part) (p : CellPart) → slice_get drafts i ≡ Some c → slice_get parts i ≡ Some part → slice_get cells i ≡ Some p
+  pub each : (i : ℕ) (c : CellDraft) (part : Part) (p : CellPart) → slice_get drafts i ≡ Some c
+      → slice_get parts i ≡ Some part → slice_get cells i ≡ Some p
       → IsMade c part.items (found_at bounds i) (height_in heights i) p
 
-abbrev pub AreMade : List CellDraft → List Part → List (Option Bounds) → List ℕ → List CellPart → Type 0
-AreMade drafts parts bounds heights cells = AreMadeTo drafts parts bounds heights (length drafts) cells
+abbrev pub AreMade : List CellDraft → List Part → List (Option Bounds) → List ℕ → List CellPart
+    → Type 0
+AreMade drafts parts bounds heights cells =
+    AreMadeTo drafts parts bounds heights (length drafts) cells
 
 abbrev pub IsFromTop : List Part → ℕ → ℕ → Type 0
 IsFromTop parts top i = (n : ℕ) × Leads (Places parts) top n i
 
 -- the first n cells of an order, but for those that the top doesn't reach
-pub record AreReached (parts : List Part) (top : ℕ) (order : List ℕ) (n : ℕ) (kept : List ℕ) : Type 0 where
+pub record AreReached (parts : List Part) (top : ℕ) (order : List ℕ) (n : ℕ)
+    (kept : List ℕ) : Type 0 where
   pub inside : (j i : ℕ) → slice_get kept j ≡ Some i → IsFromTop parts top i
-  pub all : (k i : ℕ) → k < n → slice_get order k ≡ Some i → IsFromTop parts top i → (j : ℕ) × (slice_get kept j ≡ Some i)
-  pub from : (j i : ℕ) → slice_get kept j ≡ Some i → (k : ℕ) × (k < n) × (slice_get order k ≡ Some i)
-  pub rising : (j k a b : ℕ) → j < k → slice_get kept j ≡ Some a → slice_get kept k ≡ Some b → (m : ℕ) × (l : ℕ) × (m < l) × (slice_get order m ≡ Some a) × (slice_get order l ≡ Some b)
+  pub all : (k i : ℕ) → k < n → slice_get order k ≡ Some i → IsFromTop parts top i → (j : ℕ)
+      × (slice_get kept j ≡ Some i)
+  pub from : (j i : ℕ) → slice_get kept j ≡ Some i → (k : ℕ) × (k < n)
+      × (slice_get order k ≡ Some i)
+  pub rising : (j k a b : ℕ) → j < k → slice_get kept j ≡ Some a → slice_get kept k ≡ Some b
+      → (m : ℕ) × (l : ℕ) × (m < l) × (slice_get order m ≡ Some a) × (slice_get order l ≡ Some b)
 
 -- what is found of the drafts before they become cells; `all` are their numbers by height
 pub record IsExamined (cells : List CellDraft) (top : Option (List ℕ)) (e : Findings) : Type 0 where

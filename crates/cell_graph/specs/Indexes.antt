@@ -15,9 +15,11 @@ abbrev pub sets_of : List OwnLayer → List (List Rect)
 sets_of layers = map (λ l. l.set) layers
 
 -- the spans of the first n references, and the numbers of those that have one
-pub record AreSpansTo (cells : List CellPart) (places : List Place) (n : ℕ) (numbers : List ℕ) (spans : List Rect) : Type 0 where
+pub record AreSpansTo (cells : List CellPart) (places : List Place) (n : ℕ) (numbers : List ℕ)
+    (spans : List Rect) : Type 0 where
   pub count : length spans ≡ length numbers
-  pub each : (j k : ℕ) (r : Rect) → slice_get numbers j ≡ Some k → slice_get spans j ≡ Some r → (k < n) × HasSpan cells places k r
+  pub each : (j k : ℕ) (r : Rect) → slice_get numbers j ≡ Some k → slice_get spans j ≡ Some r
+      → (k < n) × HasSpan cells places k r
   pub all : (k : ℕ) (r : Rect) → k < n → HasSpan cells places k r → IsOn numbers k
   pub ascending : IsStrictlyIncreasing numbers
 
@@ -32,7 +34,8 @@ pub record IsIndexed (cells : List CellPart) (c : CellPart) (x : CellIndex) : Ty
 -- those of the first n cells
 pub record AreIndexedTo (cells : List CellPart) (n : ℕ) (indexes : List CellIndex) : Type 0 where
   pub count : length indexes ≡ n
-  pub each : (i : ℕ) (c : CellPart) (x : CellIndex) → slice_get cells i ≡ Some c → slice_get indexes i ≡ Some x → IsIndexed cells c x
+  pub each : (i : ℕ) (c : CellPart) (x : CellIndex) → slice_get cells i ≡ Some c
+      → slice_get indexes i ≡ Some x → IsIndexed cells c x
 
 abbrev pub AreIndexed : List CellPart → List CellIndex → Type 0
 AreIndexed cells indexes = AreIndexedTo cells (length cells) indexes

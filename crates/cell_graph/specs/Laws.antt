@@ -4,11 +4,13 @@ use Rattle.geo_base.specs.declared.layer.LayerKey.{LayerKey}
 use Rattle.geo_base.specs.declared.shapes.Square.{Square}
 use Rattle.rect_sets.specs.Rects.{covers}
 use Rattle.flat_layout.specs.Layout.{IsOwn, InFlatInput, IsHeight}
-use Rattle.cell_graph.specs.Linked.{Linked, IsSound, plain, cell_at, own_of, hull_of, HullHas, height_at}
+use Rattle.cell_graph.specs.Linked.{Linked, IsSound, plain, cell_at, own_of, hull_of, HullHas}
+use Rattle.cell_graph.specs.Linked.{height_at}
 
 -- own squares are those of the own rectangles
 abbrev pub OwnLaw : Type 0
-OwnLaw = (d : Linked) → IsSound d → (cell : ℕ) (key : LayerKey) (q : Square) → IsOwn (plain d) cell key q ↔ (covers (own_of (cell_at d cell) key) q ≡ true)
+OwnLaw = (d : Linked) → IsSound d → (cell : ℕ) (key : LayerKey) (q : Square)
+    → IsOwn (plain d) cell key q ↔ (covers (own_of (cell_at d cell) key) q ≡ true)
 
 -- no cell stands below itself
 abbrev pub HeightLaw : Type 0
@@ -16,4 +18,5 @@ HeightLaw = (d : Linked) → IsSound d → IsHeight (plain d) (height_at d)
 
 -- flat squares lie in the hull
 abbrev pub HullLaw : Type 0
-HullLaw = (d : Linked) → IsSound d → (cell : ℕ) (key : LayerKey) (q : Square) → InFlatInput (plain d) cell key q → HullHas (hull_of (cell_at d cell)) q
+HullLaw = (d : Linked) → IsSound d → (cell : ℕ) (key : LayerKey) (q : Square)
+    → InFlatInput (plain d) cell key q → HullHas (hull_of (cell_at d cell)) q

@@ -1,5 +1,6 @@
 -- Linked cells as plain values, and the hierarchical layout that they stand for.
-use Rattle.std.specs.Prelude.{◌≡◌, ℕ, ◌<◌, ◌≤◌, ◌^◌, ◌≤ℤ◌, List, [], ◌∷◌, Option, Some, None, map, length, slice_get, slice_index, Bool, true, ◌==◌, ◌&&◌, if◌then◌else◌}
+use Rattle.std.specs.Prelude.{◌≡◌, ℕ, ◌<◌, ◌≤◌, ◌^◌, ◌≤ℤ◌, List, [], ◌∷◌, Option, Some, None, map}
+use Rattle.std.specs.Prelude.{length, slice_get, slice_index, Bool, true, ◌==◌, ◌&&◌, if◌then◌else◌}
 use Rattle.std.specs.List.{All}
 use Rattle.geo_base.specs.Near.{IsWithin}
 use Rattle.geo_base.specs.Rects.{IsRect, has, moved_rect}
@@ -27,7 +28,17 @@ linked_of cells top order = record { cells = cells; top = top; order = order }
 
 -- the reference that stands for an array of placements
 abbrev pub reference : Place → Reference
-reference p = record { cell = p.cell; turn = p.motion.turn; origin = record { x = p.motion.dx; y = p.motion.dy }; columns = p.columns; rows = p.rows; column_step = p.column_step; row_step = p.row_step }
+reference p = record {
+  cell = p.cell;
+  turn = p.motion.turn;
+  origin =
+      record { x = p.motion.dx; y = p.motion.dy };
+  columns = p.columns;
+  rows = p.rows;
+  column_step =
+      p.column_step;
+  row_step = p.row_step;
+}
 
 abbrev pub plain_layer : OwnLayer → flat.Layer
 plain_layer l = record { key = l.key; rects = l.set }
@@ -36,7 +47,13 @@ abbrev pub plain_text : RawText → flat.Text
 plain_text t = record { key = t.key; at = t.at; string = t.text.items }
 
 abbrev pub plain_cell : CellPart → flat.Cell
-plain_cell c = record { name = c.name; layers = map plain_layer c.layers.items; texts = map plain_text c.texts.items; places = places_of (map reference c.places.items) }
+plain_cell c = record {
+  name = c.name;
+  layers = map plain_layer c.layers.items;
+  texts =
+      map plain_text c.texts.items;
+  places = places_of (map reference c.places.items);
+}
 
 -- the plain layout: arrays stand as their placements
 abbrev pub plain : Linked → flat.Design
@@ -94,7 +111,8 @@ pub record IsReference (cells : List CellPart) (c : CellPart) (p : Place) : Type
   pub lower : placed.height < c.height
   pub columns : 0 < p.columns
   pub rows : 0 < p.rows
-  pub elements : (row column : ℕ) → row < p.rows → column < p.columns → IsElement c.hull placed.hull (motion_at p row column)
+  pub elements : (row column : ℕ) → row < p.rows → column < p.columns
+      → IsElement c.hull placed.hull (motion_at p row column)
 
 -- no two entries of a list of layers have one key
 abbrev pub HasNone : LayerKey → List OwnLayer → Type 0
@@ -137,9 +155,12 @@ pub record IsOrder (d : Linked) : Type 0 where
   pub few : length d.order < 2 ^ 32
   pub inside : (k : ℕ) → k < length d.order → slice_index d.order k < length d.cells
   pub reached : (k : ℕ) → k < length d.order → flat.IsReached (plain d) (slice_index d.order k)
-  pub all : (cell : ℕ) → flat.IsReached (plain d) cell → (k : ℕ) × (k < length d.order) × (slice_index d.order k ≡ cell)
-  pub once : (j k : ℕ) → j < length d.order → k < length d.order → slice_index d.order j ≡ slice_index d.order k → j ≡ k
-  pub rising : (j k : ℕ) → j < k → k < length d.order → height_at d (slice_index d.order j) ≤ height_at d (slice_index d.order k)
+  pub all : (cell : ℕ) → flat.IsReached (plain d) cell → (k : ℕ) × (k < length d.order)
+      × (slice_index d.order k ≡ cell)
+  pub once : (j k : ℕ) → j < length d.order → k < length d.order
+      → slice_index d.order j ≡ slice_index d.order k → j ≡ k
+  pub rising : (j k : ℕ) → j < k → k < length d.order
+      → height_at d (slice_index d.order j) ≤ height_at d (slice_index d.order k)
 
 -- each cell's stored hull is the least rectangle that holds what stands in and below it
 pub record HaveHulls (d : Linked) : Type 0 where

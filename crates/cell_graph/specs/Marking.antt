@@ -1,5 +1,6 @@
 -- Marks of cells, and a stack of those whose references aren't followed yet.
-use Rattle.std.specs.Prelude.{◌≡◌, ◌⊎◌, ◌↔◌, ℕ, ◌+◌, ◌<◌, Bool, true, false, List, Some, length, get_or, slice_get, if◌then◌else◌}
+use Rattle.std.specs.Prelude.{◌≡◌, ◌⊎◌, ◌↔◌, ℕ, ◌+◌, ◌<◌, Bool, true, false, List, Some, length}
+use Rattle.std.specs.Prelude.{get_or, slice_get, if◌then◌else◌}
 use Rattle.std.specs.List.{sum_by}
 use Rattle.cell_graph.specs.declared.cells.Place.{Place}
 use Rattle.cell_graph.specs.Chains.{IsBelow}
@@ -19,10 +20,12 @@ unmarked marks = sum_by one_if_free marks
 
 -- one of the first n places has the cell
 abbrev pub IsAmongFirst : List Place → ℕ → ℕ → Type 0
-IsAmongFirst places n j = (k : ℕ) × (p : Place) × (k < n) × (slice_get places k ≡ Some p) × (p.cell ≡ j)
+IsAmongFirst places n j =
+    (k : ℕ) × (p : Place) × (k < n) × (slice_get places k ≡ Some p) × (p.cell ≡ j)
 
 -- cells that were marked newly stand on the stack
-pub record AddsMarks (P : ℕ → Type 0) (marks more : List Bool) (stack higher : List ℕ) : Type 0 where
+pub record AddsMarks (P : ℕ → Type 0) (marks more : List Bool)
+    (stack higher : List ℕ) : Type 0 where
   pub count : length more ≡ length marks
   pub stay : (i : ℕ) → IsMarked marks i → IsMarked more i
   pub here : (i : ℕ) → P i → IsMarked more i
@@ -31,11 +34,14 @@ pub record AddsMarks (P : ℕ → Type 0) (marks more : List Bool) (stack higher
   pub upper : (i : ℕ) → IsOn higher i → IsOn stack i ⊎ P i
   pub size : length higher + unmarked more ≡ length stack + unmarked marks
 
--- a walk from a cell: what is marked is below it, and its references are followed or it stands on the stack
-pub record IsWalk (parts : List Part) (start : ℕ) (marks : List Bool) (stack : List ℕ) : Type 0 where
+-- a walk from a cell: what is marked is below it, and its references are followed or it stands on
+-- the stack
+pub record IsWalk (parts : List Part) (start : ℕ) (marks : List Bool)
+    (stack : List ℕ) : Type 0 where
   pub count : length marks ≡ length parts
   pub below : (i : ℕ) → IsMarked marks i → IsBelow (Places parts) start i
-  pub noted : (i : ℕ) → IsMarked marks i → IsOn stack i ⊎ ((j : ℕ) → Places parts i j → IsMarked marks j)
+  pub noted : (i : ℕ) → IsMarked marks i → IsOn stack i
+      ⊎ ((j : ℕ) → Places parts i j → IsMarked marks j)
   pub first : (j : ℕ) → Places parts start j → IsMarked marks j
   pub stacked : (i : ℕ) → IsOn stack i → IsMarked marks i
 

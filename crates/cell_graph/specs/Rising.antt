@@ -12,11 +12,13 @@ height_in heights i = get_or heights i 0
 
 -- above each placed cell, or at the end
 abbrev pub IsOver : List Place → List ℕ → ℕ → Type 0
-IsOver places heights height = (j : ℕ) → IsAmong places j → (height_in heights j < height) ⊎ (65 ≤ height)
+IsOver places heights height =
+    (j : ℕ) → IsAmong places j → (height_in heights j < height) ⊎ (65 ≤ height)
 
 -- and not more than one above some
 abbrev pub IsJustOver : List Place → List ℕ → ℕ → Type 0
-IsJustOver places heights height = (height ≡ 0) ⊎ ((j : ℕ) × IsAmong places j × (height ≤ height_in heights j + 1))
+IsJustOver places heights height =
+    (height ≡ 0) ⊎ ((j : ℕ) × IsAmong places j × (height ≤ height_in heights j + 1))
 
 -- each height is that of a chain
 pub record AreRising (parts : List Part) (heights : List ℕ) : Type 0 where
@@ -26,10 +28,12 @@ pub record AreRising (parts : List Part) (heights : List ℕ) : Type 0 where
 
 -- these cells stand above those that they place
 abbrev pub AreSettled : List Part → List ℕ → (ℕ → Type 0) → Type 0
-AreSettled parts heights P = (i j : ℕ) → P i → Places parts i j → (height_in heights j < height_in heights i) ⊎ (65 ≤ height_in heights i)
+AreSettled parts heights P = (i j : ℕ) → P i → Places parts i j
+    → (height_in heights j < height_in heights i) ⊎ (65 ≤ height_in heights i)
 
 -- along an order, the first n stand above those that they place
-pub record AreSettledTo (parts : List Part) (order : List ℕ) (n : ℕ) (heights : List ℕ) : Type 0 where
+pub record AreSettledTo (parts : List Part) (order : List ℕ) (n : ℕ)
+    (heights : List ℕ) : Type 0 where
   pub rising : AreRising parts heights
   pub settled : AreSettled parts heights (λ i. IsListed i (take n order))
 

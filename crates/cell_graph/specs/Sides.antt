@@ -1,5 +1,6 @@
 -- The four sides of bounds, each as a least number.
-use Rattle.std.specs.Prelude.{◌≡◌, ◌⊎◌, ℕ, ◌<◌, ◌^◌, ℤ, pos, ◌-ℤ◌, ◌≤ℤ◌, List, Option, Some, None, slice_get}
+use Rattle.std.specs.Prelude.{◌≡◌, ◌⊎◌, ℕ, ◌<◌, ◌^◌, ℤ, pos, ◌-ℤ◌, ◌≤ℤ◌, List, Option, Some, None}
+use Rattle.std.specs.Prelude.{slice_get}
 use Rattle.geo_base.specs.Near.{IsWithin}
 use Rattle.geo_base.specs.declared.shapes.Point.{Point}
 use Rattle.cell_graph.specs.declared.bounds.Bounds.{Bounds}
@@ -36,7 +37,8 @@ IsSideOf s (Some b) z = side_of s b ≡ z
 pub record Widens (old : Option Bounds) (Q : Point → Type 0) (new : Option Bounds) : Type 0 where
   pub kept : (p : Point) → Holds old p → Holds new p
   pub holds : (p : Point) → Q p → Holds new p
-  pub sides : (s : Side) (b : Bounds) → new ≡ Some b → IsSideOf s old (side_of s b) ⊎ ((q : Point) × Q q × (value s q ≡ side_of s b))
+  pub sides : (s : Side) (b : Bounds) → new ≡ Some b → IsSideOf s old (side_of s b)
+      ⊎ ((q : Point) × Q q × (value s q ≡ side_of s b))
 
 -- one of the first n items has the point
 abbrev pub AmongFirst : {A : Type 0} → (A → Point → Type 0) → List A → ℕ → Point → Type 0

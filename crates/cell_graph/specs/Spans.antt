@@ -1,5 +1,6 @@
 -- Spans of references, and what a window finds by them.
-use Rattle.std.specs.Prelude.{◌≡◌, ◌⊎◌, ◌↔◌, ℕ, ◌<◌, ◌+ℤ◌, List, Option, Some, None, slice_get, Contains}
+use Rattle.std.specs.Prelude.{◌≡◌, ◌⊎◌, ◌↔◌, ℕ, ◌<◌, ◌+ℤ◌, List, Option, Some, None, slice_get}
+use Rattle.std.specs.Prelude.{Contains}
 use Rattle.std.specs.List.Sorted.{IsStrictlyIncreasing}
 use Rattle.geo_base.specs.Rects.{moved_rect}
 use Rattle.geo_base.specs.declared.shapes.Rect.{Rect}
@@ -12,11 +13,14 @@ use Rattle.cell_graph.specs.Linked.{Linked, IsInside, motion_at, hull_of, cell_a
 
 -- some element's image of the hull has P
 abbrev pub SomeImage : Place → Rect → (Rect → Type 0) → Type 0
-SomeImage place hull P = (row : ℕ) × (column : ℕ) × (row < place.rows) × (column < place.columns) × P (moved_rect (motion_at place row column) hull)
+SomeImage place hull P = (row : ℕ) × (column : ℕ) × (row < place.rows) × (column < place.columns)
+    × P (moved_rect (motion_at place row column) hull)
 
--- the span of a reference: the least rectangle that holds the images of the placed cell's hull by all elements
+-- the span of a reference: the least rectangle that holds the images of the placed cell's hull by
+-- all elements
 pub record IsSpan (place : Place) (hull r : Rect) : Type 0 where
-  pub holds : (row column : ℕ) → row < place.rows → column < place.columns → IsInside (moved_rect (motion_at place row column) hull) r
+  pub holds : (row column : ℕ) → row < place.rows → column < place.columns
+      → IsInside (moved_rect (motion_at place row column) hull) r
   pub left : SomeImage place hull (λ s. s.x1 ≡ r.x1)
   pub low : SomeImage place hull (λ s. s.y1 ≡ r.y1)
   pub right : SomeImage place hull (λ s. s.x2 ≡ r.x2)
@@ -44,7 +48,8 @@ pub record HasSpan (cells : List CellPart) (places : List Place) (k : ℕ) (r : 
 
 -- the span of the cell's k-th reference shares a square with the window
 abbrev pub IsPlaceIn : Linked → ℕ → Rect → ℕ → Type 0
-IsPlaceIn d cell w k = (r : Rect) × HasSpan d.cells (places_at (cell_at d cell)) k r × ShareSquare r w
+IsPlaceIn d cell w k =
+    (r : Rect) × HasSpan d.cells (places_at (cell_at d cell)) k r × ShareSquare r w
 
 -- exactly these references, ascending
 pub record ArePlacesIn (d : Linked) (cell : ℕ) (w : Rect) (found : List ℕ) : Type 0 where

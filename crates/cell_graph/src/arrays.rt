@@ -1,7 +1,10 @@
-//! The bounds of all elements of an array, by the ranges of their origins: nothing is done for each element.
-ghost use Rattle.std.specs.Prelude.{◌≡◌, ◌↔◌, ◌<◌, ◌≤◌, ◌≤ℤ◌, ◌^◌, ◌+ℤ◌, ◌*ℤ◌, pos, true, None, Some, MatchOption};
+//! The bounds of all elements of an array, by the ranges of their origins: nothing is done for each
+//! element.
+ghost use Rattle.std.specs.Prelude.{◌≡◌, ◌↔◌, ◌<◌, ◌≤◌, ◌≤ℤ◌, ◌^◌, ◌+ℤ◌, ◌*ℤ◌, pos, true, None};
+ghost use Rattle.std.specs.Prelude.{Some, MatchOption};
 ghost use Rattle.geo_base.specs.Near.{IsWithin};
-ghost use Rattle.cell_graph.specs.Arrays.{IsReachOr, AreOriginsOr, TurnedPoint, ArrayPoint, HasFarOrigin, AreOriginsOf, IsNearInterval, IsSpread};
+ghost use Rattle.cell_graph.specs.Arrays.{IsReachOr, AreOriginsOr, TurnedPoint, ArrayPoint};
+ghost use Rattle.cell_graph.specs.Arrays.{HasFarOrigin, AreOriginsOf, IsNearInterval, IsSpread};
 ghost use Rattle.cell_graph.specs.Sides.{IsCornerPoint, Widens, AreNear, AreNearIfAny};
 
 use crate::bounds::{Bounds, with_corners, with_point};
@@ -37,7 +40,8 @@ fn times(count: u16, step: i64) -> i64
     count as i64 * step
 }
 
-// The range of the first multiples of a step, of which there are so many; none where two of them are too far apart.
+// The range of the first multiples of a step, of which there are so many; none where two of them
+// are too far apart.
 fn reach(step: i64, count: u16) -> Option<Interval>
     requires { 0 < count }
     ensures { IsReachOr step count result }
@@ -146,13 +150,15 @@ fn spread(b: Bounds, x: Interval, y: Interval) -> Bounds
     }
 }
 
-/// The bounds with the origins of all elements of an array and their images of the placed cell's bounds; none where an
-/// origin is out of range. It takes the same time for every number of elements.
+/// The bounds with the origins of all elements of an array and their images of the placed cell's
+/// bounds; none where an origin is out of range. It takes the same time for every number of
+/// elements.
 pub fn with_array(bounds: Option<Bounds>, inner: Option<Bounds>, place: &Place) -> Option<Bounds>
     requires rows { 0 < place.now.rows }
     requires columns { 0 < place.now.columns }
     requires near { AreNearIfAny inner }
-    ensures { MatchOption result (HasFarOrigin place.now) (λ b. Widens bounds (ArrayPoint place.now (IsCornerPoint inner)) (Some b)) }
+    ensures { MatchOption result (HasFarOrigin place.now)
+        (λ b. Widens bounds (ArrayPoint place.now (IsCornerPoint inner)) (Some b)) }
 {
     let Some(origins) = origins_of(place) else {
         return None;

@@ -27,7 +27,8 @@ pub struct RawText {
     pub text: Vec<u8>,
 }
 
-/// A reference to a cell: an array of placements. A single one has one column, one row and steps of 0.
+/// A reference to a cell: an array of placements. A single one has one column, one row and steps of
+/// 0.
 #[derive(Clone, Copy, Debug)]
 pub struct Place {
     pub cell: u32,

@@ -1,8 +1,10 @@
 //! Which cells stand below themselves, and how high all stand; both linear in the references.
-ghost use Rattle.std.specs.Prelude.{◌≡◌, ◌<◌, ◌≤◌, ℕ, length, take, map, List, Option, IfOk, IfErr, OnOk};
+ghost use Rattle.std.specs.Prelude.{◌≡◌, ◌<◌, ◌≤◌, ℕ, length, take, map, List, Option, IfOk, IfErr};
+ghost use Rattle.std.specs.Prelude.{OnOk};
 ghost use Rattle.call_order.specs.Order.{lists, IsCallOrder};
 ghost use Rattle.cell_graph.specs.Chains.{AreHeights, IsTooDeep};
-ghost use Rattle.cell_graph.specs.Drafts.{HasFew, HasNoRepeat, HasNoCycle, AreParts, AreSound, IsFault};
+ghost use Rattle.cell_graph.specs.Drafts.{HasFew, HasNoRepeat, HasNoCycle, AreParts, AreSound};
+ghost use Rattle.cell_graph.specs.Drafts.{IsFault};
 ghost use Rattle.cell_graph.specs.Firsts.{IsFirstOr};
 ghost use Rattle.cell_graph.specs.Parts.{AreResolved, Places, called};
 ghost use Rattle.cell_graph.specs.Rising.{HaveHeights, height_in};
@@ -64,8 +66,8 @@ fn first_deep(heights: &[u32]) -> Option<usize>
     None
 }
 
-/// The heights of all cells; or the first that stands below itself, else the first below which a chain has more than 64
-/// references.
+/// The heights of all cells; or the first that stands below itself, else the first below which a
+/// chain has more than 64 references.
 pub fn sound_heights(
     alloc: Global,
     cells: &[CellDraft],

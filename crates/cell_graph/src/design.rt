@@ -1,6 +1,7 @@
 ghost use Rattle.std.specs.Prelude.{◌≡◌, ◌<◌, ℕ, length, [], Some, IfOk};
 ghost use Rattle.tile_index.specs.Windows.{ArePositions};
-ghost use Rattle.cell_graph.specs.Linked.{own_rects, own_of, cell_at, hull_of, places_at, linked_of, IsSound};
+ghost use Rattle.cell_graph.specs.Linked.{own_rects, own_of, cell_at, hull_of, places_at};
+ghost use Rattle.cell_graph.specs.Linked.{linked_of, IsSound};
 ghost use Rattle.cell_graph.specs.Spans.{ArePlacesIn};
 ghost use Rattle.cell_graph.specs.Laws.{OwnLaw, HeightLaw, HullLaw};
 ghost use Rattle.cell_graph.specs.declared.cells.CellPart.{CellPart};
@@ -13,7 +14,8 @@ use rect_sets::RectSet;
 use std::alloc::{AllocError, Global};
 use std::marker::Model;
 
-/// Linked cells: each reference names a cell, no cell stands below itself, and hulls hold what is below.
+/// Linked cells: each reference names a cell, no cell stands below itself, and hulls hold what is
+/// below.
 #[derive(Drop)]
 pub struct Design {
     cells: Vec<CellPart>,
@@ -144,10 +146,10 @@ impl Design {
         &self.cells[cell as usize].places
     }
 
-    /// The positions in `places(cell)` of the references whose span shares a square with the window,
-    /// ascending. The span is the least rectangle that holds the images of the placed cell's hull by
-    /// all elements of the array; where that cell has no hull, there is none. About O(log n + k log k)
-    /// for k of n references.
+    /// The positions in `places(cell)` of the references whose span shares a square with the
+    /// window, ascending. The span is the least rectangle that holds the images of the placed
+    /// cell's hull by all elements of the array; where that cell has no hull, there is none. About
+    /// O(log n + k log k) for k of n references.
     pub fn places_in(&self, alloc: Global, cell: u32, w: Rect) -> Result<Vec<u32>, AllocError>
         requires { cell < length self.now.cells }
         ensures { IfOk result (λ v. ArePlacesIn self.now cell w v.items) }

@@ -8,8 +8,8 @@ use net_names::Name;
 use std::alloc::AllocError;
 use thiserror::Error;
 
-/// A reference by name (SREF and AREF of the GDSII Stream Format): an array of placements, in database units. A single
-/// placement has one column, one row and steps of 0.
+/// A reference by name (SREF and AREF of the GDSII Stream Format): an array of placements, in
+/// database units. A single placement has one column, one row and steps of 0.
 #[derive(Drop)]
 pub struct DraftRef {
     pub cell: Name,
@@ -29,7 +29,8 @@ pub struct CellDraft {
     pub refs: Vec<DraftRef>,
 }
 
-/// Why cells can't be linked. The tests come in the order of the variants; the first that finds something gives the fault.
+/// Why cells can't be linked. The tests come in the order of the variants; the first that finds
+/// something gives the fault.
 #[derive(Debug, Drop, Error)]
 pub enum LinkFault {
     #[error("more cells than 16384")]

@@ -1,9 +1,12 @@
 //! The bounds of all cells, found from below.
-ghost use Rattle.std.specs.Prelude.{◌≡◌, ◌<◌, ℕ, length, replicate, slice_get, List, Option, Some, None, IfOk, IfErr, MatchOption};
+ghost use Rattle.std.specs.Prelude.{◌≡◌, ◌<◌, ℕ, length, replicate, slice_get, List, Option, Some};
+ghost use Rattle.std.specs.Prelude.{None, IfOk, IfErr, MatchOption};
 ghost use Rattle.cell_graph.specs.declared.drafts.CellDraft.{CellDraft};
 ghost use Rattle.cell_graph.specs.Drafts.{AreSound, AreParts, IsCorner, IsFault, IsTop};
 ghost use Rattle.cell_graph.specs.Arrays.{ArrayPoint};
-ghost use Rattle.cell_graph.specs.Extents.{found_at, AreArrays, HasFar, IsFarAway, PlacesPoint, CellPoint, AreBounds, HaveArrays, AreRects, IsCellFar, IsCellBounds};
+ghost use Rattle.cell_graph.specs.Extents.{found_at, AreArrays, HasFar, IsFarAway, PlacesPoint};
+ghost use Rattle.cell_graph.specs.Extents.{CellPoint, AreBounds, HaveArrays, AreRects, IsCellFar};
+ghost use Rattle.cell_graph.specs.Extents.{IsCellBounds};
 ghost use Rattle.cell_graph.specs.Ordering.{AreOrdered};
 ghost use Rattle.cell_graph.specs.Parts.{AreInside};
 ghost use Rattle.cell_graph.specs.Rising.{HaveHeights};
@@ -59,7 +62,8 @@ fn with_places(
     requires inside { AreInside places.now (length found.now) }
     requires arrays { AreArrays places.now }
     requires near { (i : ℕ) → AreNearIfAny (found_at found.now i) }
-    ensures { MatchOption result (HasFar places.now) (Widens bounds (PlacesPoint places.now found.now)) }
+    ensures { MatchOption result (HasFar places.now)
+        (Widens bounds (PlacesPoint places.now found.now)) }
 {
     let mut all = bounds;
     for place in places {
@@ -90,7 +94,8 @@ fn bounds_of(cell: &CellDraft, places: &[Place], found: &[Option<Bounds>]) -> Op
     requires inside { AreInside places.now (length found.now) }
     requires arrays { AreArrays places.now }
     requires near { (i : ℕ) → AreNearIfAny (found_at found.now i) }
-    ensures bounds { MatchOption result (IsCellFar cell.now places.now found.now) (IsCellBounds cell.now places.now found.now) }
+    ensures bounds { MatchOption result (IsCellFar cell.now places.now found.now)
+        (IsCellBounds cell.now places.now found.now) }
     ensures rects { AreRects cell.now.layers.items }
 {
     let own = with_texts(with_layers(None, &cell.layers), &cell.texts);
@@ -111,7 +116,8 @@ fn nothing(alloc: Global, count: usize) -> Result<Vec<Option<Bounds>>, AllocErro
     Ok(none)
 }
 
-/// The bounds of all cells, by an order that has each behind those that it places; or the first that reaches out of range.
+/// The bounds of all cells, by an order that has each behind those that it places; or the first
+/// that reaches out of range.
 pub fn all_bounds(
     alloc: Global,
     cells: &[CellDraft],
@@ -125,7 +131,8 @@ pub fn all_bounds(
     requires heights { HaveHeights cells.now heights.now }
     requires order { AreOrdered heights.now 65 0 order.now }
     ensures bounds { IfOk result (λ v. AreBounds cells.now v.items) }
-    ensures fault { (top : Option (List ℕ)) (i : ℕ) → IsTop cells.now top i → IfErr result (IsFault cells.now top) }
+    ensures fault { (top : Option (List ℕ)) (i : ℕ) → IsTop cells.now top i
+        → IfErr result (IsFault cells.now top) }
 {
     let mut found = nothing(alloc, cells.len())?;
     for cell in order {

@@ -36,8 +36,8 @@ fn above(places: &[Place], heights: &[u32]) -> u32
     most
 }
 
-/// The height of each cell, `DEEP` where a chain of more references goes down from it; `order` has each cell behind those
-/// that it places. Linear in the references.
+/// The height of each cell, `DEEP` where a chain of more references goes down from it; `order` has
+/// each cell behind those that it places. Linear in the references.
 pub fn heights_along(
     alloc: Global,
     parts: &[Vec<Place>],

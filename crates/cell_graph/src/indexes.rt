@@ -1,7 +1,8 @@
 //! The indexes by which cells are looked into by windows. To build them takes O(n log n) for n
 //! rectangles and references.
 
-ghost use Rattle.std.specs.Prelude.{◌≡◌, ◌<◌, ℕ, length, map, slice_get, slice_index, Some, IfOk, MatchOption, []};
+ghost use Rattle.std.specs.Prelude.{◌≡◌, ◌<◌, ℕ, length, map, slice_get, slice_index, Some, IfOk};
+ghost use Rattle.std.specs.Prelude.{MatchOption, []};
 ghost use Rattle.std.specs.List.{All};
 ghost use Rattle.cell_graph.specs.declared.cells.CellPart.{CellPart};
 ghost use Rattle.cell_graph.specs.Indexes.{sets_of, AreSpans, IsIndexed, AreIndexed, AreSoundCells};
@@ -40,7 +41,8 @@ fn number_of(i: usize) -> Result<u32, AllocError>
 fn spans_of(alloc: Global, cells: &[CellPart], cell: usize) -> Result<Spans, AllocError>
     requires sound { AreSoundCells cells.now }
     requires inside { cell < length cells.now }
-    ensures { IfOk result (λ s. (c : CellPart) → slice_get cells.now cell ≡ Some c → AreSpans cells.now c.places.items s.numbers.items s.spans.items) }
+    ensures { IfOk result (λ s. (c : CellPart) → slice_get cells.now cell ≡ Some c
+        → AreSpans cells.now c.places.items s.numbers.items s.spans.items) }
 {
     let mut numbers = Vec::new(alloc);
     let mut spans = Vec::new(alloc);
@@ -70,7 +72,8 @@ fn own_of(alloc: Global, layers: &[OwnLayer], hull: Rect) -> Result<Vec<TileInde
 fn index_of(alloc: Global, cells: &[CellPart], cell: usize) -> Result<CellIndex, AllocError>
     requires sound { AreSoundCells cells.now }
     requires inside { cell < length cells.now }
-    ensures { IfOk result (λ x. (c : CellPart) → slice_get cells.now cell ≡ Some c → IsIndexed cells.now c x) }
+    ensures { IfOk result (λ x. (c : CellPart) → slice_get cells.now cell ≡ Some c
+        → IsIndexed cells.now c x) }
 {
     let part = &cells[cell];
     let hull = part.hull.unwrap_or(Rect {
@@ -108,7 +111,8 @@ pub fn find_index<'a>(
     key: LayerKey,
 ) -> Option<&'a TileIndex>
     requires { own.now ≡ sets_of layers.now }
-    ensures { MatchOption result (own_rects layers.now key ≡ []) (λ index. index.now ≡ own_rects layers.now key) }
+    ensures { MatchOption result (own_rects layers.now key ≡ [])
+        (λ index. index.now ≡ own_rects layers.now key) }
 {
     for i in 0..layers.len() {
         if is_same_key(layers[i].key, key) {

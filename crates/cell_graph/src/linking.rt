@@ -25,7 +25,8 @@ use std::alloc::Global;
 /// The most cells of a library.
 const MOST_CELLS: usize = 16_384;
 
-// What is found of the drafts before they become cells: their references, heights and bounds, the top, and what it reaches.
+// What is found of the drafts before they become cells: their references, heights and bounds, the
+// top, and what it reaches.
 #[derive(Drop)]
 struct Findings {
     parts: Vec<Vec<Place>>,
@@ -60,14 +61,15 @@ fn examined(alloc: Global, cells: &[CellDraft], top: Option<&Name>) -> Result<Fi
 }
 
 impl Design {
-    /// The design that the drafts name; or their first fault, in the order of `LinkFault`. Linear in
-    /// what the drafts hold: an array takes as long as a single placement, whatever its size.
+    /// The design that the drafts name; or their first fault, in the order of `LinkFault`. Linear
+    /// in what the drafts hold: an array takes as long as a single placement, whatever its size.
     pub fn link(
         alloc: Global,
         cells: Vec<CellDraft>,
         top: Option<&Name>,
     ) -> Result<Design, LinkFault>
-        requires keys { (i : ℕ) (c : CellDraft) → slice_get cells.items i ≡ Some c → AreApart c.layers.items }
+        requires keys { (i : ℕ) (c : CellDraft) → slice_get cells.items i ≡ Some c
+            → AreApart c.layers.items }
         requires arrays { HaveArrays cells.items }
         ensures design { IfOk result (IsLink cells.items (now_of top.entry)) }
         ensures fault { IfErr result (IsFault cells.items (now_of top.entry)) }

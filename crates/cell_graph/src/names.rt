@@ -1,5 +1,6 @@
 //! The names of cells, each with its number.
-ghost use Rattle.std.specs.Prelude.{◌≡◌, false, ℕ, ◌≤◌, length, List, [], ◌∷◌, ◌++◌, map, OnOk, IfOk, IfErr, Option, Some, None};
+ghost use Rattle.std.specs.Prelude.{◌≡◌, false, ℕ, ◌≤◌, length, List, [], ◌∷◌, ◌++◌, map, OnOk};
+ghost use Rattle.std.specs.Prelude.{IfOk, IfErr, Option, Some, None};
 ghost use Rattle.std.specs.List.{list_any, position_or_len};
 ghost use Rattle.std.specs.Str.{bytes_eq};
 ghost use Rattle.cell_graph.specs.Drafts.{HasFew, HasNoRepeat, IsFault, names_of};

@@ -1,7 +1,9 @@
 //! References by name, resolved to numbers of cells.
-ghost use Rattle.std.specs.Prelude.{◌≡◌, ◌<◌, ℕ, length, List, Option, Some, slice_get, IfOk, IfErr, OnOk};
+ghost use Rattle.std.specs.Prelude.{◌≡◌, ◌<◌, ℕ, length, List, Option, Some, slice_get, IfOk};
+ghost use Rattle.std.specs.Prelude.{IfErr, OnOk};
 ghost use Rattle.cell_graph.specs.declared.drafts.CellDraft.{CellDraft};
-ghost use Rattle.cell_graph.specs.Drafts.{HasFew, HasNoRepeat, IsLoose, IsFault, AreAllResolved, AreParts, names_of, IsNamed};
+ghost use Rattle.cell_graph.specs.Drafts.{HasFew, HasNoRepeat, IsLoose, IsFault, AreAllResolved};
+ghost use Rattle.cell_graph.specs.Drafts.{AreParts, names_of, IsNamed};
 ghost use Rattle.cell_graph.specs.Naming.{place_of};
 
 use crate::cells::Place;
@@ -43,7 +45,8 @@ fn places_at(
     requires once { HasNoRepeat cells.now }
     requires inside { i < length cells.now }
     requires before { (j k : ℕ) → j < i → IsLoose cells.now j k → ⊥ }
-    ensures places { IfOk result (λ v. (c : CellDraft) → slice_get cells.now i ≡ Some c → AreAllResolved cells.now c.refs.items v.items) }
+    ensures places { IfOk result (λ v. (c : CellDraft) → slice_get cells.now i ≡ Some c
+        → AreAllResolved cells.now c.refs.items v.items) }
     ensures fault { (top : Option (List ℕ)) → IfErr result (IsFault cells.now top) }
 {
     let mut places = Vec::new(alloc);
@@ -59,7 +62,8 @@ fn places_at(
     Ok(places)
 }
 
-/// The references of all cells, resolved, or the first that names no cell. Linear in the references.
+/// The references of all cells, resolved, or the first that names no cell. Linear in the
+/// references.
 pub fn parts_of(
     alloc: Global,
     names: &NameTable,

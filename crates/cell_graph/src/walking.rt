@@ -9,7 +9,8 @@ use std::alloc::{AllocError, Global};
 // Marks a cell that wasn't marked, and notes that its references aren't followed yet.
 fn mark(marks: &mut Vec<bool>, stack: &mut Vec<u32>, cell: u32) -> Result<(), AllocError>
     requires { cell < length marks.old.items }
-    ensures { OnOk result (AddsMarks (λ i. i ≡ cell) marks.old.items marks.new.items stack.old.items stack.new.items) }
+    ensures { OnOk result (AddsMarks (λ i. i ≡ cell) marks.old.items marks.new.items stack.old.items
+        stack.new.items) }
 {
     if !marks[cell as usize] {
         marks[cell as usize] = true;
@@ -24,7 +25,8 @@ fn mark_placed(
     places: &[Place],
 ) -> Result<(), AllocError>
     requires { AreInside places.now (length marks.old.items) }
-    ensures { OnOk result (AddsMarks (IsAmong places.now) marks.old.items marks.new.items stack.old.items stack.new.items) }
+    ensures { OnOk result (AddsMarks (IsAmong places.now) marks.old.items marks.new.items
+        stack.old.items stack.new.items) }
 {
     for place in places {
         mark(marks, stack, place.cell)?;

@@ -12,7 +12,8 @@ PlacesNone d cell = (c : Cell) × (slice_get d.cells cell ≡ Some c) × (c.plac
 
 -- its flat squares on an input layer are its own
 abbrev pub AloneLaw : Type 0
-AloneLaw = (d : Design) (cell : ℕ) → PlacesNone d cell → (key : LayerKey) (s : Square) → InFlatInput d cell key s ↔ IsOwn d cell key s
+AloneLaw = (d : Design) (cell : ℕ) → PlacesNone d cell → (key : LayerKey) (s : Square)
+    → InFlatInput d cell key s ↔ IsOwn d cell key s
 
 -- this is which squares the cell's own shapes cover
 abbrev pub TellsOwn : Design → ℕ → (LayerKey → Square → Bool) → Type 0
@@ -20,5 +21,6 @@ TellsOwn d cell own = (key : LayerKey) (s : Square) → IsOwn d cell key s ↔ (
 
 -- and its flat squares on a name are those that the name covers over them
 abbrev pub FlatLaw : Type 0
-FlatLaw = (d : Design) (cell : ℕ) (own : LayerKey → Square → Bool) → PlacesNone d cell → TellsOwn d cell own
+FlatLaw = (d : Design) (cell : ℕ) (own : LayerKey → Square → Bool) → PlacesNone d cell
+    → TellsOwn d cell own
     → (name : Formula) (s : Square) → InFlat d cell name s ↔ (formula_covers own name s ≡ true)

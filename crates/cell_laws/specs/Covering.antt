@@ -24,4 +24,5 @@ layers_cover layers key s = list_any (λ l. is_same_key l.0 key && covers l.1 s)
 -- a cell that was written covers on each layer exactly what was written there
 abbrev pub WrittenLaw : Type 0
 WrittenLaw = (cell : Cell) (layers : List (LayerKey × List Rect)) → All (λ l. All IsRect l.1) layers
-    → (key : LayerKey) (s : Square) → own_covers (written_cell cell layers) key s ≡ layers_cover layers key s
+    → (key : LayerKey) (s : Square) → own_covers (written_cell cell layers) key s
+    ≡ layers_cover layers key s

@@ -8,8 +8,8 @@ ghost use Rattle.cell_laws.specs.Alone.{AloneLaw, FlatLaw};
 
 use poly_fill::outline_laws;
 
-/// A rectangle's outline covers exactly the rectangle's squares, and a written cell covers on each layer exactly what was
-/// written there.
+/// A rectangle's outline covers exactly the rectangle's squares, and a written cell covers on each
+/// layer exactly what was written there.
 pub fn covering()
     ensures outline { OutlineLaw }
     ensures written { WrittenLaw }
@@ -17,7 +17,8 @@ pub fn covering()
     outline_laws();
 }
 
-/// In a cell that places no other, the flat squares of a name are what its operators say of the cell's own squares.
+/// In a cell that places no other, the flat squares of a name are what its operators say of the
+/// cell's own squares.
 pub fn alone()
     ensures own { AloneLaw }
     ensures names { FlatLaw }

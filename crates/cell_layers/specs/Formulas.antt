@@ -13,6 +13,8 @@ formula_covers own (Input key) s = own key s
 formula_covers own Empty s = false
 formula_covers own (Binary op a b) s = operated op (formula_covers own a s) (formula_covers own b s)
 
--- the set of this number covers exactly the squares that the tree of this number does; past the end both have none
+-- the set of this number covers exactly the squares that the tree of this number does; past the end
+-- both have none
 abbrev pub IsRight : (LayerKey → Square → Bool) → List Formula → List (List Rect) → ℕ → Type 0
-IsRight own trees sets k = (s : Square) → covers (slice_index_or sets k []) s ≡ formula_covers own (get_or trees k Empty) s
+IsRight own trees sets k =
+    (s : Square) → covers (slice_index_or sets k []) s ≡ formula_covers own (get_or trees k Empty) s

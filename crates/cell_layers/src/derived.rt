@@ -27,7 +27,9 @@ fn form_set(
     form: LayerForm,
 ) -> Result<RectSet, AllocError>
     requires { AreFillable (cell_seen cell.now) }
-    ensures { (trees : List Formula) → AreOperandsRight (own_covers (cell_seen cell.now)) trees before.now form → IfOk result (λ r. (s : Square) → covers r s ≡ formula_covers (own_covers (cell_seen cell.now)) (formula_by trees form) s) }
+    ensures { (trees : List Formula) → AreOperandsRight (own_covers (cell_seen cell.now)) trees
+        before.now form → IfOk result (λ r. (s : Square)
+        → covers r s ≡ formula_covers (own_covers (cell_seen cell.now)) (formula_by trees form) s) }
 {
     match form {
         LayerForm::Input(key) => own_set(alloc, cell, key),
@@ -79,8 +81,9 @@ fn free_read(alloc: Global, sets: &mut Vec<RectSet>, last: &[usize], form: Layer
     }
 }
 
-/// One set for each name of the rules, in order; those that output lines write are right in the end, and each other is freed, that is empty,
-/// once no later name reads it. The cost is that of each input's shapes and each Boolean once.
+/// One set for each name of the rules, in order; those that output lines write are right in the
+/// end, and each other is freed, that is empty, once no later name reads it. The cost is that of
+/// each input's shapes and each Boolean once.
 pub fn layer_sets(
     alloc: Global,
     cell: &RawCell,
@@ -88,7 +91,9 @@ pub fn layer_sets(
     outputs: &[Output],
 ) -> Result<Vec<RectSet>, AllocError>
     requires { AreFillable (cell_seen cell.now) }
-    ensures layers { IfOk result (λ sets. All (λ o. IsRight (own_covers (cell_seen cell.now)) (formulas names.now) sets.items o.layer) outputs.now) }
+    ensures layers { IfOk result (λ sets.
+        All (λ o. IsRight (own_covers (cell_seen cell.now)) (formulas names.now) sets.items o.layer)
+        outputs.now) }
     ensures canonical { IfOk result (λ sets. All IsCanonical sets.items) }
 {
     let last = last_uses(alloc, names, outputs)?;

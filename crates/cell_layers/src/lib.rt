@@ -1,4 +1,5 @@
-//! The layers of a cell that places no other: what its own shapes cover, and the rules' names over that.
+//! The layers of a cell that places no other: what its own shapes cover, and the rules' names over
+//! that.
 #![tactic(auto)]
 
 mod derived;

@@ -28,8 +28,8 @@ fn keep_operands(last: &mut Vec<usize>, form: LayerForm, moment: usize)
     }
 }
 
-/// For each name, the moment up to which its set is kept: the number of the last name that reads it, and past all names where
-/// an output line writes it. Linear.
+/// For each name, the moment up to which its set is kept: the number of the last name that reads
+/// it, and past all names where an output line writes it. Linear.
 pub fn last_uses(
     alloc: Global,
     names: &[LayerRule],

@@ -35,8 +35,9 @@ fn find_zones<R: Threads + Wait + Sync>(
     Ok(zones)
 }
 
-/// The squares that each reached cell holds itself, for each name of the rules. Nothing is flattened: a cell is worked once, however often it is
-/// placed. The answer is the same for every number of workers. An `Err` is want of memory.
+/// The squares that each reached cell holds itself, for each name of the rules. Nothing is
+/// flattened: a cell is worked once, however often it is placed. The answer is the same for every
+/// number of workers. An `Err` is want of memory.
 pub fn derive_layers<R: Threads + Wait + Sync>(
     rt: &R,
     alloc: Global,

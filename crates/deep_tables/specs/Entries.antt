@@ -1,5 +1,6 @@
 -- Tables with an entry, or none, for each cell, from the values of a phase's jobs.
-use Rattle.std.specs.Prelude.{◌≡◌, ℕ, ◌-◌, ◌<◌, List, Option, None, IsSomeAnd, length, get_or, slice_get, slice_index}
+use Rattle.std.specs.Prelude.{◌≡◌, ℕ, ◌-◌, ◌<◌, List, Option, None, IsSomeAnd, length, get_or}
+use Rattle.std.specs.Prelude.{slice_get, slice_index}
 use Rattle.flat_layout.specs.Layout.{Design, IsReached}
 use Rattle.cell_graph.specs.Linked.{Linked}
 

@@ -1,5 +1,6 @@
 -- The gates of cells.
-use Rattle.std.specs.Prelude.{◌≡◌, ◌↔◌, ℕ, true, List, [], Option, Some, None, IsSome, map, slice_get}
+use Rattle.std.specs.Prelude.{◌≡◌, ◌↔◌, ℕ, true, List, [], Option, Some, None, IsSome, map}
+use Rattle.std.specs.Prelude.{slice_get}
 use Rattle.geo_base.specs.declared.shapes.Square.{Square}
 use Rattle.rect_sets.specs.Rects.{covers}
 use Rattle.flat_layout.specs.Gates.{Rule, InGate, geometry}
@@ -16,7 +17,8 @@ use Rattle.deep_tables.specs.Nets.{AreRightNets}
 use Rattle.deep_tables.specs.declared.gates.CellGates.{CellGates}
 use Rattle.deep_tables.specs.declared.gates.Gate.{Gate}
 use Rattle.deep_tables.specs.declared.gates.GateCause.{GateCause}
-use Rattle.deep_tables.specs.declared.gates.GateCause.TheVariants.{Groups, OffGate, OffSd, NoBulk, NoLength}
+use Rattle.deep_tables.specs.declared.gates.GateCause.TheVariants.{Groups, OffGate, OffSd, NoBulk}
+use Rattle.deep_tables.specs.declared.gates.GateCause.TheVariants.{NoLength}
 use Rattle.deep_tables.specs.declared.gates.GateState.{GateState}
 use Rattle.deep_tables.specs.declared.gates.GateState.TheVariants.{Good, Bad}
 

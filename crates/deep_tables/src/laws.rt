@@ -6,7 +6,8 @@ ghost use Rattle.deep_tables.specs.Gates.{AreCellGates, GatesAtLaw, RightGatesLa
 ghost use Rattle.deep_tables.specs.Layers.{AreCellLayers, EmptyLayerLaw, LayerAtLaw};
 ghost use Rattle.deep_tables.specs.Laws.{DownwardLaw, UpwardLaw};
 ghost use Rattle.deep_tables.specs.Nets.{AreCellNets, NetsAtLaw, ReadNetsLaw, RightNetsLaw};
-ghost use Rattle.deep_tables.specs.OverAny.{CircuitsOverAnyLaw, GatesOverAnyLaw, NetsOverAnyLaw, OneGatesLaw, OneTablesLaw, PinsOverAnyLaw};
+ghost use Rattle.deep_tables.specs.OverAny.{CircuitsOverAnyLaw, GatesOverAnyLaw, NetsOverAnyLaw};
+ghost use Rattle.deep_tables.specs.OverAny.{OneGatesLaw, OneTablesLaw, PinsOverAnyLaw};
 ghost use Rattle.deep_tables.specs.Pins.{AreCellPins, PinsAtLaw, RightPinsLaw};
 ghost use Rattle.deep_tables.specs.Zones.{AreCellZones, DeviceZoneAtLaw, EmptyZoneLaw, ZoneAtLaw};
 ghost use Rattle.deep_tables.specs.declared.circuits.CellCircuit.{CellCircuit};

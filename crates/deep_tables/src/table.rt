@@ -1,5 +1,6 @@
 //! One entry for each cell, from the results of a phase's jobs.
-ghost use Rattle.std.specs.Prelude.{◌≡◌, ◌<◌, ◌^◌, ◌-◌, ℕ, length, IfOk, IsSome, List, Option, Some};
+ghost use Rattle.std.specs.Prelude.{◌≡◌, ◌<◌, ◌^◌, ◌-◌, ℕ, length, IfOk, IsSome, List, Option};
+ghost use Rattle.std.specs.Prelude.{Some};
 ghost use Rattle.deep_tables.specs.Entries.{entry, IsDownward, IsUpward};
 ghost use Rattle.deep_tables.specs.Positions.{AreApart, ArePositions, AreReversed};
 

@@ -1,7 +1,8 @@
 -- The value of an eight-byte real, by cross multiplication of whole numbers: the value without its
 -- sign is `mantissa * 16 ^ (exponent - 78)`, which is `whole` over `16 ^ 78`.
 use Rattle.std.specs.Prelude.{◌≡◌, ◌⊎◌, ℕ, ◌+◌, ◌-◌, ◌*◌, ◌^◌, ◌<◌, ◌≤◌, ◌%◌, ◌==◌, ◌&&◌, Bool, not}
-use Rattle.std.specs.Prelude.{false, nat_le, nat_lt, List, drop, fold, slice_index, Option, Some, None}
+use Rattle.std.specs.Prelude.{false, nat_le, nat_lt, List, drop, fold, slice_index, Option, Some}
+use Rattle.std.specs.Prelude.{None}
 use Rattle.std.specs.Prelude.{if◌then◌else◌}
 use Rattle.std.specs.Option.{option_map}
 use Rattle.fixed_num.specs.declared.real.Real8.{Real8}

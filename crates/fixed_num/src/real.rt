@@ -73,7 +73,8 @@ impl Real8 {
 
     // The number by which the mantissa is divided to give the value, where it is one to 2^96.
     pub(crate) fn divisor(&self) -> Option<u128>
-        ensures { MatchOption result (IsFarFromOne (real_seen self.now)) (λ d. IsDivisor (real_seen self.now) d) }
+        ensures { MatchOption result (IsFarFromOne (real_seen self.now))
+            (λ d. IsDivisor (real_seen self.now) d) }
     {
         if self.exponent < 54 || self.exponent > 78 {
             return None;

@@ -17,7 +17,8 @@ pub enum Formula {
 
 /// Whether the square is a flat square of the cell on the layer.
 pub fn in_flat(d: &SlowDesign, depth: u32, cell: usize, layer: &Formula, q: Square) -> Option<bool>
-    ensures { IfSome result (λ b. IsTrue b ↔ InFlat (plain d.now) cell (plain_formula layer.now) q) }
+    ensures { IfSome result (λ b. IsTrue b
+        ↔ InFlat (plain d.now) cell (plain_formula layer.now) q) }
 {
     match layer {
         Formula::Input(key) => in_input(d, depth, cell, *key, q),
@@ -71,7 +72,8 @@ fn is_calm(d: &SlowDesign, depth: u32, cell: usize, layer: &Formula, q: Square) 
 
 /// Whether the cell keeps the square.
 pub fn is_kept(d: &SlowDesign, depth: u32, cell: usize, layer: &Formula, q: Square) -> Option<bool>
-    ensures { IfSome result (λ b. IsTrue b ↔ IsKept (plain d.now) cell (plain_formula layer.now) q) }
+    ensures { IfSome result (λ b. IsTrue b
+        ↔ IsKept (plain d.now) cell (plain_formula layer.now) q) }
 {
     match layer {
         Formula::Input(key) => in_input(d, depth, cell, *key, q),
@@ -82,7 +84,8 @@ pub fn is_kept(d: &SlowDesign, depth: u32, cell: usize, layer: &Formula, q: Squa
 
 // Whether the square is the image of one that a placed cell keeps.
 fn is_below(d: &SlowDesign, depth: u32, cell: usize, layer: &Formula, q: Square) -> Option<bool>
-    ensures { IfSome result (λ b. IsTrue b ↔ IsKeptBelow (plain d.now) cell (plain_formula layer.now) q) }
+    ensures { IfSome result (λ b. IsTrue b
+        ↔ IsKeptBelow (plain d.now) cell (plain_formula layer.now) q) }
 {
     if cell >= d.cells.len() {
         return Some(false);
@@ -109,7 +112,8 @@ fn is_held(d: &SlowDesign, depth: u32, cell: usize, layer: &Formula, q: Square) 
 
 /// Whether the cell itself holds the square.
 pub fn is_local(d: &SlowDesign, depth: u32, cell: usize, layer: &Formula, q: Square) -> Option<bool>
-    ensures { IfSome result (λ b. IsTrue b ↔ IsLocal (plain d.now) cell (plain_formula layer.now) q) }
+    ensures { IfSome result (λ b. IsTrue b
+        ↔ IsLocal (plain d.now) cell (plain_formula layer.now) q) }
 {
     match layer {
         Formula::Input(key) => Some(cell < d.cells.len() && is_own(&d.cells[cell].shapes, *key, q)),

@@ -8,7 +8,7 @@ use Rattle.std.specs.List.{list_all, list_any, zip}
 use Rattle.std.specs.Option.{option_map}
 use Rattle.std.specs.Ordering.{int_eq}
 use Rattle.std.specs.Int.{w16, w32, from_be_bytes, cast_signed, int_min, int_max}
-use Rattle.fixed_num.specs.Real.{Real, real_of}
+use Rattle.fixed_num.specs.Real.{Real, is_unit, real_of}
 use Rattle.geo_base.specs.declared.shapes.Point.{Point}
 use Rattle.geo_base.specs.declared.shapes.Rect.{Rect}
 
@@ -157,3 +157,7 @@ real_in bytes = real_of (exactly 8 bytes)
 -- the second of the two reals in the data of UNITS: the database unit in metres
 abbrev pub unit_in : List ℕ → List ℕ
 unit_in bytes = take 8 (drop 8 (exactly 16 bytes))
+
+-- it is one of 1 to 1,000,000 picometres
+abbrev pub has_unit : List ℕ → Bool
+has_unit bytes = is_unit (real_in (unit_in bytes))

@@ -13,8 +13,8 @@ use Rattle.gds_records.specs.Kinds.{STRANS, MAG, ANGLE, PATHTYPE, ELFLAGS, NODET
 use Rattle.gds_records.specs.Kinds.{PROPVALUE, BOX, BOXTYPE, PLEX, BGNEXTN, ENDEXTN}
 use Rattle.gds_elements.specs.Data.{number, long, columns_in, rows_in, is_count, is_empty, trimmed}
 use Rattle.gds_elements.specs.Data.{points_of, is_closed, is_straight, has_length, side, goes_into}
-use Rattle.gds_elements.specs.Data.{real_in, unit_in}
-use Rattle.fixed_num.specs.Real.{is_one, is_unit, quarter_of}
+use Rattle.gds_elements.specs.Data.{has_unit, real_in}
+use Rattle.fixed_num.specs.Real.{is_one, quarter_of}
 use Rattle.gds_elements.specs.Meaning.{opened, last_kind, columns_of, rows_of, Library, library_of}
 
 -- 14: an XY behind the XY of a boundary or a path
@@ -102,7 +102,7 @@ part_fault start kind body =
 -- the tests of content: 13 the database unit, 12 no column or no row, and those of the open element
 abbrev pub content_fault : ℕ → ℕ → ℕ → ℕ → List ℕ → Option ℕ
 content_fault start columns rows kind body =
-    if kind == UNITS then (if is_unit (real_in (unit_in body)) then None else Some 13)
+    if kind == UNITS then (if has_unit body then None else Some 13)
     else if kind == COLROW
     then (if is_count (columns_in body) && is_count (rows_in body) then None else Some 12)
     else if kind == XY

@@ -4,7 +4,7 @@ ghost use Rattle.std.specs.Prelude.{◌≡◌, ◌≤◌, ◌+◌, ℕ, length, 
 ghost use Rattle.std.specs.Prelude.{MatchOption};
 ghost use Rattle.fixed_num.specs.Real.{is_one, is_unit, quarter_of};
 ghost use Rattle.gds_elements.specs.Data.{columns_in, coordinate, exactly, is_count, real_in};
-ghost use Rattle.gds_elements.specs.Data.{long, number, rows_in, trimmed};
+ghost use Rattle.gds_elements.specs.Data.{has_unit, long, number, rows_in, trimmed};
 ghost use Rattle.gds_elements.specs.Data.{unit_in};
 ghost use Rattle.gds_elements.specs.Units.{IsUnit};
 
@@ -106,8 +106,8 @@ pub(crate) fn quarter_of(body: &[u8]) -> Option<u8>
 }
 
 /// The database unit in picometres that the data of UNITS names, the second of its reals being that
-/// unit in metres: rounded to the nearest, halves upwards. `None` exactly where it isn't one of 1 to
-/// 1,000,000. O(1).
+/// unit in metres: rounded to the nearest, halves upwards. `None` exactly where it isn't one of 1
+/// to 1,000,000. O(1).
 pub fn unit_of(units: &[u8; 16]) -> Option<u32>
     ensures { MatchOption result ((k : ℕ) → IsUnit (unit_in units.now) k → ⊥) (λ k. IsUnit
         (unit_in units.now) k) }
@@ -124,7 +124,7 @@ fn is_unit(bytes: &[u8]) -> bool
 
 /// Whether the second real of UNITS is such a database unit.
 pub(crate) fn has_unit(body: &[u8]) -> bool
-    ensures { result ≡ is_unit (real_in (unit_in body.now)) }
+    ensures { result ≡ has_unit body.now }
 {
     let units: [u8; 16] = exactly(body);
     is_unit(&units[8..])

@@ -209,7 +209,8 @@ fn beyond(path_type: u16, half: i64, extension: i64) -> i64
 
 /// A path: half its width, whose sign doesn't count, and how far it goes beyond its ends.
 pub(crate) fn path_form(drawing: Drawing, points: Vec<Point>) -> ShapeForm
-    ensures { form_seen result ≡ path_form drawing.path_type drawing.width drawing.begin drawing.end points.items }
+    ensures { form_seen result ≡ path_form drawing.path_type drawing.width drawing.begin drawing.end
+        points.items }
 {
     let half = i64::from(drawing.width.unsigned_abs() / 2);
     ShapeForm::Path {
@@ -277,7 +278,8 @@ impl Placing {
     /// The cell placed in columns and rows.
     pub(crate) fn array(&self, cell: Name, at: Point) -> RawRef
         ensures { ref_seen result ≡ array cell (motion_of
-            (turn_of self.now.mirrored self.now.quarter) at) self.now.columns self.now.rows self.now.column_side self.now.row_side }
+            (turn_of self.now.mirrored self.now.quarter) at) self.now.columns self.now.rows
+            self.now.column_side self.now.row_side }
     {
         RawRef {
             cell,

@@ -170,7 +170,8 @@ pub(crate) fn content_fault(
     points: &[Point],
 ) -> Option<u8>
     requires { kind ≡ 0x10 → points.now ≡ points_of body.now }
-    ensures { result ≡ content_fault element.now.start element.now.placing.columns element.now.placing.rows kind body.now }
+    ensures { result ≡ content_fault element.now.start element.now.placing.columns
+        element.now.placing.rows kind body.now }
 {
     let start = element.start;
     match kind {

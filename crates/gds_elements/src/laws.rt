@@ -3,7 +3,8 @@
 ghost use Rattle.gds_elements.specs.Fillable.{FillableLaw};
 ghost use Rattle.gds_elements.specs.Placeable.{PlaceableLaw};
 ghost use Rattle.gds_elements.specs.Units.{MeasuredLaw};
-ghost use Rattle.gds_elements.specs.Once.{BegunLaw, DerivedLaw, NoFaultLaw, OneFaultLaw, OneLibraryLaw};
+ghost use Rattle.gds_elements.specs.Once.{BegunLaw, DerivedLaw, NoFaultLaw, OneFaultLaw};
+ghost use Rattle.gds_elements.specs.Once.{OneLibraryLaw};
 
 /// A byte list means one library or has one first fault, never both.
 pub fn one_meaning()

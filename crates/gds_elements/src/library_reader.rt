@@ -6,7 +6,8 @@ ghost use Rattle.std.specs.List.{All};
 ghost use Rattle.gds_elements.specs.Faults.{Accepts, FirstFault};
 ghost use Rattle.gds_elements.specs.Fillable.{AreFillable};
 ghost use Rattle.gds_elements.specs.Meaning.{Library as ValueOf};
-ghost use Rattle.gds_elements.specs.Reading.{IsFaultOf, OnlyFault, OnlyRest, cell_seen, library_after};
+ghost use Rattle.gds_elements.specs.Reading.{IsFaultOf, OnlyFault, OnlyRest, cell_seen};
+ghost use Rattle.gds_elements.specs.Reading.{library_after};
 ghost use Rattle.gds_elements.specs.Pieces.{IsOfMemory, Tells};
 ghost use Rattle.gds_elements.specs.declared.library.GdsFault.TheVariants.{NoMemory};
 
@@ -73,7 +74,8 @@ impl LibraryReader {
         told
     }
 
-    /// Hands over the structures that are whole and that it didn't hand over before, in order. O(1).
+    /// Hands over the structures that are whole and that it didn't hand over before, in order.
+    /// O(1).
     pub fn take_cells(&mut self, alloc: Global) -> Vec<RawCell>
         requires { self.old.fault ≡ None }
         ensures taken { self.new.taken ≡ self.old.taken ++ map cell_seen result.items }

@@ -1,7 +1,8 @@
 //! A stream that comes in pieces: the records taken, and the bytes of the one that isn't whole.
 
 ghost use Rattle.std.specs.Prelude.{◌≡◌, ◌<◌, ◌+◌, ◌≤◌, ◌^◌, false, ℕ, List, [], ◌++◌, length};
-ghost use Rattle.std.specs.Prelude.{vec_len, map, IfOk, IfErr, IfSome, None, Some, Err, OnOk, OnErr};
+ghost use Rattle.std.specs.Prelude.{vec_len, map, IfOk, IfErr, IfSome, None, Some, Err, OnOk};
+ghost use Rattle.std.specs.Prelude.{OnErr};
 ghost use Rattle.std.specs.List.{All};
 ghost use Rattle.gds_elements.specs.Faults.{Accepts};
 ghost use Rattle.gds_elements.specs.Fillable.{AreFillable};
@@ -63,13 +64,16 @@ impl Pieces {
     fn advance(&mut self, alloc: Global, piece: &[u8]) -> Result<(), GdsFault>
         requires going { self.old.stream.ended ≡ false }
         requires count { self.old.stream.count ≤ self.old.stream.offset }
-        requires offset { self.old.stream.offset + vec_len self.old.held + length piece.now < 2 ^ 63 }
+        requires offset { self.old.stream.offset + vec_len self.old.held + length piece.now
+            < 2 ^ 63 }
         ensures reading { (fed : List ℕ) → Goes fed self.old.held.items self.old.stream → Advances
             (fed ++ piece.now) result self.new }
         ensures fault { self.new.fault ≡ self.old.fault }
         ensures count { self.new.stream.count ≤ self.new.stream.offset }
-        ensures room { OnOk result (self.new.stream.offset + vec_len self.new.held ≤ self.old.stream.offset + vec_len self.old.held + length piece.now) }
-        ensures failed { OnErr result (self.new.stream.offset ≤ self.old.stream.offset + vec_len self.old.held + length piece.now) }
+        ensures room { OnOk result (self.new.stream.offset + vec_len self.new.held
+            ≤ self.old.stream.offset + vec_len self.old.held + length piece.now) }
+        ensures failed { OnErr result (self.new.stream.offset ≤ self.old.stream.offset
+            + vec_len self.old.held + length piece.now) }
         ensures taken { OnOk result (self.new.stream.kept.taken ≡ self.old.stream.kept.taken) }
     {
         if self.held.is_empty() {
@@ -88,14 +92,16 @@ impl Pieces {
     // Takes the next piece. A fault is kept, and the bytes held are let go.
     fn take(&mut self, alloc: Global, piece: &[u8]) -> Result<(), GdsFault>
         requires count { self.old.stream.count ≤ self.old.stream.offset }
-        requires offset { self.old.stream.offset + vec_len self.old.held + length piece.now < 2 ^ 63 }
+        requires offset { self.old.stream.offset + vec_len self.old.held + length piece.now
+            < 2 ^ 63 }
         ensures reading { (fed : List ℕ) → Fed fed self.old → Fed (fed ++ piece.now) self.new
             × Tells (fed ++ piece.now) result }
         ensures keeps { IfErr result (λ fault. self.new.fault ≡ Some fault) }
         ensures sound { OnOk result (self.new.fault ≡ None) }
         ensures again { IfSome self.old.fault (λ fault. result ≡ Err fault) }
         ensures count { self.new.stream.count ≤ self.new.stream.offset }
-        ensures room { self.new.stream.offset + vec_len self.new.held ≤ self.old.stream.offset + vec_len self.old.held + length piece.now }
+        ensures room { self.new.stream.offset + vec_len self.new.held ≤ self.old.stream.offset
+            + vec_len self.old.held + length piece.now }
         ensures taken { OnOk result (self.new.stream.kept.taken ≡ self.old.stream.kept.taken) }
     {
         if let Some(fault) = self.fault {
@@ -121,14 +127,16 @@ impl Pieces {
     /// whole are copied, and no others.
     pub(crate) fn feed(&mut self, alloc: Global, piece: &[u8]) -> Result<(), GdsFault>
         requires count { self.old.stream.count ≤ self.old.stream.offset }
-        requires offset { self.old.stream.offset + vec_len self.old.held + length piece.now < 2 ^ 63 }
+        requires offset { self.old.stream.offset + vec_len self.old.held + length piece.now
+            < 2 ^ 63 }
         ensures reading { (fed : List ℕ) → Fed fed self.old → Fed (fed ++ piece.now) self.new
             × Tells (fed ++ piece.now) result }
         ensures keeps { IfErr result (λ fault. self.new.fault ≡ Some fault) }
         ensures sound { OnOk result (self.new.fault ≡ None) }
         ensures again { IfSome self.old.fault (λ fault. result ≡ Err fault) }
         ensures count { self.new.stream.count ≤ self.new.stream.offset }
-        ensures room { self.new.stream.offset + vec_len self.new.held ≤ self.old.stream.offset + vec_len self.old.held + length piece.now }
+        ensures room { self.new.stream.offset + vec_len self.new.held ≤ self.old.stream.offset
+            + vec_len self.old.held + length piece.now }
         ensures taken { OnOk result (self.new.stream.kept.taken ≡ self.old.stream.kept.taken) }
     {
         if let Some(fault) = self.fault {

@@ -9,7 +9,8 @@ ghost use Rattle.gds_elements.specs.Data.{exactly, points_of};
 ghost use Rattle.gds_elements.specs.Meaning.{library_of, motion_of, open_cells, refs_by, text_at};
 ghost use Rattle.gds_elements.specs.Meaning.{turn_of};
 ghost use Rattle.gds_elements.specs.Reading.{Gains, Holds, HoldsElement, HoldsHeader};
-ghost use Rattle.gds_elements.specs.Reading.{HoldsStructure, cell_seen, library_after, rec, refs_in};
+ghost use Rattle.gds_elements.specs.Reading.{HoldsStructure, cell_seen, library_after, rec};
+ghost use Rattle.gds_elements.specs.Reading.{refs_in};
 ghost use Rattle.gds_elements.specs.Reading.{shape_seen, shapes_in, taken_cells, texts_in};
 
 use crate::data::{exactly, trimmed};
@@ -127,7 +128,8 @@ impl Structure {
         text: Vec<u8>,
     ) -> Result<(), AllocError>
         ensures { OnOk result (Gains self.old self.new [] [] (refs_by start text.items (motion_of
-            (turn_of placing.mirrored placing.quarter) at) placing.columns placing.rows placing.column_side placing.row_side)) }
+            (turn_of placing.mirrored placing.quarter) at) placing.columns placing.rows
+            placing.column_side placing.row_side)) }
     {
         if text.is_empty() {
             return Ok(());

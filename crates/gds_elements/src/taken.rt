@@ -23,7 +23,8 @@ pub fn nothing_taken() -> Snapshot<Taken>
 
 /// Adds structures at the end.
 pub fn add_taken(taken: &mut Snapshot<Taken>, cells: &Vec<RawCell>)
-    ensures { taken_cells taken.new.value ≡ taken_cells taken.old.value ++ map cell_seen cells.now.items }
+    ensures { taken_cells taken.new.value ≡ taken_cells taken.old.value
+        ++ map cell_seen cells.now.items }
 {
     let before = mem::replace(taken, nothing_taken());
     *taken = Snapshot::of(&Taken::More(Snapshot::of(cells), before));

@@ -1,5 +1,6 @@
 -- Rectangles by layer.
-use Rattle.std.specs.Prelude.{◌≡◌, ℕ, Bool, false, ◌&&◌, List, [], ◌∷◌, ◌++◌, map, set, Some, slice_get}
+use Rattle.std.specs.Prelude.{◌≡◌, ℕ, Bool, false, ◌&&◌, List, [], ◌∷◌, ◌++◌, map, set, Some}
+use Rattle.std.specs.Prelude.{slice_get}
 use Rattle.std.specs.List.{All, list_any}
 use Rattle.geo_base.specs.Layers.{is_same_key}
 use Rattle.geo_base.specs.Rects.{IsRect}

@@ -76,7 +76,8 @@ impl Piles {
         requires { ArePiles self.old }
         ensures piles { OnOk result (ArePiles self.new) }
         ensures here { IfOk result (IsPileAt self.new.list.items key) }
-        ensures covers { OnOk result ((k : LayerKey) (s : Square) → piles_cover self.new.list.items k s
+        ensures covers { OnOk result ((k : LayerKey) (s : Square)
+            → piles_cover self.new.list.items k s
             ≡ piles_cover self.old.list.items k s) }
         ensures has { OnOk result ((k : LayerKey) → has_pile self.new.list.items k
             ≡ (has_pile self.old.list.items k || is_same_key key k)) }
@@ -97,7 +98,8 @@ impl Piles {
         requires piles { ArePiles self.old }
         requires fillable { IsFillable (form_seen shape.now.form) }
         ensures piles { OnOk result (ArePiles self.new) }
-        ensures covers { OnOk result ((k : LayerKey) (s : Square) → piles_cover self.new.list.items k s
+        ensures covers { OnOk result ((k : LayerKey) (s : Square)
+            → piles_cover self.new.list.items k s
             ≡ (piles_cover self.old.list.items k s || is_covering k s (shape_seen shape.now))) }
         ensures has { OnOk result ((k : LayerKey) → has_pile self.new.list.items k
             ≡ (has_pile self.old.list.items k || is_same_key shape.now.key k)) }

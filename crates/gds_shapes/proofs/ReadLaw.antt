@@ -13,7 +13,8 @@ use Rattle.gds_grammar.specs.Order.{kinds_of, can_go_on, IsEnded}
 use Rattle.gds_grammar.proofs.GrammarLaw.{grammar_law}
 use Rattle.gds_grammar.proofs.LastRecord.{stops}
 use Rattle.gds_records.specs.Kinds.{HEADER, BGNLIB, LIBNAME, UNITS, BGNSTR, STRNAME, ENDSTR}
-use Rattle.gds_elements.specs.Data.{exactly, is_empty, trimmed, put_before, is_unit, unit_in}
+use Rattle.gds_elements.specs.Data.{exactly, is_empty, trimmed, put_before, has_unit, real_in, unit_in}
+use Rattle.fixed_num.specs.Real.{is_unit}
 use Rattle.gds_elements.specs.Meaning.{Shape, Text, Ref, Cell, Library, opened, last_kind, columns_of, rows_of, found, head_part, is_cell_bound, cell_part, shapes_of, texts_of, refs_of, cells_of, cell_by, open_cells, library_of}
 use Rattle.gds_elements.specs.Faults.{is_second_points, is_plain, content_fault, fault_of, Passes}
 use Rattle.gds_shapes.specs.Data.{IsShort, IsData, IsText}
@@ -168,20 +169,20 @@ or_left : (a b : Bool) → b ≡ false → (a || b) ≡ true → a ≡ true
 or_left true b e h = refl
 or_left false b e h = absurd (true_false (sym h ∙ e))
 
-unit_more : (before : Records) (r : Rec) → fault_of before r ≡ None → (has_units (kinds_of before) ≡ true → is_unit (unit_in (head_part UNITS before)) ≡ true)
-    → has_units (kinds_of (before ▸ r)) ≡ true → is_unit (unit_in (head_part UNITS (before ▸ r))) ≡ true
+unit_more : (before : Records) (r : Rec) → fault_of before r ≡ None → (has_units (kinds_of before) ≡ true → has_unit ((head_part UNITS before)) ≡ true)
+    → has_units (kinds_of (before ▸ r)) ≡ true → has_unit ((head_part UNITS (before ▸ r))) ≡ true
 unit_more before r p so_far h = by_test (r.kind == 0x03) refl
   where
-    by_test : (b : Bool) → (r.kind == 0x03) ≡ b → is_unit (unit_in (cond b r.body (head_part UNITS before))) ≡ true
+    by_test : (b : Bool) → (r.kind == 0x03) ≡ b → has_unit ((cond b r.body (head_part UNITS before))) ≡ true
     by_test true e =
         let content = content_sound (is_second_points (opened before) (last_kind before) r.kind) (can_go_on before r.kind) (is_plain r.kind r.form r.body) (content_fault (opened before) (columns_of before) (rows_of before) r.kind r.body) p in
         let kind : r.kind ≡ 0x03 = eqb-true _ _ e in
-        unit_tested (is_unit (unit_in r.body)) 13 (subst (λ (k : ℕ). content_fault (opened before) (columns_of before) (rows_of before) k r.body ≡ None) kind content)
+        unit_tested (has_unit (r.body)) 13 (subst (λ (k : ℕ). content_fault (opened before) (columns_of before) (rows_of before) k r.body ≡ None) kind content)
     by_test false e =
         let parts = sym (list_any-append (λ (k : ℕ). k == 0x03) (kinds_of before) (r.kind ∷ [])) ∙ h in
         so_far (or_left (has_units (kinds_of before)) _ (ap (λ (b : Bool). b || false) e) parts)
 
-unit_read : (rs : Records) → Passes rs → has_units (kinds_of rs) ≡ true → is_unit (unit_in (head_part UNITS rs)) ≡ true
+unit_read : (rs : Records) → Passes rs → has_units (kinds_of rs) ≡ true → has_unit ((head_part UNITS rs)) ≡ true
 unit_read NoRecords p h = absurd cc
 unit_read (before ▸ r) p h = unit_more before r p.2 (unit_read before p.0) h
 
@@ -216,8 +217,8 @@ cells_read (before ▸ r) p =
 heading_read : (rs : Records) → Passes rs → IsEnded rs → IsHeading (heading_of (library_of rs))
 heading_read rs p e =
     let units = exactly_data 16 (head_part UNITS rs) (head_bytes UNITS rs p) in
-    let unit : is_unit (unit_in (exactly 16 (head_part UNITS rs))) ≡ true =
-    ap (λ (bytes : List ℕ). is_unit (take 8 (drop 8 bytes))) (exactly_again 16 (exactly 16 (head_part UNITS rs)) units.whole) ∙ unit_read rs p (ended_units rs p e) in
+    let unit : has_unit ((exactly 16 (head_part UNITS rs))) ≡ true =
+    ap (λ (bytes : List ℕ). is_unit (real_in (take 8 (drop 8 bytes)))) (exactly_again 16 (exactly 16 (head_part UNITS rs)) units.whole) ∙ unit_read rs p (ended_units rs p e) in
     record {
       version = exactly_data 2 (head_part HEADER rs) (head_bytes HEADER rs p);
       dates = exactly_data 24 (head_part BGNLIB rs) (head_bytes BGNLIB rs p);

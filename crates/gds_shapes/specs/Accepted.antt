@@ -3,7 +3,7 @@ use Rattle.std.specs.Prelude.{ℕ, List, [], ◌∷◌, map, IsTrue}
 use Rattle.std.specs.List.{All, flat_map}
 use Rattle.geo_base.specs.declared.layer.LayerKey.{LayerKey}
 use Rattle.geo_base.specs.declared.shapes.Rect.{Rect}
-use Rattle.gds_elements.specs.Data.{is_unit, unit_in}
+use Rattle.gds_elements.specs.Data.{has_unit}
 use Rattle.gds_elements.specs.Meaning.{Boundary, Shape, Cell, Library}
 use Rattle.gds_elements.specs.Faults.{Accepts}
 use Rattle.gds_shapes.specs.Data.{IsData, IsText, IsNamed}
@@ -45,7 +45,7 @@ pub record IsHeading (heading : Heading) : Type 0 where
   pub dates : IsData 24 heading.dates
   pub name : IsText heading.name
   pub units : IsData 16 heading.units
-  pub unit : IsTrue (is_unit (unit_in heading.units))
+  pub unit : IsTrue (has_unit heading.units)
 
 -- a cell whose name, references and rectangles have room in their records
 pub record FitsCell (cell : Drawn) : Type 0 where

@@ -89,7 +89,8 @@ placement r = bare SREF ∷ string SNAME r.cell ∷ turning r.motion.turn ++ poi
 
 -- an array of placements
 abbrev pub array : Ref → List Rec
-array r = bare AREF ∷ string SNAME r.cell ∷ turning r.motion.turn ++ counts r.columns r.rows ∷ points (start r
+array r = bare AREF ∷ string SNAME r.cell ∷ turning r.motion.turn ++ counts r.columns r.rows
+    ∷ points (start r
     ∷ column_end r ∷ row_end r ∷ []) ∷ bare ENDEL ∷ []
 
 -- a single placement, or else an array

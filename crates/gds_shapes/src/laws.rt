@@ -1,6 +1,7 @@
 //! What the written stream is read as.
 
-ghost use Rattle.gds_shapes.specs.Accepted.{AcceptedLaw, ReadLaw, ReadHeadingLaw, ReadReferencesLaw, WrittenLaw};
+ghost use Rattle.gds_shapes.specs.Accepted.{AcceptedLaw, ReadLaw, ReadHeadingLaw};
+ghost use Rattle.gds_shapes.specs.Accepted.{ReadReferencesLaw, WrittenLaw};
 
 use gds_elements::placeable;
 

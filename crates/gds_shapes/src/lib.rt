@@ -1,5 +1,5 @@
-//! The GDSII stream of cells (GDSII Stream Format, Release 6): references, and rectangles on layers,
-//! written as boundaries.
+//! The GDSII stream of cells (GDSII Stream Format, Release 6): references, and rectangles on
+//! layers, written as boundaries.
 #![tactic(auto)]
 
 mod heading;

@@ -5,7 +5,8 @@ ghost use Rattle.std.specs.List.{All, flat_map};
 ghost use Rattle.geo_base.specs.Near.{IsLong, IsLongPoint};
 ghost use Rattle.gds_records.specs.Records.{record_bytes};
 ghost use Rattle.gds_shapes.specs.Data.{IsShort, point_bytes};
-ghost use Rattle.gds_shapes.specs.References.{HasLongPoints, turned, turning, stepped, counts, points, placement, array, reference, reference_seen};
+ghost use Rattle.gds_shapes.specs.References.{HasLongPoints, turned, turning, stepped, counts};
+ghost use Rattle.gds_shapes.specs.References.{points, placement, array, reference, reference_seen};
 
 use crate::records::{BITS, LONGS, NONE, NUMBERS, REALS, long, write_string};
 use byteorder::{BigEndian, ByteOrder};
@@ -39,9 +40,9 @@ const DEGREES_180: [u8; 8] = [0x42, 0xB4, 0, 0, 0, 0, 0, 0];
 const DEGREES_270: [u8; 8] = [0x43, 0x10, 0xE0, 0, 0, 0, 0, 0];
 
 /// Appends a reference: an SREF where it is one placement, else an AREF with the end points of its
-/// columns and of its rows. Its name has at most 65,530 bytes, and its points have coordinates of 32
-/// bits. An `Err` is want of memory; then a part of the reference may be appended. Cost: the bytes
-/// written, whatever the number of placements.
+/// columns and of its rows. Its name has at most 65,530 bytes, and its points have coordinates of
+/// 32 bits. An `Err` is want of memory; then a part of the reference may be appended. Cost: the
+/// bytes written, whatever the number of placements.
 pub fn write_reference(
     alloc: Global,
     out: &mut Vec<u8>,

@@ -61,8 +61,8 @@ pub fn shapes_text(
     Ok(out)
 }
 
-/// Appends layers in order: each rectangle as a boundary, of coordinates of 32 bits. An `Err` is want
-/// of memory; then a part may be appended. Cost: the bytes written.
+/// Appends layers in order: each rectangle as a boundary, of coordinates of 32 bits. An `Err` is
+/// want of memory; then a part may be appended. Cost: the bytes written.
 pub fn write_layers(out: &mut Vec<u8>, written: &[Written]) -> Result<(), AllocError>
     requires { AreLong (map layer_seen written.now) }
     ensures written { OnOk result (out.new.items ≡ out.old.items ++ flat_map record_bytes

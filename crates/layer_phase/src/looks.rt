@@ -11,7 +11,8 @@ ghost use Rattle.cell_graph.specs.Linked.{IsHull, cell_at, hull_of, own_of, plac
 ghost use Rattle.cell_graph.specs.declared.cells.Place.{Place};
 ghost use Rattle.rule_text.specs.declared.rules.LayerForm.TheVariants.{Input};
 ghost use Rattle.layer_phase.specs.Keeps.{HasEntry};
-ghost use Rattle.layer_phase.specs.Looks.{AreHeld, AreLooks, Brings, BringsHull, BringsNames, BringsOwn, BringsZone, Grows, HasAll, HaveAll};
+ghost use Rattle.layer_phase.specs.Looks.{AreHeld, AreLooks, Brings, BringsHull, BringsNames};
+ghost use Rattle.layer_phase.specs.Looks.{BringsOwn, BringsZone, Grows, HasAll, HaveAll};
 
 use cell_context::{place_visits, push_images};
 use cell_graph::{Design, Place};

@@ -1,5 +1,6 @@
 //! The parts of which a cell's layers are made.
-ghost use Rattle.std.specs.Prelude.{◌≡◌, ◌↔◌, ◌<◌, ◌^◌, ◌&&◌, not, ℕ, IfOk, OnOk, true, length, List};
+ghost use Rattle.std.specs.Prelude.{◌≡◌, ◌↔◌, ◌<◌, ◌^◌, ◌&&◌, not, ℕ, IfOk, OnOk, true, length};
+ghost use Rattle.std.specs.Prelude.{List};
 ghost use Rattle.std.specs.List.{All};
 ghost use Rattle.geo_base.specs.Rects.{IsRect, has};
 ghost use Rattle.geo_base.specs.declared.shapes.Rect.{Rect};
@@ -116,7 +117,8 @@ pub fn local_squares(
     calm: &RectSet,
 ) -> Result<RectSet, AllocError>
     ensures { IfOk result (λ r. (q : Square)
-        → covers r q ≡ ((covers flat.now q && not (covers zone.now q)) && not (covers calm.now q))) }
+        → covers r q ≡ ((covers flat.now q && not (covers zone.now q))
+        && not (covers calm.now q))) }
 {
     let undisturbed = combine(alloc, flat, zone, Op::Not)?;
     let local = combine(alloc, &undisturbed, calm, Op::Not)?;

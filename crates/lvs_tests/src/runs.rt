@@ -350,7 +350,8 @@ fn four_booleans(rt: HostRuntime) -> Result<(), Fail> {
     Ok(())
 }
 
-// Each call of the depot fails in turn: two opens with two reads each, then start, write and finish of the shapes file.
+// Each call of the depot fails in turn: two opens with two reads each, then start, write and finish
+// of the shapes file.
 #[test]
 fn each_call_fails(rt: HostRuntime) -> Result<(), Fail> {
     let alloc = rt.alloc();

@@ -1,5 +1,6 @@
 -- Nodes in classes that stand side by side.
-use Rattle.std.specs.Prelude.{◌≡◌, ◌≢◌, ◌⊎◌, ◌↔◌, ◌<◌, ◌≤◌, ◌+◌, ◌^◌, ◌==◌, ℕ, Bool, false, cond, count_by, List, length, slice_index}
+use Rattle.std.specs.Prelude.{◌≡◌, ◌≢◌, ◌⊎◌, ◌↔◌, ◌<◌, ◌≤◌, ◌+◌, ◌^◌, ◌==◌, ℕ, Bool, false, cond}
+use Rattle.std.specs.Prelude.{count_by, List, length, slice_index}
 use Rattle.match_laws.specs.Circuits.{numbers_from}
 use Rattle.match_rounds.specs.Order.{IsPlaced, StandsAt, whole_of, is_among}
 use Rattle.match_rounds.specs.Counts.{AreFlagged}

@@ -1,5 +1,6 @@
 -- The classes that a round looks at.
-use Rattle.std.specs.Prelude.{◌≡◌, ◌≢◌, ◌⊎◌, ◌<◌, ◌≤◌, ◌+◌, ℕ, Bool, true, false, length, slice_index, slice_index_or}
+use Rattle.std.specs.Prelude.{◌≡◌, ◌≢◌, ◌⊎◌, ◌<◌, ◌≤◌, ◌+◌, ℕ, Bool, true, false, length}
+use Rattle.std.specs.Prelude.{slice_index, slice_index_or}
 use Rattle.match_rounds.specs.declared.marks.Marks.{Marks}
 
 abbrev pub is_marked : Marks → ℕ → Bool

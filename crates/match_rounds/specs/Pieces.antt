@@ -1,5 +1,6 @@
 -- Nodes with counts, in the order of their classes and counts, by which classes are parted.
-use Rattle.std.specs.Prelude.{◌≡◌, ◌≢◌, ◌⊎◌, ◌↔◌, ◌<◌, ◌≤◌, ◌+◌, ℕ, List, length, slice_index, slice_index_or}
+use Rattle.std.specs.Prelude.{◌≡◌, ◌≢◌, ◌⊎◌, ◌↔◌, ◌<◌, ◌≤◌, ◌+◌, ℕ, List, length, slice_index}
+use Rattle.std.specs.Prelude.{slice_index_or}
 use Rattle.match_rounds.specs.declared.groups.Part.{Part}
 
 abbrev pub entry : List Part → ℕ → Part

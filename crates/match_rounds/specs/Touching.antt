@@ -1,5 +1,6 @@
 -- The ends at the nodes of one class.
-use Rattle.std.specs.Prelude.{◌≡◌, ◌≢◌, ◌⊎◌, ◌<◌, ◌≤◌, ◌+◌, ◌==◌, ◌&&◌, ℕ, List, length, count_by, slice_index_or}
+use Rattle.std.specs.Prelude.{◌≡◌, ◌≢◌, ◌⊎◌, ◌<◌, ◌≤◌, ◌+◌, ◌==◌, ◌&&◌, ℕ, List, length, count_by}
+use Rattle.std.specs.Prelude.{slice_index_or}
 use Rattle.round_laws.specs.Web.{same_port}
 use Rattle.match_graph.specs.Graph.{plain_port}
 use Rattle.match_graph.specs.declared.graph.Port.{Port}

@@ -1,5 +1,6 @@
 ghost use Rattle.std.specs.Prelude.{◌≡◌, ◌<◌, ◌^◌, count_by, length, OnOk, nat_lt};
-ghost use Rattle.match_rounds.specs.Classes.{AreAlike, IsGrown, IsPartedOff, IsPartition, KeepsFresh, class_count, node_count};
+ghost use Rattle.match_rounds.specs.Classes.{AreAlike, IsGrown, IsPartedOff, IsPartition};
+ghost use Rattle.match_rounds.specs.Classes.{KeepsFresh, class_count, node_count};
 
 use crate::counts::Counts;
 use crate::marks::Marks;
@@ -34,7 +35,8 @@ impl Classes {
         requires partition { IsPartition self.old left_count (node_count self.old) }
         requires nodes { AreAlike self.old.class_of.items nodes.now (node_count self.old) }
         ensures partition { OnOk result (IsPartition self.new left_count (node_count self.old)) }
-        ensures parted { OnOk result (IsPartedOff self.old self.new nodes.now (node_count self.old)) }
+        ensures parted { OnOk result (IsPartedOff self.old self.new nodes.now
+            (node_count self.old)) }
         ensures fresh { OnOk result (KeepsFresh self.old self.new (node_count self.old)) }
         ensures grown { OnOk result (IsGrown self.old self.new) }
     {

@@ -23,7 +23,8 @@ pub fn part_all(
     requires partition { IsPartition classes.old left_count (node_count classes.old) }
     requires parts { ArePieces classes.old.class_of.items parts.now (node_count classes.old) }
     ensures partition { OnOk result (IsPartition classes.new left_count (node_count classes.old)) }
-    ensures parted { OnOk result (ArePartedBy classes.old.class_of.items classes.new.class_of.items parts.now (length parts.now) (node_count classes.old)) }
+    ensures parted { OnOk result (ArePartedBy classes.old.class_of.items classes.new.class_of.items
+        parts.now (length parts.now) (node_count classes.old)) }
     ensures fresh { OnOk result (KeepsFresh classes.old classes.new (node_count classes.old)) }
     ensures grown { OnOk result (IsGrown classes.old classes.new) }
 {

@@ -40,9 +40,12 @@ pub fn look_at(
 ) -> Result<(), AllocError>
     requires graph { IsGraph graph.now }
     requires partition { IsPartition classes.old (left_of graph.now) (nodes_of graph.now) }
-    requires members { (i : ℕ) → i < length members.now → slice_index members.now i < nodes_of graph.now }
-    ensures partition { OnOk result (IsPartition classes.new (left_of graph.now) (nodes_of graph.now)) }
-    ensures parted { OnOk result (ArePartedByEnds classes.old classes.new (flat_map (ends_at graph.now) members.now) (nodes_of graph.now)) }
+    requires members { (i : ℕ) → i < length members.now
+        → slice_index members.now i < nodes_of graph.now }
+    ensures partition { OnOk result (IsPartition classes.new (left_of graph.now)
+        (nodes_of graph.now)) }
+    ensures parted { OnOk result (ArePartedByEnds classes.old classes.new
+        (flat_map (ends_at graph.now) members.now) (nodes_of graph.now)) }
     ensures fresh { OnOk result (KeepsFresh classes.old classes.new (nodes_of graph.now)) }
     ensures grown { OnOk result (IsGrown classes.old classes.new) }
 {
@@ -68,9 +71,11 @@ fn part_by_ends(
 ) -> Result<(), AllocError>
     requires partition { IsPartition classes.old left_count (node_count classes.old) }
     requires order { AreInOrder touched.now }
-    requires nodes { (k : ℕ) → k < length touched.now → (end_at touched.now k).node < node_count classes.old }
+    requires nodes { (k : ℕ) → k < length touched.now
+        → (end_at touched.now k).node < node_count classes.old }
     ensures partition { OnOk result (IsPartition classes.new left_count (node_count classes.old)) }
-    ensures parted { OnOk result (ArePartedByEnds classes.old classes.new touched.now (node_count classes.old)) }
+    ensures parted { OnOk result (ArePartedByEnds classes.old classes.new touched.now
+        (node_count classes.old)) }
     ensures fresh { OnOk result (KeepsFresh classes.old classes.new (node_count classes.old)) }
     ensures grown { OnOk result (IsGrown classes.old classes.new) }
 {

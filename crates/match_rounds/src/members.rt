@@ -14,7 +14,8 @@ pub fn list_members(
 ) -> Result<(), AllocError>
     requires classes { AreClasses classes.now (node_count classes.now) }
     requires listed { AreListed classes.now.marks }
-    ensures { OnOk result (AreMembers classes.now members.new.items ends.new.items (length classes.now.marks.fresh.items)) }
+    ensures { OnOk result (AreMembers classes.now members.new.items ends.new.items
+        (length classes.now.marks.fresh.items)) }
 {
     members.clear();
     ends.clear();

@@ -20,7 +20,8 @@ pub fn part_pair(
     requires second { b < node_count classes.old }
     requires two { a ≢ b }
     ensures partition { OnOk result (IsPartition classes.new left_count (node_count classes.old)) }
-    ensures parted { OnOk result (IsPairParted classes.old classes.new a b (node_count classes.old)) }
+    ensures parted { OnOk result (IsPairParted classes.old classes.new a b
+        (node_count classes.old)) }
     ensures fresh { OnOk result (KeepsFresh classes.old classes.new (node_count classes.old)) }
 {
     let mut parts = pair_parts(alloc, classes, a, b)?;

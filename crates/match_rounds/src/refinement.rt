@@ -28,7 +28,8 @@ pub fn refine(
 ) -> Result<(Classes, Verdict), AllocError>
     requires graph { IsGraph graph.now }
     requires guesses { AreGuesses graph.now guesses.now }
-    ensures partition { IfOk result (λ r. IsPartition r.0 (left_of graph.now) (nodes_of graph.now)) }
+    ensures partition { IfOk result (λ r.
+        IsPartition r.0 (left_of graph.now) (nodes_of graph.now)) }
     ensures verdict { IfOk result (λ r. IsVerdict (guessed_web graph.now guesses.now) r.0 r.1) }
 {
     let mut classes = Classes::start(alloc, graph, guesses)?;

@@ -25,8 +25,10 @@ pub fn single_out(
     requires some { 0 < length guesses.now }
     requires partition { IsPartition classes.old (left_of graph.now) (nodes_of graph.now) }
     requires settled { AreSettledBefore graph.now guesses.now classes.old }
-    ensures partition { OnOk result (IsPartition classes.new (left_of graph.now) (nodes_of graph.now)) }
-    ensures resumed { IfOk result (λ even. IsResumed (guessed_web graph.now guesses.now) classes.new even) }
+    ensures partition { OnOk result (IsPartition classes.new (left_of graph.now)
+        (nodes_of graph.now)) }
+    ensures resumed { IfOk result (λ even.
+        IsResumed (guessed_web graph.now guesses.now) classes.new even) }
 {
     let (a, b) = guesses[guesses.len() - 1];
     part_pair(alloc, classes, graph.left_count(), a, b)?;

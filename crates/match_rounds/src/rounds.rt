@@ -41,7 +41,8 @@ pub fn next_round(
     requires graph { IsGraph graph.now }
     requires partition { IsPartition classes.old (left_of graph.now) (nodes_of graph.now) }
     requires ahead { AreAhead graph.now classes.old }
-    ensures partition { OnOk result (IsPartition classes.new (left_of graph.now) (nodes_of graph.now)) }
+    ensures partition { OnOk result (IsPartition classes.new (left_of graph.now)
+        (nodes_of graph.now)) }
     ensures ahead { OnOk result (AreAhead graph.now classes.new) }
     ensures round { OnOk result (IsNextRound graph.now classes.old classes.new) }
     ensures grown { OnOk result (IsGrown classes.old classes.new) }
@@ -62,10 +63,13 @@ fn look_at_each(
 ) -> Result<(), AllocError>
     requires graph { IsGraph graph.now }
     requires partition { IsPartition classes.old (left_of graph.now) (nodes_of graph.now) }
-    requires members { (i : ℕ) → i < length members.now → slice_index members.now i < nodes_of graph.now }
+    requires members { (i : ℕ) → i < length members.now
+        → slice_index members.now i < nodes_of graph.now }
     requires spans { AreSpans members.now ends.now }
-    ensures partition { OnOk result (IsPartition classes.new (left_of graph.now) (nodes_of graph.now)) }
-    ensures parted { OnOk result (ArePartedBySpans graph.now classes.old classes.new members.now ends.now (length ends.now) (nodes_of graph.now)) }
+    ensures partition { OnOk result (IsPartition classes.new (left_of graph.now)
+        (nodes_of graph.now)) }
+    ensures parted { OnOk result (ArePartedBySpans graph.now classes.old classes.new members.now
+        ends.now (length ends.now) (nodes_of graph.now)) }
     ensures fresh { OnOk result (KeepsFresh classes.old classes.new (nodes_of graph.now)) }
     ensures grown { OnOk result (IsGrown classes.old classes.new) }
 {

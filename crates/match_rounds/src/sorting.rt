@@ -17,7 +17,8 @@ pub fn part_by(
     requires partition { IsPartition classes.old left_count (node_count classes.old) }
     requires parts { AreLoose classes.old.class_of.items parts.old.items (node_count classes.old) }
     ensures partition { OnOk result (IsPartition classes.new left_count (node_count classes.old)) }
-    ensures parted { OnOk result (ArePartedBy classes.old.class_of.items classes.new.class_of.items parts.old.items (length parts.old.items) (node_count classes.old)) }
+    ensures parted { OnOk result (ArePartedBy classes.old.class_of.items classes.new.class_of.items
+        parts.old.items (length parts.old.items) (node_count classes.old)) }
     ensures fresh { OnOk result (KeepsFresh classes.old classes.new (node_count classes.old)) }
     ensures grown { OnOk result (IsGrown classes.old classes.new) }
 {

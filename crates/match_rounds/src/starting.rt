@@ -72,8 +72,10 @@ impl Classes {
     ) -> Result<Classes, AllocError>
         requires graph { IsGraph graph.now }
         requires guesses { AreGuesses graph.now guesses.now }
-        ensures partition { IfOk result (λ c. IsPartition c (left_of graph.now) (nodes_of graph.now)) }
-        ensures colours { IfOk result (λ c. AreColours (guessed_web graph.now guesses.now) 0 (class_in c)) }
+        ensures partition { IfOk result
+            (λ c. IsPartition c (left_of graph.now) (nodes_of graph.now)) }
+        ensures colours { IfOk result (λ c.
+            AreColours (guessed_web graph.now guesses.now) 0 (class_in c)) }
         ensures fresh { IfOk result (λ c. (a : ℕ) → a < nodes_of graph.now → is_fresh c a ≡ true) }
     {
         let left_count = graph.left_count();
@@ -91,8 +93,11 @@ fn part_kinds(alloc: Global, graph: &Graph, classes: &mut Classes) -> Result<(),
     requires graph { IsGraph graph.now }
     requires partition { IsPartition classes.old (left_of graph.now) (nodes_of graph.now) }
     requires one { (a : ℕ) → a < nodes_of graph.now → class_in classes.old a ≡ 0 }
-    ensures partition { OnOk result (IsPartition classes.new (left_of graph.now) (nodes_of graph.now)) }
-    ensures kinds { OnOk result ((a b : ℕ) → a < nodes_of graph.now → b < nodes_of graph.now → (class_in classes.new a ≡ class_in classes.new b) ↔ (kind_at graph.now a ≡ kind_at graph.now b)) }
+    ensures partition { OnOk result (IsPartition classes.new (left_of graph.now)
+        (nodes_of graph.now)) }
+    ensures kinds { OnOk result ((a b : ℕ) → a < nodes_of graph.now → b < nodes_of graph.now
+        → (class_in classes.new a ≡ class_in classes.new b)
+        ↔ (kind_at graph.now a ≡ kind_at graph.now b)) }
     ensures fresh { OnOk result (KeepsFresh classes.old classes.new (nodes_of graph.now)) }
 {
     let mut parts = list_kinds(alloc, graph)?;

@@ -3,7 +3,8 @@ ghost use Rattle.std.specs.List.{flat_map};
 ghost use Rattle.std.specs.List.Sorted.{IsPermutation};
 ghost use Rattle.match_graph.specs.Graph.{IsGraph, ends_at, nodes_of};
 ghost use Rattle.match_rounds.specs.Classes.{node_count};
-ghost use Rattle.match_rounds.specs.Touching.{AreInOrder, AreParts, IsPortRun, IsRun, PartLaw, end_at};
+ghost use Rattle.match_rounds.specs.Touching.{AreInOrder, AreParts, IsPortRun, IsRun, PartLaw};
+ghost use Rattle.match_rounds.specs.Touching.{end_at};
 ghost use Rattle.match_rounds.specs.Turned.{TouchLaw};
 
 use crate::classes::Classes;
@@ -19,7 +20,8 @@ pub fn list_touched(
     touched: &mut Vec<End>,
 ) -> Result<(), AllocError>
     requires graph { IsGraph graph.now }
-    requires nodes { (i : ℕ) → i < length members.now → slice_index members.now i < nodes_of graph.now }
+    requires nodes { (i : ℕ) → i < length members.now
+        → slice_index members.now i < nodes_of graph.now }
     ensures { OnOk result (touched.new.items ≡ flat_map (ends_at graph.now) members.now) }
 {
     touched.clear();
@@ -81,7 +83,8 @@ pub fn list_parts(
 ) -> Result<(), AllocError>
     requires order { AreInOrder touched.now }
     requires run { IsPortRun touched.now from to }
-    requires nodes { (k : ℕ) → k < length touched.now → (end_at touched.now k).node < node_count classes.now }
+    requires nodes { (k : ℕ) → k < length touched.now
+        → (end_at touched.now k).node < node_count classes.now }
     ensures { OnOk result (AreParts classes.now touched.now from to parts.new.items) }
 {
     parts.clear();

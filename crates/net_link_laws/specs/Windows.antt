@@ -18,7 +18,13 @@ grown r = record { x1 = r.x1 -ℤ pos 1; y1 = r.y1 -ℤ pos 1; x2 = r.x2 +ℤ po
 
 -- what two rectangles have in common; sides may stand in no order where they have nothing
 abbrev pub common : Rect → Rect → Rect
-common r s = record { x1 = int_max r.x1 s.x1; y1 = int_max r.y1 s.y1; x2 = int_min r.x2 s.x2; y2 = int_min r.y2 s.y2 }
+common r s = record {
+  x1 = int_max r.x1 s.x1;
+  y1 = int_max r.y1 s.y1;
+  x2 = int_min r.x2 s.x2;
+  y2 =
+      int_min r.y2 s.y2;
+}
 
 -- rectangles of the cell itself that touch
 pub record AreOwnInTouch (w : Wiring) (t : Tables) (cell c r e s : ℕ) : Type 0 where
@@ -34,7 +40,8 @@ pub record AreOwnInTouch (w : Wiring) (t : Tables) (cell c r e s : ℕ) : Type 0
   pub near : IsNear p q
 
 -- a rectangle touches the image of a piece of a placed cell's net
-pub record IsOwnBesideChild (w : Wiring) (t : Tables) (cell c r : ℕ) (place : Place) (pieces : ℕ → List NetPiece) (x : ℕ) : Type 0 where
+pub record IsOwnBesideChild (w : Wiring) (t : Tables) (cell c r : ℕ) (place : Place)
+    (pieces : ℕ → List NetPiece) (x : ℕ) : Type 0 where
   pub rect : Rect
   pub listed : slice_get (t.own cell c) r ≡ Some rect
   pub other : ℕ
@@ -46,7 +53,8 @@ pub record IsOwnBesideChild (w : Wiring) (t : Tables) (cell c r : ℕ) (place : 
   pub near : IsNear p (moved_square place.motion m)
 
 -- squares that the nets of two cells hold touch, as these lie by their placements
-pub record AreInContact (d : Design) (w : Wiring) (t : Tables) (one other : Place) (x y : ℕ) : Type 0 where
+pub record AreInContact (d : Design) (w : Wiring) (t : Tables) (one other : Place)
+    (x y : ℕ) : Type 0 where
   pub c : ℕ
   pub e : ℕ
   pub joined : IsJoined w c e
@@ -57,7 +65,8 @@ pub record AreInContact (d : Design) (w : Wiring) (t : Tables) (one other : Plac
   pub near : IsNear (moved_square one.motion m) (moved_square other.motion n)
 
 -- images of pieces of two placed cells' nets touch
-pub record AreChildrenInTouch (w : Wiring) (one other : Place) (pieces others : ℕ → List NetPiece) (x y : ℕ) : Type 0 where
+pub record AreChildrenInTouch (w : Wiring) (one other : Place) (pieces others : ℕ → List NetPiece)
+    (x y : ℕ) : Type 0 where
   pub c : ℕ
   pub e : ℕ
   pub known : c < length w.conductors
@@ -69,26 +78,32 @@ pub record AreChildrenInTouch (w : Wiring) (one other : Place) (pieces others : 
   pub over_too : IsOver (others e) y n
   pub near : IsNear (moved_square one.motion m) (moved_square other.motion n)
 
--- of each of these conductors, what was collected of a placed cell in a window that has all squares which the placement brings into another
+-- of each of these conductors, what was collected of a placed cell in a window that has all squares
+-- which the placement brings into another
 abbrev pub AreSeen : Design → Tables → Place → Rect → (ℕ → Type 0) → (ℕ → List NetPiece) → Type 0
-AreSeen d t p window which pieces = (c : ℕ) → which c → (inner : Rect) × IsWindowBelow d t p c window inner × AreCollected d t p.cell c inner (pieces c)
+AreSeen d t p window which pieces = (c : ℕ) → which c → (inner : Rect)
+    × IsWindowBelow d t p c window inner × AreCollected d t p.cell c inner (pieces c)
 
 -- the rectangle of that number
 abbrev pub IsOwnAt : Tables → ℕ → ℕ → ℕ → Rect → Type 0
 IsOwnAt t cell c r rect = slice_get (t.own cell c) r ≡ Some rect
 
--- each square of the one placed cell's nets that is near one of the other's lies in the window, and so does that one
+-- each square of the one placed cell's nets that is near one of the other's lies in the window, and
+-- so does that one
 abbrev pub IsEnoughFor : Design → Tables → Place → Place → Rect → Type 0
-IsEnoughFor d t p q window = (c e x y : ℕ) (m n : Square) → NetHolds d t p.cell x (At c m) → NetHolds d t q.cell y (At e n) → IsNear (moved_square p.motion m) (moved_square q.motion n)
+IsEnoughFor d t p q window = (c e x y : ℕ) (m n : Square) → NetHolds d t p.cell x (At c m)
+    → NetHolds d t q.cell y (At e n) → IsNear (moved_square p.motion m) (moved_square q.motion n)
     → IsIn (moved_square p.motion m) window × IsIn (moved_square q.motion n) window
 
 -- the nets of a cell have no square outside a hull, as it lies by a placement
 abbrev pub IsHullOf : Design → Tables → Place → Rect → Type 0
-IsHullOf d t p hull = (c x : ℕ) (m : Square) → NetHolds d t p.cell x (At c m) → IsIn (moved_square p.motion m) hull
+IsHullOf d t p hull =
+    (c x : ℕ) (m : Square) → NetHolds d t p.cell x (At c m) → IsIn (moved_square p.motion m) hull
 
 -- two placements of the same cells, both moved on alike
 pub record AreMovedAlike (o : Motion) (p q r s : Place) : Type 0 where
   pub one : r.cell ≡ p.cell
   pub other : s.cell ≡ q.cell
   pub moves_one : (m : Square) → moved_square r.motion m ≡ moved_square o (moved_square p.motion m)
-  pub moves_other : (m : Square) → moved_square s.motion m ≡ moved_square o (moved_square q.motion m)
+  pub moves_other : (m : Square) → moved_square s.motion m
+      ≡ moved_square o (moved_square q.motion m)

@@ -18,14 +18,23 @@ use Rattle.touching_pieces.specs.declared.conductors.Joined.{Joined}
 
 -- of the rectangle, or of the placement in the window round it
 abbrev pub IsBesideSeen : Design → Tables → Rect → ℕ → ℕ → ℕ → Place → ℕ → ℕ → ℕ → Square → Type 0
-IsBesideSeen d t rect conductor item n p at c i q = ((conductor ≡ c) × (item ≡ i) × IsIn q rect) ⊎ IsSeen d t p (grown rect) at n c i q
+IsBesideSeen d t rect conductor item n p at c i q =
+    ((conductor ≡ c) × (item ≡ i) × IsIn q rect) ⊎ IsSeen d t p (grown rect) at n c i q
 
 -- each link is one by squares between items, and each such link of the two is found
-pub record AreBesideLinks (d : Design) (w : Wiring) (t : Tables) (cell c r k : ℕ) (links : List Link) : Type 0 where
-  pub each : (i j : ℕ) → IsLinked links i j → (a : Item) × (b : Item) × (slice_get (items_of d w t cell) i ≡ Some a) × (slice_get (items_of d w t cell) j ≡ Some b) × IsSquareLink d w t cell a b
-  pub found : (x : ℕ) → IsSquareLink d w t cell (Own c r) (Child k x) → (owned_before t cell c + r ≡ first_of d w t cell k + x) ⊎ IsLinked links (owned_before t cell c + r) (first_of d w t cell k + x)
+pub record AreBesideLinks (d : Design) (w : Wiring) (t : Tables) (cell c r k : ℕ)
+    (links : List Link) : Type 0 where
+  pub each : (i j : ℕ) → IsLinked links i j → (a : Item) × (b : Item)
+      × (slice_get (items_of d w t cell) i ≡ Some a) × (slice_get (items_of d w t cell) j ≡ Some b)
+      × IsSquareLink d w t cell a b
+  pub found : (x : ℕ) → IsSquareLink d w t cell (Own c r) (Child k x)
+      → (owned_before t cell c + r ≡ first_of d w t cell k + x)
+      ⊎ IsLinked links (owned_before t cell c + r) (first_of d w t cell k + x)
 
 abbrev pub BesidePairLaw : Type 0
-BesidePairLaw = (d : Design) (w : Wiring) (t : Tables) (cell c r k : ℕ) (p : Place) (rect : Rect) (joins : List Joined) (links : List Link) → AreRightBelow d w t cell → IsItem d w t cell (Own c r) → slice_get (t.own cell c) r ≡ Some rect
+BesidePairLaw = (d : Design) (w : Wiring) (t : Tables) (cell c r k : ℕ) (p : Place) (rect : Rect)
+    (joins : List Joined) (links : List Link) → AreRightBelow d w t cell
+    → IsItem d w t cell (Own c r) → slice_get (t.own cell c) r ≡ Some rect
     → slice_get (places_of d cell) k ≡ Some p → ((a e : ℕ) → AreJoined joins a e ↔ IsJoined w a e)
-    → AreLinksOver joins (IsBesideSeen d t rect c (owned_before t cell c + r) (length w.conductors) p (first_of d w t cell k)) links → AreBesideLinks d w t cell c r k links
+    → AreLinksOver joins (IsBesideSeen d t rect c (owned_before t cell c + r) (length w.conductors)
+    p (first_of d w t cell k)) links → AreBesideLinks d w t cell c r k links

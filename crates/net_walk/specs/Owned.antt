@@ -13,13 +13,20 @@ use Rattle.net_link_laws.specs.Places.{owned_before}
 
 -- the first n rectangles of a conductor, as items that stand from a place on
 abbrev pub IsOfRects : List Rect → ℕ → ℕ → ℕ → ℕ → ℕ → Square → Type 0
-IsOfRects own conductor at n c i q = (conductor ≡ c) × (r : ℕ) × (r < n) × (rect : Rect) × (slice_get own r ≡ Some rect) × IsIn q rect × (at + r ≡ i)
+IsOfRects own conductor at n c i q = (conductor ≡ c) × (r : ℕ) × (r < n) × (rect : Rect)
+    × (slice_get own r ≡ Some rect) × IsIn q rect × (at + r ≡ i)
 
 -- the rectangles of the first n conductors, at their places
 abbrev pub IsOwned : Tables → ℕ → ℕ → ℕ → ℕ → Square → Type 0
-IsOwned t cell n c i q = (c < n) × (r : ℕ) × (rect : Rect) × (slice_get (t.own cell c) r ≡ Some rect) × IsIn q rect × (owned_before t cell c + r ≡ i)
+IsOwned t cell n c i q = (c < n) × (r : ℕ) × (rect : Rect)
+    × (slice_get (t.own cell c) r ≡ Some rect) × IsIn q rect × (owned_before t cell c + r ≡ i)
 
 -- each link is one by squares between own rectangles, and all of those are there
-pub record AreOwnLinks (d : Design) (w : Wiring) (t : Tables) (cell : ℕ) (links : List Link) : Type 0 where
-  pub each : (i j : ℕ) → IsLinked links i j → (a : Item) × (b : Item) × (slice_get (items_of d w t cell) i ≡ Some a) × (slice_get (items_of d w t cell) j ≡ Some b) × IsSquareLink d w t cell a b
-  pub found : (c r e s : ℕ) → IsSquareLink d w t cell (Own c r) (Own e s) → (owned_before t cell c + r ≡ owned_before t cell e + s) ⊎ IsLinked links (owned_before t cell c + r) (owned_before t cell e + s)
+pub record AreOwnLinks (d : Design) (w : Wiring) (t : Tables) (cell : ℕ)
+    (links : List Link) : Type 0 where
+  pub each : (i j : ℕ) → IsLinked links i j → (a : Item) × (b : Item)
+      × (slice_get (items_of d w t cell) i ≡ Some a) × (slice_get (items_of d w t cell) j ≡ Some b)
+      × IsSquareLink d w t cell a b
+  pub found : (c r e s : ℕ) → IsSquareLink d w t cell (Own c r) (Own e s)
+      → (owned_before t cell c + r ≡ owned_before t cell e + s)
+      ⊎ IsLinked links (owned_before t cell c + r) (owned_before t cell e + s)

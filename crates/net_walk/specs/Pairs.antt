@@ -21,18 +21,27 @@ use Rattle.touching_pieces.specs.declared.conductors.Joined.{Joined}
 
 -- the place of the first net of a placement
 abbrev pub first_of : Design → Wiring → Tables → ℕ → ℕ → ℕ
-first_of d w t cell k = owned_before t cell (length w.conductors) + nets_before t (places_of d cell) k
+first_of d w t cell k =
+    owned_before t cell (length w.conductors) + nets_before t (places_of d cell) k
 
 -- each link is one by squares between items, and each such link of the two placements is found
-pub record ArePairLinks (d : Design) (w : Wiring) (t : Tables) (cell k l : ℕ) (links : List Link) : Type 0 where
-  pub each : (i j : ℕ) → IsLinked links i j → (a : Item) × (b : Item) × (slice_get (items_of d w t cell) i ≡ Some a) × (slice_get (items_of d w t cell) j ≡ Some b) × IsSquareLink d w t cell a b
-  pub found : (x y : ℕ) → IsSquareLink d w t cell (Child k x) (Child l y) → (first_of d w t cell k + x ≡ first_of d w t cell l + y) ⊎ IsLinked links (first_of d w t cell k + x) (first_of d w t cell l + y)
+pub record ArePairLinks (d : Design) (w : Wiring) (t : Tables) (cell k l : ℕ)
+    (links : List Link) : Type 0 where
+  pub each : (i j : ℕ) → IsLinked links i j → (a : Item) × (b : Item)
+      × (slice_get (items_of d w t cell) i ≡ Some a) × (slice_get (items_of d w t cell) j ≡ Some b)
+      × IsSquareLink d w t cell a b
+  pub found : (x y : ℕ) → IsSquareLink d w t cell (Child k x) (Child l y)
+      → (first_of d w t cell k + x ≡ first_of d w t cell l + y)
+      ⊎ IsLinked links (first_of d w t cell k + x) (first_of d w t cell l + y)
 
 -- links over what is seen of two placements in a window that is enough for both are theirs
 abbrev pub PairLaw : Type 0
-PairLaw = (d : Design) (w : Wiring) (t : Tables) (cell k l : ℕ) (p q : Place) (window : Rect) (joins : List Joined) (links : List Link) → AreRightBelow d w t cell → slice_get (places_of d cell) k ≡ Some p → slice_get (places_of d cell) l ≡ Some q
+PairLaw = (d : Design) (w : Wiring) (t : Tables) (cell k l : ℕ) (p q : Place) (window : Rect)
+    (joins : List Joined) (links : List Link) → AreRightBelow d w t cell
+    → slice_get (places_of d cell) k ≡ Some p → slice_get (places_of d cell) l ≡ Some q
     → IsEnoughFor d t p q window → ((c e : ℕ) → AreJoined joins c e ↔ IsJoined w c e)
-    → AreLinksOver joins (IsSeenOfTwo d t window (length w.conductors) p (first_of d w t cell k) q (first_of d w t cell l)) links → ArePairLinks d w t cell k l links
+    → AreLinksOver joins (IsSeenOfTwo d t window (length w.conductors) p (first_of d w t cell k) q
+    (first_of d w t cell l)) links → ArePairLinks d w t cell k l links
 
 -- a window for two placements, near the origin
 pub record IsWindowFor (d : Design) (t : Tables) (p q : Place) (window : Rect) : Type 0 where
@@ -41,13 +50,20 @@ pub record IsWindowFor (d : Design) (t : Tables) (p q : Place) (window : Rect) :
 
 -- no squares of the two are near each other
 abbrev pub AreNeverNear : Design → Tables → Place → Place → Type 0
-AreNeverNear d t p q = (c e x y : ℕ) (m n : Square) → NetHolds d t p.cell x (At c m) → NetHolds d t q.cell y (At e n) → IsNear (moved_square p.motion m) (moved_square q.motion n) → ⊥
+AreNeverNear d t p q = (c e x y : ℕ) (m n : Square) → NetHolds d t p.cell x (At c m)
+    → NetHolds d t q.cell y (At e n) → IsNear (moved_square p.motion m) (moved_square q.motion n)
+    → ⊥
 
 -- each new link is one by squares, and each of the two placements is there
-pub record AddsPair (d : Design) (w : Wiring) (t : Tables) (cell k l : ℕ) (old new : List Link) : Type 0 where
+pub record AddsPair (d : Design) (w : Wiring) (t : Tables) (cell k l : ℕ)
+    (old new : List Link) : Type 0 where
   pub kept : (i j : ℕ) → IsLinked old i j → IsLinked new i j
-  pub each : (i j : ℕ) → IsLinked new i j → IsLinked old i j ⊎ ((a : Item) × (b : Item) × (slice_get (items_of d w t cell) i ≡ Some a) × (slice_get (items_of d w t cell) j ≡ Some b) × IsSquareLink d w t cell a b)
-  pub found : (x y : ℕ) → IsSquareLink d w t cell (Child k x) (Child l y) → (first_of d w t cell k + x ≡ first_of d w t cell l + y) ⊎ IsLinked new (first_of d w t cell k + x) (first_of d w t cell l + y)
+  pub each : (i j : ℕ) → IsLinked new i j → IsLinked old i j
+      ⊎ ((a : Item) × (b : Item) × (slice_get (items_of d w t cell) i ≡ Some a)
+      × (slice_get (items_of d w t cell) j ≡ Some b) × IsSquareLink d w t cell a b)
+  pub found : (x y : ℕ) → IsSquareLink d w t cell (Child k x) (Child l y)
+      → (first_of d w t cell k + x ≡ first_of d w t cell l + y)
+      ⊎ IsLinked new (first_of d w t cell k + x) (first_of d w t cell l + y)
 
 -- the piece of a placement: its number, and what bounds it, grown by one square
 pub record IsSpanPiece (d : Design) (t : Tables) (p : Place) (number : ℕ) (o : Piece) : Type 0 where
@@ -57,24 +73,37 @@ pub record IsSpanPiece (d : Design) (t : Tables) (p : Place) (number : ℕ) (o :
   pub rect : o.rect ≡ grown span
 
 -- one more piece, for a placement that has squares
-pub record AddsSpan (d : Design) (t : Tables) (p : Place) (number : ℕ) (old new : List Piece) : Type 0 where
+pub record AddsSpan (d : Design) (t : Tables) (p : Place) (number : ℕ)
+    (old new : List Piece) : Type 0 where
   pub kept : (o : Piece) → IsAmong o old → IsAmong o new
   pub each : (o : Piece) → IsAmong o new → IsAmong o old ⊎ IsSpanPiece d t p number o
   pub found : HasNoSquare d t p.cell ⊎ ((o : Piece) × IsAmong o new × IsSpanPiece d t p number o)
 
 -- the pieces of the first n placements
 pub record AreSpanPieces (d : Design) (t : Tables) (cell n : ℕ) (pieces : List Piece) : Type 0 where
-  pub each : (o : Piece) → IsAmong o pieces → (p : Place) × (slice_get (places_of d cell) o.item ≡ Some p) × IsSpanPiece d t p o.item o
-  pub found : (k : ℕ) (p : Place) → k < n → slice_get (places_of d cell) k ≡ Some p → HasNoSquare d t p.cell ⊎ ((o : Piece) × IsAmong o pieces × IsSpanPiece d t p k o)
+  pub each : (o : Piece) → IsAmong o pieces → (p : Place)
+      × (slice_get (places_of d cell) o.item ≡ Some p) × IsSpanPiece d t p o.item o
+  pub found : (k : ℕ) (p : Place) → k < n → slice_get (places_of d cell) k ≡ Some p
+      → HasNoSquare d t p.cell ⊎ ((o : Piece) × IsAmong o pieces × IsSpanPiece d t p k o)
 
 -- each new link is one by squares, and those of some pairs of placements are there
-pub record AddsPairs (d : Design) (w : Wiring) (t : Tables) (cell : ℕ) (pairs old new : List Link) : Type 0 where
+pub record AddsPairs (d : Design) (w : Wiring) (t : Tables) (cell : ℕ)
+    (pairs old new : List Link) : Type 0 where
   pub kept : (i j : ℕ) → IsLinked old i j → IsLinked new i j
-  pub each : (i j : ℕ) → IsLinked new i j → IsLinked old i j ⊎ ((a : Item) × (b : Item) × (slice_get (items_of d w t cell) i ≡ Some a) × (slice_get (items_of d w t cell) j ≡ Some b) × IsSquareLink d w t cell a b)
-  pub found : (k l x y : ℕ) → IsLinked pairs k l → IsSquareLink d w t cell (Child k x) (Child l y) → (first_of d w t cell k + x ≡ first_of d w t cell l + y) ⊎ IsLinked new (first_of d w t cell k + x) (first_of d w t cell l + y)
+  pub each : (i j : ℕ) → IsLinked new i j → IsLinked old i j
+      ⊎ ((a : Item) × (b : Item) × (slice_get (items_of d w t cell) i ≡ Some a)
+      × (slice_get (items_of d w t cell) j ≡ Some b) × IsSquareLink d w t cell a b)
+  pub found : (k l x y : ℕ) → IsLinked pairs k l → IsSquareLink d w t cell (Child k x) (Child l y)
+      → (first_of d w t cell k + x ≡ first_of d w t cell l + y)
+      ⊎ IsLinked new (first_of d w t cell k + x) (first_of d w t cell l + y)
 
 -- and those of any two placements
-pub record AddsChildren (d : Design) (w : Wiring) (t : Tables) (cell : ℕ) (old new : List Link) : Type 0 where
+pub record AddsChildren (d : Design) (w : Wiring) (t : Tables) (cell : ℕ)
+    (old new : List Link) : Type 0 where
   pub kept : (i j : ℕ) → IsLinked old i j → IsLinked new i j
-  pub each : (i j : ℕ) → IsLinked new i j → IsLinked old i j ⊎ ((a : Item) × (b : Item) × (slice_get (items_of d w t cell) i ≡ Some a) × (slice_get (items_of d w t cell) j ≡ Some b) × IsSquareLink d w t cell a b)
-  pub found : (k l x y : ℕ) → (k ≡ l → ⊥) → IsSquareLink d w t cell (Child k x) (Child l y) → (first_of d w t cell k + x ≡ first_of d w t cell l + y) ⊎ IsLinked new (first_of d w t cell k + x) (first_of d w t cell l + y)
+  pub each : (i j : ℕ) → IsLinked new i j → IsLinked old i j
+      ⊎ ((a : Item) × (b : Item) × (slice_get (items_of d w t cell) i ≡ Some a)
+      × (slice_get (items_of d w t cell) j ≡ Some b) × IsSquareLink d w t cell a b)
+  pub found : (k l x y : ℕ) → (k ≡ l → ⊥) → IsSquareLink d w t cell (Child k x) (Child l y)
+      → (first_of d w t cell k + x ≡ first_of d w t cell l + y)
+      ⊎ IsLinked new (first_of d w t cell k + x) (first_of d w t cell l + y)

@@ -13,5 +13,7 @@ pub record IsRelative (one other rel : Motion) : Type 0 where
   pub squares : (s : Square) → moved_square other (moved_square rel s) ≡ moved_square one s
 
 abbrev pub SameContactLaw : Type 0
-SameContactLaw = (d : Design) (w : Wiring) (t : Tables) (p q r s : Place) (rel : Motion) (x y : ℕ) → r.cell ≡ p.cell → s.cell ≡ q.cell → IsRelative p.motion q.motion rel → IsRelative r.motion s.motion rel
+SameContactLaw = (d : Design) (w : Wiring) (t : Tables) (p q r s : Place) (rel : Motion) (x y : ℕ)
+    → r.cell ≡ p.cell → s.cell ≡ q.cell → IsRelative p.motion q.motion rel
+    → IsRelative r.motion s.motion rel
     → AreInContact d w t p q x y ↔ AreInContact d w t r s x y

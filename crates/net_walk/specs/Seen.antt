@@ -43,16 +43,20 @@ pub record AreNearOver (joins : List Joined) (R : ℕ → ℕ → Square → Typ
   pub near : IsNear p q
 
 -- a link for each two such items that differ, and no other
-pub record AreLinksOver (joins : List Joined) (R : ℕ → ℕ → Square → Type 0) (links : List Link) : Type 0 where
+pub record AreLinksOver (joins : List Joined) (R : ℕ → ℕ → Square → Type 0)
+    (links : List Link) : Type 0 where
   pub each : (i j : ℕ) → IsLinked links i j → AreNearOver joins R i j
   pub found : (i j : ℕ) → AreNearOver joins R i j → (i ≡ j) ⊎ IsLinked links i j
 
 -- images of pieces of a conductor, each of the item that stands that far behind a place
 abbrev pub IsSeenOf : Motion → List NetPiece → ℕ → ℕ → ℕ → ℕ → Square → Type 0
-IsSeenOf motion pieces conductor at c i q = (conductor ≡ c) × (x : ℕ) × (m : Square) × IsOver pieces x m × (at + x ≡ i) × (moved_square motion m ≡ q)
+IsSeenOf motion pieces conductor at c i q = (conductor ≡ c) × (x : ℕ) × (m : Square)
+    × IsOver pieces x m × (at + x ≡ i) × (moved_square motion m ≡ q)
 
--- what the nets of a placed cell hold of the first conductors in the window, as the placement brings it there
-pub record IsSeen (d : Design) (t : Tables) (p : Place) (window : Rect) (at conductors c i : ℕ) (q : Square) : Type 0 where
+-- what the nets of a placed cell hold of the first conductors in the window, as the placement
+-- brings it there
+pub record IsSeen (d : Design) (t : Tables) (p : Place) (window : Rect) (at conductors c i : ℕ)
+    (q : Square) : Type 0 where
   pub known : c < conductors
   pub net : ℕ
   pub square : Square
@@ -67,5 +71,7 @@ HaveItems at [] = Unit {0}
 HaveItems at (p ∷ ps) = (at + p.net < 4294967296) × HaveItems at ps
 
 -- of two placed cells
-abbrev pub IsSeenOfTwo : Design → Tables → Rect → ℕ → Place → ℕ → Place → ℕ → ℕ → ℕ → Square → Type 0
-IsSeenOfTwo d t window n one at other other_at c i q = IsSeen d t one window at n c i q ⊎ IsSeen d t other window other_at n c i q
+abbrev pub IsSeenOfTwo : Design → Tables → Rect → ℕ → Place → ℕ → Place → ℕ → ℕ → ℕ → Square
+    → Type 0
+IsSeenOfTwo d t window n one at other other_at c i q =
+    IsSeen d t one window at n c i q ⊎ IsSeen d t other window other_at n c i q

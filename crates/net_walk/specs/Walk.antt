@@ -55,7 +55,8 @@ AreInside window [] = Unit {0}
 AreInside window (p ∷ ps) = IsInside p.rect window × AreInside window ps
 
 -- the pieces are those before and some more, which are over these squares and lie in the window
-pub record AddsPieces (window : Rect) (R : ℕ → Square → Type 0) (old new : List NetPiece) : Type 0 where
+pub record AddsPieces (window : Rect) (R : ℕ → Square → Type 0)
+    (old new : List NetPiece) : Type 0 where
   pub over : (x : ℕ) (q : Square) → IsOver new x q ↔ (IsOver old x q ⊎ R x q)
   pub inside : AreInside window old → AreInside window new
 
@@ -65,11 +66,14 @@ IsClipped window net rect x q = (net ≡ x) × IsIn q rect × IsIn q window
 
 -- of the first n rectangles; their nets stand in a list from a place on
 abbrev pub IsOfOwn : Rect → List Rect → List ℕ → ℕ → ℕ → ℕ → Square → Type 0
-IsOfOwn window own net_of at n x q = (r : ℕ) × (r < n) × (rect : Rect) × (slice_get own r ≡ Some rect) × (slice_get net_of (at + r) ≡ Some x) × IsIn q rect × IsIn q window
+IsOfOwn window own net_of at n x q = (r : ℕ) × (r < n) × (rect : Rect)
+    × (slice_get own r ≡ Some rect) × (slice_get net_of (at + r) ≡ Some x) × IsIn q rect
+    × IsIn q window
 
 -- images of pieces, each in the net that stands that far behind a place
 abbrev pub IsOfMoved : Motion → List NetPiece → List ℕ → ℕ → ℕ → Square → Type 0
-IsOfMoved motion pieces net_of at x q = (b : ℕ) × (m : Square) × IsOver pieces b m × (slice_get net_of (at + b) ≡ Some x) × (moved_square motion m ≡ q)
+IsOfMoved motion pieces net_of at x q = (b : ℕ) × (m : Square) × IsOver pieces b m
+    × (slice_get net_of (at + b) ≡ Some x) × (moved_square motion m ≡ q)
 
 -- the nets of the pieces stand in the list
 abbrev pub AreListed : ℕ → ℕ → List NetPiece → Type 0
@@ -88,12 +92,15 @@ pub record IsPart (d : Design) (t : Tables) (p : Place) (window inner : Rect) : 
   pub rect : IsRect inner
   pub near : IsNearRect inner
   pub inside : (m : Square) → IsIn m inner → IsIn (moved_square p.motion m) window
-  pub all : (c x : ℕ) (m : Square) → NetHolds d t p.cell x (At c m) → IsIn (moved_square p.motion m) window → IsIn m inner
+  pub all : (c x : ℕ) (m : Square) → NetHolds d t p.cell x (At c m)
+      → IsIn (moved_square p.motion m) window → IsIn m inner
 
 abbrev pub HasNoPart : Design → Tables → Place → Rect → Type 0
-HasNoPart d t p window = (c x : ℕ) (m : Square) → NetHolds d t p.cell x (At c m) → IsIn (moved_square p.motion m) window → ⊥
+HasNoPart d t p window = (c x : ℕ) (m : Square) → NetHolds d t p.cell x (At c m)
+    → IsIn (moved_square p.motion m) window → ⊥
 
 -- what a cell's nets hold of a conductor in the window, in pieces that lie there
-pub record IsCollection (d : Design) (t : Tables) (cell c : ℕ) (window : Rect) (pieces : List NetPiece) : Type 0 where
+pub record IsCollection (d : Design) (t : Tables) (cell c : ℕ) (window : Rect)
+    (pieces : List NetPiece) : Type 0 where
   pub collected : AreCollected d t cell c window pieces
   pub inside : AreInside window pieces

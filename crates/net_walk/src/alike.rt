@@ -7,7 +7,8 @@ ghost use Rattle.net_walk.specs.Relative.{IsRelative, SameContactLaw};
 
 use geo_base::Motion;
 
-/// The first motion as it is seen from where the other leads: followed by the other it is the first.
+/// The first motion as it is seen from where the other leads: followed by the other it is the
+/// first.
 pub fn relative(one: &Motion, other: &Motion) -> Motion
     requires near { IsNearMotion one.now }
     requires near_other { IsNearMotion other.now }
@@ -16,7 +17,8 @@ pub fn relative(one: &Motion, other: &Motion) -> Motion
     one.then(&other.inverse())
 }
 
-/// Two pairs of placements of the same cells that lie beside each other alike have the same nets in contact.
+/// Two pairs of placements of the same cells that lie beside each other alike have the same nets in
+/// contact.
 pub fn same_contacts()
     ensures { SameContactLaw }
 {}

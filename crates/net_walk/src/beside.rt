@@ -16,7 +16,8 @@ use link_classes::Link;
 use std::alloc::{AllocError, Global};
 use touching_pieces::{Joined, Piece, touching_links};
 
-/// Links between the item of a rectangle and those of a placement's nets that touch it; these stand from a place on.
+/// Links between the item of a rectangle and those of a placement's nets that touch it; these stand
+/// from a place on.
 pub fn beside_links<C: Cells>(
     alloc: Global,
     cells: &C,
@@ -30,10 +31,13 @@ pub fn beside_links<C: Cells>(
     requires rect { IsRect rect.now }
     requires near { IsNearRect (grown rect.now) }
     requires known { conductor < length (C.wiring cells.now).conductors }
-    requires nets { AreNetsUnder (C.design cells.now) (C.wiring cells.now) (C.tables cells.now) element.now.cell }
+    requires nets { AreNetsUnder (C.design cells.now) (C.wiring cells.now) (C.tables cells.now)
+        element.now.cell }
     requires motion { IsNearMotion element.now.motion }
     requires room { at + ((C.tables cells.now).nets element.now.cell).count ≤ 4294967296 }
-    ensures { IfOk result (λ v. AreLinksOver joins.now (IsBesideSeen (C.design cells.now) (C.tables cells.now) rect.now conductor item (length (C.wiring cells.now).conductors) (place_of element.now) at) v.items) }
+    ensures { IfOk result (λ v. AreLinksOver joins.now
+        (IsBesideSeen (C.design cells.now) (C.tables cells.now) rect.now conductor item
+        (length (C.wiring cells.now).conductors) (place_of element.now) at) v.items) }
 {
     let window = grown(rect);
     let mut pieces = Vec::new(alloc);

@@ -54,8 +54,10 @@ pub trait Cells {
 
     /// What bounds the nets of a placed cell, as its placement brings it there.
     fn span(&self, element: &Element) -> Option<Rect>
-        ensures some { IfSome result (IsSpan (design self.now) (tables self.now) (place_of element.now)) }
-        ensures none { IfNone result (HasNoSquare (design self.now) (tables self.now) element.now.cell) };
+        ensures some { IfSome result (IsSpan (design self.now) (tables self.now)
+            (place_of element.now)) }
+        ensures none { IfNone result (HasNoSquare (design self.now) (tables self.now)
+            element.now.cell) };
 
     ghost lower: { (x : Self) → IsHeight (design x) (height x) };
 }

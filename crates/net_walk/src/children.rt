@@ -1,10 +1,12 @@
 // Links between the nets of two placements.
-ghost use Rattle.std.specs.Prelude.{◌≡◌, ◌+◌, ◌<◌, ◌≤◌, ◌↔◌, length, get_or, ℕ, Some, OnOk, IfOk, IfSome, IfNone, slice_get};
+ghost use Rattle.std.specs.Prelude.{◌≡◌, ◌+◌, ◌<◌, ◌≤◌, ◌↔◌, length, get_or, ℕ, Some, OnOk, IfOk};
+ghost use Rattle.std.specs.Prelude.{IfSome, IfNone, slice_get};
 ghost use Rattle.flat_layout.specs.Nets.{AreRightBelow, items_of};
 ghost use Rattle.flat_layout.specs.Regions.{IsJoined};
 ghost use Rattle.geo_base.specs.Near.{IsNearMotion};
 ghost use Rattle.net_link_laws.specs.Places.{places_of};
-ghost use Rattle.net_walk.specs.Pairs.{AddsChildren, AddsPair, AddsPairs, AddsSpan, AreSpanPieces, IsWindowFor, AreNeverNear, first_of};
+ghost use Rattle.net_walk.specs.Pairs.{AddsChildren, AddsPair, AddsPairs, AddsSpan, AreSpanPieces};
+ghost use Rattle.net_walk.specs.Pairs.{IsWindowFor, AreNeverNear, first_of};
 ghost use Rattle.net_walk.specs.Walk.{place_of};
 ghost use Rattle.link_classes.specs.Classes.{AreInRange};
 ghost use Rattle.touching_pieces.specs.Pairs.{AreJoined};
@@ -19,8 +21,10 @@ use touching_pieces::{Joined, Piece, touching_pairs};
 
 // Where squares of the two may be near each other.
 fn window_of<C: Cells>(cells: &C, one: &Element, other: &Element) -> Option<Rect>
-    ensures some { IfSome result (IsWindowFor (C.design cells.now) (C.tables cells.now) (place_of one.now) (place_of other.now)) }
-    ensures none { IfNone result (AreNeverNear (C.design cells.now) (C.tables cells.now) (place_of one.now) (place_of other.now)) }
+    ensures some { IfSome result (IsWindowFor (C.design cells.now) (C.tables cells.now)
+        (place_of one.now) (place_of other.now)) }
+    ensures none { IfNone result (AreNeverNear (C.design cells.now) (C.tables cells.now)
+        (place_of one.now) (place_of other.now)) }
 {
     match cells.span(one) {
         None => None,
@@ -51,17 +55,22 @@ pub fn link_pair<C: Cells>(
     joins: &[Joined],
     out: &mut Vec<Link>,
 ) -> Result<(), AllocError>
-    requires right { AreRightBelow (C.design cells.now) (C.wiring cells.now) (C.tables cells.now) cell }
+    requires right { AreRightBelow (C.design cells.now) (C.wiring cells.now) (C.tables cells.now)
+        cell }
     requires placed { slice_get (places_of (C.design cells.now) cell) k ≡ Some (place_of one.now) }
-    requires placed_too { slice_get (places_of (C.design cells.now) cell) l ≡ Some (place_of other.now) }
+    requires placed_too { slice_get (places_of (C.design cells.now) cell) l
+        ≡ Some (place_of other.now) }
     requires motion { IsNearMotion one.now.motion }
     requires motion_too { IsNearMotion other.now.motion }
-    requires at { at ≡ first_of (C.design cells.now) (C.wiring cells.now) (C.tables cells.now) cell k }
-    requires other_at { other_at ≡ first_of (C.design cells.now) (C.wiring cells.now) (C.tables cells.now) cell l }
+    requires at { at ≡ first_of (C.design cells.now) (C.wiring cells.now) (C.tables cells.now) cell
+        k }
+    requires other_at { other_at ≡ first_of (C.design cells.now) (C.wiring cells.now)
+        (C.tables cells.now) cell l }
     requires room { at + ((C.tables cells.now).nets one.now.cell).count ≤ 4294967296 }
     requires room_too { other_at + ((C.tables cells.now).nets other.now.cell).count ≤ 4294967296 }
     requires joins { (c e : ℕ) → AreJoined joins.now c e ↔ IsJoined (C.wiring cells.now) c e }
-    ensures { OnOk result (AddsPair (C.design cells.now) (C.wiring cells.now) (C.tables cells.now) cell k l out.old.items out.new.items) }
+    ensures { OnOk result (AddsPair (C.design cells.now) (C.wiring cells.now) (C.tables cells.now)
+        cell k l out.old.items out.new.items) }
 {
     let _ = k;
     let _ = l;
@@ -83,7 +92,8 @@ fn push_span<C: Cells>(
     number: u32,
     out: &mut Vec<Piece>,
 ) -> Result<(), AllocError>
-    ensures { OnOk result (AddsSpan (C.design cells.now) (C.tables cells.now) (place_of element.now) number out.old.items out.new.items) }
+    ensures { OnOk result (AddsSpan (C.design cells.now) (C.tables cells.now) (place_of element.now)
+        number out.old.items out.new.items) }
 {
     match cells.span(element) {
         None => Ok(()),
@@ -99,7 +109,8 @@ fn push_span<C: Cells>(
 }
 
 fn span_pieces<C: Cells>(alloc: Global, cells: &C, cell: u32) -> Result<Vec<Piece>, AllocError>
-    ensures { IfOk result (λ v. AreSpanPieces (C.design cells.now) (C.tables cells.now) cell (length (places_of (C.design cells.now) cell)) v.items) }
+    ensures { IfOk result (λ v. AreSpanPieces (C.design cells.now) (C.tables cells.now) cell
+        (length (places_of (C.design cells.now) cell)) v.items) }
 {
     let elements = cells.places(cell);
     let mut out = Vec::new(alloc);
@@ -121,12 +132,17 @@ fn link_numbers<C: Cells>(
 ) -> Result<(), AllocError>
     requires one { pair.now.one < length (places_of (C.design cells.now) cell) }
     requires other { pair.now.other < length (places_of (C.design cells.now) cell) }
-    requires right { AreRightBelow (C.design cells.now) (C.wiring cells.now) (C.tables cells.now) cell }
+    requires right { AreRightBelow (C.design cells.now) (C.wiring cells.now) (C.tables cells.now)
+        cell }
     requires long { length firsts.now ≡ length (places_of (C.design cells.now) cell) }
-    requires firsts { (k : ℕ) → k < length firsts.now → get_or firsts.now k 0 ≡ first_of (C.design cells.now) (C.wiring cells.now) (C.tables cells.now) cell k }
-    requires room { length (items_of (C.design cells.now) (C.wiring cells.now) (C.tables cells.now) cell) ≤ 4294967296 }
+    requires firsts { (k : ℕ) → k < length firsts.now
+        → get_or firsts.now k 0 ≡ first_of (C.design cells.now) (C.wiring cells.now)
+        (C.tables cells.now) cell k }
+    requires room { length (items_of (C.design cells.now) (C.wiring cells.now) (C.tables cells.now)
+        cell) ≤ 4294967296 }
     requires joins { (c e : ℕ) → AreJoined joins.now c e ↔ IsJoined (C.wiring cells.now) c e }
-    ensures { OnOk result (AddsPair (C.design cells.now) (C.wiring cells.now) (C.tables cells.now) cell pair.now.one pair.now.other out.old.items out.new.items) }
+    ensures { OnOk result (AddsPair (C.design cells.now) (C.wiring cells.now) (C.tables cells.now)
+        cell pair.now.one pair.now.other out.old.items out.new.items) }
 {
     let elements = cells.places(cell);
     let k = pair.one as usize;
@@ -156,12 +172,17 @@ fn link_pairs<C: Cells>(
     out: &mut Vec<Link>,
 ) -> Result<(), AllocError>
     requires pairs { AreInRange (length (places_of (C.design cells.now) cell)) pairs.now }
-    requires right { AreRightBelow (C.design cells.now) (C.wiring cells.now) (C.tables cells.now) cell }
+    requires right { AreRightBelow (C.design cells.now) (C.wiring cells.now) (C.tables cells.now)
+        cell }
     requires long { length firsts.now ≡ length (places_of (C.design cells.now) cell) }
-    requires firsts { (k : ℕ) → k < length firsts.now → get_or firsts.now k 0 ≡ first_of (C.design cells.now) (C.wiring cells.now) (C.tables cells.now) cell k }
-    requires room { length (items_of (C.design cells.now) (C.wiring cells.now) (C.tables cells.now) cell) ≤ 4294967296 }
+    requires firsts { (k : ℕ) → k < length firsts.now
+        → get_or firsts.now k 0 ≡ first_of (C.design cells.now) (C.wiring cells.now)
+        (C.tables cells.now) cell k }
+    requires room { length (items_of (C.design cells.now) (C.wiring cells.now) (C.tables cells.now)
+        cell) ≤ 4294967296 }
     requires joins { (c e : ℕ) → AreJoined joins.now c e ↔ IsJoined (C.wiring cells.now) c e }
-    ensures { OnOk result (AddsPairs (C.design cells.now) (C.wiring cells.now) (C.tables cells.now) cell pairs.now out.old.items out.new.items) }
+    ensures { OnOk result (AddsPairs (C.design cells.now) (C.wiring cells.now) (C.tables cells.now)
+        cell pairs.now out.old.items out.new.items) }
 {
     for pair in pairs {
         link_numbers(alloc, cells, cell, pair, firsts, joins, out)?;
@@ -178,12 +199,17 @@ pub fn children_links<C: Cells>(
     joins: &[Joined],
     out: &mut Vec<Link>,
 ) -> Result<(), AllocError>
-    requires right { AreRightBelow (C.design cells.now) (C.wiring cells.now) (C.tables cells.now) cell }
+    requires right { AreRightBelow (C.design cells.now) (C.wiring cells.now) (C.tables cells.now)
+        cell }
     requires long { length firsts.now ≡ length (places_of (C.design cells.now) cell) }
-    requires firsts { (k : ℕ) → k < length firsts.now → get_or firsts.now k 0 ≡ first_of (C.design cells.now) (C.wiring cells.now) (C.tables cells.now) cell k }
-    requires room { length (items_of (C.design cells.now) (C.wiring cells.now) (C.tables cells.now) cell) ≤ 4294967296 }
+    requires firsts { (k : ℕ) → k < length firsts.now
+        → get_or firsts.now k 0 ≡ first_of (C.design cells.now) (C.wiring cells.now)
+        (C.tables cells.now) cell k }
+    requires room { length (items_of (C.design cells.now) (C.wiring cells.now) (C.tables cells.now)
+        cell) ≤ 4294967296 }
     requires joins { (c e : ℕ) → AreJoined joins.now c e ↔ IsJoined (C.wiring cells.now) c e }
-    ensures { OnOk result (AddsChildren (C.design cells.now) (C.wiring cells.now) (C.tables cells.now) cell out.old.items out.new.items) }
+    ensures { OnOk result (AddsChildren (C.design cells.now) (C.wiring cells.now)
+        (C.tables cells.now) cell out.old.items out.new.items) }
 {
     let spans = span_pieces(alloc, cells, cell)?;
     let mut pairs = Vec::new(alloc);

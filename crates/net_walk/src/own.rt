@@ -16,7 +16,8 @@ use touching_pieces::{Joined, Piece, touching_links};
 fn push_rects(own: &[Rect], conductor: u32, at: u32, out: &mut Vec<Piece>) -> Result<(), AllocError>
     requires filled { HaveArea own.now }
     requires room { at + length own.now ≤ 4294967295 }
-    ensures { OnOk result (AddsSeen (IsOfRects own.now conductor at (length own.now)) out.old.items out.new.items) }
+    ensures { OnOk result (AddsSeen (IsOfRects own.now conductor at (length own.now)) out.old.items
+        out.new.items) }
 {
     for r in 0..own.len() {
         out.push(Piece {
@@ -29,8 +30,10 @@ fn push_rects(own: &[Rect], conductor: u32, at: u32, out: &mut Vec<Piece>) -> Re
 }
 
 fn own_pieces<C: Cells>(alloc: Global, cells: &C, cell: u32) -> Result<Vec<Piece>, AllocError>
-    requires { owned_before (C.tables cells.now) cell (length (C.wiring cells.now).conductors) ≤ 4294967295 }
-    ensures { IfOk result (λ v. AddsSeen (IsOwned (C.tables cells.now) cell (length (C.wiring cells.now).conductors)) [] v.items) }
+    requires { owned_before (C.tables cells.now) cell (length (C.wiring cells.now).conductors)
+        ≤ 4294967295 }
+    ensures { IfOk result (λ v. AddsSeen
+        (IsOwned (C.tables cells.now) cell (length (C.wiring cells.now).conductors)) [] v.items) }
 {
     let mut out = Vec::new(alloc);
     let mut at: u32 = 0;
@@ -49,9 +52,11 @@ pub fn own_links<C: Cells>(
     cell: u32,
     joins: &[Joined],
 ) -> Result<Vec<Link>, AllocError>
-    requires room { owned_before (C.tables cells.now) cell (length (C.wiring cells.now).conductors) ≤ 4294967295 }
+    requires room { owned_before (C.tables cells.now) cell (length (C.wiring cells.now).conductors)
+        ≤ 4294967295 }
     requires joins { (c e : ℕ) → AreJoined joins.now c e ↔ IsJoined (C.wiring cells.now) c e }
-    ensures { IfOk result (λ v. AreOwnLinks (C.design cells.now) (C.wiring cells.now) (C.tables cells.now) cell v.items) }
+    ensures { IfOk result (λ v. AreOwnLinks (C.design cells.now) (C.wiring cells.now)
+        (C.tables cells.now) cell v.items) }
 {
     let pieces = own_pieces(alloc, cells, cell)?;
     let links = touching_links(alloc, &pieces, cells.conductors(), joins)?;

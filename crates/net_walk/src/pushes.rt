@@ -4,7 +4,8 @@ ghost use Rattle.flat_layout.specs.Plane.{IsIn};
 ghost use Rattle.geo_base.specs.Motions.{moved_square};
 ghost use Rattle.geo_base.specs.Near.{IsNearRect, IsNearMotion};
 ghost use Rattle.geo_base.specs.declared.shapes.Square.{Square};
-ghost use Rattle.net_walk.specs.Walk.{AddsPieces, AreInside, AreListed, IsClipped, IsInside, IsOfMoved, IsOfOwn};
+ghost use Rattle.net_walk.specs.Walk.{AddsPieces, AreInside, AreListed, IsClipped, IsInside};
+ghost use Rattle.net_walk.specs.Walk.{IsOfMoved, IsOfOwn};
 
 use crate::rects::{common, is_rect};
 use geo_base::{Motion, Rect};
@@ -18,7 +19,8 @@ fn push_clipped(
     window: &Rect,
     out: &mut Vec<NetPiece>,
 ) -> Result<(), AllocError>
-    ensures { OnOk result (AddsPieces window.now (IsClipped window.now net rect.now) out.old.items out.new.items) }
+    ensures { OnOk result (AddsPieces window.now (IsClipped window.now net rect.now) out.old.items
+        out.new.items) }
 {
     let part = common(rect, window);
     if is_rect(&part) {
@@ -37,7 +39,8 @@ pub fn push_own(
     out: &mut Vec<NetPiece>,
 ) -> Result<(), AllocError>
     requires { at + length own.now ≤ length net_of.now }
-    ensures { OnOk result (AddsPieces window.now (IsOfOwn window.now own.now net_of.now at (length own.now)) out.old.items out.new.items) }
+    ensures { OnOk result (AddsPieces window.now
+        (IsOfOwn window.now own.now net_of.now at (length own.now)) out.old.items out.new.items) }
 {
     for r in 0..own.len() {
         push_clipped(&own[r], net_of[at + r], window, out)?;
@@ -60,7 +63,8 @@ fn push_image(
     requires near { IsNearRect inner.now }
     requires near_motion { IsNearMotion motion.now }
     requires into { (m : Square) → IsIn m inner.now → IsIn (moved_square motion.now m) window.now }
-    ensures { OnOk result (AddsPieces window.now (IsOfMoved motion.now (piece.now ∷ []) net_of.now at) out.old.items out.new.items) }
+    ensures { OnOk result (AddsPieces window.now
+        (IsOfMoved motion.now (piece.now ∷ []) net_of.now at) out.old.items out.new.items) }
 {
     let _ = window;
     let _ = inner;
@@ -86,7 +90,8 @@ pub fn push_moved(
     requires near { IsNearRect inner.now }
     requires near_motion { IsNearMotion motion.now }
     requires into { (m : Square) → IsIn m inner.now → IsIn (moved_square motion.now m) window.now }
-    ensures { OnOk result (AddsPieces window.now (IsOfMoved motion.now pieces.now net_of.now at) out.old.items out.new.items) }
+    ensures { OnOk result (AddsPieces window.now (IsOfMoved motion.now pieces.now net_of.now at)
+        out.old.items out.new.items) }
 {
     for piece in pieces {
         push_image(piece, motion, net_of, at, window, inner, out)?;

@@ -3,7 +3,8 @@ ghost use Rattle.std.specs.Prelude.{◌≡◌, ◌+◌, ◌<◌, ◌≤◌, OnOk
 ghost use Rattle.geo_base.specs.Near.{IsNearRect, IsNearMotion};
 ghost use Rattle.net_link_laws.specs.Laws.{AreNetsUnder};
 ghost use Rattle.net_walk.specs.Pairs.{PairLaw};
-ghost use Rattle.net_walk.specs.Seen.{AddsSeen, AreLinksOver, HaveItems, IsSeen, IsSeenOf, IsSeenOfTwo};
+ghost use Rattle.net_walk.specs.Seen.{AddsSeen, AreLinksOver, HaveItems, IsSeen, IsSeenOf};
+ghost use Rattle.net_walk.specs.Seen.{IsSeenOfTwo};
 ghost use Rattle.net_walk.specs.Walk.{AreInside, IsInside, IsPart, place_of};
 
 use crate::cells::{Cells, Element};
@@ -26,7 +27,8 @@ fn push_one(
     requires inside { IsInside piece.now.rect inner.now }
     requires near { IsNearRect inner.now }
     requires near_motion { IsNearMotion motion.now }
-    ensures { OnOk result (AddsSeen (IsSeenOf motion.now (piece.now ∷ []) conductor at) out.old.items out.new.items) }
+    ensures { OnOk result (AddsSeen (IsSeenOf motion.now (piece.now ∷ []) conductor at)
+        out.old.items out.new.items) }
 {
     let _ = inner;
     out.push(Piece {
@@ -49,7 +51,8 @@ fn push_seen(
     requires inside { AreInside inner.now pieces.now }
     requires near { IsNearRect inner.now }
     requires near_motion { IsNearMotion motion.now }
-    ensures { OnOk result (AddsSeen (IsSeenOf motion.now pieces.now conductor at) out.old.items out.new.items) }
+    ensures { OnOk result (AddsSeen (IsSeenOf motion.now pieces.now conductor at) out.old.items
+        out.new.items) }
 {
     for piece in pieces {
         push_one(piece, motion, conductor, at, inner, out)?;
@@ -66,11 +69,15 @@ fn see_part<C: Cells>(
     at: u32,
     out: &mut Vec<Piece>,
 ) -> Result<(), AllocError>
-    requires nets { AreNetsUnder (C.design cells.now) (C.wiring cells.now) (C.tables cells.now) element.now.cell }
+    requires nets { AreNetsUnder (C.design cells.now) (C.wiring cells.now) (C.tables cells.now)
+        element.now.cell }
     requires motion { IsNearMotion element.now.motion }
-    requires part { IsPart (C.design cells.now) (C.tables cells.now) (place_of element.now) window.now inner.now }
+    requires part { IsPart (C.design cells.now) (C.tables cells.now) (place_of element.now)
+        window.now inner.now }
     requires room { at + ((C.tables cells.now).nets element.now.cell).count ≤ 4294967296 }
-    ensures { OnOk result (AddsSeen (IsSeen (C.design cells.now) (C.tables cells.now) (place_of element.now) window.now at (length (C.wiring cells.now).conductors)) out.old.items out.new.items) }
+    ensures { OnOk result (AddsSeen (IsSeen (C.design cells.now) (C.tables cells.now)
+        (place_of element.now) window.now at (length (C.wiring cells.now).conductors)) out.old.items
+        out.new.items) }
 {
     let _ = window;
     for conductor in 0..cells.conductors() {
@@ -80,7 +87,8 @@ fn see_part<C: Cells>(
     Ok(())
 }
 
-/// What the nets of a placed cell hold in the window, as pieces of the items that stand from a place on.
+/// What the nets of a placed cell hold in the window, as pieces of the items that stand from a
+/// place on.
 pub fn see<C: Cells>(
     alloc: Global,
     cells: &C,
@@ -89,11 +97,14 @@ pub fn see<C: Cells>(
     at: u32,
     out: &mut Vec<Piece>,
 ) -> Result<(), AllocError>
-    requires nets { AreNetsUnder (C.design cells.now) (C.wiring cells.now) (C.tables cells.now) element.now.cell }
+    requires nets { AreNetsUnder (C.design cells.now) (C.wiring cells.now) (C.tables cells.now)
+        element.now.cell }
     requires motion { IsNearMotion element.now.motion }
     requires near { IsNearRect window.now }
     requires room { at + ((C.tables cells.now).nets element.now.cell).count ≤ 4294967296 }
-    ensures { OnOk result (AddsSeen (IsSeen (C.design cells.now) (C.tables cells.now) (place_of element.now) window.now at (length (C.wiring cells.now).conductors)) out.old.items out.new.items) }
+    ensures { OnOk result (AddsSeen (IsSeen (C.design cells.now) (C.tables cells.now)
+        (place_of element.now) window.now at (length (C.wiring cells.now).conductors)) out.old.items
+        out.new.items) }
 {
     match part_of(cells, element, window) {
         None => Ok(()),
@@ -101,7 +112,8 @@ pub fn see<C: Cells>(
     }
 }
 
-/// Links between the items of two placed cells' nets that touch in the window; their items stand from two places on.
+/// Links between the items of two placed cells' nets that touch in the window; their items stand
+/// from two places on.
 pub fn pair_links<C: Cells>(
     alloc: Global,
     cells: &C,
@@ -112,14 +124,19 @@ pub fn pair_links<C: Cells>(
     window: &Rect,
     joins: &[Joined],
 ) -> Result<Vec<Link>, AllocError>
-    requires nets { AreNetsUnder (C.design cells.now) (C.wiring cells.now) (C.tables cells.now) one.now.cell }
-    requires nets_too { AreNetsUnder (C.design cells.now) (C.wiring cells.now) (C.tables cells.now) other.now.cell }
+    requires nets { AreNetsUnder (C.design cells.now) (C.wiring cells.now) (C.tables cells.now)
+        one.now.cell }
+    requires nets_too { AreNetsUnder (C.design cells.now) (C.wiring cells.now) (C.tables cells.now)
+        other.now.cell }
     requires motion { IsNearMotion one.now.motion }
     requires motion_too { IsNearMotion other.now.motion }
     requires near { IsNearRect window.now }
     requires room { at + ((C.tables cells.now).nets one.now.cell).count ≤ 4294967296 }
     requires room_too { other_at + ((C.tables cells.now).nets other.now.cell).count ≤ 4294967296 }
-    ensures { IfOk result (λ v. AreLinksOver joins.now (IsSeenOfTwo (C.design cells.now) (C.tables cells.now) window.now (length (C.wiring cells.now).conductors) (place_of one.now) at (place_of other.now) other_at) v.items) }
+    ensures { IfOk result (λ v. AreLinksOver joins.now
+        (IsSeenOfTwo (C.design cells.now) (C.tables cells.now) window.now
+        (length (C.wiring cells.now).conductors) (place_of one.now) at (place_of other.now)
+        other_at) v.items) }
 {
     let mut pieces = Vec::new(alloc);
     see(alloc, cells, one, window, at, &mut pieces)?;

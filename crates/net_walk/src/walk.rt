@@ -22,7 +22,8 @@ fn part_in(hull: &Rect, motion: &Motion, window: &Rect) -> Option<Rect>
     requires near_motion { IsNearMotion motion.now }
     requires near_window { IsNearRect window.now }
     ensures some { IfSome result (IsPartIn hull.now motion.now window.now) }
-    ensures none { IfNone result ((m : Square) → IsIn m hull.now → IsIn (moved_square motion.now m) window.now → ⊥) }
+    ensures none { IfNone result ((m : Square) → IsIn m hull.now
+        → IsIn (moved_square motion.now m) window.now → ⊥) }
 {
     let span = motion.rect(*hull);
     let part = common(&span, window);
@@ -36,8 +37,10 @@ fn part_in(hull: &Rect, motion: &Motion, window: &Rect) -> Option<Rect>
 pub fn part_of<C: Cells>(cells: &C, element: &Element, window: &Rect) -> Option<Rect>
     requires motion { IsNearMotion element.now.motion }
     requires near { IsNearRect window.now }
-    ensures some { IfSome result (IsPart (C.design cells.now) (C.tables cells.now) (place_of element.now) window.now) }
-    ensures none { IfNone result (HasNoPart (C.design cells.now) (C.tables cells.now) (place_of element.now) window.now) }
+    ensures some { IfSome result (IsPart (C.design cells.now) (C.tables cells.now)
+        (place_of element.now) window.now) }
+    ensures none { IfNone result (HasNoPart (C.design cells.now) (C.tables cells.now)
+        (place_of element.now) window.now) }
 {
     match cells.hull(element.cell) {
         None => None,
@@ -66,9 +69,11 @@ pub fn collect_nets<C: Cells>(
     window: &Rect,
 ) -> Result<Vec<NetPiece>, AllocError>
     requires known { conductor < length (C.wiring cells.now).conductors }
-    requires nets { AreNetsUnder (C.design cells.now) (C.wiring cells.now) (C.tables cells.now) cell }
+    requires nets { AreNetsUnder (C.design cells.now) (C.wiring cells.now) (C.tables cells.now)
+        cell }
     requires near { IsNearRect window.now }
-    ensures { IfOk result (λ v. IsCollection (C.design cells.now) (C.tables cells.now) cell conductor window.now v.items) }
+    ensures { IfOk result (λ v. IsCollection (C.design cells.now) (C.tables cells.now) cell
+        conductor window.now v.items) }
 {
     let mut out = Vec::new(alloc);
     let net_of = cells.net_of(cell);

@@ -1,5 +1,7 @@
--- What is written for a library of one cell without references, whose shapes and texts lie within plus or minus 2^30.
-use Rattle.std.specs.Prelude.{◌≡◌, ◌⊎◌, ℕ, ℤ, pos, negsuc, int_le, Bool, true, false, ◌&&◌, List, [], ◌∷◌, length, get_or, Option, Some, None}
+-- What is written for a library of one cell without references, whose shapes and texts lie within
+-- plus or minus 2^30.
+use Rattle.std.specs.Prelude.{◌≡◌, ◌⊎◌, ℕ, ℤ, pos, negsuc, int_le, Bool, true, false, ◌&&◌, List}
+use Rattle.std.specs.Prelude.{[], ◌∷◌, length, get_or, Option, Some, None}
 use Rattle.std.specs.List.{All, Any, list_all, sum_by}
 use Rattle.geo_base.specs.declared.layer.LayerKey.{LayerKey}
 use Rattle.geo_base.specs.declared.shapes.Point.{Point}
@@ -84,23 +86,28 @@ LeavesReach c = Any LeavesByShape c.shapes ⊎ (texts_in_reach c ≡ false)
 abbrev pub name_at : List LayerRule → ℕ → Formula
 name_at names k = get_or (formulas names) k Empty
 
--- What an output line writes: on its pair, the canonical list of exactly the squares that its name has pointwise over what the input layers cover.
-pub record IsDrawn (own : LayerKey → Square → Bool) (names : List LayerRule) (o : Output) (layer : LayerKey × List Rect) : Type 0 where
+-- What an output line writes: on its pair, the canonical list of exactly the squares that its name
+-- has pointwise over what the input layers cover.
+pub record IsDrawn (own : LayerKey → Square → Bool) (names : List LayerRule) (o : Output)
+    (layer : LayerKey × List Rect) : Type 0 where
   pub key : layer.0 ≡ o.key
   pub canonical : IsCanonical layer.1
   pub squares : (s : Square) → covers layer.1 s ≡ formula_covers own (name_at names o.layer) s
 
 -- the output lines' layers, in order
-abbrev pub AreDrawn : (LayerKey → Square → Bool) → List LayerRule → List Output → List (LayerKey × List Rect) → Type 0
+abbrev pub AreDrawn : (LayerKey → Square → Bool) → List LayerRule → List Output
+    → List (LayerKey × List Rect) → Type 0
 AreDrawn own names [] [] = Unit {0}
-AreDrawn own names (o ∷ outputs) (layer ∷ layers) = IsDrawn own names o layer × AreDrawn own names outputs layers
+AreDrawn own names (o ∷ outputs) (layer ∷ layers) =
+    IsDrawn own names o layer × AreDrawn own names outputs layers
 AreDrawn own names _ _ = ⊥
 
 -- how many rectangles that is
 abbrev pub rectangle_count : List (LayerKey × List Rect) → ℕ
 rectangle_count layers = sum_by (λ l. length l.1) layers
 
--- the text is the stream of the library's only cell, which lies in reach, with the output lines' layers
+-- the text is the stream of the library's only cell, which lies in reach, with the output lines'
+-- layers
 pub record IsMade (v : Library) (r : Rules) (text : List ℕ) (count : ℕ) : Type 0 where
   pub cell : Cell
   pub only : only_cell v ≡ Some cell

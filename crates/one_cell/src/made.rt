@@ -1,5 +1,6 @@
 // What is written for the only cell.
-ghost use Rattle.std.specs.Prelude.{◌≡◌, ℕ, List, Some, None, map, IfOk, IfSome, IfNone, MatchOption};
+ghost use Rattle.std.specs.Prelude.{◌≡◌, ℕ, List, Some, None, map, IfOk, IfSome, IfNone};
+ghost use Rattle.std.specs.Prelude.{MatchOption};
 ghost use Rattle.gds_elements.specs.Reading.{cell_seen, library_seen};
 ghost use Rattle.gds_shapes.specs.Stream.{layer_seen};
 ghost use Rattle.rule_text.specs.Seen.{rules_seen};
@@ -27,7 +28,8 @@ pub struct Shapes {
 }
 
 fn only_cell(library: &Library) -> Option<&RawCell>
-    ensures { MatchOption result (only_cell (library_seen library.now) ≡ None) (λ c. only_cell (library_seen library.now) ≡ Some (cell_seen c.now)) }
+    ensures { MatchOption result (only_cell (library_seen library.now) ≡ None)
+        (λ c. only_cell (library_seen library.now) ≡ Some (cell_seen c.now)) }
 {
     match library.cells.as_slice() {
         [cell] if cell.refs.is_empty() => Some(cell),
@@ -73,17 +75,23 @@ fn count(written: &[Written]) -> u128
     count
 }
 
-/// What is written for a library that was read, of one cell without references within plus or minus 2^30; `None` for any
-/// other. Cost: each shape filled twice, each Boolean once, and the bytes written. An `Err` is want of memory.
+/// What is written for a library that was read, of one cell without references within plus or minus
+/// 2^30; `None` for any other. Cost: each shape filled twice, each Boolean once, and the bytes
+/// written. An `Err` is want of memory.
 pub fn make_shapes(
     alloc: Global,
     library: &Library,
     rules: &RuleSet,
 ) -> Result<Option<Shapes>, AllocError>
     requires { IsAccepted (library_seen library.now) }
-    ensures made { IfOk result (λ m. IfSome m (λ shapes. IsMade (library_seen library.now) (rules_seen rules.now) shapes.text.items shapes.rectangles)) }
+    ensures made { IfOk result (λ m. IfSome m
+        (λ shapes. IsMade (library_seen library.now) (rules_seen rules.now) shapes.text.items
+        shapes.rectangles)) }
     // The text covers exactly the flat rules' squares, where library and rules were read.
-    ensures flat { IfOk result (λ m. IfSome m (λ shapes. (bytes : List ℕ) → Accepts bytes (library_seen library.now) → IsSound (rules_seen rules.now) → CoversFlat (library_seen library.now) (rules_seen rules.now) shapes.text.items)) }
+    ensures flat { IfOk result (λ m. IfSome m
+        (λ shapes. (bytes : List ℕ) → Accepts bytes (library_seen library.now)
+        → IsSound (rules_seen rules.now)
+        → CoversFlat (library_seen library.now) (rules_seen rules.now) shapes.text.items)) }
     ensures unbuilt { IfOk result (λ m. IfNone m (IsUnbuilt (library_seen library.now))) }
 {
     let Some(cell) = only_cell(library) else {

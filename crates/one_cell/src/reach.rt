@@ -3,7 +3,8 @@ ghost use Rattle.std.specs.Prelude.{◌≡◌, true, false, map, IfOk};
 ghost use Rattle.std.specs.List.{All, Any, list_all};
 ghost use Rattle.gds_elements.specs.Fillable.{AreFillable, IsFillable};
 ghost use Rattle.gds_elements.specs.Reading.{form_seen, shape_seen, cell_seen};
-ghost use Rattle.one_cell.specs.OneCell.{range_in_reach, point_in_reach, IsShapeInReach, LeavesByShape, IsInReach, LeavesReach};
+ghost use Rattle.one_cell.specs.OneCell.{range_in_reach, point_in_reach, IsShapeInReach};
+ghost use Rattle.one_cell.specs.OneCell.{LeavesByShape, IsInReach, LeavesReach};
 ghost use Rattle.one_cell.specs.Within.{rect_in_reach};
 
 use cell_layers::shape_set;
@@ -65,7 +66,8 @@ fn are_shapes_in_reach(alloc: Global, shapes: &[RawShape]) -> Result<bool, Alloc
     Ok(true)
 }
 
-/// Whether all that the cell's shapes cover, and each text's point, lies within plus or minus 2^30. Cost: the fill of each shape.
+/// Whether all that the cell's shapes cover, and each text's point, lies within plus or minus 2^30.
+/// Cost: the fill of each shape.
 pub fn is_in_reach(alloc: Global, cell: &RawCell) -> Result<bool, AllocError>
     requires { AreFillable (cell_seen cell.now) }
     ensures within { IfOk result (λ r. r ≡ true → IsInReach (cell_seen cell.now)) }

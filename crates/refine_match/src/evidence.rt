@@ -7,7 +7,9 @@ ghost use Rattle.match_rounds.specs.Classes.{IsPartition};
 ghost use Rattle.match_rounds.specs.Refined.{AreRefuted};
 ghost use Rattle.match_rounds.specs.Start.{guessed_web};
 ghost use Rattle.refine_match.specs.Classes.{IsOfUneven};
-ghost use Rattle.refine_match.specs.Evidence.{AreEvenFrom, IsEvenKind, IsFirstOfKind, IsFirstUneven, IsLeastUneven, IsRoundEvidence, begin_of, stop_of};
+ghost use Rattle.refine_match.specs.Evidence.{AreEvenFrom, IsEvenKind, IsFirstOfKind};
+ghost use Rattle.refine_match.specs.Evidence.{IsFirstUneven, IsLeastUneven, IsRoundEvidence};
+ghost use Rattle.refine_match.specs.Evidence.{begin_of, stop_of};
 
 use match_graph::{Graph, Sizes};
 use match_rounds::Classes;
@@ -20,7 +22,8 @@ pub fn evidence_of(graph: &Graph, classes: &Classes, round: u32) -> Evidence
     requires graph { IsGraph graph.now }
     requires partition { IsPartition classes.now (left_of graph.now) (nodes_of graph.now) }
     requires refuted { AreRefuted (guessed_web graph.now []) round classes.now }
-    ensures { (p : Pair) → IsGraphOf p graph.now → IsWeb (web_of p) → IsRoundEvidence p round result }
+    ensures { (p : Pair) → IsGraphOf p graph.now → IsWeb (web_of p)
+        → IsRoundEvidence p round result }
 {
     let node = least_uneven(graph, classes);
     let class = classes.of(node);
@@ -55,7 +58,8 @@ fn least_uneven(graph: &Graph, classes: &Classes) -> u32
 fn first_of_kind(graph: &Graph, classes: &Classes, kind: NodeKind) -> Option<u32>
     requires graph { IsGraph graph.now }
     requires partition { IsPartition classes.now (left_of graph.now) (nodes_of graph.now) }
-    ensures some { IfSome result (λ node. IsFirstOfKind graph.now classes.now (plain_kind kind) node) }
+    ensures some { IfSome result (λ node.
+        IsFirstOfKind graph.now classes.now (plain_kind kind) node) }
     ensures none { IsNone result → IsEvenKind graph.now classes.now (plain_kind kind) }
 {
     let (from, to) = span_of(&graph.left, kind);

@@ -1,4 +1,5 @@
-//! Tests of whole runs over memory: drawn layouts with answers worked out by hand, two combs, and layouts at the limits.
+//! Tests of whole runs over memory: drawn layouts with answers worked out by hand, two combs, and
+//! layouts at the limits.
 #![tactic(auto)]
 
 #[cfg(test)]

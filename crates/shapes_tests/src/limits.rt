@@ -1,4 +1,5 @@
-// Layouts at the limits of the format and of the reach, and one whose rectangles are swept all at once.
+// Layouts at the limits of the format and of the reach, and one whose rectangles are swept all at
+// once.
 use crate::drawn::{Form, HEAD, OUTLINE, TAIL, push, push_rectangle};
 use crate::runs::{writes, writes_count};
 use std::alloc::{AllocError, Global};
@@ -38,7 +39,8 @@ fn element(alloc: Global, form: &Form, points: &[i32]) -> Result<Vec<u8>, AllocE
 /// The teeth of a comb behind its first.
 const TEETH: i32 = 2046;
 
-// An outline of 8,191 points, the most that one XY holds: a comb of 2,047 teeth, whose first point stands there three times.
+// An outline of 8,191 points, the most that one XY holds: a comb of 2,047 teeth, whose first point
+// stands there three times.
 #[test]
 fn longest_outline(rt: HostRuntime) -> Result<(), Fail> {
     let alloc = rt.alloc();
@@ -86,7 +88,8 @@ fn longest_name(rt: HostRuntime) -> Result<(), Fail> {
     Ok(())
 }
 
-// 40,000 rectangles on top of one another with gaps: no row crosses two, so they are swept at once, 80,000 edges.
+// 40,000 rectangles on top of one another with gaps: no row crosses two, so they are swept at once,
+// 80,000 edges.
 #[test]
 fn one_sweep(rt: HostRuntime) -> Result<(), Fail> {
     let alloc = rt.alloc();

@@ -1,5 +1,6 @@
 -- The other elements of an array, as arrays round one element.
-use Rattle.std.specs.Prelude.{◌≡◌, ◌⊎◌, ◌↔◌, true, ◌≤◌, ℕ, ◌-◌, ◌*◌, ◌<◌, pos, ◌+ℤ◌, ◌-ℤ◌, ◌*ℤ◌, List, [], ◌∷◌}
+use Rattle.std.specs.Prelude.{◌≡◌, ◌⊎◌, ◌↔◌, true, ◌≤◌, ℕ, ◌-◌, ◌*◌, ◌<◌, pos, ◌+ℤ◌, ◌-ℤ◌, ◌*ℤ◌}
+use Rattle.std.specs.Prelude.{List, [], ◌∷◌}
 use Rattle.geo_base.specs.Motions.{moved_square}
 use Rattle.geo_base.specs.Rects.{has}
 use Rattle.geo_base.specs.declared.shapes.Rect.{Rect}
@@ -17,8 +18,10 @@ around p up down right left rows columns = record {
   cell = p.cell;
   motion = record {
     turn = p.motion.turn;
-    dx = (p.motion.dx +ℤ ((pos right *ℤ p.column_step.x) -ℤ (pos left *ℤ p.column_step.x))) +ℤ ((pos up *ℤ p.row_step.x) -ℤ (pos down *ℤ p.row_step.x));
-    dy = (p.motion.dy +ℤ ((pos right *ℤ p.column_step.y) -ℤ (pos left *ℤ p.column_step.y))) +ℤ ((pos up *ℤ p.row_step.y) -ℤ (pos down *ℤ p.row_step.y));
+    dx = (p.motion.dx +ℤ ((pos right *ℤ p.column_step.x) -ℤ (pos left *ℤ p.column_step.x))) +ℤ
+        ((pos up *ℤ p.row_step.x) -ℤ (pos down *ℤ p.row_step.x));
+    dy = (p.motion.dy +ℤ ((pos right *ℤ p.column_step.y) -ℤ (pos left *ℤ p.column_step.y))) +ℤ
+        ((pos up *ℤ p.row_step.y) -ℤ (pos down *ℤ p.row_step.y));
   };
   columns = columns;
   rows = rows;
@@ -36,7 +39,8 @@ siblings p =
     ∷ []
 
 -- an element of one of these brings a flat square of the cell to where the first element takes q
-pub record IsBroughtBy (d : Linked) (p : Place) (key : LayerKey) (q : Square) (v : Place) : Type 0 where
+pub record IsBroughtBy (d : Linked) (p : Place) (key : LayerKey) (q : Square)
+    (v : Place) : Type 0 where
   pub row : ℕ
   pub column : ℕ
   pub row_in : row < v.rows
@@ -54,7 +58,8 @@ pub record HasSibling (d : Linked) (p : Place) (key : LayerKey) (q : Square) : T
   pub sibling : IsFromSibling d p row column key q
 
 abbrev pub SiblingLaw : Type 0
-SiblingLaw = (d : Linked) (p : Place) (key : LayerKey) (q : Square) → 0 < p.rows → 0 < p.columns → HasSibling d p key q ↔ Some_of (IsBroughtBy d p key q) (siblings p)
+SiblingLaw = (d : Linked) (p : Place) (key : LayerKey) (q : Square) → 0 < p.rows → 0 < p.columns
+    → HasSibling d p key q ↔ Some_of (IsBroughtBy d p key q) (siblings p)
 
 -- an element of the array brings a flat square of the placed cell to s
 pub record IsBroughtTo (d : Linked) (v : Place) (key : LayerKey) (s : Square) : Type 0 where
@@ -68,7 +73,8 @@ pub record IsBroughtTo (d : Linked) (v : Place) (key : LayerKey) (s : Square) : 
 
 -- rectangles grew by what the array brings into the window
 abbrev pub Brings : Linked → Place → LayerKey → Rect → List Rect → List Rect → Type 0
-Brings d v key window old new = (s : Square) → (covers new s ≡ true) ↔ ((covers old s ≡ true) ⊎ ((has window s ≡ true) × IsBroughtTo d v key s))
+Brings d v key window old new = (s : Square) → (covers new s ≡ true)
+    ↔ ((covers old s ≡ true) ⊎ ((has window s ≡ true) × IsBroughtTo d v key s))
 
 -- shifts by whole rows and columns that stay near
 pub record AreShifts (p : Place) (up down right left rows columns : ℕ) : Type 0 where

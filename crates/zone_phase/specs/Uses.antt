@@ -1,5 +1,6 @@
 -- The references to each cell in the cells that the top reaches.
-use Rattle.std.specs.Prelude.{◌≡◌, ◌≢◌, ◌⊎◌, ℕ, ◌<◌, ◌≤◌, List, [], ◌∷◌, ◌++◌, Some, map, length, get_or, slice_get}
+use Rattle.std.specs.Prelude.{◌≡◌, ◌≢◌, ◌⊎◌, ℕ, ◌<◌, ◌≤◌, List, [], ◌∷◌, ◌++◌, Some, map, length}
+use Rattle.std.specs.Prelude.{get_or, slice_get}
 use Rattle.std.specs.Global.{Vec}
 use Rattle.flat_layout.specs.Layout.{IsReached}
 use Rattle.cell_graph.specs.declared.cells.Place.{Place}

@@ -12,7 +12,8 @@ use cell_graph::{Design, Place};
 use geo_base::{LayerKey, Rect};
 use std::alloc::{AllocError, Global};
 
-// Adds the squares of a cell's grown hull that an element of a reference brings onto the parent's disturbed squares, or onto shapes beside it.
+// Adds the squares of a cell's grown hull that an element of a reference brings onto the parent's
+// disturbed squares, or onto shapes beside it.
 pub fn push_reference(
     alloc: Global,
     out: &mut Vec<Rect>,
@@ -32,7 +33,8 @@ pub fn push_reference(
     requires zone { All (IsRectWithin (2 ^ 39)) zone.now }
     requires rects { All IsRect out.old.items }
     ensures rects { OnOk result (All IsRect out.new.items) }
-    ensures exact { OnOk result (Adds place.now grown.now (Why zone.now design.now parent index key place.now) out.old.items out.new.items) }
+    ensures exact { OnOk result (Adds place.now grown.now
+        (Why zone.now design.now parent index key place.now) out.old.items out.new.items) }
 {
     design.sound();
     push_onto(alloc, out, place, grown, zone)?;

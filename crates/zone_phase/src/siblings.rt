@@ -1,12 +1,14 @@
 // What the other elements of an array bring over one element.
-ghost use Rattle.std.specs.Prelude.{◌≡◌, ◌↔◌, ◌⊎◌, ◌<◌, ◌^◌, ◌-◌, ◌*◌, ℕ, ℤ, pos, ◌+ℤ◌, ◌-ℤ◌, ◌*ℤ◌, true, length, Some, OnOk, slice_get};
+ghost use Rattle.std.specs.Prelude.{◌≡◌, ◌↔◌, ◌⊎◌, ◌<◌, ◌^◌, ◌-◌, ◌*◌, ℕ, ℤ, pos, ◌+ℤ◌, ◌-ℤ◌, ◌*ℤ◌};
+ghost use Rattle.std.specs.Prelude.{true, length, Some, OnOk, slice_get};
 ghost use Rattle.std.specs.List.{All};
 ghost use Rattle.geo_base.specs.Near.{IsWithin};
 ghost use Rattle.geo_base.specs.Rects.{IsRect, has};
 ghost use Rattle.geo_base.specs.Motions.{moved_square};
 ghost use Rattle.geo_base.specs.declared.shapes.Square.{Square};
 ghost use Rattle.rect_sets.specs.Rects.{covers};
-ghost use Rattle.cell_graph.specs.Linked.{IsFrame, IsHull, IsRectWithin, cell_at, hull_of, places_at, motion_at};
+ghost use Rattle.cell_graph.specs.Linked.{IsFrame, IsHull, IsRectWithin, cell_at, hull_of};
+ghost use Rattle.cell_graph.specs.Linked.{places_at, motion_at};
 ghost use Rattle.cell_context.specs.Arrays.{IsNearArray, IsCloseArray};
 ghost use Rattle.cell_context.specs.Over.{IsPiece};
 ghost use Rattle.deep_laws.specs.Zones.{IsFromSibling};
@@ -77,7 +79,8 @@ fn begun(
     requires left { IsWithin (2 ^ 31) (pos left *ℤ column_step) }
     requires up { IsWithin (2 ^ 31) (pos up *ℤ row_step) }
     requires down { IsWithin (2 ^ 31) (pos down *ℤ row_step) }
-    ensures { result ≡ (start +ℤ ((pos right *ℤ column_step) -ℤ (pos left *ℤ column_step))) +ℤ ((pos up *ℤ row_step) -ℤ (pos down *ℤ row_step)) }
+    ensures { result ≡ (start +ℤ ((pos right *ℤ column_step) -ℤ (pos left *ℤ column_step))) +ℤ
+        ((pos up *ℤ row_step) -ℤ (pos down *ℤ row_step)) }
 {
     let across = offset(right, left, column_step);
     let along = offset(up, down, row_step);
@@ -146,7 +149,8 @@ fn push_brought(
     requires window { IsRectWithin (2 ^ 39) window.now }
     requires pieces { All (IsPiece window.now) there.old.items }
     ensures pieces { OnOk result (All (IsPiece window.now) there.new.items) }
-    ensures exact { OnOk result (Brings design.now other.now key window.now there.old.items there.new.items) }
+    ensures exact { OnOk result (Brings design.now other.now key window.now there.old.items
+        there.new.items) }
 {
     design.sound();
     for visit in &place_visits(alloc, other, hull, window)? {
@@ -180,7 +184,9 @@ fn push_around(
     requires window { IsRectWithin (2 ^ 39) window.now }
     requires pieces { All (IsPiece window.now) there.old.items }
     ensures pieces { OnOk result (All (IsPiece window.now) there.new.items) }
-    ensures exact { OnOk result (Brings design.now (around place.now up down right left rows columns) key window.now there.old.items there.new.items) }
+    ensures exact { OnOk result (Brings design.now
+        (around place.now up down right left rows columns) key window.now there.old.items
+        there.new.items) }
 {
     if rows > 0 && columns > 0 {
         let other = around(place, up, down, right, left, rows, columns);
@@ -189,7 +195,8 @@ fn push_around(
     Ok(())
 }
 
-// Adds what whole rows bring, as seen from each of their columns: by two arrays, so that both counts of columns fit.
+// Adds what whole rows bring, as seen from each of their columns: by two arrays, so that both
+// counts of columns fit.
 fn push_rows(
     alloc: Global,
     there: &mut Vec<Rect>,
@@ -211,7 +218,9 @@ fn push_rows(
     requires window { IsRectWithin (2 ^ 39) window.now }
     requires pieces { All (IsPiece window.now) there.old.items }
     ensures pieces { OnOk result (All (IsPiece window.now) there.new.items) }
-    ensures exact { OnOk result (Brings design.now (around place.now up down 0 (place.now.columns - 1) rows (2 * place.now.columns - 1)) key window.now there.old.items there.new.items) }
+    ensures exact { OnOk result (Brings design.now
+        (around place.now up down 0 (place.now.columns - 1) rows (2 * place.now.columns - 1)) key
+        window.now there.old.items there.new.items) }
 {
     let left = place.columns - 1;
     push_around(
@@ -247,7 +256,8 @@ fn push_rows(
     Ok(())
 }
 
-// Adds the squares of a grown hull over which some element of the array has a sibling: four arrays round the first element tell.
+// Adds the squares of a grown hull over which some element of the array has a sibling: four arrays
+// round the first element tell.
 pub fn push_siblings(
     alloc: Global,
     out: &mut Vec<Rect>,
@@ -267,7 +277,9 @@ pub fn push_siblings(
     requires grown { IsFrame grown.now }
     requires rects { All IsRect out.old.items }
     ensures rects { OnOk result (All IsRect out.new.items) }
-    ensures exact { OnOk result (Adds place.now grown.now (λ row column q. IsFromSibling design.now place.now row column key q) out.old.items out.new.items) }
+    ensures exact { OnOk result (Adds place.now grown.now
+        (λ row column q. IsFromSibling design.now place.now row column key q) out.old.items
+        out.new.items) }
 {
     let first = motion_at(place, 0, 0);
     let window = element_rect(place, 0, 0, grown);

@@ -109,8 +109,10 @@ fn push_each(out: &mut Vec<Rect>, place: &Place, row: u32, hull: &Rect) -> Resul
     requires hull { IsFrame hull.now }
     requires within { All (IsRectWithin (2 ^ 39)) out.old.items }
     ensures within { OnOk result (All (IsRectWithin (2 ^ 39)) out.new.items) }
-    ensures covered { OnOk result ((column : ℕ) (q : Square) → column < place.now.columns → has hull.now q ≡ true → OnRects place.now out.new.items row column q) }
-    ensures kept { OnOk result ((s : Square) → covers out.old.items s ≡ true → covers out.new.items s ≡ true) }
+    ensures covered { OnOk result ((column : ℕ) (q : Square) → column < place.now.columns
+        → has hull.now q ≡ true → OnRects place.now out.new.items row column q) }
+    ensures kept { OnOk result ((s : Square) → covers out.old.items s ≡ true
+        → covers out.new.items s ≡ true) }
 {
     for column in 0..place.columns as u32 {
         let rect = element_rect(place, row, column, hull);
@@ -127,8 +129,10 @@ fn push_row(out: &mut Vec<Rect>, place: &Place, row: u32, hull: &Rect) -> Result
     requires hull { IsFrame hull.now }
     requires within { All (IsRectWithin (2 ^ 39)) out.old.items }
     ensures within { OnOk result (All (IsRectWithin (2 ^ 39)) out.new.items) }
-    ensures covered { OnOk result ((column : ℕ) (q : Square) → column < place.now.columns → has hull.now q ≡ true → OnRects place.now out.new.items row column q) }
-    ensures kept { OnOk result ((s : Square) → covers out.old.items s ≡ true → covers out.new.items s ≡ true) }
+    ensures covered { OnOk result ((column : ℕ) (q : Square) → column < place.now.columns
+        → has hull.now q ≡ true → OnRects place.now out.new.items row column q) }
+    ensures kept { OnOk result ((s : Square) → covers out.old.items s ≡ true
+        → covers out.new.items s ≡ true) }
 {
     let columns = place.columns as u32;
     let first = element_rect(place, row, 0, hull);

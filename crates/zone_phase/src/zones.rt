@@ -1,5 +1,6 @@
 //! A cell's disturbed squares for one input layer.
-ghost use Rattle.std.specs.Prelude.{◌≡◌, ◌↔◌, ◌⊎◌, ◌<◌, true, ℕ, length, Some, OnOk, IfOk, IsSomeAnd, [], ◌∷◌};
+ghost use Rattle.std.specs.Prelude.{◌≡◌, ◌↔◌, ◌⊎◌, ◌<◌, true, ℕ, length, Some, OnOk, IfOk};
+ghost use Rattle.std.specs.Prelude.{IsSomeAnd, [], ◌∷◌};
 ghost use Rattle.std.specs.List.{All};
 ghost use Rattle.geo_base.specs.Rects.{IsRect};
 ghost use Rattle.geo_base.specs.declared.shapes.Square.{Square};
@@ -7,7 +8,8 @@ ghost use Rattle.rect_sets.specs.Rects.{covers};
 ghost use Rattle.cell_graph.specs.Linked.{IsFrame, cell_at, hull_of};
 ghost use Rattle.deep_tables.specs.Frames.{IsFramedZone};
 ghost use Rattle.deep_tables.specs.Entries.{downward_cell};
-ghost use Rattle.zone_phase.specs.Jobs.{HaveEntries, IsEntry, IsFromUse, IsFromUses, MayRead, zone_in};
+ghost use Rattle.zone_phase.specs.Jobs.{HaveEntries, IsEntry, IsFromUse, IsFromUses, MayRead};
+ghost use Rattle.zone_phase.specs.Jobs.{zone_in};
 ghost use Rattle.zone_phase.specs.Uses.{AreUsesOf, IsUse};
 
 use crate::references::push_reference;
