@@ -10,19 +10,20 @@ use Rattle.geo_base.specs.declared.shapes.Point.{Point}
 use Rattle.geo_base.specs.declared.shapes.Rect.{Rect}
 use Rattle.gds_records.specs.Records.{IsBytes}
 use Rattle.gds_elements.specs.Data.{number, coordinate, points_of, put_before, trimmed}
-use Rattle.geo_base.specs.Near.{IsLong, IsLongRect}
-use Rattle.gds_shapes.specs.Stream.{IsShort, corners, filled, long_bytes, outline, point_bytes}
+use Rattle.geo_base.specs.Near.{IsLong, IsLongPoint, IsLongRect}
+use Rattle.gds_shapes.specs.Data.{IsShort, filled, long_bytes, point_bytes}
+use Rattle.gds_shapes.specs.Stream.{corners, outline}
 
 -- ---- bytes
 
-nil : IsBytes []
+pub nil : IsBytes []
 nil i = omega arith
 
-cons : (b : ℕ) (bs : List ℕ) → b < 256 → IsBytes bs → IsBytes (b ∷ bs)
+pub cons : (b : ℕ) (bs : List ℕ) → b < 256 → IsBytes bs → IsBytes (b ∷ bs)
 cons b bs h g zero = h
 cons b bs h g (suc i) = g i
 
-joined : (xs ys : List ℕ) → IsBytes xs → IsBytes ys → IsBytes (xs ++ ys)
+pub joined : (xs ys : List ℕ) → IsBytes xs → IsBytes ys → IsBytes (xs ++ ys)
 joined [] ys h g i = g i
 joined (x ∷ xs) ys h g zero = h zero
 joined (x ∷ xs) ys h g (suc i) = joined xs ys (λ j. h (suc j)) g i
@@ -39,7 +40,7 @@ number_bytes n = two (n / 256 ^ 1) n
 long_fits : (z : ℤ) → IsBytes (long_bytes z)
 long_fits z = let n = cast_unsigned w32 z in joined (n / 256 ^ 3 % 256 ∷ n / 256 ^ 2 % 256 ∷ []) (n / 256 ^ 1 % 256 ∷ n % 256 ∷ []) (two (n / 256 ^ 3) (n / 256 ^ 2)) (two (n / 256 ^ 1) n)
 
-points_fit : (ps : List Point) → IsBytes (flat_map point_bytes ps)
+pub points_fit : (ps : List Point) → IsBytes (flat_map point_bytes ps)
 points_fit [] = nil
 points_fit (p ∷ ps) = joined (point_bytes p) _ (joined (long_bytes p.x) (long_bytes p.y) (long_fits p.x) (long_fits p.y)) (points_fit ps)
 
@@ -87,7 +88,7 @@ fits : (z : ℤ) → IsLong z → SFits w32 z
 fits (pos n) h = record { sfits = omega (arith, ints, h.high) }
 fits (negsuc n) h = record { sfits = omega (arith, ints, h.low) }
 
-same_long : (z : ℤ) → IsLong z → read_back z ≡ z
+pub same_long : (z : ℤ) → IsLong z → read_back z ≡ z
 same_long z h = ap (λ (n : ℕ). cast_signed w32 n) (from_be_bytes-to_be_bytes_4 (cast_unsigned w32 z) (low_bits z h)) ∙ to_z-of_z w32 z (fits z h)
 
 -- a rectangle whose outline was read
@@ -122,3 +123,6 @@ pub passed_rect : (r : Rect) (x1 y1 x2 y2 : ℤ) → IsLongRect r
     → x1 ≡ to_z w64 (of_z w64 r.x1) → y1 ≡ to_z w64 (of_z w64 r.y1) → x2 ≡ to_z w64 (of_z w64 r.x2) → y2 ≡ to_z w64 (of_z w64 r.y2)
     → (let s : Rect = record { x1 = passed x1; y1 = passed y1; x2 = passed x2; y2 = passed y2 } in s) ≡ r
 passed_rect r x1 y1 x2 y2 h e f g i = rw (same_passed r.x1 x1 h.x1 e, same_passed r.y1 y1 h.y1 f, same_passed r.x2 x2 h.x2 g, same_passed r.y2 y2 h.y2 i) refl
+
+pub passed_point : (p : Point) (x y : ℤ) → IsLongPoint p → x ≡ to_z w64 (of_z w64 p.x) → y ≡ to_z w64 (of_z w64 p.y) → (let q : Point = record { x = passed x; y = passed y } in q) ≡ p
+passed_point p x y h e f = rw (same_passed p.x x h.x e, same_passed p.y y h.y f) refl

@@ -2,6 +2,13 @@ pub mod More
 pub mod Joined
 pub mod Bodies
 pub mod Outlines
+pub mod Context
 pub mod InCell
-pub mod AcceptLaw
+pub mod PointData
+pub mod Turnings
+pub mod Placements
+pub mod Steps
+pub mod ArrayMore
+pub mod WrittenLaws
 pub mod ReadLaw
+pub mod ReadReferences

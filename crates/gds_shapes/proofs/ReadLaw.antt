@@ -16,8 +16,9 @@ use Rattle.gds_records.specs.Kinds.{HEADER, BGNLIB, LIBNAME, UNITS, BGNSTR, STRN
 use Rattle.gds_elements.specs.Data.{exactly, is_empty, trimmed, put_before, is_unit, unit_in}
 use Rattle.gds_elements.specs.Meaning.{Shape, Text, Ref, Cell, Library, opened, last_kind, columns_of, rows_of, found, head_part, is_cell_bound, cell_part, shapes_of, texts_of, refs_of, cells_of, cell_by, open_cells, library_of}
 use Rattle.gds_elements.specs.Faults.{is_second_points, is_plain, content_fault, fault_of, Passes}
-use Rattle.gds_shapes.specs.Stream.{IsShort}
-use Rattle.gds_shapes.specs.Accepted.{IsData, IsText, IsRead, ReadLaw}
+use Rattle.gds_shapes.specs.Data.{IsShort, IsData, IsText}
+use Rattle.gds_shapes.specs.Stream.{heading_of}
+use Rattle.gds_shapes.specs.Accepted.{IsHeading, IsRead, ReadHeadingLaw, ReadLaw}
 
 -- ---- data
 
@@ -66,7 +67,7 @@ trimmed_again : (bytes : List ℕ) → trimmed (trimmed bytes) ≡ trimmed bytes
 trimmed_again [] = refl
 trimmed_again (b ∷ bytes) = put_again b (trimmed bytes) (trimmed_again bytes)
 
-trimmed_text : (bytes : List ℕ) → IsBytes bytes → IsShort bytes → IsText (trimmed bytes)
+pub trimmed_text : (bytes : List ℕ) → IsBytes bytes → IsShort bytes → IsText (trimmed bytes)
 trimmed_text bytes h s = let t = trimmed_short bytes in record { bytes = trimmed_bytes bytes h; short = omega (arith, t, s); trimmed = trimmed_again bytes }
 
 pick : (a b : Bool) (xs ys : List ℕ) → IsBytes xs → IsBytes ys → IsBytes (cond a xs (cond b [] ys))
@@ -74,7 +75,7 @@ pick true b xs ys h g = h
 pick false true xs ys h g = λ i. omega arith
 pick false false xs ys h g = g
 
-found_bytes : (wanted bound : ℕ → Bool) (rs : Records) → Passes rs → IsBytes (found wanted bound rs)
+pub found_bytes : (wanted bound : ℕ → Bool) (rs : Records) → Passes rs → IsBytes (found wanted bound rs)
 found_bytes wanted bound NoRecords p = λ i. omega arith
 found_bytes wanted bound (before ▸ r) p = pick (wanted r.kind) (bound r.kind) r.body (found wanted bound before) p.1.bytes (found_bytes wanted bound before p.0)
 
@@ -83,7 +84,7 @@ pick_short true b xs ys h g = h
 pick_short false true xs ys h g = omega arith
 pick_short false false xs ys h g = g
 
-found_short : (wanted bound : ℕ → Bool) (rs : Records) → Passes rs → IsShort (found wanted bound rs)
+pub found_short : (wanted bound : ℕ → Bool) (rs : Records) → Passes rs → IsShort (found wanted bound rs)
 found_short wanted bound NoRecords p = omega arith
 found_short wanted bound (before ▸ r) p =
     let short = p.1.short in
@@ -136,7 +137,7 @@ can_go true a b c e = absurd cc
 can_go false true b c e = refl
 can_go false false b c e = absurd cc
 
-content_sound : (s a b : Bool) (c : Option ℕ) → cond s (Some 14) (cond (not a) (Some 4) (cond (not b) (Some 5) c)) ≡ None → c ≡ None
+pub content_sound : (s a b : Bool) (c : Option ℕ) → cond s (Some 14) (cond (not a) (Some 4) (cond (not b) (Some 5) c)) ≡ None → c ≡ None
 content_sound true a b c e = absurd cc
 content_sound false false b c e = absurd cc
 content_sound false true false c e = absurd cc
@@ -159,7 +160,7 @@ ended_units (before ▸ r) p e =
         let on : can_go_on (before ▸ r) k ≡ true = (grammar_law (before ▸ r) k).1 (ks, subst (λ (zs : List ℕ). Allows g.library zs) whole h) in
         absurd (true_false (sym on ∙ stops (before ▸ r) k e))
 
-unit_tested : (u : Bool) (n : ℕ) → cond u None (Some n) ≡ None → u ≡ true
+pub unit_tested : (u : Bool) (n : ℕ) → cond u None (Some n) ≡ None → u ≡ true
 unit_tested true n e = refl
 unit_tested false n e = absurd cc
 
@@ -212,22 +213,29 @@ cells_read (before ▸ r) p =
     let one = cell_read _ _ (shapes_of before) (texts_of before) (refs_of before) (exactly_data 24 (cell_part BGNSTR before) (cell_bytes BGNSTR before p.0)) (cell_name before p.0) in
     either (r.kind == ENDSTR) (cells_of before ++ open_cells before) (cells_of before) (All-append IsCell (cells_of before) (open_cells before) all one) all
 
-whole_read : (rs : Records) → Passes rs → IsEnded rs → All (λ cell. IsRead (library_of rs) cell) (cells_of rs)
-whole_read rs p e =
+heading_read : (rs : Records) → Passes rs → IsEnded rs → IsHeading (heading_of (library_of rs))
+heading_read rs p e =
     let units = exactly_data 16 (head_part UNITS rs) (head_bytes UNITS rs p) in
     let unit : is_unit (unit_in (exactly 16 (head_part UNITS rs))) ≡ true =
     ap (λ (bytes : List ℕ). is_unit (take 8 (drop 8 bytes))) (exactly_again 16 (exactly 16 (head_part UNITS rs)) units.whole) ∙ unit_read rs p (ended_units rs p e) in
-    All-weaker IsCell (λ (cell : Cell). IsRead (library_of rs) cell)
-    (λ cell c. record {
+    record {
       version = exactly_data 2 (head_part HEADER rs) (head_bytes HEADER rs p);
       dates = exactly_data 24 (head_part BGNLIB rs) (head_bytes BGNLIB rs p);
       name = library_name rs p;
       units = units;
       unit = unit;
-      cell_dates = c.dates;
-      cell_name = c.name;
-      named = c.named;
-    }) (cells_of rs) (cells_read rs p)
+    }
+
+whole_read : (rs : Records) → Passes rs → IsEnded rs → All (λ cell. IsRead (library_of rs) cell) (cells_of rs)
+whole_read rs p e =
+    let heading = heading_read rs p e in
+    All-weaker IsCell (λ (cell : Cell). IsRead (library_of rs) cell)
+    (λ cell c. record { heading = heading; cell_dates = c.dates; cell_name = record { text = c.name; named = c.named } }) (cells_of rs) (cells_read rs p)
+
+pub heading_law : ReadHeadingLaw
+heading_law bytes value h =
+    let P : Library → Type 0 = λ v. IsHeading (heading_of v) in
+    subst P h.4 (heading_read h.0 h.2.passes h.3)
 
 pub law : ReadLaw
 law bytes value h =

@@ -1,2 +1,4 @@
+pub mod Data
+pub mod References
 pub mod Stream
 pub mod Accepted

@@ -1,48 +1,36 @@
--- The written stream of a cell: the records that rectangles on layers are written as (GDSII Stream
--- Format, Release 6).
-use Rattle.std.specs.Prelude.{ℕ, ◌%◌, ◌^◌, ◌≤◌, ◌<◌, ◌==◌, ℤ, pos, ◌-ℤ◌, ◌≤ℤ◌, ◌<ℤ◌, List, [], ◌∷◌}
-use Rattle.std.specs.Prelude.{◌++◌, length, if◌then◌else◌}
+-- The written stream: the records that cells with references, and with rectangles on layers, are
+-- written as (GDSII Stream Format, Release 6).
+use Rattle.std.specs.Prelude.{ℕ, ◌^◌, ◌<◌, List, [], ◌∷◌, ◌++◌}
 use Rattle.std.specs.List.{All, flat_map}
-use Rattle.std.specs.Int.{w16, w32, to_be_bytes, cast_unsigned}
 use Rattle.geo_base.specs.Near.{IsLongRect}
 use Rattle.geo_base.specs.declared.layer.LayerKey.{LayerKey}
 use Rattle.geo_base.specs.declared.shapes.Point.{Point}
 use Rattle.geo_base.specs.declared.shapes.Rect.{Rect}
-use Rattle.gds_records.specs.Records.{Rec, Records, NoRecords, bytes_of, followed_by_all}
+use Rattle.gds_records.specs.Records.{Rec, record_bytes}
 use Rattle.gds_records.specs.Kinds.{HEADER, BGNLIB, LIBNAME, UNITS, ENDLIB, BGNSTR, STRNAME, ENDSTR}
 use Rattle.gds_records.specs.Kinds.{BOUNDARY, LAYER, DATATYPE, XY, ENDEL}
-use Rattle.gds_elements.specs.Meaning.{Library, Cell}
+use Rattle.gds_elements.specs.Meaning.{Library, Cell, Ref}
 use Rattle.gds_elements.specs.Reading.{rec}
+use Rattle.gds_shapes.specs.Data.{bare, numbers, number, string, point_bytes}
+use Rattle.gds_shapes.specs.References.{reference}
+use Rattle.gds_shapes.specs.declared.heading.Heading as code
 use Rattle.gds_shapes.specs.declared.shapes.Written.{Written}
 
--- ---- records by the form of their data
+-- ---- what is written
 
--- no data
-abbrev pub bare : ℕ → Rec
-bare kind = rec kind 0 []
+-- what stands before a library's cells
+pub record Heading : Type 0 where
+  pub version : List ℕ
+  pub dates : List ℕ
+  pub name : List ℕ
+  pub units : List ℕ
 
--- numbers of two bytes
-abbrev pub numbers : ℕ → List ℕ → Rec
-numbers kind body = rec kind 2 body
-
--- one number of two bytes, the higher first
-abbrev pub number : ℕ → ℕ → Rec
-number kind n = numbers kind (to_be_bytes w16 n)
-
--- a string, filled up with one NUL where its length is odd
-abbrev pub filled : List ℕ → List ℕ
-filled text = if (length text % 2) == 0 then text else text ++ 0 ∷ []
-
-abbrev pub string : ℕ → List ℕ → Rec
-string kind text = rec kind 6 (filled text)
-
--- four bytes of two's complement, the highest first
-abbrev pub long_bytes : ℤ → List ℕ
-long_bytes z = to_be_bytes w32 (cast_unsigned w32 z)
-
--- eight bytes a point: x, then y
-abbrev pub point_bytes : Point → List ℕ
-point_bytes p = long_bytes p.x ++ long_bytes p.y
+-- a cell as it is written: its references, and its rectangles by layers
+pub record Drawn : Type 0 where
+  pub dates : List ℕ
+  pub name : List ℕ
+  pub refs : List Ref
+  pub layers : List (LayerKey × List Rect)
 
 -- ---- the stream
 
@@ -66,32 +54,41 @@ boundary key r = bare BOUNDARY ∷ number LAYER key.layer ∷ number DATATYPE ke
 abbrev pub layer : LayerKey × List Rect → List Rec
 layer l = flat_map (λ r. boundary l.0 r) l.1
 
--- a cell: its dates and name, and the layers in order
-abbrev pub structure : Cell → List (LayerKey × List Rect) → List Rec
-structure cell layers = numbers BGNSTR cell.dates ∷ string STRNAME cell.name
-    ∷ flat_map layer layers ++ bare ENDSTR ∷ []
+-- a cell: its dates and name, the references in order, and the layers in order
+abbrev pub structure : Drawn → List Rec
+structure cell = numbers BGNSTR cell.dates ∷ string STRNAME cell.name
+    ∷ (flat_map reference cell.refs ++ flat_map layer cell.layers) ++ bare ENDSTR ∷ []
 
 -- what stands before the cells
-abbrev pub header : Library → List Rec
-header library = numbers HEADER library.version ∷ numbers BGNLIB library.dates
-    ∷ string LIBNAME library.name ∷ rec UNITS 5 library.units ∷ []
+abbrev pub header : Heading → List Rec
+header heading = numbers HEADER heading.version ∷ numbers BGNLIB heading.dates
+    ∷ string LIBNAME heading.name ∷ rec UNITS 5 heading.units ∷ []
 
--- a library of this one cell
-abbrev pub stream_list : Library → Cell → List (LayerKey × List Rect) → List Rec
-stream_list library cell layers = header library ++ structure cell layers ++ bare ENDLIB ∷ []
+-- a library of these cells, in order
+abbrev pub stream : Heading → List Drawn → List Rec
+stream heading cells = header heading ++ flat_map structure cells ++ bare ENDLIB ∷ []
 
-abbrev pub stream_records : Library → Cell → List (LayerKey × List Rect) → Records
-stream_records library cell layers = followed_by_all NoRecords (stream_list library cell layers)
+-- its bytes
+abbrev pub library_bytes : Heading → List Drawn → List ℕ
+library_bytes heading cells = flat_map record_bytes (stream heading cells)
 
--- the records' bytes, joined
+-- ---- a library of one cell without references
+
+abbrev pub heading_of : Library → Heading
+heading_of library = record {
+  version = library.version;
+  dates = library.dates;
+  name = library.name;
+  units = library.units;
+}
+
+abbrev pub alone : Cell → List (LayerKey × List Rect) → Drawn
+alone cell layers = record { dates = cell.dates; name = cell.name; refs = []; layers = layers }
+
 abbrev pub stream_bytes : Library → Cell → List (LayerKey × List Rect) → List ℕ
-stream_bytes library cell layers = bytes_of (stream_records library cell layers)
+stream_bytes library cell layers = library_bytes (heading_of library) (alone cell layers ∷ [])
 
 -- ---- what can be written
-
--- one record holds the text
-abbrev pub IsShort : List ℕ → Type 0
-IsShort text = length text ≤ 65530
 
 -- two bytes hold each number
 pub record IsKey (key : LayerKey) : Type 0 where
@@ -110,3 +107,12 @@ AreLong layers = All (λ l. All IsLongRect l.1) layers
 -- what is written of a layer, as it is seen
 abbrev pub layer_seen : Written → LayerKey × List Rect
 layer_seen w = (w.key, w.rects.now)
+
+-- what stands before the cells, as it is seen
+abbrev pub heading_seen : code.Heading → Heading
+heading_seen h = record {
+  version = h.version;
+  dates = h.dates;
+  name = h.name.now;
+  units = h.units;
+}

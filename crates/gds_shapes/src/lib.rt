@@ -1,9 +1,14 @@
-//! The GDSII stream of a cell (GDSII Stream Format, Release 6): rectangles on layers, written as
-//! boundaries.
+//! The GDSII stream of cells (GDSII Stream Format, Release 6): references, and rectangles on layers,
+//! written as boundaries.
 #![tactic(auto)]
 
+mod heading;
 mod laws;
+mod records;
+mod references;
 mod shapes;
 
-pub use laws::{accepted, library_read};
-pub use shapes::{Written, shapes_text};
+pub use heading::{Heading, write_cell_end, write_cell_start, write_end, write_heading};
+pub use laws::{accepted, library_read, read_again, written};
+pub use references::{Reference, write_reference};
+pub use shapes::{Written, shapes_text, write_layer};

@@ -6,10 +6,13 @@ ghost use Rattle.gds_records.specs.Records.{record_bytes};
 ghost use Rattle.gds_elements.specs.Faults.{Accepts};
 ghost use Rattle.gds_elements.specs.Reading.{library_seen, cell_seen};
 ghost use Rattle.gds_shapes.specs.Accepted.{IsRead, written_library};
-ghost use Rattle.geo_base.specs.Near.{IsLong, IsLongRect};
-ghost use Rattle.gds_shapes.specs.Stream.{IsShort, AreLong, FitsLayer, boundary, header, layer};
-ghost use Rattle.gds_shapes.specs.Stream.{layer_seen, long_bytes, outline, string, stream_bytes};
+ghost use Rattle.geo_base.specs.Near.{IsLongRect};
+ghost use Rattle.gds_shapes.specs.Data.{IsShort};
+ghost use Rattle.gds_shapes.specs.Stream.{AreLong, FitsLayer, boundary, layer};
+ghost use Rattle.gds_shapes.specs.Stream.{layer_seen, outline, stream_bytes};
 
+use crate::heading::{Heading, write_cell_end, write_cell_start, write_end, write_heading};
+use crate::records::{LONGS, NONE, NUMBERS, long};
 use byteorder::{BigEndian, ByteOrder};
 use gds_elements::{Library, RawCell};
 use gds_records::{kinds, write_record};
@@ -22,17 +25,6 @@ pub struct Written<'a> {
     pub key: LayerKey,
     pub rects: &'a [Rect],
 }
-
-// The forms of data.
-const NONE: u8 = 0;
-
-const NUMBERS: u8 = 2;
-
-const LONGS: u8 = 3;
-
-const REALS: u8 = 5;
-
-const STRING: u8 = 6;
 
 /// The stream of a library with this one cell, whose rectangles are boundaries, layer by layer:
 /// names that one record
@@ -55,36 +47,18 @@ pub fn shapes_text(
         (cell_seen cell.now) (map layer_seen written.now))) }
 {
     let mut out = Vec::new(alloc);
-    write_header(alloc, &mut out, library)?;
-    write_record(&mut out, kinds::BGNSTR, NUMBERS, &cell.dates)?;
-    write_string(alloc, &mut out, kinds::STRNAME, cell.name.bytes())?;
+    let heading = Heading {
+        version: library.version,
+        dates: library.dates,
+        name: &library.name,
+        units: library.units,
+    };
+    write_heading(alloc, &mut out, &heading)?;
+    write_cell_start(alloc, &mut out, &cell.dates, cell.name.bytes())?;
     write_layers(&mut out, written)?;
-    write_record(&mut out, kinds::ENDSTR, NONE, &[])?;
-    write_record(&mut out, kinds::ENDLIB, NONE, &[])?;
+    write_cell_end(&mut out)?;
+    write_end(&mut out)?;
     Ok(out)
-}
-
-fn write_header(alloc: Global, out: &mut Vec<u8>, library: &Library) -> Result<(), AllocError>
-    requires { IsShort library.now.name.items }
-    ensures { OnOk result (out.new.items ≡ out.old.items ++ flat_map record_bytes (header
-        (library_seen library.now))) }
-{
-    write_record(out, kinds::HEADER, NUMBERS, &library.version)?;
-    write_record(out, kinds::BGNLIB, NUMBERS, &library.dates)?;
-    write_string(alloc, out, kinds::LIBNAME, &library.name)?;
-    write_record(out, kinds::UNITS, REALS, &library.units)
-}
-
-// A string, with one NUL at its end where its length is odd.
-fn write_string(alloc: Global, out: &mut Vec<u8>, kind: u8, text: &[u8]) -> Result<(), AllocError>
-    requires { IsShort text.now }
-    ensures { OnOk result (out.new.items ≡ out.old.items ++ record_bytes (string kind text.now)) }
-{
-    let mut body = text.to_vec(alloc)?;
-    if text.len() % 2 != 0 {
-        body.push(0)?;
-    }
-    write_record(out, kind, STRING, &body)
 }
 
 fn write_layers(out: &mut Vec<u8>, written: &[Written]) -> Result<(), AllocError>
@@ -99,7 +73,9 @@ fn write_layers(out: &mut Vec<u8>, written: &[Written]) -> Result<(), AllocError
     Ok(())
 }
 
-fn write_layer(out: &mut Vec<u8>, key: LayerKey, rects: &[Rect]) -> Result<(), AllocError>
+/// Appends the rectangles of a layer in order, each as a boundary, of coordinates of 32 bits. An `Err`
+/// is want of memory; then a part may be appended. Cost: the bytes written.
+pub fn write_layer(out: &mut Vec<u8>, key: LayerKey, rects: &[Rect]) -> Result<(), AllocError>
     requires { All IsLongRect rects.now }
     ensures written { OnOk result (out.new.items ≡ out.old.items ++ flat_map record_bytes (layer
         (key, rects.now))) }
@@ -131,14 +107,6 @@ fn corners(x1: i32, y1: i32, x2: i32, y2: i32) -> [u8; 40]
     let mut bytes = [0; 40];
     BigEndian::write_i32_into(&[x1, y1, x1, y2, x2, y2, x2, y1, x1, y1], &mut bytes);
     bytes
-}
-
-// A coordinate of a record.
-fn long(number: i64) -> i32
-    requires { IsLong number }
-    ensures { result ≡ number }
-{
-    number as i32
 }
 
 // The data of a rectangle's XY.

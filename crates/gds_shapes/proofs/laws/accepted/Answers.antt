@@ -1,5 +1,5 @@
-use Rattle.gds_shapes.proofs.AcceptLaw.{law}
+use Rattle.gds_shapes.proofs.WrittenLaws.{alone_law}
 use Rattle.gds_shapes.proofs.laws.accepted.Goals as goal
 
 pub returns : goal.returns
-returns c = law
+returns c = alone_law

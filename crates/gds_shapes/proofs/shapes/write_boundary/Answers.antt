@@ -3,7 +3,8 @@ use Rattle.std.proofs.lemmas.Result.{IfOk-equal}
 use Rattle.gds_records.specs.Records.{record_bytes}
 use Rattle.gds_records.specs.Kinds.{BOUNDARY, LAYER, DATATYPE, XY, ENDEL}
 use Rattle.gds_elements.specs.Reading.{rec}
-use Rattle.gds_shapes.specs.Stream.{bare, number, outline}
+use Rattle.gds_shapes.specs.Data.{bare, number}
+use Rattle.gds_shapes.specs.Stream.{outline}
 use Rattle.gds_shapes.proofs.Joined.{five}
 use Rattle.gds_shapes.proofs.shapes.write_boundary.Goals as goal
 

@@ -1,9 +1,7 @@
 -- One rectangle more.
 use Rattle.std.proofs.Common.{pos}
 use Rattle.std.proofs.lemmas.List.{take_more}
-use Rattle.std.proofs.lemmas.List.Elements.{All-more}
 use Rattle.geo_base.specs.declared.shapes.Rect.{Rect}
-use Rattle.geo_base.specs.Near.{IsLongRect}
 use Rattle.gds_shapes.specs.Stream.{boundary}
 use Rattle.gds_shapes.proofs.More.{texts_push}
 use Rattle.gds_shapes.proofs.shapes.write_layer.Goals as goal

@@ -1,7 +1,6 @@
 use Rattle.std.proofs.Common.{◌≡◌, ◌++◌, take}
-use Rattle.std.specs.List.{All, flat_map}
+use Rattle.std.specs.List.{flat_map}
 use Rattle.gds_records.specs.Records.{record_bytes}
-use Rattle.geo_base.specs.Near.{IsLongRect}
 use Rattle.gds_shapes.specs.Stream.{boundary}
 use Rattle.gds_shapes.proofs.shapes.write_layer.Given as goal
 
