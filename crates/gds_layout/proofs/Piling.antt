@@ -1,10 +1,10 @@
 -- Rectangles laid on piles.
-use Rattle.std.proofs.Common.{◌≡◌, ℕ, zero, suc, ◌+◌, ◌<◌, ◌≤◌, Bool, true, false, cond, List, [], ◌∷◌, ◌++◌, map, length, set, Some, None, slice_get, refl, sym, ap, subst, ◌∙◌, arith}
+use Rattle.std.proofs.Common.{◌≡◌, ℕ, zero, suc, ◌+◌, ◌<◌, Bool, true, false, cond, List, [], ◌∷◌, ◌++◌, length, set, Some, slice_get, refl, sym, ap, subst, ◌∙◌, arith}
 use Rattle.std.specs.Prelude.{◌||◌, ◌&&◌, not}
 use Rattle.std.specs.List.{All, AllByRecursion, list_any, position_or_len}
 use Rattle.std.proofs.lemmas.List.{map-append}
 use Rattle.std.proofs.lemmas.List.Folds.{list_any-append}
-use Rattle.std.proofs.lemmas.List.Elements.{All-nil, All-append, All-set, All-push, recursion_from_All}
+use Rattle.std.proofs.lemmas.List.Elements.{All-append, All-set, recursion_from_All}
 use Rattle.geo_base.specs.Layers.{is_same_key}
 use Rattle.geo_base.specs.Rects.{IsRect}
 use Rattle.geo_base.specs.declared.layer.LayerKey.{LayerKey}

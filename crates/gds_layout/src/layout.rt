@@ -1,7 +1,12 @@
 //! What a stream holds as a layout, and why one isn't read.
 
+ghost use Rattle.std.specs.Prelude.{◌≡◌};
+ghost use Rattle.gds_layout.specs.Causes.{of_links, of_stream};
+ghost use Rattle.gds_layout.specs.declared.layout.LayoutFault.TheVariants.{NoMemory};
+
 use cell_graph::{Design, LinkFault};
 use gds_elements::GdsFault;
+use std::alloc::AllocError;
 use thiserror::Error;
 
 /// What stands before the cells: the data of HEADER, BGNLIB and UNITS, the name of LIBNAME without
@@ -36,4 +41,34 @@ pub enum LayoutFault {
     Link(LinkFault),
     #[error("out of memory")]
     NoMemory,
+}
+
+impl From<GdsFault> for LayoutFault {
+    ghost from_gives = { λ fault e. e ≡ of_stream fault };
+
+    fn from(fault: GdsFault) -> LayoutFault {
+        match fault {
+            GdsFault::NoMemory => LayoutFault::NoMemory,
+            GdsFault::Bad { .. } => LayoutFault::Gds(fault),
+        }
+    }
+}
+
+impl From<LinkFault> for LayoutFault {
+    ghost from_gives = { λ fault e. e ≡ of_links fault };
+
+    fn from(fault: LinkFault) -> LayoutFault {
+        match fault {
+            LinkFault::NoMemory => LayoutFault::NoMemory,
+            fault => LayoutFault::Link(fault),
+        }
+    }
+}
+
+impl From<AllocError> for LayoutFault {
+    ghost from_gives = { λ _ e. e ≡ NoMemory };
+
+    fn from(_: AllocError) -> LayoutFault {
+        LayoutFault::NoMemory
+    }
 }

@@ -2,8 +2,15 @@
 //! and linked.
 #![tactic(auto)]
 
+mod drafts;
 mod keys;
+mod layers;
 mod layout;
+mod linking;
 mod piles;
+mod reader;
+mod reading;
 
 pub use layout::{Header, Layout, LayoutFault};
+pub use reader::LayoutReader;
+pub use reading::read_layout;

@@ -61,9 +61,7 @@ pub fn shapes_text(
     Ok(out)
 }
 
-/// Appends layers in order: each rectangle as a boundary, of coordinates of 32 bits. An `Err` is
-/// want of memory; then a part may be appended. Cost: the bytes written.
-pub fn write_layers(out: &mut Vec<u8>, written: &[Written]) -> Result<(), AllocError>
+fn write_layers(out: &mut Vec<u8>, written: &[Written]) -> Result<(), AllocError>
     requires { AreLong (map layer_seen written.now) }
     ensures written { OnOk result (out.new.items ≡ out.old.items ++ flat_map record_bytes
         (flat_map layer (map layer_seen written.now))) }
@@ -75,7 +73,9 @@ pub fn write_layers(out: &mut Vec<u8>, written: &[Written]) -> Result<(), AllocE
     Ok(())
 }
 
-fn write_layer(out: &mut Vec<u8>, key: LayerKey, rects: &[Rect]) -> Result<(), AllocError>
+/// Appends the rectangles of a layer in order, each as a boundary, of coordinates of 32 bits. An `Err`
+/// is want of memory; then a part may be appended. Cost: the bytes written.
+pub fn write_layer(out: &mut Vec<u8>, key: LayerKey, rects: &[Rect]) -> Result<(), AllocError>
     requires { All IsLongRect rects.now }
     ensures written { OnOk result (out.new.items ≡ out.old.items ++ flat_map record_bytes (layer
         (key, rects.now))) }

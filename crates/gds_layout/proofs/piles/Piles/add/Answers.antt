@@ -1,4 +1,4 @@
-use Rattle.std.proofs.Common.{◌≡◌, Bool, List, sym, ap, subst, ◌∙◌}
+use Rattle.std.proofs.Common.{Bool, List, sym, ap, subst, ◌∙◌}
 use Rattle.std.specs.Prelude.{◌||◌, ◌&&◌}
 use Rattle.std.specs.List.{All}
 use Rattle.geo_base.specs.Layers.{is_same_key}
@@ -6,7 +6,7 @@ use Rattle.geo_base.specs.Rects.{IsRect}
 use Rattle.geo_base.specs.declared.layer.LayerKey.{LayerKey}
 use Rattle.geo_base.specs.declared.shapes.Rect.{Rect}
 use Rattle.rect_sets.specs.Rects.{covers}
-use Rattle.gds_layout.specs.Piles.{AreDifferent, piles_cover}
+use Rattle.gds_layout.specs.Piles.{piles_cover}
 use Rattle.gds_layout.proofs.Piling.{gained_keys, gained_sound, gained_covers, gained_has, gained_key}
 use Rattle.gds_layout.proofs.piles.Piles.add.Goals as goal
 

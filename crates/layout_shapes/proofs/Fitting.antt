@@ -1,0 +1,84 @@
+-- Each reached cell can be written.
+use Rattle.std.proofs.Common.{◌≡◌, inl, inr, ℕ, ◌+◌, ◌<◌, List, [], ◌∷◌, ◌++◌, length, get_or, slice_get, Option, Some, sym, subst, arith}
+use Rattle.std.specs.Prelude.{IsSome}
+use Rattle.std.specs.List.{All}
+use Rattle.std.proofs.lemmas.List.{length-append}
+use Rattle.std.proofs.lemmas.Option.{slice_get_cases, get_or_from_slice_get}
+use Rattle.geo_base.specs.declared.shapes.Rect.{Rect}
+use Rattle.geo_base.specs.Near.{IsLongRect}
+use Rattle.rect_sets.specs.Rects.{CanonicalLaw}
+use Rattle.flat_layout.specs.Layers.{Reading}
+use Rattle.flat_layout.specs.Layout.{IsReached}
+use Rattle.cell_graph.specs.Linked.{Linked, IsSound, plain, places_at}
+use Rattle.cell_graph.specs.Laws.{HullLaw}
+use Rattle.cell_graph.specs.declared.cells.CellPart.{CellPart}
+use Rattle.rule_text.specs.declared.rules.LayerRule.{LayerRule}
+use Rattle.rule_text.specs.declared.rules.Output.{Output}
+use Rattle.rule_text.specs.Rules.{Rules}
+use Rattle.rule_text.specs.Sound as rules
+use Rattle.rule_layers.specs.Readings.{reading_by, readings_behind, readings}
+use Rattle.deep_tables.specs.Layers.{AreLayers, LayerAtLaw, layer_of}
+use Rattle.deep_tables.specs.declared.layers.CellLayers.{CellLayers}
+use Rattle.gds_layout.specs.declared.layout.Layout.{Layout}
+use Rattle.gds_shapes.specs.Data.{IsNamed}
+use Rattle.gds_shapes.specs.References.{FitsReference}
+use Rattle.layout_shapes.specs.Writable.{IsWritable, CanWriteLine, CanWriteCell}
+use Rattle.layout_shapes.specs.Written.{AreReached, name_of, ref_of, squares_of}
+use Rattle.layout_shapes.proofs.Long.{local_long}
+use Rattle.layout_shapes.proofs.Reaching.{within, reached_at}
+
+count_behind : (before : List Reading) (names : List LayerRule) → length (readings_behind before names) ≡ length before + length names
+count_behind before [] = omega arith
+count_behind before (n ∷ names) =
+    let more = count_behind (before ++ reading_by before n.form ∷ []) names in
+    let one : length (before ++ reading_by before n.form ∷ []) ≡ length before + 1 = length-append before (reading_by before n.form ∷ []) in
+    omega (arith, more, one)
+
+-- what stands at a number below the length
+pub there : {X : Type 0} (xs : List X) (i : ℕ) → i < length xs → (x : X) × (slice_get xs i ≡ Some x)
+there xs i lt = elim (slice_get_cases xs i).1 [ inl h ↦ (h.0, h.2) | inr h ↦ (let le = h.0 in absurd (let z : ⊥ = omega (arith, lt, le) in z)) ]
+
+some_is : (o : Option (List Rect)) (v : List Rect) → o ≡ Some v → IsSome o
+some_is o v e = subst (λ (p : Option (List Rect)). IsSome p) (sym e) search
+
+line : HullLaw → CanonicalLaw → LayerAtLaw → (d : Linked) (r : Rules) (table : List (Option CellLayers)) (cell : ℕ) (o : Output) → IsSound d → AreLayers (plain d) r table → IsReached (plain d) cell
+    → o.layer < length r.names → CanWriteLine table cell o
+line hull canonical at d r table cell o sound are reached below =
+    let count = count_behind [] r.names in
+    let x = there (readings r.names) o.layer (omega (arith, below, count)) in
+    let h = at (plain d) r table cell o.layer x.0 are reached x.1 in
+    let long = local_long hull canonical d cell x.0 h.0 sound h.2 in
+    record {
+      held = some_is (layer_of table cell o.layer) h.0 h.1;
+      long = subst (λ (p : Option (List Rect)). All IsLongRect (squares_of p)) (sym h.1) long;
+    }
+
+-- what holds of each entry and its number holds of all
+entries : {X : Type 0} (P : X → Type 0) (xs : List X) → ((k : ℕ) (x : X) → slice_get xs k ≡ Some x → P x) → All P xs
+entries {X} P xs h k z lt = elim (slice_get_cases xs k).1 [
+  | inl f ↦ subst P (sym (get_or_from_slice_get xs k f.0 z f.2)) (h k f.0 f.2)
+  | inr f ↦ (let le = f.0 in absurd (let bad : ⊥ = omega (arith, lt, le) in bad))
+]
+
+pub can_write : HullLaw → CanonicalLaw → LayerAtLaw → (l : Layout) (r : Rules) (table : List (Option CellLayers)) (cell : ℕ) → IsSound l.design → rules.IsSound r → AreLayers (plain l.design) r table → IsWritable l
+    → IsReached (plain l.design) cell → CanWriteCell l r table cell
+can_write hull canonical at l r table cell sound sound_rules are writable reached =
+    let d = l.design in
+    let inside = within d cell sound.order reached in
+    let count = writable.count in
+    let dated : cell < length l.cell_dates.items = omega (arith, inside, count) in
+    let c = there d.cells cell inside in
+    let can = writable.each cell c.0 c.1 in
+    record {
+      inside = inside;
+      dated = dated;
+      dates = writable.dates cell [] dated;
+      name = subst (λ (o : Option CellPart). IsNamed (name_of o)) (sym c.1) can.name;
+      refs = subst (λ (o : Option CellPart). All (λ p. FitsReference (ref_of d p)) (places_at o)) (sym c.1) can.refs;
+      lines = entries (CanWriteLine table cell) r.outputs (λ k o e. line hull canonical at d r table cell o sound are reached (sound_rules.formed.outputs k o e).below);
+    }
+
+pub all_can : HullLaw → CanonicalLaw → LayerAtLaw → (l : Layout) (r : Rules) (table : List (Option CellLayers)) (cells : List ℕ) → IsSound l.design → rules.IsSound r → AreLayers (plain l.design) r table → IsWritable l
+    → AreReached l.design cells → All (CanWriteCell l r table) cells
+all_can hull canonical at l r table cells sound sound_rules are writable reached k z lt =
+    can_write hull canonical at l r table (get_or cells k z) sound sound_rules are writable (reached_at l.design cells k z reached lt)

@@ -1,0 +1,5 @@
+pub mod Places
+pub mod Reaching
+pub mod Long
+pub mod Fitting
+pub mod Joined
