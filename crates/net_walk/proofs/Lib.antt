@@ -7,3 +7,7 @@ pub mod Alikes
 pub mod Spanning
 pub mod Owning
 pub mod OwnBeside
+pub mod Placing
+pub mod Besides
+pub mod Grounding
+pub mod Uniting

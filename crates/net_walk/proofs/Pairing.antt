@@ -75,16 +75,16 @@ pair d w t cell k l p q window joins links right there there_too enough same h =
           h.found (first_of d w t cell k + x) (first_of d w t cell l + y) (record { c = m.c; e = m.e; p = moved_square p.motion m.m; q = moved_square q.motion m.n; joined = (same m.c m.e).1 m.joined; over = inl one; over_too = inr two; near = m.near });
     }
 
-linked_left : (ls ms : List Link) (i j : ℕ) → IsLinked ls i j → IsLinked (ls ++ ms) i j
+pub linked_left : (ls ms : List Link) (i j : ℕ) → IsLinked ls i j → IsLinked (ls ++ ms) i j
 linked_left [] ms i j h = absurd h
 linked_left (l ∷ ls) ms i j (inl h) = inl h
 linked_left (l ∷ ls) ms i j (inr h) = inr (linked_left ls ms i j h)
 
-linked_right : (ls ms : List Link) (i j : ℕ) → IsLinked ms i j → IsLinked (ls ++ ms) i j
+pub linked_right : (ls ms : List Link) (i j : ℕ) → IsLinked ms i j → IsLinked (ls ++ ms) i j
 linked_right [] ms i j h = h
 linked_right (l ∷ ls) ms i j h = inr (linked_right ls ms i j h)
 
-linked_either : (ls ms : List Link) (i j : ℕ) → IsLinked (ls ++ ms) i j → IsLinked ls i j ⊎ IsLinked ms i j
+pub linked_either : (ls ms : List Link) (i j : ℕ) → IsLinked (ls ++ ms) i j → IsLinked ls i j ⊎ IsLinked ms i j
 linked_either [] ms i j h = inr h
 linked_either (l ∷ ls) ms i j (inl h) = inl (inl h)
 linked_either (l ∷ ls) ms i j (inr h) = elim (linked_either ls ms i j h) [ inl a ↦ inl (inr a) | inr b ↦ inr b ]

@@ -82,7 +82,7 @@ spans_more d t cell n p old new there h g = record {
 abbrev pub no_link : Link
 no_link = record { one = 0; other = 0 }
 
-linked_cut : (ls : List Link) (l : Link) (i j : ℕ) → IsLinked (ls ++ l ∷ []) i j → IsLinked ls i j ⊎ IsOf l i j
+pub linked_cut : (ls : List Link) (l : Link) (i j : ℕ) → IsLinked (ls ++ l ∷ []) i j → IsLinked ls i j ⊎ IsOf l i j
 linked_cut [] l i j (inl h) = inr h
 linked_cut [] l i j (inr h) = absurd h
 linked_cut (m ∷ ls) l i j (inl h) = inl (inl h)

@@ -10,6 +10,7 @@ use Rattle.flat_layout.specs.Regions.{Wiring, At}
 use Rattle.geo_base.specs.Motions.{moved_square}
 use Rattle.geo_base.specs.Near.{IsNearMotion}
 use Rattle.std.proofs.lemmas.Int.{ints}
+use Rattle.geo_base.specs.declared.motion.Motion.{Motion}
 use Rattle.geo_base.specs.declared.motion.Turn.TheVariants.{R0}
 use Rattle.geo_base.specs.declared.shapes.Rect.{Rect}
 use Rattle.geo_base.specs.declared.shapes.Square.{Square}
@@ -19,7 +20,7 @@ use Rattle.net_link_laws.specs.Collected.{IsOver, AreCollected, IsInNet}
 use Rattle.net_link_laws.specs.Places.{owned_before, nets_before, places_of}
 use Rattle.net_link_laws.specs.declared.piece.NetPiece.{NetPiece}
 use Rattle.net_walk.proofs.Adding.{added_none, added_both}
-use Rattle.net_walk.specs.Walk.{place_of, AreInside, AddsPieces, AreListed, AreNear, IsCollection, IsOfOwn, IsOfMoved, IsPart, HasNoPart}
+use Rattle.net_walk.specs.Walk.{place_of, AreInside, AddsPieces, AreClose, AreListed, IsClose, IsCollection, IsOfOwn, IsOfMoved, IsPart, HasNoPart}
 use Rattle.net_walk.specs.declared.cells.Element.{Element}
 
 -- an item of the cell itself, or of the first n placements
@@ -229,7 +230,17 @@ element_at es ps k e lt = subst (λ (l : List Place). slice_get l k ≡ Some (pl
 pub as_long : (es : List Element) (ps : List Place) → map place_of es ≡ ps → length es ≡ length ps
 as_long es ps e = sym (long_map es) ∙ ap (λ (l : List Place). length l) e
 
-pub near_at : (es : List Element) (k : ℕ) → AreNear es → k < length es → IsNearMotion (get_or es k no_element).motion
-near_at [] k h lt = absurd (omega arith)
-near_at (e ∷ es) zero h lt = h.0
-near_at (e ∷ es) (suc k) h lt = near_at es k h.1 (omega arith)
+pub close_at : (es : List Element) (k : ℕ) → AreClose es → k < length es → IsClose (get_or es k no_element).motion
+close_at [] k h lt = absurd (omega arith)
+close_at (e ∷ es) zero h lt = h.0
+close_at (e ∷ es) (suc k) h lt = close_at es k h.1 (omega arith)
+
+pub near_close : (m : Motion) → IsClose m → IsNearMotion m
+near_close m h =
+    let a = h.dx.low in let b = h.dx.high in let c = h.dy.low in let d = h.dy.high in record {
+      dx = record { low = omega (arith, ints); high = omega (arith, ints) };
+      dy = record { low = omega (arith, ints); high = omega (arith, ints) };
+    }
+
+pub near_at : (es : List Element) (k : ℕ) → AreClose es → k < length es → IsNearMotion (get_or es k no_element).motion
+near_at es k h lt = near_close (get_or es k no_element).motion (close_at es k h lt)

@@ -4,3 +4,5 @@ pub mod Pairs
 pub mod Relative
 pub mod Owned
 pub mod Beside
+pub mod Globals
+pub mod Together

@@ -1,11 +1,11 @@
 -- Pieces that a walk adds to a list.
-use Rattle.std.specs.Prelude.{◌≡◌, ◌⊎◌, ◌↔◌, ℕ, ◌+◌, ◌<◌, ◌≤ℤ◌, List, [], ◌∷◌, Some, slice_get}
+use Rattle.std.specs.Prelude.{◌≡◌, ◌⊎◌, ◌↔◌, ℕ, ◌+◌, ◌<◌, ◌^◌, ◌≤ℤ◌, List, [], ◌∷◌, Some, slice_get}
 use Rattle.flat_layout.specs.Layout.{Design, Place}
 use Rattle.flat_layout.specs.Nets.{Tables, NetHolds}
 use Rattle.flat_layout.specs.Plane.{IsIn}
 use Rattle.flat_layout.specs.Regions.{At}
 use Rattle.geo_base.specs.Motions.{moved_square}
-use Rattle.geo_base.specs.Near.{IsNearRect, IsNearMotion}
+use Rattle.geo_base.specs.Near.{IsNearRect, IsWithin}
 use Rattle.geo_base.specs.Rects.{IsRect}
 use Rattle.geo_base.specs.declared.motion.Motion.{Motion}
 use Rattle.geo_base.specs.declared.shapes.Rect.{Rect}
@@ -18,14 +18,24 @@ use Rattle.net_walk.specs.declared.cells.Element.{Element}
 abbrev pub place_of : Element → Place
 place_of e = record { cell = e.cell; motion = e.motion }
 
-abbrev pub AreNear : List Element → Type 0
-AreNear [] = Unit {0}
-AreNear (e ∷ es) = IsNearMotion e.motion × AreNear es
+-- its shift is so small that a hull's image is near the origin still
+pub record IsClose (m : Motion) : Type 0 where
+  pub dx : IsWithin (2 ^ 38) m.dx
+  pub dy : IsWithin (2 ^ 38) m.dy
+
+abbrev pub AreClose : List Element → Type 0
+AreClose [] = Unit {0}
+AreClose (e ∷ es) = IsClose e.motion × AreClose es
 
 -- none of the rectangles is empty
 abbrev pub HaveArea : List Rect → Type 0
 HaveArea [] = Unit {0}
 HaveArea (r ∷ rs) = IsRect r × HaveArea rs
+
+-- own rectangles have squares, and are near the origin
+pub record AreNearOwn (t : Tables) : Type 0 where
+  pub rect : (cell c r : ℕ) (o : Rect) → slice_get (t.own cell c) r ≡ Some o → IsRect o
+  pub near : (cell c r : ℕ) (o : Rect) → slice_get (t.own cell c) r ≡ Some o → IsNearRect (grown o)
 
 -- the cell's nets have no square outside the rectangle
 pub record IsHull (d : Design) (t : Tables) (cell : ℕ) (r : Rect) : Type 0 where

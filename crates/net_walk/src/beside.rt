@@ -1,20 +1,29 @@
-// Links between a cell's own rectangle and the nets of a placement.
-ghost use Rattle.std.specs.Prelude.{◌≡◌, ◌+◌, ◌<◌, ◌≤◌, length, IfOk};
+// Links between a cell's own rectangles and the nets of placements.
+ghost use Rattle.std.specs.Prelude.{◌≡◌, ◌+◌, ◌<◌, ◌≤◌, ◌↔◌, ℕ, [], ◌∷◌, get_or, length, map, slice_get, Some, IfOk, OnOk};
+ghost use Rattle.flat_layout.specs.Nets.{AreRightBelow, items_of};
+ghost use Rattle.flat_layout.specs.Regions.{IsJoined};
+ghost use Rattle.net_link_laws.specs.Places.{places_of};
+ghost use Rattle.net_walk.specs.Owned.{IsOwnPiece, owned_pieces};
+ghost use Rattle.net_walk.specs.Together.{AreFirsts};
+ghost use Rattle.touching_pieces.specs.Pairs.{AreJoined, IsAmong};
+ghost use Rattle.touching_pieces.specs.declared.pieces.Piece.{Piece};
 ghost use Rattle.geo_base.specs.Near.{IsNearRect, IsNearMotion};
 ghost use Rattle.geo_base.specs.Rects.{IsRect};
 ghost use Rattle.net_link_laws.specs.Laws.{AreNetsUnder};
 ghost use Rattle.net_link_laws.specs.Windows.{grown};
-ghost use Rattle.net_walk.specs.Beside.{BesidePairLaw, IsBesideSeen};
+ghost use Rattle.net_walk.specs.Beside.{AddsBeside, AddsPairsBeside, AddsPieceBeside, ArePairsBeside, BesidePairLaw, IsBesideSeen, IsPairBeside, counted_from};
 ghost use Rattle.net_walk.specs.Seen.{AreLinksOver};
 ghost use Rattle.net_walk.specs.Walk.{place_of};
 
 use crate::cells::{Cells, Element};
+use crate::children::span_pieces;
+use crate::own::own_pieces;
 use crate::rects::grown;
 use crate::seen::see;
 use geo_base::Rect;
 use link_classes::Link;
 use std::alloc::{AllocError, Global};
-use touching_pieces::{Joined, Piece, touching_links};
+use touching_pieces::{Joined, Piece, touching_links, touching_pairs};
 
 /// Links between the item of a rectangle and those of a placement's nets that touch it; these stand
 /// from a place on.
@@ -55,3 +64,143 @@ pub fn beside_links<C: Cells>(
 pub fn beside_law()
     ensures { BesidePairLaw }
 {}
+
+// The same pieces, their items counted from a number on.
+fn counted_from(alloc: Global, pieces: &[Piece], by: u32) -> Result<Vec<Piece>, AllocError>
+    requires { (o : Piece) → IsAmong o pieces.now → o.item + by < 4294967296 }
+    ensures { IfOk result (λ v. v.items ≡ map (counted_from by) pieces.now) }
+{
+    let mut out = Vec::new(alloc);
+    for piece in pieces {
+        out.push(Piece {
+            conductor: piece.conductor,
+            rect: piece.rect,
+            item: piece.item + by,
+        })?;
+    }
+    Ok(out)
+}
+
+// Adds the links between an own rectangle and the nets of a placement.
+fn link_piece<C: Cells>(
+    alloc: Global,
+    cells: &C,
+    cell: u32,
+    piece: &Piece,
+    number: u32,
+    firsts: &[u32],
+    joins: &[Joined],
+    out: &mut Vec<Link>,
+) -> Result<(), AllocError>
+    requires piece { IsOwnPiece (C.tables cells.now) cell (length (C.wiring cells.now).conductors) piece.now }
+    requires number { number < length (places_of (C.design cells.now) cell) }
+    requires right { AreRightBelow (C.design cells.now) (C.wiring cells.now) (C.tables cells.now) cell }
+    requires firsts { AreFirsts (C.design cells.now) (C.wiring cells.now) (C.tables cells.now) cell firsts.now }
+    requires room { length (items_of (C.design cells.now) (C.wiring cells.now) (C.tables cells.now) cell) ≤ 4294967295 }
+    requires joins { (c e : ℕ) → AreJoined joins.now c e ↔ IsJoined (C.wiring cells.now) c e }
+    ensures { OnOk result (AddsPieceBeside (C.design cells.now) (C.wiring cells.now) (C.tables cells.now) cell piece.now number out.old.items out.new.items) }
+{
+    let _ = cell;
+    cells.sound();
+    let elements = cells.places(cell);
+    let k = number as usize;
+    let links = beside_links(
+        alloc,
+        cells,
+        &piece.rect,
+        piece.conductor,
+        piece.item,
+        &elements[k],
+        firsts[k],
+        joins,
+    )?;
+    out.extend_from_slice(&links)?;
+    Ok(())
+}
+
+// Adds the links of a pair of a rectangle and a placement.
+fn link_beside<C: Cells>(
+    alloc: Global,
+    cells: &C,
+    cell: u32,
+    pieces: &[Piece],
+    pair: &Link,
+    firsts: &[u32],
+    joins: &[Joined],
+    out: &mut Vec<Link>,
+) -> Result<(), AllocError>
+    requires pieces { pieces.now ≡ owned_pieces (C.tables cells.now) cell (length (C.wiring cells.now).conductors) }
+    requires pair { IsPairBeside (length pieces.now) (length (places_of (C.design cells.now) cell)) pair.now }
+    requires right { AreRightBelow (C.design cells.now) (C.wiring cells.now) (C.tables cells.now) cell }
+    requires firsts { AreFirsts (C.design cells.now) (C.wiring cells.now) (C.tables cells.now) cell firsts.now }
+    requires room { length (items_of (C.design cells.now) (C.wiring cells.now) (C.tables cells.now) cell) ≤ 4294967295 }
+    requires joins { (c e : ℕ) → AreJoined joins.now c e ↔ IsJoined (C.wiring cells.now) c e }
+    ensures { OnOk result (AddsPairsBeside (C.design cells.now) (C.wiring cells.now) (C.tables cells.now) cell (length pieces.now) (pair.now ∷ []) out.old.items out.new.items) }
+{
+    let item = pair.one.min(pair.other) as usize;
+    let number = pair.one.max(pair.other) - pieces.len() as u32;
+    link_piece(
+        alloc,
+        cells,
+        cell,
+        &pieces[item],
+        number,
+        firsts,
+        joins,
+        out,
+    )?;
+    Ok(())
+}
+
+fn link_all_beside<C: Cells>(
+    alloc: Global,
+    cells: &C,
+    cell: u32,
+    pieces: &[Piece],
+    pairs: &[Link],
+    firsts: &[u32],
+    joins: &[Joined],
+    out: &mut Vec<Link>,
+) -> Result<(), AllocError>
+    requires pieces { pieces.now ≡ owned_pieces (C.tables cells.now) cell (length (C.wiring cells.now).conductors) }
+    requires pairs { ArePairsBeside (length pieces.now) (length (places_of (C.design cells.now) cell)) pairs.now }
+    requires right { AreRightBelow (C.design cells.now) (C.wiring cells.now) (C.tables cells.now) cell }
+    requires firsts { AreFirsts (C.design cells.now) (C.wiring cells.now) (C.tables cells.now) cell firsts.now }
+    requires room { length (items_of (C.design cells.now) (C.wiring cells.now) (C.tables cells.now) cell) ≤ 4294967295 }
+    requires joins { (c e : ℕ) → AreJoined joins.now c e ↔ IsJoined (C.wiring cells.now) c e }
+    ensures { OnOk result (AddsPairsBeside (C.design cells.now) (C.wiring cells.now) (C.tables cells.now) cell (length pieces.now) pairs.now out.old.items out.new.items) }
+{
+    for pair in pairs {
+        link_beside(alloc, cells, cell, pieces, pair, firsts, joins, out)?;
+    }
+    Ok(())
+}
+
+/// Adds the links between a cell's own rectangles and the nets of its placements. It asks only where
+/// a rectangle meets what bounds a placement, grown by one square; a placed cell is walked in the
+/// rectangle's window alone. 2^32 rectangles and placements or more are refused.
+pub fn all_beside<C: Cells>(
+    alloc: Global,
+    cells: &C,
+    cell: u32,
+    firsts: &[u32],
+    joins: &[Joined],
+    out: &mut Vec<Link>,
+) -> Result<(), AllocError>
+    requires right { AreRightBelow (C.design cells.now) (C.wiring cells.now) (C.tables cells.now) cell }
+    requires firsts { AreFirsts (C.design cells.now) (C.wiring cells.now) (C.tables cells.now) cell firsts.now }
+    requires room { length (items_of (C.design cells.now) (C.wiring cells.now) (C.tables cells.now) cell) ≤ 4294967295 }
+    requires joins { (c e : ℕ) → AreJoined joins.now c e ↔ IsJoined (C.wiring cells.now) c e }
+    ensures { OnOk result (AddsBeside (C.design cells.now) (C.wiring cells.now) (C.tables cells.now) cell out.old.items out.new.items) }
+{
+    let pieces = own_pieces(alloc, cells, cell)?;
+    if firsts.len() > u32::MAX as usize - pieces.len() {
+        return Err(AllocError);
+    }
+    let spans = span_pieces(alloc, cells, cell)?;
+    let counted = counted_from(alloc, &spans, pieces.len() as u32)?;
+    let mut pairs = Vec::new(alloc);
+    touching_pairs(alloc, &pieces, &counted, &mut pairs)?;
+    link_all_beside(alloc, cells, cell, &pieces, &pairs, firsts, joins, out)?;
+    Ok(())
+}

@@ -3,7 +3,7 @@ ghost use Rattle.flat_layout.specs.Layout.{Design, IsHeight};
 ghost use Rattle.flat_layout.specs.Nets.{Tables};
 ghost use Rattle.flat_layout.specs.Regions.{Wiring};
 ghost use Rattle.net_link_laws.specs.Places.{places_of};
-ghost use Rattle.net_walk.specs.Walk.{place_of, AreNear, HaveArea, IsHull, IsSpan, HasNoSquare};
+ghost use Rattle.net_walk.specs.Walk.{place_of, AreClose, AreNearOwn, HaveArea, IsClose, IsHull, IsSpan, HasNoSquare};
 
 use geo_base::{Motion, Rect};
 
@@ -44,7 +44,7 @@ pub trait Cells {
     /// The placements in a cell, in order.
     fn places(&self, cell: u32) -> &[Element]
         ensures all { map place_of result.now ≡ places_of (design self.now) cell }
-        ensures near { AreNear result.now }
+        ensures close { AreClose result.now }
         ensures few { length result.now < 4294967296 };
 
     /// What bounds the nets of a cell.
@@ -54,10 +54,13 @@ pub trait Cells {
 
     /// What bounds the nets of a placed cell, as its placement brings it there.
     fn span(&self, element: &Element) -> Option<Rect>
-        ensures some { IfSome result (IsSpan (design self.now) (tables self.now)
-            (place_of element.now)) }
-        ensures none { IfNone result (HasNoSquare (design self.now) (tables self.now)
-            element.now.cell) };
+        requires { IsClose element.now.motion }
+        ensures some { IfSome result (IsSpan (design self.now) (tables self.now) (place_of element.now)) }
+        ensures none { IfNone result (HasNoSquare (design self.now) (tables self.now) element.now.cell) };
 
-    ghost lower: { (x : Self) → IsHeight (design x) (height x) };
+    /// What holds of the cells: no cell stands below itself, and own rectangles have squares and are
+    /// near the origin.
+    fn sound(&self)
+        ensures lower { IsHeight (design self.now) (height self.now) }
+        ensures own { AreNearOwn (tables self.now) };
 }

@@ -3,11 +3,9 @@ ghost use Rattle.std.specs.Prelude.{◌≡◌, ◌+◌, ◌<◌, ◌≤◌, ◌�
 ghost use Rattle.std.specs.Prelude.{IfSome, IfNone, slice_get};
 ghost use Rattle.flat_layout.specs.Nets.{AreRightBelow, items_of};
 ghost use Rattle.flat_layout.specs.Regions.{IsJoined};
-ghost use Rattle.geo_base.specs.Near.{IsNearMotion};
 ghost use Rattle.net_link_laws.specs.Places.{places_of};
-ghost use Rattle.net_walk.specs.Pairs.{AddsChildren, AddsPair, AddsPairs, AddsSpan, AreSpanPieces};
-ghost use Rattle.net_walk.specs.Pairs.{IsWindowFor, AreNeverNear, first_of};
-ghost use Rattle.net_walk.specs.Walk.{place_of};
+ghost use Rattle.net_walk.specs.Pairs.{AddsChildren, AddsPair, AddsPairs, AddsSpan, AreSpanPieces, IsWindowFor, AreNeverNear, first_of};
+ghost use Rattle.net_walk.specs.Walk.{IsClose, place_of};
 ghost use Rattle.link_classes.specs.Classes.{AreInRange};
 ghost use Rattle.touching_pieces.specs.Pairs.{AreJoined};
 
@@ -21,10 +19,10 @@ use touching_pieces::{Joined, Piece, touching_pairs};
 
 // Where squares of the two may be near each other.
 fn window_of<C: Cells>(cells: &C, one: &Element, other: &Element) -> Option<Rect>
-    ensures some { IfSome result (IsWindowFor (C.design cells.now) (C.tables cells.now)
-        (place_of one.now) (place_of other.now)) }
-    ensures none { IfNone result (AreNeverNear (C.design cells.now) (C.tables cells.now)
-        (place_of one.now) (place_of other.now)) }
+    requires close { IsClose one.now.motion }
+    requires close_too { IsClose other.now.motion }
+    ensures some { IfSome result (IsWindowFor (C.design cells.now) (C.tables cells.now) (place_of one.now) (place_of other.now)) }
+    ensures none { IfNone result (AreNeverNear (C.design cells.now) (C.tables cells.now) (place_of one.now) (place_of other.now)) }
 {
     match cells.span(one) {
         None => None,
@@ -58,14 +56,11 @@ pub fn link_pair<C: Cells>(
     requires right { AreRightBelow (C.design cells.now) (C.wiring cells.now) (C.tables cells.now)
         cell }
     requires placed { slice_get (places_of (C.design cells.now) cell) k ≡ Some (place_of one.now) }
-    requires placed_too { slice_get (places_of (C.design cells.now) cell) l
-        ≡ Some (place_of other.now) }
-    requires motion { IsNearMotion one.now.motion }
-    requires motion_too { IsNearMotion other.now.motion }
-    requires at { at ≡ first_of (C.design cells.now) (C.wiring cells.now) (C.tables cells.now) cell
-        k }
-    requires other_at { other_at ≡ first_of (C.design cells.now) (C.wiring cells.now)
-        (C.tables cells.now) cell l }
+    requires placed_too { slice_get (places_of (C.design cells.now) cell) l ≡ Some (place_of other.now) }
+    requires motion { IsClose one.now.motion }
+    requires motion_too { IsClose other.now.motion }
+    requires at { at ≡ first_of (C.design cells.now) (C.wiring cells.now) (C.tables cells.now) cell k }
+    requires other_at { other_at ≡ first_of (C.design cells.now) (C.wiring cells.now) (C.tables cells.now) cell l }
     requires room { at + ((C.tables cells.now).nets one.now.cell).count ≤ 4294967296 }
     requires room_too { other_at + ((C.tables cells.now).nets other.now.cell).count ≤ 4294967296 }
     requires joins { (c e : ℕ) → AreJoined joins.now c e ↔ IsJoined (C.wiring cells.now) c e }
@@ -92,8 +87,8 @@ fn push_span<C: Cells>(
     number: u32,
     out: &mut Vec<Piece>,
 ) -> Result<(), AllocError>
-    ensures { OnOk result (AddsSpan (C.design cells.now) (C.tables cells.now) (place_of element.now)
-        number out.old.items out.new.items) }
+    requires { IsClose element.now.motion }
+    ensures { OnOk result (AddsSpan (C.design cells.now) (C.tables cells.now) (place_of element.now) number out.old.items out.new.items) }
 {
     match cells.span(element) {
         None => Ok(()),
@@ -108,9 +103,13 @@ fn push_span<C: Cells>(
     }
 }
 
-fn span_pieces<C: Cells>(alloc: Global, cells: &C, cell: u32) -> Result<Vec<Piece>, AllocError>
-    ensures { IfOk result (λ v. AreSpanPieces (C.design cells.now) (C.tables cells.now) cell
-        (length (places_of (C.design cells.now) cell)) v.items) }
+// What bounds each placement, grown by one square, as a piece of its number.
+pub(crate) fn span_pieces<C: Cells>(
+    alloc: Global,
+    cells: &C,
+    cell: u32,
+) -> Result<Vec<Piece>, AllocError>
+    ensures { IfOk result (λ v. AreSpanPieces (C.design cells.now) (C.tables cells.now) cell (length (places_of (C.design cells.now) cell)) v.items) }
 {
     let elements = cells.places(cell);
     let mut out = Vec::new(alloc);

@@ -1,8 +1,8 @@
 // Links between a cell's own rectangles.
-ghost use Rattle.std.specs.Prelude.{◌≡◌, ◌+◌, ◌≤◌, ◌↔◌, ℕ, length, OnOk, IfOk, []};
+ghost use Rattle.std.specs.Prelude.{◌≡◌, ◌+◌, ◌++◌, ◌≤◌, ◌↔◌, ℕ, length, OnOk, IfOk, []};
 ghost use Rattle.flat_layout.specs.Regions.{IsJoined};
 ghost use Rattle.net_link_laws.specs.Places.{owned_before};
-ghost use Rattle.net_walk.specs.Owned.{AreOwnLinks, IsOfRects, IsOwned};
+ghost use Rattle.net_walk.specs.Owned.{AreOwnLinks, IsOfRects, IsOwned, owned_pieces, rect_pieces};
 ghost use Rattle.net_walk.specs.Seen.{AddsSeen};
 ghost use Rattle.net_walk.specs.Walk.{HaveArea};
 ghost use Rattle.touching_pieces.specs.Pairs.{AreJoined};
@@ -16,8 +16,8 @@ use touching_pieces::{Joined, Piece, touching_links};
 fn push_rects(own: &[Rect], conductor: u32, at: u32, out: &mut Vec<Piece>) -> Result<(), AllocError>
     requires filled { HaveArea own.now }
     requires room { at + length own.now ≤ 4294967295 }
-    ensures { OnOk result (AddsSeen (IsOfRects own.now conductor at (length own.now)) out.old.items
-        out.new.items) }
+    ensures seen { OnOk result (AddsSeen (IsOfRects own.now conductor at (length own.now)) out.old.items out.new.items) }
+    ensures list { OnOk result (out.new.items ≡ out.old.items ++ rect_pieces conductor at own.now) }
 {
     for r in 0..own.len() {
         out.push(Piece {
@@ -29,11 +29,15 @@ fn push_rects(own: &[Rect], conductor: u32, at: u32, out: &mut Vec<Piece>) -> Re
     Ok(())
 }
 
-fn own_pieces<C: Cells>(alloc: Global, cells: &C, cell: u32) -> Result<Vec<Piece>, AllocError>
-    requires { owned_before (C.tables cells.now) cell (length (C.wiring cells.now).conductors)
-        ≤ 4294967295 }
-    ensures { IfOk result (λ v. AddsSeen
-        (IsOwned (C.tables cells.now) cell (length (C.wiring cells.now).conductors)) [] v.items) }
+// A cell's own rectangles as pieces, each at the place of its item.
+pub(crate) fn own_pieces<C: Cells>(
+    alloc: Global,
+    cells: &C,
+    cell: u32,
+) -> Result<Vec<Piece>, AllocError>
+    requires { owned_before (C.tables cells.now) cell (length (C.wiring cells.now).conductors) ≤ 4294967295 }
+    ensures seen { IfOk result (λ v. AddsSeen (IsOwned (C.tables cells.now) cell (length (C.wiring cells.now).conductors)) [] v.items) }
+    ensures list { IfOk result (λ v. v.items ≡ owned_pieces (C.tables cells.now) cell (length (C.wiring cells.now).conductors)) }
 {
     let mut out = Vec::new(alloc);
     let mut at: u32 = 0;

@@ -49,7 +49,7 @@ pub fn part_of<C: Cells>(cells: &C, element: &Element, window: &Rect) -> Option<
 }
 
 // How many rectangles the first conductors have.
-fn owned_before<C: Cells>(cells: &C, cell: u32, conductors: u32) -> usize
+pub(crate) fn owned_before<C: Cells>(cells: &C, cell: u32, conductors: u32) -> usize
     requires { owned_before (C.tables cells.now) cell conductors < 2 ^ 64 }
     ensures { result ≡ owned_before (C.tables cells.now) cell conductors }
 {
@@ -75,6 +75,7 @@ pub fn collect_nets<C: Cells>(
     ensures { IfOk result (λ v. IsCollection (C.design cells.now) (C.tables cells.now) cell
         conductor window.now v.items) }
 {
+    cells.sound();
     let mut out = Vec::new(alloc);
     let net_of = cells.net_of(cell);
     let first = owned_before(cells, cell, conductor);

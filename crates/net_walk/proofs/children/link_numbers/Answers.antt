@@ -2,7 +2,7 @@ use Rattle.std.proofs.Common.{◌≡◌, ◌<◌, Some, slice_get, get_or, lengt
 use Rattle.flat_layout.specs.Layout.{Place}
 use Rattle.net_link_laws.specs.Places.{places_of}
 use Rattle.net_walk.proofs.Spanning.{child_room}
-use Rattle.net_walk.proofs.Walking.{element_at, as_long, near_at, no_element}
+use Rattle.net_walk.proofs.Walking.{element_at, as_long, close_at, no_element}
 use Rattle.net_walk.proofs.children.link_numbers.Goals as goal
 use Rattle.net_walk.specs.Walk.{place_of}
 
@@ -10,13 +10,13 @@ pub link_pair-requires-clause-motion : goal.link_pair-requires-clause-motion
 link_pair-requires-clause-motion g c =
     let long = as_long c.places-elements.result.now (places_of (g.C.Cells.design c.args.cells.now) c.args.cell) c.places-elements.ensures.all in
     let one = c.requires.one in
-    near_at c.places-elements.result.now c.args.pair.now.one c.places-elements.ensures.near (omega (arith, long, one))
+    close_at c.places-elements.result.now c.args.pair.now.one c.places-elements.ensures.close (omega (arith, long, one))
 
 pub link_pair-requires-clause-motion_too : goal.link_pair-requires-clause-motion_too
 link_pair-requires-clause-motion_too g c =
     let long = as_long c.places-elements.result.now (places_of (g.C.Cells.design c.args.cells.now) c.args.cell) c.places-elements.ensures.all in
     let other = c.requires.other in
-    near_at c.places-elements.result.now c.args.pair.now.other c.places-elements.ensures.near (omega (arith, long, other))
+    close_at c.places-elements.result.now c.args.pair.now.other c.places-elements.ensures.close (omega (arith, long, other))
 
 pub link_pair-requires-clause-room : goal.link_pair-requires-clause-room
 link_pair-requires-clause-room g c =

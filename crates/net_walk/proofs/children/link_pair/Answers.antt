@@ -1,6 +1,7 @@
 use Rattle.flat_laws.proofs.Items.{placed_at}
 use Rattle.flat_layout.specs.Layout.{Place}
 use Rattle.net_walk.proofs.Pairing.{pair, pair_added, pair_none}
+use Rattle.net_walk.proofs.Walking.{near_close}
 use Rattle.net_walk.proofs.children.link_pair.Goals as goal
 use Rattle.net_walk.specs.Walk.{place_of}
 
@@ -28,3 +29,9 @@ returns-in_ok-extend_from_slice-in-Some g c =
     let over = rw (c.requires.at, c.requires.other_at) at c.in_ok-links-in-Some.ensures in
     let links = pair d w t c.args.cell c.args.k c.args.l (place_of c.args.one.now) (place_of c.args.other.now) c.in-Some.window c.args.joins.now c.in_ok-links-in-Some.links.items c.requires.right c.requires.placed c.requires.placed_too c.in-Some.ensures.some.enough c.requires.joins over in
     rw (c.in_ok-extend_from_slice-in-Some.ensures.items, c.deref.ensures.value) (pair_added d w t c.args.cell c.args.k c.args.l c.args.out.now.items c.in_ok-links-in-Some.links.items links)
+
+pub pair_links-requires-clause-motion : goal.pair_links-requires-clause-motion
+pair_links-requires-clause-motion g c = near_close c.args.one.now.motion c.requires.motion
+
+pub pair_links-requires-clause-motion_too : goal.pair_links-requires-clause-motion_too
+pair_links-requires-clause-motion_too g c = near_close c.args.other.now.motion c.requires.motion_too

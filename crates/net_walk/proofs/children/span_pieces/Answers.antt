@@ -2,13 +2,16 @@ use Rattle.std.proofs.Common.{◌≡◌, ℕ, Some, slice_get, get_or, length, a
 use Rattle.flat_layout.specs.Layout.{Place}
 use Rattle.net_link_laws.specs.Places.{places_of}
 use Rattle.net_walk.proofs.Spanning.{no_spans, spans_more}
-use Rattle.net_walk.proofs.Walking.{element_at, as_long, no_element}
+use Rattle.net_walk.proofs.Walking.{close_at, element_at, as_long, no_element}
 use Rattle.net_walk.proofs.children.span_pieces.Goals as goal
 use Rattle.net_walk.specs.Pairs.{AreSpanPieces}
 use Rattle.net_walk.specs.Walk.{place_of}
 
 pub loop-k-init : goal.loop-k-init
 loop-k-init g c = rw c.new-out.ensures.items (no_spans (g.C.Cells.design c.args.cells.now) (g.C.Cells.tables c.args.cells.now) c.args.cell)
+
+pub push_span-requires : goal.push_span-requires
+push_span-requires g c = close_at c.places-elements.result.now c.loop-k.k c.places-elements.ensures.close (omega arith)
 
 pub loop-k-preserved : goal.loop-k-preserved
 loop-k-preserved g c =

@@ -8,7 +8,7 @@ pub touching_links-requires : goal.touching_links-requires
 touching_links-requires g c =
     let t = g.C.Cells.tables c.args.cells.now in
     let n = length (g.C.Cells.wiring c.args.cells.now).conductors in
-    rw (c.deref.ensures.value, c.conductors.ensures) (known_pieces (IsOwned t c.args.cell n) c.in_ok-pieces.pieces.items c.in_ok-pieces.ensures n (λ k i q h. h.0))
+    rw (c.deref.ensures.value, c.conductors.ensures) (known_pieces (IsOwned t c.args.cell n) c.in_ok-pieces.pieces.items c.in_ok-pieces.ensures.seen n (λ k i q h. h.0))
 
 pub returns : goal.returns
 returns g c =
@@ -17,4 +17,4 @@ returns g c =
     let t = g.C.Cells.tables c.args.cells.now in
     let n = length w.conductors in
     let links = rw c.deref.ensures.value at c.in_ok-links.ensures in
-    owned_links d w t c.args.cell c.args.joins.now c.in_ok-links.links.items c.requires.joins (links_over (IsOwned t c.args.cell n) c.in_ok-pieces.pieces.items c.in_ok-pieces.ensures c.args.joins.now c.in_ok-links.links.items links)
+    owned_links d w t c.args.cell c.args.joins.now c.in_ok-links.links.items c.requires.joins (links_over (IsOwned t c.args.cell n) c.in_ok-pieces.pieces.items c.in_ok-pieces.ensures.seen c.args.joins.now c.in_ok-links.links.items links)

@@ -60,10 +60,10 @@ loop-element-init g t c =
     record { at = omega (arith, none, e, at); so_far = own_first d w tables cell nets c.args.conductor c.args.window.now c.requires.known [] c.push_own.new.out.items added }
 
 pub part_of-requires-clause-motion : goal.part_of-requires-clause-motion
-part_of-requires-clause-motion g t c = near_at c.places-element-items.result.now c.loop-element.element-index c.places-element-items.ensures.near (omega arith)
+part_of-requires-clause-motion g t c = near_at c.places-element-items.result.now c.loop-element.element-index c.places-element-items.ensures.close (omega arith)
 
 pub push_moved-requires-clause-near_motion : goal.push_moved-requires-clause-near_motion
-push_moved-requires-clause-near_motion g t c = near_at c.places-element-items.result.now c.loop-element.element-index c.places-element-items.ensures.near (omega arith)
+push_moved-requires-clause-near_motion g t c = near_at c.places-element-items.result.now c.loop-element.element-index c.places-element-items.ensures.close (omega arith)
 
 pub collect_nets-requires : goal.collect_nets-requires
 collect_nets-requires g t c =
@@ -75,7 +75,7 @@ collect_nets-requires g t c =
     let p : Place = place_of (get_or c.places-element-items.result.now k no_element) in
     let there : slice_get (places_of d cell) k ≡ Some p = element_at c.places-element-items.result.now (places_of d cell) k c.places-element-items.ensures.all (omega arith) in
     let placed : IsPlaced d cell k p = placed_at d cell k p there in
-    let lower = g.met.C.Cells.lower c.args.cells.now cell k p placed in
+    let lower = c.sound.ensures.lower cell k p placed in
     λ κs h. (omega (arith, lower), (h, (c.requires.known, (under_placed d w tables cell k p placed c.requires.nets, c.in-Some.ensures.some.near))))
 
 pub push_moved-requires-clause-listed : goal.push_moved-requires-clause-listed
