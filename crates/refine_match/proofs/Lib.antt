@@ -1,2 +1,4 @@
 pub mod Crossed
 pub mod Uneven
+pub mod Chosen
+pub mod Mates

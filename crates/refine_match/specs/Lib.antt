@@ -1,2 +1,4 @@
 pub mod Classes
 pub mod Evidence
+pub mod Choosing
+pub mod Pairings

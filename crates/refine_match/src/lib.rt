@@ -1,4 +1,6 @@
 //! The comparison of two circuits: rounds, and guesses where rounds leave ties.
 #![tactic(auto)]
 
+mod choosing;
 mod evidence;
+mod pairings;
