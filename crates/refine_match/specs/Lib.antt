@@ -2,3 +2,4 @@ pub mod Classes
 pub mod Evidence
 pub mod Choosing
 pub mod Pairings
+pub mod Candidates
