@@ -3,3 +3,5 @@ pub mod Uneven
 pub mod Chosen
 pub mod Mates
 pub mod NextBehind
+pub mod Rising
+pub mod NextOf

@@ -1,13 +1,20 @@
 -- The right nodes that a left node is guessed to go to, in order.
 use Rattle.std.specs.Prelude.{◌≡◌, ◌<◌, ◌≤◌, ◌+◌, ◌-◌, ◌^◌, ◌&&◌, ℕ, Bool, true, false, cond, Option, Some, None, List, [], ◌∷◌, length, filter, slice_index, slice_index_or, nat_lt, bytes_eq}
-use Rattle.round_laws.specs.Nodes.{Node, Device}
-use Rattle.match_laws.specs.Circuits.{Pair}
-use Rattle.match_laws.specs.Answer.{equal_names}
+use Rattle.plain_netlist.specs.Lists.{IsListed}
+use Rattle.round_laws.specs.Web.{Guess, under}
+use Rattle.round_laws.specs.Nodes.{Node, Layout, Device}
+use Rattle.round_laws.specs.Guesses.{candidates}
+use Rattle.match_laws.specs.Circuits.{Pair, nodes, web_of}
+use Rattle.match_laws.specs.Answer.{equal_names, setting_of}
 use Rattle.net_model.specs.declared.netlist.Circuit.{Circuit}
 use Rattle.net_model.specs.Rows.{plain_circuit}
 use Rattle.match_graph.specs.declared.graph.Graph.{Graph}
-use Rattle.match_graph.specs.Graph.{IsGraphOf, IsNumbered, left_of}
+use Rattle.match_graph.specs.Graph.{IsGraphOf, IsNumbered, left_of, nodes_of}
 use Rattle.match_graph.specs.Numbering.{index_of, place_in}
+use Rattle.match_rounds.specs.declared.classes.Classes.{Classes}
+use Rattle.match_rounds.specs.Classes.{class_in}
+use Rattle.match_rounds.specs.Turned.{AreAllOf}
+use Rattle.refine_match.specs.Classes.{AreStableClasses}
 use Rattle.refine_match.specs.declared.candidates.Candidate.{Candidate}
 
 -- the graph is that of the pair of these circuits
@@ -90,3 +97,14 @@ pub record IsHead (p : Pair) (a : Node) (last : Option Candidate) (candidates : 
 abbrev pub IsNextOf : Pair → Node → Option Candidate → List Node → Option Candidate → Type 0
 IsNextOf p a last candidates (Some c) = IsHead p a last candidates c
 IsNextOf p a last candidates None = remaining p a last candidates ≡ []
+
+-- the first that is behind the last one is the next candidate
+abbrev pub NextLaw : Type 0
+NextLaw = (p : Pair) (g : Graph) (left right : Circuit) (guesses : List (Guess Node)) (c : Classes)
+    (x limit : ℕ) (a : Node) (last best : Option Candidate) (items : List ℕ)
+    → IsPairOf p g left right → nodes_of g < 2 ^ 32 → IsListed a (nodes p Layout)
+    → index_of p a ≡ x → (s : AreStableClasses p guesses c)
+    → AreAllOf (class_in c) (class_in c x) items (nodes_of g)
+    → IsBestBehind g (rank_at g left right x) last items (length items) best
+    → IsNextOf p a last (candidates (setting_of p (equal_names p) limit)
+    (under (web_of p) guesses) s.round a) best

@@ -1,7 +1,7 @@
 ghost use Rattle.std.specs.Prelude.{◌≡◌, ◌<◌, ◌≤◌, ◌↔◌, ℕ, List, length, nat_lt, true};
 ghost use Rattle.match_graph.specs.Graph.{IsGraph, left_of, nodes_of};
 ghost use Rattle.match_rounds.specs.Classes.{IsPartition, class_in};
-ghost use Rattle.refine_match.specs.Candidates.{HaveNets, IsBestBehind, IsFirst, candidate_rank, have_one_name, is_behind, rank_at};
+ghost use Rattle.refine_match.specs.Candidates.{HaveNets, IsBestBehind, IsFirst, NextLaw, candidate_rank, have_one_name, is_behind, rank_at};
 ghost use Rattle.match_rounds.specs.Turned.{AreAllOf};
 
 use match_graph::Graph;
@@ -47,6 +47,11 @@ pub fn next_candidate(
     }
     best
 }
+
+/// The first right node behind the last candidate is the next one of all candidates in order.
+pub fn following()
+    ensures { NextLaw }
+{}
 
 // Whether a candidate comes behind the last one.
 fn is_after(candidate: Candidate, last: Option<Candidate>) -> bool
