@@ -1,2 +1,5 @@
 pub mod Classes
 pub mod Evidence
+pub mod Choosing
+pub mod Pairings
+pub mod Candidates

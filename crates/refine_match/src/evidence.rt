@@ -70,8 +70,8 @@ fn first_of_kind(graph: &Graph, classes: &Classes, kind: NodeKind) -> Option<u32
     first_uneven(graph, classes, from, to)
 }
 
-// Where the nodes of a kind begin and end.
-fn span_of(sizes: &Sizes, kind: NodeKind) -> (u32, u32)
+/// Where the nodes of a kind begin and end.
+pub fn span_of(sizes: &Sizes, kind: NodeKind) -> (u32, u32)
     ensures begin { result.0 ≡ begin_of sizes.now (plain_kind kind) }
     ensures end { result.1 ≡ stop_of sizes.now (plain_kind kind) }
 {

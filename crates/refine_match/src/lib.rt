@@ -1,4 +1,7 @@
 //! The comparison of two circuits: rounds, and guesses where rounds leave ties.
 #![tactic(auto)]
 
+mod candidates;
+mod choosing;
 mod evidence;
+mod pairings;
