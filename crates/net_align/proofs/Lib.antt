@@ -15,3 +15,6 @@ pub mod Sided
 pub mod Sides
 pub mod There
 pub mod Walking
+pub mod BelowTop
+pub mod PairKept
+pub mod PairMade

@@ -3,9 +3,10 @@ use Rattle.std.proofs.Common.{◌≡◌, inl, inr, ℕ, zero, suc, ◌+◌, ◌<
 use Rattle.std.specs.Prelude.{slice_index_or, nat_lt, not, ◌&&◌, is_some, unwrap_or}
 use Rattle.std.proofs.Math.Path.{fun_ext}
 use Rattle.std.proofs.lemmas.Option.{slice_get_within}
-use Rattle.plain_netlist.specs.Lists.{IsListed}
+use Rattle.plain_netlist.specs.Lists.{AreApart, IsListed}
 use Rattle.plain_netlist.specs.Netlist.{Netlist}
 use Rattle.plain_netlist.specs.Sound.{HasDevices}
+use Rattle.plain_netlist.proofs.Listing.{apart_at}
 use Rattle.plain_netlist.proofs.Members.{listed, position}
 use Rattle.align_laws.specs.Lists.{FlatCircuit}
 use Rattle.net_model.specs.declared.netlist.Circuit.{Circuit as CircuitRow}
@@ -13,7 +14,7 @@ use Rattle.net_align.specs.Flattened.{Flattening, IsFlattening, AreFlats}
 use Rattle.net_align.specs.Kept.{AreHeldPins, AreKeptMarked, cut_of}
 use Rattle.net_align.specs.Laid.{goes_of}
 use Rattle.net_align.specs.Sights.{has_number, is_kept, number_of, IsNumbering, firsts}
-use Rattle.net_align.specs.Side.{AreApart, AreMarkedCircuits, AreGoing, IsSide}
+use Rattle.net_align.specs.Side.{AreMarkedCircuits, AreGoing, IsSide}
 use Rattle.net_align.specs.Walked.{AreHolding}
 use Rattle.net_align.proofs.Finding.{either}
 use Rattle.net_align.proofs.Firsts.{firsts_once, first_places}
@@ -34,7 +35,7 @@ numbers_are circuits count places apart is = record {
   where
     first : (k n : ℕ) → slice_get circuits k ≡ Some n → slice_get (firsts circuits) k ≡ Some n
     first k n at =
-        let f = first_places circuits [] [] k n (λ m l. refl) apart (λ i j m a b. absurd (let z : ⊥ = cc in z)) at in
+        let f = first_places circuits [] [] k n (λ m l. refl) (λ i j m a b. apart_at m circuits i j apart a b) (λ i j m a b. absurd (let z : ⊥ = cc in z)) at in
         let z : 0 + k ≡ k = omega arith in
         subst (λ (i : ℕ). slice_get (firsts circuits) i ≡ Some n) z (subst (λ (t : List ℕ). slice_get (firsts t) (0 + k) ≡ Some n) (append-nil circuits) f)
 
@@ -82,17 +83,24 @@ module _ (circuits : List ℕ) (count : ℕ) (places : List (Option ℕ)) (is : 
         past_end goes c (omega (arith, l, k)) ∙ sym (are c ∙ (ap (λ (b : Bool). not (has_number circuits c) && b) (past_end holds c l) ∙ and_false (not (has_number circuits c))))
   ])
 
-has_low : (g : Netlist) (c : ℕ) → HasDevices g c → c < length g.circuits
+pub has_low : (g : Netlist) (c : ℕ) → HasDevices g c → c < length g.circuits
 has_low g c ([], i, row, d) = slice_get_within g.circuits c d.0 d.1
 has_low g c (k ∷ path, i, row, d) = slice_get_within g.circuits c d.1.0 d.1.1
 
-and_both : (a b : Bool) → (a && b) ≡ true → (a ≡ true) × (b ≡ true)
+pub and_both : (a b : Bool) → (a && b) ≡ true → (a ≡ true) × (b ≡ true)
 and_both true b e = (refl, e)
 and_both false b e = absurd (true≢false (sym e))
 
-not_true : (b : Bool) → not b ≡ true → b ≡ false
+pub not_true : (b : Bool) → not b ≡ true → b ≡ false
 not_true true e = absurd (true≢false (sym e))
 not_true false e = refl
+
+-- a mark that is set is there
+pub mark_low : (ms : List Bool) (c : ℕ) → slice_index_or ms c false ≡ true → c < length ms
+mark_low [] zero m = absurd (true≢false (sym m))
+mark_low [] (suc c) m = absurd (true≢false (sym m))
+mark_low (x ∷ ms) zero m = omega arith
+mark_low (x ∷ ms) (suc c) m = let l = mark_low ms c m in omega arith
 
 pub side_made : (g : Netlist) (goes : ℕ → Bool) (f : Flattening) → IsFlattening g goes f → (marks holds : List Bool) (circuits : List ℕ) (count : ℕ) (places : List (Option ℕ)) (held : List (List ℕ)) (o : Netlist)
     → IsNumbering circuits count places → AreMarkedCircuits g marks circuits → AreHolding g holds → ((c : ℕ) → goes c ≡ (not (has_number circuits c) && slice_index_or holds c false))
@@ -119,12 +127,6 @@ side_made g goes f h marks holds circuits count places held o is all holding are
       kept = λ k c at. listed_kept circuits count places is k c at;
       listed = λ c kept. let p = kept_listed circuits count places is c kept in subst (λ (i : ℕ). slice_get circuits i ≡ Some c) (sym p.2) p.1;
     }
-  where
-    mark_low : (ms : List Bool) (c : ℕ) → slice_index_or ms c false ≡ true → c < length ms
-    mark_low [] zero m = absurd (true≢false (sym m))
-    mark_low [] (suc c) m = absurd (true≢false (sym m))
-    mark_low (x ∷ ms) zero m = omega arith
-    mark_low (x ∷ ms) (suc c) m = let l = mark_low ms c m in omega arith
 
 pub flats_to : (g h : Netlist) (f : ℕ → FlatCircuit) (marks ms : List Bool) (xs ys : List (Option CircuitRow)) → h ≡ g → ms ≡ marks → xs ≡ ys → AreFlats g f marks ys → AreFlats h f ms xs
 flats_to g h f marks ms xs ys e m t are =

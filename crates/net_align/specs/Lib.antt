@@ -8,3 +8,4 @@ pub mod Sights
 pub mod Kept
 pub mod Side
 pub mod Paired
+pub mod Compared

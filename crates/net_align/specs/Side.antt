@@ -10,10 +10,6 @@ use Rattle.net_align.specs.Kept.{AreHeights, Flattened}
 use Rattle.net_align.specs.Sights.{has_number, is_kept}
 use Rattle.net_align.specs.Walked.{IsMarked}
 
--- no number stands at two places
-abbrev pub AreApart : List ℕ → Type 0
-AreApart xs = (i j n : ℕ) → slice_get xs i ≡ Some n → slice_get xs j ≡ Some n → i ≡ j
-
 -- the numbers are circuits that are marked
 abbrev pub AreMarkedCircuits : Netlist → List Bool → List ℕ → Type 0
 AreMarkedCircuits g marks circuits = (i c : ℕ) → slice_get circuits i ≡ Some c

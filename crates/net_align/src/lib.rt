@@ -2,6 +2,7 @@
 //! flattened into their callers, and what holds no device is dropped.
 #![tactic(auto)]
 
+mod below;
 mod cut;
 mod flatten;
 mod held;
@@ -9,8 +10,11 @@ mod inline;
 mod marks;
 mod names;
 mod numbers;
+mod pair;
 mod pairs;
 mod partners;
 mod side;
 mod sights;
 mod walk;
+
+pub use pair::{Aligned, align};

@@ -3,11 +3,12 @@ ghost use Rattle.std.specs.Prelude.{◌≡◌, ◌&&◌, not, IfOk, length};
 ghost use Rattle.call_order.specs.Order.{IsCallOrder};
 ghost use Rattle.net_align.specs.Flattened.{AreClosed};
 ghost use Rattle.net_align.specs.Kept.{Flattened};
-ghost use Rattle.net_align.specs.Side.{AreApart, AreGoing, AreMarkedCircuits, IsGiven, IsSide};
+ghost use Rattle.net_align.specs.Side.{AreGoing, AreMarkedCircuits, IsGiven, IsSide};
 ghost use Rattle.net_align.specs.Sights.{is_kept};
 ghost use Rattle.net_align.specs.Walked.{AreHolding};
 ghost use Rattle.net_model.specs.Faults.{call_lists};
 ghost use Rattle.net_model.specs.Rows.{plain_netlist};
+ghost use Rattle.plain_netlist.specs.Lists.{AreApart};
 
 use crate::flatten::flatten;
 use crate::held::{cut_kept, held_pins};

@@ -1,0 +1,90 @@
+//! The aligned pair of a layout and a schematic.
+ghost use Rattle.std.specs.Prelude.{◌↔◌, ◌<◌, IfOk, IfSome, IsNone, length};
+ghost use Rattle.net_align.specs.Compared.{AreAligned, AreCalleesFirst, AreComparable, HasNoPartner, IsAlignable, KeepsExpansions, is_compared};
+ghost use Rattle.net_align.specs.Names.{left_names, right_names};
+ghost use Rattle.net_align.specs.Paired.{ArePairsBelow};
+ghost use Rattle.net_model.specs.Rows.{plain_netlist};
+ghost use Rattle.plain_netlist.specs.Lists.{AreApart};
+
+use crate::below::{Below, side_of, walk_below};
+use crate::pairs::{Marks, Pairs, find_pairs};
+use crate::partners::find_partners;
+use net_model::Netlist;
+use net_names::Name;
+use std::alloc::{AllocError, Global};
+
+/// A layout and a schematic made comparable: circuits of one position are a pair, and on the left
+/// each stands behind those that it calls.
+#[derive(Debug, Drop)]
+pub struct Aligned {
+    pub left: Netlist,
+    pub right: Netlist,
+}
+
+/// The layout below its top and the schematic, made comparable; none where the top has no partner.
+///
+/// Partners are those that `same` names (the lines `same_circuits` of KLayout's scripts), else
+/// circuits of one name, small letters being large ones; a top that neither gives a partner has the
+/// one circuit of the schematic that no call names, unless a line names it. Circuits that the tops
+/// don't call count for nothing. A circuit without a device in or below it is dropped, one without
+/// a partner is flattened into its callers, and so are nets and pins dropped that hold nothing. The
+/// nets of call k of a flattened circuit get `Xk/` before their names, k counted from 1.
+///
+/// Linear in what is made, where a flattened circuit counts once for each call, and in the names.
+/// Err only where memory is refused or a list is longer than numbers of 32 bits count.
+pub fn align(
+    alloc: Global,
+    layout: &Netlist,
+    top: u32,
+    schematic: &Netlist,
+    same: &[(Name, Name)],
+) -> Result<Option<Aligned>, AllocError>
+    requires layout { IsAlignable (plain_netlist layout.now) }
+    requires schematic { IsAlignable (plain_netlist schematic.now) }
+    requires order { AreCalleesFirst (plain_netlist layout.now) }
+    requires top { top < length layout.now.circuits.items }
+    requires lefts { AreApart (left_names same.now) }
+    requires rights { AreApart (right_names same.now) }
+    ensures none { IfOk result (λ found. IsNone found
+        ↔ HasNoPartner (plain_netlist layout.now) (plain_netlist schematic.now) top same.now) }
+    ensures pair { IfOk result (λ found. IfSome found (λ a.
+        AreAligned (plain_netlist layout.now) (plain_netlist schematic.now) top same.now
+        (plain_netlist a.left) (plain_netlist a.right))) }
+    ensures comparable { IfOk result (λ found. IfSome found (λ a.
+        AreComparable (plain_netlist a.left) (plain_netlist a.right))) }
+    ensures left_kept { IfOk result (λ found. IfSome found (λ a.
+        KeepsExpansions (plain_netlist layout.now) (plain_netlist a.left))) }
+    ensures right_kept { IfOk result (λ found. IfSome found (λ a.
+        KeepsExpansions (plain_netlist schematic.now) (plain_netlist a.right))) }
+{
+    let of = find_partners(alloc, layout, top as usize, schematic, same)?;
+    let Some(right_top) = of[top as usize] else {
+        return Ok(None);
+    };
+    let left = walk_below(alloc, layout, top as usize)?;
+    let right = walk_below(alloc, schematic, right_top)?;
+    let pairs = pairs_below(alloc, &of, top as usize, &left, &right)?;
+    let left = side_of(alloc, layout, &left, &pairs.lefts)?;
+    let right = side_of(alloc, schematic, &right, &pairs.rights)?;
+    Ok(Some(Aligned { left, right }))
+}
+
+// The pairs of circuits that are compared. `of` has the partner of each circuit of the layout.
+fn pairs_below(
+    alloc: Global,
+    of: &[Option<usize>],
+    top: usize,
+    left: &Below,
+    right: &Below,
+) -> Result<Pairs, AllocError>
+    ensures { IfOk result (λ pairs. ArePairsBelow of.now (is_compared top left.now right.now)
+        (length of.now) pairs.lefts.items pairs.rights.items) }
+{
+    let marks = Marks {
+        left_reached: &left.reached,
+        left_holds: &left.holds,
+        right_reached: &right.reached,
+        right_holds: &right.holds,
+    };
+    find_pairs(alloc, of, top, &marks)
+}
