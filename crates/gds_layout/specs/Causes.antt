@@ -1,6 +1,7 @@
 -- Faults of a stream and of its cells as those of its layout: want of memory is said in one way.
 use Rattle.gds_elements.specs.declared.library.GdsFault.{GdsFault}
-use Rattle.gds_elements.specs.declared.library.GdsFault.TheVariants.{Bad, NoMemory as NoMemoryInStream}
+use Rattle.gds_elements.specs.declared.library.GdsFault.TheVariants.{Bad}
+use Rattle.gds_elements.specs.declared.library.GdsFault.TheVariants.{NoMemory as NoMemoryInStream}
 use Rattle.cell_graph.specs.declared.drafts.LinkFault.{LinkFault}
 use Rattle.cell_graph.specs.declared.drafts.LinkFault.TheVariants.{NoMemory as NoMemoryInLinks}
 use Rattle.gds_layout.specs.declared.layout.LayoutFault.{LayoutFault}

@@ -1,6 +1,7 @@
 -- The layout that a stream is, or its first fault.
 use Rattle.std.specs.Prelude.{◌≡◌, ◌≢◌, ℕ, List, map, Option, Result, Ok, Err}
-use Rattle.gds_elements.specs.declared.library.GdsFault.TheVariants.{Bad, NoMemory as NoMemoryInStream}
+use Rattle.gds_elements.specs.declared.library.GdsFault.TheVariants.{Bad}
+use Rattle.gds_elements.specs.declared.library.GdsFault.TheVariants.{NoMemory as NoMemoryInStream}
 use Rattle.gds_elements.specs.Data.{unit_in}
 use Rattle.gds_elements.specs.Units.{IsUnit}
 use Rattle.gds_elements.specs.Meaning.{Cell, Library}
@@ -74,7 +75,8 @@ IsAnswer bytes top (Err f) = IsFaultOf bytes top f
 -- where the stream has this first fault, nothing else is answered but want of memory
 abbrev pub OnlyStreamFault : ℕ → ℕ → ℕ → Result Layout LayoutFault → Type 0
 OnlyStreamFault number index offset (Ok l) = ⊥
-OnlyStreamFault number index offset (Err (Gds (Bad n i o))) = (n ≡ number) × (i ≡ index) × (o ≡ offset)
+OnlyStreamFault number index offset (Err (Gds (Bad n i o))) =
+    (n ≡ number) × (i ≡ index) × (o ≡ offset)
 OnlyStreamFault number index offset (Err (Gds NoMemoryInStream)) = ⊥
 OnlyStreamFault number index offset (Err (Link f)) = ⊥
 OnlyStreamFault number index offset (Err NoMemory) = Unit {0}

@@ -51,8 +51,8 @@ fn filled(alloc: Global, piles: Vec<Pile>) -> Result<Vec<OwnLayer>, AllocError>
     Ok(layers)
 }
 
-/// The layers of shapes: each shape is filled once, and each layer's rectangles are united once. The
-/// outlines are let go in between.
+/// The layers of shapes: each shape is filled once, and each layer's rectangles are united once.
+/// The outlines are let go in between.
 /// Cost: that of the fills and of `RectSet::canon` for each layer; no look-up among layers scans.
 pub(crate) fn layers_of(alloc: Global, shapes: Vec<RawShape>) -> Result<Vec<OwnLayer>, AllocError>
     requires { All (λ s. IsFillable s.form) (map shape_seen shapes.items) }

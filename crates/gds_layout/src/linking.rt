@@ -31,7 +31,8 @@ pub(crate) fn layout_of(
     ensures layout { IfOk result (λ l. (taken : List Cell) → AreDrawn taken drawn → IsAccepted
         (library_after taken rest) → IsLayoutOf (library_after taken rest) (now_of top.entry) l) }
     ensures fault { IfErr result (λ f. (taken : List Cell) → AreDrawn taken drawn → IsAccepted
-        (library_after taken rest) → IsFaultOfLibrary (library_after taken rest) (now_of top.entry) f) }
+        (library_after taken rest) → IsFaultOfLibrary (library_after taken rest)
+        (now_of top.entry) f) }
 {
     let Library {
         version,

@@ -1,6 +1,7 @@
 //! The reader of a layout whose bytes come in pieces.
 
-ghost use Rattle.std.specs.Prelude.{◌≡◌, ◌<◌, ◌+◌, ◌^◌, ◌++◌, [], ℕ, List, None, Some, length, Err, IfOk};
+ghost use Rattle.std.specs.Prelude.{◌≡◌, ◌<◌, ◌+◌, ◌^◌, ◌++◌, [], ℕ, List, None, Some, length, Err};
+ghost use Rattle.std.specs.Prelude.{IfOk};
 ghost use Rattle.std.specs.Prelude.{IfErr, IfSome, OnOk};
 ghost use Rattle.gds_elements.specs.Faults.{Accepts, FirstFault};
 ghost use Rattle.gds_elements.specs.Meaning.{Library as ValueOf};

@@ -73,8 +73,8 @@ fn write_layers(out: &mut Vec<u8>, written: &[Written]) -> Result<(), AllocError
     Ok(())
 }
 
-/// Appends the rectangles of a layer in order, each as a boundary, of coordinates of 32 bits. An `Err`
-/// is want of memory; then a part may be appended. Cost: the bytes written.
+/// Appends the rectangles of a layer in order, each as a boundary, of coordinates of 32 bits. An
+/// `Err` is want of memory; then a part may be appended. Cost: the bytes written.
 pub fn write_layer(out: &mut Vec<u8>, key: LayerKey, rects: &[Rect]) -> Result<(), AllocError>
     requires { All IsLongRect rects.now }
     ensures written { OnOk result (out.new.items ≡ out.old.items ++ flat_map record_bytes (layer

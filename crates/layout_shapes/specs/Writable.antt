@@ -27,7 +27,8 @@ pub record IsWritable (l : Layout) : Type 0 where
   pub heading : IsHeading (heading_of l.header)
   pub count : length l.cell_dates.items ≡ length l.design.cells
   pub dates : All (IsData 24) l.cell_dates.items
-  pub each : (i : ℕ) (c : CellPart) → slice_get l.design.cells i ≡ Some c → IsWritableCell l.design c
+  pub each : (i : ℕ) (c : CellPart) → slice_get l.design.cells i ≡ Some c
+      → IsWritableCell l.design c
 
 -- the table has what the cell holds of an output line, and that has room
 pub record CanWriteLine (table : List (Option CellLayers)) (cell : ℕ) (o : Output) : Type 0 where

@@ -3,7 +3,8 @@ use Rattle.std.specs.Prelude.{◌≡◌, ◌<◌, ℕ, Bool, List, length}
 use Rattle.call_order.specs.Order.{IsCallOrder}
 use Rattle.plain_netlist.specs.Netlist.{CallRow, Circuit, Netlist, IsCall, IsCircuit, Slot}
 use Rattle.plain_netlist.specs.Normal.{IsNormalNetlist}
-use Rattle.plain_netlist.specs.Sound.{HasNetTwins, IsSoundNetlist, NetlistFault, NameClash, ShowsFault}
+use Rattle.plain_netlist.specs.Sound.{HasNetTwins, IsSoundNetlist, NetlistFault, NameClash}
+use Rattle.plain_netlist.specs.Sound.{ShowsFault}
 use Rattle.align_laws.specs.Aligned.{IsKeptExpansion}
 use Rattle.align_laws.specs.Cut.{Alignment}
 use Rattle.align_laws.specs.Partners.{AreNamesApart, AreSides, IsAlignedPair, IsPartner}

@@ -1,6 +1,7 @@
 //! The aligned pair of a layout and a schematic.
 ghost use Rattle.std.specs.Prelude.{◌↔◌, ◌<◌, IfOk, IfSome, IsNone, length};
-ghost use Rattle.net_align.specs.Compared.{AreAligned, AreCalleesFirst, AreComparable, HasNoPartner, IsAlignable, KeepsExpansions, is_compared};
+ghost use Rattle.net_align.specs.Compared.{AreAligned, AreCalleesFirst, AreComparable};
+ghost use Rattle.net_align.specs.Compared.{HasNoPartner, IsAlignable, KeepsExpansions, is_compared};
 ghost use Rattle.net_align.specs.Names.{left_names, right_names};
 ghost use Rattle.net_align.specs.Paired.{ArePairsBelow};
 ghost use Rattle.net_model.specs.Rows.{plain_netlist};

@@ -1,5 +1,6 @@
 -- Links of a rectangle of a cell and a placement.
-use Rattle.std.specs.Prelude.{◌≡◌, ◌⊎◌, ◌↔◌, ℕ, ◌+◌, ◌<◌, ◌≤◌, List, [], ◌∷◌, Some, slice_get, length}
+use Rattle.std.specs.Prelude.{◌≡◌, ◌⊎◌, ◌↔◌, ℕ, ◌+◌, ◌<◌, ◌≤◌, List, [], ◌∷◌, Some, slice_get}
+use Rattle.std.specs.Prelude.{length}
 use Rattle.flat_layout.specs.Layout.{Design, Place}
 use Rattle.flat_layout.specs.Nets.{Item, Own, Child, Tables, IsItem, AreRightBelow, items_of}
 use Rattle.flat_layout.specs.Plane.{IsIn}
@@ -37,33 +38,46 @@ BesidePairLaw = (d : Design) (w : Wiring) (t : Tables) (cell c r k : ℕ) (p : P
     (joins : List Joined) (links : List Link) → AreRightBelow d w t cell
     → IsItem d w t cell (Own c r) → slice_get (t.own cell c) r ≡ Some rect
     → slice_get (places_of d cell) k ≡ Some p → ((a e : ℕ) → AreJoined joins a e ↔ IsJoined w a e)
-    → AreLinksOver joins (IsBesideSeen d t rect c (owned_before t cell c + r) (length w.conductors) p (first_of d w t cell k)) links → AreBesideLinks d w t cell c r k links
+    → AreLinksOver joins (IsBesideSeen d t rect c (owned_before t cell c + r) (length w.conductors)
+    p (first_of d w t cell k)) links → AreBesideLinks d w t cell c r k links
 
 -- squares of the items at two places touch
 abbrev pub IsSquarePair : Design → Wiring → Tables → ℕ → ℕ → ℕ → Type 0
-IsSquarePair d w t cell i j = (a : Item) × (b : Item) × (slice_get (items_of d w t cell) i ≡ Some a) × (slice_get (items_of d w t cell) j ≡ Some b) × IsSquareLink d w t cell a b
+IsSquarePair d w t cell i j = (a : Item) × (b : Item) × (slice_get (items_of d w t cell) i ≡ Some a)
+    × (slice_get (items_of d w t cell) j ≡ Some b) × IsSquareLink d w t cell a b
 
--- each new link is one by squares, and each of a rectangle and a placement is there: of a piece and a placement
-pub record AddsPieceBeside (d : Design) (w : Wiring) (t : Tables) (cell : ℕ) (o : Piece) (k : ℕ) (old new : List Link) : Type 0 where
+-- each new link is one by squares, and each of a rectangle and a placement is there: of a piece and
+-- a placement
+pub record AddsPieceBeside (d : Design) (w : Wiring) (t : Tables) (cell : ℕ) (o : Piece) (k : ℕ)
+    (old new : List Link) : Type 0 where
   pub kept : (i j : ℕ) → IsLinked old i j → IsLinked new i j
   pub each : (i j : ℕ) → IsLinked new i j → IsLinked old i j ⊎ IsSquarePair d w t cell i j
-  pub found : (c r x : ℕ) → o.conductor ≡ c → o.item ≡ owned_before t cell c + r → IsSquareLink d w t cell (Own c r) (Child k x) → AreOne new (owned_before t cell c + r) (first_of d w t cell k + x)
+  pub found : (c r x : ℕ) → o.conductor ≡ c → o.item ≡ owned_before t cell c + r
+      → IsSquareLink d w t cell (Own c r) (Child k x)
+      → AreOne new (owned_before t cell c + r) (first_of d w t cell k + x)
 
--- of some pairs, in which rectangles stand as their items, and placements by their numbers from a place on
-pub record AddsPairsBeside (d : Design) (w : Wiring) (t : Tables) (cell from : ℕ) (pairs old new : List Link) : Type 0 where
+-- of some pairs, in which rectangles stand as their items, and placements by their numbers from a
+-- place on
+pub record AddsPairsBeside (d : Design) (w : Wiring) (t : Tables) (cell from : ℕ)
+    (pairs old new : List Link) : Type 0 where
   pub kept : (i j : ℕ) → IsLinked old i j → IsLinked new i j
   pub each : (i j : ℕ) → IsLinked new i j → IsLinked old i j ⊎ IsSquarePair d w t cell i j
-  pub found : (c r k x : ℕ) → IsLinked pairs (owned_before t cell c + r) (from + k) → IsSquareLink d w t cell (Own c r) (Child k x) → AreOne new (owned_before t cell c + r) (first_of d w t cell k + x)
+  pub found : (c r k x : ℕ) → IsLinked pairs (owned_before t cell c + r) (from + k)
+      → IsSquareLink d w t cell (Own c r) (Child k x)
+      → AreOne new (owned_before t cell c + r) (first_of d w t cell k + x)
 
 -- and of all
-pub record AddsBeside (d : Design) (w : Wiring) (t : Tables) (cell : ℕ) (old new : List Link) : Type 0 where
+pub record AddsBeside (d : Design) (w : Wiring) (t : Tables) (cell : ℕ)
+    (old new : List Link) : Type 0 where
   pub kept : (i j : ℕ) → IsLinked old i j → IsLinked new i j
   pub each : (i j : ℕ) → IsLinked new i j → IsLinked old i j ⊎ IsSquarePair d w t cell i j
-  pub found : (c r k x : ℕ) → IsSquareLink d w t cell (Own c r) (Child k x) → AreOne new (owned_before t cell c + r) (first_of d w t cell k + x)
+  pub found : (c r k x : ℕ) → IsSquareLink d w t cell (Own c r) (Child k x)
+      → AreOne new (owned_before t cell c + r) (first_of d w t cell k + x)
 
 -- a pair has an item of the first ones, and a placement, counted from there on
 abbrev pub IsPairBeside : ℕ → ℕ → Link → Type 0
-IsPairBeside from places l = ((l.one < from) × (from ≤ l.other) × (l.other < from + places)) ⊎ ((l.other < from) × (from ≤ l.one) × (l.one < from + places))
+IsPairBeside from places l = ((l.one < from) × (from ≤ l.other) × (l.other < from + places))
+    ⊎ ((l.other < from) × (from ≤ l.one) × (l.one < from + places))
 
 -- and so has each
 abbrev pub ArePairsBeside : ℕ → ℕ → List Link → Type 0

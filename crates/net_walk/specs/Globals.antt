@@ -15,17 +15,21 @@ IsGroundedBy lines c g = Some_of (λ l. (l.conductor ≡ c) × (l.global ≡ g))
 
 -- the place of the first global among the items
 abbrev pub globals_at : Design → Wiring → Tables → ℕ → ℕ
-globals_at d w t cell = owned_before t cell (length w.conductors) + nets_before t (places_of d cell) (length (places_of d cell))
+globals_at d w t cell = owned_before t cell (length w.conductors)
+    + nets_before t (places_of d cell) (length (places_of d cell))
 
 -- of the items at two places, the one is a global and the other is on it
 abbrev pub IsGlobalPair : Design → Wiring → Tables → ℕ → ℕ → ℕ → Type 0
-IsGlobalPair d w t cell i j = (a : Item) × (b : Item) × Stands d w t cell i a × Stands d w t cell j b × (IsGlobalLink d w t cell a b ⊎ IsGlobalLink d w t cell b a)
+IsGlobalPair d w t cell i j = (a : Item) × (b : Item) × Stands d w t cell i a
+    × Stands d w t cell j b × (IsGlobalLink d w t cell a b ⊎ IsGlobalLink d w t cell b a)
 
 -- each new link is one to a global, and these are there
-pub record AddsToGlobals (d : Design) (w : Wiring) (t : Tables) (cell : ℕ) (P : Item → ℕ → Type 0) (old new : List Link) : Type 0 where
+pub record AddsToGlobals (d : Design) (w : Wiring) (t : Tables) (cell : ℕ) (P : Item → ℕ → Type 0)
+    (old new : List Link) : Type 0 where
   pub kept : (i j : ℕ) → IsLinked old i j → IsLinked new i j
   pub each : (i j : ℕ) → IsLinked new i j → IsLinked old i j ⊎ IsGlobalPair d w t cell i j
-  pub found : (i g : ℕ) (a : Item) → P a g → g < length w.globals → Stands d w t cell i a → IsOnGlobal d w t cell a g → IsLinked new i (globals_at d w t cell + g)
+  pub found : (i g : ℕ) (a : Item) → P a g → g < length w.globals → Stands d w t cell i a
+      → IsOnGlobal d w t cell a g → IsLinked new i (globals_at d w t cell + g)
 
 -- a rectangle of the conductor of a line, and the global of the line
 abbrev pub IsByLine : Grounded → Item → ℕ → Type 0

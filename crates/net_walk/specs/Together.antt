@@ -7,6 +7,7 @@ use Rattle.net_link_laws.specs.Places.{places_of}
 use Rattle.net_walk.specs.Pairs.{first_of}
 
 -- the place of the first net of each placement
-pub record AreFirsts (d : Design) (w : Wiring) (t : Tables) (cell : ℕ) (firsts : List ℕ) : Type 0 where
+pub record AreFirsts (d : Design) (w : Wiring) (t : Tables) (cell : ℕ)
+    (firsts : List ℕ) : Type 0 where
   pub long : length firsts ≡ length (places_of d cell)
   pub each : (k : ℕ) → k < length firsts → get_or firsts k 0 ≡ first_of d w t cell k

@@ -1,5 +1,6 @@
 // Links between a cell's own rectangles and the nets of placements.
-ghost use Rattle.std.specs.Prelude.{◌≡◌, ◌+◌, ◌<◌, ◌≤◌, ◌↔◌, ℕ, [], ◌∷◌, get_or, length, map, slice_get, Some, IfOk, OnOk};
+ghost use Rattle.std.specs.Prelude.{◌≡◌, ◌+◌, ◌<◌, ◌≤◌, ◌↔◌, ℕ, [], ◌∷◌, get_or, length, map};
+ghost use Rattle.std.specs.Prelude.{slice_get, Some, IfOk, OnOk};
 ghost use Rattle.flat_layout.specs.Nets.{AreRightBelow, items_of};
 ghost use Rattle.flat_layout.specs.Regions.{IsJoined};
 ghost use Rattle.net_link_laws.specs.Places.{places_of};
@@ -11,7 +12,9 @@ ghost use Rattle.geo_base.specs.Near.{IsNearRect, IsNearMotion};
 ghost use Rattle.geo_base.specs.Rects.{IsRect};
 ghost use Rattle.net_link_laws.specs.Laws.{AreNetsUnder};
 ghost use Rattle.net_link_laws.specs.Windows.{grown};
-ghost use Rattle.net_walk.specs.Beside.{AddsBeside, AddsPairsBeside, AddsPieceBeside, ArePairsBeside, BesidePairLaw, IsBesideSeen, IsPairBeside, counted_from};
+ghost use Rattle.net_walk.specs.Beside.{AddsBeside, AddsPairsBeside, AddsPieceBeside};
+ghost use Rattle.net_walk.specs.Beside.{ArePairsBeside, BesidePairLaw, IsBesideSeen, IsPairBeside};
+ghost use Rattle.net_walk.specs.Beside.{counted_from};
 ghost use Rattle.net_walk.specs.Seen.{AreLinksOver};
 ghost use Rattle.net_walk.specs.Walk.{place_of};
 
@@ -92,13 +95,18 @@ fn link_piece<C: Cells>(
     joins: &[Joined],
     out: &mut Vec<Link>,
 ) -> Result<(), AllocError>
-    requires piece { IsOwnPiece (C.tables cells.now) cell (length (C.wiring cells.now).conductors) piece.now }
+    requires piece { IsOwnPiece (C.tables cells.now) cell (length (C.wiring cells.now).conductors)
+        piece.now }
     requires number { number < length (places_of (C.design cells.now) cell) }
-    requires right { AreRightBelow (C.design cells.now) (C.wiring cells.now) (C.tables cells.now) cell }
-    requires firsts { AreFirsts (C.design cells.now) (C.wiring cells.now) (C.tables cells.now) cell firsts.now }
-    requires room { length (items_of (C.design cells.now) (C.wiring cells.now) (C.tables cells.now) cell) ≤ 4294967295 }
+    requires right { AreRightBelow (C.design cells.now) (C.wiring cells.now) (C.tables cells.now)
+        cell }
+    requires firsts { AreFirsts (C.design cells.now) (C.wiring cells.now) (C.tables cells.now) cell
+        firsts.now }
+    requires room { length (items_of (C.design cells.now) (C.wiring cells.now) (C.tables cells.now)
+        cell) ≤ 4294967295 }
     requires joins { (c e : ℕ) → AreJoined joins.now c e ↔ IsJoined (C.wiring cells.now) c e }
-    ensures { OnOk result (AddsPieceBeside (C.design cells.now) (C.wiring cells.now) (C.tables cells.now) cell piece.now number out.old.items out.new.items) }
+    ensures { OnOk result (AddsPieceBeside (C.design cells.now) (C.wiring cells.now)
+        (C.tables cells.now) cell piece.now number out.old.items out.new.items) }
 {
     let _ = cell;
     cells.sound();
@@ -129,13 +137,19 @@ fn link_beside<C: Cells>(
     joins: &[Joined],
     out: &mut Vec<Link>,
 ) -> Result<(), AllocError>
-    requires pieces { pieces.now ≡ owned_pieces (C.tables cells.now) cell (length (C.wiring cells.now).conductors) }
-    requires pair { IsPairBeside (length pieces.now) (length (places_of (C.design cells.now) cell)) pair.now }
-    requires right { AreRightBelow (C.design cells.now) (C.wiring cells.now) (C.tables cells.now) cell }
-    requires firsts { AreFirsts (C.design cells.now) (C.wiring cells.now) (C.tables cells.now) cell firsts.now }
-    requires room { length (items_of (C.design cells.now) (C.wiring cells.now) (C.tables cells.now) cell) ≤ 4294967295 }
+    requires pieces { pieces.now ≡ owned_pieces (C.tables cells.now) cell
+        (length (C.wiring cells.now).conductors) }
+    requires pair { IsPairBeside (length pieces.now) (length (places_of (C.design cells.now) cell))
+        pair.now }
+    requires right { AreRightBelow (C.design cells.now) (C.wiring cells.now) (C.tables cells.now)
+        cell }
+    requires firsts { AreFirsts (C.design cells.now) (C.wiring cells.now) (C.tables cells.now) cell
+        firsts.now }
+    requires room { length (items_of (C.design cells.now) (C.wiring cells.now) (C.tables cells.now)
+        cell) ≤ 4294967295 }
     requires joins { (c e : ℕ) → AreJoined joins.now c e ↔ IsJoined (C.wiring cells.now) c e }
-    ensures { OnOk result (AddsPairsBeside (C.design cells.now) (C.wiring cells.now) (C.tables cells.now) cell (length pieces.now) (pair.now ∷ []) out.old.items out.new.items) }
+    ensures { OnOk result (AddsPairsBeside (C.design cells.now) (C.wiring cells.now)
+        (C.tables cells.now) cell (length pieces.now) (pair.now ∷ []) out.old.items out.new.items) }
 {
     let item = pair.one.min(pair.other) as usize;
     let number = pair.one.max(pair.other) - pieces.len() as u32;
@@ -162,13 +176,19 @@ fn link_all_beside<C: Cells>(
     joins: &[Joined],
     out: &mut Vec<Link>,
 ) -> Result<(), AllocError>
-    requires pieces { pieces.now ≡ owned_pieces (C.tables cells.now) cell (length (C.wiring cells.now).conductors) }
-    requires pairs { ArePairsBeside (length pieces.now) (length (places_of (C.design cells.now) cell)) pairs.now }
-    requires right { AreRightBelow (C.design cells.now) (C.wiring cells.now) (C.tables cells.now) cell }
-    requires firsts { AreFirsts (C.design cells.now) (C.wiring cells.now) (C.tables cells.now) cell firsts.now }
-    requires room { length (items_of (C.design cells.now) (C.wiring cells.now) (C.tables cells.now) cell) ≤ 4294967295 }
+    requires pieces { pieces.now ≡ owned_pieces (C.tables cells.now) cell
+        (length (C.wiring cells.now).conductors) }
+    requires pairs { ArePairsBeside (length pieces.now)
+        (length (places_of (C.design cells.now) cell)) pairs.now }
+    requires right { AreRightBelow (C.design cells.now) (C.wiring cells.now) (C.tables cells.now)
+        cell }
+    requires firsts { AreFirsts (C.design cells.now) (C.wiring cells.now) (C.tables cells.now) cell
+        firsts.now }
+    requires room { length (items_of (C.design cells.now) (C.wiring cells.now) (C.tables cells.now)
+        cell) ≤ 4294967295 }
     requires joins { (c e : ℕ) → AreJoined joins.now c e ↔ IsJoined (C.wiring cells.now) c e }
-    ensures { OnOk result (AddsPairsBeside (C.design cells.now) (C.wiring cells.now) (C.tables cells.now) cell (length pieces.now) pairs.now out.old.items out.new.items) }
+    ensures { OnOk result (AddsPairsBeside (C.design cells.now) (C.wiring cells.now)
+        (C.tables cells.now) cell (length pieces.now) pairs.now out.old.items out.new.items) }
 {
     for pair in pairs {
         link_beside(alloc, cells, cell, pieces, pair, firsts, joins, out)?;
@@ -176,9 +196,9 @@ fn link_all_beside<C: Cells>(
     Ok(())
 }
 
-/// Adds the links between a cell's own rectangles and the nets of its placements. It asks only where
-/// a rectangle meets what bounds a placement, grown by one square; a placed cell is walked in the
-/// rectangle's window alone. 2^32 rectangles and placements or more are refused.
+/// Adds the links between a cell's own rectangles and the nets of its placements. It asks only
+/// where a rectangle meets what bounds a placement, grown by one square; a placed cell is walked in
+/// the rectangle's window alone. 2^32 rectangles and placements or more are refused.
 pub fn all_beside<C: Cells>(
     alloc: Global,
     cells: &C,
@@ -187,11 +207,15 @@ pub fn all_beside<C: Cells>(
     joins: &[Joined],
     out: &mut Vec<Link>,
 ) -> Result<(), AllocError>
-    requires right { AreRightBelow (C.design cells.now) (C.wiring cells.now) (C.tables cells.now) cell }
-    requires firsts { AreFirsts (C.design cells.now) (C.wiring cells.now) (C.tables cells.now) cell firsts.now }
-    requires room { length (items_of (C.design cells.now) (C.wiring cells.now) (C.tables cells.now) cell) ≤ 4294967295 }
+    requires right { AreRightBelow (C.design cells.now) (C.wiring cells.now) (C.tables cells.now)
+        cell }
+    requires firsts { AreFirsts (C.design cells.now) (C.wiring cells.now) (C.tables cells.now) cell
+        firsts.now }
+    requires room { length (items_of (C.design cells.now) (C.wiring cells.now) (C.tables cells.now)
+        cell) ≤ 4294967295 }
     requires joins { (c e : ℕ) → AreJoined joins.now c e ↔ IsJoined (C.wiring cells.now) c e }
-    ensures { OnOk result (AddsBeside (C.design cells.now) (C.wiring cells.now) (C.tables cells.now) cell out.old.items out.new.items) }
+    ensures { OnOk result (AddsBeside (C.design cells.now) (C.wiring cells.now) (C.tables cells.now)
+        cell out.old.items out.new.items) }
 {
     let pieces = own_pieces(alloc, cells, cell)?;
     if firsts.len() > u32::MAX as usize - pieces.len() {

@@ -3,7 +3,8 @@ ghost use Rattle.flat_layout.specs.Layout.{Design, IsHeight};
 ghost use Rattle.flat_layout.specs.Nets.{Tables};
 ghost use Rattle.flat_layout.specs.Regions.{Wiring};
 ghost use Rattle.net_link_laws.specs.Places.{places_of};
-ghost use Rattle.net_walk.specs.Walk.{place_of, AreClose, AreNearOwn, HaveArea, IsClose, IsHull, IsSpan, HasNoSquare};
+ghost use Rattle.net_walk.specs.Walk.{place_of, AreClose, AreNearOwn, HaveArea, IsClose, IsHull};
+ghost use Rattle.net_walk.specs.Walk.{IsSpan, HasNoSquare};
 
 use geo_base::{Motion, Rect};
 
@@ -55,11 +56,13 @@ pub trait Cells {
     /// What bounds the nets of a placed cell, as its placement brings it there.
     fn span(&self, element: &Element) -> Option<Rect>
         requires { IsClose element.now.motion }
-        ensures some { IfSome result (IsSpan (design self.now) (tables self.now) (place_of element.now)) }
-        ensures none { IfNone result (HasNoSquare (design self.now) (tables self.now) element.now.cell) };
+        ensures some { IfSome result (IsSpan (design self.now) (tables self.now)
+            (place_of element.now)) }
+        ensures none { IfNone result (HasNoSquare (design self.now) (tables self.now)
+            element.now.cell) };
 
-    /// What holds of the cells: no cell stands below itself, and own rectangles have squares and are
-    /// near the origin.
+    /// What holds of the cells: no cell stands below itself, and own rectangles have squares and
+    /// are near the origin.
     fn sound(&self)
         ensures lower { IsHeight (design self.now) (height self.now) }
         ensures own { AreNearOwn (tables self.now) };

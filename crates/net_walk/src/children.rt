@@ -4,7 +4,8 @@ ghost use Rattle.std.specs.Prelude.{IfSome, IfNone, slice_get};
 ghost use Rattle.flat_layout.specs.Nets.{AreRightBelow, items_of};
 ghost use Rattle.flat_layout.specs.Regions.{IsJoined};
 ghost use Rattle.net_link_laws.specs.Places.{places_of};
-ghost use Rattle.net_walk.specs.Pairs.{AddsChildren, AddsPair, AddsPairs, AddsSpan, AreSpanPieces, IsWindowFor, AreNeverNear, first_of};
+ghost use Rattle.net_walk.specs.Pairs.{AddsChildren, AddsPair, AddsPairs, AddsSpan, AreSpanPieces};
+ghost use Rattle.net_walk.specs.Pairs.{IsWindowFor, AreNeverNear, first_of};
 ghost use Rattle.net_walk.specs.Walk.{IsClose, place_of};
 ghost use Rattle.link_classes.specs.Classes.{AreInRange};
 ghost use Rattle.touching_pieces.specs.Pairs.{AreJoined};
@@ -21,8 +22,10 @@ use touching_pieces::{Joined, Piece, touching_pairs};
 fn window_of<C: Cells>(cells: &C, one: &Element, other: &Element) -> Option<Rect>
     requires close { IsClose one.now.motion }
     requires close_too { IsClose other.now.motion }
-    ensures some { IfSome result (IsWindowFor (C.design cells.now) (C.tables cells.now) (place_of one.now) (place_of other.now)) }
-    ensures none { IfNone result (AreNeverNear (C.design cells.now) (C.tables cells.now) (place_of one.now) (place_of other.now)) }
+    ensures some { IfSome result (IsWindowFor (C.design cells.now) (C.tables cells.now)
+        (place_of one.now) (place_of other.now)) }
+    ensures none { IfNone result (AreNeverNear (C.design cells.now) (C.tables cells.now)
+        (place_of one.now) (place_of other.now)) }
 {
     match cells.span(one) {
         None => None,
@@ -56,11 +59,14 @@ pub fn link_pair<C: Cells>(
     requires right { AreRightBelow (C.design cells.now) (C.wiring cells.now) (C.tables cells.now)
         cell }
     requires placed { slice_get (places_of (C.design cells.now) cell) k ≡ Some (place_of one.now) }
-    requires placed_too { slice_get (places_of (C.design cells.now) cell) l ≡ Some (place_of other.now) }
+    requires placed_too { slice_get (places_of (C.design cells.now) cell) l
+        ≡ Some (place_of other.now) }
     requires motion { IsClose one.now.motion }
     requires motion_too { IsClose other.now.motion }
-    requires at { at ≡ first_of (C.design cells.now) (C.wiring cells.now) (C.tables cells.now) cell k }
-    requires other_at { other_at ≡ first_of (C.design cells.now) (C.wiring cells.now) (C.tables cells.now) cell l }
+    requires at { at ≡ first_of (C.design cells.now) (C.wiring cells.now) (C.tables cells.now) cell
+        k }
+    requires other_at { other_at ≡ first_of (C.design cells.now) (C.wiring cells.now)
+        (C.tables cells.now) cell l }
     requires room { at + ((C.tables cells.now).nets one.now.cell).count ≤ 4294967296 }
     requires room_too { other_at + ((C.tables cells.now).nets other.now.cell).count ≤ 4294967296 }
     requires joins { (c e : ℕ) → AreJoined joins.now c e ↔ IsJoined (C.wiring cells.now) c e }
@@ -88,7 +94,8 @@ fn push_span<C: Cells>(
     out: &mut Vec<Piece>,
 ) -> Result<(), AllocError>
     requires { IsClose element.now.motion }
-    ensures { OnOk result (AddsSpan (C.design cells.now) (C.tables cells.now) (place_of element.now) number out.old.items out.new.items) }
+    ensures { OnOk result (AddsSpan (C.design cells.now) (C.tables cells.now) (place_of element.now)
+        number out.old.items out.new.items) }
 {
     match cells.span(element) {
         None => Ok(()),
@@ -109,7 +116,8 @@ pub(crate) fn span_pieces<C: Cells>(
     cells: &C,
     cell: u32,
 ) -> Result<Vec<Piece>, AllocError>
-    ensures { IfOk result (λ v. AreSpanPieces (C.design cells.now) (C.tables cells.now) cell (length (places_of (C.design cells.now) cell)) v.items) }
+    ensures { IfOk result (λ v. AreSpanPieces (C.design cells.now) (C.tables cells.now) cell
+        (length (places_of (C.design cells.now) cell)) v.items) }
 {
     let elements = cells.places(cell);
     let mut out = Vec::new(alloc);

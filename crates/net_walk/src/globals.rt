@@ -2,7 +2,8 @@
 ghost use Rattle.std.specs.Prelude.{◌≡◌, ◌+◌, ◌<◌, ◌≤◌, ◌↔◌, ℕ, length, slice_get, Some, OnOk};
 ghost use Rattle.flat_layout.specs.Nets.{AreNets, AreRightBelow, items_of};
 ghost use Rattle.net_link_laws.specs.Places.{places_of};
-ghost use Rattle.net_walk.specs.Globals.{AddsToGlobals, IsAny, IsByFirst, IsByLine, IsByLines, IsGroundedBy, IsOfPlacement, IsOfPlacements, globals_at};
+ghost use Rattle.net_walk.specs.Globals.{AddsToGlobals, IsAny, IsByFirst, IsByLine, IsByLines};
+ghost use Rattle.net_walk.specs.Globals.{IsGroundedBy, IsOfPlacement, IsOfPlacements, globals_at};
 ghost use Rattle.net_walk.specs.Pairs.{first_of};
 ghost use Rattle.net_walk.specs.Together.{AreFirsts};
 ghost use Rattle.net_walk.specs.Walk.{place_of};
@@ -31,9 +32,12 @@ fn ground_rects<C: Cells>(
     requires conductor { line.now.conductor < length (C.wiring cells.now).conductors }
     requires global { line.now.global < length (C.wiring cells.now).globals }
     requires line { IsGrounded (C.wiring cells.now) line.now.conductor line.now.global }
-    requires at { at ≡ globals_at (C.design cells.now) (C.wiring cells.now) (C.tables cells.now) cell }
-    requires room { length (items_of (C.design cells.now) (C.wiring cells.now) (C.tables cells.now) cell) ≤ 4294967295 }
-    ensures { OnOk result (AddsToGlobals (C.design cells.now) (C.wiring cells.now) (C.tables cells.now) cell (IsByLine line.now) out.old.items out.new.items) }
+    requires at { at ≡ globals_at (C.design cells.now) (C.wiring cells.now) (C.tables cells.now)
+        cell }
+    requires room { length (items_of (C.design cells.now) (C.wiring cells.now) (C.tables cells.now)
+        cell) ≤ 4294967295 }
+    ensures { OnOk result (AddsToGlobals (C.design cells.now) (C.wiring cells.now)
+        (C.tables cells.now) cell (IsByLine line.now) out.old.items out.new.items) }
 {
     let first = owned_before(cells, cell, line.conductor) as u32;
     for r in 0..cells.own(cell, line.conductor).len() {
@@ -56,9 +60,12 @@ fn ground_line<C: Cells>(
 ) -> Result<(), AllocError>
     requires globals { globals ≡ length (C.wiring cells.now).globals }
     requires line { IsGrounded (C.wiring cells.now) line.now.conductor line.now.global }
-    requires at { at ≡ globals_at (C.design cells.now) (C.wiring cells.now) (C.tables cells.now) cell }
-    requires room { length (items_of (C.design cells.now) (C.wiring cells.now) (C.tables cells.now) cell) ≤ 4294967295 }
-    ensures { OnOk result (AddsToGlobals (C.design cells.now) (C.wiring cells.now) (C.tables cells.now) cell (IsByLine line.now) out.old.items out.new.items) }
+    requires at { at ≡ globals_at (C.design cells.now) (C.wiring cells.now) (C.tables cells.now)
+        cell }
+    requires room { length (items_of (C.design cells.now) (C.wiring cells.now) (C.tables cells.now)
+        cell) ≤ 4294967295 }
+    ensures { OnOk result (AddsToGlobals (C.design cells.now) (C.wiring cells.now)
+        (C.tables cells.now) cell (IsByLine line.now) out.old.items out.new.items) }
 {
     if line.conductor >= cells.conductors() {
         return Ok(());
@@ -80,9 +87,12 @@ fn ground_lines<C: Cells>(
 ) -> Result<(), AllocError>
     requires globals { globals ≡ length (C.wiring cells.now).globals }
     requires lines { (c g : ℕ) → IsGroundedBy lines.now c g → IsGrounded (C.wiring cells.now) c g }
-    requires at { at ≡ globals_at (C.design cells.now) (C.wiring cells.now) (C.tables cells.now) cell }
-    requires room { length (items_of (C.design cells.now) (C.wiring cells.now) (C.tables cells.now) cell) ≤ 4294967295 }
-    ensures { OnOk result (AddsToGlobals (C.design cells.now) (C.wiring cells.now) (C.tables cells.now) cell (IsByLines lines.now) out.old.items out.new.items) }
+    requires at { at ≡ globals_at (C.design cells.now) (C.wiring cells.now) (C.tables cells.now)
+        cell }
+    requires room { length (items_of (C.design cells.now) (C.wiring cells.now) (C.tables cells.now)
+        cell) ≤ 4294967295 }
+    ensures { OnOk result (AddsToGlobals (C.design cells.now) (C.wiring cells.now)
+        (C.tables cells.now) cell (IsByLines lines.now) out.old.items out.new.items) }
 {
     for line in lines {
         ground_line(cells, cell, line, globals, at, out)?;
@@ -101,13 +111,19 @@ fn join_globals<C: Cells>(
     at: u32,
     out: &mut Vec<Link>,
 ) -> Result<(), AllocError>
-    requires placed { slice_get (places_of (C.design cells.now) cell) number ≡ Some (place_of element.now) }
-    requires nets { AreNets (C.design cells.now) (C.wiring cells.now) (C.tables cells.now) element.now.cell ((C.tables cells.now).nets element.now.cell) }
-    requires first { first ≡ first_of (C.design cells.now) (C.wiring cells.now) (C.tables cells.now) cell number }
+    requires placed { slice_get (places_of (C.design cells.now) cell) number
+        ≡ Some (place_of element.now) }
+    requires nets { AreNets (C.design cells.now) (C.wiring cells.now) (C.tables cells.now)
+        element.now.cell ((C.tables cells.now).nets element.now.cell) }
+    requires first { first ≡ first_of (C.design cells.now) (C.wiring cells.now) (C.tables cells.now)
+        cell number }
     requires globals { globals ≡ length (C.wiring cells.now).globals }
-    requires at { at ≡ globals_at (C.design cells.now) (C.wiring cells.now) (C.tables cells.now) cell }
-    requires room { length (items_of (C.design cells.now) (C.wiring cells.now) (C.tables cells.now) cell) ≤ 4294967295 }
-    ensures { OnOk result (AddsToGlobals (C.design cells.now) (C.wiring cells.now) (C.tables cells.now) cell (IsOfPlacement number) out.old.items out.new.items) }
+    requires at { at ≡ globals_at (C.design cells.now) (C.wiring cells.now) (C.tables cells.now)
+        cell }
+    requires room { length (items_of (C.design cells.now) (C.wiring cells.now) (C.tables cells.now)
+        cell) ≤ 4294967295 }
+    ensures { OnOk result (AddsToGlobals (C.design cells.now) (C.wiring cells.now)
+        (C.tables cells.now) cell (IsOfPlacement number) out.old.items out.new.items) }
 {
     let _ = cell;
     let _ = number;
@@ -130,12 +146,18 @@ fn join_placements<C: Cells>(
     at: u32,
     out: &mut Vec<Link>,
 ) -> Result<(), AllocError>
-    requires right { AreRightBelow (C.design cells.now) (C.wiring cells.now) (C.tables cells.now) cell }
-    requires firsts { AreFirsts (C.design cells.now) (C.wiring cells.now) (C.tables cells.now) cell firsts.now }
+    requires right { AreRightBelow (C.design cells.now) (C.wiring cells.now) (C.tables cells.now)
+        cell }
+    requires firsts { AreFirsts (C.design cells.now) (C.wiring cells.now) (C.tables cells.now) cell
+        firsts.now }
     requires globals { globals ≡ length (C.wiring cells.now).globals }
-    requires at { at ≡ globals_at (C.design cells.now) (C.wiring cells.now) (C.tables cells.now) cell }
-    requires room { length (items_of (C.design cells.now) (C.wiring cells.now) (C.tables cells.now) cell) ≤ 4294967295 }
-    ensures { OnOk result (AddsToGlobals (C.design cells.now) (C.wiring cells.now) (C.tables cells.now) cell (IsOfPlacements (length (places_of (C.design cells.now) cell))) out.old.items out.new.items) }
+    requires at { at ≡ globals_at (C.design cells.now) (C.wiring cells.now) (C.tables cells.now)
+        cell }
+    requires room { length (items_of (C.design cells.now) (C.wiring cells.now) (C.tables cells.now)
+        cell) ≤ 4294967295 }
+    ensures { OnOk result (AddsToGlobals (C.design cells.now) (C.wiring cells.now)
+        (C.tables cells.now) cell (IsOfPlacements (length (places_of (C.design cells.now) cell)))
+        out.old.items out.new.items) }
 {
     let elements = cells.places(cell);
     for k in 0..elements.len() {
@@ -156,13 +178,18 @@ pub fn global_links<C: Cells>(
     at: u32,
     out: &mut Vec<Link>,
 ) -> Result<(), AllocError>
-    requires right { AreRightBelow (C.design cells.now) (C.wiring cells.now) (C.tables cells.now) cell }
-    requires firsts { AreFirsts (C.design cells.now) (C.wiring cells.now) (C.tables cells.now) cell firsts.now }
+    requires right { AreRightBelow (C.design cells.now) (C.wiring cells.now) (C.tables cells.now)
+        cell }
+    requires firsts { AreFirsts (C.design cells.now) (C.wiring cells.now) (C.tables cells.now) cell
+        firsts.now }
     requires globals { globals ≡ length (C.wiring cells.now).globals }
     requires lines { (c g : ℕ) → IsGroundedBy lines.now c g ↔ IsGrounded (C.wiring cells.now) c g }
-    requires at { at ≡ globals_at (C.design cells.now) (C.wiring cells.now) (C.tables cells.now) cell }
-    requires room { length (items_of (C.design cells.now) (C.wiring cells.now) (C.tables cells.now) cell) ≤ 4294967295 }
-    ensures { OnOk result (AddsToGlobals (C.design cells.now) (C.wiring cells.now) (C.tables cells.now) cell IsAny out.old.items out.new.items) }
+    requires at { at ≡ globals_at (C.design cells.now) (C.wiring cells.now) (C.tables cells.now)
+        cell }
+    requires room { length (items_of (C.design cells.now) (C.wiring cells.now) (C.tables cells.now)
+        cell) ≤ 4294967295 }
+    ensures { OnOk result (AddsToGlobals (C.design cells.now) (C.wiring cells.now)
+        (C.tables cells.now) cell IsAny out.old.items out.new.items) }
 {
     ground_lines(cells, cell, lines, globals, at, out)?;
     join_placements(cells, cell, firsts, globals, at, out)?;

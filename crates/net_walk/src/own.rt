@@ -16,7 +16,8 @@ use touching_pieces::{Joined, Piece, touching_links};
 fn push_rects(own: &[Rect], conductor: u32, at: u32, out: &mut Vec<Piece>) -> Result<(), AllocError>
     requires filled { HaveArea own.now }
     requires room { at + length own.now ≤ 4294967295 }
-    ensures seen { OnOk result (AddsSeen (IsOfRects own.now conductor at (length own.now)) out.old.items out.new.items) }
+    ensures seen { OnOk result (AddsSeen (IsOfRects own.now conductor at (length own.now))
+        out.old.items out.new.items) }
     ensures list { OnOk result (out.new.items ≡ out.old.items ++ rect_pieces conductor at own.now) }
 {
     for r in 0..own.len() {
@@ -35,9 +36,12 @@ pub(crate) fn own_pieces<C: Cells>(
     cells: &C,
     cell: u32,
 ) -> Result<Vec<Piece>, AllocError>
-    requires { owned_before (C.tables cells.now) cell (length (C.wiring cells.now).conductors) ≤ 4294967295 }
-    ensures seen { IfOk result (λ v. AddsSeen (IsOwned (C.tables cells.now) cell (length (C.wiring cells.now).conductors)) [] v.items) }
-    ensures list { IfOk result (λ v. v.items ≡ owned_pieces (C.tables cells.now) cell (length (C.wiring cells.now).conductors)) }
+    requires { owned_before (C.tables cells.now) cell (length (C.wiring cells.now).conductors)
+        ≤ 4294967295 }
+    ensures seen { IfOk result (λ v. AddsSeen
+        (IsOwned (C.tables cells.now) cell (length (C.wiring cells.now).conductors)) [] v.items) }
+    ensures list { IfOk result (λ v. v.items
+        ≡ owned_pieces (C.tables cells.now) cell (length (C.wiring cells.now).conductors)) }
 {
     let mut out = Vec::new(alloc);
     let mut at: u32 = 0;

@@ -29,7 +29,8 @@ fn more(count: u32, by: usize) -> Result<u32, AllocError>
 }
 
 fn count_own<C: Cells>(cells: &C, cell: u32) -> Result<u32, AllocError>
-    ensures { IfOk result (λ n. n ≡ owned_before (C.tables cells.now) cell (length (C.wiring cells.now).conductors)) }
+    ensures { IfOk result (λ n. n ≡ owned_before (C.tables cells.now) cell
+        (length (C.wiring cells.now).conductors)) }
 {
     let mut count = 0;
     for conductor in 0..cells.conductors() {
@@ -39,7 +40,9 @@ fn count_own<C: Cells>(cells: &C, cell: u32) -> Result<u32, AllocError>
 }
 
 fn count_placed<C: Cells>(cells: &C, cell: u32, from: u32) -> Result<u32, AllocError>
-    ensures { IfOk result (λ n. n ≡ from + nets_before (C.tables cells.now) (places_of (C.design cells.now) cell) (length (places_of (C.design cells.now) cell))) }
+    ensures { IfOk result (λ n. n ≡ from
+        + nets_before (C.tables cells.now) (places_of (C.design cells.now) cell)
+        (length (places_of (C.design cells.now) cell))) }
 {
     let mut count = from;
     for element in cells.places(cell) {
@@ -51,7 +54,8 @@ fn count_placed<C: Cells>(cells: &C, cell: u32, from: u32) -> Result<u32, AllocE
 /// The number of items of a cell. 2^32 or more are refused, before anything is built.
 pub fn count_items<C: Cells>(cells: &C, cell: u32, globals: u32) -> Result<u32, AllocError>
     requires { globals ≡ length (C.wiring cells.now).globals }
-    ensures { IfOk result (λ n. n ≡ length (items_of (C.design cells.now) (C.wiring cells.now) (C.tables cells.now) cell)) }
+    ensures { IfOk result (λ n. n ≡ length
+        (items_of (C.design cells.now) (C.wiring cells.now) (C.tables cells.now) cell)) }
 {
     let owned = count_own(cells, cell)?;
     let placed = count_placed(cells, cell, owned)?;
@@ -61,8 +65,10 @@ pub fn count_items<C: Cells>(cells: &C, cell: u32, globals: u32) -> Result<u32, 
 
 /// The place of the first net of each placement among the items of a cell.
 pub fn first_places<C: Cells>(alloc: Global, cells: &C, cell: u32) -> Result<Vec<u32>, AllocError>
-    requires { length (items_of (C.design cells.now) (C.wiring cells.now) (C.tables cells.now) cell) ≤ 4294967295 }
-    ensures { IfOk result (λ v. AreFirsts (C.design cells.now) (C.wiring cells.now) (C.tables cells.now) cell v.items) }
+    requires { length (items_of (C.design cells.now) (C.wiring cells.now) (C.tables cells.now) cell)
+        ≤ 4294967295 }
+    ensures { IfOk result (λ v. AreFirsts (C.design cells.now) (C.wiring cells.now)
+        (C.tables cells.now) cell v.items) }
 {
     let mut firsts = Vec::new(alloc);
     let mut at = owned_before(cells, cell, cells.conductors()) as u32;
@@ -84,12 +90,15 @@ pub fn all_links<C: Cells>(
     lines: &[Grounded],
     globals: u32,
 ) -> Result<Vec<Link>, AllocError>
-    requires right { AreRightBelow (C.design cells.now) (C.wiring cells.now) (C.tables cells.now) cell }
-    requires items { items ≡ length (items_of (C.design cells.now) (C.wiring cells.now) (C.tables cells.now) cell) }
+    requires right { AreRightBelow (C.design cells.now) (C.wiring cells.now) (C.tables cells.now)
+        cell }
+    requires items { items ≡ length (items_of (C.design cells.now) (C.wiring cells.now)
+        (C.tables cells.now) cell) }
     requires joins { (c e : ℕ) → AreJoined joins.now c e ↔ IsJoined (C.wiring cells.now) c e }
     requires lines { (c g : ℕ) → IsGroundedBy lines.now c g ↔ IsGrounded (C.wiring cells.now) c g }
     requires globals { globals ≡ length (C.wiring cells.now).globals }
-    ensures { IfOk result (λ v. AreAllFound (C.design cells.now) (C.wiring cells.now) (C.tables cells.now) cell v.items) }
+    ensures { IfOk result (λ v. AreAllFound (C.design cells.now) (C.wiring cells.now)
+        (C.tables cells.now) cell v.items) }
 {
     let firsts = first_places(alloc, cells, cell)?;
     let mut links = own_links(alloc, cells, cell, joins)?;

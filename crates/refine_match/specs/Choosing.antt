@@ -12,7 +12,8 @@ tied_with g c a = left_members g c (class_in c a)
 
 -- a stands no later than b: its class has fewer left nodes, or as many, and it is no later itself
 abbrev pub IsNoLaterTie : Graph → Classes → ℕ → ℕ → Type 0
-IsNoLaterTie g c a b = (tied_with g c a < tied_with g c b) ⊎ ((tied_with g c a ≡ tied_with g c b) × (a ≤ b))
+IsNoLaterTie g c a b =
+    (tied_with g c a < tied_with g c b) ⊎ ((tied_with g c a ≡ tied_with g c b) × (a ≤ b))
 
 -- of the first n nodes the one that is tied with the fewest
 pub record IsLeastTied (g : Graph) (c : Classes) (n a : ℕ) : Type 0 where

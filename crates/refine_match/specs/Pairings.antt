@@ -15,7 +15,8 @@ use Rattle.refine_match.specs.Choosing.{IsMate}
 pub record IsMateOf (g : Graph) (c : Classes) (kind : Kind) (k number : ℕ) : Type 0 where
   pub other : ℕ
   pub mate : IsMate g c (place_in g.left kind k) other
-  pub number_is : (p : Pair) → IsGraphOf p g → (a : Node) × IsNumbered p other a × (a.number ≡ number)
+  pub number_is : (p : Pair) → IsGraphOf p g → (a : Node) × IsNumbered p other a
+      × (a.number ≡ number)
 
 -- so do all of them
 pub record AreMatesOf (g : Graph) (c : Classes) (kind : Kind) (mates : List ℕ) : Type 0 where

@@ -1,7 +1,8 @@
 ghost use Rattle.std.specs.Prelude.{◌≡◌, ◌<◌, ◌≤◌, ◌↔◌, ℕ, List, length, nat_lt, true};
 ghost use Rattle.match_graph.specs.Graph.{IsGraph, left_of, nodes_of};
 ghost use Rattle.match_rounds.specs.Classes.{IsPartition, class_in};
-ghost use Rattle.refine_match.specs.Candidates.{HaveNets, IsBestBehind, IsFirst, NextLaw, candidate_rank, have_one_name, is_behind, rank_at};
+ghost use Rattle.refine_match.specs.Candidates.{HaveNets, IsBestBehind, IsFirst, NextLaw};
+ghost use Rattle.refine_match.specs.Candidates.{candidate_rank, have_one_name, is_behind, rank_at};
 ghost use Rattle.match_rounds.specs.Turned.{AreAllOf};
 
 use match_graph::Graph;
@@ -30,7 +31,9 @@ pub fn next_candidate(
     requires partition { IsPartition classes.now (left_of graph.now) (nodes_of graph.now) }
     requires nets { HaveNets graph.now left.now right.now }
     requires node { node < left_of graph.now }
-    ensures { (items : List ℕ) × AreAllOf (class_in classes.now) (class_in classes.now node) items (nodes_of graph.now) × IsBestBehind graph.now (rank_at graph.now left.now right.now node) last items (length items) result }
+    ensures { (items : List ℕ) × AreAllOf (class_in classes.now) (class_in classes.now node) items
+        (nodes_of graph.now) × IsBestBehind graph.now (rank_at graph.now left.now right.now node)
+        last items (length items) result }
 {
     let left_count = graph.left_count();
     let mut best = None;
@@ -93,5 +96,6 @@ fn is_one_name(graph: &Graph, left: &Circuit, right: &Circuit, x: u32, y: u32) -
 {
     x < graph.left.first_device()
         && y < graph.right.first_device()
-        && left.nets[(x - graph.left.first) as usize] == right.nets[(y - graph.right.first) as usize]
+        && left.nets[(x - graph.left.first) as usize]
+            == right.nets[(y - graph.right.first) as usize]
 }

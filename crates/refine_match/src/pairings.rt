@@ -16,15 +16,12 @@ use std::alloc::{AllocError, Global};
 
 /// The right node of each left node's class, by kind and number, where each class is one pair. The
 /// time is in proportion to the number of nodes.
-pub fn read_pairing(
-    alloc: Global,
-    graph: &Graph,
-    classes: &Classes,
-) -> Result<Pairing, AllocError>
+pub fn read_pairing(alloc: Global, graph: &Graph, classes: &Classes) -> Result<Pairing, AllocError>
     requires graph { IsGraph graph.now }
     requires partition { IsPartition classes.now (left_of graph.now) (nodes_of graph.now) }
     requires single { AreSingle graph.now classes.now }
-    ensures { IfOk result (λ pairing. (p : Pair) (guesses : List (Guess PlainNode)) → IsGraphOf p graph.now → IsPairingOf p guesses classes.now (plain_pairing pairing)) }
+    ensures { IfOk result (λ pairing. (p : Pair) (guesses : List (Guess PlainNode))
+        → IsGraphOf p graph.now → IsPairingOf p guesses classes.now (plain_pairing pairing)) }
 {
     Ok(Pairing {
         nets: mates_of(alloc, graph, classes, NodeKind::Net)?,
@@ -43,7 +40,8 @@ fn mates_of(
     requires graph { IsGraph graph.now }
     requires partition { IsPartition classes.now (left_of graph.now) (nodes_of graph.now) }
     requires single { AreSingle graph.now classes.now }
-    ensures { IfOk result (λ mates. AreMatesOf graph.now classes.now (plain_kind kind) mates.items) }
+    ensures { IfOk result (λ mates. AreMatesOf graph.now classes.now (plain_kind kind)
+        mates.items) }
 {
     let (from, to) = span_of(&graph.left, kind);
     let mut mates = Vec::new(alloc);
