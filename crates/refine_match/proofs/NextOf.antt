@@ -108,10 +108,14 @@ list_of p qs k a limit = candidates (setting_of p (equal_names p) limit) (under 
 
 is_candidate : (p : Pair) (qs : List (Guess Node)) (k limit : ℕ) (a b : Node) → IsListed b (list_of p qs k a limit) → IsListed b (nodes p Schematic) × (agree (under (web_of p) qs) k a b ≡ true)
 is_candidate p qs k limit a b i = elim (in_either b (filter (λ b. agree (under (web_of p) qs) k a b && equal_names p a b) (nodes p Schematic)) (filter (λ b. agree (under (web_of p) qs) k a b && not (equal_names p a b)) (nodes p Schematic)) i) [
-  | inl j ↦ (of_filter (λ b. agree (under (web_of p) qs) k a b && equal_names p a b) b (nodes p Schematic) j,
-      first (agree (under (web_of p) qs) k a b) (equal_names p a b) (filter_passes (λ b. agree (under (web_of p) qs) k a b && equal_names p a b) b (nodes p Schematic) j))
-  | inr j ↦ (of_filter (λ b. agree (under (web_of p) qs) k a b && not (equal_names p a b)) b (nodes p Schematic) j,
-      first (agree (under (web_of p) qs) k a b) (not (equal_names p a b)) (filter_passes (λ b. agree (under (web_of p) qs) k a b && not (equal_names p a b)) b (nodes p Schematic) j))
+  | inl j ↦ (
+    of_filter (λ b. agree (under (web_of p) qs) k a b && equal_names p a b) b (nodes p Schematic) j,
+    first (agree (under (web_of p) qs) k a b) (equal_names p a b) (filter_passes (λ b. agree (under (web_of p) qs) k a b && equal_names p a b) b (nodes p Schematic) j),
+  )
+  | inr j ↦ (
+    of_filter (λ b. agree (under (web_of p) qs) k a b && not (equal_names p a b)) b (nodes p Schematic) j,
+    first (agree (under (web_of p) qs) k a b) (not (equal_names p a b)) (filter_passes (λ b. agree (under (web_of p) qs) k a b && not (equal_names p a b)) b (nodes p Schematic) j),
+  )
 ]
 
 not_yes : (b : Bool) → b ≡ false → not b ≡ true

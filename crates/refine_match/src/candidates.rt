@@ -93,5 +93,6 @@ fn is_one_name(graph: &Graph, left: &Circuit, right: &Circuit, x: u32, y: u32) -
 {
     x < graph.left.first_device()
         && y < graph.right.first_device()
-        && left.nets[(x - graph.left.first) as usize] == right.nets[(y - graph.right.first) as usize]
+        && left.nets[(x - graph.left.first) as usize]
+            == right.nets[(y - graph.right.first) as usize]
 }

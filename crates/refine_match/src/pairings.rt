@@ -16,11 +16,7 @@ use std::alloc::{AllocError, Global};
 
 /// The right node of each left node's class, by kind and number, where each class is one pair. The
 /// time is in proportion to the number of nodes.
-pub fn read_pairing(
-    alloc: Global,
-    graph: &Graph,
-    classes: &Classes,
-) -> Result<Pairing, AllocError>
+pub fn read_pairing(alloc: Global, graph: &Graph, classes: &Classes) -> Result<Pairing, AllocError>
     requires graph { IsGraph graph.now }
     requires partition { IsPartition classes.now (left_of graph.now) (nodes_of graph.now) }
     requires single { AreSingle graph.now classes.now }
