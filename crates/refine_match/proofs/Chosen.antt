@@ -161,11 +161,15 @@ ones p g qs c h good s untied a n =
     let same : left_members g c (class_of_node p c a) ≡ tied_with g c (index_of p b.0) = ap (left_members g c) class in
     omega arith
 
-pub is_solved : (p : Pair) (g : Graph) (qs : List (Guess Node)) (c : Classes) → IsGraphOf p g → IsWeb (web_of p) → AreStableClasses p qs c → AreUntied g c (left_of g) → IsSolved (under (web_of p) qs)
-is_solved p g qs c h good s untied = record {
-  round = s.round;
-  stable = s.stable;
-  even = s.even;
-  left = λ a n. ones p g qs c h good s untied a n;
-  right = λ a n. sym (s.even s.round (omega arith) a n) ∙ ones p g qs c h good s untied a n;
-}
+pub is_solved : (p : Pair) (g : Graph) (qs : List (Guess Node)) (c : Classes) → IsGraphOf p g → IsWeb (web_of p) → (s : AreStableClasses p qs c) → AreUntied g c (left_of g)
+    → (solved : IsSolved (under (web_of p) qs)) × (solved.round ≡ s.round)
+is_solved p g qs c h good s untied = (
+  record {
+    round = s.round;
+    stable = s.stable;
+    even = s.even;
+    left = λ a n. ones p g qs c h good s untied a n;
+    right = λ a n. sym (s.even s.round (omega arith) a n) ∙ ones p g qs c h good s untied a n;
+  },
+  refl,
+)

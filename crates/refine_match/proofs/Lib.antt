@@ -5,3 +5,4 @@ pub mod Mates
 pub mod NextBehind
 pub mod Rising
 pub mod NextOf
+pub mod Decided

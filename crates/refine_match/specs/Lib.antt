@@ -3,3 +3,4 @@ pub mod Evidence
 pub mod Choosing
 pub mod Pairings
 pub mod Candidates
+pub mod ByRounds

@@ -1,6 +1,7 @@
 //! The comparison of two circuits: rounds, and guesses where rounds leave ties.
 #![tactic(auto)]
 
+mod by_rounds;
 mod candidates;
 mod choosing;
 mod evidence;
