@@ -7,7 +7,7 @@ use Rattle.std.proofs.lemmas.Option.{slice_get_cases, get_or_from_slice_get}
 use Rattle.geo_base.specs.declared.shapes.Rect.{Rect}
 use Rattle.geo_base.specs.Near.{IsLongRect}
 use Rattle.rect_sets.specs.Rects.{CanonicalLaw}
-use Rattle.flat_layout.specs.Layers.{Reading}
+use Rattle.flat_layout.specs.Layers.{Formula}
 use Rattle.flat_layout.specs.Layout.{IsReached}
 use Rattle.cell_graph.specs.Linked.{Linked, IsSound, plain, places_at}
 use Rattle.cell_graph.specs.Laws.{HullLaw}
@@ -16,7 +16,7 @@ use Rattle.rule_text.specs.declared.rules.LayerRule.{LayerRule}
 use Rattle.rule_text.specs.declared.rules.Output.{Output}
 use Rattle.rule_text.specs.Rules.{Rules}
 use Rattle.rule_text.specs.Sound as rules
-use Rattle.rule_layers.specs.Readings.{reading_by, readings_behind, readings}
+use Rattle.rule_layers.specs.Formulas.{formula_by, formulas_behind, formulas}
 use Rattle.deep_tables.specs.Layers.{AreLayers, LayerAtLaw, layer_of}
 use Rattle.deep_tables.specs.declared.layers.CellLayers.{CellLayers}
 use Rattle.gds_layout.specs.declared.layout.Layout.{Layout}
@@ -27,11 +27,11 @@ use Rattle.layout_shapes.specs.Written.{AreReached, name_of, ref_of, squares_of}
 use Rattle.layout_shapes.proofs.Long.{local_long}
 use Rattle.layout_shapes.proofs.Reaching.{within, reached_at}
 
-count_behind : (before : List Reading) (names : List LayerRule) → length (readings_behind before names) ≡ length before + length names
+count_behind : (before : List Formula) (names : List LayerRule) → length (formulas_behind before names) ≡ length before + length names
 count_behind before [] = omega arith
 count_behind before (n ∷ names) =
-    let more = count_behind (before ++ reading_by before n.form ∷ []) names in
-    let one : length (before ++ reading_by before n.form ∷ []) ≡ length before + 1 = length-append before (reading_by before n.form ∷ []) in
+    let more = count_behind (before ++ formula_by before n.form ∷ []) names in
+    let one : length (before ++ formula_by before n.form ∷ []) ≡ length before + 1 = length-append before (formula_by before n.form ∷ []) in
     omega (arith, more, one)
 
 -- what stands at a number below the length
@@ -45,7 +45,7 @@ line : HullLaw → CanonicalLaw → LayerAtLaw → (d : Linked) (r : Rules) (tab
     → o.layer < length r.names → CanWriteLine table cell o
 line hull canonical at d r table cell o sound are reached below =
     let count = count_behind [] r.names in
-    let x = there (readings r.names) o.layer (omega (arith, below, count)) in
+    let x = there (formulas r.names) o.layer (omega (arith, below, count)) in
     let h = at (plain d) r table cell o.layer x.0 are reached x.1 in
     let long = local_long hull canonical d cell x.0 h.0 sound h.2 in
     record {

@@ -10,14 +10,14 @@ use Rattle.geo_base.specs.declared.layer.Op.TheVariants.{And, Or, Not, Xor}
 use Rattle.geo_base.specs.declared.shapes.Rect.{Rect}
 use Rattle.geo_base.specs.declared.shapes.Square.{Square}
 use Rattle.rect_sets.specs.Rects.{covers, CanonicalLaw}
-use Rattle.flat_layout.specs.Layers.{Reading, Input, Empty, Binary, InFlat, IsLocal}
+use Rattle.flat_layout.specs.Layers.{Formula, Input, Empty, Binary, InFlat, IsLocal}
 use Rattle.flat_layout.specs.Values.{IsLocalLayer}
 use Rattle.cell_graph.specs.Linked.{Linked, IsHull, IsSound, HullIsSound, HullHas, plain, cell_at, hull_of}
 use Rattle.cell_graph.specs.Laws.{HullLaw}
 
 -- ---- local squares lie in the hull
 
-in_hull : HullLaw → (d : Linked) → IsSound d → (cell : ℕ) (x : Reading) (q : Square) → InFlat (plain d) cell x q → HullHas (hull_of (cell_at d cell)) q
+in_hull : HullLaw → (d : Linked) → IsSound d → (cell : ℕ) (x : Formula) (q : Square) → InFlat (plain d) cell x q → HullHas (hull_of (cell_at d cell)) q
 in_hull law d sound cell (Input key) q h = law d sound cell key q h
 in_hull law d sound cell Empty q h = absurd h
 in_hull law d sound cell (Binary And a b) q h = in_hull law d sound cell a q h.0
@@ -27,7 +27,7 @@ in_hull law d sound cell (Binary Not a b) q h = in_hull law d sound cell a q h.0
 in_hull law d sound cell (Binary Xor a b) q (inl h) = in_hull law d sound cell a q h.0
 in_hull law d sound cell (Binary Xor a b) q (inr h) = in_hull law d sound cell b q h.0
 
-local_flat : (d : Linked) (cell : ℕ) (x : Reading) (q : Square) → IsLocal (plain d) cell x q → InFlat (plain d) cell x q
+local_flat : (d : Linked) (cell : ℕ) (x : Formula) (q : Square) → IsLocal (plain d) cell x q → InFlat (plain d) cell x q
 local_flat d cell (Input key) q h = record { path = []; end = cell; square = q; takes = (refl, refl); own = h }
 local_flat d cell Empty q h = h
 local_flat d cell (Binary op a b) q h = h.0.0
@@ -106,7 +106,7 @@ hull_sound d sound cell = by_cell (cell_at d cell) refl
     by_cell None e = tt
     by_cell (Some c) e = (sound.each cell c e).hull
 
-pub local_long : HullLaw → CanonicalLaw → (d : Linked) (cell : ℕ) (x : Reading) (v : List Rect) → IsSound d → IsLocalLayer (plain d) x cell v → All IsLongRect v
+pub local_long : HullLaw → CanonicalLaw → (d : Linked) (cell : ℕ) (x : Formula) (v : List Rect) → IsSound d → IsLocalLayer (plain d) x cell v → All IsLongRect v
 local_long law canonical d cell x v sound h =
     All-from_recursion IsLongRect v (by_hull (hull_of (cell_at d cell)) v (hull_sound d sound cell) (recursion_from_All IsRect v (canonical v h.canonical))
     (λ s e. in_hull law d sound cell x s (local_flat d cell x s ((h.each s).0 e))))

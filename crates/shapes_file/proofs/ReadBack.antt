@@ -5,7 +5,7 @@ use Rattle.std.specs.List.{All, AllByRecursion}
 use Rattle.std.proofs.lemmas.Option.{slice_get-get_or, slice_get_within}
 use Rattle.std.proofs.lemmas.List.Elements.{recursion_from_All, All-map}
 use Rattle.gds_elements.specs.Meaning.{Ref, Cell, Library}
-use Rattle.gds_elements.specs.Data.{is_unit, unit_in}
+use Rattle.gds_elements.specs.Data.{has_unit}
 use Rattle.gds_elements.specs.Faults.{Accepts}
 use Rattle.cell_graph.specs.declared.cells.Place.{Place}
 use Rattle.cell_graph.specs.declared.cells.CellPart.{CellPart}
@@ -109,7 +109,7 @@ read_back headings references cells bytes top l h =
         dates = subst (λ (b : List ℕ). IsData 24 b) (sym of.header.dates) heading.dates;
         name = subst (λ (b : List ℕ). IsText b) (sym of.header.name) heading.name;
         units = subst (λ (b : List ℕ). IsData 16 b) (sym of.header.units) heading.units;
-        unit = ap (λ (b : List ℕ). is_unit (unit_in b)) of.header.units ∙ heading.unit;
+        unit = ap (λ (b : List ℕ). has_unit b) of.header.units ∙ heading.unit;
       };
       count = ap (λ (ds : List (List ℕ)). length ds) of.cell_dates ∙ map_count (λ (c : Cell). c.dates) v.cells ∙ sym (same_count v.cells of.drafts of.drafted) ∙ sym of.linked.count;
       dates = subst (λ (ds : List (List ℕ)). All (IsData 24) ds) (sym of.cell_dates) (All-map (IsData 24) (λ (c : Cell). c.dates) v.cells (λ k q lt. (read k q lt).cell_dates));
