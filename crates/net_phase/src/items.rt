@@ -1,0 +1,82 @@
+//! The items of a cell in order.
+ghost use Rattle.std.specs.Prelude.{◌≡◌, ◌++◌, ◌<◌, length, map, IfOk, OnOk};
+ghost use Rattle.deep_tables.specs.Nets.{plain_item};
+ghost use Rattle.flat_layout.specs.Nets.{Child, Global as GlobalItem, Own, child_items, items_of, own_items, run};
+ghost use Rattle.net_link_laws.specs.Places.{places_of};
+
+use deep_tables::Item;
+use net_walk::Cells;
+use std::alloc::{AllocError, Global};
+
+fn push_own(conductor: u32, rects: u32, out: &mut Vec<Item>) -> Result<(), AllocError>
+    ensures { OnOk result (map plain_item out.new.items
+        ≡ map plain_item out.old.items ++ run (Own conductor) 0 rects) }
+{
+    for rect in 0..rects {
+        out.push(Item::Own { conductor, rect })?;
+    }
+    Ok(())
+}
+
+fn push_nets(place: u64, nets: u32, out: &mut Vec<Item>) -> Result<(), AllocError>
+    ensures { OnOk result (map plain_item out.new.items
+        ≡ map plain_item out.old.items ++ run (Child place) 0 nets) }
+{
+    for net in 0..nets {
+        out.push(Item::Child { place, net })?;
+    }
+    Ok(())
+}
+
+fn push_globals(globals: u32, out: &mut Vec<Item>) -> Result<(), AllocError>
+    ensures { OnOk result (map plain_item out.new.items
+        ≡ map plain_item out.old.items ++ run GlobalItem 0 globals) }
+{
+    for global in 0..globals {
+        out.push(Item::Global { global })?;
+    }
+    Ok(())
+}
+
+fn push_rects<C: Cells>(cells: &C, cell: u32, out: &mut Vec<Item>) -> Result<(), AllocError>
+    requires { length (items_of (C.design cells.now) (C.wiring cells.now) (C.tables cells.now) cell) < 4294967296 }
+    ensures { OnOk result (map plain_item out.new.items ≡ map plain_item out.old.items
+        ++ own_items (C.tables cells.now) cell 0 (C.wiring cells.now).conductors) }
+{
+    for conductor in 0..cells.conductors() {
+        let rects = cells.own(cell, conductor).len() as u32;
+        push_own(conductor, rects, out)?;
+    }
+    Ok(())
+}
+
+fn push_placed<C: Cells>(cells: &C, cell: u32, out: &mut Vec<Item>) -> Result<(), AllocError>
+    ensures { OnOk result (map plain_item out.new.items ≡ map plain_item out.old.items
+        ++ child_items (C.tables cells.now) 0 (places_of (C.design cells.now) cell)) }
+{
+    let elements = cells.places(cell);
+    for place in 0..elements.len() {
+        push_nets(place as u64, cells.count(elements[place].cell), out)?;
+    }
+    Ok(())
+}
+
+/// The items of a cell: for each conductor its rectangles, for each placement the placed cell's
+/// nets, then the globals.
+pub fn list_items<C: Cells>(
+    alloc: Global,
+    cells: &C,
+    cell: u32,
+    globals: u32,
+) -> Result<Vec<Item>, AllocError>
+    requires few { length (items_of (C.design cells.now) (C.wiring cells.now) (C.tables cells.now) cell) < 4294967296 }
+    requires globals { globals ≡ length (C.wiring cells.now).globals }
+    ensures { IfOk result (λ v. map plain_item v.items
+        ≡ items_of (C.design cells.now) (C.wiring cells.now) (C.tables cells.now) cell) }
+{
+    let mut out = Vec::new(alloc);
+    push_rects(cells, cell, &mut out)?;
+    push_placed(cells, cell, &mut out)?;
+    push_globals(globals, &mut out)?;
+    Ok(out)
+}

@@ -1,0 +1,6 @@
+//! The nets of each cell.
+#![tactic(auto)]
+
+mod items;
+
+pub use items::list_items;
