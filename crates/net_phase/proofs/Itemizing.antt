@@ -3,7 +3,7 @@ use Rattle.std.proofs.Common.{◌≡◌, ℕ, zero, suc, ◌+◌, ◌<◌, List,
 use Rattle.std.proofs.Math.Seq.{take-length}
 use Rattle.std.proofs.lemmas.List.{length-take-le, map_push, take_more}
 use Rattle.std.proofs.lemmas.Option.{get_or_from_slice_get, slice_get_within}
-use Rattle.flat_layout.specs.Layers.{Empty, Reading}
+use Rattle.flat_layout.specs.Layers.{Empty, Formula}
 use Rattle.flat_layout.specs.Layout.{Place}
 use Rattle.flat_layout.specs.Nets.{Child, Item, Own, Tables, child_items, own_items, run}
 use Rattle.net_walk.proofs.Placing.{behind_both, nothing_behind}
@@ -20,7 +20,7 @@ run_more f n old mid h =
     let y : n ≡ 0 + n = omega arith in
     ap (λ (l : List Item). l ++ f n ∷ []) h ∙ behind_both old (run f 0 n) (f n ∷ []) ∙ ap (λ (i : ℕ). old ++ (run f 0 n ++ f i ∷ [])) y ∙ ap (λ (l : List Item). old ++ l) (sym (run_suc f 0 n)) ∙ ap (λ (i : ℕ). old ++ run f 0 i) z
 
-own_last : (t : Tables) (cell c : ℕ) (xs : List Reading) (x : Reading) → own_items t cell c (xs ++ x ∷ []) ≡ own_items t cell c xs ++ run (Own (c + length xs)) 0 (length (t.own cell (c + length xs)))
+own_last : (t : Tables) (cell c : ℕ) (xs : List Formula) (x : Formula) → own_items t cell c (xs ++ x ∷ []) ≡ own_items t cell c xs ++ run (Own (c + length xs)) 0 (length (t.own cell (c + length xs)))
 own_last t cell c [] x =
     let z : c ≡ c + 0 = omega arith in
     sym (nothing_behind (run (Own c) 0 (length (t.own cell c)))) ∙ ap (λ (i : ℕ). run (Own i) 0 (length (t.own cell i))) z
@@ -31,17 +31,17 @@ own_last t cell c (y ∷ xs) x =
     ∙ ap (λ (i : ℕ). first ++ (own_items t cell (suc c) xs ++ run (Own i) 0 (length (t.own cell i)))) z
     ∙ sym (behind_both first (own_items t cell (suc c) xs) (run (Own (c + length (y ∷ xs))) 0 (length (t.own cell (c + length (y ∷ xs))))))
 
-pub owns_more : (t : Tables) (cell n : ℕ) (names : List Reading) (old mid new : List Item) → n < length names → mid ≡ old ++ own_items t cell 0 (take n names) → new ≡ mid ++ run (Own n) 0 (length (t.own cell n)) → new ≡ old ++ own_items t cell 0 (take (n + 1) names)
+pub owns_more : (t : Tables) (cell n : ℕ) (names : List Formula) (old mid new : List Item) → n < length names → mid ≡ old ++ own_items t cell 0 (take n names) → new ≡ mid ++ run (Own n) 0 (length (t.own cell n)) → new ≡ old ++ own_items t cell 0 (take (n + 1) names)
 owns_more t cell n names old mid new lt h g =
     let long : 0 + length (take n names) ≡ n = (let e = length-take-le n names (omega (arith, lt)) in omega (arith, e)) in
     g ∙ ap (λ (l : List Item). l ++ run (Own n) 0 (length (t.own cell n))) h
     ∙ behind_both old (own_items t cell 0 (take n names)) (run (Own n) 0 (length (t.own cell n)))
     ∙ ap (λ (i : ℕ). old ++ (own_items t cell 0 (take n names) ++ run (Own i) 0 (length (t.own cell i)))) (sym long)
     ∙ ap (λ (l : List Item). old ++ l) (sym (own_last t cell 0 (take n names) (get_or names n Empty)))
-    ∙ ap (λ (l : List Reading). old ++ own_items t cell 0 l) (sym (take_more names n Empty lt))
+    ∙ ap (λ (l : List Formula). old ++ own_items t cell 0 l) (sym (take_more names n Empty lt))
 
-pub owns_all : (t : Tables) (cell n : ℕ) (names : List Reading) (old new : List Item) → n ≡ length names → new ≡ old ++ own_items t cell 0 (take n names) → new ≡ old ++ own_items t cell 0 names
-owns_all t cell n names old new e h = h ∙ ap (λ (l : List Reading). old ++ own_items t cell 0 l) (ap (λ i. take i names) e ∙ take-length names)
+pub owns_all : (t : Tables) (cell n : ℕ) (names : List Formula) (old new : List Item) → n ≡ length names → new ≡ old ++ own_items t cell 0 (take n names) → new ≡ old ++ own_items t cell 0 names
+owns_all t cell n names old new e h = h ∙ ap (λ (l : List Formula). old ++ own_items t cell 0 l) (ap (λ i. take i names) e ∙ take-length names)
 
 child_last : (t : Tables) (k : ℕ) (ps : List Place) (p : Place) → child_items t k (ps ++ p ∷ []) ≡ child_items t k ps ++ run (Child (k + length ps)) 0 (t.nets p.cell).count
 child_last t k [] p =

@@ -1,7 +1,8 @@
 //! The items of a cell in order.
 ghost use Rattle.std.specs.Prelude.{◌≡◌, ◌++◌, ◌<◌, length, map, IfOk, OnOk};
 ghost use Rattle.deep_tables.specs.Nets.{plain_item};
-ghost use Rattle.flat_layout.specs.Nets.{Child, Global as GlobalItem, Own, child_items, items_of, own_items, run};
+ghost use Rattle.flat_layout.specs.Nets.{Child, Global as GlobalItem, Own, child_items, items_of};
+ghost use Rattle.flat_layout.specs.Nets.{own_items, run};
 ghost use Rattle.net_link_laws.specs.Places.{places_of};
 
 use deep_tables::Item;
@@ -39,7 +40,8 @@ fn push_globals(globals: u32, out: &mut Vec<Item>) -> Result<(), AllocError>
 }
 
 fn push_rects<C: Cells>(cells: &C, cell: u32, out: &mut Vec<Item>) -> Result<(), AllocError>
-    requires { length (items_of (C.design cells.now) (C.wiring cells.now) (C.tables cells.now) cell) < 4294967296 }
+    requires { length (items_of (C.design cells.now) (C.wiring cells.now) (C.tables cells.now) cell)
+        < 4294967296 }
     ensures { OnOk result (map plain_item out.new.items ≡ map plain_item out.old.items
         ++ own_items (C.tables cells.now) cell 0 (C.wiring cells.now).conductors) }
 {
@@ -69,7 +71,8 @@ pub fn list_items<C: Cells>(
     cell: u32,
     globals: u32,
 ) -> Result<Vec<Item>, AllocError>
-    requires few { length (items_of (C.design cells.now) (C.wiring cells.now) (C.tables cells.now) cell) < 4294967296 }
+    requires few { length (items_of (C.design cells.now) (C.wiring cells.now) (C.tables cells.now)
+        cell) < 4294967296 }
     requires globals { globals ≡ length (C.wiring cells.now).globals }
     ensures { IfOk result (λ v. map plain_item v.items
         ≡ items_of (C.design cells.now) (C.wiring cells.now) (C.tables cells.now) cell) }

@@ -37,7 +37,10 @@ pub fn by_rounds(
     children: &ChildPins,
 ) -> Result<Rounds, AllocError>
     requires { IsGraph graph.now }
-    ensures { IfOk result (λ rounds. (right : Circuit) → IsGraphOf (pair_of left.now right children.now) graph.now → IsWeb (web_of (pair_of left.now right children.now)) → IsRoundsAnswer (pair_of left.now right children.now) graph.now rounds) }
+    ensures { IfOk result (λ rounds. (right : Circuit)
+        → IsGraphOf (pair_of left.now right children.now) graph.now
+        → IsWeb (web_of (pair_of left.now right children.now))
+        → IsRoundsAnswer (pair_of left.now right children.now) graph.now rounds) }
 {
     let (classes, verdict) = refine(alloc, graph, &[])?;
     if is_first_round(verdict) {
@@ -59,7 +62,8 @@ fn by_verdict(
     requires graph { IsGraph graph.now }
     requires partition { IsPartition classes (left_of graph.now) (nodes_of graph.now) }
     requires verdict { IsVerdict (guessed_web graph.now []) classes verdict }
-    ensures { IfOk result (λ rounds. (p : Pair) → IsGraphOf p graph.now → IsWeb (web_of p) → AreMatched p → IsRoundsAnswer p graph.now rounds) }
+    ensures { IfOk result (λ rounds. (p : Pair) → IsGraphOf p graph.now → IsWeb (web_of p)
+        → AreMatched p → IsRoundsAnswer p graph.now rounds) }
 {
     match verdict {
         Verdict::Refuted(round) => Ok(differ_by(graph, &classes, round)),
@@ -72,7 +76,8 @@ fn differ_by(graph: &Graph, classes: &Classes, round: u32) -> Rounds
     requires graph { IsGraph graph.now }
     requires partition { IsPartition classes.now (left_of graph.now) (nodes_of graph.now) }
     requires refuted { AreRefuted (guessed_web graph.now []) round classes.now }
-    ensures { (p : Pair) → IsGraphOf p graph.now → IsWeb (web_of p) → (round ≡ 0) ⊎ AreMatched p → IsRoundsAnswer p graph.now result }
+    ensures { (p : Pair) → IsGraphOf p graph.now → IsWeb (web_of p) → (round ≡ 0) ⊎ AreMatched p
+        → IsRoundsAnswer p graph.now result }
 {
     Rounds::Decided(Answer::Differs(evidence_of(graph, classes, round)))
 }
@@ -82,7 +87,8 @@ fn by_classes(alloc: Global, graph: &Graph, classes: Classes) -> Result<Rounds, 
     requires graph { IsGraph graph.now }
     requires partition { IsPartition classes (left_of graph.now) (nodes_of graph.now) }
     requires settled { AreSettled (guessed_web graph.now []) classes }
-    ensures { IfOk result (λ rounds. (p : Pair) → IsGraphOf p graph.now → IsWeb (web_of p) → AreMatched p → IsRoundsAnswer p graph.now rounds) }
+    ensures { IfOk result (λ rounds. (p : Pair) → IsGraphOf p graph.now → IsWeb (web_of p)
+        → AreMatched p → IsRoundsAnswer p graph.now rounds) }
 {
     if let Some(node) = choose(graph, &classes) {
         return Ok(Rounds::Tied(classes, node));
