@@ -66,13 +66,13 @@ pub shapes_text-requires-clause-name : goal.shapes_text-requires-clause-name
 shapes_text-requires-clause-name c =
     let v = library_seen c.args.library.now in
     let read = only_one (λ (x : Cell). IsRead v x) v.cells (cell_seen c.in-Some.cell.now) c.in-Some.ensures (c.library_read.ensures c.requires.0 v c.requires.1) in
-    read.name.short
+    read.heading.name.short
 
 pub shapes_text-requires-clause-cell_name : goal.shapes_text-requires-clause-cell_name
 shapes_text-requires-clause-cell_name c =
     let v = library_seen c.args.library.now in
     let read = only_one (λ (x : Cell). IsRead v x) v.cells (cell_seen c.in-Some.cell.now) c.in-Some.ensures (c.library_read.ensures c.requires.0 v c.requires.1) in
-    read.cell_name.short
+    read.cell_name.text.short
 
 pub shapes_text-requires-clause-long : goal.shapes_text-requires-clause-long
 shapes_text-requires-clause-long c =
