@@ -1,9 +1,8 @@
 -- Collecting what visits bring.
-use Rattle.std.proofs.Common.{◌≡◌, ◌⊎◌, ◌↔◌, inl, inr, ℕ, ℤ, zero, suc, pos, negsuc, ◌*ℤ◌, ◌+ℤ◌, ◌<ℤ◌, ◌≤ℤ◌, ◌*◌, ◌<◌, ◌≤◌, ◌+◌, ◌^◌, List, [], ◌∷◌, ◌++◌, Option, Some, None, Bool, true, false, ◌&&◌, ◌||◌, slice_get, slice_index_or, length, take, not, refl, sym, ◌∙◌, ap, subst, arith}
+use Rattle.std.proofs.Common.{◌≡◌, inl, inr, ℕ, ℤ, suc, pos, negsuc, ◌*ℤ◌, ◌+ℤ◌, ◌*◌, ◌<◌, ◌+◌, ◌^◌, List, [], ◌∷◌, ◌++◌, Option, Some, None, Bool, true, false, ◌&&◌, ◌||◌, slice_get, slice_index_or, length, take, not, refl, sym, ◌∙◌, ap, subst, arith}
 use Rattle.std.specs.List.{All}
 use Rattle.std.proofs.lemmas.Int.{ints}
 use Rattle.std.proofs.Math.IntN.{pos-*ℤ-pos, pos-*ℤ-negsuc, neg_ℤ}
-use Rattle.std.proofs.Math.Decide.{ℕ_discrete}
 use Rattle.std.proofs.lemmas.List.{take_more}
 use Rattle.std.proofs.lemmas.Option.{slice_get-get_or}
 use Rattle.std.specs.Option.{option_eq}
@@ -11,19 +10,19 @@ use Rattle.std.proofs.Math.Dec.{eqb}
 use Rattle.std.proofs.lemmas.Bool.Decides.{eqb_tells}
 use Rattle.geo_base.specs.Near.{IsWithin}
 use Rattle.geo_base.specs.Motions.{moved_square}
-use Rattle.geo_base.specs.Rects.{has, IsRect}
+use Rattle.geo_base.specs.Rects.{has}
 use Rattle.geo_base.specs.declared.shapes.Rect.{Rect}
 use Rattle.geo_base.specs.declared.shapes.Square.{Square}
 use Rattle.rect_sets.specs.Rects.{covers}
 use Rattle.flat_layout.specs.Layout.{Some_of}
 use Rattle.cell_graph.specs.declared.cells.Place.{Place}
-use Rattle.cell_graph.specs.Linked.{Linked, IsSound, IsStep, IsHull, IsFrame, IsRectWithin, HullIsSound, HullHas, hull_of, cell_at, places_at, motion_at}
+use Rattle.cell_graph.specs.Linked.{Linked, IsSound, IsStep, IsHull, IsFrame, HullIsSound, HullHas, hull_of, cell_at, places_at, motion_at}
 use Rattle.cell_graph.proofs.Bridge.{reference_at, hull_sound}
 use Rattle.cell_context.specs.declared.arrays.Visit.{Visit}
 use Rattle.cell_context.specs.Arrays.{IsNearArray, IsCloseArray, shift_x, shift_y}
-use Rattle.cell_context.specs.Visits.{IsElementVisit, IsMet, IsVisited}
-use Rattle.cell_context.specs.Over.{IsVisit, AreVisited, AreVisitedOf}
-use Rattle.cell_context.proofs.Visiting.{up_to, wider, wider_rect}
+use Rattle.cell_context.specs.Visits.{IsElementVisit, IsVisited}
+use Rattle.cell_context.specs.Over.{IsVisit, AreVisitedOf}
+use Rattle.cell_context.proofs.Visiting.{wider, wider_rect}
 
 none_times : (z : ℤ) → pos 0 *ℤ z ≡ pos 0
 none_times (pos m) = pos-*ℤ-pos 0 m ∙ ap pos (let e : 0 * m ≡ 0 = omega arith in e)

@@ -1,5 +1,5 @@
 -- What is gathered through visits.
-use Rattle.std.proofs.Common.{◌≡◌, ◌⊎◌, ◌↔◌, inl, inr, ℕ, zero, suc, pos, ◌<◌, ◌≤◌, ◌+◌, ◌^◌, List, [], ◌∷◌, ◌++◌, Option, Some, None, Bool, true, false, ◌&&◌, ◌||◌, slice_get, slice_index_or, length, map, refl, sym, ◌∙◌, ap, subst, arith}
+use Rattle.std.proofs.Common.{◌≡◌, ◌↔◌, inl, inr, ℕ, zero, suc, pos, ◌<◌, ◌^◌, List, [], ◌∷◌, Option, Some, None, Bool, true, false, ◌&&◌, ◌||◌, slice_index_or, length, map, refl, sym, ◌∙◌, ap, subst, arith}
 use Rattle.std.specs.List.{All}
 use Rattle.geo_base.specs.Near.{IsNearMotion, IsNearRect}
 use Rattle.geo_base.specs.Motions.{moved_square}
@@ -14,13 +14,12 @@ use Rattle.rect_sets.specs.Rects.{covers}
 use Rattle.flat_layout.specs.Arrays.{place_at}
 use Rattle.flat_layout.specs.Layout as flat
 use Rattle.flat_layout.specs.Layout.{Some_of, IsOwn, InFlatInput, Takes}
-use Rattle.cell_graph.specs.declared.cells.Place.{Place}
-use Rattle.cell_graph.specs.Linked.{Linked, IsSound, IsStep, IsFrame, IsRectWithin, HullHas, hull_of, cell_at, places_at, own_of, motion_at, height_at, plain, reference}
+use Rattle.cell_graph.specs.Linked.{Linked, IsSound, IsRectWithin, cell_at, places_at, own_of, height_at, plain, reference}
 use Rattle.cell_graph.proofs.Bridge.{own, hulls, step_of, placed_of, lower, or_split, or_left, or_right}
 use Rattle.cell_graph.proofs.Elements.{number_of}
 use Rattle.cell_context.specs.declared.arrays.Visit.{Visit}
 use Rattle.cell_context.specs.Visits.{IsVisited}
-use Rattle.cell_context.specs.Over.{IsThrough, IsOver, OverLaw, IsVisit, AreVisited, IsPiece}
+use Rattle.cell_context.specs.Over.{IsOver, OverLaw, IsVisit, AreVisited, IsPiece}
 use Rattle.cell_context.proofs.Visiting.{near_motion, near_rect, wider_rect, within_inside, and_both}
 use Rattle.cell_context.proofs.Collecting.{near_array, and_right}
 

@@ -4,3 +4,4 @@ pub mod Reaching
 pub mod Visiting
 pub mod Collecting
 pub mod Gathering
+pub mod Near

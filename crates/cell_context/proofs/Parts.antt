@@ -1,11 +1,10 @@
 -- Common parts of rectangles.
-use Rattle.std.proofs.Common.{◌≡◌, ℕ, ℤ, pos, ◌+ℤ◌, ◌-ℤ◌, ◌<ℤ◌, ◌≤ℤ◌, Bool, true, false, ◌&&◌, refl, sym, ◌∙◌, ap, arith, int_le, int_lt}
+use Rattle.std.proofs.Common.{◌≡◌, ℤ, ◌<ℤ◌, ◌≤ℤ◌, Bool, true, false, ◌&&◌, refl, sym, ◌∙◌, ap, arith, int_lt}
 use Rattle.std.specs.Int.{int_min, int_max}
 use Rattle.std.proofs.lemmas.Int.{ints}
-use Rattle.geo_base.specs.Rects.{is_between, has, IsRect}
+use Rattle.geo_base.specs.Rects.{is_between, has}
 use Rattle.geo_base.specs.declared.shapes.Rect.{Rect}
 use Rattle.geo_base.specs.declared.shapes.Square.{Square}
-use Rattle.cell_graph.specs.Linked.{IsInside}
 use Rattle.cell_context.specs.Arrays.{IsPart}
 
 between_meet : (a b c d x p q : ℤ) → p ≡ int_max a c → q ≡ int_min b d → is_between p x q ≡ (is_between a x b && is_between c x d)

@@ -1,5 +1,5 @@
 -- Multiples of a step.
-use Rattle.std.proofs.Common.{◌≡◌, ℕ, ℤ, zero, suc, pos, negsuc, ◌*◌, ◌<◌, ◌≤◌, ◌+◌, ◌*ℤ◌, ◌-ℤ◌, ◌+ℤ◌, ◌^◌, ◌<ℤ◌, ◌≤ℤ◌, ◌⊎◌, inl, inr, ◌-◌, refl, sym, ◌∙◌, ap, subst, arith}
+use Rattle.std.proofs.Common.{◌≡◌, ℕ, ℤ, zero, suc, pos, negsuc, ◌*◌, ◌<◌, ◌≤◌, ◌*ℤ◌, ◌-ℤ◌, ◌+ℤ◌, ◌^◌, ◌<ℤ◌, ◌≤ℤ◌, ◌⊎◌, inl, inr, ◌-◌, refl, sym, ◌∙◌, ap, arith}
 use Rattle.std.proofs.lemmas.Int.{ints}
 use Rattle.std.proofs.Math.IntN.{pos-*ℤ-pos, pos-*ℤ-negsuc, neg_ℤ, nat_abs}
 use Rattle.std.proofs.Math.Nat.{mul-le-mul_right}

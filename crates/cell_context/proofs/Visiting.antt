@@ -1,11 +1,10 @@
 -- Visits of elements.
-use Rattle.std.proofs.Common.{◌≡◌, ◌⊎◌, inl, inr, ℕ, ℤ, zero, suc, pos, ◌+ℤ◌, ◌-ℤ◌, ◌*ℤ◌, ◌<ℤ◌, ◌≤ℤ◌, ◌<◌, ◌≤◌, ◌+◌, ◌^◌, List, [], ◌∷◌, ◌++◌, Bool, true, false, ◌&&◌, refl, sym, ◌∙◌, ap, subst, arith}
-use Rattle.std.specs.List.{All}
+use Rattle.std.proofs.Common.{◌≡◌, inl, inr, ℕ, ℤ, pos, ◌+ℤ◌, ◌-ℤ◌, ◌*ℤ◌, ◌<ℤ◌, ◌≤ℤ◌, ◌<◌, ◌≤◌, ◌+◌, ◌^◌, List, [], ◌∷◌, ◌++◌, Bool, true, false, ◌&&◌, refl, sym, ◌∙◌, ap, subst, arith}
 use Rattle.std.proofs.lemmas.Int.{ints}
 use Rattle.std.proofs.Math.Decide.{ℕ_discrete}
 use Rattle.geo_base.specs.Near.{IsWithin, IsNear, IsNearMotion, IsNearRect}
 use Rattle.geo_base.specs.Motions.{moved_square}
-use Rattle.geo_base.specs.Rects.{has, IsRect, moved_rect}
+use Rattle.geo_base.specs.Rects.{has, IsRect}
 use Rattle.geo_base.specs.Laws.{IsUndone}
 use Rattle.geo_base.specs.declared.motion.Motion.{Motion}
 use Rattle.geo_base.specs.declared.shapes.Rect.{Rect}
@@ -15,8 +14,7 @@ use Rattle.cell_graph.specs.declared.cells.Place.{Place}
 use Rattle.cell_graph.specs.Linked.{IsFrame, IsInside, IsRectWithin, motion_at}
 use Rattle.cell_graph.proofs.Bridge.{has_in, in_has}
 use Rattle.cell_context.specs.Arrays.{IsNearArray, IsPart, shift_x, shift_y}
-use Rattle.cell_context.specs.Visits.{IsElementVisit, IsMet, IsVisited, IsFound}
-use Rattle.cell_context.specs.declared.arrays.Visit.{Visit}
+use Rattle.cell_context.specs.Visits.{IsMet}
 
 near_sum : (a b c z : ℤ) → IsWithin (2 ^ 33) a → IsWithin (2 ^ 32) b → IsWithin (2 ^ 32) c → z ≡ (a +ℤ b) +ℤ c → IsNear z
 near_sum a b c z h g f e = let h1 = h.low in let h2 = h.high in let g1 = g.low in let g2 = g.high in let f1 = f.low in let f2 = f.high in record { low = omega (arith, ints); high = omega (arith, ints) }

@@ -57,6 +57,14 @@ AreVisitedOf d cell i p w visits = (row column : ℕ) (q : Square) → IsStep d 
     → has w (moved_square (motion_at p row column) q) ≡ true
     → Some_of (IsVisited p row column q) visits
 
+-- the same of the reference of a number, unless it is skipped
+abbrev pub AreVisitedAt : Linked → ℕ → Option ℕ → Rect → ℕ → List Visit → Type 0
+AreVisitedAt d cell skip w i visits =
+    (row column : ℕ) (p : Place) (q : Square) → IsStep d cell i row column p → (skip ≡ Some i → ⊥)
+    → HullHas (hull_of (cell_at d p.cell)) q
+    → has w (moved_square (motion_at p row column) q) ≡ true
+    → Some_of (IsVisited p row column q) visits
+
 -- and of all
 abbrev pub AreVisited : Linked → ℕ → Option ℕ → Rect → List Visit → Type 0
 AreVisited d cell skip w visits =

@@ -9,9 +9,10 @@ ghost use Rattle.geo_base.specs.declared.shapes.Square.{Square};
 ghost use Rattle.rect_sets.specs.Rects.{covers};
 ghost use Rattle.flat_layout.specs.Layout.{InFlatInput, Some_of};
 ghost use Rattle.cell_graph.specs.Linked.{IsRectWithin, cell_at, places_at, plain};
-ghost use Rattle.cell_context.specs.Over.{IsOver, IsVisit, AreVisited, AreVisitedOf, IsPiece};
-ghost use Rattle.cell_context.specs.Over.{OverLaw};
+ghost use Rattle.cell_context.specs.Over.{IsOver, IsVisit, AreVisited, AreVisitedAt, AreVisitedOf};
+ghost use Rattle.cell_context.specs.Over.{IsPiece, OverLaw};
 ghost use Rattle.cell_context.specs.Visits.{IsVisited};
+ghost use Rattle.tile_index.specs.Windows.{ArePositions};
 ghost use Rattle.cell_graph.specs.declared.cells.Place.{Place};
 
 use crate::arrays::{Visit, meet, place_visits};
@@ -34,16 +35,22 @@ fn push_piece(out: &mut Vec<Rect>, rect: &Rect, window: &Rect) -> Result<(), All
     Ok(())
 }
 
-// Adds the parts of rectangles that lie in the window.
-fn push_pieces(out: &mut Vec<Rect>, rects: &[Rect], window: &Rect) -> Result<(), AllocError>
+// Adds the parts that lie in the window of those rectangles that share a square with it.
+fn push_pieces(
+    out: &mut Vec<Rect>,
+    rects: &[Rect],
+    near: &[u32],
+    window: &Rect,
+) -> Result<(), AllocError>
+    requires near { ArePositions rects.now window.now near.now }
     requires pieces { All (IsPiece window.now) out.old.items }
     ensures pieces { OnOk result (All (IsPiece window.now) out.new.items) }
     ensures covers { OnOk result ((q : Square)
         → covers out.new.items q ≡ (covers out.old.items q
         || (covers rects.now q && has window.now q))) }
 {
-    for rect in rects {
-        push_piece(out, rect, window)?;
+    for i in near {
+        push_piece(out, &rects[*i as usize], window)?;
     }
     Ok(())
 }
@@ -101,8 +108,35 @@ fn push_visits(
     Ok(())
 }
 
+// Adds the visits of the reference of a number, unless it is to be skipped.
+fn push_kept(
+    alloc: Global,
+    out: &mut Vec<Visit>,
+    design: &Design,
+    cell: u32,
+    index: usize,
+    window: &Rect,
+    skip: Option<usize>,
+) -> Result<(), AllocError>
+    requires cell { cell < length design.now.cells }
+    requires there { index < length (places_at (cell_at design.now cell)) }
+    requires window { IsRectWithin (2 ^ 39) window.now }
+    requires each { All (IsVisit design.now cell skip window.now) out.old.items }
+    ensures each { OnOk result (All (IsVisit design.now cell skip window.now) out.new.items) }
+    ensures found { OnOk result (AreVisitedAt design.now cell skip window.now index out.new.items) }
+    ensures stay { OnOk result ((row column : ℕ) (p : Place) (q : Square)
+        → Some_of (IsVisited p row column q) out.old.items
+        → Some_of (IsVisited p row column q) out.new.items) }
+{
+    if skip == Some(index) {
+        return Ok(());
+    }
+    let place = &design.places(cell)[index];
+    push_visits(alloc, out, design, cell, index, place, window, skip)
+}
+
 /// The elements of a cell's references whose images reach into a window, but for one reference to
-/// be skipped.
+/// be skipped. The design's index finds the references: the others cost nothing.
 pub fn visits(
     alloc: Global,
     design: &Design,
@@ -115,18 +149,19 @@ pub fn visits(
     ensures each { IfOk result (λ v. All (IsVisit design.now cell skip window.now) v.items) }
     ensures found { IfOk result (λ v. AreVisited design.now cell skip window.now v.items) }
 {
+    design.sound();
     let mut out = Vec::new(alloc);
-    for (i, place) in design.places(cell).iter().enumerate() {
-        if skip != Some(i) {
-            push_visits(alloc, &mut out, design, cell, i, place, window, skip)?;
-        }
+    let near = design.places_in(alloc, cell, *window)?;
+    for i in &near {
+        push_kept(alloc, &mut out, design, cell, *i as usize, window, skip)?;
     }
     Ok(out)
 }
 
 /// Rectangles that cover exactly what lies over the squares of a window in a cell, other than
 /// through a reference to be skipped: its own shapes on the layer and the flat squares of the cells
-/// that its other references place.
+/// that its other references place. Cost: what reaches into the window, found by the design's
+/// indexes.
 pub fn gather(
     alloc: Global,
     design: &Design,
@@ -143,7 +178,8 @@ pub fn gather(
 {
     design.sound();
     let mut out = Vec::new(alloc);
-    push_pieces(&mut out, design.own(cell, key).rects(), window)?;
+    let near = design.own_in(alloc, cell, key, *window)?;
+    push_pieces(&mut out, design.own(cell, key).rects(), &near, window)?;
     let list = visits(alloc, design, cell, window, skip)?;
     for visit in &list {
         let below = gather(alloc, design, visit.cell, key, &visit.window, None)?;

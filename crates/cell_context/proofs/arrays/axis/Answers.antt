@@ -1,5 +1,5 @@
-use Rattle.std.proofs.Common.{arith, rules, FitsSigned, w64, sym, ◌∙◌}
-use Rattle.std.proofs.lemmas.Int.{ints, to_z-of_z}
+use Rattle.std.proofs.Common.{rules, FitsSigned, w64}
+use Rattle.std.proofs.lemmas.Int.{to_z-of_z}
 use Rattle.cell_context.proofs.Times.{low_less, high_less}
 use Rattle.cell_context.proofs.arrays.axis.Goals as goal
 

@@ -1,5 +1,5 @@
-use Rattle.std.proofs.Common.{arith, rules, FitsSigned, w64, ◌∙◌, sym}
-use Rattle.std.proofs.lemmas.Int.{ints, to_z-of_z}
+use Rattle.std.proofs.Common.{rules, FitsSigned, w64, ◌∙◌}
+use Rattle.std.proofs.lemmas.Int.{to_z-of_z}
 use Rattle.cell_context.proofs.Times.{between_ends}
 use Rattle.cell_context.proofs.arrays.extent_of.Goals as goal
 

@@ -1,6 +1,5 @@
-use Rattle.std.proofs.Common.{arith, ◌≡◌, rules, FitsSigned, w64, sym, ◌∙◌}
-use Rattle.std.specs.Int.{int_min, int_max}
-use Rattle.std.proofs.lemmas.Int.{ints, clamps, to_z-of_z}
+use Rattle.std.proofs.Common.{arith, rules, FitsSigned, w64, ◌∙◌}
+use Rattle.std.proofs.lemmas.Int.{ints, to_z-of_z}
 use Rattle.geo_base.specs.declared.shapes.Rect.{Rect}
 use Rattle.cell_context.proofs.Parts.{is_part, no_part_x, no_part_y, le_from}
 use Rattle.cell_context.proofs.arrays.meet.Goals.{else-x1-x2-via-then-x1-x2+else-y1-y2, else-x1-x2-via-else-x1-x2}

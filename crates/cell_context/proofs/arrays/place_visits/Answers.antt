@@ -1,6 +1,5 @@
-use Rattle.std.proofs.Common.{◌≡◌, ℕ, ◌<◌, ◌≤◌, ◌+◌, sym, subst, ◌∙◌, ap, arith, inl, inr}
-use Rattle.geo_base.specs.declared.shapes.Square.{Square}
-use Rattle.cell_context.specs.Visits.{IsElementVisit, IsMet, IsVisited, IsFound}
+use Rattle.std.proofs.Common.{◌<◌, arith}
+use Rattle.cell_context.specs.Visits.{IsMet, IsFound}
 use Rattle.cell_context.proofs.Visiting.{up_to}
 use Rattle.cell_context.proofs.arrays.place_visits.Goals as goal
 

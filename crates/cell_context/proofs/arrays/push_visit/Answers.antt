@@ -1,11 +1,6 @@
-use Rattle.std.proofs.Common.{◌≡◌, ◌&&◌, List, [], ◌∷◌, ◌++◌, refl, sym, subst, ◌∙◌, ap, arith, ◌^◌}
-use Rattle.std.specs.List.{All}
+use Rattle.std.proofs.Common.{refl, arith, ◌^◌}
 use Rattle.std.proofs.lemmas.List.Elements.{All-push}
-use Rattle.geo_base.specs.Rects.{has}
-use Rattle.geo_base.specs.Motions.{moved_square}
-use Rattle.geo_base.specs.declared.shapes.Square.{Square}
-use Rattle.cell_context.specs.Visits.{IsElementVisit, IsVisited, IsFound}
-use Rattle.cell_context.specs.declared.arrays.Visit.{Visit}
+use Rattle.cell_context.specs.Visits.{IsElementVisit, IsVisited}
 use Rattle.cell_context.proofs.Visiting.{near_rect, within_inside, moved_back, part_of_hull, found_met, none_met, some_last, some_more, wider_rect}
 use Rattle.cell_context.proofs.arrays.push_visit.Goals as goal
 

@@ -1,4 +1,4 @@
-use Rattle.std.proofs.Common.{arith, rules, FitsSigned, w64, ◌≡◌, ◌^◌, sym, ◌∙◌, subst}
+use Rattle.std.proofs.Common.{arith, rules, FitsSigned, w64, ◌∙◌}
 use Rattle.std.proofs.lemmas.Int.{ints, to_z-of_z}
 use Rattle.cell_context.proofs.Reaching.{is_reach}
 use Rattle.cell_context.proofs.arrays.reach_of.Goals as goal

@@ -1,5 +1,5 @@
-use Rattle.std.proofs.Common.{arith, rules, FitsSigned, w64, pos, ◌*ℤ◌, sym, ◌∙◌}
-use Rattle.std.proofs.lemmas.Int.{ints, to_z-of_z}
+use Rattle.std.proofs.Common.{rules, FitsSigned, w64, pos, ◌*ℤ◌}
+use Rattle.std.proofs.lemmas.Int.{to_z-of_z}
 use Rattle.cell_context.proofs.arrays.rows_meeting.Goals as goal
 
 pub returns-clause-all : goal.returns-clause-all

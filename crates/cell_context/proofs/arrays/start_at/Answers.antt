@@ -1,5 +1,5 @@
-use Rattle.std.proofs.Common.{arith, rules, FitsSigned, w64, sym, subst, ◌^◌}
-use Rattle.std.proofs.lemmas.Int.{ints, to_z-of_z}
+use Rattle.std.proofs.Common.{rules, FitsSigned, w64, sym, subst, ◌^◌}
+use Rattle.std.proofs.lemmas.Int.{to_z-of_z}
 use Rattle.geo_base.specs.Near.{IsWithin}
 use Rattle.cell_context.proofs.arrays.start_at.Goals as goal
 

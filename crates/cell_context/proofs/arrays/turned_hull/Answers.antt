@@ -1,4 +1,4 @@
-use Rattle.std.proofs.Common.{◌≡◌, ◌^◌, sym, subst}
+use Rattle.std.proofs.Common.{◌^◌, sym, subst}
 use Rattle.cell_graph.specs.Linked.{IsRectWithin}
 use Rattle.cell_context.proofs.Reaching.{turned_within}
 use Rattle.cell_context.proofs.arrays.turned_hull.Goals as goal

@@ -1,12 +1,11 @@
-use Rattle.std.proofs.Common.{◌≡◌, ◌<◌, ℕ, List, None, true, arith, refl, sym, subst, ◌∙◌, slice_index_or}
+use Rattle.std.proofs.Common.{List, arith, sym, subst, ◌∙◌, slice_index_or}
 use Rattle.std.specs.List.{All}
 use Rattle.geo_base.specs.Near.{IsNearRect}
-use Rattle.geo_base.specs.Rects.{has}
 use Rattle.geo_base.specs.declared.shapes.Rect.{Rect}
 use Rattle.cell_context.specs.declared.arrays.Visit.{Visit}
 use Rattle.cell_context.specs.Over.{IsVisit, AreVisited}
 use Rattle.cell_context.proofs.Visiting.{up_to}
-use Rattle.cell_context.proofs.Gathering.{no_visit, visit_lower, visit_motion, visit_window, pieces_rects, pieces_near, right_more, stays_there, brings_here, all_there, start_right, start_own, Brings, Adds}
+use Rattle.cell_context.proofs.Gathering.{no_visit, visit_lower, visit_motion, visit_window, pieces_near, right_more, stays_there, brings_here, all_there, start_right, start_own, Brings, Adds}
 use Rattle.cell_context.proofs.flats.+gather.Goals as goal
 
 pub loop-visit-init : goal.loop-visit-init
@@ -36,7 +35,7 @@ loop-visit-preserved t c =
     let each = subst (All (IsVisit c.args.design.now c.args.cell c.args.skip c.args.window.now)) (sym c.deref-visit-items.ensures.value) c.in_ok-list.ensures.each in
     let h = each c.loop-visit.visit-index no_visit c.loop-visit-test.true in
     let v = slice_index_or c.deref-visit-items.result.now c.loop-visit.visit-index no_visit in
-    let adds = subst (λ (l : List Rect). Adds c.loop-visit.out.items c.push_images.new.out.items l v.motion c.args.window.now) c.deref.ensures.value c.in_ok-push_images.ensures.covers in
+    let adds = subst (λ (l : List Rect). Adds c.loop-visit.out.items c.push_images.new.out.items l v.motion c.args.window.now) c.deref-in-loop-visit.ensures.value c.in_ok-push_images.ensures.covers in
     record {
       pieces = c.in_ok-push_images.ensures.pieces;
       right = right_more c.args.design.now c.args.cell c.args.skip c.args.key c.args.window.now c.loop-visit.out.items c.push_images.new.out.items c.in_ok-below.below.items v c.sound.ensures h c.loop-visit.invariant.right c.in_ok-below.ensures.exact adds;
@@ -59,5 +58,5 @@ pub push_images-requires-clause-near_rects : goal.push_images-requires-clause-ne
 push_images-requires-clause-near_rects t c =
     let each = subst (All (IsVisit c.args.design.now c.args.cell c.args.skip c.args.window.now)) (sym c.deref-visit-items.ensures.value) c.in_ok-list.ensures.each in
     let v = each c.loop-visit.visit-index no_visit c.loop-visit-test.true in
-    subst (λ (l : List Rect). All IsNearRect l) (sym c.deref.ensures.value)
+    subst (λ (l : List Rect). All IsNearRect l) (sym c.deref-in-loop-visit.ensures.value)
     (pieces_near (slice_index_or c.deref-visit-items.result.now c.loop-visit.visit-index no_visit).window c.in_ok-below.below.items (visit_window c.args.design.now c.args.cell c.args.skip c.args.window.now _ v) c.in_ok-below.ensures.pieces)

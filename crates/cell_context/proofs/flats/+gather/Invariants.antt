@@ -1,11 +1,9 @@
-use Rattle.std.proofs.Common.{◌≡◌, ℕ, ◌<◌, true, slice_index_or, pos}
+use Rattle.std.proofs.Common.{◌≡◌, ℕ, ◌<◌, true, slice_index_or}
 use Rattle.std.specs.List.{All}
 use Rattle.geo_base.specs.Rects.{has}
-use Rattle.geo_base.specs.declared.motion.Turn.TheVariants.{R0}
 use Rattle.geo_base.specs.declared.shapes.Square.{Square}
 use Rattle.rect_sets.specs.Rects.{covers}
 use Rattle.cell_graph.specs.Linked.{own_of, cell_at, height_at}
-use Rattle.cell_context.specs.declared.arrays.Visit.{Visit}
 use Rattle.cell_context.specs.Over.{IsPiece}
 use Rattle.cell_context.proofs.Gathering.{AreRight, Brings, no_visit}
 use Rattle.cell_context.proofs.flats.+gather.Given as goal

@@ -1,5 +1,5 @@
-use Rattle.std.proofs.Common.{◌≡◌, sym, subst, ◌∙◌, true}
-use Rattle.cell_context.proofs.Gathering.{over_flat, pieces_rects}
+use Rattle.std.proofs.Common.{sym, ◌∙◌}
+use Rattle.cell_context.proofs.Gathering.{over_flat}
 use Rattle.cell_context.proofs.flats.collect.Goals as goal
 
 pub returns : goal.returns

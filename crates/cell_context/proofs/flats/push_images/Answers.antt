@@ -1,4 +1,3 @@
-use Rattle.std.proofs.Common.{refl}
 use Rattle.geo_base.specs.Rects.{has}
 use Rattle.geo_base.specs.Motions.{moved_square}
 use Rattle.rect_sets.specs.Rects.{covers}

@@ -1,10 +1,8 @@
-use Rattle.std.proofs.Common.{◌≡◌, sym, subst, ◌∙◌, ap, ℕ, Some}
-use Rattle.std.specs.List.{All}
 use Rattle.std.proofs.lemmas.List.Elements.{All-append}
 use Rattle.cell_graph.proofs.Bridge.{lower, reference_at}
 use Rattle.cell_context.specs.Visits.{IsVisited}
 use Rattle.cell_context.specs.Over.{IsVisit}
-use Rattle.cell_context.proofs.Collecting.{near_array, is_hull, visits_of, hull_has, no_hull}
+use Rattle.cell_context.proofs.Collecting.{near_array, is_hull, visits_of, hull_has}
 use Rattle.cell_context.proofs.Visiting.{some_more, some_behind}
 use Rattle.cell_context.proofs.flats.push_visits.Goals as goal
 
