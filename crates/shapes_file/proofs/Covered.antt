@@ -28,7 +28,7 @@ use Rattle.shapes_file.specs.Read.{WritableLaw}
 use Rattle.shapes_file.proofs.Lists.{position}
 use Rattle.shapes_file.proofs.Linked.{heights}
 use Rattle.shapes_file.proofs.Drawn.{design_drawn}
-use Rattle.shapes_file.proofs.Walked.{walk_down, walk_up, written_at}
+use Rattle.shapes_file.proofs.Walked.{same_placements, walk_down, walk_up, written_at}
 use Rattle.shapes_file.proofs.Held.{held, line_down, own_is}
 use Rattle.shapes_file.proofs.Hierarchy.{hierarchy}
 
@@ -92,6 +92,7 @@ covers_flat cover kept places at canonical upright writable bytes top l r text c
       texts = texts l r file.table w.cells;
       design = design;
       hierarchy = hierarchy canonical at upright l r file.table w.cells ds top link (writable bytes top l read) sound file.layers w.reached;
+      placements = λ i k n p at. same_placements places l.design r file.table w.cells i k n p w.reached at;
       lines = λ k o here q. line cover kept places at l.design ds top r file.table w.cells k o q link sound file.layers w.reached here;
       others = λ key none q h. other places l.design r file.table w.cells key q w.reached none h;
     }

@@ -1,6 +1,6 @@
 -- What the written cells have on an output line's layer is what the layout's cells hold themselves
 -- of the line's name.
-use Rattle.std.proofs.Common.{◌≡◌, ◌↔◌, ℕ, ◌+◌, List, [], ◌∷◌, ◌++◌, map, length, slice_get, Option, Some, refl, sym, ap, subst, ◌∙◌, arith}
+use Rattle.std.proofs.Common.{◌≡◌, ◌↔◌, inl, inr, ℕ, zero, suc, ◌+◌, List, [], ◌∷◌, ◌++◌, map, length, slice_get, Option, Some, refl, sym, ap, subst, ◌∙◌, arith}
 use Rattle.std.proofs.lemmas.List.{length-append}
 use Rattle.std.proofs.lemmas.Option.{get_or_from_slice_get}
 use Rattle.geo_base.specs.declared.layer.LayerKey.{LayerKey}
@@ -12,7 +12,7 @@ use Rattle.flat_layout.specs.Layout.{IsOwn, IsReached, Some_of}
 use Rattle.flat_layout.specs.Plane.{IsIn}
 use Rattle.flat_layout.specs.Values.{IsLocalLayer}
 use Rattle.cell_graph.specs.Linked.{Linked, plain}
-use Rattle.cell_graph.proofs.Bridge.{covers_some, some_covers, mapped, maps}
+use Rattle.cell_graph.proofs.Bridge.{covers_some, some_covers, maps}
 use Rattle.rule_text.specs.declared.rules.LayerRule.{LayerRule}
 use Rattle.rule_text.specs.declared.rules.Output.{Output}
 use Rattle.rule_text.specs.Rules.{Rules}
@@ -23,7 +23,6 @@ use Rattle.deep_tables.specs.declared.layers.CellLayers.{CellLayers}
 use Rattle.layout_shapes.specs.Written.{AreReached, line_of, squares_of}
 use Rattle.layout_shapes.proofs.Fitting.{there}
 use Rattle.shapes_file.specs.Flat.{formula_at}
-use Rattle.shapes_file.proofs.Lists.{some_at, at_some}
 use Rattle.shapes_file.proofs.Drawn.{cell_drawn, design_drawn, layer_drawn}
 use Rattle.shapes_file.proofs.Walked.{reached_at}
 
@@ -62,26 +61,29 @@ pub record IsOnLine (r : Rules) (table : List (Option CellLayers)) (m : ℕ) (ke
   pub on_key : line.key ≡ key
   pub square : Some_of (IsIn q) (line_of table m line).1
 
+some_line : (table : List (Option CellLayers)) (m : ℕ) (key : LayerKey) (q : Square) (os : List Output) → Some_of (IsOn key q) (map layer_drawn (map (line_of table m) os)) → (k : ℕ) × (o : Output) × (slice_get os k ≡ Some o) × IsOn key q (layer_drawn (line_of table m o))
+some_line table m key q [] h = absurd h
+some_line table m key q (o ∷ os) (inl h) = (0, o, refl, h)
+some_line table m key q (o ∷ os) (inr h) = let r = some_line table m key q os h in (suc r.0, r.1, r.2, r.3)
+
+line_some : (table : List (Option CellLayers)) (m : ℕ) (key : LayerKey) (q : Square) (os : List Output) (k : ℕ) (o : Output) → slice_get os k ≡ Some o → IsOn key q (layer_drawn (line_of table m o)) → Some_of (IsOn key q) (map layer_drawn (map (line_of table m) os))
+line_some table m key q [] k o e h = absurd cc
+line_some table m key q (x ∷ os) zero o e h = let same : o ≡ x = cc in inl (subst (λ (y : Output). IsOn key q (layer_drawn (line_of table m y))) same h)
+line_some table m key q (x ∷ os) (suc k) o e h = inr (line_some table m key q os k o e h)
+
 pub line_down : (d : Linked) (r : Rules) (table : List (Option CellLayers)) (ks : List ℕ) (j m : ℕ) (key : LayerKey) (q : Square) → slice_get ks j ≡ Some m → IsOwn (design_drawn d r table ks) j key q → IsOnLine r table m key q
 line_down d r table ks j m key q at h =
     let here = maps (cell_drawn d r table ks) ks j m at in
     let same : h.0 ≡ cell_drawn d r table ks m = (let e : Some h.0 ≡ Some (cell_drawn d r table ks m) = sym h.1 ∙ here in cc) in
-    let some : Some_of (IsOn key q) (cell_drawn d r table ks m).layers = subst (λ (c : flat.Cell). Some_of (IsOn key q) c.layers) same h.2 in
-    let s = some_at (IsOn key q) (map layer_drawn (map (line_of table m) r.outputs)) some in
-    let l = mapped layer_drawn (map (line_of table m) r.outputs) s.0 s.1 s.2 in
-    let o = mapped (line_of table m) r.outputs s.0 l.0 l.1 in
-    let drawn : layer_drawn (line_of table m o.0) ≡ s.1 = ap layer_drawn o.2 ∙ l.2 in
-    let on : IsOn key q (layer_drawn (line_of table m o.0)) = subst (λ (x : flat.Layer). IsOn key q x) (sym drawn) s.3 in
-    record { number = s.0; line = o.0; at = o.1; on_key = on.0; square = on.1 }
+    let s = some_line table m key q r.outputs (subst (λ (c : flat.Cell). Some_of (IsOn key q) c.layers) same h.2) in
+    record { number = s.0; line = s.1; at = s.2; on_key = s.3.0; square = s.3.1 }
 
 pub line_up : (d : Linked) (r : Rules) (table : List (Option CellLayers)) (ks : List ℕ) (j m : ℕ) (key : LayerKey) (q : Square) → slice_get ks j ≡ Some m → IsOnLine r table m key q → IsOwn (design_drawn d r table ks) j key q
-line_up d r table ks j m key q at h =
-    let l = maps (line_of table m) r.outputs h.number h.line h.at in
-    let s = maps layer_drawn (map (line_of table m) r.outputs) h.number (line_of table m h.line) l in (
-      cell_drawn d r table ks m,
-      maps (cell_drawn d r table ks) ks j m at,
-      at_some (IsOn key q) (map layer_drawn (map (line_of table m) r.outputs)) h.number (layer_drawn (line_of table m h.line)) s (h.on_key, h.square),
-    )
+line_up d r table ks j m key q at h = (
+  cell_drawn d r table ks m,
+  maps (cell_drawn d r table ks) ks j m at,
+  line_some table m key q r.outputs h.number h.line h.at (h.on_key, h.square),
+)
 
 -- no two lines have one key
 one_line : (r : Rules) (j k : ℕ) (o x : Output) → IsSound r → slice_get r.outputs j ≡ Some x → slice_get r.outputs k ≡ Some o → x.key ≡ o.key → x ≡ o

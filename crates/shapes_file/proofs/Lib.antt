@@ -1,3 +1,4 @@
+pub mod Alike
 pub mod Counting
 pub mod Covered
 pub mod Drawn

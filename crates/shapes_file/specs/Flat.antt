@@ -6,7 +6,7 @@ use Rattle.std.specs.List.{All}
 use Rattle.cell_graph.specs.Linked.{plain, cell_at}
 use Rattle.flat_layout.specs.Arrays.{Reference, places_of}
 use Rattle.flat_layout.specs.Layers.{Formula, Empty, InFlat}
-use Rattle.flat_layout.specs.Layout.{Design, Place, IsOwn, InFlatInput}
+use Rattle.flat_layout.specs.Layout.{Design, Place, IsOwn, IsPlaced, InFlatInput}
 use Rattle.flat_layout.specs.Layout as flat
 use Rattle.gds_elements.specs.Faults.{Accepts}
 use Rattle.gds_elements.specs.Meaning.{Cell, Library, Ref}
@@ -59,16 +59,29 @@ pub record IsHierarchyOf (w : Library) (name : List ℕ) (d : Design) : Type 0 w
       → IsOwn d i key q ↔ (shapes_cover c.shapes key q ≡ true)
   pub top : IsNamed w.cells name d.top
 
+-- the squares seen through all references are one library's, whatever design stands for it
+abbrev pub OneHierarchyLaw : Type 0
+OneHierarchyLaw = (w : Library) (name : List ℕ) (d e : Design) → IsHierarchyOf w name d
+    → IsHierarchyOf w name e → (key : LayerKey) (q : Square) → InFlatInput d d.top key q
+    → InFlatInput e e.top key q
+
 -- ---- what is written
+
+-- a placement of a structure is this one of the layout: of the same cell, by the number that it has
+-- among those written, and moved in the same way
+pub record IsPlacement (cells : List ℕ) (written here : Place) : Type 0 where
+  pub cell : slice_get cells written.cell ≡ Some here.cell
+  pub motion : written.motion ≡ here.motion
 
 -- a name of the rules as the tree of what it reads
 abbrev pub formula_at : Rules → ℕ → Formula
 formula_at r k = get_or (formulas r.names) k Empty
 
 -- The text is itself an accepted stream, in the layout's units. Its structures are the cells that
--- the layout's top reaches, in the order of the file, with no text. Seen from the top through all
--- references, it has on the layer of each output line exactly the squares that the line's name has
--- over the flat layout, and on all other layers none.
+-- the layout's top reaches, in the order of the file, each with its name, with its placements in
+-- their order, and with no text. Seen from the top through all references, it has on the layer of
+-- each output line exactly the squares that the line's name has over the flat layout, and on all
+-- other layers none.
 pub record CoversFlat (l : Layout) (r : Rules) (text : List ℕ) : Type 0 where
   pub written : Library
   pub accepted : Accepts text written
@@ -80,6 +93,8 @@ pub record CoversFlat (l : Layout) (r : Rules) (text : List ℕ) : Type 0 where
   pub texts : All (λ c. c.texts ≡ []) written.cells
   pub design : Design
   pub hierarchy : IsHierarchyOf written (name_of (cell_at l.design l.design.top)) design
+  pub placements : (i k n : ℕ) (p : Place) → slice_get cells i ≡ Some k → IsPlaced design i n p
+      ↔ ((x : Place) × IsPlaced (plain l.design) k n x × IsPlacement cells p x)
   pub lines : Each (λ k o. (q : Square) → InFlatInput design design.top o.key q
       ↔ InFlat (plain l.design) l.design.top (formula_at r o.layer) q) r.outputs
   pub others : (key : LayerKey) → All (λ o. o.key ≢ key) r.outputs → (q : Square)

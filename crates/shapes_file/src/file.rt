@@ -23,7 +23,7 @@ use std::sync::Wait;
 use std::thread::Threads;
 
 /// A shapes file, complete in memory: a GDSII stream, how many cells stand in it, and how many
-/// rectangles in all these cells.
+/// rectangles in all these cells, fewer than its bytes.
 #[derive(Drop)]
 pub struct Shapes {
     pub text: Vec<u8>,

@@ -1,6 +1,6 @@
 //! What was read can be written, and what is written means.
 
-ghost use Rattle.shapes_file.specs.Flat.{CoversFlatLaw};
+ghost use Rattle.shapes_file.specs.Flat.{CoversFlatLaw, OneHierarchyLaw};
 ghost use Rattle.shapes_file.specs.Read.{WritableLaw};
 
 use deep_tables::layer_table;
@@ -31,3 +31,9 @@ pub fn covers_flat()
     outline_laws();
     layers();
 }
+
+/// The unit squares that a library has, seen through all its references from one of its structures,
+/// are the same in each design that stands for it.
+pub fn one_hierarchy()
+    ensures { OneHierarchyLaw }
+{}

@@ -6,4 +6,4 @@ mod file;
 mod laws;
 
 pub use file::{Shapes, shapes_file};
-pub use laws::{covers_flat, writable};
+pub use laws::{covers_flat, one_hierarchy, writable};
