@@ -69,15 +69,15 @@ one_texts (x ∷ xs) (y ∷ ys) e =
     ap (λ (t : Text). let u : flat.Text = record { key = t.key; at = t.at; string = t.text } in u ∷ map plain_text xs) first
     ∙ ap (λ (us : List flat.Text). plain_text y ∷ us) (one_texts xs ys rest)
 
-one_cell : (a b : CellPart) → a.name ≡ b.name → a.layers.items ≡ b.layers.items → map plain_text a.texts.items ≡ map plain_text b.texts.items → a.places.items ≡ b.places.items → contents a ≡ contents b
-one_cell a b name layers texts places =
+same_cell : (a b : CellPart) → a.name ≡ b.name → a.layers.items ≡ b.layers.items → map plain_text a.texts.items ≡ map plain_text b.texts.items → a.places.items ≡ b.places.items → contents a ≡ contents b
+same_cell a b name layers texts places =
     ap (λ (n : List ℕ). let c : flat.Cell = record { name = n; layers = map plain_layer a.layers.items; texts = map plain_text a.texts.items; places = places_of (map reference a.places.items) } in (c, a.places.items)) name
     ∙ ap (λ (ls : List OwnLayer). let c : flat.Cell = record { name = b.name; layers = map plain_layer ls; texts = map plain_text a.texts.items; places = places_of (map reference a.places.items) } in (c, a.places.items)) layers
     ∙ ap (λ (ts : List flat.Text). let c : flat.Cell = record { name = b.name; layers = map plain_layer b.layers.items; texts = ts; places = places_of (map reference a.places.items) } in (c, a.places.items)) texts
     ∙ ap (λ (ps : List Place). let c : flat.Cell = record { name = b.name; layers = map plain_layer b.layers.items; texts = map plain_text b.texts.items; places = places_of (map reference ps) } in (c, ps)) places
 
 part_same : (cells ds : List CellDraft) → AreIn ds cells → HasNoRepeat cells → (i : ℕ) (c d : CellDraft) (p q : CellPart) → IsSameDraft c d → IsPartOf cells i c p → IsPartOf ds i d q → contents p ≡ contents q
-part_same cells ds back once i c d p q same x y = one_cell p q
+part_same cells ds back once i c d p q same x y = same_cell p q
     (x.name ∙ same.name ∙ sym y.name)
     (x.layers ∙ same.layers ∙ sym y.layers)
     (ap (map plain_text) x.texts ∙ one_texts c.texts.items d.texts.items same.texts ∙ ap (map plain_text) (sym y.texts))
