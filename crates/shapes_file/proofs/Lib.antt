@@ -1,1 +1,12 @@
+pub mod Counting
+pub mod Covered
+pub mod Drawn
+pub mod Held
+pub mod Hierarchy
+pub mod Linked
+pub mod Lists
+pub mod Outlined
 pub mod ReadBack
+pub mod Same
+pub mod Sums
+pub mod Walked

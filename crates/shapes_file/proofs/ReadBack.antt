@@ -1,12 +1,11 @@
 -- The header, the dates, the names and the references of a layout that was read are those of its
 -- stream.
-use Rattle.std.proofs.Common.{◌≡◌, ℕ, zero, suc, ◌<◌, List, [], ◌∷◌, map, length, get_or, Option, Some, None, slice_get, refl, sym, ap, subst, ◌∙◌, arith}
+use Rattle.std.proofs.Common.{◌≡◌, ℕ, zero, suc, ◌<◌, List, [], ◌∷◌, map, length, get_or, Option, Some, slice_get, refl, sym, ap, subst, ◌∙◌, arith}
 use Rattle.std.specs.List.{All, AllByRecursion}
 use Rattle.std.proofs.lemmas.Option.{slice_get-get_or, slice_get_within}
 use Rattle.std.proofs.lemmas.List.Elements.{recursion_from_All, All-map}
 use Rattle.gds_elements.specs.Meaning.{Ref, Cell, Library}
 use Rattle.gds_elements.specs.Data.{has_unit}
-use Rattle.gds_elements.specs.Faults.{Accepts}
 use Rattle.cell_graph.specs.declared.cells.Place.{Place}
 use Rattle.cell_graph.specs.declared.cells.CellPart.{CellPart}
 use Rattle.cell_graph.specs.declared.drafts.DraftRef.{DraftRef}
@@ -15,12 +14,12 @@ use Rattle.cell_graph.specs.Linked.{Linked, cell_at}
 use Rattle.cell_graph.specs.Drafts.{IsLink, IsPartOf, IsResolved}
 use Rattle.gds_layout.specs.declared.layout.Layout.{Layout}
 use Rattle.gds_layout.specs.Drafts.{IsDraftOf, AreDraftsOf, ref_of as drafted_ref}
-use Rattle.gds_layout.specs.Layouts.{IsRead, IsLayoutOf, IsHeaderOf}
+use Rattle.gds_layout.specs.Layouts.{IsLayoutOf}
 use Rattle.gds_shapes.specs.Data.{IsData, IsText, IsNamed}
 use Rattle.gds_shapes.specs.References.{FitsReference}
-use Rattle.gds_shapes.specs.Accepted.{IsHeading, ReadHeadingLaw, ReadReferencesLaw, ReadLaw, IsRead as IsReadCell}
-use Rattle.layout_shapes.specs.Written.{heading_of, name_of, ref_of}
-use Rattle.layout_shapes.specs.Writable.{IsWritable, IsWritableCell}
+use Rattle.gds_shapes.specs.Accepted.{ReadHeadingLaw, ReadReferencesLaw, ReadLaw, IsRead as IsReadCell}
+use Rattle.layout_shapes.specs.Written.{name_of, ref_of}
+use Rattle.layout_shapes.specs.Writable.{IsWritableCell}
 use Rattle.shapes_file.specs.Read.{WritableLaw}
 
 -- ---- lists

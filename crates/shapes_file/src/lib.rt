@@ -1,6 +1,9 @@
 //! The shapes file of a layout that was read.
 #![tactic(auto)]
 
+mod count;
+mod file;
 mod laws;
 
-pub use laws::writable;
+pub use file::{Shapes, shapes_file};
+pub use laws::{covers_flat, writable};

@@ -1,0 +1,23 @@
+-- What the command `shapes` writes of a layout, and what its summary line counts.
+use Rattle.std.specs.Prelude.{◌≡◌, ℕ, List, Option, length}
+use Rattle.std.specs.List.{sum_by}
+use Rattle.cell_graph.specs.Linked.{plain}
+use Rattle.deep_tables.specs.Layers.{AreLayers}
+use Rattle.deep_tables.specs.declared.layers.CellLayers.{CellLayers}
+use Rattle.gds_layout.specs.declared.layout.Layout.{Layout}
+use Rattle.layout_shapes.specs.Written.{IsWritten, line_of}
+use Rattle.rule_text.specs.Rules.{Rules}
+
+-- the rectangles of a cell's output lines
+abbrev pub count_in : List (Option CellLayers) → Rules → ℕ → ℕ
+count_in table r cell = sum_by (λ o. length (line_of table cell o).1) r.outputs
+
+-- the text is the stream of the reached cells with the squares that each holds itself of the rules'
+-- names; so many cells and so many rectangles stand in it
+pub record IsShapesFile (l : Layout) (r : Rules) (text : List ℕ) (cells rectangles : ℕ) :
+    Type 0 where
+  pub table : List (Option CellLayers)
+  pub layers : AreLayers (plain l.design) r table
+  pub written : IsWritten l r table text
+  pub cell_count : cells ≡ length written.cells
+  pub rectangle_count : rectangles ≡ sum_by (count_in table r) written.cells

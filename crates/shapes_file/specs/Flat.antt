@@ -1,0 +1,92 @@
+-- What a written text means: expanded through all its references, it covers exactly the squares
+-- that the rules' names have pointwise over the flat layout.
+use Rattle.std.specs.Prelude.{◌≡◌, ◌≢◌, ◌↔◌, ℕ, true, List, [], ◌∷◌, map, length, get_or, slice_get}
+use Rattle.std.specs.Prelude.{Some, Option}
+use Rattle.std.specs.List.{All}
+use Rattle.cell_graph.specs.Linked.{plain, cell_at}
+use Rattle.flat_layout.specs.Arrays.{Reference, places_of}
+use Rattle.flat_layout.specs.Layers.{Formula, Empty, InFlat}
+use Rattle.flat_layout.specs.Layout.{Design, Place, IsOwn, InFlatInput}
+use Rattle.flat_layout.specs.Layout as flat
+use Rattle.gds_elements.specs.Faults.{Accepts}
+use Rattle.gds_elements.specs.Meaning.{Cell, Library, Ref}
+use Rattle.gds_layout.specs.Layouts.{IsRead}
+use Rattle.gds_layout.specs.Shapes.{shapes_cover}
+use Rattle.gds_layout.specs.declared.layout.Layout.{Layout}
+use Rattle.geo_base.specs.declared.layer.LayerKey.{LayerKey}
+use Rattle.geo_base.specs.declared.shapes.Square.{Square}
+use Rattle.layout_shapes.specs.Writable.{placing}
+use Rattle.layout_shapes.specs.Written.{AreReached, name_of}
+use Rattle.rule_layers.specs.Formulas.{formulas}
+use Rattle.rule_text.specs.Rules.{Rules}
+use Rattle.rule_text.specs.Sound.{Each, IsSound}
+use Rattle.shapes_file.specs.File.{IsShapesFile}
+
+-- ---- the hierarchy that a library is
+
+-- the structure of this number has this name
+pub record IsNamed (cells : List Cell) (name : List ℕ) (i : ℕ) : Type 0 where
+  pub cell : Cell
+  pub there : slice_get cells i ≡ Some cell
+  pub named : cell.name ≡ name
+
+-- no two structures have one name
+abbrev pub HasNoRepeat : List Cell → Type 0
+HasNoRepeat cells = (name : List ℕ) (i j : ℕ) → IsNamed cells name i → IsNamed cells name j → i ≡ j
+
+-- references in order, each as the array of placements of the structure that it names
+abbrev pub AreArrays : List Cell → List Ref → List Reference → Type 0
+AreArrays cells [] [] = Unit {0}
+AreArrays cells (r ∷ refs) (a ∷ arrays) =
+    ((i : ℕ) × IsNamed cells r.cell i × (a ≡ placing i r)) × AreArrays cells refs arrays
+AreArrays cells _ _ = ⊥
+
+-- the placements of the references in order: by reference, then row, then column
+abbrev pub ArePlacesOf : List Cell → List Ref → List Place → Type 0
+ArePlacesOf cells refs places =
+    (arrays : List Reference) × AreArrays cells refs arrays × (places ≡ places_of arrays)
+
+-- a library's structures as the cells of a layout, seen from the structure of this name: each with
+-- its name, with the placements of its references, and with the squares that its shapes cover
+pub record IsHierarchyOf (w : Library) (name : List ℕ) (d : Design) : Type 0 where
+  pub once : HasNoRepeat w.cells
+  pub count : length d.cells ≡ length w.cells
+  pub names : (i : ℕ) (c : Cell) (f : flat.Cell) → slice_get w.cells i ≡ Some c
+      → slice_get d.cells i ≡ Some f → f.name ≡ c.name
+  pub places : (i : ℕ) (c : Cell) (f : flat.Cell) → slice_get w.cells i ≡ Some c
+      → slice_get d.cells i ≡ Some f → ArePlacesOf w.cells c.refs f.places
+  pub own : (i : ℕ) (c : Cell) (key : LayerKey) (q : Square) → slice_get w.cells i ≡ Some c
+      → IsOwn d i key q ↔ (shapes_cover c.shapes key q ≡ true)
+  pub top : IsNamed w.cells name d.top
+
+-- ---- what is written
+
+-- a name of the rules as the tree of what it reads
+abbrev pub formula_at : Rules → ℕ → Formula
+formula_at r k = get_or (formulas r.names) k Empty
+
+-- The text is itself an accepted stream, in the layout's units. Its structures are the cells that
+-- the layout's top reaches, in the order of the file, with no text. Seen from the top through all
+-- references, it has on the layer of each output line exactly the squares that the line's name has
+-- over the flat layout, and on all other layers none.
+pub record CoversFlat (l : Layout) (r : Rules) (text : List ℕ) : Type 0 where
+  pub written : Library
+  pub accepted : Accepts text written
+  pub units : written.units ≡ l.header.units
+  pub cells : List ℕ
+  pub reached : AreReached l.design cells
+  pub names : map (λ c. c.name) written.cells
+      ≡ map (λ k. name_of (cell_at l.design k)) cells
+  pub texts : All (λ c. c.texts ≡ []) written.cells
+  pub design : Design
+  pub hierarchy : IsHierarchyOf written (name_of (cell_at l.design l.design.top)) design
+  pub lines : Each (λ k o. (q : Square) → InFlatInput design design.top o.key q
+      ↔ InFlat (plain l.design) l.design.top (formula_at r o.layer) q) r.outputs
+  pub others : (key : LayerKey) → All (λ o. o.key ≢ key) r.outputs → (q : Square)
+      → InFlatInput design design.top key q → ⊥
+
+-- so it is of each layout that was read, for each sound rule set
+abbrev pub CoversFlatLaw : Type 0
+CoversFlatLaw = (bytes : List ℕ) (top : Option (List ℕ)) (l : Layout) (r : Rules) (text : List ℕ)
+    (cells rectangles : ℕ) → IsRead bytes top l → IsSound r → IsShapesFile l r text cells rectangles
+    → CoversFlat l r text

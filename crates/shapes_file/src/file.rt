@@ -1,0 +1,81 @@
+//! A layout's shapes file, and what a summary line counts in it.
+
+ghost use Rattle.std.specs.Prelude.{◌≤◌, ℕ, List, Option, IfOk};
+ghost use Rattle.cell_graph.specs.Linked.{plain};
+ghost use Rattle.deep_tables.specs.Layers.{AreLayers};
+ghost use Rattle.gds_layout.specs.Layouts.{IsRead};
+ghost use Rattle.layout_shapes.specs.Writable.{IsWritable};
+ghost use Rattle.rule_text.specs.Seen.{rules_seen};
+ghost use Rattle.rule_text.specs.Sound.{IsSound};
+ghost use Rattle.shapes_file.specs.File.{IsShapesFile};
+
+use crate::count::count_rectangles;
+use crate::laws::writable;
+use cell_graph::design_laws;
+use deep_flow::derive_layers;
+use deep_tables::{Layers, layer_table};
+use gds_layout::Layout;
+use layout_shapes::shapes_text;
+use rect_sets::canonical_rects;
+use rule_text::RuleSet;
+use std::alloc::{AllocError, Global};
+use std::sync::Wait;
+use std::thread::Threads;
+
+/// A shapes file, complete in memory: a GDSII stream, how many cells stand in it, and how many
+/// rectangles in all these cells.
+#[derive(Drop)]
+pub struct Shapes {
+    pub text: Vec<u8>,
+    pub cells: u32,
+    pub rectangles: u64,
+}
+
+/// The shapes file of a layout that was read: the cells that the top reaches, each with its
+/// references and the squares that it holds itself of each output line of the rules. Nothing is
+/// flattened: a cell is worked once, however often it is placed. The answer is the same for every
+/// number of workers, of which there are 1 to 64. An `Err` is want of memory. Cost: the layers of
+/// each cell, and the bytes written.
+pub fn shapes_file<R: Threads + Wait + Sync>(
+    rt: &R,
+    alloc: Global,
+    layout: &Layout,
+    rules: &RuleSet,
+    workers: usize,
+) -> Result<Shapes, AllocError>
+    requires workers { (1 ≤ workers) × (workers ≤ 64) }
+    requires read { (bytes : List ℕ) × (top : Option (List ℕ)) × IsRead bytes top layout.now }
+    requires rules { IsSound (rules_seen rules.now) }
+    ensures { IfOk result (λ s. IsShapesFile layout.now (rules_seen rules.now) s.text.items s.cells
+        s.rectangles) }
+{
+    writable();
+    let layers = derive_layers(rt, alloc, &layout.design, rules, workers)?;
+    write_file(alloc, layout, rules, &layers)
+}
+
+fn write_file(
+    alloc: Global,
+    layout: &Layout,
+    rules: &RuleSet,
+    layers: &Layers,
+) -> Result<Shapes, AllocError>
+    requires layout { IsWritable layout.now }
+    requires rules { IsSound (rules_seen rules.now) }
+    requires layers { AreLayers (plain layout.now.design) (rules_seen rules.now) layers.now }
+    ensures { IfOk result (λ s. IsShapesFile layout.now (rules_seen rules.now) s.text.items s.cells
+        s.rectangles) }
+{
+    layout.design.sound();
+    design_laws();
+    layer_table();
+    canonical_rects();
+    let text = shapes_text(alloc, layout, rules, layers)?;
+    let order = layout.design.order();
+    let rectangles = count_rectangles(rules, layers, order);
+    Ok(Shapes {
+        text,
+        cells: order.len() as u32,
+        rectangles,
+    })
+}
