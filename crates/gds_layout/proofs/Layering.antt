@@ -1,5 +1,5 @@
 -- Piles that cover what shapes do, as layers.
-use Rattle.std.proofs.Common.{◌≡◌, Bool, true, false, List, [], ◌∷◌, ◌++◌, refl, sym, ap, subst, ◌∙◌}
+use Rattle.std.proofs.Common.{◌≡◌, Bool, true, false, List, [], ◌∷◌, ◌++◌, map, refl, sym, ap, subst, ◌∙◌}
 use Rattle.std.specs.Prelude.{◌||◌, ◌&&◌}
 use Rattle.std.specs.List.{AllByRecursion, list_any}
 use Rattle.std.proofs.lemmas.List.Folds.{list_any-append}
@@ -13,7 +13,7 @@ use Rattle.cell_graph.specs.Linked.{AreApart, HasNone}
 use Rattle.gds_elements.specs.Meaning.{Shape}
 use Rattle.gds_layout.specs.declared.piles.Pile.{Pile}
 use Rattle.gds_layout.specs.declared.piles.Piles.{Piles}
-use Rattle.gds_layout.specs.Shapes.{is_covering, shapes_cover, is_drawn}
+use Rattle.gds_layout.specs.Shapes.{is_covering, shapes_cover, is_drawn, with_key, keys_behind}
 use Rattle.gds_layout.specs.Piles.{keys_of, AreDifferent, ArePiles, has_pile, piles_cover}
 use Rattle.gds_layout.specs.Layering.{AreLaid, IsFilled, AreFilled}
 use Rattle.gds_layout.specs.Drafts.{IsLayerOf, AreLayersOf}
@@ -29,15 +29,22 @@ or_none false = refl
 pub record Covers (shapes : List Shape) (piles : List Pile) : Type 0 where
   pub covers_same : (k : LayerKey) (s : Square) → piles_cover piles k s ≡ shapes_cover shapes k s
   pub has_same : (k : LayerKey) → has_pile piles k ≡ is_drawn shapes k
+  pub keys_same : keys_of piles ≡ keys_behind [] shapes
+
+keys_more : (keys : List LayerKey) (shapes : List Shape) (shape : Shape) → keys_behind keys (shapes ++ shape ∷ []) ≡ with_key (keys_behind keys shapes) shape.key
+keys_more keys [] shape = refl
+keys_more keys (s ∷ shapes) shape = keys_more (with_key keys s.key) shapes shape
 
 pub covers_none : (piles : List Pile) → piles ≡ [] → Covers [] piles
-covers_none piles e = record { covers_same = λ k s. ap (λ (ps : List Pile). piles_cover ps k s) e; has_same = λ k. ap (λ (ps : List Pile). has_pile ps k) e }
+covers_none piles e = record { keys_same = ap keys_of e; covers_same = λ k s. ap (λ (ps : List Pile). piles_cover ps k s) e; has_same = λ k. ap (λ (ps : List Pile). has_pile ps k) e }
 
 pub covers_more : (shapes : List Shape) (shape : Shape) (old new : List Pile) → Covers shapes old
     → ((k : LayerKey) (s : Square) → piles_cover new k s ≡ (piles_cover old k s || is_covering k s shape))
     → ((k : LayerKey) → has_pile new k ≡ (has_pile old k || is_same_key shape.key k))
+    → keys_of new ≡ with_key (keys_of old) shape.key
     → Covers (shapes ++ shape ∷ []) new
-covers_more shapes shape old new c f h = record {
+covers_more shapes shape old new c f h keys = record {
+  keys_same = keys ∙ ap (λ (ks : List LayerKey). with_key ks shape.key) c.keys_same ∙ sym (keys_more [] shapes shape);
   covers_same = λ k s.
       f k s ∙ ap (λ (b : Bool). b || is_covering k s shape) (c.covers_same k s)
       ∙ ap (λ (b : Bool). shapes_cover shapes k s || b) (sym (or_none (is_covering k s shape)))
@@ -49,7 +56,7 @@ covers_more shapes shape old new c f h = record {
 }
 
 pub laid : (shapes : List Shape) (p : Piles) → ArePiles p → Covers shapes p.list.items → AreLaid shapes p.list.items
-laid shapes p a c = record { different = subst AreDifferent (sym a.keys_are) a.different; sound = a.sound; covers_same = c.covers_same; has_same = c.has_same }
+laid shapes p a c = record { keys = c.keys_same; different = subst AreDifferent (sym a.keys_are) a.different; sound = a.sound; covers_same = c.covers_same; has_same = c.has_same }
 
 -- ---- layers
 
@@ -144,8 +151,15 @@ has_layer key [] (l ∷ ls) f = absurd f
 has_layer key (p ∷ ps) (l ∷ ls) f =
     ap (λ (k : LayerKey). is_same_key k key || list_any (λ (m : OwnLayer). is_same_key m.key key) ls) f.0.key_is ∙ ap (λ (b : Bool). is_same_key p.key key || b) (has_layer key ps ls f.1)
 
+layer_keys : (ps : List Pile) (ls : List OwnLayer) → AreFilled ps ls → map (λ (l : OwnLayer). l.key) ls ≡ keys_of ps
+layer_keys [] [] f = refl
+layer_keys (p ∷ ps) [] f = absurd f
+layer_keys [] (l ∷ ls) f = absurd f
+layer_keys (p ∷ ps) (l ∷ ls) f = ap (λ (k : LayerKey). k ∷ map (λ (m : OwnLayer). m.key) ls) f.0.key_is ∙ ap (λ (ks : List LayerKey). p.key ∷ ks) (layer_keys ps ls f.1)
+
 pub layered : (shapes : List Shape) (ps : List Pile) (ls : List OwnLayer) → AreLaid shapes ps → AreFilled ps ls → AreLayersOf shapes ls
 layered shapes ps ls a f = record {
+  keys = layer_keys ps ls f ∙ a.keys;
   apart = apart ps ls f a.different;
   each = All-from_recursion (IsLayerOf shapes) ls (each_layer shapes ps ps ls a.covers_same a.has_same (owns ps a.different) f);
   all = λ key e. has_layer key ps ls f ∙ a.has_same key ∙ e;

@@ -4,3 +4,6 @@ pub mod Yielded
 pub mod Layering
 pub mod Drafting
 pub mod LinkLemmas
+pub mod SameDrafts
+pub mod OneFault
+pub mod OneLayout

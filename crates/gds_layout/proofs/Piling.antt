@@ -12,6 +12,7 @@ use Rattle.geo_base.specs.declared.shapes.Rect.{Rect}
 use Rattle.geo_base.specs.declared.shapes.Square.{Square}
 use Rattle.rect_sets.specs.Rects.{covers}
 use Rattle.gds_layout.specs.declared.piles.Pile.{Pile}
+use Rattle.gds_layout.specs.Shapes.{with_key}
 use Rattle.gds_layout.specs.Piles.{keys_of, AreDifferent, is_on, piles_cover, has_pile, IsPileAt, Gains}
 
 -- ---- keys
@@ -105,6 +106,24 @@ has_already ps key n is k = by_test (is_same_key key k) refl
     by_test true e =
         let on : has_pile ps k ≡ true = any_there (λ (p : Pile). is_same_key p.key k) ps n is.pile is.there (ap (λ (q : LayerKey). is_same_key q k) is.key_is ∙ e) in
         on ∙ sym (ap (λ (b : Bool). b || true) on)
+
+-- the key isn't among them, and is added; or it is
+pub key_added : (keys : List LayerKey) (key : LayerKey) → list_any (is_same_key key) keys ≡ false → keys ++ key ∷ [] ≡ with_key keys key
+key_added keys key none = rw none refl
+
+among_at : (ps : List Pile) (key : LayerKey) (n : ℕ) (p : Pile) → slice_get ps n ≡ Some p → p.key ≡ key → list_any (is_same_key key) (keys_of ps) ≡ true
+among_at [] key n p e f = absurd cc
+among_at (q ∷ ps) key zero p e f =
+    let same : q ≡ p = cc in
+    ap (λ (b : Bool). b || list_any (is_same_key key) (keys_of ps)) (ap (λ (k : LayerKey). is_same_key key k) (ap (λ (r : Pile). r.key) same ∙ f) ∙ itself key)
+among_at (q ∷ ps) key (suc n) p e f = either (is_same_key key q.key) (list_any (is_same_key key) (keys_of ps)) (among_at ps key n p e f)
+  where
+    either : (a b : Bool) → b ≡ true → (a || b) ≡ true
+    either true b e = refl
+    either false b e = e
+
+pub key_among : (ps : List Pile) (key : LayerKey) (n : ℕ) → IsPileAt ps key n → keys_of ps ≡ with_key (keys_of ps) key
+key_among ps key n is = rw (among_at ps key n is.pile is.there is.key_is) refl
 
 -- ---- a pile that gained rectangles
 

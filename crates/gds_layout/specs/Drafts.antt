@@ -12,7 +12,7 @@ use Rattle.cell_graph.specs.declared.drafts.CellDraft.{CellDraft}
 use Rattle.cell_graph.specs.Linked.{AreApart}
 use Rattle.gds_elements.specs.Meaning.{Shape, Text, Ref, Cell}
 use Rattle.gds_layout.specs.declared.drafts.Drawn.{Drawn}
-use Rattle.gds_layout.specs.Shapes.{shapes_cover, is_drawn}
+use Rattle.gds_layout.specs.Shapes.{shapes_cover, is_drawn, keys_behind}
 
 -- the canonical list of exactly the squares that the shapes on its key cover, at least one of which
 -- is there
@@ -21,8 +21,9 @@ pub record IsLayerOf (shapes : List Shape) (layer : OwnLayer) : Type 0 where
   pub canonical : IsCanonical layer.set
   pub squares : (s : Square) → covers layer.set s ≡ shapes_cover shapes layer.key s
 
--- one layer for each key on which there is a shape; their order says nothing
+-- one layer for each key on which there is a shape, in the order in which the keys first come
 pub record AreLayersOf (shapes : List Shape) (layers : List OwnLayer) : Type 0 where
+  pub keys : map (λ layer. layer.key) layers ≡ keys_behind [] shapes
   pub apart : AreApart layers
   pub each : All (IsLayerOf shapes) layers
   pub all : (key : LayerKey) → is_drawn shapes key ≡ true

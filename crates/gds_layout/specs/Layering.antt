@@ -8,11 +8,12 @@ use Rattle.rect_sets.specs.Rects.{covers, IsCanonical}
 use Rattle.cell_graph.specs.declared.cells.OwnLayer.{OwnLayer}
 use Rattle.gds_elements.specs.Meaning.{Shape}
 use Rattle.gds_layout.specs.declared.piles.Pile.{Pile}
-use Rattle.gds_layout.specs.Shapes.{shapes_cover, is_drawn}
+use Rattle.gds_layout.specs.Shapes.{shapes_cover, is_drawn, keys_behind}
 use Rattle.gds_layout.specs.Piles.{keys_of, AreDifferent, has_pile, piles_cover}
 
 -- the piles cover what the shapes do, and each has one of their layers
 pub record AreLaid (shapes : List Shape) (piles : List Pile) : Type 0 where
+  pub keys : keys_of piles ≡ keys_behind [] shapes
   pub different : AreDifferent (keys_of piles)
   pub sound : All (λ p. All IsRect p.rects.items) piles
   pub covers_same : (k : LayerKey) (s : Square) → piles_cover piles k s ≡ shapes_cover shapes k s

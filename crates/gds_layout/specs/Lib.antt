@@ -6,3 +6,4 @@ pub mod Causes
 pub mod Layouts
 pub mod FedSoFar
 pub mod Fed
+pub mod Once

@@ -1,5 +1,5 @@
 -- Which unit squares the shapes of a structure cover.
-use Rattle.std.specs.Prelude.{Bool, ◌&&◌, List}
+use Rattle.std.specs.Prelude.{Bool, ◌&&◌, List, [], ◌∷◌, ◌++◌, if◌then◌else◌}
 use Rattle.std.specs.List.{list_any}
 use Rattle.geo_base.specs.Layers.{is_same_key}
 use Rattle.geo_base.specs.declared.layer.LayerKey.{LayerKey}
@@ -25,3 +25,12 @@ shapes_cover shapes key s = list_any (is_covering key s) shapes
 -- whether one of these shapes is on the layer
 abbrev pub is_drawn : List Shape → LayerKey → Bool
 is_drawn shapes key = list_any (λ shape. is_same_key shape.key key) shapes
+
+-- the keys with this one: behind them, where it isn't among them
+abbrev pub with_key : List LayerKey → LayerKey → List LayerKey
+with_key keys key = if list_any (is_same_key key) keys then keys else keys ++ key ∷ []
+
+-- the keys, and behind them those of the shapes, each once and where it first comes
+abbrev pub keys_behind : List LayerKey → List Shape → List LayerKey
+keys_behind keys [] = keys
+keys_behind keys (shape ∷ shapes) = keys_behind (with_key keys shape.key) shapes

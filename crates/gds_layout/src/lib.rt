@@ -4,6 +4,7 @@
 
 mod drafts;
 mod keys;
+mod laws;
 mod layers;
 mod layout;
 mod linking;
@@ -11,6 +12,7 @@ mod piles;
 mod reader;
 mod reading;
 
+pub use laws::one_layout;
 pub use layout::{Header, Layout, LayoutFault};
 pub use reader::LayoutReader;
 pub use reading::read_layout;

@@ -9,8 +9,9 @@ ghost use Rattle.geo_base.specs.declared.shapes.Square.{Square};
 ghost use Rattle.rect_sets.specs.Rects.{covers};
 ghost use Rattle.gds_elements.specs.Fillable.{IsFillable};
 ghost use Rattle.gds_elements.specs.Reading.{form_seen, shape_seen};
-ghost use Rattle.gds_layout.specs.Shapes.{shape_covers, is_covering};
-ghost use Rattle.gds_layout.specs.Piles.{ArePiles, Gains, IsPileAt, has_pile, piles_cover};
+ghost use Rattle.gds_layout.specs.Shapes.{shape_covers, is_covering, with_key};
+ghost use Rattle.gds_layout.specs.Piles.{ArePiles, Gains, IsPileAt, has_pile, keys_of};
+ghost use Rattle.gds_layout.specs.Piles.{piles_cover};
 
 use crate::keys::KeyTable;
 use gds_elements::{RawShape, ShapeForm};
@@ -76,6 +77,8 @@ impl Piles {
         requires { ArePiles self.old }
         ensures piles { OnOk result (ArePiles self.new) }
         ensures here { IfOk result (IsPileAt self.new.list.items key) }
+        ensures keys { OnOk result (keys_of self.new.list.items
+            ≡ with_key (keys_of self.old.list.items) key) }
         ensures covers { OnOk result ((k : LayerKey) (s : Square)
             → piles_cover self.new.list.items k s
             ≡ piles_cover self.old.list.items k s) }
@@ -98,6 +101,8 @@ impl Piles {
         requires piles { ArePiles self.old }
         requires fillable { IsFillable (form_seen shape.now.form) }
         ensures piles { OnOk result (ArePiles self.new) }
+        ensures keys { OnOk result (keys_of self.new.list.items
+            ≡ with_key (keys_of self.old.list.items) shape.now.key) }
         ensures covers { OnOk result ((k : LayerKey) (s : Square)
             → piles_cover self.new.list.items k s
             ≡ (piles_cover self.old.list.items k s || is_covering k s (shape_seen shape.now))) }

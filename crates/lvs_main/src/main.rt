@@ -21,6 +21,6 @@ fn main(rt: HostRuntime) -> ExitCode {
         }
     }
     let mut depot = FileDepot::new(&rt);
-    let status = run_lvs(alloc, words.as_slice(), &mut depot, &mut out);
+    let status = run_lvs(&rt, alloc, words.as_slice(), &mut depot, &mut out);
     ExitCode::from(status.code())
 }

@@ -4,12 +4,11 @@ use Rattle.std.proofs.lemmas.List.{append-nil}
 use Rattle.lvs_outside.specs.Store.{Store, Told, Untold, NoFile, Holds, SameFiles, appended}
 use Rattle.lvs_outside.specs.Summary.{SinkState}
 use Rattle.lvs_outside.specs.Loops.{HoldsNow, ForPrefix}
-use Rattle.gds_elements.specs.declared.library.GdsFault.TheVariants as gds
 use Rattle.lvs_run.specs.declared.status.Refusal.{Refusal}
-use Rattle.lvs_run.specs.declared.status.Refusal.TheVariants.{Words, SamePath, Absent, TooLong, Rules, Layout, Unbuilt}
+use Rattle.lvs_run.specs.declared.status.Refusal.TheVariants.{Words, SamePath, Absent, TooLong, Rules, Layout}
 use Rattle.lvs_run.specs.declared.run.Output.{Output}
 use Rattle.lvs_run.specs.Words.{Paths}
-use Rattle.lvs_run.specs.Answers.{Answer, Outside, refused}
+use Rattle.lvs_run.specs.Answers.{Answer, Outside, done_of, nothing, refused}
 use Rattle.lvs_run.specs.Lines.{line_of}
 use Rattle.lvs_run.specs.Runs.{WritesPart}
 use Rattle.lvs_run.specs.Inputs.{Quiet, Stops, IsReady, ComesOf, stopped}
@@ -40,28 +39,27 @@ part_left p old mid new path text e same (inl h) = inl (λ q. h q ∙ same q)
 part_left p old mid new path text e same (inr h) = inr (subst (λ (q : List ℕ). ForPrefix text (HoldsNow old new q)) e (part_since old mid new path text same h))
 
 went_outside : (said : Option Paths) (old new : Store) (before after : SinkState) → FailsAt said old new before after → ComesOut said old new before after Outside
-went_outside said old new before after fails = record { text = []; count = 0; comes = tt; leaves = tt; says = tt; fails = fails }
+went_outside said old new before after fails = record { done = nothing; comes = tt; leaves = tt; says = tt; fails = fails }
 
 delivered_to : (p : Paths) (old mid new : Store) (before after : SinkState) (o : Output) (a : Answer)
     → Quiet old mid → string_bytes o.path ≡ p.shapes → IsReady (Some p) old mid o → Delivered o mid new before after a → ComesOut (Some p) old new before after a
 delivered_to p old mid new before after o a quiet path ready (inl h) =
-    let file = holds_since old mid new (string_bytes o.path) o.text.items quiet.starts.files h.1.file in
+    let file = holds_since old mid new (string_bytes o.path) o.shapes.text.items quiet.starts.files h.1.file in
     subst (ComesOut (Some p) old new before after) (sym h.0)
     (record {
-      text = o.text.items;
-      count = o.count;
+      done = done_of o.shapes;
       comes = ready.comes;
-      leaves = (subst (λ (q : List ℕ). HoldsNow old new q o.text.items) path file, h.1.left_open ∙ quiet.starts.left_open);
+      leaves = (subst (λ (q : List ℕ). HoldsNow old new q o.shapes.text.items) path file, h.1.left_open ∙ quiet.starts.left_open);
       says = h.2.told ∙ ap (appended before.told) ready.line;
       fails = tt;
     })
 delivered_to p old mid new before after o a quiet path ready (inr (inl h)) =
-    let file = holds_since old mid new (string_bytes o.path) o.text.items quiet.starts.files h.1.file in
+    let file = holds_since old mid new (string_bytes o.path) o.shapes.text.items quiet.starts.files h.1.file in
     subst (ComesOut (Some p) old new before after) (sym h.0)
-    (went_outside (Some p) old new before after (AtLine o.text.items o.count ready.comes (subst (λ (q : List ℕ). HoldsNow old new q o.text.items) path file) (subst (TookPart before after) ready.line h.2)))
+    (went_outside (Some p) old new before after (AtLine (done_of o.shapes) ready.comes (subst (λ (q : List ℕ). HoldsNow old new q o.shapes.text.items) path file) (subst (TookPart before after) ready.line h.2)))
 delivered_to p old mid new before after o a quiet path ready (inr (inr h)) =
     subst (ComesOut (Some p) old new before after) (sym h.0)
-    (went_outside (Some p) old new before after (AtFile o.text.items o.count ready.comes (part_left p old mid new (string_bytes o.path) o.text.items path quiet.starts.files h.1.file) h.2))
+    (went_outside (Some p) old new before after (AtFile (done_of o.shapes) ready.comes (part_left p old mid new (string_bytes o.path) o.shapes.text.items path quiet.starts.files h.1.file) h.2))
 
 pub delivered : (stated : Option Paths) (old mid new : Store) (before after : SinkState) (o : Output) (a : Answer)
     → Quiet old mid → IsReady stated old mid o → Delivered o mid new before after a → ComesOut stated old new before after a
@@ -71,26 +69,22 @@ delivered stated old mid new before after o a quiet ready h =
 
 -- a refusal's line was sent whole
 sent : (stated : Option Paths) (old new : Store) (before after : SinkState) (why : Refusal)
-    → Quiet old new → Stops stated old new (refused why) → Took before after (line_of (refused why) 0) → ComesOut stated old new before after (refused why)
-sent stated old new before after Words quiet stops took = record { text = []; count = 0; comes = stops.comes [] 0; leaves = quiet.starts; says = took.told; fails = tt }
-sent stated old new before after (SamePath path) quiet stops took = record { text = []; count = 0; comes = stops.comes [] 0; leaves = quiet.starts; says = took.told; fails = tt }
-sent stated old new before after (Absent path) quiet stops took = record { text = []; count = 0; comes = stops.comes [] 0; leaves = quiet.starts; says = took.told; fails = tt }
-sent stated old new before after (TooLong path) quiet stops took = record { text = []; count = 0; comes = stops.comes [] 0; leaves = quiet.starts; says = took.told; fails = tt }
-sent stated old new before after (Rules fault) quiet stops took = record { text = []; count = 0; comes = stops.comes [] 0; leaves = quiet.starts; says = took.told; fails = tt }
-sent stated old new before after (Layout (gds.Bad n i o)) quiet stops took = record { text = []; count = 0; comes = stops.comes [] 0; leaves = quiet.starts; says = took.told; fails = tt }
-sent stated old new before after (Layout gds.NoMemory) quiet stops took = record { text = []; count = 0; comes = stops.comes [] 0; leaves = quiet.starts; says = took.told; fails = tt }
-sent stated old new before after (Unbuilt path) quiet stops took = record { text = []; count = 0; comes = stops.comes [] 0; leaves = quiet.starts; says = took.told; fails = tt }
+    → Quiet old new → Stops stated old new (refused why) → Took before after (line_of (refused why) nothing) → ComesOut stated old new before after (refused why)
+sent stated old new before after Words quiet stops took = record { done = nothing; comes = stops.comes nothing; leaves = quiet.starts; says = took.told; fails = tt }
+sent stated old new before after (SamePath path) quiet stops took = record { done = nothing; comes = stops.comes nothing; leaves = quiet.starts; says = took.told; fails = tt }
+sent stated old new before after (Absent path) quiet stops took = record { done = nothing; comes = stops.comes nothing; leaves = quiet.starts; says = took.told; fails = tt }
+sent stated old new before after (TooLong path) quiet stops took = record { done = nothing; comes = stops.comes nothing; leaves = quiet.starts; says = took.told; fails = tt }
+sent stated old new before after (Rules fault) quiet stops took = record { done = nothing; comes = stops.comes nothing; leaves = quiet.starts; says = took.told; fails = tt }
+sent stated old new before after (Layout fault) quiet stops took = record { done = nothing; comes = stops.comes nothing; leaves = quiet.starts; says = took.told; fails = tt }
 
 -- the outcome of a refusal
-refusal_comes : (stated : Option Paths) (old : Store) (why : Refusal) → ComesOf stated old (refused why) → IsOutcome stated old.file (refused why) [] 0
-refusal_comes stated old Words comes = comes [] 0
-refusal_comes stated old (SamePath path) comes = comes [] 0
-refusal_comes stated old (Absent path) comes = comes [] 0
-refusal_comes stated old (TooLong path) comes = comes [] 0
-refusal_comes stated old (Rules fault) comes = comes [] 0
-refusal_comes stated old (Layout (gds.Bad n i o)) comes = comes [] 0
-refusal_comes stated old (Layout gds.NoMemory) comes = comes [] 0
-refusal_comes stated old (Unbuilt path) comes = comes [] 0
+refusal_comes : (stated : Option Paths) (old : Store) (why : Refusal) → ComesOf stated old (refused why) → IsOutcome stated old.file (refused why) nothing
+refusal_comes stated old Words comes = comes nothing
+refusal_comes stated old (SamePath path) comes = comes nothing
+refusal_comes stated old (Absent path) comes = comes nothing
+refusal_comes stated old (TooLong path) comes = comes nothing
+refusal_comes stated old (Rules fault) comes = comes nothing
+refusal_comes stated old (Layout fault) comes = comes nothing
 
 refused_out : (stated : Option Paths) (old new : Store) (before after : SinkState) (why : Refusal) (a : Answer)
     → Quiet old new → Stops stated old new (refused why) → Refused (refused why) before after a → ComesOut stated old new before after a
@@ -98,7 +92,7 @@ refused_out stated old new before after why a quiet stops (inl h) = subst (Comes
 refused_out stated old new before after why a quiet stops (inr (inl h)) =
     subst (ComesOut stated old new before after) (sym h.0) (went_outside stated old new before after (AtRefusal (refused why) (refusal_comes stated old why stops.comes) quiet.starts h.1))
 refused_out stated old new before after why a quiet stops (inr (inr h)) =
-    subst (ComesOut stated old new before after) (sym h.0) (record { text = []; count = 0; comes = tt; leaves = quiet.starts; says = (h.1.told, h.1.write_calls); fails = tt })
+    subst (ComesOut stated old new before after) (sym h.0) (record { done = nothing; comes = tt; leaves = quiet.starts; says = (h.1.told, h.1.write_calls); fails = tt })
 
 -- the same, from the stop that is the refusal
 pub stop_out : (stated : Option Paths) (old new : Store) (before after : SinkState) (s : Stop) (why : Refusal) (a : Answer)

@@ -3,3 +3,4 @@ pub mod Stopping
 pub mod Delivering
 pub mod Flattened
 pub mod OneAnswer
+pub mod Feeding

@@ -1,9 +1,9 @@
 -- What the end of a run comes to: the line of a refusal, or the file and its line.
-use Rattle.std.specs.Prelude.{◌≡◌, ◌⊎◌, ◌<◌, ℕ, List, [], Option, string_bytes}
+use Rattle.std.specs.Prelude.{◌≡◌, ◌⊎◌, ◌<◌, ℕ, List, Option, string_bytes}
 use Rattle.lvs_outside.specs.Store.{Store, SameFiles, appended}
 use Rattle.lvs_outside.specs.Summary.{SinkState}
 use Rattle.lvs_outside.specs.Loops.{HoldsNow, ForPrefix}
-use Rattle.lvs_run.specs.Answers.{Answer, Good, Outside, NoMemory}
+use Rattle.lvs_run.specs.Answers.{Done, Answer, Good, Outside, NoMemory, nothing}
 use Rattle.lvs_run.specs.Runs.{depot_faults, sink_faults, Leaves, Says, StartsNone, WritesPart}
 use Rattle.lvs_run.specs.Runs.{WritesShapes}
 use Rattle.lvs_run.specs.Lines.{line_of}
@@ -30,8 +30,8 @@ pub record TookNone (before after : SinkState) : Type 0 where
 -- a refusal was sent, or the sink failed, or there was no memory for the line
 abbrev pub Refused : Answer → SinkState → SinkState → Answer → Type 0
 Refused wanted before after a =
-    ((a ≡ wanted) × Took before after (line_of wanted 0))
-    ⊎ (((a ≡ Outside) × TookPart before after (line_of wanted 0)) ⊎ ((a ≡ NoMemory)
+    ((a ≡ wanted) × Took before after (line_of wanted nothing))
+    ⊎ (((a ≡ Outside) × TookPart before after (line_of wanted nothing)) ⊎ ((a ≡ NoMemory)
     × TookNone before after))
 
 -- the file is written whole, and nothing failed
@@ -49,11 +49,11 @@ pub record WrotePart (old new : Store) (path text : List ℕ) : Type 0 where
 -- file and line were written, or one of the two failed
 abbrev pub Delivered : Output → Store → Store → SinkState → SinkState → Answer → Type 0
 Delivered o old new before after a =
-    ((a ≡ Good) × WroteWhole old new (string_bytes o.path) o.text.items
+    ((a ≡ Good) × WroteWhole old new (string_bytes o.path) o.shapes.text.items
     × Took before after o.line.items)
-    ⊎ (((a ≡ Outside) × WroteWhole old new (string_bytes o.path) o.text.items
+    ⊎ (((a ≡ Outside) × WroteWhole old new (string_bytes o.path) o.shapes.text.items
     × TookPart before after o.line.items)
-    ⊎ ((a ≡ Outside) × WrotePart old new (string_bytes o.path) o.text.items
+    ⊎ ((a ≡ Outside) × WrotePart old new (string_bytes o.path) o.shapes.text.items
     × TookNone before after))
 
 -- a fact, but after Outside and NoMemory
@@ -68,12 +68,12 @@ IsOrElse a P = P
 -- the line behind that text.
 pub data FailsAt (said : Option Paths) (old new : Store) (before after : SinkState) : Type 0 where
   AtInput : StartsNone old new → TookNone before after → FailsAt said old new before after
-  AtRefusal : (wanted : Answer) → IsOutcome said old.file wanted [] 0 → StartsNone old new
-      → TookPart before after (line_of wanted 0) → FailsAt said old new before after
-  AtFile : (text : List ℕ) (count : ℕ) → IsOutcome said old.file Good text count
-      → WritesPart said old new text → TookNone before after → FailsAt said old new before after
-  AtLine : (text : List ℕ) (count : ℕ) → IsOutcome said old.file Good text count
-      → WritesShapes said old new text → TookPart before after (line_of Good count)
+  AtRefusal : (wanted : Answer) → IsOutcome said old.file wanted nothing → StartsNone old new
+      → TookPart before after (line_of wanted nothing) → FailsAt said old new before after
+  AtFile : (done : Done) → IsOutcome said old.file Good done → WritesPart said old new done.text
+      → TookNone before after → FailsAt said old new before after
+  AtLine : (done : Done) → IsOutcome said old.file Good done
+      → WritesShapes said old new done.text → TookPart before after (line_of Good done)
       → FailsAt said old new before after
 
 -- after Outside the run failed at one of these places
@@ -85,9 +85,8 @@ Fails said old new before after a = Unit {0}
 -- NoMemory what they leave
 pub record ComesOut (said : Option Paths) (old new : Store) (before after : SinkState)
     (a : Answer) : Type 0 where
-  pub text : List ℕ
-  pub count : ℕ
-  pub comes : IsOrElse a (IsOutcome said old.file a text count)
-  pub leaves : Leaves said old new text a
-  pub says : Says a count before after
+  pub done : Done
+  pub comes : IsOrElse a (IsOutcome said old.file a done)
+  pub leaves : Leaves said old new done.text a
+  pub says : Says a done before after
   pub fails : Fails said old new before after a

@@ -3,22 +3,22 @@
 use Rattle.std.specs.Prelude.{ℕ, List, Option, Some, None}
 use Rattle.lvs_outside.specs.Store.{Store, Told, Holds}
 use Rattle.lvs_outside.specs.Loops.{HoldsNow}
-use Rattle.gds_elements.specs.Meaning.{Library}
-use Rattle.gds_elements.specs.Faults.{Accepts}
-use Rattle.one_cell.specs.Flat.{CoversFlat}
+use Rattle.gds_layout.specs.declared.layout.Layout.{Layout}
+use Rattle.gds_layout.specs.Layouts.{IsRead}
+use Rattle.shapes_file.specs.Flat.{CoversFlat}
 use Rattle.rule_text.specs.Rules.{Rules}
 use Rattle.rule_text.specs.Reading.{Means}
 use Rattle.lvs_run.specs.Words.{Paths}
 use Rattle.lvs_run.specs.Answers.{Answer, Good}
 
--- the rules' bytes mean rules, the layout's bytes are a library, and the text covers exactly the
--- flat rules' squares of it
-pub record IsFlatShapes (rules layout text : List ℕ) : Type 0 where
+-- the rules' bytes mean rules, the layout's bytes are read as a layout, and the text covers exactly
+-- the flat rules' squares of it
+pub record IsFlatShapes (rules stream text : List ℕ) : Type 0 where
   pub rule_set : Rules
   pub meant : Means rules rule_set
-  pub library : Library
-  pub read : Accepts layout library
-  pub flat : CoversFlat library rule_set text
+  pub layout : Layout
+  pub read : IsRead stream None layout
+  pub flat : CoversFlat layout rule_set text
 
 -- the same of the told files, the rules' first; nothing is said where one isn't told
 abbrev pub TellsFlat : Told → Told → List ℕ → Type 0

@@ -1,20 +1,17 @@
 -- What came of reading input files whole, before anything is written.
 use Rattle.std.specs.Prelude.{◌≡◌, ◌<◌, ◌≤◌, ℕ, List, length, Option, Some, string_bytes}
-use Rattle.lvs_outside.specs.Store.{Store, Told, Untold, NoFile, Holds, IsAbsent, Reading}
+use Rattle.lvs_outside.specs.Store.{Store, Told, Untold, NoFile, Holds, IsAbsent, IsThere}
+use Rattle.lvs_outside.specs.Store.{Reading}
 use Rattle.lvs_outside.specs.Loops.{limit}
-use Rattle.gds_elements.specs.Meaning.{Library}
-use Rattle.gds_elements.specs.Faults.{Accepts, FirstFault}
-use Rattle.one_cell.specs.OneCell.{IsMade, IsUnbuilt}
-use Rattle.one_cell.specs.Flat.{CoversFlat}
+use Rattle.gds_layout.specs.declared.layout.Layout.{Layout}
 use Rattle.rule_text.specs.Rules.{Rules}
 use Rattle.rule_text.specs.Reading.{IsFirstFault as IsFirstRuleFault}
-use Rattle.rule_text.specs.Sound.{IsSound}
 use Rattle.lvs_run.specs.Words.{Paths}
-use Rattle.lvs_run.specs.Answers.{Answer, Good, RefusedAbsent, RefusedLong, RefusedRules}
-use Rattle.lvs_run.specs.Answers.{RefusedLayout, RefusedUnbuilt, Outside, NoMemory, refused}
+use Rattle.lvs_run.specs.Answers.{Done, Answer, Good, RefusedAbsent, RefusedLong, RefusedRules}
+use Rattle.lvs_run.specs.Answers.{RefusedLayout, Outside, NoMemory, done_of, refused}
 use Rattle.lvs_run.specs.Runs.{IsReadTooFar, WasAbsent, StartsNone, HasCauseIn}
 use Rattle.lvs_run.specs.Lines.{line_of}
-use Rattle.lvs_run.specs.Outcomes.{IsOutcome}
+use Rattle.lvs_run.specs.Outcomes.{IsOutcome, IsDone, IsFirstLayoutFault}
 use Rattle.lvs_run.specs.Flat.{TellsFlat}
 use Rattle.lvs_run.specs.declared.input.Stop.{Stop}
 use Rattle.lvs_run.specs.declared.input.Stop.TheVariants as stop
@@ -47,6 +44,13 @@ abbrev pub IsLong : Told → Type 0
 IsLong Untold = Unit {0}
 IsLong NoFile = ⊥
 IsLong (Holds bytes) = limit < length bytes
+
+-- the file is there and stands open at its beginning
+pub record IsOpened (old new : Store) (path : List ℕ) : Type 0 where
+  pub there : IsThere (old.file path)
+  pub opened : new.opened ≡ Reading path 0
+  pub absent : new.absent ≡ old.absent
+  pub faults : new.faults ≡ old.faults
 
 -- the file was read whole, and stands open
 pub record Got (old new : Store) (path bytes : List ℕ) : Type 0 where
@@ -82,38 +86,31 @@ NoRules old new path (RefusedRules fault) = ReadAs old new path
     (λ bytes. IsFirstRuleFault bytes fault)
 NoRules old new path a = NotGot old new path a
 
--- why the layout's file gave no library
-abbrev pub NoLibrary : Store → Store → List ℕ → Answer → Type 0
-NoLibrary old new path (RefusedLayout number index offset) = ReadAs old new path
-    (λ bytes. FirstFault bytes number index offset)
-NoLibrary old new path a = NotGot old new path a
+-- why the layout's file gave no layout
+abbrev pub NoLayout : Store → Store → List ℕ → Answer → Type 0
+NoLayout old new path (RefusedLayout fault) = ReadAs old new path
+    (λ bytes. IsFirstLayoutFault bytes fault)
+NoLayout old new path a = NotGot old new path a
 
 pub record RefusesRules (old new : Store) (path : List ℕ) (a : Answer) : Type 0 where
   pub why : NoRules old new path a
   pub faults : DepotFaults a old new
 
 pub record RefusesLayout (old new : Store) (path : List ℕ) (a : Answer) : Type 0 where
-  pub why : NoLibrary old new path a
+  pub why : NoLayout old new path a
   pub faults : DepotFaults a old new
 
--- why a library and rules gave nothing to write
-abbrev pub NotMade : List ℕ → Library → Answer → Type 0
-NotMade layout v (RefusedUnbuilt path) = (path ≡ layout) × IsUnbuilt v
-NotMade layout v NoMemory = Unit {0}
-NotMade layout v a = ⊥
-
 -- what there is to write
-pub record IsOutput (shapes : List ℕ) (v : Library) (r : Rules) (o : Output) : Type 0 where
+pub record IsOutput (shapes : List ℕ) (l : Layout) (r : Rules) (o : Output) : Type 0 where
   pub path : string_bytes o.path ≡ shapes
-  pub made : IsMade v r o.text.items o.count
-  pub flat : (bytes : List ℕ) → Accepts bytes v → IsSound r → CoversFlat v r o.text.items
-  pub line : o.line.items ≡ line_of Good o.count
+  pub done : IsDone l r (done_of o.shapes)
+  pub line : o.line.items ≡ line_of Good (done_of o.shapes)
 
 -- the outcome of the told files, of an answer that comes of them
 abbrev pub ComesOf : Option Paths → Store → Answer → Type 0
 ComesOf said old Outside = Unit {0}
 ComesOf said old NoMemory = Unit {0}
-ComesOf said old a = (text : List ℕ) (count : ℕ) → IsOutcome said old.file a text count
+ComesOf said old a = (done : Done) → IsOutcome said old.file a done
 
 -- a run that stops before it writes: the depot shows the cause and its faults, and the told files
 -- come to it
@@ -129,6 +126,6 @@ pub record IsReady (said : Option Paths) (old new : Store) (o : Output) : Type 0
   pub path : string_bytes o.path ≡ paths.shapes
   pub cause : HasCauseIn said old new Good
   pub faults : new.faults ≡ old.faults
-  pub line : o.line.items ≡ line_of Good o.count
-  pub comes : IsOutcome said old.file Good o.text.items o.count
-  pub flat : TellsFlat (old.file paths.rules) (old.file paths.layout) o.text.items
+  pub line : o.line.items ≡ line_of Good (done_of o.shapes)
+  pub comes : IsOutcome said old.file Good (done_of o.shapes)
+  pub flat : TellsFlat (old.file paths.rules) (old.file paths.layout) o.shapes.text.items

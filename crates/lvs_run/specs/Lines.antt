@@ -2,14 +2,23 @@
 use Rattle.std.specs.Prelude.{ℕ, List, [], ◌∷◌, ◌++◌, codes}
 use Rattle.std.specs.Fmt.{decimal}
 use Rattle.net_names.specs.Escapes.{escaped}
+use Rattle.cell_graph.specs.declared.drafts.LinkFault.{LinkFault}
+use Rattle.cell_graph.specs.declared.drafts.LinkFault.TheVariants.{TooManyCells, DuplicateCell}
+use Rattle.cell_graph.specs.declared.drafts.LinkFault.TheVariants.{NoSuchCell, Cycle, TooDeep}
+use Rattle.cell_graph.specs.declared.drafts.LinkFault.TheVariants.{NoTop, TopUnclear}
+use Rattle.cell_graph.specs.declared.drafts.LinkFault.TheVariants.{CoordinateRange}
+use Rattle.cell_graph.specs.declared.drafts.LinkFault.TheVariants as link
+use Rattle.gds_elements.specs.declared.library.GdsFault.TheVariants as gds
+use Rattle.gds_layout.specs.declared.layout.LayoutFault.{LayoutFault}
+use Rattle.gds_layout.specs.declared.layout.LayoutFault.TheVariants as layout
 use Rattle.rule_text.specs.declared.fault.RuleFault.{RuleFault}
 use Rattle.rule_text.specs.declared.fault.RuleFault.TheVariants.{UnknownStatement, BadForm}
 use Rattle.rule_text.specs.declared.fault.RuleFault.TheVariants.{UnknownName, NameTwice}
 use Rattle.rule_text.specs.declared.fault.RuleFault.TheVariants.{NotConductor, TooManyLayers}
 use Rattle.rule_text.specs.declared.fault.RuleFault.TheVariants.{NotText}
 use Rattle.rule_text.specs.declared.fault.RuleFault.TheVariants as rule
-use Rattle.lvs_run.specs.Answers.{Answer, Good, RefusedWords, RefusedSame, RefusedAbsent}
-use Rattle.lvs_run.specs.Answers.{RefusedLong, RefusedRules, RefusedLayout, RefusedUnbuilt}
+use Rattle.lvs_run.specs.Answers.{Done, Answer, Good, RefusedWords, RefusedSame, RefusedAbsent}
+use Rattle.lvs_run.specs.Answers.{RefusedLong, RefusedRules, RefusedLayout}
 
 -- a fault's number and its line; of a byte that no text has, its offset
 abbrev pub rule_place : RuleFault → List ℕ
@@ -22,15 +31,37 @@ rule_place (TooManyLayers line) = codes "35 line " ++ decimal line
 rule_place (NotText offset) = codes "36 offset " ++ decimal offset
 rule_place rule.NoMemory = []
 
--- the line of each answer, of Good with how many rectangles were written; others have none
-abbrev pub line_of : Answer → ℕ → List ℕ
-line_of Good count = codes "shapes cells 1 rectangles " ++ decimal count ++ 10 ∷ []
-line_of RefusedWords count = codes "refused words" ++ 10 ∷ []
-line_of (RefusedSame path) count = codes "refused same " ++ escaped path ++ 10 ∷ []
-line_of (RefusedAbsent path) count = codes "refused absent " ++ escaped path ++ 10 ∷ []
-line_of (RefusedLong path) count = codes "refused long " ++ escaped path ++ 10 ∷ []
-line_of (RefusedRules fault) count = codes "refused rules " ++ rule_place fault ++ 10 ∷ []
-line_of (RefusedLayout number index offset) count = codes "refused layout " ++ decimal number
-    ++ codes " record " ++ decimal index ++ codes " offset " ++ decimal offset ++ 10 ∷ []
-line_of (RefusedUnbuilt path) count = codes "refused unbuilt " ++ escaped path ++ 10 ∷ []
-line_of a count = []
+-- a fault's number and the cells that it names
+abbrev pub link_place : LinkFault → List ℕ
+link_place (DuplicateCell name) = codes "20 cell " ++ escaped name
+link_place (NoSuchCell name) = codes "21 cell " ++ escaped name
+link_place (Cycle name) = codes "22 cell " ++ escaped name
+link_place (TopUnclear one other) =
+    codes "23 cell " ++ escaped one ++ codes " cell " ++ escaped other
+link_place NoTop = codes "24"
+link_place (CoordinateRange name) = codes "25 cell " ++ escaped name
+link_place TooManyCells = codes "26"
+link_place (TooDeep name) = codes "27 cell " ++ escaped name
+link_place link.NoMemory = []
+
+-- a fault's number, its record's and its offset; of one of the cells' names and references, the
+-- cells that it names
+abbrev pub layout_place : LayoutFault → List ℕ
+layout_place (layout.Gds (gds.Bad number index offset)) = decimal number ++ codes " record "
+    ++ decimal index ++ codes " offset " ++ decimal offset
+layout_place (layout.Gds gds.NoMemory) = []
+layout_place (layout.Link fault) = link_place fault
+layout_place layout.NoMemory = []
+
+-- the line of each answer, of Good with how many cells and rectangles were written; others have
+-- none
+abbrev pub line_of : Answer → Done → List ℕ
+line_of Good done = codes "shapes cells " ++ decimal done.cells ++ codes " rectangles "
+    ++ decimal done.rectangles ++ 10 ∷ []
+line_of RefusedWords done = codes "refused words" ++ 10 ∷ []
+line_of (RefusedSame path) done = codes "refused same " ++ escaped path ++ 10 ∷ []
+line_of (RefusedAbsent path) done = codes "refused absent " ++ escaped path ++ 10 ∷ []
+line_of (RefusedLong path) done = codes "refused long " ++ escaped path ++ 10 ∷ []
+line_of (RefusedRules fault) done = codes "refused rules " ++ rule_place fault ++ 10 ∷ []
+line_of (RefusedLayout fault) done = codes "refused layout " ++ layout_place fault ++ 10 ∷ []
+line_of a done = []

@@ -2,7 +2,7 @@
 use Rattle.std.specs.Prelude.{◌≡◌, ℕ, List, Option, Some, None}
 use Rattle.lvs_outside.specs.Store.{Told, Untold, NoFile, Holds}
 use Rattle.lvs_run.specs.Words.{Paths}
-use Rattle.lvs_run.specs.Answers.{Answer, Good}
+use Rattle.lvs_run.specs.Answers.{Done, Answer, Good}
 use Rattle.lvs_run.specs.Outcomes.{IsOutcome}
 
 -- it is told what the file holds, or that there is none
@@ -16,15 +16,13 @@ abbrev pub AreInputsTold : Option Paths → (List ℕ → Told) → Type 0
 AreInputsTold None file = Unit {0}
 AreInputsTold (Some p) file = IsTold (file p.rules) × IsTold (file p.layout)
 
--- the answers are one, and where it is Good, the written texts and their counts are
-pub record IsSameOutcome (a b : Answer) (xs ys : List ℕ) (n m : ℕ) : Type 0 where
+-- the answers are one, and where it is Good, so is what is written
+pub record IsSameOutcome (a b : Answer) (x y : Done) : Type 0 where
   pub answer : a ≡ b
-  pub text : a ≡ Good → xs ≡ ys
-  pub count : a ≡ Good → n ≡ m
+  pub done : a ≡ Good → x ≡ y
 
 -- words and told inputs have one outcome
 abbrev pub OneOutcomeLaw : Type 0
-OneOutcomeLaw = (said : Option Paths) (file : List ℕ → Told) (a b : Answer) (text other : List ℕ)
-    (count number : ℕ) → AreInputsTold said file
-    → IsOutcome said file a text count → IsOutcome said file b other number
-    → IsSameOutcome a b text other count number
+OneOutcomeLaw = (said : Option Paths) (file : List ℕ → Told) (a b : Answer) (x y : Done)
+    → AreInputsTold said file → IsOutcome said file a x → IsOutcome said file b y
+    → IsSameOutcome a b x y

@@ -2,15 +2,17 @@
 use Rattle.std.specs.Prelude.{◌≡◌, ℕ, ◌<◌, ◌≤◌, List, length, Option, Some, None}
 use Rattle.lvs_outside.specs.Store.{Told, Untold, NoFile, Holds}
 use Rattle.lvs_outside.specs.Loops.{limit}
-use Rattle.gds_elements.specs.Meaning.{Library}
-use Rattle.gds_elements.specs.Faults.{Accepts, FirstFault}
-use Rattle.one_cell.specs.OneCell.{IsMade, IsUnbuilt}
+use Rattle.gds_layout.specs.declared.layout.Layout.{Layout}
+use Rattle.gds_layout.specs.declared.layout.LayoutFault.{LayoutFault}
+use Rattle.gds_layout.specs.declared.layout.LayoutFault.TheVariants as layout
+use Rattle.gds_layout.specs.Layouts.{IsRead, IsFaultOf}
 use Rattle.rule_text.specs.declared.fault.RuleFault.{RuleFault}
 use Rattle.rule_text.specs.Rules.{Rules}
 use Rattle.rule_text.specs.Reading.{Means, IsFirstFault}
+use Rattle.shapes_file.specs.File.{IsShapesFile}
 use Rattle.lvs_run.specs.Words.{Paths, same_path}
-use Rattle.lvs_run.specs.Answers.{Answer, Good, RefusedWords, RefusedSame, RefusedAbsent}
-use Rattle.lvs_run.specs.Answers.{RefusedLong, RefusedRules, RefusedLayout, RefusedUnbuilt}
+use Rattle.lvs_run.specs.Answers.{Done, Answer, Good, RefusedWords, RefusedSame, RefusedAbsent}
+use Rattle.lvs_run.specs.Answers.{RefusedLong, RefusedRules, RefusedLayout}
 
 -- the words state a command of these paths, and no file that it writes is named twice
 pub record Runs (said : Option Paths) (p : Paths) : Type 0 where
@@ -30,43 +32,48 @@ pub record ReadsRules (said : Option Paths) (file : List ℕ → Told) (p : Path
   pub held : HasFile file p.rules bytes
   pub means : Means bytes r
 
--- and its layout is this library
+-- and the layout of its stream, from the only cell that none refers to, is this one
 pub record ReadsLayout (said : Option Paths) (file : List ℕ → Told) (p : Paths) (r : Rules)
-    (v : Library) : Type 0 where
+    (l : Layout) : Type 0 where
   pub rules : ReadsRules said file p r
   pub bytes : List ℕ
   pub held : HasFile file p.layout bytes
-  pub accepted : Accepts bytes v
+  pub read : IsRead bytes None l
 
--- The answer, and after Good the text that is written with so many rectangles. The words are looked
--- at first, then the paths, the rule file and the layout, and the first of them that is refused
--- gives the answer. Nothing is said where a file that comes next isn't told.
-pub data IsOutcome (said : Option Paths) (file : List ℕ → Told) (a : Answer) (text : List ℕ)
-    (count : ℕ) : Type 0 where
-  WrongWords : said ≡ None → a ≡ RefusedWords → IsOutcome said file a text count
+-- the stream's first fault, or the first of its cells' names and references; no want of memory
+abbrev pub IsFirstLayoutFault : List ℕ → LayoutFault → Type 0
+IsFirstLayoutFault bytes layout.NoMemory = ⊥
+IsFirstLayoutFault bytes fault = IsFaultOf bytes None fault
+
+-- what is written is the shapes file of the layout by the rules
+abbrev pub IsDone : Layout → Rules → Done → Type 0
+IsDone l r done = IsShapesFile l r done.text done.cells done.rectangles
+
+-- The answer, and after Good what is written. The words are looked at first, then the paths, the
+-- rule file and the layout, and the first of them that is refused gives the answer. Nothing is said
+-- where a file that comes next isn't told.
+pub data IsOutcome (said : Option Paths) (file : List ℕ → Told) (a : Answer) (done : Done) :
+    Type 0 where
+  WrongWords : said ≡ None → a ≡ RefusedWords → IsOutcome said file a done
   SamePath : (p : Paths) (path : List ℕ) → said ≡ Some p → same_path p ≡ Some path
-      → a ≡ RefusedSame path → IsOutcome said file a text count
+      → a ≡ RefusedSame path → IsOutcome said file a done
   NoRules : (p : Paths) → Runs said p → file p.rules ≡ NoFile → a ≡ RefusedAbsent p.rules
-      → IsOutcome said file a text count
+      → IsOutcome said file a done
   LongRules : (p : Paths) (bytes : List ℕ) → Runs said p → file p.rules ≡ Holds bytes
-      → limit < length bytes → a ≡ RefusedLong p.rules → IsOutcome said file a text count
+      → limit < length bytes → a ≡ RefusedLong p.rules → IsOutcome said file a done
   BadRules : (p : Paths) (bytes : List ℕ) (fault : RuleFault) → Runs said p
       → HasFile file p.rules bytes → IsFirstFault bytes fault → a ≡ RefusedRules fault
-      → IsOutcome said file a text count
+      → IsOutcome said file a done
   NoLayout : (p : Paths) (r : Rules) → ReadsRules said file p r → file p.layout ≡ NoFile
-      → a ≡ RefusedAbsent p.layout → IsOutcome said file a text count
+      → a ≡ RefusedAbsent p.layout → IsOutcome said file a done
   LongLayout : (p : Paths) (r : Rules) (bytes : List ℕ) → ReadsRules said file p r
       → file p.layout ≡ Holds bytes → limit < length bytes → a ≡ RefusedLong p.layout
-      → IsOutcome said file a text count
-  BadLayout : (p : Paths) (r : Rules) (bytes : List ℕ) (number index offset : ℕ)
+      → IsOutcome said file a done
+  BadLayout : (p : Paths) (r : Rules) (bytes : List ℕ) (fault : LayoutFault)
       → ReadsRules said file p r → HasFile file p.layout bytes
-      → FirstFault bytes number index offset → a ≡ RefusedLayout number index offset
-      → IsOutcome said file a text count
-  Unbuilt : (p : Paths) (r : Rules) (v : Library) → ReadsLayout said file p r v → IsUnbuilt v
-      → a ≡ RefusedUnbuilt p.layout → IsOutcome said file a text count
-  Drawn : (p : Paths) (r : Rules) (v : Library) → ReadsLayout said file p r v
-      → IsMade v r text count → a ≡ Good → IsOutcome said file a text count
-  UntoldRules : (p : Paths) → Runs said p → file p.rules ≡ Untold
-      → IsOutcome said file a text count
+      → IsFirstLayoutFault bytes fault → a ≡ RefusedLayout fault → IsOutcome said file a done
+  Drawn : (p : Paths) (r : Rules) (l : Layout) → ReadsLayout said file p r l → IsDone l r done
+      → a ≡ Good → IsOutcome said file a done
+  UntoldRules : (p : Paths) → Runs said p → file p.rules ≡ Untold → IsOutcome said file a done
   UntoldLayout : (p : Paths) (r : Rules) → ReadsRules said file p r → file p.layout ≡ Untold
-      → IsOutcome said file a text count
+      → IsOutcome said file a done

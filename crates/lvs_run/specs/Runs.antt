@@ -5,8 +5,8 @@ use Rattle.lvs_outside.specs.Store.{Writing, SameFiles, appended}
 use Rattle.lvs_outside.specs.Summary.{SinkState}
 use Rattle.lvs_outside.specs.Loops.{limit, HoldsNow, ForPrefix}
 use Rattle.lvs_run.specs.Words.{Paths, same_path}
-use Rattle.lvs_run.specs.Answers.{Answer, Good, Bad, RefusedWords, RefusedSame, RefusedAbsent}
-use Rattle.lvs_run.specs.Answers.{RefusedLong, RefusedRules, RefusedLayout, RefusedUnbuilt}
+use Rattle.lvs_run.specs.Answers.{Done, Answer, Good, Bad, RefusedWords, RefusedSame}
+use Rattle.lvs_run.specs.Answers.{RefusedAbsent, RefusedLong, RefusedRules, RefusedLayout}
 use Rattle.lvs_run.specs.Answers.{Undecided, Outside, NoMemory}
 use Rattle.lvs_run.specs.Lines.{line_of}
 
@@ -73,10 +73,6 @@ abbrev pub IsLayoutRead : Option Paths → Store → Store → Type 0
 IsLayoutRead None old new = ⊥
 IsLayoutRead (Some p) old new = (same_path p ≡ None) × IsReadWhole new.opened old p.layout
 
-abbrev pub IsLayout : Option Paths → List ℕ → Type 0
-IsLayout None path = ⊥
-IsLayout (Some p) path = path ≡ p.layout
-
 -- there was one absent answer, for this path, and nothing was opened after it
 pub record WasAbsent (old new : Store) (path : List ℕ) : Type 0 where
   pub one : new.absent ≡ old.absent + 1
@@ -93,9 +89,7 @@ HasCauseIn said old new (RefusedAbsent path) = IsInputPath said path × WasAbsen
 HasCauseIn said old new (RefusedLong path) = IsInputPath said path × IsReadTooFar new.opened path
     × (new.absent ≡ old.absent)
 HasCauseIn said old new (RefusedRules fault) = AreRulesRead said old new × (new.absent ≡ old.absent)
-HasCauseIn said old new (RefusedLayout number index offset) = IsLayoutRead said old new
-    × (new.absent ≡ old.absent)
-HasCauseIn said old new (RefusedUnbuilt path) = IsLayoutRead said old new × IsLayout said path
+HasCauseIn said old new (RefusedLayout fault) = IsLayoutRead said old new
     × (new.absent ≡ old.absent)
 HasCauseIn said old new Undecided = ⊥
 HasCauseIn said old new Outside = Unit {0}
@@ -125,8 +119,8 @@ Leaves said old new text a = StartsNone old new
 
 -- the sink took the answer's line, and nothing where memory ran out; Outside says nothing of it
 -- here
-abbrev pub Says : Answer → ℕ → SinkState → SinkState → Type 0
-Says Outside count before after = Unit {0}
-Says NoMemory count before after = (after.told ≡ before.told) × (after.write_calls
+abbrev pub Says : Answer → Done → SinkState → SinkState → Type 0
+Says Outside done before after = Unit {0}
+Says NoMemory done before after = (after.told ≡ before.told) × (after.write_calls
     ≡ before.write_calls)
-Says a count before after = after.told ≡ appended before.told (line_of a count)
+Says a done before after = after.told ≡ appended before.told (line_of a done)

@@ -2,15 +2,15 @@
 
 ghost use Rattle.lvs_run.specs.Once.{OneOutcomeLaw};
 
-use gds_elements::one_meaning;
-use rect_sets::one_list;
+use gds_layout::one_layout;
+use shapes_file::one_file;
 
 /// Words and told input files have one answer, and where it is good one shapes file with one count
-/// of rectangles.
+/// of cells and one of rectangles.
 pub fn one_outcome()
     ensures { OneOutcomeLaw }
 {
-    one_list();
-    one_meaning();
+    one_layout();
+    one_file();
     rule_text::laws();
 }

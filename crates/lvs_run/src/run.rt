@@ -1,14 +1,14 @@
 // The run of the program.
-ghost use Rattle.std.specs.Prelude.{◌≡◌, map, string_bytes, IfOk, IfErr, Some, None};
+ghost use Rattle.std.specs.Prelude.{◌≡◌, ℕ, List, Option, map, string_bytes, IfOk, IfErr};
+ghost use Rattle.std.specs.Prelude.{Some, None};
 ghost use Rattle.std.specs.Str.{bytes_eq};
-ghost use Rattle.gds_elements.specs.Faults.{Accepts, IsAccepted};
-ghost use Rattle.gds_elements.specs.Reading.{library_seen};
+ghost use Rattle.gds_layout.specs.Layouts.{IsRead};
 ghost use Rattle.lvs_outside.specs.Store.{HasRoom};
 ghost use Rattle.lvs_outside.specs.Summary.{SinkHasRoom};
-ghost use Rattle.lvs_run.specs.Answers.{answer_of, refused, refused_rules};
+ghost use Rattle.lvs_run.specs.Answers.{answer_of, refused, refused_layout, refused_rules};
 ghost use Rattle.lvs_run.specs.Ends.{ComesOut, Delivered, Refused};
 ghost use Rattle.lvs_run.specs.Flat.{WritesFlat};
-ghost use Rattle.lvs_run.specs.Inputs.{IsOutput, IsReady, NotMade, Quiet, ReadAs, RefusesLayout};
+ghost use Rattle.lvs_run.specs.Inputs.{IsOutput, IsReady, Quiet, ReadAs, RefusesLayout};
 ghost use Rattle.lvs_run.specs.Inputs.{RefusesRules, Stops, stopped};
 ghost use Rattle.lvs_run.specs.Runs.{HasCauseIn, ShowsFaults};
 ghost use Rattle.lvs_run.specs.Words.{paths_of, said, same_path};
@@ -16,22 +16,23 @@ ghost use Rattle.rule_text.specs.Reading.{Means};
 ghost use Rattle.rule_text.specs.Seen.{rules_seen};
 ghost use Rattle.rule_text.specs.Sound.{IsSound};
 
-use crate::input::{Stop, read_input};
+use crate::input::{Stop, feed_input, read_input};
 use crate::status::{Refusal, Status};
 use crate::summary::{good_line, refusal_line};
 use crate::words::{Command, WordFault, read_words};
-use gds_elements::{GdsFault, Library, read_library};
+use gds_layout::{Layout, LayoutFault, LayoutReader};
 use lvs_outside::{Depot, Sink, write_all, write_file};
-use one_cell::make_shapes;
 use rule_text::{RuleFault, RuleSet, read_rules};
-use std::alloc::Global;
+use shapes_file::{Shapes, covers_flat, shapes_file};
+use std::alloc::{AllocError, Global};
+use std::sync::Wait;
+use std::thread::Threads;
 
-// What a run has to write: the shapes file with so many rectangles, and the line.
+// What a run has to write: the shapes file of the path, and the line.
 #[derive(Drop)]
 struct Output {
     path: String,
-    text: Vec<u8>,
-    count: u128,
+    shapes: Shapes,
     line: Vec<u8>,
 }
 
@@ -54,60 +55,54 @@ fn rules_of<D: Depot>(alloc: Global, depot: &mut D, path: &String) -> Result<Rul
     ensures refused { IfErr result (λ why. RefusesRules (D.state depot.old) (D.state depot.new)
         (string_bytes path.now) (stopped why)) }
 {
-    let bytes = match read_input(alloc, depot, path) {
-        Ok(bytes) => bytes,
-        Err(stop) => return Err(stop),
-    };
+    let bytes = read_input(alloc, depot, path)?;
     match read_rules(alloc, bytes.as_slice()) {
         Ok(rules) => Ok(rules),
         Err(fault) => Err(rules_stop(fault)),
     }
 }
 
-// The library of the path's file.
-fn library_of<D: Depot>(alloc: Global, depot: &mut D, path: &String) -> Result<Library, Stop>
-    requires { HasRoom (D.state depot.old) }
-    ensures quiet { Quiet (D.state depot.old) (D.state depot.new) }
-    ensures found { IfOk result (λ v. ReadAs (D.state depot.old) (D.state depot.new)
-        (string_bytes path.now) (λ bytes. Accepts bytes (library_seen v))) }
-    ensures refused { IfErr result (λ why. RefusesLayout (D.state depot.old) (D.state depot.new)
-        (string_bytes path.now) (stopped why)) }
+fn layout_stop(fault: LayoutFault) -> Stop
+    ensures { stopped result ≡ refused_layout fault }
 {
-    let bytes = match read_input(alloc, depot, path) {
-        Ok(bytes) => bytes,
-        Err(stop) => return Err(stop),
-    };
-    match read_library(alloc, bytes.as_slice()) {
-        Ok(library) => Ok(library),
-        Err(GdsFault::NoMemory) => Err(Stop::NoMemory),
-        Err(fault) => Err(Stop::Refused(Refusal::Layout(fault))),
+    match fault {
+        LayoutFault::NoMemory => Stop::NoMemory,
+        fault => Stop::Refused(Refusal::Layout(fault)),
     }
 }
 
-// What there is to write.
-fn output_of(
-    alloc: Global,
-    library: &Library,
-    rules: &RuleSet,
-    layout: String,
-    shapes: String,
-) -> Result<Output, Stop>
-    requires { IsAccepted (library_seen library.now) }
-    ensures made { IfOk result (λ o. IsOutput (string_bytes shapes) (library_seen library.now)
-        (rules_seen rules.now) o) }
-    ensures stops { IfErr result (λ why. NotMade (string_bytes layout) (library_seen library.now)
-        (stopped why)) }
+// The layout of the path's file.
+fn layout_of<D: Depot>(alloc: Global, depot: &mut D, path: &String) -> Result<Layout, Stop>
+    requires { HasRoom (D.state depot.old) }
+    ensures quiet { Quiet (D.state depot.old) (D.state depot.new) }
+    ensures found { IfOk result (λ l. ReadAs (D.state depot.old) (D.state depot.new)
+        (string_bytes path.now) (λ bytes. IsRead bytes None l)) }
+    ensures refused { IfErr result (λ why. RefusesLayout (D.state depot.old) (D.state depot.new)
+        (string_bytes path.now) (stopped why)) }
 {
-    let Some(made) = make_shapes(alloc, library, rules)? else {
-        return Err(Stop::Refused(Refusal::Unbuilt(layout)));
-    };
-    let line = good_line(alloc, made.rectangles)?;
-    Ok(Output {
-        path: shapes,
-        text: made.text,
-        count: made.rectangles,
-        line,
-    })
+    let mut reader = LayoutReader::new(alloc);
+    feed_input(alloc, depot, path, &mut reader)?;
+    match reader.finish(alloc, None) {
+        Ok(layout) => Ok(layout),
+        Err(fault) => Err(layout_stop(fault)),
+    }
+}
+
+// What there is to write. One worker derives the layers.
+fn output_of<R: Threads + Wait + Sync>(
+    rt: &R,
+    alloc: Global,
+    layout: &Layout,
+    rules: &RuleSet,
+    path: String,
+) -> Result<Output, AllocError>
+    requires read { (bytes : List ℕ) × (top : Option (List ℕ)) × IsRead bytes top layout.now }
+    requires rules { IsSound (rules_seen rules.now) }
+    ensures { IfOk result (IsOutput (string_bytes path) layout.now (rules_seen rules.now)) }
+{
+    let shapes = shapes_file(rt, alloc, layout, rules, 1)?;
+    let line = good_line(alloc, &shapes)?;
+    Ok(Output { path, shapes, line })
 }
 
 fn is_same(a: &String, b: &String) -> bool
@@ -117,7 +112,8 @@ fn is_same(a: &String, b: &String) -> bool
 }
 
 // Reads the inputs of `shapes` and makes all that is to be written.
-fn shapes_output<D: Depot>(
+fn shapes_output<R: Threads + Wait + Sync, D: Depot>(
+    rt: &R,
     alloc: Global,
     layout: String,
     rules: String,
@@ -135,22 +131,20 @@ fn shapes_output<D: Depot>(
     if is_same(&layout, &shapes) || is_same(&rules, &shapes) {
         return Err(Stop::Refused(Refusal::SamePath(shapes)));
     }
-    let rule_set = match rules_of(alloc, depot, &rules) {
-        Ok(rule_set) => rule_set,
-        Err(stop) => return Err(stop),
-    };
-    let library = match library_of(alloc, depot, &layout) {
-        Ok(library) => library,
-        Err(stop) => return Err(stop),
-    };
-    match output_of(alloc, &library, &rule_set, layout, shapes) {
-        Ok(output) => Ok(output),
-        Err(stop) => Err(stop),
-    }
+    covers_flat();
+    let rule_set = rules_of(alloc, depot, &rules)?;
+    let design = layout_of(alloc, depot, &layout)?;
+    let output = output_of(rt, alloc, &design, &rule_set, shapes)?;
+    Ok(output)
 }
 
 // Reads the words and the inputs, and makes all that is to be written.
-fn prepare<D: Depot>(alloc: Global, words: &[String], depot: &mut D) -> Result<Output, Stop>
+fn prepare<R: Threads + Wait + Sync, D: Depot>(
+    rt: &R,
+    alloc: Global,
+    words: &[String],
+    depot: &mut D,
+) -> Result<Output, Stop>
     requires { HasRoom (D.state depot.old) }
     ensures quiet { Quiet (D.state depot.old) (D.state depot.new) }
     ensures ready { IfOk result (λ o. IsReady (said (map string_bytes words.now))
@@ -165,7 +159,7 @@ fn prepare<D: Depot>(alloc: Global, words: &[String], depot: &mut D) -> Result<O
                 rules,
                 shapes,
             },
-        ) => shapes_output(alloc, layout, rules, shapes, depot),
+        ) => shapes_output(rt, alloc, layout, rules, shapes, depot),
         Err(WordFault::Refused) => Err(Stop::Refused(Refusal::Words)),
         Err(WordFault::NoMemory) => Err(Stop::NoMemory),
     }
@@ -192,7 +186,7 @@ fn deliver<D: Depot, S: Sink>(output: &Output, depot: &mut D, out: &mut S) -> St
     ensures { Delivered output.now (D.state depot.old) (D.state depot.new) (S.state out.old)
         (S.state out.new) (answer_of result) }
 {
-    if write_file(depot, output.path.as_str(), output.text.as_slice()).is_err() {
+    if write_file(depot, output.path.as_str(), output.shapes.text.as_slice()).is_err() {
         return Status::Outside;
     }
     if write_all(out, output.line.as_slice()).is_err() {
@@ -205,9 +199,10 @@ fn deliver<D: Depot, S: Sink>(output: &Output, depot: &mut D, out: &mut S) -> St
 /// summary line.
 ///
 /// All that is written is complete in memory before the first write. After a failed call neither
-/// object is called again.
-/// The layout is read to its end, or past the limit, before its fault is answered.
-pub fn run_lvs<D: Depot, S: Sink>(
+/// object is called again. The layout is read in pieces, of which none is kept, to its end or past
+/// the limit before its fault is answered.
+pub fn run_lvs<R: Threads + Wait + Sync, D: Depot, S: Sink>(
+    rt: &R,
     alloc: Global,
     words: &[String],
     depot: &mut D,
@@ -230,7 +225,7 @@ pub fn run_lvs<D: Depot, S: Sink>(
     ensures flat { WritesFlat (said (map string_bytes words.now)) (D.state depot.old)
         (D.state depot.new) (answer_of result) }
 {
-    match prepare(alloc, words, depot) {
+    match prepare(rt, alloc, words, depot) {
         Ok(output) => deliver(&output, depot, out),
         Err(Stop::Refused(why)) => refuse(alloc, why, out),
         Err(Stop::Outside) => Status::Outside,

@@ -1,5 +1,5 @@
 // How a run of the program ends.
-use gds_elements::GdsFault;
+use gds_layout::LayoutFault;
 use rule_text::RuleFault;
 
 /// How a run of the program ends.
@@ -33,11 +33,7 @@ pub enum Refusal {
     /// The rule file's first fault.
     Rules(RuleFault),
     /// The layout's first fault.
-    Layout(GdsFault),
-    /// The layout is sound, and this program doesn't read its form yet: it isn't one cell without
-    /// references within
-    /// plus or minus 2^30.
-    Unbuilt(String),
+    Layout(LayoutFault),
 }
 
 impl Status {

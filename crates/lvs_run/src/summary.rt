@@ -2,13 +2,18 @@
 ghost use Rattle.std.specs.Prelude.{◌≡◌, ◌++◌, ◌∷◌, [], IfOk, OnOk, string_bytes};
 ghost use Rattle.std.specs.Fmt.{decimal};
 ghost use Rattle.net_names.specs.Escapes.{escaped};
-ghost use Rattle.lvs_run.specs.Answers.{refused, Good, RefusedLayout, RefusedRules};
-ghost use Rattle.lvs_run.specs.Lines.{line_of, rule_place};
+ghost use Rattle.gds_layout.specs.declared.layout.LayoutFault.TheVariants.{Gds};
+ghost use Rattle.lvs_run.specs.Answers.{done_of, nothing, refused, Good, RefusedLayout};
+ghost use Rattle.lvs_run.specs.Answers.{RefusedRules};
+ghost use Rattle.lvs_run.specs.Lines.{layout_place, line_of, link_place, rule_place};
 
 use crate::status::Refusal;
+use cell_graph::LinkFault;
 use gds_elements::GdsFault;
+use gds_layout::LayoutFault;
 use net_names::{Name, escape};
 use rule_text::RuleFault;
+use shapes_file::Shapes;
 use std::alloc::{AllocError, Global};
 
 // A line of two words and a path, whose escapes are those of SPICE names.
@@ -42,7 +47,7 @@ fn rule_place(alloc: Global, fault: RuleFault) -> Result<String, AllocError>
 
 // The line of a rule file's fault.
 fn rules_line(alloc: Global, fault: RuleFault) -> Result<Vec<u8>, AllocError>
-    ensures { IfOk result (λ line. line.items ≡ line_of (RefusedRules fault) 0) }
+    ensures { IfOk result (λ line. line.items ≡ line_of (RefusedRules fault) nothing) }
 {
     let place = rule_place(alloc, fault)?;
     let mut line = b"refused rules ".to_vec(alloc)?;
@@ -65,21 +70,69 @@ fn push_number(
     line.extend_from_slice(digits.as_bytes())
 }
 
-// The line of a layout's fault.
-fn layout_line(alloc: Global, number: u8, index: u64, offset: u64) -> Result<Vec<u8>, AllocError>
-    ensures { IfOk result (λ line. line.items ≡ line_of (RefusedLayout number index offset) 0) }
+// Adds words and a cell's name, whose escapes are those of SPICE names.
+fn push_name(alloc: Global, line: &mut Vec<u8>, words: &[u8], name: &Name) -> Result<(), AllocError>
+    ensures { OnOk result (line.new.items ≡ line.old.items ++ words.now ++ escaped name.now) }
 {
-    let mut line = Vec::new(alloc);
-    push_number(alloc, &mut line, b"refused layout ", u64::from(number))?;
-    push_number(alloc, &mut line, b" record ", index)?;
-    push_number(alloc, &mut line, b" offset ", offset)?;
+    let text = escape(alloc, name)?;
+    line.extend_from_slice(words)?;
+    line.extend_from_slice(text.as_slice())
+}
+
+// Adds the number of a fault of the cells' names and references, and the cells that it names.
+fn push_link(alloc: Global, line: &mut Vec<u8>, fault: &LinkFault) -> Result<(), AllocError>
+    ensures { OnOk result (line.new.items ≡ line.old.items ++ link_place fault.now) }
+{
+    match fault {
+        LinkFault::DuplicateCell(name) => push_name(alloc, line, b"20 cell ", name),
+        LinkFault::NoSuchCell(name) => push_name(alloc, line, b"21 cell ", name),
+        LinkFault::Cycle(name) => push_name(alloc, line, b"22 cell ", name),
+        LinkFault::TopUnclear(one, other) => {
+            push_name(alloc, line, b"23 cell ", one)?;
+            push_name(alloc, line, b" cell ", other)
+        }
+        LinkFault::NoTop => line.extend_from_slice(b"24"),
+        LinkFault::CoordinateRange(name) => push_name(alloc, line, b"25 cell ", name),
+        LinkFault::TooManyCells => line.extend_from_slice(b"26"),
+        LinkFault::TooDeep(name) => push_name(alloc, line, b"27 cell ", name),
+        LinkFault::NoMemory => Ok(()),
+    }
+}
+
+// Adds the number of the first record that doesn't pass, its place and its offset.
+fn push_record(alloc: Global, line: &mut Vec<u8>, fault: &GdsFault) -> Result<(), AllocError>
+    ensures { OnOk result (line.new.items ≡ line.old.items ++ layout_place (Gds fault.now)) }
+{
+    let GdsFault::Bad {
+        number,
+        index,
+        offset,
+    } = fault
+    else {
+        return Ok(());
+    };
+    push_number(alloc, line, b"", u64::from(*number))?;
+    push_number(alloc, line, b" record ", *index)?;
+    push_number(alloc, line, b" offset ", *offset)
+}
+
+// The line of a layout's fault.
+fn layout_line(alloc: Global, fault: &LayoutFault) -> Result<Vec<u8>, AllocError>
+    ensures { IfOk result (λ line. line.items ≡ line_of (RefusedLayout fault.now) nothing) }
+{
+    let mut line = b"refused layout ".to_vec(alloc)?;
+    match fault {
+        LayoutFault::Gds(fault) => push_record(alloc, &mut line, fault)?,
+        LayoutFault::Link(fault) => push_link(alloc, &mut line, fault)?,
+        LayoutFault::NoMemory => {}
+    }
     line.push(b'\n')?;
     Ok(line)
 }
 
 /// The line of a refusal.
 pub fn refusal_line(alloc: Global, why: &Refusal) -> Result<Vec<u8>, AllocError>
-    ensures { IfOk result (λ line. line.items ≡ line_of (refused why.now) 0) }
+    ensures { IfOk result (λ line. line.items ≡ line_of (refused why.now) nothing) }
 {
     match why {
         Refusal::Words => b"refused words\n".to_vec(alloc),
@@ -87,22 +140,17 @@ pub fn refusal_line(alloc: Global, why: &Refusal) -> Result<Vec<u8>, AllocError>
         Refusal::Absent(path) => path_line(alloc, b"refused absent ", path.as_str()),
         Refusal::TooLong(path) => path_line(alloc, b"refused long ", path.as_str()),
         Refusal::Rules(fault) => rules_line(alloc, *fault),
-        Refusal::Layout(
-            GdsFault::Bad {
-                number,
-                index,
-                offset,
-            },
-        ) => layout_line(alloc, *number, *index, *offset),
-        Refusal::Layout(GdsFault::NoMemory) => layout_line(alloc, 0, 0, 0),
-        Refusal::Unbuilt(path) => path_line(alloc, b"refused unbuilt ", path.as_str()),
+        Refusal::Layout(fault) => layout_line(alloc, fault),
     }
 }
 
-/// The line of a run that wrote so many rectangles.
-pub fn good_line(alloc: Global, count: u128) -> Result<Vec<u8>, AllocError>
-    ensures { IfOk result (λ line. line.items ≡ line_of Good count) }
+/// The line of a run that wrote so many cells and rectangles.
+pub fn good_line(alloc: Global, shapes: &Shapes) -> Result<Vec<u8>, AllocError>
+    ensures { IfOk result (λ line. line.items ≡ line_of Good (done_of shapes.now)) }
 {
-    let text = format!(in alloc; "shapes cells 1 rectangles {count}\n")?;
-    text.as_bytes().to_vec(alloc)
+    let mut line = Vec::new(alloc);
+    push_number(alloc, &mut line, b"shapes cells ", u64::from(shapes.cells))?;
+    push_number(alloc, &mut line, b" rectangles ", shapes.rectangles)?;
+    line.push(b'\n')?;
+    Ok(line)
 }

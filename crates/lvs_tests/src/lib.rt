@@ -2,6 +2,12 @@
 #![tactic(auto)]
 
 #[cfg(test)]
+mod cells;
+#[cfg(test)]
+mod command;
+#[cfg(test)]
+mod hierarchies;
+#[cfg(test)]
 mod quiet;
 #[cfg(test)]
 mod runs;

@@ -19,7 +19,7 @@ fn common_rectangle_counted(rt: HostRuntime) -> Result<(), Fail> {
     depot.lend("l", &layout)?;
     depot.lend("r", RULES)?;
     let mut sink = QuietDepot::new(alloc);
-    let status = run_lvs(alloc, words.as_slice(), &mut depot, &mut sink);
+    let status = run_lvs(&rt, alloc, words.as_slice(), &mut depot, &mut sink);
     assert_eq!(rt; status.code(), 0);
     assert_eq!(rt; depot.written(), 166);
     assert_eq!(rt; sink.written(), 28);

@@ -1,8 +1,5 @@
+use crate::command::{Failing, NONE, SHAPES, refuses, run_of};
 use crate::streams::{Shape, front, outline, stream, with_byte};
-use lvs_outside::{MemoryDepot, MemorySink};
-use lvs_run::run_lvs;
-use std::alloc::{AllocError, Global};
-use std::process::Abort;
 use std::test::Fail;
 
 const RULES: &[u8] = b"a = input(1, 0)\nb = input(2, 0)\nc = a & b\nc.output(10, 0)\n";
@@ -11,67 +8,13 @@ const OVERLAP: [Shape; 2] = [(1, 0, 0, 10, 10), (2, 5, 5, 15, 15)];
 
 const TOUCHING: [Shape; 2] = [(1, 0, 0, 10, 10), (2, 10, 0, 20, 10)];
 
-// What a run left.
-#[derive(Debug, Drop)]
-struct Ran {
-    code: u8,
-    line: Vec<u8>,
-    shapes: Option<Vec<u8>>,
-}
-
-// The calls that are to fail, by number: of the depot and of the sink. 0 is no call.
-#[derive(Clone, Copy)]
-struct Failing {
-    depot: u64,
-    sink: u64,
-}
-
-const NONE: Failing = Failing { depot: 0, sink: 0 };
-
-fn words_of(alloc: Global, words: &[&str]) -> Result<Vec<String>, AllocError> {
-    let mut made = Vec::new(alloc);
-    for word in words {
-        made.push(String::from_str(alloc, word)?)?;
-    }
-    Ok(made)
-}
-
-fn one(alloc: Global, number: u64) -> Result<Vec<u64>, AllocError> {
-    let mut numbers = Vec::new(alloc);
-    numbers.push(number)?;
-    Ok(numbers)
-}
-
-// Runs the words over the files l (the layout) and r (the rules).
-fn run_of(
-    alloc: Global,
-    layout: &[u8],
-    rules: &[u8],
-    words: &[&str],
-    failing: Failing,
-) -> Result<Ran, AllocError> {
-    let words = words_of(alloc, words)?;
-    let mut depot = MemoryDepot::new(alloc, one(alloc, failing.depot)?);
-    depot.put(alloc, "l", layout)?;
-    depot.put(alloc, "r", rules)?;
-    let mut sink = MemorySink::new(alloc, one(alloc, failing.sink)?);
-    let status = run_lvs(alloc, words.as_slice(), &mut depot, &mut sink);
-    let shapes = match depot.file("s") {
-        Some(bytes) => Some(bytes.to_vec(alloc)?),
-        None => None,
-    };
-    let line = sink.bytes().to_vec(alloc)?;
-    let code = status.code();
-    Ok(Ran { code, line, shapes })
-}
-
 // Two rectangles overlap in one. With ample memory the answer is Good.
 #[test]
 fn common_rectangle(rt: HostRuntime) -> Result<(), Fail> {
     let alloc = rt.alloc();
     let layout = stream(alloc, &OVERLAP)?;
     assert_eq!(rt; layout.len(), 230);
-    let run = run_of(alloc, &layout, RULES, &SHAPES, NONE)?;
+    let run = run_of(&rt, alloc, &layout, RULES, &SHAPES, NONE)?;
     assert_eq!(rt; run.code, 0);
     assert_eq!(rt;
         run.line.as_slice(),
@@ -88,7 +31,7 @@ fn common_rectangle(rt: HostRuntime) -> Result<(), Fail> {
 fn touching_only(rt: HostRuntime) -> Result<(), Fail> {
     let alloc = rt.alloc();
     let layout = stream(alloc, &TOUCHING)?;
-    let run = run_of(alloc, &layout, RULES, &SHAPES, NONE)?;
+    let run = run_of(&rt, alloc, &layout, RULES, &SHAPES, NONE)?;
     assert_eq!(rt; run.code, 0);
     assert_eq!(rt;
         run.line.as_slice(),
@@ -99,24 +42,6 @@ fn touching_only(rt: HostRuntime) -> Result<(), Fail> {
     assert_eq!(rt; run.shapes, Some(wanted));
     Ok(())
 }
-
-// A refusal has status 2 and its line, and starts no file.
-fn refuses(
-    rt: &impl Abort,
-    alloc: Global,
-    layout: &[u8],
-    rules: &[u8],
-    words: &[&str],
-    line: &str,
-) -> Result<(), AllocError> {
-    let run = run_of(alloc, layout, rules, words, NONE)?;
-    assert_eq!(rt; run.code, 2);
-    assert_eq!(rt; run.line.as_slice(), line.as_bytes());
-    assert_eq!(rt; run.shapes, None);
-    Ok(())
-}
-
-const SHAPES: [&str; 4] = ["shapes", "l", "r", "s"];
 
 // A word too few, another command, a path like an option or without a byte; absent files; a file
 // that is to be written and named twice.
@@ -236,7 +161,7 @@ fn nothing_behind_the_end(rt: HostRuntime) -> Result<(), Fail> {
     let mut longer = layout.to_vec(alloc)?;
     longer.extend_from_slice(&[0; 1818])?;
     assert_eq!(rt; longer.len(), 2048);
-    let run = run_of(alloc, &longer, RULES, &SHAPES, NONE)?;
+    let run = run_of(&rt, alloc, &longer, RULES, &SHAPES, NONE)?;
     assert_eq!(rt; run.code, 0);
     assert_eq!(rt;
         run.line.as_slice(),
@@ -270,9 +195,16 @@ fn units_of_zeros(rt: HostRuntime) -> Result<(), Fail> {
 fn reach(rt: HostRuntime) -> Result<(), Fail> {
     let alloc = rt.alloc();
     let far = stream(alloc, &[(1, 0, 0, 1073741825, 10)])?;
-    refuses(&rt, alloc, &far, RULES, &SHAPES, "refused unbuilt l\n")?;
+    refuses(
+        &rt,
+        alloc,
+        &far,
+        RULES,
+        &SHAPES,
+        "refused layout 25 cell A\n",
+    )?;
     let border = stream(alloc, &[(1, 0, 0, 1073741824, 10)])?;
-    let run = run_of(alloc, &border, RULES, &SHAPES, NONE)?;
+    let run = run_of(&rt, alloc, &border, RULES, &SHAPES, NONE)?;
     assert_eq!(rt; run.code, 0);
     Ok(())
 }
@@ -296,6 +228,7 @@ fn spiral_boundary(rt: HostRuntime) -> Result<(), Fail> {
     ];
     let layout = outline(alloc, &spiral)?;
     let run = run_of(
+        &rt,
         alloc,
         &layout,
         b"a = input(1, 0)\na.output(10, 0)\n",
@@ -327,7 +260,7 @@ fn four_booleans(rt: HostRuntime) -> Result<(), Fail> {
     let layout = stream(alloc, &OVERLAP)?;
     let rules =
         b"a = input(1, 0)\nb = input(2, 0)\nd = a - b\ne = a | b\nf = a ^ b\ne.output(11, 0)\nd.output(12, 0)\nf.output(13, 0)\n";
-    let run = run_of(alloc, &layout, rules, &SHAPES, NONE)?;
+    let run = run_of(&rt, alloc, &layout, rules, &SHAPES, NONE)?;
     assert_eq!(rt; run.code, 0);
     assert_eq!(rt;
         run.line.as_slice(),
@@ -357,7 +290,14 @@ fn each_call_fails(rt: HostRuntime) -> Result<(), Fail> {
     let alloc = rt.alloc();
     let layout = stream(alloc, &OVERLAP)?;
     for depot in 1..10u64 {
-        let run = run_of(alloc, &layout, RULES, &SHAPES, Failing { depot, sink: 0 })?;
+        let run = run_of(
+            &rt,
+            alloc,
+            &layout,
+            RULES,
+            &SHAPES,
+            Failing { depot, sink: 0 },
+        )?;
         assert_eq!(rt; run.code, 4);
         assert_eq!(rt; run.line.len(), 0);
         let written = run.shapes.map(|bytes| bytes.len());
@@ -369,6 +309,7 @@ fn each_call_fails(rt: HostRuntime) -> Result<(), Fail> {
         assert_eq!(rt; written, wanted);
     }
     let run = run_of(
+        &rt,
         alloc,
         &layout,
         RULES,
@@ -377,6 +318,7 @@ fn each_call_fails(rt: HostRuntime) -> Result<(), Fail> {
     )?;
     assert_eq!(rt; run.code, 0);
     let run = run_of(
+        &rt,
         alloc,
         &layout,
         RULES,

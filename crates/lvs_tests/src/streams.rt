@@ -2,7 +2,7 @@
 use std::alloc::{AllocError, Global};
 
 /// HEADER, BGNLIB, LIBNAME L, UNITS of a nanometre, BGNSTR, STRNAME A.
-const HEAD: [u8; 94] = [
+pub const HEAD: [u8; 94] = [
     0x00, 0x06, 0x00, 0x02, 0x02, 0x58, 0x00, 0x1C, 0x01, 0x02, 0, 0, 0, 0, 0, 0, 0, 0, 0, 0, 0, 0,
     0, 0, 0, 0, 0, 0, 0, 0, 0, 0, 0, 0, 0x00, 0x06, 0x02, 0x06, 0x4C, 0x00, 0x00, 0x14, 0x03, 0x05,
     0x3E, 0x41, 0x89, 0x37, 0x4B, 0xC6, 0xA7, 0xF0, 0x39, 0x44, 0xB8, 0x2F, 0xA0, 0x9B, 0x5A, 0x54,
@@ -16,14 +16,18 @@ const TAIL: [u8; 8] = [0x00, 0x04, 0x07, 0x00, 0x00, 0x04, 0x04, 0x00];
 /// A rectangle on a layer of datatype 0, as layer, x1, y1, x2, y2.
 pub type Shape = (u8, i32, i32, i32, i32);
 
-// The points of a rectangle from the lower left corner up.
-fn corners(shape: Shape) -> [(i32, i32); 5] {
+/// The points of a rectangle from the lower left corner up.
+pub fn corners(shape: Shape) -> [(i32, i32); 5] {
     let (_, x1, y1, x2, y2) = shape;
     [(x1, y1), (x1, y2), (x2, y2), (x2, y1), (x1, y1)]
 }
 
-// BOUNDARY, LAYER, DATATYPE, XY of at most 60 points, ENDEL.
-fn push_boundary(out: &mut Vec<u8>, layer: u8, points: &[(i32, i32)]) -> Result<(), AllocError> {
+/// BOUNDARY, LAYER, DATATYPE, XY of at most 60 points, ENDEL.
+pub fn push_boundary(
+    out: &mut Vec<u8>,
+    layer: u8,
+    points: &[(i32, i32)],
+) -> Result<(), AllocError> {
     out.extend_from_slice(&[0x00, 0x04, 0x08, 0x00, 0x00, 0x06, 0x0D, 0x02, 0x00, layer])?;
     let mut size = 4u16;
     for _ in points {

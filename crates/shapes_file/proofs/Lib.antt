@@ -7,6 +7,7 @@ pub mod Hierarchy
 pub mod Linked
 pub mod Lists
 pub mod Outlined
+pub mod OneFile
 pub mod ReadBack
 pub mod Same
 pub mod Sums

@@ -1,3 +1,4 @@
 pub mod File
 pub mod Flat
+pub mod One
 pub mod Read

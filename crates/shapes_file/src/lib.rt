@@ -4,6 +4,8 @@
 mod count;
 mod file;
 mod laws;
+mod one;
 
 pub use file::{Shapes, shapes_file};
 pub use laws::{covers_flat, one_hierarchy, writable};
+pub use one::one_file;

@@ -3,11 +3,13 @@ use lvs_outside::{MemoryDepot, MemorySink};
 use lvs_run::run_lvs;
 use std::alloc::{AllocError, Global};
 use std::process::Abort;
+use std::sync::Wait;
+use std::thread::Threads;
 
 /// Runs `shapes l r s` over the files l (the layout) and r (the rules): the status is 0, s has the
 /// wanted bytes, and the line says how many rectangles they hold.
-pub fn writes(
-    rt: &impl Abort,
+pub fn writes<R: Abort + Threads + Wait + Sync>(
+    rt: &R,
     alloc: Global,
     layout: &[u8],
     rules: &str,
@@ -19,8 +21,8 @@ pub fn writes(
 }
 
 /// The same, where the cell's name isn't `TOP`: the line says this number of rectangles.
-pub fn writes_count(
-    rt: &impl Abort,
+pub fn writes_count<R: Abort + Threads + Wait + Sync>(
+    rt: &R,
     alloc: Global,
     layout: &[u8],
     rules: &str,
@@ -36,7 +38,7 @@ pub fn writes_count(
     depot.put(alloc, "l", layout)?;
     depot.put(alloc, "r", rules.as_bytes())?;
     let mut sink = MemorySink::new(alloc, Vec::new(alloc));
-    let status = run_lvs(alloc, words.as_slice(), &mut depot, &mut sink);
+    let status = run_lvs(rt, alloc, words.as_slice(), &mut depot, &mut sink);
     assert_eq!(rt; status.code(), 0, "{name}");
     let line = format!(in alloc; "shapes cells 1 rectangles {count}\n")?;
     assert_eq!(rt; sink.bytes(), line.as_bytes(), "{name}");

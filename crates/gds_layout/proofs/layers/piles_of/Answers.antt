@@ -18,7 +18,7 @@ loop-shape-preserved c =
     let there : slice_get shapes n ≡ Some shape = slice_get-get_or shapes n shape c.loop-shape-test.true ∙ ap Some (sym c.shape-item.is) in (
       told.piles,
       subst (λ (ss : List Shape). Covers ss c.add.new.self.list.items) (sym (one_seen shape_seen shapes n shape there))
-          (covers_more (map shape_seen (take n shapes)) (shape_seen shape) c.loop-shape.piles.list.items c.add.new.self.list.items inv.1 told.covers told.has),
+          (covers_more (map shape_seen (take n shapes)) (shape_seen shape) c.loop-shape.piles.list.items c.add.new.self.list.items inv.1 told.covers told.has told.keys),
     )
 
 pub add-requires-clause-fillable : goal.add-requires-clause-fillable

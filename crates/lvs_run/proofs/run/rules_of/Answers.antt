@@ -5,6 +5,6 @@ use Rattle.lvs_run.proofs.run.rules_of.Goals as goal
 
 pub returns-clause-refused : goal.returns-clause-refused
 returns-clause-refused g c =
-    let got = c.in-Ok.ensures.got in
-    let fault = subst (λ (xs : List ℕ). Answers xs c.in-Err-read_rules.fault) c.as_slice.ensures.value c.in-Err-read_rules.ensures.fault in
-    rw c.rules_stop.ensures (record { why = rules_refused _ _ _ c.in-Ok.bytes.items c.in-Err-read_rules.fault got fault; faults = rules_faults _ _ c.in-Err-read_rules.fault got.faults })
+    let got = c.in_ok-bytes.ensures.got in
+    let fault = subst (λ (xs : List ℕ). Answers xs c.in-Err.fault) c.as_slice.ensures.value c.in-Err.ensures.fault in
+    rw c.rules_stop.ensures (record { why = rules_refused _ _ _ c.in_ok-bytes.bytes.items c.in-Err.fault got fault; faults = rules_faults _ _ c.in-Err.fault got.faults })

@@ -38,3 +38,7 @@ pub returns-clause-has : goal.returns-clause-has
 returns-clause-has c k =
     let g = c.in_ok-add_rects.ensures in
     gained_has c.in_ok-number.number c.rects.result.now c.number.new.self.list.items c.add_rects.new.list.items g k ∙ c.in_ok-number.ensures.has k
+
+pub returns-clause-keys : goal.returns-clause-keys
+returns-clause-keys c =
+    gained_keys c.in_ok-number.number c.rects.result.now c.number.new.self.list.items c.add_rects.new.list.items c.in_ok-add_rects.ensures ∙ c.in_ok-number.ensures.keys

@@ -1,5 +1,5 @@
 use Rattle.std.proofs.Common.{◌≡◌, ◌<◌, ℕ, List, [], ◌∷◌, ◌++◌, length, refl, sym, ap, subst, ◌∙◌, arith}
-use Rattle.std.specs.List.{All, position_or_len}
+use Rattle.std.specs.List.{All, list_any, position_or_len}
 use Rattle.std.proofs.lemmas.List.Elements.{All-nil, All-push}
 use Rattle.geo_base.specs.Layers.{is_same_key}
 use Rattle.geo_base.specs.Rects.{IsRect}
@@ -7,7 +7,7 @@ use Rattle.geo_base.specs.declared.layer.LayerKey.{LayerKey}
 use Rattle.geo_base.specs.declared.shapes.Rect.{Rect}
 use Rattle.gds_layout.specs.declared.piles.Pile.{Pile}
 use Rattle.gds_layout.specs.Piles.{keys_of, IsPileAt, AreDifferent}
-use Rattle.gds_layout.proofs.Piling.{map_length, absent, found, different_more, keys_more, last_pile, has_already}
+use Rattle.gds_layout.proofs.Piling.{map_length, absent, found, different_more, keys_more, last_pile, has_already, key_added, key_among}
 use Rattle.gds_layout.proofs.piles.Piles.number.Goals as goal
 
 pub add-requires : goal.add-requires
@@ -52,3 +52,17 @@ returns-else-number-len-clause-here c =
 
 pub returns-else-number-len-clause-has : goal.returns-else-number-len-clause-has
 returns-else-number-len-clause-has c = has_already c.args.self.now.list.items c.args.key c.number-number.result (returns-else-number-len-clause-here c)
+
+pub returns-in_ok-push-clause-keys : goal.returns-in_ok-push-clause-keys
+returns-in_ok-push-clause-keys c =
+    let was = c.requires in
+    let list = c.args.self.now.list.items in
+    let key = c.args.key in
+    let many : length c.args.self.now.keys ≡ length list = ap (λ (ks : List LayerKey). length ks) (sym was.keys_are) ∙ map_length list in
+    let none = absent key c.args.self.now.keys (sym c.number-number.ensures.place ∙ c.if-number-len.true ∙ c.len.ensures ∙ c.args.self.now.list.ok.0 ∙ sym many) in
+    let p : Pile = record { key = key; rects = c.new.result } in
+    let items : c.push.new.self.items ≡ list ++ p ∷ [] = c.in_ok-push.ensures.items in
+    ap keys_of items ∙ keys_more list p ∙ key_added (keys_of list) key (ap (λ (ks : List LayerKey). list_any (is_same_key key) ks) was.keys_are ∙ none)
+
+pub returns-else-number-len-clause-keys : goal.returns-else-number-len-clause-keys
+returns-else-number-len-clause-keys c = key_among c.args.self.now.list.items c.args.key c.number-number.result (returns-else-number-len-clause-here c)

@@ -1,0 +1,301 @@
+// Layouts of several cells: what is written of them, and why they are refused.
+use crate::cells::Item::{Placed, Rect, Turned};
+use crate::cells::{Cell, begin, begin_cell, end, end_cell, library, push_placed};
+use crate::command::{NONE, SHAPES, refuses, run_of};
+use crate::streams::{Shape, corners, push_boundary};
+use std::alloc::{AllocError, Global};
+use std::test::Fail;
+
+/// A layout, its rules, the summary line, and the cells that are to be written.
+struct Case {
+    name: &'static str,
+    layout: &'static [Cell],
+    rules: &'static str,
+    line: &'static str,
+    wanted: &'static [Cell],
+}
+
+const COPY: &str = "a = input(1, 0)\na.output(10, 0)\n";
+
+const LESS: &str = "a = input(1, 0)\nb = input(2, 0)\nc = a - b\nc.output(10, 0)\n";
+
+const CASES: [Case; 5] = [
+    // Mirrored first, then turned, then stepped: columns along x, rows along y.
+    Case {
+        name: "mirrored array",
+        layout: &[
+            Cell("K", &[Rect((1, 2, 1, 3, 2))]),
+            Cell(
+                "TOP",
+                &[Turned("K", 3, 2, [(100, 200), (130, 200), (100, 240)])],
+            ),
+        ],
+        rules: COPY,
+        line: "shapes cells 2 rectangles 1\n",
+        wanted: &[
+            Cell("K", &[Rect((10, 2, 1, 3, 2))]),
+            Cell(
+                "TOP",
+                &[Turned("K", 3, 2, [(100, 200), (130, 200), (100, 240)])],
+            ),
+        ],
+    },
+    // The parent cuts one of two placements: half of the cell's layer stays in the cell, and the
+    // other placement's rest stands in the parent.
+    Case {
+        name: "parent cuts child",
+        layout: &[
+            Cell("K", &[Rect((1, 0, 0, 10, 10))]),
+            Cell(
+                "TOP",
+                &[
+                    Placed("K", 0, 0),
+                    Placed("K", 100, 0),
+                    Rect((2, 5, 0, 15, 10)),
+                ],
+            ),
+        ],
+        rules: LESS,
+        line: "shapes cells 2 rectangles 2\n",
+        wanted: &[
+            Cell("K", &[Rect((10, 0, 0, 5, 10))]),
+            Cell(
+                "TOP",
+                &[
+                    Placed("K", 0, 0),
+                    Placed("K", 100, 0),
+                    Rect((10, 105, 0, 110, 10)),
+                ],
+            ),
+        ],
+    },
+    // Each of two placements on one spot is disturbed by the other.
+    Case {
+        name: "two on one spot",
+        layout: &[
+            Cell("K", &[Rect((1, 0, 0, 10, 10))]),
+            Cell(
+                "TOP",
+                &[
+                    Placed("K", 0, 0),
+                    Placed("K", 0, 0),
+                    Rect((2, 5, 0, 15, 10)),
+                ],
+            ),
+        ],
+        rules: LESS,
+        line: "shapes cells 2 rectangles 1\n",
+        wanted: &[
+            Cell("K", &[]),
+            Cell(
+                "TOP",
+                &[
+                    Placed("K", 0, 0),
+                    Placed("K", 0, 0),
+                    Rect((10, 0, 0, 5, 10)),
+                ],
+            ),
+        ],
+    },
+    // The top stands first, and its cell behind it.
+    Case {
+        name: "order of the file",
+        layout: &[
+            Cell("TOP", &[Placed("K", 7, 0), Rect((1, 0, 0, 5, 5))]),
+            Cell("K", &[Rect((1, 0, 0, 1, 1))]),
+        ],
+        rules: COPY,
+        line: "shapes cells 2 rectangles 2\n",
+        wanted: &[
+            Cell("TOP", &[Placed("K", 7, 0), Rect((10, 0, 0, 5, 5))]),
+            Cell("K", &[Rect((10, 0, 0, 1, 1))]),
+        ],
+    },
+    // No rule names the layer.
+    Case {
+        name: "nothing of a layer",
+        layout: &[
+            Cell("K", &[Rect((3, 0, 0, 10, 10))]),
+            Cell("TOP", &[Placed("K", 1, 1)]),
+        ],
+        rules: COPY,
+        line: "shapes cells 2 rectangles 0\n",
+        wanted: &[Cell("K", &[]), Cell("TOP", &[Placed("K", 1, 1)])],
+    },
+];
+
+#[test]
+fn written_hierarchies(rt: HostRuntime) -> Result<(), Fail> {
+    let alloc = rt.alloc();
+    for case in &CASES {
+        let layout = library(alloc, case.layout)?;
+        let run = run_of(&rt, alloc, &layout, case.rules.as_bytes(), &SHAPES, NONE)?;
+        assert_eq!(rt; run.line.as_slice(), case.line.as_bytes(), "{}", case.name);
+        assert_eq!(rt; run.code, 0, "{}", case.name);
+        let wanted = library(alloc, case.wanted)?;
+        assert!(rt; run.shapes == Some(wanted), "{}", case.name);
+    }
+    Ok(())
+}
+
+/// Layouts whose cells can't be linked, and their lines.
+const REFUSED: [(&[Cell], &str); 9] = [
+    (&[], "refused layout 24\n"),
+    (
+        &[Cell("A", &[]), Cell("A", &[])],
+        "refused layout 20 cell A\n",
+    ),
+    (
+        &[Cell("A", &[Placed("B", 0, 0)])],
+        "refused layout 21 cell B\n",
+    ),
+    (
+        &[Cell("A", &[Placed("NO CELL", 0, 0)])],
+        "refused layout 21 cell NO\\x20CELL\n",
+    ),
+    (
+        &[
+            Cell("A", &[Placed("B", 0, 0)]),
+            Cell("B", &[Placed("A", 0, 0)]),
+        ],
+        "refused layout 22 cell A\n",
+    ),
+    (
+        &[Cell("A", &[]), Cell("B", &[])],
+        "refused layout 23 cell A cell B\n",
+    ),
+    (
+        &[Cell("A", &[Rect((1, 0, 0, 1073741825, 1))])],
+        "refused layout 25 cell A\n",
+    ),
+    // A missing cell is told before a cycle.
+    (
+        &[
+            Cell("A", &[Placed("A", 0, 0)]),
+            Cell("B", &[Placed("C", 0, 0)]),
+        ],
+        "refused layout 21 cell C\n",
+    ),
+    // A cell out of range below the top: the first of the lower ones.
+    (
+        &[
+            Cell("TOP", &[Placed("K", 0, 0)]),
+            Cell("K", &[Rect((1, -1073741825, 0, 0, 1))]),
+        ],
+        "refused layout 25 cell K\n",
+    ),
+];
+
+#[test]
+fn refused_cells(rt: HostRuntime) -> Result<(), Fail> {
+    let alloc = rt.alloc();
+    for (cells, line) in REFUSED {
+        let layout = library(alloc, cells)?;
+        refuses(&rt, alloc, &layout, COPY.as_bytes(), &SHAPES, line)?;
+    }
+    Ok(())
+}
+
+// Adds cell C0 with these rectangles, and the others by their numbers, each with a reference to the
+// one before at each of these points.
+fn push_chain(
+    alloc: Global,
+    out: &mut Vec<u8>,
+    number: u32,
+    shapes: &[Shape],
+    points: &[(i32, i32)],
+) -> Result<(), AllocError> {
+    let name = format!(in alloc; "C{number}")?;
+    begin_cell(alloc, out, name.as_str())?;
+    if number == 0 {
+        for shape in shapes {
+            push_boundary(out, shape.0, &corners(*shape))?;
+        }
+    } else {
+        let before = number.saturating_sub(1);
+        let name = format!(in alloc; "C{before}")?;
+        for (x, y) in points {
+            push_placed(alloc, out, name.as_str(), *x, *y)?;
+        }
+    }
+    end_cell(out)
+}
+
+// So many cells, each with the one before once.
+fn chain(alloc: Global, cells: u32) -> Result<Vec<u8>, AllocError> {
+    let mut out = begin(alloc)?;
+    for number in 0..cells {
+        push_chain(alloc, &mut out, number, &[(1, 0, 0, 10, 10)], &[(0, 0)])?;
+    }
+    end(&mut out)?;
+    Ok(out)
+}
+
+// C0 is a bar across another; each of 40 more cells has the one before twice, side by side and on
+// top of one another in turn.
+fn doubled(alloc: Global) -> Result<Vec<u8>, AllocError> {
+    let mut out = begin(alloc)?;
+    let mut step = 8i32;
+    for number in 0..41u32 {
+        let there = if number % 2 == 1 {
+            (step, 0)
+        } else {
+            (0, step)
+        };
+        let crossed = [(1, 0, 0, 3, 1), (2, 1, -1, 2, 2)];
+        push_chain(alloc, &mut out, number, &crossed, &[(0, 0), there])?;
+        if number % 2 == 0 && number > 0 {
+            step = step.saturating_mul(2);
+        }
+    }
+    end(&mut out)?;
+    Ok(out)
+}
+
+// A chain of 64 references is read, one of 65 isn't.
+#[test]
+fn deepest(rt: HostRuntime) -> Result<(), Fail> {
+    let alloc = rt.alloc();
+    let layout = chain(alloc, 65)?;
+    let run = run_of(&rt, alloc, &layout, COPY.as_bytes(), &SHAPES, NONE)?;
+    assert_eq!(rt;
+        run.line.as_slice(),
+        b"shapes cells 65 rectangles 1\n".as_slice()
+    );
+    assert_eq!(rt; run.code, 0);
+    let layout = chain(alloc, 66)?;
+    let line = "refused layout 27 cell C65\n";
+    refuses(&rt, alloc, &layout, COPY.as_bytes(), &SHAPES, line)?;
+    Ok(())
+}
+
+// 2^40 crossings in 41 cells: one rectangle is written.
+#[test]
+fn doubling_hierarchy(rt: HostRuntime) -> Result<(), Fail> {
+    let alloc = rt.alloc();
+    let layout = doubled(alloc)?;
+    let rules = b"a = input(1, 0)\nb = input(2, 0)\nc = a & b\nc.output(10, 0)\n";
+    let run = run_of(&rt, alloc, &layout, rules, &SHAPES, NONE)?;
+    assert_eq!(rt;
+        run.line.as_slice(),
+        b"shapes cells 41 rectangles 1\n".as_slice()
+    );
+    assert_eq!(rt; run.code, 0);
+    Ok(())
+}
+
+// More cells than a layout may have.
+#[test]
+fn too_many_cells(rt: HostRuntime) -> Result<(), Fail> {
+    let alloc = rt.alloc();
+    let layout = chain(alloc, 16385)?;
+    refuses(
+        &rt,
+        alloc,
+        &layout,
+        COPY.as_bytes(),
+        &SHAPES,
+        "refused layout 26\n",
+    )?;
+    Ok(())
+}

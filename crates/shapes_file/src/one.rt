@@ -1,0 +1,15 @@
+//! A stream and rules have one shapes file.
+
+ghost use Rattle.shapes_file.specs.One.{OneFileLaw};
+
+use gds_layout::one_layout;
+use rect_sets::one_list;
+
+/// The shapes files of one stream by the same rules are the same, byte for byte, with as many cells
+/// and rectangles.
+pub fn one_file()
+    ensures { OneFileLaw }
+{
+    one_layout();
+    one_list();
+}
