@@ -1,5 +1,5 @@
 -- The jobs of the cells below a cell.
-use Rattle.std.specs.Prelude.{◌≡◌, ◌↔◌, ◌<◌, ◌==◌, ◌||◌, ℕ, Bool, true, false, List, Some, length, slice_get, slice_index, get_or}
+use Rattle.std.specs.Prelude.{◌≡◌, ◌↔◌, ◌<◌, ◌==◌, ◌||◌, ℕ, Bool, true, false, List, length, get_or}
 use Rattle.flat_layout.specs.Layout.{Design, Place, IsPlaced}
 use Rattle.flat_layout.specs.Nets.{IsUnder}
 use Rattle.job_graph.specs.Graph.{AreAscending, Waits, has, inputs_of}
@@ -19,7 +19,8 @@ IsLowerJob d job input =
 -- cell
 pub record AreBelowJobs (d : Linked) (graph : List (List ℕ)) : Type 0 where
   pub jobs : length graph ≡ length d.order
-  pub waits : (job input : ℕ) → job < length d.order → Waits graph job input ↔ IsLowerJob d job input
+  pub waits : (job input : ℕ) → job < length d.order
+      → Waits graph job input ↔ IsLowerJob d job input
 
 -- what a job waits for
 pub record AreInputsAt (d : Linked) (job : ℕ) (inputs : List ℕ) : Type 0 where

@@ -1,5 +1,6 @@
 -- Nets that were read.
-use Rattle.std.specs.Prelude.{◌≡◌, ℕ, true, List, Option, Some, None, IsSomeAnd, get_or, map, slice_index}
+use Rattle.std.specs.Prelude.{◌≡◌, ℕ, true, List, Option, Some, None, IsSomeAnd, get_or, map}
+use Rattle.std.specs.Prelude.{slice_index}
 use Rattle.std.specs.Borrow.{Bor}
 use Rattle.cell_graph.specs.Linked.{Linked, plain}
 use Rattle.job_graph.specs.Graph.{has}

@@ -64,7 +64,8 @@ pub fn own_lists<'a>(
 ) -> Result<Vec<Vec<&'a [Rect]>>, AllocError>
     requires layers { AreLayers (plain design.now) (rules_seen rules.now) layers.now }
     requires few { length rules.now.names.items < 4294967296 }
-    ensures { IfOk result (λ v. AreOwnLists design.now (rules_seen rules.now) (rect_lists v.items)) }
+    ensures { IfOk result (λ v. AreOwnLists design.now (rules_seen rules.now)
+        (rect_lists v.items)) }
 {
     design.sound();
     let known = rules.conductors(alloc)?;

@@ -12,7 +12,8 @@ use text_table::TextTable;
 use touching_pieces::Joined;
 
 /// How many conductors and globals the rules have, and what lines join. A conductor's number is its
-/// name's, and a global's is its place among the different globals in the order of their first lines.
+/// name's, and a global's is its place among the different globals in the order of their first
+/// lines.
 #[derive(Drop)]
 pub struct Wires {
     pub conductors: u32,
@@ -61,7 +62,8 @@ fn joins(alloc: Global, rules: &RuleSet) -> Result<Vec<Joined>, AllocError>
 
 // Each line of a global, by the global's place among the different ones.
 fn ground_lines(alloc: Global, rules: &RuleSet) -> Result<Grounds, AllocError>
-    ensures lines { IfOk result (λ v. map ground_line v.lines.items ≡ grounds_of (rules_seen rules.now)) }
+    ensures lines { IfOk result (λ v. map ground_line v.lines.items
+        ≡ grounds_of (rules_seen rules.now)) }
     ensures globals { IfOk result (λ v. v.globals ≡ length (globals_of (rules_seen rules.now))) }
 {
     let mut names = TextTable::new(alloc);
