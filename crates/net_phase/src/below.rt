@@ -15,8 +15,8 @@ use net_walk::{Cells, Element};
 use rule_text::RuleSet;
 use std::marker::Model;
 
-/// The layout, the rules, the rectangles that cells hold themselves, and the nets of the cells below
-/// one. Contracts see lists by the cells' numbers.
+/// The layout, the rules, the rectangles that cells hold themselves, and the nets of the cells
+/// below one. Contracts see lists by the cells' numbers.
 #[derive(Drop)]
 pub struct Below<'a, 'l> {
     design: &'a Design,
