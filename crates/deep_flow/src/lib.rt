@@ -2,5 +2,7 @@
 #![tactic(auto)]
 
 mod layers;
+mod nets;
 
 pub use layers::derive_layers;
+pub use nets::{Connected, derive_nets};

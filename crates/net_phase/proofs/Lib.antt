@@ -1,1 +1,9 @@
+pub mod Arraying
+pub mod Graphing
+pub mod Holding
 pub mod Itemizing
+pub mod Layering
+pub mod Listing
+pub mod Results
+pub mod Righting
+pub mod Wiring

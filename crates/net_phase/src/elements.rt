@@ -1,0 +1,67 @@
+//! The placements of cells, one by one.
+ghost use Rattle.std.specs.Prelude.{◌≡◌, ◌<◌, ◌++◌, length, map, IfOk, OnOk};
+ghost use Rattle.cell_context.specs.Arrays.{IsNearArray};
+ghost use Rattle.cell_graph.specs.Linked.{cell_at, places_at, plain, reference};
+ghost use Rattle.flat_layout.specs.Arrays.{array_places, places_of, row_places};
+ghost use Rattle.net_walk.specs.Walk.{place_of};
+ghost use Rattle.net_phase.specs.Elements.{AreAllElements, AreElements, element_lists};
+
+use cell_context::motion_at;
+use cell_graph::{Design, Place};
+use net_walk::Element;
+use std::alloc::{AllocError, Global};
+
+fn push_row(place: &Place, row: u32, out: &mut Vec<Element>) -> Result<(), AllocError>
+    requires near { IsNearArray place.now }
+    requires row { row < place.now.rows }
+    ensures { OnOk result (map place_of out.new.items
+        ≡ map place_of out.old.items ++ row_places (reference place.now) row 0 place.now.columns) }
+{
+    for column in 0..place.columns as u32 {
+        out.push(Element {
+            cell: place.cell,
+            motion: motion_at(place, row, column),
+        })?;
+    }
+    Ok(())
+}
+
+// Adds the placements of a reference: by row, then column.
+fn push_array(place: &Place, out: &mut Vec<Element>) -> Result<(), AllocError>
+    requires { IsNearArray place.now }
+    ensures { OnOk result (map place_of out.new.items
+        ≡ map place_of out.old.items ++ array_places (reference place.now) 0 place.now.rows) }
+{
+    for row in 0..place.rows as u32 {
+        push_row(place, row, out)?;
+    }
+    Ok(())
+}
+
+// A cell's placements. 2^32 or more are refused.
+fn elements(alloc: Global, design: &Design, cell: u32) -> Result<Vec<Element>, AllocError>
+    requires { cell < length design.now.cells }
+    ensures { IfOk result (λ v. AreElements design.now cell v.items) }
+{
+    design.sound();
+    let mut out = Vec::new(alloc);
+    for place in design.places(cell) {
+        push_array(place, &mut out)?;
+    }
+    if out.len() > u32::MAX as usize {
+        return Err(AllocError);
+    }
+    Ok(out)
+}
+
+/// The placements of each cell, by reference, then row, then column.
+pub fn all_elements(alloc: Global, design: &Design) -> Result<Vec<Vec<Element>>, AllocError>
+    ensures { IfOk result (λ v. AreAllElements design.now (element_lists v.items)) }
+{
+    let mut all = Vec::new(alloc);
+    for cell in 0..design.cells() {
+        let found = elements(alloc, design, cell)?;
+        all.push(found)?;
+    }
+    Ok(all)
+}

@@ -1,0 +1,105 @@
+//! What the rules join, by numbers.
+ghost use Rattle.std.specs.Prelude.{◌≡◌, ◌++◌, ◌||◌, List, ℕ, length, map, IfOk, OnOk};
+ghost use Rattle.rule_layers.specs.Meaning.{globals_of, grounds_of, joins_of, wiring_of};
+ghost use Rattle.rule_text.specs.Rules.{has_texts};
+ghost use Rattle.rule_text.specs.Seen.{rules_seen};
+ghost use Rattle.net_phase.specs.Wires.{AreWires, ground_line, join_line, joined_by};
+
+use net_walk::Grounded;
+use rule_text::RuleSet;
+use std::alloc::{AllocError, Global};
+use text_table::TextTable;
+use touching_pieces::Joined;
+
+/// How many conductors and globals the rules have, and what lines join. A conductor's number is its
+/// name's, and a global's is its place among the different globals in the order of their first
+/// lines.
+#[derive(Drop)]
+pub struct Wires {
+    pub conductors: u32,
+    pub joins: Vec<Joined>,
+    pub grounds: Vec<Grounded>,
+    pub globals: u32,
+}
+
+// What a global's line joins, and how many different globals there are.
+#[derive(Drop)]
+struct Grounds {
+    lines: Vec<Grounded>,
+    globals: u32,
+}
+
+fn has_labels(rules: &RuleSet, line: &(u32, u32)) -> bool
+    ensures { result ≡ (has_texts line.now.0 rules.now.names.items
+        || has_texts line.now.1 rules.now.names.items) }
+{
+    rules.has_texts(line.0 as usize) || rules.has_texts(line.1 as usize)
+}
+
+// A connect line joins two conductors, unless one of its names is a labels name.
+fn push_join(rules: &RuleSet, line: &(u32, u32), out: &mut Vec<Joined>) -> Result<(), AllocError>
+    ensures { OnOk result (map join_line out.new.items
+        ≡ map join_line out.old.items ++ joined_by (rules_seen rules.now) line.now) }
+{
+    if !has_labels(rules, line) {
+        out.push(Joined {
+            first: line.0,
+            second: line.1,
+        })?;
+    }
+    Ok(())
+}
+
+fn joins(alloc: Global, rules: &RuleSet) -> Result<Vec<Joined>, AllocError>
+    ensures { IfOk result (λ v. map join_line v.items ≡ joins_of (rules_seen rules.now)) }
+{
+    let mut joins = Vec::new(alloc);
+    for line in &rules.connects {
+        push_join(rules, line, &mut joins)?;
+    }
+    Ok(joins)
+}
+
+// Each line of a global, by the global's place among the different ones.
+fn ground_lines(alloc: Global, rules: &RuleSet) -> Result<Grounds, AllocError>
+    ensures lines { IfOk result (λ v. map ground_line v.lines.items
+        ≡ grounds_of (rules_seen rules.now)) }
+    ensures globals { IfOk result (λ v. v.globals ≡ length (globals_of (rules_seen rules.now))) }
+{
+    let mut names = TextTable::new(alloc);
+    let mut lines = Vec::new(alloc);
+    for line in &rules.globals {
+        let global = names.number(alloc, line.1.bytes())?;
+        if global >= u32::MAX as usize {
+            return Err(AllocError);
+        }
+        lines.push(Grounded {
+            conductor: line.0,
+            global: global as u32,
+        })?;
+    }
+    if names.len() > u32::MAX as usize {
+        return Err(AllocError);
+    }
+    Ok(Grounds {
+        lines,
+        globals: names.len() as u32,
+    })
+}
+
+/// What a rule set joins: linear in its lines. 2^32 names, or globals, or more are refused.
+pub fn find_wires(alloc: Global, rules: &RuleSet) -> Result<Wires, AllocError>
+    ensures { IfOk result (AreWires (wiring_of (rules_seen rules.now))) }
+{
+    if rules.names.len() > u32::MAX as usize {
+        return Err(AllocError);
+    }
+    let joins = joins(alloc, rules)?;
+    let grounds = ground_lines(alloc, rules)?;
+    Ok(Wires {
+        conductors: rules.names.len() as u32,
+        joins,
+        grounds: grounds.lines,
+        globals: grounds.globals,
+    })
+}
