@@ -5,4 +5,6 @@ mod by_rounds;
 mod candidates;
 mod choosing;
 mod evidence;
+mod guessing;
 mod pairings;
+mod searching;
