@@ -14,3 +14,5 @@ pub mod TriedRows
 pub mod Leaving
 pub mod Tried
 pub mod Begun
+pub mod Ends
+pub mod Kept

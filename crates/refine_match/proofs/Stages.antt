@@ -3,7 +3,7 @@ use Rattle.std.proofs.Common.{◌≡◌, ◌≢◌, ◌⊎◌, inl, inr, ◌↔�
 use Rattle.std.proofs.lemmas.List.{length-append}
 use Rattle.round_laws.specs.Web.{Guess, under}
 use Rattle.round_laws.specs.Nodes.{Node}
-use Rattle.round_laws.specs.Guesses.{Setting, candidates, Search, Ended, Stopped, Found, Refuted, Below, refuted_in, HasEnded, HasFound, IsNext, IsSearch, Row, rows, guessed}
+use Rattle.round_laws.specs.Guesses.{Setting, candidates, Search, Ended, Stopped, Found, Refuted, Below, refuted_in, HasEnded, HasFound, IsNext, IsSearch, Row, rows, guessed, solved_guesses}
 use Rattle.round_laws.specs.Stack.{Entry, WasRefuted, WasBelow, add, refuted_of, Level as Stage, used, IsLevel, IsUnder, IsStack, outer_rows}
 use Rattle.round_laws.proofs.Stack.{rows_add}
 use Rattle.match_laws.specs.Circuits.{Pair}
@@ -103,3 +103,13 @@ has_ended (WasBelow b c below ∷ es) = has_ended es
 pub all_behind : {X : Type 0} (xs : List X) → xs ≡ filter (λ x. true) xs
 all_behind [] = refl
 all_behind {X} (x ∷ xs) = ap (λ (zs : List X). x ∷ zs) (all_behind xs)
+
+pub found_all : (done : List Entry) (t : Search) → HasFound (add done t) ↔ HasFound t
+found_all [] t = ((λ h. h), (λ h. h))
+found_all (WasRefuted b r ∷ es) t = found_all es t
+found_all (WasBelow b c below ∷ es) t = found_all es t
+
+pub guesses_all : (above : List (Guess Node)) (a : Node) (done : List Entry) (t : Search) → solved_guesses above a (add done t) ≡ solved_guesses above a t
+guesses_all above a [] t = refl
+guesses_all above a (WasRefuted b r ∷ es) t = guesses_all above a es t
+guesses_all above a (WasBelow b c below ∷ es) t = guesses_all above a es t

@@ -5,3 +5,4 @@ pub mod Pairings
 pub mod Candidates
 pub mod ByRounds
 pub mod Searching
+pub mod Matching

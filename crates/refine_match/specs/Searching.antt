@@ -134,6 +134,13 @@ IsLeft p g old new false = (new.rows.items ≡ old.rows.items) × (old.outer.ite
 pub record IsLonger (old new : Search) : Type 0 where
   pub rows : length new.rows.items ≡ suc (length old.rows.items)
   pub levels : length new.outer.items ≤ suc (length old.outer.items)
+  pub limit : new.limit ≡ old.limit
+
+-- one level went
+pub record IsShorter (old new : Search) : Type 0 where
+  pub rows : length new.rows.items ≡ length old.rows.items
+  pub levels : suc (length new.outer.items) ≡ length old.outer.items
+  pub limit : new.limit ≡ old.limit
 
 -- the row of a stage's guess
 abbrev pub guess_row : List Stage → Stage → Node → Outcome → Row

@@ -32,6 +32,7 @@ impl Search {
         ensures tried { (p : Pair) → IsTrying p graph.now self.old candidate
             → IfOk result (λ solved. IsTried p graph.now self.new candidate solved) }
         ensures longer { IfOk result (λ solved. solved ≡ false → IsLonger self.old self.new) }
+        ensures limit { OnOk result (self.new.limit ≡ self.old.limit) }
     {
         self.guesses.push((self.level.node, candidate.node))?;
         if !single_out(alloc, graph, &self.guesses, &mut self.classes)? {

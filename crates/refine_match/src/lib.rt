@@ -6,5 +6,8 @@ mod candidates;
 mod choosing;
 mod evidence;
 mod guessing;
+mod matching;
 mod pairings;
 mod searching;
+
+pub use matching::match_circuits;

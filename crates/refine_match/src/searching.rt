@@ -1,4 +1,4 @@
-ghost use Rattle.std.specs.Prelude.{◌≡◌, ◌≤◌, suc, length, IfOk, IfSome, None, true};
+ghost use Rattle.std.specs.Prelude.{◌≡◌, ◌≤◌, IfOk, IfSome, None, true};
 ghost use Rattle.round_laws.specs.Web.{IsWeb};
 ghost use Rattle.match_laws.specs.Circuits.{Pair, web_of};
 ghost use Rattle.match_graph.specs.Graph.{IsGraph, IsGraphOf, left_of, nodes_of};
@@ -7,7 +7,7 @@ ghost use Rattle.match_rounds.specs.Refined.{AreSettled};
 ghost use Rattle.match_rounds.specs.Start.{AreGuesses, guessed_web};
 ghost use Rattle.refine_match.specs.ByRounds.{AreTies};
 ghost use Rattle.refine_match.specs.Candidates.{HaveNets, IsNextOf, IsPairOf};
-ghost use Rattle.refine_match.specs.Searching.{HasEvenEnd, HasLeft, IsLeft, IsUnderWay};
+ghost use Rattle.refine_match.specs.Searching.{HasEvenEnd, HasLeft, IsLeft, IsShorter, IsUnderWay};
 
 use crate::candidates::{Candidate, next_candidate};
 use match_graph::Graph;
@@ -47,8 +47,9 @@ pub struct Search {
 impl Search {
     /// The search that begins with this tied node of stable classes.
     pub fn begin(alloc: Global, classes: Classes, node: u32, limit: u32) -> Search
-        ensures { (p : Pair) (g : Graph) → IsGraphOf p g → IsWeb (web_of p) → AreTies g classes node
-            → IsUnderWay p g result }
+        ensures way { (p : Pair) (g : Graph) → IsGraphOf p g → IsWeb (web_of p)
+            → AreTies g classes node → IsUnderWay p g result }
+        ensures limit { result.limit ≡ limit }
     {
         Search {
             limit,
@@ -85,9 +86,7 @@ impl Search {
         requires way { (p : Pair) × IsUnderWay p graph.now self.old }
         ensures left { (p : Pair) → (way : IsUnderWay p graph.now self.old)
             → HasLeft way → IfOk result (λ more. IsLeft p graph.now self.old self.new more) }
-        ensures fewer { IfOk result (λ more. more ≡ true
-            → (suc (length self.new.outer.items) ≡ length self.old.outer.items)
-            × (length self.new.rows.items ≡ length self.old.rows.items)) }
+        ensures shorter { IfOk result (λ more. more ≡ true → IsShorter self.old self.new) }
     {
         match self.outer.pop() {
             Some(level) => {
