@@ -18,14 +18,7 @@ use Rattle.match_rounds.specs.Sides.{left_members, right_members}
 use Rattle.match_rounds.specs.Start.{plain_guess, guessed_web}
 use Rattle.match_rounds.specs.Refined.{AreSettled}
 use Rattle.match_rounds.proofs.PortsDone.{count-map}
-use Rattle.refine_match.specs.Classes.{AreGuessesOf, AreStableClasses, class_of_node}
-
--- a graph of a pair, and guesses in both forms
-pub record AreTold (p : Pair) (g : Graph) (ns : List (ℕ × ℕ)) (qs : List (Guess Node)) : Type 0 where
-  pub graph : IsGraphOf p g
-  pub good : IsWeb (web_of p)
-  pub names : AreGuessesOf p ns qs
-  pub there : AreOfNodes (web_of p) qs
+use Rattle.refine_match.specs.Classes.{AreGuessesOf, AreStableClasses, AreTold, class_of_node}
 
 pub goes_to : (p : Pair) (g : Graph) (a : Node) → IsGraphOf p g → IsNode (web_of p) a → IsNode (graph_web g) (index_of p a)
 goes_to p g a h n = goes (web_of p) (graph_web g) (index_of p) port_name h.renamed a n

@@ -6,3 +6,13 @@ pub mod NextBehind
 pub mod Rising
 pub mod NextOf
 pub mod Decided
+pub mod Told
+pub mod Stages
+pub mod Members
+pub mod Steps
+pub mod TriedRows
+pub mod Leaving
+pub mod Tried
+pub mod Begun
+pub mod Ends
+pub mod Kept

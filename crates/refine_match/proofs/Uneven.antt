@@ -21,9 +21,9 @@ use Rattle.match_rounds.specs.Sides.{left_members, right_members}
 use Rattle.match_rounds.specs.Start.{guessed_web}
 use Rattle.match_rounds.proofs.Evenness.{test_is}
 use Rattle.match_rounds.proofs.Started.{node_below}
-use Rattle.refine_match.specs.Classes.{IsOfUneven}
+use Rattle.refine_match.specs.Classes.{AreTold, IsOfUneven}
 use Rattle.refine_match.specs.Evidence.{AreEvenFrom, IsFirstUneven, begin_of, stop_of, IsEvenKind, IsFirstOfKind, IsLeastUneven}
-use Rattle.refine_match.proofs.Crossed.{AreTold, lefts_are, rights_are, colours_are, refuted_is}
+use Rattle.refine_match.proofs.Crossed.{lefts_are, rights_are, colours_are, refuted_is}
 
 pub if_some : {X : Type 0} {P Q : X → Type 0} (o : Option X) → IfSome o P → ((x : X) → P x → Q x) → IfSome o Q
 if_some (Some x) h f = f x h

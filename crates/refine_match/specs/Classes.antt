@@ -1,11 +1,12 @@
 -- Classes of the nodes of two circuits under guesses.
 use Rattle.std.specs.Prelude.{◌≡◌, ◌≢◌, ◌↔◌, ◌≤◌, ℕ, true, List, map}
-use Rattle.round_laws.specs.Web.{IsNode, IsEven, IsStable, Guess, agree, under}
+use Rattle.round_laws.specs.Web.{IsWeb, IsNode, IsEven, IsStable, Guess, agree, under}
 use Rattle.round_laws.specs.Nodes.{Node}
 use Rattle.round_laws.specs.Colours.{AreColours}
-use Rattle.part_laws.specs.Renamed.{renamed_guess}
+use Rattle.part_laws.specs.Renamed.{AreOfNodes, renamed_guess}
 use Rattle.match_laws.specs.Circuits.{Pair, web_of}
 use Rattle.match_graph.specs.declared.graph.Graph.{Graph}
+use Rattle.match_graph.specs.Graph.{IsGraphOf}
 use Rattle.match_graph.specs.Numbering.{index_of}
 use Rattle.match_rounds.specs.declared.classes.Classes.{Classes}
 use Rattle.match_rounds.specs.Classes.{class_in}
@@ -15,6 +16,13 @@ use Rattle.match_rounds.specs.Start.{plain_guess}
 -- the guesses of numbers are these guesses of nodes
 abbrev pub AreGuessesOf : Pair → List (ℕ × ℕ) → List (Guess Node) → Type 0
 AreGuessesOf p numbers guesses = map plain_guess numbers ≡ map (renamed_guess (index_of p)) guesses
+
+-- a graph of a pair, and guesses in both forms
+pub record AreTold (p : Pair) (g : Graph) (ns : List (ℕ × ℕ)) (qs : List (Guess Node)) : Type 0 where
+  pub graph : IsGraphOf p g
+  pub good : IsWeb (web_of p)
+  pub names : AreGuessesOf p ns qs
+  pub there : AreOfNodes (web_of p) qs
 
 -- the class of a node
 abbrev pub class_of_node : Pair → Classes → Node → ℕ

@@ -4,3 +4,5 @@ pub mod Choosing
 pub mod Pairings
 pub mod Candidates
 pub mod ByRounds
+pub mod Searching
+pub mod Matching

@@ -5,4 +5,9 @@ mod by_rounds;
 mod candidates;
 mod choosing;
 mod evidence;
+mod guessing;
+mod matching;
 mod pairings;
+mod searching;
+
+pub use matching::match_circuits;

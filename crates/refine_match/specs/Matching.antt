@@ -1,0 +1,78 @@
+-- What follows from the answer of a comparison.
+use Rattle.std.specs.Prelude.{◌≡◌, ◌≢◌, ◌⊎◌, ◌<◌, ◌≤◌, ◌==◌, ◌&&◌, ℕ, Bool, List, bytes_eq, count_by}
+use Rattle.plain_netlist.specs.Netlist.{DeviceRow}
+use Rattle.round_laws.specs.Web.{Web, IsWeb, IsNode, IsStable, on_left, on_right}
+use Rattle.round_laws.specs.Nodes.{Node}
+use Rattle.round_laws.specs.Guesses.{Search as Guesses, HasEnded, HasFound, IsWholeSearch, refuted_in}
+use Rattle.match_laws.specs.Circuits.{Pair, Pairing, IsCorrespondence, web_of}
+use Rattle.match_laws.specs.Answer.{equal_names, setting_of}
+use Rattle.match_types.specs.declared.answer.Answer.{Answer}
+use Rattle.match_types.specs.declared.answer.Answer.TheVariants as answer
+use Rattle.match_types.specs.Plain.{plain_pairing}
+use Rattle.match_graph.specs.declared.graph.Graph.{Graph}
+use Rattle.net_model.specs.declared.netlist.Circuit.{Circuit}
+use Rattle.refine_match.specs.Candidates.{IsPairOf}
+use Rattle.refine_match.specs.Searching.{IsUnderWay}
+use Rattle.refine_match.specs.declared.searching.Search.{Search}
+
+-- a match carries a correspondence
+abbrev pub CarriesPairing : Pair → Answer → Type 0
+CarriesPairing p (answer.Match pairing) = IsCorrespondence p (plain_pairing pairing)
+CarriesPairing p (answer.Differs evidence) = Unit {0}
+CarriesPairing p (answer.Undecided guesses) = Unit {0}
+CarriesPairing p (answer.Skipped pair) = Unit {0}
+
+-- a difference excludes every correspondence that keeps the children's pins
+abbrev pub ExcludesPairings : Pair → Answer → Type 0
+ExcludesPairings p (answer.Match pairing) = Unit {0}
+ExcludesPairings p (answer.Differs evidence) = (f : Pairing) → IsCorrespondence p f → ⊥
+ExcludesPairings p (answer.Undecided guesses) = Unit {0}
+ExcludesPairings p (answer.Skipped pair) = Unit {0}
+
+abbrev pub IsDifference : Answer → Type 0
+IsDifference (answer.Match pairing) = ⊥
+IsDifference (answer.Differs evidence) = Unit {0}
+IsDifference (answer.Undecided guesses) = ⊥
+IsDifference (answer.Skipped pair) = ⊥
+
+-- a match or a difference
+abbrev pub IsDecided : Answer → Type 0
+IsDecided (answer.Match pairing) = Unit {0}
+IsDecided (answer.Differs evidence) = Unit {0}
+IsDecided (answer.Undecided guesses) = ⊥
+IsDecided (answer.Skipped pair) = ⊥
+
+abbrev pub IsUndecided : Answer → Type 0
+IsUndecided (answer.Match pairing) = ⊥
+IsUndecided (answer.Differs evidence) = ⊥
+IsUndecided (answer.Undecided guesses) = Unit {0}
+IsUndecided (answer.Skipped pair) = ⊥
+
+-- whether a device is of this class, length and width
+abbrev pub is_of : List ℕ → ℕ → ℕ → DeviceRow → Bool
+is_of class length width d =
+    bytes_eq class d.class && ((length == d.length) && (width == d.width))
+
+-- of some class, length and width one circuit has more devices than the other
+abbrev pub HaveUnevenDevices : Pair → Type 0
+HaveUnevenDevices p = (class : List ℕ) × (length : ℕ) × (width : ℕ)
+    × (count_by (is_of class length width) p.left.devices
+    ≢ count_by (is_of class length width) p.right.devices)
+
+-- each class of a stable round has one node of each circuit at most
+abbrev pub AreSingleClasses : Web Node → Type 0
+AreSingleClasses w = (k : ℕ) × IsStable w k
+    × ((a : Node) → IsNode w a → (on_left w k a ≤ 1) × (on_right w k a ≤ 1))
+
+-- the whole search over guesses has fewer refuted ones than the limit
+pub record IsEnough (p : Pair) (limit : ℕ) : Type 0 where
+  pub larger : ℕ
+  pub guesses : Guesses
+  pub whole : IsWholeSearch (setting_of p (equal_names p) larger) guesses
+  pub ends : HasEnded guesses ⊎ HasFound guesses
+  pub few : refuted_in guesses < limit
+
+-- a search with this limit is under way for each pair of these circuits and this graph
+pub record IsKept (g : Graph) (left right : Circuit) (limit : ℕ) (s : Search) : Type 0 where
+  pub way : (p : Pair) → IsPairOf p g left right → IsWeb (web_of p) → IsUnderWay p g s
+  pub limit_is : s.limit ≡ limit

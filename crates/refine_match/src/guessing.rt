@@ -1,0 +1,144 @@
+ghost use Rattle.std.specs.Prelude.{◌≡◌, ◌≤◌, suc, length, IfOk, OnOk, false};
+ghost use Rattle.round_laws.specs.Guesses.{Row};
+ghost use Rattle.match_laws.specs.Circuits.{Pair};
+ghost use Rattle.match_types.specs.Plain.{plain_end, row_of};
+ghost use Rattle.match_graph.specs.Graph.{IsGraph, left_of, nodes_of};
+ghost use Rattle.match_rounds.specs.Classes.{IsPartition};
+ghost use Rattle.match_rounds.specs.Refined.{AreSettled, HasNoEvenEnd};
+ghost use Rattle.match_rounds.specs.Start.{guessed_web};
+ghost use Rattle.refine_match.specs.Choosing.{IsLeastTied};
+ghost use Rattle.refine_match.specs.Searching.{IsGuessing, IsLonger, IsTried, IsTrying, IsUnderWay};
+ghost use Rattle.refine_match.specs.Searching.{EndsBy, guess_row};
+
+use crate::candidates::Candidate;
+use crate::choosing::choose;
+use crate::searching::{Level, Search, first_try, settle};
+use match_graph::Graph;
+use match_rounds::{Verdict, refine, single_out};
+use match_types::{Guess, GuessEnd};
+use std::alloc::{AllocError, Global};
+
+impl Search {
+    /// Guesses that the level's node goes to this candidate, and says whether that leaves no ties.
+    /// A guess that isn't refuted takes the time to part the classes further, one that is that of
+    /// all rounds.
+    pub fn guess(
+        &mut self,
+        alloc: Global,
+        graph: &Graph,
+        candidate: Candidate,
+    ) -> Result<bool, AllocError>
+        requires { (p : Pair) × IsTrying p graph.now self.old candidate }
+        ensures tried { (p : Pair) → IsTrying p graph.now self.old candidate
+            → IfOk result (λ solved. IsTried p graph.now self.new candidate solved) }
+        ensures longer { IfOk result (λ solved. solved ≡ false → IsLonger self.old self.new) }
+        ensures limit { OnOk result (self.new.limit ≡ self.old.limit) }
+    {
+        self.guesses.push((self.level.node, candidate.node))?;
+        if !single_out(alloc, graph, &self.guesses, &mut self.classes)? {
+            self.refute(alloc, graph, candidate)?;
+            return Ok(false);
+        }
+        match choose(graph, &self.classes) {
+            Some(node) => {
+                self.descend(graph, candidate, node)?;
+                Ok(false)
+            }
+            None => Ok(true),
+        }
+    }
+
+    // The guess ends refuted.
+    fn refute(
+        &mut self,
+        alloc: Global,
+        graph: &Graph,
+        candidate: Candidate,
+    ) -> Result<(), AllocError>
+        requires guessing { (p : Pair) × IsGuessing p graph.now self.old candidate }
+        requires uneven { HasNoEvenEnd (guessed_web graph.now self.old.guesses.items) }
+        ensures way { (p : Pair) → IsGuessing p graph.now self.old candidate
+            → OnOk result (IsUnderWay p graph.now self.new) }
+        ensures longer { OnOk result (IsLonger self.old self.new) }
+    {
+        let (_, verdict) = refine(alloc, graph, &self.guesses)?;
+        let row = self.row(graph, candidate, end_of(verdict))?;
+        self.rows.push(row)?;
+        self.level.last = Some(candidate);
+        self.refuted += 1;
+        self.guesses.pop();
+        self.classes = settle(alloc, graph, &self.guesses)?;
+        Ok(())
+    }
+
+    // The guess leaves ties, of which this node is guessed below it.
+    fn descend(
+        &mut self,
+        graph: &Graph,
+        candidate: Candidate,
+        node: u32,
+    ) -> Result<(), AllocError>
+        requires guessing { (p : Pair) × IsGuessing p graph.now self.old candidate }
+        requires partition { IsPartition self.old.classes (left_of graph.now)
+            (nodes_of graph.now) }
+        requires settled { AreSettled (guessed_web graph.now self.old.guesses.items)
+            self.old.classes }
+        requires least { IsLeastTied graph.now self.old.classes (left_of graph.now) node }
+        ensures way { (p : Pair) → IsGuessing p graph.now self.old candidate
+            → OnOk result (IsUnderWay p graph.now self.new) }
+        ensures longer { OnOk result (IsLonger self.old self.new) }
+    {
+        let row = self.row(graph, candidate, GuessEnd::Open)?;
+        self.outer.push(Level {
+            node: self.level.node,
+            last: Some(candidate),
+            row: self.rows.len(),
+        })?;
+        self.rows.push(row)?;
+        self.level = first_try(node);
+        Ok(())
+    }
+
+    // The row of the last guess.
+    fn row(
+        &self,
+        graph: &Graph,
+        candidate: Candidate,
+        end: GuessEnd,
+    ) -> Result<Guess, AllocError>
+        requires { (p : Pair) × IsGuessing p graph.now self.now candidate }
+        ensures { (p : Pair) → (h : IsGuessing p graph.now self.now candidate)
+            → IfOk result (λ row. row_of row ≡ guess_row h.search.above h.search.stage h.head.right
+            (plain_end end)) }
+    {
+        let left = graph.node(self.level.node);
+        let right = graph.node(candidate.node);
+        Ok(Guess {
+            depth: number(self.guesses.len())?,
+            kind: left.kind,
+            left: left.number,
+            right: right.number,
+            end,
+        })
+    }
+}
+
+// How a guess ended that the rounds refute.
+fn end_of(verdict: Verdict) -> GuessEnd
+    ensures { EndsBy verdict result }
+{
+    match verdict {
+        Verdict::Refuted(round) => GuessEnd::Refuted(round),
+        Verdict::Stable => GuessEnd::Open,
+    }
+}
+
+// The number in 32 bits, or want of memory.
+fn number(n: usize) -> Result<u32, AllocError>
+    ensures { IfOk result (λ m. m ≡ n) }
+{
+    match u32::try_from(n) {
+        Ok(small) => Ok(small),
+        Err(_) => Err(AllocError),
+    }
+}
