@@ -1,0 +1,5 @@
+pub mod Close
+pub mod Kept
+pub mod Layer
+pub mod Reads
+pub mod Seeding
