@@ -44,10 +44,10 @@ kept_held d cell (Input key) q sound h = hulls d sound cell key q h
 kept_held d cell Empty q sound h = absurd h
 kept_held d cell (Binary op a b) q sound h = let u = under_input (plain d) cell (Binary op a b) q h.0 in hulls d sound cell u.0 q u.2
 
-abbrev low_square : Rect → Square
+abbrev pub low_square : Rect → Square
 low_square r = record { x = r.x1; y = r.y1 }
 
-low_in : (r : Rect) → IsRect r → has r (low_square r) ≡ true
+pub low_in : (r : Rect) → IsRect r → has r (low_square r) ≡ true
 low_in r some = let wide = some.wide in let high = some.high in in_has r (low_square r) ((omega (arith, ints)), (omega (arith, ints)), (omega (arith, ints)), (omega (arith, ints)))
 
 -- a rectangle in a hull is near
