@@ -1,0 +1,83 @@
+-- Images of rectangles through the elements of an array, one visit after another.
+use Rattle.std.proofs.Common.{◌≡◌, ◌<◌, ◌^◌, ℕ, true, false, Bool, ◌&&◌, ◌++◌, List, [], ◌∷◌, Option, Some, inl, inr, zero, suc, slice_index_or, length, refl, sym, ◌∙◌, ap, subst, arith}
+use Rattle.std.specs.List.{All}
+use Rattle.std.proofs.lemmas.Int.{ints}
+use Rattle.std.proofs.lemmas.List.Elements.{All-append}
+use Rattle.geo_base.specs.Near.{IsNearRect, IsNearSquare}
+use Rattle.geo_base.specs.Motions.{moved_square}
+use Rattle.geo_base.specs.Rects.{has, IsRect}
+use Rattle.geo_base.specs.declared.layer.LayerKey.{LayerKey}
+use Rattle.geo_base.specs.declared.motion.Motion.{Motion}
+use Rattle.geo_base.specs.declared.shapes.Rect.{Rect}
+use Rattle.geo_base.specs.declared.shapes.Square.{Square}
+use Rattle.rect_sets.specs.Near.{HasNearCorners, IsNearSet}
+use Rattle.rect_sets.specs.Rects.{covers}
+use Rattle.rect_sets.proofs.Unique.{listed_get}
+use Rattle.cell_graph.specs.declared.cells.Place.{Place}
+use Rattle.cell_graph.specs.Linked.{Linked, IsSound, IsFrame, IsRectWithin, cell_at, hull_of, own_of}
+use Rattle.cell_graph.proofs.Bridge.{has_in, hull_sound, own_in_hull, inside_has, or_split, or_right}
+use Rattle.cell_context.specs.declared.arrays.Visit.{Visit}
+use Rattle.cell_context.specs.Over.{IsPiece}
+use Rattle.cell_context.specs.Visits.{IsVisited, IsMet, IsFound}
+use Rattle.cell_context.proofs.Collecting.{and_right}
+use Rattle.cell_context.proofs.Visiting.{and_both, inside_from, within_inside, near_rect, wider_rect}
+use Rattle.cell_context.proofs.Gathering.{Adds, some_at}
+use Rattle.gate_phase.specs.Kept.{HoldsNear}
+use Rattle.gate_phase.specs.Seeding.{Brings}
+use Rattle.gate_phase.proofs.Keeping.{held_rect, listed_has, one_of}
+
+-- the visit's images are covered in the window
+abbrev pub BringsVisit : List Rect → Rect → List Rect → Visit → Type 0
+BringsVisit rects w out v = (s : Square) → covers rects s ≡ true → has w (moved_square v.motion s) ≡ true → covers out (moved_square v.motion s) ≡ true
+
+pub visit_here : (rects old new : List Rect) (w : Rect) (v : Visit) → Adds old new rects v.motion w → BringsVisit rects w new v
+visit_here rects old new w v adds s e g =
+    adds s ∙ or_right (covers old (moved_square v.motion s)) (covers rects s && has w (moved_square v.motion s)) (and_both (covers rects s) (has w (moved_square v.motion s)) e g)
+
+pub all_brought : (p : Place) (below w : Rect) (rects out : List Rect) (vs : List Visit) (none : Visit) → ((k : ℕ) → k < length vs → BringsVisit rects w out (slice_index_or vs k none))
+    → ((row column : ℕ) (q : Square) → row < p.rows → column < p.columns → IsMet p below w row column q → IsFound p row column q vs) → Brings p below rects w out
+all_brought p below w rects out vs none there found row column s row_in column_in inner covered met =
+    let f = some_at (IsVisited p row column s) vs none (found row column s row_in column_in (record { inner = inner; outer = met })) in
+    let m = f.2.motion in
+    subst (λ (x : Motion). covers out (moved_square x s) ≡ true) m (there f.0 f.1 s covered (subst (λ (x : Motion). has w (moved_square x s) ≡ true) (sym m) met))
+
+-- what lies in a frame is near
+pub part_near : (w : Rect) (zone part : List Rect) → IsFrame w → All IsRect part → ((s : Square) → covers part s ≡ (covers zone s && has w s)) → All IsNearRect part
+part_near w zone part frame some is = λ k r lt.
+    let x = slice_index_or part k r in
+    let inside = inside_from x w (some k r lt) (λ q e. and_right (covers zone q) (has w q) (sym (is q) ∙ listed_has part x q (listed_get part k r lt) e)) in
+    near_rect x (within_inside (2 ^ 39) x w (some k r lt) inside (wider_rect (2 ^ 31) (2 ^ 39) w (omega arith) frame.near))
+
+-- a cell's own rectangles lie in the plane
+pub own_pieces : (d : Linked) (cell : ℕ) (key : LayerKey) (rects : List Rect) (plane : Rect) → IsSound d → HoldsNear plane → rects ≡ own_of (cell_at d cell) key → All IsRect rects → All (IsPiece plane) rects
+own_pieces d cell key rects plane sound all is some = λ k r lt.
+    let x = slice_index_or rects k r in
+    record {
+      some = some k r lt;
+      inside = all x (held_rect (hull_of (cell_at d cell)) x (hull_sound d cell sound) (some k r lt)
+          (λ q e. own_in_hull d cell key q sound (subst (λ l. covers l q ≡ true) is (listed_has rects x q (listed_get rects k r lt) e))));
+    }
+
+pub more_pieces : (plane : Rect) (old more new : List Rect) → new ≡ old ++ more → All (IsPiece plane) old → All (IsPiece plane) more → All (IsPiece plane) new
+more_pieces plane old more new e a b = subst (All (IsPiece plane)) (sym e) (All-append (IsPiece plane) old more a b)
+
+pub near_corners : (r : Rect) (q : Square) → IsRectWithin (2 ^ 39) r → has r q ≡ true → HasNearCorners q
+near_corners r q near e =
+    let i = has_in r q e in
+    let i0 = i.0 in let i1 = i.1 in let i2 = i.2 in let i3 = i.3 in
+    let a = near.x1.low in let b = near.x2.high in let c = near.y1.low in let d = near.y2.high in
+    record {
+      low = record { x = record { low = omega (arith, ints); high = omega (arith, ints) }; y = record { low = omega (arith, ints); high = omega (arith, ints) } };
+      high = record { x = record { low = omega (arith, ints); high = omega (arith, ints) }; y = record { low = omega (arith, ints); high = omega (arith, ints) } };
+    }
+
+-- pieces of the plane are a near set
+pub near_set : (plane : Rect) (out set : List Rect) → IsRectWithin (2 ^ 39) plane → All (IsPiece plane) out → ((s : Square) → covers set s ≡ covers out s) → IsNearSet set
+near_set plane out set near pieces same q e = near_corners plane q near (in_plane out pieces (sym (same q) ∙ e))
+  where
+    in_plane : (rs : List Rect) → All (IsPiece plane) rs → covers rs q ≡ true → has plane q ≡ true
+    in_plane [] all f = let g : false ≡ true = f in absurd (let z : ⊥ = cc in z)
+    in_plane (x ∷ xs) all f = elim (or_split (has x q) (covers xs q) f) [
+      | inl g ↦ inside_has x plane q (all 0 x (omega arith)).inside g
+      | inr g ↦ in_plane xs (λ k r lt. all (suc k) r (omega arith)) g
+    ]

@@ -1,0 +1,29 @@
+-- What was gathered of a layer of kept squares.
+use Rattle.std.proofs.Common.{◌≡◌, ℕ, List, subst}
+use Rattle.geo_base.specs.declared.shapes.Rect.{Rect}
+use Rattle.geo_base.specs.declared.shapes.Square.{Square}
+use Rattle.flat_layout.specs.Layers.{IsKept}
+use Rattle.flat_layout.specs.Parts.{IsStep}
+use Rattle.cell_graph.specs.Linked.{Linked, IsSound, plain}
+use Rattle.rule_text.specs.declared.rules.RuleSet.{RuleSet}
+use Rattle.gate_search.specs.Gather.{IsGatheredAround}
+use Rattle.gate_phase.specs.Layer.{IsKeptNear, KeptOf, formula_of}
+use Rattle.gate_phase.proofs.Locals.{kept_corners}
+
+of_kept : (v : KeptOf) (seeds found : List Rect) → IsSound v.design → IsGatheredAround (IsKeptNear v) seeds found → IsGatheredAround (IsKept (plain v.design) v.cell (formula_of v.rules v.name)) seeds found
+of_kept v seeds found sound h = record {
+  sound = λ q e. (h.sound q e).kept;
+  around = λ a q kept near e. h.around a q (with_corners a kept) near e;
+  steps = λ p q e step. h.steps p q e (record { from = with_corners p step.from; to = with_corners q step.to; edge = step.edge });
+}
+  where
+    with_corners : (q : Square) → IsKept (plain v.design) v.cell (formula_of v.rules v.name) q → IsKeptNear v q
+    with_corners q kept = record { kept = kept; near = kept_corners v.design v.cell (formula_of v.rules v.name) q sound kept }
+
+pub gathered_kept : (v : KeptOf) (d : Linked) (r : RuleSet) (cell name : ℕ) (seeds found : List Rect) → v.design ≡ d → v.rules ≡ r → v.cell ≡ cell → v.name ≡ name → IsSound d → IsGatheredAround (IsKeptNear v) seeds found
+    → IsGatheredAround (IsKept (plain d) cell (formula_of r name)) seeds found
+gathered_kept v d r cell name seeds found e1 e2 e3 e4 sound h =
+    subst (λ (x : Linked). IsSound x → IsGatheredAround (IsKept (plain x) cell (formula_of r name)) seeds found) e1
+    (λ good. subst (λ (x : RuleSet). IsGatheredAround (IsKept (plain v.design) cell (formula_of x name)) seeds found) e2
+    (subst (λ (c : ℕ). IsGatheredAround (IsKept (plain v.design) c (formula_of v.rules name)) seeds found) e3
+    (subst (λ (n : ℕ). IsGatheredAround (IsKept (plain v.design) v.cell (formula_of v.rules n)) seeds found) e4 (of_kept v seeds found good h)))) sound

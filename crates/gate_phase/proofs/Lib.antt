@@ -1,0 +1,10 @@
+pub mod Bringing
+pub mod Closing
+pub mod Freeing
+pub mod Gathering
+pub mod Keeping
+pub mod Locals
+pub mod Marking
+pub mod Results
+pub mod Seeding
+pub mod Telling

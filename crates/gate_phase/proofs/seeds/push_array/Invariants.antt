@@ -1,0 +1,14 @@
+use Rattle.std.proofs.Common.{ℕ, ◌<◌, slice_index_or}
+use Rattle.std.specs.List.{All}
+use Rattle.cell_context.specs.Over.{IsPiece}
+use Rattle.cell_context.proofs.Gathering.{no_visit}
+use Rattle.gate_phase.specs.Seeding.{Grows}
+use Rattle.gate_phase.proofs.Bringing.{BringsVisit}
+use Rattle.gate_phase.proofs.seeds.push_array.Given as goal
+
+abbrev pub invariant-loop-visit : goal.invariant-loop-visit
+invariant-loop-visit l = record {
+  pieces : All (IsPiece l.plane) l.out.items;
+  grows : Grows l.fn.out.items l.out.items;
+  found : (k : ℕ) → k < l.visit-index → BringsVisit l.rects l.plane l.out.items (slice_index_or l.visit-items k no_visit);
+}

@@ -1,0 +1,16 @@
+use Rattle.std.proofs.Common.{◌∙◌, sym, subst}
+use Rattle.cell_graph.specs.Linked.{HullIsSound}
+use Rattle.cell_graph.proofs.Bridge.{hull_sound, reference_at}
+use Rattle.cell_context.proofs.Collecting.{near_array}
+use Rattle.deep_tables.specs.Frames.{IsInGrown}
+use Rattle.gate_phase.proofs.Results.{on_ok}
+use Rattle.gate_phase.proofs.seeds.push_reference.Goals as goal
+
+pub push_part-requires-clause-near : goal.push_part-requires-clause-near
+push_part-requires-clause-near c = near_array c.args.design.now c.args.cell c.args.index c.args.place.now c.sound.ensures c.requires.there
+
+pub push_part-requires-clause-some : goal.push_part-requires-clause-some
+push_part-requires-clause-some c = (reference_at c.args.design.now c.args.cell c.args.index c.args.place.now c.sound.ensures c.requires.there).2.columns
+
+pub grown_hull-requires : goal.grown_hull-requires
+grown_hull-requires c = subst HullIsSound (sym c.hull.ensures ∙ c.in-Some.is) (hull_sound c.args.design.now c.args.place.now.cell c.sound.ensures)

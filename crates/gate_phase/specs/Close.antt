@@ -1,0 +1,27 @@
+-- What is close to a part, and what of it is disturbed.
+use Rattle.std.specs.Prelude.{◌≡◌, ℕ, List, Option, Some, slice_get}
+use Rattle.geo_base.specs.declared.shapes.Rect.{Rect}
+use Rattle.cell_graph.specs.declared.cells.Place.{Place}
+use Rattle.cell_graph.specs.Linked.{Linked, cell_at, places_at}
+use Rattle.deep_tables.specs.declared.zones.CellZones.{CellZones}
+use Rattle.deep_tables.specs.declared.zones.ZoneKey.TheVariants.{Device}
+use Rattle.deep_tables.specs.Zones.{zone_of}
+use Rattle.gate_shapes.specs.Shapes.{MissEachOther}
+
+-- the squares of a cell that are disturbed for a device rule
+abbrev pub AreOpen : List (Option CellZones) → ℕ → ℕ → List Rect → Type 0
+AreOpen z cell device zone = zone_of z cell (Device device) ≡ Some zone
+
+-- the table has them
+abbrev pub HasOpen : List (Option CellZones) → ℕ → ℕ → Type 0
+HasOpen z cell device = (zone : List Rect) × AreOpen z cell device zone
+
+-- and of all cells that the cell places
+abbrev pub HasOpenBelow : Linked → List (Option CellZones) → ℕ → ℕ → Type 0
+HasOpenBelow d z cell device = (i : ℕ) (p : Place)
+    → slice_get (places_at (cell_at d cell)) i ≡ Some p → HasOpen z p.cell device
+
+-- nothing that is close is disturbed
+abbrev pub MissesOpen : List (Option CellZones) → ℕ → ℕ → List Rect → Type 0
+MissesOpen z cell device close = (zone : List Rect) × AreOpen z cell device zone
+    × MissEachOther close zone

@@ -1,0 +1,54 @@
+-- The input layers that a device rule reads, as marks on the names of the rules.
+use Rattle.std.specs.Prelude.{◌≡◌, ◌⊎◌, ℕ, ◌<◌, true, Bool, List, Some, ◌++◌, length, get_or}
+use Rattle.std.specs.Prelude.{slice_get}
+use Rattle.geo_base.specs.declared.layer.LayerKey.{LayerKey}
+use Rattle.flat_layout.specs.Layers.{Formula, Empty, inputs}
+use Rattle.flat_layout.specs.Layout.{Some_of}
+use Rattle.rule_text.specs.declared.rules.LayerForm.{LayerForm}
+use Rattle.rule_text.specs.declared.rules.LayerForm.TheVariants as form
+use Rattle.rule_text.specs.declared.rules.LayerRule.{LayerRule}
+use Rattle.rule_text.specs.declared.rules.MosRule.{MosRule}
+use Rattle.rule_layers.specs.Formulas.{formulas}
+
+abbrev pub IsMarked : List Bool → ℕ → Type 0
+IsMarked marks i = slice_get marks i ≡ Some true
+
+-- those of P are marked too
+pub record MarksMore (P : ℕ → Type 0) (old new : List Bool) : Type 0 where
+  pub count : length new ≡ length old
+  pub stay : (i : ℕ) → IsMarked old i → IsMarked new i
+  pub here : (i : ℕ) → P i → IsMarked new i
+  pub fresh : (i : ℕ) → IsMarked new i → IsMarked old i ⊎ P i
+
+-- the form reads the name of this number
+abbrev pub IsReadBy : LayerForm → ℕ → Type 0
+IsReadBy (form.Binary op a b) i = (i ≡ a) ⊎ (i ≡ b)
+IsReadBy _ i = ⊥
+
+-- of each marked name from this one on, what it reads before itself is marked
+abbrev pub AreClosed : List LayerRule → ℕ → List Bool → Type 0
+AreClosed names from marks = (j k : ℕ) (rule : LayerRule) → IsMarked marks j
+    → slice_get names j ≡ Some rule → IsReadBy rule.form k → k < j → (j < from → ⊥)
+    → IsMarked marks k
+
+-- the name is a layer of a device rule
+abbrev pub IsOfMos : MosRule → ℕ → Type 0
+IsOfMos m i = (i ≡ m.sd) ⊎ ((i ≡ m.g) ⊎ ((i ≡ m.w) ⊎ ((i ≡ m.ts) ⊎ ((i ≡ m.tg) ⊎ (i ≡ m.tb)))))
+
+-- the input layers that the six layers of a device rule read
+abbrev pub mos_keys : List Formula → MosRule → List LayerKey
+mos_keys trees m =
+    inputs (get_or trees m.sd Empty) ++ (inputs (get_or trees m.g Empty)
+    ++ (inputs (get_or trees m.w Empty) ++ (inputs (get_or trees m.ts Empty)
+    ++ (inputs (get_or trees m.tg Empty) ++ inputs (get_or trees m.tb Empty)))))
+
+-- the name is this input layer, and marked
+abbrev pub IsMarkedInput : List LayerRule → List Bool → ℕ → LayerKey → Type 0
+IsMarkedInput names marks i key = (rule : LayerRule) × (slice_get names i ≡ Some rule)
+    × (rule.form ≡ form.Input key) × IsMarked marks i
+
+-- each input layer that the device rule reads is marked
+abbrev pub AreRead : List LayerRule → MosRule → List Bool → Type 0
+AreRead names m marks = (key : LayerKey)
+    → Some_of (λ k. k ≡ key) (mos_keys (formulas names) m)
+    → (i : ℕ) × IsMarkedInput names marks i key

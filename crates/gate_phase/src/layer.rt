@@ -1,0 +1,88 @@
+//! What a cell keeps of a name, as a layer that is asked window by window.
+ghost use Rattle.std.specs.Prelude.{◌≡◌, ◌<◌, length};
+ghost use Rattle.flat_layout.specs.Layout.{IsReached};
+ghost use Rattle.cell_graph.specs.Linked.{plain};
+ghost use Rattle.rule_text.specs.Seen.{rules_seen};
+ghost use Rattle.deep_tables.specs.Layers.{AreLayers};
+
+use crate::frame::plane;
+use crate::kept::kept_in;
+use cell_context::meet;
+use cell_graph::Design;
+use deep_tables::Layers;
+use gate_search::GateLayer;
+use geo_base::Rect;
+use rect_sets::RectSet;
+use rule_text::RuleSet;
+use std::alloc::{AllocError, Global};
+use std::marker::Model;
+
+/// What a cell keeps of a name of the rules, by the table of what cells hold themselves.
+#[derive(Drop)]
+pub struct KeptLayer<'a> {
+    design: &'a Design,
+    rules: &'a RuleSet,
+    layers: &'a Layers,
+    cell: u32,
+    name: u32,
+}
+
+impl<'a> Model for KeptLayer<'a> {
+    ghost use Rattle.gate_phase.specs.Layer.{IsKeptLayer, KeptOf, kept_of};
+
+    ghost Value = { KeptOf };
+
+    ghost view = { kept_of };
+
+    ghost invariant = { IsKeptLayer };
+}
+
+impl<'a> KeptLayer<'a> {
+    /// What the cell keeps of the name.
+    pub fn new(
+        design: &'a Design,
+        rules: &'a RuleSet,
+        layers: &'a Layers,
+        cell: u32,
+        name: u32,
+    ) -> KeptLayer<'a>
+        requires name { name < length rules.now.names.items }
+        requires layers { AreLayers (plain design.now) (rules_seen rules.now) layers.now }
+        requires reached { IsReached (plain design.now) cell }
+        ensures design { result.design ≡ design.now }
+        ensures rules { result.rules ≡ rules.now }
+        ensures cell { result.cell ≡ cell }
+        ensures name { result.name ≡ name }
+    {
+        KeptLayer {
+            design,
+            rules,
+            layers,
+            cell,
+            name,
+        }
+    }
+}
+
+impl GateLayer for KeptLayer<'_> {
+    ghost use Rattle.gate_phase.specs.Layer.{IsKeptNear};
+
+    ghost keeps = { IsKeptNear };
+
+    fn near(&self, alloc: Global, window: Rect) -> Result<RectSet, AllocError> {
+        self.design.sound();
+        match meet(&window, &plane()) {
+            Some(near) => kept_in(
+                alloc,
+                self.design,
+                self.layers,
+                self.cell,
+                self.name,
+                &[near],
+            ),
+            None => Ok(RectSet::empty(alloc)),
+        }
+    }
+
+    ghost bounded = { λ x q e. e.near };
+}

@@ -1,0 +1,19 @@
+//! The gates of transistors that each cell holds itself.
+#![tactic(auto)]
+
+mod below;
+mod close;
+mod frame;
+mod kept;
+mod layer;
+mod reads;
+mod search;
+mod seeds;
+
+pub use below::is_below;
+pub use close::{close_to, is_undisturbed};
+pub use kept::{kept_in, kept_rects};
+pub use layer::KeptLayer;
+pub use reads::names_read;
+pub use search::parts_of;
+pub use seeds::seeds_of;
