@@ -77,7 +77,7 @@ impl Drawing {
         end: 0,
     };
 
-    fn keep(&mut self, kind: u8, body: &[u8])
+    fn take_drawing(&mut self, kind: u8, body: &[u8])
         requires { is_bound kind ≡ false }
         ensures { (before : Records) (form : ℕ) → HoldsDrawing before self.old → HoldsDrawing
             (before ▸ rec kind form body.now) self.new }
@@ -113,7 +113,7 @@ impl Placing {
         row_side: ORIGIN,
     };
 
-    fn keep(&mut self, kind: u8, body: &[u8])
+    fn take_placing(&mut self, kind: u8, body: &[u8])
         requires { is_bound kind ≡ false }
         ensures { (before : Records) (form : ℕ) → HoldsPlacing before self.old → HoldsPlacing
             (before ▸ rec kind form body.now) self.new }
@@ -170,11 +170,11 @@ impl Element {
             *self = Element::open(alloc, kind);
             return Ok(());
         }
-        self.keep(alloc, kind, body, points)
+        self.take_part(alloc, kind, body, points)
     }
 
-    /// Keeps what a part says.
-    fn keep(
+    /// Takes what a part says.
+    fn take_part(
         &mut self,
         alloc: Global,
         kind: u8,
@@ -186,8 +186,8 @@ impl Element {
         ensures { OnOk result ((before : Records) (form : ℕ) → HoldsElement before self.old
             → HoldsElement (before ▸ rec kind form body.now) self.new) }
     {
-        self.drawing.keep(kind, body);
-        self.placing.keep(kind, body);
+        self.drawing.take_drawing(kind, body);
+        self.placing.take_placing(kind, body);
         match kind {
             kinds::XY => self.points = points,
             kinds::STRING | kinds::SNAME => self.text = Vec::from_slice(alloc, trimmed(body))?,

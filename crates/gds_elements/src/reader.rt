@@ -46,7 +46,7 @@ impl Header {
         }
     }
 
-    fn keep(&mut self, alloc: Global, kind: u8, body: &[u8]) -> Result<(), AllocError>
+    fn take_header(&mut self, alloc: Global, kind: u8, body: &[u8]) -> Result<(), AllocError>
         ensures { OnOk result ((before : Records) (form : ℕ) → HoldsHeader before self.old
             → HoldsHeader (before ▸ rec kind form body.now) self.new) }
     {
@@ -88,8 +88,8 @@ impl Structure {
         }
     }
 
-    /// Keeps what a record that ends no element says.
-    fn keep(&mut self, alloc: Global, kind: u8, body: &[u8]) -> Result<(), AllocError>
+    /// Takes what a record that ends no element says.
+    fn take_structure(&mut self, alloc: Global, kind: u8, body: &[u8]) -> Result<(), AllocError>
         requires element { (kind ≡ 0x11 → ⊥) }
         requires structure { (kind ≡ 0x07 → ⊥) }
         ensures { OnOk result ((before : Records) (form : ℕ) → HoldsStructure before self.old
@@ -249,8 +249,8 @@ impl Reader {
         Ok(())
     }
 
-    /// Keeps what a record says that passes; its points are read already.
-    pub(crate) fn keep(
+    /// Takes what a record says that passes; its points are read already.
+    pub(crate) fn take_record(
         &mut self,
         alloc: Global,
         kind: u8,
@@ -262,7 +262,7 @@ impl Reader {
             (before ▸ rec kind form body.now) self.new) }
         ensures taken { OnOk result (self.new.taken ≡ self.old.taken) }
     {
-        self.header.keep(alloc, kind, body)?;
+        self.header.take_header(alloc, kind, body)?;
         if kind == kinds::ENDEL {
             self.end_element(alloc)?;
             return Ok(());
@@ -272,7 +272,7 @@ impl Reader {
             self.end_structure(alloc)?;
             return Ok(());
         }
-        self.structure.keep(alloc, kind, body)?;
+        self.structure.take_structure(alloc, kind, body)?;
         Ok(())
     }
 

@@ -103,7 +103,7 @@ impl Stream {
         if let Some(number) = content_fault(&self.kept.element, kind, body, &points) {
             return Err(TakeError::Fault(number));
         }
-        self.kept.keep(alloc, kind, body, points)?;
+        self.kept.take_record(alloc, kind, body, points)?;
         self.place = place;
         self.count += 1;
         self.offset += body.len() as u64 + 4;

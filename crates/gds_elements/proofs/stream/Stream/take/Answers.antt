@@ -29,5 +29,5 @@ returns-clause-reading c = λ before h proper.
         by_content before r e.start c.args.self.now.last e.placing.columns e.placing.rows c.content_fault.result order h.kept.element.start h.last first
             (sym c.is_plain.ensures ∙ c.if-not-is_plain.false) h.kept.element.placing.columns h.kept.element.placing.rows c.content_fault.ensures ∙ clean,
       );
-      kept = c.in_ok-keep.ensures.holds before c.args.form h.kept;
+      kept = c.in_ok-take_record.ensures.holds before c.args.form h.kept;
     }

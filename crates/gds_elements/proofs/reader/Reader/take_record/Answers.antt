@@ -5,13 +5,13 @@ use Rattle.gds_elements.specs.declared.element.Element.{Element}
 use Rattle.gds_elements.specs.Meaning as m
 use Rattle.gds_elements.specs.Reading.{HoldsHeader, HoldsElement, cell_seen, rec, taken_cells}
 use Rattle.gds_elements.proofs.Parts.{cells_still}
-use Rattle.gds_elements.proofs.reader.Reader.keep.Goals as goal
+use Rattle.gds_elements.proofs.reader.Reader.take_record.Goals as goal
 
 pub returns-then-kind-eq-ENDEL-clause-holds : goal.returns-then-kind-eq-ENDEL-clause-holds
 returns-then-kind-eq-ENDEL-clause-holds c = λ before form h.
     let k = c.if-kind-eq-ENDEL.true in
     let body = c.args.body.now in
-    let head = rw k at (c.in_ok-keep.ensures before form h.header) in
+    let head = rw k at (c.in_ok-take_header.ensures before form h.header) in
     let said = c.in_ok-end_element.ensures in
     rw k record {
       header = subst (λ (x : Header). HoldsHeader (before ▸ rec 0x11 form body) x) (sym said.rest.0) head;
@@ -24,7 +24,7 @@ pub returns-then-kind-eq-ENDSTR-clause-holds : goal.returns-then-kind-eq-ENDSTR-
 returns-then-kind-eq-ENDSTR-clause-holds c = λ before form h.
     let k = c.if-kind-eq-ENDSTR.true in
     let body = c.args.body.now in
-    let head = rw k at (c.in_ok-keep.ensures before form h.header) in
+    let head = rw k at (c.in_ok-take_header.ensures before form h.header) in
     let element = rw k at (c.in_ok-next.ensures before form h.element) in
     let said = c.in_ok-end_structure.ensures in
     rw k record {
@@ -42,8 +42,8 @@ returns-clause-holds c = λ before form h.
     let r = rec c.args.kind form c.args.body.now in
     let still = cells_still before r c.if-kind-eq-ENDSTR.false in
     record {
-      header = c.in_ok-keep.ensures before form h.header;
-      structure = c.in_ok-keep-2.ensures before form h.structure;
+      header = c.in_ok-take_header.ensures before form h.header;
+      structure = c.in_ok-take_structure.ensures before form h.structure;
       element = c.in_ok-next.ensures before form h.element;
       cells = h.cells ∙ still;
     }

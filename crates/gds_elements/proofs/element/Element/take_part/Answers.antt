@@ -7,7 +7,7 @@ use Rattle.gds_elements.specs.Data.{points_of, trimmed}
 use Rattle.gds_elements.specs.Meaning.{part, text_part}
 use Rattle.gds_elements.specs.Reading.{rec}
 use Rattle.gds_elements.proofs.Parts.{found_new, found_still, opened_still}
-use Rattle.gds_elements.proofs.element.Element.keep.Goals as goal
+use Rattle.gds_elements.proofs.element.Element.take_part.Goals as goal
 
 pub returns-in-16 : goal.returns-in-16
 returns-in-16 c = λ before form h.
@@ -15,8 +15,8 @@ returns-in-16 c = λ before form h.
     let other : (c.args.kind == STRING || c.args.kind == SNAME) ≡ false = rw c.in-16.is refl in
     record {
       start = h.start ∙ sym (opened_still before r c.requires.inside);
-      drawing = c.keep.ensures before form h.drawing;
-      placing = c.keep-2.ensures before form h.placing;
+      drawing = c.take_drawing.ensures before form h.drawing;
+      placing = c.take_placing.ensures before form h.placing;
       points = c.requires.points c.in-16.is ∙ ap (λ (b : List ℕ). points_of b) (sym (found_new (λ k. k == XY) is_bound before r (eq-eqb c.args.kind 16 c.in-16.is)));
       text = h.text ∙ ap (λ (b : List ℕ). trimmed b) (sym (found_still (λ k. k == STRING || k == SNAME) is_bound before r other c.requires.inside));
     }
@@ -28,8 +28,8 @@ returns-in_ok-self-in-25 c = λ before form h.
     let xy : part XY before ≡ part XY (before ▸ r) = search rules in
     record {
       start = h.start ∙ sym (opened_still before r c.requires.inside);
-      drawing = c.keep.ensures before form h.drawing;
-      placing = c.keep-2.ensures before form h.placing;
+      drawing = c.take_drawing.ensures before form h.drawing;
+      placing = c.take_placing.ensures before form h.placing;
       points = h.points ∙ ap (λ (b : List ℕ). points_of b) xy;
       text = c.in_ok-self-in-25.ensures.items ∙ c.trimmed.ensures ∙ ap (λ (b : List ℕ). trimmed b) (sym text);
     }
@@ -41,8 +41,8 @@ returns-in_default c = λ before form h.
     let xy : part XY before ≡ part XY (before ▸ r) = search rules in
     record {
       start = h.start ∙ sym (opened_still before r c.requires.inside);
-      drawing = c.keep.ensures before form h.drawing;
-      placing = c.keep-2.ensures before form h.placing;
+      drawing = c.take_drawing.ensures before form h.drawing;
+      placing = c.take_placing.ensures before form h.placing;
       points = h.points ∙ ap (λ (b : List ℕ). points_of b) xy;
       text = h.text ∙ ap (λ (b : List ℕ). trimmed b) text;
     }

@@ -5,7 +5,7 @@ use Rattle.gds_elements.specs.Data.{number, side, columns_in, rows_in}
 use Rattle.std.specs.Prelude.{nat_le}
 use Rattle.gds_elements.specs.Meaning.{part, quarters}
 use Rattle.gds_elements.specs.Reading.{rec}
-use Rattle.gds_elements.proofs.element.Placing.keep.Goals as goal
+use Rattle.gds_elements.proofs.element.Placing.take_placing.Goals as goal
 
 pub returns-in_default : goal.returns-in_default
 returns-in_default c = λ before form h.
