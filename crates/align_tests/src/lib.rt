@@ -1,0 +1,6 @@
+//! Layouts and schematics, aligned.
+#![tactic(auto)]
+
+mod chain;
+mod conditions;
+mod pairs;
