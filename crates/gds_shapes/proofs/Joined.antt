@@ -1,5 +1,5 @@
 -- Records written one behind the other.
-use Rattle.std.proofs.Common.{◌≡◌, ℕ, List, [], ◌∷◌, ◌++◌, refl, sym, ap, ◌∙◌, append_assoc}
+use Rattle.std.proofs.Common.{◌≡◌, ℕ, List, [], ◌∷◌, ◌++◌, refl, sym, ◌∙◌, append_assoc}
 use Rattle.std.specs.List.{flat_map}
 use Rattle.std.proofs.lemmas.List.{append-nil}
 use Rattle.std.proofs.lemmas.Grind.{flat_map-append}
@@ -9,18 +9,6 @@ use Rattle.gds_shapes.proofs.More.{texts}
 pub bytes_more : (rs : Records) (xs : List Rec) → bytes_of (followed_by_all rs xs) ≡ bytes_of rs ++ texts xs
 bytes_more rs [] = sym (append-nil (bytes_of rs))
 bytes_more rs (x ∷ xs) = bytes_more (rs ▸ x) xs ∙ append_assoc (bytes_of rs) (record_bytes x) (texts xs)
-
--- a cell's start, its layers and its end, between what stands before and the last piece
-in_turn : {X : Type 0} (f : X → List ℕ) (front middle : List X) (a b c d : X) (o p q s t u : List ℕ) → o ≡ []
-    → p ≡ o ++ flat_map f front → q ≡ p ++ flat_map f (a ∷ b ∷ []) → s ≡ q ++ flat_map f middle → t ≡ s ++ f c → u ≡ t ++ f d
-    → u ≡ flat_map f (front ++ (a ∷ b ∷ middle ++ c ∷ []) ++ d ∷ [])
-in_turn f front middle a b c d o p q s t u e0 e1 e2 e3 e4 e5 = rw (e5, e4, e3, e2, e1, e0) (simp (flat_map-append, append_assoc, append-nil) refl)
-
-pub alone_in_turn : {X : Type 0} (f : X → List ℕ) (front middle : List X) (a b c d : X) (o p q s t u : List ℕ) → o ≡ []
-    → p ≡ o ++ flat_map f front → q ≡ p ++ flat_map f (a ∷ b ∷ []) → s ≡ q ++ flat_map f middle → t ≡ s ++ f c → u ≡ t ++ f d
-    → u ≡ flat_map f (front ++ ((a ∷ b ∷ middle ++ c ∷ []) ++ []) ++ d ∷ [])
-alone_in_turn {X} f front middle a b c d o p q s t u e0 e1 e2 e3 e4 e5 =
-    in_turn f front middle a b c d o p q s t u e0 e1 e2 e3 e4 e5 ∙ ap (λ (zs : List X). flat_map f (front ++ zs ++ d ∷ [])) (sym (append-nil (a ∷ b ∷ middle ++ c ∷ [])))
 
 -- five pieces, before the last of which four stand
 pub five : {X : Type 0} (f : X → List ℕ) (a b c d e : X) (o p q r s : List ℕ) → p ≡ o ++ f a → q ≡ p ++ f b → r ≡ q ++ f c → s ≡ r ++ f d

@@ -1,7 +1,6 @@
 -- One item more of a list, as a loop over it comes by it.
-use Rattle.std.proofs.Common.{◌≡◌, ◌<◌, ℕ, zero, suc, map, length, get_or, arith, List, [], ◌∷◌, ◌++◌, sym, ap, ◌∙◌, append_assoc, subst, ℤ, SFits, w64, to_z, of_z}
-use Rattle.std.specs.List.{All, flat_map}
-use Rattle.std.proofs.lemmas.List.Elements.{All-head, All-tail}
+use Rattle.std.proofs.Common.{◌≡◌, ℕ, List, [], ◌∷◌, ◌++◌, sym, ap, ◌∙◌, append_assoc, subst, ℤ, SFits, w64, to_z, of_z}
+use Rattle.std.specs.List.{flat_map}
 use Rattle.std.proofs.lemmas.List.{append-nil}
 use Rattle.std.proofs.lemmas.Grind.{flat_map-append}
 use Rattle.std.proofs.lemmas.Int.{to_z-of_z}
@@ -24,9 +23,3 @@ texts_push {X} f xs ys x before so_far new e h g =
 -- a coordinate as code holds it
 pub as_held : (z : ℤ) → SFits w64 z → IsLong (to_z w64 (of_z w64 z)) → IsLong z
 as_held z f h = let P : ℤ → Type 0 = λ x. IsLong x in subst P (to_z-of_z w64 z f) h
-
--- what holds of each item's image holds of one item's
-pub at_mapped : {X Y : Type 0} (P : X → Type 0) (f : Y → X) (ys : List Y) (i : ℕ) (d : Y) → i < length ys → All P (map f ys) → P (f (get_or ys i d))
-at_mapped P f [] i d lt h = absurd (omega (arith, lt))
-at_mapped P f (y ∷ ys) zero d lt h = All-head P (f y) (map f ys) h
-at_mapped P f (y ∷ ys) (suc i) d lt h = at_mapped P f ys i d (omega (arith, lt)) (All-tail P (f y) (map f ys) h)

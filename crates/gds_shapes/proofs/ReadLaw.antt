@@ -13,7 +13,7 @@ use Rattle.gds_grammar.specs.Order.{kinds_of, can_go_on, IsEnded}
 use Rattle.gds_grammar.proofs.GrammarLaw.{grammar_law}
 use Rattle.gds_grammar.proofs.LastRecord.{stops}
 use Rattle.gds_records.specs.Kinds.{HEADER, BGNLIB, LIBNAME, UNITS, BGNSTR, STRNAME, ENDSTR}
-use Rattle.gds_elements.specs.Data.{exactly, is_empty, trimmed, put_before, has_unit, real_in, unit_in}
+use Rattle.gds_elements.specs.Data.{exactly, is_empty, trimmed, put_before, has_unit, real_in}
 use Rattle.fixed_num.specs.Real.{is_unit}
 use Rattle.gds_elements.specs.Meaning.{Shape, Text, Ref, Cell, Library, opened, last_kind, columns_of, rows_of, found, head_part, is_cell_bound, cell_part, shapes_of, texts_of, refs_of, cells_of, cell_by, open_cells, library_of}
 use Rattle.gds_elements.specs.Faults.{is_second_points, is_plain, content_fault, fault_of, Passes}

@@ -3,7 +3,7 @@ use Rattle.std.proofs.Common.{◌≡◌, ℕ, ◌+◌, ◌%◌, ◌^◌, ◌<◌
 use Rattle.std.specs.Prelude.{◌==◌, map, IsTrue}
 use Rattle.std.specs.List.{All, flat_map}
 use Rattle.std.proofs.lemmas.List.{append-nil}
-use Rattle.std.proofs.lemmas.List.Elements.{All-head, All-tail, All-nil, All-cons}
+use Rattle.std.proofs.lemmas.List.Elements.{All-head, All-tail}
 use Rattle.gds_records.specs.Records.{IsRecord, is_listed, Records, NoRecords, ◌▸◌, bytes_of, followed_by_all}
 use Rattle.gds_records.specs.Kinds.{HEADER, BGNLIB, LIBNAME, UNITS, ENDLIB, BGNSTR, STRNAME, ENDSTR}
 use Rattle.gds_grammar.specs.Pattern.{Pattern, after_any}
@@ -14,8 +14,8 @@ use Rattle.gds_elements.specs.Faults.{fault_of, Passes}
 use Rattle.gds_elements.specs.Reading.{rec}
 use Rattle.gds_shapes.specs.Data.{bare, filled, numbers, string, IsData}
 use Rattle.gds_shapes.specs.References.{is_single, placement, array, reference, reference_read, FitsReference}
-use Rattle.gds_shapes.specs.Stream.{Heading, Drawn, layer, structure, stream, library_bytes, heading_of, alone}
-use Rattle.gds_shapes.specs.Accepted.{IsHeading, FitsCell, WrittenLaw, AcceptedLaw, layer_shapes, cell_read}
+use Rattle.gds_shapes.specs.Stream.{Heading, Drawn, layer, structure, stream, library_bytes}
+use Rattle.gds_shapes.specs.Accepted.{IsHeading, FitsCell, WrittenLaw, layer_shapes, cell_read}
 use Rattle.gds_shapes.proofs.Bodies.{Filled, string_filled}
 use Rattle.gds_shapes.proofs.Joined.{bytes_more}
 use Rattle.gds_shapes.proofs.Context.{inside, between, InCell, Between, passes_next, goes_on, shut_passes, shut_content, bare_record, followed-append}
@@ -187,8 +187,3 @@ law h cells is all =
     let same : followed_by_all NoRecords (stream h cells) ≡ rs ▸ bare ENDLIB = followed-append start body (bare ENDLIB ∷ []) in
     let bytes : library_bytes h cells ≡ bytes_of (rs ▸ bare ENDLIB) = sym (bytes_more NoRecords (stream h cells)) ∙ ap (λ (qs : Records). bytes_of qs) same in
     (rs ▸ bare ENDLIB, [], record { whole = bytes ∙ sym (append-nil (bytes_of (rs ▸ bare ENDLIB))); passes = (s.head.passes, bare_record ENDLIB refl, pass) }, refl, means h (map cell_read cells) rs is s)
-
-pub alone_law : AcceptedLaw
-alone_law library cell layers read fits =
-    law (heading_of library) (alone cell layers ∷ []) read.heading
-    (All-cons FitsCell (alone cell layers) [] record { dates = read.cell_dates; name = read.cell_name; refs = All-nil FitsReference; layers = fits } (All-nil FitsCell))

@@ -1,5 +1,5 @@
 -- What the written stream is read as.
-use Rattle.std.specs.Prelude.{ℕ, List, [], ◌∷◌, map, IsTrue}
+use Rattle.std.specs.Prelude.{ℕ, List, [], map, IsTrue}
 use Rattle.std.specs.List.{All, flat_map}
 use Rattle.geo_base.specs.declared.layer.LayerKey.{LayerKey}
 use Rattle.geo_base.specs.declared.shapes.Rect.{Rect}
@@ -9,7 +9,6 @@ use Rattle.gds_elements.specs.Faults.{Accepts}
 use Rattle.gds_shapes.specs.Data.{IsData, IsText, IsNamed}
 use Rattle.gds_shapes.specs.References.{reference_read, FitsReference}
 use Rattle.gds_shapes.specs.Stream.{Heading, Drawn, FitsLayer, corners, heading_of, library_bytes}
-use Rattle.gds_shapes.specs.Stream.{stream_bytes}
 
 -- a rectangle on a layer as a shape: its outline
 abbrev pub rect_shape : LayerKey → Rect → Shape
@@ -70,41 +69,12 @@ abbrev pub ReadReferencesLaw : Type 0
 ReadReferencesLaw = (bytes : List ℕ) (library : Library) → Accepts bytes library
     → All (λ cell. All FitsReference cell.refs) library.cells
 
--- ---- a library of one cell without references
-
--- the cell with these shapes alone
-abbrev pub written_cell : Cell → List (LayerKey × List Rect) → Cell
-written_cell cell layers = record {
-  dates = cell.dates;
-  name = cell.name;
-  shapes = flat_map layer_shapes layers;
-  texts = [];
-  refs = [];
-}
-
--- the library with this cell alone
-abbrev pub written_library : Library → Cell → List (LayerKey × List Rect) → Library
-written_library library cell layers = record {
-  version = library.version;
-  dates = library.dates;
-  name = library.name;
-  units = library.units;
-  cells = written_cell cell layers ∷ [];
-}
-
 -- a library's header and a cell's as they are read: data of their sizes, a database unit, and names
 -- without NULs at their ends
 pub record IsRead (library : Library) (cell : Cell) : Type 0 where
   pub heading : IsHeading (heading_of library)
   pub cell_dates : IsData 24 cell.dates
   pub cell_name : IsNamed cell.name
-
--- what is written of a library that was read is accepted, as the library with this cell and the
--- outlines of its rectangles
-abbrev pub AcceptedLaw : Type 0
-AcceptedLaw = (library : Library) (cell : Cell) (layers : List (LayerKey × List Rect))
-    → IsRead library cell → All FitsLayer layers
-    → Accepts (stream_bytes library cell layers) (written_library library cell layers)
 
 -- an accepted library is such a library, with each of its cells
 abbrev pub ReadLaw : Type 0

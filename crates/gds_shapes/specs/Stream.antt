@@ -9,12 +9,11 @@ use Rattle.geo_base.specs.declared.shapes.Rect.{Rect}
 use Rattle.gds_records.specs.Records.{Rec, record_bytes}
 use Rattle.gds_records.specs.Kinds.{HEADER, BGNLIB, LIBNAME, UNITS, ENDLIB, BGNSTR, STRNAME, ENDSTR}
 use Rattle.gds_records.specs.Kinds.{BOUNDARY, LAYER, DATATYPE, XY, ENDEL}
-use Rattle.gds_elements.specs.Meaning.{Library, Cell, Ref}
+use Rattle.gds_elements.specs.Meaning.{Library, Ref}
 use Rattle.gds_elements.specs.Reading.{rec}
 use Rattle.gds_shapes.specs.Data.{bare, numbers, number, string, point_bytes}
 use Rattle.gds_shapes.specs.References.{reference}
 use Rattle.gds_shapes.specs.declared.heading.Heading as code
-use Rattle.gds_shapes.specs.declared.shapes.Written.{Written}
 
 -- ---- what is written
 
@@ -72,8 +71,7 @@ stream heading cells = header heading ++ flat_map structure cells ++ bare ENDLIB
 abbrev pub library_bytes : Heading → List Drawn → List ℕ
 library_bytes heading cells = flat_map record_bytes (stream heading cells)
 
--- ---- a library of one cell without references
-
+-- what stands before the cells of a library that was read
 abbrev pub heading_of : Library → Heading
 heading_of library = record {
   version = library.version;
@@ -81,12 +79,6 @@ heading_of library = record {
   name = library.name;
   units = library.units;
 }
-
-abbrev pub alone : Cell → List (LayerKey × List Rect) → Drawn
-alone cell layers = record { dates = cell.dates; name = cell.name; refs = []; layers = layers }
-
-abbrev pub stream_bytes : Library → Cell → List (LayerKey × List Rect) → List ℕ
-stream_bytes library cell layers = library_bytes (heading_of library) (alone cell layers ∷ [])
 
 -- ---- what can be written
 
@@ -99,14 +91,6 @@ pub record IsKey (key : LayerKey) : Type 0 where
 pub record FitsLayer (l : LayerKey × List Rect) : Type 0 where
   pub key : IsKey l.0
   pub rects : All IsLongRect l.1
-
--- each rectangle of the layers has room in its record
-abbrev pub AreLong : List (LayerKey × List Rect) → Type 0
-AreLong layers = All (λ l. All IsLongRect l.1) layers
-
--- what is written of a layer, as it is seen
-abbrev pub layer_seen : Written → LayerKey × List Rect
-layer_seen w = (w.key, w.rects.now)
 
 -- what stands before the cells, as it is seen
 abbrev pub heading_seen : code.Heading → Heading

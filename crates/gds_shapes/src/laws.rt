@@ -1,6 +1,6 @@
 //! What the written stream is read as.
 
-ghost use Rattle.gds_shapes.specs.Accepted.{AcceptedLaw, ReadLaw, ReadHeadingLaw};
+ghost use Rattle.gds_shapes.specs.Accepted.{ReadLaw, ReadHeadingLaw};
 ghost use Rattle.gds_shapes.specs.Accepted.{ReadReferencesLaw, WrittenLaw};
 
 use gds_elements::placeable;
@@ -21,14 +21,8 @@ pub fn read_again()
     placeable();
 }
 
-/// What is written of a library that was read is a stream of the format, and is read as that
-/// library with this one cell,
-/// whose shapes are the outlines of the rectangles.
-pub fn accepted()
-    ensures { AcceptedLaw }
-{}
-
-/// Each library of an accepted stream was read so, with each of its cells.
+/// An accepted library has data of their sizes and names without NULs at their ends, and so has each
+/// of its cells.
 pub fn library_read()
     ensures { ReadLaw }
 {}

@@ -9,6 +9,6 @@ mod references;
 mod shapes;
 
 pub use heading::{Heading, write_cell_end, write_cell_start, write_end, write_heading};
-pub use laws::{accepted, library_read, read_again, written};
+pub use laws::{library_read, read_again, written};
 pub use references::{Reference, write_reference};
-pub use shapes::{Written, shapes_text, write_layer};
+pub use shapes::write_layer;

@@ -1,77 +1,16 @@
 //! A cell's rectangles as records.
 
-ghost use Rattle.std.specs.Prelude.{◌≡◌, ◌++◌, map, IfOk, OnOk};
+ghost use Rattle.std.specs.Prelude.{◌≡◌, ◌++◌, OnOk};
 ghost use Rattle.std.specs.List.{All, flat_map};
 ghost use Rattle.gds_records.specs.Records.{record_bytes};
-ghost use Rattle.gds_elements.specs.Faults.{Accepts};
-ghost use Rattle.gds_elements.specs.Reading.{library_seen, cell_seen};
-ghost use Rattle.gds_shapes.specs.Accepted.{IsRead, written_library};
 ghost use Rattle.geo_base.specs.Near.{IsLongRect};
-ghost use Rattle.gds_shapes.specs.Data.{IsShort};
-ghost use Rattle.gds_shapes.specs.Stream.{AreLong, FitsLayer, boundary, layer};
-ghost use Rattle.gds_shapes.specs.Stream.{layer_seen, outline, stream_bytes};
+ghost use Rattle.gds_shapes.specs.Stream.{FitsLayer, boundary, layer, outline};
 
-use crate::heading::{Heading, write_cell_end, write_cell_start, write_end, write_heading};
 use crate::records::{LONGS, NONE, NUMBERS, long};
 use byteorder::{BigEndian, ByteOrder};
-use gds_elements::{Library, RawCell};
 use gds_records::{kinds, write_record};
 use geo_base::{LayerKey, Rect};
-use std::alloc::{AllocError, Global};
-
-/// What is written of a layer: its rectangles, in order.
-#[derive(Clone, Copy)]
-pub struct Written<'a> {
-    pub key: LayerKey,
-    pub rects: &'a [Rect],
-}
-
-/// The stream of a library with this one cell, whose rectangles are boundaries, layer by layer:
-/// names that one record
-/// holds, as those of each library that was read, and coordinates of 32 bits. An `Err` is want of
-/// memory. Cost: the
-/// bytes written.
-pub fn shapes_text(
-    alloc: Global,
-    library: &Library,
-    cell: &RawCell,
-    written: &[Written],
-) -> Result<Vec<u8>, AllocError>
-    requires name { IsShort library.now.name.items }
-    requires cell_name { IsShort cell.now.name }
-    requires long { AreLong (map layer_seen written.now) }
-    ensures exact { IfOk result (λ text. text.items ≡ stream_bytes (library_seen library.now)
-        (cell_seen cell.now) (map layer_seen written.now)) }
-    ensures accepted { IfOk result (λ text. IsRead (library_seen library.now)
-        (cell_seen cell.now) → Accepts text.items (written_library (library_seen library.now)
-        (cell_seen cell.now) (map layer_seen written.now))) }
-{
-    let mut out = Vec::new(alloc);
-    let heading = Heading {
-        version: library.version,
-        dates: library.dates,
-        name: &library.name,
-        units: library.units,
-    };
-    write_heading(alloc, &mut out, &heading)?;
-    write_cell_start(alloc, &mut out, &cell.dates, cell.name.bytes())?;
-    write_layers(&mut out, written)?;
-    write_cell_end(&mut out)?;
-    write_end(&mut out)?;
-    Ok(out)
-}
-
-fn write_layers(out: &mut Vec<u8>, written: &[Written]) -> Result<(), AllocError>
-    requires { AreLong (map layer_seen written.now) }
-    ensures written { OnOk result (out.new.items ≡ out.old.items ++ flat_map record_bytes
-        (flat_map layer (map layer_seen written.now))) }
-    ensures fits { OnOk result (All FitsLayer (map layer_seen written.now)) }
-{
-    for layer in written {
-        write_layer(out, layer.key, layer.rects)?;
-    }
-    Ok(())
-}
+use std::alloc::AllocError;
 
 /// Appends the rectangles of a layer in order, each as a boundary, of coordinates of 32 bits. An
 /// `Err` is want of memory; then a part may be appended. Cost: the bytes written.

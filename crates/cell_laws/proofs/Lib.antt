@@ -1,3 +1,0 @@
-pub mod Outlining
-pub mod Writing
-pub mod Standing

@@ -1,4 +1,0 @@
-pub mod OneCell
-pub mod Within
-pub mod Flat
-pub mod Written
