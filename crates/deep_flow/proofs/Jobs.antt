@@ -1,6 +1,5 @@
 -- Each job's value is right, by what its phase was made from.
-use Rattle.std.proofs.Common.{◌≡◌, ℕ, ◌<◌, ◌∙◌, List, Option, Some, IsSomeAnd, sym, subst, length, slice_get}
-use Rattle.job_graph.specs.Table.{AreDefined}
+use Rattle.std.proofs.Common.{◌≡◌, ℕ, ◌<◌, List, IsSomeAnd, sym, subst, length, slice_get}
 use Rattle.cell_graph.specs.Linked.{Linked, plain}
 use Rattle.rule_text.specs.Seen.{rules_seen}
 use Rattle.rule_text.specs.declared.rules.RuleSet.{RuleSet}

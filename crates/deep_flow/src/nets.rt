@@ -57,7 +57,8 @@ pub fn derive_nets<R: Threads + Wait + Sync>(
 ) -> Result<Connected, AllocError>
     requires workers { (1 ≤ workers) × (workers ≤ 64) }
     requires rules { IsSound (rules_seen rules.now) }
-    ensures layers { IfOk result (λ c. AreLayers (plain design.now) (rules_seen rules.now) c.layers) }
+    ensures layers { IfOk result (λ c. AreLayers (plain design.now) (rules_seen rules.now)
+        c.layers) }
     ensures nets { IfOk result (λ c. AreNets (plain design.now) (rules_seen rules.now) c.nets) }
     ensures right { IfOk result (λ c. AreRightNets (plain design.now)
         (wiring_of (rules_seen rules.now))

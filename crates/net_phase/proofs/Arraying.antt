@@ -1,13 +1,12 @@
 -- The placements of arrays, one by one.
-use Rattle.std.proofs.Common.{◌≡◌, ℕ, zero, suc, ◌+◌, ◌<◌, ◌^◌, ℤ, pos, ◌+ℤ◌, ◌*ℤ◌, List, [], ◌∷◌, ◌++◌, Option, Some, None, ◌≤◌, map, slice_get, get_or, length, take, refl, sym, ◌∙◌, ap, subst, arith}
+use Rattle.std.proofs.Common.{◌≡◌, ℕ, zero, suc, ◌+◌, ◌<◌, ◌^◌, ℤ, pos, ◌+ℤ◌, ◌*ℤ◌, List, [], ◌∷◌, ◌++◌, Some, ◌≤◌, map, slice_get, get_or, length, take, refl, sym, ◌∙◌, ap, subst, arith}
 use Rattle.std.proofs.Math.Seq.{take-length}
 use Rattle.std.proofs.lemmas.Int.{ints}
-use Rattle.std.proofs.lemmas.List.{map_more, map_push, get_or_past, map-append}
-use Rattle.std.proofs.lemmas.Option.{slice_get-get_or, slice_get_within}
-use Rattle.std.proofs.Math.Decide.{dec_lt}
+use Rattle.std.proofs.lemmas.List.{map_more, map_push}
+use Rattle.std.proofs.lemmas.Option.{slice_get-get_or}
 use Rattle.cell_context.proofs.Collecting.{near_array}
 use Rattle.cell_context.specs.Arrays.{IsNearArray, shift_x, shift_y}
-use Rattle.cell_graph.proofs.Bridge.{maps, step_of}
+use Rattle.cell_graph.proofs.Bridge.{step_of}
 use Rattle.cell_graph.specs.Linked.{IsSound, Linked, cell_at, motion_at, places_at, plain, plain_cell, reference}
 use Rattle.cell_graph.specs.declared.cells.CellPart.{CellPart}
 use Rattle.cell_graph.specs.declared.cells.Place.{Place}

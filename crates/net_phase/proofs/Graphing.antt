@@ -1,5 +1,5 @@
 -- Jobs of the cells below a cell.
-use Rattle.std.proofs.Common.{◌≡◌, ◌≢◌, ◌⊎◌, ◌↔◌, inl, inr, ℕ, zero, suc, ◌+◌, ◌<◌, ◌≤◌, ◌==◌, ◌||◌, ◌&&◌, Bool, true, false, List, [], ◌∷◌, ◌++◌, Some, map, slice_get, get_or, set, take, length, length-set, get_or-set_same, get_or-set_other, refl, sym, ◌∙◌, ap, subst, arith, slice_index}
+use Rattle.std.proofs.Common.{◌≡◌, ◌≢◌, ◌↔◌, inl, inr, ℕ, zero, suc, ◌+◌, ◌<◌, ◌≤◌, ◌==◌, ◌||◌, ◌&&◌, Bool, true, false, List, [], ◌∷◌, ◌++◌, Some, map, slice_get, get_or, set, take, length, length-set, get_or-set_same, get_or-set_other, refl, sym, ◌∙◌, ap, subst, arith, slice_index}
 use Rattle.std.proofs.Math.Decide.{ℕ_discrete, dec_lt}
 use Rattle.std.proofs.Math.Seq.{take-length}
 use Rattle.std.proofs.lemmas.Bool.Decides.{nat_tests}
@@ -15,9 +15,8 @@ use Rattle.flat_laws.proofs.Cover.{reached_below}
 use Rattle.flat_layout.specs.Arrays.{place_at}
 use Rattle.flat_layout.specs.Layout as flat
 use Rattle.flat_layout.specs.Layout.{Design, IsHeight, IsPlaced, IsReached, Leads}
-use Rattle.flat_layout.specs.Nets.{IsUnder}
 use Rattle.job_graph.proofs.Inputs.{has_within, item_has}
-use Rattle.job_graph.specs.Graph.{AreAscending, AreLower, Waits, has, inputs_of, lists}
+use Rattle.job_graph.specs.Graph.{AreAscending, AreLower, has, inputs_of, lists}
 use Rattle.net_phase.proofs.Listing.{get_push, long_push}
 use Rattle.net_phase.specs.Graph.{AreBelowJobs, AreInputsAt, AreInputsTo, AreMarks, IsBelow, IsLowerJob, is_at_or_in}
 

@@ -1,27 +1,25 @@
 -- What a view of the cells below holds.
-use Rattle.std.proofs.Common.{◌≡◌, ◌⊎◌, inl, inr, ℕ, zero, suc, ◌+◌, ◌<◌, ◌≤◌, ◌^◌, ℤ, pos, ◌+ℤ◌, ◌-ℤ◌, ◌<ℤ◌, ◌≤ℤ◌, true, List, [], ◌∷◌, Option, Some, None, IfSome, IfNone, map, slice_get, get_or, length, refl, sym, ◌∙◌, ap, subst, arith}
+use Rattle.std.proofs.Common.{◌≡◌, ℕ, zero, suc, ◌^◌, ℤ, pos, ◌+ℤ◌, ◌-ℤ◌, ◌≤ℤ◌, List, [], ◌∷◌, Option, Some, None, IfSome, IfNone, slice_get, refl, sym, ◌∙◌, ap, subst, arith}
 use Rattle.std.proofs.lemmas.Int.{clamps, ints}
 use Rattle.std.specs.Int.{int_max, int_min}
-use Rattle.std.proofs.lemmas.Option.{slice_get_within}
 use Rattle.cell_context.proofs.Collecting.{hull_has, no_hull}
-use Rattle.cell_graph.proofs.Bridge.{has_in, hull_sound, in_has, step_held, step_of}
+use Rattle.cell_graph.proofs.Bridge.{has_in, hull_sound, step_held, step_of}
 use Rattle.cell_graph.proofs.Sweeping.{still_near}
 use Rattle.cell_graph.specs.Linked.{HullHas, HullIsSound, IsHull, IsRectWithin, IsSound, Linked, cell_at, hull_of, motion_at, plain}
-use Rattle.flat_layout.specs.Layout as flat
-use Rattle.flat_layout.specs.Layout.{IsPlaced, IsReached, Place}
-use Rattle.flat_layout.specs.Nets.{AreNets, AreRightBelow, Child, Global, HoldsAt, IsNetsOf, IsOf, IsUnder, Item, NetHolds, Own, Tables}
+use Rattle.flat_layout.specs.Layout.{IsPlaced, Place}
+use Rattle.flat_layout.specs.Nets.{Child, Global, HoldsAt, Item, NetHolds, Own, Tables}
 use Rattle.flat_layout.specs.Plane.{IsIn}
-use Rattle.flat_layout.specs.Regions.{At, Ground, Node, moved, Wiring}
+use Rattle.flat_layout.specs.Regions.{At, Ground}
 use Rattle.geo_base.proofs.Spans.{moved_rect-IsRect, moved_rect-has}
 use Rattle.geo_base.specs.Motions.{moved_square, turned}
 use Rattle.geo_base.specs.Near.{IsNearMotion, IsNearRect, IsWithin}
-use Rattle.geo_base.specs.Rects.{IsRect, has, moved_rect}
+use Rattle.geo_base.specs.Rects.{IsRect, moved_rect}
 use Rattle.geo_base.specs.declared.motion.Motion.{Motion}
 use Rattle.geo_base.specs.declared.shapes.Point.{Point}
 use Rattle.geo_base.specs.declared.shapes.Rect.{Rect}
 use Rattle.geo_base.specs.declared.shapes.Square.{Square}
 use Rattle.net_link_laws.specs.Windows.{grown}
-use Rattle.net_walk.proofs.Insides.{all_in, in_of, in_to, near_inside}
+use Rattle.net_walk.proofs.Insides.{all_in, in_of}
 use Rattle.net_walk.specs.Walk.{AreNearOwn, HasNoSquare, HaveArea, IsClose, IsHull as IsNetHull, IsInside, IsSpan, place_of}
 use Rattle.net_walk.specs.declared.cells.Element.{Element}
 use Rattle.net_phase.specs.Below.{AreHeldOwn}

@@ -1,5 +1,5 @@
 -- What the table of layers has of each conductor.
-use Rattle.std.proofs.Common.{◌≡◌, ◌⊎◌, inl, inr, ℕ, zero, suc, ◌+◌, ◌<◌, ◌≤◌, Bool, true, false, List, [], ◌∷◌, ◌++◌, Option, Some, None, IsSome, if◌then◌else◌, map, slice_get, slice_index, get_or, length, length-set, refl, sym, ◌∙◌, ap, subst, arith}
+use Rattle.std.proofs.Common.{◌≡◌, ◌⊎◌, inl, inr, ℕ, ◌+◌, ◌<◌, ◌≤◌, Bool, true, false, List, [], ◌∷◌, ◌++◌, Option, Some, None, IsSome, if◌then◌else◌, slice_index, get_or, length, length-set, refl, sym, ◌∙◌, ap, subst, arith}
 use Rattle.std.proofs.Math.Decide.{ℕ_discrete, dec_lt}
 use Rattle.std.proofs.lemmas.List.{get_or_past, get_or-set_other, get_or-set_same, map-set, map_push}
 use Rattle.std.proofs.lemmas.Option.{get_or_from_slice_get, slice_get-get_or, slice_get_cases, slice_get_past}
@@ -21,9 +21,9 @@ use Rattle.geo_base.specs.declared.shapes.Rect.{Rect}
 use Rattle.rule_layers.proofs.Wired.{conductors}
 use Rattle.rule_layers.specs.Meaning.{wiring_of}
 use Rattle.rule_layers.specs.Formulas.{formulas}
-use Rattle.rule_text.specs.Reading.{TellsConductors, is_conductor}
+use Rattle.rule_text.specs.Reading.{is_conductor}
 use Rattle.rule_text.specs.Rules.{Rules}
-use Rattle.net_phase.proofs.Listing.{get_past, get_push, long_map}
+use Rattle.net_phase.proofs.Listing.{get_push}
 use Rattle.net_phase.proofs.Wiring.{names_long, trees_long}
 use Rattle.net_phase.specs.Own.{AreOwnLists, rect_lists, own_at, rects_of}
 

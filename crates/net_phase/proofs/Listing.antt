@@ -1,8 +1,6 @@
 -- Lists of lists, entry by entry.
-use Rattle.std.proofs.Common.{◌≡◌, ℕ, zero, suc, ◌+◌, ◌<◌, ◌≤◌, List, [], ◌∷◌, ◌++◌, Option, Some, None, map, slice_get, get_or, length, refl, sym, ◌∙◌, ap, subst, arith}
-use Rattle.std.proofs.Math.Decide.{ℕ_discrete, dec_lt}
-use Rattle.std.specs.Global.{Vec}
-use Rattle.std.proofs.lemmas.List.{get_or_past, map_push}
+use Rattle.std.proofs.Common.{◌≡◌, ℕ, zero, suc, ◌+◌, ◌<◌, ◌≤◌, List, [], ◌∷◌, ◌++◌, Some, None, map, slice_get, get_or, length, refl, ap, arith}
+use Rattle.std.proofs.lemmas.List.{get_or_past}
 
 pub get_push : {A : Type 0} (xs : List A) (x o : A) (k : ℕ) (P : ℕ → A → Type 0) → ((j : ℕ) → j < length xs → P j (get_or xs j o)) → P (length xs) x → k < length xs + 1 → P k (get_or (xs ++ x ∷ []) k o)
 get_push [] x o zero P f here lt = here

@@ -1,5 +1,5 @@
 -- Right layers and right nets below a cell are tables that are right there.
-use Rattle.std.proofs.Common.{◌≡◌, ◌⊎◌, inl, inr, ℕ, ◌<◌, List, [], ◌∷◌, ◌++◌, Option, Some, None, IsSomeAnd, slice_get, get_or, refl, sym, ◌∙◌, ap, subst, length, slice_index}
+use Rattle.std.proofs.Common.{◌≡◌, inl, inr, ℕ, ◌<◌, List, [], ◌∷◌, ◌++◌, Option, Some, None, IsSomeAnd, slice_get, get_or, refl, sym, ◌∙◌, ap, subst, length, slice_index}
 use Rattle.cell_graph.proofs.Bridge.{heights, hulls}
 use Rattle.cell_graph.specs.Linked.{HullHas, IsSound, Linked, cell_at, height_at, hull_of, plain}
 use Rattle.deep_tables.proofs.Reading.{some_and}
@@ -10,11 +10,9 @@ use Rattle.flat_laws.proofs.Cover.{reached_below}
 use Rattle.flat_laws.proofs.Items.{together as nets_together}
 use Rattle.flat_laws.proofs.Names.{under_input}
 use Rattle.flat_layout.specs.Layers.{Binary, Empty, Input, IsLocal, Formula}
-use Rattle.flat_layout.specs.Layout.{IsPlaced, IsReached, Leads, Place, Takes}
-use Rattle.flat_layout.specs.Nets.{AreListed, AreNets, AreRightBelow, IsNetsOf, IsUnder, Tables}
-use Rattle.flat_layout.specs.Plane.{IsIn}
+use Rattle.flat_layout.specs.Layout.{IsPlaced, IsReached, Leads, Place}
+use Rattle.flat_layout.specs.Nets.{AreListed, AreNets, AreRightBelow, IsNetsOf, Tables}
 use Rattle.flat_layout.specs.Regions.{formula}
-use Rattle.geo_base.specs.Rects.{IsRect}
 use Rattle.geo_base.specs.declared.shapes.Rect.{Rect}
 use Rattle.geo_base.specs.declared.shapes.Square.{Square}
 use Rattle.net_walk.proofs.Insides.{rect_of}

@@ -1,5 +1,5 @@
 -- What lines join.
-use Rattle.std.proofs.Common.{◌≡◌, ◌↔◌, ◌⊎◌, inl, inr, ℕ, zero, suc, ◌+◌, ◌<◌, ◌||◌, Bool, true, false, cond, if◌then◌else◌, List, [], ◌∷◌, ◌++◌, Some, map, slice_get, get_or, length, take, refl, sym, ◌∙◌, ap, subst, arith}
+use Rattle.std.proofs.Common.{◌≡◌, ◌↔◌, ◌⊎◌, inl, inr, ℕ, suc, ◌+◌, ◌<◌, ◌||◌, Bool, true, false, cond, if◌then◌else◌, List, [], ◌∷◌, ◌++◌, map, get_or, length, take, refl, sym, ◌∙◌, ap, subst, arith}
 use Rattle.std.specs.List.{flat_map, list_any, position_or_len}
 use Rattle.std.specs.Prelude.{not}
 use Rattle.std.specs.Str.{bytes_eq}
@@ -11,7 +11,7 @@ use Rattle.flat_layout.specs.Layout.{Some_of}
 use Rattle.flat_layout.specs.Regions.{Line, IsGrounded, IsJoined, Wiring}
 use Rattle.rule_layers.specs.Meaning.{conductor_formulas, globals_behind, globals_of, grounds_of, joins_of, line, wiring_of}
 use Rattle.rule_layers.specs.Formulas.{formula_by, formulas, formulas_behind}
-use Rattle.rule_text.specs.Rules.{Rules, has_texts}
+use Rattle.rule_text.specs.Rules.{Rules}
 use Rattle.rule_text.specs.declared.rules.LayerRule.{LayerRule}
 use Rattle.flat_layout.specs.Layers.{Formula}
 use Rattle.touching_pieces.specs.Pairs.{AreJoined}

@@ -1,5 +1,5 @@
 -- The placements of each cell, one by one.
-use Rattle.std.specs.Prelude.{◌≡◌, ◌<◌, ◌^◌, ℕ, List, [], get_or, length, map}
+use Rattle.std.specs.Prelude.{◌≡◌, ◌<◌, ℕ, List, [], get_or, length, map}
 use Rattle.std.specs.Global.{Vec}
 use Rattle.cell_graph.specs.Linked.{Linked, plain}
 use Rattle.net_link_laws.specs.Places.{places_of}

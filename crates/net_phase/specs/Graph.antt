@@ -3,7 +3,7 @@ use Rattle.std.specs.Prelude.{◌≡◌, ◌↔◌, ◌<◌, ◌==◌, ◌||◌,
 use Rattle.flat_layout.specs.Layout.{Design, Place, IsPlaced}
 use Rattle.flat_layout.specs.Nets.{IsUnder}
 use Rattle.job_graph.specs.Graph.{AreAscending, Waits, has, inputs_of}
-use Rattle.cell_graph.specs.Linked.{Linked, cell_at, places_at, plain}
+use Rattle.cell_graph.specs.Linked.{Linked, plain}
 use Rattle.deep_tables.specs.Entries.{upward_cell}
 
 -- below a cell that this one places, or that cell itself

@@ -1,7 +1,6 @@
 -- What a phase of nets is made from.
-use Rattle.std.specs.Prelude.{◌≡◌, ◌<◌, ℕ, List, length}
-use Rattle.cell_graph.specs.Linked.{IsSound, Linked}
-use Rattle.deep_tables.specs.Positions.{ArePositions}
+use Rattle.std.specs.Prelude.{ℕ, List}
+use Rattle.cell_graph.specs.Linked.{Linked}
 use Rattle.rule_text.specs.declared.rules.RuleSet.{RuleSet}
 use Rattle.rule_text.specs.Seen.{rules_seen}
 use Rattle.rule_layers.specs.Meaning.{wiring_of}

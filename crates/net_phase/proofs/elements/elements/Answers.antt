@@ -1,4 +1,4 @@
-use Rattle.std.proofs.Common.{◌≡◌, ◌<◌, List, map, length, get_or, refl, arith, ap, subst}
+use Rattle.std.proofs.Common.{◌≡◌, List, map, length, get_or, refl, arith, ap, subst}
 use Rattle.cell_context.proofs.Collecting.{near_array}
 use Rattle.cell_graph.specs.Linked.{cell_at, places_at, reference}
 use Rattle.cell_graph.specs.declared.cells.Place.{Place}

@@ -1,4 +1,4 @@
-use Rattle.std.proofs.Common.{◌≡◌, ◌++◌, map, arith}
+use Rattle.std.proofs.Common.{map}
 use Rattle.net_phase.proofs.Arraying.{array_more}
 use Rattle.net_phase.proofs.elements.push_array.Goals as goal
 use Rattle.net_walk.proofs.Placing.{nothing_behind}

@@ -1,6 +1,4 @@
-use Rattle.std.proofs.Common.{◌≡◌, ◌++◌, ◌∙◌, List, map, ap, arith, subst}
-use Rattle.cell_graph.specs.Linked.{reference}
-use Rattle.flat_layout.specs.Arrays.{row_places}
+use Rattle.std.proofs.Common.{◌∙◌, List, map, ap}
 use Rattle.net_phase.proofs.Arraying.{row_more}
 use Rattle.net_phase.proofs.elements.push_row.Goals as goal
 use Rattle.net_walk.proofs.Placing.{nothing_behind}

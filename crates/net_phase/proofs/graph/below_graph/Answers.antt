@@ -1,7 +1,7 @@
-use Rattle.std.proofs.Common.{◌≡◌, ◌+◌, ℕ, Bool, List, length, ap, sym, subst, arith}
+use Rattle.std.proofs.Common.{◌≡◌, ◌+◌, ℕ, List, length, ap, sym, subst, arith}
 use Rattle.std.proofs.lemmas.List.{map_push}
 use Rattle.std.specs.Global.{Vec}
-use Rattle.job_graph.specs.Graph.{AreAscending, has, lists}
+use Rattle.job_graph.specs.Graph.{lists}
 use Rattle.net_phase.proofs.Graphing.{graph_below, inputs_by, inputs_more}
 use Rattle.net_phase.proofs.Results.{if_ok}
 use Rattle.net_phase.proofs.graph.below_graph.Goals as goal

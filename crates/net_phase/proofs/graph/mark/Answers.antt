@@ -1,5 +1,5 @@
-use Rattle.std.proofs.Common.{◌≡◌, ◌<◌, ℕ, length, get_or, arith}
-use Rattle.net_phase.proofs.Graphing.{input_within, mark_all, mark_more}
+use Rattle.std.proofs.Common.{arith}
+use Rattle.net_phase.proofs.Graphing.{input_within, mark_more}
 use Rattle.net_phase.proofs.graph.mark.Goals as goal
 
 pub bounds-marks-input : goal.bounds-marks-input

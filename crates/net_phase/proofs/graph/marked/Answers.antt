@@ -1,4 +1,4 @@
-use Rattle.std.proofs.Common.{◌≡◌, ℕ, arith}
+use Rattle.std.proofs.Common.{arith}
 use Rattle.net_phase.proofs.Graphing.{number_more, number_none}
 use Rattle.net_phase.proofs.graph.marked.Goals.{then-mark+in_ok-push, else-mark}
 use Rattle.net_phase.proofs.graph.marked.Goals as goal

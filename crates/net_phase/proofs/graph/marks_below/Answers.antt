@@ -1,4 +1,4 @@
-use Rattle.std.proofs.Common.{◌≡◌, ◌<◌, ◌+◌, ◌∙◌, ◌++◌, ◌||◌, Bool, false, ℕ, List, Some, ap, sym, subst, arith, length, drop, get_or, slice_get, slice_index}
+use Rattle.std.proofs.Common.{◌≡◌, ◌+◌, ◌∙◌, ◌||◌, Bool, false, ℕ, List, ap, sym, subst, arith, length, drop, get_or, slice_index}
 use Rattle.std.specs.Global.{Vec}
 use Rattle.cell_graph.specs.Linked.{cell_at, places_at}
 use Rattle.cell_graph.specs.declared.cells.Place.{Place}

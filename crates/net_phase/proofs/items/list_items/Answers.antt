@@ -1,4 +1,4 @@
-use Rattle.std.proofs.Common.{◌≡◌, ◌++◌, ◌∙◌, List, [], map, length, ap, sym}
+use Rattle.std.proofs.Common.{◌++◌, ◌∙◌, List, map, ap}
 use Rattle.deep_tables.specs.Nets.{plain_item}
 use Rattle.deep_tables.specs.declared.nets.Item.{Item as Code}
 use Rattle.flat_layout.specs.Nets.{Global as GlobalItem, Item, child_items, own_items, run}

@@ -1,9 +1,9 @@
-use Rattle.std.proofs.Common.{◌≡◌, ◌++◌, ◌∙◌, List, map, ap}
+use Rattle.std.proofs.Common.{◌∙◌, List, map, ap}
 use Rattle.std.proofs.lemmas.List.{map_push}
 use Rattle.deep_tables.specs.Nets.{plain_item}
 use Rattle.deep_tables.specs.declared.nets.Item.{Item}
 use Rattle.deep_tables.specs.declared.nets.Item.TheVariants as code
-use Rattle.flat_layout.specs.Nets.{Child, Global as GlobalItem, Own}
+use Rattle.flat_layout.specs.Nets.{Child}
 use Rattle.net_phase.proofs.Itemizing.{run_more}
 use Rattle.net_phase.proofs.items.push_nets.Goals as goal
 use Rattle.net_walk.proofs.Placing.{nothing_behind}

@@ -1,6 +1,6 @@
 use Rattle.std.proofs.Common.{◌≡◌, ◌++◌, map}
 use Rattle.deep_tables.specs.Nets.{plain_item}
-use Rattle.flat_layout.specs.Nets.{Child, Global as GlobalItem, Own, run}
+use Rattle.flat_layout.specs.Nets.{Child, run}
 use Rattle.net_phase.proofs.items.push_nets.Given as goal
 
 abbrev pub invariant-loop-net : goal.invariant-loop-net

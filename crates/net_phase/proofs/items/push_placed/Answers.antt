@@ -1,4 +1,4 @@
-use Rattle.std.proofs.Common.{◌≡◌, ◌<◌, ◌++◌, ◌∙◌, Some, map, slice_get, get_or, length, ap, arith}
+use Rattle.std.proofs.Common.{◌≡◌, ◌++◌, ◌∙◌, Some, map, slice_get, get_or, length, ap, arith}
 use Rattle.deep_tables.specs.Nets.{plain_item}
 use Rattle.flat_layout.specs.Layout.{Place}
 use Rattle.flat_layout.specs.Nets.{Child, run}

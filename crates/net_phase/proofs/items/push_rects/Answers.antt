@@ -1,6 +1,6 @@
-use Rattle.std.proofs.Common.{◌≡◌, ◌<◌, ◌++◌, ◌∙◌, List, map, length, ap, arith, sym}
+use Rattle.std.proofs.Common.{◌++◌, ◌∙◌, List, map, length, ap, arith}
 use Rattle.deep_tables.specs.Nets.{plain_item}
-use Rattle.flat_layout.specs.Nets.{Item, Own, run}
+use Rattle.flat_layout.specs.Nets.{Own, run}
 use Rattle.geo_base.specs.declared.shapes.Rect.{Rect}
 use Rattle.net_link_laws.proofs.Standing.{items_long}
 use Rattle.net_phase.proofs.Itemizing.{owns_all, owns_more}

@@ -1,9 +1,6 @@
-use Rattle.std.proofs.Common.{◌≡◌, ◌<◌, Bool, false, List, get_or, slice_get, length, arith, sym, subst, ◌∙◌}
+use Rattle.std.proofs.Common.{◌≡◌, false, get_or, arith, sym}
 use Rattle.std.proofs.lemmas.Option.{slice_get-get_or}
 use Rattle.cell_graph.specs.Linked.{plain}
-use Rattle.flat_layout.specs.Regions.{formula}
-use Rattle.flat_layout.specs.Values.{IsLocalLayer}
-use Rattle.rule_layers.specs.Meaning.{wiring_of}
 use Rattle.rule_text.specs.Reading.{is_conductor}
 use Rattle.rule_text.specs.Seen.{rules_seen}
 use Rattle.net_phase.proofs.Layering.{by_kind, layer_there, no_own, own_all, own_more}

@@ -1,4 +1,4 @@
-use Rattle.std.proofs.Common.{◌≡◌, ◌<◌, ◌+◌, ℕ, List, [], get_or, length, set, slice_index, ap, sym, subst, arith}
+use Rattle.std.proofs.Common.{◌≡◌, ◌+◌, ℕ, List, [], get_or, length, set, slice_index, ap, sym, subst, arith}
 use Rattle.cell_graph.specs.Linked.{plain}
 use Rattle.flat_layout.specs.Regions.{formula}
 use Rattle.flat_layout.specs.Values.{IsLocalLayer}

@@ -1,10 +1,7 @@
-use Rattle.std.proofs.Common.{◌≡◌, ◌↔◌, ◌<◌, ◌≤◌, ℕ, List, Some, map, slice_get, length, arith, ap, sym, subst, ◌∙◌}
-use Rattle.std.proofs.lemmas.Option.{slice_get_within}
+use Rattle.std.proofs.Common.{◌↔◌, List, length, sym, subst}
 use Rattle.cell_graph.specs.Linked.{plain}
-use Rattle.deep_tables.specs.Nets.{plain_item, plain_nets}
-use Rattle.flat_layout.specs.Nets.{AreNets, CellNets, Item, items_of}
-use Rattle.link_classes.specs.Classes.{AreClasses, AreInRange, IsLinked}
-use Rattle.link_classes.specs.declared.classes.Link.{Link}
+use Rattle.flat_layout.specs.Nets.{AreNets, Item, items_of}
+use Rattle.link_classes.specs.Classes.{AreClasses}
 use Rattle.net_link_laws.proofs.Assembling.{all_found}
 use Rattle.net_link_laws.proofs.Numbering.{classes}
 use Rattle.flat_layout.specs.Regions.{IsGrounded, IsJoined}

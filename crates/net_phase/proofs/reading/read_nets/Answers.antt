@@ -1,7 +1,6 @@
-use Rattle.std.proofs.Common.{◌≡◌, ◌<◌, ◌+◌, ◌∙◌, ℕ, List, [], Option, Some, None, true, get_or, length, map, slice_index, arith, ap, refl, sym, subst}
+use Rattle.std.proofs.Common.{◌+◌, List, Option, Some, None, get_or, slice_index, arith, refl, sym, subst}
 use Rattle.std.proofs.lemmas.List.{map-set}
 use Rattle.job_graph.proofs.Inputs.{item_has}
-use Rattle.job_graph.specs.Graph.{has}
 use Rattle.net_phase.proofs.Listing.{long_map, long_push}
 use Rattle.deep_tables.specs.declared.nets.CellNets.{CellNets}
 use Rattle.net_phase.proofs.Results.{AreReadTo, none_read, read_all, read_more}

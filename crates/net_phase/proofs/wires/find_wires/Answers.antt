@@ -1,4 +1,4 @@
-use Rattle.std.proofs.Common.{◌≡◌, ◌∙◌, length}
+use Rattle.std.proofs.Common.{◌∙◌}
 use Rattle.rule_layers.specs.Meaning.{wiring_of}
 use Rattle.rule_text.specs.Seen.{rules_seen}
 use Rattle.net_phase.proofs.Wiring.{names_long, same_grounds, same_joins}

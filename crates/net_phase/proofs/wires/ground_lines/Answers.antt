@@ -1,4 +1,4 @@
-use Rattle.std.proofs.Common.{◌≡◌, ◌∙◌, ◌++◌, ◌+◌, ℕ, List, [], ◌∷◌, map, take, get_or, length, arith, ap, sym, subst}
+use Rattle.std.proofs.Common.{◌≡◌, ◌∙◌, ◌++◌, ◌+◌, ℕ, List, [], ◌∷◌, map, take, get_or, arith, ap, sym, subst}
 use Rattle.std.proofs.lemmas.List.{map_push}
 use Rattle.flat_layout.specs.Regions.{Line}
 use Rattle.net_walk.specs.declared.globals.Grounded.{Grounded}

@@ -1,4 +1,4 @@
-use Rattle.std.proofs.Common.{◌≡◌, ◌∙◌, ◌++◌, ℕ, arith, get_or, length, map}
+use Rattle.std.proofs.Common.{◌≡◌, ◌∙◌, ◌++◌, ℕ, arith, get_or, map}
 use Rattle.rule_text.specs.Seen.{rules_seen}
 use Rattle.net_phase.proofs.Wiring.{joins_all, joins_more}
 use Rattle.net_phase.proofs.wires.joins.Goals as goal

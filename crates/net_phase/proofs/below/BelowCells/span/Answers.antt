@@ -1,6 +1,6 @@
-use Rattle.std.proofs.Common.{◌≡◌, Some, None, refl, sym, ◌∙◌, subst}
-use Rattle.cell_graph.specs.Linked.{cell_at, hull_of, plain}
-use Rattle.net_phase.proofs.Holding.{hull_near, hull_rect, near_of, net_span, no_nets}
+use Rattle.std.proofs.Common.{refl, sym, ◌∙◌, subst}
+use Rattle.cell_graph.specs.Linked.{plain}
+use Rattle.net_phase.proofs.Holding.{net_span, no_nets}
 use Rattle.net_phase.proofs.below.BelowCells.span.Goals as goal
 use Rattle.net_phase.specs.Below.{BelowSeen, below_seen, tables_seen}
 use Rattle.net_phase.specs.Own.{rect_lists}
