@@ -46,9 +46,9 @@ ended_first p limit first l [] stack vs done begins outer none rest e matched =
     let here : IsSearch s l.above l.node l.tries l.start t = stack.4 Ended rest in
     let there : IsSearch s first.above first.node first.tries first.start t
     = subst (λ (n : ℕ). IsSearch s first.above first.node first.tries n t) (sym stack.3)
-      (subst (λ (xs : List Node). IsSearch s first.above first.node xs l.start t) (sym stack.2)
-      (subst (λ (x : Node). IsSearch s first.above x l.tries l.start t) (sym stack.1)
-      (subst (λ (gs : List (Guess Node)). IsSearch s gs l.node l.tries l.start t) (sym stack.0) here))) in
+    (subst (λ (xs : List Node). IsSearch s first.above first.node xs l.start t) (sym stack.2)
+    (subst (λ (x : Node). IsSearch s first.above x l.tries l.start t) (sym stack.1)
+    (subst (λ (gs : List (Guess Node)). IsSearch s gs l.node l.tries l.start t) (sym stack.0) here))) in
     record {
       matched = matched;
       search = t;
@@ -94,17 +94,19 @@ found p g s c by matched f is =
     let set = setting_in p s.limit in
     let next = next_try p g s.limit q.before s.level s.outer.items s.rows.items s.refuted c h q.head q.below in
     let told = told_guess p g s.limit q.before s.level s.outer.items s.rows.items s.refuted c h q.head in
-    let settled : AreSettled (guessed_web g (q.before ++ (s.level.node , c.node) ∷ [])) s.classes = subst (λ (us : List (ℕ × ℕ)). AreSettled (guessed_web g us) s.classes) q.guesses_are by.settled in
-    let stable : AreStableClasses p gs s.classes = stable_classes p g (q.before ++ (s.level.node , c.node) ∷ []) gs s.classes told settled in
+    let settled : AreSettled (guessed_web g (q.before ++ (s.level.node, c.node) ∷ [])) s.classes = subst (λ (us : List (ℕ × ℕ)). AreSettled (guessed_web g us) s.classes) q.guesses_are by.settled in
+    let stable : AreStableClasses p gs s.classes = stable_classes p g (q.before ++ (s.level.node, c.node) ∷ []) gs s.classes told settled in
     let solved = is_solved p g gs s.classes told.graph told.good stable by.untied in
     let t : Tree = add l.done (Found b) in
     let here : IsSearch set l.above l.node l.tries l.start t = stage_level set h.first l h.above h.stack (Found b) (_, next, solved.0) in
     let k = closes set h.first l h.above t h.stack here (λ e. not_ended l.done (Found b) e) in
     let guesses : solved_guesses h.first.above h.first.node k.0 ≡ gs = k.1.guesses ∙ guesses_all l.above l.node l.done (Found b) in
-    let pairing : IsPairing p gs f = (solved.0, is gs solved.0 (subst (λ (r : ℕ). AreColours (under (web_of p) gs) r (class_of_node p s.classes)) (sym solved.1) stable.colours)) in
-    (matched, inr (record {
-      search = k.0;
-      whole = whole_from p s.limit h.first k.0 h.begins k.1.search;
-      found = k.1.found.1 ((found_all l.done (Found b)).1 tt);
-      pairing = subst (λ (us : List (Guess Node)). IsPairing p us f) (sym (ap (λ (us : List (Guess Node)). solved_guesses us h.first.node k.0) (sym h.begins.above) ∙ guesses)) pairing;
-    }))
+    let pairing : IsPairing p gs f = (solved.0, is gs solved.0 (subst (λ (r : ℕ). AreColours (under (web_of p) gs) r (class_of_node p s.classes)) (sym solved.1) stable.colours)) in (
+      matched,
+      inr (record {
+        search = k.0;
+        whole = whole_from p s.limit h.first k.0 h.begins k.1.search;
+        found = k.1.found.1 ((found_all l.done (Found b)).1 tt);
+        pairing = subst (λ (us : List (Guess Node)). IsPairing p us f) (sym (ap (λ (us : List (Guess Node)). solved_guesses us h.first.node k.0) (sym h.begins.above) ∙ guesses)) pairing;
+      }),
+    )

@@ -58,7 +58,7 @@ right_here p g limit ns v vs ts n c h head right =
 
 -- the guess in both forms
 pub told_guess : (p : Pair) (g : Graph) (limit : ℕ) (ns : List (ℕ × ℕ)) (v : Level) (vs : List Level) (ts : List Try) (n : ℕ) (c : Candidate) (h : IsSearchOf p g limit ns v vs ts n)
-    → (head : IsHead p h.stage.node v.last h.stage.tries c) → AreTold p g (ns ++ (v.node , c.node) ∷ []) (guessed h.stage.above h.stage.node head.right)
+    → (head : IsHead p h.stage.node v.last h.stage.tries c) → AreTold p g (ns ++ (v.node, c.node) ∷ []) (guessed h.stage.above h.stage.node head.right)
 told_guess p g limit ns v vs ts n c h head =
     told_more p g ns h.stage.above h.stage.node head.right v.node c.node h.told (inl h.here.chosen.there) head.numbered.node h.here.node head.numbered.index
 
@@ -99,9 +99,9 @@ refuted_search p g limit ns v vs ts n c t r h head below refuted row =
 
 -- a guess that leaves ties
 pub deeper_search : (p : Pair) (g : Graph) (limit : ℕ) (ns : List (ℕ × ℕ)) (v : Level) (vs : List Level) (ts : List Try) (n : ℕ) (c : Candidate) (t : Try) (d : Classes) (w : Level) (h : IsSearchOf p g limit ns v vs ts n)
-    → (head : IsHead p h.stage.node v.last h.stage.tries c) → n < limit → AreSettled (guessed_web g (ns ++ (v.node , c.node) ∷ [])) d → IsLeastTied g d (left_of g) w.node → w.node < nodes_of g → w.last ≡ None
+    → (head : IsHead p h.stage.node v.last h.stage.tries c) → n < limit → AreSettled (guessed_web g (ns ++ (v.node, c.node) ∷ [])) d → IsLeastTied g d (left_of g) w.node → w.node < nodes_of g → w.last ≡ None
     → row_of t ≡ guess_row h.above h.stage head.right IsOpen
-    → IsSearchOf p g limit (ns ++ (v.node , c.node) ∷ []) w (vs ++ tried_level v c (length ts) ∷ []) (ts ++ t ∷ []) n
+    → IsSearchOf p g limit (ns ++ (v.node, c.node) ∷ []) w (vs ++ tried_level v c (length ts) ∷ []) (ts ++ t ∷ []) n
 deeper_search p g limit ns v vs ts n c t d w h head below settled least small last row =
     let s = setting_in p limit in
     let l = h.stage in
@@ -110,7 +110,7 @@ deeper_search p g limit ns v vs ts n c t d w h head below settled least small la
     let gs = guessed l.above l.node b in
     let next = next_try p g limit ns v vs ts n c h head below in
     let told = told_guess p g limit ns v vs ts n c h head in
-    let stable : AreStableClasses p gs d = stable_classes p g (ns ++ (v.node , c.node) ∷ []) gs d told settled in
+    let stable : AreStableClasses p gs d = stable_classes p g (ns ++ (v.node, c.node) ∷ []) gs d told settled in
     let found = came_from p g w.node h.told.graph (below_node g w.node small) in
     let a = found.0 in
     let chosen : IsChosen (under (web_of p) gs) stable.round a = is_chosen p g gs d w.node a h.told.graph stable least (record { node = found.1; index = sym found.2 }) in
@@ -151,10 +151,10 @@ deeper_way p g s c h t x w number vs ts part settled least ew last row en evs et
     let inside = part.inside in
     let low = least.below in
     let small : w.node < nodes_of g = omega arith in
-    let next : IsSearchOf p g s.limit (h.before ++ (s.level.node , c.node) ∷ []) w (s.outer.items ++ tried_level s.level c (length s.rows.items) ∷ []) (s.rows.items ++ t ∷ []) s.refuted
+    let next : IsSearchOf p g s.limit (h.before ++ (s.level.node, c.node) ∷ []) w (s.outer.items ++ tried_level s.level c (length s.rows.items) ∷ []) (s.rows.items ++ t ∷ []) s.refuted
     = deeper_search p g s.limit h.before s.level s.outer.items s.rows.items s.refuted c t s.classes w h.search h.head h.below
-      (subst (λ (ns : List (ℕ × ℕ)). AreSettled (guessed_web g ns) s.classes) h.guesses_are settled)
-      (subst (λ (y : ℕ). IsLeastTied g s.classes (left_of g) y) (sym ew) least) small last row in
+    (subst (λ (ns : List (ℕ × ℕ)). AreSettled (guessed_web g ns) s.classes) h.guesses_are settled)
+    (subst (λ (y : ℕ). IsLeastTied g s.classes (left_of g) y) (sym ew) least) small last row in
     let below = h.below in
     let ev : vs.items ≡ s.outer.items ++ tried_level s.level c (length s.rows.items) ∷ [] = evs ∙ ap (λ (m : ℕ). s.outer.items ++ tried_level s.level c m ∷ []) en in
     record {

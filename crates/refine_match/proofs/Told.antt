@@ -42,14 +42,14 @@ cut_last {X} (z ∷ zs) (v ∷ vs) x y e =
     (ap₂ (λ (u : X) (us : List X). u ∷ us) g r.0, r.1)
 
 pub told_more : (p : Pair) (g : Graph) (ns : List (ℕ × ℕ)) (qs : List (Guess Node)) (a b : Node) (x y : ℕ) → AreTold p g ns qs → IsNode (web_of p) a → IsNode (web_of p) b
-    → index_of p a ≡ x → index_of p b ≡ y → AreTold p g (ns ++ (x , y) ∷ []) (guessed qs a b)
+    → index_of p a ≡ x → index_of p b ≡ y → AreTold p g (ns ++ (x, y) ∷ []) (guessed qs a b)
 told_more p g ns qs a b x y h na nb ea eb =
     let q : Guess Node = record { left = a; right = b } in
-    let last : plain_guess (x , y) ≡ renamed_guess (index_of p) q = ap₂ (λ (u v : ℕ). let r : Guess ℕ = record { left = u; right = v } in r) (sym ea) (sym eb) in
+    let last : plain_guess (x, y) ≡ renamed_guess (index_of p) q = ap₂ (λ (u v : ℕ). let r : Guess ℕ = record { left = u; right = v } in r) (sym ea) (sym eb) in
     record {
       graph = h.graph;
       good = h.good;
-      names = map-append plain_guess ns ((x , y) ∷ [])
+      names = map-append plain_guess ns ((x, y) ∷ [])
           ∙ (ap₂ (λ (us vs : List (Guess ℕ)). us ++ vs) h.names (ap (λ (u : Guess ℕ). u ∷ []) last)
           ∙ sym (map-append (renamed_guess (index_of p)) qs (q ∷ [])));
       there = λ r i. elim (in_either r qs (q ∷ []) i) [
@@ -87,15 +87,15 @@ pub not_refuted : {N : Type 0} (w : Web N) (k r : ℕ) → IsWeb w → IsStable 
 not_refuted w k r web s e h = elim (either_way r k) [
   | inl l ↦ h.uneven.counts (even_before w k r web e l h.node h.uneven.node)
   | inr l ↦ h.uneven.counts (
-    count_same _ _ w.left (λ x i. stays w k r web s l h.node x h.uneven.node (inl i))
-    ∙ (e h.node h.uneven.node ∙ sym (count_same _ _ w.right (λ x i. stays w k r web s l h.node x h.uneven.node (inr i)))))
+      count_same _ _ w.left (λ x i. stays w k r web s l h.node x h.uneven.node (inl i))
+      ∙ (e h.node h.uneven.node ∙ sym (count_same _ _ w.right (λ x i. stays w k r web s l h.node x h.uneven.node (inr i)))))
 ]
 
 -- guesses without the last ones
 pub fewer_guesses : (g : Graph) (ns ms : List (ℕ × ℕ)) → AreGuesses g (ns ++ ms) → AreGuesses g ns
 fewer_guesses g ns ms h =
     let long : length (ns ++ ms) ≡ length ns + length ms = length-append ns ms in
-    let same : (i : ℕ) → i < length ns → guess_at (ns ++ ms) i ≡ guess_at ns i = λ i l. get_or-append ns ms (0 , 0) i l in
+    let same : (i : ℕ) → i < length ns → guess_at (ns ++ ms) i ≡ guess_at ns i = λ i l. get_or-append ns ms (0, 0) i l in
     record {
       left = λ i l. subst (λ (q : ℕ × ℕ). q.0 < left_of g) (same i l) (h.left i (omega arith));
       right = λ i l. subst (λ (q : ℕ × ℕ). left_of g ≤ q.1) (same i l) (h.right i (omega arith));
@@ -103,11 +103,11 @@ fewer_guesses g ns ms h =
     }
 
 -- and one more
-pub more_guesses : (g : Graph) (ns : List (ℕ × ℕ)) (x y : ℕ) → AreGuesses g ns → x < left_of g → left_of g ≤ y → y < nodes_of g → AreGuesses g (ns ++ (x , y) ∷ [])
+pub more_guesses : (g : Graph) (ns : List (ℕ × ℕ)) (x y : ℕ) → AreGuesses g ns → x < left_of g → left_of g ≤ y → y < nodes_of g → AreGuesses g (ns ++ (x, y) ∷ [])
 more_guesses g ns x y h lx ly ny =
-    let long : length (ns ++ (x , y) ∷ []) ≡ length ns + 1 = length-append ns ((x , y) ∷ []) in
-    let same : (i : ℕ) → i < length ns → guess_at ns i ≡ guess_at (ns ++ (x , y) ∷ []) i = λ i l. sym (get_or-append ns ((x , y) ∷ []) (0 , 0) i l) in
-    let last : (i : ℕ) → i ≡ length ns → (x , y) ≡ guess_at (ns ++ (x , y) ∷ []) i = λ i e. sym (ap (guess_at (ns ++ (x , y) ∷ [])) e ∙ get_or-append_seam ns (x , y) [] (0 , 0)) in
+    let long : length (ns ++ (x, y) ∷ []) ≡ length ns + 1 = length-append ns ((x, y) ∷ []) in
+    let same : (i : ℕ) → i < length ns → guess_at ns i ≡ guess_at (ns ++ (x, y) ∷ []) i = λ i l. sym (get_or-append ns ((x, y) ∷ []) (0, 0) i l) in
+    let last : (i : ℕ) → i ≡ length ns → (x, y) ≡ guess_at (ns ++ (x, y) ∷ []) i = λ i e. sym (ap (guess_at (ns ++ (x, y) ∷ [])) e ∙ get_or-append_seam ns (x, y) [] (0, 0)) in
     record {
       left = λ i l. elim (cases_lt i (length ns)) [
         | inl m ↦ subst (λ (q : ℕ × ℕ). q.0 < left_of g) (same i m) (h.left i m)

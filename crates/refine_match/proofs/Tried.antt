@@ -46,13 +46,13 @@ node_low p g s way =
     let h = way.search in
     subst (λ (x : ℕ). x < left_of g) h.here.node (left_low p g h.stage.node h.told.graph h.here.chosen.there)
 
-pub pushed_guesses : (p : Pair) (g : Graph) (s : Search) (c : Candidate) → IsTrying p g s c → AreGuesses g (s.guesses.items ++ (s.level.node , c.node) ∷ [])
+pub pushed_guesses : (p : Pair) (g : Graph) (s : Search) (c : Candidate) → IsTrying p g s c → AreGuesses g (s.guesses.items ++ (s.level.node, c.node) ∷ [])
 pushed_guesses p g s c h =
     let below : c.node < nodes_of g = subst (λ (x : ℕ). x < nodes_of g) h.head.numbered.index (node_below g (index_of p h.head.right) (goes_to p g h.head.right h.way.search.told.graph h.head.numbered.node)) in
     more_guesses g s.guesses.items s.level.node c.node h.way.guesses (node_low p g s h.way) h.right below
 
 -- the search goes on with a guess
-pub guessing : (p : Pair) (g : Graph) (s : Search) (c : Candidate) → IsTrying p g s c → (ns : Vec (ℕ × ℕ) Global) (d : Classes) → ns.items ≡ s.guesses.items ++ (s.level.node , c.node) ∷ []
+pub guessing : (p : Pair) (g : Graph) (s : Search) (c : Candidate) → IsTrying p g s c → (ns : Vec (ℕ × ℕ) Global) (d : Classes) → ns.items ≡ s.guesses.items ++ (s.level.node, c.node) ∷ []
     → IsGuessing p g (let u : Search = record { limit = s.limit; refuted = s.refuted; classes = d; guesses = ns; level = s.level; outer = s.outer; rows = s.rows } in u) c
 guessing p g s c h ns d e = record {
   before = s.guesses.items;
@@ -86,7 +86,7 @@ popped ns ms before n k e ek em =
     em ∙ (ap₂ (λ (i : ℕ) (us : List (ℕ × ℕ)). take i us) less e ∙ take-append_seam before (n ∷ []))
 
 pub guesses_before : (p : Pair) (g : Graph) (s : Search) (c : Candidate) → (h : IsGuessing p g s c) → AreGuesses g h.before
-guesses_before p g s c h = fewer_guesses g h.before ((s.level.node , c.node) ∷ []) (subst (λ (us : List (ℕ × ℕ)). AreGuesses g us) h.guesses_are h.guesses)
+guesses_before p g s c h = fewer_guesses g h.before ((s.level.node, c.node) ∷ []) (subst (λ (us : List (ℕ × ℕ)). AreGuesses g us) h.guesses_are h.guesses)
 
 pub even_before_guess : (p : Pair) (g : Graph) (s : Search) (c : Candidate) → (h : IsGuessing p g s c) → HasEvenEnd (guessed_web g h.before)
 even_before_guess p g s c h =
@@ -102,13 +102,13 @@ refuted_way p g s c h d0 verdict.Stable e t d shown seen ns ts none es is by row
     let st : AreSettled (guessed_web g s.guesses.items) d0 = subst (λ (us : List (ℕ × ℕ)). AreSettled (guessed_web g us) d0) es is in
     absurd (none st.round st.stable (st.even st.round (omega arith)))
 refuted_way p g s c h d0 (verdict.Refuted r) e t d shown seen ns ts none es is by row et en esh part settled =
-    let all : s.guesses.items ≡ h.before ++ (s.level.node , c.node) ∷ [] = h.guesses_are in
-    let are : ns.items ≡ h.before = popped s.guesses.items ns.items h.before (s.level.node , c.node) s.guesses.len all s.guesses.ok.0 en in
+    let all : s.guesses.items ≡ h.before ++ (s.level.node, c.node) ∷ [] = h.guesses_are in
+    let are : ns.items ≡ h.before = popped s.guesses.items ns.items h.before (s.level.node, c.node) s.guesses.len all s.guesses.ok.0 en in
     let told = told_guess p g s.limit h.before s.level s.outer.items s.rows.items s.refuted c h.search h.head in
-    let bad : IsRefuted (guessed_web g (h.before ++ (s.level.node , c.node) ∷ [])) r = subst (λ (us : List (ℕ × ℕ)). IsRefuted (guessed_web g us) r) (es ∙ all) is.refuted in
-    let refuted = refuted_is p g (h.before ++ (s.level.node , c.node) ∷ []) (guessed h.search.stage.above h.search.stage.node h.head.right) r told bad in
+    let bad : IsRefuted (guessed_web g (h.before ++ (s.level.node, c.node) ∷ [])) r = subst (λ (us : List (ℕ × ℕ)). IsRefuted (guessed_web g us) r) (es ∙ all) is.refuted in
+    let refuted = refuted_is p g (h.before ++ (s.level.node, c.node) ∷ []) (guessed h.search.stage.above h.search.stage.node h.head.right) r told bad in
     let next = refuted_search p g s.limit h.before s.level s.outer.items s.rows.items s.refuted c t r h.search h.head h.below refuted
-      (row ∙ ap (λ (x : GuessEnd). guess_row h.search.above h.search.stage h.head.right (plain_end x)) by) in
+    (row ∙ ap (λ (x : GuessEnd). guess_row h.search.above h.search.stage h.head.right (plain_end x)) by) in
     let below = h.below in
     record {
       search = subst (λ (us : List Try). IsSearchOf p g s.limit ns.items (tried_level s.level c s.level.row) s.outer.items us (s.refuted + 1)) (sym et)

@@ -59,10 +59,10 @@ row_is p g s c h depth a b e long na nb =
     let sa : Layout ≡ plain_side a.side = sym (ap (λ (x : Node). x.side) ea ∙ (nodes_there p Layout l.node here).stands) in
     let sb : Schematic ≡ plain_side b.side = sym (ap (λ (x : Node). x.side) eb ∙ (nodes_there p Schematic r there).stands) in
     let kb : plain_kind a.kind ≡ plain_kind b.kind = ap (λ (x : Node). x.kind) ea ∙ (sym kinds ∙ sym (ap (λ (x : Node). x.kind) eb)) in
-    let count : length s.guesses.items ≡ length h.before + 1 = ap length h.guesses_are ∙ length-append h.before ((s.level.node , c.node) ∷ []) in
+    let count : length s.guesses.items ≡ length h.before + 1 = ap length h.guesses_are ∙ length-append h.before ((s.level.node, c.node) ∷ []) in
     let told = told_count p g h.before l.above h.search.told in
     let stages = guess_count (setting_in p s.limit) h.search.first l h.search.above h.search.stack h.search.begins.above in
     same_row (suc (length h.search.above)) l.node r (node Layout (plain_kind a.kind) a.number) (node Schematic (plain_kind a.kind) b.number) (plain_end e) depth
-        (omega arith)
-        (ap (λ (x : Side). node x (plain_kind a.kind) a.number) sa ∙ ea)
-        (ap₂ (λ (x : Side) (k : Kind). node x k b.number) sb kb ∙ eb)
+    (omega arith)
+    (ap (λ (x : Side). node x (plain_kind a.kind) a.number) sa ∙ ea)
+    (ap₂ (λ (x : Side) (k : Kind). node x k b.number) sb kb ∙ eb)

@@ -72,12 +72,7 @@ impl Search {
     }
 
     // The guess leaves ties, of which this node is guessed below it.
-    fn descend(
-        &mut self,
-        graph: &Graph,
-        candidate: Candidate,
-        node: u32,
-    ) -> Result<(), AllocError>
+    fn descend(&mut self, graph: &Graph, candidate: Candidate, node: u32) -> Result<(), AllocError>
         requires guessing { (p : Pair) × IsGuessing p graph.now self.old candidate }
         requires partition { IsPartition self.old.classes (left_of graph.now)
             (nodes_of graph.now) }
@@ -100,12 +95,7 @@ impl Search {
     }
 
     // The row of the last guess.
-    fn row(
-        &self,
-        graph: &Graph,
-        candidate: Candidate,
-        end: GuessEnd,
-    ) -> Result<Guess, AllocError>
+    fn row(&self, graph: &Graph, candidate: Candidate, end: GuessEnd) -> Result<Guess, AllocError>
         requires { (p : Pair) × IsGuessing p graph.now self.now candidate }
         ensures { (p : Pair) → (h : IsGuessing p graph.now self.now candidate)
             → IfOk result (λ row. row_of row ≡ guess_row h.search.above h.search.stage h.head.right

@@ -114,11 +114,7 @@ pub fn first_try(node: u32) -> Level
 }
 
 /// The stable classes under guesses that no round refutes. It takes the time of all rounds.
-pub fn settle(
-    alloc: Global,
-    graph: &Graph,
-    guesses: &[(u32, u32)],
-) -> Result<Classes, AllocError>
+pub fn settle(alloc: Global, graph: &Graph, guesses: &[(u32, u32)]) -> Result<Classes, AllocError>
     requires graph { IsGraph graph.now }
     requires guesses { AreGuesses graph.now guesses.now }
     requires even { HasEvenEnd (guessed_web graph.now guesses.now) }

@@ -11,7 +11,7 @@ single_out-requires-clause-guesses c =
 
 pub single_out-requires-clause-settled : goal.single_out-requires-clause-settled
 single_out-requires-clause-settled c =
-    before_guess c.args.graph.now c.args.self.now.guesses.items c.deref.result.now (c.args.self.now.level.node , c.args.candidate.node) c.args.self.now.classes
+    before_guess c.args.graph.now c.args.self.now.guesses.items c.deref.result.now (c.args.self.now.level.node, c.args.candidate.node) c.args.self.now.classes
     (c.deref.ensures.value ∙ c.in_ok-push.ensures.items) c.requires.1.way.settled
 
 pub refute-requires-clause-guessing : goal.refute-requires-clause-guessing

@@ -9,7 +9,7 @@ settle-requires-clause-guesses c =
     let p = c.requires.guessing.0 in
     let h = c.requires.guessing.1 in
     let s = c.args.self.now in
-    let are = c.deref-2.ensures.value ∙ popped s.guesses.items c.pop.new.self.items h.before (s.level.node , c.args.candidate.node) s.guesses.len h.guesses_are s.guesses.ok.0 c.pop.ensures.rest in
+    let are = c.deref-2.ensures.value ∙ popped s.guesses.items c.pop.new.self.items h.before (s.level.node, c.args.candidate.node) s.guesses.len h.guesses_are s.guesses.ok.0 c.pop.ensures.rest in
     subst (λ (us : List (ℕ × ℕ)). AreGuesses c.args.graph.now us) (sym are) (guesses_before p c.args.graph.now s c.args.candidate h)
 
 pub settle-requires-clause-even : goal.settle-requires-clause-even
@@ -17,7 +17,7 @@ settle-requires-clause-even c =
     let p = c.requires.guessing.0 in
     let h = c.requires.guessing.1 in
     let s = c.args.self.now in
-    let are = c.deref-2.ensures.value ∙ popped s.guesses.items c.pop.new.self.items h.before (s.level.node , c.args.candidate.node) s.guesses.len h.guesses_are s.guesses.ok.0 c.pop.ensures.rest in
+    let are = c.deref-2.ensures.value ∙ popped s.guesses.items c.pop.new.self.items h.before (s.level.node, c.args.candidate.node) s.guesses.len h.guesses_are s.guesses.ok.0 c.pop.ensures.rest in
     subst (λ (us : List (ℕ × ℕ)). HasEvenEnd (guessed_web c.args.graph.now us)) (sym are) (even_before_guess p c.args.graph.now s c.args.candidate h)
 
 pub returns-clause-way : goal.returns-clause-way
