@@ -1,5 +1,5 @@
 -- How many devices of a class, length and width there are.
-use Rattle.std.proofs.Common.{◌≡◌, ◌≢◌, ◌⊎◌, inl, inr, ℕ, zero, suc, ◌+◌, ◌-◌, ◌<◌, ◌≤◌, ◌==◌, ◌&&◌, Bool, true, false, cond, Option, Some, None, List, [], ◌∷◌, ◌++◌, map, length, slice_get, bytes_eq, refl, sym, subst, ◌∙◌, ap, arith}
+use Rattle.std.proofs.Common.{◌≡◌, ◌≢◌, inl, inr, ℕ, suc, ◌-◌, Bool, true, cond, Option, Some, None, List, [], ◌∷◌, length, slice_get, refl, sym, subst, ◌∙◌, ap, arith}
 use Rattle.std.specs.List.{count_by, sum_by}
 use Rattle.std.proofs.lemmas.List.Sums.{sum_by-cons}
 use Rattle.std.proofs.lemmas.Bool.{cases_lt}
@@ -7,7 +7,7 @@ use Rattle.plain_netlist.specs.Lists.{IsListed}
 use Rattle.plain_netlist.specs.Netlist.{DeviceRow, CallRow}
 use Rattle.round_laws.specs.Web.{IsNode, IsUneven, on_left, on_right}
 use Rattle.round_laws.specs.Nodes.{Node, Side, Layout, Schematic, Net, Device, Call}
-use Rattle.match_laws.specs.Circuits.{Own, OfCall, OfDevice, OfNone, Pair, circuit_of, node, nodes, numbers_from, owners, own, same_own, web_of}
+use Rattle.match_laws.specs.Circuits.{Own, OfCall, OfDevice, OfNone, Pair, circuit_of, node, nodes, numbers_from, own, same_own, web_of}
 use Rattle.match_laws.proofs.Sums.{in_numbers, sum_same}
 use Rattle.match_laws.proofs.Images.{own_decides, seen, size, sum_nodes, sum_owners}
 use Rattle.refine_match.specs.Matching.{HaveUnevenDevices, is_of}

@@ -1,21 +1,19 @@
 -- What follows from an answer.
-use Rattle.std.proofs.Common.{◌≡◌, ◌≢◌, ◌⊎◌, inl, inr, ℕ, ◌<◌, ◌≤◌, Option, Some, None, List, refl, sym, subst, ◌∙◌, ap, arith}
+use Rattle.std.proofs.Common.{◌≡◌, ◌⊎◌, inl, inr, ℕ, Some, None, sym, subst, ◌∙◌, ap, arith}
 use Rattle.round_laws.specs.Web.{on_left}
-use Rattle.round_laws.specs.Nodes.{Node, Side, Layout, Schematic}
+use Rattle.round_laws.specs.Nodes.{Node, Layout, Schematic}
 use Rattle.round_laws.specs.Guesses.{Search as Tree, HasEnded, HasFound, HasStopped, IsWholeSearch}
 use Rattle.round_laws.proofs.Agree.{count_same}
 use Rattle.round_laws.proofs.Guesses.{enough}
 use Rattle.round_laws.proofs.Unique.{one_search, same_stable}
-use Rattle.plain_netlist.specs.Lists.{IsListed}
-use Rattle.match_laws.specs.Circuits.{AreMatched, IsFitting, Pair, nodes, web_of}
-use Rattle.match_laws.specs.Answer.{Answer as PlainAnswer, DiffersInRound, IsAnswer, Match, Skipped, Undecided, equal_names, setting_of}
+use Rattle.match_laws.specs.Circuits.{AreMatched, IsFitting, Pair, web_of}
+use Rattle.match_laws.specs.Answer.{DiffersInRound, IsAnswer, equal_names, setting_of}
 use Rattle.match_laws.proofs.Answer.{differs, matched, uneven_differs}
 use Rattle.match_laws.proofs.Images.{nodes_there, web_good}
 use Rattle.match_types.specs.declared.answer.Answer.{Answer}
 use Rattle.match_types.specs.declared.answer.Answer.TheVariants as answer
-use Rattle.match_types.specs.declared.answer.Evidence.{Evidence}
 use Rattle.match_types.specs.declared.answer.Evidence.TheVariants as evidence
-use Rattle.match_types.specs.Plain.{plain_answer, plain_evidence, plain_node, plain_pairing, row_of}
+use Rattle.match_types.specs.Plain.{plain_answer, plain_evidence, plain_pairing}
 use Rattle.refine_match.specs.Matching.{AreSingleClasses, CarriesPairing, ExcludesPairings, HaveUnevenDevices, IsDecided, IsDifference, IsEnough, IsUndecided}
 use Rattle.refine_match.proofs.DeviceCounts.{uneven_device}
 

@@ -1,4 +1,4 @@
-use Rattle.std.proofs.Common.{refl, subst, ◌∙◌}
+use Rattle.std.proofs.Common.{refl, subst}
 use Rattle.refine_match.specs.declared.by_rounds.Rounds.{Rounds}
 use Rattle.refine_match.specs.ByRounds.{IsRoundsAnswer}
 use Rattle.refine_match.proofs.matching.complete.Goals as goal

@@ -1,4 +1,4 @@
-use Rattle.std.proofs.Common.{refl, subst, ◌∙◌}
+use Rattle.std.proofs.Common.{refl}
 use Rattle.match_laws.proofs.Images.{web_good}
 use Rattle.match_types.specs.Plain.{pair_of}
 use Rattle.refine_match.proofs.Decided.{if_ok}
