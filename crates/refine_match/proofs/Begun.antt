@@ -1,15 +1,14 @@
 -- A search that begins.
-use Rattle.std.proofs.Common.{◌≡◌, inl, ℕ, suc, ◌+◌, ◌<◌, ◌≤◌, List, [], ◌∷◌, ◌++◌, length, Option, Some, None, refl, sym, subst, ◌∙◌, ap, arith}
+use Rattle.std.proofs.Common.{◌≡◌, ℕ, ◌<◌, List, [], Option, None, refl, sym, subst, ◌∙◌, arith}
 use Rattle.std.specs.Prelude.{Vec}
 use Rattle.std.specs.Global.{Global}
-use Rattle.round_laws.specs.Web.{IsWeb, Guess, under}
-use Rattle.round_laws.specs.Nodes.{Node}
-use Rattle.round_laws.specs.Guesses.{IsChosen, IsSearch, candidates}
-use Rattle.round_laws.specs.Stack.{Level as Stage, used, IsLevel}
+use Rattle.round_laws.specs.Web.{IsWeb, under}
+use Rattle.round_laws.specs.Guesses.{IsChosen, candidates}
+use Rattle.round_laws.specs.Stack.{Level as Stage, IsLevel}
 use Rattle.match_laws.specs.Circuits.{Pair, web_of}
 use Rattle.match_types.specs.declared.answer.Guess.{Guess as Try}
 use Rattle.match_graph.specs.declared.graph.Graph.{Graph}
-use Rattle.match_graph.specs.Graph.{IsGraphOf, left_of, nodes_of}
+use Rattle.match_graph.specs.Graph.{IsGraphOf, nodes_of}
 use Rattle.match_rounds.specs.declared.classes.Classes.{Classes}
 use Rattle.match_rounds.specs.Refined.{AreSettled}
 use Rattle.match_rounds.specs.Start.{AreGuesses, guessed_web}

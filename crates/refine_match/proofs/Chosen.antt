@@ -1,26 +1,23 @@
 -- The node that is guessed next, and classes that leave none.
-use Rattle.std.proofs.Common.{◌≡◌, ◌≢◌, ◌⊎◌, inl, inr, ◌<◌, ◌≤◌, ◌+◌, ◌==◌, ℕ, Bool, true, false, cond, count_by, Option, Some, None, List, [], ◌∷◌, refl, sym, subst, ◌∙◌, ap, arith, true≢false}
+use Rattle.std.proofs.Common.{◌≡◌, ◌⊎◌, inl, inr, ◌<◌, ◌≤◌, ◌+◌, ℕ, Bool, true, cond, count_by, Option, Some, None, List, [], ◌∷◌, refl, sym, subst, ◌∙◌, ap, arith}
 use Rattle.std.proofs.lemmas.Bool.{cases_lt}
-use Rattle.std.proofs.lemmas.Bool.Decides.{Decides-eqb}
 use Rattle.plain_netlist.specs.Lists.{IsListed}
 use Rattle.round_laws.specs.Web.{IsWeb, IsNode, Guess, IsSolved, agree, on_left, on_right, under}
 use Rattle.round_laws.specs.Nodes.{Node, Side, Layout, Schematic, Kind, Net, Device, Call}
-use Rattle.round_laws.specs.Guesses.{IsChosen, IsNoLater, rank}
+use Rattle.round_laws.specs.Guesses.{IsChosen, rank}
 use Rattle.round_laws.proofs.Agree.{count-cons, equivalence, is_it, under_web}
 use Rattle.match_laws.specs.Circuits.{Pair, node, nodes, web_of}
-use Rattle.match_laws.proofs.Images.{size, IsThere, nodes_there}
-use Rattle.match_laws.proofs.Sums.{in_numbers}
+use Rattle.match_laws.proofs.Images.{size, nodes_there}
 use Rattle.match_graph.specs.declared.graph.Graph.{Graph}
-use Rattle.match_graph.specs.Graph.{IsGraphOf, IsNumbered, graph_web, left_of, nodes_of}
+use Rattle.match_graph.specs.Graph.{IsGraphOf, IsNumbered, left_of}
 use Rattle.match_graph.specs.Numbering.{index_of, nodes_in}
 use Rattle.match_graph.proofs.Named.{right_first}
 use Rattle.match_graph.proofs.Placed.{index-first, index-last}
 use Rattle.match_rounds.specs.declared.classes.Classes.{Classes}
-use Rattle.match_rounds.specs.Classes.{class_in}
-use Rattle.match_rounds.specs.Sides.{left_members, right_members}
+use Rattle.match_rounds.specs.Sides.{left_members}
 use Rattle.refine_match.specs.Classes.{AreStableClasses, class_of_node}
-use Rattle.refine_match.specs.Choosing.{tied_with, IsNoLaterTie, IsLeastTied, AreUntied, IsBest, IsBetter, AreSingle}
-use Rattle.refine_match.proofs.Crossed.{lefts_are, rights_are}
+use Rattle.refine_match.specs.Choosing.{tied_with, IsNoLaterTie, IsLeastTied, AreUntied, IsBest, IsBetter}
+use Rattle.refine_match.proofs.Crossed.{lefts_are}
 
 -- one node more was looked at
 pub better : (g : Graph) (c : Classes) (n : ℕ) (best : Option ℕ) → IsBest g c n best → IsBetter g c best n → IsBest g c (n + 1) (Some n)

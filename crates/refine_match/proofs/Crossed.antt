@@ -1,12 +1,10 @@
 -- Rounds of numbers, and rounds of the nodes that they stand for.
-use Rattle.std.proofs.Common.{◌≡◌, ◌≢◌, inl, inr, ◌<◌, ◌≤◌, ◌==◌, ℕ, suc, Bool, true, false, count_by, List, [], ◌∷◌, map, refl, sym, subst, ◌∙◌, ap}
+use Rattle.std.proofs.Common.{◌≡◌, ◌≢◌, inl, inr, ◌==◌, ℕ, suc, true, count_by, List, sym, subst, ◌∙◌, ap}
 use Rattle.std.proofs.lemmas.Bool.Decides.{Decides-eqb}
-use Rattle.plain_netlist.specs.Lists.{IsListed}
-use Rattle.round_laws.specs.Web.{Web, IsWeb, IsNode, Guess, agree, on_left, on_right, IsEven, IsStable, IsUneven, IsRefuted, alike_under, under}
+use Rattle.round_laws.specs.Web.{IsNode, Guess, agree, on_left, on_right, IsEven, IsStable, IsRefuted, under}
 use Rattle.round_laws.specs.Nodes.{Node}
 use Rattle.round_laws.specs.Colours.{AreColours}
 use Rattle.round_laws.proofs.Agree.{count_same, same_test}
-use Rattle.part_laws.specs.Renamed.{AreOfNodes, renamed_guess}
 use Rattle.part_laws.proofs.Renamed.{renamed, came, goes}
 use Rattle.match_laws.specs.Circuits.{Pair, web_of}
 use Rattle.match_graph.specs.declared.graph.Graph.{Graph}
@@ -15,10 +13,10 @@ use Rattle.match_graph.specs.Numbering.{index_of}
 use Rattle.match_rounds.specs.declared.classes.Classes.{Classes}
 use Rattle.match_rounds.specs.Classes.{class_in}
 use Rattle.match_rounds.specs.Sides.{left_members, right_members}
-use Rattle.match_rounds.specs.Start.{plain_guess, guessed_web}
+use Rattle.match_rounds.specs.Start.{guessed_web}
 use Rattle.match_rounds.specs.Refined.{AreSettled}
 use Rattle.match_rounds.proofs.PortsDone.{count-map}
-use Rattle.refine_match.specs.Classes.{AreGuessesOf, AreStableClasses, AreTold, class_of_node}
+use Rattle.refine_match.specs.Classes.{AreStableClasses, AreTold, class_of_node}
 
 pub goes_to : (p : Pair) (g : Graph) (a : Node) → IsGraphOf p g → IsNode (web_of p) a → IsNode (graph_web g) (index_of p a)
 goes_to p g a h n = goes (web_of p) (graph_web g) (index_of p) port_name h.renamed a n

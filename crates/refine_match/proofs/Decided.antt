@@ -1,13 +1,13 @@
 -- Answers that the rounds decide.
-use Rattle.std.proofs.Common.{◌≡◌, ◌⊎◌, inl, inr, ◌<◌, ◌≤◌, ◌==◌, ℕ, zero, suc, Bool, true, false, count_by, Result, Ok, Err, IfOk, List, [], refl, sym, subst, ◌∙◌, ap, arith}
+use Rattle.std.proofs.Common.{◌≡◌, ◌⊎◌, inl, inr, ◌≤◌, ◌==◌, ℕ, zero, suc, Bool, Result, Ok, Err, IfOk, List, [], refl, sym, subst, arith}
 use Rattle.std.proofs.lemmas.Bool.Decides.{Decides-eqb}
 use Rattle.plain_netlist.specs.Lists.{IsListed}
-use Rattle.round_laws.specs.Web.{IsWeb, IsNode, IsEven, agree, on_left, on_right, under}
+use Rattle.round_laws.specs.Web.{IsWeb, IsEven, agree, on_left, on_right, under}
 use Rattle.round_laws.specs.Nodes.{Node}
 use Rattle.round_laws.specs.Colours.{AreColours}
 use Rattle.round_laws.proofs.Agree.{count_same}
 use Rattle.match_laws.specs.Circuits.{Pair, AreMatched, Pairing, web_of}
-use Rattle.match_laws.specs.Answer.{Match, IsAnswer, IsPairing}
+use Rattle.match_laws.specs.Answer.{Match, IsAnswer}
 use Rattle.match_laws.proofs.Sums.{numbers_has}
 use Rattle.match_types.specs.declared.answer.Evidence.{Evidence}
 use Rattle.match_types.specs.declared.answer.Evidence.TheVariants as evidence

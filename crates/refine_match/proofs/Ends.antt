@@ -1,11 +1,11 @@
 -- The ends of a search.
-use Rattle.std.proofs.Common.{◌≡◌, ◌≢◌, ◌⊎◌, inl, inr, ◌↔◌, ℕ, suc, ◌+◌, ◌<◌, ◌≤◌, List, [], ◌∷◌, ◌++◌, map, length, refl, sym, subst, ◌∙◌, ap, arith}
+use Rattle.std.proofs.Common.{◌≡◌, ◌≢◌, inr, ℕ, suc, List, [], ◌∷◌, ◌++◌, map, length, sym, subst, ◌∙◌, ap}
 use Rattle.std.proofs.lemmas.List.{append-nil}
-use Rattle.round_laws.specs.Web.{IsWeb, IsSolved, Guess, under}
+use Rattle.round_laws.specs.Web.{Guess, under}
 use Rattle.round_laws.specs.Nodes.{Node}
 use Rattle.round_laws.specs.Colours.{AreColours}
-use Rattle.round_laws.specs.Guesses.{Setting, Search as Tree, Ended, Stopped, Found, HasEnded, HasFound, HasStopped, IsSearch, IsWholeSearch, Row, candidates, guessed, rows, solved_guesses}
-use Rattle.round_laws.specs.Stack.{Level as Stage, add, used, IsStack, outer_rows, IsClosed}
+use Rattle.round_laws.specs.Guesses.{Search as Tree, Ended, Stopped, Found, IsSearch, IsWholeSearch, Row, candidates, guessed, rows, solved_guesses}
+use Rattle.round_laws.specs.Stack.{Level as Stage, add, IsStack, outer_rows}
 use Rattle.round_laws.proofs.Stack.{closes, rows_add}
 use Rattle.match_laws.specs.Circuits.{AreMatched, Pair, Pairing, web_of}
 use Rattle.match_laws.specs.Answer.{DiffersByTree, IsAnswer, IsPairing, Match, Undecided, equal_names}

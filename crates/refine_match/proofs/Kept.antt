@@ -1,18 +1,17 @@
 -- A search between two steps.
-use Rattle.std.proofs.Common.{◌≡◌, ◌≢◌, ◌⊎◌, inl, inr, ℕ, ◌<◌, ◌≤◌, List, [], ◌∷◌, ◌++◌, map, Option, Some, None, refl, sym, subst, ◌∙◌, ap, arith, true, false, Bool, true≢false}
+use Rattle.std.proofs.Common.{◌≡◌, ◌≢◌, inl, inr, ℕ, ◌≤◌, List, [], ◌∷◌, map, Some, sym, subst, ◌∙◌, arith, true, false, Bool, true≢false}
 use Rattle.std.proofs.lemmas.Bool.{cases_lt}
-use Rattle.round_laws.specs.Web.{IsWeb, Guess}
+use Rattle.round_laws.specs.Web.{Guess}
 use Rattle.round_laws.specs.Nodes.{Node}
-use Rattle.match_laws.specs.Circuits.{AreMatched, Pair, Pairing, web_of}
+use Rattle.match_laws.specs.Circuits.{AreMatched, Pair, Pairing}
 use Rattle.match_laws.specs.Answer.{DiffersByTree, IsAnswer, Match, Undecided, equal_names}
 use Rattle.match_types.specs.declared.answer.Guess.{Guess as Try}
 use Rattle.match_types.specs.Plain.{row_of}
 use Rattle.match_graph.specs.declared.graph.Graph.{Graph}
 use Rattle.match_graph.specs.Graph.{left_of}
-use Rattle.net_model.specs.declared.netlist.Circuit.{Circuit}
 use Rattle.refine_match.specs.declared.candidates.Candidate.{Candidate}
 use Rattle.refine_match.specs.declared.searching.Search.{Search}
-use Rattle.refine_match.specs.Candidates.{IsHead, IsPairOf, remaining}
+use Rattle.refine_match.specs.Candidates.{IsHead, remaining}
 use Rattle.refine_match.specs.Searching.{HasLeft, IsLeft, IsSolvedBy, IsTried, IsTrying, IsUnderWay}
 use Rattle.refine_match.specs.Pairings.{IsPairingOf}
 use Rattle.refine_match.proofs.Ends.{ended, found, stopped}

@@ -1,17 +1,17 @@
 -- A search that goes back to the level above.
-use Rattle.std.proofs.Common.{◌≡◌, ◌≢◌, ◌⊎◌, inl, inr, ℕ, zero, suc, ◌+◌, ◌<◌, ◌≤◌, List, [], ◌∷◌, ◌++◌, map, length, take, slice_index_or, slice_set, refl, sym, subst, ◌∙◌, ap, ap₂, arith, append_assoc}
+use Rattle.std.proofs.Common.{◌≡◌, ℕ, suc, ◌+◌, ◌<◌, List, [], ◌∷◌, ◌++◌, map, length, take, slice_index_or, slice_set, sym, subst, ◌∙◌, ap, ap₂, arith, append_assoc}
 use Rattle.std.specs.Prelude.{Vec, drop}
 use Rattle.std.specs.Vec.{with_item}
 use Rattle.std.specs.Global.{Global}
-use Rattle.std.proofs.lemmas.List.{map-append, length-append, length-map, map-set, append-nil, take-append-drop}
+use Rattle.std.proofs.lemmas.List.{length-append, length-map, map-set, append-nil, take-append-drop}
 use Rattle.std.proofs.Math.ListN.{get_or-map}
 use Rattle.std.proofs.Math.Seq.{set-append_seam, get_or-append_seam}
-use Rattle.round_laws.specs.Web.{IsEven, IsStable, Guess, under}
+use Rattle.round_laws.specs.Web.{Guess}
 use Rattle.round_laws.specs.Nodes.{Node}
-use Rattle.round_laws.specs.Guesses.{Ended, refuted_in, Row, IsBelow, IsOpen, rows, guessed}
-use Rattle.round_laws.specs.Stack.{WasBelow, add, refuted_of, Level as Stage, used, IsLevel, IsUnder, IsStack, outer_rows}
+use Rattle.round_laws.specs.Guesses.{Ended, Row, IsBelow, IsOpen, rows, guessed}
+use Rattle.round_laws.specs.Stack.{WasBelow, add, Level as Stage, used, IsLevel, IsUnder, IsStack, outer_rows}
 use Rattle.round_laws.proofs.Stack.{passes}
-use Rattle.match_laws.specs.Circuits.{Pair, web_of}
+use Rattle.match_laws.specs.Circuits.{Pair}
 use Rattle.match_types.specs.declared.answer.Guess.{Guess as Try}
 use Rattle.match_types.specs.declared.answer.GuessEnd.TheVariants as end
 use Rattle.match_types.specs.Plain.{row_of}

@@ -16,3 +16,5 @@ pub mod Tried
 pub mod Begun
 pub mod Ends
 pub mod Kept
+pub mod DeviceCounts
+pub mod Follows

@@ -1,20 +1,20 @@
 -- The right nodes that stand with the left ones.
-use Rattle.std.proofs.Common.{◌≡◌, inl, inr, ◌<◌, ◌≤◌, ◌+◌, ◌-◌, ◌==◌, ℕ, zero, suc, Bool, true, false, cond, count_by, List, [], ◌∷◌, ◌++◌, length, map, slice_index, get_or, refl, sym, subst, ◌∙◌, ap, arith, true≢false, length-append}
+use Rattle.std.proofs.Common.{◌≡◌, inl, inr, ◌<◌, ◌≤◌, ◌+◌, ◌-◌, ◌==◌, ℕ, suc, Bool, true, cond, count_by, List, [], ◌∷◌, ◌++◌, length, map, slice_index, refl, sym, subst, ◌∙◌, ap, arith, length-append}
 use Rattle.std.proofs.lemmas.Bool.{cases_lt}
 use Rattle.std.proofs.lemmas.Bool.Decides.{Decides-eqb}
 use Rattle.std.proofs.lemmas.List.{get_or_push, get_or_append_left}
 use Rattle.plain_netlist.specs.Lists.{IsListed}
-use Rattle.round_laws.specs.Web.{Web, IsNode, Guess, IsSolved, agree, first_of, mate, on_right, under}
-use Rattle.round_laws.specs.Nodes.{Node, Side, Layout, Schematic, Kind, Net, Device, Call}
+use Rattle.round_laws.specs.Web.{Web, Guess, IsSolved, agree, first_of, mate, on_right, under}
+use Rattle.round_laws.specs.Nodes.{Node, Layout, Kind, Net, Device, Call}
 use Rattle.round_laws.specs.Colours.{AreColours}
 use Rattle.round_laws.proofs.Agree.{count-cons, is_it}
 use Rattle.round_laws.proofs.Solved.{only_one}
-use Rattle.match_laws.specs.Circuits.{Pair, Pairing, node, nodes, numbers_from, numbers_of, pairing_of, web_of}
+use Rattle.match_laws.specs.Circuits.{Pair, Pairing, node, numbers_from, numbers_of, pairing_of, web_of}
 use Rattle.match_laws.proofs.Sums.{in_numbers}
 use Rattle.match_graph.specs.declared.graph.Graph.{Graph}
 use Rattle.match_graph.specs.declared.sizes.Sizes.{Sizes}
-use Rattle.match_graph.specs.Graph.{IsGraph, IsGraphOf, IsNumbered, graph_web, left_of, nodes_of}
-use Rattle.match_graph.specs.Numbering.{count_in, index_of, place_in}
+use Rattle.match_graph.specs.Graph.{IsGraph, IsGraphOf, graph_web, left_of, nodes_of}
+use Rattle.match_graph.specs.Numbering.{count_in, place_in}
 use Rattle.match_graph.proofs.Named.{left_numbered}
 use Rattle.match_rounds.specs.declared.classes.Classes.{Classes}
 use Rattle.match_rounds.specs.Classes.{class_in}
@@ -22,10 +22,9 @@ use Rattle.match_rounds.specs.Sides.{right_members}
 use Rattle.match_rounds.specs.Turned.{AreAllOf}
 use Rattle.match_rounds.proofs.Counting.{any_index}
 use Rattle.refine_match.specs.Classes.{class_of_node}
-use Rattle.refine_match.specs.Choosing.{IsMate}
 use Rattle.refine_match.specs.Evidence.{begin_of, stop_of}
 use Rattle.refine_match.specs.Pairings.{IsMateOf, AreMatesOf, IsPairingOf}
-use Rattle.refine_match.proofs.Chosen.{some_passes, left_listed, right_listed}
+use Rattle.refine_match.proofs.Chosen.{some_passes, right_listed}
 
 -- a right node of a class that has some stands among its members
 pub mate_there : (g : Graph) (c : Classes) (d : ℕ) (items : List ℕ) → left_of g ≤ nodes_of g → right_members g c d ≡ 1 → AreAllOf (class_in c) d items (nodes_of g) → ((k : ℕ) → k < length items → slice_index items k < left_of g) → ⊥

@@ -1,16 +1,16 @@
 -- The candidates of a node.
-use Rattle.std.proofs.Common.{◌≡◌, ◌⊎◌, inl, inr, ◌&&◌, ◌<◌, ◌≤◌, ℕ, Bool, true, false, not, cond, List, [], ◌∷◌, ◌++◌, filter, Option, Some, None, refl, sym, subst, ◌∙◌, ap, ap₂, true≢false}
+use Rattle.std.proofs.Common.{◌≡◌, inl, inr, ◌&&◌, ◌<◌, ℕ, Bool, true, not, cond, List, [], ◌∷◌, ◌++◌, filter, Option, Some, None, refl, sym, subst, ◌∙◌, ap, ap₂}
 use Rattle.std.proofs.lemmas.Option.{same_Some}
 use Rattle.plain_netlist.specs.Lists.{IsListed}
 use Rattle.plain_netlist.specs.Netlist.{DeviceRow, CallRow}
-use Rattle.round_laws.specs.Web.{IsWeb, IsNode, IsStable, Guess, agree, alike_under, under}
+use Rattle.round_laws.specs.Web.{IsWeb, IsStable, Guess, agree, alike_under, under}
 use Rattle.round_laws.specs.Nodes.{Node, Side, Layout, Schematic, Kind, Net, Device, Call}
 use Rattle.round_laws.specs.Guesses.{Setting, candidates}
 use Rattle.round_laws.proofs.Agree.{first, second, is_it}
 use Rattle.round_laws.proofs.Stable.{agreed_first, in_either}
 use Rattle.round_laws.proofs.Unique.{same_stable}
 use Rattle.round_laws.specs.Web.{Web}
-use Rattle.match_laws.specs.Circuits.{Pair, circuit_of, node, nodes, web_of, Own, OfNet, OfDevice, OfCall, OfNone, own, own_at}
+use Rattle.match_laws.specs.Circuits.{Pair, circuit_of, nodes, web_of, Own, OfNet, OfDevice, OfCall, OfNone, own, own_at}
 use Rattle.match_laws.proofs.Sums.{found_at}
 use Rattle.match_laws.proofs.Images.{size, nodes_there, own_decides}
 

@@ -1,10 +1,10 @@
 -- One member more of the class was looked at.
-use Rattle.std.proofs.Common.{◌≡◌, ◌⊎◌, inl, inr, ◌<◌, ◌≤◌, ◌+◌, ℕ, Bool, true, false, Option, Some, None, List, slice_index, refl, sym, subst, ◌∙◌, ap, arith, true≢false}
+use Rattle.std.proofs.Common.{◌≡◌, inl, inr, ◌<◌, ◌≤◌, ◌+◌, ℕ, true, Option, Some, None, List, slice_index, sym, subst, ◌∙◌, ap, arith}
 use Rattle.std.proofs.lemmas.Bool.{cases_lt}
 use Rattle.match_graph.specs.declared.graph.Graph.{Graph}
 use Rattle.match_graph.specs.Graph.{left_of}
 use Rattle.refine_match.specs.declared.candidates.Candidate.{Candidate}
-use Rattle.refine_match.specs.Candidates.{candidate_rank, is_behind, AreTried, IsFirstBehind, IsBestBehind, IsFirst}
+use Rattle.refine_match.specs.Candidates.{candidate_rank, is_behind, IsBestBehind, IsFirst}
 
 -- the best one so far comes no later than this rank
 abbrev pub IsNoLaterThan : Option Candidate → ℕ → Type 0

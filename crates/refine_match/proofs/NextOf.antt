@@ -1,10 +1,9 @@
 -- The next candidate of a node of the circuits.
-use Rattle.std.proofs.Common.{◌≡◌, ◌⊎◌, inl, inr, ◌<◌, ◌≤◌, ◌+◌, ◌-◌, ◌^◌, ◌&&◌, ℕ, zero, suc, Bool, true, false, cond, not, Option, Some, None, List, [], ◌∷◌, ◌++◌, filter, length, slice_get, slice_index, slice_index_or, nat_lt, bytes_eq, refl, sym, subst, ◌∙◌, ap, ap₂, arith, true≢false}
-use Rattle.std.proofs.lemmas.Bool.{cases_lt}
+use Rattle.std.proofs.Common.{◌≡◌, inl, inr, ◌<◌, ◌≤◌, ◌+◌, ◌-◌, ◌^◌, ◌&&◌, ℕ, zero, suc, Bool, true, false, not, Option, Some, None, List, [], ◌∷◌, filter, length, slice_get, slice_index, slice_index_or, nat_lt, bytes_eq, refl, sym, subst, ◌∙◌, ap, ap₂, arith, true≢false}
 use Rattle.std.proofs.lemmas.Bool.Decides.{Decides-ltb}
 use Rattle.plain_netlist.specs.Lists.{IsListed}
 use Rattle.plain_netlist.specs.Netlist.{DeviceRow, CallRow}
-use Rattle.round_laws.specs.Web.{IsWeb, IsNode, Guess, agree, alike_under, under}
+use Rattle.round_laws.specs.Web.{Guess, agree, alike_under, under}
 use Rattle.round_laws.specs.Nodes.{Node, Side, Layout, Schematic, Kind, Net, Device, Call}
 use Rattle.round_laws.specs.Guesses.{candidates}
 use Rattle.round_laws.proofs.Agree.{both, first, second, is_it}
@@ -12,11 +11,11 @@ use Rattle.round_laws.proofs.Fast.{false_if}
 use Rattle.round_laws.proofs.Guesses.{in_filter, of_filter}
 use Rattle.round_laws.proofs.Stable.{agreed_first, in_either}
 use Rattle.round_laws.proofs.Agree.{in_left, in_right}
-use Rattle.match_laws.specs.Circuits.{Pair, Own, OfNet, OfDevice, OfCall, OfNone, circuit_of, node, nodes, own, own_at, same_own, web_of}
+use Rattle.match_laws.specs.Circuits.{Pair, OfNet, OfDevice, OfCall, OfNone, node, nodes, own, same_own, web_of}
 use Rattle.match_laws.specs.Answer.{equal_names, same_bytes, setting_of}
 use Rattle.match_laws.proofs.Images.{size, nodes_there}
 use Rattle.match_graph.specs.declared.graph.Graph.{Graph}
-use Rattle.match_graph.specs.Graph.{IsGraphOf, IsNumbered, graph_web, left_of, nodes_of}
+use Rattle.match_graph.specs.Graph.{left_of, nodes_of}
 use Rattle.match_graph.specs.Numbering.{first_of_side, index_of, nodes_in}
 use Rattle.match_graph.proofs.Named.{right_first}
 use Rattle.match_graph.proofs.Placed.{index-first, side_numbers}
@@ -28,7 +27,7 @@ use Rattle.match_rounds.proofs.Counting.{any_index}
 use Rattle.match_rounds.proofs.Started.{node_below, below_node}
 use Rattle.refine_match.specs.declared.candidates.Candidate.{Candidate}
 use Rattle.refine_match.specs.Classes.{AreStableClasses, class_of_node}
-use Rattle.refine_match.specs.Candidates.{IsPairOf, have_one_name, rank_of, candidate_rank, is_behind, rank_at, IsBestBehind, rank_in, remaining, IsNextOf}
+use Rattle.refine_match.specs.Candidates.{IsPairOf, have_one_name, rank_of, candidate_rank, is_behind, rank_at, IsBestBehind, rank_in, IsNextOf}
 use Rattle.refine_match.proofs.Chosen.{left_count, right_listed}
 use Rattle.refine_match.proofs.Crossed.{came_from, goes_to}
 use Rattle.refine_match.proofs.Rising.{IsRising, filter_passes, numbered, filtered, joined, none_pass, head_is}

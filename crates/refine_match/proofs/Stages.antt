@@ -1,13 +1,13 @@
 -- The stages of a search that is under way.
-use Rattle.std.proofs.Common.{◌≡◌, ◌≢◌, ◌⊎◌, inl, inr, ◌↔◌, ℕ, zero, suc, ◌+◌, ◌<◌, ◌≤◌, Bool, true, List, [], ◌∷◌, ◌++◌, map, filter, length, Option, Some, None, refl, sym, subst, ◌∙◌, ap, ap₂, arith, append_assoc}
+use Rattle.std.proofs.Common.{◌≡◌, ◌↔◌, ℕ, suc, ◌+◌, true, List, [], ◌∷◌, ◌++◌, filter, length, refl, sym, ◌∙◌, ap, arith}
 use Rattle.std.proofs.lemmas.List.{length-append}
-use Rattle.round_laws.specs.Web.{Guess, under}
+use Rattle.round_laws.specs.Web.{Guess}
 use Rattle.round_laws.specs.Nodes.{Node}
-use Rattle.round_laws.specs.Guesses.{Setting, candidates, Search, Ended, Stopped, Found, Refuted, Below, refuted_in, HasEnded, HasFound, IsNext, IsSearch, Row, rows, guessed, solved_guesses}
-use Rattle.round_laws.specs.Stack.{Entry, WasRefuted, WasBelow, add, refuted_of, Level as Stage, used, IsLevel, IsUnder, IsStack, outer_rows}
+use Rattle.round_laws.specs.Guesses.{Setting, Search, Ended, Refuted, Below, refuted_in, HasEnded, HasFound, rows, solved_guesses}
+use Rattle.round_laws.specs.Stack.{Entry, WasRefuted, WasBelow, add, refuted_of, Level as Stage, IsLevel, IsStack, outer_rows}
 use Rattle.round_laws.proofs.Stack.{rows_add}
 use Rattle.match_laws.specs.Circuits.{Pair}
-use Rattle.refine_match.specs.Searching.{setting_in, AreOuterOf, IsLevelOf, rows_so_far}
+use Rattle.refine_match.specs.Searching.{setting_in, AreOuterOf}
 use Rattle.refine_match.specs.declared.searching.Level.{Level}
 
 -- a stage that has tried more

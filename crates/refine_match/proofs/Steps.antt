@@ -1,23 +1,19 @@
 -- What each step keeps of a search.
-use Rattle.std.proofs.Common.{◌≡◌, ◌≢◌, ◌⊎◌, inl, inr, ◌↔◌, ℕ, zero, suc, ◌+◌, ◌<◌, ◌≤◌, Bool, true, List, [], ◌∷◌, ◌++◌, map, filter, length, take, Option, Some, None, refl, sym, subst, ◌∙◌, ap, ap₂, arith, append_assoc}
+use Rattle.std.proofs.Common.{◌≡◌, inl, ℕ, suc, ◌+◌, ◌<◌, ◌≤◌, List, [], ◌∷◌, ◌++◌, map, length, Option, Some, None, refl, sym, subst, ◌∙◌, ap, ap₂, arith, append_assoc}
 use Rattle.std.specs.Prelude.{Vec}
 use Rattle.std.specs.Global.{Global}
-use Rattle.std.proofs.lemmas.List.{map-append, length-append, length-map, append-nil}
+use Rattle.std.proofs.lemmas.List.{map-append, length-map, append-nil}
 use Rattle.plain_netlist.specs.Lists.{IsListed}
-use Rattle.round_laws.specs.Web.{IsWeb, IsNode, IsStable, IsRefuted, Guess, under}
-use Rattle.round_laws.specs.Nodes.{Node, Layout, Schematic}
-use Rattle.round_laws.specs.Guesses.{Setting, IsChosen, candidates, Ended, refuted_in, IsNext, IsSearch, Row, IsRefutedIn, IsBelow, IsOpen, rows, guessed}
-use Rattle.round_laws.specs.Stack.{Entry, WasRefuted, WasBelow, add, refuted_of, Level as Stage, used, IsLevel, IsUnder, IsStack, refute, pass, outer_rows}
-use Rattle.round_laws.proofs.Agree.{under_web}
-use Rattle.round_laws.proofs.Stack.{refutes, passes}
+use Rattle.round_laws.specs.Web.{IsRefuted, under}
+use Rattle.round_laws.specs.Nodes.{Layout, Schematic}
+use Rattle.round_laws.specs.Guesses.{IsChosen, candidates, Ended, IsNext, IsSearch, Row, IsRefutedIn, IsOpen, rows, guessed}
+use Rattle.round_laws.specs.Stack.{WasRefuted, add, Level as Stage, used, IsLevel, IsUnder, outer_rows}
+use Rattle.round_laws.proofs.Stack.{refutes}
 use Rattle.match_laws.specs.Circuits.{Pair, nodes, web_of}
-use Rattle.match_laws.specs.Answer.{equal_names}
 use Rattle.match_types.specs.declared.answer.Guess.{Guess as Try}
 use Rattle.match_types.specs.Plain.{row_of}
 use Rattle.match_graph.specs.declared.graph.Graph.{Graph}
-use Rattle.match_graph.specs.Graph.{IsGraphOf, IsNumbered, left_of, nodes_of}
-use Rattle.match_graph.specs.Numbering.{index_of}
-use Rattle.match_graph.proofs.Placed.{index-injective}
+use Rattle.match_graph.specs.Graph.{left_of, nodes_of}
 use Rattle.match_rounds.specs.declared.classes.Classes.{Classes}
 use Rattle.match_rounds.specs.Classes.{IsPartition}
 use Rattle.match_rounds.specs.Refined.{AreSettled}
@@ -29,7 +25,7 @@ use Rattle.refine_match.specs.declared.searching.Search.{Search}
 use Rattle.refine_match.specs.Classes.{AreTold, AreStableClasses}
 use Rattle.refine_match.specs.Choosing.{IsLeastTied}
 use Rattle.refine_match.specs.Candidates.{IsHead, remaining}
-use Rattle.refine_match.specs.Searching.{setting_in, AreOuterOf, IsFirstOf, IsGuessing, IsLevelOf, IsSearchOf, IsUnderWay, guess_row, rows_so_far}
+use Rattle.refine_match.specs.Searching.{setting_in, IsGuessing, IsLevelOf, IsSearchOf, IsUnderWay, guess_row}
 use Rattle.refine_match.proofs.Crossed.{came_from, stable_classes}
 use Rattle.refine_match.proofs.Chosen.{is_chosen, right_listed}
 use Rattle.refine_match.proofs.Told.{told_more}

@@ -1,17 +1,16 @@
 -- Guesses in both forms: one more and one less.
-use Rattle.std.proofs.Common.{◌≡◌, ◌⊎◌, inl, inr, ℕ, zero, suc, ◌+◌, ◌-◌, ◌<◌, ◌≤◌, List, [], ◌∷◌, ◌++◌, map, length, take, slice_index_or, refl, sym, subst, ◌∙◌, ap, ap₂, arith}
+use Rattle.std.proofs.Common.{◌≡◌, inl, inr, ℕ, ◌+◌, ◌-◌, ◌<◌, ◌≤◌, List, [], ◌∷◌, ◌++◌, map, length, take, refl, sym, subst, ◌∙◌, ap, ap₂, arith}
 use Rattle.std.proofs.lemmas.List.{map-append, length-append, length-map, take-map}
 use Rattle.std.proofs.Math.Seq.{take-append_seam, get_or-append_seam}
 use Rattle.std.proofs.lemmas.Bool.{cases_lt}
 use Rattle.std.proofs.Math.ListN.{get_or-append}
-use Rattle.plain_netlist.specs.Lists.{IsListed}
 use Rattle.round_laws.specs.Web.{Web, IsWeb, IsNode, IsEven, IsStable, IsRefuted, Guess, under}
 use Rattle.round_laws.specs.Nodes.{Node}
 use Rattle.round_laws.specs.Guesses.{guessed}
 use Rattle.round_laws.proofs.Agree.{in_left, count_same, under_web}
 use Rattle.round_laws.proofs.Stable.{in_either, stays}
 use Rattle.round_laws.proofs.Unique.{either_way}
-use Rattle.part_laws.specs.Renamed.{AreOfNodes, renamed_guess}
+use Rattle.part_laws.specs.Renamed.{renamed_guess}
 use Rattle.part_laws.proofs.Resumed.{even_before}
 use Rattle.match_laws.specs.Circuits.{Pair, web_of}
 use Rattle.match_graph.specs.declared.graph.Graph.{Graph}

@@ -1,36 +1,32 @@
 -- A search that guesses.
-use Rattle.std.proofs.Common.{◌≡◌, ◌⊎◌, inl, inr, ℕ, suc, ◌+◌, ◌-◌, ◌<◌, ◌≤◌, Bool, true, false, List, [], ◌∷◌, ◌++◌, length, take, Option, Some, None, refl, sym, subst, ◌∙◌, ap, ap₂, arith, true≢false}
+use Rattle.std.proofs.Common.{◌≡◌, ℕ, ◌+◌, ◌-◌, ◌<◌, Bool, true, false, List, [], ◌∷◌, ◌++◌, length, take, Option, sym, subst, ◌∙◌, ap, ap₂, arith, true≢false}
 use Rattle.std.specs.Prelude.{Vec}
 use Rattle.std.specs.Global.{Global}
 use Rattle.std.proofs.lemmas.List.{length-append}
 use Rattle.std.proofs.Math.Seq.{take-append_seam}
-use Rattle.plain_netlist.specs.Lists.{IsListed}
-use Rattle.round_laws.specs.Web.{Web, IsStable, IsEven, IsRefuted, Guess, under}
-use Rattle.round_laws.specs.Nodes.{Node, Layout}
-use Rattle.round_laws.specs.Guesses.{IsRefutedIn, guessed, candidates}
-use Rattle.match_laws.specs.Circuits.{Pair, nodes, web_of}
-use Rattle.match_laws.specs.Answer.{equal_names}
+use Rattle.round_laws.specs.Web.{Web, IsRefuted, under}
+use Rattle.round_laws.specs.Nodes.{Node}
+use Rattle.round_laws.specs.Guesses.{guessed, candidates}
+use Rattle.match_laws.specs.Circuits.{Pair, web_of}
 use Rattle.match_types.specs.declared.answer.Guess.{Guess as Try}
 use Rattle.match_types.specs.declared.answer.GuessEnd.{GuessEnd}
-use Rattle.match_types.specs.declared.answer.GuessEnd.TheVariants as end
 use Rattle.match_types.specs.Plain.{plain_end, row_of}
 use Rattle.match_graph.specs.declared.graph.Graph.{Graph}
-use Rattle.match_graph.specs.Graph.{IsGraphOf, left_of, nodes_of}
+use Rattle.match_graph.specs.Graph.{left_of, nodes_of}
 use Rattle.match_graph.specs.Numbering.{index_of}
 use Rattle.match_rounds.specs.declared.classes.Classes.{Classes}
 use Rattle.match_rounds.specs.declared.refinement.Verdict.{Verdict}
 use Rattle.match_rounds.specs.declared.refinement.Verdict.TheVariants as verdict
 use Rattle.match_rounds.specs.Classes.{IsPartition, class_in}
-use Rattle.match_rounds.specs.Refined.{AreRefuted, AreSettled, AreSettledBefore, HasNoEvenEnd, IsResumed, IsVerdict}
+use Rattle.match_rounds.specs.Refined.{AreSettled, AreSettledBefore, HasNoEvenEnd, IsResumed, IsVerdict}
 use Rattle.match_rounds.specs.Start.{AreGuesses, guessed_web}
 use Rattle.match_rounds.proofs.Started.{node_below}
 use Rattle.refine_match.specs.declared.candidates.Candidate.{Candidate}
-use Rattle.refine_match.specs.declared.searching.Level.{Level}
 use Rattle.refine_match.specs.declared.searching.Search.{Search}
 use Rattle.refine_match.specs.Classes.{AreStableClasses}
 use Rattle.net_model.specs.declared.netlist.Circuit.{Circuit}
 use Rattle.match_rounds.specs.Turned.{AreAllOf}
-use Rattle.refine_match.specs.Candidates.{IsBestBehind, IsHead, IsNextOf, IsPairOf, rank_at}
+use Rattle.refine_match.specs.Candidates.{IsBestBehind, IsNextOf, IsPairOf, rank_at}
 use Rattle.refine_match.proofs.NextOf.{next_is}
 use Rattle.refine_match.specs.Searching.{setting_in, EndsBy, HasEvenEnd, IsGuessing, IsSearchOf, IsTrying, IsUnderWay, guess_row}
 use Rattle.refine_match.proofs.Crossed.{goes_to, refuted_is, stable_classes}

@@ -1,21 +1,19 @@
 -- The row of a guess.
-use Rattle.std.proofs.Common.{◌≡◌, ◌⊎◌, inl, inr, ℕ, suc, ◌+◌, ◌<◌, ◌≤◌, List, [], ◌∷◌, ◌++◌, length, refl, sym, subst, ◌∙◌, ap, ap₂, arith}
+use Rattle.std.proofs.Common.{◌≡◌, inl, inr, ℕ, suc, ◌+◌, ◌≤◌, List, [], ◌∷◌, length, refl, sym, subst, ◌∙◌, ap, ap₂, arith}
 use Rattle.std.proofs.lemmas.List.{length-append}
 use Rattle.plain_netlist.specs.Lists.{IsListed}
-use Rattle.round_laws.specs.Web.{agree, under}
+use Rattle.round_laws.specs.Web.{under}
 use Rattle.round_laws.specs.Nodes.{Node, Side, Kind, Layout, Schematic}
 use Rattle.round_laws.specs.Guesses.{Outcome, Row, candidates}
-use Rattle.round_laws.specs.Stack.{Level as Stage}
 use Rattle.round_laws.proofs.Guesses.{of_filter}
-use Rattle.match_laws.specs.Circuits.{Pair, node, nodes, web_of}
+use Rattle.match_laws.specs.Circuits.{Pair, node, web_of}
 use Rattle.match_laws.proofs.Images.{nodes_there}
 use Rattle.match_types.specs.declared.answer.Guess.{Guess as Try}
 use Rattle.match_types.specs.declared.answer.GuessEnd.{GuessEnd}
 use Rattle.match_types.specs.declared.answer.Node.{Node as Told}
 use Rattle.match_types.specs.Plain.{plain_end, plain_node, plain_side, plain_kind, row_of}
 use Rattle.match_graph.specs.declared.graph.Graph.{Graph}
-use Rattle.match_graph.specs.Graph.{IsGraphOf, IsNumbered, left_of}
-use Rattle.match_graph.specs.Numbering.{index_of}
+use Rattle.match_graph.specs.Graph.{IsNumbered, left_of}
 use Rattle.match_graph.proofs.Placed.{index-injective}
 use Rattle.refine_match.specs.declared.candidates.Candidate.{Candidate}
 use Rattle.refine_match.specs.declared.searching.Level.{Level}

@@ -1,5 +1,5 @@
 -- The least node whose class has unequal counts.
-use Rattle.std.proofs.Common.{◌≡◌, ◌≢◌, ◌⊎◌, inl, inr, ◌<◌, ◌≤◌, ◌+◌, ◌-◌, ◌==◌, ℕ, Option, Some, None, IfSome, [], refl, sym, subst, ◌∙◌, ap, arith}
+use Rattle.std.proofs.Common.{◌≡◌, ◌⊎◌, inl, inr, ◌<◌, ◌≤◌, ◌+◌, ◌-◌, ◌==◌, ℕ, Option, Some, None, IfSome, [], refl, sym, subst, ◌∙◌, ap, arith}
 use Rattle.std.proofs.lemmas.Bool.{cases_lt}
 use Rattle.round_laws.specs.Web.{IsWeb, IsNode, agree, on_left, on_right}
 use Rattle.round_laws.specs.Nodes.{Node, Side, Layout, Schematic, Kind, Net, Device, Call}
@@ -11,7 +11,7 @@ use Rattle.match_laws.proofs.Images.{size, IsThere}
 use Rattle.match_graph.specs.declared.graph.Graph.{Graph}
 use Rattle.match_graph.specs.declared.sizes.Sizes.{Sizes}
 use Rattle.match_graph.specs.Graph.{IsGraph, IsGraphOf, IsNumbered, graph_web, nodes_of}
-use Rattle.match_graph.specs.Numbering.{AreSizesOf, count_in, end_of, first_of_side, index_of, nodes_in, place_in}
+use Rattle.match_graph.specs.Numbering.{AreSizesOf, count_in, first_of_side, index_of, place_in}
 use Rattle.match_graph.proofs.Named.{left_numbered, right_numbered, right_first}
 use Rattle.match_graph.proofs.Placed.{there, index-injective}
 use Rattle.match_rounds.specs.declared.classes.Classes.{Classes}
@@ -22,7 +22,7 @@ use Rattle.match_rounds.specs.Start.{guessed_web}
 use Rattle.match_rounds.proofs.Evenness.{test_is}
 use Rattle.match_rounds.proofs.Started.{node_below}
 use Rattle.refine_match.specs.Classes.{AreTold, IsOfUneven}
-use Rattle.refine_match.specs.Evidence.{AreEvenFrom, IsFirstUneven, begin_of, stop_of, IsEvenKind, IsFirstOfKind, IsLeastUneven}
+use Rattle.refine_match.specs.Evidence.{AreEvenFrom, begin_of, stop_of, IsEvenKind, IsFirstOfKind, IsLeastUneven}
 use Rattle.refine_match.proofs.Crossed.{lefts_are, rights_are, colours_are, refuted_is}
 
 pub if_some : {X : Type 0} {P Q : X → Type 0} (o : Option X) → IfSome o P → ((x : X) → P x → Q x) → IfSome o Q

@@ -1,5 +1,5 @@
 -- What the rounds alone decide.
-use Rattle.std.specs.Prelude.{◌≡◌, ◌↔◌, ℕ, Bool, true, List, []}
+use Rattle.std.specs.Prelude.{◌≡◌, ℕ, Bool, []}
 use Rattle.round_laws.specs.Nodes.{Node}
 use Rattle.match_laws.specs.Circuits.{Pair, AreMatched}
 use Rattle.match_laws.specs.Answer.{IsAnswer}

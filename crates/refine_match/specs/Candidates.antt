@@ -1,5 +1,5 @@
 -- The right nodes that a left node is guessed to go to, in order.
-use Rattle.std.specs.Prelude.{◌≡◌, ◌<◌, ◌≤◌, ◌+◌, ◌-◌, ◌^◌, ◌&&◌, ℕ, Bool, true, false, cond}
+use Rattle.std.specs.Prelude.{◌≡◌, ◌<◌, ◌≤◌, ◌+◌, ◌-◌, ◌^◌, ◌&&◌, ℕ, Bool, true, cond}
 use Rattle.std.specs.Prelude.{Option, Some, None, List, [], ◌∷◌, length, filter, slice_index}
 use Rattle.std.specs.Prelude.{slice_index_or, nat_lt, bytes_eq}
 use Rattle.plain_netlist.specs.Lists.{IsListed}

@@ -1,5 +1,5 @@
 -- The left node that is guessed next.
-use Rattle.std.specs.Prelude.{◌≡◌, ◌⊎◌, ◌↔◌, ◌<◌, ◌≤◌, ℕ, true, Option, Some, None}
+use Rattle.std.specs.Prelude.{◌≡◌, ◌⊎◌, ◌<◌, ◌≤◌, ℕ, Option, Some, None}
 use Rattle.match_graph.specs.declared.graph.Graph.{Graph}
 use Rattle.match_graph.specs.Graph.{left_of, nodes_of}
 use Rattle.match_rounds.specs.declared.classes.Classes.{Classes}

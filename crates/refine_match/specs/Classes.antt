@@ -1,6 +1,6 @@
 -- Classes of the nodes of two circuits under guesses.
-use Rattle.std.specs.Prelude.{◌≡◌, ◌≢◌, ◌↔◌, ◌≤◌, ℕ, true, List, map}
-use Rattle.round_laws.specs.Web.{IsWeb, IsNode, IsEven, IsStable, Guess, agree, under}
+use Rattle.std.specs.Prelude.{◌≡◌, ◌≢◌, ◌≤◌, ℕ, List, map}
+use Rattle.round_laws.specs.Web.{IsWeb, IsEven, IsStable, Guess, under}
 use Rattle.round_laws.specs.Nodes.{Node}
 use Rattle.round_laws.specs.Colours.{AreColours}
 use Rattle.part_laws.specs.Renamed.{AreOfNodes, renamed_guess}

@@ -1,6 +1,6 @@
 -- The right nodes that stand with the left ones.
 use Rattle.std.specs.Prelude.{◌≡◌, ◌<◌, ℕ, List, length, slice_index}
-use Rattle.round_laws.specs.Web.{IsWeb, Guess, IsSolved, mate, under}
+use Rattle.round_laws.specs.Web.{Guess, IsSolved, mate, under}
 use Rattle.round_laws.specs.Nodes.{Node, Kind}
 use Rattle.round_laws.specs.Colours.{AreColours}
 use Rattle.match_laws.specs.Circuits.{Pair, Pairing, pairing_of, web_of}

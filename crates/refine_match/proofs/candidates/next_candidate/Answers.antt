@@ -1,9 +1,9 @@
-use Rattle.std.proofs.Common.{◌≡◌, ◌+◌, ◌<◌, ◌≤◌, ℕ, Bool, List, Option, Some, true, false, length, slice_index, refl, sym, subst, ◌∙◌, ap, arith, true≢false}
-use Rattle.match_graph.specs.Graph.{left_of, nodes_of}
+use Rattle.std.proofs.Common.{◌≡◌, ◌+◌, ℕ, Bool, List, Option, length, slice_index, refl, sym, subst, ◌∙◌, ap, arith, true≢false}
+use Rattle.match_graph.specs.Graph.{nodes_of}
 use Rattle.match_rounds.specs.Classes.{class_in}
 use Rattle.match_rounds.specs.Turned.{AreAllOf}
 use Rattle.refine_match.specs.declared.candidates.Candidate.{Candidate}
-use Rattle.refine_match.specs.Candidates.{IsBestBehind, IsFirst, is_behind, rank_at, rank_of, candidate_rank}
+use Rattle.refine_match.specs.Candidates.{IsBestBehind, is_behind, rank_at, rank_of, candidate_rank}
 use Rattle.refine_match.proofs.NextBehind.{took, kept, not_first, IsNoLaterThan}
 use Rattle.refine_match.proofs.candidates.next_candidate.Goals as goal
 use Rattle.refine_match.proofs.candidates.next_candidate.Goals.{then-left_count-other+then-is_after+then-is_first, then-left_count-other+else-is_after, else-is_after-via-then-is_after+else-is_first, else-is_after-via-else-is_after, else-left_count-other}

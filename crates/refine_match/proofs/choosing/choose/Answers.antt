@@ -1,6 +1,6 @@
-use Rattle.std.proofs.Common.{◌≡◌, ◌+◌, ℕ, Option, true, false, Some, sym, subst, ◌∙◌, arith, true≢false}
+use Rattle.std.proofs.Common.{◌≡◌, ◌+◌, ℕ, Option, sym, subst, ◌∙◌, arith, true≢false}
 use Rattle.match_graph.specs.Graph.{left_of}
-use Rattle.refine_match.specs.Choosing.{IsBest, IsBetter}
+use Rattle.refine_match.specs.Choosing.{IsBest}
 use Rattle.refine_match.proofs.Chosen.{better, no_better}
 use Rattle.refine_match.proofs.choosing.choose.Goals as goal
 use Rattle.refine_match.proofs.choosing.choose.Goals.{then-is_better, else-is_better}

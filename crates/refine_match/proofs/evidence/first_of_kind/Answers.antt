@@ -1,4 +1,4 @@
-use Rattle.std.proofs.Common.{◌≡◌, ℕ, inl, inr, sym, subst, refl}
+use Rattle.std.proofs.Common.{◌≡◌, ℕ, inl, inr, subst, refl}
 use Rattle.match_graph.specs.declared.graph.Graph.{Graph}
 use Rattle.match_rounds.specs.declared.classes.Classes.{Classes}
 use Rattle.refine_match.specs.Evidence.{AreEvenFrom, IsFirstUneven}

@@ -1,5 +1,4 @@
-use Rattle.std.proofs.Common.{◌≡◌, ◌<◌, ◌≤◌, ℕ, sym, ◌∙◌, ap, arith}
-use Rattle.match_rounds.specs.Classes.{class_in}
+use Rattle.std.proofs.Common.{sym, ◌∙◌, ap, arith}
 use Rattle.match_rounds.specs.Sides.{left_members, right_members}
 use Rattle.refine_match.proofs.Uneven.{even_more}
 use Rattle.refine_match.proofs.evidence.first_uneven.Goals as goal

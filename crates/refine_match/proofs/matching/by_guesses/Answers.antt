@@ -1,4 +1,4 @@
-use Rattle.std.proofs.Common.{refl, sym, subst, ◌∙◌, ap, ◌≡◌}
+use Rattle.std.proofs.Common.{◌∙◌}
 use Rattle.match_types.specs.Plain.{plain_pairing}
 use Rattle.refine_match.proofs.Decided.{single}
 use Rattle.refine_match.proofs.Kept.{kept_ended, kept_found, kept_left, kept_solved, kept_stopped, kept_tried, none_left, trying}

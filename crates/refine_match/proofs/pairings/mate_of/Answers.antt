@@ -1,5 +1,4 @@
-use Rattle.std.proofs.Common.{◌≡◌, ◌<◌, ◌≤◌, ◌+◌, ℕ, length, slice_index, sym, ◌∙◌, ap, arith}
-use Rattle.match_graph.specs.Graph.{left_of, nodes_of}
+use Rattle.std.proofs.Common.{◌∙◌, ap, arith}
 use Rattle.match_rounds.specs.Sides.{right_members}
 use Rattle.refine_match.proofs.Mates.{mate_there}
 use Rattle.refine_match.proofs.pairings.mate_of.Goals as goal

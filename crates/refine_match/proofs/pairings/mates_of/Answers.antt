@@ -1,8 +1,7 @@
-use Rattle.std.proofs.Common.{◌≡◌, ◌<◌, ◌+◌, ◌∷◌, ◌++◌, [], ℕ, List, length, slice_index, refl, sym, subst, ◌∙◌, ap, arith, length-append}
+use Rattle.std.proofs.Common.{◌≡◌, ◌<◌, ◌∷◌, [], ℕ, List, length, slice_index, refl, sym, subst, ◌∙◌, ap, arith, length-append}
 use Rattle.match_types.specs.Plain.{plain_kind, plain_node}
 use Rattle.refine_match.specs.Choosing.{IsMate}
 use Rattle.refine_match.specs.Pairings.{IsMateOf}
-use Rattle.refine_match.specs.Evidence.{begin_of}
 use Rattle.refine_match.proofs.Mates.{mates_more, place_plus}
 use Rattle.refine_match.proofs.pairings.mates_of.Goals as goal
 

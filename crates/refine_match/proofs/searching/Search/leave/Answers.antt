@@ -1,5 +1,5 @@
-use Rattle.std.proofs.Common.{◌≡◌, ◌++◌, ◌∷◌, [], sym, ◌∙◌, subst, ℕ, ◌<◌, List}
-use Rattle.refine_match.proofs.Leaving.{leaves, left_way, has_row, has_even}
+use Rattle.std.proofs.Common.{sym, ◌∙◌, subst, ℕ, ◌<◌}
+use Rattle.refine_match.proofs.Leaving.{left_way, has_row, has_even}
 use Rattle.refine_match.proofs.searching.Search.leave.Goals as goal
 
 pub index_mut-requires : goal.index_mut-requires

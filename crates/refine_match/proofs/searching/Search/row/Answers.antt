@@ -1,5 +1,4 @@
-use Rattle.match_types.specs.Plain.{plain_node}
-use Rattle.std.proofs.Common.{◌∙◌, ap}
+use Rattle.std.proofs.Common.{◌∙◌}
 use Rattle.refine_match.proofs.TriedRows.{row_is}
 use Rattle.refine_match.proofs.searching.Search.row.Goals as goal
 
