@@ -1,0 +1,8 @@
+use Rattle.std.proofs.Common.{◌≡◌, ◌++◌, map, drop}
+use Rattle.match_types.specs.Plain.{plain_answer}
+use Rattle.net_model.specs.Rows.{plain_circuit}
+use Rattle.match_report.specs.Pairs.{pair_texts}
+use Rattle.match_report.proofs.pairs.push_pairs.Given as goal
+
+abbrev pub invariant-pairs : goal.invariant-pairs
+invariant-pairs l = l.out.items ++ pair_texts (map plain_circuit l.lefts) (map plain_circuit l.rights) l.k (map plain_answer (drop l.k l.answers)) ≡ l.initial.out.items ++ pair_texts (map plain_circuit l.lefts) (map plain_circuit l.rights) 0 (map plain_answer l.answers)

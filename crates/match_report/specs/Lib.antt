@@ -1,0 +1,4 @@
+pub mod Gates
+pub mod Pairs
+pub mod Report
+pub mod Words
