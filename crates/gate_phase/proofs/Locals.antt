@@ -42,7 +42,7 @@ hull_plane : (o : Option Rect) (q : Square) (plane : Rect) → HullIsSound o →
 hull_plane None q plane sound all h = absurd h
 hull_plane (Some w) q plane sound all h = inside_has w plane q (all w (wider_rect (2 ^ 30) (2 ^ 39) w (omega arith) sound.near)) h
 
-hull_corners : (o : Option Rect) (q : Square) → HullIsSound o → HullHas o q → HasNearCorners q
+pub hull_corners : (o : Option Rect) (q : Square) → HullIsSound o → HullHas o q → HasNearCorners q
 hull_corners None q sound h = absurd h
 hull_corners (Some w) q sound h = near_corners w q (wider_rect (2 ^ 30) (2 ^ 39) w (omega arith) sound.near) h
 

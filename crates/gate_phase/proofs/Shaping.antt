@@ -1,0 +1,29 @@
+-- What is kept close to a settled gate is what is flat there.
+use Rattle.std.proofs.Common.{◌≡◌, ◌↔◌, ℕ, ◌<◌, List, [], Option, Some, slice_get, get_or, length, sym, ◌∙◌, ap, subst, arith}
+use Rattle.std.proofs.lemmas.Option.{slice_get-get_or}
+use Rattle.geo_base.specs.declared.shapes.Rect.{Rect}
+use Rattle.geo_base.specs.declared.shapes.Square.{Square}
+use Rattle.flat_layout.specs.Gates.{Geometry, IsGateOrRing, IsReadBy}
+use Rattle.flat_layout.specs.Layers.{Formula, Empty, InFlat, IsKept}
+use Rattle.flat_layout.specs.Layout.{Design}
+use Rattle.flat_laws.proofs.Terminals.{keep}
+use Rattle.cell_graph.specs.Linked.{Linked, plain}
+use Rattle.rule_text.specs.Rules.{Rules}
+use Rattle.rule_layers.specs.Formulas.{formulas}
+use Rattle.deep_tables.specs.Layers.{AreLayers}
+use Rattle.deep_tables.specs.declared.layers.CellLayers.{CellLayers}
+use Rattle.deep_tables.proofs.Reading.{layer_at}
+use Rattle.gate_search.specs.Gather.{AreMet}
+use Rattle.gate_shapes.specs.Sets.{in_set}
+use Rattle.gate_phase.specs.Kept.{HasLocals}
+use Rattle.gate_phase.specs.Shape.{IsGatePart}
+use Rattle.gate_phase.proofs.Marking.{count_behind}
+use Rattle.gate_phase.proofs.Telling.{kept_flat}
+
+-- close to a settled gate the cell keeps exactly the flat squares of what the rule reads
+pub exact_near : (d : Design) (g : Geometry) (cell : ℕ) (s : Square) (part close set : List Rect) (x : Formula) → IsGatePart d g cell s part close → IsReadBy g x → AreMet (IsKept d cell x) close set
+    → (q : Square) → IsGateOrRing d g cell s q → in_set set q ↔ InFlat d cell x q
+exact_near d g cell s part close set x is read met q c = (
+  (λ e. kept_flat d cell x q (met.sound q e)),
+  (λ f. met.complete q (keep d g cell x q read (is.settled.calm q c) f) ((is.are_close q).1 (record { square = c.square; in_part = (is.squares c.square).1 c.in_part; around = c.around }))),
+)
