@@ -1,5 +1,5 @@
 -- What a hull holds, and what is close to it.
-use Rattle.std.proofs.Common.{◌≡◌, ◌↔◌, ◌⊎◌, inl, inr, ℕ, ◌^◌, pos, true, false, List, Option, Some, None, slice_index_or, sym, ◌∙◌, subst, arith}
+use Rattle.std.proofs.Common.{◌≡◌, ◌↔◌, inl, inr, ℕ, ◌^◌, true, List, Option, Some, None, slice_index_or, sym, arith}
 use Rattle.std.specs.List.{All}
 use Rattle.std.proofs.lemmas.Int.{ints}
 use Rattle.geo_base.specs.Rects.{has, IsRect}

@@ -4,14 +4,14 @@ use Rattle.std.proofs.Math.Decide.{ℕ_discrete}
 use Rattle.std.proofs.lemmas.Option.{slice_get_within}
 use Rattle.geo_base.specs.declared.shapes.Rect.{Rect}
 use Rattle.geo_base.specs.declared.shapes.Square.{Square}
-use Rattle.flat_layout.specs.Gates.{Geometry, Rule, InGate, IsGateBelow, IsListedGate, IsSettled, geometry}
+use Rattle.flat_layout.specs.Gates.{Geometry, Rule, IsGateBelow, IsListedGate, IsSettled, geometry}
 use Rattle.flat_layout.specs.Layout.{Design}
 use Rattle.flat_layout.specs.Parts.{IsLeast}
 use Rattle.flat_layout.specs.Plane.{IsSquareBefore}
 use Rattle.flat_layout.specs.Regions.{Wiring}
 use Rattle.gate_shapes.specs.PartLists.{AreParts}
 use Rattle.gate_shapes.specs.Sets.{in_set}
-use Rattle.gate_search.specs.SearchLaws.{IsSearch, IsTold}
+use Rattle.gate_search.specs.SearchLaws.{IsSearch}
 use Rattle.gate_search.proofs.Searching.{found_law, known_law, part_law}
 use Rattle.cell_graph.specs.Linked.{Linked, IsSound, plain}
 use Rattle.gate_phase.proofs.Keeping.{kept_held}

@@ -1,5 +1,5 @@
 -- Seeds are among what was pushed.
-use Rattle.std.proofs.Common.{◌≡◌, inl, inr, ℕ, zero, suc, pos, ◌<◌, ◌^◌, Bool, true, ◌++◌, List, [], ◌∷◌, Option, Some, None, slice_get, get_or, length, refl, sym, ◌∙◌, ap, subst, arith}
+use Rattle.std.proofs.Common.{◌≡◌, inl, inr, ℕ, zero, suc, ◌<◌, ◌^◌, Bool, true, ◌++◌, List, [], ◌∷◌, Option, Some, None, slice_get, get_or, length, refl, sym, ◌∙◌, ap, subst, arith}
 use Rattle.std.proofs.lemmas.Int.{ints}
 use Rattle.std.proofs.lemmas.Option.{slice_get_within}
 use Rattle.geo_base.specs.Motions.{moved_square}
@@ -19,25 +19,23 @@ use Rattle.flat_layout.specs.Regions.{formula}
 use Rattle.flat_layout.specs.Seeds.{IsInReach, IsOwnSeed, IsPlacedSeed, IsSeed}
 use Rattle.flat_laws.proofs.Cover.{reached_below}
 use Rattle.cell_graph.specs.declared.cells.Place.{Place}
-use Rattle.cell_graph.specs.Linked.{Linked, IsSound, IsStep, IsFrame, IsHull, IsRectWithin, HullHas, HullIsSound, hull_of, cell_at, places_at, own_of, motion_at, plain, reference}
+use Rattle.cell_graph.specs.Linked.{Linked, IsSound, IsStep, IsHull, IsRectWithin, HullHas, HullIsSound, hull_of, cell_at, places_at, motion_at, plain, reference}
 use Rattle.cell_graph.proofs.Bridge.{own, hulls, hull_sound, has_in, in_has, inside_has, maps, placed_of, reference_at, step_of}
 use Rattle.cell_context.specs.Arrays.{IsNearArray}
 use Rattle.cell_context.proofs.Collecting.{near_array}
 use Rattle.cell_context.proofs.Reaching.{element_within}
 use Rattle.rule_text.specs.Rules.{Rules}
 use Rattle.rule_text.specs.Sound as rules
-use Rattle.rule_text.specs.declared.rules.LayerRule.{LayerRule}
 use Rattle.rule_text.specs.declared.rules.MosRule.{MosRule}
 use Rattle.rule_layers.specs.Formulas.{formulas}
 use Rattle.rule_layers.specs.Meaning.{device_rule, device_rules, wiring_of}
 use Rattle.rule_layers.proofs.Wired.{conductors, terminals}
 use Rattle.deep_tables.specs.declared.zones.CellZones.{CellZones}
-use Rattle.deep_tables.specs.declared.zones.ZoneKey.TheVariants.{Device}
 use Rattle.deep_tables.specs.Frames.{IsFramedZone, IsInGrown, grown}
-use Rattle.deep_tables.specs.Zones.{AreZones, zone_of}
+use Rattle.deep_tables.specs.Zones.{AreZones}
 use Rattle.deep_tables.proofs.Framing.{framed}
 use Rattle.deep_tables.proofs.Reading.{device_zone_at}
-use Rattle.gate_phase.specs.Close.{AreOpen, HasOpen, HasOpenBelow}
+use Rattle.gate_phase.specs.Close.{AreOpen, HasOpenBelow}
 use Rattle.gate_phase.specs.Kept.{HoldsNear}
 use Rattle.gate_phase.specs.Reads.{AreRead, mos_keys}
 use Rattle.gate_phase.specs.Seeding.{BringsOpen, BringsOwn}

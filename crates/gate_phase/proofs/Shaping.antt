@@ -1,23 +1,14 @@
 -- What is kept close to a settled gate is what is flat there.
-use Rattle.std.proofs.Common.{◌≡◌, ◌↔◌, ℕ, ◌<◌, List, [], Option, Some, slice_get, get_or, length, sym, ◌∙◌, ap, subst, arith}
-use Rattle.std.proofs.lemmas.Option.{slice_get-get_or}
+use Rattle.std.proofs.Common.{◌↔◌, ℕ, List}
 use Rattle.geo_base.specs.declared.shapes.Rect.{Rect}
 use Rattle.geo_base.specs.declared.shapes.Square.{Square}
 use Rattle.flat_layout.specs.Gates.{Geometry, IsGateOrRing, IsReadBy}
-use Rattle.flat_layout.specs.Layers.{Formula, Empty, InFlat, IsKept}
+use Rattle.flat_layout.specs.Layers.{Formula, InFlat, IsKept}
 use Rattle.flat_layout.specs.Layout.{Design}
 use Rattle.flat_laws.proofs.Terminals.{keep}
-use Rattle.cell_graph.specs.Linked.{Linked, plain}
-use Rattle.rule_text.specs.Rules.{Rules}
-use Rattle.rule_layers.specs.Formulas.{formulas}
-use Rattle.deep_tables.specs.Layers.{AreLayers}
-use Rattle.deep_tables.specs.declared.layers.CellLayers.{CellLayers}
-use Rattle.deep_tables.proofs.Reading.{layer_at}
 use Rattle.gate_search.specs.Gather.{AreMet}
 use Rattle.gate_shapes.specs.Sets.{in_set}
-use Rattle.gate_phase.specs.Kept.{HasLocals}
 use Rattle.gate_phase.specs.Shape.{IsGatePart}
-use Rattle.gate_phase.proofs.Marking.{count_behind}
 use Rattle.gate_phase.proofs.Telling.{kept_flat}
 
 -- close to a settled gate the cell keeps exactly the flat squares of what the rule reads

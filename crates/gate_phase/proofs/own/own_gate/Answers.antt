@@ -1,11 +1,8 @@
-use Rattle.std.proofs.Common.{◌≡◌, ◌∙◌, true, false, refl, sym, ap, subst, Some, slice_get, length}
-use Rattle.std.proofs.lemmas.Option.{slice_get-get_or}
+use Rattle.std.proofs.Common.{refl, subst}
 use Rattle.geo_base.specs.declared.shapes.Square.{Square}
 use Rattle.rect_sets.specs.Rects.{IsCanonical}
-use Rattle.flat_layout.specs.Gates.{geometry}
 use Rattle.cell_graph.specs.Linked.{plain}
 use Rattle.rule_text.specs.Seen.{rules_seen}
-use Rattle.rule_layers.specs.Meaning.{device_rule, device_rules, wiring_of}
 use Rattle.gate_shapes.specs.Sets.{in_set}
 use Rattle.gate_phase.specs.Own.{unit_window}
 use Rattle.gate_phase.proofs.Holding.{close_near, close_windows, held_near, unit_has, unit_near}

@@ -1,12 +1,11 @@
-use Rattle.std.proofs.Common.{◌≡◌, ◌∷◌, [], ◌++◌, ◌+◌, ◌∙◌, ℕ, List, Some, length, length-append, slice_get, refl, sym, ap, subst, append_assoc, append-nil, arith}
+use Rattle.std.proofs.Common.{◌≡◌, ◌∷◌, [], ◌++◌, ◌+◌, ◌∙◌, List, Some, length, length-append, slice_get, sym, ap, subst, append_assoc, append-nil, arith}
 use Rattle.std.specs.Vec.Iter.{into_iter_items}
 use Rattle.geo_base.specs.declared.shapes.Rect.{Rect}
-use Rattle.flat_layout.specs.Gates.{Rule, geometry}
+use Rattle.flat_layout.specs.Gates.{geometry}
 use Rattle.cell_graph.specs.Linked.{plain}
 use Rattle.rule_text.specs.Seen.{rules_seen}
 use Rattle.rule_layers.specs.Meaning.{wiring_of}
 use Rattle.gate_search.specs.SearchLaws.{IsSearch}
-use Rattle.gate_phase.specs.Own.{AddsPart}
 use Rattle.gate_phase.proofs.Locals.{reached_cell}
 use Rattle.gate_phase.proofs.Owning.{SoFar, all_so_far, held_part, item_here, nothing_left, so_far_more, told_part}
 use Rattle.gate_phase.proofs.Seeding.{some_rule}
