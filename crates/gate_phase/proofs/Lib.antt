@@ -9,6 +9,7 @@ pub mod Locals
 pub mod Marking
 pub mod Owning
 pub mod Results
+pub mod RowsOf
 pub mod Seeding
 pub mod Shaping
 pub mod Telling

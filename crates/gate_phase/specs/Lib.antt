@@ -4,6 +4,7 @@ pub mod Kept
 pub mod Layer
 pub mod Own
 pub mod Reads
+pub mod Rows
 pub mod Search
 pub mod Seeding
 pub mod Shape

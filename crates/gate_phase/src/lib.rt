@@ -3,6 +3,7 @@
 
 mod below;
 mod close;
+mod entries;
 mod frame;
 mod kept;
 mod layer;
@@ -14,6 +15,7 @@ mod shape;
 
 pub use below::is_below;
 pub use close::{close_to, is_undisturbed};
+pub use entries::entry_laws;
 pub use kept::{kept_in, kept_rects};
 pub use layer::KeptLayer;
 pub use own::{OwnGate, own_gates};
