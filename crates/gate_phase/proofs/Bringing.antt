@@ -1,9 +1,9 @@
 -- Images of rectangles through the elements of an array, one visit after another.
-use Rattle.std.proofs.Common.{◌≡◌, ◌<◌, ◌^◌, ℕ, true, false, Bool, ◌&&◌, ◌++◌, List, [], ◌∷◌, Option, Some, inl, inr, zero, suc, slice_index_or, length, refl, sym, ◌∙◌, ap, subst, arith}
+use Rattle.std.proofs.Common.{◌≡◌, ◌<◌, ◌^◌, ℕ, true, false, ◌&&◌, ◌++◌, List, [], ◌∷◌, inl, inr, suc, slice_index_or, length, sym, ◌∙◌, subst, arith}
 use Rattle.std.specs.List.{All}
 use Rattle.std.proofs.lemmas.Int.{ints}
 use Rattle.std.proofs.lemmas.List.Elements.{All-append}
-use Rattle.geo_base.specs.Near.{IsNearRect, IsNearSquare}
+use Rattle.geo_base.specs.Near.{IsNearRect}
 use Rattle.geo_base.specs.Motions.{moved_square}
 use Rattle.geo_base.specs.Rects.{has, IsRect}
 use Rattle.geo_base.specs.declared.layer.LayerKey.{LayerKey}
@@ -24,7 +24,7 @@ use Rattle.cell_context.proofs.Visiting.{and_both, inside_from, within_inside, n
 use Rattle.cell_context.proofs.Gathering.{Adds, some_at}
 use Rattle.gate_phase.specs.Kept.{HoldsNear}
 use Rattle.gate_phase.specs.Seeding.{Brings}
-use Rattle.gate_phase.proofs.Keeping.{held_rect, listed_has, one_of}
+use Rattle.gate_phase.proofs.Keeping.{held_rect, listed_has}
 
 -- the visit's images are covered in the window
 abbrev pub BringsVisit : List Rect → Rect → List Rect → Visit → Type 0

@@ -1,5 +1,5 @@
 -- What is close to a part.
-use Rattle.std.proofs.Common.{◌≡◌, ◌↔◌, true, map, List, sym, ◌∙◌, ap}
+use Rattle.std.proofs.Common.{◌≡◌, ◌↔◌, map, List, sym, ◌∙◌, ap}
 use Rattle.geo_base.specs.declared.shapes.Rect.{Rect}
 use Rattle.geo_base.specs.declared.shapes.Square.{Square}
 use Rattle.rect_sets.specs.Rects.{IsCanonical, covers}

@@ -3,7 +3,6 @@ use Rattle.std.proofs.Common.{◌≡◌, ℕ, List, subst}
 use Rattle.geo_base.specs.declared.shapes.Rect.{Rect}
 use Rattle.geo_base.specs.declared.shapes.Square.{Square}
 use Rattle.flat_layout.specs.Layers.{IsKept}
-use Rattle.flat_layout.specs.Parts.{IsStep}
 use Rattle.cell_graph.specs.Linked.{Linked, IsSound, plain}
 use Rattle.rule_text.specs.declared.rules.RuleSet.{RuleSet}
 use Rattle.gate_search.specs.Gather.{IsGatheredAround}

@@ -1,7 +1,6 @@
 -- What a cell keeps, from what it holds itself and from visits.
-use Rattle.std.proofs.Common.{◌≡◌, ◌⊎◌, inl, inr, ℕ, zero, suc, ◌<◌, ◌+◌, ◌^◌, List, [], ◌∷◌, ◌++◌, Option, Some, None, Bool, true, false, ◌&&◌, ◌||◌, slice_index_or, length, take, refl, sym, ◌∙◌, ap, subst, arith}
+use Rattle.std.proofs.Common.{◌≡◌, inl, inr, ℕ, ◌<◌, ◌+◌, ◌^◌, List, [], ◌∷◌, ◌++◌, Option, Some, None, Bool, true, false, ◌&&◌, slice_index_or, length, take, refl, sym, ◌∙◌, ap, subst, arith}
 use Rattle.std.specs.List.{All}
-use Rattle.geo_base.specs.Near.{IsNearRect}
 use Rattle.geo_base.specs.Motions.{moved_square}
 use Rattle.geo_base.specs.Rects.{has, IsRect}
 use Rattle.geo_base.specs.declared.motion.Motion.{Motion}
@@ -16,19 +15,18 @@ use Rattle.std.proofs.lemmas.List.{take_more}
 use Rattle.flat_layout.specs.Arrays.{place_at}
 use Rattle.flat_layout.specs.Layout as flat
 use Rattle.flat_layout.specs.Layout.{IsReached, Some_of}
-use Rattle.flat_layout.specs.Layers.{Formula, Input, Empty, Binary, IsKept, IsKeptBelow, IsLocal}
+use Rattle.flat_layout.specs.Layers.{Formula, Input, Empty, Binary, IsKept, IsKeptBelow}
 use Rattle.flat_layout.specs.Values.{IsLocalLayer}
 use Rattle.flat_laws.proofs.Cover.{reached_below, kept_above, kept_here}
 use Rattle.flat_laws.proofs.Names.{under_input}
-use Rattle.cell_graph.specs.declared.cells.Place.{Place}
-use Rattle.cell_graph.specs.Linked.{Linked, IsSound, IsInside, IsRectWithin, HullHas, HullIsSound, hull_of, cell_at, motion_at, plain, reference}
+use Rattle.cell_graph.specs.Linked.{Linked, IsSound, IsRectWithin, HullHas, HullIsSound, hull_of, cell_at, motion_at, plain, reference}
 use Rattle.cell_graph.proofs.Bridge.{hulls, hull_sound, inside_has, in_has, or_split, or_left, or_right, placed_of, step_of}
 use Rattle.cell_context.specs.declared.arrays.Visit.{Visit}
 use Rattle.cell_context.specs.Visits.{IsVisited}
 use Rattle.cell_context.specs.Over.{IsVisit, AreVisited, IsPiece}
-use Rattle.cell_context.proofs.Collecting.{and_right, covers_more}
+use Rattle.cell_context.proofs.Collecting.{covers_more}
 use Rattle.cell_context.proofs.Gathering.{Adds, some_at}
-use Rattle.cell_context.proofs.Visiting.{and_both, inside_from, within_inside, near_rect, wider_rect}
+use Rattle.cell_context.proofs.Visiting.{and_both, inside_from, within_inside, wider_rect}
 use Rattle.deep_tables.specs.declared.layers.CellLayers.{CellLayers}
 use Rattle.deep_tables.specs.Layers.{layer_of}
 use Rattle.gate_search.specs.Gather.{AreMet}

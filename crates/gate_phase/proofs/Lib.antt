@@ -2,9 +2,14 @@ pub mod Bringing
 pub mod Closing
 pub mod Freeing
 pub mod Gathering
+pub mod Grounding
+pub mod Holding
 pub mod Keeping
 pub mod Locals
 pub mod Marking
+pub mod Owning
 pub mod Results
+pub mod RowsOf
 pub mod Seeding
+pub mod Shaping
 pub mod Telling

@@ -1,12 +1,11 @@
 -- What the tables have of a reached cell.
-use Rattle.std.proofs.Common.{◌≡◌, ℕ, zero, suc, ◌<◌, ◌^◌, true, false, Bool, ◌&&◌, List, [], ◌∷◌, Option, Some, None, slice_get, get_or, length, sym, ◌∙◌, ap, subst, arith}
+use Rattle.std.proofs.Common.{◌≡◌, ℕ, zero, suc, ◌<◌, ◌^◌, true, false, ◌&&◌, List, [], ◌∷◌, Option, Some, None, get_or, length, sym, ◌∙◌, subst, arith}
 use Rattle.std.specs.List.{All}
 use Rattle.std.proofs.lemmas.Option.{slice_get-get_or}
 use Rattle.geo_base.specs.Rects.{has}
 use Rattle.geo_base.specs.declared.shapes.Rect.{Rect}
 use Rattle.geo_base.specs.declared.shapes.Square.{Square}
 use Rattle.rect_sets.specs.Near.{HasNearCorners}
-use Rattle.rect_sets.specs.Rects.{covers}
 use Rattle.flat_layout.specs.Layers.{Formula, Empty, IsKept}
 use Rattle.flat_layout.specs.Layout.{Design, IsReached}
 use Rattle.cell_graph.specs.Linked.{Linked, IsSound, HullHas, HullIsSound, cell_at, hull_of, plain}
@@ -42,7 +41,7 @@ hull_plane : (o : Option Rect) (q : Square) (plane : Rect) → HullIsSound o →
 hull_plane None q plane sound all h = absurd h
 hull_plane (Some w) q plane sound all h = inside_has w plane q (all w (wider_rect (2 ^ 30) (2 ^ 39) w (omega arith) sound.near)) h
 
-hull_corners : (o : Option Rect) (q : Square) → HullIsSound o → HullHas o q → HasNearCorners q
+pub hull_corners : (o : Option Rect) (q : Square) → HullIsSound o → HullHas o q → HasNearCorners q
 hull_corners None q sound h = absurd h
 hull_corners (Some w) q sound h = near_corners w q (wider_rect (2 ^ 30) (2 ^ 39) w (omega arith) sound.near) h
 

@@ -1,5 +1,5 @@
 -- Seeds are among what was pushed.
-use Rattle.std.proofs.Common.{◌≡◌, inl, inr, ℕ, pos, ◌<◌, ◌^◌, Bool, true, ◌++◌, List, Option, Some, None, slice_get, get_or, length, sym, ◌∙◌, ap, subst, arith}
+use Rattle.std.proofs.Common.{◌≡◌, inl, inr, ℕ, zero, suc, ◌<◌, ◌^◌, Bool, true, ◌++◌, List, [], ◌∷◌, Option, Some, None, slice_get, get_or, length, refl, sym, ◌∙◌, ap, subst, arith}
 use Rattle.std.proofs.lemmas.Int.{ints}
 use Rattle.std.proofs.lemmas.Option.{slice_get_within}
 use Rattle.geo_base.specs.Motions.{moved_square}
@@ -19,25 +19,23 @@ use Rattle.flat_layout.specs.Regions.{formula}
 use Rattle.flat_layout.specs.Seeds.{IsInReach, IsOwnSeed, IsPlacedSeed, IsSeed}
 use Rattle.flat_laws.proofs.Cover.{reached_below}
 use Rattle.cell_graph.specs.declared.cells.Place.{Place}
-use Rattle.cell_graph.specs.Linked.{Linked, IsSound, IsStep, IsFrame, IsHull, IsRectWithin, HullHas, HullIsSound, hull_of, cell_at, places_at, own_of, motion_at, plain, reference}
+use Rattle.cell_graph.specs.Linked.{Linked, IsSound, IsStep, IsHull, IsRectWithin, HullHas, HullIsSound, hull_of, cell_at, places_at, motion_at, plain, reference}
 use Rattle.cell_graph.proofs.Bridge.{own, hulls, hull_sound, has_in, in_has, inside_has, maps, placed_of, reference_at, step_of}
 use Rattle.cell_context.specs.Arrays.{IsNearArray}
 use Rattle.cell_context.proofs.Collecting.{near_array}
 use Rattle.cell_context.proofs.Reaching.{element_within}
 use Rattle.rule_text.specs.Rules.{Rules}
 use Rattle.rule_text.specs.Sound as rules
-use Rattle.rule_text.specs.declared.rules.LayerRule.{LayerRule}
 use Rattle.rule_text.specs.declared.rules.MosRule.{MosRule}
 use Rattle.rule_layers.specs.Formulas.{formulas}
 use Rattle.rule_layers.specs.Meaning.{device_rule, device_rules, wiring_of}
 use Rattle.rule_layers.proofs.Wired.{conductors, terminals}
 use Rattle.deep_tables.specs.declared.zones.CellZones.{CellZones}
-use Rattle.deep_tables.specs.declared.zones.ZoneKey.TheVariants.{Device}
 use Rattle.deep_tables.specs.Frames.{IsFramedZone, IsInGrown, grown}
-use Rattle.deep_tables.specs.Zones.{AreZones, zone_of}
+use Rattle.deep_tables.specs.Zones.{AreZones}
 use Rattle.deep_tables.proofs.Framing.{framed}
 use Rattle.deep_tables.proofs.Reading.{device_zone_at}
-use Rattle.gate_phase.specs.Close.{AreOpen, HasOpen, HasOpenBelow}
+use Rattle.gate_phase.specs.Close.{AreOpen, HasOpenBelow}
 use Rattle.gate_phase.specs.Kept.{HoldsNear}
 use Rattle.gate_phase.specs.Reads.{AreRead, mos_keys}
 use Rattle.gate_phase.specs.Seeding.{BringsOpen, BringsOwn}
@@ -53,7 +51,7 @@ keys_same r n m sound at =
     ∙ ap (λ x. inputs a ++ (inputs b ++ (inputs w ++ (inputs (formula (wiring_of r) m.ts) ++ (inputs (formula (wiring_of r) m.tg) ++ inputs x))))) tb
 
 -- around a square of a hull lies the grown hull
-around_grown : (o : Option Rect) (a q : Square) → HullHas o a → IsAround a q → IsInGrown o q
+pub around_grown : (o : Option Rect) (a q : Square) → HullHas o a → IsAround a q → IsInGrown o q
 around_grown None a q h near = h
 around_grown (Some r) a q h near =
     let i = has_in r a h in let i0 = i.0 in let i1 = i.1 in let i2 = i.2 in let i3 = i.3 in
@@ -79,7 +77,7 @@ open_at d r z cell device u sound right reached at =
 pub reached_step : (d : Linked) (cell i row column : ℕ) (p : Place) → IsReached (plain d) cell → IsStep d cell i row column p → IsReached (plain d) p.cell
 reached_step d cell i row column p reached step = reached_below (plain d) cell _ (place_at (reference p) row column) reached (placed_of d cell i row column p step)
 
-grown_within : (r : Rect) → IsHull r → IsRectWithin (2 ^ 31) (grown r)
+pub grown_within : (r : Rect) → IsHull r → IsRectWithin (2 ^ 31) (grown r)
 grown_within r h =
     let a = h.near.x1.low in let b = h.near.x1.high in let c = h.near.y1.low in let e = h.near.y1.high in
     let f = h.near.x2.low in let g = h.near.x2.high in let i = h.near.y2.low in let j = h.near.y2.high in
@@ -143,3 +141,15 @@ rule_there r device m e = maps (device_rule r) r.devices device m e
 
 pub one_rule : (o : Option Rule) (a b : Rule) → o ≡ Some a → o ≡ Some b → a ≡ b
 one_rule o a b e f = let g : Some a ≡ Some b = sym e ∙ f in cc
+
+pub some_rule : (r : Rules) (device : ℕ) → device < length r.devices → (u : Rule) × (slice_get (device_rules r) device ≡ Some u)
+some_rule r device lt = by (slice_get r.devices device) refl
+  where
+    get_within : {A : Type 0} (xs : List A) (k : ℕ) → k < length xs → slice_get xs k ≡ None → ⊥
+    get_within [] k lt e = let z : ⊥ = omega arith in z
+    get_within (x ∷ xs) zero lt e = let f : Some x ≡ None = e in let z : ⊥ = cc in z
+    get_within (x ∷ xs) (suc k) lt e = get_within xs k (omega arith) e
+
+    by : (o : Option MosRule) → slice_get r.devices device ≡ o → (u : Rule) × (slice_get (device_rules r) device ≡ Some u)
+    by None e = absurd (get_within r.devices device lt e)
+    by (Some m) e = (device_rule r m, rule_there r device m e)

@@ -1,18 +1,17 @@
 -- Which parts are settled gates, and which of these come from below.
-use Rattle.std.proofs.Common.{◌≡◌, ◌↔◌, inl, inr, ℕ, true, List, Option, Some, None, slice_get, refl, sym, ◌∙◌, ap, subst}
+use Rattle.std.proofs.Common.{◌≡◌, ◌↔◌, ℕ, true, List, Option, Some, None, slice_get, refl, sym, ◌∙◌, subst}
 use Rattle.geo_base.specs.Motions.{moved_square}
 use Rattle.geo_base.specs.Rects.{has}
-use Rattle.geo_base.specs.declared.layer.LayerKey.{LayerKey}
 use Rattle.geo_base.specs.declared.shapes.Rect.{Rect}
 use Rattle.geo_base.specs.declared.shapes.Square.{Square}
 use Rattle.rect_sets.specs.Rects.{covers}
 use Rattle.flat_layout.specs.Arrays.{place_at}
-use Rattle.flat_layout.specs.Gates.{Geometry, Rule, InGate, IsGateBelow, IsGateOrRing, IsSettled, gate_inputs, geometry}
+use Rattle.flat_layout.specs.Gates.{Geometry, Rule, IsGateBelow, IsGateOrRing, IsSettled, geometry}
 use Rattle.flat_layout.specs.Layers.{Formula, Input, Empty, Binary, InFlat, IsKept}
 use Rattle.flat_layout.specs.Layout as flat
 use Rattle.flat_layout.specs.Layout.{IsDisturbed, IsReached}
 use Rattle.flat_layout.specs.Parts.{IsCloseTo}
-use Rattle.flat_layout.specs.Seeds.{IsGateThrough, IsInReach, IsStillGeometry}
+use Rattle.flat_layout.specs.Seeds.{IsGateThrough, IsStillGeometry}
 use Rattle.flat_laws.proofs.Names.{under_input}
 use Rattle.flat_laws.proofs.Once.{gate_self}
 use Rattle.flat_laws.proofs.Seeds.{below, gate_still, reach, test}
@@ -21,15 +20,14 @@ use Rattle.cell_graph.proofs.Bridge.{hulls, placed_of, step_of}
 use Rattle.rule_text.specs.Rules.{Rules}
 use Rattle.rule_layers.specs.Meaning.{device_rules, wiring_of}
 use Rattle.deep_tables.specs.declared.zones.CellZones.{CellZones}
-use Rattle.deep_tables.specs.Frames.{IsFramedZone, IsInGrown, grown}
+use Rattle.deep_tables.specs.Frames.{IsInGrown, grown}
 use Rattle.deep_tables.specs.Zones.{AreZones}
 use Rattle.gate_shapes.specs.Sets.{in_set}
 use Rattle.gate_shapes.proofs.PartsOf.{end_in}
 use Rattle.gate_search.specs.SearchLaws.{IsSearch, IsTold}
-use Rattle.gate_search.proofs.Searching.{part_law}
-use Rattle.gate_phase.specs.Below.{IsFreeElement, IsFreeIn}
+use Rattle.gate_phase.specs.Below.{IsFreeElement}
 use Rattle.gate_phase.specs.Close.{AreOpen, MissesOpen}
-use Rattle.gate_phase.proofs.Seeding.{IsOpenZone, open_at, reach_grown, reached_step}
+use Rattle.gate_phase.proofs.Seeding.{open_at, reach_grown, reached_step}
 
 pub kept_flat : (d : flat.Design) (cell : ℕ) (x : Formula) (q : Square) → IsKept d cell x q → InFlat d cell x q
 kept_flat d cell (Input key) q h = h

@@ -1,5 +1,5 @@
 -- What a cell keeps of a name, as one value.
-use Rattle.std.specs.Prelude.{ℕ, ◌<◌, List, Option, length, get_or}
+use Rattle.std.specs.Prelude.{ℕ, ◌<◌, length, get_or}
 use Rattle.geo_base.specs.declared.shapes.Square.{Square}
 use Rattle.rect_sets.specs.Near.{HasNearCorners}
 use Rattle.flat_layout.specs.Layers.{Formula, Empty, IsKept}
@@ -9,7 +9,6 @@ use Rattle.rule_text.specs.Seen.{rules_seen}
 use Rattle.rule_text.specs.declared.rules.RuleSet.{RuleSet}
 use Rattle.rule_layers.specs.Formulas.{formulas}
 use Rattle.deep_tables.specs.Layers.{AreLayers}
-use Rattle.deep_tables.specs.declared.layers.CellLayers.{CellLayers}
 use Rattle.gate_phase.specs.declared.layer.KeptLayer.TheInside.{Inside}
 
 pub record KeptOf : Type 0 where

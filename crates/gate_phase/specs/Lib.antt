@@ -2,6 +2,9 @@ pub mod Below
 pub mod Close
 pub mod Kept
 pub mod Layer
+pub mod Own
 pub mod Reads
+pub mod Rows
 pub mod Search
 pub mod Seeding
+pub mod Shape

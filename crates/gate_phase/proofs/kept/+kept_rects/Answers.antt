@@ -1,14 +1,11 @@
-use Rattle.std.proofs.Common.{◌≡◌, ◌<◌, ◌^◌, ℕ, List, None, Some, true, arith, refl, sym, subst, ◌∙◌, slice_index_or}
+use Rattle.std.proofs.Common.{◌≡◌, List, None, true, arith, refl, sym, subst, ◌∙◌, slice_index_or}
 use Rattle.std.specs.List.{All}
 use Rattle.std.specs.Option.{IsSome}
-use Rattle.geo_base.specs.Near.{IsNearRect}
-use Rattle.geo_base.specs.Rects.{has}
 use Rattle.geo_base.specs.declared.shapes.Rect.{Rect}
 use Rattle.rect_sets.specs.Rects.{IsListed, covers}
-use Rattle.cell_graph.specs.Linked.{plain}
 use Rattle.cell_context.specs.declared.arrays.Visit.{Visit}
 use Rattle.cell_context.specs.Over.{IsVisit, AreVisited}
-use Rattle.cell_context.proofs.Visiting.{near_rect, up_to}
+use Rattle.cell_context.proofs.Visiting.{up_to}
 use Rattle.cell_context.proofs.Gathering.{no_visit, visit_lower, visit_motion, visit_window, stays_there, Adds}
 use Rattle.deep_tables.specs.Layers.{layer_of}
 use Rattle.gate_phase.proofs.Keeping.{Brings, brings_here, one_layer, one_window, chosen_kept, chosen_pieces, met_window, piece_near, right_more, visit_reached}

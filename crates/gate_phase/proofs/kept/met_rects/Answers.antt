@@ -1,4 +1,4 @@
-use Rattle.std.proofs.Common.{◌≡◌, ◌∙◌, subst, sym, ap, List}
+use Rattle.std.proofs.Common.{◌∙◌, subst, ap, List}
 use Rattle.std.proofs.lemmas.List.{take_all}
 use Rattle.geo_base.specs.declared.shapes.Rect.{Rect}
 use Rattle.rect_sets.specs.Rects.{IsListed, covers}

@@ -1,4 +1,4 @@
-use Rattle.std.proofs.Common.{◌≡◌, ◌<◌, ◌+◌, ◌-◌, ◌++◌, ◌∙◌, ℕ, Some, Bool, List, true, false, ap, sym, subst, arith, length, slice_get, slice_index_or, take, drop}
+use Rattle.std.proofs.Common.{◌≡◌, ◌<◌, ◌+◌, ◌-◌, ◌++◌, ◌∙◌, Some, Bool, List, true, false, ap, sym, subst, arith, length, slice_get, slice_index_or, take, drop}
 use Rattle.std.proofs.lemmas.Option.{slice_get-get_or}
 use Rattle.gate_phase.specs.Reads.{AreClosed, IsMarked, IsReadBy, MarksMore}
 use Rattle.gate_phase.proofs.Marking.{closed_more, closed_past, read_law, written}

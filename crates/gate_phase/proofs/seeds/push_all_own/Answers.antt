@@ -1,10 +1,7 @@
-use Rattle.std.proofs.Common.{◌≡◌, ◌∙◌, Some, true, ap, sym, subst, arith, length, slice_get, slice_index_or}
-use Rattle.std.proofs.Math.Decide.{ℕ_discrete}
+use Rattle.std.proofs.Common.{◌≡◌, ◌∙◌, Some, ap, sym, arith, slice_get}
 use Rattle.std.proofs.lemmas.Option.{slice_get-get_or}
 use Rattle.cell_graph.specs.Linked.{cell_at, own_of}
-use Rattle.rule_text.specs.declared.rules.LayerRule.{LayerRule}
-use Rattle.gate_phase.specs.Reads.{IsMarkedInput}
-use Rattle.gate_phase.specs.Seeding.{BringsOwn, Grows}
+use Rattle.gate_phase.specs.Seeding.{Grows}
 use Rattle.gate_phase.proofs.Marking.{inputs_more}
 use Rattle.gate_phase.proofs.seeds.push_all_own.Goals as goal
 

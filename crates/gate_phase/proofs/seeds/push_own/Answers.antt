@@ -1,4 +1,4 @@
-use Rattle.std.proofs.Common.{◌++◌, ◌∙◌, List, ap, subst, sym}
+use Rattle.std.proofs.Common.{◌++◌, ◌∙◌, List, subst, sym}
 use Rattle.std.specs.List.{All}
 use Rattle.geo_base.specs.Rects.{IsRect}
 use Rattle.geo_base.specs.declared.shapes.Rect.{Rect}

@@ -2,8 +2,6 @@ use Rattle.std.proofs.Common.{◌∙◌, sym, subst}
 use Rattle.cell_graph.specs.Linked.{HullIsSound}
 use Rattle.cell_graph.proofs.Bridge.{hull_sound, reference_at}
 use Rattle.cell_context.proofs.Collecting.{near_array}
-use Rattle.deep_tables.specs.Frames.{IsInGrown}
-use Rattle.gate_phase.proofs.Results.{on_ok}
 use Rattle.gate_phase.proofs.seeds.push_reference.Goals as goal
 
 pub push_part-requires-clause-near : goal.push_part-requires-clause-near

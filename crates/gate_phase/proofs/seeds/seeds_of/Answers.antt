@@ -1,13 +1,10 @@
 use Rattle.std.proofs.Common.{◌≡◌, ◌∙◌, Some, List, Bool, ap, sym, subst, length, slice_get}
 use Rattle.std.proofs.lemmas.Option.{slice_get-get_or}
-use Rattle.geo_base.specs.declared.shapes.Square.{Square}
-use Rattle.rect_sets.specs.Rects.{covers}
 use Rattle.flat_layout.specs.Gates.{Rule, gate_inputs}
 use Rattle.flat_layout.specs.Seeds.{IsSeed}
 use Rattle.cell_graph.specs.Linked.{plain}
 use Rattle.rule_text.specs.Seen.{rules_seen}
 use Rattle.rule_text.specs.declared.rules.LayerRule.{LayerRule}
-use Rattle.rule_text.specs.declared.rules.MosRule.{MosRule}
 use Rattle.rule_layers.specs.Meaning.{device_rule, device_rules, wiring_of}
 use Rattle.gate_phase.specs.Reads.{AreRead}
 use Rattle.gate_phase.specs.Seeding.{BringsOwn}

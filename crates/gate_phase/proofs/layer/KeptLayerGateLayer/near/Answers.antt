@@ -1,5 +1,4 @@
-use Rattle.std.proofs.Common.{◌≡◌, ◌^◌, ◌∷◌, [], List, sym, subst}
-use Rattle.std.specs.List.{All}
+use Rattle.std.proofs.Common.{◌^◌, ◌∷◌, [], List, sym, subst}
 use Rattle.geo_base.specs.declared.shapes.Rect.{Rect}
 use Rattle.cell_graph.specs.Linked.{IsRectWithin, plain}
 use Rattle.cell_context.proofs.Visiting.{within_inside}

@@ -1,0 +1,52 @@
+-- The row of a good gate of a cell's own, from the nets of four nodes.
+use Rattle.std.specs.Prelude.{◌≡◌, ℕ, List, Option, Some, None, slice_get}
+use Rattle.geo_base.specs.declared.shapes.Square.{Square}
+use Rattle.flat_layout.specs.Gates.{InGate, IsLeast, Rule, geometry, ground, sheets}
+use Rattle.flat_layout.specs.GateTables.{GateRow, IsGateEntry, IsGateRow, Verdict}
+use Rattle.flat_layout.specs.GateTables as verdict
+use Rattle.flat_layout.specs.Layout.{Design}
+use Rattle.flat_layout.specs.Nets.{NetHolds, Tables}
+use Rattle.flat_layout.specs.Regions.{At, Ground, Node, Wiring}
+use Rattle.gate_shapes.specs.Shapes.{IsShape, cause_of}
+use Rattle.gate_shapes.specs.declared.shape.GateForm.{GateForm}
+use Rattle.gate_shapes.specs.declared.shape.GateShape.{GateShape}
+use Rattle.gate_shapes.specs.declared.shape.GateShape.TheVariants.{Bad, Good}
+use Rattle.gate_phase.specs.Own.{IsOwnGate}
+use Rattle.gate_phase.specs.declared.own.OwnGate.{OwnGate}
+
+-- the node of the bulk: the global of its conductor, or the gate's least square on that
+abbrev pub bulk_node : Rule → Square → Option ℕ → Node
+bulk_node u least None = At u.tb least
+bulk_node u least (Some g) = Ground g
+
+-- these nets hold the least squares of the two groups and of the gate, and the bulk's node
+pub record HoldTerminals (d : Design) (w : Wiring) (t : Tables) (u : Rule) (cell : ℕ)
+    (least : Square) (f : GateForm) (row : GateRow) : Type 0 where
+  pub wide : row.twice_w ≡ f.twice_w
+  pub long : row.twice_l ≡ f.twice_l
+  pub source : NetHolds d t cell row.source (At u.ts f.source)
+  pub drain : NetHolds d t cell row.drain (At u.ts f.drain)
+  pub gate : NetHolds d t cell row.gate (At u.tg least)
+  pub bulk : NetHolds d t cell row.bulk (bulk_node u least (ground w u))
+
+-- then they are the row of the gate
+abbrev pub RowLaw : Type 0
+RowLaw = (d : Design) (w : Wiring) (t : Tables) (u : Rule) (cell : ℕ) (least : Square)
+    (f : GateForm) (row : GateRow)
+    → IsShape (sheets d w u cell) (InGate d (geometry w u) cell least) (Good f)
+    → IsLeast (InGate d (geometry w u) cell least) least
+    → HoldTerminals d w t u cell least f row → IsGateRow d w t u cell least row
+
+-- the verdict on a gate of this shape, where it is good over the nets of its terminals
+abbrev pub IsVerdictOf : Design → Wiring → Tables → Rule → ℕ → Square → GateShape → Verdict → Type 0
+IsVerdictOf d w t u cell least (Good f) v =
+    (row : GateRow) × (v ≡ verdict.Good row) × HoldTerminals d w t u cell least f row
+IsVerdictOf d w t u cell least (Bad c) v = v ≡ verdict.Bad (cause_of c)
+
+-- a gate of the cell's own, under its rule and its least square, with this verdict, is a right entry
+-- of the cell's list
+abbrev pub EntryLaw : Type 0
+EntryLaw = (d : Design) (w : Wiring) (t : Tables) (rules : List Rule) (n : ℕ) (u : Rule) (cell : ℕ)
+    (x : OwnGate) (v : Verdict) → slice_get rules n ≡ Some u → IsOwnGate d w u cell x
+    → IsVerdictOf d w t u cell x.least x.shape v
+    → IsGateEntry d w t rules cell (record { at = record { rule = n; square = x.least }; verdict = v })

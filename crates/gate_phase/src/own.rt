@@ -1,0 +1,174 @@
+//! The gates of a cell's own for a device rule.
+ghost use Rattle.std.specs.Prelude.{◌≡◌, ◌<◌, ◌^◌, ◌++◌, true, length, slice_get, Some, IfOk, OnOk};
+ghost use Rattle.geo_base.specs.Rects.{has};
+ghost use Rattle.rect_sets.specs.Near.{IsNearSet};
+ghost use Rattle.flat_layout.specs.Gates.{Rule, geometry};
+ghost use Rattle.flat_layout.specs.Parts.{IsLeast};
+ghost use Rattle.cell_graph.specs.Linked.{IsRectWithin, plain};
+ghost use Rattle.rule_text.specs.Seen.{rules_seen};
+ghost use Rattle.rule_layers.specs.Meaning.{device_rules, wiring_of};
+ghost use Rattle.gate_shapes.specs.Sets.{in_set};
+ghost use Rattle.gate_phase.specs.Close.{HasOpen, HasOpenBelow};
+ghost use Rattle.gate_phase.specs.Own.{AddsPart, AreOwnGates, IsHeldPart, IsOwnOr, IsReady};
+ghost use Rattle.gate_phase.specs.Own.{IsToldPart, IsUnitNear, TellsOwn, gates_in, unit_window};
+
+use crate::below::is_below;
+use crate::close::{close_to, is_undisturbed};
+use crate::search::parts_of;
+use crate::shape::shape_in;
+use cell_graph::Design;
+use deep_tables::{Layers, Zones};
+use gate_shapes::{GateShape, least};
+use geo_base::{Rect, Square};
+use rect_sets::RectSet;
+use rule_text::RuleSet;
+use std::alloc::{AllocError, Global};
+
+/// A gate of a cell's own: its squares, the first of these by y, then x, and its shape.
+#[derive(Drop)]
+pub struct OwnGate {
+    pub area: RectSet,
+    pub least: Square,
+    pub shape: GateShape,
+}
+
+// A square as a window.
+fn unit(square: Square) -> Rect
+    requires { IsUnitNear square }
+    ensures exact { result ≡ unit_window square }
+    ensures has { has result square ≡ true }
+    ensures near { IsRectWithin (2 ^ 39) result }
+{
+    Rect {
+        x1: square.x,
+        y1: square.y,
+        x2: square.x + 1,
+        y2: square.y + 1,
+    }
+}
+
+// Whether a part is a settled gate that doesn't come from below.
+fn is_own(
+    alloc: Global,
+    design: &Design,
+    zones: &Zones,
+    cell: u32,
+    device: u32,
+    close: &RectSet,
+    least: Square,
+) -> Result<bool, AllocError>
+    requires cell { cell < length design.now.cells }
+    requires near { IsNearSet close.now }
+    requires least { IsUnitNear least }
+    requires zone { HasOpen zones.now cell device }
+    requires zones { HasOpenBelow design.now zones.now cell device }
+    ensures { IfOk result (TellsOwn design.now zones.now cell device close.now least) }
+{
+    if !is_undisturbed(alloc, zones, cell, device, close)? {
+        return Ok(false);
+    }
+    let below = is_below(alloc, design, zones, cell, device, close, &unit(least))?;
+    Ok(!below)
+}
+
+// The gate that a part is, where it is one of the cell's own.
+fn own_gate(
+    alloc: Global,
+    design: &Design,
+    rules: &RuleSet,
+    zones: &Zones,
+    layers: &Layers,
+    cell: u32,
+    device: u32,
+    part: RectSet,
+    least: Square,
+) -> Result<Option<OwnGate>, AllocError>
+    requires ready { IsReady design.now (rules_seen rules.now) zones.now layers.now cell device }
+    requires held { IsHeldPart design.now cell part }
+    requires least { IsLeast (in_set part) least }
+    ensures { IfOk result (λ o. (u : Rule)
+        → slice_get (device_rules (rules_seen rules.now)) device ≡ Some u
+        → IsToldPart (plain design.now) (geometry (wiring_of (rules_seen rules.now)) u) cell part
+        → IsOwnOr (plain design.now) (wiring_of (rules_seen rules.now)) u cell part least o) }
+{
+    design.sound();
+    let close = close_to(alloc, &part)?;
+    if !is_own(alloc, design, zones, cell, device, &close, least)? {
+        return Ok(None);
+    }
+    let shape = shape_in(alloc, design, rules, layers, cell, device, &part, &close)?;
+    Ok(Some(OwnGate {
+        area: part,
+        least,
+        shape,
+    }))
+}
+
+// Adds a gate, if there is one.
+fn push_gate(gates: &mut Vec<OwnGate>, gate: Option<OwnGate>) -> Result<(), AllocError>
+    ensures { OnOk result (gates.new.items ≡ gates.old.items ++ gates_in gate) }
+{
+    if let Some(gate) = gate {
+        gates.push(gate)?;
+    }
+    Ok(())
+}
+
+// Adds the gate that a part is, where it is one of the cell's own.
+fn push_part(
+    alloc: Global,
+    gates: &mut Vec<OwnGate>,
+    design: &Design,
+    rules: &RuleSet,
+    zones: &Zones,
+    layers: &Layers,
+    cell: u32,
+    device: u32,
+    part: RectSet,
+) -> Result<(), AllocError>
+    requires ready { IsReady design.now (rules_seen rules.now) zones.now layers.now cell device }
+    requires held { IsHeldPart design.now cell part }
+    ensures { OnOk result ((u : Rule)
+        → slice_get (device_rules (rules_seen rules.now)) device ≡ Some u
+        → IsToldPart (plain design.now) (geometry (wiring_of (rules_seen rules.now)) u) cell part
+        → AddsPart (plain design.now) (wiring_of (rules_seen rules.now)) u cell part gates.old.items
+        gates.new.items) }
+{
+    match least(&part) {
+        Some(first) => {
+            let gate = own_gate(
+                alloc, design, rules, zones, layers, cell, device, part, first,
+            )?;
+            push_gate(gates, gate)
+        }
+        None => Ok(()),
+    }
+}
+
+/// The gates of a cell's own for a device rule, in order of their least squares, each with its
+/// shape. What placed cells hold themselves isn't looked at but where something of this cell, or
+/// something that disturbs a placed cell, lies beside it.
+pub fn own_gates(
+    alloc: Global,
+    design: &Design,
+    rules: &RuleSet,
+    zones: &Zones,
+    layers: &Layers,
+    cell: u32,
+    device: u32,
+) -> Result<Vec<OwnGate>, AllocError>
+    requires ready { IsReady design.now (rules_seen rules.now) zones.now layers.now cell device }
+    ensures { IfOk result (λ v. (u : Rule)
+        → slice_get (device_rules (rules_seen rules.now)) device ≡ Some u
+        → AreOwnGates (plain design.now) (wiring_of (rules_seen rules.now)) u cell v.items) }
+{
+    design.sound();
+    let mut gates = Vec::new(alloc);
+    let parts = parts_of(alloc, design, rules, zones, layers, cell, device)?;
+    for part in parts {
+        push_part(
+            alloc, &mut gates, design, rules, zones, layers, cell, device, part,
+        )?;
+    }
+    Ok(gates)
+}
