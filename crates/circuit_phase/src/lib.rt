@@ -1,6 +1,8 @@
 //! The circuit of each cell.
 #![tactic(auto)]
 
+mod drawn;
 mod names;
 
+pub use drawn::{drawn_names, drawn_nets, pin_nets};
 pub use names::{circuit_names, net_names};
