@@ -21,8 +21,8 @@ pub fn read_again()
     placeable();
 }
 
-/// An accepted library has data of their sizes and names without NULs at their ends, and so has each
-/// of its cells.
+/// An accepted library has data of their sizes and names without NULs at their ends; so has each of
+/// its cells.
 pub fn library_read()
     ensures { ReadLaw }
 {}
