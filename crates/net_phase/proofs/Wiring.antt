@@ -1,6 +1,9 @@
 -- What lines join.
-use Rattle.std.proofs.Common.{◌≡◌, ◌↔◌, ◌⊎◌, inl, inr, ℕ, suc, ◌+◌, ◌<◌, ◌||◌, Bool, true, false, cond, if◌then◌else◌, List, [], ◌∷◌, ◌++◌, map, get_or, length, take, refl, sym, ◌∙◌, ap, subst, arith}
-use Rattle.std.specs.List.{flat_map, list_any, position_or_len}
+use Rattle.std.proofs.Common.{◌≡◌, ◌↔◌, ◌⊎◌, inl, inr, ℕ, suc, ◌+◌, ◌<◌, ◌||◌, Bool, true, false, cond, if◌then◌else◌, List, [], ◌∷◌, ◌++◌, zero, map, get_or, length, take, refl, sym, ◌∙◌, ap, subst, arith}
+use Rattle.std.specs.List.{Contains, flat_map, list_any, position_or_len}
+use Rattle.std.specs.List.Sorted.{IsPermutation}
+use Rattle.std.proofs.lemmas.List.Elements.{Contains-append_left, Contains-push, Contains-push_cases}
+use Rattle.std.proofs.lemmas.List.Sorted.{Contains-permutation, IsPermutation-sym}
 use Rattle.std.specs.Prelude.{not}
 use Rattle.std.specs.Str.{bytes_eq}
 use Rattle.std.proofs.lemmas.Slice.Eq.{bytes_eq-Decides}
@@ -9,7 +12,7 @@ use Rattle.std.proofs.Math.Seq.{take-length}
 use Rattle.std.proofs.lemmas.List.{take_more}
 use Rattle.flat_layout.specs.Layout.{Some_of}
 use Rattle.flat_layout.specs.Regions.{Line, IsGrounded, IsJoined, Wiring}
-use Rattle.rule_layers.specs.Meaning.{conductor_formulas, globals_behind, globals_of, grounds_of, joins_of, line, wiring_of}
+use Rattle.rule_layers.specs.Meaning.{conductor_formulas, globals_behind, globals_of, grounds_of, line, wiring_of}
 use Rattle.rule_layers.specs.Formulas.{formula_by, formulas, formulas_behind}
 use Rattle.rule_text.specs.Rules.{Rules}
 use Rattle.rule_text.specs.declared.rules.LayerRule.{LayerRule}
@@ -26,13 +29,6 @@ some_map P f [] = ((λ h. h), (λ h. h))
 some_map P f (x ∷ xs) =
     let rest = some_map P f xs in
     ((λ h. elim h [ inl a ↦ inl a | inr b ↦ inr (rest.0 b) ]), (λ h. elim h [ inl a ↦ inl a | inr b ↦ inr (rest.1 b) ]))
-
-pub same_joins : (w : Wiring) (joins : List Joined) → map join_line joins ≡ w.joins → (c e : ℕ) → AreJoined joins c e ↔ IsJoined w c e
-same_joins w joins same c e =
-    let both = some_map (λ (l : Line). ((l.first ≡ c) × (l.second ≡ e)) ⊎ ((l.first ≡ e) × (l.second ≡ c))) join_line joins in (
-      (λ h. elim h [ inl a ↦ inl a | inr b ↦ inr (subst (λ (ls : List Line). Some_of (λ l. ((l.first ≡ c) × (l.second ≡ e)) ⊎ ((l.first ≡ e) × (l.second ≡ c))) ls) same (both.0 b)) ]),
-      (λ h. elim h [ inl a ↦ inl a | inr b ↦ inr (both.1 (subst (λ (ls : List Line). Some_of (λ l. ((l.first ≡ c) × (l.second ≡ e)) ⊎ ((l.first ≡ e) × (l.second ≡ c))) ls) (sym same) b)) ]),
-    )
 
 pub same_grounds : (w : Wiring) (lines : List Grounded) → map ground_line lines ≡ w.grounds → (c g : ℕ) → IsGroundedBy lines c g ↔ IsGrounded w c g
 same_grounds w lines same c g =
@@ -84,8 +80,8 @@ pub joins_more : (r : Rules) (lines : List (ℕ × ℕ)) (n : ℕ) (o : ℕ × �
 joins_more r lines n o old lt e =
     ap (λ (l : List Line). l ++ joined_by r (get_or lines n o)) e ∙ sym (ap (λ (l : List (ℕ × ℕ)). flat_map (joined_by r) l) (take_more lines n o lt) ∙ flat_last (joined_by r) (take n lines) (get_or lines n o))
 
-pub joins_all : (r : Rules) (n : ℕ) → n ≡ length r.connects → flat_map (joined_by r) (take n r.connects) ≡ joins_of r
-joins_all r n e = ap (λ l. flat_map (joined_by r) l) (ap (λ i. take i r.connects) e ∙ take-length r.connects)
+pub joins_all : (r : Rules) (n : ℕ) (lines : List (ℕ × ℕ)) → n ≡ length lines → flat_map (joined_by r) (take n lines) ≡ flat_map (joined_by r) lines
+joins_all r n lines e = ap (λ l. flat_map (joined_by r) l) (ap (λ i. take i lines) e ∙ take-length lines)
 
 -- globals by first line
 
@@ -198,3 +194,73 @@ pub grounds_all : (r : Rules) (n : ℕ) (names : List (List ℕ)) (lines : List 
 grounds_all r n names lines e h =
     let whole : AreGrounds r.globals names lines = subst (λ l. AreGrounds l names lines) (ap (λ i. take i r.globals) e ∙ take-length r.globals) h in
     (whole.are ∙ ap (λ l. lines_by l r.globals) whole.made, ap (λ (l : List (List ℕ)). length l) whole.made)
+
+-- lines, each once
+
+some_append : (P : Line → Type 0) (xs ys : List Line) → Some_of P (xs ++ ys) → Some_of P xs ⊎ Some_of P ys
+some_append P [] ys h = inr h
+some_append P (x ∷ xs) ys (inl h) = inl (inl h)
+some_append P (x ∷ xs) ys (inr h) = elim (some_append P xs ys h) [ inl a ↦ inl (inr a) | inr b ↦ inr b ]
+
+some_left : (P : Line → Type 0) (xs ys : List Line) → Some_of P xs → Some_of P (xs ++ ys)
+some_left P [] ys h = absurd h
+some_left P (x ∷ xs) ys (inl h) = inl h
+some_left P (x ∷ xs) ys (inr h) = inr (some_left P xs ys h)
+
+some_right : (P : Line → Type 0) (xs ys : List Line) → Some_of P ys → Some_of P (xs ++ ys)
+some_right P [] ys h = h
+some_right P (x ∷ xs) ys h = inr (some_right P xs ys h)
+
+some_by : (P : Line → Type 0) (f : ℕ × ℕ → List Line) (xs : List (ℕ × ℕ)) → Some_of P (flat_map f xs) → (x : ℕ × ℕ) × Contains xs x × Some_of P (f x)
+some_by P f [] h = absurd h
+some_by P f (y ∷ xs) h = elim (some_append P (f y) (flat_map f xs) h) [
+  | inl a ↦ (y, (0, omega arith, refl), a)
+  | inr b ↦ let r = some_by P f xs b in let lt = r.1.1 in (r.0, (suc r.1.0, omega (arith, lt), r.1.2), r.2)
+]
+
+some_of_one : (P : Line → Type 0) (f : ℕ × ℕ → List Line) (xs : List (ℕ × ℕ)) (k : ℕ) (x : ℕ × ℕ) → k < length xs → get_or xs k x ≡ x → Some_of P (f x) → Some_of P (flat_map f xs)
+some_of_one P f [] k x lt e h = absurd (let z : ⊥ = omega arith in z)
+some_of_one P f (y ∷ xs) zero x lt e h = some_left P (f y) (flat_map f xs) (subst (λ z. Some_of P (f z)) (sym e) h)
+some_of_one P f (y ∷ xs) (suc k) x lt e h = some_right P (f y) (flat_map f xs) (some_of_one P f xs k x (omega arith) e h)
+
+some_same : (P : Line → Type 0) (f : ℕ × ℕ → List Line) (xs ys : List (ℕ × ℕ)) → ((x : ℕ × ℕ) → Contains xs x → Contains ys x) → Some_of P (flat_map f xs) → Some_of P (flat_map f ys)
+some_same P f xs ys same h = let r = some_by P f xs h in let there = same r.0 r.1 in some_of_one P f ys there.0 r.0 there.1 there.2 r.2
+
+pub once_joins : (r : Rules) (joins : List Joined) (once : List (ℕ × ℕ)) → map join_line joins ≡ flat_map (joined_by r) once → ((x : ℕ × ℕ) → Contains once x ↔ Contains r.connects x) → (c e : ℕ) → AreJoined joins c e ↔ IsJoined (wiring_of r) c e
+once_joins r joins once are same c e =
+    let both = some_map (λ (l : Line). ((l.first ≡ c) × (l.second ≡ e)) ⊎ ((l.first ≡ e) × (l.second ≡ c))) join_line joins in (
+      (λ h. elim h [
+        | inl a ↦ inl a
+        | inr b ↦ inr (some_same (λ (l : Line). ((l.first ≡ c) × (l.second ≡ e)) ⊎ ((l.first ≡ e) × (l.second ≡ c))) (joined_by r) once r.connects (λ x. (same x).0)
+            (subst (λ (ls : List Line). Some_of (λ l. ((l.first ≡ c) × (l.second ≡ e)) ⊎ ((l.first ≡ e) × (l.second ≡ c))) ls) are (both.0 b)))
+      ]),
+      (λ h. elim h [
+        | inl a ↦ inl a
+        | inr b ↦ inr (both.1 (subst (λ (ls : List Line). Some_of (λ l. ((l.first ≡ c) × (l.second ≡ e)) ⊎ ((l.first ≡ e) × (l.second ≡ c))) ls) (sym are)
+            (some_same (λ (l : Line). ((l.first ≡ c) × (l.second ≡ e)) ⊎ ((l.first ≡ e) × (l.second ≡ c))) (joined_by r) r.connects once (λ x. (same x).1) b)))
+      ]),
+    )
+
+pub same_pair : (x y : ℕ × ℕ) → y.0 ≡ x.0 → y.1 ≡ x.1 → y ≡ x
+same_pair x y a b = ap (λ (n : ℕ). let p : ℕ × ℕ = (n, y.1) in p) a ∙ ap (λ (n : ℕ). let p : ℕ × ℕ = (x.0, n) in p) b
+
+pub push_one : (old : List (ℕ × ℕ)) (line x : ℕ × ℕ) → Contains (old ++ line ∷ []) x ↔ (Contains old x ⊎ (line ≡ x))
+push_one old line x = (
+  (λ h. Contains-push_cases old line x h),
+  (λ h. elim h [ inl a ↦ Contains-append_left old (line ∷ []) x a | inr e ↦ subst (Contains (old ++ line ∷ [])) e (Contains-push old line) ]),
+)
+
+-- the first lines, each once
+pub once_more : (xs old new : List (ℕ × ℕ)) (n : ℕ) (o : ℕ × ℕ) → n < length xs → ((x : ℕ × ℕ) → Contains old x ↔ Contains (take n xs) x) → ((x : ℕ × ℕ) → Contains new x ↔ (Contains old x ⊎ (get_or xs n o ≡ x))) → (x : ℕ × ℕ) → Contains new x ↔ Contains (take (n + 1) xs) x
+once_more xs old new n o lt h g x =
+    let p = push_one (take n xs) (get_or xs n o) x in
+    let e = take_more xs n o lt in (
+      (λ c. subst (λ l. Contains l x) (sym e) (p.1 (elim ((g x).0 c) [ inl a ↦ inl ((h x).0 a) | inr b ↦ inr b ]))),
+      (λ c. (g x).1 (elim (p.0 (subst (λ l. Contains l x) e c)) [ inl a ↦ inl ((h x).1 a) | inr b ↦ inr b ])),
+    )
+
+pub once_all : (xs new : List (ℕ × ℕ)) (n : ℕ) → n ≡ length xs → ((x : ℕ × ℕ) → Contains new x ↔ Contains (take n xs) x) → (x : ℕ × ℕ) → Contains new x ↔ Contains xs x
+once_all xs new n e h x = subst (λ l. Contains new x ↔ Contains l x) (ap (λ k. take k xs) e ∙ take-length xs) (h x)
+
+pub once_sorted : (xs ys new : List (ℕ × ℕ)) → IsPermutation ys xs → ((x : ℕ × ℕ) → Contains new x ↔ Contains xs x) → (x : ℕ × ℕ) → Contains new x ↔ Contains ys x
+once_sorted xs ys new moved h x = ((λ c. Contains-permutation xs ys x (IsPermutation-sym ys xs moved) ((h x).0 c)), (λ c. (h x).1 (Contains-permutation ys xs x moved c)))

@@ -1,8 +1,12 @@
 //! What the rules join, by numbers.
-ghost use Rattle.std.specs.Prelude.{◌≡◌, ◌++◌, ◌||◌, List, ℕ, length, map, IfOk, OnOk};
-ghost use Rattle.rule_layers.specs.Meaning.{globals_of, grounds_of, joins_of, wiring_of};
+ghost use Rattle.std.specs.Prelude.{◌≡◌, ◌++◌, ◌||◌, ◌⊎◌, ◌↔◌, List, ℕ, true};
+ghost use Rattle.std.specs.Prelude.{length, map, flat_map, IfOk, OnOk};
+ghost use Rattle.std.specs.List.{Contains};
+ghost use Rattle.flat_layout.specs.Regions.{IsJoined};
+ghost use Rattle.rule_layers.specs.Meaning.{globals_of, grounds_of, wiring_of};
 ghost use Rattle.rule_text.specs.Rules.{has_texts};
 ghost use Rattle.rule_text.specs.Seen.{rules_seen};
+ghost use Rattle.touching_pieces.specs.Pairs.{AreJoined};
 ghost use Rattle.net_phase.specs.Wires.{AreWires, ground_line, join_line, joined_by};
 
 use net_walk::Grounded;
@@ -50,14 +54,67 @@ fn push_join(rules: &RuleSet, line: &(u32, u32), out: &mut Vec<Joined>) -> Resul
     Ok(())
 }
 
-fn joins(alloc: Global, rules: &RuleSet) -> Result<Vec<Joined>, AllocError>
-    ensures { IfOk result (λ v. map join_line v.items ≡ joins_of (rules_seen rules.now)) }
+// Whether a line is the last of these.
+fn is_last(lines: &[(u32, u32)], line: &(u32, u32)) -> bool
+    ensures { result ≡ true → Contains lines.now line.now }
+{
+    match lines.last() {
+        None => false,
+        Some(last) => last.0 == line.0 && last.1 == line.1,
+    }
+}
+
+// Adds a line, unless it is the last one already.
+fn push_new(lines: &mut Vec<(u32, u32)>, line: &(u32, u32)) -> Result<(), AllocError>
+    ensures { OnOk result ((x : ℕ × ℕ) → Contains lines.new.items x
+        ↔ (Contains lines.old.items x ⊎ (line.now ≡ x))) }
+{
+    if is_last(lines, line) {
+        return Ok(());
+    }
+    lines.push(*line)?;
+    Ok(())
+}
+
+// The lines, without those that stand right behind their like.
+fn unlike_last(alloc: Global, lines: &[(u32, u32)]) -> Result<Vec<(u32, u32)>, AllocError>
+    ensures { IfOk result (λ v. (x : ℕ × ℕ) → Contains v.items x ↔ Contains lines.now x) }
+{
+    let mut once = Vec::new(alloc);
+    for line in lines {
+        push_new(&mut once, line)?;
+    }
+    Ok(once)
+}
+
+// Each line once: a rule file may repeat a line.
+fn each_once(alloc: Global, lines: &[(u32, u32)]) -> Result<Vec<(u32, u32)>, AllocError>
+    ensures { IfOk result (λ v. (x : ℕ × ℕ) → Contains v.items x ↔ Contains lines.now x) }
+{
+    let mut sorted = lines.to_vec(alloc)?;
+    sorted.sort_unstable();
+    unlike_last(alloc, &sorted)
+}
+
+// What lines join, one after the other.
+fn joins_by(alloc: Global, rules: &RuleSet, lines: &[(u32, u32)]) -> Result<Vec<Joined>, AllocError>
+    ensures { IfOk result (λ v. map join_line v.items
+        ≡ flat_map (joined_by (rules_seen rules.now)) lines.now) }
 {
     let mut joins = Vec::new(alloc);
-    for line in &rules.connects {
+    for line in lines {
         push_join(rules, line, &mut joins)?;
     }
     Ok(joins)
+}
+
+// What the connect lines join, each line taken once.
+fn joins(alloc: Global, rules: &RuleSet) -> Result<Vec<Joined>, AllocError>
+    ensures { IfOk result (λ v. (c e : ℕ) → AreJoined v.items c e
+        ↔ IsJoined (wiring_of (rules_seen rules.now)) c e) }
+{
+    let lines = each_once(alloc, &rules.connects)?;
+    joins_by(alloc, rules, &lines)
 }
 
 // Each line of a global, by the global's place among the different ones.
@@ -87,7 +144,8 @@ fn ground_lines(alloc: Global, rules: &RuleSet) -> Result<Grounds, AllocError>
     })
 }
 
-/// What a rule set joins: linear in its lines. 2^32 names, or globals, or more are refused.
+/// What a rule set joins, each connect line taken once: O(n log n) in its lines. 2^32 names, or
+/// globals, or more are refused.
 pub fn find_wires(alloc: Global, rules: &RuleSet) -> Result<Wires, AllocError>
     ensures { IfOk result (AreWires (wiring_of (rules_seen rules.now))) }
 {

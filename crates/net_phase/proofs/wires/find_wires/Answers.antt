@@ -1,7 +1,7 @@
 use Rattle.std.proofs.Common.{◌∙◌}
 use Rattle.rule_layers.specs.Meaning.{wiring_of}
 use Rattle.rule_text.specs.Seen.{rules_seen}
-use Rattle.net_phase.proofs.Wiring.{names_long, same_grounds, same_joins}
+use Rattle.net_phase.proofs.Wiring.{names_long, same_grounds}
 use Rattle.net_phase.proofs.wires.find_wires.Goals as goal
 
 pub returns : goal.returns
@@ -10,7 +10,7 @@ returns c =
     let w = wiring_of r in
     record {
       conductors = c.len-2.ensures ∙ c.args.rules.now.names.ok.0 ∙ names_long r;
-      joins = same_joins w c.in_ok-joins.joins.items c.in_ok-joins.ensures;
+      joins = c.in_ok-joins.ensures;
       grounds = same_grounds w c.in_ok-grounds.grounds.lines.items c.in_ok-grounds.ensures.lines;
       globals = c.in_ok-grounds.ensures.globals;
     }

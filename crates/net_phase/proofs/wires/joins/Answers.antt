@@ -1,15 +1,15 @@
-use Rattle.std.proofs.Common.{◌≡◌, ◌∙◌, ◌++◌, ℕ, arith, get_or, map}
+use Rattle.std.proofs.Common.{◌≡◌, ◌↔◌, ℕ, List, map, subst}
+use Rattle.std.specs.List.{Contains, flat_map}
 use Rattle.rule_text.specs.Seen.{rules_seen}
-use Rattle.net_phase.proofs.Wiring.{joins_all, joins_more}
+use Rattle.net_phase.proofs.Results.{if_ok}
+use Rattle.net_phase.proofs.Wiring.{once_joins}
 use Rattle.net_phase.proofs.wires.joins.Goals as goal
 use Rattle.net_phase.specs.Wires.{join_line, joined_by}
 
-pub loop-line-preserved : goal.loop-line-preserved
-loop-line-preserved c =
-    let r = rules_seen c.args.rules.now in
-    let o : ℕ × ℕ = get_or c.args.rules.now.connects.items c.loop-line.line-index (0, 0) in
-    let added : map join_line c.push_join.new.out.items ≡ map join_line c.loop-line.joins.items ++ joined_by r o = rw c.deref-line-items.ensures.value at c.in_ok-push_join.ensures in
-    added ∙ joins_more r c.args.rules.now.connects.items c.loop-line.line-index (0, 0) (map join_line c.loop-line.joins.items) (omega arith) c.loop-line.invariant
-
 pub returns : goal.returns
-returns c = c.loop-line.invariant ∙ joins_all (rules_seen c.args.rules.now) c.loop-line.line-index (omega arith)
+returns c =
+    let r = rules_seen c.args.rules.now in
+    let once = c.in_ok-lines.lines.items in
+    let same : (x : ℕ × ℕ) → Contains once x ↔ Contains r.connects x = λ x. subst (λ (l : List (ℕ × ℕ)). Contains once x ↔ Contains l x) c.deref.ensures.value (c.in_ok-lines.ensures x) in
+    if_ok _ _ c.joins_by.result (λ v are.
+    once_joins r v.items once (subst (λ (l : List (ℕ × ℕ)). map join_line v.items ≡ flat_map (joined_by r) l) c.deref-2.ensures.value are) same) c.joins_by.ensures
