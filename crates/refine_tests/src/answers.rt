@@ -1,4 +1,4 @@
-use match_types::{Answer, Evidence, Guess, Pairing};
+use match_types::{Answer, Evidence, Guess, Node, Pairing};
 
 // The pairing of a match.
 pub fn matched(answer: Option<Answer>) -> Option<Pairing> {
@@ -20,6 +20,23 @@ pub fn excluded(answer: Option<Answer>) -> Option<Vec<Guess>> {
 pub fn stopped(answer: Option<Answer>) -> Option<Vec<Guess>> {
     match answer {
         Some(Answer::Undecided(guesses)) => Some(guesses),
+        _other => None,
+    }
+}
+
+// The first round with unequal counts, a node that shows it, and both counts.
+pub fn in_round(answer: Option<Answer>) -> Option<(u32, Node, u64, u64)> {
+    match answer {
+        Some(
+            Answer::Differs(
+                Evidence::Round {
+                    round,
+                    node,
+                    left,
+                    right,
+                },
+            ),
+        ) => Some((round, node, left, right)),
         _other => None,
     }
 }

@@ -1,5 +1,6 @@
-//! Tests of the comparison of two circuits: a latch whose inner nets are exchanged, rings that
-//! only guesses tell apart, a called pair, a long chain, and small pairs decided by every map.
+//! Tests of the comparison of two circuits: rounds with unequal counts, a latch whose inner nets are
+//! exchanged, rings that only guesses tell apart, a called pair, a long chain, and small pairs
+//! decided by every map.
 #![tactic(auto)]
 
 #[cfg(test)]
@@ -16,5 +17,7 @@ mod fitting;
 mod latches;
 #[cfg(test)]
 mod rings;
+#[cfg(test)]
+mod rounds;
 #[cfg(test)]
 mod small;
