@@ -1,19 +1,14 @@
 -- What follows from the answer of a comparison.
-use Rattle.std.specs.Prelude.{◌≡◌, ◌≢◌, ◌⊎◌, ◌<◌, ◌≤◌, ◌==◌, ◌&&◌, ℕ, Bool, List, bytes_eq, count_by}
+use Rattle.std.specs.Prelude.{◌≢◌, ◌⊎◌, ◌<◌, ◌≤◌, ◌==◌, ◌&&◌, ℕ, Bool, List, bytes_eq, count_by}
 use Rattle.plain_netlist.specs.Netlist.{DeviceRow}
-use Rattle.round_laws.specs.Web.{Web, IsWeb, IsNode, IsStable, on_left, on_right}
+use Rattle.round_laws.specs.Web.{Web, IsNode, IsStable, on_left, on_right}
 use Rattle.round_laws.specs.Nodes.{Node}
 use Rattle.round_laws.specs.Guesses.{Search as Guesses, HasEnded, HasFound, IsWholeSearch, refuted_in}
-use Rattle.match_laws.specs.Circuits.{Pair, Pairing, IsCorrespondence, web_of}
+use Rattle.match_laws.specs.Circuits.{Pair, Pairing, IsCorrespondence}
 use Rattle.match_laws.specs.Answer.{equal_names, setting_of}
 use Rattle.match_types.specs.declared.answer.Answer.{Answer}
 use Rattle.match_types.specs.declared.answer.Answer.TheVariants as answer
 use Rattle.match_types.specs.Plain.{plain_pairing}
-use Rattle.match_graph.specs.declared.graph.Graph.{Graph}
-use Rattle.net_model.specs.declared.netlist.Circuit.{Circuit}
-use Rattle.refine_match.specs.Candidates.{IsPairOf}
-use Rattle.refine_match.specs.Searching.{IsUnderWay}
-use Rattle.refine_match.specs.declared.searching.Search.{Search}
 
 -- a match carries a correspondence
 abbrev pub CarriesPairing : Pair → Answer → Type 0
@@ -71,8 +66,3 @@ pub record IsEnough (p : Pair) (limit : ℕ) : Type 0 where
   pub whole : IsWholeSearch (setting_of p (equal_names p) larger) guesses
   pub ends : HasEnded guesses ⊎ HasFound guesses
   pub few : refuted_in guesses < limit
-
--- a search with this limit is under way for each pair of these circuits and this graph
-pub record IsKept (g : Graph) (left right : Circuit) (limit : ℕ) (s : Search) : Type 0 where
-  pub way : (p : Pair) → IsPairOf p g left right → IsWeb (web_of p) → IsUnderWay p g s
-  pub limit_is : s.limit ≡ limit

@@ -1,6 +1,6 @@
 -- A search over guesses that is under way.
 use Rattle.std.specs.Prelude.{◌≡◌, ◌<◌, ◌≤◌, ℕ, suc, Bool, true, false, List, [], ◌∷◌, ◌++◌, length, map}
-use Rattle.round_laws.specs.Web.{Web, IsEven, IsStable, under}
+use Rattle.round_laws.specs.Web.{Web, IsWeb, IsEven, IsStable, under}
 use Rattle.round_laws.specs.Nodes.{Node}
 use Rattle.round_laws.specs.Guesses.{Setting, IsChosen, candidates, Ended, Row, Outcome, rows}
 use Rattle.round_laws.specs.Stack.{Level as Stage, IsStack, add, outer_rows, used}
@@ -10,6 +10,7 @@ use Rattle.match_types.specs.declared.answer.Guess.{Guess}
 use Rattle.match_types.specs.declared.answer.GuessEnd.{GuessEnd}
 use Rattle.match_types.specs.declared.answer.GuessEnd.TheVariants as end
 use Rattle.match_types.specs.Plain.{row_of}
+use Rattle.net_model.specs.declared.netlist.Circuit.{Circuit}
 use Rattle.match_graph.specs.declared.graph.Graph.{Graph}
 use Rattle.match_graph.specs.Graph.{left_of, nodes_of}
 use Rattle.match_graph.specs.Numbering.{index_of}
@@ -20,7 +21,7 @@ use Rattle.match_rounds.specs.Refined.{AreSettled}
 use Rattle.match_rounds.specs.Start.{AreGuesses, guessed_web}
 use Rattle.refine_match.specs.Classes.{AreTold}
 use Rattle.refine_match.specs.Choosing.{AreUntied}
-use Rattle.refine_match.specs.Candidates.{IsHead, remaining}
+use Rattle.refine_match.specs.Candidates.{IsHead, IsPairOf, remaining}
 use Rattle.refine_match.specs.declared.candidates.Candidate.{Candidate}
 use Rattle.refine_match.specs.declared.searching.Level.{Level}
 use Rattle.refine_match.specs.declared.searching.Search.{Search}
@@ -155,3 +156,8 @@ guess_row above stage right outcome = record {
 abbrev pub EndsBy : Verdict → GuessEnd → Type 0
 EndsBy (verdict.Refuted round) e = e ≡ end.Refuted round
 EndsBy verdict.Stable e = Unit {0}
+
+-- a search with this limit is under way for each pair of these circuits and this graph
+pub record IsKept (g : Graph) (left right : Circuit) (limit : ℕ) (s : Search) : Type 0 where
+  pub way : (p : Pair) → IsPairOf p g left right → IsWeb (web_of p) → IsUnderWay p g s
+  pub limit_is : s.limit ≡ limit

@@ -20,8 +20,8 @@ use std::alloc::{AllocError, Global};
 
 impl Search {
     /// Guesses that the level's node goes to this candidate, and says whether that leaves no ties.
-    /// A guess that isn't refuted takes the time to part the classes further, one that is that of
-    /// all rounds.
+    /// A guess that isn't refuted takes the time to part the classes further and a walk over the
+    /// left nodes, one that is the time of all rounds.
     pub fn guess(
         &mut self,
         alloc: Global,

@@ -8,7 +8,8 @@ ghost use Rattle.refine_match.specs.ByRounds.{IsRoundsAnswer};
 ghost use Rattle.refine_match.specs.Candidates.{IsPairOf};
 ghost use Rattle.refine_match.specs.Matching.{AreSingleClasses, CarriesPairing, ExcludesPairings};
 ghost use Rattle.refine_match.specs.Matching.{HaveUnevenDevices, IsDecided, IsDifference, IsEnough};
-ghost use Rattle.refine_match.specs.Matching.{IsKept, IsUndecided};
+ghost use Rattle.refine_match.specs.Matching.{IsUndecided};
+ghost use Rattle.refine_match.specs.Searching.{IsKept};
 
 use crate::by_rounds::{Rounds, by_rounds};
 use crate::pairings::read_pairing;
@@ -21,13 +22,19 @@ use std::alloc::{AllocError, Global};
 /// Compares two circuits, given the right pin of each left pin of the called pairs that are
 /// matched; at most `limit` guesses may end refuted.
 ///
-/// Nets, transistors and calls are told apart by rounds. A round with unequal counts is a
-/// difference, and classes of one pair each are a match. Where rounds leave ties, the first left
-/// node of the class with the fewest is guessed to go to each right node of its class in turn,
-/// those of its name first.
+/// Nets, transistors and calls are told apart by rounds, first by what they are and then by what
+/// they are joined to. A round with unequal counts is a difference, and classes of one pair each
+/// are a match. Where rounds leave ties, the first left node of the class with the fewest left
+/// nodes is guessed to go to each right node of its class in turn, those of its name first. A
+/// guess is refuted where rounds under it have unequal counts; where it leaves ties, a further node
+/// is guessed below it. A difference is found where each guess ended so, and nothing is decided
+/// where `limit` were refuted before that: none, where `limit` is 0 and there are ties.
 ///
 /// The rounds take the time to sort the ends of all nodes as often as the logarithm of their
-/// number; each refuted guess takes the rounds three times.
+/// number. A guess that isn't refuted takes a walk over the left nodes and the rounds that part the
+/// classes further; one that is, and a level that is left, the rounds from the first on.
+///
+/// The error is want of memory, or more than 2^32 guesses below each other.
 pub fn match_circuits(
     alloc: Global,
     left: &Circuit,

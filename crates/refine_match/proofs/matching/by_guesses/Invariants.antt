@@ -1,5 +1,5 @@
 use Rattle.std.proofs.Common.{◌+◌, ◌*◌, ◌-◌, ◌^◌, length}
-use Rattle.refine_match.specs.Matching.{IsKept}
+use Rattle.refine_match.specs.Searching.{IsKept}
 use Rattle.refine_match.proofs.matching.by_guesses.Given as goal
 
 abbrev pub invariant-loop-candidate : goal.invariant-loop-candidate

@@ -1,0 +1,23 @@
+//! Tests of the comparison of two circuits: rounds with unequal counts, a latch whose inner nets are
+//! exchanged, rings that only guesses tell apart, a called pair, a long chain, and small pairs
+//! decided by every map.
+#![tactic(auto)]
+
+#[cfg(test)]
+mod answers;
+#[cfg(test)]
+mod builders;
+#[cfg(test)]
+mod calls;
+#[cfg(test)]
+mod chains;
+#[cfg(test)]
+mod fitting;
+#[cfg(test)]
+mod latches;
+#[cfg(test)]
+mod rings;
+#[cfg(test)]
+mod rounds;
+#[cfg(test)]
+mod small;
