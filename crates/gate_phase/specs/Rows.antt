@@ -92,3 +92,8 @@ pub record GateListLaw : Type 0 where
   pub all : (d : Design) (w : Wiring) (t : Tables) (rules : List Rule) (cell : ℕ)
       (v : List GateEntry) → AreGatesTo d w t rules (length rules) cell v
       → AreGates d w t rules cell v
+
+-- the net that holds a node; none where no net of the cell does
+abbrev pub IsNetAt : Design → Tables → ℕ → Node → Option ℕ → Type 0
+IsNetAt d t cell n None = (x : ℕ) → NetHolds d t cell x n → ⊥
+IsNetAt d t cell n (Some x) = NetHolds d t cell x n
