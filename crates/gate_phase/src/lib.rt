@@ -22,5 +22,5 @@ mod shape;
 pub use entries::entry_laws;
 pub use kept::{kept_in, kept_rects};
 pub use layer::KeptLayer;
-pub use nets::net_at;
+pub use nets::{net_at, net_of_global};
 pub use own::{OwnGate, own_gates};

@@ -1,6 +1,7 @@
-//! The net of a square that a cell keeps of a conductor.
-ghost use Rattle.std.specs.Prelude.{◌<◌, length, IfOk};
-ghost use Rattle.flat_layout.specs.Regions.{At};
+//! The nets of nodes that a cell keeps: of a square of a conductor, and of a global.
+ghost use Rattle.std.specs.Prelude.{◌≡◌, ◌<◌, length, IfOk};
+ghost use Rattle.flat_layout.specs.Nets.{NetHolds};
+ghost use Rattle.flat_layout.specs.Regions.{At, Ground};
 ghost use Rattle.net_link_laws.specs.Laws.{AreNetsUnder};
 ghost use Rattle.gate_phase.specs.Own.{IsUnitNear};
 ghost use Rattle.gate_phase.specs.Rows.{IsNetAt};
@@ -31,4 +32,16 @@ pub fn net_at<C: Cells>(
         Some(piece) => Ok(Some(piece.net)),
         None => Ok(None),
     }
+}
+
+/// The net of a cell that holds a global, by its place among all globals. In constant time.
+pub fn net_of_global<C: Cells>(cells: &C, cell: u32, globals: u32, global: u32) -> u32
+    requires globals { globals ≡ length (C.wiring cells.now).globals }
+    requires global { global < globals }
+    requires nets { AreNetsUnder (C.design cells.now) (C.wiring cells.now) (C.tables cells.now)
+        cell }
+    ensures { NetHolds (C.design cells.now) (C.tables cells.now) cell result (Ground global) }
+{
+    let net_of = cells.net_of(cell);
+    net_of[net_of.len() - globals as usize + global as usize]
 }
