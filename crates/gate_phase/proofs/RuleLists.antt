@@ -1,15 +1,14 @@
 -- The entries of a cell's list, one device rule after the other.
-use Rattle.std.proofs.Common.{◌≡◌, ◌⊎◌, inl, inr, ℕ, zero, suc, ◌<◌, ◌+◌, ◌++◌, List, [], ◌∷◌, Option, Some, None, length, slice_get, refl, sym, ◌∙◌, ap, subst, arith}
+use Rattle.std.proofs.Common.{◌≡◌, ◌⊎◌, inl, inr, ℕ, ◌+◌, ◌++◌, List, [], ◌∷◌, Option, Some, slice_get, refl, sym, ◌∙◌, ap, subst, arith}
 use Rattle.std.proofs.Math.Decide.{ℕ_discrete}
 use Rattle.std.proofs.lemmas.Option.{slice_get_within}
 use Rattle.geo_base.specs.declared.shapes.Square.{Square}
 use Rattle.flat_layout.specs.Gates.{InGate, IsListedGate, IsSettled, IsGateBelow, Rule, geometry}
-use Rattle.flat_layout.specs.GateTables.{AreGates, GateEntry, GateSquare, IsGateBefore, IsGateEntry}
+use Rattle.flat_layout.specs.GateTables.{GateEntry, GateSquare, IsGateBefore, IsGateEntry}
 use Rattle.flat_layout.specs.Layers.{InFlat}
 use Rattle.flat_layout.specs.Layout.{Design}
 use Rattle.flat_layout.specs.Nets.{Tables}
 use Rattle.flat_layout.specs.Parts.{InPart, IsStep}
-use Rattle.flat_layout.specs.Plane.{IsSquareBefore}
 use Rattle.flat_layout.specs.Regions.{Wiring}
 use Rattle.plain_netlist.specs.Lists.{AreRising, IsListed}
 use Rattle.plain_netlist.proofs.Links.{back}

@@ -1,7 +1,5 @@
-use Rattle.std.proofs.Common.{◌≡◌, ◌<◌, ◌≤◌, ◌+◌, ◌-◌, ◌∙◌, ℕ, List, [], Some, refl, sym, ap, subst, arith, length, slice_get, slice_index_or}
+use Rattle.std.proofs.Common.{◌≡◌, ◌<◌, ◌+◌, ◌-◌, ℕ, List, [], Some, refl, ap, subst, arith, length, slice_get, slice_index_or}
 use Rattle.std.proofs.lemmas.Option.{slice_get-get_or}
-use Rattle.flat_layout.specs.Nets.{NetHolds}
-use Rattle.flat_layout.specs.Regions.{Ground}
 use Rattle.gate_phase.proofs.Netting.{global_holds, globals_fit}
 use Rattle.gate_phase.proofs.nets.net_of_global.Goals as goal
 
