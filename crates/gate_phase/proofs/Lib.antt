@@ -10,6 +10,8 @@ pub mod Marking
 pub mod Owning
 pub mod Results
 pub mod RowsOf
+pub mod Netting
+pub mod RuleLists
 pub mod Seeding
 pub mod Shaping
 pub mod Telling

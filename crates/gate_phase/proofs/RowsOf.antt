@@ -1,9 +1,9 @@
 -- The row of a good gate.
-use Rattle.std.proofs.Common.{◌≡◌, ◌⊎◌, inl, inr, ℕ, ◌<ℤ◌, Option, Some, None, refl, sym, subst, arith}
+use Rattle.std.proofs.Common.{◌≡◌, ◌⊎◌, inl, inr, ℕ, Option, Some, None, refl, sym, subst, arith}
 use Rattle.std.proofs.lemmas.Int.{ints}
 use Rattle.geo_base.specs.declared.shapes.Square.{Square}
-use Rattle.flat_layout.specs.Gates.{Edge, InGate, InOneGroup, IsGoodGate, IsLeast, IsTerminalNode, Rule, geometry, ground, sheets}
-use Rattle.flat_layout.specs.GateTables.{GateRow, IsGateRow, IsVerdict, Verdict, terminal_net}
+use Rattle.flat_layout.specs.Gates.{Edge, InGate, IsGoodGate, IsLeast, IsTerminalNode, Rule, geometry, ground, sheets}
+use Rattle.flat_layout.specs.GateTables.{IsVerdict, Verdict, terminal_net}
 use Rattle.flat_layout.specs.Layout.{Design}
 use Rattle.flat_layout.specs.Nets.{NetHolds, Tables}
 use Rattle.flat_layout.specs.Plane.{IsSquareBefore}

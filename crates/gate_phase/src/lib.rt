@@ -1,4 +1,9 @@
 //! The gates of transistors that each cell holds itself.
+//!
+//! A gate belongs to the lowest cell in which nothing disturbs it. In a cell, gates of its own can
+//! only lie around its own shapes and around what placed cells leave open; from there whole parts
+//! are gathered of what the cell keeps, and each is judged by what lies close to it. Placed cells
+//! are looked into by windows and never flattened.
 #![tactic(auto)]
 
 mod below;
@@ -7,19 +12,15 @@ mod entries;
 mod frame;
 mod kept;
 mod layer;
+mod nets;
 mod own;
 mod reads;
 mod search;
 mod seeds;
 mod shape;
 
-pub use below::is_below;
-pub use close::{close_to, is_undisturbed};
 pub use entries::entry_laws;
 pub use kept::{kept_in, kept_rects};
 pub use layer::KeptLayer;
+pub use nets::{net_at, net_of_global};
 pub use own::{OwnGate, own_gates};
-pub use reads::names_read;
-pub use search::parts_of;
-pub use seeds::seeds_of;
-pub use shape::shape_in;

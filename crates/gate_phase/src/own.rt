@@ -32,8 +32,8 @@ pub struct OwnGate {
     pub shape: GateShape,
 }
 
-// A square as a window.
-fn unit(square: Square) -> Rect
+/// A square as a window.
+pub fn unit(square: Square) -> Rect
     requires { IsUnitNear square }
     ensures exact { result ≡ unit_window square }
     ensures has { has result square ≡ true }
