@@ -1,3 +1,5 @@
+pub mod Children
+pub mod Drawing
 pub mod Endings
 pub mod Marked
 pub mod Terminals

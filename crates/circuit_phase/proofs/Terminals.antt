@@ -12,11 +12,11 @@ use Rattle.circuit_phase.specs.Marks.{has_terminal, is_terminal}
 clash : false ≡ true → ⊥
 clash e = let z : ⊥ = cc in z
 
-right : (a b : Bool) → b ≡ true → (a || b) ≡ true
+pub right : (a b : Bool) → b ≡ true → (a || b) ≡ true
 right true b h = refl
 right false b h = h
 
-left : (a b : Bool) → a ≡ true → (a || b) ≡ true
+pub left : (a b : Bool) → a ≡ true → (a || b) ≡ true
 left true b h = refl
 left false b h = absurd (clash h)
 

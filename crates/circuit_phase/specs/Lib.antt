@@ -1,3 +1,4 @@
 pub mod Drawn
 pub mod Marks
 pub mod Names
+pub mod Placed

@@ -4,7 +4,8 @@
 mod drawn;
 mod marks;
 mod names;
+mod placed;
 
 pub use drawn::{drawn_names, drawn_nets, pin_nets};
-pub use marks::mark_gates;
 pub use names::{circuit_names, net_names};
+pub use placed::{Placed, drawn_marks};

@@ -37,7 +37,7 @@ fn mark_gate(gate: &Gate, marks: &mut [bool])
 }
 
 /// Marks the nets of the terminals of good gates.
-pub fn mark_gates(gates: &[Gate], marks: &mut [bool])
+pub(crate) fn mark_gates(gates: &[Gate], marks: &mut [bool])
     requires { (x : ℕ) → has_terminal x (map plain_gate gates.now) ≡ true → x < length marks.old }
     ensures count { length marks.new ≡ length marks.old }
     ensures marked { (x : ℕ) → get_or marks.new x false

@@ -1,4 +1,4 @@
-use Rattle.std.proofs.Common.{◌≡◌, ◌&&◌, Bool, false, get_or, sym, ap, ◌∙◌}
+use Rattle.std.proofs.Common.{◌&&◌, Bool, false, get_or, sym, ap, ◌∙◌}
 use Rattle.circuit_phase.proofs.Marked.{both_at}
 use Rattle.circuit_phase.proofs.drawn.is_both.Goals as goal
 

@@ -1,0 +1,108 @@
+//! Marks at the nets with drawn pins of placed cells.
+ghost use Rattle.std.specs.Prelude.{◌≡◌, ◌<◌, ◌==◌, ◌&&◌, ◌||◌, ℕ, Bool, List, Some, false, length, map};
+ghost use Rattle.std.specs.Prelude.{get_or, slice_get, IfOk};
+ghost use Rattle.deep_tables.specs.declared.nets.Item.{Item};
+ghost use Rattle.deep_tables.specs.Gates.{plain_gate};
+ghost use Rattle.deep_tables.specs.Nets.{plain_item, plain_nets};
+ghost use Rattle.flat_layout.specs.Circuits.{AreDrawn};
+ghost use Rattle.flat_layout.specs.Layout.{Design, Place, IsPlaced};
+ghost use Rattle.flat_layout.specs.Nets.{AreNets, Tables};
+ghost use Rattle.flat_layout.specs.Pins.{CellPins, HasGate};
+ghost use Rattle.flat_layout.specs.Regions.{Wiring};
+ghost use Rattle.circuit_phase.specs.Placed.{AreReadable, is_child_marked, is_drawn_pin};
+ghost use Rattle.circuit_phase.specs.Placed.{is_marked_by, placed_cells};
+
+use crate::marks::mark_gates;
+use deep_tables::{CellNets, Gate, Item};
+use std::alloc::{AllocError, Global};
+
+/// What is read of the cells that a cell places.
+pub trait Placed {
+    ghost design: { Self → Design };
+
+    ghost wiring: { Self → Wiring };
+
+    ghost tables: { Self → Tables };
+
+    ghost pins: { Self → ℕ → CellPins };
+
+    ghost drawn: { Self → ℕ → List Bool };
+
+    ghost may_read: { Self → ℕ → ℕ → Type 0 };
+
+    /// Whether a net of a cell is a pin and drawn there.
+    fn is_drawn_pin(&self, cell: u32, net: u32) -> bool
+        requires { may_read self.now cell net }
+        ensures { result ≡ is_drawn_pin (pins self.now) (drawn self.now) cell net };
+}
+
+// An item that is a drawn pin of a placed cell; of each placement its cell is known.
+fn is_child_marked<P: Placed>(placed: &P, cells: &[u32], item: &Item) -> bool
+    requires { AreReadable (P.may_read placed.now) cells.now (plain_item item.now) }
+    ensures { result ≡ is_child_marked (P.pins placed.now) (P.drawn placed.now) cells.now
+        (plain_item item.now) }
+{
+    match *item {
+        Item::Child { place, net } => placed.is_drawn_pin(cells[place as usize], net),
+        _ => false,
+    }
+}
+
+fn mark_if(net: u32, wanted: bool, marks: &mut [bool])
+    requires { net < length marks.old }
+    ensures count { length marks.new ≡ length marks.old }
+    ensures marked { (x : ℕ) → get_or marks.new x false
+        ≡ ((wanted && (x == net)) || get_or marks.old x false) }
+{
+    if wanted {
+        marks[net as usize] = true;
+    }
+}
+
+// Marks the nets with drawn pins of placed cells, in the order of the items. Constant time an
+// item.
+fn mark_placed<P: Placed>(placed: &P, cells: &[u32], nets: &CellNets, marks: &mut [bool])
+    requires readable { (i : ℕ) (item : Item) → slice_get nets.now.items.items i ≡ Some item
+        → AreReadable (P.may_read placed.now) cells.now (plain_item item) }
+    requires numbers { length nets.now.net_of.items ≡ length nets.now.items.items }
+    requires within { (i : ℕ) → i < length nets.now.net_of.items
+        → get_or nets.now.net_of.items i 0 < length marks.old }
+    ensures count { length marks.new ≡ length marks.old }
+    ensures marked { (x : ℕ) → get_or marks.new x false
+        ≡ (is_marked_by (is_child_marked (P.pins placed.now) (P.drawn placed.now) cells.now)
+        (map plain_item nets.now.items.items) nets.now.net_of.items x
+        || get_or marks.old x false) }
+{
+    for i in 0..nets.items.len() {
+        let wanted = is_child_marked(placed, cells, &nets.items[i]);
+        mark_if(nets.net_of[i], wanted, marks);
+    }
+}
+
+/// Which nets of a cell are drawn: those with a terminal of a good gate, and those with a drawn pin
+/// of a placed cell. Linear in the gates and in the items of the nets.
+pub fn drawn_marks<P: Placed>(
+    alloc: Global,
+    placed: &P,
+    cell: u32,
+    cells: &[u32],
+    nets: &CellNets,
+    gates: &[Gate],
+) -> Result<Vec<bool>, AllocError>
+    requires nets { (P.tables placed.now).nets cell ≡ plain_nets nets.now }
+    requires right { AreNets (P.design placed.now) (P.wiring placed.now) (P.tables placed.now) cell
+        (plain_nets nets.now) }
+    requires cells { cells.now ≡ placed_cells (P.design placed.now) cell }
+    requires readable { (k b : ℕ) (p : Place) → IsPlaced (P.design placed.now) cell k p
+        → b < ((P.tables placed.now).nets p.cell).count → P.may_read placed.now p.cell b }
+    requires terminals { (x : ℕ) → HasGate (λ c. map plain_gate gates.now) cell x
+        → x < nets.now.count }
+    ensures { IfOk result (λ v. AreDrawn (P.design placed.now) (P.tables placed.now)
+        (λ c. map plain_gate gates.now) (P.pins placed.now) (P.drawn placed.now) cell v.items) }
+{
+    let _ = cell;
+    let mut marks = vec![in alloc; false; nets.count as usize]?;
+    mark_gates(gates, &mut marks);
+    mark_placed(placed, cells, nets, &mut marks);
+    Ok(marks)
+}
