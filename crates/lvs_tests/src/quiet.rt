@@ -1,20 +1,29 @@
-// A run over a depot and a sink that only count bytes.
+// Runs over a depot and a sink that only count bytes.
 use crate::streams::stream;
 use lvs_outside::QuietDepot;
 use lvs_run::run_lvs;
+use std::alloc::{AllocError, Global};
 use std::test::Fail;
 
 const RULES: &[u8] = b"a = input(1, 0)\nb = input(2, 0)\nc = a & b\nc.output(10, 0)\n";
+
+// The most bytes of a file that are read.
+const LIMIT: usize = 1 << 28;
+
+fn shapes_words(alloc: Global) -> Result<Vec<String>, AllocError> {
+    let mut words = Vec::new(alloc);
+    for word in ["shapes", "l", "r", "s"] {
+        words.push(String::from_str(alloc, word)?)?;
+    }
+    Ok(words)
+}
 
 // The common rectangle of two: 166 bytes of the shapes file, 28 of the line.
 #[test]
 fn common_rectangle_counted(rt: HostRuntime) -> Result<(), Fail> {
     let alloc = rt.alloc();
     let layout = stream(alloc, &[(1, 0, 0, 10, 10), (2, 5, 5, 15, 15)])?;
-    let mut words = Vec::new(alloc);
-    for word in ["shapes", "l", "r", "s"] {
-        words.push(String::from_str(alloc, word)?)?;
-    }
+    let words = shapes_words(alloc)?;
     let mut depot = QuietDepot::new(alloc);
     depot.lend("l", &layout)?;
     depot.lend("r", RULES)?;
@@ -23,5 +32,25 @@ fn common_rectangle_counted(rt: HostRuntime) -> Result<(), Fail> {
     assert_eq!(rt; status.code(), 0);
     assert_eq!(rt; depot.written(), 166);
     assert_eq!(rt; sink.written(), 28);
+    Ok(())
+}
+
+// The longest layout is read, and has a fault in its first record (`refused layout 2 record 0
+// offset 0`); one of a byte more is too long (`refused long l`).
+#[test]
+fn longest_files(rt: HostRuntime) -> Result<(), Fail> {
+    let alloc = rt.alloc();
+    let layout = vec![in alloc; 0_u8; LIMIT + 1]?;
+    let words = shapes_words(alloc)?;
+    for (length, line) in [(LIMIT, 35), (LIMIT + 1, 15)] {
+        let mut depot = QuietDepot::new(alloc);
+        depot.lend("l", &layout[..length])?;
+        depot.lend("r", RULES)?;
+        let mut sink = QuietDepot::new(alloc);
+        let status = run_lvs(&rt, alloc, words.as_slice(), &mut depot, &mut sink);
+        assert_eq!(rt; status.code(), 2);
+        assert_eq!(rt; depot.written(), 0);
+        assert_eq!(rt; sink.written(), line);
+    }
     Ok(())
 }
