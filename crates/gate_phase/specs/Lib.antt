@@ -8,3 +8,4 @@ pub mod Rows
 pub mod Search
 pub mod Seeding
 pub mod Shape
+pub mod Terminals

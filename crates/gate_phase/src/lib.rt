@@ -18,9 +18,11 @@ mod reads;
 mod search;
 mod seeds;
 mod shape;
+mod terminals;
 
 pub use entries::entry_laws;
 pub use kept::{kept_in, kept_rects};
 pub use layer::KeptLayer;
 pub use nets::{net_at, net_of_global};
 pub use own::{OwnGate, own_gates};
+pub use terminals::{TerminalNets, terminal_nets};
