@@ -1,4 +1,5 @@
 pub mod Children
+pub mod Counting
 pub mod Drawing
 pub mod Endings
 pub mod Marked

@@ -4,8 +4,10 @@
 mod drawn;
 mod marks;
 mod names;
+mod numbering;
 mod placed;
 
 pub use drawn::{drawn_names, drawn_nets, pin_nets};
 pub use names::{circuit_names, net_names};
+pub use numbering::Numbering;
 pub use placed::{Placed, drawn_marks};
