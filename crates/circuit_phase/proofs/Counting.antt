@@ -111,3 +111,13 @@ once (x ∷ nets) same = (
 
 pub numbers_apart : (numbers : List (Option ℕ)) (nets : List ℕ) → AreNumbers numbers nets → AreApart nets
 numbers_apart numbers nets are = once nets (λ i j x h g. same_Some i j (same_Some (Some i) (Some j) (sym (are.has x i h) ∙ are.has x j g)))
+
+-- a numbered net keeps its number
+pub kept : (nets : List ℕ) (x i y : ℕ) → slice_get nets i ≡ Some y → slice_get (with_net nets x) i ≡ Some y
+kept nets x i y h = elim (truth (has_net nets x)) [
+  | inl e ↦ subst (λ (b : Bool). slice_get (if b then nets else nets ++ x ∷ []) i ≡ Some y) (sym e) h
+  | inr e ↦ subst (λ (b : Bool). slice_get (if b then nets else nets ++ x ∷ []) i ≡ Some y) (sym e) (first_at nets x i y h)
+]
+
+pub kept_in : (nets new : List ℕ) (x i y : ℕ) → new ≡ with_net nets x → slice_get nets i ≡ Some y → slice_get new i ≡ Some y
+kept_in nets new x i y is h = subst (λ (l : List ℕ). slice_get l i ≡ Some y) (sym is) (kept nets x i y h)

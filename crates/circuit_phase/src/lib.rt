@@ -1,12 +1,14 @@
 //! The circuit of each cell.
 #![tactic(auto)]
 
+mod devices;
 mod drawn;
 mod marks;
 mod names;
 mod numbering;
 mod placed;
 
+pub use devices::{TerminalNets, number_terminals, size};
 pub use drawn::{drawn_names, drawn_nets, pin_nets};
 pub use names::{circuit_names, net_names};
 pub use numbering::Numbering;
