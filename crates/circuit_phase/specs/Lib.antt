@@ -1,3 +1,4 @@
+pub mod Devices
 pub mod Drawn
 pub mod Marks
 pub mod Names

@@ -8,7 +8,7 @@ mod names;
 mod numbering;
 mod placed;
 
-pub use devices::{TerminalNets, number_terminals, size};
+pub use devices::{TerminalNets, device_row, number_terminals, size};
 pub use drawn::{drawn_names, drawn_nets, pin_nets};
 pub use names::{circuit_names, net_names};
 pub use numbering::Numbering;
