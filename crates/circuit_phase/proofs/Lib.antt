@@ -2,5 +2,6 @@ pub mod Children
 pub mod Counting
 pub mod Drawing
 pub mod Endings
+pub mod Grounding
 pub mod Marked
 pub mod Terminals

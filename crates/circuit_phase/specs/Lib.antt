@@ -1,5 +1,6 @@
 pub mod Devices
 pub mod Drawn
+pub mod Laws
 pub mod Marks
 pub mod Names
 pub mod Numbered

@@ -3,6 +3,7 @@
 
 mod devices;
 mod drawn;
+mod laws;
 mod marks;
 mod names;
 mod numbering;
@@ -10,6 +11,7 @@ mod placed;
 
 pub use devices::{TerminalNets, device_row, number_terminals, size};
 pub use drawn::{drawn_names, drawn_nets, pin_nets};
+pub use laws::terminal_law;
 pub use names::{circuit_names, net_names};
 pub use numbering::Numbering;
 pub use placed::{Placed, drawn_marks};
