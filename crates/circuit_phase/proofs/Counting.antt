@@ -45,7 +45,7 @@ first_at [] x i y h = absurd (nothing y h)
 first_at (z ∷ nets) x zero y h = h
 first_at (z ∷ nets) x (suc i) y h = first_at nets x i y h
 
-at_first : (nets : List ℕ) (x i y : ℕ) → slice_get (nets ++ x ∷ []) i ≡ Some y → (slice_get nets i ≡ Some y) ⊎ ((i ≡ length nets) × (x ≡ y))
+pub at_first : (nets : List ℕ) (x i y : ℕ) → slice_get (nets ++ x ∷ []) i ≡ Some y → (slice_get nets i ≡ Some y) ⊎ ((i ≡ length nets) × (x ≡ y))
 at_first [] x zero y h = inr (refl, same_Some x y h)
 at_first [] x (suc i) y h = absurd (nothing y h)
 at_first (z ∷ nets) x zero y h = inl h

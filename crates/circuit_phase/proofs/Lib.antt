@@ -4,4 +4,5 @@ pub mod Drawing
 pub mod Endings
 pub mod Grounding
 pub mod Marked
+pub mod Series
 pub mod Terminals

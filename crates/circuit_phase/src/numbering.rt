@@ -1,8 +1,8 @@
 //! Nets of a cell, numbered as they are first named.
-ghost use Rattle.std.specs.Prelude.{◌≡◌, ◌<◌, ◌∷◌, [], Some, length, slice_get, IfOk, OnOk};
+ghost use Rattle.std.specs.Prelude.{◌≡◌, ◌<◌, ◌∷◌, ℕ, [], Some, length, get_or, slice_get, IfOk, OnOk};
 ghost use Rattle.plain_netlist.specs.Lists.{AreApart};
 ghost use Rattle.plain_netlist.specs.Normal.{AreNumbered};
-ghost use Rattle.circuit_phase.specs.Numbering.{with_net};
+ghost use Rattle.circuit_phase.specs.Numbering.{AreNumbersOf, with_net};
 
 use std::alloc::{AllocError, Global};
 use std::marker::Model;
@@ -68,4 +68,22 @@ impl Numbering {
     {
         self.nets
     }
+}
+
+/// The numbers of some nets, in order. Constant time a net.
+pub fn number_nets(
+    alloc: Global,
+    nets: &[u32],
+    numbering: &mut Numbering,
+) -> Result<Vec<u32>, AllocError>
+    requires { (i : ℕ) → i < length nets.now → get_or nets.now i 0 < numbering.old.count }
+    ensures count { OnOk result (numbering.new.count ≡ numbering.old.count) }
+    ensures numbers { IfOk result (λ v.
+        AreNumbersOf numbering.old.nets numbering.new.nets nets.now v.items) }
+{
+    let mut numbers = Vec::new(alloc);
+    for i in 0..nets.len() {
+        numbers.push(numbering.number(nets[i])?)?;
+    }
+    Ok(numbers)
 }
