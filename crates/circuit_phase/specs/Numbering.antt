@@ -1,5 +1,6 @@
 -- Nets in the order in which they are first named.
-use Rattle.std.specs.Prelude.{◌≡◌, Some, length, slice_get, ℕ, Bool, ◌==◌, List, [], ◌∷◌, ◌++◌, if◌then◌else◌}
+use Rattle.std.specs.Prelude.{◌≡◌, Some, length, slice_get, ℕ, Bool, ◌==◌, List}
+use Rattle.std.specs.Prelude.{[], ◌∷◌, ◌++◌, if◌then◌else◌}
 use Rattle.std.specs.List.{list_any}
 use Rattle.plain_netlist.specs.Normal.{AreNumbered}
 

@@ -1,5 +1,6 @@
 //! The transistors of a circuit.
-ghost use Rattle.std.specs.Prelude.{◌≡◌, ◌<◌, List, ◌≤◌, ◌*◌, ◌∷◌, [], Some, length, slice_get, IfOk, OnOk};
+ghost use Rattle.std.specs.Prelude.{◌≡◌, ◌<◌, List, ◌≤◌, ◌*◌, ◌∷◌, [], Some};
+ghost use Rattle.std.specs.Prelude.{length, slice_get, IfOk, OnOk};
 ghost use Rattle.flat_layout.specs.Circuits.{IsDeviceOfGate};
 ghost use Rattle.flat_layout.specs.Gates.{Rule};
 ghost use Rattle.flat_layout.specs.GateTables.{GoodGate};

@@ -1,5 +1,6 @@
 //! Nets of a cell, numbered as they are first named.
-ghost use Rattle.std.specs.Prelude.{◌≡◌, ◌<◌, ◌∷◌, ℕ, [], Some, length, get_or, slice_get, IfOk, OnOk};
+ghost use Rattle.std.specs.Prelude.{◌≡◌, ◌<◌, ◌∷◌, ℕ, [], Some, length};
+ghost use Rattle.std.specs.Prelude.{get_or, slice_get, IfOk, OnOk};
 ghost use Rattle.plain_netlist.specs.Lists.{AreApart};
 ghost use Rattle.plain_netlist.specs.Normal.{AreNumbered};
 ghost use Rattle.circuit_phase.specs.Numbering.{AreNumbersOf, with_net};
