@@ -6,7 +6,8 @@ use Rattle.flat_layout.specs.Nets.{Item, Own, Child, Global, no_cell}
 use Rattle.flat_layout.specs.Pins.{CellPins}
 
 abbrev pub is_drawn_pin : (ℕ → CellPins) → (ℕ → List Bool) → ℕ → ℕ → Bool
-is_drawn_pin pins drawn cell net = get_or (pins cell).pins net false && get_or (drawn cell) net false
+is_drawn_pin pins drawn cell net =
+    get_or (pins cell).pins net false && get_or (drawn cell) net false
 
 -- the item is a drawn pin of a placed cell; of each placement its cell
 abbrev pub is_child_marked : (ℕ → CellPins) → (ℕ → List Bool) → List ℕ → Item → Bool

@@ -1,11 +1,17 @@
 //! The circuit of each cell.
 #![tactic(auto)]
 
+mod devices;
 mod drawn;
+mod laws;
 mod marks;
 mod names;
+mod numbering;
 mod placed;
 
+pub use devices::{TerminalNets, device_row, number_terminals, size};
 pub use drawn::{drawn_names, drawn_nets, pin_nets};
+pub use laws::terminal_law;
 pub use names::{circuit_names, net_names};
+pub use numbering::{Numbering, number_nets};
 pub use placed::{Placed, drawn_marks};

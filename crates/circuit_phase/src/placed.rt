@@ -1,5 +1,6 @@
 //! Marks at the nets with drawn pins of placed cells.
-ghost use Rattle.std.specs.Prelude.{◌≡◌, ◌<◌, ◌==◌, ◌&&◌, ◌||◌, ℕ, Bool, List, Some, false, length, map};
+ghost use Rattle.std.specs.Prelude.{◌≡◌, ◌<◌, ◌==◌, ◌&&◌, ◌||◌, ℕ, Bool, List};
+ghost use Rattle.std.specs.Prelude.{Some, false, length, map};
 ghost use Rattle.std.specs.Prelude.{get_or, slice_get, IfOk};
 ghost use Rattle.deep_tables.specs.declared.nets.Item.{Item};
 ghost use Rattle.deep_tables.specs.Gates.{plain_gate};
