@@ -19,8 +19,9 @@ use cell_graph::Design;
 use deep_tables::CellZones;
 use geo_base::{LayerKey, Rect};
 use job_graph::Reads;
-use rect_sets::RectSet;
+use rect_sets::{RectSet, canonical_rects};
 use std::alloc::{AllocError, Global};
+use std::mem;
 
 // Adds the squares of a cell's grown hull that one reference brings.
 fn push_use<R: Reads<CellZones>>(
@@ -67,6 +68,26 @@ fn push_use<R: Reads<CellZones>>(
     )
 }
 
+// So many rectangles are gathered before they are first made canonical.
+const FIRST_ROOM: usize = 4096;
+
+// Makes rectangles canonical where there are so many: what references bring alike is kept once.
+// Answers how many may be gathered before the next time.
+fn thin(alloc: Global, out: &mut Vec<Rect>, room: usize) -> Result<usize, AllocError>
+    requires { All IsRect out.old.items }
+    ensures rects { OnOk result (All IsRect out.new.items) }
+    ensures covers { OnOk result ((q : Square) → covers out.new.items q ≡ covers out.old.items q) }
+{
+    if out.len() < room {
+        return Ok(room);
+    }
+    let rects = mem::replace(out, Vec::new(alloc));
+    let set = RectSet::canon(alloc, rects)?;
+    canonical_rects();
+    out.extend_from_slice(set.rects())?;
+    Ok(room.max(out.len().saturating_mul(2)))
+}
+
 // The same of all references.
 fn push_uses<R: Reads<CellZones>>(
     alloc: Global,
@@ -92,10 +113,12 @@ fn push_uses<R: Reads<CellZones>>(
         ⊎ IsFromUses design.now (R.value reads.now) name cell key grown.now
         uses.now (length uses.now) q)) }
 {
+    let mut room = FIRST_ROOM;
     for found in uses {
         push_use(
             alloc, out, design, reads, found, name, cell, key, hull, grown,
         )?;
+        room = thin(alloc, out, room)?;
     }
     Ok(())
 }

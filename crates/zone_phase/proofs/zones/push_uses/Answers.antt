@@ -1,4 +1,4 @@
-use Rattle.std.proofs.Common.{◌≡◌, ℕ, slice_index_or, arith, subst, length}
+use Rattle.std.proofs.Common.{◌≡◌, ℕ, slice_index_or, arith, subst, length, sym, ◌∙◌}
 use Rattle.std.proofs.lemmas.Option.{slice_get-get_or}
 use Rattle.zone_phase.specs.declared.uses.Use.{Use}
 use Rattle.zone_phase.proofs.Using.{GrownBy, uses_more}
@@ -17,11 +17,15 @@ pub push_use-requires-clause-entry : goal.push_use-requires-clause-entry
 push_use-requires-clause-entry g c = c.requires.entries c.loop-found.found-index _ (slice_get-get_or c.args.uses.now c.loop-found.found-index no_use c.loop-found-test.true)
 
 pub loop-found-preserved : goal.loop-found-preserved
-loop-found-preserved g c = record {
-  rects = c.in_ok-push_use.ensures.rects;
-  exact = uses_more c.args.design.now (g.R.Reads.value c.args.reads.now) c.args.name c.args.cell c.args.key c.args.grown.now c.args.uses.now c.loop-found.found-index (slice_index_or c.args.uses.now c.loop-found.found-index no_use)
-      c.args.out.now.items c.loop-found.out.items c.push_use.new.out.items (slice_get-get_or c.args.uses.now c.loop-found.found-index no_use c.loop-found-test.true) c.loop-found.invariant.exact c.in_ok-push_use.ensures.exact;
-}
+loop-found-preserved g c =
+    let same = c.in_ok-room.ensures.covers in
+    let brings = c.in_ok-push_use.ensures.exact in
+    record {
+      rects = c.in_ok-room.ensures.rects;
+      exact = uses_more c.args.design.now (g.R.Reads.value c.args.reads.now) c.args.name c.args.cell c.args.key c.args.grown.now c.args.uses.now c.loop-found.found-index (slice_index_or c.args.uses.now c.loop-found.found-index no_use)
+          c.args.out.now.items c.loop-found.out.items c.thin.new.out.items (slice_get-get_or c.args.uses.now c.loop-found.found-index no_use c.loop-found-test.true) c.loop-found.invariant.exact
+          (λ q. (λ h. (brings q).0 (sym (same q) ∙ h), λ s. same q ∙ (brings q).1 s));
+    }
 
 pub returns-clause-exact : goal.returns-clause-exact
 returns-clause-exact g c =
