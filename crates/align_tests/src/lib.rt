@@ -1,6 +1,0 @@
-//! Layouts and schematics, aligned.
-#![tactic(auto)]
-
-mod chain;
-mod conditions;
-mod pairs;
