@@ -63,7 +63,7 @@ begun_search p g d x limit v h good ties ev last =
 
 pub begun : (p : Pair) (g : Graph) (d : Classes) (x limit : ℕ) (v : Level) (ns : Vec (ℕ × ℕ) Global) (vs : Vec Level Global) (ts : Vec Try Global) → IsGraphOf p g → IsWeb (web_of p) → AreTies g d x → v.node ≡ x → v.last ≡ None
     → ns.items ≡ [] → vs.items ≡ [] → ts.items ≡ []
-    → IsUnderWay p g (let u : Search = record { limit = limit; refuted = 0; classes = d; guesses = ns; level = v; outer = vs; rows = ts } in u)
+    → IsUnderWay p g (let u : Search = record { limit = limit; refuted = 0; classes = d; untied = 0; guesses = ns; level = v; outer = vs; rows = ts } in u)
 begun p g d x limit v ns vs ts h good ties ev last en es et = record {
   search = subst (λ (us : List Try). IsSearchOf p g limit ns.items v vs.items us 0) (sym et)
       (subst (λ (us : List Level). IsSearchOf p g limit ns.items v us [] 0) (sym es)
@@ -71,5 +71,7 @@ begun p g d x limit v ns vs ts h good ties ev last en es et = record {
   partition = ties.partition;
   settled = subst (λ (us : List (ℕ × ℕ)). AreSettled (guessed_web g us) d) (sym en) ties.settled;
   guesses = subst (λ (us : List (ℕ × ℕ)). AreGuesses g us) (sym en) (no_guesses g);
+  inside = omega arith;
+  untied = λ a l. absurd (omega arith);
   within = omega arith;
 }

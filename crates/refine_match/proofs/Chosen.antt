@@ -1,5 +1,5 @@
 -- The node that is guessed next, and classes that leave none.
-use Rattle.std.proofs.Common.{◌≡◌, ◌⊎◌, inl, inr, ◌<◌, ◌≤◌, ◌+◌, ℕ, Bool, true, cond, count_by, Option, Some, None, List, [], ◌∷◌, refl, sym, subst, ◌∙◌, ap, arith}
+use Rattle.std.proofs.Common.{◌≡◌, ◌⊎◌, inl, inr, ◌<◌, ◌≤◌, ◌+◌, ℕ, Bool, true, cond, count_by, List, [], ◌∷◌, refl, sym, subst, ◌∙◌, ap, arith}
 use Rattle.std.proofs.lemmas.Bool.{cases_lt}
 use Rattle.plain_netlist.specs.Lists.{IsListed}
 use Rattle.round_laws.specs.Web.{IsWeb, IsNode, Guess, IsSolved, agree, on_left, on_right, under}
@@ -16,12 +16,23 @@ use Rattle.match_graph.proofs.Placed.{index-first, index-last}
 use Rattle.match_rounds.specs.declared.classes.Classes.{Classes}
 use Rattle.match_rounds.specs.Sides.{left_members}
 use Rattle.refine_match.specs.Classes.{AreStableClasses, class_of_node}
-use Rattle.refine_match.specs.Choosing.{tied_with, IsNoLaterTie, IsLeastTied, AreUntied, IsBest, IsBetter}
+use Rattle.refine_match.specs.Choosing.{tied_with, AreNoFewer, HaveNoFewer, IsBetter, IsFirstTied, IsNoLaterTie, IsLeastTied, AreUntied}
 use Rattle.refine_match.proofs.Crossed.{lefts_are}
 
+-- the first tied node is the best one so far
+pub first_best : (g : Graph) (c : Classes) (a : ℕ) → IsFirstTied g c a → IsLeastTied g c (a + 1) a
+first_best g c a h = record {
+  below = omega arith;
+  tied = h.tied;
+  least = λ b l t. elim (cases_lt b a) [
+    | inl m ↦ let u = h.before b m in absurd (omega arith)
+    | inr m ↦ let e : a ≡ b = omega arith in inr (ap (tied_with g c) e, omega arith)
+  ];
+}
+
 -- one node more was looked at
-pub better : (g : Graph) (c : Classes) (n : ℕ) (best : Option ℕ) → IsBest g c n best → IsBetter g c best n → IsBest g c (n + 1) (Some n)
-better g c n (Some a) h b = record {
+pub better : (g : Graph) (c : Classes) (n a : ℕ) → IsLeastTied g c n a → IsBetter g c a n → IsLeastTied g c (n + 1) n
+better g c n a h b = record {
   below = omega arith;
   tied = b.0;
   least = λ x l t. elim (cases_lt x n) [
@@ -29,17 +40,9 @@ better g c n (Some a) h b = record {
     | inr m ↦ let e : x ≡ n = omega arith in inr (ap (tied_with g c) (sym e), omega arith)
   ];
 }
-better g c n None h b = record {
-  below = omega arith;
-  tied = b;
-  least = λ x l t. elim (cases_lt x n) [
-    | inl m ↦ let u = h x m in absurd (omega arith)
-    | inr m ↦ let e : x ≡ n = omega arith in inr (ap (tied_with g c) (sym e), omega arith)
-  ];
-}
 
-pub no_better : (g : Graph) (c : Classes) (n : ℕ) (best : Option ℕ) → IsBest g c n best → (IsBetter g c best n → ⊥) → IsBest g c (n + 1) best
-no_better g c n (Some a) h b =
+pub no_better : (g : Graph) (c : Classes) (n a : ℕ) → IsLeastTied g c n a → (IsBetter g c a n → ⊥) → IsLeastTied g c (n + 1) a
+no_better g c n a h b =
     let below = h.below in
     record {
       below = omega arith;
@@ -55,14 +58,32 @@ no_better g c n (Some a) h b =
             ]
       ];
     }
-no_better g c n None h b = λ x l. elim (cases_lt x n) [
-  | inl m ↦ h x m
-  | inr m ↦
-      let e : x ≡ n = omega arith in
-      elim (cases_lt 1 (tied_with g c n)) [
-        | inl t ↦ absurd (b t)
-        | inr t ↦ subst (λ (y : ℕ). tied_with g c y ≤ 1) (sym e) t
-      ]
+
+-- where no node is tied with fewer, the first such node is the best of all
+pub best_of_all : (g : Graph) (c : Classes) (n m a : ℕ) → IsLeastTied g c n a → n ≤ left_of g → AreNoFewer g c m → tied_with g c a ≡ m → IsLeastTied g c (left_of g) a
+best_of_all g c n m a h inside few e =
+    let below = h.below in
+    record {
+      below = omega arith;
+      tied = h.tied;
+      least = λ b l t.
+          let f = few b l t in
+          elim (cases_lt (tied_with g c a) (tied_with g c b)) [
+            | inl u ↦ inl u
+            | inr u ↦ elim (cases_lt b n) [
+              | inl k ↦ h.least b k t
+              | inr k ↦ inr (omega arith, omega arith)
+            ]
+          ];
+    }
+
+-- one class more was looked at
+pub fewer : (g : Graph) (c : Classes) (n m k : ℕ) → HaveNoFewer g c n m → k ≤ m → (1 < left_members g c n → k ≤ left_members g c n) → HaveNoFewer g c (n + 1) k
+fewer g c n m k h l here d below t = elim (cases_lt d n) [
+  | inl u ↦ let v = h d u t in omega arith
+  | inr u ↦
+      let e : n ≡ d = omega arith in
+      subst (λ (x : ℕ). k ≤ left_members g c x) e (here (subst (λ (x : ℕ). 1 < left_members g c x) (sym e) t))
 ]
 
 -- the numbers of the left side

@@ -1,6 +1,7 @@
 pub mod Crossed
 pub mod Uneven
 pub mod Chosen
+pub mod Untied
 pub mod Mates
 pub mod NextBehind
 pub mod Rising

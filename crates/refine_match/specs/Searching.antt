@@ -90,6 +90,8 @@ pub record IsUnderWay (p : Pair) (g : Graph) (s : Search) : Type 0 where
   pub search : IsSearchOf p g s.limit s.guesses.items s.level s.outer.items s.rows.items s.refuted
   pub partition : IsPartition s.classes (left_of g) (nodes_of g)
   pub settled : AreSettled (guessed_web g s.guesses.items) s.classes
+  pub inside : s.untied ≤ left_of g
+  pub untied : AreUntied g s.classes s.untied
   pub guesses : AreGuesses g s.guesses.items
   pub within : s.refuted ≤ s.limit
 

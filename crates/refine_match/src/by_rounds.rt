@@ -9,7 +9,7 @@ ghost use Rattle.match_rounds.specs.Refined.{AreRefuted, AreSettled, IsVerdict};
 ghost use Rattle.match_rounds.specs.Start.{guessed_web};
 ghost use Rattle.refine_match.specs.ByRounds.{IsFirstRound, IsRoundsAnswer};
 
-use crate::choosing::choose;
+use crate::choosing::{choose, first_tied};
 use crate::evidence::evidence_of;
 use crate::pairings::read_pairing;
 use match_graph::Graph;
@@ -90,7 +90,8 @@ fn by_classes(alloc: Global, graph: &Graph, classes: Classes) -> Result<Rounds, 
     ensures { IfOk result (λ rounds. (p : Pair) → IsGraphOf p graph.now → IsWeb (web_of p)
         → AreMatched p → IsRoundsAnswer p graph.now rounds) }
 {
-    if let Some(node) = choose(graph, &classes) {
+    if let Some(first) = first_tied(graph, &classes, 0) {
+        let node = choose(graph, &classes, first);
         return Ok(Rounds::Tied(classes, node));
     }
     let pairing = read_pairing(alloc, graph, &classes)?;

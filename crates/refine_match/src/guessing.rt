@@ -6,12 +6,12 @@ ghost use Rattle.match_graph.specs.Graph.{IsGraph, left_of, nodes_of};
 ghost use Rattle.match_rounds.specs.Classes.{IsPartition};
 ghost use Rattle.match_rounds.specs.Refined.{AreSettled, HasNoEvenEnd};
 ghost use Rattle.match_rounds.specs.Start.{guessed_web};
-ghost use Rattle.refine_match.specs.Choosing.{IsLeastTied};
+ghost use Rattle.refine_match.specs.Choosing.{AreUntied, IsLeastTied};
 ghost use Rattle.refine_match.specs.Searching.{IsGuessing, IsLonger, IsTried, IsTrying, IsUnderWay};
 ghost use Rattle.refine_match.specs.Searching.{EndsBy, guess_row};
 
 use crate::candidates::Candidate;
-use crate::choosing::choose;
+use crate::choosing::{choose, first_tied};
 use crate::searching::{Level, Search, first_try, settle};
 use match_graph::Graph;
 use match_rounds::{Verdict, refine, single_out};
@@ -20,8 +20,8 @@ use std::alloc::{AllocError, Global};
 
 impl Search {
     /// Guesses that the level's node goes to this candidate, and says whether that leaves no ties.
-    /// A guess that isn't refuted takes the time to part the classes further and a walk over the
-    /// left nodes, one that is the time of all rounds.
+    /// A guess that isn't refuted takes the time to part the classes further and to find the node
+    /// that is guessed next, one that is the time of all rounds.
     pub fn guess(
         &mut self,
         alloc: Global,
@@ -39,8 +39,10 @@ impl Search {
             self.refute(alloc, graph, candidate)?;
             return Ok(false);
         }
-        match choose(graph, &self.classes) {
-            Some(node) => {
+        match first_tied(graph, &self.classes, self.untied) {
+            Some(first) => {
+                self.untied = first;
+                let node = choose(graph, &self.classes, first);
                 self.descend(graph, candidate, node)?;
                 Ok(false)
             }
@@ -68,6 +70,7 @@ impl Search {
         self.refuted += 1;
         self.guesses.pop();
         self.classes = settle(alloc, graph, &self.guesses)?;
+        self.untied = 0;
         Ok(())
     }
 
@@ -79,6 +82,8 @@ impl Search {
         requires settled { AreSettled (guessed_web graph.now self.old.guesses.items)
             self.old.classes }
         requires least { IsLeastTied graph.now self.old.classes (left_of graph.now) node }
+        requires inside { self.old.untied ≤ left_of graph.now }
+        requires untied { AreUntied graph.now self.old.classes self.old.untied }
         ensures way { (p : Pair) → IsGuessing p graph.now self.old candidate
             → OnOk result (IsUnderWay p graph.now self.new) }
         ensures longer { OnOk result (IsLonger self.old self.new) }

@@ -34,6 +34,8 @@ pub struct Search {
     pub refuted: u32,
     /// The stable classes under the guesses that are open.
     pub classes: Classes,
+    /// The left nodes before this one are in classes of one left node.
+    pub untied: u32,
     /// Those guesses: the node and the last candidate of each level above.
     pub guesses: Vec<(u32, u32)>,
     /// The level whose candidates are tried.
@@ -55,6 +57,7 @@ impl Search {
             limit,
             refuted: 0,
             classes,
+            untied: 0,
             guesses: Vec::new(alloc),
             level: first_try(node),
             outer: Vec::new(alloc),
@@ -94,6 +97,7 @@ impl Search {
                 self.level = level;
                 self.guesses.truncate(self.outer.len());
                 self.classes = settle(alloc, graph, &self.guesses)?;
+                self.untied = 0;
                 Ok(true)
             }
             None => Ok(false),

@@ -11,4 +11,4 @@ pub read_pairing-requires-clause-single : goal.read_pairing-requires-clause-sing
 read_pairing-requires-clause-single c = single c.args.graph.now [] c.args.classes c.requires.partition.inside c.requires.settled c.in_default.ensures
 
 pub returns-in-Some : goal.returns-in-Some
-returns-in-Some c = λ p h good matched. (matched, record { partition = c.requires.partition; settled = c.requires.settled; least = c.in-Some.ensures })
+returns-in-Some c = λ p h good matched. (matched, record { partition = c.requires.partition; settled = c.requires.settled; least = c.choose-node.ensures })
