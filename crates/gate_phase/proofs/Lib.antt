@@ -4,7 +4,9 @@ pub mod Freeing
 pub mod Gathering
 pub mod Grounding
 pub mod Holding
+pub mod Judging
 pub mod Keeping
+pub mod Listing
 pub mod Locals
 pub mod Marking
 pub mod Owning
@@ -15,3 +17,4 @@ pub mod RuleLists
 pub mod Seeding
 pub mod Shaping
 pub mod Telling
+pub mod Terminal
