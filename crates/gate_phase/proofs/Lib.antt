@@ -1,4 +1,5 @@
 pub mod Bringing
+pub mod Bulking
 pub mod Closing
 pub mod Freeing
 pub mod Gathering

@@ -7,6 +7,7 @@
 #![tactic(auto)]
 
 mod below;
+mod bulks;
 mod close;
 mod entries;
 mod frame;
@@ -22,6 +23,7 @@ mod seeds;
 mod shape;
 mod terminals;
 
+pub use bulks::bulk_globals;
 pub use entries::entry_laws;
 pub use kept::{kept_in, kept_rects};
 pub use layer::KeptLayer;
