@@ -45,7 +45,7 @@ close_windows d cell part close sound held is good = λ k r lt.
     let l = listed_get close k r lt in
     frame_rect (hull_of (cell_at d cell)) x (hull_sound d cell sound) (rect_of (covers close) x ((good.each x).0 l)) (λ q e. close_frame d cell part close held is q (listed_has close x q l e))
 
-hull_unit : (o : Option Rect) (q : Square) → HullIsSound o → HullHas o q → IsUnitNear q
+pub hull_unit : (o : Option Rect) (q : Square) → HullIsSound o → HullHas o q → IsUnitNear q
 hull_unit None q sound h = absurd h
 hull_unit (Some w) q sound h =
     let i = has_in w q h in let i0 = i.0 in let i1 = i.1 in let i2 = i.2 in let i3 = i.3 in

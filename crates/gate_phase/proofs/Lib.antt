@@ -1,10 +1,13 @@
 pub mod Bringing
+pub mod Bulking
 pub mod Closing
 pub mod Freeing
 pub mod Gathering
 pub mod Grounding
 pub mod Holding
+pub mod Judging
 pub mod Keeping
+pub mod Listing
 pub mod Locals
 pub mod Marking
 pub mod Owning
@@ -15,3 +18,4 @@ pub mod RuleLists
 pub mod Seeding
 pub mod Shaping
 pub mod Telling
+pub mod Terminal

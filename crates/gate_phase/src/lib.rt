@@ -7,11 +7,14 @@
 #![tactic(auto)]
 
 mod below;
+mod bulks;
 mod close;
 mod entries;
 mod frame;
+mod judged;
 mod kept;
 mod layer;
+mod list;
 mod nets;
 mod own;
 mod reads;
@@ -20,9 +23,11 @@ mod seeds;
 mod shape;
 mod terminals;
 
+pub use bulks::bulk_globals;
 pub use entries::entry_laws;
 pub use kept::{kept_in, kept_rects};
 pub use layer::KeptLayer;
+pub use list::cell_gates;
 pub use nets::{net_at, net_of_global};
 pub use own::{OwnGate, own_gates};
 pub use terminals::{TerminalNets, terminal_nets};

@@ -1,0 +1,100 @@
+//! The gates of a cell's list for one device rule, from the cell's own gates.
+ghost use Rattle.std.specs.Prelude.{◌≡◌, ℕ, Some, length, slice_get, IfOk};
+ghost use Rattle.deep_tables.specs.Gates.{plain_cause};
+ghost use Rattle.gate_shapes.specs.Shapes.{cause_of};
+ghost use Rattle.net_link_laws.specs.Laws.{AreNetsUnder};
+ghost use Rattle.gate_phase.specs.Judged.{AreGatesOf, IsGateOf, IsHeldShape, IsStateOf};
+ghost use Rattle.gate_phase.specs.declared.own.OwnGate.{OwnGate};
+
+use crate::own::OwnGate;
+use crate::terminals::terminal_nets;
+use deep_tables::{Gate, GateCause, GateState};
+use gate_shapes::{GateCause as ShapeCause, GateShape};
+use geo_base::Square;
+use net_walk::Cells;
+use rule_text::MosRule;
+use std::alloc::{AllocError, Global};
+
+// The cause of a bad shape, as the table has it.
+fn table_cause(cause: ShapeCause) -> GateCause
+    ensures { plain_cause result ≡ cause_of cause }
+{
+    match cause {
+        ShapeCause::Groups(count) => GateCause::Groups(count),
+        ShapeCause::OffGate => GateCause::OffGate,
+        ShapeCause::OffSd => GateCause::OffSd,
+        ShapeCause::NoBulk => GateCause::NoBulk,
+        ShapeCause::NoLength => GateCause::NoLength,
+    }
+}
+
+// The verdict on a gate of this shape.
+fn state_of<C: Cells>(
+    alloc: Global,
+    cells: &C,
+    cell: u32,
+    rule: &MosRule,
+    global: Option<u32>,
+    globals: u32,
+    least: Square,
+    shape: GateShape,
+) -> Result<GateState, AllocError>
+    requires globals { globals ≡ length (C.wiring cells.now).globals }
+    requires nets { AreNetsUnder (C.design cells.now) (C.wiring cells.now) (C.tables cells.now)
+        cell }
+    requires held { IsHeldShape (C.design cells.now) (C.wiring cells.now) (C.tables cells.now)
+        rule.now cell global least shape }
+    ensures { IfOk result (IsStateOf (C.design cells.now) (C.wiring cells.now) (C.tables cells.now)
+        rule.now global cell least shape) }
+{
+    match shape {
+        GateShape::Bad(cause) => Ok(GateState::Bad(table_cause(cause))),
+        GateShape::Good(form) => {
+            let nets = terminal_nets(alloc, cells, cell, rule, global, globals, least, &form)?;
+            Ok(GateState::Good {
+                twice_w: form.twice_w,
+                twice_l: form.twice_l,
+                source: nets.source,
+                drain: nets.drain,
+                gate: nets.gate,
+                bulk: nets.bulk,
+            })
+        }
+    }
+}
+
+/// The gates of a cell's list for a device rule, one for each of the cell's own gates for it, in
+/// their order. A walk in a window of one square for each terminal.
+pub fn judged_gates<C: Cells>(
+    alloc: Global,
+    cells: &C,
+    cell: u32,
+    device: u32,
+    rule: &MosRule,
+    global: Option<u32>,
+    globals: u32,
+    own: Vec<OwnGate>,
+) -> Result<Vec<Gate>, AllocError>
+    requires globals { globals ≡ length (C.wiring cells.now).globals }
+    requires nets { AreNetsUnder (C.design cells.now) (C.wiring cells.now) (C.tables cells.now)
+        cell }
+    requires held { (i : ℕ) (x : OwnGate) → slice_get own.items i ≡ Some x → IsHeldShape
+        (C.design cells.now) (C.wiring cells.now) (C.tables cells.now) rule.now cell global x.least
+        x.shape }
+    ensures { IfOk result (λ v. AreGatesOf (IsGateOf (C.design cells.now) (C.wiring cells.now)
+        (C.tables cells.now) rule.now global device cell) own.items v.items) }
+{
+    let mut gates = Vec::new(alloc);
+    for gate in own {
+        let state = state_of(
+            alloc, cells, cell, rule, global, globals, gate.least, gate.shape,
+        )?;
+        gates.push(Gate {
+            device,
+            area: gate.area,
+            least: gate.least,
+            state,
+        })?;
+    }
+    Ok(gates)
+}
