@@ -1,1 +1,2 @@
+pub mod Cornering
 pub mod Ordered

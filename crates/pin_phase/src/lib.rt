@@ -2,7 +2,9 @@
 #![tactic(auto)]
 
 mod bases;
+mod corners;
 mod tags;
 
 pub use bases::base_name;
+pub use corners::pieces_at;
 pub use tags::Tag;
