@@ -1,2 +1,3 @@
 pub mod Cornering
 pub mod Ordered
+pub mod Tagging

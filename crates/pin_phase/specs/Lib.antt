@@ -1,2 +1,3 @@
 pub mod Bases
 pub mod Corners
+pub mod Sets

@@ -3,8 +3,10 @@
 
 mod bases;
 mod corners;
+mod sets;
 mod tags;
 
 pub use bases::base_name;
 pub use corners::pieces_at;
+pub use sets::NetTags;
 pub use tags::Tag;
