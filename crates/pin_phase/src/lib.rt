@@ -5,8 +5,10 @@ mod bases;
 mod corners;
 mod sets;
 mod tags;
+mod texts;
 
 pub use bases::base_name;
 pub use corners::pieces_at;
 pub use sets::NetTags;
 pub use tags::Tag;
+pub use texts::tag_pieces;

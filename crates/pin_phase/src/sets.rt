@@ -35,7 +35,8 @@ impl NetTags {
     /// Gives a net one tag more.
     pub fn add(&mut self, net: u32, tag: Tag) -> Result<(), AllocError>
         requires { net < length self.old }
-        ensures { OnOk result (AddsTags (λ (x : ℕ) (s : List ℕ). (x ≡ net) × (s ≡ tag)) self.old self.new) }
+        ensures { OnOk result (AddsTags (λ (x : ℕ) (s : List ℕ). (x ≡ net) × (s ≡ tag)) self.old
+            self.new) }
     {
         self.lists[net as usize].push(tag)?;
         Ok(())
