@@ -1,0 +1,4 @@
+pub mod Cornering
+pub mod Ordered
+pub mod Tagging
+pub mod Texting

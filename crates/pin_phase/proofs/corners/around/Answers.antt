@@ -1,0 +1,9 @@
+use Rattle.std.proofs.Common.{arith}
+use Rattle.std.proofs.lemmas.Int.{ints, clamps}
+use Rattle.geo_base.proofs.Spans.{same_rect}
+use Rattle.pin_phase.proofs.corners.around.Goals as goal
+
+pub returns : goal.returns
+returns c =
+    let n = c.requires in
+    same_rect _ _ (omega (arith, ints, clamps)) (omega (arith, ints, clamps)) (omega (arith, ints, clamps)) (omega (arith, ints, clamps))
