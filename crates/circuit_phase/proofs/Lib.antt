@@ -1,4 +1,6 @@
+pub mod Adding
 pub mod Children
+pub mod Copying
 pub mod Counting
 pub mod Drawing
 pub mod Endings
