@@ -4,6 +4,7 @@
 mod cells;
 mod devices;
 mod drawn;
+mod gated;
 mod laws;
 mod marks;
 mod names;
@@ -14,6 +15,7 @@ mod rows;
 pub use cells::placed_cells;
 pub use devices::{TerminalNets, device_row, number_terminals, size};
 pub use drawn::{drawn_names, drawn_nets, pin_nets};
+pub use gated::gated_cells;
 pub use laws::terminal_law;
 pub use names::{circuit_names, net_names};
 pub use numbering::{Numbering, number_nets};
