@@ -4,6 +4,7 @@ pub mod Copying
 pub mod Counting
 pub mod Drawing
 pub mod Endings
+pub mod Filtering
 pub mod Gating
 pub mod Grounding
 pub mod Marked

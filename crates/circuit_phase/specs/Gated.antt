@@ -1,5 +1,5 @@
 -- Cells with a good gate in or below them.
-use Rattle.std.specs.Prelude.{ℕ, Bool, true, false, List, get_or}
+use Rattle.std.specs.Prelude.{ℕ, ◌==◌, ◌||◌, Bool, true, false, List, get_or}
 use Rattle.std.specs.List.{list_any}
 use Rattle.cell_graph.specs.declared.cells.Place.{Place}
 use Rattle.deep_tables.specs.Gates.{plain_state}
@@ -25,3 +25,7 @@ has_good gates = list_any (λ (gate : Gate). is_good (plain_state gate.state)) g
 -- some reference is one to a marked cell
 abbrev pub has_marked : List Bool → List Place → Bool
 has_marked marks places = list_any (λ (p : Place). get_or marks p.cell false) places
+
+-- it has a circuit: the top, or a cell that is marked so
+abbrev pub is_circuit_cell : ℕ → List Bool → ℕ → Bool
+is_circuit_cell top marks cell = (cell == top) || get_or marks cell false

@@ -9,6 +9,7 @@ mod laws;
 mod marks;
 mod names;
 mod numbering;
+mod ordered;
 mod placed;
 mod rows;
 
@@ -19,5 +20,6 @@ pub use gated::gated_cells;
 pub use laws::terminal_law;
 pub use names::{circuit_names, net_names};
 pub use numbering::{Numbering, number_nets};
+pub use ordered::circuit_cells;
 pub use placed::{Placed, drawn_marks};
 pub use rows::device_rows;
