@@ -1,7 +1,11 @@
+pub mod Adding
 pub mod Children
+pub mod Copying
 pub mod Counting
 pub mod Drawing
 pub mod Endings
+pub mod Filtering
+pub mod Gating
 pub mod Grounding
 pub mod Marked
 pub mod Series

@@ -6,7 +6,7 @@ use Rattle.plain_netlist.specs.Normal.{AreNumbered}
 use Rattle.circuit_phase.specs.Numbering.{AreNumbersOf, with_net}
 use Rattle.circuit_phase.proofs.Counting.{at_first, kept_in}
 
-numbered_on : (z m a : ℕ) (xs ys : List ℕ) → AreNumbered m a xs → AreNumbered z m ys → AreNumbered z a (xs ++ ys)
+pub numbered_on : (z m a : ℕ) (xs ys : List ℕ) → AreNumbered m a xs → AreNumbered z m ys → AreNumbered z a (xs ++ ys)
 numbered_on z m a [] ys h g = subst (λ (k : ℕ). AreNumbered z k ys) (sym h) g
 numbered_on z m a (x ∷ xs) ys (inl h) g = inl (h.0, numbered_on z m a xs ys h.1 g)
 numbered_on z m a (x ∷ xs) ys (inr h) g = inr (h.0, numbered_on z m (suc a) xs ys h.1 g)

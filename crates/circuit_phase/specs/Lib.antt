@@ -1,5 +1,6 @@
 pub mod Devices
 pub mod Drawn
+pub mod Gated
 pub mod Laws
 pub mod Marks
 pub mod Names

@@ -16,10 +16,14 @@ has_net nets x = list_any (λ y. y == x) nets
 abbrev pub with_net : List ℕ → ℕ → List ℕ
 with_net nets x = if has_net nets x then nets else nets ++ x ∷ []
 
+-- each net that was numbered keeps its number
+abbrev pub AreKept : List ℕ → List ℕ → Type 0
+AreKept old new = (i x : ℕ) → slice_get old i ≡ Some x → slice_get new i ≡ Some x
+
 -- each net that was numbered keeps its number; these are the numbers of these nets, as normal form
 -- wants
 pub record AreNumbersOf (old new nets numbers : List ℕ) : Type 0 where
-  pub kept : (i x : ℕ) → slice_get old i ≡ Some x → slice_get new i ≡ Some x
+  pub kept : AreKept old new
   pub count : length numbers ≡ length nets
   pub each : (i x n : ℕ) → slice_get nets i ≡ Some x → slice_get numbers i ≡ Some n
       → slice_get new n ≡ Some x

@@ -11,7 +11,7 @@ use deep_tables::CellPins;
 use net_names::Name;
 use std::alloc::{AllocError, Global};
 
-fn push_if(nets: &mut Vec<u32>, net: u32, wanted: bool) -> Result<(), AllocError>
+pub(crate) fn push_if(nets: &mut Vec<u32>, net: u32, wanted: bool) -> Result<(), AllocError>
     ensures { OnOk result (nets.new.items
         ≡ nets.old.items ++ (if wanted then net ∷ [] else [])) }
 {
