@@ -1,10 +1,10 @@
 -- The tags of the nets of pieces.
-use Rattle.std.proofs.Common.{◌≡◌, ◌⊎◌, ◌↔◌, inl, inr, ℕ, suc, zero, ◌<◌, ◌+◌, List, [], ◌∷◌, ◌++◌, length, take, get_or, refl, sym, ◌∙◌, ap, subst, arith}
+use Rattle.std.proofs.Common.{◌≡◌, ◌⊎◌, inl, inr, ℕ, suc, zero, ◌<◌, ◌+◌, List, [], ◌∷◌, ◌++◌, length, take, get_or, refl, sym, ◌∙◌, ap, subst, arith}
 use Rattle.std.proofs.Math.Seq.{take-length}
 use Rattle.std.proofs.lemmas.List.{take_more}
 use Rattle.net_link_laws.specs.declared.piece.NetPiece.{NetPiece}
 use Rattle.pin_phase.specs.Corners.{IsPieceOf}
-use Rattle.pin_phase.specs.Sets.{AddsTags, HasTag}
+use Rattle.pin_phase.specs.Sets.{AddsTags}
 
 -- these nets have the text
 abbrev pub IsTold : List NetPiece → List ℕ → ℕ → List ℕ → Type 0
