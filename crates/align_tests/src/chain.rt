@@ -1,0 +1,58 @@
+ghost use Rattle.std.specs.Prelude.{◌<◌};
+
+use crate::conditions::{are_callees_first, is_alignable, read};
+use net_align::align;
+use std::alloc::{AllocError, Global};
+use std::test::Fail;
+
+const COUNT: u32 = 1000;
+
+// Circuits C0 to C999, each `step`th with a device on its pin for each of the circuits that it
+// stands for, and a call of the one before it.
+fn chain(alloc: Global, step: u32) -> Result<String, AllocError>
+    requires { 0 < step }
+{
+    let mut text = String::new(alloc);
+    for i in 0..COUNT {
+        if (COUNT - 1 - i) % step == 0 {
+            text.push_str(&format!(in alloc; ".subckt c{i} p\n")?)?;
+            for k in 0..step {
+                text.push_str(&format!(in alloc; "m{k} p p p p n l=1u w=1u\n")?)?;
+            }
+            if i >= step {
+                text.push_str(&format!(in alloc; "x1 p c{}\n", i - step)?)?;
+            }
+            text.push_str(".ends\n")?;
+        }
+    }
+    Ok(text)
+}
+
+// Of a chain of circuits every second has a partner, which has the devices of both.
+#[test]
+fn every_second(rt: HostRuntime) -> Result<(), Fail> {
+    let alloc = rt.alloc();
+    let layout = read(alloc, chain(alloc, 1)?.as_str())?;
+    let schematic = read(alloc, chain(alloc, 2)?.as_str())?;
+    assert!(rt; is_alignable(&layout));
+    assert!(rt; is_alignable(&schematic));
+    assert!(rt; are_callees_first(&layout));
+    assert!(rt; layout.circuits.len() == 1000);
+    let same = Vec::new(alloc);
+    let Some(found) = align(alloc, &layout, 999, &schematic, &same)? else {
+        return Err(Fail::from("no partner"));
+    };
+    assert_eq!(rt; found.left.circuits.len(), 500);
+    assert_eq!(rt; found.right.circuits.len(), 500);
+    for k in 0..500 {
+        let left = &found.left.circuits[k];
+        let right = &found.right.circuits[k];
+        assert_eq!(rt; left.name.bytes(), right.name.bytes(), "pair {k}");
+        assert_eq!(rt; left.devices.len(), 2, "pair {k}");
+        assert_eq!(rt; left.nets.len(), 1, "pair {k}");
+        for call in &left.calls {
+            assert_eq!(rt; call.circuit as usize + 1, k, "pair {k}");
+        }
+    }
+    Ok(())
+}

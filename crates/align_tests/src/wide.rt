@@ -1,0 +1,58 @@
+use crate::conditions::{are_callees_first, is_alignable, read};
+use net_align::align;
+use spice_text::write_spice;
+use std::alloc::{AllocError, Global};
+use std::test::Fail;
+
+const COUNT: u32 = 100_000;
+
+// A top with as many calls of one transistor.
+fn called(alloc: Global) -> Result<String, AllocError> {
+    let mut text = String::new(alloc);
+    text.push_str(".subckt leaf a b\nm1 a b a a n l=1u w=1u\n.ends\n.subckt top s\n")?;
+    for k in 0..COUNT {
+        text.push_str(&format!(in alloc; "x{k} s n{k} leaf\n")?)?;
+    }
+    text.push_str(".ends\n")?;
+    Ok(text)
+}
+
+// The same without calls.
+fn flat(alloc: Global) -> Result<String, AllocError> {
+    let mut text = String::new(alloc);
+    text.push_str(".subckt top s\n")?;
+    for k in 0..COUNT {
+        text.push_str(&format!(in alloc; "m{k} s n{k} s s n l=1u w=1u\n")?)?;
+    }
+    text.push_str(".ends\n")?;
+    Ok(text)
+}
+
+// Both sides become the flat circuit.
+fn both_flat(alloc: Global, layout: &str, top: u32, schematic: &str) -> Result<bool, Fail> {
+    let layout = read(alloc, layout)?;
+    let schematic = read(alloc, schematic)?;
+    if !is_alignable(&layout) || !is_alignable(&schematic) || !are_callees_first(&layout) {
+        return Ok(false);
+    }
+    if top as usize >= layout.circuits.len() {
+        return Ok(false);
+    }
+    let same = Vec::new(alloc);
+    let Some(found) = align(alloc, &layout, top, &schematic, &same)? else {
+        return Ok(false);
+    };
+    let left = write_spice(alloc, &found.left)?;
+    let right = write_spice(alloc, &found.right)?;
+    Ok(left.len() > 1_000_000 && left.as_slice() == right.as_slice())
+}
+
+#[test]
+fn calls_against_flat(rt: HostRuntime) -> Result<(), Fail> {
+    let alloc = rt.alloc();
+    let called = called(alloc)?;
+    let flat = flat(alloc)?;
+    assert!(rt; both_flat(alloc, called.as_str(), 1, flat.as_str())?);
+    assert!(rt; both_flat(alloc, flat.as_str(), 0, called.as_str())?);
+    Ok(())
+}
