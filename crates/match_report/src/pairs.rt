@@ -2,7 +2,8 @@
 ghost use Rattle.std.specs.Prelude.{◌≡◌, ◌++◌, ◌∷◌, [], OnOk, codes, map, slice_get};
 ghost use Rattle.match_report.specs.Pairs.{answer_text, end_word, guess_line, guess_lines};
 ghost use Rattle.match_report.specs.Pairs.{match_lines, name_of, net_lines, pair_text};
-ghost use Rattle.match_report.specs.Pairs.{count_words, node_words, nets_of, pair_texts, place_lines};
+ghost use Rattle.match_report.specs.Pairs.{count_words, node_words, nets_of, pair_texts};
+ghost use Rattle.match_report.specs.Pairs.{place_lines};
 ghost use Rattle.match_report.specs.Pairs.{round_line};
 ghost use Rattle.match_report.specs.Words.{name_word};
 ghost use Rattle.match_types.specs.Plain.{plain_answer, plain_end, plain_node};

@@ -18,7 +18,8 @@ abbrev pub AreGuessesOf : Pair → List (ℕ × ℕ) → List (Guess Node) → T
 AreGuessesOf p numbers guesses = map plain_guess numbers ≡ map (renamed_guess (index_of p)) guesses
 
 -- a graph of a pair, and guesses in both forms
-pub record AreTold (p : Pair) (g : Graph) (ns : List (ℕ × ℕ)) (qs : List (Guess Node)) : Type 0 where
+pub record AreTold (p : Pair) (g : Graph) (ns : List (ℕ × ℕ)) (qs : List (Guess Node)) :
+    Type 0 where
   pub graph : IsGraphOf p g
   pub good : IsWeb (web_of p)
   pub names : AreGuessesOf p ns qs

@@ -3,7 +3,8 @@ use Rattle.std.specs.Prelude.{◌≢◌, ◌⊎◌, ◌<◌, ◌≤◌, ◌==◌
 use Rattle.plain_netlist.specs.Netlist.{DeviceRow}
 use Rattle.round_laws.specs.Web.{Web, IsNode, IsStable, on_left, on_right}
 use Rattle.round_laws.specs.Nodes.{Node}
-use Rattle.round_laws.specs.Guesses.{Search as Guesses, HasEnded, HasFound, IsWholeSearch, refuted_in}
+use Rattle.round_laws.specs.Guesses.{Search as Guesses, HasEnded, HasFound, IsWholeSearch}
+use Rattle.round_laws.specs.Guesses.{refuted_in}
 use Rattle.match_laws.specs.Circuits.{Pair, Pairing, IsCorrespondence}
 use Rattle.match_laws.specs.Answer.{equal_names, setting_of}
 use Rattle.match_types.specs.declared.answer.Answer.{Answer}

@@ -1,5 +1,5 @@
-//! Tests of the comparison of two circuits: rounds with unequal counts, a latch whose inner nets are
-//! exchanged, rings that only guesses tell apart, a called pair, a long chain, and small pairs
+//! Tests of the comparison of two circuits: rounds with unequal counts, a latch whose inner nets
+//! are exchanged, rings that only guesses tell apart, a called pair, a long chain, and small pairs
 //! decided by every map.
 #![tactic(auto)]
 
