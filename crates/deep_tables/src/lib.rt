@@ -27,4 +27,5 @@ pub use laws::{
 pub use layers::{CellLayers, Layers};
 pub use nets::{CellNets, Item, NetSource, Nets};
 pub use pins::{CellPins, Pins};
+pub use table::positions;
 pub use zones::{CellZones, ZoneKey, Zones};

@@ -25,8 +25,8 @@ impl<T> Model for Table<T> {
     ghost view = { λ t. map (λ job. slice_get t.results job) t.jobs.items };
 }
 
-// The position in a list of numbers at which each number stands.
-fn positions(alloc: Global, count: u32, order: &[u32]) -> Result<Vec<u32>, AllocError>
+/// The position in a list of numbers at which each number stands, 0 for those that don't. Linear.
+pub fn positions(alloc: Global, count: u32, order: &[u32]) -> Result<Vec<u32>, AllocError>
     requires apart { AreApart count order.now }
     requires few { length order.now < 2 ^ 32 }
     ensures count { IfOk result (λ r. length r.items ≡ count) }

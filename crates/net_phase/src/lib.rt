@@ -10,6 +10,9 @@ mod phase;
 mod reading;
 mod wires;
 
+pub use elements::all_elements;
+pub use graph::below_graph;
 pub use items::list_items;
+pub use own::own_lists;
 pub use phase::NetPhase;
 pub use wires::{Wires, find_wires};

@@ -16,4 +16,6 @@ mod windows;
 mod zones;
 
 pub use laws::{sibling_law, zone_law};
+pub use parents::parent_graph;
 pub use phase::ZonePhase;
+pub use uses::{Use, find_uses};
