@@ -9,7 +9,8 @@ use Rattle.geo_base.specs.declared.layer.LayerKey.{LayerKey}
 use Rattle.geo_base.specs.declared.shapes.Square.{Square}
 use Rattle.rect_sets.specs.Rects.{covers}
 use Rattle.cell_graph.specs.declared.cells.OwnLayer.{OwnLayer}
-use Rattle.cell_graph.specs.Linked.{AreApart, HasNone}
+use Rattle.cell_graph.specs.Linked.{layer_keys}
+use Rattle.plain_netlist.specs.Lists.{IsListed, AreApart}
 use Rattle.gds_elements.specs.Meaning.{Shape}
 use Rattle.gds_layout.specs.declared.piles.Pile.{Pile}
 use Rattle.gds_layout.specs.declared.piles.Piles.{Piles}
@@ -70,24 +71,24 @@ or_false : (a b : Bool) → (a || b) ≡ false → (a ≡ false) × (b ≡ false
 or_false true b e = absurd cc
 or_false false b e = (refl, e)
 
-has_none : (key : LayerKey) (ps : List Pile) (ls : List OwnLayer) → AreFilled ps ls → list_any (is_same_key key) (keys_of ps) ≡ false → HasNone key ls
-has_none key [] [] f e = tt
-has_none key (p ∷ ps) [] f e = absurd f
-has_none key [] (l ∷ ls) f e = absurd f
-has_none key (p ∷ ps) (l ∷ ls) f e =
-    let parts = or_false (is_same_key key p.key) (list_any (is_same_key key) (keys_of ps)) e in (
-      λ h. let same : p.key ≡ key = sym f.0.key_is ∙ h in
-          let bad : true ≡ false = sym (itself key) ∙ ap (λ (q : LayerKey). is_same_key key q) (sym same) ∙ parts.0 in
-          absurd cc,
-      has_none key ps ls f.1 parts.1,
-    )
+has_none : (key : LayerKey) (ps : List Pile) (ls : List OwnLayer) → AreFilled ps ls → list_any (is_same_key key) (keys_of ps) ≡ false → IsListed key (layer_keys ls) → ⊥
+has_none key [] [] f e h = h
+has_none key (p ∷ ps) [] f e h = f
+has_none key [] (l ∷ ls) f e h = f
+has_none key (p ∷ ps) (l ∷ ls) f e (inl h) =
+    let parts = or_false (is_same_key key p.key) (list_any (is_same_key key) (keys_of ps)) e in
+    let same : key ≡ p.key = h ∙ f.0.key_is in
+    let bad : true ≡ false = sym (itself key) ∙ ap (λ (q : LayerKey). is_same_key key q) same ∙ parts.0 in
+    absurd (let z : ⊥ = cc in z)
+has_none key (p ∷ ps) (l ∷ ls) f e (inr h) =
+    has_none key ps ls f.1 (or_false (is_same_key key p.key) (list_any (is_same_key key) (keys_of ps)) e).1 h
 
-apart : (ps : List Pile) (ls : List OwnLayer) → AreFilled ps ls → AreDifferent (keys_of ps) → AreApart ls
+apart : (ps : List Pile) (ls : List OwnLayer) → AreFilled ps ls → AreDifferent (keys_of ps) → AreApart (layer_keys ls)
 apart [] [] f d = tt
 apart (p ∷ ps) [] f d = absurd f
 apart [] (l ∷ ls) f d = absurd f
 apart (p ∷ ps) (l ∷ ls) f d =
-    (subst (λ (k : LayerKey). HasNone k ls) (sym f.0.key_is) (has_none p.key ps ls f.1 d.0), apart ps ls f.1 d.1)
+    (subst (λ (k : LayerKey). IsListed k (layer_keys ls) → ⊥) (sym f.0.key_is) (has_none p.key ps ls f.1 d.0), apart ps ls f.1 d.1)
 
 -- each pile of the second list alone covers what the first covers on its layer
 abbrev Owns : List Pile → List Pile → Type 0
