@@ -1,8 +1,8 @@
 -- The globals of bulks.
-use Rattle.std.proofs.Common.{◌≡◌, ◌⊎◌, inl, inr, ℕ, zero, suc, ◌<◌, ◌+◌, ◌++◌, Bool, true, false, ◌==◌, if◌then◌else◌, List, [], ◌∷◌, Option, Some, None, map, take, get_or, slice_get, length, refl, sym, ◌∙◌, ap, subst, arith}
+use Rattle.std.proofs.Common.{◌≡◌, inl, inr, ℕ, zero, suc, ◌<◌, if◌then◌else◌, List, [], ◌∷◌, Some, None, map, take, slice_get, length, refl, sym, ◌∙◌, ap, arith}
 use Rattle.std.proofs.Math.Seq.{take-length}
 use Rattle.std.proofs.lemmas.Bool.Decides.{eqb_tells}
-use Rattle.flat_layout.specs.Regions.{Line, ground_of}
+use Rattle.flat_layout.specs.Regions.{ground_of}
 use Rattle.net_phase.specs.Wires.{ground_line}
 use Rattle.net_walk.specs.declared.globals.Grounded.{Grounded}
 

@@ -7,9 +7,9 @@ use Rattle.flat_layout.specs.Layout.{Design}
 use Rattle.flat_layout.specs.Nets.{Tables}
 use Rattle.flat_layout.specs.Regions.{Wiring}
 use Rattle.rule_text.specs.declared.rules.MosRule.{MosRule}
-use Rattle.deep_tables.specs.Gates.{plain_gate, plain_state}
+use Rattle.deep_tables.specs.Gates.{plain_gate}
 use Rattle.deep_tables.specs.declared.gates.Gate.{Gate}
-use Rattle.gate_phase.specs.Judged.{AreGatesOf, IsGateOf, IsHeldShape}
+use Rattle.gate_phase.specs.Judged.{AreGatesOf, IsGateOf}
 use Rattle.gate_phase.specs.Rows.{AreEntriesOf, IsVerdictOf}
 use Rattle.gate_phase.specs.Terminals.{IsOfRule}
 use Rattle.gate_phase.specs.declared.own.OwnGate.{OwnGate}

@@ -1,15 +1,15 @@
 -- The terminals of a settled good gate are held by nets of its cell.
-use Rattle.std.proofs.Common.{◌≡◌, inr, ℕ, ◌<◌, [], Option, Some, None, refl, sym, ◌∙◌, ap, subst}
+use Rattle.std.proofs.Common.{◌≡◌, inr, ℕ, Option, Some, None, refl, subst}
 use Rattle.cell_graph.proofs.Bridge.{heights}
 use Rattle.cell_graph.specs.Linked.{IsSound, Linked, cell_at, height_at, hull_of, plain}
 use Rattle.cell_graph.proofs.Bridge.{hull_sound}
 use Rattle.deep_tables.specs.Nets.{AreRightNets}
 use Rattle.flat_laws.proofs.OneNet.{regions}
 use Rattle.flat_laws.proofs.Terminals.{terminals}
-use Rattle.flat_layout.specs.Gates.{Edge, InGate, IsTerminalNode, Rule, geometry, ground, sheets}
+use Rattle.flat_layout.specs.Gates.{InGate, IsTerminalNode, Rule, geometry, ground, sheets}
 use Rattle.flat_layout.specs.Layout.{IsReached}
-use Rattle.flat_layout.specs.Nets.{AreTables, NetHolds, Tables}
-use Rattle.flat_layout.specs.Regions.{At, Ground, IsNode, Node, Wiring, formula, kept}
+use Rattle.flat_layout.specs.Nets.{AreTables, Tables}
+use Rattle.flat_layout.specs.Regions.{At, IsNode, Node, Wiring, formula, kept}
 use Rattle.geo_base.specs.declared.shapes.Square.{Square}
 use Rattle.gate_shapes.specs.Shapes.{IsShape}
 use Rattle.gate_shapes.specs.declared.shape.GateForm.{GateForm}
@@ -19,13 +19,13 @@ use Rattle.net_link_laws.proofs.Held.{conductor}
 use Rattle.net_link_laws.specs.Laws.{AreNetsUnder}
 use Rattle.plain_netlist.specs.Netlist.{Bulk, Drain, Gate, Pole, Source}
 use Rattle.rule_layers.proofs.Wired.{known}
-use Rattle.rule_layers.specs.Meaning.{device_rules, wiring_of}
+use Rattle.rule_layers.specs.Meaning.{wiring_of}
 use Rattle.rule_text.specs.Rules.{Rules}
 use Rattle.rule_text.specs.declared.rules.MosRule.{MosRule}
 use Rattle.table_laws.proofs.Tabled.{reached_under}
 use Rattle.table_laws.proofs.Tabled as tabled
 use Rattle.gate_phase.specs.Judged.{IsHeldShape}
-use Rattle.gate_phase.specs.Own.{IsOwnGate, IsUnitNear}
+use Rattle.gate_phase.specs.Own.{IsOwnGate}
 use Rattle.gate_phase.specs.Terminals.{AreHeld, IsHeldBulk, IsHeldSquare, IsOfRule}
 use Rattle.gate_phase.specs.declared.own.OwnGate.{OwnGate}
 use Rattle.gate_phase.proofs.Holding.{hull_unit}

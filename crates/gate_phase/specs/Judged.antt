@@ -1,5 +1,5 @@
 -- The gates of a cell's list for one device rule, from the cell's own gates.
-use Rattle.std.specs.Prelude.{◌≡◌, ℕ, List, [], ◌∷◌, Option, Some, None, map, slice_get}
+use Rattle.std.specs.Prelude.{◌≡◌, ℕ, List, [], ◌∷◌, Option, Some, map, slice_get}
 use Rattle.geo_base.specs.declared.shapes.Square.{Square}
 use Rattle.flat_layout.specs.Gates.{Rule, ground}
 use Rattle.flat_layout.specs.Layout.{Design}

@@ -4,6 +4,7 @@ pub mod Judged
 pub mod Kept
 pub mod Layer
 pub mod Own
+pub mod Phase
 pub mod Reads
 pub mod Rows
 pub mod Search

@@ -2,6 +2,7 @@ pub mod Arraying
 pub mod Graphing
 pub mod Holding
 pub mod Itemizing
+pub mod Knowing
 pub mod Layering
 pub mod Listing
 pub mod Results

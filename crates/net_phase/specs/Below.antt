@@ -1,4 +1,4 @@
--- What a job reads of the cells below its own.
+-- What a job reads of cells.
 use Rattle.std.specs.Prelude.{◌≡◌, ℕ, List, Option, Some, None, get_or, length, slice_get}
 use Rattle.geo_base.specs.Rects.{IsRect}
 use Rattle.geo_base.specs.declared.shapes.Rect.{Rect}
@@ -29,7 +29,7 @@ below_seen a = record {
   design = a.design.now;
   rules = a.rules.now;
   own = rect_lists a.own.now;
-  nets = nets_of a.nets.items;
+  nets = nets_of a.nets.now;
 }
 
 abbrev pub wiring_seen : BelowSeen → Wiring

@@ -1,4 +1,4 @@
-//! What a job reads of the cells below its own.
+//! What a job reads of cells.
 ghost use Rattle.std.specs.Prelude.{◌≡◌, None, [], get_or, length};
 ghost use Rattle.cell_graph.specs.Linked.{cell_at, hull_of};
 ghost use Rattle.rule_layers.specs.Meaning.{wiring_of};
@@ -16,7 +16,7 @@ use rule_text::RuleSet;
 use std::marker::Model;
 
 /// The layout, the rules, the rectangles that cells hold themselves, and the nets of the cells
-/// below one. Contracts see lists by the cells' numbers.
+/// below one, or of all. Contracts see lists by the cells' numbers.
 #[derive(Drop)]
 pub struct Below<'a, 'l> {
     design: &'a Design,
@@ -24,7 +24,7 @@ pub struct Below<'a, 'l> {
     conductors: u32,
     own: &'a [Vec<&'l [Rect]>],
     elements: &'a [Vec<Element>],
-    nets: Vec<Option<&'a CellNets>>,
+    nets: &'a [Option<&'a CellNets>],
 }
 
 impl<'a, 'l> Model for Below<'a, 'l> {
@@ -45,7 +45,7 @@ impl<'a, 'l> Below<'a, 'l> {
         conductors: u32,
         own: &'a [Vec<&'l [Rect]>],
         elements: &'a [Vec<Element>],
-        nets: Vec<Option<&'a CellNets>>,
+        nets: &'a [Option<&'a CellNets>],
     ) -> Below<'a, 'l>
         requires conductors { conductors ≡ length (wiring_of (rules_seen rules.now)).conductors }
         requires elements { AreAllElements design.now (element_lists elements.now) }
@@ -53,7 +53,7 @@ impl<'a, 'l> Below<'a, 'l> {
         ensures design { result.design ≡ design.now }
         ensures rules { result.rules ≡ rules.now }
         ensures own { result.own ≡ rect_lists own.now }
-        ensures nets { result.nets ≡ nets_of nets.entry.items }
+        ensures nets { result.nets ≡ nets_of nets.now }
     {
         design.sound();
         Below {
@@ -131,14 +131,14 @@ impl Cells for Below<'_, '_> {
     }
 
     fn net_of(&self, cell: u32) -> &[u32] {
-        match nets_at(&self.nets, cell) {
+        match nets_at(self.nets, cell) {
             None => &[],
             Some(nets) => nets.net_of.as_slice(),
         }
     }
 
     fn count(&self, cell: u32) -> u32 {
-        match nets_at(&self.nets, cell) {
+        match nets_at(self.nets, cell) {
             None => 0,
             Some(nets) => nets.count,
         }

@@ -5,14 +5,17 @@ mod below;
 mod elements;
 mod graph;
 mod items;
+mod known;
 mod own;
 mod phase;
 mod reading;
 mod wires;
 
+pub use below::Below;
 pub use elements::all_elements;
 pub use graph::below_graph;
 pub use items::list_items;
+pub use known::known_nets;
 pub use own::own_lists;
 pub use phase::NetPhase;
 pub use wires::{Wires, find_wires};

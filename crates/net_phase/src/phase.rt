@@ -147,7 +147,7 @@ impl Phase for NetPhase<'_> {
             self.wires.conductors,
             &self.own,
             &self.elements,
-            nets,
+            &nets,
         );
         cell_nets(alloc, &below, &self.wires, cell)
     }

@@ -1,6 +1,6 @@
-use Rattle.std.proofs.Common.{◌≡◌, ◌∙◌, ℕ, Some, slice_get, slice_index_or, length, sym, ap, subst, arith}
+use Rattle.std.proofs.Common.{◌≡◌, ◌∙◌, Some, slice_get, slice_index_or, sym, ap, subst, arith}
 use Rattle.std.proofs.Math.Decide.{ℕ_discrete}
-use Rattle.std.proofs.lemmas.Option.{slice_get-get_or, slice_get_within}
+use Rattle.std.proofs.lemmas.Option.{slice_get-get_or}
 use Rattle.net_walk.specs.declared.globals.Grounded.{Grounded}
 use Rattle.gate_phase.proofs.Bulking.{first_line, no_line}
 use Rattle.gate_phase.proofs.bulks.ground.Goals as goal

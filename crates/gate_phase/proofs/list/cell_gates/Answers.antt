@@ -1,4 +1,4 @@
-use Rattle.std.proofs.Common.{◌+◌, List, length, sym, subst, arith}
+use Rattle.std.proofs.Common.{◌+◌, List, sym, subst, arith}
 use Rattle.cell_graph.specs.Linked.{plain}
 use Rattle.rule_text.specs.Seen.{rules_seen}
 use Rattle.deep_tables.specs.declared.gates.Gate.{Gate}

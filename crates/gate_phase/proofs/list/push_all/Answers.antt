@@ -1,4 +1,4 @@
-use Rattle.std.proofs.Common.{◌≡◌, ◌∷◌, [], ◌++◌, ◌∙◌, List, length, refl, sym, ap, subst, append-nil, append_assoc, arith}
+use Rattle.std.proofs.Common.{◌≡◌, ◌∷◌, [], ◌++◌, ◌∙◌, List, length, sym, ap, append-nil, append_assoc, arith}
 use Rattle.std.specs.Vec.Iter.{into_iter_items}
 use Rattle.deep_tables.specs.declared.gates.Gate.{Gate}
 use Rattle.gate_phase.proofs.Owning.{nothing_left}

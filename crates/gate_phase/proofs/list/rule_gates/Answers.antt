@@ -1,14 +1,12 @@
 use Rattle.std.proofs.Common.{◌≡◌, ◌∙◌, Some, slice_get, refl, sym, ap, subst}
 use Rattle.std.proofs.lemmas.Option.{slice_get-get_or}
 use Rattle.cell_graph.specs.Linked.{plain}
-use Rattle.flat_layout.specs.Gates.{ground}
 use Rattle.flat_layout.specs.Layout.{Design}
 use Rattle.flat_layout.specs.Regions.{Wiring}
 use Rattle.net_link_laws.specs.Laws.{AreNetsUnder}
-use Rattle.rule_layers.specs.Meaning.{device_rule, device_rules, wiring_of}
+use Rattle.rule_layers.specs.Meaning.{device_rule}
 use Rattle.rule_text.specs.Seen.{rules_seen}
 use Rattle.gate_phase.specs.Judged.{AreGatesOf, IsGateOf, IsHeldShape}
-use Rattle.gate_phase.specs.declared.own.OwnGate.{OwnGate}
 use Rattle.gate_phase.proofs.Listing.{rule_all}
 use Rattle.gate_phase.proofs.Results.{if_ok}
 use Rattle.gate_phase.proofs.Seeding.{rule_there}

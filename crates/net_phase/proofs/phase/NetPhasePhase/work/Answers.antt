@@ -1,9 +1,10 @@
-use Rattle.std.proofs.Common.{◌≡◌, ◌<◌, ◌∙◌, ℕ, List, IsSomeAnd, true, ap, sym, subst, length, slice_index}
+use Rattle.std.proofs.Common.{◌≡◌, ◌<◌, ◌∙◌, ℕ, List, Option, IsSomeAnd, true, ap, sym, subst, length, slice_index}
 use Rattle.std.specs.Borrow.{Bor}
 use Rattle.std.specs.Global.{Vec}
 use Rattle.cell_graph.specs.Linked.{plain}
 use Rattle.deep_tables.specs.Entries.{upward_cell}
 use Rattle.deep_tables.specs.Nets.{AreCellNets}
+use Rattle.deep_tables.specs.declared.nets.CellNets.{CellNets}
 use Rattle.flat_layout.specs.Nets.{AreRightBelow}
 use Rattle.geo_base.specs.declared.shapes.Rect.{Rect}
 use Rattle.job_graph.specs.Graph.{Waits, has}
@@ -40,7 +41,7 @@ cell_nets-requires-clause-right g c =
     (c.requires.right i (subst (λ (z : NetJobs). Waits z.graph job i) c.self.view_is (subst (λ l. has i l ≡ true) c.inputs.ensures h))))) in
     let right = job_right d a.rules.now a.graph all nets job c.inputs.result.now order c.sound.ensures c.self.invariant.graph lt own c.inputs.ensures c.order-order.ensures read in
     let e = c.new-below.ensures in
-    below_right c.new-below.result d a.rules.now all nets (slice_index order job) (same_below c.new-below.result d a.rules.now all nets e.design e.rules e.own e.nets) right
+    below_right c.new-below.result d a.rules.now all nets (slice_index order job) (same_below c.new-below.result d a.rules.now all nets e.design e.rules e.own (e.nets ∙ ap (λ (l : List (Option (Bor CellNets))). nets_of l) c.deref-3.ensures.value)) right
 
 pub returns : goal.returns
 returns g c =
@@ -59,7 +60,7 @@ returns g c =
     (c.requires.right i (subst (λ (z : NetJobs). Waits z.graph job i) c.self.view_is (subst (λ l. has i l ≡ true) c.inputs.ensures h))))) in
     let right : AreRightBelow (plain d) (wiring_of r) (tables_by all nets) (slice_index order job) = job_right d a.rules.now a.graph all nets job c.inputs.result.now order c.sound.ensures c.self.invariant.graph lt own c.inputs.ensures c.order-order.ensures read in
     let e = c.new-below.ensures in
-    let same = same_below c.new-below.result d a.rules.now all nets e.design e.rules e.own e.nets in
+    let same = same_below c.new-below.result d a.rules.now all nets e.design e.rules e.own (e.nets ∙ ap (λ (l : List (Option (Bor CellNets))). nets_of l) c.deref-3.ensures.value) in
     if_ok _ _ c.cell_nets.result (λ v made.
     subst (λ (z : NetJobs). AreCellNets (plain z.design) (rules_seen z.rules) (upward_cell z.design job) v) c.self.view_is
     (subst (λ (o : List ℕ). AreCellNets (plain d) r (slice_index o job) v) c.order-order.ensures

@@ -1,0 +1,32 @@
+use Rattle.std.proofs.Common.{arith}
+use Rattle.deep_tables.proofs.Finding.{some_at}
+use Rattle.deep_tables.specs.Nets.{AreCellNets}
+use Rattle.cell_graph.specs.Linked.{plain}
+use Rattle.gate_phase.proofs.phase.GatePhase.new.Goals as goal
+use Rattle.net_phase.proofs.Knowing.{right_known}
+use Rattle.net_phase.specs.Own.{rect_lists}
+use Rattle.net_phase.specs.Reading.{nets_of}
+use Rattle.rule_text.specs.Seen.{rules_seen}
+
+pub known_nets-requires : goal.known_nets-requires
+known_nets-requires c cell reached = some_at (AreCellNets (plain c.args.design.now) (rules_seen c.args.rules.now) cell) _ (c.requires.nets cell reached)
+
+pub invariant_of-result : goal.invariant_of-result
+invariant_of-result c =
+    let d = c.args.design.now in
+    let r = rules_seen c.args.rules.now in
+    let few = c.if-len-2.false in
+    let devices = c.len-2.ensures in
+    record {
+      sound = c.requires.rules;
+      few = omega (arith, few, devices);
+      zones = c.requires.zones;
+      layers = c.requires.layers;
+      conductors = c.in_ok-wires.ensures.conductors;
+      globals = c.in_ok-wires.ensures.globals;
+      bulks = c.in_ok-bulks.ensures;
+      elements = c.in_ok-elements.ensures;
+      own = c.in_ok-own.ensures;
+      nets = right_known d r (rect_lists c.in_ok-own.own.items) c.args.nets.now (nets_of c.in_ok-known.known.items) c.in_ok-own.ensures c.requires.nets c.in_ok-known.ensures;
+      graph = c.in_ok-graph.ensures;
+    }
