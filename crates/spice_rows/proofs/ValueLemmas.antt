@@ -8,10 +8,10 @@ use Rattle.fixed_num.specs.declared.femto.ValueFault.{ValueFault}
 use Rattle.fixed_num.specs.declared.femto.ValueFault.TheVariants.{NotNumber, TooLarge, TooFine}
 use Rattle.fixed_num.specs.Values.{Number}
 use Rattle.fixed_num.specs.Scan.{Answers}
-use Rattle.spice_rows.specs.Sizes.{value_at, settled}
+use Rattle.spice_rows.specs.Sizes.{read_limit, is_above, value_at, settled}
 use Rattle.spice_rows.specs.Seen.{value_seen}
 
-positive : (n : ℕ) → 0 < 10 ^ n
+pub positive : (n : ℕ) → 0 < 10 ^ n
 positive zero = omega arith
 positive (suc n) = let h = positive n in omega (arith, pow-suc 10 n)
 
@@ -25,17 +25,24 @@ not_lt a b h = elim (either (nat_lt a b)) [ inl t ↦ absurd (grind (arith, t, h
 is_lt : (a b : ℕ) → a < b → nat_lt a b ≡ true
 is_lt a b h = elim (either (nat_lt a b)) [ inl t ↦ t | inr f ↦ absurd (grind (arith, f, h)) ]
 
-whole : (a d f : ℕ) → 0 < d → a ≡ f * d → f ≤ 10 ^ 18 → settled a d ≡ Ok f
-whole a d f p e l =
-    let low : nat_lt (10 ^ 18 * d) (f * d) ≡ false = not_lt (10 ^ 18 * d) (f * d) (mul-le-mul_right d l) in
+-- a multiple of d is settled, where it is not above the limit
+pub settled_is : (limit : Option ℕ) (a d f : ℕ) → 0 < d → a ≡ f * d → is_above limit (f * d) d ≡ false → settled limit a d ≡ Ok f
+settled_is limit a d f p e low =
     let none : (f * d) % d ≡ 0 = mul-mod_left f d in
     let zero_is : ((f * d) % d == 0) ≡ true = (Decides-eqb ((f * d) % d) 0).1 none in
     rw e (rw (low, zero_is) (ap (λ (n : ℕ). let r : Result ℕ ValueFault = Ok n in r) (mul-div_cancel f p)))
 
-large : (a d : ℕ) → 10 ^ 18 * d < a → settled a d ≡ Err TooLarge
+-- a value within a limit is not above it
+pub within : (limit d f : ℕ) → f ≤ limit → is_above (Some limit) (f * d) d ≡ false
+within limit d f l = not_lt (limit * d) (f * d) (mul-le-mul_right d l)
+
+whole : (a d f : ℕ) → 0 < d → a ≡ f * d → f ≤ 10 ^ 18 → settled read_limit a d ≡ Ok f
+whole a d f p e l = settled_is read_limit a d f p e (within (10 ^ 18) d f l)
+
+large : (a d : ℕ) → 10 ^ 18 * d < a → settled read_limit a d ≡ Err TooLarge
 large a d l = rw (is_lt (10 ^ 18 * d) a l) refl
 
-fine : (a d : ℕ) → (10 ^ 18 * d < a → ⊥) → ((f : ℕ) → a ≡ f * d → ⊥) → settled a d ≡ Err TooFine
+fine : (a d : ℕ) → (10 ^ 18 * d < a → ⊥) → ((f : ℕ) → a ≡ f * d → ⊥) → settled read_limit a d ≡ Err TooFine
 fine a d l none = elim (either (nat_lt (10 ^ 18 * d) a)) [
   | inl t ↦ absurd (l (grind (arith, t)))
   | inr f ↦ elim (either (a % d == 0)) [
@@ -44,7 +51,7 @@ fine a d l none = elim (either (nat_lt (10 ^ 18 * d) a)) [
   ]
 ]
 
-pub answer_is : (o : Option Number) (r : Result Femto ValueFault) → Answers o r → value_seen r ≡ value_at o
+pub answer_is : (o : Option Number) (r : Result Femto ValueFault) → Answers o r → value_seen r ≡ value_at read_limit o
 answer_is None (Ok f) h = absurd h
 answer_is None (Err NotNumber) h = refl
 answer_is None (Err TooLarge) h = absurd h

@@ -57,13 +57,14 @@ device_of line (d ∷ g ∷ s ∷ b ∷ class ∷ []) (Ok sizes) = Ok (Device (r
 device_of line names (Ok sizes) = Err (BadLine line)
 
 -- `M.. drain gate source bulk class` with L and W once each
-abbrev pub device_row : ℕ → Option (List (List ℕ)) → List Param → Result CardRow SpiceFault
-device_row line None ps = Err (BadLine line)
-device_row line (Some names) ps =
+abbrev pub device_row : Option ℕ → ℕ → Option (List (List ℕ)) → List Param
+    → Result CardRow SpiceFault
+device_row limit line None ps = Err (BadLine line)
+device_row limit line (Some names) ps =
     if not (length names == 5) || not (is_once (codes "L") ps) || not (is_once (codes "W") ps)
     then Err (BadLine line)
     else if list_any is_refused ps then Err (ParameterRefused line)
-    else device_of line names (sizes_of ps)
+    else device_of line names (sizes_of limit ps)
 
 -- all but the last
 abbrev pub before_last : List (List ℕ) → List (List ℕ)
@@ -129,9 +130,10 @@ is_known first =
     || is_text (codes ".ENDS") first || is_text (codes ".GLOBAL") first
     || is_text (codes ".END") first
 
-abbrev pub row_of : ℕ → Bool → List ℕ → List (List ℕ) → List Param → Result CardRow SpiceFault
-row_of line is_open first words ps =
-    if begin first == 0x4D then device_row line (names_of words) ps
+abbrev pub row_of : Option ℕ → ℕ → Bool → List ℕ → List (List ℕ) → List Param
+    → Result CardRow SpiceFault
+row_of limit line is_open first words ps =
+    if begin first == 0x4D then device_row limit line (names_of words) ps
     else if begin first == 0x58 then call_row line (names_of words) ps
     else if is_text (codes ".SUBCKT") first then open_row line is_open (names_of words) ps
     else if is_text (codes ".ENDS") first then end_row line is_open (names_of words) ps
@@ -139,17 +141,18 @@ row_of line is_open first words ps =
     else stop_row line words ps
 
 -- parameters that are none don't fit
-abbrev pub formed_row : ℕ → Bool → List ℕ → List (List ℕ) → Option (List Param)
+abbrev pub formed_row : Option ℕ → ℕ → Bool → List ℕ → List (List ℕ) → Option (List Param)
     → Result CardRow SpiceFault
-formed_row line is_open first words None = Err (BadLine line)
-formed_row line is_open first words (Some ps) = row_of line is_open first words ps
+formed_row limit line is_open first words None = Err (BadLine line)
+formed_row limit line is_open first words (Some ps) = row_of limit line is_open first words ps
 
--- what a card of these tokens says, where a circuit is open before it or not
-abbrev pub card_row : ℕ → Bool → List Token → Result CardRow SpiceFault
-card_row line is_open [] = Err (UnknownCard line)
-card_row line is_open (Equals ∷ ts) = Err (UnknownCard line)
-card_row line is_open (Word first ∷ ts) =
+-- what a card of these tokens says, where a circuit is open before it or not; a value may be
+-- limited
+abbrev pub card_row : Option ℕ → ℕ → Bool → List Token → Result CardRow SpiceFault
+card_row limit line is_open [] = Err (UnknownCard line)
+card_row limit line is_open (Equals ∷ ts) = Err (UnknownCard line)
+card_row limit line is_open (Word first ∷ ts) =
     if is_passed first then Ok Passed
     else if is_known first
-    then formed_row line is_open first (words_of ts) (params_of (behind_words ts))
+    then formed_row limit line is_open first (words_of ts) (params_of (behind_words ts))
     else Err (UnknownCard line)

@@ -4,6 +4,7 @@ ghost use Rattle.spice_rows.specs.Names.{names_of};
 ghost use Rattle.spice_rows.specs.Rows.{device_row, call_row, open_row, end_row, global_row};
 ghost use Rattle.spice_rows.specs.Rows.{stop_row, row_of, card_row, is_passed, begin, is_known};
 ghost use Rattle.spice_rows.specs.Seen.{Says};
+ghost use Rattle.spice_rows.specs.Sizes.{read_limit};
 
 use crate::card::{CallCard, CardRow, DeviceCard};
 use crate::fault::SpiceFault;
@@ -20,7 +21,7 @@ fn device(
     params: &[Param],
 ) -> Result<CardRow, SpiceFault>
     ensures { Says result
-        (device_row line (names_of (words_seen words.now)) (params_seen params.now)) }
+        (device_row read_limit line (names_of (words_seen words.now)) (params_seen params.now)) }
 {
     let Some(mut names) = names_of(alloc, words)? else {
         return Err(SpiceFault::BadLine(line));
@@ -192,7 +193,7 @@ fn row_of(
     params: &[Param],
 ) -> Result<CardRow, SpiceFault>
     ensures { Says result
-        (row_of line is_open first.now (words_seen words.now) (params_seen params.now)) }
+        (row_of read_limit line is_open first.now (words_seen words.now) (params_seen params.now)) }
 {
     if begin(first) == b'M' {
         return device(alloc, line, words, params);
@@ -221,7 +222,7 @@ pub fn read_card(
     is_open: bool,
     tokens: &[Token],
 ) -> Result<CardRow, SpiceFault>
-    ensures { Says result (card_row line is_open (tokens_seen tokens.now)) }
+    ensures { Says result (card_row read_limit line is_open (tokens_seen tokens.now)) }
 {
     let [Token::Word(first), rest @ ..] = tokens else {
         return Err(SpiceFault::UnknownCard(line));

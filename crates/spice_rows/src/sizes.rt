@@ -1,6 +1,6 @@
 ghost use Rattle.std.specs.Prelude.{◌≡◌};
 ghost use Rattle.spice_cards.specs.Seen.{params_seen};
-ghost use Rattle.spice_rows.specs.Sizes.{value_of, sizes_of};
+ghost use Rattle.spice_rows.specs.Sizes.{read_limit, value_of, sizes_of};
 ghost use Rattle.spice_rows.specs.Seen.{value_seen, sizes_seen};
 
 use crate::names::is_text;
@@ -15,14 +15,14 @@ pub struct Sizes {
 }
 
 fn value(text: &[u8]) -> Result<Femto, ValueFault>
-    ensures { value_seen result ≡ value_of text.now }
+    ensures { value_seen result ≡ value_of read_limit text.now }
 {
     parse_value(text)
 }
 
 /// The values of L and W, zero where there is none, or the first fault of one, from the left.
 pub fn sizes_of(params: &[Param]) -> Result<Sizes, ValueFault>
-    ensures { sizes_seen result ≡ sizes_of (params_seen params.now) }
+    ensures { sizes_seen result ≡ sizes_of read_limit (params_seen params.now) }
 {
     let mut length = Femto(0);
     let mut width = Femto(0);

@@ -6,3 +6,9 @@ pub mod WriteLemmas
 pub mod NormalLemmas
 pub mod SoundLemmas
 pub mod PinLemmas
+pub mod WordLemmas
+pub mod ReadLemmas
+pub mod RowLemmas
+pub mod TextLemmas
+pub mod AgainLemmas
+pub mod OneLemmas

@@ -68,11 +68,11 @@ device_of_opened line (a ∷ b ∷ c ∷ d ∷ []) (Ok s) = record {}
 device_of_opened line (a ∷ b ∷ c ∷ d ∷ e ∷ []) (Ok s) = record {}
 device_of_opened line (a ∷ b ∷ c ∷ d ∷ e ∷ f ∷ g) (Ok s) = record {}
 
-device_opened : (line : ℕ) (names : Option (List (List ℕ))) (ps : List Param) → IfOk (rows.device_row line names ps) Opened
-device_opened line None ps = record {}
-device_opened line (Some names) ps = elim (either (not (length names == 5) || not (is_once (codes "L") ps) || not (is_once (codes "W") ps))) [
+device_opened : (limit : Option ℕ) (line : ℕ) (names : Option (List (List ℕ))) (ps : List Param) → IfOk (rows.device_row limit line names ps) Opened
+device_opened limit line None ps = record {}
+device_opened limit line (Some names) ps = elim (either (not (length names == 5) || not (is_once (codes "L") ps) || not (is_once (codes "W") ps))) [
   | inl t ↦ rw t (record {})
-  | inr f ↦ rw f (elim (either (list_any is_refused ps)) [ inl t ↦ rw t (record {}) | inr g ↦ rw g (device_of_opened line names (sizes_of ps)) ])
+  | inr f ↦ rw f (elim (either (list_any is_refused ps)) [ inl t ↦ rw t (record {}) | inr g ↦ rw g (device_of_opened line names (sizes_of limit ps)) ])
 ]
 
 call_opened : (line : ℕ) (names : Option (List (List ℕ))) (ps : List Param) → IfOk (rows.call_row line names ps) Opened
@@ -100,9 +100,9 @@ stop_opened line [] [] = record {}
 stop_opened line [] (p ∷ ps) = record {}
 stop_opened line (w ∷ ws) ps = record {}
 
-row_opened : (line : ℕ) (open_too : Bool) (first : List ℕ) (words : List (List ℕ)) (ps : List Param) → IfOk (rows.row_of line open_too first words ps) Opened
-row_opened line open_too first words ps = elim (either (rows.begin first == 0x4D)) [
-  | inl t ↦ rw t (device_opened line (names_of words) ps)
+row_opened : (limit : Option ℕ) (line : ℕ) (open_too : Bool) (first : List ℕ) (words : List (List ℕ)) (ps : List Param) → IfOk (rows.row_of limit line open_too first words ps) Opened
+row_opened limit line open_too first words ps = elim (either (rows.begin first == 0x4D)) [
+  | inl t ↦ rw t (device_opened limit line (names_of words) ps)
   | inr f ↦ rw f (elim (either (rows.begin first == 0x58)) [
     | inl t ↦ rw t (call_opened line (names_of words) ps)
     | inr f ↦ rw f (elim (either (is_text (codes ".SUBCKT") first)) [
@@ -118,17 +118,17 @@ row_opened line open_too first words ps = elim (either (rows.begin first == 0x4D
   ])
 ]
 
-formed_opened : (line : ℕ) (open_too : Bool) (first : List ℕ) (words : List (List ℕ)) (ps : Option (List Param)) → IfOk (rows.formed_row line open_too first words ps) Opened
-formed_opened line open_too first words None = record {}
-formed_opened line open_too first words (Some ps) = row_opened line open_too first words ps
+formed_opened : (limit : Option ℕ) (line : ℕ) (open_too : Bool) (first : List ℕ) (words : List (List ℕ)) (ps : Option (List Param)) → IfOk (rows.formed_row limit line open_too first words ps) Opened
+formed_opened limit line open_too first words None = record {}
+formed_opened limit line open_too first words (Some ps) = row_opened limit line open_too first words ps
 
-card_opened : (line : ℕ) (open_too : Bool) (ts : List Token) → IfOk (rows.card_row line open_too ts) Opened
-card_opened line open_too [] = record {}
-card_opened line open_too (Equals ∷ ts) = record {}
-card_opened line open_too (Word first ∷ ts) = elim (either (rows.is_passed first)) [
+card_opened : (limit : Option ℕ) (line : ℕ) (open_too : Bool) (ts : List Token) → IfOk (rows.card_row limit line open_too ts) Opened
+card_opened limit line open_too [] = record {}
+card_opened limit line open_too (Equals ∷ ts) = record {}
+card_opened limit line open_too (Word first ∷ ts) = elim (either (rows.is_passed first)) [
   | inl t ↦ rw t (record {})
   | inr f ↦ rw f (elim (either (rows.is_known first)) [
-    | inl t ↦ rw t (formed_opened line open_too first (words_of ts) (params_of (behind_words ts)))
+    | inl t ↦ rw t (formed_opened limit line open_too first (words_of ts) (params_of (behind_words ts)))
     | inr g ↦ rw g (record {})
   ])
 ]
@@ -187,18 +187,18 @@ on_apart cards line (Ok Passed) rest o h k = k cards h
 on_apart cards line (Ok (Device d)) rest o h k = k (with_row cards line (Device d)) (with_row_apart cards line (Device d) o h)
 on_apart cards line (Ok (Call r)) rest o h k = k (with_row cards line (Call r)) (with_row_apart cards line (Call r) o h)
 
-reading_apart : (cs : List Card) (cards : Cards) → Apart cards → IfOk (reading cards cs) Apart
-reading_apart [] cards h = h
-reading_apart (c ∷ cs) cards h = on_apart cards c.line (rows.card_row c.line (is_some cards.open_one) c.tokens) (λ next. reading next cs) (card_opened c.line (is_some cards.open_one) c.tokens) h (λ next a. reading_apart cs next a)
+reading_apart : (limit : Option ℕ) (cs : List Card) (cards : Cards) → Apart cards → IfOk (reading limit cards cs) Apart
+reading_apart limit [] cards h = h
+reading_apart limit (c ∷ cs) cards h = on_apart cards c.line (rows.card_row limit c.line (is_some cards.open_one) c.tokens) (λ next. reading limit next cs) (card_opened limit c.line (is_some cards.open_one) c.tokens) h (λ next a. reading_apart limit cs next a)
 
 early_apart : (o : Option ℕ) (r : Result Cards SpiceFault) (cards : Cards) → IfOk r Apart → early_or o r ≡ Ok cards → Apart cards
 early_apart None r cards h e = subst (λ (x : Result Cards SpiceFault). IfOk x Apart) e h
 early_apart (Some line) r cards h e = let z : ⊥ = cc in absurd z
 
-pub pins_apart : (bytes : List ℕ) (cards : Cards) → reading_of bytes ≡ Ok cards → PinsApart (all_of cards)
-pins_apart bytes cards e =
+pub pins_apart : (limit : Option ℕ) (bytes : List ℕ) (cards : Cards) → reading_of limit bytes ≡ Ok cards → PinsApart (all_of cards)
+pins_apart limit bytes cards e =
     let none : Apart no_cards = record { all_closed = λ c l. absurd l; one = record {}; top = record {} } in
-    let a = early_apart (early_more bytes) (reading no_cards (cards_of bytes)) cards (reading_apart (cards_of bytes) no_cards none) e in
+    let a = early_apart (early_more bytes) (reading limit no_cards (cards_of bytes)) cards (reading_apart limit (cards_of bytes) no_cards none) e in
     closed_apart cards.circuits cards.outside a.all_closed a.top
 
 -- ---- pins and needed names are apart
@@ -244,7 +244,7 @@ needs_free cs g k d = go d.via d.chain
     go [] c = subst (λ (x : ℕ). is_pin cs g x ≡ false) (sym c) d.listed
     go (b ∷ via) c = c.0.0
 
-has_listed : (ns : List (List ℕ)) (g : List ℕ) → IsListed g ns → has_text ns g ≡ true
+pub has_listed : (ns : List (List ℕ)) (g : List ℕ) → IsListed g ns → has_text ns g ≡ true
 has_listed [] g h = absurd h
 has_listed (n ∷ ns) g (inl e) = let t : bytes_eq g n ≡ true = (bytes_eq-Decides g n).1 e in rw t refl
 has_listed (n ∷ ns) g (inr h) = let t = has_listed ns g h in elim (either (bytes_eq g n)) [ inl y ↦ rw y refl | inr f ↦ rw f t ]
@@ -268,7 +268,7 @@ fresh seen (n ∷ ns) a f =
     later : (m : List ℕ) → IsListed m ns → has_text (seen ++ n ∷ []) m ≡ false
     later m l = let x = f m (inr l) in let y = other m l in list_any-append (bytes_eq m) seen (n ∷ []) ∙ rw x (rw y refl)
 
-place_at : (ns extra : List (List ℕ)) (i : ℕ) (g : List ℕ) → AreApart ns → slice_get ns i ≡ Some g → place_of (ns ++ extra) g ≡ i
+pub place_at : (ns extra : List (List ℕ)) (i : ℕ) (g : List ℕ) → AreApart ns → slice_get ns i ≡ Some g → place_of (ns ++ extra) g ≡ i
 place_at [] extra i g a e = let z : ⊥ = cc in absurd z
 place_at (n ∷ ns) extra zero g a e = let s : g ≡ n = cc in let t : bytes_eq g n ≡ true = (bytes_eq-Decides g n).1 s in rw t refl
 place_at (n ∷ ns) extra (suc i) g a e = elim (either (bytes_eq g n)) [
@@ -289,15 +289,15 @@ row_pins names needed k c a i n h =
     pins_at (c.pins ++ needed k) others i n a
     (subst (λ (s : List (List ℕ)). slice_get (map (place_of (first_seen [] s)) (c.pins ++ needed k)) i ≡ Some n) (sym (append_assoc c.pins (needed k) others)) h)
 
-pub normal_is : (bytes : List ℕ) (cards : Cards) (needed : ℕ → List (List ℕ)) (n : plain.Netlist) → reading_of bytes ≡ Ok cards
+pub normal_is : (limit : Option ℕ) (bytes : List ℕ) (cards : Cards) (needed : ℕ → List (List ℕ)) (n : plain.Netlist) → reading_of limit bytes ≡ Ok cards
     → ((k : ℕ) → k < length (all_of cards) → Picks (λ g. Needs (all_of cards) g k) (first_seen [] cards.globals) (needed k))
     → n.circuits ≡ rows_from (circuits.names_of (all_of cards)) needed 0 (all_of cards) → normal.IsNormalNetlist n
-normal_is bytes cards needed n r p e = λ k x is.
+normal_is limit bytes cards needed n r p e = λ k x is.
     let cs = all_of cards in
     let names = circuits.names_of cs in
     let at = row_of names needed 0 k k cs x (omega arith) (sym (ap (λ (xs : List plain.Circuit). slice_get xs k) e) ∙ is) in
     let picks = p k (get_lt cs k at.0 at.1) in
-    let apart = all_apart cs (first_seen [] cards.globals) (needed k) k at.0 at.1 (pins_apart bytes cards r at.0 (get_listed cs k at.0 at.1)) (seen_apart [] cards.globals (record {})) picks in
+    let apart = all_apart cs (first_seen [] cards.globals) (needed k) k at.0 at.1 (pins_apart limit bytes cards r at.0 (get_listed cs k at.0 at.1)) (seen_apart [] cards.globals (record {})) picks in
     record {
       pins = subst (λ (y : plain.Circuit). (i m : ℕ) → slice_get y.pins i ≡ Some m → m ≡ i) (sym at.2) (row_pins names needed k at.0 apart);
       numbered = all_numbered names needed cs n e k x is;

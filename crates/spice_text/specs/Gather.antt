@@ -75,16 +75,17 @@ read_on cards line (Ok Stops) rest = Ok cards
 read_on cards line (Ok row) rest = rest (with_row cards line row)
 
 -- some cards behind others, up to `.END`, or the first fault of one
-abbrev pub reading : Cards → List Card → Result Cards SpiceFault
-reading cards [] = Ok cards
-reading cards (c ∷ cs) = read_on cards c.line (card_row c.line (is_some cards.open_one) c.tokens)
-    (λ next. reading next cs)
+abbrev pub reading : Option ℕ → Cards → List Card → Result Cards SpiceFault
+reading limit cards [] = Ok cards
+reading limit cards (c ∷ cs) =
+    read_on cards c.line (card_row limit c.line (is_some cards.open_one) c.tokens)
+    (λ next. reading limit next cs)
 
 -- a `+` with no card before it doesn't fit
 abbrev pub early_or : Option ℕ → Result Cards SpiceFault → Result Cards SpiceFault
 early_or None rest = rest
 early_or (Some line) rest = Err (BadLine line)
 
--- the cards of a text, or the first fault of one
-abbrev pub reading_of : List ℕ → Result Cards SpiceFault
-reading_of bytes = early_or (early_more bytes) (reading no_cards (cards_of bytes))
+-- the cards of a text, or the first fault of one; values may be limited
+abbrev pub reading_of : Option ℕ → List ℕ → Result Cards SpiceFault
+reading_of limit bytes = early_or (early_more bytes) (reading limit no_cards (cards_of bytes))

@@ -8,3 +8,4 @@ pub mod Needs
 pub mod Table
 pub mod Means
 pub mod Written
+pub mod Laws

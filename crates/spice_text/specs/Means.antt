@@ -1,6 +1,6 @@
 -- The netlist that a text means, or its first fault.
 use Rattle.std.specs.Prelude.{◌≡◌, ◌⊎◌, ℕ, ◌+◌, ◌<◌, List, [], ◌∷◌, ◌++◌, length, map, flat_map}
-use Rattle.std.specs.Prelude.{None, Ok, Err}
+use Rattle.std.specs.Prelude.{Option, None, Ok, Err}
 use Rattle.text_table.specs.Texts.{place_of}
 use Rattle.call_order.specs.Order.{ReachesItself}
 use Rattle.plain_netlist.specs.Netlist as plain
@@ -72,10 +72,10 @@ pub record IsNetlistOf (cs : List Circuit) (globals : List (List ℕ)) (n : plai
         → Picks (λ g. Needs cs g k) (first_seen [] globals) (needed k)
     pub rows : n.circuits ≡ rows_from (names_of cs) needed 0 cs
 
--- a text means this netlist
-pub record Means (bytes : List ℕ) (n : plain.Netlist) : Type 0 where
+-- a text means this netlist, where its values may be limited
+pub record Means (limit : Option ℕ) (bytes : List ℕ) (n : plain.Netlist) : Type 0 where
   pub cards : Cards
-  pub read : reading_of bytes ≡ Ok cards
+  pub read : reading_of limit bytes ≡ Ok cards
   pub ended : cards.open_one ≡ None
   pub one : Lacks (IsSecond (all_of cards))
   pub called : Lacks (HasCall (all_of cards) (is_missing (all_of cards)))
@@ -84,12 +84,12 @@ pub record Means (bytes : List ℕ) (n : plain.Netlist) : Type 0 where
   pub netlist : IsNetlistOf (all_of cards) cards.globals n
 
 -- a text's first fault is that of a card, or else that of the cards as a whole
-abbrev pub IsFirstFault : List ℕ → SpiceFault → Type 0
-IsFirstFault bytes fault =
-    (reading_of bytes ≡ Err fault) ⊎ ((cards : Cards) × (reading_of bytes ≡ Ok cards)
+abbrev pub IsFirstFault : Option ℕ → List ℕ → SpiceFault → Type 0
+IsFirstFault limit bytes fault =
+    (reading_of limit bytes ≡ Err fault) ⊎ ((cards : Cards) × (reading_of limit bytes ≡ Ok cards)
     × IsWholeFault cards fault)
 
 -- want of memory says nothing of a text
-abbrev pub SaysFirst : List ℕ → SpiceFault → Type 0
-SaysFirst bytes NoMemory = Unit {0}
-SaysFirst bytes fault = IsFirstFault bytes fault
+abbrev pub SaysFirst : Option ℕ → List ℕ → SpiceFault → Type 0
+SaysFirst limit bytes NoMemory = Unit {0}
+SaysFirst limit bytes fault = IsFirstFault limit bytes fault

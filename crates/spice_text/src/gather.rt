@@ -1,4 +1,5 @@
 ghost use Rattle.std.specs.Prelude.{◌≡◌, IfOk, IfErr};
+ghost use Rattle.spice_rows.specs.Sizes.{read_limit};
 ghost use Rattle.spice_text.specs.Gather.{begun, reading_of};
 ghost use Rattle.spice_text.specs.Seen.{circuit_seen, cards_seen, SaysFault};
 ghost use Rattle.std.specs.Prelude.{codes, [], Ok};
@@ -141,8 +142,8 @@ impl Gathered {
 /// The cards of a text in their circuits, up to `.END`, or the first fault of a card. Linear in
 /// the text; one card at a time is held beside what the cards say.
 pub fn gather_cards(alloc: Global, bytes: &[u8]) -> Result<Gathered, SpiceFault>
-    ensures cards { IfOk result (λ g. reading_of bytes.now ≡ Ok (cards_seen g)) }
-    ensures fault { IfErr result (λ e. SaysFault e (reading_of bytes.now)) }
+    ensures cards { IfOk result (λ g. reading_of read_limit bytes.now ≡ Ok (cards_seen g)) }
+    ensures fault { IfErr result (λ e. SaysFault e (reading_of read_limit bytes.now)) }
 {
     let mut cards = match CardReader::new(bytes) {
         Ok(cards) => cards,

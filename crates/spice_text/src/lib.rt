@@ -5,6 +5,7 @@ mod calls;
 mod circuits;
 mod faults;
 mod gather;
+mod laws;
 mod needs;
 mod nets;
 mod numbers;
@@ -12,6 +13,7 @@ mod ordered;
 mod read;
 mod write;
 
+pub use laws::written_laws;
 pub use read::read_spice;
 pub use spice_rows::SpiceFault;
 pub use write::write_spice;

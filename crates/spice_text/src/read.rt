@@ -3,6 +3,7 @@ ghost use Rattle.call_order.specs.Order.{lists};
 ghost use Rattle.net_model.specs.Rows.{plain_netlist};
 ghost use Rattle.plain_netlist.specs.Normal.{IsNormalNetlist};
 ghost use Rattle.plain_netlist.specs.Sound.{IsSoundNetlist};
+ghost use Rattle.spice_rows.specs.Sizes.{read_limit};
 ghost use Rattle.spice_text.specs.Faults.{AreOrdered};
 ghost use Rattle.spice_text.specs.Means.{IsNetlistOf, Means, SaysFirst};
 ghost use Rattle.spice_text.specs.Seen.{circuit_seen};
@@ -33,10 +34,10 @@ fn netlist(alloc: Global, cards: &OrderedCards) -> Result<Netlist, AllocError>
 ///
 /// Linear in the text, and in circuits and calls times global names.
 pub fn read_spice(alloc: Global, bytes: &[u8]) -> Result<Netlist, SpiceFault>
-    ensures netlist { IfOk result (λ n. Means bytes.now (plain_netlist n)) }
+    ensures netlist { IfOk result (λ n. Means read_limit bytes.now (plain_netlist n)) }
     ensures sound { IfOk result (λ n. IsSoundNetlist (plain_netlist n)) }
     ensures normal { IfOk result (λ n. IsNormalNetlist (plain_netlist n)) }
-    ensures fault { IfErr result (SaysFirst bytes.now) }
+    ensures fault { IfErr result (SaysFirst read_limit bytes.now) }
 {
     let all = match gather_cards(alloc, bytes) {
         Ok(all) => all,

@@ -1,5 +1,6 @@
 use Rattle.std.proofs.Common.{sym, map, subst, List, ℕ}
 use Rattle.net_model.specs.Rows.{plain_netlist}
+use Rattle.spice_rows.specs.Sizes.{read_limit}
 use Rattle.spice_text.specs.Gather.{Circuit}
 use Rattle.spice_text.specs.Circuits.{all_of, call_lists}
 use Rattle.spice_text.specs.Means.{IsNetlistOf}
@@ -35,7 +36,7 @@ returns-clause-normal c =
     let n = plain_netlist c.in_ok-netlist.netlist in
     let one = subst (λ (cs : List Circuit). IsNetlistOf cs c.in-Ok-order_cards.cards.globals.items n) o.circuits c.in_ok-netlist.ensures in
     let made = subst (λ (gs : List (List ℕ)). IsNetlistOf (all_of cards) gs n) o.globals one in
-    normal_is c.args.bytes.now cards made.needed n c.in-Ok.ensures.cards made.needs made.rows
+    normal_is read_limit c.args.bytes.now cards made.needed n c.in-Ok.ensures.cards made.needs made.rows
 
 pub returns-clause-sound : goal.returns-clause-sound
 returns-clause-sound c =

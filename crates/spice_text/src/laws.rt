@@ -1,0 +1,15 @@
+ghost use Rattle.spice_text.specs.Laws.{WrittenMeansLaw, ReadAgainLaw, OneMeaningLaw, NoFaultLaw};
+
+use net_model::call_list_laws;
+
+/// What is written of a sound netlist in normal form means that netlist, whose sizes may be above
+/// what is read; where none is, it is read again as it was. A text has one meaning at most, and
+/// beside it no fault.
+pub fn written_laws()
+    ensures written { WrittenMeansLaw }
+    ensures again { ReadAgainLaw }
+    ensures one { OneMeaningLaw }
+    ensures no_fault { NoFaultLaw }
+{
+    call_list_laws();
+}
