@@ -5,3 +5,5 @@
 mod motions;
 #[cfg(test)]
 mod names;
+#[cfg(test)]
+mod words;

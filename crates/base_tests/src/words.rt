@@ -1,0 +1,114 @@
+use lvs_words::{Command, WordFault, read_stated};
+use std::alloc::{AllocError, Global};
+use std::test::Fail;
+
+fn words_of(alloc: Global, line: &str) -> Result<Vec<String>, AllocError> {
+    let mut made = Vec::new(alloc);
+    for word in line.split_whitespace() {
+        made.push(String::from_str(alloc, word)?)?;
+    }
+    Ok(made)
+}
+
+// What the words state, with the path that is named twice; or that they are refused.
+fn stated(alloc: Global, line: &str) -> Result<String, AllocError> {
+    let words = words_of(alloc, line)?;
+    match read_stated(alloc, words.as_slice()) {
+        Ok(stated) => {
+            let command = stated.command;
+            let shared = stated.shared;
+            format!(in alloc; "{command:?} {shared:?}")
+        }
+        Err(WordFault::Refused) => format!(in alloc; "refused"),
+        Err(WordFault::NoMemory) => format!(in alloc; "no memory"),
+    }
+}
+
+// Words of each command, in several orders and both spellings of options.
+#[test]
+fn commands(rt: HostRuntime) -> Result<(), Fail> {
+    let alloc = rt.alloc();
+    let one = "extract --layout l --rules r --shapes s --netlist n";
+    let words = words_of(alloc, one)?;
+    let Ok(first) = read_stated(alloc, words.as_slice()) else {
+        return Err(Fail);
+    };
+    assert!(rt; matches!(first.command, Command::Extract { workers: 1, .. }));
+    let wanted = stated(alloc, one)?;
+    for line in [
+        "extract --netlist=n --workers 1 --shapes s --rules=r --layout l",
+        "extract --workers=01 --layout=l --netlist=n --shapes=s --rules=r",
+    ] {
+        assert_eq!(rt; stated(alloc, line)?, wanted);
+    }
+    Ok(())
+}
+
+// The first path in the order of the words that a file shares that is written.
+#[test]
+fn shared_paths(rt: HostRuntime) -> Result<(), Fail> {
+    let alloc = rt.alloc();
+    for (line, path) in [
+        ("shapes l r s", None),
+        ("shapes l l s", None),
+        ("shapes x r x", Some("x")),
+        ("shapes l x x", Some("x")),
+        (
+            "extract --rules r --netlist a --layout a --shapes r",
+            Some("r"),
+        ),
+        (
+            "extract --layout a --netlist a --shapes r --rules r",
+            Some("a"),
+        ),
+        (
+            "extract --shapes=b=c --layout l --rules r --netlist b=c",
+            Some("b=c"),
+        ),
+        ("make 1 2 3 p", None),
+    ] {
+        let words = words_of(alloc, line)?;
+        let Ok(stated) = read_stated(alloc, words.as_slice()) else {
+            return Err(Fail);
+        };
+        let shared = match &stated.shared {
+            Some(shared) => Some(shared.as_str()),
+            None => None,
+        };
+        assert_eq!(rt; shared, path);
+    }
+    Ok(())
+}
+
+#[test]
+fn refused(rt: HostRuntime) -> Result<(), Fail> {
+    let alloc = rt.alloc();
+    for line in [
+        "",
+        "run",
+        "shapes l r",
+        "shapes l -r s",
+        "draw l r s",
+        "extract --layout l --rules r --shapes s",
+        "extract --layout l --rules r --shapes s --netlist",
+        "extract --layout l --rules r --shapes s --netlist=",
+        "extract --layout l --rules r --shapes s --netlist n --netlist m",
+        "extract --layout l --rules r --shapes s --netlist n --report q",
+        "extract --layout l --rules r --shapes s --netlist n --top -T",
+        "extract --layout l --rules r --shapes s --netlist n --workers 65",
+        "extract --layout l --rules r --shapes s --netlist n --workers 0",
+        "extract --layout l --rules r --shapes s --netlist n --workers +1",
+        "extract --layout l --rules r --shapes s --netlist n --workers 000000000000000000001",
+        "extract --layout l --rules r --shapes s --netlist n behind",
+        "make 100001 1 1 p",
+        "make 1 18446744073709551616 1 p",
+        "make 1 1 1 -p",
+    ] {
+        assert_eq!(rt; stated(alloc, line)?.as_str(), "refused");
+    }
+    assert_eq!(rt;
+        stated(alloc, "make 100000 18446744073709551615 64 p")?.as_str(),
+        "Make { n: 100000, seed: 18446744073709551615, workers: 64, prefix: \"p\" } None"
+    );
+    Ok(())
+}

@@ -1,0 +1,5 @@
+pub mod Flags
+pub mod Numbers
+pub mod Items
+pub mod Seen
+pub mod Commands
