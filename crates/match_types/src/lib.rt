@@ -4,6 +4,8 @@
 
 mod answer;
 mod child_pins;
+mod pair_key;
 
 pub use answer::{Answer, Evidence, Guess, GuessEnd, Node, NodeKind, Pairing, Side};
 pub use child_pins::ChildPins;
+pub use pair_key::PairKey;

@@ -1,0 +1,80 @@
+-- The verdict of the first answers.
+use Rattle.std.proofs.Common.{◌≡◌, ℕ, ◌+◌, ◌<◌, List, map, length, get_or, slice_get, Some, refl, sym, ◌∙◌, ap, subst, arith}
+use Rattle.std.proofs.Math.Decide.{ℕ_discrete}
+use Rattle.std.proofs.lemmas.List.{get_or_default, length-map}
+use Rattle.std.proofs.lemmas.Option.{slice_get-map, slice_get_within, get_or_from_slice_get}
+use Rattle.std.specs.List.{All, Any}
+use Rattle.std.specs.Option.{option_map}
+use Rattle.match_laws.specs.Answer.{Answer, IsDifference, Skipped}
+use Rattle.match_types.specs.Plain.{plain_answer, plain_evidence}
+use Rattle.match_types.specs.declared.answer.Answer as rows
+use Rattle.match_types.specs.declared.answer.Evidence.{Evidence}
+use Rattle.match_types.specs.declared.answer.Evidence.TheVariants as evidence
+use Rattle.pair_jobs.proofs.Together.{match_not}
+use Rattle.pair_jobs.specs.Answers.{IsMatch, answer_at}
+use Rattle.pair_jobs.specs.Verdict.{IsVerdict}
+use Rattle.pair_jobs.specs.declared.verdict.Verdict.{Verdict}
+use Rattle.pair_jobs.specs.declared.verdict.Verdict.TheVariants as verdict
+
+-- what was found of the first n answers
+abbrev pub IsSoFar : List Answer → ℕ → Verdict → Type 0
+IsSoFar answers n verdict.Match = (k : ℕ) → k < n → IsMatch (answer_at answers k)
+IsSoFar answers n verdict.Mismatch = ⊥
+IsSoFar answers n verdict.Undecided = ((k : ℕ) → k < n → IsDifference (answer_at answers k) → ⊥) × ((k : ℕ) × (k < n) × (IsMatch (answer_at answers k) → ⊥))
+
+pub none_so_far : (answers : List Answer) → IsSoFar answers 0 verdict.Match
+none_so_far answers k lt = absurd (omega arith)
+
+-- the answer of a number
+pub read_at : (values : List rows.Answer) (k : ℕ) (v : rows.Answer) → slice_get values k ≡ Some v → answer_at (map plain_answer values) k ≡ plain_answer v
+read_at values k v e = get_or_from_slice_get (map plain_answer values) k (plain_answer v) (Skipped k) (slice_get-map plain_answer values k ∙ ap (option_map plain_answer) e)
+
+differs : (e : Evidence) → IsDifference (plain_evidence e)
+differs (evidence.Round round node left right) = tt
+differs (evidence.Tree guesses) = tt
+
+pub found_difference : (values : List rows.Answer) (k : ℕ) (v : rows.Answer) (e : Evidence) → slice_get values k ≡ Some v → plain_answer v ≡ plain_evidence e → Any IsDifference (map plain_answer values)
+found_difference values k v e at is =
+    let lt : k < length (map plain_answer values) = (let within = slice_get_within values k v at in let count = length-map values plain_answer in omega (arith, within, count)) in
+    (k, plain_answer v, lt, get_or_default (map plain_answer values) k (plain_answer v) (Skipped k) lt ∙ read_at values k v at, subst IsDifference (sym is) (differs e))
+
+-- one answer more: it is a match
+pub match_more : (answers : List Answer) (n : ℕ) (v : Verdict) → IsMatch (answer_at answers n) → IsSoFar answers n v → IsSoFar answers (n + 1) v
+match_more answers n verdict.Match m h = λ k lt. elim (ℕ_discrete k n) [
+  | yes e ↦ subst (λ i. IsMatch (answer_at answers i)) (sym e) m
+  | no l ↦ h k (omega (arith, lt, l))
+]
+match_more answers n verdict.Mismatch m h = h
+match_more answers n verdict.Undecided m h = (
+  (λ k lt d. elim (ℕ_discrete k n) [
+    | yes e ↦ match_not (answer_at answers n) m (subst (λ i. IsDifference (answer_at answers i)) e d)
+    | no l ↦ h.0 k (omega (arith, lt, l)) d
+  ]),
+  (let below = h.1.1 in (h.1.0, omega (arith, below), h.1.2)),
+)
+
+-- or neither a match nor a difference
+pub open_more : (answers : List Answer) (n : ℕ) (v : Verdict) → (IsMatch (answer_at answers n) → ⊥) → (IsDifference (answer_at answers n) → ⊥) → IsSoFar answers n v → IsSoFar answers (n + 1) verdict.Undecided
+open_more answers n verdict.Match m d h = (
+  (λ k lt f. elim (ℕ_discrete k n) [
+    | yes e ↦ d (subst (λ i. IsDifference (answer_at answers i)) e f)
+    | no l ↦ match_not (answer_at answers k) (h k (omega (arith, lt, l))) f
+  ]),
+  (n, omega arith, m),
+)
+open_more answers n verdict.Mismatch m d h = absurd h
+open_more answers n verdict.Undecided m d h = (
+  (λ k lt f. elim (ℕ_discrete k n) [
+    | yes e ↦ d (subst (λ i. IsDifference (answer_at answers i)) e f)
+    | no l ↦ h.0 k (omega (arith, lt, l)) f
+  ]),
+  (n, omega arith, m),
+)
+
+pub all_so_far : (answers : List Answer) (n : ℕ) (v : Verdict) → n ≡ length answers → IsSoFar answers n v → IsVerdict answers v
+all_so_far answers n verdict.Match e h = λ k d lt. subst IsMatch (get_or_default answers k (Skipped k) d lt) (h k (omega (arith, e, lt)))
+all_so_far answers n verdict.Mismatch e h = absurd h
+all_so_far answers n verdict.Undecided e h = (
+  (λ some. let lt = some.2 in h.0 some.0 (omega (arith, e, lt)) (subst IsDifference (sym (get_or_default answers some.0 (Skipped some.0) some.1 some.2 ∙ some.3)) some.4)),
+  (λ all. let below = h.1.1 in h.1.2 (all h.1.0 (Skipped h.1.0) (omega (arith, e, below)))),
+)

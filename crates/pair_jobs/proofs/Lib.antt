@@ -1,0 +1,4 @@
+mod Called
+mod Together
+mod Kept
+mod Judged

@@ -1,0 +1,155 @@
+-- What the answers of all pairs say.
+use Rattle.std.proofs.Common.{◌≡◌, ◌⊎◌, inl, inr, ℕ, zero, suc, ◌+◌, ◌<◌, ◌≤◌, ◌==◌, Bool, true, false, cond, List, [], ◌∷◌, map, length, get_or, slice_get, Option, Some, None, IsSomeAnd, refl, sym, ◌∙◌, ap, subst, arith}
+use Rattle.std.proofs.Math.Decide.{ℕ_discrete}
+use Rattle.std.proofs.lemmas.List.{get_or_default, length-map}
+use Rattle.std.proofs.lemmas.Map.Keys.{any_passes_from_place}
+use Rattle.std.proofs.lemmas.Option.{none-some, slice_get-map, slice_get_within, slice_get-get_or, get_or_from_slice_get}
+use Rattle.std.proofs.lemmas.Bool.Decides.{Decides-eqb}
+use Rattle.std.specs.List.{All, Any}
+use Rattle.std.specs.Option.{option_map}
+use Rattle.plain_netlist.specs.Netlist.{CallRow, Circuit, Netlist, IsCircuit}
+use Rattle.plain_netlist.specs.Sound.{IsGood}
+use Rattle.match_laws.specs.Answer.{Answer, Match, DiffersInRound, DiffersByTree, Undecided, Skipped, IsAnswer, IsDifference, equal_names}
+use Rattle.align_laws.specs.Lists.{given_of}
+use Rattle.align_laws.specs.Partners.{AreSides}
+use Rattle.composed_laws.specs.Answered.{IsAnswerOf, children_of, is_called, pair_in, pairing_or, right_pins, AreMatches}
+use Rattle.composed_laws.proofs.Matching.{matched_netlists, matched_tops}
+use Rattle.composed_laws.proofs.OneByOne.{together_answers}
+use Rattle.match_types.specs.Plain.{plain_answer}
+use Rattle.match_types.specs.declared.answer.Answer as rows
+use Rattle.net_model.specs.Rows.{plain_netlist}
+use Rattle.pair_jobs.specs.Answers.{AreAllAnswers, IsMatch, MatchedPairsLaw, MatchedTopsLaw, ResultsLaw, answer_at, pairing_in, pairings_of}
+use Rattle.pair_jobs.specs.Verdict.{IsUndecided, IsVerdict, OneVerdictLaw, UndecidedPairLaw}
+use Rattle.pair_jobs.specs.declared.verdict.Verdict.{Verdict}
+use Rattle.pair_jobs.specs.declared.verdict.Verdict.TheVariants as verdict
+
+-- the value that is there
+there : {A : Type 0} (P : A → Type 0) (o : Option A) → IsSomeAnd o P → (v : A) × (o ≡ Some v) × P v
+there P None h = absurd h
+there P (Some v) h = (v, refl, h)
+
+plain_there : (values : List rows.Answer) (k : ℕ) (v : rows.Answer) → slice_get values k ≡ Some v → answer_at (map plain_answer values) k ≡ plain_answer v
+plain_there values k v e = get_or_from_slice_get (map plain_answer values) k (plain_answer v) (Skipped k) (slice_get-map plain_answer values k ∙ ap (option_map plain_answer) e)
+
+pub results : ResultsLaw
+results key graph values sides good jobs defined =
+    let left = plain_netlist key.left.value in
+    let right = plain_netlist key.right.value in
+    let answers = map plain_answer values in
+    record {
+      count = length-map values plain_answer ∙ (defined.count ∙ jobs.jobs);
+      each = (together_answers left right key.limit.value (answer_at answers) sides good).1 (λ k c is.
+          let within = slice_get_within left.circuits k c is in
+          let count = jobs.jobs in
+          let v = there _ (slice_get values k) (defined.each k (omega (arith, within, count))) in
+          subst (IsAnswerOf left right key.limit.value k) (sym (plain_there values k v.0 v.1)) v.2);
+    }
+
+match_is : (a : Answer) → IsMatch a → a ≡ Match (pairing_in (pairing_or a))
+match_is (Match f) h = refl
+match_is (DiffersInRound r a m n) h = absurd h
+match_is (DiffersByTree gs) h = absurd h
+match_is (Undecided gs) h = absurd h
+match_is (Skipped q) h = absurd h
+
+are_matches : (left right : Netlist) (limit : ℕ) (answers : List Answer) → AreAllAnswers left right limit answers → All IsMatch answers → AreMatches left (answer_at answers) (pairings_of answers)
+are_matches left right limit answers h all k c is =
+    let within = slice_get_within left.circuits k c is in
+    let count = h.count in
+    match_is (answer_at answers k) (all k (Skipped k) (omega (arith, within, count)))
+
+pub matched_pairs : MatchedPairsLaw
+matched_pairs layout schematic top right_top same left right v w p limit answers h all c d pair =
+    matched_netlists layout schematic top right_top same left right v w p limit (answer_at answers) (pairings_of answers) h.each (are_matches left right limit answers h all) c d pair
+
+pub matched_top : MatchedTopsLaw
+matched_top layout schematic top right_top same left right v w p limit answers h all =
+    matched_tops layout schematic top right_top same left right v w p limit (answer_at answers) (pairings_of answers) h.each (are_matches left right limit answers h all)
+
+pub match_not : (a : Answer) → IsMatch a → IsDifference a → ⊥
+match_not (Match f) h g = g
+match_not (DiffersInRound r a m n) h g = h
+match_not (DiffersByTree gs) h g = h
+match_not (Undecided gs) h g = h
+match_not (Skipped q) h g = h
+
+decided : (a : Answer) → IsMatch a → IsUndecided a → ⊥
+decided (Match f) h g = g
+decided (DiffersInRound r a m n) h g = h
+decided (DiffersByTree gs) h g = h
+decided (Undecided gs) h g = h
+decided (Skipped q) h g = h
+
+all_not : (answers : List Answer) (P : Answer → Type 0) → ((a : Answer) → IsMatch a → P a → ⊥) → All IsMatch answers → Any P answers → ⊥
+all_not answers P never all (k, a, lt, is, p) = never a (subst IsMatch is (all k a lt)) p
+
+pub one_verdict : OneVerdictLaw
+one_verdict answers verdict.Match verdict.Match h g = refl
+one_verdict answers verdict.Match verdict.Mismatch h g = absurd (all_not answers IsDifference match_not h g)
+one_verdict answers verdict.Match verdict.Undecided h g = absurd (g.1 h)
+one_verdict answers verdict.Mismatch verdict.Match h g = absurd (all_not answers IsDifference match_not g h)
+one_verdict answers verdict.Mismatch verdict.Mismatch h g = refl
+one_verdict answers verdict.Mismatch verdict.Undecided h g = absurd (g.0 h)
+one_verdict answers verdict.Undecided verdict.Match h g = absurd (h.1 g)
+one_verdict answers verdict.Undecided verdict.Mismatch h g = absurd (h.0 g)
+one_verdict answers verdict.Undecided verdict.Undecided h g = refl
+
+-- a matched pair has right pins
+has_pins : (c : Circuit) (a : Answer) → IsMatch a → right_pins c (pairing_or a) ≡ None → ⊥
+has_pins c (Match f) h e = none-some _ (sym e)
+has_pins c (DiffersInRound r a m n) h e = h
+has_pins c (DiffersByTree gs) h e = h
+has_pins c (Undecided gs) h e = h
+has_pins c (Skipped q) h e = h
+
+module _ (left right : Netlist) (limit : ℕ) (answers : List Answer) (sides : AreSides left right) (good : IsGood left (λ k. k)) (h : AreAllAnswers left right limit answers) (same : Any IsDifference answers → ⊥) where
+  abbrev at : ℕ → Answer
+  at = answer_at answers
+
+  -- the pairs before a skipped one don't all match
+  skips : (k q : ℕ) → k < length answers → at k ≡ Skipped q → ((j : ℕ) → j < k → IsMatch (at j)) → ⊥
+  skips k q lt e below =
+      let within : k < length left.circuits = (let count = h.count in omega (arith, count, lt)) in
+      let c = get_or left.circuits k (record { name = []; nets = []; pins = []; devices = []; calls = [] }) in
+      let is : IsCircuit left k c = slice_get-get_or left.circuits k _ within in
+      let d = sides.there k c is in
+      let p = pair_in left at c d.0 in
+      let first = (subst (λ a. IsAnswer p (equal_names p) limit a) e (h.each k c d.0 is d.1)).1 in
+      let named : is_called c q ≡ true = any_passes_from_place (λ (r : CallRow). r.circuit == q) c.calls first.number first.call first.is ((Decides-eqb first.call.circuit q).1 first.pair_is) in
+      let low = good.lower k first.number first.call (c, is, first.is) in
+      let pair_is = first.pair_is in
+      let none : children_of left at q ≡ None = sym (ap (λ t. cond t (children_of left at q) None) named) ∙ first.none in
+      has_pins (given_of left q) (at q) (below q (omega (arith, low, pair_is))) none
+
+  next : (n : ℕ) → n < length answers → ((j : ℕ) → j < n → IsMatch (at j)) → (a : Answer) → at n ≡ a → IsMatch a ⊎ Any IsUndecided answers
+  next n lt below (Match f) e = inl tt
+  next n lt below (DiffersInRound r a m l) e = absurd (same (n, DiffersInRound r a m l, lt, get_or_default answers n (DiffersInRound r a m l) (Skipped n) lt ∙ e, tt))
+  next n lt below (DiffersByTree gs) e = absurd (same (n, DiffersByTree gs, lt, get_or_default answers n (DiffersByTree gs) (Skipped n) lt ∙ e, tt))
+  next n lt below (Undecided gs) e = inr (n, Undecided gs, lt, get_or_default answers n (Undecided gs) (Skipped n) lt ∙ e, tt)
+  next n lt below (Skipped q) e = absurd (skips n q lt e below)
+
+  -- the first pairs match, or one is undecided
+  first_pairs : (n : ℕ) → n ≤ length answers → ((j : ℕ) → j < n → IsMatch (at j)) ⊎ Any IsUndecided answers
+  first_pairs zero le = inl (λ j lt. absurd (omega arith))
+  first_pairs (suc n) le = elim (first_pairs n (omega arith)) [
+    | inr some ↦ inr some
+    | inl below ↦ elim (next n (omega arith) below (at n) refl) [
+      | inr some ↦ inr some
+      | inl here ↦ inl (λ j lt. elim (ℕ_discrete j n) [
+        | yes e ↦ subst (λ i. IsMatch (at i)) (sym e) here
+        | no m ↦ below j (omega (arith, lt, m))
+      ])
+    ]
+  ]
+
+  all_or : All IsMatch answers ⊎ Any IsUndecided answers
+  all_or = elim (first_pairs (length answers) (omega arith)) [
+    | inr some ↦ inr some
+    | inl all ↦ inl (λ k d lt. subst IsMatch (get_or_default answers k (Skipped k) d lt) (all k lt))
+  ]
+
+pub undecided_pair : UndecidedPairLaw
+undecided_pair left right limit answers sides good h = (
+  (λ u. (u.0, elim (all_or left right limit answers sides good h u.0) [ inl all ↦ absurd (u.1 all) | inr some ↦ some ])),
+  (λ u. (u.0, λ all. all_not answers IsUndecided decided all u.1)),
+)

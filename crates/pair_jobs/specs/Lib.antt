@@ -1,0 +1,4 @@
+pub mod Jobs
+pub mod Answers
+pub mod Children
+pub mod Verdict
