@@ -9,7 +9,7 @@ ghost use Rattle.net_align.specs.Laid.{laid_out, goes_of, AreCircuitsBelow, IsFl
 ghost use Rattle.plain_netlist.specs.Netlist.{Circuit as PlainCircuit};
 ghost use Rattle.net_model.specs.declared.netlist.CallRow.{CallRow as Call};
 
-use net_model::{CallRow, Circuit, DeviceRow};
+use net_model::{CallRow, Circuit, DeviceRow, copy_devices, copy_names};
 use net_names::Name;
 use std::alloc::{AllocError, Global};
 
@@ -73,27 +73,6 @@ fn own(alloc: Global, given: &Circuit, goes: &[bool]) -> Result<Circuit, AllocEr
         devices: copy_devices(alloc, &given.devices)?,
         calls: own_calls(alloc, &given.calls, goes)?,
     })
-}
-
-fn copy_names(alloc: Global, names: &[Name]) -> Result<Vec<Name>, AllocError>
-    ensures { IfOk result (λ copy. copy.items ≡ names.now) }
-{
-    let mut copy = Vec::new(alloc);
-    for name in names {
-        copy.push(name.try_clone(alloc)?)?;
-    }
-    Ok(copy)
-}
-
-fn copy_devices(alloc: Global, devices: &[DeviceRow]) -> Result<Vec<DeviceRow>, AllocError>
-    ensures { IfOk result (λ copy.
-        map plain_device copy.items ≡ map plain_device devices.now) }
-{
-    let mut copy = Vec::new(alloc);
-    for row in devices {
-        copy.push(device_through(alloc, row, row.source, row.gate, row.drain, row.bulk)?)?;
-    }
-    Ok(copy)
 }
 
 fn own_calls(alloc: Global, calls: &[CallRow], goes: &[bool]) -> Result<Vec<CallRow>, AllocError>

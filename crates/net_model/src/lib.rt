@@ -6,6 +6,7 @@
 
 mod calls;
 mod checked;
+mod copies;
 mod fault;
 mod names;
 mod netlist;
@@ -13,6 +14,7 @@ mod ranges;
 
 pub use calls::{call_list_laws, call_lists};
 pub use checked::check;
+pub use copies::{copy_devices, copy_names};
 pub use fault::NetFault;
 pub use names::has_twins;
 pub use netlist::{CallRow, Circuit, DeviceRow, Netlist};
