@@ -1,6 +1,6 @@
 -- The pairs that a circuit calls, as an ascending list.
-use Rattle.std.proofs.Common.{◌≡◌, ℕ, suc, ◌+◌, ◌<◌, ◌==◌, ◌||◌, Result, Ok, Err, IfOk, Bool, true, false, List, [], ◌∷◌, ◌++◌, map, length, get_or, slice_get, slice_index, Option, Some, None, refl, sym, ◌∙◌, ap, subst, arith}
-use Rattle.std.proofs.Math.Decide.{ℕ_discrete, dec_lt}
+use Rattle.std.proofs.Common.{◌≡◌, ℕ, ◌+◌, ◌<◌, ◌==◌, ◌||◌, Result, Ok, Err, IfOk, Bool, true, false, List, [], ◌∷◌, ◌++◌, map, length, get_or, slice_get, slice_index, Some, refl, sym, ◌∙◌, ap, subst, arith}
+use Rattle.std.proofs.Math.Decide.{ℕ_discrete}
 use Rattle.std.proofs.lemmas.Bool.Decides.{nat_tests}
 use Rattle.std.proofs.lemmas.List.{get_or_append_left, get_or_default, get_or_push, length-append, length-map}
 use Rattle.std.proofs.lemmas.List.Kept.{Contains-dedup_nat, Contains-from_dedup}
@@ -9,16 +9,16 @@ use Rattle.std.proofs.lemmas.Map.Keys.{IsStrictlyIncreasing-dedup}
 use Rattle.std.proofs.lemmas.Option.{slice_get-map, slice_get_within, slice_get-get_or}
 use Rattle.std.specs.Option.{option_map}
 use Rattle.std.specs.List.{Contains, dedup, list_any}
-use Rattle.std.specs.List.Sorted.{IsPermutation, IsSorted, IsStrictlyIncreasing}
+use Rattle.std.specs.List.Sorted.{IsPermutation, IsSorted}
 use Rattle.std.specs.Ordering.{nat_cmp}
 use Rattle.std.specs.Prelude.{nat_eq}
 use Rattle.plain_netlist.specs.Netlist.{CallRow as PlainCall, Circuit, Netlist, IsCircuit}
 use Rattle.plain_netlist.specs.Sound.{IsGood}
 use Rattle.composed_laws.proofs.Fitting.{any_listed}
 use Rattle.composed_laws.specs.Answered.{is_called}
-use Rattle.job_graph.proofs.Inputs.{has_here, has_else, item_has}
+use Rattle.job_graph.proofs.Inputs.{item_has}
 use Rattle.job_graph.proofs.Over.{ascend_law, place_of}
-use Rattle.job_graph.specs.Graph.{AreAscending, AreLower, Waits, has, inputs_of}
+use Rattle.job_graph.specs.Graph.{AreLower, has, inputs_of}
 use Rattle.net_model.specs.Rows.{plain_call, plain_circuit, plain_netlist}
 use Rattle.net_model.specs.declared.netlist.Circuit.{Circuit as RowsCircuit}
 use Rattle.net_model.specs.declared.netlist.Netlist.{Netlist as RowsNetlist}

@@ -1,9 +1,9 @@
 -- The verdict of the first answers.
-use Rattle.std.proofs.Common.{◌≡◌, ℕ, ◌+◌, ◌<◌, List, map, length, get_or, slice_get, Some, refl, sym, ◌∙◌, ap, subst, arith}
+use Rattle.std.proofs.Common.{◌≡◌, ℕ, ◌+◌, ◌<◌, List, map, length, slice_get, Some, sym, ◌∙◌, ap, subst, arith}
 use Rattle.std.proofs.Math.Decide.{ℕ_discrete}
 use Rattle.std.proofs.lemmas.List.{get_or_default, length-map}
 use Rattle.std.proofs.lemmas.Option.{slice_get-map, slice_get_within, get_or_from_slice_get}
-use Rattle.std.specs.List.{All, Any}
+use Rattle.std.specs.List.{Any}
 use Rattle.std.specs.Option.{option_map}
 use Rattle.match_laws.specs.Answer.{Answer, IsDifference, Skipped}
 use Rattle.match_types.specs.Plain.{plain_answer, plain_evidence}

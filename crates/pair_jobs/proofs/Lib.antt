@@ -1,4 +1,4 @@
-mod Called
+pub mod Called
 mod Together
 mod Kept
 mod Judged

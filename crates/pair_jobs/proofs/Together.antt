@@ -1,5 +1,5 @@
 -- What the answers of all pairs say.
-use Rattle.std.proofs.Common.{◌≡◌, ◌⊎◌, inl, inr, ℕ, zero, suc, ◌+◌, ◌<◌, ◌≤◌, ◌==◌, Bool, true, false, cond, List, [], ◌∷◌, map, length, get_or, slice_get, Option, Some, None, IsSomeAnd, refl, sym, ◌∙◌, ap, subst, arith}
+use Rattle.std.proofs.Common.{◌≡◌, ◌⊎◌, inl, inr, ℕ, zero, suc, ◌<◌, ◌≤◌, ◌==◌, true, false, cond, List, [], map, length, get_or, slice_get, Option, Some, None, IsNone, IsSomeAnd, refl, sym, ◌∙◌, ap, subst, arith}
 use Rattle.std.proofs.Math.Decide.{ℕ_discrete}
 use Rattle.std.proofs.lemmas.List.{get_or_default, length-map}
 use Rattle.std.proofs.lemmas.Map.Keys.{any_passes_from_place}
@@ -14,13 +14,14 @@ use Rattle.align_laws.specs.Lists.{given_of}
 use Rattle.align_laws.specs.Partners.{AreSides}
 use Rattle.composed_laws.specs.Answered.{IsAnswerOf, children_of, is_called, pair_in, pairing_or, right_pins, AreMatches}
 use Rattle.composed_laws.proofs.Matching.{matched_netlists, matched_tops}
-use Rattle.composed_laws.proofs.OneByOne.{together_answers}
+use Rattle.composed_laws.proofs.Fitting.{any_listed}
+use Rattle.composed_laws.proofs.OneByOne.{read_answers, together_answers}
+use Rattle.match_laws.proofs.Answer as shown
 use Rattle.match_types.specs.Plain.{plain_answer}
 use Rattle.match_types.specs.declared.answer.Answer as rows
 use Rattle.net_model.specs.Rows.{plain_netlist}
-use Rattle.pair_jobs.specs.Answers.{AreAllAnswers, IsMatch, MatchedPairsLaw, MatchedTopsLaw, ResultsLaw, answer_at, pairing_in, pairings_of}
-use Rattle.pair_jobs.specs.Verdict.{IsUndecided, IsVerdict, OneVerdictLaw, UndecidedPairLaw}
-use Rattle.pair_jobs.specs.declared.verdict.Verdict.{Verdict}
+use Rattle.pair_jobs.specs.Answers.{AreAllAnswers, IsMatch, MatchedPairsLaw, MatchedTopsLaw, ResultsLaw, KeptPairLaw, UnevenPairLaw, answer_at, pairing_in, pairings_of}
+use Rattle.pair_jobs.specs.Verdict.{IsUndecided, OneVerdictLaw, OneRunVerdictLaw, UndecidedPairLaw}
 use Rattle.pair_jobs.specs.declared.verdict.Verdict.TheVariants as verdict
 
 -- the value that is there
@@ -153,3 +154,47 @@ undecided_pair left right limit answers sides good h = (
   (λ u. (u.0, elim (all_or left right limit answers sides good h u.0) [ inl all ↦ absurd (u.1 all) | inr some ↦ some ])),
   (λ u. (u.0, λ all. all_not answers IsUndecided decided all u.1)),
 )
+
+not_none : (answers : List Answer) → IsNone (Some answers) → ⊥
+not_none answers h = let e : true ≡ false = h in cc
+
+pub one_run : OneRunVerdictLaw
+one_run bad None verdict.Match b h g = absurd h.1
+one_run bad None verdict.Undecided b h g = absurd h.1
+one_run bad None verdict.Mismatch verdict.Match h g = absurd g.1
+one_run bad None verdict.Mismatch verdict.Undecided h g = absurd g.1
+one_run bad None verdict.Mismatch verdict.Mismatch h g = refl
+one_run bad (Some answers) verdict.Match verdict.Match h g = refl
+one_run bad (Some answers) verdict.Match verdict.Undecided h g = one_verdict answers verdict.Match verdict.Undecided h.1 g.1
+one_run bad (Some answers) verdict.Match verdict.Mismatch h (inl g) = let e = h.0 in absurd (omega (arith, e, g))
+one_run bad (Some answers) verdict.Match verdict.Mismatch h (inr (inl g)) = absurd (not_none answers g)
+one_run bad (Some answers) verdict.Match verdict.Mismatch h (inr (inr g)) = one_verdict answers verdict.Match verdict.Mismatch h.1 g
+one_run bad (Some answers) verdict.Undecided verdict.Match h g = one_verdict answers verdict.Undecided verdict.Match h.1 g.1
+one_run bad (Some answers) verdict.Undecided verdict.Undecided h g = refl
+one_run bad (Some answers) verdict.Undecided verdict.Mismatch h (inl g) = let e = h.0 in absurd (omega (arith, e, g))
+one_run bad (Some answers) verdict.Undecided verdict.Mismatch h (inr (inl g)) = absurd (not_none answers g)
+one_run bad (Some answers) verdict.Undecided verdict.Mismatch h (inr (inr g)) = one_verdict answers verdict.Undecided verdict.Mismatch h.1 g
+one_run bad (Some answers) verdict.Mismatch verdict.Mismatch h g = refl
+one_run bad (Some answers) verdict.Mismatch verdict.Match (inl h) g = let e = g.0 in absurd (omega (arith, e, h))
+one_run bad (Some answers) verdict.Mismatch verdict.Match (inr (inl h)) g = absurd (not_none answers h)
+one_run bad (Some answers) verdict.Mismatch verdict.Match (inr (inr h)) g = one_verdict answers verdict.Mismatch verdict.Match h g.1
+one_run bad (Some answers) verdict.Mismatch verdict.Undecided (inl h) g = let e = g.0 in absurd (omega (arith, e, h))
+one_run bad (Some answers) verdict.Mismatch verdict.Undecided (inr (inl h)) g = absurd (not_none answers h)
+one_run bad (Some answers) verdict.Mismatch verdict.Undecided (inr (inr h)) g = one_verdict answers verdict.Mismatch verdict.Undecided h g.1
+
+pub kept_pair : KeptPairLaw
+kept_pair left right limit answers sides good h k c d f is also corresponds =
+    let at = answer_at answers in
+    let right_all = (together_answers left right limit at sides good).0 h.each in
+    let called : (q : ℕ) → is_called c q ≡ true → IsAnswerOf left right limit q (at q) = λ q e.
+    let r = any_listed q c.calls e in
+    let x = good.called k r.0 r.1 (c, is, r.2) in
+    right_all q x.0 (subst (λ n. IsCircuit left n x.0) r.3 x.1) in
+    let fits = read_answers left right limit k c d at sides good is also called in
+    λ differs. shown.differs (pair_in left at c d) (equal_names (pair_in left at c d)) limit (at k) f fits.0 fits.1 (h.each k c d is also) differs corresponds
+
+pub uneven_pair : UnevenPairLaw
+uneven_pair left right limit answers h k c d a is also uneven =
+    let at = answer_at answers in
+    let r = shown.uneven_differs (pair_in left at c d) (equal_names (pair_in left at c d)) limit (at k) a (h.each k c d is also) uneven in
+    subst IsDifference (sym r.3) tt

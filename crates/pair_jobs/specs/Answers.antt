@@ -2,14 +2,16 @@
 use Rattle.std.specs.Prelude.{◌≡◌, ℕ, List, [], map, length, Option, Some, None, slice_index_or}
 use Rattle.std.specs.List.{All}
 use Rattle.plain_netlist.specs.Flats.{Corresponds, expanded}
-use Rattle.plain_netlist.specs.Netlist.{Netlist}
+use Rattle.plain_netlist.specs.Netlist.{Circuit, Netlist, IsCircuit}
 use Rattle.plain_netlist.specs.Sound.{IsGood}
+use Rattle.round_laws.specs.Nodes.{Node}
+use Rattle.round_laws.specs.Web.{IsUneven}
 use Rattle.match_laws.specs.Answer.{Answer, Match, DiffersInRound, DiffersByTree, Undecided}
-use Rattle.match_laws.specs.Answer.{Skipped}
-use Rattle.match_laws.specs.Circuits.{Pairing}
+use Rattle.match_laws.specs.Answer.{Skipped, IsDifference}
+use Rattle.match_laws.specs.Circuits.{Pairing, IsCorrespondence, web_of}
 use Rattle.align_laws.specs.Cut.{Alignment}
 use Rattle.align_laws.specs.Partners.{AreSides, IsAlignedPair, IsPair}
-use Rattle.composed_laws.specs.Answered.{AreAnswers, pairing_or}
+use Rattle.composed_laws.specs.Answered.{AreAnswers, pair_in, pairing_or}
 use Rattle.composed_laws.specs.Matched.{AreDevicesMatched, AreNetsMatched}
 use Rattle.job_graph.specs.Table.{AreDefined}
 use Rattle.match_types.specs.Answered.{IsPairAnswer}
@@ -82,3 +84,20 @@ MatchedTopsLaw = (layout schematic : Netlist) (top right_top : ℕ)
     (pairings_of answers) top right_top)
     (AreNetsMatched layout left right schematic v w p.left_aligned p.right_aligned
     (pairings_of answers) top right_top)
+
+-- a pair that has a correspondence which keeps the pins of the called pairs doesn't differ
+abbrev pub KeptPairLaw : Type 0
+KeptPairLaw = (left right : Netlist) (limit : ℕ) (answers : List Answer) → AreSides left right
+    → IsGood left (λ k. k) → AreAllAnswers left right limit answers → (k : ℕ) (c d : Circuit)
+    (f : Pairing) → IsCircuit left k c → IsCircuit right k d
+    → IsCorrespondence (pair_in left (answer_at answers) c d) f
+    → IsDifference (answer_at answers k) → ⊥
+
+-- a pair differs in which what a node is, as a device of a class and of sizes, comes more often on
+-- one side than on the other, whatever the called pairs are
+abbrev pub UnevenPairLaw : Type 0
+UnevenPairLaw = (left right : Netlist) (limit : ℕ) (answers : List Answer)
+    → AreAllAnswers left right limit answers → (k : ℕ) (c d : Circuit) (a : Node)
+    → IsCircuit left k c → IsCircuit right k d
+    → IsUneven (web_of (pair_in left (answer_at answers) c d)) 0 a
+    → IsDifference (answer_at answers k)

@@ -1,5 +1,5 @@
 -- What the answers of all pairs come to.
-use Rattle.std.specs.Prelude.{◌≡◌, ◌↔◌, ℕ, List}
+use Rattle.std.specs.Prelude.{◌≡◌, ◌⊎◌, ◌↔◌, ◌<◌, ℕ, List, Option, IsNone, IsSomeAnd}
 use Rattle.std.specs.List.{All, Any}
 use Rattle.plain_netlist.specs.Netlist.{Netlist}
 use Rattle.plain_netlist.specs.Sound.{IsGood}
@@ -36,3 +36,18 @@ UndecidedPairLaw = (left right : Netlist) (limit : ℕ) (answers : List Answer) 
     → IsGood left (λ k. k) → AreAllAnswers left right limit answers
     → IsVerdict answers verdict.Undecided
     ↔ ((Any IsDifference answers → ⊥) × Any IsUndecided answers)
+
+-- of a whole run: a mismatch also where a gate is bad, or where the layout's top has no partner, so
+-- that there are no answers
+abbrev pub IsRunVerdict : ℕ → Option (List Answer) → Verdict → Type 0
+IsRunVerdict bad answers verdict.Match =
+    (bad ≡ 0) × IsSomeAnd answers (λ all. IsVerdict all verdict.Match)
+IsRunVerdict bad answers verdict.Mismatch =
+    (0 < bad) ⊎ (IsNone answers ⊎ IsSomeAnd answers (λ all. IsVerdict all verdict.Mismatch))
+IsRunVerdict bad answers verdict.Undecided =
+    (bad ≡ 0) × IsSomeAnd answers (λ all. IsVerdict all verdict.Undecided)
+
+-- of these too one holds, and no other
+abbrev pub OneRunVerdictLaw : Type 0
+OneRunVerdictLaw = (bad : ℕ) (answers : Option (List Answer)) (a b : Verdict)
+    → IsRunVerdict bad answers a → IsRunVerdict bad answers b → a ≡ b

@@ -1,14 +1,23 @@
 //! What the answers of all pairs say.
-ghost use Rattle.pair_jobs.specs.Answers.{MatchedPairsLaw, MatchedTopsLaw, ResultsLaw};
-ghost use Rattle.pair_jobs.specs.Verdict.{OneVerdictLaw, UndecidedPairLaw};
+ghost use Rattle.pair_jobs.specs.Answers.{KeptPairLaw, MatchedPairsLaw, MatchedTopsLaw};
+ghost use Rattle.pair_jobs.specs.Answers.{ResultsLaw, UnevenPairLaw};
+ghost use Rattle.pair_jobs.specs.Verdict.{OneRunVerdictLaw, OneVerdictLaw, UndecidedPairLaw};
 
 /// Right results of all jobs are the answers of all pairs. Where each is a match, the circuits of
-/// each pair, the two tops among them, expand to the same. There is one verdict, and it is
-/// undecided exactly where no pair differs and one is undecided.
+/// each pair, the two tops among them, expand to the same. A pair that has a correspondence never
+/// differs, and one with unequal counts always does.
 pub fn pair_answers()
     ensures results { ResultsLaw }
     ensures pairs { MatchedPairsLaw }
     ensures tops { MatchedTopsLaw }
+    ensures kept { KeptPairLaw }
+    ensures uneven { UnevenPairLaw }
+{}
+
+/// There is one verdict of the answers, and one of a run. That of the answers is undecided exactly
+/// where no pair differs and one is undecided.
+pub fn verdicts()
     ensures one { OneVerdictLaw }
+    ensures one_run { OneRunVerdictLaw }
     ensures undecided { UndecidedPairLaw }
 {}

@@ -9,5 +9,5 @@ mod verdict;
 
 pub use children::child_pins;
 pub use jobs::pair_graph;
-pub use laws::pair_answers;
-pub use verdict::{Verdict, judge};
+pub use laws::{pair_answers, verdicts};
+pub use verdict::{Verdict, judge, judge_run};

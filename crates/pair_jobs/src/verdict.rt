@@ -1,7 +1,8 @@
 //! What the answers of all pairs come to.
+ghost use Rattle.std.specs.Option.{option_map};
 ghost use Rattle.std.specs.Prelude.{IfOk, map};
 ghost use Rattle.match_types.specs.Plain.{plain_answer};
-ghost use Rattle.pair_jobs.specs.Verdict.{IsVerdict};
+ghost use Rattle.pair_jobs.specs.Verdict.{IsRunVerdict, IsVerdict};
 
 use job_graph::{Reads, Results};
 use match_types::Answer;
@@ -34,4 +35,20 @@ pub fn judge(answers: &Results<Answer>) -> Result<Verdict, AllocError>
         }
     }
     Ok(verdict)
+}
+
+/// What a run comes to, by the number of bad gates and the answers, if the layout's top has a
+/// partner: a mismatch where a gate is bad or there are no answers, else what the answers come to.
+/// It takes no memory; the error is 2^32 pairs or more.
+pub fn judge_run(bad: usize, answers: Option<&Results<Answer>>) -> Result<Verdict, AllocError>
+    ensures { IfOk result
+        (IsRunVerdict bad (option_map (λ all. map plain_answer all.now) answers.entry)) }
+{
+    if bad > 0 {
+        return Ok(Verdict::Mismatch);
+    }
+    match answers {
+        Some(all) => judge(all),
+        None => Ok(Verdict::Mismatch),
+    }
 }

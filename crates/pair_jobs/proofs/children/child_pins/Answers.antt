@@ -1,4 +1,4 @@
-use Rattle.std.proofs.Common.{◌≡◌, ◌<◌, ℕ, List, Option, Some, None, get_or, length, refl, sym, ◌∙◌, ap, arith}
+use Rattle.std.proofs.Common.{◌≡◌, ◌<◌, ℕ, List, Option, get_or, length, refl, sym, ◌∙◌, ap, arith}
 use Rattle.composed_laws.specs.Answered.{children_of, pairing_or, right_pins}
 use Rattle.job_graph.proofs.Inputs.{item_has}
 use Rattle.match_types.specs.Children as pins
@@ -6,7 +6,7 @@ use Rattle.match_types.specs.declared.answer.Answer.{Answer}
 use Rattle.net_model.specs.Rows.{plain_circuit, plain_netlist}
 use Rattle.plain_netlist.specs.Netlist as plain
 use Rattle.pair_jobs.proofs.Called.{count_of}
-use Rattle.pair_jobs.proofs.Kept.{given_at, kept_more, kept_none, none_kept}
+use Rattle.pair_jobs.proofs.Kept.{given_at, kept_more, kept_none}
 use Rattle.pair_jobs.proofs.children.child_pins.Goals.{in-Some+in_ok-set-in-Some, in-None}
 use Rattle.pair_jobs.proofs.children.child_pins.Goals as goal
 use Rattle.pair_jobs.specs.Children.{answer_in, list_in}

@@ -1,4 +1,4 @@
-use Rattle.std.proofs.Common.{◌≡◌, List, map, length, sym, ◌∙◌, ap, subst, arith}
+use Rattle.std.proofs.Common.{map, sym, ◌∙◌, ap, subst, arith}
 use Rattle.std.proofs.lemmas.List.{length-map}
 use Rattle.match_laws.specs.Answer.{IsDifference}
 use Rattle.match_types.specs.Plain.{plain_answer}
