@@ -10,4 +10,4 @@ mod parts;
 mod phase;
 
 pub use laws::{kept_law, layer_law};
-pub use phase::LayerPhase;
+pub use phase::{LayerPhase, free_graph};

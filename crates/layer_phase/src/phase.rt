@@ -35,8 +35,8 @@ impl<'a> Model for LayerPhase<'a> {
     ghost invariant = { IsLayerPhase };
 }
 
-// A job for each reached cell, and none waits.
-fn free_graph(alloc: Global, design: &Design) -> Result<Graph, AllocError>
+/// The graph of jobs of the reached cells in which none waits. Linear in the reached cells.
+pub fn free_graph(alloc: Global, design: &Design) -> Result<Graph, AllocError>
     ensures { IfOk result (AreFreeJobs design.now) }
 {
     let mut inputs = Vec::new(alloc);
