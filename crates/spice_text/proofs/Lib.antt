@@ -12,3 +12,4 @@ pub mod RowLemmas
 pub mod TextLemmas
 pub mod AgainLemmas
 pub mod OneLemmas
+pub mod SampleLemmas

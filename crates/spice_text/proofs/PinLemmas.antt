@@ -214,7 +214,7 @@ twins seen (n ∷ ns) f =
       (λ m h. elim h [ inl e ↦ subst (λ (x : List ℕ). has_text seen x ≡ false) (sym e) s.0 | inr l ↦ (parted m l).0 ]),
     )
 
-apart_of : (ns : List (List ℕ)) → are_apart ns ≡ true → AreApart ns
+pub apart_of : (ns : List (List ℕ)) → are_apart ns ≡ true → AreApart ns
 apart_of ns t = elim (either (has_twins [] ns)) [
   | inl h ↦ absurd (true≢false (sym t ∙ ap (λ (b : Bool). not b) h))
   | inr f ↦ (twins [] ns f).0

@@ -1,9 +1,7 @@
 -- What the lines of a written text are, and what their cards say.
-use Rattle.std.proofs.Common.{◌≡◌, inl, inr, ℕ, zero, suc, ◌*◌, ◌^◌, ◌/◌, ◌%◌, ◌<◌, ◌≤◌, ◌==◌, Bool, true, false, List, [], ◌∷◌, ◌++◌, map, length, Option, Some, None, Result, Ok, Err, refl, sym, ap, subst, ◌∙◌, append_assoc, arith}
-use Rattle.std.specs.Prelude.{decimal, nat_lt, if◌then◌else◌, codes}
+use Rattle.std.proofs.Common.{◌≡◌, ℕ, ◌*◌, ◌^◌, ◌/◌, ◌<◌, ◌≤◌, Bool, true, false, List, [], ◌∷◌, ◌++◌, map, length, Option, Some, None, Result, Ok, Err, refl, sym, ap, subst, ◌∙◌, append_assoc, arith}
+use Rattle.std.specs.Prelude.{decimal, if◌then◌else◌, codes}
 use Rattle.std.specs.List.{list_all}
-use Rattle.std.proofs.Math.Nat.{mul-div_cancel, mul-mod_left, mul-le-mul_right, pow-suc}
-use Rattle.std.proofs.lemmas.Bool.Decides.{Decides-eqb}
 use Rattle.std.proofs.lemmas.List.{append-nil, length-append, map-append}
 use Rattle.fixed_num.specs.Values.{Number}
 use Rattle.fixed_num.specs.Microns.{pointed, IsMicrons}
@@ -16,7 +14,7 @@ use Rattle.plain_netlist.specs.Netlist as plain
 use Rattle.spice_cards.specs.Tokens.{Token, Word, Equals}
 use Rattle.spice_cards.specs.Parts.{Param, begins_equals, words_of, behind_words, params_of}
 use Rattle.spice_rows.specs.Names.{folded_some, name_of, name_onto, names_of, are_apart}
-use Rattle.spice_rows.specs.Sizes.{Sizes, is_above, settled, value_at, value_of, and_then, changed}
+use Rattle.spice_rows.specs.Sizes.{Sizes, is_above, value_at, value_of, and_then, changed}
 use Rattle.spice_rows.specs.Rows as rows
 use Rattle.spice_rows.specs.Rows.{CardRow, Opens, Passed, Ends as EndsRow, Device, Call, DeviceCard, CallCard, card_row}
 use Rattle.spice_rows.specs.declared.fault.SpiceFault.{SpiceFault}
@@ -25,7 +23,6 @@ use Rattle.spice_rows.proofs.NameLemmas.{call_is}
 use Rattle.spice_rows.proofs.ValueLemmas.{positive, settled_is, within}
 use Rattle.spice_text.specs.Laws.{IsName}
 use Rattle.spice_text.specs.Written.{or_empty, net_text, nets_text, sizes_text, device_text}
-use Rattle.spice_text.proofs.SearchLemmas.{either}
 use Rattle.spice_text.proofs.WordLemmas.{is_easy, IsWord, easy_word, escaped_word, Begins, decimal_easy, easy_append, digits_all, Ends, at_end, blank_word, equals_word}
 use Rattle.spice_text.proofs.ReadLemmas.{IsLine, first_word}
 use Rattle.std.specs.Prelude.{slice_get}

@@ -9,3 +9,4 @@ pub mod Table
 pub mod Means
 pub mod Written
 pub mod Laws
+pub mod Sample

@@ -1,4 +1,5 @@
 ghost use Rattle.spice_text.specs.Laws.{WrittenMeansLaw, ReadAgainLaw, OneMeaningLaw, NoFaultLaw};
+ghost use Rattle.spice_text.specs.Sample.{SampleLaw};
 
 use net_model::call_list_laws;
 
@@ -10,6 +11,13 @@ pub fn written_laws()
     ensures again { ReadAgainLaw }
     ensures one { OneMeaningLaw }
     ensures no_fault { NoFaultLaw }
+{
+    call_list_laws();
+}
+
+/// A netlist with a transistor and a call, and the text that is written of it.
+pub fn written_sample()
+    ensures { SampleLaw }
 {
     call_list_laws();
 }

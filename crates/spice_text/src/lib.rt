@@ -13,7 +13,7 @@ mod ordered;
 mod read;
 mod write;
 
-pub use laws::written_laws;
+pub use laws::{written_laws, written_sample};
 pub use read::read_spice;
 pub use spice_rows::SpiceFault;
 pub use write::write_spice;

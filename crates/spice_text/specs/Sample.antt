@@ -1,0 +1,59 @@
+-- A netlist with a transistor and a call, carried through what the laws of written texts ask.
+use Rattle.std.specs.Prelude.{◌^◌, ◌*◌, ℕ, List, [], ◌∷◌, ◌++◌, None, codes}
+use Rattle.plain_netlist.specs.Netlist.{DeviceRow, CallRow, Circuit, Netlist}
+use Rattle.plain_netlist.specs.Normal.{IsNormalNetlist}
+use Rattle.plain_netlist.specs.Sound.{IsSoundNetlist}
+use Rattle.spice_text.specs.Laws.{IsWritable, IsWithin}
+use Rattle.spice_text.specs.Means.{Means}
+use Rattle.spice_text.specs.Written.{IsWritten}
+
+-- one micrometre long, two wide
+abbrev pub transistor : DeviceRow
+transistor = record {
+  class = codes "NMOS";
+  length = 10 ^ 9;
+  width = 2 * 10 ^ 9;
+  source = 2;
+  gate = 1;
+  drain = 0;
+  bulk = 3;
+}
+
+abbrev pub cell : Circuit
+cell = record {
+  name = codes "CELL";
+  nets = codes "D" ∷ codes "G$2" ∷ codes "S" ∷ codes "B" ∷ [];
+  pins = 0 ∷ 1 ∷ [];
+  devices = transistor ∷ [];
+  calls = [];
+}
+
+abbrev pub call : CallRow
+call = record { circuit = 0; nets = 0 ∷ 0 ∷ [] }
+
+abbrev pub caller : Circuit
+caller = record {
+  name = codes "TOP";
+  nets = codes "N" ∷ [];
+  pins = [];
+  devices = [];
+  calls = call ∷ [];
+}
+
+abbrev pub sample : Netlist
+sample = record { circuits = cell ∷ caller ∷ [] }
+
+-- in codes, where 92 is the backslash before `$`
+abbrev pub sample_text : List ℕ
+sample_text =
+    codes "* lvs netlist\n.SUBCKT CELL D G" ++ (92 ∷ codes "$2\nM1 D G")
+    ++ (92 ∷ codes "$2 S B NMOS L=1U W=2U\n.ENDS CELL\n")
+    ++ codes ".SUBCKT TOP\nX1 N N CELL\n.ENDS TOP\n.END\n"
+
+pub record SampleLaw : Type 0 where
+  pub sound : IsSoundNetlist sample
+  pub normal : IsNormalNetlist sample
+  pub writable : IsWritable sample
+  pub within : IsWithin (10 ^ 18) sample
+  pub written : IsWritten sample sample_text
+  pub means : Means None sample_text sample
