@@ -16,8 +16,9 @@ use Rattle.rect_sets.specs.Rects.{covers}
 use Rattle.flat_layout.specs.Plane.{IsIn}
 use Rattle.flat_layout.specs.Arrays.{place_at, places_of}
 use Rattle.flat_layout.specs.Layout as flat
+use Rattle.plain_netlist.specs.Lists.{IsListed, AreApart}
 use Rattle.flat_layout.specs.Layout.{Some_of, IsOwn, IsPlaced, Takes, InFlatInput, IsHeight}
-use Rattle.cell_graph.specs.Linked.{Linked, IsSound, IsReference, IsInside, HoldsImage, HoldsRects, HullHas, HullIsSound, HasNone, AreApart, own_rects, own_of, cell_at, hull_of, places_at, height_at, height_of, plain, plain_cell, plain_layer, reference, motion_at, IsStep}
+use Rattle.cell_graph.specs.Linked.{Linked, IsSound, IsReference, IsInside, HoldsImage, HoldsRects, HullHas, HullIsSound, layer_keys, own_rects, own_of, cell_at, hull_of, places_at, height_at, height_of, plain, plain_cell, plain_layer, reference, motion_at, IsStep}
 use Rattle.geo_base.specs.Layers.{is_same_key}
 use Rattle.cell_graph.specs.Laws.{OwnLaw, HeightLaw, HullLaw}
 use Rattle.cell_graph.specs.declared.cells.OwnLayer.{OwnLayer}
@@ -95,17 +96,17 @@ key_other a b h e = let f : is_same_key a b ≡ true = subst (λ k. is_same_key 
 abbrev IsOn : LayerKey → Square → flat.Layer → Type 0
 IsOn key q layer = (layer.key ≡ key) × Some_of (IsIn q) layer.rects
 
-none_on : (layers : List OwnLayer) (key : LayerKey) (q : Square) → HasNone key layers → Some_of (IsOn key q) (map plain_layer layers) → ⊥
+none_on : (layers : List OwnLayer) (key : LayerKey) (q : Square) → (IsListed key (layer_keys layers) → ⊥) → Some_of (IsOn key q) (map plain_layer layers) → ⊥
 none_on [] key q h s = s
-none_on (l ∷ layers) key q h (inl s) = h.0 s.0
-none_on (l ∷ layers) key q h (inr s) = none_on layers key q h.1 s
+none_on (l ∷ layers) key q h (inl s) = h (inl (sym s.0))
+none_on (l ∷ layers) key q h (inr s) = none_on layers key q (λ i. h (inr i)) s
 
-own_to : (layers : List OwnLayer) (key : LayerKey) (q : Square) → AreApart layers → Some_of (IsOn key q) (map plain_layer layers) → covers (own_rects layers key) q ≡ true
+own_to : (layers : List OwnLayer) (key : LayerKey) (q : Square) → AreApart (layer_keys layers) → Some_of (IsOn key q) (map plain_layer layers) → covers (own_rects layers key) q ≡ true
 own_to [] key q h s = absurd s
 own_to (l ∷ layers) key q h s = elim (key_is l.key key) [
   | inl e ↦ subst (λ c. covers (if c then l.set else own_rects layers key) q ≡ true) (sym e) (elim s [
     | inl t ↦ some_covers l.set q t.1
-    | inr t ↦ absurd (none_on layers key q (subst (λ k. HasNone k layers) (key_same l.key key e) h.0) t)
+    | inr t ↦ absurd (none_on layers key q (subst (λ k. IsListed k (layer_keys layers) → ⊥) (key_same l.key key e) h.0) t)
   ])
   | inr e ↦ subst (λ c. covers (if c then l.set else own_rects layers key) q ≡ true) (sym e) (elim s [
     | inl t ↦ absurd (key_other l.key key e t.0)

@@ -3,12 +3,13 @@ use Rattle.std.proofs.Common.{◌≡◌, ◌⊎◌, inl, inr, ℕ, zero, suc, �
 use Rattle.std.specs.List.Sorted.{IsStrictlyIncreasing}
 use Rattle.std.proofs.Math.Decide.{ℕ_discrete}
 use Rattle.std.proofs.lemmas.Option.{slice_get_within, slice_get-get_or, get_or_from_slice_get}
+use Rattle.std.specs.Vec.{vec_len}
 use Rattle.geo_base.specs.declared.shapes.Rect.{Rect}
 use Rattle.cell_graph.specs.declared.cells.Place.{Place}
 use Rattle.cell_graph.specs.declared.cells.CellPart.{CellPart}
 use Rattle.cell_graph.specs.declared.indexes.CellIndex.{CellIndex}
 use Rattle.cell_graph.specs.Indexes.{AreSpansTo, AreSpans, IsIndexed, AreIndexedTo, AreSoundCells}
-use Rattle.cell_graph.specs.Linked.{IsReference, hull_of}
+use Rattle.cell_graph.specs.Linked.{HullIsSound, IsReference, hull_of}
 use Rattle.cell_graph.specs.Spans.{IsSpanOr, HasSpan}
 use Rattle.cell_graph.proofs.Bridge.{all_at}
 use Rattle.cell_graph.proofs.Elements.{in_first, in_second, in_either}
@@ -119,6 +120,20 @@ no_span_here cells c n place q ref there at (inr (inr (row, column, in_rows, in_
 
 pub reference_in : (cells : List CellPart) (i n : ℕ) (c : CellPart) (place : Place) → AreSoundCells cells → slice_get cells i ≡ Some c → slice_get c.places.items n ≡ Some place → IsReference cells c place
 reference_in cells i n c place sound at there = all_at (IsReference cells c) c.places.items n place (sound i c at).places there
+
+-- a reference that was read by its number, in a cell that was
+pub reference_read : (cells : List CellPart) (cell n : ℕ) (part : CellPart) (place : Place) (end : ℕ) → AreSoundCells cells → cell < length cells → part ≡ get_or cells cell part → end ≡ vec_len (get_or cells cell part).places → n < end
+    → place ≡ get_or (get_or cells cell part).places.items n place → IsReference cells part place
+reference_read cells cell n part place end sound inside is long lt read =
+    let there : slice_get cells cell ≡ Some part = slice_get-get_or cells cell part inside ∙ ap Some (sym is) in
+    let count : end ≡ vec_len part.places = subst (λ (q : CellPart). end ≡ vec_len q.places) (sym is) long in
+    let ok = part.places.ok.0 in
+    let below : n < length part.places.items = omega arith in
+    let here : place ≡ get_or part.places.items n place = subst (λ (q : CellPart). place ≡ get_or q.places.items n place) (sym is) read in
+    reference_in cells cell n part place sound there (slice_get-get_or part.places.items n place below ∙ ap Some (sym here))
+
+pub hull_read : (cells : List CellPart) (cell : ℕ) (part : CellPart) → AreSoundCells cells → cell < length cells → HullIsSound (get_or cells cell part).hull
+hull_read cells cell part sound inside = (sound cell (get_or cells cell part) (slice_get-get_or cells cell part inside)).hull
 
 -- one cell's indexes more
 pub no_index : (cells : List CellPart) → AreIndexedTo cells 0 []

@@ -1,6 +1,6 @@
 pub mod Elements
 pub mod Bridge
-pub mod NameLemmas
+pub mod Ordered
 pub mod Raising
 pub mod Walks
 pub mod Naming

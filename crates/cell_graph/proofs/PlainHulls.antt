@@ -34,7 +34,7 @@ use Rattle.cell_graph.specs.Parts.{Part}
 use Rattle.cell_graph.specs.Sides.{Left, Low, Right, High, Holds, Widens}
 use Rattle.cell_graph.proofs.Extending.{low_of, high_of}
 use Rattle.cell_graph.proofs.Hulls.{some_among, among_some, element_from, element_to, image_held}
-use Rattle.cell_graph.proofs.Sound.{IsDone, MadeAt, made_at, up, corner_held, some_at, cell_sound, order_sound}
+use Rattle.cell_graph.proofs.Sound.{IsDone, MadeAt, made_at, up, corner_held, some_at, cell_sound, levels_sound, order_sound}
 use Rattle.cell_graph.proofs.Widening.{least_of}
 
 -- what stands between held corners is held
@@ -319,4 +319,5 @@ all_sound cells parts hs order found top kept ds done = record {
   each = λ i p at. cell_sound cells parts hs order found top kept ds done i p at;
   hulls = record { each = λ i. hull_sound_at cells parts hs order found top kept ds done i (cell_at (linked_of ds top kept) i) refl };
   order = order_sound cells parts hs order found top kept ds done;
+  levels = levels_sound cells parts hs order found top kept ds done;
 }

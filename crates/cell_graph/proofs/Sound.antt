@@ -1,5 +1,5 @@
 -- The finished cells and their order make a sound design: what the drafts name.
-use Rattle.std.proofs.Common.{◌≡◌, inl, inr, ℕ, zero, suc, ◌<◌, ◌≤◌, ◌^◌, ℤ, ◌≤ℤ◌, List, [], ◌∷◌, Option, Some, None, length, get_or, slice_get, slice_index, refl, sym, ◌∙◌, ap, subst, arith}
+use Rattle.std.proofs.Common.{◌≡◌, ◌⊎◌, inl, inr, ℕ, zero, suc, ◌<◌, ◌≤◌, ◌^◌, ℤ, ◌≤ℤ◌, List, [], ◌∷◌, Option, Some, None, length, get_or, slice_get, slice_index, refl, sym, ◌∙◌, ap, subst, arith}
 use Rattle.std.specs.List.{All}
 use Rattle.std.proofs.lemmas.Int.{ints, clamps}
 use Rattle.std.proofs.lemmas.Option.{slice_get_within, slice_get-get_or}
@@ -12,19 +12,19 @@ use Rattle.geo_base.proofs.Spans.{moved_rect-IsRect}
 use Rattle.flat_layout.specs.Layout as flat
 use Rattle.flat_layout.specs.Layout.{Some_of}
 use Rattle.plain_netlist.proofs.Members.{few}
-use Rattle.plain_netlist.specs.Lists as lists
+use Rattle.plain_netlist.specs.Lists.{AreApart}
 use Rattle.call_order.proofs.Closing.{apart_by, place_in}
 use Rattle.std.specs.Global.{Vec}
 use Rattle.cell_graph.specs.declared.cells.OwnLayer.{OwnLayer}
 use Rattle.cell_graph.specs.declared.cells.RawText.{RawText}
 use Rattle.cell_graph.specs.declared.cells.Place.{Place}
 use Rattle.cell_graph.specs.declared.cells.CellPart.{CellPart}
-use Rattle.cell_graph.specs.Linked.{linked_of, plain, motion_at, cell_at, places_at, height_at, height_of, IsInside, IsHull, HoldsImage, HoldsRects, IsReference, AreApart, HullIsSound, IsSoundCell, IsOrder, IsStep}
+use Rattle.cell_graph.specs.Linked.{linked_of, plain, motion_at, cell_at, places_at, height_at, height_of, IsInside, IsHull, HoldsImage, HoldsRects, IsReference, layer_keys, HullIsSound, HasJustBelow, HaveLevels, IsSoundCell, IsOrder, IsStep}
 use Rattle.cell_graph.proofs.Bridge.{step_of, placed_of}
 use Rattle.cell_graph.specs.declared.bounds.Bounds.{Bounds}
 use Rattle.cell_graph.specs.declared.drafts.CellDraft.{CellDraft}
 use Rattle.cell_graph.specs.Bounds.{range_of}
-use Rattle.cell_graph.specs.Chains.{Leads, IsHeightOf}
+use Rattle.cell_graph.specs.Chains.{Leads, HasChain, IsHeightOf}
 use Rattle.cell_graph.specs.Parts.{Part, Places}
 use Rattle.cell_graph.specs.Drafts.{Refers, IsCorner, IsHullPoint, IsNearPoint, IsHullOf, IsLeastRange, IsTop, AreSound, AreAllResolved, AreParts, IsPartOf, IsLink}
 use Rattle.cell_graph.specs.Sides.{Side, Left, Low, Right, High, value, side_of, Holds, Widens, AreNearIfAny, IsCornerPoint, low_corner, high_corner}
@@ -47,7 +47,7 @@ pub record IsDone (cells : List CellDraft) (parts : List Part) (hs order : List 
   pub bounds : AreBounds cells found
   pub reached : AreReached parts top order (length order) kept
   pub made : AreMade cells parts found hs ds
-  pub keys : (i : ℕ) (c : CellDraft) → slice_get cells i ≡ Some c → AreApart c.layers.items
+  pub keys : (i : ℕ) (c : CellDraft) → slice_get cells i ≡ Some c → AreApart (layer_keys c.layers.items)
   pub arrays : HaveArrays cells
   pub top_in : top < length cells
 
@@ -229,6 +229,31 @@ own_sound cells parts hs found bounds i p m = subst (λ ls. All (λ (l : OwnLaye
 all_from : {A : Type 0} (P : A → Type 0) (xs : List A) → ((k : ℕ) (x : A) → slice_get xs k ≡ Some x → P x) → All P xs
 all_from P xs h = λ k d lt. h k (get_or xs k d) (slice_get-get_or xs k d lt)
 
+-- a cell stands just above one that it places, or places none
+level_sound : (cells : List CellDraft) (parts : List Part) (hs order : List ℕ) (found : List (Option Bounds)) (top : ℕ) (kept : List ℕ) (ds : List CellPart) → IsDone cells parts hs order found top kept ds
+    → (i : ℕ) (p : CellPart) → MadeAt cells parts hs found i p → (p.height ≡ 0) ⊎ HasJustBelow ds p
+level_sound cells parts hs order found top kept ds done i p m = by (height_in hs i) refl (done.heights.each i (slice_get_within cells i m.draft m.there)).chain
+  where
+    by : (h : ℕ) → height_in hs i ≡ h → HasChain (Refers cells) i h → (p.height ≡ 0) ⊎ HasJustBelow ds p
+    by zero e c = inl (m.is.height_is ∙ e)
+    by (suc n) e (j, (k, r, l)) =
+        let down = refers_lower cells hs done.heights i k r in
+        let in_k = slice_get_within cells k r.names.cell r.names.there in
+        let long = (done.heights.each k in_k).longest n (j, l) in
+        let h : height_in hs k ≡ n = omega (arith, down, long, e) in
+        let q = refers_places cells parts done.sound.once done.are i k r in
+        let o = some_at ds k (subst (λ n. k < n) (sym done.made.count) in_k) in
+        let below = made_at cells parts hs found ds done.are done.made k o.0 o.1 in
+        let same : q.part ≡ m.part = (let f : Some q.part ≡ Some m.part = sym q.there ∙ m.part_there in cc) in
+        inr (record {
+          number = q.among.0;
+          place = q.among.1;
+          placed = o.0;
+          from = subst (λ xs. slice_get xs q.among.0 ≡ Some q.among.1) (ap (λ (v : Part). v.items) same ∙ sym m.is.places_are) q.among.2;
+          there = subst (λ x. slice_get ds x ≡ Some o.0) (sym q.among.3) o.1;
+          just = m.is.height_is ∙ e ∙ ap suc (sym (below.is.height_is ∙ h));
+        })
+
 pub cell_sound : (cells : List CellDraft) (parts : List Part) (hs order : List ℕ) (found : List (Option Bounds)) (top : ℕ) (kept : List ℕ) (ds : List CellPart) → IsDone cells parts hs order found top kept ds
     → (i : ℕ) (p : CellPart) → slice_get ds i ≡ Some p → IsSoundCell ds p
 cell_sound cells parts hs order found top kept ds done i p at =
@@ -239,7 +264,7 @@ cell_sound cells parts hs order found top kept ds done i p at =
     record {
       height = omega arith;
       hull = hull_sound (found_at found i) p.hull (done.bounds.each i in_i).near m.is.hull_is;
-      apart = subst AreApart (sym (ap (λ (v : Vec OwnLayer). v.items) m.is.layers_are)) (done.keys i m.draft m.there);
+      apart = subst (λ xs. AreApart (layer_keys xs)) (sym (ap (λ (v : Vec OwnLayer). v.items) m.is.layers_are)) (done.keys i m.draft m.there);
       own = own_sound cells parts hs found done.bounds i p m;
       places = all_from (IsReference ds p) p.places.items (λ k pl at_pl. reference_sound cells parts hs order found top kept ds done i p m k pl at_pl);
     }
@@ -348,8 +373,27 @@ order_sound cells parts hs order found top kept ds done = record {
       | inr y ↦ elim y [ inl f ↦ f | inr lt ↦ absurd (apart_of k j lt in_j (sym e)) ]
     ]
 
-    apart : lists.AreApart kept
+    apart : AreApart kept
     apart = apart_by kept once
+
+pub levels_sound : (cells : List CellDraft) (parts : List Part) (hs order : List ℕ) (found : List (Option Bounds)) (top : ℕ) (kept : List ℕ) (ds : List CellPart) → IsDone cells parts hs order found top kept ds
+    → HaveLevels (linked_of ds top kept)
+levels_sound cells parts hs order found top kept ds done = record {
+  just = λ i p at. level_sound cells parts hs order found top kept ds done i p (made_at cells parts hs found ds done.are done.made i p at);
+  filed = λ j k lt in_k same. (
+      let in_j : j < length kept = omega arith in
+      let r = done.reached.rising j k (slice_index kept j) (slice_index kept k) lt (at j in_j) (at k in_k) in
+      let b = done.ordered.rising r.0 r.1 (slice_index kept j) (slice_index kept k) r.2 r.3 r.4 in
+      let hj = height_here cells parts hs found top kept ds done.are done.made (slice_index kept j) (in_cells j in_j) in
+      let hk = height_here cells parts hs found top kept ds done.are done.made (slice_index kept k) (in_cells k in_k) in
+      elim b [ inl x ↦ absurd (let z : ⊥ = omega (arith, x, hj, hk, same) in z) | inr x ↦ x.1 ]);
+}
+  where
+    at : (k : ℕ) → k < length kept → slice_get kept k ≡ Some (slice_index kept k)
+    at k lt = slice_get-get_or kept k 0 lt
+
+    in_cells : (k : ℕ) → k < length kept → slice_index kept k < length cells
+    in_cells k lt = let f = done.reached.from k (slice_index kept k) (at k lt) in order_in cells hs order f.0 (slice_index kept k) done.heights done.ordered f.2
 
 pub is_link : (cells : List CellDraft) (parts : List Part) (hs order : List ℕ) (found : List (Option Bounds)) (top : ℕ) (kept : List ℕ) (ds : List CellPart) (name : Option (List ℕ))
     → IsDone cells parts hs order found top kept ds → IsTop cells name top → IsLink cells name (linked_of ds top kept)

@@ -4,6 +4,7 @@ use Rattle.geo_base.specs.declared.layer.LayerKey.{LayerKey}
 use Rattle.geo_base.specs.declared.shapes.Square.{Square}
 use Rattle.rect_sets.specs.Rects.{covers}
 use Rattle.flat_layout.specs.Layout.{IsOwn, InFlatInput, IsHeight}
+use Rattle.flat_layout.specs.Order.{AreLevels, IsOrder}
 use Rattle.cell_graph.specs.Linked.{Linked, IsSound, plain, cell_at, own_of, hull_of, HullHas}
 use Rattle.cell_graph.specs.Linked.{height_at}
 
@@ -15,6 +16,14 @@ OwnLaw = (d : Linked) → IsSound d → (cell : ℕ) (key : LayerKey) (q : Squar
 -- no cell stands below itself
 abbrev pub HeightLaw : Type 0
 HeightLaw = (d : Linked) → IsSound d → IsHeight (plain d) (height_at d)
+
+-- a cell's height is its level
+abbrev pub LevelLaw : Type 0
+LevelLaw = (d : Linked) → IsSound d → AreLevels (plain d) (height_at d)
+
+-- the order of a design is that of the plain layout
+abbrev pub OrderLaw : Type 0
+OrderLaw = (d : Linked) → IsSound d → IsOrder (plain d) (height_at d) d.order
 
 -- flat squares lie in the hull
 abbrev pub HullLaw : Type 0

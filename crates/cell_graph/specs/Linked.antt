@@ -1,6 +1,7 @@
 -- Linked cells as plain values, and the hierarchical layout that they stand for.
-use Rattle.std.specs.Prelude.{◌≡◌, ℕ, ◌<◌, ◌≤◌, ◌^◌, ◌≤ℤ◌, List, [], ◌∷◌, Option, Some, None, map}
-use Rattle.std.specs.Prelude.{length, slice_get, slice_index, Bool, true, ◌==◌, ◌&&◌, if◌then◌else◌}
+use Rattle.std.specs.Prelude.{◌≡◌, ◌⊎◌, ℕ, suc, ◌<◌, ◌≤◌, ◌^◌, ◌≤ℤ◌, List, [], ◌∷◌, Option, Some}
+use Rattle.std.specs.Prelude.{None, map, length, slice_get, slice_index, true}
+use Rattle.std.specs.Prelude.{if◌then◌else◌}
 use Rattle.std.specs.List.{All}
 use Rattle.geo_base.specs.Near.{IsWithin}
 use Rattle.geo_base.specs.Rects.{IsRect, has, moved_rect}
@@ -12,6 +13,7 @@ use Rattle.geo_base.specs.declared.shapes.Square.{Square}
 use Rattle.flat_layout.specs.Arrays.{Reference, place_at, places_of}
 use Rattle.flat_layout.specs.Hull.{IsHullOf}
 use Rattle.flat_layout.specs.Layout as flat
+use Rattle.plain_netlist.specs.Lists.{AreApart}
 use Rattle.cell_graph.specs.declared.cells.OwnLayer.{OwnLayer}
 use Rattle.cell_graph.specs.declared.cells.RawText.{RawText}
 use Rattle.cell_graph.specs.declared.cells.Place.{Place}
@@ -114,14 +116,8 @@ pub record IsReference (cells : List CellPart) (c : CellPart) (p : Place) : Type
   pub elements : (row column : ℕ) → row < p.rows → column < p.columns
       → IsElement c.hull placed.hull (motion_at p row column)
 
--- no two entries of a list of layers have one key
-abbrev pub HasNone : LayerKey → List OwnLayer → Type 0
-HasNone key [] = Unit {0}
-HasNone key (l ∷ layers) = (l.key ≡ key → ⊥) × HasNone key layers
-
-abbrev pub AreApart : List OwnLayer → Type 0
-AreApart [] = Unit {0}
-AreApart (l ∷ layers) = HasNone l.key layers × AreApart layers
+abbrev pub layer_keys : List OwnLayer → List LayerKey
+layer_keys layers = map (λ l. l.key) layers
 
 abbrev pub HullIsSound : Option Rect → Type 0
 HullIsSound None = Unit {0}
@@ -130,7 +126,7 @@ HullIsSound (Some h) = IsHull h
 pub record IsSoundCell (cells : List CellPart) (c : CellPart) : Type 0 where
   pub height : c.height ≤ 64
   pub hull : HullIsSound c.hull
-  pub apart : AreApart c.layers.items
+  pub apart : AreApart (layer_keys c.layers.items)
   pub own : All (λ l. HoldsRects c.hull l.set) c.layers.items
   pub places : All (IsReference cells c) c.places.items
 
@@ -162,6 +158,23 @@ pub record IsOrder (d : Linked) : Type 0 where
   pub rising : (j k : ℕ) → j < k → k < length d.order
       → height_at d (slice_index d.order j) ≤ height_at d (slice_index d.order k)
 
+-- one of the references is to a cell that stands just one below
+pub record HasJustBelow (cells : List CellPart) (c : CellPart) : Type 0 where
+  pub number : ℕ
+  pub place : Place
+  pub placed : CellPart
+  pub from : slice_get c.places.items number ≡ Some place
+  pub there : slice_get cells place.cell ≡ Some placed
+  pub just : c.height ≡ suc placed.height
+
+-- no cell stands higher than it must, and cells of one height come in the order of the file
+pub record HaveLevels (d : Linked) : Type 0 where
+  pub just : (i : ℕ) (c : CellPart) → slice_get d.cells i ≡ Some c
+      → (c.height ≡ 0) ⊎ HasJustBelow d.cells c
+  pub filed : (j k : ℕ) → j < k → k < length d.order
+      → height_at d (slice_index d.order j) ≡ height_at d (slice_index d.order k)
+      → slice_index d.order j < slice_index d.order k
+
 -- each cell's stored hull is the least rectangle that holds what stands in and below it
 pub record HaveHulls (d : Linked) : Type 0 where
   pub each : (cell : ℕ) → IsHullOf (plain d) cell (hull_of (cell_at d cell))
@@ -173,6 +186,7 @@ pub record IsSound (d : Linked) : Type 0 where
   pub each : (i : ℕ) (c : CellPart) → slice_get d.cells i ≡ Some c → IsSoundCell d.cells c
   pub hulls : HaveHulls d
   pub order : IsOrder d
+  pub levels : HaveLevels d
 
 -- a cell's own rectangles on a layer: of the first entry of the key
 abbrev pub own_rects : List OwnLayer → LayerKey → List Rect

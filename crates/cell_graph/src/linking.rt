@@ -1,7 +1,8 @@
 //! Drafts of cells linked: one test after another, then the design.
 
 ghost use Rattle.std.specs.Prelude.{◌≡◌, ℕ, slice_get, Some, IfOk, IfErr};
-ghost use Rattle.cell_graph.specs.Linked.{AreApart};
+ghost use Rattle.plain_netlist.specs.Lists.{AreApart};
+ghost use Rattle.cell_graph.specs.Linked.{layer_keys};
 ghost use Rattle.cell_graph.specs.declared.drafts.CellDraft.{CellDraft};
 ghost use Rattle.cell_graph.specs.Drafts.{IsFault, IsLink};
 ghost use Rattle.cell_graph.specs.Extents.{HaveArrays};
@@ -69,7 +70,7 @@ impl Design {
         top: Option<&Name>,
     ) -> Result<Design, LinkFault>
         requires keys { (i : ℕ) (c : CellDraft) → slice_get cells.items i ≡ Some c
-            → AreApart c.layers.items }
+            → AreApart (layer_keys c.layers.items) }
         requires arrays { HaveArrays cells.items }
         ensures design { IfOk result (IsLink cells.items (now_of top.entry)) }
         ensures fault { IfErr result (IsFault cells.items (now_of top.entry)) }

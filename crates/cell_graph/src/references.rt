@@ -8,9 +8,9 @@ ghost use Rattle.cell_graph.specs.Naming.{place_of};
 
 use crate::cells::Place;
 use crate::drafts::{CellDraft, DraftRef, LinkFault};
-use crate::names::NameTable;
 use net_names::Name;
 use std::alloc::{AllocError, Global};
+use text_table::TextTable;
 
 /// The name of a cell, once more.
 pub fn name_at(alloc: Global, cells: &[CellDraft], cell: usize) -> Result<Name, AllocError>
@@ -36,7 +36,7 @@ fn place_of(r: &DraftRef, cell: u32) -> Place
 // The references of a cell, resolved, or the first that names no cell.
 fn places_at(
     alloc: Global,
-    names: &NameTable,
+    names: &TextTable,
     cells: &[CellDraft],
     i: usize,
 ) -> Result<Vec<Place>, LinkFault>
@@ -66,7 +66,7 @@ fn places_at(
 /// references.
 pub fn parts_of(
     alloc: Global,
-    names: &NameTable,
+    names: &TextTable,
     cells: &[CellDraft],
 ) -> Result<Vec<Vec<Place>>, LinkFault>
     requires names { names.now ≡ names_of cells.now }

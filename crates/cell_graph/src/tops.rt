@@ -6,10 +6,10 @@ ghost use Rattle.cell_graph.specs.Tops.{ArePlaced, MarksMore, IsNextFree, now_of
 
 use crate::cells::Place;
 use crate::drafts::{CellDraft, LinkFault};
-use crate::names::NameTable;
 use crate::references::name_at;
 use net_names::Name;
 use std::alloc::{AllocError, Global};
+use text_table::TextTable;
 
 fn mark_cells(marks: &mut Vec<bool>, places: &[Place])
     requires { AreInside places.now (length marks.old.items) }
@@ -66,7 +66,7 @@ fn only_root(alloc: Global, cells: &[CellDraft], parts: &[Vec<Place>]) -> Result
 /// The top cell, or that there is none or more than one. Linear in the references.
 pub fn top_of(
     alloc: Global,
-    names: &NameTable,
+    names: &TextTable,
     cells: &[CellDraft],
     parts: &[Vec<Place>],
     top: Option<&Name>,

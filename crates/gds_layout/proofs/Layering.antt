@@ -1,5 +1,5 @@
 -- Piles that cover what shapes do, as layers.
-use Rattle.std.proofs.Common.{◌≡◌, Bool, true, false, List, [], ◌∷◌, ◌++◌, map, refl, sym, ap, subst, ◌∙◌}
+use Rattle.std.proofs.Common.{◌≡◌, inl, inr, Bool, true, false, List, [], ◌∷◌, ◌++◌, refl, sym, ap, subst, ◌∙◌}
 use Rattle.std.specs.Prelude.{◌||◌, ◌&&◌}
 use Rattle.std.specs.List.{AllByRecursion, list_any}
 use Rattle.std.proofs.lemmas.List.Folds.{list_any-append}
@@ -9,7 +9,8 @@ use Rattle.geo_base.specs.declared.layer.LayerKey.{LayerKey}
 use Rattle.geo_base.specs.declared.shapes.Square.{Square}
 use Rattle.rect_sets.specs.Rects.{covers}
 use Rattle.cell_graph.specs.declared.cells.OwnLayer.{OwnLayer}
-use Rattle.cell_graph.specs.Linked.{AreApart, HasNone}
+use Rattle.cell_graph.specs.Linked.{layer_keys}
+use Rattle.plain_netlist.specs.Lists.{IsListed, AreApart}
 use Rattle.gds_elements.specs.Meaning.{Shape}
 use Rattle.gds_layout.specs.declared.piles.Pile.{Pile}
 use Rattle.gds_layout.specs.declared.piles.Piles.{Piles}
@@ -70,24 +71,24 @@ or_false : (a b : Bool) → (a || b) ≡ false → (a ≡ false) × (b ≡ false
 or_false true b e = absurd cc
 or_false false b e = (refl, e)
 
-has_none : (key : LayerKey) (ps : List Pile) (ls : List OwnLayer) → AreFilled ps ls → list_any (is_same_key key) (keys_of ps) ≡ false → HasNone key ls
-has_none key [] [] f e = tt
-has_none key (p ∷ ps) [] f e = absurd f
-has_none key [] (l ∷ ls) f e = absurd f
-has_none key (p ∷ ps) (l ∷ ls) f e =
-    let parts = or_false (is_same_key key p.key) (list_any (is_same_key key) (keys_of ps)) e in (
-      λ h. let same : p.key ≡ key = sym f.0.key_is ∙ h in
-          let bad : true ≡ false = sym (itself key) ∙ ap (λ (q : LayerKey). is_same_key key q) (sym same) ∙ parts.0 in
-          absurd cc,
-      has_none key ps ls f.1 parts.1,
-    )
+has_none : (key : LayerKey) (ps : List Pile) (ls : List OwnLayer) → AreFilled ps ls → list_any (is_same_key key) (keys_of ps) ≡ false → IsListed key (layer_keys ls) → ⊥
+has_none key [] [] f e h = h
+has_none key (p ∷ ps) [] f e h = f
+has_none key [] (l ∷ ls) f e h = f
+has_none key (p ∷ ps) (l ∷ ls) f e (inl h) =
+    let parts = or_false (is_same_key key p.key) (list_any (is_same_key key) (keys_of ps)) e in
+    let same : key ≡ p.key = h ∙ f.0.key_is in
+    let bad : true ≡ false = sym (itself key) ∙ ap (λ (q : LayerKey). is_same_key key q) same ∙ parts.0 in
+    absurd (let z : ⊥ = cc in z)
+has_none key (p ∷ ps) (l ∷ ls) f e (inr h) =
+    has_none key ps ls f.1 (or_false (is_same_key key p.key) (list_any (is_same_key key) (keys_of ps)) e).1 h
 
-apart : (ps : List Pile) (ls : List OwnLayer) → AreFilled ps ls → AreDifferent (keys_of ps) → AreApart ls
+apart : (ps : List Pile) (ls : List OwnLayer) → AreFilled ps ls → AreDifferent (keys_of ps) → AreApart (layer_keys ls)
 apart [] [] f d = tt
 apart (p ∷ ps) [] f d = absurd f
 apart [] (l ∷ ls) f d = absurd f
 apart (p ∷ ps) (l ∷ ls) f d =
-    (subst (λ (k : LayerKey). HasNone k ls) (sym f.0.key_is) (has_none p.key ps ls f.1 d.0), apart ps ls f.1 d.1)
+    (subst (λ (k : LayerKey). IsListed k (layer_keys ls) → ⊥) (sym f.0.key_is) (has_none p.key ps ls f.1 d.0), apart ps ls f.1 d.1)
 
 -- each pile of the second list alone covers what the first covers on its layer
 abbrev Owns : List Pile → List Pile → Type 0
@@ -151,15 +152,15 @@ has_layer key [] (l ∷ ls) f = absurd f
 has_layer key (p ∷ ps) (l ∷ ls) f =
     ap (λ (k : LayerKey). is_same_key k key || list_any (λ (m : OwnLayer). is_same_key m.key key) ls) f.0.key_is ∙ ap (λ (b : Bool). is_same_key p.key key || b) (has_layer key ps ls f.1)
 
-layer_keys : (ps : List Pile) (ls : List OwnLayer) → AreFilled ps ls → map (λ (l : OwnLayer). l.key) ls ≡ keys_of ps
-layer_keys [] [] f = refl
-layer_keys (p ∷ ps) [] f = absurd f
-layer_keys [] (l ∷ ls) f = absurd f
-layer_keys (p ∷ ps) (l ∷ ls) f = ap (λ (k : LayerKey). k ∷ map (λ (m : OwnLayer). m.key) ls) f.0.key_is ∙ ap (λ (ks : List LayerKey). p.key ∷ ks) (layer_keys ps ls f.1)
+same_keys : (ps : List Pile) (ls : List OwnLayer) → AreFilled ps ls → layer_keys ls ≡ keys_of ps
+same_keys [] [] f = refl
+same_keys (p ∷ ps) [] f = absurd f
+same_keys [] (l ∷ ls) f = absurd f
+same_keys (p ∷ ps) (l ∷ ls) f = ap (λ (k : LayerKey). k ∷ layer_keys ls) f.0.key_is ∙ ap (λ (ks : List LayerKey). p.key ∷ ks) (same_keys ps ls f.1)
 
 pub layered : (shapes : List Shape) (ps : List Pile) (ls : List OwnLayer) → AreLaid shapes ps → AreFilled ps ls → AreLayersOf shapes ls
 layered shapes ps ls a f = record {
-  keys = layer_keys ps ls f ∙ a.keys;
+  keys = same_keys ps ls f ∙ a.keys;
   apart = apart ps ls f a.different;
   each = All-from_recursion (IsLayerOf shapes) ls (each_layer shapes ps ps ls a.covers_same a.has_same (owns ps a.different) f);
   all = λ key e. has_layer key ps ls f ∙ a.has_same key ∙ e;

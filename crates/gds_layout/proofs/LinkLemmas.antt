@@ -18,7 +18,8 @@ use Rattle.cell_graph.specs.declared.drafts.LinkFault.{LinkFault}
 use Rattle.cell_graph.specs.declared.drafts.LinkFault.TheVariants.{TooManyCells, DuplicateCell, NoSuchCell, Cycle, TooDeep, NoTop, TopUnclear, CoordinateRange, NoMemory as NoMemoryInLinks}
 use Rattle.cell_graph.specs.Drafts.{IsFault}
 use Rattle.cell_graph.specs.Extents.{HasElements, HaveArrays}
-use Rattle.cell_graph.specs.Linked.{AreApart}
+use Rattle.cell_graph.specs.Linked.{layer_keys}
+use Rattle.plain_netlist.specs.Lists.{AreApart}
 use Rattle.gds_layout.specs.declared.drafts.Drawn.{Drawn}
 use Rattle.gds_layout.specs.declared.layout.Layout.{Layout}
 use Rattle.gds_layout.specs.declared.layout.LayoutFault.{LayoutFault}
@@ -30,11 +31,11 @@ use Rattle.gds_layout.proofs.Yielded.{seen_at}
 
 -- ---- what `link` asks
 
-pub keys_apart : (cells : List Cell) (ds : List CellDraft) → AreDraftsOf cells ds → (i : ℕ) (d : CellDraft) → slice_get ds i ≡ Some d → AreApart d.layers.items
+pub keys_apart : (cells : List Cell) (ds : List CellDraft) → AreDraftsOf cells ds → (i : ℕ) (d : CellDraft) → slice_get ds i ≡ Some d → AreApart (layer_keys d.layers.items)
 keys_apart [] [] h i d e = absurd cc
 keys_apart (c ∷ cells) [] h i d e = absurd h
 keys_apart [] (x ∷ ds) h i d e = absurd h
-keys_apart (c ∷ cells) (x ∷ ds) h zero d e = let same : x ≡ d = cc in subst (λ (y : CellDraft). AreApart y.layers.items) same h.0.layers.apart
+keys_apart (c ∷ cells) (x ∷ ds) h zero d e = let same : x ≡ d = cc in subst (λ (y : CellDraft). AreApart (layer_keys y.layers.items)) same h.0.layers.apart
 keys_apart (c ∷ cells) (x ∷ ds) h (suc i) d e = keys_apart cells ds h.1 i d e
 
 draft_places : (c : Cell) (d : CellDraft) → IsDraftOf c d → ArePlaceable c → (k : ℕ) (r : DraftRef) → slice_get d.refs.items k ≡ Some r → HasElements r

@@ -9,7 +9,8 @@ use Rattle.cell_graph.specs.declared.cells.OwnLayer.{OwnLayer}
 use Rattle.cell_graph.specs.declared.cells.RawText.{RawText}
 use Rattle.cell_graph.specs.declared.drafts.DraftRef.{DraftRef}
 use Rattle.cell_graph.specs.declared.drafts.CellDraft.{CellDraft}
-use Rattle.cell_graph.specs.Linked.{AreApart}
+use Rattle.cell_graph.specs.Linked.{layer_keys}
+use Rattle.plain_netlist.specs.Lists.{AreApart}
 use Rattle.gds_elements.specs.Meaning.{Shape, Text, Ref, Cell}
 use Rattle.gds_layout.specs.declared.drafts.Drawn.{Drawn}
 use Rattle.gds_layout.specs.Shapes.{shapes_cover, is_drawn, keys_behind}
@@ -23,8 +24,8 @@ pub record IsLayerOf (shapes : List Shape) (layer : OwnLayer) : Type 0 where
 
 -- one layer for each key on which there is a shape, in the order in which the keys first come
 pub record AreLayersOf (shapes : List Shape) (layers : List OwnLayer) : Type 0 where
-  pub keys : map (λ layer. layer.key) layers ≡ keys_behind [] shapes
-  pub apart : AreApart layers
+  pub keys : layer_keys layers ≡ keys_behind [] shapes
+  pub apart : AreApart (layer_keys layers)
   pub each : All (IsLayerOf shapes) layers
   pub all : (key : LayerKey) → is_drawn shapes key ≡ true
       → list_any (λ layer. is_same_key layer.key key) layers ≡ true

@@ -7,9 +7,32 @@ use Rattle.cell_graph.specs.declared.cells.CellPart.{CellPart}
 use Rattle.cell_graph.specs.Indexes.{AreSpansTo}
 use Rattle.cell_graph.specs.Linked.{IsReference}
 use Rattle.cell_graph.specs.Spans.{IsSpanOr, HasSpan}
-use Rattle.cell_graph.proofs.Indexing.{reference_in, span_here, no_span_here, span_more, span_none, all_spans}
+use Rattle.cell_graph.proofs.Indexing.{reference_in, reference_read, hull_read, span_here, no_span_here, span_more, span_none, all_spans}
 use Rattle.cell_graph.proofs.indexes.spans_of.Goals as goal
 use Rattle.cell_graph.proofs.indexes.spans_of.Goals.{in-Some+in_ok-number_of+in_ok-push+in_ok-push-2, in_default}
+
+pub bounds-cells-place : goal.bounds-cells-place
+bounds-cells-place c =
+    let ref = reference_read c.args.cells.now c.args.cell c.loop-i.i c.index-cells-cell.result c.index-place.result.now c.len-i-end.result c.requires.sound c.requires.inside c.index-cells-cell.is c.len-i-end.ensures c.loop-i-test.true c.index-place.ensures in
+    slice_get_within c.args.cells.now c.index-place.result.now.cell ref.placed ref.there
+
+pub bounds-cells-place-in-loop-i : goal.bounds-cells-place-in-loop-i
+bounds-cells-place-in-loop-i c =
+    let ref = reference_read c.args.cells.now c.args.cell c.loop-i.i c.index-cells-cell.result c.index-place.result.now c.len-i-end.result c.requires.sound c.requires.inside c.index-cells-cell.is c.len-i-end.ensures c.loop-i-test.true c.index-place.ensures in
+    slice_get_within c.args.cells.now c.index-place.result.now.cell ref.placed ref.there
+
+pub span_of-requires-clause-rows : goal.span_of-requires-clause-rows
+span_of-requires-clause-rows c =
+    (reference_read c.args.cells.now c.args.cell c.loop-i.i c.index-cells-cell.result c.index-place.result.now c.len-i-end.result c.requires.sound c.requires.inside c.index-cells-cell.is c.len-i-end.ensures c.loop-i-test.true c.index-place.ensures).rows
+
+pub span_of-requires-clause-columns : goal.span_of-requires-clause-columns
+span_of-requires-clause-columns c =
+    (reference_read c.args.cells.now c.args.cell c.loop-i.i c.index-cells-cell.result c.index-place.result.now c.len-i-end.result c.requires.sound c.requires.inside c.index-cells-cell.is c.len-i-end.ensures c.loop-i-test.true c.index-place.ensures).columns
+
+pub span_of-requires-clause-hull : goal.span_of-requires-clause-hull
+span_of-requires-clause-hull c =
+    let ref = reference_read c.args.cells.now c.args.cell c.loop-i.i c.index-cells-cell.result c.index-place.result.now c.len-i-end.result c.requires.sound c.requires.inside c.index-cells-cell.is c.len-i-end.ensures c.loop-i-test.true c.index-place.ensures in
+    hull_read c.args.cells.now c.index-place.result.now.cell c.index-cells-place.result c.requires.sound (slice_get_within c.args.cells.now c.index-place.result.now.cell ref.placed ref.there)
 
 pub loop-i-preserved : goal.loop-i-preserved
 loop-i-preserved c = λ d at_d.
