@@ -1,18 +1,18 @@
 -- The circuit of a cell from its pins, its transistors and its calls.
-use Rattle.std.proofs.Common.{◌≡◌, ◌⊎◌, inl, inr, ℕ, zero, suc, ◌+◌, ◌<◌, ◌≤◌, Bool, true, List, [], ◌∷◌, ◌++◌, Some, flat_map, slice_get, length, refl, sym, ◌∙◌, ap, subst, arith}
+use Rattle.std.proofs.Common.{◌≡◌, inl, inr, ℕ, ◌+◌, ◌<◌, Bool, true, List, [], ◌++◌, Some, flat_map, slice_get, length, sym, ◌∙◌, ap, subst, arith}
 use Rattle.std.proofs.lemmas.Option.{same_Some, slice_get_within}
-use Rattle.flat_layout.specs.Circuits.{AreCircuitCalls, AreCircuitDevices, AreCircuitPins, AreDrawn, CircuitParts, IsCallOf, IsCircuitOf, IsDeviceOfGate, IsDrawnBelow, cell_circuit_names, drawn_names, drawn_nets, pin_nets}
+use Rattle.flat_layout.specs.Circuits.{AreCircuitDevices, AreDrawn, IsDrawnBelow, drawn_names, drawn_nets, pin_nets}
 use Rattle.flat_layout.specs.Gates.{Rule}
-use Rattle.flat_layout.specs.GateTables.{GateEntry, GoodGate, good_gates, terminal_net}
-use Rattle.flat_layout.specs.Layout.{Design, IsHeight, Leads, Place, IsPlaced}
-use Rattle.flat_layout.specs.Nets.{AreNets, CellNets, Child, IsUnder, Item, Tables}
+use Rattle.flat_layout.specs.GateTables.{GateEntry, good_gates, terminal_net}
+use Rattle.flat_layout.specs.Layout.{Design}
+use Rattle.flat_layout.specs.Nets.{CellNets, Child}
 use Rattle.flat_layout.specs.Pins.{CellPins, HasGate, IsNetOf}
 use Rattle.flat_layout.specs.Regions.{Wiring}
 use Rattle.geo_base.specs.declared.shapes.Rect.{Rect}
 use Rattle.plain_netlist.proofs.Members.{either_side, from_all, item_at, listed, position}
 use Rattle.plain_netlist.specs.Lists.{AreApart, IsListed}
 use Rattle.plain_netlist.specs.Netlist.{Bulk, CallRow, Circuit, DeviceRow, Drain, Gate, Pole, Source, on}
-use Rattle.plain_netlist.specs.Normal.{AreNumbered, IsNormalCircuit, appearances, terminal_nets}
+use Rattle.plain_netlist.specs.Normal.{AreNumbered, appearances, terminal_nets}
 use Rattle.circuit_phase.specs.Calls.{AreCallsTo}
 use Rattle.circuit_phase.specs.Made.{IsMadeOf}
 use Rattle.circuit_phase.specs.Numbering.{AreKept, AreNumbersOf}

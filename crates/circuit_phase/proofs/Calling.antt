@@ -7,10 +7,10 @@ use Rattle.std.proofs.lemmas.Option.{same_Some, slice_get-get_or, slice_get_with
 use Rattle.deep_tables.specs.Nets.{plain_item}
 use Rattle.deep_tables.specs.declared.nets.Item.{Item as DeepItem}
 use Rattle.flat_laws.proofs.Items.{at_placed, placed_at}
-use Rattle.flat_layout.specs.Circuits.{IsCallOf, IsCircuitCell, pin_nets}
+use Rattle.flat_layout.specs.Circuits.{IsCallOf, pin_nets}
 use Rattle.flat_layout.specs.Layers.{Formula}
 use Rattle.flat_layout.specs.Layout.{Design, Place, IsPlaced}
-use Rattle.flat_layout.specs.Nets.{AreNets, CellNets, Child, Global, Item, Own, Tables, child_items, items_of, own_items, run}
+use Rattle.flat_layout.specs.Nets.{CellNets, Child, Global, Item, Own, Tables, child_items, items_of, own_items, run}
 use Rattle.flat_layout.specs.Pins.{CellPins, IsNetOf}
 use Rattle.flat_layout.specs.Regions.{Wiring}
 use Rattle.geo_base.specs.declared.shapes.Rect.{Rect}
@@ -20,8 +20,8 @@ use Rattle.plain_netlist.proofs.Members.{either_side, from_map, in_left, in_righ
 use Rattle.plain_netlist.specs.Lists.{AreRising, IsListed}
 use Rattle.plain_netlist.specs.Netlist.{CallRow}
 use Rattle.plain_netlist.specs.Normal.{AreNumbered}
-use Rattle.circuit_phase.specs.Calls.{AddsCall, AreCallsTo, HasCall, HasNoCall, is_own, own_count, sizes_before}
-use Rattle.circuit_phase.specs.Numbering.{AreKept, AreNumbersOf}
+use Rattle.circuit_phase.specs.Calls.{AddsCall, AreCallsTo, HasCall, is_own, own_count, sizes_before}
+use Rattle.circuit_phase.specs.Numbering.{AreKept}
 use Rattle.circuit_phase.specs.Placed.{AreNetsOver, placed_cells, tables_with}
 use Rattle.circuit_phase.proofs.Children.{none_left}
 use Rattle.circuit_phase.proofs.Leading.{pin_true}

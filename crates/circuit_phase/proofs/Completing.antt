@@ -1,7 +1,7 @@
 -- A circuit that was made over what was read is the cell's over all drawn nets that are right below.
-use Rattle.std.proofs.Common.{◌≡◌, ◌⊎◌, inl, inr, ℕ, zero, suc, ◌+◌, ◌<◌, Bool, true, List, [], ◌∷◌, Some, slice_get, length, refl, sym, ◌∙◌, ap, subst, arith}
-use Rattle.std.proofs.lemmas.Option.{same_Some, slice_get_within}
-use Rattle.flat_layout.specs.Circuits.{AreCircuitDevices, AreCircuitNets, AreCircuitPins, AreDrawn, CircuitParts, IsCircuitOf, IsDrawn, IsDrawnBelow, cell_circuit_names, drawn_names, drawn_nets, pin_nets}
+use Rattle.std.proofs.Common.{◌≡◌, ◌⊎◌, inl, inr, ℕ, zero, suc, ◌<◌, Bool, true, List, [], ◌∷◌, Some, slice_get, length, refl, sym, subst, arith}
+use Rattle.std.proofs.lemmas.Option.{slice_get_within}
+use Rattle.flat_layout.specs.Circuits.{AreCircuitDevices, AreCircuitNets, AreCircuitPins, AreDrawn, CircuitParts, IsCircuitOf, IsDrawn, IsDrawnBelow, cell_circuit_names, pin_nets}
 use Rattle.flat_layout.specs.Gates.{Rule}
 use Rattle.flat_layout.specs.GateTables.{GateEntry, GoodGate, good_gates}
 use Rattle.flat_layout.specs.Layout.{Design, IsHeight, Place, IsPlaced}

@@ -1,8 +1,7 @@
 -- The numbers and names of the cells with circuits.
-use Rattle.std.proofs.Common.{◌≡◌, inl, inr, ℕ, zero, suc, ◌+◌, ◌<◌, List, [], ◌∷◌, ◌++◌, Option, Some, None, map, take, slice_get, slice_index, get_or, length, refl, sym, ◌∙◌, ap, subst, arith}
-use Rattle.std.proofs.Math.Seq.{take-length}
+use Rattle.std.proofs.Common.{◌≡◌, inl, inr, ℕ, ◌+◌, ◌<◌, List, [], ◌∷◌, ◌++◌, Option, Some, map, take, slice_get, get_or, length, sym, ◌∙◌, ap, subst, arith}
 use Rattle.std.proofs.lemmas.List.{length-map, map_push, take_more}
-use Rattle.std.proofs.lemmas.Option.{same_Some, slice_get-get_or, slice_get_within, get_or_from_slice_get}
+use Rattle.std.proofs.lemmas.Option.{slice_get-get_or, slice_get_within, get_or_from_slice_get}
 use Rattle.std.specs.Borrow.{Bor}
 use Rattle.cell_graph.proofs.Bridge.{maps}
 use Rattle.cell_graph.specs.Linked.{IsSound, Linked, cell_at, height_at, plain, plain_cell}

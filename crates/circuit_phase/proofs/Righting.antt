@@ -1,17 +1,17 @@
 -- What a job reads is right, and so is what it makes.
-use Rattle.std.proofs.Common.{◌≡◌, inl, inr, ℕ, zero, suc, ◌+◌, ◌<◌, ◌≤◌, Bool, true, List, [], ◌∷◌, ◌++◌, Option, Some, None, IsSome, IsSomeAnd, map, slice_get, slice_index, get_or, length, refl, sym, ◌∙◌, ap, subst, arith}
+use Rattle.std.proofs.Common.{◌≡◌, inr, ℕ, zero, suc, ◌+◌, ◌<◌, Bool, List, [], ◌∷◌, ◌++◌, Option, Some, None, IsSomeAnd, map, slice_get, slice_index, get_or, length, refl, sym, ◌∙◌, ap, subst, arith}
 use Rattle.std.proofs.lemmas.List.{length-map}
-use Rattle.std.proofs.lemmas.Option.{same_Some, slice_get_within}
-use Rattle.cell_graph.proofs.Bridge.{heights, maps}
+use Rattle.std.proofs.lemmas.Option.{slice_get_within}
+use Rattle.cell_graph.proofs.Bridge.{heights}
 use Rattle.cell_graph.specs.Linked.{IsSound, Linked, height_at, plain}
 use Rattle.deep_tables.proofs.Circuiting.{circuits_over_any}
 use Rattle.deep_tables.proofs.Reading.{some_and}
 use Rattle.deep_tables.proofs.Together.{right_gates, right_pins}
-use Rattle.deep_tables.specs.Circuits.{AreCircuitSources, IsCellCircuit, drawn_of, plain_or_none, plain_value}
+use Rattle.deep_tables.specs.Circuits.{IsCellCircuit, drawn_of, plain_or_none, plain_value}
 use Rattle.deep_tables.specs.Entries.{entry, upward_cell}
-use Rattle.deep_tables.specs.Gates.{AreGates, AreRightGates, gates_in, gates_of, list_of, plain_gate}
+use Rattle.deep_tables.specs.Gates.{AreGates, AreRightGates, gates_of, list_of, plain_gate}
 use Rattle.deep_tables.specs.Nets.{AreCellNets, AreNets, AreRightNets, nets_in, plain_nets}
-use Rattle.deep_tables.specs.Pins.{AreCellPins, ArePins, AreRightPins, name_in, pins_in, pins_of, plain_pins}
+use Rattle.deep_tables.specs.Pins.{AreCellPins, ArePins, AreRightPins, name_in, pins_in, pins_of}
 use Rattle.deep_tables.specs.Positions.{ArePositions}
 use Rattle.deep_tables.specs.declared.circuits.CellCircuit.{CellCircuit}
 use Rattle.deep_tables.specs.declared.gates.CellGates.{CellGates}
@@ -20,16 +20,15 @@ use Rattle.deep_tables.specs.declared.nets.CellNets.{CellNets}
 use Rattle.deep_tables.specs.declared.pins.CellPins.{CellPins}
 use Rattle.flat_laws.proofs.Cover.{reached_below}
 use Rattle.flat_laws.proofs.Planned.{lower}
-use Rattle.flat_layout.specs.Circuits.{AreCircuitCells, AreDrawn, CircuitParts, IsCircuitOf, IsDrawn, cell_circuit_names}
+use Rattle.flat_layout.specs.Circuits.{AreCircuitCells, AreDrawn, IsDrawn, cell_circuit_names}
 use Rattle.flat_layout.specs.GateTables.{GateEntry}
 use Rattle.flat_layout.specs.GateTables as flat_gates
-use Rattle.flat_layout.specs.Layout.{Design, Leads, Place, IsPlaced, IsReached}
+use Rattle.flat_layout.specs.Layout.{Place, IsPlaced, IsReached}
 use Rattle.flat_layout.specs.Nets.{IsNetsOf, IsUnder, Tables}
 use Rattle.flat_layout.specs.Nets as flat
 use Rattle.flat_layout.specs.Order.{AreLevels}
 use Rattle.flat_layout.specs.Pins.{HasGate}
-use Rattle.flat_layout.specs.Regions.{Wiring}
-use Rattle.flat_layout.specs.Values.{AreDrawnBelow, AreDrawnOf, IsCellCircuitOf, IsCircuitOr}
+use Rattle.flat_layout.specs.Values.{AreDrawnBelow, AreDrawnOf, IsCircuitOr}
 use Rattle.geo_base.specs.declared.shapes.Rect.{Rect}
 use Rattle.job_graph.specs.Graph.{Waits}
 use Rattle.net_phase.specs.Graph.{AreBelowJobs}
@@ -42,7 +41,7 @@ use Rattle.table_laws.proofs.Drawing.{read_drawn}
 use Rattle.table_laws.proofs.Tabled.{leads_both, reached_under}
 use Rattle.table_laws.proofs.Tabled as tabled
 use Rattle.circuit_phase.specs.Below.{IsReadable, drawn_by, drawn_or_none, nets_by}
-use Rattle.circuit_phase.specs.Made.{IsMadeOf, IsMadeOr}
+use Rattle.circuit_phase.specs.Made.{IsMadeOr}
 use Rattle.circuit_phase.specs.Phase.{CircuitJobs, HasOwn, HasSources, IsCircuitPhase, jobs_seen, nets_at}
 use Rattle.circuit_phase.specs.declared.phase.CircuitPhase.TheInside.{Inside}
 use Rattle.rule_text.specs.Seen.{rules_seen}
@@ -50,7 +49,7 @@ use Rattle.circuit_phase.specs.Placed.{AreNetsOver, IsNumberOf, tables_with}
 use Rattle.circuit_phase.proofs.Completing.{completed, drawn_over, gate_below}
 use Rattle.circuit_phase.proofs.Gating.{gates_read}
 use Rattle.circuit_phase.proofs.Grounding.{terminals}
-use Rattle.circuit_phase.proofs.Numbers.{circuit_names_long, within}
+use Rattle.circuit_phase.proofs.Numbers.{within}
 
 -- all that circuits are made from
 

@@ -1,5 +1,6 @@
 -- The calls of the circuits of placed cells, one after the other.
-use Rattle.std.specs.Prelude.{◌≡◌, ◌⊎◌, ◌↔◌, ℕ, zero, suc, ◌+◌, ◌<◌, Bool, true, false, List, [], ◌∷◌}
+use Rattle.std.specs.Prelude.{◌≡◌, ◌⊎◌, ◌↔◌, ℕ, zero, suc, ◌+◌, ◌<◌, Bool, true}
+use Rattle.std.specs.Prelude.{false, List, [], ◌∷◌}
 use Rattle.std.specs.Prelude.{◌++◌, Some, map, flat_map, length, get_or, slice_get}
 use Rattle.geo_base.specs.declared.shapes.Rect.{Rect}
 use Rattle.flat_layout.specs.Circuits.{IsCallOf, IsCircuitCell}

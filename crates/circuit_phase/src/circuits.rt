@@ -1,5 +1,5 @@
 //! The cells with circuits, their numbers and their circuits' names.
-ghost use Rattle.std.specs.Prelude.{◌≡◌, ◌<◌, ◌^◌, ℕ, List, length, map, get_or, IfOk, IsSome};
+ghost use Rattle.std.specs.Prelude.{◌≡◌, ◌<◌, ◌^◌, ℕ, length, map, get_or, IfOk, IsSome};
 ghost use Rattle.cell_graph.specs.Linked.{height_at, plain};
 ghost use Rattle.deep_tables.specs.Entries.{entry};
 ghost use Rattle.deep_tables.specs.Gates.{gates_of};

@@ -1,5 +1,6 @@
 //! The circuit of a cell, over what is read of the cells that it places.
-ghost use Rattle.std.specs.Prelude.{◌≡◌, ◌<◌, ◌≤◌, ◌^◌, ℕ, List, Some, length, map, slice_get, IfOk};
+ghost use Rattle.std.specs.Prelude.{◌≡◌, ◌<◌, ◌≤◌, ◌^◌, ℕ, List, Some, length};
+ghost use Rattle.std.specs.Prelude.{map, slice_get, IfOk};
 ghost use Rattle.deep_tables.specs.Circuits.{plain_or_none};
 ghost use Rattle.deep_tables.specs.Gates.{plain_gate};
 ghost use Rattle.deep_tables.specs.Nets.{plain_nets};
@@ -39,7 +40,8 @@ pub struct CellParts<'a> {
 }
 
 /// The circuit of a cell under a name. `cells` are the cells of its placements. 2^32 nets are
-/// refused. Linear in the gates, in the placements and their cells' nets, and in the bytes of names.
+/// refused. Linear in the gates, in the placements and their cells' nets, and in the bytes of
+/// names.
 pub fn cell_circuit<P: Placed>(
     alloc: Global,
     placed: &P,

@@ -1,4 +1,4 @@
-use Rattle.std.proofs.Common.{◌≡◌, ◌∙◌, ℕ, List, Some, slice_get, get_or, length, subst, sym}
+use Rattle.std.proofs.Common.{◌≡◌, ℕ, List, Some, slice_get, get_or, length, subst, sym}
 use Rattle.std.proofs.lemmas.Option.{slice_get-get_or}
 use Rattle.cell_graph.proofs.Ordered.{order}
 use Rattle.cell_graph.specs.Linked.{height_at}

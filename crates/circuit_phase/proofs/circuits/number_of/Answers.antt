@@ -1,4 +1,4 @@
-use Rattle.std.proofs.Common.{◌<◌, get_or, length, refl, arith}
+use Rattle.std.proofs.Common.{get_or, refl, arith}
 use Rattle.circuit_phase.proofs.Numbers.{number_none, number_there}
 use Rattle.circuit_phase.proofs.circuits.number_of.Goals as goal
 

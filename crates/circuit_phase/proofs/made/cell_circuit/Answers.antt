@@ -1,11 +1,11 @@
-use Rattle.std.proofs.Common.{◌≡◌, ◌<◌, ◌∙◌, ℕ, List, [], ap, arith, length, map, slice_get, Some, true, refl, subst, sym}
+use Rattle.std.proofs.Common.{◌≡◌, ◌∙◌, ℕ, List, [], ap, arith, length, map, slice_get, Some, true, refl, subst, sym}
 use Rattle.deep_tables.specs.Gates.{plain_gate}
 use Rattle.deep_tables.specs.Nets.{plain_nets}
 use Rattle.deep_tables.specs.Pins.{plain_pins}
 use Rattle.flat_layout.specs.Circuits.{drawn_names, drawn_nets, pin_nets}
 use Rattle.flat_layout.specs.Nets.{CellNets}
 use Rattle.flat_layout.specs.Pins.{CellPins}
-use Rattle.net_model.specs.Rows.{plain_call, plain_circuit, plain_device}
+use Rattle.net_model.specs.Rows.{plain_call, plain_device}
 use Rattle.plain_netlist.specs.Netlist.{Circuit}
 use Rattle.rule_layers.specs.Meaning.{device_rules}
 use Rattle.rule_text.specs.Rules.{no_rules}

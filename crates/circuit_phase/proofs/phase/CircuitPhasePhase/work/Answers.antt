@@ -1,4 +1,4 @@
-use Rattle.std.proofs.Common.{◌≡◌, ◌∙◌, ℕ, Bool, List, ap, get_or, length, map, subst, sym}
+use Rattle.std.proofs.Common.{◌∙◌, ℕ, Bool, List, ap, get_or, length, map, subst, sym}
 use Rattle.cell_graph.specs.Linked.{plain}
 use Rattle.deep_tables.specs.Circuits.{IsCellCircuit, plain_or_none}
 use Rattle.deep_tables.specs.Entries.{upward_cell}
