@@ -40,7 +40,7 @@ good_added rules unit e row old new before after dev good kept rows is numbered 
   numbered = numbered;
 }
 
-device_kept : (rules : List Rule) (unit : ℕ) (old new : List ℕ) (gate : GoodGate) (row : DeviceRow) → AreKept old new → IsDeviceOfGate rules unit old gate row → IsDeviceOfGate rules unit new gate row
+pub device_kept : (rules : List Rule) (unit : ℕ) (old new : List ℕ) (gate : GoodGate) (row : DeviceRow) → AreKept old new → IsDeviceOfGate rules unit old gate row → IsDeviceOfGate rules unit new gate row
 device_kept rules unit old new gate row keep h = record {
   rule = h.rule;
   is = h.is;

@@ -28,7 +28,7 @@ marked_next test items nets old mid new n item net wanted lt same is its told lo
       ∙ h.marked x;
 }
 
-none_left : {A : Type 0} → (xs : List A) (n : ℕ) → n ≡ length xs → drop n xs ≡ []
+pub none_left : {A : Type 0} → (xs : List A) (n : ℕ) → n ≡ length xs → drop n xs ≡ []
 none_left [] zero h = refl
 none_left [] (suc n) h = refl
 none_left (x ∷ xs) zero h = absurd (omega arith)

@@ -133,9 +133,9 @@ placed_cell d cell k p (c, there, at) =
     let is : get_or d.cells cell no_cell ≡ c = get_or_from_slice_get d.cells cell c no_cell there in
     cell_at (get_or d.cells cell no_cell).places k p (subst (λ (e : Cell). slice_get e.places k ≡ Some p) (sym is) at)
 
-pub drawn_of : (d : Design) (w : Wiring) (t : Tables) (l : List GateEntry) (pins : ℕ → CellPins) (drawn : ℕ → List Bool) (cell : ℕ) (v : CellNets) (cells : List ℕ) (marks : List Bool) → t.nets cell ≡ v → AreNets d w t cell v → cells ≡ placed_cells d cell → length marks ≡ v.count
+pub drawn_of : (d : Design) (w : Wiring) (s t : Tables) (l : List GateEntry) (pins : ℕ → CellPins) (drawn : ℕ → List Bool) (cell : ℕ) (v : CellNets) (cells : List ℕ) (marks : List Bool) → t.nets cell ≡ v → AreNets d w s cell v → cells ≡ placed_cells d cell → length marks ≡ v.count
     → ((x : ℕ) → get_or marks x false ≡ (is_marked_by (is_child_marked pins drawn cells) v.items v.net_of x || (has_terminal x l || false))) → AreDrawn d t (λ c. l) pins drawn cell marks
-drawn_of d w t l pins drawn cell v cells marks same nets are long marked = record {
+drawn_of d w s t l pins drawn cell v cells marks same nets are long marked = record {
   count = long ∙ sym (ap (λ (n : CellNets). n.count) same);
   each = λ x lt. ((λ h. there x (sym (marked x) ∙ get_or_from_slice_get marks x true false h)), (λ h. truth marks x (marked x ∙ back x h)));
 }
@@ -147,7 +147,7 @@ drawn_of d w t l pins drawn cell v cells marks same nets are long marked = recor
     below x m =
         let c = child_mark pins drawn cells m.item m.is in
         let listed : slice_get v.items m.index ≡ Some (Child c.number c.net) = m.listed ∙ ap (λ (i : Item). Some i) c.is in
-        let item : IsItem d w t cell (Child c.number c.net) = items_sound d w t cell v nets m.index (Child c.number c.net) listed in
+        let item : IsItem d w s cell (Child c.number c.net) = items_sound d w s cell v nets m.index (Child c.number c.net) listed in
         let at : get_or cells c.number 0 ≡ item.0.cell = ap (λ (s : List ℕ). get_or s c.number 0) are ∙ placed_cell d cell c.number item.0 item.1 in
         record {
           number = c.number;
@@ -197,7 +197,7 @@ cells_long : (ps : List Place) → length (map (λ (q : Place). q.cell) ps) ≡ 
 cells_long [] = refl
 cells_long (q ∷ ps) = let e = cells_long ps in omega (arith, e)
 
-placed_within : (d : Design) (cell k : ℕ) (p : Place) → IsPlaced d cell k p → k < length (placed_cells d cell)
+pub placed_within : (d : Design) (cell k : ℕ) (p : Place) → IsPlaced d cell k p → k < length (placed_cells d cell)
 placed_within d cell k p (c, there, at) =
     let is : get_or d.cells cell no_cell ≡ c = get_or_from_slice_get d.cells cell c no_cell there in
     let ps = (get_or d.cells cell no_cell).places in
@@ -205,8 +205,7 @@ placed_within d cell k p (c, there, at) =
     let e = cells_long ps in
     omega (arith, lt, e)
 
-pub readable : (d : Design) (w : Wiring) (t : Tables) (cell : ℕ) (v : CellNets) (cells : List ℕ) (may : ℕ → ℕ → Type 0) → AreNets d w t cell v → cells ≡ placed_cells d cell
-    → ((k b : ℕ) (p : Place) → IsPlaced d cell k p → b < (t.nets p.cell).count → may p.cell b) → (i : ℕ) (item : Item) → slice_get v.items i ≡ Some item → AreReadable may cells item
+pub readable : (d : Design) (w : Wiring) (t : Tables) (cell : ℕ) (v : CellNets) (cells : List ℕ) (may : ℕ → Type 0) → AreNets d w t cell v → cells ≡ placed_cells d cell → ((k : ℕ) (p : Place) → IsPlaced d cell k p → may p.cell) → (i : ℕ) (item : Item) → slice_get v.items i ≡ Some item → AreReadable may cells item
 readable d w t cell v cells may nets are can i (Own c r) h = tt
 readable d w t cell v cells may nets are can i (Global g) h = tt
 readable d w t cell v cells may nets are can i (Child k b) h =
@@ -214,4 +213,4 @@ readable d w t cell v cells may nets are can i (Child k b) h =
     let at : get_or cells k 0 ≡ item.0.cell = ap (λ (s : List ℕ). get_or s k 0) are ∙ placed_cell d cell k item.0 item.1 in
     let lt = placed_within d cell k item.0 item.1 in
     let long = ap (λ (s : List ℕ). length s) are in
-    (omega (arith, lt, long), subst (λ (e : ℕ). may e b) (sym at) (can k b item.0 item.1 item.2))
+    (omega (arith, lt, long), subst may (sym at) (can k item.0 item.1))

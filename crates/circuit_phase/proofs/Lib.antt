@@ -1,5 +1,8 @@
 pub mod Adding
+pub mod Assembling
+pub mod Calling
 pub mod Children
+pub mod Completing
 pub mod Copying
 pub mod Counting
 pub mod Drawing
@@ -7,6 +10,10 @@ pub mod Endings
 pub mod Filtering
 pub mod Gating
 pub mod Grounding
+pub mod Leading
 pub mod Marked
+pub mod Naming
+pub mod Numbers
+pub mod Righting
 pub mod Series
 pub mod Terminals

@@ -1,9 +1,13 @@
+pub mod Below
+pub mod Calls
 pub mod Devices
 pub mod Drawn
 pub mod Gated
 pub mod Laws
+pub mod Made
 pub mod Marks
 pub mod Names
 pub mod Numbered
 pub mod Numbering
+pub mod Phase
 pub mod Placed

@@ -1,7 +1,7 @@
 //! The cells that a cell places.
 ghost use Rattle.std.specs.Prelude.{◌≡◌, ◌<◌, ◌++◌, length, map, IfOk, OnOk};
 ghost use Rattle.flat_layout.specs.Arrays.{array_places};
-ghost use Rattle.cell_graph.specs.Linked.{cell_at, places_at, plain, reference};
+ghost use Rattle.cell_graph.specs.Linked.{plain, reference};
 ghost use Rattle.circuit_phase.specs.Placed.{placed_cells};
 
 use cell_graph::{Design, Place};

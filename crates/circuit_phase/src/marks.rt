@@ -1,6 +1,5 @@
 //! Marks at the drawn nets of a cell.
 ghost use Rattle.std.specs.Prelude.{◌≡◌, ◌<◌, ◌==◌, ◌||◌, ℕ, true, false, length, map, get_or};
-ghost use Rattle.std.specs.List.{list_any};
 ghost use Rattle.deep_tables.specs.Gates.{plain_gate, plain_state};
 ghost use Rattle.circuit_phase.specs.Marks.{has_terminal, is_terminal};
 

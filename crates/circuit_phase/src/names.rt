@@ -1,6 +1,5 @@
 //! Names of nets and of circuits, each once.
 ghost use Rattle.std.specs.Prelude.{◌≡◌, ◌<◌, ◌++◌, if◌then◌else◌, [], get_or, length, IfOk};
-ghost use Rattle.net_names.specs.Folding.{folded_bytes};
 ghost use Rattle.flat_layout.specs.Names.{circuit_ending, circuit_names, circuit_needs, has_two};
 ghost use Rattle.flat_layout.specs.Names.{net_ending, net_names, net_needs};
 ghost use Rattle.circuit_phase.specs.Names.{folded_base, folded_bases, folded_names};

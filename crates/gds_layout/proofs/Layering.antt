@@ -1,5 +1,5 @@
 -- Piles that cover what shapes do, as layers.
-use Rattle.std.proofs.Common.{◌≡◌, Bool, true, false, List, [], ◌∷◌, ◌++◌, map, refl, sym, ap, subst, ◌∙◌}
+use Rattle.std.proofs.Common.{◌≡◌, inl, inr, Bool, true, false, List, [], ◌∷◌, ◌++◌, refl, sym, ap, subst, ◌∙◌}
 use Rattle.std.specs.Prelude.{◌||◌, ◌&&◌}
 use Rattle.std.specs.List.{AllByRecursion, list_any}
 use Rattle.std.proofs.lemmas.List.Folds.{list_any-append}
@@ -152,15 +152,15 @@ has_layer key [] (l ∷ ls) f = absurd f
 has_layer key (p ∷ ps) (l ∷ ls) f =
     ap (λ (k : LayerKey). is_same_key k key || list_any (λ (m : OwnLayer). is_same_key m.key key) ls) f.0.key_is ∙ ap (λ (b : Bool). is_same_key p.key key || b) (has_layer key ps ls f.1)
 
-layer_keys : (ps : List Pile) (ls : List OwnLayer) → AreFilled ps ls → map (λ (l : OwnLayer). l.key) ls ≡ keys_of ps
-layer_keys [] [] f = refl
-layer_keys (p ∷ ps) [] f = absurd f
-layer_keys [] (l ∷ ls) f = absurd f
-layer_keys (p ∷ ps) (l ∷ ls) f = ap (λ (k : LayerKey). k ∷ map (λ (m : OwnLayer). m.key) ls) f.0.key_is ∙ ap (λ (ks : List LayerKey). p.key ∷ ks) (layer_keys ps ls f.1)
+same_keys : (ps : List Pile) (ls : List OwnLayer) → AreFilled ps ls → layer_keys ls ≡ keys_of ps
+same_keys [] [] f = refl
+same_keys (p ∷ ps) [] f = absurd f
+same_keys [] (l ∷ ls) f = absurd f
+same_keys (p ∷ ps) (l ∷ ls) f = ap (λ (k : LayerKey). k ∷ layer_keys ls) f.0.key_is ∙ ap (λ (ks : List LayerKey). p.key ∷ ks) (same_keys ps ls f.1)
 
 pub layered : (shapes : List Shape) (ps : List Pile) (ls : List OwnLayer) → AreLaid shapes ps → AreFilled ps ls → AreLayersOf shapes ls
 layered shapes ps ls a f = record {
-  keys = layer_keys ps ls f ∙ a.keys;
+  keys = same_keys ps ls f ∙ a.keys;
   apart = apart ps ls f a.different;
   each = All-from_recursion (IsLayerOf shapes) ls (each_layer shapes ps ps ls a.covers_same a.has_same (owns ps a.different) f);
   all = λ key e. has_layer key ps ls f ∙ a.has_same key ∙ e;

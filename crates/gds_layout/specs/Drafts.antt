@@ -24,7 +24,7 @@ pub record IsLayerOf (shapes : List Shape) (layer : OwnLayer) : Type 0 where
 
 -- one layer for each key on which there is a shape, in the order in which the keys first come
 pub record AreLayersOf (shapes : List Shape) (layers : List OwnLayer) : Type 0 where
-  pub keys : map (λ layer. layer.key) layers ≡ keys_behind [] shapes
+  pub keys : layer_keys layers ≡ keys_behind [] shapes
   pub apart : AreApart (layer_keys layers)
   pub each : All (IsLayerOf shapes) layers
   pub all : (key : LayerKey) → is_drawn shapes key ≡ true

@@ -8,7 +8,7 @@ use Rattle.deep_tables.specs.Gates.{plain_gate}
 use Rattle.deep_tables.specs.Nets.{plain_item, plain_nets}
 use Rattle.flat_layout.specs.Circuits.{AreDrawn}
 use Rattle.circuit_phase.specs.Marks.{has_terminal}
-use Rattle.circuit_phase.specs.Placed.{is_child_marked, is_marked_by}
+use Rattle.circuit_phase.specs.Placed.{is_child_marked, is_marked_by, tables_with}
 use Rattle.circuit_phase.proofs.Drawing.{all_false, drawn_of, false_long, gate_of, readable, written}
 use Rattle.circuit_phase.proofs.placed.drawn_marks.Goals as goal
 
@@ -22,7 +22,7 @@ mark_gates-requires g c = λ x h.
 pub mark_placed-requires-clause-readable : goal.mark_placed-requires-clause-readable
 mark_placed-requires-clause-readable g c = λ i item h.
     let p = c.args.placed.now in
-    readable (g.P.Placed.design p) (g.P.Placed.wiring p) (g.P.Placed.tables p) c.args.cell (plain_nets c.args.nets.now) c.args.cells.now (g.P.Placed.may_read p) c.requires.right c.requires.cells c.requires.readable i (plain_item item) (slice_get-map plain_item c.args.nets.now.items.items i ∙ ap (λ (o : Option Item). option_map plain_item o) h)
+    readable (g.P.Placed.design p) (g.P.Placed.wiring p) (tables_with c.requires.right.0 (g.P.Placed.nets p)) c.args.cell (plain_nets c.args.nets.now) c.args.cells.now (g.P.Placed.may_read p) c.requires.right.1 c.requires.cells c.requires.readable i (plain_item item) (slice_get-map plain_item c.args.nets.now.items.items i ∙ ap (λ (o : Option Item). option_map plain_item o) h)
 
 pub mark_placed-requires-clause-within : goal.mark_placed-requires-clause-within
 mark_placed-requires-clause-within g c = λ i lt.
@@ -34,7 +34,7 @@ mark_placed-requires-clause-within g c = λ i lt.
     let len : c.in_ok-marks.marks.len ≡ length c.in_ok-marks.marks.items = c.in_ok-marks.marks.ok.0 in
     let mid : c.deref_mut-2.result.now ≡ first = c.deref_mut-2.ensures.value ∙ written c.in_ok-marks.marks.len first c.in_ok-marks.marks.items (one ∙ sym (len ∙ size)) in
     let long = ap (λ (l : List Bool). length l) mid ∙ one in
-    let low = c.requires.right.below i (get_or nets.net_of.items i 0) (slice_get-get_or nets.net_of.items i 0 lt) in
+    let low = c.requires.right.1.below i (get_or nets.net_of.items i 0) (slice_get-get_or nets.net_of.items i 0 lt) in
     omega (arith, long, low)
 
 pub returns : goal.returns
@@ -58,5 +58,5 @@ returns g c =
     let test = is_marked_by (is_child_marked (g.P.Placed.pins p) (g.P.Placed.drawn p) c.args.cells.now) (plain_nets nets).items (plain_nets nets).net_of x in
     c.mark_placed.ensures.marked x ∙ ap (λ (m : List Bool). test || get_or m x false) mid
     ∙ ap (λ (b : Bool). test || b) (c.mark_gates.ensures.marked x ∙ ap (λ (m : List Bool). has_terminal x l || get_or m x false) (c.deref_mut.ensures.value ∙ filled) ∙ ap (λ (b : Bool). has_terminal x l || b) (all_false nets.count x)) in
-    subst (λ (m : List Bool). AreDrawn (g.P.Placed.design p) (g.P.Placed.tables p) (λ c. l) (g.P.Placed.pins p) (g.P.Placed.drawn p) c.args.cell m) (sym whole)
-    (drawn_of (g.P.Placed.design p) (g.P.Placed.wiring p) (g.P.Placed.tables p) l (g.P.Placed.pins p) (g.P.Placed.drawn p) c.args.cell (plain_nets nets) c.args.cells.now second c.requires.nets c.requires.right c.requires.cells two marked)
+    λ own. subst (λ (m : List Bool). AreDrawn (g.P.Placed.design p) (tables_with own (g.P.Placed.nets p)) (λ c. l) (g.P.Placed.pins p) (g.P.Placed.drawn p) c.args.cell m) (sym whole)
+    (drawn_of (g.P.Placed.design p) (g.P.Placed.wiring p) (tables_with c.requires.right.0 (g.P.Placed.nets p)) (tables_with own (g.P.Placed.nets p)) l (g.P.Placed.pins p) (g.P.Placed.drawn p) c.args.cell (plain_nets nets) c.args.cells.now second c.requires.nets c.requires.right.1 c.requires.cells two marked)
