@@ -1,4 +1,4 @@
-use lvs_words::{Command, WordFault, read_stated};
+use lvs_words::{WordFault, read_stated};
 use std::alloc::{AllocError, Global};
 use std::test::Fail;
 
@@ -24,17 +24,27 @@ fn stated(alloc: Global, line: &str) -> Result<String, AllocError> {
     }
 }
 
-// Words of each command, in several orders and both spellings of options.
+// The path that is named twice, of words that are accepted.
+fn shared_of(alloc: Global, line: &str) -> Result<String, AllocError> {
+    let words = words_of(alloc, line)?;
+    match read_stated(alloc, words.as_slice()) {
+        Ok(stated) => match stated.shared {
+            Some(path) => Ok(path),
+            None => String::from_str(alloc, "none"),
+        },
+        Err(_) => String::from_str(alloc, "refused"),
+    }
+}
+
+// Options in several orders, both spellings, and the default.
 #[test]
 fn commands(rt: HostRuntime) -> Result<(), Fail> {
     let alloc = rt.alloc();
-    let one = "extract --layout l --rules r --shapes s --netlist n";
-    let words = words_of(alloc, one)?;
-    let Ok(first) = read_stated(alloc, words.as_slice()) else {
-        return Err(Fail);
-    };
-    assert!(rt; matches!(first.command, Command::Extract { workers: 1, .. }));
-    let wanted = stated(alloc, one)?;
+    let wanted = stated(alloc, "extract --layout l --rules r --shapes s --netlist n")?;
+    assert_eq!(rt;
+        wanted.as_str(),
+        "Extract { layout: \"l\", rules: \"r\", shapes: \"s\", netlist: \"n\", top: None, workers: 1 } None"
+    );
     for line in [
         "extract --netlist=n --workers 1 --shapes s --rules=r --layout l",
         "extract --workers=01 --layout=l --netlist=n --shapes=s --rules=r",
@@ -44,38 +54,28 @@ fn commands(rt: HostRuntime) -> Result<(), Fail> {
     Ok(())
 }
 
-// The first path in the order of the words that a file shares that is written.
+// The first path, in the order of the words, of a file that is named twice and written.
 #[test]
 fn shared_paths(rt: HostRuntime) -> Result<(), Fail> {
     let alloc = rt.alloc();
     for (line, path) in [
-        ("shapes l r s", None),
-        ("shapes l l s", None),
-        ("shapes x r x", Some("x")),
-        ("shapes l x x", Some("x")),
-        (
-            "extract --rules r --netlist a --layout a --shapes r",
-            Some("r"),
-        ),
-        (
-            "extract --layout a --netlist a --shapes r --rules r",
-            Some("a"),
-        ),
+        ("shapes l r s", "none"),
+        ("shapes l l s", "none"),
+        ("shapes x r x", "x"),
+        ("shapes l x x", "x"),
+        ("extract --rules r --netlist a --layout a --shapes r", "r"),
+        ("extract --layout a --netlist a --shapes r --rules r", "a"),
         (
             "extract --shapes=b=c --layout l --rules r --netlist b=c",
-            Some("b=c"),
+            "b=c",
         ),
-        ("make 1 2 3 p", None),
+        (
+            "extract --layout l --rules l --shapes s --netlist n --top s",
+            "none",
+        ),
+        ("make 1 2 3 p", "none"),
     ] {
-        let words = words_of(alloc, line)?;
-        let Ok(stated) = read_stated(alloc, words.as_slice()) else {
-            return Err(Fail);
-        };
-        let shared = match &stated.shared {
-            Some(shared) => Some(shared.as_str()),
-            None => None,
-        };
-        assert_eq!(rt; shared, path);
+        assert_eq!(rt; shared_of(alloc, line)?.as_str(), path);
     }
     Ok(())
 }
