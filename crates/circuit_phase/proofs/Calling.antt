@@ -20,7 +20,7 @@ use Rattle.plain_netlist.proofs.Members.{either_side, from_map, in_left, in_righ
 use Rattle.plain_netlist.specs.Lists.{AreRising, IsListed}
 use Rattle.plain_netlist.specs.Netlist.{CallRow}
 use Rattle.plain_netlist.specs.Normal.{AreNumbered}
-use Rattle.circuit_phase.specs.Calls.{AddsCall, AreCallsTo, HasCall, is_own, own_count, sizes_before}
+use Rattle.circuit_phase.specs.Calls.{AddsCall, AreCallsTo, HasCall, is_own, own_count}
 use Rattle.circuit_phase.specs.Numbering.{AreKept}
 use Rattle.circuit_phase.specs.Placed.{AreNetsOver, placed_cells, tables_with}
 use Rattle.circuit_phase.proofs.Children.{none_left}
@@ -104,6 +104,12 @@ own_all d w t cell =
     let f = others_none t 0 (places_of d cell) (length w.globals) in
     let g = owned_long w t cell in
     omega (arith, e, f, g)
+
+-- how many nets the first of these cells have
+abbrev pub sizes_before : (ℕ → CellNets) → List ℕ → ℕ → ℕ
+sizes_before nets [] k = 0
+sizes_before nets (c ∷ cells) zero = 0
+sizes_before nets (c ∷ cells) (suc k) = (nets c).count + sizes_before nets cells k
 
 -- then, placement by placement, the nets of the placed cells
 

@@ -1,5 +1,5 @@
 -- The calls of the circuits of placed cells, one after the other.
-use Rattle.std.specs.Prelude.{◌≡◌, ◌⊎◌, ◌↔◌, ℕ, zero, suc, ◌+◌, ◌<◌, Bool, true}
+use Rattle.std.specs.Prelude.{◌≡◌, ◌⊎◌, ◌↔◌, ℕ, suc, ◌+◌, ◌<◌, Bool, true}
 use Rattle.std.specs.Prelude.{false, List, [], ◌∷◌}
 use Rattle.std.specs.Prelude.{◌++◌, Some, map, flat_map, length, get_or, slice_get}
 use Rattle.geo_base.specs.declared.shapes.Rect.{Rect}
@@ -24,12 +24,6 @@ own_count [] = 0
 own_count (Own c r ∷ items) = suc (own_count items)
 own_count (Child k b ∷ items) = 0
 own_count (Global g ∷ items) = 0
-
--- how many nets the first of these cells have
-abbrev pub sizes_before : (ℕ → CellNets) → List ℕ → ℕ → ℕ
-sizes_before nets [] k = 0
-sizes_before nets (c ∷ cells) zero = 0
-sizes_before nets (c ∷ cells) (suc k) = (nets c).count + sizes_before nets cells k
 
 -- a placed cell has a circuit, and its call was added: at its pins the nets that stand at their
 -- places from start on
