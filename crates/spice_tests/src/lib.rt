@@ -2,4 +2,5 @@
 #![tactic(auto)]
 
 mod faults;
+mod long;
 mod read;
