@@ -1,4 +1,4 @@
 pub mod Called
-mod Together
+pub mod Together
 mod Kept
 mod Judged

@@ -1,5 +1,5 @@
-//! The pairs of two netlists as jobs: which pairs a pair waits for, the pins that matched pairs hand
-//! up, what all answers come to, and what they say of the netlists.
+//! The pairs of two netlists as jobs: which pairs a pair waits for, the pins that matched pairs
+//! hand up, what all answers come to, and what they say of the netlists.
 #![tactic(auto)]
 
 mod children;
