@@ -1,10 +1,10 @@
 -- One file after the other.
-use Rattle.std.proofs.Common.{◌≡◌, ◌≢◌, ◌⊎◌, inl, inr, ◌<◌, ◌+◌, ◌-◌, ◌^◌, ℕ, List, [], ◌∷◌, ◌++◌, ◌≤◌, length, take, drop, get_or, map, string_bytes, is_err, true, false, Result, Ok, Err, refl, sym, ap, subst, ◌∙◌, append_assoc, append-nil, arith}
-use Rattle.lvs_outside.specs.Store.{Store, HasRoom, SameFiles, counted}
+use Rattle.std.proofs.Common.{◌≡◌, ◌≢◌, ◌⊎◌, inl, inr, ◌<◌, ◌+◌, ◌-◌, ℕ, List, [], ◌∷◌, ◌++◌, ◌≤◌, length, take, drop, get_or, map, string_bytes, is_err, true, false, Result, Ok, Err, refl, sym, ap, subst, ◌∙◌, append_assoc, append-nil, arith}
+use Rattle.lvs_outside.specs.Store.{Store, HasRoom, counted}
 use Rattle.lvs_outside.specs.Loops.{ForPrefix, HoldsNow, IsFile, WritesFile}
 use Rattle.std.proofs.lemmas.List.{take_all}
 use Rattle.lvs_files.specs.declared.files.Written.{Written}
-use Rattle.lvs_files.specs.Files.{file_of, files_of, File, IsApart, AreApart, IsWritten, AreWritten, ArePartWritten, WroteWhole, WrotePart}
+use Rattle.lvs_files.specs.Files.{file_of, files_of, File, IsApart, AreApart, IsWritten, AreWritten, WroteWhole, WrotePart}
 
 far : (whole later : List File) (f : File) (path : List ℕ) → IsApart path (whole ++ f ∷ later) → path ≢ f.path
 far [] later f path h = h.0

@@ -1,4 +1,3 @@
-use Rattle.std.proofs.Common.{Some}
 use Rattle.lvs_words.specs.declared.flag.Flag.TheVariants as flag
 use Rattle.lvs_words.specs.Items.{value_of}
 use Rattle.lvs_words.specs.Seen.{seen_all}

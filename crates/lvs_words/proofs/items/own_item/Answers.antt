@@ -1,6 +1,5 @@
 use Rattle.std.proofs.Common.{Some, None, arith}
 use Rattle.std.proofs.lemmas.Str.Pattern.{split_once_first}
-use Rattle.lvs_words.specs.Seen.{seen}
 use Rattle.lvs_words.proofs.Reading.{own_as, own_none}
 use Rattle.lvs_words.proofs.items.own_item.Goals as goal
 

@@ -1,4 +1,4 @@
-use Rattle.std.proofs.Common.{◌≡◌, ◌-◌, ◌++◌, ◌∷◌, [], length, take, drop, map, string_bytes, is_ok, true, rules, ℕ, List, ap, sym, ◌∙◌}
+use Rattle.std.proofs.Common.{◌≡◌, ◌-◌, ◌++◌, ◌∷◌, [], length, take, drop, map, string_bytes, rules, ℕ, List, ap, sym, ◌∙◌}
 use Rattle.lvs_words.specs.Items.{items}
 use Rattle.lvs_words.proofs.Reading.{front_of, kept_one, values_kept}
 use Rattle.lvs_words.proofs.items.read_items.Goals as goal
