@@ -1,10 +1,10 @@
 -- What a phase of gates is made from.
 use Rattle.std.specs.Prelude.{◌≡◌, ◌<◌, ◌^◌, ℕ, List, length}
-use Rattle.job_graph.specs.Graph.{Waits}
 use Rattle.cell_graph.specs.Linked.{Linked, plain}
 use Rattle.deep_tables.specs.Layers.{AreLayers}
 use Rattle.deep_tables.specs.Nets.{AreRightNets}
 use Rattle.deep_tables.specs.Zones.{AreZones}
+use Rattle.layer_phase.specs.Phase.{AreFreeJobs}
 use Rattle.rule_layers.specs.Meaning.{globals_of, wiring_of}
 use Rattle.rule_text.specs.Seen.{rules_seen}
 use Rattle.rule_text.specs.Sound.{IsSound}
@@ -15,11 +15,6 @@ use Rattle.net_phase.specs.Own.{AreOwnLists, rect_lists}
 use Rattle.net_phase.specs.Reading.{nets_of}
 use Rattle.gate_phase.specs.Judged.{bulks_of}
 use Rattle.gate_phase.specs.declared.phase.GatePhase.TheInside.{Inside}
-
--- the jobs go through the design's order, and wait for none
-pub record AreFreeJobs (d : Linked) (graph : List (List ℕ)) : Type 0 where
-  pub jobs : length graph ≡ length d.order
-  pub waits : (job input : ℕ) → Waits graph job input → ⊥
 
 -- the layout, the rules and the jobs
 pub record GateJobs : Type 0 where

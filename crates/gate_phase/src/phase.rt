@@ -4,9 +4,9 @@ ghost use Rattle.cell_graph.specs.Linked.{plain};
 ghost use Rattle.deep_tables.specs.Layers.{AreLayers};
 ghost use Rattle.deep_tables.specs.Nets.{AreNets};
 ghost use Rattle.deep_tables.specs.Zones.{AreZones};
+ghost use Rattle.layer_phase.specs.Phase.{AreFreeJobs};
 ghost use Rattle.rule_text.specs.Seen.{rules_seen};
 ghost use Rattle.rule_text.specs.Sound.{IsSound};
-ghost use Rattle.gate_phase.specs.Phase.{AreFreeJobs};
 
 use crate::bulks::bulk_globals;
 use crate::list::cell_gates;
@@ -14,6 +14,7 @@ use cell_graph::Design;
 use deep_tables::{CellGates, CellNets, DeepKey, Layers, Nets, Zones};
 use geo_base::Rect;
 use job_graph::{Graph, Phase, Reads};
+use layer_phase::free_graph;
 use net_phase::{Below, all_elements, find_wires, known_nets, own_lists};
 use net_walk::Element;
 use rule_text::RuleSet;
@@ -46,17 +47,6 @@ impl<'a> Model for GatePhase<'a> {
     ghost view = { jobs_seen };
 
     ghost invariant = { IsGatePhase };
-}
-
-// A job for each reached cell, and none waits.
-fn free_graph(alloc: Global, design: &Design) -> Result<Graph, AllocError>
-    ensures { IfOk result (AreFreeJobs design.now) }
-{
-    let mut inputs = Vec::new(alloc);
-    for _ in 0..design.order().len() {
-        inputs.push(Vec::new(alloc))?;
-    }
-    Graph::from_inputs(alloc, inputs)
 }
 
 impl<'a> GatePhase<'a> {
