@@ -1,4 +1,4 @@
-use lvs_words::{WordFault, read_stated};
+use lvs_words::{Stated, WordFault, read_stated};
 use std::alloc::{AllocError, Global};
 use std::test::Fail;
 
@@ -28,10 +28,14 @@ fn stated(alloc: Global, line: &str) -> Result<String, AllocError> {
 fn shared_of(alloc: Global, line: &str) -> Result<String, AllocError> {
     let words = words_of(alloc, line)?;
     match read_stated(alloc, words.as_slice()) {
-        Ok(stated) => match stated.shared {
-            Some(path) => Ok(path),
-            None => String::from_str(alloc, "none"),
-        },
+        Ok(stated) => {
+            let Stated { command, shared } = stated;
+            let _ = command;
+            match shared {
+                Some(path) => Ok(path),
+                None => String::from_str(alloc, "none"),
+            }
+        }
         Err(_) => String::from_str(alloc, "refused"),
     }
 }

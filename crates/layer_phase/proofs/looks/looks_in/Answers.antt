@@ -1,10 +1,13 @@
 use Rattle.std.proofs.Common.{◌∙◌, sym, subst}
 use Rattle.std.proofs.lemmas.Option.{slice_get_within}
 use Rattle.geo_base.specs.Motions.{moved_square}
-use Rattle.cell_graph.specs.Linked.{HullHas, cell_at, hull_of, motion_at}
+use Rattle.cell_graph.specs.Linked.{HullHas, HullIsSound, cell_at, hull_of, motion_at}
 use Rattle.cell_graph.proofs.Bridge.{hull_sound, step_held}
 use Rattle.layer_phase.proofs.Held.{held_near, held_pieces}
 use Rattle.layer_phase.proofs.looks.looks_in.Goals as goal
+
+pub push_references-requires-clause-window : goal.push_references-requires-clause-window
+push_references-requires-clause-window c = subst HullIsSound c.requires.hull (hull_sound c.args.design.now c.args.cell c.sound.ensures)
 
 pub push_all_own-requires-clause-held : goal.push_all_own-requires-clause-held
 push_all_own-requires-clause-held c = λ q e.

@@ -1,10 +1,13 @@
 use Rattle.std.proofs.Common.{◌∙◌, sym, subst}
 use Rattle.std.proofs.lemmas.Option.{slice_get_within}
 use Rattle.cell_graph.specs.Linked.{HullHas, HullIsSound}
-use Rattle.cell_graph.proofs.Bridge.{hull_sound, reference_at}
+use Rattle.cell_graph.proofs.Bridge.{hull_sound, lower, reference_at}
 use Rattle.cell_context.proofs.Collecting.{near_array}
 use Rattle.layer_phase.proofs.Results.{on_ok}
 use Rattle.layer_phase.proofs.looks.push_reference.Goals as goal
+
+pub hull-requires : goal.hull-requires
+hull-requires c = (lower c.args.design.now c.args.cell c.args.index c.args.place.now c.sound.ensures c.requires.there).0
 
 pub push_names-requires-clause-near : goal.push_names-requires-clause-near
 push_names-requires-clause-near c = near_array c.args.design.now c.args.cell c.args.index c.args.place.now c.sound.ensures c.requires.there

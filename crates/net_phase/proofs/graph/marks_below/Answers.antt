@@ -1,5 +1,6 @@
 use Rattle.std.proofs.Common.{◌≡◌, ◌+◌, ◌∙◌, ◌||◌, Bool, false, ℕ, List, ap, sym, subst, arith, length, drop, get_or, slice_index}
 use Rattle.std.specs.Global.{Vec}
+use Rattle.cell_graph.proofs.Bridge.{lower}
 use Rattle.cell_graph.specs.Linked.{cell_at, places_at}
 use Rattle.cell_graph.specs.declared.cells.Place.{Place}
 use Rattle.job_graph.specs.Graph.{AreAscending, inputs_of, lists}
@@ -8,6 +9,17 @@ use Rattle.net_phase.proofs.Graphing.{AreFrom, child_lower, first_all, from_all,
 use Rattle.net_phase.proofs.Listing.{long_map}
 use Rattle.net_phase.proofs.graph.marks_below.Goals as goal
 use Rattle.net_phase.specs.Graph.{is_at_or_in}
+
+pub bounds-jobs-place : goal.bounds-jobs-place
+bounds-jobs-place c =
+    let d = c.args.design.now in let job = c.args.job in
+    let items = c.places-place-items.result.now in
+    let p = get_or items c.loop-place.place-index no_place in
+    let listed : items ≡ places_at (cell_at d (slice_index d.order job)) = c.places-place-items.ensures ∙ ap (λ (o : List ℕ). places_at (cell_at d (slice_index o job))) c.order.ensures in
+    let there = place_there d (slice_index d.order job) c.loop-place.place-index items listed (omega arith) in
+    let less = (lower d (slice_index d.order job) c.loop-place.place-index p c.sound.ensures there).0 in
+    let count = c.requires.count in
+    omega (arith, less, count)
 
 pub bounds-graph-child : goal.bounds-graph-child
 bounds-graph-child c =

@@ -6,6 +6,9 @@ use Rattle.zone_phase.proofs.Entries.{grown_frame, entry_zone, job_reached, made
 use Rattle.zone_phase.proofs.Jobs.{use_step}
 use Rattle.zone_phase.proofs.zones.hull_zone.Goals as goal
 
+pub grown-wide-requires : goal.grown-wide-requires
+grown-wide-requires g c = subst HullIsSound c.requires.hull (hull_sound c.args.design.now c.args.cell c.sound.ensures)
+
 pub push_uses-requires-clause-grown : goal.push_uses-requires-clause-grown
 push_uses-requires-clause-grown g c = subst IsFrame (sym c.grown-wide.ensures) (grown_frame c.args.hull.now (subst HullIsSound c.requires.hull (hull_sound c.args.design.now c.args.cell c.sound.ensures)))
 

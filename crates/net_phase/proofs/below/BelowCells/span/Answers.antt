@@ -1,10 +1,15 @@
 use Rattle.std.proofs.Common.{refl, sym, ◌∙◌, subst}
 use Rattle.cell_graph.specs.Linked.{plain}
-use Rattle.net_phase.proofs.Holding.{net_span, no_nets}
+use Rattle.net_phase.proofs.Holding.{hull_near, net_span, no_nets}
 use Rattle.net_phase.proofs.below.BelowCells.span.Goals as goal
 use Rattle.net_phase.specs.Below.{BelowSeen, below_seen, tables_seen}
 use Rattle.net_phase.specs.Own.{rect_lists}
 use Rattle.net_walk.specs.Walk.{HasNoSquare, IsSpan, place_of}
+
+pub rect-requires-clause-near_rect : goal.rect-requires-clause-near_rect
+rect-requires-clause-near_rect c =
+    let a = c.self.inside in
+    hull_near a.design.now (tables_seen (below_seen a)) (rect_lists a.own.now) c.self.invariant.sound c.self.invariant.own (λ cell k. refl) c.args.element.now.cell c.in-Some.hull (sym c.in-Some.is ∙ c.hull_at.ensures)
 
 pub returns-in-None-clause-none : goal.returns-in-None-clause-none
 returns-in-None-clause-none c =
