@@ -1,9 +1,18 @@
-use Rattle.std.proofs.Common.{◌∙◌, ◌||◌, Bool, ℕ, List, get_or, length, ap, arith}
+use Rattle.std.proofs.Common.{◌≡◌, ◌∙◌, ◌||◌, Bool, ℕ, List, Some, get_or, length, slice_get, subst, ap, arith}
+use Rattle.cell_graph.proofs.Bridge.{lower}
 use Rattle.cell_graph.specs.declared.cells.Place.{Place}
 use Rattle.deep_tables.specs.Gates.{gates_of}
 use Rattle.circuit_phase.specs.Gated.{has_good, has_marked}
 use Rattle.circuit_phase.proofs.Gating.{all_cells, gates_read, one_cell}
 use Rattle.circuit_phase.proofs.gated.gated_cells.Goals as goal
+
+pub is_gated-marked-requires : goal.is_gated-marked-requires
+is_gated-marked-requires c = λ i p at.
+    let cell = get_or c.order-cell-items.result.now c.loop-cell.cell-index 0 in
+    let less = (lower c.args.design.now cell i p c.sound.ensures (subst (λ (l : List Place). slice_get l i ≡ Some p) c.places.ensures at)).0 in
+    let same = ap (λ (l : List Bool). length l) c.deref.ensures.value in
+    let count = c.loop-cell.invariant.count in
+    omega (arith, less, same, count)
 
 pub loop-cell-preserved : goal.loop-cell-preserved
 loop-cell-preserved c =

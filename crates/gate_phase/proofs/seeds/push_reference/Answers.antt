@@ -1,8 +1,11 @@
 use Rattle.std.proofs.Common.{◌∙◌, sym, subst}
 use Rattle.cell_graph.specs.Linked.{HullIsSound}
-use Rattle.cell_graph.proofs.Bridge.{hull_sound, reference_at}
+use Rattle.cell_graph.proofs.Bridge.{hull_sound, lower, reference_at}
 use Rattle.cell_context.proofs.Collecting.{near_array}
 use Rattle.gate_phase.proofs.seeds.push_reference.Goals as goal
+
+pub hull-requires : goal.hull-requires
+hull-requires c = (lower c.args.design.now c.args.cell c.args.index c.args.place.now c.sound.ensures c.requires.there).0
 
 pub push_part-requires-clause-near : goal.push_part-requires-clause-near
 push_part-requires-clause-near c = near_array c.args.design.now c.args.cell c.args.index c.args.place.now c.sound.ensures c.requires.there
