@@ -1,0 +1,3 @@
+pub mod Counted
+pub mod Paired
+pub mod Sided

@@ -1,0 +1,18 @@
+use Rattle.match_flow.proofs.Sided.{all_answers, good_left}
+use Rattle.match_flow.proofs.comparing.answer_pairs.Goals as goal
+use Rattle.net_model.specs.Rows.{plain_netlist}
+use Rattle.pair_jobs.proofs.Called.{if_ok}
+
+pub new-requires-clause-sides : goal.new-requires-clause-sides
+new-requires-clause-sides g c = c.requires.sides.sides
+
+pub new-requires-clause-order : goal.new-requires-clause-order
+new-requires-clause-order g c = good_left (plain_netlist c.args.aligned.now.left) (plain_netlist c.args.aligned.now.right) c.requires.sides
+
+pub returns : goal.returns
+returns g c =
+    let p = c.in_ok-phase.phase in
+    let made = c.in_ok-phase.ensures in
+    if_ok _ _ c.run_levels.result (λ values defined.
+    all_answers c.args.aligned.now.left c.args.aligned.now.right c.args.limit p values c.requires.sides made.left made.right made.limit made.jobs defined)
+    c.run_levels.ensures

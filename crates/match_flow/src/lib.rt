@@ -1,0 +1,10 @@
+//! Two netlists compared: aligned, and pair by pair.
+#![tactic(auto)]
+
+mod comparing;
+mod laws;
+mod phase;
+
+pub use comparing::{Comparison, compare};
+pub use laws::device_counts;
+pub use phase::PairPhase;
