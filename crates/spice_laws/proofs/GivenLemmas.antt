@@ -134,14 +134,14 @@ cells_named d cells some bytes i a h =
 
 -- the cell of a circuit
 cell_at : (d : Design) (w : Wiring) (t : Tables) (g : CircuitTables) (nl : Netlist) (rules : List Rule) (unit : ℕ) (level : ℕ → ℕ) → AreTablesRight d w t g nl rules unit level
-    → (n : ℕ) (c : Circuit) → IsCircuit nl n c → (cell : ℕ) × IsCircuitOf d t g.gates g.pins g.drawn rules unit g.cells n cell (g.parts cell) c
+    → (n : ℕ) (c : Circuit) → IsCircuit nl n c → (cell : ℕ) × IsListed cell g.cells × IsCircuitOf d t g.gates g.pins g.drawn rules unit g.cells n cell (g.parts cell) c
 cell_at d w t g nl rules unit level h n c is =
     let r = item_at nl.circuits g.cells n c (sym h.circuits.count) is in
-    (r.0, h.circuits.each n r.0 c r.1 is)
+    (r.0, listed g.cells n r.0 r.1, h.circuits.each n r.0 c r.1 is)
 
 pub writable : ExtractedWritableLaw
 writable d w t g nl rules unit level h given sizes = record {
-  circuits = λ n c is. let f = cell_at d w t g nl rules unit level h n c is in cells_named d g.cells given.cells given.cell_bytes n c.name f.1.has_name;
+  circuits = λ n c is. let f = cell_at d w t g nl rules unit level h n c is in cells_named d g.cells given.cells given.cell_bytes n c.name f.2.has_name;
   nets = λ n a c name is at. net n a c name is at (cell_at d w t g nl rules unit level h n c is);
   classes = λ n i row dev. class n i row dev.0 dev.1 dev.2 (cell_at d w t g nl rules unit level h n dev.0 dev.1);
   lengths = sizes.lengths;
@@ -149,9 +149,9 @@ writable d w t g nl rules unit level h given sizes = record {
 }
   where
     net : (n a : ℕ) (c : Circuit) (name : List ℕ) → IsCircuit nl n c → slice_get c.nets a ≡ Some name
-        → ((cell : ℕ) × IsCircuitOf d t g.gates g.pins g.drawn rules unit g.cells n cell (g.parts cell) c) → IsName name
+        → ((cell : ℕ) × IsListed cell g.cells × IsCircuitOf d t g.gates g.pins g.drawn rules unit g.cells n cell (g.parts cell) c) → IsName name
     net n a c name is at f =
-        let has = f.1.has_nets in
+        let has = f.2.has_nets in
         let x = item_at c.nets (g.parts f.0).nets a name (sym has.count) at in
         let drawn = (has.each x.0).0 (listed (g.parts f.0).nets a x.0 x.1) in
         let stands = subst (λ (y : ℕ). IsListed y (drawn_nets (g.drawn f.0))) (let z : 0 + x.0 ≡ x.0 = omega arith in z) (at_true 0 (g.drawn f.0) x.0 drawn) in
@@ -159,13 +159,13 @@ writable d w t g nl rules unit level h given sizes = record {
         let same = sym (has.named a place.0 x.0 x.1 place.1) ∙ at in
         let base = λ (y : ℕ). folded_bytes (get_or (g.pins f.0).names y []) in
         named net_needs net_ending [] 1 (map base (drawn_nets (g.drawn f.0)))
-        (λ b l. let r = of_map base (drawn_nets (g.drawn f.0)) b l in subst IsFixed (sym r.2) (folded_fixed (get_or (g.pins f.0).names r.0 []) (given.nets f.0 r.0)))
+        (λ b l. let r = of_map base (drawn_nets (g.drawn f.0)) b l in subst IsFixed (sym r.2) (folded_fixed (get_or (g.pins f.0).names r.0 []) (given.nets f.0 r.0 f.1)))
         (λ seen b l e. net_some seen b e) net_ends place.0 name same
 
     class : (n i : ℕ) (row : DeviceRow) (c : Circuit) → IsCircuit nl n c → slice_get c.devices i ≡ Some row
-        → ((cell : ℕ) × IsCircuitOf d t g.gates g.pins g.drawn rules unit g.cells n cell (g.parts cell) c) → IsName row.class
+        → ((cell : ℕ) × IsListed cell g.cells × IsCircuitOf d t g.gates g.pins g.drawn rules unit g.cells n cell (g.parts cell) c) → IsName row.class
     class n i row c is at f =
-        let has = f.1.has_devices in
+        let has = f.2.has_devices in
         let gate = item_at c.devices (good_gates (g.gates f.0)) i row (sym has.count) at in
         let one = has.each i gate.0 row gate.1 at in
         subst IsName (sym one.class) (given.classes gate.0.at.rule one.rule one.is)

@@ -125,7 +125,7 @@ module _ (d : Design) (w : Wiring) (t : Tables) (g : CircuitTables) (nl : Netlis
       let k = position (drawn_nets (g.drawn f.cell)) x.0 (subst (λ m. IsListed m (drawn_nets (g.drawn f.cell))) (let e : 0 + x.0 ≡ x.0 = omega arith in e) (at_true 0 (g.drawn f.cell) x.0 drawn)) in
       (x.0, k.0, x.1, k.1, sym (f.right.has_nets.named a k.0 x.0 x.1 k.1) ∙ at)
 
-  sound : length g.cells < 2 ^ 32 → ((cell : ℕ) → length (g.drawn cell) < 2 ^ 32) → IsSoundNetlist nl
+  sound : length g.cells < 2 ^ 32 → ((n cell : ℕ) → IsCircuitCell g.cells n cell → length (g.drawn cell) < 2 ^ 32) → IsSoundNetlist nl
   sound few short = record {
     names = λ b c x y is on same.
         let names = map (λ cell. folded_bytes (cell_name d cell)) g.cells in
@@ -139,7 +139,7 @@ module _ (d : Design) (w : Wiring) (t : Tables) (g : CircuitTables) (nl : Netlis
         let fold = λ (m : ℕ). folded_bytes (get_or (g.pins f.cell).names m []) in
         let long = length-map (drawn_nets drawn) fold in
         let less = places_few 0 drawn in
-        let small = short f.cell in
+        let small = short n f.cell f.is in
         let e = net_names_apart (map fold (drawn_nets drawn)) (omega arith) one.1 two.1 name one.4 two.4 in
         let same : two.0 ≡ one.0 = same_Some _ _ (sym two.3 ∙ subst (λ k. slice_get (drawn_nets drawn) k ≡ Some one.0) e one.3) in
         apart_at one.0 (g.parts f.cell).nets a b f.right.has_nets.apart one.2 (subst (λ m. slice_get (g.parts f.cell).nets b ≡ Some m) same two.2);

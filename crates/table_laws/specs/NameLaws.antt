@@ -1,6 +1,7 @@
 -- No two nets of a circuit, and no two circuits, have one name; and the circuits of the cells are a
 -- sound netlist in normal form.
 use Rattle.std.specs.Prelude.{◌≡◌, ◌<◌, ◌^◌, ℕ, List, [], ◌∷◌, length, slice_get, Some}
+use Rattle.flat_layout.specs.Circuits.{IsCircuitCell}
 use Rattle.flat_layout.specs.Expanded.{AreTablesRight, CircuitTables}
 use Rattle.flat_layout.specs.Gates.{Rule}
 use Rattle.flat_layout.specs.Layout.{Design}
@@ -32,8 +33,10 @@ ExtractedGoodLaw = (d : Design) (w : Wiring) (t : Tables) (g : CircuitTables) (n
     (rules : List Rule) (unit : ℕ) (level : ℕ → ℕ) → AreTablesRight d w t g nl rules unit level
     → IsGood nl (λ n. n) × IsNormalNetlist nl
 
--- with fewer than 2^32 circuits and nets of a cell
+-- with fewer than 2^32 circuits, and nets of a cell that has one
 abbrev pub ExtractedSoundLaw : Type 0
 ExtractedSoundLaw = (d : Design) (w : Wiring) (t : Tables) (g : CircuitTables) (nl : Netlist)
     (rules : List Rule) (unit : ℕ) (level : ℕ → ℕ) → AreTablesRight d w t g nl rules unit level
-    → length g.cells < 2 ^ 32 → ((cell : ℕ) → length (g.drawn cell) < 2 ^ 32) → IsSoundNetlist nl
+    → length g.cells < 2 ^ 32
+    → ((n cell : ℕ) → IsCircuitCell g.cells n cell → length (g.drawn cell) < 2 ^ 32)
+    → IsSoundNetlist nl
