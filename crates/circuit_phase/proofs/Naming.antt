@@ -2,12 +2,11 @@
 use Rattle.std.proofs.Common.{◌≡◌, ℕ, suc, ◌+◌, ◌<◌, ◌≤◌, Bool, true, false, List, [], ◌∷◌, ◌++◌, Some, map, take, slice_get, get_or, length, refl, sym, ◌∙◌, ap, subst, arith}
 use Rattle.std.proofs.lemmas.List.{length-map, map_push, take_more}
 use Rattle.std.proofs.lemmas.Option.{slice_get-get_or, slice_get_within, get_or_from_slice_get}
-use Rattle.deep_tables.specs.Positions.{AreApart, ArePositions}
+use Rattle.deep_tables.specs.Positions.{AreApartBelow, ArePositions}
 use Rattle.flat_layout.specs.Circuits.{drawn_names, drawn_nets, true_places}
 use Rattle.flat_layout.specs.Names.{apart_names, net_ending, net_needs}
 use Rattle.flat_layout.specs.Pins.{CellPins}
 use Rattle.net_names.specs.Folding.{folded_bytes}
-use Rattle.plain_netlist.proofs.Listing.{apart_at}
 use Rattle.plain_netlist.proofs.Members.{map_at}
 use Rattle.plain_netlist.specs.Lists as lists
 use Rattle.circuit_phase.proofs.Leading.{at_place, places_apart}
@@ -22,13 +21,13 @@ pub names_long : (pins : CellPins) (marks : List Bool) → length (drawn_names p
 names_long pins marks = apart_long net_needs net_ending [] 1 _ ∙ length-map (drawn_nets marks) (λ x. folded_bytes (get_or pins.names x []))
 
 -- positions by places
-pub by_places : (count : ℕ) (xs : List ℕ) → lists.AreApart xs → ((i x : ℕ) → slice_get xs i ≡ Some x → x < count) → AreApart count xs
+pub by_places : (count : ℕ) (xs : List ℕ) → lists.AreApart xs → ((i x : ℕ) → slice_get xs i ≡ Some x → x < count) → AreApartBelow count xs
 by_places count xs apart low = record {
   inside = λ k lt. low k (get_or xs k 0) (slice_get-get_or xs k 0 lt);
-  once = λ j k a b e. apart_at (get_or xs k 0) xs j k apart (slice_get-get_or xs j 0 a ∙ ap (λ n. Some n) e) (slice_get-get_or xs k 0 b);
+  apart = apart;
 }
 
-pub places_by : (count : ℕ) (xs : List Bool) → count ≡ length xs → AreApart count (true_places 0 xs)
+pub places_by : (count : ℕ) (xs : List Bool) → count ≡ length xs → AreApartBelow count (true_places 0 xs)
 places_by count xs e = by_places count (true_places 0 xs) (places_apart 0 xs) (λ i x h.
     let lt = slice_get_within (true_places 0 xs) i x h in
     let low = place_in 0 xs i lt in

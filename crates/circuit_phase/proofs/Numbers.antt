@@ -6,7 +6,7 @@ use Rattle.std.specs.Borrow.{Bor}
 use Rattle.cell_graph.proofs.Bridge.{maps}
 use Rattle.cell_graph.specs.Linked.{IsSound, Linked, cell_at, height_at, plain, plain_cell}
 use Rattle.cell_graph.specs.declared.cells.CellPart.{CellPart}
-use Rattle.deep_tables.specs.Positions.{AreApart, ArePositions}
+use Rattle.deep_tables.specs.Positions.{AreApartBelow, ArePositions}
 use Rattle.flat_layout.specs.Circuits.{AreCircuitCells, cell_circuit_names, cell_name}
 use Rattle.flat_layout.specs.GateTables.{GateEntry}
 use Rattle.flat_layout.specs.Layout.{Cell, Design, IsReached}
@@ -31,7 +31,7 @@ within d cell sound reached = let at = sound.order.all cell reached in subst (λ
 pub cells_within : (d : Linked) (of : ℕ → List GateEntry) (cells : List ℕ) → IsSound d → AreCircuitCells (plain d) (height_at d) of cells → (i x : ℕ) → slice_get cells i ≡ Some x → x < length d.cells
 cells_within d of cells sound are i x at = within d x sound ((are.each x).0 (listed cells i x at)).0
 
-pub cells_apart : (d : Linked) (of : ℕ → List GateEntry) (cells : List ℕ) → IsSound d → AreCircuitCells (plain d) (height_at d) of cells → AreApart (length d.cells) cells
+pub cells_apart : (d : Linked) (of : ℕ → List GateEntry) (cells : List ℕ) → IsSound d → AreCircuitCells (plain d) (height_at d) of cells → AreApartBelow (length d.cells) cells
 cells_apart d of cells sound are = by_places (length d.cells) cells (rising_apart (IsCellBefore (height_at d)) cells (not_before (height_at d)) are.rising) (cells_within d of cells sound are)
 
 -- a cell's number

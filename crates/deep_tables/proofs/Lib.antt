@@ -7,3 +7,4 @@ pub mod Gating
 pub mod Pinning
 pub mod Circuiting
 pub mod Nothing
+pub mod Placing

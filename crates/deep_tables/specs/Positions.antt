@@ -1,11 +1,11 @@
 -- Positions of numbers in a list.
 use Rattle.std.specs.Prelude.{◌≡◌, ℕ, ◌<◌, ◌-◌, List, length, slice_index}
+use Rattle.plain_netlist.specs.Lists.{AreApart}
 
 -- the numbers are below a count, and no two are equal
-pub record AreApart (count : ℕ) (order : List ℕ) : Type 0 where
+pub record AreApartBelow (count : ℕ) (order : List ℕ) : Type 0 where
   pub inside : (k : ℕ) → k < length order → slice_index order k < count
-  pub once : (j k : ℕ) → j < length order → k < length order
-      → slice_index order j ≡ slice_index order k → j ≡ k
+  pub apart : AreApart order
 
 -- the first n numbers of the list are found by their positions
 abbrev pub ArePositions : List ℕ → ℕ → List ℕ → Type 0

@@ -2,7 +2,7 @@
 ghost use Rattle.std.specs.Prelude.{◌≡◌, ◌<◌, ◌^◌, ◌-◌, ℕ, length, IfOk, IsSome, List, Option};
 ghost use Rattle.std.specs.Prelude.{Some};
 ghost use Rattle.deep_tables.specs.Entries.{entry, IsDownward, IsUpward};
-ghost use Rattle.deep_tables.specs.Positions.{AreApart, ArePositions, AreReversed};
+ghost use Rattle.deep_tables.specs.Positions.{AreApartBelow, ArePositions, AreReversed};
 
 use cell_graph::Design;
 use job_graph::{Reads, Results};
@@ -27,7 +27,7 @@ impl<T> Model for Table<T> {
 
 /// The position in a list of numbers at which each number stands, 0 for those that don't. Linear.
 pub fn positions(alloc: Global, count: u32, order: &[u32]) -> Result<Vec<u32>, AllocError>
-    requires apart { AreApart count order.now }
+    requires numbers { AreApartBelow count order.now }
     requires few { length order.now < 2 ^ 32 }
     ensures count { IfOk result (λ r. length r.items ≡ count) }
     ensures places { IfOk result (λ r. ArePositions order.now (length order.now) r.items) }
@@ -41,7 +41,7 @@ pub fn positions(alloc: Global, count: u32, order: &[u32]) -> Result<Vec<u32>, A
 
 // The same, counted from the end of the list.
 fn positions_from_end(alloc: Global, count: u32, order: &[u32]) -> Result<Vec<u32>, AllocError>
-    requires apart { AreApart count order.now }
+    requires numbers { AreApartBelow count order.now }
     requires few { length order.now < 2 ^ 32 }
     ensures count { IfOk result (λ r. length r.items ≡ count) }
     ensures places { IfOk result (λ r. AreReversed order.now (length order.now) r.items) }

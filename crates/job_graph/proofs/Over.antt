@@ -1,7 +1,10 @@
 -- Laws on what the graph of a phase is.
 use Rattle.std.proofs.Common.{◌≡◌, ℕ, zero, suc, ◌+◌, ◌<◌, ◌≤◌, true, List, [], ◌∷◌, map, length, get_or, slice_index, refl, sym, ap, ◌∙◌, subst, arith}
+use Rattle.std.proofs.lemmas.Option.{slice_get_within, get_or_from_slice_get}
 use Rattle.std.proofs.Math.Decide.{ℕ_discrete, dec_lt}
 use mathlib.Core.Logic.{dite}
+use Rattle.plain_netlist.specs.Lists.{AreApart}
+use Rattle.plain_netlist.proofs.Listing.{at_apart}
 use Rattle.job_graph.specs.Graph.{inputs_of, AreAscending, has}
 use Rattle.job_graph.specs.Over.{OnceLaw, PlaceLaw, AscendLaw, OverLaw}
 use Rattle.job_graph.proofs.Inputs.{has_here, has_else, has_within, item_has, none_past}
@@ -12,15 +15,20 @@ ascending_strict low (x ∷ xs) high i zero a lt l = absurd (omega arith)
 ascending_strict low (x ∷ xs) high zero (suc j) a lt l = let up = has_within (suc x) (get_or xs j 0) xs high a.2 (item_has xs j 0 (omega arith)) in omega arith
 ascending_strict low (x ∷ xs) high (suc i) (suc j) a lt l = ascending_strict (suc x) xs high i j a.2 (omega arith) (omega arith)
 
+-- numbers of which no two places have the same
+apart_by : (xs : List ℕ) → ((i j : ℕ) → i < length xs → j < length xs → slice_index xs i ≡ slice_index xs j → i ≡ j) → AreApart xs
+apart_by xs one = at_apart xs (λ i j x a b.
+    one i j (slice_get_within xs i x a) (slice_get_within xs j x b) (get_or_from_slice_get xs i x 0 a ∙ sym (get_or_from_slice_get xs j x 0 b)))
+
 pub once_law : OnceLaw
-once_law graph a job i j l m e = dite (dec_lt job (length graph))
-    (λ within. apart within (dec_lt i j) (dec_lt j i))
-    (λ past. let none : inputs_of graph job ≡ [] = none_past graph job [] (λ q. past q) in let n : length (inputs_of graph job) ≡ 0 = ap length none in absurd (omega arith))
+once_law graph a job = apart_by (inputs_of graph job) (λ i j l m e. dite (dec_lt job (length graph))
+    (λ within. apart i j l m e within (dec_lt i j) (dec_lt j i))
+    (λ past. let none : inputs_of graph job ≡ [] = none_past graph job [] (λ q. past q) in let n : length (inputs_of graph job) ≡ 0 = ap length none in absurd (omega arith)))
   where
-    apart : job < length graph → Dec (i < j) → Dec (j < i) → i ≡ j
-    apart within (yes s) t = let r = ascending_strict 0 (inputs_of graph job) job i j (a.lower job within) s m in absurd (omega arith)
-    apart within (no s) (yes t) = let r = ascending_strict 0 (inputs_of graph job) job j i (a.lower job within) t l in absurd (omega arith)
-    apart within (no s) (no t) = omega arith
+    apart : (i j : ℕ) → i < length (inputs_of graph job) → j < length (inputs_of graph job) → slice_index (inputs_of graph job) i ≡ slice_index (inputs_of graph job) j → job < length graph → Dec (i < j) → Dec (j < i) → i ≡ j
+    apart i j l m e within (yes s) t = let r = ascending_strict 0 (inputs_of graph job) job i j (a.lower job within) s m in absurd (omega arith)
+    apart i j l m e within (no s) (yes t) = let r = ascending_strict 0 (inputs_of graph job) job j i (a.lower job within) t l in absurd (omega arith)
+    apart i j l m e within (no s) (no t) = omega arith
 
 pub place_of : (xs : List ℕ) (x : ℕ) → has x xs ≡ true → (k : ℕ) × (k < length xs) × (slice_index xs k ≡ x)
 place_of [] x h = absurd (cc)
@@ -57,7 +65,7 @@ of_map f (x ∷ xs) y h = dite (ℕ_discrete y (f x))
 pub over_law : OverLaw
 over_law needed place cells graph count at listed waits = record {
   jobs = count;
-  once = λ i j l m e. sym (at i l) ∙ ap place e ∙ at j m;
+  once = apart_by cells (λ i j l m e. sym (at i l) ∙ ap place e ∙ at j m);
   inputs = λ job input l m. (
     (λ w.
         let r = of_map place (needed (slice_index cells job)) input ((waits job input l).0 w) in

@@ -1,12 +1,8 @@
 -- What the graph of a phase is: its jobs are cells (or pairs), and it waits as the cells need each
 -- other.
 use Rattle.std.specs.Prelude.{◌≡◌, ◌↔◌, ℕ, ◌<◌, ◌+◌, true, List, map, length, slice_index}
+use Rattle.plain_netlist.specs.Lists.{AreApart}
 use Rattle.job_graph.specs.Graph.{inputs_of, Waits, AreInputs, AreAscending, has}
-
--- no number stands in the list twice
-abbrev pub AreApart : List ℕ → Type 0
-AreApart xs =
-    (i j : ℕ) → i < length xs → j < length xs → slice_index xs i ≡ slice_index xs j → i ≡ j
 
 -- the jobs are these cells, each once, and the job of a cell waits exactly for those of the cells
 -- that this one needs

@@ -1,26 +1,13 @@
 //! The graph of jobs by which a cell comes after all cells below it.
 ghost use Rattle.std.specs.Prelude.{◌≡◌, ◌<◌, ◌^◌, ◌||◌, ℕ, false, get_or, length, IfOk};
-ghost use Rattle.deep_tables.specs.Positions.{AreApart, ArePositions};
+ghost use Rattle.deep_tables.specs.Positions.{ArePositions};
 ghost use Rattle.job_graph.specs.Graph.{AreAscending, has, lists};
 ghost use Rattle.net_phase.specs.Graph.{AreBelowJobs, AreInputsTo, AreMarks, is_at_or_in};
 
 use cell_graph::Design;
+use deep_tables::positions;
 use job_graph::Graph;
 use std::alloc::{AllocError, Global};
-
-// The job of each reached cell: its position in the order.
-fn jobs_of(alloc: Global, cells: u32, order: &[u32]) -> Result<Vec<u32>, AllocError>
-    requires apart { AreApart cells order.now }
-    requires few { length order.now < 2 ^ 32 }
-    ensures count { IfOk result (λ r. length r.items ≡ cells) }
-    ensures jobs { IfOk result (λ r. ArePositions order.now (length order.now) r.items) }
-{
-    let mut jobs = vec![in alloc; 0u32; cells as usize]?;
-    for (job, cell) in order.iter().enumerate() {
-        jobs[*cell as usize] = job as u32;
-    }
-    Ok(jobs)
-}
 
 // Marks a job and those that it waits for.
 fn mark(job: u32, inputs: &[u32], marks: &mut [bool])
@@ -83,7 +70,7 @@ pub fn below_graph(alloc: Global, design: &Design) -> Result<Graph, AllocError>
 {
     design.sound();
     let order = design.order();
-    let jobs = jobs_of(alloc, design.cells(), order)?;
+    let jobs = positions(alloc, design.cells(), order)?;
     let mut graph = Vec::new(alloc);
     for job in 0..order.len() {
         let marks = marks_below(alloc, design, &jobs, &graph, job as u32)?;

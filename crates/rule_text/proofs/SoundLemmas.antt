@@ -18,7 +18,9 @@ use Rattle.rule_text.specs.Rules.{Rules, no_rules, names_of, place_of, is_define
 use Rattle.geo_base.specs.Layers.{is_same_key}
 use Rattle.rule_text.specs.Filled.{IsFilled}
 use Rattle.rule_text.specs.Reading.{is_connected, first_loose}
-use Rattle.rule_text.specs.Sound.{Each, AreApart, IsLayer, AreOperands, AreJoined, AreMosLayers, IsFormed, IsSound}
+use Rattle.plain_netlist.specs.Lists.{AreApart}
+use Rattle.plain_netlist.proofs.Listing.{apart_at, at_apart}
+use Rattle.rule_text.specs.Sound.{Each, IsLayer, AreOperands, AreJoined, AreMosLayers, IsFormed, IsSound}
 use Rattle.rule_text.proofs.ListLemmas.{among_more}
 
 both_true : (a b : Bool) → (a && b) ≡ true → (a ≡ true) × (b ≡ true)
@@ -59,16 +61,16 @@ lacks p (y ∷ ys) zero x none e h =
 lacks p (y ∷ ys) (suc k) x none e h = lacks p ys k x (both_false (p y) (list_any p ys) none).1 e h
 
 pub apart_more : {A : Type 0} (p : A → Bool) (xs : List A) (x : A) → p x ≡ true → list_any p xs ≡ false → AreApart xs → AreApart (xs ++ x ∷ [])
-apart_more p xs x is none apart = λ j k y e f. elim (among_more xs x y j e) [
+apart_more p xs x is none apart = at_apart (xs ++ x ∷ []) (λ j k y e f. elim (among_more xs x y j e) [
   | inl h ↦ elim (among_more xs x y k f) [
-    | inl g ↦ apart j k y h g
+    | inl g ↦ apart_at y xs j k apart h g
     | inr (at, same) ↦ absurd (lacks p xs j y none h (ap p (sym same) ∙ is))
   ]
   | inr (at, same) ↦ elim (among_more xs x y k f) [
     | inl g ↦ absurd (lacks p xs k y none g (ap p (sym same) ∙ is))
     | inr (also, too) ↦ at ∙ sym also
   ]
-]
+])
 
 map_apart : {A B : Type 0} (p : B → Bool) (f : A → B) (xs : List A) (x : A) → p (f x) ≡ true → list_any p (map f xs) ≡ false → AreApart (map f xs) → AreApart (map f (xs ++ x ∷ []))
 map_apart {B = B} p f xs x is none apart =
@@ -295,7 +297,7 @@ none_each : {A : Type 0} (P : ℕ → A → Type 0) → Each P []
 none_each P = λ k x e. absurd cc
 
 none_apart : {A : Type 0} → AreApart {A = A} []
-none_apart = λ j k x e f. absurd cc
+none_apart = tt
 
 pub none_formed : IsFormed no_rules
 none_formed = record {

@@ -51,7 +51,8 @@ entry_or key ts other = unwrap_or (entry key ts) other
 -- SD, G and W are there
 unfoldable pub has_parts : List Token → Bool
 has_parts ts =
-    is_some (entry (codes "SD") ts) && is_some (entry (codes "G") ts) && is_some (entry (codes "W") ts)
+    is_some (entry (codes "SD") ts) && is_some (entry (codes "G") ts)
+    && is_some (entry (codes "W") ts)
 
 -- tS and tD name one layer
 unfoldable pub are_one_layer : Mos → List Token → Bool
@@ -71,7 +72,8 @@ mos_on class sd g w ts = record {
 
 abbrev pub mos_of : List ℕ → List Token → Mos
 mos_of class ts =
-    mos_on class (entry_or (codes "SD") ts []) (entry_or (codes "G") ts []) (entry_or (codes "W") ts []) ts
+    mos_on class (entry_or (codes "SD") ts []) (entry_or (codes "G") ts [])
+    (entry_or (codes "W") ts []) ts
 
 unfoldable pub are_mos_entries : List ℕ → List Token → Bool
 are_mos_entries class ts = are_entries ts && has_parts ts && are_one_layer (mos_of class ts) ts

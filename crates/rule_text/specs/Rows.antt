@@ -29,8 +29,9 @@ is_name w = is_small (slice_index w 0) && nat_le (length w) 64
 abbrev pub statement_words : List (List ℕ)
 statement_words =
     codes "connect" ∷ codes "connect_global" ∷ codes "extract_devices" ∷ codes "same_circuits"
-    ∷ codes "max_guesses" ∷ codes "deep" ∷ codes "netlist" ∷ codes "align" ∷ codes "compare" ∷ codes "schematic"
-    ∷ codes "input" ∷ codes "labels" ∷ codes "polygon_layer" ∷ codes "output" ∷ codes "mos4" ∷ []
+    ∷ codes "max_guesses" ∷ codes "deep" ∷ codes "netlist" ∷ codes "align" ∷ codes "compare"
+    ∷ codes "schematic" ∷ codes "input" ∷ codes "labels" ∷ codes "polygon_layer" ∷ codes "output"
+    ∷ codes "mos4" ∷ []
 
 unfoldable pub is_statement_word : List ℕ → Bool
 is_statement_word w = list_any (bytes_eq w) statement_words
@@ -139,7 +140,8 @@ global_row = Key (codes "connect_global") ∷ Sign OPEN ∷ Name ∷ Sign COMMA 
 -- extract_devices(mos4("CLASS"), {
 abbrev pub devices_row : List Slot
 devices_row =
-    Key (codes "extract_devices") ∷ Sign OPEN ∷ Key (codes "mos4") ∷ Sign OPEN ∷ Quoted ∷ Sign CLOSE ∷ Sign COMMA ∷ Sign BRACE ∷ []
+    Key (codes "extract_devices") ∷ Sign OPEN ∷ Key (codes "mos4") ∷ Sign OPEN ∷ Quoted
+    ∷ Sign CLOSE ∷ Sign COMMA ∷ Sign BRACE ∷ []
 
 -- same_circuits("A", "B")
 abbrev pub same_row : List Slot
@@ -228,7 +230,8 @@ wiring_of ts =
 unfoldable pub is_accepted : List Token → Bool
 is_accepted ts =
     fits [] ts || fits (Key (codes "deep") ∷ []) ts || fits (Key (codes "netlist") ∷ []) ts
-    || fits (Key (codes "align") ∷ []) ts || fits (Key (codes "compare") ∷ []) ts || fits schematic_row ts
+    || fits (Key (codes "align") ∷ []) ts || fits (Key (codes "compare") ∷ []) ts
+    || fits schematic_row ts
 
 -- what only the comparison reads, and what changes nothing
 unfoldable pub setting_of : List Token → Option Statement

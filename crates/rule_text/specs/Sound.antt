@@ -2,6 +2,7 @@
 -- there twice, and devices are connected.
 use Rattle.std.specs.Prelude.{◌≡◌, ℕ, ◌<◌, true, false, ◌&&◌, List, length, map, slice_get, Some}
 use Rattle.net_names.specs.Folding.{folded_bytes}
+use Rattle.plain_netlist.specs.Lists.{AreApart}
 use Rattle.rule_text.specs.declared.rules.LayerForm.{LayerForm}
 use Rattle.rule_text.specs.declared.rules.LayerForm.TheVariants as form
 use Rattle.rule_text.specs.declared.rules.LayerRule.{LayerRule}
@@ -13,10 +14,6 @@ use Rattle.rule_text.specs.Filled.{IsGuessLimit}
 -- P holds of each entry and its number
 abbrev pub Each : {A : Type 0} → (ℕ → A → Type 0) → List A → Type 0
 Each {A} P xs = (k : ℕ) (x : A) → slice_get xs k ≡ Some x → P k x
-
--- no entry is there twice
-abbrev pub AreApart : {A : Type 0} → List A → Type 0
-AreApart {A} xs = (j k : ℕ) (x : A) → slice_get xs j ≡ Some x → slice_get xs k ≡ Some x → j ≡ k
 
 -- the number of a name that is no labels name
 pub record IsLayer (names : List LayerRule) (k : ℕ) : Type 0 where

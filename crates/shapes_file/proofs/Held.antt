@@ -11,6 +11,7 @@ use Rattle.flat_layout.specs.Layout as flat
 use Rattle.flat_layout.specs.Layout.{IsOwn, IsReached, Some_of}
 use Rattle.flat_layout.specs.Plane.{IsIn}
 use Rattle.flat_layout.specs.Values.{IsLocalLayer}
+use Rattle.plain_netlist.proofs.Listing.{apart_at}
 use Rattle.cell_graph.specs.Linked.{Linked, plain}
 use Rattle.cell_graph.proofs.Bridge.{covers_some, some_covers, maps}
 use Rattle.rule_text.specs.declared.rules.LayerRule.{LayerRule}
@@ -89,7 +90,7 @@ line_up d r table ks j m key q at h = (
 one_line : (r : Rules) (j k : ℕ) (o x : Output) → IsSound r → slice_get r.outputs j ≡ Some x → slice_get r.outputs k ≡ Some o → x.key ≡ o.key → x ≡ o
 one_line r j k o x sound a b e =
     let first : slice_get (map (λ (y : Output). y.key) r.outputs) j ≡ Some o.key = maps (λ (y : Output). y.key) r.outputs j x a ∙ ap (λ (key : LayerKey). Some key) e in
-    let same : j ≡ k = sound.formed.keys j k o.key first (maps (λ (y : Output). y.key) r.outputs k o b) in
+    let same : j ≡ k = apart_at o.key (map (λ (y : Output). y.key) r.outputs) j k sound.formed.keys first (maps (λ (y : Output). y.key) r.outputs k o b) in
     let there : slice_get r.outputs k ≡ Some x = subst (λ (n : ℕ). slice_get r.outputs n ≡ Some x) same a in
     let f : Some x ≡ Some o = sym there ∙ b in cc
 

@@ -2,14 +2,14 @@ use Rattle.std.proofs.Common.{◌≡◌, ◌∙◌, ◌<◌, ℕ, List, [], map,
 use Rattle.std.proofs.Math.Seq.{take-length}
 use Rattle.std.proofs.lemmas.Option.{slice_get-get_or, slice_get_within}
 use Rattle.deep_tables.specs.Pins.{plain_pins}
-use Rattle.deep_tables.specs.Positions.{AreApart}
+use Rattle.deep_tables.specs.Positions.{AreApartBelow}
 use Rattle.circuit_phase.proofs.Naming.{get_same, map_next, named_at, place_in_names, places_by, places_few}
 use Rattle.circuit_phase.proofs.named.circuit_net_names.Goals as goal
 
-pub positions-requires-clause-apart : goal.positions-requires-clause-apart
-positions-requires-clause-apart c =
+pub positions-requires-clause-numbers : goal.positions-requires-clause-numbers
+positions-requires-clause-numbers c =
     let marks = c.args.drawn.now in
-    subst (λ (l : List ℕ). AreApart (length marks) l) (sym (c.deref.ensures.value ∙ c.in_ok-order.ensures)) (places_by (length marks) marks refl)
+    subst (λ (l : List ℕ). AreApartBelow (length marks) l) (sym (c.deref.ensures.value ∙ c.in_ok-order.ensures)) (places_by (length marks) marks refl)
 
 pub positions-requires-clause-few : goal.positions-requires-clause-few
 positions-requires-clause-few c =

@@ -2,10 +2,17 @@ use Rattle.std.proofs.Common.{◌≡◌, ◌+◌, ℕ, List, length, ap, sym, su
 use Rattle.std.proofs.lemmas.List.{map_push}
 use Rattle.std.specs.Global.{Vec}
 use Rattle.job_graph.specs.Graph.{lists}
+use Rattle.deep_tables.proofs.Placing.{order_numbers}
+use Rattle.deep_tables.specs.Positions.{AreApartBelow}
 use Rattle.net_phase.proofs.Graphing.{graph_below, inputs_by, inputs_more}
 use Rattle.net_phase.proofs.Results.{if_ok}
 use Rattle.net_phase.proofs.graph.below_graph.Goals as goal
 use Rattle.net_phase.specs.Graph.{AreBelowJobs, AreInputsTo, AreMarks}
+
+pub positions-requires-clause-numbers : goal.positions-requires-clause-numbers
+positions-requires-clause-numbers c =
+    let d = c.args.design.now in
+    subst (λ n. AreApartBelow n c.order-order.result.now) (sym c.cells.ensures) (subst (λ (l : List ℕ). AreApartBelow (length d.cells) l) (sym c.order-order.ensures) (order_numbers d c.sound.ensures.order))
 
 pub loop-job-preserved : goal.loop-job-preserved
 loop-job-preserved c =

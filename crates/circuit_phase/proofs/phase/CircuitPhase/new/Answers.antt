@@ -1,9 +1,15 @@
-use Rattle.std.proofs.Common.{◌∙◌, ℕ, List, length, subst}
+use Rattle.std.proofs.Common.{◌∙◌, ℕ, List, length, subst, sym}
 use Rattle.cell_graph.proofs.Ordered.{levels}
-use Rattle.deep_tables.specs.Positions.{ArePositions}
+use Rattle.deep_tables.proofs.Placing.{order_numbers}
+use Rattle.deep_tables.specs.Positions.{AreApartBelow, ArePositions}
 use Rattle.rule_text.specs.Seen.{rules_seen}
 use Rattle.circuit_phase.proofs.Righting.{sources}
 use Rattle.circuit_phase.proofs.phase.CircuitPhase.new.Goals as goal
+
+pub positions-requires-clause-numbers : goal.positions-requires-clause-numbers
+positions-requires-clause-numbers c =
+    let d = c.args.design.now in
+    subst (λ n. AreApartBelow n c.order.result.now) (sym c.cells.ensures) (subst (λ (l : List ℕ). AreApartBelow (length d.cells) l) (sym c.order.ensures) (order_numbers d c.sound.ensures.order))
 
 pub invariant_of-result : goal.invariant_of-result
 invariant_of-result c =
