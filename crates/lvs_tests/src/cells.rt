@@ -78,6 +78,27 @@ pub fn push_placed(
     push_record(out, 0x11, 0, &[])
 }
 
+/// SREF of the cell of a name at the origin, with these data of STRANS and of ANGLE; where one has
+/// none, without that record.
+pub fn push_turned(
+    alloc: Global,
+    out: &mut Vec<u8>,
+    name: &str,
+    strans: &[u8],
+    angle: &[u8],
+) -> Result<(), AllocError> {
+    push_record(out, 0x0A, 0, &[])?;
+    push_name(alloc, out, 0x12, name)?;
+    if !strans.is_empty() {
+        push_record(out, 0x1A, 0x01, strans)?;
+    }
+    if !angle.is_empty() {
+        push_record(out, 0x1C, 0x05, angle)?;
+    }
+    push_points(alloc, out, &[(0, 0)])?;
+    push_record(out, 0x11, 0, &[])
+}
+
 /// All that stands before the first cell.
 pub fn begin(alloc: Global) -> Result<Vec<u8>, AllocError> {
     HEAD.get(..60).unwrap_or(&[]).to_vec(alloc)

@@ -19,7 +19,24 @@ const COPY: &str = "a = input(1, 0)\na.output(10, 0)\n";
 
 const LESS: &str = "a = input(1, 0)\nb = input(2, 0)\nc = a - b\nc.output(10, 0)\n";
 
-const CASES: [Case; 5] = [
+const NAMES: &str = "a = input(1, 0)
+b = input(2, 0)
+c = a | b
+d = c - b
+e = c ^ d
+e.output(10, 0)
+";
+
+const EMPTY: &str = "a = input(1, 0)
+n = polygon_layer
+c = a - n
+d = a & n
+c.output(10, 0)
+d.output(11, 0)
+n.output(12, 0)
+";
+
+const CASES: [Case; 9] = [
     // Mirrored first, then turned, then stepped: columns along x, rows along y.
     Case {
         name: "mirrored array",
@@ -121,6 +138,97 @@ const CASES: [Case; 5] = [
         rules: COPY,
         line: "shapes cells 2 rectangles 0\n",
         wanted: &[Cell("K", &[]), Cell("TOP", &[Placed("K", 1, 1)])],
+    },
+    // K is cut where the top places it, and in no M: M makes up for it, once.
+    Case {
+        name: "cut on one of three paths",
+        layout: &[
+            Cell("K", &[Rect((1, 0, 0, 10, 10))]),
+            Cell("M", &[Placed("K", 0, 0)]),
+            Cell(
+                "TOP",
+                &[
+                    Placed("M", 0, 0),
+                    Placed("M", 100, 0),
+                    Placed("K", 200, 0),
+                    Rect((2, 205, 0, 215, 10)),
+                ],
+            ),
+        ],
+        rules: LESS,
+        line: "shapes cells 3 rectangles 2\n",
+        wanted: &[
+            Cell("K", &[Rect((10, 0, 0, 5, 10))]),
+            Cell("M", &[Placed("K", 0, 0), Rect((10, 5, 0, 10, 10))]),
+            Cell(
+                "TOP",
+                &[Placed("M", 0, 0), Placed("M", 100, 0), Placed("K", 200, 0)],
+            ),
+        ],
+    },
+    // Squares of 10 by 10, 6 apart. K keeps what neither neighbour lies over: its middle, which the
+    // quarter turn of the mirrored cell puts upright.
+    Case {
+        name: "array over itself",
+        layout: &[
+            Cell("K", &[Rect((1, 0, 0, 10, 10))]),
+            Cell("TOP", &[Turned("K", 2, 1, [(0, 0), (12, 0), (0, 20)])]),
+        ],
+        rules: LESS,
+        line: "shapes cells 2 rectangles 4\n",
+        wanted: &[
+            Cell("K", &[Rect((10, 0, 4, 10, 6))]),
+            Cell(
+                "TOP",
+                &[
+                    Turned("K", 2, 1, [(0, 0), (12, 0), (0, 20)]),
+                    Rect((10, 0, 0, 4, 10)),
+                    Rect((10, 6, 0, 10, 10)),
+                    Rect((10, 12, 0, 16, 10)),
+                ],
+            ),
+        ],
+    },
+    // e is b, and is disturbed by shapes of a.
+    Case {
+        name: "names of names",
+        layout: &[
+            Cell("K", &[Rect((1, 0, 0, 10, 10)), Rect((2, 0, 0, 4, 10))]),
+            Cell(
+                "TOP",
+                &[
+                    Placed("K", 0, 0),
+                    Rect((1, 2, 0, 6, 10)),
+                    Rect((2, 20, 0, 22, 10)),
+                ],
+            ),
+        ],
+        rules: NAMES,
+        line: "shapes cells 2 rectangles 3\n",
+        wanted: &[
+            Cell("K", &[Rect((10, 0, 0, 2, 10))]),
+            Cell(
+                "TOP",
+                &[
+                    Placed("K", 0, 0),
+                    Rect((10, 2, 0, 4, 10)),
+                    Rect((10, 20, 0, 22, 10)),
+                ],
+            ),
+        ],
+    },
+    Case {
+        name: "empty layer",
+        layout: &[
+            Cell("K", &[Rect((1, 0, 0, 10, 10))]),
+            Cell("TOP", &[Placed("K", 0, 0), Rect((1, 20, 0, 30, 10))]),
+        ],
+        rules: EMPTY,
+        line: "shapes cells 2 rectangles 2\n",
+        wanted: &[
+            Cell("K", &[Rect((10, 0, 0, 10, 10))]),
+            Cell("TOP", &[Placed("K", 0, 0), Rect((10, 20, 0, 30, 10))]),
+        ],
     },
 ];
 

@@ -13,3 +13,5 @@ mod quiet;
 mod runs;
 #[cfg(test)]
 mod streams;
+#[cfg(test)]
+mod turned;

@@ -141,6 +141,26 @@ fn slanted_edge(rt: HostRuntime) -> Result<(), Fail> {
     Ok(())
 }
 
+/// SREF of B, turned by 45 degrees, in place of both outlines.
+const TURNED: [u8; 44] = [
+    0x00, 0x04, 0x0A, 0x00, 0x00, 0x06, 0x12, 0x06, 0x42, 0x00, 0x00, 0x06, 0x1A, 0x01, 0x00, 0x00,
+    0x00, 0x0C, 0x1C, 0x05, 0x42, 0x2D, 0, 0, 0, 0, 0, 0, 0x00, 0x0C, 0x10, 0x03, 0, 0, 0, 0, 0, 0,
+    0, 0, 0x00, 0x04, 0x11, 0x00,
+];
+
+// The angle is refused before the cell that isn't there.
+#[test]
+fn slanted_reference(rt: HostRuntime) -> Result<(), Fail> {
+    let alloc = rt.alloc();
+    let layout = stream(alloc, &OVERLAP)?;
+    let mut turned = front(&layout, 94).to_vec(alloc)?;
+    turned.extend_from_slice(&TURNED)?;
+    turned.extend_from_slice(layout.get(222..).unwrap_or(&[]))?;
+    let line = "refused layout 10 record 9 offset 110\n";
+    refuses(&rt, alloc, &turned, RULES, &SHAPES, line)?;
+    Ok(())
+}
+
 // A record of a kind that the format doesn't have, before an outline whose edges are slanted.
 #[test]
 fn damaged_streams(rt: HostRuntime) -> Result<(), Fail> {
@@ -259,7 +279,8 @@ fn four_booleans(rt: HostRuntime) -> Result<(), Fail> {
     let alloc = rt.alloc();
     let layout = stream(alloc, &OVERLAP)?;
     let rules =
-        b"a = input(1, 0)\nb = input(2, 0)\nd = a - b\ne = a | b\nf = a ^ b\ne.output(11, 0)\nd.output(12, 0)\nf.output(13, 0)\n";
+        b"a = input(1, 0)\nb = input(2, 0)\nd = a - b\ne = a | b\nf = a ^ b
+e.output(11, 0)\nd.output(12, 0)\nf.output(13, 0)\n";
     let run = run_of(&rt, alloc, &layout, rules, &SHAPES, NONE)?;
     assert_eq!(rt; run.code, 0);
     assert_eq!(rt;

@@ -39,14 +39,8 @@ pub fn read_spice(alloc: Global, bytes: &[u8]) -> Result<Netlist, SpiceFault>
     ensures normal { IfOk result (λ n. IsNormalNetlist (plain_netlist n)) }
     ensures fault { IfErr result (SaysFirst read_limit bytes.now) }
 {
-    let all = match gather_cards(alloc, bytes) {
-        Ok(all) => all,
-        Err(e) => return Err(e),
-    };
-    let cards = match order_cards(alloc, all) {
-        Ok(cards) => cards,
-        Err(e) => return Err(e),
-    };
+    let all = gather_cards(alloc, bytes)?;
+    let cards = order_cards(alloc, all)?;
     order_laws();
     call_list_laws();
     let netlist = netlist(alloc, &cards)?;

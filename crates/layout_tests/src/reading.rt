@@ -1,0 +1,309 @@
+//! Layouts read in pieces.
+
+ghost use Rattle.std.specs.Prelude.{◌≤◌, ◌<◌, length};
+
+use crate::streams::Item::{Placed, Rect, Turned};
+use crate::streams::{
+    Cell, begin, begin_cell, end, end_cell, front, library, push_placed, with_byte,
+};
+use crate::told::told;
+use cell_graph::LinkFault;
+use gds_elements::GdsFault;
+use gds_layout::{Layout, LayoutFault, LayoutReader, read_layout};
+use geo_base::LayerKey;
+use net_names::Name;
+use std::alloc::{AllocError, Global};
+use std::test::Fail;
+
+/// The layers 1/0 and 2/0.
+const KEYS: [LayerKey; 2] = [
+    LayerKey {
+        layer: 1,
+        datatype: 0,
+    },
+    LayerKey {
+        layer: 2,
+        datatype: 0,
+    },
+];
+
+/// Two squares in one cell.
+const SQUARES: [Cell; 1] = [Cell("A", &[Rect(1, [0, 0, 10, 10]), Rect(2, [5, 5, 15, 15])])];
+
+/// A reference to a cell that isn't there.
+const MISSING: [Cell; 1] = [Cell("A", &[Placed("B", 0, 0)])];
+
+/// Each layout's cells, and what is read of them.
+const LAYOUTS: [(&[Cell], &str); 2] = [
+    (
+        &SQUARES,
+        "unit 1000 top 0
+name 65
+hull 0 0 15 15
+1/0 0 0 10 10
+2/0 5 5 15 15
+",
+    ),
+    // Each element's square is that of its origin, one to the right and two up.
+    (
+        &[
+            Cell("K", &[Rect(1, [2, 1, 3, 2])]),
+            Cell(
+                "T",
+                &[
+                    Turned("K", 3, 2, [(100, 200), (130, 200), (100, 240)]),
+                    Rect(2, [0, 0, 5, 5]),
+                ],
+            ),
+        ],
+        "unit 1000 top 1
+name 75
+hull 2 1 3 2
+1/0 2 1 3 2
+name 84
+hull 0 0 122 223
+2/0 0 0 5 5
+cell 0 M90 100 200, 3 columns by 10 0, 2 rows by 0 20
+",
+    ),
+];
+
+// A reader that was fed the bytes in pieces of this size, the last one shorter.
+fn fed(alloc: Global, bytes: &[u8], size: usize) -> Result<LayoutReader, LayoutFault>
+    requires { 0 < size }
+{
+    let mut reader = LayoutReader::new(alloc);
+    let mut rest = bytes;
+    while !rest.is_empty() {
+        let (piece, behind) = rest.split_at(usize::min(size, rest.len()));
+        reader.feed(alloc, piece)?;
+        rest = behind;
+    }
+    Ok(reader)
+}
+
+fn in_pieces(alloc: Global, bytes: &[u8], size: usize) -> Result<Layout, LayoutFault>
+    requires { 0 < size }
+{
+    fed(alloc, bytes, size)?.finish(alloc, None)
+}
+
+fn cut(alloc: Global, bytes: &[u8], at: usize) -> Result<Layout, LayoutFault>
+    requires { at ≤ length bytes.now }
+{
+    let (piece, behind) = bytes.split_at(at);
+    let mut reader = LayoutReader::new(alloc);
+    reader.feed(alloc, piece)?;
+    reader.feed(alloc, behind)?;
+    reader.finish(alloc, None)
+}
+
+#[test]
+fn cut_anywhere(rt: HostRuntime) -> Result<(), Fail> {
+    let alloc = rt.alloc();
+    for (cells, wanted) in LAYOUTS {
+        let stream = library(alloc, cells)?;
+        let whole = read_layout(alloc, &stream, None)?;
+        assert_eq!(rt; told(alloc, &whole, &KEYS)?.as_str(), wanted);
+        for at in 0..=stream.len() {
+            let layout = cut(alloc, &stream, at)?;
+            assert_eq!(rt;
+                told(alloc, &layout, &KEYS)?.as_str(),
+                wanted,
+                "cut at {at}"
+            );
+        }
+    }
+    Ok(())
+}
+
+#[test]
+fn pieces_of_one_size(rt: HostRuntime) -> Result<(), Fail> {
+    let alloc = rt.alloc();
+    for (cells, wanted) in LAYOUTS {
+        let stream = library(alloc, cells)?;
+        for size in [1, 2, 3, 1000] {
+            let layout = in_pieces(alloc, &stream, size)?;
+            assert_eq!(rt; told(alloc, &layout, &KEYS)?.as_str(), wanted, "{size}");
+        }
+    }
+    Ok(())
+}
+
+/// The number of a fault of the stream, its record and its offset.
+type Place = (u8, u64, u64);
+
+fn place_of(fault: &LayoutFault) -> Option<Place> {
+    match fault {
+        LayoutFault::Gds(
+            GdsFault::Bad {
+                number,
+                index,
+                offset,
+            },
+        ) => Some((*number, *index, *offset)),
+        _ => None,
+    }
+}
+
+// The two squares, the second with a slanted edge.
+fn slanted(alloc: Global) -> Result<Vec<u8>, AllocError> {
+    let straight = library(alloc, &SQUARES)?;
+    with_byte(alloc, &straight, 201, 16)
+}
+
+// Too few bytes, a slanted edge, and a missing cell in a stream without an end: the stream's fault
+// comes first.
+#[test]
+fn faults_in_pieces(rt: HostRuntime) -> Result<(), Fail> {
+    let alloc = rt.alloc();
+    let squares = library(alloc, &SQUARES)?;
+    let slanted = slanted(alloc)?;
+    let missing = library(alloc, &MISSING)?;
+    assert_eq!(rt; squares.len(), 230);
+    assert_eq!(rt; missing.len(), 128);
+    for size in [1, 2, 3, 1000] {
+        for (bytes, place) in [
+            (front(&squares, 0), (1, 0, 0)),
+            (front(&squares, 120), (1, 9, 110)),
+            (front(&squares, 226), (1, 17, 226)),
+            (front(&slanted, 230), (6, 14, 174)),
+            (front(&missing, 124), (1, 11, 124)),
+        ] {
+            let fault = in_pieces(alloc, bytes, size).err();
+            assert_eq!(rt; fault.as_ref().and_then(place_of), Some(place), "{size}");
+        }
+    }
+    Ok(())
+}
+
+// A fault is told as soon as its record is whole, with the 218th byte, and not for too few bytes.
+#[test]
+fn told_with_its_record(rt: HostRuntime) -> Result<(), Fail> {
+    let alloc = rt.alloc();
+    let slanted = slanted(alloc)?;
+    for at in 0..=230usize {
+        let mut reader = LayoutReader::new(alloc);
+        let answer = reader.feed(alloc, front(&slanted, at));
+        assert_eq!(rt; answer.is_err(), at >= 218, "{at}");
+    }
+    Ok(())
+}
+
+// More bytes, and the end, answer the same fault again.
+#[test]
+fn kept_fault(rt: HostRuntime) -> Result<(), Fail> {
+    let alloc = rt.alloc();
+    let slanted = slanted(alloc)?;
+    assert_eq!(rt; slanted.len(), 230);
+    let mut reader = LayoutReader::new(alloc);
+    let fault = reader.feed(alloc, &slanted).err();
+    assert_eq!(rt; fault.as_ref().and_then(place_of), Some((6, 14, 174)));
+    let fault = reader.feed(alloc, &[0, 4]).err();
+    assert_eq!(rt; fault.as_ref().and_then(place_of), Some((6, 14, 174)));
+    let fault = reader.finish(alloc, None).err();
+    assert_eq!(rt; fault.as_ref().and_then(place_of), Some((6, 14, 174)));
+    Ok(())
+}
+
+// A fault of the links: its number and its first cell's name.
+fn link_of(fault: &LayoutFault) -> (u8, &[u8]) {
+    match fault {
+        LayoutFault::Link(LinkFault::DuplicateCell(name)) => (20, name.bytes()),
+        LayoutFault::Link(LinkFault::NoSuchCell(name)) => (21, name.bytes()),
+        LayoutFault::Link(LinkFault::Cycle(name)) => (22, name.bytes()),
+        LayoutFault::Link(LinkFault::TopUnclear(name, _)) => (23, name.bytes()),
+        LayoutFault::Link(LinkFault::NoTop) => (24, &[]),
+        LayoutFault::Link(LinkFault::CoordinateRange(name)) => (25, name.bytes()),
+        LayoutFault::Link(LinkFault::TooManyCells) => (26, &[]),
+        LayoutFault::Link(LinkFault::TooDeep(name)) => (27, name.bytes()),
+        _ => (0, &[]),
+    }
+}
+
+/// Cells that can't be linked, the name of the top or nothing, and their fault.
+const UNLINKED: [(&[Cell], &str, u8, &str); 8] = [
+    (&[], "", 24, ""),
+    (&[Cell("A", &[])], "B", 24, ""),
+    (&[Cell("A", &[]), Cell("A", &[])], "", 20, "A"),
+    (&MISSING, "", 21, "B"),
+    (
+        &[
+            Cell("A", &[Placed("B", 0, 0)]),
+            Cell("B", &[Placed("A", 0, 0)]),
+        ],
+        "",
+        22,
+        "A",
+    ),
+    (&[Cell("A", &[]), Cell("B", &[])], "", 23, "A"),
+    (&[Cell("A", &[Rect(1, [0, 0, 1073741825, 1])])], "", 25, "A"),
+    // A cell that stands there twice is told before a missing one.
+    (
+        &[
+            Cell("A", &[Placed("B", 0, 0)]),
+            Cell("C", &[]),
+            Cell("C", &[]),
+        ],
+        "",
+        20,
+        "C",
+    ),
+];
+
+// A fault of the links comes from the end alone, whatever the pieces.
+#[test]
+fn links_at_the_end(rt: HostRuntime) -> Result<(), Fail> {
+    let alloc = rt.alloc();
+    for (cells, top, number, name) in UNLINKED {
+        let stream = library(alloc, cells)?;
+        let top = Name::from_bytes(alloc, top.as_bytes())?;
+        for size in [1, 1000] {
+            let reader = fed(alloc, &stream, size)?;
+            let fault = reader.finish(alloc, top.as_ref()).err();
+            let wanted = (number, name.as_bytes());
+            assert_eq!(rt;
+                fault.as_ref().map(link_of),
+                Some(wanted),
+                "{number} {size}"
+            );
+        }
+    }
+    Ok(())
+}
+
+// Cells by their numbers, and a cell that places each of them once.
+fn placed_once(alloc: Global, cells: u32) -> Result<Vec<u8>, AllocError> {
+    let mut out = begin(alloc)?;
+    for number in 0..cells {
+        begin_cell(alloc, &mut out, format!(in alloc; "C{number}")?.as_str())?;
+        end_cell(&mut out)?;
+    }
+    begin_cell(alloc, &mut out, "TOP")?;
+    for number in 0..cells {
+        push_placed(
+            alloc,
+            &mut out,
+            format!(in alloc; "C{number}")?.as_str(),
+            0,
+            0,
+        )?;
+    }
+    end_cell(&mut out)?;
+    end(&mut out)?;
+    Ok(out)
+}
+
+// As many cells as a layout may have, and one more.
+#[test]
+fn most_cells(rt: HostRuntime) -> Result<(), Fail> {
+    let alloc = rt.alloc();
+    let stream = placed_once(alloc, 16383)?;
+    let layout = read_layout(alloc, &stream, None)?;
+    assert_eq!(rt; layout.design.cells(), 16384);
+    assert_eq!(rt; layout.design.top(), 16383);
+    let stream = placed_once(alloc, 16384)?;
+    let fault = read_layout(alloc, &stream, None).err();
+    assert_eq!(rt; fault.as_ref().map(link_of), Some((26, [].as_slice())));
+    Ok(())
+}
