@@ -47,7 +47,8 @@ fn commands(rt: HostRuntime) -> Result<(), Fail> {
     let wanted = stated(alloc, "extract --layout l --rules r --shapes s --netlist n")?;
     assert_eq!(rt;
         wanted.as_str(),
-        "Extract { layout: \"l\", rules: \"r\", shapes: \"s\", netlist: \"n\", top: None, workers: 1 } None"
+        "Extract { layout: \"l\", rules: \"r\", shapes: \"s\", netlist: \"n\", top: None, \
+        workers: 1 } None"
     );
     for line in [
         "extract --netlist=n --workers 1 --shapes s --rules=r --layout l",

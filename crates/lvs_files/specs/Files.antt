@@ -37,8 +37,8 @@ IsWritten (f ∷ fs) old new path = ((path ≡ f.path) × IsFile f.text (new.fil
 pub record AreWritten (old new : Store) (files : List File) : Type 0 where
   pub each : (path : List ℕ) → IsWritten files old new path
 
--- files up to one are whole, that one is as it was or holds a prefix of its text, and all others are
--- as before
+-- files up to one are whole, that one is as it was or holds a prefix of its text, and all others
+-- are as before
 pub record ArePartWritten (old new : Store) (files : List File) : Type 0 where
   pub whole : List File
   pub broken : File

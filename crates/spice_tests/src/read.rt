@@ -8,18 +8,22 @@ const TEXTS: [(&str, &str); 14] = [
     // The first line isn't a title; comments and blank lines stand between a card and its
     // continuation; a CR belongs to the line's end; nothing is read behind `.END`.
     (
-        "* title\r\nM1 D g s\r\n\r\n* more\r\n+ b nch w = 0.5u\r\n+ L= 180n m=1 as=3\r\n.END\r\nfoo\r\n",
+        "* title\r\nM1 D g s\r\n\r\n* more\r\n+ b nch w = 0.5u\r\n+ L= 180n m=1 as=3\r\n.END\r\n\
+        foo\r\n",
         "* lvs netlist\n.SUBCKT .TOP\nM1 D G S B NCH L=0.18U W=0.5U\n.ENDS .TOP\n.END\n",
     ),
     // A global name that a card uses is a further pin, and the caller's call has it too.
     (
         ".global vss\n.subckt a x\nm1 x x vss vss n l=1u w=1u\n.ends\n.subckt b x\nx1 x a\n.ends\n",
-        "* lvs netlist\n.SUBCKT A X VSS\nM1 X X VSS VSS N L=1U W=1U\n.ENDS A\n.SUBCKT B X VSS\nX1 X VSS A\n.ENDS B\n.END\n",
+        "* lvs netlist\n.SUBCKT A X VSS\nM1 X X VSS VSS N L=1U W=1U\n.ENDS A\n.SUBCKT B X VSS\n\
+        X1 X VSS A\n.ENDS B\n.END\n",
     ),
     // A circuit that lists the name as a pin keeps it from its callers.
     (
-        ".global vss\n.subckt a x vss\nm1 x x vss vss n l=1u w=1u\n.ends\n.subckt b x y\nx1 x y a\n.ends\n",
-        "* lvs netlist\n.SUBCKT A X VSS\nM1 X X VSS VSS N L=1U W=1U\n.ENDS A\n.SUBCKT B X Y\nX1 X Y A\n.ENDS B\n.END\n",
+        ".global vss\n.subckt a x vss\nm1 x x vss vss n l=1u w=1u\n.ends\n.subckt b x y\n\
+        x1 x y a\n.ends\n",
+        "* lvs netlist\n.SUBCKT A X VSS\nM1 X X VSS VSS N L=1U W=1U\n.ENDS A\n.SUBCKT B X Y\n\
+        X1 X Y A\n.ENDS B\n.END\n",
     ),
     // Needed names stand in the order of the `.GLOBAL` cards, each once, wherever these stand.
     (
@@ -28,13 +32,16 @@ const TEXTS: [(&str, &str); 14] = [
     ),
     // Through a circuit without cards of its own that use the name.
     (
-        ".global g\n.subckt c\nx1 b\n.ends\n.subckt b\nx1 a\n.ends\n.subckt a\nm1 g g g g n l=1u w=1u\n.ends\n",
-        "* lvs netlist\n.SUBCKT C G\nX1 G B\n.ENDS C\n.SUBCKT B G\nX1 G A\n.ENDS B\n.SUBCKT A G\nM1 G G G G N L=1U W=1U\n.ENDS A\n.END\n",
+        ".global g\n.subckt c\nx1 b\n.ends\n.subckt b\nx1 a\n.ends\n.subckt a\n\
+        m1 g g g g n l=1u w=1u\n.ends\n",
+        "* lvs netlist\n.SUBCKT C G\nX1 G B\n.ENDS C\n.SUBCKT B G\nX1 G A\n.ENDS B\n.SUBCKT A G\n\
+        M1 G G G G N L=1U W=1U\n.ENDS A\n.END\n",
     ),
     // Escapes are read before letters are folded; an escaped `=` is part of its name.
     (
         ".subckt \\x41b\\= a\\\\ \\q\nx9 a\\x5c Q c\n.ends foo\n.subckt c p q\n.ends",
-        "* lvs netlist\n.SUBCKT AB\\= A\\\\ Q\nX1 A\\\\ Q C\n.ENDS AB\\=\n.SUBCKT C P Q\n.ENDS C\n.END\n",
+        "* lvs netlist\n.SUBCKT AB\\= A\\\\ Q\nX1 A\\\\ Q C\n.ENDS AB\\=\n.SUBCKT C P Q\n.ENDS C\n\
+        .END\n",
     ),
     // Bytes that aren't printable.
     (
@@ -43,7 +50,8 @@ const TEXTS: [(&str, &str); 14] = [
     ),
     // Passed-over cards and parameters; the node 0 is a name like others.
     (
-        ".model n nmos level=1\n.option scale=1\n.options a b\nm 0 1 2 3 n l=1e-6 w=2.5um ad=x as=y ps=1 pd=1 nrd=1 nrs=1 nf=2 m=1\n",
+        ".model n nmos level=1\n.option scale=1\n.options a b\n\
+        m 0 1 2 3 n l=1e-6 w=2.5um ad=x as=y ps=1 pd=1 nrd=1 nrs=1 nf=2 m=1\n",
         "* lvs netlist\n.SUBCKT .TOP\nM1 0 1 2 3 N L=1U W=2.5U\n.ENDS .TOP\n.END\n",
     ),
     // The circuit of the cards outside is the last.
@@ -59,7 +67,8 @@ const TEXTS: [(&str, &str); 14] = [
     // Values: suffixes, letters behind them, an exponent, the least and the greatest.
     (
         "m1 a b c d n l=1f w=1k\nm2 a b c d n l=.000001megm w=1mm\nm3 a b c d n l=.5E-3 w=2.\n",
-        "* lvs netlist\n.SUBCKT .TOP\nM1 A B C D N L=0.000000001U W=1000000000U\nM2 A B C D N L=1000000U W=1000U\nM3 A B C D N L=500U W=2000000U\n.ENDS .TOP\n.END\n",
+        "* lvs netlist\n.SUBCKT .TOP\nM1 A B C D N L=0.000000001U W=1000000000U\n\
+        M2 A B C D N L=1000000U W=1000U\nM3 A B C D N L=500U W=2000000U\n.ENDS .TOP\n.END\n",
     ),
     // A tab separates; a `+` may stand alone; a last line without LF.
     (
