@@ -296,21 +296,18 @@ formed_more r line s e filled h = let t = passes r line s e in by_tests r s t.0 
 none_each : {A : Type 0} (P : ℕ → A → Type 0) → Each P []
 none_each P = λ k x e. absurd cc
 
-none_apart : {A : Type 0} → AreApart {A = A} []
-none_apart = tt
-
 pub none_formed : IsFormed no_rules
 none_formed = record {
-  names = none_apart;
+  names = tt;
   operands = none_each _;
-  keys = none_apart;
+  keys = tt;
   outputs = none_each _;
   connects = none_each _;
   globals = none_each _;
-  classes = none_apart;
+  classes = tt;
   devices = none_each _;
-  layouts = none_apart;
-  schematics = none_apart;
+  layouts = tt;
+  schematics = tt;
   guesses = (omega arith, omega arith);
 }
 
