@@ -48,7 +48,7 @@ use Rattle.rule_text.specs.Seen.{rules_seen}
 use Rattle.circuit_phase.specs.Placed.{AreNetsOver, IsNumberOf, tables_with}
 use Rattle.circuit_phase.proofs.Completing.{completed, drawn_over, gate_below}
 use Rattle.circuit_phase.proofs.Gating.{gates_read}
-use Rattle.circuit_phase.proofs.Grounding.{terminals}
+use Rattle.net_marks.proofs.Grounding.{terminals}
 use Rattle.circuit_phase.proofs.Numbers.{within}
 
 -- all that circuits are made from

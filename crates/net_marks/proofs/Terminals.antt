@@ -7,7 +7,7 @@ use Rattle.std.proofs.Math.Seq.{take-length}
 use Rattle.deep_tables.specs.Gates.{plain_gate, plain_state}
 use Rattle.deep_tables.specs.declared.gates.Gate.{Gate}
 use Rattle.flat_layout.specs.GateTables.{GateEntry, GateRow, Good}
-use Rattle.circuit_phase.specs.Marks.{has_terminal, is_terminal}
+use Rattle.net_marks.specs.Marks.{has_terminal, is_terminal}
 
 clash : false ≡ true → ⊥
 clash e = let z : ⊥ = cc in z

@@ -2,9 +2,9 @@ use Rattle.std.proofs.Common.{◌∙◌, ap, arith}
 use Rattle.deep_tables.specs.Gates.{plain_state}
 use Rattle.deep_tables.specs.declared.gates.GateState.{GateState}
 use Rattle.flat_layout.specs.GateTables.{GateRow}
-use Rattle.circuit_phase.specs.Marks.{is_terminal}
-use Rattle.circuit_phase.proofs.Terminals.{bulk_in, drain_in, gate_in, source_in}
-use Rattle.circuit_phase.proofs.marks.mark_gate.Goals as goal
+use Rattle.net_marks.specs.Marks.{is_terminal}
+use Rattle.net_marks.proofs.Terminals.{bulk_in, drain_in, gate_in, source_in}
+use Rattle.net_marks.proofs.marks.mark_gate.Goals as goal
 
 pub mark-requires : goal.mark-requires
 mark-requires c =

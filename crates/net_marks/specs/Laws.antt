@@ -1,4 +1,4 @@
--- What right tables give the phase of circuits.
+-- What right tables give of terminals.
 use Rattle.std.specs.Prelude.{◌<◌, ℕ, List}
 use Rattle.flat_layout.specs.Gates.{Rule}
 use Rattle.flat_layout.specs.GateTables.{AreGates, GateEntry}

@@ -3,7 +3,7 @@ use Rattle.std.proofs.Common.{◌≡◌, inl, inr, ℕ, zero, suc, ◌<◌, List
 use Rattle.std.proofs.lemmas.Option.{same_Some}
 use Rattle.flat_layout.specs.GateTables.{Bad, GateEntry, GateRow, Good, GoodGate, IsGateRow, IsVerdict, Verdict, good_gates, terminal_net, with_good}
 use Rattle.plain_netlist.specs.Lists.{IsListed}
-use Rattle.circuit_phase.specs.Laws.{TerminalLaw}
+use Rattle.net_marks.specs.Laws.{TerminalLaw}
 
 pub record IsGoodEntry (l : List GateEntry) (row : GateRow) : Type 0 where
   pub entry : GateEntry

@@ -1,9 +1,9 @@
 use Rattle.std.proofs.Common.{◌∙◌, sym, ap, arith}
 use Rattle.deep_tables.specs.Gates.{plain_state}
 use Rattle.deep_tables.specs.declared.gates.Gate.{Gate}
-use Rattle.circuit_phase.specs.Marks.{is_terminal}
-use Rattle.circuit_phase.proofs.Terminals.{terminal_of}
-use Rattle.circuit_phase.proofs.marks.mark_gates.Goals as goal
+use Rattle.net_marks.specs.Marks.{is_terminal}
+use Rattle.net_marks.proofs.Terminals.{terminal_of}
+use Rattle.net_marks.proofs.marks.mark_gates.Goals as goal
 
 pub mark_gate-requires : goal.mark_gate-requires
 mark_gate-requires c = λ x h.
