@@ -1,5 +1,6 @@
 //! Marks at nets of a cell.
-ghost use Rattle.std.specs.Prelude.{◌≡◌, ◌<◌, ◌==◌, ◌&&◌, ◌||◌, ℕ, true, false, length, map, get_or};
+ghost use Rattle.std.specs.Prelude.{◌≡◌, ◌<◌, ◌==◌, ◌&&◌, ◌||◌, ℕ, true, false};
+ghost use Rattle.std.specs.Prelude.{length, map, get_or};
 ghost use Rattle.deep_tables.specs.Gates.{plain_gate, plain_state};
 ghost use Rattle.net_marks.specs.Marks.{has_terminal, is_terminal};
 
