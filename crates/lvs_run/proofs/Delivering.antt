@@ -1,71 +1,106 @@
 -- What the end of a run leaves, seen from before the inputs were read.
-use Rattle.std.proofs.Common.{◌≡◌, ◌⊎◌, inl, inr, ℕ, List, [], Option, Some, refl, sym, ap, subst, ◌∙◌, string_bytes}
-use Rattle.std.proofs.lemmas.List.{append-nil}
-use Rattle.lvs_outside.specs.Store.{Store, Told, Untold, NoFile, Holds, SameFiles, appended}
+use Rattle.std.proofs.Common.{◌≡◌, inl, inr, ℕ, ◌+◌, ◌<◌, List, [], ◌∷◌, ◌++◌, Option, refl, sym, ap, subst, ◌∙◌}
+use Rattle.lvs_outside.specs.Store.{Store, SameFiles, appended}
+use Rattle.lvs_files.specs.Files.{File, IsWritten, AreWritten, ArePartWritten}
 use Rattle.lvs_outside.specs.Summary.{SinkState}
-use Rattle.lvs_outside.specs.Loops.{HoldsNow, ForPrefix}
 use Rattle.lvs_run.specs.declared.status.Refusal.{Refusal}
 use Rattle.lvs_run.specs.declared.status.Refusal.TheVariants.{Words, SamePath, Absent, TooLong, Rules, Layout}
-use Rattle.lvs_run.specs.declared.run.Output.{Output}
-use Rattle.lvs_run.specs.Words.{Paths}
-use Rattle.lvs_run.specs.Answers.{Answer, Outside, done_of, nothing, refused}
+use Rattle.lvs_run.specs.declared.output.Output.{Output}
+use Rattle.lvs_run.specs.declared.output.Verdict.{Verdict}
+use Rattle.lvs_run.specs.declared.output.Verdict.TheVariants as verdict
+use Rattle.lvs_run.specs.Words.{Paths, file_at}
+use Rattle.lvs_run.specs.Answers.{Done, Answer, Outside, NoMemory, IsVerdict, nothing, refused, verdict_of}
 use Rattle.lvs_run.specs.Lines.{line_of}
-use Rattle.lvs_run.specs.Runs.{WritesPart}
+use Rattle.lvs_run.specs.Runs.{WritesAll, HasCauseIn, ShowsFaults, depot_faults, sink_faults}
 use Rattle.lvs_run.specs.Inputs.{Quiet, Stops, IsReady, ComesOf, stopped}
 use Rattle.lvs_run.specs.Outcomes.{IsOutcome}
 use Rattle.lvs_run.specs.declared.input.Stop.{Stop}
 use Rattle.lvs_run.specs.declared.input.Stop.TheVariants as stop
 use Rattle.lvs_run.specs.Ends.{Took, TookPart, Delivered, Refused, ComesOut, FailsAt, AtInput, AtRefusal, AtFile, AtLine}
 
-appended-nil : (t : Told) → t ≡ appended t []
-appended-nil Untold = refl
-appended-nil NoFile = refl
-appended-nil (Holds bytes) = ap Holds (sym (append-nil bytes))
+written_at : (files : List File) (old mid new : Store) (path : List ℕ) → mid.file path ≡ old.file path → IsWritten files mid new path → IsWritten files old new path
+written_at [] old mid new path same h = h ∙ same
+written_at (f ∷ fs) old mid new path same (inl h) = inl h
+written_at (f ∷ fs) old mid new path same (inr h) = inr (h.0, written_at fs old mid new path same h.1)
 
--- one file changed since the middle, and none before it
-pub holds_since : (old mid new : Store) (path bytes : List ℕ) → SameFiles old mid → HoldsNow mid new path bytes → HoldsNow old new path bytes
-holds_since old mid new path bytes same h = record { each = λ p. elim (h.each p) [ inl e ↦ inl (e.0, e.1) | inr e ↦ inr (e.0, e.1 ∙ same p) ] }
+-- files were written since the middle, and none before it
+pub written_since : (old mid new : Store) (files : List File) → SameFiles old mid → AreWritten mid new files → AreWritten old new files
+written_since old mid new files same h = record { each = λ p. written_at files old mid new p (same p) (h.each p) }
 
-part_since : (old mid new : Store) (path text : List ℕ) → SameFiles old mid → ForPrefix text (HoldsNow mid new path) → ForPrefix text (HoldsNow old new path)
-part_since old mid new path text same h = record { front = h.front; behind = h.behind; whole = h.whole; holds = holds_since old mid new path h.front same h.holds }
-
-whole_as_part : (old new : Store) (path text : List ℕ) → HoldsNow old new path text → ForPrefix text (HoldsNow old new path)
-whole_as_part old new path text h = record { front = text; behind = []; whole = append-nil text; holds = h }
-
--- the line or the file that a fault stopped
-part_left : (p : Paths) (old mid new : Store) (path text : List ℕ) → path ≡ p.shapes → SameFiles old mid
-    → SameFiles mid new ⊎ ForPrefix text (HoldsNow mid new path) → WritesPart (Some p) old new text
-part_left p old mid new path text e same (inl h) = inl (λ q. h q ∙ same q)
-part_left p old mid new path text e same (inr h) = inr (subst (λ (q : List ℕ). ForPrefix text (HoldsNow old new q)) e (part_since old mid new path text same h))
+part_since : (old mid new : Store) (files : List File) → SameFiles old mid → ArePartWritten mid new files → ArePartWritten old new files
+part_since old mid new files same h = record {
+  whole = h.whole;
+  broken = h.broken;
+  later = h.later;
+  order = h.order;
+  written = elim h.written [
+    | inl all ↦ inl (written_since old mid new h.whole same all)
+    | inr part ↦ inr (record {
+      front = part.front;
+      behind = part.behind;
+      whole = part.whole;
+      holds = written_since old mid new (h.whole ++ file_at h.broken.path part.front ∷ []) same part.holds;
+    })
+  ];
+}
 
 went_outside : (said : Option Paths) (old new : Store) (before after : SinkState) → FailsAt said old new before after → ComesOut said old new before after Outside
 went_outside said old new before after fails = record { done = nothing; comes = tt; leaves = tt; says = tt; fails = fails }
 
-delivered_to : (p : Paths) (old mid new : Store) (before after : SinkState) (o : Output) (a : Answer)
-    → Quiet old mid → string_bytes o.path ≡ p.shapes → IsReady (Some p) old mid o → Delivered o mid new before after a → ComesOut (Some p) old new before after a
-delivered_to p old mid new before after o a quiet path ready (inl h) =
-    let file = holds_since old mid new (string_bytes o.path) o.shapes.text.items quiet.starts.files h.1.file in
-    subst (ComesOut (Some p) old new before after) (sym h.0)
-    (record {
-      done = done_of o.shapes;
-      comes = ready.comes;
-      leaves = (subst (λ (q : List ℕ). HoldsNow old new q o.shapes.text.items) path file, h.1.left_open ∙ quiet.starts.left_open);
-      says = h.2.told ∙ ap (appended before.told) ready.line;
-      fails = tt;
-    })
-delivered_to p old mid new before after o a quiet path ready (inr (inl h)) =
-    let file = holds_since old mid new (string_bytes o.path) o.shapes.text.items quiet.starts.files h.1.file in
-    subst (ComesOut (Some p) old new before after) (sym h.0)
-    (went_outside (Some p) old new before after (AtLine (done_of o.shapes) ready.comes (subst (λ (q : List ℕ). HoldsNow old new q o.shapes.text.items) path file) (subst (TookPart before after) ready.line h.2)))
-delivered_to p old mid new before after o a quiet path ready (inr (inr h)) =
-    subst (ComesOut (Some p) old new before after) (sym h.0)
-    (went_outside (Some p) old new before after (AtFile (done_of o.shapes) ready.comes (part_left p old mid new (string_bytes o.path) o.shapes.text.items path quiet.starts.files h.1.file) h.2))
+-- the outcome of a run that wrote its files
+verdict_out : (stated : Option Paths) (old new : Store) (before after : SinkState) (v : Verdict) (done : Done) → IsOutcome stated old.file (verdict_of v) done → WritesAll old new done.files
+    → after.told ≡ appended before.told (line_of (verdict_of v) done) → ComesOut stated old new before after (verdict_of v)
+verdict_out stated old new before after verdict.Good done comes wrote told = record { done = done; comes = comes; leaves = wrote; says = told; fails = tt }
+verdict_out stated old new before after verdict.Bad done comes wrote told = record { done = done; comes = comes; leaves = wrote; says = told; fails = tt }
+verdict_out stated old new before after verdict.Undecided done comes wrote told = record { done = done; comes = comes; leaves = wrote; says = told; fails = tt }
+
+is_verdict : (v : Verdict) → IsVerdict (verdict_of v)
+is_verdict verdict.Good = tt
+is_verdict verdict.Bad = tt
+is_verdict verdict.Undecided = tt
 
 pub delivered : (stated : Option Paths) (old mid new : Store) (before after : SinkState) (o : Output) (a : Answer)
     → Quiet old mid → IsReady stated old mid o → Delivered o mid new before after a → ComesOut stated old new before after a
-delivered stated old mid new before after o a quiet ready h =
-    subst (λ (s : Option Paths). ComesOut s old new before after a) (sym ready.stated)
-    (delivered_to ready.paths old mid new before after o a quiet ready.path (subst (λ (s : Option Paths). IsReady s old mid o) ready.stated ready) h)
+delivered stated old mid new before after o a quiet ready (inl h) =
+    let files = written_since old mid new ready.done.files quiet.starts.files (subst (AreWritten mid new) ready.files h.1.written) in
+    subst (ComesOut stated old new before after) (sym h.0)
+    (verdict_out stated old new before after o.verdict ready.done ready.comes (record { written = files; left_open = h.1.left_open ∙ quiet.starts.left_open })
+    (h.2.told ∙ ap (appended before.told) ready.line))
+delivered stated old mid new before after o a quiet ready (inr (inl h)) =
+    let files = written_since old mid new ready.done.files quiet.starts.files (subst (AreWritten mid new) ready.files h.1.written) in
+    subst (ComesOut stated old new before after) (sym h.0)
+    (went_outside stated old new before after (AtLine (verdict_of o.verdict) ready.done (is_verdict o.verdict) ready.comes files (subst (TookPart before after) ready.line h.2)))
+delivered stated old mid new before after o a quiet ready (inr (inr h)) =
+    let files = part_since old mid new ready.done.files quiet.starts.files (subst (ArePartWritten mid new) ready.files h.1.written) in
+    subst (ComesOut stated old new before after) (sym h.0)
+    (went_outside stated old new before after (AtFile (verdict_of o.verdict) ready.done (is_verdict o.verdict) ready.comes files h.2))
+
+-- the counts of faults after files were written
+stood : (v : Verdict) (old new : Store) (before after : SinkState) → depot_faults new ≡ depot_faults old → sink_faults after ≡ sink_faults before → ShowsFaults (verdict_of v) old new before after
+stood verdict.Good old new before after e f = record { depot = e; sink = f }
+stood verdict.Bad old new before after e f = record { depot = e; sink = f }
+stood verdict.Undecided old new before after e f = record { depot = e; sink = f }
+
+pub faults_delivered : (old mid new : Store) (before after : SinkState) (o : Output) (a : Answer) → Quiet old mid → mid.faults ≡ old.faults → Delivered o mid new before after a → ShowsFaults a old new before after
+faults_delivered old mid new before after o a quiet same (inl h) =
+    let kept : depot_faults mid ≡ depot_faults old = ap (λ (n : ℕ). n + mid.empty_takes) same ∙ ap (λ (n : ℕ). old.faults + n) quiet.empty_takes in
+    subst (λ (b : Answer). ShowsFaults b old new before after) (sym h.0) (stood o.verdict old new before after (h.1.faults ∙ kept) h.2.faults)
+faults_delivered old mid new before after o a quiet same (inr (inl h)) = subst (λ (b : Answer). ShowsFaults b old new before after) (sym h.0) (inr h.2.faults)
+faults_delivered old mid new before after o a quiet same (inr (inr h)) =
+    let kept : depot_faults mid ≡ depot_faults old = ap (λ (n : ℕ). n + mid.empty_takes) same ∙ ap (λ (n : ℕ). old.faults + n) quiet.empty_takes in
+    subst (λ (b : Answer). ShowsFaults b old new before after) (sym h.0) (inl (subst (λ (n : ℕ). n < depot_faults new) kept h.1.faults))
+
+-- the cause behind the answer, which stood before the files were written
+caused : (v : Verdict) (stated : Option Paths) (old mid new : Store) → new.absent ≡ mid.absent → HasCauseIn stated old mid (verdict_of v) → HasCauseIn stated old new (verdict_of v)
+caused verdict.Good stated old mid new e h = (h.0, e ∙ h.1)
+caused verdict.Bad stated old mid new e h = (h.0, e ∙ h.1)
+caused verdict.Undecided stated old mid new e h = (h.0, e ∙ h.1)
+
+pub cause_delivered : (stated : Option Paths) (old mid new : Store) (before after : SinkState) (o : Output) (a : Answer) → HasCauseIn stated old mid (verdict_of o.verdict) → Delivered o mid new before after a
+    → HasCauseIn stated old new a
+cause_delivered stated old mid new before after o a cause (inl h) = subst (λ (b : Answer). HasCauseIn stated old new b) (sym h.0) (caused o.verdict stated old mid new h.1.absent cause)
+cause_delivered stated old mid new before after o a cause (inr (inl h)) = subst (λ (b : Answer). HasCauseIn stated old new b) (sym h.0) tt
+cause_delivered stated old mid new before after o a cause (inr (inr h)) = subst (λ (b : Answer). HasCauseIn stated old new b) (sym h.0) tt
 
 -- a refusal's line was sent whole
 sent : (stated : Option Paths) (old new : Store) (before after : SinkState) (why : Refusal)
@@ -101,3 +136,6 @@ stop_out stated old new before after s why a e quiet stops h = refused_out state
 
 pub stopped_outside : (stated : Option Paths) (old new : Store) (sink : SinkState) → Quiet old new → ComesOut stated old new sink sink Outside
 stopped_outside stated old new sink quiet = went_outside stated old new sink sink (AtInput quiet.starts (record { told = refl; write_calls = refl; faults = refl }))
+
+pub stopped_memory : (stated : Option Paths) (old new : Store) (sink : SinkState) → Quiet old new → ComesOut stated old new sink sink NoMemory
+stopped_memory stated old new sink quiet = record { done = nothing; comes = tt; leaves = quiet.starts; says = (refl, refl); fails = tt }

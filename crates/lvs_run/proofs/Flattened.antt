@@ -1,66 +1,95 @@
--- The written text against the told files.
-use Rattle.std.proofs.Common.{◌≡◌, inl, inr, ℕ, List, Option, Some, None, sym, subst, string_bytes}
+-- The written texts against the told files.
+use Rattle.std.proofs.Common.{◌≡◌, inl, inr, ℕ, List, [], ◌∷◌, Option, refl, sym, subst}
 use Rattle.lvs_outside.specs.Store.{Store, Told, Untold, NoFile, Holds}
 use Rattle.lvs_outside.specs.Summary.{SinkState}
-use Rattle.lvs_outside.specs.Loops.{HoldsNow}
+use Rattle.lvs_files.specs.Files.{File, IsWritten, AreWritten, IsApart, AreApart, files_of}
 use Rattle.gds_layout.specs.declared.layout.Layout.{Layout as ReadLayout}
 use Rattle.gds_layout.specs.Layouts.{IsRead}
 use Rattle.shapes_file.specs.Flat.{CoversFlat}
+use Rattle.shapes_file.specs.File.{IsShapesFile}
 use Rattle.rule_text.specs.Rules as rule_sets
 use Rattle.rule_text.specs.Reading.{Means}
-use Rattle.rule_text.specs.Sound.{IsSound}
 use Rattle.lvs_run.specs.declared.status.Refusal.{Refusal}
 use Rattle.lvs_run.specs.declared.status.Refusal.TheVariants.{Words, SamePath, Absent, TooLong, Rules, Layout}
-use Rattle.lvs_run.specs.declared.run.Output.{Output}
-use Rattle.lvs_run.specs.Words.{Paths}
-use Rattle.lvs_run.specs.Answers.{Answer, Outside, refused}
+use Rattle.lvs_run.specs.declared.output.Output.{Output}
+use Rattle.lvs_run.specs.Words.{Outputs, ToShapes, Paths, shapes_path}
+use Rattle.lvs_run.specs.Answers.{Done, Answer, IsVerdict, refused}
+use Rattle.lvs_run.specs.Outcomes.{IsDone}
 use Rattle.lvs_run.specs.Inputs.{Quiet, IsInput, ReadAs, IsReady}
 use Rattle.lvs_run.specs.Ends.{Delivered, Refused}
-use Rattle.lvs_run.specs.Flat.{TellsFlat, WritesFlat}
-use Rattle.lvs_run.proofs.Delivering.{holds_since}
+use Rattle.lvs_run.specs.Flat.{HoldsAs, IsFlatText, ListsAs, OfInputs, OfStated, WhereTold, WritesFlat}
 
-told_flat : (rules layout : Told) (r : rule_sets.Rules) (v : ReadLayout) (text rule_bytes bytes : List ℕ) → IsInput rule_bytes rules → IsInput bytes layout
-    → Means rule_bytes r → IsRead bytes None v → CoversFlat v r text → TellsFlat rules layout text
-told_flat Untold layout r v text rule_bytes bytes a b means read flat = tt
-told_flat NoFile layout r v text rule_bytes bytes a b means read flat = tt
-told_flat (Holds rules) Untold r v text rule_bytes bytes a b means read flat = tt
-told_flat (Holds rules) NoFile r v text rule_bytes bytes a b means read flat = tt
-told_flat (Holds rules) (Holds layout) r v text rule_bytes bytes a b means read flat =
-    record { rule_set = r; meant = subst (λ (xs : List ℕ). Means xs r) a.0 means; layout = v; read = subst (λ (xs : List ℕ). IsRead xs None v) b.0 read; flat = flat }
+-- ---- what a listed file holds
 
-pub flat_made : (p : Paths) (old mid new : Store) (r : rule_sets.Rules) (v : ReadLayout) (text : List ℕ) → Quiet old mid → ReadAs old mid p.rules (λ bytes. Means bytes r) → IsSound r
-    → ReadAs mid new p.layout (λ bytes. IsRead bytes None v) → ((bytes : List ℕ) → IsRead bytes None v → IsSound r → CoversFlat v r text)
-    → TellsFlat (old.file p.rules) (old.file p.layout) text
-flat_made p old mid new r v text quiet rules sound layout flat =
+-- a path that no file of the list has isn't listed
+not_listed : (files : List File) (path : List ℕ) (P : List ℕ → Type 0) → IsApart path files → ListsAs files path P → ⊥
+not_listed [] path P apart h = h
+not_listed (f ∷ fs) path P apart (inl h) = apart.0 (sym h.0)
+not_listed (f ∷ fs) path P apart (inr h) = not_listed fs path P apart.1 h
+
+holds_written : (files : List File) (old new : Store) (path : List ℕ) (P : List ℕ → Type 0) → AreApart files → ListsAs files path P → IsWritten files old new path → HoldsAs (new.file path) P
+holds_written [] old new path P apart h w = absurd h
+holds_written (f ∷ fs) old new path P apart (inl h) (inl w) = record { text = f.text; held = w.1; is = h.1 }
+holds_written (f ∷ fs) old new path P apart (inl h) (inr w) = absurd (w.0 (sym h.0))
+holds_written (f ∷ fs) old new path P apart (inr h) (inl w) = absurd (not_listed fs path P (subst (λ (p : List ℕ). IsApart p fs) (sym w.0) apart.0) h)
+holds_written (f ∷ fs) old new path P apart (inr h) (inr w) = holds_written fs old new path P apart.1 h w.1
+
+-- after files were written, what they hold
+pub held_delivered : (old new : Store) (before after : SinkState) (o : Output) (a : Answer) (done : Done) (path : List ℕ) (P : List ℕ → Type 0)
+    → files_of o.files.items ≡ done.files → AreApart done.files → ListsAs done.files path P → Delivered o old new before after a → IsVerdict a → HoldsAs (new.file path) P
+held_delivered old new before after o a done path P same apart lists (inl h) v = let w = subst (AreWritten old new) same h.1.written in holds_written done.files old new path P apart lists (w.each path)
+held_delivered old new before after o a done path P same apart lists (inr (inl h)) v = absurd (subst IsVerdict h.0 v)
+held_delivered old new before after o a done path P same apart lists (inr (inr h)) v = absurd (subst IsVerdict h.0 v)
+
+-- a refusal writes no files
+no_verdict : (why : Refusal) → IsVerdict (refused why) → ⊥
+no_verdict Words v = v
+no_verdict (SamePath path) v = v
+no_verdict (Absent path) v = v
+no_verdict (TooLong path) v = v
+no_verdict (Rules fault) v = v
+no_verdict (Layout fault) v = v
+
+pub none_written : (before after : SinkState) (why : Refusal) (a : Answer) → Refused (refused why) before after a → IsVerdict a → ⊥
+none_written before after why a (inl h) v = no_verdict why (subst IsVerdict h.0 v)
+none_written before after why a (inr (inl h)) v = subst IsVerdict h.0 v
+none_written before after why a (inr (inr h)) v = subst IsVerdict h.0 v
+
+-- ---- a fact of the told inputs
+
+where_told : (rules layout : Told) (r : rule_sets.Rules) (v : ReadLayout) (top : Option (List ℕ)) (P : ReadLayout → rule_sets.Rules → Type 0) (rule_bytes bytes : List ℕ)
+    → IsInput rule_bytes rules → IsInput bytes layout → Means rule_bytes r → IsRead bytes top v → P v r → WhereTold rules layout top P
+where_told Untold layout r v top P rule_bytes bytes a b means read h = tt
+where_told NoFile layout r v top P rule_bytes bytes a b means read h = tt
+where_told (Holds rules) Untold r v top P rule_bytes bytes a b means read h = tt
+where_told (Holds rules) NoFile r v top P rule_bytes bytes a b means read h = tt
+where_told (Holds rules) (Holds layout) r v top P rule_bytes bytes a b means read h =
+    record { rule_set = r; meant = subst (λ (xs : List ℕ). Means xs r) a.0 means; layout = v; read = subst (λ (xs : List ℕ). IsRead xs top v) b.0 read; is = h }
+
+-- what was read is told so
+pub of_inputs : (p : Paths) (old mid new : Store) (r : rule_sets.Rules) (v : ReadLayout) (P : ReadLayout → rule_sets.Rules → Type 0) → Quiet old mid → ReadAs old mid p.rules (λ bytes. Means bytes r)
+    → ReadAs mid new p.layout (λ bytes. IsRead bytes p.top v) → P v r → OfInputs old.file p P
+of_inputs p old mid new r v P quiet rules layout h =
     let told : IsInput layout.bytes (old.file p.layout) = subst (IsInput layout.bytes) (quiet.starts.files p.layout) layout.got.told in
-    told_flat (old.file p.rules) (old.file p.layout) r v text rules.bytes layout.bytes rules.got.told told rules.is layout.is (flat layout.bytes layout.is sound)
+    where_told (old.file p.rules) (old.file p.layout) r v p.top P rules.bytes layout.bytes rules.got.told told rules.is layout.is h
 
-outside : (stated : Option Paths) (old new : Store) (a : Answer) → a ≡ Outside → WritesFlat stated old new a
-outside stated old new a e = subst (WritesFlat stated old new) (sym e) tt
+-- ---- the shapes file
 
-flat_to : (p : Paths) (old mid new : Store) (before after : SinkState) (o : Output) (a : Answer) → Quiet old mid → string_bytes o.path ≡ p.shapes
-    → TellsFlat (old.file p.rules) (old.file p.layout) o.shapes.text.items → Delivered o mid new before after a → WritesFlat (Some p) old new a
-flat_to p old mid new before after o a quiet path flat (inl h) =
-    let file = holds_since old mid new (string_bytes o.path) o.shapes.text.items quiet.starts.files h.1.file in
-    subst (WritesFlat (Some p) old new) (sym h.0) (o.shapes.text.items, subst (λ (q : List ℕ). HoldsNow old new q o.shapes.text.items) path file, flat)
-flat_to p old mid new before after o a quiet path flat (inr (inl h)) = outside (Some p) old new a h.0
-flat_to p old mid new before after o a quiet path flat (inr (inr h)) = outside (Some p) old new a h.0
+-- each command lists its shapes file
+lists_shapes : (o : Outputs) (l : ReadLayout) (r : rule_sets.Rules) (a : Answer) (done : Done) (P : List ℕ → Type 0)
+    → ((text : List ℕ) (cells rectangles : ℕ) → IsShapesFile l r text cells rectangles → P text) → IsDone o l r a done → ListsAs done.files (shapes_path o) P
+lists_shapes (ToShapes shapes) l r a done P f h = let made = h.1 in rw made.whole (inl (refl, f made.text made.cells made.rectangles made.file))
+
+pub flat_listed : (p : Paths) (old mid new : Store) (r : rule_sets.Rules) (v : ReadLayout) (a : Answer) (done : Done) → Quiet old mid → ReadAs old mid p.rules (λ bytes. Means bytes r)
+    → ReadAs mid new p.layout (λ bytes. IsRead bytes p.top v) → ((text : List ℕ) (cells rectangles : ℕ) → IsShapesFile v r text cells rectangles → CoversFlat v r text) → IsDone p.outputs v r a done
+    → ListsAs done.files (shapes_path p.outputs) (IsFlatText old.file p)
+flat_listed p old mid new r v a done quiet rules layout covers made =
+    lists_shapes p.outputs v r a done (IsFlatText old.file p)
+    (λ text cells rectangles file. of_inputs p old mid new r v (λ (l : ReadLayout) (q : rule_sets.Rules). CoversFlat l q text) quiet rules layout (covers text cells rectangles file)) made
 
 pub flat_delivered : (stated : Option Paths) (old mid new : Store) (before after : SinkState) (o : Output) (a : Answer)
-    → Quiet old mid → IsReady stated old mid o → Delivered o mid new before after a → WritesFlat stated old new a
-flat_delivered stated old mid new before after o a quiet ready h =
-    subst (λ (s : Option Paths). WritesFlat s old new a) (sym ready.stated) (flat_to ready.paths old mid new before after o a quiet ready.path ready.flat h)
-
--- a refusal is no Good
-not_good : (stated : Option Paths) (old new : Store) (why : Refusal) → WritesFlat stated old new (refused why)
-not_good stated old new Words = tt
-not_good stated old new (SamePath path) = tt
-not_good stated old new (Absent path) = tt
-not_good stated old new (TooLong path) = tt
-not_good stated old new (Rules fault) = tt
-not_good stated old new (Layout fault) = tt
-
-pub flat_stop : (stated : Option Paths) (old new : Store) (before after : SinkState) (why : Refusal) (a : Answer) → Refused (refused why) before after a → WritesFlat stated old new a
-flat_stop stated old new before after why a (inl h) = subst (WritesFlat stated old new) (sym h.0) (not_good stated old new why)
-flat_stop stated old new before after why a (inr (inl h)) = outside stated old new a h.0
-flat_stop stated old new before after why a (inr (inr h)) = subst (WritesFlat stated old new) (sym h.0) tt
+    → IsReady stated old mid o → Delivered o mid new before after a → WritesFlat stated old new a
+flat_delivered stated old mid new before after o a ready h v =
+    let p = ready.paths in
+    subst (λ (s : Option Paths). OfStated s (λ (q : Paths). HoldsAs (new.file (shapes_path q.outputs)) (IsFlatText old.file q))) (sym ready.stated)
+    (held_delivered mid new before after o a ready.done (shapes_path p.outputs) (IsFlatText old.file p) ready.files ready.apart ready.flat h v)

@@ -8,14 +8,14 @@ use Rattle.gds_layout.specs.Layouts.{IsRead}
 use Rattle.rule_text.specs.declared.fault.RuleFault.{RuleFault}
 use Rattle.rule_text.specs.Rules.{Rules}
 use Rattle.rule_text.specs.Reading.{Means, IsFirstFault}
-use Rattle.lvs_run.specs.Words.{Paths, same_path}
-use Rattle.lvs_run.specs.Answers.{Done, Answer, Good, RefusedWords, RefusedSame, RefusedAbsent, RefusedLong, RefusedRules, RefusedLayout}
-use Rattle.lvs_run.specs.Outcomes.{Runs, HasFile, ReadsRules, IsFirstLayoutFault, IsDone, IsOutcome, WrongWords, SamePath, NoRules, LongRules, BadRules, NoLayout, LongLayout, BadLayout, Drawn, UntoldRules, UntoldLayout}
+use Rattle.lvs_run.specs.Words.{Paths}
+use Rattle.lvs_run.specs.Answers.{Done, Answer, RefusedWords, RefusedSame, RefusedAbsent, RefusedLong, RefusedRules, RefusedLayout}
+use Rattle.lvs_run.specs.Outcomes.{Runs, HasFile, ReadsRules, IsFirstLayoutFault, IsDone, IsOutcome, WrongWords, SamePath, NoRules, LongRules, BadRules, NoLayout, LongLayout, BadLayout, Made, UntoldRules, UntoldLayout}
 
 -- the layout's bytes: their first fault, or their layout, and what the rules make of it
-pub data OfStream (bytes : List ℕ) (r : Rules) (a : Answer) (done : Done) : Type 0 where
-  FaultyStream : (fault : LayoutFault) → IsFirstLayoutFault bytes fault → a ≡ RefusedLayout fault → OfStream bytes r a done
-  SoundStream : (l : Layout) → IsRead bytes None l → IsDone l r done → a ≡ Good → OfStream bytes r a done
+pub data OfStream (bytes : List ℕ) (p : Paths) (r : Rules) (a : Answer) (done : Done) : Type 0 where
+  FaultyStream : (fault : LayoutFault) → IsFirstLayoutFault bytes p.top fault → a ≡ RefusedLayout fault → OfStream bytes p r a done
+  SoundStream : (l : Layout) → IsRead bytes p.top l → IsDone p.outputs l r a done → OfStream bytes p r a done
 
 -- a file's bytes, which are too many or not
 abbrev pub OfLength : List ℕ → Type 0 → Type 0 → Type 0
@@ -25,7 +25,7 @@ OfLength bytes long short = ((limit < length bytes) × long) ⊎ ((length bytes 
 abbrev pub OfLayout : Told → Rules → Paths → Answer → Done → Type 0
 OfLayout Untold r p a done = Unit {0}
 OfLayout NoFile r p a done = a ≡ RefusedAbsent p.layout
-OfLayout (Holds bytes) r p a done = OfLength bytes (a ≡ RefusedLong p.layout) (OfStream bytes r a done)
+OfLayout (Holds bytes) r p a done = OfLength bytes (a ≡ RefusedLong p.layout) (OfStream bytes p r a done)
 
 -- the rules' bytes: their first fault, or what they mean
 pub data OfRuleText (bytes : List ℕ) (layout : Told) (p : Paths) (a : Answer) (done : Done) : Type 0 where
@@ -43,10 +43,10 @@ abbrev pub OfPaths : Option (List ℕ) → (List ℕ → Told) → Paths → Ans
 OfPaths (Some path) file p a done = a ≡ RefusedSame path
 OfPaths None file p a done = OfRules (file p.rules) (file p.layout) p a done
 
--- the words, then the paths, the rules, the layout: the first of them that is refused gives the answer, else the text is written
+-- the words, then the paths, the rules, the layout: the first of them that is refused gives the answer, else the files are written
 abbrev pub InTurn : Option Paths → (List ℕ → Told) → Answer → Done → Type 0
 InTurn None file a done = a ≡ RefusedWords
-InTurn (Some p) file a done = OfPaths (same_path p) file p a done
+InTurn (Some p) file a done = OfPaths (p.shared) file p a done
 
 -- ---- from the outcome to the steps
 
@@ -72,15 +72,15 @@ module _ (said : Option Paths) (file : List ℕ → Told) (a : Answer) (done : D
   in_turn (NoLayout p r reads told e) = of_layout_file p r NoFile reads told e
   in_turn (LongLayout p r bytes reads told long e) = of_layout_file p r (Holds bytes) reads told (inl (long, e))
   in_turn (BadLayout p r bytes fault reads held first e) = of_layout_file p r (Holds bytes) reads held.told (inr (held.short, FaultyStream fault first e))
-  in_turn (Drawn p r l reads made e) = of_layout_file p r (Holds reads.bytes) reads.rules reads.held.told (inr (reads.held.short, SoundStream l reads.read made e))
+  in_turn (Made p r l reads made) = of_layout_file p r (Holds reads.bytes) reads.rules reads.held.told (inr (reads.held.short, SoundStream l reads.read made))
   in_turn (UntoldRules p runs told) = of_rule_file p Untold runs told tt
   in_turn (UntoldLayout p r reads told) = of_layout_file p r Untold reads told tt
 
   -- ---- and back
 
-  by_stream : (p : Paths) (r : Rules) (bytes : List ℕ) → ReadsRules said file p r → HasFile file p.layout bytes → OfStream bytes r a done → IsOutcome said file a done
+  by_stream : (p : Paths) (r : Rules) (bytes : List ℕ) → ReadsRules said file p r → HasFile file p.layout bytes → OfStream bytes p r a done → IsOutcome said file a done
   by_stream p r bytes reads held (FaultyStream fault first e) = BadLayout p r bytes fault reads held first e
-  by_stream p r bytes reads held (SoundStream l read made e) = Drawn p r l (record { rules = reads; bytes = bytes; held = held; read = read }) made e
+  by_stream p r bytes reads held (SoundStream l read made) = Made p r l (record { rules = reads; bytes = bytes; held = held; read = read }) made
 
   by_layout : (p : Paths) (r : Rules) (t : Told) → ReadsRules said file p r → file p.layout ≡ t → OfLayout t r p a done → IsOutcome said file a done
   by_layout p r Untold reads told h = UntoldLayout p r reads told
@@ -99,5 +99,5 @@ module _ (said : Option Paths) (file : List ℕ → Told) (a : Answer) (done : D
   by_rules p (Holds bytes) runs told (inr h) = by_text p bytes runs (record { told = told; short = h.0 }) h.1
 
 -- paths without a clash lead to the rules
-pub of_rules : (p : Paths) (file : List ℕ → Told) (a : Answer) (done : Done) → same_path p ≡ None → OfRules (file p.rules) (file p.layout) p a done → IsOutcome (Some p) file a done
+pub of_rules : (p : Paths) (file : List ℕ → Told) (a : Answer) (done : Done) → p.shared ≡ None → OfRules (file p.rules) (file p.layout) p a done → IsOutcome (Some p) file a done
 of_rules p file a done apart h = by_rules (Some p) file a done p (file p.rules) (record { stated = refl; apart = apart }) refl h

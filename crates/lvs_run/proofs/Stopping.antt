@@ -1,18 +1,19 @@
 -- What the inputs, read one after the other, come to.
-use Rattle.std.proofs.Common.{◌≡◌, ◌⊎◌, inl, inr, ◌+◌, ◌<◌, ℕ, List, Some, None, Bool, true, false, ◌||◌, if◌then◌else◌, refl, sym, ap, subst, ◌∙◌, length}
-use Rattle.std.specs.Str.{bytes_eq}
+use Rattle.std.proofs.Common.{◌≡◌, inl, inr, ◌+◌, ◌<◌, ℕ, List, Option, Some, None, refl, sym, ap, subst, ◌∙◌, length}
 use Rattle.lvs_outside.specs.Store.{Store, Told, Untold, NoFile, Holds, IsAbsent, Open, Reading}
 use Rattle.gds_layout.specs.declared.layout.Layout.{Layout}
+use Rattle.gds_layout.specs.Layouts.{IsRead, IsFaultOf}
 use Rattle.gds_layout.specs.declared.layout.LayoutFault.{LayoutFault}
 use Rattle.gds_layout.specs.declared.layout.LayoutFault.TheVariants as layout
-use Rattle.gds_layout.specs.Layouts.{IsRead, IsFaultOf}
 use Rattle.rule_text.specs.declared.fault.RuleFault.{RuleFault}
 use Rattle.rule_text.specs.declared.fault.RuleFault.TheVariants as rule
 use Rattle.rule_text.specs.Rules.{Rules}
 use Rattle.rule_text.specs.Reading.{Means, Answers}
-use Rattle.lvs_run.specs.Words.{Paths, same_path}
-use Rattle.lvs_run.specs.Answers.{Done, Answer, Good, Bad, RefusedWords, RefusedSame, RefusedAbsent, RefusedLong, RefusedRules, RefusedLayout, Undecided, Outside, NoMemory, refused_layout, refused_rules}
-use Rattle.lvs_run.specs.Runs.{HasLength, IsReadWhole, IsReadTooFar, HasCauseIn}
+use Rattle.lvs_run.specs.declared.output.Verdict.{Verdict}
+use Rattle.lvs_run.specs.declared.output.Verdict.TheVariants as verdict
+use Rattle.lvs_run.specs.Words.{Outputs, ToShapes, Paths}
+use Rattle.lvs_run.specs.Answers.{Done, Answer, Good, Bad, RefusedWords, RefusedSame, RefusedAbsent, RefusedLong, RefusedRules, RefusedLayout, Undecided, Outside, NoMemory, refused_layout, refused_rules, verdict_of}
+use Rattle.lvs_run.specs.Runs.{HasLength, IsReadWhole, IsReadTooFar, HasCauseIn, MayEnd}
 use Rattle.lvs_run.specs.Outcomes.{IsOutcome, IsDone, SamePath}
 use Rattle.lvs_run.proofs.Steps.{OfStream, FaultyStream, SoundStream, OfLayout, OfRuleText, FaultyRules, SoundRules, OfRules, of_rules}
 use Rattle.lvs_run.specs.Inputs.{Quiet, DepotFaults, IsInput, IsLong, Got, ReadAs, NoRules, NoLayout, RefusesRules, RefusesLayout, ComesOf, Stops}
@@ -38,24 +39,16 @@ rules_faults old new (rule.NotConductor n) h = h
 rules_faults old new (rule.TooManyLayers n) h = h
 rules_faults old new (rule.NotText n) h = h
 
--- a fault of the layout that isn't want of memory is the first
-pub layout_refused : (old new : Store) (path bytes : List ℕ) (fault : LayoutFault) → Got old new path bytes → IsFaultOf bytes None fault → NoLayout old new path (refused_layout fault)
-layout_refused old new path bytes (layout.Gds fault) got h = record { bytes = bytes; got = got; is = h }
-layout_refused old new path bytes (layout.Link fault) got h = record { bytes = bytes; got = got; is = h }
-layout_refused old new path bytes layout.NoMemory got h = tt
+-- so of the layout
+pub layout_refused : (old new : Store) (path bytes : List ℕ) (top : Option (List ℕ)) (fault : LayoutFault) → Got old new path bytes → IsFaultOf bytes top fault → NoLayout old new path top (refused_layout fault)
+layout_refused old new path bytes top layout.NoMemory got h = tt
+layout_refused old new path bytes top (layout.Gds f) got h = record { bytes = bytes; got = got; is = h }
+layout_refused old new path bytes top (layout.Link f) got h = record { bytes = bytes; got = got; is = h }
 
 pub layout_faults : (old new : Store) (fault : LayoutFault) → new.faults ≡ old.faults → DepotFaults (refused_layout fault) old new
-layout_faults old new (layout.Gds fault) h = h
-layout_faults old new (layout.Link fault) h = h
 layout_faults old new layout.NoMemory h = h
-
-no_clash : (a b : Bool) (path : List ℕ) → a ≡ false → b ≡ false → (if a || b then Some path else None) ≡ None
-no_clash true b path e f = cc
-no_clash false true path e f = cc
-no_clash false false path e f = refl
-
-pub apart_of : (p : Paths) → bytes_eq p.layout p.shapes ≡ false → bytes_eq p.rules p.shapes ≡ false → same_path p ≡ None
-apart_of p e f = no_clash (bytes_eq p.layout p.shapes) (bytes_eq p.rules p.shapes) p.shapes e f
+layout_faults old new (layout.Gds f) h = h
+layout_faults old new (layout.Link f) h = h
 
 has_length : (t : Told) (bytes : List ℕ) → IsInput bytes t → HasLength t (length bytes)
 has_length Untold bytes h = tt
@@ -67,10 +60,10 @@ read_whole : (s new : Store) (path bytes : List ℕ) (o : Open) → o ≡ Readin
 read_whole s new path bytes o e h = subst (λ (q : Open). IsReadWhole q s path) (sym e) (refl, has_length (s.file path) bytes h)
 
 -- the layout's file, read
-layout_read : (t : Told) (r : Rules) (p : Paths) (a : Answer) (done : Done) (bytes : List ℕ) → IsInput bytes t → OfStream bytes r a done → OfLayout t r p a done
+layout_read : (t : Told) (r : Rules) (p : Paths) (a : Answer) (done : Done) (bytes : List ℕ) → IsInput bytes t → OfStream bytes p r a done → OfLayout t r p a done
 layout_read Untold r p a done bytes h s = tt
 layout_read NoFile r p a done bytes h s = absurd h
-layout_read (Holds all) r p a done bytes h s = inr (h.1, subst (λ (xs : List ℕ). OfStream xs r a done) h.0 s)
+layout_read (Holds all) r p a done bytes h s = inr (h.1, subst (λ (xs : List ℕ). OfStream xs p r a done) h.0 s)
 
 -- the rules' file, read
 rules_read : (t l : Told) (p : Paths) (a : Answer) (done : Done) (bytes : List ℕ) → IsInput bytes t → OfRuleText bytes l p a done → OfRules t l p a done
@@ -98,20 +91,12 @@ long_layout Untold r p a done h e = tt
 long_layout NoFile r p a done h e = absurd h
 long_layout (Holds all) r p a done h e = inl (h, e)
 
-clash : (a b : Bool) (path : List ℕ) → (a ≡ true) ⊎ (b ≡ true) → (if a || b then Some path else None) ≡ Some path
-clash true b path h = refl
-clash false true path h = refl
-clash false false path (inl h) = absurd (let e : false ≡ true = h in cc)
-clash false false path (inr h) = absurd (let e : false ≡ true = h in cc)
-
 -- a file that is to be written is named twice
-pub same_stop : (p : Paths) (s : Store) → (bytes_eq p.layout p.shapes ≡ true) ⊎ (bytes_eq p.rules p.shapes ≡ true) → Stops (Some p) s s (RefusedSame p.shapes)
-same_stop p s h =
-    let same = clash (bytes_eq p.layout p.shapes) (bytes_eq p.rules p.shapes) p.shapes h in
-    record { cause = (same, refl); faults = refl; comes = λ done. SamePath p p.shapes refl same refl }
+pub same_stop : (p : Paths) (s : Store) (path : List ℕ) → p.shared ≡ Some path → Stops (Some p) s s (RefusedSame path)
+same_stop p s path h = record { cause = (h, refl); faults = refl; comes = λ done. SamePath p path refl h refl }
 
 -- the rules are refused
-module _ (p : Paths) (old new : Store) (apart : same_path p ≡ None) where
+module _ (p : Paths) (old new : Store) (apart : p.shared ≡ None) where
   rules_cause : (a : Answer) → NoRules old new p.rules a → HasCauseIn (Some p) old new a
   rules_cause (RefusedAbsent path) h = ((apart, inl h.0), record { one = h.2.one; last = h.2.last ∙ sym h.0; closed = h.2.closed })
   rules_cause (RefusedLong path) h = ((apart, inl h.0), subst (IsReadTooFar new.opened) (sym h.0) h.2, h.3)
@@ -119,11 +104,11 @@ module _ (p : Paths) (old new : Store) (apart : same_path p ≡ None) where
   rules_cause Outside h = tt
   rules_cause NoMemory h = tt
   rules_cause Good h = absurd h
-  rules_cause Bad h = h
+  rules_cause Bad h = absurd h
   rules_cause RefusedWords h = absurd h
   rules_cause (RefusedSame path) h = absurd h
   rules_cause (RefusedLayout fault) h = absurd h
-  rules_cause Undecided h = h
+  rules_cause Undecided h = absurd h
 
   rules_comes : (a : Answer) → NoRules old new p.rules a → ComesOf (Some p) old a
   rules_comes (RefusedAbsent path) h = λ done. of_rules p old.file (RefusedAbsent path) done apart (absent_rules (old.file p.rules) (old.file p.layout) p (RefusedAbsent path) done h.1 (ap RefusedAbsent h.0))
@@ -138,7 +123,7 @@ module _ (p : Paths) (old new : Store) (apart : same_path p ≡ None) where
   rules_comes (RefusedLayout fault) h = absurd h
   rules_comes Undecided h = absurd h
 
-pub rules_stop : (p : Paths) (old new : Store) (a : Answer) → same_path p ≡ None → RefusesRules old new p.rules a → Stops (Some p) old new a
+pub rules_stop : (p : Paths) (old new : Store) (a : Answer) → p.shared ≡ None → RefusesRules old new p.rules a → Stops (Some p) old new a
 rules_stop p old new a apart h = record { cause = rules_cause p old new apart a h.why; faults = h.faults; comes = rules_comes p old new apart a h.why }
 
 pub quiet_on : (a b c : Store) → Quiet a b → Quiet b c → Quiet a c
@@ -165,7 +150,7 @@ faults_since old mid new Undecided e h = h ∙ e
 faults_since old mid new NoMemory e h = h ∙ e
 
 -- the rules were read, and the layout comes next
-module _ (p : Paths) (old mid new : Store) (r : Rules) (apart : same_path p ≡ None) (quiet : Quiet old mid) (rules : ReadAs old mid p.rules (λ bytes. Means bytes r)) where
+module _ (p : Paths) (old mid new : Store) (r : Rules) (apart : p.shared ≡ None) (quiet : Quiet old mid) (rules : ReadAs old mid p.rules (λ bytes. Means bytes r)) where
   same_file : mid.file p.layout ≡ old.file p.layout
   same_file = quiet.starts.files p.layout
 
@@ -176,20 +161,20 @@ module _ (p : Paths) (old mid new : Store) (r : Rules) (apart : same_path p ≡ 
       (rules_read (old.file p.rules) (old.file p.layout) p a done rules.bytes rules.got.told
       (SoundRules r rules.is (subst (λ (t : Told). OfLayout t r p a done) same_file h)))
 
-  layout_cause : (a : Answer) → NoLayout mid new p.layout a → HasCauseIn (Some p) old new a
+  layout_cause : (a : Answer) → NoLayout mid new p.layout p.top a → HasCauseIn (Some p) old new a
   layout_cause (RefusedAbsent path) h = ((apart, inr h.0), record { one = h.2.one ∙ ap (λ (n : ℕ). n + 1) rules.got.absent; last = h.2.last ∙ sym h.0; closed = h.2.closed })
   layout_cause (RefusedLong path) h = ((apart, inr h.0), subst (IsReadTooFar new.opened) (sym h.0) h.2, h.3 ∙ rules.got.absent)
   layout_cause (RefusedLayout fault) h = ((apart, read_whole old new p.layout h.bytes new.opened h.got.opened (subst (IsInput h.bytes) same_file h.got.told)), h.got.absent ∙ rules.got.absent)
   layout_cause Outside h = tt
   layout_cause NoMemory h = tt
   layout_cause Good h = absurd h
-  layout_cause Bad h = h
+  layout_cause Bad h = absurd h
   layout_cause RefusedWords h = absurd h
   layout_cause (RefusedSame path) h = absurd h
   layout_cause (RefusedRules fault) h = absurd h
-  layout_cause Undecided h = h
+  layout_cause Undecided h = absurd h
 
-  layout_comes : (a : Answer) → NoLayout mid new p.layout a → ComesOf (Some p) old a
+  layout_comes : (a : Answer) → NoLayout mid new p.layout p.top a → ComesOf (Some p) old a
   layout_comes (RefusedAbsent path) h = λ done. on_layout (RefusedAbsent path) done (absent_layout (mid.file p.layout) r p (RefusedAbsent path) done h.1 (ap RefusedAbsent h.0))
   layout_comes (RefusedLong path) h = λ done. on_layout (RefusedLong path) done (long_layout (mid.file p.layout) r p (RefusedLong path) done h.1 (ap RefusedLong h.0))
   layout_comes (RefusedLayout fault) h = λ done. on_layout (RefusedLayout fault) done (layout_read (mid.file p.layout) r p (RefusedLayout fault) done h.bytes h.got.told (FaultyStream fault h.is refl))
@@ -202,8 +187,8 @@ module _ (p : Paths) (old mid new : Store) (r : Rules) (apart : same_path p ≡ 
   layout_comes (RefusedRules fault) h = absurd h
   layout_comes Undecided h = absurd h
 
-pub layout_stop : (p : Paths) (old mid new : Store) (r : Rules) (a : Answer) → same_path p ≡ None → Quiet old mid → ReadAs old mid p.rules (λ bytes. Means bytes r)
-    → RefusesLayout mid new p.layout a → Stops (Some p) old new a
+pub layout_stop : (p : Paths) (old mid new : Store) (r : Rules) (a : Answer) → p.shared ≡ None → Quiet old mid → ReadAs old mid p.rules (λ bytes. Means bytes r)
+    → RefusesLayout mid new p.layout p.top a → Stops (Some p) old new a
 layout_stop p old mid new r a apart quiet rules h = record {
   cause = layout_cause p old mid new r apart quiet rules a h.why;
   faults = faults_since old mid new a rules.got.faults h.faults;
@@ -215,7 +200,18 @@ pub memory_stop : (p : Paths) (old mid new : Store) (rules layout : List ℕ) �
 memory_stop p old mid new rules layout a b = record { cause = tt; faults = b.faults ∙ a.faults; comes = tt }
 
 -- what is written is the outcome
-pub outcome_made : (p : Paths) (old mid new : Store) (r : Rules) (l : Layout) (done : Done) → same_path p ≡ None → Quiet old mid → ReadAs old mid p.rules (λ bytes. Means bytes r)
-    → ReadAs mid new p.layout (λ bytes. IsRead bytes None l) → IsDone l r done → IsOutcome (Some p) old.file Good done
-outcome_made p old mid new r l done apart quiet rules layout made =
-    on_layout p old mid new r apart quiet rules Good done (layout_read (mid.file p.layout) r p Good done layout.bytes layout.got.told (SoundStream l layout.is made refl))
+pub outcome_made : (p : Paths) (old mid new : Store) (r : Rules) (l : Layout) (a : Answer) (done : Done) → p.shared ≡ None → Quiet old mid → ReadAs old mid p.rules (λ bytes. Means bytes r)
+    → ReadAs mid new p.layout (λ bytes. IsRead bytes p.top l) → IsDone p.outputs l r a done → IsOutcome (Some p) old.file a done
+outcome_made p old mid new r l a done apart quiet rules layout made =
+    on_layout p old mid new r apart quiet rules a done (layout_read (mid.file p.layout) r p a done layout.bytes layout.got.told (SoundStream l layout.is made))
+
+-- the answer that a command comes to where it writes its files is one of its own
+may_end : (o : Outputs) (l : Layout) (r : Rules) (a : Answer) (done : Done) → IsDone o l r a done → MayEnd o a
+may_end (ToShapes shapes) l r a done h = h.0
+
+-- the cause behind an answer of a run that writes its files
+pub verdict_cause : (p : Paths) (old new : Store) (l : Layout) (r : Rules) (v : Verdict) (done : Done) → p.shared ≡ None → new.absent ≡ old.absent → IsDone p.outputs l r (verdict_of v) done
+    → HasCauseIn (Some p) old new (verdict_of v)
+verdict_cause p old new l r verdict.Good done apart absent h = ((apart, may_end p.outputs l r Good done h), absent)
+verdict_cause p old new l r verdict.Bad done apart absent h = ((apart, may_end p.outputs l r Bad done h), absent)
+verdict_cause p old new l r verdict.Undecided done apart absent h = ((apart, may_end p.outputs l r Undecided done h), absent)

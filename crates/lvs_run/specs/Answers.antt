@@ -1,27 +1,41 @@
 -- How a run of the program ends, as plain data.
-use Rattle.std.specs.Prelude.{ℕ, List, [], string_bytes}
+use Rattle.std.specs.Prelude.{ℕ, List, [], ◌∷◌, string_bytes}
 use Rattle.gds_layout.specs.declared.layout.LayoutFault.{LayoutFault}
 use Rattle.gds_layout.specs.declared.layout.LayoutFault.TheVariants as layout
 use Rattle.rule_text.specs.declared.fault.RuleFault.{RuleFault}
 use Rattle.rule_text.specs.declared.fault.RuleFault.TheVariants as rule
+use Rattle.lvs_files.specs.Files.{File}
 use Rattle.shapes_file.specs.declared.file.Shapes.{Shapes}
+use Rattle.lvs_run.specs.Words.{file_at}
+use Rattle.lvs_run.specs.declared.output.Verdict.{Verdict}
+use Rattle.lvs_run.specs.declared.output.Verdict.TheVariants as verdict
 use Rattle.lvs_run.specs.declared.status.Status.{Status}
 use Rattle.lvs_run.specs.declared.status.Status.TheVariants as status
 use Rattle.lvs_run.specs.declared.status.Refusal.{Refusal}
 use Rattle.lvs_run.specs.declared.status.Refusal.TheVariants.{Words, SamePath, Absent, TooLong}
 use Rattle.lvs_run.specs.declared.status.Refusal.TheVariants.{Rules, Layout}
 
--- what is written: the text of the shapes file, and how many cells and rectangles stand in it
+-- what the summary line counts: of `shapes` the cells and the rectangles of the shapes file
+pub data Counts : Type 0 where
+  Layers : (cells rectangles : ℕ) → Counts
+
+-- what is written, in this order, and what is counted
 pub record Done : Type 0 where
-  pub text : List ℕ
-  pub cells : ℕ
-  pub rectangles : ℕ
+  pub files : List File
+  pub counts : Counts
 
 abbrev pub nothing : Done
-nothing = record { text = []; cells = 0; rectangles = 0 }
+nothing = record { files = []; counts = Layers 0 0 }
 
-abbrev pub done_of : Shapes → Done
-done_of s = record { text = s.text.items; cells = s.cells; rectangles = s.rectangles }
+-- of `shapes`
+abbrev pub drawn : (path text : List ℕ) (cells rectangles : ℕ) → Done
+drawn path text cells rectangles = record {
+  files = file_at path text ∷ [];
+  counts = Layers cells rectangles;
+}
+
+abbrev pub drawn_of : List ℕ → Shapes → Done
+drawn_of path s = drawn path s.text.items s.cells s.rectangles
 
 -- an answer, with the bytes of its path or with the fault of its file
 pub data Answer : Type 0 where
@@ -53,6 +67,19 @@ refused (Absent path) = RefusedAbsent (string_bytes path)
 refused (TooLong path) = RefusedLong (string_bytes path)
 refused (Rules fault) = RefusedRules fault
 refused (Layout fault) = RefusedLayout fault
+
+-- of a run that writes its files
+abbrev pub verdict_of : Verdict → Answer
+verdict_of verdict.Good = Good
+verdict_of verdict.Bad = Bad
+verdict_of verdict.Undecided = Undecided
+
+-- the answer of a run that writes its files
+abbrev pub IsVerdict : Answer → Type 0
+IsVerdict Good = Unit {0}
+IsVerdict Bad = Unit {0}
+IsVerdict Undecided = Unit {0}
+IsVerdict a = ⊥
 
 abbrev pub answer_of : Status → Answer
 answer_of status.Good = Good

@@ -1,15 +1,16 @@
--- What the end of a run comes to: the line of a refusal, or the file and its line.
-use Rattle.std.specs.Prelude.{◌≡◌, ◌⊎◌, ◌<◌, ℕ, List, Option, string_bytes}
-use Rattle.lvs_outside.specs.Store.{Store, SameFiles, appended}
+-- What the end of a run comes to: the line of a refusal, or the files and their line.
+use Rattle.std.specs.Prelude.{◌≡◌, ◌⊎◌, ◌<◌, ℕ, List, Option}
+use Rattle.lvs_outside.specs.Store.{Store, appended}
 use Rattle.lvs_outside.specs.Summary.{SinkState}
-use Rattle.lvs_outside.specs.Loops.{HoldsNow, ForPrefix}
-use Rattle.lvs_run.specs.Answers.{Done, Answer, Good, Outside, NoMemory, nothing}
-use Rattle.lvs_run.specs.Runs.{depot_faults, sink_faults, Leaves, Says, StartsNone, WritesPart}
-use Rattle.lvs_run.specs.Runs.{WritesShapes}
+use Rattle.lvs_outside.specs.Loops.{ForPrefix}
+use Rattle.lvs_run.specs.Answers.{Done, Answer, Outside, NoMemory, IsVerdict, nothing}
+use Rattle.lvs_run.specs.Answers.{verdict_of}
+use Rattle.lvs_files.specs.Files.{AreWritten, ArePartWritten, WroteWhole, WrotePart, files_of}
+use Rattle.lvs_run.specs.Runs.{sink_faults, Leaves, Says, StartsNone}
 use Rattle.lvs_run.specs.Lines.{line_of}
 use Rattle.lvs_run.specs.Outcomes.{IsOutcome}
 use Rattle.lvs_run.specs.Words.{Paths}
-use Rattle.lvs_run.specs.declared.run.Output.{Output}
+use Rattle.lvs_run.specs.declared.output.Output.{Output}
 
 -- the sink took the text, and nothing failed
 pub record Took (before after : SinkState) (text : List ℕ) : Type 0 where
@@ -34,27 +35,14 @@ Refused wanted before after a =
     ⊎ (((a ≡ Outside) × TookPart before after (line_of wanted nothing)) ⊎ ((a ≡ NoMemory)
     × TookNone before after))
 
--- the file is written whole, and nothing failed
-pub record WroteWhole (old new : Store) (path text : List ℕ) : Type 0 where
-  pub file : HoldsNow old new path text
-  pub absent : new.absent ≡ old.absent
-  pub left_open : new.left_open ≡ old.left_open
-  pub faults : depot_faults new ≡ depot_faults old
-
--- the file is as it was or holds a prefix of the text, and the depot failed
-pub record WrotePart (old new : Store) (path text : List ℕ) : Type 0 where
-  pub file : SameFiles old new ⊎ ForPrefix text (HoldsNow old new path)
-  pub faults : depot_faults old < depot_faults new
-
--- file and line were written, or one of the two failed
+-- files and line were written, or one of them failed
 abbrev pub Delivered : Output → Store → Store → SinkState → SinkState → Answer → Type 0
 Delivered o old new before after a =
-    ((a ≡ Good) × WroteWhole old new (string_bytes o.path) o.shapes.text.items
+    ((a ≡ verdict_of o.verdict) × WroteWhole old new (files_of o.files.items)
     × Took before after o.line.items)
-    ⊎ (((a ≡ Outside) × WroteWhole old new (string_bytes o.path) o.shapes.text.items
+    ⊎ (((a ≡ Outside) × WroteWhole old new (files_of o.files.items)
     × TookPart before after o.line.items)
-    ⊎ ((a ≡ Outside) × WrotePart old new (string_bytes o.path) o.shapes.text.items
-    × TookNone before after))
+    ⊎ ((a ≡ Outside) × WrotePart old new (files_of o.files.items) × TookNone before after))
 
 -- a fact, but after Outside and NoMemory
 abbrev pub IsOrElse : Answer → Type 0 → Type 0
@@ -64,16 +52,17 @@ IsOrElse a P = P
 
 -- Where a run was when the outside failed: reading its inputs, with nothing written or sent;
 -- sending the line of the refusal
--- that the told files come to; writing the text that they come to, with no line sent; or sending
--- the line behind that text.
+-- that the told files come to; writing the files that they come to, with no line sent; or sending
+-- the line behind those files.
 pub data FailsAt (said : Option Paths) (old new : Store) (before after : SinkState) : Type 0 where
   AtInput : StartsNone old new → TookNone before after → FailsAt said old new before after
   AtRefusal : (wanted : Answer) → IsOutcome said old.file wanted nothing → StartsNone old new
       → TookPart before after (line_of wanted nothing) → FailsAt said old new before after
-  AtFile : (done : Done) → IsOutcome said old.file Good done → WritesPart said old new done.text
-      → TookNone before after → FailsAt said old new before after
-  AtLine : (done : Done) → IsOutcome said old.file Good done
-      → WritesShapes said old new done.text → TookPart before after (line_of Good done)
+  AtFile : (wanted : Answer) (done : Done) → IsVerdict wanted → IsOutcome said old.file wanted done
+      → ArePartWritten old new done.files → TookNone before after
+      → FailsAt said old new before after
+  AtLine : (wanted : Answer) (done : Done) → IsVerdict wanted → IsOutcome said old.file wanted done
+      → AreWritten old new done.files → TookPart before after (line_of wanted done)
       → FailsAt said old new before after
 
 -- after Outside the run failed at one of these places
@@ -87,6 +76,6 @@ pub record ComesOut (said : Option Paths) (old new : Store) (before after : Sink
     (a : Answer) : Type 0 where
   pub done : Done
   pub comes : IsOrElse a (IsOutcome said old.file a done)
-  pub leaves : Leaves said old new done.text a
+  pub leaves : Leaves old new done.files a
   pub says : Says a done before after
   pub fails : Fails said old new before after a

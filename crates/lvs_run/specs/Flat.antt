@@ -1,37 +1,56 @@
 -- What the shapes file of a run covers: the flat rules' unit squares of the layout, where the files
 -- are told.
-use Rattle.std.specs.Prelude.{ℕ, List, Option, Some, None}
+use Rattle.std.specs.Prelude.{◌≡◌, ◌⊎◌, ℕ, List, [], ◌∷◌, Option, Some, None}
+use Rattle.lvs_outside.specs.Loops.{IsFile}
 use Rattle.lvs_outside.specs.Store.{Store, Told, Holds}
-use Rattle.lvs_outside.specs.Loops.{HoldsNow}
+use Rattle.lvs_files.specs.Files.{File}
 use Rattle.gds_layout.specs.declared.layout.Layout.{Layout}
 use Rattle.gds_layout.specs.Layouts.{IsRead}
 use Rattle.shapes_file.specs.Flat.{CoversFlat}
 use Rattle.rule_text.specs.Rules.{Rules}
 use Rattle.rule_text.specs.Reading.{Means}
-use Rattle.lvs_run.specs.Words.{Paths}
-use Rattle.lvs_run.specs.Answers.{Answer, Good}
+use Rattle.lvs_run.specs.Words.{Paths, shapes_path}
+use Rattle.lvs_run.specs.Answers.{Answer, IsVerdict}
 
--- the rules' bytes mean rules, the layout's bytes are read as a layout, and the text covers exactly
--- the flat rules' squares of it
-pub record IsFlatShapes (rules stream text : List ℕ) : Type 0 where
+-- the list has a file of this path, and this is a fact of its text
+abbrev pub ListsAs : List File → List ℕ → (List ℕ → Type 0) → Type 0
+ListsAs [] path P = ⊥
+ListsAs (f ∷ fs) path P = ((f.path ≡ path) × P f.text) ⊎ ListsAs fs path P
+
+-- where it is told, the file holds a text of which this is a fact
+pub record HoldsAs (told : Told) (P : List ℕ → Type 0) : Type 0 where
+  pub text : List ℕ
+  pub held : IsFile text told
+  pub is : P text
+
+-- the words state a command, and this is a fact of its files
+abbrev pub OfStated : Option Paths → (Paths → Type 0) → Type 0
+OfStated None P = ⊥
+OfStated (Some p) P = P p
+
+-- the rules' bytes mean rules, the layout's bytes are read as a layout, and this is a fact of both
+pub record IsOfRead (rules stream : List ℕ) (top : Option (List ℕ)) (P : Layout → Rules → Type 0)
+    : Type 0 where
   pub rule_set : Rules
   pub meant : Means rules rule_set
   pub layout : Layout
-  pub read : IsRead stream None layout
-  pub flat : CoversFlat layout rule_set text
+  pub read : IsRead stream top layout
+  pub is : P layout rule_set
 
 -- the same of the told files, the rules' first; nothing is said where one isn't told
-abbrev pub TellsFlat : Told → Told → List ℕ → Type 0
-TellsFlat (Holds rules) (Holds layout) text = IsFlatShapes rules layout text
-TellsFlat _ _ text = Unit {0}
+abbrev pub WhereTold : Told → Told → Option (List ℕ) → (Layout → Rules → Type 0) → Type 0
+WhereTold (Holds rules) (Holds layout) top P = IsOfRead rules layout top P
+WhereTold _ _ top P = Unit {0}
 
--- the shapes file covers exactly the flat rules' unit squares of the layout
-abbrev pub HoldsFlat : Option Paths → Store → Store → Type 0
-HoldsFlat None old new = ⊥
-HoldsFlat (Some p) old new = (text : List ℕ) × HoldsNow old new p.shapes text × TellsFlat
-    (old.file p.rules) (old.file p.layout) text
+-- the same of what the store tells of the command's inputs
+abbrev pub OfInputs : (List ℕ → Told) → Paths → (Layout → Rules → Type 0) → Type 0
+OfInputs file p P = WhereTold (file p.rules) (file p.layout) p.top P
 
--- so it is after Good
+-- the text covers exactly the flat rules' unit squares of the layout
+abbrev pub IsFlatText : (List ℕ → Told) → Paths → List ℕ → Type 0
+IsFlatText file p text = OfInputs file p (λ l r. CoversFlat l r text)
+
+-- after each answer of a run that writes its files the shapes file holds such a text
 abbrev pub WritesFlat : Option Paths → Store → Store → Answer → Type 0
-WritesFlat said old new Good = HoldsFlat said old new
-WritesFlat said old new a = Unit {0}
+WritesFlat said old new a = IsVerdict a → OfStated said
+    (λ p. HoldsAs (new.file (shapes_path p.outputs)) (IsFlatText old.file p))

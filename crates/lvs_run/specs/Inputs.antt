@@ -1,21 +1,22 @@
 -- What came of reading input files whole, before anything is written.
-use Rattle.std.specs.Prelude.{◌≡◌, ◌<◌, ◌≤◌, ℕ, List, length, Option, Some, string_bytes}
+use Rattle.std.specs.Prelude.{◌≡◌, ◌<◌, ◌≤◌, ℕ, List, length, Option, Some}
 use Rattle.lvs_outside.specs.Store.{Store, Told, Untold, NoFile, Holds, IsAbsent, IsThere}
 use Rattle.lvs_outside.specs.Store.{Reading}
 use Rattle.lvs_outside.specs.Loops.{limit}
 use Rattle.gds_layout.specs.declared.layout.Layout.{Layout}
 use Rattle.rule_text.specs.Rules.{Rules}
 use Rattle.rule_text.specs.Reading.{IsFirstFault as IsFirstRuleFault}
-use Rattle.lvs_run.specs.Words.{Paths}
-use Rattle.lvs_run.specs.Answers.{Done, Answer, Good, RefusedAbsent, RefusedLong, RefusedRules}
-use Rattle.lvs_run.specs.Answers.{RefusedLayout, Outside, NoMemory, done_of, refused}
+use Rattle.lvs_run.specs.Words.{Outputs, Paths, shapes_path}
+use Rattle.lvs_files.specs.Files.{AreApart, files_of}
+use Rattle.lvs_run.specs.Answers.{Done, Answer, RefusedAbsent, RefusedLong, RefusedRules}
+use Rattle.lvs_run.specs.Answers.{RefusedLayout, Outside, NoMemory, refused, verdict_of}
 use Rattle.lvs_run.specs.Runs.{IsReadTooFar, WasAbsent, StartsNone, HasCauseIn}
 use Rattle.lvs_run.specs.Lines.{line_of}
 use Rattle.lvs_run.specs.Outcomes.{IsOutcome, IsDone, IsFirstLayoutFault}
-use Rattle.lvs_run.specs.Flat.{TellsFlat}
+use Rattle.lvs_run.specs.Flat.{IsFlatText, ListsAs}
 use Rattle.lvs_run.specs.declared.input.Stop.{Stop}
 use Rattle.lvs_run.specs.declared.input.Stop.TheVariants as stop
-use Rattle.lvs_run.specs.declared.run.Output.{Output}
+use Rattle.lvs_run.specs.declared.output.Output.{Output}
 
 -- the answer of a run that stops
 abbrev pub stopped : Stop → Answer
@@ -87,24 +88,27 @@ NoRules old new path (RefusedRules fault) = ReadAs old new path
 NoRules old new path a = NotGot old new path a
 
 -- why the layout's file gave no layout
-abbrev pub NoLayout : Store → Store → List ℕ → Answer → Type 0
-NoLayout old new path (RefusedLayout fault) = ReadAs old new path
-    (λ bytes. IsFirstLayoutFault bytes fault)
-NoLayout old new path a = NotGot old new path a
+abbrev pub NoLayout : Store → Store → List ℕ → Option (List ℕ) → Answer → Type 0
+NoLayout old new path top (RefusedLayout fault) = ReadAs old new path
+    (λ bytes. IsFirstLayoutFault bytes top fault)
+NoLayout old new path top a = NotGot old new path a
 
 pub record RefusesRules (old new : Store) (path : List ℕ) (a : Answer) : Type 0 where
   pub why : NoRules old new path a
   pub faults : DepotFaults a old new
 
-pub record RefusesLayout (old new : Store) (path : List ℕ) (a : Answer) : Type 0 where
-  pub why : NoLayout old new path a
+pub record RefusesLayout (old new : Store) (path : List ℕ) (top : Option (List ℕ))
+    (a : Answer) : Type 0 where
+  pub why : NoLayout old new path top a
   pub faults : DepotFaults a old new
 
--- what there is to write
-pub record IsOutput (shapes : List ℕ) (l : Layout) (r : Rules) (o : Output) : Type 0 where
-  pub path : string_bytes o.path ≡ shapes
-  pub done : IsDone l r (done_of o.shapes)
-  pub line : o.line.items ≡ line_of Good (done_of o.shapes)
+-- what there is to write by the command with these outputs, of a layout and rules
+pub record IsOutput (outputs : Outputs) (l : Layout) (r : Rules) (o : Output) : Type 0 where
+  pub done : Done
+  pub files : files_of o.files.items ≡ done.files
+  pub apart : AreApart done.files
+  pub is : IsDone outputs l r (verdict_of o.verdict) done
+  pub line : o.line.items ≡ line_of (verdict_of o.verdict) done
 
 -- the outcome of the told files, of an answer that comes of them
 abbrev pub ComesOf : Option Paths → Store → Answer → Type 0
@@ -123,9 +127,11 @@ pub record Stops (said : Option Paths) (old new : Store) (a : Answer) : Type 0 w
 pub record IsReady (said : Option Paths) (old new : Store) (o : Output) : Type 0 where
   pub paths : Paths
   pub stated : said ≡ Some paths
-  pub path : string_bytes o.path ≡ paths.shapes
-  pub cause : HasCauseIn said old new Good
+  pub done : Done
+  pub files : files_of o.files.items ≡ done.files
+  pub apart : AreApart done.files
+  pub cause : HasCauseIn said old new (verdict_of o.verdict)
   pub faults : new.faults ≡ old.faults
-  pub line : o.line.items ≡ line_of Good (done_of o.shapes)
-  pub comes : IsOutcome said old.file Good (done_of o.shapes)
-  pub flat : TellsFlat (old.file paths.rules) (old.file paths.layout) o.shapes.text.items
+  pub line : o.line.items ≡ line_of (verdict_of o.verdict) done
+  pub comes : IsOutcome said old.file (verdict_of o.verdict) done
+  pub flat : ListsAs done.files (shapes_path paths.outputs) (IsFlatText old.file paths)

@@ -17,8 +17,9 @@ use Rattle.rule_text.specs.declared.fault.RuleFault.TheVariants.{UnknownName, Na
 use Rattle.rule_text.specs.declared.fault.RuleFault.TheVariants.{NotConductor, TooManyLayers}
 use Rattle.rule_text.specs.declared.fault.RuleFault.TheVariants.{NotText}
 use Rattle.rule_text.specs.declared.fault.RuleFault.TheVariants as rule
-use Rattle.lvs_run.specs.Answers.{Done, Answer, Good, RefusedWords, RefusedSame, RefusedAbsent}
-use Rattle.lvs_run.specs.Answers.{RefusedLong, RefusedRules, RefusedLayout}
+use Rattle.lvs_run.specs.Answers.{Counts, Layers, Done, Answer, Good, Bad, Undecided}
+use Rattle.lvs_run.specs.Answers.{RefusedWords, RefusedSame, RefusedAbsent, RefusedLong}
+use Rattle.lvs_run.specs.Answers.{RefusedRules, RefusedLayout}
 
 -- a fault's number and its line; of a byte that no text has, its offset
 abbrev pub rule_place : RuleFault → List ℕ
@@ -53,11 +54,16 @@ layout_place (layout.Gds gds.NoMemory) = []
 layout_place (layout.Link fault) = link_place fault
 layout_place layout.NoMemory = []
 
--- the line of each answer, of Good with how many cells and rectangles were written; others have
--- none
+-- the line of a run that writes its files, with what it counts
+abbrev pub counts_line : Counts → List ℕ
+counts_line (Layers cells rectangles) = codes "shapes cells " ++ decimal cells
+    ++ codes " rectangles " ++ decimal rectangles ++ 10 ∷ []
+
+-- the line of each answer; others have none
 abbrev pub line_of : Answer → Done → List ℕ
-line_of Good done = codes "shapes cells " ++ decimal done.cells ++ codes " rectangles "
-    ++ decimal done.rectangles ++ 10 ∷ []
+line_of Good done = counts_line done.counts
+line_of Bad done = counts_line done.counts
+line_of Undecided done = counts_line done.counts
 line_of RefusedWords done = codes "refused words" ++ 10 ∷ []
 line_of (RefusedSame path) done = codes "refused same " ++ escaped path ++ 10 ∷ []
 line_of (RefusedAbsent path) done = codes "refused absent " ++ escaped path ++ 10 ∷ []

@@ -2,7 +2,7 @@
 use Rattle.std.specs.Prelude.{◌≡◌, ℕ, List, Option, Some, None}
 use Rattle.lvs_outside.specs.Store.{Told, Untold, NoFile, Holds}
 use Rattle.lvs_run.specs.Words.{Paths}
-use Rattle.lvs_run.specs.Answers.{Done, Answer, Good}
+use Rattle.lvs_run.specs.Answers.{Done, Answer, IsVerdict}
 use Rattle.lvs_run.specs.Outcomes.{IsOutcome}
 
 -- it is told what the file holds, or that there is none
@@ -16,10 +16,10 @@ abbrev pub AreInputsTold : Option Paths → (List ℕ → Told) → Type 0
 AreInputsTold None file = Unit {0}
 AreInputsTold (Some p) file = IsTold (file p.rules) × IsTold (file p.layout)
 
--- the answers are one, and where it is Good, so is what is written
+-- the answers are one, and where files are written, so is what is written
 pub record IsSameOutcome (a b : Answer) (x y : Done) : Type 0 where
   pub answer : a ≡ b
-  pub done : a ≡ Good → x ≡ y
+  pub done : IsVerdict a → x ≡ y
 
 -- words and told inputs have one outcome
 abbrev pub OneOutcomeLaw : Type 0

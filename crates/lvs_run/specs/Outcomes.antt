@@ -10,14 +10,14 @@ use Rattle.rule_text.specs.declared.fault.RuleFault.{RuleFault}
 use Rattle.rule_text.specs.Rules.{Rules}
 use Rattle.rule_text.specs.Reading.{Means, IsFirstFault}
 use Rattle.shapes_file.specs.File.{IsShapesFile}
-use Rattle.lvs_run.specs.Words.{Paths, same_path}
-use Rattle.lvs_run.specs.Answers.{Done, Answer, Good, RefusedWords, RefusedSame, RefusedAbsent}
+use Rattle.lvs_run.specs.Words.{Outputs, Paths, ToShapes}
+use Rattle.lvs_run.specs.Answers.{Done, drawn, Answer, Good, RefusedWords, RefusedSame, RefusedAbsent}
 use Rattle.lvs_run.specs.Answers.{RefusedLong, RefusedRules, RefusedLayout}
 
 -- the words state a command of these paths, and no file that it writes is named twice
 pub record Runs (said : Option Paths) (p : Paths) : Type 0 where
   pub stated : said ≡ Some p
-  pub apart : same_path p ≡ None
+  pub apart : p.shared ≡ None
 
 -- it is told that the path's file holds these bytes, and they aren't too many
 pub record HasFile (file : List ℕ → Told) (path bytes : List ℕ) : Type 0 where
@@ -32,30 +32,39 @@ pub record ReadsRules (said : Option Paths) (file : List ℕ → Told) (p : Path
   pub held : HasFile file p.rules bytes
   pub means : Means bytes r
 
--- and the layout of its stream, from the only cell that none refers to, is this one
+-- and the layout of its stream, from the cell that the words name or else the only one that none
+-- refers to, is this one
 pub record ReadsLayout (said : Option Paths) (file : List ℕ → Told) (p : Paths) (r : Rules)
     (l : Layout) : Type 0 where
   pub rules : ReadsRules said file p r
   pub bytes : List ℕ
   pub held : HasFile file p.layout bytes
-  pub read : IsRead bytes None l
+  pub read : IsRead bytes p.top l
 
 -- the stream's first fault, or the first of its cells' names and references; no want of memory
-abbrev pub IsFirstLayoutFault : List ℕ → LayoutFault → Type 0
-IsFirstLayoutFault bytes layout.NoMemory = ⊥
-IsFirstLayoutFault bytes fault = IsFaultOf bytes None fault
+abbrev pub IsFirstLayoutFault : List ℕ → Option (List ℕ) → LayoutFault → Type 0
+IsFirstLayoutFault bytes top layout.NoMemory = ⊥
+IsFirstLayoutFault bytes top fault = IsFaultOf bytes top fault
 
 -- what is written is the shapes file of the layout by the rules
-abbrev pub IsDone : Layout → Rules → Done → Type 0
-IsDone l r done = IsShapesFile l r done.text done.cells done.rectangles
+pub record IsDrawn (l : Layout) (r : Rules) (path : List ℕ) (done : Done) : Type 0 where
+  pub text : List ℕ
+  pub cells : ℕ
+  pub rectangles : ℕ
+  pub file : IsShapesFile l r text cells rectangles
+  pub whole : done ≡ drawn path text cells rectangles
 
--- The answer, and after Good what is written. The words are looked at first, then the paths, the
+-- the answer and what is written by the command with these outputs, of a layout and rules
+abbrev pub IsDone : Outputs → Layout → Rules → Answer → Done → Type 0
+IsDone (ToShapes shapes) l r a done = (a ≡ Good) × IsDrawn l r shapes done
+
+-- The answer, and what is written where nothing is refused. The words are looked at first, then the paths, the
 -- rule file and the layout, and the first of them that is refused gives the answer. Nothing is said
 -- where a file that comes next isn't told.
 pub data IsOutcome (said : Option Paths) (file : List ℕ → Told) (a : Answer) (done : Done) :
     Type 0 where
   WrongWords : said ≡ None → a ≡ RefusedWords → IsOutcome said file a done
-  SamePath : (p : Paths) (path : List ℕ) → said ≡ Some p → same_path p ≡ Some path
+  SamePath : (p : Paths) (path : List ℕ) → said ≡ Some p → p.shared ≡ Some path
       → a ≡ RefusedSame path → IsOutcome said file a done
   NoRules : (p : Paths) → Runs said p → file p.rules ≡ NoFile → a ≡ RefusedAbsent p.rules
       → IsOutcome said file a done
@@ -71,9 +80,9 @@ pub data IsOutcome (said : Option Paths) (file : List ℕ → Told) (a : Answer)
       → IsOutcome said file a done
   BadLayout : (p : Paths) (r : Rules) (bytes : List ℕ) (fault : LayoutFault)
       → ReadsRules said file p r → HasFile file p.layout bytes
-      → IsFirstLayoutFault bytes fault → a ≡ RefusedLayout fault → IsOutcome said file a done
-  Drawn : (p : Paths) (r : Rules) (l : Layout) → ReadsLayout said file p r l → IsDone l r done
-      → a ≡ Good → IsOutcome said file a done
+      → IsFirstLayoutFault bytes p.top fault → a ≡ RefusedLayout fault → IsOutcome said file a done
+  Made : (p : Paths) (r : Rules) (l : Layout) → ReadsLayout said file p r l
+      → IsDone p.outputs l r a done → IsOutcome said file a done
   UntoldRules : (p : Paths) → Runs said p → file p.rules ≡ Untold → IsOutcome said file a done
   UntoldLayout : (p : Paths) (r : Rules) → ReadsRules said file p r → file p.layout ≡ Untold
       → IsOutcome said file a done

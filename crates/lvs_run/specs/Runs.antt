@@ -3,8 +3,9 @@ use Rattle.std.specs.Prelude.{◌≡◌, ◌⊎◌, ℕ, ◌+◌, ◌<◌, List,
 use Rattle.lvs_outside.specs.Store.{Store, Told, Untold, NoFile, Holds, Open, Closed, Reading}
 use Rattle.lvs_outside.specs.Store.{Writing, SameFiles, appended}
 use Rattle.lvs_outside.specs.Summary.{SinkState}
-use Rattle.lvs_outside.specs.Loops.{limit, HoldsNow, ForPrefix}
-use Rattle.lvs_run.specs.Words.{Paths, same_path}
+use Rattle.lvs_outside.specs.Loops.{limit}
+use Rattle.lvs_run.specs.Words.{Outputs, Paths, ToShapes, IsSame}
+use Rattle.lvs_files.specs.Files.{File, AreWritten}
 use Rattle.lvs_run.specs.Answers.{Done, Answer, Good, Bad, RefusedWords, RefusedSame}
 use Rattle.lvs_run.specs.Answers.{RefusedAbsent, RefusedLong, RefusedRules, RefusedLayout}
 use Rattle.lvs_run.specs.Answers.{Undecided, Outside, NoMemory}
@@ -31,20 +32,19 @@ abbrev pub ShowsFaults : Answer → Store → Store → SinkState → SinkState 
 ShowsFaults Outside old new before after = HaveRisen old new before after
 ShowsFaults a old new before after = HaveStood old new before after
 
--- the words state a command, and no file that it writes is named twice
-abbrev pub IsStated : Option Paths → Type 0
-IsStated None = ⊥
-IsStated (Some p) = same_path p ≡ None
+-- a command with these outputs may end with this answer where it writes them: `shapes` with Good
+abbrev pub MayEnd : Outputs → Answer → Type 0
+MayEnd (ToShapes shapes) a = a ≡ Good
 
--- a file that the command writes is named twice, by this path
-abbrev pub IsSame : Option Paths → List ℕ → Type 0
-IsSame None path = ⊥
-IsSame (Some p) path = same_path p ≡ Some path
+-- the words state such a command, and no file that it writes is named twice
+abbrev pub EndsWith : Option Paths → Answer → Type 0
+EndsWith None a = ⊥
+EndsWith (Some p) a = (p.shared ≡ None) × MayEnd p.outputs a
 
 -- the path is an input of the command
 abbrev pub IsInputPath : Option Paths → List ℕ → Type 0
 IsInputPath None path = ⊥
-IsInputPath (Some p) path = (same_path p ≡ None) × ((path ≡ p.rules) ⊎ (path ≡ p.layout))
+IsInputPath (Some p) path = (p.shared ≡ None) × ((path ≡ p.rules) ⊎ (path ≡ p.layout))
 
 -- the path stands open, with more bytes read than are taken
 abbrev pub IsReadTooFar : Open → List ℕ → Type 0
@@ -67,11 +67,11 @@ IsReadWhole (Writing p n) s path = ⊥
 -- the command's rules, or its layout, were read to their end
 abbrev pub AreRulesRead : Option Paths → Store → Store → Type 0
 AreRulesRead None old new = ⊥
-AreRulesRead (Some p) old new = (same_path p ≡ None) × IsReadWhole new.opened old p.rules
+AreRulesRead (Some p) old new = (p.shared ≡ None) × IsReadWhole new.opened old p.rules
 
 abbrev pub IsLayoutRead : Option Paths → Store → Store → Type 0
 IsLayoutRead None old new = ⊥
-IsLayoutRead (Some p) old new = (same_path p ≡ None) × IsReadWhole new.opened old p.layout
+IsLayoutRead (Some p) old new = (p.shared ≡ None) × IsReadWhole new.opened old p.layout
 
 -- there was one absent answer, for this path, and nothing was opened after it
 pub record WasAbsent (old new : Store) (path : List ℕ) : Type 0 where
@@ -81,8 +81,8 @@ pub record WasAbsent (old new : Store) (path : List ℕ) : Type 0 where
 
 -- what stands behind an answer: each refusal has its cause, and other answers come only without one
 abbrev pub HasCauseIn : Option Paths → Store → Store → Answer → Type 0
-HasCauseIn said old new Good = IsStated said × (new.absent ≡ old.absent)
-HasCauseIn said old new Bad = ⊥
+HasCauseIn said old new Good = EndsWith said Good × (new.absent ≡ old.absent)
+HasCauseIn said old new Bad = EndsWith said Bad × (new.absent ≡ old.absent)
 HasCauseIn said old new RefusedWords = (said ≡ None) × (new.absent ≡ old.absent)
 HasCauseIn said old new (RefusedSame path) = IsSame said path × (new.absent ≡ old.absent)
 HasCauseIn said old new (RefusedAbsent path) = IsInputPath said path × WasAbsent old new path
@@ -91,7 +91,8 @@ HasCauseIn said old new (RefusedLong path) = IsInputPath said path × IsReadTooF
 HasCauseIn said old new (RefusedRules fault) = AreRulesRead said old new × (new.absent ≡ old.absent)
 HasCauseIn said old new (RefusedLayout fault) = IsLayoutRead said old new
     × (new.absent ≡ old.absent)
-HasCauseIn said old new Undecided = ⊥
+HasCauseIn said old new Undecided = EndsWith said Undecided
+    × (new.absent ≡ old.absent)
 HasCauseIn said old new Outside = Unit {0}
 HasCauseIn said old new NoMemory = Unit {0}
 
@@ -101,21 +102,18 @@ pub record StartsNone (old new : Store) : Type 0 where
   pub left_open : new.left_open ≡ old.left_open
   pub files : SameFiles old new
 
--- the shapes file holds this text, and all other files stay
-abbrev pub WritesShapes : Option Paths → Store → Store → List ℕ → Type 0
-WritesShapes None old new text = ⊥
-WritesShapes (Some p) old new text = HoldsNow old new p.shapes text
+-- all files were written and none was left open
+pub record WritesAll (old new : Store) (files : List File) : Type 0 where
+  pub written : AreWritten old new files
+  pub left_open : new.left_open ≡ old.left_open
 
--- the shapes file is as it was or holds a prefix of this text, and all other files stay
-abbrev pub WritesPart : Option Paths → Store → Store → List ℕ → Type 0
-WritesPart None old new text = ⊥
-WritesPart (Some p) old new text = SameFiles old new ⊎ ForPrefix text (HoldsNow old new p.shapes)
-
--- what was written by each answer but Outside; the text is what Good writes
-abbrev pub Leaves : Option Paths → Store → Store → List ℕ → Answer → Type 0
-Leaves said old new text Good = WritesShapes said old new text × (new.left_open ≡ old.left_open)
-Leaves said old new text Outside = Unit {0}
-Leaves said old new text a = StartsNone old new
+-- what was written by each answer but Outside
+abbrev pub Leaves : Store → Store → List File → Answer → Type 0
+Leaves old new files Good = WritesAll old new files
+Leaves old new files Bad = WritesAll old new files
+Leaves old new files Undecided = WritesAll old new files
+Leaves old new files Outside = Unit {0}
+Leaves old new files a = StartsNone old new
 
 -- the sink took the answer's line, and nothing where memory ran out; Outside says nothing of it
 -- here

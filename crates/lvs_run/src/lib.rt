@@ -3,6 +3,9 @@
 
 mod input;
 mod laws;
+mod making;
+mod output;
+mod readings;
 mod run;
 mod status;
 mod summary;
@@ -11,4 +14,3 @@ mod words;
 pub use laws::one_outcome;
 pub use run::run_lvs;
 pub use status::{Refusal, Status};
-pub use words::{Command, WordFault, read_words};

@@ -1,140 +1,63 @@
 // The run of the program.
-ghost use Rattle.std.specs.Prelude.{◌≡◌, ℕ, List, Option, map, string_bytes, IfOk, IfErr};
-ghost use Rattle.std.specs.Prelude.{Some, None};
-ghost use Rattle.std.specs.Str.{bytes_eq};
-ghost use Rattle.gds_layout.specs.Layouts.{IsRead};
+ghost use Rattle.std.specs.Prelude.{◌≡◌, ◌≤◌, map, string_bytes, IfOk, IfErr, Some, None};
+ghost use Rattle.lvs_files.specs.Files.{AreApart, files_of};
 ghost use Rattle.lvs_outside.specs.Store.{HasRoom};
 ghost use Rattle.lvs_outside.specs.Summary.{SinkHasRoom};
-ghost use Rattle.lvs_run.specs.Answers.{answer_of, refused, refused_layout, refused_rules};
+ghost use Rattle.lvs_run.specs.Answers.{answer_of, refused};
 ghost use Rattle.lvs_run.specs.Ends.{ComesOut, Delivered, Refused};
 ghost use Rattle.lvs_run.specs.Flat.{WritesFlat};
-ghost use Rattle.lvs_run.specs.Inputs.{IsOutput, IsReady, Quiet, ReadAs, RefusesLayout};
-ghost use Rattle.lvs_run.specs.Inputs.{RefusesRules, Stops, stopped};
+ghost use Rattle.lvs_run.specs.Inputs.{IsReady, Quiet, Stops, stopped};
 ghost use Rattle.lvs_run.specs.Runs.{HasCauseIn, ShowsFaults};
-ghost use Rattle.lvs_run.specs.Words.{paths_of, said, same_path};
-ghost use Rattle.rule_text.specs.Reading.{Means};
-ghost use Rattle.rule_text.specs.Seen.{rules_seen};
-ghost use Rattle.rule_text.specs.Sound.{IsSound};
+ghost use Rattle.lvs_run.specs.Words.{blank_files, outputs_of, paths_of, said};
 
-use crate::input::{Stop, feed_input, read_input};
+use crate::input::Stop;
+use crate::making::output_of;
+use crate::output::Output;
+use crate::readings::{layout_of, rules_of};
 use crate::status::{Refusal, Status};
-use crate::summary::{good_line, refusal_line};
-use crate::words::{Command, WordFault, read_words};
-use gds_layout::{Layout, LayoutFault, LayoutReader};
-use lvs_outside::{Depot, Sink, write_all, write_file};
-use rule_text::{RuleFault, RuleSet, read_rules};
-use shapes_file::{Shapes, covers_flat, shapes_file};
-use std::alloc::{AllocError, Global};
+use crate::summary::refusal_line;
+use crate::words::{Task, read_task};
+use lvs_files::write_files;
+use lvs_outside::{Depot, Sink, write_all};
+use lvs_words::WordFault;
+use shapes_file::covers_flat;
+use std::alloc::Global;
 use std::sync::Wait;
 use std::thread::Threads;
 
-// What a run has to write: the shapes file of the path, and the line.
-#[derive(Drop)]
-struct Output {
-    path: String,
-    shapes: Shapes,
-    line: Vec<u8>,
-}
-
-fn rules_stop(fault: RuleFault) -> Stop
-    ensures { stopped result ≡ refused_rules fault }
-{
-    match fault.number() {
-        Some(_) => Stop::Refused(Refusal::Rules(fault)),
-        None => Stop::NoMemory,
-    }
-}
-
-// The rules of the path's file.
-fn rules_of<D: Depot>(alloc: Global, depot: &mut D, path: &String) -> Result<RuleSet, Stop>
-    requires { HasRoom (D.state depot.old) }
-    ensures quiet { Quiet (D.state depot.old) (D.state depot.new) }
-    ensures found { IfOk result (λ r. ReadAs (D.state depot.old) (D.state depot.new)
-        (string_bytes path.now) (λ bytes. Means bytes (rules_seen r))) }
-    ensures sound { IfOk result (λ r. IsSound (rules_seen r)) }
-    ensures refused { IfErr result (λ why. RefusesRules (D.state depot.old) (D.state depot.new)
-        (string_bytes path.now) (stopped why)) }
-{
-    let bytes = read_input(alloc, depot, path)?;
-    match read_rules(alloc, bytes.as_slice()) {
-        Ok(rules) => Ok(rules),
-        Err(fault) => Err(rules_stop(fault)),
-    }
-}
-
-fn layout_stop(fault: LayoutFault) -> Stop
-    ensures { stopped result ≡ refused_layout fault }
-{
-    match fault {
-        LayoutFault::NoMemory => Stop::NoMemory,
-        fault => Stop::Refused(Refusal::Layout(fault)),
-    }
-}
-
-// The layout of the path's file.
-fn layout_of<D: Depot>(alloc: Global, depot: &mut D, path: &String) -> Result<Layout, Stop>
-    requires { HasRoom (D.state depot.old) }
-    ensures quiet { Quiet (D.state depot.old) (D.state depot.new) }
-    ensures found { IfOk result (λ l. ReadAs (D.state depot.old) (D.state depot.new)
-        (string_bytes path.now) (λ bytes. IsRead bytes None l)) }
-    ensures refused { IfErr result (λ why. RefusesLayout (D.state depot.old) (D.state depot.new)
-        (string_bytes path.now) (stopped why)) }
-{
-    let mut reader = LayoutReader::new(alloc);
-    feed_input(alloc, depot, path, &mut reader)?;
-    match reader.finish(alloc, None) {
-        Ok(layout) => Ok(layout),
-        Err(fault) => Err(layout_stop(fault)),
-    }
-}
-
-// What there is to write. One worker derives the layers.
-fn output_of<R: Threads + Wait + Sync>(
+// Reads the inputs of a command, and makes all that is to be written.
+fn prepare_task<R: Threads + Wait + Sync, D: Depot>(
     rt: &R,
     alloc: Global,
-    layout: &Layout,
-    rules: &RuleSet,
-    path: String,
-) -> Result<Output, AllocError>
-    requires read { (bytes : List ℕ) × (top : Option (List ℕ)) × IsRead bytes top layout.now }
-    requires rules { IsSound (rules_seen rules.now) }
-    ensures { IfOk result (IsOutput (string_bytes path) layout.now (rules_seen rules.now)) }
-{
-    let shapes = shapes_file(rt, alloc, layout, rules, 1)?;
-    let line = good_line(alloc, &shapes)?;
-    Ok(Output { path, shapes, line })
-}
-
-fn is_same(a: &String, b: &String) -> bool
-    ensures { result ≡ bytes_eq (string_bytes a.now) (string_bytes b.now) }
-{
-    a.as_str() == b.as_str()
-}
-
-// Reads the inputs of `shapes` and makes all that is to be written.
-fn shapes_output<R: Threads + Wait + Sync, D: Depot>(
-    rt: &R,
-    alloc: Global,
-    layout: String,
-    rules: String,
-    shapes: String,
+    task: Task,
     depot: &mut D,
 ) -> Result<Output, Stop>
-    requires { HasRoom (D.state depot.old) }
+    requires depot { HasRoom (D.state depot.old) }
+    requires workers { (1 ≤ task.workers) × (task.workers ≤ 64) }
+    requires apart { (paths_of task).shared ≡ None
+        → AreApart (blank_files (outputs_of task.outputs)) }
     ensures quiet { Quiet (D.state depot.old) (D.state depot.new) }
-    ensures ready { IfOk result (λ o. IsReady (Some (paths_of (string_bytes layout)
-        (string_bytes rules) (string_bytes shapes))) (D.state depot.old) (D.state depot.new) o) }
-    ensures stops { IfErr result (λ why. Stops (Some (paths_of (string_bytes layout)
-        (string_bytes rules) (string_bytes shapes))) (D.state depot.old) (D.state depot.new)
-        (stopped why)) }
+    ensures ready { IfOk result (λ o. IsReady (Some (paths_of task)) (D.state depot.old)
+        (D.state depot.new) o) }
+    ensures stops { IfErr result (λ why. Stops (Some (paths_of task)) (D.state depot.old)
+        (D.state depot.new) (stopped why)) }
 {
-    if is_same(&layout, &shapes) || is_same(&rules, &shapes) {
-        return Err(Stop::Refused(Refusal::SamePath(shapes)));
-    }
     covers_flat();
+    let Task {
+        layout,
+        rules,
+        top,
+        workers,
+        outputs,
+        shared,
+    } = task;
+    match shared {
+        Some(path) => return Err(Stop::Refused(Refusal::SamePath(path))),
+        None => {}
+    }
     let rule_set = rules_of(alloc, depot, &rules)?;
-    let design = layout_of(alloc, depot, &layout)?;
-    let output = output_of(rt, alloc, &design, &rule_set, shapes)?;
+    let design = layout_of(alloc, depot, &layout, &top)?;
+    let output = output_of(rt, alloc, &design, &rule_set, workers, outputs)?;
     Ok(output)
 }
 
@@ -152,14 +75,8 @@ fn prepare<R: Threads + Wait + Sync, D: Depot>(
     ensures stops { IfErr result (λ why. Stops (said (map string_bytes words.now))
         (D.state depot.old) (D.state depot.new) (stopped why)) }
 {
-    match read_words(alloc, words) {
-        Ok(
-            Command::Shapes {
-                layout,
-                rules,
-                shapes,
-            },
-        ) => shapes_output(rt, alloc, layout, rules, shapes, depot),
+    match read_task(alloc, words) {
+        Ok(task) => prepare_task(rt, alloc, task, depot),
         Err(WordFault::Refused) => Err(Stop::Refused(Refusal::Words)),
         Err(WordFault::NoMemory) => Err(Stop::NoMemory),
     }
@@ -179,20 +96,21 @@ fn refuse<S: Sink>(alloc: Global, why: Refusal, out: &mut S) -> Status
     Status::Refused(why)
 }
 
-// Writes the file, then sends the line.
+// Writes the files, then sends the line.
 fn deliver<D: Depot, S: Sink>(output: &Output, depot: &mut D, out: &mut S) -> Status
     requires depot { HasRoom (D.state depot.old) }
     requires out { SinkHasRoom (S.state out.old) }
+    requires apart { AreApart (files_of output.now.files.items) }
     ensures { Delivered output.now (D.state depot.old) (D.state depot.new) (S.state out.old)
         (S.state out.new) (answer_of result) }
 {
-    if write_file(depot, output.path.as_str(), output.shapes.text.as_slice()).is_err() {
+    if write_files(output.files.as_slice(), depot).is_err() {
         return Status::Outside;
     }
     if write_all(out, output.line.as_slice()).is_err() {
         return Status::Outside;
     }
-    Status::Good
+    output.verdict.status()
 }
 
 /// Runs the command that the words state, over the files of the depot, and gives the sink its
@@ -217,11 +135,11 @@ pub fn run_lvs<R: Threads + Wait + Sync, D: Depot, S: Sink>(
     // tell.
     ensures cause { HasCauseIn (said (map string_bytes words.now)) (D.state depot.old)
         (D.state depot.new) (answer_of result) }
-    // Where the files are told, the answer, the written file and the line are what they come to.
+    // Where the files are told, the answer, the written files and the line are what they come to.
     ensures outcome { ComesOut (said (map string_bytes words.now)) (D.state depot.old)
         (D.state depot.new) (S.state out.old) (S.state out.new) (answer_of result) }
-    // What is written after Good covers exactly the flat rules' unit squares of the layout, where
-    // the files are told.
+    // After each answer of a run that writes its files the shapes file covers exactly the flat
+    // rules' unit squares of the layout, where the files are told.
     ensures flat { WritesFlat (said (map string_bytes words.now)) (D.state depot.old)
         (D.state depot.new) (answer_of result) }
 {

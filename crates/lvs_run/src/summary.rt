@@ -3,9 +3,9 @@ ghost use Rattle.std.specs.Prelude.{◌≡◌, ◌++◌, ◌∷◌, [], IfOk, On
 ghost use Rattle.std.specs.Fmt.{decimal};
 ghost use Rattle.net_names.specs.Escapes.{escaped};
 ghost use Rattle.gds_layout.specs.declared.layout.LayoutFault.TheVariants.{Gds};
-ghost use Rattle.lvs_run.specs.Answers.{done_of, nothing, refused, Good, RefusedLayout};
+ghost use Rattle.lvs_run.specs.Answers.{Layers, nothing, refused, RefusedLayout};
 ghost use Rattle.lvs_run.specs.Answers.{RefusedRules};
-ghost use Rattle.lvs_run.specs.Lines.{layout_place, line_of, link_place, rule_place};
+ghost use Rattle.lvs_run.specs.Lines.{counts_line, layout_place, line_of, link_place, rule_place};
 
 use crate::status::Refusal;
 use cell_graph::LinkFault;
@@ -144,9 +144,10 @@ pub fn refusal_line(alloc: Global, why: &Refusal) -> Result<Vec<u8>, AllocError>
     }
 }
 
-/// The line of a run that wrote so many cells and rectangles.
-pub fn good_line(alloc: Global, shapes: &Shapes) -> Result<Vec<u8>, AllocError>
-    ensures { IfOk result (λ line. line.items ≡ line_of Good (done_of shapes.now)) }
+/// The line of `shapes`, which wrote so many cells and rectangles.
+pub fn layers_line(alloc: Global, shapes: &Shapes) -> Result<Vec<u8>, AllocError>
+    ensures { IfOk result (λ line. line.items ≡ counts_line (Layers shapes.now.cells
+        shapes.now.rectangles)) }
 {
     let mut line = Vec::new(alloc);
     push_number(alloc, &mut line, b"shapes cells ", u64::from(shapes.cells))?;

@@ -1,67 +1,66 @@
-// The words after the program's name.
-ghost use Rattle.std.specs.Prelude.{◌≡◌, ◌≢◌, map, IfOk, IfErr, IsErrOf, None, Some, string_bytes};
-ghost use Rattle.lvs_run.specs.Words.{said, IsSaid, is_value};
-ghost use Rattle.lvs_run.specs.declared.words.WordFault.TheVariants.{Refused as RefusedWords};
-ghost use Rattle.lvs_run.specs.declared.words.WordFault.TheVariants.{NoMemory as NoMemoryWords};
+// What is to be done of what the words state.
+ghost use Rattle.std.specs.Prelude.{◌≡◌, ◌≤◌, map, IfOk, IfSome, IsErrOf, None, Some, string_bytes};
+ghost use Rattle.std.specs.Option.{option_map};
+ghost use Rattle.lvs_files.specs.Files.{AreApart};
+ghost use Rattle.lvs_run.specs.Words.{blank_files, built_of, outputs_of, paths_of, said};
+ghost use Rattle.lvs_words.specs.Commands.{said_of};
 
-use std::alloc::{AllocError, Global};
-use thiserror::Error;
+use lvs_words::{Command, Stated, WordFault, read_stated};
+use net_names::Name;
+use std::alloc::Global;
 
-/// What a list of words asks for.
+/// The files that a command writes.
 #[derive(Debug, Drop)]
-pub enum Command {
-    /// `shapes LAYOUT RULES SHAPES`: writes the derived layers of a layout.
-    Shapes {
-        layout: String,
-        rules: String,
-        shapes: String,
-    },
+pub enum Outputs {
+    Shapes(String),
 }
 
-#[derive(Debug, Drop, Error)]
-pub enum WordFault {
-    #[error("the words are no command")]
-    Refused,
-    #[error("no memory")]
-    NoMemory,
+/// What is to be done: the files of a command, the name of the layout's top, the number of workers,
+/// and the path of a file that the command writes and names twice.
+#[derive(Debug, Drop)]
+pub struct Task {
+    pub layout: String,
+    pub rules: String,
+    pub top: Option<Name>,
+    pub workers: usize,
+    pub outputs: Outputs,
+    pub shared: Option<String>,
 }
 
-impl From<AllocError> for WordFault {
-    ghost from_gives = { λ _ e. e ≡ NoMemoryWords };
-
-    fn from(_: AllocError) -> Self {
-        WordFault::NoMemory
-    }
-}
-
-// Whether a word may stand for a path: it isn't empty and doesn't begin with `-`.
-fn is_value(word: &str) -> bool
-    ensures { result ≡ is_value word.now }
+// `None` where the command isn't built.
+fn task_of(stated: Stated) -> Option<Task>
+    ensures paths { option_map paths_of result ≡ built_of (said_of stated) }
+    ensures workers { IfSome result (λ t. (1 ≤ t.workers) × (t.workers ≤ 64)) }
 {
-    match word.as_bytes() {
-        [first, ..] => *first != b'-',
-        [] => false,
+    let Stated { command, shared } = stated;
+    match command {
+        Command::Shapes {
+            layout,
+            rules,
+            shapes,
+        } => Some(Task {
+            layout,
+            rules,
+            top: None,
+            workers: 1,
+            outputs: Outputs::Shapes(shapes),
+            shared,
+        }),
+        _command => None,
     }
 }
 
-/// The command that the words state. `Refused` where they state none. Takes memory for the three
-/// paths.
-pub fn read_words(alloc: Global, words: &[String]) -> Result<Command, WordFault>
-    ensures found { IfOk result (λ c. IsSaid (said (map string_bytes words.now)) c) }
+/// What is to be done of these words, by 1 to 64 workers. `Refused` where they state no command.
+pub fn read_task(alloc: Global, words: &[String]) -> Result<Task, WordFault>
+    ensures found { IfOk result (λ t. said (map string_bytes words.now) ≡ Some (paths_of t)) }
     ensures refused { IsErrOf result WordFault.Refused → said (map string_bytes words.now) ≡ None }
+    ensures workers { IfOk result (λ t. (1 ≤ t.workers) × (t.workers ≤ 64)) }
+    ensures apart { IfOk result (λ t. (paths_of t).shared ≡ None
+        → AreApart (blank_files (outputs_of t.outputs))) }
 {
-    let [command, layout, rules, shapes] = words else {
-        return Err(WordFault::Refused);
-    };
-    if command.as_str() != "shapes" {
-        return Err(WordFault::Refused);
+    let stated = read_stated(alloc, words)?;
+    match task_of(stated) {
+        Some(task) => Ok(task),
+        None => Err(WordFault::Refused),
     }
-    if !is_value(layout.as_str()) || !is_value(rules.as_str()) || !is_value(shapes.as_str()) {
-        return Err(WordFault::Refused);
-    }
-    Ok(Command::Shapes {
-        layout: layout.clone()?,
-        rules: rules.clone()?,
-        shapes: shapes.clone()?,
-    })
 }

@@ -1,7 +1,7 @@
 use Rattle.std.proofs.Common.{ℕ, List, subst}
 use Rattle.rule_text.specs.Reading.{Answers}
 use Rattle.lvs_run.proofs.Stopping.{rules_refused, rules_faults}
-use Rattle.lvs_run.proofs.run.rules_of.Goals as goal
+use Rattle.lvs_run.proofs.readings.rules_of.Goals as goal
 
 pub returns-clause-refused : goal.returns-clause-refused
 returns-clause-refused g c =
