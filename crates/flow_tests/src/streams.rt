@@ -53,6 +53,21 @@ pub fn push_rect(out: &mut Vec<u8>, layer: u8, corners: [i32; 4]) -> Result<(), 
     out.extend_from_slice(&[0, 4, 0x11, 0])
 }
 
+/// A text of one letter on a layer and texttype 1.
+pub fn push_text(
+    out: &mut Vec<u8>,
+    layer: u8,
+    letter: u8,
+    x: i32,
+    y: i32,
+) -> Result<(), AllocError> {
+    out.extend_from_slice(&[0, 4, 0x0C, 0, 0, 6, 0x0D, 2, 0, layer, 0, 6, 0x16, 2, 0, 1])?;
+    out.extend_from_slice(&[0, 12, 0x10, 3])?;
+    out.extend_from_slice(&x.to_be_bytes())?;
+    out.extend_from_slice(&y.to_be_bytes())?;
+    out.extend_from_slice(&[0, 6, 0x19, 6, letter, 0, 0, 4, 0x11, 0])
+}
+
 /// A placement of a cell.
 pub fn push_place(
     out: &mut Vec<u8>,

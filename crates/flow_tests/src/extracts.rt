@@ -1,0 +1,339 @@
+// Small layouts and the netlists that are extracted from them, as SPICE text.
+ghost use Rattle.std.specs.Prelude.{◌≤◌};
+
+use crate::gates::{
+    ACTIVE, CROSSED, HALF_CROSSED, NMOS, POLY, RING, Shape, one_cell, placed_once, push_shapes,
+};
+use crate::streams::{TURNS, push_cell, push_end, push_last, push_place, push_text, start};
+use deep_flow::extract;
+use deep_tables::GateCause;
+use gds_layout::read_layout;
+use geo_base::Square;
+use rule_text::read_rules;
+use spice_text::write_spice;
+use std::alloc::{AllocError, Global};
+use std::sync::Wait;
+use std::test::Fail;
+use std::thread::Threads;
+
+// The database unit of the streams, in picometres.
+const UNIT_PM: u32 = 1000;
+
+const METAL: &[u8] = b"metal = input(5, 0)\ntxt = labels(5, 1)\nconnect(metal, txt)\n";
+
+// Where a bad gate stands, and why it is bad.
+#[derive(Clone, Copy, Debug, PartialEq, Eq)]
+struct Told {
+    cell: u32,
+    least: Square,
+    cause: GateCause,
+}
+
+// The netlist and the bad gates of a layout.
+#[derive(Drop)]
+struct Found {
+    text: Vec<u8>,
+    bad: Vec<Told>,
+}
+
+fn extracted<R: Threads + Wait + Sync>(
+    rt: &R,
+    alloc: Global,
+    layout: &[u8],
+    rules: &[u8],
+    workers: usize,
+) -> Result<Found, AllocError>
+    requires { (1 ≤ workers) × (workers ≤ 64) }
+{
+    let Ok(layout) = read_layout(alloc, layout, None) else {
+        return Err(AllocError);
+    };
+    let Ok(rules) = read_rules(alloc, rules) else {
+        return Err(AllocError);
+    };
+    let found = extract(rt, alloc, &layout.design, &rules, UNIT_PM, workers)?;
+    let mut bad = Vec::new(alloc);
+    for gate in &found.bad {
+        bad.push(Told {
+            cell: gate.cell,
+            least: gate.least,
+            cause: gate.cause,
+        })?;
+    }
+    Ok(Found {
+        text: write_spice(alloc, &found.netlist)?,
+        bad,
+    })
+}
+
+// Whether this is the netlist, and these are the bad gates, for each number of workers.
+fn has_netlist<R: Threads + Wait + Sync>(
+    rt: &R,
+    alloc: Global,
+    layout: &[u8],
+    rules: &[u8],
+    text: &[u8],
+    bad: &[Told],
+) -> Result<bool, AllocError> {
+    for workers in 1..3 {
+        let found = extracted(rt, alloc, layout, rules, workers)?;
+        if found.text.as_slice() != text || found.bad.as_slice() != bad {
+            return Ok(false);
+        }
+    }
+    Ok(true)
+}
+
+// The transistor T with these letters at these points, and what stands behind it.
+fn transistor(alloc: Global, letters: &[(u8, i32, i32)]) -> Result<Vec<u8>, AllocError> {
+    let mut out = start(alloc)?;
+    push_shapes(&mut out, b'T', &CROSSED)?;
+    for (letter, x, y) in letters {
+        push_text(&mut out, 5, *letter, *x, *y)?;
+    }
+    push_end(&mut out)?;
+    Ok(out)
+}
+
+const LETTERS: [(u8, i32, i32); 3] = [(b'S', 100, 100), (b'D', 1000, 100), (b'G', 600, 1550)];
+
+#[test]
+fn one_transistor(rt: HostRuntime) -> Result<(), Fail> {
+    let alloc: Global = rt.alloc();
+    let mut layout = transistor(alloc, &LETTERS)?;
+    push_last(&mut layout)?;
+    let text = b"* lvs netlist
+.SUBCKT T G S D VSS
+M1 D G S VSS NMOS L=0.25U W=1.5U
+.ENDS T
+.END
+";
+    assert!(rt; has_netlist(&rt, alloc, &layout, NMOS, text, &[])?);
+    Ok(())
+}
+
+// A cell that places the transistor, and one that places that cell.
+#[test]
+fn three_levels(rt: HostRuntime) -> Result<(), Fail> {
+    let alloc: Global = rt.alloc();
+    let mut layout = transistor(alloc, &LETTERS)?;
+    for (name, placed) in [(b'M', b'T'), (b'U', b'M')] {
+        push_cell(&mut layout, name)?;
+        push_place(&mut layout, placed, TURNS[0], 0, 0)?;
+        push_end(&mut layout)?;
+    }
+    push_last(&mut layout)?;
+    let text = b"* lvs netlist
+.SUBCKT T G S D VSS
+M1 D G S VSS NMOS L=0.25U W=1.5U
+.ENDS T
+.SUBCKT M VSS
+X1 \\$1 \\$2 \\$3 VSS T
+.ENDS M
+.SUBCKT U VSS
+X1 VSS M
+.ENDS U
+.END
+";
+    assert!(rt; has_netlist(&rt, alloc, &layout, NMOS, text, &[])?);
+    Ok(())
+}
+
+// One name for source and drain, and two names for one of them.
+#[test]
+fn equal_labels(rt: HostRuntime) -> Result<(), Fail> {
+    let alloc: Global = rt.alloc();
+    let twice = [(b'S', 100, 100), (b'S', 1000, 100), (b'G', 600, 1550)];
+    let mut layout = transistor(alloc, &twice)?;
+    push_last(&mut layout)?;
+    let text = b"* lvs netlist
+.SUBCKT T G S S\\$3 VSS
+M1 S\\$3 G S VSS NMOS L=0.25U W=1.5U
+.ENDS T
+.END
+";
+    assert!(rt; has_netlist(&rt, alloc, &layout, NMOS, text, &[])?);
+    let both = [
+        (b'S', 100, 100),
+        (b'S', 1000, 100),
+        (b'D', 1000, 100),
+        (b'G', 600, 1550),
+    ];
+    let mut layout = transistor(alloc, &both)?;
+    push_last(&mut layout)?;
+    let text = b"* lvs netlist
+.SUBCKT T G S D\\,S VSS
+M1 D\\,S G S VSS NMOS L=0.25U W=1.5U
+.ENDS T
+.END
+";
+    assert!(rt; has_netlist(&rt, alloc, &layout, NMOS, text, &[])?);
+    Ok(())
+}
+
+const NOTHING: &[u8] = b"* lvs netlist\n.SUBCKT T\n.ENDS T\n.END\n";
+
+// Nets without a transistor.
+#[test]
+fn net_through_child(rt: HostRuntime) -> Result<(), Fail> {
+    let alloc: Global = rt.alloc();
+    let below: [Shape; 1] = [(5, [10, 0, 20, 10])];
+    let own: [Shape; 2] = [(5, [0, 0, 10, 10]), (5, [20, 0, 30, 10])];
+    let layout = placed_once(alloc, &[&below], &own)?;
+    assert!(rt; has_netlist(&rt, alloc, &layout, METAL, NOTHING, &[])?);
+    Ok(())
+}
+
+// Bad gates of the top, and of a cell that it places.
+#[test]
+fn bad_gates(rt: HostRuntime) -> Result<(), Fail> {
+    let alloc: Global = rt.alloc();
+    let half = Told {
+        cell: 0,
+        least: Square { x: 10, y: 0 },
+        cause: GateCause::Groups(1),
+    };
+    let ring = Told {
+        cell: 0,
+        least: Square { x: 10, y: 10 },
+        cause: GateCause::NoLength,
+    };
+    let layout = one_cell(alloc, &HALF_CROSSED)?;
+    assert!(rt; has_netlist(&rt, alloc, &layout, NMOS, NOTHING, &[half])?);
+    let layout = one_cell(alloc, &RING)?;
+    assert!(rt; has_netlist(&rt, alloc, &layout, NMOS, NOTHING, &[ring])?);
+    let layout = placed_once(alloc, &[&RING], &[])?;
+    assert!(rt; has_netlist(&rt, alloc, &layout, NMOS, NOTHING, &[ring])?);
+    Ok(())
+}
+
+// The active layer of one cell and the gate conductor of its parent.
+#[test]
+fn gate_across_cells(rt: HostRuntime) -> Result<(), Fail> {
+    let alloc: Global = rt.alloc();
+    let below: [Shape; 1] = [(ACTIVE, [0, 0, 50, 20])];
+    let own: [Shape; 1] = [(POLY, [20, -5, 30, 25])];
+    let layout = placed_once(alloc, &[&below], &own)?;
+    let text = b"* lvs netlist
+.SUBCKT T VSS
+M1 \\$3 \\$1 \\$2 VSS NMOS L=0.01U W=0.02U
+.ENDS T
+.END
+";
+    assert!(rt; has_netlist(&rt, alloc, &layout, NMOS, text, &[])?);
+    Ok(())
+}
+
+const CHIP: &[u8] = b"nwell = input(1, 0)\nactive = input(2, 0)\npoly = input(3, 0)
+contact = input(4, 0)\nmetal = input(5, 0)\ntie = input(6, 0)\ntxt = labels(5, 1)
+bulk = polygon_layer\npactive = active & nwell\nnactive = active - nwell
+pgate = pactive & poly\nngate = nactive & poly\npsd = pactive - poly\nnsd = nactive - poly
+ptie = tie - nwell\nntie = tie & nwell
+extract_devices(mos4(\"PMOS\"), { \"SD\" => psd, \"G\" => pgate, \"W\" => nwell, \"tG\" => poly })
+extract_devices(mos4(\"NMOS\"), { \"SD\" => nsd, \"G\" => ngate, \"W\" => bulk, \"tG\" => poly })
+connect(psd, contact)\nconnect(nsd, contact)\nconnect(poly, contact)\nconnect(ptie, contact)
+connect(ntie, contact)\nconnect(ntie, nwell)\nconnect(contact, metal)\nconnect(metal, txt)
+connect_global(bulk, \"VSS\")\nconnect_global(ptie, \"VSS\")\n";
+
+const INVERTER: [Shape; 21] = [
+    (1, [0, 1500, 1000, 3000]),
+    (2, [200, 300, 800, 800]),
+    (2, [200, 1700, 800, 2700]),
+    (3, [450, 100, 550, 2900]),
+    (3, [300, 1450, 450, 1550]),
+    (4, [80, 70, 140, 130]),
+    (4, [260, 400, 320, 460]),
+    (4, [650, 400, 710, 460]),
+    (4, [320, 1470, 400, 1530]),
+    (4, [650, 1800, 710, 1860]),
+    (4, [260, 2500, 320, 2560]),
+    (4, [80, 2870, 140, 2930]),
+    (5, [0, 0, 1000, 200]),
+    (5, [250, 0, 330, 470]),
+    (5, [640, 390, 720, 1870]),
+    (5, [0, 1450, 420, 1550]),
+    (5, [640, 1450, 1000, 1550]),
+    (5, [250, 2490, 330, 3000]),
+    (5, [0, 2800, 1000, 3000]),
+    (6, [50, 50, 200, 150]),
+    (6, [50, 2850, 200, 2950]),
+];
+
+#[test]
+fn inverter(rt: HostRuntime) -> Result<(), Fail> {
+    let alloc: Global = rt.alloc();
+    let mut layout = start(alloc)?;
+    push_shapes(&mut layout, b'T', &INVERTER)?;
+    for (letter, x, y) in [(b'A', 10, 1500), (b'Y', 990, 1500), (b'V', 10, 2900)] {
+        push_text(&mut layout, 5, letter, x, y)?;
+    }
+    push_end(&mut layout)?;
+    push_last(&mut layout)?;
+    let text = b"* lvs netlist
+.SUBCKT T V A VSS Y
+M1 Y A V V PMOS L=0.1U W=1U
+M2 Y A VSS VSS NMOS L=0.1U W=0.5U
+.ENDS T
+.END
+";
+    assert!(rt; has_netlist(&rt, alloc, &layout, CHIP, text, &[])?);
+    Ok(())
+}
+
+const ONE_NET: &[u8] = b"active = input(2, 0)\npoly = input(3, 0)\nbulk = polygon_layer
+gate = active & poly\nsd = active - poly
+extract_devices(mos4(\"NMOS\"), { \"SD\" => sd, \"G\" => gate, \"W\" => bulk, \"tG\" => poly })
+connect_global(sd, \"VSS\")\nconnect_global(poly, \"VSS\")\nconnect_global(bulk, \"VSS\")\n";
+
+// Each cell places the one before twice, side by side or one above the other.
+fn doubled(alloc: Global, levels: u8) -> Result<Vec<u8>, AllocError> {
+    let mut out = start(alloc)?;
+    let shapes: [Shape; 2] = [(ACTIVE, [0, 0, 3, 1]), (POLY, [1, -1, 2, 2])];
+    push_shapes(&mut out, b'A', &shapes)?;
+    push_end(&mut out)?;
+    let mut step = 8i32;
+    for level in 1..levels {
+        let below = b'A'.wrapping_add(level).wrapping_sub(1);
+        push_cell(&mut out, b'A'.wrapping_add(level))?;
+        push_place(&mut out, below, TURNS[0], 0, 0)?;
+        if level % 2 == 1 {
+            push_place(&mut out, below, TURNS[0], step, 0)?;
+        } else {
+            push_place(&mut out, below, TURNS[0], 0, step)?;
+            step = step.wrapping_mul(2);
+        }
+        push_end(&mut out)?;
+    }
+    push_last(&mut out)?;
+    Ok(out)
+}
+
+fn doubled_text(alloc: Global, levels: u8) -> Result<Vec<u8>, AllocError> {
+    let mut out = Vec::new(alloc);
+    out.extend_from_slice(b"* lvs netlist\n.SUBCKT A VSS\nM1 VSS VSS VSS VSS NMOS ")?;
+    out.extend_from_slice(b"L=0.001U W=0.001U\n.ENDS A\n")?;
+    for level in 1..levels {
+        let below = b'A'.wrapping_add(level).wrapping_sub(1);
+        let name = b'A'.wrapping_add(level);
+        out.extend_from_slice(b".SUBCKT ")?;
+        out.extend_from_slice(&[name])?;
+        out.extend_from_slice(b" VSS\nX1 VSS ")?;
+        out.extend_from_slice(&[below])?;
+        out.extend_from_slice(b"\nX2 VSS ")?;
+        out.extend_from_slice(&[below])?;
+        out.extend_from_slice(b"\n.ENDS ")?;
+        out.extend_from_slice(&[name, b'\n'])?;
+    }
+    out.extend_from_slice(b".END\n")?;
+    Ok(out)
+}
+
+// 2^24 transistors.
+#[test]
+fn doubling_hierarchy(rt: HostRuntime) -> Result<(), Fail> {
+    let alloc: Global = rt.alloc();
+    let layout = doubled(alloc, 25)?;
+    let text = doubled_text(alloc, 25)?;
+    assert!(rt; has_netlist(&rt, alloc, &layout, ONE_NET, &text, &[])?);
+    Ok(())
+}
