@@ -11,7 +11,7 @@ use table_laws::bad_gates;
 
 /// What is written of a layout's netlist means it, and no other. Its last circuit is the top's and
 /// expands to the netlist of the flat layout: a device for each good gate of the flat top, on the
-/// regions of the flat top. A bad gate is told exactly where the flat top has one.
+/// regions of the flat top. The bad gates of the flat top are told, and nothing else.
 pub fn flat_netlist()
     ensures { ShowsFlatLaw }
 {
