@@ -1,0 +1,6 @@
+pub mod Alignable
+pub mod File
+pub mod Matched
+pub mod Named
+pub mod One
+pub mod Verdicts

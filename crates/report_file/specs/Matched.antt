@@ -1,0 +1,83 @@
+-- A reported match: the good gates and the regions of the flat layout correspond one to one to the
+-- devices and the nets of the flattened schematic.
+use Rattle.std.specs.Prelude.{◌≡◌, ℕ, List, [], Option, Some}
+use Rattle.align_laws.specs.Cut.{Alignment}
+use Rattle.align_laws.specs.Partners.{IsAlignedPair}
+use Rattle.cell_graph.specs.Linked.{Linked, plain}
+use Rattle.composed_laws.specs.Matched.{AreDevicesMatched, AreNetsMatched}
+use Rattle.deep_tables.specs.declared.gates.BadGate.{BadGate}
+use Rattle.flat_layout.specs.Circuits.{IsCircuitCell}
+use Rattle.flat_layout.specs.Expanded.{AreTablesRight, CircuitTables}
+use Rattle.flat_layout.specs.GateTables.{GateSquare}
+use Rattle.flat_layout.specs.Nets.{Tables}
+use Rattle.flat_layout.specs.Regions.{Node}
+use Rattle.headline_laws.specs.FlatNetlist.{flat_netlist, IsFlatGateOf, IsFlatRegionOf}
+use Rattle.match_report.specs.Report.{answers_of}
+use Rattle.match_report.specs.declared.report.Compared.{Compared}
+use Rattle.net_model.specs.Rows.{plain_netlist}
+use Rattle.pair_jobs.specs.Answers.{pairings_of}
+use Rattle.pair_jobs.specs.declared.verdict.Verdict.TheVariants as verdict
+use Rattle.plain_netlist.specs.Flats.{Corresponds, expanded, Reversed, Through}
+use Rattle.plain_netlist.specs.Netlist.{Netlist, Slot}
+use Rattle.report_file.specs.File.{IsReportFile}
+use Rattle.rule_layers.specs.Meaning.{device_rules, wiring_of}
+use Rattle.rule_text.specs.Rules.{Rules}
+
+-- What joins the flat layout with the flattened schematic: the right tables of the layout's cells,
+-- whose circuits are the layout's netlist with the top's as number top; the top's partner in the
+-- schematic; and the aligned pair of the two netlists, whose pairs were compared.
+pub record Matching (d : Linked) (r : Rules) (unit : ℕ) (layout : Netlist) (top : ℕ)
+    (schematic : Netlist) (f : Compared) : Type 0 where
+  pub tables : Tables
+  pub circuits : CircuitTables
+  pub level : ℕ → ℕ
+  pub are_right : AreTablesRight (plain d) (wiring_of r) tables circuits layout (device_rules r) unit
+      level
+  pub top_is : IsCircuitCell circuits.cells top (plain d).top
+  pub partner : ℕ
+  pub left_by : Alignment
+  pub right_by : Alignment
+  pub aligned : IsAlignedPair layout schematic top partner r.same (plain_netlist f.left)
+      (plain_netlist f.right) left_by right_by
+
+module _ {d : Linked} {r : Rules} {unit : ℕ} {layout : Netlist} {top : ℕ} {schematic : Netlist}
+    {f : Compared} (m : Matching d r unit layout top schematic f) where
+  -- a gate of the flat layout, known by each of its squares, and the device that the reported
+  -- pairings take it to, by way of the device of its cell's circuit
+  abbrev pub devices : GateSquare → Slot → Type 0
+  devices = Through
+      (Reversed (IsFlatGateOf (plain d) (wiring_of r) m.circuits layout top (device_rules r)))
+      (AreDevicesMatched layout (plain_netlist f.left) (plain_netlist f.right) schematic m.left_by
+      m.right_by m.aligned.left_aligned m.aligned.right_aligned (pairings_of (answers_of f)) top
+      m.partner)
+
+  -- a region of the flat layout, known by each of its nodes, and the net that they take it to
+  abbrev pub nets : Node → Slot → Type 0
+  nets = Through
+      (Reversed (IsFlatRegionOf (plain d) (wiring_of r) m.tables m.circuits layout top))
+      (AreNetsMatched layout (plain_netlist f.left) (plain_netlist f.right) schematic m.left_by
+      m.right_by m.aligned.left_aligned m.aligned.right_aligned (pairings_of (answers_of f)) top
+      m.partner)
+
+-- No gate is bad, and the reported pairs compose to a one-to-one correspondence of the flat layout
+-- with the schematic, flattened from the top's partner: good gates with devices of their class and
+-- sizes, terminals with terminals, source and drain in either order, regions with nets, pins with
+-- pins.
+pub record MatchesFlat (d : Linked) (r : Rules) (unit : ℕ) (layout : Netlist) (top : ℕ)
+    (bad : List BadGate) (schematic : Netlist) (compared : Option Compared) : Type 0 where
+  pub good : bad ≡ []
+  pub found : Compared
+  pub is : compared ≡ Some found
+  pub matching : Matching d r unit layout top schematic found
+  pub corresponds : Corresponds (flat_netlist (plain d) (wiring_of r) (device_rules r) unit)
+      (expanded schematic matching.partner) (devices matching) (nets matching)
+
+-- a match is reported of nothing else
+abbrev pub MatchedReportLaw : Type 0
+MatchedReportLaw = (d : Linked) (r : Rules) (unit : ℕ) (t : Tables) (g : CircuitTables)
+    (level : ℕ → ℕ) (layout : Netlist) (top : ℕ) (bad : List BadGate) (schematic : Netlist)
+    (text : List ℕ) (pairs : ℕ)
+    → AreTablesRight (plain d) (wiring_of r) t g layout (device_rules r) unit level
+    → IsCircuitCell g.cells top (plain d).top
+    → (x : IsReportFile d r layout top bad schematic text pairs verdict.Match)
+    → MatchesFlat d r unit layout top bad schematic x.compared

@@ -1,0 +1,158 @@
+//! The report of a comparison, complete in memory.
+ghost use Rattle.std.specs.Prelude.{◌≡◌, ◌<◌, ◌≤◌, IfOk, length, slice_get};
+ghost use Rattle.std.specs.List.{All};
+ghost use Rattle.match_report.specs.Pairs.{name_of};
+ghost use Rattle.match_report.specs.Report.{report};
+ghost use Rattle.net_align.specs.Compared.{AreCalleesFirst, IsAlignable};
+ghost use Rattle.net_align.specs.Names.{left_names, right_names};
+ghost use Rattle.net_model.specs.Rows.{plain_netlist};
+ghost use Rattle.pair_jobs.specs.Verdict.{IsRunVerdict};
+ghost use Rattle.plain_netlist.specs.Lists.{AreApart};
+ghost use Rattle.report_file.specs.File.{IsComparison, IsReportFile, all_answers, pair_count};
+ghost use Rattle.rule_text.specs.Seen.{rules_seen};
+ghost use Rattle.rule_text.specs.Sound.{IsSound};
+
+use cell_graph::Design;
+use deep_tables::BadGate;
+use match_flow::{Comparison, compare};
+use match_report::{Compared, report_text};
+use net_model::Netlist;
+use net_names::Name;
+use pair_jobs::{Verdict, judge_run};
+use rule_text::RuleSet;
+use std::alloc::{AllocError, Global};
+use std::sync::Wait;
+use std::thread::Threads;
+
+/// A report, complete in memory: its text, how many pairs of circuits stand in it, and what the bad
+/// gates and the pairs come to.
+#[derive(Drop)]
+pub struct Report {
+    pub text: Vec<u8>,
+    pub pairs: u32,
+    pub verdict: Verdict,
+}
+
+// The name of the top's circuit.
+fn top_name(layout: &Netlist, top: u32) -> &Name
+    requires { top < length layout.now.circuits.items }
+    ensures { result.now ≡ name_of (slice_get (plain_netlist layout.now).circuits top) }
+{
+    &layout.circuits[top as usize].name
+}
+
+// Layout and schematic compared, in the form that a report has.
+fn compare_netlists<R: Threads + Wait + Sync>(
+    rt: &R,
+    alloc: Global,
+    layout: &Netlist,
+    top: u32,
+    schematic: &Netlist,
+    same: &[(Name, Name)],
+    limit: u32,
+    workers: usize,
+) -> Result<Option<Compared>, AllocError>
+    requires layout { IsAlignable (plain_netlist layout.now) }
+    requires schematic { IsAlignable (plain_netlist schematic.now) }
+    requires order { AreCalleesFirst (plain_netlist layout.now) }
+    requires top { top < length layout.now.circuits.items }
+    requires lefts { AreApart (left_names same.now) }
+    requires rights { AreApart (right_names same.now) }
+    requires workers { (1 ≤ workers) × (workers ≤ 64) }
+    ensures { IfOk result (IsComparison (plain_netlist layout.now) top (plain_netlist schematic.now)
+        same.now limit) }
+{
+    let Some(found) = compare(rt, alloc, layout, top, schematic, same, limit, workers)? else {
+        return Ok(None);
+    };
+    let Comparison {
+        left,
+        right,
+        answers,
+    } = found;
+    Ok(Some(Compared {
+        left,
+        right,
+        answers,
+    }))
+}
+
+fn count_pairs(compared: &Option<Compared>) -> Result<u32, AllocError>
+    ensures { IfOk result (λ n. n ≡ pair_count compared.now) }
+{
+    let Some(found) = compared else {
+        return Ok(0);
+    };
+    let count = found.answers.len();
+    if count > u32::MAX as usize {
+        return Err(AllocError);
+    }
+    Ok(count as u32)
+}
+
+fn judge_compared(bad: usize, compared: &Option<Compared>) -> Result<Verdict, AllocError>
+    ensures { IfOk result (IsRunVerdict bad (all_answers compared.now)) }
+{
+    match compared {
+        Some(found) => judge_run(bad, Some(&found.answers)),
+        None => judge_run(bad, None),
+    }
+}
+
+fn write_report(
+    alloc: Global,
+    design: &Design,
+    top: &Name,
+    bad: &[BadGate],
+    compared: &Option<Compared>,
+) -> Result<Report, AllocError>
+    requires cells { All (λ x. x.cell < length design.now.cells) bad.now }
+    ensures text { IfOk result (λ x. x.text.items
+        ≡ report design.now top.now bad.now compared.now) }
+    ensures pairs { IfOk result (λ x. x.pairs ≡ pair_count compared.now) }
+    ensures verdict { IfOk result (λ x. IsRunVerdict (length bad.now) (all_answers compared.now)
+        x.verdict) }
+{
+    let pairs = count_pairs(compared)?;
+    let verdict = judge_compared(bad.len(), compared)?;
+    let text = report_text(alloc, top, bad, design, compared)?;
+    Ok(Report {
+        text,
+        pairs,
+        verdict,
+    })
+}
+
+/// A layout's netlist, below its top, compared with a schematic, and the report of that with the
+/// layout's bad gates. Partners and the limit of refuted guesses in each pair are those of the
+/// rules. A mismatch is a bad gate, a top without a partner or a pair that differs; a match is that
+/// every pair matches. The answer is the same for every number of workers, of which there are 1 to
+/// 64. An `Err` is want of memory, or 2^32 pairs or more. Cost: the comparison of the pairs, and the
+/// bytes written.
+pub fn report_file<R: Threads + Wait + Sync>(
+    rt: &R,
+    alloc: Global,
+    design: &Design,
+    rules: &RuleSet,
+    netlist: &Netlist,
+    top: u32,
+    bad: &[BadGate],
+    schematic: &Netlist,
+    workers: usize,
+) -> Result<Report, AllocError>
+    requires rules { IsSound (rules_seen rules.now) }
+    requires netlist { IsAlignable (plain_netlist netlist.now) }
+    requires schematic { IsAlignable (plain_netlist schematic.now) }
+    requires order { AreCalleesFirst (plain_netlist netlist.now) }
+    requires top { top < length netlist.now.circuits.items }
+    requires cells { All (λ x. x.cell < length design.now.cells) bad.now }
+    requires workers { (1 ≤ workers) × (workers ≤ 64) }
+    ensures { IfOk result (λ x. IsReportFile design.now (rules_seen rules.now)
+        (plain_netlist netlist.now) top bad.now (plain_netlist schematic.now) x.text.items x.pairs
+        x.verdict) }
+{
+    let (same, limit) = (&rules.same, rules.max_guesses);
+    let compared = compare_netlists(rt, alloc, netlist, top, schematic, same, limit, workers)?;
+    let report = write_report(alloc, design, top_name(netlist, top), bad, &compared)?;
+    Ok(report)
+}

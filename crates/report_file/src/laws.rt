@@ -1,0 +1,50 @@
+//! What a report says of the layout and the schematic.
+ghost use Rattle.report_file.specs.Matched.{MatchedReportLaw};
+ghost use Rattle.report_file.specs.Named.{TopPartnerLaw};
+ghost use Rattle.report_file.specs.One.{OneReportLaw};
+ghost use Rattle.report_file.specs.Verdicts.{BadGateLaw, KeptPairLaw, UndecidedLaw, UnevenPairLaw};
+
+use align_laws::pairs;
+use composed_laws::answers;
+use headline_laws::flat_layouts;
+use match_flow::device_counts;
+use pair_jobs::{pair_answers, verdicts};
+
+/// A layout, rules, netlists and bad gates have one report: one text, one number of pairs, one
+/// outcome.
+pub fn one_report()
+    ensures { OneReportLaw }
+{
+    pairs();
+    answers();
+    verdicts();
+}
+
+/// Where a match is reported, no gate is bad, and the flat layout corresponds to the flattened
+/// schematic.
+pub fn matched_report()
+    ensures { MatchedReportLaw }
+{
+    flat_layouts();
+    pair_answers();
+}
+
+/// A bad gate makes a mismatch, and so does a pair with unequal numbers of devices of some class,
+/// length and width. A pair that has a correspondence never differs. A report is undecided exactly
+/// where nothing makes a mismatch and some pair is undecided.
+pub fn report_verdicts()
+    ensures bad { BadGateLaw }
+    ensures uneven { UnevenPairLaw }
+    ensures kept { KeptPairLaw }
+    ensures undecided { UndecidedLaw }
+{
+    pairs();
+    device_counts();
+    pair_answers();
+    verdicts();
+}
+
+/// Beside the layout's top, a report names the top's partner in the schematic.
+pub fn top_partner()
+    ensures { TopPartnerLaw }
+{}

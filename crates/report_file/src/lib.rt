@@ -1,0 +1,10 @@
+//! The report of the comparison of a layout with a schematic, and what it comes to.
+#![tactic(auto)]
+
+mod alignable;
+mod file;
+mod laws;
+
+pub use alignable::{extracted_alignable, read_alignable};
+pub use file::{Report, report_file};
+pub use laws::{matched_report, one_report, report_verdicts, top_partner};
