@@ -181,8 +181,7 @@ fn refused_streams(rt: HostRuntime) -> Result<(), Fail> {
     unknown.push(0x7F)?;
     unknown.extend_from_slice(stored.get(165..).ok_or("too short")?)?;
     assert_eq!(rt; fault(alloc, &unknown), Some((3, 12, 162)));
-    let turned =
-        "00040A00 00061206 4200 00061A01 0000 000C1C05 422D000000000000 000C1003 00000000 \
+    let turned = "00040A00 00061206 4200 00061A01 0000 000C1C05 422D000000000000 000C1003 00000000 \
         00000000 00041100";
     let angle = bytes(alloc, &[HEAD, CELL, turned, END])?;
     assert_eq!(rt; fault(alloc, &angle), Some((10, 9, 110)));

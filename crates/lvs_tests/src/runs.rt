@@ -280,8 +280,7 @@ fn spiral_boundary(rt: HostRuntime) -> Result<(), Fail> {
 fn four_booleans(rt: HostRuntime) -> Result<(), Fail> {
     let alloc = rt.alloc();
     let layout = stream(alloc, &OVERLAP)?;
-    let rules =
-        b"a = input(1, 0)\nb = input(2, 0)\nd = a - b\ne = a | b\nf = a ^ b
+    let rules = b"a = input(1, 0)\nb = input(2, 0)\nd = a - b\ne = a | b\nf = a ^ b
 e.output(11, 0)\nd.output(12, 0)\nf.output(13, 0)\n";
     let run = run_of(&rt, alloc, &layout, rules, &SHAPES, NONE)?;
     assert_eq!(rt; run.code, 0);
