@@ -1,5 +1,5 @@
 -- The circuit of a cell from its pins, its transistors and its calls.
-use Rattle.std.proofs.Common.{◌≡◌, inl, inr, ℕ, ◌+◌, ◌<◌, Bool, true, List, [], ◌++◌, Some, flat_map, slice_get, length, sym, ◌∙◌, ap, subst, arith}
+use Rattle.std.proofs.Common.{◌≡◌, inl, inr, ℕ, ◌<◌, Bool, true, List, [], ◌++◌, Some, flat_map, slice_get, length, sym, ◌∙◌, ap, subst, arith}
 use Rattle.std.proofs.lemmas.Option.{same_Some, slice_get_within}
 use Rattle.flat_layout.specs.Circuits.{AreCircuitDevices, AreDrawn, IsDrawnBelow, drawn_names, drawn_nets, pin_nets}
 use Rattle.flat_layout.specs.Gates.{Rule}

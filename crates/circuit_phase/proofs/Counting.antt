@@ -8,7 +8,7 @@ use Rattle.plain_netlist.proofs.Members.{position}
 use Rattle.plain_netlist.specs.Lists.{AreApart}
 use Rattle.circuit_phase.specs.Numbered.{AreNumbers}
 use Rattle.circuit_phase.specs.Numbering.{has_net, with_net}
-use Rattle.circuit_phase.proofs.Terminals.{left, right}
+use Rattle.net_marks.proofs.Terminals.{left, right}
 
 clash : false ≡ true → ⊥
 clash e = let z : ⊥ = cc in z

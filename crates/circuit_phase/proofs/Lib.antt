@@ -9,11 +9,9 @@ pub mod Drawing
 pub mod Endings
 pub mod Filtering
 pub mod Gating
-pub mod Grounding
 pub mod Leading
 pub mod Marked
 pub mod Naming
 pub mod Numbers
 pub mod Righting
 pub mod Series
-pub mod Terminals

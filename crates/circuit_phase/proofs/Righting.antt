@@ -1,5 +1,5 @@
 -- What a job reads is right, and so is what it makes.
-use Rattle.std.proofs.Common.{◌≡◌, inr, ℕ, zero, suc, ◌+◌, ◌<◌, Bool, List, [], ◌∷◌, ◌++◌, Option, Some, None, IsSomeAnd, map, slice_get, slice_index, get_or, length, refl, sym, ◌∙◌, ap, subst, arith}
+use Rattle.std.proofs.Common.{◌≡◌, inr, ℕ, zero, suc, ◌<◌, Bool, List, [], ◌∷◌, ◌++◌, Option, Some, None, IsSomeAnd, map, slice_get, slice_index, get_or, length, refl, sym, ◌∙◌, ap, subst, arith}
 use Rattle.std.proofs.lemmas.List.{length-map}
 use Rattle.std.proofs.lemmas.Option.{slice_get_within}
 use Rattle.cell_graph.proofs.Bridge.{heights}
@@ -48,7 +48,7 @@ use Rattle.rule_text.specs.Seen.{rules_seen}
 use Rattle.circuit_phase.specs.Placed.{AreNetsOver, IsNumberOf, tables_with}
 use Rattle.circuit_phase.proofs.Completing.{completed, drawn_over, gate_below}
 use Rattle.circuit_phase.proofs.Gating.{gates_read}
-use Rattle.circuit_phase.proofs.Grounding.{terminals}
+use Rattle.net_marks.proofs.Grounding.{terminals}
 use Rattle.circuit_phase.proofs.Numbers.{within}
 
 -- all that circuits are made from

@@ -3,9 +3,7 @@ pub mod Calls
 pub mod Devices
 pub mod Drawn
 pub mod Gated
-pub mod Laws
 pub mod Made
-pub mod Marks
 pub mod Names
 pub mod Numbered
 pub mod Numbering

@@ -1,5 +1,5 @@
 //! Marks at the nets with drawn pins of placed cells.
-ghost use Rattle.std.specs.Prelude.{◌≡◌, ◌<◌, ◌==◌, ◌&&◌, ◌||◌, ℕ, Bool, List};
+ghost use Rattle.std.specs.Prelude.{◌≡◌, ◌<◌, ◌||◌, ℕ, Bool, List};
 ghost use Rattle.std.specs.Prelude.{Some, false, length, map};
 ghost use Rattle.std.specs.Prelude.{get_or, slice_get, IfOk};
 ghost use Rattle.deep_tables.specs.declared.nets.Item.{Item};
@@ -16,8 +16,8 @@ ghost use Rattle.circuit_phase.specs.Placed.{AreNetsOver, AreReadable, IsNumberO
 ghost use Rattle.circuit_phase.specs.Placed.{is_child_marked, is_drawn_pin, is_marked_by};
 ghost use Rattle.circuit_phase.specs.Placed.{placed_cells, tables_with};
 
-use crate::marks::mark_gates;
 use deep_tables::{CellNets as DeepNets, CellPins as DeepPins, Gate, Item};
+use net_marks::{mark_gates, mark_if};
 use std::alloc::{AllocError, Global};
 
 /// What is read of the cells that a cell places.
@@ -80,17 +80,6 @@ fn is_child_marked<P: Placed>(placed: &P, cells: &[u32], item: &Item) -> bool
     match *item {
         Item::Child { place, net } => is_drawn_pin(placed, cells[place as usize], net),
         _ => false,
-    }
-}
-
-fn mark_if(net: u32, wanted: bool, marks: &mut [bool])
-    requires { net < length marks.old }
-    ensures count { length marks.new ≡ length marks.old }
-    ensures marked { (x : ℕ) → get_or marks.new x false
-        ≡ ((wanted && (x == net)) || get_or marks.old x false) }
-{
-    if wanted {
-        marks[net as usize] = true;
     }
 }
 

@@ -10,7 +10,7 @@ ghost use Rattle.plain_netlist.specs.Normal.{AreNumbered, terminal_nets};
 ghost use Rattle.rule_layers.specs.Meaning.{device_rules};
 ghost use Rattle.rule_text.specs.Rules.{Rules};
 ghost use Rattle.circuit_phase.specs.Devices.{AddDevices};
-ghost use Rattle.circuit_phase.specs.Marks.{has_terminal, is_terminal};
+ghost use Rattle.net_marks.specs.Marks.{has_terminal, is_terminal};
 ghost use Rattle.circuit_phase.specs.Numbering.{AreKept};
 
 use crate::devices::{TerminalNets, device_row};

@@ -1,1 +1,5 @@
+pub mod Badly
+pub mod Copied
+pub mod Drawing
+pub mod Few
 pub mod Jobs

@@ -16,8 +16,8 @@ use std::sync::Wait;
 use std::thread::Threads;
 use zone_phase::ZonePhase;
 
-// The disturbed squares of each reached cell.
-fn find_zones<R: Threads + Wait + Sync>(
+/// The disturbed squares of each reached cell.
+pub fn find_zones<R: Threads + Wait + Sync>(
     rt: &R,
     alloc: Global,
     design: &Design,
@@ -35,6 +35,26 @@ fn find_zones<R: Threads + Wait + Sync>(
     Ok(zones)
 }
 
+/// What each reached cell holds itself of each name, over its disturbed squares.
+pub fn find_layers<R: Threads + Wait + Sync>(
+    rt: &R,
+    alloc: Global,
+    design: &Design,
+    rules: &RuleSet,
+    zones: &Zones,
+    workers: usize,
+) -> Result<Layers, AllocError>
+    requires workers { (1 ≤ workers) × (workers ≤ 64) }
+    requires zones { AreZones (plain design.now) (rules_seen rules.now) zones.now }
+    ensures { IfOk result (AreLayers (plain design.now) (rules_seen rules.now)) }
+{
+    design.sound();
+    let phase = LayerPhase::new(alloc, design, rules, zones)?;
+    let results = run_levels(rt, alloc, &phase, workers)?;
+    let layers = Layers::new(alloc, design, results)?;
+    Ok(layers)
+}
+
 /// The squares that each reached cell holds itself, for each name of the rules. Nothing is
 /// flattened: a cell is worked once, however often it is placed. The answer is the same for every
 /// number of workers. An `Err` is want of memory.
@@ -49,10 +69,6 @@ pub fn derive_layers<R: Threads + Wait + Sync>(
     requires rules { IsSound (rules_seen rules.now) }
     ensures { IfOk result (AreLayers (plain design.now) (rules_seen rules.now)) }
 {
-    design.sound();
     let zones = find_zones(rt, alloc, design, rules, workers)?;
-    let phase = LayerPhase::new(alloc, design, rules, &zones)?;
-    let results = run_levels(rt, alloc, &phase, workers)?;
-    let layers = Layers::new(alloc, design, results)?;
-    Ok(layers)
+    find_layers(rt, alloc, design, rules, &zones, workers)
 }

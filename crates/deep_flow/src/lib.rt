@@ -1,8 +1,21 @@
 //! The phases of a layout, one after the other.
 #![tactic(auto)]
 
+mod bad;
+mod circuits;
+mod drawn;
+mod extracted;
+mod gates;
 mod layers;
+mod netlist;
 mod nets;
+mod pins;
 
-pub use layers::derive_layers;
-pub use nets::{Connected, derive_nets};
+pub use bad::bad_gates;
+pub use circuits::find_circuits;
+pub use drawn::{Drawn, draw};
+pub use extracted::{Extracted, extract};
+pub use gates::{Gated, derive_gates, find_gates};
+pub use layers::{derive_layers, find_layers, find_zones};
+pub use nets::{Connected, derive_nets, find_nets};
+pub use pins::find_pins;

@@ -24,8 +24,8 @@ pub struct Connected {
     pub nets: Nets,
 }
 
-// The nets of each reached cell, over its layers.
-fn find_nets<R: Threads + Wait + Sync>(
+/// The nets of each reached cell, over its layers.
+pub fn find_nets<R: Threads + Wait + Sync>(
     rt: &R,
     alloc: Global,
     design: &Design,

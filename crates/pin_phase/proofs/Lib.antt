@@ -1,4 +1,13 @@
+pub mod Added
 pub mod Cornering
+pub mod Lining
+pub mod Linking
+pub mod Making
+pub mod Marking
+pub mod Naming
 pub mod Ordered
 pub mod Tagging
 pub mod Texting
+pub mod Twice
+pub mod Using
+pub mod Working

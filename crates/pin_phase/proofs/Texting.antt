@@ -4,13 +4,13 @@ use Rattle.std.proofs.Math.Seq.{take-length}
 use Rattle.std.proofs.lemmas.List.{take_more}
 use Rattle.net_link_laws.specs.declared.piece.NetPiece.{NetPiece}
 use Rattle.pin_phase.specs.Corners.{IsPieceOf}
-use Rattle.pin_phase.specs.Sets.{AddsTags}
+use Rattle.pin_phase.specs.Sets.{Adds}
 
 -- these nets have the text
 abbrev pub IsTold : List NetPiece → List ℕ → ℕ → List ℕ → Type 0
 IsTold pieces text x s = IsPieceOf pieces x × (s ≡ text)
 
-pub none_told : (text : List ℕ) (tags : List (List (List ℕ))) → AddsTags (IsTold [] text) tags tags
+pub none_told : (text : List ℕ) (tags : List (List (List ℕ))) → Adds (IsTold [] text) tags tags
 none_told text tags = record { count = refl; each = λ x s. ((λ h. inl h), (λ h. elim h [ inl a ↦ a | inr e ↦ absurd e.0 ])) }
 
 pub piece_at : (pieces : List NetPiece) (i : ℕ) (d : NetPiece) → i < length pieces → IsPieceOf pieces (get_or pieces i d).net
@@ -33,7 +33,7 @@ of_split [] p x (inr h) = absurd h
 of_split (q ∷ ps) p x (inl e) = inl (inl e)
 of_split (q ∷ ps) p x (inr h) = elim (of_split ps p x h) [ inl a ↦ inl (inr a) | inr e ↦ inr e ]
 
-one_told : (ps : List NetPiece) (p : NetPiece) (text : List ℕ) (first old new : List (List (List ℕ))) → AddsTags (IsTold ps text) first old → AddsTags (λ (x : ℕ) (s : List ℕ). (x ≡ p.net) × (s ≡ text)) old new → AddsTags (IsTold (ps ++ p ∷ []) text) first new
+one_told : (ps : List NetPiece) (p : NetPiece) (text : List ℕ) (first old new : List (List (List ℕ))) → Adds (IsTold ps text) first old → Adds (λ (x : ℕ) (s : List ℕ). (x ≡ p.net) × (s ≡ text)) old new → Adds (IsTold (ps ++ p ∷ []) text) first new
 one_told ps p text first old new h g = record {
   count = g.count ∙ h.count;
   each = λ x s.
@@ -49,8 +49,8 @@ one_told ps p text first old new h g = record {
       );
 }
 
-pub more_told : (pieces : List NetPiece) (i : ℕ) (d : NetPiece) (text : List ℕ) (first old new : List (List (List ℕ))) → i < length pieces → AddsTags (IsTold (take i pieces) text) first old → AddsTags (λ (x : ℕ) (s : List ℕ). (x ≡ (get_or pieces i d).net) × (s ≡ text)) old new → AddsTags (IsTold (take (i + 1) pieces) text) first new
-more_told pieces i d text first old new lt h g = subst (λ (l : List NetPiece). AddsTags (IsTold l text) first new) (sym (take_more pieces i d lt)) (one_told (take i pieces) (get_or pieces i d) text first old new h g)
+pub more_told : (pieces : List NetPiece) (i : ℕ) (d : NetPiece) (text : List ℕ) (first old new : List (List (List ℕ))) → i < length pieces → Adds (IsTold (take i pieces) text) first old → Adds (λ (x : ℕ) (s : List ℕ). (x ≡ (get_or pieces i d).net) × (s ≡ text)) old new → Adds (IsTold (take (i + 1) pieces) text) first new
+more_told pieces i d text first old new lt h g = subst (λ (l : List NetPiece). Adds (IsTold l text) first new) (sym (take_more pieces i d lt)) (one_told (take i pieces) (get_or pieces i d) text first old new h g)
 
-pub all_told : (pieces : List NetPiece) (n : ℕ) (text : List ℕ) (first new : List (List (List ℕ))) → n ≡ length pieces → AddsTags (IsTold (take n pieces) text) first new → AddsTags (IsTold pieces text) first new
-all_told pieces n text first new e h = subst (λ (l : List NetPiece). AddsTags (IsTold l text) first new) (ap (λ k. take k pieces) e ∙ take-length pieces) h
+pub all_told : (pieces : List NetPiece) (n : ℕ) (text : List ℕ) (first new : List (List (List ℕ))) → n ≡ length pieces → Adds (IsTold (take n pieces) text) first new → Adds (IsTold pieces text) first new
+all_told pieces n text first new e h = subst (λ (l : List NetPiece). Adds (IsTold l text) first new) (ap (λ k. take k pieces) e ∙ take-length pieces) h

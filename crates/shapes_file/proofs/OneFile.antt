@@ -113,7 +113,8 @@ plain_map (x ∷ xs) (y ∷ ys) e =
     let rest : map contents xs ≡ map contents ys = cc in
     ap (λ (p : flat.Cell × List Place). p.0 ∷ map plain_cell xs) first ∙ ap (λ (cs : List flat.Cell). plain_cell y ∷ cs) (plain_map xs ys rest)
 
-same_plain : (d e : Linked) → map contents d.cells ≡ map contents e.cells → d.top ≡ e.top → plain d ≡ plain e
+-- designs whose cells draw and place the same are one plain layout
+pub same_plain : (d e : Linked) → map contents d.cells ≡ map contents e.cells → d.top ≡ e.top → plain d ≡ plain e
 same_plain d e cells top =
     ap (λ (cs : List flat.Cell). let f : flat.Design = record { cells = cs; top = d.top } in f) (plain_map d.cells e.cells cells)
     ∙ ap (λ (t : ℕ). let f : flat.Design = record { cells = map plain_cell e.cells; top = t } in f) top

@@ -49,9 +49,26 @@ pub fn shapes_file<R: Threads + Wait + Sync>(
     ensures { IfOk result (λ s. IsShapesFile layout.now (rules_seen rules.now) s.text.items s.cells
         s.rectangles) }
 {
-    writable();
     let layers = derive_layers(rt, alloc, &layout.design, rules, workers)?;
-    write_file(alloc, layout, rules, &layers)
+    shapes_of_layers(alloc, layout, rules, &layers)
+}
+
+/// The shapes file of a layout that was read, over its layers. An `Err` is want of memory. Linear
+/// in the bytes written.
+pub fn shapes_of_layers(
+    alloc: Global,
+    layout: &Layout,
+    rules: &RuleSet,
+    layers: &Layers,
+) -> Result<Shapes, AllocError>
+    requires read { (bytes : List ℕ) × (top : Option (List ℕ)) × IsRead bytes top layout.now }
+    requires rules { IsSound (rules_seen rules.now) }
+    requires layers { AreLayers (plain layout.now.design) (rules_seen rules.now) layers.now }
+    ensures { IfOk result (λ s. IsShapesFile layout.now (rules_seen rules.now) s.text.items s.cells
+        s.rectangles) }
+{
+    writable();
+    write_file(alloc, layout, rules, layers)
 }
 
 fn write_file(

@@ -1,1 +1,3 @@
 pub mod Extracted
+pub mod Once
+pub mod Spelled

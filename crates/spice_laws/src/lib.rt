@@ -1,14 +1,20 @@
-//! What is written of the netlist of a layout means that netlist. No code runs here: the laws are
-//! the contract of a function without statements of its own.
+//! What is written of the netlist of a layout means that netlist.
+//!
+//! The laws are the contracts of functions without statements of their own; `spelled` reads a
+//! netlist for what its types say of it.
 #![tactic(auto)]
 
 ghost use Rattle.spice_laws.specs.Extracted.{ExtractedWritableLaw, ExtractedMeansLaw};
+ghost use Rattle.spice_laws.specs.Once.{OneTextLaw};
 
+mod spelling;
+
+pub use spelling::spelled;
 use spice_text::written_laws;
 use table_laws::sound_netlist;
 
-/// Where the names that a layout and its rules give are names, what is written of its circuits
-/// means them, cell by cell.
+/// What is written of a layout's circuits means them, cell by cell, where the classes of the device
+/// rules are folded.
 pub fn extracted_text()
     ensures writable { ExtractedWritableLaw }
     ensures means { ExtractedMeansLaw }
@@ -16,3 +22,8 @@ pub fn extracted_text()
     sound_netlist();
     written_laws();
 }
+
+/// A netlist has one text.
+pub fn one_text()
+    ensures { OneTextLaw }
+{}

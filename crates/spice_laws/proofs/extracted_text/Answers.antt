@@ -4,8 +4,7 @@ use Rattle.spice_laws.proofs.extracted_text.Goals as goal
 pub returns : goal.returns
 returns c = record {
   writable = writable;
-  means = λ d w t g nl rules unit level text right given sizes few drawn h.
-      c.written_laws.ensures.written nl text (c.sound_netlist.ensures.sound d w t g nl rules unit level right few drawn)
-      (c.sound_netlist.ensures.good d w t g nl rules unit level right).1
-      (writable d w t g nl rules unit level right given sizes) h;
+  means = λ d w t g nl rules unit level text right folded spelled sound h.
+      c.written_laws.ensures.written nl text sound (c.sound_netlist.ensures.good d w t g nl rules unit level right).1
+      (writable d w t g nl rules unit level right folded spelled) h;
 }

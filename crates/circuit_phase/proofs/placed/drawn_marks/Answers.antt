@@ -7,9 +7,10 @@ use Rattle.deep_tables.specs.declared.nets.Item.{Item}
 use Rattle.deep_tables.specs.Gates.{plain_gate}
 use Rattle.deep_tables.specs.Nets.{plain_item, plain_nets}
 use Rattle.flat_layout.specs.Circuits.{AreDrawn}
-use Rattle.circuit_phase.specs.Marks.{has_terminal}
+use Rattle.net_marks.specs.Marks.{has_terminal}
 use Rattle.circuit_phase.specs.Placed.{is_child_marked, is_marked_by, tables_with}
-use Rattle.circuit_phase.proofs.Drawing.{all_false, drawn_of, false_long, gate_of, readable, written}
+use Rattle.net_marks.proofs.Poles.{gate_of}
+use Rattle.circuit_phase.proofs.Drawing.{all_false, drawn_of, false_long, readable, written}
 use Rattle.circuit_phase.proofs.placed.drawn_marks.Goals as goal
 
 pub mark_gates-requires : goal.mark_gates-requires

@@ -2,9 +2,9 @@ use Rattle.std.proofs.Common.{◌∙◌, map, sym, ap, arith}
 use Rattle.deep_tables.specs.Gates.{plain_state}
 use Rattle.deep_tables.specs.declared.gates.Gate.{Gate}
 use Rattle.net_model.specs.Rows.{plain_device}
-use Rattle.circuit_phase.specs.Marks.{is_terminal}
+use Rattle.net_marks.specs.Marks.{is_terminal}
 use Rattle.circuit_phase.proofs.Adding.{end_devices, end_kept, end_numbered, one_gate}
-use Rattle.circuit_phase.proofs.Terminals.{terminal_of}
+use Rattle.net_marks.proofs.Terminals.{terminal_of}
 use Rattle.circuit_phase.proofs.rows.device_rows.Goals as goal
 
 pub push_device-requires-clause-terminals : goal.push_device-requires-clause-terminals

@@ -8,9 +8,9 @@ use Rattle.net_model.specs.Rows.{plain_device}
 use Rattle.net_model.specs.declared.netlist.DeviceRow.{DeviceRow}
 use Rattle.rule_layers.specs.Meaning.{device_rules}
 use Rattle.rule_text.specs.declared.rules.MosRule.{MosRule}
-use Rattle.circuit_phase.specs.Marks.{is_terminal}
+use Rattle.net_marks.specs.Marks.{is_terminal}
 use Rattle.circuit_phase.proofs.Adding.{all_kept, good_added, rule_at}
-use Rattle.circuit_phase.proofs.Terminals.{bulk_in, drain_in, gate_in, source_in}
+use Rattle.net_marks.proofs.Terminals.{bulk_in, drain_in, gate_in, source_in}
 use Rattle.circuit_phase.proofs.rows.push_device.Goals as goal
 
 pub device_row-requires-clause-source : goal.device_row-requires-clause-source

@@ -1,11 +1,12 @@
 use Rattle.rule_text.specs.Seen.{rules_seen}
+use Rattle.deep_tables.specs.Entries.{upward_cell}
 use Rattle.deep_tables.specs.Nets.{AreCellNets}
 use Rattle.deep_tables.proofs.Finding.{upward}
-use Rattle.deep_flow.proofs.Jobs.{net_jobs}
+use Rattle.deep_flow.proofs.Jobs.{by_jobs}
 use Rattle.deep_flow.proofs.nets.find_nets.Goals as goal
 
 pub returns : goal.returns
 returns g c =
     let d = c.args.design.now in let r = c.args.rules.now in let p = c.in_ok-phase.phase in let made = c.in_ok-phase.ensures in
     upward AreCellNets d (rules_seen r) c.in_ok-results.results c.in_ok-nets.nets c.sound.ensures c.in_ok-nets.ensures
-    (net_jobs d p.design r p.rules p.graph c.in_ok-results.results made.design made.rules made.jobs.jobs c.in_ok-results.ensures.each)
+    (by_jobs AreCellNets upward_cell d p.design r p.rules p.graph c.in_ok-results.results made.design made.rules made.jobs.jobs c.in_ok-results.ensures.each)

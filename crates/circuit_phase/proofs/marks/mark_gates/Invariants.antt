@@ -1,5 +1,0 @@
-use Rattle.circuit_phase.proofs.Terminals.{AreMarkedTo}
-use Rattle.circuit_phase.proofs.marks.mark_gates.Given as goal
-
-abbrev pub invariant-loop-gate : goal.invariant-loop-gate
-invariant-loop-gate l = AreMarkedTo l.fn.marks l.gates l.gate-index l.marks

@@ -1,0 +1,16 @@
+use Rattle.std.proofs.Common.{ℕ, subst}
+use Rattle.cell_graph.specs.Linked.{plain}
+use Rattle.rule_text.specs.Seen.{rules_seen}
+use Rattle.deep_tables.specs.Circuits.{IsCellCircuit}
+use Rattle.deep_tables.specs.Entries.{upward_cell}
+use Rattle.deep_tables.specs.Laws.{AreJobs}
+use Rattle.deep_tables.proofs.Finding.{upward}
+use Rattle.deep_flow.proofs.Jobs.{by_jobs}
+use Rattle.deep_flow.proofs.circuits.find_circuits.Goals as goal
+
+pub returns : goal.returns
+returns g c =
+    let d = c.args.design.now in let r = c.args.rules.now in let p = c.in_ok-phase.phase in let made = c.in_ok-phase.ensures in
+    let jobs = by_jobs (IsCellCircuit p.unit) upward_cell d p.design r p.rules p.graph c.in_ok-results.results made.design made.rules made.jobs.jobs c.in_ok-results.ensures.each in
+    upward (IsCellCircuit c.args.unit_pm) d (rules_seen r) c.in_ok-results.results c.in_ok-circuits.circuits c.sound.ensures c.in_ok-circuits.ensures
+    (subst (λ (u : ℕ). AreJobs (upward_cell d) d (IsCellCircuit u (plain d) (rules_seen r)) c.in_ok-results.results) made.unit jobs)

@@ -1,0 +1,49 @@
+-- The bad gates of a layout, as they are told.
+use Rattle.std.specs.Prelude.{◌≡◌, ◌<◌, ℕ, List, [], ◌∷◌, Option, Some, None, map, slice_get}
+use Rattle.flat_layout.specs.Gates.{Cause, Groups, OffGate, OffSd, NoBulk, NoLength}
+use Rattle.flat_layout.specs.GateTables.{all_bad_gates, bad_gates}
+use Rattle.flat_layout.specs.GateTables as flat
+use Rattle.deep_tables.specs.Gates.{gates_of, plain_gate}
+use Rattle.deep_tables.specs.declared.gates.BadGate.{BadGate}
+use Rattle.deep_tables.specs.declared.gates.CellGates.{CellGates}
+use Rattle.deep_tables.specs.declared.gates.Gate.{Gate}
+use Rattle.deep_tables.specs.declared.gates.GateCause.{GateCause}
+use Rattle.deep_tables.specs.declared.gates.GateCause.TheVariants as told
+use Rattle.rule_text.specs.Rules.{Rules}
+use Rattle.rule_text.specs.declared.rules.MosRule.{MosRule}
+
+abbrev pub told_cause : Cause → GateCause
+told_cause (Groups n) = told.Groups n
+told_cause OffGate = told.OffGate
+told_cause OffSd = told.OffSd
+told_cause NoBulk = told.NoBulk
+told_cause NoLength = told.NoLength
+
+abbrev pub class_in : Option MosRule → List ℕ
+class_in None = []
+class_in (Some m) = m.class
+
+-- the class of a device rule, as the rule file writes it
+abbrev pub class_at : Rules → ℕ → List ℕ
+class_at r n = class_in (slice_get r.devices n)
+
+-- cell, class, least square and cause
+abbrev pub told_bad : Rules → flat.BadGate → BadGate
+told_bad r b = record {
+  cell = b.cell;
+  class = class_at r b.at.rule;
+  least = b.at.square;
+  cause = told_cause b.cause;
+}
+
+-- of a cell's gate, nothing where it is good
+abbrev pub told_of : Rules → ℕ → Gate → List BadGate
+told_of r cell x = map (told_bad r) (bad_gates cell (plain_gate x ∷ []))
+
+-- the gates' device rules are among so many
+abbrev pub HaveRules : ℕ → List Gate → Type 0
+HaveRules count gates = (i : ℕ) (x : Gate) → slice_get gates i ≡ Some x → x.device < count
+
+-- the bad gates of these cells, cell by cell
+abbrev pub told_gates : Rules → List (Option CellGates) → List ℕ → List BadGate
+told_gates r gates cells = map (told_bad r) (all_bad_gates (gates_of gates) cells)

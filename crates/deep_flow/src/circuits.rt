@@ -1,0 +1,47 @@
+//! Circuits, cell by cell.
+ghost use Rattle.std.specs.Prelude.{◌≤◌, IfOk};
+ghost use Rattle.cell_graph.specs.Linked.{plain};
+ghost use Rattle.circuit_phase.specs.Phase.{HasOwn};
+ghost use Rattle.deep_tables.specs.Circuits.{AreCircuits};
+ghost use Rattle.deep_tables.specs.Gates.{AreGates};
+ghost use Rattle.deep_tables.specs.Nets.{AreNets};
+ghost use Rattle.deep_tables.specs.Pins.{ArePins};
+ghost use Rattle.rule_layers.specs.Meaning.{wiring_of};
+ghost use Rattle.rule_text.specs.Seen.{rules_seen};
+
+use cell_graph::Design;
+use circuit_phase::CircuitPhase;
+use deep_tables::{Circuits, Gates, Nets, Pins};
+use job_graph::run_levels;
+use rule_text::RuleSet;
+use std::alloc::{AllocError, Global};
+use std::sync::Wait;
+use std::thread::Threads;
+
+/// The circuits of the reached cells, over their nets, pins and gates; the database unit is in
+/// picometres.
+pub fn find_circuits<R: Threads + Wait + Sync>(
+    rt: &R,
+    alloc: Global,
+    design: &Design,
+    rules: &RuleSet,
+    nets: &Nets,
+    pins: &Pins,
+    gates: &Gates,
+    unit_pm: u32,
+    workers: usize,
+) -> Result<Circuits, AllocError>
+    requires workers { (1 ≤ workers) × (workers ≤ 64) }
+    requires unit { unit_pm ≤ 1000000 }
+    requires own { HasOwn (plain design.now) (wiring_of (rules_seen rules.now)) }
+    requires nets { AreNets (plain design.now) (rules_seen rules.now) nets.now }
+    requires pins { ArePins (plain design.now) (rules_seen rules.now) pins.now }
+    requires gates { AreGates (plain design.now) (rules_seen rules.now) gates.now }
+    ensures { IfOk result (AreCircuits unit_pm (plain design.now) (rules_seen rules.now)) }
+{
+    design.sound();
+    let phase = CircuitPhase::new(alloc, design, rules, nets, pins, gates, unit_pm)?;
+    let results = run_levels(rt, alloc, &phase, workers)?;
+    let circuits = Circuits::new(alloc, design, results)?;
+    Ok(circuits)
+}

@@ -1,0 +1,92 @@
+//! Gates of transistors, cell by cell.
+ghost use Rattle.std.specs.Prelude.{◌≤◌, IfOk};
+ghost use Rattle.cell_graph.specs.Linked.{plain};
+ghost use Rattle.deep_tables.specs.Gates.{AreGates, gates_of};
+ghost use Rattle.deep_tables.specs.Layers.{AreLayers};
+ghost use Rattle.deep_tables.specs.Nets.{AreNets, AreRightNets, tables_of};
+ghost use Rattle.deep_tables.specs.Zones.{AreZones};
+ghost use Rattle.flat_laws.specs.FlatGates.{AreFlatGates};
+ghost use Rattle.rule_layers.specs.Meaning.{device_rules, wiring_of};
+ghost use Rattle.rule_text.specs.Seen.{rules_seen};
+ghost use Rattle.rule_text.specs.Sound.{IsSound};
+
+use crate::layers::{find_layers, find_zones};
+use crate::nets::find_nets;
+use cell_graph::Design;
+use deep_tables::{Gates, Layers, Nets, Zones};
+use gate_phase::GatePhase;
+use job_graph::run_levels;
+use rule_text::RuleSet;
+use std::alloc::{AllocError, Global};
+use std::sync::Wait;
+use std::thread::Threads;
+
+/// The layers, the nets and the gates of each reached cell.
+#[derive(Drop)]
+pub struct Gated {
+    pub layers: Layers,
+    pub nets: Nets,
+    pub gates: Gates,
+}
+
+/// The gates of each reached cell, over its disturbed squares, layers and nets.
+pub fn find_gates<R: Threads + Wait + Sync>(
+    rt: &R,
+    alloc: Global,
+    design: &Design,
+    rules: &RuleSet,
+    zones: &Zones,
+    layers: &Layers,
+    nets: &Nets,
+    workers: usize,
+) -> Result<Gates, AllocError>
+    requires workers { (1 ≤ workers) × (workers ≤ 64) }
+    requires rules { IsSound (rules_seen rules.now) }
+    requires zones { AreZones (plain design.now) (rules_seen rules.now) zones.now }
+    requires layers { AreLayers (plain design.now) (rules_seen rules.now) layers.now }
+    requires nets { AreNets (plain design.now) (rules_seen rules.now) nets.now }
+    ensures { IfOk result (AreGates (plain design.now) (rules_seen rules.now)) }
+{
+    design.sound();
+    let phase = GatePhase::new(alloc, design, rules, zones, layers, nets)?;
+    let results = run_levels(rt, alloc, &phase, workers)?;
+    let gates = Gates::new(alloc, design, results)?;
+    Ok(gates)
+}
+
+/// The squares that each reached cell holds itself, its nets, and its gates: each gate of the flat
+/// layout is the image of one gate of one cell's list, with its sizes and its terminals, or with
+/// its cause where it is bad. A cell is worked once, however often it is placed. The answer is the
+/// same for every number of workers. An `Err` is want of memory.
+pub fn derive_gates<R: Threads + Wait + Sync>(
+    rt: &R,
+    alloc: Global,
+    design: &Design,
+    rules: &RuleSet,
+    workers: usize,
+) -> Result<Gated, AllocError>
+    requires workers { (1 ≤ workers) × (workers ≤ 64) }
+    requires rules { IsSound (rules_seen rules.now) }
+    ensures layers { IfOk result (λ c. AreLayers (plain design.now) (rules_seen rules.now)
+        c.layers) }
+    ensures nets { IfOk result (λ c. AreNets (plain design.now) (rules_seen rules.now) c.nets) }
+    ensures gates { IfOk result (λ c. AreGates (plain design.now) (rules_seen rules.now)
+        c.gates) }
+    ensures right { IfOk result (λ c. AreRightNets (plain design.now)
+        (wiring_of (rules_seen rules.now))
+        (tables_of (rules_seen rules.now) c.layers c.nets)) }
+    ensures flat { IfOk result (λ c. AreFlatGates (plain design.now)
+        (wiring_of (rules_seen rules.now)) (tables_of (rules_seen rules.now) c.layers c.nets)
+        (device_rules (rules_seen rules.now)) (gates_of c.gates)) }
+{
+    design.sound();
+    let zones = find_zones(rt, alloc, design, rules, workers)?;
+    let layers = find_layers(rt, alloc, design, rules, &zones, workers)?;
+    let nets = find_nets(rt, alloc, design, rules, &layers, workers)?;
+    let gates = find_gates(rt, alloc, design, rules, &zones, &layers, &nets, workers)?;
+    Ok(Gated {
+        layers,
+        nets,
+        gates,
+    })
+}

@@ -1,0 +1,41 @@
+//! Pins and base names, cell by cell.
+ghost use Rattle.std.specs.Prelude.{◌≤◌, IfOk};
+ghost use Rattle.cell_graph.specs.Linked.{plain};
+ghost use Rattle.deep_tables.specs.Gates.{AreGates};
+ghost use Rattle.deep_tables.specs.Layers.{AreLayers};
+ghost use Rattle.deep_tables.specs.Nets.{AreNets};
+ghost use Rattle.deep_tables.specs.Pins.{ArePins};
+ghost use Rattle.rule_text.specs.Seen.{rules_seen};
+
+use cell_graph::Design;
+use deep_tables::{Gates, Layers, Nets, Pins};
+use job_graph::run_levels;
+use pin_phase::PinPhase;
+use rule_text::RuleSet;
+use std::alloc::{AllocError, Global};
+use std::sync::Wait;
+use std::thread::Threads;
+
+/// The pins of each reached cell and the base names of its nets, over its layers, nets and gates.
+pub fn find_pins<R: Threads + Wait + Sync>(
+    rt: &R,
+    alloc: Global,
+    design: &Design,
+    rules: &RuleSet,
+    layers: &Layers,
+    nets: &Nets,
+    gates: &Gates,
+    workers: usize,
+) -> Result<Pins, AllocError>
+    requires workers { (1 ≤ workers) × (workers ≤ 64) }
+    requires layers { AreLayers (plain design.now) (rules_seen rules.now) layers.now }
+    requires nets { AreNets (plain design.now) (rules_seen rules.now) nets.now }
+    requires gates { AreGates (plain design.now) (rules_seen rules.now) gates.now }
+    ensures { IfOk result (ArePins (plain design.now) (rules_seen rules.now)) }
+{
+    design.sound();
+    let phase = PinPhase::new(alloc, design, rules, layers, nets, gates)?;
+    let results = run_levels(rt, alloc, &phase, workers)?;
+    let pins = Pins::new(alloc, design, results)?;
+    Ok(pins)
+}

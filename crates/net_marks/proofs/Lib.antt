@@ -1,0 +1,3 @@
+pub mod Grounding
+pub mod Poles
+pub mod Terminals

@@ -1,0 +1,51 @@
+-- What a netlist file shows of the flat layout.
+use Rattle.std.proofs.Common.{◌≡◌, ℕ, List, None, map, sym, ap, subst, ◌∙◌}
+use Rattle.cell_graph.specs.Laws.{OrderLaw}
+use Rattle.cell_graph.specs.Linked.{height_at, plain}
+use Rattle.deep_flow.specs.Bad.{told_bad}
+use Rattle.deep_tables.specs.Nets.{tables_of}
+use Rattle.flat_laws.specs.FlatGates.{FlatGatesLaw}
+use Rattle.flat_laws.specs.GateLaws.{SameGateLaw}
+use Rattle.flat_layout.specs.Gates.{Rule}
+use Rattle.flat_layout.specs.GateTables.{GateEntry, all_bad_gates}
+use Rattle.headline_laws.specs.FlatNetlist.{FlatCorrespondsLaw}
+use Rattle.net_names.specs.Folding.{folded_bytes}
+use Rattle.netlist_file.specs.Flat.{ShowsFlatLaw}
+use Rattle.netlist_file.proofs.Showing.{no_bad}
+use Rattle.netlist_file.proofs.Topmost.{last}
+use Rattle.plain_netlist.proofs.Members.{from_map}
+use Rattle.rule_layers.specs.Meaning.{device_rule, device_rules, wiring_of}
+use Rattle.rule_text.specs.Rules.{Rules}
+use Rattle.spice_laws.specs.Extracted.{AreFolded, ExtractedMeansLaw}
+use Rattle.spice_laws.proofs.GivenLemmas.{folded_fixed}
+use Rattle.spice_text.specs.Laws.{OneMeaningLaw}
+use Rattle.table_laws.specs.BadLaws.{NoBadLaw}
+
+-- the classes of a rule set's device rules are folded
+folded : (r : Rules) → AreFolded (device_rules r)
+folded r k u is =
+    let m = from_map (device_rule r) r.devices k u is in
+    subst (λ (v : Rule). folded_bytes v.class ≡ v.class) m.2 (folded_fixed m.0.class)
+
+pub shows_flat : ExtractedMeansLaw → OneMeaningLaw → FlatCorrespondsLaw → FlatGatesLaw → SameGateLaw → NoBadLaw → OrderLaw → ShowsFlatLaw
+shows_flat text_means one corresponds gates_law same none order bytes name l r nl top bad text read sound f =
+    let d = plain l.design in
+    let w = wiring_of r in
+    let t = tables_of r f.layers f.nets in
+    let rules = device_rules r in
+    let unit = l.header.unit_pm in
+    let level = height_at l.design in
+    let c = f.of_cells.tables in
+    let right = f.of_cells.right in
+    let means = text_means d w t c nl rules unit level text right (folded r) f.spelled f.sound f.written in
+    let all = gates_law d w t rules c.gates level right.levels.lower right.gates in
+    record {
+      means = means;
+      only = λ other m. one None text other nl m means;
+      last = last d level c.gates c.cells top right.levels right.cells f.of_cells.top_is ∙ sym right.circuits.count;
+      nets = t;
+      circuits = c;
+      same = corresponds d w t c nl rules unit level right top f.of_cells.top_is;
+      no_bad = no_bad l.design w t rules r c.gates bad f.design order none same all
+          (f.told ∙ ap (λ (g : ℕ → List GateEntry). map (told_bad r) (all_bad_gates g l.design.order)) (sym f.of_cells.gates_are));
+    }

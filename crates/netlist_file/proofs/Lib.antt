@@ -1,0 +1,4 @@
+pub mod Alike
+pub mod Extracting
+pub mod Showing
+pub mod Topmost

@@ -1,0 +1,39 @@
+-- What the commands `extract` and `run` write of a layout's netlist.
+use Rattle.std.specs.Prelude.{◌≡◌, ℕ, List, Option}
+use Rattle.cell_graph.specs.Linked.{IsSound, plain}
+use Rattle.deep_flow.specs.Bad.{told_gates}
+use Rattle.deep_flow.specs.Extracted.{IsNetlistOfCells}
+use Rattle.deep_tables.specs.Gates.{AreGates}
+use Rattle.deep_tables.specs.Layers.{AreLayers}
+use Rattle.deep_tables.specs.Nets.{AreNets}
+use Rattle.deep_tables.specs.Pins.{ArePins}
+use Rattle.deep_tables.specs.declared.gates.BadGate.{BadGate}
+use Rattle.deep_tables.specs.declared.gates.CellGates.{CellGates}
+use Rattle.deep_tables.specs.declared.layers.CellLayers.{CellLayers}
+use Rattle.deep_tables.specs.declared.nets.CellNets.{CellNets}
+use Rattle.deep_tables.specs.declared.pins.CellPins.{CellPins}
+use Rattle.gds_layout.specs.declared.layout.Layout.{Layout}
+use Rattle.plain_netlist.specs.Netlist.{Netlist}
+use Rattle.plain_netlist.specs.Sound.{IsSoundNetlist}
+use Rattle.rule_text.specs.Rules.{Rules}
+use Rattle.spice_laws.specs.Spelled.{IsSpelled}
+use Rattle.spice_text.specs.Written.{IsWritten}
+
+-- the netlist of the layout's cells, in which circuit top is the top's, their bad gates in the
+-- design's order, and the text that spells the netlist
+pub record IsNetlistFile (l : Layout) (r : Rules) (nl : Netlist) (top : ℕ) (bad : List BadGate)
+    (text : List ℕ) : Type 0 where
+  pub layers : List (Option CellLayers)
+  pub nets : List (Option CellNets)
+  pub gates : List (Option CellGates)
+  pub pins : List (Option CellPins)
+  pub design : IsSound l.design
+  pub are_layers : AreLayers (plain l.design) r layers
+  pub are_nets : AreNets (plain l.design) r nets
+  pub are_gates : AreGates (plain l.design) r gates
+  pub are_pins : ArePins (plain l.design) r pins
+  pub of_cells : IsNetlistOfCells l.header.unit_pm l.design r layers nets gates pins nl top
+  pub sound : IsSoundNetlist nl
+  pub spelled : IsSpelled nl
+  pub told : bad ≡ told_gates r gates l.design.order
+  pub written : IsWritten nl text

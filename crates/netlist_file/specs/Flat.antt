@@ -1,0 +1,56 @@
+-- What a netlist file shows of the flat layout: read as SPICE and expanded from its last circuit,
+-- it is the netlist of the flat layout.
+use Rattle.std.specs.Prelude.{◌≡◌, ◌↔◌, ℕ, suc, List, [], Option, None, Some, length, slice_get}
+use Rattle.cell_graph.specs.Linked.{plain}
+use Rattle.deep_tables.specs.declared.gates.BadGate.{BadGate}
+use Rattle.flat_layout.specs.Expanded.{CircuitTables}
+use Rattle.flat_layout.specs.Gates.{Cause, IsBadGate, Rule}
+use Rattle.flat_layout.specs.GateTables.{GateSquare}
+use Rattle.flat_layout.specs.Layers.{InFlat}
+use Rattle.flat_layout.specs.Layout.{Design}
+use Rattle.flat_layout.specs.Nets.{Tables}
+use Rattle.flat_layout.specs.Regions.{Wiring}
+use Rattle.gds_layout.specs.Layouts.{IsRead}
+use Rattle.gds_layout.specs.declared.layout.Layout.{Layout}
+use Rattle.headline_laws.specs.FlatNetlist.{flat_netlist, IsFlatGateOf, IsFlatRegionOf}
+use Rattle.netlist_file.specs.File.{IsNetlistFile}
+use Rattle.plain_netlist.specs.Flats.{Corresponds, expanded}
+use Rattle.plain_netlist.specs.Netlist.{Netlist}
+use Rattle.rule_layers.specs.Meaning.{device_rules, wiring_of}
+use Rattle.rule_text.specs.Rules.{Rules}
+use Rattle.rule_text.specs.Sound.{IsSound}
+use Rattle.spice_text.specs.Means.{Means}
+
+-- a gate of the flat top, by one of its squares, that is bad for this cause
+pub record IsBadFlatGate (d : Design) (w : Wiring) (rules : List Rule) (a : GateSquare)
+    (cause : Cause) : Type 0 where
+  pub rule : Rule
+  pub is : slice_get rules a.rule ≡ Some rule
+  pub in_flat : InFlat d d.top rule.gate a.square
+  pub bad : IsBadGate d w rule d.top a.square cause
+
+abbrev pub HasNoBadGate : Design → Wiring → List Rule → Type 0
+HasNoBadGate d w rules = (a : GateSquare) (cause : Cause) → IsBadFlatGate d w rules a cause → ⊥
+
+-- The text means this netlist, and no other. Its last circuit is the top's, and expands to the
+-- netlist of the flat layout: its devices correspond one to one to the good gates of the flat top,
+-- and their nets to the regions of the flat top. Bad gates are told exactly where the flat top has
+-- one.
+pub record ShowsFlat (l : Layout) (r : Rules) (text : List ℕ) (nl : Netlist) (top : ℕ)
+    (bad : List BadGate) : Type 0 where
+  pub means : Means None text nl
+  pub only : (other : Netlist) → Means None text other → other ≡ nl
+  pub last : suc top ≡ length nl.circuits
+  pub nets : Tables
+  pub circuits : CircuitTables
+  pub same : Corresponds (expanded nl top)
+      (flat_netlist (plain l.design) (wiring_of r) (device_rules r) l.header.unit_pm)
+      (IsFlatGateOf (plain l.design) (wiring_of r) circuits nl top (device_rules r))
+      (IsFlatRegionOf (plain l.design) (wiring_of r) nets circuits nl top)
+  pub no_bad : (bad ≡ []) ↔ HasNoBadGate (plain l.design) (wiring_of r) (device_rules r)
+
+-- so it is of each layout that was read, for each sound rule set
+abbrev pub ShowsFlatLaw : Type 0
+ShowsFlatLaw = (bytes : List ℕ) (name : Option (List ℕ)) (l : Layout) (r : Rules) (nl : Netlist)
+    (top : ℕ) (bad : List BadGate) (text : List ℕ) → IsRead bytes name l → IsSound r
+    → IsNetlistFile l r nl top bad text → ShowsFlat l r text nl top bad
