@@ -1,5 +1,5 @@
 -- The written texts against the told files.
-use Rattle.std.proofs.Common.{◌≡◌, inl, inr, ℕ, List, [], ◌∷◌, Option, refl, sym, subst}
+use Rattle.std.proofs.Common.{◌≡◌, inl, inr, ℕ, List, [], ◌∷◌, Option, refl, sym, subst, ◌∙◌}
 use Rattle.lvs_outside.specs.Store.{Store, Told, Untold, NoFile, Holds}
 use Rattle.lvs_outside.specs.Summary.{SinkState}
 use Rattle.lvs_files.specs.Files.{File, IsWritten, AreWritten, IsApart, AreApart, files_of}
@@ -12,12 +12,16 @@ use Rattle.rule_text.specs.Reading.{Means}
 use Rattle.lvs_run.specs.declared.status.Refusal.{Refusal}
 use Rattle.lvs_run.specs.declared.status.Refusal.TheVariants.{Words, SamePath, Absent, TooLong, Rules, Layout}
 use Rattle.lvs_run.specs.declared.output.Output.{Output}
-use Rattle.lvs_run.specs.Words.{Outputs, ToShapes, Paths, shapes_path}
-use Rattle.lvs_run.specs.Answers.{Done, Answer, IsVerdict, refused}
-use Rattle.lvs_run.specs.Outcomes.{IsDone}
+use Rattle.lvs_run.specs.Words.{Outputs, ToShapes, ToNetlist, ForNetlist, Paths, shapes_path}
+use Rattle.lvs_run.specs.Answers.{Done, Answer, Good, Bad, IsVerdict, refused, verdict_of}
+use Rattle.lvs_run.specs.Outcomes.{IsDone, gates_answer}
 use Rattle.lvs_run.specs.Inputs.{Quiet, IsInput, ReadAs, IsReady}
 use Rattle.lvs_run.specs.Ends.{Delivered, Refused}
-use Rattle.lvs_run.specs.Flat.{HoldsAs, IsFlatText, ListsAs, OfInputs, OfStated, WhereTold, WritesFlat}
+use Rattle.deep_tables.specs.declared.gates.BadGate.{BadGate}
+use Rattle.netlist_file.specs.File.{IsNetlistFile}
+use Rattle.netlist_file.specs.Flat.{ShowsFlat}
+use Rattle.plain_netlist.specs.Netlist.{Netlist}
+use Rattle.lvs_run.specs.Flat.{HoldsAs, IsFlatNetlist, IsFlatText, IsNetlistOf, ListsAs, OfInputs, OfStated, WhereTold, WritesFlat, WritesNetlist}
 
 -- ---- what a listed file holds
 
@@ -79,6 +83,7 @@ of_inputs p old mid new r v P quiet rules layout h =
 lists_shapes : (o : Outputs) (l : ReadLayout) (r : rule_sets.Rules) (a : Answer) (done : Done) (P : List ℕ → Type 0)
     → ((text : List ℕ) (cells rectangles : ℕ) → IsShapesFile l r text cells rectangles → P text) → IsDone o l r a done → ListsAs done.files (shapes_path o) P
 lists_shapes (ToShapes shapes) l r a done P f h = let made = h.1 in rw made.whole (inl (refl, f made.text made.cells made.rectangles made.file))
+lists_shapes (ToNetlist shapes netlist) l r a done P f h = rw h.whole (inl (refl, f h.text h.cells h.rectangles h.file))
 
 pub flat_listed : (p : Paths) (old mid new : Store) (r : rule_sets.Rules) (v : ReadLayout) (a : Answer) (done : Done) → Quiet old mid → ReadAs old mid p.rules (λ bytes. Means bytes r)
     → ReadAs mid new p.layout (λ bytes. IsRead bytes p.top v) → ((text : List ℕ) (cells rectangles : ℕ) → IsShapesFile v r text cells rectangles → CoversFlat v r text) → IsDone p.outputs v r a done
@@ -93,3 +98,50 @@ flat_delivered stated old mid new before after o a ready h v =
     let p = ready.paths in
     subst (λ (s : Option Paths). OfStated s (λ (q : Paths). HoldsAs (new.file (shapes_path q.outputs)) (IsFlatText old.file q))) (sym ready.stated)
     (held_delivered mid new before after o a ready.done (shapes_path p.outputs) (IsFlatText old.file p) ready.files ready.apart ready.flat h v)
+
+-- ---- the netlist's file
+
+-- no bad gate was told, so there is none
+none_bad : (bad : List BadGate) (a : Answer) → a ≡ gates_answer bad → a ≡ Good → bad ≡ []
+none_bad [] a e g = refl
+none_bad (b ∷ bs) a e g = let no : Bad ≡ Good = sym e ∙ g in cc
+
+netlist_of : (l : ReadLayout) (r : rule_sets.Rules) (a : Answer) (nl : Netlist) (top : ℕ) (bad : List BadGate) (text : List ℕ) → a ≡ gates_answer bad → ShowsFlat l r text nl top bad → IsNetlistOf l r a text
+netlist_of l r a nl top bad text e shows = record { netlist = nl; circuit = top; bad = bad; shows = shows; good = λ g. shows.no_bad.0 (none_bad bad a e g) }
+
+-- each command that writes a netlist lists its file
+lists_netlist : (o : Outputs) (l : ReadLayout) (r : rule_sets.Rules) (a : Answer) (done : Done) (P : List ℕ → Type 0)
+    → ((nl : Netlist) (top : ℕ) (bad : List BadGate) (text : List ℕ) → a ≡ gates_answer bad → IsNetlistFile l r nl top bad text → P text) → IsDone o l r a done
+    → ForNetlist o (λ (path : List ℕ). ListsAs done.files path P)
+lists_netlist (ToShapes shapes) l r a done P f h = tt
+lists_netlist (ToNetlist shapes netlist) l r a done P f h = rw h.whole (inr (inl (refl, f h.netlist h.top h.bad h.spelled h.answer h.netlist_file)))
+
+pub netlist_listed : (p : Paths) (old mid new : Store) (r : rule_sets.Rules) (v : ReadLayout) (a : Answer) (done : Done) → Quiet old mid → ReadAs old mid p.rules (λ bytes. Means bytes r)
+    → ReadAs mid new p.layout (λ bytes. IsRead bytes p.top v)
+    → ((nl : Netlist) (top : ℕ) (bad : List BadGate) (text : List ℕ) → IsNetlistFile v r nl top bad text → ShowsFlat v r text nl top bad) → IsDone p.outputs v r a done
+    → ForNetlist p.outputs (λ (path : List ℕ). ListsAs done.files path (IsFlatNetlist old.file p a))
+netlist_listed p old mid new r v a done quiet rules layout shows made =
+    lists_netlist p.outputs v r a done (IsFlatNetlist old.file p a)
+    (λ nl top bad text answer file. of_inputs p old mid new r v (λ (l : ReadLayout) (q : rule_sets.Rules). IsNetlistOf l q a text) quiet rules layout
+    (netlist_of v r a nl top bad text answer (shows nl top bad text file))) made
+
+-- where the command writes one, its file holds it
+netlist_held : (out : Outputs) (old new : Store) (before after : SinkState) (o : Output) (a : Answer) (done : Done) (P : List ℕ → Type 0)
+    → files_of o.files.items ≡ done.files → AreApart done.files → ForNetlist out (λ (path : List ℕ). ListsAs done.files path P) → Delivered o old new before after a → IsVerdict a
+    → ForNetlist out (λ (path : List ℕ). HoldsAs (new.file path) P)
+netlist_held (ToShapes shapes) old new before after o a done P same apart lists h v = tt
+netlist_held (ToNetlist shapes netlist) old new before after o a done P same apart lists h v = held_delivered old new before after o a done netlist P same apart lists h v
+
+-- the answer of a run that wrote its files
+verdict_is : (o : Output) (old new : Store) (before after : SinkState) (a : Answer) → Delivered o old new before after a → IsVerdict a → verdict_of o.verdict ≡ a
+verdict_is o old new before after a (inl h) v = sym h.0
+verdict_is o old new before after a (inr (inl h)) v = absurd (subst IsVerdict h.0 v)
+verdict_is o old new before after a (inr (inr h)) v = absurd (subst IsVerdict h.0 v)
+
+pub netlist_delivered : (stated : Option Paths) (old mid new : Store) (before after : SinkState) (o : Output) (a : Answer)
+    → IsReady stated old mid o → Delivered o mid new before after a → WritesNetlist stated old new a
+netlist_delivered stated old mid new before after o a ready h v =
+    let p = ready.paths in
+    let lists = subst (λ (b : Answer). ForNetlist p.outputs (λ (path : List ℕ). ListsAs ready.done.files path (IsFlatNetlist old.file p b))) (verdict_is o mid new before after a h v) ready.netlist in
+    subst (λ (s : Option Paths). OfStated s (λ (q : Paths). ForNetlist q.outputs (λ (path : List ℕ). HoldsAs (new.file path) (IsFlatNetlist old.file q a)))) (sym ready.stated)
+    (netlist_held p.outputs mid new before after o a ready.done (IsFlatNetlist old.file p a) ready.files ready.apart lists h v)

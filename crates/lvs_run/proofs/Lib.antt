@@ -4,3 +4,5 @@ pub mod Delivering
 pub mod Flattened
 pub mod OneAnswer
 pub mod Feeding
+pub mod Stated
+pub mod Adding

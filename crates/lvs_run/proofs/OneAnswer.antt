@@ -1,5 +1,5 @@
 -- One outcome for words and told files.
-use Rattle.std.proofs.Common.{◌≡◌, ◌≢◌, inl, inr, ℕ, List, Option, Some, None, Ok, Err, sym, ap, subst, ◌∙◌, arith}
+use Rattle.std.proofs.Common.{◌≡◌, ◌≢◌, inl, inr, ℕ, List, length, Option, Some, None, Ok, Err, sym, ap, subst, ◌∙◌, arith}
 use Rattle.lvs_outside.specs.Store.{Told, Untold, NoFile, Holds}
 use Rattle.gds_layout.specs.declared.layout.LayoutFault.{LayoutFault}
 use Rattle.gds_layout.specs.declared.layout.LayoutFault.TheVariants as layout
@@ -9,11 +9,14 @@ use Rattle.rule_text.specs.declared.fault.RuleFault.{RuleFault}
 use Rattle.rule_text.specs.Rules.{Rules}
 use Rattle.rule_text.specs.Reading.{Means, IsFirstFault, MeaningLaw, FaultLaw}
 use Rattle.shapes_file.specs.One.{IsSameFile, OneFileLaw}
-use Rattle.lvs_run.specs.Words.{Outputs, Paths, ToShapes}
+use Rattle.deep_tables.specs.declared.gates.BadGate.{BadGate}
+use Rattle.netlist_file.specs.One.{IsSameNetlist, OneNetlistLaw}
+use Rattle.plain_netlist.specs.Netlist.{Netlist}
+use Rattle.lvs_run.specs.Words.{Outputs, Paths, ToShapes, ToNetlist}
 use Rattle.gds_layout.specs.declared.layout.Layout.{Layout}
 use Rattle.gds_layout.specs.Layouts.{IsRead}
-use Rattle.lvs_run.specs.Answers.{Done, drawn, Answer, IsVerdict, RefusedWords, RefusedSame, RefusedAbsent, RefusedLong, RefusedRules, RefusedLayout}
-use Rattle.lvs_run.specs.Outcomes.{IsDone, IsDrawn, IsFirstLayoutFault}
+use Rattle.lvs_run.specs.Answers.{Counts, Done, Extracted, drawn, extracted, Answer, IsVerdict, RefusedWords, RefusedSame, RefusedAbsent, RefusedLong, RefusedRules, RefusedLayout}
+use Rattle.lvs_run.specs.Outcomes.{IsDone, IsDrawn, IsExtracted, IsFirstLayoutFault, gates_answer}
 use Rattle.lvs_run.proofs.Steps.{InTurn, in_turn, OfStream, FaultyStream, SoundStream, OfLength, OfLayout, OfRuleText, FaultyRules, SoundRules, OfRules, OfPaths}
 use Rattle.lvs_run.specs.Once.{IsTold, AreInputsTold, IsSameOutcome, OneOutcomeLaw}
 
@@ -30,8 +33,19 @@ same_drawn path l m r x y h k s =
     ∙ (ap (λ (n : ℕ). drawn path k.text n h.rectangles) s.cell_count
     ∙ (ap (λ (n : ℕ). drawn path k.text k.cells n) s.rectangle_count ∙ sym k.whole)))
 
--- by the laws of the readers and of shapes files
-module _ (meanings : MeaningLaw) (faults : FaultLaw) (no_faults : NoFaultLaw) (one_faults : OneFaultLaw) (files : OneFileLaw) where
+same_extracted : (path netlist : List ℕ) (l m : Layout) (r : Rules) (a b : Answer) (x y : Done) → (h : IsExtracted l r path netlist a x) → (k : IsExtracted m r path netlist b y)
+    → IsSameFile h.text k.text h.cells k.cells h.rectangles k.rectangles → IsSameNetlist h.netlist k.netlist h.top k.top h.bad k.bad h.spelled k.spelled → x ≡ y
+same_extracted path netlist l m r a b x y h k s t =
+    let counts : Extracted h.cells (length h.netlist.circuits) (length h.bad) ≡ Extracted k.cells (length k.netlist.circuits) (length k.bad) =
+    ap (λ (n : ℕ). Extracted n (length h.netlist.circuits) (length h.bad)) s.cell_count
+    ∙ (ap (λ (nl : Netlist). Extracted k.cells (length nl.circuits) (length h.bad)) t.netlist
+    ∙ ap (λ (bs : List BadGate). Extracted k.cells (length k.netlist.circuits) (length bs)) t.bad) in
+    h.whole ∙ (ap (λ (w : List ℕ). extracted path w netlist h.spelled (Extracted h.cells (length h.netlist.circuits) (length h.bad))) s.text
+    ∙ (ap (λ (w : List ℕ). extracted path k.text netlist w (Extracted h.cells (length h.netlist.circuits) (length h.bad))) t.text
+    ∙ (ap (λ (c : Counts). extracted path k.text netlist k.spelled c) counts ∙ sym k.whole)))
+
+-- by the laws of the readers, of shapes files and of netlist files
+module _ (meanings : MeaningLaw) (faults : FaultLaw) (no_faults : NoFaultLaw) (one_faults : OneFaultLaw) (files : OneFileLaw) (netlists : OneNetlistLaw) where
   -- two runs with one refusal
   refused_once : (w a b : Answer) (x y : Done) → (IsVerdict w → ⊥) → a ≡ w → b ≡ w → IsSameOutcome a b x y
   refused_once w a b x y never e f = record { answer = e ∙ sym f; done = λ v. absurd (never (subst IsVerdict e v)) }
@@ -47,6 +61,13 @@ module _ (meanings : MeaningLaw) (faults : FaultLaw) (no_faults : NoFaultLaw) (o
       record {
         answer = h.0 ∙ sym k.0;
         done = λ v. same_drawn path l m r x y one two (files bytes top l m r one.text two.text one.cells two.cells one.rectangles two.rectangles read found one.file two.file);
+      }
+  same_done (ToNetlist path netlist) bytes top l m r a b x y read found h k =
+      let s = files bytes top l m r h.text k.text h.cells k.cells h.rectangles k.rectangles read found h.file k.file in
+      let t = netlists bytes top l m r h.netlist k.netlist h.top k.top h.bad k.bad h.spelled k.spelled read found h.netlist_file k.netlist_file in
+      record {
+        answer = h.answer ∙ (ap gates_answer t.bad ∙ sym k.answer);
+        done = λ v. same_extracted path netlist l m r a b x y h k s t;
       }
 
   on_stream : (bytes : List ℕ) (p : Paths) (r : Rules) (a b : Answer) (x y : Done) → OfStream bytes p r a x → OfStream bytes p r b y → IsSameOutcome a b x y

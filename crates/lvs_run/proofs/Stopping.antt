@@ -1,5 +1,5 @@
 -- What the inputs, read one after the other, come to.
-use Rattle.std.proofs.Common.{◌≡◌, inl, inr, ◌+◌, ◌<◌, ℕ, List, Option, Some, None, refl, sym, ap, subst, ◌∙◌, length}
+use Rattle.std.proofs.Common.{◌≡◌, ◌⊎◌, inl, inr, ◌+◌, ◌<◌, ℕ, List, [], ◌∷◌, Option, Some, None, refl, sym, ap, subst, ◌∙◌, length}
 use Rattle.lvs_outside.specs.Store.{Store, Told, Untold, NoFile, Holds, IsAbsent, Open, Reading}
 use Rattle.gds_layout.specs.declared.layout.Layout.{Layout}
 use Rattle.gds_layout.specs.Layouts.{IsRead, IsFaultOf}
@@ -9,12 +9,13 @@ use Rattle.rule_text.specs.declared.fault.RuleFault.{RuleFault}
 use Rattle.rule_text.specs.declared.fault.RuleFault.TheVariants as rule
 use Rattle.rule_text.specs.Rules.{Rules}
 use Rattle.rule_text.specs.Reading.{Means, Answers}
+use Rattle.deep_tables.specs.declared.gates.BadGate.{BadGate}
 use Rattle.lvs_run.specs.declared.output.Verdict.{Verdict}
 use Rattle.lvs_run.specs.declared.output.Verdict.TheVariants as verdict
-use Rattle.lvs_run.specs.Words.{Outputs, ToShapes, Paths}
-use Rattle.lvs_run.specs.Answers.{Done, Answer, Good, Bad, RefusedWords, RefusedSame, RefusedAbsent, RefusedLong, RefusedRules, RefusedLayout, Undecided, Outside, NoMemory, refused_layout, refused_rules, verdict_of}
+use Rattle.lvs_run.specs.Words.{Outputs, ToShapes, ToNetlist, Paths}
+use Rattle.lvs_run.specs.Answers.{Done, Answer, Good, Bad, RefusedWords, RefusedSame, RefusedAbsent, RefusedLong, RefusedRules, RefusedLayout, Undecided, Outside, NoMemory, refused_rules, verdict_of, refused_layout}
 use Rattle.lvs_run.specs.Runs.{HasLength, IsReadWhole, IsReadTooFar, HasCauseIn, MayEnd}
-use Rattle.lvs_run.specs.Outcomes.{IsOutcome, IsDone, SamePath}
+use Rattle.lvs_run.specs.Outcomes.{IsOutcome, IsDone, SamePath, gates_answer}
 use Rattle.lvs_run.proofs.Steps.{OfStream, FaultyStream, SoundStream, OfLayout, OfRuleText, FaultyRules, SoundRules, OfRules, of_rules}
 use Rattle.lvs_run.specs.Inputs.{Quiet, DepotFaults, IsInput, IsLong, Got, ReadAs, NoRules, NoLayout, RefusesRules, RefusesLayout, ComesOf, Stops}
 
@@ -206,8 +207,13 @@ outcome_made p old mid new r l a done apart quiet rules layout made =
     on_layout p old mid new r apart quiet rules a done (layout_read (mid.file p.layout) r p a done layout.bytes layout.got.told (SoundStream l layout.is made))
 
 -- the answer that a command comes to where it writes its files is one of its own
+gates_end : (bad : List BadGate) (a : Answer) → a ≡ gates_answer bad → (a ≡ Good) ⊎ (a ≡ Bad)
+gates_end [] a e = inl e
+gates_end (b ∷ bs) a e = inr e
+
 may_end : (o : Outputs) (l : Layout) (r : Rules) (a : Answer) (done : Done) → IsDone o l r a done → MayEnd o a
 may_end (ToShapes shapes) l r a done h = h.0
+may_end (ToNetlist shapes netlist) l r a done h = gates_end h.bad a h.answer
 
 -- the cause behind an answer of a run that writes its files
 pub verdict_cause : (p : Paths) (old new : Store) (l : Layout) (r : Rules) (v : Verdict) (done : Done) → p.shared ≡ None → new.absent ≡ old.absent → IsDone p.outputs l r (verdict_of v) done

@@ -15,9 +15,11 @@ use Rattle.lvs_run.specs.declared.status.Refusal.{Refusal}
 use Rattle.lvs_run.specs.declared.status.Refusal.TheVariants.{Words, SamePath, Absent, TooLong}
 use Rattle.lvs_run.specs.declared.status.Refusal.TheVariants.{Rules, Layout}
 
--- what the summary line counts: of `shapes` the cells and the rectangles of the shapes file
+-- what the summary line counts: of `shapes` the cells and the rectangles of the shapes file, of
+-- `extract` these cells, the netlist's circuits and the bad gates
 pub data Counts : Type 0 where
   Layers : (cells rectangles : ℕ) → Counts
+  Extracted : (cells circuits bad : ℕ) → Counts
 
 -- what is written, in this order, and what is counted
 pub record Done : Type 0 where
@@ -36,6 +38,13 @@ drawn path text cells rectangles = record {
 
 abbrev pub drawn_of : List ℕ → Shapes → Done
 drawn_of path s = drawn path s.text.items s.cells s.rectangles
+
+-- of `extract`: the shapes file, the netlist's, and what is counted
+abbrev pub extracted : (path text netlist spelled : List ℕ) → Counts → Done
+extracted path text netlist spelled counts = record {
+  files = file_at path text ∷ file_at netlist spelled ∷ [];
+  counts = counts;
+}
 
 -- an answer, with the bytes of its path or with the fault of its file
 pub data Answer : Type 0 where

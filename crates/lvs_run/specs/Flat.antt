@@ -1,5 +1,4 @@
--- What the shapes file of a run covers: the flat rules' unit squares of the layout, where the files
--- are told.
+-- What the files that a run writes show of the flat layout, where the files are told.
 use Rattle.std.specs.Prelude.{◌≡◌, ◌⊎◌, ℕ, List, [], ◌∷◌, Option, Some, None}
 use Rattle.lvs_outside.specs.Loops.{IsFile}
 use Rattle.lvs_outside.specs.Store.{Store, Told, Holds}
@@ -9,8 +8,13 @@ use Rattle.gds_layout.specs.Layouts.{IsRead}
 use Rattle.shapes_file.specs.Flat.{CoversFlat}
 use Rattle.rule_text.specs.Rules.{Rules}
 use Rattle.rule_text.specs.Reading.{Means}
-use Rattle.lvs_run.specs.Words.{Paths, shapes_path}
-use Rattle.lvs_run.specs.Answers.{Answer, IsVerdict}
+use Rattle.cell_graph.specs.Linked.{plain}
+use Rattle.deep_tables.specs.declared.gates.BadGate.{BadGate}
+use Rattle.netlist_file.specs.Flat.{HasNoBadGate, ShowsFlat}
+use Rattle.plain_netlist.specs.Netlist.{Netlist}
+use Rattle.rule_layers.specs.Meaning.{device_rules, wiring_of}
+use Rattle.lvs_run.specs.Words.{Paths, ForNetlist, shapes_path}
+use Rattle.lvs_run.specs.Answers.{Answer, Good, IsVerdict}
 
 -- the list has a file of this path, and this is a fact of its text
 abbrev pub ListsAs : List File → List ℕ → (List ℕ → Type 0) → Type 0
@@ -54,3 +58,21 @@ IsFlatText file p text = OfInputs file p (λ l r. CoversFlat l r text)
 abbrev pub WritesFlat : Option Paths → Store → Store → Answer → Type 0
 WritesFlat said old new a = IsVerdict a → OfStated said
     (λ p. HoldsAs (new.file (shapes_path p.outputs)) (IsFlatText old.file p))
+
+-- The text, read as SPICE, means one netlist. Its last circuit is the top's and expands to the
+-- netlist of the flat layout: its devices are the good gates of the flat top, and their nets the
+-- regions of the flat top. After Good the flat top has no bad gate.
+pub record IsNetlistOf (l : Layout) (r : Rules) (a : Answer) (text : List ℕ) : Type 0 where
+  pub netlist : Netlist
+  pub circuit : ℕ
+  pub bad : List BadGate
+  pub shows : ShowsFlat l r text netlist circuit bad
+  pub good : a ≡ Good → HasNoBadGate (plain l.design) (wiring_of r) (device_rules r)
+
+abbrev pub IsFlatNetlist : (List ℕ → Told) → Paths → Answer → List ℕ → Type 0
+IsFlatNetlist file p a text = OfInputs file p (λ l r. IsNetlistOf l r a text)
+
+-- and the netlist's file, where the command writes one, such a text
+abbrev pub WritesNetlist : Option Paths → Store → Store → Answer → Type 0
+WritesNetlist said old new a = IsVerdict a → OfStated said (λ p. ForNetlist p.outputs
+    (λ path. HoldsAs (new.file path) (IsFlatNetlist old.file p a)))

@@ -6,14 +6,14 @@ use Rattle.lvs_outside.specs.Loops.{limit}
 use Rattle.gds_layout.specs.declared.layout.Layout.{Layout}
 use Rattle.rule_text.specs.Rules.{Rules}
 use Rattle.rule_text.specs.Reading.{IsFirstFault as IsFirstRuleFault}
-use Rattle.lvs_run.specs.Words.{Outputs, Paths, shapes_path}
+use Rattle.lvs_run.specs.Words.{Outputs, Paths, ForNetlist, shapes_path}
 use Rattle.lvs_files.specs.Files.{AreApart, files_of}
 use Rattle.lvs_run.specs.Answers.{Done, Answer, RefusedAbsent, RefusedLong, RefusedRules}
 use Rattle.lvs_run.specs.Answers.{RefusedLayout, Outside, NoMemory, refused, verdict_of}
 use Rattle.lvs_run.specs.Runs.{IsReadTooFar, WasAbsent, StartsNone, HasCauseIn}
 use Rattle.lvs_run.specs.Lines.{line_of}
 use Rattle.lvs_run.specs.Outcomes.{IsOutcome, IsDone, IsFirstLayoutFault}
-use Rattle.lvs_run.specs.Flat.{IsFlatText, ListsAs}
+use Rattle.lvs_run.specs.Flat.{IsFlatNetlist, IsFlatText, ListsAs}
 use Rattle.lvs_run.specs.declared.input.Stop.{Stop}
 use Rattle.lvs_run.specs.declared.input.Stop.TheVariants as stop
 use Rattle.lvs_run.specs.declared.output.Output.{Output}
@@ -135,3 +135,5 @@ pub record IsReady (said : Option Paths) (old new : Store) (o : Output) : Type 0
   pub line : o.line.items ≡ line_of (verdict_of o.verdict) done
   pub comes : IsOutcome said old.file (verdict_of o.verdict) done
   pub flat : ListsAs done.files (shapes_path paths.outputs) (IsFlatText old.file paths)
+  pub netlist : ForNetlist paths.outputs
+      (λ path. ListsAs done.files path (IsFlatNetlist old.file paths (verdict_of o.verdict)))

@@ -17,7 +17,7 @@ use Rattle.rule_text.specs.declared.fault.RuleFault.TheVariants.{UnknownName, Na
 use Rattle.rule_text.specs.declared.fault.RuleFault.TheVariants.{NotConductor, TooManyLayers}
 use Rattle.rule_text.specs.declared.fault.RuleFault.TheVariants.{NotText}
 use Rattle.rule_text.specs.declared.fault.RuleFault.TheVariants as rule
-use Rattle.lvs_run.specs.Answers.{Counts, Layers, Done, Answer, Good, Bad, Undecided}
+use Rattle.lvs_run.specs.Answers.{Counts, Layers, Extracted, Done, Answer, Good, Bad, Undecided}
 use Rattle.lvs_run.specs.Answers.{RefusedWords, RefusedSame, RefusedAbsent, RefusedLong}
 use Rattle.lvs_run.specs.Answers.{RefusedRules, RefusedLayout}
 
@@ -58,6 +58,8 @@ layout_place layout.NoMemory = []
 abbrev pub counts_line : Counts → List ℕ
 counts_line (Layers cells rectangles) = codes "shapes cells " ++ decimal cells
     ++ codes " rectangles " ++ decimal rectangles ++ 10 ∷ []
+counts_line (Extracted cells circuits bad) = codes "extracted cells " ++ decimal cells
+    ++ codes " circuits " ++ decimal circuits ++ codes " bad " ++ decimal bad ++ 10 ∷ []
 
 -- the line of each answer; others have none
 abbrev pub line_of : Answer → Done → List ℕ

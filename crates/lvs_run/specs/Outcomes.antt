@@ -1,5 +1,5 @@
 -- What a run comes to where the files are told: its answer, and what it writes.
-use Rattle.std.specs.Prelude.{◌≡◌, ℕ, ◌<◌, ◌≤◌, List, length, Option, Some, None}
+use Rattle.std.specs.Prelude.{◌≡◌, ℕ, ◌<◌, ◌≤◌, List, [], ◌∷◌, length, Option, Some, None}
 use Rattle.lvs_outside.specs.Store.{Told, Untold, NoFile, Holds}
 use Rattle.lvs_outside.specs.Loops.{limit}
 use Rattle.gds_layout.specs.declared.layout.Layout.{Layout}
@@ -10,9 +10,13 @@ use Rattle.rule_text.specs.declared.fault.RuleFault.{RuleFault}
 use Rattle.rule_text.specs.Rules.{Rules}
 use Rattle.rule_text.specs.Reading.{Means, IsFirstFault}
 use Rattle.shapes_file.specs.File.{IsShapesFile}
-use Rattle.lvs_run.specs.Words.{Outputs, Paths, ToShapes}
-use Rattle.lvs_run.specs.Answers.{Done, drawn, Answer, Good, RefusedWords, RefusedSame, RefusedAbsent}
-use Rattle.lvs_run.specs.Answers.{RefusedLong, RefusedRules, RefusedLayout}
+use Rattle.netlist_file.specs.File.{IsNetlistFile}
+use Rattle.deep_tables.specs.declared.gates.BadGate.{BadGate}
+use Rattle.plain_netlist.specs.Netlist.{Netlist}
+use Rattle.lvs_run.specs.Words.{Outputs, Paths, ToShapes, ToNetlist}
+use Rattle.lvs_run.specs.Answers.{Done, Extracted, drawn, extracted, Answer, Good, Bad}
+use Rattle.lvs_run.specs.Answers.{RefusedWords, RefusedSame, RefusedAbsent, RefusedLong}
+use Rattle.lvs_run.specs.Answers.{RefusedRules, RefusedLayout}
 
 -- the words state a command of these paths, and no file that it writes is named twice
 pub record Runs (said : Option Paths) (p : Paths) : Type 0 where
@@ -54,9 +58,32 @@ pub record IsDrawn (l : Layout) (r : Rules) (path : List ℕ) (done : Done) : Ty
   pub file : IsShapesFile l r text cells rectangles
   pub whole : done ≡ drawn path text cells rectangles
 
+-- the answer of a run that isn't compared with anything: Bad where there is a bad gate
+abbrev pub gates_answer : List BadGate → Answer
+gates_answer [] = Good
+gates_answer (b ∷ bs) = Bad
+
+-- what is written is the shapes file and the netlist's file of the layout by the rules, with the
+-- numbers of cells, circuits and bad gates, and the answer is that of the bad gates
+pub record IsExtracted (l : Layout) (r : Rules) (path netlist_path : List ℕ) (a : Answer)
+    (done : Done) : Type 0 where
+  pub text : List ℕ
+  pub cells : ℕ
+  pub rectangles : ℕ
+  pub file : IsShapesFile l r text cells rectangles
+  pub netlist : Netlist
+  pub top : ℕ
+  pub bad : List BadGate
+  pub spelled : List ℕ
+  pub netlist_file : IsNetlistFile l r netlist top bad spelled
+  pub answer : a ≡ gates_answer bad
+  pub whole : done ≡ extracted path text netlist_path spelled
+      (Extracted cells (length netlist.circuits) (length bad))
+
 -- the answer and what is written by the command with these outputs, of a layout and rules
 abbrev pub IsDone : Outputs → Layout → Rules → Answer → Done → Type 0
 IsDone (ToShapes shapes) l r a done = (a ≡ Good) × IsDrawn l r shapes done
+IsDone (ToNetlist shapes netlist) l r a done = IsExtracted l r shapes netlist a done
 
 -- The answer, and what is written where nothing is refused. The words are looked at first, then the paths, the
 -- rule file and the layout, and the first of them that is refused gives the answer. Nothing is said

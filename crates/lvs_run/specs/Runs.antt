@@ -4,7 +4,7 @@ use Rattle.lvs_outside.specs.Store.{Store, Told, Untold, NoFile, Holds, Open, Cl
 use Rattle.lvs_outside.specs.Store.{Writing, SameFiles, appended}
 use Rattle.lvs_outside.specs.Summary.{SinkState}
 use Rattle.lvs_outside.specs.Loops.{limit}
-use Rattle.lvs_run.specs.Words.{Outputs, Paths, ToShapes, IsSame}
+use Rattle.lvs_run.specs.Words.{Outputs, Paths, ToShapes, ToNetlist, IsSame}
 use Rattle.lvs_files.specs.Files.{File, AreWritten}
 use Rattle.lvs_run.specs.Answers.{Done, Answer, Good, Bad, RefusedWords, RefusedSame}
 use Rattle.lvs_run.specs.Answers.{RefusedAbsent, RefusedLong, RefusedRules, RefusedLayout}
@@ -32,9 +32,11 @@ abbrev pub ShowsFaults : Answer → Store → Store → SinkState → SinkState 
 ShowsFaults Outside old new before after = HaveRisen old new before after
 ShowsFaults a old new before after = HaveStood old new before after
 
--- a command with these outputs may end with this answer where it writes them: `shapes` with Good
+-- a command with these outputs may end with this answer where it writes them: `shapes` with Good,
+-- `extract` with Good or Bad
 abbrev pub MayEnd : Outputs → Answer → Type 0
 MayEnd (ToShapes shapes) a = a ≡ Good
+MayEnd (ToNetlist shapes netlist) a = (a ≡ Good) ⊎ (a ≡ Bad)
 
 -- the words state such a command, and no file that it writes is named twice
 abbrev pub EndsWith : Option Paths → Answer → Type 0

@@ -1,16 +1,17 @@
--- What is run of what the words after the program's name state: `shapes` alone.
-use Rattle.std.specs.Prelude.{◌≡◌, ℕ, List, [], ◌∷◌, Option, Some, None, string_bytes}
+-- What is run of what the words after the program's name state: `shapes` and `extract`.
+use Rattle.std.specs.Prelude.{◌≡◌, ◌≢◌, ◌≤◌, ℕ, List, [], ◌∷◌, Option, Some, None, string_bytes}
 use Rattle.std.specs.Option.{option_and_then, option_map}
 use Rattle.lvs_files.specs.Files.{File}
-use Rattle.lvs_words.specs.Commands.{Asked, Shapes, Said}
+use Rattle.lvs_words.specs.Commands.{Asked, Shapes, Extract, Run, Said}
 use Rattle.lvs_words.specs.Commands.{said as stated_by}
 use Rattle.lvs_run.specs.declared.words.Outputs.{Outputs as Code}
 use Rattle.lvs_run.specs.declared.words.Outputs.TheVariants as code
 use Rattle.lvs_run.specs.declared.words.Task.{Task}
 
--- the files that a command that is built writes: of `shapes` the shapes file
+-- the files that a command that is built writes: the shapes file, and of `extract` the netlist's
 pub data Outputs : Type 0 where
   ToShapes : (shapes : List ℕ) → Outputs
+  ToNetlist : (shapes netlist : List ℕ) → Outputs
 
 -- the files of a command, the name of the top where the words give one, and the path of a file that
 -- is written and named twice
@@ -21,6 +22,22 @@ pub record Paths : Type 0 where
   pub outputs : Outputs
   pub shared : Option (List ℕ)
 
+abbrev pub AreWorkers : ℕ → Type 0
+AreWorkers k = (1 ≤ k) × (k ≤ 64)
+
+-- of each command with options there are 1 to 64 workers, and the files that it writes have
+-- different paths where none is named twice
+abbrev pub IsFair : Asked → Option (List ℕ) → Type 0
+IsFair (Extract layout rules shapes netlist top workers) shared =
+    AreWorkers workers × (shared ≡ None → shapes ≢ netlist)
+IsFair (Run layout rules schematic shapes netlist report top workers) shared =
+    AreWorkers workers × (shared ≡ None
+    → (shapes ≢ netlist) × (shapes ≢ report) × (netlist ≢ report))
+IsFair asked shared = Unit {0}
+
+abbrev pub IsFairSaid : Said → Type 0
+IsFairSaid s = IsFair s.asked s.shared
+
 -- the command's files, where it is built
 abbrev pub built : Asked → Option (List ℕ) → Option Paths
 built (Shapes layout rules shapes) shared = Some (record {
@@ -28,6 +45,13 @@ built (Shapes layout rules shapes) shared = Some (record {
   rules = rules;
   top = None;
   outputs = ToShapes shapes;
+  shared = shared;
+})
+built (Extract layout rules shapes netlist top workers) shared = Some (record {
+  layout = layout;
+  rules = rules;
+  top = top;
+  outputs = ToNetlist shapes netlist;
   shared = shared;
 })
 built asked shared = None
@@ -47,6 +71,12 @@ IsSame (Some p) path = p.shared ≡ Some path
 -- the path of the shapes file
 abbrev pub shapes_path : Outputs → List ℕ
 shapes_path (ToShapes shapes) = shapes
+shapes_path (ToNetlist shapes netlist) = shapes
+
+-- a fact of the path of the netlist's file, where the command writes one
+abbrev pub ForNetlist : Outputs → (List ℕ → Type 0) → Type 0
+ForNetlist (ToShapes shapes) P = Unit {0}
+ForNetlist (ToNetlist shapes netlist) P = P netlist
 
 abbrev pub file_at : (path text : List ℕ) → File
 file_at path text = record { path = path; text = text }
@@ -54,10 +84,13 @@ file_at path text = record { path = path; text = text }
 -- empty files of the paths that are written, in their order
 abbrev pub blank_files : Outputs → List File
 blank_files (ToShapes shapes) = file_at shapes [] ∷ []
+blank_files (ToNetlist shapes netlist) = file_at shapes [] ∷ file_at netlist [] ∷ []
 
 -- what the code keeps of a command
 abbrev pub outputs_of : Code → Outputs
 outputs_of (code.Shapes shapes) = ToShapes (string_bytes shapes)
+outputs_of (code.Netlist shapes netlist) =
+    ToNetlist (string_bytes shapes) (string_bytes netlist)
 
 abbrev pub paths_of : Task → Paths
 paths_of t = record {

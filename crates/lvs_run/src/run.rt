@@ -5,7 +5,7 @@ ghost use Rattle.lvs_outside.specs.Store.{HasRoom};
 ghost use Rattle.lvs_outside.specs.Summary.{SinkHasRoom};
 ghost use Rattle.lvs_run.specs.Answers.{answer_of, refused};
 ghost use Rattle.lvs_run.specs.Ends.{ComesOut, Delivered, Refused};
-ghost use Rattle.lvs_run.specs.Flat.{WritesFlat};
+ghost use Rattle.lvs_run.specs.Flat.{WritesFlat, WritesNetlist};
 ghost use Rattle.lvs_run.specs.Inputs.{IsReady, Quiet, Stops, stopped};
 ghost use Rattle.lvs_run.specs.Runs.{HasCauseIn, ShowsFaults};
 ghost use Rattle.lvs_run.specs.Words.{blank_files, outputs_of, paths_of, said};
@@ -20,6 +20,7 @@ use crate::words::{Task, read_task};
 use lvs_files::write_files;
 use lvs_outside::{Depot, Sink, write_all};
 use lvs_words::WordFault;
+use netlist_file::flat_netlist;
 use shapes_file::covers_flat;
 use std::alloc::Global;
 use std::sync::Wait;
@@ -43,6 +44,7 @@ fn prepare_task<R: Threads + Wait + Sync, D: Depot>(
         (D.state depot.new) (stopped why)) }
 {
     covers_flat();
+    flat_netlist();
     let Task {
         layout,
         rules,
@@ -141,6 +143,10 @@ pub fn run_lvs<R: Threads + Wait + Sync, D: Depot, S: Sink>(
     // After each answer of a run that writes its files the shapes file covers exactly the flat
     // rules' unit squares of the layout, where the files are told.
     ensures flat { WritesFlat (said (map string_bytes words.now)) (D.state depot.old)
+        (D.state depot.new) (answer_of result) }
+    // The netlist's file means, expanded, the netlist of the flat layout, and after Good the flat
+    // layout has no bad gate.
+    ensures netlist { WritesNetlist (said (map string_bytes words.now)) (D.state depot.old)
         (D.state depot.new) (answer_of result) }
 {
     match prepare(rt, alloc, words, depot) {

@@ -1,9 +1,10 @@
 // The summary line.
-ghost use Rattle.std.specs.Prelude.{◌≡◌, ◌++◌, ◌∷◌, [], IfOk, OnOk, string_bytes};
+ghost use Rattle.std.specs.Prelude.{◌≡◌, ◌++◌, ◌∷◌, [], length, IfOk, OnOk, string_bytes};
 ghost use Rattle.std.specs.Fmt.{decimal};
 ghost use Rattle.net_names.specs.Escapes.{escaped};
 ghost use Rattle.gds_layout.specs.declared.layout.LayoutFault.TheVariants.{Gds};
-ghost use Rattle.lvs_run.specs.Answers.{Layers, nothing, refused, RefusedLayout};
+ghost use Rattle.net_model.specs.Rows.{plain_netlist};
+ghost use Rattle.lvs_run.specs.Answers.{Extracted, Layers, nothing, refused, RefusedLayout};
 ghost use Rattle.lvs_run.specs.Answers.{RefusedRules};
 ghost use Rattle.lvs_run.specs.Lines.{counts_line, layout_place, line_of, link_place, rule_place};
 
@@ -12,6 +13,7 @@ use cell_graph::LinkFault;
 use gds_elements::GdsFault;
 use gds_layout::LayoutFault;
 use net_names::{Name, escape};
+use netlist_file::Extraction;
 use rule_text::RuleFault;
 use shapes_file::Shapes;
 use std::alloc::{AllocError, Global};
@@ -142,6 +144,26 @@ pub fn refusal_line(alloc: Global, why: &Refusal) -> Result<Vec<u8>, AllocError>
         Refusal::Rules(fault) => rules_line(alloc, *fault),
         Refusal::Layout(fault) => layout_line(alloc, fault),
     }
+}
+
+/// The line of `extract`, with the cells of the shapes file, the netlist's circuits and the bad
+/// gates.
+pub fn extracted_line(alloc: Global, found: &Extraction) -> Result<Vec<u8>, AllocError>
+    ensures { IfOk result (λ line. line.items ≡ counts_line (Extracted found.now.shapes.cells
+        (length (plain_netlist found.now.netlist).circuits) (length found.now.bad.items))) }
+{
+    let circuits = found.netlist.circuits.len() as u64;
+    let mut line = Vec::new(alloc);
+    push_number(
+        alloc,
+        &mut line,
+        b"extracted cells ",
+        u64::from(found.shapes.cells),
+    )?;
+    push_number(alloc, &mut line, b" circuits ", circuits)?;
+    push_number(alloc, &mut line, b" bad ", found.bad.len() as u64)?;
+    line.push(b'\n')?;
+    Ok(line)
 }
 
 /// The line of `shapes`, which wrote so many cells and rectangles.

@@ -2,7 +2,7 @@
 ghost use Rattle.std.specs.Prelude.{◌≡◌, ◌≤◌, map, IfOk, IfSome, IsErrOf, None, Some, string_bytes};
 ghost use Rattle.std.specs.Option.{option_map};
 ghost use Rattle.lvs_files.specs.Files.{AreApart};
-ghost use Rattle.lvs_run.specs.Words.{blank_files, built_of, outputs_of, paths_of, said};
+ghost use Rattle.lvs_run.specs.Words.{IsFairSaid, blank_files, built_of, outputs_of, paths_of, said};
 ghost use Rattle.lvs_words.specs.Commands.{said_of};
 
 use lvs_words::{Command, Stated, WordFault, read_stated};
@@ -13,6 +13,7 @@ use std::alloc::Global;
 #[derive(Debug, Drop)]
 pub enum Outputs {
     Shapes(String),
+    Netlist { shapes: String, netlist: String },
 }
 
 /// What is to be done: the files of a command, the name of the layout's top, the number of workers,
@@ -29,8 +30,11 @@ pub struct Task {
 
 // `None` where the command isn't built.
 fn task_of(stated: Stated) -> Option<Task>
+    requires { IsFairSaid (said_of stated) }
     ensures paths { option_map paths_of result ≡ built_of (said_of stated) }
     ensures workers { IfSome result (λ t. (1 ≤ t.workers) × (t.workers ≤ 64)) }
+    ensures apart { IfSome result (λ t. (paths_of t).shared ≡ None
+        → AreApart (blank_files (outputs_of t.outputs))) }
 {
     let Stated { command, shared } = stated;
     match command {
@@ -44,6 +48,21 @@ fn task_of(stated: Stated) -> Option<Task>
             top: None,
             workers: 1,
             outputs: Outputs::Shapes(shapes),
+            shared,
+        }),
+        Command::Extract {
+            layout,
+            rules,
+            shapes,
+            netlist,
+            top,
+            workers,
+        } => Some(Task {
+            layout,
+            rules,
+            top,
+            workers,
+            outputs: Outputs::Netlist { shapes, netlist },
             shared,
         }),
         _command => None,

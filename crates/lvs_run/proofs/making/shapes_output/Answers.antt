@@ -1,14 +1,13 @@
-use Rattle.std.proofs.Common.{◌∙◌, ◌++◌, List, [], ◌∷◌, ap, refl, string_bytes}
-use Rattle.lvs_files.specs.Files.{files_of}
-use Rattle.lvs_files.specs.declared.files.Written.{Written}
-use Rattle.lvs_run.specs.Words.{file_at}
+use Rattle.std.proofs.Common.{refl, string_bytes}
 use Rattle.lvs_run.specs.Answers.{drawn_of}
+use Rattle.lvs_run.specs.Words.{file_at}
+use Rattle.lvs_run.proofs.Adding.{first_file}
 use Rattle.lvs_run.proofs.making.shapes_output.Goals as goal
 
 pub returns : goal.returns
 returns g c = record {
   done = drawn_of (string_bytes c.args.path) c.in_ok-shapes.shapes;
-  files = c.in_ok-push_file.ensures ∙ ap (λ (ws : List Written). files_of ws ++ file_at (string_bytes c.args.path) c.in_ok-shapes.shapes.text.items ∷ []) c.new-files.ensures.items;
+  files = first_file _ _ (file_at (string_bytes c.args.path) c.in_ok-shapes.shapes.text.items) c.new-files.ensures.items c.in_ok-push_file.ensures;
   apart = (tt, tt);
   is = (
     refl,

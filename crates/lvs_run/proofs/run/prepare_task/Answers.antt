@@ -5,7 +5,7 @@ use Rattle.rule_text.specs.Seen.{rules_seen}
 use Rattle.lvs_run.specs.Words.{paths_of}
 use Rattle.lvs_run.specs.Answers.{verdict_of}
 use Rattle.lvs_run.proofs.Stopping.{same_stop, rules_stop, layout_stop, memory_stop, outcome_made, quiet_on, verdict_cause}
-use Rattle.lvs_run.proofs.Flattened.{flat_listed}
+use Rattle.lvs_run.proofs.Flattened.{flat_listed, netlist_listed}
 use Rattle.lvs_run.proofs.run.prepare_task.Goals as goal
 
 pub returns-in-Some-clause-stops : goal.returns-in-Some-clause-stops
@@ -54,6 +54,8 @@ returns-clause-ready g c =
       comes = outcome_made p _ _ _ r l a made.done apart quiet rules layout made.is;
       flat = flat_listed p _ _ _ r l a made.done quiet rules layout
           (λ text cells rectangles file. c.covers_flat.ensures layout.bytes p.top l r text cells rectangles layout.is c.in_ok-rule_set.ensures.sound file) made.is;
+      netlist = netlist_listed p _ _ _ r l a made.done quiet rules layout
+          (λ nl top bad text file. c.flat_netlist.ensures layout.bytes p.top l r nl top bad text layout.is c.in_ok-rule_set.ensures.sound file) made.is;
     }
 
 pub returns-clause-quiet : goal.returns-clause-quiet

@@ -1,5 +1,5 @@
-use Rattle.lvs_run.proofs.Delivering.{cause_delivered, delivered, faults_delivered, stop_out, stopped_memory, stopped_outside}
-use Rattle.lvs_run.proofs.Flattened.{flat_delivered, none_written}
+use Rattle.lvs_run.proofs.Delivering.{cause_delivered, delivered, faults_delivered, stop_out, stopped_outside, stopped_memory}
+use Rattle.lvs_run.proofs.Flattened.{flat_delivered, netlist_delivered, none_written}
 use Rattle.lvs_run.proofs.run.run_lvs.Goals as goal
 
 pub returns-in-Ok-clause-outcome : goal.returns-in-Ok-clause-outcome
@@ -25,3 +25,9 @@ returns-in-Ok-clause-faults g c = faults_delivered _ _ _ _ _ c.in-Ok.output _ c.
 
 pub returns-in-Ok-clause-cause : goal.returns-in-Ok-clause-cause
 returns-in-Ok-clause-cause g c = cause_delivered _ _ _ _ _ _ c.in-Ok.output _ c.in-Ok.ensures.ready.cause c.deliver.ensures
+
+pub returns-in-Ok-clause-netlist : goal.returns-in-Ok-clause-netlist
+returns-in-Ok-clause-netlist g c = netlist_delivered _ _ _ _ _ _ c.in-Ok.output _ c.in-Ok.ensures.ready c.deliver.ensures
+
+pub returns-in-Err-Refused-clause-netlist : goal.returns-in-Err-Refused-clause-netlist
+returns-in-Err-Refused-clause-netlist g c = λ v. absurd (none_written _ _ c.in-Err-Refused.why _ c.refuse.ensures v)
