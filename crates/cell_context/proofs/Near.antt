@@ -115,13 +115,13 @@ own_inside rects w near k are lt =
     let h = (are.each (get_or near k 0)).0 (k, lt, get_or_default near k (get_or near k 0) 0 lt) in
     slice_get_within rects (get_or near k 0) h.0 h.1
 
-at_covers : (rects : List Rect) (k : ℕ) (d : Rect) (q : Square) → k < length rects → has (get_or rects k d) q ≡ true → covers rects q ≡ true
+pub at_covers : (rects : List Rect) (k : ℕ) (d : Rect) (q : Square) → k < length rects → has (get_or rects k d) q ≡ true → covers rects q ≡ true
 at_covers [] k d q lt e = absurd (omega (arith, lt))
 at_covers (r ∷ rects) zero d q lt e = or_left (has r q) (covers rects q) e
 at_covers (r ∷ rects) (suc k) d q lt e = or_right (has r q) (covers rects q) (at_covers rects k d q (omega (arith, lt)) e)
 
 -- a rectangle that covers, by its number
-covering : (rects : List Rect) (q : Square) → covers rects q ≡ true → (k : ℕ) × (r : Rect) × (slice_get rects k ≡ Some r) × (has r q ≡ true)
+pub covering : (rects : List Rect) (q : Square) → covers rects q ≡ true → (k : ℕ) × (r : Rect) × (slice_get rects k ≡ Some r) × (has r q ≡ true)
 covering [] q e = cc
 covering (r ∷ rects) q e = elim (or_split (has r q) (covers rects q) e) [
   | inl h ↦ (0, r, refl, h)
@@ -186,6 +186,10 @@ pub chosen_all : (rects : List Rect) (w : Rect) (near : List ℕ) (k : ℕ) (q :
     → new ≡ (start || (covers (chosen rects (take k near)) q && has w q)) → new ≡ (start || (covers rects q && has w q))
 chosen_all rects w near k q start new are end e =
     e ∙ ap (λ (l : List ℕ). start || (covers (chosen rects l) q && has w q)) (take_all k near end) ∙ ap (λ b. start || b) (chosen_same rects w near q are)
+
+-- added to nothing, the pieces cover what lies in the window
+pub pieces_of : (out start rects set : List Rect) (w : Rect) (q : Square) → start ≡ [] → rects ≡ set → covers out q ≡ (covers start q || (covers rects q && has w q)) → covers out q ≡ (covers set q && has w q)
+pieces_of out start rects set w q none is e = e ∙ ap (λ (l : List Rect). covers l q || (covers rects q && has w q)) none ∙ ap (λ (l : List Rect). covers l q && has w q) is
 
 -- where each reference that the index gives is visited, all that reach into the window are
 pub all_visited : (d : Linked) (cell : ℕ) (skip : Option ℕ) (w : Rect) (near : List ℕ) (visits : List Visit) → IsSound d → ArePlacesIn d cell w near

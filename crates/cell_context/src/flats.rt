@@ -35,8 +35,9 @@ fn push_piece(out: &mut Vec<Rect>, rect: &Rect, window: &Rect) -> Result<(), All
     Ok(())
 }
 
-// Adds the parts that lie in the window of those rectangles that share a square with it.
-fn push_pieces(
+/// Adds the parts that lie in the window of those rectangles that share a square with it, by their
+/// positions.
+pub fn push_pieces(
     out: &mut Vec<Rect>,
     rects: &[Rect],
     near: &[u32],

@@ -6,4 +6,4 @@ mod flats;
 mod steps;
 
 pub use arrays::{Visit, meet, motion_at, place_visits};
-pub use flats::{collect, gather, over_laws, push_images, visits};
+pub use flats::{collect, gather, over_laws, push_images, push_pieces, visits};

@@ -2,6 +2,7 @@ pub mod Circuits
 pub mod Entries
 pub mod Frames
 pub mod Gates
+pub mod Indexed
 pub mod Laws
 pub mod Layers
 pub mod Nets

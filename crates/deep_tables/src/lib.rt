@@ -10,6 +10,7 @@
 
 mod circuits;
 mod gates;
+mod indexed;
 mod keys;
 mod laws;
 mod layers;
@@ -20,6 +21,7 @@ mod zones;
 
 pub use circuits::{CellCircuit, CircuitKey, Circuits};
 pub use gates::{BadGate, CellGates, Gate, GateCause, GateState, Gates};
+pub use indexed::{IndexedSet, index_of};
 pub use keys::DeepKey;
 pub use laws::{
     circuit_table, gate_table, layer_table, net_table, over_any, pin_table, zone_frames, zone_table,

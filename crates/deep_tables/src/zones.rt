@@ -3,6 +3,7 @@ ghost use Rattle.std.specs.Prelude.{◌≡◌, IfOk, IsSome, Some};
 ghost use Rattle.deep_tables.specs.Entries.{entry, IsDownward};
 ghost use Rattle.deep_tables.specs.Zones.{zone_of};
 
+use crate::indexed::{IndexedSet, indexed_sets};
 use crate::keys::DeepKey;
 use crate::table::Table;
 use cell_graph::Design;
@@ -13,11 +14,27 @@ use std::marker::Model;
 
 /// A cell's disturbed squares within one square round its hull: for each name of the rules, and for
 /// each device rule.
-/// At a labels name there are none.
+/// At a labels name there are none. Each set has an index of its rectangles.
 #[derive(Drop)]
 pub struct CellZones {
-    pub layers: Vec<RectSet>,
-    pub devices: Vec<RectSet>,
+    pub layers: Vec<IndexedSet>,
+    pub devices: Vec<IndexedSet>,
+}
+
+impl CellZones {
+    /// These sets, each with its index, in O(n log n) for n rectangles.
+    pub fn new(
+        alloc: Global,
+        layers: Vec<RectSet>,
+        devices: Vec<RectSet>,
+    ) -> Result<CellZones, AllocError>
+        ensures layers { IfOk result (λ z. z.layers.items ≡ layers.items) }
+        ensures devices { IfOk result (λ z. z.devices.items ≡ devices.items) }
+    {
+        let layers = indexed_sets(alloc, layers)?;
+        let devices = indexed_sets(alloc, devices)?;
+        Ok(CellZones { layers, devices })
+    }
 }
 
 impl Defined for CellZones {
@@ -68,8 +85,9 @@ impl Zones {
         Ok(Zones { table })
     }
 
-    /// A cell's disturbed squares for a name or a device rule, in constant time.
-    pub fn disturbed(&self, cell: u32, key: ZoneKey) -> &RectSet
+    /// A cell's disturbed squares for a name or a device rule, with the index of their rectangles,
+    /// in constant time.
+    pub fn indexed(&self, cell: u32, key: ZoneKey) -> &IndexedSet
         requires { IsSome (zone_of self.now cell key) }
         ensures { zone_of self.now cell key ≡ Some result.now }
     {
@@ -78,5 +96,13 @@ impl Zones {
             ZoneKey::Layer(layer) => &zones.layers[layer as usize],
             ZoneKey::Device(rule) => &zones.devices[rule as usize],
         }
+    }
+
+    /// A cell's disturbed squares for a name or a device rule, in constant time.
+    pub fn disturbed(&self, cell: u32, key: ZoneKey) -> &RectSet
+        requires { IsSome (zone_of self.now cell key) }
+        ensures { zone_of self.now cell key ≡ Some result.now }
+    {
+        self.indexed(cell, key).set()
     }
 }

@@ -14,7 +14,7 @@ use crate::close::misses;
 use crate::frame::grown_hull;
 use cell_context::{Visit, visits};
 use cell_graph::Design;
-use deep_tables::{ZoneKey, Zones};
+use deep_tables::{IndexedSet, ZoneKey, Zones};
 use gate_shapes::least;
 use geo_base::{Motion, Rect};
 use rect_sets::{RectSet, Rule, combine_rects};
@@ -36,7 +36,7 @@ fn is_free(
     close: &RectSet,
     motion: &Motion,
     frame: &Rect,
-    zone: &RectSet,
+    zone: &IndexedSet,
 ) -> Result<bool, AllocError>
     requires near { IsNearSet close.now }
     requires motion { IsNearMotion motion.now }
@@ -70,7 +70,7 @@ fn is_free_visit(
     design.sound();
     match design.hull(visit.cell) {
         Some(hull) => {
-            let zone = zones.disturbed(visit.cell, ZoneKey::Device(device));
+            let zone = zones.indexed(visit.cell, ZoneKey::Device(device));
             is_free(alloc, close, &visit.motion, &grown_hull(&hull), zone)
         }
         None => Ok(false),

@@ -7,8 +7,8 @@ ghost use Rattle.gate_shapes.specs.Sets.{in_set};
 ghost use Rattle.gate_shapes.specs.Shapes.{MissEachOther};
 ghost use Rattle.gate_phase.specs.Close.{HasOpen, MissesOpen};
 
-use deep_tables::{ZoneKey, Zones};
-use gate_shapes::{grown, least};
+use deep_tables::{IndexedSet, ZoneKey, Zones};
+use gate_shapes::grown;
 use rect_sets::RectSet;
 use std::alloc::{AllocError, Global};
 
@@ -22,14 +22,13 @@ pub fn close_to(alloc: Global, part: &RectSet) -> Result<RectSet, AllocError>
 }
 
 /// Whether no square lies in both, by windows of the one in the other.
-pub fn misses(alloc: Global, set: &RectSet, other: &RectSet) -> Result<bool, AllocError>
+pub fn misses(alloc: Global, set: &RectSet, other: &IndexedSet) -> Result<bool, AllocError>
     ensures { IfOk result (λ b. (b ≡ true) ↔ MissEachOther set.now other.now) }
 {
     for rect in set.rects() {
-        let near = other.window(alloc, *rect)?;
-        match least(&near) {
-            Some(_) => return Ok(false),
-            None => {}
+        let near = other.near(alloc, rect)?;
+        if !near.is_empty() {
+            return Ok(false);
         }
     }
     Ok(true)
@@ -46,5 +45,5 @@ pub fn is_undisturbed(
     requires { HasOpen zones.now cell device }
     ensures { IfOk result (λ b. (b ≡ true) ↔ MissesOpen zones.now cell device close.now) }
 {
-    misses(alloc, close, zones.disturbed(cell, ZoneKey::Device(device)))
+    misses(alloc, close, zones.indexed(cell, ZoneKey::Device(device)))
 }

@@ -14,7 +14,7 @@ ghost use Rattle.cell_context.specs.Over.{IsPiece};
 ghost use Rattle.deep_tables.specs.declared.zones.CellZones.{CellZones};
 ghost use Rattle.layer_phase.specs.Looks.{AreNear};
 
-use cell_context::{Visit, gather, push_images, visits};
+use cell_context::{Visit, gather, push_images, push_pieces, visits};
 use cell_graph::Design;
 use deep_tables::{ZoneKey, Zones};
 use edge_boolean::combine;
@@ -46,15 +46,19 @@ pub fn input_squares(
     Ok(set)
 }
 
-// The part of a visit's window that isn't disturbed in the visited cell.
+// The part of a visit's window that isn't disturbed in the visited cell: only what is disturbed in
+// the window is looked at.
 fn calm_part(alloc: Global, zones: &Zones, visit: &Visit, name: u32) -> Result<RectSet, AllocError>
     requires window { IsRect visit.now.window }
     requires entry { HasEntry zones.now visit.now.cell name }
     ensures { IfOk result (λ r. (v : List Rect) → IsZoneAt zones.now visit.now.cell name v
         → (s : Square) → covers r s ≡ (has visit.now.window s && not (covers v s))) }
 {
-    let zone = zones.disturbed(visit.cell, ZoneKey::Layer(name));
-    let keep = combine_rects(alloc, &[visit.window], zone.rects(), Rule::Not)?;
+    let zone = zones.indexed(visit.cell, ZoneKey::Layer(name));
+    let near = zone.near(alloc, &visit.window)?;
+    let mut there = Vec::new(alloc);
+    push_pieces(&mut there, zone.set().rects(), &near, &visit.window)?;
+    let keep = combine_rects(alloc, &[visit.window], &there, Rule::Not)?;
     Ok(keep)
 }
 

@@ -1,19 +1,15 @@
 -- Entries of parents.
 use Rattle.std.proofs.Common.{◌≡◌, ◌⊎◌, ◌↔◌, inl, inr, ℕ, ℤ, zero, suc, pos, ◌<◌, ◌-◌, ◌^◌, ◌+ℤ◌, ◌-ℤ◌, true, false, List, [], ◌∷◌, Option, Some, None, refl, sym, ◌∙◌, subst, arith, length, slice_index_or, IsSomeAnd}
-use Rattle.std.specs.List.{All}
 use Rattle.std.proofs.lemmas.Int.{ints}
 use Rattle.geo_base.specs.Near.{IsWithin}
-use Rattle.geo_base.specs.Rects.{has, IsRect}
 use Rattle.geo_base.specs.declared.layer.LayerKey.{LayerKey}
 use Rattle.geo_base.specs.declared.shapes.Rect.{Rect}
 use Rattle.geo_base.specs.declared.shapes.Square.{Square}
 use Rattle.rect_sets.specs.Rects.{covers}
 use Rattle.flat_layout.specs.Layout.{IsReached}
-use Rattle.cell_graph.specs.Linked.{Linked, IsSound, IsHull, IsFrame, IsRectWithin, HullIsSound, hull_of, cell_at, plain}
-use Rattle.cell_graph.proofs.Bridge.{in_has, or_left, or_right, hull_sound}
-use Rattle.cell_context.proofs.Visiting.{within_inside, inside_from}
+use Rattle.cell_graph.specs.Linked.{Linked, IsSound, IsHull, IsFrame, plain}
 use Rattle.deep_tables.specs.declared.zones.CellZones.{CellZones}
-use Rattle.deep_tables.specs.Frames.{IsFramedZone, IsInGrown, grown}
+use Rattle.deep_tables.specs.Frames.{IsFramedZone, grown}
 use Rattle.deep_tables.specs.Entries.{downward_cell}
 use Rattle.zone_phase.specs.declared.uses.Use.{Use}
 use Rattle.zone_phase.specs.Jobs.{IsEntry, zone_in, IsFromUses}
@@ -24,31 +20,11 @@ one_less z h = let l = h.low in let u = h.high in record { low = omega (arith, i
 one_more : (z : ℤ) → IsWithin (2 ^ 30) z → IsWithin (2 ^ 31) (z +ℤ pos 1)
 one_more z h = let l = h.low in let u = h.high in record { low = omega (arith, ints); high = omega (arith, ints) }
 
-farther : (z : ℤ) → IsWithin (2 ^ 31) z → IsWithin (2 ^ 39) z
-farther z h = let l = h.low in let u = h.high in record { low = omega (arith, ints); high = omega (arith, ints) }
-
 pub grown_frame : (h : Rect) → IsHull h → IsFrame (grown h)
 grown_frame h s = let w = s.some.wide in let u = s.some.high in record {
   some = record { wide = omega (arith, ints); high = omega (arith, ints) };
   near = record { x1 = one_less h.x1 s.near.x1; y1 = one_less h.y1 s.near.y1; x2 = one_more h.x2 s.near.x2; y2 = one_more h.y2 s.near.y2 };
 }
-
-covers_at : (xs : List Rect) (k : ℕ) (z : Rect) (q : Square) → k < length xs → has (slice_index_or xs k z) q ≡ true → covers xs q ≡ true
-covers_at [] k z q lt e = absurd (let w : ⊥ = omega arith in w)
-covers_at (x ∷ xs) zero z q lt e = or_left (has x q) (covers xs q) e
-covers_at (x ∷ xs) (suc k) z q lt e = or_right (has x q) (covers xs q) (covers_at xs k z q (omega arith) e)
-
-rect_within : (o : Option Rect) (r : Rect) → HullIsSound o → IsRect r → ((q : Square) → has r q ≡ true → IsInGrown o q) → IsRectWithin (2 ^ 39) r
-rect_within None r sound some h =
-    let w = some.wide in let u = some.high in
-    let low : Square = record { x = r.x1; y = r.y1 } in
-    absurd (h low (in_has r low ((omega (arith, ints)), (omega (arith, ints)), (omega (arith, ints)), (omega (arith, ints)))))
-rect_within (Some x) r sound some h =
-    let f = (grown_frame x sound).near in
-    within_inside (2 ^ 39) r (grown x) some (inside_from r (grown x) some h) (record { x1 = farther _ f.x1; y1 = farther _ f.y1; x2 = farther _ f.x2; y2 = farther _ f.y2 })
-
-pub zone_within : (d : Linked) (cell : ℕ) (zone : List Rect) → IsSound d → All IsRect zone → ((q : Square) → covers zone q ≡ true → IsInGrown (hull_of (cell_at d cell)) q) → All (IsRectWithin (2 ^ 39)) zone
-zone_within d cell zone sound rects h = λ k z lt. rect_within (hull_of (cell_at d cell)) (slice_index_or zone k z) (hull_sound d cell sound) (rects k z lt) (λ q e. h q (covers_at zone k z q lt e))
 
 pub at_any : {A : Type 0} (xs : List A) (k : ℕ) (a b : A) → k < length xs → slice_index_or xs k a ≡ slice_index_or xs k b
 at_any [] k a b lt = absurd (let z : ⊥ = omega arith in z)

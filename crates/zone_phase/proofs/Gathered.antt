@@ -16,7 +16,7 @@ use Rattle.cell_graph.proofs.Bridge.{or_split, or_left, or_right}
 use Rattle.cell_context.proofs.Collecting.{covers_append, and_right}
 use Rattle.cell_context.proofs.Visiting.{and_both}
 use Rattle.deep_laws.specs.Zones.{IsFromSibling}
-use Rattle.zone_phase.specs.Pulls.{IsSome, Adds, OnRects, Beside, BesideIn, AreCovering, Why}
+use Rattle.zone_phase.specs.Pulls.{IsSome, Adds, OnRects, OnRectsIn, Beside, BesideIn, AreCovering, Why}
 use Rattle.zone_phase.specs.Siblings.{around, siblings, IsBroughtBy, IsBroughtTo, Brings, HasSibling}
 use Rattle.zone_phase.proofs.Around.{sibling}
 use Rattle.zone_phase.proofs.Joining.{joined}
@@ -95,17 +95,17 @@ siblings_add d p key g w first back t0 t1 t2 t3 t4 m0 more old new some_rows som
 
 -- the three kinds together
 pub reference_adds : (d : Linked) (zone windows : List Rect) (parent index : ℕ) (key : LayerKey) (p : Place) (g : Rect) (o1 o2 o3 o4 : List Rect) → AreCovering p g windows
-    → Adds p g (OnRects p zone) o1 o2 → Adds p g (BesideIn windows d parent index key p) o2 o3 → Adds p g (λ row column q. IsFromSibling d p row column key q) o3 o4 → Adds p g (Why zone d parent index key p) o1 o4
+    → Adds p g (OnRectsIn windows p zone) o1 o2 → Adds p g (BesideIn windows d parent index key p) o2 o3 → Adds p g (λ row column q. IsFromSibling d p row column key q) o3 o4 → Adds p g (Why zone d parent index key p) o1 o4
 reference_adds d zone windows parent index key p g o1 o2 o3 o4 covering a b c =
     joined p g (λ row column q. OnRects p zone row column q ⊎ Beside d parent index key p row column q) (λ row column q. IsFromSibling d p row column key q) (Why zone d parent index key p) o1 o3 o4
     (λ row column q i j h. (
       (λ x. elim x [ inl z ↦ inl (inl z) | inr y ↦ elim y [ inl o ↦ inl (inr o) | inr s ↦ inr s ] ]),
       (λ x. elim x [ inl y ↦ elim y [ inl z ↦ inl z | inr o ↦ inr (inl o) ] | inr s ↦ inr (inr s) ]),
     ))
-    (joined p g (OnRects p zone) (BesideIn windows d parent index key p) (λ row column q. OnRects p zone row column q ⊎ Beside d parent index key p row column q) o1 o2 o3
+    (joined p g (OnRectsIn windows p zone) (BesideIn windows d parent index key p) (λ row column q. OnRects p zone row column q ⊎ Beside d parent index key p row column q) o1 o2 o3
     (λ row column q i j h. (
-      (λ x. elim x [ inl z ↦ inl z | inr o ↦ inr (covering row column q i j h, o) ]),
-      (λ x. elim x [ inl z ↦ inl z | inr o ↦ inr o.1 ]),
+      (λ x. elim x [ inl z ↦ inl (covering row column q i j h, z) | inr o ↦ inr (covering row column q i j h, o) ]),
+      (λ x. elim x [ inl z ↦ inl z.1 | inr o ↦ inr o.1 ]),
     ))
     a b)
     c

@@ -1,5 +1,5 @@
 -- Lists of rectangles that grow.
-use Rattle.std.proofs.Common.{◌≡◌, ◌⊎◌, ◌↔◌, inl, inr, ℕ, ◌<◌, ◌+◌, ◌^◌, Bool, true, false, ◌||◌, List, [], ◌∷◌, ◌++◌, Some, length, take, slice_index_or, refl, sym, ◌∙◌, ap, subst, arith}
+use Rattle.std.proofs.Common.{◌≡◌, ◌⊎◌, ◌↔◌, inl, inr, ℕ, ◌<◌, ◌+◌, ◌^◌, Bool, true, false, ◌&&◌, ◌||◌, List, [], ◌∷◌, ◌++◌, Some, length, take, slice_index_or, refl, sym, ◌∙◌, ap, subst, arith}
 use Rattle.std.specs.List.{All}
 use Rattle.geo_base.specs.Motions.{moved_square}
 use Rattle.geo_base.specs.Rects.{has}
@@ -7,13 +7,14 @@ use Rattle.geo_base.specs.declared.layer.LayerKey.{LayerKey}
 use Rattle.geo_base.specs.declared.shapes.Rect.{Rect}
 use Rattle.geo_base.specs.declared.shapes.Square.{Square}
 use Rattle.rect_sets.specs.Rects.{covers}
+use Rattle.rect_sets.proofs.Splitting.{and_split}
 use Rattle.cell_graph.specs.declared.cells.Place.{Place}
 use Rattle.cell_graph.specs.Linked.{Linked, IsRectWithin, motion_at}
 use Rattle.cell_graph.proofs.Bridge.{or_split, or_left, or_right}
 use Rattle.cell_context.specs.Over.{IsOver, IsPiece}
 use Rattle.cell_context.proofs.Collecting.{covers_more}
-use Rattle.cell_context.proofs.Visiting.{within_inside}
-use Rattle.zone_phase.specs.Pulls.{IsTaken, IsPulled, IsSome, Adds, OnRects, BesideIn}
+use Rattle.cell_context.proofs.Visiting.{and_both, within_inside}
+use Rattle.zone_phase.specs.Pulls.{IsTaken, IsPulled, IsSome, Adds, OnRects, OnRectsIn, BesideIn}
 
 -- two growths are one
 pub joined : (p : Place) (hull : Rect) (P Q R : ℕ → ℕ → Square → Type 0) (old out new : List Rect)
@@ -59,17 +60,38 @@ rect_more p hull rects k z old out new lt first second =
     first (one_grows p hull (slice_index_or rects k z) out new second)
 
 -- the growth of one more window
-pub window_more : (d : Linked) (parent index : ℕ) (key : LayerKey) (p : Place) (hull : Rect) (windows : List Rect) (k : ℕ) (z : Rect) (rects old out new : List Rect) → k < length windows
-    → ((q : Square) → (covers rects q ≡ true) ↔ ((has (slice_index_or windows k z) q ≡ true) × IsOver d parent (Some index) key q))
-    → Adds p hull (BesideIn (take k windows) d parent index key p) old out → Adds p hull (OnRects p rects) out new → Adds p hull (BesideIn (take (k + 1) windows) d parent index key p) old new
-window_more d parent index key p hull windows k z rects old out new lt exact first second =
-    joined p hull (BesideIn (take k windows) d parent index key p) (OnRects p rects) (BesideIn (take (k + 1) windows) d parent index key p) old out new
+window_more : (P : Square → Type 0) (p : Place) (hull : Rect) (windows : List Rect) (k : ℕ) (z : Rect) (rects old out new : List Rect) → k < length windows
+    → ((q : Square) → (covers rects q ≡ true) ↔ ((has (slice_index_or windows k z) q ≡ true) × P q))
+    → Adds p hull (λ row column q. OnRects p (take k windows) row column q × P (moved_square (motion_at p row column) q)) old out → Adds p hull (OnRects p rects) out new
+    → Adds p hull (λ row column q. OnRects p (take (k + 1) windows) row column q × P (moved_square (motion_at p row column) q)) old new
+window_more P p hull windows k z rects old out new lt exact first second =
+    joined p hull (λ row column q. OnRects p (take k windows) row column q × P (moved_square (motion_at p row column) q)) (OnRects p rects)
+    (λ row column q. OnRects p (take (k + 1) windows) row column q × P (moved_square (motion_at p row column) q)) old out new
     (λ row column q a b c. let m = moved_square (motion_at p row column) q in let e = covers_more windows k z m lt in (
       λ h. elim (or_split (covers (take k windows) m) (has (slice_index_or windows k z) m) (sym e ∙ h.0)) [ inl f ↦ inl (f, h.1) | inr f ↦ inr ((exact m).1 (f, h.1)) ],
       λ h. elim h [
         | inl f ↦ (e ∙ or_left (covers (take k windows) m) (has (slice_index_or windows k z) m) f.0, f.1)
         | inr f ↦ let g = (exact m).0 f in (e ∙ or_right (covers (take k windows) m) (has (slice_index_or windows k z) m) g.0, g.1)
       ],
+    ))
+    first second
+
+-- of what stands beside the array
+pub beside_more : (d : Linked) (parent index : ℕ) (key : LayerKey) (p : Place) (hull : Rect) (windows : List Rect) (k : ℕ) (z : Rect) (rects old out new : List Rect) → k < length windows
+    → ((q : Square) → (covers rects q ≡ true) ↔ ((has (slice_index_or windows k z) q ≡ true) × IsOver d parent (Some index) key q))
+    → Adds p hull (BesideIn (take k windows) d parent index key p) old out → Adds p hull (OnRects p rects) out new → Adds p hull (BesideIn (take (k + 1) windows) d parent index key p) old new
+beside_more d parent index key p hull windows k z rects old out new lt exact first second = window_more (IsOver d parent (Some index) key) p hull windows k z rects old out new lt exact first second
+
+-- of a set
+pub among_more : (p : Place) (hull : Rect) (set windows : List Rect) (k : ℕ) (z : Rect) (pieces old out new : List Rect) → k < length windows
+    → ((q : Square) → covers pieces q ≡ (covers set q && has (slice_index_or windows k z) q))
+    → Adds p hull (OnRectsIn (take k windows) p set) old out → Adds p hull (OnRects p pieces) out new → Adds p hull (OnRectsIn (take (k + 1) windows) p set) old new
+among_more p hull set windows k z pieces old out new lt same first second =
+    let w = slice_index_or windows k z in
+    window_more (λ q. covers set q ≡ true) p hull windows k z pieces old out new lt
+    (λ q. (
+      (λ e. let both = and_split (covers set q) (has w q) (sym (same q) ∙ e) in (both.1, both.0)),
+      (λ h. same q ∙ and_both (covers set q) (has w q) h.1 h.0),
     ))
     first second
 

@@ -53,6 +53,11 @@ abbrev pub BesideIn : List Rect → Linked → ℕ → ℕ → LayerKey → Plac
 BesideIn windows d parent index key p row column q = OnRects p windows row column q
     × Beside d parent index key p row column q
 
+-- the element takes q onto the rectangles in windows of the parent
+abbrev pub OnRectsIn : List Rect → Place → List Rect → ℕ → ℕ → Square → Type 0
+OnRectsIn windows p rects row column q = OnRects p windows row column q
+    × OnRects p rects row column q
+
 -- the windows hold the images of the hull
 abbrev pub AreCovering : Place → Rect → List Rect → Type 0
 AreCovering p hull windows = (row column : ℕ) (q : Square) → row < p.rows → column < p.columns

@@ -4,11 +4,12 @@ ghost use Rattle.std.specs.List.{All};
 ghost use Rattle.geo_base.specs.Rects.{IsRect};
 ghost use Rattle.cell_graph.specs.Linked.{IsFrame, IsRectWithin, cell_at, places_at};
 ghost use Rattle.cell_context.specs.Arrays.{IsNearArray};
-ghost use Rattle.zone_phase.specs.Pulls.{Adds, OnRects, BesideIn};
+ghost use Rattle.zone_phase.specs.Pulls.{Adds, OnRects, OnRectsIn, BesideIn};
 
 use crate::pulls::push_pulled;
-use cell_context::gather;
+use cell_context::{gather, push_pieces};
 use cell_graph::{Design, Place};
+use deep_tables::IndexedSet;
 use geo_base::{LayerKey, Rect};
 use std::alloc::{AllocError, Global};
 
@@ -31,6 +32,34 @@ pub fn push_onto(
 {
     for rect in rects {
         push_pulled(alloc, out, place, hull, rect)?;
+    }
+    Ok(())
+}
+
+// Adds the squares of a hull that some element takes, in windows of the parent, onto a set. What of
+// the set reaches into no window costs nothing.
+pub fn push_among(
+    alloc: Global,
+    out: &mut Vec<Rect>,
+    place: &Place,
+    hull: &Rect,
+    zone: &IndexedSet,
+    windows: &[Rect],
+) -> Result<(), AllocError>
+    requires near { IsNearArray place.now }
+    requires some { 0 < place.now.columns }
+    requires hull { IsFrame hull.now }
+    requires within { All (IsRectWithin (2 ^ 39)) windows.now }
+    requires rects { All IsRect out.old.items }
+    ensures rects { OnOk result (All IsRect out.new.items) }
+    ensures exact { OnOk result (Adds place.now hull.now
+        (OnRectsIn windows.now place.now zone.now) out.old.items out.new.items) }
+{
+    for window in windows {
+        let near = zone.near(alloc, window)?;
+        let mut pieces = Vec::new(alloc);
+        push_pieces(&mut pieces, zone.set().rects(), &near, window)?;
+        push_onto(alloc, out, place, hull, &pieces)?;
     }
     Ok(())
 }

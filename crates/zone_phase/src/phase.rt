@@ -94,6 +94,7 @@ impl Phase for ZonePhase<'_> {
         let uses = &self.uses[cell as usize];
         let layers = name_zones(alloc, design, reads, uses, cell, &self.rules.names)?;
         let devices = device_zones(alloc, &layers, &self.rules.devices)?;
-        Ok(CellZones { layers, devices })
+        let zones = CellZones::new(alloc, layers, devices)?;
+        Ok(zones)
     }
 }

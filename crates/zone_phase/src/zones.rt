@@ -53,7 +53,7 @@ fn push_use<R: Reads<CellZones>>(
     let order = design.order();
     let parent = order[order.len() - 1 - found.job as usize];
     let place = &design.places(parent)[found.index];
-    let zone = reads.get(found.job).layers[name].rects();
+    let zone = &reads.get(found.job).layers[name];
     push_reference(
         alloc,
         out,

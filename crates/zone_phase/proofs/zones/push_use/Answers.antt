@@ -1,31 +1,20 @@
-use Rattle.std.proofs.Common.{◌≡◌, ◌^◌, ◌-◌, ◌∙◌, ℕ, true, Some, List, [], ap, sym, subst, length, pos, slice_get, slice_index, slice_index_or}
-use Rattle.std.specs.List.{All}
+use Rattle.std.proofs.Common.{◌≡◌, ◌-◌, ◌∙◌, ℕ, Some, List, [], ap, sym, subst, length, pos, slice_get, slice_index, slice_index_or}
 use Rattle.geo_base.specs.declared.shapes.Rect.{Rect}
-use Rattle.geo_base.specs.declared.shapes.Square.{Square}
-use Rattle.rect_sets.specs.Rects.{covers}
 use Rattle.std.proofs.lemmas.Option.{slice_get_within}
 use Rattle.geo_base.specs.declared.motion.Turn.TheVariants.{R0}
 use Rattle.cell_graph.specs.declared.cells.Place.{Place}
 use Rattle.cell_context.proofs.Collecting.{item_at, one_place}
-use Rattle.cell_graph.specs.Linked.{IsRectWithin, hull_of, cell_at, places_at}
-use Rattle.deep_tables.specs.Frames.{IsInGrown}
+use Rattle.cell_graph.specs.Linked.{cell_at, places_at}
 use Rattle.deep_tables.specs.Entries.{downward_cell}
 use Rattle.zone_phase.specs.Jobs.{IsEntry, zone_in}
 use Rattle.zone_phase.specs.Pulls.{Adds, Why}
-use Rattle.zone_phase.proofs.Entries.{zone_within, some_and, at_any}
+use Rattle.zone_phase.proofs.Entries.{some_and, at_any}
 use Rattle.zone_phase.proofs.Results.{on_ok}
 use Rattle.zone_phase.proofs.Using.{use_adds}
 use Rattle.zone_phase.proofs.zones.push_use.Goals as goal
 
 abbrev no_place : Place
 no_place = record { cell = 0; motion = record { turn = R0; dx = pos 0; dy = pos 0 }; columns = 0; rows = 0; column_step = record { x = pos 0; y = pos 0 }; row_step = record { x = pos 0; y = pos 0 } }
-
-pub push_reference-requires-clause-zone : goal.push_reference-requires-clause-zone
-push_reference-requires-clause-zone g c =
-    let cell = downward_cell c.args.design.now c.args.found.now.job in
-    let h = some_and (IsEntry c.args.design.now c.args.key c.args.name cell) _ _ c.get.ensures c.requires.entry in
-    subst (λ (l : List Rect). All (IsRectWithin (2 ^ 39)) l) (sym c.rects-zone.ensures.list) (zone_within c.args.design.now cell c.index.result.now c.sound.ensures c.rects-zone.ensures.sound
-    (subst (λ (l : List Rect). (q : Square) → covers l q ≡ true → IsInGrown (hull_of (cell_at c.args.design.now cell)) q) (sym (c.index.ensures ∙ at_any c.get.result.now.layers.items c.args.name c.index.result.now [] h.0)) (λ q e. ((h.1 q).0 e).1)))
 
 pub returns-clause-exact : goal.returns-clause-exact
 returns-clause-exact g c =
@@ -36,11 +25,11 @@ returns-clause-exact g c =
     let there = item_at c.places.result.now (places_at (cell_at d (downward_cell d u.job))) u.index no_place listed within in
     let place = slice_index_or c.places.result.now u.index no_place in
     let same = one_place (slice_get (places_at (cell_at d (downward_cell d u.job))) u.index) c.requires.found.place place c.requires.found.there there in
-    let zone : c.rects-zone.result.now ≡ zone_in (g.R.Reads.value c.args.reads.now u.job) c.args.name =
-    c.rects-zone.ensures.list ∙ (c.index.ensures ∙ at_any c.get.result.now.layers.items c.args.name c.index.result.now [] h.0) ∙ ap (λ o. zone_in o c.args.name) (sym c.get.ensures) in
+    let zone : c.index-zone.result.now ≡ zone_in (g.R.Reads.value c.args.reads.now u.job) c.args.name =
+    (c.index-zone.ensures ∙ at_any c.get.result.now.layers.items c.args.name c.index-zone.result.now [] h.0) ∙ ap (λ o. zone_in o c.args.name) (sym c.get.ensures) in
     on_ok _ _ c.push_reference.result
     (λ adds. use_adds d (zone_in (g.R.Reads.value c.args.reads.now u.job) c.args.name) c.args.cell c.args.key c.args.grown.now u place c.args.out.now.items c.push_reference.new.out.items there
     (subst (λ (p : Place). p.cell ≡ c.args.cell) same c.requires.found.here)
     (subst (λ (l : List Rect). Adds place c.args.grown.now (Why l d (downward_cell d u.job) u.index c.args.key place) c.args.out.now.items c.push_reference.new.out.items) zone
-    (subst (λ (o : List ℕ). Adds place c.args.grown.now (Why c.rects-zone.result.now d (slice_index o (length o - 1 - u.job)) u.index c.args.key place) c.args.out.now.items c.push_reference.new.out.items) c.order-order.ensures adds)))
+    (subst (λ (o : List ℕ). Adds place c.args.grown.now (Why c.index-zone.result.now d (slice_index o (length o - 1 - u.job)) u.index c.args.key place) c.args.out.now.items c.push_reference.new.out.items) c.order-order.ensures adds)))
     c.push_reference.ensures.exact

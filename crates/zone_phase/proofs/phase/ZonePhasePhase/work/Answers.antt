@@ -1,6 +1,9 @@
 use Rattle.std.proofs.Common.{◌≡◌, ◌<◌, ◌-◌, ◌∙◌, ℕ, List, Some, IsSomeAnd, ap, sym, subst, length, slice_get, slice_index}
+use Rattle.std.specs.List.{All}
+use Rattle.geo_base.specs.declared.shapes.Rect.{Rect}
 use Rattle.job_graph.specs.Graph.{Waits}
 use Rattle.cell_graph.specs.Linked.{plain}
+use Rattle.rect_sets.specs.Rects.{IsCanonical}
 use Rattle.rule_text.specs.Seen.{rules_seen}
 use Rattle.rule_text.specs.declared.rules.LayerRule.{LayerRule}
 use Rattle.rule_text.specs.declared.rules.MosRule.{MosRule}
@@ -59,7 +62,8 @@ name_zones-requires-clause-entries g c = λ name key named k u at.
 pub returns : goal.returns
 returns g c =
     let d = c.self.inside.design.now in let a = c.self.invariant in let r = rules_seen c.self.inside.rules.now in
-    let v : CellZones = record { layers = c.in_ok-layers.layers; devices = c.in_ok-devices.devices } in
+    let v : CellZones = c.in_ok-zones.zones in
+    let same = c.in_ok-zones.ensures.layers in let same_too = c.in_ok-zones.ensures.devices in
     let job = c.args.job in
     let lt : job < length d.order = subst (λ n. job < n) (ap (λ (z : ZoneJobs). length z.graph) (sym c.self.view_is) ∙ a.graph.jobs) c.requires.job in
     let cell = ap (λ (o : List ℕ). slice_index o (length o - 1 - job)) c.order-order.ensures in
@@ -68,8 +72,10 @@ returns g c =
     (subst (λ (l : List LayerRule). AreNameZones d (slice_index c.order-order.result.now (length c.order-order.result.now - 1 - job)) (formulas l) c.in_ok-layers.layers.items) c.deref-2.ensures.value c.in_ok-layers.ensures.zones) in
     subst (λ (z : ZoneJobs). AreCellZones (plain z.design) (rules_seen z.rules) (downward_cell z.design job) v) c.self.view_is
     (cell_zones d r (downward_cell d job) v (λ n there. c.sound.ensures.hulls.each n) a.rules (job_reached d job c.sound.ensures lt)
-    (c.in_ok-layers.ensures.count ∙ ap (λ (l : List LayerRule). length (formulas l)) c.deref-2.ensures.value) zones c.in_ok-layers.ensures.canonical
-    (c.in_ok-devices.ensures.count ∙ ap length c.deref-4.ensures.value)
+    (ap length same ∙ c.in_ok-layers.ensures.count ∙ ap (λ (l : List LayerRule). length (formulas l)) c.deref-2.ensures.value)
+    (subst (AreNameZones d (downward_cell d job) (formulas r.names)) (sym same) zones) (subst (λ (l : List (List Rect)). All IsCanonical l) (sym same) c.in_ok-layers.ensures.canonical)
+    (ap length same_too ∙ c.in_ok-devices.ensures.count ∙ ap length c.deref-4.ensures.value)
+    (subst (λ (l : List (List Rect)). AreMosZones d (downward_cell d job) (formulas r.names) r.devices l) (sym same_too)
     (subst (λ (l : List MosRule). AreMosZones d (downward_cell d job) (formulas r.names) l c.in_ok-devices.devices.items) c.deref-4.ensures.value
-    (c.in_ok-devices.ensures.zones d (downward_cell d job) (formulas r.names) (subst (AreNameZones d (downward_cell d job) (formulas r.names)) (sym c.deref-3.ensures.value) zones)))
-    c.in_ok-devices.ensures.canonical)
+    (c.in_ok-devices.ensures.zones d (downward_cell d job) (formulas r.names) (subst (AreNameZones d (downward_cell d job) (formulas r.names)) (sym c.deref-3.ensures.value) zones))))
+    (subst (λ (l : List (List Rect)). All IsCanonical l) (sym same_too) c.in_ok-devices.ensures.canonical))

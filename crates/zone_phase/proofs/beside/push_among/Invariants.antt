@@ -1,0 +1,11 @@
+use Rattle.std.proofs.Common.{take}
+use Rattle.std.specs.List.{All}
+use Rattle.geo_base.specs.Rects.{IsRect}
+use Rattle.zone_phase.specs.Pulls.{Adds, OnRectsIn}
+use Rattle.zone_phase.proofs.beside.push_among.Given as goal
+
+abbrev pub invariant-loop-window : goal.invariant-loop-window
+invariant-loop-window l = record {
+  rects : All IsRect l.out.items;
+  exact : Adds l.place l.hull (OnRectsIn (take l.window-index l.windows) l.place l.zone) l.fn.out.items l.out.items;
+}
