@@ -4,7 +4,7 @@ use Rattle.lvs_outside.specs.Store.{Store, SameFiles, appended}
 use Rattle.lvs_files.specs.Files.{File, IsWritten, AreWritten, ArePartWritten}
 use Rattle.lvs_outside.specs.Summary.{SinkState}
 use Rattle.lvs_run.specs.declared.status.Refusal.{Refusal}
-use Rattle.lvs_run.specs.declared.status.Refusal.TheVariants.{Words, SamePath, Absent, TooLong, Rules, Layout}
+use Rattle.lvs_run.specs.declared.status.Refusal.TheVariants.{Words, SamePath, Absent, TooLong, Rules, Layout, Schematic}
 use Rattle.lvs_run.specs.declared.output.Output.{Output}
 use Rattle.lvs_run.specs.declared.output.Verdict.{Verdict}
 use Rattle.lvs_run.specs.declared.output.Verdict.TheVariants as verdict
@@ -111,6 +111,7 @@ sent stated old new before after (Absent path) quiet stops took = record { done 
 sent stated old new before after (TooLong path) quiet stops took = record { done = nothing; comes = stops.comes nothing; leaves = quiet.starts; says = took.told; fails = tt }
 sent stated old new before after (Rules fault) quiet stops took = record { done = nothing; comes = stops.comes nothing; leaves = quiet.starts; says = took.told; fails = tt }
 sent stated old new before after (Layout fault) quiet stops took = record { done = nothing; comes = stops.comes nothing; leaves = quiet.starts; says = took.told; fails = tt }
+sent stated old new before after (Schematic fault) quiet stops took = record { done = nothing; comes = stops.comes nothing; leaves = quiet.starts; says = took.told; fails = tt }
 
 -- the outcome of a refusal
 refusal_comes : (stated : Option Paths) (old : Store) (why : Refusal) → ComesOf stated old (refused why) → IsOutcome stated old.file (refused why) nothing
@@ -120,6 +121,7 @@ refusal_comes stated old (Absent path) comes = comes nothing
 refusal_comes stated old (TooLong path) comes = comes nothing
 refusal_comes stated old (Rules fault) comes = comes nothing
 refusal_comes stated old (Layout fault) comes = comes nothing
+refusal_comes stated old (Schematic fault) comes = comes nothing
 
 refused_out : (stated : Option Paths) (old new : Store) (before after : SinkState) (why : Refusal) (a : Answer)
     → Quiet old new → Stops stated old new (refused why) → Refused (refused why) before after a → ComesOut stated old new before after a

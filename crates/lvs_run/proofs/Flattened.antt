@@ -1,5 +1,5 @@
 -- The written texts against the told files.
-use Rattle.std.proofs.Common.{◌≡◌, inl, inr, ℕ, List, [], ◌∷◌, Option, refl, sym, subst, ◌∙◌}
+use Rattle.std.proofs.Common.{◌≡◌, inl, inr, ℕ, List, [], ◌∷◌, length, Option, Some, IfSome, refl, sym, subst, ◌∙◌, arith}
 use Rattle.lvs_outside.specs.Store.{Store, Told, Untold, NoFile, Holds}
 use Rattle.lvs_outside.specs.Summary.{SinkState}
 use Rattle.lvs_files.specs.Files.{File, IsWritten, AreWritten, IsApart, AreApart, files_of}
@@ -10,18 +10,27 @@ use Rattle.shapes_file.specs.File.{IsShapesFile}
 use Rattle.rule_text.specs.Rules as rule_sets
 use Rattle.rule_text.specs.Reading.{Means}
 use Rattle.lvs_run.specs.declared.status.Refusal.{Refusal}
-use Rattle.lvs_run.specs.declared.status.Refusal.TheVariants.{Words, SamePath, Absent, TooLong, Rules, Layout}
+use Rattle.lvs_run.specs.declared.status.Refusal.TheVariants.{Words, SamePath, Absent, TooLong, Rules, Layout, Schematic}
 use Rattle.lvs_run.specs.declared.output.Output.{Output}
-use Rattle.lvs_run.specs.Words.{Outputs, ToShapes, ToNetlist, ForNetlist, Paths, shapes_path}
-use Rattle.lvs_run.specs.Answers.{Done, Answer, Good, Bad, IsVerdict, refused, verdict_of}
-use Rattle.lvs_run.specs.Outcomes.{IsDone, gates_answer}
+use Rattle.lvs_run.specs.Words.{Outputs, ToShapes, ToNetlist, ToReport, ForNetlist, Paths, schematic_path, shapes_path}
+use Rattle.lvs_run.specs.Answers.{Done, Answer, Good, Bad, Undecided, IsVerdict, comparison_answer, refused, verdict_of}
+use Rattle.lvs_run.specs.Outcomes.{IsDone, IsDoneBeside, gates_answer}
 use Rattle.lvs_run.specs.Inputs.{Quiet, IsInput, ReadAs, IsReady}
 use Rattle.lvs_run.specs.Ends.{Delivered, Refused}
 use Rattle.deep_tables.specs.declared.gates.BadGate.{BadGate}
 use Rattle.netlist_file.specs.File.{IsNetlistFile}
 use Rattle.netlist_file.specs.Flat.{ShowsFlat}
+use Rattle.cell_graph.specs.Linked.{Linked}
+use Rattle.match_laws.specs.Answer.{Answer as PairAnswer}
+use Rattle.pair_jobs.specs.Verdict.{IsRunVerdict}
+use Rattle.pair_jobs.specs.declared.verdict.Verdict.{Verdict as Comparison}
+use Rattle.pair_jobs.specs.declared.verdict.Verdict.TheVariants as comparison
+use Rattle.report_file.specs.File.{IsReportFile, all_answers}
+use Rattle.report_file.specs.Matched.{MatchedReportLaw}
+use Rattle.spice_rows.specs.Sizes.{read_limit}
+use Rattle.spice_text.specs.Means.{Means as SpiceMeans}
 use Rattle.plain_netlist.specs.Netlist.{Netlist}
-use Rattle.lvs_run.specs.Flat.{HoldsAs, IsFlatNetlist, IsFlatText, IsNetlistOf, ListsAs, OfInputs, OfStated, WhereTold, WritesFlat, WritesNetlist}
+use Rattle.lvs_run.specs.Flat.{HoldsAs, IsFlatNetlist, IsFlatText, IsMatchOf, IsNetlistOf, ListsAs, MatchesSchematic, OfInputs, OfStated, WhereMeant, WhereTold, WritesFlat, WritesMatch, WritesNetlist}
 
 -- ---- what a listed file holds
 
@@ -53,6 +62,7 @@ no_verdict (Absent path) v = v
 no_verdict (TooLong path) v = v
 no_verdict (Rules fault) v = v
 no_verdict (Layout fault) v = v
+no_verdict (Schematic fault) v = v
 
 pub none_written : (before after : SinkState) (why : Refusal) (a : Answer) → Refused (refused why) before after a → IsVerdict a → ⊥
 none_written before after why a (inl h) v = no_verdict why (subst IsVerdict h.0 v)
@@ -84,6 +94,14 @@ lists_shapes : (o : Outputs) (l : ReadLayout) (r : rule_sets.Rules) (a : Answer)
     → ((text : List ℕ) (cells rectangles : ℕ) → IsShapesFile l r text cells rectangles → P text) → IsDone o l r a done → ListsAs done.files (shapes_path o) P
 lists_shapes (ToShapes shapes) l r a done P f h = let made = h.1 in rw made.whole (inl (refl, f made.text made.cells made.rectangles made.file))
 lists_shapes (ToNetlist shapes netlist) l r a done P f h = rw h.whole (inl (refl, f h.text h.cells h.rectangles h.file))
+lists_shapes (ToReport schematic shapes netlist report) l r a done P f h = absurd h
+
+-- and of a comparison
+lists_beside : (o : Outputs) (l : ReadLayout) (r : rule_sets.Rules) (nl : Netlist) (a : Answer) (done : Done) (P : List ℕ → Type 0)
+    → ((text : List ℕ) (cells rectangles : ℕ) → IsShapesFile l r text cells rectangles → P text) → IsDoneBeside o l r nl a done → ListsAs done.files (shapes_path o) P
+lists_beside (ToReport schematic shapes netlist report) l r nl a done P f h = rw h.whole (inl (refl, f h.text h.cells h.rectangles h.file))
+lists_beside (ToShapes shapes) l r nl a done P f h = absurd h
+lists_beside (ToNetlist shapes netlist) l r nl a done P f h = absurd h
 
 pub flat_listed : (p : Paths) (old mid new : Store) (r : rule_sets.Rules) (v : ReadLayout) (a : Answer) (done : Done) → Quiet old mid → ReadAs old mid p.rules (λ bytes. Means bytes r)
     → ReadAs mid new p.layout (λ bytes. IsRead bytes p.top v) → ((text : List ℕ) (cells rectangles : ℕ) → IsShapesFile v r text cells rectangles → CoversFlat v r text) → IsDone p.outputs v r a done
@@ -106,15 +124,38 @@ none_bad : (bad : List BadGate) (a : Answer) → a ≡ gates_answer bad → a �
 none_bad [] a e g = refl
 none_bad (b ∷ bs) a e g = let no : Bad ≡ Good = sym e ∙ g in cc
 
-netlist_of : (l : ReadLayout) (r : rule_sets.Rules) (a : Answer) (nl : Netlist) (top : ℕ) (bad : List BadGate) (text : List ℕ) → a ≡ gates_answer bad → ShowsFlat l r text nl top bad → IsNetlistOf l r a text
-netlist_of l r a nl top bad text e shows = record { netlist = nl; circuit = top; bad = bad; shows = shows; good = λ g. shows.no_bad.0 (none_bad bad a e g) }
+netlist_of : (l : ReadLayout) (r : rule_sets.Rules) (a : Answer) (nl : Netlist) (top : ℕ) (bad : List BadGate) (text : List ℕ) → (a ≡ Good → bad ≡ []) → ShowsFlat l r text nl top bad → IsNetlistOf l r a text
+netlist_of l r a nl top bad text e shows = record { netlist = nl; circuit = top; bad = bad; shows = shows; good = λ g. shows.no_bad.0 (e g) }
+
+no_gates : (bad : List BadGate) → length bad ≡ 0 → bad ≡ []
+no_gates [] e = refl
+no_gates (b ∷ bs) e = absurd (omega (arith, e))
+
+-- after a match there is no bad gate
+match_has_none : (bad : List BadGate) (v : Comparison) (a : Answer) (answers : Option (List PairAnswer)) → a ≡ comparison_answer v → IsRunVerdict (length bad) answers v → a ≡ Good → bad ≡ []
+match_has_none bad comparison.Match a answers e h g = no_gates bad h.0
+match_has_none bad comparison.Mismatch a answers e h g = let no : Bad ≡ Good = sym e ∙ g in cc
+match_has_none bad comparison.Undecided a answers e h g = let no : Undecided ≡ Good = sym e ∙ g in cc
+
+match_none : {d : Linked} {r : rule_sets.Rules} {nl : Netlist} {top : ℕ} {sch : Netlist} {text : List ℕ} {pairs : ℕ} → (bad : List BadGate) (v : Comparison) (a : Answer) → a ≡ comparison_answer v → IsReportFile d r nl top bad sch text pairs v
+    → a ≡ Good → bad ≡ []
+match_none bad v a e h g = match_has_none bad v a (all_answers h.compared) e h.outcome g
 
 -- each command that writes a netlist lists its file
 lists_netlist : (o : Outputs) (l : ReadLayout) (r : rule_sets.Rules) (a : Answer) (done : Done) (P : List ℕ → Type 0)
-    → ((nl : Netlist) (top : ℕ) (bad : List BadGate) (text : List ℕ) → a ≡ gates_answer bad → IsNetlistFile l r nl top bad text → P text) → IsDone o l r a done
+    → ((nl : Netlist) (top : ℕ) (bad : List BadGate) (text : List ℕ) → (a ≡ Good → bad ≡ []) → IsNetlistFile l r nl top bad text → P text) → IsDone o l r a done
     → ForNetlist o (λ (path : List ℕ). ListsAs done.files path P)
 lists_netlist (ToShapes shapes) l r a done P f h = tt
-lists_netlist (ToNetlist shapes netlist) l r a done P f h = rw h.whole (inr (inl (refl, f h.netlist h.top h.bad h.spelled h.answer h.netlist_file)))
+lists_netlist (ToNetlist shapes netlist) l r a done P f h = rw h.whole (inr (inl (refl, f h.netlist h.top h.bad h.spelled (none_bad h.bad a h.answer) h.netlist_file)))
+lists_netlist (ToReport schematic shapes netlist report) l r a done P f h = absurd h
+
+lists_netlist_beside : (o : Outputs) (l : ReadLayout) (r : rule_sets.Rules) (sch : Netlist) (a : Answer) (done : Done) (P : List ℕ → Type 0)
+    → ((nl : Netlist) (top : ℕ) (bad : List BadGate) (text : List ℕ) → (a ≡ Good → bad ≡ []) → IsNetlistFile l r nl top bad text → P text) → IsDoneBeside o l r sch a done
+    → ForNetlist o (λ (path : List ℕ). ListsAs done.files path P)
+lists_netlist_beside (ToReport schematic shapes netlist report) l r sch a done P f h =
+    rw h.whole (inr (inl (refl, f h.netlist h.top h.bad h.spelled (match_none h.bad h.verdict a h.answer h.report_file) h.netlist_file)))
+lists_netlist_beside (ToShapes shapes) l r sch a done P f h = absurd h
+lists_netlist_beside (ToNetlist shapes netlist) l r sch a done P f h = absurd h
 
 pub netlist_listed : (p : Paths) (old mid new : Store) (r : rule_sets.Rules) (v : ReadLayout) (a : Answer) (done : Done) → Quiet old mid → ReadAs old mid p.rules (λ bytes. Means bytes r)
     → ReadAs mid new p.layout (λ bytes. IsRead bytes p.top v)
@@ -131,6 +172,7 @@ netlist_held : (out : Outputs) (old new : Store) (before after : SinkState) (o :
     → ForNetlist out (λ (path : List ℕ). HoldsAs (new.file path) P)
 netlist_held (ToShapes shapes) old new before after o a done P same apart lists h v = tt
 netlist_held (ToNetlist shapes netlist) old new before after o a done P same apart lists h v = held_delivered old new before after o a done netlist P same apart lists h v
+netlist_held (ToReport schematic shapes netlist report) old new before after o a done P same apart lists h v = held_delivered old new before after o a done netlist P same apart lists h v
 
 -- the answer of a run that wrote its files
 verdict_is : (o : Output) (old new : Store) (before after : SinkState) (a : Answer) → Delivered o old new before after a → IsVerdict a → verdict_of o.verdict ≡ a
@@ -145,3 +187,74 @@ netlist_delivered stated old mid new before after o a ready h v =
     let lists = subst (λ (b : Answer). ForNetlist p.outputs (λ (path : List ℕ). ListsAs ready.done.files path (IsFlatNetlist old.file p b))) (verdict_is o mid new before after a h v) ready.netlist in
     subst (λ (s : Option Paths). OfStated s (λ (q : Paths). ForNetlist q.outputs (λ (path : List ℕ). HoldsAs (new.file path) (IsFlatNetlist old.file q a)))) (sym ready.stated)
     (netlist_held p.outputs mid new before after o a ready.done (IsFlatNetlist old.file p a) ready.files ready.apart lists h v)
+
+-- ---- what is written of a comparison
+
+pub flat_listed_beside : (p : Paths) (old mid new : Store) (r : rule_sets.Rules) (v : ReadLayout) (nl : Netlist) (a : Answer) (done : Done) → Quiet old mid → ReadAs old mid p.rules (λ bytes. Means bytes r)
+    → ReadAs mid new p.layout (λ bytes. IsRead bytes p.top v) → ((text : List ℕ) (cells rectangles : ℕ) → IsShapesFile v r text cells rectangles → CoversFlat v r text) → IsDoneBeside p.outputs v r nl a done
+    → ListsAs done.files (shapes_path p.outputs) (IsFlatText old.file p)
+flat_listed_beside p old mid new r v nl a done quiet rules layout covers made =
+    lists_beside p.outputs v r nl a done (IsFlatText old.file p)
+    (λ text cells rectangles file. of_inputs p old mid new r v (λ (l : ReadLayout) (q : rule_sets.Rules). CoversFlat l q text) quiet rules layout (covers text cells rectangles file)) made
+
+pub netlist_listed_beside : (p : Paths) (old mid new : Store) (r : rule_sets.Rules) (v : ReadLayout) (sch : Netlist) (a : Answer) (done : Done) → Quiet old mid → ReadAs old mid p.rules (λ bytes. Means bytes r)
+    → ReadAs mid new p.layout (λ bytes. IsRead bytes p.top v)
+    → ((nl : Netlist) (top : ℕ) (bad : List BadGate) (text : List ℕ) → IsNetlistFile v r nl top bad text → ShowsFlat v r text nl top bad) → IsDoneBeside p.outputs v r sch a done
+    → ForNetlist p.outputs (λ (path : List ℕ). ListsAs done.files path (IsFlatNetlist old.file p a))
+netlist_listed_beside p old mid new r v sch a done quiet rules layout shows made =
+    lists_netlist_beside p.outputs v r sch a done (IsFlatNetlist old.file p a)
+    (λ nl top bad text none file. of_inputs p old mid new r v (λ (l : ReadLayout) (q : rule_sets.Rules). IsNetlistOf l q a text) quiet rules layout
+    (netlist_of v r a nl top bad text none (shows nl top bad text file))) made
+
+is_match : (v : Comparison) → comparison_answer v ≡ Good → v ≡ comparison.Match
+is_match comparison.Match e = refl
+is_match comparison.Mismatch e = cc
+is_match comparison.Undecided e = cc
+
+match_of : (o : Outputs) (l : ReadLayout) (r : rule_sets.Rules) (nl : Netlist) (a : Answer) (done : Done) → MatchedReportLaw → IsDoneBeside o l r nl a done → a ≡ Good → IsMatchOf l r nl
+match_of (ToReport schematic shapes netlist report) l r nl a done law h g =
+    let same = is_match h.verdict (sym h.answer ∙ g) in
+    let file = subst (λ (v : Comparison). IsReportFile l.design r h.netlist h.top h.bad nl h.report h.pairs v) same h.report_file in
+    let cells = h.netlist_file.of_cells in
+    record {
+      netlist = h.netlist;
+      circuit = h.top;
+      bad = h.bad;
+      compared = file.compared;
+      is = law l.design r l.header.unit_pm _ _ _ h.netlist h.top h.bad nl h.report h.pairs cells.right cells.top_is file;
+    }
+match_of (ToShapes shapes) l r nl a done law h g = absurd h
+match_of (ToNetlist shapes netlist) l r nl a done law h g = absurd h
+
+where_meant : (t : Told) (bytes : List ℕ) (nl : Netlist) (P : Netlist → Type 0) → IsInput bytes t → SpiceMeans read_limit bytes nl → P nl → WhereMeant t P
+where_meant Untold bytes nl P told means h = tt
+where_meant NoFile bytes nl P told means h = absurd told
+where_meant (Holds all) bytes nl P told means h = (nl, subst (λ (xs : List ℕ). SpiceMeans read_limit xs nl) told.0 means, h)
+
+some_of : (o : Option (List ℕ)) (path : List ℕ) (P : List ℕ → Type 0) → o ≡ Some path → P path → IfSome o P
+some_of o path P e h = rw e h
+
+pub matched_beside : (p : Paths) (old mid late new : Store) (r : rule_sets.Rules) (v : ReadLayout) (nl : Netlist) (path : List ℕ) (a : Answer) (done : Done) → schematic_path p.outputs ≡ Some path
+    → Quiet old mid → Quiet mid late → ReadAs old mid p.rules (λ bytes. Means bytes r) → ReadAs mid late p.layout (λ bytes. IsRead bytes p.top v) → ReadAs late new path (λ bytes. SpiceMeans read_limit bytes nl)
+    → MatchedReportLaw → IsDoneBeside p.outputs v r nl a done → a ≡ Good → MatchesSchematic old.file p
+matched_beside p old mid late new r v nl path a done beside quiet later rules layout schematic law made good =
+    let told : IsInput schematic.bytes (old.file path) = subst (IsInput schematic.bytes) (later.starts.files path ∙ quiet.starts.files path) schematic.got.told in
+    let P = λ (n : Netlist). OfInputs old.file p (λ (l : ReadLayout) (q : rule_sets.Rules). IsMatchOf l q n) in
+    some_of (schematic_path p.outputs) path (λ (s : List ℕ). WhereMeant (old.file s) P) beside
+    (where_meant (old.file path) schematic.bytes nl P told schematic.is
+    (of_inputs p old mid late r v (λ (l : ReadLayout) (q : rule_sets.Rules). IsMatchOf l q nl) quiet rules layout (match_of p.outputs v r nl a done law made good)))
+
+alone : (o : Outputs) (P : List ℕ → Type 0) (l : ReadLayout) (r : rule_sets.Rules) (a : Answer) (done : Done) → IsDone o l r a done → IfSome (schematic_path o) P
+alone (ToShapes shapes) P l r a done h = tt
+alone (ToNetlist shapes netlist) P l r a done h = tt
+alone (ToReport schematic shapes netlist report) P l r a done h = absurd h
+
+-- a command without a schematic says nothing of a match
+pub matched_alone : (p : Paths) (file : List ℕ → Told) (l : ReadLayout) (r : rule_sets.Rules) (a : Answer) (done : Done) → IsDone p.outputs l r a done → MatchesSchematic file p
+matched_alone p file l r a done h = alone p.outputs (λ (path : List ℕ). WhereMeant (file path) (λ nl. OfInputs file p (λ l r. IsMatchOf l r nl))) l r a done h
+
+pub match_delivered : (stated : Option Paths) (old mid new : Store) (before after : SinkState) (o : Output) (a : Answer) → IsReady stated old mid o → Delivered o mid new before after a → WritesMatch stated old a
+match_delivered stated old mid new before after o a ready h good =
+    let v = subst IsVerdict (sym good) tt in
+    let same = verdict_is o mid new before after a h v in
+    subst (λ (s : Option Paths). OfStated s (MatchesSchematic old.file)) (sym ready.stated) (ready.matched (same ∙ good))

@@ -5,4 +5,8 @@ pub mod Flattened
 pub mod OneAnswer
 pub mod Feeding
 pub mod Stated
+pub mod SchematicFaults
+pub mod SameReports
 pub mod Adding
+pub mod Told
+pub mod Ready

@@ -1,10 +1,18 @@
 -- One outcome for words and told files.
-use Rattle.std.proofs.Common.{◌≡◌, ◌≢◌, inl, inr, ℕ, List, length, Option, Some, None, Ok, Err, sym, ap, subst, ◌∙◌, arith}
+use Rattle.std.proofs.Common.{◌≡◌, ◌≢◌, inl, inr, ℕ, List, length, Option, Some, None, IfSome, Ok, Err, sym, ap, subst, ◌∙◌, arith}
 use Rattle.lvs_outside.specs.Store.{Told, Untold, NoFile, Holds}
 use Rattle.gds_layout.specs.declared.layout.LayoutFault.{LayoutFault}
 use Rattle.gds_layout.specs.declared.layout.LayoutFault.TheVariants as layout
 use Rattle.gds_layout.specs.Layouts.{IsFaultOf}
-use Rattle.gds_layout.specs.Once.{NoFaultLaw, OneFaultLaw}
+use Rattle.gds_layout.specs.Once.{NoFaultLaw, OneFaultLaw, OneLayoutLaw}
+use Rattle.report_file.specs.One.{IsSameReport, OneReportLaw}
+use Rattle.spice_rows.specs.Sizes.{read_limit}
+use Rattle.spice_rows.specs.declared.fault.SpiceFault.{SpiceFault}
+use Rattle.spice_rows.specs.declared.fault.SpiceFault.TheVariants as spice
+use Rattle.spice_text.specs.Laws.{OneMeaningLaw, NoFaultLaw as SpiceNoFaultLaw}
+use Rattle.spice_text.specs.Means.{SaysFirst, IsFirstFault as IsFirstSpiceFault}
+use Rattle.lvs_run.proofs.SchematicFaults.{one_fault}
+use Rattle.lvs_run.proofs.SameReports.{same_report_file}
 use Rattle.rule_text.specs.declared.fault.RuleFault.{RuleFault}
 use Rattle.rule_text.specs.Rules.{Rules}
 use Rattle.rule_text.specs.Reading.{Means, IsFirstFault, MeaningLaw, FaultLaw}
@@ -12,12 +20,12 @@ use Rattle.shapes_file.specs.One.{IsSameFile, OneFileLaw}
 use Rattle.deep_tables.specs.declared.gates.BadGate.{BadGate}
 use Rattle.netlist_file.specs.One.{IsSameNetlist, OneNetlistLaw}
 use Rattle.plain_netlist.specs.Netlist.{Netlist}
-use Rattle.lvs_run.specs.Words.{Outputs, Paths, ToShapes, ToNetlist}
+use Rattle.lvs_run.specs.Words.{Outputs, Paths, ToShapes, ToNetlist, ToReport, schematic_path}
 use Rattle.gds_layout.specs.declared.layout.Layout.{Layout}
 use Rattle.gds_layout.specs.Layouts.{IsRead}
-use Rattle.lvs_run.specs.Answers.{Counts, Done, Extracted, drawn, extracted, Answer, IsVerdict, RefusedWords, RefusedSame, RefusedAbsent, RefusedLong, RefusedRules, RefusedLayout}
-use Rattle.lvs_run.specs.Outcomes.{IsDone, IsDrawn, IsExtracted, IsFirstLayoutFault, gates_answer}
-use Rattle.lvs_run.proofs.Steps.{InTurn, in_turn, OfStream, FaultyStream, SoundStream, OfLength, OfLayout, OfRuleText, FaultyRules, SoundRules, OfRules, OfPaths}
+use Rattle.lvs_run.specs.Answers.{Counts, Done, Extracted, Compared, drawn, extracted, compared, comparison_answer, Answer, IsVerdict, RefusedWords, RefusedSame, RefusedAbsent, RefusedLong, RefusedRules, RefusedLayout, RefusedSchematic}
+use Rattle.lvs_run.specs.Outcomes.{IsDone, IsDoneBeside, IsDrawn, IsExtracted, IsCompared, IsFirstLayoutFault, IsFirstSchematicFault, gates_answer}
+use Rattle.lvs_run.proofs.Steps.{InTurn, in_turn, OfBeside, OfSchematic, OfCards, FaultyCards, SoundCards, OfStream, FaultyStream, SoundStream, OfLength, OfLayout, OfRuleText, FaultyRules, SoundRules, OfRules, OfPaths}
 use Rattle.lvs_run.specs.Once.{IsTold, AreInputsTold, IsSameOutcome, OneOutcomeLaw}
 
 -- a first fault is a fault, and no want of memory
@@ -44,8 +52,24 @@ same_extracted path netlist l m r a b x y h k s t =
     ∙ (ap (λ (w : List ℕ). extracted path k.text netlist w (Extracted h.cells (length h.netlist.circuits) (length h.bad))) t.text
     ∙ (ap (λ (c : Counts). extracted path k.text netlist k.spelled c) counts ∙ sym k.whole)))
 
--- by the laws of the readers, of shapes files and of netlist files
-module _ (meanings : MeaningLaw) (faults : FaultLaw) (no_faults : NoFaultLaw) (one_faults : OneFaultLaw) (files : OneFileLaw) (netlists : OneNetlistLaw) where
+same_compared : (path netlist report : List ℕ) (l m : Layout) (r : Rules) (nl : Netlist) (a b : Answer) (x y : Done) → (h : IsCompared l r nl path netlist report a x) → (k : IsCompared m r nl path netlist report b y)
+    → IsSameFile h.text k.text h.cells k.cells h.rectangles k.rectangles → IsSameNetlist h.netlist k.netlist h.top k.top h.bad k.bad h.spelled k.spelled
+    → IsSameReport h.report k.report h.pairs k.pairs h.verdict k.verdict → x ≡ y
+same_compared path netlist report l m r nl a b x y h k s t u =
+    let counts : Compared h.cells (length h.netlist.circuits) h.pairs (length h.bad) ≡ Compared k.cells (length k.netlist.circuits) k.pairs (length k.bad) =
+    ap (λ (n : ℕ). Compared n (length h.netlist.circuits) h.pairs (length h.bad)) s.cell_count
+    ∙ (ap (λ (n : Netlist). Compared k.cells (length n.circuits) h.pairs (length h.bad)) t.netlist
+    ∙ (ap (λ (n : ℕ). Compared k.cells (length k.netlist.circuits) n (length h.bad)) u.pair_count
+    ∙ ap (λ (bs : List BadGate). Compared k.cells (length k.netlist.circuits) k.pairs (length bs)) t.bad)) in
+    let c = Compared h.cells (length h.netlist.circuits) h.pairs (length h.bad) in
+    h.whole ∙ (ap (λ (w : List ℕ). compared path w netlist h.spelled report h.report c) s.text
+    ∙ (ap (λ (w : List ℕ). compared path k.text netlist w report h.report c) t.text
+    ∙ (ap (λ (w : List ℕ). compared path k.text netlist k.spelled report w c) u.text
+    ∙ (ap (λ (d : Counts). compared path k.text netlist k.spelled report k.report d) counts ∙ sym k.whole))))
+
+-- by the laws of the readers, of shapes files, of netlist files and of reports
+module _ (meanings : MeaningLaw) (faults : FaultLaw) (no_faults : NoFaultLaw) (one_faults : OneFaultLaw) (files : OneFileLaw) (netlists : OneNetlistLaw)
+    (layouts : OneLayoutLaw) (schematics : OneMeaningLaw) (no_cards : SpiceNoFaultLaw) (reports : OneReportLaw) where
   -- two runs with one refusal
   refused_once : (w a b : Answer) (x y : Done) → (IsVerdict w → ⊥) → a ≡ w → b ≡ w → IsSameOutcome a b x y
   refused_once w a b x y never e f = record { answer = e ∙ sym f; done = λ v. absurd (never (subst IsVerdict e v)) }
@@ -69,15 +93,7 @@ module _ (meanings : MeaningLaw) (faults : FaultLaw) (no_faults : NoFaultLaw) (o
         answer = h.answer ∙ (ap gates_answer t.bad ∙ sym k.answer);
         done = λ v. same_extracted path netlist l m r a b x y h k s t;
       }
-
-  on_stream : (bytes : List ℕ) (p : Paths) (r : Rules) (a b : Answer) (x y : Done) → OfStream bytes p r a x → OfStream bytes p r b y → IsSameOutcome a b x y
-  on_stream bytes p r a b x y (FaultyStream f h e) (FaultyStream g k d) =
-      let one = fault_of bytes p.top f h in
-      let two = fault_of bytes p.top g k in
-      refused_once (RefusedLayout f) a b x y (λ v. v) e (d ∙ ap (λ (z : LayoutFault). RefusedLayout z) (one_faults bytes p.top g f two.0 one.0 two.1 one.1))
-  on_stream bytes p r a b x y (FaultyStream f h e) (SoundStream l read made) = let one = fault_of bytes p.top f h in absurd (one.1 (no_faults bytes p.top l f read one.0))
-  on_stream bytes p r a b x y (SoundStream l read made) (FaultyStream f h e) = let one = fault_of bytes p.top f h in absurd (one.1 (no_faults bytes p.top l f read one.0))
-  on_stream bytes p r a b x y (SoundStream l read made) (SoundStream m found done) = same_done p.outputs bytes p.top l m r a b x y read found made done
+  same_done (ToReport schematic path netlist report) bytes top l m r a b x y read found h k = absurd h
 
   -- too long twice, or not twice
   on_length : (bytes : List ℕ) (A B C D R : Type 0) → (A → C → R) → (B → D → R) → OfLength bytes A B → OfLength bytes C D → R
@@ -86,41 +102,117 @@ module _ (meanings : MeaningLaw) (faults : FaultLaw) (no_faults : NoFaultLaw) (o
   on_length bytes A B C D R long short (inr x) (inl y) = absurd (omega (arith, x.0, y.0))
   on_length bytes A B C D R long short (inr x) (inr y) = short x.1 y.1
 
-  on_layout : (t : Told) (r : Rules) (p : Paths) (a b : Answer) (x y : Done) → IsTold t → OfLayout t r p a x → OfLayout t r p b y → IsSameOutcome a b x y
-  on_layout Untold r p a b x y told h k = absurd told
-  on_layout NoFile r p a b x y told h k = refused_once (RefusedAbsent p.layout) a b x y (λ v. v) h k
-  on_layout (Holds bytes) r p a b x y told h k =
-      on_length bytes (a ≡ RefusedLong p.layout) (OfStream bytes p r a x) (b ≡ RefusedLong p.layout) (OfStream bytes p r b y) (IsSameOutcome a b x y)
-      (λ e f. refused_once (RefusedLong p.layout) a b x y (λ v. v) e f) (λ s t. on_stream bytes p r a b x y s t) h k
+  -- two runs of one comparison
+  same_beside : (o : Outputs) (bytes : List ℕ) (top : Option (List ℕ)) (l m : Layout) (r : Rules) (nl : Netlist) (a b : Answer) (x y : Done) → IsRead bytes top l → IsRead bytes top m
+      → IsDoneBeside o l r nl a x → IsDoneBeside o m r nl b y → IsSameOutcome a b x y
+  same_beside (ToShapes path) bytes top l m r nl a b x y read found h k = absurd h
+  same_beside (ToNetlist path netlist) bytes top l m r nl a b x y read found h k = absurd h
+  same_beside (ToReport schematic path netlist report) bytes top l m r nl a b x y read found h k =
+      let s = files bytes top l m r h.text k.text h.cells k.cells h.rectangles k.rectangles read found h.file k.file in
+      let t = netlists bytes top l m r h.netlist k.netlist h.top k.top h.bad k.bad h.spelled k.spelled read found h.netlist_file k.netlist_file in
+      let same = layouts bytes top l m read found in
+      let other = same_report_file l m r h.netlist k.netlist h.top k.top h.bad k.bad nl k.report k.pairs k.verdict same.cells t.netlist t.top t.bad k.report_file in
+      let can = h.comparable in
+      let u = reports l.design r h.netlist h.top h.bad nl h.report k.report h.pairs k.pairs h.verdict k.verdict can.rules can.layout can.order can.schematic h.report_file other in
+      record {
+        answer = h.answer ∙ (ap comparison_answer u.verdict ∙ sym k.answer);
+        done = λ v. same_compared path netlist report l m r nl a b x y h k s t u;
+      }
+
+  -- no want of memory
+  a_fault : (bytes : List ℕ) (f : SpiceFault) → IsFirstSchematicFault bytes f → f ≢ spice.NoMemory
+  a_fault bytes spice.NoMemory h = absurd h
+  a_fault bytes (spice.UnknownCard n) h = λ e. cc
+  a_fault bytes (spice.BadLine n) h = λ e. cc
+  a_fault bytes (spice.ParameterRefused n) h = λ e. cc
+  a_fault bytes (spice.Value n v) h = λ e. cc
+  a_fault bytes (spice.NotClosed n) h = λ e. cc
+  a_fault bytes (spice.NameClash n) h = λ e. cc
+  a_fault bytes (spice.NoSuchCircuit n) h = λ e. cc
+  a_fault bytes (spice.PinCount n) h = λ e. cc
+  a_fault bytes (spice.CircuitCycle n) h = λ e. cc
+
+  first_of : (bytes : List ℕ) (f : SpiceFault) → IsFirstSchematicFault bytes f → IsFirstSpiceFault read_limit bytes f × SaysFirst read_limit bytes f
+  first_of bytes spice.NoMemory h = absurd h
+  first_of bytes (spice.UnknownCard n) h = (h, h)
+  first_of bytes (spice.BadLine n) h = (h, h)
+  first_of bytes (spice.ParameterRefused n) h = (h, h)
+  first_of bytes (spice.Value n v) h = (h, h)
+  first_of bytes (spice.NotClosed n) h = (h, h)
+  first_of bytes (spice.NameClash n) h = (h, h)
+  first_of bytes (spice.NoSuchCircuit n) h = (h, h)
+  first_of bytes (spice.PinCount n) h = (h, h)
+  first_of bytes (spice.CircuitCycle n) h = (h, h)
+
+  on_cards : (bytes stream : List ℕ) (o : Outputs) (top : Option (List ℕ)) (l m : Layout) (r : Rules) (a b : Answer) (x y : Done) → IsRead stream top l → IsRead stream top m
+      → OfCards bytes o l r a x → OfCards bytes o m r b y → IsSameOutcome a b x y
+  on_cards bytes stream o top l m r a b x y read found (FaultyCards f h e) (FaultyCards g k d) =
+      let one = first_of bytes f h in
+      let two = first_of bytes g k in
+      refused_once (RefusedSchematic f) a b x y (λ v. v) e (d ∙ ap (λ (z : SpiceFault). RefusedSchematic z) (one_fault read_limit bytes g f (a_fault bytes g k) (a_fault bytes f h) two.0 one.0))
+  on_cards bytes stream o top l m r a b x y read found (FaultyCards f h e) (SoundCards nl means made) = let one = first_of bytes f h in absurd (a_fault bytes f h (no_cards read_limit bytes nl f means one.1))
+  on_cards bytes stream o top l m r a b x y read found (SoundCards nl means made) (FaultyCards f h e) = let one = first_of bytes f h in absurd (a_fault bytes f h (no_cards read_limit bytes nl f means one.1))
+  on_cards bytes stream o top l m r a b x y read found (SoundCards nl means made) (SoundCards n also done) =
+      let same : n ≡ nl = schematics read_limit bytes n nl also means in
+      same_beside o stream top l m r nl a b x y read found made (subst (λ (z : Netlist). IsDoneBeside o m r z b y) same done)
+
+  on_schematic : (t : Told) (path stream : List ℕ) (o : Outputs) (top : Option (List ℕ)) (l m : Layout) (r : Rules) (a b : Answer) (x y : Done) → IsTold t → IsRead stream top l → IsRead stream top m
+      → OfSchematic t path o l r a x → OfSchematic t path o m r b y → IsSameOutcome a b x y
+  on_schematic Untold path stream o top l m r a b x y told read found h k = absurd told
+  on_schematic NoFile path stream o top l m r a b x y told read found h k = refused_once (RefusedAbsent path) a b x y (λ v. v) h k
+  on_schematic (Holds bytes) path stream o top l m r a b x y told read found h k =
+      on_length bytes (a ≡ RefusedLong path) (OfCards bytes o l r a x) (b ≡ RefusedLong path) (OfCards bytes o m r b y) (IsSameOutcome a b x y)
+      (λ e f. refused_once (RefusedLong path) a b x y (λ v. v) e f) (λ s t. on_cards bytes stream o top l m r a b x y read found s t) h k
+
+  on_beside : (s : Option (List ℕ)) (file : List ℕ → Told) (stream : List ℕ) (o : Outputs) (top : Option (List ℕ)) (l m : Layout) (r : Rules) (a b : Answer) (x y : Done) → IfSome s (λ path. IsTold (file path))
+      → IsRead stream top l → IsRead stream top m → OfBeside s file o l r a x → OfBeside s file o m r b y → IsSameOutcome a b x y
+  on_beside None file stream o top l m r a b x y told read found h k = same_done o stream top l m r a b x y read found h k
+  on_beside (Some path) file stream o top l m r a b x y told read found h k = on_schematic (file path) path stream o top l m r a b x y told read found h k
+
+  on_stream : (bytes : List ℕ) (file : List ℕ → Told) (p : Paths) (r : Rules) (a b : Answer) (x y : Done) → IfSome (schematic_path p.outputs) (λ path. IsTold (file path)) → OfStream bytes file p r a x → OfStream bytes file p r b y → IsSameOutcome a b x y
+  on_stream bytes file p r a b x y told (FaultyStream f h e) (FaultyStream g k d) =
+      let one = fault_of bytes p.top f h in
+      let two = fault_of bytes p.top g k in
+      refused_once (RefusedLayout f) a b x y (λ v. v) e (d ∙ ap (λ (z : LayoutFault). RefusedLayout z) (one_faults bytes p.top g f two.0 one.0 two.1 one.1))
+  on_stream bytes file p r a b x y told (FaultyStream f h e) (SoundStream l read made) = let one = fault_of bytes p.top f h in absurd (one.1 (no_faults bytes p.top l f read one.0))
+  on_stream bytes file p r a b x y told (SoundStream l read made) (FaultyStream f h e) = let one = fault_of bytes p.top f h in absurd (one.1 (no_faults bytes p.top l f read one.0))
+  on_stream bytes file p r a b x y told (SoundStream l read made) (SoundStream m found done) = on_beside (schematic_path p.outputs) file bytes p.outputs p.top l m r a b x y told read found made done
+
+  on_layout : (t : Told) (file : List ℕ → Told) (r : Rules) (p : Paths) (a b : Answer) (x y : Done) → IsTold t → IfSome (schematic_path p.outputs) (λ path. IsTold (file path)) → OfLayout t file r p a x → OfLayout t file r p b y → IsSameOutcome a b x y
+  on_layout Untold file r p a b x y told last h k = absurd told
+  on_layout NoFile file r p a b x y told last h k = refused_once (RefusedAbsent p.layout) a b x y (λ v. v) h k
+  on_layout (Holds bytes) file r p a b x y told last h k =
+      on_length bytes (a ≡ RefusedLong p.layout) (OfStream bytes file p r a x) (b ≡ RefusedLong p.layout) (OfStream bytes file p r b y) (IsSameOutcome a b x y)
+      (λ e f. refused_once (RefusedLong p.layout) a b x y (λ v. v) e f) (λ s t. on_stream bytes file p r a b x y last s t) h k
 
   means_or_faulty : (bytes : List ℕ) (r : Rules) (fault : RuleFault) → Means bytes r → IsFirstFault bytes fault → ⊥
   means_or_faulty bytes r fault m f = let e : Ok r ≡ Err fault = sym ((meanings bytes r).1 m) ∙ (faults bytes fault).1 f in cc
 
-  on_rule_text : (bytes : List ℕ) (t : Told) (p : Paths) (a b : Answer) (x y : Done) → IsTold t → OfRuleText bytes t p a x → OfRuleText bytes t p b y → IsSameOutcome a b x y
-  on_rule_text bytes t p a b x y told (FaultyRules f h e) (FaultyRules g k d) =
+  on_rule_text : (bytes : List ℕ) (t : Told) (file : List ℕ → Told) (p : Paths) (a b : Answer) (x y : Done) → IsTold t → IfSome (schematic_path p.outputs) (λ path. IsTold (file path)) → OfRuleText bytes t file p a x → OfRuleText bytes t file p b y → IsSameOutcome a b x y
+  on_rule_text bytes t file p a b x y told last (FaultyRules f h e) (FaultyRules g k d) =
       let same : g ≡ f = let h : Err g ≡ Err f = sym ((faults bytes g).1 k) ∙ (faults bytes f).1 h in cc in
       refused_once (RefusedRules f) a b x y (λ v. v) e (d ∙ ap RefusedRules same)
-  on_rule_text bytes t p a b x y told (FaultyRules f h e) (SoundRules r m k) = absurd (means_or_faulty bytes r f m h)
-  on_rule_text bytes t p a b x y told (SoundRules r m h) (FaultyRules f k e) = absurd (means_or_faulty bytes r f m k)
-  on_rule_text bytes t p a b x y told (SoundRules r m h) (SoundRules q n k) =
+  on_rule_text bytes t file p a b x y told last (FaultyRules f h e) (SoundRules r m k) = absurd (means_or_faulty bytes r f m h)
+  on_rule_text bytes t file p a b x y told last (SoundRules r m h) (FaultyRules f k e) = absurd (means_or_faulty bytes r f m k)
+  on_rule_text bytes t file p a b x y told last (SoundRules r m h) (SoundRules q n k) =
       let same : q ≡ r = let e : Ok q ≡ Ok r = sym ((meanings bytes q).1 n) ∙ (meanings bytes r).1 m in cc in
-      on_layout t r p a b x y told h (subst (λ (u : Rules). OfLayout t u p b y) same k)
+      on_layout t file r p a b x y told last h (subst (λ (u : Rules). OfLayout t file u p b y) same k)
 
-  on_rules : (t u : Told) (p : Paths) (a b : Answer) (x y : Done) → IsTold t → IsTold u → OfRules t u p a x → OfRules t u p b y → IsSameOutcome a b x y
-  on_rules Untold u p a b x y told there h k = absurd told
-  on_rules NoFile u p a b x y told there h k = refused_once (RefusedAbsent p.rules) a b x y (λ v. v) h k
-  on_rules (Holds bytes) u p a b x y told there h k =
-      on_length bytes (a ≡ RefusedLong p.rules) (OfRuleText bytes u p a x) (b ≡ RefusedLong p.rules) (OfRuleText bytes u p b y) (IsSameOutcome a b x y)
-      (λ e f. refused_once (RefusedLong p.rules) a b x y (λ v. v) e f) (λ s t. on_rule_text bytes u p a b x y there s t) h k
+  on_rules : (t u : Told) (file : List ℕ → Told) (p : Paths) (a b : Answer) (x y : Done) → IsTold t → IsTold u → IfSome (schematic_path p.outputs) (λ path. IsTold (file path)) → OfRules t u file p a x → OfRules t u file p b y → IsSameOutcome a b x y
+  on_rules Untold u file p a b x y told there last h k = absurd told
+  on_rules NoFile u file p a b x y told there last h k = refused_once (RefusedAbsent p.rules) a b x y (λ v. v) h k
+  on_rules (Holds bytes) u file p a b x y told there last h k =
+      on_length bytes (a ≡ RefusedLong p.rules) (OfRuleText bytes u file p a x) (b ≡ RefusedLong p.rules) (OfRuleText bytes u file p b y) (IsSameOutcome a b x y)
+      (λ e f. refused_once (RefusedLong p.rules) a b x y (λ v. v) e f) (λ s t. on_rule_text bytes u file p a b x y there last s t) h k
 
   on_paths : (same : Option (List ℕ)) (file : List ℕ → Told) (p : Paths) (a b : Answer) (x y : Done) → IsTold (file p.rules) → IsTold (file p.layout)
-      → OfPaths same file p a x → OfPaths same file p b y → IsSameOutcome a b x y
-  on_paths (Some path) file p a b x y told there h k = refused_once (RefusedSame path) a b x y (λ v. v) h k
-  on_paths None file p a b x y told there h k = on_rules (file p.rules) (file p.layout) p a b x y told there h k
+      → IfSome (schematic_path p.outputs) (λ path. IsTold (file path)) → OfPaths same file p a x → OfPaths same file p b y → IsSameOutcome a b x y
+  on_paths (Some path) file p a b x y told there last h k = refused_once (RefusedSame path) a b x y (λ v. v) h k
+  on_paths None file p a b x y told there last h k = on_rules (file p.rules) (file p.layout) file p a b x y told there last h k
 
   on_turn : (said : Option Paths) (file : List ℕ → Told) (a b : Answer) (x y : Done) → AreInputsTold said file → InTurn said file a x → InTurn said file b y → IsSameOutcome a b x y
   on_turn None file a b x y told h k = refused_once RefusedWords a b x y (λ v. v) h k
-  on_turn (Some p) file a b x y told h k = on_paths (p.shared) file p a b x y told.0 told.1 h k
+  on_turn (Some p) file a b x y told h k = let more = told.1 in on_paths (p.shared) file p a b x y told.0 more.0 more.1 h k
 
   pub one_answer : OneOutcomeLaw
   one_answer said file a b x y told h k = on_turn said file a b x y told (in_turn said file a x h) (in_turn said file b y k)

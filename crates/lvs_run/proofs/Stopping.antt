@@ -10,14 +10,21 @@ use Rattle.rule_text.specs.declared.fault.RuleFault.TheVariants as rule
 use Rattle.rule_text.specs.Rules.{Rules}
 use Rattle.rule_text.specs.Reading.{Means, Answers}
 use Rattle.deep_tables.specs.declared.gates.BadGate.{BadGate}
+use Rattle.pair_jobs.specs.declared.verdict.Verdict.{Verdict as Comparison}
+use Rattle.pair_jobs.specs.declared.verdict.Verdict.TheVariants as comparison
+use Rattle.plain_netlist.specs.Netlist.{Netlist}
+use Rattle.spice_rows.specs.Sizes.{read_limit}
+use Rattle.spice_rows.specs.declared.fault.SpiceFault.{SpiceFault}
+use Rattle.spice_rows.specs.declared.fault.SpiceFault.TheVariants as spice
+use Rattle.spice_text.specs.Means.{Means as SpiceMeans, SaysFirst}
 use Rattle.lvs_run.specs.declared.output.Verdict.{Verdict}
 use Rattle.lvs_run.specs.declared.output.Verdict.TheVariants as verdict
-use Rattle.lvs_run.specs.Words.{Outputs, ToShapes, ToNetlist, Paths}
-use Rattle.lvs_run.specs.Answers.{Done, Answer, Good, Bad, RefusedWords, RefusedSame, RefusedAbsent, RefusedLong, RefusedRules, RefusedLayout, Undecided, Outside, NoMemory, refused_rules, verdict_of, refused_layout}
+use Rattle.lvs_run.specs.Words.{Outputs, ToShapes, ToNetlist, ToReport, Paths, schematic_path}
+use Rattle.lvs_run.specs.Answers.{Done, Answer, Good, Bad, RefusedWords, RefusedSame, RefusedAbsent, RefusedLong, RefusedRules, RefusedLayout, RefusedSchematic, Undecided, Outside, NoMemory, refused_rules, refused_schematic, verdict_of, IsVerdict, comparison_answer, refused_layout}
 use Rattle.lvs_run.specs.Runs.{HasLength, IsReadWhole, IsReadTooFar, HasCauseIn, MayEnd}
-use Rattle.lvs_run.specs.Outcomes.{IsOutcome, IsDone, SamePath, gates_answer}
-use Rattle.lvs_run.proofs.Steps.{OfStream, FaultyStream, SoundStream, OfLayout, OfRuleText, FaultyRules, SoundRules, OfRules, of_rules}
-use Rattle.lvs_run.specs.Inputs.{Quiet, DepotFaults, IsInput, IsLong, Got, ReadAs, NoRules, NoLayout, RefusesRules, RefusesLayout, ComesOf, Stops}
+use Rattle.lvs_run.specs.Outcomes.{IsOutcome, IsDone, IsDoneBeside, SamePath, gates_answer}
+use Rattle.lvs_run.proofs.Steps.{OfBeside, OfCards, FaultyCards, SoundCards, OfSchematic, made_alone, OfStream, FaultyStream, SoundStream, OfLayout, OfRuleText, FaultyRules, SoundRules, OfRules, of_rules}
+use Rattle.lvs_run.specs.Inputs.{Quiet, DepotFaults, IsInput, IsLong, Got, ReadAs, NoRules, NoLayout, NoSchematic, RefusesRules, RefusesLayout, RefusesSchematic, ComesOf, Stops}
 
 -- a fault of the rules that isn't want of memory is the first
 pub rules_refused : (old new : Store) (path bytes : List ℕ) (fault : RuleFault) → Got old new path bytes → Answers bytes fault → NoRules old new path (refused_rules fault)
@@ -51,6 +58,31 @@ layout_faults old new layout.NoMemory h = h
 layout_faults old new (layout.Gds f) h = h
 layout_faults old new (layout.Link f) h = h
 
+-- so of the schematic
+pub schematic_refused : (old new : Store) (path bytes : List ℕ) (fault : SpiceFault) → Got old new path bytes → SaysFirst read_limit bytes fault → NoSchematic old new path (refused_schematic fault)
+schematic_refused old new path bytes spice.NoMemory got h = tt
+schematic_refused old new path bytes (spice.UnknownCard n) got h = record { bytes = bytes; got = got; is = h }
+schematic_refused old new path bytes (spice.BadLine n) got h = record { bytes = bytes; got = got; is = h }
+schematic_refused old new path bytes (spice.ParameterRefused n) got h = record { bytes = bytes; got = got; is = h }
+schematic_refused old new path bytes (spice.Value n v) got h = record { bytes = bytes; got = got; is = h }
+schematic_refused old new path bytes (spice.NotClosed n) got h = record { bytes = bytes; got = got; is = h }
+schematic_refused old new path bytes (spice.NameClash n) got h = record { bytes = bytes; got = got; is = h }
+schematic_refused old new path bytes (spice.NoSuchCircuit n) got h = record { bytes = bytes; got = got; is = h }
+schematic_refused old new path bytes (spice.PinCount n) got h = record { bytes = bytes; got = got; is = h }
+schematic_refused old new path bytes (spice.CircuitCycle n) got h = record { bytes = bytes; got = got; is = h }
+
+pub schematic_faults : (old new : Store) (fault : SpiceFault) → new.faults ≡ old.faults → DepotFaults (refused_schematic fault) old new
+schematic_faults old new spice.NoMemory h = h
+schematic_faults old new (spice.UnknownCard n) h = h
+schematic_faults old new (spice.BadLine n) h = h
+schematic_faults old new (spice.ParameterRefused n) h = h
+schematic_faults old new (spice.Value n v) h = h
+schematic_faults old new (spice.NotClosed n) h = h
+schematic_faults old new (spice.NameClash n) h = h
+schematic_faults old new (spice.NoSuchCircuit n) h = h
+schematic_faults old new (spice.PinCount n) h = h
+schematic_faults old new (spice.CircuitCycle n) h = h
+
 has_length : (t : Told) (bytes : List ℕ) → IsInput bytes t → HasLength t (length bytes)
 has_length Untold bytes h = tt
 has_length NoFile bytes h = h
@@ -61,36 +93,52 @@ read_whole : (s new : Store) (path bytes : List ℕ) (o : Open) → o ≡ Readin
 read_whole s new path bytes o e h = subst (λ (q : Open). IsReadWhole q s path) (sym e) (refl, has_length (s.file path) bytes h)
 
 -- the layout's file, read
-layout_read : (t : Told) (r : Rules) (p : Paths) (a : Answer) (done : Done) (bytes : List ℕ) → IsInput bytes t → OfStream bytes p r a done → OfLayout t r p a done
-layout_read Untold r p a done bytes h s = tt
-layout_read NoFile r p a done bytes h s = absurd h
-layout_read (Holds all) r p a done bytes h s = inr (h.1, subst (λ (xs : List ℕ). OfStream xs p r a done) h.0 s)
+layout_read : (t : Told) (file : List ℕ → Told) (r : Rules) (p : Paths) (a : Answer) (done : Done) (bytes : List ℕ) → IsInput bytes t → OfStream bytes file p r a done → OfLayout t file r p a done
+layout_read Untold file r p a done bytes h s = tt
+layout_read NoFile file r p a done bytes h s = absurd h
+layout_read (Holds all) file r p a done bytes h s = inr (h.1, subst (λ (xs : List ℕ). OfStream xs file p r a done) h.0 s)
 
 -- the rules' file, read
-rules_read : (t l : Told) (p : Paths) (a : Answer) (done : Done) (bytes : List ℕ) → IsInput bytes t → OfRuleText bytes l p a done → OfRules t l p a done
-rules_read Untold l p a done bytes h s = tt
-rules_read NoFile l p a done bytes h s = absurd h
-rules_read (Holds all) l p a done bytes h s = inr (h.1, subst (λ (xs : List ℕ). OfRuleText xs l p a done) h.0 s)
+rules_read : (t l : Told) (file : List ℕ → Told) (p : Paths) (a : Answer) (done : Done) (bytes : List ℕ) → IsInput bytes t → OfRuleText bytes l file p a done → OfRules t l file p a done
+rules_read Untold l file p a done bytes h s = tt
+rules_read NoFile l file p a done bytes h s = absurd h
+rules_read (Holds all) l file p a done bytes h s = inr (h.1, subst (λ (xs : List ℕ). OfRuleText xs l file p a done) h.0 s)
 
-absent_rules : (t l : Told) (p : Paths) (a : Answer) (done : Done) → IsAbsent t → a ≡ RefusedAbsent p.rules → OfRules t l p a done
-absent_rules Untold l p a done h e = tt
-absent_rules NoFile l p a done h e = e
-absent_rules (Holds all) l p a done h e = absurd h
+absent_rules : (t l : Told) (file : List ℕ → Told) (p : Paths) (a : Answer) (done : Done) → IsAbsent t → a ≡ RefusedAbsent p.rules → OfRules t l file p a done
+absent_rules Untold l file p a done h e = tt
+absent_rules NoFile l file p a done h e = e
+absent_rules (Holds all) l file p a done h e = absurd h
 
-long_rules : (t l : Told) (p : Paths) (a : Answer) (done : Done) → IsLong t → a ≡ RefusedLong p.rules → OfRules t l p a done
-long_rules Untold l p a done h e = tt
-long_rules NoFile l p a done h e = absurd h
-long_rules (Holds all) l p a done h e = inl (h, e)
+long_rules : (t l : Told) (file : List ℕ → Told) (p : Paths) (a : Answer) (done : Done) → IsLong t → a ≡ RefusedLong p.rules → OfRules t l file p a done
+long_rules Untold l file p a done h e = tt
+long_rules NoFile l file p a done h e = absurd h
+long_rules (Holds all) l file p a done h e = inl (h, e)
 
-absent_layout : (t : Told) (r : Rules) (p : Paths) (a : Answer) (done : Done) → IsAbsent t → a ≡ RefusedAbsent p.layout → OfLayout t r p a done
-absent_layout Untold r p a done h e = tt
-absent_layout NoFile r p a done h e = e
-absent_layout (Holds all) r p a done h e = absurd h
+absent_layout : (t : Told) (file : List ℕ → Told) (r : Rules) (p : Paths) (a : Answer) (done : Done) → IsAbsent t → a ≡ RefusedAbsent p.layout → OfLayout t file r p a done
+absent_layout Untold file r p a done h e = tt
+absent_layout NoFile file r p a done h e = e
+absent_layout (Holds all) file r p a done h e = absurd h
 
-long_layout : (t : Told) (r : Rules) (p : Paths) (a : Answer) (done : Done) → IsLong t → a ≡ RefusedLong p.layout → OfLayout t r p a done
-long_layout Untold r p a done h e = tt
-long_layout NoFile r p a done h e = absurd h
-long_layout (Holds all) r p a done h e = inl (h, e)
+long_layout : (t : Told) (file : List ℕ → Told) (r : Rules) (p : Paths) (a : Answer) (done : Done) → IsLong t → a ≡ RefusedLong p.layout → OfLayout t file r p a done
+long_layout Untold file r p a done h e = tt
+long_layout NoFile file r p a done h e = absurd h
+long_layout (Holds all) file r p a done h e = inl (h, e)
+
+-- the schematic's file, read
+schematic_read : (t : Told) (path : List ℕ) (o : Outputs) (l : Layout) (r : Rules) (a : Answer) (done : Done) (bytes : List ℕ) → IsInput bytes t → OfCards bytes o l r a done → OfSchematic t path o l r a done
+schematic_read Untold path o l r a done bytes h s = tt
+schematic_read NoFile path o l r a done bytes h s = absurd h
+schematic_read (Holds all) path o l r a done bytes h s = inr (h.1, subst (λ (xs : List ℕ). OfCards xs o l r a done) h.0 s)
+
+absent_schematic : (t : Told) (path : List ℕ) (o : Outputs) (l : Layout) (r : Rules) (a : Answer) (done : Done) → IsAbsent t → a ≡ RefusedAbsent path → OfSchematic t path o l r a done
+absent_schematic Untold path o l r a done h e = tt
+absent_schematic NoFile path o l r a done h e = e
+absent_schematic (Holds all) path o l r a done h e = absurd h
+
+long_schematic : (t : Told) (path : List ℕ) (o : Outputs) (l : Layout) (r : Rules) (a : Answer) (done : Done) → IsLong t → a ≡ RefusedLong path → OfSchematic t path o l r a done
+long_schematic Untold path o l r a done h e = tt
+long_schematic NoFile path o l r a done h e = absurd h
+long_schematic (Holds all) path o l r a done h e = inl (h, e)
 
 -- a file that is to be written is named twice
 pub same_stop : (p : Paths) (s : Store) (path : List ℕ) → p.shared ≡ Some path → Stops (Some p) s s (RefusedSame path)
@@ -109,12 +157,13 @@ module _ (p : Paths) (old new : Store) (apart : p.shared ≡ None) where
   rules_cause RefusedWords h = absurd h
   rules_cause (RefusedSame path) h = absurd h
   rules_cause (RefusedLayout fault) h = absurd h
+  rules_cause (RefusedSchematic fault) h = absurd h
   rules_cause Undecided h = absurd h
 
   rules_comes : (a : Answer) → NoRules old new p.rules a → ComesOf (Some p) old a
-  rules_comes (RefusedAbsent path) h = λ done. of_rules p old.file (RefusedAbsent path) done apart (absent_rules (old.file p.rules) (old.file p.layout) p (RefusedAbsent path) done h.1 (ap RefusedAbsent h.0))
-  rules_comes (RefusedLong path) h = λ done. of_rules p old.file (RefusedLong path) done apart (long_rules (old.file p.rules) (old.file p.layout) p (RefusedLong path) done h.1 (ap RefusedLong h.0))
-  rules_comes (RefusedRules fault) h = λ done. of_rules p old.file (RefusedRules fault) done apart (rules_read (old.file p.rules) (old.file p.layout) p (RefusedRules fault) done h.bytes h.got.told (FaultyRules fault h.is refl))
+  rules_comes (RefusedAbsent path) h = λ done. of_rules p old.file (RefusedAbsent path) done apart (absent_rules (old.file p.rules) (old.file p.layout) old.file p (RefusedAbsent path) done h.1 (ap RefusedAbsent h.0))
+  rules_comes (RefusedLong path) h = λ done. of_rules p old.file (RefusedLong path) done apart (long_rules (old.file p.rules) (old.file p.layout) old.file p (RefusedLong path) done h.1 (ap RefusedLong h.0))
+  rules_comes (RefusedRules fault) h = λ done. of_rules p old.file (RefusedRules fault) done apart (rules_read (old.file p.rules) (old.file p.layout) old.file p (RefusedRules fault) done h.bytes h.got.told (FaultyRules fault h.is refl))
   rules_comes Outside h = tt
   rules_comes NoMemory h = tt
   rules_comes Good h = absurd h
@@ -122,6 +171,7 @@ module _ (p : Paths) (old new : Store) (apart : p.shared ≡ None) where
   rules_comes RefusedWords h = absurd h
   rules_comes (RefusedSame path) h = absurd h
   rules_comes (RefusedLayout fault) h = absurd h
+  rules_comes (RefusedSchematic fault) h = absurd h
   rules_comes Undecided h = absurd h
 
 pub rules_stop : (p : Paths) (old new : Store) (a : Answer) → p.shared ≡ None → RefusesRules old new p.rules a → Stops (Some p) old new a
@@ -147,6 +197,7 @@ faults_since old mid new (RefusedAbsent path) e h = h ∙ e
 faults_since old mid new (RefusedLong path) e h = h ∙ e
 faults_since old mid new (RefusedRules fault) e h = h ∙ e
 faults_since old mid new (RefusedLayout fault) e h = h ∙ e
+faults_since old mid new (RefusedSchematic fault) e h = h ∙ e
 faults_since old mid new Undecided e h = h ∙ e
 faults_since old mid new NoMemory e h = h ∙ e
 
@@ -156,15 +207,15 @@ module _ (p : Paths) (old mid new : Store) (r : Rules) (apart : p.shared ≡ Non
   same_file = quiet.starts.files p.layout
 
   -- what the layout's file comes to is the outcome
-  on_layout : (a : Answer) (done : Done) → OfLayout (mid.file p.layout) r p a done → IsOutcome (Some p) old.file a done
+  on_layout : (a : Answer) (done : Done) → OfLayout (mid.file p.layout) old.file r p a done → IsOutcome (Some p) old.file a done
   on_layout a done h =
       of_rules p old.file a done apart
-      (rules_read (old.file p.rules) (old.file p.layout) p a done rules.bytes rules.got.told
-      (SoundRules r rules.is (subst (λ (t : Told). OfLayout t r p a done) same_file h)))
+      (rules_read (old.file p.rules) (old.file p.layout) old.file p a done rules.bytes rules.got.told
+      (SoundRules r rules.is (subst (λ (t : Told). OfLayout t old.file r p a done) same_file h)))
 
   layout_cause : (a : Answer) → NoLayout mid new p.layout p.top a → HasCauseIn (Some p) old new a
-  layout_cause (RefusedAbsent path) h = ((apart, inr h.0), record { one = h.2.one ∙ ap (λ (n : ℕ). n + 1) rules.got.absent; last = h.2.last ∙ sym h.0; closed = h.2.closed })
-  layout_cause (RefusedLong path) h = ((apart, inr h.0), subst (IsReadTooFar new.opened) (sym h.0) h.2, h.3 ∙ rules.got.absent)
+  layout_cause (RefusedAbsent path) h = ((apart, inr (inl h.0)), record { one = h.2.one ∙ ap (λ (n : ℕ). n + 1) rules.got.absent; last = h.2.last ∙ sym h.0; closed = h.2.closed })
+  layout_cause (RefusedLong path) h = ((apart, inr (inl h.0)), subst (IsReadTooFar new.opened) (sym h.0) h.2, h.3 ∙ rules.got.absent)
   layout_cause (RefusedLayout fault) h = ((apart, read_whole old new p.layout h.bytes new.opened h.got.opened (subst (IsInput h.bytes) same_file h.got.told)), h.got.absent ∙ rules.got.absent)
   layout_cause Outside h = tt
   layout_cause NoMemory h = tt
@@ -173,12 +224,13 @@ module _ (p : Paths) (old mid new : Store) (r : Rules) (apart : p.shared ≡ Non
   layout_cause RefusedWords h = absurd h
   layout_cause (RefusedSame path) h = absurd h
   layout_cause (RefusedRules fault) h = absurd h
+  layout_cause (RefusedSchematic fault) h = absurd h
   layout_cause Undecided h = absurd h
 
   layout_comes : (a : Answer) → NoLayout mid new p.layout p.top a → ComesOf (Some p) old a
-  layout_comes (RefusedAbsent path) h = λ done. on_layout (RefusedAbsent path) done (absent_layout (mid.file p.layout) r p (RefusedAbsent path) done h.1 (ap RefusedAbsent h.0))
-  layout_comes (RefusedLong path) h = λ done. on_layout (RefusedLong path) done (long_layout (mid.file p.layout) r p (RefusedLong path) done h.1 (ap RefusedLong h.0))
-  layout_comes (RefusedLayout fault) h = λ done. on_layout (RefusedLayout fault) done (layout_read (mid.file p.layout) r p (RefusedLayout fault) done h.bytes h.got.told (FaultyStream fault h.is refl))
+  layout_comes (RefusedAbsent path) h = λ done. on_layout (RefusedAbsent path) done (absent_layout (mid.file p.layout) old.file r p (RefusedAbsent path) done h.1 (ap RefusedAbsent h.0))
+  layout_comes (RefusedLong path) h = λ done. on_layout (RefusedLong path) done (long_layout (mid.file p.layout) old.file r p (RefusedLong path) done h.1 (ap RefusedLong h.0))
+  layout_comes (RefusedLayout fault) h = λ done. on_layout (RefusedLayout fault) done (layout_read (mid.file p.layout) old.file r p (RefusedLayout fault) done h.bytes h.got.told (FaultyStream fault h.is refl))
   layout_comes Outside h = tt
   layout_comes NoMemory h = tt
   layout_comes Good h = absurd h
@@ -186,6 +238,7 @@ module _ (p : Paths) (old mid new : Store) (r : Rules) (apart : p.shared ≡ Non
   layout_comes RefusedWords h = absurd h
   layout_comes (RefusedSame path) h = absurd h
   layout_comes (RefusedRules fault) h = absurd h
+  layout_comes (RefusedSchematic fault) h = absurd h
   layout_comes Undecided h = absurd h
 
 pub layout_stop : (p : Paths) (old mid new : Store) (r : Rules) (a : Answer) → p.shared ≡ None → Quiet old mid → ReadAs old mid p.rules (λ bytes. Means bytes r)
@@ -200,11 +253,16 @@ layout_stop p old mid new r a apart quiet rules h = record {
 pub memory_stop : (p : Paths) (old mid new : Store) (rules layout : List ℕ) → Got old mid p.rules rules → Got mid new p.layout layout → Stops (Some p) old new NoMemory
 memory_stop p old mid new rules layout a b = record { cause = tt; faults = b.faults ∙ a.faults; comes = tt }
 
+-- the rules and the layout were read, and what comes of them is the outcome
+comes_beside : (p : Paths) (old mid new : Store) (r : Rules) (l : Layout) (a : Answer) (done : Done) → p.shared ≡ None → Quiet old mid → ReadAs old mid p.rules (λ bytes. Means bytes r)
+    → ReadAs mid new p.layout (λ bytes. IsRead bytes p.top l) → OfBeside (schematic_path p.outputs) old.file p.outputs l r a done → IsOutcome (Some p) old.file a done
+comes_beside p old mid new r l a done apart quiet rules layout beside =
+    on_layout p old mid new r apart quiet rules a done (layout_read (mid.file p.layout) old.file r p a done layout.bytes layout.got.told (SoundStream l layout.is beside))
+
 -- what is written is the outcome
 pub outcome_made : (p : Paths) (old mid new : Store) (r : Rules) (l : Layout) (a : Answer) (done : Done) → p.shared ≡ None → Quiet old mid → ReadAs old mid p.rules (λ bytes. Means bytes r)
     → ReadAs mid new p.layout (λ bytes. IsRead bytes p.top l) → IsDone p.outputs l r a done → IsOutcome (Some p) old.file a done
-outcome_made p old mid new r l a done apart quiet rules layout made =
-    on_layout p old mid new r apart quiet rules a done (layout_read (mid.file p.layout) r p a done layout.bytes layout.got.told (SoundStream l layout.is made))
+outcome_made p old mid new r l a done apart quiet rules layout made = comes_beside p old mid new r l a done apart quiet rules layout (made_alone p.outputs old.file l r a done made)
 
 -- the answer that a command comes to where it writes its files is one of its own
 gates_end : (bad : List BadGate) (a : Answer) → a ≡ gates_answer bad → (a ≡ Good) ⊎ (a ≡ Bad)
@@ -214,10 +272,86 @@ gates_end (b ∷ bs) a e = inr e
 may_end : (o : Outputs) (l : Layout) (r : Rules) (a : Answer) (done : Done) → IsDone o l r a done → MayEnd o a
 may_end (ToShapes shapes) l r a done h = h.0
 may_end (ToNetlist shapes netlist) l r a done h = gates_end h.bad a h.answer
+may_end (ToReport schematic shapes netlist report) l r a done h = absurd h
 
 -- the cause behind an answer of a run that writes its files
+caused : (p : Paths) (old new : Store) (v : Verdict) → p.shared ≡ None → new.absent ≡ old.absent → MayEnd p.outputs (verdict_of v) → HasCauseIn (Some p) old new (verdict_of v)
+caused p old new verdict.Good apart absent h = ((apart, h), absent)
+caused p old new verdict.Bad apart absent h = ((apart, h), absent)
+caused p old new verdict.Undecided apart absent h = ((apart, h), absent)
+
 pub verdict_cause : (p : Paths) (old new : Store) (l : Layout) (r : Rules) (v : Verdict) (done : Done) → p.shared ≡ None → new.absent ≡ old.absent → IsDone p.outputs l r (verdict_of v) done
     → HasCauseIn (Some p) old new (verdict_of v)
-verdict_cause p old new l r verdict.Good done apart absent h = ((apart, may_end p.outputs l r Good done h), absent)
-verdict_cause p old new l r verdict.Bad done apart absent h = ((apart, may_end p.outputs l r Bad done h), absent)
-verdict_cause p old new l r verdict.Undecided done apart absent h = ((apart, may_end p.outputs l r Undecided done h), absent)
+verdict_cause p old new l r v done apart absent h = caused p old new v apart absent (may_end p.outputs l r (verdict_of v) done h)
+
+-- the rules and the layout were read, and the schematic comes next
+module _ (p : Paths) (old mid late new : Store) (r : Rules) (l : Layout) (path : List ℕ) (apart : p.shared ≡ None) (beside : schematic_path p.outputs ≡ Some path)
+    (quiet : Quiet old mid) (later : Quiet mid late) (rules : ReadAs old mid p.rules (λ bytes. Means bytes r)) (layout : ReadAs mid late p.layout (λ bytes. IsRead bytes p.top l)) where
+  told_so : late.file path ≡ old.file path
+  told_so = later.starts.files path ∙ quiet.starts.files path
+
+  absent_so : late.absent ≡ old.absent
+  absent_so = layout.got.absent ∙ rules.got.absent
+
+  on_schematic : (a : Answer) (done : Done) → OfSchematic (late.file path) path p.outputs l r a done → IsOutcome (Some p) old.file a done
+  on_schematic a done h =
+      comes_beside p old mid late r l a done apart quiet rules layout
+      (subst (λ (o : Option (List ℕ)). OfBeside o old.file p.outputs l r a done) (sym beside) (subst (λ (t : Told). OfSchematic t path p.outputs l r a done) told_so h))
+
+  schematic_cause : (a : Answer) → NoSchematic late new path a → HasCauseIn (Some p) old new a
+  schematic_cause (RefusedAbsent q) h = ((apart, inr (inr (beside ∙ ap (λ (x : List ℕ). Some x) (sym h.0)))), record { one = h.2.one ∙ ap (λ (n : ℕ). n + 1) absent_so; last = h.2.last ∙ sym h.0; closed = h.2.closed })
+  schematic_cause (RefusedLong q) h = ((apart, inr (inr (beside ∙ ap (λ (x : List ℕ). Some x) (sym h.0)))), subst (IsReadTooFar new.opened) (sym h.0) h.2, h.3 ∙ absent_so)
+  schematic_cause (RefusedSchematic fault) h = ((apart, (path, beside, read_whole old new path h.bytes new.opened h.got.opened (subst (IsInput h.bytes) told_so h.got.told))), h.got.absent ∙ absent_so)
+  schematic_cause Outside h = tt
+  schematic_cause NoMemory h = tt
+  schematic_cause Good h = absurd h
+  schematic_cause Bad h = absurd h
+  schematic_cause RefusedWords h = absurd h
+  schematic_cause (RefusedSame q) h = absurd h
+  schematic_cause (RefusedRules fault) h = absurd h
+  schematic_cause (RefusedLayout fault) h = absurd h
+  schematic_cause Undecided h = absurd h
+
+  schematic_comes : (a : Answer) → NoSchematic late new path a → ComesOf (Some p) old a
+  schematic_comes (RefusedAbsent q) h = λ done. on_schematic (RefusedAbsent q) done (absent_schematic (late.file path) path p.outputs l r (RefusedAbsent q) done h.1 (ap RefusedAbsent h.0))
+  schematic_comes (RefusedLong q) h = λ done. on_schematic (RefusedLong q) done (long_schematic (late.file path) path p.outputs l r (RefusedLong q) done h.1 (ap RefusedLong h.0))
+  schematic_comes (RefusedSchematic fault) h = λ done. on_schematic (RefusedSchematic fault) done (schematic_read (late.file path) path p.outputs l r (RefusedSchematic fault) done h.bytes h.got.told (FaultyCards fault h.is refl))
+  schematic_comes Outside h = tt
+  schematic_comes NoMemory h = tt
+  schematic_comes Good h = absurd h
+  schematic_comes Bad h = absurd h
+  schematic_comes RefusedWords h = absurd h
+  schematic_comes (RefusedSame q) h = absurd h
+  schematic_comes (RefusedRules fault) h = absurd h
+  schematic_comes (RefusedLayout fault) h = absurd h
+  schematic_comes Undecided h = absurd h
+
+pub schematic_stop : (p : Paths) (old mid late new : Store) (r : Rules) (l : Layout) (path : List ℕ) (a : Answer) → p.shared ≡ None → schematic_path p.outputs ≡ Some path → Quiet old mid → Quiet mid late
+    → ReadAs old mid p.rules (λ bytes. Means bytes r) → ReadAs mid late p.layout (λ bytes. IsRead bytes p.top l) → RefusesSchematic late new path a → Stops (Some p) old new a
+schematic_stop p old mid late new r l path a apart beside quiet later rules layout h = record {
+  cause = schematic_cause p old mid late new r l path apart beside quiet later rules layout a h.why;
+  faults = faults_since old late new a (layout.got.faults ∙ rules.got.faults) h.faults;
+  comes = schematic_comes p old mid late new r l path apart beside quiet later rules layout a h.why;
+}
+
+-- what is written of the comparison is the outcome
+pub outcome_beside : (p : Paths) (old mid late new : Store) (r : Rules) (l : Layout) (nl : Netlist) (path : List ℕ) (a : Answer) (done : Done) → p.shared ≡ None → schematic_path p.outputs ≡ Some path
+    → Quiet old mid → Quiet mid late → ReadAs old mid p.rules (λ bytes. Means bytes r) → ReadAs mid late p.layout (λ bytes. IsRead bytes p.top l)
+    → ReadAs late new path (λ bytes. SpiceMeans read_limit bytes nl) → IsDoneBeside p.outputs l r nl a done → IsOutcome (Some p) old.file a done
+outcome_beside p old mid late new r l nl path a done apart beside quiet later rules layout schematic made =
+    on_schematic p old mid late new r l path apart beside quiet later rules layout a done
+    (schematic_read (late.file path) path p.outputs l r a done schematic.bytes schematic.got.told (SoundCards nl schematic.is made))
+
+comparison_end : (v : Comparison) → IsVerdict (comparison_answer v)
+comparison_end comparison.Match = tt
+comparison_end comparison.Mismatch = tt
+comparison_end comparison.Undecided = tt
+
+may_end_beside : (o : Outputs) (l : Layout) (r : Rules) (nl : Netlist) (a : Answer) (done : Done) → IsDoneBeside o l r nl a done → MayEnd o a
+may_end_beside (ToReport schematic shapes netlist report) l r nl a done h = subst IsVerdict (sym h.answer) (comparison_end h.verdict)
+may_end_beside (ToShapes shapes) l r nl a done h = absurd h
+may_end_beside (ToNetlist shapes netlist) l r nl a done h = absurd h
+
+pub verdict_cause_beside : (p : Paths) (old new : Store) (l : Layout) (r : Rules) (nl : Netlist) (v : Verdict) (done : Done) → p.shared ≡ None → new.absent ≡ old.absent
+    → IsDoneBeside p.outputs l r nl (verdict_of v) done → HasCauseIn (Some p) old new (verdict_of v)
+verdict_cause_beside p old new l r nl v done apart absent h = caused p old new v apart absent (may_end_beside p.outputs l r nl (verdict_of v) done h)

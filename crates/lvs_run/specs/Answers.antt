@@ -6,6 +6,10 @@ use Rattle.rule_text.specs.declared.fault.RuleFault.{RuleFault}
 use Rattle.rule_text.specs.declared.fault.RuleFault.TheVariants as rule
 use Rattle.lvs_files.specs.Files.{File}
 use Rattle.shapes_file.specs.declared.file.Shapes.{Shapes}
+use Rattle.spice_rows.specs.declared.fault.SpiceFault.{SpiceFault}
+use Rattle.spice_rows.specs.declared.fault.SpiceFault.TheVariants as spice
+use Rattle.pair_jobs.specs.declared.verdict.Verdict.{Verdict as Comparison}
+use Rattle.pair_jobs.specs.declared.verdict.Verdict.TheVariants as comparison
 use Rattle.lvs_run.specs.Words.{file_at}
 use Rattle.lvs_run.specs.declared.output.Verdict.{Verdict}
 use Rattle.lvs_run.specs.declared.output.Verdict.TheVariants as verdict
@@ -13,13 +17,14 @@ use Rattle.lvs_run.specs.declared.status.Status.{Status}
 use Rattle.lvs_run.specs.declared.status.Status.TheVariants as status
 use Rattle.lvs_run.specs.declared.status.Refusal.{Refusal}
 use Rattle.lvs_run.specs.declared.status.Refusal.TheVariants.{Words, SamePath, Absent, TooLong}
-use Rattle.lvs_run.specs.declared.status.Refusal.TheVariants.{Rules, Layout}
+use Rattle.lvs_run.specs.declared.status.Refusal.TheVariants.{Rules, Layout, Schematic}
 
 -- what the summary line counts: of `shapes` the cells and the rectangles of the shapes file, of
--- `extract` these cells, the netlist's circuits and the bad gates
+-- `extract` these cells, the netlist's circuits and the bad gates, of `run` the compared pairs too
 pub data Counts : Type 0 where
   Layers : (cells rectangles : ℕ) → Counts
   Extracted : (cells circuits bad : ℕ) → Counts
+  Compared : (cells circuits pairs bad : ℕ) → Counts
 
 -- what is written, in this order, and what is counted
 pub record Done : Type 0 where
@@ -46,6 +51,13 @@ extracted path text netlist spelled counts = record {
   counts = counts;
 }
 
+-- of `run`: the shapes file, the netlist's, the report, and what is counted
+abbrev pub compared : (path text netlist spelled report told : List ℕ) → Counts → Done
+compared path text netlist spelled report told counts = record {
+  files = file_at path text ∷ file_at netlist spelled ∷ file_at report told ∷ [];
+  counts = counts;
+}
+
 -- an answer, with the bytes of its path or with the fault of its file
 pub data Answer : Type 0 where
   Good : Answer
@@ -56,11 +68,12 @@ pub data Answer : Type 0 where
   RefusedLong : (path : List ℕ) → Answer
   RefusedRules : (fault : RuleFault) → Answer
   RefusedLayout : (fault : LayoutFault) → Answer
+  RefusedSchematic : (fault : SpiceFault) → Answer
   Undecided : Answer
   Outside : Answer
   NoMemory : Answer
 
--- of a fault of the layout or of the rules; one for want of memory is that
+-- of a fault of the layout, of the rules or of the schematic; one for want of memory is that
 abbrev pub refused_layout : LayoutFault → Answer
 refused_layout layout.NoMemory = NoMemory
 refused_layout fault = RefusedLayout fault
@@ -69,6 +82,10 @@ abbrev pub refused_rules : RuleFault → Answer
 refused_rules rule.NoMemory = NoMemory
 refused_rules fault = RefusedRules fault
 
+abbrev pub refused_schematic : SpiceFault → Answer
+refused_schematic spice.NoMemory = NoMemory
+refused_schematic fault = RefusedSchematic fault
+
 abbrev pub refused : Refusal → Answer
 refused Words = RefusedWords
 refused (SamePath path) = RefusedSame (string_bytes path)
@@ -76,12 +93,19 @@ refused (Absent path) = RefusedAbsent (string_bytes path)
 refused (TooLong path) = RefusedLong (string_bytes path)
 refused (Rules fault) = RefusedRules fault
 refused (Layout fault) = RefusedLayout fault
+refused (Schematic fault) = RefusedSchematic fault
 
 -- of a run that writes its files
 abbrev pub verdict_of : Verdict → Answer
 verdict_of verdict.Good = Good
 verdict_of verdict.Bad = Bad
 verdict_of verdict.Undecided = Undecided
+
+-- of a comparison
+abbrev pub comparison_answer : Comparison → Answer
+comparison_answer comparison.Match = Good
+comparison_answer comparison.Mismatch = Bad
+comparison_answer comparison.Undecided = Undecided
 
 -- the answer of a run that writes its files
 abbrev pub IsVerdict : Answer → Type 0

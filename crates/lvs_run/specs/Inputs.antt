@@ -4,16 +4,21 @@ use Rattle.lvs_outside.specs.Store.{Store, Told, Untold, NoFile, Holds, IsAbsent
 use Rattle.lvs_outside.specs.Store.{Reading}
 use Rattle.lvs_outside.specs.Loops.{limit}
 use Rattle.gds_layout.specs.declared.layout.Layout.{Layout}
+use Rattle.plain_netlist.specs.Netlist.{Netlist}
 use Rattle.rule_text.specs.Rules.{Rules}
+use Rattle.spice_rows.specs.Sizes.{read_limit}
+use Rattle.spice_text.specs.Means.{Means as SpiceMeans}
 use Rattle.rule_text.specs.Reading.{IsFirstFault as IsFirstRuleFault}
 use Rattle.lvs_run.specs.Words.{Outputs, Paths, ForNetlist, shapes_path}
 use Rattle.lvs_files.specs.Files.{AreApart, files_of}
-use Rattle.lvs_run.specs.Answers.{Done, Answer, RefusedAbsent, RefusedLong, RefusedRules}
-use Rattle.lvs_run.specs.Answers.{RefusedLayout, Outside, NoMemory, refused, verdict_of}
+use Rattle.lvs_run.specs.Answers.{Done, Answer, Good, RefusedAbsent, RefusedLong, RefusedRules}
+use Rattle.lvs_run.specs.Answers.{RefusedLayout, RefusedSchematic, Outside, NoMemory, refused}
+use Rattle.lvs_run.specs.Answers.{verdict_of}
 use Rattle.lvs_run.specs.Runs.{IsReadTooFar, WasAbsent, StartsNone, HasCauseIn}
 use Rattle.lvs_run.specs.Lines.{line_of}
-use Rattle.lvs_run.specs.Outcomes.{IsOutcome, IsDone, IsFirstLayoutFault}
-use Rattle.lvs_run.specs.Flat.{IsFlatNetlist, IsFlatText, ListsAs}
+use Rattle.lvs_run.specs.Outcomes.{IsOutcome, IsDone, IsDoneBeside, IsFirstLayoutFault}
+use Rattle.lvs_run.specs.Outcomes.{IsFirstSchematicFault}
+use Rattle.lvs_run.specs.Flat.{IsFlatNetlist, IsFlatText, ListsAs, MatchesSchematic}
 use Rattle.lvs_run.specs.declared.input.Stop.{Stop}
 use Rattle.lvs_run.specs.declared.input.Stop.TheVariants as stop
 use Rattle.lvs_run.specs.declared.output.Output.{Output}
@@ -102,6 +107,16 @@ pub record RefusesLayout (old new : Store) (path : List ℕ) (top : Option (List
   pub why : NoLayout old new path top a
   pub faults : DepotFaults a old new
 
+-- why the schematic's file gave no netlist
+abbrev pub NoSchematic : Store → Store → List ℕ → Answer → Type 0
+NoSchematic old new path (RefusedSchematic fault) = ReadAs old new path
+    (λ bytes. IsFirstSchematicFault bytes fault)
+NoSchematic old new path a = NotGot old new path a
+
+pub record RefusesSchematic (old new : Store) (path : List ℕ) (a : Answer) : Type 0 where
+  pub why : NoSchematic old new path a
+  pub faults : DepotFaults a old new
+
 -- what there is to write by the command with these outputs, of a layout and rules
 pub record IsOutput (outputs : Outputs) (l : Layout) (r : Rules) (o : Output) : Type 0 where
   pub done : Done
@@ -109,6 +124,22 @@ pub record IsOutput (outputs : Outputs) (l : Layout) (r : Rules) (o : Output) : 
   pub apart : AreApart done.files
   pub is : IsDone outputs l r (verdict_of o.verdict) done
   pub line : o.line.items ≡ line_of (verdict_of o.verdict) done
+
+-- what there is to write by the command with these outputs, of a layout, rules and a schematic
+pub record IsOutputBeside (outputs : Outputs) (l : Layout) (r : Rules) (nl : Netlist)
+    (o : Output) : Type 0 where
+  pub done : Done
+  pub files : files_of o.files.items ≡ done.files
+  pub apart : AreApart done.files
+  pub is : IsDoneBeside outputs l r nl (verdict_of o.verdict) done
+  pub line : o.line.items ≡ line_of (verdict_of o.verdict) done
+
+-- a schematic was read, and there is this to write of the comparison with it
+pub record IsBeside (outputs : Outputs) (l : Layout) (r : Rules) (old new : Store)
+    (path : List ℕ) (o : Output) : Type 0 where
+  pub netlist : Netlist
+  pub read : ReadAs old new path (λ bytes. SpiceMeans read_limit bytes netlist)
+  pub output : IsOutputBeside outputs l r netlist o
 
 -- the outcome of the told files, of an answer that comes of them
 abbrev pub ComesOf : Option Paths → Store → Answer → Type 0
@@ -137,3 +168,4 @@ pub record IsReady (said : Option Paths) (old new : Store) (o : Output) : Type 0
   pub flat : ListsAs done.files (shapes_path paths.outputs) (IsFlatText old.file paths)
   pub netlist : ForNetlist paths.outputs
       (λ path. ListsAs done.files path (IsFlatNetlist old.file paths (verdict_of o.verdict)))
+  pub matched : verdict_of o.verdict ≡ Good → MatchesSchematic old.file paths

@@ -1,7 +1,7 @@
 -- The outcome is a function of the words and the told files.
-use Rattle.std.specs.Prelude.{◌≡◌, ℕ, List, Option, Some, None}
+use Rattle.std.specs.Prelude.{◌≡◌, ℕ, List, Option, Some, None, IfSome}
 use Rattle.lvs_outside.specs.Store.{Told, Untold, NoFile, Holds}
-use Rattle.lvs_run.specs.Words.{Paths}
+use Rattle.lvs_run.specs.Words.{Paths, schematic_path}
 use Rattle.lvs_run.specs.Answers.{Done, Answer, IsVerdict}
 use Rattle.lvs_run.specs.Outcomes.{IsOutcome}
 
@@ -14,7 +14,8 @@ IsTold (Holds bytes) = Unit {0}
 -- the inputs of the command are told
 abbrev pub AreInputsTold : Option Paths → (List ℕ → Told) → Type 0
 AreInputsTold None file = Unit {0}
-AreInputsTold (Some p) file = IsTold (file p.rules) × IsTold (file p.layout)
+AreInputsTold (Some p) file = IsTold (file p.rules) × (IsTold (file p.layout)
+    × IfSome (schematic_path p.outputs) (λ path. IsTold (file path)))
 
 -- the answers are one, and where files are written, so is what is written
 pub record IsSameOutcome (a b : Answer) (x y : Done) : Type 0 where

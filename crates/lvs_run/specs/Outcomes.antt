@@ -9,14 +9,23 @@ use Rattle.gds_layout.specs.Layouts.{IsRead, IsFaultOf}
 use Rattle.rule_text.specs.declared.fault.RuleFault.{RuleFault}
 use Rattle.rule_text.specs.Rules.{Rules}
 use Rattle.rule_text.specs.Reading.{Means, IsFirstFault}
+use Rattle.rule_text.specs.Sound.{IsSound}
 use Rattle.shapes_file.specs.File.{IsShapesFile}
 use Rattle.netlist_file.specs.File.{IsNetlistFile}
 use Rattle.deep_tables.specs.declared.gates.BadGate.{BadGate}
 use Rattle.plain_netlist.specs.Netlist.{Netlist}
-use Rattle.lvs_run.specs.Words.{Outputs, Paths, ToShapes, ToNetlist}
-use Rattle.lvs_run.specs.Answers.{Done, Extracted, drawn, extracted, Answer, Good, Bad}
+use Rattle.net_align.specs.Compared.{AreCalleesFirst, IsAlignable}
+use Rattle.pair_jobs.specs.declared.verdict.Verdict.{Verdict}
+use Rattle.report_file.specs.File.{IsReportFile}
+use Rattle.spice_rows.specs.Sizes.{read_limit}
+use Rattle.spice_rows.specs.declared.fault.SpiceFault.{SpiceFault}
+use Rattle.spice_rows.specs.declared.fault.SpiceFault.TheVariants as spice
+use Rattle.spice_text.specs.Means.{Means as SpiceMeans, IsFirstFault as IsFirstSpiceFault}
+use Rattle.lvs_run.specs.Words.{Outputs, Paths, ToShapes, ToNetlist, ToReport, schematic_path}
+use Rattle.lvs_run.specs.Answers.{Done, Extracted, Compared, drawn, extracted, compared}
+use Rattle.lvs_run.specs.Answers.{Answer, Good, Bad, comparison_answer}
 use Rattle.lvs_run.specs.Answers.{RefusedWords, RefusedSame, RefusedAbsent, RefusedLong}
-use Rattle.lvs_run.specs.Answers.{RefusedRules, RefusedLayout}
+use Rattle.lvs_run.specs.Answers.{RefusedRules, RefusedLayout, RefusedSchematic}
 
 -- the words state a command of these paths, and no file that it writes is named twice
 pub record Runs (said : Option Paths) (p : Paths) : Type 0 where
@@ -84,10 +93,58 @@ pub record IsExtracted (l : Layout) (r : Rules) (path netlist_path : List ℕ) (
 abbrev pub IsDone : Outputs → Layout → Rules → Answer → Done → Type 0
 IsDone (ToShapes shapes) l r a done = (a ≡ Good) × IsDrawn l r shapes done
 IsDone (ToNetlist shapes netlist) l r a done = IsExtracted l r shapes netlist a done
+IsDone (ToReport schematic shapes netlist report) l r a done = ⊥
 
--- The answer, and what is written where nothing is refused. The words are looked at first, then the paths, the
--- rule file and the layout, and the first of them that is refused gives the answer. Nothing is said
--- where a file that comes next isn't told.
+-- what a layout's netlist and a schematic must be to be compared by the rules
+pub record AreComparable (r : Rules) (one other : Netlist) : Type 0 where
+  pub rules : IsSound r
+  pub layout : IsAlignable one
+  pub order : AreCalleesFirst one
+  pub schematic : IsAlignable other
+
+-- what is written is the shapes file and the netlist's file of the layout by the rules, and the
+-- report on the netlist's comparison with a schematic, with the numbers of cells, circuits, pairs
+-- and bad gates, and the answer is that of the comparison
+pub record IsCompared (l : Layout) (r : Rules) (schematic : Netlist)
+    (path netlist_path report_path : List ℕ) (a : Answer) (done : Done) : Type 0 where
+  pub text : List ℕ
+  pub cells : ℕ
+  pub rectangles : ℕ
+  pub file : IsShapesFile l r text cells rectangles
+  pub netlist : Netlist
+  pub top : ℕ
+  pub bad : List BadGate
+  pub spelled : List ℕ
+  pub netlist_file : IsNetlistFile l r netlist top bad spelled
+  pub report : List ℕ
+  pub pairs : ℕ
+  pub verdict : Verdict
+  pub comparable : AreComparable r netlist schematic
+  pub report_file : IsReportFile l.design r netlist top bad schematic report pairs verdict
+  pub answer : a ≡ comparison_answer verdict
+  pub whole : done ≡ compared path text netlist_path spelled report_path report
+      (Compared cells (length netlist.circuits) pairs (length bad))
+
+-- the same of a command that compares with a schematic
+abbrev pub IsDoneBeside : Outputs → Layout → Rules → Netlist → Answer → Done → Type 0
+IsDoneBeside (ToReport schematic shapes netlist report) l r nl a done =
+    IsCompared l r nl shapes netlist report a done
+IsDoneBeside _ l r nl a done = ⊥
+
+-- the first fault of a schematic's bytes, whose sizes are limited; no want of memory
+abbrev pub IsFirstSchematicFault : List ℕ → SpiceFault → Type 0
+IsFirstSchematicFault bytes spice.NoMemory = ⊥
+IsFirstSchematicFault bytes fault = IsFirstSpiceFault read_limit bytes fault
+
+-- the layout is read, and the command reads a schematic of this path too
+pub record Compares (said : Option Paths) (file : List ℕ → Told) (p : Paths) (r : Rules)
+    (l : Layout) (path : List ℕ) : Type 0 where
+  pub reads : ReadsLayout said file p r l
+  pub beside : schematic_path p.outputs ≡ Some path
+
+-- The answer, and what is written where nothing is refused. The words are looked at first, then the
+-- paths, the rule file, the layout and the schematic, and the first of them that is refused gives
+-- the answer. Nothing is said where a file that comes next isn't told.
 pub data IsOutcome (said : Option Paths) (file : List ℕ → Told) (a : Answer) (done : Done) :
     Type 0 where
   WrongWords : said ≡ None → a ≡ RefusedWords → IsOutcome said file a done
@@ -110,6 +167,20 @@ pub data IsOutcome (said : Option Paths) (file : List ℕ → Told) (a : Answer)
       → IsFirstLayoutFault bytes p.top fault → a ≡ RefusedLayout fault → IsOutcome said file a done
   Made : (p : Paths) (r : Rules) (l : Layout) → ReadsLayout said file p r l
       → IsDone p.outputs l r a done → IsOutcome said file a done
+  NoSchematic : (p : Paths) (r : Rules) (l : Layout) (path : List ℕ) → Compares said file p r l path
+      → file path ≡ NoFile → a ≡ RefusedAbsent path → IsOutcome said file a done
+  LongSchematic : (p : Paths) (r : Rules) (l : Layout) (path bytes : List ℕ)
+      → Compares said file p r l path → file path ≡ Holds bytes → limit < length bytes
+      → a ≡ RefusedLong path → IsOutcome said file a done
+  BadSchematic : (p : Paths) (r : Rules) (l : Layout) (path bytes : List ℕ) (fault : SpiceFault)
+      → Compares said file p r l path → HasFile file path bytes
+      → IsFirstSchematicFault bytes fault → a ≡ RefusedSchematic fault
+      → IsOutcome said file a done
+  MadeBeside : (p : Paths) (r : Rules) (l : Layout) (path bytes : List ℕ) (nl : Netlist)
+      → Compares said file p r l path → HasFile file path bytes → SpiceMeans read_limit bytes nl
+      → IsDoneBeside p.outputs l r nl a done → IsOutcome said file a done
   UntoldRules : (p : Paths) → Runs said p → file p.rules ≡ Untold → IsOutcome said file a done
   UntoldLayout : (p : Paths) (r : Rules) → ReadsRules said file p r → file p.layout ≡ Untold
       → IsOutcome said file a done
+  UntoldSchematic : (p : Paths) (r : Rules) (l : Layout) (path : List ℕ)
+      → Compares said file p r l path → file path ≡ Untold → IsOutcome said file a done

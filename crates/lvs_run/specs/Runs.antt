@@ -4,11 +4,12 @@ use Rattle.lvs_outside.specs.Store.{Store, Told, Untold, NoFile, Holds, Open, Cl
 use Rattle.lvs_outside.specs.Store.{Writing, SameFiles, appended}
 use Rattle.lvs_outside.specs.Summary.{SinkState}
 use Rattle.lvs_outside.specs.Loops.{limit}
-use Rattle.lvs_run.specs.Words.{Outputs, Paths, ToShapes, ToNetlist, IsSame}
+use Rattle.lvs_run.specs.Words.{Outputs, Paths, ToShapes, ToNetlist, ToReport}
+use Rattle.lvs_run.specs.Words.{IsSame, schematic_path}
 use Rattle.lvs_files.specs.Files.{File, AreWritten}
 use Rattle.lvs_run.specs.Answers.{Done, Answer, Good, Bad, RefusedWords, RefusedSame}
 use Rattle.lvs_run.specs.Answers.{RefusedAbsent, RefusedLong, RefusedRules, RefusedLayout}
-use Rattle.lvs_run.specs.Answers.{Undecided, Outside, NoMemory}
+use Rattle.lvs_run.specs.Answers.{RefusedSchematic, Undecided, Outside, NoMemory, IsVerdict}
 use Rattle.lvs_run.specs.Lines.{line_of}
 
 -- faults of the depot and of the sink, an empty take being one
@@ -33,10 +34,11 @@ ShowsFaults Outside old new before after = HaveRisen old new before after
 ShowsFaults a old new before after = HaveStood old new before after
 
 -- a command with these outputs may end with this answer where it writes them: `shapes` with Good,
--- `extract` with Good or Bad
+-- `extract` with Good or Bad, `run` with each of the three
 abbrev pub MayEnd : Outputs → Answer → Type 0
 MayEnd (ToShapes shapes) a = a ≡ Good
 MayEnd (ToNetlist shapes netlist) a = (a ≡ Good) ⊎ (a ≡ Bad)
+MayEnd (ToReport schematic shapes netlist report) a = IsVerdict a
 
 -- the words state such a command, and no file that it writes is named twice
 abbrev pub EndsWith : Option Paths → Answer → Type 0
@@ -46,7 +48,8 @@ EndsWith (Some p) a = (p.shared ≡ None) × MayEnd p.outputs a
 -- the path is an input of the command
 abbrev pub IsInputPath : Option Paths → List ℕ → Type 0
 IsInputPath None path = ⊥
-IsInputPath (Some p) path = (p.shared ≡ None) × ((path ≡ p.rules) ⊎ (path ≡ p.layout))
+IsInputPath (Some p) path = (p.shared ≡ None) × ((path ≡ p.rules) ⊎ ((path ≡ p.layout)
+    ⊎ (schematic_path p.outputs ≡ Some path)))
 
 -- the path stands open, with more bytes read than are taken
 abbrev pub IsReadTooFar : Open → List ℕ → Type 0
@@ -66,7 +69,7 @@ IsReadWhole Closed s path = ⊥
 IsReadWhole (Reading p n) s path = (p ≡ path) × HasLength (s.file path) n
 IsReadWhole (Writing p n) s path = ⊥
 
--- the command's rules, or its layout, were read to their end
+-- the command's rules, its layout or its schematic were read to their end
 abbrev pub AreRulesRead : Option Paths → Store → Store → Type 0
 AreRulesRead None old new = ⊥
 AreRulesRead (Some p) old new = (p.shared ≡ None) × IsReadWhole new.opened old p.rules
@@ -74,6 +77,11 @@ AreRulesRead (Some p) old new = (p.shared ≡ None) × IsReadWhole new.opened ol
 abbrev pub IsLayoutRead : Option Paths → Store → Store → Type 0
 IsLayoutRead None old new = ⊥
 IsLayoutRead (Some p) old new = (p.shared ≡ None) × IsReadWhole new.opened old p.layout
+
+abbrev pub IsSchematicRead : Option Paths → Store → Store → Type 0
+IsSchematicRead None old new = ⊥
+IsSchematicRead (Some p) old new = (p.shared ≡ None) × ((path : List ℕ)
+    × (schematic_path p.outputs ≡ Some path) × IsReadWhole new.opened old path)
 
 -- there was one absent answer, for this path, and nothing was opened after it
 pub record WasAbsent (old new : Store) (path : List ℕ) : Type 0 where
@@ -92,6 +100,8 @@ HasCauseIn said old new (RefusedLong path) = IsInputPath said path × IsReadTooF
     × (new.absent ≡ old.absent)
 HasCauseIn said old new (RefusedRules fault) = AreRulesRead said old new × (new.absent ≡ old.absent)
 HasCauseIn said old new (RefusedLayout fault) = IsLayoutRead said old new
+    × (new.absent ≡ old.absent)
+HasCauseIn said old new (RefusedSchematic fault) = IsSchematicRead said old new
     × (new.absent ≡ old.absent)
 HasCauseIn said old new Undecided = EndsWith said Undecided
     × (new.absent ≡ old.absent)

@@ -1,4 +1,4 @@
--- What is run of what the words after the program's name state: `shapes` and `extract`.
+-- What is run of what the words after the program's name state: `shapes`, `extract` and `run`.
 use Rattle.std.specs.Prelude.{◌≡◌, ◌≢◌, ◌≤◌, ℕ, List, [], ◌∷◌, Option, Some, None, string_bytes}
 use Rattle.std.specs.Option.{option_and_then, option_map}
 use Rattle.lvs_files.specs.Files.{File}
@@ -6,12 +6,17 @@ use Rattle.lvs_words.specs.Commands.{Asked, Shapes, Extract, Run, Said}
 use Rattle.lvs_words.specs.Commands.{said as stated_by}
 use Rattle.lvs_run.specs.declared.words.Outputs.{Outputs as Code}
 use Rattle.lvs_run.specs.declared.words.Outputs.TheVariants as code
+use Rattle.lvs_run.specs.declared.words.LayoutOutputs.{LayoutOutputs}
+use Rattle.lvs_run.specs.declared.words.LayoutOutputs.TheVariants as layout
+use Rattle.lvs_run.specs.declared.words.ReportPaths.{ReportPaths}
 use Rattle.lvs_run.specs.declared.words.Task.{Task}
 
--- the files that a command that is built writes: the shapes file, and of `extract` the netlist's
+-- the files that a command that is built writes: the shapes file, of `extract` and `run` the
+-- netlist's, of `run` the report on the comparison with a schematic
 pub data Outputs : Type 0 where
   ToShapes : (shapes : List ℕ) → Outputs
   ToNetlist : (shapes netlist : List ℕ) → Outputs
+  ToReport : (schematic shapes netlist report : List ℕ) → Outputs
 
 -- the files of a command, the name of the top where the words give one, and the path of a file that
 -- is written and named twice
@@ -54,6 +59,13 @@ built (Extract layout rules shapes netlist top workers) shared = Some (record {
   outputs = ToNetlist shapes netlist;
   shared = shared;
 })
+built (Run layout rules schematic shapes netlist report top workers) shared = Some (record {
+  layout = layout;
+  rules = rules;
+  top = top;
+  outputs = ToReport schematic shapes netlist report;
+  shared = shared;
+})
 built asked shared = None
 
 abbrev pub built_of : Said → Option Paths
@@ -72,11 +84,19 @@ IsSame (Some p) path = p.shared ≡ Some path
 abbrev pub shapes_path : Outputs → List ℕ
 shapes_path (ToShapes shapes) = shapes
 shapes_path (ToNetlist shapes netlist) = shapes
+shapes_path (ToReport schematic shapes netlist report) = shapes
+
+-- the path of the schematic, where the command reads one
+abbrev pub schematic_path : Outputs → Option (List ℕ)
+schematic_path (ToShapes shapes) = None
+schematic_path (ToNetlist shapes netlist) = None
+schematic_path (ToReport schematic shapes netlist report) = Some schematic
 
 -- a fact of the path of the netlist's file, where the command writes one
 abbrev pub ForNetlist : Outputs → (List ℕ → Type 0) → Type 0
 ForNetlist (ToShapes shapes) P = Unit {0}
 ForNetlist (ToNetlist shapes netlist) P = P netlist
+ForNetlist (ToReport schematic shapes netlist report) P = P netlist
 
 abbrev pub file_at : (path text : List ℕ) → File
 file_at path text = record { path = path; text = text }
@@ -85,12 +105,22 @@ file_at path text = record { path = path; text = text }
 abbrev pub blank_files : Outputs → List File
 blank_files (ToShapes shapes) = file_at shapes [] ∷ []
 blank_files (ToNetlist shapes netlist) = file_at shapes [] ∷ file_at netlist [] ∷ []
+blank_files (ToReport schematic shapes netlist report) =
+    file_at shapes [] ∷ file_at netlist [] ∷ file_at report [] ∷ []
 
 -- what the code keeps of a command
-abbrev pub outputs_of : Code → Outputs
-outputs_of (code.Shapes shapes) = ToShapes (string_bytes shapes)
-outputs_of (code.Netlist shapes netlist) =
+abbrev pub report_outputs : List ℕ → ReportPaths → Outputs
+report_outputs schematic p = ToReport schematic (string_bytes p.shapes) (string_bytes p.netlist)
+    (string_bytes p.report)
+
+abbrev pub layout_outputs : LayoutOutputs → Outputs
+layout_outputs (layout.Shapes shapes) = ToShapes (string_bytes shapes)
+layout_outputs (layout.Netlist shapes netlist) =
     ToNetlist (string_bytes shapes) (string_bytes netlist)
+
+abbrev pub outputs_of : Code → Outputs
+outputs_of (code.Layout outputs) = layout_outputs outputs
+outputs_of (code.Report schematic paths) = report_outputs (string_bytes schematic) paths
 
 abbrev pub paths_of : Task → Paths
 paths_of t = record {

@@ -1,22 +1,28 @@
-// What a command has to write of its rules and its layout.
+// What a command has to write of what it has read.
 ghost use Rattle.std.specs.Prelude.{◌≡◌, ◌≢◌, ◌≤◌, ◌++◌, ◌∷◌, [], ℕ, List, Option, string_bytes};
 ghost use Rattle.std.specs.Prelude.{IfOk, OnOk};
 ghost use Rattle.gds_layout.specs.Layouts.{IsRead};
 ghost use Rattle.lvs_files.specs.Files.{AreApart, files_of};
-ghost use Rattle.lvs_run.specs.Inputs.{IsOutput};
-ghost use Rattle.lvs_run.specs.Answers.{verdict_of};
+ghost use Rattle.lvs_run.specs.Inputs.{IsOutput, IsOutputBeside};
+ghost use Rattle.net_align.specs.Compared.{IsAlignable};
+ghost use Rattle.net_model.specs.Rows.{plain_netlist};
+ghost use Rattle.lvs_run.specs.Answers.{comparison_answer, verdict_of};
 ghost use Rattle.lvs_run.specs.Outcomes.{gates_answer};
-ghost use Rattle.lvs_run.specs.Words.{ToNetlist, ToShapes, blank_files, file_at, outputs_of};
+ghost use Rattle.lvs_run.specs.Words.{ToNetlist, ToShapes, blank_files, file_at};
+ghost use Rattle.lvs_run.specs.Words.{layout_outputs, report_outputs};
 ghost use Rattle.rule_text.specs.Seen.{rules_seen};
 ghost use Rattle.rule_text.specs.Sound.{IsSound};
 
 use crate::output::{Output, Verdict};
-use crate::summary::{extracted_line, layers_line};
-use crate::words::Outputs;
+use crate::summary::{compared_line, extracted_line, layers_line};
+use crate::words::{LayoutOutputs, ReportPaths};
 use deep_tables::BadGate;
 use gds_layout::Layout;
 use lvs_files::Written;
-use netlist_file::extract_files;
+use net_model::Netlist;
+use netlist_file::{extract_files, flat_netlist};
+use pair_jobs::Verdict as Comparison;
+use report_file::{extracted_alignable, report_file};
 use rule_text::RuleSet;
 use shapes_file::shapes_file;
 use std::alloc::{AllocError, Global};
@@ -88,6 +94,63 @@ fn netlist_output<R: Threads + Wait + Sync>(
     })
 }
 
+/// What `run` has to write.
+pub fn report_output<R: Threads + Wait + Sync>(
+    rt: &R,
+    alloc: Global,
+    layout: &Layout,
+    rules: &RuleSet,
+    schematic: &Netlist,
+    workers: usize,
+    paths: ReportPaths,
+) -> Result<Output, AllocError>
+    requires workers { (1 ≤ workers) × (workers ≤ 64) }
+    requires read { (bytes : List ℕ) × (top : Option (List ℕ)) × IsRead bytes top layout.now }
+    requires rules { IsSound (rules_seen rules.now) }
+    requires schematic { IsAlignable (plain_netlist schematic.now) }
+    requires apart { (path : List ℕ) → AreApart (blank_files (report_outputs path paths)) }
+    ensures { (path : List ℕ) → IfOk result (IsOutputBeside (report_outputs path paths) layout.now
+        (rules_seen rules.now) (plain_netlist schematic.now)) }
+{
+    extracted_alignable();
+    flat_netlist();
+    let found = extract_files(rt, alloc, layout, rules, workers)?;
+    let bad = found.bad.as_slice();
+    let design = &layout.design;
+    let compared = report_file(
+        rt,
+        alloc,
+        design,
+        rules,
+        &found.netlist,
+        found.top,
+        bad,
+        schematic,
+        workers,
+    )?;
+    let verdict = comparison_verdict(compared.verdict);
+    let line = compared_line(alloc, verdict, &found, compared.pairs)?;
+    let mut files = Vec::new(alloc);
+    push_file(&mut files, paths.shapes, found.shapes.text)?;
+    push_file(&mut files, paths.netlist, found.text)?;
+    push_file(&mut files, paths.report, compared.text)?;
+    Ok(Output {
+        files,
+        line,
+        verdict,
+    })
+}
+
+fn comparison_verdict(verdict: Comparison) -> Verdict
+    ensures { verdict_of result ≡ comparison_answer verdict }
+{
+    match verdict {
+        Comparison::Match => Verdict::Good,
+        Comparison::Mismatch => Verdict::Bad,
+        Comparison::Undecided => Verdict::Undecided,
+    }
+}
+
 // Good where there is no bad gate.
 fn gates_verdict(bad: &[BadGate]) -> Verdict
     ensures { verdict_of result ≡ gates_answer bad.now }
@@ -98,24 +161,24 @@ fn gates_verdict(bad: &[BadGate]) -> Verdict
     }
 }
 
-/// What the command with these outputs has to write.
+/// What the command with these outputs, which reads no schematic, has to write.
 pub fn output_of<R: Threads + Wait + Sync>(
     rt: &R,
     alloc: Global,
     layout: &Layout,
     rules: &RuleSet,
     workers: usize,
-    outputs: Outputs,
+    outputs: LayoutOutputs,
 ) -> Result<Output, AllocError>
     requires workers { (1 ≤ workers) × (workers ≤ 64) }
     requires read { (bytes : List ℕ) × (top : Option (List ℕ)) × IsRead bytes top layout.now }
     requires rules { IsSound (rules_seen rules.now) }
-    requires apart { AreApart (blank_files (outputs_of outputs)) }
-    ensures { IfOk result (IsOutput (outputs_of outputs) layout.now (rules_seen rules.now)) }
+    requires apart { AreApart (blank_files (layout_outputs outputs)) }
+    ensures { IfOk result (IsOutput (layout_outputs outputs) layout.now (rules_seen rules.now)) }
 {
     match outputs {
-        Outputs::Shapes(path) => shapes_output(rt, alloc, layout, rules, workers, path),
-        Outputs::Netlist { shapes, netlist } => {
+        LayoutOutputs::Shapes(path) => shapes_output(rt, alloc, layout, rules, workers, path),
+        LayoutOutputs::Netlist { shapes, netlist } => {
             netlist_output(rt, alloc, layout, rules, workers, shapes, netlist)
         }
     }

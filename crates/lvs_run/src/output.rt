@@ -21,6 +21,18 @@ pub struct Output {
 impl Verdict {
     ghost use Rattle.std.specs.Prelude.{◌≡◌};
     ghost use Rattle.lvs_run.specs.Answers.{answer_of, verdict_of};
+    ghost use Rattle.lvs_run.specs.Lines.{verdict_word};
+
+    /// What the summary line of a comparison begins with.
+    pub fn word(self) -> &'static [u8]
+        ensures { result.now ≡ verdict_word self }
+    {
+        match self {
+            Verdict::Good => b"match",
+            Verdict::Bad => b"mismatch",
+            Verdict::Undecided => b"undecided",
+        }
+    }
 
     /// The same as the run's answer.
     pub fn status(self) -> Status

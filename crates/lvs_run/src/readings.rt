@@ -1,19 +1,28 @@
-// The rules and the layout of input files.
+// The rules, the layout and the schematic of input files.
 ghost use Rattle.std.specs.Prelude.{◌≡◌, string_bytes, IfOk, IfErr};
 ghost use Rattle.gds_layout.specs.Layouts.{IsRead};
 ghost use Rattle.lvs_outside.specs.Store.{HasRoom};
-ghost use Rattle.lvs_run.specs.Answers.{refused_layout, refused_rules};
-ghost use Rattle.lvs_run.specs.Inputs.{Quiet, ReadAs, RefusesLayout, RefusesRules, stopped};
+ghost use Rattle.lvs_run.specs.Answers.{refused_layout, refused_rules, refused_schematic};
+ghost use Rattle.lvs_run.specs.Inputs.{Quiet, ReadAs, RefusesLayout, RefusesRules};
+ghost use Rattle.lvs_run.specs.Inputs.{RefusesSchematic, stopped};
+ghost use Rattle.net_model.specs.Rows.{plain_netlist};
+ghost use Rattle.plain_netlist.specs.Normal.{IsNormalNetlist};
+ghost use Rattle.plain_netlist.specs.Sound.{IsSoundNetlist};
 ghost use Rattle.rule_text.specs.Reading.{Means};
 ghost use Rattle.rule_text.specs.Seen.{rules_seen};
 ghost use Rattle.rule_text.specs.Sound.{IsSound};
+ghost use Rattle.spice_rows.specs.Sizes.{read_limit};
+ghost use Rattle.spice_text.specs.Means.{Means as SpiceMeans};
 
 use crate::input::{Stop, feed_input, read_input};
 use crate::status::Refusal;
 use gds_layout::{Layout, LayoutFault, LayoutReader};
 use lvs_outside::Depot;
+use net_model::Netlist;
 use net_names::Name;
 use rule_text::{RuleFault, RuleSet, read_rules};
+use spice_rows::SpiceFault;
+use spice_text::read_spice;
 use std::alloc::Global;
 
 fn rules_stop(fault: RuleFault) -> Stop
@@ -71,5 +80,32 @@ pub fn layout_of<D: Depot>(
     match reader.finish(alloc, top.as_ref()) {
         Ok(layout) => Ok(layout),
         Err(fault) => Err(layout_stop(fault)),
+    }
+}
+
+fn schematic_stop(fault: SpiceFault) -> Stop
+    ensures { stopped result ≡ refused_schematic fault }
+{
+    match fault {
+        SpiceFault::NoMemory => Stop::NoMemory,
+        fault => Stop::Refused(Refusal::Schematic(fault)),
+    }
+}
+
+/// The schematic of the path's file.
+pub fn schematic_of<D: Depot>(alloc: Global, depot: &mut D, path: &String) -> Result<Netlist, Stop>
+    requires { HasRoom (D.state depot.old) }
+    ensures quiet { Quiet (D.state depot.old) (D.state depot.new) }
+    ensures found { IfOk result (λ nl. ReadAs (D.state depot.old) (D.state depot.new)
+        (string_bytes path.now) (λ bytes. SpiceMeans read_limit bytes (plain_netlist nl))) }
+    ensures sound { IfOk result (λ nl. IsSoundNetlist (plain_netlist nl)) }
+    ensures normal { IfOk result (λ nl. IsNormalNetlist (plain_netlist nl)) }
+    ensures refused { IfErr result (λ why. RefusesSchematic (D.state depot.old) (D.state depot.new)
+        (string_bytes path.now) (stopped why)) }
+{
+    let bytes = read_input(alloc, depot, path)?;
+    match read_spice(alloc, bytes.as_slice()) {
+        Ok(netlist) => Ok(netlist),
+        Err(fault) => Err(schematic_stop(fault)),
     }
 }

@@ -1,30 +1,67 @@
 // The run of the program.
-ghost use Rattle.std.specs.Prelude.{◌≡◌, ◌≤◌, map, string_bytes, IfOk, IfErr, Some, None};
+ghost use Rattle.std.specs.Prelude.{◌≡◌, ◌≤◌, ℕ, List, Option, map, string_bytes, IfOk, IfErr};
+ghost use Rattle.std.specs.Prelude.{Some, None};
+ghost use Rattle.gds_layout.specs.Layouts.{IsRead};
 ghost use Rattle.lvs_files.specs.Files.{AreApart, files_of};
 ghost use Rattle.lvs_outside.specs.Store.{HasRoom};
 ghost use Rattle.lvs_outside.specs.Summary.{SinkHasRoom};
 ghost use Rattle.lvs_run.specs.Answers.{answer_of, refused};
 ghost use Rattle.lvs_run.specs.Ends.{ComesOut, Delivered, Refused};
-ghost use Rattle.lvs_run.specs.Flat.{WritesFlat, WritesNetlist};
-ghost use Rattle.lvs_run.specs.Inputs.{IsReady, Quiet, Stops, stopped};
+ghost use Rattle.lvs_run.specs.Flat.{WritesFlat, WritesMatch, WritesNetlist};
+ghost use Rattle.lvs_run.specs.Inputs.{IsBeside, IsReady, Quiet, RefusesSchematic, Stops};
+ghost use Rattle.lvs_run.specs.Inputs.{stopped};
 ghost use Rattle.lvs_run.specs.Runs.{HasCauseIn, ShowsFaults};
-ghost use Rattle.lvs_run.specs.Words.{blank_files, outputs_of, paths_of, said};
+ghost use Rattle.lvs_run.specs.Words.{blank_files, outputs_of, paths_of, report_outputs, said};
+ghost use Rattle.rule_text.specs.Seen.{rules_seen};
+ghost use Rattle.rule_text.specs.Sound.{IsSound};
 
 use crate::input::Stop;
-use crate::making::output_of;
+use crate::making::{output_of, report_output};
 use crate::output::Output;
-use crate::readings::{layout_of, rules_of};
+use crate::readings::{layout_of, rules_of, schematic_of};
 use crate::status::{Refusal, Status};
 use crate::summary::refusal_line;
-use crate::words::{Task, read_task};
+use crate::words::{Outputs, ReportPaths, Task, read_task};
+use gds_layout::Layout;
 use lvs_files::write_files;
 use lvs_outside::{Depot, Sink, write_all};
 use lvs_words::WordFault;
 use netlist_file::flat_netlist;
+use report_file::{matched_report, read_alignable};
+use rule_text::RuleSet;
 use shapes_file::covers_flat;
 use std::alloc::Global;
 use std::sync::Wait;
 use std::thread::Threads;
+
+// Reads the schematic, and makes all that is to be written of the comparison with it.
+fn compare<R: Threads + Wait + Sync, D: Depot>(
+    rt: &R,
+    alloc: Global,
+    layout: &Layout,
+    rules: &RuleSet,
+    schematic: &String,
+    workers: usize,
+    paths: ReportPaths,
+    depot: &mut D,
+) -> Result<Output, Stop>
+    requires depot { HasRoom (D.state depot.old) }
+    requires workers { (1 ≤ workers) × (workers ≤ 64) }
+    requires read { (bytes : List ℕ) × (top : Option (List ℕ)) × IsRead bytes top layout.now }
+    requires rules { IsSound (rules_seen rules.now) }
+    requires apart { (path : List ℕ) → AreApart (blank_files (report_outputs path paths)) }
+    ensures quiet { Quiet (D.state depot.old) (D.state depot.new) }
+    ensures made { IfOk result (IsBeside (report_outputs (string_bytes schematic.now) paths)
+        layout.now (rules_seen rules.now) (D.state depot.old) (D.state depot.new)
+        (string_bytes schematic.now)) }
+    ensures refused { IfErr result (λ why. RefusesSchematic (D.state depot.old)
+        (D.state depot.new) (string_bytes schematic.now) (stopped why)) }
+{
+    read_alignable();
+    let netlist = schematic_of(alloc, depot, schematic)?;
+    let output = report_output(rt, alloc, layout, rules, &netlist, workers, paths)?;
+    Ok(output)
+}
 
 // Reads the inputs of a command, and makes all that is to be written.
 fn prepare_task<R: Threads + Wait + Sync, D: Depot>(
@@ -45,6 +82,7 @@ fn prepare_task<R: Threads + Wait + Sync, D: Depot>(
 {
     covers_flat();
     flat_netlist();
+    matched_report();
     let Task {
         layout,
         rules,
@@ -59,8 +97,18 @@ fn prepare_task<R: Threads + Wait + Sync, D: Depot>(
     }
     let rule_set = rules_of(alloc, depot, &rules)?;
     let design = layout_of(alloc, depot, &layout, &top)?;
-    let output = output_of(rt, alloc, &design, &rule_set, workers, outputs)?;
-    Ok(output)
+    match outputs {
+        Outputs::Layout(outputs) => {
+            let output = output_of(rt, alloc, &design, &rule_set, workers, outputs)?;
+            Ok(output)
+        }
+        Outputs::Report { schematic, paths } => {
+            let made = compare(
+                rt, alloc, &design, &rule_set, &schematic, workers, paths, depot,
+            )?;
+            Ok(made)
+        }
+    }
 }
 
 // Reads the words and the inputs, and makes all that is to be written.
@@ -144,6 +192,10 @@ pub fn run_lvs<R: Threads + Wait + Sync, D: Depot, S: Sink>(
     // rules' unit squares of the layout, where the files are told.
     ensures flat { WritesFlat (said (map string_bytes words.now)) (D.state depot.old)
         (D.state depot.new) (answer_of result) }
+    // After Good of a comparison the flat layout's regions and good gates correspond one to one to
+    // the nets and devices of the flattened schematic.
+    ensures matched { WritesMatch (said (map string_bytes words.now)) (D.state depot.old)
+        (answer_of result) }
     // The netlist's file means, expanded, the netlist of the flat layout, and after Good the flat
     // layout has no bad gate.
     ensures netlist { WritesNetlist (said (map string_bytes words.now)) (D.state depot.old)

@@ -1,17 +1,18 @@
 // How a run of the program ends.
 use gds_layout::LayoutFault;
 use rule_text::RuleFault;
+use spice_rows::SpiceFault;
 
 /// How a run of the program ends.
 #[derive(Debug, Drop)]
 pub enum Status {
     /// Everything was done.
     Good,
-    /// The comparison or a gate shows a difference. `shapes` never ends so.
+    /// A gate is bad, or the comparison shows a difference. `shapes` never ends so.
     Bad,
     /// The words or an input file are refused. No file was started.
     Refused(Refusal),
-    /// The comparison reached its limit. `shapes` never ends so.
+    /// The comparison reached its limit. `shapes` and `extract` never end so.
     Undecided,
     /// A call on the outside failed.
     Outside,
@@ -34,6 +35,8 @@ pub enum Refusal {
     Rules(RuleFault),
     /// The layout's first fault.
     Layout(LayoutFault),
+    /// The schematic's first fault.
+    Schematic(SpiceFault),
 }
 
 impl Status {

@@ -1,21 +1,26 @@
 // The summary line.
-ghost use Rattle.std.specs.Prelude.{◌≡◌, ◌++◌, ◌∷◌, [], length, IfOk, OnOk, string_bytes};
+ghost use Rattle.std.specs.Prelude.{◌≡◌, ◌++◌, ◌∷◌, [], ℕ, List, length, IfOk, OnOk, string_bytes};
 ghost use Rattle.std.specs.Fmt.{decimal};
 ghost use Rattle.net_names.specs.Escapes.{escaped};
 ghost use Rattle.gds_layout.specs.declared.layout.LayoutFault.TheVariants.{Gds};
 ghost use Rattle.net_model.specs.Rows.{plain_netlist};
-ghost use Rattle.lvs_run.specs.Answers.{Extracted, Layers, nothing, refused, RefusedLayout};
+ghost use Rattle.lvs_run.specs.Answers.{Compared, Extracted, Layers, nothing, refused};
+ghost use Rattle.lvs_run.specs.Answers.{RefusedLayout, RefusedSchematic};
 ghost use Rattle.lvs_run.specs.Answers.{RefusedRules};
 ghost use Rattle.lvs_run.specs.Lines.{counts_line, layout_place, line_of, link_place, rule_place};
+ghost use Rattle.lvs_run.specs.Lines.{schematic_place, value_number, verdict_word};
 
+use crate::output::Verdict;
 use crate::status::Refusal;
 use cell_graph::LinkFault;
+use fixed_num::ValueFault;
 use gds_elements::GdsFault;
 use gds_layout::LayoutFault;
 use net_names::{Name, escape};
 use netlist_file::Extraction;
 use rule_text::RuleFault;
 use shapes_file::Shapes;
+use spice_rows::SpiceFault;
 use std::alloc::{AllocError, Global};
 
 // A line of two words and a path, whose escapes are those of SPICE names.
@@ -132,6 +137,44 @@ fn layout_line(alloc: Global, fault: &LayoutFault) -> Result<Vec<u8>, AllocError
     Ok(line)
 }
 
+// Adds the number of a schematic's fault, its line or the circuit that it names, and of a value why
+// it is none.
+fn push_card(alloc: Global, line: &mut Vec<u8>, fault: &SpiceFault) -> Result<(), AllocError>
+    ensures { OnOk result (line.new.items ≡ line.old.items ++ schematic_place fault.now) }
+{
+    match fault {
+        SpiceFault::NoSuchCircuit(at) => push_number(alloc, line, b"41 line ", *at),
+        SpiceFault::CircuitCycle(name) => push_name(alloc, line, b"42 circuit ", name),
+        SpiceFault::PinCount(at) => push_number(alloc, line, b"43 line ", *at),
+        SpiceFault::NameClash(at) => push_number(alloc, line, b"44 line ", *at),
+        SpiceFault::UnknownCard(at) => push_number(alloc, line, b"50 line ", *at),
+        SpiceFault::BadLine(at) => push_number(alloc, line, b"51 line ", *at),
+        SpiceFault::ParameterRefused(at) => push_number(alloc, line, b"52 line ", *at),
+        SpiceFault::Value(at, fault) => {
+            push_number(alloc, line, b"53 line ", *at)?;
+            push_number(alloc, line, b" value ", value_number(*fault))
+        }
+        SpiceFault::NotClosed(at) => push_number(alloc, line, b"54 line ", *at),
+        SpiceFault::NoMemory => Ok(()),
+    }
+}
+
+fn value_number(fault: ValueFault) -> u64
+    ensures { result ≡ value_number fault }
+{
+    u64::from(fault.number())
+}
+
+// The line of a schematic's fault.
+fn schematic_line(alloc: Global, fault: &SpiceFault) -> Result<Vec<u8>, AllocError>
+    ensures { IfOk result (λ line. line.items ≡ line_of (RefusedSchematic fault.now) nothing) }
+{
+    let mut line = b"refused schematic ".to_vec(alloc)?;
+    push_card(alloc, &mut line, fault)?;
+    line.push(b'\n')?;
+    Ok(line)
+}
+
 /// The line of a refusal.
 pub fn refusal_line(alloc: Global, why: &Refusal) -> Result<Vec<u8>, AllocError>
     ensures { IfOk result (λ line. line.items ≡ line_of (refused why.now) nothing) }
@@ -143,14 +186,38 @@ pub fn refusal_line(alloc: Global, why: &Refusal) -> Result<Vec<u8>, AllocError>
         Refusal::TooLong(path) => path_line(alloc, b"refused long ", path.as_str()),
         Refusal::Rules(fault) => rules_line(alloc, *fault),
         Refusal::Layout(fault) => layout_line(alloc, fault),
+        Refusal::Schematic(fault) => schematic_line(alloc, fault),
     }
+}
+
+/// The line of `run`, with what its comparison came to, the cells of the shapes file, the netlist's
+/// circuits, the compared pairs and the bad gates.
+pub fn compared_line(
+    alloc: Global,
+    verdict: Verdict,
+    found: &Extraction,
+    pairs: u32,
+) -> Result<Vec<u8>, AllocError>
+    ensures { IfOk result (λ line. line.items ≡ counts_line (verdict_word verdict) (Compared
+        found.now.shapes.cells (length (plain_netlist found.now.netlist).circuits) pairs
+        (length found.now.bad.items))) }
+{
+    let circuits = found.netlist.circuits.len() as u64;
+    let mut line = verdict.word().to_vec(alloc)?;
+    push_number(alloc, &mut line, b" cells ", u64::from(found.shapes.cells))?;
+    push_number(alloc, &mut line, b" circuits ", circuits)?;
+    push_number(alloc, &mut line, b" pairs ", u64::from(pairs))?;
+    push_number(alloc, &mut line, b" bad ", found.bad.len() as u64)?;
+    line.push(b'\n')?;
+    Ok(line)
 }
 
 /// The line of `extract`, with the cells of the shapes file, the netlist's circuits and the bad
 /// gates.
 pub fn extracted_line(alloc: Global, found: &Extraction) -> Result<Vec<u8>, AllocError>
-    ensures { IfOk result (λ line. line.items ≡ counts_line (Extracted found.now.shapes.cells
-        (length (plain_netlist found.now.netlist).circuits) (length found.now.bad.items))) }
+    ensures { IfOk result (λ line. (verdict : List ℕ) → line.items ≡ counts_line verdict (Extracted
+        found.now.shapes.cells (length (plain_netlist found.now.netlist).circuits)
+        (length found.now.bad.items))) }
 {
     let circuits = found.netlist.circuits.len() as u64;
     let mut line = Vec::new(alloc);
@@ -168,8 +235,8 @@ pub fn extracted_line(alloc: Global, found: &Extraction) -> Result<Vec<u8>, Allo
 
 /// The line of `shapes`, which wrote so many cells and rectangles.
 pub fn layers_line(alloc: Global, shapes: &Shapes) -> Result<Vec<u8>, AllocError>
-    ensures { IfOk result (λ line. line.items ≡ counts_line (Layers shapes.now.cells
-        shapes.now.rectangles)) }
+    ensures { IfOk result (λ line. (verdict : List ℕ) → line.items ≡ counts_line verdict (Layers
+        shapes.now.cells shapes.now.rectangles)) }
 {
     let mut line = Vec::new(alloc);
     push_number(alloc, &mut line, b"shapes cells ", u64::from(shapes.cells))?;

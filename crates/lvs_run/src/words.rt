@@ -2,18 +2,37 @@
 ghost use Rattle.std.specs.Prelude.{◌≡◌, ◌≤◌, map, IfOk, IfSome, IsErrOf, None, Some, string_bytes};
 ghost use Rattle.std.specs.Option.{option_map};
 ghost use Rattle.lvs_files.specs.Files.{AreApart};
-ghost use Rattle.lvs_run.specs.Words.{IsFairSaid, blank_files, built_of, outputs_of, paths_of, said};
+ghost use Rattle.lvs_run.specs.Words.{IsFairSaid, blank_files, built_of, outputs_of};
+ghost use Rattle.lvs_run.specs.Words.{paths_of, said};
 ghost use Rattle.lvs_words.specs.Commands.{said_of};
 
 use lvs_words::{Command, Stated, WordFault, read_stated};
 use net_names::Name;
 use std::alloc::Global;
 
-/// The files that a command writes.
+/// The files that a command writes: of a layout alone, or of a layout and a schematic.
 #[derive(Debug, Drop)]
 pub enum Outputs {
+    Layout(LayoutOutputs),
+    Report {
+        schematic: String,
+        paths: ReportPaths,
+    },
+}
+
+/// The files of a layout.
+#[derive(Debug, Drop)]
+pub enum LayoutOutputs {
     Shapes(String),
     Netlist { shapes: String, netlist: String },
+}
+
+/// The files of a comparison with a schematic.
+#[derive(Debug, Drop)]
+pub struct ReportPaths {
+    pub shapes: String,
+    pub netlist: String,
+    pub report: String,
 }
 
 /// What is to be done: the files of a command, the name of the layout's top, the number of workers,
@@ -47,7 +66,7 @@ fn task_of(stated: Stated) -> Option<Task>
             rules,
             top: None,
             workers: 1,
-            outputs: Outputs::Shapes(shapes),
+            outputs: Outputs::Layout(LayoutOutputs::Shapes(shapes)),
             shared,
         }),
         Command::Extract {
@@ -62,10 +81,34 @@ fn task_of(stated: Stated) -> Option<Task>
             rules,
             top,
             workers,
-            outputs: Outputs::Netlist { shapes, netlist },
+            outputs: Outputs::Layout(LayoutOutputs::Netlist { shapes, netlist }),
             shared,
         }),
-        _command => None,
+        Command::Run {
+            layout,
+            rules,
+            schematic,
+            shapes,
+            netlist,
+            report,
+            top,
+            workers,
+        } => Some(Task {
+            layout,
+            rules,
+            top,
+            workers,
+            outputs: Outputs::Report {
+                schematic,
+                paths: ReportPaths {
+                    shapes,
+                    netlist,
+                    report,
+                },
+            },
+            shared,
+        }),
+        Command::Make { .. } => None,
     }
 }
 

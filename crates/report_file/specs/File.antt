@@ -35,8 +35,8 @@ pair_count None = 0
 pair_count (Some c) = length (answers_of c)
 
 -- the text is the report of comparing a layout's netlist with a schematic by the rules, under the
--- name of the top's circuit, with these bad gates; so many pairs stand in it; and what the bad gates
--- and the answers come to
+-- name of the top's circuit, with these bad gates; so many pairs stand in it; and what the bad
+-- gates and the answers come to
 pub record IsReportFile (d : Linked) (r : Rules) (layout : Netlist) (top : ℕ) (bad : List BadGate)
     (schematic : Netlist) (text : List ℕ) (pairs : ℕ) (verdict : Verdict) : Type 0 where
   pub compared : Option Compared

@@ -31,8 +31,8 @@ pub record Matching (d : Linked) (r : Rules) (unit : ℕ) (layout : Netlist) (to
   pub tables : Tables
   pub circuits : CircuitTables
   pub level : ℕ → ℕ
-  pub are_right : AreTablesRight (plain d) (wiring_of r) tables circuits layout (device_rules r) unit
-      level
+  pub are_right : AreTablesRight (plain d) (wiring_of r) tables circuits layout (device_rules r)
+      unit level
   pub top_is : IsCircuitCell circuits.cells top (plain d).top
   pub partner : ℕ
   pub left_by : Alignment

@@ -127,8 +127,8 @@ fn write_report(
 /// layout's bad gates. Partners and the limit of refuted guesses in each pair are those of the
 /// rules. A mismatch is a bad gate, a top without a partner or a pair that differs; a match is that
 /// every pair matches. The answer is the same for every number of workers, of which there are 1 to
-/// 64. An `Err` is want of memory, or 2^32 pairs or more. Cost: the comparison of the pairs, and the
-/// bytes written.
+/// 64. An `Err` is want of memory, or 2^32 pairs or more. Cost: the comparison of the pairs, and
+/// the bytes written.
 pub fn report_file<R: Threads + Wait + Sync>(
     rt: &R,
     alloc: Global,

@@ -1,6 +1,7 @@
 use Rattle.std.proofs.Common.{[], ◌∷◌, ◌∙◌, ap, refl, length, string_bytes}
 use Rattle.net_model.specs.Rows.{plain_netlist}
 use Rattle.lvs_run.specs.Answers.{Extracted, extracted}
+use Rattle.lvs_run.specs.Lines.{verdict_word}
 use Rattle.lvs_run.specs.Outcomes.{gates_answer}
 use Rattle.lvs_run.specs.Words.{file_at}
 use Rattle.lvs_run.proofs.Adding.{first_file, next_file, verdict_line}
@@ -31,5 +32,5 @@ returns g c =
         answer = c.gates_verdict-verdict.ensures ∙ ap gates_answer c.as_slice.ensures.value;
         whole = refl;
       };
-      line = c.in_ok-line.ensures ∙ verdict_line c.gates_verdict-verdict.result done;
+      line = c.in_ok-line.ensures (verdict_word c.gates_verdict-verdict.result) ∙ verdict_line c.gates_verdict-verdict.result done;
     }

@@ -1,4 +1,4 @@
-use Rattle.std.proofs.Common.{refl, string_bytes}
+use Rattle.std.proofs.Common.{refl, codes, string_bytes}
 use Rattle.lvs_run.specs.Answers.{drawn_of}
 use Rattle.lvs_run.specs.Words.{file_at}
 use Rattle.lvs_run.proofs.Adding.{first_file}
@@ -19,5 +19,5 @@ returns g c = record {
       whole = refl;
     },
   );
-  line = c.in_ok-line.ensures;
+  line = c.in_ok-line.ensures (codes "match");
 }

@@ -1,0 +1,79 @@
+-- What a run has to write, from what was read and made.
+use Rattle.std.proofs.Common.{◌≡◌, ℕ, ◌+◌, ◌-◌, ◌^◌, ◌<◌, List, Option, Some, None, refl, subst, sym, ◌∙◌}
+use Rattle.lvs_outside.specs.Store.{HasRoom, Store}
+use Rattle.gds_layout.specs.declared.layout.Layout.{Layout}
+use Rattle.gds_layout.specs.Layouts.{IsRead}
+use Rattle.netlist_file.specs.Flat.{ShowsFlatLaw}
+use Rattle.report_file.specs.Matched.{MatchedReportLaw}
+use Rattle.rule_text.specs.Rules.{Rules}
+use Rattle.rule_text.specs.Reading.{Means}
+use Rattle.rule_text.specs.Sound.{IsSound}
+use Rattle.shapes_file.specs.Flat.{CoversFlatLaw}
+use Rattle.lvs_run.specs.declared.output.Output.{Output}
+use Rattle.lvs_run.specs.declared.output.Verdict.{Verdict}
+use Rattle.lvs_run.specs.declared.output.Verdict.TheVariants as verdict
+use Rattle.lvs_run.specs.Runs.{HasCauseIn}
+use Rattle.lvs_run.specs.Words.{Outputs, Paths, schematic_path}
+use Rattle.lvs_run.specs.Answers.{verdict_of}
+use Rattle.lvs_run.specs.Inputs.{IsBeside, IsOutput, IsReady, Quiet, ReadAs}
+use Rattle.lvs_run.proofs.Stopping.{outcome_beside, outcome_made, verdict_cause, verdict_cause_beside}
+use Rattle.lvs_run.proofs.Flattened.{flat_listed, flat_listed_beside, matched_alone, matched_beside, netlist_listed, netlist_listed_beside}
+
+pub ready_alone : (p : Paths) (old mid new : Store) (r : Rules) (l : Layout) (o : Output) → p.shared ≡ None → Quiet old mid → ReadAs old mid p.rules (λ bytes. Means bytes r) → IsSound r
+    → ReadAs mid new p.layout (λ bytes. IsRead bytes p.top l) → CoversFlatLaw → ShowsFlatLaw → IsOutput p.outputs l r o → IsReady (Some p) old new o
+ready_alone p old mid new r l o apart quiet rules sound layout covers shows made =
+    let a = verdict_of o.verdict in
+    record {
+      paths = p;
+      stated = refl;
+      done = made.done;
+      files = made.files;
+      apart = made.apart;
+      cause = verdict_cause p old new l r o.verdict made.done apart (layout.got.absent ∙ rules.got.absent) made.is;
+      faults = layout.got.faults ∙ rules.got.faults;
+      line = made.line;
+      comes = outcome_made p old mid new r l a made.done apart quiet rules layout made.is;
+      flat = flat_listed p old mid new r l a made.done quiet rules layout (λ text cells rectangles file. covers layout.bytes p.top l r text cells rectangles layout.is sound file) made.is;
+      netlist = netlist_listed p old mid new r l a made.done quiet rules layout (λ nl top bad text file. shows layout.bytes p.top l r nl top bad text layout.is sound file) made.is;
+      matched = λ good. matched_alone p old.file l r a made.done made.is;
+    }
+
+pub ready_beside : (p : Paths) (old mid late new : Store) (r : Rules) (l : Layout) (path : List ℕ) (o : Output) → p.shared ≡ None → schematic_path p.outputs ≡ Some path → Quiet old mid → Quiet mid late
+    → ReadAs old mid p.rules (λ bytes. Means bytes r) → IsSound r → ReadAs mid late p.layout (λ bytes. IsRead bytes p.top l) → CoversFlatLaw → ShowsFlatLaw → MatchedReportLaw
+    → IsBeside p.outputs l r late new path o → IsReady (Some p) old new o
+ready_beside p old mid late new r l path o apart beside quiet later rules sound layout covers shows matches made =
+    let a = verdict_of o.verdict in
+    let out = made.output in
+    let nl = made.netlist in
+    let schematic = made.read in
+    record {
+      paths = p;
+      stated = refl;
+      done = out.done;
+      files = out.files;
+      apart = out.apart;
+      cause = verdict_cause_beside p old new l r nl o.verdict out.done apart (schematic.got.absent ∙ (layout.got.absent ∙ rules.got.absent)) out.is;
+      faults = schematic.got.faults ∙ (layout.got.faults ∙ rules.got.faults);
+      line = out.line;
+      comes = outcome_beside p old mid late new r l nl path a out.done apart beside quiet later rules layout schematic out.is;
+      flat = flat_listed_beside p old mid late r l nl a out.done quiet rules layout (λ text cells rectangles file. covers layout.bytes p.top l r text cells rectangles layout.is sound file) out.is;
+      netlist = netlist_listed_beside p old mid late r l nl a out.done quiet rules layout (λ n top bad text file. shows layout.bytes p.top l r n top bad text layout.is sound file) out.is;
+      matched = λ good. matched_beside p old mid late new r l nl path a out.done beside quiet later rules layout schematic matches out.is good;
+    }
+
+-- the same of equal outputs
+pub beside_as : {l : Layout} {r : Rules} {old new : Store} {path : List ℕ} {out : Output} → (a b : Outputs) → a ≡ b → IsBeside b l r old new path out → IsBeside a l r old new path out
+beside_as {l} {r} {old} {new} {path} {out} a b e h = subst (λ (o : Outputs). IsBeside o l r old new path out) (sym e) h
+
+absent_so : (stated : Option Paths) (old new : Store) (v : Verdict) → HasCauseIn stated old new (verdict_of v) → new.absent ≡ old.absent
+absent_so stated old new verdict.Good h = h.1
+absent_so stated old new verdict.Bad h = h.1
+absent_so stated old new verdict.Undecided h = h.1
+
+room : (a b c x y z n : ℕ) → x + y + z < n → a ≡ x → b ≡ y → c ≡ z → a + b + c < n
+room a b c x y z n h p q r = rw (p, q, r) h
+
+-- the inputs' reading leaves room for calls
+pub room_left : (stated : Option Paths) (old new : Store) (o : Output) → HasRoom old → Quiet old new → IsReady stated old new o → HasRoom new
+room_left stated old new o h quiet ready =
+    room new.faults new.absent new.empty_takes old.faults old.absent old.empty_takes (2 ^ 64 - 1) h ready.faults (absent_so stated old new o.verdict ready.cause) quiet.empty_takes

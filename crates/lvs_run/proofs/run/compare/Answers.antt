@@ -1,0 +1,27 @@
+use Rattle.std.proofs.Common.{string_bytes}
+use Rattle.std.proofs.lemmas.Result.{err_from_is_err_and}
+use Rattle.net_model.specs.Rows.{plain_netlist}
+use Rattle.lvs_run.proofs.run.compare.Goals as goal
+
+pub report_output-requires-clause-schematic : goal.report_output-requires-clause-schematic
+report_output-requires-clause-schematic g c κs within =
+    let found = c.in_ok-netlist.ensures.found in
+    c.read_alignable.ensures _ found.bytes (plain_netlist c.in_ok-netlist.netlist) found.is c.in_ok-netlist.ensures.sound c.in_ok-netlist.ensures.normal
+
+pub returns-in_err-netlist-clause-refused : goal.returns-in_err-netlist-clause-refused
+returns-in_err-netlist-clause-refused g c =
+    let e = err_from_is_err_and c.from_residual.result c.from_residual.ensures.1 in
+    rw (e.1, e.2) c.in_err-netlist.ensures.refused
+
+pub returns-in_err-output-clause-refused : goal.returns-in_err-output-clause-refused
+returns-in_err-output-clause-refused g c =
+    let e = err_from_is_err_and c.from_residual-in_err-output.result c.from_residual-in_err-output.ensures.1 in
+    let found = c.in_ok-netlist.ensures.found in
+    rw (e.1, e.2) (record { why = tt; faults = found.got.faults })
+
+pub returns-clause-made : goal.returns-clause-made
+returns-clause-made g c = record {
+  netlist = plain_netlist c.in_ok-netlist.netlist;
+  read = c.in_ok-netlist.ensures.found;
+  output = c.in_ok-output.ensures (string_bytes c.args.schematic.now);
+}
