@@ -1,0 +1,120 @@
+// The command over files in memory.
+use lvs_outside::{MemoryDepot, MemorySink};
+use lvs_run::run_lvs;
+use std::alloc::{AllocError, Global};
+use std::process::Abort;
+use std::sync::Wait;
+use std::thread::Threads;
+
+/// The words of `extract` over the files l (the layout) and r (the rules).
+pub const EXTRACT: [&str; 9] = [
+    "extract",
+    "--layout",
+    "l",
+    "--rules",
+    "r",
+    "--shapes",
+    "s",
+    "--netlist",
+    "n",
+];
+
+/// The input files.
+#[derive(Clone, Copy)]
+pub struct Inputs<'a> {
+    pub layout: &'a [u8],
+    pub rules: &'a str,
+}
+
+/// What a run left.
+#[derive(Debug, Drop)]
+pub struct Ran {
+    pub code: u8,
+    pub line: Vec<u8>,
+    pub shapes: Option<Vec<u8>>,
+    pub netlist: Option<Vec<u8>>,
+}
+
+/// The calls that are to fail, by number: of the depot and of the sink. 0 is no call.
+#[derive(Clone, Copy)]
+pub struct Failing {
+    pub depot: u64,
+    pub sink: u64,
+}
+
+pub const NONE: Failing = Failing { depot: 0, sink: 0 };
+
+fn words_of(alloc: Global, words: &[&str]) -> Result<Vec<String>, AllocError> {
+    let mut made = Vec::new(alloc);
+    for word in words {
+        made.push(String::from_str(alloc, word)?)?;
+    }
+    Ok(made)
+}
+
+fn one(alloc: Global, number: u64) -> Result<Vec<u64>, AllocError> {
+    let mut numbers = Vec::new(alloc);
+    numbers.push(number)?;
+    Ok(numbers)
+}
+
+// A copy of the path's file.
+fn file_of(alloc: Global, depot: &MemoryDepot, path: &str) -> Result<Option<Vec<u8>>, AllocError> {
+    match depot.file(path) {
+        Some(bytes) => Ok(Some(bytes.to_vec(alloc)?)),
+        None => Ok(None),
+    }
+}
+
+/// Runs the words over the files l and r.
+pub fn run_of<R: Threads + Wait + Sync>(
+    rt: &R,
+    alloc: Global,
+    inputs: Inputs<'_>,
+    words: &[&str],
+    failing: Failing,
+) -> Result<Ran, AllocError> {
+    let words = words_of(alloc, words)?;
+    let mut depot = MemoryDepot::new(alloc, one(alloc, failing.depot)?);
+    depot.put(alloc, "l", inputs.layout)?;
+    depot.put(alloc, "r", inputs.rules.as_bytes())?;
+    let mut sink = MemorySink::new(alloc, one(alloc, failing.sink)?);
+    let status = run_lvs(rt, alloc, words.as_slice(), &mut depot, &mut sink);
+    Ok(Ran {
+        code: status.code(),
+        line: sink.bytes().to_vec(alloc)?,
+        shapes: file_of(alloc, &depot, "s")?,
+        netlist: file_of(alloc, &depot, "n")?,
+    })
+}
+
+/// A run ends with this status and this line.
+pub fn ends<R: Abort>(rt: &R, ran: &Ran, code: u8, line: &str, name: &str) {
+    let said = str::from_utf8(&ran.line).unwrap_or("not UTF-8");
+    assert_eq!(rt; said, line, "{name}");
+    assert_eq!(rt; ran.code, code, "{name}");
+}
+
+/// A file holds this text.
+pub fn holds<R: Abort>(rt: &R, file: &Option<Vec<u8>>, text: &str, name: &str) {
+    let found = match file {
+        Some(bytes) => str::from_utf8(bytes).unwrap_or("not UTF-8"),
+        None => "no file",
+    };
+    assert_eq!(rt; found, text, "{name}");
+}
+
+/// A refusal has status 2 and its line, and starts no file.
+pub fn refuses<R: Abort + Threads + Wait + Sync>(
+    rt: &R,
+    alloc: Global,
+    inputs: Inputs<'_>,
+    words: &[&str],
+    line: &str,
+) -> Result<(), AllocError> {
+    let ran = run_of(rt, alloc, inputs, words, NONE)?;
+    ends(rt, &ran, 2, line, line);
+    assert_eq!(rt; ran.shapes, None, "{line}");
+    assert_eq!(rt; ran.netlist, None, "{line}");
+    Ok(())
+}

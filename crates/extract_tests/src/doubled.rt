@@ -1,0 +1,93 @@
+// A hierarchy whose flat layout has 2^40 transistors.
+use crate::commands::{EXTRACT, Inputs, NONE, ends, holds, run_of};
+use crate::drawn::{begin, begin_cell, end, end_cell, push_placed, push_rect};
+use std::alloc::{AllocError, Global};
+use std::test::Fail;
+
+/// The number of the top cell.
+const LAST: u32 = 40;
+
+const RULES: &str = r#"active = input(2, 0)
+poly = input(3, 0)
+bulk = polygon_layer
+gate = active & poly
+sd = active - poly
+extract_devices(mos4("NMOS"), { "SD" => sd, "G" => gate, "W" => bulk, "tG" => poly })
+connect_global(sd, "VSS")
+connect_global(poly, "VSS")
+connect_global(bulk, "VSS")
+gate.output(10, 0)
+"#;
+
+/// A rectangle's layer and corners.
+type Drawn = (u8, [i32; 4]);
+
+/// A bar across another.
+const CROSSED: [Drawn; 2] = [(2, [0, 0, 3, 1]), (3, [1, -1, 2, 2])];
+
+// C0 holds these; each further cell has the one before twice, side by side and on top of one
+// another in turn.
+fn doubled(alloc: Global, crossed: &[Drawn]) -> Result<Vec<u8>, AllocError> {
+    let mut out = begin(alloc)?;
+    begin_cell(alloc, &mut out, "C0")?;
+    for (layer, corners) in crossed {
+        push_rect(alloc, &mut out, *layer, *corners)?;
+    }
+    end_cell(&mut out)?;
+    let mut step = 8i32;
+    for number in 1..=LAST {
+        let below = number.saturating_sub(1);
+        let name = format!(in alloc; "C{number}")?;
+        let below = format!(in alloc; "C{below}")?;
+        begin_cell(alloc, &mut out, name.as_str())?;
+        push_placed(alloc, &mut out, below.as_str(), 0, 0)?;
+        if number % 2 == 1 {
+            push_placed(alloc, &mut out, below.as_str(), step, 0)?;
+        } else {
+            push_placed(alloc, &mut out, below.as_str(), 0, step)?;
+            step = step.saturating_mul(2);
+        }
+        end_cell(&mut out)?;
+    }
+    end(&mut out)?;
+    Ok(out)
+}
+
+// The circuit C0, then for each cell a circuit that calls the one before twice.
+fn netlist(alloc: Global) -> Result<String, AllocError> {
+    let mut text = String::from_str(alloc, "* lvs netlist\n.SUBCKT C0 VSS\n")?;
+    text.push_str("M1 VSS VSS VSS VSS NMOS L=0.001U W=0.001U\n.ENDS C0\n")?;
+    for number in 1..=LAST {
+        let below = number.saturating_sub(1);
+        let one = format!(in alloc; ".SUBCKT C{number} VSS\nX1 VSS C{below}\nX2 VSS C{below}\n")?;
+        text.push_str(one.as_str())?;
+        let last = format!(in alloc; ".ENDS C{number}\n")?;
+        text.push_str(last.as_str())?;
+    }
+    text.push_str(".END\n")?;
+    Ok(text)
+}
+
+// 2^40 transistors in 41 cells: as many circuits.
+#[test]
+fn doubling_hierarchy(rt: HostRuntime) -> Result<(), Fail> {
+    let alloc = rt.alloc();
+    let layout = doubled(alloc, &CROSSED)?;
+    let shapes = Some(doubled(alloc, &[(10, [1, 0, 2, 1])])?);
+    let netlist = netlist(alloc)?;
+    let inputs = Inputs {
+        layout: &layout,
+        rules: RULES,
+    };
+    let ran = run_of(&rt, alloc, inputs, &EXTRACT, NONE)?;
+    ends(
+        &rt,
+        &ran,
+        0,
+        "extracted cells 41 circuits 41 bad 0\n",
+        "extract",
+    );
+    holds(&rt, &ran.netlist, netlist.as_str(), "extract");
+    assert!(rt; ran.shapes == shapes);
+    Ok(())
+}

@@ -1,0 +1,101 @@
+// Layouts and rules of more than one test.
+use crate::drawn::Cell;
+use crate::drawn::Item::{Label, Rect};
+
+/// Rules of transistors of one class, whose bulk is a global.
+pub const MOS: &str = r#"active = input(2, 0)
+poly = input(3, 0)
+txt = labels(5, 1)
+bulk = polygon_layer
+gate = active & poly
+sd = active - poly
+extract_devices(mos4("NMOS"), { "SD" => sd, "G" => gate, "W" => bulk, "tG" => poly })
+connect(sd, txt)
+connect(poly, txt)
+connect_global(bulk, "VSS")
+"#;
+
+/// One transistor with names at its terminals.
+pub const T: Cell = Cell(
+    "T",
+    &[
+        Rect(2, [0, 0, 1250, 1500]),
+        Rect(3, [500, -100, 750, 1600]),
+        Label("S", 100, 100),
+        Label("D", 1000, 100),
+        Label("G", 600, 1550),
+    ],
+);
+
+pub const T_NETLIST: &str = r"* lvs netlist
+.SUBCKT T G S D VSS
+M1 D G S VSS NMOS L=0.25U W=1.5U
+.ENDS T
+.END
+";
+
+/// The ends of one group meet round the gate.
+pub const ONE_GROUP: Cell = Cell("A", &[Rect(2, [0, 0, 30, 30]), Rect(3, [10, -5, 20, 15])]);
+
+/// Transistors of two classes in a well, with contacts and a wire.
+pub const INVERTER_RULES: &str = r#"nwell = input(1, 0)
+active = input(2, 0)
+poly = input(3, 0)
+contact = input(4, 0)
+metal = input(5, 0)
+tie = input(6, 0)
+txt = labels(5, 1)
+bulk = polygon_layer
+pactive = active & nwell
+nactive = active - nwell
+pgate = pactive & poly
+ngate = nactive & poly
+psd = pactive - poly
+nsd = nactive - poly
+ptie = tie - nwell
+ntie = tie & nwell
+extract_devices(mos4("PMOS"), { "SD" => psd, "G" => pgate, "W" => nwell, "tG" => poly })
+extract_devices(mos4("NMOS"), { "SD" => nsd, "G" => ngate, "W" => bulk, "tG" => poly })
+connect(psd, contact)
+connect(nsd, contact)
+connect(poly, contact)
+connect(ptie, contact)
+connect(ntie, contact)
+connect(ntie, nwell)
+connect(contact, metal)
+connect(metal, txt)
+connect_global(bulk, "VSS")
+connect_global(ptie, "VSS")
+psd.output(10, 0)
+nsd.output(11, 0)
+"#;
+
+pub const INVERTER: Cell = Cell(
+    "INV",
+    &[
+        Rect(1, [0, 1500, 1000, 3000]),
+        Rect(2, [200, 300, 800, 800]),
+        Rect(2, [200, 1700, 800, 2700]),
+        Rect(3, [450, 100, 550, 2900]),
+        Rect(3, [300, 1450, 450, 1550]),
+        Rect(4, [80, 70, 140, 130]),
+        Rect(4, [260, 400, 320, 460]),
+        Rect(4, [650, 400, 710, 460]),
+        Rect(4, [320, 1470, 400, 1530]),
+        Rect(4, [650, 1800, 710, 1860]),
+        Rect(4, [260, 2500, 320, 2560]),
+        Rect(4, [80, 2870, 140, 2930]),
+        Rect(5, [0, 0, 1000, 200]),
+        Rect(5, [250, 0, 330, 470]),
+        Rect(5, [640, 390, 720, 1870]),
+        Rect(5, [0, 1450, 420, 1550]),
+        Rect(5, [640, 1450, 1000, 1550]),
+        Rect(5, [250, 2490, 330, 3000]),
+        Rect(5, [0, 2800, 1000, 3000]),
+        Rect(6, [50, 50, 200, 150]),
+        Rect(6, [50, 2850, 200, 2950]),
+        Label("A", 10, 1500),
+        Label("Y", 990, 1500),
+        Label("VDD", 10, 2900),
+    ],
+);

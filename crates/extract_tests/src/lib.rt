@@ -1,0 +1,20 @@
+//! Tests of whole runs of `extract` over memory: drawn layouts whose netlists were worked out by
+//! hand, words that are refused, and calls that fail.
+#![tactic(auto)]
+
+#[cfg(test)]
+mod commands;
+#[cfg(test)]
+mod doubled;
+#[cfg(test)]
+mod drawn;
+#[cfg(test)]
+mod extracted;
+#[cfg(test)]
+mod failing;
+#[cfg(test)]
+mod layouts;
+#[cfg(test)]
+mod refused;
+#[cfg(test)]
+mod wired;

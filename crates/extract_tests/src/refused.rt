@@ -1,0 +1,286 @@
+// Words, paths and layouts that are refused, and words in other orders.
+use crate::commands::{EXTRACT, Inputs, NONE, ends, holds, refuses, run_of};
+use crate::drawn::{Cell, library};
+use crate::layouts::{MOS, T, T_NETLIST};
+use std::alloc::{AllocError, Global};
+use std::test::Fail;
+
+/// Words behind those of `extract`.
+const BEHIND_EXTRACT: [&[&str]; 27] = [
+    &["x"],
+    &["--"],
+    &["-"],
+    &[""],
+    &["--top"],
+    &["--top", ""],
+    &["--top", "-x"],
+    &["--top="],
+    &["--top=-x"],
+    &["--top=T", "--top=T"],
+    &["--TOP=T"],
+    &["-top", "T"],
+    &["top=T"],
+    &["--workers"],
+    &["--workers="],
+    &["--workers", "0"],
+    &["--workers=65"],
+    &["--workers=+1"],
+    &["--workers= 1"],
+    &["--workers=1 "],
+    &["--workers=0x1"],
+    &["--workers=000000000000000000001"],
+    &["--workers=18446744073709551617"],
+    &["--layout", "l"],
+    &["--layout=l"],
+    &["--schematic", "c"],
+    &["--report=p"],
+];
+
+/// Whole lists of words.
+const REFUSED: [&[&str]; 21] = [
+    &[],
+    &[""],
+    &["run"],
+    &["extract"],
+    &["shapes"],
+    &["make"],
+    &["Shapes", "l", "r", "s"],
+    &["extract", "l", "r", "s"],
+    &["shapes", "l", "r"],
+    &["shapes", "l", "r", "s", "n"],
+    &["shapes", "l", "r", "-s"],
+    &["shapes", "l", "", "s"],
+    &["shapes", "--layout=l", "--rules=r", "--shapes=s"],
+    &[
+        "--layout=l",
+        "extract",
+        "--rules=r",
+        "--shapes=s",
+        "--netlist=n",
+    ],
+    &["extract", "--layout=l", "--rules=r", "--shapes=s"],
+    &[
+        "extract",
+        "--layout",
+        "--rules",
+        "r",
+        "--shapes=s",
+        "--netlist=n",
+    ],
+    &[
+        "run",
+        "--layout=l",
+        "--rules=r",
+        "--shapes=s",
+        "--netlist=n",
+        "--report=p",
+    ],
+    &["make", "0", "0", "1", "p"],
+    &["make", "1", "0", "65", "p"],
+    &["make", "1", "18446744073709551616", "1", "p"],
+    &["make", "1", "0", "1", "-p"],
+];
+
+/// Words of paths that are refused, and their lines.
+const PATHS: [(&[&str], &str); 8] = [
+    (&["shapes", "x", "r", "x"], "refused same x\n"),
+    (&["shapes", "l", "x", "s"], "refused absent x\n"),
+    (
+        &[
+            "extract",
+            "--netlist",
+            "q",
+            "--rules=r",
+            "--shapes=w",
+            "--layout",
+            "q",
+        ],
+        "refused same q\n",
+    ),
+    (
+        &[
+            "extract",
+            "--shapes=q",
+            "--netlist=r",
+            "--layout=l",
+            "--rules=r",
+            "--top=q",
+        ],
+        "refused same r\n",
+    ),
+    (
+        &[
+            "extract",
+            "--shapes=a",
+            "--netlist=b",
+            "--layout=b",
+            "--rules=a",
+        ],
+        "refused same a\n",
+    ),
+    (
+        &[
+            "extract",
+            "--layout=l",
+            "--rules=r",
+            "--shapes=no file",
+            "--netlist=no file",
+        ],
+        "refused same no\\x20file\n",
+    ),
+    (
+        &[
+            "extract",
+            "--layout=x",
+            "--rules=y",
+            "--shapes=s",
+            "--netlist=n",
+        ],
+        "refused absent y\n",
+    ),
+    (
+        &[
+            "extract",
+            "--layout=x=1",
+            "--rules=r",
+            "--shapes=s",
+            "--netlist=n",
+        ],
+        "refused absent x\\=1\n",
+    ),
+];
+
+// Some words and more.
+fn joined<'a>(
+    alloc: Global,
+    words: &[&'a str],
+    more: &[&'a str],
+) -> Result<Vec<&'a str>, AllocError> {
+    let mut all = Vec::new(alloc);
+    for word in words {
+        all.push(*word)?;
+    }
+    for word in more {
+        all.push(*word)?;
+    }
+    Ok(all)
+}
+
+#[test]
+fn refused_words(rt: HostRuntime) -> Result<(), Fail> {
+    let alloc = rt.alloc();
+    let layout = library(alloc, &[T])?;
+    let inputs = Inputs {
+        layout: &layout,
+        rules: MOS,
+    };
+    for more in BEHIND_EXTRACT {
+        let words = joined(alloc, &EXTRACT, more)?;
+        refuses(&rt, alloc, inputs, &words, "refused words\n")?;
+    }
+    for words in REFUSED {
+        refuses(&rt, alloc, inputs, words, "refused words\n")?;
+    }
+    for (words, line) in PATHS {
+        refuses(&rt, alloc, inputs, words, line)?;
+    }
+    Ok(())
+}
+
+/// Words that all ask for the same.
+const EQUAL: [&[&str]; 5] = [
+    &[
+        "extract",
+        "--netlist=n",
+        "--shapes=s",
+        "--rules=r",
+        "--layout=l",
+    ],
+    &[
+        "extract",
+        "--workers",
+        "64",
+        "--netlist",
+        "n",
+        "--layout=l",
+        "--shapes",
+        "s",
+        "--rules",
+        "r",
+    ],
+    &[
+        "extract",
+        "--layout=l",
+        "--workers=00000000000000000001",
+        "--rules=r",
+        "--shapes=s",
+        "--netlist=n",
+    ],
+    &[
+        "extract",
+        "--layout=l",
+        "--rules=r",
+        "--top=T",
+        "--shapes=s",
+        "--netlist=n",
+    ],
+    &[
+        "extract",
+        "--layout=l",
+        "--rules=r",
+        "--shapes=s",
+        "--netlist=n",
+        "--top",
+        "T",
+        "--workers=2",
+    ],
+];
+
+#[test]
+fn accepted_words(rt: HostRuntime) -> Result<(), Fail> {
+    let alloc = rt.alloc();
+    let layout = library(alloc, &[T])?;
+    let inputs = Inputs {
+        layout: &layout,
+        rules: MOS,
+    };
+    for words in EQUAL {
+        let ran = run_of(&rt, alloc, inputs, words, NONE)?;
+        ends(
+            &rt,
+            &ran,
+            0,
+            "extracted cells 1 circuits 1 bad 0\n",
+            "words",
+        );
+        holds(&rt, &ran.netlist, T_NETLIST, "words");
+    }
+    Ok(())
+}
+
+// The cell of the given name alone is extracted; names differ in the case of their letters.
+#[test]
+fn named_top(rt: HostRuntime) -> Result<(), Fail> {
+    let alloc = rt.alloc();
+    let layout = library(alloc, &[T, Cell("A", &[])])?;
+    let inputs = Inputs {
+        layout: &layout,
+        rules: MOS,
+    };
+    refuses(
+        &rt,
+        alloc,
+        inputs,
+        &EXTRACT,
+        "refused layout 23 cell T cell A\n",
+    )?;
+    let words = joined(alloc, &EXTRACT, &["--top=t"])?;
+    refuses(&rt, alloc, inputs, &words, "refused layout 24\n")?;
+    let words = joined(alloc, &EXTRACT, &["--top=T"])?;
+    let ran = run_of(&rt, alloc, inputs, &words, NONE)?;
+    ends(&rt, &ran, 0, "extracted cells 1 circuits 1 bad 0\n", "top");
+    holds(&rt, &ran.netlist, T_NETLIST, "top");
+    let wanted = Some(library(alloc, &[Cell("T", &[])])?);
+    assert!(rt; ran.shapes == wanted);
+    Ok(())
+}
