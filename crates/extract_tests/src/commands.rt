@@ -1,4 +1,4 @@
-// The command over files in memory.
+// The commands over files in memory.
 use lvs_outside::{MemoryDepot, MemorySink};
 use lvs_run::run_lvs;
 use std::alloc::{AllocError, Global};
@@ -19,11 +19,25 @@ pub const EXTRACT: [&str; 9] = [
     "n",
 ];
 
+/// The words of `run` over the files l (the layout), r (the rules) and c (the schematic).
+pub const RUN: [&str; 9] = [
+    "run",
+    "--layout=l",
+    "--rules=r",
+    "--schematic",
+    "c",
+    "--shapes=s",
+    "--netlist=n",
+    "--report",
+    "p",
+];
+
 /// The input files.
 #[derive(Clone, Copy)]
 pub struct Inputs<'a> {
     pub layout: &'a [u8],
     pub rules: &'a str,
+    pub schematic: &'a str,
 }
 
 /// What a run left.
@@ -33,6 +47,7 @@ pub struct Ran {
     pub line: Vec<u8>,
     pub shapes: Option<Vec<u8>>,
     pub netlist: Option<Vec<u8>>,
+    pub report: Option<Vec<u8>>,
 }
 
 /// The calls that are to fail, by number: of the depot and of the sink. 0 is no call.
@@ -66,7 +81,7 @@ fn file_of(alloc: Global, depot: &MemoryDepot, path: &str) -> Result<Option<Vec<
     }
 }
 
-/// Runs the words over the files l and r.
+/// Runs the words over the files l, r and c.
 pub fn run_of<R: Threads + Wait + Sync>(
     rt: &R,
     alloc: Global,
@@ -78,6 +93,7 @@ pub fn run_of<R: Threads + Wait + Sync>(
     let mut depot = MemoryDepot::new(alloc, one(alloc, failing.depot)?);
     depot.put(alloc, "l", inputs.layout)?;
     depot.put(alloc, "r", inputs.rules.as_bytes())?;
+    depot.put(alloc, "c", inputs.schematic.as_bytes())?;
     let mut sink = MemorySink::new(alloc, one(alloc, failing.sink)?);
     let status = run_lvs(rt, alloc, words.as_slice(), &mut depot, &mut sink);
     Ok(Ran {
@@ -85,6 +101,7 @@ pub fn run_of<R: Threads + Wait + Sync>(
         line: sink.bytes().to_vec(alloc)?,
         shapes: file_of(alloc, &depot, "s")?,
         netlist: file_of(alloc, &depot, "n")?,
+        report: file_of(alloc, &depot, "p")?,
     })
 }
 
@@ -116,5 +133,6 @@ pub fn refuses<R: Abort + Threads + Wait + Sync>(
     ends(rt, &ran, 2, line, line);
     assert_eq!(rt; ran.shapes, None, "{line}");
     assert_eq!(rt; ran.netlist, None, "{line}");
+    assert_eq!(rt; ran.report, None, "{line}");
     Ok(())
 }

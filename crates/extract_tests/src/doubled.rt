@@ -1,5 +1,5 @@
 // A hierarchy whose flat layout has 2^40 transistors.
-use crate::commands::{EXTRACT, Inputs, NONE, ends, holds, run_of};
+use crate::commands::{EXTRACT, Inputs, NONE, RUN, Ran, ends, holds, run_of};
 use crate::drawn::{begin, begin_cell, end, end_cell, push_placed, push_rect};
 use std::alloc::{AllocError, Global};
 use std::test::Fail;
@@ -68,7 +68,19 @@ fn netlist(alloc: Global) -> Result<String, AllocError> {
     Ok(text)
 }
 
-// 2^40 transistors in 41 cells: as many circuits.
+fn report(alloc: Global) -> Result<String, AllocError> {
+    let mut text = String::from_str(alloc, "lvs report 1\ntop C40 C40\nbad 0\n")?;
+    text.push_str("pair C0 C0 match\nnet VSS VSS\ndevice 1 1\n")?;
+    for number in 1..=LAST {
+        let one = format!(in alloc; "pair C{number} C{number} match\nnet VSS VSS\n")?;
+        text.push_str(one.as_str())?;
+        text.push_str("call 1 1\ncall 2 2\n")?;
+    }
+    text.push_str("end\n")?;
+    Ok(text)
+}
+
+// 2^40 transistors in 41 cells, as the netlist of `extract` and compared with that netlist.
 #[test]
 fn doubling_hierarchy(rt: HostRuntime) -> Result<(), Fail> {
     let alloc = rt.alloc();
@@ -78,8 +90,9 @@ fn doubling_hierarchy(rt: HostRuntime) -> Result<(), Fail> {
     let inputs = Inputs {
         layout: &layout,
         rules: RULES,
+        schematic: netlist.as_str(),
     };
-    let ran = run_of(&rt, alloc, inputs, &EXTRACT, NONE)?;
+    let ran: Ran = run_of(&rt, alloc, inputs, &EXTRACT, NONE)?;
     ends(
         &rt,
         &ran,
@@ -89,5 +102,17 @@ fn doubling_hierarchy(rt: HostRuntime) -> Result<(), Fail> {
     );
     holds(&rt, &ran.netlist, netlist.as_str(), "extract");
     assert!(rt; ran.shapes == shapes);
+    let ran: Ran = run_of(&rt, alloc, inputs, &RUN, NONE)?;
+    ends(
+        &rt,
+        &ran,
+        0,
+        "match cells 41 circuits 41 pairs 41 bad 0\n",
+        "run",
+    );
+    holds(&rt, &ran.netlist, netlist.as_str(), "run");
+    assert!(rt; ran.shapes == shapes);
+    let report = report(alloc)?;
+    holds(&rt, &ran.report, report.as_str(), "run");
     Ok(())
 }

@@ -335,12 +335,14 @@ fn extracted_layouts(rt: HostRuntime) -> Result<(), Fail> {
         let inputs = Inputs {
             layout: &layout,
             rules: case.rules,
+            schematic: "",
         };
         let ran = run_of(&rt, alloc, inputs, &EXTRACT, NONE)?;
         ends(&rt, &ran, case.code, case.line, case.name);
         holds(&rt, &ran.netlist, case.netlist, case.name);
         let wanted = library(alloc, case.shapes)?;
         assert!(rt; ran.shapes == Some(wanted), "{}", case.name);
+        assert_eq!(rt; ran.report, None, "{}", case.name);
     }
     Ok(())
 }
@@ -359,6 +361,7 @@ fn larger_unit(rt: HostRuntime) -> Result<(), Fail> {
     let inputs = Inputs {
         layout: &layout,
         rules: MOS,
+        schematic: "",
     };
     let ran = run_of(&rt, alloc, inputs, &EXTRACT, NONE)?;
     ends(&rt, &ran, 0, ONE_GOOD, "unit");

@@ -34,6 +34,13 @@ M1 D G S VSS NMOS L=0.25U W=1.5U
 .END
 ";
 
+/// The schematic of `T`, with other letters and values.
+pub const T_SCHEMATIC: &str = ".subckt t g s d vss
+m1 d g s vss nmos l=2.5e-07
++ w=1500n as=1p m=1
+.ends
+";
+
 /// The ends of one group meet round the gate.
 pub const ONE_GROUP: Cell = Cell("A", &[Rect(2, [0, 0, 30, 30]), Rect(3, [10, -5, 20, 15])]);
 

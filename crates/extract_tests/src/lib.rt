@@ -1,9 +1,11 @@
-//! Tests of whole runs of `extract` over memory: drawn layouts whose netlists were worked out by
-//! hand, words that are refused, and calls that fail.
+//! Tests of whole runs of `extract` and `run` over memory: drawn layouts whose netlists and reports
+//! were worked out by hand, words and schematics that are refused, and calls that fail.
 #![tactic(auto)]
 
 #[cfg(test)]
 mod commands;
+#[cfg(test)]
+mod compared;
 #[cfg(test)]
 mod doubled;
 #[cfg(test)]

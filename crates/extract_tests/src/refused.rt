@@ -1,7 +1,7 @@
-// Words, paths and layouts that are refused, and words in other orders.
-use crate::commands::{EXTRACT, Inputs, NONE, ends, holds, refuses, run_of};
+// Words, paths, layouts and schematics that are refused, and words in other orders.
+use crate::commands::{EXTRACT, Inputs, NONE, RUN, ends, holds, refuses, run_of};
 use crate::drawn::{Cell, library};
-use crate::layouts::{MOS, T, T_NETLIST};
+use crate::layouts::{MOS, T, T_NETLIST, T_SCHEMATIC};
 use std::alloc::{AllocError, Global};
 use std::test::Fail;
 
@@ -82,7 +82,7 @@ const REFUSED: [&[&str]; 21] = [
 ];
 
 /// Words of paths that are refused, and their lines.
-const PATHS: [(&[&str], &str); 8] = [
+const PATHS: [(&[&str], &str); 11] = [
     (&["shapes", "x", "r", "x"], "refused same x\n"),
     (&["shapes", "l", "x", "s"], "refused absent x\n"),
     (
@@ -148,6 +148,43 @@ const PATHS: [(&[&str], &str); 8] = [
         ],
         "refused absent x\\=1\n",
     ),
+    (
+        &[
+            "run",
+            "--schematic=c",
+            "--layout=l",
+            "--rules=r",
+            "--shapes=s",
+            "--netlist=c",
+            "--report=p",
+        ],
+        "refused same c\n",
+    ),
+    (
+        &[
+            "run",
+            "--schematic=x",
+            "--layout=l",
+            "--rules=r",
+            "--shapes=s",
+            "--netlist=n",
+            "--report=p",
+        ],
+        "refused absent x\n",
+    ),
+    // one file for two inputs is read twice
+    (
+        &[
+            "run",
+            "--schematic=r",
+            "--layout=l",
+            "--rules=r",
+            "--shapes=s",
+            "--netlist=n",
+            "--report=p",
+        ],
+        "refused schematic 50 line 1\n",
+    ),
 ];
 
 // Some words and more.
@@ -173,9 +210,14 @@ fn refused_words(rt: HostRuntime) -> Result<(), Fail> {
     let inputs = Inputs {
         layout: &layout,
         rules: MOS,
+        schematic: T_SCHEMATIC,
     };
     for more in BEHIND_EXTRACT {
         let words = joined(alloc, &EXTRACT, more)?;
+        refuses(&rt, alloc, inputs, &words, "refused words\n")?;
+    }
+    for more in [&["--workers=65"], &["--schematic=d"], &["--report=p"]] {
+        let words = joined(alloc, &RUN, more)?;
         refuses(&rt, alloc, inputs, &words, "refused words\n")?;
     }
     for words in REFUSED {
@@ -243,6 +285,7 @@ fn accepted_words(rt: HostRuntime) -> Result<(), Fail> {
     let inputs = Inputs {
         layout: &layout,
         rules: MOS,
+        schematic: "",
     };
     for words in EQUAL {
         let ran = run_of(&rt, alloc, inputs, words, NONE)?;
@@ -266,6 +309,7 @@ fn named_top(rt: HostRuntime) -> Result<(), Fail> {
     let inputs = Inputs {
         layout: &layout,
         rules: MOS,
+        schematic: T_SCHEMATIC,
     };
     refuses(
         &rt,
@@ -282,5 +326,118 @@ fn named_top(rt: HostRuntime) -> Result<(), Fail> {
     holds(&rt, &ran.netlist, T_NETLIST, "top");
     let wanted = Some(library(alloc, &[Cell("T", &[])])?);
     assert!(rt; ran.shapes == wanted);
+    let words = joined(alloc, &RUN, &["--top", "T"])?;
+    let ran = run_of(&rt, alloc, inputs, &words, NONE)?;
+    ends(
+        &rt,
+        &ran,
+        0,
+        "match cells 1 circuits 1 pairs 1 bad 0\n",
+        "top",
+    );
+    Ok(())
+}
+
+/// Schematics, and the lines of their first faults.
+const SCHEMATICS: [(&str, &str); 15] = [
+    (
+        ".subckt t g s d vss\nm1 d g s vss nmos l=2.5e-07\n+ w=1.5u5x\n.ends\n",
+        "refused schematic 53 line 2 value 1\n",
+    ),
+    (
+        ".subckt t g s d vss\nm1 d g s vss nmos l=0.5f\n+ w=1.5u\n.ends\n",
+        "refused schematic 53 line 2 value 2\n",
+    ),
+    (
+        ".subckt t g s d vss\nm1 d g s vss nmos l=1u\n+ w=1.1k\n.ends\n",
+        "refused schematic 53 line 2 value 3\n",
+    ),
+    (
+        ".subckt t g s d vss\nm1 d g s vss nmos l=1u\n+ w=1u m=2\n.ends\n",
+        "refused schematic 52 line 2\n",
+    ),
+    (
+        ".subckt t g s d vss\nm1 d g s vss nmos l=1u w=1u\n",
+        "refused schematic 54 line 1\n",
+    ),
+    (
+        ".subckt t g\nq1 g g g\n.ends\n",
+        "refused schematic 50 line 2\n",
+    ),
+    (
+        ".subckt t g\nm1 g g g g nmos l=1u\n.ends\n",
+        "refused schematic 51 line 2\n",
+    ),
+    (".subckt t g g\n.ends\n", "refused schematic 51 line 1\n"),
+    ("* c\n+ x\n", "refused schematic 51 line 2\n"),
+    (
+        ".subckt t g\nx1 g q\n.ends\n",
+        "refused schematic 41 line 2\n",
+    ),
+    (
+        ".subckt a p\n.ends\n.subckt t g\nx1 g g a\n.ends\n",
+        "refused schematic 43 line 4\n",
+    ),
+    (
+        ".subckt t\n.ends\n.subckt T\n.ends\n",
+        "refused schematic 44 line 3\n",
+    ),
+    (
+        ".subckt t\nx1 b\n.ends\n.subckt b\nx1 t\n.ends\n",
+        "refused schematic 42 circuit T\n",
+    ),
+    // a card that doesn't fit stands before a parameter that isn't known
+    (
+        ".subckt t g\nm1 g g g g nmos l=1u z=1\n.ends\n",
+        "refused schematic 51 line 2\n",
+    ),
+    (
+        ".subckt t g\nm1 g\\x4z g g g nmos l=1u w=1u\n.ends\n",
+        "refused schematic 51 line 2\n",
+    ),
+];
+
+#[test]
+fn refused_schematics(rt: HostRuntime) -> Result<(), Fail> {
+    let alloc = rt.alloc();
+    let layout = library(alloc, &[T])?;
+    for (schematic, line) in SCHEMATICS {
+        let inputs = Inputs {
+            layout: &layout,
+            rules: MOS,
+            schematic,
+        };
+        refuses(&rt, alloc, inputs, &RUN, line)?;
+    }
+    Ok(())
+}
+
+// The rules are read first, then the layout, then the schematic.
+#[test]
+fn first_refusal(rt: HostRuntime) -> Result<(), Fail> {
+    let alloc = rt.alloc();
+    let inputs = Inputs {
+        layout: &[],
+        rules: "a.width(10)\n",
+        schematic: "q1\n",
+    };
+    refuses(&rt, alloc, inputs, &RUN, "refused rules 30 line 1\n")?;
+    let inputs = Inputs {
+        rules: MOS,
+        ..inputs
+    };
+    refuses(
+        &rt,
+        alloc,
+        inputs,
+        &RUN,
+        "refused layout 1 record 0 offset 0\n",
+    )?;
+    let layout = library(alloc, &[T])?;
+    let inputs = Inputs {
+        layout: &layout,
+        ..inputs
+    };
+    refuses(&rt, alloc, inputs, &RUN, "refused schematic 50 line 1\n")?;
     Ok(())
 }

@@ -1,5 +1,6 @@
 // Circuits of transistors that are drawn in a row, each terminal with a wire up to its net's.
 use crate::commands::{EXTRACT, Inputs, NONE, holds, run_of};
+use crate::compared::compares;
 use crate::drawn::{begin, begin_cell, end, end_cell, push_label, push_rect};
 use crate::wired::Kind::{N, P};
 use std::alloc::{AllocError, Global};
@@ -143,6 +144,17 @@ const LATCH: Wired = Wired {
     ],
 };
 
+/// The two inverters stand in the other order at the bit lines.
+const SWAPPED: &str = ".SUBCKT LATCH BL BLN WL VDD VSS
+M1 Y X VSS VSS NMOS L=0.1U W=1U
+M2 X Y VSS VSS NMOS L=0.1U W=1U
+M3 Y X VDD VDD PMOS L=0.1U W=1U
+M4 X Y VDD VDD PMOS L=0.1U W=1U
+M5 BL WL X VSS NMOS L=0.1U W=0.5U
+M6 BLN WL Y VSS NMOS L=0.1U W=0.5U
+.ENDS
+";
+
 /// The nets of the layout stand in the order of their gates, then of their wires from below, then
 /// from the left; its devices by class, then from the left.
 const LATCH_NETLIST: &str = r"* lvs netlist
@@ -157,15 +169,107 @@ M6 \$1 \$2 VDD VDD PMOS L=0.1U W=1U
 .END
 ";
 
+const LATCH_REPORT: &str = r"lvs report 1
+top LATCH LATCH
+bad 0
+pair LATCH LATCH match
+net WL WL
+net BL BL
+net BLN BLN
+net VSS VSS
+net VDD VDD
+net \$2 X
+net \$1 Y
+device 1 2
+device 2 1
+device 3 5
+device 4 6
+device 5 4
+device 6 3
+end
+";
+
 #[test]
-fn latch(rt: HostRuntime) -> Result<(), Fail> {
+fn latch_swapped(rt: HostRuntime) -> Result<(), Fail> {
     let alloc = rt.alloc();
     let layout = drawn(alloc, &LATCH)?;
     let inputs = Inputs {
         layout: &layout,
         rules: RULES,
+        schematic: SWAPPED,
     };
     let ran = run_of(&rt, alloc, inputs, &EXTRACT, NONE)?;
     holds(&rt, &ran.netlist, LATCH_NETLIST, "latch");
+    let line = "match cells 1 circuits 1 pairs 1 bad 0\n";
+    compares(&rt, alloc, inputs, 0, line, LATCH_REPORT, "latch")?;
+    Ok(())
+}
+
+/// One ring of six transistors; their gates are the seventh net.
+const RING: Wired = Wired {
+    name: "RING",
+    nets: &["", "", "", "", "", "", "G"],
+    rows: &[
+        Row(N, 1000, [0, 6, 1]),
+        Row(N, 1000, [1, 6, 2]),
+        Row(N, 1000, [2, 6, 3]),
+        Row(N, 1000, [3, 6, 4]),
+        Row(N, 1000, [4, 6, 5]),
+        Row(N, 1000, [5, 6, 0]),
+    ],
+};
+
+const TWO_RINGS: &str = ".SUBCKT RING G VSS
+M1 N1 G N2 VSS NMOS L=0.1U W=1U
+M2 N2 G N3 VSS NMOS L=0.1U W=1U
+M3 N3 G N1 VSS NMOS L=0.1U W=1U
+M4 N4 G N5 VSS NMOS L=0.1U W=1U
+M5 N5 G N6 VSS NMOS L=0.1U W=1U
+M6 N6 G N4 VSS NMOS L=0.1U W=1U
+.ENDS
+";
+
+/// No class of the two circuits differs in size: each of six guesses has to be refuted.
+const SIX_GUESSES: &str = "lvs report 1
+top RING RING
+bad 0
+pair RING RING differs
+guess 1 net 3 3 3
+guess 1 net 3 4 3
+guess 1 net 3 5 3
+guess 1 net 3 6 3
+guess 1 net 3 7 3
+guess 1 net 3 8 3
+end
+";
+
+const THREE_GUESSES: &str = "lvs report 1
+top RING RING
+bad 0
+pair RING RING undecided
+guess 1 net 3 3 3
+guess 1 net 3 4 3
+guess 1 net 3 5 3
+end
+";
+
+#[test]
+fn two_rings(rt: HostRuntime) -> Result<(), Fail> {
+    let alloc = rt.alloc();
+    let layout = drawn(alloc, &RING)?;
+    let fewer = format!(in alloc; "{RULES}max_guesses(3)\n")?;
+    let inputs = Inputs {
+        layout: &layout,
+        rules: RULES,
+        schematic: TWO_RINGS,
+    };
+    let line = "mismatch cells 1 circuits 1 pairs 1 bad 0\n";
+    compares(&rt, alloc, inputs, 1, line, SIX_GUESSES, "1,000 guesses")?;
+    let inputs = Inputs {
+        rules: fewer.as_str(),
+        ..inputs
+    };
+    let line = "undecided cells 1 circuits 1 pairs 1 bad 0\n";
+    compares(&rt, alloc, inputs, 3, line, THREE_GUESSES, "three guesses")?;
     Ok(())
 }
