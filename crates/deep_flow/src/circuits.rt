@@ -19,7 +19,8 @@ use std::sync::Wait;
 use std::thread::Threads;
 
 /// The circuits of the reached cells, over their nets, pins and gates; the database unit is in
-/// picometres.
+/// picometres, at most 1,000,000. A cell is worked once, by 1 to 64 workers, with one answer for
+/// every number of them. An `Err` is want of memory.
 pub fn find_circuits<R: Threads + Wait + Sync>(
     rt: &R,
     alloc: Global,

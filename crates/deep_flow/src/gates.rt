@@ -29,7 +29,8 @@ pub struct Gated {
     pub gates: Gates,
 }
 
-/// The gates of each reached cell, over its disturbed squares, layers and nets.
+/// The gates of each reached cell, over its disturbed squares, layers and nets. A cell is worked
+/// once, by 1 to 64 workers, with one answer for every number of them. An `Err` is want of memory.
 pub fn find_gates<R: Threads + Wait + Sync>(
     rt: &R,
     alloc: Global,

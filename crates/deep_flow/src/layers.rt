@@ -16,7 +16,8 @@ use std::sync::Wait;
 use std::thread::Threads;
 use zone_phase::ZonePhase;
 
-/// The disturbed squares of each reached cell.
+/// The disturbed squares of each reached cell. A cell is worked once, by 1 to 64 workers, with one
+/// answer for every number of them. An `Err` is want of memory.
 pub fn find_zones<R: Threads + Wait + Sync>(
     rt: &R,
     alloc: Global,
@@ -35,7 +36,8 @@ pub fn find_zones<R: Threads + Wait + Sync>(
     Ok(zones)
 }
 
-/// What each reached cell holds itself of each name, over its disturbed squares.
+/// What each reached cell holds itself of each name, over its disturbed squares. A cell is worked
+/// once, by 1 to 64 workers, with one answer for every number of them. An `Err` is want of memory.
 pub fn find_layers<R: Threads + Wait + Sync>(
     rt: &R,
     alloc: Global,

@@ -24,7 +24,8 @@ pub struct Connected {
     pub nets: Nets,
 }
 
-/// The nets of each reached cell, over its layers.
+/// The nets of each reached cell, over its layers. A cell is worked once, by 1 to 64 workers, with
+/// one answer for every number of them. An `Err` is want of memory.
 pub fn find_nets<R: Threads + Wait + Sync>(
     rt: &R,
     alloc: Global,

@@ -16,7 +16,9 @@ use std::alloc::{AllocError, Global};
 use std::sync::Wait;
 use std::thread::Threads;
 
-/// The pins of each reached cell and the base names of its nets, over its layers, nets and gates.
+/// The pins of each reached cell and the base names of its nets, over its layers, nets and gates. A
+/// cell is worked once, by 1 to 64 workers, with one answer for every number of them. An `Err` is
+/// want of memory.
 pub fn find_pins<R: Threads + Wait + Sync>(
     rt: &R,
     alloc: Global,

@@ -168,7 +168,9 @@ fn deliver<D: Depot, S: Sink>(output: &Output, depot: &mut D, out: &mut S) -> St
 ///
 /// All that is written is complete in memory before the first write. After a failed call neither
 /// object is called again. The layout is read in pieces, of which none is kept, to its end or past
-/// the limit before its fault is answered.
+/// the limit before its fault is answered. Cost: reading the inputs, the layers of each reached
+/// cell (also its nets, gates, pins and circuit), the comparison of each pair of circuits, and the
+/// bytes written; a cell is worked once, however often it is placed.
 pub fn run_lvs<R: Threads + Wait + Sync, D: Depot, S: Sink>(
     rt: &R,
     alloc: Global,
