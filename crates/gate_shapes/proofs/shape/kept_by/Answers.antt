@@ -5,8 +5,8 @@ use Rattle.std.proofs.lemmas.Option.{slice_get-get_or}
 use Rattle.geo_base.specs.declared.shapes.Rect.{Rect}
 use Rattle.gate_shapes.specs.Shapes.{KeptSoFar}
 use Rattle.gate_shapes.proofs.Groups.{kept_none, kept_skip, kept_push, kept_all}
-use Rattle.gate_shapes.proofs.shape.kept.Goals as goal
-use Rattle.gate_shapes.proofs.shape.kept.Goals.{then-branch+in_ok-push, else-branch}
+use Rattle.gate_shapes.proofs.shape.kept_by.Goals as goal
+use Rattle.gate_shapes.proofs.shape.kept_by.Goals.{then-branch+in_ok-push, else-branch}
 
 pub loop-i-init : goal.loop-i-init
 loop-i-init c = subst (λ (l : List ℕ). KeptSoFar c.args.groups.now c.args.touched.now 0 l) (sym c.new-kept.ensures.items) (kept_none c.args.groups.now c.args.touched.now)
