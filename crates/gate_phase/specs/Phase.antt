@@ -38,7 +38,7 @@ pub record IsGatePhase (a : Inside) : Type 0 where
   pub sound : IsSound (rules_seen a.rules.now)
   pub few : length a.rules.now.devices.items < 2 ^ 32
   pub zones : AreZones (plain a.design.now) (rules_seen a.rules.now) a.zones.now
-  pub layers : AreLayers (plain a.design.now) (rules_seen a.rules.now) a.layers.now
+  pub layers : AreLayers (plain a.design.now) (rules_seen a.rules.now) a.layers
   pub conductors : a.conductors ≡ length (wiring_of (rules_seen a.rules.now)).conductors
   pub globals : a.globals ≡ length (globals_of (rules_seen a.rules.now))
   pub bulks : a.bulks.items ≡ bulks_of (rules_seen a.rules.now)

@@ -9,6 +9,7 @@ ghost use Rattle.rule_text.specs.Seen.{rules_seen};
 ghost use Rattle.rule_text.specs.Sound.{IsSound};
 
 use crate::bulks::bulk_globals;
+use crate::indexes::IndexedLayers;
 use crate::list::cell_gates;
 use cell_graph::Design;
 use deep_tables::{CellGates, CellNets, DeepKey, Layers, Nets, Zones};
@@ -29,7 +30,7 @@ pub struct GatePhase<'a> {
     design: &'a Design,
     rules: &'a RuleSet,
     zones: &'a Zones,
-    layers: &'a Layers,
+    layers: IndexedLayers<'a>,
     conductors: u32,
     globals: u32,
     bulks: Vec<Option<u32>>,
@@ -52,7 +53,8 @@ impl<'a> Model for GatePhase<'a> {
 impl<'a> GatePhase<'a> {
     /// The phase of a layout and of its disturbed squares, layers and nets for these rules. 2^32
     /// names, device rules, globals or placements of a cell, or more, are refused. Linear in the
-    /// placements, and in the names for each reached cell.
+    /// placements, and in the names for each reached cell, beside the indexes of what cells hold
+    /// themselves on the layers of device rules.
     pub fn new(
         alloc: Global,
         design: &'a Design,
@@ -81,11 +83,12 @@ impl<'a> GatePhase<'a> {
         let elements = all_elements(alloc, design)?;
         let known = known_nets(alloc, design, nets)?;
         let graph = free_graph(alloc, design)?;
+        let indexed = IndexedLayers::new(alloc, design, rules, layers)?;
         Ok(GatePhase {
             design,
             rules,
             zones,
-            layers,
+            layers: indexed,
             conductors: wires.conductors,
             globals: wires.globals,
             bulks,
@@ -141,7 +144,7 @@ impl Phase for GatePhase<'_> {
             design,
             self.rules,
             self.zones,
-            self.layers,
+            &self.layers,
             &cells,
             cell,
             &self.bulks,

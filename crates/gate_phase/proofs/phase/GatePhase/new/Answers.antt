@@ -1,5 +1,6 @@
-use Rattle.std.proofs.Common.{arith}
+use Rattle.std.proofs.Common.{arith, sym, subst}
 use Rattle.deep_tables.proofs.Finding.{some_at}
+use Rattle.deep_tables.specs.Layers.{AreLayers}
 use Rattle.deep_tables.specs.Nets.{AreCellNets}
 use Rattle.cell_graph.specs.Linked.{plain}
 use Rattle.gate_phase.proofs.phase.GatePhase.new.Goals as goal
@@ -21,7 +22,7 @@ invariant_of-result c =
       sound = c.requires.rules;
       few = omega (arith, few, devices);
       zones = c.requires.zones;
-      layers = c.requires.layers;
+      layers = subst (AreLayers (plain d) r) (sym c.in_ok-indexed.ensures) c.requires.layers;
       conductors = c.in_ok-wires.ensures.conductors;
       globals = c.in_ok-wires.ensures.globals;
       bulks = c.in_ok-bulks.ensures;

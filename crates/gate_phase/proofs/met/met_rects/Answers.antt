@@ -1,10 +1,10 @@
-use Rattle.std.proofs.Common.{◌∙◌, subst, ap, List}
+use Rattle.std.proofs.Common.{subst, List}
 use Rattle.std.proofs.lemmas.List.{take_all}
 use Rattle.geo_base.specs.declared.shapes.Rect.{Rect}
-use Rattle.rect_sets.specs.Rects.{IsListed, covers}
 use Rattle.cell_context.proofs.Collecting.{no_rect}
+use Rattle.gate_phase.specs.Indexes.{AreMetOf}
 use Rattle.gate_phase.proofs.Keeping.{chosen_more, complete_more}
-use Rattle.gate_phase.proofs.kept.met_rects.Goals as goal
+use Rattle.gate_phase.proofs.met.met_rects.Goals as goal
 
 pub loop-rect-preserved : goal.loop-rect-preserved
 loop-rect-preserved c =
@@ -15,8 +15,6 @@ loop-rect-preserved c =
       complete = λ q. complete_more rects old new c.args.window.now i no_rect q c.loop-rect-test.true (e.stay q) (e.here q) (c.loop-rect.invariant.complete q);
     }
 
-pub returns-clause-listed : goal.returns-clause-listed
-returns-clause-listed c = λ r l. subst (IsListed r) (take_all c.loop-rect.rect-index c.args.rects.now c.loop-rect-test.false) (c.loop-rect.invariant.listed r l)
-
-pub returns-clause-complete : goal.returns-clause-complete
-returns-clause-complete c = λ q e. c.loop-rect.invariant.complete q (ap (λ (l : List Rect). covers l q) (take_all c.loop-rect.rect-index c.args.rects.now c.loop-rect-test.false) ∙ e)
+pub returns : goal.returns
+returns c =
+    subst (λ (l : List Rect). AreMetOf l c.args.window.now c.loop-rect.out.items) (take_all c.loop-rect.rect-index c.args.rects.now c.loop-rect-test.false) c.loop-rect.invariant
