@@ -15,7 +15,7 @@ use deep_tables::{CellGates, CellNets, DeepKey, Layers, Nets, Zones};
 use geo_base::Rect;
 use job_graph::{Graph, Phase, Reads};
 use layer_phase::free_graph;
-use net_phase::{Below, all_elements, find_wires, known_nets, own_lists};
+use net_phase::{Below, Indexes, all_elements, find_indexes, find_wires, known_nets, own_lists};
 use net_walk::Element;
 use rule_text::RuleSet;
 use std::alloc::{AllocError, Global};
@@ -35,6 +35,7 @@ pub struct GatePhase<'a> {
     bulks: Vec<Option<u32>>,
     own: Vec<Vec<&'a [Rect]>>,
     elements: Vec<Vec<Element>>,
+    indexes: Indexes,
     nets: Vec<Option<&'a CellNets>>,
     graph: Graph,
 }
@@ -52,7 +53,8 @@ impl<'a> Model for GatePhase<'a> {
 impl<'a> GatePhase<'a> {
     /// The phase of a layout and of its disturbed squares, layers and nets for these rules. 2^32
     /// names, device rules, globals or placements of a cell, or more, are refused. Linear in the
-    /// placements, and in the names for each reached cell.
+    /// placements, and in the names for each reached cell, beside the indexes of rectangles and
+    /// placements.
     pub fn new(
         alloc: Global,
         design: &'a Design,
@@ -79,6 +81,7 @@ impl<'a> GatePhase<'a> {
         let bulks = bulk_globals(alloc, rules)?;
         let own = own_lists(alloc, design, rules, layers)?;
         let elements = all_elements(alloc, design)?;
+        let indexes = find_indexes(alloc, design, &own, &elements)?;
         let known = known_nets(alloc, design, nets)?;
         let graph = free_graph(alloc, design)?;
         Ok(GatePhase {
@@ -91,6 +94,7 @@ impl<'a> GatePhase<'a> {
             bulks,
             own,
             elements,
+            indexes,
             nets: known,
             graph,
         })
@@ -134,6 +138,7 @@ impl Phase for GatePhase<'_> {
             self.conductors,
             &self.own,
             &self.elements,
+            &self.indexes,
             &self.nets,
         );
         cell_gates(
