@@ -12,3 +12,6 @@ pub mod Besides
 pub mod Grounding
 pub mod Uniting
 pub mod Numbering
+pub mod Contacting
+pub mod Ordering
+pub mod Results

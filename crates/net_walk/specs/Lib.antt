@@ -7,3 +7,5 @@ pub mod Beside
 pub mod Globals
 pub mod Together
 pub mod Windows
+pub mod Alike
+pub mod Contacts

@@ -1,4 +1,4 @@
-use Rattle.std.proofs.Common.{◌≡◌, ◌∙◌, ap, subst, sym, arith, rules, length, List, ℕ, ◌++◌, ◌∷◌, []}
+use Rattle.std.proofs.Common.{◌≡◌, ◌∙◌, ap, sym, arith, rules, List, ℕ, ◌++◌, ◌∷◌, []}
 use Rattle.std.specs.List.{range_with_len}
 use Rattle.net_walk.proofs.Numbering.{counted_more, numbers_all}
 use Rattle.net_walk.proofs.cells.all_numbers.Goals as goal

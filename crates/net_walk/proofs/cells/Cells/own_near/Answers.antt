@@ -1,4 +1,4 @@
-use Rattle.std.proofs.Common.{◌≡◌, List, subst}
+use Rattle.std.proofs.Common.{List, subst}
 use Rattle.geo_base.specs.declared.shapes.Rect.{Rect}
 use Rattle.net_walk.proofs.Numbering.{all_own}
 use Rattle.net_walk.proofs.cells.Cells.own_near.Goals as goal

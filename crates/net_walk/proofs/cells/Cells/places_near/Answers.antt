@@ -1,4 +1,4 @@
-use Rattle.std.proofs.Common.{◌≡◌, length, subst}
+use Rattle.std.proofs.Common.{subst}
 use Rattle.net_link_laws.specs.Places.{places_of}
 use Rattle.net_walk.proofs.Numbering.{all_places}
 use Rattle.net_walk.proofs.Walking.{as_long}
