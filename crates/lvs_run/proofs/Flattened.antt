@@ -1,5 +1,5 @@
 -- The written texts against the told files.
-use Rattle.std.proofs.Common.{◌≡◌, inl, inr, ℕ, List, [], ◌∷◌, length, Option, Some, IfSome, refl, sym, subst, ◌∙◌, arith}
+use Rattle.std.proofs.Common.{◌≡◌, inl, inr, ℕ, List, [], ◌∷◌, length, Option, refl, sym, subst, ◌∙◌, arith}
 use Rattle.lvs_outside.specs.Store.{Store, Told, Untold, NoFile, Holds}
 use Rattle.lvs_outside.specs.Summary.{SinkState}
 use Rattle.lvs_files.specs.Files.{File, IsWritten, AreWritten, IsApart, AreApart, files_of}
@@ -12,7 +12,7 @@ use Rattle.rule_text.specs.Reading.{Means}
 use Rattle.lvs_run.specs.declared.status.Refusal.{Refusal}
 use Rattle.lvs_run.specs.declared.status.Refusal.TheVariants.{Words, SamePath, Absent, TooLong, Rules, Layout, Schematic}
 use Rattle.lvs_run.specs.declared.output.Output.{Output}
-use Rattle.lvs_run.specs.Words.{Outputs, ToShapes, ToNetlist, ToReport, ForNetlist, Paths, schematic_path, shapes_path}
+use Rattle.lvs_run.specs.Words.{Outputs, ToShapes, ToNetlist, ToReport, ForNetlist, Paths, shapes_path}
 use Rattle.lvs_run.specs.Answers.{Done, Answer, Good, Bad, Undecided, IsVerdict, comparison_answer, refused, verdict_of}
 use Rattle.lvs_run.specs.Outcomes.{IsDone, IsDoneBeside, gates_answer}
 use Rattle.lvs_run.specs.Inputs.{Quiet, IsInput, ReadAs, IsReady}
@@ -26,11 +26,8 @@ use Rattle.pair_jobs.specs.Verdict.{IsRunVerdict}
 use Rattle.pair_jobs.specs.declared.verdict.Verdict.{Verdict as Comparison}
 use Rattle.pair_jobs.specs.declared.verdict.Verdict.TheVariants as comparison
 use Rattle.report_file.specs.File.{IsReportFile, all_answers}
-use Rattle.report_file.specs.Matched.{MatchedReportLaw}
-use Rattle.spice_rows.specs.Sizes.{read_limit}
-use Rattle.spice_text.specs.Means.{Means as SpiceMeans}
 use Rattle.plain_netlist.specs.Netlist.{Netlist}
-use Rattle.lvs_run.specs.Flat.{HoldsAs, IsFlatNetlist, IsFlatText, IsMatchOf, IsNetlistOf, ListsAs, MatchesSchematic, OfInputs, OfStated, WhereMeant, WhereTold, WritesFlat, WritesMatch, WritesNetlist}
+use Rattle.lvs_run.specs.Flat.{HoldsAs, IsFlatNetlist, IsFlatText, IsNetlistOf, ListsAs, OfInputs, OfStated, WhereTold, WritesFlat, WritesNetlist}
 
 -- ---- what a listed file holds
 
@@ -175,7 +172,7 @@ netlist_held (ToNetlist shapes netlist) old new before after o a done P same apa
 netlist_held (ToReport schematic shapes netlist report) old new before after o a done P same apart lists h v = held_delivered old new before after o a done netlist P same apart lists h v
 
 -- the answer of a run that wrote its files
-verdict_is : (o : Output) (old new : Store) (before after : SinkState) (a : Answer) → Delivered o old new before after a → IsVerdict a → verdict_of o.verdict ≡ a
+pub verdict_is : (o : Output) (old new : Store) (before after : SinkState) (a : Answer) → Delivered o old new before after a → IsVerdict a → verdict_of o.verdict ≡ a
 verdict_is o old new before after a (inl h) v = sym h.0
 verdict_is o old new before after a (inr (inl h)) v = absurd (subst IsVerdict h.0 v)
 verdict_is o old new before after a (inr (inr h)) v = absurd (subst IsVerdict h.0 v)
@@ -205,56 +202,3 @@ netlist_listed_beside p old mid new r v sch a done quiet rules layout shows made
     lists_netlist_beside p.outputs v r sch a done (IsFlatNetlist old.file p a)
     (λ nl top bad text none file. of_inputs p old mid new r v (λ (l : ReadLayout) (q : rule_sets.Rules). IsNetlistOf l q a text) quiet rules layout
     (netlist_of v r a nl top bad text none (shows nl top bad text file))) made
-
-is_match : (v : Comparison) → comparison_answer v ≡ Good → v ≡ comparison.Match
-is_match comparison.Match e = refl
-is_match comparison.Mismatch e = cc
-is_match comparison.Undecided e = cc
-
-match_of : (o : Outputs) (l : ReadLayout) (r : rule_sets.Rules) (nl : Netlist) (a : Answer) (done : Done) → MatchedReportLaw → IsDoneBeside o l r nl a done → a ≡ Good → IsMatchOf l r nl
-match_of (ToReport schematic shapes netlist report) l r nl a done law h g =
-    let same = is_match h.verdict (sym h.answer ∙ g) in
-    let file = subst (λ (v : Comparison). IsReportFile l.design r h.netlist h.top h.bad nl h.report h.pairs v) same h.report_file in
-    let cells = h.netlist_file.of_cells in
-    record {
-      netlist = h.netlist;
-      circuit = h.top;
-      bad = h.bad;
-      compared = file.compared;
-      is = law l.design r l.header.unit_pm _ _ _ h.netlist h.top h.bad nl h.report h.pairs cells.right cells.top_is file;
-    }
-match_of (ToShapes shapes) l r nl a done law h g = absurd h
-match_of (ToNetlist shapes netlist) l r nl a done law h g = absurd h
-
-where_meant : (t : Told) (bytes : List ℕ) (nl : Netlist) (P : Netlist → Type 0) → IsInput bytes t → SpiceMeans read_limit bytes nl → P nl → WhereMeant t P
-where_meant Untold bytes nl P told means h = tt
-where_meant NoFile bytes nl P told means h = absurd told
-where_meant (Holds all) bytes nl P told means h = (nl, subst (λ (xs : List ℕ). SpiceMeans read_limit xs nl) told.0 means, h)
-
-some_of : (o : Option (List ℕ)) (path : List ℕ) (P : List ℕ → Type 0) → o ≡ Some path → P path → IfSome o P
-some_of o path P e h = rw e h
-
-pub matched_beside : (p : Paths) (old mid late new : Store) (r : rule_sets.Rules) (v : ReadLayout) (nl : Netlist) (path : List ℕ) (a : Answer) (done : Done) → schematic_path p.outputs ≡ Some path
-    → Quiet old mid → Quiet mid late → ReadAs old mid p.rules (λ bytes. Means bytes r) → ReadAs mid late p.layout (λ bytes. IsRead bytes p.top v) → ReadAs late new path (λ bytes. SpiceMeans read_limit bytes nl)
-    → MatchedReportLaw → IsDoneBeside p.outputs v r nl a done → a ≡ Good → MatchesSchematic old.file p
-matched_beside p old mid late new r v nl path a done beside quiet later rules layout schematic law made good =
-    let told : IsInput schematic.bytes (old.file path) = subst (IsInput schematic.bytes) (later.starts.files path ∙ quiet.starts.files path) schematic.got.told in
-    let P = λ (n : Netlist). OfInputs old.file p (λ (l : ReadLayout) (q : rule_sets.Rules). IsMatchOf l q n) in
-    some_of (schematic_path p.outputs) path (λ (s : List ℕ). WhereMeant (old.file s) P) beside
-    (where_meant (old.file path) schematic.bytes nl P told schematic.is
-    (of_inputs p old mid late r v (λ (l : ReadLayout) (q : rule_sets.Rules). IsMatchOf l q nl) quiet rules layout (match_of p.outputs v r nl a done law made good)))
-
-alone : (o : Outputs) (P : List ℕ → Type 0) (l : ReadLayout) (r : rule_sets.Rules) (a : Answer) (done : Done) → IsDone o l r a done → IfSome (schematic_path o) P
-alone (ToShapes shapes) P l r a done h = tt
-alone (ToNetlist shapes netlist) P l r a done h = tt
-alone (ToReport schematic shapes netlist report) P l r a done h = absurd h
-
--- a command without a schematic says nothing of a match
-pub matched_alone : (p : Paths) (file : List ℕ → Told) (l : ReadLayout) (r : rule_sets.Rules) (a : Answer) (done : Done) → IsDone p.outputs l r a done → MatchesSchematic file p
-matched_alone p file l r a done h = alone p.outputs (λ (path : List ℕ). WhereMeant (file path) (λ nl. OfInputs file p (λ l r. IsMatchOf l r nl))) l r a done h
-
-pub match_delivered : (stated : Option Paths) (old mid new : Store) (before after : SinkState) (o : Output) (a : Answer) → IsReady stated old mid o → Delivered o mid new before after a → WritesMatch stated old a
-match_delivered stated old mid new before after o a ready h good =
-    let v = subst IsVerdict (sym good) tt in
-    let same = verdict_is o mid new before after a h v in
-    subst (λ (s : Option Paths). OfStated s (MatchesSchematic old.file)) (sym ready.stated) (ready.matched (same ∙ good))

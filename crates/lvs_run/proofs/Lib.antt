@@ -2,6 +2,8 @@ pub mod Steps
 pub mod Stopping
 pub mod Delivering
 pub mod Flattened
+pub mod Judged
+pub mod Reported
 pub mod OneAnswer
 pub mod Feeding
 pub mod Stated

@@ -4,7 +4,6 @@ use Rattle.lvs_outside.specs.Store.{HasRoom, Store}
 use Rattle.gds_layout.specs.declared.layout.Layout.{Layout}
 use Rattle.gds_layout.specs.Layouts.{IsRead}
 use Rattle.netlist_file.specs.Flat.{ShowsFlatLaw}
-use Rattle.report_file.specs.Matched.{MatchedReportLaw}
 use Rattle.rule_text.specs.Rules.{Rules}
 use Rattle.rule_text.specs.Reading.{Means}
 use Rattle.rule_text.specs.Sound.{IsSound}
@@ -16,8 +15,10 @@ use Rattle.lvs_run.specs.Runs.{HasCauseIn}
 use Rattle.lvs_run.specs.Words.{Outputs, Paths, schematic_path}
 use Rattle.lvs_run.specs.Answers.{verdict_of}
 use Rattle.lvs_run.specs.Inputs.{IsBeside, IsOutput, IsReady, Quiet, ReadAs}
+use Rattle.lvs_run.specs.Verdicts.{HasVerdicts, IsMatchOf, MatchLaw, VerdictsLaw}
 use Rattle.lvs_run.proofs.Stopping.{outcome_beside, outcome_made, verdict_cause, verdict_cause_beside}
-use Rattle.lvs_run.proofs.Flattened.{flat_listed, flat_listed_beside, matched_alone, matched_beside, netlist_listed, netlist_listed_beside}
+use Rattle.lvs_run.proofs.Flattened.{flat_listed, flat_listed_beside, netlist_listed, netlist_listed_beside}
+use Rattle.lvs_run.proofs.Reported.{lists_alone, matched_beside, verdicts_beside}
 
 pub ready_alone : (p : Paths) (old mid new : Store) (r : Rules) (l : Layout) (o : Output) → p.shared ≡ None → Quiet old mid → ReadAs old mid p.rules (λ bytes. Means bytes r) → IsSound r
     → ReadAs mid new p.layout (λ bytes. IsRead bytes p.top l) → CoversFlatLaw → ShowsFlatLaw → IsOutput p.outputs l r o → IsReady (Some p) old new o
@@ -35,13 +36,14 @@ ready_alone p old mid new r l o apart quiet rules sound layout covers shows made
       comes = outcome_made p old mid new r l a made.done apart quiet rules layout made.is;
       flat = flat_listed p old mid new r l a made.done quiet rules layout (λ text cells rectangles file. covers layout.bytes p.top l r text cells rectangles layout.is sound file) made.is;
       netlist = netlist_listed p old mid new r l a made.done quiet rules layout (λ nl top bad text file. shows layout.bytes p.top l r nl top bad text layout.is sound file) made.is;
-      matched = λ good. matched_alone p old.file l r a made.done made.is;
+      verdicts = lists_alone p old.file l r a made.done (HasVerdicts a) made.is;
+      matched = λ good. lists_alone p old.file l r a made.done IsMatchOf made.is;
     }
 
 pub ready_beside : (p : Paths) (old mid late new : Store) (r : Rules) (l : Layout) (path : List ℕ) (o : Output) → p.shared ≡ None → schematic_path p.outputs ≡ Some path → Quiet old mid → Quiet mid late
-    → ReadAs old mid p.rules (λ bytes. Means bytes r) → IsSound r → ReadAs mid late p.layout (λ bytes. IsRead bytes p.top l) → CoversFlatLaw → ShowsFlatLaw → MatchedReportLaw
+    → ReadAs old mid p.rules (λ bytes. Means bytes r) → IsSound r → ReadAs mid late p.layout (λ bytes. IsRead bytes p.top l) → CoversFlatLaw → ShowsFlatLaw → VerdictsLaw → MatchLaw
     → IsBeside p.outputs l r late new path o → IsReady (Some p) old new o
-ready_beside p old mid late new r l path o apart beside quiet later rules sound layout covers shows matches made =
+ready_beside p old mid late new r l path o apart beside quiet later rules sound layout covers shows judged matches made =
     let a = verdict_of o.verdict in
     let out = made.output in
     let nl = made.netlist in
@@ -58,6 +60,7 @@ ready_beside p old mid late new r l path o apart beside quiet later rules sound 
       comes = outcome_beside p old mid late new r l nl path a out.done apart beside quiet later rules layout schematic out.is;
       flat = flat_listed_beside p old mid late r l nl a out.done quiet rules layout (λ text cells rectangles file. covers layout.bytes p.top l r text cells rectangles layout.is sound file) out.is;
       netlist = netlist_listed_beside p old mid late r l nl a out.done quiet rules layout (λ n top bad text file. shows layout.bytes p.top l r n top bad text layout.is sound file) out.is;
+      verdicts = verdicts_beside p old mid late new r l nl path a out.done beside quiet later rules layout schematic judged out.is;
       matched = λ good. matched_beside p old mid late new r l nl path a out.done beside quiet later rules layout schematic matches out.is good;
     }
 

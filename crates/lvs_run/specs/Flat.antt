@@ -1,5 +1,5 @@
 -- What the files that a run writes show of the flat layout, where the files are told.
-use Rattle.std.specs.Prelude.{◌≡◌, ◌⊎◌, ℕ, List, [], ◌∷◌, Option, Some, None, IfSome}
+use Rattle.std.specs.Prelude.{◌≡◌, ◌⊎◌, ℕ, List, [], ◌∷◌, Option, Some, None}
 use Rattle.lvs_outside.specs.Loops.{IsFile}
 use Rattle.lvs_outside.specs.Store.{Store, Told, Holds}
 use Rattle.lvs_files.specs.Files.{File}
@@ -13,11 +13,7 @@ use Rattle.deep_tables.specs.declared.gates.BadGate.{BadGate}
 use Rattle.netlist_file.specs.Flat.{HasNoBadGate, ShowsFlat}
 use Rattle.plain_netlist.specs.Netlist.{Netlist}
 use Rattle.rule_layers.specs.Meaning.{device_rules, wiring_of}
-use Rattle.match_report.specs.declared.report.Compared.{Compared}
-use Rattle.report_file.specs.Matched.{MatchesFlat}
-use Rattle.spice_rows.specs.Sizes.{read_limit}
-use Rattle.spice_text.specs.Means.{Means as SpiceMeans}
-use Rattle.lvs_run.specs.Words.{Paths, ForNetlist, schematic_path, shapes_path}
+use Rattle.lvs_run.specs.Words.{Paths, ForNetlist, shapes_path}
 use Rattle.lvs_run.specs.Answers.{Answer, Good, IsVerdict}
 
 -- the list has a file of this path, and this is a fact of its text
@@ -80,26 +76,3 @@ IsFlatNetlist file p a text = OfInputs file p (λ l r. IsNetlistOf l r a text)
 abbrev pub WritesNetlist : Option Paths → Store → Store → Answer → Type 0
 WritesNetlist said old new a = IsVerdict a → OfStated said (λ p. ForNetlist p.outputs
     (λ path. HoldsAs (new.file path) (IsFlatNetlist old.file p a)))
-
--- No gate of the flat layout is bad, and its good gates and regions correspond one to one to the
--- devices and nets of the schematic, flattened from the partner of the layout's top.
-pub record IsMatchOf (l : Layout) (r : Rules) (schematic : Netlist) : Type 0 where
-  pub netlist : Netlist
-  pub circuit : ℕ
-  pub bad : List BadGate
-  pub compared : Option Compared
-  pub is : MatchesFlat l.design r l.header.unit_pm netlist circuit bad schematic compared
-
--- where it is told, the schematic's bytes mean a netlist with this fact
-abbrev pub WhereMeant : Told → (Netlist → Type 0) → Type 0
-WhereMeant (Holds bytes) P = (nl : Netlist) × SpiceMeans read_limit bytes nl × P nl
-WhereMeant _ P = Unit {0}
-
--- so the command's layout matches its schematic, where it reads one
-abbrev pub MatchesSchematic : (List ℕ → Told) → Paths → Type 0
-MatchesSchematic file p = IfSome (schematic_path p.outputs)
-    (λ path. WhereMeant (file path) (λ nl. OfInputs file p (λ l r. IsMatchOf l r nl)))
-
--- after Good it does
-abbrev pub WritesMatch : Option Paths → Store → Answer → Type 0
-WritesMatch said old a = a ≡ Good → OfStated said (MatchesSchematic old.file)

@@ -18,7 +18,8 @@ use Rattle.lvs_run.specs.Runs.{IsReadTooFar, WasAbsent, StartsNone, HasCauseIn}
 use Rattle.lvs_run.specs.Lines.{line_of}
 use Rattle.lvs_run.specs.Outcomes.{IsOutcome, IsDone, IsDoneBeside, IsFirstLayoutFault}
 use Rattle.lvs_run.specs.Outcomes.{IsFirstSchematicFault}
-use Rattle.lvs_run.specs.Flat.{IsFlatNetlist, IsFlatText, ListsAs, MatchesSchematic}
+use Rattle.lvs_run.specs.Flat.{IsFlatNetlist, IsFlatText, ListsAs}
+use Rattle.lvs_run.specs.Verdicts.{HasVerdicts, IsMatchOf, ListsReport}
 use Rattle.lvs_run.specs.declared.input.Stop.{Stop}
 use Rattle.lvs_run.specs.declared.input.Stop.TheVariants as stop
 use Rattle.lvs_run.specs.declared.output.Output.{Output}
@@ -168,4 +169,6 @@ pub record IsReady (said : Option Paths) (old new : Store) (o : Output) : Type 0
   pub flat : ListsAs done.files (shapes_path paths.outputs) (IsFlatText old.file paths)
   pub netlist : ForNetlist paths.outputs
       (λ path. ListsAs done.files path (IsFlatNetlist old.file paths (verdict_of o.verdict)))
-  pub matched : verdict_of o.verdict ≡ Good → MatchesSchematic old.file paths
+  pub verdicts : ListsReport old.file paths done.files (HasVerdicts (verdict_of o.verdict))
+  pub matched : verdict_of o.verdict ≡ Good
+      → ListsReport old.file paths done.files IsMatchOf

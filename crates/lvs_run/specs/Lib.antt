@@ -5,6 +5,7 @@ pub mod Lines
 pub mod Runs
 pub mod Outcomes
 pub mod Flat
+pub mod Verdicts
 pub mod Once
 pub mod Inputs
 pub mod Ends

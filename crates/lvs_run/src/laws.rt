@@ -1,10 +1,12 @@
 //! Laws of a run's outcome.
 
 ghost use Rattle.lvs_run.specs.Once.{OneOutcomeLaw};
+ghost use Rattle.lvs_run.specs.Verdicts.{MatchLaw, VerdictsLaw};
 
 use gds_layout::one_layout;
-use netlist_file::one_netlist;
-use report_file::one_report;
+use netlist_file::{flat_netlist, one_netlist};
+use pair_jobs::verdicts;
+use report_file::{matched_report, one_report, report_verdicts};
 use shapes_file::one_file;
 use spice_text::written_laws;
 
@@ -19,4 +21,17 @@ pub fn one_outcome()
     one_report();
     written_laws();
     rule_text::laws();
+}
+
+/// The answer of a comparison is that of the flat layout's bad gates and of the reported pairs; and
+/// the pairs of a reported match compose to a correspondence of the flat layout with the flattened
+/// schematic.
+pub fn compared_laws()
+    ensures verdicts { VerdictsLaw }
+    ensures matched { MatchLaw }
+{
+    flat_netlist();
+    matched_report();
+    report_verdicts();
+    verdicts();
 }

@@ -6,8 +6,10 @@ ghost use Rattle.lvs_files.specs.Files.{AreApart, files_of};
 ghost use Rattle.lvs_run.specs.Inputs.{IsOutput, IsOutputBeside};
 ghost use Rattle.net_align.specs.Compared.{IsAlignable};
 ghost use Rattle.net_model.specs.Rows.{plain_netlist};
+ghost use Rattle.netlist_file.specs.File.{IsNetlistFile};
+ghost use Rattle.report_file.specs.File.{IsReportFile};
 ghost use Rattle.lvs_run.specs.Answers.{comparison_answer, verdict_of};
-ghost use Rattle.lvs_run.specs.Outcomes.{gates_answer};
+ghost use Rattle.lvs_run.specs.Outcomes.{AreComparable, gates_answer};
 ghost use Rattle.lvs_run.specs.Words.{ToNetlist, ToShapes, blank_files, file_at};
 ghost use Rattle.lvs_run.specs.Words.{layout_outputs, report_outputs};
 ghost use Rattle.rule_text.specs.Seen.{rules_seen};
@@ -21,9 +23,9 @@ use gds_layout::Layout;
 use job_board::Gate;
 use lvs_files::Written;
 use net_model::Netlist;
-use netlist_file::{extract_files, flat_netlist};
+use netlist_file::{Extraction, extract_files, flat_netlist};
 use pair_jobs::Verdict as Comparison;
-use report_file::{extracted_alignable, report_file};
+use report_file::{Report, extracted_alignable, report_file};
 use rule_text::RuleSet;
 use shapes_file::shapes_file;
 use std::alloc::{AllocError, Global};
@@ -97,6 +99,39 @@ fn netlist_output<R: Threads + Wait + Sync, G: Gate + Sync>(
     })
 }
 
+// The report on what was extracted from a layout, compared with a schematic.
+fn report_found<R: Threads + Wait + Sync, G: Gate + Sync>(
+    rt: &R,
+    alloc: Global,
+    layout: &Layout,
+    rules: &RuleSet,
+    found: &Extraction,
+    schematic: &Netlist,
+    workers: usize,
+    gate: &G,
+) -> Result<Report, AllocError>
+    requires workers { (1 ≤ workers) × (workers ≤ 64) }
+    requires read { (bytes : List ℕ) × (top : Option (List ℕ)) × IsRead bytes top layout.now }
+    requires rules { IsSound (rules_seen rules.now) }
+    requires found { IsNetlistFile layout.now (rules_seen rules.now)
+        (plain_netlist found.now.netlist) found.now.top found.now.bad.items found.now.text.items }
+    requires schematic { IsAlignable (plain_netlist schematic.now) }
+    ensures comparable { IfOk result (λ _. AreComparable (rules_seen rules.now)
+        (plain_netlist found.now.netlist) (plain_netlist schematic.now)) }
+    ensures report { IfOk result (λ x. IsReportFile layout.now.design (rules_seen rules.now)
+        (plain_netlist found.now.netlist) found.now.top found.now.bad.items
+        (plain_netlist schematic.now) x.text.items x.pairs x.verdict) }
+{
+    extracted_alignable();
+    flat_netlist();
+    let (design, netlist, top) = (&layout.design, &found.netlist, found.top);
+    let bad = found.bad.as_slice();
+    let report = report_file(
+        rt, alloc, design, rules, netlist, top, bad, schematic, workers, gate,
+    )?;
+    Ok(report)
+}
+
 /// What `run` has to write.
 pub fn report_output<R: Threads + Wait + Sync, G: Gate + Sync>(
     rt: &R,
@@ -116,29 +151,14 @@ pub fn report_output<R: Threads + Wait + Sync, G: Gate + Sync>(
     ensures { (path : List ℕ) → IfOk result (IsOutputBeside (report_outputs path paths) layout.now
         (rules_seen rules.now) (plain_netlist schematic.now)) }
 {
-    extracted_alignable();
-    flat_netlist();
     let found = extract_files(rt, alloc, layout, rules, workers, gate)?;
-    let bad = found.bad.as_slice();
-    let design = &layout.design;
-    let compared = report_file(
-        rt,
-        alloc,
-        design,
-        rules,
-        &found.netlist,
-        found.top,
-        bad,
-        schematic,
-        workers,
-        gate,
-    )?;
-    let verdict = comparison_verdict(compared.verdict);
-    let line = compared_line(alloc, verdict, &found, compared.pairs)?;
+    let report = report_found(rt, alloc, layout, rules, &found, schematic, workers, gate)?;
+    let verdict = comparison_verdict(report.verdict);
+    let line = compared_line(alloc, verdict, &found, report.pairs)?;
     let mut files = Vec::new(alloc);
     push_file(&mut files, paths.shapes, found.shapes.text)?;
     push_file(&mut files, paths.netlist, found.text)?;
-    push_file(&mut files, paths.report, compared.text)?;
+    push_file(&mut files, paths.report, report.text)?;
     Ok(Output {
         files,
         line,

@@ -7,15 +7,17 @@ ghost use Rattle.lvs_outside.specs.Store.{HasRoom};
 ghost use Rattle.lvs_outside.specs.Summary.{SinkHasRoom};
 ghost use Rattle.lvs_run.specs.Answers.{answer_of, refused};
 ghost use Rattle.lvs_run.specs.Ends.{ComesOut, Delivered, Refused};
-ghost use Rattle.lvs_run.specs.Flat.{WritesFlat, WritesMatch, WritesNetlist};
+ghost use Rattle.lvs_run.specs.Flat.{WritesFlat, WritesNetlist};
 ghost use Rattle.lvs_run.specs.Inputs.{IsBeside, IsReady, Quiet, RefusesSchematic, Stops};
 ghost use Rattle.lvs_run.specs.Inputs.{stopped};
 ghost use Rattle.lvs_run.specs.Runs.{HasCauseIn, ShowsFaults};
+ghost use Rattle.lvs_run.specs.Verdicts.{WritesMatch, WritesVerdicts};
 ghost use Rattle.lvs_run.specs.Words.{blank_files, outputs_of, paths_of, report_outputs, said};
 ghost use Rattle.rule_text.specs.Seen.{rules_seen};
 ghost use Rattle.rule_text.specs.Sound.{IsSound};
 
 use crate::input::Stop;
+use crate::laws::compared_laws;
 use crate::making::{output_of, report_output};
 use crate::output::Output;
 use crate::readings::{layout_of, rules_of, schematic_of};
@@ -28,7 +30,7 @@ use lvs_files::write_files;
 use lvs_outside::{Depot, Sink, write_all};
 use lvs_words::WordFault;
 use netlist_file::flat_netlist;
-use report_file::{matched_report, read_alignable};
+use report_file::read_alignable;
 use rule_text::RuleSet;
 use shapes_file::covers_flat;
 use std::alloc::Global;
@@ -85,7 +87,7 @@ fn prepare_task<R: Threads + Wait + Sync, D: Depot, G: Gate + Sync>(
 {
     covers_flat();
     flat_netlist();
-    matched_report();
+    compared_laws();
     let Task {
         layout,
         rules,
@@ -199,10 +201,16 @@ pub fn run_lvs<R: Threads + Wait + Sync, D: Depot, S: Sink, G: Gate + Sync>(
     // rules' unit squares of the layout, where the files are told.
     ensures flat { WritesFlat (said (map string_bytes words.now)) (D.state depot.old)
         (D.state depot.new) (answer_of result) }
-    // After Good of a comparison the flat layout's regions and good gates correspond one to one to
-    // the nets and devices of the flattened schematic.
+    // After Good of a comparison the pairs of the written report compose to a one-to-one
+    // correspondence of the flat layout's regions and good gates with the nets and devices of the
+    // flattened schematic.
     ensures matched { WritesMatch (said (map string_bytes words.now)) (D.state depot.old)
-        (answer_of result) }
+        (D.state depot.new) (answer_of result) }
+    // The answer of a comparison comes exactly where the flat layout's bad gates and the pairs of
+    // the written report say so; unequal devices of a pair make Bad, and a pair that has a
+    // correspondence is never reported as different.
+    ensures verdicts { WritesVerdicts (said (map string_bytes words.now)) (D.state depot.old)
+        (D.state depot.new) (answer_of result) }
     // The netlist's file means, expanded, the netlist of the flat layout, and after Good the flat
     // layout has no bad gate.
     ensures netlist { WritesNetlist (said (map string_bytes words.now)) (D.state depot.old)

@@ -68,7 +68,7 @@ returns-clause-ready g c =
     let made = beside_as (outputs_of c.args.task.outputs) _ same c.in_ok-made-in-Report.ensures.made in
     let first = c.in_ok-rule_set.ensures in
     let then = c.in_ok-design.ensures in
-    ready_beside p _ _ _ _ r l path c.in_ok-made-in-Report.made apart beside first.quiet then.quiet first.found first.sound then.found c.covers_flat.ensures c.flat_netlist.ensures c.matched_report.ensures made
+    ready_beside p _ _ _ _ r l path c.in_ok-made-in-Report.made apart beside first.quiet then.quiet first.found first.sound then.found c.covers_flat.ensures c.flat_netlist.ensures c.compared_laws.ensures.verdicts c.compared_laws.ensures.matched made
 
 pub returns-in_err-made-in-Report-clause-stops : goal.returns-in_err-made-in-Report-clause-stops
 returns-in_err-made-in-Report-clause-stops g c =

@@ -1,8 +1,9 @@
 use Rattle.std.proofs.Common.{subst, sym}
 use Rattle.lvs_run.specs.Answers.{IsVerdict}
 use Rattle.lvs_run.proofs.Delivering.{cause_delivered, delivered, faults_delivered, stop_out, stopped_outside, stopped_memory}
-use Rattle.lvs_run.proofs.Flattened.{flat_delivered, match_delivered, netlist_delivered, none_written}
+use Rattle.lvs_run.proofs.Flattened.{flat_delivered, netlist_delivered, none_written}
 use Rattle.lvs_run.proofs.Ready.{room_left}
+use Rattle.lvs_run.proofs.Reported.{match_delivered, verdicts_delivered}
 use Rattle.lvs_run.proofs.run.run_lvs.Goals as goal
 
 pub returns-in-Ok-clause-outcome : goal.returns-in-Ok-clause-outcome
@@ -40,6 +41,12 @@ returns-in-Ok-clause-matched g c = match_delivered _ _ _ _ _ _ c.in-Ok.output _ 
 
 pub returns-in-Err-Refused-clause-matched : goal.returns-in-Err-Refused-clause-matched
 returns-in-Err-Refused-clause-matched g c = λ good. absurd (none_written _ _ c.in-Err-Refused.why _ c.refuse.ensures (subst IsVerdict (sym good) tt))
+
+pub returns-in-Ok-clause-verdicts : goal.returns-in-Ok-clause-verdicts
+returns-in-Ok-clause-verdicts g c = verdicts_delivered _ _ _ _ _ _ c.in-Ok.output _ c.in-Ok.ensures.ready c.deliver.ensures
+
+pub returns-in-Err-Refused-clause-verdicts : goal.returns-in-Err-Refused-clause-verdicts
+returns-in-Err-Refused-clause-verdicts g c = λ v. absurd (none_written _ _ c.in-Err-Refused.why _ c.refuse.ensures v)
 
 pub deliver-requires-clause-depot : goal.deliver-requires-clause-depot
 deliver-requires-clause-depot g c = room_left _ _ _ c.in-Ok.output c.requires.depot c.in-Ok.ensures.quiet c.in-Ok.ensures.ready

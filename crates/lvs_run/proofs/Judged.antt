@@ -1,0 +1,164 @@
+-- What the answer of a comparison is, by its bad gates and its pairs.
+use Rattle.std.proofs.Common.{◌≡◌, inl, inr, ◌↔◌, ℕ, ◌<◌, true, false, true≢false, List, [], ◌∷◌, length, Option, Some, None, IsNone, refl, sym, ap, subst, ◌∙◌, arith}
+use Rattle.std.specs.List.{Any}
+use Rattle.cell_graph.specs.Linked.{plain}
+use Rattle.deep_tables.specs.declared.gates.BadGate.{BadGate}
+use Rattle.gds_layout.specs.declared.layout.Layout.{Layout}
+use Rattle.gds_layout.specs.Layouts.{IsRead}
+use Rattle.match_laws.specs.Answer.{Answer as PairAnswer, IsDifference}
+use Rattle.match_report.specs.Report.{answers_of}
+use Rattle.match_report.specs.declared.report.Compared.{Compared}
+use Rattle.net_align.specs.Compared.{HasNoPartner}
+use Rattle.netlist_file.specs.Flat.{HasNoBadGate, ShowsFlat, ShowsFlatLaw}
+use Rattle.pair_jobs.specs.Verdict.{IsRunVerdict, IsUndecided, OneRunVerdictLaw}
+use Rattle.pair_jobs.specs.declared.verdict.Verdict.{Verdict as Comparison}
+use Rattle.pair_jobs.specs.declared.verdict.Verdict.TheVariants as comparison
+use Rattle.plain_netlist.specs.Lists.{IsListed}
+use Rattle.plain_netlist.specs.Netlist.{Netlist}
+use Rattle.report_file.specs.File.{IsComparison, IsReportFile, all_answers}
+use Rattle.report_file.specs.Matched.{MatchedReportLaw}
+use Rattle.report_file.specs.Verdicts.{KeptPairLaw, UndecidedLaw, UnevenPairLaw}
+use Rattle.rule_layers.specs.Meaning.{device_rules, wiring_of}
+use Rattle.rule_text.specs.Rules.{Rules}
+use Rattle.lvs_run.specs.Answers.{Answer, Good, Bad, Undecided, Done, comparison_answer}
+use Rattle.lvs_run.specs.Outcomes.{IsCompared}
+use Rattle.lvs_run.specs.Verdicts.{HasBadGate, HasVerdicts, MatchLaw, OfAnswers, VerdictsLaw}
+
+-- ---- verdicts and answers
+
+abbrev verdict_in : Answer → Comparison
+verdict_in Good = comparison.Match
+verdict_in Bad = comparison.Mismatch
+verdict_in a = comparison.Undecided
+
+and_back : (v : Comparison) → verdict_in (comparison_answer v) ≡ v
+and_back comparison.Match = refl
+and_back comparison.Mismatch = refl
+and_back comparison.Undecided = refl
+
+same_verdict : (v w : Comparison) → comparison_answer v ≡ comparison_answer w → v ≡ w
+same_verdict v w e = sym (and_back v) ∙ (ap verdict_in e ∙ and_back w)
+
+-- the answer is that of a verdict exactly where bad gates and pairs come to it
+exactly : (bad : ℕ) (answers : Option (List PairAnswer)) (v w : Comparison) (a : Answer) → OneRunVerdictLaw → a ≡ comparison_answer v → IsRunVerdict bad answers v → (a ≡ comparison_answer w) ↔ IsRunVerdict bad answers w
+exactly bad answers v w a one e h = (
+  (λ g. subst (λ (u : Comparison). IsRunVerdict bad answers u) (same_verdict v w (sym e ∙ g)) h),
+  (λ k. e ∙ ap (λ (u : Comparison). comparison_answer u) (one bad answers v w h k)),
+)
+
+-- ---- bad gates
+
+nil_of : (bad : List BadGate) → length bad ≡ 0 → bad ≡ []
+nil_of [] e = refl
+nil_of (b ∷ bs) e = absurd (omega (arith, e))
+
+listed_some : (b : BadGate) (bad : List BadGate) → IsListed b bad → 0 < length bad
+listed_some b [] h = absurd h
+listed_some b (x ∷ xs) h = omega (arith)
+
+module _ (l : Layout) (r : Rules) (text : List ℕ) (nl : Netlist) (top : ℕ) where
+  none_bad : (bad : List BadGate) → ShowsFlat l r text nl top bad → length bad ≡ 0 → HasNoBadGate (plain l.design) (wiring_of r) (device_rules r)
+  none_bad bad shows e = shows.no_bad.0 (nil_of bad e)
+
+  no_length : (bad : List BadGate) → ShowsFlat l r text nl top bad → HasNoBadGate (plain l.design) (wiring_of r) (device_rules r) → length bad ≡ 0
+  no_length bad shows none = ap (λ (bs : List BadGate). length bs) (shows.no_bad.1 none)
+
+  one_bad : (bad : List BadGate) → ShowsFlat l r text nl top bad → 0 < length bad → HasBadGate l r
+  one_bad [] shows h = absurd (omega (arith, h))
+  one_bad (b ∷ bs) shows h = let found = shows.all_bad b (inl refl) in (found.0, found.1, found.2)
+
+  some_length : (bad : List BadGate) → ShowsFlat l r text nl top bad → HasBadGate l r → 0 < length bad
+  some_length bad shows (g, cause, is) = let told = shows.told g cause is in listed_some told.0 bad told.1
+
+-- ---- the top's partner
+
+module _ (layout : Netlist) (top : ℕ) (schematic : Netlist) (r : Rules) where
+  no_partner : (o : Option Compared) → IsComparison layout top schematic r.same r.max_guesses o → IsNone (all_answers o) → HasNoPartner layout schematic top r.same
+  no_partner None h none = h
+  no_partner (Some f) h none = let no : true ≡ false = none in absurd (true≢false no)
+
+  no_answers : (o : Option Compared) → IsComparison layout top schematic r.same r.max_guesses o → HasNoPartner layout schematic top r.same → IsNone (all_answers o)
+  no_answers None h none = refl
+  no_answers (Some f) h none = absurd (none h.0.right_top h.0.are.partner)
+
+-- ---- undecided pairs
+
+abbrev AreStuck : List PairAnswer → Type 0
+AreStuck all = (Any IsDifference all → ⊥) × Any IsUndecided all
+
+stuck_in : (o : Option Compared) (f : Compared) → o ≡ Some f → AreStuck (answers_of f) → OfAnswers o (λ all. (Any IsDifference all → ⊥) × Any IsUndecided all)
+stuck_in o f e h = subst (λ (c : Option Compared). OfAnswers c (λ all. (Any IsDifference all → ⊥) × Any IsUndecided all)) (sym e) h
+
+stuck_of : (o : Option Compared) → OfAnswers o (λ all. (Any IsDifference all → ⊥) × Any IsUndecided all) → (f : Compared) × (o ≡ Some f) × AreStuck (answers_of f)
+stuck_of None h = absurd h
+stuck_of (Some f) h = (f, refl, h)
+
+-- ---- what was compared
+
+module _ (one : OneRunVerdictLaw) (uneven : UnevenPairLaw) (kept : KeptPairLaw) (undecided : UndecidedLaw) (l : Layout) (r : Rules) (nl : Netlist) (path netlist_path report_path : List ℕ) (a : Answer) (done : Done)
+    (h : IsCompared l r nl path netlist_path report_path a done) (flat : ShowsFlat l r h.spelled h.netlist h.top h.bad) where
+  come_to : (w : Comparison) → (a ≡ comparison_answer w) ↔ IsRunVerdict (length h.bad) (all_answers h.report_file.compared) w
+  come_to w = exactly (length h.bad) (all_answers h.report_file.compared) h.verdict w a one h.answer h.report_file.outcome
+
+  is_undecided : (a ≡ Undecided) ↔ ((length h.bad ≡ 0) × OfAnswers h.report_file.compared (λ all. (Any IsDifference all → ⊥) × Any IsUndecided all))
+  is_undecided =
+      let law = undecided l.design r h.netlist h.top h.bad nl h.report h.pairs h.verdict h.comparable.layout h.comparable.order h.report_file in (
+        (λ e.
+            let found = law.0 (same_verdict h.verdict comparison.Undecided (sym h.answer ∙ e)) in
+            (found.0, stuck_in h.report_file.compared found.1.0 found.1.1 (found.1.2, found.1.3))),
+        (λ (none, stuck).
+            let found = stuck_of h.report_file.compared stuck in
+            h.answer ∙ ap (λ (u : Comparison). comparison_answer u) (law.1 (none, (found.0, found.1, found.2.0, found.2.1)))),
+      )
+
+  has_verdicts : HasVerdicts a l r nl h.spelled h.report
+  has_verdicts = record {
+    report = record { netlist = h.netlist; top = h.top; bad = h.bad; shows = flat; pairs = h.pairs; verdict = h.verdict; file = h.report_file; answer = h.answer };
+    good = (
+      (λ e. let x = (come_to comparison.Match).0 e in (none_bad l r h.spelled h.netlist h.top h.bad flat x.0, x.1)),
+      (λ (none, all). (come_to comparison.Match).1 (no_length l r h.spelled h.netlist h.top h.bad flat none, all)),
+    );
+    bad = (
+      (λ e.
+          elim ((come_to comparison.Mismatch).0 e) [
+            | inl some ↦ inl (one_bad l r h.spelled h.netlist h.top h.bad flat some)
+            | inr (inl none) ↦ inr (inl (no_partner h.netlist h.top nl r h.report_file.compared h.report_file.comparison none))
+            | inr (inr any) ↦ inr (inr any)
+          ]),
+      (λ cause.
+          (come_to comparison.Mismatch).1 (
+          elim cause [
+            | inl gate ↦ inl (some_length l r h.spelled h.netlist h.top h.bad flat gate)
+            | inr (inl none) ↦ inr (inl (no_answers h.netlist h.top nl r h.report_file.compared h.report_file.comparison none))
+            | inr (inr any) ↦ inr (inr any)
+          ]
+          )),
+    );
+    undecided = (
+      (λ e. let x = is_undecided.0 e in (none_bad l r h.spelled h.netlist h.top h.bad flat x.0, x.1)),
+      (λ (none, stuck). is_undecided.1 (no_length l r h.spelled h.netlist h.top h.bad flat none, stuck)),
+    );
+    uneven = λ f k c d p is pair differ. h.answer
+        ∙ ap (λ (u : Comparison). comparison_answer u) (uneven l.design r h.netlist h.top h.bad nl h.report h.pairs h.verdict h.report_file f k c d p is pair differ);
+    kept = λ f k c d p is pair map corresponds differs.
+        kept l.design r h.netlist h.top h.bad nl h.report h.pairs h.verdict h.comparable.layout h.comparable.order h.report_file f k c d p map is pair corresponds differs;
+  }
+
+-- what a netlist's file shows
+shows_in : {l : Layout} {r : Rules} {nl : Netlist} {path netlist report : List ℕ} {a : Answer} {done : Done} → ShowsFlatLaw → (bytes : List ℕ) (name : Option (List ℕ)) → IsRead bytes name l
+    → (h : IsCompared l r nl path netlist report a done) → ShowsFlat l r h.spelled h.netlist h.top h.bad
+shows_in {l} {r} shows bytes name read h = shows bytes name l r h.netlist h.top h.bad h.spelled read h.comparable.rules h.netlist_file
+
+pub verdicts_law : ShowsFlatLaw → OneRunVerdictLaw → UnevenPairLaw → KeptPairLaw → UndecidedLaw → VerdictsLaw
+verdicts_law shows one uneven kept undecided bytes name l r nl path netlist report a done read h =
+    has_verdicts one uneven kept undecided l r nl path netlist report a done h (shows_in shows bytes name read h)
+
+pub match_law : ShowsFlatLaw → MatchedReportLaw → MatchLaw
+match_law shows matched bytes name l r nl path netlist report a done read h good =
+    let same = same_verdict h.verdict comparison.Match (sym h.answer ∙ good) in
+    let file = subst (λ (v : Comparison). IsReportFile l.design r h.netlist h.top h.bad nl h.report h.pairs v) same h.report_file in
+    let cells = h.netlist_file.of_cells in
+    record {
+      report = record { netlist = h.netlist; top = h.top; bad = h.bad; shows = shows_in shows bytes name read h; pairs = h.pairs; verdict = comparison.Match; file = file; answer = refl };
+      is = matched l.design r l.header.unit_pm _ _ _ h.netlist h.top h.bad nl h.report h.pairs cells.right cells.top_is file;
+    }

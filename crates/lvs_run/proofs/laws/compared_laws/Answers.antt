@@ -1,0 +1,10 @@
+use Rattle.lvs_run.proofs.Judged.{match_law, verdicts_law}
+use Rattle.lvs_run.proofs.laws.compared_laws.Goals as goal
+
+pub returns : goal.returns
+returns c =
+    let pairs = c.report_verdicts.ensures in
+    record {
+      verdicts = verdicts_law c.flat_netlist.ensures c.verdicts.ensures.one_run pairs.uneven pairs.kept pairs.undecided;
+      matched = match_law c.flat_netlist.ensures c.matched_report.ensures;
+    }

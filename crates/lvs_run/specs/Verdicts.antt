@@ -1,0 +1,144 @@
+-- What the answer of a comparison says of the flat layout, the schematic, and the pairs in the
+-- written report, where the files are told.
+use Rattle.std.specs.Prelude.{◌≡◌, ◌⊎◌, ◌↔◌, ℕ, List, Option, Some, IsSomeAnd}
+use Rattle.std.specs.List.{All, Any}
+use Rattle.lvs_outside.specs.Store.{Store, Told, Holds}
+use Rattle.lvs_files.specs.Files.{File}
+use Rattle.cell_graph.specs.Linked.{plain}
+use Rattle.deep_tables.specs.declared.gates.BadGate.{BadGate}
+use Rattle.flat_layout.specs.Gates.{Cause}
+use Rattle.flat_layout.specs.GateTables.{GateSquare}
+use Rattle.gds_layout.specs.declared.layout.Layout.{Layout}
+use Rattle.gds_layout.specs.Layouts.{IsRead}
+use Rattle.match_laws.specs.Answer.{Answer as PairAnswer, IsDifference}
+use Rattle.match_laws.specs.Circuits.{IsCorrespondence, Pair, Pairing}
+use Rattle.match_report.specs.Report.{answers_of}
+use Rattle.match_report.specs.declared.report.Compared.{Compared}
+use Rattle.net_align.specs.Compared.{HasNoPartner}
+use Rattle.netlist_file.specs.Flat.{HasNoBadGate, IsBadFlatGate, ShowsFlat}
+use Rattle.pair_jobs.specs.Answers.{answer_at, IsMatch}
+use Rattle.pair_jobs.specs.Verdict.{IsUndecided}
+use Rattle.pair_jobs.specs.declared.verdict.Verdict.{Verdict}
+use Rattle.plain_netlist.specs.Netlist.{Circuit, Netlist}
+use Rattle.refine_match.specs.Matching.{HaveUnevenDevices}
+use Rattle.report_file.specs.File.{IsReportFile, all_answers}
+use Rattle.report_file.specs.Matched.{MatchesFlat}
+use Rattle.report_file.specs.Verdicts.{IsComparedPair}
+use Rattle.rule_layers.specs.Meaning.{device_rules, wiring_of}
+use Rattle.rule_text.specs.Rules.{Rules}
+use Rattle.spice_rows.specs.Sizes.{read_limit}
+use Rattle.spice_text.specs.Means.{Means as SpiceMeans}
+use Rattle.lvs_run.specs.Words.{Outputs, Paths, ToShapes, ToNetlist, ToReport}
+use Rattle.lvs_run.specs.Answers.{Answer, Good, Bad, Undecided, Done, IsVerdict}
+use Rattle.lvs_run.specs.Answers.{comparison_answer}
+use Rattle.lvs_run.specs.Outcomes.{IsCompared}
+use Rattle.lvs_run.specs.Flat.{HoldsAs, ListsAs, OfInputs, OfStated}
+
+-- The one text means one netlist, that of the flat layout; the other is the report on comparing
+-- this netlist with the schematic, beside the flat layout's bad gates; and this is the answer of
+-- that comparison.
+pub record IsReportOf (l : Layout) (r : Rules) (schematic : Netlist) (a : Answer)
+    (netlist_text report_text : List ℕ) : Type 0 where
+  pub netlist : Netlist
+  pub top : ℕ
+  pub bad : List BadGate
+  pub shows : ShowsFlat l r netlist_text netlist top bad
+  pub pairs : ℕ
+  pub verdict : Verdict
+  pub file : IsReportFile l.design r netlist top bad schematic report_text pairs verdict
+  pub answer : a ≡ comparison_answer verdict
+
+-- a gate of the flat layout is bad
+abbrev pub HasBadGate : Layout → Rules → Type 0
+HasBadGate l r = (g : GateSquare) × (cause : Cause)
+    × IsBadFlatGate (plain l.design) (wiring_of r) (device_rules r) g cause
+
+-- the layout's top has a partner, and this is a fact of the answers of all pairs
+abbrev pub OfAnswers : Option Compared → (List PairAnswer → Type 0) → Type 0
+OfAnswers compared P = IsSomeAnd (all_answers compared) P
+
+-- a fact of each pair of circuits, with the pins that the pairs below it hand up, and of its answer
+abbrev pub OfEachPair : Option Compared → (Pair → PairAnswer → Type 0) → Type 0
+OfEachPair compared P = (f : Compared) (k : ℕ) (c d : Circuit) (p : Pair) → compared ≡ Some f
+    → IsComparedPair f k c d p → P p (answer_at (answers_of f) k)
+
+-- Good comes exactly where no gate is bad and each pair matches, Bad where a gate is bad, the top
+-- has no partner or a pair differs, Undecided where none of this is so and the guesses of some pair
+-- ran out. A pair whose circuits have unequal numbers of devices of some class and sizes makes Bad,
+-- whatever the pairs below it are; a pair that has a correspondence which keeps their pins is never
+-- reported as different.
+pub record HasVerdicts (a : Answer) (l : Layout) (r : Rules) (schematic : Netlist)
+    (netlist_text report_text : List ℕ) : Type 0 where
+  pub report : IsReportOf l r schematic a netlist_text report_text
+  pub good : (a ≡ Good) ↔ (HasNoBadGate (plain l.design) (wiring_of r) (device_rules r)
+      × OfAnswers report.file.compared (λ all. All IsMatch all))
+  pub bad : (a ≡ Bad) ↔ (HasBadGate l r ⊎ (HasNoPartner report.netlist schematic report.top r.same
+      ⊎ OfAnswers report.file.compared (λ all. Any IsDifference all)))
+  pub undecided : (a ≡ Undecided) ↔ (HasNoBadGate (plain l.design) (wiring_of r) (device_rules r)
+      × OfAnswers report.file.compared (λ all. (Any IsDifference all → ⊥) × Any IsUndecided all))
+  pub uneven : OfEachPair report.file.compared (λ p answer. HaveUnevenDevices p → a ≡ Bad)
+  pub kept : OfEachPair report.file.compared
+      (λ p answer. (map : Pairing) → IsCorrespondence p map → IsDifference answer → ⊥)
+
+-- No gate of the flat layout is bad, and the pairs of this report compose to a one-to-one
+-- correspondence of its good gates and regions with the devices and nets of the schematic,
+-- flattened from the partner of the layout's top.
+pub record IsMatchOf (l : Layout) (r : Rules) (schematic : Netlist)
+    (netlist_text report_text : List ℕ) : Type 0 where
+  pub report : IsReportOf l r schematic Good netlist_text report_text
+  pub is : MatchesFlat l.design r l.header.unit_pm report.netlist report.top report.bad schematic
+      report.file.compared
+
+-- so it is of what a comparison writes of a layout that was read
+abbrev pub VerdictsLaw : Type 0
+VerdictsLaw = (bytes : List ℕ) (name : Option (List ℕ)) (l : Layout) (r : Rules)
+    (schematic : Netlist) (path netlist report : List ℕ) (a : Answer) (done : Done)
+    → IsRead bytes name l → (h : IsCompared l r schematic path netlist report a done)
+    → HasVerdicts a l r schematic h.spelled h.report
+
+-- and after Good
+abbrev pub MatchLaw : Type 0
+MatchLaw = (bytes : List ℕ) (name : Option (List ℕ)) (l : Layout) (r : Rules)
+    (schematic : Netlist) (path netlist report : List ℕ) (a : Answer) (done : Done)
+    → IsRead bytes name l → (h : IsCompared l r schematic path netlist report a done) → a ≡ Good
+    → IsMatchOf l r schematic h.spelled h.report
+
+-- where it is told, the schematic's bytes mean a netlist with this fact
+abbrev pub WhereMeant : Told → (Netlist → Type 0) → Type 0
+WhereMeant (Holds bytes) P = (nl : Netlist) × SpiceMeans read_limit bytes nl × P nl
+WhereMeant _ P = Unit {0}
+
+-- a fact of the paths of schematic, netlist and report, where the command compares
+abbrev pub ForReport : Outputs → (List ℕ → List ℕ → List ℕ → Type 0) → Type 0
+ForReport (ToShapes shapes) P = Unit {0}
+ForReport (ToNetlist shapes netlist) P = Unit {0}
+ForReport (ToReport schematic shapes netlist report) P = P schematic netlist report
+
+-- a fact of layout, rules and schematic and of the texts of netlist and report
+abbrev pub TextsFact : Type 1
+TextsFact = Layout → Rules → Netlist → List ℕ → List ℕ → Type 0
+
+-- it is one of the inputs that the files mean, where they are told
+abbrev pub OfCompared : (List ℕ → Told) → Paths → TextsFact → (schematic netlist_text
+    report_text : List ℕ) → Type 0
+OfCompared file p P schematic netlist_text report_text = WhereMeant (file schematic)
+    (λ nl. OfInputs file p (λ l r. P l r nl netlist_text report_text))
+
+-- the list has both texts, and this is a fact of them
+abbrev pub ListsReport : (List ℕ → Told) → Paths → List File → TextsFact → Type 0
+ListsReport file p files P = ForReport p.outputs (λ schematic netlist report. ListsAs files netlist
+    (λ text. ListsAs files report (λ told. OfCompared file p P schematic text told)))
+
+-- the written files hold both, and this is a fact of them
+abbrev pub WritesReport : Option Paths → Store → Store → TextsFact → Type 0
+WritesReport said old new P = OfStated said (λ p. ForReport p.outputs
+    (λ schematic netlist report. HoldsAs (new.file netlist) (λ text. HoldsAs (new.file report)
+    (λ told. OfCompared old.file p P schematic text told))))
+
+-- after each answer of a comparison that writes its files
+abbrev pub WritesVerdicts : Option Paths → Store → Store → Answer → Type 0
+WritesVerdicts said old new a = IsVerdict a → WritesReport said old new (HasVerdicts a)
+
+-- after Good
+abbrev pub WritesMatch : Option Paths → Store → Store → Answer → Type 0
+WritesMatch said old new a = a ≡ Good → WritesReport said old new IsMatchOf
