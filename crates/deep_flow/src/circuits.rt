@@ -12,7 +12,7 @@ ghost use Rattle.rule_text.specs.Seen.{rules_seen};
 use cell_graph::Design;
 use circuit_phase::CircuitPhase;
 use deep_tables::{Circuits, Gates, Nets, Pins};
-use job_graph::run_levels;
+use job_board::{Gate, run_phase};
 use rule_text::RuleSet;
 use std::alloc::{AllocError, Global};
 use std::sync::Wait;
@@ -21,7 +21,7 @@ use std::thread::Threads;
 /// The circuits of the reached cells, over their nets, pins and gates; the database unit is in
 /// picometres, at most 1,000,000. A cell is worked once, by 1 to 64 workers, with one answer for
 /// every number of them. An `Err` is want of memory.
-pub fn find_circuits<R: Threads + Wait + Sync>(
+pub fn find_circuits<R: Threads + Wait + Sync, G: Gate + Sync>(
     rt: &R,
     alloc: Global,
     design: &Design,
@@ -31,6 +31,7 @@ pub fn find_circuits<R: Threads + Wait + Sync>(
     gates: &Gates,
     unit_pm: u32,
     workers: usize,
+    gate: &G,
 ) -> Result<Circuits, AllocError>
     requires workers { (1 ≤ workers) × (workers ≤ 64) }
     requires unit { unit_pm ≤ 1000000 }
@@ -42,7 +43,7 @@ pub fn find_circuits<R: Threads + Wait + Sync>(
 {
     design.sound();
     let phase = CircuitPhase::new(alloc, design, rules, nets, pins, gates, unit_pm)?;
-    let results = run_levels(rt, alloc, &phase, workers)?;
+    let results = run_phase(rt, alloc, &phase, workers, gate)?;
     let circuits = Circuits::new(alloc, design, results)?;
     Ok(circuits)
 }

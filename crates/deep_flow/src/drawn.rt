@@ -23,6 +23,7 @@ use crate::netlist::netlist;
 use cell_graph::Design;
 use circuit_phase::circuit_cells;
 use deep_tables::{BadGate, Circuits, Pins};
+use job_board::Gate;
 use net_model::Netlist;
 use rule_text::RuleSet;
 use std::alloc::{AllocError, Global};
@@ -71,7 +72,7 @@ fn have_few_nets(circuits: &Circuits, cells: &[u32]) -> bool
 /// The netlist and the bad gates of a layout, over its layers, nets, gates and pins. The database
 /// unit is in picometres. A cell is worked once, however often it is placed. The answer is the same
 /// for every number of workers. An `Err` is want of memory, or 2^32 circuits or nets of a cell.
-pub fn draw<R: Threads + Wait + Sync>(
+pub fn draw<R: Threads + Wait + Sync, G: Gate + Sync>(
     rt: &R,
     alloc: Global,
     design: &Design,
@@ -80,6 +81,7 @@ pub fn draw<R: Threads + Wait + Sync>(
     pins: &Pins,
     unit_pm: u32,
     workers: usize,
+    gate: &G,
 ) -> Result<Drawn, AllocError>
     requires workers { (1 ≤ workers) × (workers ≤ 64) }
     requires unit { unit_pm ≤ 1000000 }
@@ -98,7 +100,7 @@ pub fn draw<R: Threads + Wait + Sync>(
     let nets = &gated.nets;
     let gates = &gated.gates;
     let circuits = find_circuits(
-        rt, alloc, design, rules, nets, pins, gates, unit_pm, workers,
+        rt, alloc, design, rules, nets, pins, gates, unit_pm, workers, gate,
     )?;
     let cells = circuit_cells(alloc, design, gates)?;
     if cells.len() > u32::MAX as usize {

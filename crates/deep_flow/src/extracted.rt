@@ -20,6 +20,7 @@ use crate::gates::derive_gates;
 use crate::pins::find_pins;
 use cell_graph::Design;
 use deep_tables::{BadGate, Gates, Layers, Nets, Pins};
+use job_board::Gate;
 use net_model::Netlist;
 use rule_text::RuleSet;
 use std::alloc::{AllocError, Global};
@@ -43,13 +44,14 @@ pub struct Extracted {
 /// Layers, nets, gates, pins and the netlist of a layout, cell by cell: a cell is worked once,
 /// however often it is placed. The database unit is in picometres. The answer is the same for every
 /// number of workers. An `Err` is want of memory, or 2^32 circuits or nets of a cell.
-pub fn extract<R: Threads + Wait + Sync>(
+pub fn extract<R: Threads + Wait + Sync, G: Gate + Sync>(
     rt: &R,
     alloc: Global,
     design: &Design,
     rules: &RuleSet,
     unit_pm: u32,
     workers: usize,
+    gate: &G,
 ) -> Result<Extracted, AllocError>
     requires workers { (1 ≤ workers) × (workers ≤ 64) }
     requires rules { IsSound (rules_seen rules.now) }
@@ -70,7 +72,7 @@ pub fn extract<R: Threads + Wait + Sync>(
     ensures bad { IfOk result (λ e. e.bad.items
         ≡ told_gates (rules_seen rules.now) e.gates design.now.order) }
 {
-    let gated = derive_gates(rt, alloc, design, rules, workers)?;
+    let gated = derive_gates(rt, alloc, design, rules, workers, gate)?;
     let pins = find_pins(
         rt,
         alloc,
@@ -80,8 +82,11 @@ pub fn extract<R: Threads + Wait + Sync>(
         &gated.nets,
         &gated.gates,
         workers,
+        gate,
     )?;
-    let drawn = draw(rt, alloc, design, rules, &gated, &pins, unit_pm, workers)?;
+    let drawn = draw(
+        rt, alloc, design, rules, &gated, &pins, unit_pm, workers, gate,
+    )?;
     Ok(Extracted {
         layers: gated.layers,
         nets: gated.nets,

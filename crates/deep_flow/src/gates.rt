@@ -15,7 +15,7 @@ use crate::nets::find_nets;
 use cell_graph::Design;
 use deep_tables::{Gates, Layers, Nets, Zones};
 use gate_phase::GatePhase;
-use job_graph::run_levels;
+use job_board::{Gate, run_phase};
 use rule_text::RuleSet;
 use std::alloc::{AllocError, Global};
 use std::sync::Wait;
@@ -31,7 +31,7 @@ pub struct Gated {
 
 /// The gates of each reached cell, over its disturbed squares, layers and nets. A cell is worked
 /// once, by 1 to 64 workers, with one answer for every number of them. An `Err` is want of memory.
-pub fn find_gates<R: Threads + Wait + Sync>(
+pub fn find_gates<R: Threads + Wait + Sync, G: Gate + Sync>(
     rt: &R,
     alloc: Global,
     design: &Design,
@@ -40,6 +40,7 @@ pub fn find_gates<R: Threads + Wait + Sync>(
     layers: &Layers,
     nets: &Nets,
     workers: usize,
+    gate: &G,
 ) -> Result<Gates, AllocError>
     requires workers { (1 ≤ workers) × (workers ≤ 64) }
     requires rules { IsSound (rules_seen rules.now) }
@@ -50,7 +51,7 @@ pub fn find_gates<R: Threads + Wait + Sync>(
 {
     design.sound();
     let phase = GatePhase::new(alloc, design, rules, zones, layers, nets)?;
-    let results = run_levels(rt, alloc, &phase, workers)?;
+    let results = run_phase(rt, alloc, &phase, workers, gate)?;
     let gates = Gates::new(alloc, design, results)?;
     Ok(gates)
 }
@@ -59,12 +60,13 @@ pub fn find_gates<R: Threads + Wait + Sync>(
 /// layout is the image of one gate of one cell's list, with its sizes and its terminals, or with
 /// its cause where it is bad. A cell is worked once, however often it is placed. The answer is the
 /// same for every number of workers. An `Err` is want of memory.
-pub fn derive_gates<R: Threads + Wait + Sync>(
+pub fn derive_gates<R: Threads + Wait + Sync, G: Gate + Sync>(
     rt: &R,
     alloc: Global,
     design: &Design,
     rules: &RuleSet,
     workers: usize,
+    gate: &G,
 ) -> Result<Gated, AllocError>
     requires workers { (1 ≤ workers) × (workers ≤ 64) }
     requires rules { IsSound (rules_seen rules.now) }
@@ -81,10 +83,12 @@ pub fn derive_gates<R: Threads + Wait + Sync>(
         (device_rules (rules_seen rules.now)) (gates_of c.gates)) }
 {
     design.sound();
-    let zones = find_zones(rt, alloc, design, rules, workers)?;
-    let layers = find_layers(rt, alloc, design, rules, &zones, workers)?;
-    let nets = find_nets(rt, alloc, design, rules, &layers, workers)?;
-    let gates = find_gates(rt, alloc, design, rules, &zones, &layers, &nets, workers)?;
+    let zones = find_zones(rt, alloc, design, rules, workers, gate)?;
+    let layers = find_layers(rt, alloc, design, rules, &zones, workers, gate)?;
+    let nets = find_nets(rt, alloc, design, rules, &layers, workers, gate)?;
+    let gates = find_gates(
+        rt, alloc, design, rules, &zones, &layers, &nets, workers, gate,
+    )?;
     Ok(Gated {
         layers,
         nets,

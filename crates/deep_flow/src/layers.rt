@@ -8,7 +8,7 @@ ghost use Rattle.rule_text.specs.Sound.{IsSound};
 
 use cell_graph::Design;
 use deep_tables::{Layers, Zones};
-use job_graph::run_levels;
+use job_board::{Gate, run_phase};
 use layer_phase::LayerPhase;
 use rule_text::RuleSet;
 use std::alloc::{AllocError, Global};
@@ -18,12 +18,13 @@ use zone_phase::ZonePhase;
 
 /// The disturbed squares of each reached cell. A cell is worked once, by 1 to 64 workers, with one
 /// answer for every number of them. An `Err` is want of memory.
-pub fn find_zones<R: Threads + Wait + Sync>(
+pub fn find_zones<R: Threads + Wait + Sync, G: Gate + Sync>(
     rt: &R,
     alloc: Global,
     design: &Design,
     rules: &RuleSet,
     workers: usize,
+    gate: &G,
 ) -> Result<Zones, AllocError>
     requires workers { (1 ≤ workers) × (workers ≤ 64) }
     requires rules { IsSound (rules_seen rules.now) }
@@ -31,20 +32,21 @@ pub fn find_zones<R: Threads + Wait + Sync>(
 {
     design.sound();
     let phase = ZonePhase::new(alloc, design, rules)?;
-    let results = run_levels(rt, alloc, &phase, workers)?;
+    let results = run_phase(rt, alloc, &phase, workers, gate)?;
     let zones = Zones::new(alloc, design, results)?;
     Ok(zones)
 }
 
 /// What each reached cell holds itself of each name, over its disturbed squares. A cell is worked
 /// once, by 1 to 64 workers, with one answer for every number of them. An `Err` is want of memory.
-pub fn find_layers<R: Threads + Wait + Sync>(
+pub fn find_layers<R: Threads + Wait + Sync, G: Gate + Sync>(
     rt: &R,
     alloc: Global,
     design: &Design,
     rules: &RuleSet,
     zones: &Zones,
     workers: usize,
+    gate: &G,
 ) -> Result<Layers, AllocError>
     requires workers { (1 ≤ workers) × (workers ≤ 64) }
     requires zones { AreZones (plain design.now) (rules_seen rules.now) zones.now }
@@ -52,7 +54,7 @@ pub fn find_layers<R: Threads + Wait + Sync>(
 {
     design.sound();
     let phase = LayerPhase::new(alloc, design, rules, zones)?;
-    let results = run_levels(rt, alloc, &phase, workers)?;
+    let results = run_phase(rt, alloc, &phase, workers, gate)?;
     let layers = Layers::new(alloc, design, results)?;
     Ok(layers)
 }
@@ -60,17 +62,18 @@ pub fn find_layers<R: Threads + Wait + Sync>(
 /// The squares that each reached cell holds itself, for each name of the rules. Nothing is
 /// flattened: a cell is worked once, however often it is placed. The answer is the same for every
 /// number of workers. An `Err` is want of memory.
-pub fn derive_layers<R: Threads + Wait + Sync>(
+pub fn derive_layers<R: Threads + Wait + Sync, G: Gate + Sync>(
     rt: &R,
     alloc: Global,
     design: &Design,
     rules: &RuleSet,
     workers: usize,
+    gate: &G,
 ) -> Result<Layers, AllocError>
     requires workers { (1 ≤ workers) × (workers ≤ 64) }
     requires rules { IsSound (rules_seen rules.now) }
     ensures { IfOk result (AreLayers (plain design.now) (rules_seen rules.now)) }
 {
-    let zones = find_zones(rt, alloc, design, rules, workers)?;
-    find_layers(rt, alloc, design, rules, &zones, workers)
+    let zones = find_zones(rt, alloc, design, rules, workers, gate)?;
+    find_layers(rt, alloc, design, rules, &zones, workers, gate)
 }

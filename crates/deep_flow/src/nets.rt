@@ -10,7 +10,7 @@ ghost use Rattle.rule_text.specs.Sound.{IsSound};
 use crate::layers::derive_layers;
 use cell_graph::Design;
 use deep_tables::{Layers, Nets};
-use job_graph::run_levels;
+use job_board::{Gate, run_phase};
 use net_phase::NetPhase;
 use rule_text::RuleSet;
 use std::alloc::{AllocError, Global};
@@ -26,13 +26,14 @@ pub struct Connected {
 
 /// The nets of each reached cell, over its layers. A cell is worked once, by 1 to 64 workers, with
 /// one answer for every number of them. An `Err` is want of memory.
-pub fn find_nets<R: Threads + Wait + Sync>(
+pub fn find_nets<R: Threads + Wait + Sync, G: Gate + Sync>(
     rt: &R,
     alloc: Global,
     design: &Design,
     rules: &RuleSet,
     layers: &Layers,
     workers: usize,
+    gate: &G,
 ) -> Result<Nets, AllocError>
     requires workers { (1 ≤ workers) × (workers ≤ 64) }
     requires layers { AreLayers (plain design.now) (rules_seen rules.now) layers.now }
@@ -40,7 +41,7 @@ pub fn find_nets<R: Threads + Wait + Sync>(
 {
     design.sound();
     let phase = NetPhase::new(alloc, design, rules, layers)?;
-    let results = run_levels(rt, alloc, &phase, workers)?;
+    let results = run_phase(rt, alloc, &phase, workers, gate)?;
     let nets = Nets::new(alloc, design, results)?;
     Ok(nets)
 }
@@ -49,12 +50,13 @@ pub fn find_nets<R: Threads + Wait + Sync>(
 /// of its own rectangles, of its placed cells' nets and of the globals are connected. A cell is
 /// worked once, however often it is placed. The answer is the same for every number of workers. An
 /// `Err` is want of memory.
-pub fn derive_nets<R: Threads + Wait + Sync>(
+pub fn derive_nets<R: Threads + Wait + Sync, G: Gate + Sync>(
     rt: &R,
     alloc: Global,
     design: &Design,
     rules: &RuleSet,
     workers: usize,
+    gate: &G,
 ) -> Result<Connected, AllocError>
     requires workers { (1 ≤ workers) × (workers ≤ 64) }
     requires rules { IsSound (rules_seen rules.now) }
@@ -65,7 +67,7 @@ pub fn derive_nets<R: Threads + Wait + Sync>(
         (wiring_of (rules_seen rules.now))
         (tables_of (rules_seen rules.now) c.layers c.nets)) }
 {
-    let layers = derive_layers(rt, alloc, design, rules, workers)?;
-    let nets = find_nets(rt, alloc, design, rules, &layers, workers)?;
+    let layers = derive_layers(rt, alloc, design, rules, workers, gate)?;
+    let nets = find_nets(rt, alloc, design, rules, &layers, workers, gate)?;
     Ok(Connected { layers, nets })
 }

@@ -9,7 +9,7 @@ ghost use Rattle.rule_text.specs.Seen.{rules_seen};
 
 use cell_graph::Design;
 use deep_tables::{Gates, Layers, Nets, Pins};
-use job_graph::run_levels;
+use job_board::{Gate, run_phase};
 use pin_phase::PinPhase;
 use rule_text::RuleSet;
 use std::alloc::{AllocError, Global};
@@ -19,7 +19,7 @@ use std::thread::Threads;
 /// The pins of each reached cell and the base names of its nets, over its layers, nets and gates. A
 /// cell is worked once, by 1 to 64 workers, with one answer for every number of them. An `Err` is
 /// want of memory.
-pub fn find_pins<R: Threads + Wait + Sync>(
+pub fn find_pins<R: Threads + Wait + Sync, G: Gate + Sync>(
     rt: &R,
     alloc: Global,
     design: &Design,
@@ -28,6 +28,7 @@ pub fn find_pins<R: Threads + Wait + Sync>(
     nets: &Nets,
     gates: &Gates,
     workers: usize,
+    gate: &G,
 ) -> Result<Pins, AllocError>
     requires workers { (1 ≤ workers) × (workers ≤ 64) }
     requires layers { AreLayers (plain design.now) (rules_seen rules.now) layers.now }
@@ -37,7 +38,7 @@ pub fn find_pins<R: Threads + Wait + Sync>(
 {
     design.sound();
     let phase = PinPhase::new(alloc, design, rules, layers, nets, gates)?;
-    let results = run_levels(rt, alloc, &phase, workers)?;
+    let results = run_phase(rt, alloc, &phase, workers, gate)?;
     let pins = Pins::new(alloc, design, results)?;
     Ok(pins)
 }

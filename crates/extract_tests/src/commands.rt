@@ -1,4 +1,5 @@
 // The commands over files in memory.
+use job_board::OpenGate;
 use lvs_outside::{MemoryDepot, MemorySink};
 use lvs_run::run_lvs;
 use std::alloc::{AllocError, Global};
@@ -95,7 +96,14 @@ pub fn run_of<R: Threads + Wait + Sync>(
     depot.put(alloc, "r", inputs.rules.as_bytes())?;
     depot.put(alloc, "c", inputs.schematic.as_bytes())?;
     let mut sink = MemorySink::new(alloc, one(alloc, failing.sink)?);
-    let status = run_lvs(rt, alloc, words.as_slice(), &mut depot, &mut sink);
+    let status = run_lvs(
+        rt,
+        alloc,
+        words.as_slice(),
+        &mut depot,
+        &mut sink,
+        &OpenGate,
+    );
     Ok(Ran {
         code: status.code(),
         line: sink.bytes().to_vec(alloc)?,

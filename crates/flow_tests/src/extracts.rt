@@ -9,6 +9,7 @@ use deep_flow::extract;
 use deep_tables::GateCause;
 use gds_layout::read_layout;
 use geo_base::Square;
+use job_board::OpenGate;
 use rule_text::read_rules;
 use spice_text::write_spice;
 use std::alloc::{AllocError, Global};
@@ -51,7 +52,15 @@ fn extracted<R: Threads + Wait + Sync>(
     let Ok(rules) = read_rules(alloc, rules) else {
         return Err(AllocError);
     };
-    let found = extract(rt, alloc, &layout.design, &rules, UNIT_PM, workers)?;
+    let found = extract(
+        rt,
+        alloc,
+        &layout.design,
+        &rules,
+        UNIT_PM,
+        workers,
+        &OpenGate,
+    )?;
     let mut bad = Vec::new(alloc);
     for gate in &found.bad {
         bad.push(Told {

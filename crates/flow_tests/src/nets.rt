@@ -5,6 +5,7 @@ use crate::streams::{
 };
 use deep_flow::derive_nets;
 use gds_layout::read_layout;
+use job_board::OpenGate;
 use rule_text::read_rules;
 use std::alloc::{AllocError, Global};
 use std::sync::Wait;
@@ -40,7 +41,7 @@ fn top_nets<R: Threads + Wait + Sync>(
     };
     let design = &layout.design;
     design.sound();
-    let found = derive_nets(rt, alloc, design, &rules, workers)?;
+    let found = derive_nets(rt, alloc, design, &rules, workers, &OpenGate)?;
     let nets = found.nets.of(design.top());
     Ok(Found {
         net_of: nets.net_of.to_vec(alloc)?,

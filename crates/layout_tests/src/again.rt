@@ -5,6 +5,7 @@ ghost use Rattle.std.specs.Prelude.{◌≤◌};
 use crate::told::told;
 use gds_layout::read_layout;
 use geo_base::LayerKey;
+use job_board::OpenGate;
 use rule_text::read_rules;
 use shapes_file::shapes_file;
 use std::alloc::{AllocError, Global};
@@ -101,7 +102,7 @@ fn written<R: Threads + Wait + Sync>(
     let Ok(rules) = read_rules(alloc, RULES) else {
         return Err(AllocError);
     };
-    let file = shapes_file(rt, alloc, &layout, &rules, 2)?;
+    let file = shapes_file(rt, alloc, &layout, &rules, 2, &OpenGate)?;
     Ok(file.text)
 }
 

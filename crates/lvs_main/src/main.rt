@@ -1,6 +1,7 @@
 //! The program: runs `lvs` over the system's files and standard output.
 #![tactic(auto)]
 
+use job_board::OpenGate;
 use lvs_outside::{FileDepot, StdoutSink};
 use lvs_run::run_lvs;
 use std::env;
@@ -21,6 +22,13 @@ fn main(rt: HostRuntime) -> ExitCode {
         }
     }
     let mut depot = FileDepot::new(&rt);
-    let status = run_lvs(&rt, alloc, words.as_slice(), &mut depot, &mut out);
+    let status = run_lvs(
+        &rt,
+        alloc,
+        words.as_slice(),
+        &mut depot,
+        &mut out,
+        &OpenGate,
+    );
     ExitCode::from(status.code())
 }

@@ -18,6 +18,7 @@ use crate::summary::{compared_line, extracted_line, layers_line};
 use crate::words::{LayoutOutputs, ReportPaths};
 use deep_tables::BadGate;
 use gds_layout::Layout;
+use job_board::Gate;
 use lvs_files::Written;
 use net_model::Netlist;
 use netlist_file::{extract_files, flat_netlist};
@@ -39,13 +40,14 @@ fn push_file(files: &mut Vec<Written>, path: String, text: Vec<u8>) -> Result<()
 }
 
 // What `shapes` has to write.
-fn shapes_output<R: Threads + Wait + Sync>(
+fn shapes_output<R: Threads + Wait + Sync, G: Gate + Sync>(
     rt: &R,
     alloc: Global,
     layout: &Layout,
     rules: &RuleSet,
     workers: usize,
     path: String,
+    gate: &G,
 ) -> Result<Output, AllocError>
     requires workers { (1 ≤ workers) × (workers ≤ 64) }
     requires read { (bytes : List ℕ) × (top : Option (List ℕ)) × IsRead bytes top layout.now }
@@ -53,7 +55,7 @@ fn shapes_output<R: Threads + Wait + Sync>(
     ensures { IfOk result (IsOutput (ToShapes (string_bytes path)) layout.now
         (rules_seen rules.now)) }
 {
-    let shapes = shapes_file(rt, alloc, layout, rules, workers)?;
+    let shapes = shapes_file(rt, alloc, layout, rules, workers, gate)?;
     let line = layers_line(alloc, &shapes)?;
     let mut files = Vec::new(alloc);
     push_file(&mut files, path, shapes.text)?;
@@ -65,7 +67,7 @@ fn shapes_output<R: Threads + Wait + Sync>(
 }
 
 // What `extract` has to write.
-fn netlist_output<R: Threads + Wait + Sync>(
+fn netlist_output<R: Threads + Wait + Sync, G: Gate + Sync>(
     rt: &R,
     alloc: Global,
     layout: &Layout,
@@ -73,6 +75,7 @@ fn netlist_output<R: Threads + Wait + Sync>(
     workers: usize,
     path: String,
     netlist: String,
+    gate: &G,
 ) -> Result<Output, AllocError>
     requires workers { (1 ≤ workers) × (workers ≤ 64) }
     requires read { (bytes : List ℕ) × (top : Option (List ℕ)) × IsRead bytes top layout.now }
@@ -81,7 +84,7 @@ fn netlist_output<R: Threads + Wait + Sync>(
     ensures { IfOk result (IsOutput (ToNetlist (string_bytes path) (string_bytes netlist))
         layout.now (rules_seen rules.now)) }
 {
-    let found = extract_files(rt, alloc, layout, rules, workers)?;
+    let found = extract_files(rt, alloc, layout, rules, workers, gate)?;
     let line = extracted_line(alloc, &found)?;
     let verdict = gates_verdict(found.bad.as_slice());
     let mut files = Vec::new(alloc);
@@ -95,7 +98,7 @@ fn netlist_output<R: Threads + Wait + Sync>(
 }
 
 /// What `run` has to write.
-pub fn report_output<R: Threads + Wait + Sync>(
+pub fn report_output<R: Threads + Wait + Sync, G: Gate + Sync>(
     rt: &R,
     alloc: Global,
     layout: &Layout,
@@ -103,6 +106,7 @@ pub fn report_output<R: Threads + Wait + Sync>(
     schematic: &Netlist,
     workers: usize,
     paths: ReportPaths,
+    gate: &G,
 ) -> Result<Output, AllocError>
     requires workers { (1 ≤ workers) × (workers ≤ 64) }
     requires read { (bytes : List ℕ) × (top : Option (List ℕ)) × IsRead bytes top layout.now }
@@ -114,7 +118,7 @@ pub fn report_output<R: Threads + Wait + Sync>(
 {
     extracted_alignable();
     flat_netlist();
-    let found = extract_files(rt, alloc, layout, rules, workers)?;
+    let found = extract_files(rt, alloc, layout, rules, workers, gate)?;
     let bad = found.bad.as_slice();
     let design = &layout.design;
     let compared = report_file(
@@ -127,6 +131,7 @@ pub fn report_output<R: Threads + Wait + Sync>(
         bad,
         schematic,
         workers,
+        gate,
     )?;
     let verdict = comparison_verdict(compared.verdict);
     let line = compared_line(alloc, verdict, &found, compared.pairs)?;
@@ -162,13 +167,14 @@ fn gates_verdict(bad: &[BadGate]) -> Verdict
 }
 
 /// What the command with these outputs, which reads no schematic, has to write.
-pub fn output_of<R: Threads + Wait + Sync>(
+pub fn output_of<R: Threads + Wait + Sync, G: Gate + Sync>(
     rt: &R,
     alloc: Global,
     layout: &Layout,
     rules: &RuleSet,
     workers: usize,
     outputs: LayoutOutputs,
+    gate: &G,
 ) -> Result<Output, AllocError>
     requires workers { (1 ≤ workers) × (workers ≤ 64) }
     requires read { (bytes : List ℕ) × (top : Option (List ℕ)) × IsRead bytes top layout.now }
@@ -177,9 +183,9 @@ pub fn output_of<R: Threads + Wait + Sync>(
     ensures { IfOk result (IsOutput (layout_outputs outputs) layout.now (rules_seen rules.now)) }
 {
     match outputs {
-        LayoutOutputs::Shapes(path) => shapes_output(rt, alloc, layout, rules, workers, path),
+        LayoutOutputs::Shapes(path) => shapes_output(rt, alloc, layout, rules, workers, path, gate),
         LayoutOutputs::Netlist { shapes, netlist } => {
-            netlist_output(rt, alloc, layout, rules, workers, shapes, netlist)
+            netlist_output(rt, alloc, layout, rules, workers, shapes, netlist, gate)
         }
     }
 }

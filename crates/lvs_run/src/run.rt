@@ -23,6 +23,7 @@ use crate::status::{Refusal, Status};
 use crate::summary::refusal_line;
 use crate::words::{Outputs, ReportPaths, Task, read_task};
 use gds_layout::Layout;
+use job_board::Gate;
 use lvs_files::write_files;
 use lvs_outside::{Depot, Sink, write_all};
 use lvs_words::WordFault;
@@ -35,7 +36,7 @@ use std::sync::Wait;
 use std::thread::Threads;
 
 // Reads the schematic, and makes all that is to be written of the comparison with it.
-fn compare<R: Threads + Wait + Sync, D: Depot>(
+fn compare<R: Threads + Wait + Sync, D: Depot, G: Gate + Sync>(
     rt: &R,
     alloc: Global,
     layout: &Layout,
@@ -44,6 +45,7 @@ fn compare<R: Threads + Wait + Sync, D: Depot>(
     workers: usize,
     paths: ReportPaths,
     depot: &mut D,
+    gate: &G,
 ) -> Result<Output, Stop>
     requires depot { HasRoom (D.state depot.old) }
     requires workers { (1 ≤ workers) × (workers ≤ 64) }
@@ -59,16 +61,17 @@ fn compare<R: Threads + Wait + Sync, D: Depot>(
 {
     read_alignable();
     let netlist = schematic_of(alloc, depot, schematic)?;
-    let output = report_output(rt, alloc, layout, rules, &netlist, workers, paths)?;
+    let output = report_output(rt, alloc, layout, rules, &netlist, workers, paths, gate)?;
     Ok(output)
 }
 
 // Reads the inputs of a command, and makes all that is to be written.
-fn prepare_task<R: Threads + Wait + Sync, D: Depot>(
+fn prepare_task<R: Threads + Wait + Sync, D: Depot, G: Gate + Sync>(
     rt: &R,
     alloc: Global,
     task: Task,
     depot: &mut D,
+    gate: &G,
 ) -> Result<Output, Stop>
     requires depot { HasRoom (D.state depot.old) }
     requires workers { (1 ≤ task.workers) × (task.workers ≤ 64) }
@@ -99,12 +102,12 @@ fn prepare_task<R: Threads + Wait + Sync, D: Depot>(
     let design = layout_of(alloc, depot, &layout, &top)?;
     match outputs {
         Outputs::Layout(outputs) => {
-            let output = output_of(rt, alloc, &design, &rule_set, workers, outputs)?;
+            let output = output_of(rt, alloc, &design, &rule_set, workers, outputs, gate)?;
             Ok(output)
         }
         Outputs::Report { schematic, paths } => {
             let made = compare(
-                rt, alloc, &design, &rule_set, &schematic, workers, paths, depot,
+                rt, alloc, &design, &rule_set, &schematic, workers, paths, depot, gate,
             )?;
             Ok(made)
         }
@@ -112,11 +115,12 @@ fn prepare_task<R: Threads + Wait + Sync, D: Depot>(
 }
 
 // Reads the words and the inputs, and makes all that is to be written.
-fn prepare<R: Threads + Wait + Sync, D: Depot>(
+fn prepare<R: Threads + Wait + Sync, D: Depot, G: Gate + Sync>(
     rt: &R,
     alloc: Global,
     words: &[String],
     depot: &mut D,
+    gate: &G,
 ) -> Result<Output, Stop>
     requires { HasRoom (D.state depot.old) }
     ensures quiet { Quiet (D.state depot.old) (D.state depot.new) }
@@ -126,7 +130,7 @@ fn prepare<R: Threads + Wait + Sync, D: Depot>(
         (D.state depot.old) (D.state depot.new) (stopped why)) }
 {
     match read_task(alloc, words) {
-        Ok(task) => prepare_task(rt, alloc, task, depot),
+        Ok(task) => prepare_task(rt, alloc, task, depot, gate),
         Err(WordFault::Refused) => Err(Stop::Refused(Refusal::Words)),
         Err(WordFault::NoMemory) => Err(Stop::NoMemory),
     }
@@ -171,12 +175,13 @@ fn deliver<D: Depot, S: Sink>(output: &Output, depot: &mut D, out: &mut S) -> St
 /// the limit before its fault is answered. Cost: reading the inputs, the layers of each reached
 /// cell (also its nets, gates, pins and circuit), the comparison of each pair of circuits, and the
 /// bytes written; a cell is worked once, however often it is placed.
-pub fn run_lvs<R: Threads + Wait + Sync, D: Depot, S: Sink>(
+pub fn run_lvs<R: Threads + Wait + Sync, D: Depot, S: Sink, G: Gate + Sync>(
     rt: &R,
     alloc: Global,
     words: &[String],
     depot: &mut D,
     out: &mut S,
+    gate: &G,
 ) -> Status
     requires depot { HasRoom (D.state depot.old) }
     requires out { SinkHasRoom (S.state out.old) }
@@ -203,7 +208,7 @@ pub fn run_lvs<R: Threads + Wait + Sync, D: Depot, S: Sink>(
     ensures netlist { WritesNetlist (said (map string_bytes words.now)) (D.state depot.old)
         (D.state depot.new) (answer_of result) }
 {
-    match prepare(rt, alloc, words, depot) {
+    match prepare(rt, alloc, words, depot, gate) {
         Ok(output) => deliver(&output, depot, out),
         Err(Stop::Refused(why)) => refuse(alloc, why, out),
         Err(Stop::Outside) => Status::Outside,

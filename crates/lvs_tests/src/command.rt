@@ -1,4 +1,5 @@
 // The command over files in memory.
+use job_board::OpenGate;
 use lvs_outside::{MemoryDepot, MemorySink};
 use lvs_run::run_lvs;
 use std::alloc::{AllocError, Global};
@@ -54,7 +55,14 @@ pub fn run_of<R: Threads + Wait + Sync>(
     depot.put(alloc, "l", layout)?;
     depot.put(alloc, "r", rules)?;
     let mut sink = MemorySink::new(alloc, one(alloc, failing.sink)?);
-    let status = run_lvs(rt, alloc, words.as_slice(), &mut depot, &mut sink);
+    let status = run_lvs(
+        rt,
+        alloc,
+        words.as_slice(),
+        &mut depot,
+        &mut sink,
+        &OpenGate,
+    );
     let shapes = match depot.file("s") {
         Some(bytes) => Some(bytes.to_vec(alloc)?),
         None => None,

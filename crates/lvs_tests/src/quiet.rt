@@ -1,5 +1,6 @@
 // Runs over a depot and a sink that only count bytes.
 use crate::streams::stream;
+use job_board::OpenGate;
 use lvs_outside::QuietDepot;
 use lvs_run::run_lvs;
 use std::alloc::{AllocError, Global};
@@ -30,7 +31,14 @@ fn common_rectangle_counted(rt: HostRuntime) -> Result<(), Fail> {
     depot.lend("l", &layout)?;
     depot.lend("r", RULES)?;
     let mut sink = QuietDepot::new(alloc);
-    let status = run_lvs(&rt, alloc, words.as_slice(), &mut depot, &mut sink);
+    let status = run_lvs(
+        &rt,
+        alloc,
+        words.as_slice(),
+        &mut depot,
+        &mut sink,
+        &OpenGate,
+    );
     assert_eq!(rt; status.code(), 0);
     assert_eq!(rt; depot.written(), 166);
     assert_eq!(rt; sink.written(), 28);
@@ -50,7 +58,14 @@ fn line_of_zeros<R: Threads + Wait + Sync>(
     depot.lend("l", &layout)?;
     depot.lend("r", RULES)?;
     let mut sink = QuietDepot::new(alloc);
-    let status = run_lvs(rt, alloc, words.as_slice(), &mut depot, &mut sink);
+    let status = run_lvs(
+        rt,
+        alloc,
+        words.as_slice(),
+        &mut depot,
+        &mut sink,
+        &OpenGate,
+    );
     if status.code() == 2 && depot.written() == 0 {
         Ok(Some(sink.written()))
     } else {

@@ -9,7 +9,8 @@ ghost use Rattle.pair_jobs.specs.Answers.{AreAllAnswers};
 ghost use Rattle.plain_netlist.specs.Lists.{AreApart};
 
 use crate::phase::PairPhase;
-use job_graph::{Results, run_levels};
+use job_board::{Gate, run_phase};
+use job_graph::Results;
 use match_types::Answer;
 use net_align::{Aligned, align};
 use net_model::Netlist;
@@ -27,12 +28,13 @@ pub struct Comparison {
 }
 
 // The answers of all pairs.
-fn answer_pairs<R: Threads + Wait + Sync>(
+fn answer_pairs<R: Threads + Wait + Sync, G: Gate + Sync>(
     rt: &R,
     alloc: Global,
     aligned: &Aligned,
     limit: u32,
     workers: usize,
+    gate: &G,
 ) -> Result<Results<Answer>, AllocError>
     requires workers { (1 ≤ workers) × (workers ≤ 64) }
     requires sides { AreComparable (plain_netlist aligned.now.left)
@@ -41,14 +43,14 @@ fn answer_pairs<R: Threads + Wait + Sync>(
         (plain_netlist aligned.now.right) limit (map plain_answer answers)) }
 {
     let phase = PairPhase::new(alloc, &aligned.left, &aligned.right, limit)?;
-    run_levels(rt, alloc, &phase, workers)
+    run_phase(rt, alloc, &phase, workers, gate)
 }
 
 /// The layout below its top compared with the schematic; nothing where the top has no partner.
 /// Partners are as `align` finds them, and a pair is compared after those that its left circuit
 /// calls, with at most `limit` refuted guesses. The answer is the same for every number of workers.
 /// The error is want of memory.
-pub fn compare<R: Threads + Wait + Sync>(
+pub fn compare<R: Threads + Wait + Sync, G: Gate + Sync>(
     rt: &R,
     alloc: Global,
     layout: &Netlist,
@@ -57,6 +59,7 @@ pub fn compare<R: Threads + Wait + Sync>(
     same: &[(Name, Name)],
     limit: u32,
     workers: usize,
+    gate: &G,
 ) -> Result<Option<Comparison>, AllocError>
     requires layout { IsAlignable (plain_netlist layout.now) }
     requires schematic { IsAlignable (plain_netlist schematic.now) }
@@ -78,7 +81,7 @@ pub fn compare<R: Threads + Wait + Sync>(
     let Some(aligned) = align(alloc, layout, top, schematic, same)? else {
         return Ok(None);
     };
-    let answers = answer_pairs(rt, alloc, &aligned, limit, workers)?;
+    let answers = answer_pairs(rt, alloc, &aligned, limit, workers, gate)?;
     let Aligned { left, right } = aligned;
     Ok(Some(Comparison {
         left,

@@ -11,3 +11,4 @@ pub mod Placing
 pub mod Besides
 pub mod Grounding
 pub mod Uniting
+pub mod Numbering

@@ -6,3 +6,4 @@ pub mod Owned
 pub mod Beside
 pub mod Globals
 pub mod Together
+pub mod Windows

@@ -13,6 +13,7 @@ ghost use Rattle.shapes_file.specs.File.{IsShapesFile};
 use deep_flow::extract;
 use deep_tables::BadGate;
 use gds_layout::Layout;
+use job_board::Gate;
 use net_model::Netlist;
 use rule_text::RuleSet;
 use shapes_file::{Shapes, shapes_of_layers};
@@ -40,12 +41,13 @@ pub struct Extraction {
 /// for every number of workers, of which there are 1 to 64. An `Err` is want of memory, or 2^32
 /// circuits or nets of a cell. Cost: the layers, nets, gates, pins and circuit of each cell, and
 /// the bytes written.
-pub fn extract_files<R: Threads + Wait + Sync>(
+pub fn extract_files<R: Threads + Wait + Sync, G: Gate + Sync>(
     rt: &R,
     alloc: Global,
     layout: &Layout,
     rules: &RuleSet,
     workers: usize,
+    gate: &G,
 ) -> Result<Extraction, AllocError>
     requires workers { (1 ≤ workers) × (workers ≤ 64) }
     requires read { (bytes : List ℕ) × (top : Option (List ℕ)) × IsRead bytes top layout.now }
@@ -59,7 +61,7 @@ pub fn extract_files<R: Threads + Wait + Sync>(
 {
     layout.design.sound();
     let unit_pm = layout.header.unit_pm;
-    let found = extract(rt, alloc, &layout.design, rules, unit_pm, workers)?;
+    let found = extract(rt, alloc, &layout.design, rules, unit_pm, workers, gate)?;
     let shapes = shapes_of_layers(alloc, layout, rules, &found.layers)?;
     let text = write_spice(alloc, &found.netlist)?;
     spelled(&found.netlist);

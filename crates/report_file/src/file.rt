@@ -14,6 +14,7 @@ ghost use Rattle.rule_text.specs.Sound.{IsSound};
 
 use cell_graph::Design;
 use deep_tables::BadGate;
+use job_board::Gate;
 use match_flow::{Comparison, compare};
 use match_report::{Compared, report_text};
 use net_model::Netlist;
@@ -42,7 +43,7 @@ fn top_name(layout: &Netlist, top: u32) -> &Name
 }
 
 // Layout and schematic compared, in the form that a report has.
-fn compare_netlists<R: Threads + Wait + Sync>(
+fn compare_netlists<R: Threads + Wait + Sync, G: Gate + Sync>(
     rt: &R,
     alloc: Global,
     layout: &Netlist,
@@ -51,6 +52,7 @@ fn compare_netlists<R: Threads + Wait + Sync>(
     same: &[(Name, Name)],
     limit: u32,
     workers: usize,
+    gate: &G,
 ) -> Result<Option<Compared>, AllocError>
     requires layout { IsAlignable (plain_netlist layout.now) }
     requires schematic { IsAlignable (plain_netlist schematic.now) }
@@ -62,7 +64,10 @@ fn compare_netlists<R: Threads + Wait + Sync>(
     ensures { IfOk result (IsComparison (plain_netlist layout.now) top (plain_netlist schematic.now)
         same.now limit) }
 {
-    let Some(found) = compare(rt, alloc, layout, top, schematic, same, limit, workers)? else {
+    let Some(found) = compare(
+        rt, alloc, layout, top, schematic, same, limit, workers, gate,
+    )?
+    else {
         return Ok(None);
     };
     let Comparison {
@@ -129,7 +134,7 @@ fn write_report(
 /// every pair matches. The answer is the same for every number of workers, of which there are 1 to
 /// 64. An `Err` is want of memory, or 2^32 pairs or more. Cost: the comparison of the pairs, and
 /// the bytes written.
-pub fn report_file<R: Threads + Wait + Sync>(
+pub fn report_file<R: Threads + Wait + Sync, G: Gate + Sync>(
     rt: &R,
     alloc: Global,
     design: &Design,
@@ -139,6 +144,7 @@ pub fn report_file<R: Threads + Wait + Sync>(
     bad: &[BadGate],
     schematic: &Netlist,
     workers: usize,
+    gate: &G,
 ) -> Result<Report, AllocError>
     requires rules { IsSound (rules_seen rules.now) }
     requires netlist { IsAlignable (plain_netlist netlist.now) }
@@ -152,7 +158,9 @@ pub fn report_file<R: Threads + Wait + Sync>(
         x.verdict) }
 {
     let (same, limit) = (&rules.same, rules.max_guesses);
-    let compared = compare_netlists(rt, alloc, netlist, top, schematic, same, limit, workers)?;
+    let compared = compare_netlists(
+        rt, alloc, netlist, top, schematic, same, limit, workers, gate,
+    )?;
     let report = write_report(alloc, design, top_name(netlist, top), bad, &compared)?;
     Ok(report)
 }

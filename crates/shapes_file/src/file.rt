@@ -15,6 +15,7 @@ use cell_graph::design_laws;
 use deep_flow::derive_layers;
 use deep_tables::{Layers, layer_table};
 use gds_layout::Layout;
+use job_board::Gate;
 use layout_shapes::shapes_text;
 use rect_sets::canonical_rects;
 use rule_text::RuleSet;
@@ -36,12 +37,13 @@ pub struct Shapes {
 /// flattened: a cell is worked once, however often it is placed. The answer is the same for every
 /// number of workers, of which there are 1 to 64. An `Err` is want of memory. Cost: the layers of
 /// each cell, and the bytes written.
-pub fn shapes_file<R: Threads + Wait + Sync>(
+pub fn shapes_file<R: Threads + Wait + Sync, G: Gate + Sync>(
     rt: &R,
     alloc: Global,
     layout: &Layout,
     rules: &RuleSet,
     workers: usize,
+    gate: &G,
 ) -> Result<Shapes, AllocError>
     requires workers { (1 ≤ workers) × (workers ≤ 64) }
     requires read { (bytes : List ℕ) × (top : Option (List ℕ)) × IsRead bytes top layout.now }
@@ -49,7 +51,7 @@ pub fn shapes_file<R: Threads + Wait + Sync>(
     ensures { IfOk result (λ s. IsShapesFile layout.now (rules_seen rules.now) s.text.items s.cells
         s.rectangles) }
 {
-    let layers = derive_layers(rt, alloc, &layout.design, rules, workers)?;
+    let layers = derive_layers(rt, alloc, &layout.design, rules, workers, gate)?;
     shapes_of_layers(alloc, layout, rules, &layers)
 }
 

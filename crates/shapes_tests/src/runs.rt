@@ -1,4 +1,5 @@
 // Whole runs of `shapes` over memory.
+use job_board::OpenGate;
 use lvs_outside::{MemoryDepot, MemorySink};
 use lvs_run::run_lvs;
 use std::alloc::{AllocError, Global};
@@ -38,7 +39,14 @@ pub fn writes_count<R: Abort + Threads + Wait + Sync>(
     depot.put(alloc, "l", layout)?;
     depot.put(alloc, "r", rules.as_bytes())?;
     let mut sink = MemorySink::new(alloc, Vec::new(alloc));
-    let status = run_lvs(rt, alloc, words.as_slice(), &mut depot, &mut sink);
+    let status = run_lvs(
+        rt,
+        alloc,
+        words.as_slice(),
+        &mut depot,
+        &mut sink,
+        &OpenGate,
+    );
     assert_eq!(rt; status.code(), 0, "{name}");
     let line = format!(in alloc; "shapes cells 1 rectangles {count}\n")?;
     assert_eq!(rt; sink.bytes(), line.as_bytes(), "{name}");

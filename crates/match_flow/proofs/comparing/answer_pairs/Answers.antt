@@ -13,6 +13,6 @@ pub returns : goal.returns
 returns g c =
     let p = c.in_ok-phase.phase in
     let made = c.in_ok-phase.ensures in
-    if_ok _ _ c.run_levels.result (λ values defined.
+    if_ok _ _ c.run_phase.result (λ values defined.
     all_answers c.args.aligned.now.left c.args.aligned.now.right c.args.limit p values c.requires.sides made.left made.right made.limit made.jobs defined)
-    c.run_levels.ensures
+    c.run_phase.ensures
