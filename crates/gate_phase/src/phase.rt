@@ -16,7 +16,7 @@ use deep_tables::{CellGates, CellNets, DeepKey, Layers, Nets, Zones};
 use geo_base::Rect;
 use job_graph::{Graph, Phase, Reads};
 use layer_phase::free_graph;
-use net_phase::{Below, all_elements, find_wires, known_nets, own_lists};
+use net_phase::{Below, Indexes, all_elements, find_indexes, find_wires, known_nets, own_lists};
 use net_walk::Element;
 use rule_text::RuleSet;
 use std::alloc::{AllocError, Global};
@@ -36,6 +36,7 @@ pub struct GatePhase<'a> {
     bulks: Vec<Option<u32>>,
     own: Vec<Vec<&'a [Rect]>>,
     elements: Vec<Vec<Element>>,
+    indexes: Indexes,
     nets: Vec<Option<&'a CellNets>>,
     graph: Graph,
 }
@@ -53,8 +54,8 @@ impl<'a> Model for GatePhase<'a> {
 impl<'a> GatePhase<'a> {
     /// The phase of a layout and of its disturbed squares, layers and nets for these rules. 2^32
     /// names, device rules, globals or placements of a cell, or more, are refused. Linear in the
-    /// placements, and in the names for each reached cell, beside the indexes of what cells hold
-    /// themselves on the layers of device rules.
+    /// placements, and in the names for each reached cell, beside the indexes of rectangles and
+    /// placements.
     pub fn new(
         alloc: Global,
         design: &'a Design,
@@ -81,6 +82,7 @@ impl<'a> GatePhase<'a> {
         let bulks = bulk_globals(alloc, rules)?;
         let own = own_lists(alloc, design, rules, layers)?;
         let elements = all_elements(alloc, design)?;
+        let indexes = find_indexes(alloc, design, &own, &elements)?;
         let known = known_nets(alloc, design, nets)?;
         let graph = free_graph(alloc, design)?;
         let indexed = IndexedLayers::new(alloc, design, rules, layers)?;
@@ -94,6 +96,7 @@ impl<'a> GatePhase<'a> {
             bulks,
             own,
             elements,
+            indexes,
             nets: known,
             graph,
         })
@@ -137,6 +140,7 @@ impl Phase for GatePhase<'_> {
             self.conductors,
             &self.own,
             &self.elements,
+            &self.indexes,
             &self.nets,
         );
         cell_gates(
