@@ -22,8 +22,8 @@ use rule_text::RuleSet;
 use std::alloc::{AllocError, Global};
 
 /// Parts of what a cell keeps of a device rule's layer of gates, in order of their least squares:
-/// among them all gates of the cell's own. A cell that places nothing keeps what it holds itself: in
-/// O(n log n) for n rectangles of that, and no window is asked.
+/// among them all gates of the cell's own. A cell that places nothing keeps what it holds itself:
+/// in O(n log n) for n rectangles of that, and no window is asked.
 pub fn parts_of(
     alloc: Global,
     design: &Design,
