@@ -1,6 +1,6 @@
 use crate::graphs::graph_of;
 use crate::phase::Worth;
-use job_board::{Board, Claim, Look};
+use job_board::{Board, Claim, Look, Progress};
 use job_graph::{Event, JobState, Step};
 use std::alloc::{AllocError, Global};
 use std::test::Fail;
@@ -58,5 +58,22 @@ fn two_seats_claim_one_job(rt: HostRuntime) -> Result<(), Fail> {
         return Err(Fail::from(AllocError));
     };
     assert!(rt; word != 0);
+    Ok(())
+}
+
+// One seat's stop is told to the other, and counts no job.
+#[test]
+fn stop_is_told(rt: HostRuntime) -> Result<(), Fail> {
+    let alloc: Global = rt.alloc();
+    let graph = graph_of(alloc, &THREE)?;
+    let (board, seat) = Board::<Worth>::new(alloc, &graph, ())?;
+    let mut seat = seat;
+    let mut other = board.split(alloc, &mut seat)?;
+    board.stop(&mut other);
+    let told = Progress {
+        finished: 0,
+        stopped: true,
+    };
+    assert!(rt; board.progress(&mut seat) == told);
     Ok(())
 }
