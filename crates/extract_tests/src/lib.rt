@@ -1,6 +1,5 @@
-//! Tests of whole runs of `extract`, `run` and `make` over memory: drawn layouts whose netlists and
-//! reports were worked out by hand, words and schematics that are refused, calls that fail, and a
-//! chip that was made.
+//! Tests of whole runs of `extract` and `run` over memory: drawn layouts whose netlists and reports
+//! were worked out by hand, words and schematics that are refused, and calls that fail.
 #![tactic(auto)]
 
 #[cfg(test)]
@@ -17,8 +16,6 @@ mod extracted;
 mod failing;
 #[cfg(test)]
 mod layouts;
-#[cfg(test)]
-mod made;
 #[cfg(test)]
 mod refused;
 #[cfg(test)]
