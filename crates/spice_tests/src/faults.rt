@@ -21,7 +21,7 @@ fn number(fault: &SpiceFault) -> (u16, u64) {
 }
 
 // Texts, and the first fault of each.
-const TEXTS: [(&str, (u16, u64)); 48] = [
+const TEXTS: [(&str, (u16, u64)); 61] = [
     ("\nfoo\n", (50, 2)),
     ("r1 a b 1k\n", (50, 1)),
     (".subckts a\n", (50, 1)),
@@ -70,6 +70,39 @@ const TEXTS: [(&str, (u16, u64)); 48] = [
     (".subckt a\nx1 n a\n.ends\nx1 c\n", (41, 4)),
     (".subckt a\n.ends\nx1 n a\n", (43, 3)),
     (".subckt b\nx1 a\n.ends\n.subckt a\nx1 a\n.ends\n", (42, 0)),
+    // A continuation belongs to its card's line.
+    (
+        ".subckt t g s d vss\nm1 d g s vss nmos l=2.5e-07\n+ w=1.5u5x as=1p m=1\n.ends\n",
+        (531, 2),
+    ),
+    (
+        ".subckt t g s d vss\nm1 d g s vss nmos l=0.5f\n+ w=1500n as=1p m=1\n.ends\n",
+        (532, 2),
+    ),
+    (
+        ".subckt t g s d vss\nm1 d g s vss nmos l=2.5e-07\n+ w=1500n as=1p m=2\n.ends\n",
+        (52, 2),
+    ),
+    (
+        ".subckt t g s d vss\nm1 d g s vss nmos l=2.5e-07\n+ w=1500n as=1p m=1\n",
+        (54, 1),
+    ),
+    // A last line that ends in CR keeps it.
+    ("m1 a b c d n l=1u w=1u\r", (531, 1)),
+    ("m1 a b c d n l=1mils w=1u\n", (531, 1)),
+    ("m1 a b c d n l=1u w=1000.000000000000001\n", (533, 1)),
+    ("m1 a b c d n l=1u w=1u $ x\n", (51, 1)),
+    ("x1 a m=1 m=2\n", (52, 1)),
+    ("x1 a \\\n", (51, 1)),
+    // The pins that a circuit lists are counted, not the global names that it needs.
+    (
+        ".global g\n.subckt a\nm1 g g g g n l=1u w=1u\n.ends\nx1 g a\n",
+        (43, 5),
+    ),
+    // Over the whole text a call of no circuit comes before another number of pins, and that
+    // before a circuit that calls itself.
+    (".subckt a\n.ends\nx1 n a\nx2 b\n", (41, 4)),
+    (".subckt a\nx1 n a\n.ends\n", (43, 2)),
 ];
 
 #[test]
@@ -79,6 +112,19 @@ fn first_faults(rt: HostRuntime) -> Result<(), Fail> {
             Ok(_) => return Err(Fail::from("no fault")),
             Err(e) => assert_eq!(rt; number(&e), want, "of {text}"),
         }
+    }
+    Ok(())
+}
+
+// The first circuit that reaches itself, not the first that reaches such a one.
+#[test]
+fn first_cycle(rt: HostRuntime) -> Result<(), Fail> {
+    let text = b".subckt c\nx1 a\n.ends\n.subckt a\nx1 b\n.ends\n.subckt b\nx1 a\n.ends\n";
+    match read_spice(rt.alloc(), text) {
+        Err(SpiceFault::CircuitCycle(name)) => {
+            assert_eq!(rt; name.bytes(), b"A".as_slice(), "name");
+        }
+        _ => return Err(Fail::from("no cycle")),
     }
     Ok(())
 }

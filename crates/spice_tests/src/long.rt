@@ -6,6 +6,8 @@ use std::test::Fail;
 
 const COUNT: u32 = 100_000;
 
+const NAMES: u32 = 10_000;
+
 fn name(alloc: Global, bytes: &[u8]) -> Result<Name, AllocError> {
     match Name::from_bytes(alloc, bytes)? {
         Some(name) => Ok(name),
@@ -58,6 +60,19 @@ fn chain(alloc: Global) -> Result<String, AllocError> {
     Ok(text)
 }
 
+// Circuits of one transistor with one of many global names each.
+fn globals(alloc: Global) -> Result<String, AllocError> {
+    let mut text = String::new(alloc);
+    for k in 0..NAMES {
+        text.push_str(&format!(in alloc; ".global g{k}\n")?)?;
+    }
+    for k in 0..COUNT {
+        let card = format!(in alloc; "m1 a b c g{} n l=1u w=1u", k % NAMES)?;
+        text.push_str(&format!(in alloc; ".subckt c{k} a b c\n{card}\n.ends\n")?)?;
+    }
+    Ok(text)
+}
+
 #[test]
 fn names_of_each_byte(rt: HostRuntime) -> Result<(), Fail> {
     let netlist = each_byte(rt.alloc())?;
@@ -94,5 +109,17 @@ fn many_circuits(rt: HostRuntime) -> Result<(), Fail> {
         return Err(Fail::from("no circuit"));
     };
     assert_eq!(rt; first.pins.len(), 1, "pins");
+    Ok(())
+}
+
+#[test]
+fn many_globals(rt: HostRuntime) -> Result<(), Fail> {
+    let text = globals(rt.alloc())?;
+    let read = read_spice(rt.alloc(), text.as_bytes()).map_err(|e| Fail::from("read"))?;
+    assert_eq!(rt; read.circuits.len(), 100_000, "circuits");
+    let [first, ..] = read.circuits.as_slice() else {
+        return Err(Fail::from("no circuit"));
+    };
+    assert_eq!(rt; first.pins.len(), 4, "pins");
     Ok(())
 }

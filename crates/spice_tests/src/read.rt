@@ -2,7 +2,7 @@ use spice_text::{read_spice, write_spice};
 use std::test::Fail;
 
 // Texts, and the text of what is read from each.
-const TEXTS: [(&str, &str); 14] = [
+const TEXTS: [(&str, &str); 19] = [
     // No card.
     ("", "* lvs netlist\n.END\n"),
     // The first line isn't a title; comments and blank lines stand between a card and its
@@ -79,6 +79,47 @@ const TEXTS: [(&str, &str); 14] = [
     (
         ".subckt b z\nx1 y z w a\n.ends\n.subckt a p q r\n.ends\n",
         "* lvs netlist\n.SUBCKT B Z\nX1 Y Z W A\n.ENDS B\n.SUBCKT A P Q R\n.ENDS A\n.END\n",
+    ),
+    // Exponents, suffixes and a continuation are one text with micrometres.
+    (
+        ".subckt t g s d vss\nm1 d g s vss nmos l=2.5e-07\n+ w=1500n as=1p m=1\n.ends\n",
+        "* lvs netlist\n.SUBCKT T G S D VSS\nM1 D G S VSS NMOS L=0.25U W=1.5U\n.ENDS T\n.END\n",
+    ),
+    // A needed name is joined to the caller's pin of that name, in each call.
+    (
+        ".global g\n.subckt a\nm1 g g g g n l=1u w=1u\n.ends\n.subckt b x g\nx1 a\nx2 a\n.ends\n",
+        "* lvs netlist\n.SUBCKT A G\nM1 G G G G N L=1U W=1U\n.ENDS A\n.SUBCKT B X G\nX1 G A\n\
+        X2 G A\n.ENDS B\n.END\n",
+    ),
+    // What two called circuits need, in the order of the `.GLOBAL` cards, less the caller's pin;
+    // its own caller needs the rest.
+    (
+        ".global p q\n.global r\n.subckt a\nm1 r r r p n l=1u w=1u\n.ends\n.subckt b\n\
+        m1 q q q q n l=1u w=1u\n.ends\n.subckt c p\nx1 b\nx2 a\nx3 a\n.ends\n.subckt d\nx1 z c\n\
+        .ends\n",
+        "* lvs netlist\n.SUBCKT A P R\nM1 R R R P N L=1U W=1U\n.ENDS A\n.SUBCKT B Q\n\
+        M1 Q Q Q Q N L=1U W=1U\n.ENDS B\n.SUBCKT C P Q R\nX1 Q B\nX2 P R A\nX3 P R A\n.ENDS C\n\
+        .SUBCKT D Q R\nX1 Z Q R C\n.ENDS D\n.END\n",
+    ),
+    // A net of a call uses a global name too; the circuit of the cards outside has it as a pin.
+    (
+        ".global vss vdd\n.subckt a x\n.ends\nx1 vdd a\n",
+        "* lvs netlist\n.SUBCKT A X\n.ENDS A\n.SUBCKT .TOP VDD\nX1 VDD A\n.ENDS .TOP\n.END\n",
+    ),
+    // Names that differ behind their hundredth byte are two.
+    (
+        ".subckt nnnnnnnnnnnnnnnnnnnnnnnnnnnnnnnnnnnnnnnnnnnnnnnnnnnnnnn\
+        nnnnnnnnnnnnnnnnnnnnnnnnnnnnnnnnnnnnnnnnnnnnnnnnnnnnnnnA\n.ends\n\
+        .subckt nnnnnnnnnnnnnnnnnnnnnnnnnnnnnnnnnnnnnnnnnnnnnnnnnnnnnnn\
+        nnnnnnnnnnnnnnnnnnnnnnnnnnnnnnnnnnnnnnnnnnnnnnnnnnnnnnnB\n.ends\n",
+        "* lvs netlist\n.SUBCKT NNNNNNNNNNNNNNNNNNNNNNNNNNNNNNNNNNNNNNNNNNNNNNNNNNNNNNN\
+        NNNNNNNNNNNNNNNNNNNNNNNNNNNNNNNNNNNNNNNNNNNNNNNNNNNNNNNA\n\
+        .ENDS NNNNNNNNNNNNNNNNNNNNNNNNNNNNNNNNNNNNNNNNNNNNNNNNNNNNNNN\
+        NNNNNNNNNNNNNNNNNNNNNNNNNNNNNNNNNNNNNNNNNNNNNNNNNNNNNNNA\n\
+        .SUBCKT NNNNNNNNNNNNNNNNNNNNNNNNNNNNNNNNNNNNNNNNNNNNNNNNNNNNNNN\
+        NNNNNNNNNNNNNNNNNNNNNNNNNNNNNNNNNNNNNNNNNNNNNNNNNNNNNNNB\n\
+        .ENDS NNNNNNNNNNNNNNNNNNNNNNNNNNNNNNNNNNNNNNNNNNNNNNNNNNNNNNN\
+        NNNNNNNNNNNNNNNNNNNNNNNNNNNNNNNNNNNNNNNNNNNNNNNNNNNNNNNB\n.END\n",
     ),
 ];
 
