@@ -1,6 +1,7 @@
 // Small layouts and the netlists that are extracted from them, as SPICE text.
 ghost use Rattle.std.specs.Prelude.{◌≤◌};
 
+use crate::drawn::{Drawn, stream_of};
 use crate::gates::{
     ACTIVE, CROSSED, HALF_CROSSED, NMOS, POLY, RING, Shape, one_cell, placed_once, push_shapes,
 };
@@ -9,7 +10,8 @@ use deep_flow::extract;
 use deep_tables::GateCause;
 use gds_layout::read_layout;
 use geo_base::Square;
-use job_board::OpenGate;
+use job_board::{Gate, OpenGate};
+use job_tests::{Abreast, Visits};
 use rule_text::read_rules;
 use spice_text::write_spice;
 use std::alloc::{AllocError, Global};
@@ -17,10 +19,11 @@ use std::sync::Wait;
 use std::test::Fail;
 use std::thread::Threads;
 
-// The database unit of the streams, in picometres.
-const UNIT_PM: u32 = 1000;
+/// The database unit of the streams, in picometres.
+pub const UNIT_PM: u32 = 1000;
 
-const METAL: &[u8] = b"metal = input(5, 0)\ntxt = labels(5, 1)\nconnect(metal, txt)\n";
+/// Rules of one conductor with texts.
+pub const METAL: &[u8] = b"metal = input(5, 0)\ntxt = labels(5, 1)\nconnect(metal, txt)\n";
 
 // Where a bad gate stands, and why it is bad.
 #[derive(Clone, Copy, Debug, PartialEq, Eq)]
@@ -37,12 +40,13 @@ struct Found {
     bad: Vec<Told>,
 }
 
-fn extracted<R: Threads + Wait + Sync>(
+fn extracted<R: Threads + Wait + Sync, G: Gate + Sync>(
     rt: &R,
     alloc: Global,
     layout: &[u8],
     rules: &[u8],
     workers: usize,
+    gate: &G,
 ) -> Result<Found, AllocError>
     requires { (1 ≤ workers) × (workers ≤ 64) }
 {
@@ -52,15 +56,7 @@ fn extracted<R: Threads + Wait + Sync>(
     let Ok(rules) = read_rules(alloc, rules) else {
         return Err(AllocError);
     };
-    let found = extract(
-        rt,
-        alloc,
-        &layout.design,
-        &rules,
-        UNIT_PM,
-        workers,
-        &OpenGate,
-    )?;
+    let found = extract(rt, alloc, &layout.design, &rules, UNIT_PM, workers, gate)?;
     let mut bad = Vec::new(alloc);
     for gate in &found.bad {
         bad.push(Told {
@@ -85,7 +81,7 @@ fn has_netlist<R: Threads + Wait + Sync>(
     bad: &[Told],
 ) -> Result<bool, AllocError> {
     for workers in 1..3 {
-        let found = extracted(rt, alloc, layout, rules, workers)?;
+        let found = extracted(rt, alloc, layout, rules, workers, &OpenGate)?;
         if found.text.as_slice() != text || found.bad.as_slice() != bad {
             return Ok(false);
         }
@@ -344,5 +340,47 @@ fn doubling_hierarchy(rt: HostRuntime) -> Result<(), Fail> {
     let layout = doubled(alloc, 25)?;
     let text = doubled_text(alloc, 25)?;
     assert!(rt; has_netlist(&rt, alloc, &layout, ONE_NET, &text, &[])?);
+    Ok(())
+}
+
+// Three transistors side by side.
+const THREE: [Drawn; 4] = [
+    Drawn(b'K', &CROSSED, &[], &[]),
+    Drawn(b'L', &CROSSED, &[], &[]),
+    Drawn(b'N', &CROSSED, &[], &[]),
+    Drawn(b'T', &[], &[], &[(b'K', 0), (b'L', 2000), (b'N', 4000)]),
+];
+
+// In each of the six phases two workers are at work on two of the three cells at once.
+#[test]
+fn both_workers_enter(rt: HostRuntime) -> Result<(), Fail> {
+    let alloc: Global = rt.alloc();
+    let layout = stream_of(alloc, &THREE)?;
+    let gate = Abreast::new();
+    let found = extracted(&rt, alloc, &layout, NMOS, 2, &gate)?;
+    let six = Visits {
+        first: 6,
+        second: 6,
+        late: 0,
+    };
+    assert_eq!(rt; gate.visits(), six);
+    let text: &[u8] = b"* lvs netlist
+.SUBCKT K VSS
+M1 \\$3 \\$1 \\$2 VSS NMOS L=0.25U W=1.5U
+.ENDS K
+.SUBCKT L VSS
+M1 \\$3 \\$1 \\$2 VSS NMOS L=0.25U W=1.5U
+.ENDS L
+.SUBCKT N VSS
+M1 \\$3 \\$1 \\$2 VSS NMOS L=0.25U W=1.5U
+.ENDS N
+.SUBCKT T VSS
+X1 VSS K
+X2 VSS L
+X3 VSS N
+.ENDS T
+.END
+";
+    assert!(rt; found.text.as_slice() == text);
     Ok(())
 }

@@ -1,7 +1,8 @@
 ghost use Rattle.std.specs.Prelude.{◌≤◌};
 
+use crate::drawn::{Drawn, stream_of};
 use crate::streams::{
-    TURNS, push_array, push_cell, push_end, push_last, push_place, push_rect, start,
+    TURNS, push_array, push_cell, push_end, push_grid, push_last, push_place, push_rect, start,
 };
 use deep_flow::derive_nets;
 use gds_layout::read_layout;
@@ -138,6 +139,58 @@ fn arrays(rt: HostRuntime) -> Result<(), Fail> {
         push_last(&mut layout)?;
         assert!(rt; has_nets(&rt, alloc, &layout, RULES, &nets, count)?);
     }
+    Ok(())
+}
+
+// Each element is two squares with a corner in common, and meets its neighbours at corners alone.
+#[test]
+fn array_of_corners(rt: HostRuntime) -> Result<(), Fail> {
+    let alloc: Global = rt.alloc();
+    let mut layout = start(alloc)?;
+    push_cell(&mut layout, b'C')?;
+    push_rect(&mut layout, 1, [10, 0, 20, 10])?;
+    push_rect(&mut layout, 1, [0, 10, 10, 20])?;
+    push_end(&mut layout)?;
+    push_cell(&mut layout, b'T')?;
+    push_array(&mut layout, b'C', 40, 40)?;
+    push_end(&mut layout)?;
+    push_last(&mut layout)?;
+    let nets = [0, 1, 2, 3, 4, 5, 6, 7];
+    assert!(rt; has_nets(&rt, alloc, &layout, RULES, &nets, 8)?);
+    Ok(())
+}
+
+// Two children that overlap, two on one spot, and one apart.
+const STACKED: [Drawn; 2] = [
+    Drawn(b'C', &[(1, [0, 0, 10, 10])], &[], &[]),
+    Drawn(
+        b'T',
+        &[],
+        &[],
+        &[(b'C', 0), (b'C', 40), (b'C', 5), (b'C', 40), (b'C', 60)],
+    ),
+];
+
+#[test]
+fn children_over_one_another(rt: HostRuntime) -> Result<(), Fail> {
+    let alloc: Global = rt.alloc();
+    let layout = stream_of(alloc, &STACKED)?;
+    assert!(rt; has_nets(&rt, alloc, &layout, RULES, &[0, 1, 0, 1, 2], 3)?);
+    Ok(())
+}
+
+// A cell of 2^16 squares, placed 2^16 times, has 2^32 items: want of memory, at once.
+#[test]
+fn too_many_items(rt: HostRuntime) -> Result<(), Fail> {
+    let alloc: Global = rt.alloc();
+    let mut layout = square(alloc, 1, [0, 0, 5, 5])?;
+    for (name, placed, wide) in [(b'D', b'C', 2560), (b'T', b'D', 655_360)] {
+        push_cell(&mut layout, name)?;
+        push_grid(&mut layout, placed, [256, 256], wide, wide)?;
+        push_end(&mut layout)?;
+    }
+    push_last(&mut layout)?;
+    assert!(rt; top_nets(&rt, alloc, &layout, RULES, 1).is_err());
     Ok(())
 }
 

@@ -86,14 +86,28 @@ pub fn push_place(
     out.extend_from_slice(&[0, 4, 0x11, 0])
 }
 
-/// An array of two columns and two rows, whose columns together are so wide and whose rows so high.
-pub fn push_array(out: &mut Vec<u8>, name: u8, wide: i32, high: i32) -> Result<(), AllocError> {
-    out.extend_from_slice(&[0, 4, 0x0B, 0, 0, 6, 0x12, 6, name, 0])?;
-    out.extend_from_slice(&[0, 8, 0x13, 2, 0, 2, 0, 2, 0, 28, 0x10, 3])?;
+/// An array, whose columns together are so wide and whose rows so high.
+pub fn push_grid(
+    out: &mut Vec<u8>,
+    name: u8,
+    counts: [u16; 2],
+    wide: i32,
+    high: i32,
+) -> Result<(), AllocError> {
+    out.extend_from_slice(&[0, 4, 0x0B, 0, 0, 6, 0x12, 6, name, 0, 0, 8, 0x13, 2])?;
+    for count in counts {
+        out.extend_from_slice(&count.to_be_bytes())?;
+    }
+    out.extend_from_slice(&[0, 28, 0x10, 3])?;
     for number in [0, 0, wide, 0, 0, high] {
         out.extend_from_slice(&number.to_be_bytes())?;
     }
     out.extend_from_slice(&[0, 4, 0x11, 0])
+}
+
+/// An array of two columns and two rows.
+pub fn push_array(out: &mut Vec<u8>, name: u8, wide: i32, high: i32) -> Result<(), AllocError> {
+    push_grid(out, name, [2, 2], wide, high)
 }
 
 /// The end of a cell.
