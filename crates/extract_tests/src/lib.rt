@@ -4,6 +4,8 @@
 #![tactic(auto)]
 
 #[cfg(test)]
+mod abreast;
+#[cfg(test)]
 mod commands;
 #[cfg(test)]
 mod compared;
@@ -21,5 +23,7 @@ mod layouts;
 mod made;
 #[cfg(test)]
 mod refused;
+#[cfg(test)]
+mod texts;
 #[cfg(test)]
 mod wired;
