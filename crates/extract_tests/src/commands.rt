@@ -1,5 +1,5 @@
 // The commands over files in memory.
-use job_board::OpenGate;
+use job_board::{Gate, OpenGate};
 use lvs_outside::{MemoryDepot, MemorySink};
 use lvs_run::run_lvs;
 use std::alloc::{AllocError, Global};
@@ -82,6 +82,31 @@ fn file_of(alloc: Global, depot: &MemoryDepot, path: &str) -> Result<Option<Vec<
     }
 }
 
+/// Runs the words over the files l, r and c, and each job through a gate.
+pub fn run_through<R: Threads + Wait + Sync, G: Gate + Sync>(
+    rt: &R,
+    alloc: Global,
+    inputs: Inputs<'_>,
+    words: &[&str],
+    failing: Failing,
+    gate: &G,
+) -> Result<Ran, AllocError> {
+    let words = words_of(alloc, words)?;
+    let mut depot = MemoryDepot::new(alloc, one(alloc, failing.depot)?);
+    depot.put(alloc, "l", inputs.layout)?;
+    depot.put(alloc, "r", inputs.rules.as_bytes())?;
+    depot.put(alloc, "c", inputs.schematic.as_bytes())?;
+    let mut sink = MemorySink::new(alloc, one(alloc, failing.sink)?);
+    let status = run_lvs(rt, alloc, words.as_slice(), &mut depot, &mut sink, gate);
+    Ok(Ran {
+        code: status.code(),
+        line: sink.bytes().to_vec(alloc)?,
+        shapes: file_of(alloc, &depot, "s")?,
+        netlist: file_of(alloc, &depot, "n")?,
+        report: file_of(alloc, &depot, "p")?,
+    })
+}
+
 /// Runs the words over the files l, r and c.
 pub fn run_of<R: Threads + Wait + Sync>(
     rt: &R,
@@ -90,27 +115,7 @@ pub fn run_of<R: Threads + Wait + Sync>(
     words: &[&str],
     failing: Failing,
 ) -> Result<Ran, AllocError> {
-    let words = words_of(alloc, words)?;
-    let mut depot = MemoryDepot::new(alloc, one(alloc, failing.depot)?);
-    depot.put(alloc, "l", inputs.layout)?;
-    depot.put(alloc, "r", inputs.rules.as_bytes())?;
-    depot.put(alloc, "c", inputs.schematic.as_bytes())?;
-    let mut sink = MemorySink::new(alloc, one(alloc, failing.sink)?);
-    let status = run_lvs(
-        rt,
-        alloc,
-        words.as_slice(),
-        &mut depot,
-        &mut sink,
-        &OpenGate,
-    );
-    Ok(Ran {
-        code: status.code(),
-        line: sink.bytes().to_vec(alloc)?,
-        shapes: file_of(alloc, &depot, "s")?,
-        netlist: file_of(alloc, &depot, "n")?,
-        report: file_of(alloc, &depot, "p")?,
-    })
+    run_through(rt, alloc, inputs, words, failing, &OpenGate)
 }
 
 /// A run ends with this status and this line.

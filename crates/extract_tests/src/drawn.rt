@@ -32,8 +32,8 @@ fn push_record(out: &mut Vec<u8>, kind: u8, form: u8, data: &[u8]) -> Result<(),
 }
 
 // A record with a string, ended by a NUL where its length is odd.
-fn push_string(alloc: Global, out: &mut Vec<u8>, kind: u8, text: &str) -> Result<(), AllocError> {
-    let mut data = text.as_bytes().to_vec(alloc)?;
+fn push_string(alloc: Global, out: &mut Vec<u8>, kind: u8, text: &[u8]) -> Result<(), AllocError> {
+    let mut data = text.to_vec(alloc)?;
     if data.len() % 2 == 1 {
         data.push(0)?;
     }
@@ -80,7 +80,7 @@ pub fn push_rect(
 pub fn push_label(
     alloc: Global,
     out: &mut Vec<u8>,
-    text: &str,
+    text: &[u8],
     x: i32,
     y: i32,
 ) -> Result<(), AllocError> {
@@ -101,7 +101,7 @@ pub fn push_placed(
     y: i32,
 ) -> Result<(), AllocError> {
     push_record(out, 0x0A, 0, &[])?;
-    push_string(alloc, out, 0x12, name)?;
+    push_string(alloc, out, 0x12, name.as_bytes())?;
     push_points(alloc, out, &[(x, y)])?;
     push_record(out, 0x11, 0, &[])
 }
@@ -110,7 +110,7 @@ fn push_item(alloc: Global, out: &mut Vec<u8>, item: &Item) -> Result<(), AllocE
     match item {
         Item::Rect(layer, corners) => push_rect(alloc, out, *layer, *corners),
         Item::Outline(layer, points) => push_outline(alloc, out, *layer, points),
-        Item::Label(text, x, y) => push_label(alloc, out, text, *x, *y),
+        Item::Label(text, x, y) => push_label(alloc, out, text.as_bytes(), *x, *y),
         Item::Placed(name, x, y) => push_placed(alloc, out, name, *x, *y),
     }
 }
@@ -123,7 +123,7 @@ pub fn begin(alloc: Global) -> Result<Vec<u8>, AllocError> {
 /// BGNSTR and STRNAME.
 pub fn begin_cell(alloc: Global, out: &mut Vec<u8>, name: &str) -> Result<(), AllocError> {
     push_record(out, 0x05, 0x02, &[0; 24])?;
-    push_string(alloc, out, 0x06, name)
+    push_string(alloc, out, 0x06, name.as_bytes())
 }
 
 /// ENDSTR.

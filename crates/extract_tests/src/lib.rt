@@ -3,6 +3,8 @@
 #![tactic(auto)]
 
 #[cfg(test)]
+mod abreast;
+#[cfg(test)]
 mod commands;
 #[cfg(test)]
 mod compared;
@@ -18,5 +20,7 @@ mod failing;
 mod layouts;
 #[cfg(test)]
 mod refused;
+#[cfg(test)]
+mod texts;
 #[cfg(test)]
 mod wired;

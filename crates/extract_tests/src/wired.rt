@@ -106,7 +106,7 @@ fn push_net(
         "" => Ok(()),
         "VSS" => push_rect(alloc, out, 7, [-1000, y, -900, top]),
         "VDD" => push_rect(alloc, out, 8, [-1000, y, -900, top]),
-        name => push_label(alloc, out, name, -950, y),
+        name => push_label(alloc, out, name.as_bytes(), -950, y),
     }
 }
 

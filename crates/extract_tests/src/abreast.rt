@@ -1,0 +1,73 @@
+// Two workers at once, in each phase of `extract`.
+use crate::commands::{EXTRACT, Inputs, NONE, ends, holds, run_through};
+use crate::drawn::Item::{Placed, Rect};
+use crate::drawn::{Cell, Item, library};
+use crate::layouts::MOS;
+use job_tests::{Abreast, Visits};
+use std::test::Fail;
+
+const CROSSED: &[Item] = &[Rect(2, [0, 0, 1250, 1500]), Rect(3, [500, -100, 750, 1600])];
+
+const THREE: [Cell; 4] = [
+    Cell("K", CROSSED),
+    Cell("L", CROSSED),
+    Cell("N", CROSSED),
+    Cell(
+        "TOP",
+        &[
+            Placed("K", 0, 0),
+            Placed("L", 2000, 0),
+            Placed("N", 4000, 0),
+        ],
+    ),
+];
+
+const NETLIST: &str = r"* lvs netlist
+.SUBCKT K VSS
+M1 \$3 \$1 \$2 VSS NMOS L=0.25U W=1.5U
+.ENDS K
+.SUBCKT L VSS
+M1 \$3 \$1 \$2 VSS NMOS L=0.25U W=1.5U
+.ENDS L
+.SUBCKT N VSS
+M1 \$3 \$1 \$2 VSS NMOS L=0.25U W=1.5U
+.ENDS N
+.SUBCKT TOP VSS
+X1 VSS K
+X2 VSS L
+X3 VSS N
+.ENDS TOP
+.END
+";
+
+// In each of the six phases over the cells two workers are at work on two of the three cells at
+// once.
+#[test]
+fn both_workers_enter(rt: HostRuntime) -> Result<(), Fail> {
+    let alloc = rt.alloc();
+    let layout = library(alloc, &THREE)?;
+    let inputs = Inputs {
+        layout: &layout,
+        rules: MOS,
+        schematic: "",
+    };
+    let mut words = EXTRACT.to_vec(alloc)?;
+    words.extend_from_slice(&["--workers", "2"])?;
+    let gate = Abreast::new();
+    let ran = run_through(&rt, alloc, inputs, &words, NONE, &gate)?;
+    let six = Visits {
+        first: 6,
+        second: 6,
+        late: 0,
+    };
+    assert_eq!(rt; gate.visits(), six);
+    ends(
+        &rt,
+        &ran,
+        0,
+        "extracted cells 4 circuits 4 bad 0\n",
+        "two workers",
+    );
+    holds(&rt, &ran.netlist, NETLIST, "two workers");
+    Ok(())
+}
