@@ -8,7 +8,7 @@ use Rattle.lvs_run.specs.declared.status.Refusal.TheVariants.{Words, SamePath, A
 use Rattle.lvs_run.specs.declared.output.Output.{Output}
 use Rattle.lvs_run.specs.declared.output.Verdict.{Verdict}
 use Rattle.lvs_run.specs.declared.output.Verdict.TheVariants as verdict
-use Rattle.lvs_run.specs.Words.{Paths, file_at}
+use Rattle.lvs_run.specs.Words.{Paths, file_at, inputs}
 use Rattle.lvs_run.specs.Answers.{Done, Answer, Outside, NoMemory, IsVerdict, nothing, refused, verdict_of}
 use Rattle.lvs_run.specs.Lines.{line_of}
 use Rattle.lvs_run.specs.Runs.{WritesAll, HasCauseIn, ShowsFaults, depot_faults, sink_faults}
@@ -48,7 +48,7 @@ went_outside : (said : Option Paths) (old new : Store) (before after : SinkState
 went_outside said old new before after fails = record { done = nothing; comes = tt; leaves = tt; says = tt; fails = fails }
 
 -- the outcome of a run that wrote its files
-verdict_out : (stated : Option Paths) (old new : Store) (before after : SinkState) (v : Verdict) (done : Done) → IsOutcome stated old.file (verdict_of v) done → WritesAll old new done.files
+verdict_out : (stated : Option Paths) (old new : Store) (before after : SinkState) (v : Verdict) (done : Done) → IsOutcome stated (inputs stated old.file) (verdict_of v) done → WritesAll old new done.files
     → after.told ≡ appended before.told (line_of (verdict_of v) done) → ComesOut stated old new before after (verdict_of v)
 verdict_out stated old new before after verdict.Good done comes wrote told = record { done = done; comes = comes; leaves = wrote; says = told; fails = tt }
 verdict_out stated old new before after verdict.Bad done comes wrote told = record { done = done; comes = comes; leaves = wrote; says = told; fails = tt }
@@ -114,7 +114,7 @@ sent stated old new before after (Layout fault) quiet stops took = record { done
 sent stated old new before after (Schematic fault) quiet stops took = record { done = nothing; comes = stops.comes nothing; leaves = quiet.starts; says = took.told; fails = tt }
 
 -- the outcome of a refusal
-refusal_comes : (stated : Option Paths) (old : Store) (why : Refusal) → ComesOf stated old (refused why) → IsOutcome stated old.file (refused why) nothing
+refusal_comes : (stated : Option Paths) (old : Store) (why : Refusal) → ComesOf stated (inputs stated old.file) (refused why) → IsOutcome stated (inputs stated old.file) (refused why) nothing
 refusal_comes stated old Words comes = comes nothing
 refusal_comes stated old (SamePath path) comes = comes nothing
 refusal_comes stated old (Absent path) comes = comes nothing

@@ -12,7 +12,7 @@ use Rattle.rule_text.specs.Reading.{Means}
 use Rattle.lvs_run.specs.declared.status.Refusal.{Refusal}
 use Rattle.lvs_run.specs.declared.status.Refusal.TheVariants.{Words, SamePath, Absent, TooLong, Rules, Layout, Schematic}
 use Rattle.lvs_run.specs.declared.output.Output.{Output}
-use Rattle.lvs_run.specs.Words.{Outputs, ToShapes, ToNetlist, ToReport, ForNetlist, Paths, shapes_path}
+use Rattle.lvs_run.specs.Words.{Outputs, ToShapes, ToNetlist, ToReport, ToChip, ForNetlist, ForShapes, Paths}
 use Rattle.lvs_run.specs.Answers.{Done, Answer, Good, Bad, Undecided, IsVerdict, comparison_answer, refused, verdict_of}
 use Rattle.lvs_run.specs.Outcomes.{IsDone, IsDoneBeside, gates_answer}
 use Rattle.lvs_run.specs.Inputs.{Quiet, IsInput, ReadAs, IsReady}
@@ -68,7 +68,7 @@ none_written before after why a (inr (inr h)) v = subst IsVerdict h.0 v
 
 -- ---- a fact of the told inputs
 
-where_told : (rules layout : Told) (r : rule_sets.Rules) (v : ReadLayout) (top : Option (List ℕ)) (P : ReadLayout → rule_sets.Rules → Type 0) (rule_bytes bytes : List ℕ)
+pub where_told : (rules layout : Told) (r : rule_sets.Rules) (v : ReadLayout) (top : Option (List ℕ)) (P : ReadLayout → rule_sets.Rules → Type 0) (rule_bytes bytes : List ℕ)
     → IsInput rule_bytes rules → IsInput bytes layout → Means rule_bytes r → IsRead bytes top v → P v r → WhereTold rules layout top P
 where_told Untold layout r v top P rule_bytes bytes a b means read h = tt
 where_told NoFile layout r v top P rule_bytes bytes a b means read h = tt
@@ -88,31 +88,42 @@ of_inputs p old mid new r v P quiet rules layout h =
 
 -- each command lists its shapes file
 lists_shapes : (o : Outputs) (l : ReadLayout) (r : rule_sets.Rules) (a : Answer) (done : Done) (P : List ℕ → Type 0)
-    → ((text : List ℕ) (cells rectangles : ℕ) → IsShapesFile l r text cells rectangles → P text) → IsDone o l r a done → ListsAs done.files (shapes_path o) P
+    → ((text : List ℕ) (cells rectangles : ℕ) → IsShapesFile l r text cells rectangles → P text) → IsDone o l r a done → ForShapes o (λ (path : List ℕ). ListsAs done.files path P)
 lists_shapes (ToShapes shapes) l r a done P f h = let made = h.1 in rw made.whole (inl (refl, f made.text made.cells made.rectangles made.file))
 lists_shapes (ToNetlist shapes netlist) l r a done P f h = rw h.whole (inl (refl, f h.text h.cells h.rectangles h.file))
 lists_shapes (ToReport schematic shapes netlist report) l r a done P f h = absurd h
+lists_shapes (ToChip n seed prefix) l r a done P f h = absurd h
 
 -- and of a comparison
 lists_beside : (o : Outputs) (l : ReadLayout) (r : rule_sets.Rules) (nl : Netlist) (a : Answer) (done : Done) (P : List ℕ → Type 0)
-    → ((text : List ℕ) (cells rectangles : ℕ) → IsShapesFile l r text cells rectangles → P text) → IsDoneBeside o l r nl a done → ListsAs done.files (shapes_path o) P
+    → ((text : List ℕ) (cells rectangles : ℕ) → IsShapesFile l r text cells rectangles → P text) → IsDoneBeside o l r nl a done → ForShapes o (λ (path : List ℕ). ListsAs done.files path P)
 lists_beside (ToReport schematic shapes netlist report) l r nl a done P f h = rw h.whole (inl (refl, f h.text h.cells h.rectangles h.file))
 lists_beside (ToShapes shapes) l r nl a done P f h = absurd h
 lists_beside (ToNetlist shapes netlist) l r nl a done P f h = absurd h
+lists_beside (ToChip n seed prefix) l r nl a done P f h = tt
 
 pub flat_listed : (p : Paths) (old mid new : Store) (r : rule_sets.Rules) (v : ReadLayout) (a : Answer) (done : Done) → Quiet old mid → ReadAs old mid p.rules (λ bytes. Means bytes r)
     → ReadAs mid new p.layout (λ bytes. IsRead bytes p.top v) → ((text : List ℕ) (cells rectangles : ℕ) → IsShapesFile v r text cells rectangles → CoversFlat v r text) → IsDone p.outputs v r a done
-    → ListsAs done.files (shapes_path p.outputs) (IsFlatText old.file p)
+    → ForShapes p.outputs (λ (path : List ℕ). ListsAs done.files path (IsFlatText old.file p))
 flat_listed p old mid new r v a done quiet rules layout covers made =
     lists_shapes p.outputs v r a done (IsFlatText old.file p)
     (λ text cells rectangles file. of_inputs p old mid new r v (λ (l : ReadLayout) (q : rule_sets.Rules). CoversFlat l q text) quiet rules layout (covers text cells rectangles file)) made
+
+-- where the command writes one, its file holds it
+shapes_held : (out : Outputs) (old new : Store) (before after : SinkState) (o : Output) (a : Answer) (done : Done) (P : List ℕ → Type 0)
+    → files_of o.files.items ≡ done.files → AreApart done.files → ForShapes out (λ (path : List ℕ). ListsAs done.files path P) → Delivered o old new before after a → IsVerdict a
+    → ForShapes out (λ (path : List ℕ). HoldsAs (new.file path) P)
+shapes_held (ToShapes shapes) old new before after o a done P same apart lists h v = held_delivered old new before after o a done shapes P same apart lists h v
+shapes_held (ToNetlist shapes netlist) old new before after o a done P same apart lists h v = held_delivered old new before after o a done shapes P same apart lists h v
+shapes_held (ToReport schematic shapes netlist report) old new before after o a done P same apart lists h v = held_delivered old new before after o a done shapes P same apart lists h v
+shapes_held (ToChip n seed prefix) old new before after o a done P same apart lists h v = tt
 
 pub flat_delivered : (stated : Option Paths) (old mid new : Store) (before after : SinkState) (o : Output) (a : Answer)
     → IsReady stated old mid o → Delivered o mid new before after a → WritesFlat stated old new a
 flat_delivered stated old mid new before after o a ready h v =
     let p = ready.paths in
-    subst (λ (s : Option Paths). OfStated s (λ (q : Paths). HoldsAs (new.file (shapes_path q.outputs)) (IsFlatText old.file q))) (sym ready.stated)
-    (held_delivered mid new before after o a ready.done (shapes_path p.outputs) (IsFlatText old.file p) ready.files ready.apart ready.flat h v)
+    subst (λ (s : Option Paths). OfStated s (λ (q : Paths). ForShapes q.outputs (λ (path : List ℕ). HoldsAs (new.file path) (IsFlatText old.file q)))) (sym ready.stated)
+    (shapes_held p.outputs mid new before after o a ready.done (IsFlatText old.file p) ready.files ready.apart ready.flat h v)
 
 -- ---- the netlist's file
 
@@ -145,6 +156,7 @@ lists_netlist : (o : Outputs) (l : ReadLayout) (r : rule_sets.Rules) (a : Answer
 lists_netlist (ToShapes shapes) l r a done P f h = tt
 lists_netlist (ToNetlist shapes netlist) l r a done P f h = rw h.whole (inr (inl (refl, f h.netlist h.top h.bad h.spelled (none_bad h.bad a h.answer) h.netlist_file)))
 lists_netlist (ToReport schematic shapes netlist report) l r a done P f h = absurd h
+lists_netlist (ToChip n seed prefix) l r a done P f h = absurd h
 
 lists_netlist_beside : (o : Outputs) (l : ReadLayout) (r : rule_sets.Rules) (sch : Netlist) (a : Answer) (done : Done) (P : List ℕ → Type 0)
     → ((nl : Netlist) (top : ℕ) (bad : List BadGate) (text : List ℕ) → (a ≡ Good → bad ≡ []) → IsNetlistFile l r nl top bad text → P text) → IsDoneBeside o l r sch a done
@@ -153,6 +165,7 @@ lists_netlist_beside (ToReport schematic shapes netlist report) l r sch a done P
     rw h.whole (inr (inl (refl, f h.netlist h.top h.bad h.spelled (match_none h.bad h.verdict a h.answer h.report_file) h.netlist_file)))
 lists_netlist_beside (ToShapes shapes) l r sch a done P f h = absurd h
 lists_netlist_beside (ToNetlist shapes netlist) l r sch a done P f h = absurd h
+lists_netlist_beside (ToChip n seed prefix) l r sch a done P f h = tt
 
 pub netlist_listed : (p : Paths) (old mid new : Store) (r : rule_sets.Rules) (v : ReadLayout) (a : Answer) (done : Done) → Quiet old mid → ReadAs old mid p.rules (λ bytes. Means bytes r)
     → ReadAs mid new p.layout (λ bytes. IsRead bytes p.top v)
@@ -170,6 +183,7 @@ netlist_held : (out : Outputs) (old new : Store) (before after : SinkState) (o :
 netlist_held (ToShapes shapes) old new before after o a done P same apart lists h v = tt
 netlist_held (ToNetlist shapes netlist) old new before after o a done P same apart lists h v = held_delivered old new before after o a done netlist P same apart lists h v
 netlist_held (ToReport schematic shapes netlist report) old new before after o a done P same apart lists h v = held_delivered old new before after o a done netlist P same apart lists h v
+netlist_held (ToChip n seed prefix) old new before after o a done P same apart lists h v = tt
 
 -- the answer of a run that wrote its files
 pub verdict_is : (o : Output) (old new : Store) (before after : SinkState) (a : Answer) → Delivered o old new before after a → IsVerdict a → verdict_of o.verdict ≡ a
@@ -189,7 +203,7 @@ netlist_delivered stated old mid new before after o a ready h v =
 
 pub flat_listed_beside : (p : Paths) (old mid new : Store) (r : rule_sets.Rules) (v : ReadLayout) (nl : Netlist) (a : Answer) (done : Done) → Quiet old mid → ReadAs old mid p.rules (λ bytes. Means bytes r)
     → ReadAs mid new p.layout (λ bytes. IsRead bytes p.top v) → ((text : List ℕ) (cells rectangles : ℕ) → IsShapesFile v r text cells rectangles → CoversFlat v r text) → IsDoneBeside p.outputs v r nl a done
-    → ListsAs done.files (shapes_path p.outputs) (IsFlatText old.file p)
+    → ForShapes p.outputs (λ (path : List ℕ). ListsAs done.files path (IsFlatText old.file p))
 flat_listed_beside p old mid new r v nl a done quiet rules layout covers made =
     lists_beside p.outputs v r nl a done (IsFlatText old.file p)
     (λ text cells rectangles file. of_inputs p old mid new r v (λ (l : ReadLayout) (q : rule_sets.Rules). CoversFlat l q text) quiet rules layout (covers text cells rectangles file)) made

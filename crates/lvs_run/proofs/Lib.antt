@@ -12,3 +12,5 @@ pub mod SameReports
 pub mod Adding
 pub mod Told
 pub mod Ready
+pub mod MadeChips
+pub mod Chosen

@@ -1,5 +1,5 @@
 -- One outcome for words and told files.
-use Rattle.std.proofs.Common.{◌≡◌, ◌≢◌, inl, inr, ℕ, List, length, Option, Some, None, IfSome, Ok, Err, sym, ap, subst, ◌∙◌, arith}
+use Rattle.std.proofs.Common.{◌≡◌, ◌≢◌, inl, inr, ℕ, List, [], length, Option, Some, None, IfSome, Ok, Err, sym, ap, subst, ◌∙◌, arith}
 use Rattle.lvs_outside.specs.Store.{Told, Untold, NoFile, Holds}
 use Rattle.gds_layout.specs.declared.layout.LayoutFault.{LayoutFault}
 use Rattle.gds_layout.specs.declared.layout.LayoutFault.TheVariants as layout
@@ -20,10 +20,10 @@ use Rattle.shapes_file.specs.One.{IsSameFile, OneFileLaw}
 use Rattle.deep_tables.specs.declared.gates.BadGate.{BadGate}
 use Rattle.netlist_file.specs.One.{IsSameNetlist, OneNetlistLaw}
 use Rattle.plain_netlist.specs.Netlist.{Netlist}
-use Rattle.lvs_run.specs.Words.{Outputs, Paths, ToShapes, ToNetlist, ToReport, schematic_path}
+use Rattle.lvs_run.specs.Words.{Outputs, Paths, ToShapes, ToNetlist, ToReport, ToChip, schematic_path}
 use Rattle.gds_layout.specs.declared.layout.Layout.{Layout}
 use Rattle.gds_layout.specs.Layouts.{IsRead}
-use Rattle.lvs_run.specs.Answers.{Counts, Done, Extracted, Compared, drawn, extracted, compared, comparison_answer, Answer, IsVerdict, RefusedWords, RefusedSame, RefusedAbsent, RefusedLong, RefusedRules, RefusedLayout, RefusedSchematic}
+use Rattle.lvs_run.specs.Answers.{Counts, Done, Extracted, Compared, drawn, extracted, compared, made, comparison_answer, Answer, IsVerdict, RefusedWords, RefusedSame, RefusedAbsent, RefusedLong, RefusedRules, RefusedLayout, RefusedSchematic}
 use Rattle.lvs_run.specs.Outcomes.{IsDone, IsDoneBeside, IsDrawn, IsExtracted, IsCompared, IsFirstLayoutFault, IsFirstSchematicFault, gates_answer}
 use Rattle.lvs_run.proofs.Steps.{InTurn, in_turn, OfBeside, OfSchematic, OfCards, FaultyCards, SoundCards, OfStream, FaultyStream, SoundStream, OfLength, OfLayout, OfRuleText, FaultyRules, SoundRules, OfRules, OfPaths}
 use Rattle.lvs_run.specs.Once.{IsTold, AreInputsTold, IsSameOutcome, OneOutcomeLaw}
@@ -94,6 +94,7 @@ module _ (meanings : MeaningLaw) (faults : FaultLaw) (no_faults : NoFaultLaw) (o
         done = λ v. same_extracted path netlist l m r a b x y h k s t;
       }
   same_done (ToReport schematic path netlist report) bytes top l m r a b x y read found h k = absurd h
+  same_done (ToChip n seed prefix) bytes top l m r a b x y read found h k = absurd h
 
   -- too long twice, or not twice
   on_length : (bytes : List ℕ) (A B C D R : Type 0) → (A → C → R) → (B → D → R) → OfLength bytes A B → OfLength bytes C D → R
@@ -102,22 +103,28 @@ module _ (meanings : MeaningLaw) (faults : FaultLaw) (no_faults : NoFaultLaw) (o
   on_length bytes A B C D R long short (inr x) (inl y) = absurd (omega (arith, x.0, y.0))
   on_length bytes A B C D R long short (inr x) (inr y) = short x.1 y.1
 
-  -- two runs of one comparison
-  same_beside : (o : Outputs) (bytes : List ℕ) (top : Option (List ℕ)) (l m : Layout) (r : Rules) (nl : Netlist) (a b : Answer) (x y : Done) → IsRead bytes top l → IsRead bytes top m
-      → IsDoneBeside o l r nl a x → IsDoneBeside o m r nl b y → IsSameOutcome a b x y
-  same_beside (ToShapes path) bytes top l m r nl a b x y read found h k = absurd h
-  same_beside (ToNetlist path netlist) bytes top l m r nl a b x y read found h k = absurd h
-  same_beside (ToReport schematic path netlist report) bytes top l m r nl a b x y read found h k =
+  -- two comparisons of one layout with one schematic
+  same_comparison : (path netlist report bytes : List ℕ) (top : Option (List ℕ)) (l m : Layout) (r : Rules) (nl : Netlist) (a b : Answer) (x y : Done) → IsRead bytes top l → IsRead bytes top m
+      → IsCompared l r nl path netlist report a x → IsCompared m r nl path netlist report b y → (a ≡ b) × (x ≡ y)
+  same_comparison path netlist report bytes top l m r nl a b x y read found h k =
       let s = files bytes top l m r h.text k.text h.cells k.cells h.rectangles k.rectangles read found h.file k.file in
       let t = netlists bytes top l m r h.netlist k.netlist h.top k.top h.bad k.bad h.spelled k.spelled read found h.netlist_file k.netlist_file in
       let same = layouts bytes top l m read found in
       let other = same_report_file l m r h.netlist k.netlist h.top k.top h.bad k.bad nl k.report k.pairs k.verdict same.cells t.netlist t.top t.bad k.report_file in
       let can = h.comparable in
       let u = reports l.design r h.netlist h.top h.bad nl h.report k.report h.pairs k.pairs h.verdict k.verdict can.rules can.layout can.order can.schematic h.report_file other in
-      record {
-        answer = h.answer ∙ (ap comparison_answer u.verdict ∙ sym k.answer);
-        done = λ v. same_compared path netlist report l m r nl a b x y h k s t u;
-      }
+      (h.answer ∙ (ap comparison_answer u.verdict ∙ sym k.answer), same_compared path netlist report l m r nl a b x y h k s t u)
+
+  -- two runs of one comparison
+  same_beside : (o : Outputs) (bytes : List ℕ) (top : Option (List ℕ)) (l m : Layout) (r : Rules) (nl : Netlist) (a b : Answer) (x y : Done) → IsRead bytes top l → IsRead bytes top m
+      → IsDoneBeside o l r nl a x → IsDoneBeside o m r nl b y → IsSameOutcome a b x y
+  same_beside (ToShapes path) bytes top l m r nl a b x y read found h k = absurd h
+  same_beside (ToNetlist path netlist) bytes top l m r nl a b x y read found h k = absurd h
+  same_beside (ToReport schematic path netlist report) bytes top l m r nl a b x y read found h k =
+      let both = same_comparison path netlist report bytes top l m r nl a b x y read found h k in record { answer = both.0; done = λ v. both.1 }
+  same_beside (ToChip n seed prefix) bytes top l m r nl a b x y read found h k =
+      let both = same_comparison [] [] [] bytes top l m r nl a b h.ran k.ran read found h.compared k.compared in
+      record { answer = both.0; done = λ v. h.whole ∙ (ap (λ (d : Done). made n seed prefix d.counts) both.1 ∙ sym k.whole) }
 
   -- no want of memory
   a_fault : (bytes : List ℕ) (f : SpiceFault) → IsFirstSchematicFault bytes f → f ≢ spice.NoMemory

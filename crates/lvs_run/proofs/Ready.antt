@@ -1,6 +1,6 @@
 -- What a run has to write, from what was read and made.
 use Rattle.std.proofs.Common.{◌≡◌, ℕ, ◌+◌, ◌-◌, ◌^◌, ◌<◌, List, Option, Some, None, refl, subst, sym, ◌∙◌}
-use Rattle.lvs_outside.specs.Store.{HasRoom, Store}
+use Rattle.lvs_outside.specs.Store.{HasRoom, Store, Told}
 use Rattle.gds_layout.specs.declared.layout.Layout.{Layout}
 use Rattle.gds_layout.specs.Layouts.{IsRead}
 use Rattle.netlist_file.specs.Flat.{ShowsFlatLaw}
@@ -12,17 +12,26 @@ use Rattle.lvs_run.specs.declared.output.Output.{Output}
 use Rattle.lvs_run.specs.declared.output.Verdict.{Verdict}
 use Rattle.lvs_run.specs.declared.output.Verdict.TheVariants as verdict
 use Rattle.lvs_run.specs.Runs.{HasCauseIn}
-use Rattle.lvs_run.specs.Words.{Outputs, Paths, schematic_path}
-use Rattle.lvs_run.specs.Answers.{verdict_of}
+use Rattle.lvs_run.specs.Words.{Outputs, Paths, inputs_of, outputs_of, schematic_path}
+use Rattle.lvs_run.specs.declared.words.Outputs.{Outputs as Code}
+use Rattle.lvs_run.specs.declared.words.Outputs.TheVariants as code
+use Rattle.lvs_run.specs.declared.words.LayoutOutputs.TheVariants as files
+use Rattle.lvs_run.specs.Answers.{Done, verdict_of}
 use Rattle.lvs_run.specs.Inputs.{IsBeside, IsOutput, IsReady, Quiet, ReadAs}
-use Rattle.lvs_run.specs.Verdicts.{HasVerdicts, IsMatchOf, MatchLaw, VerdictsLaw}
-use Rattle.lvs_run.proofs.Stopping.{outcome_beside, outcome_made, verdict_cause, verdict_cause_beside}
+use Rattle.lvs_run.specs.Verdicts.{HasVerdicts, IsMatchOf, ListsReport, MatchLaw, TextsFact, VerdictsLaw}
+use Rattle.lvs_run.proofs.Stopping.{ReadsFiles, outcome_beside, outcome_made, told_files, verdict_cause, verdict_cause_beside}
 use Rattle.lvs_run.proofs.Flattened.{flat_listed, flat_listed_beside, netlist_listed, netlist_listed_beside}
 use Rattle.lvs_run.proofs.Reported.{lists_alone, matched_beside, verdicts_beside}
 
-pub ready_alone : (p : Paths) (old mid new : Store) (r : Rules) (l : Layout) (o : Output) → p.shared ≡ None → Quiet old mid → ReadAs old mid p.rules (λ bytes. Means bytes r) → IsSound r
+-- a command that the code keeps so reads its inputs
+pub reads_files : (o : Code) → ReadsFiles (outputs_of o)
+reads_files (code.Layout (files.Shapes shapes)) = tt
+reads_files (code.Layout (files.Netlist shapes netlist)) = tt
+reads_files (code.Report schematic paths) = tt
+
+pub ready_alone : (p : Paths) (old mid new : Store) (r : Rules) (l : Layout) (o : Output) → p.shared ≡ None → ReadsFiles p.outputs → Quiet old mid → ReadAs old mid p.rules (λ bytes. Means bytes r) → IsSound r
     → ReadAs mid new p.layout (λ bytes. IsRead bytes p.top l) → CoversFlatLaw → ShowsFlatLaw → IsOutput p.outputs l r o → IsReady (Some p) old new o
-ready_alone p old mid new r l o apart quiet rules sound layout covers shows made =
+ready_alone p old mid new r l o apart reads quiet rules sound layout covers shows made =
     let a = verdict_of o.verdict in
     record {
       paths = p;
@@ -33,17 +42,21 @@ ready_alone p old mid new r l o apart quiet rules sound layout covers shows made
       cause = verdict_cause p old new l r o.verdict made.done apart (layout.got.absent ∙ rules.got.absent) made.is;
       faults = layout.got.faults ∙ rules.got.faults;
       line = made.line;
-      comes = outcome_made p old mid new r l a made.done apart quiet rules layout made.is;
+      comes = outcome_made p old mid new r l a made.done apart reads quiet rules layout made.is;
       flat = flat_listed p old mid new r l a made.done quiet rules layout (λ text cells rectangles file. covers layout.bytes p.top l r text cells rectangles layout.is sound file) made.is;
       netlist = netlist_listed p old mid new r l a made.done quiet rules layout (λ nl top bad text file. shows layout.bytes p.top l r nl top bad text layout.is sound file) made.is;
-      verdicts = lists_alone p old.file l r a made.done (HasVerdicts a) made.is;
-      matched = λ good. lists_alone p old.file l r a made.done IsMatchOf made.is;
+      verdicts = lists_alone p (inputs_of p.outputs old.file) l r a made.done (HasVerdicts a) made.is;
+      matched = λ good. lists_alone p (inputs_of p.outputs old.file) l r a made.done IsMatchOf made.is;
     }
 
-pub ready_beside : (p : Paths) (old mid late new : Store) (r : Rules) (l : Layout) (path : List ℕ) (o : Output) → p.shared ≡ None → schematic_path p.outputs ≡ Some path → Quiet old mid → Quiet mid late
+-- a report on files that are read, seen from what the command reads
+report_so : (p : Paths) (file : List ℕ → Told) (done : Done) (P : TextsFact) → ReadsFiles p.outputs → ListsReport file p done.files P → ListsReport (inputs_of p.outputs file) p done.files P
+report_so p file done P reads h = subst (λ (f : List ℕ → Told). ListsReport f p done.files P) (sym (told_files p.outputs file reads)) h
+
+pub ready_beside : (p : Paths) (old mid late new : Store) (r : Rules) (l : Layout) (path : List ℕ) (o : Output) → p.shared ≡ None → ReadsFiles p.outputs → schematic_path p.outputs ≡ Some path → Quiet old mid → Quiet mid late
     → ReadAs old mid p.rules (λ bytes. Means bytes r) → IsSound r → ReadAs mid late p.layout (λ bytes. IsRead bytes p.top l) → CoversFlatLaw → ShowsFlatLaw → VerdictsLaw → MatchLaw
     → IsBeside p.outputs l r late new path o → IsReady (Some p) old new o
-ready_beside p old mid late new r l path o apart beside quiet later rules sound layout covers shows judged matches made =
+ready_beside p old mid late new r l path o apart reads beside quiet later rules sound layout covers shows judged matches made =
     let a = verdict_of o.verdict in
     let out = made.output in
     let nl = made.netlist in
@@ -57,11 +70,11 @@ ready_beside p old mid late new r l path o apart beside quiet later rules sound 
       cause = verdict_cause_beside p old new l r nl o.verdict out.done apart (schematic.got.absent ∙ (layout.got.absent ∙ rules.got.absent)) out.is;
       faults = schematic.got.faults ∙ (layout.got.faults ∙ rules.got.faults);
       line = out.line;
-      comes = outcome_beside p old mid late new r l nl path a out.done apart beside quiet later rules layout schematic out.is;
+      comes = outcome_beside p old mid late new r l nl path a out.done apart reads beside quiet later rules layout schematic out.is;
       flat = flat_listed_beside p old mid late r l nl a out.done quiet rules layout (λ text cells rectangles file. covers layout.bytes p.top l r text cells rectangles layout.is sound file) out.is;
       netlist = netlist_listed_beside p old mid late r l nl a out.done quiet rules layout (λ n top bad text file. shows layout.bytes p.top l r n top bad text layout.is sound file) out.is;
-      verdicts = verdicts_beside p old mid late new r l nl path a out.done beside quiet later rules layout schematic judged out.is;
-      matched = λ good. matched_beside p old mid late new r l nl path a out.done beside quiet later rules layout schematic matches out.is good;
+      verdicts = report_so p old.file out.done (HasVerdicts a) reads (verdicts_beside p old mid late new r l nl path a out.done beside quiet later rules layout schematic judged out.is);
+      matched = λ good. report_so p old.file out.done IsMatchOf reads (matched_beside p old mid late new r l nl path a out.done beside quiet later rules layout schematic matches out.is good);
     }
 
 -- the same of equal outputs

@@ -13,7 +13,7 @@ use Rattle.lvs_words.specs.declared.flag.Flag.TheVariants as flag
 use Rattle.lvs_words.specs.Flags.{is_path, is_same, is_written}
 use Rattle.lvs_words.specs.Items.{Item, are_once, clashes, is_value, items, path, shared, value_of}
 use Rattle.lvs_words.specs.Numbers.{is_number, number_in, within}
-use Rattle.lvs_run.specs.Words.{AreWorkers, IsFair, IsFairSaid}
+use Rattle.lvs_run.specs.Words.{AreInverters, AreWorkers, IsFair, IsFairSaid}
 use Rattle.lvs_words.specs.Commands.{Asked, Said, said, said_by, said_extract, said_make, said_run, said_shapes, extract_flags, extract_of, fits, has_known, has_needed, run_flags, run_of, make_of, workers_in, workers_of}
 
 -- ---- two options that write
@@ -77,9 +77,13 @@ number_within : (low high : ℕ) (b : Bool) (n k : ℕ) → (if b then within lo
 number_within low high true n k e = within_in low high n k e
 number_within low high false n k e = cc
 
+-- a number of these digits lies there
+number_lies : (low high : ℕ) (word : List ℕ) (k : ℕ) → number_in low high word ≡ Some k → (low ≤ k) × (k ≤ high)
+number_lies low high word k e = number_within low high (is_number word) (digits_value 10 word) k e
+
 workers_within : (o : Option (List ℕ)) (k : ℕ) → workers_in o ≡ Some k → AreWorkers k
 workers_within None k e = let same : 1 ≡ k = cc in (omega (arith, same), omega (arith, same))
-workers_within (Some word) k e = number_within 1 64 (is_number word) (digits_value 10 word) k e
+workers_within (Some word) k e = number_lies 1 64 word k e
 
 -- ---- what the words of each command say
 
@@ -100,11 +104,11 @@ fair_shapes (l ∷ r ∷ []) s e = none_said s e
 fair_shapes (l ∷ r ∷ p ∷ []) s e = if_said _ _ None (λ t f. of_some _ t tt f) (λ t f. none_said t f) s e
 fair_shapes (l ∷ r ∷ p ∷ q ∷ qs) s e = none_said s e
 
-fair_made : (n seed workers : Option ℕ) (prefix : List ℕ) (s : Said) → make_of n seed workers prefix ≡ Some s → IsFairSaid s
-fair_made (Some n) (Some seed) (Some workers) prefix s e = of_some _ s tt e
-fair_made None seed workers prefix s e = none_said s e
-fair_made (Some n) None workers prefix s e = none_said s e
-fair_made (Some n) (Some seed) None prefix s e = none_said s e
+fair_made : (n seed workers : Option ℕ) (prefix : List ℕ) (s : Said) → ((k : ℕ) → n ≡ Some k → AreInverters k) → ((k : ℕ) → workers ≡ Some k → AreWorkers k) → make_of n seed workers prefix ≡ Some s → IsFairSaid s
+fair_made (Some n) (Some seed) (Some workers) prefix s some few e = of_some _ s (few workers refl, some n refl) e
+fair_made None seed workers prefix s some few e = none_said s e
+fair_made (Some n) None workers prefix s some few e = none_said s e
+fair_made (Some n) (Some seed) None prefix s some few e = none_said s e
 
 fair_make : (words : List (List ℕ)) (s : Said) → said_make words ≡ Some s → IsFairSaid s
 fair_make [] s e = none_said s e
@@ -115,7 +119,7 @@ fair_make (a ∷ b ∷ c ∷ d ∷ []) s e =
     let n = number_in 1 100000 a in
     let seed = number_in 0 (2 ^ 64 - 1) b in
     let k = number_in 1 64 c in
-    if_said (is_value d) (make_of n seed k d) None (λ t f. fair_made n seed k d t f) (λ t f. none_said t f) s e
+    if_said (is_value d) (make_of n seed k d) None (λ t f. fair_made n seed k d t (λ m g. number_lies 1 100000 a m g) (λ m g. number_lies 1 64 c m g) f) (λ t f. none_said t f) s e
 fair_make (a ∷ b ∷ c ∷ d ∷ x ∷ xs) s e = none_said s e
 
 -- what the options of a command ask for

@@ -12,7 +12,7 @@ use Rattle.plain_netlist.specs.Netlist.{Netlist}
 use Rattle.spice_rows.specs.Sizes.{read_limit}
 use Rattle.spice_rows.specs.declared.fault.SpiceFault.{SpiceFault}
 use Rattle.spice_text.specs.Means.{Means as SpiceMeans}
-use Rattle.lvs_run.specs.Words.{Outputs, ToShapes, ToNetlist, ToReport, Paths, schematic_path}
+use Rattle.lvs_run.specs.Words.{Outputs, ToShapes, ToNetlist, ToReport, ToChip, Paths, schematic_path}
 use Rattle.lvs_run.specs.Answers.{Done, Answer, RefusedWords, RefusedSame, RefusedAbsent, RefusedLong, RefusedRules, RefusedLayout, RefusedSchematic}
 use Rattle.lvs_run.specs.Outcomes.{Runs, HasFile, ReadsRules, ReadsLayout, Compares, IsFirstLayoutFault, IsFirstSchematicFault, IsDone, IsDoneBeside, IsOutcome, NoSchematic, LongSchematic, BadSchematic, MadeBeside, UntoldSchematic, WrongWords, SamePath, NoRules, LongRules, BadRules, NoLayout, LongLayout, BadLayout, Made, UntoldRules, UntoldLayout}
 
@@ -75,6 +75,7 @@ pub made_alone : (o : Outputs) (file : List ℕ → Told) (l : Layout) (r : Rule
 made_alone (ToShapes shapes) file l r a done h = h
 made_alone (ToNetlist shapes netlist) file l r a done h = h
 made_alone (ToReport schematic shapes netlist report) file l r a done h = absurd h
+made_alone (ToChip n seed prefix) file l r a done h = absurd h
 
 module _ (said : Option Paths) (file : List ℕ → Told) (a : Answer) (done : Done) where
   at_rules : (p : Paths) → Runs said p → OfRules (file p.rules) (file p.layout) file p a done → InTurn said file a done

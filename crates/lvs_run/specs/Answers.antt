@@ -10,6 +10,7 @@ use Rattle.spice_rows.specs.declared.fault.SpiceFault.{SpiceFault}
 use Rattle.spice_rows.specs.declared.fault.SpiceFault.TheVariants as spice
 use Rattle.pair_jobs.specs.declared.verdict.Verdict.{Verdict as Comparison}
 use Rattle.pair_jobs.specs.declared.verdict.Verdict.TheVariants as comparison
+use Rattle.lvs_run.specs.Chips.{chip_files}
 use Rattle.lvs_run.specs.Words.{file_at}
 use Rattle.lvs_run.specs.declared.output.Verdict.{Verdict}
 use Rattle.lvs_run.specs.declared.output.Verdict.TheVariants as verdict
@@ -20,7 +21,8 @@ use Rattle.lvs_run.specs.declared.status.Refusal.TheVariants.{Words, SamePath, A
 use Rattle.lvs_run.specs.declared.status.Refusal.TheVariants.{Rules, Layout, Schematic}
 
 -- what the summary line counts: of `shapes` the cells and the rectangles of the shapes file, of
--- `extract` these cells, the netlist's circuits and the bad gates, of `run` the compared pairs too
+-- `extract` these cells, the netlist's circuits and the bad gates, of `run` and `make` the compared
+-- pairs too
 pub data Counts : Type 0 where
   Layers : (cells rectangles : ℕ) → Counts
   Extracted : (cells circuits bad : ℕ) → Counts
@@ -57,6 +59,10 @@ compared path text netlist spelled report told counts = record {
   files = file_at path text ∷ file_at netlist spelled ∷ file_at report told ∷ [];
   counts = counts;
 }
+
+-- of `make`: the chip's files, and what is counted in comparing it
+abbrev pub made : (n seed : ℕ) (prefix : List ℕ) → Counts → Done
+made n seed prefix counts = record { files = chip_files n seed prefix; counts = counts }
 
 -- an answer, with the bytes of its path or with the fault of its file
 pub data Answer : Type 0 where

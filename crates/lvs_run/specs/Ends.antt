@@ -9,7 +9,7 @@ use Rattle.lvs_files.specs.Files.{AreWritten, ArePartWritten, WroteWhole, WroteP
 use Rattle.lvs_run.specs.Runs.{sink_faults, Leaves, Says, StartsNone}
 use Rattle.lvs_run.specs.Lines.{line_of}
 use Rattle.lvs_run.specs.Outcomes.{IsOutcome}
-use Rattle.lvs_run.specs.Words.{Paths}
+use Rattle.lvs_run.specs.Words.{Paths, inputs}
 use Rattle.lvs_run.specs.declared.output.Output.{Output}
 
 -- the sink took the text, and nothing failed
@@ -56,12 +56,15 @@ IsOrElse a P = P
 -- the line behind those files.
 pub data FailsAt (said : Option Paths) (old new : Store) (before after : SinkState) : Type 0 where
   AtInput : StartsNone old new → TookNone before after → FailsAt said old new before after
-  AtRefusal : (wanted : Answer) → IsOutcome said old.file wanted nothing → StartsNone old new
-      → TookPart before after (line_of wanted nothing) → FailsAt said old new before after
-  AtFile : (wanted : Answer) (done : Done) → IsVerdict wanted → IsOutcome said old.file wanted done
+  AtRefusal : (wanted : Answer) → IsOutcome said (inputs said old.file) wanted nothing
+      → StartsNone old new → TookPart before after (line_of wanted nothing)
+      → FailsAt said old new before after
+  AtFile : (wanted : Answer) (done : Done) → IsVerdict wanted
+      → IsOutcome said (inputs said old.file) wanted done
       → ArePartWritten old new done.files → TookNone before after
       → FailsAt said old new before after
-  AtLine : (wanted : Answer) (done : Done) → IsVerdict wanted → IsOutcome said old.file wanted done
+  AtLine : (wanted : Answer) (done : Done) → IsVerdict wanted
+      → IsOutcome said (inputs said old.file) wanted done
       → AreWritten old new done.files → TookPart before after (line_of wanted done)
       → FailsAt said old new before after
 
@@ -75,7 +78,7 @@ Fails said old new before after a = Unit {0}
 pub record ComesOut (said : Option Paths) (old new : Store) (before after : SinkState)
     (a : Answer) : Type 0 where
   pub done : Done
-  pub comes : IsOrElse a (IsOutcome said old.file a done)
+  pub comes : IsOrElse a (IsOutcome said (inputs said old.file) a done)
   pub leaves : Leaves old new done.files a
   pub says : Says a done before after
   pub fails : Fails said old new before after a

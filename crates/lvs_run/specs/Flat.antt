@@ -13,7 +13,7 @@ use Rattle.deep_tables.specs.declared.gates.BadGate.{BadGate}
 use Rattle.netlist_file.specs.Flat.{HasNoBadGate, ShowsFlat}
 use Rattle.plain_netlist.specs.Netlist.{Netlist}
 use Rattle.rule_layers.specs.Meaning.{device_rules, wiring_of}
-use Rattle.lvs_run.specs.Words.{Paths, ForNetlist, shapes_path}
+use Rattle.lvs_run.specs.Words.{Paths, ForNetlist, ForShapes}
 use Rattle.lvs_run.specs.Answers.{Answer, Good, IsVerdict}
 
 -- the list has a file of this path, and this is a fact of its text
@@ -54,10 +54,11 @@ OfInputs file p P = WhereTold (file p.rules) (file p.layout) p.top P
 abbrev pub IsFlatText : (List ℕ → Told) → Paths → List ℕ → Type 0
 IsFlatText file p text = OfInputs file p (λ l r. CoversFlat l r text)
 
--- after each answer of a run that writes its files the shapes file holds such a text
+-- after each answer of a run that writes its files the shapes file, where the command writes one,
+-- holds such a text
 abbrev pub WritesFlat : Option Paths → Store → Store → Answer → Type 0
-WritesFlat said old new a = IsVerdict a → OfStated said
-    (λ p. HoldsAs (new.file (shapes_path p.outputs)) (IsFlatText old.file p))
+WritesFlat said old new a = IsVerdict a → OfStated said (λ p. ForShapes p.outputs
+    (λ path. HoldsAs (new.file path) (IsFlatText old.file p)))
 
 -- The text, read as SPICE, means one netlist. Its last circuit is the top's and expands to the
 -- netlist of the flat layout: its devices are the good gates of the flat top, and their nets the

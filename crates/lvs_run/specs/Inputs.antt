@@ -9,12 +9,12 @@ use Rattle.rule_text.specs.Rules.{Rules}
 use Rattle.spice_rows.specs.Sizes.{read_limit}
 use Rattle.spice_text.specs.Means.{Means as SpiceMeans}
 use Rattle.rule_text.specs.Reading.{IsFirstFault as IsFirstRuleFault}
-use Rattle.lvs_run.specs.Words.{Outputs, Paths, ForNetlist, shapes_path}
+use Rattle.lvs_run.specs.Words.{Outputs, Paths, ForNetlist, ForShapes, inputs, inputs_of}
 use Rattle.lvs_files.specs.Files.{AreApart, files_of}
 use Rattle.lvs_run.specs.Answers.{Done, Answer, Good, RefusedAbsent, RefusedLong, RefusedRules}
 use Rattle.lvs_run.specs.Answers.{RefusedLayout, RefusedSchematic, Outside, NoMemory, refused}
 use Rattle.lvs_run.specs.Answers.{verdict_of}
-use Rattle.lvs_run.specs.Runs.{IsReadTooFar, WasAbsent, StartsNone, HasCauseIn}
+use Rattle.lvs_run.specs.Runs.{IsLong, IsReadTooFar, WasAbsent, StartsNone, HasCauseIn}
 use Rattle.lvs_run.specs.Lines.{line_of}
 use Rattle.lvs_run.specs.Outcomes.{IsOutcome, IsDone, IsDoneBeside, IsFirstLayoutFault}
 use Rattle.lvs_run.specs.Outcomes.{IsFirstSchematicFault}
@@ -45,12 +45,6 @@ abbrev pub IsInput : List ℕ → Told → Type 0
 IsInput bytes Untold = Unit {0}
 IsInput bytes NoFile = ⊥
 IsInput bytes (Holds all) = (bytes ≡ all) × (length all ≤ limit)
-
--- where the file is told, it is there and too long
-abbrev pub IsLong : Told → Type 0
-IsLong Untold = Unit {0}
-IsLong NoFile = ⊥
-IsLong (Holds bytes) = limit < length bytes
 
 -- the file is there and stands open at its beginning
 pub record IsOpened (old new : Store) (path : List ℕ) : Type 0 where
@@ -142,18 +136,18 @@ pub record IsBeside (outputs : Outputs) (l : Layout) (r : Rules) (old new : Stor
   pub read : ReadAs old new path (λ bytes. SpiceMeans read_limit bytes netlist)
   pub output : IsOutputBeside outputs l r netlist o
 
--- the outcome of the told files, of an answer that comes of them
-abbrev pub ComesOf : Option Paths → Store → Answer → Type 0
-ComesOf said old Outside = Unit {0}
-ComesOf said old NoMemory = Unit {0}
-ComesOf said old a = (done : Done) → IsOutcome said old.file a done
+-- the outcome of these told files, of an answer that comes of them
+abbrev pub ComesOf : Option Paths → (List ℕ → Told) → Answer → Type 0
+ComesOf said file Outside = Unit {0}
+ComesOf said file NoMemory = Unit {0}
+ComesOf said file a = (done : Done) → IsOutcome said file a done
 
 -- a run that stops before it writes: the depot shows the cause and its faults, and the told files
 -- come to it
 pub record Stops (said : Option Paths) (old new : Store) (a : Answer) : Type 0 where
   pub cause : HasCauseIn said old new a
   pub faults : DepotFaults a old new
-  pub comes : ComesOf said old a
+  pub comes : ComesOf said (inputs said old.file) a
 
 -- what a run has to write, after both inputs were taken
 pub record IsReady (said : Option Paths) (old new : Store) (o : Output) : Type 0 where
@@ -165,10 +159,12 @@ pub record IsReady (said : Option Paths) (old new : Store) (o : Output) : Type 0
   pub cause : HasCauseIn said old new (verdict_of o.verdict)
   pub faults : new.faults ≡ old.faults
   pub line : o.line.items ≡ line_of (verdict_of o.verdict) done
-  pub comes : IsOutcome said old.file (verdict_of o.verdict) done
-  pub flat : ListsAs done.files (shapes_path paths.outputs) (IsFlatText old.file paths)
+  pub comes : IsOutcome said (inputs said old.file) (verdict_of o.verdict) done
+  pub flat : ForShapes paths.outputs
+      (λ path. ListsAs done.files path (IsFlatText old.file paths))
   pub netlist : ForNetlist paths.outputs
       (λ path. ListsAs done.files path (IsFlatNetlist old.file paths (verdict_of o.verdict)))
-  pub verdicts : ListsReport old.file paths done.files (HasVerdicts (verdict_of o.verdict))
+  pub verdicts : ListsReport (inputs_of paths.outputs old.file) paths done.files
+      (HasVerdicts (verdict_of o.verdict))
   pub matched : verdict_of o.verdict ≡ Good
-      → ListsReport old.file paths done.files IsMatchOf
+      → ListsReport (inputs_of paths.outputs old.file) paths done.files IsMatchOf

@@ -1,9 +1,11 @@
+pub mod Chips
 pub mod Words
 pub mod Answers
 pub mod Codes
 pub mod Lines
 pub mod Runs
 pub mod Outcomes
+pub mod Texts
 pub mod Flat
 pub mod Verdicts
 pub mod Once

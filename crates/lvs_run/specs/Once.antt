@@ -1,7 +1,7 @@
 -- The outcome is a function of the words and the told files.
 use Rattle.std.specs.Prelude.{◌≡◌, ℕ, List, Option, Some, None, IfSome}
 use Rattle.lvs_outside.specs.Store.{Told, Untold, NoFile, Holds}
-use Rattle.lvs_run.specs.Words.{Paths, schematic_path}
+use Rattle.lvs_run.specs.Words.{Paths, chip_paths, inputs, schematic_path}
 use Rattle.lvs_run.specs.Answers.{Done, Answer, IsVerdict}
 use Rattle.lvs_run.specs.Outcomes.{IsOutcome}
 
@@ -27,3 +27,9 @@ abbrev pub OneOutcomeLaw : Type 0
 OneOutcomeLaw = (said : Option Paths) (file : List ℕ → Told) (a b : Answer) (x y : Done)
     → AreInputsTold said file → IsOutcome said file a x → IsOutcome said file b y
     → IsSameOutcome a b x y
+
+-- what `make` takes as its inputs is told, whatever the store tells
+abbrev pub ChipToldLaw : Type 0
+ChipToldLaw = (n seed : ℕ) (prefix : List ℕ) (file : List ℕ → Told)
+    → AreInputsTold (Some (chip_paths n seed prefix))
+    (inputs (Some (chip_paths n seed prefix)) file)

@@ -21,8 +21,9 @@ use Rattle.spice_rows.specs.Sizes.{read_limit}
 use Rattle.spice_rows.specs.declared.fault.SpiceFault.{SpiceFault}
 use Rattle.spice_rows.specs.declared.fault.SpiceFault.TheVariants as spice
 use Rattle.spice_text.specs.Means.{Means as SpiceMeans, IsFirstFault as IsFirstSpiceFault}
-use Rattle.lvs_run.specs.Words.{Outputs, Paths, ToShapes, ToNetlist, ToReport, schematic_path}
-use Rattle.lvs_run.specs.Answers.{Done, Extracted, Compared, drawn, extracted, compared}
+use Rattle.lvs_run.specs.Words.{Outputs, Paths, ToShapes, ToNetlist, ToReport, ToChip}
+use Rattle.lvs_run.specs.Words.{schematic_path}
+use Rattle.lvs_run.specs.Answers.{Done, Extracted, Compared, drawn, extracted, compared, made}
 use Rattle.lvs_run.specs.Answers.{Answer, Good, Bad, comparison_answer}
 use Rattle.lvs_run.specs.Answers.{RefusedWords, RefusedSame, RefusedAbsent, RefusedLong}
 use Rattle.lvs_run.specs.Answers.{RefusedRules, RefusedLayout, RefusedSchematic}
@@ -94,6 +95,7 @@ abbrev pub IsDone : Outputs → Layout → Rules → Answer → Done → Type 0
 IsDone (ToShapes shapes) l r a done = (a ≡ Good) × IsDrawn l r shapes done
 IsDone (ToNetlist shapes netlist) l r a done = IsExtracted l r shapes netlist a done
 IsDone (ToReport schematic shapes netlist report) l r a done = ⊥
+IsDone (ToChip n seed prefix) l r a done = ⊥
 
 -- what a layout's netlist and a schematic must be to be compared by the rules
 pub record AreComparable (r : Rules) (one other : Netlist) : Type 0 where
@@ -125,10 +127,19 @@ pub record IsCompared (l : Layout) (r : Rules) (schematic : Netlist)
   pub whole : done ≡ compared path text netlist_path spelled report_path report
       (Compared cells (length netlist.circuits) pairs (length bad))
 
+-- what is written is the chip, and the answer and what is counted are those of a comparison, whose
+-- own files aren't written
+pub record IsMade (l : Layout) (r : Rules) (schematic : Netlist) (n seed : ℕ) (prefix : List ℕ)
+    (a : Answer) (done : Done) : Type 0 where
+  pub ran : Done
+  pub compared : IsCompared l r schematic [] [] [] a ran
+  pub whole : done ≡ made n seed prefix ran.counts
+
 -- the same of a command that compares with a schematic
 abbrev pub IsDoneBeside : Outputs → Layout → Rules → Netlist → Answer → Done → Type 0
 IsDoneBeside (ToReport schematic shapes netlist report) l r nl a done =
     IsCompared l r nl shapes netlist report a done
+IsDoneBeside (ToChip n seed prefix) l r nl a done = IsMade l r nl n seed prefix a done
 IsDoneBeside _ l r nl a done = ⊥
 
 -- the first fault of a schematic's bytes, whose sizes are limited; no want of memory

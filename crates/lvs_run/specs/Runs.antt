@@ -4,13 +4,19 @@ use Rattle.lvs_outside.specs.Store.{Store, Told, Untold, NoFile, Holds, Open, Cl
 use Rattle.lvs_outside.specs.Store.{Writing, SameFiles, appended}
 use Rattle.lvs_outside.specs.Summary.{SinkState}
 use Rattle.lvs_outside.specs.Loops.{limit}
-use Rattle.lvs_run.specs.Words.{Outputs, Paths, ToShapes, ToNetlist, ToReport}
+use Rattle.gds_layout.specs.declared.layout.LayoutFault.{LayoutFault}
+use Rattle.rule_text.specs.declared.fault.RuleFault.{RuleFault}
+use Rattle.rule_text.specs.Reading.{IsFirstFault as IsFirstRuleFault}
+use Rattle.spice_rows.specs.declared.fault.SpiceFault.{SpiceFault}
+use Rattle.lvs_run.specs.Chips.{chip_files, layout_text, rules_text, schematic_text, with_files}
+use Rattle.lvs_run.specs.Words.{Outputs, Paths, ToShapes, ToNetlist, ToReport, ToChip}
 use Rattle.lvs_run.specs.Words.{IsSame, schematic_path}
 use Rattle.lvs_files.specs.Files.{File, AreWritten}
 use Rattle.lvs_run.specs.Answers.{Done, Answer, Good, Bad, RefusedWords, RefusedSame}
 use Rattle.lvs_run.specs.Answers.{RefusedAbsent, RefusedLong, RefusedRules, RefusedLayout}
 use Rattle.lvs_run.specs.Answers.{RefusedSchematic, Undecided, Outside, NoMemory, IsVerdict}
 use Rattle.lvs_run.specs.Lines.{line_of}
+use Rattle.lvs_run.specs.Outcomes.{IsFirstLayoutFault, IsFirstSchematicFault}
 
 -- faults of the depot and of the sink, an empty take being one
 abbrev pub depot_faults : Store → ℕ
@@ -34,11 +40,12 @@ ShowsFaults Outside old new before after = HaveRisen old new before after
 ShowsFaults a old new before after = HaveStood old new before after
 
 -- a command with these outputs may end with this answer where it writes them: `shapes` with Good,
--- `extract` with Good or Bad, `run` with each of the three
+-- `extract` with Good or Bad, `run` and `make` with each of the three
 abbrev pub MayEnd : Outputs → Answer → Type 0
 MayEnd (ToShapes shapes) a = a ≡ Good
 MayEnd (ToNetlist shapes netlist) a = (a ≡ Good) ⊎ (a ≡ Bad)
 MayEnd (ToReport schematic shapes netlist report) a = IsVerdict a
+MayEnd (ToChip n seed prefix) a = IsVerdict a
 
 -- the words state such a command, and no file that it writes is named twice
 abbrev pub EndsWith : Option Paths → Answer → Type 0
@@ -51,11 +58,30 @@ IsInputPath None path = ⊥
 IsInputPath (Some p) path = (p.shared ≡ None) × ((path ≡ p.rules) ⊎ ((path ≡ p.layout)
     ⊎ (schematic_path p.outputs ≡ Some path)))
 
+-- a fact of the files that a command reads, or of the chip that it makes
+abbrev pub OfInput : Outputs → (files : Type 0) → (chip : ℕ → ℕ → List ℕ → Type 0) → Type 0
+OfInput (ToShapes shapes) files chip = files
+OfInput (ToNetlist shapes netlist) files chip = files
+OfInput (ToReport schematic shapes netlist report) files chip = files
+OfInput (ToChip n seed prefix) files chip = chip n seed prefix
+
+-- where the file is told, it is there and too long
+abbrev pub IsLong : Told → Type 0
+IsLong Untold = Unit {0}
+IsLong NoFile = ⊥
+IsLong (Holds bytes) = limit < length bytes
+
 -- the path stands open, with more bytes read than are taken
 abbrev pub IsReadTooFar : Open → List ℕ → Type 0
 IsReadTooFar Closed path = ⊥
 IsReadTooFar (Reading p n) path = (p ≡ path) × (limit < n)
 IsReadTooFar (Writing p n) path = ⊥
+
+-- an input of the path is too long
+abbrev pub IsTooLong : Option Paths → Open → List ℕ → Type 0
+IsTooLong None o path = ⊥
+IsTooLong (Some p) o path = OfInput p.outputs (IsReadTooFar o path)
+    (λ n seed prefix. IsLong (with_files (chip_files n seed prefix) (λ q. NoFile) path))
 
 -- where the file is told, it has this many bytes
 abbrev pub HasLength : Told → ℕ → Type 0
@@ -69,19 +95,26 @@ IsReadWhole Closed s path = ⊥
 IsReadWhole (Reading p n) s path = (p ≡ path) × HasLength (s.file path) n
 IsReadWhole (Writing p n) s path = ⊥
 
--- the command's rules, its layout or its schematic were read to their end
-abbrev pub AreRulesRead : Option Paths → Store → Store → Type 0
-AreRulesRead None old new = ⊥
-AreRulesRead (Some p) old new = (p.shared ≡ None) × IsReadWhole new.opened old p.rules
+-- the command's rules, its layout or its schematic were read to their end; those of a chip have the
+-- fault
+abbrev pub AreRulesRead : Option Paths → Store → Store → RuleFault → Type 0
+AreRulesRead None old new fault = ⊥
+AreRulesRead (Some p) old new fault = (p.shared ≡ None)
+    × OfInput p.outputs (IsReadWhole new.opened old p.rules)
+    (λ n seed prefix. IsFirstRuleFault rules_text fault)
 
-abbrev pub IsLayoutRead : Option Paths → Store → Store → Type 0
-IsLayoutRead None old new = ⊥
-IsLayoutRead (Some p) old new = (p.shared ≡ None) × IsReadWhole new.opened old p.layout
+abbrev pub IsLayoutRead : Option Paths → Store → Store → LayoutFault → Type 0
+IsLayoutRead None old new fault = ⊥
+IsLayoutRead (Some p) old new fault = (p.shared ≡ None)
+    × OfInput p.outputs (IsReadWhole new.opened old p.layout)
+    (λ n seed prefix. IsFirstLayoutFault (layout_text n seed) p.top fault)
 
-abbrev pub IsSchematicRead : Option Paths → Store → Store → Type 0
-IsSchematicRead None old new = ⊥
-IsSchematicRead (Some p) old new = (p.shared ≡ None) × ((path : List ℕ)
-    × (schematic_path p.outputs ≡ Some path) × IsReadWhole new.opened old path)
+abbrev pub IsSchematicRead : Option Paths → Store → Store → SpiceFault → Type 0
+IsSchematicRead None old new fault = ⊥
+IsSchematicRead (Some p) old new fault = (p.shared ≡ None) × ((path : List ℕ)
+    × (schematic_path p.outputs ≡ Some path)
+    × OfInput p.outputs (IsReadWhole new.opened old path)
+    (λ n seed prefix. IsFirstSchematicFault (schematic_text n seed) fault))
 
 -- there was one absent answer, for this path, and nothing was opened after it
 pub record WasAbsent (old new : Store) (path : List ℕ) : Type 0 where
@@ -96,12 +129,13 @@ HasCauseIn said old new Bad = EndsWith said Bad × (new.absent ≡ old.absent)
 HasCauseIn said old new RefusedWords = (said ≡ None) × (new.absent ≡ old.absent)
 HasCauseIn said old new (RefusedSame path) = IsSame said path × (new.absent ≡ old.absent)
 HasCauseIn said old new (RefusedAbsent path) = IsInputPath said path × WasAbsent old new path
-HasCauseIn said old new (RefusedLong path) = IsInputPath said path × IsReadTooFar new.opened path
+HasCauseIn said old new (RefusedLong path) = IsInputPath said path × IsTooLong said new.opened path
     × (new.absent ≡ old.absent)
-HasCauseIn said old new (RefusedRules fault) = AreRulesRead said old new × (new.absent ≡ old.absent)
-HasCauseIn said old new (RefusedLayout fault) = IsLayoutRead said old new
+HasCauseIn said old new (RefusedRules fault) = AreRulesRead said old new fault
     × (new.absent ≡ old.absent)
-HasCauseIn said old new (RefusedSchematic fault) = IsSchematicRead said old new
+HasCauseIn said old new (RefusedLayout fault) = IsLayoutRead said old new fault
+    × (new.absent ≡ old.absent)
+HasCauseIn said old new (RefusedSchematic fault) = IsSchematicRead said old new fault
     × (new.absent ≡ old.absent)
 HasCauseIn said old new Undecided = EndsWith said Undecided
     × (new.absent ≡ old.absent)

@@ -28,7 +28,8 @@ use Rattle.rule_layers.specs.Meaning.{device_rules, wiring_of}
 use Rattle.rule_text.specs.Rules.{Rules}
 use Rattle.spice_rows.specs.Sizes.{read_limit}
 use Rattle.spice_text.specs.Means.{Means as SpiceMeans}
-use Rattle.lvs_run.specs.Words.{Outputs, Paths, ToShapes, ToNetlist, ToReport}
+use Rattle.lvs_run.specs.Chips.{schematic_at}
+use Rattle.lvs_run.specs.Words.{Outputs, Paths, ToShapes, ToNetlist, ToReport, ToChip, inputs_of}
 use Rattle.lvs_run.specs.Answers.{Answer, Good, Bad, Undecided, Done, IsVerdict}
 use Rattle.lvs_run.specs.Answers.{comparison_answer}
 use Rattle.lvs_run.specs.Outcomes.{IsCompared}
@@ -108,11 +109,17 @@ abbrev pub WhereMeant : Told → (Netlist → Type 0) → Type 0
 WhereMeant (Holds bytes) P = (nl : Netlist) × SpiceMeans read_limit bytes nl × P nl
 WhereMeant _ P = Unit {0}
 
--- a fact of the paths of schematic, netlist and report, where the command compares
-abbrev pub ForReport : Outputs → (List ℕ → List ℕ → List ℕ → Type 0) → Type 0
-ForReport (ToShapes shapes) P = Unit {0}
-ForReport (ToNetlist shapes netlist) P = Unit {0}
-ForReport (ToReport schematic shapes netlist report) P = P schematic netlist report
+-- where the command compares, a fact of the paths of schematic, netlist and report; of `make`,
+-- which doesn't write the last two, one of the schematic's path alone
+abbrev pub ForReport : Outputs → (List ℕ → List ℕ → List ℕ → Type 0) → (List ℕ → Type 0) → Type 0
+ForReport (ToShapes shapes) P C = Unit {0}
+ForReport (ToNetlist shapes netlist) P C = Unit {0}
+ForReport (ToReport schematic shapes netlist report) P C = P schematic netlist report
+ForReport (ToChip n seed prefix) P C = C (schematic_at prefix)
+
+-- there are two texts with this fact
+abbrev pub OfTexts : (List ℕ → List ℕ → Type 0) → Type 0
+OfTexts P = (text told : List ℕ) × P text told
 
 -- a fact of layout, rules and schematic and of the texts of netlist and report
 abbrev pub TextsFact : Type 1
@@ -124,16 +131,22 @@ abbrev pub OfCompared : (List ℕ → Told) → Paths → TextsFact → (schemat
 OfCompared file p P schematic netlist_text report_text = WhereMeant (file schematic)
     (λ nl. OfInputs file p (λ l r. P l r nl netlist_text report_text))
 
--- the list has both texts, and this is a fact of them
+-- the list has both texts, and this is a fact of them; of `make` there are such texts
 abbrev pub ListsReport : (List ℕ → Told) → Paths → List File → TextsFact → Type 0
 ListsReport file p files P = ForReport p.outputs (λ schematic netlist report. ListsAs files netlist
     (λ text. ListsAs files report (λ told. OfCompared file p P schematic text told)))
+    (λ schematic. OfTexts (λ text told. OfCompared file p P schematic text told))
 
--- the written files hold both, and this is a fact of them
+-- the written files hold both, and this is a fact of them; of `make` there are such texts
+abbrev pub HoldsReport : (List ℕ → Told) → Store → Paths → TextsFact → Type 0
+HoldsReport file new p P = ForReport p.outputs (λ schematic netlist report.
+    HoldsAs (new.file netlist) (λ text. HoldsAs (new.file report)
+    (λ told. OfCompared file p P schematic text told)))
+    (λ schematic. OfTexts (λ text told. OfCompared file p P schematic text told))
+
 abbrev pub WritesReport : Option Paths → Store → Store → TextsFact → Type 0
-WritesReport said old new P = OfStated said (λ p. ForReport p.outputs
-    (λ schematic netlist report. HoldsAs (new.file netlist) (λ text. HoldsAs (new.file report)
-    (λ told. OfCompared old.file p P schematic text told))))
+WritesReport said old new P = OfStated said
+    (λ p. HoldsReport (inputs_of p.outputs old.file) new p P)
 
 -- after each answer of a comparison that writes its files
 abbrev pub WritesVerdicts : Option Paths → Store → Store → Answer → Type 0

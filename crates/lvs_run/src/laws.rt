@@ -1,6 +1,6 @@
 //! Laws of a run's outcome.
 
-ghost use Rattle.lvs_run.specs.Once.{OneOutcomeLaw};
+ghost use Rattle.lvs_run.specs.Once.{ChipToldLaw, OneOutcomeLaw};
 ghost use Rattle.lvs_run.specs.Verdicts.{MatchLaw, VerdictsLaw};
 
 use gds_layout::one_layout;
@@ -11,9 +11,10 @@ use shapes_file::one_file;
 use spice_text::written_laws;
 
 /// Words and told input files have one answer, and where files are written, one list of files and
-/// one summary line.
+/// one summary line. The inputs of `make` are told by themselves.
 pub fn one_outcome()
-    ensures { OneOutcomeLaw }
+    ensures outcome { OneOutcomeLaw }
+    ensures chip { ChipToldLaw }
 {
     one_layout();
     one_file();

@@ -1,6 +1,7 @@
 //! The run of the program: words, files in, files out, summary line and status.
 #![tactic(auto)]
 
+mod chips;
 mod input;
 mod laws;
 mod making;

@@ -10,7 +10,8 @@ ghost use Rattle.netlist_file.specs.File.{IsNetlistFile};
 ghost use Rattle.report_file.specs.File.{IsReportFile};
 ghost use Rattle.lvs_run.specs.Answers.{comparison_answer, verdict_of};
 ghost use Rattle.lvs_run.specs.Outcomes.{AreComparable, gates_answer};
-ghost use Rattle.lvs_run.specs.Words.{ToNetlist, ToShapes, blank_files, file_at};
+ghost use Rattle.lvs_run.specs.Chips.{chip_files};
+ghost use Rattle.lvs_run.specs.Words.{ToChip, ToNetlist, ToShapes, blank_files, file_at};
 ghost use Rattle.lvs_run.specs.Words.{layout_outputs, report_outputs};
 ghost use Rattle.rule_text.specs.Seen.{rules_seen};
 ghost use Rattle.rule_text.specs.Sound.{IsSound};
@@ -32,8 +33,8 @@ use std::alloc::{AllocError, Global};
 use std::sync::Wait;
 use std::thread::Threads;
 
-// Adds a file.
-fn push_file(files: &mut Vec<Written>, path: String, text: Vec<u8>) -> Result<(), AllocError>
+/// Adds a file.
+pub fn push_file(files: &mut Vec<Written>, path: String, text: Vec<u8>) -> Result<(), AllocError>
     ensures { OnOk result (files_of files.new.items ≡ files_of files.old.items
         ++ file_at (string_bytes path) text.items ∷ []) }
 {
@@ -159,6 +160,36 @@ pub fn report_output<R: Threads + Wait + Sync, G: Gate + Sync>(
     push_file(&mut files, paths.shapes, found.shapes.text)?;
     push_file(&mut files, paths.netlist, found.text)?;
     push_file(&mut files, paths.report, report.text)?;
+    Ok(Output {
+        files,
+        line,
+        verdict,
+    })
+}
+
+/// What `make` has to write: these files, and the line of comparing a layout with a schematic.
+pub fn made_output<R: Threads + Wait + Sync, G: Gate + Sync>(
+    rt: &R,
+    alloc: Global,
+    layout: &Layout,
+    rules: &RuleSet,
+    schematic: &Netlist,
+    workers: usize,
+    files: Vec<Written>,
+    gate: &G,
+) -> Result<Output, AllocError>
+    requires workers { (1 ≤ workers) × (workers ≤ 64) }
+    requires read { (bytes : List ℕ) × (top : Option (List ℕ)) × IsRead bytes top layout.now }
+    requires rules { IsSound (rules_seen rules.now) }
+    requires schematic { IsAlignable (plain_netlist schematic.now) }
+    ensures { (n seed : ℕ) (prefix : List ℕ) → files_of files.items ≡ chip_files n seed prefix
+        → IfOk result (IsOutputBeside (ToChip n seed prefix) layout.now (rules_seen rules.now)
+        (plain_netlist schematic.now)) }
+{
+    let found = extract_files(rt, alloc, layout, rules, workers, gate)?;
+    let report = report_found(rt, alloc, layout, rules, &found, schematic, workers, gate)?;
+    let verdict = comparison_verdict(report.verdict);
+    let line = compared_line(alloc, verdict, &found, report.pairs)?;
     Ok(Output {
         files,
         line,

@@ -25,7 +25,8 @@ use spice_rows::SpiceFault;
 use spice_text::read_spice;
 use std::alloc::Global;
 
-fn rules_stop(fault: RuleFault) -> Stop
+/// The answer of a fault of the rules.
+pub fn rules_stop(fault: RuleFault) -> Stop
     ensures { stopped result ≡ refused_rules fault }
 {
     match fault.number() {
@@ -51,7 +52,8 @@ pub fn rules_of<D: Depot>(alloc: Global, depot: &mut D, path: &String) -> Result
     }
 }
 
-fn layout_stop(fault: LayoutFault) -> Stop
+/// The answer of a fault of the layout.
+pub fn layout_stop(fault: LayoutFault) -> Stop
     ensures { stopped result ≡ refused_layout fault }
 {
     match fault {
@@ -83,7 +85,8 @@ pub fn layout_of<D: Depot>(
     }
 }
 
-fn schematic_stop(fault: SpiceFault) -> Stop
+/// The answer of a fault of the schematic.
+pub fn schematic_stop(fault: SpiceFault) -> Stop
     ensures { stopped result ≡ refused_schematic fault }
 {
     match fault {

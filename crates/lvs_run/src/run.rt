@@ -16,6 +16,7 @@ ghost use Rattle.lvs_run.specs.Words.{blank_files, outputs_of, paths_of, report_
 ghost use Rattle.rule_text.specs.Seen.{rules_seen};
 ghost use Rattle.rule_text.specs.Sound.{IsSound};
 
+use crate::chips::chip_output;
 use crate::input::Stop;
 use crate::laws::compared_laws;
 use crate::making::{output_of, report_output};
@@ -23,7 +24,7 @@ use crate::output::Output;
 use crate::readings::{layout_of, rules_of, schematic_of};
 use crate::status::{Refusal, Status};
 use crate::summary::refusal_line;
-use crate::words::{Outputs, ReportPaths, Task, read_task};
+use crate::words::{Outputs, ReportPaths, Task, Work, read_work};
 use gds_layout::Layout;
 use job_board::Gate;
 use lvs_files::write_files;
@@ -131,8 +132,9 @@ fn prepare<R: Threads + Wait + Sync, D: Depot, G: Gate + Sync>(
     ensures stops { IfErr result (λ why. Stops (said (map string_bytes words.now))
         (D.state depot.old) (D.state depot.new) (stopped why)) }
 {
-    match read_task(alloc, words) {
-        Ok(task) => prepare_task(rt, alloc, task, depot, gate),
+    match read_work(alloc, words) {
+        Ok(Work::Files(task)) => prepare_task(rt, alloc, task, depot, gate),
+        Ok(Work::Chip(task)) => chip_output(rt, alloc, task, gate),
         Err(WordFault::Refused) => Err(Stop::Refused(Refusal::Words)),
         Err(WordFault::NoMemory) => Err(Stop::NoMemory),
     }
@@ -176,7 +178,8 @@ fn deliver<D: Depot, S: Sink>(output: &Output, depot: &mut D, out: &mut S) -> St
 /// object is called again. The layout is read in pieces, of which none is kept, to its end or past
 /// the limit before its fault is answered. Cost: reading the inputs, the layers of each reached
 /// cell (also its nets, gates, pins and circuit), the comparison of each pair of circuits, and the
-/// bytes written; a cell is worked once, however often it is placed.
+/// bytes written; a cell is worked once, however often it is placed. `make` reads no file: it costs
+/// what `run` on its files does.
 pub fn run_lvs<R: Threads + Wait + Sync, D: Depot, S: Sink, G: Gate + Sync>(
     rt: &R,
     alloc: Global,
@@ -194,20 +197,21 @@ pub fn run_lvs<R: Threads + Wait + Sync, D: Depot, S: Sink, G: Gate + Sync>(
     // tell.
     ensures cause { HasCauseIn (said (map string_bytes words.now)) (D.state depot.old)
         (D.state depot.new) (answer_of result) }
-    // Where the files are told, the answer, the written files and the line are what they come to.
+    // Where the files are told, the answer, the written files and the line are what they come to;
+    // those that `make` makes are told.
     ensures outcome { ComesOut (said (map string_bytes words.now)) (D.state depot.old)
         (D.state depot.new) (S.state out.old) (S.state out.new) (answer_of result) }
     // After each answer of a run that writes its files the shapes file covers exactly the flat
     // rules' unit squares of the layout, where the files are told.
     ensures flat { WritesFlat (said (map string_bytes words.now)) (D.state depot.old)
         (D.state depot.new) (answer_of result) }
-    // After Good of a comparison the pairs of the written report compose to a one-to-one
-    // correspondence of the flat layout's regions and good gates with the nets and devices of the
-    // flattened schematic.
+    // After Good of a comparison the pairs of the report, which `make` doesn't write, compose to a
+    // one-to-one correspondence of the flat layout's regions and good gates with the nets and
+    // devices of the flattened schematic.
     ensures matched { WritesMatch (said (map string_bytes words.now)) (D.state depot.old)
         (D.state depot.new) (answer_of result) }
     // The answer of a comparison comes exactly where the flat layout's bad gates and the pairs of
-    // the written report say so; unequal devices of a pair make Bad, and a pair that has a
+    // the report say so; unequal devices of a pair make Bad, and a pair that has a
     // correspondence is never reported as different.
     ensures verdicts { WritesVerdicts (said (map string_bytes words.now)) (D.state depot.old)
         (D.state depot.new) (answer_of result) }

@@ -1,9 +1,9 @@
 // What is to be done of what the words state.
-ghost use Rattle.std.specs.Prelude.{◌≡◌, ◌≤◌, map, IfOk, IfSome, IsErrOf, None, Some, string_bytes};
+ghost use Rattle.std.specs.Prelude.{◌≡◌, map, IfOk, IsErrOf, None, Some, string_bytes};
 ghost use Rattle.std.specs.Option.{option_map};
 ghost use Rattle.lvs_files.specs.Files.{AreApart};
-ghost use Rattle.lvs_run.specs.Words.{IsFairSaid, blank_files, built_of, outputs_of};
-ghost use Rattle.lvs_run.specs.Words.{paths_of, said};
+ghost use Rattle.lvs_run.specs.Words.{AreWorkers, IsFairSaid, IsFairWork, ToReport, blank_files};
+ghost use Rattle.lvs_run.specs.Words.{built_of, outputs_of, said, work_paths};
 ghost use Rattle.lvs_words.specs.Commands.{said_of};
 
 use lvs_words::{Command, Stated, WordFault, read_stated};
@@ -35,8 +35,8 @@ pub struct ReportPaths {
     pub report: String,
 }
 
-/// What is to be done: the files of a command, the name of the layout's top, the number of workers,
-/// and the path of a file that the command writes and names twice.
+/// The files of a command, the name of the layout's top, the number of workers, and the path of a
+/// file that the command writes and names twice.
 #[derive(Debug, Drop)]
 pub struct Task {
     pub layout: String,
@@ -47,13 +47,72 @@ pub struct Task {
     pub shared: Option<String>,
 }
 
-// `None` where the command isn't built.
-fn task_of(stated: Stated) -> Option<Task>
+/// The chip of a number of inverters, drawn from a seed, whose files' paths begin with a prefix.
+#[derive(Debug, Drop)]
+pub struct ChipTask {
+    pub n: u32,
+    pub seed: u64,
+    pub workers: usize,
+    pub prefix: String,
+}
+
+/// What is to be done: files are read, or a chip is made.
+#[derive(Debug, Drop)]
+pub enum Work {
+    Files(Task),
+    Chip(ChipTask),
+}
+
+// The files of a comparison.
+fn report_outputs(schematic: String, shapes: String, netlist: String, report: String) -> Outputs
+    ensures { outputs_of result ≡ ToReport (string_bytes schematic) (string_bytes shapes)
+        (string_bytes netlist) (string_bytes report) }
+{
+    Outputs::Report {
+        schematic,
+        paths: ReportPaths {
+            shapes,
+            netlist,
+            report,
+        },
+    }
+}
+
+// A command that reads files.
+fn files(
+    layout: String,
+    rules: String,
+    top: Option<Name>,
+    workers: usize,
+    outputs: Outputs,
+    shared: Option<String>,
+) -> Work
+    requires workers { AreWorkers workers }
+    requires apart { option_map string_bytes shared ≡ None
+        → AreApart (blank_files (outputs_of outputs)) }
+    ensures paths { work_paths result ≡ record {
+      layout = string_bytes layout;
+      rules = string_bytes rules;
+      top = top;
+      outputs = outputs_of outputs;
+      shared = option_map string_bytes shared;
+    } }
+    ensures fair { IsFairWork result }
+{
+    Work::Files(Task {
+        layout,
+        rules,
+        top,
+        workers,
+        outputs,
+        shared,
+    })
+}
+
+fn work_of(stated: Stated) -> Work
     requires { IsFairSaid (said_of stated) }
-    ensures paths { option_map paths_of result ≡ built_of (said_of stated) }
-    ensures workers { IfSome result (λ t. (1 ≤ t.workers) × (t.workers ≤ 64)) }
-    ensures apart { IfSome result (λ t. (paths_of t).shared ≡ None
-        → AreApart (blank_files (outputs_of t.outputs))) }
+    ensures paths { work_paths result ≡ built_of (said_of stated) }
+    ensures fair { IsFairWork result }
 {
     let Stated { command, shared } = stated;
     match command {
@@ -61,14 +120,10 @@ fn task_of(stated: Stated) -> Option<Task>
             layout,
             rules,
             shapes,
-        } => Some(Task {
-            layout,
-            rules,
-            top: None,
-            workers: 1,
-            outputs: Outputs::Layout(LayoutOutputs::Shapes(shapes)),
-            shared,
-        }),
+        } => {
+            let outputs = Outputs::Layout(LayoutOutputs::Shapes(shapes));
+            files(layout, rules, None, 1, outputs, shared)
+        }
         Command::Extract {
             layout,
             rules,
@@ -76,14 +131,10 @@ fn task_of(stated: Stated) -> Option<Task>
             netlist,
             top,
             workers,
-        } => Some(Task {
-            layout,
-            rules,
-            top,
-            workers,
-            outputs: Outputs::Layout(LayoutOutputs::Netlist { shapes, netlist }),
-            shared,
-        }),
+        } => {
+            let outputs = Outputs::Layout(LayoutOutputs::Netlist { shapes, netlist });
+            files(layout, rules, top, workers, outputs, shared)
+        }
         Command::Run {
             layout,
             rules,
@@ -93,36 +144,30 @@ fn task_of(stated: Stated) -> Option<Task>
             report,
             top,
             workers,
-        } => Some(Task {
-            layout,
-            rules,
-            top,
+        } => {
+            let outputs = report_outputs(schematic, shapes, netlist, report);
+            files(layout, rules, top, workers, outputs, shared)
+        }
+        Command::Make {
+            n,
+            seed,
             workers,
-            outputs: Outputs::Report {
-                schematic,
-                paths: ReportPaths {
-                    shapes,
-                    netlist,
-                    report,
-                },
-            },
-            shared,
+            prefix,
+        } => Work::Chip(ChipTask {
+            n,
+            seed,
+            workers,
+            prefix,
         }),
-        Command::Make { .. } => None,
     }
 }
 
 /// What is to be done of these words, by 1 to 64 workers. `Refused` where they state no command.
-pub fn read_task(alloc: Global, words: &[String]) -> Result<Task, WordFault>
-    ensures found { IfOk result (λ t. said (map string_bytes words.now) ≡ Some (paths_of t)) }
+pub fn read_work(alloc: Global, words: &[String]) -> Result<Work, WordFault>
+    ensures found { IfOk result (λ w. said (map string_bytes words.now) ≡ Some (work_paths w)) }
     ensures refused { IsErrOf result WordFault.Refused → said (map string_bytes words.now) ≡ None }
-    ensures workers { IfOk result (λ t. (1 ≤ t.workers) × (t.workers ≤ 64)) }
-    ensures apart { IfOk result (λ t. (paths_of t).shared ≡ None
-        → AreApart (blank_files (outputs_of t.outputs))) }
+    ensures fair { IfOk result IsFairWork }
 {
     let stated = read_stated(alloc, words)?;
-    match task_of(stated) {
-        Some(task) => Ok(task),
-        None => Err(WordFault::Refused),
-    }
+    Ok(work_of(stated))
 }

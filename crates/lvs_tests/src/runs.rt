@@ -50,11 +50,10 @@ fn refused_words(rt: HostRuntime) -> Result<(), Fail> {
     let alloc = rt.alloc();
     let layout = stream(alloc, &OVERLAP)?;
     let words = "refused words\n";
-    let refused: [(&[&str], &str); 10] = [
+    let refused: [(&[&str], &str); 9] = [
         (&["shapes", "l", "r"], words),
         (&["run"], words),
         (&["extract", "l", "r", "s"], words),
-        (&["make", "1", "1", "1", "s"], words),
         (&["shapes", "l", "-r", "s"], words),
         (&["shapes", "l", "", "s"], words),
         (

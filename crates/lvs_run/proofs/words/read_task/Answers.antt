@@ -1,7 +1,0 @@
-use Rattle.std.proofs.Common.{map, string_bytes}
-use Rattle.lvs_words.specs.Commands.{said_of}
-use Rattle.lvs_run.proofs.Stated.{fair}
-use Rattle.lvs_run.proofs.words.read_task.Goals as goal
-
-pub task_of-requires : goal.task_of-requires
-task_of-requires c = fair (map string_bytes c.args.words.now) (said_of c.in_ok-stated.stated) c.in_ok-stated.ensures.found
