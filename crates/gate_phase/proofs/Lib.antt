@@ -5,8 +5,10 @@ pub mod Freeing
 pub mod Gathering
 pub mod Grounding
 pub mod Holding
+pub mod Indexing
 pub mod Judging
 pub mod Keeping
+pub mod Leafs
 pub mod Listing
 pub mod Locals
 pub mod Marking

@@ -1,5 +1,6 @@
 pub mod Below
 pub mod Close
+pub mod Indexes
 pub mod Judged
 pub mod Kept
 pub mod Layer

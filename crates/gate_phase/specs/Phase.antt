@@ -11,6 +11,7 @@ use Rattle.rule_text.specs.Sound.{IsSound}
 use Rattle.rule_text.specs.declared.rules.RuleSet.{RuleSet}
 use Rattle.net_phase.specs.Below.{BelowSeen, tables_seen}
 use Rattle.net_phase.specs.Elements.{AreAllElements, element_lists}
+use Rattle.net_phase.specs.Indexes.{AreIndexes}
 use Rattle.net_phase.specs.Own.{AreOwnLists, rect_lists}
 use Rattle.net_phase.specs.Reading.{nets_of}
 use Rattle.gate_phase.specs.Judged.{bulks_of}
@@ -38,12 +39,14 @@ pub record IsGatePhase (a : Inside) : Type 0 where
   pub sound : IsSound (rules_seen a.rules.now)
   pub few : length a.rules.now.devices.items < 2 ^ 32
   pub zones : AreZones (plain a.design.now) (rules_seen a.rules.now) a.zones.now
-  pub layers : AreLayers (plain a.design.now) (rules_seen a.rules.now) a.layers.now
+  pub layers : AreLayers (plain a.design.now) (rules_seen a.rules.now) a.layers
   pub conductors : a.conductors ≡ length (wiring_of (rules_seen a.rules.now)).conductors
   pub globals : a.globals ≡ length (globals_of (rules_seen a.rules.now))
   pub bulks : a.bulks.items ≡ bulks_of (rules_seen a.rules.now)
   pub elements : AreAllElements a.design.now (element_lists a.elements.items)
   pub own : AreOwnLists a.design.now (rules_seen a.rules.now) (rect_lists a.own.items)
+  pub indexes : AreIndexes a.design.now (rect_lists a.own.items) (element_lists a.elements.items)
+      a.indexes
   pub nets : AreRightNets (plain a.design.now) (wiring_of (rules_seen a.rules.now))
       (tables_seen (read_by a))
   pub graph : AreFreeJobs a.design.now a.graph

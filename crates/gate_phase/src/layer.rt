@@ -6,10 +6,10 @@ ghost use Rattle.rule_text.specs.Seen.{rules_seen};
 ghost use Rattle.deep_tables.specs.Layers.{AreLayers};
 
 use crate::frame::plane;
+use crate::indexes::IndexedLayers;
 use crate::kept::kept_in;
 use cell_context::meet;
 use cell_graph::Design;
-use deep_tables::Layers;
 use gate_search::GateLayer;
 use geo_base::Rect;
 use rect_sets::RectSet;
@@ -19,15 +19,15 @@ use std::marker::Model;
 
 /// What a cell keeps of a name of the rules, by the table of what cells hold themselves.
 #[derive(Drop)]
-pub struct KeptLayer<'a> {
+pub struct KeptLayer<'a, 'l> {
     design: &'a Design,
     rules: &'a RuleSet,
-    layers: &'a Layers,
+    layers: &'a IndexedLayers<'l>,
     cell: u32,
     name: u32,
 }
 
-impl<'a> Model for KeptLayer<'a> {
+impl<'a, 'l> Model for KeptLayer<'a, 'l> {
     ghost use Rattle.gate_phase.specs.Layer.{IsKeptLayer, KeptOf, kept_of};
 
     ghost Value = { KeptOf };
@@ -37,15 +37,15 @@ impl<'a> Model for KeptLayer<'a> {
     ghost invariant = { IsKeptLayer };
 }
 
-impl<'a> KeptLayer<'a> {
+impl<'a, 'l> KeptLayer<'a, 'l> {
     /// What the cell keeps of the name.
     pub fn new(
         design: &'a Design,
         rules: &'a RuleSet,
-        layers: &'a Layers,
+        layers: &'a IndexedLayers<'l>,
         cell: u32,
         name: u32,
-    ) -> KeptLayer<'a>
+    ) -> KeptLayer<'a, 'l>
         requires name { name < length rules.now.names.items }
         requires layers { AreLayers (plain design.now) (rules_seen rules.now) layers.now }
         requires reached { IsReached (plain design.now) cell }
@@ -64,7 +64,7 @@ impl<'a> KeptLayer<'a> {
     }
 }
 
-impl GateLayer for KeptLayer<'_> {
+impl GateLayer for KeptLayer<'_, '_> {
     ghost use Rattle.gate_phase.specs.Layer.{IsKeptNear};
 
     ghost keeps = { IsKeptNear };

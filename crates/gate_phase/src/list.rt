@@ -13,10 +13,11 @@ ghost use Rattle.rule_text.specs.Sound.{IsSound};
 ghost use Rattle.gate_phase.specs.Judged.{AreRuleGates, bulks_of};
 ghost use Rattle.gate_phase.specs.Own.{IsReady};
 
+use crate::indexes::IndexedLayers;
 use crate::judged::judged_gates;
 use crate::own::own_gates;
 use cell_graph::Design;
-use deep_tables::{CellGates, Gate, Layers, Zones};
+use deep_tables::{CellGates, Gate, Zones};
 use net_walk::Cells;
 use rule_text::RuleSet;
 use std::alloc::{AllocError, Global};
@@ -36,7 +37,7 @@ fn rule_gates<C: Cells>(
     design: &Design,
     rules: &RuleSet,
     zones: &Zones,
-    layers: &Layers,
+    layers: &IndexedLayers,
     cells: &C,
     cell: u32,
     device: u32,
@@ -70,7 +71,7 @@ pub fn cell_gates<C: Cells>(
     design: &Design,
     rules: &RuleSet,
     zones: &Zones,
-    layers: &Layers,
+    layers: &IndexedLayers,
     cells: &C,
     cell: u32,
     bulks: &[Option<u32>],

@@ -14,10 +14,11 @@ ghost use Rattle.gate_phase.specs.Own.{IsToldPart, IsUnitNear, TellsOwn, gates_i
 
 use crate::below::is_below;
 use crate::close::{close_to, is_undisturbed};
+use crate::indexes::IndexedLayers;
 use crate::search::parts_of;
 use crate::shape::shape_in;
 use cell_graph::Design;
-use deep_tables::{Layers, Zones};
+use deep_tables::Zones;
 use gate_shapes::{GateShape, least};
 use geo_base::{Rect, Square};
 use rect_sets::RectSet;
@@ -77,7 +78,7 @@ fn own_gate(
     design: &Design,
     rules: &RuleSet,
     zones: &Zones,
-    layers: &Layers,
+    layers: &IndexedLayers,
     cell: u32,
     device: u32,
     part: RectSet,
@@ -121,7 +122,7 @@ fn push_part(
     design: &Design,
     rules: &RuleSet,
     zones: &Zones,
-    layers: &Layers,
+    layers: &IndexedLayers,
     cell: u32,
     device: u32,
     part: RectSet,
@@ -153,7 +154,7 @@ pub fn own_gates(
     design: &Design,
     rules: &RuleSet,
     zones: &Zones,
-    layers: &Layers,
+    layers: &IndexedLayers,
     cell: u32,
     device: u32,
 ) -> Result<Vec<OwnGate>, AllocError>

@@ -9,13 +9,14 @@ ghost use Rattle.rule_text.specs.Seen.{rules_seen};
 ghost use Rattle.rule_text.specs.Sound.{IsSound};
 
 use crate::bulks::bulk_globals;
+use crate::indexes::IndexedLayers;
 use crate::list::cell_gates;
 use cell_graph::Design;
 use deep_tables::{CellGates, CellNets, DeepKey, Layers, Nets, Zones};
 use geo_base::Rect;
 use job_graph::{Graph, Phase, Reads};
 use layer_phase::free_graph;
-use net_phase::{Below, all_elements, find_wires, known_nets, own_lists};
+use net_phase::{Below, Indexes, all_elements, find_indexes, find_wires, known_nets, own_lists};
 use net_walk::Element;
 use rule_text::RuleSet;
 use std::alloc::{AllocError, Global};
@@ -29,12 +30,13 @@ pub struct GatePhase<'a> {
     design: &'a Design,
     rules: &'a RuleSet,
     zones: &'a Zones,
-    layers: &'a Layers,
+    layers: IndexedLayers<'a>,
     conductors: u32,
     globals: u32,
     bulks: Vec<Option<u32>>,
     own: Vec<Vec<&'a [Rect]>>,
     elements: Vec<Vec<Element>>,
+    indexes: Indexes,
     nets: Vec<Option<&'a CellNets>>,
     graph: Graph,
 }
@@ -52,7 +54,8 @@ impl<'a> Model for GatePhase<'a> {
 impl<'a> GatePhase<'a> {
     /// The phase of a layout and of its disturbed squares, layers and nets for these rules. 2^32
     /// names, device rules, globals or placements of a cell, or more, are refused. Linear in the
-    /// placements, and in the names for each reached cell.
+    /// placements, and in the names for each reached cell, beside the indexes of placements and of
+    /// what cells hold themselves.
     pub fn new(
         alloc: Global,
         design: &'a Design,
@@ -79,18 +82,21 @@ impl<'a> GatePhase<'a> {
         let bulks = bulk_globals(alloc, rules)?;
         let own = own_lists(alloc, design, rules, layers)?;
         let elements = all_elements(alloc, design)?;
+        let indexes = find_indexes(alloc, design, &own, &elements)?;
         let known = known_nets(alloc, design, nets)?;
         let graph = free_graph(alloc, design)?;
+        let indexed = IndexedLayers::new(alloc, design, rules, layers)?;
         Ok(GatePhase {
             design,
             rules,
             zones,
-            layers,
+            layers: indexed,
             conductors: wires.conductors,
             globals: wires.globals,
             bulks,
             own,
             elements,
+            indexes,
             nets: known,
             graph,
         })
@@ -134,6 +140,7 @@ impl Phase for GatePhase<'_> {
             self.conductors,
             &self.own,
             &self.elements,
+            &self.indexes,
             &self.nets,
         );
         cell_gates(
@@ -141,7 +148,7 @@ impl Phase for GatePhase<'_> {
             design,
             self.rules,
             self.zones,
-            self.layers,
+            &self.layers,
             &cells,
             cell,
             &self.bulks,

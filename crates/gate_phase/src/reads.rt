@@ -2,7 +2,7 @@
 ghost use Rattle.std.specs.Prelude.{◌≡◌, ◌<◌, ◌≤◌, ℕ, length, IfOk};
 ghost use Rattle.gate_phase.specs.Reads.{AreRead, IsOfMos, IsReadBy, MarksMore};
 
-use rule_text::{LayerForm, LayerRule, MosRule};
+use rule_text::{LayerForm, LayerRule, MosRule, RuleSet};
 use std::alloc::{AllocError, Global};
 
 // Marks a name, where it stands before a bound.
@@ -38,6 +38,17 @@ fn mark_mos(marks: &mut [bool], rule: &MosRule)
     mark_before(marks, rule.ts, bound);
     mark_before(marks, rule.tg, bound);
     mark_before(marks, rule.tb, bound);
+}
+
+/// Which names of the rules are layers of device rules. Linear in the names and the device rules.
+pub fn device_names(alloc: Global, rules: &RuleSet) -> Result<Vec<bool>, AllocError>
+    ensures { IfOk result (λ v. length v.items ≡ length rules.now.names.items) }
+{
+    let mut marks = vec![in alloc; false; rules.names.len()]?;
+    for rule in &rules.devices {
+        mark_mos(&mut marks, rule);
+    }
+    Ok(marks)
 }
 
 /// Which names of the rules the layers of a device rule read, themselves among them. Linear in the

@@ -10,10 +10,11 @@ ghost use Rattle.deep_tables.specs.Layers.{AreLayers};
 ghost use Rattle.deep_tables.specs.Zones.{AreZones};
 ghost use Rattle.gate_phase.specs.Search.{AreSearched};
 
+use crate::indexes::IndexedLayers;
 use crate::layer::KeptLayer;
 use crate::seeds::seeds_of;
 use cell_graph::Design;
-use deep_tables::{Layers, Zones};
+use deep_tables::Zones;
 use gate_search::gather_around;
 use gate_shapes::parts;
 use rect_sets::RectSet;
@@ -21,13 +22,14 @@ use rule_text::RuleSet;
 use std::alloc::{AllocError, Global};
 
 /// Parts of what a cell keeps of a device rule's layer of gates, in order of their least squares:
-/// among them all gates of the cell's own.
+/// among them all gates of the cell's own. A cell that places nothing keeps what it holds itself:
+/// in O(n log n) for n rectangles of that, and no window is asked.
 pub fn parts_of(
     alloc: Global,
     design: &Design,
     rules: &RuleSet,
     zones: &Zones,
-    layers: &Layers,
+    layers: &IndexedLayers,
     cell: u32,
     device: u32,
 ) -> Result<Vec<RectSet>, AllocError>
@@ -43,8 +45,11 @@ pub fn parts_of(
         v.items) }
 {
     design.sound();
-    let starts = seeds_of(alloc, design, rules, zones, cell, device)?;
     let name = rules.devices[device as usize].g;
+    if design.places(cell).is_empty() {
+        return parts(alloc, layers.local(cell, name));
+    }
+    let starts = seeds_of(alloc, design, rules, zones, cell, device)?;
     let layer = KeptLayer::new(design, rules, layers, cell, name);
     let found = gather_around(alloc, &layer, &starts)?;
     parts(alloc, &found)

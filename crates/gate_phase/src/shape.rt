@@ -15,9 +15,9 @@ ghost use Rattle.deep_tables.specs.Layers.{AreLayers};
 ghost use Rattle.gate_shapes.specs.Shapes.{IsShape};
 ghost use Rattle.gate_phase.specs.Shape.{IsGatePart};
 
+use crate::indexes::IndexedLayers;
 use crate::kept::kept_in;
 use cell_graph::Design;
-use deep_tables::Layers;
 use gate_shapes::{Around, GateShape, shape_of};
 use rect_sets::RectSet;
 use rule_text::RuleSet;
@@ -41,7 +41,7 @@ pub fn shape_in(
     alloc: Global,
     design: &Design,
     rules: &RuleSet,
-    layers: &Layers,
+    layers: &IndexedLayers,
     cell: u32,
     device: u32,
     part: &RectSet,

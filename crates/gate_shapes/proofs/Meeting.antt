@@ -1,7 +1,8 @@
 -- Whether two sets have a common square, rectangle by rectangle.
-use Rattle.std.proofs.Common.{◌≡◌, inl, inr, ℕ, ◌+◌, ◌<◌, ◌≤◌, List, [], ◌∷◌, false, ◌&&◌, ◌||◌, length, get_or, take, sym, ◌∙◌, ap}
-use Rattle.std.proofs.lemmas.Bool.{false≢true}
-use Rattle.std.proofs.lemmas.List.{take_more, take_all}
+use Rattle.std.proofs.Common.{◌≡◌, ◌==◌, inl, inr, ℕ, zero, suc, ◌+◌, ◌<◌, ◌≤◌, List, [], ◌∷◌, Some, Bool, true, false, ◌&&◌, ◌||◌, length, get_or, take, slice_get, refl, sym, ◌∙◌, ap, arith}
+use Rattle.std.proofs.lemmas.Bool.{eqb-true, false≢true}
+use Rattle.std.proofs.lemmas.List.{get_or_default, take_more, take_all}
+use Rattle.std.proofs.lemmas.Option.{slice_get_within, get_or_from_slice_get}
 use Rattle.geo_base.specs.Rects.{has}
 use Rattle.geo_base.specs.declared.shapes.Rect.{Rect}
 use Rattle.geo_base.specs.declared.shapes.Square.{Square}
@@ -9,7 +10,7 @@ use Rattle.rect_sets.specs.Rects.{covers}
 use Rattle.rect_sets.proofs.Blocking.{listed_covers}
 use Rattle.rect_sets.proofs.Splitting.{and_split, or_split, covers_append}
 use Rattle.rect_sets.proofs.Unique.{listed_get}
-use Rattle.flat_layout.specs.Parts.{IsLeast}
+use Rattle.tile_index.specs.Windows.{ArePositions}
 use Rattle.gate_shapes.specs.Sets.{in_set}
 use Rattle.gate_shapes.specs.Shapes.{Meet, MissEachOther}
 use Rattle.gate_shapes.proofs.Areas.{both_and}
@@ -17,10 +18,32 @@ use Rattle.gate_shapes.proofs.Areas.{both_and}
 pub miss_none : (rects other : List Rect) → MissEachOther (take 0 rects) other
 miss_none rects other q e f = false≢true e
 
-pub meet_some : (set rects other near : List Rect) (i : ℕ) (d : Rect) (s : Square) → rects ≡ set → i < length rects → ((q : Square) → covers near q ≡ (covers other q && has (get_or rects i d) q)) → IsLeast (in_set near) s → Meet set other
-meet_some set rects other near i d s is lt cut h =
-    let p = and_split (covers other s) (has (get_or rects i d) s) (sym (cut s) ∙ h.has) in
-    (s, sym (ap (λ (l : List Rect). covers l s) is) ∙ listed_covers rects s (get_or rects i d) (listed_get rects i d lt) p.1, p.0)
+-- a rectangle of the list that has the square, by its number
+covering : (rects : List Rect) (q : Square) → in_set rects q → (k : ℕ) × (r : Rect) × (slice_get rects k ≡ Some r) × (has r q ≡ true)
+covering [] q e = absurd (false≢true e)
+covering (r ∷ rects) q e = elim (or_split (has r q) (covers rects q) e) [
+  | inl h ↦ (0, r, refl, h)
+  | inr h ↦ (let t = covering rects q h in (suc t.0, t.1, t.2, t.3))
+]
+
+-- what the test of a list's length tells
+pub some_in : (n long : ℕ) (empty : Bool) → long ≡ n → empty ≡ (long == 0) → empty ≡ false → 0 < n
+some_in n zero empty is told e = let f : false ≡ true = sym e ∙ told in let z : ⊥ = cc in absurd z
+some_in n (suc m) empty is told e = omega (arith, is)
+
+pub none_in : (n long : ℕ) (empty : Bool) → long ≡ n → empty ≡ (long == 0) → empty ≡ true → n ≡ 0
+none_in n long empty is told e = sym is ∙ eqb-true long 0 (sym told ∙ e)
+
+-- where some rectangle is found in the window, the sets meet
+pub met_at : (set rects other : List Rect) (near : List ℕ) (i : ℕ) (d : Rect) → rects ≡ set → i < length rects → ArePositions other (get_or rects i d) near → 0 < length near → Meet set other
+met_at set rects other near i d is lt are some =
+    let f = (are.each (get_or near 0 0)).0 (0, some, get_or_default near 0 (get_or near 0 0) 0 some) in
+    let s = f.2 in
+    (s.0, sym (ap (λ (l : List Rect). covers l s.0) is) ∙ listed_covers rects s.0 (get_or rects i d) (listed_get rects i d lt) s.2, found_covers other _ f.0 s.0 f.1 s.1)
+  where
+    found_covers : (rects : List Rect) (k : ℕ) (r : Rect) (q : Square) → slice_get rects k ≡ Some r → has r q ≡ true → covers rects q ≡ true
+    found_covers rects k r q at e =
+        listed_covers rects q (get_or rects k r) (listed_get rects k r (slice_get_within rects k r at)) (ap (λ (x : Rect). has x q) (get_or_from_slice_get rects k r r at) ∙ e)
 
 pub miss_more : (rects other near : List Rect) (i : ℕ) (d : Rect) → i < length rects → ((q : Square) → covers near q ≡ (covers other q && has (get_or rects i d) q)) → ((q : Square) → in_set near q → ⊥)
     → MissEachOther (take i rects) other → MissEachOther (take (i + 1) rects) other
@@ -31,6 +54,24 @@ miss_more rects other near i d lt cut none h q e f =
       | inl g ↦ h q g f
       | inr g ↦ elim (or_split (has r q) false g) [ inl k ↦ none q (cut q ∙ both_and (covers other q) (has r q) f k) | inr k ↦ false≢true k ]
     ]
+
+not_true : (b : Bool) → (b ≡ true → ⊥) → b ≡ false
+not_true true h = absurd (h refl)
+not_true false h = refl
+
+-- where none is, the sets miss each other so far
+pub miss_next : (rects other : List Rect) (near : List ℕ) (i : ℕ) (d : Rect) → i < length rects → ArePositions other (get_or rects i d) near → length near ≡ 0 → MissEachOther (take i rects) other
+    → MissEachOther (take (i + 1) rects) other
+miss_next rects other near i d lt are none before =
+    miss_more rects other [] i d lt (λ q. sym (not_true (covers other q && has (get_or rects i d) q) (λ e. apart q e))) (λ q e. false≢true e) before
+  where
+    apart : (q : Square) → (covers other q && has (get_or rects i d) q) ≡ true → ⊥
+    apart q e =
+        let both = and_split (covers other q) (has (get_or rects i d) q) e in
+        let t = covering other q both.0 in
+        let c = (are.each t.0).1 (t.1, t.2, (q, t.3, both.1)) in
+        let within = c.1 in
+        omega (arith, none, within)
 
 pub miss_all : (set rects other : List Rect) (i : ℕ) → rects ≡ set → length rects ≤ i → MissEachOther (take i rects) other → Meet set other → ⊥
 miss_all set rects other i is le h m = h m.0 (ap (λ (l : List Rect). covers l m.0) (take_all i rects le ∙ is) ∙ m.1) m.2

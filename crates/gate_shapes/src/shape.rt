@@ -9,9 +9,10 @@ ghost use Rattle.gate_shapes.specs.Shapes.{IsShape};
 
 use crate::border::{border_of, sides_of};
 use crate::pieces::{least, parts};
-use geo_base::Square;
+use geo_base::{Rect, Square};
 use rect_sets::{RectSet, Rule, combine_rects};
 use std::alloc::{AllocError, Global};
+use tile_index::TileIndex;
 
 /// Why a gate is bad: the first of these that holds.
 #[derive(Clone, Copy, Debug, PartialEq, Eq)]
@@ -59,22 +60,35 @@ fn first_square(set: &RectSet) -> Square
     }
 }
 
+// An index of the rectangles of a set.
+fn index_of(alloc: Global, set: &RectSet) -> Result<TileIndex, AllocError>
+    ensures { IfOk result (λ t. t ≡ set.now) }
+{
+    let reach = (1 << 31) - 1;
+    let plane = Rect {
+        x1: -reach,
+        y1: -reach,
+        x2: reach,
+        y2: reach,
+    };
+    TileIndex::build(alloc, set.rects(), plane)
+}
+
 // In most cases the first rectangle tells.
-fn meets(alloc: Global, set: &RectSet, other: &RectSet) -> Result<bool, AllocError>
+fn meets(alloc: Global, set: &RectSet, other: &TileIndex) -> Result<bool, AllocError>
     ensures { IfOk result (λ b. TellsMeet set.now other.now b) }
 {
     for rect in set.rects() {
-        let near = other.window(alloc, *rect)?;
-        match least(&near) {
-            Some(_) => return Ok(true),
-            None => {}
+        let near = other.query(alloc, *rect)?;
+        if !near.is_empty() {
+            return Ok(true);
         }
     }
     Ok(false)
 }
 
-// Those that have a touched square, by their places.
-fn kept(alloc: Global, groups: &[RectSet], touched: &RectSet) -> Result<Vec<usize>, AllocError>
+// Those that have a square of the index, by their places.
+fn kept_by(alloc: Global, groups: &[RectSet], touched: &TileIndex) -> Result<Vec<usize>, AllocError>
     ensures { IfOk result (λ v. AreKept groups.now touched.now v.items) }
 {
     let mut kept = Vec::new(alloc);
@@ -84,6 +98,15 @@ fn kept(alloc: Global, groups: &[RectSet], touched: &RectSet) -> Result<Vec<usiz
         }
     }
     Ok(kept)
+}
+
+// Those that have a touched square, by their places.
+fn kept(alloc: Global, groups: &[RectSet], touched: &RectSet) -> Result<Vec<usize>, AllocError>
+    ensures { IfOk result (λ v. AreKept groups.now touched.now v.items) }
+{
+    let index = index_of(alloc, touched)?;
+    let places = kept_by(alloc, groups, &index)?;
+    Ok(places)
 }
 
 /// The sets by which a part is judged: source and drain, and the conductors of the terminals. Where
@@ -132,9 +155,9 @@ fn first_fault(
 
 /// The part as a gate: its sizes and the least squares of its two groups, or its first fault. Only
 /// the squares of the part and of its ring count, so the sets around may be cut to the part's box
-/// grown by one. In O(n log n) for n rectangles of the part and of the sets there, and the number
-/// of groups times the cost of one Boolean; no square is looked at alone. More edges than 64 bits
-/// can count are taken for want of memory.
+/// grown by one. In O(n log n) for n rectangles of the part and of the sets there, however many
+/// groups they are; no square is looked at alone. More edges than 64 bits can count, and 2^32
+/// rectangles or more, are taken for want of memory.
 pub fn shape_of(alloc: Global, part: &RectSet, around: &Around) -> Result<GateShape, AllocError>
     requires { IsNearSet part.now }
     ensures { IfOk result (λ s. IsShape

@@ -26,7 +26,7 @@ fn first_point(bytes: &[u8]) -> Point
 pub(crate) fn points(alloc: Global, body: &[u8]) -> Result<Vec<Point>, AllocError>
     ensures { IfOk result (λ v. v.items ≡ points_of body.now) }
 {
-    let mut points = Vec::new(alloc);
+    let mut points = Vec::with_capacity(alloc, body.len() / 8)?;
     let mut rest = body;
     while rest.len() >= 8 {
         points.push(first_point(rest))?;

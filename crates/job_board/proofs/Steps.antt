@@ -367,6 +367,7 @@ module _ {T K S : Type 0} (empty : S) (right : Plan T K → ℕ → S → Type 0
           refl,
           λ f. let all = how_many_all (λ b. st.stage b == last_stage d b) (length g) (λ b l. is_same (st.stage b) (last_stage d b) (ok.full f b l)) in let was = h.done in let bit = one_if_small st.stopped in
               let n : length (graph_in me.0.plan) ≡ length g = ap (λ (y : Option (Plan T K)). length (graph_in y)) planned in omega arith,
+          λ f. let was = h.done in let bit : one_if st.stopped ≡ 1 = ap one_if (ok.stopped f) in omega arith,
         ),
       )
 

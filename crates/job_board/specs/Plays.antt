@@ -1,6 +1,6 @@
 -- What each step tells its caller.
-use Rattle.std.specs.Prelude.{◌≡◌, ◌≢◌, ℕ, suc, ◌+◌, ◌*◌, ◌/◌, ◌^◌, ◌<◌, Bool, true, ◌||◌, ◌==◌}
-use Rattle.std.specs.Prelude.{List, ◌∷◌, ◌++◌, drop, length, Option, Some, None}
+use Rattle.std.specs.Prelude.{◌≡◌, ◌≢◌, ℕ, suc, ◌+◌, ◌*◌, ◌/◌, ◌%◌, ◌^◌, ◌<◌, Bool, true, ◌||◌}
+use Rattle.std.specs.Prelude.{◌==◌, List, ◌∷◌, ◌++◌, drop, length, Option, Some, None}
 use Rattle.atomic_table.specs.Table.{Me, Step, rest}
 use Rattle.job_board.specs.declared.view.View.{View}
 use Rattle.job_board.specs.declared.view.Work.TheVariants.{Resting, Working}
@@ -118,6 +118,7 @@ module _ {T K : Type 0} where
     Counts st m n m' =
         (m' ≡ (counting m.0 (n / 2 == length (graph_in m.0.plan)), m.1))
         × (m.0.full ≡ true → n / 2 ≡ length (graph_in m.0.plan))
+        × (m.0.stopped ≡ true → n % 2 ≡ 1)
 
     -- a fetch_or of the stop bit
     abbrev pub Stops : Step S → Me S (View T K) → ℕ → Me S (View T K) → Type 0

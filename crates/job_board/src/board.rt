@@ -1,5 +1,5 @@
 //! The board: its calls for workers.
-ghost use Rattle.std.specs.Prelude.{◌≡◌, ◌≢◌, ◌<◌, ℕ, [], ◌∷◌, ◌++◌, length, slice_index};
+ghost use Rattle.std.specs.Prelude.{◌≡◌, ◌≢◌, ◌<◌, ℕ, [], ◌∷◌, ◌++◌, length, slice_index, true};
 ghost use Rattle.std.specs.Prelude.{slice_get, IfOk, IsSomeAnd, Some};
 ghost use Rattle.job_graph.specs.Graph.{Waits, inputs_of};
 ghost use Rattle.job_board.specs.Inputs.{MayRead, value_of};
@@ -145,6 +145,7 @@ impl<T: Defined> Board<T> {
         ensures seat { KeepsSeat self.now seat.old seat.new }
         ensures all { result.finished ≡ length (jobs_on self.now) → SawAll seat.new }
         ensures full { SawAll seat.old → result.finished ≡ length (jobs_on self.now) }
+        ensures stop { Stopped seat.old → result.stopped ≡ true }
     {
         let (finished, stopped) = words::progress(&self.table, &mut seat.seat);
         Progress { finished, stopped }

@@ -53,6 +53,7 @@ pub(crate) fn progress<T: Defined>(table: &BoardTable<T>, seat: &mut TableSeat<T
       seat.old.me.1,
     ) }
     ensures full { seat.old.me.0.full ≡ true → result.0 ≡ length (graph_in seat.old.me.0.plan) }
+    ensures stop { seat.old.me.0.stopped ≡ true → result.1 ≡ true }
 {
     let word = table.shared.load::<Count>(seat, 0);
     (word / 2, word % 2 == 1)

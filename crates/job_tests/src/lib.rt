@@ -1,10 +1,12 @@
-//! Tests of the board of jobs and of the machine, with a small phase and gates that watch workers.
+//! Tests of the board of jobs and of the machine, with a small phase, and gates that watch workers.
 #![tactic(auto)]
 
 #[cfg(test)]
 mod board;
+mod gates;
 mod graphs;
 #[cfg(test)]
 mod phase;
 
+pub use gates::{Abreast, Visits};
 pub use graphs::graph_of;

@@ -130,13 +130,13 @@ fn no_job_after_want_of_memory(rt: HostRuntime) -> Result<(), Fail> {
     for workers in [1, 4] {
         let sums = Sums {
             graph: graph_of(alloc, &CHAIN)?,
-            short: 4,
+            short: 5,
         };
         let gate = Entered {
             seen: AtomicU64::new(0),
         };
         let answer = run_phase(&rt, alloc, &sums, workers, &gate);
-        assert!(rt; answer.is_err() && gate.seen.load(SeqCst) == 0b1_1111);
+        assert!(rt; answer.is_err() && gate.seen.load(SeqCst) == 0b11_1111);
     }
     Ok(())
 }

@@ -5,6 +5,7 @@ pub mod Flattening
 pub mod Held
 pub mod Inputs
 pub mod Keeping
+pub mod Leaves
 pub mod Looking
 pub mod Results
 pub mod Telling

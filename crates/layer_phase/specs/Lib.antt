@@ -1,3 +1,4 @@
+pub mod Flat
 pub mod Parts
 pub mod Keeps
 pub mod Looks

@@ -9,7 +9,7 @@ ghost use Rattle.rule_layers.specs.Formulas.{formula_by, formulas};
 ghost use Rattle.layer_phase.specs.Looks.{AreNear, Grows, HoldsOwn};
 ghost use Rattle.layer_phase.specs.Names.{AreFlats, IsFlatIn};
 
-use crate::own::own_copy;
+use crate::flat::Flat;
 use crate::parts::input_squares;
 use cell_graph::Design;
 use edge_boolean::combine;
@@ -19,21 +19,24 @@ use rule_text::{LayerForm, LayerRule};
 use std::alloc::{AllocError, Global};
 
 // The set of a name, and none past the last.
-fn set_at<'a>(sets: &'a [RectSet], name: u32, none: &'a RectSet) -> &'a RectSet
+fn set_at<'a>(sets: &'a [Flat<'_>], name: u32, none: &'a RectSet) -> &'a RectSet
     requires { none.now ≡ [] }
     ensures { result.now ≡ get_or sets.now name [] }
 {
-    sets.get(name as usize).unwrap_or(none)
+    match sets.get(name as usize) {
+        Some(flat) => flat.set(),
+        None => none,
+    }
 }
 
 // The flat squares of a name that reads two others.
-fn two_flats(
+fn two_flats<'a>(
     alloc: Global,
-    before: &[RectSet],
+    before: &[Flat<'_>],
     op: Op,
     a: u32,
     b: u32,
-) -> Result<RectSet, AllocError>
+) -> Result<Flat<'a>, AllocError>
     ensures { IfOk result (λ r. (d : Linked) (cell : ℕ) (looks : List Rect) (trees : List Formula)
         → AreFlats d cell looks trees before.now
         → IsFlatIn d cell looks (Binary op (get_or trees a Empty) (get_or trees b Empty)) r) }
@@ -42,17 +45,17 @@ fn two_flats(
     let first = set_at(before, a, &none);
     let second = set_at(before, b, &none);
     let set = combine(alloc, first, second, op)?;
-    Ok(set)
+    Ok(Flat::own(set))
 }
 
 // The flat squares of an input layer. A cell that places no other has its own alone.
-fn input_flat(
+fn input_flat<'a>(
     alloc: Global,
-    design: &Design,
+    design: &'a Design,
     cell: u32,
     key: LayerKey,
     looks: &RectSet,
-) -> Result<RectSet, AllocError>
+) -> Result<Flat<'a>, AllocError>
     requires cell { cell < length design.now.cells }
     requires near { AreNear looks.now }
     requires own { Grows (own_of (cell_at design.now cell) key) looks.now }
@@ -60,20 +63,21 @@ fn input_flat(
 {
     design.sound();
     if design.places(cell).is_empty() {
-        return own_copy(alloc, design, cell, key);
+        return Ok(Flat::lent(design.own(cell, key)));
     }
-    input_squares(alloc, design, cell, key, looks)
+    let set = input_squares(alloc, design, cell, key, looks)?;
+    Ok(Flat::own(set))
 }
 
 // A name's flat squares, over those of the names before it.
-fn form_flat(
+fn form_flat<'a>(
     alloc: Global,
-    design: &Design,
+    design: &'a Design,
     cell: u32,
     looks: &RectSet,
-    before: &[RectSet],
+    before: &[Flat<'_>],
     form: LayerForm,
-) -> Result<RectSet, AllocError>
+) -> Result<Flat<'a>, AllocError>
     requires cell { cell < length design.now.cells }
     requires near { AreNear looks.now }
     requires own { (key : LayerKey) → form ≡ InputForm key
@@ -84,21 +88,21 @@ fn form_flat(
 {
     match form {
         LayerForm::Input(key) => input_flat(alloc, design, cell, key, looks),
-        LayerForm::Labels(_) => Ok(RectSet::empty(alloc)),
-        LayerForm::Empty => Ok(RectSet::empty(alloc)),
+        LayerForm::Labels(_) => Ok(Flat::own(RectSet::empty(alloc))),
+        LayerForm::Empty => Ok(Flat::own(RectSet::empty(alloc))),
         LayerForm::Binary(op, a, b) => two_flats(alloc, before, op, a, b),
     }
 }
 
 /// The flat squares of a cell among those that are looked at, for each name in the order of the
 /// rules: one walk below the cell for each input layer, and one Boolean for each other name.
-pub fn name_flats(
+pub fn name_flats<'a>(
     alloc: Global,
-    design: &Design,
+    design: &'a Design,
     cell: u32,
     looks: &RectSet,
     names: &[LayerRule],
-) -> Result<Vec<RectSet>, AllocError>
+) -> Result<Vec<Flat<'a>>, AllocError>
     requires cell { cell < length design.now.cells }
     requires near { AreNear looks.now }
     requires own { HoldsOwn design.now names.now cell looks.now }

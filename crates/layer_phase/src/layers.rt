@@ -7,8 +7,9 @@ ghost use Rattle.geo_base.specs.declared.layer.Op.{Op};
 ghost use Rattle.rule_layers.specs.Formulas.{formula_by, formulas};
 ghost use Rattle.rule_text.specs.Seen.{rules_seen};
 ghost use Rattle.layer_phase.specs.Looks.{AreLooks};
-ghost use Rattle.layer_phase.specs.Names.{AreLocals, IsFlatIn, IsReady};
+ghost use Rattle.layer_phase.specs.Names.{AreFlats, AreLocals, IsFlatIn, IsReady};
 
+use crate::flat::Flat;
 use crate::flats::name_flats;
 use crate::looks::looks;
 use crate::own::own_copy;
@@ -46,7 +47,7 @@ fn derived_layer(
     cell: u32,
     name: u32,
     looks: &RectSet,
-    flat: &RectSet,
+    flat: Flat<'_>,
 ) -> Result<RectSet, AllocError>
     requires cell { cell < length design.now.cells }
     requires ready { IsReady design.now (rules_seen rules.now) zones.now cell }
@@ -54,14 +55,15 @@ fn derived_layer(
     requires name { name < length (formulas rules.now.names.items) }
     ensures { IfOk result (λ r. (op : Op) (a b : Formula)
         → slice_get (formulas rules.now.names.items) name ≡ Some (Binary op a b)
-        → IsFlatIn design.now cell looks.now (Binary op a b) flat.now
+        → IsFlatIn design.now cell looks.now (Binary op a b) flat.entry
         → IsLocalLayer (plain design.now) (Binary op a b) cell r) }
 {
     design.sound();
     let _ = rules;
     let calm = calm_squares(alloc, design, zones, cell, name, looks)?;
     let zone = zones.disturbed(cell, ZoneKey::Layer(name));
-    let local = local_squares(alloc, flat, zone, &calm)?;
+    let squares = flat.into_set(alloc)?;
+    let local = local_squares(alloc, squares, zone, &calm)?;
     let _canonical = local.rects();
     Ok(local)
 }
@@ -76,7 +78,7 @@ fn form_layer(
     name: u32,
     form: LayerForm,
     looks: &RectSet,
-    flat: &RectSet,
+    flat: Flat<'_>,
 ) -> Result<RectSet, AllocError>
     requires cell { cell < length design.now.cells }
     requires ready { IsReady design.now (rules_seen rules.now) zones.now cell }
@@ -84,7 +86,7 @@ fn form_layer(
     requires name { name < length (formulas rules.now.names.items) }
     ensures { IfOk result (λ r. (trees : List Formula)
         → slice_get (formulas rules.now.names.items) name ≡ Some (formula_by trees form)
-        → IsFlatIn design.now cell looks.now (formula_by trees form) flat.now
+        → IsFlatIn design.now cell looks.now (formula_by trees form) flat.entry
         → IsLocalLayer (plain design.now) (formula_by trees form) cell r) }
 {
     match form {
@@ -95,6 +97,46 @@ fn form_layer(
             derived_layer(alloc, design, rules, zones, cell, name, looks, flat)
         }
     }
+}
+
+// The same for each name, over the flat squares of all names.
+fn form_layers(
+    alloc: Global,
+    design: &Design,
+    rules: &RuleSet,
+    zones: &Zones,
+    cell: u32,
+    looks: &RectSet,
+    flats: Vec<Flat<'_>>,
+) -> Result<Vec<RectSet>, AllocError>
+    requires cell { cell < length design.now.cells }
+    requires ready { IsReady design.now (rules_seen rules.now) zones.now cell }
+    requires looks { AreLooks design.now zones.now rules.now.names.items cell looks.now }
+    requires count { length flats.items ≡ length rules.now.names.items }
+    requires flats { AreFlats design.now cell looks.now (formulas rules.now.names.items)
+        flats.items }
+    ensures count { IfOk result (λ v. length v.items ≡ length (formulas rules.now.names.items)) }
+    ensures layers { IfOk result (λ v. AreLocals design.now cell (formulas rules.now.names.items)
+        v.items) }
+{
+    let mut layers = Vec::new(alloc);
+    for flat in flats {
+        let name = layers.len();
+        let form = rules.names[name].form;
+        let layer = form_layer(
+            alloc,
+            design,
+            rules,
+            zones,
+            cell,
+            name as u32,
+            form,
+            looks,
+            flat,
+        )?;
+        layers.push(layer)?;
+    }
+    Ok(layers)
 }
 
 /// The squares that a cell holds itself, for each name in the order of the rules. What placed cells
@@ -116,21 +158,5 @@ pub fn name_layers(
     let names = rules.names.as_slice();
     let set = looks(alloc, design, zones, cell, names)?;
     let flats = name_flats(alloc, design, cell, &set, names)?;
-    let mut layers = Vec::new(alloc);
-    for (name, rule) in names.iter().enumerate() {
-        let flat = &flats[name];
-        let layer = form_layer(
-            alloc,
-            design,
-            rules,
-            zones,
-            cell,
-            name as u32,
-            rule.form,
-            &set,
-            flat,
-        )?;
-        layers.push(layer)?;
-    }
-    Ok(layers)
+    form_layers(alloc, design, rules, zones, cell, &set, flats)
 }

@@ -1,15 +1,20 @@
 //! The squares of a cell that have to be looked at: its own shapes, and what is disturbed in the
 //! cells that it places. Everywhere else a placed cell keeps what lies there.
-ghost use Rattle.std.specs.Prelude.{◌≡◌, ◌<◌, ◌^◌, ℕ, length, slice_get, Some, IfOk, OnOk};
+ghost use Rattle.std.specs.Prelude.{◌≡◌, ◌<◌, ◌^◌, [], ℕ, List, Option, length, slice_get, Some};
+ghost use Rattle.std.specs.Prelude.{IfOk, OnOk};
 ghost use Rattle.std.specs.List.{All};
 ghost use Rattle.geo_base.specs.Near.{IsNearRect};
-ghost use Rattle.geo_base.specs.Rects.{IsRect};
+ghost use Rattle.geo_base.specs.Rects.{IsRect, has};
 ghost use Rattle.geo_base.specs.declared.layer.LayerKey.{LayerKey};
+ghost use Rattle.geo_base.specs.declared.shapes.Square.{Square};
+ghost use Rattle.rect_sets.specs.Rects.{covers};
 ghost use Rattle.cell_context.specs.Arrays.{IsNearArray};
 ghost use Rattle.cell_context.specs.Over.{IsPiece};
 ghost use Rattle.cell_graph.specs.Linked.{IsHull, cell_at, hull_of, own_of, places_at};
 ghost use Rattle.cell_graph.specs.declared.cells.Place.{Place};
+ghost use Rattle.deep_tables.specs.declared.zones.CellZones.{CellZones};
 ghost use Rattle.rule_text.specs.declared.rules.LayerForm.TheVariants.{Input};
+ghost use Rattle.rule_text.specs.declared.rules.LayerRule.{LayerRule as Rule};
 ghost use Rattle.layer_phase.specs.Keeps.{HasEntry};
 ghost use Rattle.layer_phase.specs.Looks.{AreHeld, AreLooks, Brings, BringsHull, BringsNames};
 ghost use Rattle.layer_phase.specs.Looks.{BringsOwn, BringsZone, Grows, HasAll, HaveAll};
@@ -269,6 +274,52 @@ fn looks_in(
     Ok(set)
 }
 
+// The whole hull: where no cell is placed, all of it may be looked at, by one look.
+fn whole(alloc: Global, hull: &Rect) -> Result<RectSet, AllocError>
+    requires { IsRect hull.now }
+    ensures { IfOk result (λ r. (q : Square) → covers r q ≡ has hull.now q) }
+{
+    let mut rects = Vec::new(alloc);
+    rects.push(*hull)?;
+    let set = RectSet::canon(alloc, rects)?;
+    Ok(set)
+}
+
+// The squares to be looked at of a cell that places no other.
+fn leaf_looks(alloc: Global, design: &Design, cell: u32, hull: &Rect) -> Result<RectSet, AllocError>
+    requires hull { hull_of (cell_at design.now cell) ≡ Some hull.now }
+    requires leaf { places_at (cell_at design.now cell) ≡ [] }
+    ensures { IfOk result (λ r. (z : List (Option CellZones)) (names : List Rule)
+        → AreLooks design.now z names cell r) }
+{
+    design.sound();
+    let _ = cell;
+    let set = whole(alloc, hull)?;
+    let _near = set.rects();
+    Ok(set)
+}
+
+// The same of a cell that has a hull.
+fn hull_looks(
+    alloc: Global,
+    design: &Design,
+    zones: &Zones,
+    cell: u32,
+    names: &[LayerRule],
+    hull: &Rect,
+) -> Result<RectSet, AllocError>
+    requires cell { cell < length design.now.cells }
+    requires hull { hull_of (cell_at design.now cell) ≡ Some hull.now }
+    requires few { length names.now < 2 ^ 32 }
+    requires entries { HaveAll design.now zones.now cell (length names.now) }
+    ensures { IfOk result (AreLooks design.now zones.now names.now cell) }
+{
+    match design.places(cell) {
+        [] => leaf_looks(alloc, design, cell, hull),
+        _ => looks_in(alloc, design, zones, cell, names, hull),
+    }
+}
+
 /// The squares of a cell that have to be looked at. An array costs one look, and beside that only
 /// what is disturbed in the placed cell, once for each element.
 pub fn looks(
@@ -285,7 +336,7 @@ pub fn looks(
 {
     design.sound();
     match design.hull(cell) {
-        Some(hull) => looks_in(alloc, design, zones, cell, names, &hull),
+        Some(hull) => hull_looks(alloc, design, zones, cell, names, &hull),
         None => Ok(RectSet::empty(alloc)),
     }
 }

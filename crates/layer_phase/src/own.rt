@@ -5,11 +5,18 @@ ghost use Rattle.geo_base.specs.declared.shapes.Square.{Square};
 ghost use Rattle.rect_sets.specs.Rects.{covers};
 
 use cell_graph::Design;
-use geo_base::LayerKey;
+use geo_base::{LayerKey, Motion, Turn};
 use rect_sets::RectSet;
 use std::alloc::{AllocError, Global};
 
-/// A copy of a cell's own squares on a layer. Cost as `RectSet::canon`.
+/// The motion that leaves all where it is.
+const STILL: Motion = Motion {
+    turn: Turn::R0,
+    dx: 0,
+    dy: 0,
+};
+
+/// A copy of a cell's own squares on a layer. Linear.
 pub fn own_copy(
     alloc: Global,
     design: &Design,
@@ -20,8 +27,6 @@ pub fn own_copy(
     ensures { IfOk result (λ r. (q : Square) → covers r q
         ≡ covers (own_of (cell_at design.now cell) key) q) }
 {
-    let mut rects = Vec::new(alloc);
-    rects.extend_from_slice(design.own(cell, key).rects())?;
-    let set = RectSet::canon(alloc, rects)?;
-    Ok(set)
+    design.sound();
+    design.own(cell, key).moved(alloc, &STILL)
 }

@@ -113,18 +113,29 @@ pub fn calm_squares(
     Ok(set)
 }
 
+// The squares of the one set that the other doesn't have: itself, where that one is empty.
+fn without(alloc: Global, set: RectSet, other: &RectSet) -> Result<RectSet, AllocError>
+    ensures { IfOk result (λ r. (q : Square)
+        → covers r q ≡ (covers set q && not (covers other.now q))) }
+{
+    if other.rects().is_empty() {
+        return Ok(set);
+    }
+    combine(alloc, &set, other, Op::Not)
+}
+
 /// A cell's layer: flat squares, without the disturbed ones and those that placed cells keep.
 pub fn local_squares(
     alloc: Global,
-    flat: &RectSet,
+    flat: RectSet,
     zone: &RectSet,
     calm: &RectSet,
 ) -> Result<RectSet, AllocError>
     ensures { IfOk result (λ r. (q : Square)
-        → covers r q ≡ ((covers flat.now q && not (covers zone.now q))
+        → covers r q ≡ ((covers flat q && not (covers zone.now q))
         && not (covers calm.now q))) }
 {
-    let undisturbed = combine(alloc, flat, zone, Op::Not)?;
-    let local = combine(alloc, &undisturbed, calm, Op::Not)?;
+    let undisturbed = without(alloc, flat, zone)?;
+    let local = without(alloc, undisturbed, calm)?;
     Ok(local)
 }

@@ -1,5 +1,5 @@
 -- What a view of the cells below holds.
-use Rattle.std.proofs.Common.{◌≡◌, ℕ, zero, suc, ◌^◌, ℤ, pos, ◌+ℤ◌, ◌-ℤ◌, ◌≤ℤ◌, List, [], ◌∷◌, Option, Some, None, IfSome, IfNone, slice_get, refl, sym, ◌∙◌, ap, subst, arith}
+use Rattle.std.proofs.Common.{◌≡◌, ℕ, zero, suc, ◌^◌, ℤ, pos, true, ◌+ℤ◌, ◌-ℤ◌, ◌≤ℤ◌, List, [], ◌∷◌, Option, Some, None, IfSome, IfNone, slice_get, refl, sym, ◌∙◌, ap, subst, arith}
 use Rattle.std.proofs.lemmas.Int.{clamps, ints}
 use Rattle.std.specs.Int.{int_max, int_min}
 use Rattle.cell_context.proofs.Collecting.{hull_has, no_hull}
@@ -13,7 +13,7 @@ use Rattle.flat_layout.specs.Regions.{At, Ground}
 use Rattle.geo_base.proofs.Spans.{moved_rect-IsRect, moved_rect-has}
 use Rattle.geo_base.specs.Motions.{moved_square, turned}
 use Rattle.geo_base.specs.Near.{IsNearMotion, IsNearRect, IsWithin}
-use Rattle.geo_base.specs.Rects.{IsRect, moved_rect}
+use Rattle.geo_base.specs.Rects.{IsRect, has, moved_rect}
 use Rattle.geo_base.specs.declared.motion.Motion.{Motion}
 use Rattle.geo_base.specs.declared.shapes.Point.{Point}
 use Rattle.geo_base.specs.declared.shapes.Rect.{Rect}
@@ -23,6 +23,7 @@ use Rattle.net_walk.proofs.Insides.{all_in, in_of}
 use Rattle.net_walk.specs.Walk.{AreNearOwn, HasNoSquare, HaveArea, IsClose, IsHull as IsNetHull, IsInside, IsSpan, place_of}
 use Rattle.net_walk.specs.declared.cells.Element.{Element}
 use Rattle.net_phase.specs.Below.{AreHeldOwn}
+use Rattle.net_phase.specs.Indexes.{span_by, span_of}
 use Rattle.net_phase.specs.Own.{own_at}
 
 low_near : (a b d : ℤ) → IsWithin (2 ^ 30) (int_min (a +ℤ pos 0) (b +ℤ pos 0)) → IsWithin (2 ^ 38) d → IsWithin (2 ^ 40) (int_min (a +ℤ d) (b +ℤ d) -ℤ pos 1)
@@ -55,6 +56,23 @@ pub have_area : (l : List Rect) → ((r : ℕ) (o : Rect) → slice_get l r ≡ 
 have_area [] f = tt
 have_area (o ∷ l) f = (f 0 o refl, have_area l (λ r p h. f (suc r) p h))
 
+near_hull : (h : Rect) → IsHull h → IsNearRect h
+near_hull h is =
+    let n = is.near in
+    record { x1 = wide h.x1 n.x1; y1 = wide h.y1 n.y1; x2 = wide h.x2 n.x2; y2 = wide h.y2 n.y2 }
+  where
+    wide : (z : ℤ) → IsWithin (2 ^ 30) z → IsWithin (2 ^ 40) z
+    wide z w = let l = w.low in let u = w.high in record { low = omega (arith, ints); high = omega (arith, ints) }
+
+hull_is : (d : Linked) (cell : ℕ) (h : Rect) → IsSound d → Some h ≡ hull_of (cell_at d cell) → IsHull h
+hull_is d cell h sound e = subst HullIsSound (sym e) (hull_sound d cell sound)
+
+pub hull_is_rect : (d : Linked) (cell : ℕ) (h : Rect) → IsSound d → Some h ≡ hull_of (cell_at d cell) → IsRect h
+hull_is_rect d cell h sound e = (hull_is d cell h sound e).some
+
+pub hull_is_near : (d : Linked) (cell : ℕ) (h : Rect) → IsSound d → Some h ≡ hull_of (cell_at d cell) → IsNearRect h
+hull_is_near d cell h sound e = near_hull h (hull_is d cell h sound e)
+
 module _ (d : Linked) (t : Tables) (all : List (List (List Rect))) (sound : IsSound d) (held : AreHeldOwn d all) (same : (cell c : ℕ) → t.own cell c ≡ own_at all cell c) where
   up : (cell k : ℕ) (p : Place) (s q : Square) → IsPlaced (plain d) cell k p → moved_square p.motion s ≡ q → HullHas (hull_of (cell_at d p.cell)) s → HullHas (hull_of (cell_at d cell)) q
   up cell k p s q placed e h =
@@ -81,16 +99,8 @@ module _ (d : Linked) (t : Tables) (all : List (List (List Rect))) (sound : IsSo
   pub nets_in_hull : (cell c x : ℕ) (q : Square) → NetHolds (plain d) t cell x (At c q) → HullHas (hull_of (cell_at d cell)) q
   nets_in_hull cell c x q h = in_hull h.holds.depth cell h.item c q h.holds.holds
 
-  near_hull : (h : Rect) → IsHull h → IsNearRect h
-  near_hull h is =
-      let n = is.near in
-      record { x1 = wide h.x1 n.x1; y1 = wide h.y1 n.y1; x2 = wide h.x2 n.x2; y2 = wide h.y2 n.y2 }
-    where
-      wide : (z : ℤ) → IsWithin (2 ^ 30) z → IsWithin (2 ^ 40) z
-      wide z w = let l = w.low in let u = w.high in record { low = omega (arith, ints); high = omega (arith, ints) }
-
   hull_at : (cell : ℕ) (h : Rect) → Some h ≡ hull_of (cell_at d cell) → IsHull h
-  hull_at cell h e = subst HullIsSound (sym e) (hull_sound d cell sound)
+  hull_at cell h e = hull_is d cell h sound e
 
   -- the hull of a cell, by the hull that the design has
   pub net_hull : (cell : ℕ) (h : Rect) → Some h ≡ hull_of (cell_at d cell) → IsNetHull (plain d) t cell h
@@ -126,6 +136,14 @@ module _ (d : Linked) (t : Tables) (all : List (List (List Rect))) (sound : IsSo
         near = span_near e.motion h close good.near;
         all = λ c x q n. has_in (moved_rect e.motion h) (moved_square e.motion q) (moved_rect-has e.motion h q good.some ∙ hull_has (hull_of (cell_at d e.cell)) h q there (nets_in_hull e.cell c x q n));
       })
+
+  -- what bounds a placement has all that its nets bring there
+  pub span_has : (e : Element) (c x : ℕ) (m : Square) → NetHolds (plain d) t e.cell x (At c m) → has (span_of d e) (moved_square e.motion m) ≡ true
+  span_has e c x m n = by_hull (hull_of (cell_at d e.cell)) refl
+    where
+      by_hull : (o : Option Rect) → o ≡ hull_of (cell_at d e.cell) → has (span_by e o) (moved_square e.motion m) ≡ true
+      by_hull None h = absurd (no_nets e.cell h c x m n)
+      by_hull (Some r) h = moved_rect-has e.motion r m (hull_at e.cell r h).some ∙ hull_has (hull_of (cell_at d e.cell)) r m h (nets_in_hull e.cell c x m n)
 
   pub own_area : (cell c : ℕ) → HaveArea (own_at all cell c)
   own_area cell c = have_area (own_at all cell c) (held.some cell c)

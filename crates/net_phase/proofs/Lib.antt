@@ -8,3 +8,5 @@ pub mod Listing
 pub mod Results
 pub mod Righting
 pub mod Wiring
+pub mod Nearing
+pub mod Firsts

@@ -13,6 +13,7 @@ use Rattle.rule_layers.specs.Meaning.{wiring_of}
 use Rattle.deep_tables.specs.Nets.{nets_in}
 use Rattle.deep_tables.specs.declared.nets.CellNets.{CellNets}
 use Rattle.net_phase.specs.Elements.{AreAllElements, element_lists}
+use Rattle.net_phase.specs.Indexes.{AreIndexes}
 use Rattle.net_phase.specs.Own.{own_at, rect_lists}
 use Rattle.net_phase.specs.Reading.{nets_of}
 use Rattle.net_phase.specs.declared.below.Below.TheInside.{Inside}
@@ -53,3 +54,5 @@ pub record IsBelowView (a : Inside) : Type 0 where
   pub conductors : a.conductors ≡ length (wiring_of (rules_seen a.rules.now)).conductors
   pub elements : AreAllElements a.design.now (element_lists a.elements.now)
   pub own : AreHeldOwn a.design.now (rect_lists a.own.now)
+  pub indexes : AreIndexes a.design.now (rect_lists a.own.now) (element_lists a.elements.now)
+      a.indexes.now

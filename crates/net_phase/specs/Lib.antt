@@ -1,6 +1,8 @@
 pub mod Below
 pub mod Elements
 pub mod Graph
+pub mod Indexes
+pub mod Items
 pub mod Own
 pub mod Phase
 pub mod Reading

@@ -6,6 +6,7 @@ use Rattle.rule_text.specs.Seen.{rules_seen}
 use Rattle.rule_layers.specs.Meaning.{wiring_of}
 use Rattle.net_phase.specs.Elements.{AreAllElements, element_lists}
 use Rattle.net_phase.specs.Graph.{AreBelowJobs}
+use Rattle.net_phase.specs.Indexes.{AreIndexes}
 use Rattle.net_phase.specs.Own.{AreOwnLists, rect_lists}
 use Rattle.net_phase.specs.Wires.{AreWires}
 use Rattle.net_phase.specs.declared.phase.NetPhase.TheInside.{Inside}
@@ -24,3 +25,5 @@ pub record IsNetPhase (a : Inside) : Type 0 where
   pub wires : AreWires (wiring_of (rules_seen a.rules.now)) a.wires
   pub elements : AreAllElements a.design.now (element_lists a.elements.items)
   pub own : AreOwnLists a.design.now (rules_seen a.rules.now) (rect_lists a.own.items)
+  pub indexes : AreIndexes a.design.now (rect_lists a.own.items) (element_lists a.elements.items)
+      a.indexes

@@ -1,19 +1,24 @@
 //! What a job reads of cells.
-ghost use Rattle.std.specs.Prelude.{◌≡◌, None, [], get_or, length};
-ghost use Rattle.cell_graph.specs.Linked.{cell_at, hull_of};
+ghost use Rattle.std.specs.Prelude.{◌≡◌, None, [], get_or, length, map, MatchOption};
+ghost use Rattle.deep_tables.specs.Nets.{nets_in, plain_item};
 ghost use Rattle.rule_layers.specs.Meaning.{wiring_of};
 ghost use Rattle.rule_text.specs.Seen.{rules_seen};
 ghost use Rattle.net_phase.specs.Below.{AreHeldOwn};
 ghost use Rattle.net_phase.specs.Elements.{AreAllElements, element_lists};
+ghost use Rattle.net_phase.specs.Indexes.{AreIndexes, index_lists};
 ghost use Rattle.net_phase.specs.Own.{own_at, rect_lists};
 ghost use Rattle.net_phase.specs.Reading.{nets_of, now_of};
 
+use crate::indexes::{Indexes, hull_at};
+use crate::items::first_net;
 use cell_graph::Design;
-use deep_tables::CellNets;
+use deep_tables::{CellNets, Item};
 use geo_base::Rect;
 use net_walk::{Cells, Element};
 use rule_text::RuleSet;
+use std::alloc::{AllocError, Global};
 use std::marker::Model;
+use tile_index::TileIndex;
 
 /// The layout, the rules, the rectangles that cells hold themselves, and the nets of the cells
 /// below one, or of all. Contracts see lists by the cells' numbers.
@@ -24,6 +29,7 @@ pub struct Below<'a, 'l> {
     conductors: u32,
     own: &'a [Vec<&'l [Rect]>],
     elements: &'a [Vec<Element>],
+    indexes: &'a Indexes,
     nets: &'a [Option<&'a CellNets>],
 }
 
@@ -45,11 +51,14 @@ impl<'a, 'l> Below<'a, 'l> {
         conductors: u32,
         own: &'a [Vec<&'l [Rect]>],
         elements: &'a [Vec<Element>],
+        indexes: &'a Indexes,
         nets: &'a [Option<&'a CellNets>],
     ) -> Below<'a, 'l>
         requires conductors { conductors ≡ length (wiring_of (rules_seen rules.now)).conductors }
         requires elements { AreAllElements design.now (element_lists elements.now) }
         requires own { AreHeldOwn design.now (rect_lists own.now) }
+        requires indexes { AreIndexes design.now (rect_lists own.now) (element_lists elements.now)
+            indexes.now }
         ensures design { result.design ≡ design.now }
         ensures rules { result.rules ≡ rules.now }
         ensures own { result.own ≡ rect_lists own.now }
@@ -62,6 +71,7 @@ impl<'a, 'l> Below<'a, 'l> {
             conductors,
             own,
             elements,
+            indexes,
             nets,
         }
     }
@@ -100,14 +110,33 @@ fn nets_at<'b>(nets: &'b [Option<&'b CellNets>], cell: u32) -> Option<&'b CellNe
     }
 }
 
-// What bounds all that stands in and below a cell; nothing past the last cell.
-fn hull_at(design: &Design, cell: u32) -> Option<Rect>
-    ensures { result ≡ hull_of (cell_at design.now cell) }
+// A cell's items, none where its nets aren't known.
+fn items_at<'b>(nets: &'b [Option<&'b CellNets>], cell: u32) -> &'b [Item]
+    ensures { map plain_item result.now ≡ (nets_in (get_or (nets_of nets.now) cell None)).items }
 {
-    if cell < design.cells() {
-        return design.hull(cell);
+    match nets_at(nets, cell) {
+        None => &[],
+        Some(found) => found.items.as_slice(),
     }
-    None
+}
+
+// The index of a cell's rectangles of a conductor, none past the last cell or conductor.
+fn own_index(indexes: &Indexes, cell: u32, conductor: u32) -> Option<&TileIndex>
+    ensures { MatchOption result (own_at (index_lists indexes.now.own.items) cell conductor ≡ [])
+        (λ i. i.now ≡ own_at (index_lists indexes.now.own.items) cell conductor) }
+{
+    match indexes.own.get(cell as usize) {
+        None => None,
+        Some(found) => found.get(conductor as usize),
+    }
+}
+
+// The index of what bounds a cell's placements, none past the last cell.
+fn span_index(indexes: &Indexes, cell: u32) -> Option<&TileIndex>
+    ensures { MatchOption result (get_or indexes.now.spans.items cell [] ≡ [])
+        (λ i. i.now ≡ get_or indexes.now.spans.items cell []) }
+{
+    indexes.spans.get(cell as usize)
 }
 
 impl Cells for Below<'_, '_> {
@@ -128,6 +157,30 @@ impl Cells for Below<'_, '_> {
 
     fn own(&self, cell: u32, conductor: u32) -> &[Rect] {
         rects_at(self.own, cell, conductor)
+    }
+
+    fn own_near(
+        &self,
+        alloc: Global,
+        cell: u32,
+        conductor: u32,
+        window: &Rect,
+    ) -> Result<Vec<u32>, AllocError> {
+        match own_index(self.indexes, cell, conductor) {
+            None => Ok(Vec::new(alloc)),
+            Some(index) => index.query(alloc, *window),
+        }
+    }
+
+    fn places_near(&self, alloc: Global, cell: u32, window: &Rect) -> Result<Vec<u32>, AllocError> {
+        match span_index(self.indexes, cell) {
+            None => Ok(Vec::new(alloc)),
+            Some(index) => index.query(alloc, *window),
+        }
+    }
+
+    fn first_place(&self, cell: u32, number: u32) -> usize {
+        first_net(items_at(self.nets, cell), number)
     }
 
     fn net_of(&self, cell: u32) -> &[u32] {

@@ -1,9 +1,11 @@
 //! The items of a cell in order.
-ghost use Rattle.std.specs.Prelude.{◌≡◌, ◌++◌, ◌<◌, length, map, IfOk, OnOk};
+ghost use Rattle.std.specs.Prelude.{◌≡◌, ◌++◌, ◌<◌, ◌≤◌, true, false, length, map, IfOk, OnOk};
+ghost use Rattle.std.specs.List.Sorted.{IsPartitionPoint, IsPartitionedBy};
 ghost use Rattle.deep_tables.specs.Nets.{plain_item};
 ghost use Rattle.flat_layout.specs.Nets.{Child, Global as GlobalItem, Own, child_items, items_of};
 ghost use Rattle.flat_layout.specs.Nets.{own_items, run};
 ghost use Rattle.net_link_laws.specs.Places.{places_of};
+ghost use Rattle.net_phase.specs.Items.{stands_before};
 
 use deep_tables::Item;
 use net_walk::Cells;
@@ -82,4 +84,25 @@ pub fn list_items<C: Cells>(
     push_placed(cells, cell, &mut out)?;
     push_globals(globals, &mut out)?;
     Ok(out)
+}
+
+// Whether an item stands before the nets of a placement.
+fn stands_before(item: &Item, place: u32) -> bool
+    ensures { result ≡ stands_before place item.now }
+{
+    match item {
+        Item::Own { .. } => true,
+        Item::Child { place: other, .. } => *other < place as u64,
+        Item::Global { .. } => false,
+    }
+}
+
+// How many items stand before the nets of a placement: O(log n) for n items.
+pub(crate) fn first_net(items: &[Item], place: u32) -> usize
+    requires { IsPartitionedBy (stands_before place) items.now }
+    ensures bound { result ≤ length items.now }
+    ensures point { IsPartitionPoint (λ i. stands_before place i ≡ true)
+        (λ i. stands_before place i ≡ false) items.now result }
+{
+    items.partition_point(|item| stands_before(item, place))
 }

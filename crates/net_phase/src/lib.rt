@@ -4,6 +4,7 @@
 mod below;
 mod elements;
 mod graph;
+mod indexes;
 mod items;
 mod known;
 mod own;
@@ -14,6 +15,7 @@ mod wires;
 pub use below::Below;
 pub use elements::all_elements;
 pub use graph::below_graph;
+pub use indexes::{Indexes, find_indexes};
 pub use items::list_items;
 pub use known::known_nets;
 pub use own::own_lists;

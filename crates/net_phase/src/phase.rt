@@ -12,6 +12,7 @@ ghost use Rattle.net_phase.specs.Wires.{AreWires};
 use crate::below::Below;
 use crate::elements::all_elements;
 use crate::graph::below_graph;
+use crate::indexes::{Indexes, find_indexes};
 use crate::items::list_items;
 use crate::own::own_lists;
 use crate::reading::read_nets;
@@ -36,6 +37,7 @@ pub struct NetPhase<'a> {
     wires: Wires,
     own: Vec<Vec<&'a [Rect]>>,
     elements: Vec<Vec<Element>>,
+    indexes: Indexes,
     graph: Graph,
 }
 
@@ -52,7 +54,7 @@ impl<'a> Model for NetPhase<'a> {
 impl<'a> NetPhase<'a> {
     /// The phase of a layout and of its layers for these rules. 2^32 names, globals or placements
     /// of a cell, or more, are refused. Linear in the placements, and in the names for each reached
-    /// cell, beside the graph of jobs.
+    /// cell, beside the graph of jobs and the indexes of rectangles and placements.
     pub fn new(
         alloc: Global,
         design: &'a Design,
@@ -70,6 +72,7 @@ impl<'a> NetPhase<'a> {
         }
         let own = own_lists(alloc, design, rules, layers)?;
         let elements = all_elements(alloc, design)?;
+        let indexes = find_indexes(alloc, design, &own, &elements)?;
         let graph = below_graph(alloc, design)?;
         Ok(NetPhase {
             design,
@@ -77,6 +80,7 @@ impl<'a> NetPhase<'a> {
             wires,
             own,
             elements,
+            indexes,
             graph,
         })
     }
@@ -147,6 +151,7 @@ impl Phase for NetPhase<'_> {
             self.wires.conductors,
             &self.own,
             &self.elements,
+            &self.indexes,
             &nets,
         );
         cell_nets(alloc, &below, &self.wires, cell)

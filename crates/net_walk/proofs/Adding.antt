@@ -2,7 +2,7 @@
 use Rattle.std.proofs.Common.{◌≡◌, ◌⊎◌, ◌↔◌, inl, inr, ℕ, zero, suc, ◌+◌, ◌<◌, List, [], ◌∷◌, ◌++◌, Some, slice_get, get_or, length, take, pos, refl, sym, ap, ◌∙◌, subst, arith}
 use Rattle.std.proofs.Math.Decide.{ℕ_discrete}
 use Rattle.std.proofs.Math.Seq.{take-length}
-use Rattle.std.proofs.lemmas.List.{take_more}
+use Rattle.std.proofs.lemmas.List.{get_or_default, take_more}
 use Rattle.std.proofs.lemmas.Option.{slice_get-get_or}
 use Rattle.flat_layout.specs.Plane.{IsIn}
 use Rattle.geo_base.specs.Motions.{moved_square}
@@ -14,7 +14,8 @@ use Rattle.net_link_laws.specs.Collected.{IsOver}
 use Rattle.net_link_laws.specs.Windows.{common}
 use Rattle.net_link_laws.specs.declared.piece.NetPiece.{NetPiece}
 use Rattle.net_walk.proofs.Insides.{in_common, common_in, rect_of, common_inside, all_in, in_inside, moved_in, from_in}
-use Rattle.net_walk.specs.Walk.{IsInside, AreInside, AddsPieces, IsClipped, IsOfOwn, IsOfMoved, AreListed}
+use Rattle.net_walk.specs.Walk.{IsInside, AreInside, AddsPieces, IsClipped, IsOfOwn, IsOfOwnAt, IsOfMoved, AreListed}
+use Rattle.net_walk.specs.Windows.{AreOwnNear}
 
 over_left : (ps qs : List NetPiece) (x : ℕ) (q : Square) → IsOver ps x q → IsOver (ps ++ qs) x q
 over_left [] qs x q h = absurd h
@@ -77,30 +78,60 @@ clipped_none w rect net ps not = added_none w (IsClipped w net rect) ps (λ x q 
 abbrev pub nowhere : Rect
 nowhere = record { x1 = pos 0; y1 = pos 0; x2 = pos 0; y2 = pos 0 }
 
-pub own_none : (w : Rect) (own : List Rect) (net_of : List ℕ) (at : ℕ) (ps : List NetPiece) → AddsPieces w (IsOfOwn w own net_of at 0) ps ps
-own_none w own net_of at ps = added_none w (IsOfOwn w own net_of at 0) ps (λ x q h. let lt = h.1 in absurd (omega arith))
-
-pub own_more : (w : Rect) (own : List Rect) (net_of : List ℕ) (at r : ℕ) (old mid new : List NetPiece) → r < length own → at + r < length net_of → AddsPieces w (IsOfOwn w own net_of at r) old mid
-    → AddsPieces w (IsClipped w (get_or net_of (at + r) 0) (get_or own r nowhere)) mid new → AddsPieces w (IsOfOwn w own net_of at (r + 1)) old new
-own_more w own net_of at r old mid new lt less h g =
+-- of the rectangle at a position
+pub own_at : (w : Rect) (own : List Rect) (net_of : List ℕ) (at r : ℕ) (old new : List NetPiece) → r < length own → at + r < length net_of
+    → AddsPieces w (IsClipped w (get_or net_of (at + r) 0) (get_or own r nowhere)) old new → AddsPieces w (IsOfOwnAt w own net_of at r) old new
+own_at w own net_of at r old new lt less h =
     let rect = get_or own r nowhere in
     let net = get_or net_of (at + r) 0 in
     let there : slice_get own r ≡ Some rect = slice_get-get_or own r nowhere lt in
     let its : slice_get net_of (at + r) ≡ Some net = slice_get-get_or net_of (at + r) 0 less in
-    added_both w (IsOfOwn w own net_of at r) (IsClipped w net rect) (IsOfOwn w own net_of at (r + 1)) old mid new h g
+    added_both w (IsClipped w net rect) (λ x q. ⊥) (IsOfOwnAt w own net_of at r) old new new h (added_none w (λ x q. ⊥) new (λ x q e. e))
     (λ x q. (
-      (λ k. elim (ℕ_discrete k.0 r) [
-        | yes e ↦
-            let one : slice_get own r ≡ Some k.2 = subst (λ i. slice_get own i ≡ Some k.2) e k.3 in
-            let two : slice_get net_of (at + r) ≡ Some x = subst (λ i. slice_get net_of (at + i) ≡ Some x) e k.4 in
-            let same : k.2 ≡ rect = let f : Some k.2 ≡ Some rect = sym one ∙ there in cc in
-            let number : net ≡ x = let f : Some net ≡ Some x = sym its ∙ two in cc in
-            inr (number, subst (λ (v : Rect). IsIn q v) same k.5, k.6)
-        | no n ↦ let before = k.1 in inl (k.0, omega arith, k.2, k.3, k.4, k.5, k.6)
+      (λ k.
+          let same : k.0 ≡ rect = let f : Some k.0 ≡ Some rect = sym k.1 ∙ there in cc in
+          let number : net ≡ x = let f : Some net ≡ Some x = sym its ∙ k.2 in cc in
+          inl (number, subst (λ (v : Rect). IsIn q v) same k.3, k.4)),
+      (λ k. elim k [ inl a ↦ (rect, there, its ∙ ap Some a.0, a.1, a.2) | inr b ↦ absurd b ]),
+    ))
+
+-- of those at the first n positions of a list
+abbrev pub IsOfNear : Rect → List Rect → List ℕ → ℕ → List ℕ → ℕ → ℕ → Square → Type 0
+IsOfNear w own net_of at near n x q = (j : ℕ) × IsOfOwnAt w own net_of at (get_or near j 0) x q × (j < n)
+
+pub near_none : (w : Rect) (own : List Rect) (net_of : List ℕ) (at : ℕ) (near : List ℕ) (ps : List NetPiece) → AddsPieces w (IsOfNear w own net_of at near 0) ps ps
+near_none w own net_of at near ps = added_none w (IsOfNear w own net_of at near 0) ps (λ x q h. let lt = h.2 in absurd (omega arith))
+
+pub near_more : (w : Rect) (own : List Rect) (net_of : List ℕ) (at : ℕ) (near : List ℕ) (n : ℕ) (old mid new : List NetPiece) → AddsPieces w (IsOfNear w own net_of at near n) old mid
+    → AddsPieces w (IsOfOwnAt w own net_of at (get_or near n 0)) mid new → AddsPieces w (IsOfNear w own net_of at near (n + 1)) old new
+near_more w own net_of at near n old mid new h g =
+    added_both w (IsOfNear w own net_of at near n) (IsOfOwnAt w own net_of at (get_or near n 0)) (IsOfNear w own net_of at near (n + 1)) old mid new h g
+    (λ x q. (
+      (λ k. elim (ℕ_discrete k.0 n) [
+        | yes e ↦ inr (subst (λ i. IsOfOwnAt w own net_of at (get_or near i 0) x q) e k.1)
+        | no m ↦ let before = k.2 in inl (k.0, k.1, omega arith)
       ]),
       (λ k. elim k [
-        | inl a ↦ let before = a.1 in (a.0, omega arith, a.2, a.3, a.4, a.5, a.6)
-        | inr b ↦ (r, omega arith, rect, there, its ∙ ap Some b.0, b.1, b.2)
+        | inl a ↦ let before = a.2 in (a.0, a.1, omega arith)
+        | inr b ↦ (n, b, omega arith)
+      ]),
+    ))
+
+-- where the list has all that share a square with the window, those are all
+pub near_all : (w : Rect) (own : List Rect) (net_of : List ℕ) (at : ℕ) (near : List ℕ) (n : ℕ) (old new : List NetPiece) → AreOwnNear own w near → n ≡ length near
+    → AddsPieces w (IsOfNear w own net_of at near n) old new → AddsPieces w (IsOfOwn w own net_of at (length own)) old new
+near_all w own net_of at near n old new are e h =
+    added_both w (IsOfNear w own net_of at near n) (λ x q. ⊥) (IsOfOwn w own net_of at (length own)) old new new h (added_none w (λ x q. ⊥) new (λ x q f. f))
+    (λ x q. (
+      (λ k.
+          let c = are.all k.0 k.2 q k.3 k.5 k.6 in
+          let is : get_or near c.0 0 ≡ k.0 = get_or_default near c.0 0 k.0 c.1 ∙ c.2 in
+          inl (c.0, subst (λ i. IsOfOwnAt w own net_of at i x q) (sym is) (k.2, k.3, k.4, k.5, k.6), subst (λ m. c.0 < m) (sym e) c.1)),
+      (λ k. elim k [
+        | inl a ↦
+            let o = a.1 in
+            (get_or near a.0 0, are.inside a.0 (subst (λ m. a.0 < m) e a.2), o.0, o.1, o.2, o.3, o.4)
+        | inr b ↦ absurd b
       ]),
     ))
 

@@ -1,21 +1,19 @@
 -- Own rectangles and placements that may touch.
-use Rattle.std.proofs.Common.{◌≡◌, ◌⊎◌, inl, inr, ℕ, zero, suc, ◌+◌, ◌-◌, ◌<◌, ◌≤◌, min, max, List, [], ◌∷◌, ◌++◌, Some, map, pos, slice_get, get_or, length, take, refl, sym, ◌∙◌, ap, subst, arith}
-use Rattle.std.proofs.lemmas.Int.{ints}
+use Rattle.std.proofs.Common.{◌≡◌, ◌⊎◌, inl, inr, ℕ, zero, suc, ◌+◌, ◌-◌, ◌<◌, ◌≤◌, min, max, List, [], ◌∷◌, ◌++◌, Some, map, slice_get, get_or, length, take, refl, sym, ◌∙◌, ap, subst, arith}
 use Rattle.std.proofs.Math.Seq.{take-length}
 use Rattle.std.proofs.lemmas.List.{take_more, map-append}
 use Rattle.std.proofs.lemmas.Option.{slice_get_within, slice_get-get_or}
 use Rattle.flat_laws.proofs.Items.{at_placed}
-use Rattle.flat_layout.specs.Layout.{Design, Place}
-use Rattle.flat_layout.specs.Nets.{Own, Child, Tables, items_of, AreRightBelow}
+use Rattle.flat_layout.specs.Layout.{Design}
+use Rattle.flat_layout.specs.Nets.{Own, Child, Tables}
 use Rattle.flat_layout.specs.Plane.{IsIn, IsNear}
 use Rattle.flat_layout.specs.Regions.{Wiring, At}
-use Rattle.geo_base.specs.Motions.{moved_square}
 use Rattle.geo_base.specs.declared.shapes.Rect.{Rect}
 use Rattle.geo_base.specs.declared.shapes.Square.{Square}
-use Rattle.link_classes.specs.Classes.{IsLinked, IsOf, AreInRange}
+use Rattle.link_classes.specs.Classes.{IsLinked, IsOf}
 use Rattle.link_classes.specs.declared.classes.Link.{Link}
 use Rattle.net_link_laws.proofs.Held.{own_held, child_held_at, square_below}
-use Rattle.net_link_laws.proofs.Looking.{near_grown, in_grown}
+use Rattle.net_link_laws.proofs.Looking.{near_grown}
 use Rattle.net_link_laws.specs.Found.{AreOne, IsSquareLink}
 use Rattle.net_link_laws.specs.Places.{owned_before, places_of}
 use Rattle.net_link_laws.specs.Windows.{grown}
@@ -24,7 +22,7 @@ use Rattle.net_walk.proofs.Pairing.{linked_left, linked_right, linked_either}
 use Rattle.net_walk.proofs.Placing.{among_at, at_among, owned_piece, piece_at, pieces_long}
 use Rattle.net_walk.proofs.Spanning.{linked_cut}
 use Rattle.net_walk.proofs.Walking.{owned_step}
-use Rattle.net_walk.specs.Beside.{AddsBeside, AddsPairsBeside, AddsPieceBeside, AreBesideLinks, ArePairsBeside, IsPairBeside, IsSquarePair, counted_from}
+use Rattle.net_walk.specs.Beside.{AddsBeside, AddsPairsBeside, AddsPieceBeside, AreBesideLinks, ArePairsBeside, IsPairBeside, counted_from}
 use Rattle.net_walk.specs.Owned.{IsOwnPiece, owned_pieces}
 use Rattle.net_walk.specs.Pairs.{AreSpanPieces, IsSpanPiece, first_of}
 use Rattle.touching_pieces.specs.Pairs.{AddsTouching, AreInTouch, IsAmong}

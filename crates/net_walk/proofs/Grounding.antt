@@ -6,7 +6,7 @@ use Rattle.std.proofs.lemmas.List.{take_more}
 use Rattle.std.proofs.lemmas.Option.{slice_get_within, slice_get-get_or}
 use Rattle.flat_laws.proofs.Items.{at_placed, is_item as is_an_item, placed_at}
 use Rattle.flat_laws.proofs.Paths.{same_place}
-use Rattle.flat_layout.specs.Layout.{Design, Place, Some_of, IsPlaced}
+use Rattle.flat_layout.specs.Layout.{Design, Place, IsPlaced}
 use Rattle.flat_layout.specs.Nets.{Item, Own, Child, Global, Tables, AreNets, IsItem, IsOf, items_of}
 use Rattle.flat_layout.specs.Regions.{Wiring, IsGrounded}
 use Rattle.link_classes.specs.Classes.{IsLinked, IsOf as IsEnds}
@@ -14,7 +14,7 @@ use Rattle.link_classes.specs.declared.classes.Link.{Link}
 use Rattle.net_link_laws.proofs.Held.{one_net}
 use Rattle.net_link_laws.proofs.Numbering.{one_place, apart_items}
 use Rattle.net_link_laws.proofs.Standing.{own_place, child_place, global_place, items_long}
-use Rattle.net_link_laws.specs.Found.{IsGlobalLink, IsOnGlobal, Stands}
+use Rattle.net_link_laws.specs.Found.{IsOnGlobal, Stands}
 use Rattle.net_link_laws.specs.Places.{owned_before, nets_before, places_of}
 use Rattle.plain_netlist.proofs.Members.{listed}
 use Rattle.net_walk.proofs.Spanning.{linked_cut}

@@ -11,3 +11,7 @@ pub mod Placing
 pub mod Besides
 pub mod Grounding
 pub mod Uniting
+pub mod Numbering
+pub mod Contacting
+pub mod Ordering
+pub mod Results

@@ -1,16 +1,16 @@
 -- All links together, and where items stand.
-use Rattle.std.proofs.Common.{◌≡◌, ◌⊎◌, inl, inr, ℕ, ◌+◌, ◌<◌, ◌≤◌, List, [], ◌∷◌, ◌++◌, Some, slice_get, get_or, length, refl, sym, ◌∙◌, ap, subst, arith}
+use Rattle.std.proofs.Common.{◌≡◌, inl, inr, ℕ, ◌+◌, ◌<◌, List, [], ◌∷◌, ◌++◌, Some, slice_get, length, refl, sym, ◌∙◌, ap, subst, arith}
 use Rattle.std.proofs.Math.Decide.{ℕ_discrete}
 use Rattle.std.proofs.lemmas.Option.{get_or_from_slice_get}
 use Rattle.flat_laws.proofs.Items.{at_placed}
-use Rattle.flat_layout.specs.Layout.{Design, Place}
+use Rattle.flat_layout.specs.Layout.{Design}
 use Rattle.flat_layout.specs.Nets.{Item, Own, Child, Global, Tables, IsItem, items_of}
 use Rattle.flat_layout.specs.Regions.{Wiring}
 use Rattle.link_classes.specs.Classes.{IsLinked}
 use Rattle.link_classes.specs.declared.classes.Link.{Link}
 use Rattle.net_link_laws.proofs.Numbering.{one_place, apart_items}
 use Rattle.net_link_laws.proofs.Standing.{own_place, child_place, global_place}
-use Rattle.net_link_laws.specs.Found.{AreAllFound, AreOne, IsFoundLink, IsGlobalLink, IsSquareLink, Stands}
+use Rattle.net_link_laws.specs.Found.{AreAllFound, AreOne, IsFoundLink, Stands}
 use Rattle.net_link_laws.specs.Places.{owned_before, nets_before, places_of}
 use Rattle.net_walk.proofs.Placing.{get_left, get_right}
 use Rattle.net_walk.specs.Beside.{AddsBeside, IsSquarePair}

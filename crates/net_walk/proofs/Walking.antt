@@ -1,6 +1,7 @@
 -- What a walk has collected, placement after placement.
 use Rattle.std.proofs.Common.{◌≡◌, ◌⊎◌, inl, inr, ℕ, zero, suc, ◌+◌, ◌<◌, ◌≤◌, ◌-◌, List, [], ◌∷◌, Some, slice_get, get_or, length, map, pos, refl, sym, ap, ◌∙◌, subst, arith}
 use Rattle.std.proofs.Math.Decide.{ℕ_discrete}
+use Rattle.std.proofs.lemmas.List.{get_or_default}
 use Rattle.std.proofs.lemmas.Option.{slice_get_within, slice_get-get_or}
 use Rattle.flat_laws.proofs.Items.{placed_at, at_placed, items_sound}
 use Rattle.flat_layout.specs.Layout.{Design, Place, IsPlaced}
@@ -21,26 +22,47 @@ use Rattle.net_link_laws.specs.Places.{owned_before, nets_before, places_of}
 use Rattle.net_link_laws.specs.declared.piece.NetPiece.{NetPiece}
 use Rattle.net_walk.proofs.Adding.{added_none, added_both}
 use Rattle.net_walk.specs.Walk.{place_of, AreInside, AddsPieces, AreClose, AreListed, IsClose, IsCollection, IsOfOwn, IsOfMoved, IsPart, HasNoPart}
+use Rattle.net_walk.specs.Windows.{ArePlacesNear}
 use Rattle.net_walk.specs.declared.cells.Element.{Element}
 
--- an item of the cell itself, or of the first n placements
-abbrev IsFirst : ℕ → Item → Type 0
-IsFirst n (Own c r) = Unit {0}
-IsFirst n (Child k b) = k < n
-IsFirst n (Global g) = ⊥
+-- an item of the cell itself, or of one of these placements
+abbrev IsAmong : (ℕ → Type 0) → Item → Type 0
+IsAmong S (Own c r) = Unit {0}
+IsAmong S (Child k b) = S k
+IsAmong S (Global g) = ⊥
 
 -- a square in the window, held by such an item of the net
-pub record IsSoFar (d : Design) (t : Tables) (cell c : ℕ) (window : Rect) (n x : ℕ) (q : Square) : Type 0 where
+pub record IsSoFar (d : Design) (t : Tables) (cell c : ℕ) (window : Rect) (S : ℕ → Type 0) (x : ℕ) (q : Square) : Type 0 where
   pub within : IsIn q window
   pub item : Item
   pub in_net : IsInNet (t.nets cell) item x
-  pub first : IsFirst n item
+  pub among : IsAmong S item
   pub holds : ItemHolds d t cell item (At c q)
 
-first_more : (n : ℕ) (item : Item) → IsFirst n item → IsFirst (n + 1) item
-first_more n (Own c r) h = tt
-first_more n (Child k b) h = omega arith
-first_more n (Global g) h = h
+-- one placement more
+pub record IsNext (k : ℕ) (S T : ℕ → Type 0) : Type 0 where
+  pub grows : (j : ℕ) → S j → T j
+  pub splits : (j : ℕ) → T j → S j ⊎ (j ≡ k)
+  pub here : T k
+
+among_more : (k : ℕ) (S T : ℕ → Type 0) (item : Item) → IsNext k S T → IsAmong S item → IsAmong T item
+among_more k S T (Own c r) next h = tt
+among_more k S T (Child j b) next h = next.grows j h
+among_more k S T (Global g) next h = h
+
+-- the placements of the first numbers of a list
+abbrev pub IsVisited : List ℕ → ℕ → ℕ → Type 0
+IsVisited near n k = (i : ℕ) × (i < n) × (get_or near i 0 ≡ k)
+
+pub visited_next : (near : List ℕ) (i k : ℕ) → get_or near i 0 ≡ k → IsNext k (IsVisited near i) (IsVisited near (i + 1))
+visited_next near i k e = record {
+  grows = λ j h. (h.0, (let before = h.1 in omega arith), h.2);
+  splits = λ j h. elim (ℕ_discrete h.0 i) [
+    | yes same ↦ inr (sym h.2 ∙ ap (λ n. get_or near n 0) same ∙ e)
+    | no n ↦ inl (h.0, (let before = h.1 in omega arith), h.2)
+  ];
+  here = (i, (let lt : i < i + 1 = omega arith in lt), e);
+}
 
 -- the placements of a list of elements
 abbrev pub no_element : Element
@@ -95,42 +117,42 @@ module _ (d : Design) (w : Wiring) (t : Tables) (cell : ℕ) (nets : AreNets d w
     abbrev OwnPart : ℕ → Square → Type 0
     OwnPart = IsOfOwn window (t.own cell c) (t.nets cell).net_of (owned_before t cell c) (length (t.own cell c))
 
-    own_from : (x : ℕ) (q : Square) → OwnPart x q → IsSoFar d t cell c window 0 x q
-    own_from x q k = record {
+    own_from : (S : ℕ → Type 0) (x : ℕ) (q : Square) → OwnPart x q → IsSoFar d t cell c window S x q
+    own_from S x q k = record {
       within = k.6;
       item = Own c k.0;
       in_net = net_at (owned_before t cell c + k.0) x (Own c k.0) (own_place d w t cell c k.0 known k.1) k.4;
-      first = tt;
+      among = tt;
       holds = own_holds d t cell c k.0 k.2 q k.3 k.5;
     }
 
-    own_to : (x : ℕ) (q : Square) → IsIn q window → (item : Item) → IsInNet (t.nets cell) item x → IsFirst 0 item → ItemHolds d t cell item (At c q) → OwnPart x q
-    own_to x q within (Own e r) net first h =
+    own_to : (S : ℕ → Type 0) → ((k : ℕ) → S k → ⊥) → (x : ℕ) (q : Square) → IsIn q window → (item : Item) → IsInNet (t.nets cell) item x → IsAmong S item → ItemHolds d t cell item (At c q) → OwnPart x q
+    own_to S none x q within (Own e r) net among h =
         let o = own_held d t cell e r c q h in
         let listed : slice_get (t.own cell c) r ≡ Some o.rect = subst (λ i. slice_get (t.own cell i) r ≡ Some o.rect) o.same o.listed in
         let lt = slice_get_within (t.own cell c) r o.rect listed in
         let its : IsInNet (t.nets cell) (Own c r) x = subst (λ i. IsInNet (t.nets cell) (Own i r) x) o.same net in
         (r, lt, o.rect, listed, at_net (owned_before t cell c + r) x (Own c r) (own_place d w t cell c r known lt) its, o.inside, within)
-    own_to x q within (Child k b) net first h = absurd (omega arith)
-    own_to x q within (Global g) net first h = absurd first
+    own_to S none x q within (Child k b) net among h = absurd (none k among)
+    own_to S none x q within (Global g) net among h = absurd among
 
-    pub own_first : (old new : List NetPiece) → AddsPieces window OwnPart old new → AddsPieces window (IsSoFar d t cell c window 0) old new
-    own_first old new h =
-        added_both window OwnPart (λ x q. ⊥) (IsSoFar d t cell c window 0) old new new h (added_none window (λ x q. ⊥) new (λ x q e. e))
-        (λ x q. ((λ k. inl (own_to x q k.within k.item k.in_net k.first k.holds)), (λ k. elim k [ inl a ↦ own_from x q a | inr b ↦ absurd b ])))
+    pub own_first : (S : ℕ → Type 0) → ((k : ℕ) → S k → ⊥) → (old new : List NetPiece) → AddsPieces window OwnPart old new → AddsPieces window (IsSoFar d t cell c window S) old new
+    own_first S none old new h =
+        added_both window OwnPart (λ x q. ⊥) (IsSoFar d t cell c window S) old new new h (added_none window (λ x q. ⊥) new (λ x q e. e))
+        (λ x q. ((λ k. inl (own_to S none x q k.within k.item k.in_net k.among k.holds)), (λ k. elim k [ inl a ↦ own_from S x q a | inr b ↦ absurd b ])))
 
-    so_far_more : (n x : ℕ) (q : Square) → IsSoFar d t cell c window n x q → IsSoFar d t cell c window (n + 1) x q
-    so_far_more n x q h = record { within = h.within; item = h.item; in_net = h.in_net; first = first_more n h.item h.first; holds = h.holds }
+    so_far_more : (k : ℕ) (S T : ℕ → Type 0) → IsNext k S T → (x : ℕ) (q : Square) → IsSoFar d t cell c window S x q → IsSoFar d t cell c window T x q
+    so_far_more k S T next x q h = record { within = h.within; item = h.item; in_net = h.in_net; among = among_more k S T h.item next h.among; holds = h.holds }
 
     -- of the next placement, or of those before
-    so_far_split : (k x : ℕ) (q : Square) → IsIn q window → (item : Item) → IsInNet (t.nets cell) item x → IsFirst (k + 1) item → ItemHolds d t cell item (At c q)
-        → IsSoFar d t cell c window k x q ⊎ ((b : ℕ) × IsInNet (t.nets cell) (Child k b) x × ItemHolds d t cell (Child k b) (At c q))
-    so_far_split k x q within (Own e r) net first h = inl (record { within = within; item = Own e r; in_net = net; first = tt; holds = h })
-    so_far_split k x q within (Child j b) net first h = elim (ℕ_discrete j k) [
-      | yes e ↦ inr (b, subst (λ i. IsInNet (t.nets cell) (Child i b) x) e net, subst (λ i. ItemHolds d t cell (Child i b) (At c q)) e h)
-      | no n ↦ inl (record { within = within; item = Child j b; in_net = net; first = (let lt : j < k = omega arith in lt); holds = h })
+    so_far_split : (k : ℕ) (S T : ℕ → Type 0) → IsNext k S T → (x : ℕ) (q : Square) → IsIn q window → (item : Item) → IsInNet (t.nets cell) item x → IsAmong T item → ItemHolds d t cell item (At c q)
+        → IsSoFar d t cell c window S x q ⊎ ((b : ℕ) × IsInNet (t.nets cell) (Child k b) x × ItemHolds d t cell (Child k b) (At c q))
+    so_far_split k S T next x q within (Own e r) net among h = inl (record { within = within; item = Own e r; in_net = net; among = tt; holds = h })
+    so_far_split k S T next x q within (Child j b) net among h = elim (next.splits j among) [
+      | inl s ↦ inl (record { within = within; item = Child j b; in_net = net; among = s; holds = h })
+      | inr e ↦ inr (b, subst (λ i. IsInNet (t.nets cell) (Child i b) x) e net, subst (λ i. ItemHolds d t cell (Child i b) (At c q)) e h)
     ]
-    so_far_split k x q within (Global g) net first h = absurd first
+    so_far_split k S T next x q within (Global g) net among h = absurd among
 
     module _ (k : ℕ) (p : Place) (there : slice_get (places_of d cell) k ≡ Some p) (nets_too : AreNets d w t p.cell (t.nets p.cell)) where
       abbrev at : ℕ
@@ -147,28 +169,28 @@ module _ (d : Design) (w : Wiring) (t : Tables) (cell : ℕ) (nets : AreNets d w
           let z : owned_before t cell (length w.conductors) + (nets_before t (places_of d cell) k + b) ≡ at + b = omega arith in
           subst (λ i. slice_get (items_of d w t cell) i ≡ Some (Child k b)) z (child_place d w t cell k b p there lt)
 
-      pub child_none : (old new : List NetPiece) → HasNoPart d t p window → AddsPieces window (IsSoFar d t cell c window k) old new → AddsPieces window (IsSoFar d t cell c window (k + 1)) old new
-      child_none old new none h =
-          added_both window (IsSoFar d t cell c window k) (λ x q. ⊥) (IsSoFar d t cell c window (k + 1)) old new new h (added_none window (λ x q. ⊥) new (λ x q e. e))
+      pub child_none : (S T : ℕ → Type 0) → IsNext k S T → (old new : List NetPiece) → HasNoPart d t p window → AddsPieces window (IsSoFar d t cell c window S) old new → AddsPieces window (IsSoFar d t cell c window T) old new
+      child_none S T next old new none h =
+          added_both window (IsSoFar d t cell c window S) (λ x q. ⊥) (IsSoFar d t cell c window T) old new new h (added_none window (λ x q. ⊥) new (λ x q e. e))
           (λ x q. (
-            (λ s. elim (so_far_split k x q s.within s.item s.in_net s.first s.holds) [
+            (λ s. elim (so_far_split k S T next x q s.within s.item s.in_net s.among s.holds) [
               | inl a ↦ inl a
               | inr b ↦
                   let m = square_below d t p b.0 c q (child_held_at d t cell k b.0 p (At c q) placed b.2) in
                   absurd (none c b.0 m.square m.holds (subst (λ (v : Square). IsIn v window) (sym m.image) s.within))
             ]),
-            (λ s. elim s [ inl a ↦ so_far_more k x q a | inr b ↦ absurd b ]),
+            (λ s. elim s [ inl a ↦ so_far_more k S T next x q a | inr b ↦ absurd b ]),
           ))
 
       module _ (inner : Rect) (below : List NetPiece) (part : IsPart d t p window inner) (seen : AreCollected d t p.cell c inner below) where
-        child_from : (x : ℕ) (q : Square) → IsOfMoved p.motion below (t.nets cell).net_of at x q → IsSoFar d t cell c window (k + 1) x q
-        child_from x q h =
+        child_from : (S T : ℕ → Type 0) → IsNext k S T → (x : ℕ) (q : Square) → IsOfMoved p.motion below (t.nets cell).net_of at x q → IsSoFar d t cell c window T x q
+        child_from S T next x q h =
             let held = seen.each h.0 h.1 h.2 in
             record {
               within = subst (λ (v : Square). IsIn v window) h.4 (part.inside h.1 held.0);
               item = Child k h.0;
               in_net = net_at (at + h.0) x (Child k h.0) (child_at h.0 (net_below h.0 h.1 held.1)) h.3;
-              first = (let lt : k < k + 1 = omega arith in lt);
+              among = next.here;
               holds = child_holds d t cell k h.0 p (At c h.1) (At c q) placed held.1 (ap (At c) h.4);
             }
 
@@ -178,12 +200,12 @@ module _ (d : Design) (w : Wiring) (t : Tables) (cell : ℕ) (nets : AreNets d w
             let image : IsIn (moved_square p.motion m.square) window = subst (λ (v : Square). IsIn v window) (sym m.image) within in
             (b, m.square, seen.found b m.square (part.all c b m.square m.holds image) m.holds, at_net (at + b) x (Child k b) (child_at b (net_below b m.square m.holds)) net, m.image)
 
-        pub child_more : (old mid new : List NetPiece) → AddsPieces window (IsSoFar d t cell c window k) old mid → AddsPieces window (IsOfMoved p.motion below (t.nets cell).net_of at) mid new → AddsPieces window (IsSoFar d t cell c window (k + 1)) old new
-        child_more old mid new h g =
-            added_both window (IsSoFar d t cell c window k) (IsOfMoved p.motion below (t.nets cell).net_of at) (IsSoFar d t cell c window (k + 1)) old mid new h g
+        pub child_more : (S T : ℕ → Type 0) → IsNext k S T → (old mid new : List NetPiece) → AddsPieces window (IsSoFar d t cell c window S) old mid → AddsPieces window (IsOfMoved p.motion below (t.nets cell).net_of at) mid new → AddsPieces window (IsSoFar d t cell c window T) old new
+        child_more S T next old mid new h g =
+            added_both window (IsSoFar d t cell c window S) (IsOfMoved p.motion below (t.nets cell).net_of at) (IsSoFar d t cell c window T) old mid new h g
             (λ x q. (
-              (λ s. elim (so_far_split k x q s.within s.item s.in_net s.first s.holds) [ inl a ↦ inl a | inr b ↦ inr (child_to x q b.0 s.within b.1 b.2) ]),
-              (λ s. elim s [ inl a ↦ so_far_more k x q a | inr b ↦ child_from x q b ]),
+              (λ s. elim (so_far_split k S T next x q s.within s.item s.in_net s.among s.holds) [ inl a ↦ inl a | inr b ↦ inr (child_to x q b.0 s.within b.1 b.2) ]),
+              (λ s. elim s [ inl a ↦ so_far_more k S T next x q a | inr b ↦ child_from S T next x q b ]),
             ))
 
         listed : (ps : List NetPiece) → ((x : ℕ) (q : Square) → IsOver ps x q → IsOver below x q) → AreInside inner ps → AreListed (length (t.nets cell).net_of) at ps
@@ -203,23 +225,30 @@ module _ (d : Design) (w : Wiring) (t : Tables) (cell : ℕ) (nets : AreNets d w
 
     -- all placements
 
-    all_first : (x : ℕ) (item : Item) → IsInNet (t.nets cell) item x → (q : Square) → ItemHolds d t cell item (At c q) → IsFirst (length (places_of d cell)) item
-    all_first x (Own e r) net q h = tt
-    all_first x (Child k b) net q h =
+    all_among : (near : List ℕ) → ArePlacesNear d t cell window near → (x : ℕ) (item : Item) → IsInNet (t.nets cell) item x → (q : Square) → IsIn q window → ItemHolds d t cell item (At c q)
+        → IsAmong (IsVisited near (length near)) item
+    all_among near are x (Own e r) net q within h = tt
+    all_among near are x (Child k b) net q within h =
         let is = items_sound d w t cell (t.nets cell) nets net.0 (Child k b) net.1.listed in
-        slice_get_within (places_of d cell) k is.0 (at_placed d cell k is.0 is.1)
-    all_first x (Global g) net q h = absurd (no_square d t cell g c q h)
+        let there = at_placed d cell k is.0 is.1 in
+        elim (are.all k is.0 there) [
+          | inl none ↦
+              let m = square_below d t is.0 b c q (child_held_at d t cell k b is.0 (At c q) is.1 h) in
+              absurd (none c b m.square m.holds (subst (λ (v : Square). IsIn v window) (sym m.image) within))
+          | inr at ↦ (at.0, at.1, get_or_default near at.0 0 k at.1 ∙ at.2)
+        ]
+    all_among near are x (Global g) net q within h = absurd (no_square d t cell g c q h)
 
-    pub all_collected : (n : ℕ) (out : List NetPiece) → n ≡ length (places_of d cell) → AddsPieces window (IsSoFar d t cell c window n) [] out → IsCollection d t cell c window out
-    all_collected n out e h = record {
+    pub all_collected : (near : List ℕ) (n : ℕ) (out : List NetPiece) → ArePlacesNear d t cell window near → n ≡ length near → AddsPieces window (IsSoFar d t cell c window (IsVisited near n)) [] out → IsCollection d t cell c window out
+    all_collected near n out are e h = record {
       collected = record {
         each = λ x q o. elim ((h.over x q).0 o) [
           | inl a ↦ absurd a
           | inr s ↦ (s.within, record { index = s.in_net.0; item = s.item; is_of = s.in_net.1; holds = s.holds })
         ];
         found = λ x q within net.
-            let first = all_first x net.item (net.index, net.is_of) q net.holds in
-            (h.over x q).1 (inr (record { within = within; item = net.item; in_net = (net.index, net.is_of); first = subst (λ i. IsFirst i net.item) (sym e) first; holds = net.holds }));
+            let among = all_among near are x net.item (net.index, net.is_of) q within net.holds in
+            (h.over x q).1 (inr (record { within = within; item = net.item; in_net = (net.index, net.is_of); among = subst (λ i. IsAmong (IsVisited near i) net.item) (sym e) among; holds = net.holds }));
       };
       inside = h.inside tt;
     }

@@ -6,3 +6,6 @@ pub mod Owned
 pub mod Beside
 pub mod Globals
 pub mod Together
+pub mod Windows
+pub mod Alike
+pub mod Contacts

@@ -74,7 +74,12 @@ pub record AddsPieces (window : Rect) (R : ℕ → Square → Type 0)
 abbrev pub IsClipped : Rect → ℕ → Rect → ℕ → Square → Type 0
 IsClipped window net rect x q = (net ≡ x) × IsIn q rect × IsIn q window
 
--- of the first n rectangles; their nets stand in a list from a place on
+-- of the rectangle at a position; the nets of all stand in a list from a place on
+abbrev pub IsOfOwnAt : Rect → List Rect → List ℕ → ℕ → ℕ → ℕ → Square → Type 0
+IsOfOwnAt window own net_of at r x q = (rect : Rect) × (slice_get own r ≡ Some rect)
+    × (slice_get net_of (at + r) ≡ Some x) × IsIn q rect × IsIn q window
+
+-- of the first n rectangles
 abbrev pub IsOfOwn : Rect → List Rect → List ℕ → ℕ → ℕ → ℕ → Square → Type 0
 IsOfOwn window own net_of at n x q = (r : ℕ) × (r < n) × (rect : Rect)
     × (slice_get own r ≡ Some rect) × (slice_get net_of (at + r) ≡ Some x) × IsIn q rect

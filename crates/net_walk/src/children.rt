@@ -1,9 +1,10 @@
 // Links between the nets of two placements.
-ghost use Rattle.std.specs.Prelude.{◌≡◌, ◌+◌, ◌<◌, ◌≤◌, ◌↔◌, length, get_or, ℕ, Some, OnOk, IfOk};
-ghost use Rattle.std.specs.Prelude.{IfSome, IfNone, slice_get};
+ghost use Rattle.std.specs.Prelude.{◌≡◌, ◌<◌, ◌≤◌, ◌↔◌, length, get_or, ℕ, OnOk, IfOk};
+ghost use Rattle.std.specs.Prelude.{IfSome, IfNone};
 ghost use Rattle.flat_layout.specs.Nets.{AreRightBelow, items_of};
 ghost use Rattle.flat_layout.specs.Regions.{IsJoined};
 ghost use Rattle.net_link_laws.specs.Places.{places_of};
+ghost use Rattle.net_walk.specs.Contacts.{IsBeside};
 ghost use Rattle.net_walk.specs.Pairs.{AddsChildren, AddsPair, AddsPairs, AddsSpan, AreSpanPieces};
 ghost use Rattle.net_walk.specs.Pairs.{IsWindowFor, AreNeverNear, first_of};
 ghost use Rattle.net_walk.specs.Walk.{IsClose, place_of};
@@ -11,15 +12,16 @@ ghost use Rattle.link_classes.specs.Classes.{AreInRange};
 ghost use Rattle.touching_pieces.specs.Pairs.{AreJoined};
 
 use crate::cells::{Cells, Element};
+use crate::contacts::{Beside, beside_of, replay};
+use crate::lyings::alike_together;
 use crate::rects::{common, grown, is_rect};
-use crate::seen::pair_links;
 use geo_base::Rect;
 use link_classes::Link;
 use std::alloc::{AllocError, Global};
 use touching_pieces::{Joined, Piece, touching_pairs};
 
 // Where squares of the two may be near each other.
-fn window_of<C: Cells>(cells: &C, one: &Element, other: &Element) -> Option<Rect>
+pub(crate) fn window_of<C: Cells>(cells: &C, one: &Element, other: &Element) -> Option<Rect>
     requires close { IsClose one.now.motion }
     requires close_too { IsClose other.now.motion }
     ensures some { IfSome result (IsWindowFor (C.design cells.now) (C.tables cells.now)
@@ -39,50 +41,6 @@ fn window_of<C: Cells>(cells: &C, one: &Element, other: &Element) -> Option<Rect
                 None
             }
         },
-    }
-}
-
-/// Adds the links between the nets of two placements of a cell.
-pub fn link_pair<C: Cells>(
-    alloc: Global,
-    cells: &C,
-    cell: u32,
-    k: u32,
-    one: &Element,
-    at: u32,
-    l: u32,
-    other: &Element,
-    other_at: u32,
-    joins: &[Joined],
-    out: &mut Vec<Link>,
-) -> Result<(), AllocError>
-    requires right { AreRightBelow (C.design cells.now) (C.wiring cells.now) (C.tables cells.now)
-        cell }
-    requires placed { slice_get (places_of (C.design cells.now) cell) k ≡ Some (place_of one.now) }
-    requires placed_too { slice_get (places_of (C.design cells.now) cell) l
-        ≡ Some (place_of other.now) }
-    requires motion { IsClose one.now.motion }
-    requires motion_too { IsClose other.now.motion }
-    requires at { at ≡ first_of (C.design cells.now) (C.wiring cells.now) (C.tables cells.now) cell
-        k }
-    requires other_at { other_at ≡ first_of (C.design cells.now) (C.wiring cells.now)
-        (C.tables cells.now) cell l }
-    requires room { at + ((C.tables cells.now).nets one.now.cell).count ≤ 4294967296 }
-    requires room_too { other_at + ((C.tables cells.now).nets other.now.cell).count ≤ 4294967296 }
-    requires joins { (c e : ℕ) → AreJoined joins.now c e ↔ IsJoined (C.wiring cells.now) c e }
-    ensures { OnOk result (AddsPair (C.design cells.now) (C.wiring cells.now) (C.tables cells.now)
-        cell k l out.old.items out.new.items) }
-{
-    let _ = k;
-    let _ = l;
-    let _ = cell;
-    match window_of(cells, one, other) {
-        None => Ok(()),
-        Some(window) => {
-            let links = pair_links(alloc, cells, one, at, other, other_at, &window, joins)?;
-            out.extend_from_slice(&links)?;
-            Ok(())
-        }
     }
 }
 
@@ -127,7 +85,8 @@ pub(crate) fn span_pieces<C: Cells>(
     Ok(out)
 }
 
-// Adds the links of a pair of placements, by their numbers.
+// Adds the links of a pair of placements, by contacts that are known, if the two lie so, else by
+// those that a search finds. Hands these on.
 fn link_numbers<C: Cells>(
     alloc: Global,
     cells: &C,
@@ -135,8 +94,9 @@ fn link_numbers<C: Cells>(
     pair: &Link,
     firsts: &[u32],
     joins: &[Joined],
+    known: Option<Beside>,
     out: &mut Vec<Link>,
-) -> Result<(), AllocError>
+) -> Result<Beside, AllocError>
     requires one { pair.now.one < length (places_of (C.design cells.now) cell) }
     requires other { pair.now.other < length (places_of (C.design cells.now) cell) }
     requires right { AreRightBelow (C.design cells.now) (C.wiring cells.now) (C.tables cells.now)
@@ -148,27 +108,22 @@ fn link_numbers<C: Cells>(
     requires room { length (items_of (C.design cells.now) (C.wiring cells.now) (C.tables cells.now)
         cell) ≤ 4294967296 }
     requires joins { (c e : ℕ) → AreJoined joins.now c e ↔ IsJoined (C.wiring cells.now) c e }
-    ensures { OnOk result (AddsPair (C.design cells.now) (C.wiring cells.now) (C.tables cells.now)
-        cell pair.now.one pair.now.other out.old.items out.new.items) }
+    requires known { IfSome known (IsBeside (C.design cells.now) (C.wiring cells.now)
+        (C.tables cells.now)) }
+    ensures is { IfOk result (IsBeside (C.design cells.now) (C.wiring cells.now)
+        (C.tables cells.now)) }
+    ensures links { OnOk result (AddsPair (C.design cells.now) (C.wiring cells.now)
+        (C.tables cells.now) cell pair.now.one pair.now.other out.old.items out.new.items) }
 {
     let elements = cells.places(cell);
     let k = pair.one as usize;
     let l = pair.other as usize;
-    link_pair(
-        alloc,
-        cells,
-        cell,
-        pair.one,
-        &elements[k],
-        firsts[k],
-        pair.other,
-        &elements[l],
-        firsts[l],
-        joins,
-        out,
-    )
+    let beside = beside_of(alloc, cells, known, &elements[k], &elements[l], joins)?;
+    replay(&beside.contacts, firsts[k], firsts[l], out)?;
+    Ok(beside)
 }
 
+// Adds the links of pairs of placements. A pair that lies as the one before has its contacts.
 fn link_pairs<C: Cells>(
     alloc: Global,
     cells: &C,
@@ -191,13 +146,17 @@ fn link_pairs<C: Cells>(
     ensures { OnOk result (AddsPairs (C.design cells.now) (C.wiring cells.now) (C.tables cells.now)
         cell pairs.now out.old.items out.new.items) }
 {
+    let mut known = None;
     for pair in pairs {
-        link_numbers(alloc, cells, cell, pair, firsts, joins, out)?;
+        let beside = link_numbers(alloc, cells, cell, pair, firsts, joins, known, out)?;
+        known = Some(beside);
     }
     Ok(())
 }
 
-/// Adds the links between the nets of any two placements of a cell.
+/// Adds the links between the nets of any two placements of a cell. Cost: O(n log n) for n
+/// placements and pairs of placements whose hulls meet or touch, two walks a conductor through what
+/// both hold for each way in which two placed cells lie beside each other, and the links.
 pub fn children_links<C: Cells>(
     alloc: Global,
     cells: &C,
@@ -219,8 +178,9 @@ pub fn children_links<C: Cells>(
         (C.tables cells.now) cell out.old.items out.new.items) }
 {
     let spans = span_pieces(alloc, cells, cell)?;
-    let mut pairs = Vec::new(alloc);
-    touching_pairs(alloc, &spans, &spans, &mut pairs)?;
+    let mut touching = Vec::new(alloc);
+    touching_pairs(alloc, &spans, &spans, &mut touching)?;
+    let pairs = alike_together(alloc, cells.places(cell), &touching)?;
     link_pairs(alloc, cells, cell, &pairs, firsts, joins, out)?;
     Ok(())
 }

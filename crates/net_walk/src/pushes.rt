@@ -1,11 +1,12 @@
 // Pieces that are added to a list.
-ghost use Rattle.std.specs.Prelude.{◌≡◌, ◌+◌, ◌≤◌, OnOk, length, ◌∷◌, []};
+ghost use Rattle.std.specs.Prelude.{◌≡◌, ◌+◌, ◌<◌, ◌≤◌, OnOk, length, ◌∷◌, []};
 ghost use Rattle.flat_layout.specs.Plane.{IsIn};
 ghost use Rattle.geo_base.specs.Motions.{moved_square};
 ghost use Rattle.geo_base.specs.Near.{IsNearRect, IsNearMotion};
 ghost use Rattle.geo_base.specs.declared.shapes.Square.{Square};
 ghost use Rattle.net_walk.specs.Walk.{AddsPieces, AreInside, AreListed, IsClipped, IsInside};
-ghost use Rattle.net_walk.specs.Walk.{IsOfMoved, IsOfOwn};
+ghost use Rattle.net_walk.specs.Walk.{IsOfMoved, IsOfOwn, IsOfOwnAt};
+ghost use Rattle.net_walk.specs.Windows.{AreOwnNear};
 
 use crate::rects::{common, is_rect};
 use geo_base::{Motion, Rect};
@@ -30,20 +31,42 @@ fn push_clipped(
     Ok(())
 }
 
-/// The parts of a cell's own rectangles in the window; their nets stand in a list from a place on.
-pub fn push_own(
+// The part of the rectangle at a position in the window.
+fn push_at(
     own: &[Rect],
+    r: u32,
     net_of: &[u32],
     at: usize,
     window: &Rect,
     out: &mut Vec<NetPiece>,
 ) -> Result<(), AllocError>
-    requires { at + length own.now ≤ length net_of.now }
+    requires inside { r < length own.now }
+    requires fits { at + length own.now ≤ length net_of.now }
+    ensures { OnOk result (AddsPieces window.now (IsOfOwnAt window.now own.now net_of.now at r)
+        out.old.items out.new.items) }
+{
+    let r = r as usize;
+    push_clipped(&own[r], net_of[at + r], window, out)?;
+    Ok(())
+}
+
+/// The parts of a cell's own rectangles in the window, by positions that hold all that reach into
+/// it; their nets stand in a list from a place on.
+pub fn push_own(
+    own: &[Rect],
+    near: &[u32],
+    net_of: &[u32],
+    at: usize,
+    window: &Rect,
+    out: &mut Vec<NetPiece>,
+) -> Result<(), AllocError>
+    requires near { AreOwnNear own.now window.now near.now }
+    requires fits { at + length own.now ≤ length net_of.now }
     ensures { OnOk result (AddsPieces window.now
         (IsOfOwn window.now own.now net_of.now at (length own.now)) out.old.items out.new.items) }
 {
-    for r in 0..own.len() {
-        push_clipped(&own[r], net_of[at + r], window, out)?;
+    for r in near {
+        push_at(own, *r, net_of, at, window, out)?;
     }
     Ok(())
 }

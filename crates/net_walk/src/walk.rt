@@ -60,7 +60,9 @@ pub(crate) fn owned_before<C: Cells>(cells: &C, cell: u32, conductors: u32) -> u
     at
 }
 
-/// The cell's nets over the squares of a conductor in the window.
+/// The cell's nets over the squares of a conductor in the window. Cost: what the cells tell of
+/// rectangles and placements in the window, with the rectangles' lists of the conductors for each
+/// cell that is entered.
 pub fn collect_nets<C: Cells>(
     alloc: Global,
     cells: &C,
@@ -79,13 +81,24 @@ pub fn collect_nets<C: Cells>(
     let mut out = Vec::new(alloc);
     let net_of = cells.net_of(cell);
     let first = owned_before(cells, cell, conductor);
-    push_own(cells.own(cell, conductor), net_of, first, window, &mut out)?;
-    let mut at = owned_before(cells, cell, cells.conductors());
-    for element in cells.places(cell) {
+    let own = cells.own_near(alloc, cell, conductor, window)?;
+    push_own(
+        cells.own(cell, conductor),
+        &own,
+        net_of,
+        first,
+        window,
+        &mut out,
+    )?;
+    let near = cells.places_near(alloc, cell, window)?;
+    let elements = cells.places(cell);
+    for number in &near {
+        let element = &elements[*number as usize];
         match part_of(cells, element, window) {
             None => {}
             Some(inner) => {
                 let below = collect_nets(alloc, cells, element.cell, conductor, &inner)?;
+                let at = cells.first_place(cell, *number);
                 push_moved(
                     &below,
                     &element.motion,
@@ -97,7 +110,6 @@ pub fn collect_nets<C: Cells>(
                 )?;
             }
         }
-        at += cells.count(element.cell) as usize;
     }
     Ok(out)
 }

@@ -9,6 +9,7 @@ use Rattle.rule_text.specs.Seen.{rules_seen}
 use Rattle.rule_text.specs.declared.rules.RuleSet.{RuleSet}
 use Rattle.net_phase.specs.Below.{BelowSeen, tables_seen}
 use Rattle.net_phase.specs.Elements.{AreAllElements, element_lists}
+use Rattle.net_phase.specs.Indexes.{AreIndexes}
 use Rattle.net_phase.specs.Own.{AreOwnLists, rect_lists}
 use Rattle.net_phase.specs.Reading.{nets_of}
 use Rattle.zone_phase.specs.Graph.{AreParentJobs}
@@ -41,6 +42,8 @@ pub record IsPinPhase (a : Inside) : Type 0 where
   pub few : length a.globals.items < 2 ^ 32
   pub elements : AreAllElements a.design.now (element_lists a.elements.items)
   pub own : AreOwnLists a.design.now (rules_seen a.rules.now) (rect_lists a.own.items)
+  pub indexes : AreIndexes a.design.now (rect_lists a.own.items) (element_lists a.elements.items)
+      a.indexes
   pub nets : AreRightNets (plain a.design.now) (wiring_of (rules_seen a.rules.now))
       (tables_seen (read_by a))
   pub gates : ℕ → List GateEntry

@@ -15,7 +15,7 @@ use cell_graph::Design;
 use deep_tables::{CellNets, CellPins, DeepKey, Gates, Layers, Nets};
 use geo_base::Rect;
 use job_graph::{Graph, Phase, Reads};
-use net_phase::{Below, all_elements, find_wires, known_nets, own_lists};
+use net_phase::{Below, Indexes, all_elements, find_indexes, find_wires, known_nets, own_lists};
 use net_walk::Element;
 use rule_text::RuleSet;
 use std::alloc::{AllocError, Global};
@@ -35,6 +35,7 @@ pub struct PinPhase<'a> {
     globals: Vec<Vec<u8>>,
     own: Vec<Vec<&'a [Rect]>>,
     elements: Vec<Vec<Element>>,
+    indexes: Indexes,
     nets: Vec<Option<&'a CellNets>>,
     links: Vec<Vec<Link>>,
     graph: Graph,
@@ -53,7 +54,8 @@ impl<'a> Model for PinPhase<'a> {
 impl<'a> PinPhase<'a> {
     /// The phase of a layout and of its layers, nets and gates for these rules. 2^32 names, globals
     /// or placements of a cell, or more, are refused. Linear in the placements, in the items and
-    /// gates of all cells, and in the names for each reached cell.
+    /// gates of all cells, and in the names for each reached cell, beside the indexes of rectangles
+    /// and placements.
     pub fn new(
         alloc: Global,
         design: &'a Design,
@@ -78,8 +80,17 @@ impl<'a> PinPhase<'a> {
         let globals = global_names(alloc, rules)?;
         let own = own_lists(alloc, design, rules, layers)?;
         let elements = all_elements(alloc, design)?;
+        let indexes = find_indexes(alloc, design, &own, &elements)?;
         let known = known_nets(alloc, design, nets)?;
-        let cells = Below::new(design, rules, wires.conductors, &own, &elements, &known);
+        let cells = Below::new(
+            design,
+            rules,
+            wires.conductors,
+            &own,
+            &elements,
+            &indexes,
+            &known,
+        );
         let links = find_links(alloc, &cells, design, nets, gates)?;
         let uses = find_uses(alloc, design)?;
         let graph = parent_graph(alloc, design, &uses)?;
@@ -91,6 +102,7 @@ impl<'a> PinPhase<'a> {
             globals,
             own,
             elements,
+            indexes,
             nets: known,
             links,
             graph,
@@ -135,6 +147,7 @@ impl Phase for PinPhase<'_> {
             self.conductors,
             &self.own,
             &self.elements,
+            &self.indexes,
             &self.nets,
         );
         let texts = design.texts(cell);

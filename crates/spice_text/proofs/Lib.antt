@@ -6,6 +6,7 @@ pub mod WriteLemmas
 pub mod NormalLemmas
 pub mod SoundLemmas
 pub mod PinLemmas
+pub mod NumberLemmas
 pub mod WordLemmas
 pub mod ReadLemmas
 pub mod RowLemmas

@@ -15,7 +15,7 @@ use Rattle.text_table.specs.Texts.{has_text, with_text}
 use Rattle.spice_text.specs.Gather.{Circuit}
 use Rattle.spice_text.specs.Circuits.{call_lists, called_in, names_of}
 use Rattle.spice_text.specs.Needs.{first_seen, device_nets, call_nets, used_nets, is_pin, is_used, pin_in, used_in, Passes, Needs}
-use Rattle.spice_text.specs.Table.{bools, seen_in_calls, bit, needed_below, needs_it, row_from, need_row, IsRowSet, needs_at, AreSettled, IsNeedTable}
+use Rattle.spice_text.specs.Table.{has_number, has_need, needed_below, IsRow, IsNeedRow, IsRowSet, needs_at, AreSettled, IsNeedTable}
 use Rattle.spice_text.specs.declared.gather.CircuitCards.{CircuitCards}
 use Rattle.spice_text.specs.Seen.{circuit_seen}
 use Rattle.spice_text.proofs.SearchLemmas.{either}
@@ -30,13 +30,6 @@ seen_append seen (n ∷ ns) ms = seen_append (with_text seen n) ns ms
 or_false : (b : Bool) → b ≡ (b || (false || false))
 or_false true = refl
 or_false false = refl
-
-seen_calls : (seen : List (List ℕ)) (rs : List CallCard) → seen_in_calls seen rs ≡ first_seen seen (flat_map call_nets rs)
-seen_calls seen [] = refl
-seen_calls seen (r ∷ rs) = seen_calls (first_seen seen r.nets) rs ∙ sym (seen_append seen r.nets (flat_map call_nets rs))
-
-pub seen_used : (c : Circuit) → seen_in_calls (first_seen [] (flat_map device_nets c.devices)) c.calls ≡ first_seen [] (used_nets c)
-seen_used c = seen_calls (first_seen [] (flat_map device_nets c.devices)) c.calls ∙ sym (seen_append [] (flat_map device_nets c.devices) (flat_map call_nets c.calls))
 
 more_has : (seen : List (List ℕ)) (n g : List ℕ) → has_text (with_text seen n) g ≡ (has_text seen g || (bytes_eq g n || false))
 more_has seen n g = elim (either (has_text seen n)) [
@@ -104,14 +97,14 @@ last_or [] x y (inr h) = absurd h
 last_or (z ∷ zs) x y (inl e) = inl (inl e)
 last_or (z ∷ zs) x y (inr h) = elim (last_or zs x y h) [ inl l ↦ inl (inr l) | inr e ↦ inr e ]
 
-listed_any : {A : Type 0} (p : A → Bool) (xs : List A) → list_any p xs ≡ true → (x : A) × IsListed x xs × (p x ≡ true)
+pub listed_any : {A : Type 0} (p : A → Bool) (xs : List A) → list_any p xs ≡ true → (x : A) × IsListed x xs × (p x ≡ true)
 listed_any p [] t = let z : ⊥ = cc in absurd z
 listed_any p (y ∷ ys) t = elim (either (p y)) [
   | inl h ↦ (y, inl refl, h)
   | inr f ↦ let e : (p y || list_any p ys) ≡ true = t in let r = listed_any p ys (sym (ap (λ (b : Bool). b || list_any p ys) f) ∙ e) in (r.0, inr r.1, r.2)
 ]
 
-any_listed : {A : Type 0} (p : A → Bool) (xs : List A) (x : A) → IsListed x xs → p x ≡ true → list_any p xs ≡ true
+pub any_listed : {A : Type 0} (p : A → Bool) (xs : List A) (x : A) → IsListed x xs → p x ≡ true → list_any p xs ≡ true
 any_listed p [] x h t = absurd h
 any_listed {A = A} p (y ∷ ys) x (inl e) t = let h : p y ≡ true = subst (λ (z : A). p z ≡ true) e t in rw h refl
 any_listed p (y ∷ ys) x (inr l) t = let r = any_listed p ys x l t in elim (either (p y)) [ inl h ↦ rw h refl | inr f ↦ rw f r ]
@@ -132,39 +125,32 @@ row_is [] k r l e = absurd (omega arith)
 row_is (x ∷ xs) zero r l e = ap (λ (z : Vec ℕ). z.items) e
 row_is (x ∷ xs) (suc k) r l e = row_is xs k r (omega arith) e
 
-pub row_set : (circuits : List CircuitCards) (calls : List (Vec ℕ)) (globals : List (List ℕ)) (rows rows_now : List (Vec Bool)) (k : ℕ) (c : CircuitCards) (called : Vec ℕ) (row : Vec Bool) (called_now : List ℕ)
+pub row_set : (circuits : List CircuitCards) (calls : List (Vec ℕ)) (globals : List (List ℕ)) (rows rows_now : List (Vec ℕ)) (k : ℕ) (c : CircuitCards) (called : Vec ℕ) (made : Vec ℕ) (called_now : List ℕ)
     → k < length circuits → k < length calls → c ≡ get_or circuits k c → called ≡ get_or calls k called → called_now ≡ called.items → rows_now ≡ rows
-    → row.items ≡ need_row (circuit_seen c) called_now (bools rows_now) globals
-    → IsRowSet (map circuit_seen circuits) (lists calls) globals (bools rows) (bools (set rows k row)) k
-row_set circuits calls globals rows rows_now k c called row called_now lc ll ec el en er e = record {
+    → IsNeedRow (circuit_seen c) called_now (lists rows_now) globals made.items
+    → IsRowSet (map circuit_seen circuits) (lists calls) globals (lists rows) (lists (set rows k made)) k
+row_set circuits calls globals rows rows_now k c called made called_now lc ll ec el en er is = record {
   circuit = circuit_seen c;
   there = got_lt circuits k c lc ec;
-  is_set = map-set (λ (r : Vec Bool). r.items) rows k row ∙ ap (λ (x : List Bool). set (bools rows) k x)
-      (e ∙ ap (λ (xs : List ℕ). need_row (circuit_seen c) xs (bools rows_now) globals) (en ∙ row_is calls k called ll el)
-      ∙ ap (λ (rs : List (Vec Bool)). need_row (circuit_seen c) (slice_index_or (lists calls) k []) (bools rs) globals) er);
+  row = made.items;
+  is_row = subst (λ (xs : List ℕ). IsNeedRow (circuit_seen c) xs (lists rows) globals made.items) (en ∙ row_is calls k called ll el)
+      (subst (λ (rs : List (Vec ℕ)). IsNeedRow (circuit_seen c) called_now (lists rs) globals made.items) er is);
+  is_set = map-set (λ (r : Vec ℕ). r.items) rows k made;
 }
 
-bit_other : (rows : List (List Bool)) (k : ℕ) (row : List Bool) (b j : ℕ) → b ≢ k → bit (set rows k row) b j ≡ bit rows b j
-bit_other rows k row b j ne = ap (λ (r : List Bool). slice_index_or r j false) (get_or-set_other rows k b row [] ne)
+row_other : (rows : List (List ℕ)) (k : ℕ) (row : List ℕ) (b : ℕ) → b ≢ k → slice_index_or (set rows k row) b [] ≡ slice_index_or rows b []
+row_other rows k row b ne = get_or-set_other rows k b row [] ne
 
-bit_same : (rows : List (List Bool)) (k : ℕ) (row : List Bool) (j : ℕ) → k < length rows → bit (set rows k row) k j ≡ slice_index_or row j false
-bit_same rows k row j l = ap (λ (r : List Bool). slice_index_or r j false) (get_or-set_same rows k row [] l)
-
-row_bit : (pins used : List (List ℕ)) (called : List ℕ) (rows : List (List Bool)) (n i : ℕ) (gs : List (List ℕ)) (g : List ℕ) → slice_get gs i ≡ Some g
-    → slice_index_or (row_from pins used called rows n gs) i false ≡ needs_it pins used called rows g (n + i)
-row_bit pins used called rows n i [] g e = let z : ⊥ = cc in absurd z
-row_bit pins used called rows n zero (x ∷ xs) g e = let s : x ≡ g = cc in ap (λ (y : List ℕ). needs_it pins used called rows y n) s ∙ ap (λ (m : ℕ). needs_it pins used called rows g m) (let q : n ≡ n + 0 = omega arith in q)
-row_bit pins used called rows n (suc i) (x ∷ xs) g e =
-    row_bit pins used called rows (n + 1) i xs g e ∙ ap (λ (m : ℕ). needs_it pins used called rows g m) (let q : (n + 1) + i ≡ n + suc i = omega arith in q)
+row_same : (rows : List (List ℕ)) (k : ℕ) (row : List ℕ) → k < length rows → slice_index_or (set rows k row) k [] ≡ row
+row_same rows k row l = get_or-set_same rows k row [] l
 
 -- what a row says is what its circuit's cards and the rows before it settle
-row_says : (cs : List Circuit) (globals : List (List ℕ)) (rows : List (List Bool)) (k : ℕ) (c : Circuit) (j : ℕ) (g : List ℕ) → slice_get cs k ≡ Some c → slice_get globals j ≡ Some g
-    → slice_index_or (need_row c (slice_index_or (call_lists cs) k []) rows globals) j false ≡ needs_at cs rows g j k
-row_says cs globals rows k c j g at is =
-    row_bit (first_seen [] c.pins) (first_seen [] (used_nets c)) (slice_index_or (call_lists cs) k []) rows 0 j globals g is
-    ∙ ap (λ (m : ℕ). needs_it (first_seen [] c.pins) (first_seen [] (used_nets c)) (slice_index_or (call_lists cs) k []) rows g m) (let q : 0 + j ≡ j = omega arith in q)
-    ∙ ap (λ (p : Bool). not p && (has_text (first_seen [] (used_nets c)) g || needed_below rows (slice_index_or (call_lists cs) k []) j)) (all_has c.pins g ∙ ap (λ (o : Option Circuit). pin_in g o) (sym at))
-    ∙ ap (λ (u : Bool). not (is_pin cs g k) && (u || needed_below rows (slice_index_or (call_lists cs) k []) j)) (all_has (used_nets c) g ∙ ap (λ (o : Option Circuit). used_in g o) (sym at))
+row_says : (cs : List Circuit) (globals : List (List ℕ)) (rows : List (List ℕ)) (k : ℕ) (c : Circuit) (row : List ℕ) (j : ℕ) (g : List ℕ) → slice_get cs k ≡ Some c → slice_get globals j ≡ Some g
+    → IsNeedRow c (slice_index_or (call_lists cs) k []) rows globals row → has_number row j ≡ needs_at cs rows g j k
+row_says cs globals rows k c row j g at is h =
+    h.says j g is
+    ∙ ap (λ (o : Option Circuit). not (pin_in g o) && (has_text (used_nets c) g || needed_below rows (slice_index_or (call_lists cs) k []) j)) (sym at)
+    ∙ ap (λ (o : Option Circuit). not (is_pin cs g k) && (used_in g o || needed_below rows (slice_index_or (call_lists cs) k []) j)) (sym at)
 
 pub order_lt : (cs : List Circuit) (order : List ℕ) (i k : ℕ) → IsCallOrder (call_lists cs) order → i < length order → k ≡ slice_index_or order i 0 → k < length cs
 order_lt cs order i k o l e =
@@ -172,49 +158,58 @@ order_lt cs order i k o l e =
     let n = length-map cs (λ (c : Circuit). map (called_in (names_of cs)) c.calls) in
     omega arith
 
-pub settled_more : (cs : List Circuit) (calls : List (List ℕ)) (globals : List (List ℕ)) (order : List ℕ) (i k : ℕ) (old new : List (List Bool)) → calls ≡ call_lists cs → IsCallOrder (call_lists cs) order
+pub settled_more : (cs : List Circuit) (calls : List (List ℕ)) (globals : List (List ℕ)) (order : List ℕ) (i k : ℕ) (old new : List (List ℕ)) → calls ≡ call_lists cs → IsCallOrder (call_lists cs) order
     → i < length order → k ≡ slice_index_or order i 0 → AreSettled cs globals (take i order) old → IsRowSet cs calls globals old new k → AreSettled cs globals (take (i + 1) order) new
 settled_more cs calls globals order i k old new ec o l ek s r = record {
-  count = ap (λ (xs : List (List Bool)). length xs) made ∙ length-set old k row ∙ s.count;
-  each = λ b j g h is. elim (last_or (take i order) b k (subst (λ (xs : List ℕ). IsListed b xs) (take_more order i 0 l ∙ ap (λ (x : ℕ). take i order ++ x ∷ []) (sym ek)) h)) [
-    | inl before ↦ ap (λ (rows : List (List Bool)). bit rows b j) made ∙ bit_other old k row b j (not_here b before) ∙ s.each b j g before is ∙ kept b j g before
-    | inr e ↦ subst (λ (x : ℕ). bit new x j ≡ needs_at cs new g j x) (sym e)
-        (ap (λ (rows : List (List Bool)). bit rows k j) made ∙ bit_same old k row j (let n = s.count in let m = order_lt cs order i k o l ek in omega arith)
-        ∙ row_says cs globals old k r.circuit j g r.there is ∙ kept_here j g)
+  count = ap (λ (xs : List (List ℕ)). length xs) r.is_set ∙ length-set old k r.row ∙ s.count;
+  numbers = λ b h. elim (one_of b h) [
+    | inl before ↦ subst (λ (xs : List ℕ). IsRow globals xs) (sym (stays b before)) (s.numbers b before)
+    | inr e ↦ subst (λ (x : ℕ). IsRow globals (slice_index_or new x [])) (sym e) (subst (λ (xs : List ℕ). IsRow globals xs) (sym here) is_row.numbers)
+  ];
+  each = λ b j g h is. elim (one_of b h) [
+    | inl before ↦ sym (same_needs b j before) ∙ s.each b j g before is ∙ kept b j g before
+    | inr e ↦ subst (λ (x : ℕ). has_need new x j ≡ needs_at cs new g j x) (sym e)
+        (ap (λ (xs : List ℕ). has_number xs j) here ∙ row_says cs globals old k r.circuit r.row j g r.there is is_row ∙ kept_here j g)
   ];
 }
   where
     at : slice_get order i ≡ Some k
     at = get_is order i k 0 l ek
 
-    row : List Bool
-    row = need_row r.circuit (slice_index_or (call_lists cs) k []) old globals
+    is_row : IsNeedRow r.circuit (slice_index_or (call_lists cs) k []) old globals r.row
+    is_row = subst (λ (xs : List (List ℕ)). IsNeedRow r.circuit (slice_index_or xs k []) old globals r.row) ec r.is_row
 
-    made : new ≡ set old k row
-    made = r.is_set ∙ ap (λ (xs : List (List ℕ)). set old k (need_row r.circuit (slice_index_or xs k []) old globals)) ec
+    one_of : (b : ℕ) → IsListed b (take (i + 1) order) → IsListed b (take i order) ⊎ (b ≡ k)
+    one_of b h = last_or (take i order) b k (subst (λ (xs : List ℕ). IsListed b xs) (take_more order i 0 l ∙ ap (λ (x : ℕ). take i order ++ x ∷ []) (sym ek)) h)
+
+    here : slice_index_or new k [] ≡ r.row
+    here = ap (λ (rows : List (List ℕ)). slice_index_or rows k []) r.is_set ∙ row_same old k r.row (let n = s.count in let m = order_lt cs order i k o l ek in omega arith)
 
     not_here : (b : ℕ) → IsListed b (take i order) → b ≢ k
     not_here b h e = let t = taken order i b h in once order i t.0 k o.apart at (t.2 ∙ ap (λ (x : ℕ). let v : Option ℕ = Some x in v) e) t.1
 
     -- rows before it stay
-    same_bits : (b j : ℕ) → IsListed b (take i order) → bit old b j ≡ bit new b j
-    same_bits b j h = sym (ap (λ (rows : List (List Bool)). bit rows b j) made ∙ bit_other old k row b j (not_here b h))
+    stays : (b : ℕ) → IsListed b (take i order) → slice_index_or new b [] ≡ slice_index_or old b []
+    stays b h = ap (λ (rows : List (List ℕ)). slice_index_or rows b []) r.is_set ∙ row_other old k r.row b (not_here b h)
+
+    same_needs : (b j : ℕ) → IsListed b (take i order) → has_need old b j ≡ has_need new b j
+    same_needs b j h = ap (λ (xs : List ℕ). has_number xs j) (sym (stays b h))
 
     kept : (b j : ℕ) (g : List ℕ) → IsListed b (take i order) → needs_at cs old g j b ≡ needs_at cs new g j b
     kept b j g h =
         let t = taken order i b h in
         ap (λ (x : Bool). not (is_pin cs g b) && (is_used cs g b || x))
-        (any_same (λ (d : ℕ). bit old d j) (λ (d : ℕ). bit new d j) (slice_index_or (call_lists cs) b [])
-        (λ d c. let u = taken order t.0 d (o.behind t.0 b d t.2 c) in same_bits d j (listed_take order i u.0 d u.2 (let a = u.1 in let z = t.1 in omega arith))))
+        (any_same (λ (d : ℕ). has_need old d j) (λ (d : ℕ). has_need new d j) (slice_index_or (call_lists cs) b [])
+        (λ d c. let u = taken order t.0 d (o.behind t.0 b d t.2 c) in same_needs d j (listed_take order i u.0 d u.2 (let a = u.1 in let z = t.1 in omega arith))))
 
     kept_here : (j : ℕ) (g : List ℕ) → needs_at cs old g j k ≡ needs_at cs new g j k
     kept_here j g =
         ap (λ (x : Bool). not (is_pin cs g k) && (is_used cs g k || x))
-        (any_same (λ (d : ℕ). bit old d j) (λ (d : ℕ). bit new d j) (slice_index_or (call_lists cs) k []) (λ d c. same_bits d j (o.behind i k d at c)))
+        (any_same (λ (d : ℕ). has_need old d j) (λ (d : ℕ). has_need new d j) (slice_index_or (call_lists cs) k []) (λ d c. same_needs d j (o.behind i k d at c)))
 
 -- ---- the table of all rows
 
-listed_at : (xs : List ℕ) (k : ℕ) → IsListed k xs → (i : ℕ) × (slice_get xs i ≡ Some k)
+pub listed_at : (xs : List ℕ) (k : ℕ) → IsListed k xs → (i : ℕ) × (slice_get xs i ≡ Some k)
 listed_at [] k h = absurd h
 listed_at (x ∷ xs) k (inl e) = (0, ap (λ (z : ℕ). let o : Option ℕ = Some z in o) (sym e))
 listed_at (x ∷ xs) k (inr h) = let r = listed_at xs k h in (suc r.0, r.1)
@@ -247,42 +242,44 @@ right_or : (p : Bool) (q : Bool) → q ≡ true → (p || q) ≡ true
 right_or true q e = refl
 right_or false q e = e
 
-up : (cs : List Circuit) (globals : List (List ℕ)) (order : List ℕ) (rows : List (List Bool)) (j : ℕ) (g : List ℕ) → IsCallOrder (call_lists cs) order → AreSettled cs globals order rows → slice_get globals j ≡ Some g
-    → (via : List ℕ) (k end : ℕ) → IsChain (Passes cs g) k via end → is_pin cs g end ≡ false → is_used cs g end ≡ true → bit rows k j ≡ true
+up : (cs : List Circuit) (globals : List (List ℕ)) (order : List ℕ) (rows : List (List ℕ)) (j : ℕ) (g : List ℕ) → IsCallOrder (call_lists cs) order → AreSettled cs globals order rows → slice_get globals j ≡ Some g
+    → (via : List ℕ) (k end : ℕ) → IsChain (Passes cs g) k via end → is_pin cs g end ≡ false → is_used cs g end ≡ true → has_need rows k j ≡ true
 up cs globals order rows j g o s is [] k end c p u =
-    subst (λ (x : ℕ). bit rows x j ≡ true) (sym c) (s.each end j g (o.all end (let l = used_lt cs g end u in let n = count_lists cs in omega arith)) is ∙ rw p (rw u refl))
+    subst (λ (x : ℕ). has_need rows x j ≡ true) (sym c) (s.each end j g (o.all end (let l = used_lt cs g end u in let n = count_lists cs in omega arith)) is ∙ rw p (rw u refl))
 up cs globals order rows j g o s is (b ∷ via) k end c p u =
     let below = up cs globals order rows j g o s is via b end c.1 p u in
-    let any : needed_below rows (slice_index_or (call_lists cs) k []) j ≡ true = any_listed (λ (d : ℕ). bit rows d j) (slice_index_or (call_lists cs) k []) b c.0.1 below in
+    let any : needed_below rows (slice_index_or (call_lists cs) k []) j ≡ true = any_listed (λ (d : ℕ). has_need rows d j) (slice_index_or (call_lists cs) k []) b c.0.1 below in
     let free = c.0.0 in
     s.each k j g (o.all k (let l = calls_lt cs k b c.0.1 in let n = count_lists cs in omega arith)) is ∙ rw free (right_or (is_used cs g k) (needed_below rows (slice_index_or (call_lists cs) k []) j) any)
 
-down : (cs : List Circuit) (globals : List (List ℕ)) (order : List ℕ) (rows : List (List Bool)) (j : ℕ) (g : List ℕ) → IsCallOrder (call_lists cs) order → AreSettled cs globals order rows → slice_get globals j ≡ Some g
-    → (n i k : ℕ) → i < n → slice_get order i ≡ Some k → bit rows k j ≡ true → Needs cs g k
+down : (cs : List Circuit) (globals : List (List ℕ)) (order : List ℕ) (rows : List (List ℕ)) (j : ℕ) (g : List ℕ) → IsCallOrder (call_lists cs) order → AreSettled cs globals order rows → slice_get globals j ≡ Some g
+    → (n i k : ℕ) → i < n → slice_get order i ≡ Some k → has_need rows k j ≡ true → Needs cs g k
 down cs globals order rows j g o s is zero i k l at h = absurd (omega arith)
 down cs globals order rows j g o s is (suc n) i k l at h =
     let says = of_and (is_pin cs g k) (is_used cs g k || needed_below rows (slice_index_or (call_lists cs) k []) j) (sym (s.each k j g (get_listed order i k at) is) ∙ h) in
     elim (of_or (is_used cs g k) (needed_below rows (slice_index_or (call_lists cs) k []) j) says.1) [
       | inl u ↦ record { via = []; end = k; chain = refl; listed = says.0; used = u }
       | inr a ↦
-          let b = listed_any (λ (d : ℕ). bit rows d j) (slice_index_or (call_lists cs) k []) a in
+          let b = listed_any (λ (d : ℕ). has_need rows d j) (slice_index_or (call_lists cs) k []) a in
           let t = taken order i b.0 (o.behind i k b.0 at b.1) in
           let m = down cs globals order rows j g o s is n t.0 b.0 (let q = t.1 in omega arith) t.2 b.2 in
           record { via = b.0 ∷ m.via; end = m.end; chain = ((says.0, b.1), m.chain); listed = m.listed; used = m.used }
     ]
 
-pub table_is : (cs : List Circuit) (globals : List (List ℕ)) (order : List ℕ) (rows : List (List Bool)) → IsCallOrder (call_lists cs) order → AreSettled cs globals order rows → IsNeedTable cs globals rows
+pub table_is : (cs : List Circuit) (globals : List (List ℕ)) (order : List ℕ) (rows : List (List ℕ)) → IsCallOrder (call_lists cs) order → AreSettled cs globals order rows → IsNeedTable cs globals rows
 table_is cs globals order rows o s = record {
   count = s.count;
+  numbers = λ k l. s.numbers k (o.all k (let n = count_lists cs in omega arith));
   each = λ k j g l is. (
     (λ h. let a = listed_at order k (o.all k (let n = count_lists cs in omega arith)) in let m : a.0 < suc a.0 = omega arith in down cs globals order rows j g o s is (suc a.0) a.0 k m a.1 h),
     (λ d. up cs globals order rows j g o s is d.via k d.end d.chain d.listed d.used),
   );
 }
 
-pub none_settled : (circuits : List CircuitCards) (globals : List (List ℕ)) (rows : List (Vec Bool)) → length rows ≡ length circuits → AreSettled (map circuit_seen circuits) globals [] (bools rows)
+pub none_settled : (circuits : List CircuitCards) (globals : List (List ℕ)) (rows : List (Vec ℕ)) → length rows ≡ length circuits → AreSettled (map circuit_seen circuits) globals [] (lists rows)
 none_settled circuits globals rows e = record {
-  count = length-map rows (λ (r : Vec Bool). r.items) ∙ e ∙ sym (length-map circuits circuit_seen);
+  count = length-map rows (λ (r : Vec ℕ). r.items) ∙ e ∙ sym (length-map circuits circuit_seen);
+  numbers = λ k h. absurd h;
   each = λ k j g h is. absurd h;
 }
 
@@ -298,10 +295,10 @@ order_lt_calls circuits calls order i e o l =
     let q : length (lists calls) ≡ length (call_lists (map circuit_seen circuits)) = ap (λ (xs : List (List ℕ)). length xs) e in
     omega arith
 
-pub order_lt_rows : (circuits : List CircuitCards) (globals : List (List ℕ)) (order done : List ℕ) (rows : List (Vec Bool)) (i : ℕ) → AreSettled (map circuit_seen circuits) globals done (bools rows) → IsCallOrder (call_lists (map circuit_seen circuits)) order
+pub order_lt_rows : (circuits : List CircuitCards) (globals : List (List ℕ)) (order done : List ℕ) (rows : List (Vec ℕ)) (i : ℕ) → AreSettled (map circuit_seen circuits) globals done (lists rows) → IsCallOrder (call_lists (map circuit_seen circuits)) order
     → i < length order → slice_index_or order i 0 < length rows
 order_lt_rows circuits globals order done rows i s o l =
     let h = order_lt (map circuit_seen circuits) order i (slice_index_or order i 0) o l refl in
     let n = s.count in
-    let m = length-map rows (λ (r : Vec Bool). r.items) in
+    let m = length-map rows (λ (r : Vec ℕ). r.items) in
     omega arith

@@ -1,7 +1,8 @@
 ghost use Rattle.std.specs.Prelude.{◌≡◌, ◌<◌, ◌^◌, [], flat_map, map, length, IfOk};
+ghost use Rattle.call_order.specs.Order.{lists};
 ghost use Rattle.net_model.specs.Rows.{plain_circuit};
 ghost use Rattle.spice_text.specs.Needs.{first_seen, device_nets};
-ghost use Rattle.spice_text.specs.Table.{bools, needed_of, seen_with_needs};
+ghost use Rattle.spice_text.specs.Table.{needed_of, seen_with_needs};
 ghost use Rattle.spice_text.specs.Means.{net_names, row_over, circuit_row, rows_from};
 ghost use Rattle.spice_text.specs.Seen.{circuit_seen};
 
@@ -16,15 +17,15 @@ use text_table::TextTable;
 fn seen_nets(
     alloc: Global,
     names: &TextTable,
-    rows: &[Vec<bool>],
+    rows: &[Vec<u32>],
     globals: &[Name],
     k: usize,
     c: &CircuitCards,
 ) -> Result<Nets, AllocError>
     ensures table { IfOk result (λ nets. nets.table
-        ≡ seen_with_needs names.now (needed_of (bools rows.now) globals.now)
+        ≡ seen_with_needs names.now (needed_of (lists rows.now) globals.now)
         (first_seen (first_seen (first_seen [] (circuit_seen c.now).pins)
-        (needed_of (bools rows.now) globals.now k))
+        (needed_of (lists rows.now) globals.now k))
         (flat_map device_nets (circuit_seen c.now).devices)) (circuit_seen c.now).calls) }
     ensures names { IfOk result (λ nets. nets.names.items ≡ nets.table) }
 {
@@ -39,13 +40,13 @@ fn seen_nets(
 fn nets_of(
     alloc: Global,
     names: &TextTable,
-    rows: &[Vec<bool>],
+    rows: &[Vec<u32>],
     globals: &[Name],
     k: usize,
     c: &CircuitCards,
 ) -> Result<Nets, AllocError>
     ensures table { IfOk result (λ nets. nets.table
-        ≡ net_names names.now (needed_of (bools rows.now) globals.now) k (circuit_seen c.now)) }
+        ≡ net_names names.now (needed_of (lists rows.now) globals.now) k (circuit_seen c.now)) }
     ensures names { IfOk result (λ nets. nets.names.items ≡ nets.table) }
 {
     seen_nets(alloc, names, rows, globals, k, c)
@@ -54,7 +55,7 @@ fn nets_of(
 fn circuit_over(
     alloc: Global,
     names: &TextTable,
-    rows: &[Vec<bool>],
+    rows: &[Vec<u32>],
     globals: &[Name],
     k: usize,
     c: &CircuitCards,
@@ -63,7 +64,7 @@ fn circuit_over(
     requires names { length names.now < 2 ^ 32 }
     requires nets { nets.names.items ≡ nets.table }
     ensures { IfOk result (λ circuit. plain_circuit circuit
-        ≡ row_over names.now (needed_of (bools rows.now) globals.now) k (circuit_seen c.now)
+        ≡ row_over names.now (needed_of (lists rows.now) globals.now) k (circuit_seen c.now)
         nets.table) }
 {
     if nets.table.len() > 0xFFFF_FFFF {
@@ -84,14 +85,14 @@ fn circuit_over(
 fn circuit(
     alloc: Global,
     names: &TextTable,
-    rows: &[Vec<bool>],
+    rows: &[Vec<u32>],
     globals: &[Name],
     k: usize,
     c: &CircuitCards,
 ) -> Result<Circuit, AllocError>
     requires { length names.now < 2 ^ 32 }
     ensures { IfOk result (λ circuit. plain_circuit circuit
-        ≡ circuit_row names.now (needed_of (bools rows.now) globals.now) k (circuit_seen c.now)) }
+        ≡ circuit_row names.now (needed_of (lists rows.now) globals.now) k (circuit_seen c.now)) }
 {
     let nets = nets_of(alloc, names, rows, globals, k, c)?;
     circuit_over(alloc, names, rows, globals, k, c, nets)
@@ -102,13 +103,13 @@ fn circuit(
 pub fn circuit_rows(
     alloc: Global,
     names: &TextTable,
-    rows: &[Vec<bool>],
+    rows: &[Vec<u32>],
     globals: &[Name],
     circuits: &[CircuitCards],
 ) -> Result<Vec<Circuit>, AllocError>
     requires { length names.now < 2 ^ 32 }
     ensures { IfOk result (λ out. map plain_circuit out.items
-        ≡ rows_from names.now (needed_of (bools rows.now) globals.now) 0
+        ≡ rows_from names.now (needed_of (lists rows.now) globals.now) 0
         (map circuit_seen circuits.now)) }
 {
     let mut out = Vec::with_capacity(alloc, circuits.len())?;

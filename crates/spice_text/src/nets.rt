@@ -1,8 +1,9 @@
 ghost use Rattle.std.specs.Prelude.{◌≡◌, ◌∷◌, [], ◌<◌, ◌^◌, flat_map, map, length, slice_index_or};
 ghost use Rattle.std.specs.Prelude.{IfOk, OnOk};
+ghost use Rattle.call_order.specs.Order.{lists};
 ghost use Rattle.spice_rows.specs.Seen.{device_seen, call_seen};
 ghost use Rattle.spice_text.specs.Needs.{first_seen, device_nets};
-ghost use Rattle.spice_text.specs.Table.{bools, picked, needed_of, seen_in_calls, seen_with_needs};
+ghost use Rattle.spice_text.specs.Table.{picked, needed_of, seen_with_needs};
 
 use net_names::Name;
 use spice_rows::{CallCard, DeviceCard};
@@ -18,10 +19,10 @@ pub struct Nets {
 
 impl Nets {
     ghost use Rattle.std.specs.Prelude.{◌≡◌, ◌∷◌, [], flat_map, map, OnOk};
+    ghost use Rattle.call_order.specs.Order.{lists};
     ghost use Rattle.spice_rows.specs.Seen.{device_seen, call_seen};
     ghost use Rattle.spice_text.specs.Needs.{first_seen, device_nets};
-    ghost use Rattle.spice_text.specs.Table.{bools, picked, needed_of, seen_in_calls};
-    ghost use Rattle.spice_text.specs.Table.{seen_with_needs};
+    ghost use Rattle.spice_text.specs.Table.{picked, needed_of, seen_with_needs};
 
     /// No nets.
     pub fn new(alloc: Global) -> Nets
@@ -63,7 +64,7 @@ impl Nets {
     pub fn see_needed(
         &mut self,
         alloc: Global,
-        row: &[bool],
+        row: &[u32],
         globals: &[Name],
     ) -> Result<(), AllocError>
         requires { self.old.names.items ≡ self.old.table }
@@ -71,16 +72,11 @@ impl Nets {
             (self.new.table ≡ first_seen self.old.table (picked row.now globals.now)) }
         ensures names { OnOk result (self.new.names.items ≡ self.new.table) }
     {
-        let mut bits = row;
-        let mut rest = globals;
-        'names: while let [name, more @ ..] = rest {
-            let [needed, behind @ ..] = bits else {
-                return Ok(());
-            };
-            if *needed {
+        let mut rest = row;
+        'numbers: while let [j, more @ ..] = rest {
+            if let Some(name) = globals.get(*j as usize) {
                 self.see(alloc, name)?;
             }
-            bits = behind;
             rest = more;
         }
         Ok(())
@@ -118,12 +114,12 @@ impl Nets {
         alloc: Global,
         calls: &[CallCard],
         names: &TextTable,
-        rows: &[Vec<bool>],
+        rows: &[Vec<u32>],
         globals: &[Name],
     ) -> Result<(), AllocError>
         requires { self.old.names.items ≡ self.old.table }
         ensures table { OnOk result (self.new.table
-            ≡ seen_with_needs names.now (needed_of (bools rows.now) globals.now) self.old.table
+            ≡ seen_with_needs names.now (needed_of (lists rows.now) globals.now) self.old.table
             (map call_seen calls.now)) }
         ensures names { OnOk result (self.new.names.items ≡ self.new.table) }
     {
@@ -139,8 +135,8 @@ impl Nets {
 }
 
 /// The row of a circuit, or an empty one.
-pub fn row_at(rows: &[Vec<bool>], k: usize) -> &[bool]
-    ensures { result.now ≡ slice_index_or (bools rows.now) k [] }
+pub fn row_at(rows: &[Vec<u32>], k: usize) -> &[u32]
+    ensures { result.now ≡ slice_index_or (lists rows.now) k [] }
 {
     match rows.get(k) {
         None => &[],

@@ -1,8 +1,9 @@
 ghost use Rattle.std.specs.Prelude.{◌≡◌, ◌++◌, ◌<◌, ◌^◌, map, length, IfOk, OnOk};
 ghost use Rattle.text_table.specs.Texts.{place_of};
+ghost use Rattle.call_order.specs.Order.{lists};
 ghost use Rattle.net_model.specs.Rows.{plain_device, plain_call};
 ghost use Rattle.spice_rows.specs.Seen.{device_seen, call_seen};
-ghost use Rattle.spice_text.specs.Table.{bools, picked, needed_of};
+ghost use Rattle.spice_text.specs.Table.{picked, needed_of};
 ghost use Rattle.spice_text.specs.Means.{device_row, call_row};
 
 use crate::nets::row_at;
@@ -34,23 +35,18 @@ fn push_numbers(out: &mut Vec<u32>, nets: &TextTable, names: &[Name]) -> Result<
 fn push_needed(
     out: &mut Vec<u32>,
     nets: &TextTable,
-    row: &[bool],
+    row: &[u32],
     globals: &[Name],
 ) -> Result<(), AllocError>
     requires { length nets.now < 2 ^ 32 }
     ensures { OnOk result
         (out.new.items ≡ out.old.items ++ map (place_of nets.now) (picked row.now globals.now)) }
 {
-    let mut bits = row;
-    let mut rest = globals;
-    'names: while let [name, more @ ..] = rest {
-        let [needed, behind @ ..] = bits else {
-            return Ok(());
-        };
-        if *needed {
+    let mut rest = row;
+    'numbers: while let [j, more @ ..] = rest {
+        if let Some(name) = globals.get(*j as usize) {
             out.push(number(nets, name))?;
         }
-        bits = behind;
         rest = more;
     }
     Ok(())
@@ -61,7 +57,7 @@ pub fn net_numbers(
     alloc: Global,
     nets: &TextTable,
     names: &[Name],
-    row: &[bool],
+    row: &[u32],
     globals: &[Name],
 ) -> Result<Vec<u32>, AllocError>
     requires { length nets.now < 2 ^ 32 }
@@ -111,7 +107,7 @@ pub fn device_rows(
 fn call_row(
     alloc: Global,
     names: &TextTable,
-    rows: &[Vec<bool>],
+    rows: &[Vec<u32>],
     globals: &[Name],
     nets: &TextTable,
     call: &CallCard,
@@ -119,7 +115,7 @@ fn call_row(
     requires names { length names.now < 2 ^ 32 }
     requires nets { length nets.now < 2 ^ 32 }
     ensures { IfOk result (λ row. plain_call row
-        ≡ call_row names.now (needed_of (bools rows.now) globals.now) nets.now
+        ≡ call_row names.now (needed_of (lists rows.now) globals.now) nets.now
         (call_seen call.now)) }
 {
     let circuit = number(names, &call.circuit);
@@ -132,7 +128,7 @@ fn call_row(
 pub fn call_rows(
     alloc: Global,
     names: &TextTable,
-    rows: &[Vec<bool>],
+    rows: &[Vec<u32>],
     globals: &[Name],
     nets: &TextTable,
     calls: &[CallCard],
@@ -140,7 +136,7 @@ pub fn call_rows(
     requires names { length names.now < 2 ^ 32 }
     requires nets { length nets.now < 2 ^ 32 }
     ensures { IfOk result (λ out. map plain_call out.items
-        ≡ map (call_row names.now (needed_of (bools rows.now) globals.now) nets.now)
+        ≡ map (call_row names.now (needed_of (lists rows.now) globals.now) nets.now)
         (map call_seen calls.now)) }
 {
     let mut out = Vec::with_capacity(alloc, calls.len())?;

@@ -25,14 +25,14 @@ fn netlist(alloc: Global, cards: &OrderedCards) -> Result<Netlist, AllocError>
 {
     let globals = each_once(alloc, &cards.globals)?;
     let rows = need_table(alloc, &cards.circuits, &cards.calls, &cards.order, &globals)?;
-    let circuits = circuit_rows(alloc, &cards.names, &rows, &globals, &cards.circuits)?;
+    let circuits = circuit_rows(alloc, &cards.names, &rows, &globals.names, &cards.circuits)?;
     Ok(Netlist { circuits })
 }
 
 /// The netlist that a SPICE text means, or the text's first fault: that of the first card that has
 /// one, or else of the cards as a whole. See `SpiceFault` for the faults.
 ///
-/// Linear in the text, and in circuits and calls times global names.
+/// Linear in the text and in the netlist, but for sorting the global names that a circuit needs.
 pub fn read_spice(alloc: Global, bytes: &[u8]) -> Result<Netlist, SpiceFault>
     ensures netlist { IfOk result (λ n. Means read_limit bytes.now (plain_netlist n)) }
     ensures sound { IfOk result (λ n. IsSoundNetlist (plain_netlist n)) }

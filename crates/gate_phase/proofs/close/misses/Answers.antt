@@ -1,7 +1,6 @@
 use Rattle.std.proofs.Common.{◌≡◌, true, false, pos, length, refl, arith}
 use Rattle.geo_base.specs.declared.shapes.Rect.{Rect}
-use Rattle.gate_shapes.proofs.Meeting.{miss_none, miss_all}
-use Rattle.gate_phase.proofs.Closing.{met_at, miss_next, none_in, some_in}
+use Rattle.gate_shapes.proofs.Meeting.{met_at, miss_all, miss_next, miss_none, none_in, some_in}
 use Rattle.gate_phase.proofs.close.misses.Goals as goal
 
 abbrev nowhere : Rect

@@ -1,8 +1,8 @@
-use Rattle.std.proofs.Common.{◌≡◌, List, None, true, arith, refl, sym, subst, ◌∙◌, slice_index_or}
+use Rattle.std.proofs.Common.{◌≡◌, List, None, true, arith, refl, sym, subst, slice_index_or}
 use Rattle.std.specs.List.{All}
 use Rattle.std.specs.Option.{IsSome}
 use Rattle.geo_base.specs.declared.shapes.Rect.{Rect}
-use Rattle.rect_sets.specs.Rects.{IsListed, covers}
+use Rattle.rect_sets.specs.Rects.{covers}
 use Rattle.cell_context.specs.declared.arrays.Visit.{Visit}
 use Rattle.cell_context.specs.Over.{IsVisit, AreVisited}
 use Rattle.cell_context.proofs.Visiting.{up_to}
@@ -11,18 +11,18 @@ use Rattle.deep_tables.specs.Layers.{layer_of}
 use Rattle.gate_phase.proofs.Keeping.{Brings, brings_here, one_layer, one_window, chosen_kept, chosen_pieces, met_window, piece_near, right_more, visit_reached}
 use Rattle.gate_phase.proofs.kept.+kept_rects.Goals as goal
 
-pub local-requires : goal.local-requires
-local-requires t c = let l = c.requires.locals.1 c.args.cell c.requires.reached in subst IsSome (sym l.1) refl
+pub met-requires : goal.met-requires
+met-requires t c = let l = c.requires.locals.1 c.args.cell c.requires.reached in subst IsSome (sym l.1) refl
 
 pub loop-visit-init : goal.loop-visit-init
 loop-visit-init t c =
     let d = c.args.design.now in let layers = c.args.layers.now in let cell = c.args.cell in let name = c.args.name in
-    let at = c.local.ensures in
-    let listed : (r : Rect) → IsListed r c.in_ok-out.out.items → IsListed r c.local.result.now = λ r l. subst (IsListed r) c.rects.ensures.list (c.in_ok-out.ensures.listed r l) in
+    let l = c.requires.locals.1 cell c.requires.reached in
+    let met = c.in_ok-out.ensures l.0 l.1 in
     record {
-      pieces = chosen_pieces d layers cell name c.requires.locals.0 c.local.result.now c.in_ok-out.out.items c.plane-frame.result c.sound.ensures c.requires.reached c.requires.locals.1 at c.plane-frame.ensures.all listed;
-      sound = λ x locals. chosen_kept d layers cell name x c.local.result.now c.in_ok-out.out.items c.requires.reached locals at listed;
-      own = λ layer q there e g. c.in_ok-out.ensures.complete q (subst (λ (l : List Rect). covers l q ≡ true) (one_layer (layer_of layers cell name) layer c.local.result.now there at ∙ sym c.rects.ensures.list) e) g;
+      pieces = chosen_pieces d layers cell name c.requires.locals.0 l.0 c.in_ok-out.out.items c.plane-frame.result c.sound.ensures c.requires.reached c.requires.locals.1 l.1 c.plane-frame.ensures.all met.listed;
+      sound = λ x locals. chosen_kept d layers cell name x l.0 c.in_ok-out.out.items c.requires.reached locals l.1 met.listed;
+      own = λ layer q there e g. met.complete q (subst (λ (r : List Rect). covers r q ≡ true) (one_layer (layer_of layers cell name) layer l.0 there l.1) e) g;
       found = λ x locals k lt. absurd (let z : ⊥ = omega arith in z);
     }
 

@@ -1,5 +1,6 @@
-use Rattle.std.proofs.Common.{◌≡◌, Some, IsSome, Option, refl, sym, subst}
+use Rattle.std.proofs.Common.{◌≡◌, ◌∙◌, ◌&&◌, not, Some, IsSome, Option, ap, refl, sym, subst}
 use Rattle.std.proofs.lemmas.Option.{slice_get-get_or}
+use Rattle.rect_sets.specs.Rects.{covers}
 use Rattle.cell_graph.specs.Linked.{plain}
 use Rattle.flat_layout.specs.Layers.{Empty}
 use Rattle.rule_layers.specs.Formulas.{formulas}
@@ -24,5 +25,6 @@ disturbed-zone-requires c =
 
 pub returns : goal.returns
 returns c = λ op a b at flat_in.
-    derived c.args.design.now (rules_seen c.args.rules.now) c.args.zones.now c.args.cell c.args.name op a b c.args.looks.now c.args.flat.now c.disturbed-zone.result.now c.in_ok-calm.calm
-    c.sound.ensures c.requires.ready at c.requires.looks flat_in c.disturbed-zone.ensures c.in_ok-calm.ensures c.in_ok-local.local c.rects-canonical.ensures.canonical c.in_ok-local.ensures
+    derived c.args.design.now (rules_seen c.args.rules.now) c.args.zones.now c.args.cell c.args.name op a b c.args.looks.now c.args.flat c.disturbed-zone.result.now c.in_ok-calm.calm
+    c.sound.ensures c.requires.ready at c.requires.looks flat_in c.disturbed-zone.ensures c.in_ok-calm.ensures c.in_ok-local.local c.rects-canonical.ensures.canonical
+    (λ q. c.in_ok-local.ensures q ∙ ap (λ v. (v && not (covers c.disturbed-zone.result.now q)) && not (covers c.in_ok-calm.calm q)) (c.in_ok-squares.ensures q))

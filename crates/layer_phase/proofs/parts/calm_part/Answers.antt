@@ -1,8 +1,6 @@
-use Rattle.std.proofs.Common.{◌≡◌, ◌&&◌, ◌||◌, ◌∙◌, ◌∷◌, [], not, Bool, true, false, List, Option, Some, refl, sym, ap, subst}
-use Rattle.std.specs.List.{All}
-use Rattle.geo_base.specs.Rects.{has, IsRect}
+use Rattle.std.proofs.Common.{◌≡◌, ◌&&◌, ◌||◌, ◌∙◌, not, Bool, true, false, List, Option, Some, refl, sym, ap, subst}
+use Rattle.geo_base.specs.Rects.{has}
 use Rattle.geo_base.specs.declared.shapes.Rect.{Rect}
-use Rattle.geo_base.specs.declared.shapes.Square.{Square}
 use Rattle.rect_sets.specs.Rects.{covers}
 use Rattle.tile_index.specs.Windows.{ArePositions}
 use Rattle.cell_context.proofs.Near.{pieces_of}

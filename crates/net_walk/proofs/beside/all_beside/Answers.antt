@@ -1,13 +1,12 @@
-use Rattle.std.proofs.Common.{◌≡◌, ◌<◌, ◌≤◌, ◌+◌, ◌∙◌, ℕ, List, [], map, Some, slice_get, length, arith, ap, sym, subst}
+use Rattle.std.proofs.Common.{◌≡◌, ◌∙◌, List, [], map, length, arith, ap, sym, subst}
 use Rattle.std.proofs.lemmas.Option.{slice_get_within}
-use Rattle.link_classes.specs.declared.classes.Link.{Link}
 use Rattle.net_link_laws.proofs.Standing.{items_long}
 use Rattle.net_link_laws.specs.Places.{owned_before, places_of}
 use Rattle.net_walk.proofs.Besides.{are_pairs, whole_beside}
 use Rattle.net_walk.proofs.Placing.{pieces_long}
 use Rattle.net_walk.proofs.beside.all_beside.Goals as goal
 use Rattle.net_walk.specs.Beside.{AddsPairsBeside, ArePairsBeside, counted_from}
-use Rattle.touching_pieces.specs.Pairs.{AddsTouching, IsAmong}
+use Rattle.touching_pieces.specs.Pairs.{AddsTouching}
 use Rattle.touching_pieces.specs.declared.pieces.Piece.{Piece}
 
 pub own_pieces-requires : goal.own_pieces-requires

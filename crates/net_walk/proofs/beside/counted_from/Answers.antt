@@ -1,4 +1,4 @@
-use Rattle.std.proofs.Common.{◌≡◌, ◌<◌, ◌+◌, ◌∙◌, List, [], ◌∷◌, ◌++◌, get_or, arith, ap}
+use Rattle.std.proofs.Common.{◌<◌, ◌+◌, ◌∙◌, List, [], ◌∷◌, ◌++◌, get_or, arith, ap}
 use Rattle.net_walk.proofs.Besides.{counted_all, counted_more, no_part, piece_among}
 use Rattle.net_walk.proofs.beside.counted_from.Goals as goal
 use Rattle.net_walk.specs.Beside.{counted_from}

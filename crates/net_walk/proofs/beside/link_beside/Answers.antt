@@ -1,4 +1,4 @@
-use Rattle.std.proofs.Common.{◌≡◌, ◌<◌, ◌≤◌, ◌-◌, min, max, List, Some, slice_get, get_or, length, arith, subst}
+use Rattle.std.proofs.Common.{◌≡◌, ◌<◌, ◌-◌, List, Some, slice_get, get_or, length, arith, subst}
 use Rattle.std.proofs.lemmas.Option.{slice_get-get_or}
 use Rattle.net_link_laws.specs.Places.{places_of}
 use Rattle.net_walk.proofs.Besides.{no_part, some_pair, pair_numbers}

@@ -1,8 +1,7 @@
 use Rattle.std.proofs.Common.{◌≡◌, ◌<◌, Some, slice_get, get_or, length, arith, sym, subst}
 use Rattle.flat_laws.proofs.Items.{placed_at}
 use Rattle.flat_layout.specs.Layout.{Place}
-use Rattle.link_classes.specs.declared.classes.Link.{Link}
-use Rattle.std.proofs.Common.{List, ℕ, ◌+◌}
+use Rattle.std.proofs.Common.{ℕ, ◌+◌}
 use Rattle.net_link_laws.specs.Places.{owned_before, places_of}
 use Rattle.net_walk.proofs.Besides.{piece_added}
 use Rattle.net_walk.proofs.OwnBeside.{beside_pair}
@@ -13,7 +12,6 @@ use Rattle.net_walk.specs.Beside.{IsBesideSeen}
 use Rattle.net_walk.specs.Pairs.{first_of}
 use Rattle.net_walk.specs.Seen.{AreLinksOver}
 use Rattle.net_walk.specs.Walk.{place_of}
-use Rattle.net_link_laws.proofs.Standing.{own_place}
 use Rattle.std.proofs.lemmas.Option.{slice_get_within}
 
 pub beside_links-requires-clause-near : goal.beside_links-requires-clause-near

@@ -1,4 +1,4 @@
-use Rattle.std.proofs.Common.{◌<◌, length, arith}
+use Rattle.std.proofs.Common.{arith}
 use Rattle.net_walk.proofs.Grounding.{line_unknown}
 use Rattle.net_walk.proofs.globals.ground_line.Goals as goal
 

@@ -1,4 +1,4 @@
-use Rattle.std.proofs.Common.{◌<◌, length, arith, get_or}
+use Rattle.std.proofs.Common.{arith, get_or}
 use Rattle.net_walk.proofs.Grounding.{grounded_at, lines_all, lines_more, no_ground, no_lines}
 use Rattle.net_walk.proofs.globals.ground_lines.Goals as goal
 

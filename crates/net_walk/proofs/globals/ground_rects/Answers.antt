@@ -1,4 +1,4 @@
-use Rattle.std.proofs.Common.{◌≡◌, ◌<◌, ◌+◌, ℕ, List, length, ap, arith}
+use Rattle.std.proofs.Common.{◌+◌, List, length, ap, arith}
 use Rattle.geo_base.specs.declared.shapes.Rect.{Rect}
 use Rattle.net_link_laws.proofs.Standing.{items_long}
 use Rattle.net_walk.proofs.Grounding.{no_rect, rects_to, rects_whole}

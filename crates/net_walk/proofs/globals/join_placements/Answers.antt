@@ -1,4 +1,4 @@
-use Rattle.std.proofs.Common.{◌≡◌, ◌<◌, [], Some, slice_get, length, get_or, arith, refl, subst}
+use Rattle.std.proofs.Common.{◌≡◌, [], Some, slice_get, length, get_or, arith, refl, subst}
 use Rattle.flat_laws.proofs.Items.{placed_at}
 use Rattle.flat_layout.specs.Layout.{Place}
 use Rattle.net_link_laws.specs.Places.{places_of}

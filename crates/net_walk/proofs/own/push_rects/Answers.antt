@@ -1,7 +1,4 @@
-use Rattle.std.proofs.Common.{◌≡◌, length, arith, sym, ap, take}
-use Rattle.std.proofs.Math.Seq.{take-length}
-use Rattle.geo_base.specs.declared.shapes.Rect.{Rect}
-use Rattle.net_walk.proofs.Adding.{nowhere}
+use Rattle.std.proofs.Common.{arith}
 use Rattle.net_walk.proofs.Owning.{no_rects, rects_more}
 use Rattle.net_walk.proofs.Placing.{none_behind, pieces_more, pieces_all}
 use Rattle.net_walk.proofs.own.push_rects.Goals as goal

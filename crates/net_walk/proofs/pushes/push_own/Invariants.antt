@@ -1,5 +1,6 @@
+use Rattle.net_walk.proofs.Adding.{IsOfNear}
 use Rattle.net_walk.proofs.pushes.push_own.Given as goal
-use Rattle.net_walk.specs.Walk.{AddsPieces, IsOfOwn}
+use Rattle.net_walk.specs.Walk.{AddsPieces}
 
 abbrev pub invariant-loop-r : goal.invariant-loop-r
-invariant-loop-r l = AddsPieces l.window (IsOfOwn l.window l.own l.net_of l.at l.r) l.fn.out.items l.out.items
+invariant-loop-r l = AddsPieces l.window (IsOfNear l.window l.own l.net_of l.at l.near l.r-index) l.fn.out.items l.out.items

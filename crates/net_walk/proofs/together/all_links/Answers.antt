@@ -1,4 +1,4 @@
-use Rattle.std.proofs.Common.{◌≡◌, ◌≤◌, length, arith}
+use Rattle.std.proofs.Common.{arith}
 use Rattle.net_link_laws.proofs.Standing.{items_long}
 use Rattle.net_walk.proofs.Uniting.{united}
 use Rattle.net_walk.proofs.together.all_links.Goals as goal

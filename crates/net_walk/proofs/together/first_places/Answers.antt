@@ -1,7 +1,7 @@
-use Rattle.std.proofs.Common.{◌≡◌, ◌<◌, ◌≤◌, ◌+◌, ℕ, [], Some, slice_get, get_or, length, ap, arith, ◌∙◌, refl}
+use Rattle.std.proofs.Common.{◌≡◌, Some, slice_get, get_or, length, ap, arith}
 use Rattle.flat_layout.specs.Layout.{Place}
 use Rattle.net_link_laws.proofs.Standing.{child_next, items_long, nets_none}
-use Rattle.net_link_laws.specs.Places.{nets_before, owned_before, places_of}
+use Rattle.net_link_laws.specs.Places.{owned_before, places_of}
 use Rattle.net_walk.proofs.Spanning.{child_room}
 use Rattle.net_walk.proofs.Walking.{as_long, element_at, no_element}
 use Rattle.net_walk.specs.Walk.{place_of}

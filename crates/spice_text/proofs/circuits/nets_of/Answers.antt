@@ -1,5 +1,6 @@
 use Rattle.std.proofs.Common.{◌≡◌, ◌∙◌, Result, Ok, Err, IfOk, List, ℕ}
-use Rattle.spice_text.specs.Table.{bools, needed_of}
+use Rattle.call_order.specs.Order.{lists}
+use Rattle.spice_text.specs.Table.{needed_of}
 use Rattle.spice_text.specs.Seen.{circuit_seen}
 use Rattle.spice_text.specs.declared.nets.Nets.{Nets}
 use Rattle.spice_text.proofs.MeansLemmas.{seen_appearances}
@@ -12,4 +13,4 @@ over (Err x) a b e h = h
 pub returns-clause-table : goal.returns-clause-table
 returns-clause-table c =
     let names = c.args.names.now in
-    over c.seen_nets.result _ _ (seen_appearances names (needed_of (bools c.args.rows.now) c.args.globals.now) c.args.k (circuit_seen c.args.c.now)) c.seen_nets.ensures.table
+    over c.seen_nets.result _ _ (seen_appearances names (needed_of (lists c.args.rows.now) c.args.globals.now) c.args.k (circuit_seen c.args.c.now)) c.seen_nets.ensures.table

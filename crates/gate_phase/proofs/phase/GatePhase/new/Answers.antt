@@ -1,9 +1,11 @@
-use Rattle.std.proofs.Common.{arith}
+use Rattle.std.proofs.Common.{arith, sym, subst}
 use Rattle.deep_tables.proofs.Finding.{some_at}
+use Rattle.deep_tables.specs.Layers.{AreLayers}
 use Rattle.deep_tables.specs.Nets.{AreCellNets}
 use Rattle.cell_graph.specs.Linked.{plain}
 use Rattle.gate_phase.proofs.phase.GatePhase.new.Goals as goal
 use Rattle.net_phase.proofs.Knowing.{right_known}
+use Rattle.net_phase.proofs.Nearing.{same_indexes}
 use Rattle.net_phase.specs.Own.{rect_lists}
 use Rattle.net_phase.specs.Reading.{nets_of}
 use Rattle.rule_text.specs.Seen.{rules_seen}
@@ -21,12 +23,13 @@ invariant_of-result c =
       sound = c.requires.rules;
       few = omega (arith, few, devices);
       zones = c.requires.zones;
-      layers = c.requires.layers;
+      layers = subst (AreLayers (plain d) r) (sym c.in_ok-indexed.ensures) c.requires.layers;
       conductors = c.in_ok-wires.ensures.conductors;
       globals = c.in_ok-wires.ensures.globals;
       bulks = c.in_ok-bulks.ensures;
       elements = c.in_ok-elements.ensures;
       own = c.in_ok-own.ensures;
+      indexes = same_indexes d _ _ _ _ c.in_ok-indexes.indexes c.deref.ensures.value c.deref-2.ensures.value c.in_ok-indexes.ensures;
       nets = right_known d r (rect_lists c.in_ok-own.own.items) c.args.nets.now (nets_of c.in_ok-known.known.items) c.in_ok-own.ensures c.requires.nets c.in_ok-known.ensures;
       graph = c.in_ok-graph.ensures;
     }

@@ -8,6 +8,7 @@ use Rattle.deep_tables.specs.declared.nets.CellNets.{CellNets}
 use Rattle.flat_layout.specs.Nets.{AreRightBelow}
 use Rattle.geo_base.specs.declared.shapes.Rect.{Rect}
 use Rattle.job_graph.specs.Graph.{Waits, has}
+use Rattle.net_phase.proofs.Nearing.{same_indexes}
 use Rattle.net_phase.proofs.Results.{if_ok}
 use Rattle.net_phase.proofs.Righting.{below_right, cell_right, held_own, job_right, nets_seen, same_below, tables_by}
 use Rattle.net_phase.proofs.phase.NetPhasePhase.work.Goals as goal
@@ -23,6 +24,9 @@ new-below-requires-clause-own g c =
     let a = c.self.inside in
     subst (λ (l : List (Vec (Bor (List Rect)))). AreHeldOwn a.design.now (rect_lists l)) (sym c.deref.ensures.value)
     (held_own a.design.now (rules_seen a.rules.now) (rect_lists a.own.items) c.sound.ensures c.self.invariant.own)
+
+pub new-below-requires-clause-indexes : goal.new-below-requires-clause-indexes
+new-below-requires-clause-indexes g c = same_indexes c.self.inside.design.now _ _ _ _ c.self.inside.indexes (sym c.deref.ensures.value) (sym c.deref-2.ensures.value) c.self.invariant.indexes
 
 pub cell_nets-requires-clause-right : goal.cell_nets-requires-clause-right
 cell_nets-requires-clause-right g c =

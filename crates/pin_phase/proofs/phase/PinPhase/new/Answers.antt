@@ -10,6 +10,7 @@ use Rattle.deep_tables.specs.Nets.{AreCellNets}
 use Rattle.deep_tables.specs.declared.nets.CellNets.{CellNets}
 use Rattle.geo_base.specs.declared.shapes.Rect.{Rect}
 use Rattle.net_phase.proofs.Knowing.{right_known}
+use Rattle.net_phase.proofs.Nearing.{same_indexes}
 use Rattle.net_phase.proofs.Righting.{held_own, same_below, seen_by, tables_by}
 use Rattle.net_phase.specs.Below.{AreHeldOwn, BelowSeen, tables_seen, wiring_seen}
 use Rattle.net_phase.specs.Own.{rect_lists}
@@ -25,8 +26,12 @@ known_nets-requires c cell reached = some_at (AreCellNets (plain c.args.design.n
 pub new-cells-requires-clause-own : goal.new-cells-requires-clause-own
 new-cells-requires-clause-own c =
     let d = c.args.design.now in
-    subst (λ (l : List (Vec (Bor (List Rect)))). AreHeldOwn d (rect_lists l)) (sym c.deref.ensures.value)
+    subst (λ (l : List (Vec (Bor (List Rect)))). AreHeldOwn d (rect_lists l)) (sym c.deref-3.ensures.value)
     (held_own d (rules_seen c.args.rules.now) (rect_lists c.in_ok-own.own.items) c.sound.ensures c.in_ok-own.ensures)
+
+pub new-cells-requires-clause-indexes : goal.new-cells-requires-clause-indexes
+new-cells-requires-clause-indexes c =
+    same_indexes c.args.design.now _ _ _ _ c.in_ok-indexes.indexes (c.deref.ensures.value ∙ sym c.deref-3.ensures.value) (c.deref-2.ensures.value ∙ sym c.deref-4.ensures.value) c.in_ok-indexes.ensures
 
 pub find_links-requires-clause-nets : goal.find_links-requires-clause-nets
 find_links-requires-clause-nets c =
@@ -35,8 +40,8 @@ find_links-requires-clause-nets c =
     let e = c.new-cells.ensures in
     let same : c.new-cells.result ≡ seen_by d c.args.rules.now all known =
     same_below c.new-cells.result d c.args.rules.now all known e.design e.rules
-    (e.own ∙ ap (λ (l : List (Vec (Bor (List Rect)))). rect_lists l) c.deref.ensures.value)
-    (e.nets ∙ ap (λ (l : List (Option (Bor CellNets))). nets_of l) c.deref-3.ensures.value) in
+    (e.own ∙ ap (λ (l : List (Vec (Bor (List Rect)))). rect_lists l) c.deref-3.ensures.value)
+    (e.nets ∙ ap (λ (l : List (Option (Bor CellNets))). nets_of l) c.deref-5.ensures.value) in
     let right = right_known d r all c.args.nets.now known c.in_ok-own.ensures c.requires.nets c.in_ok-known.ensures in
     subst (λ (z : BelowSeen). AreKnownNets (plain d) (wiring_seen z) (tables_seen z) c.args.nets.now) (sym same) (known_all d r all c.args.nets.now known c.sound.ensures c.requires.nets c.in_ok-known.ensures right)
 
@@ -47,8 +52,8 @@ find_links-requires-clause-gates c =
     let e = c.new-cells.ensures in
     let same : c.new-cells.result ≡ seen_by d c.args.rules.now all known =
     same_below c.new-cells.result d c.args.rules.now all known e.design e.rules
-    (e.own ∙ ap (λ (l : List (Vec (Bor (List Rect)))). rect_lists l) c.deref.ensures.value)
-    (e.nets ∙ ap (λ (l : List (Option (Bor CellNets))). nets_of l) c.deref-3.ensures.value) in
+    (e.own ∙ ap (λ (l : List (Vec (Bor (List Rect)))). rect_lists l) c.deref-3.ensures.value)
+    (e.nets ∙ ap (λ (l : List (Option (Bor CellNets))). nets_of l) c.deref-5.ensures.value) in
     let right = right_known d r all c.args.nets.now known c.in_ok-own.ensures c.requires.nets c.in_ok-known.ensures in
     subst (λ (z : BelowSeen). AreKnownGates (plain d) (tables_seen z) c.args.gates.now) (sym same) (gates_all d r all known c.args.gates.now c.sound.ensures c.requires.gates right)
 
@@ -59,8 +64,8 @@ invariant_of-result c =
     let e = c.new-cells.ensures in
     let same : c.new-cells.result ≡ seen_by d c.args.rules.now all known =
     same_below c.new-cells.result d c.args.rules.now all known e.design e.rules
-    (e.own ∙ ap (λ (l : List (Vec (Bor (List Rect)))). rect_lists l) c.deref.ensures.value)
-    (e.nets ∙ ap (λ (l : List (Option (Bor CellNets))). nets_of l) c.deref-3.ensures.value) in
+    (e.own ∙ ap (λ (l : List (Vec (Bor (List Rect)))). rect_lists l) c.deref-3.ensures.value)
+    (e.nets ∙ ap (λ (l : List (Option (Bor CellNets))). nets_of l) c.deref-5.ensures.value) in
     let right = right_known d r all c.args.nets.now known c.in_ok-own.ensures c.requires.nets c.in_ok-known.ensures in
     let long = length-map c.in_ok-globals.globals.items (λ (v : Vec ℕ). v.items) in
     let named = ap length c.in_ok-globals.ensures in
@@ -72,6 +77,7 @@ invariant_of-result c =
       few = omega (arith, long, named, count);
       elements = c.in_ok-elements.ensures;
       own = c.in_ok-own.ensures;
+      indexes = same_indexes d _ _ _ _ c.in_ok-indexes.indexes c.deref.ensures.value c.deref-2.ensures.value c.in_ok-indexes.ensures;
       nets = right;
       gates = gates_of c.args.gates.now;
       right = right_gates (plain d) r (tables_by all known) c.args.gates.now right c.requires.gates;

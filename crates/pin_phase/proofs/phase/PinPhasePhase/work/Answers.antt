@@ -10,6 +10,7 @@ use Rattle.geo_base.specs.declared.shapes.Rect.{Rect}
 use Rattle.gate_phase.proofs.Terminal.{nets_under}
 use Rattle.job_graph.specs.Graph.{Waits}
 use Rattle.net_link_laws.specs.Laws.{AreNetsUnder}
+use Rattle.net_phase.proofs.Nearing.{same_indexes}
 use Rattle.net_phase.proofs.Righting.{held_own, same_below}
 use Rattle.net_phase.specs.Below.{AreHeldOwn, BelowSeen, tables_seen, wiring_seen}
 use Rattle.net_phase.specs.Own.{rect_lists}
@@ -33,6 +34,9 @@ new-cells-requires-clause-own g c =
     let a = c.self.inside in
     subst (λ (l : List (Vec (Bor (List Rect)))). AreHeldOwn a.design.now (rect_lists l)) (sym c.deref.ensures.value)
     (held_own a.design.now (rules_seen a.rules.now) (rect_lists a.own.items) c.sound.ensures c.self.invariant.own)
+
+pub new-cells-requires-clause-indexes : goal.new-cells-requires-clause-indexes
+new-cells-requires-clause-indexes g c = same_indexes c.self.inside.design.now _ _ _ _ c.self.inside.indexes (sym c.deref.ensures.value) (sym c.deref-2.ensures.value) c.self.invariant.indexes
 
 pub net_tags-requires-clause-nets : goal.net_tags-requires-clause-nets
 net_tags-requires-clause-nets g c =

@@ -3,8 +3,8 @@ use Rattle.spice_text.specs.Needs.{first_seen}
 use Rattle.spice_text.specs.Table.{picked}
 use Rattle.spice_text.proofs.nets.Nets.see_needed.Given as goal
 
-abbrev pub invariant-names : goal.invariant-names
-invariant-names l = (l.self.names.items ≡ l.self.table) × (first_seen l.self.table (picked l.bits l.rest) ≡ first_seen l.fn.self.table (picked l.row l.globals))
+abbrev pub invariant-numbers : goal.invariant-numbers
+invariant-numbers l = (l.self.names.items ≡ l.self.table) × (first_seen l.self.table (picked l.rest l.globals) ≡ first_seen l.fn.self.table (picked l.row l.globals))
 
-abbrev pub decreases-names : goal.decreases-names
-decreases-names l = length l.rest
+abbrev pub decreases-numbers : goal.decreases-numbers
+decreases-numbers l = length l.rest

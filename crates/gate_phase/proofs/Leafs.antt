@@ -1,0 +1,51 @@
+-- A cell that places nothing.
+use Rattle.std.proofs.Common.{◌≡◌, inl, inr, ℕ, true, List, [], ◌∷◌, Option, Some, None, slice_get, subst}
+use Rattle.geo_base.specs.declared.layer.LayerKey.{LayerKey}
+use Rattle.geo_base.specs.declared.shapes.Rect.{Rect}
+use Rattle.geo_base.specs.declared.shapes.Square.{Square}
+use Rattle.rect_sets.specs.Rects.{covers}
+use Rattle.flat_layout.specs.Layers.{Formula, Input, IsKept}
+use Rattle.flat_layout.specs.Layout as flat
+use Rattle.flat_layout.specs.Layout.{IsPlaced}
+use Rattle.flat_layout.specs.Seeds.{IsSeed}
+use Rattle.flat_layout.specs.Values.{IsLocalLayer}
+use Rattle.flat_laws.proofs.Cover.{kept_here}
+use Rattle.cell_graph.specs.declared.cells.Place.{Place}
+use Rattle.cell_graph.specs.Linked.{Linked, IsSound, HullHas, cell_at, hull_of, places_at, plain}
+use Rattle.cell_graph.proofs.Bridge.{step_of}
+use Rattle.gate_search.specs.Gather.{IsGatheredAround}
+use Rattle.gate_phase.proofs.Keeping.{kept_held, one_window}
+
+none_placed : (d : Linked) (cell number : ℕ) (p : flat.Place) → places_at (cell_at d cell) ≡ [] → IsPlaced (plain d) cell number p → ⊥
+none_placed d cell number p none placed =
+    let t = step_of d cell number p placed in
+    let there : slice_get [] t.index ≡ Some t.from = subst (λ (l : List Place). slice_get l t.index ≡ Some t.from) none t.step.there in
+    let z : ⊥ = cc in z
+
+-- it keeps what it holds itself
+pub leaf_gathered : (d : Linked) (cell : ℕ) (x : Formula) (seeds layer : List Rect) → places_at (cell_at d cell) ≡ [] → IsLocalLayer (plain d) x cell layer → IsGatheredAround (IsKept (plain d) cell x) seeds layer
+leaf_gathered d cell x seeds layer none is = record {
+  sound = λ q e. kept_here (plain d) cell x q ((is.each q).0 e);
+  around = λ a q kept near e. held a kept;
+  steps = λ p q e step. held q step.to;
+}
+  where
+    held : (q : Square) → IsKept (plain d) cell x q → covers layer q ≡ true
+    held q kept = elim (is.parted q kept) [
+      | inl here ↦ (is.each q).1 here
+      | inr below ↦ absurd (none_placed d cell below.number below.place none below.placed)
+    ]
+
+-- its hull as a set
+abbrev pub hull_list : Option Rect → List Rect
+hull_list None = []
+hull_list (Some r) = r ∷ []
+
+held_covers : (o : Option Rect) (q : Square) → HullHas o q → covers (hull_list o) q ≡ true
+held_covers None q h = absurd h
+held_covers (Some r) q h = one_window r q h
+
+-- its seeds are its own shapes, which lie in the hull
+pub leaf_seed : (d : Linked) (keys : List LayerKey) (cell : ℕ) (q : Square) → IsSound d → places_at (cell_at d cell) ≡ [] → IsSeed (plain d) keys cell q → covers (hull_list (hull_of (cell_at d cell))) q ≡ true
+leaf_seed d keys cell q sound none (inl h) = held_covers (hull_of (cell_at d cell)) q (kept_held d cell (Input h.key) q sound (kept_here (plain d) cell (Input h.key) q h.own))
+leaf_seed d keys cell q sound none (inr h) = absurd (none_placed d cell h.number h.place none h.placed)

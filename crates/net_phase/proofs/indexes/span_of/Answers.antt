@@ -1,0 +1,13 @@
+use Rattle.std.proofs.Common.{◌∙◌, sym, ap}
+use Rattle.net_phase.proofs.Holding.{hull_is_near, hull_is_rect}
+use Rattle.net_phase.proofs.indexes.span_of.Goals as goal
+use Rattle.net_phase.specs.Indexes.{span_by}
+
+pub rect-requires-clause-near_rect : goal.rect-requires-clause-near_rect
+rect-requires-clause-near_rect c = hull_is_near c.args.design.now c.args.element.now.cell c.in-Some.hull c.sound.ensures (sym c.in-Some.is ∙ c.hull_at.ensures)
+
+pub returns-in-None : goal.returns-in-None
+returns-in-None c = ap (span_by c.args.element.now) (sym c.in-None.is ∙ c.hull_at.ensures)
+
+pub returns-in-Some : goal.returns-in-Some
+returns-in-Some c = c.rect.ensures.corners ∙ ap (span_by c.args.element.now) (sym c.in-Some.is ∙ c.hull_at.ensures)
