@@ -60,7 +60,8 @@ pub struct Failing {
 
 pub const NONE: Failing = Failing { depot: 0, sink: 0 };
 
-fn words_of(alloc: Global, words: &[&str]) -> Result<Vec<String>, AllocError> {
+/// Strings of these words.
+pub fn words_of(alloc: Global, words: &[&str]) -> Result<Vec<String>, AllocError> {
     let mut made = Vec::new(alloc);
     for word in words {
         made.push(String::from_str(alloc, word)?)?;
@@ -68,14 +69,19 @@ fn words_of(alloc: Global, words: &[&str]) -> Result<Vec<String>, AllocError> {
     Ok(made)
 }
 
-fn one(alloc: Global, number: u64) -> Result<Vec<u64>, AllocError> {
+/// A list of one number.
+pub fn one(alloc: Global, number: u64) -> Result<Vec<u64>, AllocError> {
     let mut numbers = Vec::new(alloc);
     numbers.push(number)?;
     Ok(numbers)
 }
 
-// A copy of the path's file.
-fn file_of(alloc: Global, depot: &MemoryDepot, path: &str) -> Result<Option<Vec<u8>>, AllocError> {
+/// A copy of the path's file.
+pub fn file_of(
+    alloc: Global,
+    depot: &MemoryDepot,
+    path: &str,
+) -> Result<Option<Vec<u8>>, AllocError> {
     match depot.file(path) {
         Some(bytes) => Ok(Some(bytes.to_vec(alloc)?)),
         None => Ok(None),

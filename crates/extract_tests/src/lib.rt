@@ -1,5 +1,6 @@
-//! Tests of whole runs of `extract` and `run` over memory: drawn layouts whose netlists and reports
-//! were worked out by hand, words and schematics that are refused, and calls that fail.
+//! Tests of whole runs of `extract`, `run` and `make` over memory: drawn layouts whose netlists and
+//! reports were worked out by hand, words and schematics that are refused, calls that fail, and a
+//! chip that was made.
 #![tactic(auto)]
 
 #[cfg(test)]
@@ -18,6 +19,8 @@ mod extracted;
 mod failing;
 #[cfg(test)]
 mod layouts;
+#[cfg(test)]
+mod made;
 #[cfg(test)]
 mod refused;
 #[cfg(test)]
