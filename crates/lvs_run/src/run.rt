@@ -211,8 +211,9 @@ pub fn run_lvs<R: Threads + Wait + Sync, D: Depot, S: Sink, G: Gate + Sync>(
     ensures matched { WritesMatch (said (map string_bytes words.now)) (D.state depot.old)
         (D.state depot.new) (answer_of result) }
     // The answer of a comparison comes exactly where the flat layout's bad gates and the pairs of
-    // the report say so; unequal devices of a pair make Bad, and a pair that has a
-    // correspondence is never reported as different.
+    // the report say so; unequal numbers of devices of a class and sizes in a pair make Bad, and a
+    // pair that has a correspondence which keeps the pins of the pairs below is never reported as
+    // different.
     ensures verdicts { WritesVerdicts (said (map string_bytes words.now)) (D.state depot.old)
         (D.state depot.new) (answer_of result) }
     // The netlist's file means, expanded, the netlist of the flat layout, and after Good the flat
