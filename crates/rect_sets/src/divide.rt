@@ -43,6 +43,65 @@ fn joined(alloc: Global, low: &[Rect], high: &[Rect], cut: &Cut) -> Result<Vec<R
     Ok(done)
 }
 
+// What lies on one side of a cut: the parts of two lists, and what is known of them.
+#[derive(Drop)]
+struct Side {
+    a: Vec<Rect>,
+    b: Vec<Rect>,
+    plane: Plane,
+}
+
+// The two sides of a cut of two lists.
+fn sides(
+    alloc: Global,
+    a: &[Rect],
+    b: &[Rect],
+    plane: &Plane,
+    cut: &Cut,
+) -> Result<(Side, Side), AllocError>
+    ensures low_a { IfOk result (λ r. r.0.a.items ≡ lows cut.now a.now) }
+    ensures low_b { IfOk result (λ r. r.0.b.items ≡ lows cut.now b.now) }
+    ensures high_a { IfOk result (λ r. r.1.a.items ≡ highs cut.now a.now) }
+    ensures high_b { IfOk result (λ r. r.1.b.items ≡ highs cut.now b.now) }
+{
+    let (low_a, high_a) = halves(alloc, a, cut)?;
+    let (low_b, high_b) = halves(alloc, b, cut)?;
+    let lows = low_a.len().saturating_add(low_b.len());
+    let highs = high_a.len().saturating_add(high_b.len());
+    let count = a.len().saturating_add(b.len());
+    let (low_plane, high_plane) = plane.sides(cut, count, lows, highs);
+    let low = Side {
+        a: low_a,
+        b: low_b,
+        plane: low_plane,
+    };
+    let high = Side {
+        a: high_a,
+        b: high_b,
+        plane: high_plane,
+    };
+    Ok((low, high))
+}
+
+// The same as `combine` of the two lists of a side, in halves; they are let go once they are cut.
+fn combine_side(alloc: Global, side: Side, rule: Rule, depth: u32) -> Result<Vec<Rect>, AllocError>
+    requires a { All IsRect side.a.items }
+    requires b { All IsRect side.b.items }
+    ensures { IfOk result (λ r. AreBlocks (combined_set rule side.a.items side.b.items) r.items) }
+{
+    if depth == 0 {
+        return combine(alloc, &side.a, &side.b, rule);
+    }
+    let Some(cut) = side.plane.cut_of(&side.a, &side.b) else {
+        return combine(alloc, &side.a, &side.b, rule);
+    };
+    let (low, high) = sides(alloc, &side.a, &side.b, &side.plane, &cut)?;
+    drop(side);
+    let low = combine_side(alloc, low, rule, depth - 1)?;
+    let high = combine_side(alloc, high, rule, depth - 1)?;
+    joined(alloc, &low, &high, &cut)
+}
+
 /// The same as `combine`, in halves as long as that makes it faster.
 pub fn combine_halves(
     alloc: Global,
@@ -50,29 +109,17 @@ pub fn combine_halves(
     b: &[Rect],
     rule: Rule,
     depth: u32,
-    plane: &Plane,
 ) -> Result<Vec<Rect>, AllocError>
     requires a { All IsRect a.now }
     requires b { All IsRect b.now }
     ensures { IfOk result (λ r. AreBlocks (combined_set rule a.now b.now) r.items) }
 {
-    if depth == 0 {
-        return combine(alloc, a, b, rule);
-    }
+    let plane = Plane::of(a, b);
     let Some(cut) = plane.cut_of(a, b) else {
         return combine(alloc, a, b, rule);
     };
-    let (low_a, high_a) = halves(alloc, a, &cut)?;
-    let (low_b, high_b) = halves(alloc, b, &cut)?;
-    let lows = low_a.len().saturating_add(low_b.len());
-    let highs = high_a.len().saturating_add(high_b.len());
-    let count = a.len().saturating_add(b.len());
-    let (low_plane, high_plane) = plane.sides(&cut, count, lows, highs);
-    let low = combine_halves(alloc, &low_a, &low_b, rule, depth - 1, &low_plane)?;
-    drop(low_a);
-    drop(low_b);
-    let high = combine_halves(alloc, &high_a, &high_b, rule, depth - 1, &high_plane)?;
-    drop(high_a);
-    drop(high_b);
+    let (low, high) = sides(alloc, a, b, &plane, &cut)?;
+    let low = combine_side(alloc, low, rule, depth)?;
+    let high = combine_side(alloc, high, rule, depth)?;
     joined(alloc, &low, &high, &cut)
 }

@@ -1,6 +1,7 @@
 -- Nodes over entries: what is added, and what a walk over them passes.
 use Rattle.std.proofs.Common.{◌≡◌, ◌≢◌, inl, inr, ℕ, zero, suc, ◌+◌, ◌-◌, ◌<◌, ◌≤◌, List, [], ◌∷◌, ◌++◌, Some, true, false, map, length, take, drop, get_or, slice_get, refl, sym, ◌∙◌, ap, subst, arith, length-append, append-nil, append_assoc}
 use Rattle.std.proofs.Math.Decide.{ℕ_discrete}
+use Rattle.std.proofs.lemmas.Bool.{cases_lt}
 use Rattle.std.proofs.lemmas.List.{map-append, take-take, take-append-drop, drop-take, take_more, length_push, length-drop, length-take-le, get_or-take, get_or-drop}
 use Rattle.std.proofs.lemmas.List.Elements.{filter-append}
 use Rattle.std.proofs.lemmas.Option.{slice_get-get_or, slice_get_within, get_or_from_slice_get}
@@ -171,6 +172,27 @@ holds_range entries from to hull inside all k e low lt there = all (k - from) e 
         slice_get-get_or (take (to - from) (drop from xs)) (k - from) x below
         ∙ ap Some (get_or-take (to - from) (drop from xs) (k - from) x (omega arith)
         ∙ get_or-drop from xs (k - from) x ∙ ap (λ n. get_or xs n x) sum ∙ get_or_from_slice_get xs k x x there)
+
+-- what grew twice
+pub above_both : (entries : List Entry) (from middle to : ℕ) (old mid new : List Node) → Grows entries middle old mid → Grows entries from mid new
+    → begin_of entries old (length old) ≡ to → IsAbove entries new from to (length old)
+above_both entries from middle to old mid new late early next =
+    let (a, mid_is) = late.kept in
+    let (b, new_is) = early.kept in
+    let whole : new ≡ old ++ (a ++ b) = new_is ∙ ap (λ xs. xs ++ b) mid_is ∙ append_assoc old a b in
+    let count : length new ≡ length old + length (a ++ b) = ap length whole ∙ length-append old (a ++ b) in
+    record {
+      low_skip = omega arith;
+      ends = ap (λ xs. begin_of entries xs (length old)) whole ∙ begin_kept entries old (a ++ b) (length old) (omega arith) ∙ next;
+      begins_too = λ lt. early.begins;
+    }
+
+-- what holds the entries of two parts holds those of both
+pub holds_both : (entries : List Entry) (from middle to : ℕ) (early late : Rect) → HoldsRange entries from middle early → HoldsRange entries middle to late → HoldsRange entries from to (union early late)
+holds_both entries from middle to early late a b k e low lt there = elim (cases_lt k middle) [
+  | inl before ↦ inside_too e.rect early (union early late) (a k e low before there) (in_left early late)
+  | inr after ↦ inside_too e.rect late (union early late) (b k e after lt there) (in_right early late)
+]
 
 -- a walk down to the i-th node has found what lies before it
 pub record HasWalked (w : Rect) (entries : List Entry) (nodes : List Node) (i : ℕ) (found : List ℕ) : Type 0 where

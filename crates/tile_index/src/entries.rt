@@ -32,7 +32,7 @@ fn position_of(i: usize) -> Result<u32, AllocError>
 fn stops_of(alloc: Global, rects: &[Rect], hull: &Rect) -> Result<Vec<Stop>, AllocError>
     ensures { IfOk result (λ v. AreInOrder rects.now v.items) }
 {
-    let mut stops = Vec::new(alloc);
+    let mut stops = Vec::with_capacity(alloc, rects.len())?;
     for (i, rect) in rects.iter().enumerate() {
         let position = position_of(i)?;
         let place = place_on_curve(rect, hull);

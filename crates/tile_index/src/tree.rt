@@ -7,7 +7,7 @@ ghost use Rattle.std.specs.List.{filter};
 ghost use Rattle.tile_index.specs.Windows.{overlap, meets, union};
 ghost use Rattle.tile_index.specs.Entries.{hits};
 ghost use Rattle.tile_index.specs.Trees.{AreNodes, IsAbove, Grows, HoldsAll, begin_of, IsTree};
-ghost use Rattle.tile_index.specs.Trees.{IsPart, part};
+ghost use Rattle.tile_index.specs.Trees.{IsPart, part, HoldsRange};
 
 use crate::entries::Entry;
 use geo_base::Rect;
@@ -68,6 +68,7 @@ fn hull_of(entries: &[Entry]) -> Rect
 fn push_node(
     nodes: &mut Vec<Node>,
     entries: &[Entry],
+    hull: Rect,
     from: usize,
     to: usize,
     skip: usize,
@@ -76,9 +77,10 @@ fn push_node(
     requires inside { to ≤ length entries.now }
     requires nodes { AreNodes entries.now nodes.old.items }
     requires above { IsAbove entries.now nodes.old.items from to skip }
+    requires hull { HoldsRange entries.now from to hull }
     ensures { OnOk result (Grows entries.now from nodes.old.items nodes.new.items) }
 {
-    let hull = hull_of(&entries[from..to]);
+    let _ = entries;
     nodes.push(Node {
         hull,
         from,
@@ -88,22 +90,32 @@ fn push_node(
     Ok(())
 }
 
-// Adds the nodes of the entries from one number up to another.
-fn grow(nodes: &mut Vec<Node>, entries: &[Entry], from: usize, to: usize) -> Result<(), AllocError>
+// Adds the nodes of the entries from one number up to another, and gives what holds them.
+fn grow(
+    nodes: &mut Vec<Node>,
+    entries: &[Entry],
+    from: usize,
+    to: usize,
+) -> Result<Rect, AllocError>
     requires some { from < to }
     requires inside { to ≤ length entries.now }
     requires nodes { AreNodes entries.now nodes.old.items }
     requires next { begin_of entries.now nodes.old.items (length nodes.old.items) ≡ to }
-    ensures { OnOk result (Grows entries.now from nodes.old.items nodes.new.items) }
+    ensures grows { OnOk result (Grows entries.now from nodes.old.items nodes.new.items) }
+    ensures holds { IfOk result (HoldsRange entries.now from to) }
 {
     let skip = nodes.len();
     if to - from <= BUNCH {
-        return push_node(nodes, entries, from, to, skip);
+        let hull = hull_of(&entries[from..to]);
+        push_node(nodes, entries, hull, from, to, skip)?;
+        return Ok(hull);
     }
     let middle = from + (to - from) / 2;
-    grow(nodes, entries, middle, to)?;
-    grow(nodes, entries, from, middle)?;
-    push_node(nodes, entries, from, to, skip)
+    let late = grow(nodes, entries, middle, to)?;
+    let early = grow(nodes, entries, from, middle)?;
+    let hull = union(&early, &late);
+    push_node(nodes, entries, hull, from, to, skip)?;
+    Ok(hull)
 }
 
 /// The nodes of all entries.
