@@ -4,7 +4,7 @@ use Rattle.std.proofs.lemmas.Bool.{cases_lt}
 use Rattle.match_rounds.specs.declared.classes.Classes.{Classes}
 use Rattle.match_rounds.specs.declared.groups.Part.{Part}
 use Rattle.match_rounds.specs.Order.{is_among}
-use Rattle.match_rounds.specs.Classes.{AreClasses, AreAlike, IsPartedOff, KeepsFresh, IsGrown}
+use Rattle.match_rounds.specs.Classes.{AreClasses, AreAlike, IsPartedOff, KeepsFresh, IsGrown, class_count, class_in, node_count}
 use Rattle.match_rounds.specs.Pieces.{entry, IsSameKey, IsNoLaterPart, ArePieces, IsGroup, AreNodesOf, HasCount, HaveOneCount, ArePartedSoFar}
 use Rattle.match_rounds.proofs.Apart.{found, has, parted}
 
@@ -169,7 +169,16 @@ pub grown_on : (old mid new : Classes) → IsGrown old mid → IsGrown mid new �
 grown_on old mid new h g =
     let first = h.count in
     let second = g.count in
-    record { count = omega arith; same = λ e. g.same (omega arith) ∙ h.same (omega arith) }
+    let long = h.long in
+    record {
+      count = omega arith;
+      long = g.long ∙ h.long;
+      kept = λ a l. elim (g.kept a (omega arith)) [
+        | inl e ↦ elim (h.kept a l) [ inl f ↦ inl (e ∙ f) | inr f ↦ inr (subst (λ (d : ℕ). class_count old ≤ d) (sym e) f) ]
+        | inr f ↦ inr (omega arith)
+      ];
+      same = λ e. g.same (omega arith) ∙ h.same (omega arith);
+    }
 
 pub grown_same : (c : Classes) → IsGrown c c
-grown_same c = record { count = omega arith; same = λ e. refl }
+grown_same c = record { count = omega arith; long = refl; kept = λ a l. inl refl; same = λ e. refl }

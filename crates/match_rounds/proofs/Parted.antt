@@ -1,5 +1,5 @@
 -- Classes after some nodes were made a class of their own.
-use Rattle.std.proofs.Common.{◌≡◌, inl, inr, ◌<◌, ◌≤◌, ◌+◌, ◌-◌, ◌==◌, ℕ, cond, count_by, nat_lt, Bool, true, false, List, [], ◌∷◌, ◌++◌, length, slice_index, refl, sym, subst, ◌∙◌, ap, arith, true≢false, length-append}
+use Rattle.std.proofs.Common.{◌≡◌, ◌⊎◌, inl, inr, ◌<◌, ◌≤◌, ◌+◌, ◌-◌, ◌==◌, ℕ, cond, count_by, nat_lt, Bool, true, false, List, [], ◌∷◌, ◌++◌, length, slice_index, refl, sym, subst, ◌∙◌, ap, arith, true≢false, length-append}
 use Rattle.std.proofs.Math.Decide.{ℕ_discrete}
 use Rattle.std.proofs.lemmas.List.{get_or_push, get_or_append_left}
 use Rattle.match_laws.specs.Circuits.{numbers_from}
@@ -230,6 +230,11 @@ keeps_fresh old new nodes n w l p = record {
       | inr t ↦ true≢false (sym t ∙ (ap (is_marked new.marks) long ∙ g))
     ]
 
+-- a node is of the class that it was of, or of the one that came
+kept_or_new : (old new : Classes) (nodes : List ℕ) (a : ℕ) (b : Bool) → class_in new a ≡ cond {A = ℕ} b (class_count old) (class_in old a) → (class_in new a ≡ class_in old a) ⊎ (class_count old ≤ class_in new a)
+kept_or_new old new nodes a true e = inr (omega arith)
+kept_or_new old new nodes a false e = inl e
+
 -- what a call leaves
 pub record HasParted (old new : Classes) (nodes : List ℕ) (left n : ℕ) : Type 0 where
   pub partition : IsPartition new left n
@@ -268,5 +273,13 @@ finish old new nodes before after left w begin size fresh l h a eb ea ew eg es e
       };
       parted = inl p5.classes;
       fresh = keeps_fresh old new nodes (length old.class_of.items) w l was;
-      grown = (let long = (sizes_of old new nodes (length old.class_of.items) w l was).long in record { count = omega arith; same = λ e. absurd (omega arith) });
+      grown = (
+          let long = (sizes_of old new nodes (length old.class_of.items) w l was).long in
+          record {
+            count = omega arith;
+            long = p5.long;
+            kept = λ a m. kept_or_new old new nodes a (is_among nodes (length nodes) a) (p5.classes a m);
+            same = λ e. absurd (omega arith);
+          }
+          );
     }

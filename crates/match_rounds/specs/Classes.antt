@@ -78,9 +78,13 @@ pub record KeepsFresh (old new : Classes) (n : ℕ) : Type 0 where
       → is_fresh new b ≡ false → class_in new a ≡ class_in new b
   pub older : (a : ℕ) → a < n → is_fresh new a ≡ false → is_fresh old a ≡ false
 
--- no class went, and where none came, each node is of the class that it was of
+-- no class went, each node is of the class that it was of or of one that came, and where none came,
+-- of the former
 pub record IsGrown (old new : Classes) : Type 0 where
   pub count : class_count old ≤ class_count new
+  pub long : node_count new ≡ node_count old
+  pub kept : (a : ℕ) → a < node_count old
+      → (class_in new a ≡ class_in old a) ⊎ (class_count old ≤ class_in new a)
   pub same : class_count new ≡ class_count old → new.class_of.items ≡ old.class_of.items
 
 -- two nodes are of one class now exactly where they were, and both or neither are among the nodes

@@ -1,5 +1,5 @@
 ghost use Rattle.std.specs.Prelude.{◌≡◌, ◌≢◌, ◌<◌, IfOk, OnOk};
-ghost use Rattle.match_rounds.specs.Classes.{IsPartition, KeepsFresh, node_count};
+ghost use Rattle.match_rounds.specs.Classes.{IsGrown, IsPartition, KeepsFresh, node_count};
 ghost use Rattle.match_rounds.specs.Pairs.{IsPairParted, pair_of, part_at};
 
 use crate::classes::Classes;
@@ -23,6 +23,7 @@ pub fn part_pair(
     ensures parted { OnOk result (IsPairParted classes.old classes.new a b
         (node_count classes.old)) }
     ensures fresh { OnOk result (KeepsFresh classes.old classes.new (node_count classes.old)) }
+    ensures grown { OnOk result (IsGrown classes.old classes.new) }
 {
     let mut parts = pair_parts(alloc, classes, a, b)?;
     let mut group = Vec::new(alloc);

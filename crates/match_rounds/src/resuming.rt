@@ -1,6 +1,6 @@
 ghost use Rattle.std.specs.Prelude.{◌<◌, length, IfOk, OnOk};
 ghost use Rattle.match_graph.specs.Graph.{IsGraph, left_of, nodes_of};
-ghost use Rattle.match_rounds.specs.Classes.{IsPartition};
+ghost use Rattle.match_rounds.specs.Classes.{IsGrown, IsPartition};
 ghost use Rattle.match_rounds.specs.Refined.{AreSettledBefore, IsResumed};
 ghost use Rattle.match_rounds.specs.Start.{AreGuesses, guessed_web};
 
@@ -29,6 +29,7 @@ pub fn single_out(
         (nodes_of graph.now)) }
     ensures resumed { IfOk result (λ even.
         IsResumed (guessed_web graph.now guesses.now) classes.new even) }
+    ensures grown { OnOk result (IsGrown classes.old classes.new) }
 {
     let (a, b) = guesses[guesses.len() - 1];
     part_pair(alloc, classes, graph.left_count(), a, b)?;

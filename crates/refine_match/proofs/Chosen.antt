@@ -1,6 +1,5 @@
 -- The node that is guessed next, and classes that leave none.
 use Rattle.std.proofs.Common.{◌≡◌, ◌⊎◌, inl, inr, ◌<◌, ◌≤◌, ◌+◌, ℕ, Bool, true, cond, count_by, List, [], ◌∷◌, refl, sym, subst, ◌∙◌, ap, arith}
-use Rattle.std.proofs.lemmas.Bool.{cases_lt}
 use Rattle.plain_netlist.specs.Lists.{IsListed}
 use Rattle.round_laws.specs.Web.{IsWeb, IsNode, Guess, IsSolved, agree, on_left, on_right, under}
 use Rattle.round_laws.specs.Nodes.{Node, Side, Layout, Schematic, Kind, Net, Device, Call}
@@ -16,75 +15,8 @@ use Rattle.match_graph.proofs.Placed.{index-first, index-last}
 use Rattle.match_rounds.specs.declared.classes.Classes.{Classes}
 use Rattle.match_rounds.specs.Sides.{left_members}
 use Rattle.refine_match.specs.Classes.{AreStableClasses, class_of_node}
-use Rattle.refine_match.specs.Choosing.{tied_with, AreNoFewer, HaveNoFewer, IsBetter, IsFirstTied, IsNoLaterTie, IsLeastTied, AreUntied}
+use Rattle.refine_match.specs.Choosing.{tied_with, IsLeastTied, AreUntied}
 use Rattle.refine_match.proofs.Crossed.{lefts_are}
-
--- the first tied node is the best one so far
-pub first_best : (g : Graph) (c : Classes) (a : ℕ) → IsFirstTied g c a → IsLeastTied g c (a + 1) a
-first_best g c a h = record {
-  below = omega arith;
-  tied = h.tied;
-  least = λ b l t. elim (cases_lt b a) [
-    | inl m ↦ let u = h.before b m in absurd (omega arith)
-    | inr m ↦ let e : a ≡ b = omega arith in inr (ap (tied_with g c) e, omega arith)
-  ];
-}
-
--- one node more was looked at
-pub better : (g : Graph) (c : Classes) (n a : ℕ) → IsLeastTied g c n a → IsBetter g c a n → IsLeastTied g c (n + 1) n
-better g c n a h b = record {
-  below = omega arith;
-  tied = b.0;
-  least = λ x l t. elim (cases_lt x n) [
-    | inl m ↦ inl (elim (h.least x m t) [ inl u ↦ (let v = b.1 in omega arith) | inr u ↦ (let v = b.1 in let w = u.0 in omega arith) ])
-    | inr m ↦ let e : x ≡ n = omega arith in inr (ap (tied_with g c) (sym e), omega arith)
-  ];
-}
-
-pub no_better : (g : Graph) (c : Classes) (n a : ℕ) → IsLeastTied g c n a → (IsBetter g c a n → ⊥) → IsLeastTied g c (n + 1) a
-no_better g c n a h b =
-    let below = h.below in
-    record {
-      below = omega arith;
-      tied = h.tied;
-      least = λ x l t. elim (cases_lt x n) [
-        | inl m ↦ h.least x m t
-        | inr m ↦
-            let e : x ≡ n = omega arith in
-            let t2 : 1 < tied_with g c n = subst (λ (y : ℕ). 1 < tied_with g c y) e t in
-            elim (cases_lt (tied_with g c n) (tied_with g c a)) [
-              | inl u ↦ absurd (b (t2, u))
-              | inr u ↦ subst (λ (y : ℕ). IsNoLaterTie g c a y) (sym e) (elim (cases_lt (tied_with g c a) (tied_with g c n)) [ inl v ↦ inl v | inr v ↦ inr (omega arith, omega arith) ])
-            ]
-      ];
-    }
-
--- where no node is tied with fewer, the first such node is the best of all
-pub best_of_all : (g : Graph) (c : Classes) (n m a : ℕ) → IsLeastTied g c n a → n ≤ left_of g → AreNoFewer g c m → tied_with g c a ≡ m → IsLeastTied g c (left_of g) a
-best_of_all g c n m a h inside few e =
-    let below = h.below in
-    record {
-      below = omega arith;
-      tied = h.tied;
-      least = λ b l t.
-          let f = few b l t in
-          elim (cases_lt (tied_with g c a) (tied_with g c b)) [
-            | inl u ↦ inl u
-            | inr u ↦ elim (cases_lt b n) [
-              | inl k ↦ h.least b k t
-              | inr k ↦ inr (omega arith, omega arith)
-            ]
-          ];
-    }
-
--- one class more was looked at
-pub fewer : (g : Graph) (c : Classes) (n m k : ℕ) → HaveNoFewer g c n m → k ≤ m → (1 < left_members g c n → k ≤ left_members g c n) → HaveNoFewer g c (n + 1) k
-fewer g c n m k h l here d below t = elim (cases_lt d n) [
-  | inl u ↦ let v = h d u t in omega arith
-  | inr u ↦
-      let e : n ≡ d = omega arith in
-      subst (λ (x : ℕ). k ≤ left_members g c x) e (here (subst (λ (x : ℕ). 1 < left_members g c x) (sym e) t))
-]
 
 -- the numbers of the left side
 pub left_count : (p : Pair) (g : Graph) → IsGraphOf p g → left_of g ≡ nodes_in p.left

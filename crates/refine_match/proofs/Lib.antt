@@ -1,7 +1,9 @@
 pub mod Crossed
 pub mod Uneven
 pub mod Chosen
-pub mod Untied
+pub mod Tied
+pub mod Entered
+pub mod InOrder
 pub mod Mates
 pub mod NextBehind
 pub mod Rising

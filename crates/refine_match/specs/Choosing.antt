@@ -25,27 +25,10 @@ pub record IsLeastTied (g : Graph) (c : Classes) (n a : ℕ) : Type 0 where
 abbrev pub AreUntied : Graph → Classes → ℕ → Type 0
 AreUntied g c n = (a : ℕ) → a < n → tied_with g c a ≤ 1
 
--- the first tied left node
-pub record IsFirstTied (g : Graph) (c : Classes) (a : ℕ) : Type 0 where
-  pub below : a < left_of g
-  pub tied : 1 < tied_with g c a
-  pub before : AreUntied g c a
-
-abbrev pub IsFirstOrNone : Graph → Classes → Option ℕ → Type 0
-IsFirstOrNone g c (Some a) = IsFirstTied g c a
-IsFirstOrNone g c None = AreUntied g c (left_of g)
-
--- a node is tied, with fewer than the best one so far
-abbrev pub IsBetter : Graph → Classes → ℕ → ℕ → Type 0
-IsBetter g c best a = (1 < tied_with g c a) × (tied_with g c a < tied_with g c best)
-
--- of the first n classes none is tied that has fewer than m left nodes
-abbrev pub HaveNoFewer : Graph → Classes → ℕ → ℕ → Type 0
-HaveNoFewer g c n m = (d : ℕ) → d < n → 1 < left_members g c d → m ≤ left_members g c d
-
--- no left node is tied with fewer than m
-abbrev pub AreNoFewer : Graph → Classes → ℕ → Type 0
-AreNoFewer g c m = (a : ℕ) → a < left_of g → 1 < tied_with g c a → m ≤ tied_with g c a
+-- the left node that is tied with the fewest, or that none is tied
+abbrev pub IsLeastOrNone : Graph → Classes → Option ℕ → Type 0
+IsLeastOrNone g c (Some a) = IsLeastTied g c (left_of g) a
+IsLeastOrNone g c None = AreUntied g c (left_of g)
 
 -- each class of a left node has one left node and one right one
 abbrev pub AreSingle : Graph → Classes → Type 0

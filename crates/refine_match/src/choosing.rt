@@ -1,76 +1,42 @@
-ghost use Rattle.std.specs.Prelude.{◌≡◌, ◌<◌, ◌↔◌, true};
+ghost use Rattle.std.specs.Prelude.{◌≡◌, ◌<◌, ◌↔◌, true, IfOk};
 ghost use Rattle.match_graph.specs.Graph.{left_of, nodes_of};
 ghost use Rattle.match_rounds.specs.Classes.{IsPartition};
-ghost use Rattle.refine_match.specs.Choosing.{AreNoFewer, AreUntied, IsBetter, IsFirstOrNone};
-ghost use Rattle.refine_match.specs.Choosing.{IsFirstTied, IsLeastTied, tied_with};
+ghost use Rattle.refine_match.specs.Choosing.{IsLeastOrNone, tied_with};
+ghost use Rattle.refine_match.specs.Ties.{AreTiesOf, IsRight};
 
+use crate::ties::{Tie, Ties};
 use match_graph::Graph;
 use match_rounds::Classes;
+use std::alloc::AllocError;
+use std::cmp::Reverse;
 
-/// The first left node whose class has more than one, if there is one; the nodes before `from` are
-/// known to have none of these. The time is in proportion to the number of nodes that it passes.
-pub fn first_tied(graph: &Graph, classes: &Classes, from: u32) -> Option<u32>
-    requires partition { IsPartition classes.now (left_of graph.now) (nodes_of graph.now) }
-    requires before { AreUntied graph.now classes.now from }
-    ensures { IsFirstOrNone graph.now classes.now result }
-{
-    for node in from..graph.left_count() {
-        if 1 < ties(graph, classes, node) {
-            return Some(node);
+impl Ties {
+    /// The first left node of the class that has the fewest left nodes of all that have more than
+    /// one, if there is one; where classes have as few, the least of their first nodes. The time is
+    /// logarithmic in the number of classes, beside the same for each entry that is not right any
+    /// more, which goes.
+    pub fn choose(&mut self, graph: &Graph, classes: &Classes) -> Result<Option<u32>, AllocError>
+        requires partition { IsPartition classes.now (left_of graph.now) (nodes_of graph.now) }
+        requires ties { AreTiesOf self.old graph.now classes.now }
+        ensures ties { IfOk result (λ node. AreTiesOf self.new graph.now classes.now) }
+        ensures least { IfOk result (IsLeastOrNone graph.now classes.now) }
+    {
+        while let Some(Reverse(tie)) = self.queue.pop() {
+            if is_right(graph, classes, tie) {
+                self.queue.push(Reverse(tie))?;
+                return Ok(Some(tie.node));
+            }
         }
+        Ok(None)
     }
-    None
 }
 
-/// The first left node of a class that has the fewest left nodes of all that have more than one,
-/// where the first node of any such class is this one. It walks the classes, unless that node's has
-/// two left nodes, and the left nodes up to the one that it finds.
-pub fn choose(graph: &Graph, classes: &Classes, first: u32) -> u32
-    requires partition { IsPartition classes.now (left_of graph.now) (nodes_of graph.now) }
-    requires first { IsFirstTied graph.now classes.now first }
-    ensures { IsLeastTied graph.now classes.now (left_of graph.now) result }
+// Whether the entry is that of a tied class.
+fn is_right(graph: &Graph, classes: &Classes, tie: Tie) -> bool
+    requires { IsPartition classes.now (left_of graph.now) (nodes_of graph.now) }
+    ensures { (result ≡ true) ↔ IsRight graph.now classes.now tie }
 {
-    let fewest = fewest_ties(graph, classes, first);
-    let mut best = first;
-    for node in first + 1..graph.left_count() {
-        if ties(graph, classes, best) == fewest {
-            return best;
-        }
-        if is_better(graph, classes, best, node) {
-            best = node;
-        }
-    }
-    best
-}
-
-// The fewest left nodes that a tied class has, where this node's is one.
-fn fewest_ties(graph: &Graph, classes: &Classes, first: u32) -> u32
-    requires partition { IsPartition classes.now (left_of graph.now) (nodes_of graph.now) }
-    requires node { first < nodes_of graph.now }
-    ensures { AreNoFewer graph.now classes.now result }
-{
-    let mut fewest = ties(graph, classes, first);
-    for class in 0..classes.count() {
-        if fewest == 2 {
-            return 2;
-        }
-        let count = classes.left_size(graph, class as u32);
-        if 1 < count && count < fewest {
-            fewest = count;
-        }
-    }
-    fewest
-}
-
-// Whether a node is tied, with fewer than the best one so far.
-fn is_better(graph: &Graph, classes: &Classes, best: u32, node: u32) -> bool
-    requires partition { IsPartition classes.now (left_of graph.now) (nodes_of graph.now) }
-    requires node { node < nodes_of graph.now }
-    requires best { best < nodes_of graph.now }
-    ensures { (result ≡ true) ↔ IsBetter graph.now classes.now best node }
-{
-    let count = ties(graph, classes, node);
-    1 < count && count < ties(graph, classes, best)
+    1 < tie.count && tie.node < graph.left_count() && ties(graph, classes, tie.node) == tie.count
 }
 
 // How many left nodes the class of a node has.

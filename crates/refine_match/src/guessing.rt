@@ -6,13 +6,14 @@ ghost use Rattle.match_graph.specs.Graph.{IsGraph, left_of, nodes_of};
 ghost use Rattle.match_rounds.specs.Classes.{IsPartition};
 ghost use Rattle.match_rounds.specs.Refined.{AreSettled, HasNoEvenEnd};
 ghost use Rattle.match_rounds.specs.Start.{guessed_web};
-ghost use Rattle.refine_match.specs.Choosing.{AreUntied, IsLeastTied};
+ghost use Rattle.refine_match.specs.Choosing.{IsLeastTied};
 ghost use Rattle.refine_match.specs.Searching.{IsGuessing, IsLonger, IsTried, IsTrying, IsUnderWay};
 ghost use Rattle.refine_match.specs.Searching.{EndsBy, guess_row};
+ghost use Rattle.refine_match.specs.Ties.{AreTiesOf};
 
 use crate::candidates::Candidate;
-use crate::choosing::{choose, first_tied};
 use crate::searching::{Level, Search, first_try, settle};
+use crate::ties::Ties;
 use match_graph::Graph;
 use match_rounds::{Verdict, refine, single_out};
 use match_types::{Guess, GuessEnd};
@@ -39,10 +40,9 @@ impl Search {
             self.refute(alloc, graph, candidate)?;
             return Ok(false);
         }
-        match first_tied(graph, &self.classes, self.untied) {
-            Some(first) => {
-                self.untied = first;
-                let node = choose(graph, &self.classes, first);
+        self.ties.follow(alloc, graph, &self.classes)?;
+        match self.ties.choose(graph, &self.classes)? {
+            Some(node) => {
                 self.descend(graph, candidate, node)?;
                 Ok(false)
             }
@@ -70,7 +70,7 @@ impl Search {
         self.refuted += 1;
         self.guesses.pop();
         self.classes = settle(alloc, graph, &self.guesses)?;
-        self.untied = 0;
+        self.ties = Ties::of(alloc, graph, &self.classes)?;
         Ok(())
     }
 
@@ -82,8 +82,7 @@ impl Search {
         requires settled { AreSettled (guessed_web graph.now self.old.guesses.items)
             self.old.classes }
         requires least { IsLeastTied graph.now self.old.classes (left_of graph.now) node }
-        requires inside { self.old.untied ≤ left_of graph.now }
-        requires untied { AreUntied graph.now self.old.classes self.old.untied }
+        requires ties { AreTiesOf self.old.ties graph.now self.old.classes }
         ensures way { (p : Pair) → IsGuessing p graph.now self.old candidate
             → OnOk result (IsUnderWay p graph.now self.new) }
         ensures longer { OnOk result (IsLonger self.old self.new) }

@@ -6,8 +6,10 @@ mod candidates;
 mod choosing;
 mod evidence;
 mod guessing;
+mod lefts;
 mod matching;
 mod pairings;
 mod searching;
+mod ties;
 
 pub use matching::match_circuits;

@@ -10,6 +10,7 @@ ghost use Rattle.refine_match.specs.Candidates.{HaveNets, IsNextOf, IsPairOf};
 ghost use Rattle.refine_match.specs.Searching.{HasEvenEnd, HasLeft, IsLeft, IsShorter, IsUnderWay};
 
 use crate::candidates::{Candidate, next_candidate};
+use crate::ties::Ties;
 use match_graph::Graph;
 use match_rounds::{Classes, refine};
 use match_types::{Guess, GuessEnd};
@@ -34,8 +35,8 @@ pub struct Search {
     pub refuted: u32,
     /// The stable classes under the guesses that are open.
     pub classes: Classes,
-    /// The left nodes before this one are in classes of one left node.
-    pub untied: u32,
+    /// Their ties.
+    pub ties: Ties,
     /// Those guesses: the node and the last candidate of each level above.
     pub guesses: Vec<(u32, u32)>,
     /// The level whose candidates are tried.
@@ -48,16 +49,16 @@ pub struct Search {
 
 impl Search {
     /// The search that begins with this tied node of stable classes.
-    pub fn begin(alloc: Global, classes: Classes, node: u32, limit: u32) -> Search
+    pub fn begin(alloc: Global, classes: Classes, ties: Ties, node: u32, limit: u32) -> Search
         ensures way { (p : Pair) (g : Graph) → IsGraphOf p g → IsWeb (web_of p)
-            → AreTies g classes node → IsUnderWay p g result }
+            → AreTies g classes ties node → IsUnderWay p g result }
         ensures limit { result.limit ≡ limit }
     {
         Search {
             limit,
             refuted: 0,
             classes,
-            untied: 0,
+            ties,
             guesses: Vec::new(alloc),
             level: first_try(node),
             outer: Vec::new(alloc),
@@ -97,7 +98,7 @@ impl Search {
                 self.level = level;
                 self.guesses.truncate(self.outer.len());
                 self.classes = settle(alloc, graph, &self.guesses)?;
-                self.untied = 0;
+                self.ties = Ties::of(alloc, graph, &self.classes)?;
                 Ok(true)
             }
             None => Ok(false),

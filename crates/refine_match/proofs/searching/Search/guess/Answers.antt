@@ -1,7 +1,8 @@
-use Rattle.std.proofs.Common.{ℕ, List, sym, subst, ◌∙◌}
+use Rattle.std.proofs.Common.{ℕ, List, Option, sym, subst, ◌∙◌}
 use Rattle.match_rounds.specs.Refined.{AreSettled, HasNoEvenEnd}
 use Rattle.match_rounds.specs.Start.{AreGuesses, guessed_web}
-use Rattle.refine_match.proofs.Untied.{still_untied}
+use Rattle.refine_match.specs.Choosing.{IsLeastOrNone}
+use Rattle.refine_match.proofs.Tied.{former}
 use Rattle.refine_match.proofs.Tried.{before_guess, guessing, not_even, now_even, pushed_guesses}
 use Rattle.refine_match.proofs.searching.Search.guess.Goals as goal
 
@@ -17,7 +18,7 @@ single_out-requires-clause-settled c =
 
 pub refute-requires-clause-guessing : goal.refute-requires-clause-guessing
 refute-requires-clause-guessing c =
-    (c.requires.0, guessing c.requires.0 c.args.graph.now c.args.self.now c.args.candidate c.requires.1 c.push.new.self c.single_out.new.classes c.args.self.now.untied c.in_ok-push.ensures.items)
+    (c.requires.0, guessing c.requires.0 c.args.graph.now c.args.self.now c.args.candidate c.requires.1 c.push.new.self c.single_out.new.classes c.args.self.now.ties c.in_ok-push.ensures.items)
 
 pub refute-requires-clause-uneven : goal.refute-requires-clause-uneven
 refute-requires-clause-uneven c =
@@ -26,22 +27,17 @@ refute-requires-clause-uneven c =
 
 pub returns-then-not-branch-clause-tried : goal.returns-then-not-branch-clause-tried
 returns-then-not-branch-clause-tried c = λ p h.
-    c.in_ok-refute.ensures.way p (guessing p c.args.graph.now c.args.self.now c.args.candidate h c.push.new.self c.single_out.new.classes c.args.self.now.untied c.in_ok-push.ensures.items)
+    c.in_ok-refute.ensures.way p (guessing p c.args.graph.now c.args.self.now c.args.candidate h c.push.new.self c.single_out.new.classes c.args.self.now.ties c.in_ok-push.ensures.items)
 
-pub first_tied-requires-clause-before : goal.first_tied-requires-clause-before
-first_tied-requires-clause-before c =
-    let s = c.args.self.now in
-    let n : ℕ × ℕ = (s.level.node, c.args.candidate.node) in
-    let e = c.deref.ensures.value ∙ c.in_ok-push.ensures.items in
+-- what the ties are told of the classes
+pub follow-requires-clause-former : goal.follow-requires-clause-former
+follow-requires-clause-former c =
     let way = c.requires.1.way in
-    still_untied c.args.graph.now s.guesses.items n s.classes c.single_out.new.classes s.untied way.search.told.graph.graph way.settled
-    (subst (λ (us : List (ℕ × ℕ)). AreSettled (guessed_web c.args.graph.now us) c.single_out.new.classes) e
-    (now_even (guessed_web c.args.graph.now c.deref.result.now) c.single_out.new.classes c.in_ok-single_out.field-0 c.if-not-branch.false c.in_ok-single_out.ensures.resumed))
-    way.inside way.untied
+    former c.args.self.now.ties c.args.graph.now c.args.self.now.classes c.single_out.new.classes way.partition c.in_ok-single_out.ensures.grown way.ties
 
 pub descend-requires-clause-guessing : goal.descend-requires-clause-guessing
 descend-requires-clause-guessing c =
-    (c.requires.0, guessing c.requires.0 c.args.graph.now c.args.self.now c.args.candidate c.requires.1 c.push.new.self c.single_out.new.classes c.in-Some.first c.in_ok-push.ensures.items)
+    (c.requires.0, guessing c.requires.0 c.args.graph.now c.args.self.now c.args.candidate c.requires.1 c.push.new.self c.single_out.new.classes c.choose.new.self c.in_ok-push.ensures.items)
 
 pub descend-requires-clause-settled : goal.descend-requires-clause-settled
 descend-requires-clause-settled c =
@@ -50,13 +46,13 @@ descend-requires-clause-settled c =
 
 pub returns-in_ok-descend-in-Some-clause-tried : goal.returns-in_ok-descend-in-Some-clause-tried
 returns-in_ok-descend-in-Some-clause-tried c = λ p h.
-    c.in_ok-descend-in-Some.ensures.way p (guessing p c.args.graph.now c.args.self.now c.args.candidate h c.push.new.self c.single_out.new.classes c.in-Some.first c.in_ok-push.ensures.items)
+    c.in_ok-descend-in-Some.ensures.way p (guessing p c.args.graph.now c.args.self.now c.args.candidate h c.push.new.self c.single_out.new.classes c.choose.new.self c.in_ok-push.ensures.items)
 
 pub returns-in-None-clause-tried : goal.returns-in-None-clause-tried
 returns-in-None-clause-tried c = λ p h. record {
-  guessing = guessing p c.args.graph.now c.args.self.now c.args.candidate h c.push.new.self c.single_out.new.classes c.args.self.now.untied c.in_ok-push.ensures.items;
+  guessing = guessing p c.args.graph.now c.args.self.now c.args.candidate h c.push.new.self c.single_out.new.classes c.choose.new.self c.in_ok-push.ensures.items;
   partition = c.in_ok-single_out.ensures.partition;
   settled = subst (λ (us : List (ℕ × ℕ)). AreSettled (guessed_web c.args.graph.now us) c.single_out.new.classes) c.deref.ensures.value
       (now_even (guessed_web c.args.graph.now c.deref.result.now) c.single_out.new.classes c.in_ok-single_out.field-0 c.if-not-branch.false c.in_ok-single_out.ensures.resumed);
-  untied = c.in-None.ensures;
+  untied = subst (λ (o : Option ℕ). IsLeastOrNone c.args.graph.now c.single_out.new.classes o) c.in-None.is c.in_ok-node.ensures.least;
 }

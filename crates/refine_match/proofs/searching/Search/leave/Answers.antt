@@ -10,8 +10,8 @@ pub settle-requires-clause-even : goal.settle-requires-clause-even
 settle-requires-clause-even c =
     has_even c.requires.way.0 c.args.graph.now c.args.self.now c.requires.way.1 c.pop.new.self c.in-Some.level c.len.result c.deref.result.now c.in-Some.ensures.items c.len.ensures (c.deref.ensures.value ∙ c.truncate.ensures.items)
 
-pub returns-in_ok-self-in-Some-clause-left : goal.returns-in_ok-self-in-Some-clause-left
-returns-in_ok-self-in-Some-clause-left c = λ p way none.
-    left_way p c.args.graph.now c.args.self.now way c.pop.new.self c.in-Some.level c.len.result c.truncate.new.self c.in_ok-self-in-Some.field-0 c.index_mut.result.now c.deref.result.now
+pub returns-in_ok-self-in-Some-2-clause-left : goal.returns-in_ok-self-in-Some-2-clause-left
+returns-in_ok-self-in-Some-2-clause-left c = λ p way none.
+    left_way p c.args.graph.now c.args.self.now way c.pop.new.self c.in-Some.level c.len.result c.truncate.new.self c.in_ok-self-in-Some.field-0 c.in_ok-self-in-Some-2.field-0 c.index_mut.result.now c.deref.result.now
     c.in-Some.ensures.items c.len.ensures c.truncate.ensures.items none c.index_mut.ensures.value c.in_ok-self-in-Some.ensures.partition
-    c.in_ok-self-in-Some.ensures.settled c.deref.ensures.value
+    c.in_ok-self-in-Some.ensures.settled c.deref.ensures.value c.in_ok-self-in-Some-2.ensures
