@@ -19,35 +19,37 @@ use Rattle.net_walk.proofs.Pairing.{HoldsSquare, seen_item}
 use Rattle.net_walk.proofs.Seeing.{piece_seen, seen_both}
 use Rattle.net_walk.specs.Beside.{IsBesideSeen, BesidePairLaw}
 use Rattle.net_walk.specs.Pairs.{first_of}
-use Rattle.net_walk.specs.Seen.{AddsSeen, IsSeen}
+use Rattle.net_walk.specs.Seen.{AddsSeen, IsJoinedSeen, IsSeen}
+use Rattle.touching_pieces.specs.Pairs.{AreJoined}
+use Rattle.touching_pieces.specs.declared.conductors.Joined.{Joined}
 use Rattle.touching_pieces.specs.declared.pieces.Piece.{Piece}
 
 own_holds_at : (d : Design) (t : Tables) (cell c r e : ℕ) (rect : Rect) (q : Square) → slice_get (t.own cell c) r ≡ Some rect → IsIn q rect → c ≡ e → ItemHolds d t cell (Own c r) (At e q)
 own_holds_at d t cell c r e rect q there inside same = subst (λ k. ItemHolds d t cell (Own c r) (At k q)) same (own_holds d t cell c r rect q there inside)
 
-pub beside_seen : (d : Design) (t : Tables) (rect : Rect) (conductor item n : ℕ) (p : Place) (at : ℕ) (new : List Piece) → IsRect rect → AddsSeen (IsSeen d t p (grown rect) at n) (record { conductor = conductor; rect = rect; item = item } ∷ []) new
-    → AddsSeen (IsBesideSeen d t rect conductor item n p at) [] new
-beside_seen d t rect conductor item n p at new is h =
+pub beside_seen : (d : Design) (t : Tables) (joins : List Joined) (rect : Rect) (conductor item n : ℕ) (p : Place) (at : ℕ) (new : List Piece) → IsRect rect → AddsSeen (IsJoinedSeen d t joins conductor p (grown rect) at n) (record { conductor = conductor; rect = rect; item = item } ∷ []) new
+    → AddsSeen (IsBesideSeen d t joins rect conductor item n p at) [] new
+beside_seen d t joins rect conductor item n p at new is h =
     let o : Piece = record { conductor = conductor; rect = rect; item = item } in
-    seen_both (λ c i q. (conductor ≡ c) × (item ≡ i) × IsIn q rect) (IsSeen d t p (grown rect) at n) (IsBesideSeen d t rect conductor item n p at) [] (o ∷ []) new (piece_seen o [] is) h (λ c i q. ((λ k. k), (λ k. k)))
+    seen_both (λ c i q. (conductor ≡ c) × (item ≡ i) × IsIn q rect) (IsJoinedSeen d t joins conductor p (grown rect) at n) (IsBesideSeen d t joins rect conductor item n p at) [] (o ∷ []) new (piece_seen o [] is) h (λ c i q. ((λ k. k), (λ k. k)))
 
-pub beside_known : (d : Design) (t : Tables) (rect : Rect) (conductor item n : ℕ) (p : Place) (at : ℕ) → conductor < n → (c i : ℕ) (q : Square) → IsBesideSeen d t rect conductor item n p at c i q → c < n
-beside_known d t rect conductor item n p at lt c i q (inl h) = subst (λ k. k < n) h.0 lt
-beside_known d t rect conductor item n p at lt c i q (inr h) = h.known
+pub beside_known : (d : Design) (t : Tables) (joins : List Joined) (rect : Rect) (conductor item n : ℕ) (p : Place) (at : ℕ) → conductor < n → (c i : ℕ) (q : Square) → IsBesideSeen d t joins rect conductor item n p at c i q → c < n
+beside_known d t joins rect e item n p at lt c i q (inl h) = subst (λ k. k < n) h.0 lt
+beside_known d t joins rect e item n p at lt c i q (inr h) = h.1.known
 
 pub beside_pair : BesidePairLaw
 beside_pair d w t cell c r k p rect joins links right is there at_place same h =
     let n = length w.conductors in
     let placed = placed_at d cell k p at_place in
     let stands : slice_get (items_of d w t cell) (owned_before t cell c + r) ≡ Some (Own c r) = own_place d w t cell c r is.0 is.1 in
-    let item : (e i : ℕ) (s : Square) → IsBesideSeen d t rect c (owned_before t cell c + r) n p (first_of d w t cell k) e i s → HoldsSquare d w t cell i e s = λ e i s o. elim o [
+    let item : (e i : ℕ) (s : Square) → IsBesideSeen d t joins rect c (owned_before t cell c + r) n p (first_of d w t cell k) e i s → HoldsSquare d w t cell i e s = λ e i s o. elim o [
       | inl a ↦ record {
         item = Own c r;
         stands = subst (λ j. slice_get (items_of d w t cell) j ≡ Some (Own c r)) a.1 stands;
         is = is;
         holds = own_holds_at d t cell c r e rect s there a.2 a.0;
       }
-      | inr b ↦ seen_item d w t cell k p (grown rect) n e i s right at_place b
+      | inr b ↦ seen_item d w t cell k p (grown rect) n e i s right at_place b.1
     ] in
     record {
       each = λ i j g.
@@ -76,5 +78,5 @@ beside_pair d w t cell c r k p rect joins links right is there at_place same h =
           let known = conductor d w t p.cell x l.other b.square (λ e u. right.nets k e p placed u) b.holds in
           let two : IsSeen d t p (grown rect) (first_of d w t cell k) n l.other (first_of d w t cell k + x) (moved_square p.motion b.square) = record { known = known; net = x; square = b.square; holds = b.holds; item = refl; image = refl; within = within } in
           h.found (owned_before t cell c + r) (first_of d w t cell k + x)
-          (record { c = l.one; e = l.other; p = l.p; q = moved_square p.motion b.square; joined = (same l.one l.other).1 l.joined; over = inl (a.same, refl, inside); over_too = inr two; near = near });
+          (record { c = l.one; e = l.other; p = l.p; q = moved_square p.motion b.square; joined = (same l.one l.other).1 l.joined; over = inl (a.same, refl, inside); over_too = inr (subst (λ k. AreJoined joins k l.other) (sym a.same) ((same l.one l.other).1 l.joined), two); near = near });
     }

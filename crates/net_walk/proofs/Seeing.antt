@@ -4,7 +4,7 @@ use Rattle.std.proofs.Math.Decide.{ℕ_discrete}
 use Rattle.std.proofs.Math.Seq.{take-length}
 use Rattle.std.proofs.lemmas.Int.{ints}
 use Rattle.std.proofs.lemmas.List.{take_more}
-use Rattle.flat_layout.specs.Layout.{Design, Place}
+use Rattle.flat_layout.specs.Layout.{Design, Place, Some_of}
 use Rattle.flat_layout.specs.Nets.{Tables, NetHolds, AreNets}
 use Rattle.flat_layout.specs.Plane.{IsIn}
 use Rattle.flat_layout.specs.Regions.{Wiring, At}
@@ -17,7 +17,7 @@ use Rattle.net_link_laws.specs.Collected.{IsOver, AreCollected}
 use Rattle.net_link_laws.specs.declared.piece.NetPiece.{NetPiece}
 use Rattle.net_walk.proofs.Adding.{no_piece}
 use Rattle.net_walk.proofs.Insides.{moved_in, from_in}
-use Rattle.net_walk.specs.Seen.{HaveSquares, AreLinksOver, IsPieceOver, AddsSeen, IsSeenOf, IsSeen, IsSeenOfTwo, HaveItems}
+use Rattle.net_walk.specs.Seen.{HaveSquares, AreLinksOver, IsPieceOver, AddsSeen, IsSeenOf, IsSeen, IsSeenAt, IsJoinedSeen, IsSeenOfTwo, JoinsTwo, HaveItems}
 use Rattle.net_walk.specs.Walk.{AreInside, IsPart, HasNoPart}
 use Rattle.link_classes.specs.declared.classes.Link.{Link}
 use Rattle.touching_pieces.specs.Pairs.{AreJoined, AreLinksOf, AreOf, IsAmong}
@@ -122,6 +122,54 @@ items_at at [] k h lt = absurd (omega arith)
 items_at at (p ∷ ps) zero h lt = (h.0, tt)
 items_at at (p ∷ ps) (suc k) h lt = items_at at ps k h.1 (omega arith)
 
+pub seen_same : (R S : ℕ → ℕ → Square → Type 0) (old new : List Piece) → AddsSeen R old new → ((c i : ℕ) (q : Square) → R c i q ↔ S c i q) → AddsSeen S old new
+seen_same R S old new h same = record {
+  over = λ c i q. (
+    (λ k. elim ((h.over c i q).0 k) [ inl a ↦ inl a | inr b ↦ inr ((same c i q).0 b) ]),
+    (λ k. (h.over c i q).1 (elim k [ inl a ↦ inl a | inr b ↦ inr ((same c i q).1 b) ])),
+  );
+  filled = h.filled;
+}
+
+-- conductor after conductor: of all, or of those that are joined to one
+module _ (d : Design) (t : Tables) (p : Place) (window : Rect) (at : ℕ) where
+  fewer : (n c i : ℕ) (q : Square) → (c ≡ n → ⊥) → IsSeen d t p window at (n + 1) c i q → IsSeen d t p window at n c i q
+  fewer n c i q not s = let lt = s.known in record { known = (let less : c < n = omega (arith, lt, not) in less); net = s.net; square = s.square; holds = s.holds; item = s.item; image = s.image; within = s.within }
+
+  wider : (n c i : ℕ) (q : Square) → IsSeen d t p window at n c i q → IsSeen d t p window at (n + 1) c i q
+  wider n c i q s = let lt = s.known in record { known = (let less : c < n + 1 = omega (arith, lt) in less); net = s.net; square = s.square; holds = s.holds; item = s.item; image = s.image; within = s.within }
+
+  pub conductor_seen : (n : ℕ) (old mid new : List Piece) → AddsSeen (IsSeen d t p window at n) old mid → AddsSeen (IsSeenAt d t p window at n) mid new → AddsSeen (IsSeen d t p window at (n + 1)) old new
+  conductor_seen n old mid new h g =
+      seen_both (IsSeen d t p window at n) (IsSeenAt d t p window at n) (IsSeen d t p window at (n + 1)) old mid new h g
+      (λ c i q. (
+        (λ s. elim (ℕ_discrete c n) [ yes e ↦ inr (sym e, s) | no m ↦ inl (fewer n c i q m s) ]),
+        (λ s. elim s [ inl a ↦ wider n c i q a | inr b ↦ b.1 ]),
+      ))
+
+  module _ (joins : List Joined) (k : ℕ) where
+    pub none_joined : (ps : List Piece) → AddsSeen (IsJoinedSeen d t joins k p window at 0) ps ps
+    none_joined ps = seen_none (IsJoinedSeen d t joins k p window at 0) ps (λ c i q h. let lt = h.1.known in absurd (omega (arith, lt)))
+
+    pub joined_more : (n : ℕ) (old mid new : List Piece) → AreJoined joins k n → AddsSeen (IsJoinedSeen d t joins k p window at n) old mid → AddsSeen (IsSeenAt d t p window at n) mid new → AddsSeen (IsJoinedSeen d t joins k p window at (n + 1)) old new
+    joined_more n old mid new are h g =
+        seen_both (IsJoinedSeen d t joins k p window at n) (IsSeenAt d t p window at n) (IsJoinedSeen d t joins k p window at (n + 1)) old mid new h g
+        (λ c i q. (
+          (λ s. elim (ℕ_discrete c n) [ yes e ↦ inr (sym e, s.1) | no m ↦ inl (s.0, fewer n c i q m s.1) ]),
+          (λ s. elim s [ inl a ↦ (a.0, wider n c i q a.1) | inr b ↦ (subst (λ e. AreJoined joins k e) b.0 are, b.1) ]),
+        ))
+
+    pub joined_same : (n : ℕ) (old new : List Piece) → (AreJoined joins k n → ⊥) → AddsSeen (IsJoinedSeen d t joins k p window at n) old new → AddsSeen (IsJoinedSeen d t joins k p window at (n + 1)) old new
+    joined_same n old new not h =
+        seen_same (IsJoinedSeen d t joins k p window at n) (IsJoinedSeen d t joins k p window at (n + 1)) old new h
+        (λ c i q. (
+          (λ s. (s.0, wider n c i q s.1)),
+          (λ s. elim (ℕ_discrete c n) [ yes e ↦ absurd (not (subst (λ e. AreJoined joins k e) e s.0)) | no m ↦ (s.0, fewer n c i q m s.1) ]),
+        ))
+
+    pub no_part_joined : (n : ℕ) (ps : List Piece) → HasNoPart d t p window → AddsSeen (IsJoinedSeen d t joins k p window at n) ps ps
+    no_part_joined n ps none = seen_none (IsJoinedSeen d t joins k p window at n) ps (λ c i q h. none c h.1.net h.1.square h.1.holds (subst (λ (v : Square). IsIn v window) (sym h.1.image) h.1.within))
+
 module _ (d : Design) (w : Wiring) (t : Tables) (p : Place) (window inner : Rect) (at : ℕ) (nets : AreNets d w t p.cell (t.nets p.cell)) (part : IsPart d t p window inner) where
   abbrev S : ℕ → ℕ → ℕ → Square → Type 0
   S n = IsSeen d t p window at n
@@ -129,32 +177,30 @@ module _ (d : Design) (w : Wiring) (t : Tables) (p : Place) (window inner : Rect
   pub no_conductor : (ps : List Piece) → AddsSeen (S 0) ps ps
   no_conductor ps = seen_none (S 0) ps (λ c i q h. let lt = h.known in absurd (omega arith))
 
-  pub conductor_seen : (n : ℕ) (below : List NetPiece) (old mid new : List Piece) → AreCollected d t p.cell n inner below → AddsSeen (S n) old mid → AddsSeen (IsSeenOf p.motion below n at) mid new → AddsSeen (S (n + 1)) old new
-  conductor_seen n below old mid new seen h g =
-      seen_both (S n) (IsSeenOf p.motion below n at) (S (n + 1)) old mid new h g
+  -- what was collected of a conductor is what is seen of it
+  pub of_one : (n : ℕ) (below : List NetPiece) (old new : List Piece) → AreCollected d t p.cell n inner below → AddsSeen (IsSeenOf p.motion below n at) old new → AddsSeen (IsSeenAt d t p window at n) old new
+  of_one n below old new seen h =
+      seen_same (IsSeenOf p.motion below n at) (IsSeenAt d t p window at n) old new h
       (λ c i q. (
-        (λ s. elim (ℕ_discrete c n) [
-          | yes e ↦
-              let held : NetHolds d t p.cell s.net (At n s.square) = subst (λ k. NetHolds d t p.cell s.net (At k s.square)) e s.holds in
-              let image : IsIn (moved_square p.motion s.square) window = subst (λ (v : Square). IsIn v window) (sym s.image) s.within in
-              inr (sym e, s.net, s.square, seen.found s.net s.square (part.all n s.net s.square held image) held, s.item, s.image)
-          | no m ↦ let lt = s.known in inl (record { known = (let less : c < n = omega arith in less); net = s.net; square = s.square; holds = s.holds; item = s.item; image = s.image; within = s.within })
-        ]),
-        (λ s. elim s [
-          | inl a ↦ let lt = a.known in record { known = (let less : c < n + 1 = omega arith in less); net = a.net; square = a.square; holds = a.holds; item = a.item; image = a.image; within = a.within }
-          | inr b ↦
-              let held = seen.each b.1 b.2 b.3 in
-              let e = b.0 in
+        (λ b.
+            let held = seen.each b.1 b.2 b.3 in
+            let e = b.0 in (
+              e,
               record {
-                known = (let less : c < n + 1 = omega arith in less);
+                known = (let less : c < n + 1 = omega (arith, e) in less);
                 net = b.1;
                 square = b.2;
                 holds = subst (λ k. NetHolds d t p.cell b.1 (At k b.2)) b.0 held.1;
                 item = b.4;
                 image = b.5;
                 within = subst (λ (v : Square). IsIn v window) b.5 (part.inside b.2 held.0);
-              }
-        ]),
+              },
+            )),
+        (λ a.
+            let s = a.1 in
+            let held : NetHolds d t p.cell s.net (At n s.square) = subst (λ k. NetHolds d t p.cell s.net (At k s.square)) (sym a.0) s.holds in
+            let image : IsIn (moved_square p.motion s.square) window = subst (λ (v : Square). IsIn v window) (sym s.image) s.within in
+            (a.0, s.net, s.square, seen.found s.net s.square (part.all n s.net s.square held image) held, s.item, s.image)),
       ))
 
   have : (n : ℕ) (below ps : List NetPiece) → AreCollected d t p.cell n inner below → at + (t.nets p.cell).count ≤ 4294967296 → ((x : ℕ) (q : Square) → IsOver ps x q → IsOver below x q) → AreInside inner ps → HaveItems at ps
@@ -254,3 +300,29 @@ piece_seen o ps is = record {
   );
   filled = λ h. filled_last ps o h is;
 }
+
+-- lines that join two conductors
+
+abbrev pub no_line : Joined
+no_line = record { first = 0; second = 0 }
+
+abbrev pub JoinedBy : ℕ → ℕ → List Joined → Type 0
+JoinedBy one other lines = Some_of (λ l. JoinsTwo l one other) lines
+
+pub joined_at : (lines : List Joined) (k one other : ℕ) → k < length lines → JoinsTwo (get_or lines k no_line) one other → JoinedBy one other lines
+joined_at [] k one other lt h = absurd (omega (arith, lt))
+joined_at (l ∷ lines) zero one other lt h = inl h
+joined_at (l ∷ lines) (suc k) one other lt h = inr (joined_at lines k one other (omega (arith, lt)) h)
+
+joined_last : (lines : List Joined) (l : Joined) (one other : ℕ) → JoinedBy one other (lines ++ l ∷ []) → JoinedBy one other lines ⊎ JoinsTwo l one other
+joined_last [] l one other (inl h) = inr h
+joined_last [] l one other (inr h) = absurd h
+joined_last (m ∷ lines) l one other (inl h) = inl (inl h)
+joined_last (m ∷ lines) l one other (inr h) = elim (joined_last lines l one other h) [ inl a ↦ inl (inr a) | inr b ↦ inr b ]
+
+pub not_yet_joined : (lines : List Joined) (k one other : ℕ) → k < length lines → (JoinedBy one other (take k lines) → ⊥) → (JoinsTwo (get_or lines k no_line) one other → ⊥) → JoinedBy one other (take (k + 1) lines) → ⊥
+not_yet_joined lines k one other lt none not h =
+    elim (joined_last (take k lines) (get_or lines k no_line) one other (subst (λ (l : List Joined). JoinedBy one other l) (take_more lines k no_line lt) h)) [ inl a ↦ none a | inr b ↦ not b ]
+
+pub none_of_all : (lines : List Joined) (k one other : ℕ) → k ≡ length lines → (JoinedBy one other (take k lines) → ⊥) → JoinedBy one other lines → ⊥
+none_of_all lines k one other e none h = none (subst (λ (l : List Joined). JoinedBy one other l) (sym (ap (λ i. take i lines) e ∙ take-length lines)) h)

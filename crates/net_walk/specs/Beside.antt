@@ -13,15 +13,17 @@ use Rattle.net_link_laws.specs.Found.{AreOne, IsSquareLink}
 use Rattle.net_link_laws.specs.Places.{owned_before, places_of}
 use Rattle.net_link_laws.specs.Windows.{grown}
 use Rattle.net_walk.specs.Pairs.{first_of}
-use Rattle.net_walk.specs.Seen.{AreLinksOver, IsSeen}
+use Rattle.net_walk.specs.Seen.{AreLinksOver, IsJoinedSeen}
 use Rattle.touching_pieces.specs.Pairs.{AreJoined}
 use Rattle.touching_pieces.specs.declared.conductors.Joined.{Joined}
 use Rattle.touching_pieces.specs.declared.pieces.Piece.{Piece}
 
--- of the rectangle, or of the placement in the window round it
-abbrev pub IsBesideSeen : Design → Tables → Rect → ℕ → ℕ → ℕ → Place → ℕ → ℕ → ℕ → Square → Type 0
-IsBesideSeen d t rect conductor item n p at c i q =
-    ((conductor ≡ c) × (item ≡ i) × IsIn q rect) ⊎ IsSeen d t p (grown rect) at n c i q
+-- of the rectangle, or of the placement in the window round it and a conductor joined to its own
+abbrev pub IsBesideSeen : Design → Tables → List Joined → Rect → ℕ → ℕ → ℕ → Place → ℕ → ℕ → ℕ
+    → Square → Type 0
+IsBesideSeen d t joins rect conductor item n p at c i q =
+    ((conductor ≡ c) × (item ≡ i) × IsIn q rect)
+    ⊎ IsJoinedSeen d t joins conductor p (grown rect) at n c i q
 
 -- each link is one by squares between items, and each such link of the two is found
 pub record AreBesideLinks (d : Design) (w : Wiring) (t : Tables) (cell c r k : ℕ)
@@ -38,8 +40,8 @@ BesidePairLaw = (d : Design) (w : Wiring) (t : Tables) (cell c r k : ℕ) (p : P
     (joins : List Joined) (links : List Link) → AreRightBelow d w t cell
     → IsItem d w t cell (Own c r) → slice_get (t.own cell c) r ≡ Some rect
     → slice_get (places_of d cell) k ≡ Some p → ((a e : ℕ) → AreJoined joins a e ↔ IsJoined w a e)
-    → AreLinksOver joins (IsBesideSeen d t rect c (owned_before t cell c + r) (length w.conductors)
-    p (first_of d w t cell k)) links → AreBesideLinks d w t cell c r k links
+    → AreLinksOver joins (IsBesideSeen d t joins rect c (owned_before t cell c + r)
+    (length w.conductors) p (first_of d w t cell k)) links → AreBesideLinks d w t cell c r k links
 
 -- squares of the items at two places touch
 abbrev pub IsSquarePair : Design → Wiring → Tables → ℕ → ℕ → ℕ → Type 0

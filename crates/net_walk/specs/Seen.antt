@@ -65,10 +65,25 @@ pub record IsSeen (d : Design) (t : Tables) (p : Place) (window : Rect) (at cond
   pub image : moved_square p.motion square ≡ q
   pub within : IsIn q window
 
+-- the line joins the two, in either order
+abbrev pub JoinsTwo : Joined → ℕ → ℕ → Type 0
+JoinsTwo l c e = ((l.first ≡ c) × (l.second ≡ e)) ⊎ ((l.first ≡ e) × (l.second ≡ c))
+
+-- of a conductor that is joined to this one
+abbrev pub IsJoinedSeen : Design → Tables → List Joined → ℕ → Place → Rect → ℕ → ℕ → ℕ → ℕ → Square
+    → Type 0
+IsJoinedSeen d t joins conductor p window at n c i q =
+    AreJoined joins conductor c × IsSeen d t p window at n c i q
+
 -- the items have room in 32 bits
 abbrev pub HaveItems : ℕ → List NetPiece → Type 0
 HaveItems at [] = Unit {0}
 HaveItems at (p ∷ ps) = (at + p.net < 4294967296) × HaveItems at ps
+
+-- of one conductor
+abbrev pub IsSeenAt : Design → Tables → Place → Rect → ℕ → ℕ → ℕ → ℕ → Square → Type 0
+IsSeenAt d t p window at conductor c i q =
+    (conductor ≡ c) × IsSeen d t p window at (conductor + 1) c i q
 
 -- of two placed cells
 abbrev pub IsSeenOfTwo : Design → Tables → Rect → ℕ → Place → ℕ → Place → ℕ → ℕ → ℕ → Square

@@ -22,14 +22,14 @@ use crate::cells::{Cells, Element};
 use crate::children::span_pieces;
 use crate::own::own_pieces;
 use crate::rects::grown;
-use crate::seen::see;
+use crate::seen::see_joined;
 use geo_base::Rect;
 use link_classes::Link;
 use std::alloc::{AllocError, Global};
 use touching_pieces::{Joined, Piece, touching_links, touching_pairs};
 
 /// Links between the item of a rectangle and those of a placement's nets that touch it; these stand
-/// from a place on.
+/// from a place on. Only conductors that are joined to the rectangle's are walked.
 pub fn beside_links<C: Cells>(
     alloc: Global,
     cells: &C,
@@ -48,7 +48,7 @@ pub fn beside_links<C: Cells>(
     requires motion { IsNearMotion element.now.motion }
     requires room { at + ((C.tables cells.now).nets element.now.cell).count ≤ 4294967296 }
     ensures { IfOk result (λ v. AreLinksOver joins.now
-        (IsBesideSeen (C.design cells.now) (C.tables cells.now) rect.now conductor item
+        (IsBesideSeen (C.design cells.now) (C.tables cells.now) joins.now rect.now conductor item
         (length (C.wiring cells.now).conductors) (place_of element.now) at) v.items) }
 {
     let window = grown(rect);
@@ -58,7 +58,16 @@ pub fn beside_links<C: Cells>(
         rect: *rect,
         item,
     })?;
-    see(alloc, cells, element, &window, at, &mut pieces)?;
+    see_joined(
+        alloc,
+        cells,
+        element,
+        &window,
+        at,
+        conductor,
+        joins,
+        &mut pieces,
+    )?;
     let links = touching_links(alloc, &pieces, cells.conductors(), joins)?;
     Ok(links)
 }

@@ -1,10 +1,11 @@
 // Pieces of a placed cell's nets as the cell sees them.
-ghost use Rattle.std.specs.Prelude.{◌≡◌, ◌+◌, ◌<◌, ◌≤◌, OnOk, IfOk, length, ◌∷◌, []};
+ghost use Rattle.std.specs.Prelude.{◌≡◌, ◌+◌, ◌<◌, ◌≤◌, OnOk, IfOk, MatchBool, length, ◌∷◌, []};
 ghost use Rattle.geo_base.specs.Near.{IsNearRect, IsNearMotion};
 ghost use Rattle.net_link_laws.specs.Laws.{AreNetsUnder};
 ghost use Rattle.net_walk.specs.Pairs.{PairLaw};
-ghost use Rattle.net_walk.specs.Seen.{AddsSeen, AreLinksOver, HaveItems, IsSeen, IsSeenOf};
-ghost use Rattle.net_walk.specs.Seen.{IsSeenOfTwo};
+ghost use Rattle.net_walk.specs.Seen.{AddsSeen, AreLinksOver, HaveItems, IsJoinedSeen, IsSeen};
+ghost use Rattle.net_walk.specs.Seen.{IsSeenAt, IsSeenOf, IsSeenOfTwo, JoinsTwo};
+ghost use Rattle.touching_pieces.specs.Pairs.{AreJoined};
 ghost use Rattle.net_walk.specs.Walk.{AreInside, IsInside, IsPart, place_of};
 
 use crate::cells::{Cells, Element};
@@ -14,6 +15,31 @@ use link_classes::Link;
 use net_link_laws::NetPiece;
 use std::alloc::{AllocError, Global};
 use touching_pieces::{Joined, Piece, touching_links};
+
+// Whether the line joins the two.
+fn joins_two(line: &Joined, one: u32, other: u32) -> bool
+    ensures { MatchBool result (JoinsTwo line.now one other) (JoinsTwo line.now one other → ⊥) }
+{
+    if line.first == one && line.second == other {
+        return true;
+    }
+    line.first == other && line.second == one
+}
+
+// Whether the two are one conductor, or a line joins them.
+fn are_joined(joins: &[Joined], one: u32, other: u32) -> bool
+    ensures { MatchBool result (AreJoined joins.now one other) (AreJoined joins.now one other → ⊥) }
+{
+    if one == other {
+        return true;
+    }
+    for line in joins {
+        if joins_two(line, one, other) {
+            return true;
+        }
+    }
+    false
+}
 
 fn push_one(
     piece: &NetPiece,
@@ -60,6 +86,33 @@ fn push_seen(
     Ok(())
 }
 
+// What the nets of a placed cell hold of a conductor.
+fn see_conductor<C: Cells>(
+    alloc: Global,
+    cells: &C,
+    element: &Element,
+    conductor: u32,
+    window: &Rect,
+    inner: &Rect,
+    at: u32,
+    out: &mut Vec<Piece>,
+) -> Result<(), AllocError>
+    requires known { conductor < length (C.wiring cells.now).conductors }
+    requires nets { AreNetsUnder (C.design cells.now) (C.wiring cells.now) (C.tables cells.now)
+        element.now.cell }
+    requires motion { IsNearMotion element.now.motion }
+    requires part { IsPart (C.design cells.now) (C.tables cells.now) (place_of element.now)
+        window.now inner.now }
+    requires room { at + ((C.tables cells.now).nets element.now.cell).count ≤ 4294967296 }
+    ensures { OnOk result (AddsSeen (IsSeenAt (C.design cells.now) (C.tables cells.now)
+        (place_of element.now) window.now at conductor) out.old.items out.new.items) }
+{
+    let _ = window;
+    let below = collect_nets(alloc, cells, element.cell, conductor, inner)?;
+    push_seen(&below, &element.motion, conductor, at, inner, out)?;
+    Ok(())
+}
+
 fn see_part<C: Cells>(
     alloc: Global,
     cells: &C,
@@ -79,10 +132,8 @@ fn see_part<C: Cells>(
         (place_of element.now) window.now at (length (C.wiring cells.now).conductors)) out.old.items
         out.new.items) }
 {
-    let _ = window;
     for conductor in 0..cells.conductors() {
-        let below = collect_nets(alloc, cells, element.cell, conductor, inner)?;
-        push_seen(&below, &element.motion, conductor, at, inner, out)?;
+        see_conductor(alloc, cells, element, conductor, window, inner, at, out)?;
     }
     Ok(())
 }
@@ -109,6 +160,64 @@ pub fn see<C: Cells>(
     match part_of(cells, element, window) {
         None => Ok(()),
         Some(inner) => see_part(alloc, cells, element, window, &inner, at, out),
+    }
+}
+
+// The same of each conductor that is joined to this one.
+fn see_joined_part<C: Cells>(
+    alloc: Global,
+    cells: &C,
+    element: &Element,
+    window: &Rect,
+    inner: &Rect,
+    at: u32,
+    conductor: u32,
+    joins: &[Joined],
+    out: &mut Vec<Piece>,
+) -> Result<(), AllocError>
+    requires nets { AreNetsUnder (C.design cells.now) (C.wiring cells.now) (C.tables cells.now)
+        element.now.cell }
+    requires motion { IsNearMotion element.now.motion }
+    requires part { IsPart (C.design cells.now) (C.tables cells.now) (place_of element.now)
+        window.now inner.now }
+    requires room { at + ((C.tables cells.now).nets element.now.cell).count ≤ 4294967296 }
+    ensures { OnOk result (AddsSeen (IsJoinedSeen (C.design cells.now) (C.tables cells.now)
+        joins.now conductor (place_of element.now) window.now at
+        (length (C.wiring cells.now).conductors)) out.old.items out.new.items) }
+{
+    for other in 0..cells.conductors() {
+        if are_joined(joins, conductor, other) {
+            see_conductor(alloc, cells, element, other, window, inner, at, out)?;
+        }
+    }
+    Ok(())
+}
+
+/// What the nets of a placed cell hold in the window of the conductors that are joined to this one.
+pub fn see_joined<C: Cells>(
+    alloc: Global,
+    cells: &C,
+    element: &Element,
+    window: &Rect,
+    at: u32,
+    conductor: u32,
+    joins: &[Joined],
+    out: &mut Vec<Piece>,
+) -> Result<(), AllocError>
+    requires nets { AreNetsUnder (C.design cells.now) (C.wiring cells.now) (C.tables cells.now)
+        element.now.cell }
+    requires motion { IsNearMotion element.now.motion }
+    requires near { IsNearRect window.now }
+    requires room { at + ((C.tables cells.now).nets element.now.cell).count ≤ 4294967296 }
+    ensures { OnOk result (AddsSeen (IsJoinedSeen (C.design cells.now) (C.tables cells.now)
+        joins.now conductor (place_of element.now) window.now at
+        (length (C.wiring cells.now).conductors)) out.old.items out.new.items) }
+{
+    match part_of(cells, element, window) {
+        None => Ok(()),
+        Some(inner) => see_joined_part(
+            alloc, cells, element, window, &inner, at, conductor, joins, out,
+        ),
     }
 }
 

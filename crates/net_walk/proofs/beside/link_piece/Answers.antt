@@ -71,8 +71,8 @@ returns g c =
     let within : k < length c.args.firsts.now = omega (arith, wide, lt) in
     let first = c.requires.firsts.each k within in
     let links = c.in_ok-links.links.items in
-    let over : AreLinksOver c.args.joins.now (IsBesideSeen d t o.rect o.conductor (owned_before t cell o.conductor + is.number) n p (first_of d w t cell k)) links =
-    subst (λ (i : ℕ). AreLinksOver c.args.joins.now (IsBesideSeen d t o.rect o.conductor i n p (first_of d w t cell k)) links) (sym is.place)
-    (subst (λ (i : ℕ). AreLinksOver c.args.joins.now (IsBesideSeen d t o.rect o.conductor o.item n p i) links) first c.in_ok-links.ensures) in
+    let over : AreLinksOver c.args.joins.now (IsBesideSeen d t c.args.joins.now o.rect o.conductor (owned_before t cell o.conductor + is.number) n p (first_of d w t cell k)) links =
+    subst (λ (i : ℕ). AreLinksOver c.args.joins.now (IsBesideSeen d t c.args.joins.now o.rect o.conductor i n p (first_of d w t cell k)) links) (sym is.place)
+    (subst (λ (i : ℕ). AreLinksOver c.args.joins.now (IsBesideSeen d t c.args.joins.now o.rect o.conductor o.item n p i) links) first c.in_ok-links.ensures) in
     let all = beside_pair d w t cell o.conductor is.number k p o.rect c.args.joins.now links c.requires.right (is.known, slice_get_within (t.own cell o.conductor) is.number o.rect is.listed) is.listed there c.requires.joins over in
     rw (c.in_ok-extend_from_slice.ensures.items, c.deref.ensures.value) (piece_added d w t cell n o k c.args.out.now.items links is all)
