@@ -16,7 +16,7 @@ use Rattle.match_rounds.proofs.Started.{below_node}
 use Rattle.refine_match.specs.declared.candidates.Candidate.{Candidate}
 use Rattle.refine_match.specs.declared.searching.Level.{Level}
 use Rattle.refine_match.specs.declared.searching.Search.{Search}
-use Rattle.refine_match.specs.declared.ties.Ties.{Ties}
+use Rattle.refine_match.specs.declared.lists.Lists.{Lists}
 use Rattle.refine_match.specs.ByRounds.{AreTies}
 use Rattle.refine_match.specs.Classes.{AreStableClasses}
 use Rattle.refine_match.specs.Candidates.{remaining}
@@ -29,7 +29,7 @@ use Rattle.refine_match.proofs.Uneven.{told}
 no_guesses : (g : Graph) → AreGuesses g []
 no_guesses g = record { left = λ i l. absurd (omega arith); right = λ i l. absurd (omega arith); node = λ i l. absurd (omega arith) }
 
-pub begun_search : (p : Pair) (g : Graph) (d : Classes) (k : Ties) (x limit : ℕ) (v : Level) → IsGraphOf p g → IsWeb (web_of p) → AreTies g d k x → v.node ≡ x → v.last ≡ None → IsSearchOf p g limit [] v [] [] 0
+pub begun_search : (p : Pair) (g : Graph) (d : Classes) (k : Lists) (x limit : ℕ) (v : Level) → IsGraphOf p g → IsWeb (web_of p) → AreTies g d k x → v.node ≡ x → v.last ≡ None → IsSearchOf p g limit [] v [] [] 0
 begun_search p g d k x limit v h good ties ev last =
     let s = setting_in p limit in
     let t = told p g h good in
@@ -62,9 +62,9 @@ begun_search p g d k x limit v h good ties ev last =
       rows_are = refl;
     }
 
-pub begun : (p : Pair) (g : Graph) (d : Classes) (k : Ties) (x limit : ℕ) (v : Level) (ns : Vec (ℕ × ℕ) Global) (vs : Vec Level Global) (ts : Vec Try Global) → IsGraphOf p g → IsWeb (web_of p) → AreTies g d k x → v.node ≡ x → v.last ≡ None
+pub begun : (p : Pair) (g : Graph) (d : Classes) (k : Lists) (x limit : ℕ) (v : Level) (ns : Vec (ℕ × ℕ) Global) (vs : Vec Level Global) (ts : Vec Try Global) → IsGraphOf p g → IsWeb (web_of p) → AreTies g d k x → v.node ≡ x → v.last ≡ None
     → ns.items ≡ [] → vs.items ≡ [] → ts.items ≡ []
-    → IsUnderWay p g (let u : Search = record { limit = limit; refuted = 0; classes = d; ties = k; guesses = ns; level = v; outer = vs; rows = ts } in u)
+    → IsUnderWay p g (let u : Search = record { limit = limit; refuted = 0; classes = d; lists = k; guesses = ns; level = v; outer = vs; rows = ts } in u)
 begun p g d k x limit v ns vs ts h good ties ev last en es et = record {
   search = subst (λ (us : List Try). IsSearchOf p g limit ns.items v vs.items us 0) (sym et)
       (subst (λ (us : List Level). IsSearchOf p g limit ns.items v us [] 0) (sym es)
@@ -72,6 +72,6 @@ begun p g d k x limit v ns vs ts h good ties ev last en es et = record {
   partition = ties.partition;
   settled = subst (λ (us : List (ℕ × ℕ)). AreSettled (guessed_web g us) d) (sym en) ties.settled;
   guesses = subst (λ (us : List (ℕ × ℕ)). AreGuesses g us) (sym en) (no_guesses g);
-  ties = ties.ties;
+  lists = ties.lists;
   within = omega arith;
 }

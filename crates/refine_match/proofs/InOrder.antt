@@ -23,39 +23,39 @@ use Rattle.match_rounds.specs.Sides.{left_members}
 use Rattle.refine_match.specs.declared.ties.Span.{Span}
 use Rattle.refine_match.specs.declared.ties.Tie.{Tie}
 use Rattle.refine_match.specs.declared.ties.Ties.{Ties}
-use Rattle.refine_match.specs.Ties.{AreInOrder, AreLefts, AreRenewed, AreSpansOf, AreTaken, HasTie, IsFirstIn, IsRenewed, IsSpanOf, IsTieOf, lefts_of, span_at, ties_in, tie_order, told_in}
+use Rattle.refine_match.specs.Ties.{AreInOrder, AreWithin, AreRenewed, AreSpansOf, AreTaken, HasTie, IsFirstIn, IsRenewed, IsSpanOf, IsTieOf, lefts_of, span_at, ties_in, tie_order, told_in}
 use Rattle.refine_match.proofs.Tied.{some_left}
 use Rattle.refine_match.proofs.Entered.{now_there, still_there}
 
-pub none_taken_yet : (xs nodes : List ℕ) (left : ℕ) → xs ≡ [] → AreLefts xs nodes 0 left
-none_taken_yet xs nodes left e = record {
-  low = λ k l. let long : length xs ≡ 0 = ap length e in absurd (omega arith);
-  found = λ j l m. absurd (omega arith);
+pub none_taken_yet : (xs nodes : List ℕ) (from to : ℕ) → xs ≡ [] → AreWithin xs nodes 0 from to
+none_taken_yet xs nodes from to e = record {
+  within = λ k l. let long : length xs ≡ 0 = ap length e in absurd (omega arith);
+  found = λ j l m n. absurd (omega arith);
 }
 
 -- one node more was looked at
-pub left_taken : (xs ys nodes : List ℕ) (i left x : ℕ) → AreLefts xs nodes i left → x ≡ slice_index nodes i → x < left → ys ≡ xs ++ x ∷ [] → AreLefts ys nodes (i + 1) left
-left_taken xs ys nodes i left x h is low e =
+pub one_taken : (xs ys nodes : List ℕ) (i from to x : ℕ) → AreWithin xs nodes i from to → x ≡ slice_index nodes i → from ≤ x → x < to → ys ≡ xs ++ x ∷ [] → AreWithin ys nodes (i + 1) from to
+one_taken xs ys nodes i from to x h is low high e =
     let long : length ys ≡ length xs + 1 = ap length e ∙ length-append xs (x ∷ []) in
     let before : (k : ℕ) → k < length xs → slice_index ys k ≡ slice_index xs k = λ k l. ap (λ (zs : List ℕ). slice_index zs k) e ∙ get_or_append_left xs (x ∷ []) 0 k l in
     let last : slice_index ys (length xs) ≡ x = ap (λ (zs : List ℕ). slice_index zs (length xs)) e ∙ get_or_push xs x 0 (length xs) refl in
     record {
-      low = λ k l. elim (cases_lt k (length xs)) [
-        | inl u ↦ subst (λ (y : ℕ). y < left) (sym (before k u)) (h.low k u)
-        | inr u ↦ let at : length xs ≡ k = omega arith in subst (λ (j : ℕ). slice_index ys j < left) at (subst (λ (y : ℕ). y < left) (sym last) low)
+      within = λ k l. elim (cases_lt k (length xs)) [
+        | inl u ↦ subst (λ (y : ℕ). (from ≤ y) × (y < to)) (sym (before k u)) (h.within k u)
+        | inr u ↦ let at : length xs ≡ k = omega arith in subst (λ (j : ℕ). (from ≤ slice_index ys j) × (slice_index ys j < to)) at (subst (λ (y : ℕ). (from ≤ y) × (y < to)) (sym last) (low, high))
       ];
-      found = λ j l m. elim (cases_lt j i) [
-        | inl u ↦ let r = h.found j u m in let hi = r.1 in (r.0, omega arith, before r.0 r.1 ∙ r.2)
+      found = λ j l m n. elim (cases_lt j i) [
+        | inl u ↦ let r = h.found j u m n in let hi = r.1 in (r.0, omega arith, before r.0 r.1 ∙ r.2)
         | inr u ↦ let at : i ≡ j = omega arith in (length xs, omega arith, last ∙ (is ∙ ap (slice_index nodes) at))
       ];
     }
 
-pub left_passed : (xs nodes : List ℕ) (i left : ℕ) → AreLefts xs nodes i left → left ≤ slice_index nodes i → AreLefts xs nodes (i + 1) left
-left_passed xs nodes i left h high = record {
-  low = h.low;
-  found = λ j l m. elim (cases_lt j i) [
-    | inl u ↦ h.found j u m
-    | inr u ↦ let at : j ≡ i = omega arith in let low : slice_index nodes i < left = subst (λ (k : ℕ). slice_index nodes k < left) at m in absurd (omega arith)
+pub one_passed : (xs nodes : List ℕ) (i from to : ℕ) → AreWithin xs nodes i from to → (from ≤ slice_index nodes i → slice_index nodes i < to → ⊥) → AreWithin xs nodes (i + 1) from to
+one_passed xs nodes i from to h out = record {
+  within = h.within;
+  found = λ j l m n. elim (cases_lt j i) [
+    | inl u ↦ h.found j u m n
+    | inr u ↦ let at : j ≡ i = omega arith in absurd (out (subst (λ (k : ℕ). from ≤ slice_index nodes k) at m) (subst (λ (k : ℕ). slice_index nodes k < to) at n))
   ];
 }
 
@@ -71,29 +71,29 @@ has_at xs k l = (k, l, at_place xs (slice_index xs k) k l)
 found_at : (xs : List ℕ) (x : ℕ) → Contains xs x → (k : ℕ) × (k < length xs) × (slice_index xs k ≡ x)
 found_at xs x h = (h.0, h.1, sym (at_place xs x h.0 h.1) ∙ h.2)
 
--- the left ones of a class's nodes, in order
-pub in_order : (items xs ys : List ℕ) (class : ℕ → ℕ) (left n d : ℕ) → AreAllOf class d items n → left ≤ n → AreLefts xs items (length items) left → IsPermutation xs ys → IsSorted nat_cmp ys → AreInOrder ys class left d
-in_order items xs ys class left n d all inside lefts perm sorted = record {
-  low = λ k l.
+-- those of a class's nodes that are between two numbers, in order
+pub in_order : (items xs ys : List ℕ) (class : ℕ → ℕ) (from to n d : ℕ) → AreAllOf class d items n → to ≤ n → AreWithin xs items (length items) from to → IsPermutation xs ys → IsSorted nat_cmp ys → AreInOrder ys class from to d
+in_order items xs ys class from to n d all inside taken perm sorted = record {
+  within = λ k l.
       let r = found_at xs (slice_index ys k) (Contains-permutation ys xs (slice_index ys k) (IsPermutation-sym xs ys perm) (has_at ys k l)) in
-      subst (λ (x : ℕ). x < left) r.2 (lefts.low r.0 r.1);
+      subst (λ (x : ℕ). (from ≤ x) × (x < to)) r.2 (taken.within r.0 r.1);
   rising = λ j k m l. IsNonDecreasingBy-from_sort (λ x. x) ys sorted j k 0 m l;
-  found = λ a l e.
+  found = λ a low l e.
       let place = any_index items a (all.found a (omega arith) e) in
-      let r = lefts.found place.0 place.1 (subst (λ (x : ℕ). x < left) (sym place.2) l) in
+      let r = taken.found place.0 place.1 (subst (λ (x : ℕ). from ≤ x) (sym place.2) low) (subst (λ (x : ℕ). x < to) (sym place.2) l) in
       let is : slice_index xs r.0 ≡ a = r.2 ∙ place.2 in
       found_at ys a (Contains-permutation xs ys a perm (subst (λ (x : ℕ). Contains xs x) is (has_at xs r.0 r.1)));
 }
 
 -- a class's span without what left the class
-pub span_from : (nodes : List ℕ) (s : Span) (class : ℕ → ℕ) (left d place : ℕ) → IsSpanOf nodes s class left d → IsFirstIn nodes class d s.next s.end place
-    → IsSpanOf nodes (let u : Span = record { next = place; end = s.end } in u) class left d
-span_from nodes s class left d place h first = record {
+pub span_from : (nodes : List ℕ) (s : Span) (class : ℕ → ℕ) (from to d place : ℕ) → IsSpanOf nodes s class from to d → IsFirstIn nodes class d s.next s.end place
+    → IsSpanOf nodes (let u : Span = record { next = place; end = s.end } in u) class from to d
+span_from nodes s class from to d place h first = record {
   fits = h.fits;
-  low = λ k l m. let low = (first.inside (omega arith)).0 in h.low k (omega arith) m;
+  within = λ k l m. let low = (first.inside (omega arith)).0 in h.within k (omega arith) m;
   rising = λ j k l m n. let low = (first.inside (omega arith)).0 in h.rising j k (omega arith) m n;
-  found = λ a l e.
-      let r = h.found a l e in
+  found = λ a low l e.
+      let r = h.found a low l e in
       elim (cases_lt r.0 place) [
         | inl u ↦ absurd (first.none r.0 r.1 u (ap class r.3 ∙ e))
         | inr u ↦ (r.0, u, r.2, r.3)
@@ -101,38 +101,38 @@ span_from nodes s class left d place h first = record {
 }
 
 -- a tied class has a node in its span
-pub has_node : (nodes : List ℕ) (s : Span) (class : ℕ → ℕ) (left d : ℕ) → IsSpanOf nodes s class left d → 1 < lefts_of class left d → s.next < s.end
+pub has_node : (nodes : List ℕ) (s : Span) (class : ℕ → ℕ) (left d : ℕ) → IsSpanOf nodes s class 0 left d → 1 < lefts_of class left d → s.next < s.end
 has_node nodes s class left d h more =
     let a = some_left class left d more in
-    let r = h.found a.0 a.1 a.2 in
+    let r = h.found a.0 (omega arith) a.1 a.2 in
     let lo = r.1 in
     let hi = r.2 in
     omega arith
 
 -- the entry of a class
-pub entry_is : (nodes : List ℕ) (s : Span) (class : ℕ → ℕ) (left d count node : ℕ) → IsSpanOf nodes s class left d → s.next < s.end → node ≡ slice_index nodes s.next → class node ≡ d → count ≡ lefts_of class left d
+pub entry_is : (nodes : List ℕ) (s : Span) (class : ℕ → ℕ) (left d count node : ℕ) → IsSpanOf nodes s class 0 left d → s.next < s.end → node ≡ slice_index nodes s.next → class node ≡ d → count ≡ lefts_of class left d
     → IsTieOf class left d (let t : Tie = record { count = count; node = node } in t)
 entry_is nodes s class left d count node h some is of count_is = record {
   count = count_is;
-  below = subst (λ (x : ℕ). x < left) (sym is) (h.low s.next (omega arith) some);
+  below = subst (λ (x : ℕ). x < left) (sym is) (h.within s.next (omega arith) some).1;
   of = of;
   first = λ a l e.
-      let r = h.found a l e in
+      let r = h.found a (omega arith) l e in
       let up = h.rising s.next r.0 (omega arith) r.1 r.2 in
       let at = r.3 in
       omega arith;
 }
 
 -- the spans when one of them was changed
-spans_set : (nodes : List ℕ) (spans : List Span) (class : ℕ → ℕ) (left d : ℕ) (s : Span) → ((x : ℕ) → x < length spans → IsSpanOf nodes (slice_index_or spans x record { next = 0; end = 0 }) class left x) → d < length spans → IsSpanOf nodes s class left d
-    → (x : ℕ) → x < length (slice_set spans d s) → IsSpanOf nodes (slice_index_or (slice_set spans d s) x record { next = 0; end = 0 }) class left x
-spans_set nodes spans class left d s all low span x l = elim (ℕ_discrete x d) [
+pub spans_set : (nodes : List ℕ) (spans : List Span) (class : ℕ → ℕ) (from to d : ℕ) (s : Span) → ((x : ℕ) → x < length spans → IsSpanOf nodes (slice_index_or spans x record { next = 0; end = 0 }) class from to x) → d < length spans → IsSpanOf nodes s class from to d
+    → (x : ℕ) → x < length (slice_set spans d s) → IsSpanOf nodes (slice_index_or (slice_set spans d s) x record { next = 0; end = 0 }) class from to x
+spans_set nodes spans class from to d s all low span x l = elim (ℕ_discrete x d) [
   | yes e ↦
-      subst (λ (y : ℕ). IsSpanOf nodes (slice_index_or (slice_set spans d s) y record { next = 0; end = 0 }) class left y) (sym e)
-      (subst (λ (u : Span). IsSpanOf nodes u class left d) (sym (get_or-set_same spans d s (record { next = 0; end = 0 }) low)) span)
+      subst (λ (y : ℕ). IsSpanOf nodes (slice_index_or (slice_set spans d s) y record { next = 0; end = 0 }) class from to y) (sym e)
+      (subst (λ (u : Span). IsSpanOf nodes u class from to d) (sym (get_or-set_same spans d s (record { next = 0; end = 0 }) low)) span)
   | no not ↦
       let same : length (slice_set spans d s) ≡ length spans = length-set spans d s in
-      subst (λ (u : Span). IsSpanOf nodes u class left x) (sym (get_or-set_other spans d x s (record { next = 0; end = 0 }) not)) (all x (omega arith))
+      subst (λ (u : Span). IsSpanOf nodes u class from to x) (sym (get_or-set_other spans d x s (record { next = 0; end = 0 }) not)) (all x (omega arith))
 ]
 
 -- a span as it was read
@@ -149,9 +149,9 @@ renewed_untied t g c d place s vs spans ordered low is first set few = record {
   told = refl;
   nodes = refl;
   count = ap length set ∙ length-set t.spans.items d _;
-  spans = subst (λ (xs : List Span). (x : ℕ) → x < length xs → IsSpanOf t.nodes.items (slice_index_or xs x record { next = 0; end = 0 }) (class_in c) (left_of g) x) (sym set)
-      (spans_set t.nodes.items t.spans.items (class_in c) (left_of g) d (record { next = place; end = s.end }) spans low
-      (span_from t.nodes.items s (class_in c) (left_of g) d place (subst (λ (u : Span). IsSpanOf t.nodes.items u (class_in c) (left_of g) d) (sym is) (spans d low)) first));
+  spans = subst (λ (xs : List Span). (x : ℕ) → x < length xs → IsSpanOf t.nodes.items (slice_index_or xs x record { next = 0; end = 0 }) (class_in c) 0 (left_of g) x) (sym set)
+      (spans_set t.nodes.items t.spans.items (class_in c) 0 (left_of g) d (record { next = place; end = s.end }) spans low
+      (span_from t.nodes.items s (class_in c) 0 (left_of g) d place (subst (λ (u : Span). IsSpanOf t.nodes.items u (class_in c) 0 (left_of g) d) (sym is) (spans d low)) first));
   ordered = ordered;
   kept = λ e there. there;
   entered = λ more. absurd (omega arith);
@@ -164,15 +164,15 @@ pub renewed_tied : (t : Ties) (g : Graph) (c : Classes) (d place : ℕ) (s : Spa
     → IsRenewed t (let u : Ties = record { nodes = t.nodes; spans = vs; class_of = t.class_of; queue = q } in u) g c d
 renewed_tied t g c d place s vs tie q x spans ordered low is first set count node more of perm =
     let shorter : Span = record { next = place; end = s.end } in
-    let span : IsSpanOf t.nodes.items shorter (class_in c) (left_of g) d = span_from t.nodes.items s (class_in c) (left_of g) d place (subst (λ (u : Span). IsSpanOf t.nodes.items u (class_in c) (left_of g) d) (sym is) (spans d low)) first in
+    let span : IsSpanOf t.nodes.items shorter (class_in c) 0 (left_of g) d = span_from t.nodes.items s (class_in c) 0 (left_of g) d place (subst (λ (u : Span). IsSpanOf t.nodes.items u (class_in c) 0 (left_of g) d) (sym is) (spans d low)) first in
     let some = has_node t.nodes.items shorter (class_in c) (left_of g) d span more in
     let at = first.inside some in
     record {
       told = refl;
       nodes = refl;
       count = ap length set ∙ length-set t.spans.items d _;
-      spans = subst (λ (xs : List Span). (y : ℕ) → y < length xs → IsSpanOf t.nodes.items (slice_index_or xs y record { next = 0; end = 0 }) (class_in c) (left_of g) y) (sym set)
-          (spans_set t.nodes.items t.spans.items (class_in c) (left_of g) d shorter spans low span);
+      spans = subst (λ (xs : List Span). (y : ℕ) → y < length xs → IsSpanOf t.nodes.items (slice_index_or xs y record { next = 0; end = 0 }) (class_in c) 0 (left_of g) y) (sym set)
+          (spans_set t.nodes.items t.spans.items (class_in c) 0 (left_of g) d shorter spans low span);
       ordered = ordered;
       kept = λ e there. still_there x (heap_items t.queue) (heap_items q) e perm there;
       entered = λ m. record {
@@ -289,9 +289,9 @@ renewed_to old new g c from k to h less = record {
 pub some_place : (t : Ties) (g : Graph) (c : Classes) (d place : ℕ) (s : Span) (nodes : List ℕ) → AreSpansOf t g c → d < length t.spans.items → s ≡ span_at t d → nodes ≡ t.nodes.items → IsFirstIn nodes (class_in c) d s.next s.end place → 1 < left_members g c d
     → place < length nodes
 some_place t g c d place s nodes spans low is same first more =
-    let span = subst (λ (u : Span). IsSpanOf t.nodes.items u (class_in c) (left_of g) d) (sym is) (spans d low) in
+    let span = subst (λ (u : Span). IsSpanOf t.nodes.items u (class_in c) 0 (left_of g) d) (sym is) (spans d low) in
     let shorter : Span = record { next = place; end = s.end } in
-    let at = has_node t.nodes.items shorter (class_in c) (left_of g) d (span_from t.nodes.items s (class_in c) (left_of g) d place span (subst (λ (xs : List ℕ). IsFirstIn xs (class_in c) d s.next s.end place) same first)) more in
+    let at = has_node t.nodes.items shorter (class_in c) (left_of g) d (span_from t.nodes.items s (class_in c) 0 (left_of g) d place span (subst (λ (xs : List ℕ). IsFirstIn xs (class_in c) d s.next s.end place) same first)) more in
     let fits = span.fits in
     let long = ap length same in
     omega arith

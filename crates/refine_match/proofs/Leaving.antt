@@ -23,8 +23,8 @@ use Rattle.match_rounds.specs.Refined.{AreSettled}
 use Rattle.match_rounds.specs.Start.{AreGuesses, guessed_web}
 use Rattle.refine_match.specs.declared.searching.Level.{Level}
 use Rattle.refine_match.specs.declared.searching.Search.{Search}
-use Rattle.refine_match.specs.declared.ties.Ties.{Ties}
-use Rattle.refine_match.specs.Ties.{AreTiesOf}
+use Rattle.refine_match.specs.declared.lists.Lists.{Lists}
+use Rattle.refine_match.specs.Rights.{AreListsOf}
 use Rattle.refine_match.specs.Classes.{AreTold}
 use Rattle.refine_match.specs.Searching.{setting_in, AreOuterOf, HasEvenEnd, IsFirstOf, IsLevelOf, IsSearchOf, IsUnderWay, guess_row, rows_so_far}
 use Rattle.refine_match.proofs.Told.{cut_last, even_end, fewer_guesses, no_last, told_less}
@@ -125,10 +125,10 @@ pub has_even : (p : Pair) (g : Graph) (s : Search) → IsUnderWay p g s → (ws 
 has_even p g s way ws v k ms e ek em =
     subst (λ (us : List (ℕ × ℕ)). HasEvenEnd (guessed_web g us)) (sym (em ∙ ap (λ (i : ℕ). take i s.guesses.items) (ek ∙ ws.ok.0))) (leaving p g s way ws.items v e).even
 
-pub left_way : (p : Pair) (g : Graph) (s : Search) → (way : IsUnderWay p g s) → (ws : Vec Level Global) (v : Level) (k : ℕ) (ms : Vec (ℕ × ℕ) Global) (d : Classes) (q : Ties) (t : Try) (shown : List (ℕ × ℕ))
+pub left_way : (p : Pair) (g : Graph) (s : Search) → (way : IsUnderWay p g s) → (ws : Vec Level Global) (v : Level) (k : ℕ) (ms : Vec (ℕ × ℕ) Global) (d : Classes) (q : Lists) (t : Try) (shown : List (ℕ × ℕ))
     → s.outer.items ≡ ws.items ++ v ∷ [] → k ≡ ws.len → ms.items ≡ take k s.guesses.items → way.search.stage.rest ≡ [] → t ≡ slice_index_or s.rows.items v.row t
-    → IsPartition d (left_of g) (nodes_of g) → AreSettled (guessed_web g shown) d → shown ≡ ms.items → AreTiesOf q g d
-    → IsUnderWay p g (let u : Search = record { limit = s.limit; refuted = s.refuted; classes = d; ties = q; guesses = ms; level = v; outer = ws; rows = with_item s.rows v.row (ended_try t) } in u)
+    → IsPartition d (left_of g) (nodes_of g) → AreSettled (guessed_web g shown) d → shown ≡ ms.items → AreListsOf q g d
+    → IsUnderWay p g (let u : Search = record { limit = s.limit; refuted = s.refuted; classes = d; lists = q; guesses = ms; level = v; outer = ws; rows = with_item s.rows v.row (ended_try t) } in u)
 left_way p g s way ws v k ms d q t shown e ek em none is part settled es ties =
     let are : ms.items ≡ take (length ws.items) s.guesses.items = em ∙ ap (λ (i : ℕ). take i s.guesses.items) (ek ∙ ws.ok.0) in
     let all : s.guesses.items ≡ ms.items ++ drop (length ws.items) s.guesses.items
@@ -137,7 +137,7 @@ left_way p g s way ws v k ms d q t shown e ek em none is part settled es ties =
       search = subst (λ (us : List (ℕ × ℕ)). IsSearchOf p g s.limit us v ws.items (slice_set s.rows.items v.row (ended_try t)) s.refuted) (sym are) ((leaving p g s way ws.items v e).left none t is);
       partition = part;
       settled = subst (λ (us : List (ℕ × ℕ)). AreSettled (guessed_web g us) d) es settled;
-      ties = ties;
+      lists = ties;
       guesses = fewer_guesses g ms.items (drop (length ws.items) s.guesses.items) (subst (λ (us : List (ℕ × ℕ)). AreGuesses g us) all way.guesses);
       within = way.within;
     }

@@ -4,8 +4,10 @@ pub mod Chosen
 pub mod Tied
 pub mod Entered
 pub mod InOrder
+pub mod RightOnes
 pub mod Mates
 pub mod NextBehind
+pub mod SureFirst
 pub mod Rising
 pub mod NextOf
 pub mod Decided

@@ -24,7 +24,7 @@ use Rattle.refine_match.specs.declared.searching.Level.{Level}
 use Rattle.refine_match.specs.declared.searching.Search.{Search}
 use Rattle.refine_match.specs.Classes.{AreTold, AreStableClasses}
 use Rattle.refine_match.specs.Choosing.{IsLeastTied}
-use Rattle.refine_match.specs.Ties.{AreTiesOf}
+use Rattle.refine_match.specs.Rights.{AreListsOf}
 use Rattle.refine_match.specs.Candidates.{IsHead, remaining}
 use Rattle.refine_match.specs.Searching.{setting_in, IsGuessing, IsLevelOf, IsSearchOf, IsUnderWay, guess_row}
 use Rattle.refine_match.proofs.Crossed.{came_from, stable_classes}
@@ -140,10 +140,10 @@ deeper_search p g limit ns v vs ts n c t d w h head below settled least small la
     }
 
 pub deeper_way : (p : Pair) (g : Graph) (s : Search) (c : Candidate) (h : IsGuessing p g s c) (t : Try) (x : ℕ) (w : Level) (number : ℕ) (vs : Vec Level Global) (ts : Vec Try Global)
-    → IsPartition s.classes (left_of g) (nodes_of g) → AreSettled (guessed_web g s.guesses.items) s.classes → AreTiesOf s.ties g s.classes → IsLeastTied g s.classes (left_of g) x → w.node ≡ x → w.last ≡ None
+    → IsPartition s.classes (left_of g) (nodes_of g) → AreSettled (guessed_web g s.guesses.items) s.classes → AreListsOf s.lists g s.classes → IsLeastTied g s.classes (left_of g) x → w.node ≡ x → w.last ≡ None
     → row_of t ≡ guess_row h.search.above h.search.stage h.head.right IsOpen
     → number ≡ length s.rows.items → vs.items ≡ s.outer.items ++ tried_level s.level c number ∷ [] → ts.items ≡ s.rows.items ++ t ∷ []
-    → IsUnderWay p g (let u : Search = record { limit = s.limit; refuted = s.refuted; classes = s.classes; ties = s.ties; guesses = s.guesses; level = w; outer = vs; rows = ts } in u)
+    → IsUnderWay p g (let u : Search = record { limit = s.limit; refuted = s.refuted; classes = s.classes; lists = s.lists; guesses = s.guesses; level = w; outer = vs; rows = ts } in u)
 deeper_way p g s c h t x w number vs ts part settled ties least ew last row en evs et =
     let inside = part.inside in
     let low = least.below in
@@ -160,7 +160,7 @@ deeper_way p g s c h t x w number vs ts part settled ties least ew last row en e
           (subst (λ (ns : List (ℕ × ℕ)). IsSearchOf p g s.limit ns w (s.outer.items ++ tried_level s.level c (length s.rows.items) ∷ []) (s.rows.items ++ t ∷ []) s.refuted) (sym h.guesses_are) next));
       partition = part;
       settled = settled;
-      ties = ties;
+      lists = ties;
       guesses = h.guesses;
       within = omega arith;
     }

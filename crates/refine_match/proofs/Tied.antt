@@ -1,5 +1,5 @@
 -- Ties that follow classes as they are parted.
-use Rattle.std.proofs.Common.{◌≡◌, ◌⊎◌, inl, inr, ◌<◌, ◌≤◌, ◌+◌, ◌-◌, ◌==◌, ℕ, zero, suc, Bool, true, false, List, [], ◌∷◌, length, map, slice_index, slice_index_or, refl, sym, subst, ◌∙◌, ap, arith, length-append}
+use Rattle.std.proofs.Common.{◌≡◌, ◌⊎◌, inl, inr, ◌<◌, ◌≤◌, ◌+◌, ◌-◌, ◌==◌, ℕ, zero, suc, Bool, true, false, List, [], ◌∷◌, ◌++◌, length, map, slice_index, slice_index_or, refl, sym, subst, ◌∙◌, ap, arith, length-append}
 use Rattle.std.specs.Prelude.{Vec}
 use Rattle.std.specs.Global.{Global}
 use Rattle.std.specs.List.{Contains}
@@ -56,18 +56,37 @@ has_like f h left d ties one has more =
       };
     }
 
-span_like : (f h : ℕ → ℕ) (left d : ℕ) (nodes : List ℕ) (s : Span) → ((a : ℕ) → a < left → h a ≡ d → f a ≡ d) → IsSpanOf nodes s f left d → IsSpanOf nodes s h left d
-span_like f h left d nodes s from span = record { fits = span.fits; low = span.low; rising = span.rising; found = λ a l e. span.found a l (from a l e) }
+pub span_like : (f h : ℕ → ℕ) (from to d : ℕ) (nodes : List ℕ) (s : Span) → ((a : ℕ) → from ≤ a → a < to → h a ≡ d → f a ≡ d) → IsSpanOf nodes s f from to d → IsSpanOf nodes s h from to d
+span_like f h from to d nodes s is span = record { fits = span.fits; within = span.within; rising = span.rising; found = λ a m l e. span.found a m l (is a m l e) }
 
 -- nodes were added behind a span
-span_longer : (f : ℕ → ℕ) (left d : ℕ) (nodes more : List ℕ) (s : Span) → length nodes ≤ length more → ((k : ℕ) → k < length nodes → slice_index more k ≡ slice_index nodes k) → IsSpanOf nodes s f left d → IsSpanOf more s f left d
-span_longer f left d nodes more s longer same span =
+pub span_longer : (f : ℕ → ℕ) (from to d : ℕ) (nodes more : List ℕ) (s : Span) → length nodes ≤ length more → ((k : ℕ) → k < length nodes → slice_index more k ≡ slice_index nodes k) → IsSpanOf nodes s f from to d → IsSpanOf more s f from to d
+span_longer f from to d nodes more s longer same span =
     let fits = span.fits in
     record {
       fits = omega arith;
-      low = λ k l m. subst (λ (x : ℕ). x < left) (sym (same k (omega arith))) (span.low k l m);
+      within = λ k l m. subst (λ (x : ℕ). (from ≤ x) × (x < to)) (sym (same k (omega arith))) (span.within k l m);
       rising = λ j k l m n. let a = same j (omega arith) in let b = same k (omega arith) in let r = span.rising j k l m n in omega arith;
-      found = λ a l e. let r = span.found a l e in let hi = r.2 in (r.0, r.1, r.2, same r.0 (omega arith) ∙ r.3);
+      found = λ a b l e. let r = span.found a b l e in let hi = r.2 in (r.0, r.1, r.2, same r.0 (omega arith) ∙ r.3);
+    }
+
+-- the span of a class whose nodes were added
+pub span_of_row : (f : ℕ → ℕ) (from to d : ℕ) (nodes row more : List ℕ) → AreInOrder row f from to d → more ≡ nodes ++ row → IsSpanOf more (let s : Span = record { next = length nodes; end = length more } in s) f from to d
+span_of_row f from to d nodes row more in_order added =
+    let long : length more ≡ length nodes + length row = ap length added ∙ length-append nodes row in
+    let behind : (k : ℕ) → slice_index more (length nodes + k) ≡ slice_index row k = λ k.
+    ap (λ (xs : List ℕ). slice_index xs (length nodes + k)) added ∙ get_or-append-add nodes row k 0 in
+    let there : (k : ℕ) → length nodes ≤ k → slice_index more k ≡ slice_index row (k - length nodes) = λ k l.
+    (let e : k ≡ length nodes + (k - length nodes) = omega arith in ap (slice_index more) e ∙ behind (k - length nodes)) in
+    record {
+      fits = omega arith;
+      within = λ k a b. subst (λ (x : ℕ). (from ≤ x) × (x < to)) (sym (there k a)) (in_order.within (k - length nodes) (omega arith));
+      rising = λ j k a b i.
+          let ej = there j a in
+          let ek = there k (omega arith) in
+          let r = in_order.rising (j - length nodes) (k - length nodes) (omega arith) (omega arith) in
+          omega arith;
+      found = λ a m i is. let r = in_order.found a m i is in let hi = r.1 in (length nodes + r.0, omega arith, omega arith, behind r.0 ∙ r.2);
     }
 
 -- a tied class has a left node
@@ -113,7 +132,7 @@ none_listed t g c n e = record {
 }
 
 -- one class more is listed
-pub one_listed : (old mid new : Ties) (g : Graph) (c : Classes) (n : ℕ) (row : List ℕ) → AreListed old mid g c n → length old.spans.items ≤ n → AreInOrder row (class_in c) (left_of g) n → IsSpanAdded mid new row → AreListed old new g c (n + 1)
+pub one_listed : (old mid new : Ties) (g : Graph) (c : Classes) (n : ℕ) (row : List ℕ) → AreListed old mid g c n → length old.spans.items ≤ n → AreInOrder row (class_in c) 0 (left_of g) n → IsSpanAdded mid new row → AreListed old new g c (n + 1)
 one_listed old mid new g c n row h from in_order added =
     let nodes = mid.nodes.items in
     let fresh : Span = record { next = length nodes; end = length new.nodes.items } in
@@ -139,30 +158,22 @@ one_listed old mid new g c n row h from in_order added =
       count = omega arith;
       kept = λ d l. kept d (omega arith) ∙ h.kept d l;
       each = λ d l m. elim (cases_lt d n) [
-        | inl u ↦ subst (λ (s : Span). IsSpanOf new.nodes.items s (class_in c) (left_of g) d) (sym (kept d (omega arith)))
-            (span_longer (class_in c) (left_of g) d nodes new.nodes.items (span_at mid d) (omega arith) before (h.each d l u))
+        | inl u ↦ subst (λ (s : Span). IsSpanOf new.nodes.items s (class_in c) 0 (left_of g) d) (sym (kept d (omega arith)))
+            (span_longer (class_in c) 0 (left_of g) d nodes new.nodes.items (span_at mid d) (omega arith) before (h.each d l u))
         | inr u ↦
             let e : n ≡ d = omega arith in
-            subst (λ (x : ℕ). IsSpanOf new.nodes.items (span_at new x) (class_in c) (left_of g) x) e
-            (subst (λ (s : Span). IsSpanOf new.nodes.items s (class_in c) (left_of g) n) (sym last) record {
-              fits = omega arith;
-              low = λ k a b. subst (λ (x : ℕ). x < left_of g) (sym (there k a)) (in_order.low (k - length nodes) (omega arith));
-              rising = λ j k a b i.
-                  let ej = there j a in
-                  let ek = there k (omega arith) in
-                  let r = in_order.rising (j - length nodes) (k - length nodes) (omega arith) (omega arith) in
-                  omega arith;
-              found = λ a i is. let r = in_order.found a i is in let hi = r.1 in (length nodes + r.0, omega arith, omega arith, behind r.0 ∙ r.2);
-            })
+            subst (λ (x : ℕ). IsSpanOf new.nodes.items (span_at new x) (class_in c) 0 (left_of g) x) e
+            (subst (λ (s : Span). IsSpanOf new.nodes.items s (class_in c) 0 (left_of g) n) (sym last)
+            (span_of_row (class_in c) 0 (left_of g) n nodes row new.nodes.items in_order added.nodes_are))
       ];
       low = λ k l m. elim (cases_lt k (length nodes)) [
         | inl u ↦ subst (λ (x : ℕ). x < left_of g) (sym (before k u)) (h.low k l u)
-        | inr u ↦ subst (λ (x : ℕ). x < left_of g) (sym (there k u)) (in_order.low (k - length nodes) (omega arith))
+        | inr u ↦ subst (λ (x : ℕ). x < left_of g) (sym (there k u)) (in_order.within (k - length nodes) (omega arith)).1
       ];
       moved = λ a l m o. elim (cases_lt (class_in c a) n) [
         | inl u ↦ let r = h.moved a l m u in let hi = r.2 in (r.0, r.1, omega arith, before r.0 r.2 ∙ r.3)
         | inr u ↦
-            let r = in_order.found a l (omega arith) in
+            let r = in_order.found a (omega arith) l (omega arith) in
             let hi = r.1 in
             (length nodes + r.0, omega arith, omega arith, behind r.0 ∙ r.2)
       ];
@@ -181,9 +192,9 @@ pub spans_listed : (old new : Ties) (g : Graph) (c : Classes) → AreFormer old 
 spans_listed old new g c h listed d l =
     let count = listed.count in
     elim (cases_lt d (length old.spans.items)) [
-      | inl u ↦ subst (λ (s : Span). IsSpanOf new.nodes.items s (class_in c) (left_of g) d) (sym (listed.kept d u))
-          (span_longer (class_in c) (left_of g) d old.nodes.items new.nodes.items (span_at old d) listed.longer listed.nodes
-          (span_like (told_in old) (class_in c) (left_of g) d old.nodes.items (span_at old d) (λ a m e. elim (h.kept a m) [
+      | inl u ↦ subst (λ (s : Span). IsSpanOf new.nodes.items s (class_in c) 0 (left_of g) d) (sym (listed.kept d u))
+          (span_longer (class_in c) 0 (left_of g) d old.nodes.items new.nodes.items (span_at old d) listed.longer listed.nodes
+          (span_like (told_in old) (class_in c) 0 (left_of g) d old.nodes.items (span_at old d) (λ a b m e. elim (h.kept a m) [
             | inl f ↦ sym f ∙ e
             | inr f ↦ absurd (omega arith)
           ]) (h.spans d u)))
@@ -221,8 +232,8 @@ followed old mid late new g c from part h ef listed renewed taken =
       ];
       count = ap (λ (v : Vec Span Global). length v.items) taken.spans ∙ (renewed.count ∙ listed.count);
       spans = λ d l.
-          subst (λ (v : Vec ℕ Global). IsSpanOf v.items (span_at new d) (class_in c) (left_of g) d) (sym taken.nodes)
-          (subst (λ (v : Vec Span Global). IsSpanOf late.nodes.items (slice_index_or v.items d record { next = 0; end = 0 }) (class_in c) (left_of g) d) (sym taken.spans)
+          subst (λ (v : Vec ℕ Global). IsSpanOf v.items (span_at new d) (class_in c) 0 (left_of g) d) (sym taken.nodes)
+          (subst (λ (v : Vec Span Global). IsSpanOf late.nodes.items (slice_index_or v.items d record { next = 0; end = 0 }) (class_in c) 0 (left_of g) d) (sym taken.spans)
           (renewed.spans d (subst (λ (v : Vec Span Global). d < length v.items) taken.spans l)));
       ties = λ d l more.
           let late_has : HasTie (class_in c) (left_of g) (ties_in late) d = elim (cases_lt d (length old.spans.items)) [
@@ -267,7 +278,7 @@ former t g old new part grown h =
         | inr m ↦ inr (omega arith)
       ];
       fewer = omega arith;
-      spans = λ d l. span_like (class_in old) (told_in t) (left_of g) d t.nodes.items (span_at t d) (λ a m e. sym (h.told a m) ∙ e) (h.spans d l);
+      spans = λ d l. span_like (class_in old) (told_in t) 0 (left_of g) d t.nodes.items (span_at t d) (λ a b m e. sym (h.told a m) ∙ e) (h.spans d l);
       ties = λ d l. has_like (class_in old) (told_in t) (left_of g) d (ties_in t) (record { to = λ a m e. h.told a m ∙ e; from = λ a m e. sym (h.told a m) ∙ e }) (h.ties d (omega arith));
       ordered = h.ordered;
     }

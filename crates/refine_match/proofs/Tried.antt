@@ -23,8 +23,8 @@ use Rattle.match_rounds.specs.Start.{AreGuesses, guessed_web}
 use Rattle.match_rounds.proofs.Started.{node_below}
 use Rattle.refine_match.specs.declared.candidates.Candidate.{Candidate}
 use Rattle.refine_match.specs.declared.searching.Search.{Search}
-use Rattle.refine_match.specs.declared.ties.Ties.{Ties}
-use Rattle.refine_match.specs.Ties.{AreTiesOf}
+use Rattle.refine_match.specs.declared.lists.Lists.{Lists}
+use Rattle.refine_match.specs.Rights.{AreListsOf}
 use Rattle.refine_match.specs.Classes.{AreStableClasses}
 use Rattle.net_model.specs.declared.netlist.Circuit.{Circuit}
 use Rattle.match_rounds.specs.Turned.{AreAllOf}
@@ -50,8 +50,8 @@ pushed_guesses p g s c h =
     more_guesses g s.guesses.items s.level.node c.node h.way.guesses (node_low p g s h.way) h.right below
 
 -- the search goes on with a guess
-pub guessing : (p : Pair) (g : Graph) (s : Search) (c : Candidate) → IsTrying p g s c → (ns : Vec (ℕ × ℕ) Global) (d : Classes) (k : Ties) → ns.items ≡ s.guesses.items ++ (s.level.node, c.node) ∷ []
-    → IsGuessing p g (let u : Search = record { limit = s.limit; refuted = s.refuted; classes = d; ties = k; guesses = ns; level = s.level; outer = s.outer; rows = s.rows } in u) c
+pub guessing : (p : Pair) (g : Graph) (s : Search) (c : Candidate) → IsTrying p g s c → (ns : Vec (ℕ × ℕ) Global) (d : Classes) (k : Lists) → ns.items ≡ s.guesses.items ++ (s.level.node, c.node) ∷ []
+    → IsGuessing p g (let u : Search = record { limit = s.limit; refuted = s.refuted; classes = d; lists = k; guesses = ns; level = s.level; outer = s.outer; rows = s.rows } in u) c
 guessing p g s c h ns d k e = record {
   before = s.guesses.items;
   guesses_are = e;
@@ -92,10 +92,10 @@ even_before_guess p g s c h =
     even_end p g h.before h.search.stage.above at.round h.search.told at.chosen.stable (at.chosen.even at.round (omega arith))
 
 -- a guess that the rounds refute
-pub refuted_way : (p : Pair) (g : Graph) (s : Search) (c : Candidate) → (h : IsGuessing p g s c) → (d0 : Classes) (v : Verdict) (e : GuessEnd) (t : Try) (d : Classes) (k : Ties) (shown seen : List (ℕ × ℕ)) (ns : Vec (ℕ × ℕ) Global) (ts : Vec Try Global)
+pub refuted_way : (p : Pair) (g : Graph) (s : Search) (c : Candidate) → (h : IsGuessing p g s c) → (d0 : Classes) (v : Verdict) (e : GuessEnd) (t : Try) (d : Classes) (k : Lists) (shown seen : List (ℕ × ℕ)) (ns : Vec (ℕ × ℕ) Global) (ts : Vec Try Global)
     → HasNoEvenEnd (guessed_web g s.guesses.items) → seen ≡ s.guesses.items → IsVerdict (guessed_web g seen) d0 v → EndsBy v e → row_of t ≡ guess_row h.search.above h.search.stage h.head.right (plain_end e)
-    → ts.items ≡ s.rows.items ++ t ∷ [] → ns.items ≡ take (s.guesses.len - 1) s.guesses.items → shown ≡ ns.items → IsPartition d (left_of g) (nodes_of g) → AreSettled (guessed_web g shown) d → AreTiesOf k g d
-    → IsUnderWay p g (let u : Search = record { limit = s.limit; refuted = s.refuted + 1; classes = d; ties = k; guesses = ns; level = tried_level s.level c s.level.row; outer = s.outer; rows = ts } in u)
+    → ts.items ≡ s.rows.items ++ t ∷ [] → ns.items ≡ take (s.guesses.len - 1) s.guesses.items → shown ≡ ns.items → IsPartition d (left_of g) (nodes_of g) → AreSettled (guessed_web g shown) d → AreListsOf k g d
+    → IsUnderWay p g (let u : Search = record { limit = s.limit; refuted = s.refuted + 1; classes = d; lists = k; guesses = ns; level = tried_level s.level c s.level.row; outer = s.outer; rows = ts } in u)
 refuted_way p g s c h d0 verdict.Stable e t d k shown seen ns ts none es is by row et en esh part settled ties =
     let st : AreSettled (guessed_web g s.guesses.items) d0 = subst (λ (us : List (ℕ × ℕ)). AreSettled (guessed_web g us) d0) es is in
     absurd (none st.round st.stable (st.even st.round (omega arith)))
@@ -113,7 +113,7 @@ refuted_way p g s c h d0 (verdict.Refuted r) e t d k shown seen ns ts none es is
           (subst (λ (us : List (ℕ × ℕ)). IsSearchOf p g s.limit us (tried_level s.level c s.level.row) s.outer.items (s.rows.items ++ t ∷ []) (s.refuted + 1)) (sym are) next);
       partition = part;
       settled = subst (λ (us : List (ℕ × ℕ)). AreSettled (guessed_web g us) d) esh settled;
-      ties = ties;
+      lists = ties;
       guesses = subst (λ (us : List (ℕ × ℕ)). AreGuesses g us) (sym are) (guesses_before p g s c h);
       within = omega arith;
     }

@@ -13,16 +13,16 @@ use Rattle.match_rounds.specs.Classes.{IsPartition}
 use Rattle.match_rounds.specs.Refined.{AreSettled}
 use Rattle.match_rounds.specs.Start.{guessed_web}
 use Rattle.refine_match.specs.Choosing.{IsLeastTied}
-use Rattle.refine_match.specs.Ties.{AreTiesOf}
-use Rattle.refine_match.specs.declared.ties.Ties.{Ties}
+use Rattle.refine_match.specs.Rights.{AreListsOf}
+use Rattle.refine_match.specs.declared.lists.Lists.{Lists}
 use Rattle.refine_match.specs.declared.by_rounds.Rounds.{Rounds}
 use Rattle.refine_match.specs.declared.by_rounds.Rounds.TheVariants as rounds
 
 -- the rounds leave these ties, and this node is guessed first
-pub record AreTies (g : Graph) (c : Classes) (t : Ties) (node : ℕ) : Type 0 where
+pub record AreTies (g : Graph) (c : Classes) (l : Lists) (node : ℕ) : Type 0 where
   pub partition : IsPartition c (left_of g) (nodes_of g)
   pub settled : AreSettled (guessed_web g []) c
-  pub ties : AreTiesOf t g c
+  pub lists : AreListsOf l g c
   pub least : IsLeastTied g c (left_of g) node
 
 -- an answer is that of the pair, whatever equal names and the limit are; ties are left only where
@@ -30,7 +30,7 @@ pub record AreTies (g : Graph) (c : Classes) (t : Ties) (node : ℕ) : Type 0 wh
 abbrev pub IsRoundsAnswer : Pair → Graph → Rounds → Type 0
 IsRoundsAnswer p g (rounds.Decided answer) = (same : Node → Node → Bool) (limit : ℕ)
     → IsAnswer p same limit (plain_answer answer)
-IsRoundsAnswer p g (rounds.Tied classes ties node) = AreMatched p × AreTies g classes ties node
+IsRoundsAnswer p g (rounds.Tied classes lists node) = AreMatched p × AreTies g classes lists node
 
 -- the first round has unequal counts
 abbrev pub IsFirstRound : Verdict → Type 0

@@ -81,6 +81,12 @@ abbrev pub IsBestBehind : Graph → (ℕ → ℕ) → Option Candidate → List 
 IsBestBehind g rank last items i None = AreTried g rank last items i
 IsBestBehind g rank last items i (Some c) = IsFirstBehind g rank last items i c
 
+-- a candidate is this right node, and comes before all right nodes of greater numbers
+pub record IsSureFirst (g : Graph) (rank : ℕ → ℕ) (y : ℕ) (c : Candidate) : Type 0 where
+  pub node : c.node ≡ y
+  pub rank_is : candidate_rank c ≡ rank y
+  pub first : (a : ℕ) → y ≤ a → rank y ≤ rank a
+
 -- the rank of a right node as a candidate of a left node
 abbrev pub rank_in : Pair → Node → Node → ℕ
 rank_in p a b = rank_of (equal_names p a b) (index_of p b)

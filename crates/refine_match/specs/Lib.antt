@@ -2,6 +2,7 @@ pub mod Classes
 pub mod Evidence
 pub mod Choosing
 pub mod Ties
+pub mod Rights
 pub mod Pairings
 pub mod Candidates
 pub mod ByRounds

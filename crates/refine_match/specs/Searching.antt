@@ -22,7 +22,7 @@ use Rattle.match_rounds.specs.Refined.{AreSettled}
 use Rattle.match_rounds.specs.Start.{AreGuesses, guessed_web}
 use Rattle.refine_match.specs.Classes.{AreTold}
 use Rattle.refine_match.specs.Choosing.{AreUntied}
-use Rattle.refine_match.specs.Ties.{AreTiesOf}
+use Rattle.refine_match.specs.Rights.{AreListsOf}
 use Rattle.refine_match.specs.Candidates.{IsHead, IsPairOf, remaining}
 use Rattle.refine_match.specs.declared.candidates.Candidate.{Candidate}
 use Rattle.refine_match.specs.declared.searching.Level.{Level}
@@ -92,7 +92,7 @@ pub record IsUnderWay (p : Pair) (g : Graph) (s : Search) : Type 0 where
   pub search : IsSearchOf p g s.limit s.guesses.items s.level s.outer.items s.rows.items s.refuted
   pub partition : IsPartition s.classes (left_of g) (nodes_of g)
   pub settled : AreSettled (guessed_web g s.guesses.items) s.classes
-  pub ties : AreTiesOf s.ties g s.classes
+  pub lists : AreListsOf s.lists g s.classes
   pub guesses : AreGuesses g s.guesses.items
   pub within : s.refuted ≤ s.limit
 

@@ -21,18 +21,20 @@ use Rattle.refine_match.specs.Choosing.{tied_with}
 abbrev pub lefts_of : (ℕ → ℕ) → ℕ → ℕ → ℕ
 lefts_of class left d = count_by (λ a. d == class a) (numbers_from 0 left)
 
--- the left nodes of class d, in order
-pub record AreInOrder (nodes : List ℕ) (class : ℕ → ℕ) (left d : ℕ) : Type 0 where
-  pub low : (k : ℕ) → k < length nodes → slice_index nodes k < left
+-- the nodes of class d between these numbers, in order
+pub record AreInOrder (nodes : List ℕ) (class : ℕ → ℕ) (from to d : ℕ) : Type 0 where
+  pub within : (k : ℕ) → k < length nodes
+      → (from ≤ slice_index nodes k) × (slice_index nodes k < to)
   pub rising : (j k : ℕ) → j ≤ k → k < length nodes → slice_index nodes j ≤ slice_index nodes k
-  pub found : (a : ℕ) → a < left → class a ≡ d
+  pub found : (a : ℕ) → from ≤ a → a < to → class a ≡ d
       → (k : ℕ) × (k < length nodes) × (slice_index nodes k ≡ a)
 
--- those of the first i nodes that are left ones
-pub record AreLefts (lefts nodes : List ℕ) (i left : ℕ) : Type 0 where
-  pub low : (k : ℕ) → k < length lefts → slice_index lefts k < left
-  pub found : (j : ℕ) → j < i → slice_index nodes j < left
-      → (k : ℕ) × (k < length lefts) × (slice_index lefts k ≡ slice_index nodes j)
+-- those of the first i nodes that are between these numbers
+pub record AreWithin (taken nodes : List ℕ) (i from to : ℕ) : Type 0 where
+  pub within : (k : ℕ) → k < length taken
+      → (from ≤ slice_index taken k) × (slice_index taken k < to)
+  pub found : (j : ℕ) → j < i → from ≤ slice_index nodes j → slice_index nodes j < to
+      → (k : ℕ) × (k < length taken) × (slice_index taken k ≡ slice_index nodes j)
 
 -- no place before this one has a node of class d
 pub record IsFirstIn (nodes : List ℕ) (class : ℕ → ℕ) (d from to place : ℕ) : Type 0 where
@@ -46,13 +48,14 @@ IsTieOrNone g c d nodes place (Some t) = (1 < t.count) × (t.count ≡ left_memb
     × (t.node ≡ slice_index nodes place)
 IsTieOrNone g c d nodes place None = left_members g c d ≤ 1
 
--- where the left nodes of class d stand, in order
-pub record IsSpanOf (nodes : List ℕ) (s : Span) (class : ℕ → ℕ) (left d : ℕ) : Type 0 where
+-- where the nodes of class d between these numbers stand, in order
+pub record IsSpanOf (nodes : List ℕ) (s : Span) (class : ℕ → ℕ) (from to d : ℕ) : Type 0 where
   pub fits : s.end ≤ length nodes
-  pub low : (k : ℕ) → s.next ≤ k → k < s.end → slice_index nodes k < left
+  pub within : (k : ℕ) → s.next ≤ k → k < s.end
+      → (from ≤ slice_index nodes k) × (slice_index nodes k < to)
   pub rising : (j k : ℕ) → s.next ≤ j → j ≤ k → k < s.end
       → slice_index nodes j ≤ slice_index nodes k
-  pub found : (a : ℕ) → a < left → class a ≡ d
+  pub found : (a : ℕ) → from ≤ a → a < to → class a ≡ d
       → (k : ℕ) × (s.next ≤ k) × (k < s.end) × (slice_index nodes k ≡ a)
 
 abbrev pub span_at : Ties → ℕ → Span
@@ -61,7 +64,7 @@ span_at t d = slice_index_or t.spans.items d record { next = 0; end = 0 }
 -- each class has its span
 abbrev pub AreSpansIn : Ties → (ℕ → ℕ) → ℕ → Type 0
 AreSpansIn t class left = (d : ℕ) → d < length t.spans.items
-    → IsSpanOf t.nodes.items (span_at t d) class left d
+    → IsSpanOf t.nodes.items (span_at t d) class 0 left d
 
 abbrev pub AreSpansOf : Ties → Graph → Classes → Type 0
 AreSpansOf t g c = AreSpansIn t (class_in c) (left_of g)
@@ -142,7 +145,7 @@ pub record AreListed (old new : Ties) (g : Graph) (c : Classes) (n : ℕ) : Type
   pub count : length new.spans.items ≡ n
   pub kept : (d : ℕ) → d < length old.spans.items → span_at new d ≡ span_at old d
   pub each : (d : ℕ) → length old.spans.items ≤ d → d < n
-      → IsSpanOf new.nodes.items (span_at new d) (class_in c) (left_of g) d
+      → IsSpanOf new.nodes.items (span_at new d) (class_in c) 0 (left_of g) d
   pub low : AreLow new g (length old.nodes.items)
   pub moved : (a : ℕ) → a < left_of g → length old.spans.items ≤ class_in c a → class_in c a < n
       → (k : ℕ) × (length old.nodes.items ≤ k) × (k < length new.nodes.items)

@@ -10,8 +10,8 @@ ghost use Rattle.match_rounds.specs.Start.{guessed_web};
 ghost use Rattle.refine_match.specs.ByRounds.{IsFirstRound, IsRoundsAnswer};
 
 use crate::evidence::evidence_of;
+use crate::lists::Lists;
 use crate::pairings::read_pairing;
-use crate::ties::Ties;
 use match_graph::Graph;
 use match_rounds::{Classes, Verdict, refine};
 use match_types::{Answer, ChildPins};
@@ -24,8 +24,8 @@ use std::alloc::{AllocError, Global};
 pub enum Rounds {
     /// The answer of the pair.
     Decided(Answer),
-    /// Stable classes, their ties, and the left node to be guessed first.
-    Tied(Classes, Ties, u32),
+    /// Stable classes with ties, their lists, and the left node to be guessed first.
+    Tied(Classes, Lists, u32),
 }
 
 /// The answer of a pair as far as rounds decide it: unequal counts in the first round, a called
@@ -90,9 +90,9 @@ fn by_classes(alloc: Global, graph: &Graph, classes: Classes) -> Result<Rounds, 
     ensures { IfOk result (λ rounds. (p : Pair) → IsGraphOf p graph.now → IsWeb (web_of p)
         → AreMatched p → IsRoundsAnswer p graph.now rounds) }
 {
-    let mut ties = Ties::of(alloc, graph, &classes)?;
-    if let Some(node) = ties.choose(graph, &classes)? {
-        return Ok(Rounds::Tied(classes, ties, node));
+    let mut lists = Lists::of(alloc, graph, &classes)?;
+    if let Some(node) = lists.choose(graph, &classes)? {
+        return Ok(Rounds::Tied(classes, lists, node));
     }
     let pairing = read_pairing(alloc, graph, &classes)?;
     Ok(Rounds::Decided(Answer::Match(pairing)))

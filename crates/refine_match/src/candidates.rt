@@ -1,10 +1,13 @@
-ghost use Rattle.std.specs.Prelude.{◌≡◌, ◌<◌, ◌≤◌, ◌↔◌, ℕ, List, length, nat_lt, true};
+ghost use Rattle.std.specs.Prelude.{◌≡◌, ◌<◌, ◌≤◌, ◌↔◌, ℕ, IfSome, List, length, nat_lt, true};
 ghost use Rattle.match_graph.specs.Graph.{IsGraph, left_of, nodes_of};
 ghost use Rattle.match_rounds.specs.Classes.{IsPartition, class_in};
-ghost use Rattle.refine_match.specs.Candidates.{HaveNets, IsBestBehind, IsFirst, NextLaw};
-ghost use Rattle.refine_match.specs.Candidates.{candidate_rank, have_one_name, is_behind, rank_at};
+ghost use Rattle.refine_match.specs.Candidates.{HaveNets, IsBestBehind, IsFirst, IsSureFirst};
+ghost use Rattle.refine_match.specs.Candidates.{NextLaw, candidate_rank, have_one_name, is_behind};
+ghost use Rattle.refine_match.specs.Candidates.{rank_at};
+ghost use Rattle.refine_match.specs.Rights.{AreRightsOf};
 ghost use Rattle.match_rounds.specs.Turned.{AreAllOf};
 
+use crate::rights::Rights;
 use match_graph::Graph;
 use match_rounds::Classes;
 use net_model::Circuit;
@@ -18,10 +21,13 @@ pub struct Candidate {
 }
 
 /// The next candidate of a left node behind the last one: the right nodes of its class, those of
-/// its name first, each group by number. The time is in proportion to the size of the class.
+/// its name first, each group by number. The first candidate of a device or call, and one that is
+/// the first right node of its class and has the name of the left one, is found in the time to pass
+/// over what left the class; any other in a time in proportion to the size of the class.
 pub fn next_candidate(
     graph: &Graph,
     classes: &Classes,
+    rights: &Rights,
     left: &Circuit,
     right: &Circuit,
     node: u32,
@@ -29,15 +35,67 @@ pub fn next_candidate(
 ) -> Option<Candidate>
     requires graph { IsGraph graph.now }
     requires partition { IsPartition classes.now (left_of graph.now) (nodes_of graph.now) }
+    requires rights { AreRightsOf rights.now graph.now classes.now }
     requires nets { HaveNets graph.now left.now right.now }
     requires node { node < left_of graph.now }
     ensures { (items : List ℕ) × AreAllOf (class_in classes.now) (class_in classes.now node) items
         (nodes_of graph.now) × IsBestBehind graph.now (rank_at graph.now left.now right.now node)
         last items (length items) result }
 {
+    let members = classes.members(graph, classes.of(node));
+    if last.is_none() {
+        if let Some(first) = rights.first(graph, classes, classes.of(node)) {
+            if let Some(candidate) = first_candidate(graph, left, right, node, first) {
+                return Some(candidate);
+            }
+        }
+    }
+    best_of(graph, left, right, members, node, last)
+}
+
+// The first right node of a left node's class as a candidate, if it is known to be the first one.
+fn first_candidate(
+    graph: &Graph,
+    left: &Circuit,
+    right: &Circuit,
+    node: u32,
+    first: u32,
+) -> Option<Candidate>
+    requires graph { IsGraph graph.now }
+    requires nets { HaveNets graph.now left.now right.now }
+    requires node { node < left_of graph.now }
+    requires first { left_of graph.now ≤ first }
+    ensures { IfSome result (IsSureFirst graph.now (rank_at graph.now left.now right.now node)
+        first) }
+{
+    let has_name = is_one_name(graph, left, right, node, first);
+    if has_name || graph.left.first_device() <= node {
+        return Some(Candidate {
+            has_name,
+            node: first,
+        });
+    }
+    None
+}
+
+// The best candidate behind the last one of the right ones of these nodes.
+fn best_of(
+    graph: &Graph,
+    left: &Circuit,
+    right: &Circuit,
+    nodes: &[u32],
+    node: u32,
+    last: Option<Candidate>,
+) -> Option<Candidate>
+    requires graph { IsGraph graph.now }
+    requires nets { HaveNets graph.now left.now right.now }
+    requires node { node < left_of graph.now }
+    ensures { IsBestBehind graph.now (rank_at graph.now left.now right.now node) last nodes.now
+        (length nodes.now) result }
+{
     let left_count = graph.left_count();
     let mut best = None;
-    for other in classes.members(graph, classes.of(node)) {
+    for other in nodes {
         if left_count <= *other {
             let candidate = Candidate {
                 has_name: is_one_name(graph, left, right, node, *other),

@@ -9,11 +9,11 @@ ghost use Rattle.match_rounds.specs.Start.{guessed_web};
 ghost use Rattle.refine_match.specs.Choosing.{IsLeastTied};
 ghost use Rattle.refine_match.specs.Searching.{IsGuessing, IsLonger, IsTried, IsTrying, IsUnderWay};
 ghost use Rattle.refine_match.specs.Searching.{EndsBy, guess_row};
-ghost use Rattle.refine_match.specs.Ties.{AreTiesOf};
+ghost use Rattle.refine_match.specs.Rights.{AreListsOf};
 
 use crate::candidates::Candidate;
+use crate::lists::Lists;
 use crate::searching::{Level, Search, first_try, settle};
-use crate::ties::Ties;
 use match_graph::Graph;
 use match_rounds::{Verdict, refine, single_out};
 use match_types::{Guess, GuessEnd};
@@ -40,8 +40,8 @@ impl Search {
             self.refute(alloc, graph, candidate)?;
             return Ok(false);
         }
-        self.ties.follow(alloc, graph, &self.classes)?;
-        match self.ties.choose(graph, &self.classes)? {
+        self.lists.follow(alloc, graph, &self.classes)?;
+        match self.lists.choose(graph, &self.classes)? {
             Some(node) => {
                 self.descend(graph, candidate, node)?;
                 Ok(false)
@@ -70,7 +70,7 @@ impl Search {
         self.refuted += 1;
         self.guesses.pop();
         self.classes = settle(alloc, graph, &self.guesses)?;
-        self.ties = Ties::of(alloc, graph, &self.classes)?;
+        self.lists = Lists::of(alloc, graph, &self.classes)?;
         Ok(())
     }
 
@@ -82,7 +82,7 @@ impl Search {
         requires settled { AreSettled (guessed_web graph.now self.old.guesses.items)
             self.old.classes }
         requires least { IsLeastTied graph.now self.old.classes (left_of graph.now) node }
-        requires ties { AreTiesOf self.old.ties graph.now self.old.classes }
+        requires lists { AreListsOf self.old.lists graph.now self.old.classes }
         ensures way { (p : Pair) → IsGuessing p graph.now self.old candidate
             → OnOk result (IsUnderWay p graph.now self.new) }
         ensures longer { OnOk result (IsLonger self.old self.new) }

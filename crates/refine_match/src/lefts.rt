@@ -3,7 +3,7 @@ ghost use Rattle.std.specs.Prelude.{IfOk, OnOk};
 ghost use Rattle.match_graph.specs.Graph.{left_of, nodes_of};
 ghost use Rattle.match_rounds.specs.Classes.{IsPartition, class_count, class_in, node_count};
 ghost use Rattle.match_rounds.specs.Sides.{left_members};
-ghost use Rattle.refine_match.specs.Ties.{AreLefts, AreInOrder, IsFirstIn, IsTieOrNone};
+ghost use Rattle.refine_match.specs.Ties.{AreInOrder, AreWithin, IsFirstIn, IsTieOrNone};
 
 use crate::ties::{Span, Tie};
 use match_graph::Graph;
@@ -24,43 +24,45 @@ pub fn left_classes(alloc: Global, graph: &Graph, classes: &Classes) -> Result<V
     Ok(class_of)
 }
 
-/// The left nodes of a class, by number.
-pub fn list_lefts(
+/// The nodes of a class from one number on and below another one, by number.
+pub fn list_within(
     graph: &Graph,
     classes: &Classes,
     class: u32,
-    lefts: &mut Vec<u32>,
+    from: u32,
+    to: u32,
+    found: &mut Vec<u32>,
 ) -> Result<(), AllocError>
     requires partition { IsPartition classes.now (left_of graph.now) (nodes_of graph.now) }
     requires class { class < class_count classes.now }
-    ensures { OnOk result (AreInOrder lefts.new.items (class_in classes.now) (left_of graph.now)
-        class) }
+    requires inside { to ≤ nodes_of graph.now }
+    ensures { OnOk result (AreInOrder found.new.items (class_in classes.now) from to class) }
 {
-    take_lefts(graph, classes.members(graph, class), lefts)?;
-    lefts.sort_unstable();
+    take_within(classes.members(graph, class), from, to, found)?;
+    found.sort_unstable();
     Ok(())
 }
 
-// The left ones of these nodes.
-fn take_lefts(graph: &Graph, nodes: &[u32], lefts: &mut Vec<u32>) -> Result<(), AllocError>
-    ensures { OnOk result (AreLefts lefts.new.items nodes.now (length nodes.now)
-        (left_of graph.now)) }
+// Those of these nodes.
+fn take_within(nodes: &[u32], from: u32, to: u32, found: &mut Vec<u32>) -> Result<(), AllocError>
+    ensures { OnOk result (AreWithin found.new.items nodes.now (length nodes.now) from to) }
 {
-    lefts.clear();
-    let left_count = graph.left_count();
+    found.clear();
     for i in 0..nodes.len() {
-        take_left(nodes[i], left_count, lefts)?;
+        take_node(nodes[i], from, to, found)?;
     }
     Ok(())
 }
 
-// The node, if it is below this number.
-fn take_left(node: u32, end: u32, lefts: &mut Vec<u32>) -> Result<(), AllocError>
-    ensures low { node < end → OnOk result (lefts.new.items ≡ lefts.old.items ++ node ∷ []) }
-    ensures high { end ≤ node → OnOk result (lefts.new.items ≡ lefts.old.items) }
+// The node, if it is one of those.
+fn take_node(node: u32, from: u32, to: u32, found: &mut Vec<u32>) -> Result<(), AllocError>
+    ensures inside { from ≤ node → node < to
+        → OnOk result (found.new.items ≡ found.old.items ++ node ∷ []) }
+    ensures low { node < from → OnOk result (found.new.items ≡ found.old.items) }
+    ensures high { to ≤ node → OnOk result (found.new.items ≡ found.old.items) }
 {
-    if node < end {
-        lefts.push(node)?;
+    if from <= node && node < to {
+        found.push(node)?;
     }
     Ok(())
 }

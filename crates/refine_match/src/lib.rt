@@ -7,8 +7,10 @@ mod choosing;
 mod evidence;
 mod guessing;
 mod lefts;
+mod lists;
 mod matching;
 mod pairings;
+mod rights;
 mod searching;
 mod ties;
 

@@ -31,9 +31,10 @@ use std::alloc::{AllocError, Global};
 /// where `limit` were refuted before that: none, where `limit` is 0 and there are ties.
 ///
 /// The rounds take the time to sort the ends of all nodes as often as the logarithm of their
-/// number. A guess that isn't refuted takes a walk over the class of its node, the rounds that part
-/// the classes further, and the time to sort the nodes whose classes those are; one that is, and a
-/// level that is left, the rounds from the first on.
+/// number. A guess that isn't refuted takes the rounds that part the classes further, the time to
+/// sort the nodes whose classes those are, and, where its node is a net, but not of the name of the
+/// first right one of its class, a walk over that class; one that is, and a level that is left, the
+/// rounds from the first on.
 ///
 /// The error is want of memory, or more than 2^32 guesses below each other.
 pub fn match_circuits(
@@ -79,8 +80,8 @@ fn complete(
 {
     match rounds {
         Rounds::Decided(answer) => Ok(answer),
-        Rounds::Tied(classes, ties, node) => {
-            let search = Search::begin(alloc, classes, ties, node, limit);
+        Rounds::Tied(classes, lists, node) => {
+            let search = Search::begin(alloc, classes, lists, node, limit);
             by_guesses(alloc, graph, left, right, search)
         }
     }

@@ -10,7 +10,7 @@ ghost use Rattle.refine_match.specs.Candidates.{HaveNets, IsNextOf, IsPairOf};
 ghost use Rattle.refine_match.specs.Searching.{HasEvenEnd, HasLeft, IsLeft, IsShorter, IsUnderWay};
 
 use crate::candidates::{Candidate, next_candidate};
-use crate::ties::Ties;
+use crate::lists::Lists;
 use match_graph::Graph;
 use match_rounds::{Classes, refine};
 use match_types::{Guess, GuessEnd};
@@ -35,8 +35,8 @@ pub struct Search {
     pub refuted: u32,
     /// The stable classes under the guesses that are open.
     pub classes: Classes,
-    /// Their ties.
-    pub ties: Ties,
+    /// Their lists.
+    pub lists: Lists,
     /// Those guesses: the node and the last candidate of each level above.
     pub guesses: Vec<(u32, u32)>,
     /// The level whose candidates are tried.
@@ -49,16 +49,16 @@ pub struct Search {
 
 impl Search {
     /// The search that begins with this tied node of stable classes.
-    pub fn begin(alloc: Global, classes: Classes, ties: Ties, node: u32, limit: u32) -> Search
+    pub fn begin(alloc: Global, classes: Classes, lists: Lists, node: u32, limit: u32) -> Search
         ensures way { (p : Pair) (g : Graph) → IsGraphOf p g → IsWeb (web_of p)
-            → AreTies g classes ties node → IsUnderWay p g result }
+            → AreTies g classes lists node → IsUnderWay p g result }
         ensures limit { result.limit ≡ limit }
     {
         Search {
             limit,
             refuted: 0,
             classes,
-            ties,
+            lists,
             guesses: Vec::new(alloc),
             level: first_try(node),
             outer: Vec::new(alloc),
@@ -66,7 +66,7 @@ impl Search {
         }
     }
 
-    /// The next candidate of the level. The time is in proportion to the size of a class.
+    /// The next candidate of the level. The time is in proportion to the size of a class at most.
     pub fn next(&self, graph: &Graph, left: &Circuit, right: &Circuit) -> Option<Candidate>
         requires way { (p : Pair) × IsUnderWay p graph.now self.now }
         requires nets { HaveNets graph.now left.now right.now }
@@ -78,6 +78,7 @@ impl Search {
         next_candidate(
             graph,
             &self.classes,
+            &self.lists.rights,
             left,
             right,
             self.level.node,
@@ -98,7 +99,7 @@ impl Search {
                 self.level = level;
                 self.guesses.truncate(self.outer.len());
                 self.classes = settle(alloc, graph, &self.guesses)?;
-                self.ties = Ties::of(alloc, graph, &self.classes)?;
+                self.lists = Lists::of(alloc, graph, &self.classes)?;
                 Ok(true)
             }
             None => Ok(false),

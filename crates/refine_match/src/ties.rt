@@ -6,7 +6,7 @@ ghost use Rattle.refine_match.specs.Ties.{AreFormer, AreListed, AreLow, AreMoved
 ghost use Rattle.refine_match.specs.Ties.{AreSpansOf, AreTaken, AreTiesOf, IsRenewed, IsSpanAdded};
 ghost use Rattle.refine_match.specs.Ties.{tie_order};
 
-use crate::lefts::{first_in, left_classes, list_lefts, tie_at};
+use crate::lefts::{first_in, left_classes, list_within, tie_at};
 use match_graph::Graph;
 use match_rounds::Classes;
 use std::alloc::{AllocError, Global};
@@ -90,7 +90,14 @@ impl Ties {
     {
         let mut room = Vec::new(alloc);
         for class in self.spans.len()..classes.count() {
-            list_lefts(graph, classes, class as u32, &mut room)?;
+            list_within(
+                graph,
+                classes,
+                class as u32,
+                0,
+                graph.left_count(),
+                &mut room,
+            )?;
             self.add_span(&room)?;
         }
         Ok(())

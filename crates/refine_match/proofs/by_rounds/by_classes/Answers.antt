@@ -17,4 +17,4 @@ read_pairing-requires-clause-single c =
 pub returns-in-Some : goal.returns-in-Some
 returns-in-Some c = λ p h good matched.
     let least = subst (λ (o : Option ℕ). IsLeastOrNone c.args.graph.now c.args.classes o) c.in-Some.is c.in_ok-node.ensures.least in
-    (matched, record { partition = c.requires.partition; settled = c.requires.settled; ties = c.in_ok-node.ensures.ties; least = least })
+    (matched, record { partition = c.requires.partition; settled = c.requires.settled; lists = c.in_ok-node.ensures.lists; least = least })

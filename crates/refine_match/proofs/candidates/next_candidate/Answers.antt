@@ -1,49 +1,17 @@
-use Rattle.std.proofs.Common.{◌≡◌, ◌+◌, ℕ, Bool, List, Option, length, slice_index, refl, sym, subst, ◌∙◌, ap, arith, true≢false}
+use Rattle.std.proofs.Common.{ℕ, subst}
 use Rattle.match_graph.specs.Graph.{nodes_of}
 use Rattle.match_rounds.specs.Classes.{class_in}
 use Rattle.match_rounds.specs.Turned.{AreAllOf}
-use Rattle.refine_match.specs.declared.candidates.Candidate.{Candidate}
-use Rattle.refine_match.specs.Candidates.{IsBestBehind, is_behind, rank_at, rank_of, candidate_rank}
-use Rattle.refine_match.proofs.NextBehind.{took, kept, not_first, IsNoLaterThan}
+use Rattle.refine_match.specs.Candidates.{rank_at}
+use Rattle.refine_match.specs.Rights.{IsFirstRight}
+use Rattle.refine_match.proofs.SureFirst.{best_first, not_some}
 use Rattle.refine_match.proofs.candidates.next_candidate.Goals as goal
-use Rattle.refine_match.proofs.candidates.next_candidate.Goals.{then-left_count-other+then-is_after+then-is_first, then-left_count-other+else-is_after, else-is_after-via-then-is_after+else-is_first, else-is_after-via-else-is_after, else-left_count-other}
 
-pub loop-other-preserved : goal.loop-other-preserved
-loop-other-preserved c =
-    let rank : ℕ → ℕ = rank_at c.args.graph.now c.args.left.now c.args.right.now c.args.node in
-    let items : List ℕ = c.members-other-items.result.now in
-    let y : ℕ = slice_index c.members-other-items.result.now c.loop-other.other-index in
-    let stays : (Option Candidate) → Type 0 = λ o. IsBestBehind c.args.graph.now rank c.args.last items (c.loop-other.other-index + 1) o in
-    elim c.if-left_count-other.branch [
-      | then-left_count-other+then-is_after+then-is_first w ↦
-          let cand : Candidate = record { has_name = w.is_one_name.result; node = slice_index c.members-other-items.result.now c.loop-other.other-index } in
-          let is : candidate_rank cand ≡ rank y = ap (λ (b : Bool). rank_of b y) w.is_one_name.ensures in
-          let low = w.if-left_count-other.true in
-          let count = c.left_count-left_count.ensures in
-          subst stays (sym w.best-is)
-          (took c.args.graph.now rank c.args.last items c.loop-other.other-index c.loop-other.best cand c.loop-other.invariant refl (omega arith) is (sym w.is_after.ensures ∙ w.if-is_after.true) (w.is_first.ensures.0 w.if-is_first.true))
-      | then-left_count-other+else-is_after w ↦
-          let cand : Candidate = record { has_name = w.is_one_name.result; node = slice_index c.members-other-items.result.now c.loop-other.other-index } in
-          let is : candidate_rank cand ≡ rank y = ap (λ (b : Bool). rank_of b y) w.is_one_name.ensures in
-          subst stays (sym w.best-is)
-          (kept c.args.graph.now rank c.args.last items c.loop-other.other-index c.loop-other.best c.loop-other.invariant (λ r t. elim w.else-is_after.branch [
-            | else-is_after-via-then-is_after+else-is_first v ↦
-                subst (IsNoLaterThan c.loop-other.best) is (not_first cand c.loop-other.best (λ f. true≢false (sym (v.is_first.ensures.1 f) ∙ v.if-is_first.false)))
-            | else-is_after-via-else-is_after v ↦ absurd (true≢false (sym t ∙ (ap (is_behind c.args.last) (sym is) ∙ (sym w.is_after.ensures ∙ v.if-is_after.false))))
-          ]))
-      | else-left_count-other w ↦
-          let low = w.if-left_count-other.false in
-          let count = c.left_count-left_count.ensures in
-          subst stays (sym w.best-is)
-          (kept c.args.graph.now rank c.args.last items c.loop-other.other-index c.loop-other.best c.loop-other.invariant (λ r t. absurd (omega arith)))
-    ]
-
-pub returns : goal.returns
-returns c =
-    let past = c.loop-other-test.false in
-    let upto = c.loop-other.auto.other-index-end in
-    let e : c.loop-other.other-index ≡ length c.members-other-items.result.now = omega arith in (
-      c.members-other-items.result.now,
-      subst (λ (d : ℕ). AreAllOf (class_in c.args.classes.now) d c.members-other-items.result.now (nodes_of c.args.graph.now)) c.of.ensures c.members-other-items.ensures,
-      subst (λ (n : ℕ). IsBestBehind c.args.graph.now (rank_at c.args.graph.now c.args.left.now c.args.right.now c.args.node) c.args.last c.members-other-items.result.now n c.loop-other.best) e c.loop-other.invariant,
-    )
+pub returns-in-Some-first_candidate : goal.returns-in-Some-first_candidate
+returns-in-Some-first_candidate c =
+    let g = c.args.graph.now in
+    let d = class_in c.args.classes.now c.args.node in
+    let items = c.members-members.result.now in
+    let all = subst (λ (x : ℕ). AreAllOf (class_in c.args.classes.now) x items (nodes_of g)) c.of.ensures c.members-members.ensures in
+    let first = subst (λ (x : ℕ). IsFirstRight g c.args.classes.now x c.in-Some.first) c.of-then-is_none.ensures c.in-Some.ensures in
+    (items, all, best_first g c.args.classes.now (rank_at g c.args.left.now c.args.right.now c.args.node) d c.in-Some.first items c.in-Some-first_candidate.candidate c.args.last (not_some c.args.last c.if-is_none.ensures) all first c.in-Some-first_candidate.ensures)

@@ -2,7 +2,7 @@ use Rattle.std.proofs.Common.{ℕ, List, Option, sym, subst, ◌∙◌}
 use Rattle.match_rounds.specs.Refined.{AreSettled, HasNoEvenEnd}
 use Rattle.match_rounds.specs.Start.{AreGuesses, guessed_web}
 use Rattle.refine_match.specs.Choosing.{IsLeastOrNone}
-use Rattle.refine_match.proofs.Tied.{former}
+use Rattle.refine_match.proofs.RightOnes.{former_lists}
 use Rattle.refine_match.proofs.Tried.{before_guess, guessing, not_even, now_even, pushed_guesses}
 use Rattle.refine_match.proofs.searching.Search.guess.Goals as goal
 
@@ -18,7 +18,7 @@ single_out-requires-clause-settled c =
 
 pub refute-requires-clause-guessing : goal.refute-requires-clause-guessing
 refute-requires-clause-guessing c =
-    (c.requires.0, guessing c.requires.0 c.args.graph.now c.args.self.now c.args.candidate c.requires.1 c.push.new.self c.single_out.new.classes c.args.self.now.ties c.in_ok-push.ensures.items)
+    (c.requires.0, guessing c.requires.0 c.args.graph.now c.args.self.now c.args.candidate c.requires.1 c.push.new.self c.single_out.new.classes c.args.self.now.lists c.in_ok-push.ensures.items)
 
 pub refute-requires-clause-uneven : goal.refute-requires-clause-uneven
 refute-requires-clause-uneven c =
@@ -27,13 +27,13 @@ refute-requires-clause-uneven c =
 
 pub returns-then-not-branch-clause-tried : goal.returns-then-not-branch-clause-tried
 returns-then-not-branch-clause-tried c = λ p h.
-    c.in_ok-refute.ensures.way p (guessing p c.args.graph.now c.args.self.now c.args.candidate h c.push.new.self c.single_out.new.classes c.args.self.now.ties c.in_ok-push.ensures.items)
+    c.in_ok-refute.ensures.way p (guessing p c.args.graph.now c.args.self.now c.args.candidate h c.push.new.self c.single_out.new.classes c.args.self.now.lists c.in_ok-push.ensures.items)
 
--- what the ties are told of the classes
+-- what the lists are told of the classes
 pub follow-requires-clause-former : goal.follow-requires-clause-former
 follow-requires-clause-former c =
     let way = c.requires.1.way in
-    former c.args.self.now.ties c.args.graph.now c.args.self.now.classes c.single_out.new.classes way.partition c.in_ok-single_out.ensures.grown way.ties
+    former_lists c.args.self.now.lists c.args.graph.now c.args.self.now.classes c.single_out.new.classes way.partition c.in_ok-single_out.ensures.grown way.lists
 
 pub descend-requires-clause-guessing : goal.descend-requires-clause-guessing
 descend-requires-clause-guessing c =

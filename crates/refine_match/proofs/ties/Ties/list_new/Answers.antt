@@ -24,6 +24,7 @@ loop-class-preserved c =
     let h = c.loop-class.invariant in
     let from = h.1 in (
       one_listed c.args.self.now c.loop-class.self c.add_span.new.self c.args.graph.now c.args.classes.now c.loop-class.class c.deref.result.now h.0 h.1
-          (subst (λ (xs : List ℕ). AreInOrder xs (class_in c.args.classes.now) (left_of c.args.graph.now) c.loop-class.class) (sym c.deref.ensures.value) c.in_ok-list_lefts.ensures) c.in_ok-add_span.ensures,
+          (subst (λ (xs : List ℕ). AreInOrder xs (class_in c.args.classes.now) 0 (left_of c.args.graph.now) c.loop-class.class) (sym c.deref.ensures.value)
+          (subst (λ (n : ℕ). AreInOrder c.list_within.new.found.items (class_in c.args.classes.now) 0 n c.loop-class.class) c.left_count.ensures c.in_ok-list_within.ensures)) c.in_ok-add_span.ensures,
       omega arith,
     )

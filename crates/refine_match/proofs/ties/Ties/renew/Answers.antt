@@ -14,7 +14,7 @@ first_in-next-requires-clause-end c =
     let low : c.args.class < length c.args.self.now.spans.items = omega arith in
     let s = c.index-span.result.now in
     let is = span_read c.args.self.now.spans.items c.args.class s low c.index-span.ensures in
-    let span = subst (λ (u : Span). IsSpanOf c.args.self.now.nodes.items u (class_in c.args.classes.now) (left_of c.args.graph.now) c.args.class) (sym is) (c.requires.spans c.args.class low) in
+    let span = subst (λ (u : Span). IsSpanOf c.args.self.now.nodes.items u (class_in c.args.classes.now) 0 (left_of c.args.graph.now) c.args.class) (sym is) (c.requires.spans c.args.class low) in
     subst (λ (xs : List ℕ). s.end ≤ length xs) (sym c.deref.ensures.value) span.fits
 
 pub first_in-next-requires-clause-nodes : goal.first_in-next-requires-clause-nodes
@@ -24,8 +24,8 @@ first_in-next-requires-clause-nodes c = λ k l m.
     let low : c.args.class < length c.args.self.now.spans.items = omega arith in
     let s = c.index-span.result.now in
     let is = span_read c.args.self.now.spans.items c.args.class s low c.index-span.ensures in
-    let span = subst (λ (u : Span). IsSpanOf c.args.self.now.nodes.items u (class_in c.args.classes.now) (left_of c.args.graph.now) c.args.class) (sym is) (c.requires.spans c.args.class low) in
-    let left = subst (λ (xs : List ℕ). slice_index xs k < left_of c.args.graph.now) (sym c.deref.ensures.value) (span.low k l m) in
+    let span = subst (λ (u : Span). IsSpanOf c.args.self.now.nodes.items u (class_in c.args.classes.now) 0 (left_of c.args.graph.now) c.args.class) (sym is) (c.requires.spans c.args.class low) in
+    let left = subst (λ (xs : List ℕ). slice_index xs k < left_of c.args.graph.now) (sym c.deref.ensures.value) (span.within k l m).1 in
     let inside = c.requires.partition.inside in
     let long = c.requires.partition.classes.long in
     omega arith
