@@ -1,3 +1,5 @@
+//! A chain of 1,000 circuits, aligned with one that has every second of them.
+
 ghost use Rattle.std.specs.Prelude.{◌<◌};
 
 use crate::conditions::{are_callees_first, is_alignable, read};

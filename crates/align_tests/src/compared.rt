@@ -1,3 +1,5 @@
+//! Small layouts and schematics, and the answer of each pair of circuits.
+
 ghost use Rattle.std.specs.Prelude.{◌≤◌};
 
 use crate::conditions::{are_apart, are_callees_first, is_alignable, read};

@@ -1,3 +1,5 @@
+//! Small layouts and schematics, and the two sides that they become when aligned.
+
 use crate::conditions::{are_apart, are_callees_first, is_alignable, read};
 use net_align::align;
 use net_names::Name;

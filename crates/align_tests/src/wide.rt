@@ -1,3 +1,5 @@
+//! A top with 100,000 calls of one transistor, aligned with the same circuit without calls.
+
 use crate::conditions::{are_callees_first, is_alignable, read};
 use net_align::align;
 use spice_text::write_spice;

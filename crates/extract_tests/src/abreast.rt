@@ -1,4 +1,5 @@
-// Two workers at once, in each phase of `extract`.
+//! Two workers at once, in each phase of `extract`.
+
 use crate::commands::{EXTRACT, Inputs, NONE, ends, holds, run_through};
 use crate::drawn::Item::{Placed, Rect};
 use crate::drawn::{Cell, Item, library};

@@ -1,4 +1,5 @@
-// The commands over files in memory.
+//! The commands over files in memory.
+
 use job_board::{Gate, OpenGate};
 use lvs_outside::{MemoryDepot, MemorySink};
 use lvs_run::run_lvs;

@@ -1,4 +1,5 @@
-// Layouts and schematics, and what `run` tells of them.
+//! Layouts and schematics, and what `run` tells of them.
+
 use crate::commands::{EXTRACT, Inputs, NONE, RUN, ends, holds, run_of};
 use crate::drawn::Item::{Placed, Rect};
 use crate::drawn::{Cell, library};

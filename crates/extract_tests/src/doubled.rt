@@ -1,4 +1,5 @@
-// A hierarchy whose flat layout has 2^40 transistors.
+//! A hierarchy whose flat layout has 2^40 transistors.
+
 use crate::commands::{EXTRACT, Inputs, NONE, RUN, Ran, ends, holds, run_of};
 use crate::drawn::{begin, begin_cell, end, end_cell, push_placed, push_rect};
 use std::alloc::{AllocError, Global};

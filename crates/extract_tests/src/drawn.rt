@@ -1,4 +1,5 @@
-// Streams of several cells, written out record by record.
+//! Streams of several cells, written out record by record.
+
 use std::alloc::{AllocError, Global};
 
 /// What stands in a cell.

@@ -1,4 +1,5 @@
-// Layouts, and what `extract` writes of them.
+//! Layouts, and what `extract` writes of them.
+
 use crate::commands::{EXTRACT, Inputs, NONE, ends, holds, run_of};
 use crate::drawn::Item::{Label, Outline, Placed, Rect};
 use crate::drawn::{Cell, library};

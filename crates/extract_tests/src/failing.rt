@@ -1,4 +1,5 @@
-// Calls of the outside that fail, and the numbers of how a run ends.
+//! Calls of the outside that fail, and the numbers of how a run ends.
+
 use crate::commands::{EXTRACT, Failing, Inputs, RUN, Ran, run_of};
 use crate::drawn::library;
 use crate::layouts::{MOS, T, T_NETLIST, T_SCHEMATIC};

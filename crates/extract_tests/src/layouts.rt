@@ -1,4 +1,5 @@
-// Layouts and rules of more than one test.
+//! Layouts and rules of more than one test.
+
 use crate::drawn::Cell;
 use crate::drawn::Item::{Label, Rect};
 

@@ -1,4 +1,5 @@
-// A chip that was made, and what is run on its files.
+//! A chip that was made, and what is run on its files.
+
 use crate::commands::{Failing, NONE, file_of, holds, one, words_of};
 use job_board::OpenGate;
 use lvs_outside::{MemoryDepot, MemorySink};

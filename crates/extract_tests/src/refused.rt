@@ -1,4 +1,5 @@
-// Words, paths, layouts and schematics that are refused, and words in other orders.
+//! Words, paths, layouts and schematics that are refused, and words in other orders.
+
 use crate::commands::{EXTRACT, Inputs, NONE, RUN, ends, holds, refuses, run_of};
 use crate::drawn::{Cell, library};
 use crate::layouts::{MOS, T, T_NETLIST, T_SCHEMATIC};

@@ -1,4 +1,5 @@
-// A text of all bytes.
+//! A label of all bytes, and how the netlist spells the name of its net.
+
 use crate::commands::{EXTRACT, Inputs, NONE, ends, holds, run_of};
 use crate::drawn::{begin, begin_cell, end, end_cell, push_label, push_rect};
 use crate::layouts::MOS;

@@ -1,4 +1,5 @@
-// Circuits of transistors that are drawn in a row, each terminal with a wire up to its net's.
+//! Circuits of transistors that are drawn in a row, each terminal with a wire up to its net's.
+
 use crate::commands::{EXTRACT, Inputs, NONE, holds, run_of};
 use crate::compared::compares;
 use crate::drawn::{begin, begin_cell, end, end_cell, push_label, push_rect};

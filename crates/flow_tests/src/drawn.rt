@@ -1,4 +1,5 @@
-// Layouts of a few cells.
+//! Layouts of a few cells, as streams.
+
 use crate::gates::{Shape, push_shapes};
 use crate::streams::{TURNS, push_end, push_last, push_place, push_text, start};
 use std::alloc::{AllocError, Global};

@@ -1,4 +1,5 @@
-// Small layouts and the netlists that are extracted from them, as SPICE text.
+//! Small layouts and the netlists that are extracted from them, as SPICE text.
+
 ghost use Rattle.std.specs.Prelude.{◌≤◌};
 
 use crate::drawn::{Drawn, stream_of};

@@ -1,4 +1,5 @@
-// The gates in the lists of small layouts' cells.
+//! The gates in the lists of small layouts' cells.
+
 ghost use Rattle.std.specs.Prelude.{◌≤◌};
 
 use crate::streams::{

@@ -1,3 +1,5 @@
+//! The nets of small layouts' top cells.
+
 ghost use Rattle.std.specs.Prelude.{◌≤◌};
 
 use crate::drawn::{Drawn, stream_of};

@@ -1,4 +1,5 @@
-// The pins and base names of small layouts' cells.
+//! The pins and base names of small layouts' cells.
+
 ghost use Rattle.std.specs.Prelude.{◌≤◌};
 
 use crate::drawn::{Drawn, stream_of};

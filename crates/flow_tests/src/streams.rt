@@ -1,4 +1,5 @@
-// Streams of small layouts, written out record by record. Cells have names of one letter.
+//! Streams of small layouts, written out record by record; names of cells have one letter.
+
 use std::alloc::{AllocError, Global};
 
 /// HEADER, BGNLIB, LIBNAME L, UNITS of a nanometre.

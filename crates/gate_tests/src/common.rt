@@ -1,4 +1,5 @@
-// Sets from lists of rectangles.
+//! Sets from lists of rectangles.
+
 ghost use Rattle.std.specs.Prelude.{◌≡◌, true, IfOk};
 ghost use Rattle.std.specs.List.{All};
 ghost use Rattle.geo_base.specs.Rects.{IsRect};

@@ -1,3 +1,5 @@
+//! Small gates with their sizes or faults, parts of sets, and parts gathered from seeds.
+
 use crate::common::{near_part, set_of};
 use edge_boolean::combine;
 use gate_search::{Whole, gather_around};

@@ -1,3 +1,5 @@
+//! The machine of jobs and the board, step by step, on three jobs.
+
 ghost use Rattle.std.specs.Prelude.{◌≡◌, ◌<◌, length, IfOk, OnOk};
 ghost use Rattle.job_board.specs.Board.{IsFree, IsSeatOf, IsTicket, HasTicket, jobs_on, key_on};
 

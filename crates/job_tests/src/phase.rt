@@ -1,3 +1,5 @@
+//! A phase that sums along a graph, run by one worker and by many.
+
 use crate::graphs::graph_of;
 use job_board::{Gate, OpenGate, run_phase};
 use job_graph::{Defined, Graph, Phase, Reads};

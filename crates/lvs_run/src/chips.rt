@@ -1,4 +1,5 @@
-// What `make` has to write.
+//! What `make` has to write.
+
 ghost use Rattle.std.specs.Prelude.{◌≡◌, ◌≤◌, ◌++◌, ◌∷◌, [], length, Some, codes, string_bytes};
 ghost use Rattle.std.specs.Prelude.{IfOk, IfErr, OnOk};
 ghost use Rattle.gds_layout.specs.Layouts.{IsRead};

@@ -1,4 +1,5 @@
-// Input files, read to their ends.
+//! Input files, read to their ends.
+
 ghost use Rattle.std.specs.Prelude.{◌≡◌, [], IfOk, IfErr, OnOk, string_bytes};
 ghost use Rattle.lvs_outside.specs.Loops.{ReadsRest};
 ghost use Rattle.lvs_outside.specs.Store.{HasRoom, IsReading};

@@ -1,4 +1,5 @@
-// What a command has to write of what it has read.
+//! What a command has to write of what it has read.
+
 ghost use Rattle.std.specs.Prelude.{◌≡◌, ◌≢◌, ◌≤◌, ◌++◌, ◌∷◌, [], ℕ, List, Option, string_bytes};
 ghost use Rattle.std.specs.Prelude.{IfOk, OnOk};
 ghost use Rattle.gds_layout.specs.Layouts.{IsRead};

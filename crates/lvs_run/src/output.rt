@@ -1,4 +1,5 @@
-// What a run has to write.
+//! What a run has to write.
+
 use crate::status::Status;
 use lvs_files::Written;
 

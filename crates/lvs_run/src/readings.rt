@@ -1,4 +1,5 @@
-// The rules, the layout and the schematic of input files.
+//! The rules, the layout and the schematic of input files.
+
 ghost use Rattle.std.specs.Prelude.{◌≡◌, string_bytes, IfOk, IfErr};
 ghost use Rattle.gds_layout.specs.Layouts.{IsRead};
 ghost use Rattle.lvs_outside.specs.Store.{HasRoom};

@@ -1,4 +1,5 @@
-// The run of the program.
+//! The run of the program: words and inputs are read, files written, the line sent.
+
 ghost use Rattle.std.specs.Prelude.{◌≡◌, ◌≤◌, ℕ, List, Option, map, string_bytes, IfOk, IfErr};
 ghost use Rattle.std.specs.Prelude.{Some, None};
 ghost use Rattle.gds_layout.specs.Layouts.{IsRead};

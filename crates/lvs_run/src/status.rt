@@ -1,4 +1,5 @@
-// How a run of the program ends.
+//! How a run of the program ends.
+
 use gds_layout::LayoutFault;
 use rule_text::RuleFault;
 use spice_rows::SpiceFault;

@@ -1,4 +1,5 @@
-// The summary line.
+//! The summary line of each command, and that of each refusal.
+
 ghost use Rattle.std.specs.Prelude.{◌≡◌, ◌++◌, ◌∷◌, [], ℕ, List, length, IfOk, OnOk, string_bytes};
 ghost use Rattle.std.specs.Fmt.{decimal};
 ghost use Rattle.net_names.specs.Escapes.{escaped};

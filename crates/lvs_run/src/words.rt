@@ -1,4 +1,5 @@
-// What is to be done of what the words state.
+//! What is to be done of what the words state.
+
 ghost use Rattle.std.specs.Prelude.{◌≡◌, map, IfOk, IsErrOf, None, Some, string_bytes};
 ghost use Rattle.std.specs.Option.{option_map};
 ghost use Rattle.lvs_files.specs.Files.{AreApart};

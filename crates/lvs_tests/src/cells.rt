@@ -1,4 +1,5 @@
-// Streams of several cells, written out record by record.
+//! Streams of several cells, written out record by record.
+
 use crate::streams::{HEAD, Shape, corners, push_boundary};
 use std::alloc::{AllocError, Global};
 

@@ -1,4 +1,5 @@
-// The command over files in memory.
+//! The command over files in memory.
+
 use job_board::OpenGate;
 use lvs_outside::{MemoryDepot, MemorySink};
 use lvs_run::run_lvs;

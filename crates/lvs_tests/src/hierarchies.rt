@@ -1,4 +1,5 @@
-// Layouts of several cells: what is written of them, and why they are refused.
+//! Layouts of several cells: what is written of them, and why they are refused.
+
 use crate::cells::Item::{Placed, Rect, Turned};
 use crate::cells::{Cell, begin, begin_cell, end, end_cell, library, push_placed};
 use crate::command::{NONE, SHAPES, refuses, run_of};

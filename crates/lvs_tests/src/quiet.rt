@@ -1,4 +1,5 @@
-// Runs over a depot and a sink that only count bytes.
+//! Runs over a depot and a sink that only count bytes.
+
 use crate::streams::stream;
 use job_board::OpenGate;
 use lvs_outside::QuietDepot;

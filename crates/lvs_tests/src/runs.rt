@@ -1,3 +1,5 @@
+//! Runs of `shapes` on one cell: what is written, what is refused, and calls that fail.
+
 use crate::command::{Failing, NONE, SHAPES, refuses, run_of};
 use crate::streams::{Shape, front, outline, stream, with_byte};
 use std::test::Fail;

@@ -1,4 +1,5 @@
-// Streams of one cell, written out record by record.
+//! Streams of one cell, written out record by record.
+
 use std::alloc::{AllocError, Global};
 
 /// HEADER, BGNLIB, LIBNAME L, UNITS of a nanometre, BGNSTR, STRNAME A.

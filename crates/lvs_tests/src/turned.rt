@@ -1,4 +1,5 @@
-// Each operator across a placement in each of the eight turns.
+//! Each operator across a placement in each of the eight turns.
+
 use crate::cells::{begin, begin_cell, end, end_cell, push_turned};
 use crate::command::{NONE, SHAPES, run_of};
 use crate::streams::{Shape, corners, push_boundary};

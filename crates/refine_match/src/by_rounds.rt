@@ -1,3 +1,5 @@
+//! The answer of a pair as far as rounds decide it.
+
 ghost use Rattle.std.specs.Prelude.{◌≡◌, ◌⊎◌, ◌↔◌, [], true, IfOk};
 ghost use Rattle.round_laws.specs.Web.{IsWeb};
 ghost use Rattle.net_model.specs.declared.netlist.Circuit.{Circuit};

@@ -1,3 +1,5 @@
+//! The right nodes that a left node is guessed to go to, one after another.
+
 ghost use Rattle.std.specs.Prelude.{◌≡◌, ◌<◌, ◌≤◌, ◌↔◌, ℕ, IfSome, List, length, nat_lt, true};
 ghost use Rattle.match_graph.specs.Graph.{IsGraph, left_of, nodes_of};
 ghost use Rattle.match_rounds.specs.Classes.{IsPartition, class_in};

@@ -1,3 +1,5 @@
+//! Which left node is guessed next: the first of the tied class with the fewest left nodes.
+
 ghost use Rattle.std.specs.Prelude.{◌≡◌, ◌<◌, ◌↔◌, true, IfOk};
 ghost use Rattle.match_graph.specs.Graph.{left_of, nodes_of};
 ghost use Rattle.match_rounds.specs.Classes.{IsPartition};

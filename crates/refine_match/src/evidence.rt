@@ -1,3 +1,5 @@
+//! The evidence of a round with unequal counts: a node that shows them, and both counts.
+
 ghost use Rattle.std.specs.Prelude.{◌≡◌, ◌<◌, ◌≤◌, ℕ, [], IfSome, IsNone};
 ghost use Rattle.round_laws.specs.Web.{IsWeb};
 ghost use Rattle.match_laws.specs.Circuits.{Pair, web_of};

@@ -1,3 +1,5 @@
+//! One guess of a search: it is refuted, leaves ties, or leaves none.
+
 ghost use Rattle.std.specs.Prelude.{◌≡◌, ◌≤◌, suc, length, IfOk, OnOk, false};
 ghost use Rattle.round_laws.specs.Guesses.{Row};
 ghost use Rattle.match_laws.specs.Circuits.{Pair};

@@ -1,3 +1,5 @@
+//! The left nodes of classes, and the first of them that is still in its class.
+
 ghost use Rattle.std.specs.Prelude.{◌≡◌, ◌<◌, ◌≤◌, ◌++◌, ◌∷◌, [], ℕ, length, slice_index};
 ghost use Rattle.std.specs.Prelude.{IfOk, OnOk};
 ghost use Rattle.match_graph.specs.Graph.{left_of, nodes_of};

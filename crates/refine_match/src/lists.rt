@@ -1,3 +1,5 @@
+//! What a search asks of its classes: the tied ones, and the right nodes of each.
+
 ghost use Rattle.std.specs.Prelude.{IfOk, OnOk};
 ghost use Rattle.match_graph.specs.Graph.{left_of, nodes_of};
 ghost use Rattle.match_rounds.specs.Classes.{IsPartition};

@@ -1,3 +1,5 @@
+//! The comparison of two circuits: by rounds, and by guesses where rounds leave ties.
+
 ghost use Rattle.std.specs.Prelude.{IfOk};
 ghost use Rattle.round_laws.specs.Web.{IsWeb};
 ghost use Rattle.round_laws.specs.Nodes.{Layout, Schematic};

@@ -1,3 +1,5 @@
+//! The pairing of a match, read from classes of one pair each.
+
 ghost use Rattle.std.specs.Prelude.{◌≡◌, ◌<◌, List, IfOk};
 ghost use Rattle.round_laws.specs.Web.{Guess};
 ghost use Rattle.round_laws.specs.Nodes.{Node as PlainNode};

@@ -1,3 +1,5 @@
+//! The right nodes of each class, by number.
+
 ghost use Rattle.std.specs.Prelude.{◌<◌, ◌≤◌, length, IfOk, IfSome, OnOk};
 ghost use Rattle.match_graph.specs.Graph.{left_of, nodes_of};
 ghost use Rattle.match_rounds.specs.Classes.{IsPartition, class_count};

@@ -1,3 +1,5 @@
+//! The search over guesses: its levels, its stable classes and its guesses so far.
+
 ghost use Rattle.std.specs.Prelude.{◌≡◌, ◌≤◌, IfOk, IfSome, None, true};
 ghost use Rattle.round_laws.specs.Web.{IsWeb};
 ghost use Rattle.match_laws.specs.Circuits.{Pair, web_of};

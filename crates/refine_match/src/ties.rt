@@ -1,3 +1,5 @@
+//! The tied classes, by how many left nodes they have, kept up as classes are parted.
+
 ghost use Rattle.std.specs.Prelude.{◌≡◌, ◌<◌, ◌≤◌, length, IfOk, OnOk};
 ghost use Rattle.std.specs.BinaryHeap.{IsHeap, heap_items};
 ghost use Rattle.match_graph.specs.Graph.{left_of, nodes_of};

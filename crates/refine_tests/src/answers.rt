@@ -1,3 +1,5 @@
+//! What an answer holds, taken out of it for tests.
+
 use match_types::{Answer, Evidence, Guess, Node, Pairing};
 
 // The pairing of a match.

@@ -1,3 +1,5 @@
+//! Small circuits, built net by net and transistor by transistor.
+
 use fixed_num::Femto;
 use net_model::{Circuit, DeviceRow};
 use net_names::Name;

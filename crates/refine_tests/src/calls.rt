@@ -1,3 +1,5 @@
+//! A called pair, which isn't matched at first and then has its pins crossed.
+
 use crate::answers::{matched, skipped};
 use crate::builders::circuit;
 use crate::fitting::compare;

@@ -1,3 +1,5 @@
+//! A chain of 20,000 transistors that rounds alone pair.
+
 use crate::answers::matched;
 use crate::builders::{circuit, name, transistor};
 use crate::fitting::compare;

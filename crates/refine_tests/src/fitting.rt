@@ -1,3 +1,5 @@
+//! Circuits that fit and are compared, and pairings that are checked.
+
 ghost use Rattle.std.specs.Prelude.{◌≡◌, ◌<◌, ◌↔◌, IfOk, length, true};
 ghost use Rattle.match_laws.specs.Circuits.{IsOneToOne};
 ghost use Rattle.match_parts.specs.Rows.{AreBelow, AreCallPins, AreTerminalsBelow};

@@ -1,3 +1,5 @@
+//! A latch whose inner nets are exchanged.
+
 use crate::answers::matched;
 use crate::builders::{circuit, transistor};
 use crate::fitting::compare;

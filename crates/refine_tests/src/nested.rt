@@ -1,3 +1,5 @@
+//! Guesses below guesses: loops that differ, and a limit amid the search.
+
 use crate::answers::{excluded, stopped};
 use crate::builders::{circuit, transistor};
 use crate::fitting::compare;

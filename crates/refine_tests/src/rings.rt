@@ -1,3 +1,5 @@
+//! Rings of transistors that only guesses tell apart.
+
 use crate::answers::{excluded, matched, stopped};
 use crate::builders::{circuit, transistor};
 use crate::fitting::compare;

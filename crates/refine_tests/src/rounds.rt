@@ -1,3 +1,5 @@
+//! Unequal counts in the first round, and in a later one.
+
 use crate::answers::in_round;
 use crate::builders::{circuit, transistor};
 use crate::fitting::compare;

@@ -1,3 +1,5 @@
+//! Small pairs, matched exactly where one of all maps is a correspondence.
+
 ghost use Rattle.std.specs.Prelude.{◌<◌};
 
 use crate::answers::is_matched;

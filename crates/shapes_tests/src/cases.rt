@@ -1,7 +1,8 @@
-// Small layouts, rules, and what is to be written, each worked out by hand.
-//
-// The rectangles of a layer: in each row of unit squares every longest run of covered squares,
-// equal runs of rows on one another as one rectangle, ordered by y1, then x1.
+//! Small layouts, rules, and what is to be written, each worked out by hand.
+//!
+//! The rectangles of a layer: in each row of unit squares every longest run of covered squares,
+//! equal runs of rows on one another as one rectangle, ordered by y1, then x1.
+
 use crate::drawn::{Corners, Element, Form, OUTLINE};
 
 /// A layout, its rules, and for each output line its layer, datatype and rectangles.

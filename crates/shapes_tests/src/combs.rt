@@ -1,3 +1,5 @@
+//! Two combs whose teeth lie half over one another, under each operator.
+
 use crate::drawn::{Corners, HEAD, TAIL, push_rectangle};
 use crate::runs::writes;
 use std::alloc::{AllocError, Global};

@@ -1,4 +1,5 @@
-// Streams of one cell, written out record by record.
+//! Streams of one cell, written out record by record.
+
 use std::alloc::AllocError;
 
 /// Two corners of a rectangle: x1, y1, x2, y2.

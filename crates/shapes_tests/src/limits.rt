@@ -1,5 +1,5 @@
-// Layouts at the limits of the format and of the reach, and one whose rectangles are swept all at
-// once.
+//! Layouts at the limits of the format and of the reach, and one that is swept all at once.
+
 use crate::drawn::{Form, HEAD, OUTLINE, TAIL, push, push_rectangle};
 use crate::runs::{writes, writes_count};
 use std::alloc::{AllocError, Global};

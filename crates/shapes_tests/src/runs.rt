@@ -1,4 +1,5 @@
-// Whole runs of `shapes` over memory.
+//! Whole runs of `shapes` over memory.
+
 use job_board::OpenGate;
 use lvs_outside::{MemoryDepot, MemorySink};
 use lvs_run::run_lvs;

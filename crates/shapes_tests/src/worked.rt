@@ -1,3 +1,5 @@
+//! The layouts that were worked out by hand, each run through its rules.
+
 use crate::cases::{CASES, Case};
 use crate::drawn::{Element, HEAD, TAIL, push, push_rectangle};
 use crate::runs::writes;
