@@ -1,12 +1,12 @@
 -- A derived layer of a cell, from what is looked at.
-use Rattle.std.proofs.Common.{◌≡◌, ◌↔◌, inl, inr, ℕ, true, not, ◌&&◌, List, [], ◌∷◌, Option, Some, refl, sym, ◌∙◌, ap, subst, slice_get}
+use Rattle.std.proofs.Common.{◌≡◌, ◌↔◌, inl, inr, ℕ, true, not, ◌&&◌, List, [], ◌∷◌, Option, Some, refl, sym, ◌∙◌, ap, subst, get_or, slice_get}
 use Rattle.geo_base.specs.Motions.{moved_square}
 use Rattle.geo_base.specs.declared.layer.LayerKey.{LayerKey}
 use Rattle.geo_base.specs.declared.layer.Op.{Op}
 use Rattle.geo_base.specs.declared.shapes.Rect.{Rect}
 use Rattle.geo_base.specs.declared.shapes.Square.{Square}
 use Rattle.rect_sets.specs.Rects.{covers, IsCanonical}
-use Rattle.flat_layout.specs.Layers.{Formula, Binary, inputs}
+use Rattle.flat_layout.specs.Layers.{Formula, Binary, Empty, inputs}
 use Rattle.flat_layout.specs.Layout as flat
 use Rattle.flat_layout.specs.Layout.{IsDisturbed, IsOwn, IsReached, Some_of}
 use Rattle.flat_layout.specs.Values.{IsLocalLayer}
@@ -15,19 +15,22 @@ use Rattle.cell_graph.specs.Linked.{Linked, IsSound, HullHas, cell_at, hull_of, 
 use Rattle.cell_graph.proofs.Bridge.{hulls, own, step_of}
 use Rattle.deep_laws.specs.Layers.{IsFromDisturbed, IsOwnOn}
 use Rattle.rule_text.specs.Rules.{Rules}
-use Rattle.rule_layers.specs.Formulas.{formulas}
+use Rattle.rule_text.specs.declared.rules.LayerForm.{LayerForm}
+use Rattle.rule_text.specs.declared.rules.LayerForm.TheVariants as form
+use Rattle.rule_layers.specs.Formulas.{formula_by, formulas}
 use Rattle.deep_tables.specs.declared.zones.CellZones.{CellZones}
 use Rattle.deep_tables.specs.Frames.{IsFramedZone}
 use Rattle.deep_tables.proofs.Framing.{framed}
 use Rattle.deep_tables.proofs.Reading.{zone_at}
 use Rattle.layer_phase.specs.Bridge.{TellsKept}
 use Rattle.layer_phase.specs.Keeps.{IsKeptBy, IsZoneAt}
-use Rattle.layer_phase.specs.Looks.{AreLooks}
 use Rattle.layer_phase.specs.Names.{IsFlatIn, IsReady}
 use Rattle.layer_phase.specs.Parts.{AreParts}
+use Rattle.layer_phase.specs.Reads.{AreReadLooks}
 use Rattle.layer_phase.proofs.Assembly.{in_grown, layer}
 use Rattle.layer_phase.proofs.Flattening.{known, named}
 use Rattle.layer_phase.proofs.Telling.{kept}
+use Rattle.layer_phase.proofs.Unread.{read_input, same_tree}
 
 one_zone : (o : Option (List Rect)) (v w : List Rect) → o ≡ Some v → o ≡ Some w → v ≡ w
 one_zone o v w h g = let e : Some v ≡ Some w = sym h ∙ g in cc
@@ -42,29 +45,32 @@ some_key d cell q (k ∷ keys) (inl h) = (k, inl refl, h)
 some_key d cell q (k ∷ keys) (inr h) = let r = some_key d cell q keys h in (r.0, inr r.1, r.2)
 
 module _ (d : Linked) (r : Rules) (z : List (Option CellZones)) (cell name : ℕ) (op : Op) (a b : Formula) (looks flats zone calm : List Rect) (sound : IsSound d) (ready : IsReady d r z cell)
-    (at : slice_get (formulas r.names) name ≡ Some (Binary op a b)) (seen : AreLooks d z r.names cell looks) (flat_in : IsFlatIn d cell looks (Binary op a b) flats)
+    (at : slice_get (formulas r.names) name ≡ Some (Binary op a b)) (seen : AreReadLooks d z r.names cell looks) (flat_in : IsFlatIn d cell looks (Binary op a b) flats)
     (entry : IsZoneAt z cell name zone) (keeps : (q : Square) → (covers calm q ≡ true) ↔ ((covers looks q ≡ true) × IsKeptBy d z cell name q)) where
+  tree_seen : slice_get (formulas seen.seen) name ≡ Some (Binary op a b)
+  tree_seen = same_tree r.names seen.seen name op a b seen.are at
+
   own_seen : (q : Square) → IsOwnOn (plain d) (inputs (Binary op a b)) cell q → covers looks q ≡ true
   own_seen q h =
       let k = some_key d cell q (inputs (Binary op a b)) h in
-      let j = known r.names name (Binary op a b) k.0 at k.1 in
-      seen.own j.0 k.0 j.1 q ((own d sound cell k.0 q).0 k.2)
+      let j = known seen.seen name (Binary op a b) k.0 tree_seen k.1 in
+      seen.all.own j.0 k.0 j.1 q ((own d sound cell k.0 q).0 k.2)
 
   disturbed_seen : (q : Square) → IsFromDisturbed (plain d) (inputs (Binary op a b)) cell q → covers looks q ≡ true
   disturbed_seen q h =
       let t = step_of d cell h.number h.place h.placed in
       let e = h.disturbed in
       let key = e.key in
-      let j = known r.names name (Binary op a b) key at e.listed in
+      let j = known seen.seen name (Binary op a b) key tree_seen e.listed in
       let reached = reached_below (plain d) cell h.number h.place ready.reached h.placed in
-      let there = zone_at (plain d) r z h.place.cell j.0 _ ready.zones reached (named r.names j.0 key j.1) in
+      let there = zone_at (plain d) r z h.place.cell j.0 _ ready.zones reached (named r.names j.0 key (read_input r.names seen.seen j.0 key seen.are j.1)) in
       let held : HullHas (hull_of (cell_at d h.place.cell)) h.square = hulls d sound h.place.cell h.key h.square h.flat in
       let one : IsDisturbed (plain d) (key ∷ []) h.place.cell h.square = record { path = e.path; other = e.other; end = e.end; square = e.square; place = e.place; key = key; listed = inl refl; takes = e.takes; others = e.others; own = e.own; apart = e.apart } in
       let frame = (framed d (key ∷ []) h.place.cell there.0 (ready.hulls h.place.cell reached) there.2.canonical).0 there.2 in
       let covered = (frame h.square).1 (one, in_grown (hull_of (cell_at d h.place.cell)) h.square held) in
       let image : moved_square (motion_at t.from t.row t.column) h.square ≡ q = ap (λ (y : flat.Place). moved_square y.motion h.square) (sym t.is) ∙ h.image in
       subst (λ s. covers looks s ≡ true) image
-      (seen.below t.index t.from t.step.there j.0 key there.0 t.row t.column h.square j.1
+      (seen.all.below t.index t.from t.step.there j.0 key there.0 t.row t.column h.square j.1
       (subst (λ (y : flat.Place). IsZoneAt z y.cell j.0 there.0) t.is there.1) t.step.row_in t.step.column_in
       (subst (λ (y : flat.Place). HullHas (hull_of (cell_at d y.cell)) h.square) t.is held) covered)
 
@@ -86,3 +92,13 @@ module _ (d : Linked) (r : Rules) (z : List (Option CellZones)) (cell name : ℕ
 
   pub derived : (local : List Rect) → IsCanonical local → ((q : Square) → covers local q ≡ ((covers flats q && not (covers zone q)) && not (covers calm q))) → IsLocalLayer (plain d) (Binary op a b) cell local
   derived local canonical made = layer d op a b cell looks flats zone calm local sound ready.reached (tells d r z cell name (Binary op a b) sound ready at).zones parts canonical made
+
+-- an operator's form has the derived layer of its tree
+pub binary_local : (d : Linked) (cell name : ℕ) (looks flat local : List Rect) (all trees : List Formula) (f : LayerForm) {o : Op} {i j : ℕ} → f ≡ form.Binary o i j
+    → ((op : Op) (a b : Formula) → slice_get all name ≡ Some (Binary op a b) → IsFlatIn d cell looks (Binary op a b) flat → IsLocalLayer (plain d) (Binary op a b) cell local)
+    → slice_get all name ≡ Some (formula_by trees f) → ((op : Op) (a b : Formula) → formula_by trees f ≡ Binary op a b → IsFlatIn d cell looks (Binary op a b) flat) → IsLocalLayer (plain d) (formula_by trees f) cell local
+binary_local d cell name looks flat local all trees f {o} {i} {j} is h at flat_in =
+    let a = get_or trees i Empty in
+    let b = get_or trees j Empty in
+    let tree : formula_by trees f ≡ Binary o a b = ap (formula_by trees) is in
+    subst (λ x. IsLocalLayer (plain d) x cell local) (sym tree) (h o a b (at ∙ ap Some tree) (flat_in o a b tree))

@@ -92,7 +92,7 @@ push_cases [] x u (suc k) e = absurd (none_some u e)
 push_cases (y ∷ xs) x u zero e = inl e
 push_cases (y ∷ xs) x u (suc k) e = elim (push_cases xs x u k e) [ inl h ↦ inl h | inr h ↦ let n = h.0 in inr ((omega arith), h.1) ]
 
-push_old : {A : Type 0} (xs : List A) (x u : A) (k : ℕ) → slice_get xs k ≡ Some u → slice_get (xs ++ x ∷ []) k ≡ Some u
+pub push_old : {A : Type 0} (xs : List A) (x u : A) (k : ℕ) → slice_get xs k ≡ Some u → slice_get (xs ++ x ∷ []) k ≡ Some u
 push_old [] x u k e = absurd (none_some u e)
 push_old (y ∷ xs) x u zero e = e
 push_old (y ∷ xs) x u (suc k) e = push_old xs x u k e

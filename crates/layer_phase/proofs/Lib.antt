@@ -9,3 +9,4 @@ pub mod Leaves
 pub mod Looking
 pub mod Results
 pub mod Telling
+pub mod Unread

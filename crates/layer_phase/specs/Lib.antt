@@ -2,6 +2,7 @@ pub mod Flat
 pub mod Parts
 pub mod Keeps
 pub mod Looks
+pub mod Reads
 pub mod Bridge
 pub mod Names
 pub mod Phase

@@ -2,10 +2,11 @@
 -- holds itself.
 use Rattle.std.specs.Prelude.{◌≡◌, ◌↔◌, ℕ, ◌<◌, ◌^◌, true, List, [], Option, Some, length, get_or}
 use Rattle.std.specs.Prelude.{slice_get}
+use Rattle.geo_base.specs.declared.layer.Op.{Op}
 use Rattle.geo_base.specs.declared.shapes.Rect.{Rect}
 use Rattle.geo_base.specs.declared.shapes.Square.{Square}
 use Rattle.rect_sets.specs.Rects.{covers}
-use Rattle.flat_layout.specs.Layers.{Formula, Empty, InFlat}
+use Rattle.flat_layout.specs.Layers.{Formula, Binary, Empty, InFlat}
 use Rattle.flat_layout.specs.Layout.{IsReached}
 use Rattle.flat_layout.specs.Values.{IsLocalLayer}
 use Rattle.cell_graph.specs.Linked.{Linked, plain}
@@ -23,6 +24,12 @@ IsFlatIn d cell looks x set = (q : Square) → (covers set q ≡ true) ↔ ((cov
 abbrev pub AreFlats : Linked → ℕ → List Rect → List Formula → List (List Rect) → Type 0
 AreFlats d cell looks trees sets = (k : ℕ)
     → IsFlatIn d cell looks (get_or trees k Empty) (get_or sets k [])
+
+-- the same of each tree with an operator
+abbrev pub AreDerivedFlats : Linked → ℕ → List Rect → List Formula → List (List Rect) → Type 0
+AreDerivedFlats d cell looks trees sets = (k : ℕ) (op : Op) (a b : Formula)
+    → slice_get trees k ≡ Some (Binary op a b)
+    → IsFlatIn d cell looks (Binary op a b) (get_or sets k [])
 
 -- the squares that the cell holds itself of each tree
 abbrev pub AreLocals : Linked → ℕ → List Formula → List (List Rect) → Type 0

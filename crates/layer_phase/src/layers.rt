@@ -6,8 +6,8 @@ ghost use Rattle.flat_layout.specs.Values.{IsLocalLayer};
 ghost use Rattle.geo_base.specs.declared.layer.Op.{Op};
 ghost use Rattle.rule_layers.specs.Formulas.{formula_by, formulas};
 ghost use Rattle.rule_text.specs.Seen.{rules_seen};
-ghost use Rattle.layer_phase.specs.Looks.{AreLooks};
-ghost use Rattle.layer_phase.specs.Names.{AreFlats, AreLocals, IsFlatIn, IsReady};
+ghost use Rattle.layer_phase.specs.Names.{AreDerivedFlats, AreLocals, IsFlatIn, IsReady};
+ghost use Rattle.layer_phase.specs.Reads.{AreRead, AreReadLooks};
 
 use crate::flat::Flat;
 use crate::flats::name_flats;
@@ -18,7 +18,7 @@ use cell_graph::Design;
 use deep_tables::{ZoneKey, Zones};
 use geo_base::LayerKey;
 use rect_sets::RectSet;
-use rule_text::{LayerForm, RuleSet};
+use rule_text::{LayerForm, LayerRule, RuleSet};
 use std::alloc::{AllocError, Global};
 
 // Of an input layer a cell holds its own squares.
@@ -51,7 +51,7 @@ fn derived_layer(
 ) -> Result<RectSet, AllocError>
     requires cell { cell < length design.now.cells }
     requires ready { IsReady design.now (rules_seen rules.now) zones.now cell }
-    requires looks { AreLooks design.now zones.now rules.now.names.items cell looks.now }
+    requires looks { AreReadLooks design.now zones.now rules.now.names.items cell looks.now }
     requires name { name < length (formulas rules.now.names.items) }
     ensures { IfOk result (λ r. (op : Op) (a b : Formula)
         → slice_get (formulas rules.now.names.items) name ≡ Some (Binary op a b)
@@ -82,11 +82,12 @@ fn form_layer(
 ) -> Result<RectSet, AllocError>
     requires cell { cell < length design.now.cells }
     requires ready { IsReady design.now (rules_seen rules.now) zones.now cell }
-    requires looks { AreLooks design.now zones.now rules.now.names.items cell looks.now }
+    requires looks { AreReadLooks design.now zones.now rules.now.names.items cell looks.now }
     requires name { name < length (formulas rules.now.names.items) }
     ensures { IfOk result (λ r. (trees : List Formula)
         → slice_get (formulas rules.now.names.items) name ≡ Some (formula_by trees form)
-        → IsFlatIn design.now cell looks.now (formula_by trees form) flat.entry
+        → ((op : Op) (a b : Formula) → formula_by trees form ≡ Binary op a b
+        → IsFlatIn design.now cell looks.now (Binary op a b) flat.entry)
         → IsLocalLayer (plain design.now) (formula_by trees form) cell r) }
 {
     match form {
@@ -111,9 +112,9 @@ fn form_layers(
 ) -> Result<Vec<RectSet>, AllocError>
     requires cell { cell < length design.now.cells }
     requires ready { IsReady design.now (rules_seen rules.now) zones.now cell }
-    requires looks { AreLooks design.now zones.now rules.now.names.items cell looks.now }
+    requires looks { AreReadLooks design.now zones.now rules.now.names.items cell looks.now }
     requires count { length flats.items ≡ length rules.now.names.items }
-    requires flats { AreFlats design.now cell looks.now (formulas rules.now.names.items)
+    requires flats { AreDerivedFlats design.now cell looks.now (formulas rules.now.names.items)
         flats.items }
     ensures count { IfOk result (λ v. length v.items ≡ length (formulas rules.now.names.items)) }
     ensures layers { IfOk result (λ v. AreLocals design.now cell (formulas rules.now.names.items)
@@ -140,23 +141,25 @@ fn form_layers(
 }
 
 /// The squares that a cell holds itself, for each name in the order of the rules. What placed cells
-/// keep is never walked: the work goes with the squares that have to be looked at.
+/// keep is never walked: the work goes with the squares that have to be looked at. Those are told
+/// by the names as derived names see them.
 pub fn name_layers(
     alloc: Global,
     design: &Design,
     rules: &RuleSet,
+    read: &[LayerRule],
     zones: &Zones,
     cell: u32,
 ) -> Result<Vec<RectSet>, AllocError>
     requires cell { cell < length design.now.cells }
     requires ready { IsReady design.now (rules_seen rules.now) zones.now cell }
+    requires read { AreRead rules.now.names.items read.now }
     ensures count { IfOk result (λ v. length v.items ≡ length (formulas rules.now.names.items)) }
     ensures layers { IfOk result (λ v. AreLocals design.now cell (formulas rules.now.names.items)
         v.items) }
 {
     design.sound();
-    let names = rules.names.as_slice();
-    let set = looks(alloc, design, zones, cell, names)?;
-    let flats = name_flats(alloc, design, cell, &set, names)?;
+    let set = looks(alloc, design, zones, cell, read)?;
+    let flats = name_flats(alloc, design, cell, &set, read)?;
     form_layers(alloc, design, rules, zones, cell, &set, flats)
 }

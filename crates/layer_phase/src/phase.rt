@@ -6,10 +6,11 @@ ghost use Rattle.rule_text.specs.Seen.{rules_seen};
 ghost use Rattle.layer_phase.specs.Phase.{AreFreeJobs};
 
 use crate::layers::name_layers;
+use crate::reads::read_names;
 use cell_graph::Design;
 use deep_tables::{CellLayers, DeepKey, Zones};
 use job_graph::{Graph, Phase, Reads};
-use rule_text::RuleSet;
+use rule_text::{LayerRule, RuleSet};
 use std::alloc::{AllocError, Global};
 use std::marker::Model;
 use std::snapshot::Snapshot;
@@ -22,6 +23,7 @@ pub struct LayerPhase<'a> {
     design: &'a Design,
     rules: &'a RuleSet,
     zones: &'a Zones,
+    read: Vec<LayerRule>,
     graph: Graph,
 }
 
@@ -48,7 +50,7 @@ pub fn free_graph(alloc: Global, design: &Design) -> Result<Graph, AllocError>
 
 impl<'a> LayerPhase<'a> {
     /// The phase of a layout and of its disturbed squares for these rules. 2^32 names or more are
-    /// refused. Linear in the reached cells.
+    /// refused. Linear in the reached cells and the names.
     pub fn new(
         alloc: Global,
         design: &'a Design,
@@ -64,11 +66,13 @@ impl<'a> LayerPhase<'a> {
             return Err(AllocError);
         }
         design.sound();
+        let read = read_names(alloc, &rules.names)?;
         let graph = free_graph(alloc, design)?;
         Ok(LayerPhase {
             design,
             rules,
             zones,
+            read,
             graph,
         })
     }
@@ -105,7 +109,7 @@ impl Phase for LayerPhase<'_> {
         let design = self.design;
         design.sound();
         let cell = design.order()[job as usize];
-        let layers = name_layers(alloc, design, self.rules, self.zones, cell)?;
+        let layers = name_layers(alloc, design, self.rules, &self.read, self.zones, cell)?;
         Ok(CellLayers { layers })
     }
 }
