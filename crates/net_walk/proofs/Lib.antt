@@ -15,3 +15,5 @@ pub mod Numbering
 pub mod Contacting
 pub mod Ordering
 pub mod Results
+pub mod Wholes
+pub mod Holding

@@ -26,7 +26,7 @@ use Rattle.net_walk.specs.Windows.{ArePlacesNear}
 use Rattle.net_walk.specs.declared.cells.Element.{Element}
 
 -- an item of the cell itself, or of one of these placements
-abbrev IsAmong : (ℕ → Type 0) → Item → Type 0
+abbrev pub IsAmong : (ℕ → Type 0) → Item → Type 0
 IsAmong S (Own c r) = Unit {0}
 IsAmong S (Child k b) = S k
 IsAmong S (Global g) = ⊥
@@ -45,7 +45,7 @@ pub record IsNext (k : ℕ) (S T : ℕ → Type 0) : Type 0 where
   pub splits : (j : ℕ) → T j → S j ⊎ (j ≡ k)
   pub here : T k
 
-among_more : (k : ℕ) (S T : ℕ → Type 0) (item : Item) → IsNext k S T → IsAmong S item → IsAmong T item
+pub among_more : (k : ℕ) (S T : ℕ → Type 0) (item : Item) → IsNext k S T → IsAmong S item → IsAmong T item
 among_more k S T (Own c r) next h = tt
 among_more k S T (Child j b) next h = next.grows j h
 among_more k S T (Global g) next h = h
@@ -86,10 +86,10 @@ owned_step t cell c n lt =
 
 module _ (d : Design) (w : Wiring) (t : Tables) (cell : ℕ) (nets : AreNets d w t cell (t.nets cell)) where
   -- the net of the item at a place
-  net_at : (i x : ℕ) (item : Item) → slice_get (items_of d w t cell) i ≡ Some item → slice_get (t.nets cell).net_of i ≡ Some x → IsInNet (t.nets cell) item x
+  pub net_at : (i x : ℕ) (item : Item) → slice_get (items_of d w t cell) i ≡ Some item → slice_get (t.nets cell).net_of i ≡ Some x → IsInNet (t.nets cell) item x
   net_at i x item h g = (i, record { listed = subst (λ (l : List Item). slice_get l i ≡ Some item) (sym nets.items) h; numbered = g })
 
-  at_net : (i x : ℕ) (item : Item) → slice_get (items_of d w t cell) i ≡ Some item → IsInNet (t.nets cell) item x → slice_get (t.nets cell).net_of i ≡ Some x
+  pub at_net : (i x : ℕ) (item : Item) → slice_get (items_of d w t cell) i ≡ Some item → IsInNet (t.nets cell) item x → slice_get (t.nets cell).net_of i ≡ Some x
   at_net i x item h g =
       let within : i < length (items_of d w t cell) = slice_get_within (items_of d w t cell) i item h in
       let same : length (t.nets cell).net_of ≡ length (items_of d w t cell) = nets.numbers ∙ ap (λ (l : List Item). length l) nets.items in
@@ -161,10 +161,10 @@ module _ (d : Design) (w : Wiring) (t : Tables) (cell : ℕ) (nets : AreNets d w
       placed : IsPlaced d cell k p
       placed = placed_at d cell k p there
 
-      net_below : (b : ℕ) (m : Square) → NetHolds d t p.cell b (At c m) → b < (t.nets p.cell).count
+      pub net_below : (b : ℕ) (m : Square) → NetHolds d t p.cell b (At c m) → b < (t.nets p.cell).count
       net_below b m h = nets_too.below h.index b h.is_of.numbered
 
-      child_at : (b : ℕ) → b < (t.nets p.cell).count → slice_get (items_of d w t cell) (at + b) ≡ Some (Child k b)
+      pub child_at : (b : ℕ) → b < (t.nets p.cell).count → slice_get (items_of d w t cell) (at + b) ≡ Some (Child k b)
       child_at b lt =
           let z : owned_before t cell (length w.conductors) + (nets_before t (places_of d cell) k + b) ≡ at + b = omega arith in
           subst (λ i. slice_get (items_of d w t cell) i ≡ Some (Child k b)) z (child_place d w t cell k b p there lt)

@@ -9,3 +9,5 @@ pub mod Together
 pub mod Windows
 pub mod Alike
 pub mod Contacts
+pub mod Held
+pub mod Whole

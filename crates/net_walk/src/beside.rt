@@ -15,14 +15,17 @@ ghost use Rattle.net_link_laws.specs.Windows.{grown};
 ghost use Rattle.net_walk.specs.Beside.{AddsBeside, AddsPairsBeside, AddsPieceBeside};
 ghost use Rattle.net_walk.specs.Beside.{ArePairsBeside, BesidePairLaw, IsBesideSeen, IsPairBeside};
 ghost use Rattle.net_walk.specs.Beside.{counted_from};
+ghost use Rattle.net_walk.specs.Held.{AreHeldLists};
 ghost use Rattle.net_walk.specs.Seen.{AreLinksOver};
 ghost use Rattle.net_walk.specs.Walk.{place_of};
 
 use crate::cells::{Cells, Element};
 use crate::children::span_pieces;
+use crate::held::HeldLists;
 use crate::own::own_pieces;
 use crate::rects::grown;
 use crate::seen::see_joined;
+use crate::whole::{is_covered, whole_links};
 use geo_base::Rect;
 use link_classes::Link;
 use std::alloc::{AllocError, Global};
@@ -93,8 +96,8 @@ fn counted_from(alloc: Global, pieces: &[Piece], by: u32) -> Result<Vec<Piece>, 
     Ok(out)
 }
 
-// Adds the links between an own rectangle and the nets of a placement.
-fn link_piece<C: Cells>(
+// Adds the links between an own rectangle and the nets of a placement by what is near it.
+fn link_near<C: Cells>(
     alloc: Global,
     cells: &C,
     cell: u32,
@@ -135,6 +138,55 @@ fn link_piece<C: Cells>(
     Ok(())
 }
 
+// Adds the links between an own rectangle and the nets of a placement. Where it covers them whole
+// they stand in lists, and are not walked.
+fn link_piece<C: Cells>(
+    alloc: Global,
+    cells: &C,
+    cell: u32,
+    piece: &Piece,
+    number: u32,
+    firsts: &[u32],
+    joins: &[Joined],
+    memo: &mut HeldLists,
+    out: &mut Vec<Link>,
+) -> Result<(), AllocError>
+    requires piece { IsOwnPiece (C.tables cells.now) cell (length (C.wiring cells.now).conductors)
+        piece.now }
+    requires number { number < length (places_of (C.design cells.now) cell) }
+    requires right { AreRightBelow (C.design cells.now) (C.wiring cells.now) (C.tables cells.now)
+        cell }
+    requires firsts { AreFirsts (C.design cells.now) (C.wiring cells.now) (C.tables cells.now) cell
+        firsts.now }
+    requires room { length (items_of (C.design cells.now) (C.wiring cells.now) (C.tables cells.now)
+        cell) ≤ 4294967295 }
+    requires joins { (c e : ℕ) → AreJoined joins.now c e ↔ IsJoined (C.wiring cells.now) c e }
+    requires lists { AreHeldLists (C.design cells.now) (C.tables cells.now) memo.old.lists.items }
+    ensures lists { OnOk result (AreHeldLists (C.design cells.now) (C.tables cells.now)
+        memo.new.lists.items) }
+    ensures links { OnOk result (AddsPieceBeside (C.design cells.now) (C.wiring cells.now)
+        (C.tables cells.now) cell piece.now number out.old.items out.new.items) }
+{
+    let elements = cells.places(cell);
+    let k = number as usize;
+    let element = &elements[k];
+    if is_covered(cells, element, &piece.rect) {
+        whole_links(
+            alloc,
+            cells,
+            piece.item,
+            piece.conductor,
+            element.cell,
+            firsts[k],
+            joins,
+            memo,
+            out,
+        )?;
+        return Ok(());
+    }
+    link_near(alloc, cells, cell, piece, number, firsts, joins, out)
+}
+
 // Adds the links of a pair of a rectangle and a placement.
 fn link_beside<C: Cells>(
     alloc: Global,
@@ -144,6 +196,7 @@ fn link_beside<C: Cells>(
     pair: &Link,
     firsts: &[u32],
     joins: &[Joined],
+    memo: &mut HeldLists,
     out: &mut Vec<Link>,
 ) -> Result<(), AllocError>
     requires pieces { pieces.now ≡ owned_pieces (C.tables cells.now) cell
@@ -157,7 +210,10 @@ fn link_beside<C: Cells>(
     requires room { length (items_of (C.design cells.now) (C.wiring cells.now) (C.tables cells.now)
         cell) ≤ 4294967295 }
     requires joins { (c e : ℕ) → AreJoined joins.now c e ↔ IsJoined (C.wiring cells.now) c e }
-    ensures { OnOk result (AddsPairsBeside (C.design cells.now) (C.wiring cells.now)
+    requires lists { AreHeldLists (C.design cells.now) (C.tables cells.now) memo.old.lists.items }
+    ensures lists { OnOk result (AreHeldLists (C.design cells.now) (C.tables cells.now)
+        memo.new.lists.items) }
+    ensures links { OnOk result (AddsPairsBeside (C.design cells.now) (C.wiring cells.now)
         (C.tables cells.now) cell (length pieces.now) (pair.now ∷ []) out.old.items out.new.items) }
 {
     let item = pair.one.min(pair.other) as usize;
@@ -170,6 +226,7 @@ fn link_beside<C: Cells>(
         number,
         firsts,
         joins,
+        memo,
         out,
     )?;
     Ok(())
@@ -183,6 +240,7 @@ fn link_all_beside<C: Cells>(
     pairs: &[Link],
     firsts: &[u32],
     joins: &[Joined],
+    memo: &mut HeldLists,
     out: &mut Vec<Link>,
 ) -> Result<(), AllocError>
     requires pieces { pieces.now ≡ owned_pieces (C.tables cells.now) cell
@@ -196,18 +254,23 @@ fn link_all_beside<C: Cells>(
     requires room { length (items_of (C.design cells.now) (C.wiring cells.now) (C.tables cells.now)
         cell) ≤ 4294967295 }
     requires joins { (c e : ℕ) → AreJoined joins.now c e ↔ IsJoined (C.wiring cells.now) c e }
-    ensures { OnOk result (AddsPairsBeside (C.design cells.now) (C.wiring cells.now)
+    requires lists { AreHeldLists (C.design cells.now) (C.tables cells.now) memo.old.lists.items }
+    ensures lists { OnOk result (AreHeldLists (C.design cells.now) (C.tables cells.now)
+        memo.new.lists.items) }
+    ensures links { OnOk result (AddsPairsBeside (C.design cells.now) (C.wiring cells.now)
         (C.tables cells.now) cell (length pieces.now) pairs.now out.old.items out.new.items) }
 {
     for pair in pairs {
-        link_beside(alloc, cells, cell, pieces, pair, firsts, joins, out)?;
+        link_beside(alloc, cells, cell, pieces, pair, firsts, joins, memo, out)?;
     }
     Ok(())
 }
 
 /// Adds the links between a cell's own rectangles and the nets of its placements. It asks only
 /// where a rectangle meets what bounds a placement, grown by one square; a placed cell is walked in
-/// the rectangle's window alone. 2^32 rectangles and placements or more are refused.
+/// the rectangle's window alone, and not where the rectangle covers it whole: then its nets are
+/// taken from lists that are made once for each cell and conductor. 2^32 rectangles and placements
+/// or more are refused.
 pub fn all_beside<C: Cells>(
     alloc: Global,
     cells: &C,
@@ -234,6 +297,9 @@ pub fn all_beside<C: Cells>(
     let counted = counted_from(alloc, &spans, pieces.len() as u32)?;
     let mut pairs = Vec::new(alloc);
     touching_pairs(alloc, &pieces, &counted, &mut pairs)?;
-    link_all_beside(alloc, cells, cell, &pieces, &pairs, firsts, joins, out)?;
+    let mut memo = HeldLists::new(alloc);
+    link_all_beside(
+        alloc, cells, cell, &pieces, &pairs, firsts, joins, &mut memo, out,
+    )?;
     Ok(())
 }

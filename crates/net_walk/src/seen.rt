@@ -27,7 +27,7 @@ fn joins_two(line: &Joined, one: u32, other: u32) -> bool
 }
 
 // Whether the two are one conductor, or a line joins them.
-fn are_joined(joins: &[Joined], one: u32, other: u32) -> bool
+pub(crate) fn are_joined(joins: &[Joined], one: u32, other: u32) -> bool
     ensures { MatchBool result (AreJoined joins.now one other) (AreJoined joins.now one other → ⊥) }
 {
     if one == other {

@@ -3,6 +3,7 @@ use Rattle.std.proofs.lemmas.Option.{slice_get_within}
 use Rattle.net_link_laws.proofs.Standing.{items_long}
 use Rattle.net_link_laws.specs.Places.{owned_before, places_of}
 use Rattle.net_walk.proofs.Besides.{are_pairs, whole_beside}
+use Rattle.net_walk.proofs.Holding.{no_lists}
 use Rattle.net_walk.proofs.Placing.{pieces_long}
 use Rattle.net_walk.proofs.beside.all_beside.Goals as goal
 use Rattle.net_walk.specs.Beside.{AddsPairsBeside, ArePairsBeside, counted_from}
@@ -82,6 +83,9 @@ link_all_beside-requires-clause-pairs g c =
     let whole : ArePairsBeside (length pieces) (length (places_of d cell)) c.touching_pairs.new.out.items = subst (λ n. ArePairsBeside n (length (places_of d cell)) c.touching_pairs.new.out.items) same pairs in
     rw (c.deref-4.ensures.value, c.deref-5.ensures.value) whole
 
+pub link_all_beside-requires-clause-lists : goal.link_all_beside-requires-clause-lists
+link_all_beside-requires-clause-lists g c = no_lists (g.C.Cells.design c.args.cells.now) (g.C.Cells.tables c.args.cells.now) c.new-memo.result.lists.items c.new-memo.ensures
+
 pub returns : goal.returns
 returns g c =
     let d = g.C.Cells.design c.args.cells.now in
@@ -97,6 +101,6 @@ returns g c =
     let spans = c.in_ok-spans.spans.items in
     let touching : AddsTouching pieces (map (counted_from from) spans) [] c.touching_pairs.new.out.items = rw (c.deref-2.ensures.value, c.deref-3.ensures.value, c.new-pairs.ensures.items, c.in_ok-counted.ensures, c.deref.ensures.value) at c.in_ok-touching_pairs.ensures in
     let same : from ≡ length pieces = c.len-2.ensures ∙ c.in_ok-pieces.pieces.ok.0 in
-    let added : AddsPairsBeside d w t cell (length pieces) c.touching_pairs.new.out.items c.args.out.now.items c.link_all_beside.new.out.items = rw (c.deref-4.ensures.value, c.deref-5.ensures.value) at c.in_ok-link_all_beside.ensures in
+    let added : AddsPairsBeside d w t cell (length pieces) c.touching_pairs.new.out.items c.args.out.now.items c.link_all_beside.new.out.items = rw (c.deref-4.ensures.value, c.deref-5.ensures.value) at c.in_ok-link_all_beside.ensures.links in
     let counted : AddsPairsBeside d w t cell from c.touching_pairs.new.out.items c.args.out.now.items c.link_all_beside.new.out.items = subst (λ n. AddsPairsBeside d w t cell n c.touching_pairs.new.out.items c.args.out.now.items c.link_all_beside.new.out.items) (sym same) added in
     whole_beside d w t cell from pieces spans c.touching_pairs.new.out.items own same c.in_ok-spans.ensures touching c.args.out.now.items c.link_all_beside.new.out.items counted

@@ -30,9 +30,9 @@ link_piece-requires-clause-number g c =
     let e = c.max.ensures in
     omega (arith, a, b, e)
 
-pub returns : goal.returns
-returns g c =
+pub returns-clause-links : goal.returns-clause-links
+returns-clause-links g c =
     let pieces = c.args.pieces.now in
     let e = c.max.ensures in
     some_pair (g.C.Cells.design c.args.cells.now) (g.C.Cells.wiring c.args.cells.now) (g.C.Cells.tables c.args.cells.now) c.args.cell (length (places_of (g.C.Cells.design c.args.cells.now) c.args.cell)) c.min-item.result (c.max.result - length pieces) pieces c.args.pair.now c.args.out.now.items c.link_piece.new.out.items c.requires.pieces c.requires.pair
-    c.min-item.ensures (omega (arith, e)) c.in_ok-link_piece.ensures
+    c.min-item.ensures (omega (arith, e)) c.in_ok-link_piece.ensures.links
