@@ -1,4 +1,5 @@
-// How one placement lies beside another.
+//! How one placement lies beside another.
+
 ghost use Rattle.std.specs.Prelude.{◌≡◌};
 ghost use Rattle.geo_base.specs.Motions.{moved_square};
 ghost use Rattle.geo_base.specs.Near.{IsNearMotion};

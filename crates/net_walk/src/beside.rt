@@ -1,4 +1,5 @@
-// Links between a cell's own rectangles and the nets of placements.
+//! Links between a cell's own rectangles and the nets of placements.
+
 ghost use Rattle.std.specs.Prelude.{◌≡◌, ◌+◌, ◌<◌, ◌≤◌, ◌↔◌, ℕ, [], ◌∷◌, get_or, length, map};
 ghost use Rattle.std.specs.Prelude.{slice_get, Some, IfOk, OnOk};
 ghost use Rattle.flat_layout.specs.Nets.{AreRightBelow, items_of};

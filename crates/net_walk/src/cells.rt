@@ -1,3 +1,5 @@
+//! What a walk reads of the cells: rectangles, nets, placements and what bounds them.
+
 ghost use Rattle.std.specs.Prelude.{◌≡◌, ℕ, ◌<◌, length, map, IfOk, IfSome, IfNone};
 ghost use Rattle.flat_layout.specs.Layout.{Design, IsHeight};
 ghost use Rattle.flat_layout.specs.Nets.{AreNets, Tables};

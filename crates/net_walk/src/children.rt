@@ -1,4 +1,5 @@
-// Links between the nets of two placements.
+//! Links between the nets of two placements.
+
 ghost use Rattle.std.specs.Prelude.{◌≡◌, ◌<◌, ◌≤◌, ◌↔◌, length, get_or, ℕ, OnOk, IfOk};
 ghost use Rattle.std.specs.Prelude.{IfSome, IfNone};
 ghost use Rattle.flat_layout.specs.Nets.{AreRightBelow, items_of};

@@ -1,4 +1,5 @@
-// The nets in contact of two placed cells, looked for once for each way in which two lie.
+//! The nets in contact of two placed cells, looked for once for each way in which two lie.
+
 ghost use Rattle.std.specs.Prelude.{◌≡◌, ◌+◌, ◌<◌, ◌↔◌, ◌≤◌, ◌⊎◌, ℕ, true, IfOk, IfSome, OnOk};
 ghost use Rattle.flat_layout.specs.Regions.{IsJoined};
 ghost use Rattle.link_classes.specs.Classes.{IsOf};

@@ -1,4 +1,5 @@
-// Links between a cell's items and its globals.
+//! Links between a cell's items and its globals.
+
 ghost use Rattle.std.specs.Prelude.{◌≡◌, ◌+◌, ◌<◌, ◌≤◌, ◌↔◌, ℕ, length, slice_get, Some, OnOk};
 ghost use Rattle.flat_layout.specs.Nets.{AreNets, AreRightBelow, items_of};
 ghost use Rattle.net_link_laws.specs.Places.{places_of};

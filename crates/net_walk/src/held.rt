@@ -1,4 +1,5 @@
-// The nets of cells that hold squares of a conductor, found once for each cell.
+//! The nets of cells that hold squares of a conductor, found once for each cell.
+
 ghost use Rattle.std.specs.Prelude.{◌≡◌, ◌+◌, ◌++◌, ◌<◌, ◌≤◌, ◌^◌, ◌↔◌, ◌==◌, ◌||◌, ℕ, [], ◌∷◌};
 ghost use Rattle.std.specs.Prelude.{true, false};
 ghost use Rattle.std.specs.Prelude.{get_or, length, slice_get, Some, IfOk, IfSome, OnOk};

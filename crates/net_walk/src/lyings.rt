@@ -1,4 +1,5 @@
-// Pairs of placements, in an order in which those that lie alike stand together.
+//! Pairs of placements, in an order in which those that lie alike stand together.
+
 ghost use Rattle.std.specs.Prelude.{◌≡◌, ◌<◌, [], true, length, IfOk, OnOk};
 ghost use Rattle.std.specs.List.Sorted.{IsPermutation};
 ghost use Rattle.link_classes.specs.Classes.{AreInRange, IsLinked, IsOf};

@@ -1,4 +1,5 @@
-// Links between a cell's own rectangles.
+//! Links between a cell's own rectangles.
+
 ghost use Rattle.std.specs.Prelude.{◌≡◌, ◌+◌, ◌++◌, ◌≤◌, ◌↔◌, ℕ, length, OnOk, IfOk, []};
 ghost use Rattle.flat_layout.specs.Regions.{IsJoined};
 ghost use Rattle.net_link_laws.specs.Places.{owned_before};

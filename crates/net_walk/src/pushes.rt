@@ -1,4 +1,5 @@
-// Pieces that are added to a list.
+//! Pieces of nets in a window, added to a list.
+
 ghost use Rattle.std.specs.Prelude.{◌≡◌, ◌+◌, ◌<◌, ◌≤◌, OnOk, length, ◌∷◌, []};
 ghost use Rattle.flat_layout.specs.Plane.{IsIn};
 ghost use Rattle.geo_base.specs.Motions.{moved_square};

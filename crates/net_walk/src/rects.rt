@@ -1,3 +1,5 @@
+//! The common part of two rectangles, and a rectangle grown by one square.
+
 ghost use Rattle.std.specs.Prelude.{◌≡◌, ◌↔◌, true};
 ghost use Rattle.geo_base.specs.Rects.{IsRect};
 ghost use Rattle.geo_base.specs.Near.{IsNearRect};

@@ -1,4 +1,5 @@
-// Pieces of a placed cell's nets as the cell sees them.
+//! Pieces of a placed cell's nets as the cell sees them.
+
 ghost use Rattle.std.specs.Prelude.{◌≡◌, ◌+◌, ◌<◌, ◌≤◌, OnOk, IfOk, MatchBool, length, ◌∷◌, []};
 ghost use Rattle.geo_base.specs.Near.{IsNearRect, IsNearMotion};
 ghost use Rattle.net_link_laws.specs.Laws.{AreNetsUnder};

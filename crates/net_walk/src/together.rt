@@ -1,4 +1,5 @@
-// All links between the items of a cell, and where these stand.
+//! All links between the items of a cell, and where these stand.
+
 ghost use Rattle.std.specs.Prelude.{◌≡◌, ◌+◌, ◌<◌, ◌≤◌, ◌↔◌, ℕ, length, IfOk};
 ghost use Rattle.flat_layout.specs.Nets.{AreRightBelow, items_of};
 ghost use Rattle.flat_layout.specs.Regions.{IsGrounded, IsJoined};

@@ -1,3 +1,5 @@
+//! The nets over a conductor's squares in a window, by a walk through the cells below.
+
 ghost use Rattle.std.specs.Prelude.{◌≡◌, ◌<◌, ◌^◌, length, IfOk, IfSome, IfNone};
 ghost use Rattle.geo_base.specs.Near.{IsNearRect, IsNearMotion};
 ghost use Rattle.geo_base.specs.Rects.{IsRect};

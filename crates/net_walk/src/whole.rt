@@ -1,4 +1,5 @@
-// Links of a rectangle that covers all squares of a placement's nets.
+//! Links of a rectangle that covers all squares of a placement's nets.
+
 ghost use Rattle.std.specs.Prelude.{◌≡◌, ◌+◌, ◌<◌, ◌≤◌, ℕ, true, length, OnOk};
 ghost use Rattle.geo_base.specs.Rects.{IsRect};
 ghost use Rattle.net_link_laws.specs.Laws.{AreNetsUnder};
