@@ -1,5 +1,5 @@
 -- How many items stand before those of a placement.
-use Rattle.std.proofs.Common.{◌≡◌, ℕ, zero, suc, ◌+◌, ◌<◌, ◌≤◌, Bool, true, false, ltb, List, [], ◌∷◌, ◌++◌, map, get_or, length, refl, sym, ◌∙◌, ap, subst, arith}
+use Rattle.std.proofs.Common.{◌≡◌, ℕ, zero, suc, ◌+◌, ◌<◌, ◌≤◌, Bool, true, false, ltb, List, [], ◌∷◌, ◌++◌, map, get_or, length, refl, sym, subst, arith}
 use Rattle.std.proofs.Math.Decide.{dec_lt}
 use Rattle.std.proofs.lemmas.Bool.{le-ltb}
 use Rattle.std.proofs.lemmas.Bool.Decides.{nat_tests}
@@ -9,7 +9,7 @@ use Rattle.flat_layout.specs.Layout.{Design, Place}
 use Rattle.flat_layout.specs.Nets.{Child, Global, Item, Own, Tables, child_items, items_of, own_items, run}
 use Rattle.flat_layout.specs.Regions.{Wiring}
 use Rattle.net_link_laws.proofs.Standing.{owned_long, run_long}
-use Rattle.net_link_laws.specs.Places.{nets_before, owned_before, places_of}
+use Rattle.net_link_laws.specs.Places.{nets_before, places_of}
 use Rattle.net_walk.specs.Pairs.{first_of}
 use Rattle.net_phase.specs.Items.{is_before}
 

@@ -1,5 +1,5 @@
 use Rattle.std.proofs.Common.{◌∙◌, sym, ap}
-use Rattle.net_phase.proofs.Holding.{hull_is_near, hull_is_rect}
+use Rattle.net_phase.proofs.Holding.{hull_is_near}
 use Rattle.net_phase.proofs.indexes.span_of.Goals as goal
 use Rattle.net_phase.specs.Indexes.{span_by}
 

@@ -1,12 +1,11 @@
-use Rattle.std.proofs.Common.{◌≡◌, ◌∙◌, ℕ, List, Option, get_or, map, ap, sym, subst}
+use Rattle.std.proofs.Common.{◌∙◌, List, map, ap, sym, subst}
 use Rattle.cell_graph.specs.Linked.{plain}
 use Rattle.deep_tables.specs.Nets.{plain_item}
-use Rattle.deep_tables.specs.declared.nets.Item.{Item}
 use Rattle.deep_tables.specs.declared.nets.Item.TheVariants.{Global}
 use Rattle.flat_layout.specs.Nets as flat
 use Rattle.net_phase.proofs.Firsts.{IsCut, cut_of_map, cut_parts, items_cut, one_cut}
 use Rattle.net_phase.proofs.below.BelowCells.first_place.Goals as goal
-use Rattle.net_phase.specs.Below.{BelowSeen, below_seen, tables_seen, wiring_seen}
+use Rattle.net_phase.specs.Below.{BelowSeen, tables_seen, wiring_seen}
 use Rattle.net_phase.specs.Items.{is_before, stands_before}
 use Rattle.net_walk.specs.Pairs.{first_of}
 

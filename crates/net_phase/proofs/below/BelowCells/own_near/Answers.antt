@@ -1,4 +1,4 @@
-use Rattle.std.proofs.Common.{◌≡◌, ◌∙◌, List, [], ap, sym, subst}
+use Rattle.std.proofs.Common.{◌∙◌, List, [], ap, sym, subst}
 use Rattle.geo_base.specs.declared.shapes.Rect.{Rect}
 use Rattle.net_phase.proofs.Nearing.{found_near, none_near}
 use Rattle.net_phase.proofs.Results.{if_ok}

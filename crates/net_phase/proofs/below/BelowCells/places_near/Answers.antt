@@ -1,4 +1,4 @@
-use Rattle.std.proofs.Common.{◌≡◌, ◌∙◌, List, [], ap, get_or, refl, sym, subst}
+use Rattle.std.proofs.Common.{◌∙◌, List, [], ap, get_or, refl, sym, subst}
 use Rattle.std.proofs.Math.ListN.{get_or-map}
 use Rattle.cell_graph.specs.Linked.{plain}
 use Rattle.geo_base.specs.declared.shapes.Rect.{Rect}
