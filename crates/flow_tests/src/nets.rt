@@ -230,10 +230,9 @@ fn each_turn(rt: HostRuntime) -> Result<(), Fail> {
     Ok(())
 }
 
-// Each cell places the one before twice, side by side: 2^24 squares in a row are one net.
-#[test]
-fn doubling_hierarchy(rt: HostRuntime) -> Result<(), Fail> {
-    let alloc: Global = rt.alloc();
+// A row of 2^24 squares, in which each cell places the one before twice, side by side. Where it has
+// a roof, the top has a rectangle of the other layer over all of them.
+fn row(alloc: Global, has_roof: bool) -> Result<Vec<u8>, AllocError> {
     let mut layout = start(alloc)?;
     push_cell(&mut layout, b'A')?;
     push_rect(&mut layout, 1, [0, 0, 10, 10])?;
@@ -241,12 +240,25 @@ fn doubling_hierarchy(rt: HostRuntime) -> Result<(), Fail> {
     let mut wide = 10i32;
     for level in 0..24u8 {
         push_cell(&mut layout, b'B' + level)?;
+        if has_roof && level == 23 {
+            push_rect(&mut layout, 2, [-5, -5, 167_772_165, 15])?;
+        }
         push_place(&mut layout, b'A' + level, TURNS[0], 0, 0)?;
         push_place(&mut layout, b'A' + level, TURNS[0], wide, 0)?;
         push_end(&mut layout)?;
         wide = wide.wrapping_mul(2);
     }
     push_last(&mut layout)?;
-    assert!(rt; has_nets(&rt, alloc, &layout, RULES, &[0, 0], 1)?);
+    Ok(layout)
+}
+
+// A row is one net, and so is it with what covers it, which doesn't walk its squares.
+#[test]
+fn doubling_hierarchy(rt: HostRuntime) -> Result<(), Fail> {
+    let alloc: Global = rt.alloc();
+    let open = row(alloc, false)?;
+    assert!(rt; has_nets(&rt, alloc, &open, RULES, &[0, 0], 1)?);
+    let covered = row(alloc, true)?;
+    assert!(rt; has_nets(&rt, alloc, &covered, RULES, &[0, 0, 0], 1)?);
     Ok(())
 }
