@@ -8,6 +8,7 @@ pub mod RightOnes
 pub mod Mates
 pub mod NextBehind
 pub mod SureFirst
+pub mod Named
 pub mod Rising
 pub mod NextOf
 pub mod Decided

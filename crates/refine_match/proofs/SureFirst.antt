@@ -3,7 +3,10 @@ use Rattle.std.proofs.Common.{◌≡◌, ◌≤◌, ◌+◌, ◌-◌, ◌^◌, �
 use Rattle.std.specs.Option.{is_some}
 use Rattle.std.proofs.lemmas.Bool.Decides.{Decides-ltb}
 use Rattle.round_laws.specs.Nodes.{Device}
+use Rattle.round_laws.proofs.Agree.{first, second}
 use Rattle.round_laws.proofs.Fast.{false_if}
+use Rattle.std.proofs.lemmas.Slice.Eq.{bytes_eq-Decides}
+use Rattle.refine_match.specs.Namesakes.{IsFirstNet, IsNameless, name_of}
 use Rattle.net_model.specs.declared.netlist.Circuit.{Circuit}
 use Rattle.match_graph.specs.declared.graph.Graph.{Graph}
 use Rattle.match_graph.specs.Graph.{left_of, nodes_of}
@@ -14,7 +17,7 @@ use Rattle.match_rounds.specs.Turned.{AreAllOf}
 use Rattle.match_rounds.proofs.Counting.{any_index}
 use Rattle.refine_match.specs.declared.candidates.Candidate.{Candidate}
 use Rattle.refine_match.specs.Rights.{IsFirstRight}
-use Rattle.refine_match.specs.Candidates.{IsBestBehind, IsSureFirst, have_one_name, rank_at, rank_of}
+use Rattle.refine_match.specs.Candidates.{HaveNets, IsBestBehind, IsSureFirst, have_one_name, rank_at, rank_of}
 
 no_less : (b : Bool) (a : ℕ) → a ≤ rank_of b a
 no_less true a = omega arith
@@ -35,22 +38,34 @@ sure_named g left right x y b e t = record {
       omega arith;
 }
 
--- one of a node that has no name
-pub sure_nameless : (g : Graph) (left right : Circuit) (x y : ℕ) (b : Bool) → b ≡ have_one_name g left right x y → place_in g.left Device 0 ≤ x → IsSureFirst g (rank_at g left right x) y (let c : Candidate = record { has_name = b; node = y } in c)
-sure_nameless g left right x y b e past = record {
+-- one of a node whose name no right node has
+pub sure_nameless : (g : Graph) (left right : Circuit) (x y : ℕ) (b : Bool) → b ≡ have_one_name g left right x y → left_of g ≤ y → IsNameless g left right x → IsSureFirst g (rank_at g left right x) y (let c : Candidate = record { has_name = b; node = y } in c)
+sure_nameless g left right x y b e low none = record {
   node = refl;
   rank_is = ap (λ (u : Bool). rank_of u y) e;
   first = λ a l.
-      let one : rank_of (have_one_name g left right x y) y ≡ 2 ^ 32 + y = ap (λ (u : Bool). rank_of u y) (none y) in
-      let other : rank_of (have_one_name g left right x a) a ≡ 2 ^ 32 + a = ap (λ (u : Bool). rank_of u a) (none a) in
+      let one : rank_of (have_one_name g left right x y) y ≡ 2 ^ 32 + y = ap (λ (u : Bool). rank_of u y) (none y low) in
+      let other : rank_of (have_one_name g left right x a) a ≡ 2 ^ 32 + a = ap (λ (u : Bool). rank_of u a) (none a (omega arith)) in
       omega arith;
 }
-  where
-    not_net : (n : ℕ) → n ≤ x → nat_lt x n ≡ false
-    not_net n l = false_if (nat_lt x n) (λ s. let m = (Decides-ltb x n).0 s in omega arith)
 
-    none : (a : ℕ) → have_one_name g left right x a ≡ false
-    none a = ap (λ (u : Bool). u && (nat_lt a (place_in g.right Device 0) && bytes_eq (slice_index_or left.nets.items (x - g.left.first) []) (slice_index_or right.nets.items (a - g.right.first) []))) (not_net (place_in g.left Device 0) past)
+-- a device or call has no name
+pub no_net : (g : Graph) (left right : Circuit) (x : ℕ) → place_in g.left Device 0 ≤ x → IsNameless g left right x
+no_net g left right x past a l =
+    ap (λ (u : Bool). u && (nat_lt a (place_in g.right Device 0) && bytes_eq (slice_index_or left.nets.items (x - g.left.first) []) (slice_index_or right.nets.items (a - g.right.first) [])))
+    (false_if (nat_lt x (place_in g.left Device 0)) (λ s. let m = (Decides-ltb x (place_in g.left Device 0)).0 s in omega arith))
+
+-- a net without a namesake
+pub no_namesake : (g : Graph) (left right : Circuit) (x : ℕ) → HaveNets g left right → IsFirstNet right 0 (name_of left (x - g.left.first)) None → IsNameless g left right x
+no_namesake g left right x nets none a l =
+    let lb = nat_lt a (place_in g.right Device 0) in
+    let nb = bytes_eq (slice_index_or left.nets.items (x - g.left.first) []) (slice_index_or right.nets.items (a - g.right.first) []) in
+    false_if (nat_lt x (place_in g.left Device 0) && (lb && nb)) (λ t.
+    let both = second (nat_lt x (place_in g.left Device 0)) (lb && nb) t in
+    let below = (Decides-ltb a (place_in g.right Device 0)).0 (first lb nb both) in
+    let same = (bytes_eq-Decides (slice_index_or left.nets.items (x - g.left.first) []) (slice_index_or right.nets.items (a - g.right.first) [])).0 (second lb nb both) in
+    let count = nets.right_nets in
+    none (a - g.right.first) (omega arith) (omega arith) (sym same))
 
 -- it is the best of all that are not tried
 pub best_first : (g : Graph) (c : Classes) (rank : ℕ → ℕ) (d y : ℕ) (items : List ℕ) (best : Candidate) (last : Option Candidate) → last ≡ None → AreAllOf (class_in c) d items (nodes_of g) → IsFirstRight g c d y → IsSureFirst g rank y best

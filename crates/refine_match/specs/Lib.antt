@@ -3,6 +3,7 @@ pub mod Evidence
 pub mod Choosing
 pub mod Ties
 pub mod Rights
+pub mod Namesakes
 pub mod Pairings
 pub mod Candidates
 pub mod ByRounds

@@ -6,6 +6,7 @@ ghost use Rattle.match_rounds.specs.Classes.{IsPartition, class_in};
 ghost use Rattle.refine_match.specs.Candidates.{HaveNets, IsBestBehind, IsFirst, IsSureFirst};
 ghost use Rattle.refine_match.specs.Candidates.{NextLaw, candidate_rank, have_one_name, is_behind};
 ghost use Rattle.refine_match.specs.Candidates.{rank_at};
+ghost use Rattle.refine_match.specs.Namesakes.{AreNamesakes, IsNameless};
 ghost use Rattle.refine_match.specs.Rights.{AreRightsOf};
 ghost use Rattle.match_rounds.specs.Turned.{AreAllOf};
 
@@ -23,19 +24,21 @@ pub struct Candidate {
 }
 
 /// The next candidate of a left node behind the last one: the right nodes of its class, those of
-/// its name first, each group by number. The first candidate of a device or call, and one that is
-/// the first right node of its class and has the name of the left one, is found in the time to pass
-/// over what left the class; any other in a time in proportion to the size of the class.
+/// its name first, each group by number. The first candidate is found in the time to pass over what
+/// left the class where it has the name of the left node, or no right net has this; any other in a
+/// time in proportion to the size of the class.
 pub fn next_candidate(
     graph: &Graph,
     classes: &Classes,
     rights: &Rights,
     left: &Circuit,
     right: &Circuit,
+    namesakes: &[Option<u32>],
     node: u32,
     last: Option<Candidate>,
 ) -> Option<Candidate>
     requires graph { IsGraph graph.now }
+    requires namesakes { AreNamesakes left.now right.now namesakes.now }
     requires partition { IsPartition classes.now (left_of graph.now) (nodes_of graph.now) }
     requires rights { AreRightsOf rights.now graph.now classes.now }
     requires nets { HaveNets graph.now left.now right.now }
@@ -47,7 +50,7 @@ pub fn next_candidate(
     let members = classes.members(graph, classes.of(node));
     if last.is_none() {
         if let Some(first) = rights.first(graph, classes, classes.of(node)) {
-            if let Some(candidate) = first_candidate(graph, left, right, node, first) {
+            if let Some(candidate) = first_candidate(graph, left, right, namesakes, node, first) {
                 return Some(candidate);
             }
         }
@@ -60,10 +63,12 @@ fn first_candidate(
     graph: &Graph,
     left: &Circuit,
     right: &Circuit,
+    namesakes: &[Option<u32>],
     node: u32,
     first: u32,
 ) -> Option<Candidate>
     requires graph { IsGraph graph.now }
+    requires namesakes { AreNamesakes left.now right.now namesakes.now }
     requires nets { HaveNets graph.now left.now right.now }
     requires node { node < left_of graph.now }
     requires first { left_of graph.now ≤ first }
@@ -71,13 +76,29 @@ fn first_candidate(
         first) }
 {
     let has_name = is_one_name(graph, left, right, node, first);
-    if has_name || graph.left.first_device() <= node {
+    if has_name || is_nameless(graph, left, right, namesakes, node) {
         return Some(Candidate {
             has_name,
             node: first,
         });
     }
     None
+}
+
+// Whether a left node is no net, or no right net has its name.
+fn is_nameless(
+    graph: &Graph,
+    left: &Circuit,
+    right: &Circuit,
+    namesakes: &[Option<u32>],
+    node: u32,
+) -> bool
+    requires graph { IsGraph graph.now }
+    requires namesakes { AreNamesakes left.now right.now namesakes.now }
+    requires nets { HaveNets graph.now left.now right.now }
+    ensures { result ≡ true → IsNameless graph.now left.now right.now node }
+{
+    graph.left.first_device() <= node || namesakes[(node - graph.left.first) as usize].is_none()
 }
 
 // The best candidate behind the last one of the right ones of these nodes.

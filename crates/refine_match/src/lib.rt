@@ -9,6 +9,7 @@ mod guessing;
 mod lefts;
 mod lists;
 mod matching;
+mod namesakes;
 mod pairings;
 mod rights;
 mod searching;

@@ -14,6 +14,7 @@ ghost use Rattle.refine_match.specs.Matching.{IsUndecided};
 ghost use Rattle.refine_match.specs.Searching.{IsKept};
 
 use crate::by_rounds::{Rounds, by_rounds};
+use crate::namesakes::list_namesakes;
 use crate::pairings::read_pairing;
 use crate::searching::Search;
 use match_graph::Graph;
@@ -34,9 +35,9 @@ use std::alloc::{AllocError, Global};
 ///
 /// The rounds take the time to sort the ends of all nodes as often as the logarithm of their
 /// number. A guess that isn't refuted takes the rounds that part the classes further, the time to
-/// sort the nodes whose classes those are, and, where its node is a net, but not of the name of the
-/// first right one of its class, a walk over that class; one that is, and a level that is left, the
-/// rounds from the first on.
+/// sort the nodes whose classes those are, and a walk over the class of its node where this is a
+/// net whose name some right net has, but not the first right one of its class; one that is, and a
+/// level that is left, the rounds from the first on.
 ///
 /// The error is want of memory, or more than 2^32 guesses below each other.
 pub fn match_circuits(
@@ -103,9 +104,10 @@ fn by_guesses(
         → IsWeb (web_of p) → AreMatched p
         → IsAnswer p (equal_names p) begun.limit (plain_answer answer)) }
 {
+    let namesakes = list_namesakes(alloc, left, right)?;
     let mut search = begun;
     loop {
-        match search.next(graph, left, right) {
+        match search.next(graph, left, right, &namesakes) {
             Some(candidate) => {
                 if search.refuted == search.limit {
                     return Ok(Answer::Undecided(search.rows));

@@ -9,6 +9,7 @@ ghost use Rattle.match_rounds.specs.Refined.{AreSettled};
 ghost use Rattle.match_rounds.specs.Start.{AreGuesses, guessed_web};
 ghost use Rattle.refine_match.specs.ByRounds.{AreTies};
 ghost use Rattle.refine_match.specs.Candidates.{HaveNets, IsNextOf, IsPairOf};
+ghost use Rattle.refine_match.specs.Namesakes.{AreNamesakes};
 ghost use Rattle.refine_match.specs.Searching.{HasEvenEnd, HasLeft, IsLeft, IsShorter, IsUnderWay};
 
 use crate::candidates::{Candidate, next_candidate};
@@ -69,7 +70,14 @@ impl Search {
     }
 
     /// The next candidate of the level. The time is in proportion to the size of a class at most.
-    pub fn next(&self, graph: &Graph, left: &Circuit, right: &Circuit) -> Option<Candidate>
+    pub fn next(
+        &self,
+        graph: &Graph,
+        left: &Circuit,
+        right: &Circuit,
+        namesakes: &[Option<u32>],
+    ) -> Option<Candidate>
+        requires namesakes { AreNamesakes left.now right.now namesakes.now }
         requires way { (p : Pair) × IsUnderWay p graph.now self.now }
         requires nets { HaveNets graph.now left.now right.now }
         ensures next { (p : Pair) → IsPairOf p graph.now left.now right.now
@@ -83,6 +91,7 @@ impl Search {
             &self.lists.rights,
             left,
             right,
+            namesakes,
             self.level.node,
             self.level.last,
         )

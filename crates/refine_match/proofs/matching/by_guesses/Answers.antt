@@ -2,7 +2,15 @@ use Rattle.std.proofs.Common.{◌∙◌}
 use Rattle.match_types.specs.Plain.{plain_pairing}
 use Rattle.refine_match.proofs.Decided.{single}
 use Rattle.refine_match.proofs.Kept.{kept_ended, kept_found, kept_left, kept_solved, kept_stopped, kept_tried, none_left, trying}
+use Rattle.refine_match.proofs.Named.{few_nets}
 use Rattle.refine_match.proofs.matching.by_guesses.Goals as goal
+
+pub list_namesakes-requires : goal.list_namesakes-requires
+list_namesakes-requires c =
+    let p = c.requires.pair.0 in
+    let h = c.requires.pair.1 in
+    let part = (c.requires.way.way p h c.requires.pair.2).partition in
+    few_nets p c.args.graph.now c.args.left.now c.args.right.now h part.classes.small
 
 pub returns-then-search : goal.returns-then-search
 returns-then-search c = λ p h good matched.

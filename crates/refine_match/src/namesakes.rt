@@ -1,0 +1,39 @@
+ghost use Rattle.std.specs.Prelude.{◌≡◌, ◌<◌, ◌≤◌, ◌^◌, length, IfOk};
+ghost use Rattle.std.specs.HashMap.{get};
+ghost use Rattle.refine_match.specs.Namesakes.{AreFirsts, AreNamesakes, is_same_name};
+
+use net_model::Circuit;
+use std::alloc::{AllocError, Global};
+use std::collections::HashMap;
+
+/// For each left net the first right net of its name, if there is one. It takes the time to hash
+/// the names.
+pub fn list_namesakes(
+    alloc: Global,
+    left: &Circuit,
+    right: &Circuit,
+) -> Result<Vec<Option<u32>>, AllocError>
+    requires { length right.now.nets.items < 2 ^ 32 }
+    ensures { IfOk result (λ found. AreNamesakes left.now right.now found.items) }
+{
+    let firsts = first_nets(alloc, right)?;
+    let mut namesakes = Vec::new(alloc);
+    for n in 0..left.nets.len() {
+        namesakes.push(firsts.get(&left.nets[n].bytes()).copied())?;
+    }
+    Ok(namesakes)
+}
+
+// The first net of each name.
+fn first_nets<'a>(alloc: Global, circuit: &'a Circuit) -> Result<HashMap<&'a [u8], u32>, AllocError>
+    requires { length circuit.now.nets.items < 2 ^ 32 }
+    ensures { IfOk result (λ firsts. AreFirsts circuit.now 0 (get is_same_name firsts)) }
+{
+    let mut firsts: HashMap<&'a [u8], u32> = HashMap::new(alloc);
+    let count = circuit.nets.len();
+    for k in 0..count {
+        let n = count - 1 - k;
+        firsts.insert(circuit.nets[n].bytes(), n as u32)?;
+    }
+    Ok(firsts)
+}
