@@ -31,22 +31,22 @@ pub if_false : {A : Type 0} (b : Bool) (x y : A) → b ≡ false → (if b then 
 if_false true x y e = absurd (false≢true (sym e))
 if_false false x y e = refl
 
-lt_true : (a b : ℤ) → a <ℤ b → int_lt a b ≡ true
+pub lt_true : (a b : ℤ) → a <ℤ b → int_lt a b ≡ true
 lt_true a b h = grind (arith, ints)
 
-lt_false : (a b : ℤ) → b ≤ℤ a → int_lt a b ≡ false
+pub lt_false : (a b : ℤ) → b ≤ℤ a → int_lt a b ≡ false
 lt_false a b h = grind (arith, ints)
 
-le_true : (a b : ℤ) → a ≤ℤ b → int_le a b ≡ true
+pub le_true : (a b : ℤ) → a ≤ℤ b → int_le a b ≡ true
 le_true a b h = grind (arith, ints)
 
-le_false : (a b : ℤ) → b <ℤ a → int_le a b ≡ false
+pub le_false : (a b : ℤ) → b <ℤ a → int_le a b ≡ false
 le_false a b h = grind (arith, ints)
 
-lt_from : (a b : ℤ) → int_lt a b ≡ true → a <ℤ b
+pub lt_from : (a b : ℤ) → int_lt a b ≡ true → a <ℤ b
 lt_from a b e = by_lt_z a b (λ lt. lt) (λ le. absurd (false≢true (sym (lt_false a b le) ∙ e)))
 
-le_from : (a b : ℤ) → int_le a b ≡ true → a ≤ℤ b
+pub le_from : (a b : ℤ) → int_le a b ≡ true → a ≤ℤ b
 le_from a b e = by_lt_z b a (λ lt. absurd (false≢true (sym (le_false a b lt) ∙ e))) (λ le. le)
 
 and_one : (b c : Bool) → c ≡ true → (b && c) ≡ b
@@ -67,7 +67,7 @@ kept_from cut (q ∷ rects) r h = elim (either (touches cut q)) [
       elim g [ inl e ↦ (inl e, subst (λ (p : Rect). touches cut p ≡ false) (sym e) f) | inr k ↦ (let n = kept_from cut rects r k in (inr n.0, n.1)) ])
 ]
 
-cut_from : (cut : Cut) (rects : List Rect) (r : Rect) → IsListed r (cut_off cut rects) → IsListed r rects × (touches cut r ≡ true)
+pub cut_from : (cut : Cut) (rects : List Rect) (r : Rect) → IsListed r (cut_off cut rects) → IsListed r rects × (touches cut r ≡ true)
 cut_from cut [] r h = absurd h
 cut_from cut (q ∷ rects) r h = elim (either (touches cut q)) [
   | inr f ↦ (let n = cut_from cut rects r (subst (λ (xs : List Rect). IsListed r xs) (if_false (touches cut q) (q ∷ cut_off cut rects) (cut_off cut rects) f) h) in (inr n.0, n.1))
@@ -218,34 +218,57 @@ cut_half half cut rects s h e =
     let l = covers_listed (cut_off cut rects) s e in
     in_block half l.one s ((h.each l.one).0 (cut_from cut rects l.one l.listed).0) (inside_from l.one s l.inside)
 
-parted : (set : Square → Bool) (cut : Cut) (left right : List Rect) → AreBlocks (low_half set cut) left → AreBlocks (high_half set cut) right → AreParted set (kept cut left ++ kept cut right) (cut_off cut left ++ cut_off cut right)
-parted set cut left right h k = record {
-  blocks = λ u g. elim (listed_either u (kept cut left) (kept cut right) g) [
-    | inl a ↦ (let n = kept_from cut left u a in low_block set cut u ((h.each u).0 n.0) n.1)
-    | inr b ↦ (let n = kept_from cut right u b in high_block set cut u ((k.each u).0 n.0) n.1)
+or_other : (b c : Bool) → (b || c) ≡ (c || b)
+or_other true true = refl
+or_other true false = refl
+or_other false true = refl
+or_other false false = refl
+
+parted : (set : Square → Bool) (cut : Cut) (low high : List Rect) → AreBlocks (low_half set cut) low → AreBlocks (high_half set cut) high → AreParted set (kept cut high ++ kept cut low) (cut_off cut high ++ cut_off cut low)
+parted set cut low high h k = record {
+  blocks = λ u g. elim (listed_either u (kept cut high) (kept cut low) g) [
+    | inl a ↦ (let n = kept_from cut high u a in high_block set cut u ((k.each u).0 n.0) n.1)
+    | inr b ↦ (let n = kept_from cut low u b in low_block set cut u ((h.each u).0 n.0) n.1)
   ];
   same = λ s.
-      half_or (set s) (place cut.axis s) cut.at ∙ ap (λ b. b || high_half set cut s) (sym (h.same s) ∙ sym (covers_sorted cut left s)) ∙
-      ap (λ b. (covers (kept cut left) s || covers (cut_off cut left) s) || b) (sym (k.same s) ∙ sym (covers_sorted cut right s)) ∙
-      or_pairs (covers (kept cut left) s) (covers (cut_off cut left) s) (covers (kept cut right) s) (covers (cut_off cut right) s) ∙
-      ap (λ b. b || (covers (cut_off cut left) s || covers (cut_off cut right) s)) (sym (covers_append (kept cut left) (kept cut right) s)) ∙
-      ap (λ b. covers (kept cut left ++ kept cut right) s || b) (sym (covers_append (cut_off cut left) (cut_off cut right) s));
+      half_or (set s) (place cut.axis s) cut.at ∙ or_other (low_half set cut s) (high_half set cut s) ∙ ap (λ b. b || low_half set cut s) (sym (k.same s) ∙ sym (covers_sorted cut high s)) ∙
+      ap (λ b. (covers (kept cut high) s || covers (cut_off cut high) s) || b) (sym (h.same s) ∙ sym (covers_sorted cut low s)) ∙
+      or_pairs (covers (kept cut high) s) (covers (cut_off cut high) s) (covers (kept cut low) s) (covers (cut_off cut low) s) ∙
+      ap (λ b. b || (covers (cut_off cut high) s || covers (cut_off cut low) s)) (sym (covers_append (kept cut high) (kept cut low) s)) ∙
+      ap (λ b. covers (kept cut high ++ kept cut low) s || b) (sym (covers_append (cut_off cut high) (cut_off cut low) s));
   apart = λ s e f.
-      elim (or_split (covers (kept cut left) s) (covers (kept cut right) s) (sym (covers_append (kept cut left) (kept cut right) s) ∙ e)) [
-        | inl a ↦ elim (or_split (covers (cut_off cut left) s) (covers (cut_off cut right) s) (sym (covers_append (cut_off cut left) (cut_off cut right) s) ∙ f)) [
-          | inl b ↦ kept_cut (low_half set cut) cut left s h a b
-          | inr b ↦ not_both set cut s (kept_half (low_half set cut) cut left s h a) (cut_half (high_half set cut) cut right s k b)
+      elim (or_split (covers (kept cut high) s) (covers (kept cut low) s) (sym (covers_append (kept cut high) (kept cut low) s) ∙ e)) [
+        | inl a ↦ elim (or_split (covers (cut_off cut high) s) (covers (cut_off cut low) s) (sym (covers_append (cut_off cut high) (cut_off cut low) s) ∙ f)) [
+          | inl b ↦ kept_cut (high_half set cut) cut high s k a b
+          | inr b ↦ not_both set cut s (cut_half (low_half set cut) cut low s h b) (kept_half (high_half set cut) cut high s k a)
         ]
-        | inr a ↦ elim (or_split (covers (cut_off cut left) s) (covers (cut_off cut right) s) (sym (covers_append (cut_off cut left) (cut_off cut right) s) ∙ f)) [
-          | inl b ↦ not_both set cut s (cut_half (low_half set cut) cut left s h b) (kept_half (high_half set cut) cut right s k a)
-          | inr b ↦ kept_cut (high_half set cut) cut right s k a b
+        | inr a ↦ elim (or_split (covers (cut_off cut high) s) (covers (cut_off cut low) s) (sym (covers_append (cut_off cut high) (cut_off cut low) s) ∙ f)) [
+          | inl b ↦ not_both set cut s (kept_half (low_half set cut) cut low s h a) (cut_half (high_half set cut) cut high s k b)
+          | inr b ↦ kept_cut (low_half set cut) cut low s h a b
         ]
       ];
 }
 
 -- the blocks of the halves that touch no cut are done, and the others are swept once more
-pub halves : (set : Square → Bool) (cut : Cut) (left right joined : List Rect) → AreBlocks (low_half set cut) left → AreBlocks (high_half set cut) right → AreBlocks (covers (cut_off cut left ++ cut_off cut right)) joined → AreBlocks set ((kept cut left ++ kept cut right) ++ joined)
-halves set cut left right joined h k j = parted_blocks set (kept cut left ++ kept cut right) (cut_off cut left ++ cut_off cut right) joined (parted set cut left right h k) j
+pub halves : (set : Square → Bool) (cut : Cut) (low high joined : List Rect) → AreBlocks (low_half set cut) low → AreBlocks (high_half set cut) high → AreBlocks (covers (cut_off cut high ++ cut_off cut low)) joined → AreBlocks set ((kept cut high ++ kept cut low) ++ joined)
+halves set cut low high joined h k j = parted_blocks set (kept cut high ++ kept cut low) (cut_off cut high ++ cut_off cut low) joined (parted set cut low high h k) j
+
+-- blocks above a line that is above another don't touch the other
+pub clear_below : (set : Square → Bool) (axis : Axis) (below at : ℤ) (r : Rect) → below <ℤ at → IsBlock (high_half set (record { axis = axis; at = at })) r → touches (record { axis = axis; at = below }) r ≡ false
+clear_below set axis below at r lt h =
+    let side = high_side set axis at r h in
+    let area = side_of axis r (rect_of (high_half set (record { axis = axis; at = at })) r h) in
+    elim (either (touches (record { axis = axis; at = below }) r)) [
+      | inr f ↦ f
+      | inl t ↦ elim (or_split (int_eq (low_end axis r) below) (int_eq (high_end axis r) below) t) [
+        | inl e ↦ (let same = (Decides-int_eq (low_end axis r) below).0 e in absurd (omega (arith, ints)))
+        | inr e ↦ (let same = (Decides-int_eq (high_end axis r) below).0 e in absurd (omega (arith, ints)))
+      ]
+    ]
+  where
+    side_of : (axis : Axis) (r : Rect) → IsRect r → low_end axis r <ℤ high_end axis r
+    side_of X r h = h.wide
+    side_of Y r h = h.high
 
 -- what the parts cover
 
@@ -382,17 +405,17 @@ highs_rects c (r ∷ rects) h =
 pub block_rects : (set : Square → Bool) (rects : List Rect) → AreBlocks set rects → All IsRect rects
 block_rects set rects h = all_rects rects (λ r l. rect_of set r ((h.each r).0 l))
 
-rect_in : (rects : List Rect) (r : Rect) → All IsRect rects → IsListed r rects → IsRect r
+pub rect_in : (rects : List Rect) (r : Rect) → All IsRect rects → IsListed r rects → IsRect r
 rect_in [] r h l = absurd l
 rect_in (q ∷ rects) r h l = elim l [
   | inl e ↦ subst (λ (p : Rect). IsRect p) (sym e) (h 0 q (omega arith))
   | inr k ↦ rect_in rects r (λ k d lt. h (suc k) d (omega arith)) k
 ]
 
-pub cut_rects : (c : Cut) (low high : List Rect) → All IsRect low → All IsRect high → All IsRect (cut_off c low ++ cut_off c high)
-cut_rects c low high h k = all_rects (cut_off c low ++ cut_off c high) (λ r l. elim (listed_either r (cut_off c low) (cut_off c high) l) [
-  | inl a ↦ rect_in low r h (cut_from c low r a).0
-  | inr b ↦ rect_in high r k (cut_from c high r b).0
+pub cut_rects : (c : Cut) (rest found : List Rect) → All IsRect rest → All IsRect found → All IsRect (rest ++ cut_off c found)
+cut_rects c rest found h k = all_rects (rest ++ cut_off c found) (λ r l. elim (listed_either r rest (cut_off c found) l) [
+  | inl a ↦ rect_in rest r h a
+  | inr b ↦ rect_in found r k (cut_from c found r b).0
 ])
 
 combined_and : (rule : Rule) (a b l : Bool) → combined rule (a && l) (b && l) ≡ (combined rule a b && l)
@@ -414,7 +437,7 @@ combined_and Xor true false true = refl
 combined_and Xor true false false = refl
 combined_and Xor false b l = refl
 
-blocks_same : (f g : Square → Bool) (rects : List Rect) → ((s : Square) → f s ≡ g s) → AreBlocks f rects → AreBlocks g rects
+pub blocks_same : (f g : Square → Bool) (rects : List Rect) → ((s : Square) → f s ≡ g s) → AreBlocks f rects → AreBlocks g rects
 blocks_same f g rects same h = record {
   each = λ r. (λ l. block_of f g r same ((h.each r).0 l), λ k. (h.each r).1 (block_of g f r (λ s. sym (same s)) k));
   same = λ s. h.same s ∙ same s;
@@ -425,9 +448,9 @@ pub low_blocks : (rule : Rule) (cut : Cut) (a b rects : List Rect) → AreBlocks
 low_blocks rule cut a b rects h =
     blocks_same (combined_set rule (lows cut a) (lows cut b)) (low_half (combined_set rule a b) cut) rects (λ s. ap (λ p. combined rule p (covers (lows cut b) s)) (covers_lows cut a s) ∙ ap (λ p. combined rule (covers a s && int_lt (place cut.axis s) cut.at) p) (covers_lows cut b s) ∙ combined_and rule (covers a s) (covers b s) (int_lt (place cut.axis s) cut.at)) h
 
-pub high_blocks : (rule : Rule) (cut : Cut) (a b rects : List Rect) → AreBlocks (combined_set rule (highs cut a) (highs cut b)) rects → AreBlocks (high_half (combined_set rule a b) cut) rects
-high_blocks rule cut a b rects h =
-    blocks_same (combined_set rule (highs cut a) (highs cut b)) (high_half (combined_set rule a b) cut) rects (λ s. ap (λ p. combined rule p (covers (highs cut b) s)) (covers_highs cut a s) ∙ ap (λ p. combined rule (covers a s && int_le cut.at (place cut.axis s)) p) (covers_highs cut b s) ∙ combined_and rule (covers a s) (covers b s) (int_le cut.at (place cut.axis s))) h
+pub high_combined : (rule : Rule) (cut : Cut) (a b : List Rect) (s : Square) → combined_set rule (highs cut a) (highs cut b) s ≡ high_half (combined_set rule a b) cut s
+high_combined rule cut a b s =
+    ap (λ p. combined rule p (covers (highs cut b) s)) (covers_highs cut a s) ∙ ap (λ p. combined rule (covers a s && int_le cut.at (place cut.axis s)) p) (covers_highs cut b s) ∙ combined_and rule (covers a s) (covers b s) (int_le cut.at (place cut.axis s))
 
 -- the loops
 

@@ -6,9 +6,12 @@ pub mod Joining
 pub mod Merging
 pub mod OneRow
 pub mod Ordering
+pub mod Placing
 pub mod RowRuns
 pub mod Sorting
 pub mod Splitting
+pub mod Stacking
+pub mod Striping
 pub mod Sweeping
 pub mod Unique
 pub mod Moving

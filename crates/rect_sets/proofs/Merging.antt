@@ -24,7 +24,7 @@ crossing_push : (y : ℤ) (xs : List Edge) (e : Edge) → e.y1 ≤ℤ y → y <�
 crossing_push y [] e a b h = (a, b, tt)
 crossing_push y (x ∷ xs) e a b h = (h.0, h.1, crossing_push y xs e a b h.2)
 
-order_weaken : (a b : ℤ) (xs : List Edge) → a ≤ℤ b → AreInOrder b xs → AreInOrder a xs
+pub order_weaken : (a b : ℤ) (xs : List Edge) → a ≤ℤ b → AreInOrder b xs → AreInOrder a xs
 order_weaken a b [] le h = tt
 order_weaken a b (x ∷ xs) le h = (omega (arith, ints, h.0), h.1)
 
@@ -49,7 +49,7 @@ next_to y a b xs k f h = elim (cases_lt k (length xs)) [
   | inr le ↦ subst (λ (q : List Edge). AreNext y b q) (sym (drop_all k xs le)) tt
 ]
 
-begins_at : (y x : ℤ) (e : Edge) → e.y1 ≤ℤ y → Follows y x e → (y ≡ e.y1) × (x ≤ℤ e.x)
+pub begins_at : (y x : ℤ) (e : Edge) → e.y1 ≤ℤ y → Follows y x e → (y ≡ e.y1) × (x ≤ℤ e.x)
 begins_at y x e le (inl lt) = absurd (omega (arith, ints))
 begins_at y x e le (inr g) = g
 

@@ -1,6 +1,7 @@
 -- Edges that cross a row.
 use Rattle.std.specs.Prelude.{◌≡◌, ◌⊎◌, ℕ, ℤ, pos, negsuc, ◌+◌, ◌<◌, ◌≤◌, ◌+ℤ◌, ◌≤ℤ◌, ◌<ℤ◌, Bool}
-use Rattle.std.specs.Prelude.{true, false, List, [], ◌∷◌, length, take, drop, slice_index_or}
+use Rattle.std.specs.Prelude.{true, false, List, [], ◌∷◌, length, take, drop, slice_index_or, ◌-◌}
+use Rattle.std.specs.Prelude.{int_lt, insert}
 use Rattle.rect_sets.specs.Edges.{sum_where}
 use Rattle.rect_sets.specs.Rows.{AreInOrder, AreUpTo}
 use Rattle.rect_sets.specs.declared.row.Edge.{Edge}
@@ -128,3 +129,31 @@ pub record EndSoFar (y : ℤ) (active edges : List Edge) (at seen : ℕ) (end : 
   pub ends : EndFrom end (take seen active)
   pub rest : AreCrossing y (drop seen active)
   pub later : at < length edges → end ≤ℤ (edge_at edges at).y1
+
+-- the edge doesn't end at or below y
+abbrev pub goes_on : ℤ → Edge → Bool
+goes_on y e = int_lt y e.y2
+
+-- where an edge at x belongs among those in order
+pub record IsPlace (edges : List Edge) (x : ℤ) (place : ℕ) : Type 0 where
+  pub place_in : place ≤ length edges
+  pub left : 0 < place → (edge_at edges (place - 1)).x ≤ℤ x
+  pub right : place < length edges → x ≤ℤ (edge_at edges place).x
+
+-- an edge was put where it belongs
+pub record IsInserted (old new : List Edge) (e : Edge) : Type 0 where
+  pub place : ℕ
+  pub is : IsPlace old e.x place
+  pub new_are : new ≡ insert old place e
+
+-- those that go on are active, and some that begin at y
+pub record BeginSoFar (y : ℤ) (before edges : List Edge) (from : ℕ) (active : List Edge) (at : ℕ)
+    : Type 0 where
+  pub at_in : at ≤ length edges
+  pub order : AreInOrder leftmost active
+  pub crossing : AreCrossing y active
+  pub low : ℤ
+  pub next : AreNext y low (drop at edges)
+  pub sums : (test : Edge → Bool) (field : Edge → ℤ) → Ignores y test
+      → (sum_where test field active +ℤ sum_where test field (drop at edges))
+      ≡ (sum_where test field before +ℤ sum_where test field (drop from edges))

@@ -9,6 +9,7 @@ pub mod Orders
 pub mod Rects
 pub mod Rows
 pub mod Spans
+pub mod Stripes
 pub mod Sweeps
 pub mod Moves
 pub mod Near

@@ -1,6 +1,10 @@
-//! Where the plane is cut; any cut gives the same set.
+//! Where the plane is cut; any lines give the same set.
+
+ghost use Rattle.std.specs.Prelude.{◌≡◌, ◌<◌, length, IfOk, IfSome, OnOk};
+ghost use Rattle.rect_sets.specs.Stripes.{line_at, AreRising};
 
 use geo_base::Rect;
+use std::alloc::{AllocError, Global};
 
 // Fewer rectangles than this aren't cut.
 const FEW: usize = 64;
@@ -11,7 +15,12 @@ const FEW_LEVEL: usize = 2048;
 // A row that crosses no more rectangles than this on average is short enough.
 const SHORT_ROW: u64 = 3;
 
-// Of long lists no more than about so many rectangles are looked at to choose a line.
+// No more stripes than this are made at once, with no fewer rectangles in each on average.
+const MOST: u64 = 1024;
+
+const FEW_A_STRIPE: usize = 32;
+
+// Of long lists no more than about so many rectangles are looked at to choose lines.
 const SAMPLE: usize = 512;
 
 #[derive(Clone, Copy, Debug)]
@@ -27,28 +36,123 @@ pub struct Cut {
     pub at: i64,
 }
 
-/// What is known of some rectangles, to choose a cut by: what bounds them, about what their heights
-/// sum up to, and how many of them may be cut in two on one level.
+/// Lines across one axis, from low to high.
+#[derive(Drop)]
+pub struct Lines {
+    pub axis: Axis,
+    pub at: Vec<i64>,
+    grid: Grid,
+}
+
+impl Lines {
+    ghost use Rattle.std.specs.Prelude.{◌≡◌, ◌<◌, length};
+    ghost use Rattle.rect_sets.specs.Stripes.{line_at};
+
+    /// The line at a place.
+    pub fn line(&self, i: usize) -> Cut
+        requires { i < length self.now.at.items }
+        ensures { result ≡ line_at self.now.axis self.now.at.items i }
+    {
+        Cut {
+            axis: self.axis,
+            at: self.at[i],
+        }
+    }
+
+    /// Which stripe a place may lie in.
+    pub fn stripe_of(&self, x: i64) -> usize {
+        self.grid.stripe_of(x)
+    }
+}
+
+// Stripes of equal width.
 #[derive(Clone, Copy, Debug)]
-pub struct Plane {
+struct Grid {
+    axis: Axis,
+    low: i64,
+    width: u64,
+    count: u64,
+}
+
+impl Grid {
+    ghost use Rattle.std.specs.Prelude.{◌≡◌, IfOk};
+    ghost use Rattle.rect_sets.specs.Stripes.{AreRising};
+
+    // The stripe that a place lies in, which isn't below the first.
+    fn stripe_of(&self, x: i64) -> usize {
+        let stripe = x.abs_diff(self.low).checked_div(self.width);
+        stripe.unwrap_or(0) as usize
+    }
+
+    // How many of the lines go through a rectangle.
+    fn crossings_of(&self, rect: &Rect) -> usize {
+        let (low, high) = match self.axis {
+            Axis::X => (rect.x1, rect.x2),
+            Axis::Y => (rect.y1, rect.y2),
+        };
+        let last = self.stripe_of(high.saturating_sub(1));
+        last.saturating_sub(self.stripe_of(low))
+    }
+
+    // About how many parts the lines add to the rectangles.
+    fn crossings(&self, rects: &[Rect]) -> usize {
+        let step = 1 + rects.len() / SAMPLE;
+        let mut count = 0usize;
+        for rect in rects.iter().step_by(step) {
+            count = count.saturating_add(self.crossings_of(rect).saturating_mul(step));
+        }
+        count
+    }
+
+    fn lines(self, alloc: Global) -> Result<Lines, AllocError>
+        ensures { IfOk result (λ l. AreRising l.at.items) }
+    {
+        let width = i64::try_from(self.width).unwrap_or(i64::MAX);
+        let mut at = Vec::new(alloc);
+        let mut place = self.low;
+        for _ in 1..self.count {
+            place = place.saturating_add(width);
+            push_line(&mut at, place)?;
+        }
+        Ok(Lines {
+            axis: self.axis,
+            at,
+            grid: self,
+        })
+    }
+}
+
+// Adds a line that is further up than the others.
+fn push_line(at: &mut Vec<i64>, place: i64) -> Result<(), AllocError>
+    requires { AreRising at.old.items }
+    ensures { OnOk result (AreRising at.new.items) }
+{
+    let count = at.len();
+    if count == 0 || at[count - 1] < place {
+        at.push(place)?;
+    }
+    Ok(())
+}
+
+// What is known of some rectangles, to choose lines by: what bounds them, and the sum of their
+// heights.
+#[derive(Clone, Copy, Debug)]
+struct Plane {
     x1: i64,
     y1: i64,
     x2: i64,
     y2: i64,
     heights: u64,
-    spare: usize,
 }
 
 impl Plane {
-    /// That of the rectangles of two lists. Linear.
-    pub fn of(a: &[Rect], b: &[Rect]) -> Plane {
+    fn of(a: &[Rect], b: &[Rect]) -> Plane {
         let mut plane = Plane {
             x1: i64::MAX,
             y1: i64::MAX,
             x2: i64::MIN,
             y2: i64::MIN,
             heights: 0,
-            spare: a.len().saturating_add(b.len()).saturating_mul(2),
         };
         plane.grow(a);
         plane.grow(b);
@@ -65,90 +169,88 @@ impl Plane {
         }
     }
 
-    fn has_short_rows(&self) -> bool {
-        self.heights <= self.y2.abs_diff(self.y1).saturating_mul(SHORT_ROW)
+    // How many rectangles a row crosses on average.
+    fn row(&self) -> u64 {
+        let rows = self.y2.abs_diff(self.y1);
+        self.heights.checked_div(rows).unwrap_or(0)
     }
 
-    fn middle(&self, axis: Axis) -> Cut {
-        let at = match axis {
-            Axis::X => (self.x1 >> 1) + (self.x2 >> 1),
-            Axis::Y => (self.y1 >> 1) + (self.y2 >> 1),
+    // So many stripes, or fewer.
+    fn grid(&self, axis: Axis, count: u64) -> Grid {
+        let (low, high) = match axis {
+            Axis::X => (self.x1, self.x2),
+            Axis::Y => (self.y1, self.y2),
         };
-        Cut { axis, at }
-    }
-
-    /// A line that goes through few of the rectangles and no more than can be spared, where a cut
-    /// makes the sweep shorter. It looks at a sample of the rectangles.
-    pub fn cut_of(&self, a: &[Rect], b: &[Rect]) -> Option<Cut> {
-        let count = a.len().saturating_add(b.len());
-        if count < FEW || self.has_short_rows() {
-            return None;
+        let width = high.abs_diff(low).saturating_sub(1);
+        let width = width.checked_div(count).unwrap_or(0);
+        Grid {
+            axis,
+            low,
+            width: width.saturating_add(1),
+            count,
         }
-        let upright = self.middle(Axis::X);
-        let crossed = crossings(a, &upright).saturating_add(crossings(b, &upright));
-        if crossed <= count / 8 && crossed <= self.spare {
-            return Some(upright);
-        }
-        let level = self.middle(Axis::Y);
-        let crossed_level = crossings(a, &level).saturating_add(crossings(b, &level));
-        if FEW_LEVEL <= count && crossed_level <= count / 8 && crossed_level <= self.spare {
-            return Some(level);
-        }
-        if crossed <= count / 2 && crossed <= self.spare {
-            return Some(upright);
-        }
-        None
-    }
-
-    /// What is known of the two sides of a cut that made so many parts of so many rectangles.
-    pub fn sides(&self, cut: &Cut, count: usize, lows: usize, highs: usize) -> (Plane, Plane) {
-        let parts = lows.saturating_add(highs);
-        let left = self.spare.saturating_sub(parts.saturating_sub(count));
-        let low_spare = left.min(share(left as u64, lows, parts) as usize);
-        let low_heights = share(self.heights, lows, parts);
-        let (mut low, mut high) = (*self, *self);
-        match cut.axis {
-            Axis::X => {
-                low.x2 = cut.at;
-                high.x1 = cut.at;
-            }
-            Axis::Y => {
-                low.y2 = cut.at;
-                high.y1 = cut.at;
-            }
-        }
-        low.spare = low_spare;
-        high.spare = left.saturating_sub(low_spare);
-        low.heights = low_heights;
-        high.heights = self.heights.saturating_sub(low_heights);
-        (low, high)
     }
 }
 
-fn is_crossing(rect: &Rect, cut: &Cut) -> bool {
-    match cut.axis {
-        Axis::X => rect.x1 < cut.at && cut.at < rect.x2,
-        Axis::Y => rect.y1 < cut.at && cut.at < rect.y2,
+// Lines that go through few of the rectangles and add no more parts than can be spared, where they
+// make the sweep shorter. It looks at a sample of the rectangles.
+fn grid_of(a: &[Rect], b: &[Rect], spare: usize) -> Option<Grid> {
+    let count = a.len().saturating_add(b.len());
+    if count < FEW {
+        return None;
     }
-}
-
-// About how many of the rectangles a line goes through.
-fn crossings(rects: &[Rect], cut: &Cut) -> usize {
-    let step = 1 + rects.len() / SAMPLE;
-    let mut count = 0usize;
-    for rect in rects.iter().step_by(step) {
-        if is_crossing(rect, cut) {
-            count = count.saturating_add(step);
+    let plane = Plane::of(a, b);
+    let row = plane.row();
+    if row <= SHORT_ROW {
+        return None;
+    }
+    let added = |grid: &Grid| grid.crossings(a).saturating_add(grid.crossings(b));
+    let mut stripes = row.min(MOST).min((count / FEW_A_STRIPE) as u64);
+    stripes = stripes.min(plane.x2.abs_diff(plane.x1));
+    while 2 <= stripes {
+        let grid = plane.grid(Axis::X, stripes);
+        let parts = added(&grid);
+        let most = if stripes < 4 { count / 8 } else { count / 4 };
+        if parts <= most && parts <= spare {
+            return Some(grid);
         }
+        stripes = stripes / 2 + stripes / 4;
     }
-    count
+    let level = plane.grid(Axis::Y, 2);
+    let parts = added(&level);
+    if FEW_LEVEL <= count && 2 <= plane.y2.abs_diff(plane.y1) && parts <= count / 8 && parts <= spare {
+        return Some(level);
+    }
+    let upright = plane.grid(Axis::X, 2);
+    let parts = added(&upright);
+    if 2 <= plane.x2.abs_diff(plane.x1) && parts <= count / 2 && parts <= spare {
+        return Some(upright);
+    }
+    None
 }
 
-// The part of an amount that falls to some of all rectangles.
-fn share(amount: u64, some: usize, all: usize) -> u64 {
+/// Lines to cut two lists of rectangles by, which add no more parts than about those that can be
+/// spared; none where a cut doesn't make the sweep shorter. Linear.
+pub fn lines_of(
+    alloc: Global,
+    a: &[Rect],
+    b: &[Rect],
+    spare: usize,
+) -> Result<Option<Lines>, AllocError>
+    ensures { IfOk result (λ o. IfSome o (λ l. AreRising l.at.items)) }
+{
+    let Some(grid) = grid_of(a, b, spare) else {
+        return Ok(None);
+    };
+    let lines = grid.lines(alloc)?;
+    Ok(Some(lines))
+}
+
+/// The part of an amount that falls to some of all.
+pub fn share(amount: usize, some: usize, all: usize) -> usize {
     if all == 0 {
         return 0;
     }
-    let part = u128::from(amount).saturating_mul(some as u128) / all as u128;
-    u64::try_from(part).unwrap_or(amount)
+    let part = (amount as u128).saturating_mul(some as u128) / all as u128;
+    usize::try_from(part).unwrap_or(amount)
 }

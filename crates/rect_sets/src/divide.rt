@@ -1,109 +1,207 @@
-//! A set cut in two again and again: what touches no cut is done, and the rest is swept once more.
+//! A set cut into stripes again and again: what touches no line is done, and the rest is swept once
+//! more.
 
-ghost use Rattle.std.specs.Prelude.{◌≡◌, ◌++◌, IfOk, Bool};
+ghost use Rattle.std.specs.Prelude.{◌≡◌, ℕ, ◌+◌, ◌<◌, ◌≤◌, ◌++◌, length, IfOk, IfSome, Bool, []};
 ghost use Rattle.std.specs.List.{All};
 ghost use Rattle.geo_base.specs.Rects.{IsRect};
 ghost use Rattle.geo_base.specs.declared.shapes.Square.{Square};
 ghost use Rattle.rect_sets.specs.Sweeps.{AreBlocks};
 ghost use Rattle.rect_sets.specs.Combined.{combined_set};
-ghost use Rattle.rect_sets.specs.Divided.{lows, highs};
-ghost use Rattle.rect_sets.specs.Halves.{low_half, high_half};
+ghost use Rattle.rect_sets.specs.Stripes.{lists_of, list_at, within, done_of, rest_of, IsSwept};
+ghost use Rattle.rect_sets.specs.Stripes.{AreFirst, AreJoined, AreRising};
 
 use crate::booleans::combine;
-use crate::cuts::{Cut, Plane};
+use crate::cuts::{Cut, Lines, lines_of, share};
 use crate::parts::{sort_out, split};
 use crate::row::Rule;
 use geo_base::Rect;
 use std::alloc::{AllocError, Global};
 
-// The parts of rectangles on the lower side of a cut, and those on the upper.
-fn halves(alloc: Global, rects: &[Rect], cut: &Cut) -> Result<(Vec<Rect>, Vec<Rect>), AllocError>
-    ensures low { IfOk result (λ r. r.0.items ≡ lows cut.now rects.now) }
-    ensures high { IfOk result (λ r. r.1.items ≡ highs cut.now rects.now) }
+// A list of no rectangles for each stripe, with room for so many.
+fn no_parts(alloc: Global, lines: &Lines, room: usize) -> Result<Vec<Vec<Rect>>, AllocError>
+    ensures count { IfOk result (λ r. length (lists_of r.items) ≡ length lines.now.at.items + 1) }
+    ensures none { IfOk result (λ r. (j : ℕ) → list_at r.items j ≡ []) }
 {
-    let mut low = Vec::with_capacity(alloc, rects.len())?;
-    let mut high = Vec::with_capacity(alloc, rects.len())?;
-    split(rects, cut, &mut low, &mut high)?;
-    Ok((low, high))
+    let mut parts = Vec::new(alloc);
+    let last = Vec::with_capacity(alloc, room)?;
+    parts.push(last)?;
+    for _ in 0..lines.at.len() {
+        let part = Vec::with_capacity(alloc, room)?;
+        parts.push(part)?;
+    }
+    Ok(parts)
 }
 
-// The rectangles of a set, of those of its two halves.
-fn joined(alloc: Global, low: &[Rect], high: &[Rect], cut: &Cut) -> Result<Vec<Rect>, AllocError>
-    requires low { All IsRect low.now }
-    requires high { All IsRect high.now }
-    ensures { (set : Square → Bool) → AreBlocks (low_half set cut.now) low.now
-        → AreBlocks (high_half set cut.now) high.now → IfOk result (λ r. AreBlocks set r.items) }
+// The parts of rectangles in each stripe.
+fn stripes(alloc: Global, rects: &[Rect], lines: &Lines) -> Result<Vec<Vec<Rect>>, AllocError>
+    requires rects { All IsRect rects.now }
+    requires lines { AreRising lines.now.at.items }
+    ensures { IfOk result (λ r. AreFirst (length lines.now.at.items + 1) lines.now r.items
+        rects.now) }
 {
-    let mut done = Vec::with_capacity(alloc, low.len().saturating_add(high.len()))?;
-    let mut rest = Vec::new(alloc);
-    sort_out(low, cut, &mut done, &mut rest)?;
-    sort_out(high, cut, &mut done, &mut rest)?;
-    let swept = combine(alloc, &rest, &[], Rule::First)?;
-    done.extend_from_slice(&swept)?;
-    Ok(done)
+    let share = rects.len() / lines.at.len().saturating_add(1);
+    let mut parts = no_parts(alloc, lines, share.saturating_add(share / 2))?;
+    split(rects, lines, &mut parts)?;
+    Ok(parts)
 }
 
-// What lies on one side of a cut: the parts of two lists, and what is known of them.
+// How many rectangles there are in all.
+fn count_of(parts: &[Vec<Rect>]) -> usize {
+    let mut count = 0usize;
+    for list in parts {
+        count = count.saturating_add(list.len());
+    }
+    count
+}
+
+// Two lists in stripes, how many parts there are, and how many more cuts may add to them.
 #[derive(Drop)]
-struct Side {
-    a: Vec<Rect>,
-    b: Vec<Rect>,
-    plane: Plane,
+struct Parts {
+    lines: Lines,
+    a: Vec<Vec<Rect>>,
+    b: Vec<Vec<Rect>>,
+    count: usize,
+    spare: usize,
 }
 
-// The two sides of a cut of two lists.
-fn sides(
+// Two lists in stripes, where that makes the sweep shorter.
+fn parts_of(
     alloc: Global,
     a: &[Rect],
     b: &[Rect],
-    plane: &Plane,
-    cut: &Cut,
-) -> Result<(Side, Side), AllocError>
-    ensures low_a { IfOk result (λ r. r.0.a.items ≡ lows cut.now a.now) }
-    ensures low_b { IfOk result (λ r. r.0.b.items ≡ lows cut.now b.now) }
-    ensures high_a { IfOk result (λ r. r.1.a.items ≡ highs cut.now a.now) }
-    ensures high_b { IfOk result (λ r. r.1.b.items ≡ highs cut.now b.now) }
+    spare: usize,
+) -> Result<Option<Parts>, AllocError>
+    requires a { All IsRect a.now }
+    requires b { All IsRect b.now }
+    ensures rising { IfOk result (λ o. IfSome o (λ p. AreRising p.lines.at.items)) }
+    ensures a { IfOk result (λ o. IfSome o (λ p. AreFirst (length p.lines.at.items + 1) p.lines
+        p.a.items a.now)) }
+    ensures b { IfOk result (λ o. IfSome o (λ p. AreFirst (length p.lines.at.items + 1) p.lines
+        p.b.items b.now)) }
 {
-    let (low_a, high_a) = halves(alloc, a, cut)?;
-    let (low_b, high_b) = halves(alloc, b, cut)?;
-    let lows = low_a.len().saturating_add(low_b.len());
-    let highs = high_a.len().saturating_add(high_b.len());
-    let count = a.len().saturating_add(b.len());
-    let (low_plane, high_plane) = plane.sides(cut, count, lows, highs);
-    let low = Side {
-        a: low_a,
-        b: low_b,
-        plane: low_plane,
+    let Some(lines) = lines_of(alloc, a, b, spare)? else {
+        return Ok(None);
     };
-    let high = Side {
-        a: high_a,
-        b: high_b,
-        plane: high_plane,
-    };
-    Ok((low, high))
+    let whole = a.len().saturating_add(b.len());
+    let a = stripes(alloc, a, &lines)?;
+    let b = stripes(alloc, b, &lines)?;
+    let count = count_of(&a).saturating_add(count_of(&b));
+    Ok(Some(Parts {
+        lines,
+        a,
+        b,
+        count,
+        spare: spare.saturating_sub(count.saturating_sub(whole)),
+    }))
 }
 
-// The same as `combine` of the two lists of a side, in halves; they are let go once they are cut.
-fn combine_side(alloc: Global, side: Side, rule: Rule, depth: u32) -> Result<Vec<Rect>, AllocError>
-    requires a { All IsRect side.a.items }
-    requires b { All IsRect side.b.items }
-    ensures { IfOk result (λ r. AreBlocks (combined_set rule side.a.items side.b.items) r.items) }
+// Sweeps those of a stripe's blocks and of those above it once more that touch the line between.
+fn swept(
+    alloc: Global,
+    found: &[Rect],
+    mut rest: Vec<Rect>,
+    cut: &Cut,
+) -> Result<Vec<Rect>, AllocError>
+    requires found { All IsRect found.now }
+    requires rest { All IsRect rest.items }
+    ensures { IfOk result (λ r. IsSwept cut.now found.now rest.items r.items) }
+{
+    let mut all = Vec::new(alloc);
+    sort_out(found, cut, &mut all, &mut rest)?;
+    let joined = combine(alloc, &rest, &[], Rule::First)?;
+    all.extend_from_slice(&joined)?;
+    Ok(all)
+}
+
+// Sorts out blocks, some of the set in a stripe and those above it, by the line below it.
+fn sort_stripe(
+    alloc: Global,
+    found: &[Rect],
+    lines: &Lines,
+    i: usize,
+    done: &mut Vec<Rect>,
+) -> Result<Vec<Rect>, AllocError>
+    requires { i ≤ length lines.now.at.items }
+    ensures done { IfOk result (λ r. done.new.items ≡ done.old.items
+        ++ done_of i lines.now.axis lines.now.at.items found.now) }
+    ensures rest { IfOk result (λ r. r.items ≡ rest_of i lines.now.axis lines.now.at.items
+        found.now) }
+{
+    let mut rest = Vec::new(alloc);
+    if i == 0 {
+        done.extend_from_slice(found)?;
+    } else {
+        sort_out(found, &lines.line(i - 1), done, &mut rest)?;
+    }
+    Ok(rest)
+}
+
+// Adds the blocks in a stripe to those of the stripes above it; it gives those that touch the line
+// below it, and the others are done.
+fn join_stripe(
+    alloc: Global,
+    found: &[Rect],
+    lines: &Lines,
+    i: usize,
+    rest: Vec<Rect>,
+    done: &mut Vec<Rect>,
+) -> Result<Vec<Rect>, AllocError>
+    requires lines { AreRising lines.now.at.items }
+    requires i { i ≤ length lines.now.at.items }
+    requires found { All IsRect found.now }
+    requires rest { All IsRect rest.items }
+    ensures { (set : Square → Bool)
+        → AreBlocks (within i lines.now.axis lines.now.at.items set) found.now
+        → AreJoined (i + 1) lines.now.axis lines.now.at.items set done.old.items rest.items
+        → IfOk result (λ r. AreJoined i lines.now.axis lines.now.at.items set done.new.items
+        r.items) }
+{
+    if i == lines.at.len() {
+        let next = sort_stripe(alloc, found, lines, i, done)?;
+        return Ok(next);
+    }
+    let all = swept(alloc, found, rest, &lines.line(i))?;
+    let next = sort_stripe(alloc, &all, lines, i, done)?;
+    Ok(next)
+}
+
+// The same as `combine`, in stripes as long as that makes it faster. Cuts may add so many parts.
+fn combine_stripes(
+    alloc: Global,
+    a: &[Rect],
+    b: &[Rect],
+    rule: Rule,
+    spare: usize,
+    depth: u32,
+) -> Result<Vec<Rect>, AllocError>
+    requires a { All IsRect a.now }
+    requires b { All IsRect b.now }
+    ensures { IfOk result (λ r. AreBlocks (combined_set rule a.now b.now) r.items) }
 {
     if depth == 0 {
-        return combine(alloc, &side.a, &side.b, rule);
+        return combine(alloc, a, b, rule);
     }
-    let Some(cut) = side.plane.cut_of(&side.a, &side.b) else {
-        return combine(alloc, &side.a, &side.b, rule);
+    let Some(mut parts) = parts_of(alloc, a, b, spare)? else {
+        return combine(alloc, a, b, rule);
     };
-    let (low, high) = sides(alloc, &side.a, &side.b, &side.plane, &cut)?;
-    drop(side);
-    let low = combine_side(alloc, low, rule, depth - 1)?;
-    let high = combine_side(alloc, high, rule, depth - 1)?;
-    joined(alloc, &low, &high, &cut)
+    let mut done = Vec::new(alloc);
+    let mut rest = Vec::new(alloc);
+    let mut i = parts.a.len();
+    while 0 < i {
+        i -= 1;
+        let count = parts.a[i].len().saturating_add(parts.b[i].len());
+        let spare = share(parts.spare, count, parts.count);
+        let found = combine_stripes(alloc, &parts.a[i], &parts.b[i], rule, spare, depth - 1)?;
+        parts.a.truncate(i);
+        parts.b.truncate(i);
+        rest = join_stripe(alloc, &found, &parts.lines, i, rest, &mut done)?;
+    }
+    Ok(done)
 }
 
-/// The same as `combine`, in halves as long as that makes it faster.
-pub fn combine_halves(
+/// The same as `combine`, in parts as long as that makes it faster: on one level at most twice as
+/// many rectangles as came in are added by cuts.
+pub fn combine_parts(
     alloc: Global,
     a: &[Rect],
     b: &[Rect],
@@ -114,12 +212,6 @@ pub fn combine_halves(
     requires b { All IsRect b.now }
     ensures { IfOk result (λ r. AreBlocks (combined_set rule a.now b.now) r.items) }
 {
-    let plane = Plane::of(a, b);
-    let Some(cut) = plane.cut_of(a, b) else {
-        return combine(alloc, a, b, rule);
-    };
-    let (low, high) = sides(alloc, a, b, &plane, &cut)?;
-    let low = combine_side(alloc, low, rule, depth)?;
-    let high = combine_side(alloc, high, rule, depth)?;
-    joined(alloc, &low, &high, &cut)
+    let spare = a.len().saturating_add(b.len()).saturating_mul(2);
+    combine_stripes(alloc, a, b, rule, spare, depth)
 }

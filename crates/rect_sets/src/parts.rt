@@ -1,12 +1,24 @@
-//! Rectangles cut in two by a line, and those that touch it.
+//! Rectangles cut into parts by lines, and those that touch one.
 
-ghost use Rattle.std.specs.Prelude.{◌≡◌, ◌++◌, OnOk, [], ◌∷◌};
-ghost use Rattle.rect_sets.specs.Divided.{low_part, high_part, begins_before, ends_after, lows};
-ghost use Rattle.rect_sets.specs.Divided.{highs, touches, kept, cut_off};
+ghost use Rattle.std.specs.Prelude.{◌≡◌, ℕ, ◌+◌, ◌<◌, ◌++◌, length, OnOk, [], ◌∷◌};
+ghost use Rattle.std.specs.List.{All};
+ghost use Rattle.geo_base.specs.Rects.{IsRect};
+ghost use Rattle.rect_sets.specs.Divided.{low_end, low_part, high_part, begins_before, ends_after};
+ghost use Rattle.rect_sets.specs.Divided.{lows, touches, kept, cut_off};
+ghost use Rattle.rect_sets.specs.Stripes.{lists_of, list_at, only, AreRising, ArePassed, AreAdded};
 
-use crate::cuts::{Axis, Cut};
+use crate::cuts::{Axis, Cut, Lines};
 use geo_base::Rect;
 use std::alloc::AllocError;
+
+fn low_end(rect: &Rect, axis: Axis) -> i64
+    ensures { result ≡ low_end axis rect.now }
+{
+    match axis {
+        Axis::X => rect.x1,
+        Axis::Y => rect.y1,
+    }
+}
 
 fn begins_before(rect: &Rect, cut: &Cut) -> bool
     ensures { result ≡ begins_before cut.now rect.now }
@@ -57,37 +69,81 @@ fn high_part(rect: &Rect, cut: &Cut) -> Rect
     part
 }
 
-fn push_low(out: &mut Vec<Rect>, rect: &Rect, cut: &Cut) -> Result<(), AllocError>
-    ensures { OnOk result (out.new.items ≡ out.old.items ++ lows cut.now (rect.now ∷ [])) }
+// Adds a rectangle to one of some lists.
+fn push_at(parts: &mut Vec<Vec<Rect>>, i: usize, rect: Rect) -> Result<(), AllocError>
+    requires { i < length (lists_of parts.old.items) }
+    ensures count { OnOk result (length (lists_of parts.new.items)
+        ≡ length (lists_of parts.old.items)) }
+    ensures lists { OnOk result ((j : ℕ) → list_at parts.new.items j
+        ≡ list_at parts.old.items j ++ only i (rect ∷ []) j) }
+{
+    parts[i].push(rect)?;
+    Ok(())
+}
+
+// How many of the first lines are no further up than x: those before the one that is guessed.
+fn passed_lines(lines: &Lines, x: i64) -> usize
+    requires { AreRising lines.now.at.items }
+    ensures { ArePassed x result lines.now.at.items }
+{
+    let guess = lines.stripe_of(x);
+    if 0 < guess && guess <= lines.at.len() && lines.at[guess - 1] <= x {
+        guess
+    } else {
+        0
+    }
+}
+
+// Adds the part of a rectangle below a line.
+fn push_low(parts: &mut Vec<Vec<Rect>>, i: usize, rect: &Rect, cut: &Cut) -> Result<(), AllocError>
+    requires { i < length (lists_of parts.old.items) }
+    ensures count { OnOk result (length (lists_of parts.new.items)
+        ≡ length (lists_of parts.old.items)) }
+    ensures lists { OnOk result ((j : ℕ) → list_at parts.new.items j
+        ≡ list_at parts.old.items j ++ only i (lows cut.now (rect.now ∷ [])) j) }
 {
     if begins_before(rect, cut) {
-        out.push(low_part(rect, cut))?;
+        push_at(parts, i, low_part(rect, cut))?;
     }
     Ok(())
 }
 
-fn push_high(out: &mut Vec<Rect>, rect: &Rect, cut: &Cut) -> Result<(), AllocError>
-    ensures { OnOk result (out.new.items ≡ out.old.items ++ highs cut.now (rect.now ∷ [])) }
+// Adds the parts of a rectangle to the stripes that it reaches into.
+fn push_parts(rect: &Rect, lines: &Lines, parts: &mut Vec<Vec<Rect>>) -> Result<(), AllocError>
+    requires rect { IsRect rect.now }
+    requires lines { AreRising lines.now.at.items }
+    requires count { length (lists_of parts.old.items) ≡ length lines.now.at.items + 1 }
+    ensures count { OnOk result (length (lists_of parts.new.items)
+        ≡ length (lists_of parts.old.items)) }
+    ensures lists { OnOk result (AreAdded lines.now parts.old.items parts.new.items
+        (rect.now ∷ [])) }
 {
-    if ends_after(rect, cut) {
-        out.push(high_part(rect, cut))?;
+    let mut i = passed_lines(lines, low_end(rect, lines.axis));
+    let mut rest = *rect;
+    while i < lines.at.len() {
+        let cut = lines.line(i);
+        push_low(parts, i, &rest, &cut)?;
+        if !ends_after(&rest, &cut) {
+            return Ok(());
+        }
+        rest = high_part(&rest, &cut);
+        i += 1;
     }
+    push_at(parts, i, rest)?;
     Ok(())
 }
 
-/// Adds the parts of rectangles on the lower side of a cut, and those on the upper. Linear.
-pub fn split(
-    rects: &[Rect],
-    cut: &Cut,
-    low: &mut Vec<Rect>,
-    high: &mut Vec<Rect>,
-) -> Result<(), AllocError>
-    ensures low { OnOk result (low.new.items ≡ low.old.items ++ lows cut.now rects.now) }
-    ensures high { OnOk result (high.new.items ≡ high.old.items ++ highs cut.now rects.now) }
+/// Adds the parts of rectangles in each stripe to its list. Linear in the number of parts.
+pub fn split(rects: &[Rect], lines: &Lines, parts: &mut Vec<Vec<Rect>>) -> Result<(), AllocError>
+    requires rects { All IsRect rects.now }
+    requires lines { AreRising lines.now.at.items }
+    requires count { length (lists_of parts.old.items) ≡ length lines.now.at.items + 1 }
+    ensures count { OnOk result (length (lists_of parts.new.items)
+        ≡ length (lists_of parts.old.items)) }
+    ensures lists { OnOk result (AreAdded lines.now parts.old.items parts.new.items rects.now) }
 {
     for rect in rects {
-        push_low(low, rect, cut)?;
-        push_high(high, rect, cut)?;
+        push_parts(rect, lines, parts)?;
     }
     Ok(())
 }

@@ -8,7 +8,7 @@ ghost use Rattle.rect_sets.specs.Edges.{set_of, IsEdge, IsBalanced};
 ghost use Rattle.rect_sets.specs.Combined.{combined};
 ghost use Rattle.geo_base.specs.declared.shapes.Square.{Square};
 
-use crate::divide::combine_halves;
+use crate::divide::combine_parts;
 use crate::moves::{images, meeting, shifted};
 use crate::order::in_order;
 use crate::row::{Edge, Rule};
@@ -132,7 +132,7 @@ pub fn combine_rects(
     ensures { IfOk result (λ r. (s : Square) → covers r s
         ≡ combined rule (covers a.now s) (covers b.now s)) }
 {
-    let found = combine_halves(alloc, a, b, rule, DEEPEST)?;
+    let found = combine_parts(alloc, a, b, rule, DEEPEST)?;
     let rects = in_order(alloc, found)?;
     Ok(RectSet { rects })
 }

@@ -7,7 +7,7 @@ ghost use Rattle.rect_sets.specs.Blocks.{HaveRoom, AreSortedEdges};
 ghost use Rattle.std.specs.List.{All};
 ghost use Rattle.std.specs.List.Sorted.{IsPermutation};
 
-use crate::active::{merge, strip_end};
+use crate::active::{renew, strip_end};
 use crate::opens::step;
 use crate::row::{Edge, Rule, row_runs};
 use geo_base::Rect;
@@ -32,7 +32,7 @@ fn sorted_blocks(alloc: Global, edges: &[Edge], rule: Rule) -> Result<Vec<Rect>,
 {
     read_all(edges);
     let mut active = Vec::new(alloc);
-    let mut merged = Vec::new(alloc);
+    let mut spare = Vec::new(alloc);
     let mut runs = Vec::new(alloc);
     let mut opens = Vec::new(alloc);
     let mut next = Vec::new(alloc);
@@ -40,8 +40,7 @@ fn sorted_blocks(alloc: Global, edges: &[Edge], rule: Rule) -> Result<Vec<Rect>,
     let mut at = 0;
     let mut y = if edges.len() == 0 { 0 } else { edges[0].y1 };
     'strips: loop {
-        merge(&active, edges, &mut at, y, &mut merged)?;
-        mem::swap(&mut active, &mut merged);
+        renew(&mut active, edges, &mut at, y, &mut spare)?;
         if at == edges.len() && active.len() == 0 {
             break;
         }

@@ -1,9 +1,9 @@
-use Rattle.std.proofs.Common.{◌≡◌, ◌++◌, take}
-use Rattle.rect_sets.specs.Divided.{lows, highs}
+use Rattle.std.proofs.Common.{◌≡◌, length, take}
+use Rattle.rect_sets.specs.Stripes.{lists_of, AreAdded}
 use Rattle.rect_sets.proofs.parts.split.Given as goal
 
 abbrev pub invariant-loop-rect : goal.invariant-loop-rect
 invariant-loop-rect l = record {
-  low : l.low.items ≡ l.fn.low.items ++ lows l.cut (take l.rect-index l.rects);
-  high : l.high.items ≡ l.fn.high.items ++ highs l.cut (take l.rect-index l.rects);
+  count : length (lists_of l.parts.items) ≡ length (lists_of l.fn.parts.items);
+  lists : AreAdded l.lines l.fn.parts.items l.parts.items (take l.rect-index l.rects);
 }

@@ -19,24 +19,21 @@ strips-init c =
 
 pub row_runs-requires : goal.row_runs-requires
 row_runs-requires c =
-    let m = rw c.deref.ensures.value at c.in_ok-merge.ensures in
-    rw (c.deref-in-strips-2.ensures.value, c.swap.ensures.x_after)
-    (is_row c.args.rule c.args.edges.now (to_z w64 c.strips.y-bits) c.strips.at c.merge.new.at c.strips.active.items c.merge.new.out.items c.strips.opens.items c.strips.closed.items c.strips.invariant m c.requires.balanced)
+    rw c.deref-in-strips.ensures.value
+    (is_row c.args.rule c.args.edges.now (to_z w64 c.strips.y-bits) c.strips.at c.renew.new.at c.strips.active.items c.renew.new.active.items c.strips.opens.items c.strips.closed.items c.strips.invariant c.in_ok-renew.ensures c.requires.balanced)
 
 pub strips-preserved : goal.strips-preserved
 strips-preserved c =
     let fe : SFits w64 c.strip_end-end.result = search rules in
-    let m = rw c.deref.ensures.value at c.in_ok-merge.ensures in
-    let e = rw (c.deref-in-strips.ensures.value, c.swap.ensures.x_after) at c.strip_end-end.ensures in
-    let r = rw (c.deref-in-strips-2.ensures.value, c.swap.ensures.x_after) at c.in_ok-row_runs.ensures in
-    let n = rw (c.deref-in-strips-3.ensures.value, c.deref-in-strips-4.ensures.value) at c.in_ok-step.ensures.next in
-    let d = rw (c.deref-in-strips-3.ensures.value, c.deref-in-strips-4.ensures.value) at c.in_ok-step.ensures.closed in
-    rw (to_z-of_z w64 c.strip_end-end.result fe, c.swap.ensures.x_after, c.swap-in-strips.ensures.x_after)
-    (next_state c.args.rule c.args.edges.now (to_z w64 c.strips.y-bits) c.strip_end-end.result c.strips.at c.merge.new.at c.strips.active.items c.merge.new.out.items c.strips.opens.items c.step.new.next.items c.strips.closed.items c.step.new.closed.items c.row_runs.new.out.items c.strips.invariant m e r n d)
+    let e = rw c.deref.ensures.value at c.strip_end-end.ensures in
+    let r = rw c.deref-in-strips.ensures.value at c.in_ok-row_runs.ensures in
+    let n = rw (c.deref-in-strips-2.ensures.value, c.deref-in-strips-3.ensures.value) at c.in_ok-step.ensures.next in
+    let d = rw (c.deref-in-strips-2.ensures.value, c.deref-in-strips-3.ensures.value) at c.in_ok-step.ensures.closed in
+    rw (to_z-of_z w64 c.strip_end-end.result fe, c.swap.ensures.x_after)
+    (next_state c.args.rule c.args.edges.now (to_z w64 c.strips.y-bits) c.strip_end-end.result c.strips.at c.renew.new.at c.strips.active.items c.renew.new.active.items c.strips.opens.items c.step.new.next.items c.strips.closed.items c.step.new.closed.items c.row_runs.new.out.items c.strips.invariant c.in_ok-renew.ensures e r n d)
 
 pub returns : goal.returns
 returns c =
-    let m = rw c.deref.ensures.value at c.in_ok-merge.ensures in
     let d = rw (c.deref-2.ensures.value, c.deref-3.ensures.value, c.clear.ensures.items) at c.in_ok-step-2.ensures.closed in
-    let count : length c.merge.new.out.items ≡ 0 = subst (λ (v : Vec Edge Global). length v.items ≡ 0) c.swap.ensures.x_after (omega (arith, c.swap.new.x.ok.0)) in
-    all_blocks c.args.rule c.args.edges.now (to_z w64 c.strips.y-bits) c.strips.at c.merge.new.at c.strips.active.items c.merge.new.out.items c.strips.opens.items c.strips.closed.items c.step-2.new.closed.items c.strips.invariant m (omega arith) (nil_from_length c.merge.new.out.items count) d
+    let count : length c.renew.new.active.items ≡ 0 = omega (arith, c.renew.new.active.ok.0) in
+    all_blocks c.args.rule c.args.edges.now (to_z w64 c.strips.y-bits) c.strips.at c.renew.new.at c.strips.active.items c.renew.new.active.items c.strips.opens.items c.strips.closed.items c.step-2.new.closed.items c.strips.invariant c.in_ok-renew.ensures (omega arith) (nil_from_length c.renew.new.active.items count) d
