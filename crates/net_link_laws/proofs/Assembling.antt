@@ -12,25 +12,12 @@ use Rattle.net_link_laws.proofs.Grounds.{found_reach}
 use Rattle.net_link_laws.proofs.Held.{no_square}
 use Rattle.net_link_laws.proofs.Looking.{contact_links, near_unmoved}
 use Rattle.net_link_laws.proofs.Numbering.{one_place, apart_items}
-use Rattle.net_link_laws.specs.Found.{Stands, AreOne, IsSquareLink, AreItemLinks, AreAllFound}
+use Rattle.net_link_laws.specs.Found.{Stands, IsSquareLink, AreItemLinks, AreAllFound}
 use Rattle.net_link_laws.specs.Laws.{AllLaw}
 use Rattle.net_link_laws.specs.Windows.{AreInContact}
 use Rattle.plain_netlist.proofs.Links.{stays, single}
-use Rattle.plain_netlist.specs.Chains.{Reaches}
-
-linked_back : (ls : List Link) (i j : ℕ) → IsLinked ls i j → IsLinked ls j i
-linked_back [] i j h = absurd h
-linked_back (l ∷ ls) i j (inl (inl e)) = inl (inr e)
-linked_back (l ∷ ls) i j (inl (inr e)) = inl (inl e)
-linked_back (l ∷ ls) i j (inr h) = inr (linked_back ls i j h)
-
-pub one_back : (ls : List Link) (i j : ℕ) → AreOne ls i j → AreOne ls j i
-one_back ls i j (inl e) = inl (sym e)
-one_back ls i j (inr h) = inr (linked_back ls i j h)
-
-one_reaches : (ls : List Link) (i j : ℕ) → AreOne ls i j → Reaches (IsLinked ls) i j
-one_reaches ls i j (inl e) = stays (IsLinked ls) i j e
-one_reaches ls i j (inr h) = single (IsLinked ls) i j h
+use Rattle.touching_pieces.proofs.Chains.{one_back}
+use Rattle.touching_pieces.specs.Pairs.{AreOne}
 
 pub square_back : (d : Design) (w : Wiring) (t : Tables) (cell : ℕ) (a b : Item) → IsSquareLink d w t cell a b → IsSquareLink d w t cell b a
 square_back d w t cell a b s =
@@ -38,7 +25,7 @@ square_back d w t cell a b s =
     record { from = s.to; to = s.from; one = s.other; other = s.one; p = s.q; q = s.p; held = s.others; others = s.held; joined = turned.0; near = turned.1 }
 
 -- two nets of one placement that touch are one
-one_child : (d : Design) (w : Wiring) (t : Tables) (p : Place) (x y : ℕ) → AreNets d w t p.cell (t.nets p.cell) → AreInContact d w t p p x y → x ≡ y
+pub one_child : (d : Design) (w : Wiring) (t : Tables) (p : Place) (x y : ℕ) → AreNets d w t p.cell (t.nets p.cell) → AreInContact d w t p p x y → x ≡ y
 one_child d w t p x y nets h =
     let v = t.nets p.cell in
     let link : IsItemLink d w t p.cell h.held.item h.others.item = record {
@@ -59,7 +46,7 @@ module _ (d : Design) (w : Wiring) (t : Tables) (cell : ℕ) (links : List Link)
       let placed : IsPlaced d cell k p = s.from.1 in
       let contact = (contact_links d w t cell k x k y p p placed placed s.from s.to).0 s in
       let e : x ≡ y = one_child d w t p x y (right.nets k p.cell p placed ([], refl)) contact in
-      inl (one_place (items_of d w t cell) i j (Child k y) (apart_items d w t cell) (subst (λ n. Stands d w t cell i (Child k n)) e h) g)
+      stays (IsLinked links) i j (one_place (items_of d w t cell) i j (Child k y) (apart_items d w t cell) (subst (λ n. Stands d w t cell i (Child k n)) e h) g)
 
   squares : (i j : ℕ) (a b : Item) → Stands d w t cell i a → Stands d w t cell j b → IsSquareLink d w t cell a b → AreOne links i j
   squares i j (Own c r) (Own e s) h g l = all.own i j c r e s h g l
@@ -78,10 +65,10 @@ module _ (d : Design) (w : Wiring) (t : Tables) (cell : ℕ) (links : List Link)
   pub item_links : AreItemLinks d w t cell links
   item_links = record {
     each = λ i j h. let f = all.each i j h in (f.0, f.1, f.2, f.3, found_reach d w t cell right f.0 f.1 f.4);
-    found = λ i j a b h g l. one_reaches links i j (elim l [
+    found = λ i j a b h g l. elim l [
       | inl s ↦ squares i j a b h g s
       | inr m ↦ elim m [ inl o ↦ all.globals i j a b h g o | inr o ↦ one_back links j i (all.globals j i b a g h o) ]
-    ]);
+    ];
   }
 
 pub all_found : AllLaw

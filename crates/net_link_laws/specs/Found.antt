@@ -10,6 +10,7 @@ use Rattle.geo_base.specs.declared.shapes.Square.{Square}
 use Rattle.link_classes.specs.Classes.{IsLinked}
 use Rattle.link_classes.specs.declared.classes.Link.{Link}
 use Rattle.plain_netlist.specs.Chains.{Reaches}
+use Rattle.touching_pieces.specs.Pairs.{AreOne}
 
 -- squares of the two touch
 pub record IsSquareLink (d : Design) (w : Wiring) (t : Tables) (cell : ℕ)
@@ -54,18 +55,15 @@ pub record AreItemLinks (d : Design) (w : Wiring) (t : Tables) (cell : ℕ)
       × (slice_get (items_of d w t cell) i ≡ Some a) × (slice_get (items_of d w t cell) j ≡ Some b)
       × Reaches (IsItemLink d w t cell) a b
   pub found : (i j : ℕ) (a b : Item) → slice_get (items_of d w t cell) i ≡ Some a
-      → slice_get (items_of d w t cell) j ≡ Some b → IsFoundLink d w t cell a b
-      → Reaches (IsLinked links) i j
+      → slice_get (items_of d w t cell) j ≡ Some b → IsFoundLink d w t cell a b → AreOne links i j
 
 -- the item stands at a place of the list
 abbrev pub Stands : Design → Wiring → Tables → ℕ → ℕ → Item → Type 0
 Stands d w t cell i a = slice_get (items_of d w t cell) i ≡ Some a
 
-abbrev pub AreOne : List Link → ℕ → ℕ → Type 0
-AreOne links i j = (i ≡ j) ⊎ IsLinked links i j
-
--- each link is one of a found link; and found are those between rectangles, between a rectangle and
--- a placed cell's net, between nets of different placements, and those to globals
+-- each link is one of a found link; and chains of links join what found links join between
+-- rectangles, between a rectangle and a placed cell's net, between nets of different placements, and
+-- to globals
 pub record AreAllFound (d : Design) (w : Wiring) (t : Tables) (cell : ℕ)
     (links : List Link) : Type 0 where
   pub each : (i j : ℕ) → IsLinked links i j → (a : Item) × (b : Item) × Stands d w t cell i a

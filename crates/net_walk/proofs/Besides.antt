@@ -14,7 +14,9 @@ use Rattle.link_classes.specs.Classes.{IsLinked, IsOf}
 use Rattle.link_classes.specs.declared.classes.Link.{Link}
 use Rattle.net_link_laws.proofs.Held.{own_held, child_held_at, square_below}
 use Rattle.net_link_laws.proofs.Looking.{near_grown}
-use Rattle.net_link_laws.specs.Found.{AreOne, IsSquareLink}
+use Rattle.net_link_laws.specs.Found.{IsSquareLink}
+use Rattle.touching_pieces.proofs.Chains.{one_on}
+use Rattle.touching_pieces.specs.Pairs.{AreOne}
 use Rattle.net_link_laws.specs.Places.{owned_before, places_of}
 use Rattle.net_link_laws.specs.Windows.{grown}
 use Rattle.net_walk.proofs.Adding.{nowhere}
@@ -53,10 +55,7 @@ piece_added d w t cell n o k old links is h = record {
       let first = ap (owned_before t cell) e in
       let same : is.number ≡ r = omega (arith, at, first, f) in
       let link : IsSquareLink d w t cell (Own o.conductor is.number) (Child k x) = subst (λ i. IsSquareLink d w t cell (Own i is.number) (Child k x)) (sym e) (subst (λ i. IsSquareLink d w t cell (Own c i) (Child k x)) (sym same) s) in
-      let one = elim (h.found x link) as (λ _. AreOne (old ++ links) (owned_before t cell o.conductor + is.number) (first_of d w t cell k + x)) [
-        | inl a ↦ inl a
-        | inr b ↦ inr (linked_right old links (owned_before t cell o.conductor + is.number) (first_of d w t cell k + x) b)
-      ] in
+      let one = one_on links (old ++ links) (linked_right old links) (owned_before t cell o.conductor + is.number) (first_of d w t cell k + x) (h.found x link) in
       let place : owned_before t cell o.conductor + is.number ≡ owned_before t cell c + r = omega (arith, at, f) in
       subst (λ i. AreOne (old ++ links) i (first_of d w t cell k + x)) place one;
 }
@@ -128,7 +127,7 @@ beside_more d w t cell from pairs n o old mid new lt h g =
       kept = λ i j k. g.kept i j (h.kept i j k);
       each = λ i j k. elim (g.each i j k) [ inl a ↦ h.each i j a | inr b ↦ inr b ];
       found = λ c r k x m s. elim (linked_cut ls pair (owned_before t cell c + r) (from + k) m) [
-        | inl a ↦ elim (h.found c r k x a s) [ inl e ↦ inl e | inr b ↦ inr (g.kept (owned_before t cell c + r) (first_of d w t cell k + x) b) ]
+        | inl a ↦ one_on mid new g.kept (owned_before t cell c + r) (first_of d w t cell k + x) (h.found c r k x a s)
         | inr b ↦ g.found c r k x (inl b) s
       ];
     } in

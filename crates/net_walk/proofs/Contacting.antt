@@ -1,6 +1,7 @@
 -- Contacts of two placed cells, and their replay as links of a cell's items.
-use Rattle.std.proofs.Common.{◌≡◌, ◌⊎◌, ◌↔◌, inl, inr, ℕ, zero, suc, ◌+◌, ◌-◌, ◌<◌, ◌≤◌, List, [], ◌∷◌, ◌++◌, Some, slice_get, get_or, length, take, refl, sym, ◌∙◌, ap, subst, arith}
+use Rattle.std.proofs.Common.{◌≡◌, true, false, nat_lt, if◌then◌else◌, ◌⊎◌, ◌↔◌, inl, inr, ℕ, zero, suc, ◌+◌, ◌-◌, ◌<◌, ◌≤◌, List, [], ◌∷◌, ◌++◌, Some, slice_get, get_or, length, take, refl, sym, ◌∙◌, ap, subst, arith}
 use Rattle.std.proofs.Math.Seq.{take-length}
+use Rattle.std.proofs.lemmas.Bool.{le-ltb, lt-ltb}
 use Rattle.std.proofs.lemmas.List.{take_more}
 use Rattle.flat_laws.proofs.Items.{placed_at}
 use Rattle.flat_layout.specs.Layout.{Design, IsPlaced, Place}
@@ -10,24 +11,28 @@ use Rattle.flat_layout.specs.Regions.{At, IsJoined, Wiring}
 use Rattle.geo_base.specs.Motions.{moved_square}
 use Rattle.geo_base.specs.declared.shapes.Rect.{Rect}
 use Rattle.geo_base.specs.declared.shapes.Square.{Square}
+use Rattle.link_classes.specs.Classes.{IsLinked}
 use Rattle.link_classes.specs.declared.classes.Link.{Link}
-use Rattle.net_link_laws.proofs.Assembling.{square_back}
+use Rattle.net_link_laws.proofs.Assembling.{one_child, square_back}
 use Rattle.net_link_laws.proofs.Held.{conductor}
 use Rattle.net_link_laws.proofs.Looking.{contact_links}
 use Rattle.net_link_laws.proofs.Standing.{child_place}
 use Rattle.net_link_laws.specs.Found.{IsSquareLink}
 use Rattle.net_link_laws.specs.Laws.{AreNetsUnder}
 use Rattle.net_link_laws.specs.Places.{nets_before, owned_before, places_of}
-use Rattle.net_link_laws.specs.Windows.{IsEnoughFor}
+use Rattle.net_link_laws.specs.Windows.{AreInContact, IsEnoughFor}
 use Rattle.net_walk.proofs.Alikes.{same_contacts}
 use Rattle.net_walk.proofs.Pairing.{linked_left, linked_right}
 use Rattle.net_walk.proofs.Spanning.{linked_cut, no_link}
 use Rattle.net_walk.specs.Contacts.{AddsAcross, AreContacts, IsAcross, IsBeside, IsFromTo, IsReplayed, LieSo}
 use Rattle.net_walk.specs.Pairs.{AddsPair, AreNeverNear, first_of}
-use Rattle.net_walk.specs.Seen.{AreLinksOver, IsSeen, IsSeenOfTwo}
+use Rattle.net_walk.specs.Seen.{AreLinksOver, AreNearOver, IsSeen, IsSeenOfTwo}
 use Rattle.net_walk.specs.declared.contacts.Beside.{Beside}
-use Rattle.touching_pieces.proofs.Links.{added_both, added_none, added_one}
-use Rattle.touching_pieces.specs.Pairs.{AddsLinks, AreJoined}
+use Rattle.plain_netlist.proofs.Links.{along, single, stays}
+use Rattle.plain_netlist.specs.Chains.{Reaches}
+use Rattle.touching_pieces.proofs.Chains.{one_back, one_of}
+use Rattle.touching_pieces.proofs.Links.{added_both, added_none, added_one, linked_back}
+use Rattle.touching_pieces.specs.Pairs.{AddsLinks, AreJoined, AreOne}
 use Rattle.touching_pieces.specs.declared.conductors.Joined.{Joined}
 
 -- ---- lists of contacts
@@ -136,59 +141,119 @@ module _ (d : Design) (w : Wiring) (t : Tables) (p q : Place) (nets : AreNetsUnd
   pub second_below : (c x : ℕ) (m : Square) → NetHolds d t q.cell x (At c m) → x < (t.nets q.cell).count
   second_below c x m h = (nets_too q.cell ([], refl)).below h.index x h.is_of.numbered
 
-  -- links in a window that is enough, the other's nets counted from the first one's count on, say
-  -- across that what is in contact
-  pub window_contacts : (window : Rect) (joins : List Joined) (count : ℕ) (links contacts : List Link) → IsEnoughFor d t p q window → ((c e : ℕ) → AreJoined joins c e ↔ IsJoined w c e) → count ≡ (t.nets p.cell).count
-      → AreLinksOver joins (IsSeenOfTwo d t window (length w.conductors) p 0 q count) links → ((x y : ℕ) → IsFromTo contacts x y ↔ IsAcross links count x y) → AreContacts d w t p q contacts
-  window_contacts window joins count links contacts enough same is over list = λ x y. (
-    (λ h.
+  -- squares that are near, of conductors that are joined, are of nets in contact
+  contact_of : (window : Rect) (joins : List Joined) (r s : Place) (n at other_at i j : ℕ) (R : ℕ → ℕ → Square → Type 0) → ((c e : ℕ) → AreJoined joins c e ↔ IsJoined w c e) → (near : AreNearOver joins R i j)
+      → (one : IsSeen d t r window at n near.c i near.p) → (two : IsSeen d t s window other_at n near.e j near.q) → AreInContact d w t r s one.net two.net
+  contact_of window joins r s n at other_at i j R same near one two = record {
+    c = near.c;
+    e = near.e;
+    joined = (same near.c near.e).0 near.joined;
+    m = one.square;
+    n = two.square;
+    held = one.holds;
+    others = two.holds;
+    near = subst (λ (v : Square). IsNear v (moved_square s.motion two.square)) (sym one.image) (subst (λ (v : Square). IsNear near.p v) (sym two.image) near.near);
+  }
+
+  module _ (window : Rect) (joins : List Joined) (count : ℕ) (links contacts : List Link) (enough : IsEnoughFor d t p q window) (same : (c e : ℕ) → AreJoined joins c e ↔ IsJoined w c e) (is : count ≡ (t.nets p.cell).count)
+      (over : AreLinksOver joins (IsSeenOfTwo d t window (length w.conductors) p 0 q count) links) (list : (x y : ℕ) → IsFromTo contacts x y ↔ IsAcross links count x y) where
+    abbrev Two : ℕ → ℕ → Square → Type 0
+    Two = IsSeenOfTwo d t window (length w.conductors) p 0 q count
+
+    low : (c i : ℕ) (v : Square) → IsSeen d t p window 0 (length w.conductors) c i v → i < count
+    low c i v s = let e = s.item in let b = first_below c s.net s.square s.holds in omega (arith, e, b, is)
+
+    high : (c i : ℕ) (v : Square) → IsSeen d t q window count (length w.conductors) c i v → count ≤ i
+    high c i v s = let e = s.item in omega (arith, e)
+
+    contact_each : (x y : ℕ) → IsFromTo contacts x y → AreInContact d w t p q x y
+    contact_each x y h =
         let a = (list x y).0 h in
         let lt = a.0 in
         let near = over.each x (count + y) a.1 in
-        let one : IsSeen d t p window 0 (length w.conductors) near.c x near.p = elim near.over [
-          | inl s ↦ s
-          | inr s ↦ absurd (let e = s.item in let z : ⊥ = omega (arith, e, lt) in z)
-        ] in
-        let two : IsSeen d t q window count (length w.conductors) near.e (count + y) near.q = elim near.over_too [
-          | inl s ↦ absurd (let e = s.item in let b = first_below near.e s.net s.square s.holds in let z : ⊥ = omega (arith, e, b, is) in z)
-          | inr s ↦ s
-        ] in
-        let one_item = one.item in let two_item = two.item in
+        let one : IsSeen d t p window 0 (length w.conductors) near.c x near.p = elim near.over [ inl s ↦ s | inr s ↦ absurd (let b = high near.c x near.p s in let z : ⊥ = omega (arith, b, lt) in z) ] in
+        let two : IsSeen d t q window count (length w.conductors) near.e (count + y) near.q = elim near.over_too [ inl s ↦ absurd (let b = low near.e (count + y) near.q s in let z : ⊥ = omega (arith, b) in z) | inr s ↦ s ] in
+        let one_item = one.item in
+        let two_item = two.item in
         let net : one.net ≡ x = omega (arith, one_item) in
         let net_too : two.net ≡ y = omega (arith, two_item) in
-        record {
-          c = near.c;
-          e = near.e;
-          joined = (same near.c near.e).0 near.joined;
-          m = one.square;
-          n = two.square;
-          held = subst (λ i. NetHolds d t p.cell i (At near.c one.square)) net one.holds;
-          others = subst (λ i. NetHolds d t q.cell i (At near.e two.square)) net_too two.holds;
-          near = subst (λ (s : Square). IsNear s (moved_square q.motion two.square)) (sym one.image) (subst (λ (s : Square). IsNear near.p s) (sym two.image) near.near);
-        }),
-    (λ k.
-        let both = enough k.c k.e x y k.m k.n k.held k.others k.near in
-        let known = conductor d w t p.cell x k.c k.m nets k.held in
-        let known_too = conductor d w t q.cell y k.e k.n nets_too k.others in
-        let b = first_below k.c x k.m k.held in
-        let lt : x < count = omega (arith, b, is) in
-        let z : 0 + x ≡ x = omega arith in
-        let one : IsSeen d t p window 0 (length w.conductors) k.c x (moved_square p.motion k.m) = record { known = known; net = x; square = k.m; holds = k.held; item = z; image = refl; within = both.0 } in
-        let two : IsSeen d t q window count (length w.conductors) k.e (count + y) (moved_square q.motion k.n) = record { known = known_too; net = y; square = k.n; holds = k.others; item = refl; image = refl; within = both.1 } in
-        elim (over.found x (count + y) (record { c = k.c; e = k.e; p = moved_square p.motion k.m; q = moved_square q.motion k.n; joined = (same k.c k.e).1 k.joined; over = inl one; over_too = inr two; near = k.near })) [
-          | inl e ↦ absurd (let g : x ≡ count + y = e in let u : ⊥ = omega (arith, g, lt) in u)
-          | inr l ↦ (list x y).1 (lt, l)
-        ]),
-  )
+        subst (λ u. AreInContact d w t p q u y) net (subst (λ u. AreInContact d w t p q one.net u) net_too (contact_of window joins p q (length w.conductors) 0 count x (count + y) Two same near one two))
+
+    -- where the item of a number stands when nets stand from other places on
+    module _ (at other_at : ℕ) where
+      abbrev S : ℕ → ℕ → Type 0
+      S = λ i j. IsReplayed contacts at other_at i j ⊎ IsReplayed contacts at other_at j i
+
+      abbrev place : ℕ → ℕ
+      place i = if nat_lt i count then at + i else other_at + (i - count)
+
+      place_low : (i : ℕ) → i < count → place i ≡ at + i
+      place_low i lt = let e : nat_lt i count ≡ true = lt-ltb i count lt in rw e refl
+
+      place_high : (i : ℕ) → count ≤ i → place i ≡ other_at + (i - count)
+      place_high i le = let e : nat_lt i count ≡ false = le-ltb i count le in rw e refl
+
+      across_step : (a b : ℕ) → a < count → count ≤ b → IsLinked links a b → IsReplayed contacts at other_at (place a) (place b)
+      across_step a b lt le h =
+          let z : b ≡ count + (b - count) = omega (arith, le) in
+          let from : IsFromTo contacts a (b - count) = (list a (b - count)).1 (lt, subst (λ u. IsLinked links a u) z h) in
+          (a, b - count, from, sym (place_low a lt), sym (place_high b le))
+
+      same_step : (a b : ℕ) → a ≡ b → Reaches S (place a) (place b)
+      same_step a b e = stays S (place a) (place b) (ap place e)
+
+      step : (a b : ℕ) → IsLinked links a b → Reaches S (place a) (place b)
+      step a b h =
+          let near = over.each a b h in
+          elim near.over [
+            | inl s ↦ elim near.over_too [
+              | inl r ↦
+                  let e = s.item in
+                  let f = r.item in
+                  let one : s.net ≡ r.net = one_child d w t p s.net r.net (nets p.cell ([], refl)) (contact_of window joins p p (length w.conductors) 0 0 a b Two same near s r) in
+                  same_step a b (omega (arith, e, f, one))
+              | inr r ↦ single S (place a) (place b) (inl (across_step a b (low near.c a near.p s) (high near.e b near.q r) h))
+            ]
+            | inr s ↦ elim near.over_too [
+              | inl r ↦ single S (place a) (place b) (inr (across_step b a (low near.e b near.q r) (high near.c a near.p s) (linked_back links a b h)))
+              | inr r ↦
+                  let e = s.item in
+                  let f = r.item in
+                  let one : s.net ≡ r.net = one_child d w t q s.net r.net (nets_too q.cell ([], refl)) (contact_of window joins q q (length w.conductors) count count a b Two same near s r) in
+                  same_step a b (omega (arith, e, f, one))
+            ]
+          ]
+
+      contact_found : (x y : ℕ) → AreInContact d w t p q x y → Reaches S (at + x) (other_at + y)
+      contact_found x y k =
+          let both = enough k.c k.e x y k.m k.n k.held k.others k.near in
+          let known = conductor d w t p.cell x k.c k.m nets k.held in
+          let known_too = conductor d w t q.cell y k.e k.n nets_too k.others in
+          let b = first_below k.c x k.m k.held in
+          let lt : x < count = omega (arith, b, is) in
+          let le : count ≤ count + y = omega arith in
+          let z : 0 + x ≡ x = omega arith in
+          let one : IsSeen d t p window 0 (length w.conductors) k.c x (moved_square p.motion k.m) = record { known = known; net = x; square = k.m; holds = k.held; item = z; image = refl; within = both.0 } in
+          let two : IsSeen d t q window count (length w.conductors) k.e (count + y) (moved_square q.motion k.n) = record { known = known_too; net = y; square = k.n; holds = k.others; item = refl; image = refl; within = both.1 } in
+          let way = over.found x (count + y) (record { c = k.c; e = k.e; p = moved_square p.motion k.m; q = moved_square q.motion k.n; joined = (same k.c k.e).1 k.joined; over = inl one; over_too = inr two; near = k.near }) in
+          let moved : Reaches S (place x) (place (count + y)) = along (IsLinked links) S place step x (count + y) way in
+          let f : count + y - count ≡ y = omega arith in
+          let end : place (count + y) ≡ other_at + y = place_high (count + y) le ∙ ap (λ u. other_at + u) f in
+          subst (λ u. Reaches S u (other_at + y)) (place_low x lt) (subst (λ u. Reaches S (place x) u) end moved)
+
+    -- links in a window that is enough, the other's nets counted from the first one's count on, say
+    -- across that what is in contact
+    pub window_contacts : AreContacts d w t p q contacts
+    window_contacts = record { each = contact_each; found = λ x y k at other_at. contact_found at other_at x y k }
 
 pub no_contacts : (d : Design) (w : Wiring) (t : Tables) (p q : Place) → AreNeverNear d t p q → AreContacts d w t p q []
-no_contacts d w t p q none = λ x y. ((λ h. absurd h), (λ k. absurd (none k.c k.e x y k.m k.n k.held k.others k.near)))
+no_contacts d w t p q none = record { each = λ x y h. absurd h; found = λ x y k at other_at. absurd (none k.c k.e x y k.m k.n k.held k.others k.near) }
 
 -- contacts of one pair are those of each that lies so
 pub beside_all : (d : Design) (w : Wiring) (t : Tables) (p q : Place) (b : Beside) → LieSo p q b → AreContacts d w t p q b.contacts.items → IsBeside d w t b
-beside_all d w t p q b lie are = λ r s so. λ x y.
-    let a = same_contacts d w t p q r s b.motion x y (so.one ∙ sym lie.one) (so.other ∙ sym lie.other) lie.motion so.motion in
-    ((λ h. a.0 ((are x y).0 h)), (λ k. (are x y).1 (a.1 k)))
+beside_all d w t p q b lie are = λ r s so.
+    let alike : (x y : ℕ) → AreInContact d w t p q x y ↔ AreInContact d w t r s x y = λ x y. same_contacts d w t p q r s b.motion x y (so.one ∙ sym lie.one) (so.other ∙ sym lie.other) lie.motion so.motion in
+    record { each = λ x y h. (alike x y).0 (are.each x y h); found = λ x y k. are.found x y ((alike x y).1 k) }
 
 -- ---- their replay
 
@@ -231,7 +296,11 @@ replayed_pair d w t cell k l p q contacts at other_at old new right there there_
   ];
   found = λ x y s.
       let m = (contact_links d w t cell k x l y p q placed placed_too s.from s.to).0 s in
-      h.found (first_of d w t cell k + x) (first_of d w t cell l + y) (x, y, (are x y).1 m, ap (λ n. n + x) is, ap (λ n. n + y) is_too);
+      let way : AreOne new (at + x) (other_at + y) = along (λ i j. IsReplayed contacts at other_at i j ⊎ IsReplayed contacts at other_at j i) (IsLinked new) (λ v. v) (λ i j e. elim e [
+        | inl a ↦ one_of new i j (h.found i j a)
+        | inr b ↦ one_back new j i (one_of new j i (h.found j i b))
+      ]) (at + x) (other_at + y) (are.found x y m at other_at) in
+      subst (λ u. AreOne new u (first_of d w t cell l + y)) (ap (λ n. n + x) is) (subst (λ u. AreOne new (at + x) u) (ap (λ n. n + y) is_too) way);
 }
   where
     placed : IsPlaced d cell k p
@@ -242,7 +311,7 @@ replayed_pair d w t cell k l p q contacts at other_at old new right there there_
 
     below : (x y : ℕ) → IsFromTo contacts x y → (x < (t.nets p.cell).count) × (y < (t.nets q.cell).count)
     below x y f =
-        let m = (are x y).0 f in (
+        let m = are.each x y f in (
           first_below d w t p q (λ e u. right.nets k e p placed u) (λ e u. right.nets l e q placed_too u) m.c x m.m m.held,
           second_below d w t p q (λ e u. right.nets k e p placed u) (λ e u. right.nets l e q placed_too u) m.e y m.n m.others,
         )
@@ -250,7 +319,7 @@ replayed_pair d w t cell k l p q contacts at other_at old new right there there_
     square : (x y : ℕ) → IsFromTo contacts x y → IsSquareLink d w t cell (Child k x) (Child l y)
     square x y f =
         let b = below x y f in
-        (contact_links d w t cell k x l y p q placed placed_too (p, placed, b.0) (q, placed_too, b.1)).1 ((are x y).0 f)
+        (contact_links d w t cell k x l y p q placed placed_too (p, placed, b.0) (q, placed_too, b.1)).1 (are.each x y f)
 
     at_one : (i x y : ℕ) → IsFromTo contacts x y → at + x ≡ i → slice_get (items_of d w t cell) i ≡ Some (Child k x)
     at_one i x y f e =

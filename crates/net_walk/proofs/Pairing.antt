@@ -20,6 +20,7 @@ use Rattle.net_link_laws.specs.Windows.{common, grown}
 use Rattle.net_link_laws.specs.Places.{owned_before, nets_before, places_of}
 use Rattle.net_walk.specs.Pairs.{first_of, ArePairLinks, PairLaw, AddsPair, AreNeverNear, IsWindowFor}
 use Rattle.net_walk.specs.Seen.{IsSeen, IsSeenOfTwo}
+use Rattle.touching_pieces.proofs.Chains.{one_on}
 
 -- an item of a cell that holds a square
 pub record HoldsSquare (d : Design) (w : Wiring) (t : Tables) (cell i c : ℕ) (q : Square) : Type 0 where
@@ -93,7 +94,7 @@ pub pair_added : (d : Design) (w : Wiring) (t : Tables) (cell k l : ℕ) (old li
 pair_added d w t cell k l old links h = record {
   kept = linked_left old links;
   each = λ i j g. elim (linked_either old links i j g) [ inl a ↦ inl a | inr b ↦ inr (h.each i j b) ];
-  found = λ x y g. elim (h.found x y g) [ inl e ↦ inl e | inr m ↦ inr (linked_right old links (first_of d w t cell k + x) (first_of d w t cell l + y) m) ];
+  found = λ x y g. one_on links (old ++ links) (linked_right old links) (first_of d w t cell k + x) (first_of d w t cell l + y) (h.found x y g);
 }
 
 pub pair_none : (d : Design) (w : Wiring) (t : Tables) (cell k l : ℕ) (p q : Place) (old : List Link) → slice_get (places_of d cell) k ≡ Some p → slice_get (places_of d cell) l ≡ Some q → AreNeverNear d t p q → AddsPair d w t cell k l old old

@@ -13,7 +13,8 @@ use Rattle.geo_base.specs.Motions.{moved_square}
 use Rattle.geo_base.specs.declared.shapes.Rect.{Rect}
 use Rattle.link_classes.specs.Classes.{IsLinked, IsOf, AreInRange}
 use Rattle.link_classes.specs.declared.classes.Link.{Link}
-use Rattle.net_link_laws.proofs.Assembling.{square_back, one_back}
+use Rattle.net_link_laws.proofs.Assembling.{square_back}
+use Rattle.touching_pieces.proofs.Chains.{one_back, one_on}
 use Rattle.net_link_laws.proofs.Looking.{contact_links, hulls}
 use Rattle.net_link_laws.proofs.Standing.{items_long, nets_under}
 use Rattle.net_link_laws.specs.Found.{IsSquareLink}
@@ -22,7 +23,7 @@ use Rattle.net_link_laws.specs.Windows.{grown}
 use Rattle.net_walk.proofs.Insides.{common_in}
 use Rattle.net_walk.specs.Pairs.{first_of, IsSpanPiece, AddsSpan, AreSpanPieces, AddsPair, AddsPairs, AddsChildren}
 use Rattle.net_walk.specs.Walk.{IsSpan, HasNoSquare}
-use Rattle.touching_pieces.specs.Pairs.{IsAmong, AreInTouch, AddsTouching}
+use Rattle.touching_pieces.specs.Pairs.{IsAmong, AreInTouch, AreOne, AddsTouching}
 use Rattle.touching_pieces.specs.Touching.{AreTouching}
 use Rattle.touching_pieces.specs.declared.pieces.Piece.{Piece}
 
@@ -92,7 +93,7 @@ pub no_pairs : (d : Design) (w : Wiring) (t : Tables) (cell : ℕ) (ls : List Li
 no_pairs d w t cell ls = record { kept = λ i j h. h; each = λ i j h. inl h; found = λ k l x y h s. absurd h }
 
 of_pair : (d : Design) (w : Wiring) (t : Tables) (cell : ℕ) (pair : Link) (mid new : List Link) → AddsPair d w t cell pair.one pair.other mid new → (k l x y : ℕ) → pair.one ≡ k → pair.other ≡ l → IsSquareLink d w t cell (Child k x) (Child l y)
-    → (first_of d w t cell k + x ≡ first_of d w t cell l + y) ⊎ IsLinked new (first_of d w t cell k + x) (first_of d w t cell l + y)
+    → AreOne new (first_of d w t cell k + x) (first_of d w t cell l + y)
 of_pair d w t cell pair mid new g k l x y e f s =
     let h : AddsPair d w t cell k l mid new = subst (λ i. AddsPair d w t cell i l mid new) e (subst (λ j. AddsPair d w t cell pair.one j mid new) f g) in
     h.found x y s
@@ -106,7 +107,7 @@ pairs_more d w t cell pairs n o old mid new lt h g =
       kept = λ i j k. g.kept i j (h.kept i j k);
       each = λ i j k. elim (g.each i j k) [ inl a ↦ h.each i j a | inr b ↦ inr b ];
       found = λ k l x y m s. elim (linked_cut ls pair k l m) [
-        | inl a ↦ elim (h.found k l x y a s) [ inl e ↦ inl e | inr b ↦ inr (g.kept (first_of d w t cell k + x) (first_of d w t cell l + y) b) ]
+        | inl a ↦ one_on mid new g.kept (first_of d w t cell k + x) (first_of d w t cell l + y) (h.found k l x y a s)
         | inr b ↦ elim b [
           | inl e ↦ of_pair d w t cell pair mid new g k l x y e.0 e.1 s
           | inr e ↦ one_back new (first_of d w t cell l + y) (first_of d w t cell k + x) (of_pair d w t cell pair mid new g l k y x e.0 e.1 (square_back d w t cell (Child k x) (Child l y) s))

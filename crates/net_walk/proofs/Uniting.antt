@@ -10,7 +10,9 @@ use Rattle.link_classes.specs.Classes.{IsLinked}
 use Rattle.link_classes.specs.declared.classes.Link.{Link}
 use Rattle.net_link_laws.proofs.Numbering.{one_place, apart_items}
 use Rattle.net_link_laws.proofs.Standing.{own_place, child_place, global_place}
-use Rattle.net_link_laws.specs.Found.{AreAllFound, AreOne, IsFoundLink, Stands}
+use Rattle.net_link_laws.specs.Found.{AreAllFound, IsFoundLink, Stands}
+use Rattle.touching_pieces.proofs.Chains.{one_of, one_on}
+use Rattle.touching_pieces.specs.Pairs.{AreOne}
 use Rattle.net_link_laws.specs.Places.{owned_before, nets_before, places_of}
 use Rattle.net_walk.proofs.Placing.{get_left, get_right}
 use Rattle.net_walk.specs.Beside.{AddsBeside, IsSquarePair}
@@ -42,10 +44,6 @@ module _ (d : Design) (w : Wiring) (t : Tables) (cell : ℕ) where
   at_places : (links : List Link) (i j m n : ℕ) (a b : Item) → Stands d w t cell i a → Stands d w t cell j b → Stands d w t cell m a → Stands d w t cell n b → AreOne links m n → AreOne links i j
   at_places links i j m n a b h g h2 g2 one = subst (λ k. AreOne links k j) (once m i a h2 h) (subst (λ k. AreOne links m k) (once n j b g2 g) one)
 
-  kept_one : (old new : List Link) (i j : ℕ) → ((x y : ℕ) → IsLinked old x y → IsLinked new x y) → AreOne old i j → AreOne new i j
-  kept_one old new i j kept (inl e) = inl e
-  kept_one old new i j kept (inr h) = inr (kept i j h)
-
   square_found : (i j : ℕ) → IsSquarePair d w t cell i j → (a : Item) × (b : Item) × Stands d w t cell i a × Stands d w t cell j b × IsFoundLink d w t cell a b
   square_found i j h = (h.0, h.1, h.2, h.3, inl h.4)
 
@@ -62,18 +60,18 @@ module _ (d : Design) (w : Wiring) (t : Tables) (cell : ℕ) where
       ]
     ];
     own = λ i j c r e s h g l.
-        let one = kept_one l0 l3 (owned_before t cell c + r) (owned_before t cell e + s) (λ x y m. globals.kept x y (beside.kept x y (children.kept x y m))) (own.found c r e s l) in
+        let one = one_on l0 l3 (λ x y m. globals.kept x y (beside.kept x y (children.kept x y m))) (owned_before t cell c + r) (owned_before t cell e + s) (own.found c r e s l) in
         at_places l3 i j (owned_before t cell c + r) (owned_before t cell e + s) (Own c r) (Own e s) h g (own_stands c r l.from) (own_stands e s l.to) one;
     beside = λ i j c r k x h g l.
-        let one = kept_one l2 l3 (owned_before t cell c + r) (first_of d w t cell k + x) globals.kept (beside.found c r k x l) in
+        let one = one_on l2 l3 globals.kept (owned_before t cell c + r) (first_of d w t cell k + x) (beside.found c r k x l) in
         at_places l3 i j (owned_before t cell c + r) (first_of d w t cell k + x) (Own c r) (Child k x) h g (own_stands c r l.from) (child_stands k x l.to) one;
     children = λ i j k x m y not h g l.
-        let one = kept_one l1 l3 (first_of d w t cell k + x) (first_of d w t cell m + y) (λ u v n. globals.kept u v (beside.kept u v n)) (children.found k m x y not l) in
+        let one = one_on l1 l3 (λ u v n. globals.kept u v (beside.kept u v n)) (first_of d w t cell k + x) (first_of d w t cell m + y) (children.found k m x y not l) in
         at_places l3 i j (first_of d w t cell k + x) (first_of d w t cell m + y) (Child k x) (Child m y) h g (child_stands k x l.from) (child_stands m y l.to) one;
     globals = λ i j a b h g l.
         let stands : Stands d w t cell j (Global l.global) = subst (λ v. Stands d w t cell j v) l.is g in
         let e : globals_at d w t cell + l.global ≡ j = once (globals_at d w t cell + l.global) j (Global l.global) (global_stands l.global l.known) stands in
-        inr (subst (λ n. IsLinked l3 i n) e (globals.found i l.global a tt l.known h l.on));
+        one_of l3 i j (inr (subst (λ n. IsLinked l3 i n) e (globals.found i l.global a tt l.known h l.on)));
   }
 
 -- places of first nets, one more

@@ -12,14 +12,15 @@ use Rattle.link_classes.specs.declared.classes.Link.{Link}
 use Rattle.net_link_laws.proofs.Assembling.{square_back}
 use Rattle.net_link_laws.proofs.Held.{child_held_at, child_holds, conductor, own_held, own_holds, square_below}
 use Rattle.net_link_laws.proofs.Standing.{child_place, own_place}
-use Rattle.net_link_laws.specs.Found.{AreOne, IsSquareLink}
+use Rattle.net_link_laws.specs.Found.{IsSquareLink}
+use Rattle.touching_pieces.proofs.Chains.{one_of}
 use Rattle.net_link_laws.specs.Places.{nets_before, owned_before, places_of}
 use Rattle.net_walk.proofs.Walking.{IsVisited, visited_next}
 use Rattle.net_walk.specs.Held.{HasSquare, IsOneOf}
 use Rattle.net_walk.specs.Pairs.{first_of}
 use Rattle.net_walk.specs.Whole.{IsHeldLink, IsListLink, IsWholeLink, WholeLaw}
 use Rattle.touching_pieces.proofs.Links.{added_both, added_none, added_one, added_same}
-use Rattle.touching_pieces.specs.Pairs.{AddsLinks, AreJoined}
+use Rattle.touching_pieces.specs.Pairs.{AddsLinks, AreJoined, AreOne}
 use Rattle.touching_pieces.specs.declared.conductors.Joined.{Joined}
 
 pub whole : WholeLaw
@@ -44,7 +45,7 @@ whole d w t cell k o p joins old new right is there same hull h = record {
       let joined : AreJoined joins o.conductor s.other = subst (λ a. AreJoined joins a s.other) (sym own.same ∙ sym e) ((same s.one s.other).1 s.joined) in
       let known = conductor d w t p.cell x s.other b.square (λ m u. right.nets k m p placed u) b.holds in
       let link : IsWholeLink d t joins o.item o.conductor p.cell (first_of d w t cell k) (length w.conductors) o.item (first_of d w t cell k + x) = (s.other, known, joined, (refl, x, (b.square, b.holds), refl)) in
-      subst (λ i. AreOne new i (first_of d w t cell k + x)) f (h.found o.item (first_of d w t cell k + x) link);
+      subst (λ i. AreOne new i (first_of d w t cell k + x)) f (one_of new o.item (first_of d w t cell k + x) (h.found o.item (first_of d w t cell k + x) link));
 }
   where
     placed : IsPlaced d cell k p

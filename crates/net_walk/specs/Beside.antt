@@ -9,12 +9,12 @@ use Rattle.geo_base.specs.declared.shapes.Rect.{Rect}
 use Rattle.geo_base.specs.declared.shapes.Square.{Square}
 use Rattle.link_classes.specs.Classes.{IsLinked}
 use Rattle.link_classes.specs.declared.classes.Link.{Link}
-use Rattle.net_link_laws.specs.Found.{AreOne, IsSquareLink}
+use Rattle.net_link_laws.specs.Found.{IsSquareLink}
 use Rattle.net_link_laws.specs.Places.{owned_before, places_of}
 use Rattle.net_link_laws.specs.Windows.{grown}
 use Rattle.net_walk.specs.Pairs.{first_of}
 use Rattle.net_walk.specs.Seen.{AreLinksOver, IsJoinedSeen}
-use Rattle.touching_pieces.specs.Pairs.{AreJoined}
+use Rattle.touching_pieces.specs.Pairs.{AreJoined, AreOne}
 use Rattle.touching_pieces.specs.declared.conductors.Joined.{Joined}
 use Rattle.touching_pieces.specs.declared.pieces.Piece.{Piece}
 
@@ -25,15 +25,15 @@ IsBesideSeen d t joins rect conductor item n p at c i q =
     ((conductor ≡ c) × (item ≡ i) × IsIn q rect)
     ⊎ IsJoinedSeen d t joins conductor p (grown rect) at n c i q
 
--- each link is one by squares between items, and each such link of the two is found
+-- each link is one by squares between items, and chains of links join what such links of the two
+-- join
 pub record AreBesideLinks (d : Design) (w : Wiring) (t : Tables) (cell c r k : ℕ)
     (links : List Link) : Type 0 where
   pub each : (i j : ℕ) → IsLinked links i j → (a : Item) × (b : Item)
       × (slice_get (items_of d w t cell) i ≡ Some a) × (slice_get (items_of d w t cell) j ≡ Some b)
       × IsSquareLink d w t cell a b
   pub found : (x : ℕ) → IsSquareLink d w t cell (Own c r) (Child k x)
-      → (owned_before t cell c + r ≡ first_of d w t cell k + x)
-      ⊎ IsLinked links (owned_before t cell c + r) (first_of d w t cell k + x)
+      → AreOne links (owned_before t cell c + r) (first_of d w t cell k + x)
 
 abbrev pub BesidePairLaw : Type 0
 BesidePairLaw = (d : Design) (w : Wiring) (t : Tables) (cell c r k : ℕ) (p : Place) (rect : Rect)
@@ -48,8 +48,8 @@ abbrev pub IsSquarePair : Design → Wiring → Tables → ℕ → ℕ → ℕ �
 IsSquarePair d w t cell i j = (a : Item) × (b : Item) × (slice_get (items_of d w t cell) i ≡ Some a)
     × (slice_get (items_of d w t cell) j ≡ Some b) × IsSquareLink d w t cell a b
 
--- each new link is one by squares, and each of a rectangle and a placement is there: of a piece and
--- a placement
+-- each new link is one by squares, and chains join what those of a rectangle and a placement join:
+-- of a piece and a placement
 pub record AddsPieceBeside (d : Design) (w : Wiring) (t : Tables) (cell : ℕ) (o : Piece) (k : ℕ)
     (old new : List Link) : Type 0 where
   pub kept : (i j : ℕ) → IsLinked old i j → IsLinked new i j

@@ -11,6 +11,7 @@ use Rattle.link_classes.specs.Classes.{IsLinked}
 use Rattle.link_classes.specs.declared.classes.Link.{Link}
 use Rattle.net_link_laws.specs.Found.{IsSquareLink}
 use Rattle.net_link_laws.specs.Places.{owned_before}
+use Rattle.touching_pieces.specs.Pairs.{AreOne}
 use Rattle.touching_pieces.specs.declared.pieces.Piece.{Piece}
 
 -- the first n rectangles of a conductor, as items that stand from a place on
@@ -23,15 +24,14 @@ abbrev pub IsOwned : Tables → ℕ → ℕ → ℕ → ℕ → Square → Type 
 IsOwned t cell n c i q = (c < n) × (r : ℕ) × (rect : Rect)
     × (slice_get (t.own cell c) r ≡ Some rect) × IsIn q rect × (owned_before t cell c + r ≡ i)
 
--- each link is one by squares between own rectangles, and all of those are there
+-- each link is one by squares between own rectangles, and chains of links join what those join
 pub record AreOwnLinks (d : Design) (w : Wiring) (t : Tables) (cell : ℕ)
     (links : List Link) : Type 0 where
   pub each : (i j : ℕ) → IsLinked links i j → (a : Item) × (b : Item)
       × (slice_get (items_of d w t cell) i ≡ Some a) × (slice_get (items_of d w t cell) j ≡ Some b)
       × IsSquareLink d w t cell a b
   pub found : (c r e s : ℕ) → IsSquareLink d w t cell (Own c r) (Own e s)
-      → (owned_before t cell c + r ≡ owned_before t cell e + s)
-      ⊎ IsLinked links (owned_before t cell c + r) (owned_before t cell e + s)
+      → AreOne links (owned_before t cell c + r) (owned_before t cell e + s)
 
 -- the rectangles of a conductor as pieces, whose items stand from a place on
 abbrev pub rect_pieces : ℕ → ℕ → List Rect → List Piece

@@ -15,7 +15,7 @@ use Rattle.net_link_laws.specs.Places.{owned_before, nets_before, places_of}
 use Rattle.net_link_laws.specs.Windows.{IsEnoughFor, grown}
 use Rattle.net_walk.specs.Seen.{AreLinksOver, IsSeenOfTwo}
 use Rattle.net_walk.specs.Walk.{IsSpan, HasNoSquare}
-use Rattle.touching_pieces.specs.Pairs.{AreJoined, IsAmong}
+use Rattle.touching_pieces.specs.Pairs.{AreJoined, AreOne, IsAmong}
 use Rattle.touching_pieces.specs.declared.pieces.Piece.{Piece}
 use Rattle.touching_pieces.specs.declared.conductors.Joined.{Joined}
 
@@ -24,15 +24,15 @@ abbrev pub first_of : Design → Wiring → Tables → ℕ → ℕ → ℕ
 first_of d w t cell k =
     owned_before t cell (length w.conductors) + nets_before t (places_of d cell) k
 
--- each link is one by squares between items, and each such link of the two placements is found
+-- each link is one by squares between items, and chains of links join what such links of the two
+-- placements join
 pub record ArePairLinks (d : Design) (w : Wiring) (t : Tables) (cell k l : ℕ)
     (links : List Link) : Type 0 where
   pub each : (i j : ℕ) → IsLinked links i j → (a : Item) × (b : Item)
       × (slice_get (items_of d w t cell) i ≡ Some a) × (slice_get (items_of d w t cell) j ≡ Some b)
       × IsSquareLink d w t cell a b
   pub found : (x y : ℕ) → IsSquareLink d w t cell (Child k x) (Child l y)
-      → (first_of d w t cell k + x ≡ first_of d w t cell l + y)
-      ⊎ IsLinked links (first_of d w t cell k + x) (first_of d w t cell l + y)
+      → AreOne links (first_of d w t cell k + x) (first_of d w t cell l + y)
 
 -- links over what is seen of two placements in a window that is enough for both are theirs
 abbrev pub PairLaw : Type 0
@@ -54,7 +54,7 @@ AreNeverNear d t p q = (c e x y : ℕ) (m n : Square) → NetHolds d t p.cell x 
     → NetHolds d t q.cell y (At e n) → IsNear (moved_square p.motion m) (moved_square q.motion n)
     → ⊥
 
--- each new link is one by squares, and each of the two placements is there
+-- each new link is one by squares, and chains join what those of the two placements join
 pub record AddsPair (d : Design) (w : Wiring) (t : Tables) (cell k l : ℕ)
     (old new : List Link) : Type 0 where
   pub kept : (i j : ℕ) → IsLinked old i j → IsLinked new i j
@@ -62,8 +62,7 @@ pub record AddsPair (d : Design) (w : Wiring) (t : Tables) (cell k l : ℕ)
       ⊎ ((a : Item) × (b : Item) × (slice_get (items_of d w t cell) i ≡ Some a)
       × (slice_get (items_of d w t cell) j ≡ Some b) × IsSquareLink d w t cell a b)
   pub found : (x y : ℕ) → IsSquareLink d w t cell (Child k x) (Child l y)
-      → (first_of d w t cell k + x ≡ first_of d w t cell l + y)
-      ⊎ IsLinked new (first_of d w t cell k + x) (first_of d w t cell l + y)
+      → AreOne new (first_of d w t cell k + x) (first_of d w t cell l + y)
 
 -- the piece of a placement: its number, and what bounds it, grown by one square
 pub record IsSpanPiece (d : Design) (t : Tables) (p : Place) (number : ℕ) (o : Piece) : Type 0 where
@@ -86,7 +85,7 @@ pub record AreSpanPieces (d : Design) (t : Tables) (cell n : ℕ) (pieces : List
   pub found : (k : ℕ) (p : Place) → k < n → slice_get (places_of d cell) k ≡ Some p
       → HasNoSquare d t p.cell ⊎ ((o : Piece) × IsAmong o pieces × IsSpanPiece d t p k o)
 
--- each new link is one by squares, and those of some pairs of placements are there
+-- each new link is one by squares, and chains join what those of some pairs of placements join
 pub record AddsPairs (d : Design) (w : Wiring) (t : Tables) (cell : ℕ)
     (pairs old new : List Link) : Type 0 where
   pub kept : (i j : ℕ) → IsLinked old i j → IsLinked new i j
@@ -94,8 +93,7 @@ pub record AddsPairs (d : Design) (w : Wiring) (t : Tables) (cell : ℕ)
       ⊎ ((a : Item) × (b : Item) × (slice_get (items_of d w t cell) i ≡ Some a)
       × (slice_get (items_of d w t cell) j ≡ Some b) × IsSquareLink d w t cell a b)
   pub found : (k l x y : ℕ) → IsLinked pairs k l → IsSquareLink d w t cell (Child k x) (Child l y)
-      → (first_of d w t cell k + x ≡ first_of d w t cell l + y)
-      ⊎ IsLinked new (first_of d w t cell k + x) (first_of d w t cell l + y)
+      → AreOne new (first_of d w t cell k + x) (first_of d w t cell l + y)
 
 -- and those of any two placements
 pub record AddsChildren (d : Design) (w : Wiring) (t : Tables) (cell : ℕ)
@@ -105,5 +103,4 @@ pub record AddsChildren (d : Design) (w : Wiring) (t : Tables) (cell : ℕ)
       ⊎ ((a : Item) × (b : Item) × (slice_get (items_of d w t cell) i ≡ Some a)
       × (slice_get (items_of d w t cell) j ≡ Some b) × IsSquareLink d w t cell a b)
   pub found : (k l x y : ℕ) → (k ≡ l → ⊥) → IsSquareLink d w t cell (Child k x) (Child l y)
-      → (first_of d w t cell k + x ≡ first_of d w t cell l + y)
-      ⊎ IsLinked new (first_of d w t cell k + x) (first_of d w t cell l + y)
+      → AreOne new (first_of d w t cell k + x) (first_of d w t cell l + y)

@@ -13,7 +13,7 @@ use Rattle.net_link_laws.specs.declared.piece.NetPiece.{NetPiece}
 use Rattle.geo_base.specs.Rects.{IsRect}
 use Rattle.link_classes.specs.Classes.{IsLinked}
 use Rattle.link_classes.specs.declared.classes.Link.{Link}
-use Rattle.touching_pieces.specs.Pairs.{AreJoined}
+use Rattle.touching_pieces.specs.Pairs.{AreJoined, AreOne}
 use Rattle.touching_pieces.specs.declared.conductors.Joined.{Joined}
 use Rattle.touching_pieces.specs.declared.pieces.Piece.{Piece}
 
@@ -42,11 +42,11 @@ pub record AreNearOver (joins : List Joined) (R : ℕ → ℕ → Square → Typ
   pub over_too : R e j q
   pub near : IsNear p q
 
--- a link for each two such items that differ, and no other
+-- each link is of two such items, and chains of links join each two
 pub record AreLinksOver (joins : List Joined) (R : ℕ → ℕ → Square → Type 0)
     (links : List Link) : Type 0 where
   pub each : (i j : ℕ) → IsLinked links i j → AreNearOver joins R i j
-  pub found : (i j : ℕ) → AreNearOver joins R i j → (i ≡ j) ⊎ IsLinked links i j
+  pub found : (i j : ℕ) → AreNearOver joins R i j → AreOne links i j
 
 -- images of pieces of a conductor, each of the item that stands that far behind a place
 abbrev pub IsSeenOf : Motion → List NetPiece → ℕ → ℕ → ℕ → ℕ → Square → Type 0

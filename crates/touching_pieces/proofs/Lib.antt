@@ -1,2 +1,4 @@
 pub mod Sides
 pub mod Links
+pub mod Chains
+pub mod Joining

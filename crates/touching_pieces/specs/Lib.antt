@@ -1,2 +1,3 @@
 pub mod Touching
 pub mod Pairs
+pub mod Crowds

@@ -33,6 +33,17 @@ pub record AddsLinks (R : ℕ → ℕ → Type 0) (old new : List Link) : Type 0
   pub each : (i j : ℕ) → IsLinked new i j → IsLinked old i j ⊎ (R i j ⊎ R j i)
   pub found : (i j : ℕ) → R i j → (i ≡ j) ⊎ IsLinked new i j
 
+-- chains of the links join the two
+abbrev pub AreOne : List Link → ℕ → ℕ → Type 0
+AreOne links i j = Reaches (IsLinked links) i j
+
+-- the links are those before, and some for two items of a relation; chains of them join each such
+-- two
+pub record AddsChains (R : ℕ → ℕ → Type 0) (old new : List Link) : Type 0 where
+  pub kept : (i j : ℕ) → IsLinked old i j → IsLinked new i j
+  pub each : (i j : ℕ) → IsLinked new i j → IsLinked old i j ⊎ (R i j ⊎ R j i)
+  pub found : (i j : ℕ) → R i j → AreOne new i j
+
 abbrev pub AddsTouching : List Piece → List Piece → List Link → List Link → Type 0
 AddsTouching ones others old new = AddsLinks (AreInTouch ones others) old new
 
@@ -85,9 +96,9 @@ pub record AreTied (joins : List Joined) (pieces : List Piece) (i j : ℕ) : Typ
   pub from : one.item ≡ i
   pub to : other.item ≡ j
 
--- a link for each two tied items that differ, and no other; so chains of links join what chains of
--- touching pieces join
+-- each link is of tied items, and chains of links join each two of these; so they join what chains
+-- of touching pieces join
 pub record AreLinksOf (joins : List Joined) (pieces : List Piece) (links : List Link) : Type 0 where
   pub each : (i j : ℕ) → IsLinked links i j → AreTied joins pieces i j
-  pub found : (i j : ℕ) → AreTied joins pieces i j → (i ≡ j) ⊎ IsLinked links i j
+  pub found : (i j : ℕ) → AreTied joins pieces i j → AreOne links i j
   pub chains : (i j : ℕ) → Reaches (IsLinked links) i j ↔ Reaches (AreTied joins pieces) i j

@@ -1,9 +1,9 @@
 // Pieces of several conductors, some of which are joined.
 ghost use Rattle.std.specs.Prelude.{◌≡◌, ◌≢◌, OnOk, IfOk};
-ghost use Rattle.touching_pieces.specs.Pairs.{AddsLinks, AddsTouching, AreInTouchOf, AreLinksOf};
+ghost use Rattle.touching_pieces.specs.Pairs.{AddsChains, AreInTouch, AreInTouchOf, AreLinksOf};
 ghost use Rattle.touching_pieces.specs.Pairs.{AreOf, of_conductor};
 
-use crate::pairs::touching_pairs;
+use crate::pairs::touching_chains;
 use crate::pieces::Piece;
 use link_classes::Link;
 use std::alloc::{AllocError, Global};
@@ -36,15 +36,15 @@ fn link_line(
 ) -> Result<(), AllocError>
     requires { own.now ≡ of_conductor conductor pieces.now }
     ensures line { OnOk result (line.now.first ≡ conductor
-        → AddsTouching (of_conductor conductor pieces.now) (of_conductor line.now.second pieces.now)
-        out.old.items out.new.items) }
+        → AddsChains (AreInTouch (of_conductor conductor pieces.now)
+        (of_conductor line.now.second pieces.now)) out.old.items out.new.items) }
     ensures other { OnOk result (line.now.first ≢ conductor → out.new.items ≡ out.old.items) }
 {
     if line.first != conductor {
         return Ok(());
     }
     let others = of_conductor(alloc, pieces, line.second)?;
-    touching_pairs(alloc, own, &others, out)?;
+    touching_chains(alloc, own, &others, out)?;
     Ok(())
 }
 
@@ -57,21 +57,21 @@ fn link_conductor(
     joins: &[Joined],
     out: &mut Vec<Link>,
 ) -> Result<(), AllocError>
-    ensures { OnOk result (AddsLinks (AreInTouchOf joins.now pieces.now conductor) out.old.items
+    ensures { OnOk result (AddsChains (AreInTouchOf joins.now pieces.now conductor) out.old.items
         out.new.items) }
 {
     let own = of_conductor(alloc, pieces, conductor)?;
-    touching_pairs(alloc, &own, &own, out)?;
+    touching_chains(alloc, &own, &own, out)?;
     for join in joins {
         link_line(alloc, &own, pieces, conductor, join, out)?;
     }
     Ok(())
 }
 
-/// A link for each two items that have touching pieces of one conductor or of two that a line
-/// joins.
+/// Links whose chains join each two items that have touching pieces of one conductor or of two that
+/// a line joins. Each link is of two such items.
 ///
-/// Takes a pass over the pieces for each conductor and each line beside what `touching_pairs`
+/// Takes a pass over the pieces for each conductor and each line beside what `touching_chains`
 /// takes.
 pub fn touching_links(
     alloc: Global,

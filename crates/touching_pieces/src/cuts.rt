@@ -1,9 +1,17 @@
 // Where pieces are cut; any cut gives the same links.
+ghost use Rattle.touching_pieces.specs.Crowds.{IsStepOf};
+
+use crate::crowds::hub_of;
 use crate::pieces::Piece;
 use geo_base::Rect;
 
 // A list this short is compared with the other as it is.
 const FEW: usize = 8;
+
+// In lists longer together than this a cut is cheap that goes through one piece in so many.
+const SMALL: usize = 256;
+
+const RARE: usize = 8;
 
 #[derive(Clone, Copy, Debug)]
 pub enum Axis {
@@ -78,12 +86,9 @@ fn crossings(pieces: &[Piece], cut: &Cut) -> usize {
     count
 }
 
-/// The middle line of what bounds the pieces within a rectangle that goes through fewer of them,
-/// where it leaves at least half of them whole and no more are cut than can be spared.
-pub fn cut_of(ones: &[Piece], others: &[Piece], within: &Rect, spare: usize) -> Option<Cut> {
-    if ones.len() <= FEW || others.len() <= FEW {
-        return None;
-    }
+// The middle line of what bounds the pieces within a rectangle that goes through fewer of them, and
+// through how many.
+fn least_cut(ones: &[Piece], others: &[Piece], within: &Rect) -> (Cut, usize) {
     let all = grown(grown(NOWHERE, ones), others);
     let upright = Cut {
         axis: Axis::X,
@@ -95,15 +100,58 @@ pub fn cut_of(ones: &[Piece], others: &[Piece], within: &Rect, spare: usize) -> 
     };
     let crossed = crossings(ones, &upright).saturating_add(crossings(others, &upright));
     let crossed_level = crossings(ones, &level).saturating_add(crossings(others, &level));
-    let fewest = crossed.min(crossed_level);
-    if fewest > ones.len().saturating_add(others.len()) / 2 || fewest > spare {
+    if crossed <= crossed_level {
+        (upright, crossed)
+    } else {
+        (level, crossed_level)
+    }
+}
+
+/// The middle line of what bounds the pieces within a rectangle that goes through fewer of them,
+/// where it leaves at least half of them whole and no more are cut than can be spared.
+pub fn cut_of(ones: &[Piece], others: &[Piece], within: &Rect, spare: usize) -> Option<Cut> {
+    if ones.len() <= FEW || others.len() <= FEW {
         return None;
     }
-    Some(if crossed <= crossed_level {
-        upright
+    let (cut, crossed) = least_cut(ones, others, within);
+    if crossed > ones.len().saturating_add(others.len()) / 2 || crossed > spare {
+        return None;
+    }
+    Some(cut)
+}
+
+/// What to do with two lists: cut them, begin with a piece of the first that touches many of the
+/// other, or compare them as they are.
+pub enum Step {
+    Halves(Cut),
+    Hub(usize),
+    All,
+}
+
+/// A cut that few pieces cross is best, then a hub, then any cut that can be spared.
+pub fn step_of(ones: &[Piece], others: &[Piece], within: &Rect, spare: usize) -> Step
+    ensures { IsStepOf ones.now result }
+{
+    if ones.len() <= FEW || others.len() <= FEW {
+        return Step::All;
+    }
+    let (cut, crossed) = least_cut(ones, others, within);
+    let count = ones.len().saturating_add(others.len());
+    let few = if count <= SMALL {
+        count / 2
     } else {
-        level
-    })
+        count / RARE
+    };
+    if crossed <= few && crossed <= spare {
+        return Step::Halves(cut);
+    }
+    if let Some(hub) = hub_of(ones, others, within) {
+        return Step::Hub(hub);
+    }
+    if crossed <= count / 2 && crossed <= spare {
+        return Step::Halves(cut);
+    }
+    Step::All
 }
 
 /// The part of what can be spared that falls to some of all pieces.

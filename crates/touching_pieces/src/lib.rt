@@ -2,10 +2,11 @@
 #![tactic(auto)]
 
 mod conductors;
+mod crowds;
 mod cuts;
 mod pairs;
 mod pieces;
 
 pub use conductors::{Joined, touching_links};
-pub use pairs::touching_pairs;
+pub use pairs::{touching_chains, touching_pairs};
 pub use pieces::{Piece, touches};

@@ -1,9 +1,11 @@
 // Pieces of two lists that touch, found by cutting the plane in two again and again: two that touch
 // lie whole on one side or the other.
 ghost use Rattle.std.specs.Prelude.{◌≡◌, OnOk, IfOk, [], ◌∷◌};
-ghost use Rattle.touching_pieces.specs.Pairs.{AddsTouching, begins_by, ends_behind, lows, highs};
+ghost use Rattle.touching_pieces.specs.Pairs.{AddsChains, AddsTouching, AreInTouch};
+ghost use Rattle.touching_pieces.specs.Pairs.{begins_by, ends_behind, lows, highs};
 
-use crate::cuts::{Axis, Cut, NOWHERE, cut_of, grown, share};
+use crate::crowds::link_crowd;
+use crate::cuts::{Axis, Cut, NOWHERE, Step, cut_of, grown, share, step_of};
 use crate::pieces::{Piece, touches};
 use geo_base::Rect;
 use link_classes::Link;
@@ -51,7 +53,7 @@ fn highs(alloc: Global, pieces: &[Piece], cut: &Cut) -> Result<Vec<Piece>, Alloc
 }
 
 // Links the two pieces where they touch.
-fn link_two(one: &Piece, other: &Piece, out: &mut Vec<Link>) -> Result<(), AllocError>
+pub(crate) fn link_two(one: &Piece, other: &Piece, out: &mut Vec<Link>) -> Result<(), AllocError>
     ensures { OnOk result (AddsTouching (one.now ∷ []) (other.now ∷ []) out.old.items
         out.new.items) }
 {
@@ -69,7 +71,7 @@ fn link_two(one: &Piece, other: &Piece, out: &mut Vec<Link>) -> Result<(), Alloc
 }
 
 // Links the piece with what it touches of a list.
-fn link_one(one: &Piece, others: &[Piece], out: &mut Vec<Link>) -> Result<(), AllocError>
+pub(crate) fn link_one(one: &Piece, others: &[Piece], out: &mut Vec<Link>) -> Result<(), AllocError>
     ensures { OnOk result (AddsTouching (one.now ∷ []) others.now out.old.items out.new.items) }
 {
     for other in others {
@@ -85,6 +87,44 @@ fn link_all(ones: &[Piece], others: &[Piece], out: &mut Vec<Link>) -> Result<(),
         link_one(one, others, out)?;
     }
     Ok(())
+}
+
+// The pieces of both lists on either side of a cut.
+#[derive(Drop)]
+struct Parts {
+    low_ones: Vec<Piece>,
+    low_others: Vec<Piece>,
+    high_ones: Vec<Piece>,
+    high_others: Vec<Piece>,
+}
+
+impl Parts {
+    fn new(alloc: Global, ones: &[Piece], others: &[Piece], cut: &Cut) -> Result<Self, AllocError>
+        ensures low_ones { IfOk result (λ p. p.low_ones.items ≡ lows cut.now ones.now) }
+        ensures low_others { IfOk result (λ p. p.low_others.items ≡ lows cut.now others.now) }
+        ensures high_ones { IfOk result (λ p. p.high_ones.items ≡ highs cut.now ones.now) }
+        ensures high_others { IfOk result (λ p. p.high_others.items ≡ highs cut.now others.now) }
+    {
+        Ok(Parts {
+            low_ones: lows(alloc, ones, cut)?,
+            low_others: lows(alloc, others, cut)?,
+            high_ones: highs(alloc, ones, cut)?,
+            high_others: highs(alloc, others, cut)?,
+        })
+    }
+
+    // What falls to each side of what can be spared, of which the pieces cut of so many take some.
+    fn shares(&self, count: usize, spare: usize) -> (usize, usize) {
+        let low = self.low_ones.len().saturating_add(self.low_others.len());
+        let parts = self
+            .high_ones
+            .len()
+            .saturating_add(self.high_others.len())
+            .saturating_add(low);
+        let left = spare.saturating_sub(parts.saturating_sub(count));
+        let low_share = share(left, low, parts);
+        (low_share, left.saturating_sub(low_share))
+    }
 }
 
 fn link_halves(
@@ -106,36 +146,25 @@ fn link_halves(
         link_all(ones, others, out)?;
         return Ok(());
     };
-    let low_ones = lows(alloc, ones, &cut)?;
-    let low_others = lows(alloc, others, &cut)?;
-    let high_ones = highs(alloc, ones, &cut)?;
-    let high_others = highs(alloc, others, &cut)?;
-    let low = low_ones.len().saturating_add(low_others.len());
-    let parts = high_ones
-        .len()
-        .saturating_add(high_others.len())
-        .saturating_add(low);
-    let count = ones.len().saturating_add(others.len());
-    let left = spare.saturating_sub(parts.saturating_sub(count));
-    let low_share = share(left, low, parts);
-    let high_share = left.saturating_sub(low_share);
+    let parts = Parts::new(alloc, ones, others, &cut)?;
+    let (low, high) = parts.shares(ones.len().saturating_add(others.len()), spare);
     let (below, above) = cut.halves(within);
     link_halves(
         alloc,
-        &low_ones,
-        &low_others,
+        &parts.low_ones,
+        &parts.low_others,
         &below,
         depth - 1,
-        low_share,
+        low,
         out,
     )?;
     link_halves(
         alloc,
-        &high_ones,
-        &high_others,
+        &parts.high_ones,
+        &parts.high_others,
         &above,
         depth - 1,
-        high_share,
+        high,
         out,
     )?;
     Ok(())
@@ -156,5 +185,80 @@ pub fn touching_pairs(
     let within = grown(grown(NOWHERE, ones), others);
     let spare = ones.len().saturating_add(others.len()).saturating_mul(2);
     link_halves(alloc, ones, others, &within, DEPTH, spare, out)?;
+    Ok(())
+}
+
+// Links pieces by chains. Where a cut would go through many, a piece that touches many is looked
+// for: what it touches needs no more search.
+fn chain_halves(
+    alloc: Global,
+    ones: &[Piece],
+    others: &[Piece],
+    within: &Rect,
+    depth: u32,
+    spare: usize,
+    out: &mut Vec<Link>,
+) -> Result<(), AllocError>
+    ensures { OnOk result (AddsChains (AreInTouch ones.now others.now) out.old.items
+        out.new.items) }
+{
+    if depth == 0 {
+        link_all(ones, others, out)?;
+        return Ok(());
+    }
+    match step_of(ones, others, within, spare) {
+        Step::All => {
+            link_all(ones, others, out)?;
+            Ok(())
+        }
+        Step::Hub(hub) => {
+            let left = link_crowd(alloc, hub, ones, others, within, out)?;
+            chain_halves(alloc, &left, ones, within, depth - 1, spare, out)?;
+            Ok(())
+        }
+        Step::Halves(cut) => {
+            let parts = Parts::new(alloc, ones, others, &cut)?;
+            let (low, high) = parts.shares(ones.len().saturating_add(others.len()), spare);
+            let (below, above) = cut.halves(within);
+            chain_halves(
+                alloc,
+                &parts.low_ones,
+                &parts.low_others,
+                &below,
+                depth - 1,
+                low,
+                out,
+            )?;
+            chain_halves(
+                alloc,
+                &parts.high_ones,
+                &parts.high_others,
+                &above,
+                depth - 1,
+                high,
+                out,
+            )?;
+            Ok(())
+        }
+    }
+}
+
+/// Adds links so that chains of them join each two items that have pieces, one in each list, that
+/// touch. Each link is of two such items.
+///
+/// Near (n + m) log (n + m), for lists of n and m pieces: also where many lie over one another, for
+/// these get few links and not one for each two.
+pub fn touching_chains(
+    alloc: Global,
+    ones: &[Piece],
+    others: &[Piece],
+    out: &mut Vec<Link>,
+) -> Result<(), AllocError>
+    ensures { OnOk result (AddsChains (AreInTouch ones.now others.now) out.old.items
+        out.new.items) }
+{
+    let within = grown(grown(NOWHERE, ones), others);
+    let spare = ones.len().saturating_add(others.len()).saturating_mul(2);
+    chain_halves(alloc, ones, others, &within, DEPTH, spare, out)?;
     Ok(())
 }

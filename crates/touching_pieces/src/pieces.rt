@@ -68,7 +68,7 @@ fn are_rects(a: &Rect, b: &Rect) -> bool
     is_rect(a) && is_rect(b)
 }
 
-fn touches_by_sides(a: &Rect, b: &Rect) -> bool
+pub(crate) fn touches_by_sides(a: &Rect, b: &Rect) -> bool
     ensures { result ≡ touches a.now b.now }
 {
     is_near(a, b) && are_rects(a, b)

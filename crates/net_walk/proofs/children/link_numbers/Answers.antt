@@ -52,7 +52,7 @@ replay-requires-clause-room g c = λ x y from.
     let there = at_place es (places_of d cell) k c.places-elements.ensures.all c.requires.one in
     let there_too = at_place es (places_of d cell) l c.places-elements.ensures.all c.requires.other in
     let are : AreContacts d w t p q c.in_ok-beside.beside.contacts.items = c.in_ok-beside.ensures.is p q c.in_ok-beside.ensures.lie in
-    let m = (are x y).0 (subst (λ (ls : List Link). IsFromTo ls x y) c.deref.ensures.value from) in
+    let m = are.each x y (subst (λ (ls : List Link). IsFromTo ls x y) c.deref.ensures.value from) in
     let lt = first_below d w t p q (nets_at d w t cell k p c.requires.right there) (nets_at d w t cell l q c.requires.right there_too) m.c x m.m m.held in
     let fits = child_room d w t cell k p there in
     let long = c.requires.long in let one = c.requires.one in
@@ -70,7 +70,7 @@ replay-requires-clause-room_too g c = λ x y from.
     let there = at_place es (places_of d cell) k c.places-elements.ensures.all c.requires.one in
     let there_too = at_place es (places_of d cell) l c.places-elements.ensures.all c.requires.other in
     let are : AreContacts d w t p q c.in_ok-beside.beside.contacts.items = c.in_ok-beside.ensures.is p q c.in_ok-beside.ensures.lie in
-    let m = (are x y).0 (subst (λ (ls : List Link). IsFromTo ls x y) c.deref.ensures.value from) in
+    let m = are.each x y (subst (λ (ls : List Link). IsFromTo ls x y) c.deref.ensures.value from) in
     let lt = second_below d w t p q (nets_at d w t cell k p c.requires.right there) (nets_at d w t cell l q c.requires.right there_too) m.e y m.n m.others in
     let fits = child_room d w t cell l q there_too in
     let long = c.requires.long in let other = c.requires.other in

@@ -1,5 +1,5 @@
 use Rattle.std.proofs.Common.{◌≡◌, ℕ, arith, subst}
-use Rattle.touching_pieces.proofs.Links.{none_yet, conductor_more, all_conductors}
+use Rattle.touching_pieces.proofs.Joining.{none_yet, conductor_more, all_conductors}
 use Rattle.touching_pieces.proofs.conductors.touching_links.Goals as goal
 use Rattle.touching_pieces.specs.Pairs.{AreOf}
 
