@@ -1,3 +1,5 @@
+//! Squares, rectangles and nested references under each turn, worked out by hand.
+
 use geo_base::{Motion, Point, Rect, Square, Turn};
 
 // One square and one rectangle off both axes under each turn, and a shift, worked out with pen and

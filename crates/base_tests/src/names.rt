@@ -1,3 +1,5 @@
+//! Names: how SPICE text spells them, both ways, and their folding and order.
+
 use net_names::{Name, NameFault, escape, folded, unescape};
 use std::cmp::Ordering;
 use std::test::Fail;

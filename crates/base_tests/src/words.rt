@@ -1,3 +1,5 @@
+//! Lists of words, and the commands that they state, or their refusal.
+
 use lvs_words::{Stated, WordFault, read_stated};
 use std::alloc::{AllocError, Global};
 use std::test::Fail;

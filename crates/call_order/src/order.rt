@@ -1,3 +1,5 @@
+//! An order of numbers that call numbers, or the least of them that calls itself.
+
 ghost use Rattle.std.specs.Prelude.{◌<◌, ◌^◌, IfOk, length};
 ghost use Rattle.call_order.specs.Order.{lists, AreInRange, IsFound, NoCycleLaw};
 

@@ -1,3 +1,5 @@
+//! A walk along calls, deep first, that finds the order and the numbers on cycles.
+
 ghost use Rattle.std.specs.Prelude.{◌≡◌, [], ◌<◌, ℕ, IfOk, OnOk, MatchOption, length};
 ghost use Rattle.call_order.specs.Order.{lists, AreInRange, IsFound};
 ghost use Rattle.call_order.specs.Walk.{seen, opened, begun, joined, arrived, TakesCall, rested};

@@ -1,4 +1,5 @@
-// Which placements of a cell reach into a window.
+//! Which placements of a cell reach into a window.
+
 ghost use Rattle.std.specs.List.{All};
 ghost use Rattle.cell_context.specs.Visits.{IsElementVisit, IsMet, IsFound};
 ghost use Rattle.std.specs.Prelude.{OnOk, IfOk, ◌≡◌, ◌<◌, ◌≤◌, ◌-◌, ◌^◌, ◌&&◌, ℕ, ℤ, pos, ◌+ℤ◌};

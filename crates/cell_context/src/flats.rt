@@ -1,4 +1,5 @@
-// Flat squares of a cell in a window.
+//! Flat squares of a cell in a window.
+
 ghost use Rattle.std.specs.Prelude.{slice_get, ◌≡◌, ◌↔◌, ◌||◌, ◌&&◌, ◌<◌, ◌^◌, ℕ, OnOk, IfOk, true};
 ghost use Rattle.std.specs.Prelude.{length, Option, Some, None};
 ghost use Rattle.std.specs.List.{All};

@@ -1,4 +1,5 @@
-// Which steps of an array lie between two numbers.
+//! Which steps of an array lie between two numbers.
+
 ghost use Rattle.std.specs.Prelude.{◌≡◌, ◌≢◌, ◌<◌, ◌≤◌, ◌*◌, ◌^◌, ℕ, ℤ, pos, ◌*ℤ◌, ◌<ℤ◌, ◌≤ℤ◌};
 ghost use Rattle.geo_base.specs.Near.{IsWithin};
 ghost use Rattle.cell_context.specs.Steps.{Includes};

@@ -1,3 +1,5 @@
+//! A cell of a design: its own squares by layer, its texts, references and hull.
+
 ghost use Rattle.std.specs.Prelude.{◌≡◌};
 ghost use Rattle.geo_base.specs.Layers.{is_same_key};
 

@@ -1,3 +1,5 @@
+//! Lengths and checksums of the texts of chips of one to 10,000 inverters.
+
 use chip_maker::make;
 use std::test::Fail;
 

@@ -1,3 +1,5 @@
+//! Laws on local and on disturbed squares, each the contract of a function that does nothing.
+
 ghost use Rattle.deep_laws.specs.Layers.{CandidateLaw, BelowLaw};
 ghost use Rattle.deep_laws.specs.Zones.{ArrayZoneLaw, UnionLaw};
 

@@ -1,3 +1,5 @@
+//! Lengths in whole femtometres, and why a text is none.
+
 ghost use Rattle.std.specs.Prelude.{◌≡◌};
 
 use thiserror::Error;

@@ -1,3 +1,5 @@
+//! Lengths as text in micrometres, exact and without zeros at the end.
+
 ghost use Rattle.std.specs.Prelude.{◌++◌, ◌<◌, ◌^◌, IfOk, OnOk, codes};
 ghost use Rattle.fixed_num.specs.Microns.{IsMicrons, AddsFraction};
 ghost use Rattle.fixed_num.specs.Values.{IsValue};

@@ -1,3 +1,5 @@
+//! The exponent in the text of a value, and what stands behind it.
+
 ghost use Rattle.std.specs.Prelude.{IsTrue};
 ghost use Rattle.std.specs.List.{list_all};
 ghost use Rattle.std.specs.Char.{is_ascii_digit};

@@ -1,3 +1,5 @@
+//! The eight-byte reals of a layout stream, as ones and as quarter turns.
+
 ghost use Rattle.std.specs.Prelude.{◌≡◌, ◌*◌, ◌<◌, ◌≤◌, ◌^◌, ℕ, MatchOption};
 
 /// An eight-byte real of the GDSII Stream Format: the value is `mantissa * 16^(exponent - 78)`,

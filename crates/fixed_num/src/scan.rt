@@ -1,3 +1,5 @@
+//! The parts of the text of a value: digits, fraction, exponent and suffix.
+
 ghost use Rattle.std.specs.Prelude.{◌≡◌, ◌≤◌, length, IsTrue, MatchOption, Option, Some, None};
 ghost use Rattle.std.specs.Prelude.{option_map, map};
 ghost use Rattle.std.specs.List.{prefix_len, list_all};

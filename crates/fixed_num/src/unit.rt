@@ -1,3 +1,5 @@
+//! The database unit of a layout stream, in whole picometres.
+
 ghost use Rattle.std.specs.Prelude.{◌≡◌, ℕ, MatchOption, is_some};
 ghost use Rattle.fixed_num.specs.Real.{IsPicometres, is_unit, real_seen};
 

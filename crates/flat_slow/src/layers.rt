@@ -1,3 +1,5 @@
+//! Flat, kept and local squares of a derived layer, asked square by square.
+
 ghost use Rattle.std.specs.Prelude.{◌↔◌, IsTrue, IfSome};
 ghost use Rattle.flat_layout.specs.Layers.{InFlat, IsKept, IsKeptBelow, IsLocal, inputs};
 ghost use Rattle.flat_layout.specs.Layout.{IsDisturbed};

@@ -1,3 +1,5 @@
+//! Flat, kept and local squares of a child and of a top that places it.
+
 use flat_slow::{Formula, SlowCell, SlowDesign, SlowPlace, SlowShape, in_flat, is_kept, is_local};
 use geo_base::{LayerKey, Motion, Op, Rect, Square, Turn};
 use std::alloc::{AllocError, Global};

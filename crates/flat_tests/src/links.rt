@@ -1,3 +1,5 @@
+//! Classes of links, numbered by their least members.
+
 use link_classes::{Link, joined_classes};
 use std::test::Fail;
 

@@ -1,4 +1,5 @@
-// The gates of a cell among the parts of what was gathered.
+//! The law of the search: what it gathers holds all gates of a cell's own, part by part.
+
 ghost use Rattle.gate_search.specs.SearchLaws.{PartLaw, FoundLaw, KnownLaw};
 
 /// What was gathered around the seeds holds all gates of the cell's own, part by part.

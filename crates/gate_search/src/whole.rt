@@ -1,3 +1,5 @@
+//! A set that is there as a whole, as a layer of gates.
+
 ghost use Rattle.rect_sets.specs.Near.{IsNearSet};
 
 use crate::windows::GateLayer;

@@ -1,4 +1,5 @@
-// From seeds to whole parts.
+//! From seeds to whole parts of a layer that is known only window by window.
+
 ghost use Rattle.std.specs.Prelude.{IfOk};
 ghost use Rattle.std.specs.List.{All};
 ghost use Rattle.geo_base.specs.Rects.{IsRect};

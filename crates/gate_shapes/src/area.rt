@@ -1,4 +1,5 @@
-// How many squares a set has.
+//! How many squares a set has.
+
 ghost use Rattle.std.specs.Prelude.{◌≡◌, ◌+◌, IfOk};
 ghost use Rattle.flat_layout.specs.Parts.{Counts};
 ghost use Rattle.gate_shapes.specs.Sets.{in_set, area_of, area};

@@ -1,4 +1,5 @@
-// What lies round a part: its boundary edges, and the squares of source and drain in its ring.
+//! What lies round a part: its boundary edges, and the squares of source and drain in its ring.
+
 ghost use Rattle.std.specs.Prelude.{◌≡◌, ◌↔◌, ◌&&◌, ◌||◌, ◌+◌, not, map, IfOk};
 ghost use Rattle.std.specs.List.{All};
 ghost use Rattle.geo_base.specs.Near.{IsNearRect};

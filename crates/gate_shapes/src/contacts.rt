@@ -1,5 +1,6 @@
-// Which rectangles of a canonical list share an edge. Runs of one row are apart, so one always
-// stands on the other.
+//! Which rectangles of a canonical list share an edge.
+//! Runs of one row are apart, so one always stands on the other.
+
 ghost use Rattle.std.specs.Prelude.{◌≡◌, ℕ, ◌+◌, ◌^◌, ◌<◌, ◌++◌, length, IfOk, OnOk};
 ghost use Rattle.std.specs.Prelude.{slice_index_or};
 ghost use Rattle.std.specs.List.Sorted.{IsPermutation};

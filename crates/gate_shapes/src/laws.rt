@@ -1,4 +1,5 @@
-// From lists of rectangles to the gates of a cell.
+//! The law of shapes: a gate's shape is found of lists that are exact at the gate and its ring.
+
 ghost use Rattle.gate_shapes.specs.LookLaws.{LookLaw};
 
 /// What is found of lists that are exact at a gate and its ring holds of the gate.

@@ -1,4 +1,5 @@
-// The edge-connected parts of a set.
+//! The edge-connected parts of a set.
+
 ghost use Rattle.std.specs.Prelude.{◌≡◌, ◌↔◌, ℕ, ◌^◌, ◌<◌, length, slice_get, slice_index, Some};
 ghost use Rattle.std.specs.Prelude.{IfOk, MatchOption};
 ghost use Rattle.geo_base.specs.declared.shapes.Rect.{Rect};

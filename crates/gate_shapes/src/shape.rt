@@ -1,4 +1,5 @@
-// A part as the gate of a transistor.
+//! A part as the gate of a transistor.
+
 ghost use Rattle.std.specs.Prelude.{◌≡◌, ◌↔◌, ℕ, Bool, IfOk};
 ghost use Rattle.geo_base.specs.declared.shapes.Square.{Square};
 ghost use Rattle.rect_sets.specs.Near.{IsNearSet};

@@ -1,3 +1,5 @@
+//! Classes of the numbers that chains of links join, numbered by their least members.
+
 ghost use Rattle.std.specs.Prelude.{IfOk};
 ghost use Rattle.link_classes.specs.Classes.{AreClasses, AreInRange};
 

@@ -1,3 +1,5 @@
+//! Trees of numbers that links join: union by rank, with path halving.
+
 ghost use Rattle.std.specs.Prelude.{◌≡◌, ◌≢◌, ◌<◌, ◌≤◌, ◌^◌, length, get_or, set, IfOk};
 ghost use Rattle.link_classes.specs.Forest.{AreAlone, AreNumbered, InOneTree, IsForest, IsTop};
 ghost use Rattle.link_classes.specs.Forest.{IsJoinedBy, SameTrees};

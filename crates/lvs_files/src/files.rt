@@ -1,4 +1,5 @@
-// Lists of files.
+//! Lists of files, written one after the other.
+
 ghost use Rattle.lvs_files.specs.Files.{AreApart, WritesFiles, files_of};
 ghost use Rattle.lvs_outside.specs.Store.{HasRoom};
 

@@ -1,4 +1,5 @@
-// An adapter that counts empty takes as faults.
+//! An adapter that counts empty takes as faults.
+
 ghost use Rattle.std.specs.Prelude.{◌≡◌, ◌<◌, length, if◌then◌else◌};
 ghost use Rattle.lvs_outside.specs.Store.{Store, HasRoom, IsReading, IsWriting, OpensRead, Reads};
 ghost use Rattle.lvs_outside.specs.Store.{StartsWrite, Writes, Finishes, empty_take, counted};

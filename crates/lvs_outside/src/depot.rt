@@ -1,4 +1,5 @@
-// A store of files by path.
+//! A store of files by path.
+
 ghost use Rattle.std.specs.Prelude.{◌<◌, length};
 ghost use Rattle.lvs_outside.specs.Store.{Store, HasRoom, IsReading, IsWriting, OpensRead, Reads};
 ghost use Rattle.lvs_outside.specs.Store.{StartsWrite, Writes, Finishes};

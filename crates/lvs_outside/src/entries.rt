@@ -1,4 +1,5 @@
-// Files in memory, by path.
+//! Files in memory, by path.
+
 ghost use Rattle.std.specs.Prelude.{◌≡◌, ◌+◌, ◌^◌, ◌<◌, ◌≤◌, List, ℕ, length, IfOk, OnOk, OnErr};
 ghost use Rattle.std.specs.Prelude.{IsTrue, MatchOption, vec_len};
 ghost use Rattle.lvs_outside.specs.Store.{NoFile, Holds, NextBytes, appended};

@@ -1,4 +1,5 @@
-// The store over std's files.
+//! The store over std's files.
+
 ghost use Rattle.std.specs.Prelude.{◌≡◌, ◌+◌, ℕ, List, []};
 
 use crate::counted::is_empty_take;

@@ -1,4 +1,5 @@
-// Files that are lent, by path.
+//! Files that are lent, by path.
+
 ghost use Rattle.std.specs.Prelude.{◌≡◌, ◌≢◌, List, ℕ, OnOk, OnErr, IsTrue, MatchOption};
 ghost use Rattle.lvs_outside.specs.Store.{Told, Untold, Holds};
 ghost use Rattle.lvs_outside.specs.LentFiles.{told_or, is_first, IsUnheld};

@@ -1,4 +1,5 @@
-// The loops over a depot and a sink: a read, a write or a take may stop short anywhere.
+//! The loops over a depot and a sink: a read, a write or a take may stop short anywhere.
+
 ghost use Rattle.std.specs.Prelude.{◌≡◌, List, []};
 ghost use Rattle.lvs_outside.specs.Store.{Store, HasRoom, IsReading, IsWriting, Writes, counted};
 ghost use Rattle.lvs_outside.specs.Summary.{SinkState, SinkHasRoom, Takes, counted_sink};

@@ -1,4 +1,5 @@
-// A depot in memory, with calls that are to fail.
+//! A depot in memory, with calls that are to fail.
+
 ghost use Rattle.std.specs.Prelude.{◌≡◌, ◌+◌, ◌<◌, ℕ, List, IsTrue};
 ghost use Rattle.lvs_outside.specs.Entries.{is_in_place};
 ghost use Rattle.lvs_outside.specs.Token.{bytes_of};

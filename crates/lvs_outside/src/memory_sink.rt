@@ -1,4 +1,5 @@
-// A sink in memory, with calls that are to fail.
+//! A sink in memory, with calls that are to fail.
+
 ghost use Rattle.std.specs.Prelude.{◌≡◌, ◌+◌, ◌<◌, ℕ, List};
 
 use crate::schedule::Schedule;

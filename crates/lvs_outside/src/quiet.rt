@@ -1,4 +1,5 @@
-// A depot and a sink that keep only how many bytes they took.
+//! A depot and a sink that keep only how many bytes they took.
+
 ghost use Rattle.std.specs.Prelude.{◌≡◌, ◌+◌, ℕ, List, IsTrue};
 ghost use Rattle.lvs_outside.specs.LentFiles.{told_lent, is_access, one_if_written};
 ghost use Rattle.lvs_outside.specs.Token.{bytes_of, count_of, paths_of};

@@ -1,4 +1,5 @@
-// Which calls on a memory object fail.
+//! Which calls on a memory object fail.
+
 ghost use Rattle.std.specs.Prelude.{◌≡◌, ◌+◌, ◌-◌, ◌<◌, ◌^◌, if◌then◌else◌};
 ghost use Rattle.lvs_outside.specs.Schedule.{next_calls, is_next_listed, faults_of};
 

@@ -1,4 +1,5 @@
-// A taker of summary bytes.
+//! A taker of summary bytes.
+
 ghost use Rattle.lvs_outside.specs.Summary.{SinkState, SinkHasRoom, Takes};
 
 use crate::Failed;

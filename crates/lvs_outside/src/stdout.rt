@@ -1,4 +1,5 @@
-// Standard output as a sink. It tells nothing of what it took.
+//! Standard output as a sink, which tells nothing of what it took.
+
 ghost use Rattle.std.specs.Prelude.{◌≡◌, ◌+◌, ℕ};
 
 use crate::counted::is_empty_take;

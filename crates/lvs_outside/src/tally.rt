@@ -1,4 +1,5 @@
-// A count of bytes that stops at its type's end.
+//! A count of bytes that stops at its type's end.
+
 ghost use Rattle.std.specs.Prelude.{◌≡◌, ◌+◌, ◌-◌, ◌^◌, min};
 ghost use Rattle.lvs_outside.specs.Token.{count_of};
 

@@ -1,4 +1,5 @@
-// The commands.
+//! The commands, and why words state none.
+
 ghost use Rattle.std.specs.Prelude.{◌≡◌, ◌≢◌, map, IfOk, IsErrOf, None, Some, string_bytes};
 ghost use Rattle.lvs_words.specs.declared.command.WordFault.TheVariants.{NoMemory};
 

@@ -1,4 +1,5 @@
-// Whether options are those of a command, and what they give it.
+//! Whether options are those of a command, and what they give it.
+
 ghost use Rattle.std.specs.Prelude.{◌≡◌, IfOk, string_bytes};
 ghost use Rattle.std.specs.List.{list_all};
 ghost use Rattle.lvs_words.specs.Commands.{fits, has_known, has_needed, is_among, is_free};

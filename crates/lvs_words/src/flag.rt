@@ -1,4 +1,5 @@
-// The names of options.
+//! The options of the commands, by their names.
+
 ghost use Rattle.std.specs.Prelude.{◌≡◌};
 ghost use Rattle.lvs_words.specs.Flags.{flag_of, is_path, is_same, is_written};
 

@@ -1,4 +1,5 @@
-// Options with their values.
+//! Options with their values.
+
 ghost use Rattle.std.specs.Prelude.{◌≡◌, ◌≤◌, length, map, IfOk, IfSome, IsNone};
 ghost use Rattle.std.specs.Prelude.{IsErrOf, ◌∷◌, true, None, Some, string_bytes};
 ghost use Rattle.std.specs.List.{list_any};

@@ -1,4 +1,5 @@
-// Numbers among the words.
+//! Numbers among the words.
+
 ghost use Rattle.std.specs.Prelude.{◌≡◌, ◌≤◌, IfSome};
 ghost use Rattle.std.specs.Str.{all_ascii_digits};
 ghost use Rattle.lvs_words.specs.Numbers.{number_in};

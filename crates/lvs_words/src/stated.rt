@@ -1,4 +1,5 @@
-// What a list of words states.
+//! What a list of words states.
+
 ghost use Rattle.std.specs.Prelude.{◌≡◌, map, IfOk, IsErrOf, None, Some, string_bytes};
 ghost use Rattle.std.specs.Option.{option_map};
 ghost use Rattle.lvs_words.specs.Commands.{asked, asked_of, extract_of, run_of, said, said_extract};

@@ -1,3 +1,5 @@
+//! The terminals of both circuits' transistors and calls, as edges between nodes.
+
 ghost use Rattle.std.specs.Prelude.{◌≡◌, ◌<◌, ◌+◌, ◌++◌, ◌∷◌, [], ◌^◌, ℕ, length, slice_index};
 ghost use Rattle.std.specs.Prelude.{OnOk, IfOk};
 ghost use Rattle.round_laws.specs.Nodes.{Layout, Schematic};

@@ -1,3 +1,5 @@
+//! The graph of two circuits: nets, transistors and calls as nodes, each with its ends.
+
 ghost use Rattle.std.specs.Prelude.{◌≡◌, ◌<◌, IfOk};
 ghost use Rattle.round_laws.specs.Nodes.{Layout, Schematic};
 ghost use Rattle.match_laws.specs.Circuits.{Pair, IsFitting};

@@ -1,3 +1,5 @@
+//! The kinds of nodes: one number for all that look alike before the first round.
+
 ghost use Rattle.std.specs.Prelude.{◌≡◌, ◌++◌, ◌∷◌, [], length, map, OnOk, IfOk};
 ghost use Rattle.net_model.specs.Rows.{plain_circuit};
 ghost use Rattle.match_parts.specs.Marks.{AreMarked};

@@ -1,3 +1,5 @@
+//! How many nets, transistors and calls a circuit has, and how its nodes are numbered.
+
 ghost use Rattle.std.specs.Prelude.{◌+◌, ◌<◌, ◌^◌};
 
 use crate::small::{add, number};

@@ -1,3 +1,5 @@
+//! Classes split by a count: a new colour for each colour with one count.
+
 ghost use Rattle.std.specs.Prelude.{◌≡◌, ◌<◌, ◌^◌, length, IfOk};
 ghost use Rattle.match_parts.specs.Split.{IsSplit};
 

@@ -1,3 +1,5 @@
+//! Marks of numbers, by which a map is tested for being one to one.
+
 ghost use Rattle.std.specs.Prelude.{◌≡◌, length, Decides};
 ghost use Rattle.match_laws.specs.Circuits.{IsOneToOne};
 ghost use Rattle.match_parts.specs.Marks.{AreMarked, AreUnset};

@@ -1,3 +1,5 @@
+//! Transistors as they are compared, and whether one is the image of another.
+
 ghost use Rattle.std.specs.Prelude.{length, Decides};
 ghost use Rattle.match_laws.specs.Circuits.{IsDeviceImage};
 ghost use Rattle.match_parts.specs.Rows.{device_of, AreTerminalsBelow};

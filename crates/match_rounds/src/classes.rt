@@ -1,3 +1,5 @@
+//! The nodes in classes, and the parting of a class in two.
+
 ghost use Rattle.std.specs.Prelude.{◌≡◌, ◌<◌, ◌^◌, count_by, length, OnOk, nat_lt};
 ghost use Rattle.match_rounds.specs.Classes.{AreAlike, IsGrown, IsPartedOff, IsPartition};
 ghost use Rattle.match_rounds.specs.Classes.{KeepsFresh, class_count, node_count};

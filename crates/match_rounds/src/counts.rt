@@ -1,3 +1,5 @@
+//! How many nodes each class has, how many of them are left ones, and whether one is uneven.
+
 ghost use Rattle.std.specs.Prelude.{◌≡◌, ◌*◌, ◌≢◌, true};
 
 use std::alloc::AllocError;

@@ -1,3 +1,5 @@
+//! Classes parted by counts that stand in order, group by group.
+
 ghost use Rattle.std.specs.Prelude.{◌<◌, ◌≤◌, length, OnOk};
 ghost use Rattle.match_rounds.specs.Classes.{IsGrown, IsPartition, KeepsFresh, node_count};
 ghost use Rattle.match_rounds.specs.Pieces.{ArePartedBy, ArePieces, AreNodesOf, IsGroup};

@@ -1,3 +1,5 @@
+//! A look at one class: it parts classes by the ends that their nodes have there.
+
 ghost use Rattle.std.specs.Prelude.{◌≡◌, ◌<◌, ℕ, length, slice_index, OnOk};
 ghost use Rattle.std.specs.List.{flat_map};
 ghost use Rattle.match_graph.specs.Graph.{IsGraph, ends_at, left_of, nodes_of};

@@ -1,3 +1,5 @@
+//! Which classes the next round looks at.
+
 ghost use Rattle.std.specs.Prelude.{◌<◌};
 
 use std::alloc::AllocError;

@@ -1,3 +1,5 @@
+//! The nodes of the marked classes, listed class by class.
+
 ghost use Rattle.std.specs.Prelude.{◌≤◌, length, OnOk};
 ghost use Rattle.match_rounds.specs.Classes.{AreClasses, node_count};
 ghost use Rattle.match_rounds.specs.Marks.{AreListed};

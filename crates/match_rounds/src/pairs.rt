@@ -1,3 +1,5 @@
+//! A guessed pair of nodes, parted from the rest of their classes.
+
 ghost use Rattle.std.specs.Prelude.{◌≡◌, ◌≢◌, ◌<◌, IfOk, OnOk};
 ghost use Rattle.match_rounds.specs.Classes.{IsGrown, IsPartition, KeepsFresh, node_count};
 ghost use Rattle.match_rounds.specs.Pairs.{IsPairParted, pair_of, part_at};

@@ -1,3 +1,5 @@
+//! What is read of classes: a node's class, and the sizes and the members of a class.
+
 ghost use Rattle.std.specs.Prelude.{◌≡◌, ◌<◌};
 ghost use Rattle.match_graph.specs.Graph.{left_of, nodes_of};
 ghost use Rattle.match_rounds.specs.Classes.{IsPartition, class_count, class_in, node_count};

@@ -1,3 +1,5 @@
+//! All rounds, up to the first with unequal counts or to one that parts no class.
+
 ghost use Rattle.std.specs.Prelude.{IfOk};
 ghost use Rattle.match_graph.specs.Graph.{IsGraph, left_of, nodes_of};
 ghost use Rattle.match_rounds.specs.Classes.{IsPartition};

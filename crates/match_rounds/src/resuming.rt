@@ -1,3 +1,5 @@
+//! Rounds that go on from stable classes when one more pair is guessed.
+
 ghost use Rattle.std.specs.Prelude.{◌<◌, length, IfOk, OnOk};
 ghost use Rattle.match_graph.specs.Graph.{IsGraph, left_of, nodes_of};
 ghost use Rattle.match_rounds.specs.Classes.{IsGrown, IsPartition};

@@ -1,3 +1,5 @@
+//! One round: each class is parted by the ends that its nodes have at each class.
+
 ghost use Rattle.std.specs.Prelude.{◌≡◌, ◌<◌, ℕ, length, slice_index, OnOk};
 ghost use Rattle.match_graph.specs.Graph.{IsGraph, left_of, nodes_of};
 ghost use Rattle.match_rounds.specs.Classes.{IsGrown, IsPartition, KeepsFresh};

@@ -1,3 +1,5 @@
+//! Classes parted by counts in any order, which are sorted first.
+
 ghost use Rattle.std.specs.Prelude.{length, OnOk};
 ghost use Rattle.std.specs.List.Sorted.{IsPermutation};
 ghost use Rattle.match_rounds.specs.Classes.{IsGrown, IsPartition, KeepsFresh, node_count};

@@ -1,3 +1,5 @@
+//! The classes before the first round: what looks alike, and each guessed pair apart.
+
 ghost use Rattle.std.specs.Prelude.{◌≡◌, ◌↔◌, ◌<◌, ◌≤◌, ℕ, true, length, slice_index, IfOk, OnOk};
 ghost use Rattle.round_laws.specs.Colours.{AreColours};
 ghost use Rattle.match_graph.specs.Graph.{IsGraph, kind_at, left_of, nodes_of};

@@ -1,3 +1,5 @@
+//! What the comparison of two circuits comes to, with its pairing or its evidence.
+
 /// The left circuit is the layout's, the right one the schematic's.
 #[derive(Clone, Copy, Debug, PartialEq, Eq)]
 pub enum Side {

@@ -1,3 +1,5 @@
+//! The right pin of each left pin, for the called pairs that are matched.
+
 ghost use Rattle.std.specs.Prelude.{◌≡◌, ◌≢◌, ℕ, None, Some, IfSome, IsNone, OnOk, ◌↔◌};
 ghost use Rattle.match_types.specs.Children.{children_of};
 

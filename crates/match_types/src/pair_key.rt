@@ -1,3 +1,5 @@
+//! What the answers of all pairs are made from, kept for contracts alone.
+
 use crate::answer::Answer;
 use job_graph::Defined;
 use net_model::Netlist;

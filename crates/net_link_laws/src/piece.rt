@@ -1,3 +1,5 @@
+//! A rectangle of a net.
+
 use geo_base::Rect;
 
 /// A rectangle of a net.

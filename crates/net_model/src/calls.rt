@@ -1,3 +1,5 @@
+//! Which circuits each circuit calls, and the first that calls itself.
+
 ghost use Rattle.std.specs.Prelude.{◌≡◌, ◌<◌, ◌^◌, IfOk, length, map};
 ghost use Rattle.call_order.specs.Order.{lists, AreInRange};
 ghost use Rattle.net_model.specs.Faults.{called_by, FindsCycle, CallListsLaw};

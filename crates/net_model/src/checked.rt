@@ -1,3 +1,5 @@
+//! Whether a netlist is sound, or its first fault.
+
 ghost use Rattle.std.specs.Prelude.{OnOk, IfErr, map};
 ghost use Rattle.plain_netlist.specs.Sound.{IsSoundNetlist};
 ghost use Rattle.net_model.specs.Faults.{IsNetFault};

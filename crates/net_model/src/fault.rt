@@ -1,3 +1,5 @@
+//! What can be wrong with a netlist.
+
 ghost use Rattle.net_model.specs.declared.fault.NetFault.TheVariants.{NoMemory};
 
 use std::alloc::AllocError;

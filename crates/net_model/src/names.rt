@@ -1,3 +1,5 @@
+//! Names that stand twice, among the circuits and among the nets of one.
+
 ghost use Rattle.std.specs.Prelude.{◌≡◌, ◌<◌, ◌^◌, IfOk, [], map, length};
 ghost use Rattle.net_model.specs.Rows.{plain_circuit};
 ghost use Rattle.net_model.specs.Tests.{has_twins, first_clash};

@@ -1,3 +1,5 @@
+//! Netlists: circuits with nets, pins, transistors and calls of circuits by number.
+
 use fixed_num::Femto;
 use net_names::Name;
 

@@ -1,3 +1,5 @@
+//! Numbers of nets and circuits out of range, and calls with more or fewer nets than pins.
+
 ghost use Rattle.std.specs.Prelude.{◌≡◌, ◌<◌, ◌^◌, length, map};
 ghost use Rattle.net_model.specs.Tests.{is_out, is_bad_device, is_bad_call, has_bad_terminal};
 ghost use Rattle.net_model.specs.Tests.{calls_none, is_other_count, has_other_count, first_of};

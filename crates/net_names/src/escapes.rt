@@ -1,3 +1,5 @@
+//! Names as SPICE text spells them, read and written.
+
 ghost use Rattle.std.specs.Prelude.{◌≡◌, ◌<◌, ◌≤◌, ◌++◌, length, slice_index, IfOk, OnOk, IfSome};
 ghost use Rattle.std.specs.Prelude.{IsErrOf, Some, None};
 ghost use Rattle.net_names.specs.Escapes.{is_plain, hex_digit, spelling, escaped, hex_value};

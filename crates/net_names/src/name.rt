@@ -1,3 +1,5 @@
+//! Names of one or more bytes, their order, and their folding to capitals.
+
 ghost use Rattle.std.specs.Prelude.{◌≡◌, ◌<◌, ◌↔◌, length, IfOk, IfSome, IsNone, Some, nat_eq};
 ghost use Rattle.std.specs.Prelude.{refl, [], map};
 ghost use Rattle.std.specs.Ordering.{nat_cmp};

@@ -1,3 +1,5 @@
+//! Lengths written in micrometres and read again.
+
 use fixed_num::{Femto, micron_text, parse_value};
 use std::test::Fail;
 

@@ -1,3 +1,5 @@
+//! Eight-byte reals as ones, as angles and as database units.
+
 use fixed_num::{Real8, dbu_pm};
 
 #[test]

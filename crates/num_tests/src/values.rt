@@ -1,3 +1,5 @@
+//! Texts of SPICE values, and the lengths that they are worth or their faults.
+
 use fixed_num::ValueFault::{NotNumber, TooFine, TooLarge};
 use fixed_num::{Femto, ValueFault, parse_value};
 use std::test::Fail;

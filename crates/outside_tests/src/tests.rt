@@ -1,3 +1,5 @@
+//! Depots and sinks over files and in memory: what they keep, and the calls that fail.
+
 ghost use Rattle.std.specs.Prelude.{◌≡◌, []};
 ghost use Rattle.lvs_outside.specs.Store.{HasRoom};
 

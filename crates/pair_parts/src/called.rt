@@ -1,3 +1,5 @@
+//! The first called pair that isn't matched.
+
 ghost use Rattle.std.specs.Prelude.{IfSome, IsNone};
 ghost use Rattle.net_model.specs.declared.netlist.Circuit.{Circuit};
 ghost use Rattle.match_laws.specs.Circuits.{AreMatched};

@@ -1,3 +1,5 @@
+//! The calls of a pairing: whether each left one goes to its image.
+
 ghost use Rattle.std.specs.Prelude.{◌≡◌, Decides, length};
 ghost use Rattle.net_model.specs.Rows.{plain_circuit, plain_call};
 ghost use Rattle.match_types.specs.Children.{children_of};

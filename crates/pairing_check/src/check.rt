@@ -1,3 +1,5 @@
+//! Whether a pairing is a correspondence of two circuits.
+
 ghost use Rattle.std.specs.Prelude.{Decides, IfOk, length};
 ghost use Rattle.match_laws.specs.Circuits.{IsCorrespondence, IsFitting, IsOneToOne};
 ghost use Rattle.round_laws.specs.Nodes.{Layout, Schematic};

@@ -1,3 +1,5 @@
+//! The transistors of a pairing: whether each left one goes to its image.
+
 ghost use Rattle.std.specs.Prelude.{◌≡◌, Decides, length};
 ghost use Rattle.net_model.specs.Rows.{plain_circuit, plain_device};
 ghost use Rattle.match_parts.specs.Rows.{device_of};

@@ -1,3 +1,5 @@
+//! The pins of a pairing: whether a left net is one exactly where its image is.
+
 ghost use Rattle.std.specs.Prelude.{◌≡◌, Decides, length};
 ghost use Rattle.net_model.specs.Rows.{plain_circuit};
 ghost use Rattle.pairing_check.specs.Parts.{ArePinsKept};

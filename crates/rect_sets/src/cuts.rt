@@ -218,7 +218,11 @@ fn grid_of(a: &[Rect], b: &[Rect], spare: usize) -> Option<Grid> {
     }
     let level = plane.grid(Axis::Y, 2);
     let parts = added(&level);
-    if FEW_LEVEL <= count && 2 <= plane.y2.abs_diff(plane.y1) && parts <= count / 8 && parts <= spare {
+    if FEW_LEVEL <= count
+        && 2 <= plane.y2.abs_diff(plane.y1)
+        && parts <= count / 8
+        && parts <= spare
+    {
         return Some(level);
     }
     let upright = plane.grid(Axis::X, 2);

@@ -1,3 +1,5 @@
+//! The lines of a text, and the first byte that no text has.
+
 ghost use Rattle.std.specs.Prelude.{◌≡◌, ◌==◌, ◌<◌, ◌≤◌, ◌∷◌, length, position};
 ghost use Rattle.std.specs.List.{position_or_len};
 ghost use Rattle.rule_lines.specs.Lines.{is_no_text, lines_of, chopped};

@@ -1,3 +1,5 @@
+//! The tokens of a line of a rule file.
+
 ghost use Rattle.std.specs.Prelude.{◌≡◌, ◌==◌, ◌<◌, ◌≤◌, ◌++◌, length, drop, IfOk, OnOk};
 ghost use Rattle.std.specs.List.{prefix_len, position_or_len};
 ghost use Rattle.rule_lines.specs.Tokens.{is_digit, is_small, is_word, is_mark, piece, text_until};

@@ -1,3 +1,5 @@
+//! Rule files that are refused, each fault with its line, and the edges of limits.
+
 use crate::shown::answer;
 use rule_text::read_rules;
 use std::alloc::{AllocError, Global};

@@ -1,3 +1,5 @@
+//! Worked rule files, with their whole rule sets.
+
 use crate::shown::answer;
 use std::test::Fail;
 

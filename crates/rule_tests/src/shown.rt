@@ -1,4 +1,4 @@
-// A rule set and a fault as text, so that a test compares whole answers.
+//! A rule set and a fault as text, so that a test compares whole answers.
 
 use geo_base::Op;
 use rule_text::{LayerForm, RuleFault, RuleSet, read_rules};

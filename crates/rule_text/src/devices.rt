@@ -1,3 +1,5 @@
+//! The statement `extract_devices`: its entries, and the transistor that they give.
+
 ghost use Rattle.std.specs.Prelude.{◌≡◌, ◌<◌, ◌≤◌, true, IfSome, length, take, drop};
 ghost use Rattle.rule_lines.specs.Seen.{seen_all};
 ghost use Rattle.rule_text.specs.Devices.{is_key, entry, entry_or, is_entry_at, is_comma_at};

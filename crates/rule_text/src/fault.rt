@@ -1,3 +1,5 @@
+//! The first fault of a rule file, and its number.
+
 ghost use Rattle.std.specs.Prelude.{◌≡◌};
 ghost use Rattle.rule_text.specs.Faults.{number_of};
 ghost use Rattle.rule_text.specs.declared.fault.RuleFault.TheVariants.{NoMemory};

@@ -1,3 +1,5 @@
+//! The reader of a rule file: each line's statement is tested, then kept.
+
 ghost use Rattle.std.specs.Prelude.{◌≡◌, ◌<◌, length, IfOk, IfSome};
 ghost use Rattle.rule_lines.specs.Seen.{seen_all};
 ghost use Rattle.net_names.specs.Folding.{folded_bytes};

@@ -1,3 +1,5 @@
+//! The statements of a rule file, each read by a row of slots.
+
 ghost use Rattle.std.specs.Prelude.{◌≡◌, IfSome};
 ghost use Rattle.rule_lines.specs.Seen.{seen_all};
 ghost use Rattle.rule_text.specs.Rows.{op_of, definition_of, wiring_of, is_accepted, setting_of};

@@ -1,3 +1,5 @@
+//! The rules of a rule file: names, outputs, connections, devices, pairs of circuits.
+
 use geo_base::{LayerKey, Op};
 use net_names::Name;
 use std::alloc::{AllocError, Global};

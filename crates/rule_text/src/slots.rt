@@ -1,3 +1,5 @@
+//! Slots: what may stand at each place of a statement, and what stands there.
+
 ghost use Rattle.std.specs.Prelude.{◌≡◌, true, ◌≤◌, ◌<◌, ◌^◌, is_some, unwrap_or, length, IfSome};
 ghost use Rattle.std.specs.List.{list_all, list_any};
 ghost use Rattle.std.specs.Str.{bytes_eq};

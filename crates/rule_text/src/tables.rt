@@ -1,3 +1,5 @@
+//! Texts and layers in order of first sight, found without a scan.
+
 ghost use Rattle.std.specs.Prelude.{◌≡◌, false, ℕ, ◌≤◌, length, List, [], ◌∷◌, ◌++◌, map, OnOk};
 ghost use Rattle.std.specs.List.{list_any, position_or_len};
 ghost use Rattle.std.specs.Str.{bytes_eq};

@@ -1,3 +1,5 @@
+//! A small design as plain lists: cells with shapes and placements.
+
 ghost use Rattle.std.specs.Prelude.{◌≡◌, ◌↔◌, IsTrue, map};
 ghost use Rattle.flat_layout.specs.Layout.{Some_of};
 ghost use Rattle.slow_paths.specs.Slow.{IsOnLayer, plain_layer, plain_place};

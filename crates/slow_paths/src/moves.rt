@@ -1,3 +1,5 @@
+//! Where a motion takes a square, and which square it takes there.
+
 ghost use Rattle.std.specs.Prelude.{◌≡◌, IfSome};
 ghost use Rattle.geo_base.specs.Motions.{moved_square, turned_x, turned_y};
 

@@ -1,3 +1,5 @@
+//! Flat and disturbed squares on an input layer, by every path of placements.
+
 ghost use Rattle.std.specs.Prelude.{◌↔◌, IsTrue, IfSome, [], ◌∷◌};
 ghost use Rattle.flat_layout.specs.Layout.{InFlatInput, IsDisturbed, IsReached};
 ghost use Rattle.slow_paths.specs.Slow.{IsOver, plain};

@@ -1,3 +1,5 @@
+//! The cards of a netlist text: each a line, with the lines that go on with it.
+
 ghost use Rattle.std.specs.Prelude.{◌≡◌, ◌++◌, ◌∷◌, [], ◌+◌, ◌<◌, ◌^◌, true, IfOk, OnOk};
 ghost use Rattle.std.specs.Prelude.{MatchOption, MatchResult, Some, None, length};
 ghost use Rattle.std.specs.List.{list_all};

@@ -1,3 +1,5 @@
+//! The words and the parameters of a card.
+
 ghost use Rattle.std.specs.Prelude.{◌≡◌, IfOk, OnOk, MatchBool, Some, None};
 ghost use Rattle.spice_cards.specs.Parts.{begins_equals, words_of, behind_words, params_of};
 ghost use Rattle.spice_cards.specs.Seen.{tokens_seen, words_seen, params_seen};

@@ -1,3 +1,5 @@
+//! The tokens of a card: words, and each `=` that isn't escaped.
+
 ghost use Rattle.std.specs.Prelude.{◌≡◌, ◌≤◌, ◌<◌, ◌++◌, false, length, IfOk, OnOk};
 ghost use Rattle.spice_cards.specs.Tokens.{is_blank, goes_on, run, word_len, piece, tokens_of};
 ghost use Rattle.spice_cards.specs.Seen.{tokens_seen, some_seen};

@@ -1,3 +1,5 @@
+//! What a card says: a transistor, a call, global names, or a circuit's begin or end.
+
 use fixed_num::Femto;
 use net_names::Name;
 

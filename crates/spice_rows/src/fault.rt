@@ -1,3 +1,5 @@
+//! The first fault of a netlist text.
+
 ghost use Rattle.std.specs.Prelude.{◌≡◌};
 ghost use Rattle.spice_rows.specs.declared.fault.SpiceFault.TheVariants.{NoMemory};
 

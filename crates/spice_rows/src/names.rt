@@ -1,3 +1,5 @@
+//! The names that words spell, folded to capitals.
+
 ghost use Rattle.std.specs.Prelude.{◌≡◌, IfOk, IfSome, IsNone, Some, None};
 ghost use Rattle.net_names.specs.Folding.{folded_byte};
 ghost use Rattle.spice_cards.specs.Seen.{words_seen};

@@ -1,3 +1,5 @@
+//! Which parameters a transistor or a call may have.
+
 ghost use Rattle.std.specs.Prelude.{◌≡◌, not};
 ghost use Rattle.std.specs.List.{list_any, count_by};
 ghost use Rattle.spice_cards.specs.Seen.{params_seen, param_seen};

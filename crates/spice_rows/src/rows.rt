@@ -1,3 +1,5 @@
+//! What the tokens of a card say, or the card's first fault.
+
 ghost use Rattle.std.specs.Prelude.{◌≡◌};
 ghost use Rattle.spice_cards.specs.Seen.{tokens_seen, words_seen, params_seen};
 ghost use Rattle.spice_rows.specs.Names.{names_of};

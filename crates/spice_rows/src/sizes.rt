@@ -1,3 +1,5 @@
+//! The length and the width of a transistor, or the first fault of a value.
+
 ghost use Rattle.std.specs.Prelude.{◌≡◌};
 ghost use Rattle.spice_cards.specs.Seen.{params_seen};
 ghost use Rattle.spice_rows.specs.Sizes.{read_limit, value_of, sizes_of};

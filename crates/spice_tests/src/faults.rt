@@ -1,3 +1,5 @@
+//! Netlist texts with faults, and the first of each with its line.
+
 use fixed_num::ValueFault;
 use spice_text::{SpiceFault, read_spice};
 use std::test::Fail;

@@ -1,3 +1,5 @@
+//! Long netlists: a name of each byte, and many cards, circuits and global names.
+
 use net_model::{Circuit, Netlist};
 use net_names::Name;
 use spice_text::{read_spice, write_spice};

@@ -1,3 +1,5 @@
+//! Netlist texts, and the text that is written of what is read from each.
+
 use spice_text::{read_spice, write_spice};
 use std::test::Fail;
 

@@ -1,3 +1,5 @@
+//! Which circuits the calls of each circuit call, by number.
+
 ghost use Rattle.std.specs.Prelude.{◌≡◌, ◌<◌, ◌^◌, length, map, IfOk};
 ghost use Rattle.call_order.specs.Order.{lists};
 ghost use Rattle.spice_rows.specs.Seen.{call_seen};

@@ -1,3 +1,5 @@
+//! Circuits with their nets by number, made from their cards.
+
 ghost use Rattle.std.specs.Prelude.{◌≡◌, ◌<◌, ◌^◌, [], flat_map, map, length, IfOk};
 ghost use Rattle.call_order.specs.Order.{lists};
 ghost use Rattle.net_model.specs.Rows.{plain_circuit};

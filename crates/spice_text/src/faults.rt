@@ -1,3 +1,5 @@
+//! What can be wrong with the circuits of a text: names twice, calls that don't fit.
+
 ghost use Rattle.std.specs.Prelude.{◌≡◌, [], None, map, IfOk, IfErr, OnOk};
 ghost use Rattle.spice_rows.specs.Seen.{call_seen};
 ghost use Rattle.spice_text.specs.Circuits.{names_of};

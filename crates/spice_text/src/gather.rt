@@ -1,3 +1,5 @@
+//! The cards of a text, gathered by circuit.
+
 ghost use Rattle.std.specs.Prelude.{◌≡◌, IfOk, IfErr};
 ghost use Rattle.spice_rows.specs.Sizes.{read_limit};
 ghost use Rattle.spice_text.specs.Gather.{begun, reading_of};

@@ -1,3 +1,5 @@
+//! Laws on the written text: it means its netlist, and is read again as that.
+
 ghost use Rattle.spice_text.specs.Laws.{WrittenMeansLaw, ReadAgainLaw, OneMeaningLaw, NoFaultLaw};
 ghost use Rattle.spice_text.specs.Sample.{SampleLaw};
 

@@ -1,3 +1,5 @@
+//! The nets of a circuit by number, in order of first appearance.
+
 ghost use Rattle.std.specs.Prelude.{◌≡◌, ◌∷◌, [], ◌<◌, ◌^◌, flat_map, map, length, slice_index_or};
 ghost use Rattle.std.specs.Prelude.{IfOk, OnOk};
 ghost use Rattle.call_order.specs.Order.{lists};

@@ -1,3 +1,5 @@
+//! Transistors and calls with their nets by number.
+
 ghost use Rattle.std.specs.Prelude.{◌≡◌, ◌++◌, ◌<◌, ◌^◌, map, length, IfOk, OnOk};
 ghost use Rattle.text_table.specs.Texts.{place_of};
 ghost use Rattle.call_order.specs.Order.{lists};

@@ -1,3 +1,5 @@
+//! Circuits in an order of calls, or what is first wrong with them as a whole.
+
 ghost use Rattle.std.specs.Prelude.{◌≡◌, IfOk, IfErr, map, OnOk};
 ghost use Rattle.call_order.specs.Order.{lists};
 ghost use Rattle.spice_text.specs.Faults.{AreOrdered, IsCircuitsFault, IsWholeFault};

@@ -1,3 +1,5 @@
+//! The netlist that a SPICE text means, or the text's first fault.
+
 ghost use Rattle.std.specs.Prelude.{◌≡◌, IfOk, IfErr, map};
 ghost use Rattle.call_order.specs.Order.{lists};
 ghost use Rattle.net_model.specs.Rows.{plain_netlist};

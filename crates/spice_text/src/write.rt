@@ -1,3 +1,5 @@
+//! The SPICE text of a netlist.
+
 ghost use Rattle.std.specs.Prelude.{◌≡◌, ◌++◌, ◌∷◌, OnOk, IfOk, decimal, codes, map, slice_get};
 ghost use Rattle.net_names.specs.Escapes.{escaped};
 ghost use Rattle.net_model.specs.Rows.{plain_device, plain_call, plain_circuit, plain_netlist};

@@ -1,3 +1,5 @@
+//! Texts in order of first sight, each once and found by its hash.
+
 ghost use Rattle.std.specs.Prelude.{◌≡◌, false, ◌≤◌, ◌<◌, length, map, [], ◌∷◌, ◌++◌, IfOk, OnOk};
 ghost use Rattle.text_table.specs.Texts.{has_text, place_of, with_text};
 

@@ -1,4 +1,5 @@
-// A curve through the plane (Z-order, after Morton): near on it is mostly near in the plane.
+//! A curve through the plane (Morton's Z-order): near on it is mostly near in the plane.
+
 use geo_base::Rect;
 
 /// How fine the curve is along x and along y.

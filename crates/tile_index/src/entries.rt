@@ -1,4 +1,5 @@
-// The rectangles of a list, each with its position, in the order of a curve through the plane.
+//! The rectangles of a list, each with its position, in the order of a curve through the plane.
+
 ghost use Rattle.std.specs.Prelude.{◌≡◌, IfOk};
 ghost use Rattle.std.specs.List.Sorted.{IsPermutation};
 ghost use Rattle.tile_index.specs.Entries.{AreEntries, AreInOrder, ArePlaced};

@@ -1,3 +1,5 @@
+//! A list of rectangles that is looked into by windows.
+
 ghost use Rattle.std.specs.Prelude.{◌≡◌, IfOk};
 
 use crate::entries::{Entry, entries_of};

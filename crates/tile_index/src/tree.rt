@@ -1,6 +1,7 @@
-// A tree over entries. A node stands for neighbouring ones; its rectangle holds theirs. The nodes
-// that it is made of stand right before it, those of later entries first, so that a walk from the
-// last node to the first passes over them in one step where it need not look.
+//! A tree over entries: a node stands for neighbouring ones, and its rectangle holds theirs.
+//! The nodes that it is made of stand right before it, those of later entries first, so that a walk
+//! from the last node to the first passes over them in one step where it need not look.
+
 ghost use Rattle.std.specs.Prelude.{◌≡◌, ◌+◌, ◌-◌, ◌<◌, ◌≤◌, ◌++◌, IfOk, OnOk, length, map, []};
 ghost use Rattle.std.specs.Prelude.{take, drop};
 ghost use Rattle.std.specs.List.{filter};

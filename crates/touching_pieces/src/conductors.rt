@@ -1,4 +1,5 @@
-// Pieces of several conductors, some of which are joined.
+//! Pieces of several conductors, some of which are joined.
+
 ghost use Rattle.std.specs.Prelude.{◌≡◌, ◌≢◌, OnOk, IfOk};
 ghost use Rattle.touching_pieces.specs.Pairs.{AddsChains, AreInTouch, AreInTouchOf, AreLinksOf};
 ghost use Rattle.touching_pieces.specs.Pairs.{AreOf, of_conductor};

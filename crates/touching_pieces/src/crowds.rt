@@ -1,4 +1,5 @@
-// Pieces that lie over one another: one that touches many of a list makes a class of them.
+//! Pieces that lie over one another: one that touches many of a list makes a class of them.
+
 ghost use Rattle.std.specs.Prelude.{◌≡◌, ◌<◌, length, get_or, IfOk, IfSome, OnOk, [], ◌∷◌};
 ghost use Rattle.touching_pieces.specs.Crowds.{AddsCrowd, AddsFirsts, apart_from, touched_by};
 

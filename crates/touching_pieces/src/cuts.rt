@@ -1,4 +1,5 @@
-// Where pieces are cut; any cut gives the same links.
+//! Where pieces are cut; any cut gives the same links.
+
 ghost use Rattle.touching_pieces.specs.Crowds.{IsStepOf};
 
 use crate::crowds::hub_of;

@@ -1,5 +1,6 @@
-// Pieces of two lists that touch, found by cutting the plane in two again and again: two that touch
-// lie whole on one side or the other.
+//! Pieces of two lists that touch, found by cutting the plane in two again and again.
+//! Two that touch lie whole on one side or the other.
+
 ghost use Rattle.std.specs.Prelude.{◌≡◌, OnOk, IfOk, [], ◌∷◌};
 ghost use Rattle.touching_pieces.specs.Pairs.{AddsChains, AddsTouching, AreInTouch};
 ghost use Rattle.touching_pieces.specs.Pairs.{begins_by, ends_behind, lows, highs};

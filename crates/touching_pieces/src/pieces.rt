@@ -1,3 +1,5 @@
+//! Rectangles that belong to items, and whether two of them touch.
+
 ghost use Rattle.std.specs.Prelude.{◌≡◌, ◌↔◌, ◌&&◌, true};
 ghost use Rattle.touching_pieces.specs.Touching.{is_near, is_rect, meets, overlaps, touches};
 ghost use Rattle.touching_pieces.specs.Touching.{AreTouching};

@@ -1,4 +1,5 @@
-// Squares of a cell that one reference of a parent brings onto what stands there.
+//! Squares of a cell that one reference of a parent brings onto what stands there.
+
 ghost use Rattle.std.specs.Prelude.{◌≡◌, ◌<◌, length, Some, OnOk, slice_get};
 ghost use Rattle.std.specs.List.{All};
 ghost use Rattle.geo_base.specs.Rects.{IsRect};

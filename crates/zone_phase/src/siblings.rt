@@ -1,4 +1,5 @@
-// What the other elements of an array bring over one element.
+//! What the other elements of an array bring over one element.
+
 ghost use Rattle.std.specs.Prelude.{◌≡◌, ◌↔◌, ◌⊎◌, ◌<◌, ◌^◌, ◌-◌, ◌*◌, ℕ, ℤ, pos, ◌+ℤ◌, ◌-ℤ◌, ◌*ℤ◌};
 ghost use Rattle.std.specs.Prelude.{true, length, Some, OnOk, slice_get};
 ghost use Rattle.std.specs.List.{All};

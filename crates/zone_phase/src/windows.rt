@@ -1,4 +1,5 @@
-// Windows of a parent that hold what the elements of an array make of a hull.
+//! Windows of a parent that hold what the elements of an array make of a hull.
+
 ghost use Rattle.std.specs.Prelude.{◌≡◌, ◌<◌, ◌^◌, ℕ, pos, ◌+ℤ◌, ◌-ℤ◌, ◌≤ℤ◌, true, OnOk, IfOk};
 ghost use Rattle.std.specs.List.{All};
 ghost use Rattle.geo_base.specs.Near.{IsWithin};
