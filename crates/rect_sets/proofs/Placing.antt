@@ -1,10 +1,10 @@
 -- Active edges that are kept in place.
-use Rattle.std.proofs.Common.{◌≡◌, ◌⊎◌, inl, inr, ℕ, zero, suc, ℤ, pos, ◌+ℤ◌, ◌≤ℤ◌, ◌<ℤ◌, ◌<◌, ◌≤◌, ◌+◌, ◌-◌, List, [], ◌∷◌, Bool, true, false, drop, length, filter, insert, refl, sym, ◌∙◌, ap, subst, arith, int_lt, if◌then◌else◌}
+use Rattle.std.proofs.Common.{◌≡◌, ℕ, zero, suc, ℤ, pos, ◌+ℤ◌, ◌≤ℤ◌, ◌<ℤ◌, ◌<◌, ◌≤◌, ◌+◌, ◌-◌, List, [], ◌∷◌, Bool, true, false, drop, length, filter, insert, refl, sym, ◌∙◌, ap, subst, arith, if◌then◌else◌}
 use Rattle.std.proofs.lemmas.Int.{ints, by_lt_z}
 use Rattle.std.proofs.lemmas.Bool.{false≢true}
 use Rattle.rect_sets.specs.Rows.{AreInOrder}
 use Rattle.rect_sets.specs.Edges.{sum_where}
-use Rattle.rect_sets.specs.Actives.{leftmost, edge_at, AreNext, HaveBegun, AreCrossing, Ignores, IsReady, Merged, goes_on, IsPlace, IsInserted, BeginSoFar}
+use Rattle.rect_sets.specs.Actives.{leftmost, edge_at, AreNext, HaveBegun, AreCrossing, Ignores, IsReady, Merged, goes_on, IsInserted, BeginSoFar}
 use Rattle.rect_sets.specs.declared.row.Edge.{Edge}
 use Rattle.rect_sets.proofs.Dividing.{if_true, if_false, lt_true, lt_false}
 use Rattle.rect_sets.proofs.Merging.{order_weaken, cut_edges, begins_at}

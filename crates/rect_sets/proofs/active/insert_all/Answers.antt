@@ -1,8 +1,8 @@
-use Rattle.std.proofs.Common.{rules, w64, ◌≤ℤ◌, ◌<ℤ◌, ◌<◌, arith, length}
+use Rattle.std.proofs.Common.{rules, w64, ◌≤ℤ◌, arith}
 use mir.Val.{SFits, to_z, of_z}
 use Rattle.std.proofs.lemmas.Int.{ints, to_z-of_z}
 use Rattle.rect_sets.specs.Actives.{edge_at}
-use Rattle.rect_sets.proofs.Placing.{begin_none, begin_more, begin_all}
+use Rattle.rect_sets.proofs.Placing.{begin_none, begin_more}
 use Rattle.rect_sets.proofs.active.insert_all.Goals as goal
 
 pub loop-at-init : goal.loop-at-init

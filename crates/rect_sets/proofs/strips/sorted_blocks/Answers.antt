@@ -1,9 +1,8 @@
-use Rattle.std.proofs.Common.{rules, arith, ◌≡◌, length, w64, subst, Vec, Global}
+use Rattle.std.proofs.Common.{rules, arith, ◌≡◌, length, w64}
 use mir.Val.{SFits, to_z}
 use Rattle.std.proofs.lemmas.Int.{ints, to_z-of_z}
 use Rattle.std.proofs.lemmas.List.{nil_from_length}
 use Rattle.rect_sets.specs.Actives.{edge_at}
-use Rattle.rect_sets.specs.declared.row.Edge.{Edge}
 use Rattle.rect_sets.proofs.Sorting.{in_sweep_order}
 use Rattle.rect_sets.proofs.Blocking.{start, is_row, next_state, all_blocks}
 use Rattle.rect_sets.proofs.strips.sorted_blocks.Goals as goal
