@@ -18,6 +18,8 @@ mod extracted;
 #[cfg(test)]
 mod failing;
 #[cfg(test)]
+mod klayout;
+#[cfg(test)]
 mod layouts;
 #[cfg(test)]
 mod made;
