@@ -81,11 +81,15 @@ abbrev pub IsBestBehind : Graph → (ℕ → ℕ) → Option Candidate → List 
 IsBestBehind g rank last items i None = AreTried g rank last items i
 IsBestBehind g rank last items i (Some c) = IsFirstBehind g rank last items i c
 
--- a candidate is this right node, and comes before all right nodes of greater numbers
-pub record IsSureFirst (g : Graph) (rank : ℕ → ℕ) (y : ℕ) (c : Candidate) : Type 0 where
-  pub node : c.node ≡ y
-  pub rank_is : candidate_rank c ≡ rank y
-  pub first : (a : ℕ) → y ≤ a → rank y ≤ rank a
+-- a right node of class d comes before all others of the class
+pub record IsSureFirst (g : Graph) (c : Classes) (rank : ℕ → ℕ) (d : ℕ) (best : Candidate) :
+    Type 0 where
+  pub right : left_of g ≤ best.node
+  pub below : best.node < nodes_of g
+  pub of : class_in c best.node ≡ d
+  pub rank_is : candidate_rank best ≡ rank best.node
+  pub first : (a : ℕ) → left_of g ≤ a → a < nodes_of g → class_in c a ≡ d
+      → rank best.node ≤ rank a
 
 -- the rank of a right node as a candidate of a left node
 abbrev pub rank_in : Pair → Node → Node → ℕ

@@ -1,10 +1,11 @@
 -- Right nets of the names of left ones.
-use Rattle.std.specs.Prelude.{◌≡◌, ◌≢◌, ◌<◌, ◌≤◌, ℕ, Bool, false, List, [], Option, Some, None}
+use Rattle.std.specs.Prelude.{◌≡◌, ◌≢◌, ◌<◌, ◌≤◌, ℕ, Bool, true, false, List, []}
+use Rattle.std.specs.Prelude.{Option, Some, None}
 use Rattle.std.specs.Prelude.{bytes_eq, length, slice_index_or}
 use Rattle.std.specs.Borrow.{Bor}
 use Rattle.net_model.specs.declared.netlist.Circuit.{Circuit}
 use Rattle.match_graph.specs.declared.graph.Graph.{Graph}
-use Rattle.match_graph.specs.Graph.{left_of}
+use Rattle.match_graph.specs.Graph.{left_of, nodes_of}
 use Rattle.refine_match.specs.Candidates.{have_one_name}
 
 abbrev pub name_of : Circuit → ℕ → List ℕ
@@ -34,3 +35,15 @@ AreNamesakes left right found = AreNamesakesTo left right found (length left.net
 -- no right node is a net of the name of this left node
 abbrev pub IsNameless : Graph → Circuit → Circuit → ℕ → Type 0
 IsNameless g left right x = (y : ℕ) → left_of g ≤ y → have_one_name g left right x y ≡ false
+
+-- of the right nets of the name of this left node, y is the first
+pub record IsFirstNamed (g : Graph) (left right : Circuit) (x y : ℕ) : Type 0 where
+  pub low : left_of g ≤ y
+  pub below : y < nodes_of g
+  pub named : have_one_name g left right x y ≡ true
+  pub first : (a : ℕ) → left_of g ≤ a → have_one_name g left right x a ≡ true → y ≤ a
+
+-- the first right net of the name of this left node, or that there is none
+abbrev pub IsNamesake : Graph → Circuit → Circuit → ℕ → Option ℕ → Type 0
+IsNamesake g left right x (Some y) = IsFirstNamed g left right x y
+IsNamesake g left right x None = IsNameless g left right x

@@ -6,7 +6,7 @@ ghost use Rattle.match_rounds.specs.Classes.{IsPartition, class_in};
 ghost use Rattle.refine_match.specs.Candidates.{HaveNets, IsBestBehind, IsFirst, IsSureFirst};
 ghost use Rattle.refine_match.specs.Candidates.{NextLaw, candidate_rank, have_one_name, is_behind};
 ghost use Rattle.refine_match.specs.Candidates.{rank_at};
-ghost use Rattle.refine_match.specs.Namesakes.{AreNamesakes, IsNameless};
+ghost use Rattle.refine_match.specs.Namesakes.{AreNamesakes, IsNamesake};
 ghost use Rattle.refine_match.specs.Rights.{AreRightsOf};
 ghost use Rattle.match_rounds.specs.Turned.{AreAllOf};
 
@@ -24,9 +24,9 @@ pub struct Candidate {
 }
 
 /// The next candidate of a left node behind the last one: the right nodes of its class, those of
-/// its name first, each group by number. The first candidate is found in the time to pass over what
-/// left the class where it has the name of the left node, or no right net has this; any other in a
-/// time in proportion to the size of the class.
+/// its name first, each group by number. Where it is the first right net of its name, or the first
+/// right node of the class has the name or no right net has, the first candidate is found in the
+/// time to pass over what left the class; any other in a time in proportion to its size.
 pub fn next_candidate(
     graph: &Graph,
     classes: &Classes,
@@ -47,36 +47,52 @@ pub fn next_candidate(
         (nodes_of graph.now) × IsBestBehind graph.now (rank_at graph.now left.now right.now node)
         last items (length items) result }
 {
-    let members = classes.members(graph, classes.of(node));
+    let class = classes.of(node);
+    let members = classes.members(graph, class);
     if last.is_none() {
-        if let Some(first) = rights.first(graph, classes, classes.of(node)) {
-            if let Some(candidate) = first_candidate(graph, left, right, namesakes, node, first) {
-                return Some(candidate);
-            }
+        if let Some(candidate) = first_candidate(
+            graph, classes, rights, left, right, namesakes, node,
+        ) {
+            return Some(candidate);
         }
     }
     best_of(graph, left, right, members, node, last)
 }
 
-// The first right node of a left node's class as a candidate, if it is known to be the first one.
+// The first candidate of a left node, if it is known without a walk over the class: the first right
+// net of its name, or the first right node of the class, where this has the name or no right net
+// has.
 fn first_candidate(
     graph: &Graph,
+    classes: &Classes,
+    rights: &Rights,
     left: &Circuit,
     right: &Circuit,
     namesakes: &[Option<u32>],
     node: u32,
-    first: u32,
 ) -> Option<Candidate>
     requires graph { IsGraph graph.now }
     requires namesakes { AreNamesakes left.now right.now namesakes.now }
+    requires partition { IsPartition classes.now (left_of graph.now) (nodes_of graph.now) }
+    requires rights { AreRightsOf rights.now graph.now classes.now }
     requires nets { HaveNets graph.now left.now right.now }
     requires node { node < left_of graph.now }
-    requires first { left_of graph.now ≤ first }
-    ensures { IfSome result (IsSureFirst graph.now (rank_at graph.now left.now right.now node)
-        first) }
+    ensures { IfSome result (IsSureFirst graph.now classes.now
+        (rank_at graph.now left.now right.now node) (class_in classes.now node)) }
 {
+    let class = classes.of(node);
+    let namesake = namesake_of(graph, left, right, namesakes, node);
+    if let Some(net) = namesake {
+        if classes.of(net) == class {
+            return Some(Candidate {
+                has_name: true,
+                node: net,
+            });
+        }
+    }
+    let first = rights.first(graph, classes, class)?;
     let has_name = is_one_name(graph, left, right, node, first);
-    if has_name || is_nameless(graph, left, right, namesakes, node) {
+    if has_name || namesake.is_none() {
         return Some(Candidate {
             has_name,
             node: first,
@@ -85,20 +101,26 @@ fn first_candidate(
     None
 }
 
-// Whether a left node is no net, or no right net has its name.
-fn is_nameless(
+// The first right net of the name of a left node, if this is a net and a right net has its name.
+fn namesake_of(
     graph: &Graph,
     left: &Circuit,
     right: &Circuit,
     namesakes: &[Option<u32>],
     node: u32,
-) -> bool
+) -> Option<u32>
     requires graph { IsGraph graph.now }
     requires namesakes { AreNamesakes left.now right.now namesakes.now }
     requires nets { HaveNets graph.now left.now right.now }
-    ensures { result ≡ true → IsNameless graph.now left.now right.now node }
+    ensures { IsNamesake graph.now left.now right.now node result }
 {
-    graph.left.first_device() <= node || namesakes[(node - graph.left.first) as usize].is_none()
+    if graph.left.first_device() <= node {
+        return None;
+    }
+    match namesakes[(node - graph.left.first) as usize] {
+        Some(net) => Some(graph.right.first + net),
+        None => None,
+    }
 }
 
 // The best candidate behind the last one of the right ones of these nodes.

@@ -34,10 +34,11 @@ use std::alloc::{AllocError, Global};
 /// where `limit` were refuted before that: none, where `limit` is 0 and there are ties.
 ///
 /// The rounds take the time to sort the ends of all nodes as often as the logarithm of their
-/// number. A guess that isn't refuted takes the rounds that part the classes further, the time to
-/// sort the nodes whose classes those are, and a walk over the class of its node where this is a
-/// net whose name some right net has, but not the first right one of its class; one that is, and a
-/// level that is left, the rounds from the first on.
+/// number. A guess that isn't refuted takes the rounds that part the classes further and the time
+/// to sort the nodes whose classes those are. It takes a walk over the class of its node too, where
+/// this is a net whose name some right net has, but neither the first right net that has it is of
+/// the class, nor has the first right one of the class the name; so does each further try. A guess
+/// that is refuted, and a level that is left, take the rounds from the first on.
 ///
 /// The error is want of memory, or more than 2^32 guesses below each other.
 pub fn match_circuits(

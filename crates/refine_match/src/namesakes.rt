@@ -1,6 +1,6 @@
 //! For each left net, the first right net of its name.
 
-ghost use Rattle.std.specs.Prelude.{◌≡◌, ◌<◌, ◌≤◌, ◌^◌, length, IfOk};
+ghost use Rattle.std.specs.Prelude.{◌<◌, ◌^◌, length, IfOk};
 ghost use Rattle.std.specs.HashMap.{get};
 ghost use Rattle.refine_match.specs.Namesakes.{AreFirsts, AreNamesakes, is_same_name};
 

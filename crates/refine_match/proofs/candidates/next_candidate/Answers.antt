@@ -3,15 +3,13 @@ use Rattle.match_graph.specs.Graph.{nodes_of}
 use Rattle.match_rounds.specs.Classes.{class_in}
 use Rattle.match_rounds.specs.Turned.{AreAllOf}
 use Rattle.refine_match.specs.Candidates.{rank_at}
-use Rattle.refine_match.specs.Rights.{IsFirstRight}
 use Rattle.refine_match.proofs.SureFirst.{best_first, not_some}
 use Rattle.refine_match.proofs.candidates.next_candidate.Goals as goal
 
-pub returns-in-Some-first_candidate : goal.returns-in-Some-first_candidate
-returns-in-Some-first_candidate c =
+pub returns-in-Some : goal.returns-in-Some
+returns-in-Some c =
     let g = c.args.graph.now in
     let d = class_in c.args.classes.now c.args.node in
     let items = c.members-members.result.now in
-    let all = subst (λ (x : ℕ). AreAllOf (class_in c.args.classes.now) x items (nodes_of g)) c.of.ensures c.members-members.ensures in
-    let first = subst (λ (x : ℕ). IsFirstRight g c.args.classes.now x c.in-Some.first) c.of-then-is_none.ensures c.in-Some.ensures in
-    (items, all, best_first g c.args.classes.now (rank_at g c.args.left.now c.args.right.now c.args.node) d c.in-Some.first items c.in-Some-first_candidate.candidate c.args.last (not_some c.args.last c.if-is_none.ensures) all first c.in-Some-first_candidate.ensures)
+    let all = subst (λ (x : ℕ). AreAllOf (class_in c.args.classes.now) x items (nodes_of g)) c.of-class.ensures c.members-members.ensures in
+    (items, all, best_first g c.args.classes.now (rank_at g c.args.left.now c.args.right.now c.args.node) d items c.in-Some.candidate c.args.last (not_some c.args.last c.if-is_none.ensures) all c.in-Some.ensures)
