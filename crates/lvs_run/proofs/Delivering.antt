@@ -4,7 +4,7 @@ use Rattle.lvs_outside.specs.Store.{Store, SameFiles, appended}
 use Rattle.lvs_files.specs.Files.{File, IsWritten, AreWritten, ArePartWritten}
 use Rattle.lvs_outside.specs.Summary.{SinkState}
 use Rattle.lvs_run.specs.declared.status.Refusal.{Refusal}
-use Rattle.lvs_run.specs.declared.status.Refusal.TheVariants.{Words, SamePath, Absent, TooLong, Rules, Layout, Schematic}
+use Rattle.lvs_run.specs.declared.status.Refusal.TheVariants.{Words}
 use Rattle.lvs_run.specs.declared.output.Output.{Output}
 use Rattle.lvs_run.specs.declared.output.Verdict.{Verdict}
 use Rattle.lvs_run.specs.declared.output.Verdict.TheVariants as verdict
@@ -106,22 +106,12 @@ cause_delivered stated old mid new before after o a cause (inr (inr h)) = subst 
 sent : (stated : Option Paths) (old new : Store) (before after : SinkState) (why : Refusal)
     → Quiet old new → Stops stated old new (refused why) → Took before after (line_of (refused why) nothing) → ComesOut stated old new before after (refused why)
 sent stated old new before after Words quiet stops took = record { done = nothing; comes = stops.comes nothing; leaves = quiet.starts; says = took.told; fails = tt }
-sent stated old new before after (SamePath path) quiet stops took = record { done = nothing; comes = stops.comes nothing; leaves = quiet.starts; says = took.told; fails = tt }
-sent stated old new before after (Absent path) quiet stops took = record { done = nothing; comes = stops.comes nothing; leaves = quiet.starts; says = took.told; fails = tt }
-sent stated old new before after (TooLong path) quiet stops took = record { done = nothing; comes = stops.comes nothing; leaves = quiet.starts; says = took.told; fails = tt }
-sent stated old new before after (Rules fault) quiet stops took = record { done = nothing; comes = stops.comes nothing; leaves = quiet.starts; says = took.told; fails = tt }
-sent stated old new before after (Layout fault) quiet stops took = record { done = nothing; comes = stops.comes nothing; leaves = quiet.starts; says = took.told; fails = tt }
-sent stated old new before after (Schematic fault) quiet stops took = record { done = nothing; comes = stops.comes nothing; leaves = quiet.starts; says = took.told; fails = tt }
+sent stated old new before after why quiet stops took = record { done = nothing; comes = stops.comes nothing; leaves = quiet.starts; says = took.told; fails = tt }
 
 -- the outcome of a refusal
 refusal_comes : (stated : Option Paths) (old : Store) (why : Refusal) → ComesOf stated (inputs stated old.file) (refused why) → IsOutcome stated (inputs stated old.file) (refused why) nothing
 refusal_comes stated old Words comes = comes nothing
-refusal_comes stated old (SamePath path) comes = comes nothing
-refusal_comes stated old (Absent path) comes = comes nothing
-refusal_comes stated old (TooLong path) comes = comes nothing
-refusal_comes stated old (Rules fault) comes = comes nothing
-refusal_comes stated old (Layout fault) comes = comes nothing
-refusal_comes stated old (Schematic fault) comes = comes nothing
+refusal_comes stated old why comes = comes nothing
 
 refused_out : (stated : Option Paths) (old new : Store) (before after : SinkState) (why : Refusal) (a : Answer)
     → Quiet old new → Stops stated old new (refused why) → Refused (refused why) before after a → ComesOut stated old new before after a

@@ -1,6 +1,7 @@
 -- The written texts against the told files.
-use Rattle.std.proofs.Common.{◌≡◌, inl, inr, ℕ, List, [], ◌∷◌, length, Option, refl, sym, subst, ◌∙◌, arith}
-use Rattle.lvs_outside.specs.Store.{Store, Told, Untold, NoFile, Holds}
+use Rattle.std.proofs.Common.{◌≡◌, inl, inr, ℕ, List, [], ◌∷◌, length, Option, refl, sym, subst, ◌∙◌}
+use Rattle.std.proofs.lemmas.List.{nil_from_length}
+use Rattle.lvs_outside.specs.Store.{Store, Told, Holds}
 use Rattle.lvs_outside.specs.Summary.{SinkState}
 use Rattle.lvs_files.specs.Files.{File, IsWritten, AreWritten, IsApart, AreApart, files_of}
 use Rattle.gds_layout.specs.declared.layout.Layout.{Layout as ReadLayout}
@@ -10,7 +11,7 @@ use Rattle.shapes_file.specs.File.{IsShapesFile}
 use Rattle.rule_text.specs.Rules as rule_sets
 use Rattle.rule_text.specs.Reading.{Means}
 use Rattle.lvs_run.specs.declared.status.Refusal.{Refusal}
-use Rattle.lvs_run.specs.declared.status.Refusal.TheVariants.{Words, SamePath, Absent, TooLong, Rules, Layout, Schematic}
+use Rattle.lvs_run.specs.declared.status.Refusal.TheVariants.{Words}
 use Rattle.lvs_run.specs.declared.output.Output.{Output}
 use Rattle.lvs_run.specs.Words.{Outputs, ToShapes, ToNetlist, ToReport, ToChip, ForNetlist, ForShapes, Paths}
 use Rattle.lvs_run.specs.Answers.{Done, Answer, Good, Bad, Undecided, IsVerdict, comparison_answer, refused, verdict_of}
@@ -54,12 +55,7 @@ held_delivered old new before after o a done path P same apart lists (inr (inr h
 -- a refusal writes no files
 no_verdict : (why : Refusal) → IsVerdict (refused why) → ⊥
 no_verdict Words v = v
-no_verdict (SamePath path) v = v
-no_verdict (Absent path) v = v
-no_verdict (TooLong path) v = v
-no_verdict (Rules fault) v = v
-no_verdict (Layout fault) v = v
-no_verdict (Schematic fault) v = v
+no_verdict why v = v
 
 pub none_written : (before after : SinkState) (why : Refusal) (a : Answer) → Refused (refused why) before after a → IsVerdict a → ⊥
 none_written before after why a (inl h) v = no_verdict why (subst IsVerdict h.0 v)
@@ -70,12 +66,9 @@ none_written before after why a (inr (inr h)) v = subst IsVerdict h.0 v
 
 pub where_told : (rules layout : Told) (r : rule_sets.Rules) (v : ReadLayout) (top : Option (List ℕ)) (P : ReadLayout → rule_sets.Rules → Type 0) (rule_bytes bytes : List ℕ)
     → IsInput rule_bytes rules → IsInput bytes layout → Means rule_bytes r → IsRead bytes top v → P v r → WhereTold rules layout top P
-where_told Untold layout r v top P rule_bytes bytes a b means read h = tt
-where_told NoFile layout r v top P rule_bytes bytes a b means read h = tt
-where_told (Holds rules) Untold r v top P rule_bytes bytes a b means read h = tt
-where_told (Holds rules) NoFile r v top P rule_bytes bytes a b means read h = tt
 where_told (Holds rules) (Holds layout) r v top P rule_bytes bytes a b means read h =
     record { rule_set = r; meant = subst (λ (xs : List ℕ). Means xs r) a.0 means; layout = v; read = subst (λ (xs : List ℕ). IsRead xs top v) b.0 read; is = h }
+where_told rules layout r v top P rule_bytes bytes a b means read h = tt
 
 -- what was read is told so
 pub of_inputs : (p : Paths) (old mid new : Store) (r : rule_sets.Rules) (v : ReadLayout) (P : ReadLayout → rule_sets.Rules → Type 0) → Quiet old mid → ReadAs old mid p.rules (λ bytes. Means bytes r)
@@ -135,13 +128,9 @@ none_bad (b ∷ bs) a e g = let no : Bad ≡ Good = sym e ∙ g in cc
 netlist_of : (l : ReadLayout) (r : rule_sets.Rules) (a : Answer) (nl : Netlist) (top : ℕ) (bad : List BadGate) (text : List ℕ) → (a ≡ Good → bad ≡ []) → ShowsFlat l r text nl top bad → IsNetlistOf l r a text
 netlist_of l r a nl top bad text e shows = record { netlist = nl; circuit = top; bad = bad; shows = shows; good = λ g. shows.no_bad.0 (e g) }
 
-no_gates : (bad : List BadGate) → length bad ≡ 0 → bad ≡ []
-no_gates [] e = refl
-no_gates (b ∷ bs) e = absurd (omega (arith, e))
-
 -- after a match there is no bad gate
 match_has_none : (bad : List BadGate) (v : Comparison) (a : Answer) (answers : Option (List PairAnswer)) → a ≡ comparison_answer v → IsRunVerdict (length bad) answers v → a ≡ Good → bad ≡ []
-match_has_none bad comparison.Match a answers e h g = no_gates bad h.0
+match_has_none bad comparison.Match a answers e h g = nil_from_length bad h.0
 match_has_none bad comparison.Mismatch a answers e h g = let no : Bad ≡ Good = sym e ∙ g in cc
 match_has_none bad comparison.Undecided a answers e h g = let no : Undecided ≡ Good = sym e ∙ g in cc
 

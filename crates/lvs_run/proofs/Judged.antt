@@ -1,5 +1,6 @@
 -- What the answer of a comparison is, by its bad gates and its pairs.
 use Rattle.std.proofs.Common.{◌≡◌, inl, inr, ◌↔◌, ℕ, ◌<◌, true, false, true≢false, List, [], ◌∷◌, length, Option, Some, None, IsNone, refl, sym, ap, subst, ◌∙◌, arith}
+use Rattle.std.proofs.lemmas.List.{nil_from_length}
 use Rattle.std.specs.List.{Any}
 use Rattle.cell_graph.specs.Linked.{plain}
 use Rattle.deep_tables.specs.declared.gates.BadGate.{BadGate}
@@ -48,17 +49,13 @@ exactly bad answers v w a one e h = (
 
 -- ---- bad gates
 
-nil_of : (bad : List BadGate) → length bad ≡ 0 → bad ≡ []
-nil_of [] e = refl
-nil_of (b ∷ bs) e = absurd (omega (arith, e))
-
 listed_some : (b : BadGate) (bad : List BadGate) → IsListed b bad → 0 < length bad
 listed_some b [] h = absurd h
 listed_some b (x ∷ xs) h = omega (arith)
 
 module _ (l : Layout) (r : Rules) (text : List ℕ) (nl : Netlist) (top : ℕ) where
   none_bad : (bad : List BadGate) → ShowsFlat l r text nl top bad → length bad ≡ 0 → HasNoBadGate (plain l.design) (wiring_of r) (device_rules r)
-  none_bad bad shows e = shows.no_bad.0 (nil_of bad e)
+  none_bad bad shows e = shows.no_bad.0 (nil_from_length bad e)
 
   no_length : (bad : List BadGate) → ShowsFlat l r text nl top bad → HasNoBadGate (plain l.design) (wiring_of r) (device_rules r) → length bad ≡ 0
   no_length bad shows none = ap (λ (bs : List BadGate). length bs) (shows.no_bad.1 none)

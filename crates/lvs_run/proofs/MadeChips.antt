@@ -22,7 +22,7 @@ use Rattle.spice_text.specs.Means.{Means as SpiceMeans, SaysFirst}
 use Rattle.lvs_run.specs.declared.output.Output.{Output}
 use Rattle.lvs_run.specs.Chips.{chip_files, layout_at, layout_text, rules_at, rules_text, schematic_at, schematic_text, with_files}
 use Rattle.lvs_run.specs.Words.{Paths, ToChip, chip_paths}
-use Rattle.lvs_run.specs.Answers.{Done, Answer, Good, Bad, Undecided, Outside, NoMemory, RefusedWords, RefusedSame, RefusedAbsent, RefusedLong, RefusedRules, RefusedLayout, RefusedSchematic, refused_layout, refused_rules, refused_schematic, verdict_of}
+use Rattle.lvs_run.specs.Answers.{Done, Answer, NoMemory, RefusedLong, RefusedRules, RefusedLayout, RefusedSchematic, refused_layout, refused_rules, refused_schematic, verdict_of}
 use Rattle.lvs_run.specs.Outcomes.{IsOutcome}
 use Rattle.lvs_run.specs.Runs.{IsLong}
 use Rattle.lvs_run.specs.Inputs.{IsInput, IsOutputBeside, IsReady, Stops}
@@ -123,30 +123,15 @@ long_of t text e long = subst IsLong (sym e) long
 
 pub rules_fault : (path text : List ℕ) (fault : RuleFault) → length text ≤ limit → Answers text fault → NoRulesIn path text (refused_rules fault)
 rules_fault path text rule.NoMemory short h = tt
-rules_fault path text (rule.UnknownStatement n) short h = (short, h)
-rules_fault path text (rule.BadForm n) short h = (short, h)
-rules_fault path text (rule.UnknownName n) short h = (short, h)
-rules_fault path text (rule.NameTwice n) short h = (short, h)
-rules_fault path text (rule.NotConductor n) short h = (short, h)
-rules_fault path text (rule.TooManyLayers n) short h = (short, h)
-rules_fault path text (rule.NotText n) short h = (short, h)
+rules_fault path text fault short h = (short, h)
 
 pub layout_fault : (path text : List ℕ) (top : Option (List ℕ)) (fault : LayoutFault) → length text ≤ limit → IsFaultOf text top fault → NoLayoutIn path text top (refused_layout fault)
 layout_fault path text top layout.NoMemory short h = tt
-layout_fault path text top (layout.Gds f) short h = (short, h)
-layout_fault path text top (layout.Link f) short h = (short, h)
+layout_fault path text top fault short h = (short, h)
 
 pub schematic_fault : (path text : List ℕ) (fault : SpiceFault) → length text ≤ limit → SaysFirst read_limit text fault → NoSchematicIn path text (refused_schematic fault)
 schematic_fault path text spice.NoMemory short h = tt
-schematic_fault path text (spice.UnknownCard n) short h = (short, h)
-schematic_fault path text (spice.BadLine n) short h = (short, h)
-schematic_fault path text (spice.ParameterRefused n) short h = (short, h)
-schematic_fault path text (spice.Value n v) short h = (short, h)
-schematic_fault path text (spice.NotClosed n) short h = (short, h)
-schematic_fault path text (spice.NameClash n) short h = (short, h)
-schematic_fault path text (spice.NoSuchCircuit n) short h = (short, h)
-schematic_fault path text (spice.PinCount n) short h = (short, h)
-schematic_fault path text (spice.CircuitCycle n) short h = (short, h)
+schematic_fault path text fault short h = (short, h)
 
 -- ---- the texts in turn
 
@@ -196,15 +181,7 @@ module _ (n seed : ℕ) (prefix : List ℕ) (s : Store) where
     comes = λ done. on_rules (RefusedRules fault) done (rules_read _ _ (told_of n seed prefix s) (chip_paths n seed prefix) (RefusedRules fault) done rules_text (rules_in h.0) (FaultyRules fault h.1 refl));
   }
   no_rules NoMemory h = no_memory _ s
-  no_rules Good h = absurd h
-  no_rules Bad h = absurd h
-  no_rules RefusedWords h = absurd h
-  no_rules (RefusedSame path) h = absurd h
-  no_rules (RefusedAbsent path) h = absurd h
-  no_rules (RefusedLayout fault) h = absurd h
-  no_rules (RefusedSchematic fault) h = absurd h
-  no_rules Undecided h = absurd h
-  no_rules Outside h = absurd h
+  no_rules a h = absurd h
 
   module _ (r : rule_sets.Rules) (short_rules : length rules_text ≤ limit) (rules : Means rules_text r) where
     on_layout : (a : Answer) (done : Done) → OfLayout (told_of n seed prefix s (layout_at prefix)) (told_of n seed prefix s) r (chip_paths n seed prefix) a done
@@ -227,15 +204,7 @@ module _ (n seed : ℕ) (prefix : List ℕ) (s : Store) where
       comes = λ done. on_layout (RefusedLayout fault) done (layout_read _ (told_of n seed prefix s) r (chip_paths n seed prefix) (RefusedLayout fault) done (layout_text n seed) (layout_in h.0) (FaultyStream fault h.1 refl));
     }
     no_layout NoMemory h = no_memory _ s
-    no_layout Good h = absurd h
-    no_layout Bad h = absurd h
-    no_layout RefusedWords h = absurd h
-    no_layout (RefusedSame path) h = absurd h
-    no_layout (RefusedAbsent path) h = absurd h
-    no_layout (RefusedRules fault) h = absurd h
-    no_layout (RefusedSchematic fault) h = absurd h
-    no_layout Undecided h = absurd h
-    no_layout Outside h = absurd h
+    no_layout a h = absurd h
 
     module _ (l : ReadLayout) (short_layout : length (layout_text n seed) ≤ limit) (layout : IsRead (layout_text n seed) (Some (codes "TOP")) l) where
       on_schematic : (a : Answer) (done : Done) → OfSchematic (told_of n seed prefix s (schematic_at prefix)) (schematic_at prefix) (ToChip n seed prefix) l r a done
@@ -258,15 +227,7 @@ module _ (n seed : ℕ) (prefix : List ℕ) (s : Store) where
         comes = λ done. on_schematic (RefusedSchematic fault) done (schematic_read _ (schematic_at prefix) (ToChip n seed prefix) l r (RefusedSchematic fault) done (schematic_text n seed) (schematic_in h.0) (FaultyCards fault h.1 refl));
       }
       no_schematic NoMemory h = no_memory _ s
-      no_schematic Good h = absurd h
-      no_schematic Bad h = absurd h
-      no_schematic RefusedWords h = absurd h
-      no_schematic (RefusedSame path) h = absurd h
-      no_schematic (RefusedAbsent path) h = absurd h
-      no_schematic (RefusedRules fault) h = absurd h
-      no_schematic (RefusedLayout fault) h = absurd h
-      no_schematic Undecided h = absurd h
-      no_schematic Outside h = absurd h
+      no_schematic a h = absurd h
 
 -- ---- what there is to write
 

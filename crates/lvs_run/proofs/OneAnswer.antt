@@ -30,9 +30,8 @@ use Rattle.lvs_run.specs.Once.{IsTold, AreInputsTold, IsSameOutcome, OneOutcomeL
 
 -- a first fault is a fault, and no want of memory
 fault_of : (bytes : List ℕ) (top : Option (List ℕ)) (f : LayoutFault) → IsFirstLayoutFault bytes top f → IsFaultOf bytes top f × (f ≢ layout.NoMemory)
-fault_of bytes top (layout.Gds f) h = (h, λ e. cc)
-fault_of bytes top (layout.Link f) h = (h, λ e. cc)
 fault_of bytes top layout.NoMemory h = absurd h
+fault_of bytes top f h = (h, λ e. cc)
 
 same_drawn : (path : List ℕ) (l m : Layout) (r : Rules) (x y : Done) → (h : IsDrawn l r path x) → (k : IsDrawn m r path y)
     → IsSameFile h.text k.text h.cells k.cells h.rectangles k.rectangles → x ≡ y
@@ -129,27 +128,11 @@ module _ (meanings : MeaningLaw) (faults : FaultLaw) (no_faults : NoFaultLaw) (o
   -- no want of memory
   a_fault : (bytes : List ℕ) (f : SpiceFault) → IsFirstSchematicFault bytes f → f ≢ spice.NoMemory
   a_fault bytes spice.NoMemory h = absurd h
-  a_fault bytes (spice.UnknownCard n) h = λ e. cc
-  a_fault bytes (spice.BadLine n) h = λ e. cc
-  a_fault bytes (spice.ParameterRefused n) h = λ e. cc
-  a_fault bytes (spice.Value n v) h = λ e. cc
-  a_fault bytes (spice.NotClosed n) h = λ e. cc
-  a_fault bytes (spice.NameClash n) h = λ e. cc
-  a_fault bytes (spice.NoSuchCircuit n) h = λ e. cc
-  a_fault bytes (spice.PinCount n) h = λ e. cc
-  a_fault bytes (spice.CircuitCycle n) h = λ e. cc
+  a_fault bytes f h = λ e. cc
 
   first_of : (bytes : List ℕ) (f : SpiceFault) → IsFirstSchematicFault bytes f → IsFirstSpiceFault read_limit bytes f × SaysFirst read_limit bytes f
   first_of bytes spice.NoMemory h = absurd h
-  first_of bytes (spice.UnknownCard n) h = (h, h)
-  first_of bytes (spice.BadLine n) h = (h, h)
-  first_of bytes (spice.ParameterRefused n) h = (h, h)
-  first_of bytes (spice.Value n v) h = (h, h)
-  first_of bytes (spice.NotClosed n) h = (h, h)
-  first_of bytes (spice.NameClash n) h = (h, h)
-  first_of bytes (spice.NoSuchCircuit n) h = (h, h)
-  first_of bytes (spice.PinCount n) h = (h, h)
-  first_of bytes (spice.CircuitCycle n) h = (h, h)
+  first_of bytes f h = (h, h)
 
   on_cards : (bytes stream : List ℕ) (o : Outputs) (top : Option (List ℕ)) (l m : Layout) (r : Rules) (a b : Answer) (x y : Done) → IsRead stream top l → IsRead stream top m
       → OfCards bytes o l r a x → OfCards bytes o m r b y → IsSameOutcome a b x y

@@ -3,7 +3,7 @@ use Rattle.std.proofs.Common.{◌≡◌, ◌≢◌, ◌⊎◌, inl, inr, ℕ, �
 use Rattle.std.proofs.Math.Decide.{ℕ_discrete}
 use Rattle.call_order.specs.Order.{ReachesItself}
 use Rattle.spice_rows.specs.declared.fault.SpiceFault.{SpiceFault}
-use Rattle.spice_rows.specs.declared.fault.SpiceFault.TheVariants.{UnknownCard, BadLine, ParameterRefused, Value, NotClosed, NameClash, NoSuchCircuit, PinCount, CircuitCycle, NoMemory}
+use Rattle.spice_rows.specs.declared.fault.SpiceFault.TheVariants.{NotClosed, NameClash, NoSuchCircuit, PinCount, CircuitCycle, NoMemory}
 use Rattle.spice_text.specs.Gather.{Circuit, Cards}
 use Rattle.spice_text.specs.Circuits.{all_of, call_lists}
 use Rattle.spice_text.specs.Faults.{HasCall, IsClash, IsCycle, IsSecond, IsLeast, Lacks, IsCircuitsFault, IsWholeFault, is_missing, is_other_count}
@@ -46,52 +46,29 @@ no_cycle : (cs : List Circuit) (n : List ℕ) → Lacks (ReachesItself (call_lis
 no_cycle cs n none a = let x = a.1 in none a.0 x.reaches
 
 one_of_circuits : (cs : List Circuit) (f g : SpiceFault) → f ≢ NoMemory → g ≢ NoMemory → IsCircuitsFault cs f → IsCircuitsFault cs g → f ≡ g
-one_of_circuits cs (UnknownCard n) g p q a b = absurd a
-one_of_circuits cs (BadLine n) g p q a b = absurd a
-one_of_circuits cs (ParameterRefused n) g p q a b = absurd a
-one_of_circuits cs (Value n v) g p q a b = absurd a
-one_of_circuits cs (NotClosed n) g p q a b = absurd a
 one_of_circuits cs NoMemory g p q a b = absurd (p refl)
+one_of_circuits cs f NoMemory p q a b = absurd (q refl)
 one_of_circuits cs (NameClash n) (NameClash m) p q a b = ap (λ (l : ℕ). NameClash l) (clash_one cs n m a b)
 one_of_circuits cs (NameClash n) (NoSuchCircuit m) p q a b = absurd (no_clash cs n b.0 a)
 one_of_circuits cs (NameClash n) (PinCount m) p q a b = absurd (no_clash cs n b.0 a)
 one_of_circuits cs (NameClash n) (CircuitCycle m) p q a b = absurd (no_clash cs n b.0 a)
-one_of_circuits cs (NameClash n) (UnknownCard m) p q a b = absurd b
-one_of_circuits cs (NameClash n) (BadLine m) p q a b = absurd b
-one_of_circuits cs (NameClash n) (ParameterRefused m) p q a b = absurd b
-one_of_circuits cs (NameClash n) (Value m v) p q a b = absurd b
-one_of_circuits cs (NameClash n) (NotClosed m) p q a b = absurd b
-one_of_circuits cs (NameClash n) NoMemory p q a b = absurd (q refl)
+one_of_circuits cs (NameClash n) g p q a b = absurd b
 one_of_circuits cs (NoSuchCircuit n) (NameClash m) p q a b = absurd (no_clash cs m a.0 b)
 one_of_circuits cs (NoSuchCircuit n) (NoSuchCircuit m) p q a b = ap (λ (l : ℕ). NoSuchCircuit l) (least (HasCall cs (is_missing cs)) n m a.1 b.1)
 one_of_circuits cs (NoSuchCircuit n) (PinCount m) p q a b = absurd (no_least (HasCall cs (is_missing cs)) n b.1 a.1)
 one_of_circuits cs (NoSuchCircuit n) (CircuitCycle m) p q a b = absurd (no_least (HasCall cs (is_missing cs)) n b.1 a.1)
-one_of_circuits cs (NoSuchCircuit n) (UnknownCard m) p q a b = absurd b
-one_of_circuits cs (NoSuchCircuit n) (BadLine m) p q a b = absurd b
-one_of_circuits cs (NoSuchCircuit n) (ParameterRefused m) p q a b = absurd b
-one_of_circuits cs (NoSuchCircuit n) (Value m v) p q a b = absurd b
-one_of_circuits cs (NoSuchCircuit n) (NotClosed m) p q a b = absurd b
-one_of_circuits cs (NoSuchCircuit n) NoMemory p q a b = absurd (q refl)
+one_of_circuits cs (NoSuchCircuit n) g p q a b = absurd b
 one_of_circuits cs (PinCount n) (NameClash m) p q a b = absurd (no_clash cs m a.0 b)
 one_of_circuits cs (PinCount n) (NoSuchCircuit m) p q a b = absurd (no_least (HasCall cs (is_missing cs)) m a.1 b.1)
 one_of_circuits cs (PinCount n) (PinCount m) p q a b = ap (λ (l : ℕ). PinCount l) (least (HasCall cs (is_other_count cs)) n m a.2 b.2)
 one_of_circuits cs (PinCount n) (CircuitCycle m) p q a b = absurd (no_least (HasCall cs (is_other_count cs)) n b.2 a.2)
-one_of_circuits cs (PinCount n) (UnknownCard m) p q a b = absurd b
-one_of_circuits cs (PinCount n) (BadLine m) p q a b = absurd b
-one_of_circuits cs (PinCount n) (ParameterRefused m) p q a b = absurd b
-one_of_circuits cs (PinCount n) (Value m v) p q a b = absurd b
-one_of_circuits cs (PinCount n) (NotClosed m) p q a b = absurd b
-one_of_circuits cs (PinCount n) NoMemory p q a b = absurd (q refl)
+one_of_circuits cs (PinCount n) g p q a b = absurd b
 one_of_circuits cs (CircuitCycle n) (NameClash m) p q a b = absurd (no_clash cs m a.0 b)
 one_of_circuits cs (CircuitCycle n) (NoSuchCircuit m) p q a b = absurd (no_least (HasCall cs (is_missing cs)) m a.1 b.1)
 one_of_circuits cs (CircuitCycle n) (PinCount m) p q a b = absurd (no_least (HasCall cs (is_other_count cs)) m a.2 b.2)
 one_of_circuits cs (CircuitCycle n) (CircuitCycle m) p q a b = ap (λ (l : List ℕ). CircuitCycle l) (cycle_one cs n m a.3 b.3)
-one_of_circuits cs (CircuitCycle n) (UnknownCard m) p q a b = absurd b
-one_of_circuits cs (CircuitCycle n) (BadLine m) p q a b = absurd b
-one_of_circuits cs (CircuitCycle n) (ParameterRefused m) p q a b = absurd b
-one_of_circuits cs (CircuitCycle n) (Value m v) p q a b = absurd b
-one_of_circuits cs (CircuitCycle n) (NotClosed m) p q a b = absurd b
-one_of_circuits cs (CircuitCycle n) NoMemory p q a b = absurd (q refl)
+one_of_circuits cs (CircuitCycle n) g p q a b = absurd b
+one_of_circuits cs f g p q a b = absurd a
 
 -- a circuit isn't closed, or all are and the circuits have the fault
 abbrev IsOpenFault : Cards → SpiceFault → Type 0
@@ -100,14 +77,7 @@ IsOpenFault cards fault = (line : ℕ) × (fault ≡ NotClosed line) × (c : Cir
 whole_of : (cards : Cards) (fault : SpiceFault) → fault ≢ NoMemory → IsWholeFault cards fault → IsOpenFault cards fault ⊎ ((cards.open_one ≡ None) × IsCircuitsFault (all_of cards) fault)
 whole_of cards (NotClosed line) p h = inl (line, refl, h.0, h.1, h.2)
 whole_of cards NoMemory p h = absurd (p refl)
-whole_of cards (UnknownCard n) p h = inr h
-whole_of cards (BadLine n) p h = inr h
-whole_of cards (ParameterRefused n) p h = inr h
-whole_of cards (Value n v) p h = inr h
-whole_of cards (NameClash n) p h = inr h
-whole_of cards (NoSuchCircuit n) p h = inr h
-whole_of cards (PinCount n) p h = inr h
-whole_of cards (CircuitCycle n) p h = inr h
+whole_of cards fault p h = inr h
 
 open_one : (cards : Cards) (f g : SpiceFault) → IsOpenFault cards f → IsOpenFault cards g → f ≡ g
 open_one cards f g a b =

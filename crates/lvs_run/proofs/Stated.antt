@@ -98,29 +98,20 @@ none_said : (s : Said) → None ≡ Some s → IsFairSaid s
 none_said s e = cc
 
 fair_shapes : (words : List (List ℕ)) (s : Said) → said_shapes words ≡ Some s → IsFairSaid s
-fair_shapes [] s e = none_said s e
-fair_shapes (l ∷ []) s e = none_said s e
-fair_shapes (l ∷ r ∷ []) s e = none_said s e
 fair_shapes (l ∷ r ∷ p ∷ []) s e = if_said _ _ None (λ t f. of_some _ t tt f) (λ t f. none_said t f) s e
-fair_shapes (l ∷ r ∷ p ∷ q ∷ qs) s e = none_said s e
+fair_shapes words s e = none_said s e
 
 fair_made : (n seed workers : Option ℕ) (prefix : List ℕ) (s : Said) → ((k : ℕ) → n ≡ Some k → AreInverters k) → ((k : ℕ) → workers ≡ Some k → AreWorkers k) → make_of n seed workers prefix ≡ Some s → IsFairSaid s
 fair_made (Some n) (Some seed) (Some workers) prefix s some few e = of_some _ s (few workers refl, some n refl) e
-fair_made None seed workers prefix s some few e = none_said s e
-fair_made (Some n) None workers prefix s some few e = none_said s e
-fair_made (Some n) (Some seed) None prefix s some few e = none_said s e
+fair_made n seed workers prefix s some few e = none_said s e
 
 fair_make : (words : List (List ℕ)) (s : Said) → said_make words ≡ Some s → IsFairSaid s
-fair_make [] s e = none_said s e
-fair_make (a ∷ []) s e = none_said s e
-fair_make (a ∷ b ∷ []) s e = none_said s e
-fair_make (a ∷ b ∷ c ∷ []) s e = none_said s e
 fair_make (a ∷ b ∷ c ∷ d ∷ []) s e =
     let n = number_in 1 100000 a in
     let seed = number_in 0 (2 ^ 64 - 1) b in
     let k = number_in 1 64 c in
     if_said (is_value d) (make_of n seed k d) None (λ t f. fair_made n seed k d t (λ m g. number_lies 1 100000 a m g) (λ m g. number_lies 1 64 c m g) f) (λ t f. none_said t f) s e
-fair_make (a ∷ b ∷ c ∷ d ∷ x ∷ xs) s e = none_said s e
+fair_make words s e = none_said s e
 
 -- what the options of a command ask for
 by_asked : (is : List Item) (o : Option Asked) (s : Said) → ((a : Asked) → o ≡ Some a → IsFair a (shared is)) → said_by o is ≡ Some s → IsFairSaid s

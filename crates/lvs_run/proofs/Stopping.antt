@@ -20,7 +20,7 @@ use Rattle.spice_text.specs.Means.{Means as SpiceMeans, SaysFirst}
 use Rattle.lvs_run.specs.declared.output.Verdict.{Verdict}
 use Rattle.lvs_run.specs.declared.output.Verdict.TheVariants as verdict
 use Rattle.lvs_run.specs.Words.{Outputs, ToShapes, ToNetlist, ToReport, ToChip, Paths, inputs_of, schematic_path}
-use Rattle.lvs_run.specs.Answers.{Done, Answer, Good, Bad, RefusedWords, RefusedSame, RefusedAbsent, RefusedLong, RefusedRules, RefusedLayout, RefusedSchematic, Undecided, Outside, NoMemory, refused_rules, refused_schematic, verdict_of, IsVerdict, comparison_answer, refused_layout}
+use Rattle.lvs_run.specs.Answers.{Done, Answer, Good, Bad, RefusedSame, RefusedAbsent, RefusedLong, RefusedRules, RefusedLayout, RefusedSchematic, Outside, NoMemory, refused_rules, refused_schematic, verdict_of, IsVerdict, comparison_answer, refused_layout}
 use Rattle.lvs_run.specs.Runs.{HasLength, IsLong, IsReadWhole, IsReadTooFar, OfInput, HasCauseIn, MayEnd}
 use Rattle.lvs_run.specs.Outcomes.{IsOutcome, IsDone, IsDoneBeside, SamePath, gates_answer}
 use Rattle.lvs_run.proofs.Steps.{OfBeside, OfCards, FaultyCards, SoundCards, OfSchematic, made_alone, OfStream, FaultyStream, SoundStream, OfLayout, OfRuleText, FaultyRules, SoundRules, OfRules, of_rules}
@@ -29,59 +29,29 @@ use Rattle.lvs_run.specs.Inputs.{Quiet, DepotFaults, IsInput, Got, ReadAs, NoRul
 -- a fault of the rules that isn't want of memory is the first
 pub rules_refused : (old new : Store) (path bytes : List ℕ) (fault : RuleFault) → Got old new path bytes → Answers bytes fault → NoRules old new path (refused_rules fault)
 rules_refused old new path bytes rule.NoMemory got h = tt
-rules_refused old new path bytes (rule.UnknownStatement n) got h = record { bytes = bytes; got = got; is = h }
-rules_refused old new path bytes (rule.BadForm n) got h = record { bytes = bytes; got = got; is = h }
-rules_refused old new path bytes (rule.UnknownName n) got h = record { bytes = bytes; got = got; is = h }
-rules_refused old new path bytes (rule.NameTwice n) got h = record { bytes = bytes; got = got; is = h }
-rules_refused old new path bytes (rule.NotConductor n) got h = record { bytes = bytes; got = got; is = h }
-rules_refused old new path bytes (rule.TooManyLayers n) got h = record { bytes = bytes; got = got; is = h }
-rules_refused old new path bytes (rule.NotText n) got h = record { bytes = bytes; got = got; is = h }
+rules_refused old new path bytes fault got h = record { bytes = bytes; got = got; is = h }
 
 pub rules_faults : (old new : Store) (fault : RuleFault) → new.faults ≡ old.faults → DepotFaults (refused_rules fault) old new
 rules_faults old new rule.NoMemory h = h
-rules_faults old new (rule.UnknownStatement n) h = h
-rules_faults old new (rule.BadForm n) h = h
-rules_faults old new (rule.UnknownName n) h = h
-rules_faults old new (rule.NameTwice n) h = h
-rules_faults old new (rule.NotConductor n) h = h
-rules_faults old new (rule.TooManyLayers n) h = h
-rules_faults old new (rule.NotText n) h = h
+rules_faults old new fault h = h
 
 -- so of the layout
 pub layout_refused : (old new : Store) (path bytes : List ℕ) (top : Option (List ℕ)) (fault : LayoutFault) → Got old new path bytes → IsFaultOf bytes top fault → NoLayout old new path top (refused_layout fault)
 layout_refused old new path bytes top layout.NoMemory got h = tt
-layout_refused old new path bytes top (layout.Gds f) got h = record { bytes = bytes; got = got; is = h }
-layout_refused old new path bytes top (layout.Link f) got h = record { bytes = bytes; got = got; is = h }
+layout_refused old new path bytes top fault got h = record { bytes = bytes; got = got; is = h }
 
 pub layout_faults : (old new : Store) (fault : LayoutFault) → new.faults ≡ old.faults → DepotFaults (refused_layout fault) old new
 layout_faults old new layout.NoMemory h = h
-layout_faults old new (layout.Gds f) h = h
-layout_faults old new (layout.Link f) h = h
+layout_faults old new fault h = h
 
 -- so of the schematic
 pub schematic_refused : (old new : Store) (path bytes : List ℕ) (fault : SpiceFault) → Got old new path bytes → SaysFirst read_limit bytes fault → NoSchematic old new path (refused_schematic fault)
 schematic_refused old new path bytes spice.NoMemory got h = tt
-schematic_refused old new path bytes (spice.UnknownCard n) got h = record { bytes = bytes; got = got; is = h }
-schematic_refused old new path bytes (spice.BadLine n) got h = record { bytes = bytes; got = got; is = h }
-schematic_refused old new path bytes (spice.ParameterRefused n) got h = record { bytes = bytes; got = got; is = h }
-schematic_refused old new path bytes (spice.Value n v) got h = record { bytes = bytes; got = got; is = h }
-schematic_refused old new path bytes (spice.NotClosed n) got h = record { bytes = bytes; got = got; is = h }
-schematic_refused old new path bytes (spice.NameClash n) got h = record { bytes = bytes; got = got; is = h }
-schematic_refused old new path bytes (spice.NoSuchCircuit n) got h = record { bytes = bytes; got = got; is = h }
-schematic_refused old new path bytes (spice.PinCount n) got h = record { bytes = bytes; got = got; is = h }
-schematic_refused old new path bytes (spice.CircuitCycle n) got h = record { bytes = bytes; got = got; is = h }
+schematic_refused old new path bytes fault got h = record { bytes = bytes; got = got; is = h }
 
 pub schematic_faults : (old new : Store) (fault : SpiceFault) → new.faults ≡ old.faults → DepotFaults (refused_schematic fault) old new
 schematic_faults old new spice.NoMemory h = h
-schematic_faults old new (spice.UnknownCard n) h = h
-schematic_faults old new (spice.BadLine n) h = h
-schematic_faults old new (spice.ParameterRefused n) h = h
-schematic_faults old new (spice.Value n v) h = h
-schematic_faults old new (spice.NotClosed n) h = h
-schematic_faults old new (spice.NameClash n) h = h
-schematic_faults old new (spice.NoSuchCircuit n) h = h
-schematic_faults old new (spice.PinCount n) h = h
-schematic_faults old new (spice.CircuitCycle n) h = h
+schematic_faults old new fault h = h
 
 has_length : (t : Told) (bytes : List ℕ) → IsInput bytes t → HasLength t (length bytes)
 has_length Untold bytes h = tt
@@ -175,13 +145,7 @@ module _ (p : Paths) (old new : Store) (apart : p.shared ≡ None) (reads : Read
   rules_cause (RefusedRules fault) h = ((apart, of_files p.outputs _ _ reads (read_whole old new p.rules h.bytes new.opened h.got.opened h.got.told)), h.got.absent)
   rules_cause Outside h = tt
   rules_cause NoMemory h = tt
-  rules_cause Good h = absurd h
-  rules_cause Bad h = absurd h
-  rules_cause RefusedWords h = absurd h
-  rules_cause (RefusedSame path) h = absurd h
-  rules_cause (RefusedLayout fault) h = absurd h
-  rules_cause (RefusedSchematic fault) h = absurd h
-  rules_cause Undecided h = absurd h
+  rules_cause a h = absurd h
 
   rules_comes : (a : Answer) → NoRules old new p.rules a → ComesOf (Some p) old.file a
   rules_comes (RefusedAbsent path) h = λ done. of_rules p old.file (RefusedAbsent path) done apart (absent_rules (old.file p.rules) (old.file p.layout) old.file p (RefusedAbsent path) done h.1 (ap RefusedAbsent h.0))
@@ -189,13 +153,7 @@ module _ (p : Paths) (old new : Store) (apart : p.shared ≡ None) (reads : Read
   rules_comes (RefusedRules fault) h = λ done. of_rules p old.file (RefusedRules fault) done apart (rules_read (old.file p.rules) (old.file p.layout) old.file p (RefusedRules fault) done h.bytes h.got.told (FaultyRules fault h.is refl))
   rules_comes Outside h = tt
   rules_comes NoMemory h = tt
-  rules_comes Good h = absurd h
-  rules_comes Bad h = absurd h
-  rules_comes RefusedWords h = absurd h
-  rules_comes (RefusedSame path) h = absurd h
-  rules_comes (RefusedLayout fault) h = absurd h
-  rules_comes (RefusedSchematic fault) h = absurd h
-  rules_comes Undecided h = absurd h
+  rules_comes a h = absurd h
 
 pub rules_stop : (p : Paths) (old new : Store) (a : Answer) → p.shared ≡ None → ReadsFiles p.outputs → RefusesRules old new p.rules a → Stops (Some p) old new a
 rules_stop p old new a apart reads h = record {
@@ -219,17 +177,7 @@ quiet_on a b c h k = record {
 
 faults_since : (old mid new : Store) (a : Answer) → mid.faults ≡ old.faults → DepotFaults a mid new → DepotFaults a old new
 faults_since old mid new Outside e h = subst (λ (n : ℕ). n < new.faults) e h
-faults_since old mid new Good e h = h ∙ e
-faults_since old mid new Bad e h = h ∙ e
-faults_since old mid new RefusedWords e h = h ∙ e
-faults_since old mid new (RefusedSame path) e h = h ∙ e
-faults_since old mid new (RefusedAbsent path) e h = h ∙ e
-faults_since old mid new (RefusedLong path) e h = h ∙ e
-faults_since old mid new (RefusedRules fault) e h = h ∙ e
-faults_since old mid new (RefusedLayout fault) e h = h ∙ e
-faults_since old mid new (RefusedSchematic fault) e h = h ∙ e
-faults_since old mid new Undecided e h = h ∙ e
-faults_since old mid new NoMemory e h = h ∙ e
+faults_since old mid new a e h = h ∙ e
 
 -- the rules were read, and the layout comes next
 module _ (p : Paths) (old mid new : Store) (r : Rules) (apart : p.shared ≡ None) (reads : ReadsFiles p.outputs) (quiet : Quiet old mid) (rules : ReadAs old mid p.rules (λ bytes. Means bytes r)) where
@@ -249,13 +197,7 @@ module _ (p : Paths) (old mid new : Store) (r : Rules) (apart : p.shared ≡ Non
   layout_cause (RefusedLayout fault) h = ((apart, of_files p.outputs _ _ reads (read_whole old new p.layout h.bytes new.opened h.got.opened (subst (IsInput h.bytes) same_file h.got.told))), h.got.absent ∙ rules.got.absent)
   layout_cause Outside h = tt
   layout_cause NoMemory h = tt
-  layout_cause Good h = absurd h
-  layout_cause Bad h = absurd h
-  layout_cause RefusedWords h = absurd h
-  layout_cause (RefusedSame path) h = absurd h
-  layout_cause (RefusedRules fault) h = absurd h
-  layout_cause (RefusedSchematic fault) h = absurd h
-  layout_cause Undecided h = absurd h
+  layout_cause a h = absurd h
 
   layout_comes : (a : Answer) → NoLayout mid new p.layout p.top a → ComesOf (Some p) old.file a
   layout_comes (RefusedAbsent path) h = λ done. on_layout (RefusedAbsent path) done (absent_layout (mid.file p.layout) old.file r p (RefusedAbsent path) done h.1 (ap RefusedAbsent h.0))
@@ -263,13 +205,7 @@ module _ (p : Paths) (old mid new : Store) (r : Rules) (apart : p.shared ≡ Non
   layout_comes (RefusedLayout fault) h = λ done. on_layout (RefusedLayout fault) done (layout_read (mid.file p.layout) old.file r p (RefusedLayout fault) done h.bytes h.got.told (FaultyStream fault h.is refl))
   layout_comes Outside h = tt
   layout_comes NoMemory h = tt
-  layout_comes Good h = absurd h
-  layout_comes Bad h = absurd h
-  layout_comes RefusedWords h = absurd h
-  layout_comes (RefusedSame path) h = absurd h
-  layout_comes (RefusedRules fault) h = absurd h
-  layout_comes (RefusedSchematic fault) h = absurd h
-  layout_comes Undecided h = absurd h
+  layout_comes a h = absurd h
 
 pub layout_stop : (p : Paths) (old mid new : Store) (r : Rules) (a : Answer) → p.shared ≡ None → ReadsFiles p.outputs → Quiet old mid → ReadAs old mid p.rules (λ bytes. Means bytes r)
     → RefusesLayout mid new p.layout p.top a → Stops (Some p) old new a
@@ -340,13 +276,7 @@ module _ (p : Paths) (old mid late new : Store) (r : Rules) (l : Layout) (path :
   schematic_cause (RefusedSchematic fault) h = ((apart, (path, beside, of_files p.outputs _ _ reads (read_whole old new path h.bytes new.opened h.got.opened (subst (IsInput h.bytes) told_so h.got.told)))), h.got.absent ∙ absent_so)
   schematic_cause Outside h = tt
   schematic_cause NoMemory h = tt
-  schematic_cause Good h = absurd h
-  schematic_cause Bad h = absurd h
-  schematic_cause RefusedWords h = absurd h
-  schematic_cause (RefusedSame q) h = absurd h
-  schematic_cause (RefusedRules fault) h = absurd h
-  schematic_cause (RefusedLayout fault) h = absurd h
-  schematic_cause Undecided h = absurd h
+  schematic_cause a h = absurd h
 
   schematic_comes : (a : Answer) → NoSchematic late new path a → ComesOf (Some p) old.file a
   schematic_comes (RefusedAbsent q) h = λ done. on_schematic (RefusedAbsent q) done (absent_schematic (late.file path) path p.outputs l r (RefusedAbsent q) done h.1 (ap RefusedAbsent h.0))
@@ -354,13 +284,7 @@ module _ (p : Paths) (old mid late new : Store) (r : Rules) (l : Layout) (path :
   schematic_comes (RefusedSchematic fault) h = λ done. on_schematic (RefusedSchematic fault) done (schematic_read (late.file path) path p.outputs l r (RefusedSchematic fault) done h.bytes h.got.told (FaultyCards fault h.is refl))
   schematic_comes Outside h = tt
   schematic_comes NoMemory h = tt
-  schematic_comes Good h = absurd h
-  schematic_comes Bad h = absurd h
-  schematic_comes RefusedWords h = absurd h
-  schematic_comes (RefusedSame q) h = absurd h
-  schematic_comes (RefusedRules fault) h = absurd h
-  schematic_comes (RefusedLayout fault) h = absurd h
-  schematic_comes Undecided h = absurd h
+  schematic_comes a h = absurd h
 
 pub schematic_stop : (p : Paths) (old mid late new : Store) (r : Rules) (l : Layout) (path : List ℕ) (a : Answer) → p.shared ≡ None → ReadsFiles p.outputs → schematic_path p.outputs ≡ Some path → Quiet old mid → Quiet mid late
     → ReadAs old mid p.rules (λ bytes. Means bytes r) → ReadAs mid late p.layout (λ bytes. IsRead bytes p.top l) → RefusesSchematic late new path a → Stops (Some p) old new a

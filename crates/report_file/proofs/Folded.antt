@@ -1,7 +1,8 @@
 -- Names that folding leaves as they are.
-use Rattle.std.proofs.Common.{◌≡◌, ◌⊎◌, inl, inr, ℕ, zero, suc, ◌/◌, ◌%◌, ◌<◌, ◌==◌, Bool, true, false, List, [], ◌∷◌, ◌++◌, map, Some, refl, sym, ap, subst, ◌∙◌, arith}
+use Rattle.std.proofs.Common.{◌≡◌, inl, inr, ℕ, zero, suc, ◌/◌, ◌%◌, ◌<◌, ◌==◌, false, List, [], ◌∷◌, ◌++◌, map, Some, refl, sym, ap, subst, ◌∙◌, arith}
 use Rattle.std.specs.Prelude.{decimal, nat_lt, slice_get}
 use Rattle.std.specs.Fmt.{digits, digits_onto, digit_glyph}
+use Rattle.std.proofs.lemmas.Bool.{cases_Bool}
 use Rattle.std.proofs.lemmas.Bool.Decides.{nat_tests}
 use Rattle.std.proofs.lemmas.List.{map-append}
 use Rattle.std.proofs.lemmas.Option.{none-some, same_Some}
@@ -10,10 +11,6 @@ use Rattle.flat_layout.specs.Names.{circuit_ending, circuit_names, circuit_needs
 use Rattle.net_names.specs.Folding.{folded_byte, folded_bytes}
 use Rattle.plain_netlist.specs.Netlist.{Circuit, Netlist, IsCircuit}
 use Rattle.plain_netlist.specs.Sound.{IsSoundNetlist}
-
-pub either : (b : Bool) → (b ≡ true) ⊎ (b ≡ false)
-either true = inl refl
-either false = inr refl
 
 abbrev pub IsFolded : List ℕ → Type 0
 IsFolded text = folded_bytes text ≡ text
@@ -38,13 +35,13 @@ folded_more b bs low h = ap (λ (x : ℕ). x ∷ folded_bytes bs) (same b low) �
 
 folded_digits : (k n : ℕ) (acc : List ℕ) → IsFolded acc → IsFolded (digits_onto k 10 false n acc)
 folded_digits zero n acc h = h
-folded_digits (suc k) n acc h = elim (either (n / 10 == 0)) [
+folded_digits (suc k) n acc h = elim (cases_Bool (n / 10 == 0)) [
   | inl t ↦ rw t (folded_more (digit_glyph false (n % 10)) acc (glyph (n % 10) (omega arith)) h)
   | inr f ↦ rw f (folded_digits k (n / 10) (digit_glyph false (n % 10) ∷ acc) (folded_more (digit_glyph false (n % 10)) acc (glyph (n % 10) (omega arith)) h))
 ]
   where
     glyph : (d : ℕ) → d < 10 → digit_glyph false d < 97
-    glyph d low = elim (either (nat_lt d 10)) [ inl t ↦ rw t (omega arith) | inr f ↦ absurd (grind (arith, f, low)) ]
+    glyph d low = elim (cases_Bool (nat_lt d 10)) [ inl t ↦ rw t (omega arith) | inr f ↦ absurd (grind (arith, f, low)) ]
 
 folded_decimal : (n : ℕ) → IsFolded (decimal n)
 unfolding digits
@@ -57,7 +54,7 @@ folded_ending k = folded_more 36 (36 ∷ decimal k) (omega arith) (folded_more 3
 pub folded_names : (f : ℕ → List ℕ) (earlier : List (List ℕ)) (k : ℕ) (cells : List ℕ) (i : ℕ) (a : List ℕ)
     → slice_get (circuit_names earlier k (map (λ c. folded_bytes (f c)) cells)) i ≡ Some a → IsFolded a
 folded_names f earlier k [] i a h = absurd (none-some a h)
-folded_names f earlier k (c ∷ cs) zero a h = subst IsFolded (same_Some _ _ h) (elim (either (circuit_needs earlier (folded_bytes (f c)))) [
+folded_names f earlier k (c ∷ cs) zero a h = subst IsFolded (same_Some _ _ h) (elim (cases_Bool (circuit_needs earlier (folded_bytes (f c)))) [
   | inl t ↦ rw t (folded_append (folded_bytes (f c)) (circuit_ending k) (folded_twice (f c)) (folded_ending k))
   | inr n ↦ rw n (folded_twice (f c))
 ])

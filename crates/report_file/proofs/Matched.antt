@@ -1,5 +1,6 @@
 -- A reported match of the flat layout with the flattened schematic.
-use Rattle.std.proofs.Common.{◌≡◌, ℕ, List, [], ◌∷◌, Option, Some, None, length, refl, arith}
+use Rattle.std.proofs.Common.{ℕ, List, Option, Some, None, length, refl}
+use Rattle.std.proofs.lemmas.List.{nil_from_length}
 use Rattle.cell_graph.specs.Linked.{Linked, plain}
 use Rattle.composed_laws.specs.Matched.{AreDevicesMatched, AreNetsMatched}
 use Rattle.deep_tables.specs.declared.gates.BadGate.{BadGate}
@@ -21,10 +22,6 @@ use Rattle.report_file.specs.Matched.{MatchedReportLaw, MatchesFlat}
 use Rattle.rule_layers.specs.Meaning.{device_rules, wiring_of}
 use Rattle.rule_text.specs.Rules.{Rules}
 
-none_of : (bad : List BadGate) → length bad ≡ 0 → bad ≡ []
-none_of [] e = refl
-none_of (x ∷ bad) e = absurd (omega (arith, e))
-
 module _ (flat : FlatCorrespondsLaw) (tops : MatchedTopsLaw) (d : Linked) (r : Rules) (unit : ℕ) (t : Tables) (g : CircuitTables) (level : ℕ → ℕ) (layout : Netlist) (top : ℕ) (bad : List BadGate) (schematic : Netlist)
     (right : AreTablesRight (plain d) (wiring_of r) t g layout (device_rules r) unit level) (top_is : IsCircuitCell g.cells top (plain d).top) where
   -- of what was compared
@@ -39,7 +36,7 @@ module _ (flat : FlatCorrespondsLaw) (tops : MatchedTopsLaw) (d : Linked) (r : R
       let E = expanded layout top in
       let S = expanded schematic a.right_top in
       record {
-        good = none_of bad h.0;
+        good = nil_from_length bad h.0;
         found = f;
         is = refl;
         matching = record {

@@ -1,5 +1,6 @@
 -- The report's second name is that of the top's partner.
 use Rattle.std.proofs.Common.{◌≡◌, inl, inr, ℕ, ◌<◌, true, false, List, [], Option, Some, length, get_or, slice_get, refl, sym, ap, ◌∙◌, arith}
+use Rattle.std.proofs.lemmas.Bool.{cases_Bool}
 use Rattle.std.proofs.lemmas.List.Sums.{position_or_len_is}
 use Rattle.std.proofs.lemmas.Option.{slice_get_within, slice_get-get_or, get_or_from_slice_get}
 use Rattle.std.proofs.lemmas.Slice.Eq.{bytes_eq-Decides}
@@ -17,7 +18,6 @@ use Rattle.match_report.specs.declared.report.Compared.{Compared}
 use Rattle.net_model.specs.Rows.{plain_netlist}
 use Rattle.plain_netlist.specs.Netlist.{Circuit, Netlist, IsCircuit}
 use Rattle.report_file.proofs.Compared.{found, no_circuit}
-use Rattle.report_file.proofs.Folded.{either}
 use Rattle.report_file.specs.Named.{TopPartnerLaw}
 
 -- a circuit and what it is aligned to
@@ -49,7 +49,7 @@ place_of nl n c is one =
     position_or_len_is (λ (x : Circuit). bytes_eq c.name x.name) nl.circuits n no_circuit (omega (arith, within)) (before within) (λ l. here)
   where
     before : n < length nl.circuits → (k : ℕ) → k < n → bytes_eq c.name (get_or nl.circuits k no_circuit).name ≡ false
-    before within k low = elim (either (bytes_eq c.name (get_or nl.circuits k no_circuit).name)) [
+    before within k low = elim (cases_Bool (bytes_eq c.name (get_or nl.circuits k no_circuit).name)) [
       | inr f ↦ f
       | inl t ↦ absurd (
           let e = one k (get_or nl.circuits k no_circuit) (slice_get-get_or nl.circuits k no_circuit (omega (arith, within, low))) (sym ((bytes_eq-Decides c.name (get_or nl.circuits k no_circuit).name).0 t)) in

@@ -3,8 +3,7 @@ use Rattle.std.proofs.Common.{◌≡◌, inl, inr, ℕ, zero, suc, ◌+◌, ◌<
 use Rattle.std.specs.Prelude.{flat_map, slice_get, if◌then◌else◌}
 use Rattle.std.specs.Str.{bytes_eq}
 use Rattle.std.proofs.lemmas.Bool.Decides.{Decides-eqb}
-use Rattle.std.proofs.lemmas.List.{append-nil, map-append, length-map, length-append}
-use Rattle.std.proofs.lemmas.List.Folds.{list_any-append}
+use Rattle.std.proofs.lemmas.List.{append-nil, map-append, length-map, length-append, nil_from_length}
 use Rattle.std.proofs.lemmas.Slice.Eq.{bytes_eq-Decides}
 use Rattle.text_table.specs.Texts.{has_text, place_of}
 use Rattle.call_order.specs.Order.{ReachesItself}
@@ -26,7 +25,7 @@ use Rattle.spice_text.specs.Means.{call_names, appearances, net_names, device_ro
 use Rattle.spice_text.specs.Laws.{IsName, IsWritable, WrittenMeansLaw, ReadAgainLaw}
 use Rattle.spice_text.specs.Written.{or_empty, name_in, IsWritten}
 use Rattle.spice_text.proofs.SearchLemmas.{either}
-use Rattle.spice_text.proofs.PinLemmas.{place_at, has_listed}
+use Rattle.spice_text.proofs.PinLemmas.{place_at, has_listed, unseen_behind}
 use Rattle.spice_text.proofs.RowLemmas.{AreNames, name_at, IsUnder, device_card}
 use Rattle.spice_text.proofs.TextLemmas.{call_card, call_cards, circuit_card, behind, circuit_cards, IsReadable, at_rest, text_read}
 
@@ -64,13 +63,7 @@ places_back nets (n ∷ ns) a h =
 
 no_twins : (seen ns : List (List ℕ)) → AreApart ns → ((n : List ℕ) → IsListed n ns → has_text seen n ≡ false) → has_twins seen ns ≡ false
 no_twins seen [] a f = refl
-no_twins seen (n ∷ ns) a f = rw (f n (inl refl)) (no_twins (seen ++ n ∷ []) ns a.1 later)
-  where
-    other : (m : List ℕ) → IsListed m ns → bytes_eq m n ≡ false
-    other m l = elim (either (bytes_eq m n)) [ inl t ↦ absurd (a.0 (subst (λ (x : List ℕ). IsListed x ns) ((bytes_eq-Decides m n).0 t) l)) | inr z ↦ z ]
-
-    later : (m : List ℕ) → IsListed m ns → has_text (seen ++ n ∷ []) m ≡ false
-    later m l = let x = f m (inr l) in let y = other m l in list_any-append (bytes_eq m) seen (n ∷ []) ∙ rw x (rw y refl)
+no_twins seen (n ∷ ns) a f = rw (f n (inl refl)) (no_twins (seen ++ n ∷ []) ns a.1 (unseen_behind seen ns n a.0 f))
 
 pins_apart : (c : plain.Circuit) → AtOnePlace c.nets → normal.IsNormalCircuit c → are_apart (map (name_at c.nets) c.pins) ≡ true
 pins_apart c one h = ap (λ (t : Bool). not t) (no_twins [] (map (name_at c.nets) c.pins) (apart_from (map (name_at c.nets) c.pins) same) (λ n l. refl))
@@ -104,15 +97,11 @@ not_seen (s ∷ ss) rest r a = elim (either (bytes_eq r s)) [
   | inr f ↦ rw f (not_seen ss rest r a.1)
 ]
 
-empty_rest : (rest : List (List ℕ)) → length rest ≡ 0 → rest ≡ []
-empty_rest [] e = refl
-empty_rest (r ∷ rs) e = absurd (omega (arith, e))
-
 again : (nets seen rest : List (List ℕ)) (xs : List ℕ) → nets ≡ seen ++ rest → AreApart nets → normal.AreNumbered (length nets) (length seen) xs
     → first_seen seen (map (name_at nets) xs) ≡ nets
 again nets seen rest [] e a h =
     let len = ap (λ (ns : List (List ℕ)). length ns) e ∙ length-append seen rest in
-    let none = empty_rest rest (omega (arith, len, h)) in
+    let none = nil_from_length rest (omega (arith, len, h)) in
     sym (e ∙ ap (λ (ns : List (List ℕ)). seen ++ ns) none ∙ append-nil seen)
 again nets seen rest (x ∷ xs) e a (inl h) =
     let p = item_at seen x h.0 in

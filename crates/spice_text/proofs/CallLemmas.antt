@@ -16,7 +16,7 @@ use Rattle.spice_text.specs.declared.gather.CircuitCards.{CircuitCards}
 use Rattle.spice_text.specs.Seen.{circuit_seen}
 use Rattle.spice_text.proofs.SearchLemmas.{either}
 use Rattle.spice_rows.specs.declared.fault.SpiceFault.{SpiceFault}
-use Rattle.spice_rows.specs.declared.fault.SpiceFault.TheVariants.{UnknownCard, BadLine, ParameterRefused, Value, NotClosed, NameClash, NoSuchCircuit, PinCount, CircuitCycle, NoMemory}
+use Rattle.spice_rows.specs.declared.fault.SpiceFault.TheVariants.{NameClash, NoSuchCircuit, PinCount, CircuitCycle, NoMemory}
 
 -- what stands in a mapped list is the image of what stands in it
 pub listed_map : {A B : Type 0} (f : A → B) (xs : List A) (b : B) → IsListed b (map f xs) → (x : A) × IsListed x xs × (b ≡ f x)
@@ -62,14 +62,10 @@ cycle_at cs k h = let row = row_at (λ (c : Circuit). map (called_in (names_of c
 pub whole_fault : (cards : Cards) (cs : List Circuit) (e : SpiceFault) → cards.open_one ≡ None → cs ≡ all_of cards → IsCircuitsFault cs e → IsWholeFault cards e
 whole_fault cards cs (NameClash line) o s h = (o, subst (λ x. IsCircuitsFault x (NameClash line)) s h)
 whole_fault cards cs NoMemory o s h = h
-whole_fault cards cs (UnknownCard l) o s h = absurd h
-whole_fault cards cs (BadLine l) o s h = absurd h
-whole_fault cards cs (ParameterRefused l) o s h = absurd h
-whole_fault cards cs (Value l v) o s h = absurd h
-whole_fault cards cs (NotClosed l) o s h = absurd h
 whole_fault cards cs (NoSuchCircuit l) o s h = (o, subst (λ x. IsCircuitsFault x (NoSuchCircuit l)) s h)
 whole_fault cards cs (PinCount l) o s h = (o, subst (λ x. IsCircuitsFault x (PinCount l)) s h)
 whole_fault cards cs (CircuitCycle n) o s h = (o, subst (λ x. IsCircuitsFault x (CircuitCycle n)) s h)
+whole_fault cards cs e o s h = absurd h
 
 pub count_is : (rows : List (Vec ℕ)) (circuits : List CircuitCards) → lists rows ≡ call_lists (map circuit_seen circuits) → length rows ≡ length circuits
 count_is rows circuits e =

@@ -5,6 +5,7 @@ pub mod MeansLemmas
 pub mod WriteLemmas
 pub mod NormalLemmas
 pub mod SoundLemmas
+pub mod OpenedLemmas
 pub mod PinLemmas
 pub mod NumberLemmas
 pub mod WordLemmas

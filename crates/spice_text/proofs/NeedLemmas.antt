@@ -1,7 +1,6 @@
 -- The table of needs, row by row in an order of calls.
 use Rattle.std.proofs.Common.{◌≡◌, ◌≢◌, ◌⊎◌, inl, inr, ℕ, zero, suc, ◌+◌, ◌<◌, Bool, true, false, ◌||◌, ◌&&◌, not, List, [], ◌∷◌, ◌++◌, map, take, set, length, Option, Some, refl, sym, subst, ap, ◌∙◌, arith}
-use Rattle.spice_rows.specs.Rows.{CallCard}
-use Rattle.std.specs.Prelude.{flat_map, slice_get, slice_index_or, get_or}
+use Rattle.std.specs.Prelude.{slice_get, slice_index_or, get_or}
 use Rattle.std.specs.Global.{Vec}
 use Rattle.std.specs.List.{list_any}
 use Rattle.std.specs.Str.{bytes_eq}
@@ -14,7 +13,7 @@ use Rattle.call_order.specs.Order.{lists, Calls, IsCallOrder}
 use Rattle.text_table.specs.Texts.{has_text, with_text}
 use Rattle.spice_text.specs.Gather.{Circuit}
 use Rattle.spice_text.specs.Circuits.{call_lists, called_in, names_of}
-use Rattle.spice_text.specs.Needs.{first_seen, device_nets, call_nets, used_nets, is_pin, is_used, pin_in, used_in, Passes, Needs}
+use Rattle.spice_text.specs.Needs.{first_seen, used_nets, is_pin, is_used, pin_in, used_in, Passes, Needs}
 use Rattle.spice_text.specs.Table.{has_number, has_need, needed_below, IsRow, IsNeedRow, IsRowSet, needs_at, AreSettled, IsNeedTable}
 use Rattle.spice_text.specs.declared.gather.CircuitCards.{CircuitCards}
 use Rattle.spice_text.specs.Seen.{circuit_seen}
@@ -27,7 +26,7 @@ pub seen_append : (seen ns ms : List (List ℕ)) → first_seen seen (ns ++ ms) 
 seen_append seen [] ms = refl
 seen_append seen (n ∷ ns) ms = seen_append (with_text seen n) ns ms
 
-or_false : (b : Bool) → b ≡ (b || (false || false))
+pub or_false : (b : Bool) → b ≡ (b || false)
 or_false true = refl
 or_false false = refl
 
@@ -48,13 +47,9 @@ or_more true b c = refl
 or_more false true c = refl
 or_more false false c = refl
 
-or_none : (a : Bool) → a ≡ (a || false)
-or_none true = refl
-or_none false = refl
-
 -- what is seen is what was there or is named
 pub seen_has : (seen ns : List (List ℕ)) (g : List ℕ) → has_text (first_seen seen ns) g ≡ (has_text seen g || has_text ns g)
-seen_has seen [] g = or_none (has_text seen g)
+seen_has seen [] g = or_false (has_text seen g)
 seen_has seen (n ∷ ns) g = seen_has (with_text seen n) ns g ∙ ap (λ (b : Bool). b || has_text ns g) (more_has seen n g) ∙ or_more (has_text seen g) (bytes_eq g n) (has_text ns g)
 
 pub all_has : (ns : List (List ℕ)) (g : List ℕ) → has_text (first_seen [] ns) g ≡ has_text ns g
@@ -238,7 +233,7 @@ of_or : (p : Bool) (q : Bool) → (p || q) ≡ true → (p ≡ true) ⊎ (q ≡ 
 of_or true q e = inl refl
 of_or false q e = inr e
 
-right_or : (p : Bool) (q : Bool) → q ≡ true → (p || q) ≡ true
+pub right_or : (p : Bool) (q : Bool) → q ≡ true → (p || q) ≡ true
 right_or true q e = refl
 right_or false q e = e
 

@@ -1,10 +1,10 @@
 -- The numbers of the global names that a circuit needs.
-use Rattle.std.proofs.Common.{◌≡◌, ◌⊎◌, inl, inr, ℕ, zero, suc, ◌+◌, ◌<◌, ◌==◌, Bool, true, false, ◌||◌, ◌&&◌, not, cond, List, [], ◌∷◌, ◌++◌, length, Option, Some, None, refl, sym, subst, ap, ◌∙◌, arith, true≢false}
+use Rattle.std.proofs.Common.{◌≡◌, inl, inr, ℕ, zero, suc, ◌+◌, ◌<◌, ◌==◌, Bool, true, false, ◌||◌, ◌&&◌, not, cond, List, [], ◌∷◌, ◌++◌, length, Option, Some, refl, sym, subst, ap, ◌∙◌, arith, true≢false}
 use Rattle.std.specs.Prelude.{flat_map, slice_get, slice_index_or, nat_lt, nat_eq}
 use Rattle.std.specs.List.{filter, list_any, dedup, dedup_from}
-use Rattle.std.specs.List.Sorted.{IsPermutation, IsSorted, IsStrictlyIncreasing}
+use Rattle.std.specs.List.Sorted.{IsPermutation, IsStrictlyIncreasing}
 use Rattle.std.specs.Str.{bytes_eq}
-use Rattle.std.proofs.lemmas.Bool.Decides.{Decides-eqb, nat_tests}
+use Rattle.std.proofs.lemmas.Bool.Decides.{Decides-eqb}
 use Rattle.std.proofs.lemmas.List.{append-nil}
 use Rattle.std.proofs.lemmas.List.Folds.{list_any-append}
 use Rattle.std.proofs.lemmas.List.Kept.{IsStrictlyIncreasing-filter}
@@ -16,9 +16,9 @@ use Rattle.text_table.specs.Texts.{has_text, place_of}
 use Rattle.spice_rows.specs.Rows.{CallCard}
 use Rattle.spice_text.specs.Gather.{Circuit}
 use Rattle.spice_text.specs.Needs.{first_seen, device_nets, call_nets, used_nets}
-use Rattle.spice_text.specs.Table.{has_number, with_number, with_numbers, with_calls, rows_of, is_not_pin, is_free, has_need, needed_below, IsRow, IsNeedRow}
+use Rattle.spice_text.specs.Table.{has_number, with_number, with_numbers, with_calls, rows_of, is_not_pin, is_free, has_need, needed_below, IsNeedRow}
 use Rattle.spice_text.proofs.SearchLemmas.{either}
-use Rattle.spice_text.proofs.NeedLemmas.{all_has}
+use Rattle.spice_text.proofs.NeedLemmas.{all_has, or_false}
 use Rattle.spice_text.proofs.PinLemmas.{place_at}
 
 -- ---- numbers of names one after another
@@ -35,10 +35,6 @@ pub numbers_used : (globals : List (List ℕ)) (c : Circuit) → with_calls glob
 numbers_used globals c = numbers_calls globals (with_numbers globals [] (flat_map device_nets c.devices)) c.calls ∙ sym (numbers_append globals [] (flat_map device_nets c.devices) (flat_map call_nets c.calls))
 
 -- ---- which numbers there are
-
-or_false : (b : Bool) → b ≡ (b || false)
-or_false true = refl
-or_false false = refl
 
 or_assoc : (a b c : Bool) → ((a || b) || c) ≡ (a || (b || c))
 or_assoc true b c = refl

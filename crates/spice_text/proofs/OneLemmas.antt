@@ -8,7 +8,7 @@ use Rattle.plain_netlist.specs.Lists.{IsListed}
 use Rattle.plain_netlist.specs.Netlist as plain
 use Rattle.spice_rows.specs.Rows.{CallCard}
 use Rattle.spice_rows.specs.declared.fault.SpiceFault.{SpiceFault}
-use Rattle.spice_rows.specs.declared.fault.SpiceFault.TheVariants.{UnknownCard, BadLine, ParameterRefused, Value, NotClosed, NameClash, NoSuchCircuit, PinCount, CircuitCycle, NoMemory}
+use Rattle.spice_rows.specs.declared.fault.SpiceFault.TheVariants.{NotClosed, NameClash, NoSuchCircuit, PinCount, CircuitCycle, NoMemory}
 use Rattle.spice_text.specs.Gather.{Circuit, Cards, reading_of}
 use Rattle.spice_text.specs.Circuits.{all_of, names_of, called_in}
 use Rattle.spice_text.specs.Faults.{HasCall, is_missing, Lacks, IsWholeFault}
@@ -94,10 +94,7 @@ no_whole limit text n (NameClash l) x h = absurd (x.one h.1.0 h.1.1.holds)
 no_whole limit text n (NoSuchCircuit l) x h = absurd (x.called l h.1.1.holds)
 no_whole limit text n (PinCount l) x h = absurd (x.counts l h.1.2.holds)
 no_whole limit text n (CircuitCycle name) x h = absurd (x.cycles h.1.3.0 h.1.3.1.reaches)
-no_whole limit text n (UnknownCard l) x h = absurd h.1
-no_whole limit text n (BadLine l) x h = absurd h.1
-no_whole limit text n (ParameterRefused l) x h = absurd h.1
-no_whole limit text n (Value l v) x h = absurd h.1
+no_whole limit text n fault x h = absurd h.1
 
 not_both : {A E : Type 0} (r : Result A E) (a : A) (e : E) → r ≡ Ok a → r ≡ Err e → ⊥
 not_both r a e f g = let z : ⊥ = cc in z
@@ -110,12 +107,4 @@ none_first limit text n fault x (inr (cards, e, w)) =
 
 pub no_fault : NoFaultLaw
 no_fault limit text n NoMemory x h = refl
-no_fault limit text n (NotClosed l) x h = none_first limit text n (NotClosed l) x h
-no_fault limit text n (NameClash l) x h = none_first limit text n (NameClash l) x h
-no_fault limit text n (NoSuchCircuit l) x h = none_first limit text n (NoSuchCircuit l) x h
-no_fault limit text n (PinCount l) x h = none_first limit text n (PinCount l) x h
-no_fault limit text n (CircuitCycle name) x h = none_first limit text n (CircuitCycle name) x h
-no_fault limit text n (UnknownCard l) x h = none_first limit text n (UnknownCard l) x h
-no_fault limit text n (BadLine l) x h = none_first limit text n (BadLine l) x h
-no_fault limit text n (ParameterRefused l) x h = none_first limit text n (ParameterRefused l) x h
-no_fault limit text n (Value l v) x h = none_first limit text n (Value l v) x h
+no_fault limit text n fault x h = none_first limit text n fault x h

@@ -16,7 +16,7 @@ use Rattle.spice_cards.specs.Parts.{Param, begins_equals, words_of, behind_words
 use Rattle.spice_rows.specs.Names.{folded_some, name_of, name_onto, names_of, are_apart}
 use Rattle.spice_rows.specs.Sizes.{Sizes, is_above, value_at, value_of, and_then, changed}
 use Rattle.spice_rows.specs.Rows as rows
-use Rattle.spice_rows.specs.Rows.{CardRow, Opens, Passed, Ends as EndsRow, Device, Call, DeviceCard, CallCard, card_row}
+use Rattle.spice_rows.specs.Rows.{CardRow, Opens, Passed, Ends as EndsRow, Device, Call, DeviceCard, card_row}
 use Rattle.spice_rows.specs.declared.fault.SpiceFault.{SpiceFault}
 use Rattle.spice_rows.specs.declared.fault.SpiceFault.TheVariants.{BadLine, UnknownCard}
 use Rattle.spice_rows.proofs.NameLemmas.{call_is}

@@ -10,7 +10,7 @@ use Rattle.spice_text.specs.Circuits.{names_of}
 use Rattle.spice_text.specs.Faults.{IsSecond, IsCallOn, HasCall, IsLeast, Lacks, FindsLeast, IsCircuitsFault}
 use Rattle.spice_text.specs.Search.{first_twice, SaysClash, lesser, least_in, least_in_all}
 use Rattle.spice_rows.specs.declared.fault.SpiceFault.{SpiceFault}
-use Rattle.spice_rows.specs.declared.fault.SpiceFault.TheVariants.{UnknownCard, BadLine, ParameterRefused, Value, NotClosed, NameClash, NoSuchCircuit, PinCount, CircuitCycle, NoMemory}
+use Rattle.spice_rows.specs.declared.fault.SpiceFault.TheVariants.{NameClash, NoSuchCircuit, PinCount, CircuitCycle}
 
 pub either : (b : Bool) → (b ≡ true) ⊎ (b ≡ false)
 either true = inl refl
@@ -63,15 +63,10 @@ none_second cs e = subst (λ (o : Option ℕ). Finds [] cs o) e (finds [] cs)
 
 pub clash_fault : (cs : List Circuit) (e : SpiceFault) → SaysClash (first_twice [] cs) e → IsCircuitsFault cs e
 clash_fault cs (NameClash line) h = subst (λ (o : Option ℕ). Finds [] cs o) h (finds [] cs)
-clash_fault cs NoMemory h = h
-clash_fault cs (UnknownCard l) h = h
-clash_fault cs (BadLine l) h = h
-clash_fault cs (ParameterRefused l) h = h
-clash_fault cs (Value l v) h = h
-clash_fault cs (NotClosed l) h = h
 clash_fault cs (NoSuchCircuit l) h = absurd h
 clash_fault cs (PinCount l) h = absurd h
 clash_fault cs (CircuitCycle n) h = absurd h
+clash_fault cs e h = h
 
 -- ---- the least line
 

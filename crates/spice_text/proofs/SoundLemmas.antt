@@ -24,16 +24,12 @@ use Rattle.spice_text.specs.Needs.{first_seen}
 use Rattle.spice_text.specs.Means.{appearances, net_names, call_row, circuit_row, rows_from}
 use Rattle.spice_text.proofs.SearchLemmas.{either}
 use Rattle.spice_text.proofs.CallLemmas.{place_lt, is_there}
-use Rattle.spice_text.proofs.NeedLemmas.{once, last_or, get_listed}
+use Rattle.spice_text.proofs.NeedLemmas.{once, last_or, get_listed, right_or}
 use Rattle.spice_text.proofs.NormalLemmas.{row_of, all_numbered}
 
-or_none : (p : Bool) (q : Bool) → (p || q) ≡ false → (p ≡ false) × (q ≡ false)
+pub or_none : (p : Bool) (q : Bool) → (p || q) ≡ false → (p ≡ false) × (q ≡ false)
 or_none true q e = let z : ⊥ = cc in absurd z
 or_none false q e = (refl, e)
-
-right_or : (p : Bool) (q : Bool) → q ≡ true → (p || q) ≡ true
-right_or true q e = refl
-right_or false q e = e
 
 -- ---- names of circuits
 
