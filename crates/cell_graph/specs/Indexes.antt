@@ -1,5 +1,5 @@
 -- The indexes of cells.
-use Rattle.std.specs.Prelude.{◌≡◌, ℕ, ◌<◌, List, Some, length, map, slice_get}
+use Rattle.std.specs.Prelude.{◌≡◌, ℕ, ◌<◌, List, Some, length, map, slice_get, IfSome}
 use Rattle.std.specs.List.Sorted.{IsStrictlyIncreasing}
 use Rattle.geo_base.specs.declared.shapes.Rect.{Rect}
 use Rattle.cell_graph.specs.declared.cells.OwnLayer.{OwnLayer}
@@ -28,7 +28,7 @@ AreSpans cells places numbers spans = AreSpansTo cells places (length places) nu
 
 -- the indexes of one cell
 pub record IsIndexed (cells : List CellPart) (c : CellPart) (x : CellIndex) : Type 0 where
-  pub own : x.own.items ≡ sets_of c.layers.items
+  pub own : IfSome x.own (λ own. own.items ≡ sets_of c.layers.items)
   pub spans : AreSpans cells c.places.items x.spanned.items x.spans
 
 -- those of the first n cells

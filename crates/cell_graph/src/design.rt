@@ -15,6 +15,7 @@ use net_names::Name;
 use rect_sets::RectSet;
 use std::alloc::{AllocError, Global};
 use std::marker::Model;
+use tile_index::positions_in;
 
 /// Linked cells: each reference names a cell, no cell stands below itself, and hulls hold what is
 /// below.
@@ -63,7 +64,7 @@ impl Design {
         requires { IsSound (linked_of cells.items top order.items) }
         ensures { IfOk result (λ d. d ≡ linked_of cells.items top order.items) }
     {
-        let indexes = indexes_of(alloc, &cells)?;
+        let indexes = indexes_of(alloc, &cells, top)?;
         Ok(Design {
             cells,
             top,
@@ -113,7 +114,8 @@ impl Design {
     }
 
     /// The positions in `own(cell, key)` of the rectangles that share a square with the window,
-    /// ascending. About O(log n + k log k) for k of n rectangles.
+    /// ascending. About O(log n + k log k) for k of n rectangles; O(n) in a top that places no cell:
+    /// no walk looks into it.
     pub fn own_in(
         &self,
         alloc: Global,
@@ -125,8 +127,10 @@ impl Design {
         ensures { IfOk result (λ v. ArePositions (own_of (cell_at self.now cell) key) w v.items) }
     {
         let part = &self.cells[cell as usize];
-        let index = &self.indexes[cell as usize];
-        match find_index(&part.layers, &index.own, key) {
+        let Some(own) = &self.indexes[cell as usize].own else {
+            return positions_in(alloc, self.own(cell, key).rects(), &w);
+        };
+        match find_index(&part.layers, own, key) {
             Some(rects) => rects.query(alloc, w),
             None => Ok(Vec::new(alloc)),
         }

@@ -14,11 +14,11 @@ use geo_base::{LayerKey, Rect};
 use std::alloc::{AllocError, Global};
 use tile_index::TileIndex;
 
-/// The indexes of a cell: one of its rectangles on each of its layers, and one of the spans of its
-/// references, beside the numbers of those that have one.
+/// The indexes of a cell: one of its rectangles on each of its layers, none where no walk looks into
+/// the cell, and one of the spans of its references, beside the numbers of those that have one.
 #[derive(Drop)]
 pub struct CellIndex {
-    pub own: Vec<TileIndex>,
+    pub own: Option<Vec<TileIndex>>,
     pub spanned: Vec<u32>,
     pub spans: TileIndex,
 }
@@ -68,8 +68,13 @@ fn own_of(alloc: Global, layers: &[OwnLayer], hull: Rect) -> Result<Vec<TileInde
     Ok(own)
 }
 
-// The indexes of one cell.
-fn index_of(alloc: Global, cells: &[CellPart], cell: usize) -> Result<CellIndex, AllocError>
+// The indexes of one cell. No walk looks into a top that places no cell.
+fn index_of(
+    alloc: Global,
+    cells: &[CellPart],
+    top: u32,
+    cell: usize,
+) -> Result<CellIndex, AllocError>
     requires sound { AreSoundCells cells.now }
     requires inside { cell < length cells.now }
     ensures { IfOk result (λ x. (c : CellPart) → slice_get cells.now cell ≡ Some c
@@ -82,7 +87,11 @@ fn index_of(alloc: Global, cells: &[CellPart], cell: usize) -> Result<CellIndex,
         x2: 0,
         y2: 0,
     });
-    let own = own_of(alloc, &part.layers, hull)?;
+    let own = if cell == top as usize && part.places.is_empty() {
+        None
+    } else {
+        Some(own_of(alloc, &part.layers, hull)?)
+    };
     let found = spans_of(alloc, cells, cell)?;
     let spans = TileIndex::build(alloc, &found.spans, hull)?;
     Ok(CellIndex {
@@ -93,13 +102,13 @@ fn index_of(alloc: Global, cells: &[CellPart], cell: usize) -> Result<CellIndex,
 }
 
 /// The indexes of all cells.
-pub fn indexes_of(alloc: Global, cells: &[CellPart]) -> Result<Vec<CellIndex>, AllocError>
+pub fn indexes_of(alloc: Global, cells: &[CellPart], top: u32) -> Result<Vec<CellIndex>, AllocError>
     requires { AreSoundCells cells.now }
     ensures { IfOk result (λ v. AreIndexed cells.now v.items) }
 {
     let mut indexes = Vec::with_capacity(alloc, cells.len())?;
     for i in 0..cells.len() {
-        indexes.push(index_of(alloc, cells, i)?)?;
+        indexes.push(index_of(alloc, cells, top, i)?)?;
     }
     Ok(indexes)
 }

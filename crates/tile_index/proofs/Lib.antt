@@ -1,3 +1,4 @@
 pub mod Meeting
 pub mod Positions
+pub mod Scanning
 pub mod Walks

@@ -22,12 +22,12 @@ abbrev pub IsOn : {A : Type 0} → List A → A → Type 0
 IsOn [] x = ⊥
 IsOn (y ∷ ys) x = (y ≡ x) ⊎ IsOn ys x
 
-contains_on : {A : Type 0} (xs : List A) (x : A) → Contains xs x → IsOn xs x
+pub contains_on : {A : Type 0} (xs : List A) (x : A) → Contains xs x → IsOn xs x
 contains_on [] x (k, lt, e) = absurd (let z : ⊥ = omega arith in z)
 contains_on (y ∷ ys) x (zero, lt, e) = inl e
 contains_on (y ∷ ys) x (suc k, lt, e) = inr (contains_on ys x (k, (let f : k < length ys = omega arith in f), e))
 
-on_contains : {A : Type 0} (xs : List A) (x : A) → IsOn xs x → Contains xs x
+pub on_contains : {A : Type 0} (xs : List A) (x : A) → IsOn xs x → Contains xs x
 on_contains [] x h = absurd h
 on_contains (y ∷ ys) x (inl e) = (0, (let f : 0 < suc (length ys) = omega arith in f), e)
 on_contains (y ∷ ys) x (inr h) = let (k, lt, e) = on_contains ys x h in (suc k, (let f : suc k < suc (length ys) = omega arith in f), e)
@@ -41,11 +41,11 @@ later rects e entries h = All-tail (λ (e : Entry). slice_get rects e.position �
 here : (rects : List Rect) (e : Entry) (entries : List Entry) → AllPlaced rects (e ∷ entries) → slice_get rects e.position ≡ Some e.rect
 here rects e entries h = All-head (λ (e : Entry). slice_get rects e.position ≡ Some e.rect) e entries h
 
-choose_yes : {A : Type 0} (b : Bool) (x y : A) → b ≡ true → (if b then x else y) ≡ x
+pub choose_yes : {A : Type 0} (b : Bool) (x y : A) → b ≡ true → (if b then x else y) ≡ x
 choose_yes true x y e = refl
 choose_yes false x y e = absurd (let z : ⊥ = cc in z)
 
-choose_no : {A : Type 0} (b : Bool) (x y : A) → b ≡ false → (if b then x else y) ≡ y
+pub choose_no : {A : Type 0} (b : Bool) (x y : A) → b ≡ false → (if b then x else y) ≡ y
 choose_no false x y e = refl
 choose_no true x y e = absurd (let z : ⊥ = cc in z)
 
@@ -63,7 +63,7 @@ rect_found rects (e ∷ entries) k all on =
           ∙ ap (λ (r : Rect). Some r) (sym (choose_no (eqb e.position k) e.rect (rect_at entries k) miss.0))
     ]
 
-on_range : (n k : ℕ) → k < n → Contains (range_with_len 0 n) k
+pub on_range : (n k : ℕ) → k < n → Contains (range_with_len 0 n) k
 on_range n k lt = (k, subst (λ m. k < m) (sym (length-range_with_len 0 n)) lt, get_or-range_with_len 0 n k k lt ∙ (let f : 0 + k ≡ k = omega arith in f))
 
 each_on : (rects : List Rect) (entries : List Entry) (k : ℕ) → AreEntries rects entries → k < length rects → IsOn (map (λ (e : Entry). e.position) entries) k

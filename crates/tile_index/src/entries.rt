@@ -22,8 +22,8 @@ struct Stop {
     position: u32,
 }
 
-// A position as a number of 32 bits. Longer lists are want of memory.
-fn position_of(i: usize) -> Result<u32, AllocError>
+/// A position as a number of 32 bits. Longer lists are want of memory.
+pub fn position_of(i: usize) -> Result<u32, AllocError>
     ensures { IfOk result (λ position. position ≡ i) }
 {
     u32::try_from(i).map_err(|_| AllocError)

@@ -4,6 +4,8 @@
 mod curve;
 mod entries;
 mod index;
+mod list;
 mod tree;
 
 pub use index::TileIndex;
+pub use list::positions_in;

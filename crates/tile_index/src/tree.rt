@@ -34,8 +34,8 @@ fn overlap(low: i64, high: i64, from: i64, to: i64) -> bool
     low.max(from) < high.min(to)
 }
 
-// Whether two rectangles share a square.
-fn meets(a: &Rect, b: &Rect) -> bool
+/// Whether two rectangles share a square.
+pub fn meets(a: &Rect, b: &Rect) -> bool
     ensures { result ≡ meets a.now b.now }
 {
     overlap(a.x1, a.x2, b.x1, b.x2) && overlap(a.y1, a.y2, b.y1, b.y2)

@@ -1,0 +1,24 @@
+//! A list of rectangles that is looked into without an index.
+
+ghost use Rattle.std.specs.Prelude.{IfOk};
+ghost use Rattle.tile_index.specs.Windows.{ArePositions};
+
+use crate::entries::position_of;
+use crate::tree::meets;
+use geo_base::Rect;
+use std::alloc::{AllocError, Global};
+
+/// The positions of the rectangles of a list that share a square with the window, ascending. O(n)
+/// for n rectangles: for lists that are too rarely looked into to be worth an index. An `Err` is
+/// want of memory, for which 2^32 rectangles or more are taken, too.
+pub fn positions_in(alloc: Global, rects: &[Rect], w: &Rect) -> Result<Vec<u32>, AllocError>
+    ensures { IfOk result (λ v. ArePositions rects.now w.now v.items) }
+{
+    let mut found = Vec::new(alloc);
+    for i in 0..rects.len() {
+        if meets(&rects[i], w) {
+            found.push(position_of(i)?)?;
+        }
+    }
+    Ok(found)
+}
