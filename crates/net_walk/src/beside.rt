@@ -32,8 +32,10 @@ use link_classes::Link;
 use std::alloc::{AllocError, Global};
 use touching_pieces::{Joined, Piece, touching_links, touching_pairs};
 
-/// Links between the item of a rectangle and those of a placement's nets that touch it; these stand
-/// from a place on. Only conductors that are joined to the rectangle's are walked.
+/// Links whose chains join the item of a rectangle and those of a placement's nets that touch it;
+/// these stand from a place on. Only conductors that are joined to the rectangle's are walked, each
+/// once in its window; the links take near n log n for n pieces that are found there. An `Err` is
+/// want of memory.
 pub fn beside_links<C: Cells>(
     alloc: Global,
     cells: &C,

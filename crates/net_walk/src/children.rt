@@ -155,9 +155,10 @@ fn link_pairs<C: Cells>(
     Ok(())
 }
 
-/// Adds the links between the nets of any two placements of a cell. Cost: O(n log n) for n
-/// placements and pairs of placements whose hulls meet or touch, two walks a conductor through what
-/// both hold for each way in which two placed cells lie beside each other, and the links.
+/// Adds links whose chains join what squares link of the nets of any two placements of a cell. Cost:
+/// O(n log n) for n placements and pairs of placements whose hulls meet or touch; for each way in
+/// which two placed cells lie beside each other two walks a conductor through what both hold, and
+/// near m log m for m pieces that are found; and the links. An `Err` is want of memory.
 pub fn children_links<C: Cells>(
     alloc: Global,
     cells: &C,

@@ -222,8 +222,9 @@ pub fn see_joined<C: Cells>(
     }
 }
 
-/// Links between the items of two placed cells' nets that touch in the window; their items stand
-/// from two places on.
+/// Links whose chains join the items of two placed cells' nets that touch in the window; their items
+/// stand from two places on. Two walks a conductor, and near n log n for n pieces that they find. An
+/// `Err` is want of memory.
 pub fn pair_links<C: Cells>(
     alloc: Global,
     cells: &C,
