@@ -1,5 +1,5 @@
 -- What a step doesn't touch stays.
-use Rattle.std.proofs.Common.{◌≡◌, ◌≢◌, ◌⊎◌, ℕ, zero, suc, ◌+◌, ◌*◌, ◌<◌, ◌≤◌, true, false, ◌==◌, List, [], ◌∷◌, length, get_or, set, slice_index, Some, is_some, refl, sym, ap, ◌∙◌, subst, arith, ⊎_elim, length-set}
+use Rattle.std.proofs.Common.{◌≡◌, ◌≢◌, ◌⊎◌, ℕ, zero, suc, ◌+◌, ◌*◌, ◌<◌, ◌≤◌, true, false, ◌==◌, List, [], ◌∷◌, length, get_or, set, slice_index, Some, is_some, refl, sym, ap, ◌∙◌, subst, arith, inl, inr, ⊎_elim, length-set}
 use Rattle.std.proofs.lemmas.Bool.Decides.{nat_tests}
 use Rattle.std.proofs.Math.Decide.{ℕ_discrete}
 use mathlib.Core.Logic.{dite}
@@ -18,6 +18,7 @@ use Rattle.job_board.specs.declared.view.Plan.{Plan}
 use Rattle.job_board.specs.declared.view.View.{View}
 use Rattle.job_board.specs.declared.view.Work.{Work}
 use Rattle.job_board.specs.declared.view.Work.TheVariants.{Resting, Working}
+use Rattle.job_board.proofs.Parts.{unspent, parts_stay}
 use Rattle.job_board.specs.Rule.{Standing, one_if, how_many, last_stage, JobOk, AreMade, AreReady, WorksAt, graph_of, dependents_of, SeatOk, Shows, Keeps}
 
 -- a job whose words and edges a step doesn't touch
@@ -71,6 +72,12 @@ module _ {T K : Type 0} where
     ready = ready_stays x.machine m (length (graph_of p)) v.ready awaits ok.ready;
     full = λ f. absurd (unfinished (ok.full f j l));
     stopped = ok.stopped;
+    seen_stop = ok.seen_stop;
+    number = ok.number;
+    done = λ k h. dite (ℕ_discrete k j)
+        (λ e. let t = put_here x.holder j (suc id) k e in absurd (ne (omega arith)))
+        (λ apart. let t = put_else x.holder j (suc id) k apart in ⊎_elim
+        (λ z. inl (put_else x.stage j st k apart ∙ z)) (λ z. inr z) (ok.done k (sym t ∙ h)));
   }
 
   -- a fact of every seat, where one view changed
@@ -97,10 +104,14 @@ module _ {T K : Type 0} where
       (λ e. let same : h.1 ≡ v = some-injective h.1 v (sym h.2 ∙ ap (get_elem? vs) e ∙ at) in (id, w, is_there vs id v w at, up (ap (λ (z : View T K). z.stopped) (sym same) ∙ h.3)))
       (λ n. (h.0, h.1, set_else vs id h.0 w n ∙ h.2, h.3))
 
+  -- the seat of this plan goes on, with its parts and its stop
+  abbrev pub GoesOn : Plan T K → View T K → View T K → Type 0
+  GoesOn p v w = (v.stopped ≡ true → w.stopped ≡ true) × (w.part ≡ v.part) × (v.plan ≡ Some p)
+
   module _ {S : Type 0} where
     -- a step that moves no job
     pub unmoved : (p : Plan T K) (s : State S (View T K)) (x : Standing) (r : Keeps p x s) (i n id : ℕ) (homes : List (mathlib.Core.Option.Option S)) (v w : View T K) → get_elem? s.views id ≡ some v → n ≡ get_or s.words i 0
-        → SeatOk p x id w → (v.stopped ≡ true → w.stopped ≡ true) → Keeps p x record { words = set s.words i n; homes = homes; views = set s.views id w }
+        → SeatOk p x id w → GoesOn p v w → Keeps p x record { words = set s.words i n; homes = homes; views = set s.views id w }
     unmoved p s x r i n id homes v w at e ok up = let h = r.shows in record {
       fits = r.fits;
       reached = r.reached;
@@ -111,8 +122,9 @@ module _ {T K : Type 0} where
         unheld = h.unheld;
         holders = λ j. let a = h.holders j in let b = length-set s.views id w in omega arith;
         seats = views_change (SeatOk p x) s.views id w ok (λ other u _ a. h.seats other u a);
-        stop = λ z. stop_stays s.views id v w at up (h.stop z);
+        stop = λ z. stop_stays s.views id v w at up.0 (h.stop z);
       };
+      parts = parts_stay s.views id v w at (unspent p v up.2) up.1 r.parts;
     }
 
     -- a step of the seat id that moves the job j
@@ -123,7 +135,7 @@ module _ {T K : Type 0} where
         → slice_index (set s.words i n) 0 ≡ 2 * how_many (λ k. put x.stage j st k == last_stage (dependents_of p) k) (length (graph_of p)) + one_if x.stopped
         → JobOk (dependents_of p) (set s.words i n) m j st (suc id)
         → ((k : ℕ) → k ≢ j → JobOk (dependents_of p) s.words x.machine k (x.stage k) (x.holder k) → JobOk (dependents_of p) (set s.words i n) m k (x.stage k) (x.holder k))
-        → SeatOk p (moved x m j st id) id w → (v.stopped ≡ true → w.stopped ≡ true)
+        → SeatOk p (moved x m j st id) id w → GoesOn p v w
         → Keeps p (moved x m j st id) record { words = set s.words i n; homes = homes; views = set s.views id w }
     moves p s x r m j st i n id homes v w at l mine unfinished reached awaits made done job others ok up = let h = r.shows in record {
       fits = r.fits;
@@ -139,6 +151,7 @@ module _ {T K : Type 0} where
             (λ _. let a = below s.views id v at in let b = length-set s.views id w in omega arith)
             (λ _. let a = h.holders k in let b = length-set s.views id w in omega arith);
         seats = views_change (SeatOk p (moved x m j st id)) s.views id w ok (λ other u ne a. seat_stays p x m j st id other u ne l mine unfinished awaits made (h.seats other u a));
-        stop = λ z. stop_stays s.views id v w at up (h.stop z);
+        stop = λ z. stop_stays s.views id v w at up.0 (h.stop z);
       };
+      parts = parts_stay s.views id v w at (unspent p v up.2) up.1 r.parts;
     }

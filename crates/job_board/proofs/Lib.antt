@@ -1,4 +1,5 @@
 pub mod Counting
+pub mod Parts
 pub mod Keeping
 pub mod Slots
 pub mod SlotSteps

@@ -1,19 +1,21 @@
 -- Cutting a seat in two, and taking one in, keep the rule.
-use Rattle.std.proofs.Common.{◌≡◌, ◌≢◌, ◌⊎◌, ℕ, zero, suc, Bool, true, false, ◌||◌, ◌==◌, if◌then◌else◌, List, [], ◌∷◌, ◌++◌, length, set, refl, sym, ap, ◌∙◌, subst, arith, inl, inr, ⊎_elim, length-set, length-append}
+use Rattle.std.proofs.Common.{◌≡◌, ◌≢◌, ◌⊎◌, ℕ, zero, suc, Bool, true, false, ◌||◌, ◌==◌, if◌then◌else◌, List, [], ◌∷◌, ◌++◌, length, set, Some, refl, sym, ap, ◌∙◌, subst, arith, inl, inr, ⊎_elim, length-set, length-append}
 use Rattle.std.proofs.lemmas.Bool.Decides.{nat_tests}
 use Rattle.std.proofs.Math.Decide.{ℕ_discrete}
 use mathlib.Core.Logic.{dite}
 use mathlib.Core.Option.{some, some-injective}
 use lib.ListN.{get_elem?}
 use Rattle.atomic_table.specs.Table.{State, Splits, Joins}
-use Rattle.atomic_table.proofs.Lists.{set_else, set_again}
+use Rattle.atomic_table.proofs.Lists.{set_else}
 use Rattle.job_graph.specs.Machine.{Machine}
 use Rattle.job_board.specs.declared.view.Plan.{Plan}
 use Rattle.job_board.specs.declared.view.View.{View}
 use Rattle.job_board.specs.declared.view.Work.{Work}
 use Rattle.job_board.specs.declared.view.Work.TheVariants.{Resting, Working}
-use Rattle.job_board.specs.Rule.{Holds, Standing, has_job, IsOnce, AreMade, WorksAt, dependents_of, SeatOk, spent_view, split_off, joined_view}
-use Rattle.job_board.proofs.Keeping.{views_change, is_there, below}
+use Rattle.job_board.specs.Rule.{Holds, Standing, has_job, IsOnce, AreMade, WorksAt, dependents_of, IsAt, SeatOk}
+use Rattle.job_board.specs.Views.{spent_view, cut_view, split_off, joined_view}
+use Rattle.job_board.proofs.Parts.{unspent, at_new, parts_split, parts_join}
+use Rattle.job_board.proofs.Keeping.{views_change, is_there, below, stop_stays}
 
 or_true : (b : Bool) → (b || true) ≡ true
 or_true true = refl
@@ -53,20 +55,17 @@ module _ {T K S : Type 0} (empty : S) (right : ℕ → S → Type 0) (p : Plan T
   abbrev Rule : State S (View T K) → Type 0
   Rule s = Holds empty right p s
 
-  at_new : (l : List (View T K)) (u b : View T K) (j : ℕ) → get_elem? (l ++ u ∷ []) j ≡ some b → (get_elem? l j ≡ some b) ⊎ ((j ≡ length l) × (u ≡ b))
-  at_new [] u b zero e = inr (refl, some-injective u b e)
-  at_new [] u b (suc j) e = absurd (cc)
-  at_new (x ∷ xs) u b zero e = inl e
-  at_new (x ∷ xs) u b (suc j) e = ⊎_elim (λ (t : get_elem? xs j ≡ some b). inl t) (λ (t : (j ≡ length xs) × (u ≡ b)). inr (ap suc t.0, t.1)) (at_new xs u b j e)
-
   at_longer : (l m : List (View T K)) (i : ℕ) (a : View T K) → get_elem? l i ≡ some a → get_elem? (l ++ m) i ≡ some a
   at_longer [] m i a e = absurd (cc)
   at_longer (x ∷ xs) m zero a e = e
   at_longer (x ∷ xs) m (suc i) a e = at_longer xs m i a e
 
-  pub splits : (id : ℕ) (v : View T K) → Splits Rule id v v (split_off v)
-  splits id v s r at = let h = r.keeps.shows in let x = r.standing in let ok = h.seats id v at in
-      subst (λ vs. Rule record { words = s.words; homes = s.homes; views = vs ++ split_off v ∷ [] }) (sym (set_again s.views id v at)) record {
+  pub splits : (id : ℕ) (v : View T K) → v.plan ≡ Some p → Splits Rule id v (cut_view v) (split_off v)
+  splits id v planned s r at = let h = r.keeps.shows in let x = r.standing in let ok = h.seats id v at in let vs : List (View T K) = set s.views id (cut_view v) in
+      let mine : SeatOk p x id (cut_view v) = record { plan = ok.plan; claims = ok.claims; once = ok.once; made = ok.made; work = ok.work; ready = ok.ready; full = ok.full; stopped = ok.stopped; seen_stop = ok.seen_stop; number = ok.number; done = ok.done } in
+      let wide' = length-set s.views id (cut_view v) in
+      let new : SeatOk p x (length vs) (split_off v) = record { plan = ok.plan; claims = λ k. let a = h.holders k in sym (not_same (x.holder k) (suc (length vs)) (λ z. absurd (omega arith))); once = tt; made = tt; work = tt; ready = tt; full = λ f. absurd (cc); stopped = λ f. absurd (cc); seen_stop = λ f. absurd (cc); number = tt; done = λ k e. let a = h.holders k in absurd (omega arith) } in
+      record {
         standing = x;
         slots = r.slots;
         keeps = record {
@@ -77,13 +76,13 @@ module _ {T K S : Type 0} (empty : S) (right : ℕ → S → Type 0) (p : Plan T
             done = h.done;
             jobs = h.jobs;
             unheld = h.unheld;
-            holders = λ j. let a = h.holders j in let b = length-append s.views (split_off v ∷ []) in omega arith;
-            seats = λ j u e. ⊎_elim (λ (t : get_elem? s.views j ≡ some u). h.seats j u t)
-                (λ (t : (j ≡ length s.views) × (split_off v ≡ u)). subst (λ (z : ℕ × View T K). SeatOk p x z.0 z.1) (λ i. (sym t.0 i, t.1 i))
-                record { plan = ok.plan; claims = λ k. let a = h.holders k in sym (not_same (x.holder k) (suc (length s.views)) (λ z. absurd (omega arith))); once = tt; made = tt; work = tt; ready = tt; full = λ f. absurd (cc); stopped = λ f. absurd (cc) })
-                (at_new s.views (split_off v) u j e);
-            stop = λ z. let t = h.stop z in (t.0, t.1, at_longer s.views (split_off v ∷ []) t.0 t.1 t.2, t.3);
+            holders = λ j. let a = h.holders j in let b = length-append vs (split_off v ∷ []) in omega arith;
+            seats = λ j u e. ⊎_elim (λ (t : get_elem? vs j ≡ some u). views_change (SeatOk p x) s.views id (cut_view v) mine (λ other w _ a. h.seats other w a) j u t)
+                (λ (t : (j ≡ length vs) × (split_off v ≡ u)). subst (λ (z : ℕ × View T K). SeatOk p x z.0 z.1) (λ i. (sym t.0 i, t.1 i)) new)
+                (at_new vs (split_off v) u j e);
+            stop = λ z. let t = stop_stays s.views id v (cut_view v) at (λ y. y) (h.stop z) in (t.0, t.1, at_longer vs (split_off v ∷ []) t.0 t.1 t.2, t.3);
           };
+          parts = parts_split s.views id v at (unspent p v planned) r.keeps.parts;
         };
       }
 
@@ -113,8 +112,8 @@ module _ {T K S : Type 0} (empty : S) (right : ℕ → S → Type 0) (p : Plan T
   either true b e = inl refl
   either false b e = inr e
 
-  pub joins : (id : ℕ) (v : View T K) (other : ℕ) (w : View T K) → Joins Rule id v other w (joined_view v w) spent_view
-  joins id v other w s r at apart there = let h = r.keeps.shows in let x = r.standing in let ok = h.seats id v at in
+  pub joins : (id : ℕ) (v : View T K) (other : ℕ) (w : View T K) → v.plan ≡ Some p → w.work ≡ Resting → Joins Rule id v other w (joined_view v w) spent_view
+  joins id v other w planned rest' s r at apart there = let h = r.keeps.shows in let x = r.standing in let ok = h.seats id v at in
       let u : View T K = joined_view v w in let vs : List (View T K) = set s.views id u in
       let w_at : get_elem? s.views other ≡ some w = sym (set_else s.views id other u apart) ∙ there in let ow = h.seats other w w_at in
       let y : Standing = record { machine = x.machine; stage = x.stage; holder = passed x.holder other id; stopped = x.stopped } in
@@ -127,8 +126,13 @@ module _ {T K S : Type 0} (empty : S) (right : ℕ → S → Type 0) (p : Plan T
         ready = ok.ready;
         full = λ f. ⊎_elim (λ (t : v.full ≡ true). ok.full t) (λ (t : w.full ≡ true). ow.full t) (either v.full w.full f);
         stopped = λ f. ⊎_elim (λ (t : v.stopped ≡ true). ok.stopped t) (λ (t : w.stopped ≡ true). ow.stopped t) (either v.stopped w.stopped f);
+        seen_stop = λ f. ⊎_elim (λ (t : v.seen_stop ≡ true). ok.seen_stop t) (λ (t : w.seen_stop ≡ true). ow.seen_stop t) (either v.seen_stop w.seen_stop f);
+        number = ok.number;
+        done = λ j e. dite (ℕ_discrete (x.holder j) (suc other))
+            (λ o. ⊎_elim (λ z. inl z) (λ z. absurd (subst (λ q. IsAt q j) rest' z)) (ow.done j o))
+            (λ n. ok.done j (sym (passed_else x.holder other id j n) ∙ e));
       } in
-      let gone : SeatOk p y other spent_view = record { plan = tt; claims = λ j. sym (none_left j); once = tt; made = tt; work = tt; ready = tt; full = λ f. absurd (cc); stopped = λ f. absurd (cc) } in
+      let gone : SeatOk p y other spent_view = record { plan = tt; claims = λ j. sym (none_left j); once = tt; made = tt; work = tt; ready = tt; full = λ f. absurd (cc); stopped = λ f. absurd (cc); seen_stop = λ f. absurd (cc); number = tt; done = λ j e. absurd (holds_none j e) } in
       record {
         standing = y;
         slots = r.slots;
@@ -145,6 +149,7 @@ module _ {T K S : Type 0} (empty : S) (right : ℕ → S → Type 0) (p : Plan T
             seats = views_change (SeatOk p y) vs other spent_view gone (λ o z nx e. views_change' o z nx e mine);
             stop = λ z. stopped_still z;
           };
+          parts = parts_join s.views id other v w at (unspent p v planned) there r.keeps.parts;
         };
       }
     where
@@ -155,6 +160,9 @@ module _ {T K S : Type 0} (empty : S) (right : ℕ → S → Type 0) (p : Plan T
       none_left j = dite (ℕ_discrete (r.standing.holder j) (suc other))
           (λ e. not_same (passed r.standing.holder other id j) (suc other) (λ z. let t = passed_here r.standing.holder other id j e in apart (omega arith)))
           (λ n. not_same (passed r.standing.holder other id j) (suc other) (λ z. n (sym (passed_else r.standing.holder other id j n) ∙ z)))
+
+      holds_none : (j : ℕ) → passed r.standing.holder other id j ≢ suc other
+      holds_none j z = dite (ℕ_discrete (r.standing.holder j) (suc other)) (λ e. let t = passed_here r.standing.holder other id j e in apart (omega arith)) (λ n. n (sym (passed_else r.standing.holder other id j n) ∙ z))
 
       held_still : (j : ℕ) → (passed r.standing.holder other id j == 0) ≡ (r.standing.holder j == 0)
       held_still j = dite (ℕ_discrete (r.standing.holder j) (suc other))
@@ -173,6 +181,11 @@ module _ {T K S : Type 0} (empty : S) (right : ℕ → S → Type 0) (p : Plan T
         ready = k.ready;
         full = k.full;
         stopped = k.stopped;
+        seen_stop = k.seen_stop;
+        number = k.number;
+        done = λ j e. k.done j (dite (ℕ_discrete (r.standing.holder j) (suc other))
+            (λ h. let t = passed_here r.standing.holder other id j h in absurd (ni (omega arith)))
+            (λ n. sym (passed_else r.standing.holder other id j n) ∙ e));
       }
 
       views_change' : (o : ℕ) (z : View T K) → o ≢ other → get_elem? (set s.views id (joined_view v w)) o ≡ some z → SeatOk p record { machine = r.standing.machine; stage = r.standing.stage; holder = passed r.standing.holder other id; stopped = r.standing.stopped } id (joined_view v w)

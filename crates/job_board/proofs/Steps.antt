@@ -24,11 +24,13 @@ use Rattle.job_board.specs.declared.view.Plan.{Plan}
 use Rattle.job_board.specs.declared.view.View.{View}
 use Rattle.job_board.specs.declared.view.Work.{Work}
 use Rattle.job_board.specs.declared.view.Work.TheVariants.{Resting, Working}
-use Rattle.job_board.specs.Rule.{Holds, AreDependents, Standing, one_if, how_many, last_stage, has_job, AreReady, WorksAt, graph_of, dependents_of, graph_in, dependents_in, SeatOk, Keeps, newcomer}
+use Rattle.job_board.specs.Rule.{Holds, AreDependents, Standing, one_if, how_many, last_stage, has_job, AreReady, WorksAt, graph_of, dependents_of, graph_in, dependents_in, IsAt, IsNumber, SeatOk, Keeps}
+use Rattle.job_board.specs.Views.{all_parts, newcomer, AreParts}
+use Rattle.job_board.proofs.Parts.{unspent, alone, parts_stay, parts_open}
 use Rattle.job_board.specs.Slots.{first, edge_slot, SlotsOk, taken, AreRight, held_by}
 use Rattle.job_board.proofs.Slots.{take_them, carried_them, give_them, gives_valid}
 use Rattle.job_board.proofs.SlotSteps.{claimed_at, filled, claimed_slots, told_slots, held_length, given_drop, ended_slots, opened_slots}
-use Rattle.job_board.specs.Plays.{readied, claiming, telling, resting, counting, stopping, Looks, Claims, Took, right_in, Tells, Ends, Counts, Stops}
+use Rattle.job_board.specs.Plays.{noting, readied, claiming, telling, resting, counting, stopping, Looks, Claims, Took, right_in, Tells, Ends, Counts, Stops}
 use Rattle.job_board.proofs.Counting.{one_if_small, how_many_small, all_of_them, how_many_all, is_same, same_many, one_more}
 use Rattle.job_board.proofs.Keeping.{job_stays, made_stays, ready_stays, moved, views_change, is_there, unmoved, moves}
 
@@ -104,6 +106,10 @@ all_or false b e = inr e
 none_told : (q : ℕ) → ltb 0 (q + 2) ≡ true
 none_told q = grind (arith, nat_tests)
 
+bit_is : (b : Bool) (n x : ℕ) → x ≡ 2 * n + one_if b → x % 2 ≡ 1 → b ≡ true
+bit_is true n x e o = refl
+bit_is false n x e o = absurd (omega arith)
+
 -- the lowest bit is set
 or_zero : (a : ℕ) → bit_or a 0 ≡ a
 or_zero a = let e = or_shifted a 0 0 (omega arith) in let f : a * 2 ^ 0 ≡ a = omega arith in ap (λ z. bit_or z 0) (sym f) ∙ e ∙ (let g : a * 2 ^ 0 + 0 ≡ a = omega arith in g)
@@ -140,28 +146,41 @@ module _ {T K S : Type 0} (empty : S) (right : Plan T K → ℕ → S → Type 0
   holding : (x : Standing) (s : State S (View T K)) → Keeps p x s → SlotsOk empty (right p) (graph_of p) (dependents_of p) x.machine.awaits x.stage s.homes → Rule s
   holding x s k h = record { standing = x; keeps = k; slots = h }
 
+  noted : (x : Standing) (v : View T K) (i n : ℕ) → SeatOk p x id v → SeatOk p x id (noting v i n)
+  noted x v i n ok = record { plan = ok.plan; claims = ok.claims; once = ok.once; made = ok.made; work = ok.work; ready = ok.ready; full = ok.full; stopped = ok.stopped; seen_stop = ok.seen_stop; number = ok.number; done = ok.done }
+
+  -- each claimed job but the one that the seat is at is finished, also where it moves that one
+  done_else : (st : Standing) (m : Machine) (j z : ℕ) (w : Work) → (me.0.work ≡ Resting) ⊎ IsAt me.0.work j → SeatOk p st id me.0 → (k : ℕ) → k ≢ j → put st.holder j (suc id) k ≡ suc id
+      → (put st.stage j z k ≡ last_stage (dependents_of p) k) ⊎ IsAt w k
+  done_else st m j z w at ok k ne h = ⊎_elim (λ a. inl (put_else st.stage j z k ne ∙ a))
+      (λ a. absurd (⊎_elim (λ (r : me.0.work ≡ Resting). subst (λ u. IsAt u k) r a) (λ r. ne (same_job me.0.work j k r a)) at)) (ok.done k (sym (put_else st.holder j (suc id) k ne) ∙ h))
+    where
+      same_job : (u : Work) (i l : ℕ) → IsAt u i → IsAt u l → l ≡ i
+      same_job Resting i l a b = absurd a
+      same_job (Working n q) i l a b = sym b ∙ a
+
   pub looks : (j : ℕ) → j < length (graph_of p) → Allows Rule slots id me (2 * j + 2) (λ n. n) (Looks (step slots (2 * j + 2) 0 0 none) me)
   looks j l s r len at fits = let i = 2 * j + 2 in let x = get_or s.words i 0 in let h = r.keeps.shows in let ok = h.seats id me.0 at in dite (ℕ_discrete x 0)
-      (λ hit. let w : View T K = readied me.0 j in let none' : r.standing.machine.awaits j ≡ [] = nil (r.standing.machine.awaits j) (sym (h.jobs j l).count ∙ hit) in (
+      (λ hit. let w : View T K = noting (readied me.0 j) i x in let none' : r.standing.machine.awaits j ≡ [] = nil (r.standing.machine.awaits j) (sym (h.jobs j l).count ∙ hit) in (
         w,
         keeps,
         tt,
-        holding r.standing _ (unmoved p s r.standing r.keeps i x id s.homes me.0 w at refl record { plan = ok.plan; claims = ok.claims; once = ok.once; made = ok.made; work = ok.work; ready = (l, none', ok.ready); full = ok.full; stopped = ok.stopped } (λ z. z)) r.slots,
-        λ k e. let same : j ≡ k = omega arith in ((λ _. ap (λ z. (readied me.0 z, me.1)) same), λ no. absurd (no hit)),
+        holding r.standing _ (unmoved p s r.standing r.keeps i x id s.homes me.0 w at refl record { plan = ok.plan; claims = ok.claims; once = ok.once; made = ok.made; work = ok.work; ready = (l, none', ok.ready); full = ok.full; stopped = ok.stopped; seen_stop = ok.seen_stop; number = ok.number; done = ok.done } ((λ z. z), refl, planned)) r.slots,
+        λ k e. let same : j ≡ k = omega arith in ((λ _. ap (λ z. (noting (readied me.0 z) i x, me.1)) same), λ no. absurd (no hit)),
       ))
-      (λ miss. (me.0, keeps, tt, holding r.standing _ (unmoved p s r.standing r.keeps i x id s.homes me.0 me.0 at refl ok (λ z. z)) r.slots, λ k e. ((λ yes'. absurd (miss yes')), λ _. refl)))
+      (λ miss. (noting me.0 i x, keeps, tt, holding r.standing _ (unmoved p s r.standing r.keeps i x id s.homes me.0 (noting me.0 i x) at refl (noted r.standing me.0 i x ok) ((λ z. z), refl, planned)) r.slots, λ k e. ((λ yes'. absurd (miss yes')), λ _. refl)))
     where
       nil : (xs : List ℕ) → length xs ≡ 0 → xs ≡ []
       nil [] e = refl
       nil (y ∷ ys) e = absurd (omega arith)
 
-  pub claims : (j : ℕ) → has j me.0.ready ≡ true → Allows Rule slots id me (2 * j + 1) (λ n. bit_or n 1) (Claims empty right (step slots (2 * j + 1) 1 0 none) me)
-  claims j listed s r len at fits = let i = 2 * j + 1 in let x = get_or s.words i 0 in let h = r.keeps.shows in let ok = h.seats id me.0 at in let st = r.standing in let m = st.machine in let g = graph_of p in let d = dependents_of p in
+  pub claims : (j : ℕ) → has j me.0.ready ≡ true → me.0.work ≡ Resting → Allows Rule slots id me (2 * j + 1) (λ n. bit_or n 1) (Claims empty right (step slots (2 * j + 1) 1 0 none) me)
+  claims j listed rest' s r len at fits = let i = 2 * j + 1 in let x = get_or s.words i 0 in let h = r.keeps.shows in let ok = h.seats id me.0 at in let st = r.standing in let m = st.machine in let g = graph_of p in let d = dependents_of p in
       let found = listed_ready m (length g) j me.0.ready ok.ready listed in let l = found.0 in let job = h.jobs j l in let v = valid g m r.keeps.reached in
       let claimed_ready : (k : ℕ) → k < length g → st.stage k ≢ 0 → m.awaits k ≡ [] = λ k kl n. v.ready k ((h.jobs k kl).claimed ∙ claimed_at (st.stage k) n) in
       dite (ℕ_discrete (st.stage j) 0)
       (λ fresh. let zero_word : x ≡ 0 = job.claim ∙ zero_if (st.stage j) fresh in
-      let w : View T K = claiming me.0 j id in
+      let w : View T K = noting (claiming me.0 j id) i x in
       let free : st.holder j ≡ 0 = test_zero (st.holder j) (st.stage j) job.held fresh in
       let none' : m.claimed j ≡ None = unclaimed (m.claimed j) (job.claimed ∙ not_zero (st.stage j) fresh) in
       let did : answer g m (Claim id j) ≡ Done = claim_done g m id j l found.1 none' in
@@ -172,26 +191,26 @@ module _ {T K S : Type 0} (empty : S) (right : Plan T K → ℕ → S → Type 0
         w,
         act,
         now.0,
-        subst (λ n. Rule (stepped s i n id me.1 w act)) (ap (λ z. bit_or z 1) (sym zero_word)) (holding (moved st (after m (Claim id j)) j 1 id) _ (claimed s st r.keeps at j l free none' fresh did (homes_after s.homes me.1 act)) now.1),
+        subst (λ n. Rule (stepped s i n id me.1 w act)) (ap (λ z. bit_or z 1) (sym zero_word)) (holding (moved st (after m (Claim id j)) j 1 id) _ (claimed s st r.keeps at j x l rest' free none' fresh did (homes_after s.homes me.1 act)) now.1),
         λ k e. let same : j ≡ k = omega arith in (
-          (λ _. subst (λ z. Took empty right z me (w, carried_after me.1 act)) same
-              (subst (λ (q : Option (Plan T K)). (u : ℕ) × (ys : List S) × AreRight (right_in right q) (inputs_of (graph_in q) j) ys × ((let b : Me S (View T K) = (w, carried_after me.1 act) in b) ≡ (claiming me.0 j u, taken empty (graph_in q) (dependents_in q) j ys ++ me.1))) (sym planned)
-              (id, f.0, f.2, λ z. (w, carried_them me.1 (taken empty g d j f.0) z)))),
+          (λ _. subst (λ z. Took empty right i z x me (w, carried_after me.1 act)) same
+              (subst (λ (q : Option (Plan T K)). (u : ℕ) × (ys : List S) × AreRight (right_in right q) (inputs_of (graph_in q) j) ys × ((let b : Me S (View T K) = (w, carried_after me.1 act) in b) ≡ (noting (claiming me.0 j u) i x, taken empty (graph_in q) (dependents_in q) j ys ++ me.1)) × IsNumber me.0.number u) (sym planned)
+              (id, f.0, f.2, (λ z. (w, carried_them me.1 (taken empty g d j f.0) z)), ok.number))),
           λ no. absurd (no zero_word),
         ),
       ))
       (λ taken'. let one_word : x ≡ 1 = job.claim ∙ one_if_not (st.stage j) taken' in (
-        me.0,
+        noting me.0 i x,
         keeps,
         tt,
-        holding st _ (unmoved p s st r.keeps i (bit_or x 1) id s.homes me.0 me.0 at (ap (λ z. bit_or z 1) one_word ∙ sym one_word) ok (λ z. z)) r.slots,
+        holding st _ (unmoved p s st r.keeps i (bit_or x 1) id s.homes me.0 (noting me.0 i x) at (ap (λ z. bit_or z 1) one_word ∙ sym one_word) (noted st me.0 i x ok) ((λ z. z), refl, planned)) r.slots,
         λ k e. ((λ z. absurd (omega arith)), λ _. refl),
       ))
     where
-      claimed : (s : State S (View T K)) (st : Standing) (r : Keeps p st s) (at : get_elem? s.views id ≡ some me.0) (j : ℕ) → j < length (graph_of p) → st.holder j ≡ 0 → st.machine.claimed j ≡ None → st.stage j ≡ 0
-          → answer (graph_of p) st.machine (Claim id j) ≡ Done → (homes : List (maybe.Option S)) → Keeps p (moved st (after st.machine (Claim id j)) j 1 id) record { words = set s.words (2 * j + 1) 1; homes = homes; views = set s.views id (claiming me.0 j id) }
-      claimed s st r at j l free none' fresh did homes = let h = r.shows in let ok = h.seats id me.0 at in let m = st.machine in let g = graph_of p in let d = dependents_of p in let i = 2 * j + 1 in let job = h.jobs j l in let wide = h.wide in
-          moves p s st r (after m (Claim id j)) j 1 i 1 id homes me.0 (claiming me.0 j id) at l (inl free) (λ e. absurd (omega arith)) (one_on g m (Claim id j) r.reached did)
+      claimed : (s : State S (View T K)) (st : Standing) (r : Keeps p st s) (at : get_elem? s.views id ≡ some me.0) (j n : ℕ) → j < length (graph_of p) → me.0.work ≡ Resting → st.holder j ≡ 0 → st.machine.claimed j ≡ None → st.stage j ≡ 0
+          → answer (graph_of p) st.machine (Claim id j) ≡ Done → (homes : List (maybe.Option S)) → Keeps p (moved st (after st.machine (Claim id j)) j 1 id) record { words = set s.words (2 * j + 1) 1; homes = homes; views = set s.views id (noting (claiming me.0 j id) (2 * j + 1) n) }
+      claimed s st r at j n l rest' free none' fresh did homes = let h = r.shows in let ok = h.seats id me.0 at in let m = st.machine in let g = graph_of p in let d = dependents_of p in let i = 2 * j + 1 in let job = h.jobs j l in let wide = h.wide in
+          moves p s st r (after m (Claim id j)) j 1 i 1 id homes me.0 (noting (claiming me.0 j id) i n) at l (inl free) (λ e. absurd (omega arith)) (one_on g m (Claim id j) r.reached did)
           (λ k e. e)
           (λ k u e. at_put (λ y (c : Option ℕ). c ≡ Some u) m.claimed j (Some id) k (λ y. let t : m.claimed k ≡ None = ap m.claimed y ∙ none' in absurd (cc)) (λ _. e))
           (get_or-set_other s.words i 0 1 0 (λ e. absurd (omega arith)) ∙ h.done ∙ ap (λ z. 2 * z + one_if st.stopped) (same_many (λ k. st.stage k == last_stage d k) (λ k. put st.stage j 1 k == last_stage d k) (length g)
@@ -218,8 +237,11 @@ module _ {T K S : Type 0} (empty : S) (right : Plan T K → ℕ → S → Type 0
             ready = ready_stays m (after m (Claim id j)) (length g) me.0.ready (λ k e. e) ok.ready;
             full = λ f. let t = ok.full f j l in absurd (omega arith);
             stopped = ok.stopped;
+            seen_stop = ok.seen_stop;
+            number = refl;
+            done = λ k h. dite (ℕ_discrete k j) (λ e. inr (sym e)) (λ ne. done_else st m j 1 (Working j 0) (inl rest') ok k ne h);
           }
-          (λ z. z)
+          ((λ z. z), refl, planned)
 
   -- the job j that was claimed is published, where it wasn't yet
   abbrev Published : Machine → ℕ → Type 0
@@ -234,6 +256,9 @@ module _ {T K S : Type 0} (empty : S) (right : Plan T K → ℕ → S → Type 0
 
   at_work : (s : State S (View T K)) (x : Standing) (r : Keeps p x s) → At s → (j q : ℕ) → me.0.work ≡ Working j q → WorksAt (dependents_of p) x id (Working j q)
   at_work s x r at j q e = subst (WorksAt (dependents_of p) x id) e (r.shows.seats id me.0 at).work
+
+  at_job : (w : Work) {j q : ℕ} → w ≡ Working j q → IsAt w j
+  at_job w {j} {q} e = subst (λ u. IsAt u j) (sym e) refl
 
   pub tells : (j q k : ℕ) (y : S) (c : List (ℕ × S)) → me.0.work ≡ Working j q → q < length (inputs_of (dependents_of p) j) → slice_index (inputs_of (dependents_of p) j) q ≡ k → me.1 ≡ (edge_slot (graph_of p) j k, y) ∷ c → right p j y
       → Allows Rule slots id me (2 * k + 2) (λ n. (n + (2 ^ 64 - 1)) % 2 ^ 64) (Tells (step slots (2 * k + 2) 1 0 none) me)
@@ -294,8 +319,11 @@ module _ {T K S : Type 0} (empty : S) (right : Plan T K → ℕ → S → Type 0
               ready = ready_stays m (after m1 (Arrive j k)) (length g) me.0.ready ends' ok.ready;
               full = λ f. let t = ok.full f j l in absurd (omega arith);
               stopped = ok.stopped;
+              seen_stop = ok.seen_stop;
+              number = ok.number;
+              done = λ a b. dite (ℕ_discrete a j) (λ e. inr (sym e)) (λ n. done_else st m j (suc (suc q)) (Working j (suc q)) (inr (at_job me.0.work working)) ok a n b);
             }
-            (λ z. z))
+            ((λ z. z), refl, planned))
             (subst (λ (b : List (ℕ × S)). SlotsOk empty (right p) g d (put m.awaits k (less j (m.awaits k))) (put st.stage j (suc (suc q))) (homes_after s.homes b gives)) (sym carried) told),
         λ a b e. let same : Working a b ≡ Working j q = sym e ∙ working in let ea : j ≡ a = (cc) in let eb : q ≡ b = (cc) in λ c. (telling me.0 (ea c) (suc (eb c)), rest me.1),
       )
@@ -336,8 +364,11 @@ module _ {T K S : Type 0} (empty : S) (right : Plan T K → ℕ → S → Type 0
               ready = ok.ready;
               full = λ f. let t = ok.full f j l in absurd (omega arith);
               stopped = ok.stopped;
+              seen_stop = ok.seen_stop;
+              number = ok.number;
+              done = λ a b. dite (ℕ_discrete a j) (λ e. inl (put_here st.stage j z a e ∙ ap (last_stage d) (sym e))) (λ n. done_else st m j z Resting (inr (at_job me.0.work working)) ok a n b);
             }
-            (λ a. a))
+            ((λ a. a), refl, planned))
             (subst (λ (b : List (ℕ × S)). SlotsOk empty (right p) g d m.awaits (put st.stage j z) (homes_after s.homes b act)) (sym carried) over),
         λ a b e. let same : Working a b ≡ Working j q = sym e ∙ working in let ea : j ≡ a = (cc) in
             subst (λ (u : Option (Plan T K)). (let b' : Me S (View T K) = (resting me.0, carried_after me.1 act) in b') ≡ (resting me.0, drop (suc (length (inputs_of (graph_in u) a))) me.1)) (sym planned)
@@ -347,7 +378,8 @@ module _ {T K S : Type 0} (empty : S) (right : Plan T K → ℕ → S → Type 0
 
   pub counts : Allows Rule slots id me 0 (λ n. n) (Counts (step slots 0 0 0 none) me)
   counts s r len at fits = let x = get_or s.words 0 0 in let h = r.keeps.shows in let ok = h.seats id me.0 at in let st = r.standing in let g = graph_of p in let d = dependents_of p in
-      let w : View T K = counting me.0 (x / 2 == length (graph_in me.0.plan)) in (
+      let w : View T K = noting (counting me.0 (x / 2 == length (graph_in me.0.plan)) (x % 2 == 1)) 0 x in
+      let stop_is : x % 2 ≡ 1 → st.stopped ≡ true = λ odd'. bit_is st.stopped (how_many (λ b. st.stage b == last_stage d b) (length g)) x h.done odd' in (
         w,
         keeps,
         tt,
@@ -362,21 +394,33 @@ module _ {T K S : Type 0} (empty : S) (right : Plan T K → ℕ → S → Type 0
               (λ t. let e : x / 2 ≡ length g = eqb_is (x / 2) (length (graph_in me.0.plan)) t ∙ ap (λ (y : Option (Plan T K)). length (graph_in y)) planned in let was = h.done in let bit = one_if_small st.stopped in
               eqb_is (st.stage j) (last_stage d j) (all_of_them (λ b. st.stage b == last_stage d b) (length g) (omega arith) j l)) a;
           stopped = ok.stopped;
-        } (λ z. z)) r.slots,
+          seen_stop = λ f. ⊎_elim (λ t. ok.seen_stop t) (λ t. stop_is (eqb_is (x % 2) 1 t)) (all_or me.0.seen_stop (x % 2 == 1) f);
+          number = ok.number;
+          done = ok.done;
+        } ((λ z. z), refl, planned)) r.slots,
         (
           refl,
-          λ f. let all = how_many_all (λ b. st.stage b == last_stage d b) (length g) (λ b l. is_same (st.stage b) (last_stage d b) (ok.full f b l)) in let was = h.done in let bit = one_if_small st.stopped in
-              let n : length (graph_in me.0.plan) ≡ length g = ap (λ (y : Option (Plan T K)). length (graph_in y)) planned in omega arith,
-          λ f. let was = h.done in let bit : one_if st.stopped ≡ 1 = ap one_if (ok.stopped f) in omega arith,
+          (let few = how_many_small (λ b. st.stage b == last_stage d b) (length g) in let was = h.done in let bit = one_if_small st.stopped in
+              let n : length (graph_in me.0.plan) ≡ length g = ap (λ (y : Option (Plan T K)). length (graph_in y)) planned in omega arith),
+          (λ f. let all = how_many_all (λ b. st.stage b == last_stage d b) (length g) (λ b l. is_same (st.stage b) (last_stage d b) (ok.full f b l)) in let was = h.done in let bit = one_if_small st.stopped in
+              let n : length (graph_in me.0.plan) ≡ length g = ap (λ (y : Option (Plan T K)). length (graph_in y)) planned in omega arith),
+          (λ f. let was = h.done in let bit : one_if st.stopped ≡ 1 = ap one_if (ok.stopped f) in omega arith),
+          (λ f. let was = h.done in let bit : one_if st.stopped ≡ 1 = ap one_if (ok.seen_stop f) in omega arith),
+          (λ all odd'. own_stop s.views r.keeps.parts at all (h.stop (stop_is odd'))),
         ),
       )
+    where
+      own_stop : (vs : List (View T K)) → AreParts vs → get_elem? vs id ≡ some me.0 → me.0.part ≡ all_parts → ((other : ℕ) × (v : View T K) × (get_elem? vs other ≡ some v) × (v.stopped ≡ true)) → me.0.stopped ≡ true
+      own_stop vs parts at all h = dite (ℕ_discrete h.0 id)
+          (λ e. let same : h.1 ≡ me.0 = some-injective h.1 me.0 (sym h.2 ∙ ap (get_elem? vs) e ∙ at) in ap (λ (z : View T K). z.stopped) (sym same) ∙ h.3)
+          (λ n. let gone : false ≡ true = ap (λ (z : View T K). z.stopped) (sym (alone vs id h.0 me.0 h.1 parts at h.2 n all)) ∙ h.3 in absurd (cc))
 
   pub stops : Allows Rule slots id me 0 (λ n. bit_or n 1) (Stops (step slots 0 1 0 none) me)
   stops s r len at fits = let x = get_or s.words 0 0 in let h = r.keeps.shows in let ok = h.seats id me.0 at in let st = r.standing in let g = graph_of p in let d = dependents_of p in let wide = h.wide in
       let y = bit_or x 1 in let many = how_many (λ b. st.stage b == last_stage d b) (length g) in
       let t : Standing = record { machine = st.machine; stage = st.stage; holder = st.holder; stopped = true } in
-      let goes : (other : ℕ) (v : View T K) → SeatOk p st other v → SeatOk p t other v = λ other v k. record { plan = k.plan; claims = k.claims; once = k.once; made = k.made; work = same_work d st t other v.work (λ _. refl) (λ _. refl) k.work; ready = k.ready; full = k.full; stopped = λ _. refl } in
-      let mine : SeatOk p t id (stopping me.0) = record { plan = ok.plan; claims = ok.claims; once = ok.once; made = ok.made; work = same_work d st t id me.0.work (λ _. refl) (λ _. refl) ok.work; ready = ok.ready; full = ok.full; stopped = λ _. refl } in (
+      let goes : (other : ℕ) (v : View T K) → SeatOk p st other v → SeatOk p t other v = λ other v k. record { plan = k.plan; claims = k.claims; once = k.once; made = k.made; work = same_work d st t other v.work (λ _. refl) (λ _. refl) k.work; ready = k.ready; full = k.full; stopped = λ _. refl; seen_stop = λ _. refl; number = k.number; done = k.done } in
+      let mine : SeatOk p t id (stopping me.0) = record { plan = ok.plan; claims = ok.claims; once = ok.once; made = ok.made; work = same_work d st t id me.0.work (λ _. refl) (λ _. refl) ok.work; ready = ok.ready; full = ok.full; stopped = λ _. refl; seen_stop = λ _. refl; number = ok.number; done = ok.done } in (
         stopping me.0,
         keeps,
         tt,
@@ -392,6 +436,7 @@ module _ {T K S : Type 0} (empty : S) (right : Plan T K → ℕ → S → Type 0
             seats = views_change (SeatOk p t) s.views id (stopping me.0) mine (λ other u _ a. goes other u (h.seats other u a));
             stop = λ _. (id, stopping me.0, is_there s.views id me.0 (stopping me.0) at, refl);
           };
+          parts = parts_stay s.views id me.0 (stopping me.0) at (unspent p me.0 planned) refl r.keeps.parts;
         } r.slots,
         refl,
       )
@@ -424,9 +469,10 @@ opens {T} {K} {S} empty right p words fits wide first' each = record {
       unheld = λ _ _. refl;
       holders = λ _. omega arith;
       seats = λ id v at. alone (λ i u. SeatOk p record { machine = start (graph_of p); stage = λ _. 0; holder = λ _. 0; stopped = false } i u) (newcomer p)
-          record { plan = refl; claims = λ j. sym (not_same 0 1 (λ e. absurd (omega arith))); once = tt; made = tt; work = tt; ready = tt; full = λ f. absurd (cc); stopped = λ f. absurd (cc) } id v at;
+          record { plan = refl; claims = λ j. sym (not_same 0 1 (λ e. absurd (omega arith))); once = tt; made = tt; work = tt; ready = tt; full = λ f. absurd (cc); stopped = λ f. absurd (cc); seen_stop = λ f. absurd (cc); number = tt; done = λ j e. absurd (omega arith) } id v at;
       stop = λ z. absurd (cc);
     };
+    parts = parts_open p;
   };
 }
   where

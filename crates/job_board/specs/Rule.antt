@@ -3,8 +3,8 @@
 -- 2 j + 1 is 1 once the job j is claimed, and word 2 j + 2 is the number of inputs that j awaits.
 -- A job's stage is 0 before it is claimed, q + 1 while it is worked and q of its dependents were
 -- told, and 2 more than it has dependents once it is finished.
-use Rattle.std.specs.Prelude.{◌≡◌, ℕ, zero, suc, ◌+◌, ◌*◌, ◌<◌, ◌≤◌, Bool, true, false, not, ◌||◌}
-use Rattle.std.specs.Prelude.{◌==◌, ltb, filter, map, List, [], ◌∷◌, ◌++◌, length, slice_index}
+use Rattle.std.specs.Prelude.{◌≡◌, ◌⊎◌, ℕ, zero, suc, ◌+◌, ◌*◌, ◌<◌, ◌≤◌, Bool, true, false, not, ◌||◌}
+use Rattle.std.specs.Prelude.{◌==◌, ltb, filter, map, List, [], ◌∷◌, length, slice_index}
 use Rattle.std.specs.Prelude.{Option, Some, None, is_some}
 use mathlib.Core.Option.{some}
 use lib.ListN.{get_elem?}
@@ -14,6 +14,7 @@ use Rattle.job_graph.specs.Graph.{inputs_of, AreInputs, has}
 use Rattle.job_graph.specs.Machine.{Machine, start, run}
 use Rattle.job_graph.specs.declared.machine.Event.{Event}
 use Rattle.job_board.specs.Slots.{SlotsOk}
+use Rattle.job_board.specs.Views.{AreParts}
 use Rattle.job_board.specs.declared.view.Plan.{Plan}
 use Rattle.job_board.specs.declared.view.View.{View}
 use Rattle.job_board.specs.declared.view.Work.{Work}
@@ -99,6 +100,16 @@ WorksAt d x id Resting = Unit {0}
 WorksAt d x id (Working j p) =
     (j < length d) × (x.holder j ≡ suc id) × (x.stage j ≡ suc p) × (p ≤ length (inputs_of d j))
 
+-- the seat is at this job
+abbrev pub IsAt : Work → ℕ → Type 0
+IsAt Resting k = ⊥
+IsAt (Working j p) k = j ≡ k
+
+-- the seat's number, where it knows it
+abbrev pub IsNumber : Option ℕ → ℕ → Type 0
+IsNumber None id = Unit {0}
+IsNumber (Some n) id = n ≡ id
+
 module _ {T K : Type 0} where
   abbrev pub graph_of : Plan T K → List (List ℕ)
   graph_of p = p.graph.value
@@ -131,6 +142,11 @@ module _ {T K : Type 0} where
         v.full ≡ true → (j : ℕ) → j < length (graph_of p)
         → x.stage j ≡ last_stage (dependents_of p) j
     pub stopped : v.stopped ≡ true → x.stopped ≡ true
+    pub seen_stop : v.seen_stop ≡ true → x.stopped ≡ true
+    pub number : IsNumber v.number id
+    pub done :
+        (j : ℕ) → x.holder j ≡ suc id
+        → (x.stage j ≡ last_stage (dependents_of p) j) ⊎ IsAt v.work j
 
   -- the words and views show the standing
   pub record Shows (g d : List (List ℕ)) (p : Plan T K) (x : Standing) (words : List ℕ)
@@ -153,6 +169,7 @@ module _ {T K : Type 0} where
     pub fits : AreDependents (graph_of p) (dependents_of p)
     pub reached : (es : List Event) × (x.machine ≡ run (graph_of p) (start (graph_of p)) es)
     pub shows : Shows (graph_of p) (dependents_of p) p x s.words s.views
+    pub parts : AreParts s.views
 
   -- the rule: its words, views and slots show a state of the machine
   pub record Holds {S : Type 0} (empty : S) (right : ℕ → S → Type 0) (p : Plan T K)
@@ -162,47 +179,3 @@ module _ {T K : Type 0} where
     pub slots :
         SlotsOk empty right (graph_of p) (dependents_of p) standing.machine.awaits standing.stage
         s.homes
-
-  -- the first seat
-  abbrev pub newcomer : Plan T K → View T K
-  newcomer p = record {
-    plan = Some p;
-    claims = [];
-    work = Resting;
-    ready = [];
-    full = false;
-    stopped = false;
-  }
-
-  -- a seat that another took in
-  abbrev pub spent_view : View T K
-  spent_view = record {
-    plan = None;
-    claims = [];
-    work = Resting;
-    ready = [];
-    full = false;
-    stopped = false;
-  }
-
-  -- a further seat of the board
-  abbrev pub split_off : View T K → View T K
-  split_off v = record {
-    plan = v.plan;
-    claims = [];
-    work = Resting;
-    ready = [];
-    full = false;
-    stopped = false;
-  }
-
-  -- a seat that took another one in
-  abbrev pub joined_view : View T K → View T K → View T K
-  joined_view v w = record {
-    plan = v.plan;
-    claims = w.claims ++ v.claims;
-    work = v.work;
-    ready = v.ready;
-    full = v.full || w.full;
-    stopped = v.stopped || w.stopped;
-  }

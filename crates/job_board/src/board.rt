@@ -1,13 +1,16 @@
 //! The board: its calls for workers.
-ghost use Rattle.std.specs.Prelude.{◌≡◌, ◌≢◌, ◌<◌, ℕ, [], ◌∷◌, ◌++◌, length, slice_index, true};
-ghost use Rattle.std.specs.Prelude.{slice_get, IfOk, IsSomeAnd, Some};
+ghost use Rattle.std.specs.Prelude.{◌≡◌, ◌≢◌, ◌⊎◌, ◌↔◌, ◌+◌, ◌*◌, ◌<◌, ◌≤◌, ℕ, [], ◌∷◌, ◌++◌};
+ghost use Rattle.std.specs.Prelude.{length, slice_index, true, slice_get, IfOk, OnErr, IsSomeAnd};
+ghost use Rattle.std.specs.Prelude.{Some};
 ghost use Rattle.job_graph.specs.Graph.{Waits, inputs_of};
 ghost use Rattle.job_board.specs.Inputs.{MayRead, value_of};
 ghost use Rattle.job_graph.specs.Notes.{known_values};
 ghost use Rattle.job_board.specs.Board.{IsFree, IsSeatOf, IsTicket, HasTicket, KeepsSeat};
-ghost use Rattle.job_board.specs.Board.{KeepsSeen};
-ghost use Rattle.job_board.specs.Board.{SawReady, SawAll, Stopped, claims_of, jobs_on, key_on};
-ghost use Rattle.job_board.specs.Answers.{IfReady, IfNotReady, IfMine, IfTaken};
+ghost use Rattle.job_board.specs.Board.{KeepsSeen, IsCalm, Read, IsNamed, IsPublished, IsAlone};
+ghost use Rattle.job_board.specs.Board.{SawReady, SawAll, SawStop, Stopped, claims_of, parts_of};
+ghost use Rattle.job_board.specs.Board.{with_parts, GivesOne, TicketState, jobs_on, key_on};
+ghost use Rattle.job_board.specs.Answers.{IfReady, IfNotReady, IfMine, IfTaken, count_in};
+ghost use Rattle.job_board.specs.Answers.{claim_in, word_in};
 
 use crate::inputs::Inputs;
 use crate::layout::Layout;
@@ -88,6 +91,8 @@ impl<T: Defined> Board<T> {
         requires seat { IsSeatOf self.now seat.old }
         requires job { job < length (jobs_on self.now) }
         ensures seat { KeepsSeat self.now seat.old seat.new }
+        ensures calm { IsCalm seat.old seat.new }
+        ensures read { Read seat.new (2 * job + 2) (count_in result) }
         ensures ready { IfReady result
             (λ r. (r.job ≡ job) × SawReady self.now seat.new job) }
         ensures waits { IfNotReady result (λ count. count ≢ 0) }
@@ -107,12 +112,16 @@ impl<T: Defined> Board<T> {
         requires free { IsFree self.now seat.old }
         requires ready { SawReady self.now seat.old ready.job }
         ensures seen { KeepsSeen self.now seat.old seat.new }
+        ensures calm { IsCalm seat.old seat.new }
+        ensures read { Read seat.new (2 * ready.job + 1) (claim_in result) }
         ensures job { IfMine result (λ t. t.job ≡ ready.job) }
         ensures ticket { IfMine result (IsTicket T.is_defined self.now) }
         ensures mine { IfMine result (HasTicket self.now seat.new) }
         ensures claims { IfMine result
             (λ t. claims_of seat.new ≡ ready.job ∷ claims_of seat.old) }
-        ensures taken { IfTaken result (λ word. (word ≢ 0) × (seat.new ≡ seat.old)) }
+        ensures named { IfMine result (λ t. IsNamed seat.old seat.new ready.job) }
+        ensures taken { IfTaken result
+            (λ word. (word ≢ 0) × KeepsSeat self.now seat.old seat.new) }
     {
         let job = ready.job;
         let word = words::claim(&self.table, &mut seat.seat, job);
@@ -143,9 +152,15 @@ impl<T: Defined> Board<T> {
     pub fn progress(&self, seat: &mut BoardSeat<T>) -> Progress
         requires seat { IsSeatOf self.now seat.old }
         ensures seat { KeepsSeat self.now seat.old seat.new }
+        ensures calm { IsCalm seat.old seat.new }
+        ensures read { Read seat.new 0 (word_in result) }
+        ensures few { result.finished ≤ length (jobs_on self.now) }
         ensures all { result.finished ≡ length (jobs_on self.now) → SawAll seat.new }
         ensures full { SawAll seat.old → result.finished ≡ length (jobs_on self.now) }
+        ensures saw { result.stopped ≡ true → SawStop seat.new }
+        ensures told { SawStop seat.old → result.stopped ≡ true }
         ensures stop { Stopped seat.old → result.stopped ≡ true }
+        ensures alone { IsAlone seat.old → result.stopped ≡ true → Stopped seat.old }
     {
         let (finished, stopped) = words::progress(&self.table, &mut seat.seat);
         Progress { finished, stopped }
@@ -156,6 +171,7 @@ impl<T: Defined> Board<T> {
         requires seat { IsSeatOf self.now seat.old }
         ensures seat { KeepsSeat self.now seat.old seat.new }
         ensures stop { Stopped seat.new }
+        ensures parts { parts_of seat.new ≡ parts_of seat.old }
     {
         words::stop(&self.table, &mut seat.seat);
     }
@@ -163,9 +179,13 @@ impl<T: Defined> Board<T> {
     /// A further seat, with its room.
     pub fn split(&self, alloc: Global, seat: &mut BoardSeat<T>) -> Result<BoardSeat<T>, AllocError>
         requires seat { IsSeatOf self.now seat.old }
-        ensures seat { seat.new ≡ seat.old }
+        ensures seat { KeepsSeat self.now seat.old seat.new }
+        ensures same { seat.new ≡ with_parts seat.old (parts_of seat.new) }
+        ensures refused { OnErr result (seat.new ≡ seat.old) }
         ensures further { IfOk result (IsSeatOf self.now) }
+        ensures parts { IfOk result (GivesOne seat.old seat.new) }
         ensures free { IfOk result (IsFree self.now) }
+        ensures calm { IfOk result (λ s. Stopped s → ⊥) }
         ensures claims { IfOk result (λ s. claims_of s ≡ []) }
     {
         let room = Vec::with_capacity(alloc, self.layout.most)?;
@@ -175,14 +195,19 @@ impl<T: Defined> Board<T> {
         })
     }
 
-    /// Takes a seat without a ticket in, with its claims and what it saw.
+    /// Takes a seat without a ticket in, with its claims, what it saw and its stop.
     pub fn join(&self, seat: &mut BoardSeat<T>, other: BoardSeat<T>)
         requires seat { IsSeatOf self.now seat.old }
         requires other { IsSeatOf self.now other }
         requires free { IsFree self.now other }
         ensures seat { KeepsSeen self.now seat.old seat.new }
-        ensures other { SawAll other → SawAll seat.new }
+        ensures all { SawAll other → SawAll seat.new }
+        ensures told { SawStop other → SawStop seat.new }
+        ensures stop { Stopped seat.new ↔ (Stopped seat.old ⊎ Stopped other) }
+        ensures parts { parts_of seat.new ≡ parts_of seat.old + parts_of other }
         ensures free { IsFree self.now seat.old → IsFree self.now seat.new }
+        ensures ticket { (t : TicketState T) → HasTicket self.now seat.old t
+            → HasTicket self.now seat.new t }
         ensures claims { claims_of seat.new ≡ claims_of other ++ claims_of seat.old }
     {
         words::join(&self.table, &mut seat.seat, other.seat);
@@ -205,8 +230,10 @@ impl<T: Defined + Drop> Board<T> {
         requires mine { HasTicket self.now seat.old ticket }
         requires right { T.is_defined (key_on self.now) ticket.job value.value }
         ensures seen { KeepsSeen self.now seat.old seat.new }
+        ensures calm { IsCalm seat.old seat.new }
         ensures free { IsFree self.now seat.new }
         ensures claims { claims_of seat.new ≡ claims_of seat.old }
+        ensures published { IsPublished seat.new ticket.job }
     {
         let place = ticket.job as usize;
         let note = set_cell(rt, &self.cells[place], value);

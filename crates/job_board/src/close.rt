@@ -1,9 +1,9 @@
 //! The end of a board: its notes move out of the table.
-ghost use Rattle.std.specs.Prelude.{◌≡◌, ◌≢◌, ◌<◌, ◌≤◌, ℕ, true, [], length, slice_index, IsSome};
+ghost use Rattle.std.specs.Prelude.{◌≡◌, ◌<◌, ◌≤◌, ℕ, true, [], length, slice_index, IsSome};
 ghost use Rattle.std.specs.Prelude.{IsOk, IfOk, IfErr, Some, None, vec_capacity};
 ghost use Rattle.job_graph.specs.Table.{AreDefined};
-ghost use Rattle.job_board.specs.Board.{AreOnce, IsSeatOf, KeepsSeat, SawAll, claims_of, jobs_on};
-ghost use Rattle.job_board.specs.Board.{key_on};
+ghost use Rattle.job_board.specs.Board.{AreOnce, IsAlone, IsCalm, IsSeatOf, KeepsSeat, ReadCount};
+ghost use Rattle.job_board.specs.Board.{SawAll, SawStop, Stopped, claims_of, jobs_on, key_on};
 ghost use Rattle.job_board.specs.Rule.{graph_of, IsOnce};
 ghost use Rattle.job_board.specs.Notes.{IsRight, EachRight, KeptOwn};
 ghost use Rattle.job_board.specs.Pieces.{AreOwn};
@@ -81,9 +81,12 @@ impl<T: Defined + Drop> Board<T> {
         requires seat { IsSeatOf self seat }
         ensures right { IfOk result (AreDefined T.is_defined (key_on self) (jobs_on self)) }
         ensures once { IfOk result (λ _. AreOnce (claims_of seat)) }
-        ensures part { IfErr result (λ n. n.finished ≢ length (jobs_on self)) }
+        ensures part { IfErr result (λ n. n.finished < length (jobs_on self)) }
+        ensures read { IfErr result (λ n. ReadCount n.seat n.finished) }
         ensures back { IfErr result (λ n. (n.board ≡ self) × KeepsSeat self seat n.seat) }
+        ensures calm { IfErr result (λ n. IsCalm seat n.seat) }
         ensures full { SawAll seat → IsOk result }
+        ensures alone { IsAlone seat → SawStop seat → Stopped seat }
     {
         let mut seat = seat;
         let finished = self.progress(&mut seat).finished;

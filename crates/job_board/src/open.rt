@@ -1,9 +1,11 @@
 //! A board at its start.
 ghost use Rattle.std.specs.Prelude.{◌≡◌, ◌<◌, ◌≤◌, ◌^◌, ℕ, [], length, replicate, IfOk};
-ghost use Rattle.job_board.specs.Rule.{AreDependents, graph_of, dependents_of, newcomer};
+ghost use Rattle.job_board.specs.Rule.{AreDependents, graph_of, dependents_of};
+ghost use Rattle.job_board.specs.Views.{newcomer};
 ghost use Rattle.job_board.specs.Slots.{first};
 ghost use Rattle.job_board.specs.Pieces.{AreFirstWords, MayWork};
-ghost use Rattle.job_board.specs.Board.{IsFree, IsSeatOf, claims_of, jobs_on, key_on};
+ghost use Rattle.job_board.specs.Board.{IsFree, IsSeatOf, IsAlone, Stopped, claims_of, jobs_on};
+ghost use Rattle.job_board.specs.Board.{key_on};
 
 use crate::board::Board;
 use crate::layout::Layout;
@@ -69,6 +71,8 @@ impl<T: Defined + Drop> Board<T> {
         ensures seat { IfOk result (λ r. IsSeatOf r.0 r.1) }
         ensures free { IfOk result (λ r. IsFree r.0 r.1) }
         ensures claims { IfOk result (λ r. claims_of r.1 ≡ []) }
+        ensures calm { IfOk result (λ r. Stopped r.1 → ⊥) }
+        ensures alone { IfOk result (λ r. IsAlone r.1) }
     {
         let layout = Layout::of(alloc, graph)?;
         let cells = no_values(alloc, graph.jobs())?;

@@ -2,7 +2,7 @@
 ghost use Rattle.std.specs.Prelude.{None};
 ghost use Rattle.job_board.specs.Plays.{Looks, Claims, Tells, Ends, Counts, Stops};
 ghost use Rattle.job_board.specs.Notes.{IsRight};
-ghost use Rattle.job_board.specs.Rule.{split_off, spent_view, joined_view};
+ghost use Rattle.job_board.specs.Views.{cut_view, split_off, spent_view, joined_view};
 
 use crate::view::View;
 use atomic_table::{Join, Play, Split};
@@ -50,7 +50,7 @@ impl<T, K> Play<Option<CellNote<T>>, View<T, K>> for Stop {
 pub(crate) struct Cut;
 
 impl<T, K> Split<View<T, K>> for Cut {
-    ghost left = { λ v. v };
+    ghost left = { cut_view };
 
     ghost right = { split_off };
 }

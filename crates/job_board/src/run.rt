@@ -1,8 +1,8 @@
 //! Workers on the board of a phase.
-ghost use Rattle.std.specs.Prelude.{◌≡◌, ◌≤◌, All, IfOk, OnOk};
+ghost use Rattle.std.specs.Prelude.{◌≡◌, ◌⊎◌, ◌≤◌, All, length, IfOk, OnOk};
 ghost use Rattle.job_graph.specs.Table.{AreDefined};
-ghost use Rattle.job_board.specs.Board.{IsSeatOf};
-ghost use Rattle.job_board.specs.Work.{IsBoardOf, MayGoOn};
+ghost use Rattle.job_board.specs.Board.{SawAll, SawStop};
+ghost use Rattle.job_board.specs.Work.{IsBoardOf, MayGoOn, HasEnded, IsLessBy};
 
 use crate::board::Board;
 use crate::gate::Gate;
@@ -21,8 +21,10 @@ fn split_seats<T: Defined + Drop>(
     seat: &mut BoardSeat<T>,
     workers: u32,
 ) -> Result<Vec<(u32, BoardSeat<T>)>, AllocError>
-    requires { IsSeatOf board.now seat.old }
-    ensures seat { seat.new ≡ seat.old }
+    requires seat { IsLessBy 0 board.now seat.old }
+    requires few { workers ≤ 64 }
+    ensures seat { OnOk result (IsLessBy workers board.now seat.new) }
+    ensures count { IfOk result (λ v. length v.items ≡ workers) }
     ensures seats { IfOk result (λ v. All (λ w. MayGoOn board.now w.1) v.items) }
 {
     let mut seats = Vec::with_capacity(alloc, workers as usize)?;
@@ -33,18 +35,25 @@ fn split_seats<T: Defined + Drop>(
     Ok(seats)
 }
 
-/// Takes the workers' seats into one. A worker that found no memory ends it.
+/// Takes the workers' seats into the only one that is left then. A worker that found no memory ends
+/// it.
 fn join_seats<T: Defined + Drop>(
     board: &Board<T>,
     seat: &mut BoardSeat<T>,
     ended: Vec<Result<BoardSeat<T>, AllocError>>,
 ) -> Result<(), AllocError>
-    requires seat { IsSeatOf board.now seat.old }
-    requires ended { All (λ r. IfOk r (MayGoOn board.now)) ended.items }
-    ensures { IsSeatOf board.now seat.new }
+    requires seat { IsLessBy (length ended.items) board.now seat.old }
+    requires ended { All (λ r. IfOk r (HasEnded board.now)) ended.items }
+    requires some { 1 ≤ length ended.items }
+    ensures alone { OnOk result (IsLessBy 0 board.now seat.new) }
+    ensures cause { OnOk result (SawAll seat.new ⊎ SawStop seat.new) }
 {
-    for end in ended {
-        board.join(seat, end?);
+    let mut ended = ended;
+    while let Some(end) = ended.pop() {
+        let Ok(other) = end else {
+            return Err(AllocError);
+        };
+        board.join(seat, other);
     }
     Ok(())
 }
@@ -53,8 +62,8 @@ fn join_seats<T: Defined + Drop>(
 /// takes any job whose inputs are all published, enters the gate and works it. The calling thread
 /// is one of them, so a thread that can't be started changes no answer. A worker that finds no
 /// memory stops the others. The values stand in the order of the jobs, and are the same for every
-/// number of workers and every order in which jobs come free. O(jobs + inputs) beside the work
-/// itself and the waiting.
+/// number of workers and every order in which jobs come free. Want of memory is answered only where
+/// this call or a worker found none. O(jobs + inputs) beside the work itself and the waiting.
 pub fn run_phase<R: Threads + Wait + Sync, P: Phase + Sync, G: Gate + Sync>(
     rt: &R,
     alloc: Global,
@@ -75,12 +84,16 @@ pub fn run_phase<R: Threads + Wait + Sync, P: Phase + Sync, G: Gate + Sync>(
         &|worker: (u32, BoardSeat<P::Out>)| -> Result<BoardSeat<P::Out>, AllocError>
             requires board { IsBoardOf (P.graph phase.now) (P.key phase.now) shared.now }
             requires seat { MayGoOn shared.now worker.1 }
-            ensures { IfOk result (MayGoOn shared.entry.now) }
-        { work_all(rt, alloc, phase, gate, shared, worker.0, worker.1) },
+            ensures { IfOk result (HasEnded shared.entry.now) }
+        {
+            let (place, mut seat) = worker;
+            work_all(rt, alloc, phase, gate, shared, place, &mut seat)?;
+            Ok(seat)
+        },
     )?;
     join_seats(shared, &mut seat, ended)?;
-    match board.close(seat) {
-        Ok(results) => Ok(results),
-        Err(_) => Err(AllocError),
-    }
+    let Ok(results) = board.close(seat) else {
+        unreachable!();
+    };
+    Ok(results)
 }

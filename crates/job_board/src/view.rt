@@ -36,6 +36,14 @@ pub struct View<T, K> {
     pub full: bool,
     /// Whether the seat stopped the board.
     pub stopped: bool,
+    /// Whether the board was seen to be stopped.
+    pub seen_stop: bool,
+    /// The word that was read last, and the number that was read there.
+    pub last: (u64, u64),
+    /// The seat's own number, once it claimed a job.
+    pub number: Option<u64>,
+    /// How many parts it has of the right to be the only seat.
+    pub part: u64,
 }
 
 /// The rule of the board's table.
@@ -45,7 +53,8 @@ pub struct BoardRule<T> {
 
 impl<T: Defined> TableRule<Option<CellNote<T>>, View<T, T::Key>, Plan<T, T::Key>> for BoardRule<T> {
     ghost use Rattle.std.specs.Prelude.{None};
-    ghost use Rattle.job_board.specs.Rule.{Holds, newcomer};
+    ghost use Rattle.job_board.specs.Rule.{Holds};
+    ghost use Rattle.job_board.specs.Views.{newcomer};
     ghost use Rattle.job_board.specs.Notes.{IsRight};
 
     ghost holds = { λ p. Holds None (IsRight T.is_defined p) p };

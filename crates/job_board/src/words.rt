@@ -1,15 +1,16 @@
 //! The calls on the board's words.
-ghost use Rattle.std.specs.Prelude.{◌≡◌, ◌≢◌, ◌+◌, ◌*◌, ◌/◌, ◌%◌, ◌<◌, ◌^◌, ◌==◌, true, false};
+ghost use Rattle.std.specs.Prelude.{◌≡◌, ◌≢◌, ◌+◌, ◌*◌, ◌/◌, ◌%◌, ◌<◌, ◌≤◌, ◌^◌, ◌==◌, true, false};
 ghost use Rattle.std.specs.Prelude.{length, ℕ, suc, List, [], ◌∷◌, ◌++◌, drop, slice_index, None};
 ghost use Rattle.std.specs.Prelude.{Option};
 ghost use Rattle.job_graph.specs.Graph.{has};
 ghost use Rattle.job_graph.specs.Graph.{inputs_of};
-ghost use Rattle.job_board.specs.Rule.{graph_of, graph_in, split_off, joined_view};
+ghost use Rattle.job_board.specs.Rule.{graph_of, graph_in, one_if};
+ghost use Rattle.job_board.specs.Views.{all_parts, cut_view, split_off, joined_view};
 ghost use Rattle.job_board.specs.Notes.{IsRight};
 ghost use Rattle.job_board.specs.Slots.{edge_slot, held_by};
 ghost use Rattle.job_board.specs.Pieces.{MayTell, MayEnd};
-ghost use Rattle.job_board.specs.declared.view.Work.TheVariants.{Working};
-ghost use Rattle.job_board.specs.Plays.{readied, claiming, counting, stopping, telling, resting};
+ghost use Rattle.job_board.specs.declared.view.Work.TheVariants.{Resting, Working};
+ghost use Rattle.job_board.specs.Plays.{noting, readied, counting, stopping, telling, resting};
 ghost use Rattle.job_board.specs.Plays.{IsFor, Claimed};
 
 use crate::plays::{Claim, Count, Cut, End, Glue, Look, Stop, Tell};
@@ -22,8 +23,14 @@ pub(crate) fn look<T: Defined>(table: &BoardTable<T>, seat: &mut TableSeat<T>, j
         seat.old.me.0 }
     requires job { job < length (graph_of table.now.shared.key) }
     ensures seat { (seat.new.table_id ≡ seat.old.table_id) × (seat.new.id ≡ seat.old.id) }
-    ensures ready { result ≡ 0 → seat.new.me ≡ (readied seat.old.me.0 job, seat.old.me.1) }
-    ensures waits { result ≢ 0 → seat.new.me ≡ seat.old.me }
+    ensures ready { result ≡ 0 → seat.new.me ≡ (
+      noting (readied seat.old.me.0 job) (2 * job + 2) result,
+      seat.old.me.1,
+    ) }
+    ensures waits { result ≢ 0 → seat.new.me ≡ (
+      noting seat.old.me.0 (2 * job + 2) result,
+      seat.old.me.1,
+    ) }
 {
     table.shared.load::<Look>(seat, 2 * job as usize + 2)
 }
@@ -34,8 +41,10 @@ pub(crate) fn claim<T: Defined>(table: &BoardTable<T>, seat: &mut TableSeat<T>, 
         seat.old.me.0 }
     requires job { job < length (graph_of table.now.shared.key) }
     requires ready { has job seat.old.me.0.ready ≡ true }
+    requires rest { seat.old.me.0.work ≡ Resting }
     ensures seat { (seat.new.table_id ≡ seat.old.table_id) × (seat.new.id ≡ seat.old.id) }
-    ensures claim { Claimed None (IsRight T.is_defined) job result seat.old.me seat.new.me }
+    ensures claim { Claimed None (IsRight T.is_defined) (2 * job + 1) job result
+        seat.old.me seat.new.me }
 {
     table
         .shared
@@ -48,12 +57,17 @@ pub(crate) fn progress<T: Defined>(table: &BoardTable<T>, seat: &mut TableSeat<T
         seat.old.table_id seat.old.me.0 }
     ensures seat { (seat.new.table_id ≡ seat.old.table_id) × (seat.new.id ≡ seat.old.id) }
     ensures count { seat.new.me ≡ (
-      counting seat.old.me.0
-          (result.0 == length (graph_in seat.old.me.0.plan)),
+      noting
+          (counting seat.old.me.0 (result.0 == length (graph_in seat.old.me.0.plan)) result.1)
+          0 (2 * result.0 + one_if result.1),
       seat.old.me.1,
     ) }
+    ensures few { result.0 ≤ length (graph_in seat.old.me.0.plan) }
     ensures full { seat.old.me.0.full ≡ true → result.0 ≡ length (graph_in seat.old.me.0.plan) }
     ensures stop { seat.old.me.0.stopped ≡ true → result.1 ≡ true }
+    ensures told { seat.old.me.0.seen_stop ≡ true → result.1 ≡ true }
+    ensures alone { seat.old.me.0.part ≡ all_parts → result.1 ≡ true
+        → seat.old.me.0.stopped ≡ true }
 {
     let word = table.shared.load::<Count>(seat, 0);
     (word / 2, word % 2 == 1)
@@ -106,7 +120,7 @@ pub(crate) fn split<T: Defined>(table: &BoardTable<T>, seat: &mut TableSeat<T>) 
     requires board { IsFor table.now.shared.table_id table.now.shared.key seat.old.table_id
         seat.old.me.0 }
     ensures seat { (seat.new.table_id ≡ seat.old.table_id) × (seat.new.id ≡ seat.old.id)
-        × (seat.new.me ≡ seat.old.me) }
+        × (seat.new.me ≡ (cut_view seat.old.me.0, seat.old.me.1)) }
     ensures further { (result.table_id ≡ seat.old.table_id)
         × (result.me ≡ (split_off seat.old.me.0, [])) }
 {
@@ -118,6 +132,7 @@ pub(crate) fn join<T: Defined>(table: &BoardTable<T>, seat: &mut TableSeat<T>, o
     requires board { IsFor table.now.shared.table_id table.now.shared.key seat.old.table_id
         seat.old.me.0 }
     requires other { (other.table_id ≡ table.now.shared.table_id) × (other.me.1 ≡ []) }
+    requires rest { other.me.0.work ≡ Resting }
     ensures { (seat.new.table_id ≡ seat.old.table_id) × (seat.new.id ≡ seat.old.id)
         × (seat.new.me ≡ (joined_view seat.old.me.0 other.me.0, seat.old.me.1)) }
 {

@@ -1,7 +1,7 @@
 //! What one worker does: it claims jobs that are ready, works them and publishes their values.
-ghost use Rattle.std.specs.Prelude.{◌≡◌, ◌<◌, ℕ, length, IfOk, OnOk};
-ghost use Rattle.job_board.specs.Board.{IsFree, IsSeatOf, IsTicket, HasTicket, jobs_on, key_on};
-ghost use Rattle.job_board.specs.Work.{IsBoardOf, MayGoOn};
+ghost use Rattle.std.specs.Prelude.{◌≡◌, ◌<◌, ℕ, length, OnOk, OnErr};
+ghost use Rattle.job_board.specs.Board.{IsSeatOf, IsTicket, HasTicket, Stopped, jobs_on, key_on};
+ghost use Rattle.job_board.specs.Work.{IsBoardOf, IsWorkers, MayGoOn, HasEnded};
 
 use crate::board::Board;
 use crate::gate::Gate;
@@ -22,11 +22,11 @@ fn work_ticket<R: Wait, P: Phase>(
     ticket: Ticket<P::Out>,
 ) -> Result<(), AllocError>
     requires board { IsBoardOf (P.graph phase.now) (P.key phase.now) board.now }
-    requires seat { IsSeatOf board.now seat.old }
+    requires seat { IsWorkers board.now seat.old }
     requires ticket { IsTicket P.Out.is_defined board.now ticket }
     requires mine { HasTicket board.now seat.old ticket }
     ensures seat { IsSeatOf board.now seat.new }
-    ensures free { OnOk result (IsFree board.now seat.new) }
+    ensures worked { OnOk result (MayGoOn board.now seat.new) }
 {
     let value = phase.work(alloc, ticket.job(), &board.reads(&ticket))?;
     let value = Box::new(alloc, value)?;
@@ -45,11 +45,10 @@ fn try_job<R: Wait, P: Phase, G: Gate>(
     job: u32,
 ) -> Result<bool, AllocError>
     requires board { IsBoardOf (P.graph phase.now) (P.key phase.now) board.now }
-    requires seat { IsSeatOf board.now seat.old }
-    requires free { IsFree board.now seat.old }
+    requires seat { MayGoOn board.now seat.old }
     requires job { job < length (jobs_on board.now) }
     ensures seat { IsSeatOf board.now seat.new }
-    ensures free { OnOk result (IsFree board.now seat.new) }
+    ensures worked { OnOk result (MayGoOn board.now seat.new) }
 {
     let Look::Ready(ready) = board.look(seat, job) else {
         return Ok(false);
@@ -74,11 +73,10 @@ fn work_on<R: Wait, P: Phase, G: Gate>(
     tries: &mut Tries,
 ) -> Result<(), AllocError>
     requires board { IsBoardOf (P.graph phase.now) (P.key phase.now) board.now }
-    requires seat { IsSeatOf board.now seat.old }
-    requires free { IsFree board.now seat.old }
+    requires seat { MayGoOn board.now seat.old }
     requires tries { tries.old ≡ length (jobs_on board.now) }
     ensures seat { IsSeatOf board.now seat.new }
-    ensures free { OnOk result (IsFree board.now seat.new) }
+    ensures ended { OnOk result (HasEnded board.now seat.new) }
 {
     let jobs = u64::from(board.jobs());
     for _ in rt.forever() {
@@ -105,26 +103,25 @@ pub(crate) fn work_all<R: Wait, P: Phase, G: Gate>(
     gate: &G,
     board: &Board<P::Out>,
     place: u32,
-    seat: BoardSeat<P::Out>,
-) -> Result<BoardSeat<P::Out>, AllocError>
+    seat: &mut BoardSeat<P::Out>,
+) -> Result<(), AllocError>
     requires board { IsBoardOf (P.graph phase.now) (P.key phase.now) board.now }
-    requires seat { MayGoOn board.now seat }
-    ensures { IfOk result (MayGoOn board.now) }
+    requires seat { MayGoOn board.now seat.old }
+    ensures ended { OnOk result (HasEnded board.now seat.new) }
+    ensures stopped { OnErr result (Stopped seat.new) }
 {
-    let mut seat = seat;
     let jobs = board.jobs();
     if jobs == 0 {
-        return Ok(seat);
+        board.progress(seat);
+        return Ok(());
     }
     let Ok(mut tries) = Tries::new(alloc, jobs, place % jobs) else {
-        board.stop(&mut seat);
+        board.stop(seat);
         return Err(AllocError);
     };
-    match work_on(rt, alloc, phase, gate, board, &mut seat, &mut tries) {
-        Ok(()) => Ok(seat),
-        Err(e) => {
-            board.stop(&mut seat);
-            Err(e)
-        }
+    let ended = work_on(rt, alloc, phase, gate, board, seat, &mut tries);
+    if ended.is_err() {
+        board.stop(seat);
     }
+    ended
 }

@@ -63,7 +63,7 @@ fn two_seats_claim_one_job(rt: HostRuntime) -> Result<(), Fail> {
     let Claim::Taken(word) = board.claim(&mut other, same) else {
         return Err(Fail::from(AllocError));
     };
-    assert!(rt; word != 0);
+    assert!(rt; word == 1);
     Ok(())
 }
 
@@ -186,7 +186,7 @@ fn board_by_hand(rt: HostRuntime) -> Result<(), Fail> {
     let graph = graph_of(alloc, &THREE)?;
     let (board, mut seat) = Board::<Worth>::new(alloc, &graph, ())?;
     let (looks, word) = two_worked(&rt, alloc, &board, &mut seat)?;
-    assert!(rt; looks == [Look::NotReady(2), Look::NotReady(1)] && word != 0);
+    assert!(rt; looks == [Look::NotReady(2), Look::NotReady(1)] && word == 1);
     let last = claimed(&board, &mut seat, 2)?;
     assert!(rt; graph.inputs(2).len() == 2);
     assert!(rt; board.input(&last, 0).0 == 10 && board.input(&last, 1).0 == 20);

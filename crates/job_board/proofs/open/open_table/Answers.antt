@@ -1,5 +1,6 @@
 use Rattle.std.proofs.Common.{replicate, None, sym, subst}
-use Rattle.job_board.specs.Rule.{Holds, newcomer}
+use Rattle.job_board.specs.Rule.{Holds}
+use Rattle.job_board.specs.Views.{newcomer}
 use Rattle.atomic_table.specs.Table.{opening}
 use Rattle.job_board.specs.Notes.{IsRight}
 use Rattle.job_board.proofs.Steps.{opens}
