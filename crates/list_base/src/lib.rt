@@ -4,4 +4,4 @@
 
 mod numbers;
 
-pub use numbers::small;
+pub use numbers::{number, small};

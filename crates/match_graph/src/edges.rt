@@ -1,7 +1,7 @@
 //! The terminals of both circuits' transistors and calls, as edges between nodes.
 
 ghost use Rattle.std.specs.Prelude.{◌≡◌, ◌<◌, ◌+◌, ◌++◌, ◌∷◌, [], ◌^◌, ℕ, length, slice_index};
-ghost use Rattle.std.specs.Prelude.{OnOk, IfOk};
+ghost use Rattle.std.specs.Prelude.{OnErr, OnOk, IfOk, ◌≤◌};
 ghost use Rattle.round_laws.specs.Nodes.{Layout, Schematic};
 ghost use Rattle.match_laws.specs.Circuits.{IsFitting};
 ghost use Rattle.net_model.specs.Rows.{plain_circuit, plain_device, plain_call};
@@ -16,7 +16,7 @@ ghost use Rattle.match_graph.specs.Edges.{pins_on};
 
 use crate::graph::Port;
 use crate::sizes::Sizes;
-use crate::small::number;
+use list_base::number;
 use match_types::{ChildPins, Side};
 use net_model::{Circuit, DeviceRow};
 use std::alloc::{AllocError, Global};
@@ -175,7 +175,8 @@ fn push_call(
 
 fn right_pin(pins: Option<&[u32]>, i: usize) -> Result<u32, AllocError>
     requires { HasPin (now_of pins) i }
-    ensures { IfOk result (λ pin. pin ≡ pin_in (now_of pins.entry) i) }
+    ensures pin { IfOk result (λ pin. pin ≡ pin_in (now_of pins.entry) i) }
+    ensures err { OnErr result (2 ^ 32 ≤ i) }
 {
     match pins {
         Some(list) => Ok(list[i]),

@@ -11,7 +11,7 @@ use crate::edges::list_edges;
 use crate::filling::{begins_of, ends_of};
 use crate::kinds::list_kinds;
 use crate::sizes::Sizes;
-use crate::small::number;
+use list_base::number;
 use match_types::{ChildPins, Node, Side};
 use net_model::Circuit;
 use std::alloc::{AllocError, Global};

@@ -6,7 +6,7 @@ ghost use Rattle.match_parts.specs.Marks.{AreMarked};
 ghost use Rattle.match_graph.specs.Kinds.{Adds, AreKindsOf, call_own, circuit_owns, device_own};
 ghost use Rattle.match_graph.specs.Kinds.{net_owns, plain_own};
 
-use crate::small::number;
+use list_base::number;
 use match_parts::mark;
 use net_model::Circuit;
 use std::alloc::{AllocError, Global};

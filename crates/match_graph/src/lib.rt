@@ -7,7 +7,6 @@ mod filling;
 mod graph;
 mod kinds;
 mod sizes;
-mod small;
 
 pub use graph::{End, Graph, Port};
 pub use sizes::Sizes;

@@ -2,7 +2,7 @@
 
 ghost use Rattle.std.specs.Prelude.{◌+◌, ◌<◌, ◌^◌};
 
-use crate::small::{add, number};
+use list_base::number;
 use match_types::NodeKind;
 use net_model::Circuit;
 use std::alloc::AllocError;
@@ -19,20 +19,22 @@ pub struct Sizes {
 }
 
 impl Sizes {
-    ghost use Rattle.std.specs.Prelude.{◌≡◌, ◌<◌, ◌≤◌, IfOk};
+    ghost use Rattle.std.specs.Prelude.{◌≡◌, ◌<◌, ◌≤◌, ◌+◌, ◌^◌, IfOk, OnErr};
     ghost use Rattle.net_model.specs.Rows.{plain_circuit};
     ghost use Rattle.round_laws.specs.Nodes.{Device, Call};
     ghost use Rattle.match_types.specs.Plain.{plain_kind};
-    ghost use Rattle.match_graph.specs.Numbering.{AreSizesOf, count_in, end_of, place_in};
+    ghost use Rattle.match_graph.specs.Numbering.{AreSizesOf, count_in, end_of, nodes_in, place_in};
 
-    /// The sizes of a circuit, whose nodes are numbered from `first` on.
+    /// The sizes of a circuit, whose nodes are numbered from `first` on. It takes no memory; the
+    /// error is 2^32 nodes or more, with those before `first`.
     pub fn count(first: u32, circuit: &Circuit) -> Result<Sizes, AllocError>
-        ensures { IfOk result (λ sizes. AreSizesOf sizes first (plain_circuit circuit.now)) }
+        ensures sizes { IfOk result (λ sizes. AreSizesOf sizes first (plain_circuit circuit.now)) }
+        ensures err { OnErr result (2 ^ 32 ≤ first + nodes_in (plain_circuit circuit.now)) }
     {
         let nets = number(circuit.nets.len())?;
         let devices = number(circuit.devices.len())?;
         let calls = number(circuit.calls.len())?;
-        add(add(add(first, nets)?, devices)?, calls)?;
+        number(first as usize + nets as usize + devices as usize + calls as usize)?;
         Ok(Sizes {
             first,
             nets,

@@ -12,6 +12,7 @@ ghost use Rattle.net_model.specs.Rows.{plain_circuit};
 
 use crate::words::{push_kind, push_name, push_name_at, push_number, push_place, push_side};
 use job_graph::{Reads, Results};
+use list_base::number;
 use match_types::{Answer, Evidence, Guess, GuessEnd, Node, Pairing};
 use net_model::Circuit;
 use net_names::Name;
@@ -269,7 +270,7 @@ pub fn push_pairs(
         ++ pair_texts (map plain_circuit lefts.now) (map plain_circuit rights.now) 0
         (map plain_answer answers.now)) }
 {
-    let count = u32::try_from(answers.len()).map_err(|_| AllocError)?;
+    let count = number(answers.len())?;
     'pairs: for k in 0..count {
         push_pair(alloc, out, lefts, rights, k as usize, answers.get(k))?;
     }

@@ -1,6 +1,6 @@
 //! The right pin of each left pin, for the called pairs that are matched.
 
-ghost use Rattle.std.specs.Prelude.{◌≡◌, ◌≢◌, ℕ, None, Some, IfSome, IsNone, OnOk, ◌↔◌};
+ghost use Rattle.std.specs.Prelude.{◌≡◌, ◌≢◌, ℕ, None, Some, IfSome, IsNone, OnErr, OnOk, ◌↔◌};
 ghost use Rattle.match_types.specs.Children.{children_of};
 
 use std::alloc::{AllocError, Global};
@@ -23,11 +23,12 @@ impl ChildPins {
         }
     }
 
-    /// Gives a pair its list.
+    /// Gives a pair its list. Where memory is wanting, all lists stay.
     pub fn set(&mut self, pair: u32, pins: Vec<u32>) -> Result<(), AllocError>
         ensures set { OnOk result (children_of self.new pair ≡ Some pins.items) }
         ensures rest { OnOk result ((q : ℕ) → q ≢ pair
             → children_of self.new q ≡ children_of self.old q) }
+        ensures err { OnErr result ((q : ℕ) → children_of self.new q ≡ children_of self.old q) }
     {
         self.lists.insert(pair, pins)?;
         Ok(())

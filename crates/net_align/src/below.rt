@@ -9,6 +9,7 @@ ghost use Rattle.plain_netlist.specs.Sound.{IsSoundNetlist};
 
 use crate::side::align_side;
 use crate::walk::{circuit_order, holding, reached};
+use list_base::number;
 use net_model::Netlist;
 use std::alloc::{AllocError, Global};
 
@@ -29,9 +30,7 @@ pub fn walk_below(alloc: Global, netlist: &Netlist, top: usize) -> Result<Below,
     ensures reached { IfOk result (λ b.
         AreReached (plain_netlist netlist.now) top b.reached.items) }
 {
-    if netlist.circuits.len() > 0xFFFF_FFFF {
-        return Err(AllocError);
-    }
+    number(netlist.circuits.len())?;
     let order = circuit_order(alloc, netlist)?;
     let reached = reached(alloc, netlist, &order, top)?;
     let holds = holding(alloc, netlist, &order)?;

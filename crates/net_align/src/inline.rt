@@ -1,6 +1,6 @@
 //! A circuit with called circuits laid into it.
-ghost use Rattle.std.specs.Prelude.{◌≡◌, ◌<◌, ◌≤◌, ◌+◌, ◌++◌, ℕ, IfOk, OnOk, length, map, drop};
-ghost use Rattle.std.specs.Prelude.{slice_index, slice_get, Some, true};
+ghost use Rattle.std.specs.Prelude.{◌≡◌, ◌<◌, ◌≤◌, ◌+◌, ◌-◌, ◌^◌, ◌++◌, ℕ, IfOk, OnOk, length};
+ghost use Rattle.std.specs.Prelude.{drop, map, slice_index, slice_get, Some, true};
 ghost use Rattle.align_laws.specs.Lists.{net_at_pin};
 ghost use Rattle.net_model.specs.Rows.{plain_device, plain_call, plain_circuit};
 ghost use Rattle.net_align.specs.Laid.{AreBelow, AreRowsBelow, AreCallsBelow, name_below};
@@ -9,6 +9,7 @@ ghost use Rattle.net_align.specs.Laid.{laid_out, goes_of, AreCircuitsBelow, IsFl
 ghost use Rattle.plain_netlist.specs.Netlist.{Circuit as PlainCircuit};
 ghost use Rattle.net_model.specs.declared.netlist.CallRow.{CallRow as Call};
 
+use list_base::number;
 use net_model::{CallRow, Circuit, DeviceRow, copy_devices, copy_names};
 use net_names::Name;
 use std::alloc::{AllocError, Global};
@@ -50,7 +51,8 @@ fn lay_call(
     flats: &[Option<Circuit>],
 ) -> Result<(), AllocError>
     ghost f: { ℕ → PlainCircuit }
-    requires { IsFlatThere flats.now f call.now }
+    requires number { k < 2 ^ 64 - 1 }
+    requires flat { IsFlatThere flats.now f call.now }
     ensures { OnOk result (plain_circuit flat.new
         ≡ laid k (plain_call call.now) (f call.now.circuit) (plain_circuit flat.old)) }
 {
@@ -99,6 +101,7 @@ fn lay_in(
     call: &CallRow,
     inner: &Circuit,
 ) -> Result<(), AllocError>
+    requires number { k < 2 ^ 64 - 1 }
     requires pins { length call.now.nets.items ≤ length inner.now.nets.items }
     requires devices { AreRowsBelow inner.now.devices.items (length inner.now.nets.items) }
     requires calls { AreCallsBelow inner.now.calls.items (length inner.now.nets.items) }
@@ -119,6 +122,7 @@ fn add_nets(
     inner: &[Name],
     pins: usize,
 ) -> Result<(), AllocError>
+    requires { k < 2 ^ 64 - 1 }
     ensures { OnOk result (nets.new.items
         ≡ nets.old.items ++ map (name_below k) (drop pins inner.now)) }
 {
@@ -183,17 +187,17 @@ fn stands_at(
     let mut to = pins.to_vec(alloc)?;
     for n in pins.len()..nets {
         let own = n - pins.len();
-        let place = behind.checked_add(own).ok_or(AllocError)?;
-        to.push(u32::try_from(place).map_err(|_| AllocError)?)?;
+        to.push(number(behind.saturating_add(own))?)?;
     }
     Ok(to)
 }
 
 // `Xk/` and the name, k counted from 1.
 fn name_below(alloc: Global, k: usize, name: &Name) -> Result<Name, AllocError>
+    requires { k < 2 ^ 64 - 1 }
     ensures { IfOk result (λ n. n ≡ name_below k name.now) }
 {
-    let number = k.checked_add(1).ok_or(AllocError)?;
+    let number = k + 1;
     let digits = format!(in alloc; "{number}")?;
     let mut bytes = Vec::new(alloc);
     bytes.push(b'X')?;

@@ -3,6 +3,7 @@ ghost use Rattle.std.specs.Prelude.{◌≡◌, ◌<◌, IfOk, OnOk, length, map,
 ghost use Rattle.net_align.specs.Laid.{AreBelow};
 ghost use Rattle.net_align.specs.Sights.{IsNumbering, firsts, with_first, new_of};
 
+use list_base::number;
 use std::alloc::{AllocError, Global};
 
 /// Numbers in the order of first sight, and the place of each.
@@ -39,7 +40,7 @@ impl Numbers {
             self.new.list.items (length self.old.places.items) self.new.places.items) }
     {
         if self.places[n as usize].is_none() {
-            let place = u32::try_from(self.list.len()).map_err(|_| AllocError)?;
+            let place = number(self.list.len())?;
             self.list.push(n)?;
             self.places[n as usize] = Some(place);
         }

@@ -2,6 +2,7 @@
 ghost use Rattle.std.specs.Prelude.{◌≡◌, IfOk, length, slice_index_or, false};
 ghost use Rattle.net_align.specs.Paired.{ArePairsBelow, are_compared, compared_partner};
 
+use list_base::number;
 use std::alloc::{AllocError, Global};
 
 /// The circuits of the layout and of the schematic that are compared, by the numbers of the pairs.
@@ -37,8 +38,8 @@ pub fn find_pairs(
     let mut rights = Vec::new(alloc);
     for a in 0..of.len() {
         if let Some(b) = compared_partner(top, marks, a, of[a]) {
-            lefts.push(u32::try_from(a).map_err(|_| AllocError)?)?;
-            rights.push(u32::try_from(b).map_err(|_| AllocError)?)?;
+            lefts.push(number(a)?)?;
+            rights.push(number(b)?)?;
         }
     }
     Ok(Pairs { lefts, rights })

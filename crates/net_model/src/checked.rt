@@ -10,6 +10,7 @@ use crate::fault::NetFault;
 use crate::names::first_clash;
 use crate::netlist::{Circuit, Netlist};
 use crate::ranges::{first_bad_terminal, first_missing, first_other_count};
+use list_base::number;
 use std::alloc::Global;
 
 /// Ok where the netlist is sound, else its first fault, in the order of `NetFault`, with the first
@@ -29,9 +30,7 @@ fn check_circuits(alloc: Global, circuits: &[Circuit]) -> Result<(), NetFault>
     ensures fault { IfErr result
         (IsNetFault (record { circuits = map plain_circuit circuits.now })) }
 {
-    if circuits.len() > 0xFFFF_FFFF {
-        return Err(NetFault::NoMemory);
-    }
+    number(circuits.len())?;
     if let Some(k) = first_clash(alloc, circuits)? {
         return Err(NetFault::NameClash(k));
     }

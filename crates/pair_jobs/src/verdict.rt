@@ -1,10 +1,11 @@
 //! What the answers of all pairs come to.
-ghost use Rattle.std.specs.Option.{option_map};
-ghost use Rattle.std.specs.Prelude.{IfOk, map};
+ghost use Rattle.std.specs.Option.{IsSomeAnd, option_map};
+ghost use Rattle.std.specs.Prelude.{◌≤◌, ◌^◌, IfOk, OnErr, length, map};
 ghost use Rattle.match_types.specs.Plain.{plain_answer};
 ghost use Rattle.pair_jobs.specs.Verdict.{IsRunVerdict, IsVerdict};
 
 use job_graph::{Reads, Results};
+use list_base::number;
 use match_types::Answer;
 use std::alloc::AllocError;
 
@@ -16,17 +17,15 @@ pub enum Verdict {
     Undecided,
 }
 
-/// A match where each pair matches, a mismatch where one differs, else undecided. It takes no
-/// memory; the error is 2^32 pairs or more.
-pub fn judge(answers: &Results<Answer>) -> Result<Verdict, AllocError>
-    ensures { IfOk result (IsVerdict (map plain_answer answers.now)) }
+// A match where each pair matches, a mismatch where one differs, else undecided. It takes no
+// memory; the error is 2^32 pairs or more.
+fn judge(answers: &Results<Answer>) -> Result<Verdict, AllocError>
+    ensures verdict { IfOk result (IsVerdict (map plain_answer answers.now)) }
+    ensures err { OnErr result (2 ^ 32 ≤ length answers.now) }
 {
-    let count = answers.len();
-    if count > u32::MAX as usize {
-        return Err(AllocError);
-    }
+    let count = number(answers.len())?;
     let mut verdict = Verdict::Match;
-    for pair in 0..count as u32 {
+    for pair in 0..count {
         match answers.get(pair) {
             Answer::Match(_) => {}
             Answer::Differs(_) => return Ok(Verdict::Mismatch),
@@ -41,8 +40,9 @@ pub fn judge(answers: &Results<Answer>) -> Result<Verdict, AllocError>
 /// partner: a mismatch where a gate is bad or there are no answers, else what the answers come to.
 /// It takes no memory; the error is 2^32 pairs or more.
 pub fn judge_run(bad: usize, answers: Option<&Results<Answer>>) -> Result<Verdict, AllocError>
-    ensures { IfOk result
+    ensures verdict { IfOk result
         (IsRunVerdict bad (option_map (λ all. map plain_answer all.now) answers.entry)) }
+    ensures err { OnErr result (IsSomeAnd answers.entry (λ all. 2 ^ 32 ≤ length all.now)) }
 {
     if bad > 0 {
         return Ok(Verdict::Mismatch);

@@ -1,5 +1,5 @@
 //! The report of a comparison, complete in memory.
-ghost use Rattle.std.specs.Prelude.{◌≡◌, ◌<◌, ◌≤◌, IfOk, length, slice_get};
+ghost use Rattle.std.specs.Prelude.{◌≡◌, ◌<◌, ◌≤◌, ◌^◌, IfOk, OnErr, length, slice_get};
 ghost use Rattle.std.specs.List.{All};
 ghost use Rattle.match_report.specs.Pairs.{name_of};
 ghost use Rattle.match_report.specs.Report.{report};
@@ -15,6 +15,7 @@ ghost use Rattle.rule_text.specs.Sound.{IsSound};
 use cell_graph::Design;
 use deep_tables::BadGate;
 use job_board::Gate;
+use list_base::number;
 use match_flow::{Comparison, compare};
 use match_report::{Compared, report_text};
 use net_model::Netlist;
@@ -82,21 +83,21 @@ fn compare_netlists<R: Threads + Wait + Sync, G: Gate + Sync>(
     }))
 }
 
+// How many pairs there are. It takes no memory.
 fn count_pairs(compared: &Option<Compared>) -> Result<u32, AllocError>
-    ensures { IfOk result (λ n. n ≡ pair_count compared.now) }
+    ensures count { IfOk result (λ n. n ≡ pair_count compared.now) }
+    ensures err { OnErr result (2 ^ 32 ≤ pair_count compared.now) }
 {
     let Some(found) = compared else {
         return Ok(0);
     };
-    let count = found.answers.len();
-    if count > u32::MAX as usize {
-        return Err(AllocError);
-    }
-    Ok(count as u32)
+    number(found.answers.len())
 }
 
+// What the bad gates and the pairs come to. It takes no memory.
 fn judge_compared(bad: usize, compared: &Option<Compared>) -> Result<Verdict, AllocError>
-    ensures { IfOk result (IsRunVerdict bad (all_answers compared.now)) }
+    ensures verdict { IfOk result (IsRunVerdict bad (all_answers compared.now)) }
+    ensures err { OnErr result (2 ^ 32 ≤ pair_count compared.now) }
 {
     match compared {
         Some(found) => judge_run(bad, Some(&found.answers)),

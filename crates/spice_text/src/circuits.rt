@@ -11,6 +11,7 @@ ghost use Rattle.spice_text.specs.Seen.{circuit_seen};
 use crate::gather::CircuitCards;
 use crate::nets::{Nets, row_at};
 use crate::numbers::{call_rows, device_rows, net_numbers};
+use list_base::number;
 use net_model::Circuit;
 use net_names::Name;
 use std::alloc::{AllocError, Global};
@@ -69,9 +70,7 @@ fn circuit_over(
         ≡ row_over names.now (needed_of (lists rows.now) globals.now) k (circuit_seen c.now)
         nets.table) }
 {
-    if nets.table.len() > 0xFFFF_FFFF {
-        return Err(AllocError);
-    }
+    number(nets.table.len())?;
     let pins = net_numbers(alloc, &nets.table, &c.pins, row_at(rows, k), globals)?;
     let devices = device_rows(alloc, &nets.table, &c.devices)?;
     let calls = call_rows(alloc, names, rows, globals, &nets.table, &c.calls)?;

@@ -15,6 +15,7 @@ ghost use Rattle.spice_text.specs.Seen.{circuit_seen};
 
 use crate::gather::CircuitCards;
 use crate::nets::{Nets, row_at};
+use list_base::number;
 use net_names::Name;
 use spice_rows::{CallCard, DeviceCard};
 use std::alloc::{AllocError, Global};
@@ -27,9 +28,7 @@ pub fn each_once(alloc: Global, names: &[Name]) -> Result<Nets, AllocError>
 {
     let mut nets = Nets::new(alloc);
     nets.see_all(alloc, names)?;
-    if nets.table.len() > 0xFFFF_FFFF {
-        return Err(AllocError);
-    }
+    number(nets.table.len())?;
     Ok(nets)
 }
 

@@ -11,6 +11,7 @@ use crate::calls::call_lists;
 use crate::faults::{circuit_names, first_missing, first_other_count};
 use crate::gather::{CircuitCards, Gathered};
 use call_order::{CallOrder, call_order};
+use list_base::number;
 use net_names::Name;
 use spice_rows::SpiceFault;
 use std::alloc::{AllocError, Global};
@@ -80,9 +81,7 @@ fn ordered(
     if let Some(line) = first_other_count(&names, circuits) {
         return Err(SpiceFault::PinCount(line));
     }
-    if circuits.len() > 0xFFFF_FFFF {
-        return Err(SpiceFault::NoMemory);
-    }
+    number(circuits.len())?;
     let calls = call_lists(alloc, &names, circuits)?;
     match call_order(alloc, &calls)? {
         CallOrder::CalleesFirst(order) => Ok((names, calls, order)),

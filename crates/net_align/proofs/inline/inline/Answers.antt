@@ -1,4 +1,4 @@
-use Rattle.std.proofs.Common.{rules, ◌≡◌, ◌<◌, ◌≤◌, length, map, true, false, List, cond, refl, ap, ◌∙◌}
+use Rattle.std.proofs.Common.{rules, arith, ◌≡◌, ◌<◌, ◌≤◌, length, map, true, false, List, cond, refl, ap, ◌∙◌}
 use Rattle.std.proofs.lemmas.List.{take_all}
 use Rattle.std.proofs.lemmas.Option.{slice_get_read}
 use Rattle.plain_netlist.specs.Netlist.{Circuit}
@@ -22,8 +22,10 @@ pub lay_call-requires : goal.lay_call-requires
 lay_call-requires g c =
     let calls = c.args.given.now.calls.items in
     let below : c.loop-k.k < length calls = search rules in
-    let goes : goes_of c.args.goes.now c.index-call.result.now.circuit ≡ true = search rules in
-    c.requires.1 c.loop-k.k c.index-call.result.now (slice_get_read calls (length calls) c.loop-k.k c.index-call.result.now refl below c.index-call.ensures) goes
+    let goes : goes_of c.args.goes.now c.index-call.result.now.circuit ≡ true = search rules in (
+      omega arith,
+      c.requires.1 c.loop-k.k c.index-call.result.now (slice_get_read calls (length calls) c.loop-k.k c.index-call.result.now refl below c.index-call.ensures) goes,
+    )
 
 pub loop-k-preserved : goal.loop-k-preserved
 loop-k-preserved g c =

@@ -14,7 +14,9 @@ loop-n-preserved c =
     let pins = c.args.pins.now in
     let n = c.loop-n.n in
     let e : n ≡ length pins + (n - length pins) = let l = c.loop-n.auto.n in omega arith in
-    let v : c.in_ok-map_err.field-0 ≡ c.args.behind + (n - length pins) = search rules in
-    let pushed : c.push.new.self.items ≡ c.loop-n.to.items ++ c.in_ok-map_err.field-0 ∷ [] = search rules in
+    let is = c.in_ok-number.ensures.ok in
+    let few = c.in_ok-number.ensures.few in
+    let v : c.in_ok-number.field-0 ≡ c.args.behind + (n - length pins) = omega arith in
+    let pushed : c.push.new.self.items ≡ c.loop-n.to.items ++ c.in_ok-number.field-0 ∷ [] = search rules in
     subst (λ (xs : List ℕ). AreStands pins c.args.behind (n + 1) xs) (sym (pushed ∙ ap (λ (x : ℕ). c.loop-n.to.items ++ x ∷ []) v))
     (one_stands pins c.args.behind n (n - length pins) c.loop-n.to.items e c.loop-n.invariant)

@@ -2,7 +2,7 @@ use Rattle.std.proofs.Common.{◌≡◌, ◌+◌, ◌++◌, ◌∷◌, [], ℕ, 
 use Rattle.std.specs.Prelude.{slice_index_or}
 use Rattle.net_align.specs.Paired.{ArePairsBelow, are_compared, compared_partner}
 use Rattle.net_align.proofs.Pairing.{pair_added, none_added}
-use Rattle.net_align.proofs.pairs.find_pairs.Goals.{in-Some+in_ok-map_err+in_ok-push+in_ok-map_err-2+in_ok-push-2, in_default}
+use Rattle.net_align.proofs.pairs.find_pairs.Goals.{in-Some+in_ok-number+in_ok-push+in_ok-number-2+in_ok-push-2, in_default}
 use Rattle.net_align.proofs.pairs.find_pairs.Goals as goal
 
 pub loop-a-preserved : goal.loop-a-preserved
@@ -15,11 +15,11 @@ loop-a-preserved c =
     let rights = c.loop-a.rights.items in
     let told : c.compared_partner.result ≡ compared_partner test n (slice_index_or of n None) = c.compared_partner.ensures in
     elim c.match-compared_partner.branch [
-      | in-Some+in_ok-map_err+in_ok-push+in_ok-map_err-2+in_ok-push-2 w ↦
+      | in-Some+in_ok-number+in_ok-push+in_ok-number-2+in_ok-push-2 w ↦
           let b = w.in-Some.b in
           let is : compared_partner test n (slice_index_or of n None) ≡ Some b = sym told ∙ w.in-Some.is in
-          let at : w.in_ok-map_err.field-0 ≡ n = search rules in
-          let to : w.in_ok-map_err-2.field-0 ≡ b = search rules in
+          let at : w.in_ok-number.field-0 ≡ n = w.in_ok-number.ensures.ok in
+          let to : w.in_ok-number-2.field-0 ≡ b = w.in_ok-number-2.ensures.ok in
           let l : c.match-compared_partner.lefts.items ≡ lefts ++ n ∷ [] = ap (λ (v : _). v.items) w.lefts-is ∙ (w.in_ok-push.ensures.items ∙ ap (λ (x : ℕ). lefts ++ x ∷ []) at) in
           let r : c.match-compared_partner.rights.items ≡ rights ++ b ∷ [] = ap (λ (v : _). v.items) w.rights-is ∙ (w.in_ok-push-2.ensures.items ∙ ap (λ (x : ℕ). rights ++ x ∷ []) to) in
           subst (λ (t : List ℕ). ArePairsBelow of test (n + 1) t c.match-compared_partner.rights.items) (sym l)

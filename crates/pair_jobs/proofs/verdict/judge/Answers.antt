@@ -7,8 +7,8 @@ use Rattle.pair_jobs.proofs.verdict.judge.Goals.{in-Match, in-Undecided, in-Skip
 use Rattle.pair_jobs.proofs.verdict.judge.Goals as goal
 use Rattle.pair_jobs.specs.Answers.{IsMatch}
 
-pub returns-in-Differs : goal.returns-in-Differs
-returns-in-Differs c = found_difference c.args.answers.now c.loop-pair.pair c.get.result.now c.in-Differs.field-0 c.get.ensures (ap plain_answer c.in-Differs.is)
+pub returns-in-Differs-clause-verdict : goal.returns-in-Differs-clause-verdict
+returns-in-Differs-clause-verdict c = found_difference c.args.answers.now c.loop-pair.pair c.get.result.now c.in-Differs.field-0 c.get.ensures (ap plain_answer c.in-Differs.is)
 
 pub loop-pair-preserved : goal.loop-pair-preserved
 loop-pair-preserved c =
@@ -21,11 +21,12 @@ loop-pair-preserved c =
       | in-Skipped w ↦ let is = at ∙ ap plain_answer w.in-Skipped.is in rw w.verdict-is (open_more answers n c.loop-pair.verdict (λ m. subst IsMatch is m) (λ d. subst IsDifference is d) c.loop-pair.invariant)
     ]
 
-pub returns : goal.returns
-returns c =
+pub returns-clause-verdict : goal.returns-clause-verdict
+returns-clause-verdict c =
     let answers = map plain_answer c.args.answers.now in
     let count = length-map c.args.answers.now plain_answer in
-    let long = c.len-count.ensures in
+    let long = c.len.ensures in
+    let small = c.in_ok-count.ensures.ok in
     let past = c.loop-pair-test.false in
     let low = c.loop-pair.auto.pair-end in
-    all_so_far answers c.loop-pair.pair c.loop-pair.verdict (omega (arith, count, long, past, low)) c.loop-pair.invariant
+    all_so_far answers c.loop-pair.pair c.loop-pair.verdict (omega (arith, count, long, small, past, low)) c.loop-pair.invariant

@@ -8,7 +8,7 @@ pub returns-clause-globals : goal.returns-clause-globals
 returns-clause-globals c =
     let names = c.args.names.now in
     let is = c.in_ok-see_all.ensures.table ∙ ap (λ (t : List (List ℕ)). first_seen t names) c.new-nets.ensures.table in
-    let past = c.if-len-gt4294967295.false in
+    let past = c.in_ok-number.ensures.few in
     let count = c.len.ensures in
     record {
       names = c.in_ok-see_all.ensures.names;

@@ -22,7 +22,7 @@ call_order-requires-clause-few c =
     let rows : lists c.in_ok-calls.calls.items ≡ call_lists (map circuit_seen c.args.circuits.now) = c.in_ok-calls.ensures in
     let n = count_is c.in_ok-calls.calls.items c.args.circuits.now rows in
     let v = c.deref.ensures.value in
-    let b = c.if-circuits-gt4294967295.false in
+    let b = c.in_ok-number.ensures.few in
     rw v (rw n (search rules))
 
 pub returns-in_ok-name-in-Cycle-clause-fault : goal.returns-in_ok-name-in-Cycle-clause-fault

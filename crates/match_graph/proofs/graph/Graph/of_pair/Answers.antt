@@ -11,22 +11,22 @@ use Rattle.match_graph.proofs.graph.Graph.of_pair.Goals.{In_ok-right_sizes}
 
 -- the right circuit is numbered behind the left one
 behind : (c : In_ok-right_sizes) → AreSizesOf c.in_ok-right_sizes.right_sizes (end_of c.in_ok-left_sizes.left_sizes) (plain_circuit c.args.right.now)
-behind c = subst (λ (n : ℕ). AreSizesOf c.in_ok-right_sizes.right_sizes n (plain_circuit c.args.right.now)) c.end.ensures c.in_ok-right_sizes.ensures
+behind c = subst (λ (n : ℕ). AreSizesOf c.in_ok-right_sizes.right_sizes n (plain_circuit c.args.right.now)) c.end.ensures c.in_ok-right_sizes.ensures.sizes
 
 pub list_edges-requires-clause-right_sizes : goal.list_edges-requires-clause-right_sizes
 list_edges-requires-clause-right_sizes c =
-    right_sizes (pair_of c.args.left.now c.args.right.now c.args.children.now) c.in_ok-left_sizes.left_sizes c.in_ok-right_sizes.right_sizes c.in_ok-left_sizes.ensures
+    right_sizes (pair_of c.args.left.now c.args.right.now c.args.children.now) c.in_ok-left_sizes.left_sizes c.in_ok-right_sizes.right_sizes c.in_ok-left_sizes.ensures.sizes
     (behind (goal.at.list_edges-requires-clause-right_sizes c).In_ok-right_sizes)
 
 pub begins_of-requires-clause-nodes : goal.begins_of-requires-clause-nodes
 begins_of-requires-clause-nodes c =
     built_between (pair_of c.args.left.now c.args.right.now c.args.children.now) c.in_ok-left_sizes.left_sizes c.in_ok-right_sizes.right_sizes c.deref.result.now c.end-count.result c.requires.left c.requires.right
-    c.in_ok-left_sizes.ensures (behind (goal.at.begins_of-requires-clause-nodes c).In_ok-right_sizes) (c.deref.ensures.value ∙ c.in_ok-edges.ensures) c.end-count.ensures
+    c.in_ok-left_sizes.ensures.sizes (behind (goal.at.begins_of-requires-clause-nodes c).In_ok-right_sizes) (c.deref.ensures.value ∙ c.in_ok-edges.ensures) c.end-count.ensures
 
 pub ends_of-requires-clause-nodes : goal.ends_of-requires-clause-nodes
 ends_of-requires-clause-nodes c =
     built_between (pair_of c.args.left.now c.args.right.now c.args.children.now) c.in_ok-left_sizes.left_sizes c.in_ok-right_sizes.right_sizes c.deref-2.result.now c.end-count.result c.requires.left c.requires.right
-    c.in_ok-left_sizes.ensures (behind (goal.at.ends_of-requires-clause-nodes c).In_ok-right_sizes) (c.deref-2.ensures.value ∙ c.in_ok-edges.ensures) c.end-count.ensures
+    c.in_ok-left_sizes.ensures.sizes (behind (goal.at.ends_of-requires-clause-nodes c).In_ok-right_sizes) (c.deref-2.ensures.value ∙ c.in_ok-edges.ensures) c.end-count.ensures
 
 pub returns : goal.returns
 returns c =
@@ -42,5 +42,5 @@ returns c =
     c.requires.left c.requires.right
     (built (pair_of c.args.left.now c.args.right.now c.args.children.now)
     (record { left = c.in_ok-left_sizes.left_sizes; right = c.in_ok-right_sizes.right_sizes; begins = c.in_ok-begins.begins; ends = c.in_ok-ends.ends; kinds = c.in_ok-list_kinds.field-0 })
-    c.deref.result.now c.end-count.result c.in_ok-left_sizes.ensures (behind (goal.at.returns c).In_ok-right_sizes) (c.deref.ensures.value ∙ c.in_ok-edges.ensures) c.end-count.ensures
+    c.deref.result.now c.end-count.result c.in_ok-left_sizes.ensures.sizes (behind (goal.at.returns c).In_ok-right_sizes) (c.deref.ensures.value ∙ c.in_ok-edges.ensures) c.end-count.ensures
     c.in_ok-begins.ensures count ends c.in_ok-list_kinds.ensures)

@@ -13,7 +13,7 @@ returns c owns h = elim c.match-get.branch [
       (seen owns (get eq-value.it c.args.self.now.numbers) (hash_map_len c.args.self.now.numbers) c.args.self.now.of_nodes.items c.args.own w.in-Some.known.now h (sym w.in-Some.ensures.value))
   | in-None+in_ok-fresh-in-None+in_ok-insert-in-None w ↦
       let absent : get eq-value.it c.args.self.now.numbers c.args.own ≡ None = sym w.in-None.ensures.value in
-      let is_fresh : hash_map_len c.args.self.now.numbers ≡ w.in_ok-fresh-in-None.fresh = sym (w.in_ok-fresh-in-None.ensures ∙ w.len.ensures.len) in
+      let is_fresh : hash_map_len c.args.self.now.numbers ≡ w.in_ok-fresh-in-None.fresh = sym (w.in_ok-fresh-in-None.ensures.ok ∙ w.len.ensures.len) in
       let longer : hash_map_len c.args.self.now.numbers + 1 ≡ hash_map_len w.insert.new.self
       = sym (w.in_ok-insert-in-None.ensures.len ∙ ap (λ (o : Option ℕ). hash_map_len c.args.self.now.numbers + cond {A = ℕ} (is_some o) 0 1) (w.in_ok-insert-in-None.ensures.old ∙ absent)) in
       moved (owns ++ plain_own c.args.own ∷ []) (record { numbers = w.insert.new.self; of_nodes = c.args.self.now.of_nodes }) c.match-get.self w.in_ok-fresh-in-None.fresh c.match-get.kind c.push.new.self.items w.self-is w.kind-is c.in_ok-push.ensures.items

@@ -20,7 +20,8 @@ returns-in_ok-push-clause-places c =
     let places = c.args.self.now.places.items in
     let n = c.args.n in
     let free : is_none (slice_index_or places n None) ≡ true = search rules in
-    let at : c.in_ok-place.place ≡ length list = search rules in
+    let count : c.len.result ≡ length list = search rules in
+    let at : c.in_ok-place.place ≡ length list = c.in_ok-place.ensures.ok ∙ count in
     let more = numbered_more list (length places) places c.requires.places n c.requires.low (none_of (slice_index_or places n None) free) in
     subst (λ (t : List ℕ). IsNumbering t (length places) (slice_set places n (Some c.in_ok-place.place))) (sym c.in_ok-push.ensures.items)
     (subst (λ (k : ℕ). IsNumbering (list ++ n ∷ []) (length places) (slice_set places n (Some k))) (sym at) more)
