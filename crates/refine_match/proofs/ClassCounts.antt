@@ -27,11 +27,11 @@ take_one test (y ∷ ys) = elim (cases_Bool (test y)) [
   | inl is ↦ inl (record { device = y; passes = is; others = ys; counts = λ f. count-cons f y ys })
   | inr not ↦ elim (take_one test ys) [
     | inl h ↦ inl (record {
-        device = h.device;
-        passes = h.passes;
-        others = y ∷ h.others;
-        counts = λ f. let a = count-cons f y ys in let b = count-cons f y h.others in let c = h.counts f in omega (arith, a, b, c);
-      })
+      device = h.device;
+      passes = h.passes;
+      others = y ∷ h.others;
+      counts = λ f. let a = count-cons f y ys in let b = count-cons f y h.others in let c = h.counts f in omega (arith, a, b, c);
+    })
     | inr empty ↦ inr (let a = count-cons test y ys in let b = none test y not in omega (arith, a, b, empty))
   ]
 ]
@@ -57,42 +57,56 @@ of_both class l w x y e h =
 uneven_sizes : (class : List ℕ) (xs ys : List DeviceRow) → (count_by (has_class class) xs ≢ count_by (has_class class) ys)
     → (l : ℕ) × (w : ℕ) × (count_by (is_of class l w) xs ≢ count_by (is_of class l w) ys)
 uneven_sizes class [] ys differ = elim (take_one (has_class class) ys) [
-  | inl h ↦ (h.device.length, h.device.width, λ e.
-      let f = is_of class h.device.length h.device.width in
-      let a = h.counts f in
-      let b = one f h.device (of_own class h.device h.passes) in
-      let c : 0 ≡ count_by f ys = e in
-      omega (arith, a, b, c))
+  | inl h ↦ (
+    h.device.length,
+    h.device.width,
+    λ e.
+        let f = is_of class h.device.length h.device.width in
+        let a = h.counts f in
+        let b = one f h.device (of_own class h.device h.passes) in
+        let c : 0 ≡ count_by f ys = e in
+        omega (arith, a, b, c),
+  )
   | inr empty ↦ absurd (differ (sym empty))
 ]
 uneven_sizes class (x ∷ xs) ys differ = elim (cases_Bool (has_class class x)) [
   | inr not ↦
       let a = count-cons (has_class class) x xs in
       let b = none (has_class class) x not in
-      let rest = uneven_sizes class xs ys (λ e. differ (omega (arith, a, b, e))) in
-      (rest.0, rest.1, λ e.
-      let f = is_of class rest.0 rest.1 in
-      let c = count-cons f x xs in
-      let d = none f x (of_none class rest.0 rest.1 x not) in
-      rest.2 (omega (arith, c, d, e)))
+      let rest = uneven_sizes class xs ys (λ e. differ (omega (arith, a, b, e))) in (
+        rest.0,
+        rest.1,
+        λ e.
+            let f = is_of class rest.0 rest.1 in
+            let c = count-cons f x xs in
+            let d = none f x (of_none class rest.0 rest.1 x not) in
+            rest.2 (omega (arith, c, d, e)),
+      )
   | inl is ↦ elim (take_one (is_of class x.length x.width) ys) [
     | inl h ↦
         let a = count-cons (has_class class) x xs in
         let b = h.counts (has_class class) in
         let p = one (has_class class) x is in
         let q = one (has_class class) h.device (and_parts _ _ h.passes).0 in
-        let rest = uneven_sizes class xs h.others (λ e. differ (omega (arith, a, b, p, q, e))) in
-        (rest.0, rest.1, λ e.
-        let f = is_of class rest.0 rest.1 in
-        let c = count-cons f x xs in
-        let d = h.counts f in
-        let s = ap (λ (b : Bool). cond {A = ℕ} b 1 0) (of_both class rest.0 rest.1 x h.device is h.passes) in
-        rest.2 (omega (arith, c, d, s, e)))
-    | inr empty ↦ (x.length, x.width, λ e.
-        let f = is_of class x.length x.width in
-        let a = count-cons f x xs in
-        let b = one f x (of_own class x is) in
-        omega (arith, a, b, empty, e))
+        let rest = uneven_sizes class xs h.others (λ e. differ (omega (arith, a, b, p, q, e))) in (
+          rest.0,
+          rest.1,
+          λ e.
+              let f = is_of class rest.0 rest.1 in
+              let c = count-cons f x xs in
+              let d = h.counts f in
+              let s = ap (λ (b : Bool). cond {A = ℕ} b 1 0) (of_both class rest.0 rest.1 x h.device is h.passes) in
+              rest.2 (omega (arith, c, d, s, e)),
+        )
+    | inr empty ↦ (
+      x.length,
+      x.width,
+      λ e.
+          let f = is_of class x.length x.width in
+          let a = count-cons f x xs in
+          let b = one f x (of_own class x is) in
+          omega (arith, a, b, empty, e),
+    )
   ]
 ]
 
