@@ -38,7 +38,7 @@ pub record Progress (old now : Store) (rest all : List File) : Type 0 where
   pub wrote : WroteWhole old now whole
 
 pub begins : (s : Store) (all : List File) → Progress s s all all
-begins s all = record { whole = []; order = refl; wrote = record { written = record { each = λ p. refl }; absent = refl; left_open = refl; faults = refl } }
+begins s all = record { whole = []; order = refl; wrote = record { written = record { each = λ p. refl }; closed = inl refl; absent = refl; left_open = refl; faults = refl } }
 
 pub room_on : (old now : Store) (rest all : List File) → HasRoom old → Progress old now rest all → HasRoom now
 room_on old now rest all room h =
@@ -55,6 +55,7 @@ goes_on old mid new f later all (Ok u) apart h is k =
       order = append_assoc h.whole (f ∷ []) later ∙ h.order;
       wrote = record {
         written = written_on h.whole later f f old mid new refl near h.wrote.written (record { each = k.ok.file.each });
+        closed = inr k.ok.opened;
         absent = k.absent ∙ h.wrote.absent;
         left_open = k.ok.left_open ∙ h.wrote.left_open;
         faults = k.cause.done ∙ h.wrote.faults;

@@ -1,7 +1,7 @@
 -- What a list of files leaves in a store that they are written into, one after the other.
 use Rattle.std.specs.Prelude.{◌≡◌, ◌≢◌, ◌⊎◌, ◌<◌, ℕ, List, [], ◌∷◌, ◌++◌, map, string_bytes}
 use Rattle.std.specs.Prelude.{Result, OnOk, OnErr}
-use Rattle.lvs_outside.specs.Store.{Store, counted}
+use Rattle.lvs_outside.specs.Store.{Store, Closed, counted}
 use Rattle.lvs_outside.specs.Loops.{ForPrefix, IsFile}
 use Rattle.lvs_files.specs.declared.files.Written.{Written}
 
@@ -48,9 +48,11 @@ pub record ArePartWritten (old new : Store) (files : List File) : Type 0 where
       ⊎ ForPrefix broken.text (λ front. AreWritten old new (whole
       ++ record { path = broken.path; text = front } ∷ []))
 
--- the files are written whole, and nothing failed, an empty take being a fault
+-- the files are written whole, the last of them is closed, and nothing failed, an empty take being
+-- a fault
 pub record WroteWhole (old new : Store) (files : List File) : Type 0 where
   pub written : AreWritten old new files
+  pub closed : (files ≡ []) ⊎ (new.opened ≡ Closed)
   pub absent : new.absent ≡ old.absent
   pub left_open : new.left_open ≡ old.left_open
   pub faults : (counted new).faults ≡ (counted old).faults

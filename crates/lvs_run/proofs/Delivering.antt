@@ -1,7 +1,7 @@
 -- What the end of a run leaves, seen from before the inputs were read.
 use Rattle.std.proofs.Common.{◌≡◌, inl, inr, ℕ, ◌+◌, ◌<◌, List, [], ◌∷◌, ◌++◌, Option, refl, sym, ap, subst, ◌∙◌}
 use Rattle.lvs_outside.specs.Store.{Store, SameFiles, appended}
-use Rattle.lvs_files.specs.Files.{File, IsWritten, AreWritten, ArePartWritten}
+use Rattle.lvs_files.specs.Files.{File, IsWritten, AreWritten, ArePartWritten, WroteWhole}
 use Rattle.lvs_outside.specs.Summary.{SinkState}
 use Rattle.lvs_run.specs.declared.status.Refusal.{Refusal}
 use Rattle.lvs_run.specs.declared.status.Refusal.TheVariants.{Words}
@@ -12,11 +12,12 @@ use Rattle.lvs_run.specs.Words.{Paths, file_at, inputs}
 use Rattle.lvs_run.specs.Answers.{Done, Answer, Outside, NoMemory, IsVerdict, nothing, refused, verdict_of}
 use Rattle.lvs_run.specs.Lines.{line_of}
 use Rattle.lvs_run.specs.Runs.{WritesAll, HasCauseIn, ShowsFaults, depot_faults, sink_faults}
-use Rattle.lvs_run.specs.Inputs.{Quiet, Stops, IsReady, ComesOf, stopped}
+use Rattle.lvs_run.specs.Inputs.{DepotFaults, Quiet, Stops, IsReady, ComesOf, stopped}
 use Rattle.lvs_run.specs.Outcomes.{IsOutcome}
 use Rattle.lvs_run.specs.declared.input.Stop.{Stop}
 use Rattle.lvs_run.specs.declared.input.Stop.TheVariants as stop
-use Rattle.lvs_run.specs.Ends.{Took, TookPart, Delivered, Refused, ComesOut, FailsAt, AtInput, AtRefusal, AtFile, AtLine}
+use Rattle.lvs_run.specs.Ends.{Took, TookPart, Delivered, Refused, RefusedOnly, ComesOut, FailsAt, AtInput, AtRefusal, AtFile, AtLine}
+use Rattle.lvs_run.proofs.Ready.{absent_so}
 
 written_at : (files : List File) (old mid new : Store) (path : List ℕ) → mid.file path ≡ old.file path → IsWritten files mid new path → IsWritten files old new path
 written_at [] old mid new path same h = h ∙ same
@@ -26,6 +27,19 @@ written_at (f ∷ fs) old mid new path same (inr h) = inr (h.0, written_at fs ol
 -- files were written since the middle, and none before it
 pub written_since : (old mid new : Store) (files : List File) → SameFiles old mid → AreWritten mid new files → AreWritten old new files
 written_since old mid new files same h = record { each = λ p. written_at files old mid new p (same p) (h.each p) }
+
+-- the depot's faults, where its calls and its empty takes stood
+same_faults : (old new : Store) → new.faults ≡ old.faults → new.empty_takes ≡ old.empty_takes → depot_faults new ≡ depot_faults old
+same_faults old new e f = ap (λ (n : ℕ). n + new.empty_takes) e ∙ ap (λ (n : ℕ). old.faults + n) f
+
+whole_since : (old mid new : Store) (files : List File) → Quiet old mid → mid.absent ≡ old.absent → mid.faults ≡ old.faults → WroteWhole mid new files → WroteWhole old new files
+whole_since old mid new files quiet absent faults h = record {
+  written = written_since old mid new files quiet.starts.files h.written;
+  closed = h.closed;
+  absent = h.absent ∙ absent;
+  left_open = h.left_open ∙ quiet.starts.left_open;
+  faults = h.faults ∙ same_faults old mid faults quiet.empty_takes;
+}
 
 part_since : (old mid new : Store) (files : List File) → SameFiles old mid → ArePartWritten mid new files → ArePartWritten old new files
 part_since old mid new files same h = record {
@@ -67,7 +81,8 @@ delivered stated old mid new before after o a quiet ready (inl h) =
     (verdict_out stated old new before after o.verdict ready.done ready.comes (record { written = files; left_open = h.1.left_open ∙ quiet.starts.left_open })
     (h.2.told ∙ ap (appended before.told) ready.line))
 delivered stated old mid new before after o a quiet ready (inr (inl h)) =
-    let files = written_since old mid new ready.done.files quiet.starts.files (subst (AreWritten mid new) ready.files h.1.written) in
+    let absent = absent_so stated old mid o.verdict ready.cause in
+    let files = whole_since old mid new ready.done.files quiet absent ready.faults (subst (WroteWhole mid new) ready.files h.1) in
     subst (ComesOut stated old new before after) (sym h.0)
     (went_outside stated old new before after (AtLine (verdict_of o.verdict) ready.done (is_verdict o.verdict) ready.comes files (subst (TookPart before after) ready.line h.2)))
 delivered stated old mid new before after o a quiet ready (inr (inr h)) =
@@ -83,11 +98,11 @@ stood verdict.Undecided old new before after e f = record { depot = e; sink = f 
 
 pub faults_delivered : (old mid new : Store) (before after : SinkState) (o : Output) (a : Answer) → Quiet old mid → mid.faults ≡ old.faults → Delivered o mid new before after a → ShowsFaults a old new before after
 faults_delivered old mid new before after o a quiet same (inl h) =
-    let kept : depot_faults mid ≡ depot_faults old = ap (λ (n : ℕ). n + mid.empty_takes) same ∙ ap (λ (n : ℕ). old.faults + n) quiet.empty_takes in
+    let kept = same_faults old mid same quiet.empty_takes in
     subst (λ (b : Answer). ShowsFaults b old new before after) (sym h.0) (stood o.verdict old new before after (h.1.faults ∙ kept) h.2.faults)
 faults_delivered old mid new before after o a quiet same (inr (inl h)) = subst (λ (b : Answer). ShowsFaults b old new before after) (sym h.0) (inr h.2.faults)
 faults_delivered old mid new before after o a quiet same (inr (inr h)) =
-    let kept : depot_faults mid ≡ depot_faults old = ap (λ (n : ℕ). n + mid.empty_takes) same ∙ ap (λ (n : ℕ). old.faults + n) quiet.empty_takes in
+    let kept = same_faults old mid same quiet.empty_takes in
     subst (λ (b : Answer). ShowsFaults b old new before after) (sym h.0) (inl (subst (λ (n : ℕ). n < depot_faults new) kept h.1.faults))
 
 -- the cause behind the answer, which stood before the files were written
@@ -113,11 +128,23 @@ refusal_comes : (stated : Option Paths) (old : Store) (why : Refusal) → ComesO
 refusal_comes stated old Words comes = comes nothing
 refusal_comes stated old why comes = comes nothing
 
+no_fault : (old new : Store) (why : Refusal) → DepotFaults (refused why) old new → new.faults ≡ old.faults
+no_fault old new Words h = h
+no_fault old new why h = h
+
+-- a run that was refused went no further
+refused_only : (stated : Option Paths) (old new : Store) (why : Refusal) → Quiet old new → Stops stated old new (refused why) → RefusedOnly stated old new (refused why)
+refused_only stated old new why quiet stops = record {
+  starts = quiet.starts;
+  cause = stops.cause;
+  faults = same_faults old new (no_fault old new why stops.faults) quiet.empty_takes;
+}
+
 refused_out : (stated : Option Paths) (old new : Store) (before after : SinkState) (why : Refusal) (a : Answer)
     → Quiet old new → Stops stated old new (refused why) → Refused (refused why) before after a → ComesOut stated old new before after a
 refused_out stated old new before after why a quiet stops (inl h) = subst (ComesOut stated old new before after) (sym h.0) (sent stated old new before after why quiet stops h.1)
 refused_out stated old new before after why a quiet stops (inr (inl h)) =
-    subst (ComesOut stated old new before after) (sym h.0) (went_outside stated old new before after (AtRefusal (refused why) (refusal_comes stated old why stops.comes) quiet.starts h.1))
+    subst (ComesOut stated old new before after) (sym h.0) (went_outside stated old new before after (AtRefusal (refused why) (refusal_comes stated old why stops.comes) (refused_only stated old new why quiet stops) h.1))
 refused_out stated old new before after why a quiet stops (inr (inr h)) =
     subst (ComesOut stated old new before after) (sym h.0) (record { done = nothing; comes = tt; leaves = quiet.starts; says = (h.1.told, h.1.write_calls); fails = tt })
 

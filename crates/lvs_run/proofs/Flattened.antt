@@ -28,7 +28,8 @@ use Rattle.pair_jobs.specs.declared.verdict.Verdict.{Verdict as Comparison}
 use Rattle.pair_jobs.specs.declared.verdict.Verdict.TheVariants as comparison
 use Rattle.report_file.specs.File.{IsReportFile, all_answers}
 use Rattle.plain_netlist.specs.Netlist.{Netlist}
-use Rattle.lvs_run.specs.Flat.{HoldsAs, IsFlatNetlist, IsFlatText, IsNetlistOf, ListsAs, OfInputs, OfStated, WhereTold, WritesFlat, WritesNetlist}
+use Rattle.lvs_run.specs.Flat.{HoldsAs, IsFlatNetlist, IsFlatText, IsNetlistOf, ListsAs, OfInputs, OfStated, TellsGates, WhereTold, WritesFlat, WritesNetlist}
+use Rattle.lvs_run.proofs.Gates.{of_gates}
 
 -- ---- what a listed file holds
 
@@ -120,13 +121,19 @@ flat_delivered stated old mid new before after o a ready h v =
 
 -- ---- the netlist's file
 
--- no bad gate was told, so there is none
-none_bad : (bad : List BadGate) (a : Answer) → a ≡ gates_answer bad → a ≡ Good → bad ≡ []
-none_bad [] a e g = refl
-none_bad (b ∷ bs) a e g = let no : Bad ≡ Good = sym e ∙ g in cc
+-- what the answer of a command says of the gates that were told
+abbrev Tells : Outputs → List BadGate → Answer → Type 0
+Tells (ToNetlist shapes netlist) bad a = a ≡ gates_answer bad
+Tells o bad a = a ≡ Good → bad ≡ []
 
-netlist_of : (l : ReadLayout) (r : rule_sets.Rules) (a : Answer) (nl : Netlist) (top : ℕ) (bad : List BadGate) (text : List ℕ) → (a ≡ Good → bad ≡ []) → ShowsFlat l r text nl top bad → IsNetlistOf l r a text
-netlist_of l r a nl top bad text e shows = record { netlist = nl; circuit = top; bad = bad; shows = shows; good = λ g. shows.no_bad.0 (e g) }
+tells_gates : (o : Outputs) (l : ReadLayout) (r : rule_sets.Rules) (a : Answer) (nl : Netlist) (top : ℕ) (bad : List BadGate) (text : List ℕ) → Tells o bad a → ShowsFlat l r text nl top bad → TellsGates o l r a
+tells_gates (ToNetlist shapes netlist) l r a nl top bad text e shows = of_gates l r text nl top bad a e shows
+tells_gates (ToShapes shapes) l r a nl top bad text e shows = λ g. shows.no_bad.0 (e g)
+tells_gates (ToReport schematic shapes netlist report) l r a nl top bad text e shows = λ g. shows.no_bad.0 (e g)
+tells_gates (ToChip n seed prefix) l r a nl top bad text e shows = λ g. shows.no_bad.0 (e g)
+
+netlist_of : (o : Outputs) (l : ReadLayout) (r : rule_sets.Rules) (a : Answer) (nl : Netlist) (top : ℕ) (bad : List BadGate) (text : List ℕ) → Tells o bad a → ShowsFlat l r text nl top bad → IsNetlistOf o l r a text
+netlist_of o l r a nl top bad text e shows = record { netlist = nl; circuit = top; bad = bad; shows = shows; gates = tells_gates o l r a nl top bad text e shows }
 
 -- after a match there is no bad gate
 match_has_none : (bad : List BadGate) (v : Comparison) (a : Answer) (answers : Option (List PairAnswer)) → a ≡ comparison_answer v → IsRunVerdict (length bad) answers v → a ≡ Good → bad ≡ []
@@ -140,15 +147,15 @@ match_none bad v a e h g = match_has_none bad v a (all_answers h.compared) e h.o
 
 -- each command that writes a netlist lists its file
 lists_netlist : (o : Outputs) (l : ReadLayout) (r : rule_sets.Rules) (a : Answer) (done : Done) (P : List ℕ → Type 0)
-    → ((nl : Netlist) (top : ℕ) (bad : List BadGate) (text : List ℕ) → (a ≡ Good → bad ≡ []) → IsNetlistFile l r nl top bad text → P text) → IsDone o l r a done
+    → ((nl : Netlist) (top : ℕ) (bad : List BadGate) (text : List ℕ) → Tells o bad a → IsNetlistFile l r nl top bad text → P text) → IsDone o l r a done
     → ForNetlist o (λ (path : List ℕ). ListsAs done.files path P)
 lists_netlist (ToShapes shapes) l r a done P f h = tt
-lists_netlist (ToNetlist shapes netlist) l r a done P f h = rw h.whole (inr (inl (refl, f h.netlist h.top h.bad h.spelled (none_bad h.bad a h.answer) h.netlist_file)))
+lists_netlist (ToNetlist shapes netlist) l r a done P f h = rw h.whole (inr (inl (refl, f h.netlist h.top h.bad h.spelled h.answer h.netlist_file)))
 lists_netlist (ToReport schematic shapes netlist report) l r a done P f h = absurd h
 lists_netlist (ToChip n seed prefix) l r a done P f h = absurd h
 
 lists_netlist_beside : (o : Outputs) (l : ReadLayout) (r : rule_sets.Rules) (sch : Netlist) (a : Answer) (done : Done) (P : List ℕ → Type 0)
-    → ((nl : Netlist) (top : ℕ) (bad : List BadGate) (text : List ℕ) → (a ≡ Good → bad ≡ []) → IsNetlistFile l r nl top bad text → P text) → IsDoneBeside o l r sch a done
+    → ((nl : Netlist) (top : ℕ) (bad : List BadGate) (text : List ℕ) → Tells o bad a → IsNetlistFile l r nl top bad text → P text) → IsDoneBeside o l r sch a done
     → ForNetlist o (λ (path : List ℕ). ListsAs done.files path P)
 lists_netlist_beside (ToReport schematic shapes netlist report) l r sch a done P f h =
     rw h.whole (inr (inl (refl, f h.netlist h.top h.bad h.spelled (match_none h.bad h.verdict a h.answer h.report_file) h.netlist_file)))
@@ -162,8 +169,8 @@ pub netlist_listed : (p : Paths) (old mid new : Store) (r : rule_sets.Rules) (v 
     → ForNetlist p.outputs (λ (path : List ℕ). ListsAs done.files path (IsFlatNetlist old.file p a))
 netlist_listed p old mid new r v a done quiet rules layout shows made =
     lists_netlist p.outputs v r a done (IsFlatNetlist old.file p a)
-    (λ nl top bad text answer file. of_inputs p old mid new r v (λ (l : ReadLayout) (q : rule_sets.Rules). IsNetlistOf l q a text) quiet rules layout
-    (netlist_of v r a nl top bad text answer (shows nl top bad text file))) made
+    (λ nl top bad text answer file. of_inputs p old mid new r v (λ (l : ReadLayout) (q : rule_sets.Rules). IsNetlistOf p.outputs l q a text) quiet rules layout
+    (netlist_of p.outputs v r a nl top bad text answer (shows nl top bad text file))) made
 
 -- where the command writes one, its file holds it
 netlist_held : (out : Outputs) (old new : Store) (before after : SinkState) (o : Output) (a : Answer) (done : Done) (P : List ℕ → Type 0)
@@ -203,5 +210,5 @@ pub netlist_listed_beside : (p : Paths) (old mid new : Store) (r : rule_sets.Rul
     → ForNetlist p.outputs (λ (path : List ℕ). ListsAs done.files path (IsFlatNetlist old.file p a))
 netlist_listed_beside p old mid new r v sch a done quiet rules layout shows made =
     lists_netlist_beside p.outputs v r sch a done (IsFlatNetlist old.file p a)
-    (λ nl top bad text none file. of_inputs p old mid new r v (λ (l : ReadLayout) (q : rule_sets.Rules). IsNetlistOf l q a text) quiet rules layout
-    (netlist_of v r a nl top bad text none (shows nl top bad text file))) made
+    (λ nl top bad text none file. of_inputs p old mid new r v (λ (l : ReadLayout) (q : rule_sets.Rules). IsNetlistOf p.outputs l q a text) quiet rules layout
+    (netlist_of p.outputs v r a nl top bad text none (shows nl top bad text file))) made

@@ -18,12 +18,14 @@ use Rattle.plain_netlist.specs.Lists.{IsListed}
 use Rattle.plain_netlist.specs.Netlist.{Netlist}
 use Rattle.report_file.specs.File.{IsComparison, IsReportFile, all_answers}
 use Rattle.report_file.specs.Matched.{MatchedReportLaw}
-use Rattle.report_file.specs.Verdicts.{KeptPairLaw, UndecidedLaw, UnevenPairLaw}
+use Rattle.refine_match.proofs.ClassCounts.{uneven_class}
+use Rattle.report_file.specs.Verdicts.{CarriedPairLaw, KeptPairLaw, UndecidedLaw, UnevenPairLaw}
 use Rattle.rule_layers.specs.Meaning.{device_rules, wiring_of}
 use Rattle.rule_text.specs.Rules.{Rules}
 use Rattle.lvs_run.specs.Answers.{Answer, Good, Bad, Undecided, Done, comparison_answer}
 use Rattle.lvs_run.specs.Outcomes.{IsCompared}
-use Rattle.lvs_run.specs.Verdicts.{HasBadGate, HasVerdicts, MatchLaw, OfAnswers, VerdictsLaw}
+use Rattle.lvs_run.specs.Verdicts.{HasVerdicts, MatchLaw, OfAnswers, VerdictsLaw}
+use Rattle.lvs_run.proofs.Gates.{no_length, none_bad, one_bad, some_length}
 
 -- ---- verdicts and answers
 
@@ -46,26 +48,6 @@ exactly bad answers v w a one e h = (
   (λ g. subst (λ (u : Comparison). IsRunVerdict bad answers u) (same_verdict v w (sym e ∙ g)) h),
   (λ k. e ∙ ap (λ (u : Comparison). comparison_answer u) (one bad answers v w h k)),
 )
-
--- ---- bad gates
-
-listed_some : (b : BadGate) (bad : List BadGate) → IsListed b bad → 0 < length bad
-listed_some b [] h = absurd h
-listed_some b (x ∷ xs) h = omega (arith)
-
-module _ (l : Layout) (r : Rules) (text : List ℕ) (nl : Netlist) (top : ℕ) where
-  none_bad : (bad : List BadGate) → ShowsFlat l r text nl top bad → length bad ≡ 0 → HasNoBadGate (plain l.design) (wiring_of r) (device_rules r)
-  none_bad bad shows e = shows.no_bad.0 (nil_from_length bad e)
-
-  no_length : (bad : List BadGate) → ShowsFlat l r text nl top bad → HasNoBadGate (plain l.design) (wiring_of r) (device_rules r) → length bad ≡ 0
-  no_length bad shows none = ap (λ (bs : List BadGate). length bs) (shows.no_bad.1 none)
-
-  one_bad : (bad : List BadGate) → ShowsFlat l r text nl top bad → 0 < length bad → HasBadGate l r
-  one_bad [] shows h = absurd (omega (arith, h))
-  one_bad (b ∷ bs) shows h = let found = shows.all_bad b (inl refl) in (found.0, found.1, found.2)
-
-  some_length : (bad : List BadGate) → ShowsFlat l r text nl top bad → HasBadGate l r → 0 < length bad
-  some_length bad shows (g, cause, is) = let told = shows.told g cause is in listed_some told.0 bad told.1
 
 -- ---- the top's partner
 
@@ -92,7 +74,7 @@ stuck_of (Some f) h = (f, refl, h)
 
 -- ---- what was compared
 
-module _ (one : OneRunVerdictLaw) (uneven : UnevenPairLaw) (kept : KeptPairLaw) (undecided : UndecidedLaw) (l : Layout) (r : Rules) (nl : Netlist) (path netlist_path report_path : List ℕ) (a : Answer) (done : Done)
+module _ (one : OneRunVerdictLaw) (uneven : UnevenPairLaw) (carried : CarriedPairLaw) (kept : KeptPairLaw) (undecided : UndecidedLaw) (l : Layout) (r : Rules) (nl : Netlist) (path netlist_path report_path : List ℕ) (a : Answer) (done : Done)
     (h : IsCompared l r nl path netlist_path report_path a done) (flat : ShowsFlat l r h.spelled h.netlist h.top h.bad) where
   come_to : (w : Comparison) → (a ≡ comparison_answer w) ↔ IsRunVerdict (length h.bad) (all_answers h.report_file.compared) w
   come_to w = exactly (length h.bad) (all_answers h.report_file.compared) h.verdict w a one h.answer h.report_file.outcome
@@ -137,6 +119,10 @@ module _ (one : OneRunVerdictLaw) (uneven : UnevenPairLaw) (kept : KeptPairLaw) 
     );
     uneven = λ f k c d p is pair differ. h.answer
         ∙ ap (λ (u : Comparison). comparison_answer u) (uneven l.design r h.netlist h.top h.bad nl h.report h.pairs h.verdict h.report_file f k c d p is pair differ);
+    uneven_class = λ f k c d p is pair differ. h.answer
+        ∙ ap (λ (u : Comparison). comparison_answer u) (uneven l.design r h.netlist h.top h.bad nl h.report h.pairs h.verdict h.report_file f k c d p is pair (uneven_class p differ));
+    carried = λ f k c d p is pair map answer.
+        carried l.design r h.netlist h.top h.bad nl h.report h.pairs h.verdict h.comparable.layout h.comparable.order h.report_file f k c d p map is pair answer;
     kept = λ f k c d p is pair map corresponds differs.
         kept l.design r h.netlist h.top h.bad nl h.report h.pairs h.verdict h.comparable.layout h.comparable.order h.report_file f k c d p map is pair corresponds differs;
   }
@@ -146,9 +132,9 @@ shows_in : {l : Layout} {r : Rules} {nl : Netlist} {path netlist report : List �
     → (h : IsCompared l r nl path netlist report a done) → ShowsFlat l r h.spelled h.netlist h.top h.bad
 shows_in {l} {r} shows bytes name read h = shows bytes name l r h.netlist h.top h.bad h.spelled read h.comparable.rules h.netlist_file
 
-pub verdicts_law : ShowsFlatLaw → OneRunVerdictLaw → UnevenPairLaw → KeptPairLaw → UndecidedLaw → VerdictsLaw
-verdicts_law shows one uneven kept undecided bytes name l r nl path netlist report a done read h =
-    has_verdicts one uneven kept undecided l r nl path netlist report a done h (shows_in shows bytes name read h)
+pub verdicts_law : ShowsFlatLaw → OneRunVerdictLaw → UnevenPairLaw → CarriedPairLaw → KeptPairLaw → UndecidedLaw → VerdictsLaw
+verdicts_law shows one uneven carried kept undecided bytes name l r nl path netlist report a done read h =
+    has_verdicts one uneven carried kept undecided l r nl path netlist report a done h (shows_in shows bytes name read h)
 
 pub match_law : ShowsFlatLaw → MatchedReportLaw → MatchLaw
 match_law shows matched bytes name l r nl path netlist report a done read h good =

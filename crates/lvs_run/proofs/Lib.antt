@@ -1,6 +1,7 @@
 pub mod Steps
 pub mod Stopping
 pub mod Delivering
+pub mod Gates
 pub mod Flattened
 pub mod Judged
 pub mod Reported

@@ -81,7 +81,7 @@ ready_beside p old mid late new r l path o apart reads beside quiet later rules 
 pub beside_as : {l : Layout} {r : Rules} {old new : Store} {path : List ℕ} {out : Output} → (a b : Outputs) → a ≡ b → IsBeside b l r old new path out → IsBeside a l r old new path out
 beside_as {l} {r} {old} {new} {path} {out} a b e h = subst (λ (o : Outputs). IsBeside o l r old new path out) (sym e) h
 
-absent_so : (stated : Option Paths) (old new : Store) (v : Verdict) → HasCauseIn stated old new (verdict_of v) → new.absent ≡ old.absent
+pub absent_so : (stated : Option Paths) (old new : Store) (v : Verdict) → HasCauseIn stated old new (verdict_of v) → new.absent ≡ old.absent
 absent_so stated old new verdict.Good h = h.1
 absent_so stated old new verdict.Bad h = h.1
 absent_so stated old new verdict.Undecided h = h.1

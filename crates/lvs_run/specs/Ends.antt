@@ -5,8 +5,8 @@ use Rattle.lvs_outside.specs.Summary.{SinkState}
 use Rattle.lvs_outside.specs.Loops.{ForPrefix}
 use Rattle.lvs_run.specs.Answers.{Done, Answer, Outside, NoMemory, IsVerdict, nothing}
 use Rattle.lvs_run.specs.Answers.{verdict_of}
-use Rattle.lvs_files.specs.Files.{AreWritten, ArePartWritten, WroteWhole, WrotePart, files_of}
-use Rattle.lvs_run.specs.Runs.{sink_faults, Leaves, Says, StartsNone}
+use Rattle.lvs_files.specs.Files.{ArePartWritten, WroteWhole, WrotePart, files_of}
+use Rattle.lvs_run.specs.Runs.{HasCauseIn, depot_faults, sink_faults, Leaves, Says, StartsNone}
 use Rattle.lvs_run.specs.Lines.{line_of}
 use Rattle.lvs_run.specs.Outcomes.{IsOutcome}
 use Rattle.lvs_run.specs.Words.{Paths, inputs}
@@ -50,14 +50,20 @@ IsOrElse Outside P = Unit {0}
 IsOrElse NoMemory P = Unit {0}
 IsOrElse a P = P
 
--- Where a run was when the outside failed: reading its inputs, with nothing written or sent;
--- sending the line of the refusal
--- that the told files come to; writing the files that they come to, with no line sent; or sending
--- the line behind those files.
+-- nothing was written, the depot still shows why the run was refused, and none of its calls failed
+pub record RefusedOnly (said : Option Paths) (old new : Store) (wanted : Answer) : Type 0 where
+  pub starts : StartsNone old new
+  pub cause : HasCauseIn said old new wanted
+  pub faults : depot_faults new ≡ depot_faults old
+
+-- Where a run was when the outside failed, and that it went no further: reading its inputs, with
+-- nothing written or sent; sending the line of the refusal that the told files come to, and the
+-- depot stands as this refusal left it; writing the files that they come to, with no line sent; or
+-- sending the line behind those files, and the depot stands as their writing left it.
 pub data FailsAt (said : Option Paths) (old new : Store) (before after : SinkState) : Type 0 where
   AtInput : StartsNone old new → TookNone before after → FailsAt said old new before after
   AtRefusal : (wanted : Answer) → IsOutcome said (inputs said old.file) wanted nothing
-      → StartsNone old new → TookPart before after (line_of wanted nothing)
+      → RefusedOnly said old new wanted → TookPart before after (line_of wanted nothing)
       → FailsAt said old new before after
   AtFile : (wanted : Answer) (done : Done) → IsVerdict wanted
       → IsOutcome said (inputs said old.file) wanted done
@@ -65,7 +71,7 @@ pub data FailsAt (said : Option Paths) (old new : Store) (before after : SinkSta
       → FailsAt said old new before after
   AtLine : (wanted : Answer) (done : Done) → IsVerdict wanted
       → IsOutcome said (inputs said old.file) wanted done
-      → AreWritten old new done.files → TookPart before after (line_of wanted done)
+      → WroteWhole old new done.files → TookPart before after (line_of wanted done)
       → FailsAt said old new before after
 
 -- after Outside the run failed at one of these places

@@ -1,5 +1,5 @@
 -- What the files that a run writes show of the flat layout, where the files are told.
-use Rattle.std.specs.Prelude.{◌≡◌, ◌⊎◌, ℕ, List, [], ◌∷◌, Option, Some, None}
+use Rattle.std.specs.Prelude.{◌≡◌, ◌⊎◌, ◌↔◌, ℕ, List, [], ◌∷◌, Option, Some, None}
 use Rattle.lvs_outside.specs.Loops.{IsFile}
 use Rattle.lvs_outside.specs.Store.{Store, Told, Holds}
 use Rattle.lvs_files.specs.Files.{File}
@@ -10,11 +10,13 @@ use Rattle.rule_text.specs.Rules.{Rules}
 use Rattle.rule_text.specs.Reading.{Means}
 use Rattle.cell_graph.specs.Linked.{plain}
 use Rattle.deep_tables.specs.declared.gates.BadGate.{BadGate}
-use Rattle.netlist_file.specs.Flat.{HasNoBadGate, ShowsFlat}
+use Rattle.flat_layout.specs.Gates.{Cause}
+use Rattle.flat_layout.specs.GateTables.{GateSquare}
+use Rattle.netlist_file.specs.Flat.{HasNoBadGate, IsBadFlatGate, ShowsFlat}
 use Rattle.plain_netlist.specs.Netlist.{Netlist}
 use Rattle.rule_layers.specs.Meaning.{device_rules, wiring_of}
-use Rattle.lvs_run.specs.Words.{Paths, ForNetlist, ForShapes}
-use Rattle.lvs_run.specs.Answers.{Answer, Good, IsVerdict}
+use Rattle.lvs_run.specs.Words.{Outputs, Paths, ToNetlist, ForNetlist, ForShapes}
+use Rattle.lvs_run.specs.Answers.{Answer, Good, Bad, IsVerdict}
 
 -- the list has a file of this path, and this is a fact of its text
 abbrev pub ListsAs : List File → List ℕ → (List ℕ → Type 0) → Type 0
@@ -60,18 +62,34 @@ abbrev pub WritesFlat : Option Paths → Store → Store → Answer → Type 0
 WritesFlat said old new a = IsVerdict a → OfStated said (λ p. ForShapes p.outputs
     (λ path. HoldsAs (new.file path) (IsFlatText old.file p)))
 
+-- a gate of the flat layout is bad
+abbrev pub HasBadGate : Layout → Rules → Type 0
+HasBadGate l r = (g : GateSquare) × (cause : Cause)
+    × IsBadFlatGate (plain l.design) (wiring_of r) (device_rules r) g cause
+
+-- the answer is Good exactly where no gate of the flat layout is bad, and Bad exactly where one is
+pub record IsOfGates (l : Layout) (r : Rules) (a : Answer) : Type 0 where
+  pub good : (a ≡ Good) ↔ HasNoBadGate (plain l.design) (wiring_of r) (device_rules r)
+  pub bad : (a ≡ Bad) ↔ HasBadGate l r
+
+-- so it is after `extract`; a comparison is Good only where no gate is bad
+abbrev pub TellsGates : Outputs → Layout → Rules → Answer → Type 0
+TellsGates (ToNetlist shapes netlist) l r a = IsOfGates l r a
+TellsGates o l r a = a ≡ Good → HasNoBadGate (plain l.design) (wiring_of r) (device_rules r)
+
 -- The text, read as SPICE, means one netlist. Its last circuit is the top's and expands to the
 -- netlist of the flat layout: its devices are the good gates of the flat top, and their nets the
--- regions of the flat top. After Good the flat top has no bad gate.
-pub record IsNetlistOf (l : Layout) (r : Rules) (a : Answer) (text : List ℕ) : Type 0 where
+-- regions of the flat top. The command's answer tells whether the flat layout has bad gates.
+pub record IsNetlistOf (o : Outputs) (l : Layout) (r : Rules) (a : Answer) (text : List ℕ) :
+    Type 0 where
   pub netlist : Netlist
   pub circuit : ℕ
   pub bad : List BadGate
   pub shows : ShowsFlat l r text netlist circuit bad
-  pub good : a ≡ Good → HasNoBadGate (plain l.design) (wiring_of r) (device_rules r)
+  pub gates : TellsGates o l r a
 
 abbrev pub IsFlatNetlist : (List ℕ → Told) → Paths → Answer → List ℕ → Type 0
-IsFlatNetlist file p a text = OfInputs file p (λ l r. IsNetlistOf l r a text)
+IsFlatNetlist file p a text = OfInputs file p (λ l r. IsNetlistOf p.outputs l r a text)
 
 -- and the netlist's file, where the command writes one, such a text
 abbrev pub WritesNetlist : Option Paths → Store → Store → Answer → Type 0

@@ -122,12 +122,17 @@ pub record WasAbsent (old new : Store) (path : List ℕ) : Type 0 where
   pub last : new.last_absent ≡ path
   pub closed : new.opened ≡ Closed
 
--- what stands behind an answer: each refusal has its cause, and other answers come only without one
+-- the depot stands as it was: no file was opened, asked for or written
+abbrev pub IsUntouched : Store → Store → Type 0
+IsUntouched old new = new ≡ old
+
+-- what stands behind an answer: each refusal has its cause, and other answers come only without
+-- one; no file is opened for words that are refused
 abbrev pub HasCauseIn : Option Paths → Store → Store → Answer → Type 0
 HasCauseIn said old new Good = EndsWith said Good × (new.absent ≡ old.absent)
 HasCauseIn said old new Bad = EndsWith said Bad × (new.absent ≡ old.absent)
-HasCauseIn said old new RefusedWords = (said ≡ None) × (new.absent ≡ old.absent)
-HasCauseIn said old new (RefusedSame path) = IsSame said path × (new.absent ≡ old.absent)
+HasCauseIn said old new RefusedWords = (said ≡ None) × IsUntouched old new
+HasCauseIn said old new (RefusedSame path) = IsSame said path × IsUntouched old new
 HasCauseIn said old new (RefusedAbsent path) = IsInputPath said path × WasAbsent old new path
 HasCauseIn said old new (RefusedLong path) = IsInputPath said path × IsTooLong said new.opened path
     × (new.absent ≡ old.absent)

@@ -6,21 +6,19 @@ use Rattle.lvs_outside.specs.Store.{Store, Told, Holds}
 use Rattle.lvs_files.specs.Files.{File}
 use Rattle.cell_graph.specs.Linked.{plain}
 use Rattle.deep_tables.specs.declared.gates.BadGate.{BadGate}
-use Rattle.flat_layout.specs.Gates.{Cause}
-use Rattle.flat_layout.specs.GateTables.{GateSquare}
 use Rattle.gds_layout.specs.declared.layout.Layout.{Layout}
 use Rattle.gds_layout.specs.Layouts.{IsRead}
-use Rattle.match_laws.specs.Answer.{Answer as PairAnswer, IsDifference}
+use Rattle.match_laws.specs.Answer.{Answer as PairAnswer, IsDifference, Match}
 use Rattle.match_laws.specs.Circuits.{IsCorrespondence, Pair, Pairing}
 use Rattle.match_report.specs.Report.{answers_of}
 use Rattle.match_report.specs.declared.report.Compared.{Compared}
 use Rattle.net_align.specs.Compared.{HasNoPartner}
-use Rattle.netlist_file.specs.Flat.{HasNoBadGate, IsBadFlatGate, ShowsFlat}
+use Rattle.netlist_file.specs.Flat.{HasNoBadGate, ShowsFlat}
 use Rattle.pair_jobs.specs.Answers.{answer_at, IsMatch}
 use Rattle.pair_jobs.specs.Verdict.{IsUndecided}
 use Rattle.pair_jobs.specs.declared.verdict.Verdict.{Verdict}
 use Rattle.plain_netlist.specs.Netlist.{Circuit, Netlist}
-use Rattle.refine_match.specs.Matching.{HaveUnevenDevices}
+use Rattle.refine_match.specs.Matching.{HaveUnevenClass, HaveUnevenDevices}
 use Rattle.report_file.specs.File.{IsReportFile, all_answers}
 use Rattle.report_file.specs.Matched.{MatchesFlat}
 use Rattle.report_file.specs.Verdicts.{IsComparedPair}
@@ -33,7 +31,7 @@ use Rattle.lvs_run.specs.Words.{Outputs, Paths, ToShapes, ToNetlist, ToReport, T
 use Rattle.lvs_run.specs.Answers.{Answer, Good, Bad, Undecided, Done, IsVerdict}
 use Rattle.lvs_run.specs.Answers.{comparison_answer}
 use Rattle.lvs_run.specs.Outcomes.{IsCompared}
-use Rattle.lvs_run.specs.Flat.{HoldsAs, ListsAs, OfInputs, OfStated}
+use Rattle.lvs_run.specs.Flat.{HasBadGate, HoldsAs, ListsAs, OfInputs, OfStated}
 
 -- The one text means one netlist, that of the flat layout; the other is the report on comparing
 -- this netlist with the schematic, beside the flat layout's bad gates; and this is the answer of
@@ -49,11 +47,6 @@ pub record IsReportOf (l : Layout) (r : Rules) (schematic : Netlist) (a : Answer
   pub file : IsReportFile l.design r netlist top bad schematic report_text pairs verdict
   pub answer : a ≡ comparison_answer verdict
 
--- a gate of the flat layout is bad
-abbrev pub HasBadGate : Layout → Rules → Type 0
-HasBadGate l r = (g : GateSquare) × (cause : Cause)
-    × IsBadFlatGate (plain l.design) (wiring_of r) (device_rules r) g cause
-
 -- the layout's top has a partner, and this is a fact of the answers of all pairs
 abbrev pub OfAnswers : Option Compared → (List PairAnswer → Type 0) → Type 0
 OfAnswers compared P = IsSomeAnd (all_answers compared) P
@@ -65,9 +58,10 @@ OfEachPair compared P = (f : Compared) (k : ℕ) (c d : Circuit) (p : Pair) → 
 
 -- Good comes exactly where no gate is bad and each pair matches, Bad where a gate is bad, the top
 -- has no partner or a pair differs, Undecided where none of this is so and the guesses of some pair
--- ran out. A pair whose circuits have unequal numbers of devices of some class and sizes makes Bad,
--- whatever the pairs below it are; a pair that has a correspondence which keeps their pins is never
--- reported as different.
+-- ran out. A pair whose circuits have unequal numbers of devices of some class, or of some class
+-- and sizes, makes Bad, whatever the pairs below it are. Whatever the answer is, a pair reported as
+-- matched carries a correspondence which keeps the pins of the pairs below, and a pair that has
+-- such a correspondence is never reported as different.
 pub record HasVerdicts (a : Answer) (l : Layout) (r : Rules) (schematic : Netlist)
     (netlist_text report_text : List ℕ) : Type 0 where
   pub report : IsReportOf l r schematic a netlist_text report_text
@@ -78,6 +72,9 @@ pub record HasVerdicts (a : Answer) (l : Layout) (r : Rules) (schematic : Netlis
   pub undecided : (a ≡ Undecided) ↔ (HasNoBadGate (plain l.design) (wiring_of r) (device_rules r)
       × OfAnswers report.file.compared (λ all. (Any IsDifference all → ⊥) × Any IsUndecided all))
   pub uneven : OfEachPair report.file.compared (λ p answer. HaveUnevenDevices p → a ≡ Bad)
+  pub uneven_class : OfEachPair report.file.compared (λ p answer. HaveUnevenClass p → a ≡ Bad)
+  pub carried : OfEachPair report.file.compared
+      (λ p answer. (map : Pairing) → answer ≡ Match map → IsCorrespondence p map)
   pub kept : OfEachPair report.file.compared
       (λ p answer. (map : Pairing) → IsCorrespondence p map → IsDifference answer → ⊥)
 

@@ -175,8 +175,8 @@ fn deliver<D: Depot, S: Sink>(output: &Output, depot: &mut D, out: &mut S) -> St
 /// Runs the command that the words state, over the files of the depot, and gives the sink its
 /// summary line.
 ///
-/// All that is written is complete in memory before the first write. After a failed call neither
-/// object is called again. The layout is read in pieces, of which none is kept, to its end or past
+/// All that is written is complete in memory before the first write. After a failed call on one
+/// object the other isn't called. The layout is read in pieces, of which none is kept, to its end or past
 /// the limit before its fault is answered. Cost: reading the inputs, the layers of each reached
 /// cell (also its nets, gates, pins and circuit), the comparison of each pair of circuits, and the
 /// bytes written; a cell is worked once, however often it is placed. `make` reads no file: it costs
@@ -195,15 +195,17 @@ pub fn run_lvs<R: Threads + Wait + Sync, D: Depot, S: Sink, G: Gate + Sync>(
     ensures faults { ShowsFaults (answer_of result) (D.state depot.old) (D.state depot.new)
         (S.state out.old) (S.state out.new) }
     // Each refusal has its cause, and other answers come only without one, whatever depot and sink
-    // tell.
+    // tell; no file is opened for words that are refused.
     ensures cause { HasCauseIn (said (map string_bytes words.now)) (D.state depot.old)
         (D.state depot.new) (answer_of result) }
     // Where the files are told, the answer, the written files and the line are what they come to;
-    // those that `make` makes are told.
+    // those that `make` makes are told. After a failed call on one object the other stands as it
+    // stood.
     ensures outcome { ComesOut (said (map string_bytes words.now)) (D.state depot.old)
         (D.state depot.new) (S.state out.old) (S.state out.new) (answer_of result) }
-    // After each answer of a run that writes its files the shapes file covers exactly the flat
-    // rules' unit squares of the layout, where the files are told.
+    // After each answer of a run that writes its files the shapes file has in each cell exactly the
+    // squares that the cell holds itself, and covers exactly the flat rules' unit squares of the
+    // layout, where the files are told.
     ensures flat { WritesFlat (said (map string_bytes words.now)) (D.state depot.old)
         (D.state depot.new) (answer_of result) }
     // After Good of a comparison the pairs of the report, which `make` doesn't write, compose to a
@@ -212,13 +214,14 @@ pub fn run_lvs<R: Threads + Wait + Sync, D: Depot, S: Sink, G: Gate + Sync>(
     ensures matched { WritesMatch (said (map string_bytes words.now)) (D.state depot.old)
         (D.state depot.new) (answer_of result) }
     // The answer of a comparison comes exactly where the flat layout's bad gates and the pairs of
-    // the report say so; unequal numbers of devices of a class and sizes in a pair make Bad, and a
-    // pair that has a correspondence which keeps the pins of the pairs below is never reported as
-    // different.
+    // the report say so; unequal numbers of devices of a class, or of a class and sizes, in a pair
+    // make Bad. Whatever the answer is, a pair reported as matched carries a correspondence which
+    // keeps the pins of the pairs below, and one that has such a correspondence is never reported
+    // as different.
     ensures verdicts { WritesVerdicts (said (map string_bytes words.now)) (D.state depot.old)
         (D.state depot.new) (answer_of result) }
-    // The netlist's file means, expanded, the netlist of the flat layout, and after Good the flat
-    // layout has no bad gate.
+    // The netlist's file means, expanded, the netlist of the flat layout. `extract` is Bad exactly
+    // where a gate of the flat layout is bad, and a comparison is Good only where none is.
     ensures netlist { WritesNetlist (said (map string_bytes words.now)) (D.state depot.old)
         (D.state depot.new) (answer_of result) }
 {

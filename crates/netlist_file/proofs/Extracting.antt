@@ -46,6 +46,9 @@ shows_flat text_means one corresponds gates_law same lists order bytes name l r 
       last = last d level c.gates c.cells top right.levels right.cells f.of_cells.top_is ∙ sym right.circuits.count;
       nets = t;
       circuits = c;
+      level = level;
+      right = right;
+      top_is = f.of_cells.top_is;
       same = corresponds d w t c nl rules unit level right top f.of_cells.top_is;
       told = all_told l.design w t r c.gates bad f.design order lists same all told;
       all_bad = all_bad l.design w t r c.gates bad f.design order lists same all told;

@@ -4,7 +4,8 @@ use Rattle.std.specs.Prelude.{◌≡◌, ◌↔◌, ℕ, suc, List, [], Option, 
 use Rattle.cell_graph.specs.Linked.{plain}
 use Rattle.deep_flow.specs.Bad.{class_at, told_cause}
 use Rattle.deep_tables.specs.declared.gates.BadGate.{BadGate}
-use Rattle.flat_layout.specs.Expanded.{CircuitTables}
+use Rattle.flat_layout.specs.Circuits.{IsCircuitCell}
+use Rattle.flat_layout.specs.Expanded.{AreTablesRight, CircuitTables}
 use Rattle.flat_layout.specs.Gates.{Cause, IsBadGate, Rule}
 use Rattle.flat_layout.specs.GateTables.{GateSquare}
 use Rattle.flat_layout.specs.Layers.{InFlat}
@@ -57,10 +58,11 @@ AreAllBad d w r bad = (b : BadGate) → IsListed b bad → (a : GateSquare) × (
 abbrev pub HasNoBadGate : Design → Wiring → List Rule → Type 0
 HasNoBadGate d w rules = (a : GateSquare) (cause : Cause) → IsBadFlatGate d w rules a cause → ⊥
 
--- The text means this netlist, and no other. Its last circuit is the top's, and expands to the
--- netlist of the flat layout: its devices correspond one to one to the good gates of the flat top,
--- and their nets to the regions of the flat top. The bad gates of the flat top are told, and
--- nothing else.
+-- The text means this netlist, and no other. Its circuits are those of the cells that the layout's
+-- top reaches, by the cells' own nets, gates and pins, and the last of them is the top's. This one
+-- expands to the netlist of the flat layout: its devices correspond one to one to the good gates of
+-- the flat top, and their nets to the regions of the flat top. The bad gates of the flat top are
+-- told, and nothing else.
 pub record ShowsFlat (l : Layout) (r : Rules) (text : List ℕ) (nl : Netlist) (top : ℕ)
     (bad : List BadGate) : Type 0 where
   pub means : Means None text nl
@@ -68,6 +70,10 @@ pub record ShowsFlat (l : Layout) (r : Rules) (text : List ℕ) (nl : Netlist) (
   pub last : suc top ≡ length nl.circuits
   pub nets : Tables
   pub circuits : CircuitTables
+  pub level : ℕ → ℕ
+  pub right : AreTablesRight (plain l.design) (wiring_of r) nets circuits nl (device_rules r)
+      l.header.unit_pm level
+  pub top_is : IsCircuitCell circuits.cells top (plain l.design).top
   pub same : Corresponds (expanded nl top)
       (flat_netlist (plain l.design) (wiring_of r) (device_rules r) l.header.unit_pm)
       (IsFlatGateOf (plain l.design) (wiring_of r) circuits nl top (device_rules r))

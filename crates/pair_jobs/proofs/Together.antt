@@ -9,6 +9,8 @@ use Rattle.std.specs.List.{All, Any}
 use Rattle.std.specs.Option.{option_map}
 use Rattle.plain_netlist.specs.Netlist.{CallRow, Circuit, Netlist, IsCircuit}
 use Rattle.plain_netlist.specs.Sound.{IsGood}
+use Rattle.round_laws.specs.Nodes.{Layout, Schematic}
+use Rattle.match_laws.specs.Circuits.{IsFitting}
 use Rattle.match_laws.specs.Answer.{Answer, Match, DiffersInRound, DiffersByTree, Undecided, Skipped, IsAnswer, IsDifference, equal_names}
 use Rattle.align_laws.specs.Lists.{given_of}
 use Rattle.align_laws.specs.Partners.{AreSides}
@@ -20,7 +22,7 @@ use Rattle.match_laws.proofs.Answer as shown
 use Rattle.match_types.specs.Plain.{plain_answer}
 use Rattle.match_types.specs.declared.answer.Answer as rows
 use Rattle.net_model.specs.Rows.{plain_netlist}
-use Rattle.pair_jobs.specs.Answers.{AreAllAnswers, IsMatch, MatchedPairsLaw, MatchedTopsLaw, ResultsLaw, KeptPairLaw, UnevenPairLaw, answer_at, pairing_in, pairings_of}
+use Rattle.pair_jobs.specs.Answers.{AreAllAnswers, IsMatch, MatchedPairsLaw, MatchedTopsLaw, ResultsLaw, CarriedPairLaw, KeptPairLaw, UnevenPairLaw, answer_at, pairing_in, pairings_of}
 use Rattle.pair_jobs.specs.Verdict.{IsUndecided, OneVerdictLaw, OneRunVerdictLaw, UndecidedPairLaw}
 use Rattle.pair_jobs.specs.declared.verdict.Verdict.TheVariants as verdict
 
@@ -182,8 +184,10 @@ one_run bad (Some answers) verdict.Mismatch verdict.Undecided (inl h) g = let e 
 one_run bad (Some answers) verdict.Mismatch verdict.Undecided (inr (inl h)) g = absurd (not_none answers h)
 one_run bad (Some answers) verdict.Mismatch verdict.Undecided (inr (inr h)) g = one_verdict answers verdict.Mismatch verdict.Undecided h g.1
 
-pub kept_pair : KeptPairLaw
-kept_pair left right limit answers sides good h k c d f is also corresponds =
+-- a pair's circuits fit the pins that the called pairs hand up
+fitting : (left right : Netlist) (limit : ℕ) (answers : List Answer) → AreSides left right → IsGood left (λ k. k) → AreAllAnswers left right limit answers → (k : ℕ) (c d : Circuit)
+    → IsCircuit left k c → IsCircuit right k d → IsFitting (pair_in left (answer_at answers) c d) Layout × IsFitting (pair_in left (answer_at answers) c d) Schematic
+fitting left right limit answers sides good h k c d is also =
     let at = answer_at answers in
     let right_all = (together_answers left right limit at sides good).0 h.each in
     let called : (q : ℕ) → is_called c q ≡ true → IsAnswerOf left right limit q (at q) = λ q e.
@@ -191,7 +195,19 @@ kept_pair left right limit answers sides good h k c d f is also corresponds =
     let x = good.called k r.0 r.1 (c, is, r.2) in
     right_all q x.0 (subst (λ n. IsCircuit left n x.0) r.3 x.1) in
     let fits = read_answers left right limit k c d at sides good is also called in
-    λ differs. shown.differs (pair_in left at c d) (equal_names (pair_in left at c d)) limit (at k) f fits.0 fits.1 (h.each k c d is also) differs corresponds
+    (fits.0, fits.1)
+
+pub carried_pair : CarriedPairLaw
+carried_pair left right limit answers sides good h k c d f is also matches =
+    let p = pair_in left (answer_at answers) c d in
+    let fits = fitting left right limit answers sides good h k c d is also in
+    shown.matched p (equal_names p) limit f fits.0 fits.1 (subst (λ (a : Answer). IsAnswer p (equal_names p) limit a) matches (h.each k c d is also))
+
+pub kept_pair : KeptPairLaw
+kept_pair left right limit answers sides good h k c d f is also corresponds =
+    let p = pair_in left (answer_at answers) c d in
+    let fits = fitting left right limit answers sides good h k c d is also in
+    λ differs. shown.differs p (equal_names p) limit (answer_at answers k) f fits.0 fits.1 (h.each k c d is also) differs corresponds
 
 pub uneven_pair : UnevenPairLaw
 uneven_pair left right limit answers h k c d a is also uneven =

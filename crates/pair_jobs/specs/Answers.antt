@@ -85,6 +85,13 @@ MatchedTopsLaw = (layout schematic : Netlist) (top right_top : ℕ)
     (AreNetsMatched layout left right schematic v w p.left_aligned p.right_aligned
     (pairings_of answers) top right_top)
 
+-- a pair that matches carries a correspondence, which keeps the pins of the called pairs
+abbrev pub CarriedPairLaw : Type 0
+CarriedPairLaw = (left right : Netlist) (limit : ℕ) (answers : List Answer) → AreSides left right
+    → IsGood left (λ k. k) → AreAllAnswers left right limit answers → (k : ℕ) (c d : Circuit)
+    (f : Pairing) → IsCircuit left k c → IsCircuit right k d → answer_at answers k ≡ Match f
+    → IsCorrespondence (pair_in left (answer_at answers) c d) f
+
 -- a pair that has a correspondence which keeps the pins of the called pairs doesn't differ
 abbrev pub KeptPairLaw : Type 0
 KeptPairLaw = (left right : Netlist) (limit : ℕ) (answers : List Answer) → AreSides left right

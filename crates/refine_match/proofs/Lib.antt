@@ -23,4 +23,5 @@ pub mod Begun
 pub mod Ends
 pub mod Kept
 pub mod DeviceCounts
+pub mod ClassCounts
 pub mod Follows

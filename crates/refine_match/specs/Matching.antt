@@ -44,16 +44,25 @@ IsUndecided (answer.Differs evidence) = ⊥
 IsUndecided (answer.Undecided guesses) = Unit {0}
 IsUndecided (answer.Skipped pair) = ⊥
 
--- whether a device is of this class, length and width
+-- whether a device is of this class
+abbrev pub has_class : List ℕ → DeviceRow → Bool
+has_class class d = bytes_eq class d.class
+
+-- whether it is of this class, length and width
 abbrev pub is_of : List ℕ → ℕ → ℕ → DeviceRow → Bool
 is_of class length width d =
-    bytes_eq class d.class && ((length == d.length) && (width == d.width))
+    has_class class d && ((length == d.length) && (width == d.width))
 
 -- of some class, length and width one circuit has more devices than the other
 abbrev pub HaveUnevenDevices : Pair → Type 0
 HaveUnevenDevices p = (class : List ℕ) × (length : ℕ) × (width : ℕ)
     × (count_by (is_of class length width) p.left.devices
     ≢ count_by (is_of class length width) p.right.devices)
+
+-- of some class, whatever the sizes, one circuit has more devices than the other
+abbrev pub HaveUnevenClass : Pair → Type 0
+HaveUnevenClass p = (class : List ℕ) × (count_by (has_class class) p.left.devices
+    ≢ count_by (has_class class) p.right.devices)
 
 -- each class of a stable round has one node of each circuit at most
 abbrev pub AreSingleClasses : Web Node → Type 0

@@ -9,8 +9,8 @@ ghost use Rattle.match_types.specs.Plain.{pair_of, plain_answer};
 ghost use Rattle.refine_match.specs.ByRounds.{IsRoundsAnswer};
 ghost use Rattle.refine_match.specs.Candidates.{IsPairOf};
 ghost use Rattle.refine_match.specs.Matching.{AreSingleClasses, CarriesPairing, ExcludesPairings};
-ghost use Rattle.refine_match.specs.Matching.{HaveUnevenDevices, IsDecided, IsDifference, IsEnough};
-ghost use Rattle.refine_match.specs.Matching.{IsUndecided};
+ghost use Rattle.refine_match.specs.Matching.{HaveUnevenClass, HaveUnevenDevices, IsDecided};
+ghost use Rattle.refine_match.specs.Matching.{IsDifference, IsEnough, IsUndecided};
 ghost use Rattle.refine_match.specs.Searching.{IsKept};
 
 use crate::by_rounds::{Rounds, by_rounds};
@@ -55,6 +55,8 @@ pub fn match_circuits(
     ensures matched { IfOk result (CarriesPairing (pair_of left.now right.now children.now)) }
     ensures differs { IfOk result (ExcludesPairings (pair_of left.now right.now children.now)) }
     ensures uneven { HaveUnevenDevices (pair_of left.now right.now children.now)
+        → IfOk result IsDifference }
+    ensures uneven_class { HaveUnevenClass (pair_of left.now right.now children.now)
         → IfOk result IsDifference }
     ensures single { AreMatched (pair_of left.now right.now children.now)
         → AreSingleClasses (web_of (pair_of left.now right.now children.now))

@@ -1,5 +1,5 @@
 -- What makes a report's verdict.
-use Rattle.std.proofs.Common.{◌≡◌, inl, inr, ◌↔◌, ℕ, ◌<◌, Option, Some, None, length, refl, subst, arith}
+use Rattle.std.proofs.Common.{◌≡◌, inl, inr, ◌↔◌, ℕ, ◌<◌, Option, Some, None, length, refl, sym, subst, arith}
 use Rattle.std.proofs.lemmas.List.{get_or_default}
 use Rattle.std.proofs.lemmas.Option.{slice_get_within}
 use Rattle.std.specs.List.{Any}
@@ -18,7 +18,7 @@ use Rattle.pair_jobs.specs.declared.verdict.Verdict.TheVariants as verdict
 use Rattle.refine_match.specs.Matching.{HaveUnevenDevices}
 use Rattle.report_file.proofs.Compared.{found, ordered}
 use Rattle.report_file.specs.File.{all_answers}
-use Rattle.report_file.specs.Verdicts.{BadGateLaw, KeptPairLaw, UndecidedLaw, UnevenPairLaw}
+use Rattle.report_file.specs.Verdicts.{BadGateLaw, CarriedPairLaw, KeptPairLaw, UndecidedLaw, UnevenPairLaw}
 
 pub bad_gate : OneRunVerdictLaw → BadGateLaw
 bad_gate one d r layout top bad schematic text pairs v x some = one (length bad) (all_answers x.compared) v verdict.Mismatch x.outcome (inl some)
@@ -38,6 +38,14 @@ uneven_pair one uneven d r layout top bad schematic text pairs v x f k a b p e i
     let here = uneven left (plain_netlist f.right) r.max_guesses answers c.1 k a b is.left is.right (subst HaveUnevenDevices is.pair_is differ) in
     let any : Any IsDifference answers = (k, answer_at answers k, lt, get_or_default answers k (answer_at answers k) (Skipped k) lt, here) in
     one (length bad) (Some answers) v verdict.Mismatch (outcome_of (length bad) x.compared f v e x.outcome) (inr (inr any))
+
+pub carried_pair : AlignedSidesLaw → LeftOrderLaw → pairs.CarriedPairLaw → CarriedPairLaw
+carried_pair sides order carried d r layout top bad schematic text pairs v fine first x f k a b p m e is matches =
+    let left = plain_netlist f.left in
+    let right = plain_netlist f.right in
+    let c = found layout top schematic r.same r.max_guesses x.compared f e x.comparison in
+    let o = ordered sides order layout schematic top r.same left right fine first c.0 in
+    subst (λ (q : Pair). IsCorrespondence q m) (sym is.pair_is) (carried left right r.max_guesses (answers_of f) o.sides o.good c.1 k a b m is.left is.right matches)
 
 pub kept_pair : AlignedSidesLaw → LeftOrderLaw → pairs.KeptPairLaw → KeptPairLaw
 kept_pair sides order kept d r layout top bad schematic text pairs v fine first x f k a b p m e is corresponds =

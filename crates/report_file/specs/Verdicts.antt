@@ -4,7 +4,7 @@ use Rattle.std.specs.List.{Any}
 use Rattle.cell_graph.specs.Linked.{Linked}
 use Rattle.composed_laws.specs.Answered.{pair_in}
 use Rattle.deep_tables.specs.declared.gates.BadGate.{BadGate}
-use Rattle.match_laws.specs.Answer.{IsDifference}
+use Rattle.match_laws.specs.Answer.{IsDifference, Match}
 use Rattle.match_laws.specs.Circuits.{IsCorrespondence, Pair, Pairing}
 use Rattle.match_report.specs.Report.{answers_of}
 use Rattle.match_report.specs.declared.report.Compared.{Compared}
@@ -39,6 +39,15 @@ UnevenPairLaw = (d : Linked) (r : Rules) (layout : Netlist) (top : ℕ) (bad : L
     → (x : IsReportFile d r layout top bad schematic text pairs v) → (f : Compared) (k : ℕ)
     (a b : Circuit) (p : Pair) → x.compared ≡ Some f → IsComparedPair f k a b p
     → HaveUnevenDevices p → v ≡ verdict.Mismatch
+
+-- a pair that matches carries a correspondence, which keeps the pins of the pairs below
+abbrev pub CarriedPairLaw : Type 0
+CarriedPairLaw = (d : Linked) (r : Rules) (layout : Netlist) (top : ℕ) (bad : List BadGate)
+    (schematic : Netlist) (text : List ℕ) (pairs : ℕ) (v : Verdict)
+    → IsAlignable layout → AreCalleesFirst layout
+    → (x : IsReportFile d r layout top bad schematic text pairs v) → (f : Compared) (k : ℕ)
+    (a b : Circuit) (p : Pair) (map : Pairing) → x.compared ≡ Some f → IsComparedPair f k a b p
+    → answer_at (answers_of f) k ≡ Match map → IsCorrespondence p map
 
 -- a pair that has a correspondence which keeps the pins of the pairs below never differs
 abbrev pub KeptPairLaw : Type 0

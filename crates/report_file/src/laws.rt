@@ -2,7 +2,8 @@
 ghost use Rattle.report_file.specs.Matched.{MatchedReportLaw};
 ghost use Rattle.report_file.specs.Named.{TopPartnerLaw};
 ghost use Rattle.report_file.specs.One.{OneReportLaw};
-ghost use Rattle.report_file.specs.Verdicts.{BadGateLaw, KeptPairLaw, UndecidedLaw, UnevenPairLaw};
+ghost use Rattle.report_file.specs.Verdicts.{BadGateLaw, CarriedPairLaw, KeptPairLaw, UndecidedLaw};
+ghost use Rattle.report_file.specs.Verdicts.{UnevenPairLaw};
 
 use align_laws::pairs;
 use composed_laws::answers;
@@ -30,11 +31,13 @@ pub fn matched_report()
 }
 
 /// A bad gate makes a mismatch, and so does a pair with unequal numbers of devices of some class,
-/// length and width. A pair that has a correspondence never differs. A report is undecided exactly
-/// where nothing makes a mismatch and some pair is undecided.
+/// length and width. A match carries a correspondence, and a pair that has a correspondence never
+/// differs. A report is undecided exactly where nothing makes a mismatch and some pair is
+/// undecided.
 pub fn report_verdicts()
     ensures bad { BadGateLaw }
     ensures uneven { UnevenPairLaw }
+    ensures carried { CarriedPairLaw }
     ensures kept { KeptPairLaw }
     ensures undecided { UndecidedLaw }
 {

@@ -93,6 +93,7 @@ covers_flat cover kept places at canonical upright writable bytes top l r text c
       design = design;
       hierarchy = hierarchy canonical at upright l r file.table w.cells ds top link (writable bytes top l read) sound file.layers w.reached;
       placements = λ i k n p at. same_placements places l.design r file.table w.cells i k n p w.reached at;
+      held = λ i k there n o here q. own_is at l.design r file.table w.cells i k n o q sound file.layers w.reached there here;
       lines = λ k o here q. line cover kept places at l.design ds top r file.table w.cells k o q link sound file.layers w.reached here;
       others = λ key none q h. other places l.design r file.table w.cells key q w.reached none h;
     }

@@ -5,7 +5,7 @@ use Rattle.std.specs.Prelude.{Some, Option}
 use Rattle.std.specs.List.{All}
 use Rattle.cell_graph.specs.Linked.{plain, cell_at}
 use Rattle.flat_layout.specs.Arrays.{Reference, places_of}
-use Rattle.flat_layout.specs.Layers.{Formula, Empty, InFlat}
+use Rattle.flat_layout.specs.Layers.{Formula, Empty, InFlat, IsLocal}
 use Rattle.flat_layout.specs.Layout.{Design, Place, IsOwn, IsPlaced, InFlatInput}
 use Rattle.flat_layout.specs.Layout as flat
 use Rattle.gds_elements.specs.Faults.{Accepts}
@@ -79,9 +79,10 @@ formula_at r k = get_or (formulas r.names) k Empty
 
 -- The text is itself an accepted stream, in the layout's units. Its structures are the cells that
 -- the layout's top reaches, in the order of the file, each with its name, with its placements in
--- their order, and with no text. Seen from the top through all references, it has on the layer of
--- each output line exactly the squares that the line's name has over the flat layout, and on all
--- other layers none.
+-- their order, and with no text. On the layer of each output line a structure has exactly the
+-- squares that its cell holds itself of the line's name, so that nothing is flattened into it. Seen
+-- from the top through all references, the text has on this layer exactly the squares that the name
+-- has over the flat layout, and on all other layers none.
 pub record CoversFlat (l : Layout) (r : Rules) (text : List ℕ) : Type 0 where
   pub written : Library
   pub accepted : Accepts text written
@@ -95,6 +96,8 @@ pub record CoversFlat (l : Layout) (r : Rules) (text : List ℕ) : Type 0 where
   pub hierarchy : IsHierarchyOf written (name_of (cell_at l.design l.design.top)) design
   pub placements : (i k n : ℕ) (p : Place) → slice_get cells i ≡ Some k → IsPlaced design i n p
       ↔ ((x : Place) × IsPlaced (plain l.design) k n x × IsPlacement cells p x)
+  pub held : (i k : ℕ) → slice_get cells i ≡ Some k → Each (λ n o. (q : Square)
+      → IsOwn design i o.key q ↔ IsLocal (plain l.design) k (formula_at r o.layer) q) r.outputs
   pub lines : Each (λ k o. (q : Square) → InFlatInput design design.top o.key q
       ↔ InFlat (plain l.design) l.design.top (formula_at r o.layer) q) r.outputs
   pub others : (key : LayerKey) → All (λ o. o.key ≢ key) r.outputs → (q : Square)

@@ -2,6 +2,7 @@ use Rattle.std.proofs.Common.{refl}
 use Rattle.match_laws.proofs.Images.{web_good}
 use Rattle.match_types.specs.Plain.{pair_of}
 use Rattle.refine_match.proofs.Decided.{if_ok}
+use Rattle.refine_match.proofs.ClassCounts.{uneven_class}
 use Rattle.refine_match.proofs.Follows.{carries, enough_answer, excludes, single_answer, uneven_answer}
 use Rattle.refine_match.proofs.matching.match_circuits.Goals as goal
 
@@ -29,6 +30,9 @@ returns-clause-differs c = if_ok c.complete.result (returns-clause-answer c)
 pub returns-clause-uneven : goal.returns-clause-uneven
 returns-clause-uneven c = λ u. if_ok c.complete.result (returns-clause-answer c)
     (λ a h. uneven_answer (pair_of c.args.left.now c.args.right.now c.args.children.now) c.args.limit a u h)
+
+pub returns-clause-uneven_class : goal.returns-clause-uneven_class
+returns-clause-uneven_class c = λ u. returns-clause-uneven c (uneven_class (pair_of c.args.left.now c.args.right.now c.args.children.now) u)
 
 pub returns-clause-single : goal.returns-clause-single
 returns-clause-single c = λ all few. if_ok c.complete.result (returns-clause-answer c)

@@ -9,6 +9,7 @@ returns c =
     record {
       bad = lemma.bad_gate one;
       uneven = lemma.uneven_pair one c.device_counts.ensures;
+      carried = lemma.carried_pair sides order c.pair_answers.ensures.carried;
       kept = lemma.kept_pair sides order c.pair_answers.ensures.kept;
       undecided = lemma.undecided sides order one c.verdicts.ensures.undecided;
     }
