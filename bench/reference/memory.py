@@ -1,7 +1,7 @@
 #!/usr/bin/env python3
 """Refuses each request for memory of some runs in turn.
 
-memory.py PROGRAM [--row NAME] [--most N] [--jobs N]
+memory.py PROGRAM [--row NAME] [--every N] [--jobs N]
 
 A run is made once with all the memory that it asks for, then once for each of its requests, which
 finds none.  Each must end with status 5 and neither a line nor a file, or as the first run did.
@@ -123,7 +123,6 @@ def row(name, options, shim):
     program = os.path.abspath(options.program)
     usual = ran(program, shim, words, files, 0)
     requests, kinds = usual[3], collections.Counter()
-    last = min(requests, options.most or requests)
 
     def one(number):
         found = ran(program, shim, words, files, number)
@@ -134,11 +133,11 @@ def row(name, options, shim):
         return number, "status %d, output %r, files %s" % (found[0], found[1], sorted(found[2]))
 
     with concurrent.futures.ThreadPoolExecutor(options.jobs) as pool:
-        for number, kind in pool.map(one, range(1, last + 1)):
+        for number, kind in pool.map(one, range(1, requests + 1, options.every)):
             kinds[kind] += 1
             if kind not in ("the usual answer", "status 5 and no file"):
                 print("%s, request %d: %s" % (name, number, kind), flush=True)
-    print("%s: status %d, %d requests, %s" % (name, usual[0], requests, ", ".join(
+    print("%s: status %d, %d requests, of these %s" % (name, usual[0], requests, ", ".join(
         "%d with %s" % (count, kind) for kind, count in sorted(kinds.items()))), flush=True)
     return set(kinds) <= {"the usual answer", "status 5 and no file"}
 
@@ -148,7 +147,7 @@ def main():
     parser = argparse.ArgumentParser(description=__doc__.split("\n")[0])
     parser.add_argument("program")
     parser.add_argument("--row", choices=list(ROWS), help="this run alone")
-    parser.add_argument("--most", type=int, help="the first requests alone")
+    parser.add_argument("--every", type=int, default=1, help="one of so many requests alone")
     parser.add_argument("--jobs", type=int, default=1)
     options = parser.parse_args()
     with tempfile.TemporaryDirectory(prefix="lvs-shim-") as room:
