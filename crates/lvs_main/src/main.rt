@@ -1,25 +1,40 @@
 //! The program: runs `lvs` over the system's files and standard output.
 #![tactic(auto)]
 
+ghost use Rattle.std.specs.Prelude.{◌≡◌};
+ghost use Rattle.std.specs.Process.{exit_status};
+ghost use Rattle.lvs_run.specs.Codes.{code_of};
+
 use job_board::OpenGate;
 use lvs_outside::{FileDepot, StdoutSink};
-use lvs_run::run_lvs;
-use std::env;
+use lvs_run::{Status, run_lvs};
 use std::process::ExitCode;
+use std::{env, io};
 
-const NO_MEMORY: u8 = 5;
+// What the program ends with after a run.
+fn exit_code(status: &Status) -> ExitCode
+    ensures { exit_status result ≡ code_of status.now }
+{
+    ExitCode::from(status.code())
+}
 
 fn main(rt: HostRuntime) -> ExitCode {
     let alloc = rt.alloc();
     let mut out = StdoutSink::new(&rt);
     let mut words = Vec::new(alloc);
-    // words that aren't UTF-8 state no command: then none are handed in
-    if let Ok(args) = env::args(&rt) {
-        for word in args.skip(1) {
-            if words.push(word).is_err() {
-                return ExitCode::from(NO_MEMORY);
+    match env::args(&rt) {
+        Ok(args) => {
+            for word in args.skip(1) {
+                if words.push(word).is_err() {
+                    return exit_code(&Status::NoMemory);
+                }
             }
         }
+        Err(e) if e.kind() == io::ErrorKind::OutOfMemory => {
+            return exit_code(&Status::NoMemory);
+        }
+        // words that aren't UTF-8 state no command: then none are handed in
+        Err(_) => {}
     }
     let mut depot = FileDepot::new(&rt);
     let status = run_lvs(
@@ -30,5 +45,5 @@ fn main(rt: HostRuntime) -> ExitCode {
         &mut out,
         &OpenGate,
     );
-    ExitCode::from(status.code())
+    exit_code(&status)
 }

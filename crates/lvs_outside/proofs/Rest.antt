@@ -1,10 +1,10 @@
 -- Bytes that were read one after another are the next bytes of the file.
-use Rattle.std.proofs.Common.{◌≡◌, ◌+◌, ◌≤◌, ℕ, List, [], ◌++◌, refl, sym, subst, take, drop, length, arith, ap, ◌∙◌, length-append}
-use Rattle.std.proofs.lemmas.List.{length-take-le, drop-drop}
-use Rattle.std.proofs.Math.Seq.{take-add}
+use Rattle.std.proofs.Common.{◌≡◌, ◌+◌, ◌≤◌, Ok, ℕ, List, [], ◌++◌, refl, sym, subst, take, drop, length, arith, ap, ◌∙◌, length-append}
+use Rattle.std.proofs.lemmas.List.{length-take-le, length-drop, drop-drop}
+use Rattle.std.proofs.Math.Seq.{take-add, take-length}
 use Rattle.lvs_outside.proofs.Empty.{forward_none}
 use Rattle.lvs_outside.specs.Store.{Store, Told, Untold, NoFile, Holds, Open, Closed, Reading, Writing, NextBytes, Forward, SameRest, ReadBytes}
-use Rattle.lvs_outside.specs.Loops.{IsNext, Follows}
+use Rattle.lvs_outside.specs.Loops.{IsNext, IsRest, Follows, ReadsRest, limit}
 
 next_step : (t : Told) (at n : ℕ) (xs buf : List ℕ) → n ≤ length buf → IsNext xs t at → NextBytes t (at + length xs) n buf → IsNext (xs ++ take n buf) t at
 next_step Untold at n xs buf le had next = tt
@@ -41,8 +41,8 @@ rest_on a b c h k = record {
   empty_takes = k.empty_takes ∙ h.empty_takes;
 }
 
-pub follows_step : (old mid new : Store) (n : ℕ) (xs buf : List ℕ) → Follows old mid xs → ReadBytes mid new n buf → SameRest mid new → new.faults ≡ mid.faults → Follows old new (xs ++ take n buf)
-follows_step old mid new n xs buf had read rest faults =
+pub follows_step : (old mid new : Store) (n : ℕ) (xs before buf : List ℕ) → Follows old mid xs → ReadBytes mid new before buf n → SameRest mid new → new.faults ≡ mid.faults → Follows old new (xs ++ take n buf)
+follows_step old mid new n xs before buf had read rest faults =
     let size : length (xs ++ take n buf) ≡ length xs + n = length-append xs (take n buf) ∙ ap (λ k. length xs + k) (length-take-le n buf read.fits) in
     record {
       next = step_at old.opened mid.opened old.file mid.file n xs buf had.rest.files had.opened read.fits had.next read.bytes;
@@ -65,3 +65,36 @@ follows_none s xs e =
       faults = refl;
     } in
     subst (Follows s s) (sym e) start
+
+rest_all : (t : Told) (at : ℕ) (xs buf : List ℕ) → IsNext xs t at → NextBytes t (at + length xs) 0 buf → IsRest xs t at
+rest_all Untold at xs buf had end = tt
+rest_all NoFile at xs buf had end = tt
+rest_all (Holds all) at xs buf had end =
+    let whole : at + length xs ≡ length all = end.2 refl in
+    let left = length-drop at all in
+    let size : length xs ≡ length (drop at all) = omega arith in
+    had ∙ ap (λ k. take k (drop at all)) size ∙ take-length (drop at all)
+
+rest_at : (o m : Open) (f g : List ℕ → Told) (xs buf : List ℕ) → ((p : List ℕ) → g p ≡ f p) → m ≡ Forward o (length xs)
+    → elim o as (λ _. Type 0) [ Closed ↦ Unit {0} | Reading p t ↦ IsNext xs (f p) t | Writing p t ↦ Unit {0} ]
+    → elim m as (λ _. Type 0) [ Closed ↦ ⊥ | Reading p t ↦ NextBytes (g p) t 0 buf | Writing p t ↦ ⊥ ]
+    → elim o as (λ _. Type 0) [ Closed ↦ Unit {0} | Reading p t ↦ IsRest xs (f p) t | Writing p t ↦ Unit {0} ]
+rest_at Closed m f g xs buf same e had end = tt
+rest_at (Writing p t) m f g xs buf same e had end = tt
+rest_at (Reading p t) m f g xs buf same e had end =
+    let moved = subst (λ (o : Open). elim o as (λ _. Type 0) [ Closed ↦ ⊥ | Reading p t ↦ NextBytes (g p) t 0 buf | Writing p t ↦ ⊥ ]) e end in
+    rest_all (f p) t xs buf had (subst (λ (u : Told). NextBytes u (t + length xs) 0 buf) (same p) moved)
+
+-- a read that found the end: all was read
+pub read_whole : (old mid new : Store) (n : ℕ) (xs before buf : List ℕ) → n ≡ 0 → Follows old mid xs → ReadBytes mid new before buf n → SameRest mid new → new.faults ≡ mid.faults → length xs ≤ limit → ReadsRest old new xs (Ok tt)
+read_whole old mid new n xs before buf none had some rest faults fits =
+    let read = subst (ReadBytes mid new before buf) none some in record {
+      answer = record {
+        told = rest_at old.opened mid.opened old.file mid.file xs buf had.rest.files had.opened had.next read.bytes;
+        fits = fits;
+        opened = read.opened ∙ forward_none mid.opened ∙ had.opened;
+        faults = faults ∙ had.faults;
+      };
+      next = had.next;
+      rest = rest_on old mid new had.rest rest;
+    }

@@ -8,3 +8,5 @@ pub mod Entries
 pub mod MemoryStore
 pub mod LentFiles
 pub mod QuietStore
+pub mod EndlessStore
+pub mod IdleStore

@@ -53,6 +53,7 @@ pub record Puts (old new : Store) (path bytes : List ℕ) : Type 0 where
   pub write_calls : new.write_calls ≡ old.write_calls
   pub left_open : new.left_open ≡ old.left_open
   pub faults : new.faults ≡ old.faults
+  pub empty_takes : new.empty_takes ≡ old.empty_takes
 
 -- nothing changed
 pub record Stays (old new : Store) : Type 0 where

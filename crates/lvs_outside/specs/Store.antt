@@ -147,15 +147,22 @@ abbrev pub TakesNext : Store → ℕ → List ℕ → Type 0
 TakesNext old n buf =
     elim old.opened [ Closed ↦ ⊥ | Reading p t ↦ NextBytes (old.file p) t n buf | Writing p t ↦ ⊥ ]
 
-pub record ReadBytes (old new : Store) (n : ℕ) (buf : List ℕ) : Type 0 where
+pub record ReadBytes (old new : Store) (before buf : List ℕ) (n : ℕ) : Type 0 where
   pub fits : n ≤ length buf
   pub bytes : TakesNext old n buf
+  pub behind : drop n buf ≡ drop n before
   pub opened : new.opened ≡ Forward old.opened n
 
--- `read`: fills the front of the buffer with the next bytes and answers their number
-pub record Reads {E : Type 0} (old new : Store) (buf : List ℕ) (result : Result ℕ E) : Type 0 where
-  pub ok : IfOk result (λ n. ReadBytes old new n buf)
-  pub err : OnErr result (new.opened ≡ old.opened)
+pub record NotRead (old new : Store) (before buf : List ℕ) : Type 0 where
+  pub buffer : buf ≡ before
+  pub opened : new.opened ≡ old.opened
+
+-- `read`: fills the front of the buffer with the next bytes, answers their number, and leaves the
+-- buffer behind them as it was before
+pub record Reads {E : Type 0} (old new : Store) (before buf : List ℕ)
+    (result : Result ℕ E) : Type 0 where
+  pub ok : IfOk result (ReadBytes old new before buf)
+  pub err : OnErr result (NotRead old new before buf)
   pub rest : SameRest old new
   pub cause : HasCause old.faults new.faults result
 

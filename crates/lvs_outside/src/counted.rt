@@ -50,7 +50,7 @@ impl<D: Depot> Depot for Counted<'_, D> {
         requires buffer { 0 < length buf.old }
         ensures same_reference { self.new.inner.ghost_name ≡ self.old.inner.ghost_name }
         ensures reads { Reads (counted (D.state self.old.inner.now))
-            (counted (D.state self.new.inner.now)) buf.new result }
+            (counted (D.state self.new.inner.now)) buf.old buf.new result }
     {
         self.inner.read(buf)
     }

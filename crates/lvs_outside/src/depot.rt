@@ -26,12 +26,12 @@ pub trait Depot {
         ensures { OpensRead (state self.old) (state self.new) path.now result };
 
     /// Fills the front of the buffer with the next bytes of the open file and answers their number:
-    /// 0 is the end.
+    /// 0 is the end. The buffer behind them, and all of it where the read failed, is as it was.
     fn read(&mut self, buf: &mut [u8]) -> Result<usize, Failed>
         requires room { HasRoom (state self.old) }
         requires open { IsReading (state self.old).opened }
         requires buffer { 0 < length buf.old }
-        ensures { Reads (state self.old) (state self.new) buf.new result };
+        ensures { Reads (state self.old) (state self.new) buf.old buf.new result };
 
     /// Makes the path's file empty and opens it for writing. It closes what was open.
     fn start_write(&mut self, path: &str) -> Result<(), Failed>

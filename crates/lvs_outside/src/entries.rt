@@ -1,7 +1,7 @@
 //! Files in memory, by path.
 
 ghost use Rattle.std.specs.Prelude.{◌≡◌, ◌+◌, ◌^◌, ◌<◌, ◌≤◌, List, ℕ, length, IfOk, OnOk, OnErr};
-ghost use Rattle.std.specs.Prelude.{IsTrue, MatchOption, vec_len};
+ghost use Rattle.std.specs.Prelude.{IsTrue, MatchOption, drop, vec_len};
 ghost use Rattle.lvs_outside.specs.Store.{NoFile, Holds, NextBytes, appended};
 ghost use Rattle.lvs_outside.specs.Entries.{told, is_file_of, one_if_open, Goes, IsSet};
 ghost use Rattle.lvs_outside.specs.Token.{count_of};
@@ -86,12 +86,13 @@ pub fn append(files: &mut Vec<Entry>, number: usize, piece: &[u8]) -> Result<(),
 }
 
 // Copies the bytes from a place on into the buffer's front, as many as fit, and answers their
-// number.
+// number. The buffer behind them stays.
 pub fn copy_next(from: &[u8], at: usize, buf: &mut [u8]) -> usize
     requires start { at ≤ length from.now }
     requires buffer { 0 < length buf.old }
     ensures fits { result ≤ length buf.new }
     ensures next { NextBytes (Holds from.now) at result buf.new }
+    ensures behind { drop result buf.new ≡ drop result buf.old }
     ensures place { at + result < 2 ^ 64 }
 {
     let rest = &from[at..];

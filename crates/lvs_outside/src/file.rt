@@ -1,23 +1,59 @@
 //! The store over std's files.
 
-ghost use Rattle.std.specs.Prelude.{◌≡◌, ◌+◌, ℕ, List, []};
+ghost use Rattle.std.specs.Prelude.{◌≡◌, ◌+◌, ◌≤◌, ℕ, List, [], length, drop, IfOk, OnErr};
 
 use crate::counted::is_empty_take;
 use crate::token::{Bytes, Count, bytes_token, none, raise};
 use crate::{Depot, Failed};
+use std::fs::OpenFile;
 use std::io::{Read, Write};
 use std::rt::Files;
 use std::snapshot::Snapshot;
 use std::{fs, io};
 
+// The most bytes of one read.
+const PIECE: usize = 4096;
+
+/// What is open, and what it is held by.
 #[derive(Drop)]
-enum Handle<F> {
+pub enum Handle<F> {
     Closed,
     Reading(F),
     Writing(F),
 }
 
-/// The files of the system. It tells nothing of their contents.
+// Reads into the buffer's front by way of a piece of its own: what is behind the bytes read, and all
+// of the buffer where the read failed, stays whatever the file does with the piece.
+fn read_front<F: Read>(file: &mut F, buf: &mut [u8]) -> Result<usize, Failed>
+    ensures fits { IfOk result (λ n. n ≤ length buf.new) }
+    ensures behind { IfOk result (λ n. drop n buf.new ≡ drop n buf.old) }
+    ensures err { OnErr result (buf.new ≡ buf.old) }
+{
+    let mut piece = [0u8; PIECE];
+    let room = buf.len().min(PIECE);
+    match file.read(&mut piece[..room]) {
+        Ok(count) => {
+            buf[..count].copy_from_slice(&piece[..count]);
+            Ok(count)
+        }
+        Err(_) => Err(Failed),
+    }
+}
+
+// Hands on all that was written, and answers whether the system has it: an error that the system
+// holds back until the file is closed comes here. A pipe or a device, which has no such call, has it.
+fn is_handed_on<F: Write + OpenFile>(file: &mut F) -> bool {
+    if file.flush().is_err() {
+        return false;
+    }
+    match file.sync_data() {
+        Ok(()) => true,
+        Err(e) => e.kind() == io::ErrorKind::InvalidInput,
+    }
+}
+
+/// The files of the system. It tells nothing of their contents. A read takes at most 4,096 bytes. A
+/// file is finished once the system has it: what the disk refused late is a fault too.
 #[derive(Drop)]
 pub struct FileDepot<'a, R: Files> {
     rt: &'a R,
@@ -95,7 +131,7 @@ impl<R: Files> Depot for FileDepot<'_, R> {
 
     fn read(&mut self, buf: &mut [u8]) -> Result<usize, Failed> {
         if let Handle::Reading(file) = &mut self.handle {
-            if let Ok(count) = file.read(buf) {
+            if let Ok(count) = read_front(file, buf) {
                 raise(&mut self.moved, count);
                 return Ok(count);
             }
@@ -138,7 +174,7 @@ impl<R: Files> Depot for FileDepot<'_, R> {
 
     fn finish_write(&mut self) -> Result<(), Failed> {
         if let Handle::Writing(file) = &mut self.handle {
-            if file.flush().is_ok() {
+            if is_handed_on(file) {
                 self.handle = Handle::Closed;
                 return Ok(());
             }

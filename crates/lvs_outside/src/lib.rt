@@ -3,8 +3,10 @@
 
 mod counted;
 mod depot;
+mod endless;
 mod entries;
 mod file;
+mod idle;
 mod lent;
 pub mod loops;
 mod memory;
@@ -18,7 +20,9 @@ mod token;
 
 pub use counted::Counted;
 pub use depot::{Depot, Failed};
+pub use endless::EndlessDepot;
 pub use file::FileDepot;
+pub use idle::IdleDepot;
 pub use loops::{LIMIT, ReadFault, read_rest, write_all, write_file, write_whole};
 pub use memory::MemoryDepot;
 pub use memory_sink::MemorySink;

@@ -127,7 +127,8 @@ impl Depot for MemoryDepot {
         requires room { HasRoom (memory_store self.old) }
         requires open { IsReading (memory_store self.old).opened }
         requires buffer { 0 < length buf.old }
-        ensures reads { Reads (memory_store self.old) (memory_store self.new) buf.new result }
+        ensures reads { Reads (memory_store self.old) (memory_store self.new) buf.old buf.new
+            result }
         ensures numbered { IsNumbered (schedule_of self.old) (schedule_of self.new) result }
         ensures refused { (schedule_of self.new).refused ≡ (schedule_of self.old).refused }
     {

@@ -133,7 +133,8 @@ impl Depot for QuietDepot<'_> {
     fn read(&mut self, buf: &mut [u8]) -> Result<usize, Failed>
         requires open { IsReading (quiet_store self.old).opened }
         requires buffer { 0 < length buf.old }
-        ensures reads { Reads (quiet_store self.old) (quiet_store self.new) buf.new result }
+        ensures reads { Reads (quiet_store self.old) (quiet_store self.new) buf.old buf.new
+            result }
         ensures never_fails { IsOk result }
         ensures sink { quiet_sink self.new ≡ quiet_sink self.old }
         ensures taken { taken_by self.new ≡ taken_by self.old }

@@ -94,52 +94,61 @@ fn refused_rules(rt: HostRuntime) -> Result<(), Fail> {
     Ok(())
 }
 
-// The first fault of a stream, with its record and its offset.
+// The records of the overlapping rectangles' stream: where each begins and where it ends.
+const RECORDS: [(usize, usize); 18] = [
+    (0, 6),
+    (6, 34),
+    (34, 40),
+    (40, 60),
+    (60, 88),
+    (88, 94),
+    (94, 98),
+    (98, 104),
+    (104, 110),
+    (110, 154),
+    (154, 158),
+    (158, 162),
+    (162, 168),
+    (168, 174),
+    (174, 218),
+    (218, 222),
+    (222, 226),
+    (226, 230),
+];
+
+// Each front of the stream is refused with the record that it is cut in.
 #[test]
-fn refused_streams(rt: HostRuntime) -> Result<(), Fail> {
+fn every_cut(rt: HostRuntime) -> Result<(), Fail> {
     let alloc = rt.alloc();
     let layout = stream(alloc, &OVERLAP)?;
     assert_eq!(rt; layout.len(), 230);
-    refuses(
-        &rt,
-        alloc,
-        front(&layout, 120),
-        RULES,
-        &SHAPES,
-        "refused layout 1 record 9 offset 110\n",
-    )?;
-    refuses(
-        &rt,
-        alloc,
-        front(&layout, 226),
-        RULES,
-        &SHAPES,
-        "refused layout 1 record 17 offset 226\n",
-    )?;
-    refuses(
-        &rt,
-        alloc,
-        &[],
-        RULES,
-        &SHAPES,
-        "refused layout 1 record 0 offset 0\n",
-    )?;
+    for (record, (start, end)) in RECORDS.into_iter().enumerate() {
+        let line = format!(in alloc; "refused layout 1 record {record} offset {start}\n")?;
+        for at in start..end {
+            refuses(&rt, alloc, front(&layout, at), RULES, &SHAPES, &line)?;
+        }
+    }
     Ok(())
 }
 
-// An edge that is neither upright nor level is refused with the record of its points: the second
-// or the last edge of the first outline, then the second edge of the other.
+// One byte of the stream is another: an edge that is neither upright nor level (the second or the
+// last of the first outline, the second of the other), a length that is odd or too short, a form
+// that isn't the kind's, the end of a cell within an element.
 #[test]
-fn slanted_edge(rt: HostRuntime) -> Result<(), Fail> {
+fn false_records(rt: HostRuntime) -> Result<(), Fail> {
     let alloc = rt.alloc();
     let layout = stream(alloc, &OVERLAP)?;
-    for (place, line) in [
-        (137, "refused layout 6 record 9 offset 110\n"),
-        (145, "refused layout 6 record 9 offset 110\n"),
-        (201, "refused layout 6 record 14 offset 174\n"),
+    for (place, byte, line) in [
+        (137, 11, "refused layout 6 record 9 offset 110\n"),
+        (145, 16, "refused layout 6 record 9 offset 110\n"),
+        (201, 16, "refused layout 6 record 14 offset 174\n"),
+        (111, 0x2D, "refused layout 2 record 9 offset 110\n"),
+        (111, 0x02, "refused layout 2 record 9 offset 110\n"),
+        (9, 0x00, "refused layout 5 record 1 offset 6\n"),
+        (156, 0x07, "refused layout 4 record 10 offset 154\n"),
     ] {
-        let slanted = with_byte(alloc, &layout, place, 16)?;
-        refuses(&rt, alloc, &slanted, RULES, &SHAPES, line)?;
+        let changed = with_byte(alloc, &layout, place, byte)?;
+        refuses(&rt, alloc, &changed, RULES, &SHAPES, line)?;
     }
     Ok(())
 }
@@ -350,5 +359,6 @@ fn each_call_fails(rt: HostRuntime) -> Result<(), Fail> {
     )?;
     assert_eq!(rt; run.code, 4);
     assert_eq!(rt; run.line.len(), 0);
+    assert_eq!(rt; run.shapes, Some(stream(alloc, &[(10, 5, 5, 10, 10)])?));
     Ok(())
 }

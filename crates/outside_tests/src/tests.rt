@@ -3,12 +3,25 @@
 ghost use Rattle.std.specs.Prelude.{◌≡◌, []};
 ghost use Rattle.lvs_outside.specs.Store.{HasRoom};
 
+use crate::broken::{Broken, Fault};
 use lvs_outside::{
-    Depot, Failed, FileDepot, MemoryDepot, MemorySink, QuietDepot, ReadFault, Sink, StdoutSink,
-    read_rest, write_all, write_file,
+    Depot, EndlessDepot, Failed, FileDepot, IdleDepot, MemoryDepot, MemorySink, QuietDepot,
+    ReadFault, Sink, StdoutSink, read_rest, write_all, write_file,
 };
 use std::fs;
 use std::test::Fail;
+
+// Reads a file, where there is one.
+fn read_back<D: Depot>(depot: &mut D, path: &str, back: &mut Vec<u8>) -> Result<bool, ReadFault>
+    requires room { HasRoom (D.state depot.old) }
+    requires fresh { back.old.items ≡ [] }
+{
+    if !depot.open_read(path)? {
+        return Ok(false);
+    }
+    read_rest(depot, back)?;
+    Ok(true)
+}
 
 // Writes a file and reads it back.
 fn write_and_read<D: Depot>(
@@ -21,11 +34,7 @@ fn write_and_read<D: Depot>(
     requires fresh { back.old.items ≡ [] }
 {
     write_file(depot, path, text)?;
-    if !depot.open_read(path)? {
-        return Ok(false);
-    }
-    read_rest(depot, back)?;
-    Ok(true)
+    read_back(depot, path, back)
 }
 
 #[test]
@@ -43,7 +52,7 @@ fn file_depot_keeps_a_file(rt: HostRuntime) -> Result<(), Fail> {
 }
 
 // A folder that isn't there: the file can't be started, and none is found. A full device takes no
-// byte.
+// byte, another takes all. A folder is opened, and can't be read.
 #[test]
 fn file_depot_fails(rt: HostRuntime) -> Result<(), Fail> {
     let alloc = rt.alloc();
@@ -53,6 +62,32 @@ fn file_depot_fails(rt: HostRuntime) -> Result<(), Fail> {
     assert_eq!(rt; answer, Err(ReadFault::Failed));
     assert_eq!(rt; FileDepot::new(&rt).open_read(path), Ok(false));
     assert!(rt; write_file(&mut FileDepot::new(&rt), "/dev/full", b"GDS").is_err());
+    assert!(rt; write_file(&mut FileDepot::new(&rt), "/dev/null", b"GDS").is_ok());
+    let answer = read_back(&mut FileDepot::new(&rt), ".", &mut back);
+    assert_eq!(rt; answer, Err(ReadFault::Failed));
+    Ok(())
+}
+
+// What is told by any call on a file is told by the depot: a read, a write, what was held back until
+// the file is flushed or synced. A device can't be synced.
+#[test]
+fn file_depot_tells_each_fault(rt: HostRuntime) -> Result<(), Fail> {
+    let alloc = rt.alloc();
+    for (fault, is_written, read) in [
+        (Fault::None, true, Ok(true)),
+        (Fault::Read, true, Err(ReadFault::Failed)),
+        (Fault::Write, false, Ok(true)),
+        (Fault::Flush, false, Ok(true)),
+        (Fault::Sync, false, Ok(true)),
+        (Fault::NoSync, true, Ok(true)),
+    ] {
+        let files = Broken { fault };
+        let mut back = Vec::new(alloc);
+        let written = write_file(&mut FileDepot::new(&files), "a", b"GDS");
+        assert_eq!(rt; written.is_ok(), is_written, "{fault:?}");
+        let answer = read_back(&mut FileDepot::new(&files), "a", &mut back);
+        assert_eq!(rt; answer, read, "{fault:?}");
+    }
     Ok(())
 }
 
@@ -116,6 +151,33 @@ fn memory_sink_fails_where_it_is_told(rt: HostRuntime) -> Result<(), Fail> {
         assert_eq!(rt; done.is_ok(), number == 2);
         assert_eq!(rt; out.bytes(), want.as_bytes());
         assert_eq!(rt; out.refused(), 0);
+    }
+    Ok(())
+}
+
+// Any file is there, each buffer is filled, and each write is taken whole.
+#[test]
+fn endless_depot_has_no_end(rt: HostRuntime) {
+    let mut depot = EndlessDepot::new();
+    assert!(rt; write_file(&mut depot, "a", b"abc").is_ok());
+    assert_eq!(rt; depot.open_read("b"), Ok(true));
+    let mut buf = [1; 3];
+    assert_eq!(rt; depot.read(&mut buf), Ok(3));
+    assert_eq!(rt; buf, [0; 3]);
+}
+
+// What was put is read, a piece isn't taken, and an empty one is no fault.
+#[test]
+fn idle_depot_takes_nothing(rt: HostRuntime) -> Result<(), Fail> {
+    let alloc = rt.alloc();
+    for (text, is_written) in [("abc", false), ("", true)] {
+        let mut depot = IdleDepot::new(alloc);
+        let mut back = Vec::new(alloc);
+        depot.put(alloc, "a", b"one")?;
+        assert_eq!(rt; read_back(&mut depot, "a", &mut back), Ok(true));
+        assert_eq!(rt; back.as_slice(), b"one".as_slice());
+        let written = write_file(&mut depot, "b", text.as_bytes());
+        assert_eq!(rt; written.is_ok(), is_written);
     }
     Ok(())
 }

@@ -43,6 +43,7 @@ returns-clause-reads c =
       ok = record {
         fits = c.copy_next-count.ensures.fits;
         bytes = reads_next files.items path c.args.self.now.place c.in-Reading.number c.in-Reading.at written c.copy_next-count.result c.copy_next-count.new.buf c.index.result.now c.in-Reading.is first next;
+        behind = c.copy_next-count.ensures.behind;
         opened = ap (λ (o : Place). Forward (open_at o path written) c.copy_next-count.result) (sym c.in-Reading.is);
       };
       err = tt;

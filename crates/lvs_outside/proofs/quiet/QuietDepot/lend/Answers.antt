@@ -12,4 +12,5 @@ returns-clause-ok c = record {
   write_calls = refl;
   left_open = search rules;
   faults = refl;
+  empty_takes = refl;
 }
