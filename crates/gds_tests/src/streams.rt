@@ -78,7 +78,7 @@ pub(crate) const KLAYOUT: &str =
 
 /// What stands first in a structure, the number of the fault that its last record gives, and that
 /// record's index and offset.
-pub(crate) const FAULTS: [(&str, &str, u8, u64, u64); 56] = [
+pub(crate) const FAULTS: [(&str, &str, u8, u64, u64); 58] = [
     (
         "slanted edge",
         "00040800 00060D020001 00060E020000 \
@@ -384,6 +384,22 @@ pub(crate) const FAULTS: [(&str, &str, u8, u64, u64); 56] = [
         4,
         10,
         122,
+    ),
+    (
+        "second point of a text",
+        "00040C00 00060D020001 000616020000 000C10030000000100000002 000C10030000000100000002",
+        4,
+        10,
+        122,
+    ),
+    (
+        "second points of a box",
+        "00042D00 00060D020001 00062E020000 \
+        002C10030000000000000000000000000000000A0000000A0000000A0000000A000000000000000000000000 \
+        000C10030000000000000000",
+        4,
+        10,
+        154,
     ),
     (
         "node without points",
