@@ -14,8 +14,9 @@ use Rattle.gds_grammar.specs.Order.{kinds_of, can_go_on}
 use Rattle.gds_grammar.proofs.GrammarLaw.{grammar_law}
 use Rattle.gds_elements.specs.Bounds.{is_start, is_bound}
 use Rattle.gds_elements.specs.Data.{is_empty, columns_in, rows_in, is_count}
-use Rattle.gds_elements.specs.Meaning.{Ref, Cell, Library, opened, last_kind, part, columns_of, rows_of, is_cell_bound, single, array, refs_by, open_refs, refs_of, open_cells, cells_of}
-use Rattle.gds_elements.specs.Faults.{is_second_points, is_plain, content_fault, fault_of, Passes}
+use Rattle.gds_elements.specs.Meaning.{Ref, Cell, Library, opened, open_points, part, columns_of, rows_of, is_cell_bound, single, array, refs_by, open_refs, refs_of, open_cells, cells_of}
+use Rattle.gds_elements.specs.Faults.{content_fault, fault_of, Passes}
+use Rattle.gds_elements.proofs.Passing.{passed}
 use Rattle.gds_elements.specs.Placeable.{HasPlacements, ArePlaceable, PlaceableLaw}
 
 -- ---- texts of the grammar: behind an AREF no element ends before a COLROW
@@ -201,16 +202,8 @@ libraries =
 
 -- ---- records
 
-passed_on : (s a b : Bool) (c : Option ℕ) → cond s (Some 14) (cond (not a) (Some 4) (cond (not b) (Some 5) c)) ≡ None → (a ≡ true) × (c ≡ None)
-passed_on true a b c e = absurd cc
-passed_on false false b c e = absurd cc
-passed_on false true false c e = absurd cc
-passed_on false true true c e = (refl, e)
-
-tests : (before : Records) (r : Rec) → fault_of before r ≡ None → (can_go_on before r.kind ≡ true) × (content_fault (opened before) (columns_of before) (rows_of before) r.kind r.body ≡ None)
-tests before r h =
-    passed_on (is_second_points (opened before) (last_kind before) r.kind) (can_go_on before r.kind) (is_plain r.kind r.form r.body)
-    (content_fault (opened before) (columns_of before) (rows_of before) r.kind r.body) h
+tests : (before : Records) (r : Rec) → fault_of before r ≡ None → (can_go_on before r.kind ≡ true) × (content_fault (opened before) (open_points before) (columns_of before) (rows_of before) r.kind r.body ≡ None)
+tests before r h = let p = passed before r h in (p.in_order, p.sound)
 
 not_awaited : (w : Bool) (rest : List ℕ) → is_kept w (0x11 ∷ rest) ≡ true → w ≡ false
 not_awaited true rest e = absurd cc
@@ -235,9 +228,9 @@ colrow_test : (a : Bool) (n : ℕ) → cond a None (Some n) ≡ None → a ≡ t
 colrow_test true n e = refl
 colrow_test false n e = absurd cc
 
-colrow_counts : (start columns rows kind : ℕ) (body : List ℕ) → kind ≡ COLROW → content_fault start columns rows kind body ≡ None → AreCounts (columns_in body) (rows_in body)
-colrow_counts start columns rows kind body e h =
-    let t = both _ _ (colrow_test (is_count (columns_in body) && is_count (rows_in body)) 12 (subst (λ (k : ℕ). content_fault start columns rows k body ≡ None) e h)) in
+colrow_counts : (start : ℕ) (so_far : List Point) (columns rows kind : ℕ) (body : List ℕ) → kind ≡ COLROW → content_fault start so_far columns rows kind body ≡ None → AreCounts (columns_in body) (rows_in body)
+colrow_counts start so_far columns rows kind body e h =
+    let t = both _ _ (colrow_test (is_count (columns_in body) && is_count (rows_in body)) 12 (subst (λ (k : ℕ). content_fault start so_far columns rows k body ≡ None) e h)) in
     record { columns_some = counted (columns_in body) t.0; rows_some = counted (rows_in body) t.1 }
 
 -- an open array that isn't awaited has its columns and rows
@@ -279,7 +272,7 @@ open_counts : (rs : Records) → Passes rs → awaits_all false (kinds_of rs) �
 open_counts NoRecords p e o = absurd cc
 open_counts (before ▸ r) p e o =
     counts_by r.kind (opened before) (awaits_all false (kinds_of before)) (r.kind == COLROW) (r.kind == 0x0B) (is_bound r.kind) (is_start r.kind) (r.kind == ENDEL) r.body (part COLROW before)
-    (λ k. colrow_counts (opened before) (columns_of before) (rows_of before) r.kind r.body (eqb-true _ _ k) (tests before r p.2).1)
+    (λ k. colrow_counts (opened before) (open_points before) (columns_of before) (rows_of before) r.kind r.body (eqb-true _ _ k) (tests before r p.2).1)
     (aref_is r.kind) (λ s k. not_aref r.kind k) (neither (is_start r.kind) (r.kind == ENDEL)) (second (is_start r.kind) (r.kind == ENDEL))
     (open_counts before p.0) (sym (awaits_append false (kinds_of before) (r.kind ∷ [])) ∙ e) o
 

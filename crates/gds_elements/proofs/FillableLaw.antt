@@ -1,5 +1,5 @@
 -- The shapes of accepted bytes can be filled.
-use Rattle.std.proofs.Common.{◌≡◌, ℕ, suc, ◌-◌, ◌<◌, ℤ, pos, negsuc, Bool, true, false, cond, List, [], ◌∷◌, ◌++◌, length, Option, Some, None, refl, sym, ap, subst, ◌∙◌, arith}
+use Rattle.std.proofs.Common.{◌≡◌, ◌⊎◌, inl, inr, ℕ, suc, ◌-◌, ◌<◌, ℤ, pos, negsuc, Bool, true, false, cond, List, [], ◌∷◌, ◌++◌, length, Option, Some, None, refl, sym, ap, subst, ◌∙◌, arith}
 use Rattle.std.specs.Prelude.{◌==◌, ◌||◌, ◌&&◌, ◌^◌, ◌%◌, not, nat_lt, nat_le, get_or, fold}
 use Rattle.std.specs.Int.{w32, cast_signed, int_min, int_max}
 use Rattle.std.specs.List.{All, AllByRecursion as ByRecursion}
@@ -12,12 +12,13 @@ use Rattle.geo_base.specs.declared.layer.LayerKey.{LayerKey}
 use Rattle.geo_base.specs.Near.{IsLong, IsLongPoint, IsLongRect}
 use Rattle.geo_base.specs.Outlines.{IsClosed, last_from}
 use Rattle.gds_records.specs.Records.{Rec, Records, NoRecords, ◌▸◌}
-use Rattle.gds_grammar.specs.Order.{can_go_on}
 use Rattle.gds_records.specs.Kinds.{BOUNDARY, PATH, BOX, WIDTH, XY, ENDEL, ENDSTR, PATHTYPE, BGNEXTN, ENDEXTN}
-use Rattle.gds_elements.specs.Bounds.{is_start, is_bound}
+use Rattle.gds_elements.specs.Bounds.{is_start, is_line, is_bound}
 use Rattle.gds_elements.specs.Data.{number, coordinate, long, origin, points_of, is_same, first_of, last_of, is_closed, widened, hull, has_area}
-use Rattle.gds_elements.specs.Meaning.{Boundary, Path, Box, Shape, Cell, Library, opened, last_kind, columns_of, rows_of, part, is_cell_bound, key_of, half_of, beyond, box_form, shapes_by, open_shapes, open_points, shapes_of, open_cells, cells_of}
-use Rattle.gds_elements.specs.Faults.{is_second_points, is_plain, outline_fault, points_fault, array_fault, or_else, content_fault, fault_of, Passes}
+use Rattle.gds_elements.specs.Meaning.{Boundary, Path, Box, Shape, Cell, Library, opened, last_kind, columns_of, rows_of, part, is_cell_bound, key_of, half_of, beyond, box_form, shapes_by, gathered, open_shapes, open_points, shapes_of, open_cells, cells_of}
+use Rattle.gds_elements.specs.Faults.{are_complete, outline_fault, points_fault, content_fault, Passes}
+use Rattle.gds_elements.proofs.Lines.{neither, xy_none}
+use Rattle.gds_elements.proofs.Passing.{passed}
 use Rattle.gds_elements.specs.Fillable.{IsFillable, AreFillable, FillableLaw}
 
 -- ---- numbers of four bytes
@@ -51,9 +52,6 @@ points_by (a ∷ b ∷ c ∷ d ∷ e ∷ []) = tt
 points_by (a ∷ b ∷ c ∷ d ∷ e ∷ f ∷ []) = tt
 points_by (a ∷ b ∷ c ∷ d ∷ e ∷ f ∷ g ∷ []) = tt
 points_by (a ∷ b ∷ c ∷ d ∷ e ∷ f ∷ g ∷ h ∷ rest) = (record { x = four_long _; y = four_long _ }, points_by rest)
-
-points_long : (bytes : List ℕ) → All IsLongPoint (points_of bytes)
-points_long bytes = All-from_recursion IsLongPoint (points_of bytes) (points_by bytes)
 
 same_point : (p q : Point) → is_same p q ≡ true → p ≡ q
 same_point p q h =
@@ -90,10 +88,6 @@ hull_long ps h = let f = first_long ps h in widened_long _ ps (record { x1 = f.x
 
 -- ---- the open element's points
 
--- a boundary's or a box's points are closed
-abbrev IsOpenOutline : ℕ → List Point → Type 0
-IsOpenOutline start points = (start ≡ BOUNDARY → IsClosed points) × (start ≡ BOX → IsClosed points)
-
 both_first : (a b : Bool) → (a && b) ≡ true → b ≡ true
 both_first true b h = h
 both_first false b h = cc
@@ -102,60 +96,88 @@ outline_true : (fits : Bool) (points : List Point) → outline_fault fits points
 outline_true true points h = refl
 outline_true false points h = cc
 
-first_none : (a b : Option ℕ) → or_else a b ≡ None → a ≡ None
-first_none None b h = refl
-first_none (Some n) b h = cc
+-- each of them is long
+long_both : (xs ys : List Point) → ByRecursion IsLongPoint xs → ByRecursion IsLongPoint ys → ByRecursion IsLongPoint (xs ++ ys)
+long_both [] ys f g = g
+long_both (x ∷ xs) ys f g = (f.0, long_both xs ys f.1 g)
 
-boundary_closed : (whole : Bool) (points : List Point) → points_fault BOUNDARY whole points ≡ None → is_closed points ≡ true
-boundary_closed whole points h = both_first (whole && nat_le 4 (length points)) (is_closed points) (outline_true (whole && nat_le 4 (length points) && is_closed points) points h)
+long_by : (bound xy line : Bool) (so_far points : List Point) → ByRecursion IsLongPoint so_far → ByRecursion IsLongPoint points
+    → ByRecursion IsLongPoint (cond bound [] (cond xy (cond line (so_far ++ points) points) so_far))
+long_by true xy line so_far points f g = tt
+long_by false true true so_far points f g = long_both so_far points f g
+long_by false true false so_far points f g = g
+long_by false false line so_far points f g = f
 
-box_closed : (whole : Bool) (points : List Point) → points_fault BOX whole points ≡ None → is_closed points ≡ true
-box_closed whole points h = both_first (whole && length points == 5) (is_closed points) (outline_true (whole && length points == 5 && is_closed points) points h)
+open_long : (rs : Records) → ByRecursion IsLongPoint (open_points rs)
+open_long NoRecords = tt
+open_long (before ▸ r) = long_by (is_bound r.kind) (r.kind == XY) (is_line (opened before)) (open_points before) (points_of r.body) (open_long before) (points_by r.body)
 
-tested : (a b c : Bool) (d : Option ℕ) → cond a (Some 14) (cond (not b) (Some 4) (cond (not c) (Some 5) d)) ≡ None → d ≡ None
-tested true b c d h = cc
-tested false false c d h = cc
-tested false true false d h = cc
-tested false true true d h = h
+-- a box's points are closed
+abbrev IsOpenBox : ℕ → List Point → Type 0
+IsOpenBox start points = start ≡ BOX → IsClosed points
 
-content_none : (before : Records) (r : Rec) → fault_of before r ≡ None → content_fault (opened before) (columns_of before) (rows_of before) r.kind r.body ≡ None
-content_none before r h =
-    tested (is_second_points (opened before) (last_kind before) r.kind) (can_go_on before r.kind) (is_plain r.kind r.form r.body)
-    (content_fault (opened before) (columns_of before) (rows_of before) r.kind r.body) h
+box_closed : (whole : Bool) (so_far points : List Point) → points_fault BOX whole so_far points ≡ None → is_closed points ≡ true
+box_closed whole so_far points h = both_first (whole && length points == 5) (is_closed points) (outline_true (whole && length points == 5 && is_closed points) points h)
 
-xy_none : (start columns rows kind : ℕ) (body : List ℕ) → kind ≡ XY → content_fault start columns rows kind body ≡ None → points_fault start ((length body % 8) == 0) (points_of body) ≡ None
-xy_none start columns rows kind body e h =
-    first_none _ (array_fault start columns rows body) (subst (λ (k : ℕ). content_fault start columns rows k body ≡ None) e h)
+xy_box : (start : ℕ) (so_far : List Point) (columns rows kind : ℕ) (body : List ℕ) → kind ≡ XY → content_fault start so_far columns rows kind body ≡ None → IsOpenBox start (gathered start so_far (points_of body))
+xy_box start so_far columns rows kind body e h is =
+    let f = xy_none start so_far columns rows kind body e h in
+    let c = closed (points_of body) (box_closed ((length body % 8) == 0) so_far (points_of body) (subst (λ (k : ℕ). points_fault k ((length body % 8) == 0) so_far (points_of body) ≡ None) is f)) in
+    subst (λ (k : ℕ). IsClosed (gathered k so_far (points_of body))) (sym is) c
 
-xy_outline : (start columns rows kind : ℕ) (body : List ℕ) → kind ≡ XY → content_fault start columns rows kind body ≡ None → IsOpenOutline start (points_of body)
-xy_outline start columns rows kind body e h =
-    let f = xy_none start columns rows kind body e h in (
-      λ s. closed (points_of body) (boundary_closed ((length body % 8) == 0) (points_of body) (subst (λ (k : ℕ). points_fault k ((length body % 8) == 0) (points_of body) ≡ None) s f)),
-      λ s. closed (points_of body) (box_closed ((length body % 8) == 0) (points_of body) (subst (λ (k : ℕ). points_fault k ((length body % 8) == 0) (points_of body) ≡ None) s f)),
+-- by the last record: it is a bound, or has points, or is another
+box_by : (bound xy start end : Bool) (kind old : ℕ) (points so_far : List Point) → (bound ≡ false → (start ≡ false) × (end ≡ false))
+    → (xy ≡ true → IsOpenBox old points) → IsOpenBox old so_far
+    → IsOpenBox (cond start kind (cond end 0 old)) (cond bound [] (cond xy points so_far))
+box_by true xy start end kind old points so_far g h i = λ _. tt
+box_by false true start end kind old points so_far g h i =
+    let e = g refl in subst (λ (s : ℕ). IsOpenBox s points) (sym (ap (λ (b : Bool). cond b kind (cond end 0 old)) e.0 ∙ ap (λ (b : Bool). cond b 0 old) e.1)) (h refl)
+box_by false false start end kind old points so_far g h i =
+    let e = g refl in subst (λ (s : ℕ). IsOpenBox s so_far) (sym (ap (λ (b : Bool). cond b kind (cond end 0 old)) e.0 ∙ ap (λ (b : Bool). cond b 0 old) e.1)) i
+
+open_box : (rs : Records) → Passes rs → IsOpenBox (opened rs) (open_points rs)
+open_box NoRecords p = λ _. tt
+open_box (before ▸ r) p =
+    box_by (is_bound r.kind) (r.kind == XY) (is_start r.kind) (r.kind == ENDEL) r.kind (opened before) (gathered (opened before) (open_points before) (points_of r.body)) (open_points before) (neither (is_start r.kind) (r.kind == ENDEL))
+    (λ e. xy_box (opened before) (open_points before) (columns_of before) (rows_of before) r.kind r.body (eqb-true _ _ e) (passed before r p.2).sound) (open_box before p.0)
+
+-- a boundary's points are closed where no more of them may come
+abbrev IsOver : Bool → Bool → Type 0
+IsOver xy outline = (xy ≡ false) ⊎ (outline ≡ true)
+
+over : (last xy outline : Bool) → ((last && not xy) && not outline) ≡ false → xy ≡ false → IsOver last outline
+over false xy outline h e = inl refl
+over true true outline h e = absurd cc
+over true false true h e = inr refl
+over true false false h e = absurd cc
+
+outline_closed : (start : ℕ) (points : List Point) → start ≡ BOUNDARY → are_complete start points ≡ true → IsClosed points
+outline_closed start points e h = closed points (both_first (nat_le 4 (length points)) (is_closed points) (subst (λ (k : ℕ). are_complete k points ≡ true) e h))
+
+boundary_by : (bound xy start end : Bool) (kind old : ℕ) (points so_far : List Point) → (bound ≡ false → (start ≡ false) × (end ≡ false))
+    → (xy ≡ false → old ≡ BOUNDARY → IsClosed so_far) → xy ≡ false → cond start kind (cond end 0 old) ≡ BOUNDARY → IsClosed (cond bound [] (cond xy points so_far))
+boundary_by true xy start end kind old points so_far g h none is = tt
+boundary_by false true start end kind old points so_far g h none is = absurd cc
+boundary_by false false start end kind old points so_far g h none is =
+    let e = g refl in h refl (sym (ap (λ (b : Bool). cond b kind (cond end 0 old)) e.0 ∙ ap (λ (b : Bool). cond b 0 old) e.1) ∙ is)
+
+open_boundary : (rs : Records) → Passes rs → opened rs ≡ BOUNDARY → IsOver (last_kind rs == XY) (are_complete (opened rs) (open_points rs)) → IsClosed (open_points rs)
+open_boundary rs p is (inr outline) = outline_closed (opened rs) (open_points rs) is outline
+open_boundary NoRecords p is (inl none) = tt
+open_boundary (before ▸ r) p is (inl none) =
+    boundary_by (is_bound r.kind) (r.kind == XY) (is_start r.kind) (r.kind == ENDEL) r.kind (opened before) (gathered (opened before) (open_points before) (points_of r.body)) (open_points before) (neither (is_start r.kind) (r.kind == ENDEL))
+    (λ e was. open_boundary before p.0 was (over (last_kind before == XY) (r.kind == XY) (are_complete (opened before) (open_points before)) (passed before r p.2).finished e)) none is
+
+-- at an element's end a boundary's and a box's points are closed
+abbrev IsOpenOutline : ℕ → List Point → Type 0
+IsOpenOutline start points = (start ≡ BOUNDARY → IsClosed points) × (start ≡ BOX → IsClosed points)
+
+ended_outline : (before : Records) (r : Rec) → Passes (before ▸ r) → r.kind ≡ ENDEL → IsOpenOutline (opened before) (open_points before)
+ended_outline before r p e =
+    let other : (r.kind == XY) ≡ false = ap (λ (k : ℕ). k == XY) e in (
+      λ is. open_boundary before p.0 is (over (last_kind before == XY) (r.kind == XY) (are_complete (opened before) (open_points before)) (passed before r p.2).finished other),
+      open_box before p.0,
     )
-
--- by the last record: it has the points, or is a bound, or is another
-outline_by : (xy bound start end : Bool) (kind old : ℕ) (body rest : List ℕ) → (xy ≡ true → (start ≡ false) × (end ≡ false)) → (bound ≡ false → (start ≡ false) × (end ≡ false))
-    → (xy ≡ true → IsOpenOutline old (points_of body)) → IsOpenOutline old (points_of rest)
-    → IsOpenOutline (cond start kind (cond end 0 old)) (points_of (cond xy body (cond bound [] rest)))
-outline_by true bound start end kind old body rest f g h i =
-    let e = f refl in subst (λ (s : ℕ). IsOpenOutline s (points_of body)) (sym (ap (λ (b : Bool). cond b kind (cond end 0 old)) e.0 ∙ ap (λ (b : Bool). cond b 0 old) e.1)) (h refl)
-outline_by false true start end kind old body rest f g h i = ((λ _. tt), (λ _. tt))
-outline_by false false start end kind old body rest f g h i =
-    let e = g refl in subst (λ (s : ℕ). IsOpenOutline s (points_of rest)) (sym (ap (λ (b : Bool). cond b kind (cond end 0 old)) e.0 ∙ ap (λ (b : Bool). cond b 0 old) e.1)) i
-
-xy_is_none : (kind : ℕ) → (kind == XY) ≡ true → (is_start kind ≡ false) × ((kind == ENDEL) ≡ false)
-xy_is_none kind h = let e : kind ≡ XY = eqb-true _ _ h in (ap is_start e, ap (λ (k : ℕ). k == ENDEL) e)
-
-or_false : (a b : Bool) → (a || b) ≡ false → (a ≡ false) × (b ≡ false)
-or_false true b h = absurd (let e : true ≡ false = h in cc)
-or_false false b h = (refl, h)
-
-open_outline : (rs : Records) → Passes rs → IsOpenOutline (opened rs) (open_points rs)
-open_outline NoRecords p = ((λ _. tt), (λ _. tt))
-open_outline (before ▸ r) p =
-    outline_by (r.kind == XY) (is_bound r.kind) (is_start r.kind) (r.kind == ENDEL) r.kind (opened before) r.body (part XY before) (xy_is_none r.kind) (or_false (is_start r.kind) (r.kind == ENDEL))
-    (λ e. xy_outline (opened before) (columns_of before) (rows_of before) r.kind r.body (eqb-true _ _ e) (content_none before r p.2)) (open_outline before p.0)
 
 -- ---- shapes
 
@@ -180,38 +202,41 @@ box_fillable points c h = by_test (has_area (hull points))
 abbrev Fills : List Shape → Type 0
 Fills shapes = ByRecursion (λ (shape : Shape). IsFillable shape.form) shapes
 
-element_fillable : (start : ℕ) (key : LayerKey) (path_type : ℕ) (width begin end : ℤ) (body : List ℕ) → IsLong width → IsLong begin → IsLong end → IsOpenOutline start (points_of body)
-    → Fills (shapes_by start key path_type width begin end (points_of body))
-element_fillable start key path_type width begin end body w b e outline = by_test (start == BOUNDARY) (start == PATH) (start == BOX) refl refl
+element_fillable : (start : ℕ) (key : LayerKey) (path_type : ℕ) (width begin end : ℤ) (points : List Point) → IsLong width → IsLong begin → IsLong end → ByRecursion IsLongPoint points → IsOpenOutline start points
+    → Fills (shapes_by start key path_type width begin end points)
+element_fillable start key path_type width begin end points w b e long outline = by_test (start == BOUNDARY) (start == PATH) (start == BOX) refl refl
   where
+    all : All IsLongPoint points
+    all = All-from_recursion IsLongPoint points long
+
     by_test : (x y z : Bool) → (start == BOUNDARY) ≡ x → (start == BOX) ≡ z
-        → Fills (cond x (record { key = key; form = Boundary (points_of body) } ∷ []) (cond y (record { key = key; form = Path (points_of body) (half_of width) (beyond path_type (half_of width) begin) (beyond path_type (half_of width) end) } ∷ [])
-        (cond z (record { key = key; form = box_form (points_of body) } ∷ []) [])))
-    by_test true y z f g = (record { closed = outline.0 (eqb-true _ _ f); points_long = points_long body }, tt)
+        → Fills (cond x (record { key = key; form = Boundary points } ∷ []) (cond y (record { key = key; form = Path points (half_of width) (beyond path_type (half_of width) begin) (beyond path_type (half_of width) end) } ∷ [])
+        (cond z (record { key = key; form = box_form points } ∷ []) [])))
+    by_test true y z f g = (record { closed = outline.0 (eqb-true _ _ f); points_long = all }, tt)
     by_test false true z f g =
         let h = half_long width w in
-        (record { points_long = points_long body; half_long = h; begin_long = beyond_long path_type (half_of width) begin h b; end_long = beyond_long path_type (half_of width) end h e }, tt)
-    by_test false false true f g = (box_fillable (points_of body) (outline.1 (eqb-true _ _ g)) (points_by body), tt)
+        (record { points_long = all; half_long = h; begin_long = beyond_long path_type (half_of width) begin h b; end_long = beyond_long path_type (half_of width) end h e }, tt)
+    by_test false false true f g = (box_fillable points (outline.1 (eqb-true _ _ g)) long, tt)
     by_test false false false f g = tt
 
 joined : (xs ys : List Shape) → Fills xs → Fills ys → Fills (xs ++ ys)
 joined [] ys f g = g
 joined (x ∷ xs) ys f g = (f.0, joined xs ys f.1 g)
 
-open_fillable : (rs : Records) → Passes rs → Fills (open_shapes rs)
-open_fillable rs p =
-    element_fillable (opened rs) (key_of rs) (number (part PATHTYPE rs)) (long (part WIDTH rs)) (long (part BGNEXTN rs)) (long (part ENDEXTN rs)) (part XY rs)
-    (long_long (part WIDTH rs)) (long_long (part BGNEXTN rs)) (long_long (part ENDEXTN rs)) (open_outline rs p)
+open_fillable : (before : Records) (r : Rec) → Passes (before ▸ r) → r.kind ≡ ENDEL → Fills (open_shapes before)
+open_fillable rs r p e =
+    element_fillable (opened rs) (key_of rs) (number (part PATHTYPE rs)) (long (part WIDTH rs)) (long (part BGNEXTN rs)) (long (part ENDEXTN rs)) (open_points rs)
+    (long_long (part WIDTH rs)) (long_long (part BGNEXTN rs)) (long_long (part ENDEXTN rs)) (open_long rs) (ended_outline rs r p e)
 
-shapes_more : (a b : Bool) (xs ys : List Shape) → Fills xs → Fills ys → Fills (cond a [] (cond b (xs ++ ys) xs))
+shapes_more : (a b : Bool) (xs ys : List Shape) → Fills xs → (b ≡ true → Fills ys) → Fills (cond a [] (cond b (xs ++ ys) xs))
 shapes_more true b xs ys f g = tt
-shapes_more false true xs ys f g = joined xs ys f g
+shapes_more false true xs ys f g = joined xs ys f (g refl)
 shapes_more false false xs ys f g = f
 
 shapes_fillable : (rs : Records) → Passes rs → Fills (shapes_of rs)
 shapes_fillable NoRecords p = tt
 shapes_fillable (before ▸ r) p =
-    shapes_more (is_cell_bound r.kind) (r.kind == ENDEL) (shapes_of before) (open_shapes before) (shapes_fillable before p.0) (open_fillable before p.0)
+    shapes_more (is_cell_bound r.kind) (r.kind == ENDEL) (shapes_of before) (open_shapes before) (shapes_fillable before p.0) (λ e. open_fillable before r p (eqb-true _ _ e))
 
 -- ---- cells
 

@@ -6,9 +6,8 @@ pub mod Step
 pub mod Runs
 pub mod Unique
 pub mod PieceLemmas
-pub mod Walks
-pub mod Fillers
-pub mod Begun
+pub mod Passing
+pub mod Lines
 pub mod WholeText
 pub mod FillableLaw
 pub mod Arrays

@@ -1,7 +1,7 @@
 -- Which fault a record has behind the records before it, and what bytes are accepted.
-use Rattle.std.specs.Prelude.{◌≡◌, ℕ, ◌%◌, Bool, true, ◌==◌, ◌||◌, ◌&&◌, not, nat_le, bit_and}
-use Rattle.std.specs.Prelude.{unsigned_abs, List, ◌++◌, length, Option, Some, None, is_some}
-use Rattle.std.specs.Prelude.{if◌then◌else◌}
+use Rattle.std.specs.Prelude.{◌≡◌, ℕ, ◌+◌, ◌%◌, Bool, true, ◌==◌, ◌||◌, ◌&&◌, not, nat_le, nat_lt}
+use Rattle.std.specs.Prelude.{bit_and, unsigned_abs, List, ◌++◌, length, Option, Some, None}
+use Rattle.std.specs.Prelude.{is_some, if◌then◌else◌}
 use Rattle.gds_records.specs.Records.{Rec, IsRecord, framing, record_bytes, Records, NoRecords, ◌▸◌}
 use Rattle.gds_records.specs.Records.{bytes_of, count_of}
 use Rattle.gds_grammar.specs.Order.{can_go_on, IsEnded}
@@ -11,15 +11,26 @@ use Rattle.gds_records.specs.Kinds.{BOUNDARY, PATH, SREF, AREF, TEXT, LAYER, DAT
 use Rattle.gds_records.specs.Kinds.{ENDEL, SNAME, COLROW, NODE, TEXTTYPE, PRESENTATION, STRING}
 use Rattle.gds_records.specs.Kinds.{STRANS, MAG, ANGLE, PATHTYPE, ELFLAGS, NODETYPE, PROPATTR}
 use Rattle.gds_records.specs.Kinds.{PROPVALUE, BOX, BOXTYPE, PLEX, BGNEXTN, ENDEXTN}
+use Rattle.gds_elements.specs.Bounds.{is_line}
 use Rattle.gds_elements.specs.Data.{number, long, columns_in, rows_in, is_count, is_empty, trimmed}
 use Rattle.gds_elements.specs.Data.{points_of, is_closed, is_straight, has_length, side, goes_into}
 use Rattle.gds_elements.specs.Data.{has_unit, real_in}
 use Rattle.fixed_num.specs.Real.{is_one, quarter_of}
-use Rattle.gds_elements.specs.Meaning.{opened, last_kind, columns_of, rows_of, Library, library_of}
+use Rattle.gds_elements.specs.Meaning.{opened, last_kind, open_points, columns_of, rows_of, Library}
+use Rattle.gds_elements.specs.Meaning.{library_of}
 
--- 14: an XY behind the XY of a boundary or a path
-abbrev pub is_second_points : ℕ → ℕ → ℕ → Bool
-is_second_points start last kind = kind == XY && last == XY && (start == BOUNDARY || start == PATH)
+-- a boundary has four points at least, the last of which is the first; a path has two neighbours
+-- that differ
+abbrev pub are_complete : ℕ → List Point → Bool
+are_complete start points =
+    if start == BOUNDARY then nat_le 4 (length points) && is_closed points
+    else if start == PATH then has_length points
+    else true
+
+-- 5: the first record behind the points of an element whose points aren't complete
+abbrev pub is_unfinished : ℕ → ℕ → List Point → ℕ → Bool
+is_unfinished start last points kind =
+    last == XY && not (kind == XY) && not (are_complete start points)
 
 -- the form, the length and the plain content that each kind has: 0 no data, 1 bits, 2 two bytes
 -- each, 3 four bytes each, 5 reals, 6 a string.
@@ -49,12 +60,19 @@ is_plain kind form body =
 abbrev pub outline_fault : Bool → List Point → Option ℕ
 outline_fault fits points = if not fits then Some 5 else if is_straight points then None else Some 6
 
--- the points of each element, given whether its data is whole points
-abbrev pub points_fault : ℕ → Bool → List Point → Option ℕ
-points_fault start whole points =
-    if start == BOUNDARY
-    then outline_fault (whole && nat_le 4 (length points) && is_closed points) points
-    else if start == PATH then outline_fault (whole && has_length points) points
+-- the points of a boundary or a path: 5 where the data isn't whole points, or none, 14 where all
+-- that it has with these are more than 1,000,000, 6 where an edge of these is slanted
+abbrev pub line_fault : Bool → List Point → List Point → Option ℕ
+line_fault whole so_far points =
+    if not (whole && nat_le 1 (length points)) then Some 5
+    else if nat_lt 1000000 (length so_far + length points) then Some 14
+    else if is_straight (so_far ++ points) then None
+    else Some 6
+
+-- the points of each element, behind those so far, given whether the data is whole points
+abbrev pub points_fault : ℕ → Bool → List Point → List Point → Option ℕ
+points_fault start whole so_far points =
+    if is_line start then line_fault whole so_far points
     else if start == BOX then outline_fault (whole && length points == 5 && is_closed points) points
     else if start == SREF || start == TEXT
     then (if whole && length points == 1 then None else Some 5)
@@ -100,23 +118,24 @@ part_fault start kind body =
     else None
 
 -- the tests of content: 13 the database unit, 12 no column or no row, and those of the open element
-abbrev pub content_fault : ℕ → ℕ → ℕ → ℕ → List ℕ → Option ℕ
-content_fault start columns rows kind body =
+abbrev pub content_fault : ℕ → List Point → ℕ → ℕ → ℕ → List ℕ → Option ℕ
+content_fault start so_far columns rows kind body =
     if kind == UNITS then (if has_unit body then None else Some 13)
     else if kind == COLROW
     then (if is_count (columns_in body) && is_count (rows_in body) then None else Some 12)
     else if kind == XY
-    then or_else (points_fault start ((length body % 8) == 0) (points_of body))
+    then or_else (points_fault start ((length body % 8) == 0) so_far (points_of body))
     (array_fault start columns rows body)
     else part_fault start kind body
 
 -- the first test that a record fails behind the records before it
 abbrev pub fault_of : Records → Rec → Option ℕ
 fault_of before r =
-    if is_second_points (opened before) (last_kind before) r.kind then Some 14
-    else if not (can_go_on before r.kind) then Some 4
+    if not (can_go_on before r.kind) then Some 4
+    else if is_unfinished (opened before) (last_kind before) (open_points before) r.kind then Some 5
     else if not (is_plain r.kind r.form r.body) then Some 5
-    else content_fault (opened before) (columns_of before) (rows_of before) r.kind r.body
+    else content_fault (opened before) (open_points before) (columns_of before) (rows_of before)
+    r.kind r.body
 
 -- each record passes: it has none of the faults behind the records before it
 abbrev pub Passes : Records → Type 0

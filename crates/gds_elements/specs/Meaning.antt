@@ -14,7 +14,7 @@ use Rattle.gds_records.specs.Kinds.{HEADER, BGNLIB, LIBNAME, UNITS, BGNSTR, STRN
 use Rattle.gds_records.specs.Kinds.{BOUNDARY, PATH, SREF, AREF, TEXT, LAYER, DATATYPE, WIDTH, XY}
 use Rattle.gds_records.specs.Kinds.{ENDEL, SNAME, COLROW, TEXTTYPE, STRING, STRANS, ANGLE, PATHTYPE}
 use Rattle.gds_records.specs.Kinds.{BOX, BOXTYPE, BGNEXTN, ENDEXTN}
-use Rattle.gds_elements.specs.Bounds.{is_start, is_bound}
+use Rattle.gds_elements.specs.Bounds.{is_start, is_line, is_bound}
 use Rattle.gds_elements.specs.Data.{number, long, columns_in, rows_in, exactly, is_empty, trimmed}
 use Rattle.gds_elements.specs.Data.{origin, points_of, first_of, hull, has_area, side, step}
 use Rattle.gds_elements.specs.Data.{real_in}
@@ -109,8 +109,16 @@ text_part rs = found (λ k. k == STRING || k == SNAME) is_bound rs
 abbrev pub key_of : Records → LayerKey
 key_of rs = record { layer = number (part LAYER rs); datatype = number (type_part rs) }
 
+-- a boundary or a path gathers the points of its records; other elements have one record of them
+abbrev pub gathered : ℕ → List Point → List Point → List Point
+gathered start so_far points = if is_line start then so_far ++ points else points
+
 abbrev pub open_points : Records → List Point
-open_points rs = points_of (part XY rs)
+open_points NoRecords = []
+open_points (before ▸ r) =
+    if is_bound r.kind then []
+    else if r.kind == XY then gathered (opened before) (open_points before) (points_of r.body)
+    else open_points before
 
 -- half the width, whose sign doesn't count
 abbrev pub half_of : ℤ → ℤ

@@ -1,6 +1,6 @@
 -- A byte list means one library, or has one first fault.
 use Rattle.std.specs.Prelude.{◌≡◌, ℕ, List}
-use Rattle.gds_records.specs.Records.{GoesOnFrom, Records}
+use Rattle.gds_records.specs.Records.{Records}
 use Rattle.gds_grammar.specs.Pattern.{Allows}
 use Rattle.gds_grammar.specs.Grammar.{library}
 use Rattle.gds_grammar.specs.Order.{kinds_of, IsEnded}
@@ -24,14 +24,3 @@ OneFaultLaw = (bytes : List ℕ) (m i o n j q : ℕ) → FirstFault bytes m i o
 -- the kinds of the records that are accepted are a text of the grammar
 abbrev pub DerivedLaw : Type 0
 DerivedLaw = (rs : Records) → Passes rs → IsEnded rs → Allows library (kinds_of rs)
-
--- each list of records that pass begins one that is accepted: so the offending record of a stream
--- is the one behind the longest list of its records that begins an accepted one
-pub record IsBegun (rs : Records) : Type 0 where
-  pub whole : Records
-  pub goes_on : GoesOnFrom rs whole
-  pub passes : Passes whole
-  pub ended : IsEnded whole
-
-abbrev pub BegunLaw : Type 0
-BegunLaw = (rs : Records) → Passes rs → IsBegun rs

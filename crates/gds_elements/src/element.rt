@@ -3,9 +3,9 @@
 ghost use Rattle.std.specs.Prelude.{◌≡◌, ℕ, List, true, false, OnOk};
 ghost use Rattle.gds_records.specs.Records.{Records, NoRecords, ◌▸◌};
 ghost use Rattle.gds_elements.specs.Data.{points_of};
-ghost use Rattle.gds_elements.specs.Bounds.{is_start, is_bound};
+ghost use Rattle.gds_elements.specs.Bounds.{is_start, is_line, is_bound};
 ghost use Rattle.gds_elements.specs.Meaning.{array, beyond, box_form, path_form, single, turn_of};
-ghost use Rattle.gds_elements.specs.Meaning.{motion_of};
+ghost use Rattle.gds_elements.specs.Meaning.{gathered, motion_of};
 ghost use Rattle.gds_elements.specs.Reading.{HoldsDrawing, HoldsPlacing, HoldsElement, form_seen};
 ghost use Rattle.gds_elements.specs.Reading.{ref_seen, rec};
 
@@ -33,6 +33,26 @@ fn is_start(kind: u8) -> bool
             | kinds::NODE
             | kinds::BOX
     )
+}
+
+/// Whether the points of the element that began so may stand in several records.
+pub(crate) fn is_line(start: u8) -> bool
+    ensures { result ≡ is_line start }
+{
+    start == kinds::BOUNDARY || start == kinds::PATH
+}
+
+// Takes one record of points; each is copied once, but for those of the first record, which are
+// moved.
+fn gather(start: u8, so_far: &mut Vec<Point>, points: Vec<Point>) -> Result<(), AllocError>
+    ensures { OnOk result (so_far.new.items ≡ gathered start so_far.old.items points.items) }
+{
+    if is_line(start) && !so_far.is_empty() {
+        so_far.extend_from_slice(&points)?;
+        return Ok(());
+    }
+    *so_far = points;
+    Ok(())
 }
 
 /// What the parts of a shape or a text say.
@@ -189,7 +209,7 @@ impl Element {
         self.drawing.take_drawing(kind, body);
         self.placing.take_placing(kind, body);
         match kind {
-            kinds::XY => self.points = points,
+            kinds::XY => gather(self.start, &mut self.points, points)?,
             kinds::STRING | kinds::SNAME => self.text = Vec::from_slice(alloc, trimmed(body))?,
             _ => {}
         }

@@ -1,16 +1,17 @@
 //! The tests of a record behind the records before it (GDSII Stream Format, Release 6).
 
-ghost use Rattle.std.specs.Prelude.{◌≡◌, ◌==◌, ◌%◌, length, Some, None, if◌then◌else◌};
-ghost use Rattle.gds_elements.specs.Data.{points_of};
-ghost use Rattle.gds_elements.specs.Faults.{array_fault, content_fault, is_plain, is_second_points};
-ghost use Rattle.gds_elements.specs.Faults.{outline_fault, part_fault, path_fault, points_fault};
-ghost use Rattle.gds_elements.specs.Faults.{turn_fault};
+ghost use Rattle.std.specs.Prelude.{◌≡◌, ◌==◌, ◌%◌, true, length, Some, None, if◌then◌else◌};
+ghost use Rattle.gds_elements.specs.Bounds.{is_line};
+ghost use Rattle.gds_elements.specs.Data.{is_straight, points_of};
+ghost use Rattle.gds_elements.specs.Faults.{are_complete, array_fault, content_fault, is_plain};
+ghost use Rattle.gds_elements.specs.Faults.{is_unfinished, line_fault, outline_fault, part_fault};
+ghost use Rattle.gds_elements.specs.Faults.{path_fault, points_fault, turn_fault};
 
 use crate::data::{
     columns_in, has_unit, is_count, is_one, long, number, quarter_of, rows_in, trimmed,
 };
-use crate::element::Element;
-use crate::points::{goes_into, has_length, is_closed, is_straight, side};
+use crate::element::{Element, is_line};
+use crate::points::{goes_into, has_length, is_closed, is_straight, is_straight_on, side};
 use gds_records::kinds;
 use geo_base::Point;
 
@@ -34,13 +35,27 @@ const BAD_ARRAY: u8 = 12;
 
 const BAD_UNITS: u8 = 13;
 
-pub(crate) const TOO_MANY_POINTS: u8 = 14;
+const TOO_MANY_POINTS: u8 = 14;
 
-/// Whether an XY stands behind the XY of a BOUNDARY or a PATH.
-pub(crate) fn is_second_points(start: u8, last: u8, kind: u8) -> bool
-    ensures { result ≡ is_second_points start last kind }
+/// The most points of a boundary or a path.
+const MOST_POINTS: usize = 1_000_000;
+
+fn are_complete(start: u8, points: &[Point]) -> bool
+    ensures { result ≡ are_complete start points.now }
 {
-    kind == kinds::XY && last == kinds::XY && (start == kinds::BOUNDARY || start == kinds::PATH)
+    match start {
+        kinds::BOUNDARY => points.len() >= 4 && is_closed(points),
+        kinds::PATH => has_length(points),
+        _ => true,
+    }
+}
+
+/// Whether a record stands behind the points of an element that has too few, or whose points aren't
+/// closed. O(n) for n points, once an element.
+pub(crate) fn is_unfinished(element: &Element, last: u8, kind: u8) -> bool
+    ensures { result ≡ is_unfinished element.now.start last element.now.points.items kind }
+{
+    last == kinds::XY && kind != kinds::XY && !are_complete(element.start, &element.points)
 }
 
 /// Whether the record has its kind's form, length and plain content. Those of options aren't looked
@@ -99,13 +114,33 @@ fn count_fault(fits: bool) -> Option<u8>
     if fits { None } else { Some(BAD_DATA) }
 }
 
-/// The points of the element that began so; `whole` where the data is whole points.
-fn points_fault(start: u8, whole: bool, points: &[Point]) -> Option<u8>
-    ensures { result ≡ points_fault start whole points.now }
+/// The points of a boundary or a path behind those so far, none of whose edges is slanted; `whole`
+/// where the data is whole points. Of those so far only the last is looked at.
+fn line_fault(whole: bool, so_far: &[Point], points: &[Point]) -> Option<u8>
+    ensures { is_straight so_far.now ≡ true → result ≡ line_fault whole so_far.now points.now }
 {
+    if !whole || points.is_empty() {
+        return Some(BAD_DATA);
+    }
+    if MOST_POINTS < so_far.len() + points.len() {
+        return Some(TOO_MANY_POINTS);
+    }
+    if is_straight_on(so_far, points) {
+        None
+    } else {
+        Some(NOT_RECTILINEAR)
+    }
+}
+
+/// The points of the element that began so, behind those so far.
+fn points_fault(start: u8, whole: bool, so_far: &[Point], points: &[Point]) -> Option<u8>
+    ensures { (is_line start ≡ true → is_straight so_far.now ≡ true)
+        → result ≡ points_fault start whole so_far.now points.now }
+{
+    if is_line(start) {
+        return line_fault(whole, so_far, points);
+    }
     match start {
-        kinds::BOUNDARY => outline_fault(whole && points.len() >= 4 && is_closed(points), points),
-        kinds::PATH => outline_fault(whole && has_length(points), points),
         kinds::BOX => outline_fault(whole && points.len() == 5 && is_closed(points), points),
         kinds::SREF | kinds::TEXT => count_fault(whole && points.len() == 1),
         kinds::AREF => count_fault(whole && points.len() == 3),
@@ -170,8 +205,9 @@ pub(crate) fn content_fault(
     points: &[Point],
 ) -> Option<u8>
     requires { kind ≡ 0x10 → points.now ≡ points_of body.now }
-    ensures { result ≡ content_fault element.now.start element.now.placing.columns
-        element.now.placing.rows kind body.now }
+    ensures { (is_line element.now.start ≡ true → is_straight element.now.points.items ≡ true)
+        → result ≡ content_fault element.now.start element.now.points.items
+        element.now.placing.columns element.now.placing.rows kind body.now }
 {
     let start = element.start;
     match kind {
@@ -189,7 +225,7 @@ pub(crate) fn content_fault(
                 Some(BAD_ARRAY)
             }
         }
-        kinds::XY => match points_fault(start, body.len() % 8 == 0, points) {
+        kinds::XY => match points_fault(start, body.len() % 8 == 0, &element.points, points) {
             Some(number) => Some(number),
             None => array_fault(start, element.placing.columns, element.placing.rows, body),
         },

@@ -3,8 +3,7 @@
 ghost use Rattle.gds_elements.specs.Fillable.{FillableLaw};
 ghost use Rattle.gds_elements.specs.Placeable.{PlaceableLaw};
 ghost use Rattle.gds_elements.specs.Units.{MeasuredLaw};
-ghost use Rattle.gds_elements.specs.Once.{BegunLaw, DerivedLaw, NoFaultLaw, OneFaultLaw};
-ghost use Rattle.gds_elements.specs.Once.{OneLibraryLaw};
+ghost use Rattle.gds_elements.specs.Once.{DerivedLaw, NoFaultLaw, OneFaultLaw, OneLibraryLaw};
 
 /// A byte list means one library or has one first fault, never both.
 pub fn one_meaning()
@@ -16,11 +15,6 @@ pub fn one_meaning()
 /// The grammar derives the kinds of what is accepted.
 pub fn derived()
     ensures { DerivedLaw }
-{}
-
-/// Records that pass can always be gone on from to the end of a library.
-pub fn begun()
-    ensures { BegunLaw }
 {}
 
 /// Each shape of what is accepted can be filled: outlines end where they begin, and all numbers are

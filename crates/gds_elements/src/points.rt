@@ -1,6 +1,6 @@
 //! Points in the data of records.
 
-ghost use Rattle.std.specs.Prelude.{◌≡◌, ◌≤◌, ◌<◌, ◌+◌, ◌-ℤ◌, length, IfOk};
+ghost use Rattle.std.specs.Prelude.{◌≡◌, ◌≤◌, ◌<◌, ◌+◌, ◌++◌, ◌-ℤ◌, true, length, IfOk};
 ghost use Rattle.std.specs.Int.{int_min, int_max};
 ghost use Rattle.gds_elements.specs.Data.{coordinate, first_of, first_point, goes_into, has_area};
 ghost use Rattle.gds_elements.specs.Data.{has_length, hull, is_closed, is_level, is_same};
@@ -55,6 +55,29 @@ pub(crate) fn is_straight(points: &[Point]) -> bool
         .iter()
         .zip(points.iter().skip(1))
         .all(|(p, q)| is_level(*p, *q))
+}
+
+// Whether the edge from the last of some points to the first of others isn't slanted.
+fn is_led(before: &[Point], points: &[Point]) -> bool
+    requires before { 0 < length before.now }
+    requires points { 0 < length points.now }
+    ensures { result ≡ is_level (last_of before.now) (first_of points.now) }
+{
+    is_level(before[before.len() - 1], points[0])
+}
+
+/// Whether no edge of the points is slanted, nor the one that leads to them from those before, none
+/// of whose edges is.
+pub(crate) fn is_straight_on(before: &[Point], points: &[Point]) -> bool
+    ensures { is_straight before.now ≡ true → result ≡ is_straight (before.now ++ points.now) }
+{
+    if before.is_empty() {
+        return is_straight(points);
+    }
+    if points.is_empty() {
+        return true;
+    }
+    is_led(before, points) && is_straight(points)
 }
 
 /// Whether some point and the next differ.

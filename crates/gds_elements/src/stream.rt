@@ -7,9 +7,7 @@ ghost use Rattle.gds_elements.specs.Data.{points_of};
 ghost use Rattle.gds_elements.specs.Reading.{GoesOn, Runs, Stands, Steps, Takes, rec, taken_cells};
 ghost use Rattle.gds_elements.specs.declared.stream.TakeError.TheVariants.{NoMemory};
 
-use crate::faults::{
-    BAD_DATA, TOO_MANY_POINTS, WRONG_ORDER, content_fault, is_plain, is_second_points,
-};
+use crate::faults::{BAD_DATA, WRONG_ORDER, content_fault, is_plain, is_unfinished};
 use crate::library::GdsFault;
 use crate::points::points;
 use crate::reader::Reader;
@@ -90,12 +88,12 @@ impl Stream {
             ≡ self.old.offset)) }
         ensures taken { OnOk result (self.new.kept.taken ≡ self.old.kept.taken) }
     {
-        if is_second_points(self.kept.element.start, self.last, kind) {
-            return Err(TakeError::Fault(TOO_MANY_POINTS));
-        }
         let Some(place) = follow(self.place, kind) else {
             return Err(TakeError::Fault(WRONG_ORDER));
         };
+        if is_unfinished(&self.kept.element, self.last, kind) {
+            return Err(TakeError::Fault(BAD_DATA));
+        }
         if !is_plain(kind, form, body) {
             return Err(TakeError::Fault(BAD_DATA));
         }

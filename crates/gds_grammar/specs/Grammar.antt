@@ -137,13 +137,17 @@ option = One 0x1F ∣ One 0x20 ∣ One 0x22 ∣ One 0x23
 abbrev pub turn : Pattern
 turn = maybe (STRANS · maybe MAG · maybe ANGLE)
 
+-- the points of a boundary or a path: any number of records of them, one at least
+abbrev pub points : Pattern
+points = XY · Many XY
+
 -- the parts of each element behind its start
 abbrev pub boundary_parts : Pattern
-boundary_parts = maybe ELFLAGS · maybe PLEX · LAYER · DATATYPE · XY
+boundary_parts = maybe ELFLAGS · maybe PLEX · LAYER · DATATYPE · points
 
 abbrev pub path_parts : Pattern
 path_parts = maybe ELFLAGS · maybe PLEX · LAYER · DATATYPE
-    · maybe PATHTYPE · maybe WIDTH · maybe BGNEXTN · maybe ENDEXTN · XY
+    · maybe PATHTYPE · maybe WIDTH · maybe BGNEXTN · maybe ENDEXTN · points
 
 abbrev pub sref_parts : Pattern
 sref_parts = maybe ELFLAGS · maybe PLEX · SNAME · turn · XY

@@ -5,7 +5,8 @@ use Rattle.gds_grammar.specs.Grammar.{maybe, ◌·◌, BGNLIB, LIBNAME, UNITS, E
 use Rattle.gds_grammar.specs.Grammar.{LAYER, DATATYPE, WIDTH, XY, ENDEL, SNAME, COLROW, TEXTTYPE}
 use Rattle.gds_grammar.specs.Grammar.{PRESENTATION, STRING, MAG, ANGLE, PATHTYPE, NODETYPE}
 use Rattle.gds_grammar.specs.Grammar.{PROPATTR, PROPVALUE, BOXTYPE, PLEX, BGNEXTN, ENDEXTN, option}
-use Rattle.gds_grammar.specs.Grammar.{turn, boundary_parts, path_parts, sref_parts, aref_parts}
+use Rattle.gds_grammar.specs.Grammar.{turn, points, boundary_parts, path_parts, sref_parts}
+use Rattle.gds_grammar.specs.Grammar.{aref_parts}
 use Rattle.gds_grammar.specs.Grammar.{text_parts, node_parts, box_parts, element, structure}
 use Rattle.gds_grammar.specs.Grammar.{library}
 use Rattle.gds_grammar.specs.declared.place.BoundaryPlace.{BoundaryPlace}
@@ -44,23 +45,25 @@ in_body p = in_element (p · tail)
 -- of each element's parts
 abbrev pub boundary_left : BoundaryPlace → Pattern
 boundary_left boundary.Start = boundary_parts
-boundary_left boundary.Flags = maybe PLEX · LAYER · DATATYPE · XY
-boundary_left boundary.Plex = LAYER · DATATYPE · XY
-boundary_left boundary.Layer = DATATYPE · XY
-boundary_left boundary.Datatype = XY
+boundary_left boundary.Flags = maybe PLEX · LAYER · DATATYPE · points
+boundary_left boundary.Plex = LAYER · DATATYPE · points
+boundary_left boundary.Layer = DATATYPE · points
+boundary_left boundary.Datatype = points
+boundary_left boundary.Points = Many XY
 
 abbrev pub path_left : PathPlace → Pattern
 path_left path.Start = path_parts
 path_left path.Flags = maybe PLEX · LAYER · DATATYPE · maybe PATHTYPE · maybe WIDTH
-    · maybe BGNEXTN · maybe ENDEXTN · XY
+    · maybe BGNEXTN · maybe ENDEXTN · points
 path_left path.Plex = LAYER · DATATYPE · maybe PATHTYPE · maybe WIDTH · maybe BGNEXTN
-    · maybe ENDEXTN · XY
-path_left path.Layer = DATATYPE · maybe PATHTYPE · maybe WIDTH · maybe BGNEXTN · maybe ENDEXTN · XY
-path_left path.Datatype = maybe PATHTYPE · maybe WIDTH · maybe BGNEXTN · maybe ENDEXTN · XY
-path_left path.Pathtype = maybe WIDTH · maybe BGNEXTN · maybe ENDEXTN · XY
-path_left path.Width = maybe BGNEXTN · maybe ENDEXTN · XY
-path_left path.Begin = maybe ENDEXTN · XY
-path_left path.End = XY
+    · maybe ENDEXTN · points
+path_left path.Layer = DATATYPE · maybe PATHTYPE · maybe WIDTH · maybe BGNEXTN · maybe ENDEXTN · points
+path_left path.Datatype = maybe PATHTYPE · maybe WIDTH · maybe BGNEXTN · maybe ENDEXTN · points
+path_left path.Pathtype = maybe WIDTH · maybe BGNEXTN · maybe ENDEXTN · points
+path_left path.Width = maybe BGNEXTN · maybe ENDEXTN · points
+path_left path.Begin = maybe ENDEXTN · points
+path_left path.End = points
+path_left path.Points = Many XY
 
 abbrev pub sref_left : SrefPlace → Pattern
 sref_left sref.Start = sref_parts

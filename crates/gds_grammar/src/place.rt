@@ -15,6 +15,7 @@ pub enum BoundaryPlace {
     Plex,
     Layer,
     Datatype,
+    Points,
 }
 
 #[derive(Clone, Copy)]
@@ -28,6 +29,7 @@ pub enum PathPlace {
     Width,
     Begin,
     End,
+    Points,
 }
 
 #[derive(Clone, Copy)]
@@ -132,7 +134,13 @@ fn follow_boundary(place: BoundaryPlace, kind: u8) -> Option<Place>
             _ => None,
         },
         BoundaryPlace::Datatype => match kind {
-            XY => Some(Place::Tail),
+            XY => Some(Place::Boundary(BoundaryPlace::Points)),
+            _ => None,
+        },
+        BoundaryPlace::Points => match kind {
+            XY => Some(Place::Boundary(BoundaryPlace::Points)),
+            PROPATTR => Some(Place::Property),
+            ENDEL => Some(Place::InCell),
             _ => None,
         },
     }
@@ -166,29 +174,35 @@ fn follow_path(place: PathPlace, kind: u8) -> Option<Place>
             WIDTH => Some(Place::Path(PathPlace::Width)),
             BGNEXTN => Some(Place::Path(PathPlace::Begin)),
             ENDEXTN => Some(Place::Path(PathPlace::End)),
-            XY => Some(Place::Tail),
+            XY => Some(Place::Path(PathPlace::Points)),
             _ => None,
         },
         PathPlace::Pathtype => match kind {
             WIDTH => Some(Place::Path(PathPlace::Width)),
             BGNEXTN => Some(Place::Path(PathPlace::Begin)),
             ENDEXTN => Some(Place::Path(PathPlace::End)),
-            XY => Some(Place::Tail),
+            XY => Some(Place::Path(PathPlace::Points)),
             _ => None,
         },
         PathPlace::Width => match kind {
             BGNEXTN => Some(Place::Path(PathPlace::Begin)),
             ENDEXTN => Some(Place::Path(PathPlace::End)),
-            XY => Some(Place::Tail),
+            XY => Some(Place::Path(PathPlace::Points)),
             _ => None,
         },
         PathPlace::Begin => match kind {
             ENDEXTN => Some(Place::Path(PathPlace::End)),
-            XY => Some(Place::Tail),
+            XY => Some(Place::Path(PathPlace::Points)),
             _ => None,
         },
         PathPlace::End => match kind {
-            XY => Some(Place::Tail),
+            XY => Some(Place::Path(PathPlace::Points)),
+            _ => None,
+        },
+        PathPlace::Points => match kind {
+            XY => Some(Place::Path(PathPlace::Points)),
+            PROPATTR => Some(Place::Property),
+            ENDEL => Some(Place::InCell),
             _ => None,
         },
     }

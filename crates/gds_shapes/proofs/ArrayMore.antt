@@ -11,29 +11,31 @@ use Rattle.gds_records.specs.Kinds.{SREF, AREF, PATH, SNAME, COLROW, XY, ANGLE, 
 use Rattle.gds_grammar.specs.Pattern.{Pattern, after_any}
 use Rattle.gds_grammar.specs.Order.{left_after, is_empty}
 use Rattle.gds_elements.specs.Data as read
-use Rattle.gds_elements.specs.Meaning.{Shape, Ref, Cell, opened, columns_of, rows_of, part, text_part, is_mirrored, quarters, turn_of, motion_of, open_points, open_refs, refs_by}
+use Rattle.gds_elements.specs.Meaning.{Shape, Ref, Cell, opened, last_kind, columns_of, rows_of, part, text_part, is_mirrored, quarters, turn_of, motion_of, open_points, open_refs, refs_by}
+use Rattle.gds_elements.specs.Bounds.{is_line}
 use Rattle.gds_elements.specs.Faults.{content_fault, fault_of}
 use Rattle.gds_shapes.specs.Data.{bare, filled, string, point_bytes, IsNamed}
 use Rattle.gds_shapes.specs.References.{IsCount, start, column_end, row_end, points, counts, turning, FitsReference}
 use Rattle.gds_shapes.specs.References as r
 use Rattle.gds_shapes.specs.Stream.{Heading, Drawn}
 use Rattle.gds_shapes.proofs.Bodies.{number_bytes, joined}
-use Rattle.gds_shapes.proofs.Context.{inside, InCell, passes_next, goes_on, shut_passes, bare_record, head_more, body_more, head_end, body_end, followed-append}
+use Rattle.gds_shapes.proofs.Context.{inside, InCell, passes_next, no_line, shut_finished, goes_on, shut_passes, bare_record, head_more, body_more, head_end, body_end, followed-append}
 use Rattle.gds_shapes.proofs.Turnings.{Named, IsTurnPlace, turning_more, any_none}
 use Rattle.gds_shapes.proofs.Steps.{multiple, goes, stepped_back, first_side, second_side, columns_back, rows_back, is_counted}
-use Rattle.gds_shapes.proofs.Placements.{named_left, string_record, name_back, name_plain, points_record, same_point, shapes_none, texts_none}
+use Rattle.gds_shapes.proofs.Placements.{one_record, named_left, string_record, name_back, name_plain, points_record, same_point, shapes_none, texts_none}
 
 aref_named : (h : Heading) (cells : List Cell) (cell : Drawn) (shapes : List Shape) (refs : List Ref) (rs : Records) (name : List ℕ) → IsNamed name → InCell h cells cell shapes refs rs
     → Named h cells cell shapes refs AREF (named_left AREF) (filled name) (rs ▸ bare AREF ▸ string SNAME name)
 aref_named h cells cell shapes refs rs name n s =
     let b = rs ▸ bare AREF in
     let left_b : left_after b ≡ after_any AREF inside = ap (λ (ps : List Pattern). after_any AREF ps) s.left in
-    let pass_b : fault_of rs (bare AREF) ≡ None = passes_next rs (bare AREF) refl (goes_on rs AREF inside s.left refl) refl (shut_passes AREF (opened rs) 0 0 s.shut refl) in
+    let pass_b : fault_of rs (bare AREF) ≡ None = passes_next rs (bare AREF) (shut_finished rs AREF s.shut) (goes_on rs AREF inside s.left refl) refl (shut_passes AREF (opened rs) [] 0 0 s.shut refl) in
     let pass_n : fault_of b (string SNAME name) ≡ None = passes_next b (string SNAME name) refl (goes_on b SNAME _ left_b refl) (name_plain name n) refl in
     record {
       head = head_more h cells b (string SNAME name) refl (head_more h cells rs (bare AREF) refl s.head (bare_record AREF refl) pass_b) (string_record SNAME name refl n) pass_n;
       body = body_more cell shapes refs b (string SNAME name) refl (body_more cell shapes refs rs (bare AREF) refl s.body);
       opened_is = refl;
+      finished = λ k. refl;
       name_is = refl;
       no_strans = refl;
       no_angle = refl;
@@ -46,8 +48,8 @@ counts_record columns rows = record { kind = refl; form = omega arith; even = re
 counted : (a b : Bool) → a ≡ true → b ≡ true → (let none : Option ℕ = None in cond (a && b) none (Some 12)) ≡ None
 counted a b e f = rw (e, f) refl
 
-counts_pass : (start c k columns rows : ℕ) → IsCount columns → IsCount rows → content_fault start c k COLROW (counts columns rows).body ≡ None
-counts_pass start c k columns rows f g =
+counts_pass : (start : ℕ) (so_far : List Point) (c k columns rows : ℕ) → IsCount columns → IsCount rows → content_fault start so_far c k COLROW (counts columns rows).body ≡ None
+counts_pass start so_far c k columns rows f g =
     let some_columns = f.fits in
     let some_rows = g.fits in
     let back = columns_back columns rows (omega (arith, some_columns)) in
@@ -61,8 +63,8 @@ divides a b e f = rw (e, f) refl
 abbrev three : Ref → List ℕ
 three r = flat_map point_bytes (start r ∷ column_end r ∷ row_end r ∷ [])
 
-points_pass : (f : Ref) → FitsReference f → content_fault AREF f.columns f.rows XY (three f) ≡ None
-points_pass f fits =
+points_pass : (so_far : List Point) (f : Ref) → FitsReference f → content_fault AREF so_far f.columns f.rows XY (three f) ≡ None
+points_pass so_far f fits =
     divides _ _ (ap (λ (p : Point). read.goes_into f.columns p) (first_side (start f) (row_end f) f.columns f.column_step fits.long.start fits.long.column_end) ∙ goes f.columns f.column_step fits.columns.some)
     (ap (λ (p : Point). read.goes_into f.rows p) (second_side (start f) (column_end f) f.rows f.row_step fits.long.start fits.long.row_end) ∙ goes f.rows f.row_step fits.rows.some)
 
@@ -85,7 +87,7 @@ array_more h cells cell shapes refs rs f fits s =
     let colrow = counts f.columns f.rows in
     let rs_c = rs_t ▸ colrow in
     let next_c : not (is_empty (after_any COLROW (left_after rs_t))) ≡ true = ap (λ (ps : List Pattern). not (is_empty ps)) t.left_is in
-    let pass_c : fault_of rs_t colrow ≡ None = passes_next rs_t colrow refl next_c refl (counts_pass (opened rs_t) (columns_of rs_t) (rows_of rs_t) f.columns f.rows fits.columns fits.rows) in
+    let pass_c : fault_of rs_t colrow ≡ None = passes_next rs_t colrow (no_line (opened rs_t) AREF (last_kind rs_t) (open_points rs_t) refl t.opened_is COLROW) next_c refl (counts_pass (opened rs_t) (open_points rs_t) (columns_of rs_t) (rows_of rs_t) f.columns f.rows fits.columns fits.rows) in
     let head_c = head_more h cells rs_t colrow refl t.head (counts_record f.columns f.rows) pass_c in
     let body_c = body_more cell shapes refs rs_t colrow refl t.body in
     let some_columns = fits.columns.fits in
@@ -96,18 +98,18 @@ array_more h cells cell shapes refs rs f fits s =
     let xy = points (start f ∷ column_end f ∷ row_end f ∷ []) in
     let rs_x = rs_c ▸ xy in
     let next_x : not (is_empty (after_any XY (left_after rs_c))) ≡ true = ap (λ (ps : List Pattern). not (is_empty (after_any XY ps))) t.left_is in
-    let content : content_fault (opened rs_c) (columns_of rs_c) (rows_of rs_c) XY (three f) ≡ None =
-    ap (λ (k : ℕ). content_fault k (columns_of rs_c) (rows_of rs_c) XY (three f)) opened_c ∙ ap (λ (k : ℕ). content_fault AREF k (rows_of rs_c) XY (three f)) columns_c
-    ∙ ap (λ (k : ℕ). content_fault AREF f.columns k XY (three f)) rows_c ∙ points_pass f fits in
+    let content : content_fault (opened rs_c) (open_points rs_c) (columns_of rs_c) (rows_of rs_c) XY (three f) ≡ None =
+    ap (λ (k : ℕ). content_fault k (open_points rs_c) (columns_of rs_c) (rows_of rs_c) XY (three f)) opened_c ∙ ap (λ (k : ℕ). content_fault AREF (open_points rs_c) k (rows_of rs_c) XY (three f)) columns_c
+    ∙ ap (λ (k : ℕ). content_fault AREF (open_points rs_c) f.columns k XY (three f)) rows_c ∙ points_pass (open_points rs_c) f fits in
     let pass_x : fault_of rs_c xy ≡ None = passes_next rs_c xy refl next_x refl content in
     let head_x = head_more h cells rs_c xy refl head_c (points_record (start f ∷ column_end f ∷ row_end f ∷ []) refl (omega arith)) pass_x in
     let body_x = body_more cell shapes refs rs_c xy refl body_c in
     let left_xs : left_after rs_x ≡ left_x = ap (λ (ps : List Pattern). after_any XY ps) t.left_is in
-    let pass_e : fault_of rs_x (bare ENDEL) ≡ None = passes_next rs_x (bare ENDEL) refl (goes_on rs_x ENDEL left_x left_xs refl) refl (any_none (opened rs_x == PATH) (opened rs_x == SREF || opened rs_x == AREF)) in
+    let pass_e : fault_of rs_x (bare ENDEL) ≡ None = passes_next rs_x (bare ENDEL) (no_line (opened rs_x) AREF XY (open_points rs_x) refl t.opened_is ENDEL) (goes_on rs_x ENDEL left_x left_xs refl) refl (any_none (opened rs_x == PATH) (opened rs_x == SREF || opened rs_x == AREF)) in
     let opened_x : opened rs_x ≡ AREF = t.opened_is in
     let one : open_refs rs_x ≡ f ∷ [] =
     by_parts (opened rs_x) (read.trimmed (text_part rs_x)) (turn_of (is_mirrored rs_x) (quarters (part ANGLE rs_x))) (read.first_of (open_points rs_x)) (columns_of rs_x) (rows_of rs_x) (read.side (part XY rs_x) 8) (read.side (part XY rs_x) 16) f
-    opened_x (ap (λ (text : List ℕ). read.trimmed text) t.name_is ∙ name_back f.cell fits.cell) fits.cell.named t.turn_is (same_point (start f) fits.long.start) columns_c rows_c
+    opened_x (ap (λ (text : List ℕ). read.trimmed text) t.name_is ∙ name_back f.cell fits.cell) fits.cell.named t.turn_is (ap (λ (ps : List Point). read.first_of ps) (one_record (opened rs_c) (open_points rs_c) (read.points_of (three f)) (ap (λ (k : ℕ). is_line k) opened_c)) ∙ same_point (start f) fits.long.start) columns_c rows_c
     (first_side (start f) (row_end f) f.columns f.column_step fits.long.start fits.long.column_end) (second_side (start f) (column_end f) f.rows f.row_step fits.long.start fits.long.row_end)
     (stepped_back f.columns f.column_step fits.columns.some) (stepped_back f.rows f.row_step fits.rows.some) in
     let whole : followed_by_all rs (r.array f) ≡ rs_x ▸ bare ENDEL = followed-append rs_n (turning f.motion.turn) (colrow ∷ xy ∷ bare ENDEL ∷ []) in

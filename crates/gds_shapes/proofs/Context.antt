@@ -7,9 +7,11 @@ use Rattle.gds_grammar.specs.Pattern.{Pattern, after_any}
 use Rattle.gds_grammar.specs.Left.{left_of}
 use Rattle.gds_grammar.specs.Order.{left_after, is_empty, can_go_on}
 use Rattle.gds_grammar.specs.declared.place.Place.TheVariants.{InCell as InCellPlace, Cells}
-use Rattle.gds_records.specs.Kinds.{HEADER, BGNLIB, LIBNAME, UNITS, BGNSTR, STRNAME, ENDSTR, ENDEL}
-use Rattle.gds_elements.specs.Meaning.{Shape, Ref, Cell, opened, last_kind, columns_of, rows_of, head_part, cell_part, is_cell_bound, open_shapes, open_texts, open_refs, shapes_of, texts_of, refs_of, cells_of, open_cells}
-use Rattle.gds_elements.specs.Faults.{is_second_points, is_plain, content_fault, fault_of, Passes}
+use Rattle.gds_records.specs.Kinds.{HEADER, BGNLIB, LIBNAME, UNITS, BGNSTR, STRNAME, ENDSTR, ENDEL, XY}
+use Rattle.gds_elements.specs.Meaning.{Shape, Ref, Cell, opened, last_kind, open_points, columns_of, rows_of, head_part, cell_part, is_cell_bound, open_shapes, open_texts, open_refs, shapes_of, texts_of, refs_of, cells_of, open_cells}
+use Rattle.gds_elements.specs.Faults.{are_complete, is_unfinished, is_plain, content_fault, fault_of, Passes}
+use Rattle.gds_elements.proofs.Passing.{passes}
+use Rattle.geo_base.specs.declared.shapes.Point.{Point}
 use Rattle.gds_shapes.specs.Data.{bare, filled, number}
 use Rattle.gds_shapes.specs.Stream.{Heading, Drawn}
 use Rattle.gds_shapes.proofs.Bodies.{number_bytes}
@@ -53,22 +55,35 @@ pub record Between (h : Heading) (cells : List Cell) (rs : Records) : Type 0 whe
 
 -- ---- a record passes
 
-verdict : (s a b : Bool) (c : Option ℕ) → s ≡ false → a ≡ true → b ≡ true → c ≡ None → cond s (Some 14) (cond (not a) (Some 4) (cond (not b) (Some 5) c)) ≡ None
-verdict s a b c e f g h = rw (e, f, g, h) refl
+pub passes_next : (before : Records) (r : Rec) → is_unfinished (opened before) (last_kind before) (open_points before) r.kind ≡ false → can_go_on before r.kind ≡ true → is_plain r.kind r.form r.body ≡ true
+    → content_fault (opened before) (open_points before) (columns_of before) (rows_of before) r.kind r.body ≡ None → fault_of before r ≡ None
+passes_next before r e f g h = passes before r f e g h
 
-pub passes_next : (before : Records) (r : Rec) → is_second_points (opened before) (last_kind before) r.kind ≡ false → can_go_on before r.kind ≡ true → is_plain r.kind r.form r.body ≡ true
-    → content_fault (opened before) (columns_of before) (rows_of before) r.kind r.body ≡ None → fault_of before r ≡ None
-passes_next before r e f g h = verdict _ _ _ _ e f g h
+-- an element that needs no more points is never unfinished
+enough : (a b c : Bool) → c ≡ true → ((a && b) && not c) ≡ false
+enough true true c e = rw e refl
+enough true false c e = refl
+enough false b c e = refl
+
+pub never_unfinished : (start last : ℕ) (points : List Point) (kind : ℕ) → are_complete start points ≡ true → is_unfinished start last points kind ≡ false
+never_unfinished start last points kind e = enough (last == XY) (not (kind == XY)) (are_complete start points) e
+
+-- nor is one of another kind than a boundary or a path
+pub no_line : (start kind last : ℕ) (points : List Point) → are_complete kind points ≡ true → start ≡ kind → (k : ℕ) → is_unfinished start last points k ≡ false
+no_line start kind last points e is k = never_unfinished start last points k (ap (λ (n : ℕ). are_complete n points) is ∙ e)
 
 pub goes_on : (before : Records) (kind : ℕ) (left : List Pattern) → left_after before ≡ left → not (is_empty (after_any kind left)) ≡ true → can_go_on before kind ≡ true
 goes_on before kind left e h = ap (λ (ps : List Pattern). not (is_empty (after_any kind ps))) e ∙ h
 
 -- no part of an element that isn't open has a fault
-pub shut_passes : (kind start columns rows : ℕ) → start ≡ 0 → content_fault 0 columns rows kind [] ≡ None → content_fault start columns rows kind [] ≡ None
-shut_passes kind start columns rows e h = ap (λ (k : ℕ). content_fault k columns rows kind []) e ∙ h
+pub shut_passes : (kind start : ℕ) (so_far : List Point) (columns rows : ℕ) → start ≡ 0 → content_fault 0 so_far columns rows kind [] ≡ None → content_fault start so_far columns rows kind [] ≡ None
+shut_passes kind start so_far columns rows e h = ap (λ (k : ℕ). content_fault k so_far columns rows kind []) e ∙ h
 
-pub shut_content : (kind start columns rows : ℕ) (body : List ℕ) → start ≡ 0 → content_fault 0 columns rows kind body ≡ None → content_fault start columns rows kind body ≡ None
-shut_content kind start columns rows body e h = ap (λ (k : ℕ). content_fault k columns rows kind body) e ∙ h
+pub shut_content : (kind start : ℕ) (so_far : List Point) (columns rows : ℕ) (body : List ℕ) → start ≡ 0 → content_fault 0 so_far columns rows kind body ≡ None → content_fault start so_far columns rows kind body ≡ None
+shut_content kind start so_far columns rows body e h = ap (λ (k : ℕ). content_fault k so_far columns rows kind body) e ∙ h
+
+pub shut_finished : (rs : Records) (kind : ℕ) → opened rs ≡ 0 → is_unfinished (opened rs) (last_kind rs) (open_points rs) kind ≡ false
+shut_finished rs kind e = no_line (opened rs) 0 (last_kind rs) (open_points rs) refl e kind
 
 pub bare_record : (kind : ℕ) → IsTrue (is_listed kind) → IsRecord (bare kind)
 bare_record kind h = record { kind = h; form = omega arith; even = refl; short = omega arith; bytes = λ i. omega arith }

@@ -13,15 +13,15 @@ use Rattle.gds_grammar.specs.Pattern.{Pattern, after_any}
 use Rattle.gds_grammar.specs.Order.{left_after}
 use Rattle.gds_elements.specs.Data as read
 use Rattle.gds_records.specs.Kinds.{BOUNDARY, LAYER, DATATYPE, XY, ENDEL}
-use Rattle.gds_elements.specs.Meaning.{Boundary, Shape, Ref, Cell, opened, open_shapes}
+use Rattle.gds_elements.specs.Meaning.{Boundary, Shape, Ref, Cell, opened, open_points, open_shapes}
 use Rattle.gds_elements.specs.Faults.{fault_of}
 use Rattle.gds_elements.specs.Reading.{rec}
 use Rattle.gds_shapes.specs.Data.{bare, number}
 use Rattle.gds_shapes.specs.Stream.{Heading, Drawn, IsKey, FitsLayer, boundary, layer, outline}
 use Rattle.gds_shapes.specs.Accepted.{rect_shape, layer_shapes}
 use Rattle.gds_shapes.proofs.Bodies.{outline_bytes, number_back, same_corners}
-use Rattle.gds_shapes.proofs.Outlines.{outline_passes}
-use Rattle.gds_shapes.proofs.Context.{inside, InCell, passes_next, goes_on, shut_passes, bare_record, number_record, head_more, body_more, head_end, body_end, followed-append}
+use Rattle.gds_shapes.proofs.Outlines.{outline_whole, outline_passes}
+use Rattle.gds_shapes.proofs.Context.{inside, InCell, passes_next, never_unfinished, shut_finished, goes_on, shut_passes, bare_record, number_record, head_more, body_more, head_end, body_end, followed-append}
 
 xy_record : (r : Rect) → IsRecord (rec XY 3 (outline r))
 xy_record r = record { kind = refl; form = omega arith; even = refl; short = omega arith; bytes = outline_bytes r }
@@ -41,11 +41,11 @@ boundary_more h cells cell shapes refs rs key r k l s =
     ap (λ (n : ℕ). let xs : List Shape = record { key = record { layer = n; datatype = read.number (number DATATYPE key.datatype).body }; form = Boundary (read.points_of (outline r)) } ∷ [] in xs) (number_back key.layer k.layer)
     ∙ ap (λ (n : ℕ). let xs : List Shape = record { key = record { layer = key.layer; datatype = n }; form = Boundary (read.points_of (outline r)) } ∷ [] in xs) (number_back key.datatype k.datatype)
     ∙ ap (λ (ps : List Point). let xs : List Shape = record { key = key; form = Boundary ps } ∷ [] in xs) (same_corners r l) in
-    let pass_b : fault_of rs (bare BOUNDARY) ≡ None = passes_next rs (bare BOUNDARY) refl (goes_on rs BOUNDARY inside s.left refl) refl (shut_passes BOUNDARY (opened rs) 0 0 s.shut refl) in
+    let pass_b : fault_of rs (bare BOUNDARY) ≡ None = passes_next rs (bare BOUNDARY) (shut_finished rs BOUNDARY s.shut) (goes_on rs BOUNDARY inside s.left refl) refl (shut_passes BOUNDARY (opened rs) [] 0 0 s.shut refl) in
     let pass_y : fault_of b (number LAYER key.layer) ≡ None = passes_next b (number LAYER key.layer) refl (goes_on b LAYER _ left_b refl) refl refl in
     let pass_d : fault_of y (number DATATYPE key.datatype) ≡ None = passes_next y (number DATATYPE key.datatype) refl (goes_on y DATATYPE _ left_y refl) refl refl in
     let pass_x : fault_of d (rec XY 3 (outline r)) ≡ None = passes_next d (rec XY 3 (outline r)) refl (goes_on d XY _ left_d refl) refl (outline_passes 0 0 r) in
-    let pass_e : fault_of x (bare ENDEL) ≡ None = passes_next x (bare ENDEL) refl (goes_on x ENDEL _ left_x refl) refl refl in
+    let pass_e : fault_of x (bare ENDEL) ≡ None = passes_next x (bare ENDEL) (never_unfinished BOUNDARY XY (open_points x) ENDEL (outline_whole r)) (goes_on x ENDEL _ left_x refl) refl refl in
     let head_b = head_more h cells rs (bare BOUNDARY) refl s.head (bare_record BOUNDARY refl) pass_b in
     let head_y = head_more h cells b (number LAYER key.layer) refl head_b (number_record LAYER key.layer refl) pass_y in
     let head_d = head_more h cells y (number DATATYPE key.datatype) refl head_y (number_record DATATYPE key.datatype refl) pass_d in

@@ -1,12 +1,12 @@
 -- The corners of a rectangle pass the tests of a boundary's points.
-use Rattle.std.proofs.Common.{◌≡◌, ℕ, Bool, true, false, List, Option, None, refl, ap, ℤ}
+use Rattle.std.proofs.Common.{◌≡◌, ℕ, Bool, true, false, cond, List, [], Option, Some, None, refl, ap, ℤ}
 use Rattle.std.specs.Prelude.{◌&&◌, ◌||◌}
 use Rattle.std.specs.Ordering.{int_eq}
 use Rattle.std.proofs.lemmas.Bool.Decides.{Decides-int_eq}
 use Rattle.geo_base.specs.declared.shapes.Point.{Point}
 use Rattle.geo_base.specs.declared.shapes.Rect.{Rect}
 use Rattle.gds_elements.specs.Data.{is_closed, is_straight}
-use Rattle.gds_elements.specs.Faults.{outline_fault, or_else, content_fault}
+use Rattle.gds_elements.specs.Faults.{are_complete, or_else, content_fault}
 use Rattle.gds_shapes.specs.Stream.{corners, outline}
 use Rattle.gds_shapes.proofs.Bodies.{rect_back}
 
@@ -29,8 +29,12 @@ closed r = both _ _ (same r.x1) (same r.y1)
 straight : (r : Rect) → is_straight (corners r) ≡ true
 straight r = both _ _ (first _ _ (same r.x1)) (both _ _ (second _ _ (same r.y2)) (both _ _ (first _ _ (same r.x2)) (both _ _ (second _ _ (same r.y1)) refl)))
 
-sound : (fits : Bool) (ps : List Point) → fits ≡ true → is_straight ps ≡ true → outline_fault fits ps ≡ None
-sound fits ps e f = rw (e, f) refl
+sound : (straight : Bool) → straight ≡ true → cond {A = Option ℕ} straight None (Some 6) ≡ None
+sound straight e = rw e refl
 
-pub outline_passes : (columns rows : ℕ) (r : Rect) → content_fault 0x08 columns rows 0x10 (outline r) ≡ None
-outline_passes columns rows r = ap (λ (o : Option ℕ). or_else o None) (sound (is_closed (corners (rect_back r))) (corners (rect_back r)) (closed (rect_back r)) (straight (rect_back r)))
+-- they are closed, and enough
+pub outline_whole : (r : Rect) → are_complete 0x08 (corners (rect_back r)) ≡ true
+outline_whole r = closed (rect_back r)
+
+pub outline_passes : (columns rows : ℕ) (r : Rect) → content_fault 0x08 [] columns rows 0x10 (outline r) ≡ None
+outline_passes columns rows r = ap (λ (o : Option ℕ). or_else o None) (sound (is_straight (corners (rect_back r))) (straight (rect_back r)))

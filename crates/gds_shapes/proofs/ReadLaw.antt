@@ -15,8 +15,9 @@ use Rattle.gds_grammar.proofs.LastRecord.{stops}
 use Rattle.gds_records.specs.Kinds.{HEADER, BGNLIB, LIBNAME, UNITS, BGNSTR, STRNAME, ENDSTR}
 use Rattle.gds_elements.specs.Data.{exactly, is_empty, trimmed, put_before, has_unit, real_in}
 use Rattle.fixed_num.specs.Real.{is_unit}
-use Rattle.gds_elements.specs.Meaning.{Shape, Text, Ref, Cell, Library, opened, last_kind, columns_of, rows_of, found, head_part, is_cell_bound, cell_part, shapes_of, texts_of, refs_of, cells_of, cell_by, open_cells, library_of}
-use Rattle.gds_elements.specs.Faults.{is_second_points, is_plain, content_fault, fault_of, Passes}
+use Rattle.gds_elements.specs.Meaning.{Shape, Text, Ref, Cell, Library, opened, open_points, columns_of, rows_of, found, head_part, is_cell_bound, cell_part, shapes_of, texts_of, refs_of, cells_of, cell_by, open_cells, library_of}
+use Rattle.gds_elements.specs.Faults.{content_fault, fault_of, Passes}
+use Rattle.gds_elements.proofs.Passing.{passed}
 use Rattle.gds_shapes.specs.Data.{IsShort, IsData, IsText}
 use Rattle.gds_shapes.specs.Stream.{heading_of}
 use Rattle.gds_shapes.specs.Accepted.{IsHeading, IsRead, ReadHeadingLaw, ReadLaw}
@@ -133,24 +134,13 @@ library_units ks h =
     behind g.HEADER from_start ks h (λ xs a. behind g.BGNLIB (Then (Many g.option) from_name) xs a (λ ys b. behind (Many g.option) from_name ys b
     (λ zs c. behind g.LIBNAME (Then (Many g.option) from_units) zs c (λ us d. behind (Many g.option) from_units us d (λ vs e. at_front (Then (Many g.structure) g.ENDLIB) vs e)))))
 
-can_go : (s a b : Bool) (c : Option ℕ) → cond s (Some 14) (cond (not a) (Some 4) (cond (not b) (Some 5) c)) ≡ None → a ≡ true
-can_go true a b c e = absurd cc
-can_go false true b c e = refl
-can_go false false b c e = absurd cc
-
-pub content_sound : (s a b : Bool) (c : Option ℕ) → cond s (Some 14) (cond (not a) (Some 4) (cond (not b) (Some 5) c)) ≡ None → c ≡ None
-content_sound true a b c e = absurd cc
-content_sound false false b c e = absurd cc
-content_sound false true false c e = absurd cc
-content_sound false true true c e = e
-
 true_false : true ≡ false → ⊥
 true_false h = cc
 
 ended_units : (rs : Records) → Passes rs → IsEnded rs → has_units (kinds_of rs) ≡ true
 ended_units NoRecords p e = absurd cc
 ended_units (before ▸ r) p e =
-    let on : can_go_on before r.kind ≡ true = can_go (is_second_points (opened before) (last_kind before) r.kind) _ (is_plain r.kind r.form r.body) (content_fault (opened before) (columns_of before) (rows_of before) r.kind r.body) p.2 in
+    let on : can_go_on before r.kind ≡ true = (passed before r p.2).in_order in
     let u = (grammar_law before r.kind).0 on in
     by_rest u.0 u.1
   where
@@ -175,9 +165,9 @@ unit_more before r p so_far h = by_test (r.kind == 0x03) refl
   where
     by_test : (b : Bool) → (r.kind == 0x03) ≡ b → has_unit ((cond b r.body (head_part UNITS before))) ≡ true
     by_test true e =
-        let content = content_sound (is_second_points (opened before) (last_kind before) r.kind) (can_go_on before r.kind) (is_plain r.kind r.form r.body) (content_fault (opened before) (columns_of before) (rows_of before) r.kind r.body) p in
+        let content = (passed before r p).sound in
         let kind : r.kind ≡ 0x03 = eqb-true _ _ e in
-        unit_tested (has_unit (r.body)) 13 (subst (λ (k : ℕ). content_fault (opened before) (columns_of before) (rows_of before) k r.body ≡ None) kind content)
+        unit_tested (has_unit (r.body)) 13 (subst (λ (k : ℕ). content_fault (opened before) (open_points before) (columns_of before) (rows_of before) k r.body ≡ None) kind content)
     by_test false e =
         let parts = sym (list_any-append (λ (k : ℕ). k == 0x03) (kinds_of before) (r.kind ∷ [])) ∙ h in
         so_far (or_left (has_units (kinds_of before)) _ (ap (λ (b : Bool). b || false) e) parts)

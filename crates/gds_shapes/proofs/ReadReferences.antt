@@ -1,5 +1,5 @@
 -- What the references of a library that was read have.
-use Rattle.std.proofs.Common.{◌≡◌, ◌⊎◌, inl, inr, ℕ, zero, suc, ◌+◌, ◌-◌, ◌*◌, ◌/◌, ◌^◌, ◌<◌, ◌≤◌, Bool, true, false, cond, List, [], ◌∷◌, ◌++◌, length, None, refl, sym, subst, arith, ℤ, pos, negsuc}
+use Rattle.std.proofs.Common.{◌≡◌, ◌⊎◌, inl, inr, ℕ, zero, suc, ◌+◌, ◌-◌, ◌*◌, ◌/◌, ◌^◌, ◌<◌, ◌≤◌, Bool, true, false, cond, List, [], ◌∷◌, ◌++◌, length, None, refl, sym, ap, subst, ◌∙◌, arith, ℤ, pos, negsuc}
 use Rattle.std.specs.Prelude.{◌==◌, ◌&&◌, ◌||◌, nat_lt, int_div, ◌+ℤ◌, ◌-ℤ◌, ◌*ℤ◌, ◌≤ℤ◌, neg_ℤ}
 use Rattle.std.specs.Int.{w32, cast_signed}
 use Rattle.std.specs.List.{All, AllByRecursion as ByRecursion}
@@ -8,20 +8,24 @@ use Rattle.std.proofs.lemmas.Int.{ints}
 use Rattle.std.proofs.lemmas.List.Elements.{All-from_recursion}
 use Rattle.std.proofs.Math.Nat.{mul-div-le}
 use Rattle.geo_base.specs.Near.{IsLong, IsLongPoint}
+use Rattle.geo_base.specs.declared.motion.Motion.{Motion}
 use Rattle.geo_base.specs.declared.motion.Turn.{Turn}
 use Rattle.geo_base.specs.declared.shapes.Point.{Point}
 use Rattle.gds_records.specs.Records.{Rec, Records, NoRecords, ◌▸◌}
-use Rattle.gds_records.specs.Kinds.{SREF, AREF, COLROW, STRING, SNAME, ANGLE, XY, ENDEL, ENDSTR}
+use Rattle.gds_records.specs.Kinds.{BOUNDARY, PATH, SREF, AREF, COLROW, STRING, SNAME, ANGLE, XY, ENDEL, ENDSTR}
 use Rattle.gds_grammar.specs.Order.{can_go_on}
-use Rattle.gds_elements.specs.Bounds.{is_bound}
+use Rattle.gds_elements.specs.Bounds.{is_line, is_bound}
 use Rattle.gds_elements.specs.Data.{coordinate, origin, first_of, points_of, side, step, columns_in, rows_in, is_count, is_empty, trimmed}
-use Rattle.gds_elements.specs.Meaning.{Ref, Cell, Library, opened, last_kind, columns_of, rows_of, part, text_part, is_cell_bound, is_mirrored, quarters, turn_of, motion_of, single, array, refs_by, open_refs, refs_of, open_cells, cells_of}
-use Rattle.gds_elements.specs.Faults.{is_second_points, is_plain, content_fault, fault_of, Passes, Accepts}
+use Rattle.gds_elements.specs.Meaning.{Ref, Cell, Library, opened, gathered, open_points, columns_of, rows_of, part, text_part, is_cell_bound, is_mirrored, quarters, turn_of, motion_of, single, array, refs_by, open_refs, refs_of, open_cells, cells_of}
+use Rattle.gds_elements.specs.Faults.{content_fault, fault_of, Passes, Accepts}
+use Rattle.gds_elements.proofs.Passing.{passed}
 use Rattle.gds_elements.specs.Placeable.{PlaceableLaw}
 use Rattle.gds_shapes.specs.Data.{IsText, IsNamed}
 use Rattle.gds_shapes.specs.References.{stepped, HasLongPoints}
 use Rattle.gds_shapes.specs.Accepted.{ReadReferencesLaw}
-use Rattle.gds_shapes.proofs.ReadLaw.{trimmed_text, found_bytes, found_short, content_sound, unit_tested}
+use Rattle.gds_shapes.proofs.ReadLaw.{trimmed_text, found_bytes, found_short, unit_tested}
+use Rattle.gds_shapes.proofs.Placements.{one_record}
+use Rattle.gds_elements.proofs.Parts.{opened_still}
 
 -- ---- numbers of four bytes
 
@@ -129,9 +133,9 @@ counts_more before r p rest = by_test (r.kind == COLROW) (is_bound r.kind) refl
   where
     by_test : (b bound : Bool) → (r.kind == COLROW) ≡ b → AreLow (columns_in (cond b r.body (cond bound [] (part COLROW before)))) (rows_in (cond b r.body (cond bound [] (part COLROW before))))
     by_test true bound e =
-        let content = content_sound (is_second_points (opened before) (last_kind before) r.kind) (can_go_on before r.kind) (is_plain r.kind r.form r.body) (content_fault (opened before) (columns_of before) (rows_of before) r.kind r.body) p in
+        let content = (passed before r p).sound in
         let kind : r.kind ≡ COLROW = eqb-true _ _ e in
-        let test = unit_tested (is_count (columns_in r.body) && is_count (rows_in r.body)) 12 (subst (λ (k : ℕ). content_fault (opened before) (columns_of before) (rows_of before) k r.body ≡ None) kind content) in
+        let test = unit_tested (is_count (columns_in r.body) && is_count (rows_in r.body)) 12 (subst (λ (k : ℕ). content_fault (opened before) (open_points before) (columns_of before) (rows_of before) k r.body ≡ None) kind content) in
         let t = both _ _ test in
         low_counts (columns_in r.body) (rows_in r.body) t.0 t.1
     by_test false true e = (omega arith, omega arith)
@@ -182,11 +186,47 @@ refs_more false false xs ys f h = f
 name_text : (rs : Records) → Passes rs → IsText (trimmed (text_part rs))
 name_text rs p = trimmed_text (text_part rs) (found_bytes (λ k. k == STRING || k == SNAME) is_bound rs p) (found_short (λ k. k == STRING || k == SNAME) is_bound rs p)
 
+-- a boundary and a path are no reference
+line_places : (start : ℕ) (name : List ℕ) (m : Motion) (columns rows : ℕ) (a b : Point) → is_line start ≡ true → Place (refs_by start name m columns rows a b)
+line_places start name m columns rows a b e = by_test (start == BOUNDARY) (start == PATH) refl refl e
+  where
+    by_test : (x y : Bool) → (start == BOUNDARY) ≡ x → (start == PATH) ≡ y → (x || y) ≡ true → Place (refs_by start name m columns rows a b)
+    by_test true y f g h = let P : ℕ → Type 0 = λ k. Place (refs_by k name m columns rows a b) in subst P (sym (eqb-true _ _ f)) tt
+    by_test false true f g h = let P : ℕ → Type 0 = λ k. Place (refs_by k name m columns rows a b) in subst P (sym (eqb-true _ _ g)) tt
+    by_test false false f g h = absurd cc
+
+record_more : (before : Records) (r : Rec) (b x : Bool) → is_bound r.kind ≡ b → (r.kind == XY) ≡ x → (is_bound r.kind ≡ false → is_line (opened before) ≡ false)
+    → (is_bound r.kind ≡ false → open_points before ≡ points_of (part XY before))
+    → cond b [] (cond x (gathered (opened before) (open_points before) (points_of r.body)) (open_points before)) ≡ points_of (cond x r.body (cond b [] (part XY before)))
+record_more before r true true f g h i = let k : r.kind ≡ XY = eqb-true _ _ g in let bad : true ≡ false = sym f ∙ ap (λ (n : ℕ). is_bound n) k in absurd cc
+record_more before r true false f g h i = refl
+record_more before r false true f g h i = one_record (opened before) (open_points before) (points_of r.body) (h f)
+record_more before r false false f g h i = i f
+
+-- the points of another element are those of its record
+open_record : (rs : Records) → is_line (opened rs) ≡ false → open_points rs ≡ points_of (part XY rs)
+open_record NoRecords e = refl
+open_record (before ▸ r) e =
+    record_more before r (is_bound r.kind) (r.kind == XY) refl refl (λ f. ap (λ (n : ℕ). is_line n) (sym (opened_still before r f)) ∙ e)
+    (λ f. open_record before (ap (λ (n : ℕ). is_line n) (sym (opened_still before r f)) ∙ e))
+
+open_places : (rs : Records) → Passes rs → Place (open_refs rs)
+open_places rs p = by_test (is_line (opened rs)) refl
+  where
+    turn : Turn
+    turn = turn_of (is_mirrored rs) (quarters (part ANGLE rs))
+
+    by_test : (b : Bool) → is_line (opened rs) ≡ b → Place (open_refs rs)
+    by_test true e = line_places (opened rs) _ _ _ _ _ _ e
+    by_test false e =
+        let P : List Point → Type 0 = λ ps. Place (refs_by (opened rs) (trimmed (text_part rs)) (motion_of turn (first_of ps)) (columns_of rs) (rows_of rs) (side (part XY rs) 8) (side (part XY rs) 16)) in
+        subst P (sym (open_record rs e)) (element_low (opened rs) (trimmed (text_part rs)) turn (part XY rs) (columns_of rs) (rows_of rs) (name_text rs p) (counts_low rs p))
+
 refs_low : (rs : Records) → Passes rs → Place (refs_of rs)
 refs_low NoRecords p = tt
 refs_low (before ▸ r) p =
     refs_more (is_cell_bound r.kind) (r.kind == ENDEL) (refs_of before) (open_refs before) (refs_low before p.0)
-    (element_low (opened before) (trimmed (text_part before)) (turn_of (is_mirrored before) (quarters (part ANGLE before))) (part XY before) (columns_of before) (rows_of before) (name_text before p.0) (counts_low before p.0))
+    (open_places before p.0)
 
 -- ---- cells
 

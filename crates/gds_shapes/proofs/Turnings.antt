@@ -8,8 +8,9 @@ use Rattle.gds_records.specs.Kinds.{PATH, SREF, AREF, STRANS, ANGLE}
 use Rattle.gds_grammar.specs.Pattern.{Pattern, after_any}
 use Rattle.gds_grammar.specs.Order.{left_after, is_empty}
 use Rattle.gds_elements.specs.Data.{number}
-use Rattle.gds_elements.specs.Meaning.{Shape, Ref, Cell, opened, columns_of, rows_of, part, text_part, is_mirrored, quarters, turn_of}
-use Rattle.gds_elements.specs.Faults.{turn_fault, content_fault, fault_of}
+use Rattle.gds_elements.specs.Meaning.{Shape, Ref, Cell, opened, last_kind, open_points, columns_of, rows_of, part, text_part, is_mirrored, quarters, turn_of}
+use Rattle.gds_elements.specs.Faults.{is_unfinished, turn_fault, content_fault, fault_of}
+use Rattle.geo_base.specs.declared.shapes.Point.{Point}
 use Rattle.gds_shapes.specs.References.{strans, angle, turning}
 use Rattle.gds_shapes.specs.Stream.{Heading, Drawn}
 use Rattle.gds_shapes.proofs.Bodies.{nil, cons}
@@ -29,6 +30,7 @@ pub record Named (h : Heading) (cells : List Cell) (cell : Drawn) (shapes : List
   pub head : Head h cells rs
   pub body : Body cell shapes refs rs
   pub opened_is : opened rs ≡ start
+  pub finished : (k : ℕ) → is_unfinished (opened rs) (last_kind rs) (open_points rs) k ≡ false
   pub name_is : text_part rs ≡ name
   pub no_strans : part STRANS rs ≡ []
   pub no_angle : part ANGLE rs ≡ []
@@ -47,14 +49,14 @@ any_none true b = refl
 any_none false true = refl
 any_none false false = refl
 
-strans_passes : (start columns rows : ℕ) (bits : List ℕ) → turn_fault STRANS bits ≡ None → content_fault start columns rows STRANS bits ≡ None
-strans_passes start columns rows bits h = ap (λ (o : Option ℕ). let none : Option ℕ = None in cond (start == PATH) none (cond (start == SREF || start == AREF) o none)) h ∙ any_none (start == PATH) (start == SREF || start == AREF)
+strans_passes : (start : ℕ) (so_far : List Point) (columns rows : ℕ) (bits : List ℕ) → turn_fault STRANS bits ≡ None → content_fault start so_far columns rows STRANS bits ≡ None
+strans_passes start so_far columns rows bits h = ap (λ (o : Option ℕ). let none : Option ℕ = None in cond (start == PATH) none (cond (start == SREF || start == AREF) o none)) h ∙ any_none (start == PATH) (start == SREF || start == AREF)
 
 strans_record : (a b : ℕ) → a < 256 → b < 256 → IsRecord (strans (a ∷ b ∷ []))
 strans_record a b f g = record { kind = refl; form = omega arith; even = refl; short = omega arith; bytes = cons a (b ∷ []) f (cons b [] g nil) }
 
-angle_passes : (start columns rows : ℕ) (degrees : List ℕ) → turn_fault ANGLE degrees ≡ None → content_fault start columns rows ANGLE degrees ≡ None
-angle_passes start columns rows degrees h = ap (λ (o : Option ℕ). let none : Option ℕ = None in cond (start == PATH) none (cond (start == SREF || start == AREF) o none)) h ∙ any_none (start == PATH) (start == SREF || start == AREF)
+angle_passes : (start : ℕ) (so_far : List Point) (columns rows : ℕ) (degrees : List ℕ) → turn_fault ANGLE degrees ≡ None → content_fault start so_far columns rows ANGLE degrees ≡ None
+angle_passes start so_far columns rows degrees h = ap (λ (o : Option ℕ). let none : Option ℕ = None in cond (start == PATH) none (cond (start == SREF || start == AREF) o none)) h ∙ any_none (start == PATH) (start == SREF || start == AREF)
 
 angle_record : (a b c : ℕ) → a < 256 → b < 256 → c < 256 → IsRecord (angle (a ∷ b ∷ c ∷ 0 ∷ 0 ∷ 0 ∷ 0 ∷ 0 ∷ []))
 angle_record a b c f g h =
@@ -74,7 +76,7 @@ strans_more : (h : Heading) (cells : List Cell) (cell : Drawn) (shapes : List Sh
     → Head h cells (rs ▸ strans (a ∷ b ∷ [])) × Body cell shapes refs (rs ▸ strans (a ∷ b ∷ [])) × (left_after (rs ▸ strans (a ∷ b ∷ [])) ≡ after_any STRANS before)
 strans_more h cells cell shapes refs start next before left name rs a b place f g passes s =
     let r = strans (a ∷ b ∷ []) in
-    let pass : fault_of rs r ≡ None = passes_next rs r refl (goes_on rs STRANS before s.left_is place.strans) refl (strans_passes (opened rs) (columns_of rs) (rows_of rs) (a ∷ b ∷ []) passes) in
+    let pass : fault_of rs r ≡ None = passes_next rs r (s.finished STRANS) (goes_on rs STRANS before s.left_is place.strans) refl (strans_passes (opened rs) (open_points rs) (columns_of rs) (rows_of rs) (a ∷ b ∷ []) passes) in
     (head_more h cells rs r refl s.head (strans_record a b f g) pass, body_more cell shapes refs rs r refl s.body, ap (λ (ps : List Pattern). after_any STRANS ps) s.left_is)
 
 only_strans : (h : Heading) (cells : List Cell) (cell : Drawn) (shapes : List Shape) (refs : List Ref) (start next : ℕ) (before left : List Pattern) (name : List ℕ) (rs : Records) (a b : ℕ) (turn : Turn)
@@ -102,7 +104,7 @@ with_angle h cells cell shapes refs start next before left name rs a b x y z tur
     let one = rs ▸ strans (a ∷ b ∷ []) in
     let degrees = x ∷ y ∷ z ∷ 0 ∷ 0 ∷ 0 ∷ 0 ∷ 0 ∷ [] in
     let more = strans_more h cells cell shapes refs start next before left name rs a b place f g passes s in
-    let pass : fault_of one (angle degrees) ≡ None = passes_next one (angle degrees) refl (goes_on one ANGLE (after_any STRANS before) more.2 place.angle) refl (angle_passes (opened one) (columns_of one) (rows_of one) degrees passes_angle) in
+    let pass : fault_of one (angle degrees) ≡ None = passes_next one (angle degrees) refl (goes_on one ANGLE (after_any STRANS before) more.2 place.angle) refl (angle_passes (opened one) (open_points one) (columns_of one) (rows_of one) degrees passes_angle) in
     record {
       head = head_more h cells one (angle degrees) refl more.0 (angle_record x y z i j k) pass;
       body = body_more cell shapes refs one (angle degrees) refl more.1;

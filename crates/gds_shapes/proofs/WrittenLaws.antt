@@ -18,7 +18,7 @@ use Rattle.gds_shapes.specs.Stream.{Heading, Drawn, layer, structure, stream, li
 use Rattle.gds_shapes.specs.Accepted.{IsHeading, FitsCell, WrittenLaw, layer_shapes, cell_read}
 use Rattle.gds_shapes.proofs.Bodies.{Filled, string_filled}
 use Rattle.gds_shapes.proofs.Joined.{bytes_more}
-use Rattle.gds_shapes.proofs.Context.{inside, between, InCell, Between, passes_next, goes_on, shut_passes, shut_content, bare_record, followed-append}
+use Rattle.gds_shapes.proofs.Context.{inside, between, InCell, Between, passes_next, shut_finished, goes_on, shut_passes, shut_content, bare_record, followed-append}
 use Rattle.gds_shapes.proofs.InCell.{layers_more}
 use Rattle.gds_shapes.proofs.Placements.{string_record as named_record, name_back, name_plain, placement_more}
 use Rattle.gds_shapes.proofs.ArrayMore.{array_more}
@@ -64,8 +64,8 @@ begin h cells cell rs fits s =
     let b = rs ▸ numbers BGNSTR cell.dates in
     let left_b : left_after b ≡ after_any BGNSTR between = ap (λ (ps : List Pattern). after_any BGNSTR ps) s.left in
     let pass_b : fault_of rs (numbers BGNSTR cell.dates) ≡ None =
-    passes_next rs (numbers BGNSTR cell.dates) refl (goes_on rs BGNSTR between s.left refl) (ap (λ (n : ℕ). n == 24) fits.dates.whole) (shut_content BGNSTR (opened rs) 0 0 cell.dates s.shut refl) in
-    let pass_n : fault_of b (string STRNAME cell.name) ≡ None = passes_next b (string STRNAME cell.name) refl (goes_on b STRNAME _ left_b refl) (name_plain cell.name fits.name) (shut_content STRNAME (opened rs) 0 0 (filled cell.name) s.shut refl) in
+    passes_next rs (numbers BGNSTR cell.dates) (shut_finished rs BGNSTR s.shut) (goes_on rs BGNSTR between s.left refl) (ap (λ (n : ℕ). n == 24) fits.dates.whole) (shut_content BGNSTR (opened rs) [] 0 0 cell.dates s.shut refl) in
+    let pass_n : fault_of b (string STRNAME cell.name) ≡ None = passes_next b (string STRNAME cell.name) refl (goes_on b STRNAME _ left_b refl) (name_plain cell.name fits.name) (shut_content STRNAME (opened rs) [] 0 0 (filled cell.name) s.shut refl) in
     record {
       left = ap (λ (ps : List Pattern). after_any STRNAME ps) left_b;
       shut = s.shut;
@@ -87,7 +87,7 @@ same_cell d n d' n' s s' t r r' e f g h i j = rw (e, f, h, i, j, g) refl
 end : (h : Heading) (cells : List Cell) (cell : Drawn) (rs : Records) → FitsCell cell → InCell h cells cell (flat_map layer_shapes cell.layers) (map reference_read cell.refs) rs
     → Between h (cells ++ cell_read cell ∷ []) (rs ▸ bare ENDSTR)
 end h cells cell rs fits s =
-    let pass : fault_of rs (bare ENDSTR) ≡ None = passes_next rs (bare ENDSTR) refl (goes_on rs ENDSTR inside s.left refl) refl (shut_passes ENDSTR (opened rs) 0 0 s.shut refl) in
+    let pass : fault_of rs (bare ENDSTR) ≡ None = passes_next rs (bare ENDSTR) (shut_finished rs ENDSTR s.shut) (goes_on rs ENDSTR inside s.left refl) refl (shut_passes ENDSTR (opened rs) [] 0 0 s.shut refl) in
     let one : open_cells rs ≡ cell_read cell ∷ [] =
     same_cell _ _ cell.dates cell.name _ (flat_map layer_shapes cell.layers) _ _ (map reference_read cell.refs) (ap (λ (bs : List ℕ). exactly 24 bs) s.body.dates ∙ exact 24 cell.dates fits.dates.whole)
     (ap trimmed s.body.name ∙ name_back cell.name fits.name) fits.name.named s.body.shapes_are s.body.texts s.body.refs_are in
@@ -183,7 +183,7 @@ law h cells is all =
     let body = flat_map structure cells in
     let rs = followed_by_all start body in
     let s = cells_more h [] cells start all (first_between h is) in
-    let pass : fault_of rs (bare ENDLIB) ≡ None = passes_next rs (bare ENDLIB) refl (goes_on rs ENDLIB between s.left refl) refl (shut_passes ENDLIB (opened rs) 0 0 s.shut refl) in
+    let pass : fault_of rs (bare ENDLIB) ≡ None = passes_next rs (bare ENDLIB) (shut_finished rs ENDLIB s.shut) (goes_on rs ENDLIB between s.left refl) refl (shut_passes ENDLIB (opened rs) [] 0 0 s.shut refl) in
     let same : followed_by_all NoRecords (stream h cells) ≡ rs ▸ bare ENDLIB = followed-append start body (bare ENDLIB ∷ []) in
     let bytes : library_bytes h cells ≡ bytes_of (rs ▸ bare ENDLIB) = sym (bytes_more NoRecords (stream h cells)) ∙ ap (λ (qs : Records). bytes_of qs) same in
     (rs ▸ bare ENDLIB, [], record { whole = bytes ∙ sym (append-nil (bytes_of (rs ▸ bare ENDLIB))); passes = (s.head.passes, bare_record ENDLIB refl, pass) }, refl, means h (map cell_read cells) rs is s)

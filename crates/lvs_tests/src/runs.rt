@@ -2,6 +2,7 @@
 
 use crate::command::{Failing, NONE, SHAPES, refuses, run_of};
 use crate::streams::{Shape, front, outline, stream, with_byte};
+use std::alloc::{AllocError, Global};
 use std::test::Fail;
 
 const RULES: &[u8] = b"a = input(1, 0)\nb = input(2, 0)\nc = a & b\nc.output(10, 0)\n";
@@ -150,6 +151,47 @@ fn false_records(rt: HostRuntime) -> Result<(), Fail> {
         let changed = with_byte(alloc, &layout, place, byte)?;
         refuses(&rt, alloc, &changed, RULES, &SHAPES, line)?;
     }
+    Ok(())
+}
+
+// The stream with other records of points in place of its first.
+fn with_points(alloc: Global, layout: &[u8], records: &[&[u8]]) -> Result<Vec<u8>, AllocError> {
+    let mut out = front(layout, 110).to_vec(alloc)?;
+    for record in records {
+        out.extend_from_slice(record)?;
+    }
+    out.extend_from_slice(layout.get(154..).unwrap_or(&[]))?;
+    Ok(out)
+}
+
+const THREE_POINTS: [u8; 28] = [
+    0, 28, 0x10, 3, 0, 0, 0, 0, 0, 0, 0, 0, 0, 0, 0, 0, 0, 0, 0, 10, 0, 0, 0, 10, 0, 0, 0, 10,
+];
+
+const TWO_POINTS: [u8; 20] = [
+    0, 20, 0x10, 3, 0, 0, 0, 10, 0, 0, 0, 0, 0, 0, 0, 0, 0, 0, 0, 0,
+];
+
+// The first outline in two records, and twice round in two; without the second of them.
+#[test]
+fn points_in_two_records(rt: HostRuntime) -> Result<(), Fail> {
+    let alloc = rt.alloc();
+    let layout = stream(alloc, &OVERLAP)?;
+    let whole = layout.get(110..154).unwrap_or(&[]);
+    let parted: [([&[u8]; 2], usize); 2] = [
+        ([&THREE_POINTS, &TWO_POINTS], 234),
+        ([whole, whole], 274),
+    ];
+    for (records, length) in parted {
+        let parted = with_points(alloc, &layout, &records)?;
+        assert_eq!(rt; parted.len(), length);
+        let run = run_of(&rt, alloc, &parted, RULES, &SHAPES, NONE)?;
+        assert_eq!(rt; run.code, 0);
+        assert_eq!(rt; run.shapes, Some(stream(alloc, &[(10, 5, 5, 10, 10)])?));
+    }
+    let open = with_points(alloc, &layout, &[&THREE_POINTS])?;
+    let line = "refused layout 5 record 10 offset 138\n";
+    refuses(&rt, alloc, &open, RULES, &SHAPES, line)?;
     Ok(())
 }
 
