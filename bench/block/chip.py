@@ -95,5 +95,9 @@ def write(deff, spc, lef, lib, out, style, labels=True):
 
 def write_texts(out, text):
     for name, content in ((".lvs", cells.RULES), (".cir", text), (".flat.cir", flat(text))):
-        with open(out + name, "w") as f:
-            f.write(content)
+        write_text(out + name, content)
+
+
+def write_text(path, content):
+    with open(path, "w") as f:
+        f.write(content)
