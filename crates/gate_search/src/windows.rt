@@ -47,24 +47,21 @@ fn around<L: GateLayer>(alloc: Global, layer: &L, windows: &[Rect]) -> Result<Re
 }
 
 /// Squares of the layer with all that steps lead to, among them those in the windows of the seeds.
-/// A round for each step from rectangle to rectangle; what no round's windows reach isn't asked
-/// for.
+/// A round for each step from rectangle to rectangle, however many they are; what no round's windows
+/// reach isn't asked for.
 pub fn gather<L: GateLayer>(alloc: Global, layer: &L, seeds: &[Rect]) -> Result<RectSet, AllocError>
     requires { All IsRect seeds.now }
     ensures { IfOk result (λ r. IsGathered (L.keeps layer.now) seeds.now r) }
 {
     let mut found = RectSet::empty(alloc);
     let mut fresh = around(alloc, layer, seeds)?;
-    for _round in 0..u32::MAX {
-        if least(&fresh).is_none() {
-            return Ok(found);
-        }
+    'rounds: while least(&fresh).is_some() {
         let windows = grown(alloc, fresh.rects())?;
         let next = around(alloc, layer, &windows)?;
         found = combine_rects(alloc, found.rects(), fresh.rects(), Rule::Or)?;
         fresh = combine_rects(alloc, next.rects(), found.rects(), Rule::Not)?;
     }
-    Err(AllocError)
+    Ok(found)
 }
 
 /// The squares of the layer that are seeds or share a side or a corner with one, with all that

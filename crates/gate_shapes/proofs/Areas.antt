@@ -1,5 +1,6 @@
 -- A canonical list has as many squares as its area says.
-use Rattle.std.proofs.Common.{◌≡◌, ◌⊎◌, inl, inr, ℕ, zero, suc, ◌+◌, ◌*◌, ℤ, pos, ◌+ℤ◌, ◌-ℤ◌, ◌≤ℤ◌, ◌<ℤ◌, unsigned_abs, List, [], ◌∷◌, ◌++◌, Bool, true, false, ◌||◌, ◌&&◌, ◌<◌, length, take, get_or, negsuc, refl, sym, ◌∙◌, ap, subst, arith}
+use Rattle.std.proofs.Common.{◌≡◌, ◌⊎◌, inl, inr, ℕ, zero, suc, ◌+◌, ◌*◌, ℤ, pos, ◌+ℤ◌, ◌-ℤ◌, ◌≤ℤ◌, ◌<ℤ◌, unsigned_abs, List, [], ◌∷◌, ◌++◌, Bool, true, false, ◌||◌, ◌&&◌, ◌<◌, ◌≤◌, length, take, get_or, negsuc, refl, sym, ◌∙◌, ap, subst, arith, Result, Ok, Err}
+use Rattle.std.specs.Result.{OnErr}
 use Rattle.std.proofs.lemmas.Int.{ints, by_lt_z}
 use Rattle.std.proofs.lemmas.Bool.{false≢true}
 use Rattle.std.proofs.lemmas.List.{take_more}
@@ -51,13 +52,13 @@ row_count x y (suc n) =
     (row_count (x +ℤ pos 1) y n))
 
 -- n rows of w squares each
-record IsWithin (x : ℤ) (w : ℕ) (y : ℤ) (n : ℕ) (q : Square) : Type 0 where
-  low_x : x ≤ℤ q.x
-  high_x : q.x <ℤ (x +ℤ pos w)
-  low_y : y ≤ℤ q.y
-  high_y : q.y <ℤ (y +ℤ pos n)
+pub record IsWithin (x : ℤ) (w : ℕ) (y : ℤ) (n : ℕ) (q : Square) : Type 0 where
+  pub low_x : x ≤ℤ q.x
+  pub high_x : q.x <ℤ (x +ℤ pos w)
+  pub low_y : y ≤ℤ q.y
+  pub high_y : q.y <ℤ (y +ℤ pos n)
 
-box_count : (x : ℤ) (w : ℕ) (y : ℤ) (n : ℕ) → Counts (IsWithin x w y n) (n * w)
+pub box_count : (x : ℤ) (w : ℕ) (y : ℤ) (n : ℕ) → Counts (IsWithin x w y n) (n * w)
 box_count x w y zero =
     subst (λ (k : ℕ). Counts (IsWithin x w y zero) k) (omega arith) (counts_none (IsWithin x w y zero) (λ q h. let a = h.low_y in let b = h.high_y in omega (arith, ints)))
 box_count x w y (suc n) =
@@ -155,3 +156,13 @@ area_push (x ∷ xs) r = let e = area_push xs r in omega (arith, e)
 
 pub area_more : (rects : List Rect) (i : ℕ) (d : Rect) → i < length rects → area (take (i + 1) rects) ≡ area (take i rects) + area_of (get_or rects i d)
 area_more rects i d lt = ap area (take_more rects i d lt) ∙ area_push (take i rects) (get_or rects i d)
+
+-- the first rectangles have no more than all
+pub area_up : (rects : List Rect) (n : ℕ) → area (take n rects) ≤ area rects
+area_up rects zero = omega arith
+area_up [] (suc n) = omega arith
+area_up (r ∷ rects) (suc n) = let e = area_up rects n in omega (arith, e)
+
+pub on_err : {T E : Type 0} (r : Result T E) (P : Type 0) → P → OnErr r P
+on_err (Ok x) P h = tt
+on_err (Err e) P h = h

@@ -1,6 +1,6 @@
 //! How many squares a set has.
 
-ghost use Rattle.std.specs.Prelude.{◌≡◌, ◌+◌, IfOk};
+ghost use Rattle.std.specs.Prelude.{◌≡◌, ◌+◌, ◌≤◌, ◌^◌, IfOk, OnErr};
 ghost use Rattle.flat_layout.specs.Parts.{Counts};
 ghost use Rattle.gate_shapes.specs.Sets.{in_set, area_of, area};
 
@@ -9,7 +9,8 @@ use rect_sets::RectSet;
 use std::alloc::AllocError;
 
 fn area_of(rect: &Rect) -> Result<u64, AllocError>
-    ensures { IfOk result (λ n. n ≡ area_of rect.now) }
+    ensures area { IfOk result (λ n. n ≡ area_of rect.now) }
+    ensures err { OnErr result (2 ^ 64 ≤ area_of rect.now) }
 {
     let width = rect.x2.abs_diff(rect.x1);
     let height = rect.y2.abs_diff(rect.y1);
@@ -20,7 +21,8 @@ fn area_of(rect: &Rect) -> Result<u64, AllocError>
 }
 
 pub fn plus(a: u64, b: u64) -> Result<u64, AllocError>
-    ensures { IfOk result (λ n. n ≡ a + b) }
+    ensures sum { IfOk result (λ n. n ≡ a + b) }
+    ensures err { OnErr result (2 ^ 64 ≤ a + b) }
 {
     match a.checked_add(b) {
         Some(sum) => Ok(sum),
@@ -29,19 +31,22 @@ pub fn plus(a: u64, b: u64) -> Result<u64, AllocError>
 }
 
 fn area(rects: &[Rect]) -> Result<u64, AllocError>
-    ensures { IfOk result (λ n. n ≡ area rects.now) }
+    ensures area { IfOk result (λ n. n ≡ area rects.now) }
+    ensures err { OnErr result (2 ^ 64 ≤ area rects.now) }
 {
     let mut sum = 0;
     for rect in rects {
-        sum = plus(sum, area_of(rect)?)?;
+        let more = area_of(rect)?;
+        sum = plus(sum, more)?;
     }
     Ok(sum)
 }
 
-/// How many squares the set has, in O(n) for n rectangles. More than 64 bits can count are taken
-/// for want of memory.
+/// How many squares the set has, in O(n) for n rectangles. More than 64 bits can count, and no
+/// fewer, are taken for want of memory.
 pub fn count(set: &RectSet) -> Result<u64, AllocError>
-    ensures { IfOk result (λ n. Counts (in_set set.now) n) }
+    ensures count { IfOk result (λ n. Counts (in_set set.now) n) }
+    ensures err { OnErr result (2 ^ 64 ≤ area set.now) }
 {
     let n = area(set.rects())?;
     Ok(n)

@@ -1,6 +1,7 @@
 //! What lies round a part: its boundary edges, and the squares of source and drain in its ring.
 
-ghost use Rattle.std.specs.Prelude.{◌≡◌, ◌↔◌, ◌&&◌, ◌||◌, ◌+◌, not, map, IfOk};
+ghost use Rattle.std.specs.Prelude.{◌≡◌, ◌↔◌, ◌&&◌, ◌||◌, ◌+◌, ◌≤◌, ◌^◌};
+ghost use Rattle.std.specs.Prelude.{not, map, IfOk, OnErr};
 ghost use Rattle.std.specs.List.{All};
 ghost use Rattle.geo_base.specs.Near.{IsNearRect};
 ghost use Rattle.geo_base.specs.Rects.{IsRect};
@@ -92,7 +93,8 @@ fn edges_on(alloc: Global, part: &RectSet, ends: &RectSet, side: Side) -> Result
 }
 
 fn sum(a: u64, b: u64, c: u64, d: u64) -> Result<u64, AllocError>
-    ensures { IfOk result (λ n. ((a + b) + c) + d ≡ n) }
+    ensures sum { IfOk result (λ n. ((a + b) + c) + d ≡ n) }
+    ensures err { OnErr result (2 ^ 64 ≤ ((a + b) + c) + d) }
 {
     let n = plus(plus(plus(a, b)?, c)?, d)?;
     Ok(n)

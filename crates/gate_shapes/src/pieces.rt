@@ -1,7 +1,7 @@
 //! The edge-connected parts of a set.
 
-ghost use Rattle.std.specs.Prelude.{◌≡◌, ◌↔◌, ℕ, ◌^◌, ◌<◌, length, slice_get, slice_index, Some};
-ghost use Rattle.std.specs.Prelude.{IfOk, MatchOption};
+ghost use Rattle.std.specs.Prelude.{◌≡◌, ◌↔◌, ℕ, ◌^◌, ◌<◌, ◌≤◌, length, slice_get, slice_index, Some};
+ghost use Rattle.std.specs.Prelude.{IfOk, OnErr, MatchOption};
 ghost use Rattle.geo_base.specs.declared.shapes.Rect.{Rect};
 ghost use Rattle.geo_base.specs.declared.shapes.Square.{Square};
 ghost use Rattle.gate_shapes.specs.Sets.{in_set};
@@ -12,15 +12,17 @@ ghost use Rattle.gate_shapes.specs.Sorted.{AreSortedOut, AreSetsOf, HaveRects};
 use crate::contacts::contacts;
 use geo_base::{Rect, Square};
 use link_classes::joined_classes;
+use list_base::small;
 use rect_sets::{RectSet, Rule, combine_rects};
 use std::alloc::{AllocError, Global};
 
 fn short(rects: &[Rect]) -> Result<u32, AllocError>
-    ensures { IfOk result (λ n. n ≡ length rects.now) }
+    ensures length { IfOk result (λ n. n ≡ length rects.now) }
+    ensures err { OnErr result (2 ^ 32 ≤ length rects.now) }
 {
-    match u32::try_from(rects.len()) {
-        Ok(n) => Ok(n),
-        Err(_) => Err(AllocError),
+    match small(rects.len()) {
+        Some(n) => Ok(n),
+        None => Err(AllocError),
     }
 }
 

@@ -26,6 +26,7 @@ use crate::held::HeldLists;
 use crate::own::own_pieces;
 use crate::rects::grown;
 use crate::seen::see_joined;
+use crate::sums::more;
 use crate::whole::{is_covered, whole_links};
 use geo_base::Rect;
 use link_classes::Link;
@@ -293,11 +294,10 @@ pub fn all_beside<C: Cells>(
         cell out.old.items out.new.items) }
 {
     let pieces = own_pieces(alloc, cells, cell)?;
-    if firsts.len() > u32::MAX as usize - pieces.len() {
-        return Err(AllocError);
-    }
+    let owned = more(0, pieces.len())?;
+    more(owned, firsts.len())?;
     let spans = span_pieces(alloc, cells, cell)?;
-    let counted = counted_from(alloc, &spans, pieces.len() as u32)?;
+    let counted = counted_from(alloc, &spans, owned)?;
     let mut pairs = Vec::new(alloc);
     touching_pairs(alloc, &pieces, &counted, &mut pairs)?;
     let mut memo = HeldLists::new(alloc);

@@ -12,6 +12,7 @@ ghost use Rattle.net_walk.specs.Walk.{IsSpan, HasNoSquare};
 ghost use Rattle.net_walk.specs.Windows.{AreAllNumbers, AreOwnNear, ArePlacesNear};
 
 use geo_base::{Motion, Rect};
+use list_base::small;
 use std::alloc::{AllocError, Global};
 
 /// A placement of a cell.
@@ -21,13 +22,14 @@ pub struct Element {
     pub motion: Motion,
 }
 
-// The numbers below a count. 2^32 or more are refused.
+// The numbers below a count. More than 2^32 are refused.
 fn all_numbers(alloc: Global, count: usize) -> Result<Vec<u32>, AllocError>
     ensures { IfOk result (λ v. AreAllNumbers count v.items) }
 {
     let mut numbers = Vec::new(alloc);
     for number in 0..count {
-        numbers.push(u32::try_from(number).map_err(|_| AllocError)?)?;
+        let place = small(number).ok_or(AllocError)?;
+        numbers.push(place)?;
     }
     Ok(numbers)
 }

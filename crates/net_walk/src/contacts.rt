@@ -14,6 +14,7 @@ use crate::alike::relative;
 use crate::cells::{Cells, Element};
 use crate::children::window_of;
 use crate::seen::pair_links;
+use crate::sums::more;
 use geo_base::{Motion, Rect};
 use link_classes::Link;
 use std::alloc::{AllocError, Global};
@@ -84,9 +85,7 @@ fn window_contacts<C: Cells>(
         (C.tables cells.now) (place_of one.now) (place_of other.now) v.items) }
 {
     let count = cells.count(one.cell);
-    if cells.count(other.cell) > u32::MAX - count {
-        return Err(AllocError);
-    }
+    more(count, cells.count(other.cell) as usize)?;
     let links = pair_links(alloc, cells, one, 0, other, count, window, joins)?;
     across(alloc, &links, count)
 }

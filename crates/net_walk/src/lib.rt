@@ -13,6 +13,7 @@ mod own;
 mod pushes;
 mod rects;
 mod seen;
+mod sums;
 mod together;
 mod walk;
 mod whole;

@@ -1,6 +1,6 @@
 //! All links between the items of a cell, and where these stand.
 
-ghost use Rattle.std.specs.Prelude.{◌≡◌, ◌+◌, ◌<◌, ◌≤◌, ◌↔◌, ℕ, length, IfOk};
+ghost use Rattle.std.specs.Prelude.{◌≡◌, ◌+◌, ◌<◌, ◌≤◌, ◌↔◌, ◌^◌, ℕ, length, IfOk, OnErr};
 ghost use Rattle.flat_layout.specs.Nets.{AreRightBelow, items_of};
 ghost use Rattle.flat_layout.specs.Regions.{IsGrounded, IsJoined};
 ghost use Rattle.net_link_laws.specs.Found.{AreAllFound};
@@ -14,23 +14,16 @@ use crate::cells::Cells;
 use crate::children::children_links;
 use crate::globals::{Grounded, global_links};
 use crate::own::own_links;
+use crate::sums::more;
 use crate::walk::owned_before;
 use link_classes::Link;
 use std::alloc::{AllocError, Global};
 use touching_pieces::Joined;
 
-// A count and more, below 2^32.
-fn more(count: u32, by: usize) -> Result<u32, AllocError>
-    ensures { IfOk result (λ n. n ≡ count + by) }
-{
-    if by > (u32::MAX - count) as usize {
-        return Err(AllocError);
-    }
-    Ok(count + by as u32)
-}
-
 fn count_own<C: Cells>(cells: &C, cell: u32) -> Result<u32, AllocError>
-    ensures { IfOk result (λ n. n ≡ owned_before (C.tables cells.now) cell
+    ensures count { IfOk result (λ n. n ≡ owned_before (C.tables cells.now) cell
+        (length (C.wiring cells.now).conductors)) }
+    ensures err { OnErr result (2 ^ 32 ≤ owned_before (C.tables cells.now) cell
         (length (C.wiring cells.now).conductors)) }
 {
     let mut count = 0;
@@ -41,7 +34,10 @@ fn count_own<C: Cells>(cells: &C, cell: u32) -> Result<u32, AllocError>
 }
 
 fn count_placed<C: Cells>(cells: &C, cell: u32, from: u32) -> Result<u32, AllocError>
-    ensures { IfOk result (λ n. n ≡ from
+    ensures count { IfOk result (λ n. n ≡ from
+        + nets_before (C.tables cells.now) (places_of (C.design cells.now) cell)
+        (length (places_of (C.design cells.now) cell))) }
+    ensures err { OnErr result (2 ^ 32 ≤ from
         + nets_before (C.tables cells.now) (places_of (C.design cells.now) cell)
         (length (places_of (C.design cells.now) cell))) }
 {
@@ -52,10 +48,13 @@ fn count_placed<C: Cells>(cells: &C, cell: u32, from: u32) -> Result<u32, AllocE
     Ok(count)
 }
 
-/// The number of items of a cell. 2^32 or more are refused, before anything is built.
+/// The number of items of a cell. 2^32 or more are refused, before anything is built. Linear in the
+/// conductors and placements.
 pub fn count_items<C: Cells>(cells: &C, cell: u32, globals: u32) -> Result<u32, AllocError>
     requires { globals ≡ length (C.wiring cells.now).globals }
-    ensures { IfOk result (λ n. n ≡ length
+    ensures count { IfOk result (λ n. n ≡ length
+        (items_of (C.design cells.now) (C.wiring cells.now) (C.tables cells.now) cell)) }
+    ensures err { OnErr result (2 ^ 32 ≤ length
         (items_of (C.design cells.now) (C.wiring cells.now) (C.tables cells.now) cell)) }
 {
     let owned = count_own(cells, cell)?;

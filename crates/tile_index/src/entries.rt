@@ -1,11 +1,12 @@
 //! The rectangles of a list, each with its position, in the order of a curve through the plane.
 
-ghost use Rattle.std.specs.Prelude.{◌≡◌, IfOk};
+ghost use Rattle.std.specs.Prelude.{◌≡◌, ◌≤◌, ◌^◌, IfOk, OnErr};
 ghost use Rattle.std.specs.List.Sorted.{IsPermutation};
 ghost use Rattle.tile_index.specs.Entries.{AreEntries, AreInOrder, ArePlaced};
 
 use crate::curve::place_on_curve;
 use geo_base::Rect;
+use list_base::small;
 use std::alloc::{AllocError, Global};
 
 /// A rectangle and its position in the list.
@@ -22,11 +23,15 @@ struct Stop {
     position: u32,
 }
 
-/// A position as a number of 32 bits. Longer lists are want of memory.
+/// A position as a number of 32 bits. One of 2^32 or more is want of memory. Constant time.
 pub fn position_of(i: usize) -> Result<u32, AllocError>
-    ensures { IfOk result (λ position. position ≡ i) }
+    ensures position { IfOk result (λ position. position ≡ i) }
+    ensures err { OnErr result (2 ^ 32 ≤ i) }
 {
-    u32::try_from(i).map_err(|_| AllocError)
+    match small(i) {
+        Some(position) => Ok(position),
+        None => Err(AllocError),
+    }
 }
 
 // A stop for each rectangle, in the order of the list.

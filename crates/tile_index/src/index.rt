@@ -34,7 +34,7 @@ impl TileIndex {
 
     /// The index of a list of rectangles, in O(n log n) and O(n) memory. `hull` is where they lie:
     /// it decides how fast the index is, and nothing else. An `Err` is want of memory, for which
-    /// 2^32 rectangles or more are taken, too.
+    /// more than 2^32 rectangles are taken, too.
     pub fn build(alloc: Global, rects: &[Rect], hull: Rect) -> Result<TileIndex, AllocError>
         ensures { IfOk result (λ t. t ≡ rects.now) }
     {

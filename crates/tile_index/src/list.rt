@@ -10,7 +10,7 @@ use std::alloc::{AllocError, Global};
 
 /// The positions of the rectangles of a list that share a square with the window, ascending. O(n)
 /// for n rectangles: for lists that are too rarely looked into to be worth an index. An `Err` is
-/// want of memory, for which 2^32 rectangles or more are taken, too.
+/// want of memory, for which a position of 2^32 or more is taken, too.
 pub fn positions_in(alloc: Global, rects: &[Rect], w: &Rect) -> Result<Vec<u32>, AllocError>
     ensures { IfOk result (λ v. ArePositions rects.now w.now v.items) }
 {

@@ -1,5 +1,10 @@
-use Rattle.gate_search.specs.Gather.{IsGathering}
+use Rattle.std.proofs.Common.{◌-◌, ◌^◌}
+use Rattle.gate_shapes.specs.Sets.{area}
+use Rattle.gate_search.proofs.Rounds.{IsRound}
 use Rattle.gate_search.proofs.windows.gather.Given as goal
 
-abbrev pub invariant-loop-round : goal.invariant-loop-round
-invariant-loop-round g l = IsGathering (g.L.GateLayer.keeps l.layer) l.seeds l.found l.fresh
+abbrev pub invariant-rounds : goal.invariant-rounds
+invariant-rounds g l = IsRound (g.L.GateLayer.keeps l.layer) l.seeds l.found l.fresh
+
+abbrev pub decreases-rounds : goal.decreases-rounds
+decreases-rounds g l = 2 ^ 82 - area l.found

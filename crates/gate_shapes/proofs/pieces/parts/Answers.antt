@@ -12,17 +12,17 @@ use Rattle.gate_shapes.proofs.pieces.parts.Goals as goal
 
 pub contacts-requires : goal.contacts-requires
 contacts-requires c =
-    let n = c.in_ok-n.ensures in
+    let n = c.in_ok-n.ensures.length in
     record { canonical = subst (λ (l : List Rect). IsCanonical l) (sym c.rects-rects.ensures.list) c.rects-rects.ensures.canonical; few = omega (arith, n) }
 
 pub joined_classes-requires : goal.joined_classes-requires
 joined_classes-requires c =
-    subst (λ (l : List Link). AreInRange c.in_ok-n.n l) (sym c.deref.ensures.value) (subst (λ (n : ℕ). AreInRange n c.in_ok-links.links.items) (sym c.in_ok-n.ensures) c.in_ok-links.ensures.inside)
+    subst (λ (l : List Link). AreInRange c.in_ok-n.n l) (sym c.deref.ensures.value) (subst (λ (n : ℕ). AreInRange n c.in_ok-links.links.items) (sym c.in_ok-n.ensures.length) c.in_ok-links.ensures.inside)
 
 pub sorted_out-requires : goal.sorted_out-requires
 sorted_out-requires c =
     let classes = c.in_ok-classes.ensures in
-    let n = c.in_ok-n.ensures in
+    let n = c.in_ok-n.ensures.length in
     let same = c.deref-2.ensures.value in
     record {
       long = ap (λ (l : List ℕ). length l) same ∙ classes.long ∙ n;
@@ -37,7 +37,7 @@ sets_of-requires c =
     let classes = subst (λ (l : List Link). AreClasses c.in_ok-n.n l cs c.in_ok-classes.classes.count) c.deref.ensures.value c.in_ok-classes.ensures in
     let sorted = subst (λ (l : List ℕ). AreSortedOut rects l c.in_ok-classes.classes.count c.in_ok-lists.lists.items) c.deref-2.ensures.value c.in_ok-lists.ensures in
     subst (λ (l : List (Vec Rect Global)). HaveRects l) (sym c.deref-3.ensures.value)
-    (have_rects rects good c.in_ok-links.links.items c.in_ok-links.ensures c.in_ok-n.n c.in_ok-classes.classes.count cs c.in_ok-n.ensures classes c.in_ok-lists.lists.items sorted)
+    (have_rects rects good c.in_ok-links.links.items c.in_ok-links.ensures c.in_ok-n.n c.in_ok-classes.classes.count cs c.in_ok-n.ensures.length classes c.in_ok-lists.lists.items sorted)
 
 pub returns : goal.returns
 returns c =
@@ -48,4 +48,4 @@ returns c =
     let sorted = subst (λ (l : List ℕ). AreSortedOut rects l c.in_ok-classes.classes.count c.in_ok-lists.lists.items) c.deref-2.ensures.value c.in_ok-lists.ensures in
     let made = subst (λ (l : List (Vec Rect Global)). AreSetsOf l c.in_ok-sets.sets.items) c.deref-3.ensures.value c.in_ok-sets.ensures in
     subst (λ (l : List Rect). AreParts l c.in_ok-sets.sets.items) c.rects-rects.ensures.list
-    (parts_law rects good c.in_ok-links.links.items c.in_ok-links.ensures c.in_ok-n.n c.in_ok-classes.classes.count cs c.in_ok-n.ensures classes c.in_ok-lists.lists.items sorted c.in_ok-sets.sets.items made)
+    (parts_law rects good c.in_ok-links.links.items c.in_ok-links.ensures c.in_ok-n.n c.in_ok-classes.classes.count cs c.in_ok-n.ensures.length classes c.in_ok-lists.lists.items sorted c.in_ok-sets.sets.items made)

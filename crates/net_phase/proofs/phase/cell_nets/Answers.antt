@@ -17,7 +17,7 @@ pub joined_classes-requires : goal.joined_classes-requires
 joined_classes-requires c =
     let v = c.args.below.now in
     let all = c.in_ok-links.ensures in
-    rw (c.deref-3.ensures.value, c.in_ok-count.ensures) (found_in_range (plain v.design) (wiring_seen v) (tables_seen v) c.args.cell c.in_ok-links.links.items all)
+    rw (c.deref-3.ensures.value, c.in_ok-count.ensures.count) (found_in_range (plain v.design) (wiring_seen v) (tables_seen v) c.args.cell c.in_ok-links.links.items all)
 
 pub returns : goal.returns
 returns c =
@@ -31,7 +31,7 @@ returns c =
     let class_of = c.in_ok-classes.classes.class_of.items in
     let count = c.in_ok-classes.classes.count in
     let found = all_found d w t cell links c.requires.right all in
-    let made : AreClasses (length (items_of d w t cell)) links class_of count = rw (c.deref-3.ensures.value, c.in_ok-count.ensures) at c.in_ok-classes.ensures in
+    let made : AreClasses (length (items_of d w t cell)) links class_of count = rw (c.deref-3.ensures.value, c.in_ok-count.ensures.count) at c.in_ok-classes.ensures in
     let nets : AreNets d w t cell (record { items = items_of d w t cell; net_of = class_of; count = count }) = classes d w t cell links class_of count c.requires.right found made in
     subst (λ (l : List Item). AreNets d w t cell (record { items = l; net_of = class_of; count = count })) (sym c.in_ok-items.ensures) nets
 

@@ -5,8 +5,8 @@ use Rattle.net_walk.proofs.cells.all_numbers.Goals as goal
 
 pub loop-number-preserved : goal.loop-number-preserved
 loop-number-preserved c =
-    c.in_ok-push.ensures.items ∙ ap (λ (l : List ℕ). l ++ c.in_ok-map_err.field-0 ∷ []) c.loop-number.invariant
-    ∙ sym (counted_more c.loop-number.number c.in_ok-map_err.field-0 (search rules))
+    c.in_ok-push.ensures.items ∙ ap (λ (l : List ℕ). l ++ c.in_ok-place.place ∷ []) c.loop-number.invariant
+    ∙ sym (counted_more c.loop-number.number c.in_ok-place.place (search rules))
 
 pub returns : goal.returns
 returns c =

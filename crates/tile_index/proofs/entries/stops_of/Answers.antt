@@ -6,4 +6,4 @@ pub loop-i-preserved : goal.loop-i-preserved
 loop-i-preserved c =
     let stop : Stop = record { place = c.place_on_curve-place.result; position = c.in_ok-position.position } in
     rw (c.in_ok-push.ensures {u = tt}).items
-    (stop_more c.loop-i.stops.items c.loop-i.i stop (c.in_ok-position.ensures {u = tt}) c.loop-i.invariant)
+    (stop_more c.loop-i.stops.items c.loop-i.i stop (c.in_ok-position.ensures {u = tt}).position c.loop-i.invariant)
