@@ -1,7 +1,8 @@
 //! The indexes by which cells are looked into by windows. To build them takes O(n log n) for n
 //! rectangles and references.
 
-ghost use Rattle.std.specs.Prelude.{◌≡◌, ◌<◌, ℕ, length, map, slice_get, slice_index, Some, IfOk};
+ghost use Rattle.std.specs.Prelude.{◌≡◌, ◌<◌, ◌≤◌, ◌^◌, ℕ, length, map, slice_get, slice_index};
+ghost use Rattle.std.specs.Prelude.{Some, IfOk, OnErr};
 ghost use Rattle.std.specs.Prelude.{MatchOption, []};
 ghost use Rattle.std.specs.List.{All};
 ghost use Rattle.cell_graph.specs.declared.cells.CellPart.{CellPart};
@@ -11,6 +12,7 @@ ghost use Rattle.cell_graph.specs.Linked.{IsSoundCell, own_rects};
 use crate::cells::{CellPart, OwnLayer, is_same_key};
 use crate::spans::span_of;
 use geo_base::{LayerKey, Rect};
+use list_base::small;
 use std::alloc::{AllocError, Global};
 use tile_index::TileIndex;
 
@@ -30,11 +32,15 @@ struct Spans {
     spans: Vec<Rect>,
 }
 
-// A place in a list as a number of 32 bits. Longer lists are want of memory.
+// A place in a list as a number of 32 bits. One of 2^32 or more is want of memory.
 fn number_of(i: usize) -> Result<u32, AllocError>
-    ensures { IfOk result (λ number. number ≡ i) }
+    ensures number { IfOk result (λ number. number ≡ i) }
+    ensures err { OnErr result (2 ^ 32 ≤ i) }
 {
-    u32::try_from(i).map_err(|_| AllocError)
+    match small(i) {
+        Some(number) => Ok(number),
+        None => Err(AllocError),
+    }
 }
 
 // The spans of a cell's references.

@@ -5,6 +5,7 @@ ghost use Rattle.plain_netlist.specs.Lists.{AreApart};
 ghost use Rattle.plain_netlist.specs.Normal.{AreNumbered};
 ghost use Rattle.circuit_phase.specs.Numbering.{AreNumbersOf, with_net};
 
+use list_base::small;
 use std::alloc::{AllocError, Global};
 use std::marker::Model;
 
@@ -40,7 +41,7 @@ impl Numbering {
         })
     }
 
-    /// The number of a net: the next one where the net has none yet. 2^32 numbers are refused.
+    /// The number of a net: the next one where the net has none yet. More than 2^32 are refused.
     /// Constant time.
     pub fn number(&mut self, net: u32) -> Result<u32, AllocError>
         requires { net < self.old.count }
@@ -53,10 +54,7 @@ impl Numbering {
         if let Some(number) = self.numbers[net as usize] {
             return Ok(number);
         }
-        if self.nets.len() >= u32::MAX as usize {
-            return Err(AllocError);
-        }
-        let number = self.nets.len() as u32;
+        let number = small(self.nets.len()).ok_or(AllocError)?;
         self.nets.push(net)?;
         self.numbers[net as usize] = Some(number);
         Ok(number)

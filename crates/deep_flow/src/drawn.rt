@@ -1,6 +1,6 @@
 //! What is extracted over a layout's layers, nets, gates and pins: its netlist and its bad gates.
-ghost use Rattle.std.specs.Prelude.{◌≡◌, ◌<◌, ◌≤◌, ◌^◌, ℕ, length, slice_get, true};
-ghost use Rattle.std.specs.Prelude.{IfOk, IsSome, Some};
+ghost use Rattle.std.specs.Prelude.{◌≡◌, ◌↔◌, ◌<◌, ◌≤◌, ◌^◌, ℕ, length, slice_get};
+ghost use Rattle.std.specs.Prelude.{IfOk, IsSome, Some, true};
 ghost use Rattle.cell_graph.specs.Linked.{plain};
 ghost use Rattle.deep_tables.specs.Entries.{entry};
 ghost use Rattle.deep_tables.specs.Gates.{AreGates};
@@ -24,6 +24,7 @@ use cell_graph::Design;
 use circuit_phase::circuit_cells;
 use deep_tables::{BadGate, Circuits, Pins};
 use job_board::Gate;
+use list_base::small;
 use net_model::Netlist;
 use rule_text::RuleSet;
 use std::alloc::{AllocError, Global};
@@ -55,14 +56,24 @@ fn place_of(cells: &[u32], cell: u32) -> u32
     0
 }
 
+// Whether these are fewer than 2^32 nets.
+fn are_few(drawn: &[bool]) -> bool
+    ensures { (result ≡ true) ↔ (length drawn.now < 2 ^ 32) }
+{
+    match small(drawn.len()) {
+        Some(_) => true,
+        None => false,
+    }
+}
+
 // Whether each of these cells has fewer than 2^32 nets.
 fn have_few_nets(circuits: &Circuits, cells: &[u32]) -> bool
     requires { (k cell : ℕ) → slice_get cells.now k ≡ Some cell
         → IsSome (entry circuits.now cell) }
-    ensures { result ≡ true → HaveFewNets circuits.now cells.now }
+    ensures { (result ≡ true) ↔ HaveFewNets circuits.now cells.now }
 {
     for cell in cells {
-        if circuits.drawn(*cell).len() > u32::MAX as usize {
+        if !are_few(circuits.drawn(*cell)) {
             return false;
         }
     }
@@ -103,9 +114,7 @@ pub fn draw<R: Threads + Wait + Sync, G: Gate + Sync>(
         rt, alloc, design, rules, nets, pins, gates, unit_pm, workers, gate,
     )?;
     let cells = circuit_cells(alloc, design, gates)?;
-    if cells.len() > u32::MAX as usize {
-        return Err(AllocError);
-    }
+    small(cells.len()).ok_or(AllocError)?;
     if !have_few_nets(&circuits, &cells) {
         return Err(AllocError);
     }

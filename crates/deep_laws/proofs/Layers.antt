@@ -27,7 +27,7 @@ by_path : (d : Design) (op : Op) (a b : Formula) (cell : ℕ) (q : Square) → I
 by_path d op a b cell q reached decided flat key listed [] end s takes o =
     inl (own_on d (inputs (Binary op a b)) key cell q listed (subst (λ c. IsOwn d c key q) (sym takes.0) (subst (λ x. IsOwn d end key x) takes.1 o)))
 by_path d op a b cell q reached decided flat key listed (k ∷ ks) end s (p, placed, r, rest, e) o = elim (decided k p key r placed (record { path = ks; end = end; square = s; takes = rest; own = o })) [
-  | inl h ↦ inr (inl (record { number = k; place = p; square = r; placed = placed; key = key; flat = record { path = ks; end = end; square = s; takes = rest; own = o }; disturbed = h; image = e }))
+  | inl h ↦ inr (inl (record { number = k; place = p; square = r; placed = placed; key = key; listed = listed; flat = record { path = ks; end = end; square = s; takes = rest; own = o }; disturbed = h; image = e }))
   | inr calm ↦ inr (inr (record {
     number = k;
     place = p;

@@ -8,7 +8,7 @@ use Rattle.flat_layout.specs.Layers.{Formula, Binary, inputs, InFlat, IsKeptBelo
 use Rattle.flat_layout.specs.Layout.{Design, Place, Some_of, IsOwn, IsPlaced, IsReached}
 use Rattle.flat_layout.specs.Layout.{IsDisturbed, InFlatInput}
 
--- the square comes from a placed cell, where it is disturbed for some layers
+-- the square comes from a placed cell, where it is disturbed for some layers, and flat on one
 pub record IsFromDisturbed (d : Design) (keys : List LayerKey) (cell : ℕ) (q : Square) : Type 0
   where
     pub number : ℕ
@@ -16,6 +16,7 @@ pub record IsFromDisturbed (d : Design) (keys : List LayerKey) (cell : ℕ) (q :
     pub square : Square
     pub placed : IsPlaced d cell number place
     pub key : LayerKey
+    pub listed : Some_of (λ k. k ≡ key) keys
     pub flat : InFlatInput d place.cell key square
     pub disturbed : IsDisturbed d keys place.cell square
     pub image : moved_square place.motion square ≡ q

@@ -6,6 +6,7 @@ ghost use Rattle.rule_layers.specs.Meaning.{grounds_of};
 ghost use Rattle.rule_text.specs.Seen.{rules_seen};
 ghost use Rattle.gate_phase.specs.Judged.{bulks_of};
 
+use list_base::small;
 use net_walk::Grounded;
 use rule_text::RuleSet;
 use std::alloc::{AllocError, Global};
@@ -19,12 +20,10 @@ fn ground_lines(alloc: Global, rules: &RuleSet) -> Result<Vec<Grounded>, AllocEr
     let mut lines = Vec::new(alloc);
     for line in &rules.globals {
         let global = names.number(alloc, line.1.bytes())?;
-        if global >= u32::MAX as usize {
-            return Err(AllocError);
-        }
+        let place = small(global).ok_or(AllocError)?;
         lines.push(Grounded {
             conductor: line.0,
-            global: global as u32,
+            global: place,
         })?;
     }
     Ok(lines)
@@ -43,7 +42,7 @@ fn ground(lines: &[Grounded], conductor: u32) -> Option<u32>
 }
 
 /// The global of the bulk of each device rule, if its conductor has one: that of the conductor's
-/// first line. The device rules times the lines of globals; 2^32 globals or more are refused.
+/// first line. The device rules times the lines of globals; More than 2^32 globals are refused.
 pub fn bulk_globals(alloc: Global, rules: &RuleSet) -> Result<Vec<Option<u32>>, AllocError>
     ensures { IfOk result (λ v. v.items ≡ bulks_of (rules_seen rules.now)) }
 {

@@ -16,6 +16,7 @@ use deep_tables::{CellGates, CellNets, DeepKey, Layers, Nets, Zones};
 use geo_base::Rect;
 use job_graph::{Graph, Phase, Reads};
 use layer_phase::free_graph;
+use list_base::small;
 use net_phase::{Below, Indexes, all_elements, find_indexes, find_wires, known_nets, own_lists};
 use net_walk::Element;
 use rule_text::RuleSet;
@@ -72,12 +73,8 @@ impl<'a> GatePhase<'a> {
         ensures rules { IfOk result (λ p. p.rules ≡ rules.now) }
         ensures jobs { IfOk result (λ p. AreFreeJobs design.now p.graph) }
     {
-        if rules.names.len() > u32::MAX as usize {
-            return Err(AllocError);
-        }
-        if rules.devices.len() > u32::MAX as usize {
-            return Err(AllocError);
-        }
+        small(rules.names.len()).ok_or(AllocError)?;
+        small(rules.devices.len()).ok_or(AllocError)?;
         let wires = find_wires(alloc, rules)?;
         let bulks = bulk_globals(alloc, rules)?;
         let own = own_lists(alloc, design, rules, layers)?;

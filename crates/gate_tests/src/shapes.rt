@@ -163,3 +163,22 @@ fn seeds_gather_whole_parts(rt: HostRuntime) -> Result<(), Fail> {
     }
     Ok(())
 }
+
+// A part of 300 steps is found whole from its end.
+#[test]
+fn seeds_gather_long_parts(rt: HostRuntime) -> Result<(), Fail> {
+    let alloc = rt.alloc();
+    let mut steps = Vec::new(alloc);
+    for step in 0..300i64 {
+        steps.push(rect(2 * step, step, 2 * step + 3, step + 1))?;
+    }
+    let all = set_of(alloc, &steps)?;
+    let layer = Whole {
+        set: near_part(alloc, &all)?,
+    };
+    let seeds = set_of(alloc, &[rect(0, -1, 1, 0)])?;
+    let near = near_part(alloc, &seeds)?;
+    let found = gather_around(alloc, &layer, &near)?;
+    assert_eq!(rt; found.rects(), all.rects());
+    Ok(())
+}

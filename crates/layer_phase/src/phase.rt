@@ -10,6 +10,7 @@ use crate::reads::read_names;
 use cell_graph::Design;
 use deep_tables::{CellLayers, DeepKey, Zones};
 use job_graph::{Graph, Phase, Reads};
+use list_base::small;
 use rule_text::{LayerRule, RuleSet};
 use std::alloc::{AllocError, Global};
 use std::marker::Model;
@@ -62,9 +63,7 @@ impl<'a> LayerPhase<'a> {
         ensures rules { IfOk result (λ p. p.rules ≡ rules.now) }
         ensures jobs { IfOk result (λ p. AreFreeJobs design.now p.graph) }
     {
-        if rules.names.len() > u32::MAX as usize {
-            return Err(AllocError);
-        }
+        small(rules.names.len()).ok_or(AllocError)?;
         design.sound();
         let read = read_names(alloc, &rules.names)?;
         let graph = free_graph(alloc, design)?;

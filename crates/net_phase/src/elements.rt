@@ -8,6 +8,7 @@ ghost use Rattle.net_phase.specs.Elements.{AreAllElements, AreElements, element_
 
 use cell_context::motion_at;
 use cell_graph::{Design, Place};
+use list_base::small;
 use net_walk::Element;
 use std::alloc::{AllocError, Global};
 
@@ -48,9 +49,7 @@ fn elements(alloc: Global, design: &Design, cell: u32) -> Result<Vec<Element>, A
     for place in design.places(cell) {
         push_array(place, &mut out)?;
     }
-    if out.len() > u32::MAX as usize {
-        return Err(AllocError);
-    }
+    small(out.len()).ok_or(AllocError)?;
     Ok(out)
 }
 

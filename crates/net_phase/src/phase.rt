@@ -22,6 +22,7 @@ use deep_tables::{CellNets, DeepKey, Layers};
 use geo_base::Rect;
 use job_graph::{Graph, Phase, Reads};
 use link_classes::joined_classes;
+use list_base::small;
 use net_walk::{Element, all_links, count_items};
 use rule_text::RuleSet;
 use std::alloc::{AllocError, Global};
@@ -67,9 +68,7 @@ impl<'a> NetPhase<'a> {
         ensures jobs { IfOk result (λ p. AreBelowJobs design.now p.graph) }
     {
         let wires = find_wires(alloc, rules)?;
-        if rules.names.len() > u32::MAX as usize {
-            return Err(AllocError);
-        }
+        small(rules.names.len()).ok_or(AllocError)?;
         let own = own_lists(alloc, design, rules, layers)?;
         let elements = all_elements(alloc, design)?;
         let indexes = find_indexes(alloc, design, &own, &elements)?;

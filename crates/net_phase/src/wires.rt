@@ -9,6 +9,7 @@ ghost use Rattle.rule_text.specs.Seen.{rules_seen};
 ghost use Rattle.touching_pieces.specs.Pairs.{AreJoined};
 ghost use Rattle.net_phase.specs.Wires.{AreWires, ground_line, join_line, joined_by};
 
+use list_base::small;
 use net_walk::Grounded;
 use rule_text::RuleSet;
 use std::alloc::{AllocError, Global};
@@ -127,21 +128,14 @@ fn ground_lines(alloc: Global, rules: &RuleSet) -> Result<Grounds, AllocError>
     let mut lines = Vec::new(alloc);
     for line in &rules.globals {
         let global = names.number(alloc, line.1.bytes())?;
-        if global >= u32::MAX as usize {
-            return Err(AllocError);
-        }
+        let place = small(global).ok_or(AllocError)?;
         lines.push(Grounded {
             conductor: line.0,
-            global: global as u32,
+            global: place,
         })?;
     }
-    if names.len() > u32::MAX as usize {
-        return Err(AllocError);
-    }
-    Ok(Grounds {
-        lines,
-        globals: names.len() as u32,
-    })
+    let globals = small(names.len()).ok_or(AllocError)?;
+    Ok(Grounds { lines, globals })
 }
 
 /// What a rule set joins, each connect line taken once: O(n log n) in its lines. 2^32 names, or
@@ -149,13 +143,11 @@ fn ground_lines(alloc: Global, rules: &RuleSet) -> Result<Grounds, AllocError>
 pub fn find_wires(alloc: Global, rules: &RuleSet) -> Result<Wires, AllocError>
     ensures { IfOk result (AreWires (wiring_of (rules_seen rules.now))) }
 {
-    if rules.names.len() > u32::MAX as usize {
-        return Err(AllocError);
-    }
+    let conductors = small(rules.names.len()).ok_or(AllocError)?;
     let joins = joins(alloc, rules)?;
     let grounds = ground_lines(alloc, rules)?;
     Ok(Wires {
-        conductors: rules.names.len() as u32,
+        conductors,
         joins,
         grounds: grounds.lines,
         globals: grounds.globals,

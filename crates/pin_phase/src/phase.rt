@@ -15,6 +15,7 @@ use cell_graph::Design;
 use deep_tables::{CellNets, CellPins, DeepKey, Gates, Layers, Nets};
 use geo_base::Rect;
 use job_graph::{Graph, Phase, Reads};
+use list_base::small;
 use net_phase::{Below, Indexes, all_elements, find_indexes, find_wires, known_nets, own_lists};
 use net_walk::Element;
 use rule_text::RuleSet;
@@ -72,9 +73,7 @@ impl<'a> PinPhase<'a> {
         ensures jobs { IfOk result (λ p. AreParentJobs design.now p.graph) }
     {
         design.sound();
-        if rules.names.len() > u32::MAX as usize {
-            return Err(AllocError);
-        }
+        small(rules.names.len()).ok_or(AllocError)?;
         let wires = find_wires(alloc, rules)?;
         let lines = text_lines(alloc, rules)?;
         let globals = global_names(alloc, rules)?;

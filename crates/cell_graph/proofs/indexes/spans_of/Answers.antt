@@ -59,7 +59,7 @@ loop-i-preserved c = λ d at_d.
           let is : IsSpanOr place below.hull (Some w.in-Some.span) = subst (λ (q : CellPart). IsSpanOr place q.hull (Some w.in-Some.span)) (sym c.index-cells-place.is) (w.in-Some.ensures {u = tt}) in
           let here : HasSpan cells places n w.in-Some.span = span_here cells part n place below w.in-Some.span at below_at is in
           let next = span_more cells places n c.loop-i.numbers.items c.loop-i.spans.items w.in-Some.span here old in
-          let number : w.in_ok-number_of.field-0 ≡ n = w.in_ok-number_of.ensures {u = tt} in
+          let number : w.in_ok-number_of.field-0 ≡ n = (w.in_ok-number_of.ensures {u = tt}).number in
           let numbers : c.match-span_of.numbers.items ≡ c.loop-i.numbers.items ++ n ∷ [] = ap (λ (xs : Vec ℕ). xs.items) w.numbers-is ∙ (w.in_ok-push.ensures {u = tt}).items ∙ ap (λ k. c.loop-i.numbers.items ++ k ∷ []) number in
           let spans : c.match-span_of.spans.items ≡ c.loop-i.spans.items ++ w.in-Some.span ∷ [] = ap (λ (xs : Vec Rect). xs.items) w.spans-is ∙ (w.in_ok-push-2.ensures {u = tt}).items in
           subst (λ xs. AreSpansTo cells places (n + 1) xs c.match-span_of.spans.items) (sym numbers) (subst (λ xs. AreSpansTo cells places (n + 1) (c.loop-i.numbers.items ++ n ∷ []) xs) (sym spans) next)

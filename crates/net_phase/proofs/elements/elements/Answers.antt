@@ -1,4 +1,4 @@
-use Rattle.std.proofs.Common.{◌≡◌, List, map, length, get_or, refl, arith, ap, subst}
+use Rattle.std.proofs.Common.{rules, ◌≡◌, List, map, length, get_or, refl, arith, ap, subst}
 use Rattle.cell_context.proofs.Collecting.{near_array}
 use Rattle.cell_graph.specs.Linked.{cell_at, places_at, reference}
 use Rattle.cell_graph.specs.declared.cells.Place.{Place}
@@ -34,4 +34,5 @@ returns c =
     let same = c.places-place-items.ensures in
     let long = ap (λ (l : List Place). length l) same in
     let n = c.len.ensures in
-    elements_all d c.args.cell c.loop-place.place-index (places_at (cell_at d c.args.cell)) c.loop-place.out.items c.sound.ensures refl (omega (arith, long)) c.loop-place.invariant (omega (arith, n))
+    let kept : c.in_ok-ok_or.field-0 ≡ c.len.result = search rules in
+    elements_all d c.args.cell c.loop-place.place-index (places_at (cell_at d c.args.cell)) c.loop-place.out.items c.sound.ensures refl (omega (arith, long)) c.loop-place.invariant (omega (arith, n, kept))

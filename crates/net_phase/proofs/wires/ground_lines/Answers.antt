@@ -1,4 +1,4 @@
-use Rattle.std.proofs.Common.{◌≡◌, ◌∙◌, ◌++◌, ◌+◌, ℕ, List, [], ◌∷◌, map, take, get_or, arith, ap, sym, subst}
+use Rattle.std.proofs.Common.{rules, ◌≡◌, ◌∙◌, ◌++◌, ◌+◌, ℕ, List, [], ◌∷◌, map, take, get_or, arith, ap, sym, subst}
 use Rattle.std.proofs.lemmas.List.{map_push}
 use Rattle.flat_layout.specs.Regions.{Line}
 use Rattle.net_walk.specs.declared.globals.Grounded.{Grounded}
@@ -22,8 +22,9 @@ loop-line-preserved c =
     let same : c.bytes.result.now ≡ text = c.bytes.ensures.same ∙ ap (λ (x : ℕ × List ℕ). x.1) item in
     let number : c.in_ok-global.global ≡ place_of c.loop-line.names text = subst (λ (b : List ℕ). c.in_ok-global.global ≡ place_of c.loop-line.names b) same c.in_ok-global.ensures.number in
     let texts : c.number.new.self ≡ with_text c.loop-line.names text = subst (λ (b : List ℕ). c.number.new.self ≡ with_text c.loop-line.names b) same c.in_ok-global.ensures.texts in
-    let made = grounds_more gs n c.in_ok-global.global (0, []) c.loop-line.names c.number.new.self (map ground_line old) (omega arith) c.loop-line.invariant number texts in
-    let at = c.in_ok-global.global in
+    let kept : c.in_ok-place.place ≡ c.in_ok-global.global = search rules in
+    let made = grounds_more gs n c.in_ok-place.place (0, []) c.loop-line.names c.number.new.self (map ground_line old) (omega arith) c.loop-line.invariant (kept ∙ number) texts in
+    let at = c.in_ok-place.place in
     let pushed = subst (λ (l : List Line). AreGrounds (take (n + 1) gs) c.number.new.self l) (sym (map_push ground_line old (record { conductor = (get_or gs n (0, [])).0; global = at }))) made in
     rw c.in_ok-push.ensures.items
     (subst (λ (x : ℕ × List ℕ). AreGrounds (take (n + 1) gs) c.number.new.self (map ground_line (old ++ (let g : Grounded = record { conductor = x.0; global = at } in g) ∷ []))) (sym item) pushed)
@@ -34,5 +35,5 @@ returns-clause-lines c = (grounds_all (rules_seen c.args.rules.now) c.loop-line.
 pub returns-clause-globals : goal.returns-clause-globals
 returns-clause-globals c =
     let all = (grounds_all (rules_seen c.args.rules.now) c.loop-line.line-index c.loop-line.names (map ground_line c.loop-line.lines.items) (omega arith) c.loop-line.invariant).1 in
-    let n = c.len-2.ensures in
-    n ∙ all
+    let kept : c.in_ok-globals.globals ≡ c.len.result = search rules in
+    kept ∙ c.len.ensures ∙ all

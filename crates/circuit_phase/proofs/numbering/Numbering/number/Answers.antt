@@ -1,4 +1,4 @@
-use Rattle.std.proofs.Common.{◌≡◌, inl, ◌<◌, ◌∙◌, ℕ, List, Option, Some, None, slice_get, length, refl, sym, ap, subst, arith}
+use Rattle.std.proofs.Common.{◌≡◌, inl, ◌<◌, ◌∙◌, ℕ, List, Option, Some, None, slice_get, length, refl, sym, ap, subst, arith, rules}
 use Rattle.std.proofs.lemmas.Option.{slice_get-get_or, slice_get_within}
 use Rattle.circuit_phase.specs.Numbering.{Numbered, with_net}
 use Rattle.circuit_phase.proofs.Counting.{at_last, numbered_more, with_new, with_old}
@@ -38,7 +38,8 @@ invariant_of-self-2 c =
     let within = c.requires in
     let lt : c.args.net < length a.numbers.items = omega (arith, count, within) in
     let at : slice_get a.numbers.items c.args.net ≡ Some None = slice_get-get_or a.numbers.items c.args.net c.index.result.now lt ∙ ap (λ (o : Option ℕ). Some o) (sym c.index.ensures ∙ c.in_default.is) in
-    rw c.in_ok-push.ensures.items (numbered_more a.numbers.items a.nets.items c.args.net c.len-number.result c.self.invariant at (c.len-number.ensures ∙ c.self.inside.nets.ok.0))
+    let kept : c.in_ok-number.number ≡ c.len.result = search rules in
+    rw c.in_ok-push.ensures.items (numbered_more a.numbers.items a.nets.items c.args.net c.in_ok-number.number c.self.invariant at (kept ∙ c.len.ensures ∙ c.self.inside.nets.ok.0))
 
 pub returns-clause-nets : goal.returns-clause-nets
 returns-clause-nets c =
@@ -52,4 +53,5 @@ returns-clause-nets c =
 pub returns-clause-number : goal.returns-clause-number
 returns-clause-number c =
     let a = c.self.inside in
-    rw c.in_ok-push.ensures.items (at_last a.nets.items c.args.net c.len-number.result (c.len-number.ensures ∙ c.self.inside.nets.ok.0))
+    let kept : c.in_ok-number.number ≡ c.len.result = search rules in
+    rw c.in_ok-push.ensures.items (at_last a.nets.items c.args.net c.in_ok-number.number (kept ∙ c.len.ensures ∙ c.self.inside.nets.ok.0))

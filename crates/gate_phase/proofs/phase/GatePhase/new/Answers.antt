@@ -1,4 +1,4 @@
-use Rattle.std.proofs.Common.{arith, sym, subst}
+use Rattle.std.proofs.Common.{◌≡◌, arith, rules, sym, subst}
 use Rattle.deep_tables.proofs.Finding.{some_at}
 use Rattle.deep_tables.specs.Layers.{AreLayers}
 use Rattle.deep_tables.specs.Nets.{AreCellNets}
@@ -17,7 +17,7 @@ pub invariant_of-result : goal.invariant_of-result
 invariant_of-result c =
     let d = c.args.design.now in
     let r = rules_seen c.args.rules.now in
-    let few = c.if-len-2.false in
+    let few : c.in_ok-ok_or-2.field-0 ≡ c.len-2.result = search rules in
     let devices = c.len-2.ensures in
     record {
       sound = c.requires.rules;
