@@ -23,7 +23,6 @@ use crate::numbering::{Numbering, number_nets};
 use crate::placed::Placed;
 use crate::rows::device_rows;
 use deep_tables::{CellNets, CellPins, Gate};
-use list_base::small;
 use net_model::Circuit;
 use net_names::Name;
 use rule_text::MosRule;
@@ -76,7 +75,9 @@ pub fn cell_circuit<P: Placed>(
         (P.drawn placed.now) (P.circuits placed.now) cell (map plain_gate parts.now.gates.now)
         drawn.now (device_rules r) parts.now.unit_pm (plain_circuit c)) }
 {
-    small(drawn.len()).ok_or(AllocError)?;
+    if drawn.len() > u32::MAX as usize {
+        return Err(AllocError);
+    }
     let mut numbering = Numbering::new(alloc, parts.nets.count)?;
     let first = pin_nets(alloc, parts.pins, drawn)?;
     let pins = number_nets(alloc, &first, &mut numbering)?;

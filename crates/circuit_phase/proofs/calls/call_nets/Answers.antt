@@ -1,4 +1,4 @@
-use Rattle.std.proofs.Common.{◌≡◌, ◌∙◌, arith, rules}
+use Rattle.std.proofs.Common.{◌∙◌}
 use Rattle.deep_tables.specs.Pins.{plain_pins}
 use Rattle.circuit_phase.proofs.Calling.{nets_inside, pins_inside}
 use Rattle.circuit_phase.proofs.calls.call_nets.Goals as goal
@@ -11,6 +11,3 @@ pub number_nets-requires : goal.number_nets-requires
 number_nets-requires c =
     let inside = pins_inside (plain_pins c.args.pins.now) c.args.drawn.now c.args.nets.now c.deref.result.now c.args.start (c.deref.ensures.value ∙ c.in_ok-inner.ensures) c.requires.long in
     nets_inside c.args.nets.now c.deref.result.now c.deref-2.result.now c.args.start c.args.numbering.now.count (c.deref-2.ensures.value ∙ c.in_ok-outer.ensures) inside c.requires.within
-
-pub pin_nets-requires-clause-few : goal.pin_nets-requires-clause-few
-pin_nets-requires-clause-few c = let low : c.in_ok-ok_or.field-0 ≡ c.len.result = search rules in omega (arith, low)
