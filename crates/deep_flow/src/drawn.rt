@@ -114,7 +114,9 @@ pub fn draw<R: Threads + Wait + Sync, G: Gate + Sync>(
         rt, alloc, design, rules, nets, pins, gates, unit_pm, workers, gate,
     )?;
     let cells = circuit_cells(alloc, design, gates)?;
-    small(cells.len()).ok_or(AllocError)?;
+    if cells.len() > u32::MAX as usize {
+        return Err(AllocError);
+    }
     if !have_few_nets(&circuits, &cells) {
         return Err(AllocError);
     }

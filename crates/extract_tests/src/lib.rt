@@ -24,8 +24,6 @@ mod layouts;
 #[cfg(test)]
 mod made;
 #[cfg(test)]
-mod many;
-#[cfg(test)]
 mod refused;
 #[cfg(test)]
 mod texts;

@@ -152,58 +152,21 @@ fn slanted(alloc: Global) -> Result<Vec<u8>, AllocError> {
     with_byte(alloc, &straight, 201, 16)
 }
 
-// The records of the two squares' stream: where each begins and where it ends.
-const RECORDS: [(usize, usize); 18] = [
-    (0, 6),
-    (6, 34),
-    (34, 40),
-    (40, 60),
-    (60, 88),
-    (88, 94),
-    (94, 98),
-    (98, 104),
-    (104, 110),
-    (110, 154),
-    (154, 158),
-    (158, 162),
-    (162, 168),
-    (168, 174),
-    (174, 218),
-    (218, 222),
-    (222, 226),
-    (226, 230),
-];
-
-// Each front of the stream has the fault of the record that it is cut in, whole and in pieces.
-#[test]
-fn every_cut(rt: HostRuntime) -> Result<(), Fail> {
-    let alloc = rt.alloc();
-    let squares = library(alloc, &SQUARES)?;
-    assert_eq!(rt; squares.len(), 230);
-    for (record, (start, end)) in RECORDS.into_iter().enumerate() {
-        let place = Some((1, record as u64, start as u64));
-        for at in start..end {
-            let bytes = front(&squares, at);
-            let fault = read_layout(alloc, bytes, None).err();
-            assert_eq!(rt; fault.as_ref().and_then(place_of), place, "{at}");
-            for size in [1, 7, 1000] {
-                let fault = in_pieces(alloc, bytes, size).err();
-                assert_eq!(rt; fault.as_ref().and_then(place_of), place, "{at} {size}");
-            }
-        }
-    }
-    Ok(())
-}
-
-// A slanted edge, and a missing cell in a stream without an end: the stream's fault comes first.
+// Too few bytes, a slanted edge, and a missing cell in a stream without an end: the stream's fault
+// comes first.
 #[test]
 fn faults_in_pieces(rt: HostRuntime) -> Result<(), Fail> {
     let alloc = rt.alloc();
+    let squares = library(alloc, &SQUARES)?;
     let slanted = slanted(alloc)?;
     let missing = library(alloc, &MISSING)?;
+    assert_eq!(rt; squares.len(), 230);
     assert_eq!(rt; missing.len(), 128);
     for size in [1, 2, 3, 1000] {
         for (bytes, place) in [
+            (front(&squares, 0), (1, 0, 0)),
+            (front(&squares, 120), (1, 9, 110)),
+            (front(&squares, 226), (1, 17, 226)),
             (front(&slanted, 230), (6, 14, 174)),
             (front(&missing, 124), (1, 11, 124)),
         ] {
