@@ -63,7 +63,8 @@ fn file_depot_fails(rt: HostRuntime) -> Result<(), Fail> {
     assert_eq!(rt; FileDepot::new(&rt).open_read(path), Ok(false));
     assert!(rt; write_file(&mut FileDepot::new(&rt), "/dev/full", b"GDS").is_err());
     assert!(rt; write_file(&mut FileDepot::new(&rt), "/dev/null", b"GDS").is_ok());
-    let answer = read_back(&mut FileDepot::new(&rt), ".", &mut back);
+    let mut none = Vec::new(alloc);
+    let answer = read_back(&mut FileDepot::new(&rt), ".", &mut none);
     assert_eq!(rt; answer, Err(ReadFault::Failed));
     Ok(())
 }
@@ -176,7 +177,7 @@ fn idle_depot_takes_nothing(rt: HostRuntime) -> Result<(), Fail> {
         depot.put(alloc, "a", b"one")?;
         assert_eq!(rt; read_back(&mut depot, "a", &mut back), Ok(true));
         assert_eq!(rt; back.as_slice(), b"one".as_slice());
-        let written = write_file(&mut depot, "b", text.as_bytes());
+        let written = write_file(&mut IdleDepot::new(alloc), "b", text.as_bytes());
         assert_eq!(rt; written.is_ok(), is_written);
     }
     Ok(())
