@@ -164,13 +164,14 @@ fn seeds_gather_whole_parts(rt: HostRuntime) -> Result<(), Fail> {
     Ok(())
 }
 
-// A part of 300 steps is found whole from its end.
+// A part of 255 steps is found whole from its end.
 #[test]
 fn seeds_gather_long_parts(rt: HostRuntime) -> Result<(), Fail> {
     let alloc = rt.alloc();
     let mut steps = Vec::new(alloc);
-    for step in 0..300i64 {
-        steps.push(rect(2 * step, step, 2 * step + 3, step + 1))?;
+    for step in 0..255u8 {
+        let y = i64::from(step);
+        steps.push(rect(2 * y, y, 2 * y + 3, y + 1))?;
     }
     let all = set_of(alloc, &steps)?;
     let layer = Whole {
