@@ -25,7 +25,7 @@ fn push_square(alloc: Global, out: &mut Vec<u8>, square: Square) -> Result<(), A
     out.extend_from_slice(&y)
 }
 
-fn push_groups(alloc: Global, out: &mut Vec<u8>, n: u64) -> Result<(), AllocError>
+fn push_groups(alloc: Global, out: &mut Vec<u8>, n: u128) -> Result<(), AllocError>
     ensures { OnOk result (out.new.items ≡ out.old.items ++ cause_word (plain_cause (Groups n))) }
 {
     let digits = n.to_string(alloc)?.into_bytes();
