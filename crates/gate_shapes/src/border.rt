@@ -71,8 +71,8 @@ fn beside(alloc: Global, part: &RectSet, side: Side) -> Result<RectSet, AllocErr
 /// have none, and those squares.
 #[derive(Drop)]
 pub struct Flank {
-    pub wide: u64,
-    pub long: u64,
+    pub wide: u128,
+    pub long: u128,
     pub touched: RectSet,
 }
 
@@ -92,9 +92,9 @@ fn edges_on(alloc: Global, part: &RectSet, ends: &RectSet, side: Side) -> Result
     })
 }
 
-fn sum(a: u64, b: u64, c: u64, d: u64) -> Result<u64, AllocError>
+fn sum(a: u128, b: u128, c: u128, d: u128) -> Result<u128, AllocError>
     ensures sum { IfOk result (λ n. ((a + b) + c) + d ≡ n) }
-    ensures err { OnErr result (2 ^ 64 ≤ ((a + b) + c) + d) }
+    ensures err { OnErr result (2 ^ 128 ≤ ((a + b) + c) + d) }
 {
     let n = plus(plus(plus(a, b)?, c)?, d)?;
     Ok(n)

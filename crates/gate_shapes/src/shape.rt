@@ -18,7 +18,7 @@ use tile_index::TileIndex;
 /// Why a gate is bad: the first of these that holds.
 #[derive(Clone, Copy, Debug, PartialEq, Eq)]
 pub enum GateCause {
-    Groups(u64),
+    Groups(u128),
     OffGate,
     OffSd,
     NoBulk,
@@ -29,8 +29,8 @@ pub enum GateCause {
 /// group with the least square.
 #[derive(Clone, Copy, Debug, PartialEq, Eq)]
 pub struct GateForm {
-    pub twice_w: u64,
-    pub twice_l: u64,
+    pub twice_w: u128,
+    pub twice_l: u128,
     pub source: Square,
     pub drain: Square,
 }
@@ -128,7 +128,7 @@ fn first_fault(
     source: &RectSet,
     drain: &RectSet,
     around: &Around,
-    long: u64,
+    long: u128,
 ) -> Result<Option<GateCause>, AllocError>
     ensures { IfOk result (λ f. IsFirstFault
         (sheets_of around.now.ends.now around.now.on_ends.now around.now.on_gate.now
@@ -157,8 +157,8 @@ fn first_fault(
 /// The part as a gate: its sizes and the least squares of its two groups, or its first fault. Only
 /// the squares of the part and of its ring count, so the sets around may be cut to the part's box
 /// grown by one. In O(n log n) for n rectangles of the part and of the sets there, however many
-/// groups they are; no square is looked at alone. More edges than 64 bits can count, and 2^32
-/// rectangles or more, are taken for want of memory.
+/// groups they are; no square is looked at alone. 2^32 rectangles or more are taken for want of
+/// memory.
 pub fn shape_of(alloc: Global, part: &RectSet, around: &Around) -> Result<GateShape, AllocError>
     requires { IsNearSet part.now }
     ensures { IfOk result (λ s. IsShape
@@ -170,7 +170,7 @@ pub fn shape_of(alloc: Global, part: &RectSet, around: &Around) -> Result<GateSh
     let groups = parts(alloc, &sides)?;
     let places = kept(alloc, &groups, &border.touched)?;
     if places.len() != 2 {
-        return Ok(GateShape::Bad(GateCause::Groups(places.len() as u64)));
+        return Ok(GateShape::Bad(GateCause::Groups(places.len() as u128)));
     }
     let one = &groups[places[0]];
     let other = &groups[places[1]];
