@@ -1,4 +1,3 @@
-pub mod Numbering
 pub mod Marked
 pub mod Fitted
 pub mod Read
