@@ -17,7 +17,7 @@ use std::marker::Model;
 #[derive(Clone, Copy, Debug, PartialEq, Eq)]
 pub enum GateCause {
     /// It hasn't two groups of source or drain, but so many.
-    Groups(u64),
+    Groups(u128),
     /// A square of it isn't on the conductor of gates.
     OffGate,
     /// A square of a group isn't on the conductor of sources and drains.
@@ -34,8 +34,8 @@ pub enum GateCause {
 #[derive(Clone, Copy, Debug, PartialEq, Eq)]
 pub enum GateState {
     Good {
-        twice_w: u64,
-        twice_l: u64,
+        twice_w: u128,
+        twice_l: u128,
         source: u32,
         drain: u32,
         gate: u32,
