@@ -1,5 +1,5 @@
 -- What netlists must be to be aligned, and what aligned ones are.
-use Rattle.std.specs.Prelude.{◌≡◌, ◌<◌, ℕ, Bool, List, length}
+use Rattle.std.specs.Prelude.{◌≡◌, ◌<◌, ℕ, Bool, List, length, Option, Some, None}
 use Rattle.call_order.specs.Order.{IsCallOrder}
 use Rattle.plain_netlist.specs.Netlist.{CallRow, Circuit, Netlist, IsCall, IsCircuit, Slot}
 use Rattle.plain_netlist.specs.Normal.{IsNormalNetlist}
@@ -28,6 +28,11 @@ AreCalleesFirst nl = (c k : ℕ) (row : CallRow) → IsCall nl c k row → row.c
 abbrev pub HasNoPartner : Netlist → Netlist → ℕ → List (List ℕ × List ℕ) → Type 0
 HasNoPartner layout schematic top same =
     (b : ℕ) → IsPartner layout schematic top same top b → ⊥
+
+-- the partner of the top, if it has one
+abbrev pub IsTopPartner : Netlist → Netlist → ℕ → List (List ℕ × List ℕ) → Option ℕ → Type 0
+IsTopPartner layout schematic top same None = HasNoPartner layout schematic top same
+IsTopPartner layout schematic top same (Some b) = IsPartner layout schematic top same top b
 
 -- left and right are the aligned pair of a layout and a schematic, for the partner that the top has
 pub record AreAligned (layout schematic : Netlist) (top : ℕ) (same : List (List ℕ × List ℕ))

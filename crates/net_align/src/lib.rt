@@ -17,4 +17,4 @@ mod side;
 mod sights;
 mod walk;
 
-pub use pair::{Aligned, align};
+pub use pair::{Aligned, align, partner_of_top};

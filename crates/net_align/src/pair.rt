@@ -1,7 +1,8 @@
 //! The aligned pair of a layout and a schematic.
 ghost use Rattle.std.specs.Prelude.{◌↔◌, ◌<◌, IfOk, IfSome, IsNone, length};
 ghost use Rattle.net_align.specs.Compared.{AreAligned, AreCalleesFirst, AreComparable};
-ghost use Rattle.net_align.specs.Compared.{HasNoPartner, IsAlignable, KeepsExpansions, is_compared};
+ghost use Rattle.net_align.specs.Compared.{HasNoPartner, IsAlignable, IsTopPartner};
+ghost use Rattle.net_align.specs.Compared.{KeepsExpansions, is_compared};
 ghost use Rattle.net_align.specs.Names.{left_names, right_names};
 ghost use Rattle.net_align.specs.Paired.{ArePairsBelow};
 ghost use Rattle.net_model.specs.Rows.{plain_netlist};
@@ -68,6 +69,27 @@ pub fn align(
     let left = side_of(alloc, layout, &left, &pairs.lefts)?;
     let right = side_of(alloc, schematic, &right, &pairs.rights)?;
     Ok(Some(Aligned { left, right }))
+}
+
+/// The circuit of the schematic that is the partner of the layout's top, as `align` finds it. Linear
+/// in the names and the calls. Err only where memory is refused or a list is longer than numbers of
+/// 32 bits count.
+pub fn partner_of_top(
+    alloc: Global,
+    layout: &Netlist,
+    top: u32,
+    schematic: &Netlist,
+    same: &[(Name, Name)],
+) -> Result<Option<usize>, AllocError>
+    requires schematic { IsAlignable (plain_netlist schematic.now) }
+    requires top { top < length layout.now.circuits.items }
+    requires lefts { AreApart (left_names same.now) }
+    requires rights { AreApart (right_names same.now) }
+    ensures { IfOk result (IsTopPartner (plain_netlist layout.now) (plain_netlist schematic.now)
+        top same.now) }
+{
+    let of = find_partners(alloc, layout, top as usize, schematic, same)?;
+    Ok(of[top as usize])
 }
 
 // The pairs of circuits that are compared. `of` has the partner of each circuit of the layout.

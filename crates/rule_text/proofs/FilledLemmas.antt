@@ -2,7 +2,7 @@
 use Rattle.std.proofs.Common.{◌≡◌, ℕ, zero, suc, ◌+◌, ◌-◌, ◌*◌, ◌<◌, ◌≤◌, cond, List, [], ◌∷◌, length, take, drop, Bool, true, false, Option, Some, None, refl, sym, ap, subst, arith}
 use Rattle.std.specs.Prelude.{◌&&◌, nat_le, slice_get, unwrap_or}
 use Rattle.rule_lines.specs.Tokens.{Token, Word, Text, Mark, Arrow, Bad, is_digit}
-use Rattle.rule_text.specs.Rows.{Slot, Fresh, Name, Layer, Guesses, Quoted, Operator, Key, Sign, Maps, is_name, is_string, number_from, guesses_of, fits_slot, fits, word_of, word_at}
+use Rattle.rule_text.specs.Rows.{Slot, Fresh, Name, Layer, Guesses, Quoted, Exact, Operator, Key, Sign, Maps, is_name, is_string, number_from, guesses_of, fits_slot, fits, word_of, word_at}
 use Rattle.rule_text.specs.Filled.{FillsSlot, AreFilled}
 
 first_true : (a b : Bool) → (a && b) ≡ true → a ≡ true
@@ -58,6 +58,11 @@ slot_filled Quoted (Word w) e = absurd cc
 slot_filled Quoted (Mark b) e = absurd cc
 slot_filled Quoted Arrow e = absurd cc
 slot_filled Quoted Bad e = absurd cc
+slot_filled Exact (Text w) e = string_filled w (first_true (is_string w) _ e)
+slot_filled Exact (Word w) e = absurd cc
+slot_filled Exact (Mark b) e = absurd cc
+slot_filled Exact Arrow e = absurd cc
+slot_filled Exact Bad e = absurd cc
 slot_filled Layer t e = tt
 slot_filled Guesses (Word w) e = (limit_some (unwrap_or (guesses_of w) 0) e, limit_most w)
 slot_filled Guesses (Text w) e = absurd cc

@@ -13,8 +13,8 @@ use Rattle.rule_text.specs.declared.rules.LayerForm.TheVariants as form
 use Rattle.rule_text.specs.declared.rules.LayerRule.{LayerRule}
 use Rattle.rule_text.specs.declared.rules.Output.{Output}
 use Rattle.rule_text.specs.declared.rules.MosRule.{MosRule}
-use Rattle.rule_text.specs.Rows.{Form, Input, Labels, Empty, Binary, Mos, Statement, Define, Draw, Connect, Global, Extract, Same, MaxGuesses, Accepted}
-use Rattle.rule_text.specs.Rules.{Rules, no_rules, names_of, place_of, is_defined, is_text_rule, has_texts, is_labels, operands_of, uses_of, is_twice, is_misplaced, statement_fault, numbered, mos_rule, named, drawn, extracting, paired, with_statement}
+use Rattle.rule_text.specs.Rows.{Form, Input, Labels, Empty, Binary, Mos, Statement, Define, Draw, Connect, Global, Extract, Same, FlattenLayout, FlattenSchematic, FlattenUnmatched, MaxGuesses, Accepted}
+use Rattle.rule_text.specs.Rules.{Rules, no_rules, names_of, place_of, is_defined, is_text_rule, has_texts, is_labels, operands_of, uses_of, is_twice, is_misplaced, statement_fault, numbered, mos_rule, named, drawn, extracting, paired, names_layout, names_schematic, flattening_layout, flattening_schematic, with_statement}
 use Rattle.geo_base.specs.Layers.{is_same_key}
 use Rattle.rule_text.specs.Filled.{IsFilled}
 use Rattle.rule_text.specs.Reading.{is_connected, first_loose}
@@ -172,6 +172,8 @@ defined_more r name f fresh used plain h =
       devices = λ k d e. mos_kept r.names n d (h.devices k d e);
       layouts = h.layouts;
       schematics = h.schematics;
+      flat_layouts = h.flat_layouts;
+      flat_schematics = h.flat_schematics;
       guesses = h.guesses;
     }
 
@@ -190,6 +192,8 @@ drawn_more r name key fresh ls h =
       devices = h.devices;
       layouts = h.layouts;
       schematics = h.schematics;
+      flat_layouts = h.flat_layouts;
+      flat_schematics = h.flat_schematics;
       guesses = h.guesses;
     }
 
@@ -205,6 +209,8 @@ connect_more r a b ls h = record {
   devices = h.devices;
   layouts = h.layouts;
   schematics = h.schematics;
+  flat_layouts = h.flat_layouts;
+  flat_schematics = h.flat_schematics;
   guesses = h.guesses;
 }
 
@@ -220,6 +226,8 @@ global_more r a net ls h = record {
   devices = h.devices;
   layouts = h.layouts;
   schematics = h.schematics;
+  flat_layouts = h.flat_layouts;
+  flat_schematics = h.flat_schematics;
   guesses = h.guesses;
 }
 
@@ -237,12 +245,14 @@ extract_more r m fresh ls h = record {
       (record { sd = ls.0; g = ls.1.0; w = ls.1.1.0; ts = ls.1.1.1.0; tg = ls.1.1.1.1.0; tb = ls.1.1.1.1.1.0 });
   layouts = h.layouts;
   schematics = h.schematics;
+  flat_layouts = h.flat_layouts;
+  flat_schematics = h.flat_schematics;
   guesses = h.guesses;
 }
 
 same_more : (r : Rules) (a b : List ℕ) → is_twice r (Same a b) ≡ false → IsFormed r → IsFormed (paired r a b)
 same_more r a b fresh h =
-    let apart = both_false (list_any (bytes_eq (folded_bytes a)) (map (λ p. folded_bytes p.0) r.same)) (list_any (bytes_eq (folded_bytes b)) (map (λ p. folded_bytes p.1) r.same)) fresh in
+    let apart = both_false (names_layout r (folded_bytes a)) (names_schematic r (folded_bytes b)) fresh in
     record {
       names = h.names;
       operands = h.operands;
@@ -252,10 +262,63 @@ same_more r a b fresh h =
       globals = h.globals;
       classes = h.classes;
       devices = h.devices;
-      layouts = map_apart (bytes_eq (folded_bytes a)) (λ p. folded_bytes p.0) r.same (a, b) (same_bytes (folded_bytes a)) apart.0 h.layouts;
-      schematics = map_apart (bytes_eq (folded_bytes b)) (λ p. folded_bytes p.1) r.same (a, b) (same_bytes (folded_bytes b)) apart.1 h.schematics;
+      layouts = map_apart (bytes_eq (folded_bytes a)) (λ p. folded_bytes p.0) r.same (a, b) (same_bytes (folded_bytes a)) (both_false _ _ apart.0).0 h.layouts;
+      schematics = map_apart (bytes_eq (folded_bytes b)) (λ p. folded_bytes p.1) r.same (a, b) (same_bytes (folded_bytes b)) (both_false _ _ apart.1).0 h.schematics;
+      flat_layouts = h.flat_layouts;
+      flat_schematics = h.flat_schematics;
       guesses = h.guesses;
     }
+
+flat_layout_more : (r : Rules) (a : List ℕ) → names_layout r (folded_bytes a) ≡ false → IsFormed r → IsFormed (flattening_layout r a)
+flat_layout_more r a fresh h = record {
+  names = h.names;
+  operands = h.operands;
+  keys = h.keys;
+  outputs = h.outputs;
+  connects = h.connects;
+  globals = h.globals;
+  classes = h.classes;
+  devices = h.devices;
+  layouts = h.layouts;
+  schematics = h.schematics;
+  flat_layouts = map_apart (bytes_eq (folded_bytes a)) folded_bytes r.flat_layouts a (same_bytes (folded_bytes a)) (both_false _ _ fresh).1 h.flat_layouts;
+  flat_schematics = h.flat_schematics;
+  guesses = h.guesses;
+}
+
+flat_schematic_more : (r : Rules) (b : List ℕ) → names_schematic r (folded_bytes b) ≡ false → IsFormed r → IsFormed (flattening_schematic r b)
+flat_schematic_more r b fresh h = record {
+  names = h.names;
+  operands = h.operands;
+  keys = h.keys;
+  outputs = h.outputs;
+  connects = h.connects;
+  globals = h.globals;
+  classes = h.classes;
+  devices = h.devices;
+  layouts = h.layouts;
+  schematics = h.schematics;
+  flat_layouts = h.flat_layouts;
+  flat_schematics = map_apart (bytes_eq (folded_bytes b)) folded_bytes r.flat_schematics b (same_bytes (folded_bytes b)) (both_false _ _ fresh).1 h.flat_schematics;
+  guesses = h.guesses;
+}
+
+unmatched_more : (r : Rules) → IsFormed r → IsFormed (with_statement r FlattenUnmatched)
+unmatched_more r h = record {
+  names = h.names;
+  operands = h.operands;
+  keys = h.keys;
+  outputs = h.outputs;
+  connects = h.connects;
+  globals = h.globals;
+  classes = h.classes;
+  devices = h.devices;
+  layouts = h.layouts;
+  schematics = h.schematics;
+  flat_layouts = h.flat_layouts;
+  flat_schematics = h.flat_schematics;
+  guesses = h.guesses;
+}
 
 guesses_more : (r : Rules) (n : ℕ) → IsFilled (MaxGuesses n) → IsFormed r → IsFormed (with_statement r (MaxGuesses n))
 guesses_more r n fits h = record {
@@ -269,6 +332,8 @@ guesses_more r n fits h = record {
   devices = h.devices;
   layouts = h.layouts;
   schematics = h.schematics;
+  flat_layouts = h.flat_layouts;
+  flat_schematics = h.flat_schematics;
   guesses = fits;
 }
 
@@ -287,6 +352,9 @@ by_tests r (Connect a b) used fresh plain filled h =
 by_tests r (Global a net) used fresh plain filled h = global_more r a net (all_layers r (a ∷ []) used plain) h
 by_tests r (Extract m) used fresh plain filled h = extract_more r m fresh (all_layers r (m.sd ∷ m.g ∷ m.w ∷ m.ts ∷ m.tg ∷ m.tb ∷ []) used plain) h
 by_tests r (Same a b) used fresh plain filled h = same_more r a b fresh h
+by_tests r (FlattenLayout a) used fresh plain filled h = flat_layout_more r a fresh h
+by_tests r (FlattenSchematic b) used fresh plain filled h = flat_schematic_more r b fresh h
+by_tests r FlattenUnmatched used fresh plain filled h = unmatched_more r h
 by_tests r (MaxGuesses n) used fresh plain filled h = guesses_more r n filled h
 by_tests r Accepted used fresh plain filled h = h
 
@@ -308,6 +376,8 @@ none_formed = record {
   devices = none_each _;
   layouts = tt;
   schematics = tt;
+  flat_layouts = tt;
+  flat_schematics = tt;
   guesses = (omega arith, omega arith);
 }
 

@@ -1,8 +1,9 @@
 -- What fits its slot has a byte or lies in its range.
 use Rattle.std.specs.Prelude.{ℕ, ◌+◌, ◌<◌, ◌≤◌, List, [], ◌∷◌, length, unwrap_or}
 use Rattle.rule_lines.specs.Tokens.{Token}
-use Rattle.rule_text.specs.Rows.{Slot, Fresh, Name, Quoted, Guesses, Statement, Define, Global}
-use Rattle.rule_text.specs.Rows.{Extract, Same, MaxGuesses, guesses_of, word_at}
+use Rattle.rule_text.specs.Rows.{Slot, Fresh, Name, Quoted, Exact, Guesses, Statement, Define}
+use Rattle.rule_text.specs.Rows.{Global, Extract, Same, FlattenLayout, FlattenSchematic}
+use Rattle.rule_text.specs.Rows.{MaxGuesses, guesses_of, word_at}
 
 abbrev pub IsGuessLimit : ℕ → Type 0
 IsGuessLimit n = (1 ≤ n) × (n ≤ 1000000)
@@ -11,6 +12,7 @@ abbrev pub FillsSlot : Slot → List ℕ → Type 0
 FillsSlot Fresh w = 0 < length w
 FillsSlot Name w = 0 < length w
 FillsSlot Quoted w = 0 < length w
+FillsSlot Exact w = 0 < length w
 FillsSlot Guesses w = IsGuessLimit (unwrap_or (guesses_of w) 0)
 FillsSlot _ w = Unit {0}
 
@@ -25,5 +27,7 @@ IsFilled (Define name form) = 0 < length name
 IsFilled (Global a net) = 0 < length net
 IsFilled (Extract m) = 0 < length m.class
 IsFilled (Same a b) = (0 < length a) × (0 < length b)
+IsFilled (FlattenLayout a) = 0 < length a
+IsFilled (FlattenSchematic b) = 0 < length b
 IsFilled (MaxGuesses n) = IsGuessLimit n
 IsFilled _ = Unit {0}

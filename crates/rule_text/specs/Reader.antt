@@ -18,6 +18,8 @@ pub record IsReady (r : Reader) : Type 0 where
   pub classes : r.classes ≡ map (λ d. folded_bytes d.class) r.rules.devices.items
   pub layouts : r.layouts ≡ map (λ p. folded_bytes p.0) r.rules.same.items
   pub schematics : r.schematics ≡ map (λ p. folded_bytes p.1) r.rules.same.items
+  pub flat_layouts : r.flat_layouts ≡ map folded_bytes r.rules.flat_layouts.items
+  pub flat_schematics : r.flat_schematics ≡ map folded_bytes r.rules.flat_schematics.items
   pub count : length r.rules.names.items ≤ 256
   pub lines : length r.device_lines.items ≡ length r.rules.devices.items
 

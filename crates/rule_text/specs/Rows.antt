@@ -17,6 +17,7 @@ pub data Slot : Type 0 where
   Layer : Slot
   Guesses : Slot
   Quoted : Slot
+  Exact : Slot
   Operator : Slot
   Key : (word : List ℕ) → Slot
   Sign : (byte : ℕ) → Slot
@@ -29,9 +30,9 @@ is_name w = is_small (slice_index w 0) && nat_le (length w) 64
 abbrev pub statement_words : List (List ℕ)
 statement_words =
     codes "connect" ∷ codes "connect_global" ∷ codes "extract_devices" ∷ codes "same_circuits"
-    ∷ codes "max_guesses" ∷ codes "deep" ∷ codes "netlist" ∷ codes "align" ∷ codes "compare"
-    ∷ codes "schematic" ∷ codes "input" ∷ codes "labels" ∷ codes "polygon_layer" ∷ codes "output"
-    ∷ codes "mos4" ∷ []
+    ∷ codes "max_guesses" ∷ codes "flatten_unmatched" ∷ codes "deep" ∷ codes "netlist"
+    ∷ codes "align" ∷ codes "compare" ∷ codes "schematic" ∷ codes "input" ∷ codes "labels"
+    ∷ codes "polygon_layer" ∷ codes "output" ∷ codes "mos4" ∷ []
 
 unfoldable pub is_statement_word : List ℕ → Bool
 is_statement_word w = list_any (bytes_eq w) statement_words
@@ -60,6 +61,10 @@ is_printable b = nat_le 0x20 b && nat_le b 0x7E
 abbrev pub is_string : List ℕ → Bool
 is_string w = nat_le 1 (length w) && list_all is_printable w
 
+-- * ? [ {, which KLayout reads as patterns
+abbrev pub is_wild : ℕ → Bool
+is_wild b = b == 0x2A || b == 0x3F || b == 0x5B || b == 0x7B
+
 -- & | - ^
 abbrev pub is_operator : ℕ → Bool
 is_operator b = b == 0x26 || b == 0x7C || b == 0x2D || b == 0x5E
@@ -70,6 +75,7 @@ fits_slot Name (Word w) = is_name w
 fits_slot Layer (Word w) = is_some (layer_of w)
 fits_slot Guesses (Word w) = nat_le 1 (unwrap_or (guesses_of w) 0)
 fits_slot Quoted (Text w) = is_string w
+fits_slot Exact (Text w) = is_string w && not (list_any is_wild w)
 fits_slot Operator (Mark b) = is_operator b
 fits_slot (Key k) (Word w) = bytes_eq w k
 fits_slot (Sign k) (Mark b) = b == k
@@ -147,6 +153,15 @@ devices_row =
 abbrev pub same_row : List Slot
 same_row = Key (codes "same_circuits") ∷ Sign OPEN ∷ Quoted ∷ Sign COMMA ∷ Quoted ∷ Sign CLOSE ∷ []
 
+-- A.flatten_circuit("C")
+abbrev pub flatten_row : List ℕ → List Slot
+flatten_row side = Key side ∷ Sign DOT ∷ Key (codes "flatten_circuit") ∷ Sign OPEN ∷ Exact
+    ∷ Sign CLOSE ∷ []
+
+-- flatten_unmatched
+abbrev pub unmatched_row : List Slot
+unmatched_row = Key (codes "flatten_unmatched") ∷ []
+
 -- max_guesses(N)
 abbrev pub guesses_row : List Slot
 guesses_row = Key (codes "max_guesses") ∷ Sign OPEN ∷ Guesses ∷ Sign CLOSE ∷ []
@@ -179,6 +194,9 @@ pub data Statement : Type 0 where
   Global : (a net : List ℕ) → Statement
   Extract : (mos : Mos) → Statement
   Same : (a b : List ℕ) → Statement
+  FlattenLayout : (a : List ℕ) → Statement
+  FlattenSchematic : (b : List ℕ) → Statement
+  FlattenUnmatched : Statement
   MaxGuesses : (n : ℕ) → Statement
   Accepted : Statement
 
@@ -224,6 +242,14 @@ wiring_of ts =
     if fits output_row ts then Some (Draw (word_at 0 ts) (key_at 4 6 ts))
     else if fits connect_row ts then Some (Connect (word_at 2 ts) (word_at 4 ts))
     else if fits global_row ts then Some (Global (word_at 2 ts) (word_at 4 ts))
+    else None
+
+-- which circuits have no partner
+unfoldable pub flattening_of : List Token → Option Statement
+flattening_of ts =
+    if fits (flatten_row (codes "netlist")) ts then Some (FlattenLayout (word_at 4 ts))
+    else if fits (flatten_row (codes "schematic")) ts then Some (FlattenSchematic (word_at 4 ts))
+    else if fits unmatched_row ts then Some FlattenUnmatched
     else None
 
 -- a blank line, deep, netlist, align, compare and schematic("P") change nothing

@@ -20,7 +20,9 @@ use Rattle.rule_text.specs.declared.fault.RuleFault.TheVariants.{UnknownName, Na
 use Rattle.rule_text.specs.declared.fault.RuleFault.TheVariants.{NotConductor, TooManyLayers}
 use Rattle.rule_text.specs.Rows.{Form, Input, Labels, Empty, Binary, Mos, Statement, Define, Draw}
 use Rattle.rule_text.specs.Rows.{Connect, Global, Extract, Same, MaxGuesses, Accepted, EQUALS, DOT}
-use Rattle.rule_text.specs.Rows.{is_name, is_statement_word, definition_of, wiring_of, setting_of}
+use Rattle.rule_text.specs.Rows.{FlattenLayout, FlattenSchematic, FlattenUnmatched}
+use Rattle.rule_text.specs.Rows.{is_name, is_statement_word, definition_of, wiring_of}
+use Rattle.rule_text.specs.Rows.{flattening_of, setting_of}
 use Rattle.rule_text.specs.Devices.{devices_of}
 
 -- a rule set with plain lists
@@ -31,6 +33,9 @@ pub record Rules : Type 0 where
   pub globals : List (ℕ × List ℕ)
   pub devices : List MosRule
   pub same : List (List ℕ × List ℕ)
+  pub flat_layouts : List (List ℕ)
+  pub flat_schematics : List (List ℕ)
+  pub flattens_unmatched : Bool
   pub max_guesses : ℕ
 
 abbrev pub no_rules : Rules
@@ -42,6 +47,9 @@ no_rules = record {
   devices = [];
   same =
       [];
+  flat_layouts = [];
+  flat_schematics = [];
+  flattens_unmatched = false;
   max_guesses = 1000;
 }
 
@@ -86,8 +94,20 @@ uses_of (Connect a b) = a ∷ b ∷ []
 uses_of (Global a net) = a ∷ []
 uses_of (Extract m) = m.sd ∷ m.g ∷ m.w ∷ m.ts ∷ m.tg ∷ m.tb ∷ []
 uses_of (Same a b) = []
+uses_of (FlattenLayout a) = []
+uses_of (FlattenSchematic b) = []
+uses_of FlattenUnmatched = []
 uses_of (MaxGuesses n) = []
 uses_of Accepted = []
+
+-- a line names the circuit of the layout, or of the schematic, that has this folded name
+abbrev pub names_layout : Rules → List ℕ → Bool
+names_layout r name = list_any (bytes_eq name) (map (λ p. folded_bytes p.0) r.same)
+    || list_any (bytes_eq name) (map folded_bytes r.flat_layouts)
+
+abbrev pub names_schematic : Rules → List ℕ → Bool
+names_schematic r name = list_any (bytes_eq name) (map (λ p. folded_bytes p.1) r.same)
+    || list_any (bytes_eq name) (map folded_bytes r.flat_schematics)
 
 -- what may stand once alone was there before; classes and circuits are compared with their letters
 -- folded
@@ -98,8 +118,10 @@ is_twice r (Connect a b) = false
 is_twice r (Global a net) = false
 is_twice r (Extract m) =
     list_any (bytes_eq (folded_bytes m.class)) (map (λ d. folded_bytes d.class) r.devices)
-is_twice r (Same a b) = list_any (bytes_eq (folded_bytes a)) (map (λ p. folded_bytes p.0) r.same)
-    || list_any (bytes_eq (folded_bytes b)) (map (λ p. folded_bytes p.1) r.same)
+is_twice r (Same a b) = names_layout r (folded_bytes a) || names_schematic r (folded_bytes b)
+is_twice r (FlattenLayout a) = names_layout r (folded_bytes a)
+is_twice r (FlattenSchematic b) = names_schematic r (folded_bytes b)
+is_twice r FlattenUnmatched = r.flattens_unmatched
 is_twice r (MaxGuesses n) = false
 is_twice r Accepted = false
 
@@ -128,7 +150,8 @@ or_else (Some s) t = Some s
 -- the statement of a line's tokens; no two rows fit one line
 abbrev pub statement_of : List Token → Option Statement
 statement_of ts =
-    or_else (definition_of ts) (or_else (wiring_of ts) (or_else (devices_of ts) (setting_of ts)))
+    or_else (definition_of ts) (or_else (wiring_of ts) (or_else (devices_of ts)
+    (or_else (flattening_of ts) (setting_of ts))))
 
 abbrev pub is_output_next : List Token → Bool
 is_output_next (Word w ∷ ts) = bytes_eq w (codes "output")
@@ -184,6 +207,12 @@ extracting r m = record r { devices = r.devices ++ mos_rule r m ∷ [] }
 abbrev pub paired : Rules → List ℕ → List ℕ → Rules
 paired r a b = record r { same = r.same ++ (a, b) ∷ [] }
 
+abbrev pub flattening_layout : Rules → List ℕ → Rules
+flattening_layout r a = record r { flat_layouts = r.flat_layouts ++ a ∷ [] }
+
+abbrev pub flattening_schematic : Rules → List ℕ → Rules
+flattening_schematic r b = record r { flat_schematics = r.flat_schematics ++ b ∷ [] }
+
 -- the rules with a statement more
 abbrev pub with_statement : Rules → Statement → Rules
 with_statement r (Define name form) = named r name (numbered r form)
@@ -193,6 +222,9 @@ with_statement r (Connect a b) =
 with_statement r (Global a net) = record r { globals = r.globals ++ (place_of a r, net) ∷ [] }
 with_statement r (Extract m) = extracting r m
 with_statement r (Same a b) = paired r a b
+with_statement r (FlattenLayout a) = flattening_layout r a
+with_statement r (FlattenSchematic b) = flattening_schematic r b
+with_statement r FlattenUnmatched = record r { flattens_unmatched = true }
 with_statement r (MaxGuesses n) = record r { max_guesses = n }
 with_statement r Accepted = r
 

@@ -19,6 +19,7 @@ slot code.Name = rows.Name
 slot code.Layer = rows.Layer
 slot code.Guesses = rows.Guesses
 slot code.Quoted = rows.Quoted
+slot code.Exact = rows.Exact
 slot code.Operator = rows.Operator
 slot (code.Key k) = rows.Key k.now
 slot (code.Sign b) = rows.Sign b
@@ -59,6 +60,9 @@ statement (found.Connect a b) = rows.Connect a.now b.now
 statement (found.Global a net) = rows.Global a.now net.now
 statement (found.Extract m) = rows.Extract (mos m)
 statement (found.Same a b) = rows.Same a.now b.now
+statement (found.FlattenLayout a) = rows.FlattenLayout a.now
+statement (found.FlattenSchematic b) = rows.FlattenSchematic b.now
+statement found.FlattenUnmatched = rows.FlattenUnmatched
 statement (found.MaxGuesses n) = rows.MaxGuesses n
 statement found.Accepted = rows.Accepted
 
@@ -74,5 +78,8 @@ rules_seen r = record {
   globals = r.globals.items;
   devices = r.devices.items;
   same = r.same.items;
+  flat_layouts = r.flat_layouts.items;
+  flat_schematics = r.flat_schematics.items;
+  flattens_unmatched = r.flattens_unmatched;
   max_guesses = r.max_guesses;
 }

@@ -51,6 +51,8 @@ pub record IsFormed (r : Rules) : Type 0 where
   pub devices : Each (λ k d. AreMosLayers r.names d) r.devices
   pub layouts : AreApart (map (λ p. folded_bytes p.0) r.same)
   pub schematics : AreApart (map (λ p. folded_bytes p.1) r.same)
+  pub flat_layouts : AreApart (map folded_bytes r.flat_layouts)
+  pub flat_schematics : AreApart (map folded_bytes r.flat_schematics)
   pub guesses : IsGuessLimit r.max_guesses
 
 pub record IsSound (r : Rules) : Type 0 where

@@ -10,7 +10,7 @@ ghost use Rattle.rule_text.specs.Filled.{IsFilled};
 
 use crate::devices::devices_of;
 use crate::fault::RuleFault;
-use crate::rows::{Form, Mos, Statement, definition_of, setting_of, wiring_of};
+use crate::rows::{Form, Mos, Statement, definition_of, flattening_of, setting_of, wiring_of};
 use crate::rules::{LayerForm, LayerRule, MosRule, Output, RuleSet};
 use crate::slots::{is_name, is_statement_word};
 use crate::tables::{KeyTable, TextTable};
@@ -32,6 +32,8 @@ pub struct Reader {
     pub classes: TextTable,
     pub layouts: TextTable,
     pub schematics: TextTable,
+    pub flat_layouts: TextTable,
+    pub flat_schematics: TextTable,
     pub device_lines: Vec<u64>,
 }
 
@@ -48,6 +50,9 @@ impl<'a> Statement<'a> {
             Statement::Global(a, _) => Ok(vec![in alloc; *a]?),
             Statement::Extract(m) => Ok(vec![in alloc; m.sd, m.g, m.w, m.ts, m.tg, m.tb]?),
             Statement::Same(_, _) => Ok(Vec::new(alloc)),
+            Statement::FlattenLayout(_) => Ok(Vec::new(alloc)),
+            Statement::FlattenSchematic(_) => Ok(Vec::new(alloc)),
+            Statement::FlattenUnmatched => Ok(Vec::new(alloc)),
             Statement::MaxGuesses(_) => Ok(Vec::new(alloc)),
             Statement::Accepted => Ok(Vec::new(alloc)),
         }
@@ -71,6 +76,9 @@ fn statement_of<'a>(tokens: &[Token<'a>]) -> Option<Statement<'a>>
         return Some(found);
     }
     if let Some(found) = devices_of(tokens) {
+        return Some(found);
+    }
+    if let Some(found) = flattening_of(tokens) {
         return Some(found);
     }
     setting_of(tokens)
@@ -124,6 +132,8 @@ impl Reader {
     ghost use Rattle.geo_base.specs.Layers.{is_same_key};
     ghost use Rattle.rule_text.specs.Rules.{uses_of, is_twice, is_misplaced, statement_fault};
     ghost use Rattle.rule_text.specs.Rules.{fault_of, numbered, named, drawn, extracting, paired};
+    ghost use Rattle.rule_text.specs.Rules.{names_layout, names_schematic, flattening_layout};
+    ghost use Rattle.rule_text.specs.Rules.{flattening_schematic};
     ghost use Rattle.rule_text.specs.Rules.{with_statement, extraction_line};
     ghost use Rattle.rule_text.specs.Reading.{reading, closed};
     ghost use Rattle.rule_text.specs.Seen.{words as words_seen, form as form_seen, mos as mos_seen};
@@ -144,6 +154,9 @@ impl Reader {
             globals: Vec::new(alloc),
             devices: Vec::new(alloc),
             same: Vec::new(alloc),
+            flat_layouts: Vec::new(alloc),
+            flat_schematics: Vec::new(alloc),
+            flattens_unmatched: false,
             max_guesses: 1000,
         };
         Reader {
@@ -153,6 +166,8 @@ impl Reader {
             classes: TextTable::new(alloc),
             layouts: TextTable::new(alloc),
             schematics: TextTable::new(alloc),
+            flat_layouts: TextTable::new(alloc),
+            flat_schematics: TextTable::new(alloc),
             device_lines: Vec::new(alloc),
         }
     }
@@ -200,6 +215,21 @@ impl Reader {
         }
     }
 
+    // Whether a line names this circuit of the layout, its letters folded.
+    fn names_layout(&self, name: &[u8]) -> bool
+        requires { IsReady self.now }
+        ensures { result ≡ names_layout (rules_seen self.now.rules) name.now }
+    {
+        self.layouts.contains(name) || self.flat_layouts.contains(name)
+    }
+
+    fn names_schematic(&self, name: &[u8]) -> bool
+        requires { IsReady self.now }
+        ensures { result ≡ names_schematic (rules_seen self.now.rules) name.now }
+    {
+        self.schematics.contains(name) || self.flat_schematics.contains(name)
+    }
+
     fn is_twice(&self, alloc: Global, s: &Statement) -> Result<bool, AllocError>
         requires ready { IsReady self.now }
         requires filled { IsFilled (statement_seen s.now) }
@@ -214,8 +244,13 @@ impl Reader {
             ),
             Statement::Same(a, b) => {
                 let (a, b) = (folded_copy(alloc, a)?, folded_copy(alloc, b)?);
-                Ok(self.layouts.contains(a.bytes()) || self.schematics.contains(b.bytes()))
+                Ok(self.names_layout(a.bytes()) || self.names_schematic(b.bytes()))
             }
+            Statement::FlattenLayout(a) => Ok(self.names_layout(folded_copy(alloc, a)?.bytes())),
+            Statement::FlattenSchematic(b) => Ok(self.names_schematic(folded_copy(
+                alloc, b,
+            )?.bytes())),
+            Statement::FlattenUnmatched => Ok(self.rules.flattens_unmatched),
             _ => Ok(false),
         }
     }
@@ -322,10 +357,9 @@ impl Reader {
         requires ready { IsReady self.old }
         requires filled_a { 0 < length a.now }
         requires filled_b { 0 < length b.now }
-        requires fresh_a { list_any (bytes_eq (folded_bytes a.now))
-            (map (λ p. folded_bytes p.0) self.old.rules.same.items) ≡ false }
-        requires fresh_b { list_any (bytes_eq (folded_bytes b.now))
-            (map (λ p. folded_bytes p.1) self.old.rules.same.items) ≡ false }
+        requires fresh_a { names_layout (rules_seen self.old.rules) (folded_bytes a.now) ≡ false }
+        requires fresh_b { names_schematic (rules_seen self.old.rules) (folded_bytes b.now)
+            ≡ false }
         ensures rules { OnOk result (rules_seen self.new.rules
             ≡ paired (rules_seen self.old.rules) a.now b.now) }
         ensures device_lines { OnOk result
@@ -337,6 +371,39 @@ impl Reader {
         self.rules
             .same
             .push((name_of(alloc, a)?, name_of(alloc, b)?))?;
+        Ok(())
+    }
+
+    fn flatten_layout(&mut self, alloc: Global, a: &[u8]) -> Result<(), AllocError>
+        requires ready { IsReady self.old }
+        requires filled { 0 < length a.now }
+        requires fresh { names_layout (rules_seen self.old.rules) (folded_bytes a.now) ≡ false }
+        ensures rules { OnOk result (rules_seen self.new.rules
+            ≡ flattening_layout (rules_seen self.old.rules) a.now) }
+        ensures device_lines { OnOk result
+            (self.new.device_lines.items ≡ self.old.device_lines.items) }
+        ensures ready { OnOk result (IsReady self.new) }
+    {
+        self.flat_layouts
+            .add(alloc, folded_copy(alloc, a)?.bytes())?;
+        self.rules.flat_layouts.push(name_of(alloc, a)?)?;
+        Ok(())
+    }
+
+    fn flatten_schematic(&mut self, alloc: Global, b: &[u8]) -> Result<(), AllocError>
+        requires ready { IsReady self.old }
+        requires filled { 0 < length b.now }
+        requires fresh { names_schematic (rules_seen self.old.rules) (folded_bytes b.now)
+            ≡ false }
+        ensures rules { OnOk result (rules_seen self.new.rules
+            ≡ flattening_schematic (rules_seen self.old.rules) b.now) }
+        ensures device_lines { OnOk result
+            (self.new.device_lines.items ≡ self.old.device_lines.items) }
+        ensures ready { OnOk result (IsReady self.new) }
+    {
+        self.flat_schematics
+            .add(alloc, folded_copy(alloc, b)?.bytes())?;
+        self.rules.flat_schematics.push(name_of(alloc, b)?)?;
         Ok(())
     }
 
@@ -383,6 +450,12 @@ impl Reader {
             }
             Statement::Extract(m) => self.extract(alloc, m, line),
             Statement::Same(a, b) => self.pair(alloc, a, b),
+            Statement::FlattenLayout(a) => self.flatten_layout(alloc, a),
+            Statement::FlattenSchematic(b) => self.flatten_schematic(alloc, b),
+            Statement::FlattenUnmatched => {
+                self.rules.flattens_unmatched = true;
+                Ok(())
+            }
             Statement::MaxGuesses(n) => {
                 self.rules.max_guesses = *n;
                 Ok(())

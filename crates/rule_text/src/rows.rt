@@ -2,11 +2,12 @@
 
 ghost use Rattle.std.specs.Prelude.{◌≡◌, IfSome};
 ghost use Rattle.rule_lines.specs.Seen.{seen_all};
-ghost use Rattle.rule_text.specs.Rows.{op_of, definition_of, wiring_of, is_accepted, setting_of};
+ghost use Rattle.rule_text.specs.Rows.{op_of, definition_of, wiring_of, flattening_of};
+ghost use Rattle.rule_text.specs.Rows.{is_accepted, setting_of};
 ghost use Rattle.rule_text.specs.Seen.{statement, statements};
 ghost use Rattle.rule_text.specs.Filled.{IsFilled};
 
-use crate::slots::Slot::{self, Fresh, Guesses, Key, Layer, Name, Operator, Quoted, Sign};
+use crate::slots::Slot::{self, Exact, Fresh, Guesses, Key, Layer, Name, Operator, Quoted, Sign};
 use crate::slots::{fits, key_at, number_of, sign_at, word_at};
 use geo_base::{LayerKey, Op};
 use rule_lines::Token;
@@ -41,6 +42,9 @@ pub enum Statement<'a> {
     Global(&'a [u8], &'a [u8]),
     Extract(Mos<'a>),
     Same(&'a [u8], &'a [u8]),
+    FlattenLayout(&'a [u8]),
+    FlattenSchematic(&'a [u8]),
+    FlattenUnmatched,
     MaxGuesses(u32),
     Accepted,
 }
@@ -103,6 +107,29 @@ const GLOBAL: [Slot; 6] = [Key(b"connect_global"), OPEN, Name, COMMA, Quoted, CL
 
 // same_circuits("A", "B")
 const SAME: [Slot; 6] = [Key(b"same_circuits"), OPEN, Quoted, COMMA, Quoted, CLOSE];
+
+// netlist.flatten_circuit("A")
+const FLATTEN_LAYOUT: [Slot; 6] = [
+    Key(b"netlist"),
+    Sign(b'.'),
+    Key(b"flatten_circuit"),
+    OPEN,
+    Exact,
+    CLOSE,
+];
+
+// schematic.flatten_circuit("B")
+const FLATTEN_SCHEMATIC: [Slot; 6] = [
+    Key(b"schematic"),
+    Sign(b'.'),
+    Key(b"flatten_circuit"),
+    OPEN,
+    Exact,
+    CLOSE,
+];
+
+// flatten_unmatched
+const FLATTEN_UNMATCHED: [Slot; 1] = [Key(b"flatten_unmatched")];
 
 // max_guesses(N)
 const GUESSES: [Slot; 4] = [Key(b"max_guesses"), OPEN, Guesses, CLOSE];
@@ -175,6 +202,23 @@ fn is_accepted(tokens: &[Token]) -> bool
         || fits(&[Key(b"align")], tokens)
         || fits(&[Key(b"compare")], tokens)
         || fits(&SCHEMATIC, tokens)
+}
+
+#[tactic(auto, unfolding(crate::specs::Rows::flattening_of))]
+pub fn flattening_of<'a>(tokens: &[Token<'a>]) -> Option<Statement<'a>>
+    ensures is { statements result ≡ flattening_of (seen_all tokens.now) }
+    ensures filled { IfSome result (λ s. IsFilled (statement s)) }
+{
+    if fits(&FLATTEN_LAYOUT, tokens) {
+        return Some(Statement::FlattenLayout(word_at(tokens, 4)));
+    }
+    if fits(&FLATTEN_SCHEMATIC, tokens) {
+        return Some(Statement::FlattenSchematic(word_at(tokens, 4)));
+    }
+    if fits(&FLATTEN_UNMATCHED, tokens) {
+        return Some(Statement::FlattenUnmatched);
+    }
+    None
 }
 
 #[tactic(auto, unfolding(crate::specs::Rows::setting_of))]

@@ -1,4 +1,5 @@
-//! The rules of a rule file: names, outputs, connections, devices, pairs of circuits.
+//! The rules of a rule file: names, outputs, connections, devices, pairs of circuits and circuits
+//! without one.
 
 use geo_base::{LayerKey, Op};
 use net_names::Name;
@@ -49,6 +50,9 @@ pub struct RuleSet {
     pub globals: Vec<(u32, Name)>,
     pub devices: Vec<MosRule>,
     pub same: Vec<(Name, Name)>,
+    pub flat_layouts: Vec<Name>,
+    pub flat_schematics: Vec<Name>,
+    pub flattens_unmatched: bool,
     pub max_guesses: u32,
 }
 

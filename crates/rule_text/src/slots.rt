@@ -5,7 +5,8 @@ ghost use Rattle.std.specs.List.{list_all, list_any};
 ghost use Rattle.std.specs.Str.{bytes_eq};
 ghost use Rattle.rule_lines.specs.Seen.{seen, seen_all};
 ghost use Rattle.rule_text.specs.Rows.{is_name, is_statement_word, number_of, layer_of, guesses_of};
-ghost use Rattle.rule_text.specs.Rows.{is_printable, is_string, is_operator, fits_slot, fits};
+ghost use Rattle.rule_text.specs.Rows.{is_printable, is_string, is_wild, is_operator};
+ghost use Rattle.rule_text.specs.Rows.{fits_slot, fits};
 ghost use Rattle.rule_text.specs.Rows.{word_at, sign_at, layer_at, key_at};
 ghost use Rattle.rule_text.specs.Seen.{slot as slot_seen, slots as slots_seen, words as words_seen};
 ghost use Rattle.rule_text.specs.Filled.{AreFilled};
@@ -14,7 +15,7 @@ use geo_base::LayerKey;
 use rule_lines::{Token, is_digit, is_small};
 
 /// What may stand at a place of a row: a name that may be defined, a name, a layer number, a number
-/// of guesses, a string, an operator, a given word or sign, or `=>`.
+/// of guesses, a string, a string that is no pattern, an operator, a given word or sign, or `=>`.
 #[derive(Clone, Copy)]
 pub enum Slot<'a> {
     Fresh,
@@ -22,6 +23,7 @@ pub enum Slot<'a> {
     Layer,
     Guesses,
     Quoted,
+    Exact,
     Operator,
     Key(&'a [u8]),
     Sign(u8),
@@ -58,6 +60,7 @@ pub fn is_statement_word(word: &[u8]) -> bool
             b"extract_devices",
             b"same_circuits",
             b"max_guesses",
+            b"flatten_unmatched",
             b"deep",
             b"netlist",
             b"align",
@@ -121,6 +124,18 @@ fn is_string(text: &[u8]) -> bool
     !text.is_empty() && are_printable(text)
 }
 
+fn is_wild(b: u8) -> bool
+    ensures { result ≡ is_wild b }
+{
+    b == b'*' || b == b'?' || b == b'[' || b == b'{'
+}
+
+fn is_pattern(text: &[u8]) -> bool
+    ensures { result ≡ list_any is_wild text.now }
+{
+    text.iter().any(|b| is_wild(*b))
+}
+
 fn is_operator(b: u8) -> bool
     ensures { result ≡ is_operator b }
 {
@@ -136,6 +151,7 @@ fn fits_slot(slot: &Slot, token: &Token) -> bool
         (Slot::Layer, Token::Word(w)) => layer_of(w).is_some(),
         (Slot::Guesses, Token::Word(w)) => number_of(1_000_000, w).unwrap_or(0) >= 1,
         (Slot::Quoted, Token::Text(w)) => is_string(w),
+        (Slot::Exact, Token::Text(w)) => is_string(w) && !is_pattern(w),
         (Slot::Operator, Token::Mark(b)) => is_operator(*b),
         (Slot::Key(k), Token::Word(w)) => *w == *k,
         (Slot::Sign(k), Token::Mark(b)) => *b == *k,

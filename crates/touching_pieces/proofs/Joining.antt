@@ -8,7 +8,7 @@ use Rattle.std.proofs.lemmas.Bool.Decides.{eqb_tells}
 use Rattle.flat_layout.specs.Layout.{Some_of}
 use Rattle.link_classes.specs.Classes.{IsLinked}
 use Rattle.link_classes.specs.declared.classes.Link.{Link}
-use Rattle.plain_netlist.proofs.Links.{single, along}
+use Rattle.plain_netlist.proofs.Links.{stays, single, along}
 use Rattle.touching_pieces.proofs.Chains.{chains_both, chains_none, chains_same, one_back}
 use Rattle.touching_pieces.proofs.Links.{among_of, among_to}
 use Rattle.touching_pieces.proofs.Sides.{touching_turned}
@@ -144,6 +144,39 @@ joined_back joins c e (inr h) = inr (turned c e joins h)
 pub tied_back : (joins : List Joined) (ps : List Piece) (i j : ℕ) → AreTied joins ps i j → AreTied joins ps j i
 tied_back joins ps i j h =
     record { one = h.other; other = h.one; in_ones = h.in_others; in_others = h.in_ones; joined = joined_back joins h.one.conductor h.other.conductor h.joined; touching = touching_turned h.one.rect h.other.rect h.touching; from = h.to; to = h.from }
+
+-- a conductor without pieces adds no link
+pub none_of : (joins : List Joined) (ps : List Piece) (c : ℕ) (links : List Link) → of_conductor c ps ≡ [] → AddsChains (AreInTouchOf joins ps c) links links
+none_of joins ps c links none = chains_none (AreInTouchOf joins ps c) links (λ i j h. elim h [
+  | inl t ↦ subst (λ (l : List Piece). IsAmong t.one l) none t.in_ones
+  | inr v ↦ let t = (via_tied joins ps c i j v).3 in subst (λ (l : List Piece). IsAmong t.one l) none t.in_ones
+])
+
+-- a list that is said to be empty is
+pub none_held : (ps : List Piece) (long : ℕ) (empty : Bool) → long ≡ length ps → empty ≡ (long == 0) → empty ≡ true → ps ≡ []
+none_held [] long empty is told e = refl
+none_held (p ∷ ps) long empty is told e = let f : long ≡ 0 = test_of long 0 (sym told ∙ e) in absurd (let z : ⊥ = omega (arith, is, f) in z)
+
+one_item : (ps : List Piece) (p q : Piece) → length ps < 2 → IsAmong p ps → IsAmong q ps → p.item ≡ q.item
+one_item [] p q few a b = absurd a
+one_item (x ∷ []) p q few (inl a) (inl b) = ap (λ (y : Piece). y.item) (a ∙ sym b)
+one_item (x ∷ []) p q few (inl a) (inr b) = absurd b
+one_item (x ∷ []) p q few (inr a) b = absurd a
+one_item (x ∷ y ∷ ps) p q few a b = absurd (let z : ⊥ = omega arith in z)
+
+-- one piece by itself is tied to no other item
+pub none_tied : (joins : List Joined) (ps : List Piece) (links : List Link) → length ps < 2 → links ≡ [] → AreLinksOf joins ps links
+none_tied joins ps links few none = subst (AreLinksOf joins ps) (sym none) (record {
+  each = λ i j k. absurd k;
+  found = found;
+  chains = λ i j. (
+    along (IsLinked []) (AreTied joins ps) (λ x. x) (λ a b k. absurd k) i j,
+    along (AreTied joins ps) (IsLinked []) (λ x. x) found i j,
+  );
+})
+  where
+    found : (i j : ℕ) → AreTied joins ps i j → AreOne [] i j
+    found i j t = stays (IsLinked []) i j (sym t.from ∙ one_item ps t.one t.other few t.in_ones t.in_others ∙ t.to)
 
 -- a tie is found from the one conductor or from the other
 found_via : (joins : List Joined) (ps : List Piece) (p q : Piece) → IsAmong p ps → IsAmong q ps → AreTouching p.rect q.rect

@@ -62,6 +62,9 @@ fn link_conductor(
         out.new.items) }
 {
     let own = of_conductor(alloc, pieces, conductor)?;
+    if own.is_empty() {
+        return Ok(());
+    }
     touching_chains(alloc, &own, &own, out)?;
     for join in joins {
         link_line(alloc, &own, pieces, conductor, join, out)?;
@@ -72,8 +75,8 @@ fn link_conductor(
 /// Links whose chains join each two items that have touching pieces of one conductor or of two that
 /// a line joins. Each link is of two such items.
 ///
-/// Takes a pass over the pieces for each conductor and each line beside what `touching_chains`
-/// takes.
+/// Takes a pass over the pieces for each conductor, and for each line from one that has pieces,
+/// beside what `touching_chains` takes. One piece by itself costs nothing.
 pub fn touching_links(
     alloc: Global,
     pieces: &[Piece],
@@ -84,6 +87,9 @@ pub fn touching_links(
     ensures { IfOk result (λ v. AreLinksOf joins.now pieces.now v.items) }
 {
     let mut out = Vec::new(alloc);
+    if pieces.len() < 2 {
+        return Ok(out);
+    }
     for conductor in 0..conductors {
         link_conductor(alloc, pieces, conductor, joins, &mut out)?;
     }

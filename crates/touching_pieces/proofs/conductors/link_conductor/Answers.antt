@@ -1,5 +1,5 @@
-use Rattle.std.proofs.Common.{arith, ◌∙◌}
-use Rattle.touching_pieces.proofs.Joining.{no_line, line_at, lines_all, no_line_at}
+use Rattle.std.proofs.Common.{arith, sym, ◌∙◌}
+use Rattle.touching_pieces.proofs.Joining.{no_line, none_held, none_of, line_at, lines_all, no_line_at}
 use Rattle.touching_pieces.proofs.conductors.link_conductor.Goals as goal
 
 pub loop-join-init : goal.loop-join-init
@@ -16,3 +16,7 @@ loop-join-preserved c =
 
 pub returns : goal.returns
 returns c = lines_all c.args.joins.now c.loop-join.join-index c.args.pieces.now c.args.conductor c.args.out.now.items c.loop-join.out.items (omega arith) c.loop-join.invariant
+
+pub returns-then-is_empty : goal.returns-then-is_empty
+returns-then-is_empty c = none_of c.args.joins.now c.args.pieces.now c.args.conductor c.args.out.now.items
+    (sym c.in_ok-own.ensures ∙ none_held c.in_ok-own.own.items c.in_ok-own.own.len c.is_empty.result c.in_ok-own.own.ok.0 c.is_empty.ensures c.if-is_empty.true)
