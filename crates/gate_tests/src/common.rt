@@ -36,15 +36,15 @@ pub fn set_of(alloc: Global, rects: &[Rect]) -> Result<RectSet, AllocError> {
     Ok(set)
 }
 
-/// The part of a set within plus or minus a billion.
+/// The part of a set within plus or minus 2^40.
 pub fn near_part(alloc: Global, set: &RectSet) -> Result<RectSet, AllocError>
     ensures { IfOk result (λ r. IsNearSet r) }
 {
     let near = Rect {
-        x1: -1_000_000_000,
-        y1: -1_000_000_000,
-        x2: 1_000_000_000,
-        y2: 1_000_000_000,
+        x1: -1_099_511_627_776,
+        y1: -1_099_511_627_776,
+        x2: 1_099_511_627_776,
+        y2: 1_099_511_627_776,
     };
     let part = set.window(alloc, near)?;
     Ok(part)

@@ -36,7 +36,7 @@ fn judged(alloc: Global, active: &[Rect], poly: &[Rect]) -> Result<Vec<GateShape
     Ok(out)
 }
 
-fn good(twice_w: u64, twice_l: u64, source: Square, drain: Square) -> GateShape {
+fn good(twice_w: u128, twice_l: u128, source: Square, drain: Square) -> GateShape {
     GateShape::Good(GateForm {
         twice_w,
         twice_l,
@@ -86,20 +86,21 @@ fn a_closed_ring(rt: HostRuntime) -> Result<(), Fail> {
     Ok(())
 }
 
-// A gate of 10^12 squares.
+// A gate of 2^79 squares, more than 64 bits count.
 #[test]
 fn a_large_gate(rt: HostRuntime) -> Result<(), Fail> {
     let alloc = rt.alloc();
+    let (side, top) = (1 << 39, 1 << 40);
     let found = judged(
         alloc,
-        &[rect(0, 0, 3_000_000, 1_000_000)],
-        &[rect(1_000_000, -1, 2_000_000, 1_000_001)],
+        &[rect(-top, 0, top, top)],
+        &[rect(0, -1, side, top + 1)],
     )?;
     let want = good(
-        2_000_000,
-        2_000_000,
-        Square { x: 999_999, y: 0 },
-        Square { x: 2_000_000, y: 0 },
+        1 << 41,
+        1 << 40,
+        Square { x: -1, y: 0 },
+        Square { x: side, y: 0 },
     );
     assert_eq!(rt; found.as_slice(), [want].as_slice());
     Ok(())

@@ -9,7 +9,7 @@ use Rattle.gate_tests.proofs.common.near_part.Goals as goal
 
 pub returns : goal.returns
 returns c =
-    let w : Rect = record { x1 = pos 0 -ℤ pos 1000000000; y1 = pos 0 -ℤ pos 1000000000; x2 = pos 1000000000; y2 = pos 1000000000 } in
+    let w : Rect = record { x1 = pos 0 -ℤ pos 1099511627776; y1 = pos 0 -ℤ pos 1099511627776; x2 = pos 1099511627776; y2 = pos 1099511627776 } in
     near_within w c.in_ok-part.part
     (record {
       x1 = record { low = omega (arith, ints); high = omega (arith, ints) };
