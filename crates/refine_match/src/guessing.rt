@@ -1,6 +1,6 @@
 //! One guess of a search: it is refuted, leaves ties, or leaves none.
 
-ghost use Rattle.std.specs.Prelude.{◌≡◌, ◌≤◌, suc, length, IfOk, OnOk, false};
+ghost use Rattle.std.specs.Prelude.{◌≡◌, ◌≤◌, ◌^◌, suc, length, IfOk, OnErr, OnOk, false};
 ghost use Rattle.round_laws.specs.Guesses.{Row};
 ghost use Rattle.match_laws.specs.Circuits.{Pair};
 ghost use Rattle.match_types.specs.Plain.{plain_end, row_of};
@@ -16,6 +16,7 @@ ghost use Rattle.refine_match.specs.Rights.{AreListsOf};
 use crate::candidates::Candidate;
 use crate::lists::Lists;
 use crate::searching::{Level, Search, first_try, settle};
+use list_base::number;
 use match_graph::Graph;
 use match_rounds::{Verdict, refine, single_out};
 use match_types::{Guess, GuessEnd};
@@ -100,12 +101,13 @@ impl Search {
         Ok(())
     }
 
-    // The row of the last guess.
+    // The row of the last guess. It takes no memory; the error is 2^32 guesses or more.
     fn row(&self, graph: &Graph, candidate: Candidate, end: GuessEnd) -> Result<Guess, AllocError>
         requires { (p : Pair) × IsGuessing p graph.now self.now candidate }
-        ensures { (p : Pair) → (h : IsGuessing p graph.now self.now candidate)
+        ensures row { (p : Pair) → (h : IsGuessing p graph.now self.now candidate)
             → IfOk result (λ row. row_of row ≡ guess_row h.search.above h.search.stage h.head.right
             (plain_end end)) }
+        ensures err { OnErr result (2 ^ 32 ≤ length self.now.guesses.items) }
     {
         let left = graph.node(self.level.node);
         let right = graph.node(candidate.node);
@@ -126,15 +128,5 @@ fn end_of(verdict: Verdict) -> GuessEnd
     match verdict {
         Verdict::Refuted(round) => GuessEnd::Refuted(round),
         Verdict::Stable => GuessEnd::Open,
-    }
-}
-
-// The number in 32 bits, or want of memory.
-fn number(n: usize) -> Result<u32, AllocError>
-    ensures { IfOk result (λ m. m ≡ n) }
-{
-    match u32::try_from(n) {
-        Ok(small) => Ok(small),
-        Err(_) => Err(AllocError),
     }
 }

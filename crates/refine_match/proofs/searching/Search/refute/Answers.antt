@@ -23,5 +23,5 @@ settle-requires-clause-even c =
 pub returns-clause-way : goal.returns-clause-way
 returns-clause-way c = λ p h.
     refuted_way p c.args.graph.now c.args.self.now c.args.candidate h c.in_ok-verdict.field-0-0 c.in_ok-verdict.verdict c.end_of.result c.in_ok-row.row c.in_ok-self.field-0 c.in_ok-self-2.field-0 c.deref-2.result.now c.deref.result.now
-    c.pop.new.self c.push.new.self c.requires.uneven c.deref.ensures.value c.in_ok-verdict.ensures.verdict c.end_of.ensures (c.in_ok-row.ensures p h)
+    c.pop.new.self c.push.new.self c.requires.uneven c.deref.ensures.value c.in_ok-verdict.ensures.verdict c.end_of.ensures (c.in_ok-row.ensures.row p h)
     c.in_ok-push.ensures.items c.pop.ensures.rest c.deref-2.ensures.value c.in_ok-self.ensures.partition c.in_ok-self.ensures.settled c.in_ok-self-2.ensures
