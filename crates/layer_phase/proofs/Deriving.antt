@@ -24,6 +24,7 @@ use Rattle.deep_tables.proofs.Framing.{framed}
 use Rattle.deep_tables.proofs.Reading.{zone_at}
 use Rattle.layer_phase.specs.Bridge.{TellsKept}
 use Rattle.layer_phase.specs.Keeps.{IsKeptBy, IsZoneAt}
+use Rattle.layer_phase.specs.Looks.{IsExposed}
 use Rattle.layer_phase.specs.Names.{IsFlatIn, IsReady}
 use Rattle.layer_phase.specs.Parts.{AreParts}
 use Rattle.layer_phase.specs.Reads.{AreReadLooks}
@@ -68,11 +69,13 @@ module _ (d : Linked) (r : Rules) (z : List (Option CellZones)) (cell name : ℕ
       let one : IsDisturbed (plain d) (key ∷ []) h.place.cell h.square = record { path = e.path; other = e.other; end = e.end; square = e.square; place = e.place; key = key; listed = inl refl; takes = e.takes; others = e.others; own = e.own; apart = e.apart } in
       let frame = (framed d (key ∷ []) h.place.cell there.0 (ready.hulls h.place.cell reached) there.2.canonical).0 there.2 in
       let covered = (frame h.square).1 (one, in_grown (hull_of (cell_at d h.place.cell)) h.square held) in
+      let k = known seen.seen name (Binary op a b) h.key tree_seen h.listed in
+      let exposed : IsExposed d z seen.seen h.place.cell h.square =
+      record { name = j.0; key = key; named = j.1; zone = there.0; entry = there.1; disturbed = covered; other = k.0; flat_key = h.key; flat_named = k.1; flat = h.flat } in
       let image : moved_square (motion_at t.from t.row t.column) h.square ≡ q = ap (λ (y : flat.Place). moved_square y.motion h.square) (sym t.is) ∙ h.image in
       subst (λ s. covers looks s ≡ true) image
-      (seen.all.below t.index t.from t.step.there j.0 key there.0 t.row t.column h.square j.1
-      (subst (λ (y : flat.Place). IsZoneAt z y.cell j.0 there.0) t.is there.1) t.step.row_in t.step.column_in
-      (subst (λ (y : flat.Place). HullHas (hull_of (cell_at d y.cell)) h.square) t.is held) covered)
+      (seen.all.below t.index t.from t.step.there t.row t.column h.square t.step.row_in t.step.column_in
+      (subst (λ (y : flat.Place). IsExposed d z seen.seen y.cell h.square) t.is exposed))
 
   framed_zone : IsFramedZone d (inputs (Binary op a b)) cell zone
   framed_zone =

@@ -52,6 +52,6 @@ pub whole_looks : (d : Linked) (z : List (Option CellZones)) (names : List Layer
 whole_looks d z names cell w set sound hull leaf some same = record {
   near = held_near (hull_of (cell_at d cell)) w set hull (hull_sound d cell sound) some (λ q e. subst (λ o. HullHas o q) (sym hull) (sym (same q) ∙ e));
   own = λ name key is q e. same q ∙ subst (λ o. HullHas o q) hull (own_in_hull d cell key q sound e);
-  below = λ i p at name key zone row column s is entry a b held covered.
+  below = λ i p at row column s a b h.
       let lt = slice_get_within (places_at (cell_at d cell)) i p at in let n = ap length leaf in absurd (omega arith);
 }

@@ -1,6 +1,7 @@
 pub mod Assembly
 pub mod Bringing
 pub mod Deriving
+pub mod Exposing
 pub mod Flattening
 pub mod Held
 pub mod Inputs

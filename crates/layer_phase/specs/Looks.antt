@@ -1,6 +1,7 @@
 -- Rectangles that are looked at.
 use Rattle.std.specs.Prelude.{◌≡◌, ℕ, ◌<◌, ◌^◌, true, List, Option, Some, slice_get}
 use Rattle.std.specs.List.{All}
+use Rattle.geo_base.specs.Near.{IsNearRect}
 use Rattle.geo_base.specs.Motions.{moved_square}
 use Rattle.geo_base.specs.Rects.{has}
 use Rattle.geo_base.specs.declared.layer.LayerKey.{LayerKey}
@@ -9,11 +10,13 @@ use Rattle.geo_base.specs.declared.shapes.Square.{Square}
 use Rattle.rect_sets.specs.Rects.{covers}
 use Rattle.cell_graph.specs.declared.cells.Place.{Place}
 use Rattle.cell_graph.specs.Linked.{Linked, HullHas, IsRectWithin, cell_at, hull_of, motion_at}
-use Rattle.cell_graph.specs.Linked.{own_of, places_at}
+use Rattle.cell_graph.specs.Linked.{own_of, places_at, plain}
+use Rattle.flat_layout.specs.Layout.{InFlatInput}
 use Rattle.rule_text.specs.declared.rules.LayerForm.TheVariants as form
 use Rattle.rule_text.specs.declared.rules.LayerRule.{LayerRule}
 use Rattle.deep_tables.specs.declared.zones.CellZones.{CellZones}
 use Rattle.layer_phase.specs.Keeps.{HasEntry, IsZoneAt}
+use Rattle.layer_phase.specs.declared.exposed.Exposed.{Exposed}
 
 -- all lie within plus or minus 2^39
 abbrev pub AreNear : List Rect → Type 0
@@ -40,26 +43,60 @@ Brings p below rects window out = (row column : ℕ) (s : Square) → row < p.ro
     → covers rects s ≡ true → has window (moved_square (motion_at p row column) s) ≡ true
     → covers out (moved_square (motion_at p row column) s) ≡ true
 
--- the same of the squares that are disturbed in the placed cell for a name
-abbrev pub BringsZone : List (Option CellZones) → Place → ℕ → Rect → Rect → List Rect → Type 0
-BringsZone z p name below window out = (zone : List Rect) → IsZoneAt z p.cell name zone
-    → Brings p below zone window out
+-- a square of a cell that is disturbed for an input layer of the names, and flat on one
+pub record IsExposed (d : Linked) (z : List (Option CellZones)) (names : List LayerRule) (cell : ℕ)
+    (s : Square) : Type 0 where
+  pub name : ℕ
+  pub key : LayerKey
+  pub named : IsInput names name key
+  pub zone : List Rect
+  pub entry : IsZoneAt z cell name zone
+  pub disturbed : covers zone s ≡ true
+  pub other : ℕ
+  pub flat_key : LayerKey
+  pub flat_named : IsInput names other flat_key
+  pub flat : InFlatInput (plain d) cell flat_key s
 
--- and for all input layers among the first names
-abbrev pub BringsNames : List (Option CellZones) → List LayerRule → ℕ → Place → Rect → Rect
-    → List Rect → Type 0
-BringsNames z names bound p below window out = (name : ℕ) (key : LayerKey) → name < bound
+-- a cell's exposed squares are covered
+abbrev pub AreExposed : Linked → List (Option CellZones) → List LayerRule → ℕ → List Rect → Type 0
+AreExposed d z names cell rects = (s : Square) → IsExposed d z names cell s → covers rects s ≡ true
+
+-- sets with the exposed squares of their cells, all near
+abbrev pub AreExposedLists : Linked → List (Option CellZones) → List LayerRule → List Exposed
+    → Type 0
+AreExposedLists d z names lists = (k : ℕ) (e : Exposed) → slice_get lists k ≡ Some e
+    → AreExposed d z names e.cell e.set × All IsNearRect e.set
+
+-- the set at the position is of the cell
+abbrev pub IsListAt : List Exposed → ℕ → ℕ → Type 0
+IsListAt lists cell position = (e : Exposed) × (slice_get lists position ≡ Some e)
+    × (e.cell ≡ cell)
+
+-- the squares that are disturbed for one of the first input layers are covered
+abbrev pub HaveDisturbed : List (Option CellZones) → List LayerRule → ℕ → ℕ → List Rect → Type 0
+HaveDisturbed z names bound cell rects = (name : ℕ) (key : LayerKey) → name < bound
     → IsInput names name key
-    → BringsZone z p name below window out
+    → (zone : List Rect) → IsZoneAt z cell name zone → Grows zone rects
 
--- the same by the hull that the design has
-abbrev pub BringsHull : Linked → List (Option CellZones) → List LayerRule → Place → Rect
+-- the same of all input layers in a rectangle
+abbrev pub HoldDisturbed : List (Option CellZones) → List LayerRule → ℕ → Rect → List Rect → Type 0
+HoldDisturbed z names cell w rects = (name : ℕ) (key : LayerKey) → IsInput names name key
+    → (zone : List Rect) → IsZoneAt z cell name zone
+    → (s : Square) → covers zone s ≡ true → has w s ≡ true → covers rects s ≡ true
+
+-- of some squares those that are flat on one of the first input layers are covered
+abbrev pub HaveFlat : Linked → List LayerRule → ℕ → ℕ → List Rect → List Rect → Type 0
+HaveFlat d names bound cell places rects = (name : ℕ) (key : LayerKey) → name < bound
+    → IsInput names name key
+    → (s : Square) → covers places s ≡ true → InFlatInput (plain d) cell key s
+    → covers rects s ≡ true
+
+-- an array's images of the placed cell's exposed squares are covered, where they lie in the window
+abbrev pub BringsExposed : Linked → List (Option CellZones) → List LayerRule → Place → Rect
     → List Rect → Type 0
-BringsHull d z names p window out = (name : ℕ) (key : LayerKey) (zone : List Rect) (row column : ℕ)
-    (s : Square) → IsInput names name key
-    → IsZoneAt z p.cell name zone → row < p.rows → column < p.columns
-    → HullHas (hull_of (cell_at d p.cell)) s
-    → covers zone s ≡ true → has window (moved_square (motion_at p row column) s) ≡ true
+BringsExposed d z names p window out = (row column : ℕ) (s : Square) → row < p.rows
+    → column < p.columns → IsExposed d z names p.cell s
+    → has window (moved_square (motion_at p row column) s) ≡ true
     → covers out (moved_square (motion_at p row column) s) ≡ true
 
 -- a cell has entries for all names
@@ -82,15 +119,12 @@ abbrev pub HoldsOwn : Linked → List LayerRule → ℕ → List Rect → Type 0
 HoldsOwn d names cell looks = (name : ℕ) (key : LayerKey) → IsInput names name key
     → Grows (own_of (cell_at d cell) key) looks
 
--- near squares with the cell's own on input layers, and with all images of what is disturbed in
--- placed cells for these
+-- near squares with the cell's own on input layers, and with all images of what is exposed in
+-- placed cells
 pub record AreLooks (d : Linked) (z : List (Option CellZones)) (names : List LayerRule) (cell : ℕ)
     (looks : List Rect) : Type 0 where
   pub near : AreNear looks
   pub own : HoldsOwn d names cell looks
   pub below : (i : ℕ) (p : Place) → slice_get (places_at (cell_at d cell)) i ≡ Some p
-      → (name : ℕ) (key : LayerKey) (zone : List Rect) (row column : ℕ) (s : Square)
-      → IsInput names name key
-      → IsZoneAt z p.cell name zone → row < p.rows → column < p.columns
-      → HullHas (hull_of (cell_at d p.cell)) s
-      → covers zone s ≡ true → covers looks (moved_square (motion_at p row column) s) ≡ true
+      → (row column : ℕ) (s : Square) → row < p.rows → column < p.columns
+      → IsExposed d z names p.cell s → covers looks (moved_square (motion_at p row column) s) ≡ true

@@ -1,6 +1,7 @@
 //! The squares that each cell holds itself.
 #![tactic(auto)]
 
+mod exposed;
 mod flat;
 mod flats;
 mod laws;

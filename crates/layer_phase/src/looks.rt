@@ -1,4 +1,4 @@
-//! The squares of a cell that have to be looked at: its own shapes, and what is disturbed in the
+//! The squares of a cell that have to be looked at: its own shapes, and what is exposed in the
 //! cells that it places. Everywhere else a placed cell keeps what lies there.
 ghost use Rattle.std.specs.Prelude.{◌≡◌, ◌<◌, ◌^◌, [], ℕ, List, Option, length, slice_get, Some};
 ghost use Rattle.std.specs.Prelude.{IfOk, OnOk};
@@ -15,13 +15,13 @@ ghost use Rattle.cell_graph.specs.declared.cells.Place.{Place};
 ghost use Rattle.deep_tables.specs.declared.zones.CellZones.{CellZones};
 ghost use Rattle.rule_text.specs.declared.rules.LayerForm.TheVariants.{Input};
 ghost use Rattle.rule_text.specs.declared.rules.LayerRule.{LayerRule as Rule};
-ghost use Rattle.layer_phase.specs.Keeps.{HasEntry};
-ghost use Rattle.layer_phase.specs.Looks.{AreHeld, AreLooks, Brings, BringsHull, BringsNames};
-ghost use Rattle.layer_phase.specs.Looks.{BringsOwn, BringsZone, Grows, HasAll, HaveAll};
+ghost use Rattle.layer_phase.specs.Looks.{AreExposedLists, AreHeld, AreLooks, Brings};
+ghost use Rattle.layer_phase.specs.Looks.{BringsExposed, BringsOwn, Grows, HasAll, HaveAll};
 
+use crate::exposed::{ExposedLists, expose, set_at};
 use cell_context::{place_visits, push_images};
 use cell_graph::{Design, Place};
-use deep_tables::{ZoneKey, Zones};
+use deep_tables::Zones;
 use geo_base::Rect;
 use rect_sets::RectSet;
 use rule_text::{LayerForm, LayerRule};
@@ -53,104 +53,32 @@ fn push_array(
     Ok(())
 }
 
-// The same of the part of a set in the placed cell's hull. Where it is empty no element is visited.
-fn push_part(
+// The same of a set. Where it is empty no element is visited.
+fn push_set(
     alloc: Global,
     out: &mut Vec<Rect>,
     place: &Place,
     below: &Rect,
-    zone: &RectSet,
+    set: &RectSet,
     window: &Rect,
 ) -> Result<(), AllocError>
     requires near { IsNearArray place.now }
     requires some { 0 < place.now.columns }
     requires below { IsHull below.now }
     requires window { IsHull window.now }
+    requires near_rects { All IsNearRect set.now }
     requires pieces { All (IsPiece window.now) out.old.items }
     ensures pieces { OnOk result (All (IsPiece window.now) out.new.items) }
     ensures grows { OnOk result (Grows out.old.items out.new.items) }
-    ensures brings { OnOk result (Brings place.now below.now zone.now window.now out.new.items) }
+    ensures brings { OnOk result (Brings place.now below.now set.now window.now out.new.items) }
 {
-    if zone.rects().is_empty() {
+    if set.rects().is_empty() {
         return Ok(());
     }
-    let part = zone.window(alloc, *below)?;
-    if part.rects().is_empty() {
-        return Ok(());
-    }
-    push_array(alloc, out, place, below, part.rects(), window)
+    push_array(alloc, out, place, below, set.rects(), window)
 }
 
-// Adds the images of what is disturbed in the placed cell for a name, where it is an input layer.
-fn push_form(
-    alloc: Global,
-    out: &mut Vec<Rect>,
-    zones: &Zones,
-    place: &Place,
-    below: &Rect,
-    name: u32,
-    form: LayerForm,
-    window: &Rect,
-) -> Result<(), AllocError>
-    requires near { IsNearArray place.now }
-    requires some { 0 < place.now.columns }
-    requires below { IsHull below.now }
-    requires window { IsHull window.now }
-    requires entry { HasEntry zones.now place.now.cell name }
-    requires pieces { All (IsPiece window.now) out.old.items }
-    ensures pieces { OnOk result (All (IsPiece window.now) out.new.items) }
-    ensures grows { OnOk result (Grows out.old.items out.new.items) }
-    ensures brings { OnOk result ((key : LayerKey) → form ≡ Input key
-        → BringsZone zones.now place.now name below.now window.now out.new.items) }
-{
-    match form {
-        LayerForm::Input(_) => {
-            let zone = zones.disturbed(place.cell, ZoneKey::Layer(name));
-            push_part(alloc, out, place, below, zone, window)
-        }
-        _ => Ok(()),
-    }
-}
-
-// The same for all names.
-fn push_names(
-    alloc: Global,
-    out: &mut Vec<Rect>,
-    zones: &Zones,
-    place: &Place,
-    below: &Rect,
-    names: &[LayerRule],
-    window: &Rect,
-) -> Result<(), AllocError>
-    requires near { IsNearArray place.now }
-    requires some { 0 < place.now.columns }
-    requires below { IsHull below.now }
-    requires window { IsHull window.now }
-    requires few { length names.now < 2 ^ 32 }
-    requires entries { HasAll zones.now place.now.cell (length names.now) }
-    requires pieces { All (IsPiece window.now) out.old.items }
-    ensures pieces { OnOk result (All (IsPiece window.now) out.new.items) }
-    ensures grows { OnOk result (Grows out.old.items out.new.items) }
-    ensures brings { OnOk result (BringsNames zones.now names.now (length names.now) place.now
-        below.now
-        window.now out.new.items) }
-{
-    for (name, rule) in names.iter().enumerate() {
-        push_form(
-            alloc,
-            out,
-            zones,
-            place,
-            below,
-            name as u32,
-            rule.form,
-            window,
-        )?;
-    }
-    Ok(())
-}
-
-// The same by the placed cell's hull, where it has one.
+// The same of the placed cell's exposed squares, where it has a hull.
 fn push_reference(
     alloc: Global,
     out: &mut Vec<Rect>,
@@ -161,20 +89,29 @@ fn push_reference(
     place: &Place,
     names: &[LayerRule],
     window: &Rect,
+    memo: &mut ExposedLists,
 ) -> Result<(), AllocError>
     requires there { slice_get (places_at (cell_at design.now cell)) index ≡ Some place.now }
     requires window { IsHull window.now }
     requires few { length names.now < 2 ^ 32 }
     requires entries { HasAll zones.now place.now.cell (length names.now) }
+    requires lists { AreExposedLists design.now zones.now names.now memo.old.lists.items }
     requires pieces { All (IsPiece window.now) out.old.items }
+    ensures lists { OnOk result (AreExposedLists design.now zones.now names.now
+        memo.new.lists.items) }
     ensures pieces { OnOk result (All (IsPiece window.now) out.new.items) }
     ensures grows { OnOk result (Grows out.old.items out.new.items) }
-    ensures brings { OnOk result (BringsHull design.now zones.now names.now place.now window.now
+    ensures brings { OnOk result (BringsExposed design.now zones.now names.now place.now window.now
         out.new.items) }
 {
     design.sound();
     match design.hull(place.cell) {
-        Some(below) => push_names(alloc, out, zones, place, &below, names, window),
+        Some(below) => {
+            let position = expose(alloc, design, zones, place.cell, names, memo)?;
+            let set = set_at(&memo.lists, position);
+            push_set(alloc, out, place, &below, set, window)?;
+            Ok(())
+        }
         None => Ok(()),
     }
 }
@@ -197,10 +134,13 @@ fn push_references(
     ensures pieces { OnOk result (All (IsPiece window.now) out.new.items) }
     ensures brings { OnOk result ((i : ℕ) (p : Place)
         → slice_get (places_at (cell_at design.now cell)) i ≡ Some p
-        → BringsHull design.now zones.now names.now p window.now out.new.items) }
+        → BringsExposed design.now zones.now names.now p window.now out.new.items) }
 {
+    let mut memo = ExposedLists::new(alloc);
     for (i, place) in design.places(cell).iter().enumerate() {
-        push_reference(alloc, out, design, zones, cell, i, place, names, window)?;
+        push_reference(
+            alloc, out, design, zones, cell, i, place, names, window, &mut memo,
+        )?;
     }
     Ok(())
 }
@@ -320,8 +260,9 @@ fn hull_looks(
     }
 }
 
-/// The squares of a cell that have to be looked at. An array costs one look, and beside that only
-/// what is disturbed in the placed cell, once for each element.
+/// The squares of a cell that have to be looked at. An array costs one look; beside that a placed
+/// cell costs a walk in what is disturbed there, once for all its placements, and each element the
+/// rectangles of what is exposed in it.
 pub fn looks(
     alloc: Global,
     design: &Design,

@@ -1,3 +1,4 @@
+pub mod Apart
 pub mod Gates
 pub mod Pairs
 pub mod Report

@@ -37,8 +37,8 @@ abbrev pub blocks : Option Compared → List ℕ
 blocks None = []
 blocks (Some c) = pair_texts (lefts_of c) (rights_of c) 0 (answers_of c)
 
--- the whole report
-abbrev pub report : Linked → List ℕ → List BadGate → Option Compared → List ℕ
-report d top bad c = codes "lvs report 1\ntop" ++ (name_word top ++ (partner_word top c
+-- the whole report; `apart` has the lines of the pairs that were taken apart
+abbrev pub report : Linked → List ℕ → List BadGate → List ℕ → Option Compared → List ℕ
+report d top bad apart c = codes "lvs report 1\ntop" ++ (name_word top ++ (partner_word top c
     ++ (codes "\nbad" ++ (number_word (length bad) ++ (10 ∷ (gate_lines d bad
-    ++ (blocks c ++ codes "end\n")))))))
+    ++ (apart ++ (blocks c ++ codes "end\n"))))))))

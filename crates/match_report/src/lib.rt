@@ -1,9 +1,11 @@
 //! The report of a comparison as a text.
 #![tactic(auto)]
 
+mod apart;
 mod gates;
 mod pairs;
 mod report;
 mod words;
 
+pub use apart::{push_apart, push_limit};
 pub use report::{Compared, report_text};

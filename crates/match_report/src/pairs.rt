@@ -183,7 +183,8 @@ fn push_skipped(
     Ok(())
 }
 
-fn push_answer(
+/// What stands behind the names of two circuits with these nets.
+pub fn push_answer(
     alloc: Global,
     out: &mut Vec<u8>,
     lefts: &[Circuit],

@@ -80,19 +80,20 @@ fn push_blocks(
 
 /// The report of a comparison as a text: the line `lvs report 1`; the layout's top and its partner
 /// in the schematic, or `none`; how many gates are bad, and a line for each with its cell, class,
-/// least square in database units, and cause; a block for each pair of circuits with its answer and
-/// what shows it; `end`. Nets, devices and calls are numbered from 1, names are escaped. Linear in
-/// the text. An `Err` is want of memory.
+/// least square in database units, and cause; the lines of the pairs that were taken apart; a block
+/// for each pair of circuits with its answer and what shows it; `end`. Nets, devices and calls are
+/// numbered from 1, names are escaped. Linear in the text. An `Err` is want of memory.
 pub fn report_text(
     alloc: Global,
     top: &Name,
     bad: &[BadGate],
     design: &Design,
+    apart: &[u8],
     compared: &Option<Compared>,
 ) -> Result<Vec<u8>, AllocError>
     requires cells { All (λ x. x.cell < length design.now.cells) bad.now }
     ensures { IfOk result (λ text. text.items
-        ≡ report design.now top.now bad.now compared.now) }
+        ≡ report design.now top.now bad.now apart.now compared.now) }
 {
     let mut out = Vec::new(alloc);
     out.extend_from_slice(b"lvs report 1\ntop")?;
@@ -102,6 +103,7 @@ pub fn report_text(
     push_number(alloc, &mut out, bad.len() as u64)?;
     out.push(b'\n')?;
     push_gates(alloc, &mut out, design, bad)?;
+    out.extend_from_slice(apart)?;
     push_blocks(alloc, &mut out, compared)?;
     out.extend_from_slice(b"end\n")?;
     Ok(out)

@@ -3,6 +3,7 @@ use Rattle.std.proofs.lemmas.Option.{slice_get_within}
 use Rattle.geo_base.specs.Motions.{moved_square}
 use Rattle.cell_graph.specs.Linked.{HullHas, HullIsSound, cell_at, hull_of, motion_at}
 use Rattle.cell_graph.proofs.Bridge.{hull_sound, step_held}
+use Rattle.layer_phase.proofs.Exposing.{exposed_held}
 use Rattle.layer_phase.proofs.Held.{held_near, held_pieces}
 use Rattle.layer_phase.proofs.looks.looks_in.Goals as goal
 
@@ -20,7 +21,8 @@ returns c =
     record {
       near = held_near o c.args.hull.now set c.requires.hull (hull_sound d c.args.cell c.sound.ensures) c.rects-near.ensures.sound (λ q e. own.held q (sym (same q) ∙ e));
       own = λ name key is q e. same q ∙ own.brings name key (slice_get_within c.args.names.now name is.0 is.1) is q e;
-      below = λ i p at name key zone row column s is entry a b held covered.
+      below = λ i p at row column s a b h.
+          let held = exposed_held d c.args.zones.now c.args.names.now p.cell s c.sound.ensures h in
           let met = subst (λ x. HullHas x (moved_square (motion_at p row column) s)) c.requires.hull (step_held d c.args.cell i row column p s c.sound.ensures (record { there = at; row_in = a; column_in = b }) held) in
-          same _ ∙ own.grows _ (c.in_ok-push_references.ensures.brings i p at name key zone row column s is entry a b held covered met);
+          same _ ∙ own.grows _ (c.in_ok-push_references.ensures.brings i p at row column s a b h met);
     }

@@ -5,7 +5,7 @@ use Rattle.geo_base.specs.declared.motion.Turn.TheVariants.{R0}
 use Rattle.cell_graph.specs.declared.cells.Place.{Place}
 use Rattle.cell_graph.specs.Linked.{cell_at, places_at}
 use Rattle.cell_context.proofs.Collecting.{item_at, one_place}
-use Rattle.layer_phase.specs.Looks.{BringsHull}
+use Rattle.layer_phase.specs.Looks.{BringsExposed}
 use Rattle.layer_phase.proofs.looks.push_references.Goals as goal
 
 abbrev no_place : Place
@@ -23,12 +23,12 @@ loop-i-preserved c =
     let place = slice_index_or c.places-place-items.result.now i no_place in
     let e = c.in_ok-push_reference.ensures in
     record {
+      lists = e.lists;
       pieces = e.pieces;
       brings = λ k p lt at. elim (ℕ_discrete k i) [
-        | yes same ↦ subst (λ (x : Place). BringsHull d c.args.zones.now c.args.names.now x c.args.window.now c.push_reference.new.out.items)
+        | yes same ↦ subst (λ (x : Place). BringsExposed d c.args.zones.now c.args.names.now x c.args.window.now c.push_reference.new.out.items)
             (one_place (slice_get places i) place p there (subst (λ n. slice_get places n ≡ Some p) same at)) e.brings
-        | no not ↦ λ name key zone row column s is entry a b held covered met.
-            e.grows _ (c.loop-i.invariant.brings k p (omega arith) at name key zone row column s is entry a b held covered met)
+        | no not ↦ λ row column s a b h met. e.grows _ (c.loop-i.invariant.brings k p (omega arith) at row column s a b h met)
       ];
     }
 

@@ -1,0 +1,287 @@
+//! The squares of placed cells that have to be looked at, found once for each cell: those that are
+//! disturbed for an input layer and flat on one. Everywhere else the placed cell keeps what lies
+//! there, or nothing lies there.
+ghost use Rattle.std.specs.Prelude.{◌≡◌, ◌<◌, ◌^◌, [], ◌++◌, ◌∷◌, ℕ, List, Some, length};
+ghost use Rattle.std.specs.Prelude.{slice_get, true, IfOk, IfSome, OnOk};
+ghost use Rattle.std.specs.List.{All};
+ghost use Rattle.geo_base.specs.Near.{IsNearRect};
+ghost use Rattle.geo_base.specs.Rects.{IsRect, has};
+ghost use Rattle.geo_base.specs.declared.layer.LayerKey.{LayerKey};
+ghost use Rattle.geo_base.specs.declared.shapes.Rect.{Rect as Rectangle};
+ghost use Rattle.geo_base.specs.declared.shapes.Square.{Square};
+ghost use Rattle.rect_sets.specs.Rects.{covers};
+ghost use Rattle.flat_layout.specs.Layout.{InFlatInput};
+ghost use Rattle.cell_graph.specs.Linked.{IsHull, cell_at, hull_of, plain};
+ghost use Rattle.rule_text.specs.declared.rules.LayerForm.TheVariants.{Input};
+ghost use Rattle.layer_phase.specs.Keeps.{HasEntry, IsZoneAt};
+ghost use Rattle.layer_phase.specs.declared.exposed.Exposed.{Exposed as ExposedSet};
+ghost use Rattle.layer_phase.specs.Looks.{AreExposed, AreExposedLists, AreNear, Grows, HasAll};
+ghost use Rattle.layer_phase.specs.Looks.{HaveDisturbed, HaveFlat, HoldDisturbed, IsListAt};
+
+use crate::parts::input_squares;
+use cell_graph::Design;
+use deep_tables::{ZoneKey, Zones};
+use geo_base::Rect;
+use rect_sets::RectSet;
+use rule_text::{LayerForm, LayerRule};
+use std::alloc::{AllocError, Global};
+use std::collections::HashMap;
+
+/// The exposed squares of a cell.
+#[derive(Drop)]
+pub struct Exposed {
+    pub cell: u32,
+    pub set: RectSet,
+}
+
+/// Such sets as they are found, and the position of each by its cell.
+#[derive(Drop)]
+pub struct ExposedLists {
+    pub lists: Vec<Exposed>,
+    pub positions: HashMap<u32, usize>,
+}
+
+impl ExposedLists {
+    // No set.
+    pub fn new(alloc: Global) -> ExposedLists
+        ensures { result.lists.items ≡ [] }
+    {
+        ExposedLists {
+            lists: Vec::new(alloc),
+            positions: HashMap::new(alloc),
+        }
+    }
+}
+
+// Adds a cell's disturbed squares for a name, where it is an input layer.
+fn push_disturbed(
+    out: &mut Vec<Rect>,
+    zones: &Zones,
+    cell: u32,
+    name: u32,
+    form: LayerForm,
+) -> Result<(), AllocError>
+    requires entry { HasEntry zones.now cell name }
+    requires rects { All IsRect out.old.items }
+    ensures rects { OnOk result (All IsRect out.new.items) }
+    ensures grows { OnOk result (Grows out.old.items out.new.items) }
+    ensures zone { OnOk result ((key : LayerKey) → form ≡ Input key
+        → (zone : List Rectangle) → IsZoneAt zones.now cell name zone → Grows zone out.new.items) }
+{
+    match form {
+        LayerForm::Input(_) => {
+            let zone = zones.disturbed(cell, ZoneKey::Layer(name));
+            out.extend_from_slice(zone.rects())
+        }
+        _ => Ok(()),
+    }
+}
+
+// The same of all names.
+fn push_all_disturbed(
+    out: &mut Vec<Rect>,
+    zones: &Zones,
+    cell: u32,
+    names: &[LayerRule],
+) -> Result<(), AllocError>
+    requires few { length names.now < 2 ^ 32 }
+    requires entries { HasAll zones.now cell (length names.now) }
+    requires rects { All IsRect out.old.items }
+    ensures rects { OnOk result (All IsRect out.new.items) }
+    ensures zones { OnOk result (HaveDisturbed zones.now names.now (length names.now) cell
+        out.new.items) }
+{
+    for (name, rule) in names.iter().enumerate() {
+        push_disturbed(out, zones, cell, name as u32, rule.form)?;
+    }
+    Ok(())
+}
+
+// A cell's squares in its hull that are disturbed for one of the input layers.
+fn disturbed_in(
+    alloc: Global,
+    zones: &Zones,
+    cell: u32,
+    names: &[LayerRule],
+    hull: &Rect,
+) -> Result<RectSet, AllocError>
+    requires few { length names.now < 2 ^ 32 }
+    requires entries { HasAll zones.now cell (length names.now) }
+    requires hull { IsHull hull.now }
+    ensures near { IfOk result AreNear }
+    ensures zones { IfOk result (HoldDisturbed zones.now names.now cell hull.now) }
+{
+    let mut out = Vec::new(alloc);
+    push_all_disturbed(&mut out, zones, cell, names)?;
+    let all = RectSet::canon(alloc, out)?;
+    let part = all.window(alloc, *hull)?;
+    let _near = part.rects();
+    Ok(part)
+}
+
+// Adds those of some squares that are flat on a name, where it is an input layer.
+fn push_flat(
+    alloc: Global,
+    out: &mut Vec<Rect>,
+    design: &Design,
+    cell: u32,
+    form: LayerForm,
+    places: &RectSet,
+) -> Result<(), AllocError>
+    requires cell { cell < length design.now.cells }
+    requires near { AreNear places.now }
+    requires rects { All IsRect out.old.items }
+    ensures rects { OnOk result (All IsRect out.new.items) }
+    ensures grows { OnOk result (Grows out.old.items out.new.items) }
+    ensures flat { OnOk result ((key : LayerKey) → form ≡ Input key
+        → (s : Square) → covers places.now s ≡ true → InFlatInput (plain design.now) cell key s
+        → covers out.new.items s ≡ true) }
+{
+    match form {
+        LayerForm::Input(key) => {
+            let set = input_squares(alloc, design, cell, key, places)?;
+            out.extend_from_slice(set.rects())
+        }
+        _ => Ok(()),
+    }
+}
+
+// The same of all names.
+fn push_all_flat(
+    alloc: Global,
+    out: &mut Vec<Rect>,
+    design: &Design,
+    cell: u32,
+    names: &[LayerRule],
+    places: &RectSet,
+) -> Result<(), AllocError>
+    requires cell { cell < length design.now.cells }
+    requires near { AreNear places.now }
+    requires rects { All IsRect out.old.items }
+    ensures rects { OnOk result (All IsRect out.new.items) }
+    ensures flat { OnOk result (HaveFlat design.now names.now (length names.now) cell places.now
+        out.new.items) }
+{
+    for rule in names {
+        push_flat(alloc, out, design, cell, rule.form, places)?;
+    }
+    Ok(())
+}
+
+// The exposed squares of a cell that has a hull.
+fn hull_exposed(
+    alloc: Global,
+    design: &Design,
+    zones: &Zones,
+    cell: u32,
+    names: &[LayerRule],
+    hull: &Rect,
+) -> Result<RectSet, AllocError>
+    requires cell { cell < length design.now.cells }
+    requires hull { hull_of (cell_at design.now cell) ≡ Some hull.now }
+    requires few { length names.now < 2 ^ 32 }
+    requires entries { HasAll zones.now cell (length names.now) }
+    ensures near { IfOk result (All IsNearRect) }
+    ensures exposed { IfOk result (AreExposed design.now zones.now names.now cell) }
+{
+    design.sound();
+    let places = disturbed_in(alloc, zones, cell, names, hull)?;
+    let mut out = Vec::new(alloc);
+    push_all_flat(alloc, &mut out, design, cell, names, &places)?;
+    let all = RectSet::canon(alloc, out)?;
+    let set = all.window(alloc, *hull)?;
+    let _near = set.rects();
+    Ok(set)
+}
+
+// The exposed squares of a cell: a walk in what is disturbed for each input layer.
+fn find_exposed(
+    alloc: Global,
+    design: &Design,
+    zones: &Zones,
+    cell: u32,
+    names: &[LayerRule],
+) -> Result<RectSet, AllocError>
+    requires cell { cell < length design.now.cells }
+    requires few { length names.now < 2 ^ 32 }
+    requires entries { HasAll zones.now cell (length names.now) }
+    ensures near { IfOk result (All IsNearRect) }
+    ensures exposed { IfOk result (AreExposed design.now zones.now names.now cell) }
+{
+    design.sound();
+    match design.hull(cell) {
+        Some(hull) => hull_exposed(alloc, design, zones, cell, names, &hull),
+        None => Ok(RectSet::empty(alloc)),
+    }
+}
+
+// Whether the set at a position is of the cell.
+fn is_of(lists: &[Exposed], position: usize, cell: u32) -> bool
+    ensures { result ≡ true → IsListAt lists.now cell position }
+{
+    match lists.get(position) {
+        None => false,
+        Some(exposed) => exposed.cell == cell,
+    }
+}
+
+// The position of a cell's set, where there is one.
+fn known(memo: &ExposedLists, cell: u32) -> Option<usize>
+    ensures { IfSome result (IsListAt memo.now.lists.items cell) }
+{
+    match memo.positions.get(&cell) {
+        None => None,
+        Some(position) => {
+            if is_of(&memo.lists, *position, cell) {
+                return Some(*position);
+            }
+            None
+        }
+    }
+}
+
+// Puts a set behind the others.
+fn keep(memo: &mut ExposedLists, exposed: Exposed) -> Result<usize, AllocError>
+    ensures lists { OnOk result (memo.new.lists.items ≡ memo.old.lists.items ++ exposed ∷ []) }
+    ensures at { IfOk result (λ p. p ≡ length memo.old.lists.items) }
+{
+    let position = memo.lists.len();
+    memo.positions.insert(exposed.cell, position)?;
+    memo.lists.push(exposed)?;
+    Ok(position)
+}
+
+/// The set at a position.
+pub fn set_at(lists: &[Exposed], position: usize) -> &RectSet
+    requires { position < length lists.now }
+    ensures { (e : ExposedSet) → slice_get lists.now position ≡ Some e → result.now ≡ e.set }
+{
+    &lists[position].set
+}
+
+/// The position of a cell's exposed squares. Where they aren't known yet, they are found.
+pub fn expose(
+    alloc: Global,
+    design: &Design,
+    zones: &Zones,
+    cell: u32,
+    names: &[LayerRule],
+    memo: &mut ExposedLists,
+) -> Result<usize, AllocError>
+    requires cell { cell < length design.now.cells }
+    requires few { length names.now < 2 ^ 32 }
+    requires entries { HasAll zones.now cell (length names.now) }
+    requires lists { AreExposedLists design.now zones.now names.now memo.old.lists.items }
+    ensures lists { OnOk result (AreExposedLists design.now zones.now names.now
+        memo.new.lists.items) }
+    ensures at { IfOk result (IsListAt memo.new.lists.items cell) }
+{
+    match known(memo, cell) {
+        Some(position) => Ok(position),
+        None => {
+            let set = find_exposed(alloc, design, zones, cell, names)?;
+            let last = keep(memo, Exposed { cell, set })?;
+            Ok(last)
+        }
+    }
+}
