@@ -164,7 +164,7 @@ device_line limit nets k d l w h ml mw =
     refl refl refl (numbered_word 0x4D k refl) first)
 
 pub device_said : (limit : Option ℕ) (n : ℕ) (open_too : Bool) (nets : List (List ℕ)) (k : ℕ) (d : plain.DeviceRow) (l w : List ℕ) → IsCardable limit nets d → IsMicrons d.length l → IsMicrons d.width w
-    → card_row limit n open_too (device_tokens nets k d l w) ≡ Ok (Device (device_card nets d))
+    → card_row limit n open_too (device_tokens nets k d l w) ≡ Ok (Device (device_card nets d) 1)
 device_said limit n open_too nets k d l w h ml mw =
     let lp : Param = record { key = 0x4C ∷ []; value = l ++ 0x55 ∷ [] } in
     let wp : Param = record { key = 0x57 ∷ []; value = w ++ 0x55 ∷ [] } in
