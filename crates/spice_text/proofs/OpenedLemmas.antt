@@ -8,7 +8,7 @@ use Rattle.spice_cards.specs.Tokens.{Token, Word, Equals}
 use Rattle.spice_cards.specs.Cards.{Card, cards_of, early_more}
 use Rattle.spice_cards.specs.Parts.{Param, words_of, behind_words, params_of}
 use Rattle.spice_rows.specs.Names.{names_of, are_apart, is_text}
-use Rattle.spice_rows.specs.Params.{is_once, is_one, is_refused}
+use Rattle.spice_rows.specs.Params.{copies_of, is_once, is_one, is_refused}
 use Rattle.spice_rows.specs.Sizes.{Sizes, sizes_of}
 use Rattle.spice_rows.specs.Rows as rows
 use Rattle.spice_rows.specs.Rows.{CardRow, Opens, Ends, Globals, Stops, Passed, Device, Call}
@@ -39,21 +39,21 @@ module _ (P : List ℕ → List (List ℕ) → Type 0) (opens : (words : List (L
     | inr f ↦ rw f (record {})
   ]
 
-  device_of_opened : (line : ℕ) (names : List (List ℕ)) (sizes : Result Sizes ValueFault) → IfOk (rows.device_of line names sizes) Opened
-  device_of_opened line names (Err e) = record {}
-  device_of_opened line [] (Ok s) = record {}
-  device_of_opened line (a ∷ []) (Ok s) = record {}
-  device_of_opened line (a ∷ b ∷ []) (Ok s) = record {}
-  device_of_opened line (a ∷ b ∷ c ∷ []) (Ok s) = record {}
-  device_of_opened line (a ∷ b ∷ c ∷ d ∷ []) (Ok s) = record {}
-  device_of_opened line (a ∷ b ∷ c ∷ d ∷ e ∷ []) (Ok s) = record {}
-  device_of_opened line (a ∷ b ∷ c ∷ d ∷ e ∷ f ∷ g) (Ok s) = record {}
+  device_of_opened : (line copies : ℕ) (names : List (List ℕ)) (sizes : Result Sizes ValueFault) → IfOk (rows.device_of line copies names sizes) Opened
+  device_of_opened line copies names (Err e) = record {}
+  device_of_opened line copies [] (Ok s) = record {}
+  device_of_opened line copies (a ∷ []) (Ok s) = record {}
+  device_of_opened line copies (a ∷ b ∷ []) (Ok s) = record {}
+  device_of_opened line copies (a ∷ b ∷ c ∷ []) (Ok s) = record {}
+  device_of_opened line copies (a ∷ b ∷ c ∷ d ∷ []) (Ok s) = record {}
+  device_of_opened line copies (a ∷ b ∷ c ∷ d ∷ e ∷ []) (Ok s) = record {}
+  device_of_opened line copies (a ∷ b ∷ c ∷ d ∷ e ∷ f ∷ g) (Ok s) = record {}
 
   device_opened : (limit : Option ℕ) (line : ℕ) (names : Option (List (List ℕ))) (ps : List Param) → IfOk (rows.device_row limit line names ps) Opened
   device_opened limit line None ps = record {}
   device_opened limit line (Some names) ps = elim (either (not (length names == 5) || not (is_once (codes "L") ps) || not (is_once (codes "W") ps))) [
     | inl t ↦ rw t (record {})
-    | inr f ↦ rw f (elim (either (list_any is_refused ps)) [ inl t ↦ rw t (record {}) | inr g ↦ rw g (device_of_opened line names (sizes_of limit ps)) ])
+    | inr f ↦ rw f (elim (either (list_any is_refused ps)) [ inl t ↦ rw t (record {}) | inr g ↦ rw g (device_of_opened line (copies_of ps) names (sizes_of limit ps)) ])
   ]
 
   call_opened : (line : ℕ) (names : Option (List (List ℕ))) (ps : List Param) → IfOk (rows.call_row line names ps) Opened
