@@ -4,7 +4,7 @@ The environment variable LVSREF_FEATURES holds a comma separated list of the wor
 `all`).  Without it the reference has the plain rule set.
 
 wide    XY in several records, larger limits, refusal of layers outside 32 bits
-merge   `combine_devices` and M= on transistor cards
+merge   `combine_devices`
 more    resistors and diodes
 sized   `N = A.sized(D)`
 """

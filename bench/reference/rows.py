@@ -504,8 +504,6 @@ def spice_spellings():
     refused(T_SCHEMATIC.replace(b"2.5e-07", b"0.5f"), 53, 2, 2)
     refused(T_SCHEMATIC.replace(b"1500n", b"1.1k"), 53, 2, 3)
     refused(T_SCHEMATIC.replace(b".ends\n", b""), 54, 1, None)
-    if not features.MERGE:
-        refused(T_SCHEMATIC.replace(b" m=1", b" m=2"), 52, 2, None)
     refused(T_SCHEMATIC.replace(b" m=1", b" m=0"), 52, 2, None)
     begin = b".subckt a x\n"
     for card, number in ((b".subckt=x", 50), (b"m1=3 a b c d e l=1 w=1", 51), (b"q1 a b", 50),

@@ -199,8 +199,8 @@ class _Reader:
                 continue
             if key == b"M" and text == b"1":
                 times = 1
-            elif key == b"M" and letter != b"X" and features.MERGE \
-                    and COUNT.fullmatch(text) and 1 <= int(text) <= 1000:
+            elif key == b"M" and letter != b"X" and COUNT.fullmatch(text) \
+                    and 1 <= int(text) <= 1000:
                 times = int(text)
             elif letter != b"M" or key not in PASSED:
                 raise SpiceFault(52, line)

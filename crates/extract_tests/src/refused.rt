@@ -354,7 +354,7 @@ const SCHEMATICS: [(&str, &str); 15] = [
         "refused schematic 53 line 2 value 3\n",
     ),
     (
-        ".subckt t g s d vss\nm1 d g s vss nmos l=1u\n+ w=1u m=2\n.ends\n",
+        ".subckt t g s d vss\nm1 d g s vss nmos l=1u\n+ w=1u m=0\n.ends\n",
         "refused schematic 52 line 2\n",
     ),
     (

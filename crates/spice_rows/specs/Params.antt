@@ -1,7 +1,10 @@
 -- The parameters that cards may have.
-use Rattle.std.specs.Prelude.{ℕ, Bool, ◌==◌, ◌&&◌, ◌||◌, not, List, if◌then◌else◌, codes}
-use Rattle.std.specs.List.{count_by}
+use Rattle.std.specs.Prelude.{ℕ, Bool, ◌==◌, ◌&&◌, ◌||◌, not, nat_lt, List, [], ◌∷◌, length}
+use Rattle.std.specs.Prelude.{if◌then◌else◌, codes}
+use Rattle.std.specs.Char.{is_ascii_digit}
+use Rattle.std.specs.List.{count_by, list_all}
 use Rattle.std.specs.Str.{bytes_eq}
+use Rattle.std.specs.Str.Parse.{digits_value}
 use Rattle.spice_cards.specs.Parts.{Param}
 use Rattle.spice_rows.specs.Names.{is_text}
 
@@ -12,7 +15,7 @@ is_key key p = is_text key p.key
 abbrev pub is_once : List ℕ → List Param → Bool
 is_once key ps = count_by (is_key key) ps == 1
 
--- the number of equal devices or calls that a card stands for, which can only be one
+-- a call stands for one, and may say so
 abbrev pub is_one : Param → Bool
 is_one p = is_key (codes "M") p && bytes_eq p.value (codes "1")
 
@@ -26,7 +29,22 @@ is_passed_key key =
 abbrev pub is_device_key : List ℕ → Bool
 is_device_key key = is_text (codes "L") key || is_text (codes "W") key || is_passed_key key
 
--- one that a transistor can't have, or M other than 1
+-- one to four digits of a number from 1 to 1,000
+abbrev pub is_count : List ℕ → Bool
+is_count text =
+    list_all is_ascii_digit text && nat_lt (length text) 5 && nat_lt 0 (digits_value 10 text)
+    && nat_lt (digits_value 10 text) 1001
+
+-- one that a transistor can't have, or M that is no such number
 abbrev pub is_refused : Param → Bool
-is_refused p =
-    if is_key (codes "M") p then not (bytes_eq p.value (codes "1")) else not (is_device_key p.key)
+is_refused p = if is_key (codes "M") p then not (is_count p.value) else not (is_device_key p.key)
+
+-- so many equal transistors a card stands for, as the last M says; by itself, one
+abbrev pub copies_after : ℕ → List Param → ℕ
+copies_after n [] = n
+copies_after n (p ∷ ps) =
+    copies_after (if is_key (codes "M") p && is_count p.value then digits_value 10 p.value else n)
+    ps
+
+abbrev pub copies_of : List Param → ℕ
+copies_of ps = copies_after 1 ps

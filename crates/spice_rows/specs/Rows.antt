@@ -9,7 +9,7 @@ use Rattle.net_names.specs.Folding.{folded_byte}
 use Rattle.spice_cards.specs.Tokens.{Token, Word, Equals}
 use Rattle.spice_cards.specs.Parts.{Param, words_of, behind_words, params_of}
 use Rattle.spice_rows.specs.Names.{names_of, are_apart, is_text}
-use Rattle.spice_rows.specs.Params.{is_once, is_one, is_refused}
+use Rattle.spice_rows.specs.Params.{copies_of, is_once, is_one, is_refused}
 use Rattle.spice_rows.specs.Sizes.{Sizes, sizes_of}
 use Rattle.spice_rows.specs.declared.fault.SpiceFault.{SpiceFault}
 use Rattle.spice_rows.specs.declared.fault.SpiceFault.TheVariants.{UnknownCard, BadLine}
@@ -38,14 +38,14 @@ pub data CardRow : Type 0 where
   Globals : (names : List (List ℕ)) → CardRow
   Stops : CardRow
   Passed : CardRow
-  Device : (card : DeviceCard) → CardRow
+  Device : (card : DeviceCard) (copies : ℕ) → CardRow
   Call : (card : CallCard) → CardRow
 
 -- ---- rows, by the names or words behind the first word, and the parameters
 
-abbrev pub device_of : ℕ → List (List ℕ) → Result Sizes ValueFault → Result CardRow SpiceFault
-device_of line names (Err e) = Err (Value line e)
-device_of line (d ∷ g ∷ s ∷ b ∷ class ∷ []) (Ok sizes) = Ok (Device (record {
+abbrev pub device_of : ℕ → ℕ → List (List ℕ) → Result Sizes ValueFault → Result CardRow SpiceFault
+device_of line copies names (Err e) = Err (Value line e)
+device_of line copies (d ∷ g ∷ s ∷ b ∷ class ∷ []) (Ok sizes) = Ok (Device (record {
   drain = d;
   gate = g;
   source = s;
@@ -53,10 +53,11 @@ device_of line (d ∷ g ∷ s ∷ b ∷ class ∷ []) (Ok sizes) = Ok (Device (r
   class = class;
   length = sizes.length;
   width = sizes.width;
-}))
-device_of line names (Ok sizes) = Err (BadLine line)
+}) copies)
+device_of line copies names (Ok sizes) = Err (BadLine line)
 
--- `M.. drain gate source bulk class` with L and W once each
+-- `M.. drain gate source bulk class` with L and W once each; it stands for as many transistors as
+-- M says
 abbrev pub device_row : Option ℕ → ℕ → Option (List (List ℕ)) → List Param
     → Result CardRow SpiceFault
 device_row limit line None ps = Err (BadLine line)
@@ -64,7 +65,7 @@ device_row limit line (Some names) ps =
     if not (length names == 5) || not (is_once (codes "L") ps) || not (is_once (codes "W") ps)
     then Err (BadLine line)
     else if list_any is_refused ps then Err (ParameterRefused line)
-    else device_of line names (sizes_of limit ps)
+    else device_of line (copies_of ps) names (sizes_of limit ps)
 
 -- all but the last
 abbrev pub before_last : List (List ℕ) → List (List ℕ)

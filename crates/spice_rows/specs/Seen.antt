@@ -32,7 +32,7 @@ row_seen code.Ends = rows.Ends
 row_seen (code.Globals names) = rows.Globals names.items
 row_seen code.Stops = rows.Stops
 row_seen code.Passed = rows.Passed
-row_seen (code.Device d) = rows.Device (device_seen d)
+row_seen (code.Device d copies) = rows.Device (device_seen d) copies
 row_seen (code.Call r) = rows.Call (call_seen r)
 
 -- the answer is this fault, or that there is no memory

@@ -1,7 +1,11 @@
 //! What a card says: a transistor, a call, global names, or a circuit's begin or end.
 
+ghost use Rattle.std.specs.Prelude.{◌≡◌, IfOk};
+ghost use Rattle.spice_rows.specs.Seen.{device_seen};
+
 use fixed_num::Femto;
 use net_names::Name;
+use std::alloc::{AllocError, Global};
 
 /// A transistor as its card names it.
 #[derive(Debug, Drop)]
@@ -13,6 +17,23 @@ pub struct DeviceCard {
     pub class: Name,
     pub length: Femto,
     pub width: Femto,
+}
+
+impl DeviceCard {
+    /// The same transistor.
+    pub fn try_clone(&self, alloc: Global) -> Result<DeviceCard, AllocError>
+        ensures { IfOk result (λ d. device_seen d ≡ device_seen self.now) }
+    {
+        Ok(DeviceCard {
+            drain: self.drain.try_clone(alloc)?,
+            gate: self.gate.try_clone(alloc)?,
+            source: self.source.try_clone(alloc)?,
+            bulk: self.bulk.try_clone(alloc)?,
+            class: self.class.try_clone(alloc)?,
+            length: self.length,
+            width: self.width,
+        })
+    }
 }
 
 /// A call as its card names it, with the card's line.
@@ -36,6 +57,7 @@ pub enum CardRow {
     Stops,
     /// A card that says nothing of the netlist.
     Passed,
-    Device(DeviceCard),
+    /// A transistor, and how many equal ones the card stands for, from 1 to 1,000.
+    Device(DeviceCard, u32),
     Call(CallCard),
 }

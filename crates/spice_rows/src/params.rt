@@ -1,9 +1,11 @@
 //! Which parameters a transistor or a call may have.
 
-ghost use Rattle.std.specs.Prelude.{◌≡◌, not};
+ghost use Rattle.std.specs.Prelude.{◌≡◌, not, true, false, IfSome, IsNone};
 ghost use Rattle.std.specs.List.{list_any, count_by};
+ghost use Rattle.std.specs.Str.Parse.{digits_value};
 ghost use Rattle.spice_cards.specs.Seen.{params_seen, param_seen};
-ghost use Rattle.spice_rows.specs.Params.{is_key, is_one, is_passed_key, is_device_key, is_refused};
+ghost use Rattle.spice_rows.specs.Params.{copies_of, is_count, is_device_key, is_key, is_one};
+ghost use Rattle.spice_rows.specs.Params.{is_passed_key, is_refused};
 
 use crate::names::is_text;
 use spice_cards::Param;
@@ -48,11 +50,32 @@ fn is_one(p: &Param) -> bool
     is_text(p.key, b"M") && p.value == b"1".as_slice()
 }
 
+// The number from 1 to 1,000 that one to four digits write.
+fn number_of(text: &[u8]) -> Option<u32>
+    ensures some { IfSome result (λ n. n ≡ digits_value 10 text.now) }
+    ensures count { IfSome result (λ n. is_count text.now ≡ true) }
+    ensures none { IsNone result → is_count text.now ≡ false }
+{
+    if text.len() > 4 {
+        return None;
+    }
+    let mut n = 0;
+    let mut rest = text;
+    'digits: while let [b, more @ ..] = rest {
+        if !b.is_ascii_digit() {
+            return None;
+        }
+        n = n * 10 + u32::from(*b - b'0');
+        rest = more;
+    }
+    if 0 < n && n <= 1000 { Some(n) } else { None }
+}
+
 fn is_refused(p: &Param) -> bool
     ensures { result ≡ is_refused (param_seen p.now) }
 {
     if is_text(p.key, b"M") {
-        return p.value != b"1".as_slice();
+        return number_of(p.value).is_none();
     }
     !is_device_key(p.key)
 }
@@ -69,6 +92,21 @@ pub fn has_refused(params: &[Param]) -> bool
         rest = more;
     }
     false
+}
+
+/// How many equal transistors a card stands for: the last M says it, and one without any.
+pub fn copies_of(params: &[Param]) -> u32
+    ensures { result ≡ copies_of (params_seen params.now) }
+{
+    let mut copies = 1;
+    let mut rest = params;
+    'params: while let [p, more @ ..] = rest {
+        if is_text(p.key, b"M") {
+            copies = number_of(p.value).unwrap_or(copies);
+        }
+        rest = more;
+    }
+    copies
 }
 
 /// Whether a parameter is another than `M=1`, which alone a call may have.

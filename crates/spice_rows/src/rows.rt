@@ -11,7 +11,7 @@ ghost use Rattle.spice_rows.specs.Sizes.{read_limit};
 use crate::card::{CallCard, CardRow, DeviceCard};
 use crate::fault::SpiceFault;
 use crate::names::{are_apart, folded_byte, is_text, names_of};
-use crate::params::{count, has_other, has_refused};
+use crate::params::{copies_of, count, has_other, has_refused};
 use crate::sizes::sizes_of;
 use spice_cards::{Param, Token, read_params, read_words};
 use std::alloc::Global;
@@ -45,7 +45,7 @@ fn device(
     let drain = names.pop();
     match (drain, gate, source, bulk, class) {
         (Some(drain), Some(gate), Some(source), Some(bulk), Some(class)) => {
-            Ok(CardRow::Device(DeviceCard {
+            let card = DeviceCard {
                 drain,
                 gate,
                 source,
@@ -53,7 +53,8 @@ fn device(
                 class,
                 length: sizes.length,
                 width: sizes.width,
-            }))
+            };
+            Ok(CardRow::Device(card, copies_of(params)))
         }
         _ => Err(SpiceFault::BadLine(line)),
     }

@@ -54,8 +54,12 @@ const TEXTS: [(&str, (u16, u64)); 61] = [
     (".end\n+ foo\n", (51, 1)),
     ("m1 a b c d n l=1u w=1u q=2u\n", (52, 1)),
     ("m1 a b c d n l=1u w=1u \\l=2u\n", (52, 1)),
-    ("m1 a b c d n l=1u w=1u m=2\n", (52, 1)),
-    ("m1 a b c d n l=1mil w=1u m=2\n", (52, 1)),
+    ("m1 a b c d n l=1u w=1u m=0\n", (52, 1)),
+    ("m1 a b c d n l=1mil w=1u m=0\n", (52, 1)),
+    ("m1 a b c d n l=1u w=1u m=1001\n", (52, 1)),
+    ("m1 a b c d n l=1u w=1u m=00001\n", (52, 1)),
+    ("m1 a b c d n l=1u w=1u m=2u\n", (52, 1)),
+    ("m1 a b c d n l=1u w=1u m=x m=1\n", (52, 1)),
     ("m1 a b c d n l=1mil q=2 q=3\n", (51, 1)),
     ("x1 a m=2\n", (52, 1)),
     ("x1 a l=1u\n", (52, 1)),
@@ -82,7 +86,7 @@ const TEXTS: [(&str, (u16, u64)); 61] = [
         (532, 2),
     ),
     (
-        ".subckt t g s d vss\nm1 d g s vss nmos l=2.5e-07\n+ w=1500n as=1p m=2\n.ends\n",
+        ".subckt t g s d vss\nm1 d g s vss nmos l=2.5e-07\n+ w=1500n as=1p m=0\n.ends\n",
         (52, 2),
     ),
     (

@@ -87,6 +87,12 @@ const TEXTS: [(&str, &str); 19] = [
         ".subckt t g s d vss\nm1 d g s vss nmos l=2.5e-07\n+ w=1500n as=1p m=1\n.ends\n",
         "* lvs netlist\n.SUBCKT T G S D VSS\nM1 D G S VSS NMOS L=0.25U W=1.5U\n.ENDS T\n.END\n",
     ),
+    // M stands for so many equal transistors, one after another; the last one counts.
+    (
+        "m1 a b c d n l=1u w=1u m=7 M=0002\nm2 a b c d n l=2u w=1u\n",
+        "* lvs netlist\n.SUBCKT .TOP\nM1 A B C D N L=1U W=1U\nM2 A B C D N L=1U W=1U\n\
+        M3 A B C D N L=2U W=1U\n.ENDS .TOP\n.END\n",
+    ),
     // A needed name is joined to the caller's pin of that name, in each call.
     (
         ".global g\n.subckt a\nm1 g g g g n l=1u w=1u\n.ends\n.subckt b x g\nx1 a\nx2 a\n.ends\n",

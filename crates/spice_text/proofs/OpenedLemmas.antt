@@ -8,12 +8,12 @@ use Rattle.spice_cards.specs.Tokens.{Token, Word, Equals}
 use Rattle.spice_cards.specs.Cards.{Card, cards_of, early_more}
 use Rattle.spice_cards.specs.Parts.{Param, words_of, behind_words, params_of}
 use Rattle.spice_rows.specs.Names.{names_of, are_apart, is_text}
-use Rattle.spice_rows.specs.Params.{is_once, is_one, is_refused}
+use Rattle.spice_rows.specs.Params.{copies_of, is_once, is_one, is_refused}
 use Rattle.spice_rows.specs.Sizes.{Sizes, sizes_of}
 use Rattle.spice_rows.specs.Rows as rows
 use Rattle.spice_rows.specs.Rows.{CardRow, Opens, Ends, Globals, Stops, Passed, Device, Call}
 use Rattle.spice_rows.specs.declared.fault.SpiceFault.{SpiceFault}
-use Rattle.spice_text.specs.Gather.{Circuit, Cards, no_cards, closed, changed, or_top, with_row, with_device, with_call, read_on, reading, reading_of, early_or}
+use Rattle.spice_text.specs.Gather.{Circuit, Cards, no_cards, closed, changed, or_top, with_row, with_devices, with_call, read_on, reading, reading_of, early_or}
 use Rattle.spice_text.specs.Circuits.{all_of}
 use Rattle.spice_text.proofs.SearchLemmas.{either}
 use Rattle.spice_text.proofs.NeedLemmas.{last_or}
@@ -39,21 +39,21 @@ module _ (P : List ℕ → List (List ℕ) → Type 0) (opens : (words : List (L
     | inr f ↦ rw f (record {})
   ]
 
-  device_of_opened : (line : ℕ) (names : List (List ℕ)) (sizes : Result Sizes ValueFault) → IfOk (rows.device_of line names sizes) Opened
-  device_of_opened line names (Err e) = record {}
-  device_of_opened line [] (Ok s) = record {}
-  device_of_opened line (a ∷ []) (Ok s) = record {}
-  device_of_opened line (a ∷ b ∷ []) (Ok s) = record {}
-  device_of_opened line (a ∷ b ∷ c ∷ []) (Ok s) = record {}
-  device_of_opened line (a ∷ b ∷ c ∷ d ∷ []) (Ok s) = record {}
-  device_of_opened line (a ∷ b ∷ c ∷ d ∷ e ∷ []) (Ok s) = record {}
-  device_of_opened line (a ∷ b ∷ c ∷ d ∷ e ∷ f ∷ g) (Ok s) = record {}
+  device_of_opened : (line copies : ℕ) (names : List (List ℕ)) (sizes : Result Sizes ValueFault) → IfOk (rows.device_of line copies names sizes) Opened
+  device_of_opened line copies names (Err e) = record {}
+  device_of_opened line copies [] (Ok s) = record {}
+  device_of_opened line copies (a ∷ []) (Ok s) = record {}
+  device_of_opened line copies (a ∷ b ∷ []) (Ok s) = record {}
+  device_of_opened line copies (a ∷ b ∷ c ∷ []) (Ok s) = record {}
+  device_of_opened line copies (a ∷ b ∷ c ∷ d ∷ []) (Ok s) = record {}
+  device_of_opened line copies (a ∷ b ∷ c ∷ d ∷ e ∷ []) (Ok s) = record {}
+  device_of_opened line copies (a ∷ b ∷ c ∷ d ∷ e ∷ f ∷ g) (Ok s) = record {}
 
   device_opened : (limit : Option ℕ) (line : ℕ) (names : Option (List (List ℕ))) (ps : List Param) → IfOk (rows.device_row limit line names ps) Opened
   device_opened limit line None ps = record {}
   device_opened limit line (Some names) ps = elim (either (not (length names == 5) || not (is_once (codes "L") ps) || not (is_once (codes "W") ps))) [
     | inl t ↦ rw t (record {})
-    | inr f ↦ rw f (elim (either (list_any is_refused ps)) [ inl t ↦ rw t (record {}) | inr g ↦ rw g (device_of_opened line names (sizes_of limit ps)) ])
+    | inr f ↦ rw f (elim (either (list_any is_refused ps)) [ inl t ↦ rw t (record {}) | inr g ↦ rw g (device_of_opened line (copies_of ps) names (sizes_of limit ps)) ])
   ]
 
   call_opened : (line : ℕ) (names : Option (List (List ℕ))) (ps : List Param) → IfOk (rows.call_row line names ps) Opened
@@ -150,7 +150,7 @@ module _ (P : List ℕ → List (List ℕ) → Type 0) (opens : (words : List (L
   with_row_opened cards line (Globals names) o h = record { all_closed = h.all_closed; one = h.one; top_one = h.top_one }
   with_row_opened cards line Stops o h = h
   with_row_opened cards line Passed o h = h
-  with_row_opened cards line (Device d) o h = changed_opened cards line (with_device d) cards.open_one (λ c x. x) h.one h
+  with_row_opened cards line (Device d copies) o h = changed_opened cards line (with_devices d copies) cards.open_one (λ c x. x) h.one h
   with_row_opened cards line (Call r) o h = changed_opened cards line (with_call r) cards.open_one (λ c x. x) h.one h
 
   on_opened : (cards : Cards) (line : ℕ) (r : Result CardRow SpiceFault) (rest : Cards → Result Cards SpiceFault) → IfOk r Opened → AllOpened cards → ((next : Cards) → AllOpened next → IfOk (rest next) AllOpened)
@@ -161,7 +161,7 @@ module _ (P : List ℕ → List (List ℕ) → Type 0) (opens : (words : List (L
   on_opened cards line (Ok Ends) rest o h k = k (with_row cards line Ends) (with_row_opened cards line Ends o h)
   on_opened cards line (Ok (Globals names)) rest o h k = k (with_row cards line (Globals names)) (with_row_opened cards line (Globals names) o h)
   on_opened cards line (Ok Passed) rest o h k = k cards h
-  on_opened cards line (Ok (Device d)) rest o h k = k (with_row cards line (Device d)) (with_row_opened cards line (Device d) o h)
+  on_opened cards line (Ok (Device d copies)) rest o h k = k (with_row cards line (Device d copies)) (with_row_opened cards line (Device d copies) o h)
   on_opened cards line (Ok (Call r)) rest o h k = k (with_row cards line (Call r)) (with_row_opened cards line (Call r) o h)
 
   reading_opened : (limit : Option ℕ) (cs : List Card) (cards : Cards) → AllOpened cards → IfOk (reading limit cards cs) AllOpened

@@ -90,7 +90,7 @@ goes cards line Ends rest h = refl
 goes cards line (Globals names) rest h = refl
 goes cards line Stops rest h = absurd h
 goes cards line Passed rest h = refl
-goes cards line (Device d) rest h = refl
+goes cards line (Device d copies) rest h = refl
 goes cards line (Call r) rest h = refl
 
 -- the lines cut where one line more stands before others

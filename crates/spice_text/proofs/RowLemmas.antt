@@ -164,15 +164,15 @@ device_line limit nets k d l w h ml mw =
     refl refl refl (numbered_word 0x4D k refl) first)
 
 pub device_said : (limit : Option ℕ) (n : ℕ) (open_too : Bool) (nets : List (List ℕ)) (k : ℕ) (d : plain.DeviceRow) (l w : List ℕ) → IsCardable limit nets d → IsMicrons d.length l → IsMicrons d.width w
-    → card_row limit n open_too (device_tokens nets k d l w) ≡ Ok (Device (device_card nets d))
+    → card_row limit n open_too (device_tokens nets k d l w) ≡ Ok (Device (device_card nets d) 1)
 device_said limit n open_too nets k d l w h ml mw =
     let lp : Param = record { key = 0x4C ∷ []; value = l ++ 0x55 ∷ [] } in
     let wp : Param = record { key = 0x57 ∷ []; value = w ++ 0x55 ∷ [] } in
     let names = name_at nets d.drain ∷ name_at nets d.gate ∷ name_at nets d.source ∷ name_at nets d.bulk ∷ d.class ∷ [] in
     let back = names_back names (h.drain, (h.gate, (h.source, (h.bulk, (h.class, tt))))) in
     ap (λ (o : Option (List (List ℕ))). rows.device_row limit n o (lp ∷ wp ∷ [])) back
-    ∙ ap (λ (r : Result ℕ ValueFault). rows.device_of n names (and_then r (λ v. changed limit (record { length = v; width = 0 }) (wp ∷ [])))) (value_back limit d.length l h.length h.under_length ml)
-    ∙ ap (λ (r : Result ℕ ValueFault). rows.device_of n names (and_then r (λ v. let z : Result Sizes ValueFault = Ok (record { length = d.length; width = v }) in z)))
+    ∙ ap (λ (r : Result ℕ ValueFault). rows.device_of n 1 names (and_then r (λ v. changed limit (record { length = v; width = 0 }) (wp ∷ [])))) (value_back limit d.length l h.length h.under_length ml)
+    ∙ ap (λ (r : Result ℕ ValueFault). rows.device_of n 1 names (and_then r (λ v. let z : Result Sizes ValueFault = Ok (record { length = d.length; width = v }) in z)))
     (value_back limit d.width w h.width h.under_width mw)
 
 -- ---- lines of names

@@ -78,7 +78,7 @@ devices_read limit nets (d ∷ ds) k n m cs c front all text good (a, (l, ml, w,
     let ok = good d (inl refl) in
     let line : IsLine a (device_tokens nets k d l w) = subst (λ (t : List ℕ). IsLine t (device_tokens nets k d l w)) (sym ea_text) (device_line limit nets k d l w ok ml mw) in
     let next = front ++ device_card nets d ∷ [] in
-    let one = one_line limit n (inside cs (holding c front c.calls)) (Device (device_card nets d)) a (device_tokens nets k d l w) line (device_said limit n true nets k d l w ok ml mw) tt in
+    let one = one_line limit n (inside cs (holding c front c.calls)) (Device (device_card nets d) 1) a (device_tokens nets k d l w) line (device_said limit n true nets k d l w ok ml mw) tt in
     let more = devices_read limit nets ds (k + 1) (n + 1) m cs c next all b (λ x i. good x (inr i)) behind_it (omega arith)
     (ea ∙ sym (append_assoc front (device_card nets d ∷ []) (map (device_card nets) ds))) in
     subst (λ (t : List ℕ). Reads limit n m (inside cs (holding c front c.calls)) (inside cs (holding c all c.calls)) t) (sym e)

@@ -1,5 +1,5 @@
 -- Cards in their circuits.
-use Rattle.std.specs.Prelude.{ℕ, List, [], ◌∷◌, ◌++◌, Option, Some, None, is_some, Result, Ok, Err}
+use Rattle.std.specs.Prelude.{ℕ, List, [], ◌∷◌, ◌++◌, replicate, Option, Some, None, is_some, Result, Ok, Err}
 use Rattle.std.specs.Prelude.{codes}
 use Rattle.spice_cards.specs.Cards.{Card, cards_of, early_more}
 use Rattle.spice_rows.specs.Rows.{DeviceCard, CallCard, CardRow, Opens, Ends, Globals, Stops}
@@ -50,8 +50,9 @@ abbrev pub changed : Cards → ℕ → (Circuit → Circuit) → Option Circuit 
 changed cards line f None = record cards { outside = Some (f (or_top line cards.outside)) }
 changed cards line f (Some c) = record cards { open_one = Some (f c) }
 
-abbrev pub with_device : DeviceCard → Circuit → Circuit
-with_device d c = record c { devices = c.devices ++ d ∷ [] }
+-- so many equal devices, one after another
+abbrev pub with_devices : DeviceCard → ℕ → Circuit → Circuit
+with_devices d copies c = record c { devices = c.devices ++ replicate copies d }
 
 abbrev pub with_call : CallCard → Circuit → Circuit
 with_call r c = record c { calls = c.calls ++ r ∷ [] }
@@ -64,7 +65,8 @@ with_row cards line Ends =
 with_row cards line (Globals names) = record cards { globals = cards.globals ++ names }
 with_row cards line Stops = cards
 with_row cards line Passed = cards
-with_row cards line (Device d) = changed cards line (with_device d) cards.open_one
+with_row cards line (Device d copies) =
+    changed cards line (with_devices d copies) cards.open_one
 with_row cards line (Call r) = changed cards line (with_call r) cards.open_one
 
 -- nothing is read behind `.END`

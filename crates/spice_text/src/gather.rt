@@ -1,7 +1,8 @@
 //! The cards of a text, gathered by circuit.
 
-ghost use Rattle.std.specs.Prelude.{◌≡◌, IfOk, IfErr};
+ghost use Rattle.std.specs.Prelude.{◌≡◌, ◌++◌, IfErr, IfOk, OnOk, map, replicate};
 ghost use Rattle.spice_rows.specs.Sizes.{read_limit};
+ghost use Rattle.spice_rows.specs.Seen.{device_seen};
 ghost use Rattle.spice_text.specs.Gather.{begun, reading_of};
 ghost use Rattle.spice_text.specs.Seen.{circuit_seen, cards_seen, SaysFault};
 ghost use Rattle.std.specs.Prelude.{codes, [], Ok};
@@ -51,6 +52,26 @@ fn top(alloc: Global, line: u64) -> Result<CircuitCards, AllocError>
     Ok(begun(alloc, line, name, Vec::new(alloc)))
 }
 
+// So many equal devices, one after another.
+fn push_devices(
+    alloc: Global,
+    out: &mut Vec<DeviceCard>,
+    device: DeviceCard,
+    copies: u32,
+) -> Result<(), AllocError>
+    ensures { OnOk result (map device_seen out.new.items
+        ≡ map device_seen out.old.items ++ replicate copies (device_seen device)) }
+{
+    if copies == 1 {
+        out.push(device)?;
+        return Ok(());
+    }
+    'copies: for _copy in 0..copies {
+        out.push(device.try_clone(alloc)?)?;
+    }
+    Ok(())
+}
+
 impl Gathered {
     ghost use Rattle.std.specs.Prelude.{◌≡◌, OnOk};
     ghost use Rattle.spice_rows.specs.Rows as rows;
@@ -69,19 +90,24 @@ impl Gathered {
         }
     }
 
-    fn add_device(&mut self, alloc: Global, line: u64, device: DeviceCard) -> Result<(), AllocError>
+    fn add_devices(
+        &mut self,
+        alloc: Global,
+        line: u64,
+        device: DeviceCard,
+        copies: u32,
+    ) -> Result<(), AllocError>
         ensures { OnOk result (cards_seen self.new
-            ≡ with_row (cards_seen self.old) line (rows.Device (device_seen device))) }
+            ≡ with_row (cards_seen self.old) line (rows.Device (device_seen device) copies)) }
     {
         if let Some(circuit) = &mut self.open_one {
-            circuit.devices.push(device)?;
-            return Ok(());
+            return push_devices(alloc, &mut circuit.devices, device, copies);
         }
         let mut circuit = match self.outside.take() {
             Some(circuit) => circuit,
             None => top(alloc, line)?,
         };
-        circuit.devices.push(device)?;
+        push_devices(alloc, &mut circuit.devices, device, copies)?;
         self.outside = Some(circuit);
         Ok(())
     }
@@ -135,7 +161,7 @@ impl Gathered {
             CardRow::Globals(names) => self.add_globals(line, names),
             CardRow::Stops => Ok(()),
             CardRow::Passed => Ok(()),
-            CardRow::Device(device) => self.add_device(alloc, line, device),
+            CardRow::Device(device, copies) => self.add_devices(alloc, line, device, copies),
             CardRow::Call(call) => self.add_call(alloc, line, call),
         }
     }
