@@ -1,3 +1,2 @@
 pub mod Flattened
 pub mod Whole
-pub mod Merged

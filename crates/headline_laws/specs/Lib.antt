@@ -1,3 +1,2 @@
 pub mod FlatNetlist
 pub mod Headline
-pub mod Merged
