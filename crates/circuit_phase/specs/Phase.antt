@@ -57,7 +57,6 @@ jobs_seen a = record {
 
 pub record IsCircuitPhase (a : Inside) : Type 0 where
   pub graph : AreBelowJobs a.design.now a.graph
-  pub unit : a.unit_pm ≤ 1000000
   pub job_count : length a.jobs.items ≡ length a.design.now.cells
   pub jobs : ArePositions a.design.now.order (length a.design.now.order) a.jobs.items
   pub nets : AreNets (plain a.design.now) (rules_seen a.rules.now) a.nets.now

@@ -13,6 +13,7 @@ use crate::drawn::pin_nets;
 use crate::numbering::{Numbering, number_nets};
 use crate::placed::Placed;
 use deep_tables::{CellNets, CellPins, Item};
+use list_base::number;
 use net_model::CallRow;
 use std::alloc::{AllocError, Global};
 
@@ -72,9 +73,7 @@ fn call_nets(
         (map (λ b. get_or nets.now (start + b) 0) (pin_nets (plain_pins pins.now) drawn.now))
         v.items) }
 {
-    if drawn.len() > u32::MAX as usize {
-        return Err(AllocError);
-    }
+    number(drawn.len())?;
     let inner = pin_nets(alloc, pins, drawn)?;
     let outer = nets_at(alloc, nets, start, &inner)?;
     number_nets(alloc, &outer, numbering)

@@ -14,7 +14,7 @@ use crate::names::circuit_names;
 use crate::ordered::circuit_cells;
 use cell_graph::Design;
 use deep_tables::{Gates, positions};
-use list_base::small;
+use list_base::number;
 use net_names::Name;
 use std::alloc::{AllocError, Global};
 
@@ -62,7 +62,7 @@ pub fn find_circuits(
 {
     design.sound();
     let cells = circuit_cells(alloc, design, gates)?;
-    small(cells.len()).ok_or(AllocError)?;
+    number(cells.len())?;
     let numbers = positions(alloc, design.cells(), &cells)?;
     let bases = cell_names(alloc, design, &cells)?;
     let names = circuit_names(alloc, &bases)?;

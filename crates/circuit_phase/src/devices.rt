@@ -1,6 +1,6 @@
 //! The transistors of a circuit.
 ghost use Rattle.std.specs.Prelude.{◌≡◌, ◌<◌, List, ◌≤◌, ◌*◌, ◌∷◌, [], Some};
-ghost use Rattle.std.specs.Prelude.{length, slice_get, IfOk, OnOk};
+ghost use Rattle.std.specs.Prelude.{length, slice_get, ◌^◌, IfOk, OnErr, OnOk};
 ghost use Rattle.flat_layout.specs.Circuits.{IsDeviceOfGate};
 ghost use Rattle.flat_layout.specs.Gates.{Rule};
 ghost use Rattle.flat_layout.specs.GateTables.{GoodGate};
@@ -28,12 +28,16 @@ pub struct TerminalNets {
 }
 
 /// A size in femtometres, from twice its length in sides of unit squares, with the unit in
-/// picometres, at most 1,000,000.
-pub fn size(twice: u64, unit_pm: u32) -> Femto
-    requires { unit_pm ≤ 1000000 }
-    ensures { result.0 ≡ twice * (unit_pm * 500) }
+/// picometres. It takes no memory; 2^128 femtometres or more are taken for want of it. No gate of a
+/// layout is so large: its sizes are below 2^76 sides, and its unit is at most 1,000,000.
+pub fn size(twice: u128, unit_pm: u32) -> Result<Femto, AllocError>
+    ensures size { IfOk result (λ s. s.0 ≡ twice * (unit_pm * 500)) }
+    ensures err { OnErr result (2 ^ 128 ≤ twice * (unit_pm * 500)) }
 {
-    Femto(u128::from(twice) * (u128::from(unit_pm) * 500))
+    match twice.checked_mul(u128::from(unit_pm) * 500) {
+        Some(size) => Ok(Femto(size)),
+        None => Err(AllocError),
+    }
 }
 
 /// The numbers of the nets of a transistor's terminals, in the order of a netlist's text: drain,
@@ -74,12 +78,11 @@ pub fn device_row(
     alloc: Global,
     rule: &MosRule,
     unit_pm: u32,
-    twice_w: u64,
-    twice_l: u64,
+    twice_w: u128,
+    twice_l: u128,
     nets: TerminalNets,
     numbering: &mut Numbering,
 ) -> Result<DeviceRow, AllocError>
-    requires unit { unit_pm ≤ 1000000 }
     requires source { nets.source < numbering.old.count }
     requires gate { nets.gate < numbering.old.count }
     requires drain { nets.drain < numbering.old.count }
@@ -95,11 +98,13 @@ pub fn device_row(
         (length numbering.old.nets) (terminal_nets (plain_device row))) }
 {
     let class = folded(alloc, &rule.class)?;
+    let length = size(twice_l, unit_pm)?;
+    let width = size(twice_w, unit_pm)?;
     let on = number_terminals(numbering, nets)?;
     Ok(DeviceRow {
         class,
-        length: size(twice_l, unit_pm),
-        width: size(twice_w, unit_pm),
+        length,
+        width,
         source: on.source,
         gate: on.gate,
         drain: on.drain,

@@ -23,6 +23,7 @@ use crate::numbering::{Numbering, number_nets};
 use crate::placed::Placed;
 use crate::rows::device_rows;
 use deep_tables::{CellNets, CellPins, Gate};
+use list_base::number;
 use net_model::Circuit;
 use net_names::Name;
 use rule_text::MosRule;
@@ -68,16 +69,13 @@ pub fn cell_circuit<P: Placed>(
     requires name_count { length parts.now.pins.now.names.items ≡ parts.now.nets.now.count }
     requires rules { (i : ℕ) (gate : Gate) → slice_get parts.now.gates.now i ≡ Some gate
         → gate.device < length parts.now.rules.now }
-    requires unit { parts.now.unit_pm ≤ 1000000 }
     ensures name { IfOk result (λ c. c.name ≡ name) }
     ensures made { IfOk result (λ c. (r : Rules) → r.devices ≡ parts.now.rules.now
         → IsMadeOf (P.design placed.now) (P.nets placed.now) (P.pins placed.now)
         (P.drawn placed.now) (P.circuits placed.now) cell (map plain_gate parts.now.gates.now)
         drawn.now (device_rules r) parts.now.unit_pm (plain_circuit c)) }
 {
-    if drawn.len() > u32::MAX as usize {
-        return Err(AllocError);
-    }
+    number(drawn.len())?;
     let mut numbering = Numbering::new(alloc, parts.nets.count)?;
     let first = pin_nets(alloc, parts.pins, drawn)?;
     let pins = number_nets(alloc, &first, &mut numbering)?;
@@ -129,7 +127,6 @@ pub fn circuit_or_none<P: Placed>(
     requires name_count { length parts.now.pins.now.names.items ≡ parts.now.nets.now.count }
     requires rules { (i : ℕ) (gate : Gate) → slice_get parts.now.gates.now i ≡ Some gate
         → gate.device < length parts.now.rules.now }
-    requires unit { parts.now.unit_pm ≤ 1000000 }
     requires names { (n : ℕ) → number ≡ Some n → n < length names.now }
     ensures { IfOk result (λ o. (r : Rules) → r.devices ≡ parts.now.rules.now
         → IsMadeOr (P.design placed.now) (P.nets placed.now) (P.pins placed.now)

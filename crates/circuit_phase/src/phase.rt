@@ -61,7 +61,6 @@ impl<'a> CircuitPhase<'a> {
         gates: &'a Gates,
         unit_pm: u32,
     ) -> Result<CircuitPhase<'a>, AllocError>
-        requires unit { unit_pm ≤ 1000000 }
         requires own { HasOwn (plain design.now) (wiring_of (rules_seen rules.now)) }
         requires nets { AreNets (plain design.now) (rules_seen rules.now) nets.now }
         requires pins { ArePins (plain design.now) (rules_seen rules.now) pins.now }

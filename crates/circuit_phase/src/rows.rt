@@ -29,7 +29,6 @@ fn push_device(
     numbering: &mut Numbering,
     rows: &mut Vec<DeviceRow>,
 ) -> Result<(), AllocError>
-    requires unit { unit_pm ≤ 1000000 }
     requires rule { gate.now.device < length rules.now }
     requires terminals { (x : ℕ) → is_terminal x (plain_state gate.now.state) ≡ true
         → x < numbering.old.count }
@@ -70,7 +69,6 @@ pub fn device_rows(
     gates: &[Gate],
     numbering: &mut Numbering,
 ) -> Result<Vec<DeviceRow>, AllocError>
-    requires unit { unit_pm ≤ 1000000 }
     requires rules { (i : ℕ) (gate : Gate) → slice_get gates.now i ≡ Some gate
         → gate.device < length rules.now }
     requires terminals { (x : ℕ) → has_terminal x (map plain_gate gates.now) ≡ true

@@ -16,7 +16,7 @@ use Rattle.circuit_phase.proofs.Leading.{pins_low}
 use Rattle.circuit_phase.proofs.made.cell_circuit.Goals as goal
 
 pub pin_nets-requires-clause-few : goal.pin_nets-requires-clause-few
-pin_nets-requires-clause-few g c = let low = c.if-drawn.false in omega (arith, low)
+pin_nets-requires-clause-few g c = let low = c.in_ok-number.ensures.few in omega (arith, low)
 
 pub pin_nets-requires-clause-count : goal.pin_nets-requires-clause-count
 pin_nets-requires-clause-count g c =
@@ -41,7 +41,7 @@ pub call_rows-requires-clause-within : goal.call_rows-requires-clause-within
 call_rows-requires-clause-within g c = c.in_ok-devices.ensures.count ∙ c.in_ok-pins.ensures.count ∙ c.in_ok-numbering.ensures.count
 
 pub circuit_net_names-requires-clause-few : goal.circuit_net_names-requires-clause-few
-circuit_net_names-requires-clause-few g c = let low = c.if-drawn.false in omega (arith, low)
+circuit_net_names-requires-clause-few g c = let low = c.in_ok-number.ensures.few in omega (arith, low)
 
 pub circuit_net_names-requires-clause-count : goal.circuit_net_names-requires-clause-count
 circuit_net_names-requires-clause-count g c =

@@ -17,7 +17,6 @@ invariant_of-result c =
     let found = c.in_ok-circuits.ensures in
     record {
       graph = c.in_ok-graph.ensures;
-      unit = c.requires.unit;
       job_count = c.in_ok-jobs.ensures.count ∙ c.cells.ensures;
       jobs = subst (λ (l : List ℕ). ArePositions l (length l) c.in_ok-jobs.jobs.items) c.order.ensures c.in_ok-jobs.ensures.places;
       nets = c.requires.nets;
