@@ -92,10 +92,11 @@ class _Side:
         return self.make(number)[1]
 
 
-def align(left, top, right, same):
+def align(left, top, right, same, apart=(frozenset(), frozenset())):
     """The aligned pairs (left circuit, right circuit) in layout order, or None.
 
-    A call's `circuit` is the number of its pair.
+    A call's `circuit` is the number of its pair.  The circuits of `apart`, names of either side,
+    have no partner; the tops aren't among them.
     """
     partner = partner_of_top(left, top, right, same)
     if partner is None:
@@ -109,6 +110,8 @@ def align(left, top, right, same):
             pairs.append((k, partner))
             continue
         found = _named_partner(circuit.name, by_name, same)
+        if circuit.name in apart[0] or found is not None and right[found].name in apart[1]:
+            continue
         if found is not None and found != partner and found in reached_right \
                 and k in reached_left and k in full_left and found in full_right:
             pairs.append((k, found))

@@ -6,11 +6,10 @@ import chip
 import features
 import gds
 import layout
-import match
 import report
 import rules
 import spice
-from align import align
+import turns
 from circuits import Extracted
 from layers import Deep
 from names import escape
@@ -274,9 +273,8 @@ def compared(extracted, rule_set, schematic):
     if rule_set.combine:
         left = _merge_all(left, b"layout")
         schematic = _merge_all(schematic, b"schematic")
-    pairs = align(left, extracted.top, schematic, rule_set.same)
-    answers = None if pairs is None else match.compare_all(pairs, rule_set.max_guesses)
-    text = report.report_text(extracted, pairs, answers)
+    pairs, answers, past, over = turns.compare(left, extracted.top, schematic, rule_set)
+    text = report.report_text(extracted, pairs, answers, past, over)
     words = [a.word for a in answers or ()]
     if pairs is None or extracted.bad or "differs" in words:
         status = BAD

@@ -13,7 +13,7 @@ import sys
 import cli
 from circuits import Extracted
 from genlayout import Maker, placements
-from gentext import RuleMaker, SchematicMaker, same_lines
+from gentext import RuleMaker, SchematicMaker, flatten_lines, same_lines
 
 MOST_PATHS = 120
 EMPTY = b".SUBCKT TOP A B\nM1 A B A B NMOS L=1U W=2U\n.ENDS\n"
@@ -32,6 +32,13 @@ RULE_LINES = [b"a.width(10)", b"poly = input(1, 0)", b"x = in1 & zz", b"x = txt 
               b"combine_devices", b"s = in1.sized(3)", b"s = in1.sized(-0)", b"s=in1.sized(- 12)",
               b"extract_devices(mos4('NMOS'), { 'SD' => in1, 'G' => in2, 'W' => in3 })",
               b"extract_devices(diode('D'), { 'P' => in1, 'N' => in2 })", b"mos4('X')",
+              b"netlist.flatten_circuit('A')", b"schematic . flatten_circuit ( \"a\" ) # x",
+              b"netlist.flatten_circuit('A*')", b"schematic.flatten_circuit('[')",
+              b"netlist.flatten_circuit('A', 'B')", b"netlist.flatten_circuit(in1)",
+              b"netlist.flatten_circuit('')", b"deep.flatten_circuit('A')",
+              b"flatten_unmatched", b"flatten_unmatched x", b"flatten_unmatched = input(1, 0)",
+              b"flatten_circuit('A')", b"flatten_circuit = input(9, 1)",
+              b"netlist.output(1, 0)", b"schematic.flatten_circuit('b') x",
               b"x = in1 & input", b"in1 = in1 & in1", b"x = in1 &", b"x = & in1", b"x == in1"]
 SPICE_LINES = [b"m1 a b c d n l=1u w=1u", b"M a b c d n l=1u w=1mil", b"x1 a b", b"x1",
                b"q1 a b c", b"+", b" + x", b"+ l=1", b".ends", b".subckt a b b", b".subckt b=1",
@@ -242,7 +249,7 @@ def _schematic(rng, stream, top, rules):
     while rng.random() < (0.1 if rules.lines[0].startswith(b"active") else 0.4):
         maker.damage(rng.choice(maker.DAMAGES))
     text = maker.text()
-    rules.lines += same_lines(maker.same)
+    rules.lines += same_lines(maker.same) + flatten_lines(rng, maker)
     return text
 
 

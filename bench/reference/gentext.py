@@ -296,9 +296,31 @@ class SchematicMaker:
         return b" ".join(head + params)
 
 
+def fits(name):
+    """Whether the name can stand in quotes."""
+    return all(32 <= b <= 126 and b not in b"\"'" for b in name)
+
+
+def flatten_lines(rng, maker):
+    """Perhaps rule lines by which circuits are flattened."""
+    lines = []
+    if rng.random() < 0.5:
+        lines.append(b"flatten_unmatched")
+    while rng.random() < 0.25:
+        name = rng.choice(maker.circuits).name if rng.random() < 0.9 else b"NoSuch"
+        layout = rng.random() < 0.5
+        if not layout:
+            name = maker.names.get(name, name)
+        said = {folded(pair[0 if layout else 1]) for pair in maker.same}
+        if fits(name) and (folded(name) not in said or rng.random() < 0.1):
+            side = b"netlist" if layout else b"schematic"
+            name = name.lower() if rng.random() < 0.3 else name
+            lines.append(b'%s.flatten_circuit("%s")' % (side, name))
+    rng.shuffle(lines)
+    return lines
+
+
 def same_lines(pairs):
     """The rule lines for pairs of circuits whose names can stand in quotes."""
-    def fits(name):
-        return all(32 <= b <= 126 and b not in b"\"'" for b in name)
     return [b'same_circuits("%s", "%s")' % pair for pair in pairs
             if fits(pair[0]) and fits(pair[1]) and folded(pair[0])]

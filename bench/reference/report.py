@@ -6,8 +6,12 @@ from names import escape
 SIDES = (b"layout", b"schematic")
 
 
-def report_text(extracted, pairs, answers):
-    """The report; `pairs` and `answers` are None where the top has no partner."""
+def report_text(extracted, pairs, answers, turns=(), over=None):
+    """The report; `pairs` and `answers` are None where the top has no partner.
+
+    `turns` has for each turn its pairs, its answers and the numbers of the pairs that went; `over`
+    is the name of the circuit at which the limit ended the turns.
+    """
     layout = extracted.layout
     top = extracted.circuits[extracted.top].name
     if pairs is None:
@@ -20,10 +24,23 @@ def report_text(extracted, pairs, answers):
         lines.append(b"gate %s %s %d %d %s" % (
             escape(layout.names[cell]), escape(gate.device.device_class),
             gate.least[0], gate.least[1], gate.cause))
+    for earlier, found, went in turns:
+        for number in went:
+            lines += apart_lines(earlier, number, found[number])
+    if over is not None:
+        lines.append(b"apart limit " + escape(over))
     for number in range(len(pairs or ())):
         lines += pair_lines(pairs, number, answers[number])
     lines.append(b"end")
     return b"".join(line + b"\n" for line in lines)
+
+
+def apart_lines(pairs, number, answer):
+    """The lines of one pair that was taken apart: its line, and what shows that it differs."""
+    found = pair_lines(pairs, number, answer)
+    if answer.pairing:
+        found = found[:1]
+    return [b"apart" + found[0][len(b"pair"):]] + found[1:]
 
 
 def pair_lines(pairs, number, answer):

@@ -14,7 +14,8 @@ NUMBER = re.compile(rb"[0-9]{1,7}")
 OPERATORS = {b"&": "and", b"|": "or", b"-": "not", b"^": "xor"}
 WORDS = {b"connect", b"connect_global", b"extract_devices", b"same_circuits", b"max_guesses",
          b"deep", b"netlist", b"align", b"compare", b"schematic", b"input", b"labels",
-         b"polygon_layer", b"output", b"mos4"}
+         b"polygon_layer", b"output", b"mos4", b"flatten_unmatched"}
+PATTERN = frozenset(b"*?[{")
 if features.MERGE:
     WORDS.add(b"combine_devices")
 if features.MORE:
@@ -49,6 +50,8 @@ class Rules:
         self.names, self.forms, self.outputs = [], [], []
         self.connects, self.globals, self.devices, self.same = [], [], [], []
         self.max_guesses = 1000
+        self.flat = (set(), set())
+        self.flatten_unmatched = False
         self.combine = False
         self.lines = {}
 
@@ -243,7 +246,18 @@ class _Reader:
     def _statement(self, tokens):
         word = tokens.name()
         statement = None
-        if word in (b"deep", b"netlist", b"align", b"compare"):
+        if word in (b"netlist", b"schematic") and tokens.peek() == ("mark", b"."):
+            tokens.mark(b".")
+            tokens.word(b"flatten_circuit")
+            tokens.mark(b"(")
+            name = tokens.string()
+            if PATTERN & set(name):
+                raise _NoFit()
+            tokens.mark(b")")
+            statement = ("flatten", 0 if word == b"netlist" else 1, name)
+        elif word == b"flatten_unmatched":
+            statement = ("flatten_unmatched",)
+        elif word in (b"deep", b"netlist", b"align", b"compare"):
             statement = ("nothing",)
         elif features.MERGE and word == b"combine_devices":
             statement = ("combine",)
@@ -360,11 +374,20 @@ class _Reader:
             rules.devices.append(Device(kind, device_class, numbers, line))
         elif word == "same_circuits":
             left, right = folded(statement[1]), folded(statement[2])
-            if left in self.left_names or right in self.right_names:
+            if left in self.left_names | rules.flat[0] or right in self.right_names | rules.flat[1]:
                 raise RuleFault(33, None)
             self.left_names.add(left)
             self.right_names.add(right)
             rules.same.append((left, right))
+        elif word == "flatten":
+            side, name = statement[1], folded(statement[2])
+            if name in rules.flat[side] or name in (self.left_names, self.right_names)[side]:
+                raise RuleFault(33, None)
+            rules.flat[side].add(name)
+        elif word == "flatten_unmatched":
+            if rules.flatten_unmatched:
+                raise RuleFault(33, None)
+            rules.flatten_unmatched = True
         elif word == "guesses":
             rules.max_guesses = statement[1]
         elif word == "combine":

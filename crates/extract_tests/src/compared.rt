@@ -37,7 +37,8 @@ device 1 1
 end
 ";
 
-const THREE: &[Cell] = &[
+/// A transistor two levels down.
+pub const THREE: &[Cell] = &[
     T,
     Cell("MID", &[Placed("T", 0, 0)]),
     Cell("TOP", &[Placed("MID", 0, 0)]),

@@ -28,4 +28,6 @@ mod refused;
 #[cfg(test)]
 mod texts;
 #[cfg(test)]
+mod turns;
+#[cfg(test)]
 mod wired;

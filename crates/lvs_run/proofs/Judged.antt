@@ -2,22 +2,25 @@
 use Rattle.std.proofs.Common.{◌≡◌, inl, inr, ◌↔◌, ℕ, ◌<◌, true, false, true≢false, List, [], ◌∷◌, length, Option, Some, None, IsNone, refl, sym, ap, subst, ◌∙◌, arith}
 use Rattle.std.proofs.lemmas.List.{nil_from_length}
 use Rattle.std.specs.List.{Any}
-use Rattle.cell_graph.specs.Linked.{plain}
+use Rattle.cell_graph.specs.Linked.{Linked, plain}
 use Rattle.deep_tables.specs.declared.gates.BadGate.{BadGate}
 use Rattle.gds_layout.specs.declared.layout.Layout.{Layout}
 use Rattle.gds_layout.specs.Layouts.{IsRead}
 use Rattle.match_laws.specs.Answer.{Answer as PairAnswer, IsDifference}
 use Rattle.match_report.specs.Report.{answers_of}
 use Rattle.match_report.specs.declared.report.Compared.{Compared}
-use Rattle.net_align.specs.Compared.{HasNoPartner}
+use Rattle.net_align.specs.Compared.{AreCalleesFirst, HasNoPartner, IsAlignable}
 use Rattle.netlist_file.specs.Flat.{HasNoBadGate, ShowsFlat, ShowsFlatLaw}
 use Rattle.pair_jobs.specs.Verdict.{IsRunVerdict, IsUndecided, OneRunVerdictLaw}
 use Rattle.pair_jobs.specs.declared.verdict.Verdict.{Verdict as Comparison}
 use Rattle.pair_jobs.specs.declared.verdict.Verdict.TheVariants as comparison
 use Rattle.plain_netlist.specs.Lists.{IsListed}
 use Rattle.plain_netlist.specs.Netlist.{Netlist}
-use Rattle.report_file.specs.File.{IsComparison, IsReportFile, all_answers}
-use Rattle.report_file.specs.Matched.{MatchedReportLaw}
+use Rattle.report_file.specs.Compared.{IsComparison}
+use Rattle.report_file.specs.File.{IsReportFile, all_answers}
+use Rattle.report_file.specs.Exact.{CorrespondNowhere, ExactReportLaw}
+use Rattle.report_file.specs.Matched.{MatchedReportLaw, Matching}
+use Rattle.report_file.specs.Turns.{IsTooLarge}
 use Rattle.refine_match.proofs.ClassCounts.{uneven_class}
 use Rattle.report_file.specs.Verdicts.{CarriedPairLaw, KeptPairLaw, UndecidedLaw, UnevenPairLaw}
 use Rattle.rule_layers.specs.Meaning.{device_rules, wiring_of}
@@ -51,12 +54,12 @@ exactly bad answers v w a one e h = (
 
 -- ---- the top's partner
 
-module _ (layout : Netlist) (top : ℕ) (schematic : Netlist) (r : Rules) where
-  no_partner : (o : Option Compared) → IsComparison layout top schematic r.same r.max_guesses o → IsNone (all_answers o) → HasNoPartner layout schematic top r.same
+module _ (layout : Netlist) (top : ℕ) (schematic : Netlist) (same : List (List ℕ × List ℕ)) (limit : ℕ) where
+  no_partner : (o : Option Compared) → IsComparison layout top schematic same limit o → IsNone (all_answers o) → HasNoPartner layout schematic top same
   no_partner None h none = h
   no_partner (Some f) h none = let no : true ≡ false = none in absurd (true≢false no)
 
-  no_answers : (o : Option Compared) → IsComparison layout top schematic r.same r.max_guesses o → HasNoPartner layout schematic top r.same → IsNone (all_answers o)
+  no_answers : (o : Option Compared) → IsComparison layout top schematic same limit o → HasNoPartner layout schematic top same → IsNone (all_answers o)
   no_answers None h none = refl
   no_answers (Some f) h none = absurd (none h.0.right_top h.0.are.partner)
 
@@ -72,9 +75,18 @@ stuck_of : (o : Option Compared) → OfAnswers o (λ all. (Any IsDifference all 
 stuck_of None h = absurd h
 stuck_of (Some f) h = (f, refl, h)
 
+-- ---- a mismatch
+
+exact_of : ExactReportLaw → (d : Linked) (r : Rules) (unit : ℕ) (layout : Netlist) (top : ℕ) (bad : List BadGate) (schematic : Netlist) (text : List ℕ) (pairs : ℕ) → IsAlignable layout → AreCalleesFirst layout → (v : Comparison) → v ≡ comparison.Mismatch
+    → (x : IsReportFile d r layout top bad schematic text pairs v) → r.flattens_unmatched ≡ true → bad ≡ [] → (f : Compared) → x.compared ≡ Some f → ((lines : List ℕ) → IsTooLarge r f lines → ⊥)
+    → (m : Matching d r unit layout top schematic f) → CorrespondNowhere d r unit layout top schematic f m
+exact_of law d r unit layout top bad schematic text pairs fine first comparison.Mismatch e x on none f is small m = law d r unit layout top bad schematic text pairs fine first x on none f is small m
+exact_of law d r unit layout top bad schematic text pairs fine first comparison.Match e x on none f is small m = absurd (let z : ⊥ = cc in z)
+exact_of law d r unit layout top bad schematic text pairs fine first comparison.Undecided e x on none f is small m = absurd (let z : ⊥ = cc in z)
+
 -- ---- what was compared
 
-module _ (one : OneRunVerdictLaw) (uneven : UnevenPairLaw) (carried : CarriedPairLaw) (kept : KeptPairLaw) (undecided : UndecidedLaw) (l : Layout) (r : Rules) (nl : Netlist) (path netlist_path report_path : List ℕ) (a : Answer) (done : Done)
+module _ (one : OneRunVerdictLaw) (uneven : UnevenPairLaw) (carried : CarriedPairLaw) (kept : KeptPairLaw) (undecided : UndecidedLaw) (exact : ExactReportLaw) (l : Layout) (r : Rules) (nl : Netlist) (path netlist_path report_path : List ℕ) (a : Answer) (done : Done)
     (h : IsCompared l r nl path netlist_path report_path a done) (flat : ShowsFlat l r h.spelled h.netlist h.top h.bad) where
   come_to : (w : Comparison) → (a ≡ comparison_answer w) ↔ IsRunVerdict (length h.bad) (all_answers h.report_file.compared) w
   come_to w = exactly (length h.bad) (all_answers h.report_file.compared) h.verdict w a one h.answer h.report_file.outcome
@@ -101,14 +113,14 @@ module _ (one : OneRunVerdictLaw) (uneven : UnevenPairLaw) (carried : CarriedPai
       (λ e.
           elim ((come_to comparison.Mismatch).0 e) [
             | inl some ↦ inl (one_bad l r h.spelled h.netlist h.top h.bad flat some)
-            | inr (inl none) ↦ inr (inl (no_partner h.netlist h.top nl r h.report_file.compared h.report_file.comparison none))
+            | inr (inl none) ↦ inr (inl (no_partner h.netlist h.top nl h.report_file.same r.max_guesses h.report_file.compared h.report_file.comparison none))
             | inr (inr any) ↦ inr (inr any)
           ]),
       (λ cause.
           (come_to comparison.Mismatch).1 (
           elim cause [
             | inl gate ↦ inl (some_length l r h.spelled h.netlist h.top h.bad flat gate)
-            | inr (inl none) ↦ inr (inl (no_answers h.netlist h.top nl r h.report_file.compared h.report_file.comparison none))
+            | inr (inl none) ↦ inr (inl (no_answers h.netlist h.top nl h.report_file.same r.max_guesses h.report_file.compared h.report_file.comparison none))
             | inr (inr any) ↦ inr (inr any)
           ]
           )),
@@ -125,6 +137,9 @@ module _ (one : OneRunVerdictLaw) (uneven : UnevenPairLaw) (carried : CarriedPai
         carried l.design r h.netlist h.top h.bad nl h.report h.pairs h.verdict h.comparable.layout h.comparable.order h.report_file f k c d p map is pair answer;
     kept = λ f k c d p is pair map corresponds differs.
         kept l.design r h.netlist h.top h.bad nl h.report h.pairs h.verdict h.comparable.layout h.comparable.order h.report_file f k c d p map is pair corresponds differs;
+    exact = λ e on none f is small m.
+        exact_of exact l.design r l.header.unit_pm h.netlist h.top h.bad nl h.report h.pairs h.comparable.layout h.comparable.order h.verdict (same_verdict h.verdict comparison.Mismatch (sym h.answer ∙ e)) h.report_file on
+        (nil_from_length h.bad (no_length l r h.spelled h.netlist h.top h.bad flat none)) f is small m;
   }
 
 -- what a netlist's file shows
@@ -132,9 +147,9 @@ shows_in : {l : Layout} {r : Rules} {nl : Netlist} {path netlist report : List �
     → (h : IsCompared l r nl path netlist report a done) → ShowsFlat l r h.spelled h.netlist h.top h.bad
 shows_in {l} {r} shows bytes name read h = shows bytes name l r h.netlist h.top h.bad h.spelled read h.comparable.rules h.netlist_file
 
-pub verdicts_law : ShowsFlatLaw → OneRunVerdictLaw → UnevenPairLaw → CarriedPairLaw → KeptPairLaw → UndecidedLaw → VerdictsLaw
-verdicts_law shows one uneven carried kept undecided bytes name l r nl path netlist report a done read h =
-    has_verdicts one uneven carried kept undecided l r nl path netlist report a done h (shows_in shows bytes name read h)
+pub verdicts_law : ShowsFlatLaw → OneRunVerdictLaw → UnevenPairLaw → CarriedPairLaw → KeptPairLaw → UndecidedLaw → ExactReportLaw → VerdictsLaw
+verdicts_law shows one uneven carried kept undecided exact bytes name l r nl path netlist report a done read h =
+    has_verdicts one uneven carried kept undecided exact l r nl path netlist report a done h (shows_in shows bytes name read h)
 
 pub match_law : ShowsFlatLaw → MatchedReportLaw → MatchLaw
 match_law shows matched bytes name l r nl path netlist report a done read h good =

@@ -35,17 +35,20 @@ same_lines d e (x ∷ xs) same =
     (same_name d.cells e.cells x.cell same)
     ∙ ap (λ (ls : List ℕ). gate_line e x ++ ls) (same_lines d e xs same)
 
-same_report : (d e : Linked) (top : List ℕ) (bad : List BadGate) (c : Option Compared) → map contents d.cells ≡ map contents e.cells → report d top bad c ≡ report e top bad c
-same_report d e top bad c same =
-    ap (λ (g : List ℕ). codes "lvs report 1\ntop" ++ (name_word top ++ (partner_word top c ++ (codes "\nbad" ++ (number_word (length bad) ++ (10 ∷ (g ++ (blocks c ++ codes "end\n"))))))))
+same_report : (d e : Linked) (top : List ℕ) (bad : List BadGate) (lines : List ℕ) (c : Option Compared) → map contents d.cells ≡ map contents e.cells → report d top bad lines c ≡ report e top bad lines c
+same_report d e top bad lines c same =
+    ap (λ (g : List ℕ). codes "lvs report 1\ntop" ++ (name_word top ++ (partner_word top c ++ (codes "\nbad" ++ (number_word (length bad) ++ (10 ∷ (g ++ (lines ++ (blocks c ++ codes "end\n")))))))))
     (same_lines d e bad same)
 
 of_design : (d e : Linked) (r : Rules) (nl : Netlist) (top : ℕ) (bad : List BadGate) (schematic : Netlist) (text : List ℕ) (count : ℕ) (v : Verdict)
     → map contents d.cells ≡ map contents e.cells → IsReportFile e r nl top bad schematic text count v → IsReportFile d r nl top bad schematic text count v
 of_design d e r nl top bad schematic text count v same h = record {
+  same = h.same;
   compared = h.compared;
+  lines = h.lines;
+  turns = h.turns;
   comparison = h.comparison;
-  written = h.written ∙ sym (same_report d e (pairs.name_of (slice_get nl.circuits top)) bad h.compared same);
+  written = h.written ∙ sym (same_report d e (pairs.name_of (slice_get nl.circuits top)) bad h.lines h.compared same);
   pair_total = h.pair_total;
   outcome = h.outcome;
 }

@@ -1,6 +1,6 @@
 -- What the answer of a comparison says of the flat layout, the schematic, and the pairs in the
 -- written report, where the files are told.
-use Rattle.std.specs.Prelude.{◌≡◌, ◌⊎◌, ◌↔◌, ℕ, List, Option, Some, IsSomeAnd}
+use Rattle.std.specs.Prelude.{◌≡◌, ◌⊎◌, ◌↔◌, ℕ, true, List, Option, Some, IsSomeAnd}
 use Rattle.std.specs.List.{All, Any}
 use Rattle.lvs_outside.specs.Store.{Store, Told, Holds}
 use Rattle.lvs_files.specs.Files.{File}
@@ -20,7 +20,9 @@ use Rattle.pair_jobs.specs.declared.verdict.Verdict.{Verdict}
 use Rattle.plain_netlist.specs.Netlist.{Circuit, Netlist}
 use Rattle.refine_match.specs.Matching.{HaveUnevenClass, HaveUnevenDevices}
 use Rattle.report_file.specs.File.{IsReportFile, all_answers}
-use Rattle.report_file.specs.Matched.{MatchesFlat}
+use Rattle.report_file.specs.Exact.{CorrespondNowhere}
+use Rattle.report_file.specs.Matched.{Matching, MatchesFlat}
+use Rattle.report_file.specs.Turns.{IsTooLarge}
 use Rattle.report_file.specs.Verdicts.{IsComparedPair}
 use Rattle.rule_layers.specs.Meaning.{device_rules, wiring_of}
 use Rattle.rule_text.specs.Rules.{Rules}
@@ -61,13 +63,16 @@ OfEachPair compared P = (f : Compared) (k : ℕ) (c d : Circuit) (p : Pair) → 
 -- ran out. A pair whose circuits have unequal numbers of devices of some class, or of some class
 -- and sizes, makes Bad, whatever the pairs below it are. Whatever the answer is, a pair reported as
 -- matched carries a correspondence which keeps the pins of the pairs below, and a pair that has
--- such a correspondence is never reported as different.
+-- such a correspondence is never reported as different. Where the rules say `flatten_unmatched`, no
+-- gate is bad, the top has a partner and nothing became too large, Bad says that the flat layout
+-- corresponds to the schematic, flattened from that partner, in no way.
 pub record HasVerdicts (a : Answer) (l : Layout) (r : Rules) (schematic : Netlist)
     (netlist_text report_text : List ℕ) : Type 0 where
   pub report : IsReportOf l r schematic a netlist_text report_text
   pub good : (a ≡ Good) ↔ (HasNoBadGate (plain l.design) (wiring_of r) (device_rules r)
       × OfAnswers report.file.compared (λ all. All IsMatch all))
-  pub bad : (a ≡ Bad) ↔ (HasBadGate l r ⊎ (HasNoPartner report.netlist schematic report.top r.same
+  pub bad : (a ≡ Bad) ↔ (HasBadGate l r
+      ⊎ (HasNoPartner report.netlist schematic report.top report.file.same
       ⊎ OfAnswers report.file.compared (λ all. Any IsDifference all)))
   pub undecided : (a ≡ Undecided) ↔ (HasNoBadGate (plain l.design) (wiring_of r) (device_rules r)
       × OfAnswers report.file.compared (λ all. (Any IsDifference all → ⊥) × Any IsUndecided all))
@@ -77,6 +82,11 @@ pub record HasVerdicts (a : Answer) (l : Layout) (r : Rules) (schematic : Netlis
       (λ p answer. (map : Pairing) → answer ≡ Match map → IsCorrespondence p map)
   pub kept : OfEachPair report.file.compared
       (λ p answer. (map : Pairing) → IsCorrespondence p map → IsDifference answer → ⊥)
+  pub exact : a ≡ Bad → r.flattens_unmatched ≡ true
+      → HasNoBadGate (plain l.design) (wiring_of r) (device_rules r) → (f : Compared)
+      → report.file.compared ≡ Some f → ((lines : List ℕ) → IsTooLarge r f lines → ⊥)
+      → (m : Matching l.design r l.header.unit_pm report.netlist report.top schematic f)
+      → CorrespondNowhere l.design r l.header.unit_pm report.netlist report.top schematic f m
 
 -- No gate of the flat layout is bad, and the pairs of this report compose to a one-to-one
 -- correspondence of its good gates and regions with the devices and nets of the schematic,

@@ -217,7 +217,8 @@ pub fn run_lvs<R: Threads + Wait + Sync, D: Depot, S: Sink, G: Gate + Sync>(
     // the report say so; unequal numbers of devices of a class, or of a class and sizes, in a pair
     // make Bad. Whatever the answer is, a pair reported as matched carries a correspondence which
     // keeps the pins of the pairs below, and one that has such a correspondence is never reported
-    // as different.
+    // as different. With `flatten_unmatched`, no bad gate and nothing too large, Bad says that the
+    // flat layout corresponds to the schematic, flattened from the top's partner, in no way.
     ensures verdicts { WritesVerdicts (said (map string_bytes words.now)) (D.state depot.old)
         (D.state depot.new) (answer_of result) }
     // The netlist's file means, expanded, the netlist of the flat layout. `extract` is Bad exactly

@@ -8,7 +8,7 @@ use Rattle.net_model.specs.Rows.{plain_netlist}
 use Rattle.pair_jobs.specs.Answers.{AreAllAnswers}
 use Rattle.plain_netlist.specs.Netlist.{Circuit, Netlist}
 use Rattle.plain_netlist.specs.Sound.{IsGood}
-use Rattle.report_file.specs.File.{IsComparison}
+use Rattle.report_file.specs.Compared.{IsComparison}
 
 -- for numbers past the last circuit
 abbrev pub no_circuit : Circuit

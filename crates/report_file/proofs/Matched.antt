@@ -17,7 +17,8 @@ use Rattle.pair_jobs.specs.declared.verdict.Verdict.TheVariants as verdict
 use Rattle.plain_netlist.proofs.Alike.{reversed, through}
 use Rattle.plain_netlist.specs.Flats.{expanded, Reversed}
 use Rattle.plain_netlist.specs.Netlist.{Netlist}
-use Rattle.report_file.specs.File.{IsComparison, all_answers}
+use Rattle.report_file.specs.Compared.{IsComparison}
+use Rattle.report_file.specs.File.{all_answers}
 use Rattle.report_file.specs.Matched.{MatchedReportLaw, MatchesFlat}
 use Rattle.rule_layers.specs.Meaning.{device_rules, wiring_of}
 use Rattle.rule_text.specs.Rules.{Rules}
@@ -25,9 +26,9 @@ use Rattle.rule_text.specs.Rules.{Rules}
 module _ (flat : FlatCorrespondsLaw) (tops : MatchedTopsLaw) (d : Linked) (r : Rules) (unit : ℕ) (t : Tables) (g : CircuitTables) (level : ℕ → ℕ) (layout : Netlist) (top : ℕ) (bad : List BadGate) (schematic : Netlist)
     (right : AreTablesRight (plain d) (wiring_of r) t g layout (device_rules r) unit level) (top_is : IsCircuitCell g.cells top (plain d).top) where
   -- of what was compared
-  matched : (o : Option Compared) → IsComparison layout top schematic r.same r.max_guesses o → IsRunVerdict (length bad) (all_answers o) verdict.Match → MatchesFlat d r unit layout top bad schematic o
-  matched None c h = absurd h.1
-  matched (Some f) c h =
+  matched : (same : List (List ℕ × List ℕ)) (o : Option Compared) → IsComparison layout top schematic same r.max_guesses o → IsRunVerdict (length bad) (all_answers o) verdict.Match → MatchesFlat d r unit layout top bad schematic o
+  matched same None c h = absurd h.1
+  matched same (Some f) c h =
       let w = wiring_of r in
       let rules = device_rules r in
       let a = c.0 in
@@ -45,6 +46,7 @@ module _ (flat : FlatCorrespondsLaw) (tops : MatchedTopsLaw) (d : Linked) (r : R
           level = level;
           are_right = right;
           top_is = top_is;
+          same = same;
           partner = a.right_top;
           left_by = a.left_by;
           right_by = a.right_by;
@@ -54,9 +56,9 @@ module _ (flat : FlatCorrespondsLaw) (tops : MatchedTopsLaw) (d : Linked) (r : R
             (AreDevicesMatched layout (plain_netlist f.left) (plain_netlist f.right) schematic a.left_by a.right_by p.left_aligned p.right_aligned (pairings_of (answers_of f)) top a.right_top)
             (AreNetsMatched layout (plain_netlist f.left) (plain_netlist f.right) schematic a.left_by a.right_by p.left_aligned p.right_aligned (pairings_of (answers_of f)) top a.right_top)
             (reversed E F (IsFlatGateOf (plain d) w g layout top rules) (IsFlatRegionOf (plain d) w t g layout top) (flat (plain d) w t g layout rules unit level right top top_is))
-            (tops layout schematic top a.right_top r.same (plain_netlist f.left) (plain_netlist f.right) a.left_by a.right_by p r.max_guesses (answers_of f) c.1 h.1);
+            (tops layout schematic top a.right_top same (plain_netlist f.left) (plain_netlist f.right) a.left_by a.right_by p r.max_guesses (answers_of f) c.1 h.1);
       }
 
 pub matched_report : FlatCorrespondsLaw → MatchedTopsLaw → MatchedReportLaw
 matched_report flat tops d r unit t g level layout top bad schematic text pairs right top_is x =
-    matched flat tops d r unit t g level layout top bad schematic right top_is x.compared x.comparison x.outcome
+    matched flat tops d r unit t g level layout top bad schematic right top_is x.same x.compared x.comparison x.outcome

@@ -7,9 +7,6 @@ use Rattle.std.proofs.lemmas.Slice.Eq.{bytes_eq-Decides}
 use Rattle.std.specs.List.{position_or_len}
 use Rattle.std.specs.Str.{bytes_eq}
 use Rattle.align_laws.proofs.Soundness.{names_apart}
-use Rattle.align_laws.specs.Aligned.{IsAligned}
-use Rattle.align_laws.specs.Cut.{Alignment}
-use Rattle.align_laws.specs.Lists.{FlatCircuit, circuit_or}
 use Rattle.align_laws.specs.Partners.{IsPair}
 use Rattle.match_report.specs.Pairs.{name_of}
 use Rattle.match_report.specs.Report.{partner_word}
@@ -18,28 +15,8 @@ use Rattle.match_report.specs.declared.report.Compared.{Compared}
 use Rattle.net_model.specs.Rows.{plain_netlist}
 use Rattle.plain_netlist.specs.Netlist.{Circuit, Netlist, IsCircuit}
 use Rattle.report_file.proofs.Compared.{found, no_circuit}
+use Rattle.report_file.proofs.Kept.{kept_as}
 use Rattle.report_file.specs.Named.{TopPartnerLaw}
-
--- a circuit and what it is aligned to
-record IsKeptAs (g o : Netlist) (c k : ℕ) : Type 0 where
-  given : Circuit
-  made : Circuit
-  is : IsCircuit g c given
-  becomes : IsCircuit o k made
-  name : made.name ≡ given.name
-
-kept_as : (g o : Netlist) (w : Alignment) → IsAligned g o w → (c : ℕ) → w.kept c ≡ true → IsKeptAs g o c (w.number c)
-kept_as g o w a c kept =
-    let flat = a.by.cut_down.given c kept in
-    let y = a.by.flattened.back c flat.0 flat.1 in
-    let there = a.by.flattened.there c y.0 y.1 in
-    record {
-      given = y.0;
-      made = _;
-      is = y.1;
-      becomes = a.by.cut_down.there c kept;
-      name = ap (λ (z : Option Circuit). (circuit_or z).name) there ∙ ap (λ (z : FlatCircuit). z.name) (a.by.flattened.each c y.0 y.1);
-    }
 
 -- the first circuit of a name, where no other has it
 place_of : (nl : Netlist) (n : ℕ) (c : Circuit) → IsCircuit nl n c → ((k : ℕ) (x : Circuit) → IsCircuit nl k x → x.name ≡ c.name → k ≡ n)
@@ -63,11 +40,11 @@ place_of nl n c is one =
 
 pub top_partner : TopPartnerLaw
 top_partner d r layout top bad schematic text pairs v sound x f e =
-    let a = (found layout top schematic r.same r.max_guesses x.compared f e x.comparison).0 in
+    let a = (found layout top schematic x.same r.max_guesses x.compared f e x.comparison).0 in
     let p = a.are in
     let left = plain_netlist f.left in
     let right = plain_netlist f.right in
-    let pair : IsPair layout schematic top r.same a.right_top top a.right_top = record {
+    let pair : IsPair layout schematic top x.same a.right_top top a.right_top = record {
       tops = p.partner;
       partner = p.partner;
       called = ([], refl);

@@ -31,7 +31,7 @@ pub uneven_pair : OneRunVerdictLaw → UnevenDevicesLaw → UnevenPairLaw
 uneven_pair one uneven d r layout top bad schematic text pairs v x f k a b p e is differ =
     let answers = answers_of f in
     let left = plain_netlist f.left in
-    let c = found layout top schematic r.same r.max_guesses x.compared f e x.comparison in
+    let c = found layout top schematic x.same r.max_guesses x.compared f e x.comparison in
     let within = slice_get_within left.circuits k a is.left in
     let count = c.1.count in
     let lt : k < length answers = omega (arith, within, count) in
@@ -43,8 +43,8 @@ pub carried_pair : AlignedSidesLaw → LeftOrderLaw → pairs.CarriedPairLaw →
 carried_pair sides order carried d r layout top bad schematic text pairs v fine first x f k a b p m e is matches =
     let left = plain_netlist f.left in
     let right = plain_netlist f.right in
-    let c = found layout top schematic r.same r.max_guesses x.compared f e x.comparison in
-    let o = ordered sides order layout schematic top r.same left right fine first c.0 in
+    let c = found layout top schematic x.same r.max_guesses x.compared f e x.comparison in
+    let o = ordered sides order layout schematic top x.same left right fine first c.0 in
     subst (λ (q : Pair). IsCorrespondence q m) (sym is.pair_is) (carried left right r.max_guesses (answers_of f) o.sides o.good c.1 k a b m is.left is.right matches)
 
 pub kept_pair : AlignedSidesLaw → LeftOrderLaw → pairs.KeptPairLaw → KeptPairLaw
@@ -52,8 +52,8 @@ kept_pair sides order kept d r layout top bad schematic text pairs v fine first 
     let answers = answers_of f in
     let left = plain_netlist f.left in
     let right = plain_netlist f.right in
-    let c = found layout top schematic r.same r.max_guesses x.compared f e x.comparison in
-    let o = ordered sides order layout schematic top r.same left right fine first c.0 in
+    let c = found layout top schematic x.same r.max_guesses x.compared f e x.comparison in
+    let o = ordered sides order layout schematic top x.same left right fine first c.0 in
     kept left right r.max_guesses answers o.sides o.good c.1 k a b m is.left is.right (subst (λ (q : Pair). IsCorrespondence q m) is.pair_is corresponds)
 
 -- an undecided comparison has sides
@@ -76,6 +76,6 @@ undecided sides order one law d r layout top bad schematic text pairs v fine fir
     settled f e =
         let left = plain_netlist f.left in
         let right = plain_netlist f.right in
-        let c = found layout top schematic r.same r.max_guesses x.compared f e x.comparison in
-        let o = ordered sides order layout schematic top r.same left right fine first c.0 in
+        let c = found layout top schematic x.same r.max_guesses x.compared f e x.comparison in
+        let o = ordered sides order layout schematic top x.same left right fine first c.0 in
         law left right r.max_guesses (answers_of f) o.sides o.good c.1

@@ -1,6 +1,11 @@
 pub mod Alignable
+pub mod Compared
+pub mod Exact
 pub mod File
+pub mod Helps
 pub mod Matched
 pub mod Named
 pub mod One
+pub mod Taken
+pub mod Turns
 pub mod Verdicts

@@ -24,8 +24,9 @@ use Rattle.rule_layers.specs.Meaning.{device_rules, wiring_of}
 use Rattle.rule_text.specs.Rules.{Rules}
 
 -- What joins the flat layout with the flattened schematic: the right tables of the layout's cells,
--- whose circuits are the layout's netlist with the top's as number top; the top's partner in the
--- schematic; and the aligned pair of the two netlists, whose pairs were compared.
+-- whose circuits are the layout's netlist with the top's as number top; the lines by which circuits
+-- are partners or have none; the top's partner in the schematic; and the aligned pair of the two
+-- netlists, whose pairs were compared.
 pub record Matching (d : Linked) (r : Rules) (unit : ℕ) (layout : Netlist) (top : ℕ)
     (schematic : Netlist) (f : Compared) : Type 0 where
   pub tables : Tables
@@ -34,10 +35,11 @@ pub record Matching (d : Linked) (r : Rules) (unit : ℕ) (layout : Netlist) (to
   pub are_right : AreTablesRight (plain d) (wiring_of r) tables circuits layout (device_rules r)
       unit level
   pub top_is : IsCircuitCell circuits.cells top (plain d).top
+  pub same : List (List ℕ × List ℕ)
   pub partner : ℕ
   pub left_by : Alignment
   pub right_by : Alignment
-  pub aligned : IsAlignedPair layout schematic top partner r.same (plain_netlist f.left)
+  pub aligned : IsAlignedPair layout schematic top partner same (plain_netlist f.left)
       (plain_netlist f.right) left_by right_by
 
 module _ {d : Linked} {r : Rules} {unit : ℕ} {layout : Netlist} {top : ℕ} {schematic : Netlist}

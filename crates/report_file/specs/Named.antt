@@ -18,6 +18,6 @@ abbrev pub TopPartnerLaw : Type 0
 TopPartnerLaw = (d : Linked) (r : Rules) (layout : Netlist) (top : ℕ) (bad : List BadGate)
     (schematic : Netlist) (text : List ℕ) (pairs : ℕ) (v : Verdict) → IsSoundNetlist layout
     → (x : IsReportFile d r layout top bad schematic text pairs v) → (f : Compared)
-    → x.compared ≡ Some f → (b : ℕ) × (c : Circuit) × IsPartner layout schematic top r.same top b
+    → x.compared ≡ Some f → (b : ℕ) × (c : Circuit) × IsPartner layout schematic top x.same top b
     × IsCircuit schematic b c
     × (partner_word (name_of (slice_get layout.circuits top)) x.compared ≡ name_word c.name)

@@ -1,22 +1,19 @@
 //! The report of a comparison, complete in memory.
-ghost use Rattle.std.specs.Prelude.{◌≡◌, ◌<◌, ◌≤◌, ◌^◌, IfOk, OnErr, length, slice_get};
+ghost use Rattle.std.specs.Prelude.{◌≡◌, ◌<◌, ◌≤◌, ◌^◌, IfOk, OnErr, length};
 ghost use Rattle.std.specs.List.{All};
-ghost use Rattle.match_report.specs.Pairs.{name_of};
 ghost use Rattle.match_report.specs.Report.{report};
 ghost use Rattle.net_align.specs.Compared.{AreCalleesFirst, IsAlignable};
-ghost use Rattle.net_align.specs.Names.{left_names, right_names};
 ghost use Rattle.net_model.specs.Rows.{plain_netlist};
 ghost use Rattle.pair_jobs.specs.Verdict.{IsRunVerdict};
-ghost use Rattle.plain_netlist.specs.Lists.{AreApart};
-ghost use Rattle.report_file.specs.File.{IsComparison, IsReportFile, all_answers, pair_count};
+ghost use Rattle.report_file.specs.File.{IsReportFile, all_answers, pair_count};
 ghost use Rattle.rule_text.specs.Seen.{rules_seen};
 ghost use Rattle.rule_text.specs.Sound.{IsSound};
 
+use crate::turns::{Turns, circuit_name, compare_in_turns};
 use cell_graph::Design;
 use deep_tables::BadGate;
 use job_board::Gate;
 use list_base::number;
-use match_flow::{Comparison, compare};
 use match_report::{Compared, report_text};
 use net_model::Netlist;
 use net_names::Name;
@@ -33,54 +30,6 @@ pub struct Report {
     pub text: Vec<u8>,
     pub pairs: u32,
     pub verdict: Verdict,
-}
-
-// The name of the top's circuit.
-fn top_name(layout: &Netlist, top: u32) -> &Name
-    requires { top < length layout.now.circuits.items }
-    ensures { result.now ≡ name_of (slice_get (plain_netlist layout.now).circuits top) }
-{
-    &layout.circuits[top as usize].name
-}
-
-// Layout and schematic compared, in the form that a report has.
-fn compare_netlists<R: Threads + Wait + Sync, G: Gate + Sync>(
-    rt: &R,
-    alloc: Global,
-    layout: &Netlist,
-    top: u32,
-    schematic: &Netlist,
-    same: &[(Name, Name)],
-    limit: u32,
-    workers: usize,
-    gate: &G,
-) -> Result<Option<Compared>, AllocError>
-    requires layout { IsAlignable (plain_netlist layout.now) }
-    requires schematic { IsAlignable (plain_netlist schematic.now) }
-    requires order { AreCalleesFirst (plain_netlist layout.now) }
-    requires top { top < length layout.now.circuits.items }
-    requires lefts { AreApart (left_names same.now) }
-    requires rights { AreApart (right_names same.now) }
-    requires workers { (1 ≤ workers) × (workers ≤ 64) }
-    ensures { IfOk result (IsComparison (plain_netlist layout.now) top (plain_netlist schematic.now)
-        same.now limit) }
-{
-    let Some(found) = compare(
-        rt, alloc, layout, top, schematic, same, limit, workers, gate,
-    )?
-    else {
-        return Ok(None);
-    };
-    let Comparison {
-        left,
-        right,
-        answers,
-    } = found;
-    Ok(Some(Compared {
-        left,
-        right,
-        answers,
-    }))
 }
 
 // How many pairs there are. It takes no memory.
@@ -110,18 +59,19 @@ fn write_report(
     design: &Design,
     top: &Name,
     bad: &[BadGate],
-    compared: &Option<Compared>,
+    turns: &Turns,
 ) -> Result<Report, AllocError>
     requires cells { All (λ x. x.cell < length design.now.cells) bad.now }
     ensures text { IfOk result (λ x. x.text.items
-        ≡ report design.now top.now bad.now compared.now) }
-    ensures pairs { IfOk result (λ x. x.pairs ≡ pair_count compared.now) }
-    ensures verdict { IfOk result (λ x. IsRunVerdict (length bad.now) (all_answers compared.now)
-        x.verdict) }
+        ≡ report design.now top.now bad.now turns.now.lines.items turns.now.compared) }
+    ensures pairs { IfOk result (λ x. x.pairs ≡ pair_count turns.now.compared) }
+    ensures verdict { IfOk result (λ x. IsRunVerdict (length bad.now)
+        (all_answers turns.now.compared) x.verdict) }
 {
+    let Turns { lines, compared } = turns;
     let pairs = count_pairs(compared)?;
     let verdict = judge_compared(bad.len(), compared)?;
-    let text = report_text(alloc, top, bad, design, compared)?;
+    let text = report_text(alloc, top, bad, design, lines, compared)?;
     Ok(Report {
         text,
         pairs,
@@ -158,10 +108,8 @@ pub fn report_file<R: Threads + Wait + Sync, G: Gate + Sync>(
         (plain_netlist netlist.now) top bad.now (plain_netlist schematic.now) x.text.items x.pairs
         x.verdict) }
 {
-    let (same, limit) = (&rules.same, rules.max_guesses);
-    let compared = compare_netlists(
-        rt, alloc, netlist, top, schematic, same, limit, workers, gate,
-    )?;
-    let report = write_report(alloc, design, top_name(netlist, top), bad, &compared)?;
+    let turns = compare_in_turns(rt, alloc, rules, netlist, top, schematic, workers, gate)?;
+    let name = circuit_name(netlist, top as usize);
+    let report = write_report(alloc, design, name, bad, &turns)?;
     Ok(report)
 }

@@ -4,7 +4,10 @@
 mod alignable;
 mod file;
 mod laws;
+mod turns;
 
 pub use alignable::{extracted_alignable, read_alignable};
 pub use file::{Report, report_file};
-pub use laws::{matched_report, one_report, report_verdicts, top_partner};
+pub use laws::{
+    exact_report, matched_report, one_report, report_verdicts, same_match, top_partner,
+};

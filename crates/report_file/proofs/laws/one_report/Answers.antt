@@ -10,4 +10,7 @@ returns c = lemma.one_report
       order = c.pairs.ensures.order;
       together = c.answers.ensures.together;
       one_answer = c.answers.ensures.one;
+      longest = c.alone_lines.ensures.longest;
+      lines = c.alone_lines.ensures.apart;
+      alone = c.alone_lines.ensures.alone;
     }) c.verdicts.ensures.one_run

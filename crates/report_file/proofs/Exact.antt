@@ -1,0 +1,131 @@
+-- A mismatch without a flat correspondence.
+use Rattle.std.proofs.Common.{◌≡◌, ◌⊎◌, inl, inr, ℕ, ◌<◌, Bool, true, false, List, [], ◌∷◌, length, Option, Some, None, slice_get, refl, sym, ap, subst, ◌∙◌, arith, true≢false}
+use Rattle.std.specs.List.{Any}
+use Rattle.std.proofs.lemmas.Option.{slice_get-get_or, get_or_from_slice_get}
+use Rattle.align_laws.proofs.Kept.{aligned_corresponds}
+use Rattle.align_laws.specs.Aligned.{IsDeviceAligned, IsNetAligned}
+use Rattle.align_laws.specs.Partners.{AlignedSidesLaw, LeftOrderLaw}
+use Rattle.cell_graph.specs.Linked.{Linked, plain}
+use Rattle.composed_laws.specs.Answered.{pair_in}
+use Rattle.deep_tables.specs.declared.gates.BadGate.{BadGate}
+use Rattle.flat_layout.specs.GateTables.{GateSquare}
+use Rattle.flat_layout.specs.Regions.{Node}
+use Rattle.headline_laws.specs.FlatNetlist.{flat_netlist, FlatCorrespondsLaw, IsFlatGateOf, IsFlatRegionOf}
+use Rattle.match_laws.specs.Answer.{Answer, IsDifference, Skipped}
+use Rattle.match_report.specs.Report.{answers_of}
+use Rattle.match_report.specs.declared.report.Compared.{Compared}
+use Rattle.net_align.specs.Compared.{AreCalleesFirst, IsAlignable}
+use Rattle.net_model.specs.Rows.{plain_netlist}
+use Rattle.pair_jobs.specs.Answers.{KeptPairLaw, answer_at}
+use Rattle.pair_jobs.specs.Verdict.{IsRunVerdict}
+use Rattle.pair_jobs.specs.declared.verdict.Verdict.TheVariants as verdict
+use Rattle.pair_turns.specs.Alone.{Names, with_gone}
+use Rattle.plain_netlist.proofs.Alike.{reversed, through}
+use Rattle.plain_netlist.proofs.Members.{item_at}
+use Rattle.plain_netlist.specs.FlatLaws.{Passes}
+use Rattle.plain_netlist.specs.Flats.{Corresponds, Flat, expanded, Reversed, Through}
+use Rattle.plain_netlist.specs.Netlist.{Netlist, Slot}
+use Rattle.report_file.proofs.Compared.{found, ordered}
+use Rattle.report_file.proofs.LastPair.{last_is_top, leaf_of, partner_kept, top_kept, tops}
+use Rattle.report_file.proofs.LeafMade.{made_leaf}
+use Rattle.report_file.proofs.LeafPair.{leaf_pair}
+use Rattle.report_file.specs.Exact.{ExactReportLaw}
+use Rattle.report_file.specs.File.{IsReportFile, all_answers}
+use Rattle.report_file.specs.Matched.{Matching}
+use Rattle.report_file.specs.Turns.{AreTurns, EndsAfter, EndsWith, IsTooLarge, NoneGoes}
+use Rattle.rule_layers.specs.Meaning.{device_rules, wiring_of}
+use Rattle.rule_text.specs.Rules.{Rules}
+
+-- how the turns end
+ends_of : (r : Rules) (layout : Netlist) (top : ℕ) (schematic : Netlist) (most : ℕ) (past : List Compared) (alone : Names) (same : List (List ℕ × List ℕ)) (o : Option Compared) (lines : List ℕ)
+    → AreTurns r layout top schematic most alone past same o lines → (last : List ℕ) × EndsAfter r o last
+ends_of r layout top schematic most [] alone same o lines h = (lines, h.1)
+ends_of r layout top schematic most (f ∷ more) alone same o lines h =
+    ends_of r layout top schematic most more (with_gone alone (plain_netlist f.left) (plain_netlist f.right) h.0) same o h.2 h.6
+
+-- no pair goes, where they may and nothing is too large
+none_goes : (r : Rules) (f : Compared) (lines : List ℕ) → EndsWith r f lines → r.flattens_unmatched ≡ true → (IsTooLarge r f lines → ⊥) → NoneGoes f
+none_goes r f lines (inl (inl off, e)) on small = absurd (true≢false (sym on ∙ off))
+none_goes r f lines (inl (inr n, e)) on small = n
+none_goes r f lines (inr h) on small = absurd (small h)
+
+-- some pair differs
+some_differs : (bad : List BadGate) (answers : List Answer) → bad ≡ [] → IsRunVerdict (length bad) (Some answers) verdict.Mismatch → Any IsDifference answers
+some_differs bad answers e (inl h) = absurd (let z = ap (λ (bs : List BadGate). length bs) e in omega (arith, z, h))
+some_differs bad answers e (inr (inl h)) = absurd (let z : true ≡ false = h in true≢false z)
+some_differs bad answers e (inr (inr h)) = h
+
+module _ (flat : FlatCorrespondsLaw) (sides : AlignedSidesLaw) (order : LeftOrderLaw) (kept : KeptPairLaw) (d : Linked) (r : Rules) (unit : ℕ) (layout : Netlist) (top : ℕ) (bad : List BadGate) (schematic : Netlist)
+    (fine : IsAlignable layout) (first : AreCalleesFirst layout) (f : Compared) (m : Matching d r unit layout top schematic f) (device : GateSquare → Slot → Bool) (net : Node → Slot → Bool)
+    (match : Corresponds (flat_netlist (plain d) (wiring_of r) (device_rules r) unit) (expanded schematic m.partner) (Passes device) (Passes net)) where
+  abbrev F : Flat GateSquare Node
+  F = flat_netlist (plain d) (wiring_of r) (device_rules r) unit
+
+  -- the two tops, as they were aligned, expand to the same
+  abbrev D : Slot → Slot → Type 0
+  D = Through (Through (Through (Reversed (IsDeviceAligned layout (plain_netlist f.left) m.left_by m.aligned.left_aligned top)) (IsFlatGateOf (plain d) (wiring_of r) m.circuits layout top (device_rules r))) (Passes device))
+      (IsDeviceAligned schematic (plain_netlist f.right) m.right_by m.aligned.right_aligned m.partner)
+
+  abbrev N : Slot → Slot → Type 0
+  N = Through (Through (Through (Reversed (IsNetAligned layout (plain_netlist f.left) m.left_by m.aligned.left_aligned top)) (IsFlatRegionOf (plain d) (wiring_of r) m.tables m.circuits layout top)) (Passes net))
+      (IsNetAligned schematic (plain_netlist f.right) m.right_by m.aligned.right_aligned m.partner)
+
+  top_is_kept : m.left_by.kept top ≡ true
+  top_is_kept = top_kept layout schematic top m.partner m.same (plain_netlist f.left) (plain_netlist f.right) m.left_by m.right_by m.aligned first
+
+  partner_is_kept : m.right_by.kept m.partner ≡ true
+  partner_is_kept = partner_kept layout schematic top m.partner m.same (plain_netlist f.left) (plain_netlist f.right) m.left_by m.right_by m.aligned first
+
+  whole : Corresponds (expanded (plain_netlist f.left) (m.left_by.number top)) (expanded (plain_netlist f.right) (m.right_by.number m.partner)) D N
+  whole =
+      let L = expanded (plain_netlist f.left) (m.left_by.number top) in
+      let E = expanded layout top in
+      let S = expanded schematic m.partner in
+      let R = expanded (plain_netlist f.right) (m.right_by.number m.partner) in
+      let dl = IsDeviceAligned layout (plain_netlist f.left) m.left_by m.aligned.left_aligned top in
+      let nl = IsNetAligned layout (plain_netlist f.left) m.left_by m.aligned.left_aligned top in
+      let dr = IsDeviceAligned schematic (plain_netlist f.right) m.right_by m.aligned.right_aligned m.partner in
+      let nr = IsNetAligned schematic (plain_netlist f.right) m.right_by m.aligned.right_aligned m.partner in
+      let dg = IsFlatGateOf (plain d) (wiring_of r) m.circuits layout top (device_rules r) in
+      let ng = IsFlatRegionOf (plain d) (wiring_of r) m.tables m.circuits layout top in
+      let up = reversed E L dl nl (aligned_corresponds layout (plain_netlist f.left) m.left_by m.aligned.left_aligned top top_is_kept) in
+      let out = flat (plain d) (wiring_of r) m.tables m.circuits layout (device_rules r) unit m.level m.are_right top m.top_is in
+      let down = aligned_corresponds schematic (plain_netlist f.right) m.right_by m.aligned.right_aligned m.partner partner_is_kept in
+      let one = through L E F (Reversed dl) (Reversed nl) dg ng up out in
+      let two = through L F S (Through (Reversed dl) dg) (Through (Reversed nl) ng) (Passes device) (Passes net) one match in
+      through L S R (Through (Through (Reversed dl) dg) (Passes device)) (Through (Through (Reversed nl) ng) (Passes net)) dr nr two down
+
+  nowhere : (text : List ℕ) (pairs : ℕ) (x : IsReportFile d r layout top bad schematic text pairs verdict.Mismatch) → r.flattens_unmatched ≡ true → bad ≡ [] → x.compared ≡ Some f → ((lines : List ℕ) → IsTooLarge r f lines → ⊥) → ⊥
+  nowhere text pairs x on none is small =
+      let left = plain_netlist f.left in
+      let right = plain_netlist f.right in
+      let answers = answers_of f in
+      let p = m.aligned in
+      let c = found layout top schematic x.same r.max_guesses x.compared f is x.comparison in
+      let o = ordered sides order layout schematic top x.same left right fine first c.0 in
+      let outcome = subst (λ (q : Option Compared). IsRunVerdict (length bad) (all_answers q) verdict.Mismatch) is x.outcome in
+      let any = some_differs bad answers none outcome in
+      let k = any.0 in
+      let low = any.2 in
+      let at : slice_get answers k ≡ Some any.1 = slice_get-get_or answers k any.1 low ∙ ap Some any.3 in
+      let ends = ends_of r layout top schematic _ x.turns.past x.turns.alone x.same x.compared x.lines x.turns.turns in
+      let ended : EndsWith r f ends.0 = subst (λ (q : Option Compared). EndsAfter r q ends.0) is ends.1 in
+      let quiet = none_goes r f ends.0 ended on (small ends.0) in
+      let count = c.1.count in
+      let one = item_at left.circuits k (omega (arith, low, count)) in
+      let other = o.sides.there k one.0 one.1 in
+      let leaf = leaf_of left right answers quiet.goes quiet.going quiet.none k one.0 other.0 any.1 one.1 other.1 at any.4 in
+      let last = leaf.last in
+      let here = last_is_top layout schematic top m.partner m.same left right m.left_by m.right_by p first k one.0 one.1 (omega (arith, last, count)) in
+      let there = sym (p.pairs.together top m.partner (tops layout schematic top m.partner m.same left right m.left_by m.right_by p first)) ∙ here in
+      let l = made_leaf layout left m.left_by p.left_aligned p.left_only k one.0 one.1 leaf.left in
+      let h = made_leaf schematic right m.right_by p.right_aligned p.right_only k other.0 other.1 leaf.right in
+      let moved : Corresponds (expanded left k) (expanded right k) D N =
+      subst (λ (n : ℕ). Corresponds (expanded left n) (expanded right k) D N) here (subst (λ (n : ℕ). Corresponds (expanded left (m.left_by.number top)) (expanded right n) D N) there whole) in
+      let pairing = leaf_pair left right k one.0 other.0 l h D N moved (pair_in left (answer_at answers) one.0 other.0) refl refl in
+      let differs : IsDifference (answer_at answers k) = subst IsDifference (sym (get_or_from_slice_get answers k any.1 (Skipped k) at)) any.4 in
+      kept left right r.max_guesses answers o.sides o.good c.1 k one.0 other.0 pairing.0 one.1 other.1 pairing.1 differs
+
+pub exact_report : FlatCorrespondsLaw → AlignedSidesLaw → LeftOrderLaw → KeptPairLaw → ExactReportLaw
+exact_report flat sides order kept d r unit layout top bad schematic text pairs fine first x on none f is small m device net match =
+    nowhere flat sides order kept d r unit layout top bad schematic fine first f m device net match text pairs x on none is small

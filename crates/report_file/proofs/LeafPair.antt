@@ -1,0 +1,202 @@
+-- Two circuits that call nothing and expand to the same have a correspondence.
+use Rattle.std.proofs.Common.{◌≡◌, ◌⊎◌, inl, inr, ℕ, zero, suc, ◌<◌, List, [], ◌∷◌, length, Some, slice_get, get_or, refl, sym, ap, subst, ◌∙◌, arith}
+use Rattle.std.specs.Prelude.{slice_index}
+use Rattle.std.proofs.lemmas.Option.{slice_get_within, get_or_from_slice_get}
+use Rattle.match_laws.specs.Circuits.{IsCallImage, IsCorrespondence, IsDeviceImage, IsOneToOne, Pair, Pairing}
+use Rattle.plain_netlist.specs.Chains.{IsChain, Reaches}
+use Rattle.plain_netlist.specs.Flats.{AreRowsAlike, Corresponds, Reversed, Row, expanded, row_at}
+use Rattle.plain_netlist.specs.Lists.{IsListed}
+use Rattle.plain_netlist.specs.Netlist.{Bulk, CallRow, Circuit, DeviceRow, Drain, Gate, HasDevice, HasNet, InOneNet, IsCall, IsCircuit, IsDevice, IsEitherJoin, IsJoin, IsOnPin, IsPin, IsTerminal, Joins, Netlist, Pole, Slot, Source, on, slot}
+use Rattle.plain_netlist.specs.Sound.{AreNetsThere}
+use Rattle.plain_netlist.proofs.Alike.{reversed, terminal_image}
+use Rattle.plain_netlist.proofs.Members.{item_at, listed, position}
+use Rattle.report_file.proofs.Choosing.{IsChosen, choose, one_to_one}
+
+-- a device of the circuit has a terminal on net n
+pub record IsOnDevice (c : Circuit) (n : ℕ) : Type 0 where
+  pub device : ℕ
+  pub row : DeviceRow
+  pub pole : Pole
+  pub there : slice_get c.devices device ≡ Some row
+  pub is : on pole row ≡ n
+
+-- circuit k is this one, which calls nothing, and each of its nets is on a device
+pub record IsLeaf (nl : Netlist) (k : ℕ) (c : Circuit) : Type 0 where
+  pub circuit : IsCircuit nl k c
+  pub calls : c.calls ≡ []
+  pub held : (n : ℕ) → n < length c.nets → IsOnDevice c n
+  pub within : AreNetsThere nl
+
+module _ (nl : Netlist) (k : ℕ) (c : Circuit) (leaf : IsLeaf nl k c) where
+  no_call : (e : ℕ) (row : CallRow) → IsCall nl k e row → ⊥
+  no_call e row (x, is, at) =
+      let also = leaf.circuit in
+      let same : x ≡ c = cc in
+      let none : slice_get [] e ≡ Some row = subst (λ (rs : List CallRow). slice_get rs e ≡ Some row) (ap (λ (y : Circuit). y.calls) same ∙ leaf.calls) at in absurd cc
+
+  pub own_device : (path : List ℕ) (j : ℕ) (row : DeviceRow) → HasDevice nl k path j row → (path ≡ []) × (slice_get c.devices j ≡ Some row)
+  own_device [] j row (x, is, at) =
+      let also = leaf.circuit in
+      let same : x ≡ c = cc in (refl, subst (λ (y : Circuit). slice_get y.devices j ≡ Some row) same at)
+  own_device (e ∷ es) j row (call, is, more) = absurd (no_call e call is)
+
+  has_device : (j : ℕ) (row : DeviceRow) → slice_get c.devices j ≡ Some row → HasDevice nl k [] j row
+  has_device j row at = (c, leaf.circuit, at)
+
+  no_joins : (path : List ℕ) (outer e inner : ℕ) → Joins nl k path outer e inner → ⊥
+  no_joins [] outer e inner h = no_call e h.0 h.1
+  no_joins (j ∷ js) outer e inner h = no_call j h.0 h.1
+
+  no_join : (a b : Slot) → IsEitherJoin nl k a b → ⊥
+  no_join a b (inl h) = no_joins a.path a.net h.number b.net h.joins
+  no_join a b (inr h) = no_joins b.path b.net h.number a.net h.joins
+
+  pub one_slot : (a b : Slot) → InOneNet nl k a b → a ≡ b
+  one_slot a b h = step h.via h.chain
+    where
+      step : (via : List Slot) → IsChain (IsEitherJoin nl k) a via b → a ≡ b
+      step [] e = e
+      step (x ∷ xs) e = absurd (no_join a x e.0)
+
+  self_slot : (a : Slot) → InOneNet nl k a a
+  self_slot a = record { via = []; chain = refl }
+
+  on_pin : (n : ℕ) → IsOnPin nl k (slot [] n) → IsListed n c.pins
+  on_pin n (i, m, (x, is, at), reach) =
+      let also = leaf.circuit in
+      let same : x ≡ c = cc in
+      let e : n ≡ m = ap (λ (s : Slot). s.net) (one_slot (slot [] n) (slot [] m) reach) in
+      subst (λ (y : ℕ). IsListed y c.pins) (sym e) (listed c.pins i m (subst (λ (y : Circuit). slice_get y.pins i ≡ Some m) same at))
+
+  pin_on : (n : ℕ) → IsListed n c.pins → IsOnPin nl k (slot [] n)
+  pin_on n h = let p = position c.pins n h in (p.0, n, (c, leaf.circuit, p.1), self_slot (slot [] n))
+
+  -- the net of a terminal is there
+  net_there : (j : ℕ) (row : DeviceRow) (pole : Pole) → slice_get c.devices j ≡ Some row → on pole row < length c.nets
+  net_there j row pole at =
+      let h = leaf.within.devices k j row pole (c, leaf.circuit, at) in
+      let there = h.1 in
+      let also = leaf.circuit in
+      let same : h.0 ≡ c = cc in subst (λ (y : Circuit). on pole row < length y.nets) same h.2
+
+  terminal : (n : ℕ) → n < length c.nets → IsTerminal nl k (slot [] n)
+  terminal n l = let h = leaf.held n l in record { device = h.device; row = h.row; pole = h.pole; has = has_device h.device h.row h.there; on = h.is }
+
+  -- a terminal's slot is a net of the circuit
+  own_slot : (a : Slot) → IsTerminal nl k a → (a ≡ slot [] a.net) × (a.net < length c.nets)
+  own_slot a h =
+      let o = own_device a.path h.device h.row h.has in
+      (ap (λ (p : List ℕ). slot p a.net) o.0, subst (λ (n : ℕ). n < length c.nets) h.on (net_there h.device h.row h.pole o.1))
+
+module _ (left right : Netlist) (k : ℕ) (c d : Circuit) (l : IsLeaf left k c) (r : IsLeaf right k d) (D N : Slot → Slot → Type 0) (h : Corresponds (expanded left k) (expanded right k) D N) where
+  -- device x of the right circuit is that of device j
+  abbrev GoesTo : ℕ → ℕ → Type 0
+  GoesTo j x = (row : DeviceRow) × (other : DeviceRow) × (slice_get c.devices j ≡ Some row) × (slice_get d.devices x ≡ Some other) × D (slot [] j) (slot [] x) × AreRowsAlike N (row_at [] row) (row_at [] other)
+
+  device_there : (j : ℕ) → j < length c.devices → (x : ℕ) × GoesTo j x
+  device_there j low =
+      let at = item_at c.devices j low in
+      let y = h.there (slot [] j) (row_at [] at.0) (at.0, has_device left k c l j at.0 at.1, refl) in
+      let has = y.2 in
+      let own = own_device right k d r y.0.path y.0.net has.0 has.1 in
+      let place : y.0 ≡ slot [] y.0.net = ap (λ (p : List ℕ). slot p y.0.net) own.0 in
+      let row : y.1 ≡ row_at [] has.0 = has.2 ∙ ap (λ (p : List ℕ). row_at p has.0) own.0 in
+      (y.0.net, (at.0, has.0, at.1, own.1, subst (λ (s : Slot). D (slot [] j) s) place y.3, subst (λ (s : Row Slot). AreRowsAlike N (row_at [] at.0) s) row y.4))
+
+  device_back : (x : ℕ) → x < length d.devices → (j : ℕ) × (j < length c.devices) × D (slot [] j) (slot [] x)
+  device_back x low =
+      let at = item_at d.devices x low in
+      let y = h.back (slot [] x) (row_at [] at.0) (at.0, has_device right k d r x at.0 at.1, refl) in
+      let has = y.2 in
+      let own = own_device left k c l y.0.path y.0.net has.0 has.1 in
+      let place : y.0 ≡ slot [] y.0.net = ap (λ (p : List ℕ). slot p y.0.net) own.0 in
+      (y.0.net, slice_get_within c.devices y.0.net has.0 own.1, subst (λ (s : Slot). D s (slot [] x)) place y.3)
+
+  -- net x of the right circuit is that of net n
+  abbrev StandsFor : ℕ → ℕ → Type 0
+  StandsFor n x = (x < length d.nets) × N (slot [] n) (slot [] x)
+
+  net_image : (n : ℕ) → n < length c.nets → (x : ℕ) × StandsFor n x
+  net_image n low =
+      let y = terminal_image left right k k D N h (slot [] n) (terminal left k c l n low) in
+      let own = own_slot right k d r y.0 y.1 in (y.0.net, (own.1, subst (λ (s : Slot). N (slot [] n) s) own.0 y.2))
+
+  net_back : (x : ℕ) → x < length d.nets → (n : ℕ) × (n < length c.nets) × N (slot [] n) (slot [] x)
+  net_back x low =
+      let turned = reversed (expanded left k) (expanded right k) D N h in
+      let y = terminal_image right left k k (Reversed D) (Reversed N) turned (slot [] x) (terminal right k d r x low) in
+      let own = own_slot left k c l y.0 y.1 in (y.0.net, own.1, subst (λ (s : Slot). N s (slot [] x)) own.0 y.2)
+
+  one_net : (m n x y : ℕ) → N (slot [] m) (slot [] x) → N (slot [] n) (slot [] y) → m ≡ n → x ≡ y
+  one_net m n x y a b e =
+      ap (λ (s : Slot). s.net) (one_slot right k d r (slot [] x) (slot [] y) ((h.nets (slot [] m) (slot [] n) (slot [] x) (slot [] y) a b).0 (subst (λ (z : ℕ). InOneNet left k (slot [] m) (slot [] z)) e (self_slot left k c l (slot [] m)))))
+
+  net_one : (m n x y : ℕ) → N (slot [] m) (slot [] x) → N (slot [] n) (slot [] y) → x ≡ y → m ≡ n
+  net_one m n x y a b e =
+      ap (λ (s : Slot). s.net) (one_slot left k c l (slot [] m) (slot [] n) ((h.nets (slot [] m) (slot [] n) (slot [] x) (slot [] y) a b).1 (subst (λ (z : ℕ). InOneNet right k (slot [] x) (slot [] z)) e (self_slot right k d r (slot [] x)))))
+
+  one_device : (i j x y : ℕ) → D (slot [] i) (slot [] x) → D (slot [] j) (slot [] y) → i ≡ j → x ≡ y
+  one_device i j x y a b e = ap (λ (s : Slot). s.net) ((h.devices (slot [] i) (slot [] j) (slot [] x) (slot [] y) a b).0 (ap (λ (n : ℕ). slot [] n) e))
+
+  device_one : (i j x y : ℕ) → D (slot [] i) (slot [] x) → D (slot [] j) (slot [] y) → x ≡ y → i ≡ j
+  device_one i j x y a b e = ap (λ (s : Slot). s.net) ((h.devices (slot [] i) (slot [] j) (slot [] x) (slot [] y) a b).1 (ap (λ (n : ℕ). slot [] n) e))
+
+  module _ (nets devices : List ℕ) (nets_are : IsChosen StandsFor (length c.nets) nets) (devices_are : IsChosen GoesTo (length c.devices) devices) where
+    nets_one : IsOneToOne nets (length c.nets) (length d.nets)
+    nets_one = one_to_one nets (length c.nets) (length d.nets) nets_are.long (λ n low. (nets_are.each n low).0)
+        (λ m n a b e. net_one m n (slice_index nets m) (slice_index nets n) (nets_are.each m a).1 (nets_are.each n b).1 e)
+        (λ x low. let b = net_back x low in (b.0, b.1, one_net b.0 b.0 (slice_index nets b.0) x (nets_are.each b.0 b.1).1 b.2 refl))
+
+    devices_one : IsOneToOne devices (length c.devices) (length d.devices)
+    devices_one = one_to_one devices (length c.devices) (length d.devices) devices_are.long
+        (λ j low. let g = devices_are.each j low in slice_get_within d.devices (slice_index devices j) g.1 g.3)
+        (λ i j a b e. device_one i j (slice_index devices i) (slice_index devices j) (devices_are.each i a).4 (devices_are.each j b).4 e)
+        (λ x low. let b = device_back x low in (b.0, b.1, one_device b.0 b.0 (slice_index devices b.0) x (devices_are.each b.0 b.1).4 b.2 refl))
+
+    on_net : (n x : ℕ) → n < length c.nets → N (slot [] n) (slot [] x) → slice_index nets n ≡ x
+    on_net n x low a = one_net n n (slice_index nets n) x (nets_are.each n low).1 a refl
+
+    device_image : (j : ℕ) (row other : DeviceRow) → slice_get c.devices j ≡ Some row → slice_get d.devices (slice_index devices j) ≡ Some other → IsDeviceImage nets row other
+    device_image j row other at there =
+        let g = devices_are.each j (slice_get_within c.devices j row at) in
+        let one : g.0 ≡ row = (let a = g.2 in let z : Some g.0 ≡ Some row = sym a ∙ at in cc) in
+        let two : g.1 ≡ other = (let a = g.3 in let z : Some g.1 ≡ Some other = sym a ∙ there in cc) in
+        let alike = subst (λ (y : DeviceRow). AreRowsAlike N (row_at [] row) (row_at [] y)) two (subst (λ (y : DeviceRow). AreRowsAlike N (row_at [] y) (row_at [] g.1)) one g.5) in
+        record {
+          class = alike.class;
+          length = alike.length;
+          width = alike.width;
+          gate = on_net row.gate other.gate (net_there left k c l j row Gate at) alike.gate;
+          bulk = on_net row.bulk other.bulk (net_there left k c l j row Bulk at) alike.bulk;
+          channel = elim alike.channel [
+            | inl e ↦ inl (on_net row.source other.source (net_there left k c l j row Source at) e.0, on_net row.drain other.drain (net_there left k c l j row Drain at) e.1)
+            | inr e ↦ inr (on_net row.source other.drain (net_there left k c l j row Source at) e.0, on_net row.drain other.source (net_there left k c l j row Drain at) e.1)
+          ];
+        }
+
+    corresponds : (p : Pair) → p.left ≡ c → p.right ≡ d → IsCorrespondence p (record { nets = nets; devices = devices; calls = [] })
+    corresponds p lp rp = record {
+      nets = subst (λ (x : Circuit). IsOneToOne nets (length x.nets) (length p.right.nets)) (sym lp) (subst (λ (x : Circuit). IsOneToOne nets (length c.nets) (length x.nets)) (sym rp) nets_one);
+      devices = subst (λ (x : Circuit). IsOneToOne devices (length x.devices) (length p.right.devices)) (sym lp) (subst (λ (x : Circuit). IsOneToOne devices (length c.devices) (length x.devices)) (sym rp) devices_one);
+      calls = record {
+        count = sym (ap (λ (x : Circuit). length x.calls) lp ∙ ap (λ (rs : List CallRow). length rs) l.calls);
+        below = λ x i. absurd i;
+        once = λ j low. absurd (let e : length p.right.calls ≡ 0 = ap (λ (x : Circuit). length x.calls) rp ∙ ap (λ (rs : List CallRow). length rs) r.calls in omega (arith, low, e));
+      };
+      pin = λ n low.
+          let inside : n < length c.nets = subst (λ (x : Circuit). n < length x.nets) lp low in
+          let both = h.pins (slot [] n) (slot [] (slice_index nets n)) (nets_are.each n inside).1 in (
+            (λ i. subst (λ (x : Circuit). IsListed (slice_index nets n) x.pins) (sym rp) (on_pin right k d r (slice_index nets n) (both.0 (pin_on left k c l n (subst (λ (x : Circuit). IsListed n x.pins) lp i))))),
+            (λ i. subst (λ (x : Circuit). IsListed n x.pins) (sym lp) (on_pin left k c l n (both.1 (pin_on right k d r (slice_index nets n) (subst (λ (x : Circuit). IsListed (slice_index nets n) x.pins) rp i))))),
+          );
+      device = λ j row other at there.
+          device_image j row other (subst (λ (x : Circuit). slice_get x.devices j ≡ Some row) lp at) (subst (λ (x : Circuit). slice_get x.devices (slice_index devices j) ≡ Some other) rp there);
+      call = λ e row other at there.
+          let none : slice_get [] e ≡ Some row = subst (λ (rs : List CallRow). slice_get rs e ≡ Some row) (ap (λ (x : Circuit). x.calls) lp ∙ l.calls) at in absurd cc;
+    }
+
+  pub leaf_pair : (p : Pair) → p.left ≡ c → p.right ≡ d → (f : Pairing) × IsCorrespondence p f
+  leaf_pair p lp rp =
+      let nets = choose StandsFor (length c.nets) net_image in
+      let devices = choose GoesTo (length c.devices) device_there in
+      (record { nets = nets.0; devices = devices.0; calls = [] }, corresponds nets.0 devices.0 nets.1 devices.1 p lp rp)
