@@ -5,5 +5,7 @@ mod chain;
 #[cfg(test)]
 mod compared;
 mod conditions;
+#[cfg(test)]
+mod many;
 mod pairs;
 mod wide;

@@ -34,7 +34,6 @@ pub fn find_circuits<R: Threads + Wait + Sync, G: Gate + Sync>(
     gate: &G,
 ) -> Result<Circuits, AllocError>
     requires workers { (1 ≤ workers) × (workers ≤ 64) }
-    requires unit { unit_pm ≤ 1000000 }
     requires own { HasOwn (plain design.now) (wiring_of (rules_seen rules.now)) }
     requires nets { AreNets (plain design.now) (rules_seen rules.now) nets.now }
     requires pins { ArePins (plain design.now) (rules_seen rules.now) pins.now }

@@ -24,7 +24,7 @@ use cell_graph::Design;
 use circuit_phase::circuit_cells;
 use deep_tables::{BadGate, Circuits, Pins};
 use job_board::Gate;
-use list_base::small;
+use list_base::{number, small};
 use net_model::Netlist;
 use rule_text::RuleSet;
 use std::alloc::{AllocError, Global};
@@ -95,7 +95,6 @@ pub fn draw<R: Threads + Wait + Sync, G: Gate + Sync>(
     gate: &G,
 ) -> Result<Drawn, AllocError>
     requires workers { (1 ≤ workers) × (workers ≤ 64) }
-    requires unit { unit_pm ≤ 1000000 }
     requires layers { AreLayers (plain design.now) (rules_seen rules.now) gated.now.layers }
     requires nets { AreNets (plain design.now) (rules_seen rules.now) gated.now.nets }
     requires gates { AreGates (plain design.now) (rules_seen rules.now) gated.now.gates }
@@ -114,9 +113,7 @@ pub fn draw<R: Threads + Wait + Sync, G: Gate + Sync>(
         rt, alloc, design, rules, nets, pins, gates, unit_pm, workers, gate,
     )?;
     let cells = circuit_cells(alloc, design, gates)?;
-    if cells.len() > u32::MAX as usize {
-        return Err(AllocError);
-    }
+    number(cells.len())?;
     if !have_few_nets(&circuits, &cells) {
         return Err(AllocError);
     }

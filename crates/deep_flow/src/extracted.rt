@@ -55,7 +55,6 @@ pub fn extract<R: Threads + Wait + Sync, G: Gate + Sync>(
 ) -> Result<Extracted, AllocError>
     requires workers { (1 ≤ workers) × (workers ≤ 64) }
     requires rules { IsSound (rules_seen rules.now) }
-    requires unit { unit_pm ≤ 1000000 }
     ensures layers { IfOk result (λ e. AreLayers (plain design.now) (rules_seen rules.now)
         e.layers) }
     ensures nets { IfOk result (λ e. AreNets (plain design.now) (rules_seen rules.now) e.nets) }

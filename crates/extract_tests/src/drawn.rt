@@ -107,6 +107,26 @@ pub fn push_placed(
     push_record(out, 0x11, 0, &[])
 }
 
+/// AREF of the cell of a name from the origin on: how many columns and rows, and their step.
+pub fn push_grid(
+    alloc: Global,
+    out: &mut Vec<u8>,
+    name: &str,
+    counts: [i16; 2],
+    step: i32,
+) -> Result<(), AllocError> {
+    let [columns, rows] = counts;
+    let right = i32::from(columns).saturating_mul(step);
+    let top = i32::from(rows).saturating_mul(step);
+    push_record(out, 0x0B, 0, &[])?;
+    push_string(alloc, out, 0x12, name.as_bytes())?;
+    let [a, b] = columns.to_be_bytes();
+    let [c, d] = rows.to_be_bytes();
+    push_record(out, 0x13, 0x02, &[a, b, c, d])?;
+    push_points(alloc, out, &[(0, 0), (right, 0), (0, top)])?;
+    push_record(out, 0x11, 0, &[])
+}
+
 fn push_item(alloc: Global, out: &mut Vec<u8>, item: &Item) -> Result<(), AllocError> {
     match item {
         Item::Rect(layer, corners) => push_rect(alloc, out, *layer, *corners),

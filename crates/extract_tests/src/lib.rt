@@ -24,6 +24,8 @@ mod layouts;
 #[cfg(test)]
 mod made;
 #[cfg(test)]
+mod many;
+#[cfg(test)]
 mod refused;
 #[cfg(test)]
 mod texts;

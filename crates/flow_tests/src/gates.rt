@@ -50,7 +50,7 @@ struct Listed {
 }
 
 // The nets are those of source, drain, gate and bulk.
-fn good(cell: u32, x: i64, y: i64, sizes: [u64; 2], nets: [u32; 4]) -> Listed {
+fn good(cell: u32, x: i64, y: i64, sizes: [u128; 2], nets: [u32; 4]) -> Listed {
     let [twice_w, twice_l] = sizes;
     let [source, drain, gate, bulk] = nets;
     let state = GateState::Good {

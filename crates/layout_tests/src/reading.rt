@@ -152,21 +152,79 @@ fn slanted(alloc: Global) -> Result<Vec<u8>, AllocError> {
     with_byte(alloc, &straight, 201, 16)
 }
 
-// Too few bytes, a slanted edge, and a missing cell in a stream without an end: the stream's fault
-// comes first.
+/// Where each record of the two squares' stream ends.
+const ENDS: [usize; 18] = [
+    6, 34, 40, 60, 88, 94, 98, 104, 110, 154, 158, 162, 168, 174, 218, 222, 226, 230,
+];
+
+// The fault of so many first bytes of that stream: too few, in the record that they end in.
+fn cut_place(at: usize) -> Place {
+    let mut place: Place = (1, 0, 0);
+    for end in ENDS {
+        if end <= at {
+            place = (1, place.1.saturating_add(1), end as u64);
+        }
+    }
+    place
+}
+
+// Whether the stream's first bytes have that fault, whole and in pieces.
+fn is_cut(alloc: Global, stream: &[u8], at: usize) -> bool {
+    let wanted = Some(cut_place(at));
+    let bytes = front(stream, at);
+    let whole = read_layout(alloc, bytes, None).err();
+    if whole.as_ref().and_then(place_of) != wanted {
+        return false;
+    }
+    for size in [1, 7, 1000] {
+        let parts = in_pieces(alloc, bytes, size).err();
+        if parts.as_ref().and_then(place_of) != wanted {
+            return false;
+        }
+    }
+    true
+}
+
+#[test]
+fn cuts_in_the_header(rt: HostRuntime) -> Result<(), Fail> {
+    let alloc = rt.alloc();
+    let squares = library(alloc, &SQUARES)?;
+    assert_eq!(rt; squares.len(), 230);
+    for at in 0..94 {
+        assert!(rt; is_cut(alloc, &squares, at), "{at}");
+    }
+    Ok(())
+}
+
+#[test]
+fn cuts_in_the_first_square(rt: HostRuntime) -> Result<(), Fail> {
+    let alloc = rt.alloc();
+    let squares = library(alloc, &SQUARES)?;
+    for at in 94..158 {
+        assert!(rt; is_cut(alloc, &squares, at), "{at}");
+    }
+    Ok(())
+}
+
+#[test]
+fn cuts_behind_it(rt: HostRuntime) -> Result<(), Fail> {
+    let alloc = rt.alloc();
+    let squares = library(alloc, &SQUARES)?;
+    for at in 158..230 {
+        assert!(rt; is_cut(alloc, &squares, at), "{at}");
+    }
+    Ok(())
+}
+
+// A slanted edge, and a missing cell in a stream without an end: the stream's fault comes first.
 #[test]
 fn faults_in_pieces(rt: HostRuntime) -> Result<(), Fail> {
     let alloc = rt.alloc();
-    let squares = library(alloc, &SQUARES)?;
     let slanted = slanted(alloc)?;
     let missing = library(alloc, &MISSING)?;
-    assert_eq!(rt; squares.len(), 230);
     assert_eq!(rt; missing.len(), 128);
     for size in [1, 2, 3, 1000] {
         for (bytes, place) in [
-            (front(&squares, 0), (1, 0, 0)),
-            (front(&squares, 120), (1, 9, 110)),
-            (front(&squares, 226), (1, 17, 226)),
             (front(&slanted, 230), (6, 14, 174)),
             (front(&missing, 124), (1, 11, 124)),
         ] {

@@ -393,18 +393,45 @@ fn doubling_hierarchy(rt: HostRuntime) -> Result<(), Fail> {
     Ok(())
 }
 
-// More cells than a layout may have.
+// So many empty cells.
+fn apart(alloc: Global, cells: u32) -> Result<Vec<u8>, AllocError> {
+    let mut out = begin(alloc)?;
+    for number in 0..cells {
+        begin_cell(alloc, &mut out, format!(in alloc; "C{number}")?.as_str())?;
+        end_cell(&mut out)?;
+    }
+    end(&mut out)?;
+    Ok(out)
+}
+
+const METAL: &[u8] = b"metal = input(5, 0)\ntxt = labels(5, 1)\nconnect(metal, txt)\n";
+
+const FIRST_CELL: [&str; 11] = [
+    "extract",
+    "--layout",
+    "l",
+    "--rules",
+    "r",
+    "--shapes",
+    "s",
+    "--netlist",
+    "n",
+    "--top",
+    "C0",
+];
+
+// As many cells as a layout may have, and one more.
 #[test]
-fn too_many_cells(rt: HostRuntime) -> Result<(), Fail> {
+fn most_cells(rt: HostRuntime) -> Result<(), Fail> {
     let alloc = rt.alloc();
-    let layout = chain(alloc, 16385)?;
-    refuses(
-        &rt,
-        alloc,
-        &layout,
-        COPY.as_bytes(),
-        &SHAPES,
-        "refused layout 26\n",
-    )?;
+    for (cells, code, line) in [
+        (16384, 0, "extracted cells 1 circuits 1 bad 0\n"),
+        (16385, 2, "refused layout 26\n"),
+    ] {
+        let layout = apart(alloc, cells)?;
+        let run = run_of(&rt, alloc, &layout, METAL, &FIRST_CELL, NONE)?;
+        assert_eq!(rt; run.line.as_slice(), line.as_bytes());
+        assert_eq!(rt; run.code, code);
+    }
     Ok(())
 }

@@ -6,6 +6,8 @@ mod cells;
 #[cfg(test)]
 mod command;
 #[cfg(test)]
+mod depots;
+#[cfg(test)]
 mod hierarchies;
 #[cfg(test)]
 mod quiet;

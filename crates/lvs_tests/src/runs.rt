@@ -2,6 +2,7 @@
 
 use crate::command::{Failing, NONE, SHAPES, refuses, run_of};
 use crate::streams::{Shape, front, outline, stream, with_byte};
+use std::alloc::{AllocError, Global};
 use std::test::Fail;
 
 const RULES: &[u8] = b"a = input(1, 0)\nb = input(2, 0)\nc = a & b\nc.output(10, 0)\n";
@@ -94,53 +95,103 @@ fn refused_rules(rt: HostRuntime) -> Result<(), Fail> {
     Ok(())
 }
 
-// The first fault of a stream, with its record and its offset.
+// The records of the overlapping rectangles' stream: where each begins and where it ends.
+const RECORDS: [(usize, usize); 18] = [
+    (0, 6),
+    (6, 34),
+    (34, 40),
+    (40, 60),
+    (60, 88),
+    (88, 94),
+    (94, 98),
+    (98, 104),
+    (104, 110),
+    (110, 154),
+    (154, 158),
+    (158, 162),
+    (162, 168),
+    (168, 174),
+    (174, 218),
+    (218, 222),
+    (222, 226),
+    (226, 230),
+];
+
+// Each front of the stream is refused with the record that it is cut in.
 #[test]
-fn refused_streams(rt: HostRuntime) -> Result<(), Fail> {
+fn every_cut(rt: HostRuntime) -> Result<(), Fail> {
     let alloc = rt.alloc();
     let layout = stream(alloc, &OVERLAP)?;
     assert_eq!(rt; layout.len(), 230);
-    refuses(
-        &rt,
-        alloc,
-        front(&layout, 120),
-        RULES,
-        &SHAPES,
-        "refused layout 1 record 9 offset 110\n",
-    )?;
-    refuses(
-        &rt,
-        alloc,
-        front(&layout, 226),
-        RULES,
-        &SHAPES,
-        "refused layout 1 record 17 offset 226\n",
-    )?;
-    refuses(
-        &rt,
-        alloc,
-        &[],
-        RULES,
-        &SHAPES,
-        "refused layout 1 record 0 offset 0\n",
-    )?;
+    for (record, (start, end)) in RECORDS.into_iter().enumerate() {
+        let line = format!(in alloc; "refused layout 1 record {record} offset {start}\n")?;
+        for at in start..end {
+            refuses(&rt, alloc, front(&layout, at), RULES, &SHAPES, &line)?;
+        }
+    }
     Ok(())
 }
 
-// An edge that is neither upright nor level is refused with the record of its points: the second
-// or the last edge of the first outline, then the second edge of the other.
+// One byte of the stream is another: an edge that is neither upright nor level (the second or the
+// last of the first outline, the second of the other), a length that is odd or too short, a form
+// that isn't the kind's, the end of a cell within an element.
 #[test]
-fn slanted_edge(rt: HostRuntime) -> Result<(), Fail> {
+fn false_records(rt: HostRuntime) -> Result<(), Fail> {
     let alloc = rt.alloc();
     let layout = stream(alloc, &OVERLAP)?;
-    for (place, line) in [
-        (137, "refused layout 6 record 9 offset 110\n"),
-        (145, "refused layout 6 record 9 offset 110\n"),
-        (201, "refused layout 6 record 14 offset 174\n"),
+    for (place, byte, line) in [
+        (137, 11, "refused layout 6 record 9 offset 110\n"),
+        (145, 16, "refused layout 6 record 9 offset 110\n"),
+        (201, 16, "refused layout 6 record 14 offset 174\n"),
+        (111, 0x2D, "refused layout 2 record 9 offset 110\n"),
+        (111, 0x02, "refused layout 2 record 9 offset 110\n"),
+        (9, 0x00, "refused layout 5 record 1 offset 6\n"),
+        (156, 0x07, "refused layout 4 record 10 offset 154\n"),
     ] {
-        let slanted = with_byte(alloc, &layout, place, 16)?;
-        refuses(&rt, alloc, &slanted, RULES, &SHAPES, line)?;
+        let changed = with_byte(alloc, &layout, place, byte)?;
+        refuses(&rt, alloc, &changed, RULES, &SHAPES, line)?;
     }
+    Ok(())
+}
+
+// The stream with other records of points in place of its first.
+fn with_points(alloc: Global, layout: &[u8], records: &[&[u8]]) -> Result<Vec<u8>, AllocError> {
+    let mut out = front(layout, 110).to_vec(alloc)?;
+    for record in records {
+        out.extend_from_slice(record)?;
+    }
+    out.extend_from_slice(layout.get(154..).unwrap_or(&[]))?;
+    Ok(out)
+}
+
+const THREE_POINTS: [u8; 28] = [
+    0, 28, 0x10, 3, 0, 0, 0, 0, 0, 0, 0, 0, 0, 0, 0, 0, 0, 0, 0, 10, 0, 0, 0, 10, 0, 0, 0, 10,
+];
+
+const TWO_POINTS: [u8; 20] = [
+    0, 20, 0x10, 3, 0, 0, 0, 10, 0, 0, 0, 0, 0, 0, 0, 0, 0, 0, 0, 0,
+];
+
+// The first outline in two records, and twice round in two; without the second of them.
+#[test]
+fn points_in_two_records(rt: HostRuntime) -> Result<(), Fail> {
+    let alloc = rt.alloc();
+    let layout = stream(alloc, &OVERLAP)?;
+    let whole = layout.get(110..154).unwrap_or(&[]);
+    let parted: [([&[u8]; 2], usize); 2] = [
+        ([&THREE_POINTS, &TWO_POINTS], 234),
+        ([whole, whole], 274),
+    ];
+    for (records, length) in parted {
+        let parted = with_points(alloc, &layout, &records)?;
+        assert_eq!(rt; parted.len(), length);
+        let run = run_of(&rt, alloc, &parted, RULES, &SHAPES, NONE)?;
+        assert_eq!(rt; run.code, 0);
+        assert_eq!(rt; run.shapes, Some(stream(alloc, &[(10, 5, 5, 10, 10)])?));
+    }
+    let open = with_points(alloc, &layout, &[&THREE_POINTS])?;
+    let line = "refused layout 5 record 10 offset 138\n";
+    refuses(&rt, alloc, &open, RULES, &SHAPES, line)?;
     Ok(())
 }
 
@@ -350,5 +401,6 @@ fn each_call_fails(rt: HostRuntime) -> Result<(), Fail> {
     )?;
     assert_eq!(rt; run.code, 4);
     assert_eq!(rt; run.line.len(), 0);
+    assert_eq!(rt; run.shapes, Some(stream(alloc, &[(10, 5, 5, 10, 10)])?));
     Ok(())
 }

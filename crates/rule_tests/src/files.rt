@@ -119,6 +119,9 @@ connect_global(x, 'it is \"x\"')
 extract_devices(mos4('p'),{'tB'=>x,'W'=>b,'tD'=>d,'G'=>_a1,\"tS\"=>d,\"tG\"=>c,'SD'=>b})
 same_circuits('A', 'b')
 same_circuits('b', 'a')
+netlist.flatten_circuit('c')
+schematic . flatten_circuit ( \"C\" )
+flatten_unmatched
 netlist
 schematic('in.cir')
 align
@@ -138,6 +141,9 @@ global 4 it is \"x\"
 p sd 1 g 0 w 1 ts 3 tg 2 tb 4
 same A b
 same b a
+flat layout c
+flat schematic C
+flattens unmatched
 guesses 1000000
 ";
     assert_eq!(rt; answer(rt.alloc(), text.as_bytes())?.as_str(), rules);

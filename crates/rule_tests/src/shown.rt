@@ -72,6 +72,21 @@ fn shown(alloc: Global, rules: &RuleSet) -> Result<String, AllocError> {
             format!(in alloc; "same {} {}\n", text_of(a.bytes()), text_of(b.bytes())),
         )?;
     }
+    for a in &rules.flat_layouts {
+        add(
+            &mut out,
+            format!(in alloc; "flat layout {}\n", text_of(a.bytes())),
+        )?;
+    }
+    for b in &rules.flat_schematics {
+        add(
+            &mut out,
+            format!(in alloc; "flat schematic {}\n", text_of(b.bytes())),
+        )?;
+    }
+    if rules.flattens_unmatched {
+        add(&mut out, format!(in alloc; "flattens unmatched\n"))?;
+    }
     add(
         &mut out,
         format!(in alloc; "guesses {}\n", rules.max_guesses),

@@ -38,7 +38,10 @@ pub const HEAD: [u8; 98] = [
 /// ENDSTR and ENDLIB.
 pub const TAIL: [u8; 8] = [0x00, 0x04, 0x07, 0x00, 0x00, 0x04, 0x04, 0x00];
 
-/// Adds an element of at most 60 points, from its first record to ENDEL.
+/// The numbers of the most points that one record holds.
+const A_RECORD: usize = 2 * 8191;
+
+/// Adds an element from its first record to ENDEL, its points in as few records as hold them.
 pub fn push(
     out: &mut Vec<u8>,
     layer: u16,
@@ -51,11 +54,13 @@ pub fn push(
     out.extend_from_slice(&[0, 6, form.kind, 2])?;
     out.extend_from_slice(&number.to_be_bytes())?;
     out.extend_from_slice(form.before)?;
-    let size = u16::try_from(points.len()).unwrap_or(0).saturating_mul(4);
-    out.extend_from_slice(&size.saturating_add(4).to_be_bytes())?;
-    out.extend_from_slice(&[0x10, 3])?;
-    for number in points {
-        out.extend_from_slice(&number.to_be_bytes())?;
+    for part in points.chunks(A_RECORD) {
+        let size = u16::try_from(part.len()).unwrap_or(0).saturating_mul(4);
+        out.extend_from_slice(&size.saturating_add(4).to_be_bytes())?;
+        out.extend_from_slice(&[0x10, 3])?;
+        for number in part {
+            out.extend_from_slice(&number.to_be_bytes())?;
+        }
     }
     out.extend_from_slice(form.after)?;
     out.extend_from_slice(&[0, 4, 0x11, 0])

@@ -36,31 +36,40 @@ fn element(alloc: Global, form: &Form, points: &[i32]) -> Result<Vec<u8>, AllocE
     Ok(out)
 }
 
-/// The teeth of a comb behind its first.
-const TEETH: i32 = 2046;
-
-// An outline of 8,191 points, the most that one XY holds: a comb of 2,047 teeth, whose first point
-// stands there three times.
-#[test]
-fn longest_outline(rt: HostRuntime) -> Result<(), Fail> {
-    let alloc = rt.alloc();
+// The points of a comb behind so many in its first corner, and its rectangles, for its teeth behind
+// the first.
+fn comb(alloc: Global, first: usize, teeth: i32) -> Result<(Vec<i32>, Vec<[i32; 4]>), AllocError> {
     let mut points = Vec::new(alloc);
-    points.extend_from_slice(&[0, 0, 0, 0, 0, 0, 0, 10])?;
+    for _ in 0..first {
+        points.extend_from_slice(&[0, 0])?;
+    }
+    points.extend_from_slice(&[0, 10])?;
     let mut wanted = Vec::new(alloc);
-    let width = TEETH.saturating_mul(2).saturating_add(1);
+    let width = teeth.saturating_mul(2).saturating_add(1);
     wanted.push([0, 0, width, 5])?;
     wanted.push([0, 5, 1, 10])?;
-    for tooth in 0..TEETH {
+    for tooth in 0..teeth {
         let x = tooth.saturating_mul(2);
         let (gap, next) = (x.saturating_add(1), x.saturating_add(2));
         points.extend_from_slice(&[gap, 10, gap, 5, next, 5, next, 10])?;
         wanted.push([next, 5, next.saturating_add(1), 10])?;
     }
     points.extend_from_slice(&[width, 10, width, 0, 0, 0])?;
-    assert_eq!(rt; points.len(), 2 * 8191);
-    let layout = element(alloc, &OUTLINE, &points)?;
-    let wanted = rectangles(alloc, 10, &wanted)?;
-    writes(&rt, alloc, &layout, COPY, &wanted, "comb of one outline")?;
+    Ok((points, wanted))
+}
+
+// Outlines of 8,191 points, the most that one XY holds, and of 1,000,000, the most that one element
+// has: combs of 2,047 and of 249,999 teeth.
+#[test]
+fn longest_outline(rt: HostRuntime) -> Result<(), Fail> {
+    let alloc = rt.alloc();
+    for (count, first, teeth) in [(8191, 3, 2046), (1_000_000, 4, 249_998)] {
+        let (points, wanted) = comb(alloc, first, teeth)?;
+        assert_eq!(rt; points.len(), 2 * count);
+        let layout = element(alloc, &OUTLINE, &points)?;
+        let wanted = rectangles(alloc, 10, &wanted)?;
+        writes(&rt, alloc, &layout, COPY, &wanted, "comb of one outline")?;
+    }
     Ok(())
 }
 

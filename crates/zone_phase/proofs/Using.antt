@@ -1,6 +1,8 @@
 -- References to a cell, one after the other.
-use Rattle.std.proofs.Common.{◌≡◌, ◌⊎◌, ◌↔◌, inl, inr, ℕ, ◌+◌, true, List, Option, Some, sym, ◌∙◌, subst, arith, slice_get}
+use Rattle.std.proofs.Common.{◌≡◌, ◌⊎◌, ◌↔◌, inl, inr, ℕ, ◌+◌, true, List, Option, Some, sym, ◌∙◌, subst, arith, length, slice_get}
 use Rattle.std.proofs.Math.Decide.{ℕ_discrete}
+use Rattle.std.proofs.lemmas.Option.{slice_get_within}
+use Rattle.geo_base.specs.Rects.{has}
 use Rattle.geo_base.specs.declared.layer.LayerKey.{LayerKey}
 use Rattle.geo_base.specs.declared.shapes.Rect.{Rect}
 use Rattle.geo_base.specs.declared.shapes.Square.{Square}
@@ -64,6 +66,17 @@ uses_more d value name cell key g uses i u old out new there first second q = (
     | inl e ↦ (second q).1 (inl ((first q).1 (inl e)))
     | inr r ↦ elim (split d value name cell key g uses i u q there r) [ inl s ↦ (second q).1 (inl ((first q).1 (inr s))) | inr s ↦ (second q).1 (inr s) ]
   ]),
+)
+
+-- where the whole hull is covered, the other references add nothing
+pub full_all : (d : Linked) (value : ℕ → Option CellZones) (name cell : ℕ) (key : LayerKey) (g : Rect) (uses : List Use) (i : ℕ) (old out : List Rect) → GrownBy d value name cell key g uses i old out
+    → ((q : Square) → has g q ≡ true → covers out q ≡ true) → GrownBy d value name cell key g uses (length uses) old out
+full_all d value name cell key g uses i old out first full q = (
+  (λ e. elim ((first q).0 e) [
+    | inl h ↦ inl h
+    | inr r ↦ inr (record { at = r.at; found = r.found; at_in = slice_get_within uses r.at r.found r.there; there = r.there; brings = r.brings })
+  ]),
+  (λ h. elim h [ inl e ↦ (first q).1 (inl e) | inr r ↦ full q r.brings.inner ]),
 )
 
 -- none was looked at

@@ -14,7 +14,7 @@ use geo_base::Rect;
 use std::alloc::{AllocError, Global};
 
 // Whether a rectangle is the last of a list.
-fn is_last(rects: &[Rect], rect: &Rect) -> bool
+pub fn is_last(rects: &[Rect], rect: &Rect) -> bool
     ensures { result ≡ true → (q : Square) → has rect.now q ≡ true → covers rects.now q ≡ true }
 {
     let count = rects.len();

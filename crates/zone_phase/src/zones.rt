@@ -12,6 +12,7 @@ ghost use Rattle.zone_phase.specs.Jobs.{HaveEntries, IsEntry, IsFromUse, IsFromU
 ghost use Rattle.zone_phase.specs.Jobs.{zone_in};
 ghost use Rattle.zone_phase.specs.Uses.{AreUsesOf, IsUse};
 
+use crate::pulls::is_last;
 use crate::references::push_reference;
 use crate::uses::Use;
 use crate::windows::grown;
@@ -69,7 +70,7 @@ fn push_use<R: Reads<CellZones>>(
 }
 
 // So many rectangles are gathered before they are first made canonical.
-const FIRST_ROOM: usize = 4096;
+const FIRST_ROOM: usize = 64;
 
 // Makes rectangles canonical where there are so many: what references bring alike is kept once.
 // Answers how many may be gathered before the next time.
@@ -88,7 +89,7 @@ fn thin(alloc: Global, out: &mut Vec<Rect>, room: usize) -> Result<usize, AllocE
     Ok(room.max(out.len().saturating_mul(2)))
 }
 
-// The same of all references.
+// The same of all references. Once the whole grown hull is covered, none can add to it.
 fn push_uses<R: Reads<CellZones>>(
     alloc: Global,
     out: &mut Vec<Rect>,
@@ -115,6 +116,9 @@ fn push_uses<R: Reads<CellZones>>(
 {
     let mut room = FIRST_ROOM;
     for found in uses {
+        if is_last(out, grown) {
+            return Ok(());
+        }
         push_use(
             alloc, out, design, reads, found, name, cell, key, hull, grown,
         )?;

@@ -58,7 +58,7 @@ returns-clause-sound g c =
     let a = c.args.gated.now in
     let f : Filled = record { layers = a.layers; nets = a.nets; gates = a.gates; pins = c.args.pins.now; circuits = c.in_ok-circuits.circuits; cells = c.in_ok-cells.cells.items } in
     let h = filled c.args.unit_pm d r f c.sound.ensures c.requires.layers c.requires.nets c.requires.gates c.requires.pins c.in_ok-circuits.ensures c.in_ok-cells.ensures in
-    is_sound c.args.unit_pm d r f h c.deref-2.result.now c.deref-2.ensures.value (plain_netlist c.in_ok-netlist.netlist) c.in_ok-netlist.ensures (omega arith)
+    is_sound c.args.unit_pm d r f h c.deref-2.result.now c.deref-2.ensures.value (plain_netlist c.in_ok-netlist.netlist) c.in_ok-netlist.ensures (let few = c.in_ok-number.ensures.few in omega (arith, few))
     (subst (λ (l : List ℕ). HaveFewNets f.circuits l) (c.deref.ensures.value ∙ sym c.deref-2.ensures.value) (c.if-not-have_few_nets.ensures.0 refl))
 
 pub returns-clause-normal : goal.returns-clause-normal

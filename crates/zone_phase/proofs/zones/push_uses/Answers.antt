@@ -1,7 +1,9 @@
-use Rattle.std.proofs.Common.{◌≡◌, ℕ, slice_index_or, arith, subst, length, sym, ◌∙◌}
+use Rattle.std.proofs.Common.{◌≡◌, ℕ, List, true, slice_index_or, arith, subst, length, sym, ◌∙◌, refl}
+use Rattle.geo_base.specs.declared.shapes.Rect.{Rect}
+use Rattle.rect_sets.specs.Rects.{covers}
 use Rattle.std.proofs.lemmas.Option.{slice_get-get_or}
 use Rattle.zone_phase.specs.declared.uses.Use.{Use}
-use Rattle.zone_phase.proofs.Using.{GrownBy, uses_more}
+use Rattle.zone_phase.proofs.Using.{GrownBy, full_all, uses_more}
 use Rattle.zone_phase.proofs.zones.push_uses.Goals as goal
 
 abbrev no_use : Use
@@ -31,3 +33,8 @@ pub returns-clause-exact : goal.returns-clause-exact
 returns-clause-exact g c =
     let e : c.loop-found.found-index ≡ length c.args.uses.now = (let a = c.loop-found-test.false in let b = c.loop-found.auto.found-index-end in omega arith) in
     subst (λ (n : ℕ). GrownBy c.args.design.now (g.R.Reads.value c.args.reads.now) c.args.name c.args.cell c.args.key c.args.grown.now c.args.uses.now n c.args.out.now.items c.loop-found.out.items) e c.loop-found.invariant.exact
+
+pub returns-then-is_last-clause-exact : goal.returns-then-is_last-clause-exact
+returns-then-is_last-clause-exact g c =
+    full_all c.args.design.now (g.R.Reads.value c.args.reads.now) c.args.name c.args.cell c.args.key c.args.grown.now c.args.uses.now c.loop-found.found-index c.args.out.now.items c.loop-found.out.items
+    c.loop-found.invariant.exact (λ q h. subst (λ (rs : List Rect). covers rs q ≡ true) c.deref.ensures.value (c.if-is_last.ensures refl q h))

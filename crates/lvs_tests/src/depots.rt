@@ -1,0 +1,128 @@
+//! Runs over a depot without an end, one that takes nothing, and one that counts its calls.
+
+ghost use Rattle.lvs_outside.specs.Store.{HasRoom};
+
+use crate::command::{SHAPES, words_of};
+use crate::streams::stream;
+use job_board::OpenGate;
+use lvs_outside::{Depot, EndlessDepot, Failed, IdleDepot, MemorySink, QuietDepot};
+use lvs_run::run_lvs;
+use std::alloc::{AllocError, Global};
+use std::sync::Wait;
+use std::test::Fail;
+use std::thread::Threads;
+
+const RULES: &[u8] = b"a = input(1, 0)\nb = input(2, 0)\nc = a & b\nc.output(10, 0)\n";
+
+// Two rectangles that overlap.
+fn overlap(alloc: Global) -> Result<Vec<u8>, AllocError> {
+    stream(alloc, &[(1, 0, 0, 10, 10), (2, 5, 5, 15, 15)])
+}
+
+// Runs the words over a depot: the code and the line, where the sink's first call fails or not.
+fn over<R: Threads + Wait + Sync, D: Depot>(
+    rt: &R,
+    alloc: Global,
+    words: &[&str],
+    depot: &mut D,
+    sink_fails: bool,
+) -> Result<(u8, Vec<u8>), AllocError>
+    requires { HasRoom (D.state depot.old) }
+{
+    let words = words_of(alloc, words)?;
+    let mut failing = Vec::new(alloc);
+    if sink_fails {
+        failing.push(1)?;
+    }
+    let mut sink = MemorySink::new(alloc, failing);
+    let status = run_lvs(rt, alloc, words.as_slice(), depot, &mut sink, &OpenGate);
+    Ok((status.code(), sink.bytes().to_vec(alloc)?))
+}
+
+// The rules are read first, and never end.
+#[test]
+fn endless_rules(rt: HostRuntime) -> Result<(), Fail> {
+    let alloc = rt.alloc();
+    let mut depot = EndlessDepot::new();
+    let (code, line) = over(&rt, alloc, &SHAPES, &mut depot, false)?;
+    assert_eq!(rt; line.as_slice(), b"refused long r\n".as_slice());
+    assert_eq!(rt; code, 2);
+    Ok(())
+}
+
+#[test]
+fn nothing_taken(rt: HostRuntime) -> Result<(), Fail> {
+    let alloc = rt.alloc();
+    let mut depot = IdleDepot::new(alloc);
+    depot.put(alloc, "l", &overlap(alloc)?)?;
+    depot.put(alloc, "r", RULES)?;
+    let (code, line) = over(&rt, alloc, &SHAPES, &mut depot, false)?;
+    assert_eq!(rt; line.len(), 0);
+    assert_eq!(rt; code, 4);
+    Ok(())
+}
+
+/// A depot that counts the calls on it.
+#[derive(Drop)]
+struct Asked<'a> {
+    inner: QuietDepot<'a>,
+    calls: u64,
+}
+
+impl Depot for Asked<'_> {
+    ghost use Rattle.lvs_outside.specs.QuietStore.{quiet_store};
+
+    ghost state = { λ d. quiet_store d.inner };
+
+    fn open_read(&mut self, path: &str) -> Result<bool, Failed> {
+        self.calls = self.calls.saturating_add(1);
+        self.inner.open_read(path)
+    }
+
+    fn read(&mut self, buf: &mut [u8]) -> Result<usize, Failed> {
+        self.calls = self.calls.saturating_add(1);
+        self.inner.read(buf)
+    }
+
+    fn start_write(&mut self, path: &str) -> Result<(), Failed> {
+        self.calls = self.calls.saturating_add(1);
+        self.inner.start_write(path)
+    }
+
+    fn write(&mut self, piece: &[u8]) -> Result<usize, Failed> {
+        self.calls = self.calls.saturating_add(1);
+        Depot::write(&mut self.inner, piece)
+    }
+
+    fn finish_write(&mut self) -> Result<(), Failed> {
+        self.calls = self.calls.saturating_add(1);
+        self.inner.finish_write()
+    }
+}
+
+// No call before wrong words are refused, and none once the sink failed: an input has its open and
+// two reads, a file its start, write and finish.
+#[test]
+fn calls_made(rt: HostRuntime) -> Result<(), Fail> {
+    let alloc = rt.alloc();
+    let layout = overlap(alloc)?;
+    let rows: [(&[&str], u64); 5] = [
+        (&["run"], 0),
+        (&["shapes", "l", "-r", "s"], 0),
+        (&["shapes", "l", "r", "r"], 0),
+        (&["shapes", "l", "x", "s"], 1),
+        (&SHAPES, 9),
+    ];
+    for (words, calls) in rows {
+        for sink_fails in [false, true] {
+            let mut inner = QuietDepot::new(alloc);
+            inner.lend("l", &layout)?;
+            inner.lend("r", RULES)?;
+            let mut depot = Asked { inner, calls: 0 };
+            let (code, _) = over(&rt, alloc, words, &mut depot, sink_fails)?;
+            assert_eq!(rt; depot.calls, calls);
+            assert_eq!(rt; code == 4, sink_fails);
+        }
+    }
+    Ok(())
+}
