@@ -11,8 +11,10 @@ use std::sync::Wait;
 use std::thread::Threads;
 
 /// Two rectangles overlap. A ring of six transistors isn't two rings of three. There are no such
-/// rules. Three guesses don't tell the rings apart. The rules are a folder.
-const RUNS: [&[&str]; 5] = [
+/// rules. Three guesses don't tell the rings apart. A placed and routed block of 64 standard cells
+/// (tiny of bench/flow), whose taps or wells reach past the cells' boxes, is its hierarchical
+/// schematic with `flatten_unmatched`. The rules are a folder.
+const RUNS: [&[&str]; 7] = [
     &["shapes", "common.gds", "common.lvs", "out.gds"],
     &[
         "run",
@@ -29,6 +31,24 @@ const RUNS: [&[&str]; 5] = [
         "--layout=ring.gds",
         "--rules=few.lvs",
         "--schematic=two.cir",
+        "--shapes=s.gds",
+        "--netlist=n.cir",
+        "--report=p.txt",
+    ],
+    &[
+        "run",
+        "--layout=rail.gds",
+        "--rules=tiny.lvs",
+        "--schematic=tiny.cir",
+        "--shapes=s.gds",
+        "--netlist=n.cir",
+        "--report=p.txt",
+    ],
+    &[
+        "run",
+        "--layout=over.gds",
+        "--rules=tiny.lvs",
+        "--schematic=tiny.cir",
         "--shapes=s.gds",
         "--netlist=n.cir",
         "--report=p.txt",

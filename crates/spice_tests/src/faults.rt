@@ -23,7 +23,7 @@ fn number(fault: &SpiceFault) -> (u16, u64) {
 }
 
 // Texts, and the first fault of each.
-const TEXTS: [(&str, (u16, u64)); 61] = [
+const TEXTS: [(&str, (u16, u64)); 65] = [
     ("\nfoo\n", (50, 2)),
     ("r1 a b 1k\n", (50, 1)),
     (".subckts a\n", (50, 1)),

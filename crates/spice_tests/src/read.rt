@@ -4,7 +4,7 @@ use spice_text::{read_spice, write_spice};
 use std::test::Fail;
 
 // Texts, and the text of what is read from each.
-const TEXTS: [(&str, &str); 19] = [
+const TEXTS: [(&str, &str); 20] = [
     // No card.
     ("", "* lvs netlist\n.END\n"),
     // The first line isn't a title; comments and blank lines stand between a card and its
