@@ -57,7 +57,7 @@ match_is (DiffersByTree gs) h = absurd h
 match_is (Undecided gs) h = absurd h
 match_is (Skipped q) h = absurd h
 
-are_matches : (left right : Netlist) (asked : Asked) (answers : List Answer) → AreAllAnswers left right asked answers → All IsMatch answers → AreMatches left (answer_at answers) (pairings_of answers)
+pub are_matches : (left right : Netlist) (asked : Asked) (answers : List Answer) → AreAllAnswers left right asked answers → All IsMatch answers → AreMatches left (answer_at answers) (pairings_of answers)
 are_matches left right asked answers h all k c is =
     let within = slice_get_within left.circuits k c is in
     let count = h.count in
