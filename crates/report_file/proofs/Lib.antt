@@ -1,3 +1,4 @@
+pub mod Combined
 mod Folded
 mod Read
 mod Aligning
@@ -13,6 +14,9 @@ mod One
 mod Matched
 mod Verdicts
 mod Named
+mod PinNames
+mod PinsApart
+mod NamedTops
 mod Choosing
 mod LeafPair
 mod LeafMade

@@ -1,8 +1,10 @@
 pub mod Alignable
+pub mod Combined
 pub mod Compared
 pub mod Exact
 pub mod File
 pub mod Helps
+pub mod PinNames
 pub mod Matched
 pub mod Named
 pub mod One

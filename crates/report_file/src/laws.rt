@@ -7,12 +7,14 @@ ghost use Rattle.report_file.specs.One.{OneReportLaw};
 ghost use Rattle.report_file.specs.Verdicts.{BadGateLaw, CarriedPairLaw, KeptPairLaw, UndecidedLaw};
 ghost use Rattle.report_file.specs.Verdicts.{UnevenPairLaw};
 
+use crate::alignable::combined_alignable;
 use align_laws::pairs;
 use composed_laws::answers;
 use headline_laws::flat_layouts;
 use match_flow::device_counts;
 use pair_jobs::{pair_answers, verdicts};
 use pair_turns::alone_lines;
+use table_laws::sound_netlist;
 
 /// A layout, rules, netlists and bad gates have one report: one text, one number of pairs, one
 /// outcome.
@@ -26,19 +28,25 @@ pub fn one_report()
 }
 
 /// Where a match is reported, no gate is bad, and the flat layout corresponds to the flattened
-/// schematic.
+/// schematic; by rules that combine devices, where each class of alike ones is one on both sides.
 pub fn matched_report()
     ensures { MatchedReportLaw }
 {
+    combined_alignable();
+    sound_netlist();
     flat_layouts();
+    pairs();
     pair_answers();
 }
 
 /// Where what differs is taken apart, a mismatch without bad gates says that the flat layout
-/// corresponds to the flattened schematic in no way, unless a turn would have been too large.
+/// corresponds to the flattened schematic in no way, unless a turn would have been too large. By
+/// rules that combine devices it says so of the layout's circuits and the schematic's, in each of
+/// which each group of alike ones is one.
 pub fn exact_report()
     ensures { ExactReportLaw }
 {
+    combined_alignable();
     flat_layouts();
     pairs();
     pair_answers();
