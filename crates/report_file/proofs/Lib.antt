@@ -13,6 +13,9 @@ mod One
 mod Matched
 mod Verdicts
 mod Named
+mod PinNames
+mod PinsApart
+mod NamedTops
 mod Choosing
 mod LeafPair
 mod LeafMade

@@ -12,17 +12,18 @@ use Rattle.plain_netlist.specs.FlatLaws.{Passes}
 use Rattle.plain_netlist.specs.Flats.{Corresponds, expanded}
 use Rattle.plain_netlist.specs.Netlist.{Netlist, Slot}
 use Rattle.report_file.specs.File.{IsReportFile}
-use Rattle.report_file.specs.Matched.{Matching}
+use Rattle.report_file.specs.Matched.{KeepsNames, Matching}
 use Rattle.report_file.specs.Turns.{IsTooLarge}
 use Rattle.rule_layers.specs.Meaning.{device_rules, wiring_of}
 use Rattle.rule_text.specs.Rules.{Rules}
 
 -- no test of pairs is a correspondence of the flat layout's netlist with the schematic, flattened
--- from the partner of the layout's top
+-- from the partner of the layout's top; where the rules say `same_pins`, none that keeps the names
+-- of pins
 abbrev pub CorrespondNowhere : (d : Linked) (r : Rules) (unit : ℕ) (layout : Netlist) (top : ℕ)
     (schematic : Netlist) (f : Compared) → Matching d r unit layout top schematic f → Type 0
 CorrespondNowhere d r unit layout top schematic f m =
-    (device : GateSquare → Slot → Bool) (net : Node → Slot → Bool)
+    (device : GateSquare → Slot → Bool) (net : Node → Slot → Bool) → KeepsNames m (Passes net)
     → Corresponds (flat_netlist (plain d) (wiring_of r) (device_rules r) unit)
     (expanded schematic m.partner) (Passes device) (Passes net) → ⊥
 

@@ -3,6 +3,7 @@ pub mod Compared
 pub mod Exact
 pub mod File
 pub mod Helps
+pub mod PinNames
 pub mod Matched
 pub mod Named
 pub mod One

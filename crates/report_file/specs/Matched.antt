@@ -1,6 +1,6 @@
 -- A reported match: the good gates and the regions of the flat layout correspond one to one to the
 -- devices and the nets of the flattened schematic.
-use Rattle.std.specs.Prelude.{◌≡◌, ℕ, List, [], Option, Some}
+use Rattle.std.specs.Prelude.{◌≡◌, ℕ, true, List, [], Option, Some}
 use Rattle.align_laws.specs.Cut.{Alignment}
 use Rattle.align_laws.specs.Partners.{IsAlignedPair}
 use Rattle.cell_graph.specs.Linked.{Linked, plain}
@@ -14,12 +14,14 @@ use Rattle.flat_layout.specs.Regions.{Node}
 use Rattle.headline_laws.specs.FlatNetlist.{flat_netlist, IsFlatGateOf, IsFlatRegionOf}
 use Rattle.match_report.specs.Report.{answers_of}
 use Rattle.match_report.specs.declared.report.Compared.{Compared}
+use Rattle.net_align.specs.Compared.{AreCalleesFirst, IsAlignable}
 use Rattle.net_model.specs.Rows.{plain_netlist}
 use Rattle.pair_jobs.specs.Answers.{pairings_of}
 use Rattle.pair_jobs.specs.declared.verdict.Verdict.TheVariants as verdict
 use Rattle.plain_netlist.specs.Flats.{Corresponds, expanded, Reversed, Through}
 use Rattle.plain_netlist.specs.Netlist.{Netlist, Slot}
 use Rattle.report_file.specs.File.{IsReportFile}
+use Rattle.report_file.specs.PinNames.{AreNamesKept}
 use Rattle.rule_layers.specs.Meaning.{device_rules, wiring_of}
 use Rattle.rule_text.specs.Rules.{Rules}
 
@@ -61,10 +63,15 @@ module _ {d : Linked} {r : Rules} {unit : ℕ} {layout : Netlist} {top : ℕ} {s
       m.right_by m.aligned.left_aligned m.aligned.right_aligned (pairings_of (answers_of f)) top
       m.partner)
 
+  -- where the rules say `same_pins`: a region that is a pin goes with a net of its name
+  abbrev pub KeepsNames : (Node → Slot → Type 0) → Type 0
+  KeepsNames net = r.tells_pins ≡ true → AreNamesKept layout top schematic m.partner
+      (IsFlatRegionOf (plain d) (wiring_of r) m.tables m.circuits layout top) net
+
 -- No gate is bad, and the reported pairs compose to a one-to-one correspondence of the flat layout
 -- with the schematic, flattened from the top's partner: good gates with devices of their class and
 -- sizes, terminals with terminals, source and drain in either order, regions with nets, pins with
--- pins.
+-- pins, of one name where the rules say `same_pins`.
 pub record MatchesFlat (d : Linked) (r : Rules) (unit : ℕ) (layout : Netlist) (top : ℕ)
     (bad : List BadGate) (schematic : Netlist) (compared : Option Compared) : Type 0 where
   pub good : bad ≡ []
@@ -73,6 +80,7 @@ pub record MatchesFlat (d : Linked) (r : Rules) (unit : ℕ) (layout : Netlist) 
   pub matching : Matching d r unit layout top schematic found
   pub corresponds : Corresponds (flat_netlist (plain d) (wiring_of r) (device_rules r) unit)
       (expanded schematic matching.partner) (devices matching) (nets matching)
+  pub names : KeepsNames matching (nets matching)
 
 -- a match is reported of nothing else
 abbrev pub MatchedReportLaw : Type 0
@@ -80,6 +88,6 @@ MatchedReportLaw = (d : Linked) (r : Rules) (unit : ℕ) (t : Tables) (g : Circu
     (level : ℕ → ℕ) (layout : Netlist) (top : ℕ) (bad : List BadGate) (schematic : Netlist)
     (text : List ℕ) (pairs : ℕ)
     → AreTablesRight (plain d) (wiring_of r) t g layout (device_rules r) unit level
-    → IsCircuitCell g.cells top (plain d).top
+    → IsCircuitCell g.cells top (plain d).top → IsAlignable layout → AreCalleesFirst layout
     → (x : IsReportFile d r layout top bad schematic text pairs verdict.Match)
     → MatchesFlat d r unit layout top bad schematic x.compared

@@ -31,6 +31,7 @@ pub fn matched_report()
     ensures { MatchedReportLaw }
 {
     flat_layouts();
+    pairs();
     pair_answers();
 }
 
