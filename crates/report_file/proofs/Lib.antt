@@ -23,3 +23,7 @@ mod LeafMade
 mod LastPair
 mod Exact
 mod Helps
+mod SameTop
+mod TopStays
+mod TopKept
+mod TopPartner

@@ -27,13 +27,13 @@ use Rattle.plain_netlist.proofs.Heights.{good as good_law}
 use Rattle.plain_netlist.specs.Flats.{Corresponds, Flat, expanded, Reversed}
 use Rattle.plain_netlist.specs.Netlist.{Netlist, Slot, slot}
 use Rattle.report_file.proofs.Combined.{as_it_is, as_merged, compared_alignable, compared_order, one_net_compared}
-use Rattle.report_file.proofs.Compared.{good_first}
+use Rattle.report_file.proofs.Compared.{found, good_first}
 use Rattle.report_file.proofs.LastPair.{top_last}
 use Rattle.report_file.proofs.NamedTops.{named_tops}
 use Rattle.report_file.specs.Combined.{CombinedAlignableLaw, compared_of}
 use Rattle.report_file.specs.Compared.{IsComparison, asked_by}
 use Rattle.report_file.specs.File.{all_answers}
-use Rattle.report_file.specs.Matched.{MatchedReportLaw, MatchesFlat}
+use Rattle.report_file.specs.Matched.{MatchedReportLaw, MatchesFlat, MatchingLaw}
 use Rattle.rule_layers.specs.Meaning.{device_rules, wiring_of}
 use Rattle.rule_text.specs.Rules.{Rules}
 use Rattle.table_laws.specs.NameLaws.{ExtractedGoodLaw}
@@ -118,3 +118,21 @@ module _ (alignable : CombinedAlignableLaw) (good : ExtractedGoodLaw) (order : L
 pub matched_report : CombinedAlignableLaw → ExtractedGoodLaw → LeftOrderLaw → FlatCorrespondsLaw → MatchedTopsLaw → MatchedReportLaw
 matched_report alignable good order flat tops d r unit t g level layout top bad schematic text pairs right top_is layout_fine first fine x =
     matched alignable good order flat tops d r unit t g level layout top bad schematic right top_is layout_fine first fine x.same x.compared x.comparison x.outcome
+
+pub matching : MatchingLaw
+matching d r unit t g level layout top bad schematic text pairs v right top_is x f e =
+    let a = (found (compared_of r layout) top (compared_of r schematic) x.same r.max_guesses r.tells_pins x.compared f e x.comparison).0 in (
+      record {
+        tables = t;
+        circuits = g;
+        level = level;
+        are_right = right;
+        top_is = top_is;
+        same = x.same;
+        partner = a.right_top;
+        left_by = a.left_by;
+        right_by = a.right_by;
+        aligned = a.are;
+      },
+      refl,
+    )

@@ -8,6 +8,7 @@ pub mod PinNames
 pub mod Matched
 pub mod Named
 pub mod One
+pub mod Partner
 pub mod Taken
 pub mod Turns
 pub mod Verdicts

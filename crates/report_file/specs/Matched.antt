@@ -20,6 +20,7 @@ use Rattle.merge_laws.specs.Merge.{merged}
 use Rattle.net_align.specs.Compared.{AreCalleesFirst, IsAlignable}
 use Rattle.net_model.specs.Rows.{plain_netlist}
 use Rattle.pair_jobs.specs.Answers.{pairings_of}
+use Rattle.pair_jobs.specs.declared.verdict.Verdict.{Verdict}
 use Rattle.pair_jobs.specs.declared.verdict.Verdict.TheVariants as verdict
 use Rattle.plain_netlist.specs.Flats.{Corresponds, expanded, Reversed, Through}
 use Rattle.plain_netlist.specs.Netlist.{Netlist, Slot}
@@ -124,3 +125,14 @@ MatchedReportLaw = (d : Linked) (r : Rules) (unit : ℕ) (t : Tables) (g : Circu
     → (x : IsReportFile d r (compared_of r layout) top bad (compared_of r schematic) text pairs
     verdict.Match)
     → MatchesFlat d r unit layout top bad schematic x.compared
+
+-- what joins the flat layout with the flattened schematic is there for each comparison
+abbrev pub MatchingLaw : Type 0
+MatchingLaw = (d : Linked) (r : Rules) (unit : ℕ) (t : Tables) (g : CircuitTables)
+    (level : ℕ → ℕ) (layout : Netlist) (top : ℕ) (bad : List BadGate) (schematic : Netlist)
+    (text : List ℕ) (pairs : ℕ) (v : Verdict)
+    → AreTablesRight (plain d) (wiring_of r) t g layout (device_rules r) unit level
+    → IsCircuitCell g.cells top (plain d).top
+    → (x : IsReportFile d r (compared_of r layout) top bad (compared_of r schematic) text pairs v)
+    → (f : Compared) → x.compared ≡ Some f
+    → (m : Matching d r unit layout top schematic f) × (m.same ≡ x.same)

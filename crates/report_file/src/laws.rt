@@ -1,9 +1,10 @@
 //! What a report says of the layout and the schematic.
 ghost use Rattle.report_file.specs.Exact.{ExactReportLaw};
 ghost use Rattle.report_file.specs.Helps.{SameMatchLaw};
-ghost use Rattle.report_file.specs.Matched.{MatchedReportLaw};
+ghost use Rattle.report_file.specs.Matched.{MatchedReportLaw, MatchingLaw};
 ghost use Rattle.report_file.specs.Named.{TopPartnerLaw};
 ghost use Rattle.report_file.specs.One.{OneReportLaw};
+ghost use Rattle.report_file.specs.Partner.{LastPartnerLaw};
 ghost use Rattle.report_file.specs.Verdicts.{BadGateLaw, CarriedPairLaw, KeptPairLaw, UndecidedLaw};
 ghost use Rattle.report_file.specs.Verdicts.{UnevenPairLaw};
 
@@ -38,6 +39,12 @@ pub fn matched_report()
     pairs();
     pair_answers();
 }
+
+/// Whatever a report says, where the top has a partner the flat layout and the flattened schematic are
+/// joined by what was compared.
+pub fn matching()
+    ensures { MatchingLaw }
+{}
 
 /// Where what differs is taken apart, a mismatch without bad gates says that the flat layout
 /// corresponds to the flattened schematic in no way, unless a turn would have been too large. By
@@ -79,3 +86,12 @@ pub fn report_verdicts()
 pub fn top_partner()
     ensures { TopPartnerLaw }
 {}
+
+/// Where no rule flattens a circuit that another one pairs, the top's partner by the rules is that of
+/// the last comparison.
+pub fn last_partner()
+    ensures { LastPartnerLaw }
+{
+    pairs();
+    alone_lines();
+}
