@@ -308,6 +308,8 @@ def flatten_lines(rng, maker):
         lines.append(b"flatten_unmatched")
     if rng.random() < 0.3:
         lines.append(b"same_pins")
+    if rng.random() < 0.3:
+        lines.append(b"combine_devices")
     while rng.random() < 0.25:
         name = rng.choice(maker.circuits).name if rng.random() < 0.9 else b"NoSuch"
         layout = rng.random() < 0.5

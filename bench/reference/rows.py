@@ -687,8 +687,6 @@ def whole_comparison():
 
 @check
 def merged_fingers():
-    if not features.MERGE:
-        return
     data = circuit("A D G S B", ("D G S B", "N", 1), ("S G D B", "N", 2))
     data = data.replace(b".ENDS", b"M3 D G S B N L=2U W=1U\n.ENDS").replace(b"0.1U", b"1U")
     found = netlist.write([netlist.merged(spice.read_spice(data)[0])])

@@ -14,10 +14,9 @@ NUMBER = re.compile(rb"[0-9]{1,7}")
 OPERATORS = {b"&": "and", b"|": "or", b"-": "not", b"^": "xor"}
 WORDS = {b"connect", b"connect_global", b"extract_devices", b"same_circuits", b"max_guesses",
          b"deep", b"netlist", b"align", b"compare", b"schematic", b"input", b"labels",
-         b"polygon_layer", b"output", b"mos4", b"flatten_unmatched", b"same_pins"}
+         b"polygon_layer", b"output", b"mos4", b"flatten_unmatched", b"same_pins",
+         b"combine_devices"}
 PATTERN = frozenset(b"*?[{")
-if features.MERGE:
-    WORDS.add(b"combine_devices")
 if features.MORE:
     WORDS |= {b"resistor_with_bulk", b"diode"}
 BAD_BYTES = frozenset(range(32)) - frozenset((9, 10, 13)) | {127}
@@ -262,7 +261,7 @@ class _Reader:
             statement = ("same_pins",)
         elif word in (b"deep", b"netlist", b"align", b"compare"):
             statement = ("nothing",)
-        elif features.MERGE and word == b"combine_devices":
+        elif word == b"combine_devices":
             statement = ("combine",)
         elif word == b"schematic":
             tokens.mark(b"(")
