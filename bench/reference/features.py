@@ -3,7 +3,7 @@
 The environment variable LVSREF_FEATURES holds a comma separated list of the words below (or
 `all`).  Without it the reference has the plain rule set.
 
-wide    XY in several records, larger limits, refusal of layers outside 32 bits
+wide    larger limits, refusal of layers outside 32 bits
 more    resistors and diodes
 sized   `N = A.sized(D)`
 """

@@ -163,8 +163,7 @@ class Reader:
             self.next_step = place
             return "tail" if place == len(BODIES[self.start]) else "body"
         if state == "tail":
-            if features.WIDE and kind == XY and self.previous == XY \
-                    and self.start in (BOUNDARY, PATH):
+            if kind == XY and self.previous == XY and self.start in (BOUNDARY, PATH):
                 return "tail"
             return {PROPATTR: "value", ENDEL: "elements"}.get(kind)
         if state == "value":
@@ -175,13 +174,10 @@ class Reader:
 
     def accept(self, kind, form, data):
         """Takes a record whose framing is right."""
-        if not features.WIDE and kind == XY and self.state == "tail" \
-                and self.previous == XY and self.start in (BOUNDARY, PATH):
-            raise _Bad(14)
         following = self._fits(kind)
         if following is None:
             raise _Bad(4)
-        if features.WIDE and self.state == "tail" and self.previous == XY and kind != XY:
+        if self.state == "tail" and self.previous == XY and kind != XY:
             if self.start == BOUNDARY and not _closed(self.points):
                 raise _Bad(5)
             if self.start == PATH and not _moves(self.points):
@@ -267,12 +263,9 @@ class Reader:
         if points is None or not points:
             raise _Bad(5)
         if start in (BOUNDARY, PATH):
-            if features.WIDE:
-                points = self.points + points
-                if len(points) > MAX_POINTS:
-                    raise _Bad(14)
-            elif not (_closed(points) if start == BOUNDARY else _moves(points)):
-                raise _Bad(5)
+            points = self.points + points
+            if len(points) > MAX_POINTS:
+                raise _Bad(14)
             if _slanted(points):
                 raise _Bad(6)
         elif start == BOX:

@@ -238,14 +238,10 @@ def false_records():
     twice = FIRST_STREAM[:154] + FIRST_STREAM[110:154] + FIRST_STREAM[154:]
     half = FIRST_STREAM[:110] + layout.xy((0, 0), (0, 10), (10, 10))
     rest = layout.xy((10, 0), (0, 0)) + FIRST_STREAM[154:]
-    if features.WIDE:
-        for data, size in ((twice, 274), (half + rest, 234)):
-            equal(len(data), size)
-            equal(go(SHAPES, l=data, r=AND_RULES)[0], b"shapes cells 1 rectangles 1")
-        refused_layout(half + FIRST_STREAM[154:], b"5 record 10 offset 138")
-    else:
-        refused_layout(twice, b"14 record 10 offset 154")
-        refused_layout(half + rest, b"5 record 9 offset 110")
+    for data, size in ((twice, 274), (half + rest, 234)):
+        equal(len(data), size)
+        equal(go(SHAPES, l=data, r=AND_RULES)[0], b"shapes cells 1 rectangles 1")
+    refused_layout(half + FIRST_STREAM[154:], b"5 record 10 offset 138")
 
 
 @check
