@@ -2,7 +2,6 @@
 
 import struct
 
-import features
 import values
 
 HEADER, BGNLIB, LIBNAME, UNITS, ENDLIB = 0x00, 0x01, 0x02, 0x03, 0x04
