@@ -21,7 +21,7 @@ use Rattle.report_file.specs.Combined.{CombinedAlignableLaw, compared_of}
 use Rattle.report_file.specs.Compared.{IsComparison}
 use Rattle.report_file.specs.File.{IsReportFile, all_answers}
 use Rattle.report_file.specs.Exact.{CorrespondNowhere, ExactReportLaw}
-use Rattle.report_file.specs.Matched.{MatchedReportLaw, Matching}
+use Rattle.report_file.specs.Matched.{MatchedReportLaw, Matching, MatchingLaw}
 use Rattle.report_file.specs.Turns.{IsTooLarge}
 use Rattle.refine_match.proofs.ClassCounts.{uneven_class}
 use Rattle.report_file.specs.Verdicts.{CarriedPairLaw, KeptPairLaw, UndecidedLaw, UnevenPairLaw}
@@ -88,7 +88,7 @@ exact_of law d r unit layout top bad schematic text pairs fine first comparison.
 
 -- ---- what was compared
 
-module _ (alignable : CombinedAlignableLaw) (one : OneRunVerdictLaw) (uneven : UnevenPairLaw) (carried : CarriedPairLaw) (kept : KeptPairLaw) (undecided : UndecidedLaw) (exact : ExactReportLaw) (l : Layout) (r : Rules) (nl : Netlist) (path netlist_path report_path : List ℕ) (a : Answer) (done : Done)
+module _ (alignable : CombinedAlignableLaw) (one : OneRunVerdictLaw) (uneven : UnevenPairLaw) (carried : CarriedPairLaw) (kept : KeptPairLaw) (undecided : UndecidedLaw) (exact : ExactReportLaw) (joined : MatchingLaw) (l : Layout) (r : Rules) (nl : Netlist) (path netlist_path report_path : List ℕ) (a : Answer) (done : Done)
     (h : IsCompared l r nl path netlist_path report_path a done) (flat : ShowsFlat l r h.spelled h.netlist h.top h.bad) where
   -- the netlists that are compared
   abbrev near : Netlist
@@ -152,6 +152,9 @@ module _ (alignable : CombinedAlignableLaw) (one : OneRunVerdictLaw) (uneven : U
         carried l.design r near h.top h.bad far h.report h.pairs h.verdict near_alignable near_order h.report_file f k c d p map is pair answer;
     kept = λ f k c d p is pair map corresponds differs.
         kept l.design r near h.top h.bad far h.report h.pairs h.verdict near_alignable near_order h.report_file f k c d p map is pair corresponds differs;
+    joined = λ f is.
+        let cells = h.netlist_file.of_cells in
+        joined l.design r l.header.unit_pm _ _ _ h.netlist h.top h.bad nl h.report h.pairs h.verdict cells.right cells.top_is h.report_file f is;
     exact = λ e on none f is small m.
         exact_of exact l.design r l.header.unit_pm h.netlist h.top h.bad nl h.report h.pairs h.comparable.layout h.comparable.order h.verdict (same_verdict h.verdict comparison.Mismatch (sym h.answer ∙ e)) h.report_file on
         (nil_from_length h.bad (no_length l r h.spelled h.netlist h.top h.bad flat none)) f is small m;
@@ -162,9 +165,9 @@ shows_in : {l : Layout} {r : Rules} {nl : Netlist} {path netlist report : List �
     → (h : IsCompared l r nl path netlist report a done) → ShowsFlat l r h.spelled h.netlist h.top h.bad
 shows_in {l} {r} shows bytes name read h = shows bytes name l r h.netlist h.top h.bad h.spelled read h.comparable.rules h.netlist_file
 
-pub verdicts_law : CombinedAlignableLaw → ShowsFlatLaw → OneRunVerdictLaw → UnevenPairLaw → CarriedPairLaw → KeptPairLaw → UndecidedLaw → ExactReportLaw → VerdictsLaw
-verdicts_law alignable shows one uneven carried kept undecided exact bytes name l r nl path netlist report a done read h =
-    has_verdicts alignable one uneven carried kept undecided exact l r nl path netlist report a done h (shows_in shows bytes name read h)
+pub verdicts_law : CombinedAlignableLaw → ShowsFlatLaw → OneRunVerdictLaw → UnevenPairLaw → CarriedPairLaw → KeptPairLaw → UndecidedLaw → ExactReportLaw → MatchingLaw → VerdictsLaw
+verdicts_law alignable shows one uneven carried kept undecided exact joined bytes name l r nl path netlist report a done read h =
+    has_verdicts alignable one uneven carried kept undecided exact joined l r nl path netlist report a done h (shows_in shows bytes name read h)
 
 pub match_law : ShowsFlatLaw → MatchedReportLaw → MatchLaw
 match_law shows matched bytes name l r nl path netlist report a done read h good =

@@ -65,11 +65,13 @@ OfEachPair r compared P = (f : Compared) (k : ℕ) (c d : Circuit) (p : Pair) �
 -- ran out. A pair whose circuits have unequal numbers of devices of some class, or of some class
 -- and sizes, makes Bad, whatever the pairs below it are. Whatever the answer is, a pair reported as
 -- matched carries a correspondence which keeps the pins of the pairs below, and a pair that has
--- such a correspondence is never reported as different. Where the rules say `flatten_unmatched`, no
--- gate is bad, the top has a partner and nothing became too large, Bad says that the flat layout
--- corresponds to the schematic, flattened from that partner, in no way; where the rules combine
--- devices, it says so of the layout's circuits and the schematic's, in each of which each group of
--- alike transistors is one.
+-- such a correspondence is never reported as different. Where the top has a partner, there is what
+-- joins the flat layout with the schematic, flattened from that partner, by the lines of the last
+-- comparison. Where the rules say `flatten_unmatched`, no gate is bad, the top has a partner and
+-- nothing became too large, Bad says that the flat layout corresponds to the flattened schematic in
+-- no way, or with `same_pins` in none that keeps the names of pins; where the rules combine devices,
+-- it says so of the layout's circuits and the schematic's, in each of which each group of alike
+-- transistors is one.
 pub record HasVerdicts (a : Answer) (l : Layout) (r : Rules) (schematic : Netlist)
     (netlist_text report_text : List ℕ) : Type 0 where
   pub report : IsReportOf l r schematic a netlist_text report_text
@@ -87,6 +89,9 @@ pub record HasVerdicts (a : Answer) (l : Layout) (r : Rules) (schematic : Netlis
       (λ p answer. (map : Pairing) → answer ≡ Match map → IsCorrespondence p map)
   pub kept : OfEachPair r report.file.compared
       (λ p answer. (map : Pairing) → IsCorrespondence p map → IsDifference answer → ⊥)
+  pub joined : (f : Compared) → report.file.compared ≡ Some f
+      → (m : Matching l.design r l.header.unit_pm report.netlist report.top schematic f)
+      × (m.same ≡ report.file.same)
   pub exact : a ≡ Bad → r.flattens_unmatched ≡ true
       → HasNoBadGate (plain l.design) (wiring_of r) (device_rules r) → (f : Compared)
       → report.file.compared ≡ Some f → ((lines : List ℕ) → IsTooLarge r f lines → ⊥)
