@@ -1,10 +1,18 @@
--- What a run leaves: a text that the reader of `lvs` takes, or no file changed.
-use Rattle.std.specs.Prelude.{◌≡◌, ◌≢◌, ◌⊎◌, ℕ, List}
+-- What a run leaves: what the cards of the joined files make, where the reader of `lvs` takes it, and
+-- all that is told of it; or no file changed.
+use Rattle.std.specs.Prelude.{◌≡◌, ◌≢◌, ◌⊎◌, ℕ, Bool, List, length, Ok}
 use Rattle.lvs_outside.specs.Loops.{IsFile}
-use Rattle.lvs_outside.specs.Store.{Store, SameFiles}
+use Rattle.lvs_outside.specs.Store.{Store, SameFiles, appended}
+use Rattle.lvs_outside.specs.Summary.{SinkState}
 use Rattle.plain_netlist.specs.Netlist.{Netlist}
 use Rattle.spice_rows.specs.Sizes.{read_limit}
 use Rattle.spice_text.specs.Means.{Means}
+use Rattle.netlist_join.specs.declared.files.File.{File}
+use Rattle.netlist_join.specs.declared.join.Joined.{Joined}
+use Rattle.netlist_turn.specs.Made.{Made}
+use Rattle.netlist_turn.specs.Turning.{turned}
+use Rattle.netlist_turn.specs.declared.settings.Settings.{Settings}
+use Rattle.netlist_told.specs.Sums.{told_text}
 use Rattle.netlist_run.specs.declared.status.Status.{Status}
 use Rattle.netlist_run.specs.declared.status.Status.TheVariants.{Good, Refused, Outside, NoMemory}
 
@@ -13,16 +21,43 @@ pub record IsAccepted (text : List ℕ) : Type 0 where
   pub netlist : Netlist
   pub means : Means read_limit text netlist
 
--- the file of one path holds such a text now, where it is told, and each other file stays
-pub record WritesAccepted (old new : Store) : Type 0 where
+-- the text is what the cards of the joined files make, the reader of `lvs` takes it, and the lines
+-- tell each change
+pub record IsOutput (files : List File) (joined : Joined) (has_title : Bool) (text lines : List ℕ) :
+    Type 0 where
+  pub settings : Settings
+  pub made : Made
+  pub turned : turned settings joined.text.items ≡ Ok made
+  pub text_is : text ≡ made.text
+  pub lines_are : lines
+      ≡ told_text has_title files joined.origins.items made.told (length made.lines)
+  pub accepted : IsAccepted text
+
+-- so it is of some files, joined
+pub record IsPrepared (text lines : List ℕ) : Type 0 where
+  pub files : List File
+  pub joined : Joined
+  pub has_title : Bool
+  pub output : IsOutput files joined has_title text lines
+
+-- the file of one path holds such a text now, where it is told, and each other file stays; and its
+-- lines were sent
+pub record WritesOutput (old new : Store) (before after : SinkState) : Type 0 where
   pub path : List ℕ
   pub text : List ℕ
-  pub accepted : IsAccepted text
+  pub lines : List ℕ
+  pub prepared : IsPrepared text lines
   pub written : (p : List ℕ) → ((p ≡ path) × IsFile text (new.file p))
       ⊎ ((p ≢ path) × (new.file p ≡ old.file p))
+  pub sent : after.told ≡ appended before.told lines
 
--- after Good such a file is written, after Refused no file has changed
-abbrev pub Leaves : Store → Store → Status → Type 0
-Leaves old new Good = WritesAccepted old new
-Leaves old new Refused = SameFiles old new
-Leaves old new status = Unit {0}
+-- after Good it is written and told, after Refused no file has changed
+abbrev pub Leaves : Store → Store → SinkState → SinkState → Status → Type 0
+Leaves old new before after Good = WritesOutput old new before after
+Leaves old new before after Refused = SameFiles old new
+Leaves old new before after status = Unit {0}
+
+-- a line was sent, and the answer is this one, or the outside failed
+abbrev pub Sends : List ℕ → SinkState → SinkState → Status → Status → Type 0
+Sends line before after status answer =
+    ((answer ≡ status) × (after.told ≡ appended before.told line)) ⊎ (answer ≡ Outside)

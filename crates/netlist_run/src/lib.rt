@@ -5,7 +5,6 @@
 mod lines;
 mod run;
 mod status;
-mod told;
 mod words;
 
 pub use run::run_netlist;

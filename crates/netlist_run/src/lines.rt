@@ -2,24 +2,10 @@
 
 use crate::status::Stop;
 use netlist_join::{File, JoinFault, Origin, Why};
+use netlist_told::{origin_of, push_place};
 use netlist_turn::TurnFault;
 use spice_rows::SpiceFault;
 use std::alloc::{AllocError, Global};
-
-/// Adds the path of a file, and a line of it.
-pub fn push_place(
-    alloc: Global,
-    out: &mut Vec<u8>,
-    files: &[File],
-    at: Origin,
-) -> Result<(), AllocError> {
-    if let Some(file) = files.get(at.file) {
-        out.extend_from_slice(file.path.as_bytes())?;
-    }
-    let line = at.line;
-    let text = format!(in alloc; " line {line} ")?;
-    out.extend_from_slice(text.as_bytes())
-}
 
 /// A line of two texts.
 pub fn line_of(alloc: Global, words: &[u8], name: &[u8]) -> Result<Vec<u8>, AllocError> {
@@ -62,18 +48,6 @@ pub fn join_stop(alloc: Global, files: &[File], fault: JoinFault) -> Stop {
         JoinFault::At(why, at) => stop_at(alloc, files, at, why_text(why)),
         JoinFault::NoMemory => Stop::NoMemory,
     }
-}
-
-/// Where line n of a text came from, counted from 1.
-pub fn origin_of(origins: &[Origin], n: u64) -> Origin {
-    let at = match usize::try_from(n) {
-        Ok(n) => origins.get(n.saturating_sub(1)).copied(),
-        Err(_) => None,
-    };
-    at.unwrap_or(Origin {
-        file: usize::MAX,
-        line: n,
-    })
 }
 
 fn turn_line(fault: &TurnFault) -> u64 {

@@ -1,18 +1,20 @@
 //! The run: files are read and joined, cards turned, the text tried, and then it is written.
 
-ghost use Rattle.std.specs.Prelude.{◌≡◌, ◌⊎◌, IfOk, OnOk};
+ghost use Rattle.std.specs.Prelude.{◌≡◌, IfOk, OnOk, length};
 ghost use Rattle.lvs_outside.specs.Store.{HasRoom, SameFiles};
 ghost use Rattle.lvs_outside.specs.Summary.{SinkHasRoom};
-ghost use Rattle.netlist_run.specs.Accepted.{IsAccepted, Leaves};
+ghost use Rattle.netlist_turn.specs.Seen.{seen};
+ghost use Rattle.netlist_told.specs.Sums.{told_text};
+ghost use Rattle.netlist_run.specs.Accepted.{IsAccepted, IsOutput, IsPrepared, Leaves, Sends};
 
 use crate::lines::{join_stop, line_of, spice_stop, turn_stop};
 use crate::status::{Status, Stop};
-use crate::told::{push_title, push_told};
 use crate::words::{Command, read_command};
 use lvs_outside::{Depot, Sink, write_all, write_file};
-use netlist_join::{Failed, File, Joined, join_files, load_files};
+use netlist_join::{Failed, File, Joined, Origin, join_files, load_files};
 use netlist_plan::plan_cards;
-use netlist_turn::{Turned, turn_cards};
+use netlist_told::told_lines;
+use netlist_turn::{Settings, Turned, turn_cards};
 use spice_rows::SpiceFault;
 use spice_text::read_spice;
 use std::alloc::{AllocError, Global};
@@ -36,56 +38,66 @@ fn try_text(alloc: Global, text: &[u8]) -> Result<(), SpiceFault>
 fn finished(
     alloc: Global,
     files: &[File],
-    joined: &Joined,
+    origins: &[Origin],
     has_title: bool,
     turned: Turned,
 ) -> Result<Output, AllocError>
-    requires { IsAccepted turned.text.items }
-    ensures { IfOk result (λ o. IsAccepted o.text.items) }
+    ensures text { IfOk result (λ o. o.text.items ≡ (seen turned.entry).text) }
+    ensures lines { IfOk result (λ o. o.lines.items ≡ told_text has_title files.now origins.now
+        (seen turned.entry).told (length (seen turned.entry).lines)) }
 {
+    let told = turned.told.as_slice();
+    let cards = turned.lines.as_slice();
+    let lines = told_lines(alloc, has_title, files, origins, told, cards.len())?;
     let Turned {
         text,
-        lines,
-        told,
+        lines: _,
+        told: _,
         at: _,
     } = turned;
-    let mut out = Vec::new(alloc);
-    if has_title {
-        push_title(alloc, &mut out, files)?;
-    }
-    push_told(
-        alloc,
-        &mut out,
-        files,
-        joined.origins.as_slice(),
-        told.as_slice(),
-    )?;
-    let count = lines.len();
-    let last = format!(in alloc; "written {count} cards\n")?;
-    out.extend_from_slice(last.as_bytes())?;
-    Ok(Output { text, lines: out })
+    Ok(Output { text, lines })
 }
 
 // What is to be written, where the reader of `lvs` takes what was made.
 fn tried(
     alloc: Global,
     files: &[File],
-    joined: &Joined,
+    origins: &[Origin],
     has_title: bool,
     turned: Turned,
 ) -> Result<Output, Stop>
-    ensures { IfOk result (λ o. IsAccepted o.text.items) }
+    ensures text { IfOk result (λ o. o.text.items ≡ (seen turned.entry).text) }
+    ensures lines { IfOk result (λ o. o.lines.items ≡ told_text has_title files.now origins.now
+        (seen turned.entry).told (length (seen turned.entry).lines)) }
+    ensures accepted { IfOk result (λ o. IsAccepted (seen turned.entry).text) }
 {
     match try_text(alloc, turned.text.as_slice()) {
         Ok(()) => {
-            let output = finished(alloc, files, joined, has_title, turned)?;
+            let output = finished(alloc, files, origins, has_title, turned)?;
             Ok(output)
         }
         Err(fault) => {
-            let origins = joined.origins.as_slice();
             let stop = spice_stop(alloc, files, origins, turned.lines.as_slice(), fault)?;
             Err(stop)
         }
+    }
+}
+
+// What the cards of a joined text make by these settings.
+fn turned_output(
+    alloc: Global,
+    files: &[File],
+    joined: &Joined,
+    has_title: bool,
+    settings: &Settings,
+) -> Result<Output, Stop>
+    ensures { IfOk result (λ o. IsOutput files.now joined.now has_title o.text.items
+        o.lines.items) }
+{
+    let origins = joined.origins.as_slice();
+    match turn_cards(alloc, settings, joined.text.as_slice()) {
+        Ok(turned) => tried(alloc, files, origins, has_title, turned),
+        Err(fault) => Err(turn_stop(alloc, files, origins, fault)),
     }
 }
 
@@ -99,7 +111,8 @@ fn top_of(command: &Command) -> Option<&[u8]> {
 
 // What is made of a joined text.
 fn made(alloc: Global, files: &[File], joined: &Joined, command: &Command) -> Result<Output, Stop>
-    ensures { IfOk result (λ o. IsAccepted o.text.items) }
+    ensures { IfOk result (λ o. IsOutput files.now joined.now command.now.has_title o.text.items
+        o.lines.items) }
 {
     let text = joined.text.as_slice();
     let origins = joined.origins.as_slice();
@@ -112,11 +125,7 @@ fn made(alloc: Global, files: &[File], joined: &Joined, command: &Command) -> Re
         let line = line_of(alloc, b"refused no circuit ", top.unwrap_or(b""))?;
         return Err(Stop::Refused(line));
     }
-    let turned = match turn_cards(alloc, &plan.settings, text) {
-        Ok(turned) => turned,
-        Err(fault) => return Err(turn_stop(alloc, files, origins, fault)),
-    };
-    tried(alloc, files, joined, command.has_title, turned)
+    turned_output(alloc, files, joined, command.has_title, &plan.settings)
 }
 
 fn load_stop(alloc: Global, failed: Failed) -> Result<Stop, AllocError> {
@@ -151,7 +160,7 @@ fn prepare<D: Depot>(alloc: Global, command: &Command, depot: &mut D) -> Result<
     requires { HasRoom (D.state depot.old) }
     ensures room { OnOk result (HasRoom (D.state depot.new)) }
     ensures files { SameFiles (D.state depot.old) (D.state depot.new) }
-    ensures made { IfOk result (λ o. IsAccepted o.text.items) }
+    ensures made { IfOk result (λ o. IsPrepared o.text.items o.lines.items) }
 {
     let inputs = paths_of(alloc, command)?;
     let count = inputs.len();
@@ -169,7 +178,7 @@ fn prepare<D: Depot>(alloc: Global, command: &Command, depot: &mut D) -> Result<
 
 fn send<S: Sink>(out: &mut S, line: &[u8], status: Status) -> Status
     requires { SinkHasRoom (S.state out.old) }
-    ensures { (result ≡ status) ⊎ (result ≡ Status.Outside) }
+    ensures { Sends line.now (S.state out.old) (S.state out.new) status result }
 {
     match write_all(out, line) {
         Ok(()) => status,
@@ -192,8 +201,9 @@ fn stopped<S: Sink>(out: &mut S, stop: Stop) -> Status
 fn deliver<D: Depot, S: Sink>(depot: &mut D, out: &mut S, path: &str, output: &Output) -> Status
     requires depot { HasRoom (D.state depot.old) }
     requires sink { SinkHasRoom (S.state out.old) }
-    requires accepted { IsAccepted output.now.text.items }
-    ensures { Leaves (D.state depot.old) (D.state depot.new) result }
+    requires prepared { IsPrepared output.now.text.items output.now.lines.items }
+    ensures { Leaves (D.state depot.old) (D.state depot.new) (S.state out.old) (S.state out.new)
+        result }
 {
     match write_file(depot, path, output.text.as_slice()) {
         Ok(()) => send(out, output.lines.as_slice(), Status::Good),
@@ -211,7 +221,8 @@ fn run_command<D: Depot, S: Sink>(
 ) -> Status
     requires depot { HasRoom (D.state depot.old) }
     requires sink { SinkHasRoom (S.state out.old) }
-    ensures { Leaves (D.state depot.old) (D.state depot.new) result }
+    ensures { Leaves (D.state depot.old) (D.state depot.new) (S.state out.old) (S.state out.new)
+        result }
 {
     match prepare(alloc, command, depot) {
         Ok(output) => deliver(depot, out, path, &output),
@@ -230,7 +241,8 @@ pub fn run_netlist<D: Depot, S: Sink>(
 ) -> Status
     requires depot { HasRoom (D.state depot.old) }
     requires sink { SinkHasRoom (S.state out.old) }
-    ensures { Leaves (D.state depot.old) (D.state depot.new) result }
+    ensures { Leaves (D.state depot.old) (D.state depot.new) (S.state out.old) (S.state out.new)
+        result }
 {
     let command = match read_command(alloc, words) {
         Ok(Some(command)) => command,

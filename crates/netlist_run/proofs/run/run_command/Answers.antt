@@ -1,6 +1,12 @@
-use Rattle.netlist_run.proofs.Leaving.{behind}
+use Rattle.netlist_run.proofs.Leaving.{behind, not_good}
 use Rattle.netlist_run.proofs.run.run_command.Goals as goal
 
 pub returns-in-Ok : goal.returns-in-Ok
 returns-in-Ok g c =
-    behind (g.D.Depot.state c.args.depot.now) (g.D.Depot.state c.prepare.new.depot) (g.D.Depot.state c.deliver.new.depot) c.deliver.result c.prepare.ensures.files c.deliver.ensures
+    behind (g.D.Depot.state c.args.depot.now) (g.D.Depot.state c.prepare.new.depot) (g.D.Depot.state c.deliver.new.depot) (g.S.Sink.state c.args.out.now) (g.S.Sink.state c.deliver.new.out)
+    c.deliver.result c.prepare.ensures.files c.deliver.ensures
+
+pub returns-in-Err : goal.returns-in-Err
+returns-in-Err g c =
+    not_good (g.D.Depot.state c.args.depot.now) (g.D.Depot.state c.prepare.new.depot) (g.S.Sink.state c.args.out.now) (g.S.Sink.state c.stopped.new.out) c.stopped.result c.stopped.ensures
+    c.prepare.ensures.files
