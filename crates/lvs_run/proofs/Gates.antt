@@ -1,5 +1,5 @@
 -- The told bad gates, the answer, and the bad gates of the flat layout.
-use Rattle.std.proofs.Common.{◌≡◌, inl, inr, ℕ, ◌<◌, List, [], ◌∷◌, length, refl, sym, ap, ◌∙◌, arith}
+use Rattle.std.proofs.Common.{◌≡◌, inl, ℕ, ◌<◌, List, [], ◌∷◌, length, refl, sym, ap, ◌∙◌, arith}
 use Rattle.std.proofs.lemmas.List.{nil_from_length}
 use Rattle.cell_graph.specs.Linked.{plain}
 use Rattle.deep_tables.specs.declared.gates.BadGate.{BadGate}

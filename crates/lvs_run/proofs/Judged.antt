@@ -1,8 +1,8 @@
 -- What the answer of a comparison is, by its bad gates and its pairs.
-use Rattle.std.proofs.Common.{Bool, ◌≡◌, inl, inr, ◌↔◌, ℕ, ◌<◌, true, false, true≢false, List, [], ◌∷◌, length, Option, Some, None, IsNone, refl, sym, ap, subst, ◌∙◌, arith}
+use Rattle.std.proofs.Common.{Bool, ◌≡◌, inl, inr, ◌↔◌, ℕ, true, false, true≢false, List, [], length, Option, Some, None, IsNone, refl, sym, ap, subst, ◌∙◌}
 use Rattle.std.proofs.lemmas.List.{nil_from_length}
 use Rattle.std.specs.List.{Any}
-use Rattle.cell_graph.specs.Linked.{Linked, plain}
+use Rattle.cell_graph.specs.Linked.{Linked}
 use Rattle.deep_tables.specs.declared.gates.BadGate.{BadGate}
 use Rattle.gds_layout.specs.declared.layout.Layout.{Layout}
 use Rattle.gds_layout.specs.Layouts.{IsRead}
@@ -10,11 +10,10 @@ use Rattle.match_laws.specs.Answer.{Answer as PairAnswer, IsDifference}
 use Rattle.match_report.specs.Report.{answers_of}
 use Rattle.match_report.specs.declared.report.Compared.{Compared}
 use Rattle.net_align.specs.Compared.{AreCalleesFirst, HasNoPartner, IsAlignable}
-use Rattle.netlist_file.specs.Flat.{HasNoBadGate, ShowsFlat, ShowsFlatLaw}
+use Rattle.netlist_file.specs.Flat.{ShowsFlat, ShowsFlatLaw}
 use Rattle.pair_jobs.specs.Verdict.{IsRunVerdict, IsUndecided, OneRunVerdictLaw}
 use Rattle.pair_jobs.specs.declared.verdict.Verdict.{Verdict as Comparison}
 use Rattle.pair_jobs.specs.declared.verdict.Verdict.TheVariants as comparison
-use Rattle.plain_netlist.specs.Lists.{IsListed}
 use Rattle.plain_netlist.specs.Netlist.{Netlist}
 use Rattle.report_file.proofs.Combined.{compared_alignable, compared_order}
 use Rattle.report_file.specs.Combined.{CombinedAlignableLaw, compared_of}
@@ -25,7 +24,6 @@ use Rattle.report_file.specs.Matched.{MatchedReportLaw, Matching, MatchingLaw}
 use Rattle.report_file.specs.Turns.{IsTooLarge}
 use Rattle.refine_match.proofs.ClassCounts.{uneven_class}
 use Rattle.report_file.specs.Verdicts.{CarriedPairLaw, KeptPairLaw, UndecidedLaw, UnevenPairLaw}
-use Rattle.rule_layers.specs.Meaning.{device_rules, wiring_of}
 use Rattle.rule_text.specs.Rules.{Rules}
 use Rattle.lvs_run.specs.Answers.{Answer, Good, Bad, Undecided, Done, comparison_answer}
 use Rattle.lvs_run.specs.Outcomes.{IsCompared}

@@ -19,7 +19,7 @@ use Rattle.spice_text.specs.Means.{Means as SpiceMeans}
 use Rattle.lvs_run.specs.Answers.{Answer, IsVerdict, NoMemory, Outside, RefusedMergedLayout, RefusedMergedSchematic}
 use Rattle.lvs_run.specs.Inputs.{DepotFaults, NoComparison, NoSchematic, NotMerged, ReadAs, RefusesComparison, RefusesSchematic}
 use Rattle.lvs_run.specs.Merging.{NotNarrow}
-use Rattle.lvs_run.specs.Outcomes.{IsTooWide, merge_refusal}
+use Rattle.lvs_run.specs.Outcomes.{merge_refusal}
 
 abbrev pub IsOfMerge : Answer → Type 0
 IsOfMerge (RefusedMergedLayout name) = Unit {0}

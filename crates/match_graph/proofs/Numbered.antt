@@ -16,7 +16,7 @@ use Rattle.match_graph.specs.declared.kinds.Own.{Own}
 use Rattle.match_graph.specs.declared.kinds.Own.TheVariants.{Net, Device, Call}
 use Rattle.match_graph.specs.contracts.kinds.OwnPartialEq.TheImpl.{eq-value}
 use Rattle.plain_netlist.specs.Netlist.{Circuit}
-use Rattle.match_graph.specs.Kinds.{plain_own, IsNumbering, AreKindsOf, Adds, ArePinNames, name_in, net_own, net_owns, named_owns, device_own, call_own, circuit_owns}
+use Rattle.match_graph.specs.Kinds.{plain_own, IsNumbering, AreKindsOf, Adds, ArePinNames, name_in, net_own, named_owns, device_own, call_own, circuit_owns}
 
 -- the derived test
 same_is : (q r : Own) → eq-value.it q r ≡ same_own (plain_own q) (plain_own r)

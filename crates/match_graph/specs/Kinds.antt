@@ -1,5 +1,5 @@
 -- Nodes numbered by what the first round goes by.
-use Rattle.std.specs.Prelude.{◌≡◌, ◌↔◌, ◌<◌, ◌==◌, ℕ, Bool, List, [], ◌++◌, length, map, Option, Some}
+use Rattle.std.specs.Prelude.{◌≡◌, ◌↔◌, ◌<◌, ℕ, Bool, List, [], ◌++◌, length, map, Option, Some}
 use Rattle.std.specs.Prelude.{None, slice_index, slice_index_or, unwrap_or}
 use Rattle.std.specs.HashMap.{get, hash_map_len}
 use Rattle.plain_netlist.specs.Netlist.{DeviceRow, CallRow, Circuit}

@@ -1,6 +1,6 @@
 -- Names of pins, and of nets that are none.
-use Rattle.std.proofs.Common.{◌≡◌, inl, inr, ℕ, ◌&&◌, Bool, true, false, cond, List, [], ap}
-use Rattle.std.specs.Prelude.{slice_index, slice_index_or}
+use Rattle.std.proofs.Common.{◌≡◌, inl, inr, ℕ, ◌&&◌, Bool, true, cond, [], ap}
+use Rattle.std.specs.Prelude.{slice_index_or}
 use Rattle.std.proofs.lemmas.Bool.{cases_Bool}
 use Rattle.net_names.specs.Folding.{folded_bytes}
 use Rattle.match_laws.proofs.Images.{any_listed, listed_any}

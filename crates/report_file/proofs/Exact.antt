@@ -1,5 +1,5 @@
 -- A mismatch without a flat correspondence.
-use Rattle.std.proofs.Common.{◌≡◌, ◌↔◌, ◌⊎◌, inl, inr, ℕ, ◌+◌, ◌<◌, ◌==◌, ◌&&◌, Bool, true, false, cond, List, [], ◌∷◌, length, Option, Some, None, slice_get, refl, sym, ap, subst, ◌∙◌, arith, true≢false}
+use Rattle.std.proofs.Common.{◌≡◌, ◌↔◌, inl, inr, ℕ, ◌+◌, ◌==◌, ◌&&◌, Bool, true, false, cond, List, [], ◌∷◌, length, Option, Some, slice_get, refl, sym, ap, subst, ◌∙◌, arith, true≢false}
 use Rattle.std.specs.List.{Any}
 use Rattle.std.proofs.lemmas.Bool.{cases_Bool}
 use Rattle.std.proofs.lemmas.Option.{slice_get-get_or, get_or_from_slice_get}
@@ -43,7 +43,7 @@ use Rattle.report_file.specs.Combined.{CombinedAlignableLaw, compared_of}
 use Rattle.report_file.specs.Compared.{asked_by}
 use Rattle.report_file.specs.Exact.{ExactReportLaw}
 use Rattle.report_file.specs.File.{IsReportFile, all_answers}
-use Rattle.report_file.specs.Matched.{KeepsNames, Matching}
+use Rattle.report_file.specs.Matched.{Matching}
 use Rattle.report_file.specs.PinNames.{AreNamesKept, HasPinName, folded_name}
 use Rattle.report_file.specs.Turns.{AreTurns, EndsAfter, EndsWith, IsTooLarge, NoneGoes}
 use Rattle.rule_layers.specs.Meaning.{device_rules, wiring_of}

@@ -1,17 +1,15 @@
 -- The names of circuits that go.
-use Rattle.std.proofs.Common.{◌≡◌, ◌⊎◌, inl, inr, ℕ, zero, suc, ◌+◌, ◌<◌, ◌≤◌, Bool, true, false, cond, List, [], ◌∷◌, ◌++◌, length, map, Some, slice_get, refl, sym, ap, subst, ◌∙◌, arith, true≢false}
-use Rattle.std.specs.Prelude.{◌||◌, not}
+use Rattle.std.proofs.Common.{◌≡◌, inl, inr, ℕ, zero, suc, ◌<◌, ◌≤◌, Bool, true, false, cond, List, [], ◌∷◌, ◌++◌, length, map, Some, slice_get, refl, sym, ap, subst, ◌∙◌, arith, true≢false}
+use Rattle.std.specs.Prelude.{◌||◌}
 use Rattle.std.specs.List.{filter, list_any}
 use Rattle.std.specs.Str.{bytes_eq}
-use Rattle.std.proofs.lemmas.Bool.{cases_Bool}
 use Rattle.std.proofs.lemmas.List.{map-append}
 use Rattle.std.proofs.lemmas.List.Folds.{list_any-append}
 use Rattle.net_names.specs.Folding.{folded_bytes}
 use Rattle.plain_netlist.specs.Lists.{AreApart, IsListed}
 use Rattle.plain_netlist.specs.Netlist.{Circuit}
-use Rattle.plain_netlist.proofs.Members.{listed, position}
 use Rattle.pair_turns.specs.Alone.{gone_names, has_name}
-use Rattle.pair_turns.proofs.Lists.{apart_join, found, listed_found, of_map, on_map}
+use Rattle.pair_turns.proofs.Lists.{apart_join, found, of_map, on_map}
 
 -- a circuit that goes has this name
 pub record IsGone (goes : List Bool) (cs : List Circuit) (name : List ℕ) : Type 0 where

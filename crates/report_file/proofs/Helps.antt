@@ -1,10 +1,8 @@
 -- A match stays as it is where what differs is taken apart.
-use Rattle.std.proofs.Common.{◌≡◌, ◌⊎◌, inl, inr, ℕ, zero, suc, ◌+◌, ◌<◌, Bool, true, false, List, [], ◌∷◌, length, Option, Some, None, slice_get, get_or, refl, sym, ap, subst, ◌∙◌, true≢false}
+use Rattle.std.proofs.Common.{◌≡◌, inl, inr, ℕ, zero, suc, ◌+◌, Bool, false, List, [], ◌∷◌, length, Option, Some, None, slice_get, refl, sym, ap, subst, ◌∙◌, true≢false}
 use Rattle.std.specs.Prelude.{◌&&◌, ◌||◌, slice_index_or}
 use Rattle.std.specs.List.{All, list_any}
 use Rattle.std.proofs.lemmas.Option.{slice_get_within, get_or_from_slice_get}
-use Rattle.cell_graph.specs.Linked.{Linked}
-use Rattle.deep_tables.specs.declared.gates.BadGate.{BadGate}
 use Rattle.match_laws.specs.Answer.{Answer, DiffersByTree, DiffersInRound, Match, Skipped, Undecided}
 use Rattle.match_report.specs.Report.{answers_of}
 use Rattle.match_report.specs.declared.report.Compared.{Compared}
@@ -15,7 +13,7 @@ use Rattle.pair_jobs.specs.declared.verdict.Verdict.TheVariants as verdict
 use Rattle.pair_turns.specs.Alone.{Names}
 use Rattle.pair_turns.specs.Going.{goes_from, is_difference, takes_apart}
 use Rattle.plain_netlist.specs.Netlist.{Circuit, Netlist}
-use Rattle.report_file.specs.File.{IsReportFile, all_answers}
+use Rattle.report_file.specs.File.{all_answers}
 use Rattle.report_file.specs.Helps.{SameMatchLaw, flattening}
 use Rattle.report_file.specs.Turns.{AreTurns, EndsAfter, NoneGoes}
 use Rattle.rule_text.specs.Rules.{Rules}

@@ -1,8 +1,7 @@
 -- Where a pair differs and none goes, it is that of the tops, and calls nothing.
-use Rattle.std.proofs.Common.{◌≡◌, ◌⊎◌, inl, inr, ℕ, zero, suc, ◌+◌, ◌-◌, ◌<◌, ◌≤◌, Bool, true, false, List, [], ◌∷◌, length, Some, slice_get, get_or, refl, sym, ap, subst, ◌∙◌, arith, true≢false}
+use Rattle.std.proofs.Common.{◌≡◌, inl, inr, ℕ, zero, suc, ◌+◌, ◌-◌, ◌≤◌, Bool, true, false, List, [], ◌∷◌, length, Some, slice_get, refl, sym, ap, subst, ◌∙◌, arith, true≢false}
 use Rattle.std.specs.Prelude.{◌==◌, ◌&&◌, ◌||◌, nat_lt, slice_index_or, if◌then◌else◌}
-use Rattle.std.specs.List.{Any, list_any}
-use Rattle.std.proofs.lemmas.Bool.{cases_Bool}
+use Rattle.std.specs.List.{list_any}
 use Rattle.std.proofs.lemmas.Bool.Decides.{Decides-eqb, Decides-ltb}
 use Rattle.std.proofs.lemmas.Option.{slice_get_within}
 use Rattle.align_laws.specs.Partners.{IsAlignedPair, IsPair}
@@ -11,8 +10,8 @@ use Rattle.composed_laws.specs.Answered.{is_called}
 use Rattle.match_laws.specs.Answer.{Answer, DiffersByTree, DiffersInRound, IsDifference, Match, Skipped, Undecided}
 use Rattle.net_align.specs.Compared.{AreCalleesFirst}
 use Rattle.pair_turns.specs.Going.{AreGoing, calls_none, goes_from, is_difference, takes_apart}
-use Rattle.plain_netlist.specs.Netlist.{CallRow, Circuit, Netlist, IsCall, IsCircuit}
-use Rattle.plain_netlist.specs.Sound.{IsCallPath, IsCalledFrom}
+use Rattle.plain_netlist.specs.Netlist.{CallRow, Circuit, Netlist, IsCircuit}
+use Rattle.plain_netlist.specs.Sound.{IsCallPath}
 use Rattle.plain_netlist.proofs.Faults.{sides}
 use Rattle.plain_netlist.proofs.Members.{item_at}
 use Rattle.report_file.proofs.Kept.{made_of}

@@ -1,12 +1,12 @@
 -- Two circuits that call nothing and expand to the same have a correspondence.
-use Rattle.std.proofs.Common.{◌≡◌, ◌⊎◌, inl, inr, ℕ, zero, suc, ◌<◌, List, [], ◌∷◌, length, Some, slice_get, get_or, refl, sym, ap, subst, ◌∙◌, arith}
+use Rattle.std.proofs.Common.{◌≡◌, inl, inr, ℕ, ◌<◌, List, [], ◌∷◌, length, Some, slice_get, refl, sym, ap, subst, ◌∙◌, arith}
 use Rattle.std.specs.Prelude.{slice_index}
-use Rattle.std.proofs.lemmas.Option.{slice_get_within, get_or_from_slice_get}
-use Rattle.match_laws.specs.Circuits.{IsCallImage, IsCorrespondence, IsDeviceImage, IsOneToOne, Pair, Pairing, pin_name}
-use Rattle.plain_netlist.specs.Chains.{IsChain, Reaches}
+use Rattle.std.proofs.lemmas.Option.{slice_get_within}
+use Rattle.match_laws.specs.Circuits.{IsCorrespondence, IsDeviceImage, IsOneToOne, Pair, Pairing, pin_name}
+use Rattle.plain_netlist.specs.Chains.{IsChain}
 use Rattle.plain_netlist.specs.Flats.{AreRowsAlike, Corresponds, Reversed, Row, expanded, row_at}
 use Rattle.plain_netlist.specs.Lists.{IsListed}
-use Rattle.plain_netlist.specs.Netlist.{Bulk, CallRow, Circuit, DeviceRow, Drain, Gate, HasDevice, HasNet, InOneNet, IsCall, IsCircuit, IsDevice, IsEitherJoin, IsJoin, IsOnPin, IsPin, IsTerminal, Joins, Netlist, Pole, Slot, Source, on, slot}
+use Rattle.plain_netlist.specs.Netlist.{Bulk, CallRow, Circuit, DeviceRow, Drain, Gate, HasDevice, InOneNet, IsCall, IsCircuit, IsEitherJoin, IsOnPin, IsTerminal, Joins, Netlist, Pole, Slot, Source, on, slot}
 use Rattle.plain_netlist.specs.Sound.{AreNetsThere}
 use Rattle.plain_netlist.proofs.Alike.{reversed, terminal_image}
 use Rattle.plain_netlist.proofs.Members.{item_at, listed, position}

@@ -1,12 +1,12 @@
 -- The pairings of a match keep the names of the tops' pins.
-use Rattle.std.proofs.Common.{◌≡◌, inl, ℕ, ◌<◌, ◌&&◌, Bool, true, cond, List, [], length, take, Some, slice_get, refl, sym, ap, subst, ◌∙◌, arith}
+use Rattle.std.proofs.Common.{◌≡◌, inl, ℕ, ◌<◌, ◌&&◌, Bool, true, cond, List, [], length, Some, slice_get, refl, sym, ap, subst, ◌∙◌, arith}
 use Rattle.std.specs.Prelude.{slice_index, slice_index_or}
-use Rattle.std.specs.List.{All, list_any}
-use Rattle.std.proofs.lemmas.Option.{slice_get_within, slice_get-get_or}
+use Rattle.std.specs.List.{All}
+use Rattle.std.proofs.lemmas.Option.{slice_get-get_or}
 use Rattle.net_names.specs.Folding.{folded_bytes}
 use Rattle.align_laws.proofs.Kept.{kept_alike}
 use Rattle.align_laws.proofs.Sides.{aligned_sides}
-use Rattle.align_laws.specs.Aligned.{HasOnlyKept, IsAligned, aligned_net}
+use Rattle.align_laws.specs.Aligned.{aligned_net}
 use Rattle.align_laws.specs.Cut.{Alignment, cut}
 use Rattle.align_laws.specs.Partners.{AreSides, IsAlignedPair, IsPair}
 use Rattle.composed_laws.proofs.Answered.{answered}
@@ -15,13 +15,13 @@ use Rattle.composed_laws.specs.Answered.{Asked, pair_in}
 use Rattle.composed_laws.specs.Composed.{AreNetsPaired}
 use Rattle.composed_laws.specs.Matched.{AreNetsMatched}
 use Rattle.match_laws.proofs.Images.{listed_any}
-use Rattle.match_laws.specs.Answer.{Answer, Match}
-use Rattle.match_laws.specs.Circuits.{IsCorrespondence, Pairing, is_pin, pin_name}
+use Rattle.match_laws.specs.Answer.{Answer}
+use Rattle.match_laws.specs.Circuits.{IsCorrespondence, Pairing, pin_name}
 use Rattle.pair_jobs.proofs.Together.{are_matches, carried_pair}
 use Rattle.pair_jobs.specs.Answers.{AreAllAnswers, IsMatch, answer_at, pairings_of}
 use Rattle.plain_netlist.proofs.Members.{listed, position}
 use Rattle.plain_netlist.specs.Lists.{IsListed}
-use Rattle.plain_netlist.specs.Netlist.{Circuit, InOneNet, IsCircuit, IsOnPin, IsTerminal, Netlist, Slot, slot}
+use Rattle.plain_netlist.specs.Netlist.{Circuit, InOneNet, IsCircuit, IsTerminal, Netlist, Slot, slot}
 use Rattle.plain_netlist.specs.Sound.{IsGood}
 use Rattle.report_file.proofs.PinNames.{pin_back}
 use Rattle.report_file.proofs.PinsApart.{one_name}

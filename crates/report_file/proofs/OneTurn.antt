@@ -1,5 +1,5 @@
 -- What follows a comparison is one.
-use Rattle.std.proofs.Common.{◌≡◌, ◌⊎◌, inl, inr, ℕ, ◌<◌, Bool, true, false, List, [], ◌∷◌, ◌++◌, Option, Some, None, length, get_or, refl, sym, ap, subst, ◌∙◌, true≢false}
+use Rattle.std.proofs.Common.{◌≡◌, ◌⊎◌, inl, inr, ℕ, Bool, false, List, Option, Some, None, sym, ap, subst, ◌∙◌, true≢false}
 use Rattle.std.specs.List.{list_any}
 use Rattle.std.proofs.lemmas.List.{ext_get_or}
 use Rattle.std.proofs.lemmas.Option.{none-some}
@@ -13,7 +13,7 @@ use Rattle.pair_turns.specs.Going.{AreGoing}
 use Rattle.pair_turns.specs.Limit.{IsLimit}
 use Rattle.plain_netlist.specs.Netlist.{Circuit, Netlist}
 use Rattle.report_file.proofs.OneLimit.{one_limit}
-use Rattle.report_file.specs.Turns.{AreTakenApart, EndsWith, IsTooLarge, IsTurn, NoneGoes}
+use Rattle.report_file.specs.Turns.{AreTakenApart, EndsWith, IsTurn, NoneGoes}
 use Rattle.rule_text.specs.Rules.{Rules}
 
 -- the sides and the answers are the same

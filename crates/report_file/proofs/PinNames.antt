@@ -1,5 +1,5 @@
 -- An aligned netlist keeps the names of pins.
-use Rattle.std.proofs.Common.{◌≡◌, ℕ, ◌<◌, true, List, [], ◌∷◌, ◌++◌, Some, length, map, get_or, slice_get, refl, sym, ap, subst, ◌∙◌}
+use Rattle.std.proofs.Common.{◌≡◌, ℕ, ◌<◌, true, List, [], ◌∷◌, ◌++◌, Some, length, map, get_or, slice_get, sym, ap, subst, ◌∙◌}
 use Rattle.std.proofs.lemmas.Option.{get_or_from_slice_get}
 use Rattle.net_names.specs.Folding.{folded_bytes}
 use Rattle.align_laws.proofs.CutList.{cut_is, cut_pruned, given_is}
@@ -12,13 +12,11 @@ use Rattle.align_laws.proofs.Pieces.{append_left, indexed_at}
 use Rattle.align_laws.proofs.Prune.{ArePruned, IsHeldSlot, IsPrunedExpansion, cuts_of, new_slot, slot_is}
 use Rattle.align_laws.proofs.Soundness.{aligned_sound}
 use Rattle.align_laws.specs.Aligned.{HasOnlyKept, IsAligned, IsAlignedBy, aligned_net}
-use Rattle.align_laws.specs.Cut.{Alignment, cut}
+use Rattle.align_laws.specs.Cut.{Alignment}
 use Rattle.align_laws.specs.Flat.{AreInlined, IsSameExpansion, Maps, device_image, net_image}
 use Rattle.align_laws.specs.Lists.{FlatCircuit, NetAt, given_of, inner_nets, maps_of, own_net, pieces, indexed, plain}
 use Rattle.plain_netlist.proofs.Members.{item_at, listed, map_at, position}
-use Rattle.plain_netlist.specs.Lists.{IsListed}
-use Rattle.plain_netlist.specs.Netlist.{CallRow, Circuit, DeviceRow, HasDevice, InOneNet, IsCircuit, IsPin, IsSlot, IsTerminal, Netlist, Pole, Slot, on, slot}
-use Rattle.plain_netlist.specs.Sound.{IsGood}
+use Rattle.plain_netlist.specs.Netlist.{Circuit, DeviceRow, HasDevice, InOneNet, IsCircuit, IsSlot, IsTerminal, Netlist, Pole, Slot, on, slot}
 use Rattle.report_file.specs.PinNames.{HasPinName, folded_name}
 
 module _ (g o : Netlist) (w : Alignment) (a : IsAligned g o w) (only : HasOnlyKept o w) (c : ℕ) (kept : w.kept c ≡ true) where

@@ -1,11 +1,11 @@
 -- The top keeps its partner where circuits without a partner are told by lines.
-use Rattle.std.proofs.Common.{◌≡◌, ◌⊎◌, inl, inr, ℕ, ◌≤◌, Bool, true, false, cond, List, [], ◌∷◌, ◌++◌, length, map, refl, sym, ap, subst, ◌∙◌, true≢false}
+use Rattle.std.proofs.Common.{◌≡◌, inl, inr, ℕ, Bool, true, false, cond, List, [], ◌∷◌, map, refl, sym, ap, subst, ◌∙◌, true≢false}
 use Rattle.std.specs.Prelude.{◌&&◌, not}
 use Rattle.std.specs.List.{filter, list_any}
 use Rattle.std.specs.Str.{bytes_eq}
 use Rattle.std.proofs.lemmas.Bool.{cases_Bool}
 use Rattle.net_names.specs.Folding.{folded_bytes}
-use Rattle.align_laws.specs.Partners.{AreSaidSame, HasName, IsLeftSaid, IsPartner, IsPartnerByName, IsPartnerOfTop, IsRightSaid}
+use Rattle.align_laws.specs.Partners.{HasName, IsPartner, IsPartnerByName, IsRightSaid}
 use Rattle.pair_turns.specs.Alone.{Names, all_names, circuit_names, has_name, is_untouched, same_alone, stranger}
 use Rattle.pair_turns.specs.Laws.{AreAtMost}
 use Rattle.pair_turns.proofs.Lines.{no_stranger}

@@ -1,5 +1,5 @@
 -- The turns that were taken, and those to come.
-use Rattle.std.proofs.Common.{◌≡◌, ℕ, ◌≤◌, Bool, List, [], ◌∷◌, ◌++◌, Option, Some, None, length, map, refl, sym, subst}
+use Rattle.std.proofs.Common.{ℕ, Bool, List, [], ◌∷◌, ◌++◌, Option, Some, None, map, refl, sym, subst}
 use Rattle.std.specs.Prelude.{not, slice_get}
 use Rattle.std.specs.Str.{bytes_eq}
 use Rattle.std.proofs.lemmas.List.{append_assoc}
@@ -8,7 +8,7 @@ use Rattle.match_report.specs.Pairs.{name_of}
 use Rattle.match_report.specs.declared.report.Compared.{Compared}
 use Rattle.net_names.specs.Folding.{folded_bytes}
 use Rattle.pair_turns.specs.Alone.{Names, all_names, longest, same_alone, with_gone}
-use Rattle.pair_turns.specs.Laws.{AreNamesOnce, LongestLaw}
+use Rattle.pair_turns.specs.Laws.{LongestLaw}
 use Rattle.pair_turns.proofs.Lists.{picked_apart}
 use Rattle.plain_netlist.specs.Lists.{AreApart}
 use Rattle.plain_netlist.specs.Netlist.{Netlist}

@@ -1,9 +1,8 @@
 -- A comparison, and what follows it.
-use Rattle.std.proofs.Common.{◌≡◌, ℕ, ◌<◌, Bool, true, List, [], ◌++◌, Option, Some, None, length, map, slice_get, refl, sym, ap, subst, ◌∙◌, arith}
+use Rattle.std.proofs.Common.{◌≡◌, ℕ, ◌<◌, Bool, true, List, [], ◌++◌, Option, Some, None, refl, sym, ap, subst, ◌∙◌, arith}
 use Rattle.std.proofs.lemmas.Option.{slice_get_within}
 use Rattle.align_laws.specs.Partners.{AreSides}
 use Rattle.align_laws.proofs.Sides.{aligned_sides}
-use Rattle.match_report.specs.Report.{answers_of}
 use Rattle.match_report.specs.declared.report.Compared.{Compared}
 use Rattle.net_align.specs.Compared.{IsAlignable}
 use Rattle.net_model.specs.Rows.{plain_netlist}

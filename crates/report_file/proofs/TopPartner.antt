@@ -1,12 +1,10 @@
 -- The top's partner in the last comparison is the one that it has by the lines of the rules.
-use Rattle.std.proofs.Common.{◌≡◌, ◌⊎◌, inl, inr, ℕ, Bool, true, false, cond, List, [], ◌∷◌, ◌++◌, map, Option, Some, None, slice_get, refl, sym, ap, subst, ◌∙◌, true≢false}
+use Rattle.std.proofs.Common.{◌≡◌, ℕ, Bool, true, false, List, [], ◌∷◌, map, Option, Some, None, slice_get, refl, sym, ap, subst, ◌∙◌, true≢false}
 use Rattle.std.specs.Prelude.{not}
-use Rattle.std.specs.List.{filter, list_any}
 use Rattle.std.specs.Str.{bytes_eq}
-use Rattle.std.proofs.lemmas.Bool.{cases_Bool}
 use Rattle.std.proofs.lemmas.Slice.Eq.{bytes_eq-Decides}
 use Rattle.net_names.specs.Folding.{folded_bytes}
-use Rattle.align_laws.specs.Partners.{AlignedSidesLaw, AreLinesApart, HasName, IsPartner, LeftOrderLaw, OnePartnerLaw}
+use Rattle.align_laws.specs.Partners.{AlignedSidesLaw, AreLinesApart, IsPartner, LeftOrderLaw, OnePartnerLaw}
 use Rattle.match_report.specs.Pairs.{name_of}
 use Rattle.match_report.specs.Report.{answers_of}
 use Rattle.match_report.specs.declared.report.Compared.{Compared}
@@ -17,7 +15,7 @@ use Rattle.pair_turns.specs.Alone.{Names, all_names, has_name, longest, same_alo
 use Rattle.pair_turns.specs.Laws.{AloneLaw, LinesApartLaw, LongestLaw}
 use Rattle.pair_turns.proofs.Lists.{found, listed_found, of_map, on_map, picked}
 use Rattle.plain_netlist.specs.Lists.{IsListed}
-use Rattle.plain_netlist.specs.Netlist.{Circuit, Netlist, IsCircuit}
+use Rattle.plain_netlist.specs.Netlist.{Circuit, Netlist}
 use Rattle.report_file.proofs.Compared.{ordered}
 use Rattle.report_file.proofs.SameTop.{IsFree, same_top}
 use Rattle.report_file.proofs.SoFar.{fit_by_rules}

@@ -1,5 +1,5 @@
 -- The pair of the tops is never taken apart, and lines of the rules stay or go whole.
-use Rattle.std.proofs.Common.{◌≡◌, ◌⊎◌, inl, inr, ℕ, zero, suc, ◌+◌, ◌<◌, ◌≤◌, Bool, true, false, List, [], ◌∷◌, ◌++◌, length, map, Some, slice_get, get_or, refl, sym, ap, subst, ◌∙◌, arith, true≢false}
+use Rattle.std.proofs.Common.{◌≡◌, inl, inr, ℕ, suc, ◌+◌, ◌≤◌, Bool, true, false, List, [], ◌∷◌, length, Some, slice_get, refl, sym, ap, subst, ◌∙◌, arith, true≢false}
 use Rattle.std.specs.Prelude.{◌==◌, ◌&&◌, ◌||◌, nat_lt, slice_index_or, if◌then◌else◌}
 use Rattle.std.specs.List.{list_any}
 use Rattle.std.proofs.lemmas.Bool.{cases_Bool}
@@ -8,12 +8,12 @@ use Rattle.std.proofs.lemmas.Option.{slice_get_within, get_or_from_slice_get}
 use Rattle.align_laws.proofs.FlatGood.{flat_is_good}
 use Rattle.align_laws.proofs.Soundness.{call_from}
 use Rattle.align_laws.specs.Cut.{Alignment}
-use Rattle.align_laws.specs.Partners.{IsAlignedPair, IsPair}
+use Rattle.align_laws.specs.Partners.{IsAlignedPair}
 use Rattle.composed_laws.specs.Answered.{is_called}
 use Rattle.match_laws.specs.Answer.{Answer}
 use Rattle.pair_turns.specs.Going.{AreGoing, calls_none, goes_from, is_difference, takes_apart}
-use Rattle.plain_netlist.specs.Netlist.{CallRow, Circuit, Netlist, IsCall, IsCircuit}
-use Rattle.plain_netlist.specs.Sound.{IsCallPath, IsCalledFrom, IsGood}
+use Rattle.plain_netlist.specs.Netlist.{CallRow, Circuit, Netlist, IsCircuit}
+use Rattle.plain_netlist.specs.Sound.{IsCallPath, IsGood}
 use Rattle.plain_netlist.proofs.Members.{position}
 use Rattle.plain_netlist.specs.Lists.{IsListed}
 use Rattle.net_align.specs.Compared.{AreCalleesFirst}

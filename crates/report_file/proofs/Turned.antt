@@ -1,18 +1,18 @@
 -- A turn: the circuits that go had partners, and fewer circuits have one after it.
-use Rattle.std.proofs.Common.{◌≡◌, ◌⊎◌, inl, inr, ℕ, ◌<◌, ◌≤◌, Bool, true, false, List, [], ◌∷◌, ◌++◌, length, map, Some, slice_get, refl, sym, ap, subst, ◌∙◌, arith, true≢false}
+use Rattle.std.proofs.Common.{◌≡◌, ◌⊎◌, inl, inr, ℕ, ◌<◌, ◌≤◌, Bool, true, false, List, ◌++◌, length, Some, slice_get, refl, sym, ap, subst, ◌∙◌, true≢false}
 use Rattle.std.specs.Prelude.{not}
-use Rattle.std.specs.List.{filter, list_any}
+use Rattle.std.specs.List.{filter}
 use Rattle.std.proofs.lemmas.Bool.{cases_Bool}
 use Rattle.std.proofs.lemmas.Simd.{map-map}
 use Rattle.net_names.specs.Folding.{folded_bytes}
-use Rattle.align_laws.specs.Partners.{AreNamesApart, IsPartner}
+use Rattle.align_laws.specs.Partners.{AreNamesApart}
 use Rattle.net_align.specs.Compared.{AreAligned}
 use Rattle.net_align.specs.Names.{left_names, right_names}
 use Rattle.pair_turns.specs.Alone.{Names, all_names, circuit_names, first_names, gone_names, has_name, same_alone, second_names, with_gone}
 use Rattle.pair_turns.specs.Laws.{AloneLaw, AreAtMost, AreNamesOnce, LinesApartLaw}
 use Rattle.pair_turns.proofs.Lists.{on_map}
 use Rattle.plain_netlist.specs.Lists.{AreApart, IsListed}
-use Rattle.plain_netlist.specs.Netlist.{Circuit, Netlist, IsCircuit}
+use Rattle.plain_netlist.specs.Netlist.{Circuit, Netlist}
 use Rattle.plain_netlist.proofs.Members.{either_side, in_left, in_right, listed}
 use Rattle.report_file.proofs.Gone.{both_apart, comes, gone, gone_there, one_fewer, stays}
 use Rattle.report_file.proofs.Kept.{made_apart, made_of}

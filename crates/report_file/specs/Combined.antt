@@ -1,6 +1,6 @@
 -- What is compared by rules that combine devices: netlists in whose circuits each group of alike
 -- transistors is one.
-use Rattle.std.specs.Prelude.{◌≡◌, ℕ, List, Option, None, cond, slice_get}
+use Rattle.std.specs.Prelude.{ℕ, List, Option, None, cond, slice_get}
 use Rattle.std.specs.Option.{option_map}
 use Rattle.match_report.specs.Pairs.{name_of}
 use Rattle.merge_laws.specs.Grouped.{is_too_wide, merged_netlist}

@@ -1,5 +1,5 @@
 -- The names of the tops' pins.
-use Rattle.std.specs.Prelude.{◌≡◌, ◌<◌, ℕ, Bool, true, List, [], length, slice_index_or}
+use Rattle.std.specs.Prelude.{◌≡◌, ℕ, List, [], slice_index_or}
 use Rattle.net_names.specs.Folding.{folded_bytes}
 use Rattle.plain_netlist.specs.Lists.{IsListed}
 use Rattle.plain_netlist.specs.Netlist.{Circuit, InOneNet, IsCircuit, Netlist, Slot, slot}

@@ -1,4 +1,4 @@
-use Rattle.std.proofs.Common.{◌≡◌, ◌<◌, ℕ, [], true, length}
+use Rattle.std.proofs.Common.{◌≡◌, ◌<◌, ℕ, true, length}
 use Rattle.match_graph.specs.Kinds.{name_in}
 use Rattle.match_laws.specs.Circuits.{pin_name}
 use Rattle.net_model.specs.Rows.{plain_circuit}

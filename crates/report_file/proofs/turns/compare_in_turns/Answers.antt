@@ -1,11 +1,10 @@
-use Rattle.std.proofs.Common.{◌≡◌, ◌++◌, ◌∙◌, ℕ, Bool, List, [], Option, Some, None, IfSome, refl, sym, ap, subst}
+use Rattle.std.proofs.Common.{◌≡◌, ◌∙◌, ℕ, Bool, List, [], Option, Some, None, refl, sym, ap, subst}
 use Rattle.std.proofs.lemmas.List.{append-nil}
-use Rattle.align_laws.specs.Partners.{AreSides}
 use Rattle.match_flow.proofs.Sided.{none_is}
 use Rattle.match_report.specs.declared.report.Compared.{Compared}
 use Rattle.net_align.specs.Names.{left_names, right_names}
 use Rattle.net_model.specs.Rows.{plain_netlist}
-use Rattle.pair_turns.specs.Alone.{all_names, longest, with_gone}
+use Rattle.pair_turns.specs.Alone.{all_names, longest}
 use Rattle.pair_turns.specs.Seen.{names_in}
 use Rattle.plain_netlist.specs.Lists.{AreApart}
 use Rattle.report_file.specs.Compared.{IsComparison}
