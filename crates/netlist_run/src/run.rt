@@ -261,7 +261,7 @@ pub fn run_netlist<D: Depot, S: Sink>(
     let Some(path) = &command.out else {
         return send(out, b"refused words\n", Status::Refused);
     };
-    if is_input(&command, path.as_str()) {
+    if is_input(&command, path.as_str()) || has_twins(command.inputs.as_slice()) {
         return send(out, b"refused same\n", Status::Refused);
     }
     run_command(alloc, &command, path.as_str(), depot, out)
@@ -270,4 +270,16 @@ pub fn run_netlist<D: Depot, S: Sink>(
 // Whether a path is that of an input.
 fn is_input(command: &Command, path: &str) -> bool {
     command.inputs.iter().any(|input| input.as_str() == path)
+}
+
+// Whether a path stands twice.
+fn has_twins(paths: &[String]) -> bool {
+    let mut rest = paths;
+    'paths: while let [path, more @ ..] = rest {
+        if more.iter().any(|other| other.as_str() == path.as_str()) {
+            return true;
+        }
+        rest = more;
+    }
+    false
 }
