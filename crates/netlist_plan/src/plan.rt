@@ -1,8 +1,14 @@
 //! The names that cards define, and the circuits' calls.
 
+ghost use Rattle.std.specs.Prelude.{◌≡◌, IfErr, IfOk, Ok};
+ghost use Rattle.std.specs.Option.{option_copied};
+ghost use Rattle.netlist_plan.specs.Marks.{KeepsTop};
+ghost use Rattle.netlist_plan.specs.Defined.{defined, params_seen, settings_seen, SaysFault};
+
+use crate::params::{Params, none, take};
 use crate::reach::reached;
-use netlist_turn::{Row, Settings, TurnFault, folded, is_param_word, is_params, row_of, unquoted};
-use spice_cards::{CardReader, Param, Token, read_params, read_words};
+use netlist_turn::{Row, Settings, TurnFault, folded, is_params, row_of};
+use spice_cards::{CardReader, Token, read_words};
 use std::alloc::{AllocError, Global};
 use text_table::TextTable;
 
@@ -20,11 +26,9 @@ pub struct Plan {
     pub is_found: bool,
 }
 
-// What the cards so far define; `open` is the number of the circuit that they stand in.
+// The circuits of the cards so far; `open` is the number of the one that they stand in.
 #[derive(Drop)]
-struct Defined {
-    names: TextTable,
-    values: Vec<Vec<u8>>,
+struct Circuits {
     circuits: TextTable,
     calls: Vec<Vec<usize>>,
     open: Option<usize>,
@@ -46,38 +50,14 @@ fn called<'a>(words: &[&'a [u8]]) -> Option<&'a [u8]> {
     }
 }
 
-impl Defined {
-    fn new(alloc: Global) -> Defined {
-        Defined {
-            names: TextTable::new(alloc),
-            values: Vec::new(alloc),
+impl Circuits {
+    fn new(alloc: Global) -> Circuits {
+        Circuits {
             circuits: TextTable::new(alloc),
             calls: Vec::new(alloc),
             open: None,
             begun: Vec::new(alloc),
         }
-    }
-
-    fn add_param(&mut self, alloc: Global, line: u64, param: &Param) -> Result<(), TurnFault> {
-        let name = folded(alloc, param.key)?;
-        if self.names.contains(&name) {
-            return Err(TurnFault::Twice(line));
-        }
-        self.names.add(alloc, &name)?;
-        let value = unquoted(param.value).to_vec(alloc)?;
-        self.values.push(value).map_err(AllocError::from)?;
-        Ok(())
-    }
-
-    fn add_params(&mut self, alloc: Global, line: u64, tokens: &[Token]) -> Result<(), TurnFault> {
-        let mut params = Vec::new(alloc);
-        if !read_params(&mut params, tokens)? {
-            return Err(TurnFault::BadForm(line));
-        }
-        for param in &params {
-            self.add_param(alloc, line, param)?;
-        }
-        Ok(())
     }
 
     // The number of a circuit's name.
@@ -116,53 +96,75 @@ impl Defined {
         Ok(())
     }
 
-    fn take(&mut self, alloc: Global, line: u64, tokens: &[Token]) -> Result<(), TurnFault> {
+    fn take(&mut self, alloc: Global, tokens: &[Token]) -> Result<(), AllocError> {
         let [Token::Word(first), behind @ ..] = tokens else {
             return Ok(());
         };
-        if is_param_word(first) {
-            return self.add_params(alloc, line, behind);
-        }
         let mut words = Vec::new(alloc);
         let _rest = read_words(&mut words, behind)?;
         match row_of(first) {
-            Row::Opening => self.begin(alloc, &words)?,
-            Row::Ending => self.open = None,
-            Row::Call => self.add_call(alloc, &words)?,
-            _ => {}
+            Row::Opening => self.begin(alloc, &words),
+            Row::Ending => {
+                self.open = None;
+                Ok(())
+            }
+            Row::Call => self.add_call(alloc, &words),
+            _ => Ok(()),
         }
-        Ok(())
     }
+}
 
-    // What cards are turned by.
-    fn plan(self, alloc: Global, top: Option<&[u8]>, leaving: Leaving) -> Result<Plan, AllocError> {
-        let Defined {
-            names,
-            values,
-            circuits,
-            calls,
-            open: _,
-            begun,
-        } = self;
-        let mut marks = Vec::new(alloc);
-        let mut is_found = true;
-        if let Some(name) = top {
+// Which circuits are kept: none is marked where all are.
+fn marks_of(
+    alloc: Global,
+    circuits: &Circuits,
+    top: Option<&[u8]>,
+) -> Result<(Vec<bool>, bool), AllocError>
+    ensures { IfOk result (λ r. KeepsTop circuits.now.circuits r.0.items (option_copied top.entry)
+        r.1) }
+{
+    match top {
+        None => Ok((Vec::new(alloc), true)),
+        Some(name) => {
             let name = folded(alloc, name)?;
-            let k = circuits.place(&name);
-            is_found = begun.get(k).copied().unwrap_or(false);
-            marks = reached(alloc, &calls, k)?;
+            let k = circuits.circuits.place(&name);
+            let begun = circuits.begun.get(k).copied().unwrap_or(false);
+            let is_found = k < circuits.calls.len() && begun;
+            Ok((reached(alloc, &circuits.calls, k)?, is_found))
         }
-        let settings = Settings {
-            names,
-            values,
-            circuits,
-            marks,
-            all: top.is_none(),
-            capacitors: leaving.capacitors,
-            resistors: leaving.resistors,
-        };
-        Ok(Plan { settings, is_found })
     }
+}
+
+// What cards are turned by.
+fn settled(
+    alloc: Global,
+    params: Params,
+    circuits: Circuits,
+    top: Option<&[u8]>,
+    leaving: Leaving,
+) -> Result<Plan, AllocError>
+    ensures params { IfOk result (λ p. settings_seen p.settings ≡ params_seen params) }
+    ensures top { IfOk result (λ p. KeepsTop p.settings.circuits p.settings.marks.items
+        (option_copied top.entry) p.is_found) }
+{
+    let (marks, is_found) = marks_of(alloc, &circuits, top)?;
+    let Params { names, values } = params;
+    let Circuits {
+        circuits,
+        calls: _,
+        open: _,
+        begun: _,
+    } = circuits;
+    let settings = Settings {
+        names,
+        values,
+        circuits,
+        marks,
+        all: top.is_none(),
+        capacitors: leaving.capacitors,
+        resistors: leaving.resistors,
+    };
+    Ok(Plan { settings, is_found })
 }
 
 /// What the cards of a text are turned by, where the circuit `top`, and all that it calls, at once
@@ -172,16 +174,23 @@ pub fn plan_cards(
     bytes: &[u8],
     top: Option<&[u8]>,
     leaving: Leaving,
-) -> Result<Plan, TurnFault> {
+) -> Result<Plan, TurnFault>
+    ensures made { IfOk result (λ p. defined bytes.now ≡ Ok (settings_seen p.settings)) }
+    ensures top { IfOk result (λ p. KeepsTop p.settings.circuits p.settings.marks.items
+        (option_copied top.entry) p.is_found) }
+    ensures fault { IfErr result (λ e. SaysFault e (defined bytes.now)) }
+{
     let mut cards = match CardReader::new(bytes) {
         Ok(cards) => cards,
         Err(line) => return Err(TurnFault::EarlyMore(line)),
     };
-    let mut defined = Defined::new(alloc);
+    let mut params = none(alloc);
+    let mut circuits = Circuits::new(alloc);
     let mut tokens = Vec::new(alloc);
     'cards: while let Some(line) = cards.next(&mut tokens)? {
-        defined.take(alloc, line, &tokens)?;
+        take(alloc, &mut params, line, &tokens)?;
+        circuits.take(alloc, &tokens)?;
     }
-    let plan = defined.plan(alloc, top, leaving)?;
+    let plan = settled(alloc, params, circuits, top, leaving)?;
     Ok(plan)
 }

@@ -1,5 +1,5 @@
 -- What a run leaves, by its answer.
-use Rattle.std.proofs.Common.{◌≡◌, ◌≢◌, ◌⊎◌, inl, inr, Bool, List, ℕ, Result, Ok, Err, IfOk, length, refl, sym, subst, ◌∙◌}
+use Rattle.std.proofs.Common.{◌≡◌, ◌≢◌, ◌⊎◌, inl, inr, true, List, ℕ, Result, Ok, Err, IfOk, length, refl, sym, subst, ◌∙◌}
 use Rattle.lvs_outside.specs.Loops.{IsFile, HoldsNow}
 use Rattle.lvs_outside.specs.Store.{Store, SameFiles, counted, appended}
 use Rattle.lvs_outside.specs.Summary.{SinkState}
@@ -8,30 +8,31 @@ use Rattle.netlist_join.specs.declared.join.Joined.{Joined}
 use Rattle.netlist_turn.specs.Made.{Made}
 use Rattle.netlist_turn.specs.Turning.{turned}
 use Rattle.netlist_turn.specs.declared.settings.Settings.{Settings}
+use Rattle.netlist_plan.specs.Defined.{defined, settings_seen}
+use Rattle.netlist_plan.specs.Marks.{KeepsTop}
+use Rattle.netlist_run.specs.declared.words.Command.{Command}
 use Rattle.netlist_told.specs.Sums.{told_text}
-use Rattle.netlist_run.specs.Accepted.{IsAccepted, IsOutput, IsPrepared, WritesOutput, Leaves, Sends}
+use Rattle.netlist_run.specs.Accepted.{IsAccepted, IsOutput, IsPrepared, top_bytes, WritesOutput, Leaves, Sends}
 use Rattle.netlist_run.specs.declared.run.Output.{Output}
 use Rattle.netlist_run.specs.declared.status.Status.{Status}
 use Rattle.netlist_run.specs.declared.status.Status.TheVariants.{Good, Refused, Outside, NoMemory}
 
-pub output_is : {E : Type 0} (r : Result Output E) (files : List File) (joined : Joined) (has_title : Bool) (settings : Settings) (made : Made)
+pub output_is : {E : Type 0} (r : Result Output E) (files : List File) (joined : Joined) (command : Command) (settings : Settings) (made : Made)
+    → defined joined.text.items ≡ Ok (settings_seen settings) → KeepsTop settings.circuits settings.marks.items (top_bytes command) true
     → turned settings joined.text.items ≡ Ok made → IfOk r (λ o. o.text.items ≡ made.text)
-    → IfOk r (λ o. o.lines.items ≡ told_text has_title files joined.origins.items made.told (length made.lines)) → IfOk r (λ o. IsAccepted made.text)
-    → IfOk r (λ o. IsOutput files joined has_title o.text.items o.lines.items)
-output_is (Ok o) files joined has_title settings made e text lines accepted = record {
+    → IfOk r (λ o. o.lines.items ≡ told_text command.has_title files joined.origins.items made.told (length made.lines)) → IfOk r (λ o. IsAccepted made.text)
+    → IfOk r (λ o. IsOutput files joined command o.text.items o.lines.items)
+output_is (Ok o) files joined command settings made names kept e text lines accepted = record {
   settings = settings;
   made = made;
+  names = names;
+  kept = kept;
   turned = e;
   text_is = text;
   lines_are = lines;
   accepted = subst (λ (t : List ℕ). IsAccepted t) (sym text) accepted;
 }
-output_is (Err e) files joined has_title settings made f text lines accepted = accepted
-
-pub prepared : {E : Type 0} (r : Result Output E) (files : List File) (joined : Joined) (has_title : Bool)
-    → IfOk r (λ o. IsOutput files joined has_title o.text.items o.lines.items) → IfOk r (λ o. IsPrepared o.text.items o.lines.items)
-prepared (Ok o) files joined has_title h = record { files = files; joined = joined; has_title = has_title; output = h }
-prepared (Err e) files joined has_title h = h
+output_is (Err x) files joined command settings made names kept e text lines accepted = accepted
 
 -- a written file, and the line behind it
 pub delivered : (old new : Store) (before after : SinkState) (path text lines : List ℕ) (t : Status) → IsPrepared text lines

@@ -1,6 +1,8 @@
 -- What a run leaves: what the cards of the joined files make, where the reader of `lvs` takes it, and
 -- all that is told of it; or no file changed.
-use Rattle.std.specs.Prelude.{◌≡◌, ◌≢◌, ◌⊎◌, ℕ, Bool, List, length, Ok}
+use Rattle.std.specs.Prelude.{◌≡◌, ◌≢◌, ◌⊎◌, ℕ, true, List, length, Ok, Option}
+use Rattle.std.specs.Prelude.{string_bytes}
+use Rattle.std.specs.Option.{option_map}
 use Rattle.lvs_outside.specs.Loops.{IsFile}
 use Rattle.lvs_outside.specs.Store.{Store, SameFiles, appended}
 use Rattle.lvs_outside.specs.Summary.{SinkState}
@@ -13,6 +15,9 @@ use Rattle.netlist_turn.specs.Made.{Made}
 use Rattle.netlist_turn.specs.Turning.{turned}
 use Rattle.netlist_turn.specs.declared.settings.Settings.{Settings}
 use Rattle.netlist_told.specs.Sums.{told_text}
+use Rattle.netlist_plan.specs.Defined.{defined, settings_seen}
+use Rattle.netlist_plan.specs.Marks.{KeepsTop}
+use Rattle.netlist_run.specs.declared.words.Command.{Command}
 use Rattle.netlist_run.specs.declared.status.Status.{Status}
 use Rattle.netlist_run.specs.declared.status.Status.TheVariants.{Good, Refused, Outside, NoMemory}
 
@@ -21,24 +26,30 @@ pub record IsAccepted (text : List ℕ) : Type 0 where
   pub netlist : Netlist
   pub means : Means read_limit text netlist
 
--- the text is what the cards of the joined files make, the reader of `lvs` takes it, and the lines
--- tell each change
-pub record IsOutput (files : List File) (joined : Joined) (has_title : Bool) (text lines : List ℕ) :
-    Type 0 where
+-- the name of the circuit that is asked for
+abbrev pub top_bytes : Command → Option (List ℕ)
+top_bytes command = option_map string_bytes command.top
+
+-- the text is what the cards of the joined files make, by the names that they define, with the
+-- circuit that is asked for; the reader of `lvs` takes it, and the lines tell each change
+pub record IsOutput (files : List File) (joined : Joined) (command : Command)
+    (text lines : List ℕ) : Type 0 where
   pub settings : Settings
   pub made : Made
+  pub names : defined joined.text.items ≡ Ok (settings_seen settings)
+  pub kept : KeepsTop settings.circuits settings.marks.items (top_bytes command) true
   pub turned : turned settings joined.text.items ≡ Ok made
   pub text_is : text ≡ made.text
   pub lines_are : lines
-      ≡ told_text has_title files joined.origins.items made.told (length made.lines)
+      ≡ told_text command.has_title files joined.origins.items made.told (length made.lines)
   pub accepted : IsAccepted text
 
 -- so it is of some files, joined
 pub record IsPrepared (text lines : List ℕ) : Type 0 where
   pub files : List File
   pub joined : Joined
-  pub has_title : Bool
-  pub output : IsOutput files joined has_title text lines
+  pub command : Command
+  pub output : IsOutput files joined command text lines
 
 -- the file of one path holds such a text now, where it is told, and each other file stays; and its
 -- lines were sent

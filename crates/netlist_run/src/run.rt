@@ -1,11 +1,15 @@
 //! The run: files are read and joined, cards turned, the text tried, and then it is written.
 
-ghost use Rattle.std.specs.Prelude.{◌≡◌, IfOk, OnOk, length};
+ghost use Rattle.std.specs.Prelude.{◌≡◌, true, IfOk, Ok, OnOk, length};
 ghost use Rattle.lvs_outside.specs.Store.{HasRoom, SameFiles};
 ghost use Rattle.lvs_outside.specs.Summary.{SinkHasRoom};
 ghost use Rattle.netlist_turn.specs.Seen.{seen};
+ghost use Rattle.std.specs.Option.{option_copied};
+ghost use Rattle.netlist_plan.specs.Defined.{defined, settings_seen};
+ghost use Rattle.netlist_plan.specs.Marks.{KeepsTop};
 ghost use Rattle.netlist_told.specs.Sums.{told_text};
 ghost use Rattle.netlist_run.specs.Accepted.{IsAccepted, IsOutput, IsPrepared, Leaves, Sends};
+ghost use Rattle.netlist_run.specs.Accepted.{top_bytes};
 
 use crate::lines::{join_stop, line_of, spice_stop, turn_stop};
 use crate::status::{Status, Stop};
@@ -88,21 +92,26 @@ fn turned_output(
     alloc: Global,
     files: &[File],
     joined: &Joined,
-    has_title: bool,
+    command: &Command,
     settings: &Settings,
 ) -> Result<Output, Stop>
-    ensures { IfOk result (λ o. IsOutput files.now joined.now has_title o.text.items
+    requires names { defined joined.now.text.items ≡ Ok (settings_seen settings.now) }
+    requires kept { KeepsTop settings.now.circuits settings.now.marks.items
+        (top_bytes command.now) true }
+    ensures { IfOk result (λ o. IsOutput files.now joined.now command.now o.text.items
         o.lines.items) }
 {
     let origins = joined.origins.as_slice();
     match turn_cards(alloc, settings, joined.text.as_slice()) {
-        Ok(turned) => tried(alloc, files, origins, has_title, turned),
+        Ok(turned) => tried(alloc, files, origins, command.has_title, turned),
         Err(fault) => Err(turn_stop(alloc, files, origins, fault)),
     }
 }
 
 // The bytes of the name of the circuit that is asked for.
-fn top_of(command: &Command) -> Option<&[u8]> {
+fn top_of(command: &Command) -> Option<&[u8]>
+    ensures { option_copied result ≡ top_bytes command.now }
+{
     match &command.top {
         None => None,
         Some(name) => Some(name.as_bytes()),
@@ -111,7 +120,7 @@ fn top_of(command: &Command) -> Option<&[u8]> {
 
 // What is made of a joined text.
 fn made(alloc: Global, files: &[File], joined: &Joined, command: &Command) -> Result<Output, Stop>
-    ensures { IfOk result (λ o. IsOutput files.now joined.now command.now.has_title o.text.items
+    ensures { IfOk result (λ o. IsOutput files.now joined.now command.now o.text.items
         o.lines.items) }
 {
     let text = joined.text.as_slice();
@@ -125,7 +134,7 @@ fn made(alloc: Global, files: &[File], joined: &Joined, command: &Command) -> Re
         let line = line_of(alloc, b"refused no circuit ", top.unwrap_or(b""))?;
         return Err(Stop::Refused(line));
     }
-    turned_output(alloc, files, joined, command.has_title, &plan.settings)
+    turned_output(alloc, files, joined, command, &plan.settings)
 }
 
 fn load_stop(alloc: Global, failed: Failed) -> Result<Stop, AllocError> {
@@ -252,7 +261,7 @@ pub fn run_netlist<D: Depot, S: Sink>(
     let Some(path) = &command.out else {
         return send(out, b"refused words\n", Status::Refused);
     };
-    if is_input(&command, path.as_str()) {
+    if is_input(&command, path.as_str()) || has_twins(command.inputs.as_slice()) {
         return send(out, b"refused same\n", Status::Refused);
     }
     run_command(alloc, &command, path.as_str(), depot, out)
@@ -261,4 +270,16 @@ pub fn run_netlist<D: Depot, S: Sink>(
 // Whether a path is that of an input.
 fn is_input(command: &Command, path: &str) -> bool {
     command.inputs.iter().any(|input| input.as_str() == path)
+}
+
+// Whether a path stands twice.
+fn has_twins(paths: &[String]) -> bool {
+    let mut rest = paths;
+    'paths: while let [path, more @ ..] = rest {
+        if more.iter().any(|other| other.as_str() == path.as_str()) {
+            return true;
+        }
+        rest = more;
+    }
+    false
 }
