@@ -1,7 +1,7 @@
 -- What a run leaves, by its answer.
 use Rattle.std.proofs.Common.{◌≡◌, ◌≢◌, ◌⊎◌, inl, inr, true, List, ℕ, Result, Ok, Err, IfOk, length, refl, sym, subst, ◌∙◌}
 use Rattle.lvs_outside.specs.Loops.{IsFile, HoldsNow}
-use Rattle.lvs_outside.specs.Store.{Store, SameFiles, counted, appended}
+use Rattle.lvs_outside.specs.Store.{Store, SameFiles, counted}
 use Rattle.lvs_outside.specs.Summary.{SinkState}
 use Rattle.netlist_join.specs.declared.files.File.{File}
 use Rattle.netlist_join.specs.declared.join.Joined.{Joined}

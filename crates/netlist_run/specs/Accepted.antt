@@ -19,7 +19,7 @@ use Rattle.netlist_plan.specs.Defined.{defined, settings_seen}
 use Rattle.netlist_plan.specs.Marks.{KeepsTop}
 use Rattle.netlist_run.specs.declared.words.Command.{Command}
 use Rattle.netlist_run.specs.declared.status.Status.{Status}
-use Rattle.netlist_run.specs.declared.status.Status.TheVariants.{Good, Refused, Outside, NoMemory}
+use Rattle.netlist_run.specs.declared.status.Status.TheVariants.{Good, Refused, Outside}
 
 -- the text, read as `lvs` reads a schematic, means this netlist
 pub record IsAccepted (text : List ℕ) : Type 0 where

@@ -1,4 +1,4 @@
-use Rattle.std.proofs.Common.{◌≡◌, ◌∙◌, ap, map, length, List, ℕ}
+use Rattle.std.proofs.Common.{◌∙◌, ap, map, length, List, ℕ}
 use Rattle.netlist_turn.specs.Seen.{told_seen}
 use Rattle.netlist_turn.specs.declared.made.Told.{Told}
 use Rattle.netlist_told.specs.Sums.{told_text}
