@@ -1,6 +1,8 @@
 //! The files that netlist files name, read whole.
 
-ghost use Rattle.std.specs.Prelude.{◌≡◌, ◌≤◌, length, OnOk};
+ghost use Rattle.std.specs.Prelude.{◌≡◌, ◌≤◌, length, IfOk, OnOk, take};
+ghost use Rattle.rule_lines.specs.Lines.{begins};
+ghost use Rattle.netlist_join.specs.Paths.{beside, find, folder, folder_len};
 ghost use Rattle.lvs_outside.specs.Store.{HasRoom, IsReading, SameFiles};
 ghost use Rattle.netlist_join.specs.declared.files.Failed.TheVariants.{NoMemory};
 
@@ -40,41 +42,49 @@ pub const MOST: usize = 10_000;
 
 // The length of a path up to its last `/`.
 fn folder_len(path: &[u8]) -> usize
-    ensures { result ≤ length path.now }
+    ensures place { result ≡ folder_len 0 0 path.now }
+    ensures within { result ≤ length path.now }
 {
+    let mut n = 0;
+    let mut k: usize = 0;
     let mut rest = path;
-    'bytes: while let [front @ .., last] = rest {
-        if *last == b'/' {
-            return rest.len();
+    'bytes: while let [b, more @ ..] = rest {
+        k += 1;
+        if *b == b'/' {
+            n = k;
         }
-        rest = front;
+        rest = more;
     }
-    0
+    n
 }
 
-fn is_absolute(path: &[u8]) -> bool {
+fn is_absolute(path: &[u8]) -> bool
+    ensures { result ≡ begins 0x2F path.now }
+{
     match path {
-        [b'/', ..] => true,
-        _ => false,
+        [b, ..] => *b == b'/',
+        [] => false,
     }
 }
 
-/// The path that a line of a file names: beside that file, where it isn't absolute; none where its
-/// bytes are no text.
-pub fn beside(alloc: Global, file: &str, path: &[u8]) -> Result<Option<String>, AllocError> {
+/// The path that a line of a file names: beside that file, where it isn't absolute.
+pub fn beside(alloc: Global, file: &[u8], path: &[u8]) -> Result<Vec<u8>, AllocError>
+    ensures { IfOk result (λ p. p.items ≡ beside file.now path.now) }
+{
     let mut bytes = Vec::new(alloc);
     if !is_absolute(path) {
-        let all = file.as_bytes();
-        let n = folder_len(all);
-        bytes.extend_from_slice(&all[..n])?;
+        let n = folder_len(file);
+        bytes.extend_from_slice(&file[..n])?;
     }
     bytes.extend_from_slice(path)?;
-    Ok(String::from_utf8(bytes).ok())
+    Ok(bytes)
 }
 
 /// The number of the file of this path.
-pub fn find(files: &[File], path: &str) -> Option<usize> {
-    files.iter().position(|f| f.path.as_str() == path)
+pub fn find(files: &[File], path: &[u8]) -> Option<usize>
+    ensures { result ≡ find path.now files.now }
+{
+    files.iter().position(|f| f.path.as_bytes() == path)
 }
 
 // The rest of the open file.
@@ -123,7 +133,7 @@ fn add<D: Depot>(
     ensures room { OnOk result (HasRoom (D.state depot.new)) }
     ensures files { SameFiles (D.state depot.old) (D.state depot.new) }
 {
-    if find(files, path.as_str()).is_some() {
+    if find(files, path.as_bytes()).is_some() {
         return Ok(());
     }
     let bytes = read_file(alloc, depot, path.as_str())?;
@@ -133,6 +143,12 @@ fn add<D: Depot>(
     Ok(())
 }
 
+// The path beside a file; none where its bytes are no text.
+fn path_beside(alloc: Global, file: &File, path: &[u8]) -> Result<Option<String>, AllocError> {
+    let bytes = beside(alloc, file.path.as_bytes(), path)?;
+    Ok(String::from_utf8(bytes).ok())
+}
+
 // The paths that the lines of a file name.
 fn named(alloc: Global, file: &File) -> Result<Vec<String>, AllocError> {
     let mut paths = Vec::new(alloc);
@@ -140,8 +156,8 @@ fn named(alloc: Global, file: &File) -> Result<Vec<String>, AllocError> {
     'lines: while !rest.is_empty() {
         let (line, behind) = next_line(rest);
         let path = match directive_of(line) {
-            Directive::Include(path) => beside(alloc, file.path.as_str(), path)?,
-            Directive::Section(path, _) => beside(alloc, file.path.as_str(), path)?,
+            Directive::Include(path) => path_beside(alloc, file, path)?,
+            Directive::Section(path, _) => path_beside(alloc, file, path)?,
             _ => None,
         };
         if let Some(path) = path {

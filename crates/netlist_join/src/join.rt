@@ -1,6 +1,13 @@
 //! One text of the lines of files, with those of the files that they name in their places.
 
-ghost use Rattle.std.specs.Prelude.{◌≡◌};
+ghost use Rattle.std.specs.Prelude.{◌≡◌, IfOk, IfErr, OnOk, Ok, Err, Some, None, slice_get};
+ghost use Rattle.std.specs.Option.{option_copied};
+ghost use Rattle.netlist_join.specs.Joining.{call_in, call_of, ended, file_joined, has_card};
+ghost use Rattle.netlist_join.specs.Joining.{joined, pushed, said, shown};
+ghost use Rattle.netlist_join.specs.Directives.{without_blanks};
+ghost use Rattle.netlist_join.specs.Paths.{beside, find};
+ghost use Rattle.rule_lines.specs.Lines.{begins};
+ghost use Rattle.netlist_join.specs.Seen.{SaysFault, call_seen, call_some, says, seen};
 ghost use Rattle.netlist_join.specs.declared.join.JoinFault.TheVariants.{NoMemory};
 
 use crate::directive::{Directive, directive_of, skip_blanks};
@@ -64,34 +71,54 @@ struct Call<'a> {
     section: Option<&'a [u8]>,
 }
 
+// The number of the file of a path that stands beside this one.
+fn file_beside(
+    alloc: Global,
+    files: &[File],
+    own: &[u8],
+    path: &[u8],
+) -> Result<Option<usize>, AllocError>
+    ensures { IfOk result (λ k. k ≡ find (beside own.now path.now) files.now) }
+{
+    let path = beside(alloc, own, path)?;
+    Ok(find(files, path.as_slice()))
+}
+
+// The file of the path that a line names.
 fn called<'a>(
     alloc: Global,
     files: &[File],
     path: &[u8],
     section: Option<&'a [u8]>,
     at: Origin,
-) -> Result<Call<'a>, JoinFault> {
+) -> Result<Option<Call<'a>>, JoinFault>
+    ensures call { IfOk result (λ c. call_in files.now (slice_get files.now at.file) path.now
+        (option_copied section.entry) at ≡ Ok (call_some c)) }
+    ensures fault { IfErr result (λ e. SaysFault e (call_in files.now
+        (slice_get files.now at.file) path.now (option_copied section.entry) at)) }
+{
     let Some(file) = files.get(at.file) else {
         return Err(JoinFault::At(Why::Absent, at));
     };
-    let Some(path) = beside(alloc, file.path.as_str(), path)? else {
-        return Err(JoinFault::At(Why::BadForm, at));
-    };
-    match find(files, path.as_str()) {
-        Some(file) => Ok(Call { file, section }),
+    match file_beside(alloc, files, file.path.as_bytes(), path)? {
+        Some(file) => Ok(Some(Call { file, section })),
         None => Err(JoinFault::At(Why::Absent, at)),
     }
 }
 
+// The file that a line takes in.
 fn call_of<'a>(
     alloc: Global,
     files: &[File],
     directive: Directive<'a>,
     at: Origin,
-) -> Result<Option<Call<'a>>, JoinFault> {
+) -> Result<Option<Call<'a>>, JoinFault>
+    ensures call { IfOk result (λ c. call_of files.now (says directive.entry) at ≡ Ok (call_some c)) }
+    ensures fault { IfErr result (λ e. SaysFault e (call_of files.now (says directive.entry) at)) }
+{
     match directive {
-        Directive::Include(path) => Ok(Some(called(alloc, files, path, None, at)?)),
-        Directive::Section(path, name) => Ok(Some(called(alloc, files, path, Some(name), at)?)),
+        Directive::Include(path) => called(alloc, files, path, None, at),
+        Directive::Section(path, name) => called(alloc, files, path, Some(name), at),
         Directive::Bad => Err(JoinFault::At(Why::BadForm, at)),
         Directive::Begins(_) => Ok(None),
         Directive::Ends => Ok(None),
@@ -99,102 +126,152 @@ fn call_of<'a>(
     }
 }
 
-fn bytes_of(files: &[File], k: usize, at: Origin) -> Result<&[u8], JoinFault> {
-    match files.get(k) {
-        Some(file) => Ok(file.bytes.as_slice()),
-        None => Err(JoinFault::At(Why::Absent, at)),
+fn begins_more(line: &[u8]) -> bool
+    ensures { result ≡ begins 0x2B (without_blanks line.now) }
+{
+    match skip_blanks(line) {
+        [] => false,
+        [b, ..] => *b == b'+',
     }
 }
 
-// The first byte that is no blank.
-fn first_byte(line: &[u8]) -> Option<u8> {
+// A card, or a line that goes on with one, stands there.
+fn has_card(line: &[u8]) -> bool
+    ensures { result ≡ has_card (without_blanks line.now) }
+{
     match skip_blanks(line) {
-        [] => None,
-        [b, ..] => Some(*b),
+        [] => false,
+        [b, ..] => *b != b'*',
     }
 }
 
 impl Joined {
-    // Adds a line, cleaned. A title is left out.
-    fn push_line(&mut self, line: &[u8], at: Origin) -> Result<(), JoinFault> {
-        if self.has_title {
-            self.has_title = false;
-        } else {
-            match first_byte(line) {
-                Some(b'+') if self.is_fresh => return Err(JoinFault::At(Why::EarlyMore, at)),
-                Some(b'*') => {}
-                None => {}
-                _ => self.is_fresh = false,
-            }
-            if !clean_line(&mut self.text, line)? {
-                return Err(JoinFault::At(Why::OpenQuotes, at));
-            }
-        }
-        self.text.push(b'\n').map_err(AllocError::from)?;
-        self.origins.push(at).map_err(AllocError::from)?;
+    // Ends a line.
+    fn end_line(&mut self, at: Origin) -> Result<(), AllocError>
+        ensures { OnOk result (seen self.new ≡ ended (seen self.old) at) }
+    {
+        self.text.push(b'\n')?;
+        self.origins.push(at)?;
         Ok(())
+    }
+
+    // Adds a line, cleaned.
+    fn show_line(&mut self, line: &[u8], at: Origin) -> Result<(), JoinFault>
+        ensures made { OnOk result (shown (seen self.old) line.now at ≡ Ok (seen self.new)) }
+        ensures fault { IfErr result (λ e. SaysFault e (shown (seen self.old) line.now at)) }
+    {
+        if self.is_fresh && begins_more(line) {
+            return Err(JoinFault::At(Why::EarlyMore, at));
+        }
+        if has_card(line) {
+            self.is_fresh = false;
+        }
+        if !clean_line(&mut self.text, line)? {
+            return Err(JoinFault::At(Why::OpenQuotes, at));
+        }
+        self.end_line(at)?;
+        Ok(())
+    }
+
+    // Adds a line, cleaned. A title is left out.
+    fn push_line(&mut self, line: &[u8], at: Origin) -> Result<(), JoinFault>
+        ensures made { OnOk result (pushed (seen self.old) line.now at ≡ Ok (seen self.new)) }
+        ensures fault { IfErr result (λ e. SaysFault e (pushed (seen self.old) line.now at)) }
+    {
+        if !self.has_title {
+            return self.show_line(line, at);
+        }
+        self.has_title = false;
+        self.end_line(at)?;
+        Ok(())
+    }
+
+    // What a line says of files: nothing where it is a title.
+    fn said<'a>(&self, line: &'a [u8]) -> Directive<'a>
+        ensures { says result ≡ said (seen self.now) line.now }
+    {
+        if self.has_title {
+            return Directive::None;
+        }
+        directive_of(line)
     }
 }
 
 // Adds the lines of a file, or of a section of it, that a line takes in.
+#[tactic(auto, using(crate::proofs::Steps::file_step))]
 fn join_file(
     alloc: Global,
     files: &[File],
     joined: &mut Joined,
     call: Call,
     depth: u32,
-    at: Origin,
-) -> Result<(), JoinFault> {
+    by: Origin,
+) -> Result<(), JoinFault>
+    ensures made { OnOk result (file_joined depth files.now (call_seen call.entry) by (seen joined.old)
+        ≡ Ok (seen joined.new)) }
+    ensures fault { IfErr result (λ e. SaysFault e (file_joined depth files.now (call_seen call.entry) by
+        (seen joined.old))) }
+{
     if depth == 0 {
-        return Err(JoinFault::At(Why::Deep, at));
+        return Err(JoinFault::At(Why::Deep, by));
     }
-    let mut rest = bytes_of(files, call.file, at)?;
+    let Some(file) = files.get(call.file) else {
+        return Err(JoinFault::At(Why::Absent, by));
+    };
     let mut part = Part::new(call.section);
-    let mut here = Origin {
+    let mut at = Origin {
         file: call.file,
         line: 0,
     };
     joined.is_fresh = true;
+    let mut rest = file.bytes.as_slice();
     'lines: while !rest.is_empty() {
         let (line, behind) = next_line(rest);
-        here.line = here.line.saturating_add(1);
-        let directive = directive_of(line);
+        at.line = at.line.saturating_add(1);
+        let directive = joined.said(line);
         if part.takes(alloc, &directive)? {
-            joined.push_line(line, here)?;
-            if let Some(inner) = call_of(alloc, files, directive, here)? {
-                join_file(alloc, files, joined, inner, depth - 1, here)?;
+            joined.push_line(line, at)?;
+            if let Some(inner) = call_of(alloc, files, directive, at)? {
+                join_file(alloc, files, joined, inner, depth - 1, at)?;
                 joined.is_fresh = true;
             }
         }
         rest = behind;
     }
     if !part.is_met {
-        return Err(JoinFault::At(Why::NoSection, at));
+        return Err(JoinFault::At(Why::NoSection, by));
     }
     Ok(())
 }
 
 /// The lines of the first files, `count` of them, one after another; where there is a title, it is
-/// the first line of the first. Linear in what is joined.
+/// the first line of all. Linear in what is joined, but for looking up each named path among the
+/// files.
+#[tactic(auto, using(crate::proofs::Steps::all_step))]
 pub fn join_files(
     alloc: Global,
     files: &[File],
     count: usize,
     has_title: bool,
-) -> Result<Joined, JoinFault> {
+) -> Result<Joined, JoinFault>
+    ensures made { IfOk result (λ j. joined files.now count has_title ≡ Ok (seen j)) }
+    ensures fault { IfErr result (λ e. SaysFault e (joined files.now count has_title)) }
+{
     let mut joined = Joined {
         text: Vec::new(alloc),
         origins: Vec::new(alloc),
         has_title,
         is_fresh: true,
     };
-    for file in 0..count {
+    let mut file = 0;
+    'files: while file < count {
         let call = Call {
             file,
             section: None,
         };
-        let at = Origin { file, line: 0 };
-        join_file(alloc, files, &mut joined, call, DEPTH, at)?;
+        let by = Origin { file, line: 0 };
+        join_file(alloc, files, &mut joined, call, DEPTH, by)?;
+        file += 1;
     }
     Ok(joined)
 }

@@ -11,6 +11,8 @@ use Rattle.spice_rows.specs.Sizes.{read_limit}
 use Rattle.spice_text.specs.Means.{Means}
 use Rattle.netlist_join.specs.declared.files.File.{File}
 use Rattle.netlist_join.specs.declared.join.Joined.{Joined}
+use Rattle.netlist_join.specs.Joining.{joined as joined_files}
+use Rattle.netlist_join.specs.Seen.{seen as joined_seen}
 use Rattle.netlist_turn.specs.Made.{Made}
 use Rattle.netlist_turn.specs.Turning.{turned}
 use Rattle.netlist_turn.specs.declared.settings.Settings.{Settings}
@@ -44,11 +46,12 @@ pub record IsOutput (files : List File) (joined : Joined) (command : Command)
       ≡ told_text command.has_title files joined.origins.items made.told (length made.lines)
   pub accepted : IsAccepted text
 
--- so it is of some files, joined
+-- so it is of some files, of which as many as are asked for are joined
 pub record IsPrepared (text lines : List ℕ) : Type 0 where
   pub files : List File
   pub joined : Joined
   pub command : Command
+  pub joins : joined_files files (length command.inputs.items) command.has_title ≡ Ok (joined_seen joined)
   pub output : IsOutput files joined command text lines
 
 -- the file of one path holds such a text now, where it is told, and each other file stays; and its

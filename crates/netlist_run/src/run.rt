@@ -164,6 +164,24 @@ fn paths_of(alloc: Global, command: &Command) -> Result<Vec<String>, AllocError>
     Ok(paths)
 }
 
+// What is to be written of the inputs and the files that they name.
+fn joined_output(
+    alloc: Global,
+    files: &[File],
+    count: usize,
+    command: &Command,
+) -> Result<Output, Stop>
+    requires { count ≡ length command.now.inputs.items }
+    ensures { IfOk result (λ o. IsPrepared o.text.items o.lines.items) }
+{
+    let joined = match join_files(alloc, files, count, command.has_title) {
+        Ok(joined) => joined,
+        Err(fault) => return Err(join_stop(alloc, files, fault)),
+    };
+    let output = made(alloc, files, &joined, command)?;
+    Ok(output)
+}
+
 // Reads the files that a command names, and makes what is to be written.
 fn prepare<D: Depot>(alloc: Global, command: &Command, depot: &mut D) -> Result<Output, Stop>
     requires { HasRoom (D.state depot.old) }
@@ -172,16 +190,11 @@ fn prepare<D: Depot>(alloc: Global, command: &Command, depot: &mut D) -> Result<
     ensures made { IfOk result (λ o. IsPrepared o.text.items o.lines.items) }
 {
     let inputs = paths_of(alloc, command)?;
-    let count = inputs.len();
     let files = match load_files(alloc, depot, inputs) {
         Ok(files) => files,
         Err(failed) => return Err(load_stop(alloc, failed)?),
     };
-    let joined = match join_files(alloc, &files, count, command.has_title) {
-        Ok(joined) => joined,
-        Err(fault) => return Err(join_stop(alloc, &files, fault)),
-    };
-    let output = made(alloc, &files, &joined, command)?;
+    let output = joined_output(alloc, &files, command.inputs.len(), command)?;
     Ok(output)
 }
 

@@ -1,0 +1,5 @@
+pub mod Directives
+pub mod Parts
+pub mod Paths
+pub mod Joining
+pub mod Seen
