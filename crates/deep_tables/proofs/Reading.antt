@@ -1,7 +1,7 @@
 -- What accessors find in right tables.
 use Rattle.std.proofs.Common.{◌≡◌, inl, inr, ℕ, List, Option, Some, None, IsSomeAnd, length, slice_get, refl, sym, ◌∙◌, ap, arith}
 use Rattle.std.proofs.lemmas.Option.{slice_get_cases}
-use Rattle.deep_tables.specs.Zones.{AreCellZones, ZoneAtLaw, DeviceZoneAtLaw, squares_for}
+use Rattle.deep_tables.specs.Zones.{AreCellZones, ZoneAtLaw, ZoneEntryLaw, DeviceZoneAtLaw, squares_for}
 use Rattle.deep_tables.specs.Layers.{AreCellLayers, LayerAtLaw, squares_on}
 use Rattle.deep_tables.specs.Entries.{entry}
 use Rattle.deep_tables.specs.declared.zones.ZoneKey.TheVariants.{Layer, Device}
@@ -18,11 +18,17 @@ beside {X} {Y} xs ys i x at same = elim (slice_get_cases xs i).1 [
   | inl h ↦ elim (slice_get_cases ys i).1 [ inl g ↦ (g.0, g.2) | inr g ↦ (let lt = h.1 in let le = g.0 in absurd (let z : ⊥ = omega arith in z)) ]
 ]
 
-pub zone_at : ZoneAtLaw
-zone_at d r table cell i x right reached at =
+pub zone_entry : ZoneEntryLaw
+zone_entry d r table cell i x right reached at =
     let v = some_and (AreCellZones d r cell) (entry table cell) (right cell reached) in
     let z = beside _ v.0.layers.items i x at v.2.names in
-    (z.0, ap (λ o. squares_for o (Layer i)) v.1 ∙ z.1, v.2.layers i x z.0 at z.1)
+    (z.0, ap (λ o. squares_for o (Layer i)) v.1 ∙ z.1)
+
+pub zone_at : ZoneAtLaw
+zone_at d r table cell i x right reached at asked =
+    let v = some_and (AreCellZones d r cell) (entry table cell) (right cell reached) in
+    let z = beside _ v.0.layers.items i x at v.2.names in
+    (z.0, ap (λ o. squares_for o (Layer i)) v.1 ∙ z.1, v.2.layers i x z.0 at z.1 asked)
 
 pub device_zone_at : DeviceZoneAtLaw
 device_zone_at d r table cell i u right reached at =

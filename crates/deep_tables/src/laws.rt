@@ -10,6 +10,7 @@ ghost use Rattle.deep_tables.specs.OverAny.{CircuitsOverAnyLaw, GatesOverAnyLaw,
 ghost use Rattle.deep_tables.specs.OverAny.{OneGatesLaw, OneTablesLaw, PinsOverAnyLaw};
 ghost use Rattle.deep_tables.specs.Pins.{AreCellPins, PinsAtLaw, RightPinsLaw};
 ghost use Rattle.deep_tables.specs.Zones.{AreCellZones, DeviceZoneAtLaw, EmptyZoneLaw, ZoneAtLaw};
+ghost use Rattle.deep_tables.specs.Zones.{ZoneEntryLaw};
 ghost use Rattle.deep_tables.specs.declared.circuits.CellCircuit.{CellCircuit};
 ghost use Rattle.deep_tables.specs.declared.gates.CellGates.{CellGates};
 ghost use Rattle.deep_tables.specs.declared.layers.CellLayers.{CellLayers};
@@ -17,10 +18,11 @@ ghost use Rattle.deep_tables.specs.declared.nets.CellNets.{CellNets};
 ghost use Rattle.deep_tables.specs.declared.pins.CellPins.{CellPins};
 ghost use Rattle.deep_tables.specs.declared.zones.CellZones.{CellZones};
 
-/// Where each job's disturbed squares are right, so is the table; and a right table has those of
-/// each reached cell.
+/// Where each job's disturbed squares are right, so is the table; and a right table has an entry of
+/// each reached cell for each name, with its disturbed squares where the name is asked.
 pub fn zone_table()
     ensures jobs { DownwardLaw CellZones AreCellZones }
+    ensures entry { ZoneEntryLaw }
     ensures at { ZoneAtLaw }
     ensures device_at { DeviceZoneAtLaw }
     ensures empty { EmptyZoneLaw }

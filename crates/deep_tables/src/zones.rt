@@ -12,9 +12,9 @@ use rect_sets::RectSet;
 use std::alloc::{AllocError, Global};
 use std::marker::Model;
 
-/// A cell's disturbed squares within one square round its hull: for each name of the rules, and for
-/// each device rule.
-/// At a labels name there are none. Each set has an index of its rectangles.
+/// A cell's disturbed squares within one square round its hull: for each name of the rules that is
+/// derived, or that a derived name or a device rule reads, and for each device rule. At other names
+/// stands any set. Each set has an index of its rectangles.
 #[derive(Drop)]
 pub struct CellZones {
     pub layers: Vec<IndexedSet>,

@@ -1,12 +1,14 @@
 -- A derived layer of a cell, from what is looked at.
-use Rattle.std.proofs.Common.{◌≡◌, ◌↔◌, inl, inr, ℕ, true, not, ◌&&◌, List, [], ◌∷◌, Option, Some, refl, sym, ◌∙◌, ap, subst, get_or, slice_get}
+use Rattle.std.proofs.lemmas.Option.{slice_get-get_or, slice_get_within}
+use Rattle.deep_tables.specs.Zones.{IsAsked}
+use Rattle.std.proofs.Common.{◌≡◌, ◌↔◌, inl, inr, ℕ, ◌<◌, arith, length, true, not, ◌&&◌, List, [], ◌∷◌, Option, Some, refl, sym, ◌∙◌, ap, subst, get_or, slice_get}
 use Rattle.geo_base.specs.Motions.{moved_square}
 use Rattle.geo_base.specs.declared.layer.LayerKey.{LayerKey}
 use Rattle.geo_base.specs.declared.layer.Op.{Op}
 use Rattle.geo_base.specs.declared.shapes.Rect.{Rect}
 use Rattle.geo_base.specs.declared.shapes.Square.{Square}
 use Rattle.rect_sets.specs.Rects.{covers, IsCanonical}
-use Rattle.flat_layout.specs.Layers.{Formula, Binary, Empty, inputs}
+use Rattle.flat_layout.specs.Layers.{Formula, Input, Binary, Empty, inputs}
 use Rattle.flat_layout.specs.Layout as flat
 use Rattle.flat_layout.specs.Layout.{IsDisturbed, IsOwn, IsReached, Some_of}
 use Rattle.flat_layout.specs.Values.{IsLocalLayer}
@@ -17,28 +19,48 @@ use Rattle.deep_laws.specs.Layers.{IsFromDisturbed, IsOwnOn}
 use Rattle.rule_text.specs.Rules.{Rules}
 use Rattle.rule_text.specs.declared.rules.LayerForm.{LayerForm}
 use Rattle.rule_text.specs.declared.rules.LayerForm.TheVariants as form
+use Rattle.rule_text.specs.declared.rules.LayerRule.{LayerRule}
+use Rattle.rule_text.specs.declared.rules.MosRule.{MosRule}
 use Rattle.rule_layers.specs.Formulas.{formula_by, formulas}
+use Rattle.rule_layers.specs.Reads.{AreRead, IsRead}
+use Rattle.rule_layers.proofs.Unread.{input_read, one_some, same_tree}
 use Rattle.deep_tables.specs.declared.zones.CellZones.{CellZones}
 use Rattle.deep_tables.specs.Frames.{IsFramedZone}
 use Rattle.deep_tables.proofs.Framing.{framed}
 use Rattle.deep_tables.proofs.Reading.{zone_at}
 use Rattle.layer_phase.specs.Bridge.{TellsKept}
 use Rattle.layer_phase.specs.Keeps.{IsKeptBy, IsZoneAt}
-use Rattle.layer_phase.specs.Looks.{IsExposed}
+use Rattle.layer_phase.specs.Looks.{AreReadLooks, IsExposed, IsInput}
 use Rattle.layer_phase.specs.Names.{IsFlatIn, IsReady}
 use Rattle.layer_phase.specs.Parts.{AreParts}
-use Rattle.layer_phase.specs.Reads.{AreReadLooks}
 use Rattle.layer_phase.proofs.Assembly.{in_grown, layer}
 use Rattle.layer_phase.proofs.Flattening.{known, named}
 use Rattle.layer_phase.proofs.Telling.{kept}
-use Rattle.layer_phase.proofs.Unread.{read_input, same_tree}
 
 one_zone : (o : Option (List Rect)) (v w : List Rect) → o ≡ Some v → o ≡ Some w → v ≡ w
 one_zone o v w h g = let e : Some v ≡ Some w = sym h ∙ g in cc
 
 -- what the table of disturbed squares tells of a name
-pub tells : (d : Linked) (r : Rules) (z : List (Option CellZones)) (cell name : ℕ) (x : Formula) → IsSound d → IsReady d r z cell → slice_get (formulas r.names) name ≡ Some x → TellsKept d z x cell name
-tells d r z cell name x sound ready at = kept d r z x cell name sound ready.hulls ready.zones ready.reached at
+tells : (d : Linked) (r : Rules) (z : List (Option CellZones)) (cell name : ℕ) (x : Formula) → IsSound d → IsReady d r z cell → slice_get (formulas r.names) name ≡ Some x → IsAsked r name x → TellsKept d z x cell name
+tells d r z cell name x sound ready at asked = kept d r z x cell name sound ready.hulls ready.zones ready.reached at asked
+
+-- an input layer among the names as derived names see them is one of the names, and is read
+read_input : (names read : List LayerRule) (k : ℕ) (key : LayerKey) → AreRead names [] read → IsInput read k key → IsInput names k key × IsRead names [] k
+read_input names read k key are is =
+    let lt = slice_get_within read k is.0 is.1 in
+    let count = are.count in
+    let within : k < length names = omega (arith, lt, count) in
+    let rule = get_or names k is.0 in
+    let at : slice_get names k ≡ Some rule = slice_get-get_or names k is.0 within in
+    let o = are.each k rule at in
+    let same : o.0 ≡ is.0 = one_some o.0 is.0 (sym o.1 ∙ is.1) in
+    let form_is : o.0.form ≡ form.Input key = ap (λ (r : LayerRule). r.form) same ∙ is.2 in
+    let h = input_read (IsRead names [] k) rule.form o.0.form key o.2 form_is in ((rule, at, h.1), h.0)
+
+-- with device rules it still is read
+still_read : (names : List LayerRule) (devices : List MosRule) (k : ℕ) → IsRead names [] k → IsRead names devices k
+still_read names devices k (inl h) = inl h
+still_read names devices k (inr h) = absurd (let lt = h.at_in in let z : ⊥ = omega arith in z)
 
 some_key : (d : Linked) (cell : ℕ) (q : Square) (keys : List LayerKey) → IsOwnOn (plain d) keys cell q → (key : LayerKey) × Some_of (λ k. k ≡ key) keys × IsOwn (plain d) cell key q
 some_key d cell q [] h = absurd h
@@ -49,7 +71,7 @@ module _ (d : Linked) (r : Rules) (z : List (Option CellZones)) (cell name : ℕ
     (at : slice_get (formulas r.names) name ≡ Some (Binary op a b)) (seen : AreReadLooks d z r.names cell looks) (flat_in : IsFlatIn d cell looks (Binary op a b) flats)
     (entry : IsZoneAt z cell name zone) (keeps : (q : Square) → (covers calm q ≡ true) ↔ ((covers looks q ≡ true) × IsKeptBy d z cell name q)) where
   tree_seen : slice_get (formulas seen.seen) name ≡ Some (Binary op a b)
-  tree_seen = same_tree r.names seen.seen name op a b seen.are at
+  tree_seen = same_tree r.names [] seen.seen name op a b seen.are at
 
   own_seen : (q : Square) → IsOwnOn (plain d) (inputs (Binary op a b)) cell q → covers looks q ≡ true
   own_seen q h =
@@ -64,7 +86,8 @@ module _ (d : Linked) (r : Rules) (z : List (Option CellZones)) (cell name : ℕ
       let key = e.key in
       let j = known seen.seen name (Binary op a b) key tree_seen e.listed in
       let reached = reached_below (plain d) cell h.number h.place ready.reached h.placed in
-      let there = zone_at (plain d) r z h.place.cell j.0 _ ready.zones reached (named r.names j.0 key (read_input r.names seen.seen j.0 key seen.are j.1)) in
+      let input = read_input r.names seen.seen j.0 key seen.are j.1 in
+      let there = zone_at (plain d) r z h.place.cell j.0 (Input key) ready.zones reached (named r.names j.0 key input.0) (still_read r.names r.devices j.0 input.1) in
       let held : HullHas (hull_of (cell_at d h.place.cell)) h.square = hulls d sound h.place.cell h.key h.square h.flat in
       let one : IsDisturbed (plain d) (key ∷ []) h.place.cell h.square = record { path = e.path; other = e.other; end = e.end; square = e.square; place = e.place; key = key; listed = inl refl; takes = e.takes; others = e.others; own = e.own; apart = e.apart } in
       let frame = (framed d (key ∷ []) h.place.cell there.0 (ready.hulls h.place.cell reached) there.2.canonical).0 there.2 in
@@ -79,7 +102,7 @@ module _ (d : Linked) (r : Rules) (z : List (Option CellZones)) (cell name : ℕ
 
   framed_zone : IsFramedZone d (inputs (Binary op a b)) cell zone
   framed_zone =
-      let h = zone_at (plain d) r z cell name (Binary op a b) ready.zones ready.reached at in
+      let h = zone_at (plain d) r z cell name (Binary op a b) ready.zones ready.reached at tt in
       let same = one_zone _ h.0 zone h.1 entry in
       let frame = (framed d (inputs (Binary op a b)) cell h.0 (ready.hulls cell ready.reached) h.2.canonical).0 h.2 in
       subst (IsFramedZone d (inputs (Binary op a b)) cell) same frame
@@ -90,11 +113,11 @@ module _ (d : Linked) (r : Rules) (z : List (Option CellZones)) (cell name : ℕ
     disturbed = disturbed_seen;
     flats = flat_in;
     zones = framed_zone;
-    calms = λ q e. let k = (tells d r z cell name (Binary op a b) sound ready at).kept q in ((λ c. k.0 ((keeps q).0 c).1), (λ h. (keeps q).1 (e, k.1 h)));
+    calms = λ q e. let k = (tells d r z cell name (Binary op a b) sound ready at tt).kept q in ((λ c. k.0 ((keeps q).0 c).1), (λ h. (keeps q).1 (e, k.1 h)));
   }
 
   pub derived : (local : List Rect) → IsCanonical local → ((q : Square) → covers local q ≡ ((covers flats q && not (covers zone q)) && not (covers calm q))) → IsLocalLayer (plain d) (Binary op a b) cell local
-  derived local canonical made = layer d op a b cell looks flats zone calm local sound ready.reached (tells d r z cell name (Binary op a b) sound ready at).zones parts canonical made
+  derived local canonical made = layer d op a b cell looks flats zone calm local sound ready.reached (tells d r z cell name (Binary op a b) sound ready at tt).zones parts canonical made
 
 -- an operator's form has the derived layer of its tree
 pub binary_local : (d : Linked) (cell name : ℕ) (looks flat local : List Rect) (all trees : List Formula) (f : LayerForm) {o : Op} {i j : ℕ} → f ≡ form.Binary o i j

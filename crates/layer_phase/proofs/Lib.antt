@@ -10,4 +10,3 @@ pub mod Leaves
 pub mod Looking
 pub mod Results
 pub mod Telling
-pub mod Unread

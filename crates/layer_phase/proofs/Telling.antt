@@ -1,11 +1,11 @@
 -- A right table tells what placed cells keep.
-use Rattle.std.proofs.Common.{◌≡◌, inl, inr, ℕ, false, List, Option, Some, sym, ◌∙◌, ap, subst}
+use Rattle.std.proofs.Common.{◌≡◌, inl, inr, ℕ, false, List, Option, Some, sym, ◌∙◌, ap, subst, slice_get}
 use Rattle.geo_base.specs.declared.shapes.Rect.{Rect}
 use Rattle.geo_base.specs.Motions.{moved_square}
 use Rattle.geo_base.specs.declared.shapes.Square.{Square}
 use Rattle.rect_sets.specs.Rects.{covers}
 use Rattle.flat_layout.specs.Arrays.{place_at}
-use Rattle.flat_layout.specs.Layers.{inputs}
+use Rattle.flat_layout.specs.Layers.{Formula, inputs}
 use Rattle.flat_layout.specs.Layout as flat
 use Rattle.flat_layout.specs.Layout.{IsReached, IsPlaced, IsDisturbed}
 use Rattle.flat_laws.proofs.Cover.{reached_below}
@@ -15,9 +15,12 @@ use Rattle.cell_graph.proofs.Bridge.{step_of, placed_of}
 use Rattle.deep_tables.specs.declared.zones.CellZones.{CellZones}
 use Rattle.deep_tables.specs.Frames.{IsFramedZone}
 use Rattle.deep_tables.proofs.Framing.{framed}
-use Rattle.deep_tables.proofs.Reading.{zone_at}
+use Rattle.deep_tables.proofs.Reading.{zone_at, zone_entry}
+use Rattle.deep_tables.specs.Zones.{AreZones}
+use Rattle.rule_layers.specs.Formulas.{formulas}
+use Rattle.rule_text.specs.Rules.{Rules}
 use Rattle.layer_phase.specs.Parts.{IsFromCalmHull}
-use Rattle.layer_phase.specs.Keeps.{IsKeptBy, IsZoneAt}
+use Rattle.layer_phase.specs.Keeps.{HaveEntries, IsKeptBy, IsZoneAt}
 use Rattle.layer_phase.specs.Bridge.{KeptLaw}
 use Rattle.layer_phase.proofs.Assembly.{in_grown, is_or_not, not_both}
 
@@ -27,15 +30,19 @@ reached_step d cell i row column p reached step = reached_below (plain d) cell _
 one_entry : (z : List (Option CellZones)) (cell name : ℕ) (v w : List Rect) → IsZoneAt z cell name v → IsZoneAt z cell name w → v ≡ w
 one_entry z cell name v w h g = let e : Some v ≡ Some w = sym h ∙ g in cc
 
+-- a right table has the entries of all placed cells for each name
+pub entries : (d : Linked) (r : Rules) (z : List (Option CellZones)) (x : Formula) (cell name : ℕ) → AreZones (plain d) r z → IsReached (plain d) cell → slice_get (formulas r.names) name ≡ Some x → HaveEntries d z cell name
+entries d r z x cell name right reached named i row column p step = zone_entry (plain d) r z p.cell name x right (reached_step d cell i row column p reached step) named
+
 pub kept : KeptLaw
-kept d r z x cell name sound hulls right reached named = record {
+kept d r z x cell name sound hulls right reached named asked = record {
   entries = λ i row column p step. let e = at p.cell (reached_step d cell i row column p reached step) in (e.0, e.1);
   zones = λ k p placed. let e = at p.cell (reached_below (plain d) cell k p reached placed) in (e.0, e.2);
   kept = λ q. (to q, from q);
 }
   where
     at : (e : ℕ) → IsReached (plain d) e → (zone : List Rect) × IsZoneAt z e name zone × IsFramedZone d (inputs x) e zone
-    at e there = let h = zone_at (plain d) r z e name x right there named in (h.0, h.1, (framed d (inputs x) e h.0 (hulls e there) h.2.canonical).0 h.2)
+    at e there = let h = zone_at (plain d) r z e name x right there named asked in (h.0, h.1, (framed d (inputs x) e h.0 (hulls e there) h.2.canonical).0 h.2)
 
     to : (q : Square) → IsKeptBy d z cell name q → IsFromCalmHull d x cell q
     to q h =

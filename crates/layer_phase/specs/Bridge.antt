@@ -8,7 +8,7 @@ use Rattle.rule_text.specs.Rules.{Rules}
 use Rattle.rule_layers.specs.Formulas.{formulas}
 use Rattle.deep_tables.specs.declared.zones.CellZones.{CellZones}
 use Rattle.deep_tables.specs.Frames.{HasHulls}
-use Rattle.deep_tables.specs.Zones.{AreZones}
+use Rattle.deep_tables.specs.Zones.{AreZones, IsAsked}
 use Rattle.layer_phase.specs.Parts.{IsFromCalmHull, HaveZones}
 use Rattle.layer_phase.specs.Keeps.{HaveEntries, IsKeptBy}
 
@@ -24,4 +24,5 @@ abbrev pub KeptLaw : Type 0
 KeptLaw = (d : Linked) (r : Rules) (z : List (Option CellZones)) (x : Formula) (cell name : ℕ)
     → IsSound d → HasHulls d → AreZones (plain d) r z
     → IsReached (plain d) cell → slice_get (formulas r.names) name ≡ Some x
+    → IsAsked r name x
     → TellsKept d z x cell name

@@ -2,7 +2,6 @@ pub mod Flat
 pub mod Parts
 pub mod Keeps
 pub mod Looks
-pub mod Reads
 pub mod Bridge
 pub mod Names
 pub mod Phase

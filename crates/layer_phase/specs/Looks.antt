@@ -1,5 +1,5 @@
 -- Rectangles that are looked at.
-use Rattle.std.specs.Prelude.{◌≡◌, ℕ, ◌<◌, ◌^◌, true, List, Option, Some, slice_get}
+use Rattle.std.specs.Prelude.{◌≡◌, ℕ, ◌<◌, ◌^◌, true, List, [], Option, Some, slice_get}
 use Rattle.std.specs.List.{All}
 use Rattle.geo_base.specs.Near.{IsNearRect}
 use Rattle.geo_base.specs.Motions.{moved_square}
@@ -14,6 +14,7 @@ use Rattle.cell_graph.specs.Linked.{own_of, places_at, plain}
 use Rattle.flat_layout.specs.Layout.{InFlatInput}
 use Rattle.rule_text.specs.declared.rules.LayerForm.TheVariants as form
 use Rattle.rule_text.specs.declared.rules.LayerRule.{LayerRule}
+use Rattle.rule_layers.specs.Reads.{AreRead}
 use Rattle.deep_tables.specs.declared.zones.CellZones.{CellZones}
 use Rattle.layer_phase.specs.Keeps.{HasEntry, IsZoneAt}
 use Rattle.layer_phase.specs.declared.exposed.Exposed.{Exposed}
@@ -128,3 +129,10 @@ pub record AreLooks (d : Linked) (z : List (Option CellZones)) (names : List Lay
   pub below : (i : ℕ) (p : Place) → slice_get (places_at (cell_at d cell)) i ≡ Some p
       → (row column : ℕ) (s : Square) → row < p.rows → column < p.columns
       → IsExposed d z names p.cell s → covers looks (moved_square (motion_at p row column) s) ≡ true
+
+-- squares that have to be looked at for derived names: their input layers alone count
+pub record AreReadLooks (d : Linked) (z : List (Option CellZones)) (names : List LayerRule)
+    (cell : ℕ) (looks : List Rect) : Type 0 where
+  pub seen : List LayerRule
+  pub are : AreRead names [] seen
+  pub all : AreLooks d z seen cell looks

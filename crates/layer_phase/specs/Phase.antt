@@ -1,12 +1,12 @@
 -- What a phase of layers is made from.
-use Rattle.std.specs.Prelude.{◌≡◌, ◌<◌, ◌^◌, ℕ, List, length}
+use Rattle.std.specs.Prelude.{◌≡◌, ◌<◌, ◌^◌, ℕ, List, [], length}
 use Rattle.job_graph.specs.Graph.{Waits}
 use Rattle.cell_graph.specs.Linked.{Linked, plain}
 use Rattle.deep_tables.specs.Frames.{HasHulls}
 use Rattle.deep_tables.specs.Zones.{AreZones}
 use Rattle.rule_text.specs.declared.rules.RuleSet.{RuleSet}
 use Rattle.rule_text.specs.Seen.{rules_seen}
-use Rattle.layer_phase.specs.Reads.{AreRead}
+use Rattle.rule_layers.specs.Reads.{AreRead}
 use Rattle.layer_phase.specs.declared.phase.LayerPhase.TheInside.{Inside}
 
 -- the jobs go through the design's order, and wait for none
@@ -27,5 +27,5 @@ pub record IsLayerPhase (a : Inside) : Type 0 where
   pub hulls : HasHulls a.design.now
   pub zones : AreZones (plain a.design.now) (rules_seen a.rules.now) a.zones.now
   pub few : length a.rules.now.names.items < 2 ^ 32
-  pub read : AreRead a.rules.now.names.items a.read.items
+  pub read : AreRead a.rules.now.names.items [] a.read.items
   pub graph : AreFreeJobs a.design.now a.graph

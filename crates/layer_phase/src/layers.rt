@@ -1,5 +1,5 @@
 //! The squares that a cell holds itself, for each name of the rules.
-ghost use Rattle.std.specs.Prelude.{◌≡◌, ◌<◌, ◌^◌, ℕ, List, Some, length, slice_get, IfOk};
+ghost use Rattle.std.specs.Prelude.{◌≡◌, ◌<◌, ◌^◌, ℕ, List, [], Some, length, slice_get, IfOk};
 ghost use Rattle.cell_graph.specs.Linked.{plain};
 ghost use Rattle.flat_layout.specs.Layers.{Binary, Input, Formula};
 ghost use Rattle.flat_layout.specs.Values.{IsLocalLayer};
@@ -7,7 +7,8 @@ ghost use Rattle.geo_base.specs.declared.layer.Op.{Op};
 ghost use Rattle.rule_layers.specs.Formulas.{formula_by, formulas};
 ghost use Rattle.rule_text.specs.Seen.{rules_seen};
 ghost use Rattle.layer_phase.specs.Names.{AreDerivedFlats, AreLocals, IsFlatIn, IsReady};
-ghost use Rattle.layer_phase.specs.Reads.{AreRead, AreReadLooks};
+ghost use Rattle.layer_phase.specs.Looks.{AreReadLooks};
+ghost use Rattle.rule_layers.specs.Reads.{AreRead};
 
 use crate::flat::Flat;
 use crate::flats::name_flats;
@@ -153,7 +154,7 @@ pub fn name_layers(
 ) -> Result<Vec<RectSet>, AllocError>
     requires cell { cell < length design.now.cells }
     requires ready { IsReady design.now (rules_seen rules.now) zones.now cell }
-    requires read { AreRead rules.now.names.items read.now }
+    requires read { AreRead rules.now.names.items [] read.now }
     ensures count { IfOk result (λ v. length v.items ≡ length (formulas rules.now.names.items)) }
     ensures layers { IfOk result (λ v. AreLocals design.now cell (formulas rules.now.names.items)
         v.items) }

@@ -10,7 +10,6 @@ mod looks;
 mod own;
 mod parts;
 mod phase;
-mod reads;
 
 pub use laws::{kept_law, layer_law};
 pub use phase::{LayerPhase, free_graph};

@@ -6,11 +6,11 @@ ghost use Rattle.rule_text.specs.Seen.{rules_seen};
 ghost use Rattle.layer_phase.specs.Phase.{AreFreeJobs};
 
 use crate::layers::name_layers;
-use crate::reads::read_names;
 use cell_graph::Design;
 use deep_tables::{CellLayers, DeepKey, Zones};
 use job_graph::{Graph, Phase, Reads};
 use list_base::small;
+use rule_layers::read_names;
 use rule_text::{LayerRule, RuleSet};
 use std::alloc::{AllocError, Global};
 use std::marker::Model;
@@ -65,7 +65,7 @@ impl<'a> LayerPhase<'a> {
     {
         small(rules.names.len()).ok_or(AllocError)?;
         design.sound();
-        let read = read_names(alloc, &rules.names)?;
+        let read = read_names(alloc, &rules.names, &[])?;
         let graph = free_graph(alloc, design)?;
         Ok(LayerPhase {
             design,

@@ -1,1 +1,3 @@
+pub mod Marking
+pub mod Unread
 pub mod Wired

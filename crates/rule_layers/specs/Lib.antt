@@ -1,3 +1,4 @@
 pub mod Formulas
 pub mod Meaning
 pub mod Laws
+pub mod Reads

@@ -4,6 +4,7 @@ use Rattle.cell_graph.specs.Linked.{Linked}
 use Rattle.rule_text.specs.declared.rules.RuleSet.{RuleSet}
 use Rattle.rule_text.specs.Seen.{rules_seen}
 use Rattle.rule_text.specs.Sound.{IsSound}
+use Rattle.rule_layers.specs.Reads.{AreRead}
 use Rattle.zone_phase.specs.Graph.{AreParentJobs}
 use Rattle.zone_phase.specs.Uses.{AreUses, lists_of}
 use Rattle.zone_phase.specs.declared.phase.ZonePhase.TheInside.{Inside}
@@ -19,5 +20,6 @@ jobs_seen a = record { design = a.design.now; rules = a.rules.now; graph = a.gra
 
 pub record IsZonePhase (a : Inside) : Type 0 where
   pub rules : IsSound (rules_seen a.rules.now)
+  pub read : AreRead a.rules.now.names.items a.rules.now.devices.items a.read.items
   pub uses : AreUses a.design.now (lists_of a.uses.items)
   pub graph : AreParentJobs a.design.now a.graph

@@ -11,18 +11,21 @@ use crate::uses::{Use, find_uses};
 use cell_graph::Design;
 use deep_tables::{CellZones, DeepKey};
 use job_graph::{Graph, Phase, Reads};
-use rule_text::RuleSet;
+use rule_layers::read_names;
+use rule_text::{LayerRule, RuleSet};
 use std::alloc::{AllocError, Global};
 use std::marker::Model;
 use std::snapshot::Snapshot;
 
-/// The disturbed squares of each cell that the top reaches, for each name of the rules and for each
-/// device rule. Its jobs go through the design's order from its end, so that each cell comes after
-/// those that place it.
+/// The disturbed squares of each cell that the top reaches, for each name of the rules that is
+/// derived, or that a derived name or a device rule reads, and for each device rule. An input layer
+/// that none of them reads costs nothing. The jobs go through the design's order from its end, so
+/// that each cell comes after those that place it.
 #[derive(Drop)]
 pub struct ZonePhase<'a> {
     design: &'a Design,
     rules: &'a RuleSet,
+    read: Vec<LayerRule>,
     uses: Vec<Vec<Use>>,
     graph: Graph,
 }
@@ -38,7 +41,7 @@ impl<'a> Model for ZonePhase<'a> {
 }
 
 impl<'a> ZonePhase<'a> {
-    /// The phase of a layout. Linear in the references.
+    /// The phase of a layout. Linear in the references and the names.
     pub fn new(
         alloc: Global,
         design: &'a Design,
@@ -49,11 +52,13 @@ impl<'a> ZonePhase<'a> {
         ensures rules { IfOk result (λ p. p.rules ≡ rules.now) }
         ensures jobs { IfOk result (λ p. AreParentJobs design.now p.graph) }
     {
+        let read = read_names(alloc, &rules.names, &rules.devices)?;
         let uses = find_uses(alloc, design)?;
         let graph = parent_graph(alloc, design, &uses)?;
         Ok(ZonePhase {
             design,
             rules,
+            read,
             uses,
             graph,
         })
@@ -92,7 +97,7 @@ impl Phase for ZonePhase<'_> {
         let order = design.order();
         let cell = order[order.len() - 1 - job as usize];
         let uses = &self.uses[cell as usize];
-        let layers = name_zones(alloc, design, reads, uses, cell, &self.rules.names)?;
+        let layers = name_zones(alloc, design, reads, uses, cell, &self.read)?;
         let devices = device_zones(alloc, &layers, &self.rules.devices)?;
         let zones = CellZones::new(alloc, layers, devices)?;
         Ok(zones)

@@ -4,10 +4,10 @@ use Rattle.flat_layout.specs.Layers.{Binary, Empty}
 use Rattle.cell_graph.proofs.Bridge.{reference_at}
 use Rattle.rule_layers.specs.Formulas.{formulas}
 use Rattle.rule_text.specs.Seen.{rules_seen}
-use Rattle.layer_phase.proofs.Deriving.{tells}
+use Rattle.layer_phase.proofs.Telling.{entries}
 use Rattle.layer_phase.proofs.Flattening.{count_behind}
 use Rattle.layer_phase.specs.Names.{IsFlatIn}
-use Rattle.layer_phase.proofs.Unread.{same_tree}
+use Rattle.rule_layers.proofs.Unread.{same_tree}
 use Rattle.layer_phase.proofs.layers.name_layers.Goals as goal
 
 pub looks-requires-clause-entries : goal.looks-requires-clause-entries
@@ -17,7 +17,7 @@ looks-requires-clause-entries c = λ i p at name lt.
     let same = c.requires.read.count in
     let within : name < length (formulas names) = omega (arith, count, same, lt) in
     let from = (reference_at c.args.design.now c.args.cell i p c.sound.ensures at).2 in
-    (tells c.args.design.now (rules_seen c.args.rules.now) c.args.zones.now c.args.cell name _ c.sound.ensures c.requires.ready (slice_get-get_or (formulas names) name Empty within)).entries i 0 0 p
+    entries c.args.design.now (rules_seen c.args.rules.now) c.args.zones.now _ c.args.cell name c.requires.ready.zones c.requires.ready.reached (slice_get-get_or (formulas names) name Empty within) i 0 0 p
     (record { there = at; row_in = from.rows; column_in = from.columns })
 
 pub form_layers-requires-clause-looks : goal.form_layers-requires-clause-looks
@@ -26,5 +26,5 @@ form_layers-requires-clause-looks c = record { seen = c.args.read.now; are = c.r
 pub form_layers-requires-clause-flats : goal.form_layers-requires-clause-flats
 form_layers-requires-clause-flats c = λ k op a b at.
     let read = c.args.read.now in
-    let there = same_tree c.args.rules.now.names.items read k op a b c.requires.read at in
+    let there = same_tree c.args.rules.now.names.items [] read k op a b c.requires.read at in
     subst (λ x. IsFlatIn c.args.design.now c.args.cell c.in_ok-set.set x (get_or c.in_ok-flats.flats.items k [])) (get_or_from_slice_get (formulas read) k (Binary op a b) Empty there) (c.in_ok-flats.ensures.flats k)

@@ -8,6 +8,7 @@ use Rattle.rule_text.specs.Seen.{rules_seen}
 use Rattle.rule_text.specs.declared.rules.LayerRule.{LayerRule}
 use Rattle.rule_text.specs.declared.rules.MosRule.{MosRule}
 use Rattle.rule_layers.specs.Formulas.{formulas}
+use Rattle.rule_layers.proofs.Unread.{seen_input}
 use Rattle.flat_layout.specs.Layers.{Input}
 use Rattle.deep_tables.specs.declared.zones.CellZones.{CellZones}
 use Rattle.deep_tables.specs.Entries.{downward_cell}
@@ -55,9 +56,9 @@ name_zones-requires-clause-entries g c = λ name key named k u at.
     (λ i w. subst (λ (z : ZoneJobs). IsSomeAnd (value i) (AreCellZones (plain z.design) (rules_seen z.rules) (downward_cell z.design i))) (sym c.self.view_is)
     (c.requires.right i (subst (λ (z : ZoneJobs). Waits z.graph c.args.job i) c.self.view_is w)))
     k u there in
+    let input = seen_input r.names r.devices c.self.inside.read.items name key a.read (subst (λ (l : List LayerRule). slice_get (formulas l) name ≡ Some (Input key)) c.deref-2.ensures.value named) in
     some_more (AreCellZones (plain d) r (downward_cell d u.job)) (IsEntry d key name (downward_cell d u.job)) (value u.job)
-    (λ v. entry_of d r (downward_cell d u.job) name key v (λ n there. c.sound.ensures.hulls.each n) (job_reached d u.job c.sound.ensures (a.uses.each (downward_cell d c.args.job) k u there).job_in)
-    (subst (λ (l : List LayerRule). slice_get (formulas l) name ≡ Some (Input key)) c.deref-2.ensures.value named)) right
+    (λ v. entry_of d r (downward_cell d u.job) name key v (λ n there. c.sound.ensures.hulls.each n) (job_reached d u.job c.sound.ensures (a.uses.each (downward_cell d c.args.job) k u there).job_in) input.0 input.1) right
 
 pub returns : goal.returns
 returns g c =
@@ -67,15 +68,16 @@ returns g c =
     let job = c.args.job in
     let lt : job < length d.order = subst (λ n. job < n) (ap (λ (z : ZoneJobs). length z.graph) (sym c.self.view_is) ∙ a.graph.jobs) c.requires.job in
     let cell = ap (λ (o : List ℕ). slice_index o (length o - 1 - job)) c.order-order.ensures in
-    let zones : AreNameZones d (downward_cell d job) (formulas r.names) c.in_ok-layers.layers.items =
-    subst (λ n. AreNameZones d n (formulas r.names) c.in_ok-layers.layers.items) cell
+    let read = c.self.inside.read.items in
+    let zones : AreNameZones d (downward_cell d job) (formulas read) c.in_ok-layers.layers.items =
+    subst (λ n. AreNameZones d n (formulas read) c.in_ok-layers.layers.items) cell
     (subst (λ (l : List LayerRule). AreNameZones d (slice_index c.order-order.result.now (length c.order-order.result.now - 1 - job)) (formulas l) c.in_ok-layers.layers.items) c.deref-2.ensures.value c.in_ok-layers.ensures.zones) in
     subst (λ (z : ZoneJobs). AreCellZones (plain z.design) (rules_seen z.rules) (downward_cell z.design job) v) c.self.view_is
-    (cell_zones d r (downward_cell d job) v (λ n there. c.sound.ensures.hulls.each n) a.rules (job_reached d job c.sound.ensures lt)
+    (cell_zones d r read (downward_cell d job) v (λ n there. c.sound.ensures.hulls.each n) a.rules a.read (job_reached d job c.sound.ensures lt)
     (ap length same ∙ c.in_ok-layers.ensures.count ∙ ap (λ (l : List LayerRule). length (formulas l)) c.deref-2.ensures.value)
-    (subst (AreNameZones d (downward_cell d job) (formulas r.names)) (sym same) zones) (subst (λ (l : List (List Rect)). All IsCanonical l) (sym same) c.in_ok-layers.ensures.canonical)
+    (subst (AreNameZones d (downward_cell d job) (formulas read)) (sym same) zones) (subst (λ (l : List (List Rect)). All IsCanonical l) (sym same) c.in_ok-layers.ensures.canonical)
     (ap length same_too ∙ c.in_ok-devices.ensures.count ∙ ap length c.deref-4.ensures.value)
-    (subst (λ (l : List (List Rect)). AreMosZones d (downward_cell d job) (formulas r.names) r.devices l) (sym same_too)
-    (subst (λ (l : List MosRule). AreMosZones d (downward_cell d job) (formulas r.names) l c.in_ok-devices.devices.items) c.deref-4.ensures.value
-    (c.in_ok-devices.ensures.zones d (downward_cell d job) (formulas r.names) (subst (AreNameZones d (downward_cell d job) (formulas r.names)) (sym c.deref-3.ensures.value) zones))))
+    (subst (λ (l : List (List Rect)). AreMosZones d (downward_cell d job) (formulas read) r.devices l) (sym same_too)
+    (subst (λ (l : List MosRule). AreMosZones d (downward_cell d job) (formulas read) l c.in_ok-devices.devices.items) c.deref-4.ensures.value
+    (c.in_ok-devices.ensures.zones d (downward_cell d job) (formulas read) (subst (AreNameZones d (downward_cell d job) (formulas read)) (sym c.deref-3.ensures.value) zones))))
     (subst (λ (l : List (List Rect)). All IsCanonical l) (sym same_too) c.in_ok-devices.ensures.canonical))
