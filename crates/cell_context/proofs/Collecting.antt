@@ -28,13 +28,13 @@ none_times : (z : ℤ) → pos 0 *ℤ z ≡ pos 0
 none_times (pos m) = pos-*ℤ-pos 0 m ∙ ap pos (let e : 0 * m ≡ 0 = omega arith in e)
 none_times (negsuc m) = pos-*ℤ-negsuc 0 m ∙ ap (λ k. neg_ℤ (pos k)) (let e : 0 * suc m ≡ 0 = omega arith in e)
 
-start_within : (a b c z : ℤ) → z ≡ (a +ℤ b) +ℤ c → b ≡ pos 0 → c ≡ pos 0 → IsWithin (2 ^ 30) z → IsWithin (2 ^ 30) a
+start_within : (a b c z : ℤ) → z ≡ (a +ℤ b) +ℤ c → b ≡ pos 0 → c ≡ pos 0 → IsWithin (2 ^ 36) z → IsWithin (2 ^ 36) a
 start_within a b c z e f g h = let l = h.low in let u = h.high in record { low = omega (arith, ints); high = omega (arith, ints) }
 
-first_within : (a b c z : ℤ) → z ≡ (a +ℤ b) +ℤ c → c ≡ pos 0 → IsWithin (2 ^ 30) a → IsWithin (2 ^ 30) z → IsWithin (2 ^ 31) b
+first_within : (a b c z : ℤ) → z ≡ (a +ℤ b) +ℤ c → c ≡ pos 0 → IsWithin (2 ^ 36) a → IsWithin (2 ^ 36) z → IsWithin (2 ^ 37) b
 first_within a b c z e g h i = let l = h.low in let u = h.high in let l' = i.low in let u' = i.high in record { low = omega (arith, ints); high = omega (arith, ints) }
 
-second_within : (a b c z : ℤ) → z ≡ (a +ℤ b) +ℤ c → b ≡ pos 0 → IsWithin (2 ^ 30) a → IsWithin (2 ^ 30) z → IsWithin (2 ^ 31) c
+second_within : (a b c z : ℤ) → z ≡ (a +ℤ b) +ℤ c → b ≡ pos 0 → IsWithin (2 ^ 36) a → IsWithin (2 ^ 36) z → IsWithin (2 ^ 37) c
 second_within a b c z e g h i = let l = h.low in let u = h.high in let l' = i.low in let u' = i.high in record { low = omega (arith, ints); high = omega (arith, ints) }
 
 pub close_array : (d : Linked) (cell i : ℕ) (p : Place) → IsSound d → slice_get (places_at (cell_at d cell)) i ≡ Some p → IsCloseArray p
@@ -55,12 +55,12 @@ close_array d cell i p sound there =
 
 pub near_close : (p : Place) → IsCloseArray p → IsNearArray p
 near_close p h = record {
-  dx = wider (2 ^ 30) (2 ^ 33) p.motion.dx (omega arith) h.dx;
-  dy = wider (2 ^ 30) (2 ^ 33) p.motion.dy (omega arith) h.dy;
-  column_x = λ column lt. wider (2 ^ 31) (2 ^ 32) (pos column *ℤ p.column_step.x) (omega arith) (h.column_x column lt);
-  column_y = λ column lt. wider (2 ^ 31) (2 ^ 32) (pos column *ℤ p.column_step.y) (omega arith) (h.column_y column lt);
-  row_x = λ row lt. wider (2 ^ 31) (2 ^ 32) (pos row *ℤ p.row_step.x) (omega arith) (h.row_x row lt);
-  row_y = λ row lt. wider (2 ^ 31) (2 ^ 32) (pos row *ℤ p.row_step.y) (omega arith) (h.row_y row lt);
+  dx = wider (2 ^ 36) (2 ^ 39) p.motion.dx (omega arith) h.dx;
+  dy = wider (2 ^ 36) (2 ^ 39) p.motion.dy (omega arith) h.dy;
+  column_x = λ column lt. wider (2 ^ 37) (2 ^ 38) (pos column *ℤ p.column_step.x) (omega arith) (h.column_x column lt);
+  column_y = λ column lt. wider (2 ^ 37) (2 ^ 38) (pos column *ℤ p.column_step.y) (omega arith) (h.column_y column lt);
+  row_x = λ row lt. wider (2 ^ 37) (2 ^ 38) (pos row *ℤ p.row_step.x) (omega arith) (h.row_x row lt);
+  row_y = λ row lt. wider (2 ^ 37) (2 ^ 38) (pos row *ℤ p.row_step.y) (omega arith) (h.row_y row lt);
 }
 
 pub near_array : (d : Linked) (cell i : ℕ) (p : Place) → IsSound d → slice_get (places_at (cell_at d cell)) i ≡ Some p → IsNearArray p
@@ -69,7 +69,7 @@ near_array d cell i p sound there = near_close p (close_array d cell i p sound t
 pub is_hull : (d : Linked) (cell : ℕ) (h : Rect) → IsSound d → Some h ≡ hull_of (cell_at d cell) → IsFrame h
 is_hull d cell h sound e =
     let g : IsHull h = subst HullIsSound (sym e) (hull_sound d cell sound) in
-    record { some = g.some; near = wider_rect (2 ^ 30) (2 ^ 31) h (omega arith) g.near }
+    record { some = g.some; near = wider_rect (2 ^ 36) (2 ^ 37) h (omega arith) g.near }
 
 pub and_right : (a b : Bool) → (a && b) ≡ true → b ≡ true
 and_right true b e = e

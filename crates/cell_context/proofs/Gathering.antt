@@ -63,7 +63,7 @@ visit_motion d cell skip w v sound h =
     subst IsNearMotion (sym h.motion_is) (near_motion h.from h.row h.column (near_array d cell h.index h.from sound h.step.there) h.step.row_in h.step.column_in)
 
 pub visit_window : (d : Linked) (cell : ℕ) (skip : Option ℕ) (w : Rect) (v : Visit) → IsVisit d cell skip w v → IsRectWithin (2 ^ 39) v.window
-visit_window d cell skip w v h = wider_rect (2 ^ 31) (2 ^ 39) v.window (omega arith) h.near.near
+visit_window d cell skip w v h = wider_rect (2 ^ 37) (2 ^ 39) v.window (omega arith) h.near.near
 
 pub pieces_rects : (w : Rect) (rs : List Rect) → All (IsPiece w) rs → All IsRect rs
 pieces_rects w rs h = λ k r lt. (h k r lt).some

@@ -43,19 +43,19 @@ above_right a b = omega (arith, ints, clamps)
 abbrev interval : ℤ → ℤ → Interval
 interval low high = record { low = low; high = high }
 
-reach : (step : ℤ) (n : ℕ) → 0 < n → ((k : ℕ) → k < n → IsWithin (2 ^ 31) (pos k *ℤ step)) → (r : Interval) × IsReach step n r
+reach : (step : ℤ) (n : ℕ) → 0 < n → ((k : ℕ) → k < n → IsWithin (2 ^ 37) (pos k *ℤ step)) → (r : Interval) × IsReach step n r
 reach step n some near =
     let last = pos (n - 1) *ℤ step in
     let r = interval (int_min last (pos 0)) (int_max last (pos 0)) in
-    let close = wider (2 ^ 31) (2 ^ 47) last (omega arith) (near (n - 1) (omega (arith, some))) in
+    let close = wider (2 ^ 37) (2 ^ 53) last (omega arith) (near (n - 1) (omega (arith, some))) in
     (r, last_reach step n last r some refl close (min_one last (pos 0) r.low refl) (below_left last (pos 0)) (below_right last (pos 0)) (max_one last (pos 0) r.high refl) (above_left last (pos 0)) (above_right last (pos 0)))
 
-near_some : (start cs rs : ℤ) (rows columns : ℕ) (z : ℤ) → ((row column : ℕ) → row < rows → column < columns → IsWithin (2 ^ 30) (origin start cs rs row column)) → SomeOrigin start cs rs rows columns (λ y. y ≡ z)
-    → IsWithin (2 ^ 30) z
-near_some start cs rs rows columns z near h = subst (IsWithin (2 ^ 30)) h.4 (near h.0 h.1 h.2 h.3)
+near_some : (start cs rs : ℤ) (rows columns : ℕ) (z : ℤ) → ((row column : ℕ) → row < rows → column < columns → IsWithin (2 ^ 36) (origin start cs rs row column)) → SomeOrigin start cs rs rows columns (λ y. y ≡ z)
+    → IsWithin (2 ^ 36) z
+near_some start cs rs rows columns z near h = subst (IsWithin (2 ^ 36)) h.4 (near h.0 h.1 h.2 h.3)
 
 origins : (start cs rs : ℤ) (rows columns : ℕ) (across along : Interval) → IsReach cs columns across → IsReach rs rows along
-    → ((row column : ℕ) → row < rows → column < columns → IsWithin (2 ^ 30) (origin start cs rs row column)) → (r : Interval) × AreOrigins start cs rs rows columns r
+    → ((row column : ℕ) → row < rows → column < columns → IsWithin (2 ^ 36) (origin start cs rs row column)) → (r : Interval) × AreOrigins start cs rs rows columns r
 origins start cs rs rows columns across along a b near =
     let r = interval ((start +ℤ across.low) +ℤ along.low) ((start +ℤ across.high) +ℤ along.high) in (
       r,

@@ -1,5 +1,5 @@
 -- Between which numbers the shifts of those elements lie whose images meet a window.
-use Rattle.std.proofs.Common.{◌≡◌, ℕ, ℤ, pos, ◌+ℤ◌, ◌-ℤ◌, ◌*ℤ◌, ◌<ℤ◌, ◌≤ℤ◌, ◌<◌, ◌^◌, true, refl, sym, ◌∙◌, subst, arith}
+use Rattle.std.proofs.Common.{◌≡◌, ℕ, ℤ, pos, ◌*◌, ◌+ℤ◌, ◌-ℤ◌, ◌*ℤ◌, ◌<ℤ◌, ◌≤ℤ◌, ◌<◌, ◌^◌, true, refl, sym, ◌∙◌, subst, arith}
 use Rattle.std.specs.Int.{int_min, int_max}
 use Rattle.std.proofs.lemmas.Int.{ints}
 use Rattle.geo_base.specs.Near.{IsWithin}
@@ -15,7 +15,7 @@ use Rattle.geo_base.specs.declared.shapes.Square.{Square}
 use Rattle.cell_graph.specs.declared.cells.Place.{Place}
 use Rattle.cell_graph.specs.Linked.{IsFrame, IsRectWithin, motion_at}
 use Rattle.cell_graph.proofs.Bridge.{has_in}
-use Rattle.cell_context.specs.Arrays.{turn_of, shift_x, shift_y, IsReach, IsNearArray}
+use Rattle.cell_context.specs.Arrays.{turn_of, shift_x, shift_y, IsReach, IsCloseArray}
 use Rattle.cell_context.specs.declared.arrays.Reach.{Reach}
 
 kept : (n : ℕ) (z : ℤ) → IsWithin n z → IsWithin n (z +ℤ pos 0)
@@ -77,10 +77,10 @@ shifted p hull w t row column q some e h g =
         → ((w.x1 -ℤ t.x2) <ℤ a) × (a <ℤ (w.x2 -ℤ t.x1)) × ((w.y1 -ℤ t.y2) <ℤ b) × (b <ℤ (w.y2 -ℤ t.y1))
     between t w x y a b (t1, t2, t3, t4) (w1, w2, w3, w4) = ((omega (arith, ints)), (omega (arith, ints)), (omega (arith, ints)), (omega (arith, ints)))
 
-far : (n1 n2 : ℤ) → IsWithin (2 ^ 39) n1 → IsWithin (2 ^ 31) n2 → IsWithin (2 ^ 41) (n1 -ℤ n2)
+far : (n1 n2 : ℤ) → IsWithin (2 ^ 39) n1 → IsWithin (2 ^ 37) n2 → IsWithin (2 ^ 41) (n1 -ℤ n2)
 far n1 n2 h g = let l = h.low in let u = h.high in let l' = g.low in let u' = g.high in record { low = omega (arith, ints); high = omega (arith, ints) }
 
-pub is_reach : (p : Place) (hull w t : Rect) (r : Reach) → IsFrame hull → IsRectWithin (2 ^ 39) w → IsRectWithin (2 ^ 31) t → t ≡ moved_rect (turn_of p) hull
+pub is_reach : (p : Place) (hull w t : Rect) (r : Reach) → IsFrame hull → IsRectWithin (2 ^ 39) w → IsRectWithin (2 ^ 37) t → t ≡ moved_rect (turn_of p) hull
     → r.x_low ≡ w.x1 -ℤ t.x2 → r.x_high ≡ w.x2 -ℤ t.x1 → r.y_low ≡ w.y1 -ℤ t.y2 → r.y_high ≡ w.y2 -ℤ t.y1 → IsReach p hull w r
 is_reach p hull w t r h g near e a b c d = record {
   near = record {
@@ -100,16 +100,16 @@ is_reach p hull w t r h g near e a b c d = record {
 }
 
 -- a shift added
-shifted_within : (z s : ℤ) → IsWithin (2 ^ 31) (z +ℤ pos 0) → IsWithin (2 ^ 35) s → IsWithin (2 ^ 39) (z +ℤ s)
+shifted_within : (z s : ℤ) → IsWithin (2 ^ 37) (z +ℤ pos 0) → IsWithin (5 * 2 ^ 36) s → IsWithin (2 ^ 39) (z +ℤ s)
 shifted_within z s h g = let l = h.low in let u = h.high in let l' = g.low in let u' = g.high in record { low = omega (arith, ints); high = omega (arith, ints) }
 
-moved_point_within : (m : Motion) (p : Point) → IsWithin (2 ^ 35) m.dx → IsWithin (2 ^ 35) m.dy → IsPointWithin (2 ^ 31) p → IsPointWithin (2 ^ 39) (moved_point m p)
+moved_point_within : (m : Motion) (p : Point) → IsWithin (5 * 2 ^ 36) m.dx → IsWithin (5 * 2 ^ 36) m.dy → IsPointWithin (2 ^ 37) p → IsPointWithin (2 ^ 39) (moved_point m p)
 moved_point_within m p dx dy h =
-    let t = point_within (2 ^ 31) m.turn p h in
+    let t = point_within (2 ^ 37) m.turn p h in
     record { x = shifted_within (turned m.turn p).x m.dx t.x dx; y = shifted_within (turned m.turn p).y m.dy t.y dy }
 
 -- the image of a hull is near
-pub moved_within : (m : Motion) (r : Rect) → IsWithin (2 ^ 35) m.dx → IsWithin (2 ^ 35) m.dy → IsRectWithin (2 ^ 31) r → IsRectWithin (2 ^ 39) (moved_rect m r)
+pub moved_within : (m : Motion) (r : Rect) → IsWithin (5 * 2 ^ 36) m.dx → IsWithin (5 * 2 ^ 36) m.dy → IsRectWithin (2 ^ 37) r → IsRectWithin (2 ^ 39) (moved_rect m r)
 moved_within m r dx dy h =
     let low : Point = record { x = r.x1; y = r.y1 } in let high : Point = record { x = r.x2; y = r.y2 } in
     let a = moved_point_within m low dx dy (record { x = h.x1; y = h.y1 }) in let b = moved_point_within m high dx dy (record { x = h.x2; y = h.y2 }) in
@@ -117,10 +117,10 @@ moved_within m r dx dy h =
     let n = 2 ^ 39 in
     record { x1 = min_within n p.x q.x a.x b.x; y1 = min_within n p.y q.y a.y b.y; x2 = max_within n p.x q.x a.x b.x; y2 = max_within n p.y q.y a.y b.y }
 
-shift_near : (a b c z : ℤ) → IsWithin (2 ^ 33) a → IsWithin (2 ^ 32) b → IsWithin (2 ^ 32) c → z ≡ (a +ℤ b) +ℤ c → IsWithin (2 ^ 35) z
+shift_near : (a b c z : ℤ) → IsWithin (2 ^ 36) a → IsWithin (2 ^ 37) b → IsWithin (2 ^ 37) c → z ≡ (a +ℤ b) +ℤ c → IsWithin (5 * 2 ^ 36) z
 shift_near a b c z h g f e = let h1 = h.low in let h2 = h.high in let g1 = g.low in let g2 = g.high in let f1 = f.low in let f2 = f.high in record { low = omega (arith, ints); high = omega (arith, ints) }
 
-pub element_within : (p : Place) (row column : ℕ) (r : Rect) → IsNearArray p → row < p.rows → column < p.columns → IsRectWithin (2 ^ 31) r → IsRectWithin (2 ^ 39) (moved_rect (motion_at p row column) r)
+pub element_within : (p : Place) (row column : ℕ) (r : Rect) → IsCloseArray p → row < p.rows → column < p.columns → IsRectWithin (2 ^ 37) r → IsRectWithin (2 ^ 39) (moved_rect (motion_at p row column) r)
 element_within p row column r near a b h = moved_within (motion_at p row column) r
     (shift_near p.motion.dx (pos column *ℤ p.column_step.x) (pos row *ℤ p.row_step.x) (shift_x p row column) near.dx (near.column_x column b) (near.row_x row a) refl)
     (shift_near p.motion.dy (pos column *ℤ p.column_step.y) (pos row *ℤ p.row_step.y) (shift_y p row column) near.dy (near.column_y column b) (near.row_y row a) refl)

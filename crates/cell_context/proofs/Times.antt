@@ -47,7 +47,7 @@ between_ends i n s f low high lt e l h = elim (ends i (n - 1) s (omega arith)) [
   | inr (a, b) ↦ ((let g : low ≤ℤ f = grind (arith, ints) in omega (arith, ints)), (let g : pos 0 ≤ℤ high = grind (arith, ints) in omega (arith, ints)))
 ]
 
-pub sum_within : (s t r p : ℤ) → IsWithin (2 ^ 33) s → IsWithin (2 ^ 32) p → t ≡ p → r ≡ s +ℤ t → IsWithin (2 ^ 45) r
+pub sum_within : (s t r p : ℤ) → IsWithin (2 ^ 39) s → IsWithin (2 ^ 38) p → t ≡ p → r ≡ s +ℤ t → IsWithin (2 ^ 45) r
 sum_within s t r p h g e f = let l = h.low in let u = h.high in let l' = g.low in let u' = g.high in record { low = omega (arith, ints); high = omega (arith, ints) }
 
 pub low_less : (low start p l : ℤ) → l ≡ low -ℤ start → low <ℤ (start +ℤ p) → l <ℤ p

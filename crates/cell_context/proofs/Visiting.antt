@@ -16,7 +16,7 @@ use Rattle.cell_graph.proofs.Bridge.{has_in, in_has}
 use Rattle.cell_context.specs.Arrays.{IsNearArray, IsPart, shift_x, shift_y}
 use Rattle.cell_context.specs.Visits.{IsMet}
 
-near_sum : (a b c z : ℤ) → IsWithin (2 ^ 33) a → IsWithin (2 ^ 32) b → IsWithin (2 ^ 32) c → z ≡ (a +ℤ b) +ℤ c → IsNear z
+near_sum : (a b c z : ℤ) → IsWithin (2 ^ 39) a → IsWithin (2 ^ 38) b → IsWithin (2 ^ 38) c → z ≡ (a +ℤ b) +ℤ c → IsNear z
 near_sum a b c z h g f e = let h1 = h.low in let h2 = h.high in let g1 = g.low in let g2 = g.high in let f1 = f.low in let f2 = f.high in record { low = omega (arith, ints); high = omega (arith, ints) }
 
 pub near_motion : (p : Place) (row column : ℕ) → IsNearArray p → row < p.rows → column < p.columns → IsNearMotion (motion_at p row column)
@@ -69,7 +69,7 @@ and_both a b e f = ap (λ c. c && b) e ∙ f
 pub part_of_hull : (win hull w : Rect) (m : Motion) → IsFrame hull → IsRect win → ((q : Square) → has win q ≡ (has hull q && has w (moved_square m q))) → IsFrame win
 part_of_hull win hull w m h some has_is = record {
   some = some;
-  near = within_inside (2 ^ 31) win hull some (inside_from win hull some (λ q e. and_left (has hull q) (has w (moved_square m q)) (sym (has_is q) ∙ e))) h.near;
+  near = within_inside (2 ^ 37) win hull some (inside_from win hull some (λ q e. and_left (has hull q) (has w (moved_square m q)) (sym (has_is q) ∙ e))) h.near;
 }
 
 -- what the moved hull and the window share, moved back

@@ -13,25 +13,25 @@ use Rattle.cell_context.specs.declared.arrays.Reach.{Reach}
 
 -- the shifts of an array's elements are near
 pub record IsNearArray (p : Place) : Type 0 where
-  pub dx : IsWithin (2 ^ 33) p.motion.dx
-  pub dy : IsWithin (2 ^ 33) p.motion.dy
+  pub dx : IsWithin (2 ^ 39) p.motion.dx
+  pub dy : IsWithin (2 ^ 39) p.motion.dy
   pub column_x : (column : ℕ) → column < p.columns
-      → IsWithin (2 ^ 32) (pos column *ℤ p.column_step.x)
+      → IsWithin (2 ^ 38) (pos column *ℤ p.column_step.x)
   pub column_y : (column : ℕ) → column < p.columns
-      → IsWithin (2 ^ 32) (pos column *ℤ p.column_step.y)
-  pub row_x : (row : ℕ) → row < p.rows → IsWithin (2 ^ 32) (pos row *ℤ p.row_step.x)
-  pub row_y : (row : ℕ) → row < p.rows → IsWithin (2 ^ 32) (pos row *ℤ p.row_step.y)
+      → IsWithin (2 ^ 38) (pos column *ℤ p.column_step.y)
+  pub row_x : (row : ℕ) → row < p.rows → IsWithin (2 ^ 38) (pos row *ℤ p.row_step.x)
+  pub row_y : (row : ℕ) → row < p.rows → IsWithin (2 ^ 38) (pos row *ℤ p.row_step.y)
 
 -- the same of an array that a design holds: twice as many columns are near still
 pub record IsCloseArray (p : Place) : Type 0 where
-  pub dx : IsWithin (2 ^ 30) p.motion.dx
-  pub dy : IsWithin (2 ^ 30) p.motion.dy
+  pub dx : IsWithin (2 ^ 36) p.motion.dx
+  pub dy : IsWithin (2 ^ 36) p.motion.dy
   pub column_x : (column : ℕ) → column < p.columns
-      → IsWithin (2 ^ 31) (pos column *ℤ p.column_step.x)
+      → IsWithin (2 ^ 37) (pos column *ℤ p.column_step.x)
   pub column_y : (column : ℕ) → column < p.columns
-      → IsWithin (2 ^ 31) (pos column *ℤ p.column_step.y)
-  pub row_x : (row : ℕ) → row < p.rows → IsWithin (2 ^ 31) (pos row *ℤ p.row_step.x)
-  pub row_y : (row : ℕ) → row < p.rows → IsWithin (2 ^ 31) (pos row *ℤ p.row_step.y)
+      → IsWithin (2 ^ 37) (pos column *ℤ p.column_step.y)
+  pub row_x : (row : ℕ) → row < p.rows → IsWithin (2 ^ 37) (pos row *ℤ p.row_step.x)
+  pub row_y : (row : ℕ) → row < p.rows → IsWithin (2 ^ 37) (pos row *ℤ p.row_step.y)
 
 -- the common part of two rectangles, where there is one
 pub record IsPart (a b r : Rect) : Type 0 where

@@ -35,7 +35,7 @@ pub fn meet(a: &Rect, b: &Rect) -> Option<Rect>
 
 // A multiple of a step.
 fn times(count: u32, step: i64) -> i64
-    requires { IsWithin (2 ^ 32) (pos count *ℤ step) }
+    requires { IsWithin (2 ^ 38) (pos count *ℤ step) }
     ensures { result ≡ pos count *ℤ step }
 {
     count as i64 * step
@@ -59,9 +59,9 @@ fn minus(a: i64, b: i64) -> i64
 
 // A shift by whole steps.
 fn shift(start: i64, column: u32, column_step: i64, row: u32, row_step: i64) -> i64
-    requires start { IsWithin (2 ^ 33) start }
-    requires column { IsWithin (2 ^ 32) (pos column *ℤ column_step) }
-    requires row { IsWithin (2 ^ 32) (pos row *ℤ row_step) }
+    requires start { IsWithin (2 ^ 39) start }
+    requires column { IsWithin (2 ^ 38) (pos column *ℤ column_step) }
+    requires row { IsWithin (2 ^ 38) (pos row *ℤ row_step) }
     ensures { result ≡ (start +ℤ (pos column *ℤ column_step)) +ℤ (pos row *ℤ row_step) }
 {
     let across = times(column, column_step);
@@ -118,7 +118,7 @@ pub struct Reach {
 fn turned_hull(place: &Place, hull: &Rect) -> Rect
     requires hull { IsFrame hull.now }
     ensures exact { result ≡ moved_rect (turn_of place.now) hull.now }
-    ensures near { IsRectWithin (2 ^ 31) result }
+    ensures near { IsRectWithin (2 ^ 37) result }
 {
     let turn = Motion {
         turn: place.motion.turn,
@@ -162,26 +162,26 @@ fn both(a: Steps, b: Steps) -> Steps
 
 // A shift by whole steps of one kind.
 fn start_at(start: i64, count: u32, step: i64) -> i64
-    requires start { IsWithin (2 ^ 33) start }
-    requires near { IsWithin (2 ^ 32) (pos count *ℤ step) }
+    requires start { IsWithin (2 ^ 39) start }
+    requires near { IsWithin (2 ^ 38) (pos count *ℤ step) }
     ensures exact { result ≡ start +ℤ (pos count *ℤ step) }
-    ensures near { IsWithin (2 ^ 34) result }
+    ensures near { IsWithin (2 ^ 40) result }
 {
     more(start, times(count, step))
 }
 
 fn more(a: i64, b: i64) -> i64
-    requires a { IsWithin (2 ^ 33) a }
-    requires b { IsWithin (2 ^ 32) b }
+    requires a { IsWithin (2 ^ 39) a }
+    requires b { IsWithin (2 ^ 38) b }
     ensures exact { result ≡ a +ℤ b }
-    ensures near { IsWithin (2 ^ 34) result }
+    ensures near { IsWithin (2 ^ 40) result }
 {
     a + b
 }
 
 fn less(a: i64, b: i64) -> i64
     requires a { IsWithin (2 ^ 43) a }
-    requires b { IsWithin (2 ^ 34) b }
+    requires b { IsWithin (2 ^ 40) b }
     ensures exact { result ≡ a -ℤ b }
     ensures near { IsWithin (2 ^ 50) result }
 {
@@ -190,7 +190,7 @@ fn less(a: i64, b: i64) -> i64
 
 // The numbers whose steps from a start may lie between two numbers.
 fn axis(count: u32, step: i64, start: i64, low: i64, high: i64) -> Steps
-    requires start { IsWithin (2 ^ 34) start }
+    requires start { IsWithin (2 ^ 40) start }
     requires low { IsWithin (2 ^ 43) low }
     requires high { IsWithin (2 ^ 43) high }
     ensures within { result.to ≤ count }
@@ -209,9 +209,9 @@ struct Extent {
 
 fn extent_of(count: u32, step: i64) -> Extent
     requires some { 0 < count }
-    requires near { IsWithin (2 ^ 32) (pos (count - 1) *ℤ step) }
-    ensures low { IsWithin (2 ^ 33) result.low }
-    ensures high { IsWithin (2 ^ 33) result.high }
+    requires near { IsWithin (2 ^ 38) (pos (count - 1) *ℤ step) }
+    ensures low { IsWithin (2 ^ 39) result.low }
+    ensures high { IsWithin (2 ^ 39) result.high }
     ensures all { (i : ℕ) → i < count → (result.low ≤ℤ (pos i *ℤ step))
         × ((pos i *ℤ step) ≤ℤ result.high) }
 {
@@ -224,7 +224,7 @@ fn extent_of(count: u32, step: i64) -> Extent
 
 fn widened(a: i64, b: i64) -> i64
     requires a { IsWithin (2 ^ 41) a }
-    requires b { IsWithin (2 ^ 33) b }
+    requires b { IsWithin (2 ^ 39) b }
     ensures exact { result ≡ a -ℤ b }
     ensures near { IsWithin (2 ^ 43) result }
 {
@@ -233,11 +233,11 @@ fn widened(a: i64, b: i64) -> i64
 
 // The same where each number may also be shifted within an extent.
 fn wide_axis(count: u32, step: i64, start: i64, low: i64, high: i64, extent: Extent) -> Steps
-    requires start { IsWithin (2 ^ 33) start }
+    requires start { IsWithin (2 ^ 39) start }
     requires low { IsWithin (2 ^ 41) low }
     requires high { IsWithin (2 ^ 41) high }
-    requires extent_low { IsWithin (2 ^ 33) extent.low }
-    requires extent_high { IsWithin (2 ^ 33) extent.high }
+    requires extent_low { IsWithin (2 ^ 39) extent.low }
+    requires extent_high { IsWithin (2 ^ 39) extent.high }
     ensures within { result.to ≤ count }
     ensures all { (i : ℕ) (z : ℤ) → i < count → extent.low ≤ℤ z → z ≤ℤ extent.high
         → low <ℤ ((start +ℤ z) +ℤ (pos i *ℤ step)) → ((start +ℤ z) +ℤ (pos i *ℤ step)) <ℤ high

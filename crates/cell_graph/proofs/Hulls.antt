@@ -9,11 +9,11 @@ use Rattle.flat_layout.specs.Layout.{Some_of}
 use Rattle.cell_graph.specs.declared.cells.OwnLayer.{OwnLayer}
 use Rattle.cell_graph.specs.declared.cells.RawText.{RawText}
 use Rattle.cell_graph.specs.declared.cells.Place.{Place}
-use Rattle.cell_graph.specs.Linked.{motion_at}
+use Rattle.cell_graph.specs.Linked.{IsPointWithin, motion_at}
 use Rattle.cell_graph.specs.declared.bounds.Bounds.{Bounds}
 use Rattle.cell_graph.specs.declared.drafts.DraftRef.{DraftRef}
 use Rattle.cell_graph.specs.declared.drafts.CellDraft.{CellDraft}
-use Rattle.cell_graph.specs.Drafts.{IsElementOf, element_motion, IsCorner, IsOrigin, IsPointBy, IsHullPoint, IsNearPoint, IsFar, HasNoRepeat, IsResolved, AreAllResolved}
+use Rattle.cell_graph.specs.Drafts.{IsElementOf, element_motion, IsCorner, IsOrigin, IsPointBy, IsHullPoint, IsFar, HasNoRepeat, IsResolved, AreAllResolved}
 use Rattle.cell_graph.specs.Sides.{Side, Left, Low, Right, High, value, side_of, Holds, Widens, AreNear, AreNearIfAny, IsCornerPoint}
 use Rattle.cell_graph.specs.Extents.{found_at, IsFarAway, CellPoint, IsCellBounds, IsCellFar, IsBoundsOf}
 use Rattle.cell_graph.proofs.Resolving.{at_too, one_named}
@@ -167,15 +167,15 @@ cell_least cells i c places found b once there all children least =
         (moved_point m r.0, (suc n.0, (m, p.cell, element_to cells i c places k p row column there all e in_rows in_columns, r.0, n.1, refl)), subst (λ v. value s (moved_point m r.0) ≤ℤ value s v) is r.2)
 
 -- which side is out of range
-within_or : (z : ℤ) → IsWithin (2 ^ 30) z ⊎ (IsWithin (2 ^ 30) z → ⊥)
-within_or z = by (int_le (pos 0 -ℤ pos (2 ^ 30)) z) (int_le z (pos (2 ^ 30))) refl refl
+within_or : (z : ℤ) → IsWithin (2 ^ 36) z ⊎ (IsWithin (2 ^ 36) z → ⊥)
+within_or z = by (int_le (pos 0 -ℤ pos (2 ^ 36)) z) (int_le z (pos (2 ^ 36))) refl refl
   where
-    by : (a b : Bool) → int_le (pos 0 -ℤ pos (2 ^ 30)) z ≡ a → int_le z (pos (2 ^ 30)) ≡ b → IsWithin (2 ^ 30) z ⊎ (IsWithin (2 ^ 30) z → ⊥)
+    by : (a b : Bool) → int_le (pos 0 -ℤ pos (2 ^ 36)) z ≡ a → int_le z (pos (2 ^ 36)) ≡ b → IsWithin (2 ^ 36) z ⊎ (IsWithin (2 ^ 36) z → ⊥)
     by true true e f = inl (record { low = grind (arith, ints); high = grind (arith, ints) })
     by false b e f = inr (λ h. let l = h.low in let z : ⊥ = grind (arith, ints) in z)
     by true false e f = inr (λ h. let l = h.high in let z : ⊥ = grind (arith, ints) in z)
 
-far_point : (P : Point → Type 0) (b : Bounds) → Widens None P (Some b) → (AreNear b → ⊥) → (p : Point) × P p × (IsNearPoint (2 ^ 30) p → ⊥)
+far_point : (P : Point → Type 0) (b : Bounds) → Widens None P (Some b) → (AreNear b → ⊥) → (p : Point) × P p × (IsPointWithin (2 ^ 36) p → ⊥)
 far_point P b least far = by (within_or b.x1) (within_or b.y1) (within_or b.x2) (within_or b.y2)
   where
     side : (s : Side) → (q : Point) × P q × (value s q ≡ side_of s b)
@@ -184,12 +184,12 @@ far_point P b least far = by (within_or b.x1) (within_or b.y1) (within_or b.x2) 
     back : (x y : ℤ) → pos 0 -ℤ x ≡ pos 0 -ℤ y → x ≡ y
     back x y e = omega (arith, ints)
 
-    by : IsWithin (2 ^ 30) b.x1 ⊎ (IsWithin (2 ^ 30) b.x1 → ⊥) → IsWithin (2 ^ 30) b.y1 ⊎ (IsWithin (2 ^ 30) b.y1 → ⊥)
-        → IsWithin (2 ^ 30) b.x2 ⊎ (IsWithin (2 ^ 30) b.x2 → ⊥) → IsWithin (2 ^ 30) b.y2 ⊎ (IsWithin (2 ^ 30) b.y2 → ⊥) → (p : Point) × P p × (IsNearPoint (2 ^ 30) p → ⊥)
-    by (inr f) y z w = let q = side Left in (q.0, q.1, (λ near. f (subst (IsWithin (2 ^ 30)) q.2 near.x)))
-    by (inl a) (inr f) z w = let q = side Low in (q.0, q.1, (λ near. f (subst (IsWithin (2 ^ 30)) q.2 near.y)))
-    by (inl a) (inl c) (inr f) w = let q = side Right in (q.0, q.1, (λ near. f (subst (IsWithin (2 ^ 30)) (back q.0.x b.x2 q.2) near.x)))
-    by (inl a) (inl c) (inl d) (inr f) = let q = side High in (q.0, q.1, (λ near. f (subst (IsWithin (2 ^ 30)) (back q.0.y b.y2 q.2) near.y)))
+    by : IsWithin (2 ^ 36) b.x1 ⊎ (IsWithin (2 ^ 36) b.x1 → ⊥) → IsWithin (2 ^ 36) b.y1 ⊎ (IsWithin (2 ^ 36) b.y1 → ⊥)
+        → IsWithin (2 ^ 36) b.x2 ⊎ (IsWithin (2 ^ 36) b.x2 → ⊥) → IsWithin (2 ^ 36) b.y2 ⊎ (IsWithin (2 ^ 36) b.y2 → ⊥) → (p : Point) × P p × (IsPointWithin (2 ^ 36) p → ⊥)
+    by (inr f) y z w = let q = side Left in (q.0, q.1, (λ near. f (subst (IsWithin (2 ^ 36)) q.2 near.x)))
+    by (inl a) (inr f) z w = let q = side Low in (q.0, q.1, (λ near. f (subst (IsWithin (2 ^ 36)) q.2 near.y)))
+    by (inl a) (inl c) (inr f) w = let q = side Right in (q.0, q.1, (λ near. f (subst (IsWithin (2 ^ 36)) (back q.0.x b.x2 q.2) near.x)))
+    by (inl a) (inl c) (inl d) (inr f) = let q = side High in (q.0, q.1, (λ near. f (subst (IsWithin (2 ^ 36)) (back q.0.y b.y2 q.2) near.y)))
     by (inl a) (inl c) (inl d) (inl e) = absurd (far (record { x1 = a; y1 = c; x2 = d; y2 = e }))
 
 pub cell_far : (cells : List CellDraft) (i : ℕ) (c : CellDraft) (places : List Place) (found : List (Option Bounds)) → HasNoRepeat cells → slice_get cells i ≡ Some c

@@ -1,5 +1,6 @@
 pub mod Elements
 pub mod Bridge
+pub mod Seeing
 pub mod Ordered
 pub mod Raising
 pub mod Walks
@@ -16,6 +17,7 @@ pub mod Rounds
 pub mod Finishes
 pub mod Sound
 pub mod PlainHulls
+pub mod Paths
 pub mod Looking
 pub mod Calling
 pub mod Roots

@@ -34,7 +34,7 @@ use Rattle.cell_graph.specs.Parts.{Part}
 use Rattle.cell_graph.specs.Sides.{Left, Low, Right, High, Holds, Widens}
 use Rattle.cell_graph.proofs.Extending.{low_of, high_of}
 use Rattle.cell_graph.proofs.Hulls.{some_among, among_some, element_from, element_to, image_held}
-use Rattle.cell_graph.proofs.Sound.{IsDone, MadeAt, made_at, up, corner_held, some_at, cell_sound, levels_sound, order_sound}
+use Rattle.cell_graph.proofs.Sound.{IsDone, MadeAt, made_at, up, corner_held, some_at}
 use Rattle.cell_graph.proofs.Widening.{least_of}
 
 -- what stands between held corners is held
@@ -120,12 +120,12 @@ record IsElementIn (part : Part) (p : flat.Place) : Type 0 where
   pub is : p ≡ place_at (reference from) row column
 
 -- a finished cell of the design
-record Finished (cells : List CellDraft) (parts : List Part) (hs : List ℕ) (found : List (Option Bounds)) (ds : List CellPart) (i : ℕ) : Type 0 where
+pub record Finished (cells : List CellDraft) (parts : List Part) (hs : List ℕ) (found : List (Option Bounds)) (ds : List CellPart) (i : ℕ) : Type 0 where
   pub cell : CellPart
   pub at : slice_get ds i ≡ Some cell
   pub made : MadeAt cells parts hs found i cell
 
-finished_at : (cells : List CellDraft) (parts : List Part) (hs order : List ℕ) (found : List (Option Bounds)) (top : ℕ) (kept : List ℕ) (ds : List CellPart) → IsDone cells parts hs order found top kept ds
+pub finished_at : (cells : List CellDraft) (parts : List Part) (hs order : List ℕ) (found : List (Option Bounds)) (top : ℕ) (kept : List ℕ) (ds : List CellPart) → IsDone cells parts hs order found top kept ds
     → (i : ℕ) (c : flat.Cell) → slice_get (plain (linked_of ds top kept)).cells i ≡ Some c → Finished cells parts hs found ds i
 finished_at cells parts hs order found top kept ds done i c e =
     let p = part_of (linked_of ds top kept) i c e in
@@ -153,7 +153,7 @@ element_in cells parts hs found top kept ds i f k p placed =
     }
 
 -- points of the plain layout lie in the bounds
-own_held : (cells : List CellDraft) (parts : List Part) (hs order : List ℕ) (found : List (Option Bounds)) (top : ℕ) (kept : List ℕ) (ds : List CellPart) → IsDone cells parts hs order found top kept ds
+pub own_held : (cells : List CellDraft) (parts : List Part) (hs order : List ℕ) (found : List (Option Bounds)) (top : ℕ) (kept : List ℕ) (ds : List CellPart) → IsDone cells parts hs order found top kept ds
     → (i : ℕ) (p : Point) → plain_hull.IsOwnPoint (plain (linked_of ds top kept)) i p → Holds (found_at found i) p
 own_held cells parts hs order found top kept ds done i p (inl (key, q, o, corner)) =
     let f = finished_at cells parts hs order found top kept ds done i o.0 o.1 in
@@ -184,7 +184,7 @@ own_held cells parts hs order found top kept ds done i p (inr (inr (k, place, pl
     least.holds p (0, inr (inr (motion_at el.from el.row el.column, el.from.cell, e, origin)))
 
 -- and so do their images
-image_in : (cells : List CellDraft) (parts : List Part) (hs order : List ℕ) (found : List (Option Bounds)) (top : ℕ) (kept : List ℕ) (ds : List CellPart) → IsDone cells parts hs order found top kept ds
+pub image_in : (cells : List CellDraft) (parts : List Part) (hs order : List ℕ) (found : List (Option Bounds)) (top : ℕ) (kept : List ℕ) (ds : List CellPart) → IsDone cells parts hs order found top kept ds
     → (i k : ℕ) (p : flat.Place) (r q : Point) → flat.IsPlaced (plain (linked_of ds top kept)) i k p → Holds (found_at found p.cell) r → moved_point p.motion r ≡ q → Holds (found_at found i) q
 image_in cells parts hs order found top kept ds done i k p r q placed below e =
     let f = finished_at cells parts hs order found top kept ds done i placed.0 placed.1 in
@@ -296,7 +296,7 @@ point_cell d i [] end s q takes (inr (inl (text, o, at))) = subst (λ k. (c : fl
 point_cell d i [] end s q takes (inr (inr (k, place, placed, x, y))) = subst (λ k. (c : flat.Cell) × (slice_get d.cells k ≡ Some c)) (sym takes.0) (placed.0, placed.1)
 point_cell d i (k ∷ ks) end s q (p, placed, r, rest, e) own = (placed.0, placed.1)
 
-hull_sound_at : (cells : List CellDraft) (parts : List Part) (hs order : List ℕ) (found : List (Option Bounds)) (top : ℕ) (kept : List ℕ) (ds : List CellPart) → IsDone cells parts hs order found top kept ds
+pub hull_sound_at : (cells : List CellDraft) (parts : List Part) (hs order : List ℕ) (found : List (Option Bounds)) (top : ℕ) (kept : List ℕ) (ds : List CellPart) → IsDone cells parts hs order found top kept ds
     → (i : ℕ) (o : Option CellPart) → cell_at (linked_of ds top kept) i ≡ o → plain_hull.IsHullOf (plain (linked_of ds top kept)) i (hull_of o)
 hull_sound_at cells parts hs order found top kept ds done i None e = λ q g.
     let at = g.west.1 in
@@ -310,14 +310,3 @@ hull_sound_at cells parts hs order found top kept ds done i (Some c) e =
     (λ p at. points_held cells parts hs order found top kept ds done at.path i at.end at.point p at.takes at.own)
     (λ p (n, by). plain_point cells parts hs order found top kept ds done n i p by)
     own.least m.is.hull_is
-
-pub all_sound : (cells : List CellDraft) (parts : List Part) (hs order : List ℕ) (found : List (Option Bounds)) (top : ℕ) (kept : List ℕ) (ds : List CellPart) → IsDone cells parts hs order found top kept ds
-    → IsSound (linked_of ds top kept)
-all_sound cells parts hs order found top kept ds done = record {
-  count = (let a = done.made.count in let b = done.sound.few in omega arith);
-  top = subst (λ n. top < n) (sym done.made.count) done.top_in;
-  each = λ i p at. cell_sound cells parts hs order found top kept ds done i p at;
-  hulls = record { each = λ i. hull_sound_at cells parts hs order found top kept ds done i (cell_at (linked_of ds top kept) i) refl };
-  order = order_sound cells parts hs order found top kept ds done;
-  levels = levels_sound cells parts hs order found top kept ds done;
-}

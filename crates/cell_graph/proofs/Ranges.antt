@@ -40,7 +40,7 @@ one_reach step n r one low high =
       high_near = record { low = omega (arith, ints); high = omega (arith, ints) };
     }
 
-pub last_reach : (step : ℤ) (n : ℕ) (last : ℤ) (r : Interval) → 0 < n → last ≡ pos (n - 1) *ℤ step → IsWithin (2 ^ 47) last
+pub last_reach : (step : ℤ) (n : ℕ) (last : ℤ) (r : Interval) → 0 < n → last ≡ pos (n - 1) *ℤ step → IsWithin (2 ^ 53) last
     → (r.low ≡ last) ⊎ (r.low ≡ pos 0) → r.low ≤ℤ last → r.low ≤ℤ pos 0 → (r.high ≡ last) ⊎ (r.high ≡ pos 0) → last ≤ℤ r.high → pos 0 ≤ℤ r.high → IsReach step n r
 last_reach step n last r some is near low l0 l1 high h0 h1 = record {
   low = attained r.low low;
@@ -57,14 +57,14 @@ last_reach step n last r some is near low l0 l1 high h0 h1 = record {
     attained z (inl e) = (n - 1, (omega arith), e ∙ is)
     attained z (inr e) = (0, some, e ∙ sym (none_times step))
 
-    close : (z : ℤ) → (z ≡ last) ⊎ (z ≡ pos 0) → IsWithin (2 ^ 47) z
-    close z (inl e) = subst (IsWithin (2 ^ 47)) (sym e) near
+    close : (z : ℤ) → (z ≡ last) ⊎ (z ≡ pos 0) → IsWithin (2 ^ 53) z
+    close z (inl e) = subst (IsWithin (2 ^ 53)) (sym e) near
     close z (inr e) = record { low = omega (arith, ints); high = omega (arith, ints) }
 
-apart : (start p z step : ℤ) → z ≡ p → p ≡ start +ℤ step → IsWithin (2 ^ 30) start → IsWithin (2 ^ 30) z → IsWithin (2 ^ 31) step
+apart : (start p z step : ℤ) → z ≡ p → p ≡ start +ℤ step → IsWithin (2 ^ 36) start → IsWithin (2 ^ 36) z → IsWithin (2 ^ 37) step
 apart start p z step e f a b = let al = a.low in let ah = a.high in let bl = b.low in let bh = b.high in record { low = omega (arith, ints); high = omega (arith, ints) }
 
-pub far_column : (start cs rs : ℤ) (rows columns : ℕ) → 0 < rows → IsWithin (2 ^ 30) start → IsTooLong cs columns → SomeOrigin start cs rs rows columns (λ z. IsWithin (2 ^ 30) z → ⊥)
+pub far_column : (start cs rs : ℤ) (rows columns : ℕ) → 0 < rows → IsWithin (2 ^ 36) start → IsTooLong cs columns → SomeOrigin start cs rs rows columns (λ z. IsWithin (2 ^ 36) z → ⊥)
 far_column start cs rs rows columns some near (more, long) =
     let a = one_times cs in let b = none_times rs in
     let e : origin start cs rs 0 1 ≡ start +ℤ cs = sum start (pos 1 *ℤ cs) (pos 0 *ℤ rs) cs a b in
@@ -73,7 +73,7 @@ far_column start cs rs rows columns some near (more, long) =
     sum : (s a b c : ℤ) → a ≡ c → b ≡ pos 0 → (s +ℤ a) +ℤ b ≡ s +ℤ c
     sum s a b c e f = omega (arith, ints)
 
-pub far_row : (start cs rs : ℤ) (rows columns : ℕ) → 0 < columns → IsWithin (2 ^ 30) start → IsTooLong rs rows → SomeOrigin start cs rs rows columns (λ z. IsWithin (2 ^ 30) z → ⊥)
+pub far_row : (start cs rs : ℤ) (rows columns : ℕ) → 0 < columns → IsWithin (2 ^ 36) start → IsTooLong rs rows → SomeOrigin start cs rs rows columns (λ z. IsWithin (2 ^ 36) z → ⊥)
 far_row start cs rs rows columns some near (more, long) =
     let a = none_times cs in let b = one_times rs in
     let e : origin start cs rs 1 0 ≡ start +ℤ rs = sum start (pos 0 *ℤ cs) (pos 1 *ℤ rs) rs a b in
@@ -94,11 +94,11 @@ high_origin start cs rs rows columns across along z a b e =
     let c = a.high in let r = b.high in
     (r.0, c.0, r.1, c.1, sym (e ∙ ap (λ v. (start +ℤ v) +ℤ along.high) c.2 ∙ ap (λ v. (start +ℤ (pos c.0 *ℤ cs)) +ℤ v) r.2))
 
-pub far_origin : (start cs rs : ℤ) (rows columns : ℕ) (z : ℤ) → SomeOrigin start cs rs rows columns (λ y. y ≡ z) → (IsWithin (2 ^ 30) z → ⊥) → SomeOrigin start cs rs rows columns (λ y. IsWithin (2 ^ 30) y → ⊥)
-far_origin start cs rs rows columns z (row, column, in_rows, in_columns, e) far = (row, column, in_rows, in_columns, (λ h. far (subst (IsWithin (2 ^ 30)) e h)))
+pub far_origin : (start cs rs : ℤ) (rows columns : ℕ) (z : ℤ) → SomeOrigin start cs rs rows columns (λ y. y ≡ z) → (IsWithin (2 ^ 36) z → ⊥) → SomeOrigin start cs rs rows columns (λ y. IsWithin (2 ^ 36) y → ⊥)
+far_origin start cs rs rows columns z (row, column, in_rows, in_columns, e) far = (row, column, in_rows, in_columns, (λ h. far (subst (IsWithin (2 ^ 36)) e h)))
 
 pub all_origins : (start cs rs : ℤ) (rows columns : ℕ) (across along r : Interval) → IsReach cs columns across → IsReach rs rows along
-    → r.low ≡ (start +ℤ across.low) +ℤ along.low → r.high ≡ (start +ℤ across.high) +ℤ along.high → IsWithin (2 ^ 30) r.low → IsWithin (2 ^ 30) r.high → AreOrigins start cs rs rows columns r
+    → r.low ≡ (start +ℤ across.low) +ℤ along.low → r.high ≡ (start +ℤ across.high) +ℤ along.high → IsWithin (2 ^ 36) r.low → IsWithin (2 ^ 36) r.high → AreOrigins start cs rs rows columns r
 all_origins start cs rs rows columns across along r a b e f low high = record {
   low = low_origin start cs rs rows columns across along r.low a b e;
   high = high_origin start cs rs rows columns across along r.high a b f;
@@ -120,5 +120,5 @@ min_one x y z e = elim (pick (int_lt y x) y x) [ inl f ↦ inr (e ∙ f) | inr f
 pub max_one : (x y z : ℤ) → z ≡ int_max x y → (z ≡ x) ⊎ (z ≡ y)
 max_one x y z e = elim (pick (int_lt y x) x y) [ inl f ↦ inl (e ∙ f) | inr f ↦ inr (e ∙ f) ]
 
-pub farther : (z : ℤ) → IsWithin (2 ^ 30) z → IsWithin (2 ^ 47) z
+pub farther : (z : ℤ) → IsWithin (2 ^ 36) z → IsWithin (2 ^ 53) z
 farther z h = let l = h.low in let g = h.high in record { low = omega (arith, ints); high = omega (arith, ints) }

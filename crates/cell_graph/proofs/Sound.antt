@@ -19,14 +19,14 @@ use Rattle.cell_graph.specs.declared.cells.OwnLayer.{OwnLayer}
 use Rattle.cell_graph.specs.declared.cells.RawText.{RawText}
 use Rattle.cell_graph.specs.declared.cells.Place.{Place}
 use Rattle.cell_graph.specs.declared.cells.CellPart.{CellPart}
-use Rattle.cell_graph.specs.Linked.{linked_of, plain, motion_at, cell_at, places_at, height_at, height_of, IsInside, IsHull, HoldsImage, HoldsRects, IsReference, layer_keys, HullIsSound, HasJustBelow, HaveLevels, IsSoundCell, IsOrder, IsStep}
+use Rattle.cell_graph.specs.Linked.{IsPointWithin, linked_of, plain, motion_at, cell_at, places_at, height_at, height_of, IsInside, IsHull, HoldsImage, HoldsRects, IsReference, layer_keys, HullIsSound, HasJustBelow, HaveLevels, IsSoundCell, IsOrder, IsStep}
 use Rattle.cell_graph.proofs.Bridge.{step_of, placed_of}
 use Rattle.cell_graph.specs.declared.bounds.Bounds.{Bounds}
 use Rattle.cell_graph.specs.declared.drafts.CellDraft.{CellDraft}
 use Rattle.cell_graph.specs.Bounds.{range_of}
 use Rattle.cell_graph.specs.Chains.{Leads, HasChain, IsHeightOf}
 use Rattle.cell_graph.specs.Parts.{Part, Places}
-use Rattle.cell_graph.specs.Drafts.{Refers, IsCorner, IsHullPoint, IsNearPoint, IsHullOf, IsLeastRange, IsTop, AreSound, AreAllResolved, AreParts, IsPartOf, IsLink}
+use Rattle.cell_graph.specs.Drafts.{Refers, IsCorner, IsHullPoint, IsHullOf, IsLeastRange, IsTop, AreSound, AreAllResolved, AreParts, IsPartOf, IsLink}
 use Rattle.cell_graph.specs.Sides.{Side, Left, Low, Right, High, value, side_of, Holds, Widens, AreNearIfAny, IsCornerPoint, low_corner, high_corner}
 use Rattle.cell_graph.specs.Extents.{found_at, HaveArrays, IsBoundsOf, AreBounds}
 use Rattle.cell_graph.specs.Ordering.{AreOrdered}
@@ -65,7 +65,7 @@ made_at cells parts hs found ds are made i p at =
     let q = at_too cells parts i c.0 (sym are.count) c.1 in
     record { draft = c.0; part = q.0; there = c.1; part_there = q.1; is = made.each i c.0 q.0 p c.1 q.1 at }
 
-near_held : (b : Option Bounds) (p : Point) → AreNearIfAny b → Holds b p → IsNearPoint (2 ^ 30) p
+pub near_held : (b : Option Bounds) (p : Point) → AreNearIfAny b → Holds b p → IsPointWithin (2 ^ 36) p
 near_held None p near h = absurd h
 near_held (Some b) p n in_b =
     let a = in_b Left in let c = in_b Low in let d = in_b Right in let e = in_b High in

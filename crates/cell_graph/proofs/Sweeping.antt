@@ -17,10 +17,10 @@ use Rattle.cell_graph.specs.Arrays.{AreOriginsOf}
 use Rattle.cell_graph.specs.Linked.{IsRectWithin, motion_at}
 use Rattle.cell_graph.specs.Spans.{IsSpan, IsSwept}
 
-negated : (z : ℤ) → IsWithin (2 ^ 30) z → IsWithin (2 ^ 30) (pos 0 -ℤ z)
+negated : (z : ℤ) → IsWithin (2 ^ 36) z → IsWithin (2 ^ 36) (pos 0 -ℤ z)
 negated z h = let l = h.low in let g = h.high in record { low = omega (arith, ints); high = omega (arith, ints) }
 
-turned_near : (t : Turn) (p : Point) → IsWithin (2 ^ 30) p.x → IsWithin (2 ^ 30) p.y → IsWithin (2 ^ 30) (turned t p).x × IsWithin (2 ^ 30) (turned t p).y
+turned_near : (t : Turn) (p : Point) → IsWithin (2 ^ 36) p.x → IsWithin (2 ^ 36) p.y → IsWithin (2 ^ 36) (turned t p).x × IsWithin (2 ^ 36) (turned t p).y
 turned_near R0 p x y = (x, y)
 turned_near R90 p x y = (negated _ y, x)
 turned_near R180 p x y = (negated _ x, negated _ y)
@@ -30,12 +30,12 @@ turned_near M90 p x y = (negated _ (negated _ y), x)
 turned_near M180 p x y = (negated _ x, negated _ (negated _ y))
 turned_near M270 p x y = (negated _ (negated _ (negated _ y)), negated _ x)
 
-least_near : (a b : ℤ) → IsWithin (2 ^ 30) a → IsWithin (2 ^ 30) b → IsWithin (2 ^ 30) (int_min (a +ℤ pos 0) (b +ℤ pos 0))
+least_near : (a b : ℤ) → IsWithin (2 ^ 36) a → IsWithin (2 ^ 36) b → IsWithin (2 ^ 36) (int_min (a +ℤ pos 0) (b +ℤ pos 0))
 least_near a b h g =
     let hl = h.low in let hh = h.high in let gl = g.low in let gh = g.high in
     record { low = omega (arith, ints, clamps); high = omega (arith, ints, clamps) }
 
-most_near : (a b : ℤ) → IsWithin (2 ^ 30) a → IsWithin (2 ^ 30) b → IsWithin (2 ^ 30) (int_max (a +ℤ pos 0) (b +ℤ pos 0))
+most_near : (a b : ℤ) → IsWithin (2 ^ 36) a → IsWithin (2 ^ 36) b → IsWithin (2 ^ 36) (int_max (a +ℤ pos 0) (b +ℤ pos 0))
 most_near a b h g =
     let hl = h.low in let hh = h.high in let gl = g.low in let gh = g.high in
     record { low = omega (arith, ints, clamps); high = omega (arith, ints, clamps) }
@@ -44,7 +44,7 @@ most_near a b h g =
 abbrev pub still : Turn → Motion
 still turn = record { turn = turn; dx = pos 0; dy = pos 0 }
 
-pub still_near : (turn : Turn) (h : Rect) → IsRectWithin (2 ^ 30) h → IsRectWithin (2 ^ 30) (moved_rect (still turn) h)
+pub still_near : (turn : Turn) (h : Rect) → IsRectWithin (2 ^ 36) h → IsRectWithin (2 ^ 36) (moved_rect (still turn) h)
 still_near turn h n =
     let a = turned_near turn (record { x = h.x1; y = h.y1 }) n.x1 n.y1 in
     let b = turned_near turn (record { x = h.x2; y = h.y2 }) n.x2 n.y2 in

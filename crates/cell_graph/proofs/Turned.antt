@@ -76,7 +76,7 @@ moved_value m s p = split s ∙ ap (λ z. z +ℤ shift s m) (turned_value m.turn
     split Right = omega (arith, ints)
     split High = omega (arith, ints)
 
-value_near : (s : Side) (p : Point) → IsWithin (2 ^ 30) p.x → IsWithin (2 ^ 30) p.y → IsWithin (2 ^ 30) (value s p)
+value_near : (s : Side) (p : Point) → IsWithin (2 ^ 36) p.x → IsWithin (2 ^ 36) p.y → IsWithin (2 ^ 36) (value s p)
 value_near Left p x y = x
 value_near Low p x y = y
 value_near Right p x y = let l = x.low in let h = x.high in record { low = omega (arith, ints); high = omega (arith, ints) }
@@ -126,16 +126,16 @@ turned_corners turn o low high b first r x y is_low is_high h g =
     ])
     (widens_both None first r (λ p. p ≡ o) (λ p. (p ≡ low) ⊎ (p ≡ high)) h g)
 
-turned_near : (turn : Turn) (inner : Option Bounds) (p : Point) → AreNearIfAny inner → TurnedPoint turn (IsCornerPoint inner) p → (s : Side) → IsWithin (2 ^ 30) (value s p)
+turned_near : (turn : Turn) (inner : Option Bounds) (p : Point) → AreNearIfAny inner → TurnedPoint turn (IsCornerPoint inner) p → (s : Side) → IsWithin (2 ^ 36) (value s p)
 turned_near turn inner p near (inl (x, y)) s = value_near s p (record { low = omega (arith, ints); high = omega (arith, ints) }) (record { low = omega (arith, ints); high = omega (arith, ints) })
 turned_near turn None p near (inr (q, c, e)) s = absurd c
 turned_near turn (Some b) p near (inr (q, c, e)) s =
     let from : value s p ≡ value (turned_side turn s) q = ap (value s) (sym e) ∙ turned_value turn s q in
-    let at_low : IsWithin (2 ^ 30) (value (turned_side turn s) (low_corner b)) = value_near (turned_side turn s) (low_corner b) near.x1 near.y1 in
-    let at_high : IsWithin (2 ^ 30) (value (turned_side turn s) (high_corner b)) = value_near (turned_side turn s) (high_corner b) near.x2 near.y2 in
-    subst (IsWithin (2 ^ 30)) (sym from) (elim c [
-      | inl f ↦ subst (λ q. IsWithin (2 ^ 30) (value (turned_side turn s) q)) (sym f) at_low
-      | inr f ↦ subst (λ q. IsWithin (2 ^ 30) (value (turned_side turn s) q)) (sym f) at_high
+    let at_low : IsWithin (2 ^ 36) (value (turned_side turn s) (low_corner b)) = value_near (turned_side turn s) (low_corner b) near.x1 near.y1 in
+    let at_high : IsWithin (2 ^ 36) (value (turned_side turn s) (high_corner b)) = value_near (turned_side turn s) (high_corner b) near.x2 near.y2 in
+    subst (IsWithin (2 ^ 36)) (sym from) (elim c [
+      | inl f ↦ subst (λ q. IsWithin (2 ^ 36) (value (turned_side turn s) q)) (sym f) at_low
+      | inr f ↦ subst (λ q. IsWithin (2 ^ 36) (value (turned_side turn s) q)) (sym f) at_high
     ])
 
 pub turned_all_near : (turn : Turn) (inner : Option Bounds) (r : Bounds) → AreNearIfAny inner → Widens None (TurnedPoint turn (IsCornerPoint inner)) (Some r) → AreNear r
@@ -146,10 +146,10 @@ turned_all_near turn inner r near h = record {
   y2 = back r.y2 (side High);
 }
   where
-    side : (s : Side) → IsWithin (2 ^ 30) (side_of s r)
-    side s = elim (h.sides s r refl) [ inl f ↦ absurd f | inr (q, t, e) ↦ subst (IsWithin (2 ^ 30)) e (turned_near turn inner q near t s) ]
+    side : (s : Side) → IsWithin (2 ^ 36) (side_of s r)
+    side s = elim (h.sides s r refl) [ inl f ↦ absurd f | inr (q, t, e) ↦ subst (IsWithin (2 ^ 36)) e (turned_near turn inner q near t s) ]
 
-    back : (z : ℤ) → IsWithin (2 ^ 30) (pos 0 -ℤ z) → IsWithin (2 ^ 30) z
+    back : (z : ℤ) → IsWithin (2 ^ 36) (pos 0 -ℤ z) → IsWithin (2 ^ 36) z
     back z w = let l = w.low in let g = w.high in record { low = omega (arith, ints); high = omega (arith, ints) }
 
 -- points of elements are sums

@@ -16,12 +16,12 @@ pub record IsReach (step : ℤ) (n : ℕ) (r : Interval) : Type 0 where
   pub low : (k : ℕ) × (k < n) × (r.low ≡ pos k *ℤ step)
   pub high : (k : ℕ) × (k < n) × (r.high ≡ pos k *ℤ step)
   pub holds : (k : ℕ) → k < n → (r.low ≤ℤ (pos k *ℤ step)) × ((pos k *ℤ step) ≤ℤ r.high)
-  pub low_near : IsWithin (2 ^ 47) r.low
-  pub high_near : IsWithin (2 ^ 47) r.high
+  pub low_near : IsWithin (2 ^ 53) r.low
+  pub high_near : IsWithin (2 ^ 53) r.high
 
 -- two of them are too far from one another
 abbrev pub IsTooLong : ℤ → ℕ → Type 0
-IsTooLong step n = (1 < n) × (IsWithin (2 ^ 31) step → ⊥)
+IsTooLong step n = (1 < n) × (IsWithin (2 ^ 37) step → ⊥)
 
 abbrev pub IsReachOr : ℤ → ℕ → Option Interval → Type 0
 IsReachOr step n None = IsTooLong step n
@@ -45,13 +45,13 @@ pub record AreOrigins (start column_step row_step : ℤ) (rows columns : ℕ)
   pub holds : (row column : ℕ) → row < rows → column < columns
       → (r.low ≤ℤ origin start column_step row_step row column)
       × (origin start column_step row_step row column ≤ℤ r.high)
-  pub low_near : IsWithin (2 ^ 30) r.low
-  pub high_near : IsWithin (2 ^ 30) r.high
+  pub low_near : IsWithin (2 ^ 36) r.low
+  pub high_near : IsWithin (2 ^ 36) r.high
 
 -- or one that is out of range
 abbrev pub AreOriginsOr : ℤ → ℤ → ℤ → ℕ → ℕ → Option Interval → Type 0
 AreOriginsOr start column_step row_step rows columns None =
-    SomeOrigin start column_step row_step rows columns (λ z. IsWithin (2 ^ 30) z → ⊥)
+    SomeOrigin start column_step row_step rows columns (λ z. IsWithin (2 ^ 36) z → ⊥)
 AreOriginsOr start column_step row_step rows columns (Some r) =
     AreOrigins start column_step row_step rows columns r
 
@@ -69,9 +69,9 @@ ArrayPoint place P p = (row : ℕ) × (column : ℕ) × (row < place.rows) × (c
 abbrev pub HasFarOrigin : Place → Type 0
 HasFarOrigin place =
     SomeOrigin place.motion.dx place.column_step.x place.row_step.x place.rows place.columns
-    (λ z. IsWithin (2 ^ 30) z → ⊥)
+    (λ z. IsWithin (2 ^ 36) z → ⊥)
     ⊎ SomeOrigin place.motion.dy place.column_step.y place.row_step.y place.rows place.columns
-    (λ z. IsWithin (2 ^ 30) z → ⊥)
+    (λ z. IsWithin (2 ^ 36) z → ⊥)
 
 -- the least ranges of x and of y of all origins
 pub record AreOriginsOf (place : Place) (o : ElementOrigins) : Type 0 where
@@ -81,8 +81,8 @@ pub record AreOriginsOf (place : Place) (o : ElementOrigins) : Type 0 where
       o.y
 
 pub record IsNearInterval (r : Interval) : Type 0 where
-  pub low : IsWithin (2 ^ 30) r.low
-  pub high : IsWithin (2 ^ 30) r.high
+  pub low : IsWithin (2 ^ 36) r.low
+  pub high : IsWithin (2 ^ 36) r.high
 
 -- the sums of the ends
 pub record IsSpread (b : Bounds) (x y : Interval) (r : Bounds) : Type 0 where

@@ -2,13 +2,12 @@
 use Rattle.std.specs.Prelude.{◌≡◌, ◌⊎◌, ℕ, zero, suc, ◌<◌, ◌≤◌, ◌^◌, ◌≤ℤ◌, List, [], Option, Some}
 use Rattle.std.specs.Prelude.{None, length, map, slice_get, slice_index, Result, Ok, Err}
 use Rattle.geo_base.specs.Motions.{moved_point}
-use Rattle.geo_base.specs.Near.{IsWithin}
 use Rattle.geo_base.specs.declared.motion.Motion.{Motion}
 use Rattle.geo_base.specs.declared.shapes.Point.{Point}
 use Rattle.geo_base.specs.declared.shapes.Rect.{Rect}
 use Rattle.flat_layout.specs.Arrays.{Reference, place_at}
 use Rattle.flat_layout.specs.Layout.{Some_of}
-use Rattle.cell_graph.specs.Linked.{Linked, cell_at}
+use Rattle.cell_graph.specs.Linked.{Linked, IsPointWithin, cell_at}
 use Rattle.cell_graph.specs.declared.cells.Place.{Place}
 use Rattle.cell_graph.specs.declared.cells.CellPart.{CellPart}
 use Rattle.cell_graph.specs.declared.drafts.DraftRef.{DraftRef}
@@ -144,13 +143,9 @@ IsPointBy cells (suc n) i p = (m : Motion) × (j : ℕ) × IsElementOf cells i m
 abbrev pub IsHullPoint : List CellDraft → ℕ → Point → Type 0
 IsHullPoint cells i p = (n : ℕ) × IsPointBy cells n i p
 
-pub record IsNearPoint (reach : ℕ) (p : Point) : Type 0 where
-  pub x : IsWithin reach p.x
-  pub y : IsWithin reach p.y
-
 -- its hull has a coordinate out of range
 abbrev pub IsFar : List CellDraft → ℕ → Type 0
-IsFar cells i = (p : Point) × IsHullPoint cells i p × (IsNearPoint (2 ^ 30) p → ⊥)
+IsFar cells i = (p : Point) × IsHullPoint cells i p × (IsPointWithin (2 ^ 36) p → ⊥)
 
 -- the least range of x and of y that holds the points; each of its four sides has one
 pub record IsLeastRange (P : Point → Type 0) (r : Rect) : Type 0 where
@@ -183,7 +178,7 @@ pub record IsFirstFar (cells : List CellDraft) (name : List ℕ) : Type 0 where
 
 -- the tests that found nothing
 abbrev pub HasFew : List CellDraft → Type 0
-HasFew cells = length cells ≤ 2 ^ 14
+HasFew cells = length cells ≤ 2 ^ 16
 
 abbrev pub HasNoRepeat : List CellDraft → Type 0
 HasNoRepeat cells = (i : ℕ) → IsRepeat cells i → ⊥
@@ -214,7 +209,7 @@ pub record AreSound (cells : List CellDraft) : Type 0 where
 
 -- the fault is the first in the order of the tests
 abbrev pub IsFault : List CellDraft → Option (List ℕ) → LinkFault → Type 0
-IsFault cells top TooManyCells = 2 ^ 14 < length cells
+IsFault cells top TooManyCells = 2 ^ 16 < length cells
 IsFault cells top (DuplicateCell name) = HasFew cells × IsFirstNamed cells (IsRepeat cells) name
 IsFault cells top (NoSuchCell name) = HasFew cells × HasNoRepeat cells × IsFirstLoose cells name
 IsFault cells top (Cycle name) = HasFew cells × HasNoRepeat cells × HasNoLoose cells

@@ -1,9 +1,10 @@
 -- What holds of each sound design.
-use Rattle.std.specs.Prelude.{◌≡◌, ◌↔◌, ℕ, true}
+use Rattle.std.specs.Prelude.{◌≡◌, ◌↔◌, ℕ, ◌^◌, List, true}
+use Rattle.geo_base.specs.Near.{IsWithin}
 use Rattle.geo_base.specs.declared.layer.LayerKey.{LayerKey}
 use Rattle.geo_base.specs.declared.shapes.Square.{Square}
 use Rattle.rect_sets.specs.Rects.{covers}
-use Rattle.flat_layout.specs.Layout.{IsOwn, InFlatInput, IsHeight}
+use Rattle.flat_layout.specs.Layout.{IsOwn, InFlatInput, IsHeight, Takes}
 use Rattle.flat_layout.specs.Order.{AreLevels, IsOrder}
 use Rattle.cell_graph.specs.Linked.{Linked, IsSound, plain, cell_at, own_of, hull_of, HullHas}
 use Rattle.cell_graph.specs.Linked.{height_at}
@@ -29,3 +30,9 @@ OrderLaw = (d : Linked) → IsSound d → IsOrder (plain d) (height_at d) d.orde
 abbrev pub HullLaw : Type 0
 HullLaw = (d : Linked) → IsSound d → (cell : ℕ) (key : LayerKey) (q : Square)
     → InFlatInput (plain d) cell key q → HullHas (hull_of (cell_at d cell)) q
+
+-- a square of a cell's hull, seen from a cell below it, lies within plus or minus 2^37
+abbrev pub SeenLaw : Type 0
+SeenLaw = (d : Linked) → IsSound d → (cell end : ℕ) (path : List ℕ) (s q : Square)
+    → HullHas (hull_of (cell_at d cell)) q → Takes (plain d) cell path end s q
+    → IsWithin (2 ^ 37) s.x × IsWithin (2 ^ 37) s.y

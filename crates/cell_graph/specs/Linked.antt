@@ -1,6 +1,6 @@
 -- Linked cells as plain values, and the hierarchical layout that they stand for.
-use Rattle.std.specs.Prelude.{◌≡◌, ◌⊎◌, ℕ, suc, ◌<◌, ◌≤◌, ◌^◌, ◌≤ℤ◌, List, [], ◌∷◌, Option, Some}
-use Rattle.std.specs.Prelude.{None, map, length, slice_get, slice_index, true}
+use Rattle.std.specs.Prelude.{◌≡◌, ◌⊎◌, ℕ, suc, pos, ◌<◌, ◌≤◌, ◌^◌, ◌≤ℤ◌, List, [], ◌∷◌, Option}
+use Rattle.std.specs.Prelude.{Some, None, map, length, slice_get, slice_index, true}
 use Rattle.std.specs.Prelude.{if◌then◌else◌}
 use Rattle.std.specs.List.{All}
 use Rattle.geo_base.specs.Near.{IsWithin}
@@ -8,10 +8,11 @@ use Rattle.geo_base.specs.Rects.{IsRect, has, moved_rect}
 use Rattle.geo_base.specs.Layers.{is_same_key}
 use Rattle.geo_base.specs.declared.layer.LayerKey.{LayerKey}
 use Rattle.geo_base.specs.declared.motion.Motion.{Motion}
+use Rattle.geo_base.specs.declared.shapes.Point.{Point}
 use Rattle.geo_base.specs.declared.shapes.Rect.{Rect}
 use Rattle.geo_base.specs.declared.shapes.Square.{Square}
 use Rattle.flat_layout.specs.Arrays.{Reference, place_at, places_of}
-use Rattle.flat_layout.specs.Hull.{IsHullOf}
+use Rattle.flat_layout.specs.Hull.{IsHullOf, TakesPoint}
 use Rattle.flat_layout.specs.Layout as flat
 use Rattle.plain_netlist.specs.Lists.{AreApart}
 use Rattle.cell_graph.specs.declared.cells.OwnLayer.{OwnLayer}
@@ -72,6 +73,11 @@ pub record IsInside (a b : Rect) : Type 0 where
   pub x2 : a.x2 ≤ℤ b.x2
   pub y2 : a.y2 ≤ℤ b.y2
 
+-- both coordinates lie so far from 0 at most
+pub record IsPointWithin (reach : ℕ) (p : Point) : Type 0 where
+  pub x : IsWithin reach p.x
+  pub y : IsWithin reach p.y
+
 -- all sides lie so far from 0 at most
 pub record IsRectWithin (reach : ℕ) (r : Rect) : Type 0 where
   pub x1 : IsWithin reach r.x1
@@ -79,15 +85,15 @@ pub record IsRectWithin (reach : ℕ) (r : Rect) : Type 0 where
   pub x2 : IsWithin reach r.x2
   pub y2 : IsWithin reach r.y2
 
--- a hull of squares: within plus or minus 2^30
+-- a hull of squares: within plus or minus 2^36
 pub record IsHull (h : Rect) : Type 0 where
   pub some : IsRect h
-  pub near : IsRectWithin (2 ^ 30) h
+  pub near : IsRectWithin (2 ^ 36) h
 
--- a rectangle that may be a grown hull: within plus or minus 2^31
+-- a rectangle that may be a grown hull: within plus or minus 2^37
 pub record IsFrame (h : Rect) : Type 0 where
   pub some : IsRect h
-  pub near : IsRectWithin (2 ^ 31) h
+  pub near : IsRectWithin (2 ^ 37) h
 
 -- where the placed cell has a hull, the placing cell's hull holds its image
 abbrev pub HoldsImage : Option Rect → Option Rect → Motion → Type 0
@@ -102,8 +108,8 @@ HoldsRects (Some h) rects = All (λ r. IsInside r h) rects
 
 -- one element of an array: its shift is near, and the hull holds its image
 pub record IsElement (outer inner : Option Rect) (m : Motion) : Type 0 where
-  pub dx : IsWithin (2 ^ 30) m.dx
-  pub dy : IsWithin (2 ^ 30) m.dy
+  pub dx : IsWithin (2 ^ 36) m.dx
+  pub dy : IsWithin (2 ^ 36) m.dy
   pub image : HoldsImage outer inner m
 
 -- a reference to a lower cell
@@ -179,12 +185,21 @@ pub record HaveLevels (d : Linked) : Type 0 where
 pub record HaveHulls (d : Linked) : Type 0 where
   pub each : (cell : ℕ) → IsHullOf (plain d) cell (hull_of (cell_at d cell))
 
+abbrev pub origin : Point
+origin = record { x = pos 0; y = pos 0 }
+
+-- the motion of each path of placements shifts by 2^36 at most: by what it moves the origin
+pub record HaveNearPaths (d : Linked) : Type 0 where
+  pub each : (from to : ℕ) (path : List ℕ) (p : Point)
+      → TakesPoint (plain d) from path to origin p → IsPointWithin (2 ^ 36) p
+
 -- what `link` gives and callers need
 pub record IsSound (d : Linked) : Type 0 where
   pub count : length d.cells < 2 ^ 32
   pub top : d.top < length d.cells
   pub each : (i : ℕ) (c : CellPart) → slice_get d.cells i ≡ Some c → IsSoundCell d.cells c
   pub hulls : HaveHulls d
+  pub paths : HaveNearPaths d
   pub order : IsOrder d
   pub levels : HaveLevels d
 

@@ -48,12 +48,12 @@ AmongFirst {A} P items n p = (k : ℕ) × (x : A) × (k < n) × (slice_get items
 abbrev pub Among : {A : Type 0} → (A → Point → Type 0) → List A → Point → Type 0
 Among {A} P items p = (k : ℕ) × (x : A) × (slice_get items k ≡ Some x) × P x p
 
--- the sides lie within plus or minus 2^30
+-- the sides lie within plus or minus 2^36
 pub record AreNear (b : Bounds) : Type 0 where
-  pub x1 : IsWithin (2 ^ 30) b.x1
-  pub y1 : IsWithin (2 ^ 30) b.y1
-  pub x2 : IsWithin (2 ^ 30) b.x2
-  pub y2 : IsWithin (2 ^ 30) b.y2
+  pub x1 : IsWithin (2 ^ 36) b.x1
+  pub y1 : IsWithin (2 ^ 36) b.y1
+  pub x2 : IsWithin (2 ^ 36) b.x2
+  pub y2 : IsWithin (2 ^ 36) b.y2
 
 abbrev pub AreNearIfAny : Option Bounds → Type 0
 AreNearIfAny None = Unit {0}

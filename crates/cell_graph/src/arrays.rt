@@ -27,15 +27,15 @@ pub struct ElementOrigins {
 
 /// Whether a number lies in the range of hulls.
 pub fn is_near(z: i64) -> bool
-    ensures { (result ≡ true) ↔ IsWithin (2 ^ 30) z }
+    ensures { (result ≡ true) ↔ IsWithin (2 ^ 36) z }
 {
     -REACH <= z && z <= REACH
 }
 
 fn times(count: u16, step: i64) -> i64
-    requires { IsWithin (2 ^ 31) step }
+    requires { IsWithin (2 ^ 37) step }
     ensures exact { result ≡ pos count *ℤ step }
-    ensures near { IsWithin (2 ^ 47) result }
+    ensures near { IsWithin (2 ^ 53) result }
 {
     count as i64 * step
 }
@@ -60,9 +60,9 @@ fn reach(step: i64, count: u16) -> Option<Interval>
 }
 
 fn sum(a: i64, b: i64, c: i64) -> i64
-    requires a { IsWithin (2 ^ 47) a }
-    requires b { IsWithin (2 ^ 47) b }
-    requires c { IsWithin (2 ^ 47) c }
+    requires a { IsWithin (2 ^ 53) a }
+    requires b { IsWithin (2 ^ 53) b }
+    requires c { IsWithin (2 ^ 53) c }
     ensures { result ≡ (a +ℤ b) +ℤ c }
 {
     a + b + c
@@ -128,8 +128,8 @@ fn turned_bounds(turn: Turn, inner: Option<Bounds>) -> Bounds
 
 /// The sum of two numbers in the range of hulls.
 pub fn plus(a: i64, b: i64) -> i64
-    requires a { IsWithin (2 ^ 30) a }
-    requires b { IsWithin (2 ^ 30) b }
+    requires a { IsWithin (2 ^ 36) a }
+    requires b { IsWithin (2 ^ 36) b }
     ensures { result ≡ a +ℤ b }
 {
     a + b

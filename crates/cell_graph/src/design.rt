@@ -5,7 +5,7 @@ ghost use Rattle.tile_index.specs.Windows.{ArePositions};
 ghost use Rattle.cell_graph.specs.Linked.{own_rects, own_of, cell_at, hull_of, places_at};
 ghost use Rattle.cell_graph.specs.Linked.{linked_of, IsSound};
 ghost use Rattle.cell_graph.specs.Spans.{ArePlacesIn};
-ghost use Rattle.cell_graph.specs.Laws.{OwnLaw, HeightLaw, LevelLaw, OrderLaw, HullLaw};
+ghost use Rattle.cell_graph.specs.Laws.{OwnLaw, HeightLaw, LevelLaw, OrderLaw, HullLaw, SeenLaw};
 ghost use Rattle.cell_graph.specs.declared.cells.CellPart.{CellPart};
 
 use crate::cells::{CellPart, OwnLayer, Place, RawText, is_same_key};
@@ -188,4 +188,5 @@ pub fn design_laws()
     ensures level { LevelLaw }
     ensures order { OrderLaw }
     ensures hull { HullLaw }
+    ensures seen { SeenLaw }
 {}

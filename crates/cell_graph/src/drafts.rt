@@ -33,7 +33,7 @@ pub struct CellDraft {
 /// something gives the fault.
 #[derive(Debug, Drop, Error)]
 pub enum LinkFault {
-    #[error("more cells than 16384")]
+    #[error("more cells than 65536")]
     TooManyCells,
     #[error("a cell's name stands before it")]
     DuplicateCell(Name),

@@ -24,7 +24,7 @@ use net_names::Name;
 use std::alloc::Global;
 
 /// The most cells of a library.
-const MOST_CELLS: usize = 16_384;
+const MOST_CELLS: usize = 65_536;
 
 // What is found of the drafts before they become cells: their references, heights and bounds, the
 // top, and what it reaches.

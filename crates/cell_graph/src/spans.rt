@@ -12,7 +12,7 @@ use geo_base::{Motion, Rect};
 
 // What a rectangle covers on its way over all origins.
 fn swept(r: Rect, o: ElementOrigins) -> Rect
-    requires near { IsRectWithin (2 ^ 30) r }
+    requires near { IsRectWithin (2 ^ 36) r }
     requires x { IsNearInterval o.x }
     requires y { IsNearInterval o.y }
     ensures { IsSwept r o result }

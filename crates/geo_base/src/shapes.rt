@@ -4,7 +4,7 @@ ghost use Rattle.std.specs.Prelude.{◌≡◌};
 ghost use Rattle.geo_base.specs.Rects.{is_between, has};
 
 /// The farthest that a layout reaches from the origin in each direction, in database units.
-pub const REACH: i64 = 1 << 30;
+pub const REACH: i64 = 1 << 36;
 
 /// A point of the plane, in database units.
 #[derive(Clone, Copy, Debug, PartialEq, Eq)]

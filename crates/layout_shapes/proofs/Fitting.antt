@@ -1,16 +1,13 @@
 -- Each reached cell can be written.
-use Rattle.std.proofs.Common.{◌≡◌, inl, inr, ℕ, ◌+◌, ◌<◌, List, [], ◌∷◌, ◌++◌, length, get_or, slice_get, Option, Some, sym, subst, arith}
+use Rattle.std.proofs.Common.{◌≡◌, inl, inr, ℕ, ◌+◌, ◌<◌, List, [], ◌∷◌, ◌++◌, length, get_or, slice_get, Option, Some, None, Bool, false, sym, subst, arith}
 use Rattle.std.specs.Prelude.{IsSome}
 use Rattle.std.specs.List.{All}
-use Rattle.std.proofs.lemmas.List.{length-append}
+use Rattle.std.proofs.lemmas.List.{length-append, get_or_default}
 use Rattle.std.proofs.lemmas.Option.{slice_get_cases, get_or_from_slice_get}
 use Rattle.geo_base.specs.declared.shapes.Rect.{Rect}
-use Rattle.geo_base.specs.Near.{IsLongRect}
-use Rattle.rect_sets.specs.Rects.{CanonicalLaw}
 use Rattle.flat_layout.specs.Layers.{Formula}
 use Rattle.flat_layout.specs.Layout.{IsReached}
-use Rattle.cell_graph.specs.Linked.{Linked, IsSound, plain, places_at}
-use Rattle.cell_graph.specs.Laws.{HullLaw}
+use Rattle.cell_graph.specs.Linked.{Linked, IsOrder, IsSound, plain, places_at}
 use Rattle.cell_graph.specs.declared.cells.CellPart.{CellPart}
 use Rattle.rule_text.specs.declared.rules.LayerRule.{LayerRule}
 use Rattle.rule_text.specs.declared.rules.Output.{Output}
@@ -22,10 +19,11 @@ use Rattle.deep_tables.specs.declared.layers.CellLayers.{CellLayers}
 use Rattle.gds_layout.specs.declared.layout.Layout.{Layout}
 use Rattle.gds_shapes.specs.Data.{IsNamed}
 use Rattle.gds_shapes.specs.References.{FitsReference}
+use Rattle.layout_shapes.specs.Wide.{AreHeld, IsFirstWide, is_wide}
 use Rattle.layout_shapes.specs.Writable.{IsWritable, CanWriteLine, CanWriteCell}
-use Rattle.layout_shapes.specs.Written.{AreReached, name_of, ref_of, squares_of}
-use Rattle.layout_shapes.proofs.Long.{local_long}
-use Rattle.layout_shapes.proofs.Reaching.{within, reached_at}
+use Rattle.layout_shapes.specs.Written.{AreReached, name_of, ref_of}
+use Rattle.layout_shapes.proofs.Long.{narrow_line}
+use Rattle.layout_shapes.proofs.Reaching.{contained, within, reached_at}
 
 count_behind : (before : List Formula) (names : List LayerRule) → length (formulas_behind before names) ≡ length before + length names
 count_behind before [] = omega arith
@@ -41,17 +39,13 @@ there xs i lt = elim (slice_get_cases xs i).1 [ inl h ↦ (h.0, h.2) | inr h ↦
 some_is : (o : Option (List Rect)) (v : List Rect) → o ≡ Some v → IsSome o
 some_is o v e = subst (λ (p : Option (List Rect)). IsSome p) (sym e) search
 
-line : HullLaw → CanonicalLaw → LayerAtLaw → (d : Linked) (r : Rules) (table : List (Option CellLayers)) (cell : ℕ) (o : Output) → IsSound d → AreLayers (plain d) r table → IsReached (plain d) cell
-    → o.layer < length r.names → CanWriteLine table cell o
-line hull canonical at d r table cell o sound are reached below =
+held_line : LayerAtLaw → (d : Linked) (r : Rules) (table : List (Option CellLayers)) (cell : ℕ) (o : Output) → AreLayers (plain d) r table → IsReached (plain d) cell
+    → o.layer < length r.names → IsSome (layer_of table cell o.layer)
+held_line at d r table cell o are reached below =
     let count = count_behind [] r.names in
     let x = there (formulas r.names) o.layer (omega (arith, below, count)) in
     let h = at (plain d) r table cell o.layer x.0 are reached x.1 in
-    let long = local_long hull canonical d cell x.0 h.0 sound h.2 in
-    record {
-      held = some_is (layer_of table cell o.layer) h.0 h.1;
-      long = subst (λ (p : Option (List Rect)). All IsLongRect (squares_of p)) (sym h.1) long;
-    }
+    some_is (layer_of table cell o.layer) h.0 h.1
 
 -- what holds of each entry and its number holds of all
 entries : {X : Type 0} (P : X → Type 0) (xs : List X) → ((k : ℕ) (x : X) → slice_get xs k ≡ Some x → P x) → All P xs
@@ -60,9 +54,18 @@ entries {X} P xs h k z lt = elim (slice_get_cases xs k).1 [
   | inr f ↦ (let le = f.0 in absurd (let bad : ⊥ = omega (arith, lt, le) in bad))
 ]
 
-pub can_write : HullLaw → CanonicalLaw → LayerAtLaw → (l : Layout) (r : Rules) (table : List (Option CellLayers)) (cell : ℕ) → IsSound l.design → rules.IsSound r → AreLayers (plain l.design) r table → IsWritable l
-    → IsReached (plain l.design) cell → CanWriteCell l r table cell
-can_write hull canonical at l r table cell sound sound_rules are writable reached =
+held_cell : LayerAtLaw → (d : Linked) (r : Rules) (table : List (Option CellLayers)) (cell : ℕ) → rules.IsSound r → AreLayers (plain d) r table → IsReached (plain d) cell → AreHeld table r cell
+held_cell at d r table cell sound_rules are reached =
+    entries (λ (o : Output). IsSome (layer_of table cell o.layer)) r.outputs (λ k o e. held_line at d r table cell o are reached (sound_rules.formed.outputs k o e).below)
+
+-- the table has what each reached cell holds
+pub all_held : LayerAtLaw → (d : Linked) (r : Rules) (table : List (Option CellLayers)) → IsOrder d → rules.IsSound r → AreLayers (plain d) r table → All (AreHeld table r) d.order
+all_held at d r table order sound_rules are k z lt =
+    held_cell at d r table (get_or d.order k z) sound_rules are (contained d order (get_or d.order k z) (k, lt, get_or_default d.order k (get_or d.order k z) z lt))
+
+pub can_write : LayerAtLaw → (l : Layout) (r : Rules) (table : List (Option CellLayers)) (cell : ℕ) → IsSound l.design → rules.IsSound r → AreLayers (plain l.design) r table → IsWritable l
+    → is_wide table r cell ≡ false → IsReached (plain l.design) cell → CanWriteCell l r table cell
+can_write at l r table cell sound sound_rules are writable narrow reached =
     let d = l.design in
     let inside = within d cell sound.order reached in
     let count = writable.count in
@@ -75,10 +78,14 @@ can_write hull canonical at l r table cell sound sound_rules are writable reache
       dates = writable.dates cell [] dated;
       name = subst (λ (o : Option CellPart). IsNamed (name_of o)) (sym c.1) can.name;
       refs = subst (λ (o : Option CellPart). All (λ p. FitsReference (ref_of d p)) (places_at o)) (sym c.1) can.refs;
-      lines = entries (CanWriteLine table cell) r.outputs (λ k o e. line hull canonical at d r table cell o sound are reached (sound_rules.formed.outputs k o e).below);
+      lines = entries (CanWriteLine table cell) r.outputs (λ k o e. record {
+        held = held_line at d r table cell o are reached (sound_rules.formed.outputs k o e).below;
+        long = narrow_line table r cell k o narrow e;
+      });
     }
 
-pub all_can : HullLaw → CanonicalLaw → LayerAtLaw → (l : Layout) (r : Rules) (table : List (Option CellLayers)) (cells : List ℕ) → IsSound l.design → rules.IsSound r → AreLayers (plain l.design) r table → IsWritable l
-    → AreReached l.design cells → All (CanWriteCell l r table) cells
-all_can hull canonical at l r table cells sound sound_rules are writable reached k z lt =
-    can_write hull canonical at l r table (get_or cells k z) sound sound_rules are writable (reached_at l.design cells k z reached lt)
+pub all_can : LayerAtLaw → (l : Layout) (r : Rules) (table : List (Option CellLayers)) (cells : List ℕ) → IsSound l.design → rules.IsSound r → AreLayers (plain l.design) r table → IsWritable l
+    → IsFirstWide l.design r table None → AreReached l.design cells → All (CanWriteCell l r table) cells
+all_can at l r table cells sound sound_rules are writable narrow reached k z lt =
+    let here = reached_at l.design cells k z reached lt in
+    can_write at l r table (get_or cells k z) sound sound_rules are writable (narrow (get_or cells k z) here) here

@@ -28,10 +28,10 @@ apart d order = IsDistinct-from_apart eqb d.order (λ i j z lt in_order.
           absurd (let bad : ⊥ = omega (arith, lt, same) in bad)
     ])
 
-contained : (d : Linked) → IsOrder d → (cell : ℕ) → Contains d.order cell → IsReached (plain d) cell
+pub contained : (d : Linked) → IsOrder d → (cell : ℕ) → Contains d.order cell → IsReached (plain d) cell
 contained d order cell (k, lt, e) = subst (λ (c : ℕ). IsReached (plain d) c) (get_or_default d.order k 0 cell lt ∙ e) (order.reached k lt)
 
-reached : (d : Linked) → IsOrder d → (cell : ℕ) → IsReached (plain d) cell → Contains d.order cell
+pub reached : (d : Linked) → IsOrder d → (cell : ℕ) → IsReached (plain d) cell → Contains d.order cell
 reached d order cell r = let h = order.all cell r in (h.0, h.1, get_or_default d.order h.0 cell 0 h.1 ∙ h.2)
 
 pub sorted : (d : Linked) (found : List ℕ) → IsOrder d → IsPermutation d.order found → IsNonDecreasing found → AreReached d found

@@ -5,6 +5,8 @@
 mod cells;
 mod laws;
 mod shapes;
+mod wide;
 
 pub use laws::same_places;
 pub use shapes::shapes_text;
+pub use wide::wide_cell;

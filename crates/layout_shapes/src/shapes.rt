@@ -1,6 +1,6 @@
 //! The stream of a whole layout.
 
-ghost use Rattle.std.specs.Prelude.{IfOk, OnOk, ◌≡◌, ◌++◌, map};
+ghost use Rattle.std.specs.Prelude.{IfOk, OnOk, ◌≡◌, ◌++◌, map, None};
 ghost use Rattle.std.specs.List.{All, flat_map};
 ghost use Rattle.cell_graph.specs.Linked.{plain};
 ghost use Rattle.deep_tables.specs.Layers.{AreLayers};
@@ -10,15 +10,15 @@ ghost use Rattle.gds_shapes.specs.Accepted.{FitsCell};
 ghost use Rattle.gds_shapes.specs.Stream.{header, structure};
 ghost use Rattle.rule_text.specs.Seen.{rules_seen};
 ghost use Rattle.rule_text.specs.Sound.{IsSound};
+ghost use Rattle.layout_shapes.specs.Wide.{IsFirstWide};
 ghost use Rattle.layout_shapes.specs.Writable.{IsWritable, CanWriteCell};
 ghost use Rattle.layout_shapes.specs.Written.{AreReached, IsWritten, drawn, heading_of};
 
 use crate::cells::write_cell;
-use cell_graph::{Design, design_laws};
+use cell_graph::Design;
 use deep_tables::{Layers, layer_table};
 use gds_layout::{Header, Layout};
 use gds_shapes::{Heading, write_end, write_heading, written};
-use rect_sets::canonical_rects;
 use rule_text::RuleSet;
 use std::alloc::{AllocError, Global};
 
@@ -26,7 +26,8 @@ use std::alloc::{AllocError, Global};
 /// the cells that the top reaches, in the order of the file: each with its dates, its name, its
 /// references in order, and then the squares that it holds itself of each output line of the rules
 /// in order, a rectangle as a boundary. Cells, references and arrays stand as they are; nothing is
-/// spelled out, and texts aren't written. An `Err` is want of memory. Cost: the bytes written.
+/// spelled out, and texts aren't written. No such cell holds a rectangle that is wider than the
+/// stream has room for (`wide_cell`). An `Err` is want of memory. Cost: the bytes written.
 pub fn shapes_text(
     alloc: Global,
     layout: &Layout,
@@ -36,13 +37,12 @@ pub fn shapes_text(
     requires layout { IsWritable layout.now }
     requires rules { IsSound (rules_seen rules.now) }
     requires layers { AreLayers (plain layout.now.design) (rules_seen rules.now) layers.now }
+    requires narrow { IsFirstWide layout.now.design (rules_seen rules.now) layers.now None }
     ensures { IfOk result (λ text. IsWritten layout.now (rules_seen rules.now) layers.now
         text.items) }
 {
     layout.design.sound();
-    design_laws();
     layer_table();
-    canonical_rects();
     written();
     let cells = reached_cells(alloc, &layout.design)?;
     let mut out = Vec::new(alloc);

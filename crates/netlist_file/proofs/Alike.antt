@@ -33,7 +33,7 @@ use Rattle.gds_layout.specs.Layouts.{IsRead}
 use Rattle.gds_layout.specs.Once.{OneLayoutLaw}
 use Rattle.gds_layout.specs.declared.layout.Layout.{Layout}
 use Rattle.netlist_file.specs.File.{IsNetlistFile}
-use Rattle.netlist_file.specs.One.{IsSameNetlist, OneNetlistLaw}
+use Rattle.netlist_file.specs.One.{IsSameNetlist, OneNetlistLaw, OneOrderLaw}
 use Rattle.plain_netlist.proofs.Listing.{apart_at, rising_apart}
 use Rattle.plain_netlist.proofs.Members.{listed}
 use Rattle.plain_netlist.specs.Lists.{IsListed}
@@ -244,7 +244,7 @@ module _ (r : Rules) (l m : Layout) (same : plain l.design ≡ plain m.design) (
       subst (λ (u : ℕ). AreTablesRight (plain d) (wiring_of r) t b.of_cells.tables other (device_rules r) u (height_at m.design)) (sym unit)
       (subst (λ (f : Design). AreTablesRight f (wiring_of r) t b.of_cells.tables other (device_rules r) m.header.unit_pm (height_at m.design)) (sym same) b.of_cells.right)
 
-  order : l.design.order ≡ m.design.order
+  pub order : l.design.order ≡ m.design.order
   order = same_order (plain d) (height_at d) (height_at m.design) l.design.order m.design.order (levels d a.design) (subst (λ (f : Design). AreLevels f (height_at m.design)) (sym same) (levels m.design b.design))
       (orders d a.design) (subst (λ (f : Design). IsOrder f (height_at m.design) m.design.order) (sym same) (orders m.design b.design))
 
@@ -275,3 +275,8 @@ pub one_netlist : OneLayoutLaw → OneLibraryLaw → LevelLaw → OrderLaw → O
 one_netlist layouts libraries levels orders texts bytes name l m r one other top its_top bad its_bad text its_text x y a b =
     let s = layouts bytes name l m x y in
     same_file r l m (same_plain l.design m.design s.cells s.top) (one_unit libraries bytes name l m x y) levels orders texts one other top its_top bad its_bad text its_text a b
+
+pub ordered_once : OneLayoutLaw → OneLibraryLaw → LevelLaw → OrderLaw → OneTextLaw → OneOrderLaw
+ordered_once layouts libraries levels orders texts bytes name l m r one other top its_top bad its_bad text its_text x y a b =
+    let s = layouts bytes name l m x y in
+    order r l m (same_plain l.design m.design s.cells s.top) (one_unit libraries bytes name l m x y) levels orders texts one other top its_top bad its_bad text its_text a b

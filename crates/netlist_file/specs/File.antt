@@ -14,8 +14,15 @@ use Rattle.deep_tables.specs.declared.nets.CellNets.{CellNets}
 use Rattle.deep_tables.specs.declared.pins.CellPins.{CellPins}
 use Rattle.gds_layout.specs.declared.layout.Layout.{Layout}
 use Rattle.plain_netlist.specs.Netlist.{Netlist}
+use Rattle.net_model.specs.Rows.{plain_netlist}
+use Rattle.netlist_file.specs.declared.file.Extraction.{Extraction}
+use Rattle.netlist_file.specs.declared.file.Files.{Files}
+use Rattle.netlist_file.specs.declared.file.NetlistFile.{NetlistFile}
+use Rattle.netlist_file.specs.declared.file.Files.TheVariants.{Whole, Wide}
+use Rattle.plain_netlist.specs.Normal.{IsNormalNetlist}
 use Rattle.plain_netlist.specs.Sound.{IsSoundNetlist}
 use Rattle.rule_text.specs.Rules.{Rules}
+use Rattle.shapes_file.specs.File.{IsShapesFile, IsWide}
 use Rattle.spice_laws.specs.Spelled.{IsSpelled}
 use Rattle.spice_text.specs.Written.{IsWritten}
 
@@ -37,3 +44,19 @@ pub record IsNetlistFile (l : Layout) (r : Rules) (nl : Netlist) (top : ℕ) (ba
   pub spelled : IsSpelled nl
   pub told : bad ≡ told_gates r gates l.design.order
   pub written : IsWritten nl text
+
+-- a layout's netlist file, as it stands in memory
+pub record HasNetlist (l : Layout) (r : Rules) (f : NetlistFile) : Type 0 where
+  pub file : IsNetlistFile l r (plain_netlist f.netlist) f.top f.bad.items f.text.items
+  pub sound : IsSoundNetlist (plain_netlist f.netlist)
+  pub normal : IsNormalNetlist (plain_netlist f.netlist)
+
+-- its shapes file too
+pub record HasFiles (l : Layout) (r : Rules) (e : Extraction) : Type 0 where
+  pub shapes : IsShapesFile l r e.shapes.text.items e.shapes.cells e.shapes.rectangles
+  pub netlist : HasNetlist l r e.file
+
+-- both, or the cell for which there is no shapes file
+abbrev pub AreFiles : Layout → Rules → Files → Type 0
+AreFiles l r (Whole e) = HasFiles l r e
+AreFiles l r (Wide cell) = IsWide l r cell

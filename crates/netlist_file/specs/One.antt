@@ -22,3 +22,10 @@ OneNetlistLaw = (bytes : List ℕ) (name : Option (List ℕ)) (l m : Layout) (r 
     → IsRead bytes name l → IsRead bytes name m → IsNetlistFile l r one top bad text
     → IsNetlistFile m r other its_top its_bad its_text
     → IsSameNetlist one other top its_top bad its_bad text its_text
+
+-- and so are the cells that the top reaches, by height and then file order
+abbrev pub OneOrderLaw : Type 0
+OneOrderLaw = (bytes : List ℕ) (name : Option (List ℕ)) (l m : Layout) (r : Rules)
+    (one other : Netlist) (top its_top : ℕ) (bad its_bad : List BadGate) (text its_text : List ℕ)
+    → IsRead bytes name l → IsRead bytes name m → IsNetlistFile l r one top bad text
+    → IsNetlistFile m r other its_top its_bad its_text → l.design.order ≡ m.design.order

@@ -5,6 +5,6 @@ mod file;
 mod flat;
 mod one;
 
-pub use file::{Extraction, extract_files};
+pub use file::{Extraction, Files, NetlistFile, extract_files, extract_netlist};
 pub use flat::flat_netlist;
 pub use one::one_netlist;

@@ -1,6 +1,6 @@
 //! A stream and rules have one netlist file.
 
-ghost use Rattle.netlist_file.specs.One.{OneNetlistLaw};
+ghost use Rattle.netlist_file.specs.One.{OneNetlistLaw, OneOrderLaw};
 
 use cell_graph::design_laws;
 use gds_elements::one_meaning;
@@ -8,9 +8,10 @@ use gds_layout::one_layout;
 use spice_laws::one_text;
 
 /// The netlists of one stream by the same rules are the same, with the same top and bad gates, and
-/// so are their texts, byte for byte.
+/// so are their texts, byte for byte, and the order of the cells that the top reaches.
 pub fn one_netlist()
-    ensures { OneNetlistLaw }
+    ensures netlist { OneNetlistLaw }
+    ensures order { OneOrderLaw }
 {
     one_layout();
     one_meaning();

@@ -1,6 +1,6 @@
 -- A stream has more bytes than rectangles.
 use Rattle.std.proofs.Common.{◌≡◌, ℕ, ◌+◌, ◌≤◌, ◌<◌, List, [], ◌∷◌, ◌++◌, map, length, get_or, ap, ◌∙◌, subst, arith}
-use Rattle.std.specs.List.{All, flat_map, sum_by}
+use Rattle.std.specs.List.{flat_map, sum_by}
 use Rattle.std.proofs.lemmas.Grind.{flat_map-append}
 use Rattle.std.proofs.lemmas.List.{length-append}
 use Rattle.std.proofs.lemmas.List.Sums.{sum_by-cons}
@@ -15,18 +15,12 @@ use Rattle.gds_shapes.specs.Stream.{Heading, boundary, header, layer, library_by
 use Rattle.rule_text.specs.Rules.{Rules}
 use Rattle.rule_text.specs.declared.rules.Output.{Output}
 use Rattle.deep_tables.specs.declared.layers.CellLayers.{CellLayers}
-use Rattle.std.specs.Prelude.{Option}
+use Rattle.std.specs.Prelude.{Option, None}
 use Rattle.gds_layout.specs.declared.layout.Layout.{Layout}
-use Rattle.layout_shapes.specs.Writable.{CanWriteLine, IsWritable}
+use Rattle.layout_shapes.specs.Wide.{IsFirstWide}
 use Rattle.layout_shapes.specs.Written.{IsWritten, drawn, heading_of, line_of}
-use Rattle.layout_shapes.proofs.Fitting.{can_write}
-use Rattle.std.proofs.lemmas.List.{get_or_default}
-use Rattle.rect_sets.specs.Rects.{CanonicalLaw}
-use Rattle.flat_layout.specs.Layout.{IsReached}
-use Rattle.cell_graph.specs.Laws.{HullLaw}
-use Rattle.cell_graph.specs.Linked.{IsOrder, IsSound, plain}
-use Rattle.rule_text.specs.Sound as rules
-use Rattle.deep_tables.specs.Layers.{AreLayers, LayerAtLaw}
+use Rattle.cell_graph.specs.Linked.{IsOrder, plain}
+use Rattle.deep_tables.specs.Layers.{AreLayers}
 use Rattle.shapes_file.specs.File.{IsShapesFile, count_in}
 use Rattle.shapes_file.proofs.Same.{same_cells}
 
@@ -88,15 +82,7 @@ fewer l r table heading cs =
 
 -- ---- the cells of a layout
 
--- what is counted can be read
-pub held : HullLaw → CanonicalLaw → LayerAtLaw → (l : Layout) (r : Rules) (table : List (Option CellLayers)) → IsSound l.design → rules.IsSound r → AreLayers (plain l.design) r table → IsWritable l
-    → All (λ cell. All (CanWriteLine table cell) r.outputs) l.design.order
-held hull canonical at l r table sound sound_rules are writable k z lt =
-    let cell = get_or l.design.order k z in
-    let reached = subst (λ (n : ℕ). IsReached (plain l.design) n) (get_or_default l.design.order k 0 z lt) (sound.order.reached k lt) in
-    (can_write hull canonical at l r table cell sound sound_rules are writable reached).lines
-
--- and is fewer than the bytes
+-- what is counted is fewer than the bytes
 pub room : (l : Layout) (r : Rules) (table : List (Option CellLayers)) (text : List ℕ) → IsOrder l.design → IsWritten l r table text → sum_by (count_in table r) l.design.order ≤ length text
 room l r table text order written =
     let same = (same_cells l.design (count_in table r) written.cells order written.reached).0 in
@@ -104,8 +90,8 @@ room l r table text order written =
     let bytes = ap length written.exact in
     omega (arith, same, few, bytes)
 
-pub made : (l : Layout) (r : Rules) (table : List (Option CellLayers)) (text : List ℕ) (cells rectangles : ℕ) → IsOrder l.design → AreLayers (plain l.design) r table → IsWritten l r table text
+pub made : (l : Layout) (r : Rules) (table : List (Option CellLayers)) (text : List ℕ) (cells rectangles : ℕ) → IsOrder l.design → AreLayers (plain l.design) r table → IsFirstWide l.design r table None → IsWritten l r table text
     → cells ≡ length l.design.order → rectangles ≡ sum_by (count_in table r) l.design.order → IsShapesFile l r text cells rectangles
-made l r table text n rectangles order are written e f =
+made l r table text n rectangles order are narrow written e f =
     let same = same_cells l.design (count_in table r) written.cells order written.reached in
-    record { table = table; layers = are; written = written; cell_count = e ∙ same.1; rectangle_count = f ∙ same.0 }
+    record { table = table; layers = are; narrow = narrow; written = written; cell_count = e ∙ same.1; rectangle_count = f ∙ same.0 }

@@ -1,7 +1,8 @@
 -- One stream has one shapes file.
-use Rattle.std.proofs.Common.{◌≡◌, ◌⊎◌, inl, inr, ℕ, zero, suc, ◌+◌, ◌<◌, Bool, true, false, List, [], ◌∷◌, map, length, get_or, Option, Some, None, slice_get, refl, sym, ap, subst, ◌∙◌, arith}
+use Rattle.std.proofs.Common.{◌≡◌, ◌⊎◌, inl, inr, ℕ, zero, suc, ◌+◌, ◌<◌, Bool, true, false, ◌||◌, List, [], ◌∷◌, map, length, get_or, Option, Some, None, slice_get, refl, sym, ap, subst, ◌∙◌, arith}
 use Rattle.std.specs.Prelude.{slice_index, IsSomeAnd}
-use Rattle.std.specs.List.{Contains, fold, sum_by}
+use Rattle.std.specs.List.{Contains, fold, list_any, sum_by}
+use Rattle.std.proofs.lemmas.Bool.{cases_lt}
 use Rattle.std.proofs.lemmas.List.Kept.{AllPairs-from_increasing}
 use Rattle.std.proofs.lemmas.Option.{slice_get_within, slice_get-get_or}
 use Rattle.geo_base.specs.declared.layer.LayerKey.{LayerKey}
@@ -24,9 +25,10 @@ use Rattle.gds_shapes.specs.Stream.{Heading, Drawn, library_bytes}
 use Rattle.gds_layout.specs.declared.layout.Header.{Header}
 use Rattle.gds_layout.specs.declared.layout.Layout.{Layout}
 use Rattle.gds_layout.specs.Once.{IsSameHeader, IsSameLayout, OneLayoutLaw, contents}
+use Rattle.layout_shapes.specs.Wide.{is_wide, is_wide_line}
 use Rattle.layout_shapes.specs.Written.{heading_of, name_of, ref_of, squares_of, line_of, drawn, AreReached}
-use Rattle.shapes_file.specs.File.{IsShapesFile, count_in}
-use Rattle.shapes_file.specs.One.{IsSameFile, OneFileLaw}
+use Rattle.shapes_file.specs.File.{IsNarrow, IsShapesFile, IsWide, count_in}
+use Rattle.shapes_file.specs.One.{IsSameCell, IsSameFile, NoFileLaw, OneFileLaw, OneWideLaw}
 
 -- ---- lists
 
@@ -236,3 +238,53 @@ module _ (lists : OneListLaw) (l m : Layout) (r : Rules) (s : IsSameLayout l m) 
 
 pub one_file : OneLayoutLaw → OneListLaw → OneFileLaw
 one_file layouts lists bytes top l m r text other cells others rectangles more x y a b = one_text lists l m r (layouts bytes top l m x y) text other cells others rectangles more a b
+
+-- ---- the cell for which there is no file
+
+any_same : {A : Type 0} (f g : A → Bool) (xs : List A) → ((x : A) → f x ≡ g x) → list_any f xs ≡ list_any g xs
+any_same f g [] h = refl
+any_same f g (x ∷ xs) h = ap (λ (b : Bool). b || list_any f xs) (h x) ∙ ap (λ (b : Bool). g x || b) (any_same f g xs h)
+
+both_ways : (b : Bool) → b ≡ true → b ≡ false → ⊥
+both_ways b e f = let g : true ≡ false = sym e ∙ f in cc
+
+apart : (a b : ℕ) → (a < b → ⊥) → (b < a → ⊥) → a ≡ b
+apart a b f g = elim (cases_lt a b) [ inl lt ↦ absurd (f lt) | inr le ↦ elim (cases_lt b a) [ inl lt ↦ absurd (g lt) | inr more ↦ omega (arith, le, more) ] ]
+
+module _ (lists : OneListLaw) (l m : Layout) (r : Rules) (s : IsSameLayout l m) where
+  same_wide : (table other : List (Option CellLayers)) → AreLayers (plain l.design) r table → AreLayers (plain m.design) r other → (cell : ℕ) → flat.IsReached (plain l.design) cell → is_wide table r cell ≡ is_wide other r cell
+  same_wide table other a b cell reached =
+      let same = same_plain l.design m.design s.cells s.top in
+      let layers : AreLayers (plain l.design) r other = subst (λ (f : flat.Design). AreLayers f r other) (sym same) b in
+      any_same (λ (o : Output). is_wide_line (line_of table cell o).1) (λ (o : Output). is_wide_line (line_of other cell o).1) r.outputs
+      (λ o. ap (λ (x : LayerKey × List Rect). is_wide_line x.1) (one_line lists (plain l.design) r table other a layers cell reached o))
+
+  there_too : (cell : ℕ) → flat.IsReached (plain l.design) cell → flat.IsReached (plain m.design) cell
+  there_too cell h = subst (λ (f : flat.Design). flat.IsReached f cell) (same_plain l.design m.design s.cells s.top) h
+
+  here_too : (cell : ℕ) → flat.IsReached (plain m.design) cell → flat.IsReached (plain l.design) cell
+  here_too cell h = subst (λ (f : flat.Design). flat.IsReached f cell) (sym (same_plain l.design m.design s.cells s.top)) h
+
+  one_number : (cell other : ℕ) → IsWide l r cell → IsWide m r other → cell ≡ other
+  one_number cell other a b =
+      let same = same_wide a.table b.table a.layers b.layers in
+      let there = here_too other b.first.0 in
+      apart cell other
+      (λ lt. both_ways (is_wide a.table r cell) a.first.1 (same cell a.first.0 ∙ b.first.2 cell lt (there_too cell a.first.0)))
+      (λ lt. both_ways (is_wide b.table r other) b.first.1 (sym (same other there) ∙ a.first.2 other lt there))
+
+  one_cell : (cell other : ℕ) → IsWide l r cell → IsWide m r other → IsSameCell l m cell other
+  one_cell cell other a b =
+      let same = one_number cell other a b in
+      record { number = same; name = (same_at l.design.cells m.design.cells cell s.cells).name ∙ ap (λ (k : ℕ). name_of (cell_at m.design k)) same }
+
+  no_cell : (cell : ℕ) → IsNarrow l r → IsWide m r cell → ⊥
+  no_cell cell a b =
+      let there = here_too cell b.first.0 in
+      both_ways (is_wide b.table r cell) b.first.1 (sym (same_wide a.table b.table a.layers b.layers cell there) ∙ a.narrow cell there)
+
+pub one_wide : OneLayoutLaw → OneListLaw → OneWideLaw
+one_wide layouts lists bytes top l m r cell other x y a b = one_cell lists l m r (layouts bytes top l m x y) cell other a b
+
+pub no_file : OneLayoutLaw → OneListLaw → NoFileLaw
+no_file layouts lists bytes top l m r cell x y a b = no_cell lists l m r (layouts bytes top l m x y) cell a b

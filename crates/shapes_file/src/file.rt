@@ -1,23 +1,22 @@
 //! A layout's shapes file, and what a summary line counts in it.
 
-ghost use Rattle.std.specs.Prelude.{◌≤◌, ℕ, List, Option, IfOk};
+ghost use Rattle.std.specs.Prelude.{◌≤◌, ℕ, List, Option, None, IfOk};
 ghost use Rattle.cell_graph.specs.Linked.{plain};
 ghost use Rattle.deep_tables.specs.Layers.{AreLayers};
 ghost use Rattle.gds_layout.specs.Layouts.{IsRead};
+ghost use Rattle.layout_shapes.specs.Wide.{IsFirstWide};
 ghost use Rattle.layout_shapes.specs.Writable.{IsWritable};
 ghost use Rattle.rule_text.specs.Seen.{rules_seen};
 ghost use Rattle.rule_text.specs.Sound.{IsSound};
-ghost use Rattle.shapes_file.specs.File.{IsShapesFile};
+ghost use Rattle.shapes_file.specs.File.{IsDrawing, IsShapesFile};
 
 use crate::count::count_rectangles;
 use crate::laws::writable;
-use cell_graph::design_laws;
 use deep_flow::derive_layers;
 use deep_tables::{Layers, layer_table};
 use gds_layout::Layout;
 use job_board::Gate;
-use layout_shapes::shapes_text;
-use rect_sets::canonical_rects;
+use layout_shapes::{shapes_text, wide_cell};
 use rule_text::RuleSet;
 use std::alloc::{AllocError, Global};
 use std::sync::Wait;
@@ -32,6 +31,14 @@ pub struct Shapes {
     pub rectangles: u64,
 }
 
+/// A layout's shapes file, or the first cell in the order of the file for which there is none: it
+/// holds a rectangle of an output line itself with a coordinate outside 32 bits.
+#[derive(Drop)]
+pub enum Drawing {
+    Whole(Shapes),
+    Wide(u32),
+}
+
 /// The shapes file of a layout that was read: the cells that the top reaches, each with its
 /// references and the squares that it holds itself of each output line of the rules. Nothing is
 /// flattened: a cell is worked once, however often it is placed. The answer is the same for every
@@ -44,33 +51,34 @@ pub fn shapes_file<R: Threads + Wait + Sync, G: Gate + Sync>(
     rules: &RuleSet,
     workers: usize,
     gate: &G,
-) -> Result<Shapes, AllocError>
+) -> Result<Drawing, AllocError>
     requires workers { (1 ≤ workers) × (workers ≤ 64) }
     requires read { (bytes : List ℕ) × (top : Option (List ℕ)) × IsRead bytes top layout.now }
     requires rules { IsSound (rules_seen rules.now) }
-    ensures { IfOk result (λ s. IsShapesFile layout.now (rules_seen rules.now) s.text.items s.cells
-        s.rectangles) }
+    ensures { IfOk result (IsDrawing layout.now (rules_seen rules.now)) }
 {
     let layers = derive_layers(rt, alloc, &layout.design, rules, workers, gate)?;
     shapes_of_layers(alloc, layout, rules, &layers)
 }
 
 /// The shapes file of a layout that was read, over its layers. An `Err` is want of memory. Linear
-/// in the bytes written.
+/// in what the cells hold of the output lines, and in the bytes written.
 pub fn shapes_of_layers(
     alloc: Global,
     layout: &Layout,
     rules: &RuleSet,
     layers: &Layers,
-) -> Result<Shapes, AllocError>
+) -> Result<Drawing, AllocError>
     requires read { (bytes : List ℕ) × (top : Option (List ℕ)) × IsRead bytes top layout.now }
     requires rules { IsSound (rules_seen rules.now) }
     requires layers { AreLayers (plain layout.now.design) (rules_seen rules.now) layers.now }
-    ensures { IfOk result (λ s. IsShapesFile layout.now (rules_seen rules.now) s.text.items s.cells
-        s.rectangles) }
+    ensures { IfOk result (IsDrawing layout.now (rules_seen rules.now)) }
 {
     writable();
-    write_file(alloc, layout, rules, layers)
+    match wide_cell(layout, rules, layers) {
+        Some(cell) => Ok(Drawing::Wide(cell)),
+        None => Ok(Drawing::Whole(write_file(alloc, layout, rules, layers)?)),
+    }
 }
 
 fn write_file(
@@ -82,13 +90,12 @@ fn write_file(
     requires layout { IsWritable layout.now }
     requires rules { IsSound (rules_seen rules.now) }
     requires layers { AreLayers (plain layout.now.design) (rules_seen rules.now) layers.now }
+    requires narrow { IsFirstWide layout.now.design (rules_seen rules.now) layers.now None }
     ensures { IfOk result (λ s. IsShapesFile layout.now (rules_seen rules.now) s.text.items s.cells
         s.rectangles) }
 {
     layout.design.sound();
-    design_laws();
     layer_table();
-    canonical_rects();
     let text = shapes_text(alloc, layout, rules, layers)?;
     let order = layout.design.order();
     let rectangles = count_rectangles(rules, layers, order);

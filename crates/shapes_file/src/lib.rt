@@ -6,6 +6,6 @@ mod file;
 mod laws;
 mod one;
 
-pub use file::{Shapes, shapes_file, shapes_of_layers};
+pub use file::{Drawing, Shapes, shapes_file, shapes_of_layers};
 pub use laws::{covers_flat, one_hierarchy, writable};
 pub use one::one_file;

@@ -5,7 +5,7 @@ use Rattle.cell_context.proofs.Visiting.{near_rect, within_inside, moved_back, p
 use Rattle.cell_context.proofs.arrays.push_visit.Goals as goal
 
 pub rect-requires-clause-near_rect : goal.rect-requires-clause-near_rect
-rect-requires-clause-near_rect c = near_rect c.args.hull.now (wider_rect (2 ^ 31) (2 ^ 39) c.args.hull.now (omega arith) c.requires.hull.near)
+rect-requires-clause-near_rect c = near_rect c.args.hull.now (wider_rect (2 ^ 37) (2 ^ 39) c.args.hull.now (omega arith) c.requires.hull.near)
 
 pub rect-requires-in-Some-clause-near_rect : goal.rect-requires-in-Some-clause-near_rect
 rect-requires-in-Some-clause-near_rect c = near_rect c.in-Some.part (within_inside (2 ^ 39) c.in-Some.part c.args.window.now c.in-Some.ensures.some c.in-Some.ensures.second c.requires.window)

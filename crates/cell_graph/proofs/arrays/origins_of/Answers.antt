@@ -10,7 +10,7 @@ returns-in_default-origins c =
     let f1 : FitsSigned w64 p.motion.dy = search rules in
     let f2 : FitsSigned w64 p.column_step.y = search rules in
     let f3 : FitsSigned w64 p.row_step.y = search rules in
-    let far : SomeOrigin p.motion.dy p.column_step.y p.row_step.y p.rows p.columns (λ z. IsWithin (2 ^ 30) z → ⊥) = simp to_z-of_z at (c.in_default-origins.ensures {u = tt}) in
+    let far : SomeOrigin p.motion.dy p.column_step.y p.row_step.y p.rows p.columns (λ z. IsWithin (2 ^ 36) z → ⊥) = simp to_z-of_z at (c.in_default-origins.ensures {u = tt}) in
     inr far
 
 pub returns : goal.returns

@@ -10,7 +10,7 @@ swept-requires-clause-near c =
     let h = c.in-Some.hull in
     let is : c.rect.result ≡ moved_rect (still c.args.place.now.motion.turn) h = c.rect.ensures.corners in
     let hull : IsHull h = subst HullIsSound c.in-Some.is c.requires.hull in
-    subst (IsRectWithin (2 ^ 30)) (sym is) (still_near c.args.place.now.motion.turn h hull.near)
+    subst (IsRectWithin (2 ^ 36)) (sym is) (still_near c.args.place.now.motion.turn h hull.near)
 
 pub returns : goal.returns
 returns c =

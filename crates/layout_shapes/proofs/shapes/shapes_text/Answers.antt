@@ -21,7 +21,7 @@ write_cells-requires c =
     let r = rules_seen c.args.rules.now in
     let table = c.args.layers.now in
     subst (λ (cs : List ℕ). All (CanWriteCell l r table) cs) (sym c.deref.ensures.value)
-    (all_can c.design_laws.ensures.hull c.canonical_rects.ensures c.layer_table.ensures.at l r table c.in_ok-cells.cells.items c.sound.ensures c.requires.rules c.requires.layers c.requires.layout c.in_ok-cells.ensures)
+    (all_can c.layer_table.ensures.at l r table c.in_ok-cells.cells.items c.sound.ensures c.requires.rules c.requires.layers c.requires.layout c.requires.narrow c.in_ok-cells.ensures)
 
 pub returns : goal.returns
 returns c =

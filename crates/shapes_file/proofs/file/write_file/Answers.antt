@@ -1,10 +1,11 @@
 -- What is counted in the cells' order.
 use Rattle.std.proofs.Common.{List, ℕ, ap, sym, subst, ◌∙◌, length, arith}
 use Rattle.std.specs.List.{All, sum_by}
-use Rattle.layout_shapes.specs.Writable.{CanWriteLine}
+use Rattle.layout_shapes.specs.Wide.{AreHeld}
+use Rattle.layout_shapes.proofs.Fitting.{all_held}
 use Rattle.rule_text.specs.Seen.{rules_seen}
 use Rattle.shapes_file.specs.File.{count_in}
-use Rattle.shapes_file.proofs.Counting.{held, made, room}
+use Rattle.shapes_file.proofs.Counting.{made, room}
 use Rattle.shapes_file.proofs.file.write_file.Goals as goal
 
 pub count_rectangles-rectangles-requires-clause-held :
@@ -13,8 +14,8 @@ count_rectangles-rectangles-requires-clause-held c =
     let l = c.args.layout.now in
     let r = rules_seen c.args.rules.now in
     let table = c.args.layers.now in
-    subst (λ (cells : List ℕ). All (λ cell. All (CanWriteLine table cell) r.outputs) cells) (sym c.order-order.ensures)
-    (held c.design_laws.ensures.hull c.canonical_rects.ensures c.layer_table.ensures.at l r table c.sound.ensures c.requires.rules c.requires.layers c.requires.layout)
+    subst (λ (cells : List ℕ). All (AreHeld table r) cells) (sym c.order-order.ensures)
+    (all_held c.layer_table.ensures.at l.design r table c.sound.ensures.order c.requires.rules c.requires.layers)
 
 pub count_rectangles-rectangles-requires-clause-room :
     goal.count_rectangles-rectangles-requires-clause-room
@@ -33,5 +34,5 @@ returns c =
     let l = c.args.layout.now in
     let r = rules_seen c.args.rules.now in
     let table = c.args.layers.now in
-    made l r table c.in_ok-text.text.items _ c.count_rectangles-rectangles.result c.sound.ensures.order c.requires.layers c.in_ok-text.ensures (ap length c.order-order.ensures)
+    made l r table c.in_ok-text.text.items _ c.count_rectangles-rectangles.result c.sound.ensures.order c.requires.layers c.requires.narrow c.in_ok-text.ensures (ap length c.order-order.ensures)
     (c.count_rectangles-rectangles.ensures ∙ ap (λ (cells : List ℕ). sum_by (count_in table r) cells) c.order-order.ensures)

@@ -7,7 +7,7 @@ use Rattle.cell_graph.specs.Drafts.{IsFault, IsLink}
 use Rattle.cell_graph.specs.Extents.{HaveArrays}
 use Rattle.cell_graph.specs.Finished.{IsExamined, AreMade}
 use Rattle.cell_graph.specs.Tops.{now_of}
-use Rattle.cell_graph.proofs.PlainHulls.{all_sound}
+use Rattle.cell_graph.proofs.Paths.{all_sound}
 use Rattle.cell_graph.proofs.Sound.{IsDone, is_link, top_inside}
 use Rattle.cell_graph.proofs.design.Design.link.Goals as goal
 
