@@ -7,7 +7,7 @@ use gds_layout::read_layout;
 use geo_base::LayerKey;
 use job_board::OpenGate;
 use rule_text::read_rules;
-use shapes_file::shapes_file;
+use shapes_file::{Drawing, shapes_file};
 use std::alloc::{AllocError, Global};
 use std::sync::Wait;
 use std::test::Fail;
@@ -102,8 +102,10 @@ fn written<R: Threads + Wait + Sync>(
     let Ok(rules) = read_rules(alloc, RULES) else {
         return Err(AllocError);
     };
-    let file = shapes_file(rt, alloc, &layout, &rules, 2, &OpenGate)?;
-    Ok(file.text)
+    match shapes_file(rt, alloc, &layout, &rules, 2, &OpenGate)? {
+        Drawing::Whole(file) => Ok(file.text),
+        Drawing::Wide(_) => Err(AllocError),
+    }
 }
 
 // What is written has the same cells, references and squares, and is written as it is.

@@ -248,7 +248,7 @@ fn written_hierarchies(rt: HostRuntime) -> Result<(), Fail> {
 }
 
 /// Layouts whose cells can't be linked, and their lines.
-const REFUSED: [(&[Cell], &str); 9] = [
+const REFUSED: [(&[Cell], &str); 7] = [
     (&[], "refused layout 24\n"),
     (
         &[Cell("A", &[]), Cell("A", &[])],
@@ -273,10 +273,6 @@ const REFUSED: [(&[Cell], &str); 9] = [
         &[Cell("A", &[]), Cell("B", &[])],
         "refused layout 23 cell A cell B\n",
     ),
-    (
-        &[Cell("A", &[Rect((1, 0, 0, 1073741825, 1))])],
-        "refused layout 25 cell A\n",
-    ),
     // A missing cell is told before a cycle.
     (
         &[
@@ -284,14 +280,6 @@ const REFUSED: [(&[Cell], &str); 9] = [
             Cell("B", &[Placed("C", 0, 0)]),
         ],
         "refused layout 21 cell C\n",
-    ),
-    // A cell out of range below the top: the first of the lower ones.
-    (
-        &[
-            Cell("TOP", &[Placed("K", 0, 0)]),
-            Cell("K", &[Rect((1, -1073741825, 0, 0, 1))]),
-        ],
-        "refused layout 25 cell K\n",
     ),
 ];
 
@@ -378,6 +366,122 @@ fn deepest(rt: HostRuntime) -> Result<(), Fail> {
     Ok(())
 }
 
+/// A chain of cells, each with the one before at the farthest point to the right; the last has it
+/// so many times. The command, its rules, line and code.
+struct Far {
+    shapes: &'static [Shape],
+    cells: u32,
+    last: usize,
+    words: &'static [&'static str],
+    rules: &'static str,
+    line: &'static str,
+    code: u8,
+}
+
+// Two placements on one spot leave the crossing of their bars to the cell that has both.
+const CROSSED: &[Shape] = &[(1, 0, 0, 1, 1), (2, 0, 0, 1, 1)];
+
+const CROSSING: &str = "a = input(1, 0)\nb = input(2, 0)\nc = a & b\nc.output(10, 0)\n";
+
+const UNDRAWN: &str = "a = input(1, 0)\nb = input(2, 0)\nc = a & b\n";
+
+const EXTRACT: [&str; 9] = [
+    "extract",
+    "--layout",
+    "l",
+    "--rules",
+    "r",
+    "--shapes",
+    "s",
+    "--netlist",
+    "n",
+];
+
+const FARTHEST: [Far; 6] = [
+    // A hull that ends at 2^36, and one unit more.
+    Far {
+        shapes: &[(1, 0, 0, 32, 1)],
+        cells: 33,
+        last: 1,
+        words: &SHAPES,
+        rules: COPY,
+        line: "shapes cells 33 rectangles 1\n",
+        code: 0,
+    },
+    Far {
+        shapes: &[(1, 0, 0, 33, 1)],
+        cells: 33,
+        last: 1,
+        words: &SHAPES,
+        rules: COPY,
+        line: "refused layout 25 cell C32\n",
+        code: 2,
+    },
+    // The crossing is held by a cell in which it lies outside 32 bits; by one in which it doesn't;
+    // and where no output line asks for it.
+    Far {
+        shapes: CROSSED,
+        cells: 3,
+        last: 2,
+        words: &SHAPES,
+        rules: CROSSING,
+        line: "refused layout 28 cell C2\n",
+        code: 2,
+    },
+    Far {
+        shapes: CROSSED,
+        cells: 3,
+        last: 1,
+        words: &SHAPES,
+        rules: CROSSING,
+        line: "shapes cells 3 rectangles 1\n",
+        code: 0,
+    },
+    Far {
+        shapes: CROSSED,
+        cells: 3,
+        last: 2,
+        words: &EXTRACT,
+        rules: CROSSING,
+        line: "refused layout 28 cell C2\n",
+        code: 2,
+    },
+    Far {
+        shapes: CROSSED,
+        cells: 3,
+        last: 2,
+        words: &EXTRACT,
+        rules: UNDRAWN,
+        line: "extracted cells 3 circuits 1 bad 0\n",
+        code: 0,
+    },
+];
+
+fn far_chain(alloc: Global, far: &Far) -> Result<Vec<u8>, AllocError> {
+    let mut out = begin(alloc)?;
+    let points = [(i32::MAX, 0), (i32::MAX, 0)];
+    for number in 0..far.cells {
+        let is_last = number.saturating_add(1) == far.cells;
+        let count = if is_last { far.last } else { 1 };
+        let there = points.get(..count).unwrap_or(&[]);
+        push_chain(alloc, &mut out, number, far.shapes, there)?;
+    }
+    end(&mut out)?;
+    Ok(out)
+}
+
+#[test]
+fn farthest(rt: HostRuntime) -> Result<(), Fail> {
+    let alloc = rt.alloc();
+    for far in &FARTHEST {
+        let layout = far_chain(alloc, far)?;
+        let run = run_of(&rt, alloc, &layout, far.rules.as_bytes(), far.words, NONE)?;
+        assert_eq!(rt; run.line.as_slice(), far.line.as_bytes());
+        assert_eq!(rt; run.code, far.code);
+    }
+    Ok(())
+}
+
 // 2^40 crossings in 41 cells: one rectangle is written.
 #[test]
 fn doubling_hierarchy(rt: HostRuntime) -> Result<(), Fail> {
@@ -425,8 +529,8 @@ const FIRST_CELL: [&str; 11] = [
 fn most_cells(rt: HostRuntime) -> Result<(), Fail> {
     let alloc = rt.alloc();
     for (cells, code, line) in [
-        (16384, 0, "extracted cells 1 circuits 1 bad 0\n"),
-        (16385, 2, "refused layout 26\n"),
+        (65536, 0, "extracted cells 1 circuits 1 bad 0\n"),
+        (65537, 2, "refused layout 26\n"),
     ] {
         let layout = apart(alloc, cells)?;
         let run = run_of(&rt, alloc, &layout, METAL, &FIRST_CELL, NONE)?;

@@ -74,8 +74,8 @@ macro_rules! text {
     };
 }
 
-/// The border of what is read.
-const FAR: i32 = 1073741824;
+/// The farthest that an element says.
+const FAR: i32 = 2147483647;
 
 pub const CASES: [Case; 28] = [
     Case {

@@ -7,8 +7,8 @@ use std::test::Fail;
 
 const COPY: &str = "a = input(1, 0)\na.output(10, 0)\n";
 
-/// The border of what is read.
-const FAR: i32 = 1073741824;
+/// The farthest that an element says.
+const FAR: i32 = 2147483647;
 
 /// A PATH of width 20 that goes on by half of it at both ends.
 const WIRE: Form = Form {
