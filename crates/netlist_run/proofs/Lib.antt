@@ -1,1 +1,3 @@
-pub mod Leaving
+mod WordLemmas
+mod Refusing
+mod Leaving

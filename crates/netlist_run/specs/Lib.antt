@@ -1,2 +1,4 @@
 pub mod Codes
+pub mod Words
+pub mod Lines
 pub mod Accepted

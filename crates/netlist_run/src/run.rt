@@ -1,23 +1,28 @@
 //! The run: files are read and joined, cards turned, the text tried, and then it is written.
 
-ghost use Rattle.std.specs.Prelude.{◌≡◌, false, true, IfOk, Ok, OnOk, length, map, string_bytes};
+ghost use Rattle.std.specs.Prelude.{◌≡◌, false, true, IfErr, IfOk, Ok, OnOk, Some, length, map};
+ghost use Rattle.std.specs.Prelude.{None, is_none, string_bytes};
 ghost use Rattle.std.specs.List.{list_any};
 ghost use Rattle.std.specs.Str.{bytes_eq};
-ghost use Rattle.netlist_join.specs.Loaded.{has_twins};
-ghost use Rattle.lvs_outside.specs.Store.{HasRoom, SameFiles};
-ghost use Rattle.lvs_outside.specs.Summary.{SinkHasRoom};
-ghost use Rattle.netlist_turn.specs.Seen.{seen};
 ghost use Rattle.std.specs.Option.{option_copied};
+ghost use Rattle.lvs_outside.specs.Store.{HasRoom, SameFiles, counted};
+ghost use Rattle.lvs_outside.specs.Summary.{SinkHasRoom};
+ghost use Rattle.spice_rows.specs.Sizes.{read_limit};
+ghost use Rattle.spice_text.specs.Means.{SaysFirst};
+ghost use Rattle.netlist_turn.specs.Seen.{seen};
+ghost use Rattle.netlist_join.specs.Loaded.{has_twins};
 ghost use Rattle.netlist_plan.specs.Marks.{IsPlan};
 ghost use Rattle.netlist_told.specs.Sums.{told_text};
-ghost use Rattle.netlist_run.specs.Accepted.{Delivers, IsAccepted, IsMade, IsOutput, IsPrepared};
-ghost use Rattle.netlist_run.specs.Accepted.{Leaves, Sends, top_bytes};
+ghost use Rattle.netlist_run.specs.Accepted.{IsAccepted, IsJoined, IsOutput, IsPrepared, Leaves};
+ghost use Rattle.netlist_run.specs.Accepted.{Delivers, NotJoined, NotMade, NotRead, Sends};
+ghost use Rattle.netlist_run.specs.Accepted.{SendsStop, Stops};
+ghost use Rattle.netlist_run.specs.Words.{asked, asked_seen, is_same};
 
-use crate::lines::{join_stop, line_of, spice_stop, turn_stop};
+use crate::lines::{join_stop, load_stop, no_top_stop, spice_stop, turn_stop};
 use crate::status::{Status, Stop};
 use crate::words::{Command, read_command};
 use lvs_outside::{Depot, Sink, write_all, write_file};
-use netlist_join::{Failed, File, Joined, Origin, join_files, load_files};
+use netlist_join::{File, Joined, Origin, join_files, load_files};
 use netlist_plan::plan_cards;
 use netlist_told::told_lines;
 use netlist_turn::{Settings, Turned, turn_cards};
@@ -34,7 +39,8 @@ struct Output {
 
 // Tries a text: the reader of `lvs` takes it, or this is its fault.
 fn try_text(alloc: Global, text: &[u8]) -> Result<(), SpiceFault>
-    ensures { OnOk result (IsAccepted text.now) }
+    ensures accepted { OnOk result (IsAccepted text.now) }
+    ensures fault { IfErr result (SaysFirst read_limit text.now) }
 {
     let _netlist = read_spice(alloc, text)?;
     Ok(())
@@ -64,6 +70,21 @@ fn finished(
     Ok(Output { text, lines })
 }
 
+// The refusal of a fault of what was made.
+#[tactic(auto, using(crate::proofs::Refusing::not_read))]
+fn read_stop(
+    alloc: Global,
+    files: &[File],
+    origins: &[Origin],
+    turned: &Turned,
+    fault: SpiceFault,
+) -> Stop
+    requires { SaysFirst read_limit (seen turned.now).text fault }
+    ensures { NotRead files.now origins.now (seen turned.now) result }
+{
+    spice_stop(alloc, files, origins, turned.lines.as_slice(), fault)
+}
+
 // What is to be written, where the reader of `lvs` takes what was made.
 fn tried(
     alloc: Global,
@@ -76,20 +97,19 @@ fn tried(
     ensures lines { IfOk result (λ o. o.lines.items ≡ told_text has_title files.now origins.now
         (seen turned.entry).told (length (seen turned.entry).lines)) }
     ensures accepted { IfOk result (λ o. IsAccepted (seen turned.entry).text) }
+    ensures refused { IfErr result (NotRead files.now origins.now (seen turned.entry)) }
 {
     match try_text(alloc, turned.text.as_slice()) {
         Ok(()) => {
             let output = finished(alloc, files, origins, has_title, turned)?;
             Ok(output)
         }
-        Err(fault) => {
-            let stop = spice_stop(alloc, files, origins, turned.lines.as_slice(), fault)?;
-            Err(stop)
-        }
+        Err(fault) => Err(read_stop(alloc, files, origins, &turned, fault)),
     }
 }
 
 // What the cards of a joined text make by these settings.
+#[tactic(auto, using(crate::proofs::Leaving::reads_of))]
 fn turned_output(
     alloc: Global,
     files: &[File],
@@ -97,10 +117,11 @@ fn turned_output(
     command: &Command,
     settings: &Settings,
 ) -> Result<Output, Stop>
-    requires plan { IsPlan joined.now.text.items (top_bytes command.now) command.now.leaving
+    requires { IsPlan joined.now.text.items (asked_seen command.now).top command.now.leaving
         settings.now true }
-    ensures { IfOk result (λ o. IsOutput files.now joined.now command.now o.text.items
-        o.lines.items) }
+    ensures output { IfOk result (λ o. IsOutput files.now joined.now (asked_seen command.now)
+        o.text.items o.lines.items) }
+    ensures refused { IfErr result (NotMade files.now joined.now (asked_seen command.now)) }
 {
     let origins = joined.origins.as_slice();
     match turn_cards(alloc, settings, joined.text.as_slice()) {
@@ -111,7 +132,7 @@ fn turned_output(
 
 // The bytes of the name of the circuit that is asked for.
 fn top_of(command: &Command) -> Option<&[u8]>
-    ensures { option_copied result ≡ top_bytes command.now }
+    ensures { option_copied result ≡ (asked_seen command.now).top }
 {
     match &command.top {
         None => None,
@@ -122,8 +143,9 @@ fn top_of(command: &Command) -> Option<&[u8]>
 // What is made of a joined text.
 #[tactic(auto, using(crate::proofs::Leaving::plan_for))]
 fn made(alloc: Global, files: &[File], joined: &Joined, command: &Command) -> Result<Output, Stop>
-    ensures { IfOk result (λ o. IsOutput files.now joined.now command.now o.text.items
-        o.lines.items) }
+    ensures output { IfOk result (λ o. IsOutput files.now joined.now (asked_seen command.now)
+        o.text.items o.lines.items) }
+    ensures refused { IfErr result (NotMade files.now joined.now (asked_seen command.now)) }
 {
     let text = joined.text.as_slice();
     let origins = joined.origins.as_slice();
@@ -133,65 +155,50 @@ fn made(alloc: Global, files: &[File], joined: &Joined, command: &Command) -> Re
         Err(fault) => return Err(turn_stop(alloc, files, origins, fault)),
     };
     if !plan.is_found {
-        let line = line_of(alloc, b"refused no circuit ", top.unwrap_or(b""))?;
-        return Err(Stop::Refused(line));
+        return Err(no_top_stop(alloc, top));
     }
     turned_output(alloc, files, joined, command, &plan.settings)
 }
 
-fn load_stop(alloc: Global, failed: Failed) -> Result<Stop, AllocError> {
-    match failed {
-        Failed::Outside => Ok(Stop::Outside),
-        Failed::Absent(path) => {
-            let line = line_of(alloc, b"refused absent ", path.as_bytes())?;
-            Ok(Stop::Refused(line))
-        }
-        Failed::TooLong(path) => {
-            let line = line_of(alloc, b"refused long ", path.as_bytes())?;
-            Ok(Stop::Refused(line))
-        }
-        Failed::TooMany => {
-            let line = b"refused more than 10000 files\n".to_vec(alloc)?;
-            Ok(Stop::Refused(line))
-        }
-        Failed::NoMemory => Ok(Stop::NoMemory),
-    }
+#[tactic(auto, using(crate::proofs::WordLemmas::count_is))]
+fn input_count(command: &Command) -> usize
+    ensures { result ≡ length (asked_seen command.now).inputs }
+{
+    command.inputs.len()
 }
 
 // What is to be written of the inputs and the files that they name.
-fn joined_output(
-    alloc: Global,
-    files: &[File],
-    count: usize,
-    command: &Command,
-) -> Result<Output, Stop>
-    requires { count ≡ length command.now.inputs.items }
-    ensures { IfOk result (λ o. IsMade files.now command.now o.text.items o.lines.items) }
+#[tactic(auto, using(crate::proofs::Leaving::makes_of))]
+fn joined_output(alloc: Global, files: &[File], command: &Command) -> Result<Output, Stop>
+    ensures output { IfOk result (λ o. IsJoined files.now (asked_seen command.now) o.text.items
+        o.lines.items) }
+    ensures refused { IfErr result (NotJoined files.now (asked_seen command.now)) }
 {
-    let joined = match join_files(alloc, files, count, command.has_title) {
-        Ok(joined) => joined,
-        Err(fault) => return Err(join_stop(alloc, files, fault)),
-    };
-    let output = made(alloc, files, &joined, command)?;
-    Ok(output)
+    let count = input_count(command);
+    match join_files(alloc, files, count, command.has_title) {
+        Ok(joined) => made(alloc, files, &joined, command),
+        Err(fault) => Err(join_stop(alloc, files, fault)),
+    }
 }
 
 // Reads the files that a command names, and makes what is to be written.
+#[tactic(auto, using(crate::proofs::Leaving::lacks_of, crate::proofs::Leaving::loaded, crate::proofs::Leaving::prepared_of))]
 fn prepare<D: Depot>(alloc: Global, command: &Command, depot: &mut D) -> Result<Output, Stop>
     requires room { HasRoom (D.state depot.old) }
-    requires apart { has_twins (map string_bytes command.now.inputs.items) ≡ false }
+    requires apart { has_twins (asked_seen command.now).inputs ≡ false }
     ensures room { OnOk result (HasRoom (D.state depot.new)) }
     ensures files { SameFiles (D.state depot.old) (D.state depot.new) }
-    ensures made { IfOk result (λ o. IsPrepared (D.state depot.old).file o.text.items
-        o.lines.items) }
+    ensures faults { OnOk result ((counted (D.state depot.new)).faults
+        ≡ (counted (D.state depot.old)).faults) }
+    ensures made { IfOk result (λ o. IsPrepared (D.state depot.old).file (asked_seen command.now)
+        o.text.items o.lines.items) }
+    ensures refused { IfErr result (Stops (D.state depot.old) (D.state depot.new)
+        (asked_seen command.now)) }
 {
-    let inputs = command.inputs.as_slice();
-    let files = match load_files(alloc, depot, inputs) {
-        Ok(files) => files,
-        Err(failed) => return Err(load_stop(alloc, failed)?),
-    };
-    let output = joined_output(alloc, &files, command.inputs.len(), command)?;
-    Ok(output)
+    match load_files(alloc, depot, command.inputs.as_slice()) {
+        Ok(files) => joined_output(alloc, &files, command),
+        Err(failed) => Err(load_stop(alloc, failed)),
+    }
 }
 
 fn send<S: Sink>(out: &mut S, line: &[u8], status: Status) -> Status
@@ -204,9 +211,10 @@ fn send<S: Sink>(out: &mut S, line: &[u8], status: Status) -> Status
     }
 }
 
+// Tells why there is nothing to write.
 fn stopped<S: Sink>(out: &mut S, stop: Stop) -> Status
     requires { SinkHasRoom (S.state out.old) }
-    ensures { (result ≡ Status.Good) → ⊥ }
+    ensures { SendsStop stop (S.state out.old) (S.state out.new) result }
 {
     match stop {
         Stop::Refused(line) => send(out, &line, Status::Refused),
@@ -228,7 +236,7 @@ fn deliver<D: Depot, S: Sink>(depot: &mut D, out: &mut S, path: &str, output: &O
     }
 }
 
-// Runs what the words ask for.
+// Runs what the words ask for, where the output's path is that of no input.
 fn run_command<D: Depot, S: Sink>(
     alloc: Global,
     command: &Command,
@@ -238,9 +246,10 @@ fn run_command<D: Depot, S: Sink>(
 ) -> Status
     requires depot { HasRoom (D.state depot.old) }
     requires sink { SinkHasRoom (S.state out.old) }
-    requires apart { has_twins (map string_bytes command.now.inputs.items) ≡ false }
-    ensures { Leaves (D.state depot.old) (D.state depot.new) (S.state out.old) (S.state out.new)
-        result }
+    requires path { (asked_seen command.now).out ≡ Some path.now }
+    requires apart { is_same (asked_seen command.now) path.now ≡ false }
+    ensures { Leaves (Some (asked_seen command.now)) (D.state depot.old) (D.state depot.new)
+        (S.state out.old) (S.state out.new) result }
 {
     match prepare(alloc, command, depot) {
         Ok(output) => deliver(depot, out, path, &output),
@@ -248,9 +257,42 @@ fn run_command<D: Depot, S: Sink>(
     }
 }
 
-/// Runs the program on its words. After `Good` a netlist that the reader of `lvs` takes is written,
-/// and the lines that tell what was changed are sent; after `Refused` no file has changed, and a
-/// line says why. Linear in the bytes read and written.
+// The path of the output.
+fn path_of(command: &Command) -> &str
+    requires { is_none (asked_seen command.now).out ≡ false }
+    ensures { (asked_seen command.now).out ≡ Some result.now }
+{
+    match &command.out {
+        None => "",
+        Some(path) => path.as_str(),
+    }
+}
+
+// Runs what the words ask for.
+fn run_asked<D: Depot, S: Sink>(
+    alloc: Global,
+    command: &Command,
+    depot: &mut D,
+    out: &mut S,
+) -> Status
+    requires depot { HasRoom (D.state depot.old) }
+    requires sink { SinkHasRoom (S.state out.old) }
+    requires path { is_none (asked_seen command.now).out ≡ false }
+    ensures { Leaves (Some (asked_seen command.now)) (D.state depot.old) (D.state depot.new)
+        (S.state out.old) (S.state out.new) result }
+{
+    let path = path_of(command);
+    if is_same(command, path) {
+        return send(out, b"refused same\n", Status::Refused);
+    }
+    run_command(alloc, command, path, depot, out)
+}
+
+/// Runs the program on its words. After `Good` the file of the named path is what the cards of the
+/// inputs make, which the reader of `lvs` takes, and the lines that tell what was changed are sent.
+/// After `Refused` no file has changed, and the sent line says why: the words, a file that isn't
+/// there, the first line or card that can't be taken, or what `lvs` would refuse in what was made.
+/// After `Outside` a call failed. Linear in the bytes read and written.
 pub fn run_netlist<D: Depot, S: Sink>(
     alloc: Global,
     words: &[String],
@@ -259,26 +301,21 @@ pub fn run_netlist<D: Depot, S: Sink>(
 ) -> Status
     requires depot { HasRoom (D.state depot.old) }
     requires sink { SinkHasRoom (S.state out.old) }
-    ensures { Leaves (D.state depot.old) (D.state depot.new) (S.state out.old) (S.state out.new)
-        result }
+    ensures { Leaves (asked (map string_bytes words.now)) (D.state depot.old) (D.state depot.new)
+        (S.state out.old) (S.state out.new) result }
 {
-    let command = match read_command(alloc, words) {
-        Ok(Some(command)) => command,
-        Ok(None) => return send(out, b"refused words\n", Status::Refused),
-        Err(_) => return Status::NoMemory,
-    };
-    let Some(path) = &command.out else {
-        return send(out, b"refused words\n", Status::Refused);
-    };
-    if is_input(&command, path.as_str()) || has_twins(command.inputs.as_slice()) {
-        return send(out, b"refused same\n", Status::Refused);
+    match read_command(alloc, words) {
+        Ok(Some(command)) => run_asked(alloc, &command, depot, out),
+        Ok(None) => send(out, b"refused words\n", Status::Refused),
+        Err(_) => Status::NoMemory,
     }
-    run_command(alloc, &command, path.as_str(), depot, out)
 }
 
 // Whether a path is that of an input.
-fn is_input(command: &Command, path: &str) -> bool {
-    command.inputs.iter().any(|input| input.as_str() == path)
+fn is_input(paths: &[String], path: &str) -> bool
+    ensures { result ≡ list_any (λ p. bytes_eq (string_bytes p) path.now) paths.now }
+{
+    paths.iter().any(|input| input.as_str() == path)
 }
 
 // Whether a path is one of these.
@@ -307,4 +344,13 @@ fn has_twins(paths: &[String]) -> bool
         rest = more;
     }
     false
+}
+
+// Whether an input stands twice, or is the output.
+#[tactic(auto, using(crate::proofs::WordLemmas::any_mapped))]
+fn is_same(command: &Command, path: &str) -> bool
+    ensures { result ≡ is_same (asked_seen command.now) path.now }
+{
+    let inputs = command.inputs.as_slice();
+    is_input(inputs, path) || has_twins(inputs)
 }

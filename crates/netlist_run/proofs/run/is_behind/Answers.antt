@@ -1,5 +1,5 @@
 use Rattle.std.specs.Prelude.{string_bytes}
-use Rattle.netlist_run.proofs.Leaving.{behind_is}
+use Rattle.netlist_run.proofs.WordLemmas.{behind_is}
 use Rattle.netlist_run.proofs.run.is_behind.Goals as goal
 
 pub returns : goal.returns
