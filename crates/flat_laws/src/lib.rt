@@ -7,7 +7,8 @@
 
 ghost use Rattle.flat_laws.specs.FlatGates.{FlatGatesLaw};
 ghost use Rattle.flat_laws.specs.GateLaws.{ReadLayersLaw, KeptGateLaw, KeptFormLaw, OnePlaceLaw};
-ghost use Rattle.flat_laws.specs.GateLaws.{GateLaw, TopLaw, TerminalNodeLaw, OneCountLaw};
+ghost use Rattle.flat_laws.specs.GateLaws.{GateLaw, TopLaw, TerminalNodeLaw, GroundNodeLaw};
+ghost use Rattle.flat_laws.specs.GateLaws.{GoodInLaw, OneCountLaw, OneSizesLaw};
 ghost use Rattle.flat_laws.specs.GateLaws.{NotBothLaw, OneCauseLaw, SameGateLaw, CauseAlongLaw};
 ghost use Rattle.flat_laws.specs.LayerLaws.{ZoneLaw, UndisturbedLaw, StillLaw, NameStillLaw};
 ghost use Rattle.flat_laws.specs.LayerLaws.{NearInputLaw, CalmLaw, SameFlatLaw, CoverLaw};
@@ -68,7 +69,10 @@ pub fn gates()
     ensures once { GateLaw }
     ensures top { TopLaw }
     ensures terminals { TerminalNodeLaw }
+    ensures ground { GroundNodeLaw }
+    ensures inside { GoodInLaw }
     ensures count { OneCountLaw }
+    ensures sizes { OneSizesLaw }
 {}
 
 /// All lists of gates, seen from the top, are the gates of the flat top, each once, with their
