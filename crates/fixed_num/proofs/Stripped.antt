@@ -41,7 +41,7 @@ grown count zeros sig digit high d =
     let e : 10 ^ (count + zeros + 1) ≡ 10 ^ count * 10 ^ (zeros + 1) = let s : count + zeros + 1 ≡ count + (zeros + 1) = omega arith in ap (λ (k : ℕ). 10 ^ k) s ∙ pow-add 10 count (zeros + 1) in
     omega (arith, wide, e, ten_suc zeros, ten_positive zeros)
 
-pub more_digit : (count value zeros digit v m : ℕ) → 0 < digit → digit < 10 → (count + zeros + 1 ≤ 19 → v ≡ value * 10 ^ (zeros + 1) + digit)
+pub more_digit : (count value zeros digit v m : ℕ) → 0 < digit → digit < 10 → (count + zeros + 1 ≤ 31 → v ≡ value * 10 ^ (zeros + 1) + digit)
     → IsStripped count value zeros m → IsStripped (count + zeros + 1) v 0 (m * 10 + digit)
 more_digit count value zeros digit v m some d is h =
     let tens : h.significant * 10 ^ (zeros + 1) ≡ m * 10 = omega (arith, h.number, ap (λ (k : ℕ). h.significant * k) (ten_suc zeros)) in

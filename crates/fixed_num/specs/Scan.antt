@@ -9,7 +9,7 @@ use Rattle.fixed_num.specs.declared.femto.Femto.{Femto}
 use Rattle.fixed_num.specs.declared.femto.ValueFault.{ValueFault}
 use Rattle.fixed_num.specs.declared.femto.ValueFault.TheVariants.{NotNumber, TooLarge, TooFine}
 use Rattle.fixed_num.specs.declared.power.Power.{Power as ScannedPower}
-use Rattle.fixed_num.specs.Values.{Number, IsWorth, IsAbove, suffix_of}
+use Rattle.fixed_num.specs.Values.{Number, IsWorth, IsOver, raised, suffix_of}
 
 -- mantissa * 10 ^ up / 10 ^ down
 abbrev pub fraction : ℕ → ℕ → ℕ → Number
@@ -96,19 +96,32 @@ number_of text = with_digits (digits_of text) (fraction_of (after_digits text))
 abbrev pub power_seen : ScannedPower → Power
 power_seen p = record { minus = p.minus; digits = p.digits.now; rest = p.rest.now }
 
--- the answer for a number, or for none
+-- the answer for a number, or for none, where it may be 10 ^ tens at most
+abbrev pub AnswersUpTo : ℕ → Option Number → Result ℕ ValueFault → Type 0
+AnswersUpTo tens None (Ok v) = ⊥
+AnswersUpTo tens None (Err NotNumber) = Unit {0}
+AnswersUpTo tens None (Err TooLarge) = ⊥
+AnswersUpTo tens None (Err TooFine) = ⊥
+AnswersUpTo tens (Some n) (Ok v) = IsWorth n v × (v ≤ 10 ^ tens)
+AnswersUpTo tens (Some n) (Err NotNumber) = ⊥
+AnswersUpTo tens (Some n) (Err TooLarge) = IsOver tens n
+AnswersUpTo tens (Some n) (Err TooFine) = (IsOver tens n → ⊥) × ((v : ℕ) → IsWorth n v → ⊥)
+
+-- an answer in femtometres
+abbrev pub in_femto : Result Femto ValueFault → Result ℕ ValueFault
+in_femto (Ok f) = Ok f.0
+in_femto (Err e) = Err e
+
 abbrev pub Answers : Option Number → Result Femto ValueFault → Type 0
-Answers None (Ok f) = ⊥
-Answers None (Err NotNumber) = Unit {0}
-Answers None (Err TooLarge) = ⊥
-Answers None (Err TooFine) = ⊥
-Answers (Some n) (Ok f) = IsWorth n f.0 × (f.0 ≤ 10 ^ 18)
-Answers (Some n) (Err NotNumber) = ⊥
-Answers (Some n) (Err TooLarge) = IsAbove n
-Answers (Some n) (Err TooFine) = (IsAbove n → ⊥) × ((f : ℕ) → IsWorth n f → ⊥)
+Answers n result = AnswersUpTo 18 n (in_femto result)
+
+-- a number times 10 ^ tens, where there is one
+abbrev pub some_raised : ℕ → Option Number → Option Number
+some_raised tens None = None
+some_raised tens (Some n) = Some (raised tens n)
 
 -- m is its significant digits, which are counted, and the zeros behind them; value is their worth
--- where they are 19 at most
+-- where they are 31 at most
 pub record IsStripped (count value zeros m : ℕ) : Type 0 where
   pub significant : ℕ
   pub number : significant * 10 ^ zeros ≡ m
@@ -116,7 +129,7 @@ pub record IsStripped (count value zeros m : ℕ) : Type 0 where
   pub last : 0 < count → 0 < significant % 10
   pub low : 0 < count → 10 ^ count ≤ 10 * significant
   pub high : significant < 10 ^ count
-  pub small : count ≤ 19 → value ≡ significant
+  pub small : count ≤ 31 → value ≡ significant
 
 -- n itself, or a stand-in of the same size class where it is 2 ^ 80 or more
 pub record IsCapped (n r : ℕ) : Type 0 where

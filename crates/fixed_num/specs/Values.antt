@@ -1,23 +1,36 @@
--- What the text of a SPICE value is worth: an exact fraction, in femtometres.
+-- What the text of a SPICE value is worth: an exact fraction, of a length in femtometres, of an area
+-- in square picometres.
 use Rattle.std.specs.Prelude.{◌≡◌, ℕ, ◌+◌, ◌*◌, ◌^◌, ◌<◌, Bool, true, false, ◌==◌, ◌&&◌, List, []}
 use Rattle.std.specs.Prelude.{◌∷◌, ◌++◌, length, map, Option, Some, None, if◌then◌else◌}
 use Rattle.std.specs.List.{list_all}
 use Rattle.std.specs.Char.{is_ascii_digit, is_ascii_alphabetic, to_ascii_lowercase}
 use Rattle.std.specs.Str.Parse.{digits_value}
 
--- a number of femtometres: mantissa * 10 ^ up / 10 ^ down
+-- a number of 10 ^ -15 metres, or square metres: mantissa * 10 ^ up / 10 ^ down
 pub record Number : Type 0 where
   pub mantissa : ℕ
   pub up : ℕ
   pub down : ℕ
 
--- the number is f
+-- the number is f, in whole ones
 abbrev pub IsWorth : Number → ℕ → Type 0
 IsWorth n f = n.mantissa * 10 ^ n.up ≡ f * 10 ^ n.down
 
+-- the number is above 10 ^ tens
+abbrev pub IsOver : ℕ → Number → Type 0
+IsOver tens n = 10 ^ tens * 10 ^ n.down < n.mantissa * 10 ^ n.up
+
 -- the number is above 10 ^ 18
 abbrev pub IsAbove : Number → Type 0
-IsAbove n = 10 ^ 18 * 10 ^ n.down < n.mantissa * 10 ^ n.up
+IsAbove n = IsOver 18 n
+
+-- the number times 10 ^ tens
+abbrev pub raised : ℕ → Number → Number
+raised tens n = record { mantissa = n.mantissa; up = tens + n.up; down = n.down }
+
+-- 10 ^ -15 square metres are 10 ^ 9 square picometres
+abbrev pub in_area : Number → Number
+in_area n = raised 9 n
 
 -- the sign of an exponent: none, `+` or `-`
 pub data Sign : Type 0 where
@@ -155,6 +168,29 @@ pub record IsTooFine (text : List ℕ) : Type 0 where
   pub small : IsAbove number → ⊥
   pub broken : (f : ℕ) → IsWorth number f → ⊥
 
+-- the text is worth v square picometres
+pub record IsArea (text : List ℕ) (v : ℕ) : Type 0 where
+  pub number : Number
+  pub read : IsNumber text number
+  pub worth : IsWorth (in_area number) v
+
+-- the text is worth more than 10 ^ 30 square picometres
+pub record IsTooLargeArea (text : List ℕ) : Type 0 where
+  pub number : Number
+  pub read : IsNumber text number
+  pub above : IsOver 30 (in_area number)
+
+-- the text is worth no whole number of square picometres, and not above 10 ^ 30
+pub record IsTooFineArea (text : List ℕ) : Type 0 where
+  pub number : Number
+  pub read : IsNumber text number
+  pub small : IsOver 30 (in_area number) → ⊥
+  pub broken : (v : ℕ) → IsWorth (in_area number) v → ⊥
+
 -- a text is worth one whole number of femtometres at most
 abbrev pub OneValueLaw : Type 0
 OneValueLaw = (text : List ℕ) (f g : ℕ) → IsValue text f → IsValue text g → f ≡ g
+
+-- and one of square picometres
+abbrev pub OneAreaLaw : Type 0
+OneAreaLaw = (text : List ℕ) (v w : ℕ) → IsArea text v → IsArea text w → v ≡ w

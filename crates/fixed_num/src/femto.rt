@@ -1,4 +1,4 @@
-//! Lengths in whole femtometres, and why a text is none.
+//! Lengths in whole femtometres, and why a text is no length or area.
 
 ghost use Rattle.std.specs.Prelude.{◌≡◌};
 
@@ -8,14 +8,14 @@ use thiserror::Error;
 #[derive(Clone, Copy, Debug, PartialEq, Eq, PartialOrd, Ord)]
 pub struct Femto(pub u128);
 
-/// Why a text is no length.
+/// Why a text is no length, or no area.
 #[derive(Clone, Copy, Debug, PartialEq, Eq, Error)]
 pub enum ValueFault {
     #[error("not a number")]
     NotNumber,
-    #[error("above 10^18 femtometres")]
+    #[error("above the greatest value")]
     TooLarge,
-    #[error("not a whole number of femtometres")]
+    #[error("not a whole number")]
     TooFine,
 }
 

@@ -1,4 +1,5 @@
-//! Exact numbers: the eight-byte reals of a layout stream, and lengths in whole femtometres.
+//! Exact numbers: the eight-byte reals of a layout stream, lengths in whole femtometres, and areas
+//! in whole square picometres.
 #![tactic(auto)]
 
 mod femto;
@@ -11,7 +12,7 @@ mod unit;
 mod value;
 
 pub use femto::{Femto, ValueFault};
-pub use micron::micron_text;
+pub use micron::{area_text, micron_text};
 pub use real::Real8;
 pub use unit::dbu_pm;
-pub use value::{parse_value, value_laws};
+pub use value::{parse_area, parse_value, value_laws};

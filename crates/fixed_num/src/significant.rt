@@ -1,14 +1,14 @@
-//! Numbers by their significant digits, made into whole femtometres.
+//! Numbers by their significant digits, made into whole ones.
 
 ghost use Rattle.std.specs.Prelude.{◌≡◌, ◌+◌, ◌*◌, ◌^◌, ◌<◌, ◌≤◌, ℕ, length, IsTrue, Some};
 ghost use Rattle.std.specs.List.{list_all};
 ghost use Rattle.std.specs.Char.{is_ascii_digit};
 ghost use Rattle.std.specs.Str.Parse.{digits_value_after};
 
-use crate::femto::{Femto, ValueFault};
+use crate::femto::ValueFault;
 
 /// A number by its digits from the first to the last that isn't 0: how many they are, what they
-/// are worth where they are 19 at most, and how many zeros follow them.
+/// are worth where they are 31 at most, and how many zeros follow them.
 #[derive(Clone, Copy)]
 pub struct Significant {
     pub count: u128,
@@ -18,7 +18,7 @@ pub struct Significant {
 }
 
 impl Significant {
-    ghost use Rattle.fixed_num.specs.Scan.{fraction, IsStripped, IsScale, Answers};
+    ghost use Rattle.fixed_num.specs.Scan.{fraction, IsStripped, IsScale, AnswersUpTo};
 
     /// No digit yet.
     pub fn zero() -> Significant
@@ -51,7 +51,7 @@ impl Significant {
             };
         }
         let count = self.count + self.zeros + 1;
-        if count > 19 {
+        if count > 31 {
             return Significant {
                 count,
                 value: 0,
@@ -82,36 +82,38 @@ impl Significant {
         number
     }
 
-    /// The number times 10^up / 10^down, in whole femtometres. A stand-in will do for a scale
-    /// beyond 2^80.
-    pub fn femtometres(self, up: u128, down: u128) -> Result<Femto, ValueFault>
+    /// The number times 10^up / 10^down, where that is whole and 10^tens at most. A stand-in will
+    /// do for a scale beyond 2^80.
+    pub fn whole(self, up: u128, down: u128, tens: u32) -> Result<u128, ValueFault>
         requires up { up < 2 ^ 100 }
         requires down { down < 2 ^ 100 }
+        requires tens { tens ≤ 30 }
         requires room { self.count + self.zeros < 2 ^ 70 }
         ensures { (m u d : ℕ) → IsStripped self.count self.value self.zeros m → IsScale up down u d
-            → Answers (Some (fraction m u d)) result }
+            → AnswersUpTo tens (Some (fraction m u d)) result }
     {
         if self.count == 0 {
-            return Ok(Femto(0));
+            return Ok(0);
         }
         let up = up + self.zeros;
+        let places = u128::from(tens) + 1;
         if up < down {
-            // Less than a femtometre is left over, behind 19 places or more where it is above
-            // 10^18.
-            if self.count + up < down + 19 {
+            // Less than one is left over, behind more than `tens` places where it is above
+            // 10^tens.
+            if self.count + up < down + places {
                 return Err(ValueFault::TooFine);
             }
             return Err(ValueFault::TooLarge);
         }
-        // 20 places are above 10^18.
-        let tens = up - down;
-        if self.count + tens > 19 {
+        // A place more than that of 10^tens is above it.
+        let shift = up - down;
+        if self.count + shift > places {
             return Err(ValueFault::TooLarge);
         }
-        let value = self.value * 10u128.pow(tens as u32);
-        if value > 1_000_000_000_000_000_000 {
+        let value = self.value * 10u128.pow(shift as u32);
+        if value > 10u128.pow(tens) {
             return Err(ValueFault::TooLarge);
         }
-        Ok(Femto(value))
+        Ok(value)
     }
 }

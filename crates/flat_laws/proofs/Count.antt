@@ -1,7 +1,12 @@
 -- A count is one number.
-use Rattle.std.proofs.Common.{◌≡◌, ◌⊎◌, inl, inr, ℕ, suc, ◌≤◌, List, [], ◌∷◌, length, refl, sym, ◌∙◌, ap, subst, arith}
-use Rattle.flat_laws.specs.GateLaws.{OneCountLaw}
-use Rattle.flat_layout.specs.Gates.{Counts, IsWide, IsLong}
+use Rattle.std.proofs.Common.{◌≡◌, ◌⊎◌, inl, inr, ℕ, suc, ◌+◌, ◌<◌, ◌≤◌, List, [], ◌∷◌, length, refl, sym, ◌∙◌, ap, subst, arith}
+use Rattle.flat_laws.specs.GateLaws.{GoodInLaw, OneCountLaw, OneSizesLaw}
+use Rattle.flat_layout.specs.Gates.{Counts, Ends, TwoGroups, Region, Form, Beside, Alone, Rule, form_of, geometry, sheets, InGate, IsBorder, IsWide, IsLong}
+use Rattle.flat_layout.specs.Layers.{InFlat}
+use Rattle.flat_layout.specs.Layout.{Design}
+use Rattle.flat_layout.specs.Parts.{IsGoodForm}
+use Rattle.flat_layout.specs.Regions.{Wiring}
+use Rattle.geo_base.specs.declared.shapes.Square.{Square}
 use Rattle.plain_netlist.specs.Lists.{IsListed, AreApart}
 
 -- a list without one of its items
@@ -29,4 +34,40 @@ count_one P m n h g =
     omega arith
 
 pub counts : OneCountLaw
-counts d w u cell s m n = (count_one (IsWide d w u cell s) m n, count_one (IsLong d w u cell s) m n)
+counts d w u cell s m n = (
+  count_one (IsWide d w u cell s) m n,
+  count_one (IsLong d w u cell s) m n,
+  count_one (InGate d (geometry w u) cell s) m n,
+  count_one (IsBorder d w u cell s) m n,
+)
+
+form_sizes : (d : Design) (w : Wiring) (u : Rule) (cell : ℕ) (s : Square) (form : Form) (a b : Ends) (m n k l : ℕ) → IsGoodForm form (sheets d w u cell) (InGate d (geometry w u) cell s) a m n
+    → IsGoodForm form (sheets d w u cell) (InGate d (geometry w u) cell s) b k l → (m ≡ k) × (n ≡ l)
+form_sizes d w u cell s Beside (TwoGroups e f) (TwoGroups x y) m n k l h g = (count_one (IsWide d w u cell s) m k h.wide g.wide, count_one (IsLong d w u cell s) n l h.long g.long)
+form_sizes d w u cell s Beside (TwoGroups e f) Region m n k l h g = absurd g
+form_sizes d w u cell s Beside Region b m n k l h g = absurd h
+form_sizes d w u cell s Alone (TwoGroups e f) b m n k l h g = absurd h
+form_sizes d w u cell s Alone Region (TwoGroups e f) m n k l h g = absurd g
+form_sizes d w u cell s Alone Region Region m n k l h g =
+    let edges = count_one (IsBorder d w u cell s) h.edges g.edges h.border g.border in
+    (count_one (InGate d (geometry w u) cell s) m k h.area g.area, h.twice ∙ ap (λ (x : ℕ). x + x) edges ∙ sym g.twice)
+
+pub one_sizes : OneSizesLaw
+one_sizes d w u cell s a b m n k l h g = form_sizes d w u cell s (form_of u.kind) a b m n k l h g
+
+-- what is counted and not none, there is one of
+some_counted : {A : Type 0} (P : A → Type 0) (n : ℕ) → Counts P n → 0 < n → (a : A) × P a
+some_counted {A = A} P n c lt = by c.all refl
+  where
+    by : (list : List A) → list ≡ c.all → (a : A) × P a
+    by [] e = let f : 0 ≡ n = ap (λ (l : List A). length l) e ∙ c.count in absurd (omega arith)
+    by (x ∷ xs) e = (x, (c.each x).1 (subst (λ l. IsListed x l) e (inl refl)))
+
+form_in : (d : Design) (w : Wiring) (u : Rule) (cell : ℕ) (s : Square) (form : Form) (ends : Ends) (m n : ℕ) → IsGoodForm form (sheets d w u cell) (InGate d (geometry w u) cell s) ends m n → InFlat d cell u.gate s
+form_in d w u cell s Beside (TwoGroups e f) m n h = (h.groups.each e (inl refl)).border.inside.from
+form_in d w u cell s Beside Region m n h = absurd h
+form_in d w u cell s Alone (TwoGroups e f) m n h = absurd h
+form_in d w u cell s Alone Region m n h = (some_counted (InGate d (geometry w u) cell s) m h.area h.some).1.from
+
+pub good_in : GoodInLaw
+good_in d w u cell s ends m n h = form_in d w u cell s (form_of u.kind) ends m n h

@@ -28,7 +28,7 @@ flat_netlist d w t g nl rules unit height x n num =
     let lower = x.tables.lower in
     record {
       each = whole.devices.each;
-      found = λ r u s e f v l rule is form. whole.devices.found r u s e f v l rule (top_settled d (geometry w u) height lower s is) form;
+      found = λ r u s ends v l rule is form. whole.devices.found r u s ends v l rule (top_settled d (geometry w u) height lower s is) form;
       once = whole.devices.once;
       nets = λ a b m k ta tb sa sb.
           let same = whole.nets a b m k ta tb sa sb in

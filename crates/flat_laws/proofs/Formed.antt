@@ -3,10 +3,10 @@ use Rattle.std.proofs.Common.{◌≡◌, ◌↔◌, inl, inr, ℕ, max, ◌≤�
 use Rattle.std.proofs.Math.Nat.{le-max_left, le-max_right}
 use Rattle.std.proofs.lemmas.List.{length-map}
 use Rattle.flat_laws.specs.GateLaws.{IsReadWhole, KeptFormLaw, ReadLayersLaw}
-use Rattle.flat_layout.specs.Gates.{Rule, Geometry, geometry, gate_inputs, IsReadBy, IsStep, InGate, IsGateOrRing, InRing, IsSettled, InSide, InOneGroup, Edge, IsBorder, IsWide, IsLong, AreGroups, IsGoodGate, IsTerminalNode, Cause, Groups, OffGate, OffSd, NoBulk, NoLength, IsBadGate, moved_edge}
+use Rattle.flat_layout.specs.Gates.{Rule, Geometry, geometry, gate_inputs, IsReadBy, IsStep, InGate, IsGateOrRing, InRing, IsSettled, InSide, InOneGroup, Edge, IsBorder, IsWide, IsLong, AreGroups, IsGoodGate, IsTerminalNode, Cause, Groups, OffGate, OffSd, NoBulk, NoLength, IsBadGate, Ends, TwoGroups, Region, Form, Beside, Alone, Kind, Mos, Resistor, Diode, form_of, gate_sheet, sheets, IsRegionNode, IsGroupNode, IsGateNode, moved_edge, moved_ends}
 use Rattle.flat_layout.specs.Layers.{Formula, inputs, reach, InFlat}
 use Rattle.flat_layout.specs.Layout.{Place, Design, Some_of, IsPlaced, IsReached}
-use Rattle.flat_layout.specs.Parts.{AllOn, SomeOff, InEnds}
+use Rattle.flat_layout.specs.Parts.{AllOn, SomeOff, InEnds, IsGoodPart, IsBadPart, IsGoodArea, IsBadArea, IsGoodForm, IsBadForm}
 use Rattle.flat_layout.specs.Regions.{Wiring, Node, At, Ground, moved, formula}
 use Rattle.geo_base.specs.declared.layer.LayerKey.{LayerKey}
 use Rattle.geo_base.specs.Motions.{moved_square}
@@ -220,8 +220,19 @@ module _ (d : Design) (w : Wiring) (u : Rule) (cell k : ℕ) (p : Place) (s : Sq
       let side = in_side e.outer q g.via (side_of e v) g.chain in
       (same name inside q side.ring.close).0 (h (f q) ((groups e.outer q).1 g))
 
-  pub good : (e g : Edge) (m n : ℕ) → IsGoodGate d w u p.cell s e g m n → IsGoodGate d w u cell (f s) (both_ends e) (both_ends g) m n
-  good e g m n h =
+  -- the squares of the gate on the sheet of the rule's kind
+  sheet_on : (k : Kind) → AllOn (InGate d geo p.cell s) (gate_sheet k (InFlat d p.cell (formula w u.tg))) → AllOn (InGate d geo cell (f s)) (gate_sheet k (InFlat d cell (formula w u.tg)))
+  sheet_on Mos h = all_on (formula w u.tg) whole.tg h
+  sheet_on Resistor h = λ q i. tt
+  sheet_on Diode h = λ q i. tt
+
+  sheet_back : (k : Kind) → AllOn (InGate d geo cell (f s)) (gate_sheet k (InFlat d cell (formula w u.tg))) → AllOn (InGate d geo p.cell s) (gate_sheet k (InFlat d p.cell (formula w u.tg)))
+  sheet_back Mos h = all_back (formula w u.tg) whole.tg h
+  sheet_back Resistor h = λ q i. tt
+  sheet_back Diode h = λ q i. tt
+
+  good_part : (e g : Edge) (m n : ℕ) → IsGoodPart (sheets d w u p.cell) (InGate d geo p.cell s) e g m n → IsGoodPart (sheets d w u cell) (InGate d geo cell (f s)) (both_ends e) (both_ends g) m n
+  good_part e g m n h =
       let first = h.groups.each e (inl refl) in
       let second = h.groups.each g (inr (inl refl)) in
       record {
@@ -229,13 +240,33 @@ module _ (d : Design) (w : Wiring) (u : Rule) (cell k : ℕ) (p : Place) (s : Sq
         wide = counts_map both_ends one_edge (IsWide d w u p.cell s) (IsWide d w u cell (f s)) wide onto_edge m h.wide;
         long = counts_map both_ends one_edge (IsLong d w u p.cell s) (IsLong d w u cell (f s)) long onto_edge n h.long;
         some = h.some;
-        gate_on = all_on (formula w u.tg) whole.tg h.gate_on;
+        gate_on = sheet_on u.kind h.gate_on;
         ends_on = λ q i. elim i [
           | inl a ↦ end_on (formula w u.ts) whole.ts e first (λ r k. h.ends_on r (inl k)) q a
           | inr a ↦ end_on (formula w u.ts) whole.ts g second (λ r k. h.ends_on r (inr k)) q a
         ];
         bulk_on = λ none. all_on (formula w u.tb) whole.tb (h.bulk_on none);
       }
+
+  good_area : (m n : ℕ) → IsGoodArea (sheets d w u p.cell) (InGate d geo p.cell s) m n → IsGoodArea (sheets d w u cell) (InGate d geo cell (f s)) m n
+  good_area m n h = record {
+    area = counts_map f ones (InGate d geo p.cell s) (InGate d geo cell (f s)) members (onto p.motion) m h.area;
+    some = h.some;
+    edges = h.edges;
+    border = counts_map both_ends one_edge (IsBorder d w u p.cell s) (IsBorder d w u cell (f s)) border onto_edge h.edges h.border;
+    twice = h.twice;
+    ends_on = λ free. all_on (formula w u.ts) whole.ts (h.ends_on free);
+    bulk_on = λ none. all_on (formula w u.tb) whole.tb (h.bulk_on none);
+  }
+
+  good_form : (form : Form) (ends : Ends) (m n : ℕ) → IsGoodForm form (sheets d w u p.cell) (InGate d geo p.cell s) ends m n → IsGoodForm form (sheets d w u cell) (InGate d geo cell (f s)) (moved_ends p.motion ends) m n
+  good_form Beside (TwoGroups e g) m n h = good_part e g m n h
+  good_form Beside Region m n h = absurd h
+  good_form Alone (TwoGroups e g) m n h = absurd h
+  good_form Alone Region m n h = good_area m n h
+
+  pub good : (ends : Ends) (m n : ℕ) → IsGoodGate d w u p.cell s ends m n → IsGoodGate d w u cell (f s) (moved_ends p.motion ends) m n
+  good ends m n h = good_form (form_of u.kind) ends m n h
 
   -- the edge that an edge is the image of
   abbrev pulled : Edge → Edge
@@ -268,9 +299,9 @@ module _ (d : Design) (w : Wiring) (u : Rule) (cell k : ℕ) (p : Place) (s : Sq
         (subst (λ (y : Edge). InOneGroup d w u cell (f s) a.outer y.outer) (sym (onto_edge b).1) h))),
   )
 
-  pub good_back : (e g : Edge) (m n : ℕ) → IsGoodGate d w u cell (f s) (both_ends e) (both_ends g) m n → IsGoodGate d w u p.cell s e g m n
+  part_back : (e g : Edge) (m n : ℕ) → IsGoodPart (sheets d w u cell) (InGate d geo cell (f s)) (both_ends e) (both_ends g) m n → IsGoodPart (sheets d w u p.cell) (InGate d geo p.cell s) e g m n
   unfolding pulled_onto
-  good_back e g m n h =
+  part_back e g m n h =
       let first = (wide e).0 (h.groups.each (both_ends e) (inl refl)) in
       let second = (wide g).0 (h.groups.each (both_ends g) (inr (inl refl))) in
       let list = classes_map pulled pulled_one (IsWide d w u cell (f s)) (IsWide d w u p.cell s) (λ a b. InOneGroup d w u cell (f s) a.outer b.outer) (λ a b. InOneGroup d w u p.cell s a.outer b.outer) pulled_wide pulled_group pulled_onto (both_ends e ∷ (both_ends g ∷ [])) h.groups in
@@ -281,13 +312,63 @@ module _ (d : Design) (w : Wiring) (u : Rule) (cell k : ℕ) (p : Place) (s : Sq
         wide = counts_map pulled pulled_one (IsWide d w u cell (f s)) (IsWide d w u p.cell s) pulled_wide pulled_onto m h.wide;
         long = counts_map pulled pulled_one (IsLong d w u cell (f s)) (IsLong d w u p.cell s) pulled_long pulled_onto n h.long;
         some = h.some;
-        gate_on = all_back (formula w u.tg) whole.tg h.gate_on;
+        gate_on = sheet_back u.kind h.gate_on;
         ends_on = λ q i. elim i [
           | inl a ↦ end_back (formula w u.ts) whole.ts e first (λ r k. h.ends_on r (inl k)) q a
           | inr a ↦ end_back (formula w u.ts) whole.ts g second (λ r k. h.ends_on r (inr k)) q a
         ];
         bulk_on = λ none. all_back (formula w u.tb) whole.tb (h.bulk_on none);
       }
+
+  -- the square that a square is the image of
+  abbrev pulled_square : Square → Square
+  pulled_square b = (onto p.motion b).0
+
+  square_one : (a b : Square) → pulled_square a ≡ pulled_square b → a ≡ b
+  square_one a b e = sym (onto p.motion a).1 ∙ ap f e ∙ (onto p.motion b).1
+
+  square_onto : (a : Square) → (b : Square) × (pulled_square b ≡ a)
+  square_onto a = (f a, ones (pulled_square (f a)) a (onto p.motion (f a)).1)
+
+  pulled_member : (b : Square) → InGate d geo p.cell s (pulled_square b) ↔ InGate d geo cell (f s) b
+  pulled_member b = (
+    (λ h. subst (λ y. InGate d geo cell (f s) y) (onto p.motion b).1 ((members (pulled_square b)).1 h)),
+    (λ h. (members (pulled_square b)).0 (subst (λ y. InGate d geo cell (f s) y) (sym (onto p.motion b).1) h)),
+  )
+
+  pulled_border : (b : Edge) → IsBorder d w u p.cell s (pulled b) ↔ IsBorder d w u cell (f s) b
+  pulled_border b = (
+    (λ h. subst (λ y. IsBorder d w u cell (f s) y) (onto_edge b).1 ((border (pulled b)).1 h)),
+    (λ h. (border (pulled b)).0 (subst (λ y. IsBorder d w u cell (f s) y) (sym (onto_edge b).1) h)),
+  )
+
+  area_back : (m n : ℕ) → IsGoodArea (sheets d w u cell) (InGate d geo cell (f s)) m n → IsGoodArea (sheets d w u p.cell) (InGate d geo p.cell s) m n
+  area_back m n h = record {
+    area = counts_map pulled_square square_one (InGate d geo cell (f s)) (InGate d geo p.cell s) pulled_member square_onto m h.area;
+    some = h.some;
+    edges = h.edges;
+    border = counts_map pulled pulled_one (IsBorder d w u cell (f s)) (IsBorder d w u p.cell s) pulled_border pulled_onto h.edges h.border;
+    twice = h.twice;
+    ends_on = λ free. all_back (formula w u.ts) whole.ts (h.ends_on free);
+    bulk_on = λ none. all_back (formula w u.tb) whole.tb (h.bulk_on none);
+  }
+
+  form_back : (form : Form) (ends : Ends) (m n : ℕ) → IsGoodForm form (sheets d w u cell) (InGate d geo cell (f s)) (moved_ends p.motion ends) m n → IsGoodForm form (sheets d w u p.cell) (InGate d geo p.cell s) ends m n
+  form_back Beside (TwoGroups e g) m n h = part_back e g m n h
+  form_back Beside Region m n h = absurd h
+  form_back Alone (TwoGroups e g) m n h = absurd h
+  form_back Alone Region m n h = area_back m n h
+
+  pub good_back : (ends : Ends) (m n : ℕ) → IsGoodGate d w u cell (f s) (moved_ends p.motion ends) m n → IsGoodGate d w u p.cell s ends m n
+  good_back ends m n h = form_back (form_of u.kind) ends m n h
+
+  -- the ends that ends are the image of
+  pub onto_ends : (b : Ends) → (a : Ends) × (moved_ends p.motion a ≡ b)
+  onto_ends (TwoGroups e g) =
+      let i = onto_edge e in
+      let j = onto_edge g in
+      (TwoGroups i.0 j.0, ap (λ (x : Edge). TwoGroups x (both_ends j.0)) i.1 ∙ ap (λ (x : Edge). TwoGroups e x) j.1)
+  onto_ends Region = (Region, refl)
 
   same_groups : (list : List Edge) → AreGroups d w u p.cell s list → AreGroups d w u cell (f s) (map both_ends list)
   same_groups list h = classes_map both_ends one_edge (IsWide d w u p.cell s) (IsWide d w u cell (f s)) (λ a b. InOneGroup d w u p.cell s a.outer b.outer) (λ a b. InOneGroup d w u cell (f s) a.outer b.outer) wide (λ a b. groups a.outer b.outer) onto_edge list h
@@ -310,34 +391,85 @@ module _ (d : Design) (w : Wiring) (u : Rule) (cell k : ℕ) (p : Place) (s : Sq
   ends_off e g two (q, inl i, not) = (f q, inl ((groups e.outer q).1 i), off_end e q (two.each e (inl refl)) i not)
   ends_off e g two (q, inr i, not) = (f q, inr ((groups g.outer q).1 i), off_end g q (two.each g (inr (inl refl))) i not)
 
-  pub bad : (c : Cause) → IsBadGate d w u p.cell s c → IsBadGate d w u cell (f s) c
-  bad (Groups count) (list, h, long, not) = (map both_ends list, same_groups list h, length-map list both_ends ∙ long, not)
-  bad OffGate (e, g, h, off) = (both_ends e, both_ends g, same_groups (e ∷ (g ∷ [])) h, gate_off u.tg whole.tg off)
-  bad OffSd (e, g, h, tg, off) = (both_ends e, both_ends g, same_groups (e ∷ (g ∷ [])) h, all_on (formula w u.tg) whole.tg tg, ends_off e g h off)
-  bad NoBulk (e, g, h, tg, ts, none, off) = (both_ends e, both_ends g, same_groups (e ∷ (g ∷ [])) h, all_on (formula w u.tg) whole.tg tg, ends_on e g h ts, none, gate_off u.tb whole.tb off)
-  bad NoLength (e, g, h, tg, ts, tb, zero_long) = (
+  sheet_off : (k : Kind) → SomeOff (InGate d geo p.cell s) (gate_sheet k (InFlat d p.cell (formula w u.tg))) → SomeOff (InGate d geo cell (f s)) (gate_sheet k (InFlat d cell (formula w u.tg)))
+  sheet_off Mos h = gate_off u.tg whole.tg h
+  sheet_off Resistor (q, i, not) = absurd (not tt)
+  sheet_off Diode (q, i, not) = absurd (not tt)
+
+  bad_part : (c : Cause) → IsBadPart (sheets d w u p.cell) (InGate d geo p.cell s) c → IsBadPart (sheets d w u cell) (InGate d geo cell (f s)) c
+  bad_part (Groups count) (list, h, long, not) = (map both_ends list, same_groups list h, length-map list both_ends ∙ long, not)
+  bad_part OffGate (e, g, h, off) = (both_ends e, both_ends g, same_groups (e ∷ (g ∷ [])) h, sheet_off u.kind off)
+  bad_part OffSd (e, g, h, tg, off) = (both_ends e, both_ends g, same_groups (e ∷ (g ∷ [])) h, sheet_on u.kind tg, ends_off e g h off)
+  bad_part NoBulk (e, g, h, tg, ts, none, off) = (both_ends e, both_ends g, same_groups (e ∷ (g ∷ [])) h, sheet_on u.kind tg, ends_on e g h ts, none, gate_off u.tb whole.tb off)
+  bad_part NoLength (e, g, h, tg, ts, tb, zero_long) = (
     both_ends e,
     both_ends g,
     same_groups (e ∷ (g ∷ [])) h,
-    all_on (formula w u.tg) whole.tg tg,
+    sheet_on u.kind tg,
     ends_on e g h ts,
     (λ none. all_on (formula w u.tb) whole.tb (tb none)),
     counts_map both_ends one_edge (IsLong d w u p.cell s) (IsLong d w u cell (f s)) long onto_edge 0 zero_long,
   )
 
-  pub pole_up : (e g : Edge) (pole : Pole) (n : Node) → IsTerminalNode d w u p.cell s e g pole n → IsTerminalNode d w u cell (f s) (both_ends e) (both_ends g) pole (moved p.motion n)
-  pole_up e g Source n h = (f h.0, (groups e.outer h.0).1 h.1, ap (moved p.motion) h.2)
-  pole_up e g Drain n h = (f h.0, (groups g.outer h.0).1 h.1, ap (moved p.motion) h.2)
-  pole_up e g Gate n h = (f h.0, gates_up h.0 h.1, ap (moved p.motion) h.2)
-  pole_up e g Bulk n (inl h) = inl (h.0, h.1, ap (moved p.motion) h.2)
-  pole_up e g Bulk n (inr h) = inr (h.0, (f h.1.0, gates_up h.1.0 h.1.1, ap (moved p.motion) h.1.2))
+  bad_area : (c : Cause) → IsBadArea (sheets d w u p.cell) (InGate d geo p.cell s) c → IsBadArea (sheets d w u cell) (InGate d geo cell (f s)) c
+  bad_area (Groups count) h = h
+  bad_area OffGate h = h
+  bad_area OffSd (free, off) = (free, gate_off u.ts whole.ts off)
+  bad_area NoBulk (on, none, off) = ((λ free. all_on (formula w u.ts) whole.ts (on free)), none, gate_off u.tb whole.tb off)
+  bad_area NoLength h = h
 
-  pub pole_down : (e g : Edge) (pole : Pole) (n : Node) → IsTerminalNode d w u cell (f s) (both_ends e) (both_ends g) pole n → (m : Node) × (moved p.motion m ≡ n) × IsTerminalNode d w u p.cell s e g pole m
-  pole_down e g Source n h = let r = onto p.motion h.0 in (At u.ts r.0, ap (At u.ts) r.1 ∙ h.2, (r.0, (groups e.outer r.0).0 (subst (λ y. InOneGroup d w u cell (f s) (f e.outer) y) (sym r.1) h.1), refl))
-  pole_down e g Drain n h = let r = onto p.motion h.0 in (At u.ts r.0, ap (At u.ts) r.1 ∙ h.2, (r.0, (groups g.outer r.0).0 (subst (λ y. InOneGroup d w u cell (f s) (f g.outer) y) (sym r.1) h.1), refl))
-  pole_down e g Gate n h = let r = gates_down h.0 h.1 in (At u.tg r.0, ap (At u.tg) r.1 ∙ h.2, (r.0, r.2, refl))
-  pole_down e g Bulk n (inl h) = (Ground h.0, h.2, inl (h.0, h.1, refl))
-  pole_down e g Bulk n (inr h) = let r = gates_down h.1.0 h.1.1 in (At u.tb r.0, ap (At u.tb) r.1 ∙ h.1.2, inr (h.0, (r.0, r.2, refl)))
+  bad_form : (form : Form) (c : Cause) → IsBadForm form (sheets d w u p.cell) (InGate d geo p.cell s) c → IsBadForm form (sheets d w u cell) (InGate d geo cell (f s)) c
+  bad_form Beside c h = bad_part c h
+  bad_form Alone c h = bad_area c h
+
+  pub bad : (c : Cause) → IsBadGate d w u p.cell s c → IsBadGate d w u cell (f s) c
+  bad c h = bad_form (form_of u.kind) c h
+
+  -- ---- terminals
+
+  group_up : (e : Edge) (n : Node) → IsGroupNode d w u p.cell s e n → IsGroupNode d w u cell (f s) (both_ends e) (moved p.motion n)
+  group_up e n h = (f h.0, (groups e.outer h.0).1 h.1, ap (moved p.motion) h.2)
+
+  region_up : (c : ℕ) (n : Node) → IsRegionNode d w u p.cell s c n → IsRegionNode d w u cell (f s) c (moved p.motion n)
+  region_up c n (inl h) = inl (h.0, h.1, ap (moved p.motion) h.2)
+  region_up c n (inr h) = inr (h.0, (f h.1.0, gates_up h.1.0 h.1.1, ap (moved p.motion) h.1.2))
+
+  gate_node_up : (k : Kind) (n : Node) → IsGateNode k d w u p.cell s n → IsGateNode k d w u cell (f s) (moved p.motion n)
+  gate_node_up Mos n h = (f h.0, gates_up h.0 h.1, ap (moved p.motion) h.2)
+  gate_node_up Resistor n h = region_up u.tb n h
+  gate_node_up Diode n h = region_up u.tb n h
+
+  pub pole_up : (ends : Ends) (pole : Pole) (n : Node) → IsTerminalNode d w u p.cell s ends pole n → IsTerminalNode d w u cell (f s) (moved_ends p.motion ends) pole (moved p.motion n)
+  pole_up (TwoGroups e g) Source n h = group_up e n h
+  pole_up (TwoGroups e g) Drain n h = group_up g n h
+  pole_up (TwoGroups e g) Gate n h = gate_node_up u.kind n h
+  pole_up (TwoGroups e g) Bulk n h = region_up u.tb n h
+  pole_up Region Source n h = region_up u.ts n h
+  pole_up Region Drain n h = region_up u.ts n h
+  pole_up Region Gate n h = gate_node_up u.kind n h
+  pole_up Region Bulk n h = region_up u.tb n h
+
+  group_down : (e : Edge) (n : Node) → IsGroupNode d w u cell (f s) (both_ends e) n → (m : Node) × (moved p.motion m ≡ n) × IsGroupNode d w u p.cell s e m
+  group_down e n h = let r = onto p.motion h.0 in (At u.ts r.0, ap (At u.ts) r.1 ∙ h.2, (r.0, (groups e.outer r.0).0 (subst (λ y. InOneGroup d w u cell (f s) (f e.outer) y) (sym r.1) h.1), refl))
+
+  region_down : (c : ℕ) (n : Node) → IsRegionNode d w u cell (f s) c n → (m : Node) × (moved p.motion m ≡ n) × IsRegionNode d w u p.cell s c m
+  region_down c n (inl h) = (Ground h.0, h.2, inl (h.0, h.1, refl))
+  region_down c n (inr h) = let r = gates_down h.1.0 h.1.1 in (At c r.0, ap (At c) r.1 ∙ h.1.2, inr (h.0, (r.0, r.2, refl)))
+
+  gate_node_down : (k : Kind) (n : Node) → IsGateNode k d w u cell (f s) n → (m : Node) × (moved p.motion m ≡ n) × IsGateNode k d w u p.cell s m
+  gate_node_down Mos n h = let r = gates_down h.0 h.1 in (At u.tg r.0, ap (At u.tg) r.1 ∙ h.2, (r.0, r.2, refl))
+  gate_node_down Resistor n h = region_down u.tb n h
+  gate_node_down Diode n h = region_down u.tb n h
+
+  pub pole_down : (ends : Ends) (pole : Pole) (n : Node) → IsTerminalNode d w u cell (f s) (moved_ends p.motion ends) pole n → (m : Node) × (moved p.motion m ≡ n) × IsTerminalNode d w u p.cell s ends pole m
+  pole_down (TwoGroups e g) Source n h = group_down e n h
+  pole_down (TwoGroups e g) Drain n h = group_down g n h
+  pole_down (TwoGroups e g) Gate n h = gate_node_down u.kind n h
+  pole_down (TwoGroups e g) Bulk n h = region_down u.tb n h
+  pole_down Region Source n h = region_down u.ts n h
+  pole_down Region Drain n h = region_down u.ts n h
+  pole_down Region Gate n h = gate_node_down u.kind n h
+  pole_down Region Bulk n h = region_down u.tb n h
 
 pub kept_form : KeptFormLaw
 kept_form d w u cell k p s reached placed settled = record {
@@ -345,6 +477,8 @@ kept_form d w u cell k p s reached placed settled = record {
   groups = groups d w u cell k p s reached placed settled;
   wide = λ n c. counts_map (moved_edge p.motion) (one_edge d w u cell k p s reached placed settled) (IsWide d w u p.cell s) (IsWide d w u cell (moved_square p.motion s)) (wide d w u cell k p s reached placed settled) (onto_edge d w u cell k p s reached placed settled) n c;
   long = λ n c. counts_map (moved_edge p.motion) (one_edge d w u cell k p s reached placed settled) (IsLong d w u p.cell s) (IsLong d w u cell (moved_square p.motion s)) (long d w u cell k p s reached placed settled) (onto_edge d w u cell k p s reached placed settled) n c;
+  area = λ n c. counts_map (moved_square p.motion) (ones d w u cell k p s reached placed settled) (InGate d (geometry w u) p.cell s) (InGate d (geometry w u) cell (moved_square p.motion s)) (members d w u cell k p s reached placed settled) (onto p.motion) n c;
+  border = λ n c. counts_map (moved_edge p.motion) (one_edge d w u cell k p s reached placed settled) (IsBorder d w u p.cell s) (IsBorder d w u cell (moved_square p.motion s)) (border d w u cell k p s reached placed settled) (onto_edge d w u cell k p s reached placed settled) n c;
   good = good d w u cell k p s reached placed settled;
   good_back = good_back d w u cell k p s reached placed settled;
   bad = bad d w u cell k p s reached placed settled;

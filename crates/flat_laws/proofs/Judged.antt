@@ -2,8 +2,8 @@
 use Rattle.std.proofs.Common.{◌≡◌, ◌⊎◌, inl, inr, ℕ, suc, ◌≤◌, List, [], ◌∷◌, length, refl, sym, ◌∙◌, ap, subst, arith}
 use Rattle.geo_base.specs.declared.shapes.Square.{Square}
 use Rattle.flat_laws.specs.GateLaws.{CauseAlongLaw, NotBothLaw, OneCauseLaw}
-use Rattle.flat_layout.specs.Gates.{Rule, geometry, Groups, OffGate, OffSd, NoBulk, NoLength, Edge, AreClasses, AreGroups, IsStep, InSide, InOneGroup, IsWide, IsBadGate, InGate}
-use Rattle.flat_layout.specs.Parts.{AllOn, SomeOff, InEnds}
+use Rattle.flat_layout.specs.Gates.{Rule, geometry, Cause, Groups, OffGate, OffSd, NoBulk, NoLength, Edge, Ends, TwoGroups, Region, Form, Beside, Alone, form_of, gate_sheet, sheets, AreClasses, AreGroups, IsStep, InSide, InOneGroup, IsWide, IsBadGate, InGate}
+use Rattle.flat_layout.specs.Parts.{AllOn, SomeOff, InEnds, IsGoodPart, IsBadPart, IsGoodArea, IsBadArea, IsGoodForm, IsBadForm}
 use Rattle.flat_layout.specs.Layout.{Design}
 use Rattle.flat_layout.specs.Layers.{InFlat}
 use Rattle.flat_layout.specs.Regions.{Wiring, formula}
@@ -89,8 +89,18 @@ module _ (d : Design) (w : Wiring) (u : Rule) (cell : ℕ) (s : Square) where
           pick z (inr (inl i)) k = inr (subst (λ (v : Edge). InOneGroup d w u cell s v.outer q) i k)
           pick z (inr (inr i)) k = absurd i
 
-  on_off : (c : ℕ) → AllOn (InGate d (geometry w u) cell s) (InFlat d cell (formula w c)) → SomeOff (InGate d (geometry w u) cell s) (InFlat d cell (formula w c)) → ⊥
-  on_off c h k = k.2 (h k.0 k.1)
+  on_off : (set : Square → Type 0) → AllOn (InGate d (geometry w u) cell s) set → SomeOff (InGate d (geometry w u) cell s) set → ⊥
+  on_off set h k = k.2 (h k.0 k.1)
+
+  -- the sets that the gate, the ends and the bulk are to be on
+  abbrev on_tg : Square → Type 0
+  on_tg = gate_sheet u.kind (InFlat d cell (formula w u.tg))
+
+  abbrev on_ts : Square → Type 0
+  on_ts = InFlat d cell (formula w u.ts)
+
+  abbrev on_tb : Square → Type 0
+  on_tb = InFlat d cell (formula w u.tb)
 
   ends_clash : (e f a b : Edge) → AreGroups d w u cell s (e ∷ (f ∷ [])) → AreGroups d w u cell s (a ∷ (b ∷ [])) → AllOn (InEnds (InGate d (geometry w u) cell s) (InFlat d cell u.sd) a b) (InFlat d cell (formula w u.ts)) → SomeOff (InEnds (InGate d (geometry w u) cell s) (InFlat d cell u.sd) e f) (InFlat d cell (formula w u.ts)) → ⊥
   ends_clash e f a b x y h k = k.2 (h k.0 (ends_same e f a b x y k.0 k.1))
@@ -98,39 +108,77 @@ module _ (d : Design) (w : Wiring) (u : Rule) (cell : ℕ) (s : Square) where
   many : (l : List Edge) (e f : Edge) (count : ℕ) → AreGroups d w u cell s l → length l ≡ count → (count ≡ 2 → ⊥) → AreGroups d w u cell s (e ∷ (f ∷ [])) → ⊥
   many l e f count x long apart2 y = let h = as_many l (e ∷ (f ∷ [])) x y in apart2 (sym long ∙ h)
 
+  not_both_part : (e f : Edge) (m n : ℕ) (c : Cause) → IsGoodPart (sheets d w u cell) (InGate d (geometry w u) cell s) e f m n → IsBadPart (sheets d w u cell) (InGate d (geometry w u) cell s) c → ⊥
+  not_both_part e f m n (Groups count) form (l, x, long, apart2) = many l e f count x long apart2 form.groups
+  not_both_part e f m n OffGate form (a, b, x, off) = on_off on_tg form.gate_on off
+  not_both_part e f m n OffSd form (a, b, x, gate, off) = ends_clash a b e f x form.groups form.ends_on off
+  not_both_part e f m n NoBulk form (a, b, x, gate, ends, none, off) = on_off on_tb (form.bulk_on none) off
+  not_both_part e f m n NoLength form (a, b, x, gate, ends, bulk, none) = let h = (counts d w u cell s n 0).1 form.long none in let k = form.some in absurd (omega arith)
+
+  one_part : (a b : Cause) → IsBadPart (sheets d w u cell) (InGate d (geometry w u) cell s) a → IsBadPart (sheets d w u cell) (InGate d (geometry w u) cell s) b → a ≡ b
+  one_part (Groups m) (Groups n) (l, x, long, apart2) (k, y, far, not) = let h = as_many l k x y in ap Groups (sym long ∙ (h ∙ far))
+  one_part (Groups m) OffGate (l, x, long, apart2) k = absurd (many l k.0 k.1 m x long apart2 k.2)
+  one_part (Groups m) OffSd (l, x, long, apart2) k = absurd (many l k.0 k.1 m x long apart2 k.2)
+  one_part (Groups m) NoBulk (l, x, long, apart2) k = absurd (many l k.0 k.1 m x long apart2 k.2)
+  one_part (Groups m) NoLength (l, x, long, apart2) k = absurd (many l k.0 k.1 m x long apart2 k.2)
+  one_part OffGate (Groups m) k (l, x, long, apart2) = absurd (many l k.0 k.1 m x long apart2 k.2)
+  one_part OffSd (Groups m) k (l, x, long, apart2) = absurd (many l k.0 k.1 m x long apart2 k.2)
+  one_part NoBulk (Groups m) k (l, x, long, apart2) = absurd (many l k.0 k.1 m x long apart2 k.2)
+  one_part NoLength (Groups m) k (l, x, long, apart2) = absurd (many l k.0 k.1 m x long apart2 k.2)
+  one_part OffGate OffGate h k = refl
+  one_part OffSd OffSd h k = refl
+  one_part NoBulk NoBulk h k = refl
+  one_part NoLength NoLength h k = refl
+  one_part OffGate OffSd h k = absurd (on_off on_tg k.3 h.3)
+  one_part OffGate NoBulk h k = absurd (on_off on_tg k.3 h.3)
+  one_part OffGate NoLength h k = absurd (on_off on_tg k.3 h.3)
+  one_part OffSd OffGate h k = absurd (on_off on_tg h.3 k.3)
+  one_part NoBulk OffGate h k = absurd (on_off on_tg h.3 k.3)
+  one_part NoLength OffGate h k = absurd (on_off on_tg h.3 k.3)
+  one_part OffSd NoBulk h k = absurd (ends_clash h.0 h.1 k.0 k.1 h.2 k.2 k.4 h.4)
+  one_part OffSd NoLength h k = absurd (ends_clash h.0 h.1 k.0 k.1 h.2 k.2 k.4 h.4)
+  one_part NoBulk OffSd h k = absurd (ends_clash k.0 k.1 h.0 h.1 k.2 h.2 h.4 k.4)
+  one_part NoLength OffSd h k = absurd (ends_clash k.0 k.1 h.0 h.1 k.2 h.2 h.4 k.4)
+  one_part NoBulk NoLength h k = absurd (on_off on_tb (k.5 h.5) h.6)
+  one_part NoLength NoBulk h k = absurd (on_off on_tb (h.5 k.5) k.6)
+
+  not_both_area : (m n : ℕ) (c : Cause) → IsGoodArea (sheets d w u cell) (InGate d (geometry w u) cell s) m n → IsBadArea (sheets d w u cell) (InGate d (geometry w u) cell s) c → ⊥
+  not_both_area m n (Groups count) form h = h
+  not_both_area m n OffGate form h = h
+  not_both_area m n OffSd form (free, off) = on_off on_ts (form.ends_on free) off
+  not_both_area m n NoBulk form (ends, none, off) = on_off on_tb (form.bulk_on none) off
+  not_both_area m n NoLength form h = h
+
+  one_area : (a b : Cause) → IsBadArea (sheets d w u cell) (InGate d (geometry w u) cell s) a → IsBadArea (sheets d w u cell) (InGate d (geometry w u) cell s) b → a ≡ b
+  one_area (Groups m) b h k = absurd h
+  one_area OffGate b h k = absurd h
+  one_area NoLength b h k = absurd h
+  one_area OffSd (Groups m) h k = absurd k
+  one_area OffSd OffGate h k = absurd k
+  one_area OffSd NoLength h k = absurd k
+  one_area OffSd OffSd h k = refl
+  one_area OffSd NoBulk h k = absurd (on_off on_ts (k.0 h.0) h.1)
+  one_area NoBulk (Groups m) h k = absurd k
+  one_area NoBulk OffGate h k = absurd k
+  one_area NoBulk NoLength h k = absurd k
+  one_area NoBulk OffSd h k = absurd (on_off on_ts (h.0 k.0) k.1)
+  one_area NoBulk NoBulk h k = refl
+
+  not_both_form : (form : Form) (ends : Ends) (m n : ℕ) (c : Cause) → IsGoodForm form (sheets d w u cell) (InGate d (geometry w u) cell s) ends m n → IsBadForm form (sheets d w u cell) (InGate d (geometry w u) cell s) c → ⊥
+  not_both_form Beside (TwoGroups e f) m n c h k = not_both_part e f m n c h k
+  not_both_form Beside Region m n c h k = h
+  not_both_form Alone (TwoGroups e f) m n c h k = h
+  not_both_form Alone Region m n c h k = not_both_area m n c h k
+
+  one_form : (form : Form) (a b : Cause) → IsBadForm form (sheets d w u cell) (InGate d (geometry w u) cell s) a → IsBadForm form (sheets d w u cell) (InGate d (geometry w u) cell s) b → a ≡ b
+  one_form Beside a b h k = one_part a b h k
+  one_form Alone a b h k = one_area a b h k
+
 pub not_both : NotBothLaw
-not_both d w u cell s e f m n (Groups count) form (l, x, long, apart2) = many d w u cell s l e f count x long apart2 form.groups
-not_both d w u cell s e f m n OffGate form (a, b, x, off) = on_off d w u cell s u.tg form.gate_on off
-not_both d w u cell s e f m n OffSd form (a, b, x, gate, off) = ends_clash d w u cell s a b e f x form.groups form.ends_on off
-not_both d w u cell s e f m n NoBulk form (a, b, x, gate, ends, none, off) = on_off d w u cell s u.tb (form.bulk_on none) off
-not_both d w u cell s e f m n NoLength form (a, b, x, gate, ends, bulk, none) = let h = (counts d w u cell s n 0).1 form.long none in let k = form.some in absurd (omega arith)
+not_both d w u cell s ends m n c h k = not_both_form d w u cell s (form_of u.kind) ends m n c h k
 
 pub one_cause : OneCauseLaw
-one_cause d w u cell s (Groups m) (Groups n) (l, x, long, apart2) (k, y, far, not) = let h = as_many d w u cell s l k x y in ap Groups (sym long ∙ (h ∙ far))
-one_cause d w u cell s (Groups m) OffGate (l, x, long, apart2) k = absurd (many d w u cell s l k.0 k.1 m x long apart2 k.2)
-one_cause d w u cell s (Groups m) OffSd (l, x, long, apart2) k = absurd (many d w u cell s l k.0 k.1 m x long apart2 k.2)
-one_cause d w u cell s (Groups m) NoBulk (l, x, long, apart2) k = absurd (many d w u cell s l k.0 k.1 m x long apart2 k.2)
-one_cause d w u cell s (Groups m) NoLength (l, x, long, apart2) k = absurd (many d w u cell s l k.0 k.1 m x long apart2 k.2)
-one_cause d w u cell s OffGate (Groups m) k (l, x, long, apart2) = absurd (many d w u cell s l k.0 k.1 m x long apart2 k.2)
-one_cause d w u cell s OffSd (Groups m) k (l, x, long, apart2) = absurd (many d w u cell s l k.0 k.1 m x long apart2 k.2)
-one_cause d w u cell s NoBulk (Groups m) k (l, x, long, apart2) = absurd (many d w u cell s l k.0 k.1 m x long apart2 k.2)
-one_cause d w u cell s NoLength (Groups m) k (l, x, long, apart2) = absurd (many d w u cell s l k.0 k.1 m x long apart2 k.2)
-one_cause d w u cell s OffGate OffGate h k = refl
-one_cause d w u cell s OffSd OffSd h k = refl
-one_cause d w u cell s NoBulk NoBulk h k = refl
-one_cause d w u cell s NoLength NoLength h k = refl
-one_cause d w u cell s OffGate OffSd h k = absurd (on_off d w u cell s u.tg k.3 h.3)
-one_cause d w u cell s OffGate NoBulk h k = absurd (on_off d w u cell s u.tg k.3 h.3)
-one_cause d w u cell s OffGate NoLength h k = absurd (on_off d w u cell s u.tg k.3 h.3)
-one_cause d w u cell s OffSd OffGate h k = absurd (on_off d w u cell s u.tg h.3 k.3)
-one_cause d w u cell s NoBulk OffGate h k = absurd (on_off d w u cell s u.tg h.3 k.3)
-one_cause d w u cell s NoLength OffGate h k = absurd (on_off d w u cell s u.tg h.3 k.3)
-one_cause d w u cell s OffSd NoBulk h k = absurd (ends_clash d w u cell s h.0 h.1 k.0 k.1 h.2 k.2 k.4 h.4)
-one_cause d w u cell s OffSd NoLength h k = absurd (ends_clash d w u cell s h.0 h.1 k.0 k.1 h.2 k.2 k.4 h.4)
-one_cause d w u cell s NoBulk OffSd h k = absurd (ends_clash d w u cell s k.0 k.1 h.0 h.1 k.2 h.2 h.4 k.4)
-one_cause d w u cell s NoLength OffSd h k = absurd (ends_clash d w u cell s k.0 k.1 h.0 h.1 k.2 h.2 h.4 k.4)
-one_cause d w u cell s NoBulk NoLength h k = absurd (on_off d w u cell s u.tb (k.5 h.5) h.6)
-one_cause d w u cell s NoLength NoBulk h k = absurd (on_off d w u cell s u.tb (h.5 k.5) k.6)
+one_cause d w u cell s a b h k = one_form d w u cell s (form_of u.kind) a b h k
 
 pub along_path : CauseAlongLaw
 along_path d w u [] cell end s q c reached takes settled h = subst (λ x. IsBadGate d w u x q c) (sym takes.0) (subst (λ z. IsBadGate d w u end z c) takes.1 h)

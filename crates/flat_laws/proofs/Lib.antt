@@ -16,6 +16,7 @@ pub mod Same
 pub mod Judged
 pub mod Rows
 pub mod Planned
+pub mod Poles
 pub mod Climb
 pub mod Expand
 pub mod Zone

@@ -1,10 +1,10 @@
 -- A gate is the same by each of its squares.
 use Rattle.std.proofs.Common.{◌≡◌, ◌↔◌, inl, inr, ℕ, List, [], ◌∷◌, refl, ap, subst, map}
 use Rattle.flat_laws.specs.GateLaws.{SameGateLaw}
-use Rattle.flat_layout.specs.Gates.{Rule, Geometry, geometry, IsStep, InGate, IsGateOrRing, InSide, InOneGroup, Edge, IsBorder, IsWide, IsLong, AreGroups, IsGoodGate, Cause, Groups, OffGate, OffSd, NoBulk, NoLength, IsBadGate}
+use Rattle.flat_layout.specs.Gates.{Rule, Geometry, geometry, IsStep, InGate, IsGateOrRing, InSide, InOneGroup, Edge, Ends, TwoGroups, Region, Form, Beside, Alone, form_of, gate_sheet, sheets, IsBorder, IsWide, IsLong, AreGroups, IsGoodGate, Cause, Groups, OffGate, OffSd, NoBulk, NoLength, IsBadGate}
 use Rattle.flat_layout.specs.Layers.{InFlat}
 use Rattle.flat_layout.specs.Layout.{Design}
-use Rattle.flat_layout.specs.Parts.{AllOn, SomeOff, InEnds}
+use Rattle.flat_layout.specs.Parts.{AllOn, SomeOff, InEnds, IsGoodPart, IsBadPart, IsGoodArea, IsBadArea, IsGoodForm, IsBadForm}
 use Rattle.flat_layout.specs.Regions.{Wiring, formula}
 use Rattle.geo_base.specs.declared.shapes.Square.{Square}
 use Rattle.plain_netlist.proofs.Links.{single, along}
@@ -49,8 +49,8 @@ module _ (d : Design) (w : Wiring) (u : Rule) (cell : ℕ) (s z : Square) (one :
   long_same : (e : Edge) → IsLong d w u cell z e ↔ IsLong d w u cell s e
   long_same e = ((λ h. record { border = (border_same e).0 h.border; other = h.other }), (λ h. record { border = (border_same e).1 h.border; other = h.other }))
 
-  pub good_same : (e f : Edge) (m n : ℕ) → IsGoodGate d w u cell s e f m n → IsGoodGate d w u cell z e f m n
-  good_same e f m n h = record {
+  part_same : (e f : Edge) (m n : ℕ) → IsGoodPart (sheets d w u cell) (InGate d geo cell s) e f m n → IsGoodPart (sheets d w u cell) (InGate d geo cell z) e f m n
+  part_same e f m n h = record {
     groups = classes_map (λ (x : Edge). x) (λ a b k. k) (IsWide d w u cell s) (IsWide d w u cell z) (λ a b. InOneGroup d w u cell s a.outer b.outer) (λ a b. InOneGroup d w u cell z a.outer b.outer) wide_same (λ a b. group_same a.outer b.outer) (λ b. (b, refl)) (e ∷ (f ∷ [])) h.groups;
     wide = counts_map (λ (x : Edge). x) (λ a b k. k) (IsWide d w u cell s) (IsWide d w u cell z) wide_same (λ b. (b, refl)) m h.wide;
     long = counts_map (λ (x : Edge). x) (λ a b k. k) (IsLong d w u cell s) (IsLong d w u cell z) long_same (λ b. (b, refl)) n h.long;
@@ -59,6 +59,26 @@ module _ (d : Design) (w : Wiring) (u : Rule) (cell : ℕ) (s z : Square) (one :
     ends_on = λ q i. h.ends_on q (elim i [ inl a ↦ inl ((group_same e.outer q).0 a) | inr a ↦ inr ((group_same f.outer q).0 a) ]);
     bulk_on = λ none q i. h.bulk_on none q ((in_same q).0 i);
   }
+
+  area_same : (m n : ℕ) → IsGoodArea (sheets d w u cell) (InGate d geo cell s) m n → IsGoodArea (sheets d w u cell) (InGate d geo cell z) m n
+  area_same m n h = record {
+    area = counts_map (λ (x : Square). x) (λ a b k. k) (InGate d geo cell s) (InGate d geo cell z) in_same (λ b. (b, refl)) m h.area;
+    some = h.some;
+    edges = h.edges;
+    border = counts_map (λ (x : Edge). x) (λ a b k. k) (IsBorder d w u cell s) (IsBorder d w u cell z) border_same (λ b. (b, refl)) h.edges h.border;
+    twice = h.twice;
+    ends_on = λ free q i. h.ends_on free q ((in_same q).0 i);
+    bulk_on = λ none q i. h.bulk_on none q ((in_same q).0 i);
+  }
+
+  form_same : (form : Form) (ends : Ends) (m n : ℕ) → IsGoodForm form (sheets d w u cell) (InGate d geo cell s) ends m n → IsGoodForm form (sheets d w u cell) (InGate d geo cell z) ends m n
+  form_same Beside (TwoGroups e f) m n h = part_same e f m n h
+  form_same Beside Region m n h = absurd h
+  form_same Alone (TwoGroups e f) m n h = absurd h
+  form_same Alone Region m n h = area_same m n h
+
+  pub good_same : (ends : Ends) (m n : ℕ) → IsGoodGate d w u cell s ends m n → IsGoodGate d w u cell z ends m n
+  good_same ends m n h = form_same (form_of u.kind) ends m n h
 
   same_groups : (list : List Edge) → AreGroups d w u cell s list → AreGroups d w u cell z list
   same_groups list h = subst (λ l. AreGroups d w u cell z l) (map_same list)
@@ -83,21 +103,38 @@ module _ (d : Design) (w : Wiring) (u : Rule) (cell : ℕ) (s z : Square) (one :
   ends_same : (e f : Edge) (set : Square → Type 0) → AllOn (InEnds (InGate d geo cell s) (InFlat d cell u.sd) e f) set → AllOn (InEnds (InGate d geo cell z) (InFlat d cell u.sd) e f) set
   ends_same e f set h q i = h q ((end_same e f q).1 i)
 
-  pub bad_same : (c : Cause) → IsBadGate d w u cell s c → IsBadGate d w u cell z c
-  bad_same (Groups count) (list, h, long, not) = (list, same_groups list h, long, not)
-  bad_same OffGate (e, g, h, off) = (e, g, same_groups (e ∷ (g ∷ [])) h, off_same (InFlat d cell (formula w u.tg)) off)
-  bad_same OffSd (e, g, h, tg, (q, i, not)) = (e, g, same_groups (e ∷ (g ∷ [])) h, all_same (InFlat d cell (formula w u.tg)) tg, (q, (end_same e g q).0 i, not))
-  bad_same NoBulk (e, g, h, tg, ts, none, off) =
-      (e, g, same_groups (e ∷ (g ∷ [])) h, all_same (InFlat d cell (formula w u.tg)) tg, ends_same e g (InFlat d cell (formula w u.ts)) ts, none, off_same (InFlat d cell (formula w u.tb)) off)
-  bad_same NoLength (e, g, h, tg, ts, tb, none) = (
+  abbrev on_tg : Square → Type 0
+  on_tg = gate_sheet u.kind (InFlat d cell (formula w u.tg))
+
+  bad_part : (c : Cause) → IsBadPart (sheets d w u cell) (InGate d geo cell s) c → IsBadPart (sheets d w u cell) (InGate d geo cell z) c
+  bad_part (Groups count) (list, h, long, not) = (list, same_groups list h, long, not)
+  bad_part OffGate (e, g, h, off) = (e, g, same_groups (e ∷ (g ∷ [])) h, off_same on_tg off)
+  bad_part OffSd (e, g, h, tg, (q, i, not)) = (e, g, same_groups (e ∷ (g ∷ [])) h, all_same on_tg tg, (q, (end_same e g q).0 i, not))
+  bad_part NoBulk (e, g, h, tg, ts, none, off) =
+      (e, g, same_groups (e ∷ (g ∷ [])) h, all_same on_tg tg, ends_same e g (InFlat d cell (formula w u.ts)) ts, none, off_same (InFlat d cell (formula w u.tb)) off)
+  bad_part NoLength (e, g, h, tg, ts, tb, none) = (
     e,
     g,
     same_groups (e ∷ (g ∷ [])) h,
-    all_same (InFlat d cell (formula w u.tg)) tg,
+    all_same on_tg tg,
     ends_same e g (InFlat d cell (formula w u.ts)) ts,
     (λ no. all_same (InFlat d cell (formula w u.tb)) (tb no)),
     counts_map (λ (x : Edge). x) (λ a b k. k) (IsLong d w u cell s) (IsLong d w u cell z) long_same (λ b. (b, refl)) 0 none,
   )
+
+  bad_area : (c : Cause) → IsBadArea (sheets d w u cell) (InGate d geo cell s) c → IsBadArea (sheets d w u cell) (InGate d geo cell z) c
+  bad_area (Groups count) h = h
+  bad_area OffGate h = h
+  bad_area OffSd (free, off) = (free, off_same (InFlat d cell (formula w u.ts)) off)
+  bad_area NoBulk (on, none, off) = ((λ free. all_same (InFlat d cell (formula w u.ts)) (on free)), none, off_same (InFlat d cell (formula w u.tb)) off)
+  bad_area NoLength h = h
+
+  bad_form : (form : Form) (c : Cause) → IsBadForm form (sheets d w u cell) (InGate d geo cell s) c → IsBadForm form (sheets d w u cell) (InGate d geo cell z) c
+  bad_form Beside c h = bad_part c h
+  bad_form Alone c h = bad_area c h
+
+  pub bad_same : (c : Cause) → IsBadGate d w u cell s c → IsBadGate d w u cell z c
+  bad_same c h = bad_form (form_of u.kind) c h
 
 pub same_gate : SameGateLaw
 same_gate d w u cell s q one = (good_same d w u cell s q one, bad_same d w u cell s q one)

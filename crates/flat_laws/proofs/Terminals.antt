@@ -1,11 +1,12 @@
 -- The nodes of a settled good gate's terminal are in one region, and the top keeps all.
-use Rattle.std.proofs.Common.{◌≡◌, inl, inr, ℕ, ◌<◌, List, [], ◌∷◌, Some, length, refl, ◌∙◌, ap, subst}
-use Rattle.flat_laws.specs.GateLaws.{IsReadWhole, TerminalNodeLaw}
+use Rattle.std.proofs.Common.{◌≡◌, inl, inr, ℕ, ◌<◌, List, [], ◌∷◌, Some, None, length, refl, ◌∙◌, ap, subst}
+use Rattle.flat_laws.specs.GateLaws.{GroundNodeLaw, IsReadWhole, TerminalNodeLaw}
 use Rattle.flat_laws.specs.LayerLaws.{TopKeptLaw}
-use Rattle.flat_layout.specs.Gates.{Rule, Geometry, geometry, ground, IsReadBy, IsStep, InGate, InSide, InOneGroup, Edge, IsWide, IsSettled, IsGoodGate, IsTerminalNode}
+use Rattle.flat_layout.specs.Gates.{Rule, Geometry, geometry, ground, IsReadBy, IsStep, InGate, InSide, InOneGroup, Edge, IsWide, IsSettled, Ends, TwoGroups, Region, Form, Beside, Alone, Kind, Mos, Resistor, Diode, form_of, gate_sheet, sheets, IsRegionNode, IsGroupNode, IsGateNode, IsTerminalNode}
+use Rattle.flat_layout.specs.Parts.{AllOn, IsGoodForm}
 use Rattle.flat_layout.specs.Layers.{Formula, Input, Empty, Binary, inputs, reach, InFlat, IsKept, IsStirred}
 use Rattle.flat_layout.specs.Layout.{Design}
-use Rattle.flat_layout.specs.Regions.{Wiring, Node, At, Ground, IsNode, IsLink, InOneRegion, formula, kept}
+use Rattle.flat_layout.specs.Regions.{Wiring, Node, At, Ground, IsNode, IsLink, InOneRegion, formula, ground_of, kept}
 use Rattle.geo_base.specs.declared.shapes.Square.{Square}
 use Rattle.plain_netlist.specs.Chains.{IsChain, Reaches}
 use Rattle.plain_netlist.specs.Netlist.{Pole, Source, Gate, Drain, Bulk}
@@ -27,7 +28,7 @@ top_kept d height (Input key) q linked = ((λ h. h), (λ h. h))
 top_kept d height Empty q linked = ((λ h. h), (λ h. h))
 top_kept d height (Binary op a b) q linked = ((λ h. h.0), (λ h. (h, λ g. calm_top d height linked (inputs (Binary op a b)) g.square g.disturbed)))
 
-module _ (d : Design) (w : Wiring) (u : Rule) (cell : ℕ) (s : Square) (e f : Edge) (k l : ℕ) (settled : IsSettled d (geometry w u) cell s) (form : IsGoodGate d w u cell s e f k l) where
+module _ (d : Design) (w : Wiring) (u : Rule) (cell : ℕ) (s : Square) (settled : IsSettled d (geometry w u) cell s) where
   abbrev geo : Geometry
   geo = geometry w u
 
@@ -89,17 +90,78 @@ module _ (d : Design) (w : Wiring) (u : Rule) (cell : ℕ) (s : Square) (e f : E
   at_ends : (a b m n : Node) → a ≡ m → b ≡ n → IsNode w (kept d w cell) a × InOneRegion w (kept d w cell) a b → IsNode w (kept d w cell) m × InOneRegion w (kept d w cell) m n
   at_ends a b m n p q h = (subst (λ x. IsNode w (kept d w cell) x) p h.0, subst (λ x. InOneRegion w (kept d w cell) m x) q (subst (λ x. InOneRegion w (kept d w cell) x b) p h.1))
 
-  one_pole : (pole : Pole) (m n : Node) → ((g : ℕ) → ground w u ≡ Some g → g < length w.globals) → IsTerminalNode d w u cell s e f pole m → IsTerminalNode d w u cell s e f pole n → IsNode w (kept d w cell) m × InOneRegion w (kept d w cell) m n
-  one_pole Source m n known h i = at_ends (At u.ts h.0) (At u.ts i.0) m n h.2 i.2 (on_end e (form.groups.each e (inl refl)) (λ q v. form.ends_on q (inl v)) h.0 i.0 h.1 i.1)
-  one_pole Drain m n known h i = at_ends (At u.ts h.0) (At u.ts i.0) m n h.2 i.2 (on_end f (form.groups.each f (inr (inl refl))) (λ q v. form.ends_on q (inr v)) h.0 i.0 h.1 i.1)
-  one_pole Gate m n known h i = at_ends (At u.tg h.0) (At u.tg i.0) m n h.2 i.2 (on_gate u.tg whole.tg form.gate_on h.0 i.0 h.1 i.1)
-  one_pole Bulk m n known (inl h) (inl i) =
+  group_pole : (x : Edge) (m n : Node) → IsWide d w u cell s x → AllOn (InEnd x) (InFlat d cell (formula w u.ts)) → IsGroupNode d w u cell s x m → IsGroupNode d w u cell s x n
+      → IsNode w (kept d w cell) m × InOneRegion w (kept d w cell) m n
+  group_pole x m n wide on h i = at_ends (At u.ts h.0) (At u.ts i.0) m n h.2 i.2 (on_end x wide on h.0 i.0 h.1 i.1)
+
+  region_pole : (c : ℕ) (m n : Node) → IsReadBy geo (formula w c) → (ground_of c w.grounds ≡ None → AllOn (InGate d geo cell s) (InFlat d cell (formula w c))) → ((g : ℕ) → Ground g ≡ m → g < length w.globals)
+      → IsRegionNode d w u cell s c m → IsRegionNode d w u cell s c n → IsNode w (kept d w cell) m × InOneRegion w (kept d w cell) m n
+  region_pole c m n read on known (inl h) (inl i) =
       let same : h.0 ≡ i.0 = let a = h.1 in let b = i.1 in cc in
       let one : Ground h.0 ≡ n = ap Ground same ∙ i.2 in
-      at_ends (Ground h.0) (Ground h.0) m n h.2 one (known h.0 h.1, stays R (Ground h.0) (Ground h.0) refl)
-  one_pole Bulk m n known (inl h) (inr i) = let a = h.1 in let b = i.0 in cc
-  one_pole Bulk m n known (inr h) (inl i) = let a = h.0 in let b = i.1 in cc
-  one_pole Bulk m n known (inr h) (inr i) = at_ends (At u.tb h.1.0) (At u.tb i.1.0) m n h.1.2 i.1.2 (on_gate u.tb whole.tb (form.bulk_on h.0) h.1.0 i.1.0 h.1.1 i.1.1)
+      at_ends (Ground h.0) (Ground h.0) m n h.2 one (known h.0 h.2, stays R (Ground h.0) (Ground h.0) refl)
+  region_pole c m n read on known (inl h) (inr i) = let a = h.1 in let b = i.0 in cc
+  region_pole c m n read on known (inr h) (inl i) = let a = h.0 in let b = i.1 in cc
+  region_pole c m n read on known (inr h) (inr i) = at_ends (At c h.1.0) (At c i.1.0) m n h.1.2 i.1.2 (on_gate c read (on h.0) h.1.0 i.1.0 h.1.1 i.1.1)
+
+  module _ (m n : Node) (known : (g : ℕ) → Ground g ≡ m → g < length w.globals) (bulk : ground w u ≡ None → AllOn (InGate d geo cell s) (InFlat d cell (formula w u.tb))) where
+    bulk_pole : IsRegionNode d w u cell s u.tb m → IsRegionNode d w u cell s u.tb n → IsNode w (kept d w cell) m × InOneRegion w (kept d w cell) m n
+    bulk_pole h i = region_pole u.tb m n whole.tb bulk known h i
+
+    gate_pole : (k : Kind) → AllOn (InGate d geo cell s) (gate_sheet k (InFlat d cell (formula w u.tg))) → IsGateNode k d w u cell s m → IsGateNode k d w u cell s n
+        → IsNode w (kept d w cell) m × InOneRegion w (kept d w cell) m n
+    gate_pole Mos on h i = at_ends (At u.tg h.0) (At u.tg i.0) m n h.2 i.2 (on_gate u.tg whole.tg on h.0 i.0 h.1 i.1)
+    gate_pole Resistor on h i = bulk_pole h i
+    gate_pole Diode on h i = bulk_pole h i
+
+    -- of a region alone
+    lone_gate : (k : Kind) → form_of k ≡ Alone → IsGateNode k d w u cell s m → IsGateNode k d w u cell s n → IsNode w (kept d w cell) m × InOneRegion w (kept d w cell) m n
+    lone_gate Mos is h i = absurd cc
+    lone_gate Resistor is h i = absurd cc
+    lone_gate Diode is h i = bulk_pole h i
+
+  by_form : (form : Form) → form_of u.kind ≡ form → (ends : Ends) (k l : ℕ) → IsGoodForm form (sheets d w u cell) (InGate d geo cell s) ends k l → (pole : Pole) (m n : Node)
+      → ((g : ℕ) → Ground g ≡ m → g < length w.globals) → IsTerminalNode d w u cell s ends pole m → IsTerminalNode d w u cell s ends pole n
+      → IsNode w (kept d w cell) m × InOneRegion w (kept d w cell) m n
+  by_form Beside is (TwoGroups e f) k l form Source m n known h i = group_pole e m n (form.groups.each e (inl refl)) (λ q v. form.ends_on q (inl v)) h i
+  by_form Beside is (TwoGroups e f) k l form Drain m n known h i = group_pole f m n (form.groups.each f (inr (inl refl))) (λ q v. form.ends_on q (inr v)) h i
+  by_form Beside is (TwoGroups e f) k l form Gate m n known h i = gate_pole m n known form.bulk_on u.kind form.gate_on h i
+  by_form Beside is (TwoGroups e f) k l form Bulk m n known h i = bulk_pole m n known form.bulk_on h i
+  by_form Beside is Region k l form pole m n known h i = absurd form
+  by_form Alone is (TwoGroups e f) k l form pole m n known h i = absurd form
+  by_form Alone is Region k l form Source m n known h i = region_pole u.ts m n whole.ts form.ends_on known h i
+  by_form Alone is Region k l form Drain m n known h i = region_pole u.ts m n whole.ts form.ends_on known h i
+  by_form Alone is Region k l form Gate m n known h i = lone_gate m n known form.bulk_on u.kind is h i
+  by_form Alone is Region k l form Bulk m n known h i = bulk_pole m n known form.bulk_on h i
 
 pub terminals : TerminalNodeLaw
-terminals d w u cell s e f k l pole m n reached settled form known h i = one_pole d w u cell s e f k l settled form pole m n known h i
+terminals d w u cell s ends k l pole m n reached settled form known h i = by_form d w u cell s settled (form_of u.kind) refl ends k l form pole m n known h i
+
+-- ---- globals
+
+module _ (d : Design) (w : Wiring) (u : Rule) (cell : ℕ) (s : Square) (g : ℕ) where
+  abbrev HasGround : Type 0
+  HasGround = (c : ℕ) × (ground_of c w.grounds ≡ Some g)
+
+  region_ground : (c : ℕ) → IsRegionNode d w u cell s c (Ground g) → HasGround
+  region_ground c (inl h) = let same : h.0 ≡ g = let a = h.2 in cc in (c, subst (λ j. ground_of c w.grounds ≡ Some j) same h.1)
+  region_ground c (inr h) = let a = h.1.2 in absurd cc
+
+  group_ground : (e : Edge) → IsGroupNode d w u cell s e (Ground g) → HasGround
+  group_ground e h = let a = h.2 in absurd cc
+
+  gate_ground : (k : Kind) → IsGateNode k d w u cell s (Ground g) → HasGround
+  gate_ground Mos h = let a = h.2 in absurd cc
+  gate_ground Resistor h = region_ground u.tb h
+  gate_ground Diode h = region_ground u.tb h
+
+  pole_ground : (ends : Ends) (pole : Pole) → IsTerminalNode d w u cell s ends pole (Ground g) → HasGround
+  pole_ground (TwoGroups e f) Source h = group_ground e h
+  pole_ground (TwoGroups e f) Drain h = group_ground f h
+  pole_ground Region Source h = region_ground u.ts h
+  pole_ground Region Drain h = region_ground u.ts h
+  pole_ground ends Gate h = gate_ground u.kind h
+  pole_ground ends Bulk h = region_ground u.tb h
+
+pub grounds : GroundNodeLaw
+grounds d w u cell s ends pole g h = pole_ground d w u cell s g ends pole h

@@ -1,12 +1,13 @@
 -- Gates of a placed cell and of its parent.
 use Rattle.std.specs.Prelude.{◌≡◌, ◌⊎◌, ◌↔◌, ℕ, ◌<◌, List, Some, length}
-use Rattle.flat_layout.specs.Gates.{Cause, Counts, Edge, Geometry, InGate, InOneGroup, InRing}
-use Rattle.flat_layout.specs.Gates.{InSide, IsBadGate, IsFound, IsGateBelow, IsGoodGate}
+use Rattle.flat_layout.specs.Gates.{Cause, Counts, Ends, Geometry, InGate, InOneGroup, InRing}
+use Rattle.flat_layout.specs.Gates.{InSide, IsBadGate, IsBorder, IsFound, IsGateBelow, IsGoodGate}
 use Rattle.flat_layout.specs.Gates.{IsListedGate, IsLong, IsReadBy, IsSettled, IsSoundGeometry}
-use Rattle.flat_layout.specs.Gates.{IsTerminalNode, IsWide, Rule, geometry, ground, moved_edge}
+use Rattle.flat_layout.specs.Gates.{IsTerminalNode, IsWide, Rule, geometry, moved_ends}
 use Rattle.flat_layout.specs.Layers.{InFlat}
 use Rattle.flat_layout.specs.Layout.{Design, IsHeight, IsPlaced, IsReached, Place, Takes}
-use Rattle.flat_layout.specs.Regions.{InOneRegion, IsNode, Node, Wiring, kept, formula}
+use Rattle.flat_layout.specs.Regions.{Ground, InOneRegion, IsNode, Node, Wiring, kept, formula}
+use Rattle.flat_layout.specs.Regions.{ground_of}
 use Rattle.geo_base.specs.Motions.{moved_square}
 use Rattle.geo_base.specs.declared.shapes.Square.{Square}
 use Rattle.plain_netlist.specs.Netlist.{Pole}
@@ -46,12 +47,15 @@ pub record IsFormKept (d : Design) (w : Wiring) (u : Rule) (cell : ℕ) (p : Pla
       → Counts (IsWide d w u cell (moved_square p.motion s)) n
   pub long : (n : ℕ) → Counts (IsLong d w u p.cell s) n
       → Counts (IsLong d w u cell (moved_square p.motion s)) n
-  pub good : (e f : Edge) (m n : ℕ) → IsGoodGate d w u p.cell s e f m n
-      → IsGoodGate d w u cell (moved_square p.motion s) (moved_edge p.motion e)
-      (moved_edge p.motion f) m n
-  pub good_back : (e f : Edge) (m n : ℕ)
-      → IsGoodGate d w u cell (moved_square p.motion s) (moved_edge p.motion e)
-      (moved_edge p.motion f) m n → IsGoodGate d w u p.cell s e f m n
+  pub area : (n : ℕ) → Counts (InGate d (geometry w u) p.cell s) n
+      → Counts (InGate d (geometry w u) cell (moved_square p.motion s)) n
+  pub border : (n : ℕ) → Counts (IsBorder d w u p.cell s) n
+      → Counts (IsBorder d w u cell (moved_square p.motion s)) n
+  pub good : (ends : Ends) (m n : ℕ) → IsGoodGate d w u p.cell s ends m n
+      → IsGoodGate d w u cell (moved_square p.motion s) (moved_ends p.motion ends) m n
+  pub good_back : (ends : Ends) (m n : ℕ)
+      → IsGoodGate d w u cell (moved_square p.motion s) (moved_ends p.motion ends) m n
+      → IsGoodGate d w u p.cell s ends m n
   pub bad : (c : Cause) → IsBadGate d w u p.cell s c
       → IsBadGate d w u cell (moved_square p.motion s) c
 
@@ -79,25 +83,46 @@ abbrev pub TopLaw : Type 0
 TopLaw = (d : Design) (g : Geometry) (height : ℕ → ℕ) → IsHeight d height → (s : Square)
     → InFlat d d.top g.region s → IsSettled d g d.top s
 
--- the nodes of a settled good gate's terminal are kept, and in one region
+-- the nodes of a settled good gate's terminal are kept, and in one region, where the global, if the
+-- node is one, is known
 abbrev pub TerminalNodeLaw : Type 0
-TerminalNodeLaw = (d : Design) (w : Wiring) (u : Rule) (cell : ℕ) (s : Square) (e f : Edge)
+TerminalNodeLaw = (d : Design) (w : Wiring) (u : Rule) (cell : ℕ) (s : Square) (ends : Ends)
     (k l : ℕ) (pole : Pole) (m n : Node) → IsReached d cell → IsSettled d (geometry w u) cell s
-    → IsGoodGate d w u cell s e f k l
-    → ((g : ℕ) → ground w u ≡ Some g → g < length w.globals)
-    → IsTerminalNode d w u cell s e f pole m → IsTerminalNode d w u cell s e f pole n
+    → IsGoodGate d w u cell s ends k l
+    → ((g : ℕ) → Ground g ≡ m → g < length w.globals)
+    → IsTerminalNode d w u cell s ends pole m → IsTerminalNode d w u cell s ends pole n
     → IsNode w (kept d w cell) m × InOneRegion w (kept d w cell) m n
 
--- a count is one number, so a gate has one pair of sizes
+-- a terminal's global is that of a conductor
+abbrev pub GroundNodeLaw : Type 0
+GroundNodeLaw = (d : Design) (w : Wiring) (u : Rule) (cell : ℕ) (s : Square) (ends : Ends)
+    (pole : Pole) (g : ℕ) → IsTerminalNode d w u cell s ends pole (Ground g)
+    → (c : ℕ) × (ground_of c w.grounds ≡ Some g)
+
+-- a good gate's square lies in the gates' layer
+abbrev pub GoodInLaw : Type 0
+GoodInLaw = (d : Design) (w : Wiring) (u : Rule) (cell : ℕ) (s : Square) (ends : Ends) (m n : ℕ)
+    → IsGoodGate d w u cell s ends m n → InFlat d cell u.gate s
+
+-- a count is one number
 abbrev pub OneCountLaw : Type 0
 OneCountLaw = (d : Design) (w : Wiring) (u : Rule) (cell : ℕ) (s : Square) (m n : ℕ)
     → (Counts (IsWide d w u cell s) m → Counts (IsWide d w u cell s) n → m ≡ n)
     × (Counts (IsLong d w u cell s) m → Counts (IsLong d w u cell s) n → m ≡ n)
+    × (Counts (InGate d (geometry w u) cell s) m → Counts (InGate d (geometry w u) cell s) n
+    → m ≡ n)
+    × (Counts (IsBorder d w u cell s) m → Counts (IsBorder d w u cell s) n → m ≡ n)
+
+-- so a good gate has one pair of sizes
+abbrev pub OneSizesLaw : Type 0
+OneSizesLaw = (d : Design) (w : Wiring) (u : Rule) (cell : ℕ) (s : Square) (a b : Ends)
+    (m n k l : ℕ) → IsGoodGate d w u cell s a m n → IsGoodGate d w u cell s b k l
+    → (m ≡ k) × (n ≡ l)
 
 -- a good gate isn't bad
 abbrev pub NotBothLaw : Type 0
-NotBothLaw = (d : Design) (w : Wiring) (u : Rule) (cell : ℕ) (s : Square) (e f : Edge) (m n : ℕ)
-    (c : Cause) → IsGoodGate d w u cell s e f m n → IsBadGate d w u cell s c → ⊥
+NotBothLaw = (d : Design) (w : Wiring) (u : Rule) (cell : ℕ) (s : Square) (ends : Ends) (m n : ℕ)
+    (c : Cause) → IsGoodGate d w u cell s ends m n → IsBadGate d w u cell s c → ⊥
 
 -- and a bad one has one cause
 abbrev pub OneCauseLaw : Type 0
@@ -108,7 +133,7 @@ OneCauseLaw = (d : Design) (w : Wiring) (u : Rule) (cell : ℕ) (s : Square) (a 
 abbrev pub SameGateLaw : Type 0
 SameGateLaw = (d : Design) (w : Wiring) (u : Rule) (cell : ℕ) (s q : Square)
     → InGate d (geometry w u) cell s q
-    → ((e f : Edge) (m n : ℕ) → IsGoodGate d w u cell s e f m n → IsGoodGate d w u cell q e f m n)
+    → ((ends : Ends) (m n : ℕ) → IsGoodGate d w u cell s ends m n → IsGoodGate d w u cell q ends m n)
     × ((c : Cause) → IsBadGate d w u cell s c → IsBadGate d w u cell q c)
 
 -- the image of a settled bad gate along a path is bad for the same cause

@@ -7,7 +7,8 @@
 
 ghost use Rattle.flat_laws.specs.FlatGates.{FlatGatesLaw};
 ghost use Rattle.flat_laws.specs.GateLaws.{ReadLayersLaw, KeptGateLaw, KeptFormLaw, OnePlaceLaw};
-ghost use Rattle.flat_laws.specs.GateLaws.{GateLaw, TopLaw, TerminalNodeLaw, OneCountLaw};
+ghost use Rattle.flat_laws.specs.GateLaws.{GateLaw, TopLaw, TerminalNodeLaw, GroundNodeLaw};
+ghost use Rattle.flat_laws.specs.GateLaws.{GoodInLaw, OneCountLaw, OneSizesLaw};
 ghost use Rattle.flat_laws.specs.GateLaws.{NotBothLaw, OneCauseLaw, SameGateLaw, CauseAlongLaw};
 ghost use Rattle.flat_laws.specs.LayerLaws.{ZoneLaw, UndisturbedLaw, StillLaw, NameStillLaw};
 ghost use Rattle.flat_laws.specs.LayerLaws.{NearInputLaw, CalmLaw, SameFlatLaw, CoverLaw};
@@ -15,7 +16,7 @@ ghost use Rattle.flat_laws.specs.LayerLaws.{TopKeptLaw};
 ghost use Rattle.flat_laws.specs.NetLaws.{TouchLaw, RegionLaw, OneParentLaw, OneTableLaw, ReadLaw};
 ghost use Rattle.flat_laws.specs.NetLaws.{TogetherLaw};
 ghost use Rattle.flat_laws.specs.NetlistLaws.{RowsLaw, PlannedLaw, PartLaw, NetLaw, NetlistLaw};
-ghost use Rattle.flat_laws.specs.NetlistLaws.{FlatNetlistLaw, FlatRegionLaw};
+ghost use Rattle.flat_laws.specs.NetlistLaws.{EqualPolesLaw, FlatNetlistLaw, FlatRegionLaw};
 ghost use Rattle.flat_laws.specs.SeedLaws.{GateStillLaw, ReachLaw, SeedLaw, ThroughLaw};
 ghost use Rattle.flat_laws.specs.SeedLaws.{CalmThroughLaw, TestLaw, BelowLaw, OwnSeedLaw};
 ghost use Rattle.flat_laws.specs.SeedLaws.{KeptPartLaw, ClosedLaw, PartedLaw};
@@ -68,7 +69,10 @@ pub fn gates()
     ensures once { GateLaw }
     ensures top { TopLaw }
     ensures terminals { TerminalNodeLaw }
+    ensures ground { GroundNodeLaw }
+    ensures inside { GoodInLaw }
     ensures count { OneCountLaw }
+    ensures sizes { OneSizesLaw }
 {}
 
 /// All lists of gates, seen from the top, are the gates of the flat top, each once, with their
@@ -105,6 +109,7 @@ pub fn own_gates()
 pub fn netlist()
     ensures rows { RowsLaw }
     ensures planned { PlannedLaw }
+    ensures poles { EqualPolesLaw }
     ensures part { PartLaw }
     ensures net { NetLaw }
     ensures devices { NetlistLaw }

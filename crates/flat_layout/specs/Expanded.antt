@@ -4,7 +4,7 @@ use Rattle.std.specs.Prelude.{◌≡◌, ◌↔◌, ℕ, Bool, List, [], ◌∷�
 use Rattle.geo_base.specs.Motions.{moved_square}
 use Rattle.geo_base.specs.declared.shapes.Square.{Square}
 use Rattle.flat_layout.specs.Circuits.{AreDrawn, AreCircuitCells, CircuitParts, IsNetlistOf}
-use Rattle.flat_layout.specs.Gates.{Rule, Edge, geometry, width_of, length_of, InGate, IsSettled}
+use Rattle.flat_layout.specs.Gates.{Rule, Ends, geometry, width_of, length_of, InGate, IsSettled}
 use Rattle.flat_layout.specs.Gates.{IsGoodGate, IsTerminalNode}
 use Rattle.flat_layout.specs.GateTables.{GateEntry, GoodGate, good_gates, AreGates}
 use Rattle.flat_layout.specs.Layers.{InFlat}
@@ -65,16 +65,15 @@ IsGateOfDevice d g cell (c ∷ cs) i r q = (k : ℕ) × (p : Place)
 -- the device is that of the flat gate
 pub record IsDeviceOf (d : Design) (w : Wiring) (t : Tables) (g : CircuitTables) (u : Rule)
     (unit cell : ℕ) (path : List ℕ) (row : DeviceRow) (s : Square) : Type 0 where
-  pub source : Edge
-  pub drain : Edge
+  pub ends : Ends
   pub twice_w : ℕ
   pub twice_l : ℕ
   pub settled : IsSettled d (geometry w u) cell s
-  pub good : IsGoodGate d w u cell s source drain twice_w twice_l
+  pub good : IsGoodGate d w u cell s ends twice_w twice_l
   pub class : row.class ≡ u.class
   pub width : row.width ≡ width_of u unit twice_w
   pub length : row.length ≡ length_of u unit twice_l
-  pub nodes : (pole : Pole) → (n : Node) × IsTerminalNode d w u cell s source drain pole n
+  pub nodes : (pole : Pole) → (n : Node) × IsTerminalNode d w u cell s ends pole n
       × ShowsNode d t g cell path (on pole row) n
 
 -- a device of the netlist for each good gate, and each once
@@ -83,8 +82,8 @@ pub record AreDevices (d : Design) (w : Wiring) (t : Tables) (g : CircuitTables)
   pub each : (path : List ℕ) (i : ℕ) (row : DeviceRow) → HasDevice nl n path i row
       → (r : ℕ) × (u : Rule) × (s : Square) × (slice_get rules r ≡ Some u)
       × IsGateOfDevice d g cell path i r s × IsDeviceOf d w t g u unit cell path row s
-  pub found : (r : ℕ) (u : Rule) (s : Square) (e f : Edge) (v l : ℕ) → slice_get rules r ≡ Some u
-      → IsSettled d (geometry w u) cell s → IsGoodGate d w u cell s e f v l
+  pub found : (r : ℕ) (u : Rule) (s : Square) (ends : Ends) (v l : ℕ) → slice_get rules r ≡ Some u
+      → IsSettled d (geometry w u) cell s → IsGoodGate d w u cell s ends v l
       → (path : List ℕ) × (i : ℕ) × (row : DeviceRow) × (q : Square) × HasDevice nl n path i row
       × IsGateOfDevice d g cell path i r q × InGate d (geometry w u) cell s q
   pub once : (a b : List ℕ) (i j : ℕ) (x y : DeviceRow) (r : ℕ) (u : Rule) (s q : Square)
@@ -109,8 +108,8 @@ pub record IsFlatNetlist (d : Design) (w : Wiring) (t : Tables) (g : CircuitTabl
   pub each : (path : List ℕ) (i : ℕ) (row : DeviceRow) → HasDevice nl n path i row
       → (r : ℕ) × (u : Rule) × (s : Square) × (slice_get rules r ≡ Some u)
       × IsGateOfDevice d g d.top path i r s × IsDeviceOf d w t g u unit d.top path row s
-  pub found : (r : ℕ) (u : Rule) (s : Square) (e f : Edge) (v l : ℕ) → slice_get rules r ≡ Some u
-      → InFlat d d.top u.gate s → IsGoodGate d w u d.top s e f v l
+  pub found : (r : ℕ) (u : Rule) (s : Square) (ends : Ends) (v l : ℕ) → slice_get rules r ≡ Some u
+      → InFlat d d.top u.gate s → IsGoodGate d w u d.top s ends v l
       → (path : List ℕ) × (i : ℕ) × (row : DeviceRow) × (q : Square) × HasDevice nl n path i row
       × IsGateOfDevice d g d.top path i r q × InGate d (geometry w u) d.top s q
   pub once : (a b : List ℕ) (i j : ℕ) (x y : DeviceRow) (r : ℕ) (u : Rule) (s q : Square)

@@ -1,7 +1,7 @@
 -- The gates of a cell's list: good ones over the nets of the cell, bad ones with their cause.
 use Rattle.std.specs.Prelude.{◌≡◌, ◌⊎◌, ◌++◌, ℕ, ◌<◌, List, [], ◌∷◌, Some, slice_get}
 use Rattle.geo_base.specs.declared.shapes.Square.{Square}
-use Rattle.flat_layout.specs.Gates.{Rule, Edge, Cause, geometry, InGate, IsSettled, IsGateBelow}
+use Rattle.flat_layout.specs.Gates.{Rule, Ends, Cause, geometry, InGate, IsSettled, IsGateBelow}
 use Rattle.flat_layout.specs.Gates.{IsListedGate, IsLeast, IsGoodGate, IsBadGate, IsSourceFirst}
 use Rattle.flat_layout.specs.Gates.{IsTerminalNode}
 use Rattle.flat_layout.specs.Layout.{Design}
@@ -21,8 +21,8 @@ pub record GateSquare : Type 0 where
 abbrev pub IsGateBefore : GateSquare → GateSquare → Type 0
 IsGateBefore a b = (a.rule < b.rule) ⊎ ((a.rule ≡ b.rule) × IsSquareBefore a.square b.square)
 
--- a good gate over the nets of its cell: twice its width and its length in squares, and the nets of
--- its terminals
+-- a good gate over the nets of its cell: twice its width and its length in squares, of a diode its
+-- squares and twice its edges; and the nets of its terminals
 pub record GateRow : Type 0 where
   pub twice_w : ℕ
   pub twice_l : ℕ
@@ -50,11 +50,10 @@ pub record GateEntry : Type 0 where
 -- the row of a good gate; its source is the group with the least square
 pub record IsGateRow (d : Design) (w : Wiring) (t : Tables) (u : Rule) (cell : ℕ) (s : Square)
     (row : GateRow) : Type 0 where
-  pub source : Edge
-  pub drain : Edge
-  pub good : IsGoodGate d w u cell s source drain row.twice_w row.twice_l
-  pub first : IsSourceFirst d w u cell s source drain
-  pub nets : (pole : Pole) → (n : Node) × IsTerminalNode d w u cell s source drain pole n
+  pub ends : Ends
+  pub good : IsGoodGate d w u cell s ends row.twice_w row.twice_l
+  pub first : IsSourceFirst d w u cell s ends
+  pub nets : (pole : Pole) → (n : Node) × IsTerminalNode d w u cell s ends pole n
       × NetHolds d t cell (terminal_net pole row) n
 
 abbrev pub IsVerdict : Design → Wiring → Tables → Rule → ℕ → Square → Verdict → Type 0

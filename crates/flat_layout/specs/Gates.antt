@@ -9,8 +9,9 @@ use Rattle.flat_layout.specs.Layers.{Formula, inputs, reach, InFlat, IsStirred}
 use Rattle.flat_layout.specs.Layout.{Place, Design, Some_of, IsPlaced, Takes}
 pub use Rattle.flat_layout.specs.Parts.{IsStep, IsLeast, Edge, Counts, AreClasses, Cause, Groups}
 pub use Rattle.flat_layout.specs.Parts.{OffGate, OffSd, NoBulk, NoLength}
+pub use Rattle.flat_layout.specs.Parts.{Form, Beside, Alone, Ends, TwoGroups, Region}
 use Rattle.flat_layout.specs.Parts.{InPart, IsCloseTo, InRingOf, InSideOf, InGroupOf, IsBorderOf}
-use Rattle.flat_layout.specs.Parts.{IsWideOf, IsLongOf, AreGroupsOf, Sheets, IsGoodPart, IsBadPart}
+use Rattle.flat_layout.specs.Parts.{IsWideOf, IsLongOf, AreGroupsOf, Sheets, IsGoodForm, IsBadForm}
 use Rattle.flat_layout.specs.Plane.{IsSquareBefore}
 use Rattle.flat_layout.specs.Regions.{Wiring, Node, At, Ground, formula, ground_of}
 use Rattle.plain_netlist.specs.Netlist.{Pole, Source, Gate, Drain, Bulk}
@@ -73,10 +74,25 @@ pub record IsFound (d : Design) (g : Geometry) (cell : ℕ) (s : Square) : Type 
   pub image : InGate d g cell s place
   pub gate : IsListedGate d g end square
 
--- a device rule: its class, the layers of source and drain, gate and well, and the conductors of
--- the terminals
+-- the kinds of devices
+pub data Kind : Type 0 where
+  Mos : Kind
+  Resistor : Kind
+  Diode : Kind
+
+-- a diode is its region; the others lie between two groups beside theirs
+abbrev pub form_of : Kind → Form
+form_of Mos = Beside
+form_of Resistor = Beside
+form_of Diode = Alone
+
+-- a device rule: its class and kind; the layer whose parts are its regions (`gate`), that of the
+-- groups beside them, the well; and the conductors of the ends, of the gate and of the bulk. Only a
+-- transistor has a gate of its own: a resistor's gate is its bulk. Of a diode the ends' conductor
+-- is the anode's, the bulk's is the cathode's, and there are no groups and no well
 pub record Rule : Type 0 where
   pub class : List ℕ
+  pub kind : Kind
   pub sd : Formula
   pub gate : Formula
   pub well : Formula
@@ -84,7 +100,10 @@ pub record Rule : Type 0 where
   pub tg : ℕ
   pub tb : ℕ
 
--- the global of the bulk's conductor
+-- the globals of a diode's anode and of the bulk: those of their conductors
+abbrev pub anode_ground : Wiring → Rule → Option ℕ
+anode_ground w u = ground_of u.ts w.grounds
+
 abbrev pub ground : Wiring → Rule → Option ℕ
 ground w u = ground_of u.tb w.grounds
 
@@ -104,11 +123,17 @@ gate_reach w u = max (reach u.sd) (max (reach u.gate)
 abbrev pub geometry : Wiring → Rule → Geometry
 geometry w u = record { region = u.gate; keys = gate_inputs w u; reach = gate_reach w u }
 
--- the sizes of a rule's devices in femtometres, from twice the width and twice the length in
--- squares, with the unit in picometres
-abbrev pub width_of : Rule → ℕ → ℕ → ℕ
-width_of u unit twice_w = twice_w * (unit * 500)
+-- the width of a rule's devices in femtometres, from twice the width in squares, with the unit in
+-- picometres; of a diode its area in square picometres, from its squares
+abbrev pub width_by : Kind → ℕ → ℕ → ℕ
+width_by Mos unit twice_w = twice_w * (unit * 500)
+width_by Resistor unit twice_w = twice_w * (unit * 500)
+width_by Diode unit squares = squares * (unit * unit)
 
+abbrev pub width_of : Rule → ℕ → ℕ → ℕ
+width_of u unit n = width_by u.kind unit n
+
+-- and the length, from twice the length; of a diode its perimeter, from twice its edges
 abbrev pub length_of : Rule → ℕ → ℕ → ℕ
 length_of u unit twice_l = twice_l * (unit * 500)
 
@@ -133,43 +158,75 @@ IsLong d w u cell s = IsLongOf (InGate d (geometry w u) cell s) (InFlat d cell u
 abbrev pub AreGroups : Design → Wiring → Rule → ℕ → Square → List Edge → Type 0
 AreGroups d w u cell s = AreGroupsOf (InGate d (geometry w u) cell s) (InFlat d cell u.sd)
 
--- the flat sets of the cell by which the rule's gates are judged
+-- each square passes where the gate's terminal is the bulk
+abbrev pub gate_sheet : Kind → (Square → Type 0) → Square → Type 0
+gate_sheet Mos on q = on q
+gate_sheet Resistor on q = Unit {0}
+gate_sheet Diode on q = Unit {0}
+
+-- the flat sets of the cell by which the rule's regions are judged
 abbrev pub sheets : Design → Wiring → Rule → ℕ → Sheets
 sheets d w u cell = record {
   ends = InFlat d cell u.sd;
   on_ends = InFlat d cell (formula w u.ts);
-  on_gate = InFlat d cell (formula w u.tg);
+  on_gate = gate_sheet u.kind (InFlat d cell (formula w u.tg));
   on_bulk = InFlat d cell (formula w u.tb);
+  free = anode_ground w u ≡ None;
   loose = ground w u ≡ None;
 }
 
--- a good gate: two groups, by an edge of each, its sizes, and its squares on the terminals'
--- conductors
-abbrev pub IsGoodGate : Design → Wiring → Rule → ℕ → Square → Edge → Edge → ℕ → ℕ → Type 0
-IsGoodGate d w u cell s = IsGoodPart (sheets d w u cell) (InGate d (geometry w u) cell s)
+-- a good region, with the ends of its device and its sizes
+abbrev pub IsGoodGate : Design → Wiring → Rule → ℕ → Square → Ends → ℕ → ℕ → Type 0
+IsGoodGate d w u cell s =
+    IsGoodForm (form_of u.kind) (sheets d w u cell) (InGate d (geometry w u) cell s)
 
 -- a bad one: the first test that it fails
 abbrev pub IsBadGate : Design → Wiring → Rule → ℕ → Square → Cause → Type 0
-IsBadGate d w u cell s = IsBadPart (sheets d w u cell) (InGate d (geometry w u) cell s)
+IsBadGate d w u cell s =
+    IsBadForm (form_of u.kind) (sheets d w u cell) (InGate d (geometry w u) cell s)
 
--- the source is the group with the least square: some square of it comes before each of the other
--- group
-abbrev pub IsSourceFirst : Design → Wiring → Rule → ℕ → Square → Edge → Edge → Type 0
-IsSourceFirst d w u cell s e f = (p : Square) × InOneGroup d w u cell s e.outer p
+-- the source is the group with the least square
+abbrev pub IsSourceFirst : Design → Wiring → Rule → ℕ → Square → Ends → Type 0
+IsSourceFirst d w u cell s (TwoGroups e f) = (p : Square) × InOneGroup d w u cell s e.outer p
     × ((q : Square) → InOneGroup d w u cell s f.outer q → IsSquareBefore p q)
+IsSourceFirst d w u cell s Region = Unit {0}
 
--- the nodes of a good gate's terminals
-abbrev pub IsTerminalNode : Design → Wiring → Rule → ℕ → Square → Edge → Edge → Pole → Node → Type 0
-IsTerminalNode d w u cell s e f Source n =
-    (q : Square) × InOneGroup d w u cell s e.outer q × (At u.ts q ≡ n)
-IsTerminalNode d w u cell s e f Drain n =
-    (q : Square) × InOneGroup d w u cell s f.outer q × (At u.ts q ≡ n)
-IsTerminalNode d w u cell s e f Gate n =
-    (q : Square) × InGate d (geometry w u) cell s q × (At u.tg q ≡ n)
-IsTerminalNode d w u cell s e f Bulk n =
-    ((g : ℕ) × (ground w u ≡ Some g) × (Ground g ≡ n))
-    ⊎ ((ground w u ≡ None) × ((q : Square) × InGate d (geometry w u) cell s q
-    × (At u.tb q ≡ n)))
+-- the global of a conductor, or a square of the region on it
+abbrev pub IsRegionNode : Design → Wiring → Rule → ℕ → Square → ℕ → Node → Type 0
+IsRegionNode d w u cell s c n =
+    ((g : ℕ) × (ground_of c w.grounds ≡ Some g) × (Ground g ≡ n))
+    ⊎ ((ground_of c w.grounds ≡ None) × ((q : Square) × InGate d (geometry w u) cell s q
+    × (At c q ≡ n)))
+
+-- a node of the group beyond the edge
+abbrev pub IsGroupNode : Design → Wiring → Rule → ℕ → Square → Edge → Node → Type 0
+IsGroupNode d w u cell s e n = (q : Square) × InOneGroup d w u cell s e.outer q × (At u.ts q ≡ n)
+
+-- a node of the gate's terminal: a transistor's gate has no global
+abbrev pub IsGateNode : Kind → Design → Wiring → Rule → ℕ → Square → Node → Type 0
+IsGateNode Mos d w u cell s n = (q : Square) × InGate d (geometry w u) cell s q × (At u.tg q ≡ n)
+IsGateNode Resistor d w u cell s n = IsRegionNode d w u cell s u.tb n
+IsGateNode Diode d w u cell s n = IsRegionNode d w u cell s u.tb n
+
+-- nodes of the two ends: both of a diode's are its anode
+abbrev pub IsSourceNode : Design → Wiring → Rule → ℕ → Square → Ends → Node → Type 0
+IsSourceNode d w u cell s (TwoGroups e f) n = IsGroupNode d w u cell s e n
+IsSourceNode d w u cell s Region n = IsRegionNode d w u cell s u.ts n
+
+abbrev pub IsDrainNode : Design → Wiring → Rule → ℕ → Square → Ends → Node → Type 0
+IsDrainNode d w u cell s (TwoGroups e f) n = IsGroupNode d w u cell s f n
+IsDrainNode d w u cell s Region n = IsRegionNode d w u cell s u.ts n
+
+-- the nodes of a good device's terminals
+abbrev pub IsTerminalNode : Design → Wiring → Rule → ℕ → Square → Ends → Pole → Node → Type 0
+IsTerminalNode d w u cell s ends Source n = IsSourceNode d w u cell s ends n
+IsTerminalNode d w u cell s ends Drain n = IsDrainNode d w u cell s ends n
+IsTerminalNode d w u cell s ends Gate n = IsGateNode u.kind d w u cell s n
+IsTerminalNode d w u cell s ends Bulk n = IsRegionNode d w u cell s u.tb n
 
 abbrev pub moved_edge : Motion → Edge → Edge
 moved_edge m e = record { inner = moved_square m e.inner; outer = moved_square m e.outer }
+
+abbrev pub moved_ends : Motion → Ends → Ends
+moved_ends m (TwoGroups e f) = TwoGroups (moved_edge m e) (moved_edge m f)
+moved_ends m Region = Region

@@ -1,6 +1,6 @@
 -- The edge-connected parts of a set of unit squares, and what lies round one: its ring, the groups
 -- beside it, its boundary edges.
-use Rattle.std.specs.Prelude.{◌≡◌, ◌⊎◌, ◌↔◌, ℕ, ◌<◌, List, [], ◌∷◌, length}
+use Rattle.std.specs.Prelude.{◌≡◌, ◌⊎◌, ◌↔◌, ℕ, ◌+◌, ◌<◌, List, [], ◌∷◌, length}
 use Rattle.geo_base.specs.declared.shapes.Square.{Square}
 use Rattle.plain_netlist.specs.Chains.{Reaches}
 use Rattle.plain_netlist.specs.Lists.{IsListed, AreApart}
@@ -83,13 +83,14 @@ abbrev pub AreGroupsOf : (Square → Type 0) → (Square → Type 0) → List Ed
 AreGroupsOf part ends list =
     AreClasses (IsWideOf part ends) (λ e f. InGroupOf part ends e.outer f.outer) list
 
--- the sets by which a part is judged as a gate: source and drain, the conductors of the terminals,
--- and whether the bulk needs its own
+-- the sets by which a part is judged: the squares of the groups beside it, the conductors of the
+-- terminals, and whether the ends and the bulk need their own conductor
 pub record Sheets : Type 1 where
   pub ends : Square → Type 0
   pub on_ends : Square → Type 0
   pub on_gate : Square → Type 0
   pub on_bulk : Square → Type 0
+  pub free : Type 0
   pub loose : Type 0
 
 -- each square of the one set lies in the other
@@ -138,3 +139,39 @@ IsBadPart g part NoBulk = (e f : Edge) × AreGroupsOf part g.ends (e ∷ (f ∷ 
 IsBadPart g part NoLength = (e f : Edge) × AreGroupsOf part g.ends (e ∷ (f ∷ []))
     × AllOn part g.on_gate × AllOn (InEnds part g.ends e f) g.on_ends
     × (g.loose → AllOn part g.on_bulk) × Counts (IsLongOf part g.ends) 0
+
+-- a device lies beside groups, or it is its part alone
+pub data Form : Type 0 where
+  Beside : Form
+  Alone : Form
+
+-- where the ends of a device are: beyond an edge of each of two groups, or in its part
+pub data Ends : Type 0 where
+  TwoGroups : (source drain : Edge) → Ends
+  Region : Ends
+
+-- a good part without groups: its squares are counted, and twice its boundary edges
+pub record IsGoodArea (g : Sheets) (part : Square → Type 0) (squares twice_edges : ℕ) : Type 0 where
+  pub area : Counts part squares
+  pub some : 0 < squares
+  pub edges : ℕ
+  pub border : Counts (IsBorderOf part) edges
+  pub twice : twice_edges ≡ edges + edges
+  pub ends_on : g.free → AllOn part g.on_ends
+  pub bulk_on : g.loose → AllOn part g.on_bulk
+
+-- the first test that a bad one fails
+abbrev pub IsBadArea : Sheets → (Square → Type 0) → Cause → Type 0
+IsBadArea g part OffSd = g.free × SomeOff part g.on_ends
+IsBadArea g part NoBulk = (g.free → AllOn part g.on_ends) × g.loose × SomeOff part g.on_bulk
+IsBadArea g part cause = ⊥
+
+-- by the form
+abbrev pub IsGoodForm : Form → Sheets → (Square → Type 0) → Ends → ℕ → ℕ → Type 0
+IsGoodForm Beside g part (TwoGroups e f) w l = IsGoodPart g part e f w l
+IsGoodForm Alone g part Region w l = IsGoodArea g part w l
+IsGoodForm form g part ends w l = ⊥
+
+abbrev pub IsBadForm : Form → Sheets → (Square → Type 0) → Cause → Type 0
+IsBadForm Beside g part cause = IsBadPart g part cause
+IsBadForm Alone g part cause = IsBadArea g part cause

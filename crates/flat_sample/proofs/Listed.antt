@@ -1,7 +1,7 @@
 -- The entries of the two transistors are right.
 use Rattle.std.proofs.Common.{◌≡◌, ◌⊎◌, inl, inr, ℕ, zero, suc, ◌<◌, [], ◌∷◌, Some, None, refl, sym, subst, arith}
 use Rattle.geo_base.specs.declared.shapes.Square.{Square}
-use Rattle.flat_layout.specs.Gates.{Rule, geometry, InGate, IsListedGate, IsSettled, IsGateBelow, IsTerminalNode}
+use Rattle.flat_layout.specs.Gates.{Rule, geometry, InGate, IsListedGate, IsSettled, IsGateBelow, IsTerminalNode, TwoGroups}
 use Rattle.flat_layout.specs.GateTables.{AreGates, GateEntry, GateRow, IsGateEntry, IsGateRow, terminal_net}
 use Rattle.flat_layout.specs.Layout.{IsReached}
 use Rattle.flat_layout.specs.Nets.{Own, Child, Global, NetHolds}
@@ -19,7 +19,7 @@ abbrev N : ℕ → ℕ → Node → Type 0
 N = NetHolds gate_design gate_tables
 
 nodes_of : (cell m source gate drain bulk : ℕ) → InG cell (gate_at m) → N cell source (At 0 (left_at m)) → N cell gate (At 1 (gate_at m)) → N cell drain (At 0 (right_at m)) → N cell bulk (Ground 0)
-    → (pole : Pole) → (n : Node) × IsTerminalNode gate_design gate_wiring rule cell (gate_at m) (edge_to m (left_at m)) (edge_to m (right_at m)) pole n × N cell (terminal_net pole (gate_on source gate drain bulk)) n
+    → (pole : Pole) → (n : Node) × IsTerminalNode gate_design gate_wiring rule cell (gate_at m) (TwoGroups (edge_to m (left_at m)) (edge_to m (right_at m))) pole n × N cell (terminal_net pole (gate_on source gate drain bulk)) n
 nodes_of cell m source gate drain bulk is s g d b Source = (At 0 (left_at m), (left_at m, group_self cell (gate_at m) (left_at m), refl), s)
 nodes_of cell m source gate drain bulk is s g d b Gate = (At 1 (gate_at m), (gate_at m, gate_self cell (gate_at m) (gate_at m) is refl, refl), g)
 nodes_of cell m source gate drain bulk is s g d b Drain = (At 0 (right_at m), (right_at m, group_self cell (gate_at m) (right_at m), refl), d)
@@ -29,8 +29,7 @@ row_right : (cell m source gate drain bulk : ℕ) → InG cell (gate_at m) → I
     → N cell source (At 0 (left_at m)) → N cell gate (At 1 (gate_at m)) → N cell drain (At 0 (right_at m)) → N cell bulk (Ground 0)
     → IsGateRow gate_design gate_wiring gate_tables rule cell (gate_at m) (gate_on source gate drain bulk)
 row_right cell m source gate drain bulk is left right s g d b = record {
-  source = edge_to m (left_at m);
-  drain = edge_to m (right_at m);
+  ends = TwoGroups (edge_to m (left_at m)) (edge_to m (right_at m));
   good = form cell m is left right;
   first = first cell m is left right;
   nets = nodes_of cell m source gate drain bulk is s g d b;

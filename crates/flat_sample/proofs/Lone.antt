@@ -3,7 +3,7 @@ use Rattle.std.proofs.Common.{◌≡◌, ◌⊎◌, inl, inr, ℕ, zero, suc, �
 use Rattle.std.proofs.lemmas.Int.{ints}
 use Rattle.geo_base.specs.declared.shapes.Square.{Square}
 use Rattle.flat_laws.proofs.Squares.{same_square}
-use Rattle.flat_layout.specs.Gates.{Geometry, geometry, IsStep, InGate, InSide, InOneGroup, Edge, IsBorder, IsWide, IsLong, AreGroups, IsGoodGate, IsSourceFirst, IsLeast}
+use Rattle.flat_layout.specs.Gates.{Geometry, geometry, IsStep, InGate, InSide, InOneGroup, Edge, IsBorder, IsWide, IsLong, AreGroups, TwoGroups, IsGoodGate, IsSourceFirst, IsLeast}
 use Rattle.plain_netlist.specs.Lists.{IsListed, AreApart}
 use Rattle.flat_layout.specs.Layers.{Input, InFlat}
 use Rattle.flat_layout.specs.Plane.{SharesEdge, IsAround, IsSquareBefore}
@@ -237,7 +237,7 @@ module _ (cell m : ℕ) (gate : InG cell (gate_at m)) (left : InS cell (left_at 
   end_on q (inr h) = subst (InS cell) (group_is cell m (right_at m) q gate h) right
 
   -- two edges wide, two long
-  pub form : IsGoodGate gate_design gate_wiring rule cell (gate_at m) (edge_to m (left_at m)) (edge_to m (right_at m)) 2 2
+  pub form : IsGoodGate gate_design gate_wiring rule cell (gate_at m) (TwoGroups (edge_to m (left_at m)) (edge_to m (right_at m))) 2 2
   form = record {
     groups = groups;
     wide = record { all = sides; apart = sides_apart_here; each = λ a. (wide_listed a, listed_wide a); count = refl };
@@ -249,7 +249,7 @@ module _ (cell m : ℕ) (gate : InG cell (gate_at m)) (left : InS cell (left_at 
   }
 
   -- the source is the side on the left
-  pub first : IsSourceFirst gate_design gate_wiring rule cell (gate_at m) (edge_to m (left_at m)) (edge_to m (right_at m))
+  pub first : IsSourceFirst gate_design gate_wiring rule cell (gate_at m) (TwoGroups (edge_to m (left_at m)) (edge_to m (right_at m)))
   first = (left_at m, group_self cell (gate_at m) (left_at m), λ q h. subst (λ k. IsSquareBefore (left_at m) k) (group_is cell m (right_at m) q gate h) (inr (refl, omega (arith, ints))))
 
   -- and the one square is the least

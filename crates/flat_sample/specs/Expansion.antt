@@ -2,7 +2,7 @@
 use Rattle.std.specs.Prelude.{◌≡◌, ℕ, zero, suc, List, [], ◌∷◌}
 use Rattle.geo_base.specs.Motions.{moved_square}
 use Rattle.geo_base.specs.declared.shapes.Square.{Square}
-use Rattle.flat_layout.specs.Gates.{Edge, IsGoodGate}
+use Rattle.flat_layout.specs.Gates.{Edge, IsGoodGate, TwoGroups}
 use Rattle.flat_layout.specs.Layout.{IsOwn}
 use Rattle.flat_layout.specs.Regions.{Node, At, Ground}
 use Rattle.flat_sample.specs.Transistors.{key_of, at, mirror_place, gate_design, gate_wiring, rule}
@@ -15,7 +15,7 @@ edge_of x y = record { inner = at x; outer = at y }
 -- a good gate in a column, its source left and its drain right, two edges wide and two long
 abbrev pub IsGood : ℕ → ℕ → ℕ → ℕ → Type 0
 IsGood cell source gate drain = IsGoodGate gate_design gate_wiring rule cell (at gate)
-    (edge_of gate source) (edge_of gate drain) 2 2
+    (TwoGroups (edge_of gate source) (edge_of gate drain)) 2 2
 
 -- the child draws it, and its image is this square of the parent
 abbrev pub IsPart : ℕ → Square → Type 0

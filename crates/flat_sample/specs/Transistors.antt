@@ -9,7 +9,7 @@ use Rattle.geo_base.specs.declared.shapes.Rect.{Rect}
 use Rattle.geo_base.specs.declared.shapes.Square.{Square}
 use Rattle.flat_layout.specs.Circuits.{CircuitParts}
 use Rattle.flat_layout.specs.Expanded.{CircuitTables}
-use Rattle.flat_layout.specs.Gates.{Rule}
+use Rattle.flat_layout.specs.Gates.{Rule, Mos}
 use Rattle.flat_layout.specs.GateTables.{GateEntry, GateRow, Good}
 use Rattle.flat_layout.specs.Layers.{Formula, Input, Empty, Binary}
 use Rattle.flat_layout.specs.Layout.{Place, Layer, Text, Cell, Design}
@@ -132,7 +132,16 @@ abbrev pub nmos : List ℕ
 nmos = 110 ∷ (109 ∷ (111 ∷ (115 ∷ [])))
 
 abbrev pub rule : Rule
-rule = record { class = nmos; sd = sides; gate = crossings; well = Empty; ts = 0; tg = 1; tb = 2 }
+rule = record {
+  class = nmos;
+  kind = Mos;
+  sd = sides;
+  gate = crossings;
+  well = Empty;
+  ts = 0;
+  tg = 1;
+  tb = 2;
+}
 
 abbrev pub gate_rules : List Rule
 gate_rules = rule ∷ []

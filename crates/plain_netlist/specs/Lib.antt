@@ -1,6 +1,7 @@
 pub mod Lists
 pub mod Chains
 pub mod Netlist
+pub mod Classes
 pub mod OneNet
 pub mod Normal
 pub mod Sound

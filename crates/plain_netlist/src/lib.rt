@@ -1,7 +1,8 @@
 //! Netlists as plain records: what can be wrong with one, what a circuit expands to, and when two
 //! circuits expand to the same.
 //!
-//! The definitions stand in `specs/`: `Netlist` has the records and the expansion, `Sound` the
+//! The definitions stand in `specs/`: `Netlist` has the records and the expansion, `Classes` the
+//! classes of devices that are no transistors, `Sound` the
 //! faults, `Normal` the normal form, `Flats` flat netlists of any kind and their correspondences,
 //! `Chains` chains of joins, `Lists` lists without repeats and rising lists. No code runs here;
 //! each law is the contract of a function with an empty body.

@@ -4,7 +4,7 @@ use Rattle.std.specs.Prelude.{flat_map}
 use Rattle.std.proofs.Math.Decide.{ℕ_discrete}
 use Rattle.std.proofs.lemmas.Option.{same_Some, slice_get_within}
 use Rattle.flat_layout.specs.Circuits.{AreCircuitCells, CircuitParts, IsCallOf, IsCircuitCell, IsCircuitOf, IsNetlistOf, drawn_nets, pin_nets}
-use Rattle.flat_layout.specs.Gates.{Rule}
+use Rattle.flat_layout.specs.Gates.{Rule, width_of}
 use Rattle.flat_layout.specs.GateTables.{GateEntry, good_gates, terminal_net}
 use Rattle.flat_layout.specs.Layout.{Design, Place, IsHeight, IsReached}
 use Rattle.flat_layout.specs.Nets.{AreNets, Child, IsItemLink, Tables}
@@ -174,7 +174,7 @@ module _ (d : Design) (w : Wiring) (t : Tables) (gates : ℕ → List GateEntry)
         let k = a.has_devices.each i s.0 x s.1 h in
         let j = b.has_devices.each i s.0 y s.1 g in
         let same : k.rule ≡ j.rule = (let u = k.is in let v = j.is in cc) in
-        row_is x y (k.class ∙ ap (λ (r : Rule). r.class) same ∙ sym j.class) (k.length ∙ sym j.length) (k.width ∙ sym j.width)
+        row_is x y (k.class ∙ ap (λ (r : Rule). r.class) same ∙ sym j.class) (k.length ∙ sym j.length) (k.width ∙ ap (λ (r : Rule). width_of r unit s.0.row.twice_w) same ∙ sym j.width)
         (λ pole. apart_at (terminal_net pole s.0.row) p.nets (on pole x) (on pole y) a.has_nets.apart (k.poles pole) (j.poles pole)))
 
     rows_same : c.calls ≡ e.calls

@@ -1,4 +1,4 @@
-use Rattle.std.proofs.Common.{length, subst, sym, arith}
+use Rattle.std.proofs.Common.{length, ◌+◌, subst, sym, arith}
 use Rattle.fixed_num.specs.Scan.{IsStripped, power_seen}
 use Rattle.fixed_num.proofs.Digits.{value-append}
 use Rattle.fixed_num.proofs.Decisions.{scale_down, scale_up}
@@ -12,8 +12,8 @@ returns-then-power c =
     let n = c.push_all-number.result in
     let h = subst (IsStripped n.count n.value n.zeros) (sym (value-append 0 whole places))
     (c.push_all-number.ensures.number _ (c.push_all.ensures.number 0 c.zero.ensures.number)) in
-    minus_at whole places (power_seen c.args.power.now) c.args.unit c.femtometres.result c.if-power.true
-    (c.femtometres.ensures _ _ _ h (scale_down _ c.args.unit (length places) _ _ c.from-unit.ensures (omega arith) c.capped-exponent.ensures))
+    minus_at c.args.tens c.args.most whole places (power_seen c.args.power.now) c.args.unit c.whole.result c.if-power.true
+    (c.whole.ensures _ _ _ h (scale_down _ (c.args.tens + c.args.unit) (length places) _ _ (omega (arith, c.from.ensures, c.from-2.ensures)) (omega arith) c.capped-exponent.ensures))
 
 pub returns-else-power : goal.returns-else-power
 returns-else-power c =
@@ -22,5 +22,5 @@ returns-else-power c =
     let n = c.push_all-number.result in
     let h = subst (IsStripped n.count n.value n.zeros) (sym (value-append 0 whole places))
     (c.push_all-number.ensures.number _ (c.push_all.ensures.number 0 c.zero.ensures.number)) in
-    plus_at whole places (power_seen c.args.power.now) c.args.unit c.femtometres-else-power.result c.if-power.false
-    (c.femtometres-else-power.ensures _ _ _ h (scale_up _ c.args.unit (length places) _ _ c.from-unit.ensures (omega arith) c.capped-exponent.ensures))
+    plus_at c.args.tens c.args.most whole places (power_seen c.args.power.now) c.args.unit c.whole-else-power.result c.if-power.false
+    (c.whole-else-power.ensures _ _ _ h (scale_up _ (c.args.tens + c.args.unit) (length places) _ _ (omega (arith, c.from.ensures, c.from-2.ensures)) (omega arith) c.capped-exponent.ensures))

@@ -1,4 +1,4 @@
-use Rattle.std.proofs.Common.{◌≡◌, ◌*◌, ◌^◌, ℕ, sym, ◌∙◌, ap, Bool, true, false, refl, subst}
+use Rattle.std.proofs.Common.{◌*◌, ◌^◌, ℕ, sym, ◌∙◌, ap, Bool}
 use Rattle.std.specs.Prelude.{◌==◌, ◌&&◌, not}
 use Rattle.fixed_num.proofs.Reals.{positive, same_factor}
 use Rattle.fixed_num.proofs.Turns.{same_test}

@@ -1,6 +1,6 @@
 use Rattle.std.proofs.Common.{◌*◌, ◌^◌, ℕ, ◌∙◌, ap, true, false}
 use Rattle.fixed_num.specs.Real.{real_seen}
-use Rattle.fixed_num.proofs.Turns.{quarter_is, quarter_none}
+use Rattle.fixed_num.proofs.Turns.{quarter_is}
 use Rattle.fixed_num.proofs.real.Real8.quarter.Goals as goal
 
 pub returns-then-self : goal.returns-then-self
