@@ -2,7 +2,7 @@
 use Rattle.std.proofs.Common.{◌≡◌, ℕ, zero, suc, ◌+◌, ◌-◌, ◌*◌, ◌<◌, ◌≤◌, cond, List, [], ◌∷◌, length, take, drop, Bool, true, false, Option, Some, None, refl, sym, ap, subst, arith}
 use Rattle.std.specs.Prelude.{◌&&◌, nat_le, slice_get, unwrap_or}
 use Rattle.rule_lines.specs.Tokens.{Token, Word, Text, Mark, Arrow, Bad, is_digit}
-use Rattle.rule_text.specs.Rows.{Slot, Fresh, Name, Layer, Guesses, Quoted, Exact, Operator, Key, Sign, Maps, is_name, is_string, number_from, guesses_of, fits_slot, fits, word_of, word_at}
+use Rattle.rule_text.specs.Rows.{Slot, Fresh, Name, Layer, Guesses, Digits, Quoted, Exact, Operator, Key, Sign, Maps, is_name, is_string, number_from, guesses_of, fits_slot, fits, word_of, word_at}
 use Rattle.rule_text.specs.Filled.{FillsSlot, AreFilled}
 
 first_true : (a b : Bool) → (a && b) ≡ true → a ≡ true
@@ -53,7 +53,7 @@ slot_filled Name (Text w) e = absurd cc
 slot_filled Name (Mark b) e = absurd cc
 slot_filled Name Arrow e = absurd cc
 slot_filled Name Bad e = absurd cc
-slot_filled Quoted (Text w) e = string_filled w e
+slot_filled Quoted (Text w) e = (string_filled w e, e)
 slot_filled Quoted (Word w) e = absurd cc
 slot_filled Quoted (Mark b) e = absurd cc
 slot_filled Quoted Arrow e = absurd cc
@@ -64,6 +64,7 @@ slot_filled Exact (Mark b) e = absurd cc
 slot_filled Exact Arrow e = absurd cc
 slot_filled Exact Bad e = absurd cc
 slot_filled Layer t e = tt
+slot_filled Digits t e = tt
 slot_filled Guesses (Word w) e = (limit_some (unwrap_or (guesses_of w) 0) e, limit_most w)
 slot_filled Guesses (Text w) e = absurd cc
 slot_filled Guesses (Mark b) e = absurd cc
@@ -104,3 +105,19 @@ head_word (a ∷ b ∷ []) = refl
 head_word (a ∷ b ∷ c ∷ []) = refl
 head_word (a ∷ b ∷ c ∷ d ∷ []) = refl
 head_word (a ∷ b ∷ c ∷ d ∷ e ∷ ts) = refl
+
+pub digits_word : (ts : List Token) → word_at 4 (take 10 ts) ≡ word_at 4 ts
+digits_word [] = refl
+digits_word (a ∷ []) = refl
+digits_word (a ∷ b ∷ []) = refl
+digits_word (a ∷ b ∷ c ∷ []) = refl
+digits_word (a ∷ b ∷ c ∷ d ∷ []) = refl
+digits_word (a ∷ b ∷ c ∷ d ∷ e ∷ ts) = refl
+
+pub point_word : (ts : List Token) → word_at 4 (take 12 ts) ≡ word_at 4 ts
+point_word [] = refl
+point_word (a ∷ []) = refl
+point_word (a ∷ b ∷ []) = refl
+point_word (a ∷ b ∷ c ∷ []) = refl
+point_word (a ∷ b ∷ c ∷ d ∷ []) = refl
+point_word (a ∷ b ∷ c ∷ d ∷ e ∷ ts) = refl

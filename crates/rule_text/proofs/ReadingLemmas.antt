@@ -7,7 +7,7 @@ use Rattle.rule_text.specs.declared.fault.RuleFault.{RuleFault}
 use Rattle.rule_text.specs.declared.fault.RuleFault.TheVariants.{UnknownStatement, BadForm, UnknownName, NameTwice, NotConductor, TooManyLayers, NotText, NoMemory}
 use Rattle.rule_text.specs.Rules.{Rules, no_rules, fault_of, with_line}
 use Rattle.rule_text.specs.Reader.{SaysFirst}
-use Rattle.rule_text.specs.Reading.{Answers, Pass, rules_of, device_lines, first_loose, loose_line, Means, IsLineFault, IsDeviceFault, IsFirstFault, fault_or, reading, connected_or, closed, text_or, reading_of, MeaningLaw, FaultLaw}
+use Rattle.rule_text.specs.Reading.{Answers, Pass, rules_of, device_lines, more_lines, loose_of, loose_line, Means, IsLineFault, IsDeviceFault, IsFirstFault, fault_or, reading, connected_or, closed, text_or, reading_of, MeaningLaw, FaultLaw}
 
 ok_at : (f : Option RuleFault) (rest : Result Rules RuleFault) (q : Rules) → fault_or f rest ≡ Ok q → (f ≡ None) × (rest ≡ Ok q)
 ok_at None rest q e = (refl, e)
@@ -77,7 +77,7 @@ abbrev read_lines : List ℕ → Result Rules RuleFault
 read_lines bytes = reading 1 no_rules (lines_of bytes)
 
 abbrev closed_lines : List ℕ → Result Rules RuleFault
-closed_lines bytes = closed (device_lines 1 (lines_of bytes)) (read_lines bytes)
+closed_lines bytes = closed (device_lines 1 (lines_of bytes)) (more_lines 1 (lines_of bytes)) (read_lines bytes)
 
 text_ok : (at : Option ℕ) (rest : Result Rules RuleFault) (r : Rules) → text_or at rest ≡ Ok r → (at ≡ None) × (rest ≡ Ok r)
 text_ok None rest r e = (refl, e)
@@ -102,9 +102,9 @@ means bytes r e =
     elim (ok_or_err (read_lines bytes)) [
       | inl (q, same) ↦
           let lines = ok (lines_of bytes) 1 no_rules q same in
-          let close : connected_or (first_loose q q.devices (device_lines 1 (lines_of bytes))) q ≡ Ok r =
-          ap (λ (x : Result Rules RuleFault). closed (device_lines 1 (lines_of bytes)) x) (sym same) ∙ text.1 in
-          let end = loose_ok (first_loose q q.devices (device_lines 1 (lines_of bytes))) q r close in
+          let close : connected_or (loose_of q (device_lines 1 (lines_of bytes)) (more_lines 1 (lines_of bytes))) q ≡ Ok r =
+          ap (λ (x : Result Rules RuleFault). closed (device_lines 1 (lines_of bytes)) (more_lines 1 (lines_of bytes)) x) (sym same) ∙ text.1 in
+          let end = loose_ok (loose_of q (device_lines 1 (lines_of bytes)) (more_lines 1 (lines_of bytes))) q r close in
           record {
             text = text.0;
             passed = lines.0;
@@ -112,13 +112,13 @@ means bytes r e =
             connected = ap (λ (x : Rules). loose_line x (lines_of bytes)) (sym end.1) ∙ end.0;
           }
       | inr (f, same) ↦
-          let wrong : Err f ≡ Ok r = ap (λ (x : Result Rules RuleFault). closed (device_lines 1 (lines_of bytes)) x) (sym same) ∙ text.1 in absurd cc
+          let wrong : Err f ≡ Ok r = ap (λ (x : Result Rules RuleFault). closed (device_lines 1 (lines_of bytes)) (more_lines 1 (lines_of bytes)) x) (sym same) ∙ text.1 in absurd cc
     ]
 
 meant : (bytes : List ℕ) (r : Rules) → Means bytes r → reading_of bytes ≡ Ok r
 meant bytes r m =
     ap (λ (at : Option ℕ). text_or at (closed_lines bytes)) m.text
-    ∙ ap (λ (x : Result Rules RuleFault). closed (device_lines 1 (lines_of bytes)) x) (passed (lines_of bytes) 1 no_rules m.passed ∙ ap (λ (q : Rules). Ok q) (sym m.rules))
+    ∙ ap (λ (x : Result Rules RuleFault). closed (device_lines 1 (lines_of bytes)) (more_lines 1 (lines_of bytes)) x) (passed (lines_of bytes) 1 no_rules m.passed ∙ ap (λ (q : Rules). Ok q) (sym m.rules))
     ∙ ap (λ (at : Option ℕ). connected_or at r) m.connected
 
 faulty : (bytes : List ℕ) (f : RuleFault) → reading_of bytes ≡ Err f → IsFirstFault bytes f
@@ -130,9 +130,9 @@ faulty bytes f e =
         elim (ok_or_err (read_lines bytes)) [
           | inl (q, same) ↦
               let lines = ok (lines_of bytes) 1 no_rules q same in
-              let close : connected_or (first_loose q q.devices (device_lines 1 (lines_of bytes))) q ≡ Err f =
-              ap (λ (x : Result Rules RuleFault). closed (device_lines 1 (lines_of bytes)) x) (sym same) ∙ rest in
-              let end = loose_err (first_loose q q.devices (device_lines 1 (lines_of bytes))) q f close in
+              let close : connected_or (loose_of q (device_lines 1 (lines_of bytes)) (more_lines 1 (lines_of bytes))) q ≡ Err f =
+              ap (λ (x : Result Rules RuleFault). closed (device_lines 1 (lines_of bytes)) (more_lines 1 (lines_of bytes)) x) (sym same) ∙ rest in
+              let end = loose_err (loose_of q (device_lines 1 (lines_of bytes)) (more_lines 1 (lines_of bytes))) q f close in
               inr (record {
                 passed = lines.0;
                 line = end.0;
@@ -140,7 +140,7 @@ faulty bytes f e =
                 first = ap (λ (x : Rules). loose_line x (lines_of bytes)) (sym lines.1) ∙ end.1;
               })
           | inr (g, same) ↦
-              let wrong : Err g ≡ Err f = ap (λ (x : Result Rules RuleFault). closed (device_lines 1 (lines_of bytes)) x) (sym same) ∙ rest in
+              let wrong : Err g ≡ Err f = ap (λ (x : Result Rules RuleFault). closed (device_lines 1 (lines_of bytes)) (more_lines 1 (lines_of bytes)) x) (sym same) ∙ rest in
               inl (first (lines_of bytes) 1 no_rules f (same ∙ wrong))
         ],
       )
@@ -148,12 +148,12 @@ faulty bytes f e =
 
 line_fault : (bytes : List ℕ) (f : RuleFault) → IsLineFault 1 no_rules (lines_of bytes) f → closed_lines bytes ≡ Err f
 line_fault bytes f h =
-    ap (λ (x : Result Rules RuleFault). closed (device_lines 1 (lines_of bytes)) x)
+    ap (λ (x : Result Rules RuleFault). closed (device_lines 1 (lines_of bytes)) (more_lines 1 (lines_of bytes)) x)
     (ap (λ (ls : List (List ℕ)). reading 1 no_rules ls) h.parts ∙ stops h.before h.line h.after 1 no_rules f h.passed h.is)
 
 device_fault : (bytes : List ℕ) (f : RuleFault) → IsDeviceFault (lines_of bytes) f → closed_lines bytes ≡ Err f
 device_fault bytes f h =
-    ap (λ (x : Result Rules RuleFault). closed (device_lines 1 (lines_of bytes)) x) (passed (lines_of bytes) 1 no_rules h.passed)
+    ap (λ (x : Result Rules RuleFault). closed (device_lines 1 (lines_of bytes)) (more_lines 1 (lines_of bytes)) x) (passed (lines_of bytes) 1 no_rules h.passed)
     ∙ ap (λ (at : Option ℕ). connected_or at (rules_of no_rules (lines_of bytes))) h.first
     ∙ ap (λ (g : RuleFault). Err g) (sym h.is)
 

@@ -1,6 +1,6 @@
 -- A statement that passes keeps the entries sound.
 use Rattle.std.proofs.Common.{◌≡◌, inl, inr, ℕ, zero, suc, ◌+◌, ◌<◌, List, [], ◌∷◌, ◌++◌, length, map, Bool, true, false, cond, Option, Some, None, refl, sym, ap, subst, ◌∙◌, arith}
-use Rattle.std.specs.Prelude.{◌&&◌, ◌||◌, not, slice_get, if◌then◌else◌}
+use Rattle.std.specs.Prelude.{◌&&◌, ◌||◌, not, nat_le, slice_get, if◌then◌else◌}
 use Rattle.std.specs.List.{list_any, list_all, position_or_len}
 use Rattle.std.specs.Str.{bytes_eq}
 use Rattle.std.proofs.lemmas.List.{map-append, length-map, length-append}
@@ -13,14 +13,16 @@ use Rattle.rule_text.specs.declared.rules.LayerForm.TheVariants as form
 use Rattle.rule_text.specs.declared.rules.LayerRule.{LayerRule}
 use Rattle.rule_text.specs.declared.rules.Output.{Output}
 use Rattle.rule_text.specs.declared.rules.MosRule.{MosRule}
-use Rattle.rule_text.specs.Rows.{Form, Input, Labels, Empty, Binary, Mos, Statement, Define, Draw, Connect, Global, Extract, Same, FlattenLayout, FlattenSchematic, FlattenUnmatched, SamePins, Combine, MaxGuesses, Accepted}
-use Rattle.rule_text.specs.Rules.{Rules, no_rules, names_of, place_of, is_defined, is_text_rule, has_texts, is_labels, operands_of, uses_of, is_twice, is_misplaced, statement_fault, numbered, mos_rule, named, drawn, extracting, paired, names_layout, names_schematic, flattening_layout, flattening_schematic, with_statement}
+use Rattle.rule_text.specs.declared.rules.MoreRule.{MoreRule}
+use Rattle.rule_text.specs.declared.rules.MoreRule.TheVariants as more
+use Rattle.rule_text.specs.Rows.{is_string, Form, Input, Labels, Empty, Binary, Mos, More, Resistor, Diode, Statement, Define, Draw, Connect, Global, Extract, Further, Same, FlattenLayout, FlattenSchematic, FlattenUnmatched, SamePins, Combine, MaxGuesses, Accepted}
+use Rattle.rule_text.specs.Rules.{Rules, no_rules, names_of, place_of, is_defined, is_text_rule, has_texts, is_labels, operands_of, uses_of, is_twice, is_misplaced, statement_fault, numbered, mos_rule, further_rule, class_in, has_class, mos_classes, more_classes, named, drawn, extracting, going_on, paired, names_layout, names_schematic, flattening_layout, flattening_schematic, with_statement}
 use Rattle.geo_base.specs.Layers.{is_same_key}
-use Rattle.rule_text.specs.Filled.{IsFilled}
-use Rattle.rule_text.specs.Reading.{is_connected, first_loose}
+use Rattle.rule_text.specs.Filled.{IsFilled, IsString, class_of}
+use Rattle.rule_text.specs.Reading.{is_connected, is_more_connected, first_loose, first_loose_more, lesser, loose_of}
 use Rattle.plain_netlist.specs.Lists.{AreApart}
 use Rattle.plain_netlist.proofs.Listing.{apart_at, at_apart}
-use Rattle.rule_text.specs.Sound.{Each, IsLayer, AreOperands, AreJoined, AreMosLayers, IsFormed, IsSound}
+use Rattle.rule_text.specs.Sound.{Each, IsLayer, AreOperands, AreJoined, AreMosLayers, AreMoreLayers, IsFormed, IsSound}
 use Rattle.rule_text.proofs.ListLemmas.{among_more}
 
 both_true : (a b : Bool) → (a && b) ≡ true → (a ≡ true) × (b ≡ true)
@@ -129,6 +131,11 @@ mos_kept names n d h = record {
   tb = layer_kept names n d.tb h.tb;
 }
 
+more_kept : (names : List LayerRule) (n : LayerRule) (d : MoreRule) → AreMoreLayers names d → AreMoreLayers (names ++ n ∷ []) d
+more_kept names n (more.Resistor class r c w ta tw) h =
+    (layer_kept names n r h.0, layer_kept names n c h.1, layer_kept names n w h.2, layer_kept names n ta h.3, layer_kept names n tw h.4)
+more_kept names n (more.Diode class p m ta tc) h = (layer_kept names n p h.0, layer_kept names n m h.1, layer_kept names n ta h.2, layer_kept names n tc h.3)
+
 operands_kept : (names : List LayerRule) (n : LayerRule) (k : ℕ) (f : LayerForm) → AreOperands names k f → AreOperands (names ++ n ∷ []) k f
 operands_kept names n k (form.Input key) h = tt
 operands_kept names n k (form.Labels key) h = tt
@@ -169,7 +176,12 @@ defined_more r name f fresh used plain h =
       connects = λ k c e. joined_kept r.names n c.0 c.1 (h.connects k c e);
       globals = λ k g e. layer_kept r.names n g.0 (h.globals k g e);
       classes = h.classes;
+      others = h.others;
+      apart = h.apart;
+      strings = h.strings;
+      more_strings = h.more_strings;
       devices = λ k d e. mos_kept r.names n d (h.devices k d e);
+      more = λ k d e. more_kept r.names n d (h.more k d e);
       layouts = h.layouts;
       schematics = h.schematics;
       flat_layouts = h.flat_layouts;
@@ -189,7 +201,12 @@ drawn_more r name key fresh ls h =
       connects = h.connects;
       globals = h.globals;
       classes = h.classes;
+      others = h.others;
+      apart = h.apart;
+      strings = h.strings;
+      more_strings = h.more_strings;
       devices = h.devices;
+      more = h.more;
       layouts = h.layouts;
       schematics = h.schematics;
       flat_layouts = h.flat_layouts;
@@ -206,7 +223,12 @@ connect_more r a b ls h = record {
   connects = each_more (λ k c. AreJoined r.names c.0 c.1) r.connects (place_of a r, place_of b r) h.connects ls;
   globals = h.globals;
   classes = h.classes;
+  others = h.others;
+  apart = h.apart;
+  strings = h.strings;
+  more_strings = h.more_strings;
   devices = h.devices;
+  more = h.more;
   layouts = h.layouts;
   schematics = h.schematics;
   flat_layouts = h.flat_layouts;
@@ -223,7 +245,12 @@ global_more r a net ls h = record {
   connects = h.connects;
   globals = each_more (λ k g. IsLayer r.names g.0) r.globals (place_of a r, net) h.globals ls.0;
   classes = h.classes;
+  others = h.others;
+  apart = h.apart;
+  strings = h.strings;
+  more_strings = h.more_strings;
   devices = h.devices;
+  more = h.more;
   layouts = h.layouts;
   schematics = h.schematics;
   flat_layouts = h.flat_layouts;
@@ -231,24 +258,87 @@ global_more r a net ls h = record {
   guesses = h.guesses;
 }
 
-extract_more : (r : Rules) (m : Mos) → list_any (bytes_eq (folded_bytes m.class)) (map (λ d. folded_bytes d.class) r.devices) ≡ false
+-- a class more in one of two lists that have none in common
+same_text : (w v : List ℕ) → w ≡ v → bytes_eq w v ≡ true
+same_text w v e = (bytes_eq-Decides w v).1 e
+
+class_first : (xs ys : List (List ℕ)) (x : List ℕ) → list_any (bytes_eq x) ys ≡ false → ((j k : ℕ) (w : List ℕ) → slice_get xs j ≡ Some w → slice_get ys k ≡ Some w → ⊥)
+    → (j k : ℕ) (w : List ℕ) → slice_get (xs ++ x ∷ []) j ≡ Some w → slice_get ys k ≡ Some w → ⊥
+class_first xs ys x none apart j k w e f = elim (among_more xs x w j e) [
+  | inl h ↦ apart j k w h f
+  | inr (at, same) ↦ lacks (bytes_eq x) ys k w none f (same_text x w same)
+]
+
+class_second : (xs ys : List (List ℕ)) (y : List ℕ) → list_any (bytes_eq y) xs ≡ false → ((j k : ℕ) (w : List ℕ) → slice_get xs j ≡ Some w → slice_get ys k ≡ Some w → ⊥)
+    → (j k : ℕ) (w : List ℕ) → slice_get xs j ≡ Some w → slice_get (ys ++ y ∷ []) k ≡ Some w → ⊥
+class_second xs ys y none apart j k w e f = elim (among_more ys y w k f) [
+  | inl h ↦ apart j k w e h
+  | inr (at, same) ↦ lacks (bytes_eq y) xs j w none e (same_text y w same)
+]
+
+extract_more : (r : Rules) (m : Mos) → has_class (folded_bytes m.class) r ≡ false → IsString m.class
     → AllLayers r (m.sd ∷ m.g ∷ m.w ∷ m.ts ∷ m.tg ∷ m.tb ∷ []) → IsFormed r → IsFormed (extracting r m)
-extract_more r m fresh ls h = record {
-  names = h.names;
-  operands = h.operands;
-  keys = h.keys;
-  outputs = h.outputs;
-  connects = h.connects;
-  globals = h.globals;
-  classes = map_apart (bytes_eq (folded_bytes m.class)) (λ d. folded_bytes d.class) r.devices (mos_rule r m) (same_bytes (folded_bytes m.class)) fresh h.classes;
-  devices = each_more (λ k d. AreMosLayers r.names d) r.devices (mos_rule r m) h.devices
-      (record { sd = ls.0; g = ls.1.0; w = ls.1.1.0; ts = ls.1.1.1.0; tg = ls.1.1.1.1.0; tb = ls.1.1.1.1.1.0 });
-  layouts = h.layouts;
-  schematics = h.schematics;
-  flat_layouts = h.flat_layouts;
-  flat_schematics = h.flat_schematics;
-  guesses = h.guesses;
-}
+extract_more r m fresh filled ls h =
+    let both = both_false (list_any (bytes_eq (folded_bytes m.class)) (mos_classes r)) (list_any (bytes_eq (folded_bytes m.class)) (more_classes r)) fresh in
+    let longer : mos_classes (extracting r m) ≡ mos_classes r ++ folded_bytes m.class ∷ [] = map-append (λ (d : MosRule). folded_bytes d.class) r.devices (mos_rule r m ∷ []) in
+    record {
+      names = h.names;
+      operands = h.operands;
+      keys = h.keys;
+      outputs = h.outputs;
+      connects = h.connects;
+      globals = h.globals;
+      classes = map_apart (bytes_eq (folded_bytes m.class)) (λ d. folded_bytes d.class) r.devices (mos_rule r m) (same_bytes (folded_bytes m.class)) both.0 h.classes;
+      others = h.others;
+      apart = λ j k w e f. class_first (mos_classes r) (more_classes r) (folded_bytes m.class) both.1 h.apart j k w (subst (λ (l : List (List ℕ)). slice_get l j ≡ Some w) longer e) f;
+      strings = each_more (λ k d. is_string d.class ≡ true) r.devices (mos_rule r m) h.strings filled.1;
+      more_strings = h.more_strings;
+      devices = each_more (λ k d. AreMosLayers r.names d) r.devices (mos_rule r m) h.devices
+          (record { sd = ls.0; g = ls.1.0; w = ls.1.1.0; ts = ls.1.1.1.0; tg = ls.1.1.1.1.0; tb = ls.1.1.1.1.1.0 });
+      more = h.more;
+      layouts = h.layouts;
+      schematics = h.schematics;
+      flat_layouts = h.flat_layouts;
+      flat_schematics = h.flat_schematics;
+      guesses = h.guesses;
+    }
+
+class_kept : (r : Rules) (m : More) → class_in (further_rule r m) ≡ class_of m
+class_kept r (Resistor class n c w ta tw) = refl
+class_kept r (Diode class p n ta tc) = refl
+
+further_layers : (r : Rules) (m : More) → AllLayers r (uses_of (Further m)) → AreMoreLayers r.names (further_rule r m)
+further_layers r (Resistor class n c w ta tw) ls = (ls.0, ls.1.0, ls.1.1.0, ls.1.1.1.0, ls.1.1.1.1.0)
+further_layers r (Diode class p n ta tc) ls = (ls.0, ls.1.0, ls.1.1.0, ls.1.1.1.0)
+
+further_more : (r : Rules) (m : More) → has_class (folded_bytes (class_of m)) r ≡ false → IsString (class_of m) → AllLayers r (uses_of (Further m)) → IsFormed r → IsFormed (going_on r m)
+further_more r m fresh filled ls h =
+    let w = folded_bytes (class_of m) in
+    let d = further_rule r m in
+    let both = both_false (list_any (bytes_eq w) (mos_classes r)) (list_any (bytes_eq w) (more_classes r)) fresh in
+    let same : folded_bytes (class_in d) ≡ w = ap folded_bytes (class_kept r m) in
+    let longer : more_classes (going_on r m) ≡ more_classes r ++ w ∷ [] =
+    map-append (λ (x : MoreRule). folded_bytes (class_in x)) r.more (d ∷ []) ∙ ap (λ (v : List ℕ). more_classes r ++ v ∷ []) same in
+    record {
+      names = h.names;
+      operands = h.operands;
+      keys = h.keys;
+      outputs = h.outputs;
+      connects = h.connects;
+      globals = h.globals;
+      classes = h.classes;
+      others = subst (λ (l : List (List ℕ)). AreApart l) (sym longer) (apart_more (bytes_eq w) (more_classes r) w (same_bytes w) both.1 h.others);
+      apart = λ j k v e f. class_second (mos_classes r) (more_classes r) w both.0 h.apart j k v e (subst (λ (l : List (List ℕ)). slice_get l k ≡ Some v) longer f);
+      strings = h.strings;
+      more_strings = each_more (λ k x. is_string (class_in x) ≡ true) r.more d h.more_strings (subst (λ (v : List ℕ). is_string v ≡ true) (sym (class_kept r m)) filled.1);
+      devices = h.devices;
+      more = each_more (λ k x. AreMoreLayers r.names x) r.more d h.more (further_layers r m ls);
+      layouts = h.layouts;
+      schematics = h.schematics;
+      flat_layouts = h.flat_layouts;
+      flat_schematics = h.flat_schematics;
+      guesses = h.guesses;
+    }
 
 same_more : (r : Rules) (a b : List ℕ) → is_twice r (Same a b) ≡ false → IsFormed r → IsFormed (paired r a b)
 same_more r a b fresh h =
@@ -261,7 +351,12 @@ same_more r a b fresh h =
       connects = h.connects;
       globals = h.globals;
       classes = h.classes;
+      others = h.others;
+      apart = h.apart;
+      strings = h.strings;
+      more_strings = h.more_strings;
       devices = h.devices;
+      more = h.more;
       layouts = map_apart (bytes_eq (folded_bytes a)) (λ p. folded_bytes p.0) r.same (a, b) (same_bytes (folded_bytes a)) (both_false _ _ apart.0).0 h.layouts;
       schematics = map_apart (bytes_eq (folded_bytes b)) (λ p. folded_bytes p.1) r.same (a, b) (same_bytes (folded_bytes b)) (both_false _ _ apart.1).0 h.schematics;
       flat_layouts = h.flat_layouts;
@@ -278,7 +373,12 @@ flat_layout_more r a fresh h = record {
   connects = h.connects;
   globals = h.globals;
   classes = h.classes;
+  others = h.others;
+  apart = h.apart;
+  strings = h.strings;
+  more_strings = h.more_strings;
   devices = h.devices;
+  more = h.more;
   layouts = h.layouts;
   schematics = h.schematics;
   flat_layouts = map_apart (bytes_eq (folded_bytes a)) folded_bytes r.flat_layouts a (same_bytes (folded_bytes a)) (both_false _ _ fresh).1 h.flat_layouts;
@@ -295,7 +395,12 @@ flat_schematic_more r b fresh h = record {
   connects = h.connects;
   globals = h.globals;
   classes = h.classes;
+  others = h.others;
+  apart = h.apart;
+  strings = h.strings;
+  more_strings = h.more_strings;
   devices = h.devices;
+  more = h.more;
   layouts = h.layouts;
   schematics = h.schematics;
   flat_layouts = h.flat_layouts;
@@ -312,7 +417,12 @@ unmatched_more r h = record {
   connects = h.connects;
   globals = h.globals;
   classes = h.classes;
+  others = h.others;
+  apart = h.apart;
+  strings = h.strings;
+  more_strings = h.more_strings;
   devices = h.devices;
+  more = h.more;
   layouts = h.layouts;
   schematics = h.schematics;
   flat_layouts = h.flat_layouts;
@@ -329,7 +439,12 @@ pins_more r h = record {
   connects = h.connects;
   globals = h.globals;
   classes = h.classes;
+  others = h.others;
+  apart = h.apart;
+  strings = h.strings;
+  more_strings = h.more_strings;
   devices = h.devices;
+  more = h.more;
   layouts = h.layouts;
   schematics = h.schematics;
   flat_layouts = h.flat_layouts;
@@ -346,7 +461,12 @@ combine_more r h = record {
   connects = h.connects;
   globals = h.globals;
   classes = h.classes;
+  others = h.others;
+  apart = h.apart;
+  strings = h.strings;
+  more_strings = h.more_strings;
   devices = h.devices;
+  more = h.more;
   layouts = h.layouts;
   schematics = h.schematics;
   flat_layouts = h.flat_layouts;
@@ -363,7 +483,12 @@ guesses_more r n fits h = record {
   connects = h.connects;
   globals = h.globals;
   classes = h.classes;
+  others = h.others;
+  apart = h.apart;
+  strings = h.strings;
+  more_strings = h.more_strings;
   devices = h.devices;
+  more = h.more;
   layouts = h.layouts;
   schematics = h.schematics;
   flat_layouts = h.flat_layouts;
@@ -384,7 +509,8 @@ by_tests r (Connect a b) used fresh plain filled h =
     let e = both_true (is_defined b r) true d.1 in
     connect_more r a b (record { left = name_below a r d.0; right = name_below b r e.0; plain = plain }) h
 by_tests r (Global a net) used fresh plain filled h = global_more r a net (all_layers r (a ∷ []) used plain) h
-by_tests r (Extract m) used fresh plain filled h = extract_more r m fresh (all_layers r (m.sd ∷ m.g ∷ m.w ∷ m.ts ∷ m.tg ∷ m.tb ∷ []) used plain) h
+by_tests r (Extract m) used fresh plain filled h = extract_more r m fresh filled (all_layers r (m.sd ∷ m.g ∷ m.w ∷ m.ts ∷ m.tg ∷ m.tb ∷ []) used plain) h
+by_tests r (Further m) used fresh plain filled h = further_more r m fresh filled (all_layers r (uses_of (Further m)) used plain) h
 by_tests r (Same a b) used fresh plain filled h = same_more r a b fresh h
 by_tests r (FlattenLayout a) used fresh plain filled h = flat_layout_more r a fresh h
 by_tests r (FlattenSchematic b) used fresh plain filled h = flat_schematic_more r b fresh h
@@ -409,7 +535,12 @@ none_formed = record {
   connects = none_each _;
   globals = none_each _;
   classes = tt;
+  others = tt;
+  apart = λ j k w e f. absurd cc;
+  strings = none_each _;
+  more_strings = none_each _;
   devices = none_each _;
+  more = none_each _;
   layouts = tt;
   schematics = tt;
   flat_layouts = tt;
@@ -417,20 +548,38 @@ none_formed = record {
   guesses = (omega arith, omega arith);
 }
 
+connected_step : (b : Bool) (n : ℕ) (rest : Option ℕ) → cond b rest (Some n) ≡ None → (b ≡ true) × (rest ≡ None)
+connected_step true n rest e = (refl, e)
+connected_step false n rest e = absurd cc
+
+each_front : {A : Type 0} (P : ℕ → A → Type 0) (d : A) (ds : List A) → P 0 d → ((k : ℕ) (x : A) → slice_get ds k ≡ Some x → P (suc k) x) → Each P (d ∷ ds)
+each_front P d ds first more zero x e = let same : d ≡ x = cc in subst (λ y. P 0 y) same first
+each_front P d ds first more (suc k) x e = more k x e
+
 pub connected_devices : (r : Rules) (ds : List MosRule) (ns : List ℕ) → length ns ≡ length ds → first_loose r ds ns ≡ None → Each (λ k d. is_connected d r ≡ true) ds
 connected_devices r [] ns same none = λ k d e. absurd cc
 connected_devices r (d ∷ ds) [] same none = absurd (omega (arith, same))
 connected_devices r (d ∷ ds) (n ∷ ns) same none =
     let here = connected_step (is_connected d r) n (first_loose r ds ns) none in
     each_front (λ k x. is_connected x r ≡ true) d ds here.0 (connected_devices r ds ns (omega (arith, same)) here.1)
+
+pub connected_more : (r : Rules) (ds : List MoreRule) (ns : List ℕ) → length ns ≡ length ds → first_loose_more r ds ns ≡ None → Each (λ k d. is_more_connected d r ≡ true) ds
+connected_more r [] ns same none = λ k d e. absurd cc
+connected_more r (d ∷ ds) [] same none = absurd (omega (arith, same))
+connected_more r (d ∷ ds) (n ∷ ns) same none =
+    let here = connected_step (is_more_connected d r) n (first_loose_more r ds ns) none in
+    each_front (λ k x. is_more_connected x r ≡ true) d ds here.0 (connected_more r ds ns (omega (arith, same)) here.1)
+
+none_of : (a b : Option ℕ) → lesser a b ≡ None → (a ≡ None) × (b ≡ None)
+none_of None b e = (refl, e)
+none_of (Some a) None e = absurd cc
+none_of (Some a) (Some b) e = absurd (some_one (nat_le a b) a b e)
   where
-    connected_step : (b : Bool) (n : ℕ) (rest : Option ℕ) → cond b rest (Some n) ≡ None → (b ≡ true) × (rest ≡ None)
-    connected_step true n rest e = (refl, e)
-    connected_step false n rest e = absurd cc
+    some_one : (t : Bool) (a b : ℕ) → cond t (Some a) (Some b) ≡ None → ⊥
+    some_one true a b e = cc
+    some_one false a b e = cc
 
-    each_front : (P : ℕ → MosRule → Type 0) (d : MosRule) (ds : List MosRule) → P 0 d → ((k : ℕ) (x : MosRule) → slice_get ds k ≡ Some x → P (suc k) x) → Each P (d ∷ ds)
-    each_front P d ds first more zero x e = let same : d ≡ x = cc in subst (λ y. P 0 y) same first
-    each_front P d ds first more (suc k) x e = more k x e
-
-pub sound : (r : Rules) (ns : List ℕ) → IsFormed r → length ns ≡ length r.devices → first_loose r r.devices ns ≡ None → IsSound r
-sound r ns formed same none = record { formed = formed; connected = connected_devices r r.devices ns same none }
+pub sound : (r : Rules) (ns ms : List ℕ) → IsFormed r → length ns ≡ length r.devices → length ms ≡ length r.more → loose_of r ns ms ≡ None → IsSound r
+sound r ns ms formed same too none =
+    let both = none_of (first_loose r r.devices ns) (first_loose_more r r.more ms) none in
+    record { formed = formed; connected = connected_devices r r.devices ns same both.0; more_connected = connected_more r r.more ms too both.1 }

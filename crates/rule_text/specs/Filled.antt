@@ -1,17 +1,22 @@
 -- What fits its slot has a byte or lies in its range.
-use Rattle.std.specs.Prelude.{ℕ, ◌+◌, ◌<◌, ◌≤◌, List, [], ◌∷◌, length, unwrap_or}
+use Rattle.std.specs.Prelude.{◌≡◌, ℕ, ◌+◌, ◌<◌, ◌≤◌, true, List, [], ◌∷◌, length, unwrap_or}
 use Rattle.rule_lines.specs.Tokens.{Token}
 use Rattle.rule_text.specs.Rows.{Slot, Fresh, Name, Quoted, Exact, Guesses, Statement, Define}
-use Rattle.rule_text.specs.Rows.{Global, Extract, Same, FlattenLayout, FlattenSchematic}
-use Rattle.rule_text.specs.Rows.{MaxGuesses, guesses_of, word_at}
+use Rattle.rule_text.specs.Rows.{Global, Extract, Further, More, Resistor, Diode, Same}
+use Rattle.rule_text.specs.Rows.{FlattenLayout, FlattenSchematic, MaxGuesses, guesses_of, is_string}
+use Rattle.rule_text.specs.Rows.{word_at}
 
 abbrev pub IsGuessLimit : ℕ → Type 0
 IsGuessLimit n = (1 ≤ n) × (n ≤ 1000000)
 
+-- some printable bytes
+abbrev pub IsString : List ℕ → Type 0
+IsString w = (0 < length w) × (is_string w ≡ true)
+
 abbrev pub FillsSlot : Slot → List ℕ → Type 0
 FillsSlot Fresh w = 0 < length w
 FillsSlot Name w = 0 < length w
-FillsSlot Quoted w = 0 < length w
+FillsSlot Quoted w = IsString w
 FillsSlot Exact w = 0 < length w
 FillsSlot Guesses w = IsGuessLimit (unwrap_or (guesses_of w) 0)
 FillsSlot _ w = Unit {0}
@@ -21,11 +26,16 @@ abbrev pub AreFilled : ℕ → List Slot → List Token → Type 0
 AreFilled n [] ts = Unit {0}
 AreFilled n (s ∷ ss) ts = FillsSlot s (word_at n ts) × AreFilled (n + 1) ss ts
 
--- what becomes a name has a byte, and the limit of guesses lies in its range
+abbrev pub class_of : More → List ℕ
+class_of (Resistor class r c w ta tw) = class
+class_of (Diode class p n ta tc) = class
+
+-- what becomes a name has a byte, a class is a string, and the limit of guesses lies in its range
 abbrev pub IsFilled : Statement → Type 0
 IsFilled (Define name form) = 0 < length name
 IsFilled (Global a net) = 0 < length net
-IsFilled (Extract m) = 0 < length m.class
+IsFilled (Extract m) = IsString m.class
+IsFilled (Further m) = IsString (class_of m)
 IsFilled (Same a b) = (0 < length a) × (0 < length b)
 IsFilled (FlattenLayout a) = 0 < length a
 IsFilled (FlattenSchematic b) = 0 < length b

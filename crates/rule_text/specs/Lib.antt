@@ -1,9 +1,9 @@
 pub mod Faults
 pub mod Rows
+pub mod Filled
 pub mod Devices
 pub mod Rules
 pub mod Reading
 pub mod Seen
-pub mod Filled
 pub mod Reader
 pub mod Sound

@@ -1,14 +1,17 @@
 -- What a rule file means: its rule set, or its first fault.
-use Rattle.std.specs.Prelude.{◌≡◌, ◌↔◌, ◌⊎◌, ℕ, ◌+◌, Bool, ◌==◌, ◌&&◌, ◌||◌, not, List, [], ◌∷◌}
+use Rattle.std.specs.Prelude.{◌≡◌, ◌↔◌, ◌⊎◌, ℕ, ◌+◌, Bool, ◌==◌, ◌&&◌, ◌||◌, not, nat_le, List, [], ◌∷◌}
 use Rattle.std.specs.Prelude.{◌++◌, length, slice_get, position, Option, Some, None, Result, Ok}
 use Rattle.std.specs.Prelude.{Err, if◌then◌else◌}
 use Rattle.std.specs.List.{list_any}
 use Rattle.rule_lines.specs.Lines.{is_no_text, lines_of}
 use Rattle.rule_lines.specs.Tokens.{tokens_of}
 use Rattle.rule_text.specs.declared.rules.MosRule.{MosRule}
+use Rattle.rule_text.specs.declared.rules.MoreRule.{MoreRule}
+use Rattle.rule_text.specs.declared.rules.MoreRule.TheVariants as more
 use Rattle.rule_text.specs.declared.fault.RuleFault.{RuleFault}
 use Rattle.rule_text.specs.declared.fault.RuleFault.TheVariants.{NotConductor, NotText, NoMemory}
 use Rattle.rule_text.specs.Rules.{Rules, no_rules, has_texts, fault_of, with_line, device_line}
+use Rattle.rule_text.specs.Rules.{more_line}
 
 -- some connect or connect_global names the layer
 abbrev pub is_joined : ℕ → Rules → Bool
@@ -27,6 +30,10 @@ pub record TellsConductors (table : List Bool) (r : Rules) : Type 0 where
 abbrev pub is_connected : MosRule → Rules → Bool
 is_connected d r = is_conductor d.ts r && is_conductor d.tg r && is_conductor d.tb r
 
+abbrev pub is_more_connected : MoreRule → Rules → Bool
+is_more_connected (more.Resistor class n c w ta tw) r = is_conductor ta r && is_conductor tw r
+is_more_connected (more.Diode class p n ta tc) r = is_conductor ta r && is_conductor tc r
+
 -- each line passes behind those before it
 abbrev pub Pass : ℕ → Rules → List (List ℕ) → Type 0
 Pass number r [] = Unit {0}
@@ -38,19 +45,40 @@ abbrev pub rules_of : Rules → List (List ℕ) → Rules
 rules_of r [] = r
 rules_of r (line ∷ lines) = rules_of (with_line r (tokens_of line)) lines
 
--- the numbers of the extract_devices lines
+-- the numbers of the extract_devices lines, of transistors and of the other devices
 abbrev pub device_lines : ℕ → List (List ℕ) → List ℕ
 device_lines number [] = []
 device_lines number (line ∷ lines) =
     device_line number (tokens_of line) ++ device_lines (number + 1) lines
 
--- the line of the first device that isn't connected
+abbrev pub more_lines : ℕ → List (List ℕ) → List ℕ
+more_lines number [] = []
+more_lines number (line ∷ lines) =
+    more_line number (tokens_of line) ++ more_lines (number + 1) lines
+
+-- the line of the first device that isn't connected, of transistors and of the others
 abbrev pub first_loose : Rules → List MosRule → List ℕ → Option ℕ
 first_loose r (d ∷ ds) (n ∷ ns) = if is_connected d r then first_loose r ds ns else Some n
 first_loose r _ _ = None
 
+abbrev pub first_loose_more : Rules → List MoreRule → List ℕ → Option ℕ
+first_loose_more r (d ∷ ds) (n ∷ ns) =
+    if is_more_connected d r then first_loose_more r ds ns else Some n
+first_loose_more r _ _ = None
+
+-- the lesser of two numbers, if any
+abbrev pub lesser : Option ℕ → Option ℕ → Option ℕ
+lesser None b = b
+lesser (Some a) None = Some a
+lesser (Some a) (Some b) = if nat_le a b then Some a else Some b
+
+-- the line of the first device of any kind that isn't connected
+abbrev pub loose_of : Rules → List ℕ → List ℕ → Option ℕ
+loose_of r lines others =
+    lesser (first_loose r r.devices lines) (first_loose_more r r.more others)
+
 abbrev pub loose_line : Rules → List (List ℕ) → Option ℕ
-loose_line r lines = first_loose r r.devices (device_lines 1 lines)
+loose_line r lines = loose_of r (device_lines 1 lines) (more_lines 1 lines)
 
 -- the bytes mean these rules: each line passes, and each device is connected in the end
 pub record Means (bytes : List ℕ) (r : Rules) : Type 0 where
@@ -108,9 +136,9 @@ abbrev pub connected_or : Option ℕ → Rules → Result Rules RuleFault
 connected_or None r = Ok r
 connected_or (Some line) r = Err (NotConductor line)
 
-abbrev pub closed : List ℕ → Result Rules RuleFault → Result Rules RuleFault
-closed lines (Ok r) = connected_or (first_loose r r.devices lines) r
-closed lines (Err fault) = Err fault
+abbrev pub closed : List ℕ → List ℕ → Result Rules RuleFault → Result Rules RuleFault
+closed lines others (Ok r) = connected_or (loose_of r lines others) r
+closed lines others (Err fault) = Err fault
 
 abbrev pub text_or : Option ℕ → Result Rules RuleFault → Result Rules RuleFault
 text_or None rest = rest
@@ -118,7 +146,8 @@ text_or (Some offset) rest = Err (NotText offset)
 
 abbrev pub reading_of : List ℕ → Result Rules RuleFault
 reading_of bytes = text_or (position is_no_text bytes)
-    (closed (device_lines 1 (lines_of bytes)) (reading 1 no_rules (lines_of bytes)))
+    (closed (device_lines 1 (lines_of bytes)) (more_lines 1 (lines_of bytes))
+    (reading 1 no_rules (lines_of bytes)))
 
 abbrev pub MeaningLaw : Type 0
 MeaningLaw = (bytes : List ℕ) (r : Rules) → (reading_of bytes ≡ Ok r) ↔ Means bytes r

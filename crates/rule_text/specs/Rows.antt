@@ -16,6 +16,7 @@ pub data Slot : Type 0 where
   Name : Slot
   Layer : Slot
   Guesses : Slot
+  Digits : Slot
   Quoted : Slot
   Exact : Slot
   Operator : Slot
@@ -33,7 +34,7 @@ statement_words =
     ∷ codes "max_guesses" ∷ codes "flatten_unmatched" ∷ codes "same_pins"
     ∷ codes "combine_devices" ∷ codes "deep" ∷ codes "netlist" ∷ codes "align" ∷ codes "compare"
     ∷ codes "schematic" ∷ codes "input" ∷ codes "labels" ∷ codes "polygon_layer"
-    ∷ codes "output" ∷ codes "mos4" ∷ []
+    ∷ codes "output" ∷ codes "mos4" ∷ codes "resistor_with_bulk" ∷ codes "diode" ∷ []
 
 unfoldable pub is_statement_word : List ℕ → Bool
 is_statement_word w = list_any (bytes_eq w) statement_words
@@ -55,6 +56,9 @@ layer_of w = number_of 65535 w
 abbrev pub guesses_of : List ℕ → Option ℕ
 guesses_of w = number_of 1000000 w
 
+abbrev pub is_digits : List ℕ → Bool
+is_digits w = is_some (number_of 9999999 w)
+
 abbrev pub is_printable : ℕ → Bool
 is_printable b = nat_le 0x20 b && nat_le b 0x7E
 
@@ -75,6 +79,7 @@ fits_slot Fresh (Word w) = is_name w && not (is_statement_word w)
 fits_slot Name (Word w) = is_name w
 fits_slot Layer (Word w) = is_some (layer_of w)
 fits_slot Guesses (Word w) = nat_le 1 (unwrap_or (guesses_of w) 0)
+fits_slot Digits (Word w) = is_digits w
 fits_slot Quoted (Text w) = is_string w
 fits_slot Exact (Text w) = is_string w && not (list_any is_wild w)
 fits_slot Operator (Mark b) = is_operator b
@@ -150,6 +155,29 @@ devices_row =
     Key (codes "extract_devices") ∷ Sign OPEN ∷ Key (codes "mos4") ∷ Sign OPEN ∷ Quoted
     ∷ Sign CLOSE ∷ Sign COMMA ∷ Sign BRACE ∷ []
 
+-- extract_devices(resistor_with_bulk("CLASS"), {
+abbrev pub resistor_row : List Slot
+resistor_row =
+    Key (codes "extract_devices") ∷ Sign OPEN ∷ Key (codes "resistor_with_bulk") ∷ Sign OPEN
+    ∷ Quoted ∷ Sign CLOSE ∷ Sign COMMA ∷ Sign BRACE ∷ []
+
+-- the same with a sheet resistance, which is passed over: digits, or digits, a point and digits
+abbrev pub resistor_digits_row : List Slot
+resistor_digits_row =
+    Key (codes "extract_devices") ∷ Sign OPEN ∷ Key (codes "resistor_with_bulk") ∷ Sign OPEN
+    ∷ Quoted ∷ Sign COMMA ∷ Digits ∷ Sign CLOSE ∷ Sign COMMA ∷ Sign BRACE ∷ []
+
+abbrev pub resistor_point_row : List Slot
+resistor_point_row =
+    Key (codes "extract_devices") ∷ Sign OPEN ∷ Key (codes "resistor_with_bulk") ∷ Sign OPEN
+    ∷ Quoted ∷ Sign COMMA ∷ Digits ∷ Sign DOT ∷ Digits ∷ Sign CLOSE ∷ Sign COMMA ∷ Sign BRACE ∷ []
+
+-- extract_devices(diode("CLASS"), {
+abbrev pub diode_row : List Slot
+diode_row =
+    Key (codes "extract_devices") ∷ Sign OPEN ∷ Key (codes "diode") ∷ Sign OPEN ∷ Quoted
+    ∷ Sign CLOSE ∷ Sign COMMA ∷ Sign BRACE ∷ []
+
 -- same_circuits("A", "B")
 abbrev pub same_row : List Slot
 same_row = Key (codes "same_circuits") ∷ Sign OPEN ∷ Quoted ∷ Sign COMMA ∷ Quoted ∷ Sign CLOSE ∷ []
@@ -196,12 +224,18 @@ pub record Mos : Type 0 where
   pub tg : List ℕ
   pub tb : List ℕ
 
+-- a resistor or a diode: its class, and its layers as names
+pub data More : Type 0 where
+  Resistor : (class r c w ta tw : List ℕ) → More
+  Diode : (class p n ta tc : List ℕ) → More
+
 pub data Statement : Type 0 where
   Define : (name : List ℕ) (form : Form) → Statement
   Draw : (name : List ℕ) (key : LayerKey) → Statement
   Connect : (a b : List ℕ) → Statement
   Global : (a net : List ℕ) → Statement
   Extract : (mos : Mos) → Statement
+  Further : (more : More) → Statement
   Same : (a b : List ℕ) → Statement
   FlattenLayout : (a : List ℕ) → Statement
   FlattenSchematic : (b : List ℕ) → Statement

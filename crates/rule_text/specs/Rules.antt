@@ -14,15 +14,19 @@ use Rattle.rule_text.specs.declared.rules.LayerForm.TheVariants as form
 use Rattle.rule_text.specs.declared.rules.LayerRule.{LayerRule}
 use Rattle.rule_text.specs.declared.rules.Output.{Output}
 use Rattle.rule_text.specs.declared.rules.MosRule.{MosRule}
+use Rattle.rule_text.specs.declared.rules.MoreRule.{MoreRule}
+use Rattle.rule_text.specs.declared.rules.MoreRule.TheVariants as more
 use Rattle.rule_text.specs.declared.fault.RuleFault.{RuleFault}
 use Rattle.rule_text.specs.declared.fault.RuleFault.TheVariants.{UnknownStatement, BadForm}
 use Rattle.rule_text.specs.declared.fault.RuleFault.TheVariants.{UnknownName, NameTwice}
 use Rattle.rule_text.specs.declared.fault.RuleFault.TheVariants.{NotConductor, TooManyLayers}
 use Rattle.rule_text.specs.Rows.{Form, Input, Labels, Empty, Binary, Mos, Statement, Define, Draw}
-use Rattle.rule_text.specs.Rows.{Connect, Global, Extract, Same, MaxGuesses, Accepted, EQUALS, DOT}
+use Rattle.rule_text.specs.Rows.{Connect, Global, Extract, Further, More, Resistor, Diode, Same}
+use Rattle.rule_text.specs.Rows.{MaxGuesses, Accepted, EQUALS, DOT}
 use Rattle.rule_text.specs.Rows.{FlattenLayout, FlattenSchematic, FlattenUnmatched, SamePins, Combine}
 use Rattle.rule_text.specs.Rows.{is_name, is_statement_word, definition_of, wiring_of}
 use Rattle.rule_text.specs.Rows.{flattening_of, setting_of}
+use Rattle.rule_text.specs.Filled.{class_of}
 use Rattle.rule_text.specs.Devices.{devices_of}
 
 -- a rule set with plain lists
@@ -32,6 +36,7 @@ pub record Rules : Type 0 where
   pub connects : List (ℕ × ℕ)
   pub globals : List (ℕ × List ℕ)
   pub devices : List MosRule
+  pub more : List MoreRule
   pub same : List (List ℕ × List ℕ)
   pub flat_layouts : List (List ℕ)
   pub flat_schematics : List (List ℕ)
@@ -47,6 +52,7 @@ no_rules = record {
   connects = [];
   globals = [];
   devices = [];
+  more = [];
   same =
       [];
   flat_layouts = [];
@@ -97,6 +103,8 @@ uses_of (Draw name key) = name ∷ []
 uses_of (Connect a b) = a ∷ b ∷ []
 uses_of (Global a net) = a ∷ []
 uses_of (Extract m) = m.sd ∷ m.g ∷ m.w ∷ m.ts ∷ m.tg ∷ m.tb ∷ []
+uses_of (Further (Resistor class n c w ta tw)) = n ∷ c ∷ w ∷ ta ∷ tw ∷ []
+uses_of (Further (Diode class p n ta tc)) = p ∷ n ∷ ta ∷ tc ∷ []
 uses_of (Same a b) = []
 uses_of (FlattenLayout a) = []
 uses_of (FlattenSchematic b) = []
@@ -105,6 +113,22 @@ uses_of SamePins = []
 uses_of Combine = []
 uses_of (MaxGuesses n) = []
 uses_of Accepted = []
+
+-- the class of a resistor or a diode
+abbrev pub class_in : MoreRule → List ℕ
+class_in (more.Resistor class n c w ta tw) = class
+class_in (more.Diode class p n ta tc) = class
+
+-- the folded classes of transistors, and of the other devices
+abbrev pub mos_classes : Rules → List (List ℕ)
+mos_classes r = map (λ d. folded_bytes d.class) r.devices
+
+abbrev pub more_classes : Rules → List (List ℕ)
+more_classes r = map (λ d. folded_bytes (class_in d)) r.more
+
+-- a device has the folded class
+abbrev pub has_class : List ℕ → Rules → Bool
+has_class w r = list_any (bytes_eq w) (mos_classes r) || list_any (bytes_eq w) (more_classes r)
 
 -- a line names the circuit of the layout, or of the schematic, that has this folded name
 abbrev pub names_layout : Rules → List ℕ → Bool
@@ -122,8 +146,8 @@ is_twice r (Define name form) = is_defined name r
 is_twice r (Draw name key) = list_any (is_same_key key) (map (λ o. o.key) r.outputs)
 is_twice r (Connect a b) = false
 is_twice r (Global a net) = false
-is_twice r (Extract m) =
-    list_any (bytes_eq (folded_bytes m.class)) (map (λ d. folded_bytes d.class) r.devices)
+is_twice r (Extract m) = has_class (folded_bytes m.class) r
+is_twice r (Further m) = has_class (folded_bytes (class_of m)) r
 is_twice r (Same a b) = names_layout r (folded_bytes a) || names_schematic r (folded_bytes b)
 is_twice r (FlattenLayout a) = names_layout r (folded_bytes a)
 is_twice r (FlattenSchematic b) = names_schematic r (folded_bytes b)
@@ -202,6 +226,12 @@ mos_rule r m = record {
   tb = place_of m.tb r;
 }
 
+abbrev pub further_rule : Rules → More → MoreRule
+further_rule r (Resistor class n c w ta tw) =
+    more.Resistor class (place_of n r) (place_of c r) (place_of w r) (place_of ta r) (place_of tw r)
+further_rule r (Diode class p n ta tc) =
+    more.Diode class (place_of p r) (place_of n r) (place_of ta r) (place_of tc r)
+
 abbrev pub named : Rules → List ℕ → LayerForm → Rules
 named r name form = record r { names = r.names ++ record { name = name; form = form } ∷ [] }
 
@@ -211,6 +241,9 @@ drawn r name key =
 
 abbrev pub extracting : Rules → Mos → Rules
 extracting r m = record r { devices = r.devices ++ mos_rule r m ∷ [] }
+
+abbrev pub going_on : Rules → More → Rules
+going_on r m = record r { more = r.more ++ further_rule r m ∷ [] }
 
 abbrev pub paired : Rules → List ℕ → List ℕ → Rules
 paired r a b = record r { same = r.same ++ (a, b) ∷ [] }
@@ -229,6 +262,7 @@ with_statement r (Connect a b) =
     record r { connects = r.connects ++ (place_of a r, place_of b r) ∷ [] }
 with_statement r (Global a net) = record r { globals = r.globals ++ (place_of a r, net) ∷ [] }
 with_statement r (Extract m) = extracting r m
+with_statement r (Further m) = going_on r m
 with_statement r (Same a b) = paired r a b
 with_statement r (FlattenLayout a) = flattening_layout r a
 with_statement r (FlattenSchematic b) = flattening_schematic r b
@@ -245,10 +279,17 @@ with_found r (Some s) = with_statement r s
 abbrev pub with_line : Rules → List Token → Rules
 with_line r ts = with_found r (statement_of ts)
 
--- the number of a line that is an extract_devices
+-- the number of a line that is an extract_devices of a transistor, and of another device
 abbrev pub extraction_line : ℕ → Option Statement → List ℕ
 extraction_line line (Some (Extract m)) = line ∷ []
 extraction_line line _ = []
 
 abbrev pub device_line : ℕ → List Token → List ℕ
 device_line line ts = extraction_line line (statement_of ts)
+
+abbrev pub further_line : ℕ → Option Statement → List ℕ
+further_line line (Some (Further m)) = line ∷ []
+further_line line _ = []
+
+abbrev pub more_line : ℕ → List Token → List ℕ
+more_line line ts = further_line line (statement_of ts)

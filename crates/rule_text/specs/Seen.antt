@@ -2,13 +2,15 @@
 use Rattle.std.specs.Prelude.{ℕ, List, Option, Some, None, map}
 use denote.Ref.{Bor}
 use Rattle.rule_text.specs.Rows as rows
-use Rattle.rule_text.specs.Rows.{Slot, Form, Mos, Statement}
+use Rattle.rule_text.specs.Rows.{Slot, Form, Mos, More, Statement}
 use Rattle.rule_text.specs.Rules.{Rules}
 use Rattle.rule_text.specs.declared.slots.Slot.{Slot as Code}
 use Rattle.rule_text.specs.declared.slots.Slot.TheVariants as code
 use Rattle.rule_text.specs.declared.rows.Form.{Form as FoundForm}
 use Rattle.rule_text.specs.declared.rows.Form.TheVariants as found_form
 use Rattle.rule_text.specs.declared.rows.Mos.{Mos as FoundMos}
+use Rattle.rule_text.specs.declared.rows.More.{More as FoundMore}
+use Rattle.rule_text.specs.declared.rows.More.TheVariants as found_more
 use Rattle.rule_text.specs.declared.rows.Statement.{Statement as Found}
 use Rattle.rule_text.specs.declared.rows.Statement.TheVariants as found
 use Rattle.rule_text.specs.declared.rules.RuleSet.{RuleSet}
@@ -18,6 +20,7 @@ slot code.Fresh = rows.Fresh
 slot code.Name = rows.Name
 slot code.Layer = rows.Layer
 slot code.Guesses = rows.Guesses
+slot code.Digits = rows.Digits
 slot code.Quoted = rows.Quoted
 slot code.Exact = rows.Exact
 slot code.Operator = rows.Operator
@@ -53,12 +56,18 @@ mos m = record {
   tb = m.tb.now;
 }
 
+abbrev pub more : FoundMore → More
+more (found_more.Resistor class r c w ta tw) =
+    rows.Resistor class.now r.now c.now w.now ta.now tw.now
+more (found_more.Diode class p n ta tc) = rows.Diode class.now p.now n.now ta.now tc.now
+
 abbrev pub statement : Found → Statement
 statement (found.Define name f) = rows.Define name.now (form f)
 statement (found.Draw name key) = rows.Draw name.now key
 statement (found.Connect a b) = rows.Connect a.now b.now
 statement (found.Global a net) = rows.Global a.now net.now
 statement (found.Extract m) = rows.Extract (mos m)
+statement (found.Further m) = rows.Further (more m)
 statement (found.Same a b) = rows.Same a.now b.now
 statement (found.FlattenLayout a) = rows.FlattenLayout a.now
 statement (found.FlattenSchematic b) = rows.FlattenSchematic b.now
@@ -79,6 +88,7 @@ rules_seen r = record {
   connects = r.connects.items;
   globals = r.globals.items;
   devices = r.devices.items;
+  more = r.more.items;
   same = r.same.items;
   flat_layouts = r.flat_layouts.items;
   flat_schematics = r.flat_schematics.items;

@@ -7,8 +7,12 @@ use Rattle.rule_text.specs.declared.rules.LayerForm.{LayerForm}
 use Rattle.rule_text.specs.declared.rules.LayerForm.TheVariants as form
 use Rattle.rule_text.specs.declared.rules.LayerRule.{LayerRule}
 use Rattle.rule_text.specs.declared.rules.MosRule.{MosRule}
-use Rattle.rule_text.specs.Rules.{Rules, names_of, has_texts}
-use Rattle.rule_text.specs.Reading.{is_connected}
+use Rattle.rule_text.specs.declared.rules.MoreRule.{MoreRule}
+use Rattle.rule_text.specs.declared.rules.MoreRule.TheVariants as more
+use Rattle.rule_text.specs.Rows.{is_string}
+use Rattle.rule_text.specs.Rules.{Rules, names_of, has_texts, mos_classes, more_classes}
+use Rattle.rule_text.specs.Rules.{class_in}
+use Rattle.rule_text.specs.Reading.{is_connected, is_more_connected}
 use Rattle.rule_text.specs.Filled.{IsGuessLimit}
 
 -- P holds of each entry and its number
@@ -39,7 +43,13 @@ pub record AreMosLayers (names : List LayerRule) (d : MosRule) : Type 0 where
   pub tg : IsLayer names d.tg
   pub tb : IsLayer names d.tb
 
--- the entries pass the tests of their lines
+abbrev pub AreMoreLayers : List LayerRule → MoreRule → Type 0
+AreMoreLayers names (more.Resistor class n c w ta tw) = IsLayer names n × IsLayer names c
+    × IsLayer names w × IsLayer names ta × IsLayer names tw
+AreMoreLayers names (more.Diode class p n ta tc) = IsLayer names p × IsLayer names n
+    × IsLayer names ta × IsLayer names tc
+
+-- the entries pass the tests of their lines; classes are strings of printable bytes
 pub record IsFormed (r : Rules) : Type 0 where
   pub names : AreApart (names_of r)
   pub operands : Each (λ k n. AreOperands r.names k n.form) r.names
@@ -47,8 +57,14 @@ pub record IsFormed (r : Rules) : Type 0 where
   pub outputs : Each (λ k o. IsLayer r.names o.layer) r.outputs
   pub connects : Each (λ k c. AreJoined r.names c.0 c.1) r.connects
   pub globals : Each (λ k g. IsLayer r.names g.0) r.globals
-  pub classes : AreApart (map (λ d. folded_bytes d.class) r.devices)
+  pub classes : AreApart (mos_classes r)
+  pub others : AreApart (more_classes r)
+  pub apart : (j k : ℕ) (w : List ℕ) → slice_get (mos_classes r) j ≡ Some w
+      → slice_get (more_classes r) k ≡ Some w → ⊥
+  pub strings : Each (λ k d. is_string d.class ≡ true) r.devices
+  pub more_strings : Each (λ k d. is_string (class_in d) ≡ true) r.more
   pub devices : Each (λ k d. AreMosLayers r.names d) r.devices
+  pub more : Each (λ k d. AreMoreLayers r.names d) r.more
   pub layouts : AreApart (map (λ p. folded_bytes p.0) r.same)
   pub schematics : AreApart (map (λ p. folded_bytes p.1) r.same)
   pub flat_layouts : AreApart (map folded_bytes r.flat_layouts)
@@ -58,3 +74,4 @@ pub record IsFormed (r : Rules) : Type 0 where
 pub record IsSound (r : Rules) : Type 0 where
   pub formed : IsFormed r
   pub connected : Each (λ k d. is_connected d r ≡ true) r.devices
+  pub more_connected : Each (λ k d. is_more_connected d r ≡ true) r.more

@@ -19,7 +19,7 @@ mod tables;
 pub use fault::RuleFault;
 use reader::Reader;
 use rule_lines::first_no_text;
-pub use rules::{LayerForm, LayerRule, MosRule, Output, RuleSet};
+pub use rules::{LayerForm, LayerRule, MoreRule, MosRule, Output, RuleSet};
 use std::alloc::Global;
 
 #[tactic(auto, using(crate::proofs::SoundLemmas::none_formed))]
@@ -37,7 +37,7 @@ fn read(alloc: Global, bytes: &[u8]) -> Result<RuleSet, RuleFault>
 }
 
 /// The rules of a rule file, or its first fault: a byte that no text has; else the first line that
-/// fails a test; else a transistor one of whose terminals has no conductor. Linear in the file's
+/// fails a test; else a device one of whose terminals has no conductor. Linear in the file's
 /// bytes: names, layers, classes and circuits are looked up by their hashes.
 #[tactic(auto, using(crate::proofs::ReadingLemmas::means, crate::proofs::ReadingLemmas::answers))]
 pub fn read_rules(alloc: Global, bytes: &[u8]) -> Result<RuleSet, RuleFault>

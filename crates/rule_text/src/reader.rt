@@ -5,13 +5,16 @@ ghost use Rattle.rule_lines.specs.Seen.{seen_all};
 ghost use Rattle.net_names.specs.Folding.{folded_bytes};
 ghost use Rattle.rule_text.specs.Rules.{uses_of, is_definition, statement_of, is_unknown, goes_on};
 ghost use Rattle.rule_text.specs.Seen.{words as words_seen, statement as statement_seen};
-ghost use Rattle.rule_text.specs.Seen.{statements};
-ghost use Rattle.rule_text.specs.Filled.{IsFilled};
+ghost use Rattle.rule_text.specs.Seen.{statements, more as more_seen};
+ghost use Rattle.rule_text.specs.Filled.{IsFilled, class_of};
+ghost use Rattle.rule_text.specs.Reading.{lesser};
 
 use crate::devices::devices_of;
 use crate::fault::RuleFault;
-use crate::rows::{Form, Mos, Statement, definition_of, flattening_of, setting_of, wiring_of};
-use crate::rules::{LayerForm, LayerRule, MosRule, Output, RuleSet};
+use crate::rows::{
+    Form, More, Mos, Statement, definition_of, flattening_of, setting_of, wiring_of,
+};
+use crate::rules::{LayerForm, LayerRule, MoreRule, MosRule, Output, RuleSet};
 use crate::slots::{is_name, is_statement_word};
 use crate::tables::{KeyTable, TextTable};
 use geo_base::LayerKey;
@@ -30,11 +33,22 @@ pub struct Reader {
     pub names: TextTable,
     pub keys: KeyTable,
     pub classes: TextTable,
+    pub others: TextTable,
     pub layouts: TextTable,
     pub schematics: TextTable,
     pub flat_layouts: TextTable,
     pub flat_schematics: TextTable,
     pub device_lines: Vec<u64>,
+    pub more_lines: Vec<u64>,
+}
+
+fn class_of<'a>(m: &More<'a>) -> &'a [u8]
+    ensures { result.now ≡ class_of (more_seen m.now) }
+{
+    match m {
+        More::Resistor { class, .. } => class,
+        More::Diode { class, .. } => class,
+    }
 }
 
 impl<'a> Statement<'a> {
@@ -49,6 +63,19 @@ impl<'a> Statement<'a> {
             Statement::Connect(a, b) => Ok(vec![in alloc; *a, *b]?),
             Statement::Global(a, _) => Ok(vec![in alloc; *a]?),
             Statement::Extract(m) => Ok(vec![in alloc; m.sd, m.g, m.w, m.ts, m.tg, m.tb]?),
+            Statement::Further(
+                More::Resistor {
+                    r,
+                    c,
+                    w,
+                    ta,
+                    tw,
+                    ..
+                },
+            ) => Ok(vec![in alloc; *r, *c, *w, *ta, *tw]?),
+            Statement::Further(More::Diode { p, n, ta, tc, .. }) => {
+                Ok(vec![in alloc; *p, *n, *ta, *tc]?)
+            }
             Statement::Same(_, _) => Ok(Vec::new(alloc)),
             Statement::FlattenLayout(_) => Ok(Vec::new(alloc)),
             Statement::FlattenSchematic(_) => Ok(Vec::new(alloc)),
@@ -106,6 +133,17 @@ fn is_unknown(tokens: &[Token]) -> bool
     }
 }
 
+// The lesser of two numbers, if any.
+fn lesser(one: Option<u64>, other: Option<u64>) -> Option<u64>
+    ensures { result ≡ lesser one other }
+{
+    match (one, other) {
+        (None, other) => other,
+        (Some(a), None) => Some(a),
+        (Some(a), Some(b)) => { if a <= b { Some(a) } else { Some(b) } }
+    }
+}
+
 fn folded_copy(alloc: Global, bytes: &[u8]) -> Result<Name, AllocError>
     requires { 0 < length bytes.now }
     ensures { IfOk result (λ name. name ≡ folded_bytes bytes.now) }
@@ -136,7 +174,10 @@ impl Reader {
     ghost use Rattle.rule_text.specs.Rules.{fault_of, numbered, named, drawn, extracting, paired};
     ghost use Rattle.rule_text.specs.Rules.{names_layout, names_schematic, flattening_layout};
     ghost use Rattle.rule_text.specs.Rules.{flattening_schematic};
-    ghost use Rattle.rule_text.specs.Rules.{with_statement, extraction_line};
+    ghost use Rattle.rule_text.specs.Rules.{with_statement, extraction_line, further_line};
+    ghost use Rattle.rule_text.specs.Rules.{further_rule, going_on, has_class, more_classes};
+    ghost use Rattle.rule_text.specs.Filled.{class_of};
+    ghost use Rattle.rule_text.specs.Seen.{more as more_seen};
     ghost use Rattle.rule_text.specs.Reading.{reading, closed};
     ghost use Rattle.rule_text.specs.Seen.{words as words_seen, form as form_seen, mos as mos_seen};
     ghost use Rattle.rule_text.specs.Seen.{statement as statement_seen, rules_seen};
@@ -147,6 +188,7 @@ impl Reader {
     pub fn new(alloc: Global) -> Reader
         ensures rules { rules_seen result.rules ≡ no_rules }
         ensures device_lines { result.device_lines.items ≡ [] }
+        ensures more_lines { result.more_lines.items ≡ [] }
         ensures ready { IsReady result }
     {
         let rules = RuleSet {
@@ -155,6 +197,7 @@ impl Reader {
             connects: Vec::new(alloc),
             globals: Vec::new(alloc),
             devices: Vec::new(alloc),
+            more: Vec::new(alloc),
             same: Vec::new(alloc),
             flat_layouts: Vec::new(alloc),
             flat_schematics: Vec::new(alloc),
@@ -168,11 +211,13 @@ impl Reader {
             names: TextTable::new(alloc),
             keys: KeyTable::new(alloc),
             classes: TextTable::new(alloc),
+            others: TextTable::new(alloc),
             layouts: TextTable::new(alloc),
             schematics: TextTable::new(alloc),
             flat_layouts: TextTable::new(alloc),
             flat_schematics: TextTable::new(alloc),
             device_lines: Vec::new(alloc),
+            more_lines: Vec::new(alloc),
         }
     }
 
@@ -234,6 +279,16 @@ impl Reader {
         self.schematics.contains(name) || self.flat_schematics.contains(name)
     }
 
+    fn has_class(&self, alloc: Global, class: &[u8]) -> Result<bool, AllocError>
+        requires ready { IsReady self.now }
+        requires filled { 0 < length class.now }
+        ensures { IfOk result (λ b. b
+            ≡ has_class (folded_bytes class.now) (rules_seen self.now.rules)) }
+    {
+        let class = folded_copy(alloc, class)?;
+        Ok(self.classes.contains(class.bytes()) || self.others.contains(class.bytes()))
+    }
+
     fn is_twice(&self, alloc: Global, s: &Statement) -> Result<bool, AllocError>
         requires ready { IsReady self.now }
         requires filled { IsFilled (statement_seen s.now) }
@@ -243,9 +298,8 @@ impl Reader {
         match s {
             Statement::Define(name, _) => Ok(self.is_defined(name)),
             Statement::Draw(_, key) => Ok(self.keys.contains(*key)),
-            Statement::Extract(m) => Ok(
-                self.classes.contains(folded_copy(alloc, m.class)?.bytes()),
-            ),
+            Statement::Extract(m) => self.has_class(alloc, m.class),
+            Statement::Further(m) => self.has_class(alloc, class_of(m)),
             Statement::Same(a, b) => {
                 let (a, b) = (folded_copy(alloc, a)?, folded_copy(alloc, b)?);
                 Ok(self.names_layout(a.bytes()) || self.names_schematic(b.bytes()))
@@ -305,6 +359,8 @@ impl Reader {
             ≡ named (rules_seen self.old.rules) name.now form) }
         ensures device_lines { OnOk result
             (self.new.device_lines.items ≡ self.old.device_lines.items) }
+        ensures more_lines { OnOk result
+            (self.new.more_lines.items ≡ self.old.more_lines.items) }
         ensures ready { OnOk result (IsReady self.new) }
     {
         self.names.add(alloc, name)?;
@@ -323,6 +379,8 @@ impl Reader {
             ≡ drawn (rules_seen self.old.rules) name.now key) }
         ensures device_lines { OnOk result
             (self.new.device_lines.items ≡ self.old.device_lines.items) }
+        ensures more_lines { OnOk result
+            (self.new.more_lines.items ≡ self.old.more_lines.items) }
         ensures ready { OnOk result (IsReady self.new) }
     {
         let layer = self.place(name);
@@ -340,6 +398,8 @@ impl Reader {
             ≡ extracting (rules_seen self.old.rules) (mos_seen m.now)) }
         ensures device_lines { OnOk result
             (self.new.device_lines.items ≡ self.old.device_lines.items ++ line ∷ []) }
+        ensures more_lines { OnOk result
+            (self.new.more_lines.items ≡ self.old.more_lines.items) }
         ensures ready { OnOk result (IsReady self.new) }
     {
         let device = MosRule {
@@ -358,6 +418,61 @@ impl Reader {
         Ok(())
     }
 
+    // A resistor or a diode with numbers in place of its layers' names.
+    fn further_rule(&self, alloc: Global, m: &More) -> Result<MoreRule, AllocError>
+        requires ready { IsReady self.now }
+        requires filled { 0 < length (class_of (more_seen m.now)) }
+        ensures { IfOk result (λ d. d
+            ≡ further_rule (rules_seen self.now.rules) (more_seen m.now)) }
+    {
+        let class = name_of(alloc, class_of(m))?;
+        match m {
+            More::Resistor {
+                r,
+                c,
+                w,
+                ta,
+                tw,
+                ..
+            } => Ok(MoreRule::Resistor {
+                class,
+                r: self.place(r),
+                c: self.place(c),
+                w: self.place(w),
+                ta: self.place(ta),
+                tw: self.place(tw),
+            }),
+            More::Diode { p, n, ta, tc, .. } => Ok(MoreRule::Diode {
+                class,
+                p: self.place(p),
+                n: self.place(n),
+                ta: self.place(ta),
+                tc: self.place(tc),
+            }),
+        }
+    }
+
+    fn go_on(&mut self, alloc: Global, m: &More, line: u64) -> Result<(), AllocError>
+        requires ready { IsReady self.old }
+        requires filled { 0 < length (class_of (more_seen m.now)) }
+        requires fresh { list_any (bytes_eq (folded_bytes (class_of (more_seen m.now))))
+            (more_classes (rules_seen self.old.rules)) ≡ false }
+        ensures rules { OnOk result (rules_seen self.new.rules
+            ≡ going_on (rules_seen self.old.rules) (more_seen m.now)) }
+        ensures device_lines { OnOk result
+            (self.new.device_lines.items ≡ self.old.device_lines.items) }
+        ensures more_lines { OnOk result
+            (self.new.more_lines.items ≡ self.old.more_lines.items ++ line ∷ []) }
+        ensures ready { OnOk result (IsReady self.new) }
+    {
+        let device = self.further_rule(alloc, m)?;
+        self.others
+            .add(alloc, folded_copy(alloc, class_of(m))?.bytes())?;
+        self.rules.more.push(device)?;
+        self.more_lines.push(line)?;
+        Ok(())
+    }
+
     fn pair(&mut self, alloc: Global, a: &[u8], b: &[u8]) -> Result<(), AllocError>
         requires ready { IsReady self.old }
         requires filled_a { 0 < length a.now }
@@ -369,6 +484,8 @@ impl Reader {
             ≡ paired (rules_seen self.old.rules) a.now b.now) }
         ensures device_lines { OnOk result
             (self.new.device_lines.items ≡ self.old.device_lines.items) }
+        ensures more_lines { OnOk result
+            (self.new.more_lines.items ≡ self.old.more_lines.items) }
         ensures ready { OnOk result (IsReady self.new) }
     {
         self.layouts.add(alloc, folded_copy(alloc, a)?.bytes())?;
@@ -387,6 +504,8 @@ impl Reader {
             ≡ flattening_layout (rules_seen self.old.rules) a.now) }
         ensures device_lines { OnOk result
             (self.new.device_lines.items ≡ self.old.device_lines.items) }
+        ensures more_lines { OnOk result
+            (self.new.more_lines.items ≡ self.old.more_lines.items) }
         ensures ready { OnOk result (IsReady self.new) }
     {
         self.flat_layouts
@@ -404,6 +523,8 @@ impl Reader {
             ≡ flattening_schematic (rules_seen self.old.rules) b.now) }
         ensures device_lines { OnOk result
             (self.new.device_lines.items ≡ self.old.device_lines.items) }
+        ensures more_lines { OnOk result
+            (self.new.more_lines.items ≡ self.old.more_lines.items) }
         ensures ready { OnOk result (IsReady self.new) }
     {
         self.flat_schematics
@@ -435,6 +556,9 @@ impl Reader {
         ensures device_lines { OnOk result
             (self.new.device_lines.items ≡ self.old.device_lines.items
             ++ extraction_line line (Some (statement_seen s.now))) }
+        ensures more_lines { OnOk result
+            (self.new.more_lines.items ≡ self.old.more_lines.items
+            ++ further_line line (Some (statement_seen s.now))) }
         ensures ready { OnOk result (IsReady self.new) }
     {
         match s {
@@ -454,6 +578,7 @@ impl Reader {
                 Ok(())
             }
             Statement::Extract(m) => self.extract(alloc, m, line),
+            Statement::Further(m) => self.go_on(alloc, m, line),
             Statement::Same(a, b) => self.pair(alloc, a, b),
             Statement::FlattenLayout(a) => self.flatten_layout(alloc, a),
             Statement::FlattenSchematic(b) => self.flatten_schematic(alloc, b),
@@ -526,15 +651,18 @@ impl Reader {
     /// The rules, where each device is connected in the end.
     pub fn close(self, alloc: Global) -> Result<RuleSet, RuleFault>
         requires { IsReady self }
-        ensures ok { IfOk result (λ r. closed self.device_lines.items (Ok (rules_seen self.rules))
-            ≡ Ok (rules_seen r)) }
+        ensures ok { IfOk result (λ r. closed self.device_lines.items self.more_lines.items
+            (Ok (rules_seen self.rules)) ≡ Ok (rules_seen r)) }
         ensures sound { IfOk result (λ r. IsFormed (rules_seen self.rules)
             → IsSound (rules_seen r)) }
         ensures fault { IfErr result (λ e.
-            SaysFirst e (closed self.device_lines.items (Ok (rules_seen self.rules)))) }
+            SaysFirst e (closed self.device_lines.items self.more_lines.items
+            (Ok (rules_seen self.rules)))) }
     {
         let conductors = self.rules.conductors(alloc)?;
-        match self.rules.first_loose(&conductors, &self.device_lines) {
+        let one = self.rules.first_loose(&conductors, &self.device_lines);
+        let other = self.rules.first_loose_more(&conductors, &self.more_lines);
+        match lesser(one, other) {
             Some(line) => Err(RuleFault::NotConductor(line)),
             None => Ok(self.rules),
         }

@@ -33,6 +33,26 @@ pub struct Mos<'a> {
     pub tb: &'a [u8],
 }
 
+/// A resistor's or a diode's class and its layers.
+#[derive(Clone, Copy)]
+pub enum More<'a> {
+    Resistor {
+        class: &'a [u8],
+        r: &'a [u8],
+        c: &'a [u8],
+        w: &'a [u8],
+        ta: &'a [u8],
+        tw: &'a [u8],
+    },
+    Diode {
+        class: &'a [u8],
+        p: &'a [u8],
+        n: &'a [u8],
+        ta: &'a [u8],
+        tc: &'a [u8],
+    },
+}
+
 /// What a line states.
 #[derive(Clone, Copy)]
 pub enum Statement<'a> {
@@ -41,6 +61,7 @@ pub enum Statement<'a> {
     Connect(&'a [u8], &'a [u8]),
     Global(&'a [u8], &'a [u8]),
     Extract(Mos<'a>),
+    Further(More<'a>),
     Same(&'a [u8], &'a [u8]),
     FlattenLayout(&'a [u8]),
     FlattenSchematic(&'a [u8]),

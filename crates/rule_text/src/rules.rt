@@ -41,6 +41,28 @@ pub struct MosRule {
     pub tb: u32,
 }
 
+/// A resistor's or a diode's class, as the file writes it, and its layers: of a resistor its body,
+/// its contacts and its well, of a diode both sides of its junction; and the conductors of the
+/// terminals.
+#[derive(Drop)]
+pub enum MoreRule {
+    Resistor {
+        class: Name,
+        r: u32,
+        c: u32,
+        w: u32,
+        ta: u32,
+        tw: u32,
+    },
+    Diode {
+        class: Name,
+        p: u32,
+        n: u32,
+        ta: u32,
+        tc: u32,
+    },
+}
+
 /// The rules of a rule file, each list in the order of the file. Layers are numbers of names.
 #[derive(Drop)]
 pub struct RuleSet {
@@ -49,6 +71,7 @@ pub struct RuleSet {
     pub connects: Vec<(u32, u32)>,
     pub globals: Vec<(u32, Name)>,
     pub devices: Vec<MosRule>,
+    pub more: Vec<MoreRule>,
     pub same: Vec<(Name, Name)>,
     pub flat_layouts: Vec<Name>,
     pub flat_schematics: Vec<Name>,
@@ -63,7 +86,7 @@ impl RuleSet {
     ghost use Rattle.std.specs.List.{list_any};
     ghost use Rattle.rule_text.specs.Rules.{has_texts};
     ghost use Rattle.rule_text.specs.Reading.{is_conductor, is_connected, first_loose};
-    ghost use Rattle.rule_text.specs.Reading.{TellsConductors};
+    ghost use Rattle.rule_text.specs.Reading.{TellsConductors, is_more_connected, first_loose_more};
     ghost use Rattle.rule_text.specs.Seen.{rules_seen};
 
     /// Whether the name of this number is a labels name.
@@ -139,6 +162,40 @@ impl RuleSet {
                 return None;
             };
             if !self.is_connected(conductors, device) {
+                return Some(*line);
+            }
+            devices = more_devices;
+            lines = more_lines;
+        }
+        None
+    }
+
+    fn is_more_connected(&self, conductors: &[bool], device: &MoreRule) -> bool
+        requires { TellsConductors conductors.now (rules_seen self.now) }
+        ensures { result ≡ is_more_connected device.now (rules_seen self.now) }
+    {
+        match device {
+            MoreRule::Resistor { ta, tw, .. } => {
+                self.conducts(conductors, *ta) && self.conducts(conductors, *tw)
+            }
+            MoreRule::Diode { ta, tc, .. } => {
+                self.conducts(conductors, *ta) && self.conducts(conductors, *tc)
+            }
+        }
+    }
+
+    /// The same of the devices that are no transistors.
+    pub fn first_loose_more(&self, conductors: &[bool], lines: &[u64]) -> Option<u64>
+        requires { TellsConductors conductors.now (rules_seen self.now) }
+        ensures { result ≡ first_loose_more (rules_seen self.now) self.now.more.items lines.now }
+    {
+        let mut devices = self.more.as_slice();
+        let mut lines = lines;
+        while let [device, more_devices @ ..] = devices {
+            let [line, more_lines @ ..] = lines else {
+                return None;
+            };
+            if !self.is_more_connected(conductors, device) {
                 return Some(*line);
             }
             devices = more_devices;

@@ -5,7 +5,7 @@ ghost use Rattle.std.specs.List.{list_all, list_any};
 ghost use Rattle.std.specs.Str.{bytes_eq};
 ghost use Rattle.rule_lines.specs.Seen.{seen, seen_all};
 ghost use Rattle.rule_text.specs.Rows.{is_name, is_statement_word, number_of, layer_of, guesses_of};
-ghost use Rattle.rule_text.specs.Rows.{is_printable, is_string, is_wild, is_operator};
+ghost use Rattle.rule_text.specs.Rows.{is_digits, is_printable, is_string, is_wild, is_operator};
 ghost use Rattle.rule_text.specs.Rows.{fits_slot, fits};
 ghost use Rattle.rule_text.specs.Rows.{word_at, sign_at, layer_at, key_at};
 ghost use Rattle.rule_text.specs.Seen.{slot as slot_seen, slots as slots_seen, words as words_seen};
@@ -15,13 +15,15 @@ use geo_base::LayerKey;
 use rule_lines::{Token, is_digit, is_small};
 
 /// What may stand at a place of a row: a name that may be defined, a name, a layer number, a number
-/// of guesses, a string, a string that is no pattern, an operator, a given word or sign, or `=>`.
+/// of guesses, digits, a string, a string that is no pattern, an operator, a given word or sign, or
+/// `=>`.
 #[derive(Clone, Copy)]
 pub enum Slot<'a> {
     Fresh,
     Name,
     Layer,
     Guesses,
+    Digits,
     Quoted,
     Exact,
     Operator,
@@ -73,6 +75,8 @@ pub fn is_statement_word(word: &[u8]) -> bool
             b"polygon_layer",
             b"output",
             b"mos4",
+            b"resistor_with_bulk",
+            b"diode",
         ],
     )
 }
@@ -106,6 +110,12 @@ fn layer_of(word: &[u8]) -> Option<u16>
         Some(n) => Some(n as u16),
         None => None,
     }
+}
+
+fn is_digits(word: &[u8]) -> bool
+    ensures { result ≡ is_digits word.now }
+{
+    number_of(9_999_999, word).is_some()
 }
 
 fn is_printable(b: u8) -> bool
@@ -152,6 +162,7 @@ fn fits_slot(slot: &Slot, token: &Token) -> bool
         (Slot::Name, Token::Word(w)) => is_name(w),
         (Slot::Layer, Token::Word(w)) => layer_of(w).is_some(),
         (Slot::Guesses, Token::Word(w)) => number_of(1_000_000, w).unwrap_or(0) >= 1,
+        (Slot::Digits, Token::Word(w)) => is_digits(w),
         (Slot::Quoted, Token::Text(w)) => is_string(w),
         (Slot::Exact, Token::Text(w)) => is_string(w) && !is_pattern(w),
         (Slot::Operator, Token::Mark(b)) => is_operator(*b),

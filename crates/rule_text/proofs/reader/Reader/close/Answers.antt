@@ -1,6 +1,6 @@
-use Rattle.std.proofs.Common.{◌∙◌, ℕ, List, ap, sym}
+use Rattle.std.proofs.Common.{rules, ◌≡◌, None}
+use Rattle.rule_text.specs.Reading.{loose_of}
 use Rattle.std.proofs.lemmas.Result.{err_from_is_err_and}
-use Rattle.rule_text.specs.Reading.{first_loose}
 use Rattle.rule_text.specs.Seen.{rules_seen}
 use Rattle.rule_text.proofs.SoundLemmas.{sound}
 use Rattle.rule_text.proofs.reader.Reader.close.Goals as goal
@@ -11,6 +11,5 @@ returns-in_err-conductors-clause-fault c = let p = err_from_is_err_and c.from_re
 pub returns-in-None-clause-sound : goal.returns-in-None-clause-sound
 returns-in-None-clause-sound c =
     let r = rules_seen c.args.self.rules in
-    let none =
-    ap (λ (ns : List ℕ). first_loose r r.devices ns) (sym c.deref-2.ensures.value) ∙ sym c.first_loose.ensures ∙ c.in-None.is in
-    λ formed. sound r c.args.self.device_lines.items formed c.requires.lines none
+    let none : loose_of r c.args.self.device_lines.items c.args.self.more_lines.items ≡ None = search rules in
+    λ formed. sound r c.args.self.device_lines.items c.args.self.more_lines.items formed c.requires.lines c.requires.other_lines none

@@ -1,6 +1,6 @@
 use Rattle.std.proofs.Common.{◌≡◌, ◌<◌, ◌+◌, ◌^◌, ◌++◌, length}
 use Rattle.rule_lines.specs.Lines.{lines_of}
-use Rattle.rule_text.specs.Reading.{reading, device_lines}
+use Rattle.rule_text.specs.Reading.{reading, device_lines, more_lines}
 use Rattle.rule_text.specs.Reader.{IsReady}
 use Rattle.rule_text.specs.Seen.{rules_seen}
 use Rattle.rule_text.specs.Sound.{IsFormed}
@@ -13,6 +13,7 @@ invariant-loop-rest l = record {
   reading : reading l.number (rules_seen l.self.rules) (lines_of l.rest) ≡ reading 1 (rules_seen l.fn.self.rules) (lines_of l.bytes);
   formed : IsFormed (rules_seen l.fn.self.rules) → IsFormed (rules_seen l.self.rules);
   lines : l.self.device_lines.items ++ device_lines l.number (lines_of l.rest) ≡ l.fn.self.device_lines.items ++ device_lines 1 (lines_of l.bytes);
+  others : l.self.more_lines.items ++ more_lines l.number (lines_of l.rest) ≡ l.fn.self.more_lines.items ++ more_lines 1 (lines_of l.bytes);
 }
 
 abbrev pub decreases-loop-rest : goal.decreases-loop-rest
