@@ -1,3 +1,4 @@
 pub mod Gathering
 pub mod Searching
 pub mod Rounds
+pub mod KeptBoth

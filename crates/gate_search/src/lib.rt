@@ -6,6 +6,6 @@ mod laws;
 mod whole;
 mod windows;
 
-pub use laws::searched;
+pub use laws::{both_kept, searched};
 pub use whole::Whole;
 pub use windows::{GateLayer, gather, gather_around};

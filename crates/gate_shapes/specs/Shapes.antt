@@ -1,4 +1,4 @@
--- A part judged as a gate.
+-- A part judged as a gate between two groups, or as a device alone.
 use Rattle.std.specs.Prelude.{◌≡◌, ◌⊎◌, ℕ, ◌<◌, Bool, true, false, List, Option, Some, None}
 use Rattle.std.specs.Prelude.{slice_get}
 use Rattle.geo_base.specs.declared.shapes.Rect.{Rect}
@@ -7,7 +7,7 @@ use Rattle.flat_layout.specs.Parts.{Edge, InGroupOf, Sheets, AllOn, SomeOff, IsG
 use Rattle.flat_layout.specs.Parts.{Groups as GroupsCause, OffGate as OffGateCause}
 use Rattle.flat_layout.specs.Parts.{OffSd as OffSdCause, NoBulk as NoBulkCause}
 use Rattle.flat_layout.specs.Parts.{NoLength as NoLengthCause, IsBadPart}
-use Rattle.flat_layout.specs.Parts.{IsLeast}
+use Rattle.flat_layout.specs.Parts.{IsLeast, IsGoodArea, IsBadArea, Form, Beside, Alone}
 use Rattle.flat_layout.specs.Plane.{IsSquareBefore}
 use Rattle.gate_shapes.specs.Sets.{in_set}
 use Rattle.gate_shapes.specs.declared.shape.GateCause.{GateCause}
@@ -21,6 +21,11 @@ use Rattle.gate_shapes.specs.declared.shape.GateShape.TheVariants.{Good, Bad}
 pub record TellsOn (set other : List Rect) (told : Bool) : Type 0 where
   pub yes : told ≡ true → AllOn (in_set set) (in_set other)
   pub no : told ≡ false → SomeOff (in_set set) (in_set other)
+
+-- the same where it is asked for: whether some square lies outside, where none may
+pub record TellsOff (asked : Bool) (set other : List Rect) (told : Bool) : Type 0 where
+  pub yes : told ≡ true → (asked ≡ true) × SomeOff (in_set set) (in_set other)
+  pub no : told ≡ false → asked ≡ true → AllOn (in_set set) (in_set other)
 
 -- a square of both
 abbrev pub Meet : List Rect → List Rect → Type 0
@@ -42,7 +47,7 @@ pub record AreKept (groups : List (List Rect)) (touched : List Rect) (kept : Lis
       → (a : ℕ) × (slice_get kept a ≡ Some i)
   pub rising : (a b i j : ℕ) → a < b → slice_get kept a ≡ Some i → slice_get kept b ≡ Some j → i < j
 
--- the sets by which a part is judged
+-- the sets by which a part with groups is judged: its ends have no global
 abbrev pub sheets_of : List Rect → List Rect → List Rect → List Rect → Bool → Sheets
 sheets_of ends on_ends on_gate on_bulk loose =
     record {
@@ -51,6 +56,20 @@ sheets_of ends on_ends on_gate on_bulk loose =
       on_gate = in_set on_gate;
       on_bulk =
           in_set on_bulk;
+      free = Unit {0};
+      loose = loose ≡ true;
+    }
+
+-- those by which a part is judged alone: there are no groups, and no gate
+abbrev pub sheets_alone : List Rect → List Rect → Bool → Bool → Sheets
+sheets_alone on_ends on_bulk free loose =
+    record {
+      ends = λ q. ⊥;
+      on_ends = in_set on_ends;
+      on_gate = λ q. Unit {0};
+      on_bulk =
+          in_set on_bulk;
+      free = free ≡ true;
       loose = loose ≡ true;
     }
 
@@ -90,6 +109,22 @@ pub record IsGood (g : Sheets) (part : Square → Type 0) (f : GateForm) : Type 
 abbrev pub IsShape : Sheets → (Square → Type 0) → GateShape → Type 0
 IsShape g part (Good f) = IsGood g part f
 IsShape g part (Bad c) = IsBadPart g part (cause_of c)
+
+-- the same of a part alone: its squares, twice its boundary edges, and its least square at both
+-- ends
+pub record IsGoodAlone (g : Sheets) (part : Square → Type 0) (f : GateForm) : Type 0 where
+  pub form : IsGoodArea g part f.twice_w f.twice_l
+  pub least_source : IsLeast part f.source
+  pub least_drain : IsLeast part f.drain
+
+abbrev pub IsShapeAlone : Sheets → (Square → Type 0) → GateShape → Type 0
+IsShapeAlone g part (Good f) = IsGoodAlone g part f
+IsShapeAlone g part (Bad c) = IsBadArea g part (cause_of c)
+
+-- by the form of the device
+abbrev pub IsShapeBy : Form → Sheets → (Square → Type 0) → GateShape → Type 0
+IsShapeBy Beside g part s = IsShape g part s
+IsShapeBy Alone g part s = IsShapeAlone g part s
 
 -- the same of the first n groups
 pub record KeptSoFar (groups : List (List Rect)) (touched : List Rect) (n : ℕ)

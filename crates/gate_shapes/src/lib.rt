@@ -1,7 +1,8 @@
 //! Edge-connected parts of a set of unit squares, and each of them judged as the gate of a
-//! transistor.
+//! transistor, or as a device alone.
 #![tactic(auto)]
 
+mod alone;
 mod area;
 mod border;
 mod contacts;
@@ -9,7 +10,8 @@ mod laws;
 mod pieces;
 mod shape;
 
+pub use alone::{Sheets, area_shape};
 pub use border::{border_of, grown, sides_of};
-pub use laws::looks;
+pub use laws::{looks, looks_alone};
 pub use pieces::{least, parts};
 pub use shape::{Around, GateCause, GateForm, GateShape, shape_of};

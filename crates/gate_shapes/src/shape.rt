@@ -26,7 +26,8 @@ pub enum GateCause {
 }
 
 /// A good gate: its sizes in unit edges, and the least squares of its two groups. The source is the
-/// group with the least square.
+/// group with the least square. Of a part alone it is the part's squares and twice its boundary
+/// edges, and its least square twice.
 #[derive(Clone, Copy, Debug, PartialEq, Eq)]
 pub struct GateForm {
     pub twice_w: u128,
@@ -41,7 +42,7 @@ pub enum GateShape {
     Bad(GateCause),
 }
 
-fn is_on(alloc: Global, set: &RectSet, other: &RectSet) -> Result<bool, AllocError>
+pub fn is_on(alloc: Global, set: &RectSet, other: &RectSet) -> Result<bool, AllocError>
     ensures { IfOk result (λ b. TellsOn set.now other.now b) }
 {
     let off = combine_rects(alloc, set.rects(), other.rects(), Rule::Not)?;
@@ -51,7 +52,7 @@ fn is_on(alloc: Global, set: &RectSet, other: &RectSet) -> Result<bool, AllocErr
     }
 }
 
-fn first_square(set: &RectSet) -> Square
+pub fn first_square(set: &RectSet) -> Square
     requires { (q : Square) × in_set set.now q }
     ensures { IsLeast (in_set set.now) result }
 {
