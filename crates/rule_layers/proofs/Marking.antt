@@ -1,8 +1,7 @@
 -- Marks of the names that are read.
-use Rattle.std.proofs.Common.{◌≡◌, ◌⊎◌, ◌↔◌, inl, inr, ℕ, ◌<◌, ◌+◌, Bool, true, false, List, Some, sym, ◌∙◌, subst, arith, length, get_or, slice_get}
+use Rattle.std.proofs.Common.{◌≡◌, ◌⊎◌, ◌↔◌, inl, inr, ℕ, ◌<◌, ◌+◌, Bool, List, Some, sym, ◌∙◌, subst, arith, length, slice_get}
 use Rattle.std.proofs.Math.Decide.{ℕ_discrete}
-use Rattle.rule_text.specs.declared.rules.MosRule.{MosRule}
-use Rattle.rule_layers.specs.Reads.{IsByDevice, Marks, ReadsLayer}
+use Rattle.rule_layers.specs.Reads.{IsBy, Marks}
 
 one_some : {A : Type 0} (x y : A) → Some x ≡ Some y → x ≡ y
 one_some x y e = cc
@@ -36,16 +35,16 @@ marks_both R S old mid new h g = record {
 }
 
 -- one device rule more
-pub by_devices_more : (devices : List MosRule) (i k : ℕ) (rule : MosRule) → slice_get devices i ≡ Some rule → (IsByDevice devices i k ⊎ ReadsLayer rule k) ↔ IsByDevice devices (i + 1) k
-by_devices_more devices i k rule at = (
+pub by_more : {A : Type 0} (R : A → ℕ → Type 0) (rules : List A) (i k : ℕ) (rule : A) → slice_get rules i ≡ Some rule → (IsBy R rules i k ⊎ R rule k) ↔ IsBy R rules (i + 1) k
+by_more {A = A} R rules i k rule at = (
   (λ h. elim h [
     | inl b ↦ let lt = b.at_in in record { at = b.at; rule = b.rule; at_in = omega arith; there = b.there; reads = b.reads }
     | inr r ↦ record { at = i; rule = rule; at_in = omega arith; there = at; reads = r }
   ]),
   (λ b. let lt = b.at_in in elim (ℕ_discrete b.at i) [
     | yes e ↦
-        let same : b.rule ≡ rule = one_some b.rule rule (sym b.there ∙ subst (λ j. slice_get devices j ≡ Some rule) (sym e) at) in
-        inr (subst (λ (v : MosRule). ReadsLayer v k) same b.reads)
+        let same : b.rule ≡ rule = one_some b.rule rule (sym b.there ∙ subst (λ j. slice_get rules j ≡ Some rule) (sym e) at) in
+        inr (subst (λ (v : A). R v k) same b.reads)
     | no n ↦ inl (record { at = b.at; rule = b.rule; at_in = omega (arith, lt, n); there = b.there; reads = b.reads })
   ]),
 )

@@ -1,5 +1,5 @@
 -- Names that are read, and trees that read them.
-use Rattle.std.proofs.Common.{◌≡◌, ◌⊎◌, inl, inr, ℕ, zero, suc, ◌<◌, ◌≤◌, ◌+◌, Bool, true, false, List, [], ◌∷◌, ◌++◌, Option, Some, None, refl, sym, ap, ◌∙◌, subst, arith, length, length-append, get_or, slice_get}
+use Rattle.std.proofs.Common.{◌≡◌, ◌⊎◌, inl, inr, ℕ, zero, suc, ◌<◌, ◌≤◌, ◌+◌, Bool, true, false, List, [], ◌∷◌, ◌++◌, Some, None, refl, sym, ap, ◌∙◌, subst, arith, length, length-append, get_or, slice_get}
 use Rattle.std.proofs.Math.Decide.{ℕ_discrete}
 use Rattle.std.proofs.lemmas.Bool.{cases_lt}
 use Rattle.std.proofs.lemmas.List.{get_or_append_left, get_or_push, get_or_past}
@@ -11,8 +11,9 @@ use Rattle.rule_text.specs.declared.rules.LayerForm.{LayerForm}
 use Rattle.rule_text.specs.declared.rules.LayerForm.TheVariants as form
 use Rattle.rule_text.specs.declared.rules.LayerRule.{LayerRule}
 use Rattle.rule_text.specs.declared.rules.MosRule.{MosRule}
+use Rattle.rule_text.specs.declared.rules.MoreRule.{MoreRule}
 use Rattle.rule_layers.specs.Formulas.{formulas, formula_by, formulas_behind}
-use Rattle.rule_layers.specs.Reads.{AreMarked, AreRead, IsRead, IsReadAs, Reads, ReadsLayer, read_form}
+use Rattle.rule_layers.specs.Reads.{AreMarked, AreRead, IsRead, IsReadAs, Reads, read_form}
 
 pub one_some : {A : Type 0} (x y : A) → Some x ≡ Some y → x ≡ y
 one_some x y e = cc
@@ -37,28 +38,28 @@ read_as P f seen true to from is = inl (to refl, is)
 read_as P f seen false to from is = inr ((λ h. false_true (from h)), is)
 
 -- the names up to one
-pub record AreReadTo (names : List LayerRule) (devices : List MosRule) (n : ℕ) (read : List LayerRule) : Type 0 where
+pub record AreReadTo (names : List LayerRule) (devices : List MosRule) (further : List MoreRule) (n : ℕ) (read : List LayerRule) : Type 0 where
   pub count : length read ≡ n
-  pub each : (k : ℕ) (rule : LayerRule) → k < n → slice_get names k ≡ Some rule → (seen : LayerRule) × (slice_get read k ≡ Some seen) × IsReadAs (IsRead names devices k) rule.form seen.form
+  pub each : (k : ℕ) (rule : LayerRule) → k < n → slice_get names k ≡ Some rule → (seen : LayerRule) × (slice_get read k ≡ Some seen) × IsReadAs (IsRead names devices further k) rule.form seen.form
 
-pub read_more : (names : List LayerRule) (devices : List MosRule) (marks : List Bool) (n : ℕ) (rule seen : LayerRule) (read : List LayerRule) → n < length marks → AreMarked (IsRead names devices) marks → slice_get names n ≡ Some rule
-    → seen.form ≡ read_form (get_or marks n false) rule.form → AreReadTo names devices n read → AreReadTo names devices (n + 1) (read ++ seen ∷ [])
-read_more names devices marks n rule seen read lt are at is h = record {
+pub read_more : (names : List LayerRule) (devices : List MosRule) (further : List MoreRule) (marks : List Bool) (n : ℕ) (rule seen : LayerRule) (read : List LayerRule) → n < length marks → AreMarked (IsRead names devices further) marks → slice_get names n ≡ Some rule
+    → seen.form ≡ read_form (get_or marks n false) rule.form → AreReadTo names devices further n read → AreReadTo names devices further (n + 1) (read ++ seen ∷ [])
+read_more names devices further marks n rule seen read lt are at is h = record {
   count = length-append read (seen ∷ []) ∙ ap (λ (k : ℕ). k + 1) h.count;
   each = λ k r below there. elim (ℕ_discrete k n) [
     | yes e ↦
         let same : r ≡ rule = one_some r rule (sym there ∙ subst (λ j. slice_get names j ≡ Some rule) (sym e) at) in
-        let as_seen : IsReadAs (IsRead names devices n) rule.form seen.form = read_as (IsRead names devices n) rule.form seen.form (get_or marks n false) (are n lt).0 (are n lt).1 is in (
+        let as_seen : IsReadAs (IsRead names devices further n) rule.form seen.form = read_as (IsRead names devices further n) rule.form seen.form (get_or marks n false) (are n lt).0 (are n lt).1 is in (
           seen,
           subst (λ j. slice_get (read ++ seen ∷ []) j ≡ Some seen) (h.count ∙ sym e) (push_new read seen),
-          subst (λ j. IsReadAs (IsRead names devices j) r.form seen.form) (sym e) (subst (λ (v : LayerRule). IsReadAs (IsRead names devices n) v.form seen.form) (sym same) as_seen),
+          subst (λ j. IsReadAs (IsRead names devices further j) r.form seen.form) (sym e) (subst (λ (v : LayerRule). IsReadAs (IsRead names devices further n) v.form seen.form) (sym same) as_seen),
         )
     | no not ↦ let o = h.each k r (omega (arith, below, not)) there in (o.0, push_old read seen o.0 k o.1, o.2)
   ];
 }
 
-pub read_all : (names : List LayerRule) (devices : List MosRule) (n : ℕ) (read : List LayerRule) → n ≡ length names → AreReadTo names devices n read → AreRead names devices read
-read_all names devices n read e h = record {
+pub read_all : (names : List LayerRule) (devices : List MosRule) (further : List MoreRule) (n : ℕ) (read : List LayerRule) → n ≡ length names → AreReadTo names devices further n read → AreRead names devices further read
+read_all names devices further n read e h = record {
   count = h.count ∙ e;
   each = λ k rule at. let lt = slice_get_within names k rule at in h.each k rule (omega (arith, lt, e)) at;
 }
@@ -85,23 +86,23 @@ no_key y key e h = absurd (let z : Empty ≡ Input key = sym e ∙ h in let w : 
 no_derived : {P : Type 0} (op : Op) (a b y : Formula) (key : LayerKey) → y ≡ Binary op a b → y ≡ Input key → P
 no_derived op a b y key e h = absurd (let z : Binary op a b ≡ Input key = sym e ∙ h in let w : ⊥ = cc in w)
 
-record AreAlike (names : List LayerRule) (devices : List MosRule) (xs ys : List Formula) : Type 0 where
+record AreAlike (names : List LayerRule) (devices : List MosRule) (further : List MoreRule) (xs ys : List Formula) : Type 0 where
   pub long : length xs ≡ length ys
-  pub each : (i : ℕ) → IsAlike (IsRead names devices i) (get_or xs i Empty) (get_or ys i Empty)
+  pub each : (i : ℕ) → IsAlike (IsRead names devices further i) (get_or xs i Empty) (get_or ys i Empty)
 
-operand : (names : List LayerRule) (devices : List MosRule) (xs ys : List Formula) (n : ℕ) (rule : LayerRule) (a : ℕ) → AreAlike names devices xs ys → slice_get names n ≡ Some rule → Reads rule.form a → get_or xs a Empty ≡ get_or ys a Empty
-operand names devices xs ys n rule a h at reads = elim (h.each a) [
+operand : (names : List LayerRule) (devices : List MosRule) (further : List MoreRule) (xs ys : List Formula) (n : ℕ) (rule : LayerRule) (a : ℕ) → AreAlike names devices further xs ys → slice_get names n ≡ Some rule → Reads rule.form a → get_or xs a Empty ≡ get_or ys a Empty
+operand names devices further xs ys n rule a h at reads = elim (h.each a) [
   | inl e ↦ e.0
   | inr u ↦ absurd (u.0 (inl (record { at = n; rule = rule; at_in = slice_get_within names n rule at; there = at; reads = reads })))
 ]
 
-form_same : (names : List LayerRule) (devices : List MosRule) (xs ys : List Formula) (n : ℕ) (rule : LayerRule) (f : LayerForm) → rule.form ≡ f → AreAlike names devices xs ys → slice_get names n ≡ Some rule → formula_by xs f ≡ formula_by ys f
-form_same names devices xs ys n rule (form.Input key) e h at = refl
-form_same names devices xs ys n rule (form.Labels key) e h at = refl
-form_same names devices xs ys n rule form.Empty e h at = refl
-form_same names devices xs ys n rule (form.Binary op a b) e h at =
-    let first = operand names devices xs ys n rule a h at (subst (λ g. Reads g a) (sym e) (inl refl)) in
-    let second = operand names devices xs ys n rule b h at (subst (λ g. Reads g b) (sym e) (inr refl)) in
+form_same : (names : List LayerRule) (devices : List MosRule) (further : List MoreRule) (xs ys : List Formula) (n : ℕ) (rule : LayerRule) (f : LayerForm) → rule.form ≡ f → AreAlike names devices further xs ys → slice_get names n ≡ Some rule → formula_by xs f ≡ formula_by ys f
+form_same names devices further xs ys n rule (form.Input key) e h at = refl
+form_same names devices further xs ys n rule (form.Labels key) e h at = refl
+form_same names devices further xs ys n rule form.Empty e h at = refl
+form_same names devices further xs ys n rule (form.Binary op a b) e h at =
+    let first = operand names devices further xs ys n rule a h at (subst (λ g. Reads g a) (sym e) (inl refl)) in
+    let second = operand names devices further xs ys n rule b h at (subst (λ g. Reads g b) (sym e) (inr refl)) in
     ap (λ x. Binary op x (get_or xs b Empty)) first ∙ ap (Binary op (get_or ys a Empty)) second
 
 unread_alike : (P : Type 0) (xs ys : List Formula) (f seen : LayerForm) → formula_by xs f ≡ formula_by ys f → (P → ⊥) → seen ≡ read_form false f → IsAlike P (formula_by xs f) (formula_by ys seen)
@@ -110,23 +111,23 @@ unread_alike P xs ys (form.Labels key) seen same not is = inl (same ∙ ap (form
 unread_alike P xs ys form.Empty seen same not is = inl (same ∙ ap (formula_by ys) (sym is), λ k e. no_key (formula_by ys seen) k (ap (formula_by ys) is) e)
 unread_alike P xs ys (form.Binary op a b) seen same not is = inl (same ∙ ap (formula_by ys) (sym is), λ k e. no_derived op (get_or ys a Empty) (get_or ys b Empty) (formula_by ys seen) k (ap (formula_by ys) is) e)
 
-form_alike : (names : List LayerRule) (devices : List MosRule) (xs ys : List Formula) (n : ℕ) (rule seen : LayerRule) → AreAlike names devices xs ys → slice_get names n ≡ Some rule → IsReadAs (IsRead names devices n) rule.form seen.form
-    → IsAlike (IsRead names devices n) (formula_by xs rule.form) (formula_by ys seen.form)
-form_alike names devices xs ys n rule seen h at (inl r) = inl (form_same names devices xs ys n rule rule.form refl h at ∙ ap (formula_by ys) (sym r.1), λ k e. r.0)
-form_alike names devices xs ys n rule seen h at (inr u) = unread_alike (IsRead names devices n) xs ys rule.form seen.form (form_same names devices xs ys n rule rule.form refl h at) u.0 u.1
+form_alike : (names : List LayerRule) (devices : List MosRule) (further : List MoreRule) (xs ys : List Formula) (n : ℕ) (rule seen : LayerRule) → AreAlike names devices further xs ys → slice_get names n ≡ Some rule → IsReadAs (IsRead names devices further n) rule.form seen.form
+    → IsAlike (IsRead names devices further n) (formula_by xs rule.form) (formula_by ys seen.form)
+form_alike names devices further xs ys n rule seen h at (inl r) = inl (form_same names devices further xs ys n rule rule.form refl h at ∙ ap (formula_by ys) (sym r.1), λ k e. r.0)
+form_alike names devices further xs ys n rule seen h at (inr u) = unread_alike (IsRead names devices further n) xs ys rule.form seen.form (form_same names devices further xs ys n rule rule.form refl h at) u.0 u.1
 
-alike_more : (names : List LayerRule) (devices : List MosRule) (xs ys : List Formula) (x y : Formula) → AreAlike names devices xs ys → IsAlike (IsRead names devices (length xs)) x y → AreAlike names devices (xs ++ x ∷ []) (ys ++ y ∷ [])
-alike_more names devices xs ys x y h is = record {
+alike_more : (names : List LayerRule) (devices : List MosRule) (further : List MoreRule) (xs ys : List Formula) (x y : Formula) → AreAlike names devices further xs ys → IsAlike (IsRead names devices further (length xs)) x y → AreAlike names devices further (xs ++ x ∷ []) (ys ++ y ∷ [])
+alike_more names devices further xs ys x y h is = record {
   long = length-append xs (x ∷ []) ∙ ap (λ (k : ℕ). k + 1) h.long ∙ sym (length-append ys (y ∷ []));
   each = λ i. elim (cases_lt i (length xs)) [
     | inl lt ↦
         let long = h.long in
-        subst (λ v. IsAlike (IsRead names devices i) v (get_or (ys ++ y ∷ []) i Empty)) (sym (get_or_append_left xs (x ∷ []) Empty i lt))
-        (subst (IsAlike (IsRead names devices i) (get_or xs i Empty)) (sym (get_or_append_left ys (y ∷ []) Empty i (omega (arith, lt, long)))) (h.each i))
+        subst (λ v. IsAlike (IsRead names devices further i) v (get_or (ys ++ y ∷ []) i Empty)) (sym (get_or_append_left xs (x ∷ []) Empty i lt))
+        (subst (IsAlike (IsRead names devices further i) (get_or xs i Empty)) (sym (get_or_append_left ys (y ∷ []) Empty i (omega (arith, lt, long)))) (h.each i))
     | inr from ↦ elim (ℕ_discrete i (length xs)) [
       | yes e ↦
-          subst (λ v. IsAlike (IsRead names devices i) v (get_or (ys ++ y ∷ []) i Empty)) (sym (get_or_push xs x Empty i (sym e)))
-          (subst (IsAlike (IsRead names devices i) x) (sym (get_or_push ys y Empty i (sym h.long ∙ sym e))) (subst (λ j. IsAlike (IsRead names devices j) x y) (sym e) is))
+          subst (λ v. IsAlike (IsRead names devices further i) v (get_or (ys ++ y ∷ []) i Empty)) (sym (get_or_push xs x Empty i (sym e)))
+          (subst (IsAlike (IsRead names devices further i) x) (sym (get_or_push ys y Empty i (sym h.long ∙ sym e))) (subst (λ j. IsAlike (IsRead names devices further j) x y) (sym e) is))
       | no n ↦
           let long = h.long in
           let a : length (xs ++ x ∷ []) ≤ i = (let m = length-append xs (x ∷ []) in omega arith) in
@@ -136,61 +137,61 @@ alike_more names devices xs ys x y h is = record {
   ];
 }
 
-abbrev AreBehind : List LayerRule → List MosRule → ℕ → List LayerRule → List LayerRule → Type 0
-AreBehind names devices n rest read = (k : ℕ) (rule : LayerRule) → slice_get rest k ≡ Some rule → (slice_get names (n + k) ≡ Some rule) × (seen : LayerRule) × (slice_get read k ≡ Some seen) × IsReadAs (IsRead names devices (n + k)) rule.form seen.form
+abbrev AreBehind : List LayerRule → List MosRule → List MoreRule → ℕ → List LayerRule → List LayerRule → Type 0
+AreBehind names devices further n rest read = (k : ℕ) (rule : LayerRule) → slice_get rest k ≡ Some rule → (slice_get names (n + k) ≡ Some rule) × (seen : LayerRule) × (slice_get read k ≡ Some seen) × IsReadAs (IsRead names devices further (n + k)) rule.form seen.form
 
-alike_behind : (names : List LayerRule) (devices : List MosRule) (rest read : List LayerRule) (n : ℕ) (xs ys : List Formula) → length read ≡ length rest → length xs ≡ n → AreBehind names devices n rest read → AreAlike names devices xs ys → AreAlike names devices (formulas_behind xs rest) (formulas_behind ys read)
-alike_behind names devices [] [] n xs ys e long f h = h
-alike_behind names devices [] (s ∷ read) n xs ys e long f h = absurd (let z : ⊥ = omega (arith, e) in z)
-alike_behind names devices (r ∷ rest) [] n xs ys e long f h = absurd (let z : ⊥ = omega (arith, e) in z)
-alike_behind names devices (r ∷ rest) (s ∷ read) n xs ys e long f h =
+alike_behind : (names : List LayerRule) (devices : List MosRule) (further : List MoreRule) (rest read : List LayerRule) (n : ℕ) (xs ys : List Formula) → length read ≡ length rest → length xs ≡ n → AreBehind names devices further n rest read → AreAlike names devices further xs ys → AreAlike names devices further (formulas_behind xs rest) (formulas_behind ys read)
+alike_behind names devices further [] [] n xs ys e long f h = h
+alike_behind names devices further [] (s ∷ read) n xs ys e long f h = absurd (let z : ⊥ = omega (arith, e) in z)
+alike_behind names devices further (r ∷ rest) [] n xs ys e long f h = absurd (let z : ⊥ = omega (arith, e) in z)
+alike_behind names devices further (r ∷ rest) (s ∷ read) n xs ys e long f h =
     let zero_on : n + 0 ≡ n = omega arith in
     let first = f 0 r refl in
     let at : slice_get names n ≡ Some r = subst (λ i. slice_get names i ≡ Some r) zero_on first.0 in
     let same : first.1 ≡ s = one_some first.1 s (sym first.2) in
-    let as_seen : IsReadAs (IsRead names devices n) r.form s.form = subst (λ (v : LayerRule). IsReadAs (IsRead names devices n) r.form v.form) same (subst (λ i. IsReadAs (IsRead names devices i) r.form first.1.form) zero_on first.3) in
-    let is : IsAlike (IsRead names devices (length xs)) (formula_by xs r.form) (formula_by ys s.form) = subst (λ i. IsAlike (IsRead names devices i) (formula_by xs r.form) (formula_by ys s.form)) (sym long) (form_alike names devices xs ys n r s h at as_seen) in
-    alike_behind names devices rest read (n + 1) (xs ++ formula_by xs r.form ∷ []) (ys ++ formula_by ys s.form ∷ []) (omega (arith, e)) (length-append xs (formula_by xs r.form ∷ []) ∙ ap (λ (k : ℕ). k + 1) long)
+    let as_seen : IsReadAs (IsRead names devices further n) r.form s.form = subst (λ (v : LayerRule). IsReadAs (IsRead names devices further n) r.form v.form) same (subst (λ i. IsReadAs (IsRead names devices further i) r.form first.1.form) zero_on first.3) in
+    let is : IsAlike (IsRead names devices further (length xs)) (formula_by xs r.form) (formula_by ys s.form) = subst (λ i. IsAlike (IsRead names devices further i) (formula_by xs r.form) (formula_by ys s.form)) (sym long) (form_alike names devices further xs ys n r s h at as_seen) in
+    alike_behind names devices further rest read (n + 1) (xs ++ formula_by xs r.form ∷ []) (ys ++ formula_by ys s.form ∷ []) (omega (arith, e)) (length-append xs (formula_by xs r.form ∷ []) ∙ ap (λ (k : ℕ). k + 1) long)
     (λ k rule there.
     let o = f (suc k) rule there in
     let z : n + suc k ≡ (n + 1) + k = omega arith in
-    (subst (λ i. slice_get names i ≡ Some rule) z o.0, o.1, o.2, subst (λ i. IsReadAs (IsRead names devices i) rule.form o.1.form) z o.3))
-    (alike_more names devices xs ys (formula_by xs r.form) (formula_by ys s.form) h is)
+    (subst (λ i. slice_get names i ≡ Some rule) z o.0, o.1, o.2, subst (λ i. IsReadAs (IsRead names devices further i) rule.form o.1.form) z o.3))
+    (alike_more names devices further xs ys (formula_by xs r.form) (formula_by ys s.form) h is)
 
-alike : (names : List LayerRule) (devices : List MosRule) (read : List LayerRule) → AreRead names devices read → AreAlike names devices (formulas names) (formulas read)
-alike names devices read are =
-    alike_behind names devices names read 0 [] [] are.count refl (λ j rule there. let o = are.each j rule there in let z : j ≡ 0 + j = omega arith in (subst (λ i. slice_get names i ≡ Some rule) z there, o.0, o.1, subst (λ i. IsReadAs (IsRead names devices i) rule.form o.0.form) z o.2))
+alike : (names : List LayerRule) (devices : List MosRule) (further : List MoreRule) (read : List LayerRule) → AreRead names devices further read → AreAlike names devices further (formulas names) (formulas read)
+alike names devices further read are =
+    alike_behind names devices further names read 0 [] [] are.count refl (λ j rule there. let o = are.each j rule there in let z : j ≡ 0 + j = omega arith in (subst (λ i. slice_get names i ≡ Some rule) z there, o.0, o.1, subst (λ i. IsReadAs (IsRead names devices further i) rule.form o.0.form) z o.2))
     (record { long = refl; each = λ i. inl (refl, λ k e. no_key Empty k refl e) })
 
 -- as many trees as names that are seen
-pub same_count : (names : List LayerRule) (devices : List MosRule) (read : List LayerRule) → AreRead names devices read → length (formulas names) ≡ length (formulas read)
-same_count names devices read are = (alike names devices read are).long
+pub same_count : (names : List LayerRule) (devices : List MosRule) (further : List MoreRule) (read : List LayerRule) → AreRead names devices further read → length (formulas names) ≡ length (formulas read)
+same_count names devices further read are = (alike names devices further read are).long
 
 -- a name that is read has one tree over the names, and over them as they are seen
-pub read_tree : (names : List LayerRule) (devices : List MosRule) (read : List LayerRule) (k : ℕ) → AreRead names devices read → IsRead names devices k → get_or (formulas names) k Empty ≡ get_or (formulas read) k Empty
-read_tree names devices read k are is = elim ((alike names devices read are).each k) [ inl e ↦ e.0 | inr u ↦ absurd (u.0 is) ]
+pub read_tree : (names : List LayerRule) (devices : List MosRule) (further : List MoreRule) (read : List LayerRule) (k : ℕ) → AreRead names devices further read → IsRead names devices further k → get_or (formulas names) k Empty ≡ get_or (formulas read) k Empty
+read_tree names devices further read k are is = elim ((alike names devices further read are).each k) [ inl e ↦ e.0 | inr u ↦ absurd (u.0 is) ]
 
 -- and so has a derived name
-pub derived_tree : (names : List LayerRule) (devices : List MosRule) (read : List LayerRule) (k : ℕ) (op : Op) (a b : Formula) → AreRead names devices read → get_or (formulas names) k Empty ≡ Binary op a b → get_or (formulas names) k Empty ≡ get_or (formulas read) k Empty
-derived_tree names devices read k op a b are tree = elim ((alike names devices read are).each k) [
+pub derived_tree : (names : List LayerRule) (devices : List MosRule) (further : List MoreRule) (read : List LayerRule) (k : ℕ) (op : Op) (a b : Formula) → AreRead names devices further read → get_or (formulas names) k Empty ≡ Binary op a b → get_or (formulas names) k Empty ≡ get_or (formulas read) k Empty
+derived_tree names devices further read k op a b are tree = elim ((alike names devices further read are).each k) [
   | inl e ↦ e.0
   | inr u ↦ absurd (let z : Binary op a b ≡ Input u.2.0 = sym tree ∙ u.2.1 in let w : ⊥ = cc in w)
 ]
 
-pub same_tree : (names : List LayerRule) (devices : List MosRule) (read : List LayerRule) (k : ℕ) (op : Op) (a b : Formula) → AreRead names devices read → slice_get (formulas names) k ≡ Some (Binary op a b) → slice_get (formulas read) k ≡ Some (Binary op a b)
-same_tree names devices read k op a b are at =
+pub same_tree : (names : List LayerRule) (devices : List MosRule) (further : List MoreRule) (read : List LayerRule) (k : ℕ) (op : Op) (a b : Formula) → AreRead names devices further read → slice_get (formulas names) k ≡ Some (Binary op a b) → slice_get (formulas read) k ≡ Some (Binary op a b)
+same_tree names devices further read k op a b are at =
     let tree : get_or (formulas names) k Empty ≡ Binary op a b = get_or_from_slice_get (formulas names) k (Binary op a b) Empty at in
     let lt = slice_get_within (formulas names) k (Binary op a b) at in
-    let long = same_count names devices read are in
-    slice_get-get_or (formulas read) k Empty (omega (arith, lt, long)) ∙ ap Some (sym (derived_tree names devices read k op a b are tree) ∙ tree)
+    let long = same_count names devices further read are in
+    slice_get-get_or (formulas read) k Empty (omega (arith, lt, long)) ∙ ap Some (sym (derived_tree names devices further read k op a b are tree) ∙ tree)
 
 -- an input layer among the trees as they are seen is one of the trees, and is read
-pub seen_input : (names : List LayerRule) (devices : List MosRule) (read : List LayerRule) (k : ℕ) (key : LayerKey) → AreRead names devices read → slice_get (formulas read) k ≡ Some (Input key) → (slice_get (formulas names) k ≡ Some (Input key)) × IsRead names devices k
-seen_input names devices read k key are at =
+pub seen_input : (names : List LayerRule) (devices : List MosRule) (further : List MoreRule) (read : List LayerRule) (k : ℕ) (key : LayerKey) → AreRead names devices further read → slice_get (formulas read) k ≡ Some (Input key) → (slice_get (formulas names) k ≡ Some (Input key)) × IsRead names devices further k
+seen_input names devices further read k key are at =
     let tree : get_or (formulas read) k Empty ≡ Input key = get_or_from_slice_get (formulas read) k (Input key) Empty at in
     let lt = slice_get_within (formulas read) k (Input key) at in
-    let long = same_count names devices read are in
-    elim ((alike names devices read are).each k) [
+    let long = same_count names devices further read are in
+    elim ((alike names devices further read are).each k) [
       | inl e ↦ (slice_get-get_or (formulas names) k Empty (omega (arith, lt, long)) ∙ ap Some (e.0 ∙ tree), e.1 key tree)
       | inr u ↦ absurd (let z : Input key ≡ Empty = sym tree ∙ u.1 in let w : ⊥ = cc in w)
     ]

@@ -1,5 +1,5 @@
 -- Conductors, known globals, terminals.
-use Rattle.std.proofs.Common.{◌≡◌, ℕ, zero, suc, ◌+◌, ◌<◌, ◌==◌, ◌&&◌, ◌||◌, Bool, true, false, if◌then◌else◌, List, [], ◌∷◌, ◌++◌, map, length, get_or, slice_get, Some, refl, ◌∙◌, ap, subst, arith}
+use Rattle.std.proofs.Common.{◌≡◌, ◌⊎◌, inl, inr, ℕ, zero, suc, ◌+◌, ◌<◌, ◌==◌, ◌&&◌, ◌||◌, Bool, true, false, if◌then◌else◌, List, [], ◌∷◌, ◌++◌, map, length, get_or, slice_get, Some, refl, ◌∙◌, ap, subst, arith}
 use Rattle.std.specs.List.{list_any, position_or_len}
 use Rattle.std.specs.Str.{bytes_eq}
 use Rattle.std.proofs.lemmas.List.Folds.{list_any-append}
@@ -9,11 +9,13 @@ use Rattle.flat_layout.specs.Gates.{Rule}
 use Rattle.flat_layout.specs.Layers.{Formula, Empty}
 use Rattle.flat_layout.specs.Regions.{Line, ground_of}
 use Rattle.rule_text.specs.declared.rules.MosRule.{MosRule}
+use Rattle.rule_text.specs.declared.rules.MoreRule.{MoreRule}
+use Rattle.rule_text.specs.declared.rules.MoreRule.TheVariants as more
 use Rattle.rule_text.specs.Rules.{Rules}
-use Rattle.rule_text.specs.Reading.{is_conductor, is_connected}
+use Rattle.rule_text.specs.Reading.{is_conductor, is_connected, is_more_connected}
 use Rattle.rule_text.proofs.SoundLemmas.{place_below}
 use Rattle.rule_layers.specs.Laws.{ConductorLaw, KnownGlobalLaw, TerminalConductorLaw, AreTerminalsConductors}
-use Rattle.rule_layers.specs.Meaning.{conductor_formulas, device_rule, globals_behind, globals_of, line}
+use Rattle.rule_layers.specs.Meaning.{conductor_formulas, device_rule, globals_behind, globals_of, line, more_rule, mos_rules}
 use Rattle.rule_layers.specs.Formulas.{formulas}
 
 -- from number n on, place k is that of name n + k
@@ -79,7 +81,7 @@ grounded names (g ∷ gs) c n all h = by (g.0 == c) h (grounded names gs c n (λ
     by false e rest = rest e
 
 pub known : KnownGlobalLaw
-known r u g h = grounded (globals_of r) r.globals u.tb g (λ k x at. is_seen [] r.globals k x at) h
+known r c g h = grounded (globals_of r) r.globals c g (λ k x at. is_seen [] r.globals k x at) h
 
 and_both : (p q : Bool) → (p && q) ≡ true → (p ≡ true) × (q ≡ true)
 and_both true q e = (refl, e)
@@ -96,7 +98,22 @@ connected_parts r m h =
     let both = and_both (is_conductor m.ts r) (is_conductor m.tg r) all.0 in
     record { ts = both.0; tg = both.1; tb = all.1 }
 
+more_parts : (r : Rules) (m : MoreRule) → is_more_connected m r ≡ true → AreTerminalsConductors r (more_rule r m)
+more_parts r (more.Resistor class n c w ta tw) h = let both = and_both (is_conductor ta r) (is_conductor tw r) h in record { ts = both.0; tg = both.1; tb = both.1 }
+more_parts r (more.Diode class p n ta tc) h = let both = and_both (is_conductor ta r) (is_conductor tc r) h in record { ts = both.0; tg = both.1; tb = both.1 }
+
+-- an item of two lists is one of either
+pub of_both : {A : Type 0} (xs ys : List A) (n : ℕ) (a : A) → slice_get (xs ++ ys) n ≡ Some a → (slice_get xs n ≡ Some a) ⊎ ((k : ℕ) × (slice_get ys k ≡ Some a))
+of_both [] ys n a h = inr (n, h)
+of_both (x ∷ xs) ys zero a h = inl h
+of_both (x ∷ xs) ys (suc n) a h = of_both xs ys n a h
+
 pub terminals : TerminalConductorLaw
-terminals r n u sound h =
-    let m = of_map (device_rule r) r.devices n u h in
-    subst (λ (v : Rule). AreTerminalsConductors r v) m.2 (connected_parts r m.0 (sound.connected n m.0 m.1))
+terminals r n u sound h = elim (of_both (mos_rules r) (map (more_rule r) r.more) n u h) [
+  | inl g ↦
+      let m = of_map (device_rule r) r.devices n u g in
+      subst (λ (v : Rule). AreTerminalsConductors r v) m.2 (connected_parts r m.0 (sound.connected n m.0 m.1))
+  | inr (k, g) ↦
+      let m = of_map (more_rule r) r.more k u g in
+      subst (λ (v : Rule). AreTerminalsConductors r v) m.2 (more_parts r m.0 (sound.more_connected k m.0 m.1))
+]

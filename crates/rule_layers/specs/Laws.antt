@@ -1,9 +1,9 @@
 -- Conductors are read as their names; grounds are known globals; the terminals of a sound rule
 -- set's devices are conductors.
 use Rattle.std.specs.Prelude.{◌≡◌, ◌<◌, ℕ, true, false, length, slice_get, get_or, Some}
-use Rattle.flat_layout.specs.Gates.{Rule, ground}
+use Rattle.flat_layout.specs.Gates.{Rule}
 use Rattle.flat_layout.specs.Layers.{Empty}
-use Rattle.flat_layout.specs.Regions.{formula}
+use Rattle.flat_layout.specs.Regions.{formula, ground_of}
 use Rattle.rule_text.specs.Rules.{Rules}
 use Rattle.rule_text.specs.Reading.{is_conductor}
 use Rattle.rule_text.specs.Sound.{IsSound}
@@ -21,7 +21,7 @@ ConductorLaw = (r : Rules) (k : ℕ) → IsReadAs r k
 
 -- a conductor's global is one of the globals
 abbrev pub KnownGlobalLaw : Type 0
-KnownGlobalLaw = (r : Rules) (u : Rule) (g : ℕ) → ground (wiring_of r) u ≡ Some g
+KnownGlobalLaw = (r : Rules) (c g : ℕ) → ground_of c (wiring_of r).grounds ≡ Some g
     → g < length (wiring_of r).globals
 
 -- the terminals of a device are conductors

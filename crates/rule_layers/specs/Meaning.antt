@@ -6,13 +6,17 @@ use Rattle.std.specs.List.{list_any, position_or_len}
 use Rattle.std.specs.Str.{bytes_eq}
 use Rattle.net_names.specs.Folding.{folded_bytes}
 use Rattle.geo_base.specs.declared.layer.LayerKey.{LayerKey}
-use Rattle.flat_layout.specs.Layers.{Formula, Empty}
+use Rattle.geo_base.specs.declared.layer.Op.TheVariants.{And}
+use Rattle.plain_netlist.specs.Classes.{resistor_class, diode_class}
+use Rattle.flat_layout.specs.Layers.{Formula, Empty, Binary}
 use Rattle.flat_layout.specs.Regions.{Wiring, Line, Label}
-use Rattle.flat_layout.specs.Gates.{Rule}
+use Rattle.flat_layout.specs.Gates.{Rule, Mos, Resistor, Diode}
 use Rattle.rule_text.specs.declared.rules.LayerForm.{LayerForm}
 use Rattle.rule_text.specs.declared.rules.LayerForm.TheVariants as form
 use Rattle.rule_text.specs.declared.rules.LayerRule.{LayerRule}
 use Rattle.rule_text.specs.declared.rules.MosRule.{MosRule}
+use Rattle.rule_text.specs.declared.rules.MoreRule.{MoreRule}
+use Rattle.rule_text.specs.declared.rules.MoreRule.TheVariants as more
 use Rattle.rule_text.specs.Rules.{Rules, has_texts}
 use Rattle.rule_text.specs.Reading.{is_conductor}
 use Rattle.rule_layers.specs.Formulas.{formulas}
@@ -74,10 +78,11 @@ wiring_of r = record {
   globals = globals_of r;
 }
 
--- a device rule; its class is folded
+-- the rule of a transistor; its class is folded
 abbrev pub device_rule : Rules → MosRule → Rule
 device_rule r m = record {
   class = folded_bytes m.class;
+  kind = Mos;
   sd = get_or (formulas r.names) m.sd Empty;
   gate = get_or (formulas r.names) m.g Empty;
   well = get_or (formulas r.names) m.w Empty;
@@ -86,6 +91,34 @@ device_rule r m = record {
   tb = m.tb;
 }
 
--- the device rules, in order
+-- that of a further device. A resistor has its gate on its bulk; a diode's regions are the squares
+-- in both layers, its anode is the ends' conductor, its cathode the bulk's
+abbrev pub more_rule : Rules → MoreRule → Rule
+more_rule r (more.Resistor class n c w ta tw) = record {
+  class = resistor_class (folded_bytes class);
+  kind = Resistor;
+  sd = get_or (formulas r.names) c Empty;
+  gate = get_or (formulas r.names) n Empty;
+  well = get_or (formulas r.names) w Empty;
+  ts = ta;
+  tg = tw;
+  tb = tw;
+}
+more_rule r (more.Diode class p n ta tc) = record {
+  class = diode_class (folded_bytes class);
+  kind = Diode;
+  sd = Empty;
+  gate = Binary And (get_or (formulas r.names) p Empty) (get_or (formulas r.names) n Empty);
+  well = Empty;
+  ts = ta;
+  tg = tc;
+  tb = tc;
+}
+
+-- the rules of transistors, in order
+abbrev pub mos_rules : Rules → List Rule
+mos_rules r = map (device_rule r) r.devices
+
+-- all device rules: those of transistors, then the others
 abbrev pub device_rules : Rules → List Rule
-device_rules r = map (device_rule r) r.devices
+device_rules r = mos_rules r ++ map (more_rule r) r.more

@@ -1,9 +1,10 @@
 //! The names that derived names and device rules read.
 ghost use Rattle.std.specs.Prelude.{◌≡◌, ℕ, IfOk, false, length, get_or};
-ghost use Rattle.rule_layers.specs.Reads.{AreMarked, AreRead, IsByDevice, IsByName, IsRead, Marks};
-ghost use Rattle.rule_layers.specs.Reads.{Reads, ReadsLayer, read_form};
+ghost use Rattle.rule_layers.specs.Reads.{AreMarked, AreRead, IsByDevice, IsByFurther, IsByName};
+ghost use Rattle.rule_layers.specs.Reads.{IsRead, Marks, Reads, ReadsFurther, ReadsLayer};
+ghost use Rattle.rule_layers.specs.Reads.{read_form};
 
-use rule_text::{LayerForm, LayerRule, MosRule};
+use rule_text::{LayerForm, LayerRule, MoreRule, MosRule};
 use std::alloc::{AllocError, Global};
 
 // Marks a name as read, where there is one of this number.
@@ -26,7 +27,7 @@ fn mark_form(marks: &mut Vec<bool>, form: LayerForm)
     }
 }
 
-// Marks the layers of a device rule.
+// Marks the layers of a transistor's rule.
 fn mark_device(marks: &mut Vec<bool>, device: &MosRule)
     ensures { Marks (ReadsLayer device.now) marks.old.items marks.new.items }
 {
@@ -38,6 +39,34 @@ fn mark_device(marks: &mut Vec<bool>, device: &MosRule)
     mark(marks, device.tb);
 }
 
+// Marks the layers of a resistor's or a diode's rule.
+fn mark_one(marks: &mut Vec<bool>, rule: &MoreRule)
+    ensures { Marks (ReadsFurther rule.now) marks.old.items marks.new.items }
+{
+    match rule {
+        MoreRule::Resistor {
+            r,
+            c,
+            w,
+            ta,
+            tw,
+            ..
+        } => {
+            mark(marks, *r);
+            mark(marks, *c);
+            mark(marks, *w);
+            mark(marks, *ta);
+            mark(marks, *tw);
+        }
+        MoreRule::Diode { p, n, ta, tc, .. } => {
+            mark(marks, *p);
+            mark(marks, *n);
+            mark(marks, *ta);
+            mark(marks, *tc);
+        }
+    }
+}
+
 // Marks the names that names read.
 fn mark_names(marks: &mut Vec<bool>, names: &[LayerRule])
     ensures { Marks (IsByName names.now (length names.now)) marks.old.items marks.new.items }
@@ -47,13 +76,23 @@ fn mark_names(marks: &mut Vec<bool>, names: &[LayerRule])
     }
 }
 
-// Marks the names that device rules read.
+// Marks the names that transistors' rules read.
 fn mark_devices(marks: &mut Vec<bool>, devices: &[MosRule])
     ensures { Marks (IsByDevice devices.now (length devices.now)) marks.old.items
         marks.new.items }
 {
     for device in devices {
         mark_device(marks, device);
+    }
+}
+
+// Marks the names that the rules of the other devices read.
+fn mark_further(marks: &mut Vec<bool>, further: &[MoreRule])
+    ensures { Marks (IsByFurther further.now (length further.now)) marks.old.items
+        marks.new.items }
+{
+    for rule in further {
+        mark_one(marks, rule);
     }
 }
 
@@ -74,13 +113,16 @@ fn read_marks(
     alloc: Global,
     names: &[LayerRule],
     devices: &[MosRule],
+    further: &[MoreRule],
 ) -> Result<Vec<bool>, AllocError>
     ensures count { IfOk result (λ v. length v.items ≡ length names.now) }
-    ensures marked { IfOk result (λ v. AreMarked (IsRead names.now devices.now) v.items) }
+    ensures marked { IfOk result (λ v. AreMarked (IsRead names.now devices.now further.now)
+        v.items) }
 {
     let mut marks = no_marks(alloc, names.len())?;
     mark_names(&mut marks, names);
     mark_devices(&mut marks, devices);
+    mark_further(&mut marks, further);
     Ok(marks)
 }
 
@@ -103,10 +145,11 @@ pub fn read_names(
     alloc: Global,
     names: &[LayerRule],
     devices: &[MosRule],
+    further: &[MoreRule],
 ) -> Result<Vec<LayerRule>, AllocError>
-    ensures { IfOk result (λ v. AreRead names.now devices.now v.items) }
+    ensures { IfOk result (λ v. AreRead names.now devices.now further.now v.items) }
 {
-    let marks = read_marks(alloc, names, devices)?;
+    let marks = read_marks(alloc, names, devices, further)?;
     let mut read = Vec::new(alloc);
     for k in 0..names.len() {
         let name = names[k].name.try_clone(alloc)?;

@@ -16,10 +16,10 @@ loop-k-preserved c =
     let seen : LayerRule = record { name = c.in_ok-name.name; form = c.read_form.result } in
     let form_is : c.read_form.result ≡ read_form (get_or marks k false) rule.form =
     c.read_form.ensures ∙ ap (λ (r : LayerRule). read_form c.index.result.now r.form) (sym c.index-names-k-in-loop-k.is) ∙ ap (λ b. read_form b again.form) (sym (get_or_from_slice_get marks k c.index.result.now false (slice_get_read marks (length marks) k c.index.result.now refl inside c.index.ensures))) ∙ ap (λ (r : LayerRule). read_form (get_or marks k false) r.form) same in
-    subst (AreReadTo names c.args.devices.now (k + 1)) (sym c.in_ok-push.ensures.items)
-    (read_more names c.args.devices.now marks k rule seen c.loop-k.read.items inside c.in_ok-marks.ensures.marked at form_is c.loop-k.invariant)
+    subst (AreReadTo names c.args.devices.now c.args.further.now (k + 1)) (sym c.in_ok-push.ensures.items)
+    (read_more names c.args.devices.now c.args.further.now marks k rule seen c.loop-k.read.items inside c.in_ok-marks.ensures.marked at form_is c.loop-k.invariant)
 
 pub returns : goal.returns
 returns c =
     let end : c.loop-k.k ≡ length c.args.names.now = (let a = c.loop-k-test.false in let b = c.loop-k.auto.k-end in omega arith) in
-    read_all c.args.names.now c.args.devices.now c.loop-k.k c.loop-k.read.items end c.loop-k.invariant
+    read_all c.args.names.now c.args.devices.now c.args.further.now c.loop-k.k c.loop-k.read.items end c.loop-k.invariant
