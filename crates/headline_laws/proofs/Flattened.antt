@@ -8,15 +8,16 @@ use Rattle.plain_netlist.specs.Netlist.{Pole, Source, Gate, Drain, Bulk, DeviceR
 use Rattle.plain_netlist.proofs.Links.{stays, both, back}
 use Rattle.plain_netlist.proofs.Members.{position}
 use Rattle.flat_layout.specs.Circuits.{IsCircuitCell}
-use Rattle.flat_layout.specs.Expanded.{CircuitTables, IsGateOfDevice, IsDeviceOf, AreTablesRight, IsFlatNetlist}
-use Rattle.flat_layout.specs.Gates.{Rule, geometry, ground, length_of, width_of, Edge, IsStep, InGate, InSide, InOneGroup, IsGoodGate, IsTerminalNode}
+use Rattle.flat_layout.specs.Expanded.{CircuitTables, IsGateOfDevice, IsDeviceOf, AreTablesRight, IsFlatNetlist, ShowsNode}
+use Rattle.flat_layout.specs.Gates.{Rule, geometry, length_of, width_of, Edge, Ends, TwoGroups, Region, Form, Beside, Alone, Kind, Mos, Resistor, Diode, form_of, sheets, IsStep, InGate, InSide, InOneGroup, IsRegionNode, IsGroupNode, IsGateNode, IsGoodGate, IsTerminalNode}
+use Rattle.flat_layout.specs.Parts.{IsGoodForm, IsGoodPart}
 use Rattle.flat_layout.specs.GateTables.{GateSquare, GoodGate}
 use Rattle.flat_layout.specs.Layout.{Place, Design, IsPlaced, IsReached}
 use Rattle.flat_layout.specs.Nets.{Tables}
 use Rattle.flat_layout.specs.Pins.{IsMarked}
-use Rattle.flat_layout.specs.Regions.{Wiring, Node, IsLink, InOneRegion, IsNode, kept, flat}
+use Rattle.flat_layout.specs.Regions.{Wiring, Node, Ground, IsLink, InOneRegion, flat}
 use Rattle.flat_laws.proofs.Climb.{shows}
-use Rattle.flat_laws.proofs.Count.{counts}
+use Rattle.flat_laws.proofs.Count.{good_in, one_sizes}
 use Rattle.flat_laws.proofs.Same.{in_same, group_same, good_same}
 use Rattle.flat_laws.proofs.Flat.{flat_netlist as flat_law, region_flat}
 use Rattle.flat_laws.proofs.Once.{gate_self, gate_between, gate_on, gate_back}
@@ -60,7 +61,7 @@ module _ (d : Design) (w : Wiring) (u : Rule) (cell : ℕ) (s : Square) where
   abbrev AreOneOrOther : Edge → Edge → Edge → Edge → Type 0
   AreOneOrOther a b e f = (R a.outer e.outer × R b.outer f.outer) ⊎ (R a.outer f.outer × R b.outer e.outer)
 
-  pub orders : (a b e f : Edge) (m n k l : ℕ) → IsGoodGate d w u cell s a b m n → IsGoodGate d w u cell s e f k l → AreOneOrOther a b e f
+  pub orders : (a b e f : Edge) (m n k l : ℕ) → IsGoodPart (sheets d w u cell) (InGate d (geometry w u) cell s) a b m n → IsGoodPart (sheets d w u cell) (InGate d (geometry w u) cell s) e f k l → AreOneOrOther a b e f
   orders a b e f m n k l h g =
       let x = g.groups.found a (h.groups.each a (inl refl)) in
       let y = g.groups.found b (h.groups.each b (inr (inl refl))) in
@@ -79,27 +80,49 @@ module _ (d : Design) (w : Wiring) (u : Rule) (cell : ℕ) (s : Square) where
       pick x y (inr (inr i)) j p q = absurd i
       pick x y i (inr (inr j)) p q = absurd j
 
--- a terminal's nodes, by another square and another order of the same gate's groups
+-- a terminal's nodes, by another square of the same gate
 module _ (d : Design) (w : Wiring) (u : Rule) (cell : ℕ) (s q : Square) (way : InGate d (geometry w u) cell s q) where
-  pole_here : (e f : Edge) (pole : Pole) (n : Node) → IsTerminalNode d w u cell s e f pole n → IsTerminalNode d w u cell q e f pole n
-  pole_here e f Source n h = (h.0, (group_same d w u cell s q way e.outer h.0).1 h.1, h.2)
-  pole_here e f Drain n h = (h.0, (group_same d w u cell s q way f.outer h.0).1 h.1, h.2)
-  pole_here e f Gate n h = (h.0, (in_same d w u cell s q way h.0).1 h.1, h.2)
-  pole_here e f Bulk n (inl h) = inl h
-  pole_here e f Bulk n (inr h) = inr (h.0, (h.1.0, (in_same d w u cell s q way h.1.0).1 h.1.1, h.1.2))
+  group_here : (e : Edge) (n : Node) → IsGroupNode d w u cell s e n → IsGroupNode d w u cell q e n
+  group_here e n h = (h.0, (group_same d w u cell s q way e.outer h.0).1 h.1, h.2)
 
-module _ (d : Design) (w : Wiring) (u : Rule) (cell : ℕ) (q : Square) (a b e f : Edge) where
-  straight_pole : R d w u cell q a.outer e.outer → R d w u cell q b.outer f.outer → (pole : Pole) (n : Node) → IsTerminalNode d w u cell q a b pole n → IsTerminalNode d w u cell q e f pole n
-  straight_pole x y Source n h = (h.0, r_both d w u cell q e.outer a.outer h.0 (r_back d w u cell q a.outer e.outer x) h.1, h.2)
-  straight_pole x y Drain n h = (h.0, r_both d w u cell q f.outer b.outer h.0 (r_back d w u cell q b.outer f.outer y) h.1, h.2)
-  straight_pole x y Gate n h = h
-  straight_pole x y Bulk n h = h
+  region_here : (c : ℕ) (n : Node) → IsRegionNode d w u cell s c n → IsRegionNode d w u cell q c n
+  region_here c n (inl h) = inl h
+  region_here c n (inr h) = inr (h.0, (h.1.0, (in_same d w u cell s q way h.1.0).1 h.1.1, h.1.2))
 
-  crossed_source : R d w u cell q a.outer f.outer → (n : Node) → IsTerminalNode d w u cell q a b Source n → IsTerminalNode d w u cell q e f Drain n
-  crossed_source x n h = (h.0, r_both d w u cell q f.outer a.outer h.0 (r_back d w u cell q a.outer f.outer x) h.1, h.2)
+  gate_here : (k : Kind) (n : Node) → IsGateNode k d w u cell s n → IsGateNode k d w u cell q n
+  gate_here Mos n h = (h.0, (in_same d w u cell s q way h.0).1 h.1, h.2)
+  gate_here Resistor n h = region_here u.tb n h
+  gate_here Diode n h = region_here u.tb n h
 
-  crossed_drain : R d w u cell q b.outer e.outer → (n : Node) → IsTerminalNode d w u cell q a b Drain n → IsTerminalNode d w u cell q e f Source n
-  crossed_drain x n h = (h.0, r_both d w u cell q e.outer b.outer h.0 (r_back d w u cell q b.outer e.outer x) h.1, h.2)
+  pole_here : (ends : Ends) (pole : Pole) (n : Node) → IsTerminalNode d w u cell s ends pole n → IsTerminalNode d w u cell q ends pole n
+  pole_here (TwoGroups e f) Source n h = group_here e n h
+  pole_here (TwoGroups e f) Drain n h = group_here f n h
+  pole_here Region Source n h = region_here u.ts n h
+  pole_here Region Drain n h = region_here u.ts n h
+  pole_here ends Gate n h = gate_here u.kind n h
+  pole_here ends Bulk n h = region_here u.tb n h
+
+-- and by the ends named twice: in one order, or in the other
+module _ (d : Design) (w : Wiring) (u : Rule) (cell : ℕ) (q : Square) where
+  abbrev Carries : Ends → Pole → Ends → Pole → Type 0
+  Carries a pole b last = (n : Node) → IsTerminalNode d w u cell q a pole n → IsTerminalNode d w u cell q b last n
+
+  abbrev AreExchanged : Ends → Ends → Type 0
+  AreExchanged a b = (Carries a Source b Source × Carries a Drain b Drain) ⊎ (Carries a Source b Drain × Carries a Drain b Source)
+
+  group_node : (a e : Edge) → R d w u cell q a.outer e.outer → (n : Node) → IsGroupNode d w u cell q a n → IsGroupNode d w u cell q e n
+  group_node a e x n h = (h.0, r_both d w u cell q e.outer a.outer h.0 (r_back d w u cell q a.outer e.outer x) h.1, h.2)
+
+  exchanged : (form : Form) (a b : Ends) (m n k l : ℕ) → IsGoodForm form (sheets d w u cell) (InGate d (geometry w u) cell q) a m n → IsGoodForm form (sheets d w u cell) (InGate d (geometry w u) cell q) b k l → AreExchanged a b
+  exchanged Beside (TwoGroups a b) (TwoGroups e f) m n k l h g = elim (orders d w u cell q a b e f m n k l h g) [
+    | inl c ↦ inl (group_node a e c.0, group_node b f c.1)
+    | inr c ↦ inr (group_node a f c.0, group_node b e c.1)
+  ]
+  exchanged Beside (TwoGroups a b) Region m n k l h g = absurd g
+  exchanged Beside Region b m n k l h g = absurd h
+  exchanged Alone (TwoGroups a b) other m n k l h g = absurd h
+  exchanged Alone Region (TwoGroups e f) m n k l h g = absurd g
+  exchanged Alone Region Region m n k l h g = inl ((λ n i. i), (λ n i. i))
 
 module _ (d : Design) (w : Wiring) (t : Tables) (g : CircuitTables) (nl : Netlist) (rules : List Rule) (unit : ℕ) (height : ℕ → ℕ) (x : AreTablesRight d w t g nl rules unit height) (n : ℕ) (num : IsCircuitCell g.cells n d.top) where
   abbrev F : Flat Slot Slot
@@ -136,8 +159,7 @@ module _ (d : Design) (w : Wiring) (t : Tables) (g : CircuitTables) (nl : Netlis
       let device : IsFlatDevice d w rules unit o at = record {
         rule = u;
         is = h.3;
-        source = v.source;
-        drain = v.drain;
+        ends = v.ends;
         twice_w = v.twice_w;
         twice_l = v.twice_l;
         good = v.good;
@@ -153,53 +175,49 @@ module _ (d : Design) (w : Wiring) (t : Tables) (g : CircuitTables) (nl : Netlis
         subst (λ (y : Row Slot). AreRowsAlike (IsFlatRegionOf d w t g nl n) y at) (sym e) rows,
       )
 
-  -- the global of a shown bulk is known
-  known : (u : Rule) (path : List ℕ) (row : DeviceRow) (s : Square) → IsDeviceOf d w t g u unit d.top path row s → (k : ℕ) → ground w u ≡ Some k → k < length w.globals
-  known u path row s v k is =
-      let p = v.nodes Bulk in
-      let at = shows d w t height g nl rules unit x.tables (planned d w t g nl rules unit height x) path d.top (on Bulk row) p.0 is_top p.2 in
-      let node = (regions d w t height x.tables d.top is_top).sound at.0 p.0 at.2 in
-      elim p.1 [
-        | inl m ↦ let same : m.0 ≡ k = let a = m.1 in cc in subst (λ y. y < length w.globals) same (subst (λ y. IsNode w (kept d w d.top) y) (sym m.2) node)
-        | inr m ↦ let a = m.0 in cc
-      ]
+  -- a shown global is known
+  known : (path : List ℕ) (row : DeviceRow) (pole : Pole) (k : ℕ) → ShowsNode d t g d.top path (on pole row) (Ground k) → k < length w.globals
+  known path row pole k p =
+      let at = shows d w t height g nl rules unit x.tables (planned d w t g nl rules unit height x) path d.top (on pole row) (Ground k) is_top p in
+      (regions d w t height x.tables d.top is_top).sound at.0 (Ground k) at.2
 
   -- the nodes of one terminal stand in one flat region
-  one_pole : (u : Rule) (path : List ℕ) (row : DeviceRow) (s : Square) → IsDeviceOf d w t g u unit d.top path row s → (e f : Edge) (k l : ℕ) → IsGoodGate d w u d.top s e f k l
-      → (pole : Pole) (a b : Node) → IsTerminalNode d w u d.top s e f pole a → IsTerminalNode d w u d.top s e f pole b → InOneRegion w (flat d w d.top) a b
-  one_pole u path row s v e f k l form pole a b h j =
-      (region_flat d w height x.tables.lower a b).0 (terminals d w u d.top s e f k l pole a b is_top v.settled form (known u path row s v) h j).1
+  one_pole : (u : Rule) (path : List ℕ) (row : DeviceRow) (s : Square) → IsDeviceOf d w t g u unit d.top path row s → (ends : Ends) (k l : ℕ) → IsGoodGate d w u d.top s ends k l
+      → (pole last : Pole) (a b : Node) → ShowsNode d t g d.top path (on pole row) a → IsTerminalNode d w u d.top s ends last a → IsTerminalNode d w u d.top s ends last b → InOneRegion w (flat d w d.top) a b
+  one_pole u path row s v ends k l form pole last a b shown h j =
+      (region_flat d w height x.tables.lower a b).0 (terminals d w u d.top s ends k l last a b is_top v.settled form (λ j is. known path row pole j (subst (λ y. ShowsNode d t g d.top path (on pole row) y) (sym is) shown)) h j).1
 
   -- a device of the gate has the flat device's row
   rows_back : (o : GateSquare) (s : Row Node) (y : IsFlatDevice d w rules unit o s) (path : List ℕ) (i : ℕ) (row : DeviceRow) (q : Square) → HasDevice nl n path i row → InGate d (geometry w y.rule) d.top o.square q
       → IsDeviceOf d w t g y.rule unit d.top path row q → AreRowsAlike (IsFlatRegionOf d w t g nl n) (row_at path row) s
   rows_back o s y path i row q has way v =
       let u = y.rule in
-      let e = y.source in
-      let f = y.drain in
-      let here = good_same d w u d.top o.square q way e f y.twice_w y.twice_l y.good in
-      let tw : v.twice_w ≡ y.twice_w = (counts d w u d.top q v.twice_w y.twice_w).0 v.good.wide here.wide in
-      let tl : v.twice_l ≡ y.twice_l = (counts d w u d.top q v.twice_l y.twice_l).1 v.good.long here.long in
-      let shown : (pole last : Pole) → IsTerminalNode d w u d.top q e f last (v.nodes pole).0 → IsFlatRegionOf d w t g nl n (slot path (on pole row)) (s.net last) = λ pole last is. (
+      let here = good_same d w u d.top o.square q way y.ends y.twice_w y.twice_l y.good in
+      let sizes = one_sizes d w u d.top q v.ends y.ends v.twice_w v.twice_l y.twice_w y.twice_l v.good here in
+      let shown : (pole last : Pole) → IsTerminalNode d w u d.top q y.ends last (v.nodes pole).0 → IsFlatRegionOf d w t g nl n (slot path (on pole row)) (s.net last) = λ pole last is. (
         record { device = i; row = row; pole = pole; has = has; on = refl },
-        ((v.nodes pole).0, (v.nodes pole).2, one_pole u path row q v e f y.twice_w y.twice_l here last (v.nodes pole).0 (s.net last) is (pole_here d w u d.top o.square q way e f last (s.net last) (y.nodes last))),
+        (
+          (v.nodes pole).0,
+          (v.nodes pole).2,
+          one_pole u path row q v y.ends y.twice_w y.twice_l here pole last (v.nodes pole).0 (s.net last) (v.nodes pole).2 is (pole_here d w u d.top o.square q way y.ends last (s.net last) (y.nodes last)),
+        ),
       ) in
       record {
         class = v.class ∙ sym y.class;
-        length = v.length ∙ (ap (length_of u unit) tl ∙ sym y.length);
-        width = v.width ∙ (ap (width_of u unit) tw ∙ sym y.width);
+        length = v.length ∙ (ap (length_of u unit) sizes.1 ∙ sym y.length);
+        width = v.width ∙ (ap (width_of u unit) sizes.0 ∙ sym y.width);
         gate = shown Gate Gate (v.nodes Gate).1;
         bulk = shown Bulk Bulk (v.nodes Bulk).1;
-        channel = elim (orders d w u d.top q v.source v.drain e f v.twice_w v.twice_l y.twice_w y.twice_l v.good here) [
-          | inl c ↦ inl (shown Source Source (straight_pole d w u d.top q v.source v.drain e f c.0 c.1 Source (v.nodes Source).0 (v.nodes Source).1), shown Drain Drain (straight_pole d w u d.top q v.source v.drain e f c.0 c.1 Drain (v.nodes Drain).0 (v.nodes Drain).1))
-          | inr c ↦ inr (shown Source Drain (crossed_source d w u d.top q v.source v.drain e f c.0 (v.nodes Source).0 (v.nodes Source).1), shown Drain Source (crossed_drain d w u d.top q v.source v.drain e f c.1 (v.nodes Drain).0 (v.nodes Drain).1))
+        channel = elim (exchanged d w u d.top q (form_of u.kind) v.ends y.ends v.twice_w v.twice_l y.twice_w y.twice_l v.good here) [
+          | inl c ↦ inl (shown Source Source (c.0 (v.nodes Source).0 (v.nodes Source).1), shown Drain Drain (c.1 (v.nodes Drain).0 (v.nodes Drain).1))
+          | inr c ↦ inr (shown Source Drain (c.0 (v.nodes Source).0 (v.nodes Source).1), shown Drain Source (c.1 (v.nodes Drain).0 (v.nodes Drain).1))
         ];
       }
 
   back_from : (o : GateSquare) (s : Row Node) → IsFlatDevice d w rules unit o s
       → (a : Slot) × (r : Row Slot) × F.has_device a r × IsFlatGateOf d w g nl n rules a o × AreRowsAlike (IsFlatRegionOf d w t g nl n) r s
   back_from o s y =
-      by (is_flat.found o.rule y.rule o.square y.source y.drain y.twice_w y.twice_l y.is (y.good.groups.each y.source (inl refl)).border.inside.from y.good)
+      by (is_flat.found o.rule y.rule o.square y.ends y.twice_w y.twice_l y.is (good_in d w y.rule d.top o.square y.ends y.twice_w y.twice_l y.good) y.good)
     where
       by : (path : List ℕ) × (i : ℕ) × (row : DeviceRow) × (q : Square) × HasDevice nl n path i row × IsGateOfDevice d g d.top path i o.rule q × InGate d (geometry w y.rule) d.top o.square q
           → (a : Slot) × (r : Row Slot) × F.has_device a r × IsFlatGateOf d w g nl n rules a o × AreRowsAlike (IsFlatRegionOf d w t g nl n) r s
