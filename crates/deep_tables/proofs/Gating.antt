@@ -3,22 +3,23 @@ use Rattle.std.proofs.Common.{◌≡◌, ◌⊎◌, inl, inr, ℕ, ◌<◌, List
 use Rattle.std.proofs.lemmas.Int.{ints}
 use Rattle.std.proofs.lemmas.Option.{same_Some}
 use Rattle.geo_base.specs.declared.shapes.Square.{Square}
-use Rattle.flat_layout.specs.Gates.{Edge, Rule, AreGroups, InGate, InSide, InOneGroup, IsLeast, IsSettled, IsSourceFirst, IsStep, IsTerminalNode, IsWide, geometry, ground}
+use Rattle.flat_layout.specs.Gates.{Edge, Ends, TwoGroups, Region, Form, Beside, Alone, form_of, sheets, Rule, AreGroups, InGate, InSide, InOneGroup, IsLeast, IsSettled, IsSourceFirst, IsStep, IsTerminalNode, IsWide, geometry}
+use Rattle.flat_layout.specs.Parts.{IsGoodForm}
 use Rattle.flat_layout.specs.GateTables.{AreGates, Bad, GateEntry, GateRow, Good, IsGateBefore, IsGateRow, IsVerdict, Verdict, terminal_net}
 use Rattle.flat_layout.specs.Layout.{Design, IsReached}
 use Rattle.flat_layout.specs.Nets.{AreTables, NetHolds, Tables}
 use Rattle.flat_layout.specs.Plane.{IsSquareBefore}
-use Rattle.flat_layout.specs.Regions.{Node, Wiring}
+use Rattle.flat_layout.specs.Regions.{Node, Wiring, ground_of}
 use Rattle.plain_netlist.specs.Lists.{IsListed}
 use Rattle.plain_netlist.specs.Netlist.{Pole, Source, Gate, Drain, Bulk}
 use Rattle.plain_netlist.proofs.Links.{back, both}
 use Rattle.plain_netlist.proofs.Listing.{one_rising}
-use Rattle.flat_laws.proofs.Count.{counts}
+use Rattle.flat_laws.proofs.Count.{one_sizes}
 use Rattle.flat_laws.proofs.Judged.{not_both, one_cause}
 use Rattle.flat_laws.proofs.Once.{gate_between}
 use Rattle.flat_laws.proofs.OneNet.{regions}
 use Rattle.flat_laws.proofs.Squares.{edge_back}
-use Rattle.flat_laws.proofs.Terminals.{terminals}
+use Rattle.flat_laws.proofs.Terminals.{grounds, terminals}
 use Rattle.cell_graph.specs.Linked.{plain, height_at}
 use Rattle.cell_graph.proofs.Bridge.{heights}
 use Rattle.rule_layers.specs.Meaning.{device_rules, wiring_of}
@@ -68,7 +69,7 @@ module _ (d : Design) (w : Wiring) (u : Rule) (cell : ℕ) (s : Square) where
   two_groups a b c y h k = y.apart.0 (inl (y.one a b (inl refl) (inr (inl refl)) (on a c b h (turn b c k))))
 
   -- each the source that has the least square: the groups are the same
-  same_ends : (e f a b : Edge) → AreGroups d w u cell s (e ∷ (f ∷ [])) → AreGroups d w u cell s (a ∷ (b ∷ [])) → IsSourceFirst d w u cell s e f → IsSourceFirst d w u cell s a b → R e a × R f b
+  same_ends : (e f a b : Edge) → AreGroups d w u cell s (e ∷ (f ∷ [])) → AreGroups d w u cell s (a ∷ (b ∷ [])) → IsSourceFirst d w u cell s (TwoGroups e f) → IsSourceFirst d w u cell s (TwoGroups a b) → R e a × R f b
   same_ends e f a b x y first other = elim (one_of e f x a (y.each a (inl refl))) [
     | inl ae ↦ elim (one_of e f x b (y.each b (inr (inl refl)))) [
       | inl be ↦ absurd (two_groups a b e y ae be)
@@ -86,11 +87,20 @@ module _ (d : Design) (w : Wiring) (u : Rule) (cell : ℕ) (s : Square) where
   ]
 
   -- then a terminal's node is one by either pair of edges
-  same_terminal : (e f a b : Edge) → R e a × R f b → (pole : Pole) (n : Node) → IsTerminalNode d w u cell s a b pole n → IsTerminalNode d w u cell s e f pole n
+  same_terminal : (e f a b : Edge) → R e a × R f b → (pole : Pole) (n : Node) → IsTerminalNode d w u cell s (TwoGroups a b) pole n → IsTerminalNode d w u cell s (TwoGroups e f) pole n
   same_terminal e f a b h Source n (q, in_end, at) = (q, both (IsStep (InSide d w u cell s)) e.outer a.outer q h.0 in_end, at)
   same_terminal e f a b h Drain n (q, in_end, at) = (q, both (IsStep (InSide d w u cell s)) f.outer b.outer q h.1 in_end, at)
   same_terminal e f a b h Gate n t = t
   same_terminal e f a b h Bulk n t = t
+
+  same_poles : (form : Form) (x y : Ends) (m n k l : ℕ) → IsGoodForm form (sheets d w u cell) (InGate d (geometry w u) cell s) x m n → IsGoodForm form (sheets d w u cell) (InGate d (geometry w u) cell s) y k l
+      → IsSourceFirst d w u cell s x → IsSourceFirst d w u cell s y → (pole : Pole) (node : Node) → IsTerminalNode d w u cell s y pole node → IsTerminalNode d w u cell s x pole node
+  same_poles Beside (TwoGroups e f) (TwoGroups a b) m n k l h g first other pole node t = same_terminal e f a b (same_ends e f a b h.groups g.groups first other) pole node t
+  same_poles Beside (TwoGroups e f) Region m n k l h g first other pole node t = absurd g
+  same_poles Beside Region y m n k l h g first other pole node t = absurd h
+  same_poles Alone (TwoGroups e f) y m n k l h g first other pole node t = absurd h
+  same_poles Alone Region (TwoGroups a b) m n k l h g first other pole node t = absurd g
+  same_poles Alone Region Region m n k l h g first other pole node t = t
 
 same_row : (a b : GateRow) → a.twice_w ≡ b.twice_w → a.twice_l ≡ b.twice_l → ((pole : Pole) → terminal_net pole a ≡ terminal_net pole b) → a ≡ b
 same_row a b w l nets =
@@ -103,23 +113,22 @@ same_row a b w l nets =
     ∙ ap (λ v. let r : GateRow = record { twice_w = b.twice_w; twice_l = b.twice_l; source = b.source; gate = b.gate; drain = b.drain; bulk = v } in r) k
 
 -- a gate has one verdict
-module _ (d : Design) (w : Wiring) (t : Tables) (height : ℕ → ℕ) (tables : AreTables d w t height) (u : Rule) (globals : (g : ℕ) → ground w u ≡ Some g → g < length w.globals)
+module _ (d : Design) (w : Wiring) (t : Tables) (height : ℕ → ℕ) (tables : AreTables d w t height) (u : Rule) (globals : (c g : ℕ) → ground_of c w.grounds ≡ Some g → g < length w.globals)
     (cell : ℕ) (reached : IsReached d cell) (s : Square) (settled : IsSettled d (geometry w u) cell s) where
   one_row : (a b : GateRow) → IsGateRow d w t u cell s a → IsGateRow d w t u cell s b → a ≡ b
   one_row a b h g =
-      let ends = same_ends d w u cell s h.source h.drain g.source g.drain h.good.groups g.good.groups h.first g.first in
-      let count = counts d w u cell s in
-      same_row a b ((count a.twice_w b.twice_w).0 h.good.wide g.good.wide) ((count a.twice_l b.twice_l).1 h.good.long g.good.long) (λ pole.
+      let sizes = one_sizes d w u cell s h.ends g.ends a.twice_w a.twice_l b.twice_w b.twice_l h.good g.good in
+      same_row a b sizes.0 sizes.1 (λ pole.
       let m = h.nets pole in
       let n = g.nets pole in
-      let moved = same_terminal d w u cell s h.source h.drain g.source g.drain ends pole n.0 n.1 in
-      let region = terminals d w u cell s h.source h.drain a.twice_w a.twice_l pole m.0 n.0 reached settled h.good globals m.1 moved in
+      let moved = same_poles d w u cell s (form_of u.kind) h.ends g.ends a.twice_w a.twice_l b.twice_w b.twice_l h.good g.good h.first g.first pole n.0 n.1 in
+      let region = terminals d w u cell s h.ends a.twice_w a.twice_l pole m.0 n.0 reached settled h.good (λ k e. let c = grounds d w u cell s h.ends pole k (subst (λ y. IsTerminalNode d w u cell s h.ends pole y) (sym e) m.1) in globals c.0 k c.1) m.1 moved in
       ((regions d w t height tables cell reached).joined (terminal_net pole a) (terminal_net pole b) m.0 n.0 m.2 n.2).1 region.1)
 
   pub one_verdict : (a b : Verdict) → IsVerdict d w t u cell s a → IsVerdict d w t u cell s b → a ≡ b
   one_verdict (Good a) (Good b) h g = ap Good (one_row a b h g)
-  one_verdict (Good a) (Bad c) h g = absurd (not_both d w u cell s h.source h.drain a.twice_w a.twice_l c h.good g)
-  one_verdict (Bad c) (Good a) g h = absurd (not_both d w u cell s h.source h.drain a.twice_w a.twice_l c h.good g)
+  one_verdict (Good a) (Bad c) h g = absurd (not_both d w u cell s h.ends a.twice_w a.twice_l c h.good g)
+  one_verdict (Bad c) (Good a) g h = absurd (not_both d w u cell s h.ends a.twice_w a.twice_l c h.good g)
   one_verdict (Bad a) (Bad b) h g = ap Bad (one_cause d w u cell s a b h g)
 
 same_entry : (a b : GateEntry) → a.at.rule ≡ b.at.rule → a.at.square ≡ b.at.square → a.verdict ≡ b.verdict → a ≡ b
@@ -129,7 +138,7 @@ same_entry a b r s v =
     ∙ ap (λ x. let e : GateEntry = record { at = b.at; verdict = x } in e) v
 
 -- an entry of one right list stands in the other
-module _ (d : Design) (w : Wiring) (t : Tables) (height : ℕ → ℕ) (tables : AreTables d w t height) (rules : List Rule) (globals : (u : Rule) (g : ℕ) → ground w u ≡ Some g → g < length w.globals)
+module _ (d : Design) (w : Wiring) (t : Tables) (height : ℕ → ℕ) (tables : AreTables d w t height) (rules : List Rule) (globals : (c g : ℕ) → ground_of c w.grounds ≡ Some g → g < length w.globals)
     (cell : ℕ) (reached : IsReached d cell) where
   pub listed_too : (v z : List GateEntry) → AreGates d w t rules cell v → AreGates d w t rules cell z → (a : GateEntry) → IsListed a v → IsListed a z
   listed_too v z hv hz a i =
@@ -146,7 +155,7 @@ module _ (d : Design) (w : Wiring) (t : Tables) (height : ℕ → ℕ) (tables :
         ]
       ] in
       let verdict : IsVerdict d w t e.rule cell a.at.square f.0.verdict = subst (λ q. IsVerdict d w t e.rule cell q f.0.verdict) (sym square) (subst (λ u. IsVerdict d w t u cell f.0.at.square f.0.verdict) (sym same_rule) g.verdict) in
-      let same = one_verdict d w t height tables e.rule (globals e.rule) cell reached a.at.square e.gate.settled a.verdict f.0.verdict e.verdict verdict in
+      let same = one_verdict d w t height tables e.rule globals cell reached a.at.square e.gate.settled a.verdict f.0.verdict e.verdict verdict in
       subst (λ x. IsListed x z) (sym (same_entry a f.0 (sym f.2) square same)) f.1
 
 pub one_gates : OneGatesLaw
@@ -160,8 +169,7 @@ one_gates d r t cell v z sound right reached hv hz =
 -- over other right nets the entries are right too
 verdict_along : (d : Design) (w : Wiring) (s t : Tables) (u : Rule) (cell : ℕ) (q : Square) (v : Verdict) → ((x : ℕ) (n : Node) → NetHolds d s cell x n → NetHolds d t cell x n) → IsVerdict d w s u cell q v → IsVerdict d w t u cell q v
 verdict_along d w s t u cell q (Good row) holds h = record {
-  source = h.source;
-  drain = h.drain;
+  ends = h.ends;
   good = h.good;
   first = h.first;
   nets = λ pole. let n = h.nets pole in (n.0, n.1, holds (terminal_net pole row) n.0 n.2);

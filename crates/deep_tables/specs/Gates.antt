@@ -1,6 +1,6 @@
--- The gates of cells.
-use Rattle.std.specs.Prelude.{◌≡◌, ◌↔◌, ℕ, true, List, [], Option, Some, None, IsSome, map}
-use Rattle.std.specs.Prelude.{slice_get}
+-- The gates of cells: the regions of all device rules, or of those of transistors alone.
+use Rattle.std.specs.Prelude.{◌≡◌, ◌↔◌, ℕ, Bool, true, false, List, [], Option, Some, None}
+use Rattle.std.specs.Prelude.{IsSome, map, slice_get}
 use Rattle.geo_base.specs.declared.shapes.Square.{Square}
 use Rattle.rect_sets.specs.Rects.{covers}
 use Rattle.flat_layout.specs.Gates.{Rule, InGate, geometry}
@@ -11,7 +11,7 @@ use Rattle.flat_layout.specs.Layout.{Design, IsReached}
 use Rattle.flat_layout.specs.Nets.{Tables}
 use Rattle.flat_layout.specs.Regions.{Wiring}
 use Rattle.rule_text.specs.Rules.{Rules}
-use Rattle.rule_layers.specs.Meaning.{device_rules, wiring_of}
+use Rattle.rule_layers.specs.Meaning.{device_rules, mos_rules, wiring_of}
 use Rattle.deep_tables.specs.Entries.{entry, AreEntries}
 use Rattle.deep_tables.specs.Nets.{AreRightNets}
 use Rattle.deep_tables.specs.declared.gates.CellGates.{CellGates}
@@ -46,11 +46,29 @@ abbrev pub HasArea : Design → Rules → ℕ → Gate → Type 0
 HasArea d r cell x = (u : Rule) → slice_get (device_rules r) x.device ≡ Some u → (q : Square)
     → (covers x.area q ≡ true) ↔ InGate d (geometry (wiring_of r) u) cell x.least q
 
--- the gates of a cell's own list, right over all tables of layers and nets that are right
-pub record AreCellGates (d : Design) (r : Rules) (cell : ℕ) (v : CellGates) : Type 0 where
+-- the gates of these rules in a cell's own list, right over all tables of layers and nets that are
+-- right
+pub record AreCellDevices (d : Design) (r : Rules) (rules : List Rule) (cell : ℕ) (v : CellGates)
+    : Type 0 where
   pub gates : (t : Tables) → AreRightNets d (wiring_of r) t
-      → gates.AreGates d (wiring_of r) t (device_rules r) cell (map plain_gate v.gates.items)
+      → gates.AreGates d (wiring_of r) t rules cell (map plain_gate v.gates.items)
   pub areas : (i : ℕ) (x : Gate) → slice_get v.gates.items i ≡ Some x → HasArea d r cell x
+
+-- those of all rules, and of transistors alone
+abbrev pub AreCellGates : Design → Rules → ℕ → CellGates → Type 0
+AreCellGates d r cell v = AreCellDevices d r (device_rules r) cell v
+
+abbrev pub AreMosCellGates : Design → Rules → ℕ → CellGates → Type 0
+AreMosCellGates d r cell v = AreCellDevices d r (mos_rules r) cell v
+
+-- by a key that says whether further devices are in the list
+abbrev pub AreListedGates : Bool → Design → Rules → ℕ → CellGates → Type 0
+AreListedGates true d r cell v = AreCellGates d r cell v
+AreListedGates false d r cell v = AreMosCellGates d r cell v
+
+-- each reached cell has its transistors
+abbrev pub AreMosGates : Design → Rules → List (Option CellGates) → Type 0
+AreMosGates d r table = AreEntries d (AreMosCellGates d r) table
 
 -- each reached cell has its gates
 abbrev pub AreGates : Design → Rules → List (Option CellGates) → Type 0

@@ -18,7 +18,7 @@ use Rattle.deep_tables.specs.declared.zones.ZoneKey.TheVariants.{Layer, Device}
 -- a derived name, or one that a derived name or a device rule reads
 abbrev pub IsAsked : Rules → ℕ → Formula → Type 0
 IsAsked r i (Binary op a b) = Unit {0}
-IsAsked r i x = IsRead r.names r.devices i
+IsAsked r i x = IsRead r.names r.devices r.more i
 
 -- for each name of the rules that is asked, and for each device rule, the disturbed squares for what
 -- it reads, in the cell's hull grown by one

@@ -3,7 +3,7 @@ ghost use Rattle.std.specs.Prelude.{◌≡◌, IfOk, IsSome, Some};
 ghost use Rattle.deep_tables.specs.Entries.{entry, IsUpward};
 ghost use Rattle.deep_tables.specs.Gates.{list_of};
 
-use crate::keys::DeepKey;
+use crate::keys::GateKey;
 use crate::table::Table;
 use cell_graph::Design;
 use geo_base::Square;
@@ -61,14 +61,14 @@ pub struct CellGates {
 }
 
 impl Defined for CellGates {
-    type Key = DeepKey;
+    type Key = GateKey;
 
     ghost use Rattle.cell_graph.specs.Linked.{plain};
     ghost use Rattle.rule_text.specs.Seen.{rules_seen};
     ghost use Rattle.deep_tables.specs.Entries.{upward_cell};
-    ghost use Rattle.deep_tables.specs.Gates.{AreCellGates};
+    ghost use Rattle.deep_tables.specs.Gates.{AreListedGates};
 
-    ghost is_defined = { λ key job v. AreCellGates (plain key.design.value)
+    ghost is_defined = { λ key job v. AreListedGates key.further.value (plain key.design.value)
         (rules_seen key.rules.value) (upward_cell key.design.value job) v };
 }
 

@@ -9,3 +9,11 @@ pub struct DeepKey {
     pub design: Snapshot<Design>,
     pub rules: Snapshot<RuleSet>,
 }
+
+/// The same, and whether the devices that are no transistors are in the lists.
+#[derive(Drop)]
+pub struct GateKey {
+    pub design: Snapshot<Design>,
+    pub rules: Snapshot<RuleSet>,
+    pub further: Snapshot<bool>,
+}

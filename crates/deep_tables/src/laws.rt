@@ -2,7 +2,8 @@
 ghost use Rattle.std.specs.Prelude.{ℕ};
 ghost use Rattle.deep_tables.specs.Circuits.{AllTablesLaw, CircuitsAtLaw, IsCellCircuit};
 ghost use Rattle.deep_tables.specs.Frames.{FrameLaw};
-ghost use Rattle.deep_tables.specs.Gates.{AreCellGates, GatesAtLaw, RightGatesLaw};
+ghost use Rattle.deep_tables.specs.Gates.{AreCellGates, AreMosCellGates, GatesAtLaw};
+ghost use Rattle.deep_tables.specs.Gates.{RightGatesLaw};
 ghost use Rattle.deep_tables.specs.Layers.{AreCellLayers, EmptyLayerLaw, LayerAtLaw};
 ghost use Rattle.deep_tables.specs.Laws.{DownwardLaw, UpwardLaw};
 ghost use Rattle.deep_tables.specs.Nets.{AreCellNets, NetsAtLaw, ReadNetsLaw, RightNetsLaw};
@@ -53,6 +54,7 @@ pub fn net_table()
 /// Where each job's gates are right, so is the table; over right nets they are right together.
 pub fn gate_table()
     ensures jobs { UpwardLaw CellGates AreCellGates }
+    ensures mos_jobs { UpwardLaw CellGates AreMosCellGates }
     ensures at { GatesAtLaw }
     ensures right { RightGatesLaw }
 {}

@@ -22,7 +22,7 @@ mod zones;
 pub use circuits::{CellCircuit, CircuitKey, Circuits};
 pub use gates::{BadGate, CellGates, Gate, GateCause, GateState, Gates};
 pub use indexed::{IndexedSet, index_of};
-pub use keys::DeepKey;
+pub use keys::{DeepKey, GateKey};
 pub use laws::{
     circuit_table, gate_table, layer_table, net_table, over_any, pin_table, zone_frames, zone_table,
 };

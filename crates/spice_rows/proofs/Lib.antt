@@ -1,3 +1,4 @@
 pub mod NameLemmas
+pub mod DeviceRows
 pub mod NumberLemmas
 pub mod ValueLemmas

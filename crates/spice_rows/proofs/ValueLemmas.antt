@@ -7,8 +7,8 @@ use Rattle.fixed_num.specs.declared.femto.Femto.{Femto}
 use Rattle.fixed_num.specs.declared.femto.ValueFault.{ValueFault}
 use Rattle.fixed_num.specs.declared.femto.ValueFault.TheVariants.{NotNumber, TooLarge, TooFine}
 use Rattle.fixed_num.specs.Values.{Number}
-use Rattle.fixed_num.specs.Scan.{Answers}
-use Rattle.spice_rows.specs.Sizes.{read_limit, is_above, value_at, settled}
+use Rattle.fixed_num.specs.Scan.{Answers, AnswersUpTo}
+use Rattle.spice_rows.specs.Sizes.{read_limit, length_limit, is_above, value_at, settled}
 use Rattle.spice_rows.specs.Seen.{value_seen}
 
 pub positive : (n : ℕ) → 0 < 10 ^ n
@@ -36,14 +36,14 @@ settled_is limit a d f p e low =
 pub within : (limit d f : ℕ) → f ≤ limit → is_above (Some limit) (f * d) d ≡ false
 within limit d f l = not_lt (limit * d) (f * d) (mul-le-mul_right d l)
 
-whole : (a d f : ℕ) → 0 < d → a ≡ f * d → f ≤ 10 ^ 18 → settled read_limit a d ≡ Ok f
-whole a d f p e l = settled_is read_limit a d f p e (within (10 ^ 18) d f l)
+whole : (k a d f : ℕ) → 0 < d → a ≡ f * d → f ≤ 10 ^ k → settled (Some (10 ^ k)) a d ≡ Ok f
+whole k a d f p e l = settled_is (Some (10 ^ k)) a d f p e (within (10 ^ k) d f l)
 
-large : (a d : ℕ) → 10 ^ 18 * d < a → settled read_limit a d ≡ Err TooLarge
-large a d l = rw (is_lt (10 ^ 18 * d) a l) refl
+large : (k a d : ℕ) → 10 ^ k * d < a → settled (Some (10 ^ k)) a d ≡ Err TooLarge
+large k a d l = rw (is_lt (10 ^ k * d) a l) refl
 
-fine : (a d : ℕ) → (10 ^ 18 * d < a → ⊥) → ((f : ℕ) → a ≡ f * d → ⊥) → settled read_limit a d ≡ Err TooFine
-fine a d l none = elim (either (nat_lt (10 ^ 18 * d) a)) [
+fine : (k a d : ℕ) → (10 ^ k * d < a → ⊥) → ((f : ℕ) → a ≡ f * d → ⊥) → settled (Some (10 ^ k)) a d ≡ Err TooFine
+fine k a d l none = elim (either (nat_lt (10 ^ k * d) a)) [
   | inl t ↦ absurd (l (grind (arith, t)))
   | inr f ↦ elim (either (a % d == 0)) [
     | inl z ↦ let zero_is : a % d ≡ 0 = (Decides-eqb (a % d) 0).0 z in let split : a % d + a / d * d ≡ a = mod-add-div' a d in absurd (none (a / d) (omega (arith, split, zero_is)))
@@ -51,12 +51,16 @@ fine a d l none = elim (either (nat_lt (10 ^ 18 * d) a)) [
   ]
 ]
 
-pub answer_is : (o : Option Number) (r : Result Femto ValueFault) → Answers o r → value_seen r ≡ value_at read_limit o
-answer_is None (Ok f) h = absurd h
-answer_is None (Err NotNumber) h = refl
-answer_is None (Err TooLarge) h = absurd h
-answer_is None (Err TooFine) h = absurd h
-answer_is (Some n) (Ok f) h = sym (whole (n.mantissa * 10 ^ n.up) (10 ^ n.down) f.0 (positive n.down) h.0 h.1)
-answer_is (Some n) (Err NotNumber) h = absurd h
-answer_is (Some n) (Err TooLarge) h = sym (large (n.mantissa * 10 ^ n.up) (10 ^ n.down) h)
-answer_is (Some n) (Err TooFine) h = sym (fine (n.mantissa * 10 ^ n.up) (10 ^ n.down) h.0 h.1)
+pub told_is : (k : ℕ) (o : Option Number) (r : Result ℕ ValueFault) → AnswersUpTo k o r → r ≡ value_at (Some (10 ^ k)) o
+told_is k None (Ok f) h = absurd h
+told_is k None (Err NotNumber) h = refl
+told_is k None (Err TooLarge) h = absurd h
+told_is k None (Err TooFine) h = absurd h
+told_is k (Some n) (Ok f) h = sym (whole k (n.mantissa * 10 ^ n.up) (10 ^ n.down) f (positive n.down) h.0 h.1)
+told_is k (Some n) (Err NotNumber) h = absurd h
+told_is k (Some n) (Err TooLarge) h = sym (large k (n.mantissa * 10 ^ n.up) (10 ^ n.down) h)
+told_is k (Some n) (Err TooFine) h = sym (fine k (n.mantissa * 10 ^ n.up) (10 ^ n.down) h.0 h.1)
+
+pub answer_is : (o : Option Number) (r : Result Femto ValueFault) → Answers o r → value_seen r ≡ value_at (length_limit read_limit) o
+answer_is o (Ok f) h = told_is 18 o (Ok f.0) h
+answer_is o (Err e) h = told_is 18 o (Err e) h

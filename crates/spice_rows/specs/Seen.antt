@@ -4,6 +4,9 @@ use Rattle.fixed_num.specs.declared.femto.Femto.{Femto}
 use Rattle.fixed_num.specs.declared.femto.ValueFault.{ValueFault}
 use Rattle.spice_rows.specs.Rows as rows
 use Rattle.spice_rows.specs.Sizes as sizes
+use Rattle.spice_rows.specs.Params as params
+use Rattle.spice_rows.specs.declared.params.Kind.{Kind}
+use Rattle.spice_rows.specs.declared.params.Kind.TheVariants as kind
 use Rattle.spice_rows.specs.declared.card.DeviceCard.{DeviceCard}
 use Rattle.spice_rows.specs.declared.card.CallCard.{CallCard}
 use Rattle.spice_rows.specs.declared.card.CardRow.{CardRow}
@@ -11,6 +14,11 @@ use Rattle.spice_rows.specs.declared.card.CardRow.TheVariants as code
 use Rattle.spice_rows.specs.declared.sizes.Sizes.{Sizes}
 use Rattle.spice_rows.specs.declared.fault.SpiceFault.{SpiceFault}
 use Rattle.spice_rows.specs.declared.fault.SpiceFault.TheVariants.{NoMemory}
+
+abbrev pub kind_seen : Kind → params.Kind
+kind_seen kind.Transistor = params.Transistor
+kind_seen kind.Resistor = params.Resistor
+kind_seen kind.Diode = params.Diode
 
 abbrev pub device_seen : DeviceCard → rows.DeviceCard
 device_seen d = record {

@@ -1,17 +1,30 @@
--- The sizes of a transistor, exactly, in femtometres.
+-- The sizes of a device, exactly: lengths in femtometres, areas in square picometres.
 use Rattle.std.specs.Prelude.{ℕ, ◌*◌, ◌^◌, ◌/◌, ◌%◌, ◌==◌, nat_lt, Bool, false}
 use Rattle.std.specs.Prelude.{List, [], ◌∷◌, Option, Some}
-use Rattle.std.specs.Prelude.{None, Result, Ok, Err, if◌then◌else◌, codes}
+use Rattle.std.specs.Prelude.{None, Result, Ok, Err, if◌then◌else◌}
 use Rattle.fixed_num.specs.declared.femto.ValueFault.{ValueFault}
 use Rattle.fixed_num.specs.declared.femto.ValueFault.TheVariants.{NotNumber, TooLarge, TooFine}
 use Rattle.fixed_num.specs.Values.{Number}
-use Rattle.fixed_num.specs.Scan.{number_of}
+use Rattle.fixed_num.specs.Scan.{number_of, some_raised}
 use Rattle.spice_cards.specs.Parts.{Param}
-use Rattle.spice_rows.specs.Params.{is_key}
+use Rattle.spice_rows.specs.Params.{Kind, is_diode, is_key, length_key, width_key}
 
--- the greatest value that a text which is read may have
-abbrev pub read_limit : Option ℕ
-read_limit = Some (10 ^ 18)
+-- the greatest length and area that a text may have
+pub record Limits : Type 0 where
+  pub length : ℕ
+  pub area : ℕ
+
+-- those of a text which is read
+abbrev pub read_limit : Option Limits
+read_limit = Some (record { length = 10 ^ 18; area = 10 ^ 30 })
+
+abbrev pub length_limit : Option Limits → Option ℕ
+length_limit None = None
+length_limit (Some l) = Some l.length
+
+abbrev pub area_limit : Option Limits → Option ℕ
+area_limit None = None
+area_limit (Some l) = Some l.area
 
 -- a over d is above the limit, where there is one
 abbrev pub is_above : Option ℕ → ℕ → ℕ → Bool
@@ -29,9 +42,19 @@ abbrev pub value_at : Option ℕ → Option Number → Result ℕ ValueFault
 value_at limit None = Err NotNumber
 value_at limit (Some n) = settled limit (n.mantissa * 10 ^ n.up) (10 ^ n.down)
 
--- what a text is worth
+-- the length that a text is worth
 abbrev pub value_of : Option ℕ → List ℕ → Result ℕ ValueFault
 value_of limit text = value_at limit (number_of text)
+
+-- the area
+abbrev pub area_of : Option ℕ → List ℕ → Result ℕ ValueFault
+area_of limit text = value_at limit (some_raised 9 (number_of text))
+
+-- what stands for a width: of a diode an area
+abbrev pub width_of : Option Limits → Kind → List ℕ → Result ℕ ValueFault
+width_of limits kind text =
+    if is_diode kind then area_of (area_limit limits) text
+    else value_of (length_limit limits) text
 
 pub record Sizes : Type 0 where
   pub length : ℕ
@@ -42,17 +65,17 @@ and_then (Ok v) rest = rest v
 and_then (Err e) rest = Err e
 
 -- sizes that parameters change, or the first fault of a value, from the left
-abbrev pub changed : Option ℕ → Sizes → List Param → Result Sizes ValueFault
-changed limit s [] = Ok s
-changed limit s (p ∷ ps) =
-    if is_key (codes "L") p
-    then and_then (value_of limit p.value)
-    (λ v. changed limit (record { length = v; width = s.width }) ps)
-    else if is_key (codes "W") p
-    then and_then (value_of limit p.value)
-    (λ v. changed limit (record { length = s.length; width = v }) ps)
-    else changed limit s ps
+abbrev pub changed : Option Limits → Kind → Sizes → List Param → Result Sizes ValueFault
+changed limits kind s [] = Ok s
+changed limits kind s (p ∷ ps) =
+    if is_key (length_key kind) p
+    then and_then (value_of (length_limit limits) p.value)
+    (λ v. changed limits kind (record { length = v; width = s.width }) ps)
+    else if is_key (width_key kind) p
+    then and_then (width_of limits kind p.value)
+    (λ v. changed limits kind (record { length = s.length; width = v }) ps)
+    else changed limits kind s ps
 
--- the values of L and W, zero where there is none
-abbrev pub sizes_of : Option ℕ → List Param → Result Sizes ValueFault
-sizes_of limit ps = changed limit (record { length = 0; width = 0 }) ps
+-- the two sizes, zero where there is none
+abbrev pub sizes_of : Option Limits → Kind → List Param → Result Sizes ValueFault
+sizes_of limits kind ps = changed limits kind (record { length = 0; width = 0 }) ps

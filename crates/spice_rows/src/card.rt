@@ -1,4 +1,4 @@
-//! What a card says: a transistor, a call, global names, or a circuit's begin or end.
+//! What a card says: a device, a call, global names, or a circuit's begin or end.
 
 ghost use Rattle.std.specs.Prelude.{◌≡◌, IfOk};
 ghost use Rattle.spice_rows.specs.Seen.{device_seen};
@@ -7,7 +7,9 @@ use fixed_num::Femto;
 use net_names::Name;
 use std::alloc::{AllocError, Global};
 
-/// A transistor as its card names it.
+/// A device as its card names it, by the terminals of a transistor: a resistor's gate is its bulk;
+/// a diode's source and drain are its anode, its gate and bulk its cathode. A diode's length is its
+/// perimeter, its width its area in square picometres.
 #[derive(Debug, Drop)]
 pub struct DeviceCard {
     pub drain: Name,
@@ -20,7 +22,7 @@ pub struct DeviceCard {
 }
 
 impl DeviceCard {
-    /// The same transistor.
+    /// The same device.
     pub fn try_clone(&self, alloc: Global) -> Result<DeviceCard, AllocError>
         ensures { IfOk result (λ d. device_seen d ≡ device_seen self.now) }
     {
@@ -57,7 +59,7 @@ pub enum CardRow {
     Stops,
     /// A card that says nothing of the netlist.
     Passed,
-    /// A transistor, and how many equal ones the card stands for, from 1 to 1,000.
+    /// A device, and how many equal ones the card stands for, from 1 to 1,000.
     Device(DeviceCard, u32),
     Call(CallCard),
 }

@@ -13,4 +13,5 @@ mod sizes;
 
 pub use card::{CallCard, CardRow, DeviceCard};
 pub use fault::SpiceFault;
+pub use params::Kind;
 pub use rows::read_card;

@@ -1,43 +1,70 @@
 //! What the tokens of a card say, or the card's first fault.
 
-ghost use Rattle.std.specs.Prelude.{◌≡◌};
+ghost use Rattle.std.specs.Prelude.{◌≡◌, ◌∷◌, IfOk, Ok};
+ghost use Rattle.plain_netlist.specs.Classes.{is_further_class};
+ghost use Rattle.spice_rows.specs.Params.{Transistor, Resistor, Diode};
 ghost use Rattle.spice_cards.specs.Seen.{tokens_seen, words_seen, params_seen};
 ghost use Rattle.spice_rows.specs.Names.{names_of};
+ghost use Rattle.spice_rows.specs.Rows.{are_device_names, device_of, is_formed};
 ghost use Rattle.spice_rows.specs.Rows.{device_row, call_row, open_row, end_row, global_row};
 ghost use Rattle.spice_rows.specs.Rows.{stop_row, row_of, card_row, is_passed, begin, is_known};
-ghost use Rattle.spice_rows.specs.Seen.{Says};
+ghost use Rattle.spice_rows.specs.Seen.{Says, kind_seen};
 ghost use Rattle.spice_rows.specs.Sizes.{read_limit};
 
 use crate::card::{CallCard, CardRow, DeviceCard};
 use crate::fault::SpiceFault;
 use crate::names::{are_apart, folded_byte, is_text, names_of};
-use crate::params::{copies_of, count, has_other, has_refused};
-use crate::sizes::sizes_of;
+use crate::params::{Kind, copies_of, count, has_other, has_refused, length_key, width_key};
+use crate::sizes::{Sizes, sizes_of};
+use net_names::Name;
 use spice_cards::{Param, Token, read_params, read_words};
-use std::alloc::Global;
+use std::alloc::{AllocError, Global};
 
-fn device(
-    alloc: Global,
-    line: u64,
-    words: &[&[u8]],
-    params: &[Param],
-) -> Result<CardRow, SpiceFault>
-    ensures { Says result
-        (device_row read_limit line (names_of (words_seen words.now)) (params_seen params.now)) }
+// Whether a class is one of a resistor or a diode.
+fn is_further_class(class: &Name) -> bool
+    ensures { result ≡ is_further_class class.now }
 {
-    let Some(mut names) = names_of(alloc, words)? else {
-        return Err(SpiceFault::BadLine(line));
-    };
-    if names.len() != 5 || count(params, b"L") != 1 || count(params, b"W") != 1 {
+    match class.bytes() {
+        [first, ..] => *first == 1 || *first == 2,
+        [] => false,
+    }
+}
+
+fn are_device_names(kind: Kind, names: &[Name]) -> bool
+    ensures { result ≡ are_device_names (kind_seen kind) names.now }
+{
+    match kind {
+        Kind::Transistor => match names {
+            [_, _, _, _, class] => !is_further_class(class),
+            _ => false,
+        },
+        Kind::Resistor => names.len() == 4,
+        Kind::Diode => names.len() == 3,
+    }
+}
+
+// A class with a byte in front.
+fn marked(alloc: Global, mark: u8, class: &Name) -> Result<Name, AllocError>
+    ensures { IfOk result (λ name. name ≡ mark ∷ class.now) }
+{
+    let mut bytes = Vec::new(alloc);
+    bytes.push(mark)?;
+    bytes.extend_from_slice(class.bytes())?;
+    Ok(Name::from_vec(bytes))
+}
+
+fn transistor(
+    line: u64,
+    copies: u32,
+    names: &mut Vec<Name>,
+    sizes: Sizes,
+) -> Result<CardRow, SpiceFault>
+    ensures { Says result (device_of line copies Transistor names.old.items
+        (Ok (record { length = sizes.length.0; width = sizes.width.0 }))) }
+{
+    if names.len() != 5 {
         return Err(SpiceFault::BadLine(line));
     }
-    if has_refused(params) {
-        return Err(SpiceFault::ParameterRefused(line));
-    }
-    let sizes = match sizes_of(params) {
-        Ok(sizes) => sizes,
-        Err(e) => return Err(SpiceFault::Value(line, e)),
-    };
     let class = names.pop();
     let bulk = names.pop();
     let source = names.pop();
@@ -54,9 +81,119 @@ fn device(
                 length: sizes.length,
                 width: sizes.width,
             };
-            Ok(CardRow::Device(card, copies_of(params)))
+            Ok(CardRow::Device(card, copies))
         }
         _ => Err(SpiceFault::BadLine(line)),
+    }
+}
+
+fn resistor(
+    alloc: Global,
+    line: u64,
+    copies: u32,
+    names: &[Name],
+    sizes: Sizes,
+) -> Result<CardRow, SpiceFault>
+    ensures { Says result (device_of line copies Resistor names.now
+        (Ok (record { length = sizes.length.0; width = sizes.width.0 }))) }
+{
+    match names {
+        [a, b, bulk, class] => {
+            let card = DeviceCard {
+                drain: b.try_clone(alloc)?,
+                gate: bulk.try_clone(alloc)?,
+                source: a.try_clone(alloc)?,
+                bulk: bulk.try_clone(alloc)?,
+                class: marked(alloc, 1, class)?,
+                length: sizes.length,
+                width: sizes.width,
+            };
+            Ok(CardRow::Device(card, copies))
+        }
+        _ => Err(SpiceFault::BadLine(line)),
+    }
+}
+
+fn diode(
+    alloc: Global,
+    line: u64,
+    copies: u32,
+    names: &[Name],
+    sizes: Sizes,
+) -> Result<CardRow, SpiceFault>
+    ensures { Says result (device_of line copies Diode names.now
+        (Ok (record { length = sizes.length.0; width = sizes.width.0 }))) }
+{
+    match names {
+        [anode, cathode, class] => {
+            let card = DeviceCard {
+                drain: anode.try_clone(alloc)?,
+                gate: cathode.try_clone(alloc)?,
+                source: anode.try_clone(alloc)?,
+                bulk: cathode.try_clone(alloc)?,
+                class: marked(alloc, 2, class)?,
+                length: sizes.length,
+                width: sizes.width,
+            };
+            Ok(CardRow::Device(card, copies))
+        }
+        _ => Err(SpiceFault::BadLine(line)),
+    }
+}
+
+fn device_of(
+    alloc: Global,
+    line: u64,
+    copies: u32,
+    kind: Kind,
+    names: &mut Vec<Name>,
+    sizes: Sizes,
+) -> Result<CardRow, SpiceFault>
+    ensures { Says result (device_of line copies (kind_seen kind) names.old.items
+        (Ok (record { length = sizes.length.0; width = sizes.width.0 }))) }
+{
+    match kind {
+        Kind::Transistor => transistor(line, copies, names, sizes),
+        Kind::Resistor => resistor(alloc, line, copies, names, sizes),
+        Kind::Diode => diode(alloc, line, copies, names, sizes),
+    }
+}
+
+// The names fit the kind, and the two sizes are there once each.
+fn is_formed(kind: Kind, names: &[Name], params: &[Param]) -> bool
+    ensures { result ≡ is_formed (kind_seen kind) names.now (params_seen params.now) }
+{
+    if !are_device_names(kind, names) {
+        return false;
+    }
+    if count(params, length_key(kind)) != 1 {
+        return false;
+    }
+    count(params, width_key(kind)) == 1
+}
+
+fn device(
+    alloc: Global,
+    line: u64,
+    kind: Kind,
+    words: &[&[u8]],
+    params: &[Param],
+) -> Result<CardRow, SpiceFault>
+    ensures { Says result (device_row read_limit (kind_seen kind) line
+        (names_of (words_seen words.now)) (params_seen params.now)) }
+{
+    let Some(mut names) = names_of(alloc, words)? else {
+        return Err(SpiceFault::BadLine(line));
+    };
+    if !is_formed(kind, &names, params) {
+        return Err(SpiceFault::BadLine(line));
+    }
+    if has_refused(kind, params) {
+        return Err(SpiceFault::ParameterRefused(line));
+    }
+    match sizes_of(kind, params) {
+        Ok(sizes) => device_of(alloc, line, copies_of(params), kind, &mut names, sizes),
+        Err(e) => Err(SpiceFault::Value(line, e)),
     }
 }
 
@@ -180,6 +317,8 @@ fn is_known(first: &[u8]) -> bool
     ensures { result ≡ is_known first.now }
 {
     begin(first) == b'M'
+        || begin(first) == b'R'
+        || begin(first) == b'D'
         || begin(first) == b'X'
         || is_text(first, b".SUBCKT")
         || is_text(first, b".ENDS")
@@ -199,7 +338,13 @@ fn row_of(
         (row_of read_limit line is_open first.now (words_seen words.now) (params_seen params.now)) }
 {
     if begin(first) == b'M' {
-        return device(alloc, line, words, params);
+        return device(alloc, line, Kind::Transistor, words, params);
+    }
+    if begin(first) == b'R' {
+        return device(alloc, line, Kind::Resistor, words, params);
+    }
+    if begin(first) == b'D' {
+        return device(alloc, line, Kind::Diode, words, params);
     }
     if begin(first) == b'X' {
         return call(alloc, line, words, params);
