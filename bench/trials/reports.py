@@ -1,0 +1,103 @@
+"""docs/FROM_KLAYOUT.md, what a report says: the generated chip with one change each, and the rings of lvs_main."""
+import os
+import struct
+
+import tools
+
+DOCUMENT = "docs/FROM_KLAYOUT.md"
+RINGS = os.path.join(tools.TOP, "crates", "lvs_main", "data")
+
+
+def points(x1, y1, x2, y2):
+    return struct.pack(">10i", x1, y1, x1, y2, x2, y2, x2, y1, x1, y1)
+
+
+def drawn(trials, name, old, new):
+    """The chip's layout with the first rectangle of these sides drawn otherwise."""
+    with open(trials.path("chip.gds"), "rb") as file:
+        return trials.put(name, file.read().replace(points(*old), points(*new), 1))
+
+
+def unlabelled(trials, name, label):
+    with open(trials.path("chip.gds"), "rb") as file:
+        return trials.put(name, file.read().replace(b"\0\6\x19\6" + label, b"\0\4\x19\6"))
+
+
+def written(trials, name, *changes):
+    text = trials.text("chip.cir")
+    for old, new in changes:
+        assert old in text
+        text = text.replace(old, new)
+    return trials.put(name, text)
+
+
+def told(report):
+    """The report's lines without its tables of a match."""
+    return [line for line in report[3:-2] if not line.startswith(("net ", "device ", "call "))]
+
+
+def cases(trials):
+    chip = ("chip.gds", "chip.lvs", "chip.cir")
+    width = ("W=0.5U", "W=0.6U")
+    names, wide = ("INV", "NOT"), ("NMOS L=0.1U W=1U", "NMOS L=0.1U W=2U")
+    pairs = trials.put("pairs.lvs", trials.text("chip.lvs")
+                       + 'same_circuits("INV", "NOT")\nsame_circuits("INV2", "NOT2")\n')
+    many = "".join(line + "\n" for line in trials.text("few.lvs").split("\n") if "max_guesses" not in line)
+    return [
+        (drawn(trials, "bad.gds", (200, 300, 800, 800), (200, 300, 550, 800)), *chip[1:], 1,
+         ["gate INV NMOS 450 300 groups-1", "pair INV INV differs",
+          "round 0 of schematic device 2 layout 0 schematic 1", "pair INV2 INV2 match", "pair ROW0 ROW0 skipped INV",
+          "pair TOP TOP skipped ROW0"], 3),
+        (*chip[:2], written(trials, "width.cir", width), 1,
+         ["pair INV INV differs", "round 0 of layout device 2 layout 1 schematic 0", "pair INV2 INV2 match",
+          "pair ROW0 ROW0 skipped INV", "pair TOP TOP skipped ROW0"], 5),
+        (unlabelled(trials, "label.gds", b"O0"), *chip[1:], 1,
+         ["pair INV INV match", "pair INV2 INV2 match", "pair ROW0 ROW0 match", "pair TOP TOP differs",
+          "round 0 of layout net 1 layout 3 schematic 4"], -1),
+        (drawn(trials, "short.gds", (0, 1450, 420, 1550), (0, 1450, 1000, 1550)), *chip[1:], 1,
+         ["pair INV INV differs", "round 0 of layout net 1 layout 3 schematic 4", "pair INV2 INV2 match",
+          "pair ROW0 ROW0 differs", "round 0 of layout net 5 layout 1 schematic 2", "pair TOP TOP skipped ROW0"], 0),
+        (drawn(trials, "off.gds", (640, 390, 720, 1870), (640, 390, 720, 1400)), *chip[1:], 1,
+         ["pair INV INV differs", "round 0 of layout net 1 layout 3 schematic 4", "pair INV2 INV2 match",
+          "pair ROW0 ROW0 skipped INV", "pair TOP TOP skipped ROW0"], 0),
+        (drawn(trials, "open.gds", (640, 390, 720, 1870), (640, 900, 720, 1870)), *chip[1:], 1,
+         ["pair INV INV differs", "round 0 of layout net 5 layout 1 schematic 0", "pair INV2 INV2 match",
+          "pair ROW0 ROW0 skipped INV", "pair TOP TOP skipped ROW0"], 0),
+        (*chip[:2], written(trials, "call.cir", ("N2 OUT VDD VSS INV2", "N2 OUT VDD VSS INV")), 1,
+         ["pair INV INV match", "pair INV2 INV2 match", "pair ROW0 ROW0 differs",
+          "round 0 of layout call 1 layout 1 schematic 2", "pair TOP TOP skipped ROW0"], 0),
+        (*chip[:2], written(trials, "cross.cir", ("X2 N1 N2", "X2 N2 N1")), 1,
+         ["pair INV INV match", "pair INV2 INV2 match", "pair ROW0 ROW0 differs",
+          "round 1 of layout net 5 layout 1 schematic 0", "pair TOP TOP skipped ROW0"], 0),
+        ("ring.gds", "few.lvs", "two.cir", 3,
+         ["pair RING RING undecided", "guess 1 net 3 3 3", "guess 1 net 3 4 3", "guess 1 net 3 5 3"], 0),
+        ("ring.gds", trials.put("many.lvs", many), "two.cir", 1,
+         ["pair RING RING differs", *[f"guess 1 net 3 {k} 3" for k in range(3, 9)]], 0),
+        (*chip[:2], written(trials, "not.cir", names), 0, ["pair ROW0 ROW0 match", "pair TOP TOP match"], 0),
+        (*chip[:2], written(trials, "not2.cir", names, wide), 1,
+         ["pair ROW0 ROW0 differs", "round 0 of layout device 4 layout 2 schematic 0", "pair TOP TOP skipped ROW0"], 2),
+        (chip[0], pairs, "not2.cir", 1,
+         ["pair INV NOT match", "pair INV2 NOT2 differs", "round 0 of layout device 2 layout 1 schematic 0",
+          "pair ROW0 ROW0 skipped INV2", "pair TOP TOP skipped ROW0"], -1),
+    ]
+
+
+def try_all(trials):
+    text = tools.document(DOCUMENT)
+    trials.expect("make", (0, "match cells 4 circuits 4 pairs 4 bad 0"), trials.run("make", "3", "1", "1", "chip"))
+    for name in ("ring.gds", "few.lvs", "two.cir"):
+        with open(os.path.join(RINGS, name), "rb") as file:
+            trials.put(name, file.read())
+    for layout, rules, schematic, wanted, lines, shown in cases(trials):
+        status, _, report = trials.compare(layout, rules, schematic)
+        trials.expect(f"{layout} {rules} {schematic}", (wanted, lines), (status, told(report)))
+        # The first so many lines stand in the document as a block, or the pair that differs with its evidence.
+        block = lines[:shown] if shown > 0 else lines[1:3] if "INV NOT" in lines[0] else []
+        if block:
+            trials.expect_said(text, "\n".join(block))
+        for line in lines:
+            if line.startswith("round "):
+                trials.expect_said(text, line)
+    trials.compare("chip.gds", "chip.lvs", "not.cir")
+    devices = [line for line in trials.text("out.txt").split("\n") if line.startswith("device ")]
+    trials.expect("six transistors", [f"device {k} {k}" for k in range(1, 7)], devices)
