@@ -36,6 +36,39 @@ def told(report):
     return [line for line in report[3:-2] if not line.startswith(("net ", "device ", "call "))]
 
 
+def elements(data, name):
+    """The bytes of a cell's elements."""
+    start = data.index(tools.gds.rec(0x06, 6, tools.gds.string(name))) + 4 + len(tools.gds.string(name))
+    return data[start:data.index(tools.gds.rec(0x07, 0), start)]
+
+
+def label(x, y, text):
+    return b"".join([tools.gds.rec(0x0C, 0), tools.number(0x0D, 5), tools.number(0x16, 1), tools.gds.xy([(x, y)]),
+                     tools.gds.rec(0x19, 6, tools.gds.string(text)), tools.gds.rec(0x11, 0)])
+
+
+def own_and_called(trials):
+    """A cell with the two transistors of INV2 itself, and one placement of INV."""
+    with open(trials.path("chip.gds"), "rb") as file:
+        data = file.read()
+    own = [elements(data, "INV2"), label(10, 1500, "IN"), label(1990, 1500, "OUT"), label(10, 2900, "VDD"),
+           *tools.reference("INV", 1000)]
+    return trials.put("own.gds", b"".join(tools.library(
+        tools.cell("INV", [elements(data, "INV")]), tools.cell("TOP", own))))
+
+
+OWN = """.SUBCKT TOP IN OUT VDD VSS
+M1 N1 IN VDD VDD PMOS L=0.1U W=1U
+M2 N1 IN VSS VSS NMOS L=0.1U W=1U
+X1 N1 OUT VDD VSS NOT
+.ENDS
+.SUBCKT NOT A Y VDD VSS
+M1 Y A VDD VDD PMOS L=0.1U W=1U
+M2 Y A VSS VSS NMOS L=0.1U W=0.5U
+.ENDS
+"""
+
+
 def cases(trials):
     chip = ("chip.gds", "chip.lvs", "chip.cir")
     width = ("W=0.5U", "W=0.6U")
@@ -76,6 +109,9 @@ def cases(trials):
         (*chip[:2], written(trials, "not.cir", names), 0, ["pair ROW0 ROW0 match", "pair TOP TOP match"], 0),
         (*chip[:2], written(trials, "not2.cir", names, wide), 1,
          ["pair ROW0 ROW0 differs", "round 0 of layout device 4 layout 2 schematic 0", "pair TOP TOP skipped ROW0"], 2),
+        (own_and_called(trials), chip[1], trials.put("own.cir", OWN), 0, ["pair TOP TOP match"], 0),
+        ("own.gds", chip[1], trials.put("own2.cir", OWN.replace("W=0.5U", "W=0.7U")), 1,
+         ["pair TOP TOP differs", "round 0 of layout device 4 layout 1 schematic 0"], 0),
         (chip[0], pairs, "not2.cir", 1,
          ["pair INV NOT match", "pair INV2 NOT2 differs", "round 0 of layout device 2 layout 1 schematic 0",
           "pair ROW0 ROW0 skipped INV2", "pair TOP TOP skipped ROW0"], -1),
@@ -96,8 +132,20 @@ def try_all(trials):
         if block:
             trials.expect_said(text, "\n".join(block))
         for line in lines:
-            if line.startswith("round "):
+            if line.startswith("round ") and layout != "own.gds":
                 trials.expect_said(text, line)
-    trials.compare("chip.gds", "chip.lvs", "not.cir")
-    devices = [line for line in trials.text("out.txt").split("\n") if line.startswith("device ")]
-    trials.expect("six transistors", [f"device {k} {k}" for k in range(1, 7)], devices)
+    try_numbers(trials)
+
+
+def joined_nodes(trials, layout, schematic):
+    trials.compare(layout, "chip.lvs", schematic)
+    block = trials.text("out.txt").split("pair ROW0 ROW0 match\n")[-1].split("pair ")[0].split("\n")
+    return [line for line in block if line.startswith(("device ", "call "))]
+
+
+def try_numbers(trials):
+    six = [f"device {k} {k}" for k in range(1, 7)]
+    trials.expect("six transistors", six, joined_nodes(trials, "chip.gds", "not.cir"))
+    alone = written(trials, "alone.cir", (".SUBCKT INV ", ".SUBCKT NOT "), (" INV\n", " NOT\n"))
+    trials.expect("one flattened call of three", ["device 1 1", "device 2 2", "call 1 1", "call 2 2"],
+                  joined_nodes(trials, "chip.gds", alone))
