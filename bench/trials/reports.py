@@ -135,6 +135,29 @@ def try_all(trials):
             if line.startswith("round ") and layout != "own.gds":
                 trials.expect_said(text, line)
     try_numbers(trials)
+    try_lines(trials, text)
+
+
+def with_line(trials, name, line):
+    return trials.put(name, trials.text("chip.lvs") + line + "\n")
+
+
+def try_lines(trials, text):
+    """Exchanged labels by `same_pins`, a wrong width by `flatten_unmatched`."""
+    with open(trials.path("chip.gds"), "rb") as file:
+        data = file.read()
+    mark = b"\0\6\x19\6"
+    swapped = data.replace(mark + b"I0", mark + b"??").replace(mark + b"O0", mark + b"I0").replace(mark + b"??", mark + b"O0")
+    trials.put("swapped.gds", swapped)
+    trials.expect("exchanged labels", 0, trials.compare("swapped.gds", "chip.lvs", "chip.cir")[0])
+    pins = with_line(trials, "pins.lvs", "same_pins")
+    trials.expect("by same_pins", 1, trials.compare("swapped.gds", pins, "chip.cir")[0])
+    trials.expect("the right chip by same_pins", 0, trials.compare("chip.gds", pins, "chip.cir")[0])
+    apart = with_line(trials, "apart.lvs", "flatten_unmatched")
+    trials.expect("a width by flatten_unmatched",
+                  (1, ["apart INV INV differs", "round 0 of layout device 2 layout 1 schematic 0"]),
+                  (trials.compare("chip.gds", apart, "width.cir")[0], told(trials.text("out.txt").split("\n"))[:2]))
+    trials.expect_said(text, "apart INV INV differs round 0 of layout device 2 layout 1 schematic 0")
 
 
 def joined_nodes(trials, layout, schematic):
