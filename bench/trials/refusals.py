@@ -111,7 +111,7 @@ SCHEMATICS = [
     (50, "A title\n", "line 1"), (51, "Main block\n", "line 1"),
     (51, f"* a comment\n{CARD} $ fast\n", "line 2"), (51, f"{CARD} ; fast\n", "line 1"),
     (51, "M1 d g s NMOS L=0.1U W=1U\n", "line 1"), (51, "M1 d g s b NMOS L=0.1U\n", "line 1"),
-    (51, "M1 d g s b / NMOS L=0.1U W=1U\n", "line 1"), (51, CARD.replace(" d ", " \\xor ") + "\n", "line 1"),
+    (51, CARD.replace(" d ", " \\xor ") + "\n", "line 1"),
     (51, f"+ W=1U\n{CARD}\n", "line 1"),
     (52, f"{CARD} SA=1U\n", "line 1"), (52, f"{CARD} M=0\n", "line 1"), (52, f"{CARD} M=1001\n", "line 1"),
     (52, ".SUBCKT A a\n.ENDS\nX1 n A M=2\n", "line 3"), (52, ".SUBCKT A a\n.ENDS\nX1 n A w=1U\n", "line 3"),
@@ -145,7 +145,7 @@ def try_streams(trials):
     for code, what, make, place in STREAMS:
         wanted = f"refused layout {code} {place}" if place else (f"refused layout {code} record ",)
         refused(trials, what, wanted, shapes(trials, make()))
-    trials.expect("bzip2 is no GDSII", True, shapes(trials, bz2.compress(bytes(999)))[1].startswith("refused layout"))
+    trials.expect("bzip2", "refused layout 1 record 0 offset 0", shapes(trials, bz2.compress(bytes(999)))[1])
     for code, make, rules, place in CELLS:
         wanted = (f"refused layout {code} cell ",) if place is None else f"refused layout {code}{place}"
         refused(trials, f"cells, {code}", wanted, shapes(trials, make(), rules))

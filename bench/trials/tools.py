@@ -14,8 +14,8 @@ import gds  # noqa: E402
 class Trials:
     """Runs the program in one folder, and counts what was tried and what differed."""
 
-    def __init__(self, program, folder):
-        self.program, self.folder, self.tried, self.differed = program, folder, 0, []
+    def __init__(self, program, turner, folder):
+        self.program, self.turner, self.folder, self.tried, self.differed = program, turner, folder, 0, []
 
     def path(self, name):
         return os.path.join(self.folder, name)
@@ -29,10 +29,17 @@ class Trials:
         with open(self.path(name), encoding="latin-1") as file:
             return file.read()
 
-    def run(self, *words, out=subprocess.PIPE):
-        """The exit status, and the line."""
-        done = subprocess.run([*self.program, *words], cwd=self.folder, stdout=out, stderr=subprocess.DEVNULL)
+    def call(self, words, out=subprocess.PIPE):
+        done = subprocess.run(words, cwd=self.folder, stdout=out, stderr=subprocess.DEVNULL)
         return done.returncode, (done.stdout or b"").decode("latin-1").rstrip("\n")
+
+    def run(self, *words, out=subprocess.PIPE):
+        """lvs: the exit status, and the line."""
+        return self.call([*self.program, *words], out)
+
+    def turn(self, *words):
+        """lvs_netlist: the exit status, and what it tells."""
+        return self.call([self.turner, *words])
 
     def compare(self, layout, rules, schematic):
         """A run on these files: the exit status, the line, and the report without its tables of a match."""
