@@ -9,7 +9,7 @@ CALLED = ".SUBCKT A a\n.ENDS\n"
 TURNED = [
     (f".INCLUDE 'other.cir'\n{CARD}\n", [], ["left out in.cir line 1 .INCLUDE"]),
     (f".LIB models.lib fast\n{CARD}\n", [], ["left out in.cir line 1 .LIB"]),
-    (f".PARAM wide=1U\n{CARD.replace('1U', 'wide')}\n", [], ["left out in.cir line 1 .PARAM", "value wide 1"]),
+    (f".PARAM wide=1U\n{CARD.replace('W=1U', 'W=wide')}\n", [], ["left out in.cir line 1 .PARAM", "value WIDE 1"]),
     (f"C1 a b 1p\n{CARD}\n", ["--drop-capacitors"], ["left out in.cir line 1 C1"]),
     (f"R1 a b 1\n{CARD}\n", ["--drop-resistors"], ["left out in.cir line 1 R1"]),
     (f"A title\n{CARD}\n", ["--title"], []),
@@ -18,18 +18,18 @@ TURNED = [
     (f"{CARD} ; fast\n", [], []),
     (CARD.replace(" d ", " \\xor ") + "\n", [], ["backslashes 1"]),
     (f"{CARD} SA=1U\n", [], ["parameter SA 1"]),
-    (f"{CALLED}X1 n A w=1U\n", [], ["parameter w 1"]),
-    (".SUBCKT A a w=1U\n.ENDS\nX1 n A\n", [], ["parameter w 1"]),
+    (f"{CALLED}X1 n A w=1U\n", [], ["parameter W 1"]),
+    (".SUBCKT A a w=1U\n.ENDS\nX1 n A\n", [], ["parameter W 1"]),
     (f"{CALLED}X1 n / A\n", [], ["slashes 1"]),
     (f"{CALLED}X1 n A PARAMS: w=1U\n", [], ["PARAMS: 1"]),
-    (CARD.replace("1U", "'1U'") + "\n", [], ["quotes 1"]),
+    (CARD.replace("W=1U", "W='1U'") + "\n", [], ["quotes 1"]),
     (f".SUBCKT B a\n{CARD}\n.ENDS\n{CALLED}", ["--top", "A"], ["left out in.cir line 1 .SUBCKT"]),
 ]
 # What is refused, and why.
 REFUSED = [
     (f"C1 a b 1p\n{CARD}\n", [], "refused in.cir line 1 "), ("D1 a b DN\n", [], "refused in.cir line 1 "),
     ("M1 d g s NMOS L=0.1U W=1U\n", [], "refused in.cir line 1 schematic 51"),
-    (CARD.replace("1U", "'2*w'") + "\n", [], "refused in.cir line 1 schematic 53"),
+    (CARD.replace("W=1U", "W='2*w'") + "\n", [], "refused in.cir line 1 schematic 53"),
     (f"{CALLED}X1 n A M=2\n", [], "refused in.cir line 3 schematic 52"),
     (f"{CARD}\n", ["--top", "NONE"], "refused no circuit NONE"),
     (".INCLUDE none.cir\n", [], "refused absent none.cir"),
