@@ -91,15 +91,34 @@ CELLS = [
 ]
 MANY = "".join(f"n{k} = input(1, 0)\n" for k in range(257))
 MOS = 'extract_devices(mos4("N"), { "SD" => a, "G" => b, "W" => c })\n'
+DEVICE = "a = input(1, 0)\nb = input(2, 0)\nc = input(3, 0)\nconnect(a, c)\n" + MOS
+# Accepted: names of 64 bytes, 256 of them, statements that may stand twice, and that name nothing.
+RULES_TAKEN = ["combine_devices\ncombine_devices\n", "max_guesses(1)\nmax_guesses(1000000)\n",
+               "a" * 64 + " = polygon_layer\n",
+               'netlist.flatten_circuit("NONE")\nschematic.flatten_circuit("NONE")\n', "deep # and a comment\r\n",
+               'same_circuits("A", "B")\nsame_circuits("B", "A")\n', "a=input( 1,0 )\n",
+               "".join(f"n{k} = input(1, 0)\n" for k in range(256))]
 RULE_FILES = [
     (30, "a = input(1, 0)\na.width(10)\n", "line 2"),
     (30, "source($input)\n", "line 1"),
     (31, "a = input(1, 0)\nb = a\n", "line 2"),
     (31, "A = input(1, 0)\n", "line 1"),
+    (31, "deep = input(1, 0)\n", "line 1"),
+    (31, "a = input(00000001, 0)\n", "line 1"),
+    (31, "a = input(1, 0) ?\n", "line 1"),
     (32, "a = input(1, 0)\nd = a & zz\n", "line 2"),
+    (32, "a = input(1, 0)\nd = a & input\n", "line 2"),
     (33, "a = input(1, 0)\na = input(1, 0)\n", "line 2"),
+    (33, "a = input(1, 0)\na.output(9, 0)\na.output(9, 0)\n", "line 3"),
+    (33, 'same_circuits("A", "B")\nsame_circuits("a", "C")\n', "line 2"),
+    (33, 'same_circuits("A", "B")\nnetlist.flatten_circuit("A")\n', "line 2"),
+    (33, "same_pins\nsame_pins\n", "line 2"),
+    (33, "flatten_unmatched\nflatten_unmatched\n", "line 2"),
+    (33, DEVICE + MOS.replace('"N"', '"n"'), "line 6"),
     (34, "a = input(1, 0)\nt = labels(5, 1)\nx = a & t\n", "line 3"),
-    (34, "a = input(1, 0)\nb = input(2, 0)\nc = input(3, 0)\nconnect(a, c)\n" + MOS, "line 5"),
+    (34, "a = labels(1, 0)\nb = labels(2, 0)\nconnect(a, b)\n", "line 3"),
+    (34, 'a = labels(1, 0)\nconnect_global(a, "G")\n', "line 2"),
+    (34, DEVICE, "line 5"),
     (35, MANY, "line 257"),
     (36, "a = input(1, 0)\n\0", "offset 16"),
 ]
@@ -116,7 +135,9 @@ SCHEMATICS = [
     (52, f"{CARD} SA=1U\n", "line 1"), (52, f"{CARD} M=0\n", "line 1"), (52, f"{CARD} M=1001\n", "line 1"),
     (52, ".SUBCKT A a\n.ENDS\nX1 n A M=2\n", "line 3"), (52, ".SUBCKT A a\n.ENDS\nX1 n A w=1U\n", "line 3"),
     (52, ".SUBCKT A a w=1U\n.ENDS\n", "line 1"),
-    (53, "M1 d g s b NMOS L=0.1U W=wide\n", "line 1 value 1"),
+    *[(53, f"M1 d g s b NMOS L=0.1U W={text}\n", "line 1 value 1")
+      for text in ("wide", "-1U", "1mil", "1milli", "1e", "1u5", ".")],
+    (53, "M1 d g s b NMOS L=0.1U W=2000\nM2 d g s b NMOS L=0.1U W=0.5F\n", "line 1 value 3"),
     (53, "M1 d g s b NMOS L=0.1U W='2*w'\n", "line 1 value 1"),
     (53, "M1 d g s b NMOS L=0.1U W=0.5F\n", "line 1 value 2"),
     (53, "M1 d g s b NMOS L=0.1U W=1001\n", "line 1 value 3"),
@@ -126,7 +147,8 @@ SCHEMATICS = [
     (44, ".SUBCKT A a\n.ENDS\n.SUBCKT a b\n.ENDS\n", "line 3"),
 ]
 TAKEN = ["", f"* a comment\n{CARD}\n", f"{CARD}\n+ AD=1P AS=1P\n", f"{CARD} M=1000\n", "M1 d g s b N L=1 W=1\n",
-         ".SUBCKT A a\n.ENDS\nX1 n A M=1\n"]
+         ".SUBCKT A a\n.ENDS\nX1 n A M=1\n", ".GLOBAL VDD\n", f"{CARD}\n.END\nnothing of this is read\n",
+         *[f"M1 d g s b N L=1U W={text}\n" for text in ("1mi", "1me", "2.5e-07", "1E-6meter", "1000", "1f", "1.U")]]
 
 
 def shapes(trials, layout, rules=RULES):
@@ -155,6 +177,9 @@ def try_texts(trials):
     layout = joined(cell("A", square(0, 0, 10, 10)))
     for code, rules, place in RULE_FILES:
         refused(trials, rules[-40:], f"refused rules {code} {place}", shapes(trials, layout, rules))
+    for rules in RULES_TAKEN:
+        trials.expect(f"taken: {rules[-40:]}", 0, shapes(trials, layout, rules)[0])
+        os.remove(trials.path("out.gds"))
     trials.put("a.lvs", RULES)
     for code, text, place in SCHEMATICS:
         trials.put("a.cir", text)

@@ -136,10 +136,21 @@ def try_all(trials):
                 trials.expect_said(text, line)
     try_numbers(trials)
     try_lines(trials, text)
+    try_summaries(trials)
 
 
 def with_line(trials, name, line):
     return trials.put(name, trials.text("chip.lvs") + line + "\n")
+
+
+def try_summaries(trials):
+    """The lines of shapes and extract: rectangles in the cells, circuits, bad gates."""
+    for layout, wanted in [("chip.gds", (0, "extracted cells 4 circuits 4 bad 0")),
+                           ("bad.gds", (1, "extracted cells 4 circuits 4 bad 1"))]:
+        words = ["extract", "--netlist=out.cir", "--shapes", "out.gds", "--rules", "chip.lvs", f"--layout={layout}"]
+        trials.expect(" ".join(words), wanted, trials.run(*words))
+        trials.expect("the same with workers", wanted, trials.run(*words, "--workers", "004", "--top", "TOP"))
+    trials.expect("shapes", (0, "shapes cells 4 rectangles 8"), trials.run("shapes", "chip.gds", "chip.lvs", "out.gds"))
 
 
 def try_lines(trials, text):
@@ -147,8 +158,9 @@ def try_lines(trials, text):
     with open(trials.path("chip.gds"), "rb") as file:
         data = file.read()
     mark = b"\0\6\x19\6"
-    swapped = data.replace(mark + b"I0", mark + b"??").replace(mark + b"O0", mark + b"I0").replace(mark + b"??", mark + b"O0")
-    trials.put("swapped.gds", swapped)
+    for old, new in [(b"I0", b"??"), (b"O0", b"I0"), (b"??", b"O0")]:
+        data = data.replace(mark + old, mark + new)
+    trials.put("swapped.gds", data)
     trials.expect("exchanged labels", 0, trials.compare("swapped.gds", "chip.lvs", "chip.cir")[0])
     pins = with_line(trials, "pins.lvs", "same_pins")
     trials.expect("by same_pins", 1, trials.compare("swapped.gds", pins, "chip.cir")[0])
