@@ -137,6 +137,7 @@ def try_all(trials):
     try_numbers(trials)
     try_lines(trials, text)
     try_summaries(trials)
+    try_causes(trials)
 
 
 def with_line(trials, name, line):
@@ -151,6 +152,40 @@ def try_summaries(trials):
         trials.expect(" ".join(words), wanted, trials.run(*words))
         trials.expect("the same with workers", wanted, trials.run(*words, "--workers", "004", "--top", "TOP"))
     trials.expect("shapes", (0, "shapes cells 4 rectangles 8"), trials.run("shapes", "chip.gds", "chip.lvs", "out.gds"))
+
+
+# The device line's braces, by the layers of examples/mos.lvs and a layer that nothing is drawn on; and the cause.
+CAUSES = [
+    ('"SD" => sd, "G" => gate, "W" => bulk, "tG" => none', "off-gate"),
+    ('"SD" => sd, "G" => gate, "W" => bulk, "tG" => poly, "tS" => none, "tD" => none', "off-sd"),
+    ('"SD" => sd, "G" => gate, "W" => none, "tG" => poly', "no-bulk"),
+    ('"SD" => none, "G" => gate, "W" => bulk, "tG" => poly', "groups-0"),
+]
+
+
+def try_causes(trials):
+    """Each cause of a bad gate that docs/FORMATS.md names, but for `groups-1` above."""
+    text = tools.document("docs/FORMATS.md")
+    with open(os.path.join(tools.TOP, "examples", "mos.gds"), "rb") as file:
+        trials.put("mos.gds", file.read())
+    rules = tools.document("examples/mos.lvs")
+    none = "none = input(9, 0)\nconnect(none, metal)\n"
+    words = ["extract", "--layout", "mos.gds", "--rules", "cause.lvs", "--shapes", "out.gds", "--netlist", "out.cir"]
+    empty = trials.put("empty.cir", ".SUBCKT MOS VSS\n.ENDS\n")
+    for braces, cause in CAUSES:
+        start = rules[:rules.index("extract_devices")]
+        trials.put("cause.lvs", start + none + 'extract_devices(mos4("NMOS"), { ' + braces + " })\n")
+        trials.expect(cause, (1, "extracted cells 1 circuits 1 bad 1"), trials.run(*words))
+        trials.compare("mos.gds", "cause.lvs", empty)
+        trials.expect(cause, f"gate MOS NMOS 250 0 {cause}", trials.text("out.txt").split("\n")[3])
+    ring = [tools.square(10, 10, 40, 20, 2), tools.square(10, 30, 40, 40, 2), tools.square(10, 20, 20, 30, 2),
+            tools.square(30, 20, 40, 30, 2)]
+    shapes = tools.square(0, 0, 50, 50) + [record for one in ring for record in one]
+    trials.put("ring.gds", b"".join(tools.library(tools.cell("RING", shapes))))
+    trials.compare("ring.gds", trials.put("mos.lvs", rules), empty)
+    trials.expect("no-length", "gate RING NMOS 10 10 no-length", trials.text("out.txt").split("\n")[3])
+    for cause in ("off-gate", "off-sd", "no-bulk", "groups-N", "no-length"):
+        trials.expect_said(text, f"| `{cause}` |")
 
 
 def try_lines(trials, text):
