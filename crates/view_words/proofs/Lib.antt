@@ -4,4 +4,4 @@ mod QuotedWords
 mod WordLaws
 mod StepLaws
 mod Joins
-mod Rows
+pub mod Rows
