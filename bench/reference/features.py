@@ -4,14 +4,13 @@ The environment variable LVSREF_FEATURES holds a comma separated list of the wor
 `all`).  Without it the reference has the plain rule set.
 
 wide    XY in several records, larger limits, refusal of layers outside 32 bits
-merge   `combine_devices`
 more    resistors and diodes
 sized   `N = A.sized(D)`
 """
 
 import os
 
-KNOWN = ("wide", "merge", "more", "sized")
+KNOWN = ("wide", "more", "sized")
 
 
 def _chosen():
@@ -27,7 +26,6 @@ def _chosen():
 
 ON = _chosen()
 WIDE = "wide" in ON
-MERGE = "merge" in ON
 MORE = "more" in ON
 SIZED = "sized" in ON
 

@@ -37,6 +37,7 @@ RULE_LINES = [b"a.width(10)", b"poly = input(1, 0)", b"x = in1 & zz", b"x = txt 
               b"netlist.flatten_circuit('A', 'B')", b"netlist.flatten_circuit(in1)",
               b"netlist.flatten_circuit('')", b"deep.flatten_circuit('A')",
               b"flatten_unmatched", b"flatten_unmatched x", b"flatten_unmatched = input(1, 0)",
+              b"same_pins", b"same_pins()", b"same_pins = in1 & in1",
               b"flatten_circuit('A')", b"flatten_circuit = input(9, 1)",
               b"netlist.output(1, 0)", b"schematic.flatten_circuit('b') x",
               b"x = in1 & input", b"in1 = in1 & in1", b"x = in1 &", b"x = & in1", b"x == in1"]

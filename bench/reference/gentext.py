@@ -306,6 +306,10 @@ def flatten_lines(rng, maker):
     lines = []
     if rng.random() < 0.5:
         lines.append(b"flatten_unmatched")
+    if rng.random() < 0.3:
+        lines.append(b"same_pins")
+    if rng.random() < 0.3:
+        lines.append(b"combine_devices")
     while rng.random() < 0.25:
         name = rng.choice(maker.circuits).name if rng.random() < 0.9 else b"NoSuch"
         layout = rng.random() < 0.5

@@ -2,6 +2,8 @@
 
 from collections import Counter
 
+from names import folded
+
 DEVICE, CALL, NET = "device", "call", "net"
 REPORT_ORDER = {DEVICE: 0, CALL: 1, NET: 2}
 GUESS_ORDER = {NET: 0, DEVICE: 1, CALL: 2}
@@ -32,14 +34,15 @@ class Answer:
 class _Pair:
     """Nodes are (side, kind, number), side 0 being the layout."""
 
-    def __init__(self, left, right, pin_maps):
+    def __init__(self, left, right, pin_maps, told):
         self.sides = (left, right)
         self.pin_maps = pin_maps
         self.first, self.links = {}, {}
         for side, circuit in enumerate(self.sides):
             pins = set(circuit.pins)
             for k in range(len(circuit.nets)):
-                self._node((side, NET, k), (NET, k in pins))
+                named = folded(circuit.nets[k]) if told and k in pins else None
+                self._node((side, NET, k), (NET, k in pins, named))
             for k, device in enumerate(circuit.devices):
                 self._node((side, DEVICE, k),
                            (DEVICE, device.device_class, device.length, device.width))
@@ -170,9 +173,10 @@ class _Tree:
                 guess[4] = "below"
 
 
-def compare(left, right, pin_maps, limit):
-    """The answer for a pair; `pin_maps` has per pair None or the right pin of each left pin."""
-    pair = _Pair(left, right, pin_maps)
+def compare(left, right, pin_maps, limit, told=False):
+    """The answer for a pair; `pin_maps` has per pair None or the right pin of each left pin; `told`
+    is whether names tell the pair's own pins apart."""
+    pair = _Pair(left, right, pin_maps, told)
     found = pair.unequal(pair.start())
     if found:
         return Answer("differs", evidence=(0,) + found)
@@ -201,8 +205,9 @@ def pin_map(left, right, answer):
     return [place[answer.pairing[NET][net]] for net in left.pins]
 
 
-def compare_all(pairs, limit):
-    """The answers of all pairs in order, children first."""
+def compare_all(pairs, limit, told=None):
+    """The answers of all pairs in order, children first; names tell the pins of pair `told`
+    apart."""
     pin_maps, answers = [None] * len(pairs), [None] * len(pairs)
     done = set()
 
@@ -213,7 +218,7 @@ def compare_all(pairs, limit):
         left, right = pairs[number]
         for call in left.calls:
             work(call.circuit)
-        answers[number] = compare(left, right, pin_maps, limit)
+        answers[number] = compare(left, right, pin_maps, limit, number == told)
         if answers[number].word == "match":
             pin_maps[number] = pin_map(left, right, answers[number])
 
@@ -222,8 +227,8 @@ def compare_all(pairs, limit):
     return answers
 
 
-def is_correspondence(left, right, pin_maps, pairing):
-    """Whether a pairing keeps pins, devices and calls."""
+def is_correspondence(left, right, pin_maps, pairing, told=False):
+    """Whether a pairing keeps pins, devices and calls, and with `told` the pins' names."""
     nets, devices, calls = pairing[NET], pairing[DEVICE], pairing[CALL]
     for some, ours, theirs in ((nets, left.nets, right.nets),
                                (devices, left.devices, right.devices),
@@ -231,6 +236,8 @@ def is_correspondence(left, right, pin_maps, pairing):
         if len(ours) != len(theirs) or sorted(some) != list(range(len(theirs))):
             return False
     if any((k in left.pins) != (nets[k] in right.pins) for k in range(len(left.nets))):
+        return False
+    if told and any(folded(left.nets[k]) != folded(right.nets[nets[k]]) for k in left.pins):
         return False
     for k, device in enumerate(left.devices):
         other = right.devices[devices[k]]

@@ -606,6 +606,32 @@ def latch_swapped():
 
 
 @check
+def told_pins():
+    def told(left, right):
+        one, other = spice.read_spice(left), spice.read_spice(right)
+        pairs = align(one, len(one) - 1, other, [])
+        answer = match.compare_all(pairs, 1000, len(pairs) - 1)[-1]
+        return answer, pairs[-1]
+
+    gate = circuit("TOP I O B", ("O I B B", "NMOS", 1))
+    swapped = circuit("TOP O I B", ("I O B B", "NMOS", 1))
+    equal(answer_of(gate, swapped)[0].word, "match")
+    equal(told(gate, gate)[0].word, "match")
+    found, _ = told(gate, swapped)
+    equal((found.word, found.evidence), ("differs", (1, 0, "device", 0, 1, 0)))
+    small = circuit("top b o i", ("o i b b", "NMOS", 1))
+    equal(told(gate, small)[0].word, "match")
+    other = circuit("TOP I Z B", ("Z I B B", "NMOS", 1))
+    found, _ = told(gate, other)
+    equal((found.word, found.evidence), ("differs", (0, 0, "net", 1, 1, 0)))
+    two = circuit("TOP A B C D G", ("B A G G", "NMOS", 1), ("D C G G", "NMOS", 1))
+    turned = circuit("TOP C D A B G", ("B A G G", "NMOS", 1), ("D C G G", "NMOS", 1))
+    found, (left, right) = told(two, turned)
+    equal(found.word, "match")
+    equal([right.nets[found.pairing["net"][k]] for k in left.pins], [left.nets[k] for k in left.pins])
+
+
+@check
 def two_rings():
     def ring(*ends):
         return circuit("RING G B", *[("N%d G N%d B" % e, "NMOS", 1) for e in ends])
@@ -661,8 +687,6 @@ def whole_comparison():
 
 @check
 def merged_fingers():
-    if not features.MERGE:
-        return
     data = circuit("A D G S B", ("D G S B", "N", 1), ("S G D B", "N", 2))
     data = data.replace(b".ENDS", b"M3 D G S B N L=2U W=1U\n.ENDS").replace(b"0.1U", b"1U")
     found = netlist.write([netlist.merged(spice.read_spice(data)[0])])

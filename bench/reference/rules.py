@@ -14,10 +14,9 @@ NUMBER = re.compile(rb"[0-9]{1,7}")
 OPERATORS = {b"&": "and", b"|": "or", b"-": "not", b"^": "xor"}
 WORDS = {b"connect", b"connect_global", b"extract_devices", b"same_circuits", b"max_guesses",
          b"deep", b"netlist", b"align", b"compare", b"schematic", b"input", b"labels",
-         b"polygon_layer", b"output", b"mos4", b"flatten_unmatched"}
+         b"polygon_layer", b"output", b"mos4", b"flatten_unmatched", b"same_pins",
+         b"combine_devices"}
 PATTERN = frozenset(b"*?[{")
-if features.MERGE:
-    WORDS.add(b"combine_devices")
 if features.MORE:
     WORDS |= {b"resistor_with_bulk", b"diode"}
 BAD_BYTES = frozenset(range(32)) - frozenset((9, 10, 13)) | {127}
@@ -52,6 +51,7 @@ class Rules:
         self.max_guesses = 1000
         self.flat = (set(), set())
         self.flatten_unmatched = False
+        self.same_pins = False
         self.combine = False
         self.lines = {}
 
@@ -257,9 +257,11 @@ class _Reader:
             statement = ("flatten", 0 if word == b"netlist" else 1, name)
         elif word == b"flatten_unmatched":
             statement = ("flatten_unmatched",)
+        elif word == b"same_pins":
+            statement = ("same_pins",)
         elif word in (b"deep", b"netlist", b"align", b"compare"):
             statement = ("nothing",)
-        elif features.MERGE and word == b"combine_devices":
+        elif word == b"combine_devices":
             statement = ("combine",)
         elif word == b"schematic":
             tokens.mark(b"(")
@@ -388,6 +390,10 @@ class _Reader:
             if rules.flatten_unmatched:
                 raise RuleFault(33, None)
             rules.flatten_unmatched = True
+        elif word == "same_pins":
+            if rules.same_pins:
+                raise RuleFault(33, None)
+            rules.same_pins = True
         elif word == "guesses":
             rules.max_guesses = statement[1]
         elif word == "combine":

@@ -39,10 +39,11 @@ def compare(left, top, right, rules):
     past = []
     while True:
         pairs = align(left, top, right, rules.same, apart)
-        answers = match.compare_all(pairs, rules.max_guesses)
+        number = next(k for k, pair in enumerate(pairs) if pair[0].name == left[top].name)
+        told = number if rules.same_pins else None
+        answers = match.compare_all(pairs, rules.max_guesses, told)
         if not rules.flatten_unmatched:
             return pairs, answers, past, None
-        number = next(k for k, pair in enumerate(pairs) if pair[0].name == left[top].name)
         goes = _going(pairs, answers, number)
         if not goes:
             return pairs, answers, past, None

@@ -13,13 +13,14 @@ use std::sync::Wait;
 use std::test::Fail;
 use std::thread::Threads;
 
-// A layout with the number of its top, a schematic, how many guesses may be refuted, and the answer
-// of each pair; none where the top has no partner.
+// A layout with the number of its top, a schematic, how many guesses may be refuted, whether names
+// tell the tops' pins apart, and the answer of each pair; none where the top has no partner.
 struct Case {
     layout: &'static str,
     top: u32,
     schematic: &'static str,
     limit: u32,
+    same_pins: bool,
     want: Option<&'static [&'static str]>,
 }
 
@@ -28,7 +29,7 @@ const INVERTER: &str = "Match(Pairing { nets: [3, 2, 0, 1], devices: [1, 0], cal
 const WIDER: &str = "Differs(Round { round: 0, node: Node { side: Layout, kind: Device, number: 1 }\
     , left: 1, right: 0 })";
 
-const CASES: [Case; 8] = [
+const CASES: [Case; 11] = [
     // Two circuits of the schematic that no call names, and no name is the top's.
     Case {
         layout: ".subckt chip s\nm1 s s s s n l=1u w=1u\n.ends\n",
@@ -36,6 +37,7 @@ const CASES: [Case; 8] = [
         schematic: ".subckt main s\nm1 s s s s n l=1u w=1u\n.ends\n.subckt spare s\n\
             m1 s s s s n l=1u w=1u\n.ends\n",
         limit: 1,
+        same_pins: false,
         want: None,
     },
     // One pair: pins in another order, source and drain exchanged.
@@ -44,6 +46,7 @@ const CASES: [Case; 8] = [
         top: 0,
         schematic: ".subckt inv v g y a\nm1 y a g g n l=1u w=1u\nm2 v a y v p l=1u w=2u\n.ends\n",
         limit: 0,
+        same_pins: false,
         want: Some(&[INVERTER]),
     },
     // The child's pins stand in another order on each side, and so do the calls.
@@ -54,6 +57,7 @@ const CASES: [Case; 8] = [
         schematic: ".subckt buf i o v g\nx1 v g o m inv\nx2 v g m i inv\n.ends\n\
             .subckt inv v g y a\nm1 y a g g n l=1u w=1u\nm2 v a y v p l=1u w=2u\n.ends\n",
         limit: 0,
+        same_pins: false,
         want: Some(&[
             INVERTER,
             "Match(Pairing { nets: [0, 1, 2, 3, 4], devices: [], calls: [1, 0] })",
@@ -67,6 +71,7 @@ const CASES: [Case; 8] = [
         schematic: ".subckt one i v g\nx1 v g i i inv\nx2 v g i m inv\n.ends\n\
             .subckt inv v g y a\nm1 y a g g n l=1u w=1u\nm2 v a y v p l=1u w=2u\n.ends\n",
         limit: 0,
+        same_pins: false,
         want: Some(&[
             INVERTER,
             "Differs(Round { round: 1, node: Node { side: Layout, kind: Call, number: 1 }\
@@ -83,6 +88,7 @@ const CASES: [Case; 8] = [
             .subckt buf i o v g\nx1 i m v g inv\nx2 m o v g inv\n.ends\n\
             .subckt inv a y v g\nm1 y a v v p l=1u w=2u\nm2 y a g g n l=1u w=3u\n.ends\n",
         limit: 1000,
+        same_pins: false,
         want: Some(&[WIDER, "Skipped(0)", "Skipped(1)"]),
     },
     // A difference of the first round shows though the called pair isn't matched.
@@ -93,6 +99,7 @@ const CASES: [Case; 8] = [
         schematic: ".subckt buf i o v g\nx1 i o v g inv\nx2 i o v g inv\n.ends\n\
             .subckt inv a y v g\nm1 y a v v p l=1u w=2u\nm2 y a g g n l=1u w=3u\n.ends\n",
         limit: 1000,
+        same_pins: false,
         want: Some(&[
             WIDER,
             "Differs(Round { round: 0, node: Node { side: Layout, kind: Net, number: 4 }\
@@ -109,6 +116,7 @@ const CASES: [Case; 8] = [
             m3 n1 g n3 b n l=1u w=1u\nm4 n5 g n4 b n l=1u w=1u\nm5 n6 g n5 b n l=1u w=1u\n\
             m6 n4 g n6 b n l=1u w=1u\n.ends\n",
         limit: 1,
+        same_pins: false,
         want: Some(&[
             "Undecided([Guess { depth: 1, kind: Net, left: 2, right: 2, end: Refuted(3) }])",
         ]),
@@ -123,6 +131,7 @@ const CASES: [Case; 8] = [
             m3 n1 g n3 b n l=1u w=1u\nm4 n5 g n4 b n l=1u w=1u\nm5 n6 g n5 b n l=1u w=1u\n\
             m6 n4 g n6 b n l=1u w=1u\n.ends\n",
         limit: 7,
+        same_pins: false,
         want: Some(&[
             "Differs(Tree([Guess { depth: 1, kind: Net, left: 2, right: 2, end: Refuted(3) }\
                 , Guess { depth: 1, kind: Net, left: 2, right: 3, end: Refuted(3) }\
@@ -130,6 +139,39 @@ const CASES: [Case; 8] = [
                 , Guess { depth: 1, kind: Net, left: 2, right: 5, end: Refuted(3) }\
                 , Guess { depth: 1, kind: Net, left: 2, right: 6, end: Refuted(3) }\
                 , Guess { depth: 1, kind: Net, left: 2, right: 7, end: Refuted(3) }]))",
+        ]),
+    },
+    // Names tell the pins of a pass transistor apart, whichever of them is its source.
+    Case {
+        layout: ".subckt t d g s b\nm1 d g s b n l=1u w=1u\n.ends\n",
+        top: 0,
+        schematic: ".subckt t s g d b\nm1 s g d b n l=1u w=1u\n.ends\n",
+        limit: 0,
+        same_pins: true,
+        want: Some(&["Match(Pairing { nets: [2, 1, 0, 3], devices: [0], calls: [] })"]),
+    },
+    // One of its pins has another name.
+    Case {
+        layout: ".subckt t d g s b\nm1 d g s b n l=1u w=1u\n.ends\n",
+        top: 0,
+        schematic: ".subckt t d g q b\nm1 d g q b n l=1u w=1u\n.ends\n",
+        limit: 1000,
+        same_pins: true,
+        want: Some(&[
+            "Differs(Round { round: 0, node: Node { side: Layout, kind: Net, number: 2 }\
+                , left: 1, right: 0 })",
+        ]),
+    },
+    // The names of an inverter's input and output are exchanged.
+    Case {
+        layout: ".subckt inv a y v g\nm1 y a v v p l=1u w=2u\nm2 y a g g n l=1u w=1u\n.ends\n",
+        top: 0,
+        schematic: ".subckt inv a y v g\nm1 a y v v p l=1u w=2u\nm2 a y g g n l=1u w=1u\n.ends\n",
+        limit: 1000,
+        same_pins: true,
+        want: Some(&[
+            "Differs(Round { round: 1, node: Node { side: Layout, kind: Device, number: 0 }\
+                , left: 1, right: 0 })",
         ]),
     },
 ];
@@ -170,7 +212,16 @@ fn comes_out<R: Threads + Wait + Sync>(
         return Ok(false);
     }
     let found = compare(
-        rt, alloc, &layout, case.top, &schematic, &same, case.limit, workers, &OpenGate,
+        rt,
+        alloc,
+        &layout,
+        case.top,
+        &schematic,
+        &same,
+        case.limit,
+        case.same_pins,
+        workers,
+        &OpenGate,
     )?;
     match (found, case.want) {
         (None, None) => Ok(true),

@@ -7,5 +7,7 @@ mod compared;
 mod conditions;
 #[cfg(test)]
 mod many;
+#[cfg(test)]
+mod merged;
 mod pairs;
 mod wide;

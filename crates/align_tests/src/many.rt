@@ -69,7 +69,7 @@ fn matched<R: Threads + Wait + Sync>(
         return Ok(0);
     }
     let found = compare(
-        rt, alloc, &netlist, PAIRS, &netlist, &same, 1, workers, &OpenGate,
+        rt, alloc, &netlist, PAIRS, &netlist, &same, 1, false, workers, &OpenGate,
     )?;
     let Some(made) = found else {
         return Ok(0);

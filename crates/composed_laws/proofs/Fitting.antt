@@ -1,5 +1,5 @@
 -- Each pair fits where the answers of the pairs that it calls are right, and a right match is a correspondence.
-use Rattle.std.proofs.Common.{◌≡◌, inl, inr, ℕ, zero, suc, ◌<◌, ◌≤◌, ◌==◌, true, cond, ◌||◌, List, [], ◌∷◌, length, take, get_or, Option, Some, None, slice_get, refl, sym, ◌∙◌, ap, subst, arith}
+use Rattle.std.proofs.Common.{◌≡◌, inl, inr, ℕ, zero, suc, ◌<◌, ◌≤◌, ◌==◌, Bool, true, cond, ◌||◌, List, [], ◌∷◌, length, take, get_or, Option, Some, None, slice_get, refl, sym, ◌∙◌, ap, subst, arith}
 use Rattle.std.specs.List.{list_any}
 use Rattle.std.proofs.lemmas.Bool.Decides.{Decides-eqb}
 use Rattle.std.proofs.lemmas.Option.{slice_get-get_or, same_Some, none-some}
@@ -15,7 +15,7 @@ use Rattle.match_laws.specs.Answer.{Answer, Match, DiffersInRound, DiffersByTree
 use Rattle.match_laws.proofs.Answer.{matched}
 use Rattle.align_laws.specs.Lists.{circuit_or}
 use Rattle.align_laws.specs.Partners.{AreSides}
-use Rattle.composed_laws.specs.Answered.{pairing_or, right_pins, children_of, is_called, children_in, pair_in}
+use Rattle.composed_laws.specs.Answered.{pairing_or, right_pins, children_of, is_called, children_in, pair_in, Asked}
 use Rattle.composed_laws.proofs.PinLists.{listed_at, one_to_one, same_long}
 
 pub any_listed : (q : ℕ) (rows : List CallRow) → list_any (λ (r : CallRow). r.circuit == q) rows ≡ true → (k : ℕ) × (row : CallRow) × (slice_get rows k ≡ Some row) × (row.circuit ≡ q)
@@ -34,8 +34,8 @@ match_of c (Undecided gs) pins e = absurd (none-some pins e)
 match_of c (Skipped q) pins e = absurd (none-some pins e)
 
 -- the answers of the pairs below n in height are right
-module _ (left right : Netlist) (height : ℕ → ℕ) (left_good : IsGood left height) (right_height : ℕ → ℕ) (right_good : IsGood right right_height) (limit : ℕ) (answers : ℕ → Answer) (sides : AreSides left right) (n : ℕ)
-    (each : (k : ℕ) (c d : Circuit) → height k < n → IsCircuit left k c → IsCircuit right k d → IsAnswer (pair_in left answers c d) (equal_names (pair_in left answers c d)) limit (answers k)) where
+module _ (left right : Netlist) (height : ℕ → ℕ) (left_good : IsGood left height) (right_height : ℕ → ℕ) (right_good : IsGood right right_height) (asked : Asked) (answers : ℕ → Answer) (sides : AreSides left right) (n : ℕ)
+    (each : (k : ℕ) (c d : Circuit) → height k < n → IsCircuit left k c → IsCircuit right k d → IsAnswer (pair_in (asked.told k) left answers c d) (equal_names (pair_in (asked.told k) left answers c d)) asked.limit (answers k)) where
   abbrev kids : ℕ → Option (List ℕ)
   kids = children_of left answers
 
@@ -75,10 +75,10 @@ module _ (left right : Netlist) (height : ℕ → ℕ) (left_good : IsGood left 
   right_inside k c is = pins_inside right k c right_good.within.pins right_good.pins is
 
   -- the right pins of a pair with a correspondence
-  pub list_of : (ch : ℕ → Option (List ℕ)) (k : ℕ) (c d : Circuit) (f : Pairing) → IsCircuit left k c → IsCircuit right k d → IsCorrespondence (record { left = c; right = d; children = ch }) f
+  pub list_of : (ch : ℕ → Option (List ℕ)) (told : Bool) (k : ℕ) (c d : Circuit) (f : Pairing) → IsCircuit left k c → IsCircuit right k d → IsCorrespondence (record { left = c; right = d; children = ch; told = told }) f
       → IsOneToOne (take (length c.pins) f.nets) (length c.pins) (length c.pins) × (length c.pins ≡ length d.pins)
-  list_of ch k c d f is it h =
-      let p : Pair = record { left = c; right = d; children = ch } in (
+  list_of ch told k c d f is it h =
+      let p : Pair = record { left = c; right = d; children = ch; told = told } in (
         one_to_one p f h (left_first k c is) (right_first k d it) (left_inside k c is) (right_inside k d it),
         same_long p f h (left_first k c is) (right_first k d it) (left_inside k c is) (right_inside k d it),
       )
@@ -111,7 +111,7 @@ module _ (left right : Netlist) (height : ℕ → ℕ) (left_good : IsGood left 
   abbrev pub AreBelow : Circuit → Type 0
   AreBelow c = (q : ℕ) (pins : List ℕ) → children_in left answers c q ≡ Some pins → (x : Circuit) × (y : Circuit) × IsCircuit left q x × IsCircuit right q y × IsOneToOne pins (length x.pins) (length x.pins) × (length x.pins ≡ length y.pins)
 
-  pub fit_left : (k : ℕ) (c d : Circuit) → IsCircuit left k c → AreBelow c → IsFitting (pair_in left answers c d) Layout
+  pub fit_left : (k : ℕ) (c d : Circuit) → IsCircuit left k c → AreBelow c → IsFitting (pair_in (asked.told k) left answers c d) Layout
   fit_left k c d is below = record {
     devices = λ j row at e i. ends_in left k c Layout (nets_in left left_good.within.devices k c is) j row at e i;
     calls = λ j row at m i. call_in left left_good.within.calls k c is j row at m i;
@@ -122,7 +122,7 @@ module _ (left right : Netlist) (height : ℕ → ℕ) (left_good : IsGood left 
         subst (λ z. IsOneToOne pins z z) (sym long) b.4;
   }
 
-  pub fit_right : (k : ℕ) (c d : Circuit) → IsCircuit right k d → AreBelow c → IsFitting (pair_in left answers c d) Schematic
+  pub fit_right : (k : ℕ) (c d : Circuit) → IsCircuit right k d → AreBelow c → IsFitting (pair_in (asked.told k) left answers c d) Schematic
   fit_right k c d it below = record {
     devices = λ j row at e i. ends_in right k d Schematic (nets_in right right_good.within.devices k d it) j row at e i;
     calls = λ j row at m i. call_in right right_good.within.calls k d it j row at m i;
@@ -135,7 +135,7 @@ module _ (left right : Netlist) (height : ℕ → ℕ) (left_good : IsGood left 
 
   -- matches below m in height are correspondences
   abbrev AreRight : ℕ → Type 0
-  AreRight m = (k : ℕ) (c d : Circuit) (f : Pairing) → height k < m → IsCircuit left k c → IsCircuit right k d → answers k ≡ Match f → IsCorrespondence (pair_in left answers c d) f
+  AreRight m = (k : ℕ) (c d : Circuit) (f : Pairing) → height k < m → IsCircuit left k c → IsCircuit right k d → answers k ≡ Match f → IsCorrespondence (pair_in (asked.told k) left answers c d) f
 
   below_of : (m k : ℕ) (c : Circuit) → height k ≤ m → IsCircuit left k c → AreRight m → AreBelow c
   below_of m k c low is right_below q pins h =
@@ -147,15 +147,15 @@ module _ (left right : Netlist) (height : ℕ → ℕ) (left_good : IsGood left 
       let other = sides.there q called.0 here in
       let f = kids_from q called.0 pins here r.0 in
       let lower : height q < m = let e = ap height r.1.3 in omega arith in
-      let one = list_of (children_in left answers called.0) q called.0 other.0 f.0 here other.1 (right_below q called.0 other.0 f.0 lower here other.1 f.1) in
+      let one = list_of (children_in left answers called.0) (asked.told q) q called.0 other.0 f.0 here other.1 (right_below q called.0 other.0 f.0 lower here other.1 f.1) in
       (called.0, other.0, here, other.1, subst (λ (l : List ℕ). IsOneToOne l (length called.0.pins) (length called.0.pins)) f.2 one.0, one.1)
 
   are_right : (m : ℕ) → m ≤ n → AreRight m
   are_right zero small k c d f low is it e = absurd (omega arith)
   are_right (suc m) small k c d f low is it e =
       let below = below_of m k c (omega arith) is (are_right m (omega arith)) in
-      matched (pair_in left answers c d) (equal_names (pair_in left answers c d)) limit f (fit_left k c d is below) (fit_right k c d it below)
-      (subst (λ a. IsAnswer (pair_in left answers c d) (equal_names (pair_in left answers c d)) limit a) e (each k c d (omega arith) is it))
+      matched (pair_in (asked.told k) left answers c d) (equal_names (pair_in (asked.told k) left answers c d)) asked.limit f (fit_left k c d is below) (fit_right k c d it below)
+      (subst (λ a. IsAnswer (pair_in (asked.told k) left answers c d) (equal_names (pair_in (asked.told k) left answers c d)) asked.limit a) e (each k c d (omega arith) is it))
 
-  pub corresponds : (k : ℕ) (c d : Circuit) (f : Pairing) → height k < n → IsCircuit left k c → IsCircuit right k d → answers k ≡ Match f → IsCorrespondence (pair_in left answers c d) f
+  pub corresponds : (k : ℕ) (c d : Circuit) (f : Pairing) → height k < n → IsCircuit left k c → IsCircuit right k d → answers k ≡ Match f → IsCorrespondence (pair_in (asked.told k) left answers c d) f
   corresponds k c d f low is it e = are_right n (omega arith) k c d f low is it e

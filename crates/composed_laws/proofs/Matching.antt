@@ -36,12 +36,12 @@ aligned_match layout l r schematic v w a b children pairings match sl sr c d kep
     (subst (λ (u : ℕ). Corresponds (expanded l (v.number c)) (expanded r u) (AreDevicesPaired l pairings (v.number c)) (AreNetsPaired l pairings (v.number c))) number (composes l r children pairings match sl sr (v.number c)))
 
 pub matched_netlists : MatchedNetlistsLaw
-matched_netlists layout schematic top right_top same left right v w p limit answers pairings each all c d pair =
+matched_netlists layout schematic top right_top same left right v w p asked answers pairings each all c d pair =
     let sides = aligned_sides layout schematic top right_top same left right v w p in
-    let m = answered left right limit answers pairings sides each all in
+    let m = answered left right asked answers pairings sides each all in
     aligned_match layout left right schematic v w p.left_aligned p.right_aligned _ pairings m.0 m.1 m.2 c d ((p.pairs.left_kept c).1 (d, pair)) ((p.pairs.right_kept d).1 (c, pair)) (p.pairs.together c d pair)
 
 pub matched_tops : MatchedTopsLaw
-matched_tops layout schematic top right_top same left right v w p limit answers pairings each all =
+matched_tops layout schematic top right_top same left right v w p asked answers pairings each all =
     let pair : IsPair layout schematic top same right_top top right_top = record { tops = p.partner; partner = p.partner; called = ([], refl); right_called = ([], refl); devices = inl refl } in
-    matched_netlists layout schematic top right_top same left right v w p limit answers pairings each all top right_top pair
+    matched_netlists layout schematic top right_top same left right v w p asked answers pairings each all top right_top pair

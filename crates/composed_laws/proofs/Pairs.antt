@@ -1,5 +1,5 @@
 -- A match of each pair names pairs that are one to one and onto, so both netlists expand to the same.
-use Rattle.std.proofs.Common.{◌≡◌, inl, inr, ℕ, suc, ◌<◌, List, [], ◌∷◌, length, slice_index, Option, Some, slice_get, refl, sym, ◌∙◌, ap, subst, arith}
+use Rattle.std.proofs.Common.{◌≡◌, inl, inr, ℕ, suc, ◌<◌, false, List, [], ◌∷◌, length, slice_index, Option, Some, slice_get, refl, sym, ◌∙◌, ap, subst, arith}
 use Rattle.std.proofs.lemmas.Option.{same_Some, slice_get_within, slice_get-get_or, get_or_from_slice_get}
 use Rattle.plain_netlist.specs.Lists.{IsListed}
 use Rattle.plain_netlist.specs.Netlist.{Pole, Source, Gate, Drain, Bulk, on, DeviceRow, CallRow, Circuit, Netlist, IsCircuit, IsCall, IsDevice, HasNet, HasDevice, Slot, slot}
@@ -45,10 +45,10 @@ module _ (left right : Netlist) (children : ℕ → Option (List ℕ)) (m : ℕ 
   abbrev Call : ℕ → ℕ → ℕ → Type 0
   Call = IsCallPair left m
 
-  pair_at : (c : ℕ) (x : Circuit) → IsCircuit left c x → (y : Circuit) × IsCircuit right c y × IsCorrespondence (record { left = x; right = y; children = children }) (m c)
+  pair_at : (c : ℕ) (x : Circuit) → IsCircuit left c x → (y : Circuit) × IsCircuit right c y × IsCorrespondence (record { left = x; right = y; children = children; told = false }) (m c)
   pair_at c x is = let y = match.there c x is in (y.0, y.1, match.each c x y.0 is y.1)
 
-  pair_back : (c : ℕ) (y : Circuit) → IsCircuit right c y → (x : Circuit) × IsCircuit left c x × IsCorrespondence (record { left = x; right = y; children = children }) (m c)
+  pair_back : (c : ℕ) (y : Circuit) → IsCircuit right c y → (x : Circuit) × IsCircuit left c x × IsCorrespondence (record { left = x; right = y; children = children; told = false }) (m c)
   pair_back c y is = let x = match.back c y is in (x.0, x.1, match.each c x.0 y x.1 is)
 
   -- the nets of one circuit

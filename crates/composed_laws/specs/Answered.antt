@@ -39,48 +39,59 @@ is_called c q = list_any (λ (r : CallRow). r.circuit == q) c.calls
 abbrev pub children_in : Netlist → (ℕ → Answer) → Circuit → ℕ → Option (List ℕ)
 children_in left answers c q = cond (is_called c q) (children_of left answers q) None
 
+-- what is asked of all pairs: how many guesses may be refuted, and of which pairs names tell the
+-- pins apart
+pub record Asked : Type 0 where
+  pub limit : ℕ
+  pub told : ℕ → Bool
+
 -- the two circuits of a pair, as they are compared
-abbrev pub pair_in : Netlist → (ℕ → Answer) → Circuit → Circuit → Pair
-pair_in left answers c d = record { left = c; right = d; children = children_in left answers c }
+abbrev pub pair_in : Bool → Netlist → (ℕ → Answer) → Circuit → Circuit → Pair
+pair_in told left answers c d = record {
+  left = c;
+  right = d;
+  children = children_in left answers c;
+  told = told;
+}
 
 -- each pair has its answer, given those of the pairs that its left circuit calls
-abbrev pub AreAnswers : Netlist → Netlist → ℕ → (ℕ → Answer) → Type 0
-AreAnswers left right limit answers = (k : ℕ) (c d : Circuit) → IsCircuit left k c
+abbrev pub AreAnswers : Netlist → Netlist → Asked → (ℕ → Answer) → Type 0
+AreAnswers left right asked answers = (k : ℕ) (c d : Circuit) → IsCircuit left k c
     → IsCircuit right k d
-    → IsAnswer (pair_in left answers c d) (equal_names (pair_in left answers c d)) limit (answers k)
+    → IsAnswer (pair_in (asked.told k) left answers c d) (equal_names (pair_in (asked.told k) left answers c d)) asked.limit (answers k)
 
 -- a is the answer of pair k, given answers of the pairs that its left circuit calls, at most n deep
-abbrev pub IsAnswerAt : Netlist → Netlist → ℕ → ℕ → ℕ → Answer → Type 0
-IsAnswerAt left right limit zero k a = ⊥
-IsAnswerAt left right limit (suc n) k a = (c : Circuit) × (d : Circuit) × (read : ℕ → Answer)
+abbrev pub IsAnswerAt : Netlist → Netlist → Asked → ℕ → ℕ → Answer → Type 0
+IsAnswerAt left right asked zero k a = ⊥
+IsAnswerAt left right asked (suc n) k a = (c : Circuit) × (d : Circuit) × (read : ℕ → Answer)
     × IsCircuit left k c × IsCircuit right k d
-    × ((q : ℕ) → is_called c q ≡ true → IsAnswerAt left right limit n q (read q))
-    × IsAnswer (pair_in left read c d) (equal_names (pair_in left read c d)) limit a
+    × ((q : ℕ) → is_called c q ≡ true → IsAnswerAt left right asked n q (read q))
+    × IsAnswer (pair_in (asked.told k) left read c d) (equal_names (pair_in (asked.told k) left read c d)) asked.limit a
 
 -- the answer of pair k, where children stand before callers: what its job is to give
-abbrev pub IsAnswerOf : Netlist → Netlist → ℕ → ℕ → Answer → Type 0
-IsAnswerOf left right limit k a = IsAnswerAt left right limit (suc k) k a
+abbrev pub IsAnswerOf : Netlist → Netlist → Asked → ℕ → Answer → Type 0
+IsAnswerOf left right asked k a = IsAnswerAt left right asked (suc k) k a
 
 -- a pair has one answer
 abbrev pub OneAnswerOfLaw : Type 0
-OneAnswerOfLaw = (left right : Netlist) (limit k : ℕ) (a b : Answer) → AreSides left right
-    → IsAnswerOf left right limit k a → IsAnswerOf left right limit k b → a ≡ b
+OneAnswerOfLaw = (left right : Netlist) (asked : Asked) (k : ℕ) (a b : Answer) → AreSides left right
+    → IsAnswerOf left right asked k a → IsAnswerOf left right asked k b → a ≡ b
 
 -- what comes of right answers that were read is right, and with them the pair can be compared
 abbrev pub ReadAnswersLaw : Type 0
-ReadAnswersLaw = (left right : Netlist) (limit k : ℕ) (c d : Circuit) (read : ℕ → Answer)
+ReadAnswersLaw = (left right : Netlist) (asked : Asked) (k : ℕ) (c d : Circuit) (read : ℕ → Answer)
     → AreSides left right → IsGood left (λ k. k) → IsCircuit left k c → IsCircuit right k d
-    → ((q : ℕ) → is_called c q ≡ true → IsAnswerOf left right limit q (read q))
-    → IsFitting (pair_in left read c d) Layout × IsFitting (pair_in left read c d) Schematic
-    × ((a : Answer) → IsAnswer (pair_in left read c d) (equal_names (pair_in left read c d)) limit a
-    → IsAnswerOf left right limit k a)
+    → ((q : ℕ) → is_called c q ≡ true → IsAnswerOf left right asked q (read q))
+    → IsFitting (pair_in (asked.told k) left read c d) Layout × IsFitting (pair_in (asked.told k) left read c d) Schematic
+    × ((a : Answer) → IsAnswer (pair_in (asked.told k) left read c d) (equal_names (pair_in (asked.told k) left read c d)) asked.limit a
+    → IsAnswerOf left right asked k a)
 
 -- right answers of all pairs are the answers
 abbrev pub TogetherAnswersLaw : Type 0
-TogetherAnswersLaw = (left right : Netlist) (limit : ℕ) (answers : ℕ → Answer) → AreSides left right
+TogetherAnswersLaw = (left right : Netlist) (asked : Asked) (answers : ℕ → Answer) → AreSides left right
     → IsGood left (λ k. k)
-    → AreAnswers left right limit answers
-    ↔ ((k : ℕ) (c : Circuit) → IsCircuit left k c → IsAnswerOf left right limit k (answers k))
+    → AreAnswers left right asked answers
+    ↔ ((k : ℕ) (c : Circuit) → IsCircuit left k c → IsAnswerOf left right asked k (answers k))
 
 -- each answer is a match, with these pairings
 abbrev pub AreMatches : Netlist → (ℕ → Answer) → (ℕ → Pairing) → Type 0
@@ -89,7 +100,7 @@ AreMatches left answers pairings = (k : ℕ) (c : Circuit) → IsCircuit left k 
 
 -- where every answer is a match, the two sides match
 abbrev pub AnsweredLaw : Type 0
-AnsweredLaw = (left right : Netlist) (limit : ℕ) (answers : ℕ → Answer) (pairings : ℕ → Pairing)
-    → AreSides left right → AreAnswers left right limit answers → AreMatches left answers pairings
+AnsweredLaw = (left right : Netlist) (asked : Asked) (answers : ℕ → Answer) (pairings : ℕ → Pairing)
+    → AreSides left right → AreAnswers left right asked answers → AreMatches left answers pairings
     → IsMatch left right (children_of left answers) pairings
     × IsComparable left (children_of left answers) × IsComparable right (children_of left answers)

@@ -1,5 +1,5 @@
 -- Matched pairs compose: where every pair matches, two netlists expand to the same.
-use Rattle.std.specs.Prelude.{◌≡◌, ◌<◌, ℕ, List, length, Option, Some, slice_get, slice_index}
+use Rattle.std.specs.Prelude.{◌≡◌, ◌<◌, ℕ, false, List, length, Option, Some, slice_get, slice_index}
 use Rattle.plain_netlist.specs.Netlist.{CallRow, Circuit, Netlist, IsCircuit, IsCall, Slot}
 use Rattle.plain_netlist.specs.Sound.{AreNetsThere, AreCallsFitting}
 use Rattle.plain_netlist.specs.Flats.{Corresponds, expanded}
@@ -13,7 +13,8 @@ pub record IsMatch (left right : Netlist) (children : ℕ → Option (List ℕ))
   pub there : (k : ℕ) (c : Circuit) → IsCircuit left k c → (d : Circuit) × IsCircuit right k d
   pub back : (k : ℕ) (d : Circuit) → IsCircuit right k d → (c : Circuit) × IsCircuit left k c
   pub each : (k : ℕ) (c d : Circuit) → IsCircuit left k c → IsCircuit right k d
-      → IsCorrespondence (record { left = c; right = d; children = children }) (pairings k)
+      → IsCorrespondence (record { left = c; right = d; children = children; told = false })
+      (pairings k)
   pub pins : (k : ℕ) (c d : Circuit) (pins : List ℕ) → IsCircuit left k c → IsCircuit right k d
       → children k ≡ Some pins → (i : ℕ) → i < length c.pins
       → slice_index (pairings k).nets (slice_index c.pins i)

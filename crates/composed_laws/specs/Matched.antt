@@ -8,7 +8,7 @@ use Rattle.match_laws.specs.Circuits.{Pairing}
 use Rattle.align_laws.specs.Aligned.{IsAligned, IsDeviceAligned, IsNetAligned}
 use Rattle.align_laws.specs.Cut.{Alignment}
 use Rattle.align_laws.specs.Partners.{IsAlignedPair, IsPair}
-use Rattle.composed_laws.specs.Answered.{AreAnswers, AreMatches}
+use Rattle.composed_laws.specs.Answered.{AreAnswers, AreMatches, Asked}
 use Rattle.composed_laws.specs.Composed.{IsMatch, IsComparable, AreDevicesPaired, AreNetsPaired}
 
 -- a layout's netlist and a schematic, their aligned netlists, and the pairings of these
@@ -45,8 +45,8 @@ abbrev pub MatchedNetlistsLaw : Type 0
 MatchedNetlistsLaw = (layout schematic : Netlist) (top right_top : ℕ)
     (same : List (List ℕ × List ℕ)) (left right : Netlist) (v w : Alignment)
     (p : IsAlignedPair layout schematic top right_top same left right v w)
-    (limit : ℕ) (answers : ℕ → Answer) (pairings : ℕ → Pairing)
-    → AreAnswers left right limit answers → AreMatches left answers pairings
+    (asked : Asked) (answers : ℕ → Answer) (pairings : ℕ → Pairing)
+    → AreAnswers left right asked answers → AreMatches left answers pairings
     → (c d : ℕ) → IsPair layout schematic top same right_top c d
     → Corresponds (expanded layout c) (expanded schematic d)
     (AreDevicesMatched layout left right schematic v w p.left_aligned p.right_aligned pairings c d)
@@ -57,8 +57,8 @@ abbrev pub MatchedTopsLaw : Type 0
 MatchedTopsLaw = (layout schematic : Netlist) (top right_top : ℕ)
     (same : List (List ℕ × List ℕ)) (left right : Netlist) (v w : Alignment)
     (p : IsAlignedPair layout schematic top right_top same left right v w)
-    (limit : ℕ) (answers : ℕ → Answer) (pairings : ℕ → Pairing)
-    → AreAnswers left right limit answers → AreMatches left answers pairings
+    (asked : Asked) (answers : ℕ → Answer) (pairings : ℕ → Pairing)
+    → AreAnswers left right asked answers → AreMatches left answers pairings
     → Corresponds (expanded layout top) (expanded schematic right_top)
     (AreDevicesMatched layout left right schematic v w p.left_aligned p.right_aligned pairings top
     right_top)

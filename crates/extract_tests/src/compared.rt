@@ -3,7 +3,7 @@
 use crate::commands::{EXTRACT, Inputs, NONE, RUN, ends, holds, run_of};
 use crate::drawn::Item::{Placed, Rect};
 use crate::drawn::{Cell, library};
-use crate::layouts::{INVERTER, INVERTER_RULES, MOS, ONE_GROUP, T, T_SCHEMATIC};
+use crate::layouts::{COMBINED, INVERTER, INVERTER_RULES, MOS, ONE_GROUP, T, T_SCHEMATIC};
 use std::alloc::{AllocError, Global};
 use std::process::Abort;
 use std::sync::Wait;
@@ -37,6 +37,18 @@ device 1 1
 end
 ";
 
+// The report of a width that the schematic hasn't.
+const T_WIDTH: &str = "lvs report 1
+top T T
+bad 0
+pair T T differs
+round 0 of layout device 1 layout 1 schematic 0
+end
+";
+
+// T's transistor in two fingers.
+const FINGERS: &str = ".subckt t g s d vss\nm1 d g s vss nmos l=0.25u w=0.75u m=2\n.ends\n";
+
 /// A transistor two levels down.
 pub const THREE: &[Cell] = &[
     T,
@@ -44,7 +56,7 @@ pub const THREE: &[Cell] = &[
     Cell("TOP", &[Placed("MID", 0, 0)]),
 ];
 
-const CASES: [Case; 13] = [
+const CASES: [Case; 15] = [
     Case {
         name: "one_transistor_run",
         layout: &[T],
@@ -81,13 +93,26 @@ end
         schematic: ".subckt t g s d vss\nm1 d g s vss nmos l=0.25u w=1.4u\n.ends\n",
         code: 1,
         line: MISMATCH,
-        report: "lvs report 1
-top T T
-bad 0
-pair T T differs
-round 0 of layout device 1 layout 1 schematic 0
-end
-",
+        report: T_WIDTH,
+    },
+    // Two fingers are one transistor only where the rules combine devices.
+    Case {
+        name: "two fingers",
+        layout: &[T],
+        rules: MOS,
+        schematic: FINGERS,
+        code: 1,
+        line: MISMATCH,
+        report: T_WIDTH,
+    },
+    Case {
+        name: "two fingers combined",
+        layout: &[T],
+        rules: COMBINED,
+        schematic: FINGERS,
+        code: 0,
+        line: MATCH,
+        report: T_REPORT,
     },
     // A transistor has no direction.
     Case {

@@ -16,6 +16,20 @@ connect(poly, txt)
 connect_global(bulk, "VSS")
 "#;
 
+/// The same, with alike transistors as one.
+pub const COMBINED: &str = r#"active = input(2, 0)
+poly = input(3, 0)
+txt = labels(5, 1)
+bulk = polygon_layer
+gate = active & poly
+sd = active - poly
+extract_devices(mos4("NMOS"), { "SD" => sd, "G" => gate, "W" => bulk, "tG" => poly })
+connect(sd, txt)
+connect(poly, txt)
+connect_global(bulk, "VSS")
+combine_devices
+"#;
+
 /// One transistor with names at its terminals.
 pub const T: Cell = Cell(
     "T",

@@ -1,2 +1,3 @@
 pub mod Flattened
 pub mod Whole
+pub mod Merged

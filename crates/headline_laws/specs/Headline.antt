@@ -3,7 +3,7 @@
 use Rattle.std.specs.Prelude.{ℕ, List}
 use Rattle.align_laws.specs.Cut.{Alignment}
 use Rattle.align_laws.specs.Partners.{IsAlignedPair}
-use Rattle.composed_laws.specs.Answered.{AreAnswers, AreMatches}
+use Rattle.composed_laws.specs.Answered.{AreAnswers, AreMatches, Asked}
 use Rattle.composed_laws.specs.Matched.{AreDevicesMatched, AreNetsMatched}
 use Rattle.flat_layout.specs.Circuits.{IsCircuitCell}
 use Rattle.flat_layout.specs.Expanded.{AreTablesRight, CircuitTables}
@@ -26,8 +26,8 @@ MatchedLayoutLaw = (d : Design) (w : Wiring) (t : Tables) (g : CircuitTables) (l
     → (schematic : Netlist) (right_top : ℕ) (same : List (List ℕ × List ℕ)) (left right : Netlist)
     (v c : Alignment)
     → (p : IsAlignedPair layout schematic top right_top same left right v c)
-    → (limit : ℕ) (answers : ℕ → Answer) (pairings : ℕ → Pairing)
-    → AreAnswers left right limit answers → AreMatches left answers pairings
+    → (asked : Asked) (answers : ℕ → Answer) (pairings : ℕ → Pairing)
+    → AreAnswers left right asked answers → AreMatches left answers pairings
     → Corresponds (flat_netlist d w rules unit) (expanded schematic right_top)
     (Through (Reversed (IsFlatGateOf d w g layout top rules))
     (AreDevicesMatched layout left right schematic v c p.left_aligned p.right_aligned pairings top

@@ -1,2 +1,3 @@
 pub mod FlatNetlist
 pub mod Headline
+pub mod Merged

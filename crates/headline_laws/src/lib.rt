@@ -8,6 +8,7 @@
 
 ghost use Rattle.headline_laws.specs.FlatNetlist.{FlatCorrespondsLaw, TopCircuitLaw};
 ghost use Rattle.headline_laws.specs.Headline.{MatchedLayoutLaw};
+ghost use Rattle.headline_laws.specs.Merged.{MergedMatchLaw};
 
 /// The netlist made of a hierarchical layout's cells is that of the flat layout.
 pub fn flat_layouts()
@@ -18,4 +19,9 @@ pub fn flat_layouts()
 /// A match of all pairs is a correspondence of the flat layout with the flattened schematic.
 pub fn matched_layouts()
     ensures { MatchedLayoutLaw }
+{}
+
+/// A match of all pairs of the merged netlists is a correspondence of the two when merged flat.
+pub fn merged_layouts()
+    ensures { MergedMatchLaw }
 {}

@@ -1,10 +1,11 @@
 -- The rounds of both pairs leave single classes, so both answers are matches.
-use Rattle.std.proofs.Common.{◌≡◌, inl, inr, ℕ, zero, suc, ◌<◌, ◌≤◌, List, [], ◌∷◌, length, Some, refl, sym, ◌∙◌, ap, subst, arith}
+use Rattle.std.proofs.Common.{◌≡◌, inl, inr, ℕ, false, zero, suc, ◌<◌, ◌≤◌, List, [], ◌∷◌, length, Some, refl, sym, ◌∙◌, ap, subst, arith}
 use Rattle.std.proofs.lemmas.Option.{none-some, same_Some}
 use Rattle.composed_laws.specs.Answered.{AreAnswers, pair_in}
 use Rattle.flat_sample.specs.Transistors.{child_circuit, gate_netlist, parent_circuit}
 use Rattle.headline_sample.specs.Matched.{answers, pairings, part, schematic, whole}
 use Rattle.latch_laws.proofs.Checks.{even_by, Holds, single_left, single_right, stable_by, started, went_on}
+use Rattle.latch_laws.specs.Latch.{untold}
 use Rattle.match_laws.proofs.Images.{web_good}
 use Rattle.match_laws.specs.Answer.{equal_names, IsAnswer, IsPairing}
 use Rattle.match_laws.specs.Circuits.{AreMatched, IsFitting, IsOneToOne, numbers_of, Pair, Pairing, web_of}
@@ -18,7 +19,7 @@ use Rattle.round_laws.specs.Web.{IsEven, IsSolved, IsWeb, mate, under, Web}
 
 -- the pair of the two c
 abbrev parts : Pair
-parts = pair_in gate_netlist answers child_circuit part
+parts = pair_in false gate_netlist answers child_circuit part
 
 parts_fit : (side : Side) → IsFitting parts side
 parts_fit Layout = record {
@@ -70,7 +71,7 @@ parts_pairing = (
 
 -- the pair of the two p
 abbrev wholes : Pair
-wholes = pair_in gate_netlist answers parent_circuit whole
+wholes = pair_in false gate_netlist answers parent_circuit whole
 
 low_net : (x y : ℕ) → x < 4 → y < 4 → (n : ℕ) → IsListed n (x ∷ y ∷ []) → n < 4
 low_net x y h k n (inl e) = subst (λ m. m < 4) (sym e) h
@@ -130,7 +131,7 @@ wholes_pairing = (
 )
 
 abbrev Answered : ℕ → Circuit → Circuit → Type 0
-Answered k c d = IsAnswer (pair_in gate_netlist answers c d) (equal_names (pair_in gate_netlist answers c d)) 1 (answers k)
+Answered k c d = IsAnswer (pair_in false gate_netlist answers c d) (equal_names (pair_in false gate_netlist answers c d)) 1 (answers k)
 
 parts_answered : Answered 0 child_circuit part
 parts_answered = ((λ k c h. absurd (none-some c h)), inl parts_pairing)
@@ -138,7 +139,7 @@ parts_answered = ((λ k c h. absurd (none-some c h)), inl parts_pairing)
 wholes_answered : Answered 1 parent_circuit whole
 wholes_answered = (wholes_matched, inl wholes_pairing)
 
-pub answered : AreAnswers gate_netlist schematic 1 answers
+pub answered : AreAnswers gate_netlist schematic untold answers
 answered zero c d h g = subst (λ (x : Circuit). Answered 0 x d) (same_Some _ _ h) (subst (λ (y : Circuit). Answered 0 child_circuit y) (same_Some _ _ g) parts_answered)
 answered (suc zero) c d h g = subst (λ (x : Circuit). Answered 1 x d) (same_Some _ _ h) (subst (λ (y : Circuit). Answered 1 parent_circuit y) (same_Some _ _ g) wholes_answered)
 answered (suc (suc k)) c d h g = absurd (none-some c h)

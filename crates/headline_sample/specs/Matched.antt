@@ -16,6 +16,7 @@ use Rattle.flat_sample.specs.Transistors.{gate_netlist, gate_rules, gate_tables,
 use Rattle.flat_sample.specs.Transistors.{parent_circuit, row_on}
 use Rattle.headline_laws.specs.FlatNetlist.{flat_netlist, IsFlatDevice, IsFlatGateOf}
 use Rattle.headline_laws.specs.FlatNetlist.{IsFlatRegionOf}
+use Rattle.latch_laws.specs.Latch.{untold}
 use Rattle.match_laws.specs.Answer.{Answer, Match}
 use Rattle.match_laws.specs.Circuits.{Pairing}
 use Rattle.plain_netlist.specs.Flats.{Corresponds, expanded, Reversed, Row, Through}
@@ -86,7 +87,7 @@ MatchedSampleLaw =
     AreTablesRight gate_design gate_wiring gate_tables gate_circuits gate_netlist gate_rules 1000
     sample_level
     × IsCircuitCell gate_circuits.cells 1 gate_design.top
-    × ((p : IsSamplePair) × AreAnswers gate_netlist schematic 1 answers
+    × ((p : IsSamplePair) × AreAnswers gate_netlist schematic untold answers
     × AreMatches gate_netlist answers pairings
     × Corresponds (flat_netlist gate_design gate_wiring gate_rules 1000) (expanded schematic 1)
     (Through (Reversed (IsFlatGateOf gate_design gate_wiring gate_circuits gate_netlist 1

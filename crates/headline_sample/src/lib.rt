@@ -2,6 +2,7 @@
 //! says of the flat layout.
 #![tactic(auto)]
 
+ghost use Rattle.headline_sample.specs.Combined.{CombinedSampleLaw};
 ghost use Rattle.headline_sample.specs.Matched.{MatchedSampleLaw, TwoDevicesLaw};
 
 /// The layout's tables are right, its netlist and the schematic are aligned, each pair's answer is
@@ -10,4 +11,10 @@ ghost use Rattle.headline_sample.specs.Matched.{MatchedSampleLaw, TwoDevicesLaw}
 pub fn matched_layout()
     ensures matched { MatchedSampleLaw }
     ensures devices { TwoDevicesLaw }
+{}
+
+/// By rules that combine devices the same layout corresponds to a schematic in which each of its
+/// transistors is two fingers.
+pub fn combined_layout()
+    ensures { CombinedSampleLaw }
 {}

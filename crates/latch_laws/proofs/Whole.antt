@@ -18,7 +18,7 @@ use Rattle.align_laws.specs.Aligned.{IsAlignedBy, IsAligned, HasOnlyKept}
 use Rattle.align_laws.specs.Partners.{IsPartnerByName, IsPartner, IsPair, ArePairs}
 use Rattle.composed_laws.specs.Answered.{pair_in, AreAnswers}
 use Rattle.composed_laws.proofs.Matching.{matched_tops}
-use Rattle.latch_laws.specs.Latch.{latches, swapped, netlist_of, answers, pairings, alignment_of, IsLatchPair, WholeLatchLaw}
+use Rattle.latch_laws.specs.Latch.{untold, latches, swapped, netlist_of, answers, pairings, alignment_of, IsLatchPair, WholeLatchLaw}
 use Rattle.latch_laws.proofs.Checks.{all_at}
 use Rattle.latch_laws.proofs.Rounds.{answered}
 
@@ -231,10 +231,10 @@ pairs = record {
 pub aligned_pair : IsLatchPair
 aligned_pair = record { partner = partner; pairs = pairs; left_aligned = aligned Layout; right_aligned = aligned Schematic; left_only = only Layout; right_only = only Schematic }
 
-are_answers : AreAnswers (netlist_of Layout) (netlist_of Schematic) 1 answers
+are_answers : AreAnswers (netlist_of Layout) (netlist_of Schematic) untold answers
 are_answers k c d is also =
-    subst (λ (x : Circuit). IsAnswer (pair_in (netlist_of Layout) answers x d) (equal_names (pair_in (netlist_of Layout) answers x d)) 1 (Match swapped)) (one_only Layout k c is).1
-    (subst (λ (y : Circuit). IsAnswer (pair_in (netlist_of Layout) answers (circuit_of latches Layout) y) (equal_names (pair_in (netlist_of Layout) answers (circuit_of latches Layout) y)) 1 (Match swapped)) (one_only Schematic k d also).1
+    subst (λ (x : Circuit). IsAnswer (pair_in false (netlist_of Layout) answers x d) (equal_names (pair_in false (netlist_of Layout) answers x d)) 1 (Match swapped)) (one_only Layout k c is).1
+    (subst (λ (y : Circuit). IsAnswer (pair_in false (netlist_of Layout) answers (circuit_of latches Layout) y) (equal_names (pair_in false (netlist_of Layout) answers (circuit_of latches Layout) y)) 1 (Match swapped)) (one_only Schematic k d also).1
     (answered 1 (omega arith)))
 
 pub whole : WholeLatchLaw
@@ -242,6 +242,6 @@ whole = (
   aligned_pair,
   are_answers,
   (λ k c is. refl),
-  matched_tops (netlist_of Layout) (netlist_of Schematic) 0 0 [] (netlist_of Layout) (netlist_of Schematic) (alignment_of Layout) (alignment_of Schematic) aligned_pair 1 answers pairings
+  matched_tops (netlist_of Layout) (netlist_of Schematic) 0 0 [] (netlist_of Layout) (netlist_of Schematic) (alignment_of Layout) (alignment_of Schematic) aligned_pair untold answers pairings
       are_answers (λ k c is. refl),
 )

@@ -1,6 +1,6 @@
 -- A latch, and the same latch with its two inner nets drawn the other way round: one pair carried
 -- through all premises of a match.
-use Rattle.std.specs.Prelude.{◌<◌, ◌==◌, ltb, ℕ, List, [], ◌∷◌, None}
+use Rattle.std.specs.Prelude.{◌<◌, ◌==◌, ltb, ℕ, false, List, [], ◌∷◌, None}
 use Rattle.plain_netlist.specs.Flats.{Corresponds, expanded}
 use Rattle.plain_netlist.specs.Netlist.{DeviceRow, Circuit, Netlist}
 use Rattle.round_laws.specs.Nodes.{Side, Layout, Schematic}
@@ -8,7 +8,7 @@ use Rattle.match_laws.specs.Circuits.{Pair, Pairing, IsFitting, AreMatched, circ
 use Rattle.match_laws.specs.Answer.{Answer, Match, equal_names, IsAnswer}
 use Rattle.align_laws.specs.Cut.{Alignment}
 use Rattle.align_laws.specs.Partners.{IsAlignedPair}
-use Rattle.composed_laws.specs.Answered.{AreAnswers, AreMatches}
+use Rattle.composed_laws.specs.Answered.{AreAnswers, AreMatches, Asked}
 use Rattle.composed_laws.specs.Matched.{AreDevicesMatched, AreNetsMatched}
 
 -- a transistor of 0.1 micrometres' length, with its drain, gate, source and bulk
@@ -52,6 +52,7 @@ latches = record {
   left = latch (81 ∷ []) (81 ∷ 78 ∷ []) 5 6;
   right = latch (89 ∷ []) (88 ∷ []) 6 5;
   children = λ k. None;
+  told = false;
 }
 
 -- Q goes to X and QN to Y; each inverter's transistors go to those of the other one
@@ -90,13 +91,17 @@ IsLatchPair = IsAlignedPair (netlist_of Layout) (netlist_of Schematic) 0 0 []
 abbrev pub answers : ℕ → Answer
 answers k = Match swapped
 
+-- one refuted guess is allowed, and names tell no pins apart
+abbrev pub untold : Asked
+untold = record { limit = 1; told = λ k. false }
+
 abbrev pub pairings : ℕ → Pairing
 pairings k = swapped
 
 -- so all premises of a reported match are met, and both expand to the same
 abbrev pub WholeLatchLaw : Type 0
 WholeLatchLaw = (p : IsLatchPair)
-    × AreAnswers (netlist_of Layout) (netlist_of Schematic) 1 answers
+    × AreAnswers (netlist_of Layout) (netlist_of Schematic) untold answers
     × AreMatches (netlist_of Layout) answers pairings
     × Corresponds (expanded (netlist_of Layout) 0) (expanded (netlist_of Schematic) 0)
     (AreDevicesMatched _ _ _ _ _ _ p.left_aligned p.right_aligned pairings 0 0)

@@ -1,5 +1,5 @@
 -- What the answer of a comparison is, by its bad gates and its pairs.
-use Rattle.std.proofs.Common.{◌≡◌, inl, inr, ◌↔◌, ℕ, ◌<◌, true, false, true≢false, List, [], ◌∷◌, length, Option, Some, None, IsNone, refl, sym, ap, subst, ◌∙◌, arith}
+use Rattle.std.proofs.Common.{Bool, ◌≡◌, inl, inr, ◌↔◌, ℕ, ◌<◌, true, false, true≢false, List, [], ◌∷◌, length, Option, Some, None, IsNone, refl, sym, ap, subst, ◌∙◌, arith}
 use Rattle.std.proofs.lemmas.List.{nil_from_length}
 use Rattle.std.specs.List.{Any}
 use Rattle.cell_graph.specs.Linked.{Linked, plain}
@@ -16,10 +16,12 @@ use Rattle.pair_jobs.specs.declared.verdict.Verdict.{Verdict as Comparison}
 use Rattle.pair_jobs.specs.declared.verdict.Verdict.TheVariants as comparison
 use Rattle.plain_netlist.specs.Lists.{IsListed}
 use Rattle.plain_netlist.specs.Netlist.{Netlist}
+use Rattle.report_file.proofs.Combined.{compared_alignable, compared_order}
+use Rattle.report_file.specs.Combined.{CombinedAlignableLaw, compared_of}
 use Rattle.report_file.specs.Compared.{IsComparison}
 use Rattle.report_file.specs.File.{IsReportFile, all_answers}
 use Rattle.report_file.specs.Exact.{CorrespondNowhere, ExactReportLaw}
-use Rattle.report_file.specs.Matched.{MatchedReportLaw, Matching}
+use Rattle.report_file.specs.Matched.{MatchedReportLaw, Matching, MatchingLaw}
 use Rattle.report_file.specs.Turns.{IsTooLarge}
 use Rattle.refine_match.proofs.ClassCounts.{uneven_class}
 use Rattle.report_file.specs.Verdicts.{CarriedPairLaw, KeptPairLaw, UndecidedLaw, UnevenPairLaw}
@@ -54,12 +56,12 @@ exactly bad answers v w a one e h = (
 
 -- ---- the top's partner
 
-module _ (layout : Netlist) (top : ℕ) (schematic : Netlist) (same : List (List ℕ × List ℕ)) (limit : ℕ) where
-  no_partner : (o : Option Compared) → IsComparison layout top schematic same limit o → IsNone (all_answers o) → HasNoPartner layout schematic top same
+module _ (layout : Netlist) (top : ℕ) (schematic : Netlist) (same : List (List ℕ × List ℕ)) (limit : ℕ) (same_pins : Bool) where
+  no_partner : (o : Option Compared) → IsComparison layout top schematic same limit same_pins o → IsNone (all_answers o) → HasNoPartner layout schematic top same
   no_partner None h none = h
   no_partner (Some f) h none = let no : true ≡ false = none in absurd (true≢false no)
 
-  no_answers : (o : Option Compared) → IsComparison layout top schematic same limit o → HasNoPartner layout schematic top same → IsNone (all_answers o)
+  no_answers : (o : Option Compared) → IsComparison layout top schematic same limit same_pins o → HasNoPartner layout schematic top same → IsNone (all_answers o)
   no_answers None h none = refl
   no_answers (Some f) h none = absurd (none h.0.right_top h.0.are.partner)
 
@@ -78,7 +80,7 @@ stuck_of (Some f) h = (f, refl, h)
 -- ---- a mismatch
 
 exact_of : ExactReportLaw → (d : Linked) (r : Rules) (unit : ℕ) (layout : Netlist) (top : ℕ) (bad : List BadGate) (schematic : Netlist) (text : List ℕ) (pairs : ℕ) → IsAlignable layout → AreCalleesFirst layout → (v : Comparison) → v ≡ comparison.Mismatch
-    → (x : IsReportFile d r layout top bad schematic text pairs v) → r.flattens_unmatched ≡ true → bad ≡ [] → (f : Compared) → x.compared ≡ Some f → ((lines : List ℕ) → IsTooLarge r f lines → ⊥)
+    → (x : IsReportFile d r (compared_of r layout) top bad (compared_of r schematic) text pairs v) → r.flattens_unmatched ≡ true → bad ≡ [] → (f : Compared) → x.compared ≡ Some f → ((lines : List ℕ) → IsTooLarge r f lines → ⊥)
     → (m : Matching d r unit layout top schematic f) → CorrespondNowhere d r unit layout top schematic f m
 exact_of law d r unit layout top bad schematic text pairs fine first comparison.Mismatch e x on none f is small m = law d r unit layout top bad schematic text pairs fine first x on none f is small m
 exact_of law d r unit layout top bad schematic text pairs fine first comparison.Match e x on none f is small m = absurd (let z : ⊥ = cc in z)
@@ -86,14 +88,27 @@ exact_of law d r unit layout top bad schematic text pairs fine first comparison.
 
 -- ---- what was compared
 
-module _ (one : OneRunVerdictLaw) (uneven : UnevenPairLaw) (carried : CarriedPairLaw) (kept : KeptPairLaw) (undecided : UndecidedLaw) (exact : ExactReportLaw) (l : Layout) (r : Rules) (nl : Netlist) (path netlist_path report_path : List ℕ) (a : Answer) (done : Done)
+module _ (alignable : CombinedAlignableLaw) (one : OneRunVerdictLaw) (uneven : UnevenPairLaw) (carried : CarriedPairLaw) (kept : KeptPairLaw) (undecided : UndecidedLaw) (exact : ExactReportLaw) (joined : MatchingLaw) (l : Layout) (r : Rules) (nl : Netlist) (path netlist_path report_path : List ℕ) (a : Answer) (done : Done)
     (h : IsCompared l r nl path netlist_path report_path a done) (flat : ShowsFlat l r h.spelled h.netlist h.top h.bad) where
+  -- the netlists that are compared
+  abbrev near : Netlist
+  near = compared_of r h.netlist
+
+  abbrev far : Netlist
+  far = compared_of r nl
+
+  near_alignable : IsAlignable near
+  near_alignable = compared_alignable r h.netlist alignable h.comparable.layout
+
+  near_order : AreCalleesFirst near
+  near_order = compared_order r h.netlist h.comparable.order
+
   come_to : (w : Comparison) → (a ≡ comparison_answer w) ↔ IsRunVerdict (length h.bad) (all_answers h.report_file.compared) w
   come_to w = exactly (length h.bad) (all_answers h.report_file.compared) h.verdict w a one h.answer h.report_file.outcome
 
   is_undecided : (a ≡ Undecided) ↔ ((length h.bad ≡ 0) × OfAnswers h.report_file.compared (λ all. (Any IsDifference all → ⊥) × Any IsUndecided all))
   is_undecided =
-      let law = undecided l.design r h.netlist h.top h.bad nl h.report h.pairs h.verdict h.comparable.layout h.comparable.order h.report_file in (
+      let law = undecided l.design r near h.top h.bad far h.report h.pairs h.verdict near_alignable near_order h.report_file in (
         (λ e.
             let found = law.0 (same_verdict h.verdict comparison.Undecided (sym h.answer ∙ e)) in
             (found.0, stuck_in h.report_file.compared found.1.0 found.1.1 (found.1.2, found.1.3))),
@@ -113,14 +128,14 @@ module _ (one : OneRunVerdictLaw) (uneven : UnevenPairLaw) (carried : CarriedPai
       (λ e.
           elim ((come_to comparison.Mismatch).0 e) [
             | inl some ↦ inl (one_bad l r h.spelled h.netlist h.top h.bad flat some)
-            | inr (inl none) ↦ inr (inl (no_partner h.netlist h.top nl h.report_file.same r.max_guesses h.report_file.compared h.report_file.comparison none))
+            | inr (inl none) ↦ inr (inl (no_partner near h.top far h.report_file.same r.max_guesses r.tells_pins h.report_file.compared h.report_file.comparison none))
             | inr (inr any) ↦ inr (inr any)
           ]),
       (λ cause.
           (come_to comparison.Mismatch).1 (
           elim cause [
             | inl gate ↦ inl (some_length l r h.spelled h.netlist h.top h.bad flat gate)
-            | inr (inl none) ↦ inr (inl (no_answers h.netlist h.top nl h.report_file.same r.max_guesses h.report_file.compared h.report_file.comparison none))
+            | inr (inl none) ↦ inr (inl (no_answers near h.top far h.report_file.same r.max_guesses r.tells_pins h.report_file.compared h.report_file.comparison none))
             | inr (inr any) ↦ inr (inr any)
           ]
           )),
@@ -130,13 +145,16 @@ module _ (one : OneRunVerdictLaw) (uneven : UnevenPairLaw) (carried : CarriedPai
       (λ (none, stuck). is_undecided.1 (no_length l r h.spelled h.netlist h.top h.bad flat none, stuck)),
     );
     uneven = λ f k c d p is pair differ. h.answer
-        ∙ ap (λ (u : Comparison). comparison_answer u) (uneven l.design r h.netlist h.top h.bad nl h.report h.pairs h.verdict h.report_file f k c d p is pair differ);
+        ∙ ap (λ (u : Comparison). comparison_answer u) (uneven l.design r near h.top h.bad far h.report h.pairs h.verdict h.report_file f k c d p is pair differ);
     uneven_class = λ f k c d p is pair differ. h.answer
-        ∙ ap (λ (u : Comparison). comparison_answer u) (uneven l.design r h.netlist h.top h.bad nl h.report h.pairs h.verdict h.report_file f k c d p is pair (uneven_class p differ));
+        ∙ ap (λ (u : Comparison). comparison_answer u) (uneven l.design r near h.top h.bad far h.report h.pairs h.verdict h.report_file f k c d p is pair (uneven_class p differ));
     carried = λ f k c d p is pair map answer.
-        carried l.design r h.netlist h.top h.bad nl h.report h.pairs h.verdict h.comparable.layout h.comparable.order h.report_file f k c d p map is pair answer;
+        carried l.design r near h.top h.bad far h.report h.pairs h.verdict near_alignable near_order h.report_file f k c d p map is pair answer;
     kept = λ f k c d p is pair map corresponds differs.
-        kept l.design r h.netlist h.top h.bad nl h.report h.pairs h.verdict h.comparable.layout h.comparable.order h.report_file f k c d p map is pair corresponds differs;
+        kept l.design r near h.top h.bad far h.report h.pairs h.verdict near_alignable near_order h.report_file f k c d p map is pair corresponds differs;
+    joined = λ f is.
+        let cells = h.netlist_file.of_cells in
+        joined l.design r l.header.unit_pm _ _ _ h.netlist h.top h.bad nl h.report h.pairs h.verdict cells.right cells.top_is h.report_file f is;
     exact = λ e on none f is small m.
         exact_of exact l.design r l.header.unit_pm h.netlist h.top h.bad nl h.report h.pairs h.comparable.layout h.comparable.order h.verdict (same_verdict h.verdict comparison.Mismatch (sym h.answer ∙ e)) h.report_file on
         (nil_from_length h.bad (no_length l r h.spelled h.netlist h.top h.bad flat none)) f is small m;
@@ -147,16 +165,16 @@ shows_in : {l : Layout} {r : Rules} {nl : Netlist} {path netlist report : List �
     → (h : IsCompared l r nl path netlist report a done) → ShowsFlat l r h.spelled h.netlist h.top h.bad
 shows_in {l} {r} shows bytes name read h = shows bytes name l r h.netlist h.top h.bad h.spelled read h.comparable.rules h.netlist_file
 
-pub verdicts_law : ShowsFlatLaw → OneRunVerdictLaw → UnevenPairLaw → CarriedPairLaw → KeptPairLaw → UndecidedLaw → ExactReportLaw → VerdictsLaw
-verdicts_law shows one uneven carried kept undecided exact bytes name l r nl path netlist report a done read h =
-    has_verdicts one uneven carried kept undecided exact l r nl path netlist report a done h (shows_in shows bytes name read h)
+pub verdicts_law : CombinedAlignableLaw → ShowsFlatLaw → OneRunVerdictLaw → UnevenPairLaw → CarriedPairLaw → KeptPairLaw → UndecidedLaw → ExactReportLaw → MatchingLaw → VerdictsLaw
+verdicts_law alignable shows one uneven carried kept undecided exact joined bytes name l r nl path netlist report a done read h =
+    has_verdicts alignable one uneven carried kept undecided exact joined l r nl path netlist report a done h (shows_in shows bytes name read h)
 
 pub match_law : ShowsFlatLaw → MatchedReportLaw → MatchLaw
 match_law shows matched bytes name l r nl path netlist report a done read h good =
     let same = same_verdict h.verdict comparison.Match (sym h.answer ∙ good) in
-    let file = subst (λ (v : Comparison). IsReportFile l.design r h.netlist h.top h.bad nl h.report h.pairs v) same h.report_file in
+    let file = subst (λ (v : Comparison). IsReportFile l.design r (compared_of r h.netlist) h.top h.bad (compared_of r nl) h.report h.pairs v) same h.report_file in
     let cells = h.netlist_file.of_cells in
     record {
       report = record { netlist = h.netlist; top = h.top; bad = h.bad; shows = shows_in shows bytes name read h; pairs = h.pairs; verdict = comparison.Match; file = file; answer = refl };
-      is = matched l.design r l.header.unit_pm _ _ _ h.netlist h.top h.bad nl h.report h.pairs cells.right cells.top_is file;
+      is = matched l.design r l.header.unit_pm _ _ _ h.netlist h.top h.bad nl h.report h.pairs cells.right cells.top_is h.comparable.layout h.comparable.order h.comparable.schematic file;
     }

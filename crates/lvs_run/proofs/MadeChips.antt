@@ -22,17 +22,19 @@ use Rattle.spice_text.specs.Means.{Means as SpiceMeans, SaysFirst}
 use Rattle.lvs_run.specs.declared.output.Output.{Output}
 use Rattle.lvs_run.specs.Chips.{chip_files, layout_at, layout_text, rules_at, rules_text, schematic_at, schematic_text, with_files}
 use Rattle.lvs_run.specs.Words.{Paths, ToChip, chip_paths}
-use Rattle.lvs_run.specs.Answers.{Done, Answer, NoMemory, RefusedLong, RefusedRules, RefusedLayout, RefusedSchematic, refused_layout, refused_rules, refused_schematic, verdict_of}
-use Rattle.lvs_run.specs.Outcomes.{IsOutcome}
-use Rattle.lvs_run.specs.Runs.{IsLong}
-use Rattle.lvs_run.specs.Inputs.{IsInput, IsOutputBeside, IsReady, Stops}
+use Rattle.lvs_run.proofs.Widths.{only_these}
+use Rattle.report_file.specs.Combined.{wide_name}
+use Rattle.lvs_run.specs.Answers.{Done, Answer, NoMemory, RefusedLong, RefusedRules, RefusedLayout, RefusedSchematic, RefusedMergedLayout, RefusedMergedSchematic, refused_layout, refused_rules, refused_schematic, verdict_of}
+use Rattle.lvs_run.specs.Outcomes.{IsOutcome, IsTooWide}
+use Rattle.lvs_run.specs.Runs.{IsLong, IsWideChip}
+use Rattle.lvs_run.specs.Inputs.{IsInput, IsOutputBeside, IsReady, NotMerged, Stops}
 use Rattle.lvs_run.specs.Once.{ChipToldLaw, IsTold}
 use Rattle.lvs_run.specs.Flat.{OfInputs}
 use Rattle.lvs_run.specs.Texts.{NoLayoutIn, NoRulesIn, NoSchematicIn}
 use Rattle.lvs_run.specs.Verdicts.{HasVerdicts, IsMatchOf, ListsReport, MatchLaw, TextsFact, VerdictsLaw}
 use Rattle.lvs_run.proofs.Flattened.{where_told}
 use Rattle.lvs_run.proofs.Reported.{where_meant}
-use Rattle.lvs_run.proofs.Steps.{FaultyCards, SoundCards, OfSchematic, FaultyStream, SoundStream, OfLayout, FaultyRules, SoundRules, OfRules, of_rules}
+use Rattle.lvs_run.proofs.Steps.{FaultyCards, WideCards, SoundCards, OfSchematic, FaultyStream, SoundStream, OfLayout, FaultyRules, SoundRules, OfRules, of_rules}
 use Rattle.lvs_run.proofs.Stopping.{layout_read, long_layout, long_rules, long_schematic, rules_read, schematic_read, verdict_cause_beside}
 
 -- ---- the paths differ
@@ -228,6 +230,31 @@ module _ (n seed : ℕ) (prefix : List ℕ) (s : Store) where
       }
       no_schematic NoMemory h = no_memory _ s
       no_schematic a h = absurd h
+
+-- ---- what can't be merged
+
+wide_chip : (n seed : ℕ) (r : rule_sets.Rules) (l : ReadLayout) (nl : Netlist) (a : Answer) → IsChip n seed r l nl → IsTooWide l r nl a → IsWideChip n seed (Some (codes "TOP")) a
+wide_chip n seed r l nl a chip h = record { rules = r; means = chip.rules; layout = l; read = chip.layout; schematic = nl; meant = chip.schematic; wide = h }
+
+module _ (n seed : ℕ) (prefix : List ℕ) (s : Store) (r : rule_sets.Rules) (l : ReadLayout) (nl : Netlist) (chip : IsChip n seed r l nl) where
+  wide_comes : (a : Answer) (done : Done) → IsTooWide l r nl a → IsOutcome (Some (chip_paths n seed prefix)) (told_of n seed prefix s) a done
+  wide_comes a done h =
+      on_schematic n seed prefix s r chip.short_rules chip.rules l chip.short_layout chip.layout a done
+      (schematic_read _ (schematic_at prefix) (ToChip n seed prefix) l r a done (schematic_text n seed) (schematic_in n seed prefix s chip.short_schematic) (WideCards nl chip.schematic h))
+
+  pub not_merged : (a : Answer) → NotMerged l r nl a → Stops (Some (chip_paths n seed prefix)) s s a
+  not_merged (RefusedMergedLayout name) h = record {
+    cause = ((refl, (schematic_at prefix, refl, wide_chip n seed r l nl (RefusedMergedLayout name) chip h)), refl);
+    faults = refl;
+    comes = λ done. wide_comes (RefusedMergedLayout name) done h;
+  }
+  not_merged (RefusedMergedSchematic name) h = record {
+    cause = ((refl, (schematic_at prefix, refl, wide_chip n seed r l nl (RefusedMergedSchematic name) chip h)), refl);
+    faults = refl;
+    comes = λ done. wide_comes (RefusedMergedSchematic name) done h;
+  }
+  not_merged NoMemory h = no_memory _ s
+  not_merged a h = absurd (only_these (wide_name r h.netlist) (wide_name r nl) a h.refused)
 
 -- ---- what there is to write
 

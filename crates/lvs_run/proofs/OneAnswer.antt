@@ -5,6 +5,8 @@ use Rattle.gds_layout.specs.declared.layout.LayoutFault.{LayoutFault}
 use Rattle.gds_layout.specs.declared.layout.LayoutFault.TheVariants as layout
 use Rattle.gds_layout.specs.Layouts.{IsFaultOf}
 use Rattle.gds_layout.specs.Once.{NoFaultLaw, OneFaultLaw, OneLayoutLaw}
+use Rattle.report_file.proofs.Combined.{compared_alignable, compared_order}
+use Rattle.report_file.specs.Combined.{CombinedAlignableLaw, compared_of, wide_name}
 use Rattle.report_file.specs.One.{IsSameReport, OneReportLaw}
 use Rattle.spice_rows.specs.Sizes.{read_limit}
 use Rattle.spice_rows.specs.declared.fault.SpiceFault.{SpiceFault}
@@ -24,8 +26,9 @@ use Rattle.lvs_run.specs.Words.{Outputs, Paths, ToShapes, ToNetlist, ToReport, T
 use Rattle.gds_layout.specs.declared.layout.Layout.{Layout}
 use Rattle.gds_layout.specs.Layouts.{IsRead}
 use Rattle.lvs_run.specs.Answers.{Counts, Done, Extracted, Compared, drawn, extracted, compared, made, comparison_answer, Answer, IsVerdict, RefusedWords, RefusedSame, RefusedAbsent, RefusedLong, RefusedRules, RefusedLayout, RefusedSchematic}
-use Rattle.lvs_run.specs.Outcomes.{IsDone, IsDoneBeside, IsDrawn, IsExtracted, IsCompared, IsFirstLayoutFault, IsFirstSchematicFault, gates_answer}
-use Rattle.lvs_run.proofs.Steps.{InTurn, in_turn, OfBeside, OfSchematic, OfCards, FaultyCards, SoundCards, OfStream, FaultyStream, SoundStream, OfLength, OfLayout, OfRuleText, FaultyRules, SoundRules, OfRules, OfPaths}
+use Rattle.lvs_run.specs.Outcomes.{IsDone, IsDoneBeside, IsDrawn, IsExtracted, IsCompared, IsFirstLayoutFault, IsFirstSchematicFault, IsTooWide, gates_answer, merge_refusal}
+use Rattle.lvs_run.proofs.Steps.{InTurn, in_turn, OfBeside, OfSchematic, OfCards, FaultyCards, WideCards, SoundCards, OfStream, FaultyStream, SoundStream, OfLength, OfLayout, OfRuleText, FaultyRules, SoundRules, OfRules, OfPaths}
+use Rattle.lvs_run.proofs.Widths.{never_written}
 use Rattle.lvs_run.specs.Once.{IsTold, AreInputsTold, IsSameOutcome, OneOutcomeLaw}
 
 -- a first fault is a fault, and no want of memory
@@ -68,7 +71,7 @@ same_compared path netlist report l m r nl a b x y h k s t u =
 
 -- by the laws of the readers, of shapes files, of netlist files and of reports
 module _ (meanings : MeaningLaw) (faults : FaultLaw) (no_faults : NoFaultLaw) (one_faults : OneFaultLaw) (files : OneFileLaw) (netlists : OneNetlistLaw)
-    (layouts : OneLayoutLaw) (schematics : OneMeaningLaw) (no_cards : SpiceNoFaultLaw) (reports : OneReportLaw) where
+    (layouts : OneLayoutLaw) (schematics : OneMeaningLaw) (no_cards : SpiceNoFaultLaw) (reports : OneReportLaw) (alignable : CombinedAlignableLaw) where
   -- two runs with one refusal
   refused_once : (w a b : Answer) (x y : Done) → (IsVerdict w → ⊥) → a ≡ w → b ≡ w → IsSameOutcome a b x y
   refused_once w a b x y never e f = record { answer = e ∙ sym f; done = λ v. absurd (never (subst IsVerdict e v)) }
@@ -109,9 +112,10 @@ module _ (meanings : MeaningLaw) (faults : FaultLaw) (no_faults : NoFaultLaw) (o
       let s = files bytes top l m r h.text k.text h.cells k.cells h.rectangles k.rectangles read found h.file k.file in
       let t = netlists bytes top l m r h.netlist k.netlist h.top k.top h.bad k.bad h.spelled k.spelled read found h.netlist_file k.netlist_file in
       let same = layouts bytes top l m read found in
-      let other = same_report_file l m r h.netlist k.netlist h.top k.top h.bad k.bad nl k.report k.pairs k.verdict same.cells t.netlist t.top t.bad k.report_file in
+      let other = same_report_file l m r (compared_of r h.netlist) (compared_of r k.netlist) h.top k.top h.bad k.bad (compared_of r nl) k.report k.pairs k.verdict same.cells (ap (λ (n : Netlist). compared_of r n) t.netlist) t.top t.bad k.report_file in
       let can = h.comparable in
-      let u = reports l.design r h.netlist h.top h.bad nl h.report k.report h.pairs k.pairs h.verdict k.verdict can.rules can.layout can.order can.schematic h.report_file other in
+      let u = reports l.design r (compared_of r h.netlist) h.top h.bad (compared_of r nl) h.report k.report h.pairs k.pairs h.verdict k.verdict can.rules (compared_alignable r h.netlist alignable can.layout) (compared_order r h.netlist can.order)
+      (compared_alignable r nl alignable can.schematic) h.report_file other in
       (h.answer ∙ (ap comparison_answer u.verdict ∙ sym k.answer), same_compared path netlist report l m r nl a b x y h k s t u)
 
   -- two runs of one comparison
@@ -124,6 +128,26 @@ module _ (meanings : MeaningLaw) (faults : FaultLaw) (no_faults : NoFaultLaw) (o
   same_beside (ToChip n seed prefix) bytes top l m r nl a b x y read found h k =
       let both = same_comparison [] [] [] bytes top l m r nl a b h.ran k.ran read found h.compared k.compared in
       record { answer = both.0; done = λ v. h.whole ∙ (ap (λ (d : Done). made n seed prefix d.counts) both.1 ∙ sym k.whole) }
+
+  -- two refusals of one comparison
+  same_width : (bytes : List ℕ) (top : Option (List ℕ)) (l m : Layout) (r : Rules) (nl : Netlist) (a b : Answer) (x y : Done) → IsRead bytes top l → IsRead bytes top m → IsTooWide l r nl a → IsTooWide m r nl b → IsSameOutcome a b x y
+  same_width bytes top l m r nl a b x y read found h k =
+      let t = netlists bytes top l m r h.netlist k.netlist h.top k.top h.bad k.bad h.spelled k.spelled read found h.netlist_file k.netlist_file in
+      let e : Some a ≡ Some b = sym h.refused ∙ (ap (λ (n : Netlist). merge_refusal (wide_name r n) (wide_name r nl)) t.netlist ∙ k.refused) in
+      record { answer = (let s : a ≡ b = cc in s); done = λ v. absurd (never_written (wide_name r h.netlist) (wide_name r nl) a h.refused v) }
+
+  -- what is refused isn't compared
+  refused_or_compared : (bytes : List ℕ) (top : Option (List ℕ)) (l m : Layout) (r : Rules) (nl : Netlist) (path netlist report : List ℕ) (a b : Answer) (y : Done) → IsRead bytes top l → IsRead bytes top m
+      → IsTooWide l r nl a → IsCompared m r nl path netlist report b y → ⊥
+  refused_or_compared bytes top l m r nl path netlist report a b y read found h k =
+      let t = netlists bytes top l m r h.netlist k.netlist h.top k.top h.bad k.bad h.spelled k.spelled read found h.netlist_file k.netlist_file in
+      let e : Some a ≡ None = sym h.refused ∙ (ap (λ (n : Netlist). merge_refusal (wide_name r n) (wide_name r nl)) t.netlist ∙ k.narrow) in cc
+
+  refused_or_made : (o : Outputs) (bytes : List ℕ) (top : Option (List ℕ)) (l m : Layout) (r : Rules) (nl : Netlist) (a b : Answer) (y : Done) → IsRead bytes top l → IsRead bytes top m → IsTooWide l r nl a → IsDoneBeside o m r nl b y → ⊥
+  refused_or_made (ToShapes path) bytes top l m r nl a b y read found h k = k
+  refused_or_made (ToNetlist path netlist) bytes top l m r nl a b y read found h k = k
+  refused_or_made (ToReport schematic path netlist report) bytes top l m r nl a b y read found h k = refused_or_compared bytes top l m r nl path netlist report a b y read found h k
+  refused_or_made (ToChip n seed prefix) bytes top l m r nl a b y read found h k = refused_or_compared bytes top l m r nl [] [] [] a b k.ran read found h k.compared
 
   -- no want of memory
   a_fault : (bytes : List ℕ) (f : SpiceFault) → IsFirstSchematicFault bytes f → f ≢ spice.NoMemory
@@ -142,6 +166,17 @@ module _ (meanings : MeaningLaw) (faults : FaultLaw) (no_faults : NoFaultLaw) (o
       refused_once (RefusedSchematic f) a b x y (λ v. v) e (d ∙ ap (λ (z : SpiceFault). RefusedSchematic z) (one_fault read_limit bytes g f (a_fault bytes g k) (a_fault bytes f h) two.0 one.0))
   on_cards bytes stream o top l m r a b x y read found (FaultyCards f h e) (SoundCards nl means made) = let one = first_of bytes f h in absurd (a_fault bytes f h (no_cards read_limit bytes nl f means one.1))
   on_cards bytes stream o top l m r a b x y read found (SoundCards nl means made) (FaultyCards f h e) = let one = first_of bytes f h in absurd (a_fault bytes f h (no_cards read_limit bytes nl f means one.1))
+  on_cards bytes stream o top l m r a b x y read found (FaultyCards f h e) (WideCards nl means wide) = let one = first_of bytes f h in absurd (a_fault bytes f h (no_cards read_limit bytes nl f means one.1))
+  on_cards bytes stream o top l m r a b x y read found (WideCards nl means wide) (FaultyCards f h e) = let one = first_of bytes f h in absurd (a_fault bytes f h (no_cards read_limit bytes nl f means one.1))
+  on_cards bytes stream o top l m r a b x y read found (WideCards nl means wide) (WideCards n also other) =
+      let same : n ≡ nl = schematics read_limit bytes n nl also means in
+      same_width stream top l m r nl a b x y read found wide (subst (λ (z : Netlist). IsTooWide m r z b) same other)
+  on_cards bytes stream o top l m r a b x y read found (WideCards nl means wide) (SoundCards n also done) =
+      let same : n ≡ nl = schematics read_limit bytes n nl also means in
+      absurd (refused_or_made o stream top l m r nl a b y read found wide (subst (λ (z : Netlist). IsDoneBeside o m r z b y) same done))
+  on_cards bytes stream o top l m r a b x y read found (SoundCards nl means made) (WideCards n also wide) =
+      let same : n ≡ nl = schematics read_limit bytes n nl also means in
+      absurd (refused_or_made o stream top m l r nl b a x found read (subst (λ (z : Netlist). IsTooWide m r z b) same wide) made)
   on_cards bytes stream o top l m r a b x y read found (SoundCards nl means made) (SoundCards n also done) =
       let same : n ≡ nl = schematics read_limit bytes n nl also means in
       same_beside o stream top l m r nl a b x y read found made (subst (λ (z : Netlist). IsDoneBeside o m r z b y) same done)

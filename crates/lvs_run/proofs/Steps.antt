@@ -14,15 +14,16 @@ use Rattle.spice_rows.specs.declared.fault.SpiceFault.{SpiceFault}
 use Rattle.spice_text.specs.Means.{Means as SpiceMeans}
 use Rattle.lvs_run.specs.Words.{Outputs, ToShapes, ToNetlist, ToReport, ToChip, Paths, schematic_path}
 use Rattle.lvs_run.specs.Answers.{Done, Answer, RefusedWords, RefusedSame, RefusedAbsent, RefusedLong, RefusedRules, RefusedLayout, RefusedSchematic}
-use Rattle.lvs_run.specs.Outcomes.{Runs, HasFile, ReadsRules, ReadsLayout, Compares, IsFirstLayoutFault, IsFirstSchematicFault, IsDone, IsDoneBeside, IsOutcome, NoSchematic, LongSchematic, BadSchematic, MadeBeside, UntoldSchematic, WrongWords, SamePath, NoRules, LongRules, BadRules, NoLayout, LongLayout, BadLayout, Made, UntoldRules, UntoldLayout}
+use Rattle.lvs_run.specs.Outcomes.{Runs, HasFile, ReadsRules, ReadsLayout, Compares, IsFirstLayoutFault, IsFirstSchematicFault, IsDone, IsDoneBeside, IsOutcome, IsTooWide, NoSchematic, LongSchematic, BadSchematic, TooWide, MadeBeside, UntoldSchematic, WrongWords, SamePath, NoRules, LongRules, BadRules, NoLayout, LongLayout, BadLayout, Made, UntoldRules, UntoldLayout}
 
 -- a file's bytes, which are too many or not
 abbrev pub OfLength : List ℕ → Type 0 → Type 0 → Type 0
 OfLength bytes long short = ((limit < length bytes) × long) ⊎ ((length bytes ≤ limit) × short)
 
--- the schematic's bytes: their first fault, or what they mean, and the comparison with it
+-- the schematic's bytes: their first fault, or what they mean, and the refusal of the comparison with it, or the comparison
 pub data OfCards (bytes : List ℕ) (o : Outputs) (l : Layout) (r : Rules) (a : Answer) (done : Done) : Type 0 where
   FaultyCards : (fault : SpiceFault) → IsFirstSchematicFault bytes fault → a ≡ RefusedSchematic fault → OfCards bytes o l r a done
+  WideCards : (nl : Netlist) → SpiceMeans read_limit bytes nl → IsTooWide l r nl a → OfCards bytes o l r a done
   SoundCards : (nl : Netlist) → SpiceMeans read_limit bytes nl → IsDoneBeside o l r nl a done → OfCards bytes o l r a done
 
 -- the schematic's file; nothing is said of one that isn't told
@@ -109,6 +110,7 @@ module _ (said : Option Paths) (file : List ℕ → Told) (a : Answer) (done : D
   in_turn (NoSchematic p r l path c told e) = of_schematic_file p r l path NoFile c told e
   in_turn (LongSchematic p r l path bytes c told long e) = of_schematic_file p r l path (Holds bytes) c told (inl (long, e))
   in_turn (BadSchematic p r l path bytes fault c held first e) = of_schematic_file p r l path (Holds bytes) c held.told (inr (held.short, FaultyCards fault first e))
+  in_turn (TooWide p r l path bytes nl c held means wide) = of_schematic_file p r l path (Holds bytes) c held.told (inr (held.short, WideCards nl means wide))
   in_turn (MadeBeside p r l path bytes nl c held means made) = of_schematic_file p r l path (Holds bytes) c held.told (inr (held.short, SoundCards nl means made))
   in_turn (UntoldSchematic p r l path c told) = of_schematic_file p r l path Untold c told tt
   in_turn (UntoldRules p runs told) = of_rule_file p Untold runs told tt
@@ -118,6 +120,7 @@ module _ (said : Option Paths) (file : List ℕ → Told) (a : Answer) (done : D
 
   by_cards : (p : Paths) (r : Rules) (l : Layout) (path bytes : List ℕ) → Compares said file p r l path → HasFile file path bytes → OfCards bytes p.outputs l r a done → IsOutcome said file a done
   by_cards p r l path bytes c held (FaultyCards fault first e) = BadSchematic p r l path bytes fault c held first e
+  by_cards p r l path bytes c held (WideCards nl means wide) = TooWide p r l path bytes nl c held means wide
   by_cards p r l path bytes c held (SoundCards nl means made) = MadeBeside p r l path bytes nl c held means made
 
   by_schematic : (p : Paths) (r : Rules) (l : Layout) (path : List ℕ) (t : Told) → Compares said file p r l path → file path ≡ t → OfSchematic t path p.outputs l r a done → IsOutcome said file a done

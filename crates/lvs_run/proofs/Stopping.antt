@@ -20,11 +20,11 @@ use Rattle.spice_text.specs.Means.{Means as SpiceMeans, SaysFirst}
 use Rattle.lvs_run.specs.declared.output.Verdict.{Verdict}
 use Rattle.lvs_run.specs.declared.output.Verdict.TheVariants as verdict
 use Rattle.lvs_run.specs.Words.{Outputs, ToShapes, ToNetlist, ToReport, ToChip, Paths, inputs_of, schematic_path}
-use Rattle.lvs_run.specs.Answers.{Done, Answer, Good, Bad, RefusedSame, RefusedAbsent, RefusedLong, RefusedRules, RefusedLayout, RefusedSchematic, Outside, NoMemory, refused_rules, refused_schematic, verdict_of, IsVerdict, comparison_answer, refused_layout}
+use Rattle.lvs_run.specs.Answers.{Done, Answer, Good, Bad, RefusedSame, RefusedAbsent, RefusedLong, RefusedRules, RefusedLayout, RefusedSchematic, RefusedMergedLayout, RefusedMergedSchematic, Outside, NoMemory, refused_rules, refused_schematic, verdict_of, IsVerdict, comparison_answer, refused_layout}
 use Rattle.lvs_run.specs.Runs.{HasLength, IsLong, IsReadWhole, IsReadTooFar, OfInput, HasCauseIn, MayEnd}
 use Rattle.lvs_run.specs.Outcomes.{IsOutcome, IsDone, IsDoneBeside, SamePath, gates_answer}
-use Rattle.lvs_run.proofs.Steps.{OfBeside, OfCards, FaultyCards, SoundCards, OfSchematic, made_alone, OfStream, FaultyStream, SoundStream, OfLayout, OfRuleText, FaultyRules, SoundRules, OfRules, of_rules}
-use Rattle.lvs_run.specs.Inputs.{Quiet, DepotFaults, IsInput, Got, ReadAs, NoRules, NoLayout, NoSchematic, RefusesRules, RefusesLayout, RefusesSchematic, ComesOf, Stops}
+use Rattle.lvs_run.proofs.Steps.{OfBeside, OfCards, FaultyCards, WideCards, SoundCards, OfSchematic, made_alone, OfStream, FaultyStream, SoundStream, OfLayout, OfRuleText, FaultyRules, SoundRules, OfRules, of_rules}
+use Rattle.lvs_run.specs.Inputs.{Quiet, DepotFaults, IsInput, Got, ReadAs, NoRules, NoLayout, NoSchematic, NoComparison, RefusesComparison, RefusesRules, RefusesLayout, ComesOf, Stops}
 
 -- a fault of the rules that isn't want of memory is the first
 pub rules_refused : (old new : Store) (path bytes : List ℕ) (fault : RuleFault) → Got old new path bytes → Answers bytes fault → NoRules old new path (refused_rules fault)
@@ -270,24 +270,28 @@ module _ (p : Paths) (old mid late new : Store) (r : Rules) (l : Layout) (path :
       comes_beside p old mid late r l a done apart reads quiet rules layout
       (subst (λ (o : Option (List ℕ)). OfBeside o old.file p.outputs l r a done) (sym beside) (subst (λ (t : Told). OfSchematic t path p.outputs l r a done) told_so h))
 
-  schematic_cause : (a : Answer) → NoSchematic late new path a → HasCauseIn (Some p) old new a
+  schematic_cause : (a : Answer) → NoComparison l r late new path a → HasCauseIn (Some p) old new a
   schematic_cause (RefusedAbsent q) h = ((apart, inr (inr (beside ∙ ap (λ (x : List ℕ). Some x) (sym h.0)))), record { one = h.2.one ∙ ap (λ (n : ℕ). n + 1) absent_so; last = h.2.last ∙ sym h.0; closed = h.2.closed })
   schematic_cause (RefusedLong q) h = ((apart, inr (inr (beside ∙ ap (λ (x : List ℕ). Some x) (sym h.0)))), of_files p.outputs _ _ reads (subst (IsReadTooFar new.opened) (sym h.0) h.2), h.3 ∙ absent_so)
   schematic_cause (RefusedSchematic fault) h = ((apart, (path, beside, of_files p.outputs _ _ reads (read_whole old new path h.bytes new.opened h.got.opened (subst (IsInput h.bytes) told_so h.got.told)))), h.got.absent ∙ absent_so)
+  schematic_cause (RefusedMergedLayout name) h = ((apart, (path, beside, of_files p.outputs _ _ reads (read_whole old new path h.bytes new.opened h.got.opened (subst (IsInput h.bytes) told_so h.got.told)))), h.got.absent ∙ absent_so)
+  schematic_cause (RefusedMergedSchematic name) h = ((apart, (path, beside, of_files p.outputs _ _ reads (read_whole old new path h.bytes new.opened h.got.opened (subst (IsInput h.bytes) told_so h.got.told)))), h.got.absent ∙ absent_so)
   schematic_cause Outside h = tt
   schematic_cause NoMemory h = tt
   schematic_cause a h = absurd h
 
-  schematic_comes : (a : Answer) → NoSchematic late new path a → ComesOf (Some p) old.file a
+  schematic_comes : (a : Answer) → NoComparison l r late new path a → ComesOf (Some p) old.file a
   schematic_comes (RefusedAbsent q) h = λ done. on_schematic (RefusedAbsent q) done (absent_schematic (late.file path) path p.outputs l r (RefusedAbsent q) done h.1 (ap RefusedAbsent h.0))
   schematic_comes (RefusedLong q) h = λ done. on_schematic (RefusedLong q) done (long_schematic (late.file path) path p.outputs l r (RefusedLong q) done h.1 (ap RefusedLong h.0))
   schematic_comes (RefusedSchematic fault) h = λ done. on_schematic (RefusedSchematic fault) done (schematic_read (late.file path) path p.outputs l r (RefusedSchematic fault) done h.bytes h.got.told (FaultyCards fault h.is refl))
+  schematic_comes (RefusedMergedLayout name) h = λ done. on_schematic (RefusedMergedLayout name) done (schematic_read (late.file path) path p.outputs l r (RefusedMergedLayout name) done h.bytes h.got.told (WideCards h.is.0 h.is.1 h.is.2))
+  schematic_comes (RefusedMergedSchematic name) h = λ done. on_schematic (RefusedMergedSchematic name) done (schematic_read (late.file path) path p.outputs l r (RefusedMergedSchematic name) done h.bytes h.got.told (WideCards h.is.0 h.is.1 h.is.2))
   schematic_comes Outside h = tt
   schematic_comes NoMemory h = tt
   schematic_comes a h = absurd h
 
 pub schematic_stop : (p : Paths) (old mid late new : Store) (r : Rules) (l : Layout) (path : List ℕ) (a : Answer) → p.shared ≡ None → ReadsFiles p.outputs → schematic_path p.outputs ≡ Some path → Quiet old mid → Quiet mid late
-    → ReadAs old mid p.rules (λ bytes. Means bytes r) → ReadAs mid late p.layout (λ bytes. IsRead bytes p.top l) → RefusesSchematic late new path a → Stops (Some p) old new a
+    → ReadAs old mid p.rules (λ bytes. Means bytes r) → ReadAs mid late p.layout (λ bytes. IsRead bytes p.top l) → RefusesComparison l r late new path a → Stops (Some p) old new a
 schematic_stop p old mid late new r l path a apart reads beside quiet later rules layout h = record {
   cause = schematic_cause p old mid late new r l path apart reads beside quiet later rules layout a h.why;
   faults = faults_since old late new a (layout.got.faults ∙ rules.got.faults) h.faults;

@@ -19,6 +19,7 @@ use Rattle.lvs_run.specs.declared.status.Status.TheVariants as status
 use Rattle.lvs_run.specs.declared.status.Refusal.{Refusal}
 use Rattle.lvs_run.specs.declared.status.Refusal.TheVariants.{Words, SamePath, Absent, TooLong}
 use Rattle.lvs_run.specs.declared.status.Refusal.TheVariants.{Rules, Layout, Schematic}
+use Rattle.lvs_run.specs.declared.status.Refusal.TheVariants.{MergedLayout, MergedSchematic}
 
 -- what the summary line counts: of `shapes` the cells and the rectangles of the shapes file, of
 -- `extract` these cells, the netlist's circuits and the bad gates, of `run` and `make` the compared
@@ -64,7 +65,7 @@ compared path text netlist spelled report told counts = record {
 abbrev pub made : (n seed : ℕ) (prefix : List ℕ) → Counts → Done
 made n seed prefix counts = record { files = chip_files n seed prefix; counts = counts }
 
--- an answer, with the bytes of its path or with the fault of its file
+-- an answer, with the bytes of its path, with the fault of its file or with a circuit's name
 pub data Answer : Type 0 where
   Good : Answer
   Bad : Answer
@@ -75,6 +76,8 @@ pub data Answer : Type 0 where
   RefusedRules : (fault : RuleFault) → Answer
   RefusedLayout : (fault : LayoutFault) → Answer
   RefusedSchematic : (fault : SpiceFault) → Answer
+  RefusedMergedLayout : (name : List ℕ) → Answer
+  RefusedMergedSchematic : (name : List ℕ) → Answer
   Undecided : Answer
   Outside : Answer
   NoMemory : Answer
@@ -100,6 +103,8 @@ refused (TooLong path) = RefusedLong (string_bytes path)
 refused (Rules fault) = RefusedRules fault
 refused (Layout fault) = RefusedLayout fault
 refused (Schematic fault) = RefusedSchematic fault
+refused (MergedLayout name) = RefusedMergedLayout name
+refused (MergedSchematic name) = RefusedMergedSchematic name
 
 -- of a run that writes its files
 abbrev pub verdict_of : Verdict → Answer

@@ -12,12 +12,13 @@ use Rattle.rule_text.specs.Reading.{IsFirstFault as IsFirstRuleFault}
 use Rattle.lvs_run.specs.Words.{Outputs, Paths, ForNetlist, ForShapes, inputs, inputs_of}
 use Rattle.lvs_files.specs.Files.{AreApart, files_of}
 use Rattle.lvs_run.specs.Answers.{Done, Answer, Good, RefusedAbsent, RefusedLong, RefusedRules}
-use Rattle.lvs_run.specs.Answers.{RefusedLayout, RefusedSchematic, Outside, NoMemory, refused}
+use Rattle.lvs_run.specs.Answers.{RefusedLayout, RefusedSchematic, RefusedMergedLayout}
+use Rattle.lvs_run.specs.Answers.{RefusedMergedSchematic, Outside, NoMemory, refused}
 use Rattle.lvs_run.specs.Answers.{verdict_of}
 use Rattle.lvs_run.specs.Runs.{IsLong, IsReadTooFar, WasAbsent, StartsNone, HasCauseIn}
 use Rattle.lvs_run.specs.Lines.{line_of}
 use Rattle.lvs_run.specs.Outcomes.{IsOutcome, IsDone, IsDoneBeside, IsFirstLayoutFault}
-use Rattle.lvs_run.specs.Outcomes.{IsFirstSchematicFault}
+use Rattle.lvs_run.specs.Outcomes.{IsFirstSchematicFault, IsTooWide}
 use Rattle.lvs_run.specs.Flat.{IsFlatNetlist, IsFlatText, ListsAs}
 use Rattle.lvs_run.specs.Verdicts.{HasVerdicts, IsMatchOf, ListsReport}
 use Rattle.lvs_run.specs.declared.input.Stop.{Stop}
@@ -110,6 +111,29 @@ NoSchematic old new path a = NotGot old new path a
 
 pub record RefusesSchematic (old new : Store) (path : List ℕ) (a : Answer) : Type 0 where
   pub why : NoSchematic old new path a
+  pub faults : DepotFaults a old new
+
+-- a comparison is refused with this answer, or there was no memory for it
+abbrev pub NotMerged : Layout → Rules → Netlist → Answer → Type 0
+NotMerged l r nl NoMemory = Unit {0}
+NotMerged l r nl a = IsTooWide l r nl a
+
+-- the schematic was read, and the comparison with it is refused
+abbrev pub IsWideBeside : Layout → Rules → Store → Store → List ℕ → Answer → Type 0
+IsWideBeside l r old new path a = ReadAs old new path
+    (λ bytes. (nl : Netlist) × SpiceMeans read_limit bytes nl × IsTooWide l r nl a)
+
+-- why there is nothing to write of a comparison with the schematic's file
+abbrev pub NoComparison : Layout → Rules → Store → Store → List ℕ → Answer → Type 0
+NoComparison l r old new path (RefusedMergedLayout name) =
+    IsWideBeside l r old new path (RefusedMergedLayout name)
+NoComparison l r old new path (RefusedMergedSchematic name) =
+    IsWideBeside l r old new path (RefusedMergedSchematic name)
+NoComparison l r old new path a = NoSchematic old new path a
+
+pub record RefusesComparison (l : Layout) (r : Rules) (old new : Store) (path : List ℕ)
+    (a : Answer) : Type 0 where
+  pub why : NoComparison l r old new path a
   pub faults : DepotFaults a old new
 
 -- what there is to write by the command with these outputs, of a layout and rules

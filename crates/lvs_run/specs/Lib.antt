@@ -3,6 +3,7 @@ pub mod Words
 pub mod Answers
 pub mod Codes
 pub mod Lines
+pub mod Merging
 pub mod Runs
 pub mod Outcomes
 pub mod Texts

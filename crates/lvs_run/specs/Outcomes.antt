@@ -16,6 +16,7 @@ use Rattle.deep_tables.specs.declared.gates.BadGate.{BadGate}
 use Rattle.plain_netlist.specs.Netlist.{Netlist}
 use Rattle.net_align.specs.Compared.{AreCalleesFirst, IsAlignable}
 use Rattle.pair_jobs.specs.declared.verdict.Verdict.{Verdict}
+use Rattle.report_file.specs.Combined.{compared_of, wide_name}
 use Rattle.report_file.specs.File.{IsReportFile}
 use Rattle.spice_rows.specs.Sizes.{read_limit}
 use Rattle.spice_rows.specs.declared.fault.SpiceFault.{SpiceFault}
@@ -27,6 +28,7 @@ use Rattle.lvs_run.specs.Answers.{Done, Extracted, Compared, drawn, extracted, c
 use Rattle.lvs_run.specs.Answers.{Answer, Good, Bad, comparison_answer}
 use Rattle.lvs_run.specs.Answers.{RefusedWords, RefusedSame, RefusedAbsent, RefusedLong}
 use Rattle.lvs_run.specs.Answers.{RefusedRules, RefusedLayout, RefusedSchematic}
+use Rattle.lvs_run.specs.Answers.{RefusedMergedLayout, RefusedMergedSchematic}
 
 -- the words state a command of these paths, and no file that it writes is named twice
 pub record Runs (said : Option Paths) (p : Paths) : Type 0 where
@@ -104,9 +106,26 @@ pub record AreComparable (r : Rules) (one other : Netlist) : Type 0 where
   pub order : AreCalleesFirst one
   pub schematic : IsAlignable other
 
+-- the refusal of a layout and a schematic of which the one, or else the other, has a circuit of
+-- this name with alike transistors that are too wide for one
+abbrev pub merge_refusal : (layout schematic : Option (List ℕ)) → Option Answer
+merge_refusal (Some name) schematic = Some (RefusedMergedLayout name)
+merge_refusal None (Some name) = Some (RefusedMergedSchematic name)
+merge_refusal None None = None
+
+-- by rules that combine devices the netlist of the layout's circuits, or else the schematic, is
+-- refused with this answer
+pub record IsTooWide (l : Layout) (r : Rules) (schematic : Netlist) (a : Answer) : Type 0 where
+  pub netlist : Netlist
+  pub top : ℕ
+  pub bad : List BadGate
+  pub spelled : List ℕ
+  pub netlist_file : IsNetlistFile l r netlist top bad spelled
+  pub refused : merge_refusal (wide_name r netlist) (wide_name r schematic) ≡ Some a
+
 -- what is written is the shapes file and the netlist's file of the layout by the rules, and the
--- report on the netlist's comparison with a schematic, with the numbers of cells, circuits, pairs
--- and bad gates, and the answer is that of the comparison
+-- report on comparing the netlist with a schematic, both as they are compared by the rules, with
+-- the numbers of cells, circuits, pairs and bad gates, and the answer is that of the comparison
 pub record IsCompared (l : Layout) (r : Rules) (schematic : Netlist)
     (path netlist_path report_path : List ℕ) (a : Answer) (done : Done) : Type 0 where
   pub text : List ℕ
@@ -122,7 +141,9 @@ pub record IsCompared (l : Layout) (r : Rules) (schematic : Netlist)
   pub pairs : ℕ
   pub verdict : Verdict
   pub comparable : AreComparable r netlist schematic
-  pub report_file : IsReportFile l.design r netlist top bad schematic report pairs verdict
+  pub narrow : merge_refusal (wide_name r netlist) (wide_name r schematic) ≡ None
+  pub report_file : IsReportFile l.design r (compared_of r netlist) top bad
+      (compared_of r schematic) report pairs verdict
   pub answer : a ≡ comparison_answer verdict
   pub whole : done ≡ compared path text netlist_path spelled report_path report
       (Compared cells (length netlist.circuits) pairs (length bad))
@@ -154,8 +175,9 @@ pub record Compares (said : Option Paths) (file : List ℕ → Told) (p : Paths)
   pub beside : schematic_path p.outputs ≡ Some path
 
 -- The answer, and what is written where nothing is refused. The words are looked at first, then the
--- paths, the rule file, the layout and the schematic, and the first of them that is refused gives
--- the answer. Nothing is said where a file that comes next isn't told.
+-- paths, the rule file, the layout and the schematic, then what is compared of the last two, and
+-- the first of them that is refused gives the answer. Nothing is said where a file that comes next
+-- isn't told.
 pub data IsOutcome (said : Option Paths) (file : List ℕ → Told) (a : Answer) (done : Done) :
     Type 0 where
   WrongWords : said ≡ None → a ≡ RefusedWords → IsOutcome said file a done
@@ -187,6 +209,9 @@ pub data IsOutcome (said : Option Paths) (file : List ℕ → Told) (a : Answer)
       → Compares said file p r l path → HasFile file path bytes
       → IsFirstSchematicFault bytes fault → a ≡ RefusedSchematic fault
       → IsOutcome said file a done
+  TooWide : (p : Paths) (r : Rules) (l : Layout) (path bytes : List ℕ) (nl : Netlist)
+      → Compares said file p r l path → HasFile file path bytes → SpiceMeans read_limit bytes nl
+      → IsTooWide l r nl a → IsOutcome said file a done
   MadeBeside : (p : Paths) (r : Rules) (l : Layout) (path bytes : List ℕ) (nl : Netlist)
       → Compares said file p r l path → HasFile file path bytes → SpiceMeans read_limit bytes nl
       → IsDoneBeside p.outputs l r nl a done → IsOutcome said file a done

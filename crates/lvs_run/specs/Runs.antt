@@ -6,7 +6,13 @@ use Rattle.lvs_outside.specs.Summary.{SinkState}
 use Rattle.lvs_outside.specs.Loops.{limit}
 use Rattle.gds_layout.specs.declared.layout.LayoutFault.{LayoutFault}
 use Rattle.rule_text.specs.declared.fault.RuleFault.{RuleFault}
-use Rattle.rule_text.specs.Reading.{IsFirstFault as IsFirstRuleFault}
+use Rattle.gds_layout.specs.Layouts.{IsRead}
+use Rattle.gds_layout.specs.declared.layout.Layout.{Layout}
+use Rattle.plain_netlist.specs.Netlist.{Netlist}
+use Rattle.rule_text.specs.Reading.{Means, IsFirstFault as IsFirstRuleFault}
+use Rattle.rule_text.specs.Rules.{Rules}
+use Rattle.spice_rows.specs.Sizes.{read_limit}
+use Rattle.spice_text.specs.Means.{Means as SpiceMeans}
 use Rattle.spice_rows.specs.declared.fault.SpiceFault.{SpiceFault}
 use Rattle.lvs_run.specs.Chips.{chip_files, layout_text, rules_text, schematic_text, with_files}
 use Rattle.lvs_run.specs.Words.{Outputs, Paths, ToShapes, ToNetlist, ToReport, ToChip}
@@ -14,9 +20,10 @@ use Rattle.lvs_run.specs.Words.{IsSame, schematic_path}
 use Rattle.lvs_files.specs.Files.{File, AreWritten}
 use Rattle.lvs_run.specs.Answers.{Done, Answer, Good, Bad, RefusedWords, RefusedSame}
 use Rattle.lvs_run.specs.Answers.{RefusedAbsent, RefusedLong, RefusedRules, RefusedLayout}
-use Rattle.lvs_run.specs.Answers.{RefusedSchematic, Undecided, Outside, NoMemory, IsVerdict}
+use Rattle.lvs_run.specs.Answers.{RefusedSchematic, RefusedMergedLayout, RefusedMergedSchematic}
+use Rattle.lvs_run.specs.Answers.{Undecided, Outside, NoMemory, IsVerdict}
 use Rattle.lvs_run.specs.Lines.{line_of}
-use Rattle.lvs_run.specs.Outcomes.{IsFirstLayoutFault, IsFirstSchematicFault}
+use Rattle.lvs_run.specs.Outcomes.{IsFirstLayoutFault, IsFirstSchematicFault, IsTooWide}
 
 -- faults of the depot and of the sink, an empty take being one
 abbrev pub depot_faults : Store → ℕ
@@ -116,6 +123,25 @@ IsSchematicRead (Some p) old new fault = (p.shared ≡ None) × ((path : List �
     × OfInput p.outputs (IsReadWhole new.opened old path)
     (λ n seed prefix. IsFirstSchematicFault (schematic_text n seed) fault))
 
+-- a chip's rules combine devices, and its layout or its schematic is refused for it
+pub record IsWideChip (n seed : ℕ) (top : Option (List ℕ)) (a : Answer) : Type 0 where
+  pub rules : Rules
+  pub means : Means rules_text rules
+  pub layout : Layout
+  pub read : IsRead (layout_text n seed) top layout
+  pub schematic : Netlist
+  pub meant : SpiceMeans read_limit (schematic_text n seed) schematic
+  pub wide : IsTooWide layout rules schematic a
+
+-- all inputs of a comparison were read to their end, the schematic last; those of a chip are
+-- refused
+abbrev pub AreAllRead : Option Paths → Store → Store → Answer → Type 0
+AreAllRead None old new a = ⊥
+AreAllRead (Some p) old new a = (p.shared ≡ None) × ((path : List ℕ)
+    × (schematic_path p.outputs ≡ Some path)
+    × OfInput p.outputs (IsReadWhole new.opened old path)
+    (λ n seed prefix. IsWideChip n seed p.top a))
+
 -- there was one absent answer, for this path, and nothing was opened after it
 pub record WasAbsent (old new : Store) (path : List ℕ) : Type 0 where
   pub one : new.absent ≡ old.absent + 1
@@ -142,6 +168,10 @@ HasCauseIn said old new (RefusedLayout fault) = IsLayoutRead said old new fault
     × (new.absent ≡ old.absent)
 HasCauseIn said old new (RefusedSchematic fault) = IsSchematicRead said old new fault
     × (new.absent ≡ old.absent)
+HasCauseIn said old new (RefusedMergedLayout name) =
+    AreAllRead said old new (RefusedMergedLayout name) × (new.absent ≡ old.absent)
+HasCauseIn said old new (RefusedMergedSchematic name) =
+    AreAllRead said old new (RefusedMergedSchematic name) × (new.absent ≡ old.absent)
 HasCauseIn said old new Undecided = EndsWith said Undecided
     × (new.absent ≡ old.absent)
 HasCauseIn said old new Outside = Unit {0}

@@ -19,6 +19,7 @@ use Rattle.pair_jobs.specs.Verdict.{IsUndecided}
 use Rattle.pair_jobs.specs.declared.verdict.Verdict.{Verdict}
 use Rattle.plain_netlist.specs.Netlist.{Circuit, Netlist}
 use Rattle.refine_match.specs.Matching.{HaveUnevenClass, HaveUnevenDevices}
+use Rattle.report_file.specs.Combined.{compared_of}
 use Rattle.report_file.specs.File.{IsReportFile, all_answers}
 use Rattle.report_file.specs.Exact.{CorrespondNowhere}
 use Rattle.report_file.specs.Matched.{Matching, MatchesFlat}
@@ -36,8 +37,8 @@ use Rattle.lvs_run.specs.Outcomes.{IsCompared}
 use Rattle.lvs_run.specs.Flat.{HasBadGate, HoldsAs, ListsAs, OfInputs, OfStated}
 
 -- The one text means one netlist, that of the flat layout; the other is the report on comparing
--- this netlist with the schematic, beside the flat layout's bad gates; and this is the answer of
--- that comparison.
+-- this netlist with the schematic, both as they are compared by the rules, beside the flat layout's
+-- bad gates; and this is the answer of that comparison.
 pub record IsReportOf (l : Layout) (r : Rules) (schematic : Netlist) (a : Answer)
     (netlist_text report_text : List ℕ) : Type 0 where
   pub netlist : Netlist
@@ -46,7 +47,8 @@ pub record IsReportOf (l : Layout) (r : Rules) (schematic : Netlist) (a : Answer
   pub shows : ShowsFlat l r netlist_text netlist top bad
   pub pairs : ℕ
   pub verdict : Verdict
-  pub file : IsReportFile l.design r netlist top bad schematic report_text pairs verdict
+  pub file : IsReportFile l.design r (compared_of r netlist) top bad (compared_of r schematic)
+      report_text pairs verdict
   pub answer : a ≡ comparison_answer verdict
 
 -- the layout's top has a partner, and this is a fact of the answers of all pairs
@@ -54,34 +56,42 @@ abbrev pub OfAnswers : Option Compared → (List PairAnswer → Type 0) → Type
 OfAnswers compared P = IsSomeAnd (all_answers compared) P
 
 -- a fact of each pair of circuits, with the pins that the pairs below it hand up, and of its answer
-abbrev pub OfEachPair : Option Compared → (Pair → PairAnswer → Type 0) → Type 0
-OfEachPair compared P = (f : Compared) (k : ℕ) (c d : Circuit) (p : Pair) → compared ≡ Some f
-    → IsComparedPair f k c d p → P p (answer_at (answers_of f) k)
+abbrev pub OfEachPair : Rules → Option Compared → (Pair → PairAnswer → Type 0) → Type 0
+OfEachPair r compared P = (f : Compared) (k : ℕ) (c d : Circuit) (p : Pair) → compared ≡ Some f
+    → IsComparedPair r f k c d p → P p (answer_at (answers_of f) k)
 
 -- Good comes exactly where no gate is bad and each pair matches, Bad where a gate is bad, the top
 -- has no partner or a pair differs, Undecided where none of this is so and the guesses of some pair
 -- ran out. A pair whose circuits have unequal numbers of devices of some class, or of some class
 -- and sizes, makes Bad, whatever the pairs below it are. Whatever the answer is, a pair reported as
 -- matched carries a correspondence which keeps the pins of the pairs below, and a pair that has
--- such a correspondence is never reported as different. Where the rules say `flatten_unmatched`, no
--- gate is bad, the top has a partner and nothing became too large, Bad says that the flat layout
--- corresponds to the schematic, flattened from that partner, in no way.
+-- such a correspondence is never reported as different. Where the top has a partner, there is what
+-- joins the flat layout with the schematic, flattened from that partner, by the lines of the last
+-- comparison. Where the rules say `flatten_unmatched`, no gate is bad, the top has a partner and
+-- nothing became too large, Bad says that the flat layout corresponds to the flattened schematic in
+-- no way, or with `same_pins` in none that keeps the names of pins; where the rules combine devices,
+-- it says so of the layout's circuits and the schematic's, in each of which each group of alike
+-- transistors is one.
 pub record HasVerdicts (a : Answer) (l : Layout) (r : Rules) (schematic : Netlist)
     (netlist_text report_text : List ℕ) : Type 0 where
   pub report : IsReportOf l r schematic a netlist_text report_text
   pub good : (a ≡ Good) ↔ (HasNoBadGate (plain l.design) (wiring_of r) (device_rules r)
       × OfAnswers report.file.compared (λ all. All IsMatch all))
   pub bad : (a ≡ Bad) ↔ (HasBadGate l r
-      ⊎ (HasNoPartner report.netlist schematic report.top report.file.same
+      ⊎ (HasNoPartner (compared_of r report.netlist) (compared_of r schematic) report.top
+      report.file.same
       ⊎ OfAnswers report.file.compared (λ all. Any IsDifference all)))
   pub undecided : (a ≡ Undecided) ↔ (HasNoBadGate (plain l.design) (wiring_of r) (device_rules r)
       × OfAnswers report.file.compared (λ all. (Any IsDifference all → ⊥) × Any IsUndecided all))
-  pub uneven : OfEachPair report.file.compared (λ p answer. HaveUnevenDevices p → a ≡ Bad)
-  pub uneven_class : OfEachPair report.file.compared (λ p answer. HaveUnevenClass p → a ≡ Bad)
-  pub carried : OfEachPair report.file.compared
+  pub uneven : OfEachPair r report.file.compared (λ p answer. HaveUnevenDevices p → a ≡ Bad)
+  pub uneven_class : OfEachPair r report.file.compared (λ p answer. HaveUnevenClass p → a ≡ Bad)
+  pub carried : OfEachPair r report.file.compared
       (λ p answer. (map : Pairing) → answer ≡ Match map → IsCorrespondence p map)
-  pub kept : OfEachPair report.file.compared
+  pub kept : OfEachPair r report.file.compared
       (λ p answer. (map : Pairing) → IsCorrespondence p map → IsDifference answer → ⊥)
+  pub joined : (f : Compared) → report.file.compared ≡ Some f
+      → (m : Matching l.design r l.header.unit_pm report.netlist report.top schematic f)
+      × (m.same ≡ report.file.same)
   pub exact : a ≡ Bad → r.flattens_unmatched ≡ true
       → HasNoBadGate (plain l.design) (wiring_of r) (device_rules r) → (f : Compared)
       → report.file.compared ≡ Some f → ((lines : List ℕ) → IsTooLarge r f lines → ⊥)
@@ -90,7 +100,8 @@ pub record HasVerdicts (a : Answer) (l : Layout) (r : Rules) (schematic : Netlis
 
 -- No gate of the flat layout is bad, and the pairs of this report compose to a one-to-one
 -- correspondence of its good gates and regions with the devices and nets of the schematic,
--- flattened from the partner of the layout's top.
+-- flattened from the partner of the layout's top; where the rules combine devices, with each class
+-- of alike ones as one on both sides.
 pub record IsMatchOf (l : Layout) (r : Rules) (schematic : Netlist)
     (netlist_text report_text : List ℕ) : Type 0 where
   pub report : IsReportOf l r schematic Good netlist_text report_text

@@ -6,7 +6,9 @@ ghost use Rattle.lvs_run.specs.Verdicts.{MatchLaw, VerdictsLaw};
 use gds_layout::one_layout;
 use netlist_file::{flat_netlist, one_netlist};
 use pair_jobs::verdicts;
-use report_file::{exact_report, matched_report, one_report, report_verdicts};
+use report_file::{
+    combined_alignable, exact_report, matched_report, matching, one_report, report_verdicts,
+};
 use shapes_file::one_file;
 use spice_text::written_laws;
 
@@ -20,6 +22,7 @@ pub fn one_outcome()
     one_file();
     one_netlist();
     one_report();
+    combined_alignable();
     written_laws();
     rule_text::laws();
 }
@@ -34,6 +37,8 @@ pub fn compared_laws()
     flat_netlist();
     matched_report();
     exact_report();
+    matching();
+    combined_alignable();
     report_verdicts();
     verdicts();
 }

@@ -5,6 +5,7 @@ mod chips;
 mod input;
 mod laws;
 mod making;
+mod merging;
 mod output;
 mod readings;
 mod run;

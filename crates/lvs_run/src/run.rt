@@ -9,7 +9,7 @@ ghost use Rattle.lvs_outside.specs.Summary.{SinkHasRoom};
 ghost use Rattle.lvs_run.specs.Answers.{answer_of, refused};
 ghost use Rattle.lvs_run.specs.Ends.{ComesOut, Delivered, Refused};
 ghost use Rattle.lvs_run.specs.Flat.{WritesFlat, WritesNetlist};
-ghost use Rattle.lvs_run.specs.Inputs.{IsBeside, IsReady, Quiet, RefusesSchematic, Stops};
+ghost use Rattle.lvs_run.specs.Inputs.{IsBeside, IsReady, Quiet, RefusesComparison, Stops};
 ghost use Rattle.lvs_run.specs.Inputs.{stopped};
 ghost use Rattle.lvs_run.specs.Runs.{HasCauseIn, ShowsFaults};
 ghost use Rattle.lvs_run.specs.Verdicts.{WritesMatch, WritesVerdicts};
@@ -60,8 +60,8 @@ fn compare<R: Threads + Wait + Sync, D: Depot, G: Gate + Sync>(
     ensures made { IfOk result (IsBeside (report_outputs (string_bytes schematic.now) paths)
         layout.now (rules_seen rules.now) (D.state depot.old) (D.state depot.new)
         (string_bytes schematic.now)) }
-    ensures refused { IfErr result (λ why. RefusesSchematic (D.state depot.old)
-        (D.state depot.new) (string_bytes schematic.now) (stopped why)) }
+    ensures refused { IfErr result (λ why. RefusesComparison layout.now (rules_seen rules.now)
+        (D.state depot.old) (D.state depot.new) (string_bytes schematic.now) (stopped why)) }
 {
     read_alignable();
     let netlist = schematic_of(alloc, depot, schematic)?;
@@ -210,7 +210,8 @@ pub fn run_lvs<R: Threads + Wait + Sync, D: Depot, S: Sink, G: Gate + Sync>(
         (D.state depot.new) (answer_of result) }
     // After Good of a comparison the pairs of the report, which `make` doesn't write, compose to a
     // one-to-one correspondence of the flat layout's regions and good gates with the nets and
-    // devices of the flattened schematic.
+    // devices of the flattened schematic; by rules with `combine_devices`, where each class of
+    // alike ones is one on both sides.
     ensures matched { WritesMatch (said (map string_bytes words.now)) (D.state depot.old)
         (D.state depot.new) (answer_of result) }
     // The answer of a comparison comes exactly where the flat layout's bad gates and the pairs of
@@ -218,7 +219,9 @@ pub fn run_lvs<R: Threads + Wait + Sync, D: Depot, S: Sink, G: Gate + Sync>(
     // make Bad. Whatever the answer is, a pair reported as matched carries a correspondence which
     // keeps the pins of the pairs below, and one that has such a correspondence is never reported
     // as different. With `flatten_unmatched`, no bad gate and nothing too large, Bad says that the
-    // flat layout corresponds to the schematic, flattened from the top's partner, in no way.
+    // flat layout corresponds to the schematic, flattened from the top's partner, in no way; with
+    // `combine_devices` it says so of the layout's circuits and the schematic's, in each of which
+    // each group of alike transistors is one.
     ensures verdicts { WritesVerdicts (said (map string_bytes words.now)) (D.state depot.old)
         (D.state depot.new) (answer_of result) }
     // The netlist's file means, expanded, the netlist of the flat layout. `extract` is Bad exactly

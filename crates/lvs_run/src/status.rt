@@ -1,6 +1,7 @@
 //! How a run of the program ends.
 
 use gds_layout::LayoutFault;
+use net_names::Name;
 use rule_text::RuleFault;
 use spice_rows::SpiceFault;
 
@@ -38,6 +39,10 @@ pub enum Refusal {
     Layout(LayoutFault),
     /// The schematic's first fault.
     Schematic(SpiceFault),
+    /// The first circuit of the layout with alike transistors that are too wide for one.
+    MergedLayout(Name),
+    /// The same of the schematic.
+    MergedSchematic(Name),
 }
 
 impl Status {

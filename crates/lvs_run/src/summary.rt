@@ -176,6 +176,17 @@ fn schematic_line(alloc: Global, fault: &SpiceFault) -> Result<Vec<u8>, AllocErr
     Ok(line)
 }
 
+// A line of three words and a circuit's name.
+fn merge_line(alloc: Global, words: &[u8], name: &Name) -> Result<Vec<u8>, AllocError>
+    ensures { IfOk result (λ line. line.items ≡ words.now ++ escaped name.now ++ 10 ∷ []) }
+{
+    let mut line = words.to_vec(alloc)?;
+    let text = escape(alloc, name)?;
+    line.extend_from_slice(text.as_slice())?;
+    line.push(b'\n')?;
+    Ok(line)
+}
+
 /// The line of a refusal.
 pub fn refusal_line(alloc: Global, why: &Refusal) -> Result<Vec<u8>, AllocError>
     ensures { IfOk result (λ line. line.items ≡ line_of (refused why.now) nothing) }
@@ -188,6 +199,8 @@ pub fn refusal_line(alloc: Global, why: &Refusal) -> Result<Vec<u8>, AllocError>
         Refusal::Rules(fault) => rules_line(alloc, *fault),
         Refusal::Layout(fault) => layout_line(alloc, fault),
         Refusal::Schematic(fault) => schematic_line(alloc, fault),
+        Refusal::MergedLayout(name) => merge_line(alloc, b"refused merge layout ", name),
+        Refusal::MergedSchematic(name) => merge_line(alloc, b"refused merge schematic ", name),
     }
 }
 

@@ -10,67 +10,60 @@ use std::rt::Files;
 use std::sync::Wait;
 use std::thread::Threads;
 
-/// Two rectangles overlap. A ring of six transistors isn't two rings of three. There are no such
-/// rules. Three guesses don't tell the rings apart. A placed and routed block of 64 standard cells
-/// (tiny of bench/flow), whose taps or wells reach past the cells' boxes, is its hierarchical
-/// schematic with `flatten_unmatched`. The rules are a folder.
-const RUNS: [&[&str]; 7] = [
-    &["shapes", "common.gds", "common.lvs", "out.gds"],
-    &[
-        "run",
-        "--layout=ring.gds",
-        "--rules=ring.lvs",
-        "--schematic=two.cir",
-        "--shapes=s.gds",
-        "--netlist=n.cir",
-        "--report=p.txt",
-    ],
-    &["shapes", "common.gds", "none.lvs", "out.gds"],
-    &[
-        "run",
-        "--layout=ring.gds",
-        "--rules=few.lvs",
-        "--schematic=two.cir",
-        "--shapes=s.gds",
-        "--netlist=n.cir",
-        "--report=p.txt",
-    ],
-    &[
-        "run",
-        "--layout=rail.gds",
-        "--rules=tiny.lvs",
-        "--schematic=tiny.cir",
-        "--shapes=s.gds",
-        "--netlist=n.cir",
-        "--report=p.txt",
-    ],
-    &[
-        "run",
-        "--layout=over.gds",
-        "--rules=tiny.lvs",
-        "--schematic=tiny.cir",
-        "--shapes=s.gds",
-        "--netlist=n.cir",
-        "--report=p.txt",
-    ],
-    &["shapes", "common.gds", ".", "out.gds"],
+/// Layout, rules, and the schematic of a comparison: two rectangles overlap; a ring of six
+/// transistors isn't two rings of three; there are no such rules; three guesses don't tell the rings
+/// apart. Then a placed and routed block of 64 standard cells (tiny of bench/flow) with
+/// `flatten_unmatched` against its hierarchical schematic, which it is in three styles of cells, of
+/// which two have taps or wells that reach past the cells' boxes; with a wire that is cut; with two
+/// wires that are joined; with `same_pins`, and then against a schematic in which the names of two
+/// outputs are exchanged. Last, the rules are a folder.
+const RUNS: [[&str; 3]; 12] = [
+    ["common.gds", "common.lvs", ""],
+    ["ring.gds", "ring.lvs", "two.cir"],
+    ["common.gds", "none.lvs", ""],
+    ["ring.gds", "few.lvs", "two.cir"],
+    ["inside.gds", "tiny.lvs", "tiny.cir"],
+    ["rail.gds", "tiny.lvs", "tiny.cir"],
+    ["over.gds", "tiny.lvs", "tiny.cir"],
+    ["open.gds", "tiny.lvs", "tiny.cir"],
+    ["short.gds", "tiny.lvs", "tiny.cir"],
+    ["inside.gds", "pins.lvs", "tiny.cir"],
+    ["inside.gds", "pins.lvs", "labels.cir"],
+    ["common.gds", ".", ""],
 ];
 
-fn words_of(alloc: Global, words: &[&str]) -> Result<Vec<String>, AllocError> {
-    let mut made = Vec::new(alloc);
-    for word in words {
-        made.push(String::from_str(alloc, word)?)?;
+// The words of `shapes` where there is no schematic, else those of `run`.
+fn words_of(alloc: Global, files: [&str; 3]) -> Result<Vec<String>, AllocError> {
+    let [layout, rules, schematic] = files;
+    let mut words = Vec::new(alloc);
+    if schematic.is_empty() {
+        for word in ["shapes", layout, rules, "out.gds"] {
+            words.push(String::from_str(alloc, word)?)?;
+        }
+        return Ok(words);
     }
-    Ok(made)
+    words.push(String::from_str(alloc, "run")?)?;
+    for (name, path) in [
+        ("--layout", layout),
+        ("--rules", rules),
+        ("--schematic", schematic),
+        ("--shapes", "s.gds"),
+        ("--netlist", "n.cir"),
+        ("--report", "p.txt"),
+    ] {
+        words.push(String::from_str(alloc, name)?)?;
+        words.push(String::from_str(alloc, path)?)?;
+    }
+    Ok(words)
 }
 
-// Runs the words, and writes the status behind the run's line.
+// Runs over the files, and writes the status behind the run's line.
 fn ended<R: Files + Print + Threads + Wait + Sync>(
     rt: &R,
     alloc: Global,
-    words: &[&str],
+    files: [&str; 3],
 ) -> Result<u8, AllocError> {
-    let words = words_of(alloc, words)?;
+    let words = words_of(alloc, files)?;
     let mut depot = FileDepot::new(rt);
     let mut out = StdoutSink::new(rt);
     let status = run_lvs(rt, alloc, words.as_slice(), &mut depot, &mut out, &OpenGate);
@@ -86,8 +79,8 @@ fn ended<R: Files + Print + Threads + Wait + Sync>(
 fn main(rt: HostRuntime) -> ExitCode {
     let alloc = rt.alloc();
     let mut last = Status::NoMemory.code();
-    for words in RUNS {
-        match ended(&rt, alloc, words) {
+    for files in RUNS {
+        match ended(&rt, alloc, files) {
             Ok(code) => last = code,
             Err(_) => return ExitCode::from(Status::NoMemory.code()),
         }

@@ -6,6 +6,6 @@ use Rattle.pair_jobs.specs.Answers.{answer_at}
 use Rattle.refine_match.proofs.DeviceCounts.{uneven_device}
 
 pub uneven_devices : UnevenDevicesLaw
-uneven_devices left right limit answers h k c d is also uneven =
-    let node = uneven_device (pair_in left (answer_at answers) c d) uneven in
-    uneven_pair left right limit answers h k c d node.0 is also node.1
+uneven_devices left right asked answers h k c d is also uneven =
+    let node = uneven_device (pair_in (asked.told k) left (answer_at answers) c d) uneven in
+    uneven_pair left right asked answers h k c d node.0 is also node.1

@@ -1,6 +1,7 @@
 //! The comparison of a layout's netlist with a schematic.
 ghost use Rattle.std.specs.Prelude.{◌↔◌, ◌<◌, ◌≤◌, IfOk, IfSome, IsNone, length, map};
 ghost use Rattle.match_types.specs.Plain.{plain_answer};
+ghost use Rattle.match_types.specs.Answered.{asked_of};
 ghost use Rattle.net_align.specs.Compared.{AreAligned, AreCalleesFirst, AreComparable};
 ghost use Rattle.net_align.specs.Compared.{HasNoPartner, IsAlignable};
 ghost use Rattle.net_align.specs.Names.{left_names, right_names};
@@ -33,6 +34,7 @@ fn answer_pairs<R: Threads + Wait + Sync, G: Gate + Sync>(
     alloc: Global,
     aligned: &Aligned,
     limit: u32,
+    same_pins: bool,
     workers: usize,
     gate: &G,
 ) -> Result<Results<Answer>, AllocError>
@@ -40,16 +42,17 @@ fn answer_pairs<R: Threads + Wait + Sync, G: Gate + Sync>(
     requires sides { AreComparable (plain_netlist aligned.now.left)
         (plain_netlist aligned.now.right) }
     ensures { IfOk result (λ answers. AreAllAnswers (plain_netlist aligned.now.left)
-        (plain_netlist aligned.now.right) limit (map plain_answer answers)) }
+        (plain_netlist aligned.now.right)
+        (asked_of (plain_netlist aligned.now.left) limit same_pins) (map plain_answer answers)) }
 {
-    let phase = PairPhase::new(alloc, &aligned.left, &aligned.right, limit)?;
+    let phase = PairPhase::new(alloc, &aligned.left, &aligned.right, limit, same_pins)?;
     run_phase(rt, alloc, &phase, workers, gate)
 }
 
 /// The layout below its top compared with the schematic; nothing where the top has no partner.
 /// Partners are as `align` finds them, and a pair is compared after those that its left circuit
-/// calls, with at most `limit` refuted guesses. The answer is the same for every number of workers.
-/// The error is want of memory.
+/// calls, with at most `limit` refuted guesses; with `same_pins` names tell the tops' pins apart.
+/// The answer is the same for every number of workers. The error is want of memory.
 pub fn compare<R: Threads + Wait + Sync, G: Gate + Sync>(
     rt: &R,
     alloc: Global,
@@ -58,6 +61,7 @@ pub fn compare<R: Threads + Wait + Sync, G: Gate + Sync>(
     schematic: &Netlist,
     same: &[(Name, Name)],
     limit: u32,
+    same_pins: bool,
     workers: usize,
     gate: &G,
 ) -> Result<Option<Comparison>, AllocError>
@@ -76,12 +80,13 @@ pub fn compare<R: Threads + Wait + Sync, G: Gate + Sync>(
     ensures comparable { IfOk result (λ found. IfSome found (λ c.
         AreComparable (plain_netlist c.left) (plain_netlist c.right))) }
     ensures answers { IfOk result (λ found. IfSome found (λ c. AreAllAnswers
-        (plain_netlist c.left) (plain_netlist c.right) limit (map plain_answer c.answers))) }
+        (plain_netlist c.left) (plain_netlist c.right)
+        (asked_of (plain_netlist c.left) limit same_pins) (map plain_answer c.answers))) }
 {
     let Some(aligned) = align(alloc, layout, top, schematic, same)? else {
         return Ok(None);
     };
-    let answers = answer_pairs(rt, alloc, &aligned, limit, workers, gate)?;
+    let answers = answer_pairs(rt, alloc, &aligned, limit, same_pins, workers, gate)?;
     let Aligned { left, right } = aligned;
     Ok(Some(Comparison {
         left,

@@ -1,5 +1,5 @@
 //! The pairs of two netlists, compared one after the other.
-ghost use Rattle.std.specs.Prelude.{◌≡◌, IfOk};
+ghost use Rattle.std.specs.Prelude.{◌≡◌, ◌+◌, ◌==◌, ◌&&◌, length, IfOk};
 ghost use Rattle.align_laws.specs.Partners.{AreSides};
 ghost use Rattle.net_model.specs.Rows.{plain_netlist};
 ghost use Rattle.pair_jobs.specs.Jobs.{AreCalledJobs};
@@ -21,6 +21,7 @@ pub struct PairPhase<'a> {
     left: &'a Netlist,
     right: &'a Netlist,
     limit: u32,
+    same_pins: bool,
     graph: Graph,
 }
 
@@ -36,19 +37,21 @@ impl<'a> Model for PairPhase<'a> {
 
 impl<'a> PairPhase<'a> {
     /// The phase of the two sides of a comparison; in each pair at most `limit` guesses may end
-    /// refuted. It takes the time to sort the calls. The error is want of memory, or 2^32 circuits
-    /// or more.
+    /// refuted, and with `same_pins` names tell the pins of the last pair apart, that of the tops.
+    /// It takes the time to sort the calls. The error is want of memory, or 2^32 circuits or more.
     pub fn new(
         alloc: Global,
         left: &'a Netlist,
         right: &'a Netlist,
         limit: u32,
+        same_pins: bool,
     ) -> Result<PairPhase<'a>, AllocError>
         requires sides { AreSides (plain_netlist left.now) (plain_netlist right.now) }
         requires order { IsGood (plain_netlist left.now) (λ k. k) }
         ensures left { IfOk result (λ p. p.left ≡ left.now) }
         ensures right { IfOk result (λ p. p.right ≡ right.now) }
         ensures limit { IfOk result (λ p. p.limit ≡ limit) }
+        ensures pins { IfOk result (λ p. p.same_pins ≡ same_pins) }
         ensures jobs { IfOk result (λ p. AreCalledJobs (plain_netlist left.now) p.graph) }
     {
         let graph = pair_graph(alloc, left)?;
@@ -56,9 +59,17 @@ impl<'a> PairPhase<'a> {
             left,
             right,
             limit,
+            same_pins,
             graph,
         })
     }
+}
+
+// Whether names tell the pins of a pair apart: where that is asked, those of the last, the tops'.
+fn is_told(left: &Netlist, pair: u32, same_pins: bool) -> bool
+    ensures { result ≡ (same_pins && (pair + 1 == length left.now.circuits.items)) }
+{
+    same_pins && pair as usize + 1 == left.circuits.len()
 }
 
 impl Phase for PairPhase<'_> {
@@ -70,6 +81,7 @@ impl Phase for PairPhase<'_> {
       left = record { marker = record {}; value = p.left };
       right = record { marker = record {}; value = p.right };
       limit = record { marker = record {}; value = p.limit };
+      same_pins = record { marker = record {}; value = p.same_pins };
     } };
 
     fn graph(&self) -> &Graph {
@@ -81,6 +93,7 @@ impl Phase for PairPhase<'_> {
             left: Snapshot::of(self.left),
             right: Snapshot::of(self.right),
             limit: Snapshot::of(&self.limit),
+            same_pins: Snapshot::of(&self.same_pins),
         }
     }
 
@@ -90,7 +103,8 @@ impl Phase for PairPhase<'_> {
         job: u32,
         reads: &R,
     ) -> Result<Answer, AllocError> {
-        let children = child_pins(alloc, self.left, self.graph.inputs(job), reads)?;
+        let told = is_told(self.left, job, self.same_pins);
+        let children = child_pins(alloc, self.left, self.graph.inputs(job), reads, told)?;
         let left = &self.left.circuits[job as usize];
         let right = &self.right.circuits[job as usize];
         match_circuits(alloc, left, right, &children, self.limit)

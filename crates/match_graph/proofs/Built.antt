@@ -102,9 +102,9 @@ graph_is p g fl fr b =
             omega arith;
         kinds =
             let k = b.kinds.long in
-            let l = length-append (circuit_owns p.left) (circuit_owns p.right) in
-            let x = owns_long p.left in
-            let y = owns_long p.right in
+            let l = length-append (circuit_owns p.told p.left) (circuit_owns p.told p.right) in
+            let x = owns_long p.told p.left in
+            let y = owns_long p.told p.right in
             omega arith;
         web = web_is p g fl fr b;
         turned = λ x y port lx ly.

@@ -1,5 +1,5 @@
 -- Numbers for what the first round goes by, one node after another.
-use Rattle.std.proofs.Common.{◌≡◌, ℕ, ◌+◌, ◌<◌, ◌≤◌, ◌==◌, Bool, false, cond, List, [], ◌∷◌, ◌++◌, length, map, take, slice_get, slice_index, get_or, Option, Some, None, refl, sym, subst, ◌∙◌, ap, ap₂, arith, append_assoc, inl, inr}
+use Rattle.std.proofs.Common.{◌≡◌, ℕ, zero, suc, ◌+◌, ◌<◌, ◌≤◌, ◌==◌, Bool, false, cond, List, [], ◌∷◌, ◌++◌, length, map, take, slice_get, slice_index, get_or, Option, Some, None, refl, sym, subst, ◌∙◌, ap, ap₂, arith, append_assoc, inl, inr}
 use Rattle.std.specs.HashMap.{get, hash_map_len}
 use Rattle.std.specs.Bool.{Decides}
 use Rattle.std.specs.List.{list_any}
@@ -7,7 +7,7 @@ use Rattle.round_laws.proofs.Agree.{is_it, same_test}
 use Rattle.std.proofs.lemmas.Bool.{cases_lt}
 use Rattle.std.proofs.lemmas.Option.{same_Some, slice_get_within, get_or_from_slice_get}
 use Rattle.std.proofs.lemmas.List.{append-nil, get_or_push, get_or_append_left, length_push, map_more, map_push, take_all}
-use Rattle.match_laws.specs.Circuits.{Own as PlainOwn, OfNone, same_own, numbers_from}
+use Rattle.match_laws.specs.Circuits.{Own as PlainOwn, OfNone, same_own, numbers_from, is_pin, pin_name, OfNet}
 use Rattle.match_laws.proofs.Images.{own_decides, listed_any, any_listed}
 use Rattle.match_parts.specs.Marks.{AreMarked}
 use Rattle.match_graph.proofs.Listed.{numbers_more}
@@ -15,18 +15,19 @@ use Rattle.match_graph.specs.declared.kinds.Kinds.{Kinds}
 use Rattle.match_graph.specs.declared.kinds.Own.{Own}
 use Rattle.match_graph.specs.declared.kinds.Own.TheVariants.{Net, Device, Call}
 use Rattle.match_graph.specs.contracts.kinds.OwnPartialEq.TheImpl.{eq-value}
-use Rattle.match_graph.specs.Kinds.{plain_own, IsNumbering, AreKindsOf, Adds}
+use Rattle.plain_netlist.specs.Netlist.{Circuit}
+use Rattle.match_graph.specs.Kinds.{plain_own, IsNumbering, AreKindsOf, Adds, ArePinNames, name_in, net_own, net_owns, named_owns, device_own, call_own, circuit_owns}
 
 -- the derived test
 same_is : (q r : Own) → eq-value.it q r ≡ same_own (plain_own q) (plain_own r)
-same_is (Net a) (Net b) = refl
+same_is (Net a x) (Net b y) = refl
 same_is (Device a l w) (Device b m v) = refl
 same_is (Call a) (Call b) = refl
-same_is (Net a) (Device b m v) = refl
-same_is (Net a) (Call b) = refl
-same_is (Device a l w) (Net b) = refl
+same_is (Net a x) (Device b m v) = refl
+same_is (Net a x) (Call b) = refl
+same_is (Device a l w) (Net b x) = refl
 same_is (Device a l w) (Call b) = refl
-same_is (Call a) (Net b) = refl
+same_is (Call a) (Net b x) = refl
 same_is (Call a) (Device b m v) = refl
 
 pub same_decides : (q r : Own) → Decides (eq-value.it q r) (plain_own q ≡ plain_own r)
@@ -158,3 +159,17 @@ rows_all f rows i l = ap (map f) (take_all i rows l)
 -- a mark is set exactly where the net is listed
 pub marked : (pins : List ℕ) (marks : List Bool) (n : ℕ) → AreMarked pins marks → n < length marks → get_or marks n false ≡ list_any (λ p. p == n) pins
 marked pins marks n h l = same_test _ _ (λ t. listed_any n pins ((h n l).0 t)) (λ t. (h n l).1 (any_listed n pins t))
+
+-- equal names make equal nodes
+same_nets : (told : Bool) (c : Circuit) (names : List (Option (List ℕ))) (n : ℕ) → n ≤ length c.nets → ArePinNames told c names
+    → map (net_own (name_in names) c) (numbers_from 0 n) ≡ map (net_own (pin_name told c) c) (numbers_from 0 n)
+same_nets told c names zero l h = refl
+same_nets told c names (suc n) l h =
+    let e : suc n ≡ n + 1 = omega arith in
+    ap (λ (k : ℕ). map (net_own (name_in names) c) (numbers_from 0 k)) e
+    ∙ (nets_more (net_own (name_in names) c) n
+    ∙ (ap₂ (λ (xs : List PlainOwn) (own : PlainOwn). xs ++ own ∷ []) (same_nets told c names n (omega arith) h) (ap (OfNet (is_pin c n)) (h n (omega arith)))
+    ∙ (sym (nets_more (net_own (pin_name told c) c) n) ∙ ap (λ (k : ℕ). map (net_own (pin_name told c) c) (numbers_from 0 k)) (sym e))))
+
+pub owns_named : (told : Bool) (c : Circuit) (names : List (Option (List ℕ))) → ArePinNames told c names → named_owns (name_in names) c ≡ circuit_owns told c
+owns_named told c names h = ap (λ (xs : List PlainOwn). xs ++ map device_own c.devices ++ map call_own c.calls) (same_nets told c names (length c.nets) (omega arith) h)

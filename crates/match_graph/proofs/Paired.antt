@@ -10,7 +10,7 @@ use Rattle.round_laws.specs.Nodes.{Node, Side, Layout, Schematic, Kind, Net, Dev
 use Rattle.round_laws.specs.Colours.{ends_of}
 use Rattle.round_laws.proofs.Agree.{is_it, same_test}
 use Rattle.round_laws.proofs.Stable.{in_either}
-use Rattle.match_laws.specs.Circuits.{Pair, circuit_of, numbers_from, node, end_at, right_pin, device_ends, call_ends, terminals, terminals_of, owners, nodes, same_node, ends_on, near_at, web_of, IsFitting, Own, OfNet, OfCall, OfNone, same_own, own_at, own}
+use Rattle.match_laws.specs.Circuits.{Pair, is_pin, pin_name, circuit_of, numbers_from, node, end_at, right_pin, device_ends, call_ends, terminals, terminals_of, owners, nodes, same_node, ends_on, near_at, web_of, IsFitting, Own, OfNet, OfCall, OfNone, same_own, own_at, own}
 use Rattle.match_laws.proofs.Sums.{sum_same, sum-map, sum-flat, in_map}
 use Rattle.match_laws.proofs.Images.{size, seen, in_flat, in_turned, device_terms, call_terms, own_decides}
 use Rattle.match_graph.specs.declared.graph.End.{End}
@@ -20,7 +20,7 @@ use Rattle.match_graph.specs.Numbering.{nodes_in, first_of_side, first_of_kind, 
 use Rattle.match_graph.specs.Graph.{plain_port, plain_end, port_name}
 use Rattle.match_graph.specs.Edges.{edge, pair_edges}
 use Rattle.match_graph.specs.Filling.{end, one_end, ends_from, edge_at, AreBetween}
-use Rattle.match_graph.specs.Kinds.{net_owns, device_own, call_own, circuit_owns, AreKindsOf}
+use Rattle.match_graph.specs.Kinds.{net_own, net_owns, device_own, call_own, circuit_owns, AreKindsOf}
 use Rattle.match_graph.proofs.Placed.{index-first, index-last, there}
 use Rattle.match_graph.proofs.Joined.{all_owners, owner_edges, edge_of, edges_are}
 use Rattle.match_graph.proofs.Near.{owner_node, owner_terminal, one_sum, owner_side, fits_both}
@@ -162,51 +162,51 @@ length-numbers : {X : Type 0} (f : ℕ → X) (a n : ℕ) → length (map f (num
 length-numbers f a zero = refl
 length-numbers f a (suc n) = ap suc (length-numbers f (suc a) n)
 
-nets_long : (c : Circuit) → length (net_owns c) ≡ length c.nets
-nets_long c = length-numbers (λ k. OfNet (list_any (λ n. n == k) c.pins)) 0 (length c.nets)
+nets_long : (told : Bool) (c : Circuit) → length (net_owns (pin_name told c) c) ≡ length c.nets
+nets_long told c = length-numbers (net_own (pin_name told c) c) 0 (length c.nets)
 
-rows_long : (c : Circuit) → length (net_owns c ++ map device_own c.devices) ≡ length c.nets + length c.devices
-rows_long c =
-    let a = length-append (net_owns c) (map device_own c.devices) in
-    let n = nets_long c in
+rows_long : (told : Bool) (c : Circuit) → length (net_owns (pin_name told c) c ++ map device_own c.devices) ≡ length c.nets + length c.devices
+rows_long told c =
+    let a = length-append (net_owns (pin_name told c) c) (map device_own c.devices) in
+    let n = nets_long told c in
     let d = length-map c.devices device_own in
     omega arith
 
-pub owns_long : (c : Circuit) → length (circuit_owns c) ≡ nodes_in c
-owns_long c =
-    let a = length-append (net_owns c ++ map device_own c.devices) (map call_own c.calls) in
-    let r = rows_long c in
+pub owns_long : (told : Bool) (c : Circuit) → length (circuit_owns told c) ≡ nodes_in c
+owns_long told c =
+    let a = length-append (net_owns (pin_name told c) c ++ map device_own c.devices) (map call_own c.calls) in
+    let r = rows_long told c in
     let l = length-map c.calls call_own in
     omega arith
 
-own_in : (p : Pair) (side : Side) (kind : Kind) (k : ℕ) → k < size p side kind → get_or (circuit_owns (circuit_of p side)) (first_of_kind (circuit_of p side) kind + k) OfNone ≡ own_at p side kind k
+own_in : (p : Pair) (side : Side) (kind : Kind) (k : ℕ) → k < size p side kind → get_or (circuit_owns p.told (circuit_of p side)) (first_of_kind (circuit_of p side) kind + k) OfNone ≡ own_at p side kind k
 own_in p side Net k l =
     let c : Circuit = circuit_of p side in
     let z : 0 + k ≡ k = omega arith in
-    let r = rows_long (circuit_of p side) in
-    let n = nets_long (circuit_of p side) in
-    ap (λ (i : ℕ). get_or (circuit_owns (circuit_of p side)) i OfNone) z
-    ∙ (get_or_append_left (net_owns (circuit_of p side) ++ map device_own (circuit_of p side).devices) (map call_own (circuit_of p side).calls) OfNone k (omega arith)
-    ∙ (get_or_append_left (net_owns (circuit_of p side)) (map device_own (circuit_of p side).devices) OfNone k (omega arith)
-    ∙ (mapped_number (λ i. OfNet (list_any (λ m. m == i) (circuit_of p side).pins)) 0 (length (circuit_of p side).nets) k OfNone l
-    ∙ ap (λ (i : ℕ). OfNet (list_any (λ m. m == i) (circuit_of p side).pins)) z)))
+    let r = rows_long p.told (circuit_of p side) in
+    let n = nets_long p.told (circuit_of p side) in
+    ap (λ (i : ℕ). get_or (circuit_owns p.told (circuit_of p side)) i OfNone) z
+    ∙ (get_or_append_left (net_owns (pin_name p.told (circuit_of p side)) (circuit_of p side) ++ map device_own (circuit_of p side).devices) (map call_own (circuit_of p side).calls) OfNone k (omega arith)
+    ∙ (get_or_append_left (net_owns (pin_name p.told (circuit_of p side)) (circuit_of p side)) (map device_own (circuit_of p side).devices) OfNone k (omega arith)
+    ∙ (mapped_number (net_own (pin_name p.told (circuit_of p side)) (circuit_of p side)) 0 (length (circuit_of p side).nets) k OfNone l
+    ∙ ap (net_own (pin_name p.told (circuit_of p side)) (circuit_of p side)) z)))
 own_in p side Device k l =
-    let r = rows_long (circuit_of p side) in
-    let n = nets_long (circuit_of p side) in
+    let r = rows_long p.told (circuit_of p side) in
+    let n = nets_long p.told (circuit_of p side) in
     let e : length (circuit_of p side).nets + k - length (circuit_of p side).nets ≡ k = omega arith in
-    get_or_append_left (net_owns (circuit_of p side) ++ map device_own (circuit_of p side).devices) (map call_own (circuit_of p side).calls) OfNone (length (circuit_of p side).nets + k) (omega arith)
-    ∙ (get_or-append_right (net_owns (circuit_of p side)) (map device_own (circuit_of p side).devices) (length (circuit_of p side).nets) (length (circuit_of p side).nets + k) OfNone n (omega arith)
+    get_or_append_left (net_owns (pin_name p.told (circuit_of p side)) (circuit_of p side) ++ map device_own (circuit_of p side).devices) (map call_own (circuit_of p side).calls) OfNone (length (circuit_of p side).nets + k) (omega arith)
+    ∙ (get_or-append_right (net_owns (pin_name p.told (circuit_of p side)) (circuit_of p side)) (map device_own (circuit_of p side).devices) (length (circuit_of p side).nets) (length (circuit_of p side).nets + k) OfNone n (omega arith)
     ∙ (ap (λ (i : ℕ). get_or (map device_own (circuit_of p side).devices) i OfNone) e ∙ mapped_row device_own (circuit_of p side).devices k OfNone))
 own_in p side Call k l =
-    let r = rows_long (circuit_of p side) in
+    let r = rows_long p.told (circuit_of p side) in
     let e : length (circuit_of p side).nets + length (circuit_of p side).devices + k - (length (circuit_of p side).nets + length (circuit_of p side).devices) ≡ k = omega arith in
-    get_or-append_right (net_owns (circuit_of p side) ++ map device_own (circuit_of p side).devices) (map call_own (circuit_of p side).calls) (length (circuit_of p side).nets + length (circuit_of p side).devices)
+    get_or-append_right (net_owns (pin_name p.told (circuit_of p side)) (circuit_of p side) ++ map device_own (circuit_of p side).devices) (map call_own (circuit_of p side).calls) (length (circuit_of p side).nets + length (circuit_of p side).devices)
     (length (circuit_of p side).nets + length (circuit_of p side).devices + k) OfNone r (omega arith)
     ∙ (ap (λ (i : ℕ). get_or (map call_own (circuit_of p side).calls) i OfNone) e ∙ mapped_row call_own (circuit_of p side).calls k OfNone)
 
 -- both sides
 abbrev pub pair_owns : Pair → List Own
-pair_owns p = circuit_owns p.left ++ circuit_owns p.right
+pair_owns p = circuit_owns p.told p.left ++ circuit_owns p.told p.right
 
 kind_end : (c : Circuit) (kind : Kind) (k n : ℕ) → n ≡ elim kind [ Net ↦ length c.nets | Device ↦ length c.devices | Call ↦ length c.calls ] → k < n → first_of_kind c kind + k < nodes_in c
 kind_end c Net k n e l = omega arith
@@ -222,13 +222,13 @@ own_on : (p : Pair) (side : Side) (kind : Kind) (k : ℕ) → k < size p side ki
 own_on p Layout kind k l =
     let z : 0 + first_of_kind p.left kind + k ≡ first_of_kind p.left kind + k = omega arith in
     let low = kind_end p.left kind k (size p Layout kind) (size_is p Layout kind) l in
-    let long = owns_long p.left in
+    let long = owns_long p.told p.left in
     ap (λ (i : ℕ). get_or (pair_owns p) i OfNone) z
-    ∙ (get_or_append_left (circuit_owns p.left) (circuit_owns p.right) OfNone (first_of_kind p.left kind + k) (omega arith) ∙ own_in p Layout kind k l)
+    ∙ (get_or_append_left (circuit_owns p.told p.left) (circuit_owns p.told p.right) OfNone (first_of_kind p.left kind + k) (omega arith) ∙ own_in p Layout kind k l)
 own_on p Schematic kind k l =
     let e : nodes_in p.left + first_of_kind p.right kind + k - nodes_in p.left ≡ first_of_kind p.right kind + k = omega arith in
-    get_or-append_right (circuit_owns p.left) (circuit_owns p.right) (nodes_in p.left) (nodes_in p.left + first_of_kind p.right kind + k) OfNone (owns_long p.left) (omega arith)
-    ∙ (ap (λ (i : ℕ). get_or (circuit_owns p.right) i OfNone) e ∙ own_in p Schematic kind k l)
+    get_or-append_right (circuit_owns p.told p.left) (circuit_owns p.told p.right) (nodes_in p.left) (nodes_in p.left + first_of_kind p.right kind + k) OfNone (owns_long p.told p.left) (omega arith)
+    ∙ (ap (λ (i : ℕ). get_or (circuit_owns p.told p.right) i OfNone) e ∙ own_in p Schematic kind k l)
 
 own_of : (p : Pair) (a : Node) → IsNode (web_of p) a → get_or (pair_owns p) (index_of p a) OfNone ≡ own p a
 own_of p a i =
@@ -242,7 +242,7 @@ index_below p a (inr i) = let h = index-last p Schematic a i in omega arith
 pub alike_same : (p : Pair) (kinds : List ℕ) → AreKindsOf kinds (pair_owns p) → (a b : Node) → IsNode (web_of p) a → IsNode (web_of p) b
     → (slice_index kinds (index_of p a) == slice_index kinds (index_of p b)) ≡ same_own (own p a) (own p b)
 alike_same p kinds h a b i j =
-    let long : length (pair_owns p) ≡ nodes_in p.left + nodes_in p.right = length-append (circuit_owns p.left) (circuit_owns p.right) ∙ ap₂ (λ (m n : ℕ). m + n) (owns_long p.left) (owns_long p.right) in
+    let long : length (pair_owns p) ≡ nodes_in p.left + nodes_in p.right = length-append (circuit_owns p.told p.left) (circuit_owns p.told p.right) ∙ ap₂ (λ (m n : ℕ). m + n) (owns_long p.told p.left) (owns_long p.told p.right) in
     let la = index_below p a i in
     let lb = index_below p b j in
     let s = h.same (index_of p a) (index_of p b) (omega arith) (omega arith) in
@@ -289,14 +289,14 @@ turned_port net owner (x ∷ xs) e i = elim (is_it (same_node x.node net)) [
 
 -- the pair of a pin is that of the node, or of the node at its end
 abbrev KnowsPair : Pair → Node → PlainEnd Node → ℕ → Type 0
-KnowsPair p a d q = (own p a ≡ OfCall q) ⊎ (((b : Bool) × (own p a ≡ OfNet b)) × (own p d.node ≡ OfCall q))
+KnowsPair p a d q = (own p a ≡ OfCall q) ⊎ (((b : Bool) × (name : List ℕ) × (own p a ≡ OfNet b name)) × (own p d.node ≡ OfCall q))
 
 pin_in_near : (p : Pair) (side : Side) (kind : Kind) (k : ℕ) (d : PlainEnd Node) (q i : ℕ) → IsListed d (near_at p side kind k) → d.port ≡ Pin q i → KnowsPair p (node side kind k) d q
 pin_in_near p side Net k d q i l is =
     let f = in_flat (λ o. ends_on (node side Net k) o (terminals_of p o)) d (owners p side) l in
     let t = turned_port (node side Net k) f.0 (terminals_of p f.0) d f.2 in
     inr (
-      (list_any (λ n. n == k) (circuit_of p side).pins, refl),
+      (is_pin (circuit_of p side) k, pin_name p.told (circuit_of p side) k, refl),
       ap (own p) (in_turned (node side Net k) f.0 (terminals_of p f.0) d f.2) ∙ terminal_pin p f.0.side f.0.kind f.0.number t.0 q i t.1 (sym t.2 ∙ is),
     )
 pin_in_near p side Device k d q i l is = inl (terminal_pin p side Device k d q i l is)
@@ -304,8 +304,8 @@ pin_in_near p side Call k d q i l is = inl (terminal_pin p side Call k d q i l i
 
 pairs_same : (p : Pair) (a b : Node) (d e : PlainEnd Node) (q r : ℕ) → own p a ≡ own p b → own p d.node ≡ own p e.node → KnowsPair p a d q → KnowsPair p b e r → q ≡ r
 pairs_same p a b d e q r s t (inl u) (inl v) = let x : OfCall q ≡ OfCall r = sym u ∙ (s ∙ v) in cc
-pairs_same p a b d e q r s t (inl u) (inr v) = let x : OfCall q ≡ OfNet v.0.0 = sym u ∙ (s ∙ v.0.1) in absurd cc
-pairs_same p a b d e q r s t (inr u) (inl v) = let x : OfNet u.0.0 ≡ OfCall r = sym u.0.1 ∙ (s ∙ v) in absurd cc
+pairs_same p a b d e q r s t (inl u) (inr v) = let x : OfCall q ≡ OfNet v.0.0 v.0.1 = sym u ∙ (s ∙ v.0.2) in absurd cc
+pairs_same p a b d e q r s t (inr u) (inl v) = let x : OfNet u.0.0 u.0.1 ≡ OfCall r = sym u.0.2 ∙ (s ∙ v) in absurd cc
 pairs_same p a b d e q r s t (inr u) (inr v) = let x : OfCall q ≡ OfCall r = sym u.1 ∙ (t ∙ v.1) in cc
 
 pub ports_same : (p : Pair) (a b : Node) → same_own (own p a) (own p b) ≡ true → (d e : PlainEnd Node) → IsListed d (near_at p a.side a.kind a.number) → IsListed e (near_at p b.side b.kind b.number)

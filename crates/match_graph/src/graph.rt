@@ -72,7 +72,7 @@ impl Graph {
             right: right_sizes,
             begins,
             ends,
-            kinds: list_kinds(alloc, left, right)?,
+            kinds: list_kinds(alloc, left, right, children.told())?,
         })
     }
 

@@ -1,23 +1,26 @@
 //! The kinds of nodes: one number for all that look alike before the first round.
 
-ghost use Rattle.std.specs.Prelude.{◌≡◌, ◌++◌, ◌∷◌, [], length, map, OnOk, IfOk};
+ghost use Rattle.std.specs.Prelude.{◌≡◌, ◌<◌, ◌++◌, ◌∷◌, [], true, length, map, unwrap_or, OnOk, IfOk};
 ghost use Rattle.net_model.specs.Rows.{plain_circuit};
 ghost use Rattle.match_parts.specs.Marks.{AreMarked};
 ghost use Rattle.match_graph.specs.Kinds.{Adds, AreKindsOf, call_own, circuit_owns, device_own};
-ghost use Rattle.match_graph.specs.Kinds.{net_owns, plain_own};
+ghost use Rattle.match_graph.specs.Kinds.{ArePinNames, name_in, named_owns, net_owns, plain_own};
+ghost use Rattle.match_laws.specs.Circuits.{pin_name};
 
 use list_base::number;
 use match_parts::mark;
 use net_model::Circuit;
+use net_names::{Name, folded};
 use std::alloc::{AllocError, Global};
 use std::collections::HashMap;
 
-/// What the first round goes by: a net by being a pin, a transistor by class and sizes, a call by
-/// its pair.
+/// What the first round goes by: a net by being a pin, and by the pin's name where names tell pins
+/// apart, a transistor by class and sizes, a call by its pair.
 #[derive(Clone, Copy, PartialEq, Eq, Hash)]
 enum Own<'a> {
     Net {
         is_pin: bool,
+        name: &'a [u8],
     },
     Device {
         class: &'a [u8],
@@ -37,43 +40,61 @@ struct Kinds<'a> {
 }
 
 /// For each node of both circuits a number: equal numbers exactly where the nodes look alike before
-/// the first round.
-pub fn list_kinds(alloc: Global, left: &Circuit, right: &Circuit) -> Result<Vec<u32>, AllocError>
+/// the first round. Names are copied only where they tell pins apart.
+pub fn list_kinds(
+    alloc: Global,
+    left: &Circuit,
+    right: &Circuit,
+    told: bool,
+) -> Result<Vec<u32>, AllocError>
     ensures { IfOk result (λ kinds. AreKindsOf kinds.items
-        (circuit_owns (plain_circuit left.now) ++ circuit_owns (plain_circuit right.now))) }
+        (circuit_owns told (plain_circuit left.now) ++ circuit_owns told (plain_circuit right.now))) }
 {
+    let left_names = pin_names(alloc, left, told)?;
+    let right_names = pin_names(alloc, right, told)?;
     let mut kinds = Kinds {
         numbers: HashMap::new(alloc),
         of_nodes: Vec::new(alloc),
     };
-    kinds.add_circuit(alloc, left)?;
-    kinds.add_circuit(alloc, right)?;
+    kinds.add_circuit(alloc, left, &left_names)?;
+    kinds.add_circuit(alloc, right, &right_names)?;
     Ok(kinds.of_nodes)
 }
 
 impl<'a> Kinds<'a> {
-    // Adds the nets, transistors and calls of a circuit.
-    fn add_circuit(&mut self, alloc: Global, circuit: &'a Circuit) -> Result<(), AllocError>
+    // Adds the nets, transistors and calls of a circuit, whose nets have these names.
+    fn add_circuit(
+        &mut self,
+        alloc: Global,
+        circuit: &'a Circuit,
+        names: &'a [Option<Name>],
+    ) -> Result<(), AllocError>
         ensures { OnOk result (Adds ⟦<Own<'a> as PartialEq>⟧.eq self.old self.new
-            (circuit_owns (plain_circuit circuit.now))) }
+            (named_owns (name_in names.now) (plain_circuit circuit.now))) }
     {
         let marks = pin_marks(alloc, circuit)?;
-        self.add_nets(circuit, &marks)?;
+        self.add_nets(circuit, &marks, names)?;
         self.add_devices(circuit)?;
         self.add_calls(circuit)?;
         Ok(())
     }
 
     // Adds the nets, whose marks say which are pins.
-    fn add_nets(&mut self, circuit: &Circuit, marks: &[bool]) -> Result<(), AllocError>
+    fn add_nets(
+        &mut self,
+        circuit: &Circuit,
+        marks: &[bool],
+        names: &'a [Option<Name>],
+    ) -> Result<(), AllocError>
         requires count { length marks.now ≡ length circuit.now.nets.items }
         requires pins { AreMarked circuit.now.pins.items marks.now }
         ensures { OnOk result (Adds ⟦<Own<'a> as PartialEq>⟧.eq self.old self.new
-            (net_owns (plain_circuit circuit.now))) }
+            (net_owns (name_in names.now) (plain_circuit circuit.now))) }
     {
         for n in 0..marks.len() {
+            let name = name_at(names, n);
             let is_pin = marks[n];
-            self.add(Own::Net { is_pin })?;
+            self.add(Own::Net { is_pin, name })?;
         }
         Ok(())
     }
@@ -119,6 +140,59 @@ impl<'a> Kinds<'a> {
         };
         self.of_nodes.push(kind)?;
         Ok(())
+    }
+}
+
+// The name at a place, or an empty one where there is none.
+fn name_at<'a>(names: &'a [Option<Name>], n: usize) -> &'a [u8]
+    ensures { result.now ≡ name_in names.now n }
+{
+    match names.get(n) {
+        Some(Some(name)) => name.bytes(),
+        _ => b"",
+    }
+}
+
+// The name of a net, small letters being large ones, where it is a pin.
+fn told_name(
+    alloc: Global,
+    circuit: &Circuit,
+    marks: &[bool],
+    n: usize,
+) -> Result<Option<Name>, AllocError>
+    requires count { length marks.now ≡ length circuit.now.nets.items }
+    requires pins { AreMarked circuit.now.pins.items marks.now }
+    requires within { n < length marks.now }
+    ensures { IfOk result
+        (λ name. unwrap_or name [] ≡ pin_name true (plain_circuit circuit.now) n) }
+{
+    if marks[n] {
+        Ok(Some(folded(alloc, &circuit.nets[n])?))
+    } else {
+        Ok(None)
+    }
+}
+
+// Those of all nets.
+fn told_names(alloc: Global, circuit: &Circuit) -> Result<Vec<Option<Name>>, AllocError>
+    ensures { IfOk result (λ names. ArePinNames true (plain_circuit circuit.now) names.items) }
+{
+    let marks = pin_marks(alloc, circuit)?;
+    let mut names = Vec::new(alloc);
+    for n in 0..marks.len() {
+        names.push(told_name(alloc, circuit, &marks, n)?)?;
+    }
+    Ok(names)
+}
+
+// The names of the pins where they tell pins apart, else none at all.
+fn pin_names(alloc: Global, circuit: &Circuit, told: bool) -> Result<Vec<Option<Name>>, AllocError>
+    ensures { IfOk result (λ names. ArePinNames told (plain_circuit circuit.now) names.items) }
+{
+    if told {
+        told_names(alloc, circuit)
+    } else {
+        Ok(Vec::new(alloc))
     }
 }
 

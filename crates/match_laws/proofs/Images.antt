@@ -164,9 +164,12 @@ onto_nodes p f c g =
 
 -- round 0
 pub own_decides : (a b : Own) → Decides (same_own a b) (a ≡ b)
-own_decides (OfNet a) (OfNet b) = (
-  (λ h. ap OfNet (bool_is a b h)),
-  (λ h. let e : a ≡ b = cc in subst (λ (x : Bool). beq a x ≡ true) e (bool_eq_equiv.refl a)),
+own_decides (OfNet a m) (OfNet b n) = (
+  (λ h. ap₂ OfNet (bool_is a b (first (beq a b) _ h)) ((bytes_eq-Decides m n).0 (second (beq a b) _ h))),
+  (λ h.
+      let e : a ≡ b = cc in
+      let q : m ≡ n = cc in
+      both (beq a b) _ (subst (λ (x : Bool). beq a x ≡ true) e (bool_eq_equiv.refl a)) ((bytes_eq-Decides m n).1 q)),
 )
   where
     bool_is : (a b : Bool) → beq a b ≡ true → a ≡ b
@@ -219,9 +222,9 @@ any_listed n xs h =
     subst (λ (x : ℕ). IsListed x xs) ((Decides-eqb f.0 n).0 f.2) f.1
 
 own_carried : (p : Pair) (f : Pairing) → IsCorrespondence p f → (kind : Kind) (k : ℕ) → k < size p Layout kind → own_at p Layout kind k ≡ own_at p Schematic kind (image_at f kind k)
-own_carried p f c Net k h = ap OfNet (same_test _ _
+own_carried p f c Net k h = ap₂ OfNet (same_test _ _
     (λ t. listed_any (slice_index f.nets k) p.right.pins ((c.pin k h).0 (any_listed k p.left.pins t)))
-    (λ t. listed_any k p.left.pins ((c.pin k h).1 (any_listed (slice_index f.nets k) p.right.pins t))))
+    (λ t. listed_any k p.left.pins ((c.pin k h).1 (any_listed (slice_index f.nets k) p.right.pins t)))) (c.named k h)
 own_carried p f c Device k h =
     let t = device_at p f c k h in
     let i = t.4 in

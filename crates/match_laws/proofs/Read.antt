@@ -8,7 +8,7 @@ use Rattle.plain_netlist.specs.Lists.{IsListed}
 use Rattle.round_laws.specs.Web.{Port, Channel, Gate, Bulk, Pin, same_port, End, IsWebMap}
 use Rattle.round_laws.specs.Nodes.{Node, Side, Layout, Schematic, Kind, Net, Device, Call}
 use Rattle.plain_netlist.specs.Netlist.{DeviceRow, CallRow}
-use Rattle.match_laws.specs.Circuits.{Pair, circuit_of, right_pin, numbers_from, node, end_at, device_ends, call_ends, nodes, same_node, near_at, Own, OfNet, OfDevice, OfCall, OfNone, own_at, own, web_of, IsOneToOne, IsDeviceImage, IsCallImage, IsCorrespondence, IsFitting, numbers_of, pairing_of, AreMatched}
+use Rattle.match_laws.specs.Circuits.{Pair, circuit_of, right_pin, numbers_from, node, end_at, device_ends, call_ends, nodes, same_node, near_at, Own, OfNet, OfDevice, OfCall, OfNone, own_at, own, web_of, IsOneToOne, IsDeviceImage, IsCallImage, IsCorrespondence, IsFitting, numbers_of, pairing_of, AreMatched, pin_name}
 use Rattle.round_laws.proofs.Agree.{count-cons, both, first, second, same_test, is_it, count_same, port_same}
 use Rattle.round_laws.proofs.Stable.{any_found, any_of}
 use Rattle.round_laws.proofs.Solved.{count-has, cut, here_mid}
@@ -17,7 +17,7 @@ use Rattle.match_laws.proofs.Images.{size, nodes_has, nodes_there, own_decides, 
 
 -- kinds
 abbrev kind_of : Own → Option Kind
-kind_of (OfNet b) = Some Net
+kind_of (OfNet b n) = Some Net
 kind_of (OfDevice c l w) = Some Device
 kind_of (OfCall p) = Some Call
 kind_of OfNone = None
@@ -120,8 +120,8 @@ one_to_one p f c kind = record {
         ap (λ (n : Node). n.number) (c.one (node Layout kind j) (node Layout kind k) (nodes_has p Layout kind j a) (nodes_has p Layout kind k b) same)
 
 -- pins
-same_pins : (a b : Bool) → OfNet a ≡ OfNet b → a ≡ b
-same_pins a b h = cc
+same_pins : (a b : Bool) (m n : List ℕ) → OfNet a m ≡ OfNet b n → (a ≡ b) × (m ≡ n)
+same_pins a b m n h = let e : a ≡ b = cc in let f : m ≡ n = cc in (e, f)
 
 listed_by : (n : ℕ) (xs : List ℕ) (m : ℕ) (ys : List ℕ) → list_any (λ x. x == n) xs ≡ list_any (λ x. x == m) ys → IsListed n xs → IsListed m ys
 listed_by n xs m ys e i =
@@ -297,11 +297,15 @@ reads p f l r matched c = record {
   calls = one_to_one p f c Call;
   pin = λ n h.
       let m = image p f c Net n h in
-      let e : list_any (λ x. x == n) p.left.pins ≡ list_any (λ x. x == (f (node Layout Net n)).number) p.right.pins = same_pins _ _ m.own in
+      let e : list_any (λ x. x == n) p.left.pins ≡ list_any (λ x. x == (f (node Layout Net n)).number) p.right.pins = (same_pins _ _ _ _ m.own).0 in
       let at : slice_index (numbers_of f Net (length p.left.nets)) n ≡ (f (node Layout Net n)).number = index_image f Net (length p.left.nets) n h in (
         (λ i. subst (λ (x : ℕ). IsListed x p.right.pins) (sym at) (listed_by n p.left.pins _ p.right.pins e i)),
         (λ i. listed_by (f (node Layout Net n)).number p.right.pins n p.left.pins (sym e) (subst (λ (x : ℕ). IsListed x p.right.pins) at i)),
       );
+  named = λ n h.
+      let m = image p f c Net n h in
+      let at : slice_index (numbers_of f Net (length p.left.nets)) n ≡ (f (node Layout Net n)).number = index_image f Net (length p.left.nets) n h in
+      (same_pins _ _ _ _ m.own).1 ∙ ap (λ (x : ℕ). pin_name p.told p.right x) (sym at);
   device = λ k d e left right.
       let h = slice_get_within p.left.devices k d left in
       device_image p f l c k d e h left (ap (slice_get p.right.devices) (sym (index_image f Device (length p.left.devices) k h)) ∙ right);

@@ -2,20 +2,23 @@
 -- left pin of the called pairs.
 use Rattle.std.specs.Prelude.{◌≡◌, ◌⊎◌, ◌↔◌, ◌<◌, ◌==◌, ◌&&◌, ℕ, zero, suc, Bool, true, false, cond}
 use Rattle.std.specs.Prelude.{List, [], ◌∷◌, ◌++◌, map, length, count_by, flat_map, Option, Some}
-use Rattle.std.specs.Prelude.{None, slice_get, slice_index, bytes_eq}
+use Rattle.std.specs.Prelude.{None, slice_get, slice_index, slice_index_or, bytes_eq}
 use Rattle.std.specs.Bool.{beq}
 use Rattle.std.specs.List.{list_any}
+use Rattle.net_names.specs.Folding.{folded_bytes}
 use Rattle.plain_netlist.specs.Netlist.{DeviceRow, CallRow, Circuit}
 use Rattle.plain_netlist.specs.Lists.{IsListed}
 use Rattle.round_laws.specs.Web.{Port, Channel, Gate, Bulk, Pin, End, Web, IsWebMap}
 use Rattle.round_laws.specs.Nodes.{Node, Side, Layout, Schematic, Kind, Net, Device, Call}
 
 -- two circuits to be compared; children: for each matched pair the right pin of each left pin
--- (circuits are paired by position, so the number of a called circuit is that of its pair)
+-- (circuits are paired by position, so the number of a called circuit is that of its pair); told:
+-- their pins are told apart by their names
 pub record Pair : Type 0 where
   pub left : Circuit
   pub right : Circuit
   pub children : ℕ → Option (List ℕ)
+  pub told : Bool
 
 -- the circuit of a side
 abbrev pub circuit_of : Pair → Side → Circuit
@@ -101,23 +104,32 @@ near_at p side Net k =
 near_at p side Device k = terminals p side Device k
 near_at p side Call k = terminals p side Call k
 
--- what the first round goes by: a net by being a pin, a device by class and sizes, a call by its
--- pair
+-- net k is a pin
+abbrev pub is_pin : Circuit → ℕ → Bool
+is_pin c k = list_any (λ n. n == k) c.pins
+
+-- the name of a pin, small letters being large ones, where pins are told apart by their names
+abbrev pub pin_name : Bool → Circuit → ℕ → List ℕ
+pin_name told c k = cond (told && is_pin c k) (folded_bytes (slice_index_or c.nets k [])) []
+
+-- what the first round goes by: a net by being a pin, and by the pin's name where names tell pins
+-- apart, a device by class and sizes, a call by its pair
 pub data Own : Type 0 where
-  OfNet : (is_pin : Bool) → Own
+  OfNet : (is_pin : Bool) (name : List ℕ) → Own
   OfDevice : (class : List ℕ) (length width : ℕ) → Own
   OfCall : (pair : ℕ) → Own
   OfNone : Own
 
 abbrev pub same_own : Own → Own → Bool
-same_own (OfNet a) (OfNet b) = beq a b
+same_own (OfNet a m) (OfNet b n) = beq a b && bytes_eq m n
 same_own (OfDevice c l w) (OfDevice d m v) = bytes_eq c d && ((l == m) && (w == v))
 same_own (OfCall p) (OfCall q) = p == q
 same_own OfNone OfNone = true
 same_own a b = false
 
 abbrev pub own_at : Pair → Side → Kind → ℕ → Own
-own_at p side Net k = OfNet (list_any (λ n. n == k) (circuit_of p side).pins)
+own_at p side Net k =
+    OfNet (is_pin (circuit_of p side) k) (pin_name p.told (circuit_of p side) k)
 own_at p side Device k =
     elim (slice_get (circuit_of p side).devices k) [
       | None ↦ OfNone
@@ -174,14 +186,16 @@ pub record IsCallImage (children : ℕ
   pub at : (i : ℕ) → i < length c.nets
       → slice_index nets (slice_index c.nets i) ≡ slice_index e.nets (slice_index pins i)
 
--- three one-to-one maps, each onto all: nets, with pins to pins and only pins, devices to their
--- images, calls to their images
+-- three one-to-one maps, each onto all: nets, with pins to pins and only pins, of one name where
+-- names tell pins apart, devices to their images, calls to their images
 pub record IsCorrespondence (p : Pair) (f : Pairing) : Type 0 where
   pub nets : IsOneToOne f.nets (length p.left.nets) (length p.right.nets)
   pub devices : IsOneToOne f.devices (length p.left.devices) (length p.right.devices)
   pub calls : IsOneToOne f.calls (length p.left.calls) (length p.right.calls)
   pub pin : (n : ℕ) → n < length p.left.nets
       → IsListed n p.left.pins ↔ IsListed (slice_index f.nets n) p.right.pins
+  pub named : (n : ℕ) → n < length p.left.nets
+      → pin_name p.told p.left n ≡ pin_name p.told p.right (slice_index f.nets n)
   pub device : (k : ℕ) (d e : DeviceRow) → slice_get p.left.devices k ≡ Some d
       → slice_get p.right.devices (slice_index f.devices k) ≡ Some e → IsDeviceImage f.nets d e
   pub call : (k : ℕ) (c e : CallRow) → slice_get p.left.calls k ≡ Some c

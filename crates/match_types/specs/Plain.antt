@@ -8,7 +8,7 @@ use Rattle.match_laws.specs.Answer.{Answer as PlainAnswer, Match, DiffersInRound
 use Rattle.match_laws.specs.Answer.{Undecided, Skipped}
 use Rattle.net_model.specs.declared.netlist.Circuit.{Circuit}
 use Rattle.net_model.specs.Rows.{plain_circuit}
-use Rattle.match_types.specs.Children.{children_of}
+use Rattle.match_types.specs.Children.{children_of, is_told}
 use Rattle.match_types.specs.declared.child_pins.ChildPins.{ChildPins}
 use Rattle.match_types.specs.declared.answer.Pairing.{Pairing}
 use Rattle.match_types.specs.declared.answer.Node.{Node}
@@ -31,6 +31,7 @@ pair_of left right children = record {
   right =
       plain_circuit right;
   children = children_of children;
+  told = is_told children;
 }
 
 abbrev pub plain_pairing : Pairing → PlainPairing

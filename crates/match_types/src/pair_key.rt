@@ -6,12 +6,14 @@ use net_model::Netlist;
 use std::snapshot::Snapshot;
 
 /// What the answers of all pairs are made from: two netlists whose circuits are compared by
-/// position, and the limit of refuted guesses. Tokens of no bytes.
+/// position, the limit of refuted guesses, and whether names tell the tops' pins apart. Tokens of no
+/// bytes.
 #[derive(Drop)]
 pub struct PairKey {
     pub left: Snapshot<Netlist>,
     pub right: Snapshot<Netlist>,
     pub limit: Snapshot<u32>,
+    pub same_pins: Snapshot<bool>,
 }
 
 impl Defined for Answer {

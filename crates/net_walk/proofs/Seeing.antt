@@ -17,7 +17,7 @@ use Rattle.net_link_laws.specs.Collected.{IsOver, AreCollected}
 use Rattle.net_link_laws.specs.declared.piece.NetPiece.{NetPiece}
 use Rattle.net_walk.proofs.Adding.{no_piece}
 use Rattle.net_walk.proofs.Insides.{moved_in, from_in}
-use Rattle.net_walk.specs.Seen.{HaveSquares, AreLinksOver, IsPieceOver, AddsSeen, IsSeenOf, IsSeen, IsSeenAt, IsJoinedSeen, IsSeenOfTwo, JoinsTwo, HaveItems}
+use Rattle.net_walk.specs.Seen.{HaveSquares, AreLinksOver, IsPieceOver, AddsSeen, IsSeenOf, IsSeen, IsSeenAt, IsSeenWhere, IsLineSeen, IsJoinedSeen, IsSeenOfTwo, JoinsTwo, HaveItems}
 use Rattle.net_walk.specs.Walk.{AreInside, IsPart, HasNoPart}
 use Rattle.link_classes.specs.declared.classes.Link.{Link}
 use Rattle.touching_pieces.specs.Pairs.{AreJoined, AreLinksOf, AreOf, IsAmong}
@@ -131,7 +131,38 @@ seen_same R S old new h same = record {
   filled = h.filled;
 }
 
--- conductor after conductor: of all, or of those that are joined to one
+-- lines that join two conductors
+
+abbrev pub no_line : Joined
+no_line = record { first = 0; second = 0 }
+
+some_split : (P : Joined → Type 0) (ls : List Joined) (l : Joined) → Some_of P (ls ++ l ∷ []) → Some_of P ls ⊎ P l
+some_split P [] l (inl h) = inr h
+some_split P [] l (inr h) = absurd h
+some_split P (x ∷ ls) l (inl h) = inl (inl h)
+some_split P (x ∷ ls) l (inr h) = elim (some_split P ls l h) [ inl a ↦ inl (inr a) | inr b ↦ inr b ]
+
+some_left : (P : Joined → Type 0) (ls : List Joined) (l : Joined) → Some_of P ls → Some_of P (ls ++ l ∷ [])
+some_left P [] l h = absurd h
+some_left P (x ∷ ls) l (inl h) = inl h
+some_left P (x ∷ ls) l (inr h) = inr (some_left P ls l h)
+
+some_last : (P : Joined → Type 0) (ls : List Joined) (l : Joined) → P l → Some_of P (ls ++ l ∷ [])
+some_last P [] l h = inl h
+some_last P (x ∷ ls) l h = inr (some_last P ls l h)
+
+pub joined_split : (ls : List Joined) (l : Joined) (c e : ℕ) → AreJoined (ls ++ l ∷ []) c e → AreJoined ls c e ⊎ JoinsTwo l c e
+joined_split ls l c e (inl h) = inl (inl h)
+joined_split ls l c e (inr h) = elim (some_split (λ m. JoinsTwo m c e) ls l h) [ inl a ↦ inl (inr a) | inr b ↦ inr b ]
+
+pub joined_left : (ls : List Joined) (l : Joined) (c e : ℕ) → AreJoined ls c e → AreJoined (ls ++ l ∷ []) c e
+joined_left ls l c e (inl h) = inl h
+joined_left ls l c e (inr h) = inr (some_left (λ m. JoinsTwo m c e) ls l h)
+
+pub joined_last : (ls : List Joined) (l : Joined) (c e : ℕ) → JoinsTwo l c e → AreJoined (ls ++ l ∷ []) c e
+joined_last ls l c e h = inr (some_last (λ m. JoinsTwo m c e) ls l h)
+
+-- conductor after conductor; or of those that are joined to one, line after line
 module _ (d : Design) (t : Tables) (p : Place) (window : Rect) (at : ℕ) where
   fewer : (n c i : ℕ) (q : Square) → (c ≡ n → ⊥) → IsSeen d t p window at (n + 1) c i q → IsSeen d t p window at n c i q
   fewer n c i q not s = let lt = s.known in record { known = (let less : c < n = omega (arith, lt, not) in less); net = s.net; square = s.square; holds = s.holds; item = s.item; image = s.image; within = s.within }
@@ -147,26 +178,56 @@ module _ (d : Design) (t : Tables) (p : Place) (window : Rect) (at : ℕ) where
         (λ s. elim s [ inl a ↦ wider n c i q a | inr b ↦ b.1 ]),
       ))
 
+  known_by : (m n c i : ℕ) (q : Square) → c < n → IsSeen d t p window at m c i q → IsSeen d t p window at n c i q
+  known_by m n c i q lt s = record { known = lt; net = s.net; square = s.square; holds = s.holds; item = s.item; image = s.image; within = s.within }
+
+  next_known : (n c : ℕ) → n ≡ c → c < n + 1
+  next_known n c e = omega (arith, e)
+
+  pub where_seen : (one k other n : ℕ) (old new : List Piece) → one ≡ k → other < n → AddsSeen (IsSeenAt d t p window at other) old new → AddsSeen (IsSeenWhere d t one k other p window at n) old new
+  where_seen one k other n old new e lt h =
+      seen_same (IsSeenAt d t p window at other) (IsSeenWhere d t one k other p window at n) old new h
+      (λ c i q. (
+        (λ s. (e, s.0, known_by (other + 1) n c i q (subst (λ m. m < n) s.0 lt) s.1)),
+        (λ s. (s.1, known_by n (other + 1) c i q (next_known other c s.1) s.2)),
+      ))
+
+  pub where_apart : (one k other n : ℕ) (ps : List Piece) → (one ≡ k → ⊥) → AddsSeen (IsSeenWhere d t one k other p window at n) ps ps
+  where_apart one k other n ps not = seen_none (IsSeenWhere d t one k other p window at n) ps (λ c i q h. not h.0)
+
+  pub where_none : (one k other n : ℕ) (ps : List Piece) → (other < n → ⊥) → AddsSeen (IsSeenWhere d t one k other p window at n) ps ps
+  where_none one k other n ps not = seen_none (IsSeenWhere d t one k other p window at n) ps (λ c i q h. not (subst (λ m. m < n) (sym h.1) h.2.known))
+
+  pub line_seen : (l : Joined) (k n : ℕ) (old mid new : List Piece) → AddsSeen (IsSeenWhere d t l.first k l.second p window at n) old mid → AddsSeen (IsSeenWhere d t l.second k l.first p window at n) mid new
+      → AddsSeen (IsLineSeen d t l k p window at n) old new
+  line_seen l k n old mid new h g =
+      seen_both (IsSeenWhere d t l.first k l.second p window at n) (IsSeenWhere d t l.second k l.first p window at n) (IsLineSeen d t l k p window at n) old mid new h g
+      (λ c i q. (
+        (λ s. elim s.0 [ inl e ↦ inl (e.0, e.1, s.1) | inr e ↦ inr (e.1, e.0, s.1) ]),
+        (λ s. elim s [ inl a ↦ (inl (a.0, a.1), a.2) | inr b ↦ (inr (b.1, b.0), b.2) ]),
+      ))
+
+  pub itself_seen : (k n : ℕ) (old new : List Piece) → AddsSeen (IsSeenWhere d t k k k p window at n) old new → AddsSeen (IsJoinedSeen d t [] k p window at n) old new
+  itself_seen k n old new h =
+      seen_same (IsSeenWhere d t k k k p window at n) (IsJoinedSeen d t [] k p window at n) old new h
+      (λ c i q. ((λ s. (inl s.1, s.2)), (λ s. elim s.0 [ inl e ↦ (refl, e, s.1) | inr m ↦ absurd m ])))
+
+  pub line_more : (ls : List Joined) (m : ℕ) (nil : Joined) (k n : ℕ) (old mid new : List Piece) → m < length ls → AddsSeen (IsJoinedSeen d t (take m ls) k p window at n) old mid
+      → AddsSeen (IsLineSeen d t (get_or ls m nil) k p window at n) mid new → AddsSeen (IsJoinedSeen d t (take (m + 1) ls) k p window at n) old new
+  line_more ls m nil k n old mid new lt h g =
+      let xs = take m ls in
+      let l = get_or ls m nil in
+      let now : AddsSeen (IsJoinedSeen d t (xs ++ l ∷ []) k p window at n) old new = seen_both (IsJoinedSeen d t xs k p window at n) (IsLineSeen d t l k p window at n) (IsJoinedSeen d t (xs ++ l ∷ []) k p window at n) old mid new h g
+      (λ c i q. (
+        (λ s. elim (joined_split xs l k c s.0) [ inl a ↦ inl (a, s.1) | inr b ↦ inr (b, s.1) ]),
+        (λ s. elim s [ inl a ↦ (joined_left xs l k c a.0, a.1) | inr b ↦ (joined_last xs l k c b.0, b.1) ]),
+      )) in
+      subst (λ (v : List Joined). AddsSeen (IsJoinedSeen d t v k p window at n) old new) (sym (take_more ls m nil lt)) now
+
+  pub lines_all : (ls : List Joined) (m k n : ℕ) (old new : List Piece) → m ≡ length ls → AddsSeen (IsJoinedSeen d t (take m ls) k p window at n) old new → AddsSeen (IsJoinedSeen d t ls k p window at n) old new
+  lines_all ls m k n old new e h = subst (λ (v : List Joined). AddsSeen (IsJoinedSeen d t v k p window at n) old new) (ap (λ x. take x ls) e ∙ take-length ls) h
+
   module _ (joins : List Joined) (k : ℕ) where
-    pub none_joined : (ps : List Piece) → AddsSeen (IsJoinedSeen d t joins k p window at 0) ps ps
-    none_joined ps = seen_none (IsJoinedSeen d t joins k p window at 0) ps (λ c i q h. let lt = h.1.known in absurd (omega (arith, lt)))
-
-    pub joined_more : (n : ℕ) (old mid new : List Piece) → AreJoined joins k n → AddsSeen (IsJoinedSeen d t joins k p window at n) old mid → AddsSeen (IsSeenAt d t p window at n) mid new → AddsSeen (IsJoinedSeen d t joins k p window at (n + 1)) old new
-    joined_more n old mid new are h g =
-        seen_both (IsJoinedSeen d t joins k p window at n) (IsSeenAt d t p window at n) (IsJoinedSeen d t joins k p window at (n + 1)) old mid new h g
-        (λ c i q. (
-          (λ s. elim (ℕ_discrete c n) [ yes e ↦ inr (sym e, s.1) | no m ↦ inl (s.0, fewer n c i q m s.1) ]),
-          (λ s. elim s [ inl a ↦ (a.0, wider n c i q a.1) | inr b ↦ (subst (λ e. AreJoined joins k e) b.0 are, b.1) ]),
-        ))
-
-    pub joined_same : (n : ℕ) (old new : List Piece) → (AreJoined joins k n → ⊥) → AddsSeen (IsJoinedSeen d t joins k p window at n) old new → AddsSeen (IsJoinedSeen d t joins k p window at (n + 1)) old new
-    joined_same n old new not h =
-        seen_same (IsJoinedSeen d t joins k p window at n) (IsJoinedSeen d t joins k p window at (n + 1)) old new h
-        (λ c i q. (
-          (λ s. (s.0, wider n c i q s.1)),
-          (λ s. elim (ℕ_discrete c n) [ yes e ↦ absurd (not (subst (λ e. AreJoined joins k e) e s.0)) | no m ↦ (s.0, fewer n c i q m s.1) ]),
-        ))
-
     pub no_part_joined : (n : ℕ) (ps : List Piece) → HasNoPart d t p window → AddsSeen (IsJoinedSeen d t joins k p window at n) ps ps
     no_part_joined n ps none = seen_none (IsJoinedSeen d t joins k p window at n) ps (λ c i q h. none c h.1.net h.1.square h.1.holds (subst (λ (v : Square). IsIn v window) (sym h.1.image) h.1.within))
 
@@ -300,29 +361,3 @@ piece_seen o ps is = record {
   );
   filled = λ h. filled_last ps o h is;
 }
-
--- lines that join two conductors
-
-abbrev pub no_line : Joined
-no_line = record { first = 0; second = 0 }
-
-abbrev pub JoinedBy : ℕ → ℕ → List Joined → Type 0
-JoinedBy one other lines = Some_of (λ l. JoinsTwo l one other) lines
-
-pub joined_at : (lines : List Joined) (k one other : ℕ) → k < length lines → JoinsTwo (get_or lines k no_line) one other → JoinedBy one other lines
-joined_at [] k one other lt h = absurd (omega (arith, lt))
-joined_at (l ∷ lines) zero one other lt h = inl h
-joined_at (l ∷ lines) (suc k) one other lt h = inr (joined_at lines k one other (omega (arith, lt)) h)
-
-joined_last : (lines : List Joined) (l : Joined) (one other : ℕ) → JoinedBy one other (lines ++ l ∷ []) → JoinedBy one other lines ⊎ JoinsTwo l one other
-joined_last [] l one other (inl h) = inr h
-joined_last [] l one other (inr h) = absurd h
-joined_last (m ∷ lines) l one other (inl h) = inl (inl h)
-joined_last (m ∷ lines) l one other (inr h) = elim (joined_last lines l one other h) [ inl a ↦ inl (inr a) | inr b ↦ inr b ]
-
-pub not_yet_joined : (lines : List Joined) (k one other : ℕ) → k < length lines → (JoinedBy one other (take k lines) → ⊥) → (JoinsTwo (get_or lines k no_line) one other → ⊥) → JoinedBy one other (take (k + 1) lines) → ⊥
-not_yet_joined lines k one other lt none not h =
-    elim (joined_last (take k lines) (get_or lines k no_line) one other (subst (λ (l : List Joined). JoinedBy one other l) (take_more lines k no_line lt) h)) [ inl a ↦ none a | inr b ↦ not b ]
-
-pub none_of_all : (lines : List Joined) (k one other : ℕ) → k ≡ length lines → (JoinedBy one other (take k lines) → ⊥) → JoinedBy one other lines → ⊥
-none_of_all lines k one other e none h = none (subst (λ (l : List Joined). JoinedBy one other l) (sym (ap (λ i. take i lines) e ∙ take-length lines)) h)

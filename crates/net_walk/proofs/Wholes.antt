@@ -1,6 +1,7 @@
 -- Links of a rectangle that covers all squares of a placement's nets.
-use Rattle.std.proofs.Common.{◌≡◌, ◌↔◌, inl, inr, ℕ, ◌+◌, ◌<◌, List, [], ◌∷◌, ◌++◌, Some, slice_get, get_or, length, refl, sym, ◌∙◌, ap, subst, arith}
-use Rattle.std.proofs.Math.Decide.{ℕ_discrete}
+use Rattle.std.proofs.Common.{◌≡◌, ◌↔◌, inl, inr, ℕ, ◌+◌, ◌<◌, take, List, [], ◌∷◌, ◌++◌, Some, slice_get, get_or, length, refl, sym, ◌∙◌, ap, subst, arith}
+use Rattle.std.proofs.Math.Seq.{take-length}
+use Rattle.std.proofs.lemmas.List.{take_more}
 use Rattle.std.proofs.lemmas.Option.{slice_get_within}
 use Rattle.flat_laws.proofs.Items.{placed_at}
 use Rattle.flat_layout.specs.Layout.{Design, IsPlaced}
@@ -15,10 +16,11 @@ use Rattle.net_link_laws.proofs.Standing.{child_place, own_place}
 use Rattle.net_link_laws.specs.Found.{IsSquareLink}
 use Rattle.touching_pieces.proofs.Chains.{one_of}
 use Rattle.net_link_laws.specs.Places.{nets_before, owned_before, places_of}
+use Rattle.net_walk.proofs.Seeing.{joined_last, joined_left, joined_split}
 use Rattle.net_walk.proofs.Walking.{IsVisited, visited_next}
 use Rattle.net_walk.specs.Held.{HasSquare, IsOneOf}
 use Rattle.net_walk.specs.Pairs.{first_of}
-use Rattle.net_walk.specs.Whole.{IsHeldLink, IsListLink, IsWholeLink, WholeLaw}
+use Rattle.net_walk.specs.Whole.{IsHeldLink, IsLineLink, IsListLink, IsWhereLink, IsWholeLink, WholeLaw}
 use Rattle.touching_pieces.proofs.Links.{added_both, added_none, added_one, added_same}
 use Rattle.touching_pieces.specs.Pairs.{AddsLinks, AreJoined, AreOne}
 use Rattle.touching_pieces.specs.declared.conductors.Joined.{Joined}
@@ -105,37 +107,49 @@ list_held d t item cell c at nets old new is h =
     added_same (IsListLink item nets at) (IsHeldLink d t item cell c at) old new h
     (λ i j. ((λ r. (r.0, r.1, (is r.1).0 r.2, r.3)), (λ r. (r.0, r.1, (is r.1).1 r.2, r.3))))
 
--- ---- conductor after conductor
-module _ (d : Design) (t : Tables) (joins : List Joined) (item c cell at : ℕ) where
-  abbrev Upto : ℕ → ℕ → ℕ → Type 0
-  Upto n = IsWholeLink d t joins item c cell at n
+-- ---- line after line
+module _ (d : Design) (t : Tables) (item c cell at : ℕ) where
+  pub where_linked : (one other n : ℕ) (old new : List Link) → one ≡ c → other < n → AddsLinks (IsHeldLink d t item cell other at) old new → AddsLinks (IsWhereLink d t item one c other cell at n) old new
+  where_linked one other n old new e lt h = added_same (IsHeldLink d t item cell other at) (IsWhereLink d t item one c other cell at n) old new h (λ i j. ((λ r. (e, lt, r)), (λ r. r.2)))
 
-  pub no_whole : (ls : List Link) → AddsLinks (Upto 0) ls ls
-  no_whole ls = added_none (Upto 0) ls (λ i j h. let lt = h.1 in absurd (omega (arith, lt)))
+  pub where_apart : (one other n : ℕ) (ls : List Link) → (one ≡ c → ⊥) → AddsLinks (IsWhereLink d t item one c other cell at n) ls ls
+  where_apart one other n ls not = added_none (IsWhereLink d t item one c other cell at n) ls (λ i j h. absurd (not h.0))
 
-  more_known : (n e : ℕ) → e < n → e < n + 1
-  more_known n e lt = omega (arith, lt)
+  pub where_none : (one other n : ℕ) (ls : List Link) → (other < n → ⊥) → AddsLinks (IsWhereLink d t item one c other cell at n) ls ls
+  where_none one other n ls not = added_none (IsWhereLink d t item one c other cell at n) ls (λ i j h. absurd (not h.1))
 
-  less_known : (n e : ℕ) → (e ≡ n → ⊥) → e < n + 1 → e < n
-  less_known n e not lt = omega (arith, lt, not)
-
-  pub whole_more : (n : ℕ) (old mid new : List Link) → AreJoined joins c n → AddsLinks (Upto n) old mid → AddsLinks (IsHeldLink d t item cell n at) mid new → AddsLinks (Upto (n + 1)) old new
-  whole_more n old mid new are h g =
-      added_both (Upto n) (IsHeldLink d t item cell n at) (Upto (n + 1)) old mid new h g
-      (λ i j r. (r.0, more_known n r.0 r.1, r.2, r.3))
-      (λ i j s. (n, (let lt : n < n + 1 = omega arith in lt), are, s))
-      (λ i j r. elim (ℕ_discrete r.0 n) [
-        | yes e ↦ inr (subst (λ m. IsHeldLink d t item cell m at i j) e r.3)
-        | no not ↦ inl (r.0, less_known n r.0 not r.1, r.2, r.3)
+  pub line_linked : (l : Joined) (n : ℕ) (old mid new : List Link) → AddsLinks (IsWhereLink d t item l.first c l.second cell at n) old mid → AddsLinks (IsWhereLink d t item l.second c l.first cell at n) mid new
+      → AddsLinks (IsLineLink d t l item c cell at n) old new
+  line_linked l n old mid new h g =
+      added_both (IsWhereLink d t item l.first c l.second cell at n) (IsWhereLink d t item l.second c l.first cell at n) (IsLineLink d t l item c cell at n) old mid new h g
+      (λ i j r. (l.second, r.1, inl (r.0, refl), r.2))
+      (λ i j s. (l.first, s.1, inr (refl, s.0), s.2))
+      (λ i j r. elim r.2 [
+        | inl e ↦ inl (e.0, subst (λ m. m < n) (sym e.1) r.1, subst (λ m. IsHeldLink d t item cell m at i j) (sym e.1) r.3)
+        | inr e ↦ inr (e.1, subst (λ m. m < n) (sym e.0) r.1, subst (λ m. IsHeldLink d t item cell m at i j) (sym e.0) r.3)
       ])
 
-  pub whole_same : (n : ℕ) (old new : List Link) → (AreJoined joins c n → ⊥) → AddsLinks (Upto n) old new → AddsLinks (Upto (n + 1)) old new
-  whole_same n old new none h =
-      added_same (Upto n) (Upto (n + 1)) old new h
+  pub itself_linked : (n : ℕ) (old new : List Link) → AddsLinks (IsWhereLink d t item c c c cell at n) old new → AddsLinks (IsWholeLink d t [] item c cell at n) old new
+  itself_linked n old new h =
+      added_same (IsWhereLink d t item c c c cell at n) (IsWholeLink d t [] item c cell at n) old new h
       (λ i j. (
-        (λ r. (r.0, more_known n r.0 r.1, r.2, r.3)),
-        (λ r. elim (ℕ_discrete r.0 n) [
-          | yes e ↦ absurd (none (subst (λ m. AreJoined joins c m) e r.2))
-          | no not ↦ (r.0, less_known n r.0 not r.1, r.2, r.3)
+        (λ r. (c, r.1, inl refl, r.2)),
+        (λ r. elim r.2 [
+          | inl e ↦ (refl, subst (λ m. m < n) (sym e) r.1, subst (λ m. IsHeldLink d t item cell m at i j) (sym e) r.3)
+          | inr m ↦ absurd m
         ]),
       ))
+
+  pub line_more : (ls : List Joined) (m : ℕ) (nil : Joined) (n : ℕ) (old mid new : List Link) → m < length ls → AddsLinks (IsWholeLink d t (take m ls) item c cell at n) old mid
+      → AddsLinks (IsLineLink d t (get_or ls m nil) item c cell at n) mid new → AddsLinks (IsWholeLink d t (take (m + 1) ls) item c cell at n) old new
+  line_more ls m nil n old mid new lt h g =
+      let xs = take m ls in
+      let l = get_or ls m nil in
+      let now : AddsLinks (IsWholeLink d t (xs ++ l ∷ []) item c cell at n) old new = added_both (IsWholeLink d t xs item c cell at n) (IsLineLink d t l item c cell at n) (IsWholeLink d t (xs ++ l ∷ []) item c cell at n) old mid new h g
+      (λ i j r. (r.0, r.1, joined_left xs l c r.0 r.2, r.3))
+      (λ i j s. (s.0, s.1, joined_last xs l c s.0 s.2, s.3))
+      (λ i j r. elim (joined_split xs l c r.0 r.2) [ inl a ↦ inl (r.0, r.1, a, r.3) | inr b ↦ inr (r.0, r.1, b, r.3) ]) in
+      subst (λ (v : List Joined). AddsLinks (IsWholeLink d t v item c cell at n) old new) (sym (take_more ls m nil lt)) now
+
+  pub lines_all : (ls : List Joined) (m n : ℕ) (old new : List Link) → m ≡ length ls → AddsLinks (IsWholeLink d t (take m ls) item c cell at n) old new → AddsLinks (IsWholeLink d t ls item c cell at n) old new
+  lines_all ls m n old new e h = subst (λ (v : List Joined). AddsLinks (IsWholeLink d t v item c cell at n) old new) (ap (λ x. take x ls) e ∙ take-length ls) h

@@ -75,6 +75,18 @@ abbrev pub IsJoinedSeen : Design → Tables → List Joined → ℕ → Place �
 IsJoinedSeen d t joins conductor p window at n c i q =
     AreJoined joins conductor c × IsSeen d t p window at n c i q
 
+-- of a conductor, where two others are one
+abbrev pub IsSeenWhere : Design → Tables → ℕ → ℕ → ℕ → Place → Rect → ℕ → ℕ → ℕ → ℕ → Square
+    → Type 0
+IsSeenWhere d t one conductor other p window at n c i q =
+    (one ≡ conductor) × (other ≡ c) × IsSeen d t p window at n c i q
+
+-- of the conductor that the line joins to this one
+abbrev pub IsLineSeen : Design → Tables → Joined → ℕ → Place → Rect → ℕ → ℕ → ℕ → ℕ → Square
+    → Type 0
+IsLineSeen d t line conductor p window at n c i q =
+    JoinsTwo line conductor c × IsSeen d t p window at n c i q
+
 -- the items have room in 32 bits
 abbrev pub HaveItems : ℕ → List NetPiece → Type 0
 HaveItems at [] = Unit {0}

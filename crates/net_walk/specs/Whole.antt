@@ -10,6 +10,7 @@ use Rattle.net_walk.specs.Beside.{AddsPieceBeside}
 use Rattle.net_walk.specs.Held.{HasSquare, IsOneOf}
 use Rattle.net_walk.specs.Owned.{IsOwnPiece}
 use Rattle.net_walk.specs.Pairs.{first_of}
+use Rattle.net_walk.specs.Seen.{JoinsTwo}
 use Rattle.touching_pieces.specs.Pairs.{AddsLinks, AreJoined}
 use Rattle.touching_pieces.specs.declared.conductors.Joined.{Joined}
 use Rattle.touching_pieces.specs.declared.pieces.Piece.{Piece}
@@ -21,6 +22,16 @@ IsListLink item nets at i j = (item ≡ i) × (x : ℕ) × IsOneOf nets x × (at
 -- or as a net of the cell with a square of the conductor
 abbrev pub IsHeldLink : Design → Tables → ℕ → ℕ → ℕ → ℕ → ℕ → ℕ → Type 0
 IsHeldLink d t item cell c at i j = (item ≡ i) × (x : ℕ) × HasSquare d t cell c x × (at + x ≡ j)
+
+-- of a conductor among the first n, where two others are one
+abbrev pub IsWhereLink : Design → Tables → ℕ → ℕ → ℕ → ℕ → ℕ → ℕ → ℕ → ℕ → ℕ → Type 0
+IsWhereLink d t item one conductor other cell at n i j =
+    (one ≡ conductor) × (other < n) × IsHeldLink d t item cell other at i j
+
+-- of the one that the line joins to this one
+abbrev pub IsLineLink : Design → Tables → Joined → ℕ → ℕ → ℕ → ℕ → ℕ → ℕ → ℕ → Type 0
+IsLineLink d t line item c cell at n i j =
+    (e : ℕ) × (e < n) × JoinsTwo line c e × IsHeldLink d t item cell e at i j
 
 -- of one of the first n conductors that are joined to this one
 abbrev pub IsWholeLink : Design → Tables → List Joined → ℕ → ℕ → ℕ → ℕ → ℕ → ℕ → ℕ → Type 0

@@ -1,12 +1,11 @@
 //! Pieces of a placed cell's nets as the cell sees them.
 
-ghost use Rattle.std.specs.Prelude.{◌≡◌, ◌+◌, ◌<◌, ◌≤◌, OnOk, IfOk, MatchBool, length, ◌∷◌, []};
+ghost use Rattle.std.specs.Prelude.{◌≡◌, ◌+◌, ◌<◌, ◌≤◌, OnOk, IfOk, length, ◌∷◌, []};
 ghost use Rattle.geo_base.specs.Near.{IsNearRect, IsNearMotion};
 ghost use Rattle.net_link_laws.specs.Laws.{AreNetsUnder};
 ghost use Rattle.net_walk.specs.Pairs.{PairLaw};
 ghost use Rattle.net_walk.specs.Seen.{AddsSeen, AreLinksOver, HaveItems, IsJoinedSeen, IsSeen};
-ghost use Rattle.net_walk.specs.Seen.{IsSeenAt, IsSeenOf, IsSeenOfTwo, JoinsTwo};
-ghost use Rattle.touching_pieces.specs.Pairs.{AreJoined};
+ghost use Rattle.net_walk.specs.Seen.{IsLineSeen, IsSeenAt, IsSeenOf, IsSeenOfTwo, IsSeenWhere};
 ghost use Rattle.net_walk.specs.Walk.{AreInside, IsInside, IsPart, place_of};
 
 use crate::cells::{Cells, Element};
@@ -16,31 +15,6 @@ use link_classes::Link;
 use net_link_laws::NetPiece;
 use std::alloc::{AllocError, Global};
 use touching_pieces::{Joined, Piece, touching_links};
-
-// Whether the line joins the two.
-fn joins_two(line: &Joined, one: u32, other: u32) -> bool
-    ensures { MatchBool result (JoinsTwo line.now one other) (JoinsTwo line.now one other → ⊥) }
-{
-    if line.first == one && line.second == other {
-        return true;
-    }
-    line.first == other && line.second == one
-}
-
-// Whether the two are one conductor, or a line joins them.
-pub(crate) fn are_joined(joins: &[Joined], one: u32, other: u32) -> bool
-    ensures { MatchBool result (AreJoined joins.now one other) (AreJoined joins.now one other → ⊥) }
-{
-    if one == other {
-        return true;
-    }
-    for line in joins {
-        if joins_two(line, one, other) {
-            return true;
-        }
-    }
-    false
-}
 
 fn push_one(
     piece: &NetPiece,
@@ -164,7 +138,75 @@ pub fn see<C: Cells>(
     }
 }
 
-// The same of each conductor that is joined to this one.
+// The same of a conductor, where two others are one: nothing where these differ, or where there is no
+// such conductor.
+fn see_where<C: Cells>(
+    alloc: Global,
+    cells: &C,
+    element: &Element,
+    one: u32,
+    conductor: u32,
+    other: u32,
+    window: &Rect,
+    inner: &Rect,
+    at: u32,
+    out: &mut Vec<Piece>,
+) -> Result<(), AllocError>
+    requires nets { AreNetsUnder (C.design cells.now) (C.wiring cells.now) (C.tables cells.now)
+        element.now.cell }
+    requires motion { IsNearMotion element.now.motion }
+    requires part { IsPart (C.design cells.now) (C.tables cells.now) (place_of element.now)
+        window.now inner.now }
+    requires room { at + ((C.tables cells.now).nets element.now.cell).count ≤ 4294967296 }
+    ensures { OnOk result (AddsSeen (IsSeenWhere (C.design cells.now) (C.tables cells.now) one
+        conductor other (place_of element.now) window.now at
+        (length (C.wiring cells.now).conductors)) out.old.items out.new.items) }
+{
+    if one != conductor {
+        return Ok(());
+    }
+    if other >= cells.conductors() {
+        return Ok(());
+    }
+    see_conductor(alloc, cells, element, other, window, inner, at, out)?;
+    Ok(())
+}
+
+// The same of the conductor that the line joins to this one, in either order.
+fn see_line<C: Cells>(
+    alloc: Global,
+    cells: &C,
+    element: &Element,
+    line: &Joined,
+    conductor: u32,
+    window: &Rect,
+    inner: &Rect,
+    at: u32,
+    out: &mut Vec<Piece>,
+) -> Result<(), AllocError>
+    requires nets { AreNetsUnder (C.design cells.now) (C.wiring cells.now) (C.tables cells.now)
+        element.now.cell }
+    requires motion { IsNearMotion element.now.motion }
+    requires part { IsPart (C.design cells.now) (C.tables cells.now) (place_of element.now)
+        window.now inner.now }
+    requires room { at + ((C.tables cells.now).nets element.now.cell).count ≤ 4294967296 }
+    ensures { OnOk result (AddsSeen (IsLineSeen (C.design cells.now) (C.tables cells.now) line.now
+        conductor (place_of element.now) window.now at
+        (length (C.wiring cells.now).conductors)) out.old.items out.new.items) }
+{
+    let first = line.first;
+    let second = line.second;
+    see_where(
+        alloc, cells, element, first, conductor, second, window, inner, at, out,
+    )?;
+    see_where(
+        alloc, cells, element, second, conductor, first, window, inner, at, out,
+    )?;
+    Ok(())
+}
+
+// The same of each that is joined to this one: of itself, and then line by line. A line that stands
+// twice brings its pieces twice.
 fn see_joined_part<C: Cells>(
     alloc: Global,
     cells: &C,
@@ -186,10 +228,13 @@ fn see_joined_part<C: Cells>(
         joins.now conductor (place_of element.now) window.now at
         (length (C.wiring cells.now).conductors)) out.old.items out.new.items) }
 {
-    for other in 0..cells.conductors() {
-        if are_joined(joins, conductor, other) {
-            see_conductor(alloc, cells, element, other, window, inner, at, out)?;
-        }
+    see_where(
+        alloc, cells, element, conductor, conductor, conductor, window, inner, at, out,
+    )?;
+    for line in joins {
+        see_line(
+            alloc, cells, element, line, conductor, window, inner, at, out,
+        )?;
     }
     Ok(())
 }

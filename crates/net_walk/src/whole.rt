@@ -5,13 +5,13 @@ ghost use Rattle.geo_base.specs.Rects.{IsRect};
 ghost use Rattle.net_link_laws.specs.Laws.{AreNetsUnder};
 ghost use Rattle.net_link_laws.specs.Windows.{IsHullOf};
 ghost use Rattle.net_walk.specs.Held.{AreHeldLists, IsOneOf};
-ghost use Rattle.net_walk.specs.Whole.{IsHeldLink, IsListLink, IsWholeLink, WholeLaw};
+ghost use Rattle.net_walk.specs.Whole.{IsHeldLink, IsLineLink, IsListLink, IsWhereLink};
+ghost use Rattle.net_walk.specs.Whole.{IsWholeLink, WholeLaw};
 ghost use Rattle.net_walk.specs.Walk.{IsClose, IsInside, place_of};
 ghost use Rattle.touching_pieces.specs.Pairs.{AddsLinks};
 
 use crate::cells::{Cells, Element};
 use crate::held::{HeldLists, hold, nets_at};
-use crate::seen::are_joined;
 use geo_base::Rect;
 use link_classes::Link;
 use std::alloc::{AllocError, Global};
@@ -83,6 +83,73 @@ fn link_held<C: Cells>(
     Ok(())
 }
 
+// The same of a conductor, where two others are one: nothing where these differ, or where there is no
+// such conductor.
+fn link_where<C: Cells>(
+    alloc: Global,
+    cells: &C,
+    item: u32,
+    one: u32,
+    conductor: u32,
+    other: u32,
+    cell: u32,
+    at: u32,
+    memo: &mut HeldLists,
+    out: &mut Vec<Link>,
+) -> Result<(), AllocError>
+    requires nets { AreNetsUnder (C.design cells.now) (C.wiring cells.now) (C.tables cells.now)
+        cell }
+    requires room { at + ((C.tables cells.now).nets cell).count ≤ 4294967296 }
+    requires lists { AreHeldLists (C.design cells.now) (C.tables cells.now) memo.old.lists.items }
+    ensures lists { OnOk result (AreHeldLists (C.design cells.now) (C.tables cells.now)
+        memo.new.lists.items) }
+    ensures links { OnOk result (AddsLinks (IsWhereLink (C.design cells.now) (C.tables cells.now)
+        item one conductor other cell at (length (C.wiring cells.now).conductors)) out.old.items
+        out.new.items) }
+{
+    if one != conductor {
+        return Ok(());
+    }
+    if other >= cells.conductors() {
+        return Ok(());
+    }
+    link_held(alloc, cells, item, cell, other, at, memo, out)?;
+    Ok(())
+}
+
+// The same of the conductor that the line joins to this one, in either order.
+fn link_line<C: Cells>(
+    alloc: Global,
+    cells: &C,
+    item: u32,
+    line: &Joined,
+    conductor: u32,
+    cell: u32,
+    at: u32,
+    memo: &mut HeldLists,
+    out: &mut Vec<Link>,
+) -> Result<(), AllocError>
+    requires nets { AreNetsUnder (C.design cells.now) (C.wiring cells.now) (C.tables cells.now)
+        cell }
+    requires room { at + ((C.tables cells.now).nets cell).count ≤ 4294967296 }
+    requires lists { AreHeldLists (C.design cells.now) (C.tables cells.now) memo.old.lists.items }
+    ensures lists { OnOk result (AreHeldLists (C.design cells.now) (C.tables cells.now)
+        memo.new.lists.items) }
+    ensures links { OnOk result (AddsLinks (IsLineLink (C.design cells.now) (C.tables cells.now)
+        line.now item conductor cell at (length (C.wiring cells.now).conductors)) out.old.items
+        out.new.items) }
+{
+    let first = line.first;
+    let second = line.second;
+    link_where(
+        alloc, cells, item, first, conductor, second, cell, at, memo, out,
+    )?;
+    link_where(
+        alloc, cells, item, second, conductor, first, cell, at, memo, out,
+    )?;
+    Ok(())
+}
+
 /// Adds a link from an item of a conductor to each net of a placed cell that holds a square of a
 /// conductor joined to it; these nets stand from a place on. Cost: the links, beside the lists.
 pub(crate) fn whole_links<C: Cells>(
@@ -106,10 +173,11 @@ pub(crate) fn whole_links<C: Cells>(
         joins.now item conductor cell at (length (C.wiring cells.now).conductors)) out.old.items
         out.new.items) }
 {
-    for other in 0..cells.conductors() {
-        if are_joined(joins, conductor, other) {
-            link_held(alloc, cells, item, cell, other, at, memo, out)?;
-        }
+    link_where(
+        alloc, cells, item, conductor, conductor, conductor, cell, at, memo, out,
+    )?;
+    for line in joins {
+        link_line(alloc, cells, item, line, conductor, cell, at, memo, out)?;
     }
     Ok(())
 }

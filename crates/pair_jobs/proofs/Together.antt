@@ -14,11 +14,12 @@ use Rattle.match_laws.specs.Circuits.{IsFitting}
 use Rattle.match_laws.specs.Answer.{Answer, Match, DiffersInRound, DiffersByTree, Undecided, Skipped, IsAnswer, IsDifference, equal_names}
 use Rattle.align_laws.specs.Lists.{given_of}
 use Rattle.align_laws.specs.Partners.{AreSides}
-use Rattle.composed_laws.specs.Answered.{IsAnswerOf, children_of, is_called, pair_in, pairing_or, right_pins, AreMatches}
+use Rattle.composed_laws.specs.Answered.{Asked, IsAnswerOf, children_of, is_called, pair_in, pairing_or, right_pins, AreMatches}
 use Rattle.composed_laws.proofs.Matching.{matched_netlists, matched_tops}
 use Rattle.composed_laws.proofs.Fitting.{any_listed}
 use Rattle.composed_laws.proofs.OneByOne.{read_answers, together_answers}
 use Rattle.match_laws.proofs.Answer as shown
+use Rattle.match_types.specs.Answered.{asked_of}
 use Rattle.match_types.specs.Plain.{plain_answer}
 use Rattle.match_types.specs.declared.answer.Answer as rows
 use Rattle.net_model.specs.Rows.{plain_netlist}
@@ -38,14 +39,15 @@ pub results : ResultsLaw
 results key graph values sides good jobs defined =
     let left = plain_netlist key.left.value in
     let right = plain_netlist key.right.value in
+    let asked = asked_of left key.limit.value key.same_pins.value in
     let answers = map plain_answer values in
     record {
       count = length-map values plain_answer ∙ (defined.count ∙ jobs.jobs);
-      each = (together_answers left right key.limit.value (answer_at answers) sides good).1 (λ k c is.
+      each = (together_answers left right asked (answer_at answers) sides good).1 (λ k c is.
           let within = slice_get_within left.circuits k c is in
           let count = jobs.jobs in
           let v = there _ (slice_get values k) (defined.each k (omega (arith, within, count))) in
-          subst (IsAnswerOf left right key.limit.value k) (sym (plain_there values k v.0 v.1)) v.2);
+          subst (IsAnswerOf left right asked k) (sym (plain_there values k v.0 v.1)) v.2);
     }
 
 match_is : (a : Answer) → IsMatch a → a ≡ Match (pairing_in (pairing_or a))
@@ -55,19 +57,19 @@ match_is (DiffersByTree gs) h = absurd h
 match_is (Undecided gs) h = absurd h
 match_is (Skipped q) h = absurd h
 
-are_matches : (left right : Netlist) (limit : ℕ) (answers : List Answer) → AreAllAnswers left right limit answers → All IsMatch answers → AreMatches left (answer_at answers) (pairings_of answers)
-are_matches left right limit answers h all k c is =
+pub are_matches : (left right : Netlist) (asked : Asked) (answers : List Answer) → AreAllAnswers left right asked answers → All IsMatch answers → AreMatches left (answer_at answers) (pairings_of answers)
+are_matches left right asked answers h all k c is =
     let within = slice_get_within left.circuits k c is in
     let count = h.count in
     match_is (answer_at answers k) (all k (Skipped k) (omega (arith, within, count)))
 
 pub matched_pairs : MatchedPairsLaw
-matched_pairs layout schematic top right_top same left right v w p limit answers h all c d pair =
-    matched_netlists layout schematic top right_top same left right v w p limit (answer_at answers) (pairings_of answers) h.each (are_matches left right limit answers h all) c d pair
+matched_pairs layout schematic top right_top same left right v w p asked answers h all c d pair =
+    matched_netlists layout schematic top right_top same left right v w p asked (answer_at answers) (pairings_of answers) h.each (are_matches left right asked answers h all) c d pair
 
 pub matched_top : MatchedTopsLaw
-matched_top layout schematic top right_top same left right v w p limit answers h all =
-    matched_tops layout schematic top right_top same left right v w p limit (answer_at answers) (pairings_of answers) h.each (are_matches left right limit answers h all)
+matched_top layout schematic top right_top same left right v w p asked answers h all =
+    matched_tops layout schematic top right_top same left right v w p asked (answer_at answers) (pairings_of answers) h.each (are_matches left right asked answers h all)
 
 pub match_not : (a : Answer) → IsMatch a → IsDifference a → ⊥
 match_not (Match f) h g = g
@@ -105,7 +107,7 @@ has_pins c (DiffersByTree gs) h e = h
 has_pins c (Undecided gs) h e = h
 has_pins c (Skipped q) h e = h
 
-module _ (left right : Netlist) (limit : ℕ) (answers : List Answer) (sides : AreSides left right) (good : IsGood left (λ k. k)) (h : AreAllAnswers left right limit answers) (same : Any IsDifference answers → ⊥) where
+module _ (left right : Netlist) (asked : Asked) (answers : List Answer) (sides : AreSides left right) (good : IsGood left (λ k. k)) (h : AreAllAnswers left right asked answers) (same : Any IsDifference answers → ⊥) where
   abbrev at : ℕ → Answer
   at = answer_at answers
 
@@ -116,8 +118,8 @@ module _ (left right : Netlist) (limit : ℕ) (answers : List Answer) (sides : A
       let c = get_or left.circuits k (record { name = []; nets = []; pins = []; devices = []; calls = [] }) in
       let is : IsCircuit left k c = slice_get-get_or left.circuits k _ within in
       let d = sides.there k c is in
-      let p = pair_in left at c d.0 in
-      let first = (subst (λ a. IsAnswer p (equal_names p) limit a) e (h.each k c d.0 is d.1)).1 in
+      let p = pair_in (asked.told k) left at c d.0 in
+      let first = (subst (λ a. IsAnswer p (equal_names p) asked.limit a) e (h.each k c d.0 is d.1)).1 in
       let named : is_called c q ≡ true = any_passes_from_place (λ (r : CallRow). r.circuit == q) c.calls first.number first.call first.is ((Decides-eqb first.call.circuit q).1 first.pair_is) in
       let low = good.lower k first.number first.call (c, is, first.is) in
       let pair_is = first.pair_is in
@@ -152,8 +154,8 @@ module _ (left right : Netlist) (limit : ℕ) (answers : List Answer) (sides : A
   ]
 
 pub undecided_pair : UndecidedPairLaw
-undecided_pair left right limit answers sides good h = (
-  (λ u. (u.0, elim (all_or left right limit answers sides good h u.0) [ inl all ↦ absurd (u.1 all) | inr some ↦ some ])),
+undecided_pair left right asked answers sides good h = (
+  (λ u. (u.0, elim (all_or left right asked answers sides good h u.0) [ inl all ↦ absurd (u.1 all) | inr some ↦ some ])),
   (λ u. (u.0, λ all. all_not answers IsUndecided decided all u.1)),
 )
 
@@ -185,32 +187,32 @@ one_run bad (Some answers) verdict.Mismatch verdict.Undecided (inr (inl h)) g = 
 one_run bad (Some answers) verdict.Mismatch verdict.Undecided (inr (inr h)) g = one_verdict answers verdict.Mismatch verdict.Undecided h g.1
 
 -- a pair's circuits fit the pins that the called pairs hand up
-fitting : (left right : Netlist) (limit : ℕ) (answers : List Answer) → AreSides left right → IsGood left (λ k. k) → AreAllAnswers left right limit answers → (k : ℕ) (c d : Circuit)
-    → IsCircuit left k c → IsCircuit right k d → IsFitting (pair_in left (answer_at answers) c d) Layout × IsFitting (pair_in left (answer_at answers) c d) Schematic
-fitting left right limit answers sides good h k c d is also =
+fitting : (left right : Netlist) (asked : Asked) (answers : List Answer) → AreSides left right → IsGood left (λ k. k) → AreAllAnswers left right asked answers → (k : ℕ) (c d : Circuit)
+    → IsCircuit left k c → IsCircuit right k d → IsFitting (pair_in (asked.told k) left (answer_at answers) c d) Layout × IsFitting (pair_in (asked.told k) left (answer_at answers) c d) Schematic
+fitting left right asked answers sides good h k c d is also =
     let at = answer_at answers in
-    let right_all = (together_answers left right limit at sides good).0 h.each in
-    let called : (q : ℕ) → is_called c q ≡ true → IsAnswerOf left right limit q (at q) = λ q e.
+    let right_all = (together_answers left right asked at sides good).0 h.each in
+    let called : (q : ℕ) → is_called c q ≡ true → IsAnswerOf left right asked q (at q) = λ q e.
     let r = any_listed q c.calls e in
     let x = good.called k r.0 r.1 (c, is, r.2) in
     right_all q x.0 (subst (λ n. IsCircuit left n x.0) r.3 x.1) in
-    let fits = read_answers left right limit k c d at sides good is also called in
+    let fits = read_answers left right asked k c d at sides good is also called in
     (fits.0, fits.1)
 
 pub carried_pair : CarriedPairLaw
-carried_pair left right limit answers sides good h k c d f is also matches =
-    let p = pair_in left (answer_at answers) c d in
-    let fits = fitting left right limit answers sides good h k c d is also in
-    shown.matched p (equal_names p) limit f fits.0 fits.1 (subst (λ (a : Answer). IsAnswer p (equal_names p) limit a) matches (h.each k c d is also))
+carried_pair left right asked answers sides good h k c d f is also matches =
+    let p = pair_in (asked.told k) left (answer_at answers) c d in
+    let fits = fitting left right asked answers sides good h k c d is also in
+    shown.matched p (equal_names p) asked.limit f fits.0 fits.1 (subst (λ (a : Answer). IsAnswer p (equal_names p) asked.limit a) matches (h.each k c d is also))
 
 pub kept_pair : KeptPairLaw
-kept_pair left right limit answers sides good h k c d f is also corresponds =
-    let p = pair_in left (answer_at answers) c d in
-    let fits = fitting left right limit answers sides good h k c d is also in
-    λ differs. shown.differs p (equal_names p) limit (answer_at answers k) f fits.0 fits.1 (h.each k c d is also) differs corresponds
+kept_pair left right asked answers sides good h k c d f is also corresponds =
+    let p = pair_in (asked.told k) left (answer_at answers) c d in
+    let fits = fitting left right asked answers sides good h k c d is also in
+    λ differs. shown.differs p (equal_names p) asked.limit (answer_at answers k) f fits.0 fits.1 (h.each k c d is also) differs corresponds
 
 pub uneven_pair : UnevenPairLaw
-uneven_pair left right limit answers h k c d a is also uneven =
+uneven_pair left right asked answers h k c d a is also uneven =
     let at = answer_at answers in
-    let r = shown.uneven_differs (pair_in left at c d) (equal_names (pair_in left at c d)) limit (at k) a (h.each k c d is also) uneven in
+    let r = shown.uneven_differs (pair_in (asked.told k) left at c d) (equal_names (pair_in (asked.told k) left at c d)) asked.limit (at k) a (h.each k c d is also) uneven in
     subst IsDifference (sym r.3) tt

@@ -11,10 +11,10 @@ use Rattle.match_laws.specs.Answer.{Skipped, IsDifference}
 use Rattle.match_laws.specs.Circuits.{Pairing, IsCorrespondence, web_of}
 use Rattle.align_laws.specs.Cut.{Alignment}
 use Rattle.align_laws.specs.Partners.{AreSides, IsAlignedPair, IsPair}
-use Rattle.composed_laws.specs.Answered.{AreAnswers, pair_in, pairing_or}
+use Rattle.composed_laws.specs.Answered.{AreAnswers, Asked, pair_in, pairing_or}
 use Rattle.composed_laws.specs.Matched.{AreDevicesMatched, AreNetsMatched}
 use Rattle.job_graph.specs.Table.{AreDefined}
-use Rattle.match_types.specs.Answered.{IsPairAnswer}
+use Rattle.match_types.specs.Answered.{IsPairAnswer, asked_of}
 use Rattle.match_types.specs.Plain.{plain_answer}
 use Rattle.match_types.specs.declared.answer.Answer as rows
 use Rattle.match_types.specs.declared.pair_key.PairKey.{PairKey}
@@ -27,9 +27,9 @@ answer_at answers k = slice_index_or answers k (Skipped k)
 
 -- there is an answer for each pair and no other, and each is the pair's, given those of the pairs
 -- that its left circuit calls
-pub record AreAllAnswers (left right : Netlist) (limit : ℕ) (answers : List Answer) : Type 0 where
+pub record AreAllAnswers (left right : Netlist) (asked : Asked) (answers : List Answer) : Type 0 where
   pub count : length answers ≡ length left.circuits
-  pub each : AreAnswers left right limit (answer_at answers)
+  pub each : AreAnswers left right asked (answer_at answers)
 
 -- so are the right results of all jobs
 abbrev pub ResultsLaw : Type 0
@@ -37,7 +37,8 @@ ResultsLaw = (key : PairKey) (graph : List (List ℕ)) (values : List rows.Answe
     → AreSides (plain_netlist key.left.value) (plain_netlist key.right.value)
     → IsGood (plain_netlist key.left.value) (λ k. k)
     → AreCalledJobs (plain_netlist key.left.value) graph → AreDefined IsPairAnswer key graph values
-    → AreAllAnswers (plain_netlist key.left.value) (plain_netlist key.right.value) key.limit.value
+    → AreAllAnswers (plain_netlist key.left.value) (plain_netlist key.right.value)
+    (asked_of (plain_netlist key.left.value) key.limit.value key.same_pins.value)
     (map plain_answer values)
 
 abbrev pub IsMatch : Answer → Type 0
@@ -63,8 +64,8 @@ abbrev pub MatchedPairsLaw : Type 0
 MatchedPairsLaw = (layout schematic : Netlist) (top right_top : ℕ)
     (same : List (List ℕ × List ℕ)) (left right : Netlist) (v w : Alignment)
     (p : IsAlignedPair layout schematic top right_top same left right v w)
-    (limit : ℕ) (answers : List Answer)
-    → AreAllAnswers left right limit answers → All IsMatch answers
+    (asked : Asked) (answers : List Answer)
+    → AreAllAnswers left right asked answers → All IsMatch answers
     → (c d : ℕ) → IsPair layout schematic top same right_top c d
     → Corresponds (expanded layout c) (expanded schematic d)
     (AreDevicesMatched layout left right schematic v w p.left_aligned p.right_aligned
@@ -77,8 +78,8 @@ abbrev pub MatchedTopsLaw : Type 0
 MatchedTopsLaw = (layout schematic : Netlist) (top right_top : ℕ)
     (same : List (List ℕ × List ℕ)) (left right : Netlist) (v w : Alignment)
     (p : IsAlignedPair layout schematic top right_top same left right v w)
-    (limit : ℕ) (answers : List Answer)
-    → AreAllAnswers left right limit answers → All IsMatch answers
+    (asked : Asked) (answers : List Answer)
+    → AreAllAnswers left right asked answers → All IsMatch answers
     → Corresponds (expanded layout top) (expanded schematic right_top)
     (AreDevicesMatched layout left right schematic v w p.left_aligned p.right_aligned
     (pairings_of answers) top right_top)
@@ -87,24 +88,24 @@ MatchedTopsLaw = (layout schematic : Netlist) (top right_top : ℕ)
 
 -- a pair that matches carries a correspondence, which keeps the pins of the called pairs
 abbrev pub CarriedPairLaw : Type 0
-CarriedPairLaw = (left right : Netlist) (limit : ℕ) (answers : List Answer) → AreSides left right
-    → IsGood left (λ k. k) → AreAllAnswers left right limit answers → (k : ℕ) (c d : Circuit)
+CarriedPairLaw = (left right : Netlist) (asked : Asked) (answers : List Answer) → AreSides left right
+    → IsGood left (λ k. k) → AreAllAnswers left right asked answers → (k : ℕ) (c d : Circuit)
     (f : Pairing) → IsCircuit left k c → IsCircuit right k d → answer_at answers k ≡ Match f
-    → IsCorrespondence (pair_in left (answer_at answers) c d) f
+    → IsCorrespondence (pair_in (asked.told k) left (answer_at answers) c d) f
 
 -- a pair that has a correspondence which keeps the pins of the called pairs doesn't differ
 abbrev pub KeptPairLaw : Type 0
-KeptPairLaw = (left right : Netlist) (limit : ℕ) (answers : List Answer) → AreSides left right
-    → IsGood left (λ k. k) → AreAllAnswers left right limit answers → (k : ℕ) (c d : Circuit)
+KeptPairLaw = (left right : Netlist) (asked : Asked) (answers : List Answer) → AreSides left right
+    → IsGood left (λ k. k) → AreAllAnswers left right asked answers → (k : ℕ) (c d : Circuit)
     (f : Pairing) → IsCircuit left k c → IsCircuit right k d
-    → IsCorrespondence (pair_in left (answer_at answers) c d) f
+    → IsCorrespondence (pair_in (asked.told k) left (answer_at answers) c d) f
     → IsDifference (answer_at answers k) → ⊥
 
 -- a pair differs in which what a node is, as a device of a class and of sizes, comes more often on
 -- one side than on the other, whatever the called pairs are
 abbrev pub UnevenPairLaw : Type 0
-UnevenPairLaw = (left right : Netlist) (limit : ℕ) (answers : List Answer)
-    → AreAllAnswers left right limit answers → (k : ℕ) (c d : Circuit) (a : Node)
+UnevenPairLaw = (left right : Netlist) (asked : Asked) (answers : List Answer)
+    → AreAllAnswers left right asked answers → (k : ℕ) (c d : Circuit) (a : Node)
     → IsCircuit left k c → IsCircuit right k d
-    → IsUneven (web_of (pair_in left (answer_at answers) c d)) 0 a
+    → IsUneven (web_of (pair_in (asked.told k) left (answer_at answers) c d)) 0 a
     → IsDifference (answer_at answers k)

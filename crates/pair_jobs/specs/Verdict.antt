@@ -6,6 +6,7 @@ use Rattle.plain_netlist.specs.Sound.{IsGood}
 use Rattle.match_laws.specs.Answer.{Answer, Match, DiffersInRound, DiffersByTree, Undecided}
 use Rattle.match_laws.specs.Answer.{Skipped, IsDifference}
 use Rattle.align_laws.specs.Partners.{AreSides}
+use Rattle.composed_laws.specs.Answered.{Asked}
 use Rattle.pair_jobs.specs.Answers.{AreAllAnswers, IsMatch}
 use Rattle.pair_jobs.specs.declared.verdict.Verdict.{Verdict}
 use Rattle.pair_jobs.specs.declared.verdict.Verdict.TheVariants as verdict
@@ -32,8 +33,8 @@ OneVerdictLaw = (answers : List Answer) (a b : Verdict) → IsVerdict answers a 
 -- a pair is skipped for one that differs or is undecided: so where none differs and some pair
 -- doesn't match, one is undecided
 abbrev pub UndecidedPairLaw : Type 0
-UndecidedPairLaw = (left right : Netlist) (limit : ℕ) (answers : List Answer) → AreSides left right
-    → IsGood left (λ k. k) → AreAllAnswers left right limit answers
+UndecidedPairLaw = (left right : Netlist) (asked : Asked) (answers : List Answer) → AreSides left right
+    → IsGood left (λ k. k) → AreAllAnswers left right asked answers
     → IsVerdict answers verdict.Undecided
     ↔ ((Any IsDifference answers → ⊥) × Any IsUndecided answers)
 

@@ -2,6 +2,7 @@
 ghost use Rattle.std.specs.Prelude.{◌≡◌, ◌<◌, ℕ, true, IfOk, length, take};
 ghost use Rattle.composed_laws.specs.Answered.{pairing_or, right_pins};
 ghost use Rattle.job_graph.specs.Graph.{has};
+ghost use Rattle.match_types.specs.Children.{is_told};
 ghost use Rattle.match_types.specs.Plain.{plain_answer};
 ghost use Rattle.net_model.specs.Rows.{plain_circuit, plain_netlist};
 ghost use Rattle.pair_jobs.specs.Children.{AreChildrenOf, list_in};
@@ -38,20 +39,22 @@ fn pins_of(
 }
 
 /// The right pin of each left pin of these pairs, where they are matched, and nothing for all
-/// others. Linear in the pins.
+/// others; and whether names tell the pins of the pair above apart. Linear in the pins.
 pub fn child_pins<R: Reads<Answer>>(
     alloc: Global,
     left: &Netlist,
     pairs: &[u32],
     reads: &R,
+    told: bool,
 ) -> Result<ChildPins, AllocError>
     requires there { (pair : ℕ) → has pair pairs.now ≡ true
         → pair < length (plain_netlist left.now).circuits }
     requires read { (pair : ℕ) → has pair pairs.now ≡ true → R.may_read reads.now pair }
-    ensures { IfOk result
+    ensures children { IfOk result
         (AreChildrenOf (plain_netlist left.now) (R.value reads.now) pairs.now) }
+    ensures told { IfOk result (λ children. is_told children ≡ told) }
 {
-    let mut children = ChildPins::new(alloc);
+    let mut children = ChildPins::new(alloc, told);
     for pair in pairs {
         let circuit = &left.circuits[*pair as usize];
         let found = pins_of(alloc, circuit, reads.get(*pair))?;

@@ -1,5 +1,5 @@
 -- The rounds of both pairs leave single classes, so both answers are matches.
-use Rattle.std.proofs.Common.{◌≡◌, inl, inr, ℕ, zero, suc, ◌<◌, ◌≤◌, ◌==◌, ltb, true, List, [], ◌∷◌, length, Some, slice_get, slice_index, refl, sym, ◌∙◌, ap, subst, arith}
+use Rattle.std.proofs.Common.{◌≡◌, inl, inr, ℕ, zero, suc, ◌<◌, ◌≤◌, ◌==◌, ltb, true, false, List, [], ◌∷◌, length, Some, slice_get, slice_index, refl, sym, ◌∙◌, ap, subst, arith}
 use Rattle.plain_netlist.proofs.Members.{listed}
 use Rattle.std.specs.List.{list_all, count_by}
 use Rattle.std.proofs.lemmas.Bool.Decides.{Decides-ltb}
@@ -13,6 +13,7 @@ use Rattle.match_laws.specs.Circuits.{Pair, Pairing, circuit_of, device_ends, no
 use Rattle.match_laws.specs.Answer.{equal_names, IsPairing, IsAnswer}
 use Rattle.match_laws.proofs.Images.{web_good, nodes_has, size}
 use Rattle.match_laws.proofs.Sums.{in_numbers}
+use Rattle.latch_laws.specs.Latch.{untold}
 use Rattle.composed_laws.specs.Answered.{pair_in, AreAnswers}
 use Rattle.latch_laws.proofs.Checks.{all_at, Holds, started, went_on, stable_by, even_by, single_left, single_right, first_same, map_same}
 use Rattle.pair_samples.specs.Chain.{unit, flat_outer, left, part, whole, schematic, pairings, answers}
@@ -50,7 +51,7 @@ module _ (p : Pair) (round : ℕ) (colour : Node → ℕ) (holds : Holds (under 
 
 -- the pair of UNIT and the schematic's MID
 abbrev units : Pair
-units = pair_in left answers unit part
+units = pair_in false left answers unit part
 
 units_fit : (side : Side) → IsFitting units side
 units_fit Layout = record {
@@ -102,7 +103,7 @@ units_pairing = (
 
 -- the pair of the two TOPs
 abbrev tops : Pair
-tops = pair_in left answers flat_outer whole
+tops = pair_in false left answers flat_outer whole
 
 pub crossed : IsOneToOne (1 ∷ 0 ∷ []) 2 2
 crossed = record { count = refl; below = below; once = once }
@@ -168,7 +169,7 @@ tops_pairing = (
 )
 
 abbrev Answered : ℕ → Circuit → Circuit → Type 0
-Answered k c d = IsAnswer (pair_in left answers c d) (equal_names (pair_in left answers c d)) 1 (answers k)
+Answered k c d = IsAnswer (pair_in false left answers c d) (equal_names (pair_in false left answers c d)) 1 (answers k)
 
 units_answered : Answered 0 unit part
 units_answered = ((λ k c h. absurd (none-some c h)), inl units_pairing)
@@ -176,7 +177,7 @@ units_answered = ((λ k c h. absurd (none-some c h)), inl units_pairing)
 tops_answered : Answered 1 flat_outer whole
 tops_answered = (tops_matched, inl tops_pairing)
 
-pub answered : AreAnswers left schematic 1 answers
+pub answered : AreAnswers left schematic untold answers
 answered zero c d h g = subst (λ (x : Circuit). Answered 0 x d) (same_Some _ _ h) (subst (λ (y : Circuit). Answered 0 unit y) (same_Some _ _ g) units_answered)
 answered (suc zero) c d h g = subst (λ (x : Circuit). Answered 1 x d) (same_Some _ _ h) (subst (λ (y : Circuit). Answered 1 flat_outer y) (same_Some _ _ g) tops_answered)
 answered (suc (suc k)) c d h g = absurd (none-some c h)

@@ -13,6 +13,7 @@ use Rattle.align_laws.specs.Cut.{Alignment}
 use Rattle.align_laws.specs.Partners.{IsAlignedPair, AreNamesakes, IsPartner, AreNamesApart}
 use Rattle.align_laws.specs.Partners.{AreLinesApart}
 use Rattle.composed_laws.specs.Answered.{AreAnswers, AreMatches}
+use Rattle.latch_laws.specs.Latch.{untold}
 use Rattle.composed_laws.specs.Matched.{AreDevicesMatched, AreNetsMatched}
 
 -- a transistor of 0.1 by 1 micrometres, with its drain, gate, source and bulk
@@ -172,7 +173,7 @@ IsChainPair =
 abbrev pub MatchedChainLaw : Type 0
 MatchedChainLaw = IsSoundNetlist layout × IsSoundNetlist schematic
     × IsNormalNetlist layout × IsNormalNetlist schematic × IsGood layout (λ k. k)
-    × ((p : IsChainPair) × AreAnswers left schematic 1 answers × AreMatches left answers pairings
+    × ((p : IsChainPair) × AreAnswers left schematic untold answers × AreMatches left answers pairings
     × Corresponds (expanded layout 3) (expanded schematic 1)
     (AreDevicesMatched _ _ _ _ _ _ p.left_aligned p.right_aligned pairings 3 1)
     (AreNetsMatched _ _ _ _ _ _ p.left_aligned p.right_aligned pairings 3 1))

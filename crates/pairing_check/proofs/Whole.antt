@@ -11,26 +11,30 @@ use Rattle.net_model.specs.Rows.{plain_circuit, plain_device, plain_call}
 use Rattle.match_types.specs.declared.child_pins.ChildPins.{ChildPins}
 use Rattle.match_types.specs.declared.answer.Pairing.{Pairing}
 use Rattle.match_types.specs.Plain.{pair_of, plain_pairing}
-use Rattle.match_types.specs.Children.{children_of}
-use Rattle.pairing_check.specs.Parts.{AreMaps, ArePinsKept, AreDeviceImages, AreCallImages}
+use Rattle.match_types.specs.Children.{children_of, is_told}
+use Rattle.pairing_check.specs.Parts.{AreMaps, AreNamesKept, ArePinsKept, AreDeviceImages, AreCallImages}
 use Rattle.match_parts.specs.Rows.{AreBelow, AreDevicesOn, AreCallsOn}
 
 pub whole : (l r : Circuit) (ch : ChildPins) (f : Pairing) → AreMaps l r f → ArePinsKept (plain_circuit l) (plain_circuit r) f.nets.items
-    → AreDeviceImages (plain_circuit l) (plain_circuit r) f.nets.items f.devices.items → AreCallImages (children_of ch) (plain_circuit l) (plain_circuit r) f.nets.items f.calls.items
+    → AreNamesKept (is_told ch) (plain_circuit l) (plain_circuit r) f.nets.items → AreDeviceImages (plain_circuit l) (plain_circuit r) f.nets.items f.devices.items → AreCallImages (children_of ch) (plain_circuit l) (plain_circuit r) f.nets.items f.calls.items
     → IsCorrespondence (pair_of l r ch) (plain_pairing f)
-whole l r ch f m pins devices calls = record {
+whole l r ch f m pins names devices calls = record {
   nets = m.nets;
   devices = subst (λ (n : ℕ). IsOneToOne f.devices.items (length (plain_circuit l).devices) n) (sym (length-map r.devices.items plain_device))
       (subst (λ (n : ℕ). IsOneToOne f.devices.items n (length r.devices.items)) (sym (length-map l.devices.items plain_device)) m.devices);
   calls = subst (λ (n : ℕ). IsOneToOne f.calls.items (length (plain_circuit l).calls) n) (sym (length-map r.calls.items plain_call))
       (subst (λ (n : ℕ). IsOneToOne f.calls.items n (length r.calls.items)) (sym (length-map l.calls.items plain_call)) m.calls);
   pin = λ n h. let e = m.nets.count in pins n (omega arith);
+  named = λ n h. let e = m.nets.count in names n (omega arith);
   device = devices;
   call = calls;
 }
 
 pub pins_of : (l r : Circuit) (ch : ChildPins) (f : Pairing) → AreMaps l r f → IsCorrespondence (pair_of l r ch) (plain_pairing f) → ArePinsKept (plain_circuit l) (plain_circuit r) f.nets.items
 pins_of l r ch f m h n low = let e = m.nets.count in h.pin n (omega arith)
+
+pub names_of : (l r : Circuit) (ch : ChildPins) (f : Pairing) → AreMaps l r f → IsCorrespondence (pair_of l r ch) (plain_pairing f) → AreNamesKept (is_told ch) (plain_circuit l) (plain_circuit r) f.nets.items
+names_of l r ch f m h n low = let e = m.nets.count in h.named n (omega arith)
 
 pub below : (xs : List ℕ) (m n : ℕ) → IsOneToOne xs m n → AreBelow xs n
 below xs m n one i l = let e = one.count in index_below xs m n i one (omega arith)

@@ -1,8 +1,8 @@
 -- The parts of a correspondence, one for each loop of the check.
-use Rattle.std.specs.Prelude.{◌≡◌, ◌↔◌, ◌<◌, ℕ, List, Option, Some, length, slice_get, slice_index}
+use Rattle.std.specs.Prelude.{◌≡◌, ◌↔◌, ◌<◌, ℕ, Bool, List, Option, Some, length, slice_get, slice_index}
 use Rattle.plain_netlist.specs.Netlist.{DeviceRow, CallRow, Circuit}
 use Rattle.plain_netlist.specs.Lists.{IsListed}
-use Rattle.match_laws.specs.Circuits.{IsOneToOne, IsDeviceImage, IsCallImage}
+use Rattle.match_laws.specs.Circuits.{IsOneToOne, IsDeviceImage, IsCallImage, pin_name}
 use Rattle.net_model.specs.declared.netlist.Circuit.{Circuit as CircuitRow}
 use Rattle.match_types.specs.declared.answer.Pairing.{Pairing}
 use Rattle.pairing_check.specs.declared.check.Marks.{Marks}
@@ -24,6 +24,11 @@ pub record AreMaps (left right : CircuitRow) (f : Pairing) : Type 0 where
 abbrev pub ArePinsKept : Circuit → Circuit → List ℕ → Type 0
 ArePinsKept left right nets =
     (n : ℕ) → n < length nets → IsListed n left.pins ↔ IsListed (slice_index nets n) right.pins
+
+-- pins go to pins of their name, where names tell pins apart
+abbrev pub AreNamesKept : Bool → Circuit → Circuit → List ℕ → Type 0
+AreNamesKept told left right nets = (n : ℕ) → n < length nets
+    → pin_name told left n ≡ pin_name told right (slice_index nets n)
 
 -- each device goes to its image
 abbrev pub AreDeviceImages : Circuit → Circuit → List ℕ → List ℕ → Type 0

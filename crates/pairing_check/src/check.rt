@@ -8,6 +8,7 @@ ghost use Rattle.pairing_check.specs.Parts.{AreMaps, AreMarksFor};
 
 use crate::calls::calls_kept;
 use crate::devices::devices_kept;
+use crate::names::names_kept;
 use crate::pins::pins_kept;
 use match_parts::is_one_to_one;
 use match_types::{ChildPins, Pairing};
@@ -57,6 +58,9 @@ pub fn check_pairing(
         return false;
     }
     if !pins_kept(left, right, &pairing.nets, &mut marks.pins, &mut marks.nets) {
+        return false;
+    }
+    if !names_kept(left, right, children.told(), &pairing.nets, &mut marks.pins) {
         return false;
     }
     if !devices_kept(left, right, &pairing.nets, &pairing.devices) {

@@ -4,6 +4,7 @@
 mod calls;
 mod check;
 mod devices;
+mod names;
 mod pins;
 
 pub use check::{Marks, check_pairing};

@@ -53,7 +53,7 @@ same_candidates s w j k a web sj sk i =
 
 -- nodes that look alike are of one kind
 abbrev kind_in : Own → Option Kind
-kind_in (OfNet b) = Some Net
+kind_in (OfNet b n) = Some Net
 kind_in (OfDevice c l w) = Some Device
 kind_in (OfCall p) = Some Call
 kind_in OfNone = None

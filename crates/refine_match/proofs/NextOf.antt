@@ -37,13 +37,13 @@ read_name [] k l = absurd (omega arith)
 read_name (x ∷ xs) zero l = refl
 read_name (x ∷ xs) (suc k) l = read_name xs k (omega arith)
 
-no_device : (b : Bool) (o : Option DeviceRow) → same_own (OfNet b) (elim o [ None ↦ OfNone | Some d ↦ OfDevice d.class d.length d.width ]) ≡ true → ⊥
-no_device b None t = true≢false (sym t)
-no_device b (Some d) t = true≢false (sym t)
+no_device : (b : Bool) (n : List ℕ) (o : Option DeviceRow) → same_own (OfNet b n) (elim o [ None ↦ OfNone | Some d ↦ OfDevice d.class d.length d.width ]) ≡ true → ⊥
+no_device b n None t = true≢false (sym t)
+no_device b n (Some d) t = true≢false (sym t)
 
-no_call : (b : Bool) (o : Option CallRow) → same_own (OfNet b) (elim o [ None ↦ OfNone | Some c ↦ OfCall c.circuit ]) ≡ true → ⊥
-no_call b None t = true≢false (sym t)
-no_call b (Some c) t = true≢false (sym t)
+no_call : (b : Bool) (n : List ℕ) (o : Option CallRow) → same_own (OfNet b n) (elim o [ None ↦ OfNone | Some c ↦ OfCall c.circuit ]) ≡ true → ⊥
+no_call b n None t = true≢false (sym t)
+no_call b n (Some c) t = true≢false (sym t)
 
 false_and : (a b : Bool) → a ≡ false → false ≡ (a && b)
 false_and true b e = absurd (true≢false e)
@@ -70,8 +70,8 @@ names_at p g left right h Net Net k j lk lj t =
     let there : bytes_eq (slice_index_or p.left.nets k []) (slice_index_or p.right.nets j []) ≡ bytes_eq (slice_index_or left.nets.items (index_of p (node Layout Net k) - g.left.first) []) (slice_index_or right.nets.items (index_of p (node Schematic Net j) - g.right.first) [])
     = ap₂ bytes_eq (ap₂ (λ (xs : List (List ℕ)) (i : ℕ). slice_index_or xs i []) ln (sym ek)) (ap₂ (λ (xs : List (List ℕ)) (i : ℕ). slice_index_or xs i []) rr (sym ej)) in
     here ∙ (there ∙ sym (ap₂ (λ (u v : Bool). u && (v && bytes_eq (slice_index_or left.nets.items (index_of p (node Layout Net k) - g.left.first) []) (slice_index_or right.nets.items (index_of p (node Schematic Net j) - g.right.first) []))) one two))
-names_at p g left right h Net Device k j lk lj t = absurd (no_device _ (slice_get p.right.devices j) t)
-names_at p g left right h Net Call k j lk lj t = absurd (no_call _ (slice_get p.right.calls j) t)
+names_at p g left right h Net Device k j lk lj t = absurd (no_device _ _ (slice_get p.right.devices j) t)
+names_at p g left right h Net Call k j lk lj t = absurd (no_call _ _ (slice_get p.right.calls j) t)
 names_at p g left right h Device other k j lk lj t =
     let f = h.graph.left.first_is in
     let n = h.graph.left.nets in

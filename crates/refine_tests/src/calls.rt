@@ -23,7 +23,7 @@ fn a_called_pair(rt: HostRuntime) -> Result<(), AllocError> {
     let alloc = rt.alloc();
     let left = caller(alloc)?;
     let right = caller(alloc)?;
-    let mut children = ChildPins::new(alloc);
+    let mut children = ChildPins::new(alloc, false);
     let first = skipped(compare(alloc, &left, &right, &children, 1)?);
     assert_eq!(rt; first, Some(0));
     children.set(0, vec![in alloc; 1, 0]?)?;

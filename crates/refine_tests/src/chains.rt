@@ -30,7 +30,7 @@ fn a_long_chain(rt: HostRuntime) -> Result<(), AllocError> {
     let alloc = rt.alloc();
     let left = chain(alloc, 10_000, false)?;
     let right = chain(alloc, 10_000, true)?;
-    let none = ChildPins::new(alloc);
+    let none = ChildPins::new(alloc, false);
     match matched(compare(alloc, &left, &right, &none, 1)?) {
         Some(pairing) => {
             assert_eq!(rt; pairing.nets.len(), 10_003);

@@ -108,7 +108,7 @@ pub fn is_match(
     right: &Circuit,
     pairing: &Pairing,
 ) -> Result<bool, AllocError> {
-    let none = ChildPins::new(alloc);
+    let none = ChildPins::new(alloc, false);
     if !fits(alloc, left, &none)? || !fits(alloc, right, &none)? {
         return Ok(false);
     }

@@ -30,7 +30,7 @@ fn latch_swapped(rt: HostRuntime) -> Result<(), AllocError> {
     let alloc = rt.alloc();
     let left = latch(alloc, 5, 6)?;
     let right = latch(alloc, 6, 5)?;
-    let children = ChildPins::new(alloc);
+    let children = ChildPins::new(alloc, false);
     match matched(compare(alloc, &left, &right, &children, 1000)?) {
         Some(pairing) => {
             assert_eq!(rt; pairing.nets.as_slice(), [0, 1, 2, 3, 4, 5, 6].as_slice());

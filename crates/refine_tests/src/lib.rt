@@ -1,6 +1,6 @@
 //! Tests of the comparison of two circuits: rounds with unequal counts, a latch whose inner nets
 //! are exchanged, rings that only guesses tell apart, guesses below guesses, a called pair, a long
-//! chain, and small pairs decided by every map.
+//! chain, pins told apart by their names, and small pairs decided by every map.
 #![tactic(auto)]
 
 #[cfg(test)]
@@ -15,6 +15,8 @@ mod chains;
 mod fitting;
 #[cfg(test)]
 mod latches;
+#[cfg(test)]
+mod names;
 #[cfg(test)]
 mod nested;
 #[cfg(test)]

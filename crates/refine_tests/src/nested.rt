@@ -20,7 +20,7 @@ fn loops(alloc: Global, next: [u32; 4]) -> Result<Circuit, AllocError> {
 fn compare_loops(alloc: Global, limit: u32) -> Result<Option<Answer>, AllocError> {
     let twos = loops(alloc, [3, 2, 5, 4])?;
     let ones = loops(alloc, [3, 2, 4, 5])?;
-    compare(alloc, &twos, &ones, &ChildPins::new(alloc), limit)
+    compare(alloc, &twos, &ones, &ChildPins::new(alloc, false), limit)
 }
 
 // The guess of the first loop's first net to the right net of this number.

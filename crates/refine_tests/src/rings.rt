@@ -23,7 +23,7 @@ fn ring(alloc: Global, next: [u32; 6]) -> Result<Circuit, AllocError> {
 fn rings(alloc: Global, limit: u32) -> Result<Option<Answer>, AllocError> {
     let six = ring(alloc, [3, 4, 5, 6, 7, 2])?;
     let threes = ring(alloc, [3, 4, 2, 6, 7, 5])?;
-    compare(alloc, &six, &threes, &ChildPins::new(alloc), limit)
+    compare(alloc, &six, &threes, &ChildPins::new(alloc, false), limit)
 }
 
 // The guess of the first ring net to the right net of this number.
@@ -64,7 +64,7 @@ fn one_ring(rt: HostRuntime) -> Result<(), AllocError> {
     let alloc = rt.alloc();
     let left = ring(alloc, [3, 4, 5, 6, 7, 2])?;
     let right = ring(alloc, [4, 5, 3, 6, 7, 2])?;
-    let none = ChildPins::new(alloc);
+    let none = ChildPins::new(alloc, false);
     match matched(compare(alloc, &left, &right, &none, 1)?) {
         Some(pairing) => {
             assert_eq!(rt;

@@ -34,7 +34,7 @@ fn uneven_counts(rt: HostRuntime) -> Result<(), AllocError> {
     let mut right = three_nets(alloc, &[[0, 1, 2, 0]])?;
     call_on(alloc, &mut left)?;
     call_on(alloc, &mut right)?;
-    match in_round(compare(alloc, &left, &right, &ChildPins::new(alloc), 1)?) {
+    match in_round(compare(alloc, &left, &right, &ChildPins::new(alloc, false), 1)?) {
         Some((round, node, on_left, on_right)) => {
             let want = Node {
                 side: Side::Layout,
@@ -57,7 +57,7 @@ fn a_later_round(rt: HostRuntime) -> Result<(), AllocError> {
     let alloc = rt.alloc();
     let left = three_nets(alloc, &[[1, 0, 2, 0]])?;
     let right = three_nets(alloc, &[[0, 1, 2, 0]])?;
-    match in_round(compare(alloc, &left, &right, &ChildPins::new(alloc), 1)?) {
+    match in_round(compare(alloc, &left, &right, &ChildPins::new(alloc, false), 1)?) {
         Some((round, node, on_left, on_right)) => {
             let want = Node {
                 side: Side::Layout,

@@ -83,7 +83,7 @@ fn every_map(rt: HostRuntime) -> Result<(), AllocError> {
         let left = small(alloc, i, NETS[0])?;
         let right = small(alloc, i - i % 3, NETS[(i % 6) as usize])?;
         let want = has_match(alloc, &left, &right)?;
-        let none = ChildPins::new(alloc);
+        let none = ChildPins::new(alloc, false);
         let found = is_matched(compare(alloc, &left, &right, &none, 1000)?);
         assert_eq!(rt; found, Some(want), "pair {i}");
         if want {

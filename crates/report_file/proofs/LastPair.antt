@@ -1,5 +1,5 @@
 -- Where a pair differs and none goes, it is that of the tops, and calls nothing.
-use Rattle.std.proofs.Common.{◌≡◌, ◌⊎◌, inl, inr, ℕ, zero, suc, ◌+◌, ◌<◌, ◌≤◌, Bool, true, false, List, [], ◌∷◌, length, Some, slice_get, get_or, refl, sym, ap, subst, ◌∙◌, arith, true≢false}
+use Rattle.std.proofs.Common.{◌≡◌, ◌⊎◌, inl, inr, ℕ, zero, suc, ◌+◌, ◌-◌, ◌<◌, ◌≤◌, Bool, true, false, List, [], ◌∷◌, length, Some, slice_get, get_or, refl, sym, ap, subst, ◌∙◌, arith, true≢false}
 use Rattle.std.specs.Prelude.{◌==◌, ◌&&◌, ◌||◌, nat_lt, slice_index_or, if◌then◌else◌}
 use Rattle.std.specs.List.{Any, list_any}
 use Rattle.std.proofs.lemmas.Bool.{cases_Bool}
@@ -14,6 +14,7 @@ use Rattle.pair_turns.specs.Going.{AreGoing, calls_none, goes_from, is_differenc
 use Rattle.plain_netlist.specs.Netlist.{CallRow, Circuit, Netlist, IsCall, IsCircuit}
 use Rattle.plain_netlist.specs.Sound.{IsCallPath, IsCalledFrom}
 use Rattle.plain_netlist.proofs.Faults.{sides}
+use Rattle.plain_netlist.proofs.Members.{item_at}
 use Rattle.report_file.proofs.Kept.{made_of}
 
 either_false : (a b : Bool) → (a || b) ≡ false → (a ≡ false) × (b ≡ false)
@@ -148,3 +149,12 @@ module _ (layout schematic : Netlist) (top right_top : ℕ) (same : List (List �
         | inr (inl e) ↦ ap v.number (sym e) ∙ m.becomes
         | inr (inr l) ↦ absurd (omega (arith, low, l))
       ]
+
+  -- so its number is the last one
+  pub top_last : v.number top + 1 ≡ length left.circuits
+  top_last =
+      let there = p.left_aligned.by.cut_down.there top top_kept in
+      let low = slice_get_within left.circuits (v.number top) _ there in
+      let last = item_at left.circuits (length left.circuits - 1) (omega (arith, low)) in
+      let is = last_is_top (length left.circuits - 1) last.0 last.1 (omega (arith, low)) in
+      omega (arith, low, is)

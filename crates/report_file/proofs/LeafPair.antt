@@ -2,7 +2,7 @@
 use Rattle.std.proofs.Common.{◌≡◌, ◌⊎◌, inl, inr, ℕ, zero, suc, ◌<◌, List, [], ◌∷◌, length, Some, slice_get, get_or, refl, sym, ap, subst, ◌∙◌, arith}
 use Rattle.std.specs.Prelude.{slice_index}
 use Rattle.std.proofs.lemmas.Option.{slice_get_within, get_or_from_slice_get}
-use Rattle.match_laws.specs.Circuits.{IsCallImage, IsCorrespondence, IsDeviceImage, IsOneToOne, Pair, Pairing}
+use Rattle.match_laws.specs.Circuits.{IsCallImage, IsCorrespondence, IsDeviceImage, IsOneToOne, Pair, Pairing, pin_name}
 use Rattle.plain_netlist.specs.Chains.{IsChain, Reaches}
 use Rattle.plain_netlist.specs.Flats.{AreRowsAlike, Corresponds, Reversed, Row, expanded, row_at}
 use Rattle.plain_netlist.specs.Lists.{IsListed}
@@ -61,14 +61,14 @@ module _ (nl : Netlist) (k : ℕ) (c : Circuit) (leaf : IsLeaf nl k c) where
   self_slot : (a : Slot) → InOneNet nl k a a
   self_slot a = record { via = []; chain = refl }
 
-  on_pin : (n : ℕ) → IsOnPin nl k (slot [] n) → IsListed n c.pins
+  pub on_pin : (n : ℕ) → IsOnPin nl k (slot [] n) → IsListed n c.pins
   on_pin n (i, m, (x, is, at), reach) =
       let also = leaf.circuit in
       let same : x ≡ c = cc in
       let e : n ≡ m = ap (λ (s : Slot). s.net) (one_slot (slot [] n) (slot [] m) reach) in
       subst (λ (y : ℕ). IsListed y c.pins) (sym e) (listed c.pins i m (subst (λ (y : Circuit). slice_get y.pins i ≡ Some m) same at))
 
-  pin_on : (n : ℕ) → IsListed n c.pins → IsOnPin nl k (slot [] n)
+  pub pin_on : (n : ℕ) → IsListed n c.pins → IsOnPin nl k (slot [] n)
   pin_on n h = let p = position c.pins n h in (p.0, n, (c, leaf.circuit, p.1), self_slot (slot [] n))
 
   -- the net of a terminal is there
@@ -174,8 +174,8 @@ module _ (left right : Netlist) (k : ℕ) (c d : Circuit) (l : IsLeaf left k c) 
           ];
         }
 
-    corresponds : (p : Pair) → p.left ≡ c → p.right ≡ d → IsCorrespondence p (record { nets = nets; devices = devices; calls = [] })
-    corresponds p lp rp = record {
+    corresponds : (p : Pair) → p.left ≡ c → p.right ≡ d → ((n x : ℕ) → n < length c.nets → x < length d.nets → N (slot [] n) (slot [] x) → pin_name p.told c n ≡ pin_name p.told d x) → IsCorrespondence p (record { nets = nets; devices = devices; calls = [] })
+    corresponds p lp rp named = record {
       nets = subst (λ (x : Circuit). IsOneToOne nets (length x.nets) (length p.right.nets)) (sym lp) (subst (λ (x : Circuit). IsOneToOne nets (length c.nets) (length x.nets)) (sym rp) nets_one);
       devices = subst (λ (x : Circuit). IsOneToOne devices (length x.devices) (length p.right.devices)) (sym lp) (subst (λ (x : Circuit). IsOneToOne devices (length c.devices) (length x.devices)) (sym rp) devices_one);
       calls = record {
@@ -189,14 +189,18 @@ module _ (left right : Netlist) (k : ℕ) (c d : Circuit) (l : IsLeaf left k c) 
             (λ i. subst (λ (x : Circuit). IsListed (slice_index nets n) x.pins) (sym rp) (on_pin right k d r (slice_index nets n) (both.0 (pin_on left k c l n (subst (λ (x : Circuit). IsListed n x.pins) lp i))))),
             (λ i. subst (λ (x : Circuit). IsListed n x.pins) (sym lp) (on_pin left k c l n (both.1 (pin_on right k d r (slice_index nets n) (subst (λ (x : Circuit). IsListed (slice_index nets n) x.pins) rp i))))),
           );
+      named = λ n low.
+          let inside : n < length c.nets = subst (λ (x : Circuit). n < length x.nets) lp low in
+          let there = nets_are.each n inside in
+          ap (λ (x : Circuit). pin_name p.told x n) lp ∙ (named n (slice_index nets n) inside there.0 there.1 ∙ sym (ap (λ (x : Circuit). pin_name p.told x (slice_index nets n)) rp));
       device = λ j row other at there.
           device_image j row other (subst (λ (x : Circuit). slice_get x.devices j ≡ Some row) lp at) (subst (λ (x : Circuit). slice_get x.devices (slice_index devices j) ≡ Some other) rp there);
       call = λ e row other at there.
           let none : slice_get [] e ≡ Some row = subst (λ (rs : List CallRow). slice_get rs e ≡ Some row) (ap (λ (x : Circuit). x.calls) lp ∙ l.calls) at in absurd cc;
     }
 
-  pub leaf_pair : (p : Pair) → p.left ≡ c → p.right ≡ d → (f : Pairing) × IsCorrespondence p f
-  leaf_pair p lp rp =
+  pub leaf_pair : (p : Pair) → p.left ≡ c → p.right ≡ d → ((n x : ℕ) → n < length c.nets → x < length d.nets → N (slot [] n) (slot [] x) → pin_name p.told c n ≡ pin_name p.told d x) → (f : Pairing) × IsCorrespondence p f
+  leaf_pair p lp rp named =
       let nets = choose StandsFor (length c.nets) net_image in
       let devices = choose GoesTo (length c.devices) device_there in
-      (record { nets = nets.0; devices = devices.0; calls = [] }, corresponds nets.0 devices.0 nets.1 devices.1 p lp rp)
+      (record { nets = nets.0; devices = devices.0; calls = [] }, corresponds nets.0 devices.0 nets.1 devices.1 p lp rp named)

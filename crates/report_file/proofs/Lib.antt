@@ -1,3 +1,4 @@
+pub mod Combined
 mod Folded
 mod Read
 mod Aligning
@@ -13,9 +14,16 @@ mod One
 mod Matched
 mod Verdicts
 mod Named
+mod PinNames
+mod PinsApart
+mod NamedTops
 mod Choosing
 mod LeafPair
 mod LeafMade
 mod LastPair
 mod Exact
 mod Helps
+mod SameTop
+mod TopStays
+mod TopKept
+mod TopPartner

@@ -1,41 +1,88 @@
 -- A reported match of the flat layout with the flattened schematic.
-use Rattle.std.proofs.Common.{ℕ, List, Option, Some, None, length, refl}
+use Rattle.std.proofs.Common.{◌≡◌, ℕ, ◌+◌, ◌==◌, ◌&&◌, Bool, List, [], Option, Some, None, length, refl, subst, ap₂, ◌∙◌}
+use Rattle.std.proofs.lemmas.Bool.Decides.{Decides-eqb}
 use Rattle.std.proofs.lemmas.List.{nil_from_length}
+use Rattle.align_laws.proofs.Joined.{net_on}
+use Rattle.align_laws.specs.Partners.{LeftOrderLaw}
 use Rattle.cell_graph.specs.Linked.{Linked, plain}
 use Rattle.composed_laws.specs.Matched.{AreDevicesMatched, AreNetsMatched}
 use Rattle.deep_tables.specs.declared.gates.BadGate.{BadGate}
 use Rattle.flat_layout.specs.Circuits.{IsCircuitCell}
 use Rattle.flat_layout.specs.Expanded.{AreTablesRight, CircuitTables}
 use Rattle.flat_layout.specs.Nets.{Tables}
+use Rattle.flat_layout.specs.GateTables.{GateSquare}
+use Rattle.flat_layout.specs.Regions.{Node}
+use Rattle.headline_laws.proofs.Merged.{merged_between}
 use Rattle.headline_laws.specs.FlatNetlist.{flat_netlist, FlatCorrespondsLaw, IsFlatGateOf, IsFlatRegionOf}
 use Rattle.match_report.specs.Report.{answers_of}
 use Rattle.match_report.specs.declared.report.Compared.{Compared}
+use Rattle.merge_laws.specs.Grouped.{merged_netlist}
+use Rattle.net_align.specs.Compared.{AreCalleesFirst, IsAlignable}
 use Rattle.net_model.specs.Rows.{plain_netlist}
 use Rattle.pair_jobs.specs.Answers.{MatchedTopsLaw, pairings_of}
 use Rattle.pair_jobs.specs.Verdict.{IsRunVerdict}
 use Rattle.pair_jobs.specs.declared.verdict.Verdict.TheVariants as verdict
 use Rattle.plain_netlist.proofs.Alike.{reversed, through}
-use Rattle.plain_netlist.specs.Flats.{expanded, Reversed}
-use Rattle.plain_netlist.specs.Netlist.{Netlist}
-use Rattle.report_file.specs.Compared.{IsComparison}
+use Rattle.plain_netlist.proofs.Heights.{good as good_law}
+use Rattle.plain_netlist.specs.Flats.{Corresponds, Flat, expanded, Reversed}
+use Rattle.plain_netlist.specs.Netlist.{Netlist, Slot, slot}
+use Rattle.report_file.proofs.Combined.{as_it_is, as_merged, compared_alignable, compared_order, one_net_compared}
+use Rattle.report_file.proofs.Compared.{found, good_first}
+use Rattle.report_file.proofs.LastPair.{top_last}
+use Rattle.report_file.proofs.NamedTops.{named_tops}
+use Rattle.report_file.specs.Combined.{CombinedAlignableLaw, compared_of}
+use Rattle.report_file.specs.Compared.{IsComparison, asked_by}
 use Rattle.report_file.specs.File.{all_answers}
-use Rattle.report_file.specs.Matched.{MatchedReportLaw, MatchesFlat}
+use Rattle.report_file.specs.Matched.{MatchedReportLaw, MatchesFlat, MatchingLaw}
 use Rattle.rule_layers.specs.Meaning.{device_rules, wiring_of}
 use Rattle.rule_text.specs.Rules.{Rules}
+use Rattle.table_laws.specs.NameLaws.{ExtractedGoodLaw}
+use Rattle.whole_laws.proofs.Whole.{merged_whole, whole_on}
+use Rattle.whole_laws.specs.Whole.{IsWhole}
 
-module _ (flat : FlatCorrespondsLaw) (tops : MatchedTopsLaw) (d : Linked) (r : Rules) (unit : ℕ) (t : Tables) (g : CircuitTables) (level : ℕ → ℕ) (layout : Netlist) (top : ℕ) (bad : List BadGate) (schematic : Netlist)
-    (right : AreTablesRight (plain d) (wiring_of r) t g layout (device_rules r) unit level) (top_is : IsCircuitCell g.cells top (plain d).top) where
+module _ (alignable : CombinedAlignableLaw) (good : ExtractedGoodLaw) (order : LeftOrderLaw) (flat : FlatCorrespondsLaw) (tops : MatchedTopsLaw) (d : Linked) (r : Rules) (unit : ℕ) (t : Tables) (g : CircuitTables) (level : ℕ → ℕ) (layout : Netlist) (top : ℕ) (bad : List BadGate) (schematic : Netlist)
+    (right : AreTablesRight (plain d) (wiring_of r) t g layout (device_rules r) unit level) (top_is : IsCircuitCell g.cells top (plain d).top) (layout_fine : IsAlignable layout) (first : AreCalleesFirst layout) (fine : IsAlignable schematic) where
+  abbrev F : Flat GateSquare Node
+  F = flat_netlist (plain d) (wiring_of r) (device_rules r) unit
+
+  abbrev gates_of : Slot → GateSquare → Type 0
+  gates_of = IsFlatGateOf (plain d) (wiring_of r) g layout top (device_rules r)
+
+  abbrev regions_of : Slot → Node → Type 0
+  regions_of = IsFlatRegionOf (plain d) (wiring_of r) t g layout top
+
+  -- two netlists as they are compared, where what they are is known
+  compared_as : (near far : Netlist) (partner : ℕ) (D N : Slot → Slot → Type 0) → compared_of r layout ≡ near → compared_of r schematic ≡ far
+      → Corresponds (expanded (compared_of r layout) top) (expanded (compared_of r schematic) partner) D N → Corresponds (expanded near top) (expanded far partner) D N
+  compared_as near far partner D N e f h =
+      subst (λ (x : Netlist). Corresponds (expanded near top) (expanded x partner) D N) f (subst (λ (x : Netlist). Corresponds (expanded x top) (expanded (compared_of r schematic) partner) D N) e h)
+
+  gates_expanded : Corresponds (expanded layout top) F gates_of regions_of
+  gates_expanded = flat (plain d) (wiring_of r) t g layout (device_rules r) unit level right top top_is
+
+  flat_whole : IsWhole F
+  flat_whole =
+      let both = good (plain d) (wiring_of r) t g layout (device_rules r) unit level right in
+      whole_on (expanded layout top) F gates_of regions_of gates_expanded (merged_whole layout _ both.0 top)
+
+  schematic_whole : (partner : ℕ) → IsWhole (expanded schematic partner)
+  schematic_whole partner = let h = good_law schematic fine.sound fine.normal in merged_whole schematic h.0 h.1 partner
+
   -- of what was compared
-  matched : (same : List (List ℕ × List ℕ)) (o : Option Compared) → IsComparison layout top schematic same r.max_guesses o → IsRunVerdict (length bad) (all_answers o) verdict.Match → MatchesFlat d r unit layout top bad schematic o
+  matched : (same : List (List ℕ × List ℕ)) (o : Option Compared) → IsComparison (compared_of r layout) top (compared_of r schematic) same r.max_guesses r.tells_pins o → IsRunVerdict (length bad) (all_answers o) verdict.Match
+      → MatchesFlat d r unit layout top bad schematic o
   matched same None c h = absurd h.1
   matched same (Some f) c h =
-      let w = wiring_of r in
-      let rules = device_rules r in
+      let left = plain_netlist f.left in
+      let near = compared_of r layout in
+      let far = compared_of r schematic in
+      let near_first = compared_order r layout first in
       let a = c.0 in
       let p = a.are in
-      let F = flat_netlist (plain d) w rules unit in
-      let E = expanded layout top in
-      let S = expanded schematic a.right_top in
+      let D = AreDevicesMatched (compared_of r layout) (plain_netlist f.left) (plain_netlist f.right) (compared_of r schematic) a.left_by a.right_by p.left_aligned p.right_aligned (pairings_of (answers_of f)) top a.right_top in
+      let N = AreNetsMatched (compared_of r layout) (plain_netlist f.left) (plain_netlist f.right) (compared_of r schematic) a.left_by a.right_by p.left_aligned p.right_aligned (pairings_of (answers_of f)) top a.right_top in
+      let pairs : Corresponds (expanded (compared_of r layout) top) (expanded (compared_of r schematic) a.right_top) D N =
+      tops (compared_of r layout) (compared_of r schematic) top a.right_top same (plain_netlist f.left) (plain_netlist f.right) a.left_by a.right_by p (asked_by r f) (answers_of f) c.1 h.1 in
       record {
         good = nil_from_length bad h.0;
         found = f;
@@ -52,13 +99,40 @@ module _ (flat : FlatCorrespondsLaw) (tops : MatchedTopsLaw) (d : Linked) (r : R
           right_by = a.right_by;
           aligned = p;
         };
-        corresponds = through F E S (Reversed (IsFlatGateOf (plain d) w g layout top rules)) (Reversed (IsFlatRegionOf (plain d) w t g layout top))
-            (AreDevicesMatched layout (plain_netlist f.left) (plain_netlist f.right) schematic a.left_by a.right_by p.left_aligned p.right_aligned (pairings_of (answers_of f)) top a.right_top)
-            (AreNetsMatched layout (plain_netlist f.left) (plain_netlist f.right) schematic a.left_by a.right_by p.left_aligned p.right_aligned (pairings_of (answers_of f)) top a.right_top)
-            (reversed E F (IsFlatGateOf (plain d) w g layout top rules) (IsFlatRegionOf (plain d) w t g layout top) (flat (plain d) w t g layout rules unit level right top top_is))
-            (tops layout schematic top a.right_top same (plain_netlist f.left) (plain_netlist f.right) a.left_by a.right_by p r.max_guesses (answers_of f) c.1 h.1);
+        corresponds = λ e.
+            through F (expanded layout top) (expanded schematic a.right_top) (Reversed gates_of) (Reversed regions_of) D N
+            (reversed (expanded layout top) F gates_of regions_of gates_expanded)
+            (compared_as layout schematic a.right_top D N (as_it_is r layout e) (as_it_is r schematic e) pairs);
+        combined = λ e.
+            merged_between (plain d) (wiring_of r) t g layout (device_rules r) unit level right top top_is schematic a.right_top D N
+            (compared_as (merged_netlist layout) (merged_netlist schematic) a.right_top D N (as_merged r layout e) (as_merged r schematic e) pairs);
+        names = λ on a2 b x name other region (s, of_region, goes) named also.
+            let on_one = one_net_compared r layout top s a2 ((gates_expanded.nets s a2 x x of_region region).1 (record { via = []; chain = refl })) in
+            named_tops near far top a.right_top same left (plain_netlist f.right) a.left_by a.right_by p (asked_by r f) (answers_of f)
+            (order near far top a.right_top same left (plain_netlist f.right) a.left_by a.right_by (good_first near (compared_alignable r layout alignable layout_fine) near_first) p) c.1 h.1
+            (ap₂ (λ (t : Bool) (n : ℕ). t && (n == length left.circuits)) on refl ∙ (Decides-eqb (a.left_by.number top + 1) (length left.circuits)).1 (top_last near far top a.right_top same left (plain_netlist f.right) a.left_by a.right_by p near_first))
+            s b name other goes (record { circuit = named.circuit; is = named.is; pin = named.pin; listed = named.listed; on = net_on near top s a2 (slot [] named.pin) on_one named.on; named = named.named }) also;
+        whole = λ e. (flat_whole, schematic_whole a.right_top);
       }
 
-pub matched_report : FlatCorrespondsLaw → MatchedTopsLaw → MatchedReportLaw
-matched_report flat tops d r unit t g level layout top bad schematic text pairs right top_is x =
-    matched flat tops d r unit t g level layout top bad schematic right top_is x.same x.compared x.comparison x.outcome
+pub matched_report : CombinedAlignableLaw → ExtractedGoodLaw → LeftOrderLaw → FlatCorrespondsLaw → MatchedTopsLaw → MatchedReportLaw
+matched_report alignable good order flat tops d r unit t g level layout top bad schematic text pairs right top_is layout_fine first fine x =
+    matched alignable good order flat tops d r unit t g level layout top bad schematic right top_is layout_fine first fine x.same x.compared x.comparison x.outcome
+
+pub matching : MatchingLaw
+matching d r unit t g level layout top bad schematic text pairs v right top_is x f e =
+    let a = (found (compared_of r layout) top (compared_of r schematic) x.same r.max_guesses r.tells_pins x.compared f e x.comparison).0 in (
+      record {
+        tables = t;
+        circuits = g;
+        level = level;
+        are_right = right;
+        top_is = top_is;
+        same = x.same;
+        partner = a.right_top;
+        left_by = a.left_by;
+        right_by = a.right_by;
+        aligned = a.are;
+      },
+      refl,
+    )

@@ -37,13 +37,13 @@ begins law r layout top schematic begun sound by most longest_is lines e =
     (none_taken r layout top schematic (longest (all_names layout schematic r.same begun)) begun (fit_by_rules law r layout top schematic begun sound by)))
 
 -- the two sides of a comparison
-pub compared_sides : (layout : Netlist) (top : ℕ) (schematic : Netlist) (same : List (List ℕ × List ℕ)) (limit : ℕ) (f : Compared) → IsComparison layout top schematic same limit (Some f) → AreSides (plain_netlist f.left) (plain_netlist f.right)
-compared_sides layout top schematic same limit f h =
+pub compared_sides : (layout : Netlist) (top : ℕ) (schematic : Netlist) (same : List (List ℕ × List ℕ)) (limit : ℕ) (same_pins : Bool) (f : Compared) → IsComparison layout top schematic same limit same_pins (Some f) → AreSides (plain_netlist f.left) (plain_netlist f.right)
+compared_sides layout top schematic same limit same_pins f h =
     let a = h.0 in aligned_sides layout schematic top a.right_top same (plain_netlist f.left) (plain_netlist f.right) a.left_by a.right_by a.are
 
 module _ (r : Rules) (layout : Netlist) (top : ℕ) (schematic : Netlist) (most : ℕ) (begun alone : Names) (lines : List ℕ) (taken : AreTaken r layout top schematic most begun alone lines) (same : List (List ℕ × List ℕ)) (told : same ≡ same_alone most alone r.same) where
   -- the last one
-  pub ended : most ≡ longest (all_names layout schematic r.same begun) → IsAloneByRules r layout top schematic begun → (o : Option Compared) (here new : List ℕ) → IsComparison layout top schematic same r.max_guesses o → EndsAfter r o here → new ≡ lines ++ here
+  pub ended : most ≡ longest (all_names layout schematic r.same begun) → IsAloneByRules r layout top schematic begun → (o : Option Compared) (here new : List ℕ) → IsComparison layout top schematic same r.max_guesses r.tells_pins o → EndsAfter r o here → new ≡ lines ++ here
       → AreInTurns r layout top schematic same o new
   ended longest_is by o here new compared ends e =
       let all = all_taken r layout top schematic most begun alone lines here same o taken (record { told = told; comparison = compared }) ends in
@@ -55,10 +55,10 @@ module _ (r : Rules) (layout : Netlist) (top : ℕ) (schematic : Netlist) (most 
             (subst (λ (m : ℕ). AreTurns r layout top schematic m begun all.0 same o (lines ++ here)) longest_is all.1);
       }
 
-  module _ (law : AloneLaw) (fine : IsAlignable layout) (also : IsAlignable schematic) (f : Compared) (compared : IsComparison layout top schematic same r.max_guesses (Some f)) (goes : List Bool) (new : List ℕ) (adds : AddsTurn r f goes lines new)
+  module _ (law : AloneLaw) (fine : IsAlignable layout) (also : IsAlignable schematic) (f : Compared) (compared : IsComparison layout top schematic same r.max_guesses r.tells_pins (Some f)) (goes : List Bool) (new : List ℕ) (adds : AddsTurn r f goes lines new)
       (later : Names) (next : later ≡ with_gone alone (plain_netlist f.left) (plain_netlist f.right) goes) where
-    by_alone : IsComparison layout top schematic (same_alone most alone r.same) r.max_guesses (Some f)
-    by_alone = subst (λ (s : List (List ℕ × List ℕ)). IsComparison layout top schematic s r.max_guesses (Some f)) told compared
+    by_alone : IsComparison layout top schematic (same_alone most alone r.same) r.max_guesses r.tells_pins (Some f)
+    by_alone = subst (λ (s : List (List ℕ × List ℕ)). IsComparison layout top schematic s r.max_guesses r.tells_pins (Some f)) told compared
 
     -- one that is followed by another
     pub went_on : AreTaken r layout top schematic most begun later new

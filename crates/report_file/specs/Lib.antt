@@ -1,11 +1,14 @@
 pub mod Alignable
+pub mod Combined
 pub mod Compared
 pub mod Exact
 pub mod File
 pub mod Helps
+pub mod PinNames
 pub mod Matched
 pub mod Named
 pub mod One
+pub mod Partner
 pub mod Taken
 pub mod Turns
 pub mod Verdicts

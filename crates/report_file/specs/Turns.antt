@@ -79,7 +79,7 @@ module _ (r : Rules) (layout : Netlist) (top : ℕ) (schematic : Netlist) (most 
   pub record IsComparedSo (alone : Names) (same : List (List ℕ × List ℕ)) (o : Option Compared)
       : Type 0 where
     pub told : same ≡ same_alone most alone r.same
-    pub comparison : IsComparison layout top schematic same r.max_guesses o
+    pub comparison : IsComparison layout top schematic same r.max_guesses r.tells_pins o
 
   -- the comparisons before the last one, where at first these circuits have no partner, and after
   -- each turn those of the pairs that went haven't either; and the lines of all turns

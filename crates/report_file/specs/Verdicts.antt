@@ -16,6 +16,7 @@ use Rattle.pair_jobs.specs.declared.verdict.Verdict.{Verdict}
 use Rattle.pair_jobs.specs.declared.verdict.Verdict.TheVariants as verdict
 use Rattle.plain_netlist.specs.Netlist.{Circuit, Netlist, IsCircuit}
 use Rattle.refine_match.specs.Matching.{HaveUnevenDevices}
+use Rattle.report_file.specs.Compared.{asked_by}
 use Rattle.report_file.specs.File.{IsReportFile}
 use Rattle.rule_text.specs.Rules.{Rules}
 
@@ -25,11 +26,14 @@ BadGateLaw = (d : Linked) (r : Rules) (layout : Netlist) (top : ℕ) (bad : List
     (schematic : Netlist) (text : List ℕ) (pairs : ℕ) (v : Verdict)
     → IsReportFile d r layout top bad schematic text pairs v → 0 < length bad → v ≡ verdict.Mismatch
 
--- circuits c and d are pair k of the comparison, with the pins that the pairs below hand up
-pub record IsComparedPair (f : Compared) (k : ℕ) (c d : Circuit) (p : Pair) : Type 0 where
+-- circuits c and d are pair k of the comparison, with the pins that the pairs below hand up; of the
+-- tops' pair names tell the pins apart where the rules say so
+pub record IsComparedPair (r : Rules) (f : Compared) (k : ℕ) (c d : Circuit) (p : Pair)
+    : Type 0 where
   pub left : IsCircuit (plain_netlist f.left) k c
   pub right : IsCircuit (plain_netlist f.right) k d
-  pub pair_is : p ≡ pair_in (plain_netlist f.left) (answer_at (answers_of f)) c d
+  pub pair_is : p ≡ pair_in ((asked_by r f).told k) (plain_netlist f.left)
+      (answer_at (answers_of f)) c d
 
 -- so does a pair of circuits with unequal numbers of devices of some class, length and width,
 -- whatever the pairs below it come to
@@ -37,7 +41,7 @@ abbrev pub UnevenPairLaw : Type 0
 UnevenPairLaw = (d : Linked) (r : Rules) (layout : Netlist) (top : ℕ) (bad : List BadGate)
     (schematic : Netlist) (text : List ℕ) (pairs : ℕ) (v : Verdict)
     → (x : IsReportFile d r layout top bad schematic text pairs v) → (f : Compared) (k : ℕ)
-    (a b : Circuit) (p : Pair) → x.compared ≡ Some f → IsComparedPair f k a b p
+    (a b : Circuit) (p : Pair) → x.compared ≡ Some f → IsComparedPair r f k a b p
     → HaveUnevenDevices p → v ≡ verdict.Mismatch
 
 -- a pair that matches carries a correspondence, which keeps the pins of the pairs below
@@ -46,7 +50,7 @@ CarriedPairLaw = (d : Linked) (r : Rules) (layout : Netlist) (top : ℕ) (bad : 
     (schematic : Netlist) (text : List ℕ) (pairs : ℕ) (v : Verdict)
     → IsAlignable layout → AreCalleesFirst layout
     → (x : IsReportFile d r layout top bad schematic text pairs v) → (f : Compared) (k : ℕ)
-    (a b : Circuit) (p : Pair) (map : Pairing) → x.compared ≡ Some f → IsComparedPair f k a b p
+    (a b : Circuit) (p : Pair) (map : Pairing) → x.compared ≡ Some f → IsComparedPair r f k a b p
     → answer_at (answers_of f) k ≡ Match map → IsCorrespondence p map
 
 -- a pair that has a correspondence which keeps the pins of the pairs below never differs
@@ -55,7 +59,7 @@ KeptPairLaw = (d : Linked) (r : Rules) (layout : Netlist) (top : ℕ) (bad : Lis
     (schematic : Netlist) (text : List ℕ) (pairs : ℕ) (v : Verdict)
     → IsAlignable layout → AreCalleesFirst layout
     → (x : IsReportFile d r layout top bad schematic text pairs v) → (f : Compared) (k : ℕ)
-    (a b : Circuit) (p : Pair) (map : Pairing) → x.compared ≡ Some f → IsComparedPair f k a b p
+    (a b : Circuit) (p : Pair) (map : Pairing) → x.compared ≡ Some f → IsComparedPair r f k a b p
     → IsCorrespondence p map → IsDifference (answer_at (answers_of f) k) → ⊥
 
 -- neither a match nor a mismatch exactly where no gate is bad, the top has a partner, no pair

@@ -1,18 +1,21 @@
 //! What a report says of the layout and the schematic.
 ghost use Rattle.report_file.specs.Exact.{ExactReportLaw};
 ghost use Rattle.report_file.specs.Helps.{SameMatchLaw};
-ghost use Rattle.report_file.specs.Matched.{MatchedReportLaw};
+ghost use Rattle.report_file.specs.Matched.{MatchedReportLaw, MatchingLaw};
 ghost use Rattle.report_file.specs.Named.{TopPartnerLaw};
 ghost use Rattle.report_file.specs.One.{OneReportLaw};
+ghost use Rattle.report_file.specs.Partner.{LastPartnerLaw};
 ghost use Rattle.report_file.specs.Verdicts.{BadGateLaw, CarriedPairLaw, KeptPairLaw, UndecidedLaw};
 ghost use Rattle.report_file.specs.Verdicts.{UnevenPairLaw};
 
+use crate::alignable::combined_alignable;
 use align_laws::pairs;
 use composed_laws::answers;
 use headline_laws::flat_layouts;
 use match_flow::device_counts;
 use pair_jobs::{pair_answers, verdicts};
 use pair_turns::alone_lines;
+use table_laws::sound_netlist;
 
 /// A layout, rules, netlists and bad gates have one report: one text, one number of pairs, one
 /// outcome.
@@ -26,19 +29,31 @@ pub fn one_report()
 }
 
 /// Where a match is reported, no gate is bad, and the flat layout corresponds to the flattened
-/// schematic.
+/// schematic; by rules that combine devices, where each class of alike ones is one on both sides.
 pub fn matched_report()
     ensures { MatchedReportLaw }
 {
+    combined_alignable();
+    sound_netlist();
     flat_layouts();
+    pairs();
     pair_answers();
 }
 
+/// Whatever a report says, where the top has a partner the flat layout and the flattened schematic are
+/// joined by what was compared.
+pub fn matching()
+    ensures { MatchingLaw }
+{}
+
 /// Where what differs is taken apart, a mismatch without bad gates says that the flat layout
-/// corresponds to the flattened schematic in no way, unless a turn would have been too large.
+/// corresponds to the flattened schematic in no way, unless a turn would have been too large. By
+/// rules that combine devices it says so of the layout's circuits and the schematic's, in each of
+/// which each group of alike ones is one.
 pub fn exact_report()
     ensures { ExactReportLaw }
 {
+    combined_alignable();
     flat_layouts();
     pairs();
     pair_answers();
@@ -71,3 +86,12 @@ pub fn report_verdicts()
 pub fn top_partner()
     ensures { TopPartnerLaw }
 {}
+
+/// Where no rule flattens a circuit that another one pairs, the top's partner by the rules is that of
+/// the last comparison.
+pub fn last_partner()
+    ensures { LastPartnerLaw }
+{
+    pairs();
+    alone_lines();
+}

@@ -6,8 +6,10 @@ mod file;
 mod laws;
 mod turns;
 
-pub use alignable::{extracted_alignable, read_alignable};
+pub use alignable::{combined_alignable, extracted_alignable, read_alignable};
 pub use file::{Report, report_file};
 pub use laws::{
-    exact_report, matched_report, one_report, report_verdicts, same_match, top_partner,
+    exact_report, last_partner, matched_report, matching, one_report, report_verdicts, same_match,
+    top_partner,
 };
+pub use turns::circuit_name;

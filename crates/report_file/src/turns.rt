@@ -41,6 +41,7 @@ fn compare_netlists<R: Threads + Wait + Sync, G: Gate + Sync>(
     schematic: &Netlist,
     same: &[(Name, Name)],
     limit: u32,
+    same_pins: bool,
     workers: usize,
     gate: &G,
 ) -> Result<Option<Compared>, AllocError>
@@ -52,10 +53,10 @@ fn compare_netlists<R: Threads + Wait + Sync, G: Gate + Sync>(
     requires rights { AreApart (right_names same.now) }
     requires workers { (1 ≤ workers) × (workers ≤ 64) }
     ensures { IfOk result (IsComparison (plain_netlist layout.now) top (plain_netlist schematic.now)
-        same.now limit) }
+        same.now limit same_pins) }
 {
     let Some(found) = compare(
-        rt, alloc, layout, top, schematic, same, limit, workers, gate,
+        rt, alloc, layout, top, schematic, same, limit, same_pins, workers, gate,
     )?
     else {
         return Ok(None);
@@ -176,12 +177,13 @@ fn take_apart(
     Ok(Some(goes))
 }
 
-/// The comparisons of a layout, below its top, with a schematic, one after the other. Partners, and
-/// the limit of refuted guesses in each pair, are those of the rules. Where the rules say so, after
-/// a comparison with pairs that differ, those that `going` tells are taken apart, and both netlists
-/// are compared again, until none differs or all is flat, or a circuit would have more than 2^24
-/// devices and calls. An `Err` is want of memory, or 2^32 pairs or more. Cost: that of each
-/// comparison, of which there are at most as many as circuits of the layout.
+/// The comparisons of a layout, below its top, with a schematic, one after the other. Partners, the
+/// limit of refuted guesses in each pair, and whether names tell the tops' pins apart, are those of
+/// the rules. Where the rules say so, after a comparison with pairs that differ, those that `going`
+/// tells are taken apart, and both netlists are compared again, until none differs or all is flat,
+/// or a circuit would have more than 2^24 devices and calls. An `Err` is want of memory, or 2^32
+/// pairs or more. Cost: that of each comparison, of which there are at most as many as circuits of
+/// the layout.
 pub fn compare_in_turns<R: Threads + Wait + Sync, G: Gate + Sync>(
     rt: &R,
     alloc: Global,
@@ -207,9 +209,9 @@ pub fn compare_in_turns<R: Threads + Wait + Sync, G: Gate + Sync>(
     let mut lines = Vec::new(alloc);
     'turns: loop {
         let same = same_alone(alloc, &rules.same, &alone, most)?;
-        let limit = rules.max_guesses;
+        let (limit, same_pins) = (rules.max_guesses, rules.tells_pins);
         let Some(found) = compare_netlists(
-            rt, alloc, layout, top, schematic, &same, limit, workers, gate,
+            rt, alloc, layout, top, schematic, &same, limit, same_pins, workers, gate,
         )?
         else {
             return Ok(Turns {

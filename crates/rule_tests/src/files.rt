@@ -122,6 +122,9 @@ same_circuits('b', 'a')
 netlist.flatten_circuit('c')
 schematic . flatten_circuit ( \"C\" )
 flatten_unmatched
+same_pins
+combine_devices
+combine_devices
 netlist
 schematic('in.cir')
 align
@@ -144,6 +147,8 @@ same b a
 flat layout c
 flat schematic C
 flattens unmatched
+tells pins
+combine
 guesses 1000000
 ";
     assert_eq!(rt; answer(rt.alloc(), text.as_bytes())?.as_str(), rules);

@@ -87,6 +87,12 @@ fn shown(alloc: Global, rules: &RuleSet) -> Result<String, AllocError> {
     if rules.flattens_unmatched {
         add(&mut out, format!(in alloc; "flattens unmatched\n"))?;
     }
+    if rules.tells_pins {
+        add(&mut out, format!(in alloc; "tells pins\n"))?;
+    }
+    if rules.combine {
+        add(&mut out, format!(in alloc; "combine\n"))?;
+    }
     add(
         &mut out,
         format!(in alloc; "guesses {}\n", rules.max_guesses),

@@ -13,7 +13,7 @@ use Rattle.rule_text.specs.declared.rules.LayerForm.TheVariants as form
 use Rattle.rule_text.specs.declared.rules.LayerRule.{LayerRule}
 use Rattle.rule_text.specs.declared.rules.Output.{Output}
 use Rattle.rule_text.specs.declared.rules.MosRule.{MosRule}
-use Rattle.rule_text.specs.Rows.{Form, Input, Labels, Empty, Binary, Mos, Statement, Define, Draw, Connect, Global, Extract, Same, FlattenLayout, FlattenSchematic, FlattenUnmatched, MaxGuesses, Accepted}
+use Rattle.rule_text.specs.Rows.{Form, Input, Labels, Empty, Binary, Mos, Statement, Define, Draw, Connect, Global, Extract, Same, FlattenLayout, FlattenSchematic, FlattenUnmatched, SamePins, Combine, MaxGuesses, Accepted}
 use Rattle.rule_text.specs.Rules.{Rules, no_rules, names_of, place_of, is_defined, is_text_rule, has_texts, is_labels, operands_of, uses_of, is_twice, is_misplaced, statement_fault, numbered, mos_rule, named, drawn, extracting, paired, names_layout, names_schematic, flattening_layout, flattening_schematic, with_statement}
 use Rattle.geo_base.specs.Layers.{is_same_key}
 use Rattle.rule_text.specs.Filled.{IsFilled}
@@ -320,6 +320,40 @@ unmatched_more r h = record {
   guesses = h.guesses;
 }
 
+pins_more : (r : Rules) → IsFormed r → IsFormed (with_statement r SamePins)
+pins_more r h = record {
+  names = h.names;
+  operands = h.operands;
+  keys = h.keys;
+  outputs = h.outputs;
+  connects = h.connects;
+  globals = h.globals;
+  classes = h.classes;
+  devices = h.devices;
+  layouts = h.layouts;
+  schematics = h.schematics;
+  flat_layouts = h.flat_layouts;
+  flat_schematics = h.flat_schematics;
+  guesses = h.guesses;
+}
+
+combine_more : (r : Rules) → IsFormed r → IsFormed (with_statement r Combine)
+combine_more r h = record {
+  names = h.names;
+  operands = h.operands;
+  keys = h.keys;
+  outputs = h.outputs;
+  connects = h.connects;
+  globals = h.globals;
+  classes = h.classes;
+  devices = h.devices;
+  layouts = h.layouts;
+  schematics = h.schematics;
+  flat_layouts = h.flat_layouts;
+  flat_schematics = h.flat_schematics;
+  guesses = h.guesses;
+}
+
 guesses_more : (r : Rules) (n : ℕ) → IsFilled (MaxGuesses n) → IsFormed r → IsFormed (with_statement r (MaxGuesses n))
 guesses_more r n fits h = record {
   names = h.names;
@@ -355,6 +389,8 @@ by_tests r (Same a b) used fresh plain filled h = same_more r a b fresh h
 by_tests r (FlattenLayout a) used fresh plain filled h = flat_layout_more r a fresh h
 by_tests r (FlattenSchematic b) used fresh plain filled h = flat_schematic_more r b fresh h
 by_tests r FlattenUnmatched used fresh plain filled h = unmatched_more r h
+by_tests r SamePins used fresh plain filled h = pins_more r h
+by_tests r Combine used fresh plain filled h = combine_more r h
 by_tests r (MaxGuesses n) used fresh plain filled h = guesses_more r n filled h
 by_tests r Accepted used fresh plain filled h = h
 

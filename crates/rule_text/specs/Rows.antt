@@ -30,9 +30,10 @@ is_name w = is_small (slice_index w 0) && nat_le (length w) 64
 abbrev pub statement_words : List (List ℕ)
 statement_words =
     codes "connect" ∷ codes "connect_global" ∷ codes "extract_devices" ∷ codes "same_circuits"
-    ∷ codes "max_guesses" ∷ codes "flatten_unmatched" ∷ codes "deep" ∷ codes "netlist"
-    ∷ codes "align" ∷ codes "compare" ∷ codes "schematic" ∷ codes "input" ∷ codes "labels"
-    ∷ codes "polygon_layer" ∷ codes "output" ∷ codes "mos4" ∷ []
+    ∷ codes "max_guesses" ∷ codes "flatten_unmatched" ∷ codes "same_pins"
+    ∷ codes "combine_devices" ∷ codes "deep" ∷ codes "netlist" ∷ codes "align" ∷ codes "compare"
+    ∷ codes "schematic" ∷ codes "input" ∷ codes "labels" ∷ codes "polygon_layer"
+    ∷ codes "output" ∷ codes "mos4" ∷ []
 
 unfoldable pub is_statement_word : List ℕ → Bool
 is_statement_word w = list_any (bytes_eq w) statement_words
@@ -162,6 +163,14 @@ flatten_row side = Key side ∷ Sign DOT ∷ Key (codes "flatten_circuit") ∷ S
 abbrev pub unmatched_row : List Slot
 unmatched_row = Key (codes "flatten_unmatched") ∷ []
 
+-- same_pins
+abbrev pub pins_row : List Slot
+pins_row = Key (codes "same_pins") ∷ []
+
+-- combine_devices
+abbrev pub combine_row : List Slot
+combine_row = Key (codes "combine_devices") ∷ []
+
 -- max_guesses(N)
 abbrev pub guesses_row : List Slot
 guesses_row = Key (codes "max_guesses") ∷ Sign OPEN ∷ Guesses ∷ Sign CLOSE ∷ []
@@ -197,6 +206,8 @@ pub data Statement : Type 0 where
   FlattenLayout : (a : List ℕ) → Statement
   FlattenSchematic : (b : List ℕ) → Statement
   FlattenUnmatched : Statement
+  SamePins : Statement
+  Combine : Statement
   MaxGuesses : (n : ℕ) → Statement
   Accepted : Statement
 
@@ -264,5 +275,7 @@ unfoldable pub setting_of : List Token → Option Statement
 setting_of ts =
     if fits same_row ts then Some (Same (word_at 2 ts) (word_at 4 ts))
     else if fits guesses_row ts then Some (MaxGuesses (unwrap_or (guesses_of (word_at 2 ts)) 0))
+    else if fits pins_row ts then Some SamePins
+    else if fits combine_row ts then Some Combine
     else if is_accepted ts then Some Accepted
     else None

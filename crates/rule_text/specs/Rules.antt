@@ -20,7 +20,7 @@ use Rattle.rule_text.specs.declared.fault.RuleFault.TheVariants.{UnknownName, Na
 use Rattle.rule_text.specs.declared.fault.RuleFault.TheVariants.{NotConductor, TooManyLayers}
 use Rattle.rule_text.specs.Rows.{Form, Input, Labels, Empty, Binary, Mos, Statement, Define, Draw}
 use Rattle.rule_text.specs.Rows.{Connect, Global, Extract, Same, MaxGuesses, Accepted, EQUALS, DOT}
-use Rattle.rule_text.specs.Rows.{FlattenLayout, FlattenSchematic, FlattenUnmatched}
+use Rattle.rule_text.specs.Rows.{FlattenLayout, FlattenSchematic, FlattenUnmatched, SamePins, Combine}
 use Rattle.rule_text.specs.Rows.{is_name, is_statement_word, definition_of, wiring_of}
 use Rattle.rule_text.specs.Rows.{flattening_of, setting_of}
 use Rattle.rule_text.specs.Devices.{devices_of}
@@ -36,6 +36,8 @@ pub record Rules : Type 0 where
   pub flat_layouts : List (List ℕ)
   pub flat_schematics : List (List ℕ)
   pub flattens_unmatched : Bool
+  pub tells_pins : Bool
+  pub combine : Bool
   pub max_guesses : ℕ
 
 abbrev pub no_rules : Rules
@@ -50,6 +52,8 @@ no_rules = record {
   flat_layouts = [];
   flat_schematics = [];
   flattens_unmatched = false;
+  tells_pins = false;
+  combine = false;
   max_guesses = 1000;
 }
 
@@ -97,6 +101,8 @@ uses_of (Same a b) = []
 uses_of (FlattenLayout a) = []
 uses_of (FlattenSchematic b) = []
 uses_of FlattenUnmatched = []
+uses_of SamePins = []
+uses_of Combine = []
 uses_of (MaxGuesses n) = []
 uses_of Accepted = []
 
@@ -122,6 +128,8 @@ is_twice r (Same a b) = names_layout r (folded_bytes a) || names_schematic r (fo
 is_twice r (FlattenLayout a) = names_layout r (folded_bytes a)
 is_twice r (FlattenSchematic b) = names_schematic r (folded_bytes b)
 is_twice r FlattenUnmatched = r.flattens_unmatched
+is_twice r SamePins = r.tells_pins
+is_twice r Combine = false
 is_twice r (MaxGuesses n) = false
 is_twice r Accepted = false
 
@@ -225,6 +233,8 @@ with_statement r (Same a b) = paired r a b
 with_statement r (FlattenLayout a) = flattening_layout r a
 with_statement r (FlattenSchematic b) = flattening_schematic r b
 with_statement r FlattenUnmatched = record r { flattens_unmatched = true }
+with_statement r SamePins = record r { tells_pins = true }
+with_statement r Combine = record r { combine = true }
 with_statement r (MaxGuesses n) = record r { max_guesses = n }
 with_statement r Accepted = r
 

@@ -63,6 +63,8 @@ statement (found.Same a b) = rows.Same a.now b.now
 statement (found.FlattenLayout a) = rows.FlattenLayout a.now
 statement (found.FlattenSchematic b) = rows.FlattenSchematic b.now
 statement found.FlattenUnmatched = rows.FlattenUnmatched
+statement found.SamePins = rows.SamePins
+statement found.Combine = rows.Combine
 statement (found.MaxGuesses n) = rows.MaxGuesses n
 statement found.Accepted = rows.Accepted
 
@@ -81,5 +83,7 @@ rules_seen r = record {
   flat_layouts = r.flat_layouts.items;
   flat_schematics = r.flat_schematics.items;
   flattens_unmatched = r.flattens_unmatched;
+  tells_pins = r.tells_pins;
+  combine = r.combine;
   max_guesses = r.max_guesses;
 }

@@ -53,6 +53,8 @@ impl<'a> Statement<'a> {
             Statement::FlattenLayout(_) => Ok(Vec::new(alloc)),
             Statement::FlattenSchematic(_) => Ok(Vec::new(alloc)),
             Statement::FlattenUnmatched => Ok(Vec::new(alloc)),
+            Statement::SamePins => Ok(Vec::new(alloc)),
+            Statement::Combine => Ok(Vec::new(alloc)),
             Statement::MaxGuesses(_) => Ok(Vec::new(alloc)),
             Statement::Accepted => Ok(Vec::new(alloc)),
         }
@@ -157,6 +159,8 @@ impl Reader {
             flat_layouts: Vec::new(alloc),
             flat_schematics: Vec::new(alloc),
             flattens_unmatched: false,
+            tells_pins: false,
+            combine: false,
             max_guesses: 1000,
         };
         Reader {
@@ -251,6 +255,7 @@ impl Reader {
                 alloc, b,
             )?.bytes())),
             Statement::FlattenUnmatched => Ok(self.rules.flattens_unmatched),
+            Statement::SamePins => Ok(self.rules.tells_pins),
             _ => Ok(false),
         }
     }
@@ -454,6 +459,14 @@ impl Reader {
             Statement::FlattenSchematic(b) => self.flatten_schematic(alloc, b),
             Statement::FlattenUnmatched => {
                 self.rules.flattens_unmatched = true;
+                Ok(())
+            }
+            Statement::SamePins => {
+                self.rules.tells_pins = true;
+                Ok(())
+            }
+            Statement::Combine => {
+                self.rules.combine = true;
                 Ok(())
             }
             Statement::MaxGuesses(n) => {

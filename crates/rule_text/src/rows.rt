@@ -45,6 +45,8 @@ pub enum Statement<'a> {
     FlattenLayout(&'a [u8]),
     FlattenSchematic(&'a [u8]),
     FlattenUnmatched,
+    SamePins,
+    Combine,
     MaxGuesses(u32),
     Accepted,
 }
@@ -130,6 +132,12 @@ const FLATTEN_SCHEMATIC: [Slot; 6] = [
 
 // flatten_unmatched
 const FLATTEN_UNMATCHED: [Slot; 1] = [Key(b"flatten_unmatched")];
+
+// same_pins
+const SAME_PINS: [Slot; 1] = [Key(b"same_pins")];
+
+// combine_devices
+const COMBINE: [Slot; 1] = [Key(b"combine_devices")];
 
 // max_guesses(N)
 const GUESSES: [Slot; 4] = [Key(b"max_guesses"), OPEN, Guesses, CLOSE];
@@ -231,6 +239,12 @@ pub fn setting_of<'a>(tokens: &[Token<'a>]) -> Option<Statement<'a>>
     }
     if fits(&GUESSES, tokens) {
         return Some(Statement::MaxGuesses(number_of(1_000_000, word_at(tokens, 2)).unwrap_or(0)));
+    }
+    if fits(&SAME_PINS, tokens) {
+        return Some(Statement::SamePins);
+    }
+    if fits(&COMBINE, tokens) {
+        return Some(Statement::Combine);
     }
     if is_accepted(tokens) {
         return Some(Statement::Accepted);

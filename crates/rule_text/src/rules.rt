@@ -53,6 +53,8 @@ pub struct RuleSet {
     pub flat_layouts: Vec<Name>,
     pub flat_schematics: Vec<Name>,
     pub flattens_unmatched: bool,
+    pub tells_pins: bool,
+    pub combine: bool,
     pub max_guesses: u32,
 }
 

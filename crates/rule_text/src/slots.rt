@@ -61,6 +61,8 @@ pub fn is_statement_word(word: &[u8]) -> bool
             b"same_circuits",
             b"max_guesses",
             b"flatten_unmatched",
+            b"same_pins",
+            b"combine_devices",
             b"deep",
             b"netlist",
             b"align",

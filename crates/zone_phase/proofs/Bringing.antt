@@ -1,21 +1,20 @@
 -- What arrays bring.
-use Rattle.std.proofs.Common.{◌≡◌, ◌⊎◌, ◌↔◌, inl, inr, ℕ, ℤ, zero, suc, pos, ◌+◌, ◌-◌, ◌*◌, ◌<◌, ◌≤◌, ◌^◌, ◌+ℤ◌, ◌-ℤ◌, ◌*ℤ◌, Bool, true, false, ◌&&◌, ◌||◌, List, [], ◌∷◌, Option, Some, None, length, slice_index_or, refl, sym, ◌∙◌, ap, subst, arith}
-use Rattle.std.specs.List.{All}
+use Rattle.std.proofs.Common.{◌≡◌, ◌⊎◌, inl, inr, ℕ, ℤ, pos, ◌+◌, ◌-◌, ◌*◌, ◌<◌, ◌≤◌, ◌^◌, ◌+ℤ◌, ◌-ℤ◌, ◌*ℤ◌, Bool, true, false, ◌&&◌, List, Some, None, length, slice_index_or, refl, sym, ◌∙◌, ap, subst, arith}
 use Rattle.std.proofs.lemmas.Int.{ints}
 use Rattle.geo_base.specs.Near.{IsWithin, IsNearMotion}
 use Rattle.geo_base.specs.Motions.{moved_square}
-use Rattle.geo_base.specs.Rects.{has, IsRect}
+use Rattle.geo_base.specs.Rects.{has}
 use Rattle.geo_base.specs.declared.layer.LayerKey.{LayerKey}
 use Rattle.geo_base.specs.declared.motion.Motion.{Motion}
 use Rattle.geo_base.specs.declared.shapes.Rect.{Rect}
 use Rattle.geo_base.specs.declared.shapes.Square.{Square}
 use Rattle.geo_base.proofs.Images.{onto}
 use Rattle.rect_sets.specs.Rects.{covers}
-use Rattle.flat_layout.specs.Layout.{InFlatInput, Some_of}
+use Rattle.flat_layout.specs.Layout.{InFlatInput}
 use Rattle.cell_graph.specs.declared.cells.Place.{Place}
-use Rattle.cell_graph.specs.Linked.{Linked, IsSound, IsFrame, IsRectWithin, HullHas, hull_of, cell_at, plain, motion_at}
-use Rattle.cell_graph.proofs.Bridge.{or_split, or_left, or_right, hulls}
-use Rattle.cell_context.specs.Arrays.{IsNearArray, IsCloseArray, shift_x, shift_y}
+use Rattle.cell_graph.specs.Linked.{Linked, IsSound, IsRectWithin, hull_of, cell_at, plain}
+use Rattle.cell_graph.proofs.Bridge.{or_split, or_right, hulls}
+use Rattle.cell_context.specs.Arrays.{IsNearArray, IsCloseArray}
 use Rattle.cell_context.specs.declared.arrays.Visit.{Visit}
 use Rattle.cell_context.specs.Visits.{IsElementVisit, IsMet, IsVisited, IsFound}
 use Rattle.cell_context.proofs.Visiting.{wider, wider_rect, and_both, near_motion}

@@ -6,7 +6,10 @@ use Rattle.geo_base.specs.declared.layer.LayerKey.{LayerKey}
 use Rattle.geo_base.specs.declared.shapes.Rect.{Rect}
 use Rattle.geo_base.specs.declared.shapes.Square.{Square}
 use Rattle.rect_sets.specs.Rects.{covers}
-use Rattle.flat_layout.specs.Layout.{IsReached}
+use Rattle.flat_layout.specs.Layout.{IsReached, Some_of}
+use Rattle.geo_base.specs.Rects.{has}
+use Rattle.zone_phase.specs.declared.neighbours.Neighbour.{Neighbour}
+use Rattle.zone_phase.specs.Neighbours.{IsOverBy}
 use Rattle.cell_graph.specs.Linked.{Linked, IsSound, IsHull, IsFrame, plain}
 use Rattle.deep_tables.specs.declared.zones.CellZones.{CellZones}
 use Rattle.deep_tables.specs.Frames.{IsFramedZone, grown}
@@ -41,12 +44,17 @@ entry_zone d key name cell (Some v) h = h.1
 pub job_reached : (d : Linked) (job : ℕ) → IsSound d → job < length d.order → IsReached (plain d) (downward_cell d job)
 job_reached d job sound lt = sound.order.reached (length d.order - 1 - job) (omega arith)
 
-pub made_of : (d : Linked) (value : ℕ → Option CellZones) (name cell : ℕ) (key : LayerKey) (g : Rect) (uses : List Use) (set old out : List Rect) → old ≡ [] → ((s : Square) → covers set s ≡ covers out s)
-    → ((q : Square) → (covers out q ≡ true) ↔ ((covers old q ≡ true) ⊎ IsFromUses d value name cell key g uses (length uses) q)) → (q : Square) → (covers set q ≡ true) ↔ IsFromUses d value name cell key g uses (length uses) q
-made_of d value name cell key g uses set old out none same h q = (
-  (λ e. elim ((h q).0 (sym (same q) ∙ e)) [
-    | inl f ↦ let x : false ≡ true = subst (λ l. covers l q ≡ true) none f in absurd (let z : ⊥ = cc in z)
-    | inr j ↦ j
+pub made_of : (d : Linked) (value : ℕ → Option CellZones) (name cell : ℕ) (key : LayerKey) (g : Rect) (uses : List Use) (near : List Neighbour) (set old out new : List Rect) → old ≡ [] → ((s : Square) → covers set s ≡ covers new s)
+    → ((q : Square) → (covers out q ≡ true) ↔ ((covers old q ≡ true) ⊎ IsFromUses d value name cell key g uses (length uses) q))
+    → ((q : Square) → (covers new q ≡ true) ↔ ((covers out q ≡ true) ⊎ ((has g q ≡ true) × Some_of (IsOverBy d key q) near)))
+    → (q : Square) → (covers set q ≡ true) ↔ (IsFromUses d value name cell key g uses (length uses) q ⊎ ((has g q ≡ true) × Some_of (IsOverBy d key q) near))
+made_of d value name cell key g uses near set old out new none same h k q = (
+  (λ e. elim ((k q).0 (sym (same q) ∙ e)) [
+    | inl f ↦ elim ((h q).0 f) [
+      | inl x ↦ let z : false ≡ true = subst (λ l. covers l q ≡ true) none x in absurd (let y : ⊥ = cc in y)
+      | inr j ↦ inl j
+    ]
+    | inr o ↦ inr o
   ]),
-  (λ j. same q ∙ (h q).1 (inr j)),
+  (λ j. same q ∙ (k q).1 (elim j [ inl u ↦ inl ((h q).1 (inr u)) | inr o ↦ inr o ])),
 )

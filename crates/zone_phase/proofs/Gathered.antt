@@ -1,5 +1,5 @@
 -- What the four arrays bring, as squares that have siblings.
-use Rattle.std.proofs.Common.{◌≡◌, ◌⊎◌, ◌↔◌, inl, inr, ℕ, ◌<◌, ◌-◌, ◌*◌, ◌^◌, Bool, true, false, ◌&&◌, ◌||◌, List, [], ◌∷◌, ◌++◌, Option, Some, None, refl, sym, ◌∙◌, ap, subst, arith}
+use Rattle.std.proofs.Common.{◌≡◌, ◌⊎◌, inl, inr, ℕ, ◌<◌, ◌-◌, ◌*◌, Bool, true, false, ◌&&◌, ◌||◌, List, [], ◌++◌, refl, sym, ◌∙◌, ap, subst}
 use Rattle.geo_base.specs.Motions.{moved_square}
 use Rattle.geo_base.specs.Rects.{has, moved_rect, IsRect}
 use Rattle.geo_base.specs.Laws.{IsUndone}
@@ -17,7 +17,7 @@ use Rattle.cell_context.proofs.Collecting.{covers_append, and_right}
 use Rattle.cell_context.proofs.Visiting.{and_both}
 use Rattle.deep_laws.specs.Zones.{IsFromSibling}
 use Rattle.zone_phase.specs.Pulls.{IsSome, Adds, OnRects, OnRectsIn, Beside, BesideIn, AreCovering, Why}
-use Rattle.zone_phase.specs.Siblings.{around, siblings, IsBroughtBy, IsBroughtTo, Brings, HasSibling}
+use Rattle.zone_phase.specs.Siblings.{around, siblings, IsBroughtBy, Brings}
 use Rattle.zone_phase.proofs.Around.{sibling}
 use Rattle.zone_phase.proofs.Joining.{joined}
 

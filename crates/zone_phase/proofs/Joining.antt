@@ -1,5 +1,5 @@
 -- Lists of rectangles that grow.
-use Rattle.std.proofs.Common.{◌≡◌, ◌⊎◌, ◌↔◌, inl, inr, ℕ, ◌<◌, ◌+◌, ◌^◌, Bool, true, false, ◌&&◌, ◌||◌, List, [], ◌∷◌, ◌++◌, Some, length, take, slice_index_or, refl, sym, ◌∙◌, ap, subst, arith}
+use Rattle.std.proofs.Common.{◌≡◌, ◌⊎◌, ◌↔◌, inl, inr, ℕ, ◌<◌, ◌+◌, ◌^◌, true, ◌&&◌, List, Some, length, take, slice_index_or, sym, ◌∙◌}
 use Rattle.std.specs.List.{All}
 use Rattle.geo_base.specs.Motions.{moved_square}
 use Rattle.geo_base.specs.Rects.{has}
@@ -14,7 +14,7 @@ use Rattle.cell_graph.proofs.Bridge.{or_split, or_left, or_right}
 use Rattle.cell_context.specs.Over.{IsOver, IsPiece}
 use Rattle.cell_context.proofs.Collecting.{covers_more}
 use Rattle.cell_context.proofs.Visiting.{and_both, within_inside}
-use Rattle.zone_phase.specs.Pulls.{IsTaken, IsPulled, IsSome, Adds, OnRects, OnRectsIn, BesideIn}
+use Rattle.zone_phase.specs.Pulls.{IsPulled, IsSome, Adds, OnRects, OnRectsIn, BesideIn}
 
 -- two growths are one
 pub joined : (p : Place) (hull : Rect) (P Q R : ℕ → ℕ → Square → Type 0) (old out new : List Rect)

@@ -1,3 +1,4 @@
+pub mod Alone
 pub mod Around
 pub mod Bringing
 pub mod Rows
@@ -6,10 +7,12 @@ pub mod Entries
 pub mod Gathered
 pub mod Jobs
 pub mod Joining
+pub mod Over
 pub mod Pulling
 pub mod Results
 pub mod Steps
 pub mod Naming
+pub mod Nearing
 pub mod Putting
 pub mod Graphing
 pub mod Uniting

@@ -1,25 +1,19 @@
 -- Disturbed squares of a cell from those of its parents.
-use Rattle.std.proofs.Common.{◌≡◌, ◌⊎◌, ◌↔◌, inl, inr, ℕ, ℤ, pos, ◌+ℤ◌, ◌-ℤ◌, ◌≤ℤ◌, ◌<ℤ◌, Bool, true, false, List, [], ◌∷◌, Option, Some, None, refl, sym, ◌∙◌, ap, subst, arith}
+use Rattle.std.proofs.Common.{◌≡◌, inl, inr, ℤ, pos, ◌+ℤ◌, ◌-ℤ◌, ◌≤ℤ◌, ◌<ℤ◌, true, [], ◌∷◌, Option, Some, None, sym, subst, arith}
 use Rattle.std.proofs.lemmas.Int.{ints, by_lt_z}
 use Rattle.geo_base.specs.Motions.{moved_square}
-use Rattle.geo_base.specs.Rects.{has, IsRect}
-use Rattle.geo_base.specs.declared.layer.LayerKey.{LayerKey}
 use Rattle.geo_base.specs.declared.motion.Motion.{Motion}
 use Rattle.geo_base.specs.declared.shapes.Rect.{Rect}
 use Rattle.geo_base.specs.declared.shapes.Square.{Square}
 use Rattle.rect_sets.specs.Rects.{covers}
 use Rattle.flat_layout.specs.Plane.{IsAround}
-use Rattle.flat_layout.specs.Layers.{Input}
-use Rattle.flat_layout.specs.Layout.{IsReached, IsDisturbed}
+use Rattle.flat_layout.specs.Layout.{IsDisturbed}
 use Rattle.flat_laws.proofs.Moves.{arounds}
-use Rattle.cell_graph.specs.declared.cells.Place.{Place}
-use Rattle.cell_graph.specs.Linked.{Linked, IsSound, IsStep, HullHas, HullIsSound, plain, motion_at, hull_of, cell_at}
+use Rattle.cell_graph.specs.Linked.{HullHas, HullIsSound, plain, motion_at, hull_of, cell_at}
 use Rattle.cell_graph.proofs.Bridge.{has_in, in_has, step_held, hull_sound}
-use Rattle.cell_context.specs.Over.{IsOver}
-use Rattle.deep_laws.specs.Zones.{IsFromSibling, IsDisturbedFrom}
 use Rattle.deep_laws.proofs.Zones.{array_zones}
-use Rattle.deep_tables.specs.Frames.{IsFramedZone, IsInGrown, grown}
-use Rattle.zone_phase.specs.Steps.{GrownLaw, IsBrought, ZoneStepLaw}
+use Rattle.deep_tables.specs.Frames.{IsInGrown, grown}
+use Rattle.zone_phase.specs.Steps.{GrownLaw, ZoneStepLaw}
 
 -- a number within one step of a range is within one step of a number of it
 near_number : (a b x : ℤ) → a <ℤ b → (a -ℤ pos 1) ≤ℤ x → x <ℤ (b +ℤ pos 1) → (y : ℤ) × (a ≤ℤ y) × (y <ℤ b) × (y ≤ℤ (x +ℤ pos 1)) × (x ≤ℤ (y +ℤ pos 1))

@@ -13,12 +13,13 @@ use Rattle.cell_context.proofs.Collecting.{one_place}
 use Rattle.deep_tables.specs.declared.zones.CellZones.{CellZones}
 use Rattle.deep_tables.specs.Entries.{downward_cell}
 use Rattle.zone_phase.specs.declared.uses.Use.{Use}
-use Rattle.zone_phase.specs.Pulls.{Adds, IsSome, Why}
+use Rattle.zone_phase.specs.Pulls.{Adds, IsSome}
+use Rattle.zone_phase.specs.Neighbours.{WhyHere}
 use Rattle.zone_phase.specs.Jobs.{IsFromUse, IsFromUses, zone_in}
 
 -- a list of rectangles grew by what one reference brings
 pub use_adds : (d : Linked) (zone : List Rect) (cell : ℕ) (key : LayerKey) (g : Rect) (u : Use) (place : Place) (old new : List Rect)
-    → slice_get (places_at (cell_at d (downward_cell d u.job))) u.index ≡ Some place → place.cell ≡ cell → Adds place g (Why zone d (downward_cell d u.job) u.index key place) old new
+    → slice_get (places_at (cell_at d (downward_cell d u.job))) u.index ≡ Some place → place.cell ≡ cell → Adds place g (WhyHere zone d (downward_cell d u.job) u.index key place) old new
     → (q : Square) → (covers new q ≡ true) ↔ ((covers old q ≡ true) ⊎ IsFromUse d zone cell key g q u)
 use_adds d zone cell key g u place old new there here adds q = (
   (λ e. elim ((adds q).0 e) [
@@ -28,11 +29,11 @@ use_adds d zone cell key g u place old new there here adds q = (
   (λ h. elim h [ inl e ↦ (adds q).1 (inl e) | inr r ↦ (adds q).1 (inr (at_place r)) ]),
 )
   where
-    at_place : IsFromUse d zone cell key g q u → IsSome place g (Why zone d (downward_cell d u.job) u.index key place) q
+    at_place : IsFromUse d zone cell key g q u → IsSome place g (WhyHere zone d (downward_cell d u.job) u.index key place) q
     at_place r =
         let f : r.from ≡ place = one_place (slice_get (places_at (cell_at d (downward_cell d u.job))) u.index) r.from place r.step.there there in
-        let s : IsSome r.from g (Why zone d (downward_cell d u.job) u.index key r.from) q = record { row = r.row; column = r.column; row_in = r.step.row_in; column_in = r.step.column_in; inner = r.inner; holds = r.why } in
-        subst (λ (p : Place). IsSome p g (Why zone d (downward_cell d u.job) u.index key p) q) f s
+        let s : IsSome r.from g (WhyHere zone d (downward_cell d u.job) u.index key r.from) q = record { row = r.row; column = r.column; row_in = r.step.row_in; column_in = r.step.column_in; inner = r.inner; holds = r.why } in
+        subst (λ (p : Place). IsSome p g (WhyHere zone d (downward_cell d u.job) u.index key p) q) f s
 
 pub one_use : (o : Option Use) (u v : Use) → o ≡ Some u → o ≡ Some v → u ≡ v
 one_use o u v e f = let h : Some u ≡ Some v = sym e ∙ f in cc

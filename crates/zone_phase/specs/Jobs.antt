@@ -11,7 +11,7 @@ use Rattle.deep_tables.specs.declared.zones.CellZones.{CellZones}
 use Rattle.deep_tables.specs.Frames.{IsFramedZone}
 use Rattle.deep_tables.specs.Entries.{downward_cell}
 use Rattle.zone_phase.specs.declared.uses.Use.{Use}
-use Rattle.zone_phase.specs.Pulls.{Why}
+use Rattle.zone_phase.specs.Neighbours.{WhyHere}
 
 -- a name's squares of an entry
 abbrev pub zone_in : Option CellZones → ℕ → List Rect
@@ -33,7 +33,7 @@ abbrev pub MayRead : (ℕ → Type 0) → List Use → Type 0
 MayRead may uses = (k : ℕ) (u : Use) → slice_get uses k ≡ Some u → may u.job
 
 -- the reference brings q, a square of the grown hull, onto its parent's disturbed squares, or onto
--- shapes beside it
+-- shapes beside it; of one by itself, onto the parent's own shapes alone
 pub record IsFromUse (d : Linked) (zone : List Rect) (cell : ℕ) (key : LayerKey) (g : Rect) (q :
     Square) (u : Use) : Type 0 where
   pub row : ℕ
@@ -42,7 +42,7 @@ pub record IsFromUse (d : Linked) (zone : List Rect) (cell : ℕ) (key : LayerKe
   pub step : IsStep d (downward_cell d u.job) u.index row column from
   pub here : from.cell ≡ cell
   pub inner : has g q ≡ true
-  pub why : Why zone d (downward_cell d u.job) u.index key from row column q
+  pub why : WhyHere zone d (downward_cell d u.job) u.index key from row column q
 
 -- one of the first references brings q
 pub record IsFromUses (d : Linked) (value : ℕ

@@ -1,6 +1,7 @@
 pub mod Graph
 pub mod Jobs
 pub mod Names
+pub mod Neighbours
 pub mod Phase
 pub mod Pulls
 pub mod Siblings

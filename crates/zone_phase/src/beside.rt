@@ -2,7 +2,7 @@
 ghost use Rattle.std.specs.Prelude.{◌≡◌, ◌<◌, ◌^◌, length, Some, OnOk, slice_get};
 ghost use Rattle.std.specs.List.{All};
 ghost use Rattle.geo_base.specs.Rects.{IsRect};
-ghost use Rattle.cell_graph.specs.Linked.{IsFrame, IsRectWithin, cell_at, places_at};
+ghost use Rattle.cell_graph.specs.Linked.{IsFrame, IsRectWithin, cell_at, own_of, places_at};
 ghost use Rattle.cell_context.specs.Arrays.{IsNearArray};
 ghost use Rattle.zone_phase.specs.Pulls.{Adds, OnRects, OnRectsIn, BesideIn};
 
@@ -59,6 +59,38 @@ pub fn push_among(
         let near = zone.near(alloc, window)?;
         let mut pieces = Vec::new(alloc);
         push_pieces(&mut pieces, zone.set().rects(), &near, window)?;
+        push_onto(alloc, out, place, hull, &pieces)?;
+    }
+    Ok(())
+}
+
+// The same of the parent's own shapes on a layer.
+pub fn push_own(
+    alloc: Global,
+    out: &mut Vec<Rect>,
+    design: &Design,
+    parent: u32,
+    place: &Place,
+    key: LayerKey,
+    hull: &Rect,
+    windows: &[Rect],
+) -> Result<(), AllocError>
+    requires parent { parent < length design.now.cells }
+    requires near { IsNearArray place.now }
+    requires some { 0 < place.now.columns }
+    requires hull { IsFrame hull.now }
+    requires within { All (IsRectWithin (2 ^ 39)) windows.now }
+    requires rects { All IsRect out.old.items }
+    ensures rects { OnOk result (All IsRect out.new.items) }
+    ensures exact { OnOk result (Adds place.now hull.now
+        (OnRectsIn windows.now place.now (own_of (cell_at design.now parent) key)) out.old.items
+        out.new.items) }
+{
+    let own = design.own(parent, key).rects();
+    for window in windows {
+        let near = design.own_in(alloc, parent, key, *window)?;
+        let mut pieces = Vec::new(alloc);
+        push_pieces(&mut pieces, own, &near, window)?;
         push_onto(alloc, out, place, hull, &pieces)?;
     }
     Ok(())

@@ -8,8 +8,10 @@ ghost use Rattle.rect_sets.specs.Rects.{IsCanonical};
 ghost use Rattle.rule_layers.specs.Formulas.{formula_by, formulas};
 ghost use Rattle.zone_phase.specs.Jobs.{MayRead};
 ghost use Rattle.zone_phase.specs.Names.{AreNameZones, HaveForm, HaveInputs};
+ghost use Rattle.zone_phase.specs.Neighbours.{AreNear};
 ghost use Rattle.zone_phase.specs.Uses.{AreUsesOf};
 
+use crate::neighbours::{Neighbour, neighbours_of};
 use crate::unions::{set_at, with_name};
 use crate::uses::Use;
 use crate::zones::key_zone;
@@ -41,7 +43,9 @@ fn form_zone<R: Reads<CellZones>>(
     name: usize,
     form: LayerForm,
     before: &[RectSet],
+    neighbours: &[Neighbour],
 ) -> Result<RectSet, AllocError>
+    requires neighbours { AreNear design.now cell uses.now neighbours.now }
     requires cell { cell < length design.now.cells }
     requires uses { AreUsesOf design.now cell uses.now }
     requires may { MayRead (R.may_read reads.now) uses.now }
@@ -51,7 +55,9 @@ fn form_zone<R: Reads<CellZones>>(
         → IsFramedZone design.now (inputs (formula_by trees form)) cell r) }
 {
     match form {
-        LayerForm::Input(key) => key_zone(alloc, design, reads, uses, name, cell, key),
+        LayerForm::Input(key) => {
+            key_zone(alloc, design, reads, uses, name, cell, key, neighbours)
+        }
         LayerForm::Labels(_) => Ok(RectSet::empty(alloc)),
         LayerForm::Empty => Ok(RectSet::empty(alloc)),
         LayerForm::Binary(_, a, b) => two_zones(alloc, before, a, b),
@@ -69,8 +75,10 @@ pub fn push_set(sets: &mut Vec<RectSet>, set: RectSet) -> Result<(), AllocError>
     Ok(())
 }
 
-/// A cell's disturbed squares for each name, in the order of the rules: one walk of the references
-/// to the cell for each input layer, and one union for each other name.
+/// A cell's disturbed squares for each name, in the order of the rules. What lies beside its
+/// placements is looked up once, in one window of the parent for each; then each input layer costs
+/// a walk of the references to the cell and of the neighbours that lie differently, and each other
+/// name a union.
 pub fn name_zones<R: Reads<CellZones>>(
     alloc: Global,
     design: &Design,
@@ -87,9 +95,20 @@ pub fn name_zones<R: Reads<CellZones>>(
     ensures zones { IfOk result (λ v. AreNameZones design.now cell (formulas names.now) v.items) }
     ensures canonical { IfOk result (λ v. All IsCanonical v.items) }
 {
+    let neighbours = neighbours_of(alloc, design, uses, cell)?;
     let mut sets = Vec::new(alloc);
     for (name, rule) in names.iter().enumerate() {
-        let set = form_zone(alloc, design, reads, uses, cell, name, rule.form, &sets)?;
+        let set = form_zone(
+            alloc,
+            design,
+            reads,
+            uses,
+            cell,
+            name,
+            rule.form,
+            &sets,
+            &neighbours,
+        )?;
         push_set(&mut sets, set)?;
     }
     Ok(sets)

@@ -132,8 +132,8 @@ fn around(
     }
 }
 
-// Adds what an array brings into a window.
-fn push_brought(
+/// Adds what an array brings into a window.
+pub fn push_brought(
     alloc: Global,
     there: &mut Vec<Rect>,
     design: &Design,

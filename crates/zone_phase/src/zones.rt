@@ -10,19 +10,23 @@ ghost use Rattle.deep_tables.specs.Frames.{IsFramedZone};
 ghost use Rattle.deep_tables.specs.Entries.{downward_cell};
 ghost use Rattle.zone_phase.specs.Jobs.{HaveEntries, IsEntry, IsFromUse, IsFromUses, MayRead};
 ghost use Rattle.zone_phase.specs.Jobs.{zone_in};
+ghost use Rattle.deep_tables.specs.Frames.{grown};
+ghost use Rattle.zone_phase.specs.Neighbours.{AreAllNear, AreNear, AreNeighbours};
 ghost use Rattle.zone_phase.specs.Uses.{AreUsesOf, IsUse};
 
+use crate::neighbours::Neighbour;
+use crate::overs::push_overs;
 use crate::pulls::is_last;
 use crate::references::push_reference;
+use crate::thins::{FIRST_ROOM, thin};
 use crate::uses::Use;
 use crate::windows::grown;
 use cell_graph::Design;
 use deep_tables::CellZones;
 use geo_base::{LayerKey, Rect};
 use job_graph::Reads;
-use rect_sets::{RectSet, canonical_rects};
+use rect_sets::RectSet;
 use std::alloc::{AllocError, Global};
-use std::mem;
 
 // Adds the squares of a cell's grown hull that one reference brings.
 fn push_use<R: Reads<CellZones>>(
@@ -67,26 +71,6 @@ fn push_use<R: Reads<CellZones>>(
         hull,
         grown,
     )
-}
-
-// So many rectangles are gathered before they are first made canonical.
-const FIRST_ROOM: usize = 64;
-
-// Makes rectangles canonical where there are so many: what references bring alike is kept once.
-// Answers how many may be gathered before the next time.
-fn thin(alloc: Global, out: &mut Vec<Rect>, room: usize) -> Result<usize, AllocError>
-    requires { All IsRect out.old.items }
-    ensures rects { OnOk result (All IsRect out.new.items) }
-    ensures covers { OnOk result ((q : Square) → covers out.new.items q ≡ covers out.old.items q) }
-{
-    if out.len() < room {
-        return Ok(room);
-    }
-    let rects = mem::replace(out, Vec::new(alloc));
-    let set = RectSet::canon(alloc, rects)?;
-    canonical_rects();
-    out.extend_from_slice(set.rects())?;
-    Ok(room.max(out.len().saturating_mul(2)))
 }
 
 // The same of all references. Once the whole grown hull is covered, none can add to it.
@@ -137,8 +121,12 @@ fn hull_zone<R: Reads<CellZones>>(
     cell: u32,
     key: LayerKey,
     hull: &Rect,
+    neighbours: &[Neighbour],
 ) -> Result<RectSet, AllocError>
     requires hull { hull_of (cell_at design.now cell) ≡ Some hull.now }
+    requires neighbours { AreNeighbours design.now uses.now neighbours.now }
+    requires all { AreAllNear design.now (grown hull.now) uses.now (length uses.now)
+        neighbours.now }
     requires uses { AreUsesOf design.now cell uses.now }
     requires may { MayRead (R.may_read reads.now) uses.now }
     requires entries { HaveEntries design.now (R.value reads.now) key name uses.now }
@@ -150,6 +138,7 @@ fn hull_zone<R: Reads<CellZones>>(
     push_uses(
         alloc, &mut out, design, reads, uses, name, cell, key, hull, &wide,
     )?;
+    push_overs(alloc, &mut out, design, uses, neighbours, key, &wide)?;
     let set = RectSet::canon(alloc, out)?;
     Ok(set)
 }
@@ -164,7 +153,9 @@ pub fn key_zone<R: Reads<CellZones>>(
     name: usize,
     cell: u32,
     key: LayerKey,
+    neighbours: &[Neighbour],
 ) -> Result<RectSet, AllocError>
+    requires neighbours { AreNear design.now cell uses.now neighbours.now }
     requires cell { cell < length design.now.cells }
     requires uses { AreUsesOf design.now cell uses.now }
     requires may { MayRead (R.may_read reads.now) uses.now }
@@ -172,7 +163,9 @@ pub fn key_zone<R: Reads<CellZones>>(
     ensures { IfOk result (IsFramedZone design.now (key ∷ []) cell) }
 {
     match design.hull(cell) {
-        Some(hull) => hull_zone(alloc, design, reads, uses, name, cell, key, &hull),
+        Some(hull) => hull_zone(
+            alloc, design, reads, uses, name, cell, key, &hull, neighbours,
+        ),
         None => Ok(RectSet::empty(alloc)),
     }
 }

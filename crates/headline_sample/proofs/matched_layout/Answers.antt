@@ -1,3 +1,4 @@
+use Rattle.latch_laws.specs.Latch.{untold}
 use Rattle.std.proofs.Common.{[], refl}
 use Rattle.flat_sample.proofs.Whole.{right}
 use Rattle.flat_sample.specs.Sample.{sample_level}
@@ -18,7 +19,7 @@ returns c = record {
       sample_pair,
       answered,
       (λ k x h. refl),
-      matched_layout gate_design gate_wiring gate_tables gate_circuits gate_netlist gate_rules 1000 sample_level right 1 refl schematic 1 [] gate_netlist schematic (as_it_is child_circuit parent_circuit) (as_it_is part whole) sample_pair 1 answers pairings answered (λ k x h. refl),
+      matched_layout gate_design gate_wiring gate_tables gate_circuits gate_netlist gate_rules 1000 sample_level right 1 refl schematic 1 [] gate_netlist schematic (as_it_is child_circuit parent_circuit) (as_it_is part whole) sample_pair untold answers pairings answered (λ k x h. refl),
     ),
   );
   devices = two_devices;

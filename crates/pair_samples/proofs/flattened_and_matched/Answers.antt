@@ -1,3 +1,4 @@
+use Rattle.latch_laws.specs.Latch.{untold}
 use Rattle.std.proofs.Common.{refl}
 use Rattle.composed_laws.proofs.Matching.{matched_tops}
 use Rattle.pair_samples.specs.Chain.{layout, schematic, same, left, layout_alignment, schematic_alignment, answers, pairings}
@@ -15,7 +16,7 @@ returns-clause-matched c = (
   normal_layout,
   normal_schematic,
   good_layout,
-  (chain_pair, answered, (λ k x h. refl), matched_tops layout schematic 3 1 same left schematic layout_alignment schematic_alignment chain_pair 1 answers pairings answered (λ k x h. refl)),
+  (chain_pair, answered, (λ k x h. refl), matched_tops layout schematic 3 1 same left schematic layout_alignment schematic_alignment chain_pair untold answers pairings answered (λ k x h. refl)),
 )
 
 pub returns-clause-all_flattened : goal.returns-clause-all_flattened

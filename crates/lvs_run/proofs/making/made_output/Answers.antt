@@ -1,12 +1,13 @@
 use Rattle.std.proofs.Common.{[], ◌∙◌, refl, length}
+use Rattle.std.proofs.lemmas.Result.{err_from_is_err_and}
 use Rattle.net_model.specs.Rows.{plain_netlist}
 use Rattle.lvs_run.specs.Answers.{Compared, compared, made}
 use Rattle.lvs_run.proofs.Adding.{verdict_line}
 use Rattle.lvs_run.proofs.MadeChips.{chip_apart}
 use Rattle.lvs_run.proofs.making.made_output.Goals as goal
 
-pub returns : goal.returns
-returns g c = λ n seed prefix same.
+pub returns-clause-made : goal.returns-clause-made
+returns-clause-made g c = λ n seed prefix same.
     let found = c.in_ok-found.found in
     let nl = plain_netlist found.netlist in
     let report = c.in_ok-report.report in
@@ -32,6 +33,7 @@ returns g c = λ n seed prefix same.
           pairs = report.pairs;
           verdict = report.verdict;
           comparable = c.in_ok-report.ensures.comparable;
+          narrow = c.in_ok-report.ensures.narrow;
           report_file = c.in_ok-report.ensures.report;
           answer = c.comparison_verdict-verdict.ensures;
           whole = refl;
@@ -40,3 +42,12 @@ returns g c = λ n seed prefix same.
       };
       line = c.in_ok-line.ensures ∙ verdict_line c.comparison_verdict-verdict.result done;
     }
+
+pub returns-in_err-found-clause-refused : goal.returns-in_err-found-clause-refused
+returns-in_err-found-clause-refused g c = let e = err_from_is_err_and c.from_residual.result c.from_residual.ensures.1 in rw (e.1, e.2) tt
+
+pub returns-in_err-report-clause-refused : goal.returns-in_err-report-clause-refused
+returns-in_err-report-clause-refused g c = let e = err_from_is_err_and c.from_residual-in_err-report.result c.from_residual-in_err-report.ensures.1 in rw (e.1, e.2) c.in_err-report.ensures.refused
+
+pub returns-in_err-line-clause-refused : goal.returns-in_err-line-clause-refused
+returns-in_err-line-clause-refused g c = let e = err_from_is_err_and c.from_residual-in_err-line.result c.from_residual-in_err-line.ensures.1 in rw (e.1, e.2) tt

@@ -1,12 +1,13 @@
 use Rattle.std.proofs.Common.{[], ◌∷◌, ◌∙◌, refl, length, string_bytes}
+use Rattle.std.proofs.lemmas.Result.{err_from_is_err_and}
 use Rattle.net_model.specs.Rows.{plain_netlist}
 use Rattle.lvs_run.specs.Answers.{Compared, compared}
 use Rattle.lvs_run.specs.Words.{file_at}
 use Rattle.lvs_run.proofs.Adding.{first_file, next_file, verdict_line}
 use Rattle.lvs_run.proofs.making.report_output.Goals as goal
 
-pub returns : goal.returns
-returns g c = λ path.
+pub returns-clause-made : goal.returns-clause-made
+returns-clause-made g c = λ path.
     let found = c.in_ok-found.found in
     let nl = plain_netlist found.netlist in
     let report = c.in_ok-report.report in
@@ -33,9 +34,28 @@ returns g c = λ path.
         pairs = report.pairs;
         verdict = report.verdict;
         comparable = c.in_ok-report.ensures.comparable;
+        narrow = c.in_ok-report.ensures.narrow;
         report_file = c.in_ok-report.ensures.report;
         answer = c.comparison_verdict-verdict.ensures;
         whole = refl;
       };
       line = c.in_ok-line.ensures ∙ verdict_line c.comparison_verdict-verdict.result done;
     }
+
+pub returns-in_err-found-clause-refused : goal.returns-in_err-found-clause-refused
+returns-in_err-found-clause-refused g c = let e = err_from_is_err_and c.from_residual.result c.from_residual.ensures.1 in rw (e.1, e.2) tt
+
+pub returns-in_err-report-clause-refused : goal.returns-in_err-report-clause-refused
+returns-in_err-report-clause-refused g c = let e = err_from_is_err_and c.from_residual-in_err-report.result c.from_residual-in_err-report.ensures.1 in rw (e.1, e.2) c.in_err-report.ensures.refused
+
+pub returns-in_err-line-clause-refused : goal.returns-in_err-line-clause-refused
+returns-in_err-line-clause-refused g c = let e = err_from_is_err_and c.from_residual-in_err-line.result c.from_residual-in_err-line.ensures.1 in rw (e.1, e.2) tt
+
+pub returns-in_err-push_file-clause-refused : goal.returns-in_err-push_file-clause-refused
+returns-in_err-push_file-clause-refused g c = let e = err_from_is_err_and c.from_residual-in_err-push_file.result c.from_residual-in_err-push_file.ensures.1 in rw (e.1, e.2) tt
+
+pub returns-in_err-push_file-2-clause-refused : goal.returns-in_err-push_file-2-clause-refused
+returns-in_err-push_file-2-clause-refused g c = let e = err_from_is_err_and c.from_residual-in_err-push_file-2.result c.from_residual-in_err-push_file-2.ensures.1 in rw (e.1, e.2) tt
+
+pub returns-in_err-push_file-3-clause-refused : goal.returns-in_err-push_file-3-clause-refused
+returns-in_err-push_file-3-clause-refused g c = let e = err_from_is_err_and c.from_residual-in_err-push_file-3.result c.from_residual-in_err-push_file-3.ensures.1 in rw (e.1, e.2) tt

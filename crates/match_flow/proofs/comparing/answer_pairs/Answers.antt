@@ -14,5 +14,5 @@ returns g c =
     let p = c.in_ok-phase.phase in
     let made = c.in_ok-phase.ensures in
     if_ok _ _ c.run_phase.result (λ values defined.
-    all_answers c.args.aligned.now.left c.args.aligned.now.right c.args.limit p values c.requires.sides made.left made.right made.limit made.jobs defined)
+    all_answers c.args.aligned.now.left c.args.aligned.now.right c.args.limit c.args.same_pins p values c.requires.sides made.left made.right made.limit made.pins made.jobs defined)
     c.run_phase.ensures

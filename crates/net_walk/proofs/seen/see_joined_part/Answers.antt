@@ -1,15 +1,19 @@
-use Rattle.net_walk.proofs.Seeing.{joined_more, joined_same}
+use Rattle.std.proofs.Common.{arith, length}
+use Rattle.net_walk.proofs.Seeing.{itself_seen, line_more, lines_all, no_line}
 use Rattle.net_walk.proofs.seen.see_joined_part.Goals as goal
-use Rattle.net_walk.proofs.seen.see_joined_part.Goals.{then-are_joined+in_ok-see_conductor, else-are_joined}
 use Rattle.net_walk.specs.Walk.{place_of}
 
-pub loop-other-preserved : goal.loop-other-preserved
-loop-other-preserved g c =
-    let d = g.C.Cells.design c.args.cells.now in
-    let t = g.C.Cells.tables c.args.cells.now in
-    elim c.if-are_joined.branch [
-      | then-are_joined+in_ok-see_conductor w ↦
-          rw w.out-is (joined_more d t (place_of c.args.element.now) c.args.window.now c.args.at c.args.joins.now c.args.conductor c.loop-other.other c.args.out.now.items c.loop-other.out.items w.see_conductor.new.out.items w.if-are_joined.ensures c.loop-other.invariant w.in_ok-see_conductor.ensures)
-      | else-are_joined w ↦
-          rw w.out-is (joined_same d t (place_of c.args.element.now) c.args.window.now c.args.at c.args.joins.now c.args.conductor c.loop-other.other c.args.out.now.items c.loop-other.out.items w.if-are_joined.ensures c.loop-other.invariant)
-    ]
+pub loop-line-init : goal.loop-line-init
+loop-line-init g c =
+    itself_seen (g.C.Cells.design c.args.cells.now) (g.C.Cells.tables c.args.cells.now) (place_of c.args.element.now) c.args.window.now c.args.at c.args.conductor (length (g.C.Cells.wiring c.args.cells.now).conductors)
+    c.args.out.now.items c.see_where.new.out.items c.in_ok-see_where.ensures
+
+pub loop-line-preserved : goal.loop-line-preserved
+loop-line-preserved g c =
+    line_more (g.C.Cells.design c.args.cells.now) (g.C.Cells.tables c.args.cells.now) (place_of c.args.element.now) c.args.window.now c.args.at c.args.joins.now c.loop-line.line-index no_line c.args.conductor (length (g.C.Cells.wiring c.args.cells.now).conductors)
+    c.args.out.now.items c.loop-line.out.items c.see_line.new.out.items (omega arith) c.loop-line.invariant c.in_ok-see_line.ensures
+
+pub returns : goal.returns
+returns g c =
+    lines_all (g.C.Cells.design c.args.cells.now) (g.C.Cells.tables c.args.cells.now) (place_of c.args.element.now) c.args.window.now c.args.at c.args.joins.now c.loop-line.line-index c.args.conductor (length (g.C.Cells.wiring c.args.cells.now).conductors)
+    c.args.out.now.items c.loop-line.out.items (omega arith) c.loop-line.invariant

@@ -37,8 +37,10 @@ loop-pair-preserved g c =
     ∙ (ap (λ (o : Option Answer). right_pins (plain_circuit circuit) (pairing_or (answer_in q o))) c.get.ensures ∙ sym c.in_ok-found.ensures) in
     elim c.match-found.branch [
       | in-Some+in_ok-set-in-Some w ↦
-          rw w.children-is
-          (kept_more F (pins.children_of c.loop-pair.children) (pins.children_of w.set.new.self) pairs n q (omega arith) refl
-          (w.in_ok-set-in-Some.ensures.set ∙ sym (at ∙ ap list_in w.in-Some.is)) w.in_ok-set-in-Some.ensures.rest c.loop-pair.invariant)
-      | in-None w ↦ rw w.children-is (kept_none F (pins.children_of c.loop-pair.children) pairs n q (omega arith) refl (at ∙ ap list_in w.in-None.is) c.loop-pair.invariant)
+          rw w.children-is (
+            kept_more F (pins.children_of c.loop-pair.children) (pins.children_of w.set.new.self) pairs n q (omega arith) refl
+                (w.in_ok-set-in-Some.ensures.set ∙ sym (at ∙ ap list_in w.in-Some.is)) w.in_ok-set-in-Some.ensures.rest c.loop-pair.invariant.0,
+            w.in_ok-set-in-Some.ensures.told ∙ c.loop-pair.invariant.1,
+          )
+      | in-None w ↦ rw w.children-is (kept_none F (pins.children_of c.loop-pair.children) pairs n q (omega arith) refl (at ∙ ap list_in w.in-None.is) c.loop-pair.invariant.0, c.loop-pair.invariant.1)
     ]

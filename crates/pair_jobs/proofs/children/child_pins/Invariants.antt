@@ -7,4 +7,4 @@ use Rattle.pair_jobs.specs.Children.{answer_in}
 use Rattle.pair_jobs.proofs.children.child_pins.Given as goal
 
 abbrev pub invariant-loop-pair : goal.invariant-loop-pair
-invariant-loop-pair g l = (k : ℕ) → pins.children_of l.children k ≡ cond (has k (take l.pair-index l.pairs)) (children_of (plain_netlist l.left) (λ q. answer_in q (g.R.Reads.value l.reads q)) k) None
+invariant-loop-pair g l = ((k : ℕ) → pins.children_of l.children k ≡ cond (has k (take l.pair-index l.pairs)) (children_of (plain_netlist l.left) (λ q. answer_in q (g.R.Reads.value l.reads q)) k) None) × (pins.is_told l.children ≡ l.told)

@@ -1,4 +1,4 @@
-use Rattle.std.proofs.Common.{◌≡◌, ◌^◌, ◌∙◌, List, sym, subst, slice_index_or}
+use Rattle.std.proofs.Common.{◌^◌, ◌∙◌, List, sym, subst, slice_index_or}
 use Rattle.std.specs.List.{All}
 use Rattle.geo_base.specs.declared.shapes.Rect.{Rect}
 use Rattle.tile_index.specs.Windows.{ArePositions}

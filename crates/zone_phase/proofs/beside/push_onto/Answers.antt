@@ -1,8 +1,5 @@
-use Rattle.std.proofs.Common.{pos}
-use Rattle.geo_base.specs.declared.shapes.Rect.{Rect}
 use Rattle.cell_context.proofs.Collecting.{no_rect}
-use Rattle.zone_phase.specs.Pulls.{OnRects}
-use Rattle.zone_phase.proofs.Joining.{rect_more, same_still}
+use Rattle.zone_phase.proofs.Joining.{rect_more}
 use Rattle.zone_phase.proofs.beside.push_onto.Goals as goal
 
 pub loop-rect-preserved : goal.loop-rect-preserved

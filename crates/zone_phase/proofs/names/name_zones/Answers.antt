@@ -1,8 +1,15 @@
-use Rattle.std.proofs.Common.{◌≡◌, ◌∙◌, ◌+◌, ◌++◌, ◌∷◌, [], ℕ, Some, List, ap, sym, subst, drop, length, length-append, slice_get}
+use Rattle.std.proofs.Common.{◌≡◌, ◌∙◌, ◌+◌, ◌++◌, ◌∷◌, [], ℕ, Some, List, ap, arith, refl, sym, subst, drop, length, length-append, slice_get}
+use Rattle.std.specs.List.{All}
+use Rattle.std.proofs.lemmas.List.{at_drop_all}
+use Rattle.std.proofs.lemmas.List.Elements.{All-nil}
+use Rattle.geo_base.specs.declared.shapes.Rect.{Rect}
+use Rattle.rect_sets.specs.Rects.{IsCanonical}
 use Rattle.flat_layout.specs.Layers.{Formula}
-use Rattle.rule_layers.specs.Formulas.{formulas, formula_by}
+use Rattle.rule_layers.specs.Formulas.{formulas, formula_by, formulas_behind}
 use Rattle.zone_phase.specs.Names.{AreNameZones}
-use Rattle.zone_phase.proofs.Naming.{behind_stays, form_entries, names_more, one_on}
+use Rattle.zone_phase.specs.Neighbours.{AreNear}
+use Rattle.zone_phase.specs.declared.neighbours.Neighbour.{Neighbour}
+use Rattle.zone_phase.proofs.Naming.{behind_stays, form_entries, names_more, no_names, one_on}
 use Rattle.zone_phase.proofs.names.name_zones.Goals as goal
 
 pub form_zone-requires-clause-entries : goal.form_zone-requires-clause-entries
@@ -25,3 +32,24 @@ loop-name-preserved g c =
           (c.in_ok-set.ensures had.0 (subst (AreNameZones d c.args.cell had.0) (sym c.deref.ensures.value) had.4))),
       c.in_ok-push_set.ensures.canonical,
     )
+
+pub loop-name-init : goal.loop-name-init
+loop-name-init g c =
+    let d = c.args.design.now in let e = c.new-sets.ensures.items in (
+      [],
+      refl,
+      refl,
+      ap length e,
+      subst (λ (l : List (List Rect)). AreNameZones d c.args.cell [] l) (sym e) (no_names d c.args.cell),
+      subst (λ (l : List (List Rect)). All IsCanonical l) (sym e) (All-nil IsCanonical),
+    )
+
+pub form_zone-requires-clause-neighbours : goal.form_zone-requires-clause-neighbours
+form_zone-requires-clause-neighbours g c =
+    subst (λ (l : List Neighbour). AreNear c.args.design.now c.args.cell c.args.uses.now l) (sym c.deref-in-loop-name.ensures.value) c.in_ok-neighbours.ensures
+
+pub returns-clause-zones : goal.returns-clause-zones
+returns-clause-zones g c =
+    let had = c.loop-name.invariant in let names = c.args.names.now in
+    let all : had.0 ≡ formulas names = sym (at_drop_all (formulas_behind had.0) names c.loop-name.name (let past = c.loop-name-test.false in omega arith)) ∙ had.1 in
+    subst (λ (trees : List Formula). AreNameZones c.args.design.now c.args.cell trees c.loop-name.sets.items) all had.4

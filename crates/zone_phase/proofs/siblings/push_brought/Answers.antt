@@ -1,4 +1,4 @@
-use Rattle.std.proofs.Common.{◌≡◌, ◌⊎◌, inl, inr, ◌<◌, ℕ, List, None, true, arith, refl, sym, subst, ◌∙◌, slice_index_or}
+use Rattle.std.proofs.Common.{◌≡◌, inl, inr, ◌<◌, ℕ, List, true, arith, sym, subst, slice_index_or}
 use Rattle.std.specs.List.{All}
 use Rattle.geo_base.specs.Near.{IsNearRect}
 use Rattle.geo_base.specs.Rects.{has}
@@ -11,7 +11,7 @@ use Rattle.cell_graph.specs.Linked.{plain}
 use Rattle.cell_context.specs.declared.arrays.Visit.{Visit}
 use Rattle.cell_context.specs.Visits.{IsElementVisit, IsMet, IsFound}
 use Rattle.cell_context.proofs.Visiting.{up_to}
-use Rattle.cell_context.proofs.Gathering.{no_visit, pieces_rects, pieces_near, stays_there, Adds}
+use Rattle.cell_context.proofs.Gathering.{no_visit, pieces_near, stays_there, Adds}
 use Rattle.zone_phase.proofs.Bringing.{right_more, all_brought, visit_near, visit_within, brings_flat}
 use Rattle.zone_phase.proofs.siblings.push_brought.Goals as goal
 

@@ -1,5 +1,5 @@
-use Rattle.std.proofs.Common.{arith, rules, FitsSigned, w64, ◌≤ℤ◌}
-use Rattle.std.proofs.lemmas.Int.{ints, to_z-of_z}
+use Rattle.std.proofs.Common.{rules, FitsSigned, w64, ◌≤ℤ◌}
+use Rattle.std.proofs.lemmas.Int.{to_z-of_z}
 use Rattle.geo_base.specs.declared.shapes.Rect.{Rect}
 use Rattle.cell_graph.specs.Linked.{IsInside}
 use Rattle.zone_phase.proofs.windows.bounds.Goals as goal

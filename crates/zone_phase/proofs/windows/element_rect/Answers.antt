@@ -1,7 +1,7 @@
 use Rattle.std.proofs.Common.{◌^◌, sym, subst, ap, ◌∙◌, arith}
 use Rattle.geo_base.specs.Rects.{moved_rect}
 use Rattle.geo_base.specs.declared.motion.Motion.{Motion}
-use Rattle.cell_graph.specs.Linked.{IsRectWithin, motion_at}
+use Rattle.cell_graph.specs.Linked.{IsRectWithin}
 use Rattle.cell_context.proofs.Reaching.{element_within}
 use Rattle.cell_context.proofs.Visiting.{near_rect, wider_rect}
 use Rattle.zone_phase.proofs.windows.element_rect.Goals as goal

@@ -1,8 +1,6 @@
-use Rattle.std.proofs.Common.{◌≡◌, ◌^◌, ℕ, ◌<◌, true}
+use Rattle.std.proofs.Common.{◌^◌}
 use Rattle.std.proofs.lemmas.List.Elements.{All-push}
-use Rattle.geo_base.specs.Rects.{has}
 use Rattle.geo_base.specs.Motions.{moved_square}
-use Rattle.geo_base.specs.declared.shapes.Square.{Square}
 use Rattle.cell_graph.specs.Linked.{IsRectWithin, motion_at}
 use Rattle.cell_context.proofs.Visiting.{up_to}
 use Rattle.zone_phase.specs.Pulls.{OnRects}

@@ -1,8 +1,8 @@
-use Rattle.std.proofs.Common.{◌≡◌, ◌^◌, ℕ, ◌<◌, ◌-◌, true}
+use Rattle.std.proofs.Common.{◌^◌}
 use Rattle.std.proofs.lemmas.List.Elements.{All-push}
 use Rattle.geo_base.specs.Motions.{moved_square}
 use Rattle.cell_graph.specs.Linked.{IsRectWithin, motion_at}
-use Rattle.zone_phase.proofs.Pulling.{stays, comes}
+use Rattle.zone_phase.proofs.Pulling.{comes}
 use Rattle.zone_phase.proofs.Covering.{row_window}
 use Rattle.zone_phase.proofs.windows.push_row.Goals as goal
 

@@ -1,7 +1,4 @@
-use Rattle.std.proofs.Common.{◌≡◌, ◌^◌, ℕ, ◌<◌, true}
-use Rattle.geo_base.specs.Rects.{has}
 use Rattle.geo_base.specs.Motions.{moved_square}
-use Rattle.geo_base.specs.declared.shapes.Square.{Square}
 use Rattle.cell_graph.specs.Linked.{motion_at}
 use Rattle.cell_context.proofs.Visiting.{up_to}
 use Rattle.zone_phase.specs.Pulls.{OnRects}

@@ -7,7 +7,8 @@ use Rattle.cell_context.proofs.Collecting.{item_at, one_place}
 use Rattle.cell_graph.specs.Linked.{cell_at, places_at}
 use Rattle.deep_tables.specs.Entries.{downward_cell}
 use Rattle.zone_phase.specs.Jobs.{IsEntry, zone_in}
-use Rattle.zone_phase.specs.Pulls.{Adds, Why}
+use Rattle.zone_phase.specs.Neighbours.{WhyHere}
+use Rattle.zone_phase.specs.Pulls.{Adds}
 use Rattle.zone_phase.proofs.Entries.{some_and, at_any}
 use Rattle.zone_phase.proofs.Results.{on_ok}
 use Rattle.zone_phase.proofs.Using.{use_adds}
@@ -30,6 +31,6 @@ returns-clause-exact g c =
     on_ok _ _ c.push_reference.result
     (λ adds. use_adds d (zone_in (g.R.Reads.value c.args.reads.now u.job) c.args.name) c.args.cell c.args.key c.args.grown.now u place c.args.out.now.items c.push_reference.new.out.items there
     (subst (λ (p : Place). p.cell ≡ c.args.cell) same c.requires.found.here)
-    (subst (λ (l : List Rect). Adds place c.args.grown.now (Why l d (downward_cell d u.job) u.index c.args.key place) c.args.out.now.items c.push_reference.new.out.items) zone
-    (subst (λ (o : List ℕ). Adds place c.args.grown.now (Why c.index-zone.result.now d (slice_index o (length o - 1 - u.job)) u.index c.args.key place) c.args.out.now.items c.push_reference.new.out.items) c.order-order.ensures adds)))
+    (subst (λ (l : List Rect). Adds place c.args.grown.now (WhyHere l d (downward_cell d u.job) u.index c.args.key place) c.args.out.now.items c.push_reference.new.out.items) zone
+    (subst (λ (o : List ℕ). Adds place c.args.grown.now (WhyHere c.index-zone.result.now d (slice_index o (length o - 1 - u.job)) u.index c.args.key place) c.args.out.now.items c.push_reference.new.out.items) c.order-order.ensures adds)))
     c.push_reference.ensures.exact

@@ -1,9 +1,10 @@
-use Rattle.std.proofs.Common.{◌≡◌, ◌*◌, ℕ, List, length, sym, subst, ◌∙◌}
+use Rattle.std.proofs.Common.{◌≡◌, ◌*◌, ℕ, Bool, List, ◌++◌, length, sym, subst, ◌∙◌}
 use Rattle.net_model.specs.Rows.{plain_circuit}
 use Rattle.match_types.specs.Plain.{pair_of}
 use Rattle.match_graph.specs.declared.edges.Edge.{Edge}
 use Rattle.match_graph.specs.declared.graph.Graph.{Graph}
 use Rattle.match_graph.specs.Numbering.{AreSizesOf, end_of}
+use Rattle.match_graph.specs.Kinds.{AreKindsOf, circuit_owns}
 use Rattle.match_graph.specs.Filling.{AreEndsOf}
 use Rattle.match_graph.proofs.Built.{graph_is, built, built_between, right_sizes}
 use Rattle.match_graph.proofs.graph.Graph.of_pair.Goals as goal
@@ -43,4 +44,5 @@ returns c =
     (built (pair_of c.args.left.now c.args.right.now c.args.children.now)
     (record { left = c.in_ok-left_sizes.left_sizes; right = c.in_ok-right_sizes.right_sizes; begins = c.in_ok-begins.begins; ends = c.in_ok-ends.ends; kinds = c.in_ok-list_kinds.field-0 })
     c.deref.result.now c.end-count.result c.in_ok-left_sizes.ensures.sizes (behind (goal.at.returns c).In_ok-right_sizes) (c.deref.ensures.value ∙ c.in_ok-edges.ensures) c.end-count.ensures
-    c.in_ok-begins.ensures count ends c.in_ok-list_kinds.ensures)
+    c.in_ok-begins.ensures count ends
+    (subst (λ (t : Bool). AreKindsOf c.in_ok-list_kinds.field-0.items (circuit_owns t (plain_circuit c.args.left.now) ++ circuit_owns t (plain_circuit c.args.right.now))) c.told.ensures c.in_ok-list_kinds.ensures))

@@ -1,0 +1,124 @@
+-- The transistors of a circuit merged one after another.
+use Rattle.std.proofs.Common.{◌≡◌, ◌<◌, ◌≤◌, ◌+◌, ◌^◌, ℕ, zero, suc, Bool, true, false, List, [], ◌∷◌, ◌++◌, map, length, refl, sym, subst, ap, ◌∙◌, arith}
+use Rattle.std.specs.Prelude.{slice_index_or, slice_set, take, drop, ◌-◌, ◌||◌}
+use Rattle.fixed_num.specs.declared.femto.Femto.{Femto}
+use Rattle.net_model.specs.declared.netlist.DeviceRow.{DeviceRow as Held}
+use Rattle.plain_netlist.specs.Netlist.{DeviceRow}
+use Rattle.merge_laws.specs.Grouped.{Group, Placed, are_wide, grouped, groups, is_wide, merged_row, with_device}
+use Rattle.device_merge.specs.Keys.{AreKeys, lone, place_of}
+use Rattle.net_model.specs.Rows.{plain_device}
+use Rattle.device_merge.specs.Merging.{IsMerging, placed, width_at, widened}
+use Rattle.std.proofs.lemmas.List.{take_all}
+use Rattle.std.proofs.lemmas.List.Sums.{prefix_len-le-length}
+use Rattle.device_merge.specs.declared.groups.Merging.{Merging}
+use Rattle.device_merge.specs.declared.keys.DeviceKey.{DeviceKey}
+use Rattle.device_merge.proofs.Joined.{begins, begun_rows, begun_wide, joins, keys_stay, narrow_joined, wide_all, wide_joined}
+
+length_map : {A B : Type 0} (f : A → B) (xs : List A) → length (map f xs) ≡ length xs
+length_map f [] = refl
+length_map f (x ∷ xs) = ap (λ (n : ℕ). suc n) (length_map f xs)
+
+-- one row for each group
+pub as_many_rows : (m : Merging) (gs : List Group) → IsMerging m gs → length m.rows.items ≡ length gs
+as_many_rows m gs h = sym (length_map plain_device m.rows.items) ∙ ap (λ (rs : List DeviceRow). length rs) h.rows ∙ length_map merged_row gs
+
+-- the row at a place, and with another width
+pub width_here : (rows : List Held) (i : ℕ) (d : Held) → i < length rows → width_at i (map plain_device rows) ≡ (slice_index_or rows i d).width.0
+width_here [] i d low = absurd (omega arith)
+width_here (r ∷ rs) zero d low = refl
+width_here (r ∷ rs) (suc i) d low = width_here rs i d (omega arith)
+
+pub widened_here : (rows : List Held) (i : ℕ) (d : Held) (w : Femto) (n : ℕ) → i < length rows → w.0 ≡ (slice_index_or rows i d).width.0 + n
+    → map plain_device (slice_set rows i (record {
+      class = (slice_index_or rows i d).class;
+      length = (slice_index_or rows i d).length;
+      width = w;
+      source = (slice_index_or rows i d).source;
+      gate = (slice_index_or rows i d).gate;
+      drain = (slice_index_or rows i d).drain;
+      bulk = (slice_index_or rows i d).bulk;
+    })) ≡ widened i n (map plain_device rows)
+widened_here [] i d w n low e = absurd (omega arith)
+widened_here (r ∷ rs) zero d w n low e = ap (λ (v : ℕ). record {
+  class = r.class;
+  length = r.length.0;
+  width = v;
+  source = r.source;
+  gate = r.gate;
+  drain = r.drain;
+  bulk = r.bulk;
+} ∷ map plain_device rs) e
+widened_here (r ∷ rs) (suc i) d w n low e = ap (λ (xs : List DeviceRow). plain_device r ∷ xs) (widened_here rs i d w n (omega arith) e)
+
+-- a transistor that joins a group
+pub joined_merging : (old new : Merging) (gs : List Group) (d : Placed) (p : ℕ) → IsMerging old gs → p ≡ place_of gs d.row → p < length old.rows.items
+    → map plain_device new.rows.items ≡ widened p d.row.width (map plain_device old.rows.items) → new.keys ≡ old.keys
+    → width_at p (map plain_device old.rows.items) + d.row.width ≤ 10 ^ 27 → IsMerging new (with_device gs d)
+joined_merging old new gs d p h at low rows keys fits =
+    let count : length old.rows.items ≡ length gs = as_many_rows old gs h in
+    let inside : place_of gs d.row < length gs = omega arith in
+    record {
+      rows = rows ∙ ap (λ (rs : List DeviceRow). widened p d.row.width rs) h.rows ∙ ap (λ (k : ℕ). widened k d.row.width (map merged_row gs)) at ∙ sym (joins gs d inside);
+      keys = subst (λ (ks : List DeviceKey). AreKeys 0 ks (with_device gs d)) (sym keys) (keys_stay 0 old.keys gs d h.keys inside);
+      narrow = narrow_joined gs d h.narrow inside
+          (subst (λ (k : ℕ). width_at k (map merged_row gs) + d.row.width ≤ 10 ^ 27) at (subst (λ (rs : List DeviceRow). width_at p rs + d.row.width ≤ 10 ^ 27) h.rows fits));
+    }
+
+pub joined_wide : (old : Merging) (gs : List Group) (d : Placed) (p : ℕ) → IsMerging old gs → p ≡ place_of gs d.row → p < length old.rows.items
+    → 10 ^ 27 < width_at p (map plain_device old.rows.items) + d.row.width → are_wide (with_device gs d) ≡ true
+joined_wide old gs d p h at low wide =
+    let count : length old.rows.items ≡ length gs = as_many_rows old gs h in
+    wide_joined gs d (omega arith) (subst (λ (k : ℕ). 10 ^ 27 < width_at k (map merged_row gs) + d.row.width) at (subst (λ (rs : List DeviceRow). 10 ^ 27 < width_at p rs + d.row.width) h.rows wide))
+
+-- the place of a group is at most their number
+place_within : (gs : List Group) (row : DeviceRow) → place_of gs row ≤ length gs
+place_within gs row = prefix_len-le-length _ gs
+
+-- a transistor that joins none
+pub last_place : (old : Merging) (gs : List Group) (row : DeviceRow) (p : ℕ) → IsMerging old gs → p ≡ place_of gs row → (p < length old.rows.items → ⊥) → place_of gs row ≡ length gs
+last_place old gs row p h at past =
+    let count : length old.rows.items ≡ length gs = as_many_rows old gs h in
+    let most : place_of gs row ≤ length gs = place_within gs row in
+    omega (arith, past)
+
+pub begun_merging : (old new : Merging) (gs : List Group) (d : Placed) → IsMerging old gs → place_of gs d.row ≡ length gs
+    → map plain_device new.rows.items ≡ map plain_device old.rows.items ++ d.row ∷ [] → AreKeys 0 new.keys (gs ++ lone d.place d.row ∷ []) → is_wide d.row ≡ false
+    → IsMerging new (with_device gs d)
+begun_merging old new gs d h last rows keys fits =
+    let same : with_device gs d ≡ gs ++ lone d.place d.row ∷ [] = begins gs d last in
+    record {
+      rows = rows ∙ ap (λ (rs : List DeviceRow). rs ++ d.row ∷ []) h.rows ∙ sym (begun_rows gs d.place d.row) ∙ ap (λ (hs : List Group). map merged_row hs) (sym same);
+      keys = subst (λ (hs : List Group). AreKeys 0 new.keys hs) (sym same) keys;
+      narrow = ap (λ (hs : List Group). are_wide hs) same ∙ begun_wide gs d.place d.row ∙ ap (λ (b : Bool). b || is_wide d.row) h.narrow ∙ fits;
+    }
+
+pub begun_too_wide : (old : Merging) (gs : List Group) (d : Placed) → IsMerging old gs → place_of gs d.row ≡ length gs → is_wide d.row ≡ true → are_wide (with_device gs d) ≡ true
+begun_too_wide old gs d h last wide = ap (λ (hs : List Group). are_wide hs) (begins gs d last) ∙ begun_wide gs d.place d.row ∙ ap (λ (b : Bool). b || is_wide d.row) h.narrow ∙ wide
+
+-- the first of them are merged, the rest isn't yet
+pub record IsGoing (m : Merging) (all rest : List DeviceRow) : Type 0 where
+  pub gs : List Group
+  pub place : ℕ
+  pub merging : IsMerging m gs
+  pub behind : grouped gs place rest ≡ groups all
+
+pub further : (old new : Merging) (all more : List DeviceRow) (row : DeviceRow) → IsGoing old all (row ∷ more)
+    → ((gs : List Group) (place : ℕ) → IsMerging old gs → IsMerging new (with_device gs (placed place row))) → IsGoing new all more
+further old new all more row h added = record { gs = with_device h.gs (placed h.place row); place = suc h.place; merging = added h.gs h.place h.merging; behind = h.behind }
+
+pub stopped : (old : Merging) (all more : List DeviceRow) (row : DeviceRow) → IsGoing old all (row ∷ more)
+    → ((gs : List Group) (place : ℕ) → IsMerging old gs → are_wide (with_device gs (placed place row)) ≡ true) → are_wide (groups all) ≡ true
+stopped old all more row h wide = subst (λ (gs : List Group). are_wide gs ≡ true) h.behind (wide_all (with_device h.gs (placed h.place row)) (suc h.place) more (wide h.gs h.place h.merging))
+
+pub ended : (m : Merging) (all : List DeviceRow) → IsGoing m all [] → (map plain_device m.rows.items ≡ map merged_row (groups all)) × (are_wide (groups all) ≡ false)
+ended m all h = (h.merging.rows ∙ ap (λ (gs : List Group). map merged_row gs) h.behind, subst (λ (gs : List Group). are_wide gs ≡ false) h.behind h.merging.narrow)
+
+pub begun : (m : Merging) (all : List DeviceRow) → IsMerging m [] → IsGoing m all all
+begun m all h = record { gs = []; place = 0; merging = h; behind = refl }
+
+-- a list that has one item is it and what is behind it
+pub first_and_rest : {A : Type 0} (xs : List A) (x : A) → 1 ≤ length xs → x ≡ slice_index_or xs 0 x → xs ≡ x ∷ take (length xs - 1) (drop 1 xs)
+first_and_rest [] x h e = absurd (omega (arith, h))
+first_and_rest {A = A} (y ∷ ys) x h e =
+    let whole : take (length (y ∷ ys) - 1) ys ≡ ys = take_all (length (y ∷ ys) - 1) ys (omega arith) in
+    ap (λ (z : A). z ∷ ys) (sym e) ∙ ap (λ (zs : List A). x ∷ zs) (sym whole)

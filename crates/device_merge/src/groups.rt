@@ -1,0 +1,97 @@
+//! A circuit's transistors, each group of alike ones as one.
+
+ghost use Rattle.std.specs.Prelude.{◌≡◌, ◌<◌, ◌≤◌, ◌+◌, ◌^◌, ℕ, true, false, IfOk, IfSome, List, MatchOption, length, map};
+ghost use Rattle.merge_laws.specs.Grouped.{Group, are_wide, with_device};
+ghost use Rattle.net_model.specs.Rows.{plain_device};
+ghost use Rattle.device_merge.specs.Merging.{IsMerged, IsMerging, placed, width_at, widened};
+
+use crate::keys::{Keys, may_merge};
+use fixed_num::Femto;
+use net_model::DeviceRow;
+use std::alloc::{AllocError, Global};
+
+// The widest that alike transistors may be in all, in femtometres.
+const WIDEST: u128 = 1_000_000_000_000_000_000_000_000_000;
+
+// The transistors so far.
+#[derive(Drop)]
+struct Merging<'a> {
+    rows: Vec<DeviceRow>,
+    keys: Keys<'a>,
+}
+
+// The width of two transistors, if it is at most the widest.
+fn both(one: Femto, other: Femto) -> Option<Femto>
+    ensures sum { MatchOption result (10 ^ 27 < one.0 + other.0) (λ w. w.0 ≡ one.0 + other.0) }
+    ensures narrow { IfSome result (λ w. w.0 ≤ 10 ^ 27) }
+{
+    match one.0.checked_add(other.0) {
+        Some(width) if width <= WIDEST => Some(Femto(width)),
+        _ => None,
+    }
+}
+
+// The transistor at the place with another's width beside its own; false where that is too wide.
+fn widen(rows: &mut [DeviceRow], place: usize, width: Femto) -> bool
+    requires { place < length rows.old }
+    ensures done { result ≡ true
+        → map plain_device rows.new ≡ widened place width.0 (map plain_device rows.old) }
+    ensures long { length rows.new ≡ length rows.old }
+    ensures narrow { result ≡ true
+        → width_at place (map plain_device rows.old) + width.0 ≤ 10 ^ 27 }
+    ensures wide { result ≡ false
+        → 10 ^ 27 < width_at place (map plain_device rows.old) + width.0 }
+{
+    match both(rows[place].width, width) {
+        Some(width) => {
+            rows[place].width = width;
+            true
+        }
+        None => false,
+    }
+}
+
+impl<'a> Merging<'a> {
+    // Adds a transistor to the group of those alike to it, or as a group of its own; false where
+    // that is too wide.
+    fn add(&mut self, alloc: Global, row: &'a DeviceRow) -> Result<bool, AllocError>
+        ensures added { IfOk result (λ fits. fits ≡ true → (gs : List Group) (place : ℕ)
+            → IsMerging self.old gs
+            → IsMerging self.new (with_device gs (placed place (plain_device row.now)))) }
+        ensures wide { IfOk result (λ fits. fits ≡ false → (gs : List Group) (place : ℕ)
+            → IsMerging self.old gs
+            → are_wide (with_device gs (placed place (plain_device row.now))) ≡ true) }
+    {
+        let place = self.keys.place(row);
+        if place < self.rows.len() {
+            return Ok(widen(&mut self.rows, place, row.width));
+        }
+        if may_merge(row.class.bytes()) && row.width.0 > WIDEST {
+            return Ok(false);
+        }
+        self.keys.add(row)?;
+        self.rows.push(row.try_clone(alloc)?)?;
+        Ok(true)
+    }
+}
+
+/// The transistors, each group of alike ones as one; none where one is too wide. Linear.
+pub fn merge_devices(
+    alloc: Global,
+    devices: &[DeviceRow],
+) -> Result<Option<Vec<DeviceRow>>, AllocError>
+    ensures { IfOk result (IsMerged (map plain_device devices.now)) }
+{
+    let mut merging = Merging {
+        rows: Vec::new(alloc),
+        keys: Keys::new(alloc),
+    };
+    let mut rest = devices;
+    'devices: while let [row, more @ ..] = rest {
+        if !merging.add(alloc, row)? {
+            return Ok(None);
+        }
+        rest = more;
+    }
+    Ok(Some(merging.rows))
+}

@@ -1,0 +1,13 @@
+//! Netlists in which each class of alike transistors of a circuit is one.
+//!
+//! `merge_laws` says what alike transistors are and what a merged netlist is, and that it expands
+//! to the same as the given one when both are merged flat.
+#![tactic(auto)]
+
+mod fault;
+mod groups;
+mod keys;
+mod merged;
+
+pub use fault::MergeFault;
+pub use merged::merge;

@@ -1,0 +1,5 @@
+use Rattle.headline_laws.proofs.Merged.{merged_match}
+use Rattle.headline_laws.proofs.merged_layouts.Goals as goal
+
+pub returns : goal.returns
+returns c = merged_match

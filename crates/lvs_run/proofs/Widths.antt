@@ -1,0 +1,119 @@
+-- Which answers refuse what is to be compared.
+use Rattle.std.proofs.Common.{◌≡◌, ◌+◌, ◌<◌, ◌≤◌, ℕ, suc, true, false, Bool, cond, if◌then◌else◌, List, [], ◌∷◌, length, slice_get, Option, Some, None, refl, sym, subst, ap, ap₂, ◌∙◌, arith}
+use Rattle.std.specs.Option.{option_map}
+use Rattle.cell_graph.specs.Linked.{Linked}
+use Rattle.deep_tables.specs.declared.gates.BadGate.{BadGate}
+use Rattle.gds_layout.specs.declared.layout.Layout.{Layout}
+use Rattle.lvs_outside.specs.Store.{Store}
+use Rattle.match_report.specs.Pairs.{name_of}
+use Rattle.merge_laws.specs.Grouped.{is_too_wide}
+use Rattle.net_model.specs.Tests.{first_from, first_of}
+use Rattle.netlist_file.specs.File.{IsNetlistFile}
+use Rattle.pair_jobs.specs.declared.verdict.Verdict.{Verdict}
+use Rattle.plain_netlist.specs.Netlist.{Circuit, Netlist}
+use Rattle.report_file.specs.Combined.{compared_of, first_wide, wide_name}
+use Rattle.report_file.specs.File.{IsReportFile}
+use Rattle.rule_text.specs.Rules.{Rules}
+use Rattle.spice_rows.specs.Sizes.{read_limit}
+use Rattle.spice_text.specs.Means.{Means as SpiceMeans}
+use Rattle.lvs_run.specs.Answers.{Answer, IsVerdict, NoMemory, Outside, RefusedMergedLayout, RefusedMergedSchematic}
+use Rattle.lvs_run.specs.Inputs.{DepotFaults, NoComparison, NoSchematic, NotMerged, ReadAs, RefusesComparison, RefusesSchematic}
+use Rattle.lvs_run.specs.Merging.{NotNarrow}
+use Rattle.lvs_run.specs.Outcomes.{IsTooWide, merge_refusal}
+
+abbrev pub IsOfMerge : Answer → Type 0
+IsOfMerge (RefusedMergedLayout name) = Unit {0}
+IsOfMerge (RefusedMergedSchematic name) = Unit {0}
+IsOfMerge a = ⊥
+
+pub only_these : (one other : Option (List ℕ)) (a : Answer) → merge_refusal one other ≡ Some a → IsOfMerge a
+only_these (Some name) other a e = let s : RefusedMergedLayout name ≡ a = cc in subst IsOfMerge s tt
+only_these None (Some name) a e = let s : RefusedMergedSchematic name ≡ a = cc in subst IsOfMerge s tt
+only_these None None a e = absurd cc
+
+not_written : (a : Answer) → IsOfMerge a → IsVerdict a → ⊥
+not_written (RefusedMergedLayout name) h v = v
+not_written (RefusedMergedSchematic name) h v = v
+not_written a h v = h
+
+pub never_written : (one other : Option (List ℕ)) (a : Answer) → merge_refusal one other ≡ Some a → IsVerdict a → ⊥
+never_written one other a e v = not_written a (only_these one other a e) v
+
+-- ---- the refusal of a comparison with a schematic that was read
+
+pub refuses_more : (l : Layout) (r : Rules) (old new : Store) (path : List ℕ) (a : Answer) → RefusesSchematic old new path a → RefusesComparison l r old new path a
+refuses_more l r old new path a h = record { why = more a h.why; faults = h.faults }
+  where
+    more : (a : Answer) → NoSchematic old new path a → NoComparison l r old new path a
+    more (RefusedMergedLayout name) h = absurd h
+    more (RefusedMergedSchematic name) h = absurd h
+    more a h = h
+
+pub refuses_wide : (l : Layout) (r : Rules) (old new : Store) (path : List ℕ) (nl : Netlist) (a : Answer) → ReadAs old new path (λ bytes. SpiceMeans read_limit bytes nl) → NotMerged l r nl a → RefusesComparison l r old new path a
+refuses_wide l r old new path nl a read h = record { why = why a h; faults = faults a h }
+  where
+    why : (a : Answer) → NotMerged l r nl a → NoComparison l r old new path a
+    why (RefusedMergedLayout name) h = record { bytes = read.bytes; got = read.got; is = (nl, read.is, h) }
+    why (RefusedMergedSchematic name) h = record { bytes = read.bytes; got = read.got; is = (nl, read.is, h) }
+    why NoMemory h = tt
+    why a h = absurd (only_these (wide_name r h.netlist) (wide_name r nl) a h.refused)
+
+    faults : (a : Answer) → NotMerged l r nl a → DepotFaults a old new
+    faults Outside h = absurd (only_these (wide_name r h.netlist) (wide_name r nl) Outside h.refused)
+    faults a h = read.got.faults
+
+-- ---- by rules that combine devices
+
+pub wide_so : (r : Rules) (nl : Netlist) → r.combine ≡ true → wide_name r nl ≡ first_wide nl
+wide_so r nl e = ap (λ (b : Bool). cond b (first_wide nl) None) e
+
+pub none_wide : (r : Rules) (nl : Netlist) → r.combine ≡ false → wide_name r nl ≡ None
+none_wide r nl e = ap (λ (b : Bool). cond b (first_wide nl) None) e
+
+pub both_narrow : (one other : Option (List ℕ)) → one ≡ None → other ≡ None → merge_refusal one other ≡ None
+both_narrow one other e f = rw (e, f) refl
+
+pub layout_wide : (one other : Option (List ℕ)) (name : List ℕ) → one ≡ Some name → merge_refusal one other ≡ Some (RefusedMergedLayout name)
+layout_wide one other name e = rw e refl
+
+pub schematic_wide : (one other : Option (List ℕ)) (name : List ℕ) → one ≡ None → other ≡ Some name → merge_refusal one other ≡ Some (RefusedMergedSchematic name)
+schematic_wide one other name e f = rw (e, f) refl
+
+pub narrow_none : (nl : Netlist) → first_of is_too_wide nl.circuits ≡ None → first_wide nl ≡ None
+narrow_none nl e = ap (λ (o : Option ℕ). option_map (λ (k : ℕ). name_of (slice_get nl.circuits k)) o) e
+
+pub first_named : (nl : Netlist) (k : ℕ) → first_of is_too_wide nl.circuits ≡ Some k → first_wide nl ≡ Some (name_of (slice_get nl.circuits k))
+first_named nl k e = ap (λ (o : Option ℕ). option_map (λ (j : ℕ). name_of (slice_get nl.circuits j)) o) e
+
+within_from : (n : ℕ) (p : Circuit → Bool) (xs : List Circuit) (k : ℕ) → first_from n p xs ≡ Some k → (n ≤ k) × (k < n + length xs)
+within_from n p [] k e = absurd cc
+within_from n p (x ∷ xs) k e = step (within_from (n + 1) p xs k) (p x) refl
+  where
+    step : (first_from (n + 1) p xs ≡ Some k → (n + 1 ≤ k) × (k < n + 1 + length xs)) → (b : Bool) → p x ≡ b → (n ≤ k) × (k < n + suc (length xs))
+    step later true is = let s : n ≡ k = (let t : Some n ≡ Some k = sym (ap (λ (b : Bool). if b then Some n else first_from (n + 1) p xs) is) ∙ e in cc) in (omega (arith, s), omega (arith, s))
+    step later false is =
+        let rest = later (sym (ap (λ (b : Bool). if b then Some n else first_from (n + 1) p xs) is) ∙ e) in
+        let low = rest.0 in
+        let high = rest.1 in (omega (arith, low), omega (arith, high))
+
+-- the circuit that is too wide is one
+pub first_within : (p : Circuit → Bool) (xs : List Circuit) (k : ℕ) → first_of p xs ≡ Some k → k < length xs
+first_within p xs k e = let h = (within_from 0 p xs k e).1 in omega (arith, h)
+
+-- a comparison of what the rules say is compared
+pub report_as : (d : Linked) (r : Rules) (near far layout schematic : Netlist) (top : ℕ) (bad : List BadGate) (text : List ℕ) (pairs : ℕ) (v : Verdict) → compared_of r layout ≡ near → compared_of r schematic ≡ far
+    → IsReportFile d r near top bad far text pairs v → IsReportFile d r (compared_of r layout) top bad (compared_of r schematic) text pairs v
+report_as d r near far layout schematic top bad text pairs v e f h =
+    subst (λ (n : Netlist). IsReportFile d r (compared_of r layout) top bad n text pairs v) (sym f) (subst (λ (n : Netlist). IsReportFile d r n top bad far text pairs v) (sym e) h)
+
+pub not_merged_of : (l : Layout) (r : Rules) (schematic netlist : Netlist) (top : ℕ) (bad : List BadGate) (spelled : List ℕ) → IsNetlistFile l r netlist top bad spelled → r.combine ≡ true → (a : Answer) → NotNarrow netlist schematic a
+    → NotMerged l r schematic a
+not_merged_of l r schematic netlist top bad spelled file on NoMemory h = tt
+not_merged_of l r schematic netlist top bad spelled file on a h = record {
+  netlist = netlist;
+  top = top;
+  bad = bad;
+  spelled = spelled;
+  netlist_file = file;
+  refused = ap₂ merge_refusal (wide_so r netlist on) (wide_so r schematic on) ∙ h;
+}

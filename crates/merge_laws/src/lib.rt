@@ -1,0 +1,28 @@
+//! Netlists in which each class of alike transistors is one: definitions and laws.
+//!
+//! The definitions stand in `specs/`: `Merge` has alike transistors and merged flat netlists,
+//! `Grouped` a circuit's groups of alike transistors and the circuit in which each is one. No code
+//! runs here; each law is the contract of a function with an empty body.
+#![tactic(auto)]
+
+ghost use Rattle.merge_laws.specs.Grouped.{AlikeLaw, AlikeBackLaw, UnlikeLaw, MergedSameLaw};
+ghost use Rattle.merge_laws.specs.Grouped.{MergedExpandsLaw, NormalMergedLaw, SoundMergedLaw};
+
+/// Flat netlists that are the same stay so when merged.
+pub fn merged_flats()
+    ensures { MergedSameLaw }
+{}
+
+/// In a circuit where each group of alike transistors is one, no two are alike.
+pub fn merging()
+    ensures alike { AlikeLaw }
+    ensures alike_back { AlikeBackLaw }
+    ensures unlike { UnlikeLaw }
+    ensures sound { SoundMergedLaw }
+    ensures normal { NormalMergedLaw }
+{}
+
+/// What such circuits expand to is, when merged, what the given ones expand to, when merged.
+pub fn merged_expansions()
+    ensures { MergedExpandsLaw }
+{}

@@ -1,0 +1,78 @@
+-- A line of a netlist as netlisters write it, made a line of the profile: the comment at its end is
+-- left out, a backslash stands for itself, and what stands in quotes behind `=` is one word.
+use Rattle.std.specs.Prelude.{ℕ, Bool, true, false, ◌==◌, ◌&&◌, ◌||◌, List, [], ◌∷◌, ◌++◌}
+use Rattle.std.specs.Prelude.{Option, Some, None, if◌then◌else◌}
+use Rattle.spice_cards.specs.Tokens.{is_blank}
+use Rattle.netlist_lines.specs.declared.cleaning.At.{At}
+use Rattle.netlist_lines.specs.declared.cleaning.At.TheVariants.{Before, Value, Within, Escaped, Quoted}
+
+-- ' or "
+abbrev pub is_quote : ℕ → Bool
+is_quote b = b == 0x27 || b == 0x22
+
+-- a byte of an escaped name: a backslash and `=` stand behind a backslash
+abbrev pub spelled : ℕ → List ℕ
+spelled b = if (b == 0x5C || b == 0x3D) then 0x5C ∷ b ∷ [] else b ∷ []
+
+-- what a byte becomes, and where the reading stands behind it
+pub record Step : Type 0 where
+  pub text : List ℕ
+  pub at : At
+
+-- a blank and `=` end a word; from a backslash on to its end the word is an escaped name
+abbrev pub in_word : ℕ → Step
+in_word b =
+    if is_blank b then record { text = b ∷ []; at = Before }
+    else if b == 0x3D then record { text = b ∷ []; at = Value }
+    else if b == 0x5C then record { text = spelled b; at = Escaped }
+    else record { text = b ∷ []; at = Within }
+
+-- behind `=`, a quote begins a text, whose blanks are left out
+abbrev pub step : At → ℕ → Step
+step Before b = in_word b
+step Within b = in_word b
+step Value b =
+    if is_blank b then record { text = b ∷ []; at = Value }
+    else if is_quote b then record { text = b ∷ []; at = Quoted b }
+    else in_word b
+step Escaped b =
+    if is_blank b then record { text = b ∷ []; at = Before }
+    else record { text = spelled b; at = Escaped }
+step (Quoted q) b =
+    if is_blank b then record { text = []; at = Quoted q }
+    else if b == q then record { text = b ∷ []; at = Within }
+    else record { text = spelled b; at = Quoted q }
+
+-- a blank or the line's end
+abbrev pub ends_word : List ℕ → Bool
+ends_word [] = true
+ends_word (b ∷ bytes) = is_blank b
+
+-- the first byte is a blank
+abbrev pub begins_blank : List ℕ → Bool
+begins_blank [] = false
+begins_blank (b ∷ bytes) = is_blank b
+
+-- before a word, `;` begins a comment, and `$` where it stands alone
+abbrev pub begins_comment : At → ℕ → List ℕ → Bool
+begins_comment Before b behind = b == 0x3B || (b == 0x24 && ends_word behind)
+begins_comment Value b behind = b == 0x3B || (b == 0x24 && ends_word behind)
+begins_comment at b behind = false
+
+-- what was made of a line so far becomes this with its rest, none where quotes don't end
+abbrev pub cleaned : List ℕ → At → List ℕ → Option (List ℕ)
+cleaned made (Quoted q) [] = None
+cleaned made at [] = Some made
+cleaned made at (b ∷ bytes) =
+    if begins_comment at b bytes then Some made
+    else cleaned (made ++ (step at b).text) (step at b).at bytes
+
+-- a text with what a line becomes behind it, none where quotes don't end: blanks before the line's
+-- first word are left out, and all of a line whose first word begins with `*`
+abbrev pub with_line : List ℕ → List ℕ → Option (List ℕ)
+with_line text [] = Some text
+with_line text (b ∷ bytes) =
+    if is_blank b then with_line text bytes
+    else if b == 0x2A then Some text
+    else if b == 0x2B then cleaned (text ++ b ∷ []) Before bytes
+    else cleaned text Before (b ∷ bytes)

@@ -1,0 +1,6 @@
+//! Lines of netlists as netlisters write them, made lines of the profile.
+#![tactic(auto)]
+
+mod cleaning;
+
+pub use cleaning::clean_line;

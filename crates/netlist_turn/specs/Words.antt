@@ -1,0 +1,85 @@
+-- The words of cards as netlisters write them: which row a first word has, which words say nothing,
+-- which parameters are kept.
+use Rattle.std.specs.Prelude.{ℕ, ◌-◌, Bool, true, false, ◌==◌, ◌&&◌, ◌||◌, not, nat_lt, List, [], ◌∷◌}
+use Rattle.std.specs.Prelude.{length, slice_index, slice_range, Option, Some, None}
+use Rattle.std.specs.Prelude.{codes, if◌then◌else◌}
+use Rattle.std.specs.List.{list_any}
+use Rattle.std.specs.Str.{bytes_eq}
+use Rattle.netlist_lines.specs.Cleaning.{is_quote}
+use Rattle.spice_rows.specs.Names.{is_text}
+use Rattle.spice_rows.specs.Params.{is_device_key}
+use Rattle.spice_rows.specs.Rows.{begin}
+use Rattle.netlist_turn.specs.declared.rows.Row.{Row}
+use Rattle.netlist_turn.specs.declared.rows.Row.TheVariants.{Device, Call, Opening, Ending, Plain}
+use Rattle.netlist_turn.specs.declared.rows.Row.TheVariants.{Passed, Capacitor, Resistor, Unknown}
+use Rattle.netlist_turn.specs.declared.made.Kind.{Kind}
+use Rattle.netlist_turn.specs.declared.made.Kind.TheVariants.{Slash, Params}
+
+-- a backslash stands in the word
+abbrev pub has_escape : List ℕ → Bool
+has_escape word = list_any (λ b. b == 0x5C) word
+
+-- a first word of cards that say nothing of the netlist, or that were done with before
+abbrev pub is_passed_word : List ℕ → Bool
+is_passed_word w =
+    is_text (codes ".PARAM") w || is_text (codes ".INCLUDE") w || is_text (codes ".INC") w
+    || is_text (codes ".LIB") w || is_text (codes ".ENDL") w || is_text (codes ".MODEL") w
+    || is_text (codes ".OPTION") w || is_text (codes ".OPTIONS") w || is_text (codes ".TEMP") w
+    || is_text (codes ".END") w
+
+-- M, X, C and R at the beginning, or a whole word
+abbrev pub row_of : List ℕ → Row
+row_of first =
+    if begin first == 0x4D then Device
+    else if begin first == 0x58 then Call
+    else if begin first == 0x43 then Capacitor
+    else if begin first == 0x52 then Resistor
+    else if is_text (codes ".SUBCKT") first then Opening
+    else if is_text (codes ".ENDS") first then Ending
+    else if is_text (codes ".GLOBAL") first then Plain
+    else if is_passed_word first then Passed
+    else Unknown
+
+abbrev pub is_params : List ℕ → Bool
+is_params w = is_text (codes "PARAMS:") w
+
+-- a circuit's name stands here: one word, or one and `PARAMS:`
+abbrev pub is_circuit_end : List (List ℕ) → Bool
+is_circuit_end [] = false
+is_circuit_end (n ∷ []) = not (is_params n)
+is_circuit_end (n ∷ p ∷ []) = is_params p
+is_circuit_end (n ∷ p ∷ q ∷ ws) = false
+
+abbrev pub is_none : List (List ℕ) → Bool
+is_none [] = true
+is_none (w ∷ ws) = false
+
+-- a word that says nothing: `PARAMS:` behind the words of a call or of a circuit's begin, and `/`
+-- before the name of a called circuit
+abbrev pub left_out : Row → List ℕ → List (List ℕ) → Option Kind
+left_out Call w behind =
+    if is_params w && is_none behind then Some Params
+    else if bytes_eq w (codes "/") && is_circuit_end behind then Some Slash
+    else None
+left_out Opening w behind = if is_params w && is_none behind then Some Params else None
+left_out row w behind = None
+
+-- a parameter that says something, or that the reader passes over
+abbrev pub is_kept_key : Row → List ℕ → Bool
+is_kept_key Device key = is_text (codes "M") key || is_device_key key
+is_kept_key Call key = is_text (codes "M") key
+is_kept_key Opening key = false
+is_kept_key row key = true
+
+-- two equal quotes enclose the value
+abbrev pub is_quoted : List ℕ → Bool
+is_quoted v =
+    nat_lt 1 (length v) && is_quote (slice_index v 0)
+    && slice_index v (length v - 1) == slice_index v 0
+
+abbrev pub unquoted : List ℕ → List ℕ
+unquoted v = if is_quoted v then slice_range v 1 (length v - 1) else v
+
+abbrev pub first_name : List (List ℕ) → List ℕ
+first_name [] = []
+first_name (w ∷ ws) = w

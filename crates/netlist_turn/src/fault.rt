@@ -1,0 +1,32 @@
+//! The first card that can't be turned.
+
+ghost use Rattle.std.specs.Prelude.{◌≡◌};
+ghost use Rattle.netlist_turn.specs.declared.fault.TurnFault.TheVariants.{NoMemory};
+
+use std::alloc::AllocError;
+use thiserror::Error;
+
+/// The first card that can't be turned, with its line, from 1.
+#[derive(Debug, Drop, Error)]
+pub enum TurnFault {
+    #[error("line {0}: a card that can't be taken")]
+    UnknownCard(u64),
+    #[error("line {0}: the card has another form")]
+    BadForm(u64),
+    #[error("line {0}: a circuit's parameter has the name of a .PARAM")]
+    Shadowed(u64),
+    #[error("line {0}: a + with no card before it")]
+    EarlyMore(u64),
+    #[error("line {0}: a second .PARAM of one name")]
+    Twice(u64),
+    #[error("no memory")]
+    NoMemory,
+}
+
+impl From<AllocError> for TurnFault {
+    ghost from_gives = { λ _ e. e ≡ NoMemory };
+
+    fn from(_: AllocError) -> TurnFault {
+        TurnFault::NoMemory
+    }
+}

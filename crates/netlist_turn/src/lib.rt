@@ -1,0 +1,16 @@
+//! Cards of netlists as netlisters write them, made cards of the profile, and what was changed.
+#![tactic(auto)]
+
+mod fault;
+mod made;
+mod rows;
+mod settings;
+mod turn;
+mod words;
+
+pub use fault::TurnFault;
+pub use made::{Kind, Told, Turned, Where};
+pub use rows::{Row, is_param_word, row_of};
+pub use settings::Settings;
+pub use turn::turn_cards;
+pub use words::{folded, is_params, is_text, unquoted};

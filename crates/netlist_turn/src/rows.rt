@@ -1,0 +1,150 @@
+//! Which kind of card a first word begins, and which of its words and parameters say something.
+
+ghost use Rattle.std.specs.Prelude.{◌≡◌};
+ghost use Rattle.spice_cards.specs.Seen.{words_seen};
+ghost use Rattle.spice_rows.specs.Params.{is_device_key};
+ghost use Rattle.spice_rows.specs.Rows.{begin};
+ghost use Rattle.std.specs.Prelude.{codes};
+ghost use Rattle.spice_rows.specs.Names.{is_text};
+ghost use Rattle.netlist_turn.specs.Words.{is_circuit_end, is_kept_key, is_none, is_passed_word};
+ghost use Rattle.netlist_turn.specs.Words.{left_out, row_of};
+
+use crate::made::Kind;
+use crate::words::{folded_byte, is_params, is_text};
+
+/// A kind of card.
+#[derive(Clone, Copy)]
+pub enum Row {
+    Device,
+    Call,
+    /// `.SUBCKT`
+    Opening,
+    /// `.ENDS`
+    Ending,
+    /// `.GLOBAL`
+    Plain,
+    /// A card that says nothing of the netlist, or that was done with before.
+    Passed,
+    Capacitor,
+    Resistor,
+    Unknown,
+}
+
+/// Whether a card begins with `.PARAM`.
+pub fn is_param_word(word: &[u8]) -> bool
+    ensures { result ≡ is_text (codes ".PARAM") word.now }
+{
+    is_text(word, b".PARAM")
+}
+
+fn is_passed_word(word: &[u8]) -> bool
+    ensures { result ≡ is_passed_word word.now }
+{
+    is_param_word(word)
+        || is_text(word, b".INCLUDE")
+        || is_text(word, b".INC")
+        || is_text(word, b".LIB")
+        || is_text(word, b".ENDL")
+        || is_text(word, b".MODEL")
+        || is_text(word, b".OPTION")
+        || is_text(word, b".OPTIONS")
+        || is_text(word, b".TEMP")
+        || is_text(word, b".END")
+}
+
+fn begin(word: &[u8]) -> u8
+    ensures { result ≡ begin word.now }
+{
+    folded_byte(if word.is_empty() { 0 } else { word[0] })
+}
+
+/// The kind of card that a first word begins.
+pub fn row_of(first: &[u8]) -> Row
+    ensures { result ≡ row_of first.now }
+{
+    if begin(first) == b'M' {
+        return Row::Device;
+    }
+    if begin(first) == b'X' {
+        return Row::Call;
+    }
+    if begin(first) == b'C' {
+        return Row::Capacitor;
+    }
+    if begin(first) == b'R' {
+        return Row::Resistor;
+    }
+    if is_text(first, b".SUBCKT") {
+        return Row::Opening;
+    }
+    if is_text(first, b".ENDS") {
+        return Row::Ending;
+    }
+    if is_text(first, b".GLOBAL") {
+        return Row::Plain;
+    }
+    if is_passed_word(first) {
+        return Row::Passed;
+    }
+    Row::Unknown
+}
+
+fn is_circuit_end(words: &[&[u8]]) -> bool
+    ensures { result ≡ is_circuit_end (words_seen words.now) }
+{
+    match words {
+        [n] => !is_params(n),
+        [_, p] => is_params(p),
+        _ => false,
+    }
+}
+
+/// What a word is that says nothing, by the words behind it.
+pub fn left_out(row: Row, word: &[u8], behind: &[&[u8]]) -> Option<Kind>
+    ensures { result ≡ left_out row word.now (words_seen behind.now) }
+{
+    match row {
+        Row::Call => {
+            if is_params(word) && behind.is_empty() {
+                return Some(Kind::Params);
+            }
+            if word == b"/".as_slice() && is_circuit_end(behind) {
+                return Some(Kind::Slash);
+            }
+            None
+        }
+        Row::Opening => {
+            if is_params(word) && behind.is_empty() {
+                return Some(Kind::Params);
+            }
+            None
+        }
+        _ => None,
+    }
+}
+
+fn is_device_key(key: &[u8]) -> bool
+    ensures { result ≡ is_device_key key.now }
+{
+    is_text(key, b"L")
+        || is_text(key, b"W")
+        || is_text(key, b"AS")
+        || is_text(key, b"AD")
+        || is_text(key, b"PS")
+        || is_text(key, b"PD")
+        || is_text(key, b"NRD")
+        || is_text(key, b"NRS")
+        || is_text(key, b"NF")
+}
+
+/// Whether a parameter of this name says something, or is passed over by the profile's reader.
+pub fn is_kept_key(row: Row, key: &[u8]) -> bool
+    ensures { result ≡ is_kept_key row key.now }
+{
+    match row {
+        Row::Device => is_text(key, b"M") || is_device_key(key),
+        Row::Call => is_text(key, b"M"),
+        Row::Opening => false,
+        _ => true,
+    }
+}

@@ -1,0 +1,205 @@
+//! A text's cards, turned one after another.
+
+ghost use Rattle.std.specs.Prelude.{◌≡◌, IfErr, IfOk, OnOk, Ok};
+ghost use Rattle.spice_cards.specs.Seen.{tokens_seen, words_seen, params_seen};
+ghost use Rattle.spice_cards.specs.Parts.{words_of};
+ghost use Rattle.netlist_turn.specs.Made.{is_left as is_left_out};
+ghost use Rattle.netlist_turn.specs.Seen.{seen, SaysFault};
+ghost use Rattle.netlist_turn.specs.Turning.{after, by_fate, card_taken, drops_if, end_fate};
+ghost use Rattle.netlist_turn.specs.Turning.{fate_of, is_opening, is_out, moved, open_fate};
+ghost use Rattle.netlist_turn.specs.Turning.{opened, turned, turning, word_taken};
+
+use crate::fault::TurnFault;
+use crate::made::{Kind, Turned, Where};
+use crate::rows::{Row, row_of};
+use crate::settings::{Settings, has_shadow, is_left};
+use spice_cards::{CardReader, Token, read_params, read_words};
+use std::alloc::{AllocError, Global};
+
+/// What becomes of a card.
+#[derive(Clone, Copy)]
+pub enum Fate {
+    Keeps,
+    Drops,
+    Refuses,
+}
+
+fn is_out(settings: &Settings, at: Where) -> bool
+    ensures { result ≡ is_out settings.now at }
+{
+    match at {
+        Where::Left => true,
+        Where::Outside => !settings.all,
+        Where::Kept => false,
+    }
+}
+
+fn drops_if(drops: bool, fate: Fate) -> Fate
+    ensures { result ≡ drops_if drops fate }
+{
+    if drops { Fate::Drops } else { fate }
+}
+
+fn open_fate(at: Where, left: bool) -> Fate
+    ensures { result ≡ open_fate at left }
+{
+    match at {
+        Where::Outside => drops_if(left, Fate::Keeps),
+        Where::Kept => Fate::Refuses,
+        Where::Left => Fate::Refuses,
+    }
+}
+
+fn end_fate(at: Where) -> Fate
+    ensures { result ≡ end_fate at }
+{
+    match at {
+        Where::Left => Fate::Drops,
+        Where::Outside => Fate::Keeps,
+        Where::Kept => Fate::Keeps,
+    }
+}
+
+fn fate_of(settings: &Settings, at: Where, row: Row, left: bool) -> Fate
+    ensures { result ≡ fate_of settings.now at row left }
+{
+    let out = is_out(settings, at);
+    match row {
+        Row::Device => drops_if(out, Fate::Keeps),
+        Row::Call => drops_if(out, Fate::Keeps),
+        Row::Opening => open_fate(at, left),
+        Row::Ending => end_fate(at),
+        Row::Plain => Fate::Keeps,
+        Row::Passed => Fate::Drops,
+        Row::Capacitor => drops_if(out || settings.capacitors, Fate::Refuses),
+        Row::Resistor => drops_if(out || settings.resistors, Fate::Refuses),
+        Row::Unknown => drops_if(out, Fate::Refuses),
+    }
+}
+
+fn after(at: Where, row: Row, left: bool) -> Where
+    ensures { result ≡ after at row left }
+{
+    match row {
+        Row::Opening => { if left { Where::Left } else { Where::Kept } }
+        Row::Ending => Where::Outside,
+        _ => at,
+    }
+}
+
+fn is_opening(row: Row) -> bool
+    ensures { result ≡ is_opening row }
+{
+    matches!(row, Row::Opening)
+}
+
+// Does with a card what its fate says.
+fn take_by_fate<'a>(
+    alloc: Global,
+    settings: &Settings,
+    made: &mut Turned<'a>,
+    line: u64,
+    row: Row,
+    first: &'a [u8],
+    behind: &[Token<'a>],
+    fate: Fate,
+) -> Result<(), TurnFault>
+    ensures made { OnOk result (by_fate settings.now row (seen made.old) line first.now
+        (tokens_seen behind.now) fate ≡ Ok (seen made.new)) }
+    ensures fault { IfErr result (λ e. SaysFault e (by_fate settings.now row (seen made.old) line
+        first.now (tokens_seen behind.now) fate)) }
+{
+    match fate {
+        Fate::Refuses => Err(TurnFault::UnknownCard(line)),
+        Fate::Drops => {
+            made.tell(line, Kind::Card, first)?;
+            Ok(())
+        }
+        Fate::Keeps => {
+            let mut words = Vec::new(alloc);
+            let mut params = Vec::new(alloc);
+            let rest = read_words(&mut words, behind)?;
+            if !read_params(&mut params, rest)? {
+                return Err(TurnFault::BadForm(line));
+            }
+            if is_opening(row) && has_shadow(alloc, settings, &params)? {
+                return Err(TurnFault::Shadowed(line));
+            }
+            made.push_card(alloc, settings, row, line, first, &words, &params)?;
+            Ok(())
+        }
+    }
+}
+
+// Whether a circuit that these tokens name is left out.
+fn left_of(alloc: Global, settings: &Settings, tokens: &[Token]) -> Result<bool, AllocError>
+    ensures { IfOk result (λ b. b ≡ is_left_out settings.now (words_of (tokens_seen tokens.now))) }
+{
+    let mut words = Vec::new(alloc);
+    let _rest = read_words(&mut words, tokens)?;
+    is_left(alloc, settings, &words)
+}
+
+// Takes a card of this first word and the tokens behind it.
+fn take_word<'a>(
+    alloc: Global,
+    settings: &Settings,
+    made: &mut Turned<'a>,
+    line: u64,
+    first: &'a [u8],
+    behind: &[Token<'a>],
+) -> Result<(), TurnFault>
+    ensures made { OnOk result (word_taken settings.now (seen made.old) line first.now
+        (tokens_seen behind.now) ≡ Ok (seen made.new)) }
+    ensures fault { IfErr result (λ e. SaysFault e (word_taken settings.now (seen made.old) line
+        first.now (tokens_seen behind.now))) }
+{
+    let row = row_of(first);
+    let left = left_of(alloc, settings, behind)?;
+    let fate = fate_of(settings, made.at, row, left);
+    made.at = after(made.at, row, left);
+    take_by_fate(alloc, settings, made, line, row, first, behind, fate)
+}
+
+// Takes a card.
+fn take_card<'a>(
+    alloc: Global,
+    settings: &Settings,
+    made: &mut Turned<'a>,
+    line: u64,
+    tokens: &[Token<'a>],
+) -> Result<(), TurnFault>
+    ensures made { OnOk result (card_taken settings.now (seen made.old) line
+        (tokens_seen tokens.now) ≡ Ok (seen made.new)) }
+    ensures fault { IfErr result (λ e. SaysFault e (card_taken settings.now (seen made.old) line
+        (tokens_seen tokens.now))) }
+{
+    match tokens {
+        [Token::Word(first), behind @ ..] => {
+            take_word(alloc, settings, made, line, *first, behind)
+        }
+        _ => Err(TurnFault::UnknownCard(line)),
+    }
+}
+
+/// What becomes of a text's cards, or the first that can't be turned. Linear in the text; one card
+/// at a time is held beside what is made.
+pub fn turn_cards<'a>(
+    alloc: Global,
+    settings: &Settings,
+    bytes: &'a [u8],
+) -> Result<Turned<'a>, TurnFault>
+    ensures made { IfOk result (λ t. turned settings.now bytes.now ≡ Ok (seen t)) }
+    ensures fault { IfErr result (λ e. SaysFault e (turned settings.now bytes.now)) }
+{
+    let mut cards = match CardReader::new(bytes) {
+        Ok(cards) => cards,
+        Err(line) => return Err(TurnFault::EarlyMore(line)),
+    };
+    let mut made = Turned::new(alloc);
+    let mut tokens = Vec::new(alloc);
+    'cards: while let Some(line) = cards.next(&mut tokens)? {
+        take_card(alloc, settings, &mut made, line, &tokens)?;
+    }
+    Ok(made)
+}

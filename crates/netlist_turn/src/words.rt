@@ -1,0 +1,83 @@
+//! Words folded, compared and taken out of quotes.
+
+ghost use Rattle.std.specs.Prelude.{◌≡◌, ◌==◌, IfOk};
+ghost use Rattle.std.specs.List.{list_any};
+ghost use Rattle.net_names.specs.Folding.{folded_byte, folded_bytes};
+ghost use Rattle.netlist_lines.specs.Cleaning.{is_quote};
+ghost use Rattle.spice_rows.specs.Names.{is_text};
+ghost use Rattle.netlist_turn.specs.Words.{has_escape, is_params, is_quoted, unquoted};
+
+use std::alloc::{AllocError, Global};
+
+/// A byte with a to z made A to Z.
+pub fn folded_byte(b: u8) -> u8
+    ensures { result ≡ folded_byte b }
+{
+    match b {
+        b'a'..=b'z' => b - 32,
+        _ => b,
+    }
+}
+
+/// A word with a to z made A to Z.
+pub fn folded(alloc: Global, word: &[u8]) -> Result<Vec<u8>, AllocError>
+    ensures { IfOk result (λ w. w.items ≡ folded_bytes word.now) }
+{
+    word.iter().map(|b| folded_byte(*b)).collect(alloc)
+}
+
+/// Whether a word, folded, is this text.
+pub fn is_text(word: &[u8], text: &[u8]) -> bool
+    ensures { result ≡ is_text text.now word.now }
+{
+    let mut left = word;
+    let mut right = text;
+    'bytes: while let [b, more @ ..] = left {
+        let [c, rest @ ..] = right else {
+            return false;
+        };
+        if folded_byte(*b) != *c {
+            return false;
+        }
+        left = more;
+        right = rest;
+    }
+    right.is_empty()
+}
+
+/// Whether a backslash stands in the word.
+pub fn has_escape(word: &[u8]) -> bool
+    ensures { result ≡ has_escape word.now }
+{
+    word.iter().any(|b| *b == b'\\')
+}
+
+/// Whether the word is `PARAMS:`.
+pub fn is_params(word: &[u8]) -> bool
+    ensures { result ≡ is_params word.now }
+{
+    is_text(word, b"PARAMS:")
+}
+
+fn is_quote(b: u8) -> bool
+    ensures { result ≡ is_quote b }
+{
+    b == b'\'' || b == b'"'
+}
+
+fn is_quoted(value: &[u8]) -> bool
+    ensures { result ≡ is_quoted value.now }
+{
+    value.len() > 1 && is_quote(value[0]) && value[value.len() - 1] == value[0]
+}
+
+/// A value without the quotes round it.
+pub fn unquoted(value: &[u8]) -> &[u8]
+    ensures { result.now ≡ unquoted value.now }
+{
+    if is_quoted(value) && value.len() > 1 {
+        &value[1..value.len() - 1]
+    } else {
+        value
+    }
+}

@@ -1,0 +1,36 @@
+use Rattle.std.proofs.Common.{◌≡◌, Some, arith, length, slice_get, slice_index_or, subst}
+use Rattle.std.proofs.Math.Decide.{ℕ_discrete}
+use Rattle.std.proofs.lemmas.Option.{slice_get-get_or}
+use Rattle.zone_phase.specs.declared.uses.Use.{Use}
+use Rattle.zone_phase.specs.Neighbours.{AreAllNear, IsNearUse}
+use Rattle.zone_phase.proofs.Using.{one_use}
+use Rattle.zone_phase.proofs.neighbours.find_neighbours.Goals as goal
+
+abbrev no_use : Use
+no_use = record { job = 0; index = 0 }
+
+pub push_use-requires-clause-use_of : goal.push_use-requires-clause-use_of
+push_use-requires-clause-use_of c = c.requires.uses.each c.loop-found.found-index _ (slice_get-get_or c.args.uses.now c.loop-found.found-index no_use c.loop-found-test.true)
+
+pub push_use-requires-clause-found : goal.push_use-requires-clause-found
+push_use-requires-clause-found c = (c.loop-found.found-index, slice_get-get_or c.args.uses.now c.loop-found.found-index no_use c.loop-found-test.true)
+
+pub loop-found-preserved : goal.loop-found-preserved
+loop-found-preserved c =
+    let d = c.args.design.now in let uses = c.args.uses.now in let i = c.loop-found.found-index in
+    let at = slice_get-get_or uses i no_use c.loop-found-test.true in
+    let e = c.in_ok-push_use.ensures in
+    record {
+      each = e.each;
+      all = λ k u lt there. elim (ℕ_discrete k i) [
+        | yes here ↦
+            subst (λ (x : Use). IsNearUse d c.args.grown.now x c.push_use.new.memo.list.items)
+            (one_use (slice_get uses i) (slice_index_or uses i no_use) u at (subst (λ j. slice_get uses j ≡ Some u) here there)) e.all
+        | no not ↦ λ p placed apart key q inner t. e.more key q (c.loop-found.invariant.all k u (omega (arith, lt, not)) there p placed apart key q inner t)
+      ];
+    }
+
+pub returns-clause-all : goal.returns-clause-all
+returns-clause-all c =
+    let end : c.loop-found.found-index ≡ length c.args.uses.now = (let a = c.loop-found-test.false in let b = c.loop-found.auto.found-index-end in omega arith) in
+    subst (λ n. AreAllNear c.args.design.now c.args.grown.now c.args.uses.now n c.loop-found.memo.list.items) end c.loop-found.invariant.all

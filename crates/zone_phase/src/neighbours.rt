@@ -1,0 +1,243 @@
+//! What lies beside the placements of a cell: each way in which another placement lies there, once.
+ghost use Rattle.std.specs.Prelude.{◌≡◌, ◌↔◌, ◌<◌, ◌^◌, ℕ, true, [], length, Some, OnOk, IfOk};
+ghost use Rattle.std.specs.Prelude.{slice_get};
+ghost use Rattle.geo_base.specs.Near.{IsNearMotion};
+ghost use Rattle.cell_graph.specs.Linked.{IsFrame, cell_at, hull_of, places_at};
+ghost use Rattle.deep_tables.specs.Entries.{downward_cell};
+ghost use Rattle.deep_tables.specs.Frames.{IsInGrown};
+ghost use Rattle.zone_phase.specs.Neighbours.{AreAllNear, AreNear, AreNeighbours, BringsMore};
+ghost use Rattle.zone_phase.specs.Neighbours.{IsAllNear, IsAlone, IsKnown, IsNearUse, IsPut};
+ghost use Rattle.zone_phase.specs.Neighbours.{IsRelative, Listed, alone};
+ghost use Rattle.zone_phase.specs.Uses.{AreUsesOf, IsUse};
+ghost use Rattle.cell_context.specs.Arrays.{IsNearArray};
+
+use crate::uses::Use;
+use crate::windows::{element_rect, grown};
+use cell_context::{Visit, motion_at, visits};
+use cell_graph::{Design, Place};
+use geo_base::{Motion, Point, Rect, Turn};
+use std::alloc::{AllocError, Global};
+use std::collections::HashMap;
+
+/// A placement, another of the same parent that comes near it, and how the other lies as it is seen
+/// from the first.
+#[derive(Clone, Copy, Debug)]
+pub struct Neighbour {
+    pub place: Place,
+    pub other: Place,
+    pub relative: Motion,
+}
+
+/// Neighbours that lie differently, and the position of each by how it lies.
+#[derive(Drop)]
+pub struct Neighbours {
+    pub list: Vec<Neighbour>,
+    pub positions: HashMap<(u32, u8, i64, i64), usize>,
+}
+
+/// Whether a reference is of one placement.
+pub fn is_alone(place: &Place) -> bool
+    ensures { (result ≡ true) ↔ IsAlone place.now }
+{
+    place.rows == 1 && place.columns == 1
+}
+
+// The first motion as it is seen from where the other leads: followed by the other it is the first.
+fn relative(one: &Motion, other: &Motion) -> Motion
+    requires near { IsNearMotion one.now }
+    requires near_other { IsNearMotion other.now }
+    ensures { IsRelative one.now other.now result }
+{
+    one.then(&other.inverse())
+}
+
+// A reference of one placement.
+fn alone(cell: u32, motion: Motion) -> Place
+    ensures { result ≡ alone cell motion }
+{
+    Place {
+        cell,
+        motion,
+        columns: 1,
+        rows: 1,
+        column_step: Point { x: 0, y: 0 },
+        row_step: Point { x: 0, y: 0 },
+    }
+}
+
+fn turn_number(turn: Turn) -> u8 {
+    match turn {
+        Turn::R0 => 0,
+        Turn::R90 => 1,
+        Turn::R180 => 2,
+        Turn::R270 => 3,
+        Turn::M0 => 4,
+        Turn::M90 => 5,
+        Turn::M180 => 6,
+        Turn::M270 => 7,
+    }
+}
+
+// Whether a neighbour is of the cell and lies so.
+fn is_alike(known: &Neighbour, cell: u32, relative: &Motion) -> bool
+    ensures { result ≡ true → (known.now.other.cell ≡ cell) × (known.now.relative ≡ relative.now) }
+{
+    if known.other.cell != cell {
+        return false;
+    }
+    known.relative == *relative
+}
+
+// Whether the neighbour at a position is of the cell and lies so.
+fn lies_so(list: &[Neighbour], position: usize, cell: u32, relative: &Motion) -> bool
+    ensures { result ≡ true → IsKnown list.now cell relative.now }
+{
+    match list.get(position) {
+        None => false,
+        Some(known) => is_alike(known, cell, relative),
+    }
+}
+
+// Whether a neighbour of the cell is known that lies so.
+fn is_known(memo: &Neighbours, cell: u32, relative: &Motion) -> bool
+    ensures { result ≡ true → IsKnown memo.now.list.items cell relative.now }
+{
+    let key = (cell, turn_number(relative.turn), relative.dx, relative.dy);
+    match memo.positions.get(&key) {
+        None => false,
+        Some(position) => lies_so(&memo.list, *position, cell, relative),
+    }
+}
+
+// Adds what is visited near a placement, unless one is known that lies alike.
+fn push_neighbour(memo: &mut Neighbours, place: &Place, visit: &Visit) -> Result<(), AllocError>
+    requires near { IsNearArray place.now }
+    requires alone { IsAlone place.now }
+    requires motion { IsNearMotion visit.now.motion }
+    ensures { OnOk result (IsPut place.now visit.now memo.old.list.items memo.new.list.items) }
+{
+    let from = motion_at(place, 0, 0);
+    let lies = relative(&visit.motion, &from);
+    if is_known(memo, visit.cell, &lies) {
+        return Ok(());
+    }
+    let key = (visit.cell, turn_number(lies.turn), lies.dx, lies.dy);
+    let position = memo.list.len();
+    memo.positions.insert(key, position)?;
+    memo.list.push(Neighbour {
+        place: *place,
+        other: alone(visit.cell, visit.motion),
+        relative: lies,
+    })?;
+    Ok(())
+}
+
+// Adds the neighbours of a placement at a use.
+fn push_around(
+    alloc: Global,
+    memo: &mut Neighbours,
+    design: &Design,
+    uses: &[Use],
+    found: &Use,
+    parent: u32,
+    place: &Place,
+    grown: &Rect,
+) -> Result<(), AllocError>
+    requires found { Listed uses.now found.now }
+    requires parent { parent ≡ downward_cell design.now found.now.job }
+    requires there { slice_get (places_at (cell_at design.now parent)) found.now.index
+        ≡ Some place.now }
+    requires inside { parent < length design.now.cells }
+    requires alone { IsAlone place.now }
+    requires grown { IsFrame grown.now }
+    requires each { AreNeighbours design.now uses.now memo.old.list.items }
+    ensures each { OnOk result (AreNeighbours design.now uses.now memo.new.list.items) }
+    ensures more { OnOk result (BringsMore design.now memo.old.list.items memo.new.list.items) }
+    ensures all { OnOk result (IsAllNear design.now grown.now parent found.now.index place.now
+        memo.new.list.items) }
+{
+    let _ = uses;
+    design.sound();
+    let window = element_rect(place, 0, 0, grown);
+    for visit in &visits(alloc, design, parent, &window, Some(found.index))? {
+        push_neighbour(memo, place, visit)?;
+    }
+    Ok(())
+}
+
+// Adds the neighbours at a use, where it is of one placement.
+fn push_use(
+    alloc: Global,
+    memo: &mut Neighbours,
+    design: &Design,
+    uses: &[Use],
+    found: &Use,
+    cell: u32,
+    grown: &Rect,
+) -> Result<(), AllocError>
+    requires use_of { IsUse design.now cell found.now }
+    requires found { Listed uses.now found.now }
+    requires grown { IsFrame grown.now }
+    requires each { AreNeighbours design.now uses.now memo.old.list.items }
+    ensures each { OnOk result (AreNeighbours design.now uses.now memo.new.list.items) }
+    ensures more { OnOk result (BringsMore design.now memo.old.list.items memo.new.list.items) }
+    ensures all { OnOk result (IsNearUse design.now grown.now found.now memo.new.list.items) }
+{
+    let _ = cell;
+    design.sound();
+    let order = design.order();
+    let parent = order[order.len() - 1 - found.job as usize];
+    let place = &design.places(parent)[found.index];
+    if !is_alone(place) {
+        return Ok(());
+    }
+    push_around(alloc, memo, design, uses, found, parent, place, grown)?;
+    Ok(())
+}
+
+// The neighbours at all uses of a cell.
+fn find_neighbours(
+    alloc: Global,
+    design: &Design,
+    uses: &[Use],
+    cell: u32,
+    grown: &Rect,
+) -> Result<Vec<Neighbour>, AllocError>
+    requires uses { AreUsesOf design.now cell uses.now }
+    requires grown { IsFrame grown.now }
+    ensures each { IfOk result (λ v. AreNeighbours design.now uses.now v.items) }
+    ensures all { IfOk result (λ v. AreAllNear design.now grown.now uses.now (length uses.now)
+        v.items) }
+{
+    let mut memo = Neighbours {
+        list: Vec::new(alloc),
+        positions: HashMap::new(alloc),
+    };
+    for found in uses {
+        push_use(alloc, &mut memo, design, uses, found, cell, grown)?;
+    }
+    let Neighbours { list, .. } = memo;
+    Ok(list)
+}
+
+/// The neighbours of the placements of a cell, of references of one placement each: one window of
+/// the parent for each, and of those that lie alike one.
+pub fn neighbours_of(
+    alloc: Global,
+    design: &Design,
+    uses: &[Use],
+    cell: u32,
+) -> Result<Vec<Neighbour>, AllocError>
+    requires cell { cell < length design.now.cells }
+    requires uses { AreUsesOf design.now cell uses.now }
+    ensures { IfOk result (λ v. AreNear design.now cell uses.now v.items) }
+{
+    design.sound();
+    match design.hull(cell) {
+        Some(hull) => {
+            let list = find_neighbours(alloc, design, uses, cell, &grown(&hull))?;
+            Ok(list)
+        }
+        None => Ok(Vec::new(alloc)),
+    }
+}
