@@ -44,7 +44,19 @@ fn push_step(alloc: Global, out: &mut Vec<u8>, step: Step) -> Result<(), AllocEr
     Ok(())
 }
 
-fn push_row(
+/// Appends the step from a corner to a rectangle, its width and its height.
+pub fn push_box(alloc: Global, out: &mut Vec<u8>, from: Point, r: &Rect) -> Result<(), AllocError>
+    requires x { IsSmall from.x }
+    requires y { IsSmall from.y }
+    requires rect { IsSmallRect r.now }
+    ensures { OnOk result (out.new.items ≡ out.old.items ++ step_text (step_to from r.now)) }
+{
+    let step = step_to(from, r);
+    push_step(alloc, out, step)
+}
+
+/// Appends the row of a rectangle of a layer, by the step from a corner.
+pub fn push_rect(
     alloc: Global,
     out: &mut Vec<u8>,
     layer: &[u8],
@@ -57,16 +69,16 @@ fn push_row(
     ensures { OnOk result (out.new.items ≡ out.old.items
         ++ step_row layer.now (step_to from r.now)) }
 {
-    let step = step_to(from, r);
     out.extend_from_slice(b"\n   R(")?;
     push_word(out, layer)?;
     out.push(b' ')?;
-    push_step(alloc, out, step)?;
+    push_box(alloc, out, from, r)?;
     out.push(b')')?;
     Ok(())
 }
 
-fn upper_right(r: &Rect) -> Point
+/// The corner from which the step to the rectangle behind this one goes.
+pub fn upper_right(r: &Rect) -> Point
     ensures { result ≡ upper_right r.now }
 {
     Point { x: r.x2, y: r.y2 }
@@ -91,7 +103,7 @@ pub fn push_rects(
     let mut corner = from;
     let mut rest = rects;
     'rects: while let [r, more @ ..] = rest {
-        push_row(alloc, out, layer, corner, r)?;
+        push_rect(alloc, out, layer, corner, r)?;
         corner = upper_right(r);
         rest = more;
     }
