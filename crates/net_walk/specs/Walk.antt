@@ -20,8 +20,8 @@ place_of e = record { cell = e.cell; motion = e.motion }
 
 -- its shift is so small that a hull's image is near the origin still
 pub record IsClose (m : Motion) : Type 0 where
-  pub dx : IsWithin (2 ^ 38) m.dx
-  pub dy : IsWithin (2 ^ 38) m.dy
+  pub dx : IsWithin (2 ^ 39) m.dx
+  pub dy : IsWithin (2 ^ 39) m.dy
 
 abbrev pub AreClose : List Element → Type 0
 AreClose [] = Unit {0}
