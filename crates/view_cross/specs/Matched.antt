@@ -1,5 +1,5 @@
 -- The rows of a pair of circuits: each node with its partner, or each alone.
-use Rattle.std.specs.Prelude.{ℕ, zero, suc, ◌+◌, ◌==◌, List, [], ◌∷◌, ◌++◌, Some, None, slice_index}
+use Rattle.std.specs.Prelude.{ℕ, zero, suc, ◌+◌, ◌==◌, List, [], ◌∷◌, ◌++◌, Some, None, get_or}
 use Rattle.std.specs.List.{position_or_len}
 use Rattle.view_cross.specs.declared.rows.Kind.{Kind}
 use Rattle.view_cross.specs.declared.rows.Kind.TheVariants.{Net, Pin, Device, Call}
@@ -20,7 +20,7 @@ pin_on pins net = position_or_len (λ p. p == net) pins
 
 -- pins are partners where their nets are
 abbrev pub pin_row : List ℕ → List ℕ → ℕ → ℕ → Row
-pin_row nets rights k net = partners Pin k (pin_on rights (slice_index nets net))
+pin_row nets rights k net = partners Pin k (pin_on rights (get_or nets net 0))
 
 abbrev pub pin_rows : List ℕ → List ℕ → ℕ → List ℕ → List Row
 pin_rows nets rights k [] = []

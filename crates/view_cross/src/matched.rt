@@ -1,7 +1,6 @@
 //! The rows of a pair of circuits.
 
-ghost use Rattle.std.specs.Prelude.{◌≡◌, ◌<◌, ◌==◌, ◌++◌, ◌∷◌, [], OnOk, IfOk, length};
-ghost use Rattle.std.specs.List.{All};
+ghost use Rattle.std.specs.Prelude.{◌≡◌, ◌++◌, ◌∷◌, [], OnOk, IfOk};
 ghost use Rattle.view_cross.specs.Matched.{left_alone, lone_rows, matched_rows, partner_rows};
 ghost use Rattle.view_cross.specs.Matched.{partners, pin_on, pin_row, pin_rows, right_alone};
 
@@ -59,11 +58,14 @@ fn push_pin(
     k: u32,
     net: u32,
 ) -> Result<(), AllocError>
-    requires { net < length nets.now }
     ensures { OnOk result (out.new.items
         ≡ out.old.items ++ pin_row nets.now rights.now k net ∷ []) }
 {
-    let right = number(pin_on(rights, nets[net as usize]))?;
+    let partner = match nets.get(net as usize) {
+        Some(n) => *n,
+        None => 0,
+    };
+    let right = number(pin_on(rights, partner))?;
     out.push(partners(Kind::Pin, k, right))?;
     Ok(())
 }
@@ -74,7 +76,6 @@ fn push_pins(
     lefts: &[u32],
     rights: &[u32],
 ) -> Result<(), AllocError>
-    requires { All (λ n. n < length nets.now) lefts.now }
     ensures { OnOk result (out.new.items
         ≡ out.old.items ++ pin_rows nets.now rights.now 0 lefts.now) }
 {
@@ -100,7 +101,6 @@ pub fn matched_rows(
     devices: &[u32],
     calls: &[u32],
 ) -> Result<Vec<Row>, AllocError>
-    requires { All (λ n. n < length nets.now) lefts.now }
     ensures { IfOk result (λ rows. rows.items
         ≡ matched_rows nets.now lefts.now rights.now devices.now calls.now) }
 {
