@@ -1,16 +1,10 @@
 -- Over all calls, what is read of a net is what it holds.
-use Rattle.std.proofs.Common.{◌≡◌, ◌⊎◌, inl, inr, ℕ, zero, suc, Bool, true, false, Some, slice_get, refl, sym, subst}
-use Rattle.flat_layout.specs.Layout.{Place, Cell, Design, IsPlaced}
+use Rattle.std.proofs.Common.{◌≡◌, ◌⊎◌, inl, inr, ℕ, zero, suc, Bool, true, false, refl, subst}
+use Rattle.flat_laws.proofs.Paths.{same_place}
+use Rattle.flat_layout.specs.Layout.{Place, Design, IsPlaced}
 use Rattle.flat_layout.specs.Nets.{Item, Own, Child, Global, Tables, IsOf, HoldsAt, ItemHolds, NetHolds}
 use Rattle.flat_layout.specs.Regions.{Node, moved}
 use Rattle.view_laws.specs.Shown.{Called, IsShown, NetShows, ReadsAt, NetReads, ReadLaw}
-
--- a number names one placement
-same_place : (d : Design) (cell k : ℕ) (p r : Place) → IsPlaced d cell k p → IsPlaced d cell k r → p ≡ r
-same_place d cell k p r h g =
-    let same : h.0 ≡ g.0 = cc in
-    let there : slice_get g.0.places k ≡ Some p = subst (λ (c : Cell). slice_get c.places k ≡ Some p) same h.2 in
-    cc
 
 -- what an item at the front of a path holds
 below_holds : (d : Design) (t : Tables) (cell net i k b : ℕ) (p : Place) (m n : Node) → IsOf (t.nets cell) net i (Child k b) → IsPlaced d cell k p
