@@ -1,9 +1,7 @@
 -- Pieces of nets: rectangles with their conductors and nets.
 use Rattle.std.specs.Prelude.{◌≡◌, ◌⊎◌, ◌↔◌, ℕ, ◌+◌, ◌<◌, Bool, List, [], ◌∷◌, Some, slice_get}
-use Rattle.flat_layout.specs.Layout.{Design, Some_of}
-use Rattle.flat_layout.specs.Nets.{NetHolds, Tables}
+use Rattle.flat_layout.specs.Layout.{Some_of}
 use Rattle.flat_layout.specs.Plane.{IsIn}
-use Rattle.flat_layout.specs.Regions.{At}
 use Rattle.geo_base.specs.Motions.{moved_square}
 use Rattle.geo_base.specs.Rects.{IsRect}
 use Rattle.geo_base.specs.declared.motion.Motion.{Motion}
@@ -51,7 +49,3 @@ IsOfOwn own conductor net_of at wanted n c x q =
 abbrev pub IsOfMoved : Motion → List Piece → List ℕ → ℕ → ℕ → ℕ → Square → Type 0
 IsOfMoved motion pieces net_of at c x q = (b : ℕ) × (m : Square) × IsOver pieces c b m
     × (slice_get net_of (at + b) ≡ Some x) × (moved_square motion m ≡ q)
-
--- the wanted nets of the cell hold it
-abbrev pub IsHeldWanted : Design → Tables → ℕ → List Bool → ℕ → ℕ → Square → Type 0
-IsHeldWanted d t cell wanted c x q = IsMarked wanted x × NetHolds d t cell x (At c q)

@@ -4,9 +4,8 @@
 mod moved;
 mod own;
 mod pieces;
+mod shown;
 mod wanted;
 
-pub use moved::push_moved;
-pub use own::push_own;
 pub use pieces::{Piece, ShowFault};
-pub use wanted::wanted_below;
+pub use shown::shown_pieces;

@@ -5,7 +5,7 @@ ghost use Rattle.net_walk.specs.Walk.{HaveArea};
 ghost use Rattle.view_shapes.specs.Pieces.{AddsPieces, IsOfOwn, IsOfOwnAt};
 
 use crate::pieces::{Piece, ShowFault, push_piece};
-use crate::wanted::is_wanted;
+use crate::wanted::is_marked;
 use geo_base::Rect;
 
 fn push_at(
@@ -24,7 +24,7 @@ fn push_at(
         out.old.items out.new.items) }
 {
     let net = net_of[at + r];
-    if is_wanted(wanted, net) {
+    if is_marked(wanted, net) {
         push_piece(out, conductor, net, own[r])?;
         return Ok(());
     }
