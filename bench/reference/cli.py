@@ -3,7 +3,6 @@
 import re
 
 import chip
-import features
 import gds
 import layout
 import report
@@ -198,14 +197,12 @@ def take_schematic(data):
 
 def _refuse_wide(design, rule_set, deep):
     """Refuses layers that the written stream can't hold."""
-    if not features.WIDE:
-        return
     reach = max((rule_set.reach(n) for n, _ in rule_set.outputs), default=0)
     for cell in sorted(design.order):
         hull = design.hulls[cell]
         solid = hull and hull[0] < hull[2] and hull[1] < hull[3]
-        wide = solid and (min(hull[:2]) - reach < -features.REACH
-                          or max(hull[2:]) + reach > features.REACH)
+        wide = solid and (min(hull[:2]) - reach < -layout.REACH
+                          or max(hull[2:]) + reach > layout.REACH)
         for name, _ in rule_set.outputs:
             for rect in deep.views[cell].local_rects[name]:
                 wide = wide or min(rect) < -2 ** 31 or max(rect) > 2 ** 31 - 1

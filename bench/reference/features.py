@@ -3,14 +3,13 @@
 The environment variable LVSREF_FEATURES holds a comma separated list of the words below (or
 `all`).  Without it the reference has the plain rule set.
 
-wide    larger limits, refusal of layers outside 32 bits
 more    resistors and diodes
 sized   `N = A.sized(D)`
 """
 
 import os
 
-KNOWN = ("wide", "more", "sized")
+KNOWN = ("more", "sized")
 
 
 def _chosen():
@@ -25,9 +24,5 @@ def _chosen():
 
 
 ON = _chosen()
-WIDE = "wide" in ON
 MORE = "more" in ON
 SIZED = "sized" in ON
-
-REACH = 1 << 36 if WIDE else 1 << 30
-MAX_CELLS = 65536 if WIDE else 16384

@@ -189,6 +189,9 @@ def generate(seed, command="any", faulty=None):
         model = _rings(rng, maker, rules)
     else:
         maker.make()
+        spread = random.Random("far/%s" % seed)
+        if spread.random() < 0.2:
+            maker.spread(spread)
         (rules.devices if devices else rules.layers)()
     stream, top = maker.stream(), None
     plain = all(32 < b < 127 for b in maker.cells[-1].name)

@@ -17,6 +17,7 @@ ANGLE_WORDS = {0: ["0000000000000000", "43168000" + "00000000", "C3168000" + "00
                3: ["4310E00000000000", "C25A000000000000"]}
 ACTIVE, POLY, WELL, CONTACT, METAL = 2, 3, 1, 4, 5
 MOST_PATHS = 40
+FAR = [2 ** 31 - 2 ** 17, 2 ** 30, 2 ** 30 - 5, 0]     # sums of them pass the border of 32 bits
 
 
 class Draft:
@@ -25,6 +26,7 @@ class Draft:
     def __init__(self, name):
         self.name, self.shapes, self.texts, self.refs = name, [], [], []
         self.extra = []         # whole elements
+        self.far = (0, 0)       # added to the places of single references
         self.paths = 1
 
 
@@ -171,6 +173,12 @@ class Maker:
                                  1, 1, (0, 0), (0, 0)))
         return self.cells
 
+    def spread(self, rng):
+        """Places what most cells place far away."""
+        for cell in self.cells:
+            if rng.random() < 0.8:
+                cell.far = tuple(rng.choice([1, 1, -1]) * rng.choice(FAR) for _ in range(2))
+
     def rings(self, sizes):
         """Rings of transistors beside each other, perhaps one cell further down."""
         rng, x = self.rng, 0
@@ -277,7 +285,7 @@ class Maker:
             out += rec(gds.ANGLE, bytes.fromhex(rng.choice(ANGLE_WORDS[quarters])))
         return out
 
-    def reference(self, ref):
+    def reference(self, ref, far):
         """One reference; a single one may be an array of one."""
         child, mirrored, quarters, at, columns, rows, column_step, row_step = ref
         s = self.scale
@@ -285,7 +293,7 @@ class Maker:
         single = columns == rows == 1
         head = self.flags() + rec(gds.SNAME, child.name) + self.turn(mirrored, quarters)
         if single and self.rng.random() < 0.9:
-            return rec(gds.SREF) + head + xy(at) + self.tail()
+            return rec(gds.SREF) + head + xy((at[0] + far[0], at[1] + far[1])) + self.tail()
         ends = [tuple(at[k] + count * step[k] * s for k in (0, 1))
                 for count, step in ((columns, column_step), (rows, row_step))]
         return rec(gds.AREF) + head + rec(gds.COLROW, short(columns, rows)) + xy(at, *ends) \
@@ -309,7 +317,7 @@ class Maker:
             elements += cell.extra
             elements += [text(layer, kind, (at[0] * s, at[1] * s), string)
                          for layer, kind, at, string in cell.texts]
-            elements += [self.reference(ref) for ref in cell.refs]
+            elements += [self.reference(ref, cell.far) for ref in cell.refs]
             if rng.random() < 0.1:
                 elements.append(rec(gds.NODE) + rec(gds.LAYER, short(1))
                                 + rec(gds.NODETYPE, short(0)) + xy((0, 0)) + rec(gds.ENDEL))

@@ -1,8 +1,10 @@
 """From a library to linked cells: fills, the top, the faults of linking, heights and hulls."""
 
-import features
 import gds
 from squares import Motion, canon
+
+REACH = 1 << 36
+MAX_CELLS = 65536
 
 
 class LinkFault(Exception):
@@ -70,7 +72,7 @@ class Layout:
     def __init__(self, library, top):
         self.library = library
         self.names = [cell.name for cell in library.cells]
-        if len(self.names) > features.MAX_CELLS:
+        if len(self.names) > MAX_CELLS:
             raise LinkFault(26)
         self.number = {}
         for k, name in enumerate(self.names):
@@ -88,7 +90,7 @@ class Layout:
         self.hulls = [None] * len(self.names)
         for k in sorted(range(len(self.names)), key=lambda k: (self.heights[k], k)):
             self.hulls[k] = hull = self._hull(k)
-            if hull and max(map(abs, hull)) > features.REACH:
+            if hull and max(map(abs, hull)) > REACH:
                 raise LinkFault(25, self.names[k])
         reached = self._below(self.top)
         self.order = sorted(reached, key=lambda k: (self.heights[k], k))

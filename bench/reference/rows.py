@@ -247,17 +247,14 @@ def false_records():
 @check
 def limits_of_layouts():
     rules = b"a = input(1, 0)\na.output(10, 0)\n"
-    edge = features.REACH if not features.WIDE else 2147483647
-    data = stream([(b"A", [rect(1, 0, 0, edge, 10)])])
+    data = stream([(b"A", [rect(1, 0, 0, 2147483647, 10)])])
     equal(go(SHAPES, l=data, r=rules)[0], b"shapes cells 1 rectangles 1")
-    if not features.WIDE:
-        refused_layout(stream([(b"A", [rect(1, 0, 0, edge + 1, 10)])]), b"25 cell A", rules)
     chain = [(b"C0", [rect(1, 0, 0, 10, 10)])]
     chain += [(b"C%d" % k, [sref(b"C%d" % (k - 1), (0, 0))]) for k in range(1, 66)]
     equal(go(SHAPES, l=stream(chain[:-1]), r=rules)[0], b"shapes cells 65 rectangles 1")
     refused_layout(stream(chain), b"27 cell C65", rules)
     labelled = b"metal = input(5, 0)\ntxt = labels(5, 1)\nconnect(metal, txt)\n"
-    many = [(b"E%d" % k, []) for k in range(features.MAX_CELLS + 1)]
+    many = [(b"E%d" % k, []) for k in range(layout.MAX_CELLS + 1)]
     line = go(EXTRACT + " --top E0", l=stream(many[:-1]), r=labelled)[0]
     equal(line, b"extracted cells 1 circuits 1 bad 0")
     refused_layout(stream(many), b"26", labelled, EXTRACT + " --top E0")
@@ -265,8 +262,6 @@ def limits_of_layouts():
 
 @check
 def wide_layouts():
-    if not features.WIDE:
-        return
     far, one = 2147483647, b"a = input(1, 0)\na.output(10, 0)\n"
 
     def chain(width):

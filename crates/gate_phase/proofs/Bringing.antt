@@ -46,7 +46,7 @@ pub part_near : (w : Rect) (zone part : List Rect) → IsFrame w → All IsRect 
 part_near w zone part frame some is = λ k r lt.
     let x = slice_index_or part k r in
     let inside = inside_from x w (some k r lt) (λ q e. and_right (covers zone q) (has w q) (sym (is q) ∙ listed_has part x q (listed_get part k r lt) e)) in
-    near_rect x (within_inside (2 ^ 39) x w (some k r lt) inside (wider_rect (2 ^ 31) (2 ^ 39) w (omega arith) frame.near))
+    near_rect x (within_inside (2 ^ 39) x w (some k r lt) inside (wider_rect (2 ^ 37) (2 ^ 39) w (omega arith) frame.near))
 
 -- a cell's own rectangles lie in the plane
 pub own_pieces : (d : Linked) (cell : ℕ) (key : LayerKey) (rects : List Rect) (plane : Rect) → IsSound d → HoldsNear plane → rects ≡ own_of (cell_at d cell) key → All IsRect rects → All (IsPiece plane) rects

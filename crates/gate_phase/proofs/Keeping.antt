@@ -51,7 +51,7 @@ low_in r some = let wide = some.wide in let high = some.high in in_has r (low_sq
 -- a rectangle in a hull is near
 pub held_rect : (o : Option Rect) (r : Rect) → HullIsSound o → IsRect r → ((q : Square) → has r q ≡ true → HullHas o q) → IsRectWithin (2 ^ 39) r
 held_rect None r sound some h = absurd (h (low_square r) (low_in r some))
-held_rect (Some w) r sound some h = within_inside (2 ^ 39) r w some (inside_from r w some h) (wider_rect (2 ^ 30) (2 ^ 39) w (omega arith) sound.near)
+held_rect (Some w) r sound some h = within_inside (2 ^ 39) r w some (inside_from r w some h) (wider_rect (2 ^ 36) (2 ^ 39) w (omega arith) sound.near)
 
 pub listed_has : (rects : List Rect) (r : Rect) (q : Square) → IsListed r rects → has r q ≡ true → covers rects q ≡ true
 listed_has [] r q l e = absurd l

@@ -39,11 +39,11 @@ one_all P x h (suc k) r lt = absurd (let z : ⊥ = omega arith in z)
 
 hull_plane : (o : Option Rect) (q : Square) (plane : Rect) → HullIsSound o → HoldsNear plane → HullHas o q → has plane q ≡ true
 hull_plane None q plane sound all h = absurd h
-hull_plane (Some w) q plane sound all h = inside_has w plane q (all w (wider_rect (2 ^ 30) (2 ^ 39) w (omega arith) sound.near)) h
+hull_plane (Some w) q plane sound all h = inside_has w plane q (all w (wider_rect (2 ^ 36) (2 ^ 39) w (omega arith) sound.near)) h
 
 pub hull_corners : (o : Option Rect) (q : Square) → HullIsSound o → HullHas o q → HasNearCorners q
 hull_corners None q sound h = absurd h
-hull_corners (Some w) q sound h = near_corners w q (wider_rect (2 ^ 30) (2 ^ 39) w (omega arith) sound.near) h
+hull_corners (Some w) q sound h = near_corners w q (wider_rect (2 ^ 36) (2 ^ 39) w (omega arith) sound.near) h
 
 -- what a cell keeps is near
 pub kept_corners : (d : Linked) (cell : ℕ) (x : Formula) (q : Square) → IsSound d → IsKept (plain d) cell x q → HasNearCorners q

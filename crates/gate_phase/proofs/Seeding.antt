@@ -21,8 +21,8 @@ use Rattle.flat_laws.proofs.Cover.{reached_below}
 use Rattle.cell_graph.specs.declared.cells.Place.{Place}
 use Rattle.cell_graph.specs.Linked.{Linked, IsSound, IsStep, IsHull, IsRectWithin, HullHas, HullIsSound, hull_of, cell_at, places_at, motion_at, plain, reference}
 use Rattle.cell_graph.proofs.Bridge.{own, hulls, hull_sound, has_in, in_has, inside_has, maps, placed_of, reference_at, step_of}
-use Rattle.cell_context.specs.Arrays.{IsNearArray}
-use Rattle.cell_context.proofs.Collecting.{near_array}
+use Rattle.cell_context.specs.Arrays.{IsCloseArray}
+use Rattle.cell_context.proofs.Collecting.{close_array}
 use Rattle.cell_context.proofs.Reaching.{element_within}
 use Rattle.rule_text.specs.Rules.{Rules}
 use Rattle.rule_text.specs.Sound as rules
@@ -77,7 +77,7 @@ open_at d r z cell device u sound right reached at =
 pub reached_step : (d : Linked) (cell i row column : ℕ) (p : Place) → IsReached (plain d) cell → IsStep d cell i row column p → IsReached (plain d) p.cell
 reached_step d cell i row column p reached step = reached_below (plain d) cell _ (place_at (reference p) row column) reached (placed_of d cell i row column p step)
 
-pub grown_within : (r : Rect) → IsHull r → IsRectWithin (2 ^ 31) (grown r)
+pub grown_within : (r : Rect) → IsHull r → IsRectWithin (2 ^ 37) (grown r)
 grown_within r h =
     let a = h.near.x1.low in let b = h.near.x1.high in let c = h.near.y1.low in let e = h.near.y1.high in
     let f = h.near.x2.low in let g = h.near.x2.high in let i = h.near.y2.low in let j = h.near.y2.high in
@@ -92,7 +92,7 @@ grown_some : (r : Rect) → IsRect r → IsRect (grown r)
 grown_some r h = let a = h.wide in let b = h.high in record { wide = omega (arith, ints); high = omega (arith, ints) }
 
 -- an element takes a grown hull into the plane
-moved_in : (o : Option Rect) (p : Place) (row column : ℕ) (s : Square) (plane : Rect) → HullIsSound o → HoldsNear plane → IsNearArray p → row < p.rows → column < p.columns → IsInGrown o s → has plane (moved_square (motion_at p row column) s) ≡ true
+moved_in : (o : Option Rect) (p : Place) (row column : ℕ) (s : Square) (plane : Rect) → HullIsSound o → HoldsNear plane → IsCloseArray p → row < p.rows → column < p.columns → IsInGrown o s → has plane (moved_square (motion_at p row column) s) ≡ true
 moved_in None p row column s plane sound all near a b h = absurd h
 moved_in (Some g) p row column s plane sound all near a b h =
     let m = motion_at p row column in
@@ -121,7 +121,7 @@ module _ (d : Linked) (r : Rules) (z : List (Option CellZones)) (cell device : �
       let e = open_at d r z t.from.cell device (device_rule r m) sound right (reached_step d cell t.index t.row t.column t.from reached t.step) at in
       let inside = reach_grown d K t.from.cell h.square sound reach in
       let there = brings t.index t.from t.step.there e.zone t.row t.column h.square e.is t.step.row_in t.step.column_in inside ((e.framed h.square).1 (disturbed, inside))
-      (moved_in (hull_of (cell_at d t.from.cell)) t.from t.row t.column h.square plane (hull_sound d t.from.cell sound) all (near_array d cell t.index t.from sound t.step.there) t.step.row_in t.step.column_in inside) in
+      (moved_in (hull_of (cell_at d t.from.cell)) t.from t.row t.column h.square plane (hull_sound d t.from.cell sound) all (close_array d cell t.index t.from sound t.step.there) t.step.row_in t.step.column_in inside) in
       grows q (subst (λ x. covers old x ≡ true) image there)
 
   pub seed_there : (q : Square) → IsSeed (plain d) K cell q → covers out q ≡ true

@@ -136,7 +136,7 @@ abbrev OfRepeats : List CellDraft → Option (List ℕ) → LinkFault → Type 0
 OfRepeats cells top f = ((name : List ℕ) × (f ≡ DuplicateCell name) × IsFirstNamed cells (IsRepeat cells) name) ⊎ (HasNoRepeat cells × OfNames cells top f)
 
 abbrev OfCount : List CellDraft → Option (List ℕ) → LinkFault → Type 0
-OfCount cells top f = ((f ≡ TooManyCells) × (2 ^ 14 < length cells)) ⊎ (HasFew cells × OfRepeats cells top f)
+OfCount cells top f = ((f ≡ TooManyCells) × (2 ^ 16 < length cells)) ⊎ (HasFew cells × OfRepeats cells top f)
 
 of_sound : (cells : List CellDraft) (top : Option (List ℕ)) (f : LinkFault) → AreSound cells → OfTop cells top f → OfCount cells top f
 of_sound cells top f s h = inr (s.few, inr (s.once, inr (s.resolved, inr (s.no_cycle, inr (s.no_deep, h)))))

@@ -1,5 +1,5 @@
 -- Exposed squares of a cell.
-use Rattle.std.proofs.Common.{◌≡◌, ◌∙◌, ◌⊎◌, inl, inr, ℕ, zero, suc, ◌<◌, Bool, true, false, ◌&&◌, List, [], ◌∷◌, ◌++◌, Option, Some, None, ap, refl, sym, subst, arith, length, slice_get}
+use Rattle.std.proofs.Common.{◌≡◌, ◌∙◌, ◌⊎◌, inl, inr, ℕ, zero, suc, ◌&&◌, List, [], ◌∷◌, ◌++◌, Option, Some, None, ap, refl, sym, subst, length, slice_get}
 use Rattle.std.specs.List.{All}
 use Rattle.std.proofs.lemmas.Option.{slice_get_within}
 use Rattle.geo_base.specs.Near.{IsNearRect}
@@ -9,7 +9,6 @@ use Rattle.geo_base.specs.declared.shapes.Square.{Square}
 use Rattle.rect_sets.specs.Rects.{covers}
 use Rattle.cell_graph.specs.Linked.{Linked, IsSound, HullHas, cell_at, hull_of}
 use Rattle.cell_graph.proofs.Bridge.{hulls}
-use Rattle.cell_context.proofs.Collecting.{and_right}
 use Rattle.cell_context.proofs.Visiting.{and_both}
 use Rattle.rule_text.specs.declared.rules.LayerRule.{LayerRule}
 use Rattle.deep_tables.specs.declared.zones.CellZones.{CellZones}

@@ -33,7 +33,7 @@ held_pieces w (x ∷ xs) h q e = elim (or_split (has x q) (covers xs q) e) [
 within : (w : Rect) (rs : List Rect) → IsHull w → All IsRect rs → ((q : Square) → covers rs q ≡ true → has w q ≡ true) → AreNear rs
 within w rs hull some h = λ k r lt.
     let x = slice_index_or rs k r in
-    within_inside (2 ^ 39) x w (some k r lt) (inside_from x w (some k r lt) (λ q e. h q (listed_has rs k r q lt e))) (wider_rect (2 ^ 30) (2 ^ 39) w (omega arith) hull.near)
+    within_inside (2 ^ 39) x w (some k r lt) (inside_from x w (some k r lt) (λ q e. h q (listed_has rs k r q lt e))) (wider_rect (2 ^ 36) (2 ^ 39) w (omega arith) hull.near)
 
 -- what a hull holds is near
 pub held_near : (o : Option Rect) (w : Rect) (rs : List Rect) → o ≡ Some w → HullIsSound o → All IsRect rs → AreHeld o rs → AreNear rs

@@ -99,4 +99,4 @@ pub part_near : (z : List (Option CellZones)) (name : ℕ) (v : Visit) (keep : L
 part_near z name v keep hull entry calm some = λ k r lt.
     let x = slice_index_or keep k r in
     let inside = inside_from x v.window (some k r lt) (λ q e. and_left (has v.window q) (not (covers entry.0 q)) (sym (calm entry.0 entry.1 q) ∙ listed_has keep k r q lt e)) in
-    near_rect x (within_inside (2 ^ 39) x v.window (some k r lt) inside (wider_rect (2 ^ 31) (2 ^ 39) v.window (omega arith) hull.near))
+    near_rect x (within_inside (2 ^ 39) x v.window (some k r lt) inside (wider_rect (2 ^ 37) (2 ^ 39) v.window (omega arith) hull.near))

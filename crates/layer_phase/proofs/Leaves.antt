@@ -40,7 +40,7 @@ near_corners r q near e =
 
 hull_corners : (o : Option Rect) (q : Square) → HullIsSound o → HullHas o q → HasNearCorners q
 hull_corners None q sound h = absurd h
-hull_corners (Some w) q sound h = near_corners w q (wider_rect (2 ^ 30) (2 ^ 39) w (omega arith) sound.near) h
+hull_corners (Some w) q sound h = near_corners w q (wider_rect (2 ^ 36) (2 ^ 39) w (omega arith) sound.near) h
 
 -- a cell's own squares are near
 pub own_near : (d : Linked) (cell : ℕ) (key : LayerKey) → IsSound d → IsNearSet (own_of (cell_at d cell) key)

@@ -9,7 +9,7 @@ use Rattle.geo_base.specs.declared.shapes.Rect.{Rect}
 use Rattle.geo_base.specs.declared.shapes.Square.{Square}
 use Rattle.rect_sets.specs.Rects.{covers}
 use Rattle.cell_graph.specs.declared.cells.Place.{Place}
-use Rattle.cell_graph.specs.Linked.{Linked, HullHas, IsRectWithin, cell_at, hull_of, motion_at}
+use Rattle.cell_graph.specs.Linked.{Linked, HullHas, IsRectWithin, cell_at, motion_at}
 use Rattle.cell_graph.specs.Linked.{own_of, places_at, plain}
 use Rattle.flat_layout.specs.Layout.{InFlatInput}
 use Rattle.rule_text.specs.declared.rules.LayerForm.TheVariants as form

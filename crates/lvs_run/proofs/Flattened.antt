@@ -158,7 +158,7 @@ lists_netlist_beside : (o : Outputs) (l : ReadLayout) (r : rule_sets.Rules) (sch
     → ((nl : Netlist) (top : ℕ) (bad : List BadGate) (text : List ℕ) → Tells o bad a → IsNetlistFile l r nl top bad text → P text) → IsDoneBeside o l r sch a done
     → ForNetlist o (λ (path : List ℕ). ListsAs done.files path P)
 lists_netlist_beside (ToReport schematic shapes netlist report) l r sch a done P f h =
-    rw h.whole (inr (inl (refl, f h.netlist h.top h.bad h.spelled (match_none h.bad h.verdict a h.answer h.report_file) h.netlist_file)))
+    let g = h.reported in rw h.whole (inr (inl (refl, f g.netlist g.top g.bad h.spelled (match_none g.bad g.verdict a g.answer g.report_file) g.netlist_file)))
 lists_netlist_beside (ToShapes shapes) l r sch a done P f h = absurd h
 lists_netlist_beside (ToNetlist shapes netlist) l r sch a done P f h = absurd h
 lists_netlist_beside (ToChip n seed prefix) l r sch a done P f h = tt

@@ -25,8 +25,8 @@ use Rattle.report_file.specs.Turns.{IsTooLarge}
 use Rattle.refine_match.proofs.ClassCounts.{uneven_class}
 use Rattle.report_file.specs.Verdicts.{CarriedPairLaw, KeptPairLaw, UndecidedLaw, UnevenPairLaw}
 use Rattle.rule_text.specs.Rules.{Rules}
-use Rattle.lvs_run.specs.Answers.{Answer, Good, Bad, Undecided, Done, comparison_answer}
-use Rattle.lvs_run.specs.Outcomes.{IsCompared}
+use Rattle.lvs_run.specs.Answers.{Answer, Counts, Good, Bad, Undecided, comparison_answer}
+use Rattle.lvs_run.specs.Outcomes.{IsReported}
 use Rattle.lvs_run.specs.Verdicts.{HasVerdicts, MatchLaw, OfAnswers, VerdictsLaw}
 use Rattle.lvs_run.proofs.Gates.{no_length, none_bad, one_bad, some_length}
 
@@ -86,8 +86,8 @@ exact_of law d r unit layout top bad schematic text pairs fine first comparison.
 
 -- ---- what was compared
 
-module _ (alignable : CombinedAlignableLaw) (one : OneRunVerdictLaw) (uneven : UnevenPairLaw) (carried : CarriedPairLaw) (kept : KeptPairLaw) (undecided : UndecidedLaw) (exact : ExactReportLaw) (joined : MatchingLaw) (l : Layout) (r : Rules) (nl : Netlist) (path netlist_path report_path : List ℕ) (a : Answer) (done : Done)
-    (h : IsCompared l r nl path netlist_path report_path a done) (flat : ShowsFlat l r h.spelled h.netlist h.top h.bad) where
+module _ (alignable : CombinedAlignableLaw) (one : OneRunVerdictLaw) (uneven : UnevenPairLaw) (carried : CarriedPairLaw) (kept : KeptPairLaw) (undecided : UndecidedLaw) (exact : ExactReportLaw) (joined : MatchingLaw) (l : Layout) (r : Rules) (nl : Netlist) (cells : ℕ) (spelled told : List ℕ) (counts : Counts) (a : Answer)
+    (h : IsReported l r nl cells spelled told counts a) (flat : ShowsFlat l r spelled h.netlist h.top h.bad) where
   -- the netlists that are compared
   abbrev near : Netlist
   near = compared_of r h.netlist
@@ -106,7 +106,7 @@ module _ (alignable : CombinedAlignableLaw) (one : OneRunVerdictLaw) (uneven : U
 
   is_undecided : (a ≡ Undecided) ↔ ((length h.bad ≡ 0) × OfAnswers h.report_file.compared (λ all. (Any IsDifference all → ⊥) × Any IsUndecided all))
   is_undecided =
-      let law = undecided l.design r near h.top h.bad far h.report h.pairs h.verdict near_alignable near_order h.report_file in (
+      let law = undecided l.design r near h.top h.bad far told h.pairs h.verdict near_alignable near_order h.report_file in (
         (λ e.
             let found = law.0 (same_verdict h.verdict comparison.Undecided (sym h.answer ∙ e)) in
             (found.0, stuck_in h.report_file.compared found.1.0 found.1.1 (found.1.2, found.1.3))),
@@ -115,64 +115,64 @@ module _ (alignable : CombinedAlignableLaw) (one : OneRunVerdictLaw) (uneven : U
             h.answer ∙ ap (λ (u : Comparison). comparison_answer u) (law.1 (none, (found.0, found.1, found.2.0, found.2.1)))),
       )
 
-  has_verdicts : HasVerdicts a l r nl h.spelled h.report
+  has_verdicts : HasVerdicts a l r nl spelled told
   has_verdicts = record {
     report = record { netlist = h.netlist; top = h.top; bad = h.bad; shows = flat; pairs = h.pairs; verdict = h.verdict; file = h.report_file; answer = h.answer };
     good = (
-      (λ e. let x = (come_to comparison.Match).0 e in (none_bad l r h.spelled h.netlist h.top h.bad flat x.0, x.1)),
-      (λ (none, all). (come_to comparison.Match).1 (no_length l r h.spelled h.netlist h.top h.bad flat none, all)),
+      (λ e. let x = (come_to comparison.Match).0 e in (none_bad l r spelled h.netlist h.top h.bad flat x.0, x.1)),
+      (λ (none, all). (come_to comparison.Match).1 (no_length l r spelled h.netlist h.top h.bad flat none, all)),
     );
     bad = (
       (λ e.
           elim ((come_to comparison.Mismatch).0 e) [
-            | inl some ↦ inl (one_bad l r h.spelled h.netlist h.top h.bad flat some)
+            | inl some ↦ inl (one_bad l r spelled h.netlist h.top h.bad flat some)
             | inr (inl none) ↦ inr (inl (no_partner near h.top far h.report_file.same r.max_guesses r.tells_pins h.report_file.compared h.report_file.comparison none))
             | inr (inr any) ↦ inr (inr any)
           ]),
       (λ cause.
           (come_to comparison.Mismatch).1 (
           elim cause [
-            | inl gate ↦ inl (some_length l r h.spelled h.netlist h.top h.bad flat gate)
+            | inl gate ↦ inl (some_length l r spelled h.netlist h.top h.bad flat gate)
             | inr (inl none) ↦ inr (inl (no_answers near h.top far h.report_file.same r.max_guesses r.tells_pins h.report_file.compared h.report_file.comparison none))
             | inr (inr any) ↦ inr (inr any)
           ]
           )),
     );
     undecided = (
-      (λ e. let x = is_undecided.0 e in (none_bad l r h.spelled h.netlist h.top h.bad flat x.0, x.1)),
-      (λ (none, stuck). is_undecided.1 (no_length l r h.spelled h.netlist h.top h.bad flat none, stuck)),
+      (λ e. let x = is_undecided.0 e in (none_bad l r spelled h.netlist h.top h.bad flat x.0, x.1)),
+      (λ (none, stuck). is_undecided.1 (no_length l r spelled h.netlist h.top h.bad flat none, stuck)),
     );
     uneven = λ f k c d p is pair differ. h.answer
-        ∙ ap (λ (u : Comparison). comparison_answer u) (uneven l.design r near h.top h.bad far h.report h.pairs h.verdict h.report_file f k c d p is pair differ);
+        ∙ ap (λ (u : Comparison). comparison_answer u) (uneven l.design r near h.top h.bad far told h.pairs h.verdict h.report_file f k c d p is pair differ);
     uneven_class = λ f k c d p is pair differ. h.answer
-        ∙ ap (λ (u : Comparison). comparison_answer u) (uneven l.design r near h.top h.bad far h.report h.pairs h.verdict h.report_file f k c d p is pair (uneven_class p differ));
+        ∙ ap (λ (u : Comparison). comparison_answer u) (uneven l.design r near h.top h.bad far told h.pairs h.verdict h.report_file f k c d p is pair (uneven_class p differ));
     carried = λ f k c d p is pair map answer.
-        carried l.design r near h.top h.bad far h.report h.pairs h.verdict near_alignable near_order h.report_file f k c d p map is pair answer;
+        carried l.design r near h.top h.bad far told h.pairs h.verdict near_alignable near_order h.report_file f k c d p map is pair answer;
     kept = λ f k c d p is pair map corresponds differs.
-        kept l.design r near h.top h.bad far h.report h.pairs h.verdict near_alignable near_order h.report_file f k c d p map is pair corresponds differs;
+        kept l.design r near h.top h.bad far told h.pairs h.verdict near_alignable near_order h.report_file f k c d p map is pair corresponds differs;
     joined = λ f is.
         let cells = h.netlist_file.of_cells in
-        joined l.design r l.header.unit_pm _ _ _ h.netlist h.top h.bad nl h.report h.pairs h.verdict cells.right cells.top_is h.report_file f is;
+        joined l.design r l.header.unit_pm _ _ _ h.netlist h.top h.bad nl told h.pairs h.verdict cells.right cells.top_is h.report_file f is;
     exact = λ e on none f is small m.
-        exact_of exact l.design r l.header.unit_pm h.netlist h.top h.bad nl h.report h.pairs h.comparable.layout h.comparable.order h.verdict (same_verdict h.verdict comparison.Mismatch (sym h.answer ∙ e)) h.report_file on
-        (nil_from_length h.bad (no_length l r h.spelled h.netlist h.top h.bad flat none)) f is small m;
+        exact_of exact l.design r l.header.unit_pm h.netlist h.top h.bad nl told h.pairs h.comparable.layout h.comparable.order h.verdict (same_verdict h.verdict comparison.Mismatch (sym h.answer ∙ e)) h.report_file on
+        (nil_from_length h.bad (no_length l r spelled h.netlist h.top h.bad flat none)) f is small m;
   }
 
 -- what a netlist's file shows
-shows_in : {l : Layout} {r : Rules} {nl : Netlist} {path netlist report : List ℕ} {a : Answer} {done : Done} → ShowsFlatLaw → (bytes : List ℕ) (name : Option (List ℕ)) → IsRead bytes name l
-    → (h : IsCompared l r nl path netlist report a done) → ShowsFlat l r h.spelled h.netlist h.top h.bad
-shows_in {l} {r} shows bytes name read h = shows bytes name l r h.netlist h.top h.bad h.spelled read h.comparable.rules h.netlist_file
+shows_in : {l : Layout} {r : Rules} {nl : Netlist} {cells : ℕ} {spelled told : List ℕ} {counts : Counts} {a : Answer} → ShowsFlatLaw → (bytes : List ℕ) (name : Option (List ℕ)) → IsRead bytes name l
+    → (h : IsReported l r nl cells spelled told counts a) → ShowsFlat l r spelled h.netlist h.top h.bad
+shows_in {l} {r} {nl} {cells} {spelled} shows bytes name read h = shows bytes name l r h.netlist h.top h.bad spelled read h.comparable.rules h.netlist_file
 
 pub verdicts_law : CombinedAlignableLaw → ShowsFlatLaw → OneRunVerdictLaw → UnevenPairLaw → CarriedPairLaw → KeptPairLaw → UndecidedLaw → ExactReportLaw → MatchingLaw → VerdictsLaw
-verdicts_law alignable shows one uneven carried kept undecided exact joined bytes name l r nl path netlist report a done read h =
-    has_verdicts alignable one uneven carried kept undecided exact joined l r nl path netlist report a done h (shows_in shows bytes name read h)
+verdicts_law alignable shows one uneven carried kept undecided exact joined bytes name l r nl cells spelled told counts a read h =
+    has_verdicts alignable one uneven carried kept undecided exact joined l r nl cells spelled told counts a h (shows_in shows bytes name read h)
 
 pub match_law : ShowsFlatLaw → MatchedReportLaw → MatchLaw
-match_law shows matched bytes name l r nl path netlist report a done read h good =
+match_law shows matched bytes name l r nl cells spelled told counts a read h good =
     let same = same_verdict h.verdict comparison.Match (sym h.answer ∙ good) in
-    let file = subst (λ (v : Comparison). IsReportFile l.design r (compared_of r h.netlist) h.top h.bad (compared_of r nl) h.report h.pairs v) same h.report_file in
+    let file = subst (λ (v : Comparison). IsReportFile l.design r (compared_of r h.netlist) h.top h.bad (compared_of r nl) told h.pairs v) same h.report_file in
     let cells = h.netlist_file.of_cells in
     record {
       report = record { netlist = h.netlist; top = h.top; bad = h.bad; shows = shows_in shows bytes name read h; pairs = h.pairs; verdict = comparison.Match; file = file; answer = refl };
-      is = matched l.design r l.header.unit_pm _ _ _ h.netlist h.top h.bad nl h.report h.pairs cells.right cells.top_is h.comparable.layout h.comparable.order h.comparable.schematic file;
+      is = matched l.design r l.header.unit_pm _ _ _ h.netlist h.top h.bad nl told h.pairs cells.right cells.top_is h.comparable.layout h.comparable.order h.comparable.schematic file;
     }

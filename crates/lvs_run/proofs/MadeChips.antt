@@ -273,7 +273,7 @@ pub chip_ready : (n seed : ℕ) (prefix : List ℕ) (s : Store) (r : rule_sets.R
     → IsOutputBeside (ToChip n seed prefix) l r nl o → IsReady (Some (chip_paths n seed prefix)) s s o
 chip_ready n seed prefix s r l nl o chip verdicts matches made =
     let a = verdict_of o.verdict in
-    let ran = made.is.compared in
+    let ran = made.is in
     record {
       paths = chip_paths n seed prefix;
       stated = refl;
@@ -287,8 +287,8 @@ chip_ready n seed prefix s r l nl o chip verdicts matches made =
           (schematic_read _ (schematic_at prefix) (ToChip n seed prefix) l r a made.done (schematic_text n seed) (schematic_in n seed prefix s chip.short_schematic) (SoundCards nl chip.schematic made.is));
       flat = tt;
       netlist = tt;
-      verdicts = report_of n seed prefix s r l nl (HasVerdicts a) made.done.files ran.spelled ran.report chip (verdicts (layout_text n seed) (Some (codes "TOP")) l r nl [] [] [] a made.is.ran chip.layout ran);
-      matched = λ good. report_of n seed prefix s r l nl IsMatchOf made.done.files ran.spelled ran.report chip (matches (layout_text n seed) (Some (codes "TOP")) l r nl [] [] [] a made.is.ran chip.layout ran good);
+      verdicts = report_of n seed prefix s r l nl (HasVerdicts a) made.done.files ran.spelled ran.report chip (verdicts (layout_text n seed) (Some (codes "TOP")) l r nl (length l.design.order) ran.spelled ran.report ran.counts a chip.layout ran.reported);
+      matched = λ good. report_of n seed prefix s r l nl IsMatchOf made.done.files ran.spelled ran.report chip (matches (layout_text n seed) (Some (codes "TOP")) l r nl (length l.design.order) ran.spelled ran.report ran.counts a chip.layout ran.reported good);
     }
 
 -- the top's name is one

@@ -1,5 +1,5 @@
 -- One outcome for words and told files.
-use Rattle.std.proofs.Common.{◌≡◌, ◌≢◌, inl, inr, ℕ, List, [], length, Option, Some, None, IfSome, Ok, Err, sym, ap, subst, ◌∙◌, arith}
+use Rattle.std.proofs.Common.{◌≡◌, ◌≢◌, inl, inr, ℕ, List, length, Option, Some, None, IfSome, Ok, Err, sym, ap, subst, ◌∙◌, arith}
 use Rattle.lvs_outside.specs.Store.{Told, Untold, NoFile, Holds}
 use Rattle.gds_layout.specs.declared.layout.LayoutFault.{LayoutFault}
 use Rattle.gds_layout.specs.declared.layout.LayoutFault.TheVariants as layout
@@ -7,7 +7,7 @@ use Rattle.gds_layout.specs.Layouts.{IsFaultOf}
 use Rattle.gds_layout.specs.Once.{NoFaultLaw, OneFaultLaw, OneLayoutLaw}
 use Rattle.report_file.proofs.Combined.{compared_alignable, compared_order}
 use Rattle.report_file.specs.Combined.{CombinedAlignableLaw, compared_of, wide_name}
-use Rattle.report_file.specs.One.{IsSameReport, OneReportLaw}
+use Rattle.report_file.specs.One.{OneReportLaw}
 use Rattle.spice_rows.specs.Sizes.{read_limit}
 use Rattle.spice_rows.specs.declared.fault.SpiceFault.{SpiceFault}
 use Rattle.spice_rows.specs.declared.fault.SpiceFault.TheVariants as spice
@@ -18,15 +18,18 @@ use Rattle.lvs_run.proofs.SameReports.{same_report_file}
 use Rattle.rule_text.specs.declared.fault.RuleFault.{RuleFault}
 use Rattle.rule_text.specs.Rules.{Rules}
 use Rattle.rule_text.specs.Reading.{Means, IsFirstFault, MeaningLaw, FaultLaw}
-use Rattle.shapes_file.specs.One.{IsSameFile, OneFileLaw}
+use Rattle.shapes_file.specs.One.{IsSameFile, NoFileLaw, OneFileLaw, OneWideLaw}
+use Rattle.shapes_file.specs.File.{IsNarrow, IsShapesFile}
+use Rattle.layout_shapes.specs.Written.{name_of}
+use Rattle.cell_graph.specs.Linked.{cell_at}
 use Rattle.deep_tables.specs.declared.gates.BadGate.{BadGate}
-use Rattle.netlist_file.specs.One.{IsSameNetlist, OneNetlistLaw}
+use Rattle.netlist_file.specs.One.{IsSameNetlist, OneNetlistLaw, OneOrderLaw}
 use Rattle.plain_netlist.specs.Netlist.{Netlist}
 use Rattle.lvs_run.specs.Words.{Outputs, Paths, ToShapes, ToNetlist, ToReport, ToChip, schematic_path}
 use Rattle.gds_layout.specs.declared.layout.Layout.{Layout}
 use Rattle.gds_layout.specs.Layouts.{IsRead}
-use Rattle.lvs_run.specs.Answers.{Counts, Done, Extracted, Compared, drawn, extracted, compared, made, comparison_answer, Answer, IsVerdict, RefusedWords, RefusedSame, RefusedAbsent, RefusedLong, RefusedRules, RefusedLayout, RefusedSchematic}
-use Rattle.lvs_run.specs.Outcomes.{IsDone, IsDoneBeside, IsDrawn, IsExtracted, IsCompared, IsFirstLayoutFault, IsFirstSchematicFault, IsTooWide, gates_answer, merge_refusal}
+use Rattle.lvs_run.specs.Answers.{Counts, Done, Extracted, Compared, drawn, extracted, compared, made, comparison_answer, Answer, IsVerdict, RefusedWords, RefusedSame, RefusedAbsent, RefusedLong, RefusedRules, RefusedLayout, RefusedSchematic, RefusedWide}
+use Rattle.lvs_run.specs.Outcomes.{IsDone, IsDoneBeside, IsDrawn, IsExtracted, IsCompared, IsFirstLayoutFault, IsFirstSchematicFault, IsReported, IsTooFar, IsTooWide, RefusesAlone, RefusesBeside, gates_answer, merge_refusal}
 use Rattle.lvs_run.proofs.Steps.{InTurn, in_turn, OfBeside, OfSchematic, OfCards, FaultyCards, WideCards, SoundCards, OfStream, FaultyStream, SoundStream, OfLength, OfLayout, OfRuleText, FaultyRules, SoundRules, OfRules, OfPaths}
 use Rattle.lvs_run.proofs.Widths.{never_written}
 use Rattle.lvs_run.specs.Once.{IsTold, AreInputsTold, IsSameOutcome, OneOutcomeLaw}
@@ -55,22 +58,30 @@ same_extracted path netlist l m r a b x y h k s t =
     ∙ (ap (λ (c : Counts). extracted path k.text netlist k.spelled c) counts ∙ sym k.whole)))
 
 same_compared : (path netlist report : List ℕ) (l m : Layout) (r : Rules) (nl : Netlist) (a b : Answer) (x y : Done) → (h : IsCompared l r nl path netlist report a x) → (k : IsCompared m r nl path netlist report b y)
-    → IsSameFile h.text k.text h.cells k.cells h.rectangles k.rectangles → IsSameNetlist h.netlist k.netlist h.top k.top h.bad k.bad h.spelled k.spelled
-    → IsSameReport h.report k.report h.pairs k.pairs h.verdict k.verdict → x ≡ y
-same_compared path netlist report l m r nl a b x y h k s t u =
-    let counts : Compared h.cells (length h.netlist.circuits) h.pairs (length h.bad) ≡ Compared k.cells (length k.netlist.circuits) k.pairs (length k.bad) =
-    ap (λ (n : ℕ). Compared n (length h.netlist.circuits) h.pairs (length h.bad)) s.cell_count
-    ∙ (ap (λ (n : Netlist). Compared k.cells (length n.circuits) h.pairs (length h.bad)) t.netlist
-    ∙ (ap (λ (n : ℕ). Compared k.cells (length k.netlist.circuits) n (length h.bad)) u.pair_count
-    ∙ ap (λ (bs : List BadGate). Compared k.cells (length k.netlist.circuits) k.pairs (length bs)) t.bad)) in
-    let c = Compared h.cells (length h.netlist.circuits) h.pairs (length h.bad) in
-    h.whole ∙ (ap (λ (w : List ℕ). compared path w netlist h.spelled report h.report c) s.text
-    ∙ (ap (λ (w : List ℕ). compared path k.text netlist w report h.report c) t.text
-    ∙ (ap (λ (w : List ℕ). compared path k.text netlist k.spelled report w c) u.text
+    → h.text ≡ k.text → h.spelled ≡ k.spelled → h.report ≡ k.report → h.counts ≡ k.counts → x ≡ y
+same_compared path netlist report l m r nl a b x y h k s t u counts =
+    h.whole ∙ (ap (λ (w : List ℕ). compared path w netlist h.spelled report h.report h.counts) s
+    ∙ (ap (λ (w : List ℕ). compared path k.text netlist w report h.report h.counts) t
+    ∙ (ap (λ (w : List ℕ). compared path k.text netlist k.spelled report w h.counts) u
     ∙ (ap (λ (d : Counts). compared path k.text netlist k.spelled report k.report d) counts ∙ sym k.whole))))
 
+-- reports on one comparison
+record IsSameRun (spelled its_spelled told its_told : List ℕ) (one other : Counts) (a b : Answer) : Type 0 where
+  pub text : spelled ≡ its_spelled
+  pub report : told ≡ its_told
+  pub counts : one ≡ other
+  pub answer : a ≡ b
+
+same_counts : (n m : ℕ) (one other : Netlist) (pairs others : ℕ) (bad its_bad : List BadGate) → n ≡ m → one ≡ other → pairs ≡ others → bad ≡ its_bad
+    → Compared n (length one.circuits) pairs (length bad) ≡ Compared m (length other.circuits) others (length its_bad)
+same_counts n m one other pairs others bad its_bad e f g h =
+    ap (λ (k : ℕ). Compared k (length one.circuits) pairs (length bad)) e
+    ∙ (ap (λ (nl : Netlist). Compared m (length nl.circuits) pairs (length bad)) f
+    ∙ (ap (λ (k : ℕ). Compared m (length other.circuits) k (length bad)) g
+    ∙ ap (λ (bs : List BadGate). Compared m (length other.circuits) others (length bs)) h))
+
 -- by the laws of the readers, of shapes files, of netlist files and of reports
-module _ (meanings : MeaningLaw) (faults : FaultLaw) (no_faults : NoFaultLaw) (one_faults : OneFaultLaw) (files : OneFileLaw) (netlists : OneNetlistLaw)
+module _ (meanings : MeaningLaw) (faults : FaultLaw) (no_faults : NoFaultLaw) (one_faults : OneFaultLaw) (files : OneFileLaw) (wides : OneWideLaw) (no_file : NoFileLaw) (netlists : OneNetlistLaw) (orders : OneOrderLaw)
     (layouts : OneLayoutLaw) (schematics : OneMeaningLaw) (no_cards : SpiceNoFaultLaw) (reports : OneReportLaw) (alignable : CombinedAlignableLaw) where
   -- two runs with one refusal
   refused_once : (w a b : Answer) (x y : Done) → (IsVerdict w → ⊥) → a ≡ w → b ≡ w → IsSameOutcome a b x y
@@ -105,18 +116,22 @@ module _ (meanings : MeaningLaw) (faults : FaultLaw) (no_faults : NoFaultLaw) (o
   on_length bytes A B C D R long short (inr x) (inl y) = absurd (omega (arith, x.0, y.0))
   on_length bytes A B C D R long short (inr x) (inr y) = short x.1 y.1
 
-  -- two comparisons of one layout with one schematic
-  same_comparison : (path netlist report bytes : List ℕ) (top : Option (List ℕ)) (l m : Layout) (r : Rules) (nl : Netlist) (a b : Answer) (x y : Done) → IsRead bytes top l → IsRead bytes top m
-      → IsCompared l r nl path netlist report a x → IsCompared m r nl path netlist report b y → (a ≡ b) × (x ≡ y)
-  same_comparison path netlist report bytes top l m r nl a b x y read found h k =
-      let s = files bytes top l m r h.text k.text h.cells k.cells h.rectangles k.rectangles read found h.file k.file in
-      let t = netlists bytes top l m r h.netlist k.netlist h.top k.top h.bad k.bad h.spelled k.spelled read found h.netlist_file k.netlist_file in
+  -- two reports on one comparison
+  same_run : (bytes : List ℕ) (top : Option (List ℕ)) (l m : Layout) (r : Rules) (nl : Netlist) (n k : ℕ) (spelled its_spelled report its_report : List ℕ) (counts others : Counts) (a b : Answer) → IsRead bytes top l → IsRead bytes top m
+      → n ≡ k → IsReported l r nl n spelled report counts a → IsReported m r nl k its_spelled its_report others b → IsSameRun spelled its_spelled report its_report counts others a b
+  same_run bytes top l m r nl n k spelled its_spelled report its_report counts others a b read found e h g =
+      let t = netlists bytes top l m r h.netlist g.netlist h.top g.top h.bad g.bad spelled its_spelled read found h.netlist_file g.netlist_file in
       let same = layouts bytes top l m read found in
-      let other = same_report_file l m r (compared_of r h.netlist) (compared_of r k.netlist) h.top k.top h.bad k.bad (compared_of r nl) k.report k.pairs k.verdict same.cells (ap (λ (n : Netlist). compared_of r n) t.netlist) t.top t.bad k.report_file in
+      let other = same_report_file l m r (compared_of r h.netlist) (compared_of r g.netlist) h.top g.top h.bad g.bad (compared_of r nl) its_report g.pairs g.verdict same.cells (ap (λ (n : Netlist). compared_of r n) t.netlist) t.top t.bad g.report_file in
       let can = h.comparable in
-      let u = reports l.design r (compared_of r h.netlist) h.top h.bad (compared_of r nl) h.report k.report h.pairs k.pairs h.verdict k.verdict can.rules (compared_alignable r h.netlist alignable can.layout) (compared_order r h.netlist can.order)
+      let u = reports l.design r (compared_of r h.netlist) h.top h.bad (compared_of r nl) report its_report h.pairs g.pairs h.verdict g.verdict can.rules (compared_alignable r h.netlist alignable can.layout) (compared_order r h.netlist can.order)
       (compared_alignable r nl alignable can.schematic) h.report_file other in
-      (h.answer ∙ (ap comparison_answer u.verdict ∙ sym k.answer), same_compared path netlist report l m r nl a b x y h k s t u)
+      record {
+        text = t.text;
+        report = u.text;
+        counts = h.counted ∙ (same_counts n k h.netlist g.netlist h.pairs g.pairs h.bad g.bad e t.netlist u.pair_count t.bad ∙ sym g.counted);
+        answer = h.answer ∙ (ap comparison_answer u.verdict ∙ sym g.answer);
+      }
 
   -- two runs of one comparison
   same_beside : (o : Outputs) (bytes : List ℕ) (top : Option (List ℕ)) (l m : Layout) (r : Rules) (nl : Netlist) (a b : Answer) (x y : Done) → IsRead bytes top l → IsRead bytes top m
@@ -124,10 +139,23 @@ module _ (meanings : MeaningLaw) (faults : FaultLaw) (no_faults : NoFaultLaw) (o
   same_beside (ToShapes path) bytes top l m r nl a b x y read found h k = absurd h
   same_beside (ToNetlist path netlist) bytes top l m r nl a b x y read found h k = absurd h
   same_beside (ToReport schematic path netlist report) bytes top l m r nl a b x y read found h k =
-      let both = same_comparison path netlist report bytes top l m r nl a b x y read found h k in record { answer = both.0; done = λ v. both.1 }
+      let s = files bytes top l m r h.text k.text h.cells k.cells h.rectangles k.rectangles read found h.file k.file in
+      let u = same_run bytes top l m r nl h.cells k.cells h.spelled k.spelled h.report k.report h.counts k.counts a b read found s.cell_count h.reported k.reported in
+      record { answer = u.answer; done = λ v. same_compared path netlist report l m r nl a b x y h k s.text u.text u.report u.counts }
   same_beside (ToChip n seed prefix) bytes top l m r nl a b x y read found h k =
-      let both = same_comparison [] [] [] bytes top l m r nl a b h.ran k.ran read found h.compared k.compared in
-      record { answer = both.0; done = λ v. h.whole ∙ (ap (λ (d : Done). made n seed prefix d.counts) both.1 ∙ sym k.whole) }
+      let one = h.reported in let two = k.reported in
+      let order = orders bytes top l m r one.netlist two.netlist one.top two.top one.bad two.bad h.spelled k.spelled read found one.netlist_file two.netlist_file in
+      let u = same_run bytes top l m r nl (length l.design.order) (length m.design.order) h.spelled k.spelled h.report k.report h.counts k.counts a b read found (ap (λ (cs : List ℕ). length cs) order) one two in
+      record { answer = u.answer; done = λ v. h.whole ∙ (ap (λ (c : Counts). made n seed prefix c) u.counts ∙ sym k.whole) }
+
+  -- a layout for which there is no shapes file, twice
+  same_far : (bytes : List ℕ) (top : Option (List ℕ)) (l m : Layout) (r : Rules) (a b : Answer) (x y : Done) → IsRead bytes top l → IsRead bytes top m → IsTooFar l r a → IsTooFar m r b → IsSameOutcome a b x y
+  same_far bytes top l m r a b x y read found h k =
+      let same = wides bytes top l m r h.cell k.cell read found h.wide k.wide in
+      refused_once (RefusedWide (name_of (cell_at l.design h.cell))) a b x y (λ v. v) h.answer (k.answer ∙ ap (λ (n : List ℕ). RefusedWide n) (sym same.name))
+
+  far_or_file : (bytes : List ℕ) (top : Option (List ℕ)) (l m : Layout) (r : Rules) (a : Answer) (text : List ℕ) (cells rectangles : ℕ) → IsRead bytes top l → IsRead bytes top m → IsTooFar l r a → IsShapesFile m r text cells rectangles → ⊥
+  far_or_file bytes top l m r a text cells rectangles read found h file = no_file bytes top m l r h.cell found read (record { table = file.table; layers = file.layers; narrow = file.narrow }) h.wide
 
   -- two refusals of one comparison
   same_width : (bytes : List ℕ) (top : Option (List ℕ)) (l m : Layout) (r : Rules) (nl : Netlist) (a b : Answer) (x y : Done) → IsRead bytes top l → IsRead bytes top m → IsTooWide l r nl a → IsTooWide m r nl b → IsSameOutcome a b x y
@@ -136,18 +164,46 @@ module _ (meanings : MeaningLaw) (faults : FaultLaw) (no_faults : NoFaultLaw) (o
       let e : Some a ≡ Some b = sym h.refused ∙ (ap (λ (n : Netlist). merge_refusal (wide_name r n) (wide_name r nl)) t.netlist ∙ k.refused) in
       record { answer = (let s : a ≡ b = cc in s); done = λ v. absurd (never_written (wide_name r h.netlist) (wide_name r nl) a h.refused v) }
 
+  far_or_narrow : (bytes : List ℕ) (top : Option (List ℕ)) (l m : Layout) (r : Rules) (a : Answer) → IsRead bytes top l → IsRead bytes top m → IsTooFar l r a → IsNarrow m r → ⊥
+  far_or_narrow bytes top l m r a read found h k = no_file bytes top m l r h.cell found read k h.wide
+
+  -- two refusals with the same outputs
+  same_refusal : (o : Outputs) (bytes : List ℕ) (top : Option (List ℕ)) (l m : Layout) (r : Rules) (nl : Netlist) (a b : Answer) (x y : Done) → IsRead bytes top l → IsRead bytes top m
+      → RefusesBeside o l r nl a → RefusesBeside o m r nl b → IsSameOutcome a b x y
+  same_refusal (ToShapes path) bytes top l m r nl a b x y read found h k = absurd h
+  same_refusal (ToNetlist path netlist) bytes top l m r nl a b x y read found h k = absurd h
+  same_refusal (ToReport schematic path netlist report) bytes top l m r nl a b x y read found (inl h) (inl k) = same_far bytes top l m r a b x y read found h k
+  same_refusal (ToReport schematic path netlist report) bytes top l m r nl a b x y read found (inl h) (inr k) = absurd (far_or_narrow bytes top l m r a read found h k.0)
+  same_refusal (ToReport schematic path netlist report) bytes top l m r nl a b x y read found (inr h) (inl k) = absurd (far_or_narrow bytes top m l r b found read k h.0)
+  same_refusal (ToReport schematic path netlist report) bytes top l m r nl a b x y read found (inr h) (inr k) = same_width bytes top l m r nl a b x y read found h.1 k.1
+  same_refusal (ToChip n seed prefix) bytes top l m r nl a b x y read found h k = same_width bytes top l m r nl a b x y read found h k
+
   -- what is refused isn't compared
-  refused_or_compared : (bytes : List ℕ) (top : Option (List ℕ)) (l m : Layout) (r : Rules) (nl : Netlist) (path netlist report : List ℕ) (a b : Answer) (y : Done) → IsRead bytes top l → IsRead bytes top m
-      → IsTooWide l r nl a → IsCompared m r nl path netlist report b y → ⊥
-  refused_or_compared bytes top l m r nl path netlist report a b y read found h k =
-      let t = netlists bytes top l m r h.netlist k.netlist h.top k.top h.bad k.bad h.spelled k.spelled read found h.netlist_file k.netlist_file in
+  refused_or_compared : (bytes : List ℕ) (top : Option (List ℕ)) (l m : Layout) (r : Rules) (nl : Netlist) (n : ℕ) (spelled report : List ℕ) (counts : Counts) (a b : Answer) → IsRead bytes top l → IsRead bytes top m
+      → IsTooWide l r nl a → IsReported m r nl n spelled report counts b → ⊥
+  refused_or_compared bytes top l m r nl n spelled report counts a b read found h k =
+      let t = netlists bytes top l m r h.netlist k.netlist h.top k.top h.bad k.bad h.spelled spelled read found h.netlist_file k.netlist_file in
       let e : Some a ≡ None = sym h.refused ∙ (ap (λ (n : Netlist). merge_refusal (wide_name r n) (wide_name r nl)) t.netlist ∙ k.narrow) in cc
 
-  refused_or_made : (o : Outputs) (bytes : List ℕ) (top : Option (List ℕ)) (l m : Layout) (r : Rules) (nl : Netlist) (a b : Answer) (y : Done) → IsRead bytes top l → IsRead bytes top m → IsTooWide l r nl a → IsDoneBeside o m r nl b y → ⊥
+  refused_or_made : (o : Outputs) (bytes : List ℕ) (top : Option (List ℕ)) (l m : Layout) (r : Rules) (nl : Netlist) (a b : Answer) (y : Done) → IsRead bytes top l → IsRead bytes top m → RefusesBeside o l r nl a → IsDoneBeside o m r nl b y → ⊥
   refused_or_made (ToShapes path) bytes top l m r nl a b y read found h k = k
   refused_or_made (ToNetlist path netlist) bytes top l m r nl a b y read found h k = k
-  refused_or_made (ToReport schematic path netlist report) bytes top l m r nl a b y read found h k = refused_or_compared bytes top l m r nl path netlist report a b y read found h k
-  refused_or_made (ToChip n seed prefix) bytes top l m r nl a b y read found h k = refused_or_compared bytes top l m r nl [] [] [] a b k.ran read found h k.compared
+  refused_or_made (ToReport schematic path netlist report) bytes top l m r nl a b y read found (inl h) k = far_or_file bytes top l m r a k.text k.cells k.rectangles read found h k.file
+  refused_or_made (ToReport schematic path netlist report) bytes top l m r nl a b y read found (inr h) k = refused_or_compared bytes top l m r nl k.cells k.spelled k.report k.counts a b read found h.1 k.reported
+  refused_or_made (ToChip n seed prefix) bytes top l m r nl a b y read found h k = refused_or_compared bytes top l m r nl (length m.design.order) k.spelled k.report k.counts a b read found h k.reported
+
+  -- a command that reads no schematic
+  refused_or_done : (o : Outputs) (bytes : List ℕ) (top : Option (List ℕ)) (l m : Layout) (r : Rules) (a b : Answer) (y : Done) → IsRead bytes top l → IsRead bytes top m → RefusesAlone o l r a → IsDone o m r b y → ⊥
+  refused_or_done (ToShapes path) bytes top l m r a b y read found h k = let made = k.1 in far_or_file bytes top l m r a made.text made.cells made.rectangles read found h made.file
+  refused_or_done (ToNetlist path netlist) bytes top l m r a b y read found h k = far_or_file bytes top l m r a k.text k.cells k.rectangles read found h k.file
+  refused_or_done (ToReport schematic path netlist report) bytes top l m r a b y read found h k = h
+  refused_or_done (ToChip n seed prefix) bytes top l m r a b y read found h k = h
+
+  same_alone : (o : Outputs) (bytes : List ℕ) (top : Option (List ℕ)) (l m : Layout) (r : Rules) (a b : Answer) (x y : Done) → IsRead bytes top l → IsRead bytes top m → RefusesAlone o l r a → RefusesAlone o m r b → IsSameOutcome a b x y
+  same_alone (ToShapes path) bytes top l m r a b x y read found h k = same_far bytes top l m r a b x y read found h k
+  same_alone (ToNetlist path netlist) bytes top l m r a b x y read found h k = same_far bytes top l m r a b x y read found h k
+  same_alone (ToReport schematic path netlist report) bytes top l m r a b x y read found h k = absurd h
+  same_alone (ToChip n seed prefix) bytes top l m r a b x y read found h k = absurd h
 
   -- no want of memory
   a_fault : (bytes : List ℕ) (f : SpiceFault) → IsFirstSchematicFault bytes f → f ≢ spice.NoMemory
@@ -170,13 +226,13 @@ module _ (meanings : MeaningLaw) (faults : FaultLaw) (no_faults : NoFaultLaw) (o
   on_cards bytes stream o top l m r a b x y read found (WideCards nl means wide) (FaultyCards f h e) = let one = first_of bytes f h in absurd (a_fault bytes f h (no_cards read_limit bytes nl f means one.1))
   on_cards bytes stream o top l m r a b x y read found (WideCards nl means wide) (WideCards n also other) =
       let same : n ≡ nl = schematics read_limit bytes n nl also means in
-      same_width stream top l m r nl a b x y read found wide (subst (λ (z : Netlist). IsTooWide m r z b) same other)
+      same_refusal o stream top l m r nl a b x y read found wide (subst (λ (z : Netlist). RefusesBeside o m r z b) same other)
   on_cards bytes stream o top l m r a b x y read found (WideCards nl means wide) (SoundCards n also done) =
       let same : n ≡ nl = schematics read_limit bytes n nl also means in
       absurd (refused_or_made o stream top l m r nl a b y read found wide (subst (λ (z : Netlist). IsDoneBeside o m r z b y) same done))
   on_cards bytes stream o top l m r a b x y read found (SoundCards nl means made) (WideCards n also wide) =
       let same : n ≡ nl = schematics read_limit bytes n nl also means in
-      absurd (refused_or_made o stream top m l r nl b a x found read (subst (λ (z : Netlist). IsTooWide m r z b) same wide) made)
+      absurd (refused_or_made o stream top m l r nl b a x found read (subst (λ (z : Netlist). RefusesBeside o m r z b) same wide) made)
   on_cards bytes stream o top l m r a b x y read found (SoundCards nl means made) (SoundCards n also done) =
       let same : n ≡ nl = schematics read_limit bytes n nl also means in
       same_beside o stream top l m r nl a b x y read found made (subst (λ (z : Netlist). IsDoneBeside o m r z b y) same done)
@@ -191,7 +247,10 @@ module _ (meanings : MeaningLaw) (faults : FaultLaw) (no_faults : NoFaultLaw) (o
 
   on_beside : (s : Option (List ℕ)) (file : List ℕ → Told) (stream : List ℕ) (o : Outputs) (top : Option (List ℕ)) (l m : Layout) (r : Rules) (a b : Answer) (x y : Done) → IfSome s (λ path. IsTold (file path))
       → IsRead stream top l → IsRead stream top m → OfBeside s file o l r a x → OfBeside s file o m r b y → IsSameOutcome a b x y
-  on_beside None file stream o top l m r a b x y told read found h k = same_done o stream top l m r a b x y read found h k
+  on_beside None file stream o top l m r a b x y told read found (inl h) (inl k) = same_done o stream top l m r a b x y read found h k
+  on_beside None file stream o top l m r a b x y told read found (inl h) (inr k) = absurd (refused_or_done o stream top m l r b a x found read k h)
+  on_beside None file stream o top l m r a b x y told read found (inr h) (inl k) = absurd (refused_or_done o stream top l m r a b y read found h k)
+  on_beside None file stream o top l m r a b x y told read found (inr h) (inr k) = same_alone o stream top l m r a b x y read found h k
   on_beside (Some path) file stream o top l m r a b x y told read found h k = on_schematic (file path) path stream o top l m r a b x y told read found h k
 
   on_stream : (bytes : List ℕ) (file : List ℕ → Told) (p : Paths) (r : Rules) (a b : Answer) (x y : Done) → IfSome (schematic_path p.outputs) (λ path. IsTold (file path)) → OfStream bytes file p r a x → OfStream bytes file p r b y → IsSameOutcome a b x y

@@ -12,9 +12,10 @@ use Rattle.lvs_run.specs.declared.output.Output.{Output}
 use Rattle.lvs_run.specs.declared.output.Verdict.{Verdict}
 use Rattle.lvs_run.specs.declared.output.Verdict.TheVariants as verdict
 use Rattle.lvs_run.specs.Runs.{HasCauseIn}
-use Rattle.lvs_run.specs.Words.{Outputs, Paths, inputs_of, outputs_of, schematic_path}
+use Rattle.lvs_run.specs.Words.{Outputs, Paths, inputs_of, layout_outputs, outputs_of, schematic_path}
 use Rattle.lvs_run.specs.declared.words.Outputs.{Outputs as Code}
 use Rattle.lvs_run.specs.declared.words.Outputs.TheVariants as code
+use Rattle.lvs_run.specs.declared.words.LayoutOutputs.{LayoutOutputs}
 use Rattle.lvs_run.specs.declared.words.LayoutOutputs.TheVariants as files
 use Rattle.lvs_run.specs.Answers.{Done, verdict_of}
 use Rattle.lvs_run.specs.Inputs.{IsBeside, IsOutput, IsReady, Quiet, ReadAs}
@@ -28,6 +29,11 @@ pub reads_files : (o : Code) → ReadsFiles (outputs_of o)
 reads_files (code.Layout (files.Shapes shapes)) = tt
 reads_files (code.Layout (files.Netlist shapes netlist)) = tt
 reads_files (code.Report schematic paths) = tt
+
+-- and one that reads no schematic has none
+pub reads_none : (o : LayoutOutputs) → schematic_path (layout_outputs o) ≡ None
+reads_none (files.Shapes shapes) = refl
+reads_none (files.Netlist shapes netlist) = refl
 
 pub ready_alone : (p : Paths) (old mid new : Store) (r : Rules) (l : Layout) (o : Output) → p.shared ≡ None → ReadsFiles p.outputs → Quiet old mid → ReadAs old mid p.rules (λ bytes. Means bytes r) → IsSound r
     → ReadAs mid new p.layout (λ bytes. IsRead bytes p.top l) → CoversFlatLaw → ShowsFlatLaw → IsOutput p.outputs l r o → IsReady (Some p) old new o

@@ -1,5 +1,5 @@
 -- The written netlist and the written report against the told files.
-use Rattle.std.proofs.Common.{◌≡◌, inl, inr, ℕ, List, [], Option, Some, refl, sym, subst, ◌∙◌}
+use Rattle.std.proofs.Common.{◌≡◌, inl, inr, ℕ, List, Option, Some, length, refl, sym, subst, ◌∙◌}
 use Rattle.lvs_outside.specs.Store.{Store, Told, Untold, NoFile, Holds}
 use Rattle.lvs_outside.specs.Summary.{SinkState}
 use Rattle.lvs_files.specs.Files.{AreApart, files_of}
@@ -12,8 +12,8 @@ use Rattle.spice_rows.specs.Sizes.{read_limit}
 use Rattle.spice_text.specs.Means.{Means as SpiceMeans}
 use Rattle.lvs_run.specs.declared.output.Output.{Output}
 use Rattle.lvs_run.specs.Words.{Outputs, ToShapes, ToNetlist, ToReport, ToChip, Paths, inputs_of, schematic_path}
-use Rattle.lvs_run.specs.Answers.{Answer, Done, Good, IsVerdict}
-use Rattle.lvs_run.specs.Outcomes.{IsCompared, IsDone, IsDoneBeside}
+use Rattle.lvs_run.specs.Answers.{Answer, Counts, Done, Good, IsVerdict}
+use Rattle.lvs_run.specs.Outcomes.{IsDone, IsDoneBeside, IsReported}
 use Rattle.lvs_run.specs.Inputs.{IsInput, IsReady, Quiet, ReadAs}
 use Rattle.lvs_run.specs.Ends.{Delivered}
 use Rattle.lvs_run.specs.Flat.{HoldsAs, ListsAs, OfInputs}
@@ -30,37 +30,37 @@ where_meant (Holds all) bytes nl P told means h = (nl, subst (λ (xs : List ℕ)
 
 -- a comparison lists both texts
 lists_texts : (o : Outputs) (path : List ℕ) (l : Layout) (r : Rules) (nl : Netlist) (a : Answer) (done : Done) (Q : List ℕ → List ℕ → List ℕ → Type 0) → schematic_path o ≡ Some path
-    → ((ran : Done) (shapes netlist report : List ℕ) (h : IsCompared l r nl shapes netlist report a ran) → Q path h.spelled h.report) → IsDoneBeside o l r nl a done
+    → ((cells : ℕ) (spelled told : List ℕ) (counts : Counts) → IsReported l r nl cells spelled told counts a → Q path spelled told) → IsDoneBeside o l r nl a done
     → ForReport o (λ schematic netlist report. ListsAs done.files netlist (λ text. ListsAs done.files report (λ told. Q schematic text told))) (λ schematic. OfTexts (λ text told. Q schematic text told))
 lists_texts (ToReport schematic shapes netlist report) path l r nl a done Q e f h =
     let there : Some schematic ≡ Some path = e in
     let same : path ≡ schematic = cc in
-    let fact = subst (λ (s : List ℕ). Q s h.spelled h.report) same (f done shapes netlist report h) in
+    let fact = subst (λ (s : List ℕ). Q s h.spelled h.report) same (f h.cells h.spelled h.report h.counts h.reported) in
     subst (λ (d : Done). ListsAs d.files netlist (λ text. ListsAs d.files report (λ told. Q schematic text told))) (sym h.whole) (inr (inl (refl, inr (inr (inl (refl, fact))))))
 lists_texts (ToShapes shapes) path l r nl a done Q e f h = absurd h
 lists_texts (ToNetlist shapes netlist) path l r nl a done Q e f h = absurd h
 lists_texts (ToChip n seed prefix) path l r nl a done Q e f h =
     let there : Some (schematic_at prefix) ≡ Some path = e in
     let same : path ≡ schematic_at prefix = cc in
-    let ran = h.compared in (ran.spelled, ran.report, subst (λ (s : List ℕ). Q s ran.spelled ran.report) same (f h.ran [] [] [] ran))
+    (h.spelled, h.report, subst (λ (s : List ℕ). Q s h.spelled h.report) same (f (length l.design.order) h.spelled h.report h.counts h.reported))
 
 -- what was read and compared is told so
 module _ (p : Paths) (old mid late new : Store) (r : Rules) (l : Layout) (nl : Netlist) (path : List ℕ) (a : Answer) (done : Done) (beside : schematic_path p.outputs ≡ Some path)
     (quiet : Quiet old mid) (later : Quiet mid late) (rules : ReadAs old mid p.rules (λ bytes. Means bytes r)) (layout : ReadAs mid late p.layout (λ bytes. IsRead bytes p.top l))
     (schematic : ReadAs late new path (λ bytes. SpiceMeans read_limit bytes nl)) where
-  told_texts : (P : TextsFact) → ((ran : Done) (shapes netlist report : List ℕ) (h : IsCompared l r nl shapes netlist report a ran) → P l r nl h.spelled h.report) → IsDoneBeside p.outputs l r nl a done
+  told_texts : (P : TextsFact) → ((cells : ℕ) (spelled report : List ℕ) (counts : Counts) → IsReported l r nl cells spelled report counts a → P l r nl spelled report) → IsDoneBeside p.outputs l r nl a done
       → ListsReport old.file p done.files P
   told_texts P f made =
       let told : IsInput schematic.bytes (old.file path) = subst (IsInput schematic.bytes) (later.starts.files path ∙ quiet.starts.files path) schematic.got.told in
       lists_texts p.outputs path l r nl a done (λ s text report. OfCompared old.file p P s text report) beside
-      (λ x s n t h. where_meant (old.file path) schematic.bytes nl (λ (m : Netlist). OfInputs old.file p (λ (v : Layout) (q : Rules). P v q m h.spelled h.report)) told schematic.is
-      (of_inputs p old mid late r l (λ (v : Layout) (q : Rules). P v q nl h.spelled h.report) quiet rules layout (f x s n t h))) made
+      (λ cells spelled report counts h. where_meant (old.file path) schematic.bytes nl (λ (m : Netlist). OfInputs old.file p (λ (v : Layout) (q : Rules). P v q m spelled report)) told schematic.is
+      (of_inputs p old mid late r l (λ (v : Layout) (q : Rules). P v q nl spelled report) quiet rules layout (f cells spelled report counts h))) made
 
   pub verdicts_beside : VerdictsLaw → IsDoneBeside p.outputs l r nl a done → ListsReport old.file p done.files (HasVerdicts a)
-  verdicts_beside law made = told_texts (HasVerdicts a) (λ x s n t h. law layout.bytes p.top l r nl s n t a x layout.is h) made
+  verdicts_beside law made = told_texts (HasVerdicts a) (λ cells spelled report counts h. law layout.bytes p.top l r nl cells spelled report counts a layout.is h) made
 
   pub matched_beside : MatchLaw → IsDoneBeside p.outputs l r nl a done → a ≡ Good → ListsReport old.file p done.files IsMatchOf
-  matched_beside law made good = told_texts IsMatchOf (λ x s n t h. law layout.bytes p.top l r nl s n t a x layout.is h good) made
+  matched_beside law made good = told_texts IsMatchOf (λ cells spelled report counts h. law layout.bytes p.top l r nl cells spelled report counts a layout.is h good) made
 
 -- a command that reads no schematic writes no report
 no_report : (o : Outputs) (l : Layout) (r : Rules) (a : Answer) (done : Done) (Q : List ℕ → List ℕ → List ℕ → Type 0) (C : List ℕ → Type 0) → IsDone o l r a done → ForReport o Q C

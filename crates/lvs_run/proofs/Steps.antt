@@ -14,7 +14,7 @@ use Rattle.spice_rows.specs.declared.fault.SpiceFault.{SpiceFault}
 use Rattle.spice_text.specs.Means.{Means as SpiceMeans}
 use Rattle.lvs_run.specs.Words.{Outputs, ToShapes, ToNetlist, ToReport, ToChip, Paths, schematic_path}
 use Rattle.lvs_run.specs.Answers.{Done, Answer, RefusedWords, RefusedSame, RefusedAbsent, RefusedLong, RefusedRules, RefusedLayout, RefusedSchematic}
-use Rattle.lvs_run.specs.Outcomes.{Runs, HasFile, ReadsRules, ReadsLayout, Compares, IsFirstLayoutFault, IsFirstSchematicFault, IsDone, IsDoneBeside, IsOutcome, IsTooWide, NoSchematic, LongSchematic, BadSchematic, TooWide, MadeBeside, UntoldSchematic, WrongWords, SamePath, NoRules, LongRules, BadRules, NoLayout, LongLayout, BadLayout, Made, UntoldRules, UntoldLayout}
+use Rattle.lvs_run.specs.Outcomes.{Runs, HasFile, ReadsRules, ReadsLayout, Compares, IsFirstLayoutFault, IsFirstSchematicFault, IsDone, IsDoneBeside, IsOutcome, RefusesAlone, RefusesBeside, NoSchematic, LongSchematic, BadSchematic, TooWide, MadeBeside, UntoldSchematic, WrongWords, SamePath, NoRules, LongRules, BadRules, NoLayout, LongLayout, BadLayout, Made, TooFar, UntoldRules, UntoldLayout}
 
 -- a file's bytes, which are too many or not
 abbrev pub OfLength : List ℕ → Type 0 → Type 0 → Type 0
@@ -23,7 +23,7 @@ OfLength bytes long short = ((limit < length bytes) × long) ⊎ ((length bytes 
 -- the schematic's bytes: their first fault, or what they mean, and the refusal of the comparison with it, or the comparison
 pub data OfCards (bytes : List ℕ) (o : Outputs) (l : Layout) (r : Rules) (a : Answer) (done : Done) : Type 0 where
   FaultyCards : (fault : SpiceFault) → IsFirstSchematicFault bytes fault → a ≡ RefusedSchematic fault → OfCards bytes o l r a done
-  WideCards : (nl : Netlist) → SpiceMeans read_limit bytes nl → IsTooWide l r nl a → OfCards bytes o l r a done
+  WideCards : (nl : Netlist) → SpiceMeans read_limit bytes nl → RefusesBeside o l r nl a → OfCards bytes o l r a done
   SoundCards : (nl : Netlist) → SpiceMeans read_limit bytes nl → IsDoneBeside o l r nl a done → OfCards bytes o l r a done
 
 -- the schematic's file; nothing is said of one that isn't told
@@ -34,7 +34,7 @@ OfSchematic (Holds bytes) path o l r a done = OfLength bytes (a ≡ RefusedLong 
 
 -- what comes of a layout and rules: by a command that reads a schematic, what comes of that too
 abbrev pub OfBeside : Option (List ℕ) → (List ℕ → Told) → Outputs → Layout → Rules → Answer → Done → Type 0
-OfBeside None file o l r a done = IsDone o l r a done
+OfBeside None file o l r a done = IsDone o l r a done ⊎ RefusesAlone o l r a
 OfBeside (Some path) file o l r a done = OfSchematic (file path) path o l r a done
 
 -- the layout's bytes: their first fault, or their layout, and what the rules make of it
@@ -73,10 +73,16 @@ InTurn (Some p) file a done = OfPaths (p.shared) file p a done
 
 -- a command that comes to this reads no schematic
 pub made_alone : (o : Outputs) (file : List ℕ → Told) (l : Layout) (r : Rules) (a : Answer) (done : Done) → IsDone o l r a done → OfBeside (schematic_path o) file o l r a done
-made_alone (ToShapes shapes) file l r a done h = h
-made_alone (ToNetlist shapes netlist) file l r a done h = h
+made_alone (ToShapes shapes) file l r a done h = inl h
+made_alone (ToNetlist shapes netlist) file l r a done h = inl h
 made_alone (ToReport schematic shapes netlist report) file l r a done h = absurd h
 made_alone (ToChip n seed prefix) file l r a done h = absurd h
+
+pub refused_alone : (o : Outputs) (file : List ℕ → Told) (l : Layout) (r : Rules) (a : Answer) (done : Done) → RefusesAlone o l r a → OfBeside (schematic_path o) file o l r a done
+refused_alone (ToShapes shapes) file l r a done h = inr h
+refused_alone (ToNetlist shapes netlist) file l r a done h = inr h
+refused_alone (ToReport schematic shapes netlist report) file l r a done h = absurd h
+refused_alone (ToChip n seed prefix) file l r a done h = absurd h
 
 module _ (said : Option Paths) (file : List ℕ → Told) (a : Answer) (done : Done) where
   at_rules : (p : Paths) → Runs said p → OfRules (file p.rules) (file p.layout) file p a done → InTurn said file a done
@@ -107,6 +113,7 @@ module _ (said : Option Paths) (file : List ℕ → Told) (a : Answer) (done : D
   in_turn (LongLayout p r bytes reads told long e) = of_layout_file p r (Holds bytes) reads told (inl (long, e))
   in_turn (BadLayout p r bytes fault reads held first e) = of_layout_file p r (Holds bytes) reads held.told (inr (held.short, FaultyStream fault first e))
   in_turn (Made p r l reads made) = of_layout_file p r (Holds reads.bytes) reads.rules reads.held.told (inr (reads.held.short, SoundStream l reads.read (made_alone p.outputs file l r a done made)))
+  in_turn (TooFar p r l reads far) = of_layout_file p r (Holds reads.bytes) reads.rules reads.held.told (inr (reads.held.short, SoundStream l reads.read (refused_alone p.outputs file l r a done far)))
   in_turn (NoSchematic p r l path c told e) = of_schematic_file p r l path NoFile c told e
   in_turn (LongSchematic p r l path bytes c told long e) = of_schematic_file p r l path (Holds bytes) c told (inl (long, e))
   in_turn (BadSchematic p r l path bytes fault c held first e) = of_schematic_file p r l path (Holds bytes) c held.told (inr (held.short, FaultyCards fault first e))
@@ -130,7 +137,8 @@ module _ (said : Option Paths) (file : List ℕ → Told) (a : Answer) (done : D
   by_schematic p r l path (Holds bytes) c told (inr h) = by_cards p r l path bytes c (record { told = told; short = h.0 }) h.1
 
   by_beside : (p : Paths) (r : Rules) (l : Layout) (o : Option (List ℕ)) → ReadsLayout said file p r l → schematic_path p.outputs ≡ o → OfBeside o file p.outputs l r a done → IsOutcome said file a done
-  by_beside p r l None reads e h = Made p r l reads h
+  by_beside p r l None reads e (inl h) = Made p r l reads h
+  by_beside p r l None reads e (inr h) = TooFar p r l reads h
   by_beside p r l (Some path) reads e h = by_schematic p r l path (file path) (record { reads = reads; beside = e }) refl h
 
   by_stream : (p : Paths) (r : Rules) (bytes : List ℕ) → ReadsRules said file p r → HasFile file p.layout bytes → OfStream bytes file p r a done → IsOutcome said file a done

@@ -17,14 +17,16 @@ use Rattle.spice_rows.specs.Sizes.{read_limit}
 use Rattle.spice_rows.specs.declared.fault.SpiceFault.{SpiceFault}
 use Rattle.spice_rows.specs.declared.fault.SpiceFault.TheVariants as spice
 use Rattle.spice_text.specs.Means.{Means as SpiceMeans, SaysFirst}
+use Rattle.shapes_file.specs.File.{IsNarrow}
 use Rattle.lvs_run.specs.declared.output.Verdict.{Verdict}
 use Rattle.lvs_run.specs.declared.output.Verdict.TheVariants as verdict
 use Rattle.lvs_run.specs.Words.{Outputs, ToShapes, ToNetlist, ToReport, ToChip, Paths, inputs_of, schematic_path}
-use Rattle.lvs_run.specs.Answers.{Done, Answer, Good, Bad, RefusedSame, RefusedAbsent, RefusedLong, RefusedRules, RefusedLayout, RefusedSchematic, RefusedMergedLayout, RefusedMergedSchematic, Outside, NoMemory, refused_rules, refused_schematic, verdict_of, IsVerdict, comparison_answer, refused_layout}
-use Rattle.lvs_run.specs.Runs.{HasLength, IsLong, IsReadWhole, IsReadTooFar, OfInput, HasCauseIn, MayEnd}
-use Rattle.lvs_run.specs.Outcomes.{IsOutcome, IsDone, IsDoneBeside, SamePath, gates_answer}
-use Rattle.lvs_run.proofs.Steps.{OfBeside, OfCards, FaultyCards, WideCards, SoundCards, OfSchematic, made_alone, OfStream, FaultyStream, SoundStream, OfLayout, OfRuleText, FaultyRules, SoundRules, OfRules, of_rules}
-use Rattle.lvs_run.specs.Inputs.{Quiet, DepotFaults, IsInput, Got, ReadAs, NoRules, NoLayout, NoSchematic, NoComparison, RefusesComparison, RefusesRules, RefusesLayout, ComesOf, Stops}
+use Rattle.lvs_run.specs.Answers.{Done, Answer, Good, Bad, RefusedSame, RefusedAbsent, RefusedLong, RefusedRules, RefusedLayout, RefusedSchematic, RefusedWide, RefusedMergedLayout, RefusedMergedSchematic, Outside, NoMemory, refused_rules, refused_schematic, verdict_of, IsVerdict, comparison_answer, refused_layout}
+use Rattle.lvs_run.specs.Runs.{HasLength, IsLastRead, IsLong, IsReadWhole, IsReadTooFar, OfInput, HasCauseIn, MayEnd}
+use Rattle.lvs_run.specs.Outcomes.{IsOutcome, IsDone, IsDoneBeside, IsTooFar, IsTooWide, RefusesAlone, RefusesBeside, SamePath, gates_answer}
+use Rattle.lvs_run.proofs.Steps.{OfBeside, OfCards, FaultyCards, WideCards, SoundCards, OfSchematic, made_alone, refused_alone, OfStream, FaultyStream, SoundStream, OfLayout, OfRuleText, FaultyRules, SoundRules, OfRules, of_rules}
+use Rattle.lvs_run.specs.Inputs.{Quiet, DepotFaults, IsInput, Got, ReadAs, NoRules, NoLayout, NoSchematic, NoComparison, RefusesComparison, RefusesRules, RefusesLayout, NotWide, ComesOf, Stops}
+use Rattle.lvs_run.proofs.Widths.{only_wide}
 
 -- a fault of the rules that isn't want of memory is the first
 pub rules_refused : (old new : Store) (path bytes : List ℕ) (fault : RuleFault) → Got old new path bytes → Answers bytes fault → NoRules old new path (refused_rules fault)
@@ -216,7 +218,7 @@ layout_stop p old mid new r a apart reads quiet rules h = record {
 }
 
 -- no memory for what there is to write, after both inputs were read
-pub memory_stop : (p : Paths) (old mid new : Store) (rules layout : List ℕ) → Got old mid p.rules rules → Got mid new p.layout layout → Stops (Some p) old new NoMemory
+memory_stop : (p : Paths) (old mid new : Store) (rules layout : List ℕ) → Got old mid p.rules rules → Got mid new p.layout layout → Stops (Some p) old new NoMemory
 memory_stop p old mid new rules layout a b = record { cause = tt; faults = b.faults ∙ a.faults; comes = tt }
 
 -- the rules and the layout were read, and what comes of them is the outcome
@@ -256,6 +258,51 @@ pub verdict_cause : (p : Paths) (old new : Store) (l : Layout) (r : Rules) (v : 
     → HasCauseIn (Some p) old new (verdict_of v)
 verdict_cause p old new l r v done apart absent h = caused p old new v apart absent (may_end p.outputs l r (verdict_of v) done h)
 
+-- a shapes file is to be written, and the layout's file was read last
+last_alone : (o : Outputs) (layout : List ℕ) (old new : Store) → ReadsFiles o → schematic_path o ≡ None → IsReadWhole new.opened old layout → IsLastRead o layout old new
+last_alone (ToShapes shapes) layout old new reads e h = h
+last_alone (ToNetlist shapes netlist) layout old new reads e h = h
+last_alone (ToReport schematic shapes netlist report) layout old new reads e h = absurd cc
+last_alone (ToChip n seed prefix) layout old new reads e h = absurd reads
+
+refuses_alone : (o : Outputs) (l : Layout) (r : Rules) (a : Answer) → ReadsFiles o → schematic_path o ≡ None → IsTooFar l r a → RefusesAlone o l r a
+refuses_alone (ToShapes shapes) l r a reads e h = h
+refuses_alone (ToNetlist shapes netlist) l r a reads e h = h
+refuses_alone (ToReport schematic shapes netlist report) l r a reads e h = absurd cc
+refuses_alone (ToChip n seed prefix) l r a reads e h = absurd reads
+
+-- the same of one that reads a schematic
+last_beside : (o : Outputs) (layout path : List ℕ) (old new : Store) → ReadsFiles o → schematic_path o ≡ Some path → IsReadWhole new.opened old path → IsLastRead o layout old new
+last_beside (ToShapes shapes) layout path old new reads e h = absurd cc
+last_beside (ToNetlist shapes netlist) layout path old new reads e h = absurd cc
+last_beside (ToReport schematic shapes netlist report) layout path old new reads e h =
+    let there : Some schematic ≡ Some path = e in
+    let same : path ≡ schematic = cc in
+    subst (λ (q : List ℕ). IsReadWhole new.opened old q) same h
+last_beside (ToChip n seed prefix) layout path old new reads e h = absurd reads
+
+refuses_run : (o : Outputs) (l : Layout) (r : Rules) (nl : Netlist) (path : List ℕ) (a : Answer) → ReadsFiles o → schematic_path o ≡ Some path → IsTooFar l r a ⊎ (IsNarrow l r × IsTooWide l r nl a) → RefusesBeside o l r nl a
+refuses_run (ToShapes shapes) l r nl path a reads e h = absurd cc
+refuses_run (ToNetlist shapes netlist) l r nl path a reads e h = absurd cc
+refuses_run (ToReport schematic shapes netlist report) l r nl path a reads e h = h
+refuses_run (ToChip n seed prefix) l r nl path a reads e h = absurd reads
+
+-- no shapes file of what was read has room for it
+module _ (p : Paths) (old mid new : Store) (r : Rules) (l : Layout) (apart : p.shared ≡ None) (reads : ReadsFiles p.outputs) (alone : schematic_path p.outputs ≡ None)
+    (quiet : Quiet old mid) (rules : ReadAs old mid p.rules (λ bytes. Means bytes r)) (layout : ReadAs mid new p.layout (λ bytes. IsRead bytes p.top l)) where
+  far_stop : (name : List ℕ) → IsTooFar l r (RefusedWide name) → Stops (Some p) old new (RefusedWide name)
+  far_stop name h = record {
+    cause = ((apart, last_alone p.outputs p.layout old new reads alone (read_whole old new p.layout layout.bytes new.opened layout.got.opened (subst (IsInput layout.bytes) (quiet.starts.files p.layout) layout.got.told))), layout.got.absent ∙ rules.got.absent);
+    faults = layout.got.faults ∙ rules.got.faults;
+    comes = comes_so p old.file (RefusedWide name) reads
+        (λ done. comes_beside p old mid new r l (RefusedWide name) done apart reads quiet rules layout (refused_alone p.outputs old.file l r (RefusedWide name) done (refuses_alone p.outputs l r (RefusedWide name) reads alone h)));
+  }
+
+  pub alone_stop : (a : Answer) → NotWide l r a → Stops (Some p) old new a
+  alone_stop NoMemory h = memory_stop p old mid new rules.bytes layout.bytes rules.got layout.got
+  alone_stop (RefusedWide name) h = far_stop name h
+  alone_stop a h = absurd (only_wide l r a h)
+
 -- the rules and the layout were read, and the schematic comes next
 module _ (p : Paths) (old mid late new : Store) (r : Rules) (l : Layout) (path : List ℕ) (apart : p.shared ≡ None) (reads : ReadsFiles p.outputs) (beside : schematic_path p.outputs ≡ Some path)
     (quiet : Quiet old mid) (later : Quiet mid late) (rules : ReadAs old mid p.rules (λ bytes. Means bytes r)) (layout : ReadAs mid late p.layout (λ bytes. IsRead bytes p.top l)) where
@@ -274,6 +321,7 @@ module _ (p : Paths) (old mid late new : Store) (r : Rules) (l : Layout) (path :
   schematic_cause (RefusedAbsent q) h = ((apart, inr (inr (beside ∙ ap (λ (x : List ℕ). Some x) (sym h.0)))), record { one = h.2.one ∙ ap (λ (n : ℕ). n + 1) absent_so; last = h.2.last ∙ sym h.0; closed = h.2.closed })
   schematic_cause (RefusedLong q) h = ((apart, inr (inr (beside ∙ ap (λ (x : List ℕ). Some x) (sym h.0)))), of_files p.outputs _ _ reads (subst (IsReadTooFar new.opened) (sym h.0) h.2), h.3 ∙ absent_so)
   schematic_cause (RefusedSchematic fault) h = ((apart, (path, beside, of_files p.outputs _ _ reads (read_whole old new path h.bytes new.opened h.got.opened (subst (IsInput h.bytes) told_so h.got.told)))), h.got.absent ∙ absent_so)
+  schematic_cause (RefusedWide name) h = ((apart, last_beside p.outputs p.layout path old new reads beside (read_whole old new path h.bytes new.opened h.got.opened (subst (IsInput h.bytes) told_so h.got.told))), h.got.absent ∙ absent_so)
   schematic_cause (RefusedMergedLayout name) h = ((apart, (path, beside, of_files p.outputs _ _ reads (read_whole old new path h.bytes new.opened h.got.opened (subst (IsInput h.bytes) told_so h.got.told)))), h.got.absent ∙ absent_so)
   schematic_cause (RefusedMergedSchematic name) h = ((apart, (path, beside, of_files p.outputs _ _ reads (read_whole old new path h.bytes new.opened h.got.opened (subst (IsInput h.bytes) told_so h.got.told)))), h.got.absent ∙ absent_so)
   schematic_cause Outside h = tt
@@ -284,8 +332,9 @@ module _ (p : Paths) (old mid late new : Store) (r : Rules) (l : Layout) (path :
   schematic_comes (RefusedAbsent q) h = λ done. on_schematic (RefusedAbsent q) done (absent_schematic (late.file path) path p.outputs l r (RefusedAbsent q) done h.1 (ap RefusedAbsent h.0))
   schematic_comes (RefusedLong q) h = λ done. on_schematic (RefusedLong q) done (long_schematic (late.file path) path p.outputs l r (RefusedLong q) done h.1 (ap RefusedLong h.0))
   schematic_comes (RefusedSchematic fault) h = λ done. on_schematic (RefusedSchematic fault) done (schematic_read (late.file path) path p.outputs l r (RefusedSchematic fault) done h.bytes h.got.told (FaultyCards fault h.is refl))
-  schematic_comes (RefusedMergedLayout name) h = λ done. on_schematic (RefusedMergedLayout name) done (schematic_read (late.file path) path p.outputs l r (RefusedMergedLayout name) done h.bytes h.got.told (WideCards h.is.0 h.is.1 h.is.2))
-  schematic_comes (RefusedMergedSchematic name) h = λ done. on_schematic (RefusedMergedSchematic name) done (schematic_read (late.file path) path p.outputs l r (RefusedMergedSchematic name) done h.bytes h.got.told (WideCards h.is.0 h.is.1 h.is.2))
+  schematic_comes (RefusedWide name) h = λ done. on_schematic (RefusedWide name) done (schematic_read (late.file path) path p.outputs l r (RefusedWide name) done h.bytes h.got.told (WideCards h.is.0 h.is.1 (refuses_run p.outputs l r h.is.0 path (RefusedWide name) reads beside h.is.2)))
+  schematic_comes (RefusedMergedLayout name) h = λ done. on_schematic (RefusedMergedLayout name) done (schematic_read (late.file path) path p.outputs l r (RefusedMergedLayout name) done h.bytes h.got.told (WideCards h.is.0 h.is.1 (refuses_run p.outputs l r h.is.0 path (RefusedMergedLayout name) reads beside h.is.2)))
+  schematic_comes (RefusedMergedSchematic name) h = λ done. on_schematic (RefusedMergedSchematic name) done (schematic_read (late.file path) path p.outputs l r (RefusedMergedSchematic name) done h.bytes h.got.told (WideCards h.is.0 h.is.1 (refuses_run p.outputs l r h.is.0 path (RefusedMergedSchematic name) reads beside h.is.2)))
   schematic_comes Outside h = tt
   schematic_comes NoMemory h = tt
   schematic_comes a h = absurd h
@@ -313,8 +362,8 @@ comparison_end comparison.Mismatch = tt
 comparison_end comparison.Undecided = tt
 
 may_end_beside : (o : Outputs) (l : Layout) (r : Rules) (nl : Netlist) (a : Answer) (done : Done) → IsDoneBeside o l r nl a done → MayEnd o a
-may_end_beside (ToReport schematic shapes netlist report) l r nl a done h = subst IsVerdict (sym h.answer) (comparison_end h.verdict)
-may_end_beside (ToChip n seed prefix) l r nl a done h = let ran = h.compared in subst IsVerdict (sym ran.answer) (comparison_end ran.verdict)
+may_end_beside (ToReport schematic shapes netlist report) l r nl a done h = let ran = h.reported in subst IsVerdict (sym ran.answer) (comparison_end ran.verdict)
+may_end_beside (ToChip n seed prefix) l r nl a done h = let ran = h.reported in subst IsVerdict (sym ran.answer) (comparison_end ran.verdict)
 may_end_beside (ToShapes shapes) l r nl a done h = absurd h
 may_end_beside (ToNetlist shapes netlist) l r nl a done h = absurd h
 

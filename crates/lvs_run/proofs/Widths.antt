@@ -1,7 +1,11 @@
 -- Which answers refuse what is to be compared.
-use Rattle.std.proofs.Common.{◌≡◌, ◌+◌, ◌<◌, ◌≤◌, ℕ, suc, true, false, Bool, cond, if◌then◌else◌, List, [], ◌∷◌, length, slice_get, Option, Some, None, refl, sym, subst, ap, ap₂, ◌∙◌, arith}
+use Rattle.std.proofs.Common.{◌≡◌, ◌⊎◌, inl, inr, ◌+◌, ◌<◌, ◌≤◌, ℕ, suc, true, false, Bool, cond, if◌then◌else◌, List, [], ◌∷◌, length, slice_get, Option, Some, None, refl, sym, subst, ap, ap₂, ◌∙◌, arith}
 use Rattle.std.specs.Option.{option_map}
-use Rattle.cell_graph.specs.Linked.{Linked}
+use Rattle.cell_graph.specs.Linked.{Linked, IsSound, cell_at}
+use Rattle.cell_graph.specs.declared.cells.CellPart.{CellPart}
+use Rattle.layout_shapes.specs.Written.{name_of as cell_name}
+use Rattle.layout_shapes.proofs.Fitting.{there}
+use Rattle.layout_shapes.proofs.Reaching.{within}
 use Rattle.deep_tables.specs.declared.gates.BadGate.{BadGate}
 use Rattle.gds_layout.specs.declared.layout.Layout.{Layout}
 use Rattle.lvs_outside.specs.Store.{Store}
@@ -16,10 +20,11 @@ use Rattle.report_file.specs.File.{IsReportFile}
 use Rattle.rule_text.specs.Rules.{Rules}
 use Rattle.spice_rows.specs.Sizes.{read_limit}
 use Rattle.spice_text.specs.Means.{Means as SpiceMeans}
-use Rattle.lvs_run.specs.Answers.{Answer, IsVerdict, NoMemory, Outside, RefusedMergedLayout, RefusedMergedSchematic}
-use Rattle.lvs_run.specs.Inputs.{DepotFaults, NoComparison, NoSchematic, NotMerged, ReadAs, RefusesComparison, RefusesSchematic}
+use Rattle.shapes_file.specs.File.{IsNarrow, IsShapesFile, IsWide}
+use Rattle.lvs_run.specs.Answers.{Answer, IsVerdict, NoMemory, Outside, RefusedWide, RefusedMergedLayout, RefusedMergedSchematic}
+use Rattle.lvs_run.specs.Inputs.{DepotFaults, IsStopFor, NoComparison, NoSchematic, NotForRun, NotMerged, NotWide, ReadAs, RefusesComparison, RefusesSchematic}
 use Rattle.lvs_run.specs.Merging.{NotNarrow}
-use Rattle.lvs_run.specs.Outcomes.{merge_refusal}
+use Rattle.lvs_run.specs.Outcomes.{IsTooFar, IsTooWide, merge_refusal}
 
 abbrev pub IsOfMerge : Answer → Type 0
 IsOfMerge (RefusedMergedLayout name) = Unit {0}
@@ -45,22 +50,74 @@ pub refuses_more : (l : Layout) (r : Rules) (old new : Store) (path : List ℕ) 
 refuses_more l r old new path a h = record { why = more a h.why; faults = h.faults }
   where
     more : (a : Answer) → NoSchematic old new path a → NoComparison l r old new path a
+    more (RefusedWide name) h = absurd h
     more (RefusedMergedLayout name) h = absurd h
     more (RefusedMergedSchematic name) h = absurd h
     more a h = h
 
-pub refuses_wide : (l : Layout) (r : Rules) (old new : Store) (path : List ℕ) (nl : Netlist) (a : Answer) → ReadAs old new path (λ bytes. SpiceMeans read_limit bytes nl) → NotMerged l r nl a → RefusesComparison l r old new path a
+-- which answers refuse a comparison whose shapes file is written
+abbrev IsOfRun : Answer → Type 0
+IsOfRun (RefusedWide name) = Unit {0}
+IsOfRun (RefusedMergedLayout name) = Unit {0}
+IsOfRun (RefusedMergedSchematic name) = Unit {0}
+IsOfRun a = ⊥
+
+of_merge : (a : Answer) → IsOfMerge a → IsOfRun a
+of_merge (RefusedMergedLayout name) h = tt
+of_merge (RefusedMergedSchematic name) h = tt
+of_merge a h = absurd h
+
+only_far : (l : Layout) (r : Rules) (nl : Netlist) (a : Answer) → IsTooFar l r a ⊎ (IsNarrow l r × IsTooWide l r nl a) → IsOfRun a
+only_far l r nl a (inl h) = subst IsOfRun (sym h.answer) tt
+only_far l r nl a (inr (narrow, h)) = of_merge a (only_these (wide_name r h.netlist) (wide_name r nl) a h.refused)
+
+-- a layout that is refused for its shapes file is refused by the cell's name
+abbrev pub IsOfShapes : Answer → Type 0
+IsOfShapes (RefusedWide name) = Unit {0}
+IsOfShapes a = ⊥
+
+pub only_wide : (l : Layout) (r : Rules) (a : Answer) → IsTooFar l r a → IsOfShapes a
+only_wide l r a h = subst IsOfShapes (sym h.answer) tt
+
+pub refuses_wide : (l : Layout) (r : Rules) (old new : Store) (path : List ℕ) (nl : Netlist) (a : Answer) → ReadAs old new path (λ bytes. SpiceMeans read_limit bytes nl) → NotForRun l r nl a → RefusesComparison l r old new path a
 refuses_wide l r old new path nl a read h = record { why = why a h; faults = faults a h }
   where
-    why : (a : Answer) → NotMerged l r nl a → NoComparison l r old new path a
+    why : (a : Answer) → NotForRun l r nl a → NoComparison l r old new path a
+    why (RefusedWide name) h = record { bytes = read.bytes; got = read.got; is = (nl, read.is, h) }
     why (RefusedMergedLayout name) h = record { bytes = read.bytes; got = read.got; is = (nl, read.is, h) }
     why (RefusedMergedSchematic name) h = record { bytes = read.bytes; got = read.got; is = (nl, read.is, h) }
     why NoMemory h = tt
-    why a h = absurd (only_these (wide_name r h.netlist) (wide_name r nl) a h.refused)
+    why a h = absurd (only_far l r nl a h)
 
-    faults : (a : Answer) → NotMerged l r nl a → DepotFaults a old new
-    faults Outside h = absurd (only_these (wide_name r h.netlist) (wide_name r nl) Outside h.refused)
+    faults : (a : Answer) → NotForRun l r nl a → DepotFaults a old new
+    faults Outside h = absurd (only_far l r nl Outside h)
     faults a h = read.got.faults
+
+-- a cell that is too wide is one
+pub wide_inside : (l : Layout) (r : Rules) (cell : ℕ) → IsSound l.design → IsWide l r cell → cell < length l.design.cells
+wide_inside l r cell sound h = within l.design cell sound.order h.first.0
+
+-- and its name refuses the layout
+pub stops_far : (l : Layout) (r : Rules) (cell : ℕ) (a : Answer) → IsSound l.design → IsWide l r cell → ((c : CellPart) → cell_at l.design cell ≡ Some c → IsStopFor c.name a) → NotWide l r a
+stops_far l r cell a sound h f = by_part (there l.design.cells cell (wide_inside l r cell sound h)) a f
+  where
+    far : (p : (c : CellPart) × (cell_at l.design cell ≡ Some c)) (a : Answer) → a ≡ RefusedWide p.0.name → IsTooFar l r a
+    far p a e = record { cell = cell; wide = h; answer = e ∙ ap (λ (n : List ℕ). RefusedWide n) (sym (ap cell_name p.1)) }
+
+    by_part : (p : (c : CellPart) × (cell_at l.design cell ≡ Some c)) (a : Answer) → ((c : CellPart) → cell_at l.design cell ≡ Some c → IsStopFor c.name a) → NotWide l r a
+    by_part p NoMemory f = tt
+    by_part p a f = far p a (f p.0 p.1)
+
+pub run_far : (l : Layout) (r : Rules) (nl : Netlist) (a : Answer) → NotWide l r a → NotForRun l r nl a
+run_far l r nl NoMemory h = tt
+run_far l r nl a h = inl h
+
+pub run_merged : (l : Layout) (r : Rules) (nl : Netlist) (a : Answer) → IsNarrow l r → NotMerged l r nl a → NotForRun l r nl a
+run_merged l r nl NoMemory narrow h = tt
+run_merged l r nl a narrow h = inr (narrow, h)
+
+pub narrow_file : (l : Layout) (r : Rules) (text : List ℕ) (cells rectangles : ℕ) → IsShapesFile l r text cells rectangles → IsNarrow l r
+narrow_file l r text cells rectangles h = record { table = h.table; layers = h.layers; narrow = h.narrow }
 
 -- ---- by rules that combine devices
 

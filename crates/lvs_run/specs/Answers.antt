@@ -19,7 +19,7 @@ use Rattle.lvs_run.specs.declared.status.Status.TheVariants as status
 use Rattle.lvs_run.specs.declared.status.Refusal.{Refusal}
 use Rattle.lvs_run.specs.declared.status.Refusal.TheVariants.{Words, SamePath, Absent, TooLong}
 use Rattle.lvs_run.specs.declared.status.Refusal.TheVariants.{Rules, Layout, Schematic}
-use Rattle.lvs_run.specs.declared.status.Refusal.TheVariants.{MergedLayout, MergedSchematic}
+use Rattle.lvs_run.specs.declared.status.Refusal.TheVariants.{Wide, MergedLayout, MergedSchematic}
 
 -- what the summary line counts: of `shapes` the cells and the rectangles of the shapes file, of
 -- `extract` these cells, the netlist's circuits and the bad gates, of `run` and `make` the compared
@@ -65,7 +65,8 @@ compared path text netlist spelled report told counts = record {
 abbrev pub made : (n seed : ℕ) (prefix : List ℕ) → Counts → Done
 made n seed prefix counts = record { files = chip_files n seed prefix; counts = counts }
 
--- an answer, with the bytes of its path, with the fault of its file or with a circuit's name
+-- an answer, with the bytes of its path, with the fault of its file or with the name of a cell or
+-- a circuit
 pub data Answer : Type 0 where
   Good : Answer
   Bad : Answer
@@ -76,6 +77,7 @@ pub data Answer : Type 0 where
   RefusedRules : (fault : RuleFault) → Answer
   RefusedLayout : (fault : LayoutFault) → Answer
   RefusedSchematic : (fault : SpiceFault) → Answer
+  RefusedWide : (name : List ℕ) → Answer
   RefusedMergedLayout : (name : List ℕ) → Answer
   RefusedMergedSchematic : (name : List ℕ) → Answer
   Undecided : Answer
@@ -103,6 +105,7 @@ refused (TooLong path) = RefusedLong (string_bytes path)
 refused (Rules fault) = RefusedRules fault
 refused (Layout fault) = RefusedLayout fault
 refused (Schematic fault) = RefusedSchematic fault
+refused (Wide name) = RefusedWide name
 refused (MergedLayout name) = RefusedMergedLayout name
 refused (MergedSchematic name) = RefusedMergedSchematic name
 

@@ -1,5 +1,5 @@
 -- What came of reading input files whole, before anything is written.
-use Rattle.std.specs.Prelude.{◌≡◌, ◌<◌, ◌≤◌, ℕ, List, length, Option, Some}
+use Rattle.std.specs.Prelude.{◌≡◌, ◌⊎◌, ◌<◌, ◌≤◌, ℕ, List, length, Option, Some}
 use Rattle.lvs_outside.specs.Store.{Store, Told, Untold, NoFile, Holds, IsAbsent, IsThere}
 use Rattle.lvs_outside.specs.Store.{Reading}
 use Rattle.lvs_outside.specs.Loops.{limit}
@@ -9,16 +9,18 @@ use Rattle.rule_text.specs.Rules.{Rules}
 use Rattle.spice_rows.specs.Sizes.{read_limit}
 use Rattle.spice_text.specs.Means.{Means as SpiceMeans}
 use Rattle.rule_text.specs.Reading.{IsFirstFault as IsFirstRuleFault}
+use Rattle.shapes_file.specs.File.{IsNarrow}
 use Rattle.lvs_run.specs.Words.{Outputs, Paths, ForNetlist, ForShapes, inputs, inputs_of}
 use Rattle.lvs_files.specs.Files.{AreApart, files_of}
 use Rattle.lvs_run.specs.Answers.{Done, Answer, Good, RefusedAbsent, RefusedLong, RefusedRules}
-use Rattle.lvs_run.specs.Answers.{RefusedLayout, RefusedSchematic, RefusedMergedLayout}
+use Rattle.lvs_run.specs.Answers.{RefusedLayout, RefusedSchematic, RefusedWide}
+use Rattle.lvs_run.specs.Answers.{RefusedMergedLayout}
 use Rattle.lvs_run.specs.Answers.{RefusedMergedSchematic, Outside, NoMemory, refused}
 use Rattle.lvs_run.specs.Answers.{verdict_of}
 use Rattle.lvs_run.specs.Runs.{IsLong, IsReadTooFar, WasAbsent, StartsNone, HasCauseIn}
 use Rattle.lvs_run.specs.Lines.{line_of}
 use Rattle.lvs_run.specs.Outcomes.{IsOutcome, IsDone, IsDoneBeside, IsFirstLayoutFault}
-use Rattle.lvs_run.specs.Outcomes.{IsFirstSchematicFault, IsTooWide}
+use Rattle.lvs_run.specs.Outcomes.{IsFirstSchematicFault, IsTooFar, IsTooWide}
 use Rattle.lvs_run.specs.Flat.{IsFlatNetlist, IsFlatText, ListsAs}
 use Rattle.lvs_run.specs.Verdicts.{HasVerdicts, IsMatchOf, ListsReport}
 use Rattle.lvs_run.specs.declared.input.Stop.{Stop}
@@ -113,18 +115,36 @@ pub record RefusesSchematic (old new : Store) (path : List ℕ) (a : Answer) : T
   pub why : NoSchematic old new path a
   pub faults : DepotFaults a old new
 
+-- a run ends for a cell of this name that is too wide, or for want of memory
+abbrev pub IsStopFor : List ℕ → Answer → Type 0
+IsStopFor name NoMemory = Unit {0}
+IsStopFor name a = a ≡ RefusedWide name
+
+-- a layout is refused with this answer for its shapes file, or there was no memory for it
+abbrev pub NotWide : Layout → Rules → Answer → Type 0
+NotWide l r NoMemory = Unit {0}
+NotWide l r a = IsTooFar l r a
+
 -- a comparison is refused with this answer, or there was no memory for it
 abbrev pub NotMerged : Layout → Rules → Netlist → Answer → Type 0
 NotMerged l r nl NoMemory = Unit {0}
 NotMerged l r nl a = IsTooWide l r nl a
 
+-- the same of one whose shapes file is written
+abbrev pub NotForRun : Layout → Rules → Netlist → Answer → Type 0
+NotForRun l r nl NoMemory = Unit {0}
+NotForRun l r nl a = IsTooFar l r a ⊎ (IsNarrow l r × IsTooWide l r nl a)
+
 -- the schematic was read, and the comparison with it is refused
 abbrev pub IsWideBeside : Layout → Rules → Store → Store → List ℕ → Answer → Type 0
 IsWideBeside l r old new path a = ReadAs old new path
-    (λ bytes. (nl : Netlist) × SpiceMeans read_limit bytes nl × IsTooWide l r nl a)
+    (λ bytes. (nl : Netlist) × SpiceMeans read_limit bytes nl
+    × (IsTooFar l r a ⊎ (IsNarrow l r × IsTooWide l r nl a)))
 
 -- why there is nothing to write of a comparison with the schematic's file
 abbrev pub NoComparison : Layout → Rules → Store → Store → List ℕ → Answer → Type 0
+NoComparison l r old new path (RefusedWide name) =
+    IsWideBeside l r old new path (RefusedWide name)
 NoComparison l r old new path (RefusedMergedLayout name) =
     IsWideBeside l r old new path (RefusedMergedLayout name)
 NoComparison l r old new path (RefusedMergedSchematic name) =

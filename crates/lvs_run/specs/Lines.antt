@@ -27,7 +27,7 @@ use Rattle.lvs_run.specs.Answers.{Counts, Layers, Extracted, Compared, Done}
 use Rattle.lvs_run.specs.Answers.{Answer, Good, Bad, Undecided}
 use Rattle.lvs_run.specs.Answers.{RefusedWords, RefusedSame, RefusedAbsent, RefusedLong}
 use Rattle.lvs_run.specs.Answers.{RefusedRules, RefusedLayout, RefusedSchematic}
-use Rattle.lvs_run.specs.Answers.{RefusedMergedLayout, RefusedMergedSchematic}
+use Rattle.lvs_run.specs.Answers.{RefusedWide, RefusedMergedLayout, RefusedMergedSchematic}
 
 -- a fault's number and its line; of a byte that no text has, its offset
 abbrev pub rule_place : RuleFault → List ℕ
@@ -112,6 +112,7 @@ line_of (RefusedRules fault) done = codes "refused rules " ++ rule_place fault +
 line_of (RefusedLayout fault) done = codes "refused layout " ++ layout_place fault ++ 10 ∷ []
 line_of (RefusedSchematic fault) done = codes "refused schematic " ++ schematic_place fault
     ++ 10 ∷ []
+line_of (RefusedWide name) done = codes "refused layout 28 cell " ++ escaped name ++ 10 ∷ []
 line_of (RefusedMergedLayout name) done = codes "refused merge layout " ++ escaped name ++ 10 ∷ []
 line_of (RefusedMergedSchematic name) done = codes "refused merge schematic " ++ escaped name
     ++ 10 ∷ []

@@ -1,5 +1,5 @@
 -- What a run comes to where the files are told: its answer, and what it writes.
-use Rattle.std.specs.Prelude.{◌≡◌, ℕ, ◌<◌, ◌≤◌, List, [], ◌∷◌, length, Option, Some, None}
+use Rattle.std.specs.Prelude.{◌≡◌, ◌⊎◌, ℕ, ◌<◌, ◌≤◌, List, [], ◌∷◌, length, Option, Some, None}
 use Rattle.lvs_outside.specs.Store.{Told, Untold, NoFile, Holds}
 use Rattle.lvs_outside.specs.Loops.{limit}
 use Rattle.gds_layout.specs.declared.layout.Layout.{Layout}
@@ -10,7 +10,9 @@ use Rattle.rule_text.specs.declared.fault.RuleFault.{RuleFault}
 use Rattle.rule_text.specs.Rules.{Rules}
 use Rattle.rule_text.specs.Reading.{Means, IsFirstFault}
 use Rattle.rule_text.specs.Sound.{IsSound}
-use Rattle.shapes_file.specs.File.{IsShapesFile}
+use Rattle.shapes_file.specs.File.{IsNarrow, IsShapesFile, IsWide}
+use Rattle.layout_shapes.specs.Written.{name_of}
+use Rattle.cell_graph.specs.Linked.{cell_at}
 use Rattle.netlist_file.specs.File.{IsNetlistFile}
 use Rattle.deep_tables.specs.declared.gates.BadGate.{BadGate}
 use Rattle.plain_netlist.specs.Netlist.{Netlist}
@@ -24,11 +26,11 @@ use Rattle.spice_rows.specs.declared.fault.SpiceFault.TheVariants as spice
 use Rattle.spice_text.specs.Means.{Means as SpiceMeans, IsFirstFault as IsFirstSpiceFault}
 use Rattle.lvs_run.specs.Words.{Outputs, Paths, ToShapes, ToNetlist, ToReport, ToChip}
 use Rattle.lvs_run.specs.Words.{schematic_path}
-use Rattle.lvs_run.specs.Answers.{Done, Extracted, Compared, drawn, extracted, compared, made}
-use Rattle.lvs_run.specs.Answers.{Answer, Good, Bad, comparison_answer}
+use Rattle.lvs_run.specs.Answers.{Done, Counts, Extracted, Compared, drawn, extracted, compared}
+use Rattle.lvs_run.specs.Answers.{made, Answer, Good, Bad, comparison_answer}
 use Rattle.lvs_run.specs.Answers.{RefusedWords, RefusedSame, RefusedAbsent, RefusedLong}
 use Rattle.lvs_run.specs.Answers.{RefusedRules, RefusedLayout, RefusedSchematic}
-use Rattle.lvs_run.specs.Answers.{RefusedMergedLayout, RefusedMergedSchematic}
+use Rattle.lvs_run.specs.Answers.{RefusedWide, RefusedMergedLayout, RefusedMergedSchematic}
 
 -- the words state a command of these paths, and no file that it writes is named twice
 pub record Runs (said : Option Paths) (p : Paths) : Type 0 where
@@ -123,21 +125,15 @@ pub record IsTooWide (l : Layout) (r : Rules) (schematic : Netlist) (a : Answer)
   pub netlist_file : IsNetlistFile l r netlist top bad spelled
   pub refused : merge_refusal (wide_name r netlist) (wide_name r schematic) ≡ Some a
 
--- what is written is the shapes file and the netlist's file of the layout by the rules, and the
--- report on comparing the netlist with a schematic, both as they are compared by the rules, with
--- the numbers of cells, circuits, pairs and bad gates, and the answer is that of the comparison
-pub record IsCompared (l : Layout) (r : Rules) (schematic : Netlist)
-    (path netlist_path report_path : List ℕ) (a : Answer) (done : Done) : Type 0 where
-  pub text : List ℕ
-  pub cells : ℕ
-  pub rectangles : ℕ
-  pub file : IsShapesFile l r text cells rectangles
+-- a layout's netlist file by the rules, and the report on comparing the netlist with a schematic,
+-- both as they are compared by the rules, where neither is too wide for that; with the numbers of
+-- these cells, of circuits, pairs and bad gates, and the answer is that of the comparison
+pub record IsReported (l : Layout) (r : Rules) (schematic : Netlist) (cells : ℕ)
+    (spelled report : List ℕ) (counts : Counts) (a : Answer) : Type 0 where
   pub netlist : Netlist
   pub top : ℕ
   pub bad : List BadGate
-  pub spelled : List ℕ
   pub netlist_file : IsNetlistFile l r netlist top bad spelled
-  pub report : List ℕ
   pub pairs : ℕ
   pub verdict : Verdict
   pub comparable : AreComparable r netlist schematic
@@ -145,16 +141,30 @@ pub record IsCompared (l : Layout) (r : Rules) (schematic : Netlist)
   pub report_file : IsReportFile l.design r (compared_of r netlist) top bad
       (compared_of r schematic) report pairs verdict
   pub answer : a ≡ comparison_answer verdict
-  pub whole : done ≡ compared path text netlist_path spelled report_path report
-      (Compared cells (length netlist.circuits) pairs (length bad))
+  pub counted : counts ≡ Compared cells (length netlist.circuits) pairs (length bad)
 
--- what is written is the chip, and the answer and what is counted are those of a comparison, whose
--- own files aren't written
+-- what is written is the shapes file, the netlist's file and the report
+pub record IsCompared (l : Layout) (r : Rules) (schematic : Netlist)
+    (path netlist_path report_path : List ℕ) (a : Answer) (done : Done) : Type 0 where
+  pub text : List ℕ
+  pub cells : ℕ
+  pub rectangles : ℕ
+  pub file : IsShapesFile l r text cells rectangles
+  pub spelled : List ℕ
+  pub report : List ℕ
+  pub counts : Counts
+  pub reported : IsReported l r schematic cells spelled report counts a
+  pub whole : done ≡ compared path text netlist_path spelled report_path report counts
+
+-- what is written is the chip, and the answer and what is counted are those of the report on it,
+-- which isn't written
 pub record IsMade (l : Layout) (r : Rules) (schematic : Netlist) (n seed : ℕ) (prefix : List ℕ)
     (a : Answer) (done : Done) : Type 0 where
-  pub ran : Done
-  pub compared : IsCompared l r schematic [] [] [] a ran
-  pub whole : done ≡ made n seed prefix ran.counts
+  pub spelled : List ℕ
+  pub report : List ℕ
+  pub counts : Counts
+  pub reported : IsReported l r schematic (length l.design.order) spelled report counts a
+  pub whole : done ≡ made n seed prefix counts
 
 -- the same of a command that compares with a schematic
 abbrev pub IsDoneBeside : Outputs → Layout → Rules → Netlist → Answer → Done → Type 0
@@ -162,6 +172,27 @@ IsDoneBeside (ToReport schematic shapes netlist report) l r nl a done =
     IsCompared l r nl shapes netlist report a done
 IsDoneBeside (ToChip n seed prefix) l r nl a done = IsMade l r nl n seed prefix a done
 IsDoneBeside _ l r nl a done = ⊥
+
+-- the layout has no shapes file, and is refused with this answer by the first cell that is too wide
+-- for one
+pub record IsTooFar (l : Layout) (r : Rules) (a : Answer) : Type 0 where
+  pub cell : ℕ
+  pub wide : IsWide l r cell
+  pub answer : a ≡ RefusedWide (name_of (cell_at l.design cell))
+
+-- a command that writes a shapes file and reads no schematic is refused with this answer
+abbrev pub RefusesAlone : Outputs → Layout → Rules → Answer → Type 0
+RefusesAlone (ToShapes shapes) l r a = IsTooFar l r a
+RefusesAlone (ToNetlist shapes netlist) l r a = IsTooFar l r a
+RefusesAlone _ l r a = ⊥
+
+-- a command that compares with a schematic is refused with this answer: one that writes a shapes
+-- file for a cell that is too wide, and else for what is to be compared
+abbrev pub RefusesBeside : Outputs → Layout → Rules → Netlist → Answer → Type 0
+RefusesBeside (ToReport schematic shapes netlist report) l r nl a =
+    IsTooFar l r a ⊎ (IsNarrow l r × IsTooWide l r nl a)
+RefusesBeside (ToChip n seed prefix) l r nl a = IsTooWide l r nl a
+RefusesBeside _ l r nl a = ⊥
 
 -- the first fault of a schematic's bytes, whose sizes are limited; no want of memory
 abbrev pub IsFirstSchematicFault : List ℕ → SpiceFault → Type 0
@@ -175,9 +206,9 @@ pub record Compares (said : Option Paths) (file : List ℕ → Told) (p : Paths)
   pub beside : schematic_path p.outputs ≡ Some path
 
 -- The answer, and what is written where nothing is refused. The words are looked at first, then the
--- paths, the rule file, the layout and the schematic, then what is compared of the last two, and
--- the first of them that is refused gives the answer. Nothing is said where a file that comes next
--- isn't told.
+-- paths, the rule file, the layout and the schematic, then whether a shapes file that is to be
+-- written has room for the layout, then what is compared, and the first of them that is refused
+-- gives the answer. Nothing is said where a file that comes next isn't told.
 pub data IsOutcome (said : Option Paths) (file : List ℕ → Told) (a : Answer) (done : Done) :
     Type 0 where
   WrongWords : said ≡ None → a ≡ RefusedWords → IsOutcome said file a done
@@ -200,6 +231,8 @@ pub data IsOutcome (said : Option Paths) (file : List ℕ → Told) (a : Answer)
       → IsFirstLayoutFault bytes p.top fault → a ≡ RefusedLayout fault → IsOutcome said file a done
   Made : (p : Paths) (r : Rules) (l : Layout) → ReadsLayout said file p r l
       → IsDone p.outputs l r a done → IsOutcome said file a done
+  TooFar : (p : Paths) (r : Rules) (l : Layout) → ReadsLayout said file p r l
+      → RefusesAlone p.outputs l r a → IsOutcome said file a done
   NoSchematic : (p : Paths) (r : Rules) (l : Layout) (path : List ℕ) → Compares said file p r l path
       → file path ≡ NoFile → a ≡ RefusedAbsent path → IsOutcome said file a done
   LongSchematic : (p : Paths) (r : Rules) (l : Layout) (path bytes : List ℕ)
@@ -211,7 +244,7 @@ pub data IsOutcome (said : Option Paths) (file : List ℕ → Told) (a : Answer)
       → IsOutcome said file a done
   TooWide : (p : Paths) (r : Rules) (l : Layout) (path bytes : List ℕ) (nl : Netlist)
       → Compares said file p r l path → HasFile file path bytes → SpiceMeans read_limit bytes nl
-      → IsTooWide l r nl a → IsOutcome said file a done
+      → RefusesBeside p.outputs l r nl a → IsOutcome said file a done
   MadeBeside : (p : Paths) (r : Rules) (l : Layout) (path bytes : List ℕ) (nl : Netlist)
       → Compares said file p r l path → HasFile file path bytes → SpiceMeans read_limit bytes nl
       → IsDoneBeside p.outputs l r nl a done → IsOutcome said file a done

@@ -20,7 +20,8 @@ use Rattle.lvs_run.specs.Words.{IsSame, schematic_path}
 use Rattle.lvs_files.specs.Files.{File, AreWritten}
 use Rattle.lvs_run.specs.Answers.{Done, Answer, Good, Bad, RefusedWords, RefusedSame}
 use Rattle.lvs_run.specs.Answers.{RefusedAbsent, RefusedLong, RefusedRules, RefusedLayout}
-use Rattle.lvs_run.specs.Answers.{RefusedSchematic, RefusedMergedLayout, RefusedMergedSchematic}
+use Rattle.lvs_run.specs.Answers.{RefusedSchematic, RefusedWide, RefusedMergedLayout}
+use Rattle.lvs_run.specs.Answers.{RefusedMergedSchematic}
 use Rattle.lvs_run.specs.Answers.{Undecided, Outside, NoMemory, IsVerdict}
 use Rattle.lvs_run.specs.Lines.{line_of}
 use Rattle.lvs_run.specs.Outcomes.{IsFirstLayoutFault, IsFirstSchematicFault, IsTooWide}
@@ -142,6 +143,19 @@ AreAllRead (Some p) old new a = (p.shared ≡ None) × ((path : List ℕ)
     × OfInput p.outputs (IsReadWhole new.opened old path)
     (λ n seed prefix. IsWideChip n seed p.top a))
 
+-- the command writes a shapes file, and the last of its inputs was read to its end
+abbrev pub IsLastRead : Outputs → (layout : List ℕ) → Store → Store → Type 0
+IsLastRead (ToShapes shapes) layout old new = IsReadWhole new.opened old layout
+IsLastRead (ToNetlist shapes netlist) layout old new = IsReadWhole new.opened old layout
+IsLastRead (ToReport schematic shapes netlist report) layout old new =
+    IsReadWhole new.opened old schematic
+IsLastRead (ToChip n seed prefix) layout old new = ⊥
+
+-- the same of the command that the words state, which names no file twice
+abbrev pub AreInputsRead : Option Paths → Store → Store → Type 0
+AreInputsRead None old new = ⊥
+AreInputsRead (Some p) old new = (p.shared ≡ None) × IsLastRead p.outputs p.layout old new
+
 -- there was one absent answer, for this path, and nothing was opened after it
 pub record WasAbsent (old new : Store) (path : List ℕ) : Type 0 where
   pub one : new.absent ≡ old.absent + 1
@@ -168,6 +182,7 @@ HasCauseIn said old new (RefusedLayout fault) = IsLayoutRead said old new fault
     × (new.absent ≡ old.absent)
 HasCauseIn said old new (RefusedSchematic fault) = IsSchematicRead said old new fault
     × (new.absent ≡ old.absent)
+HasCauseIn said old new (RefusedWide name) = AreInputsRead said old new × (new.absent ≡ old.absent)
 HasCauseIn said old new (RefusedMergedLayout name) =
     AreAllRead said old new (RefusedMergedLayout name) × (new.absent ≡ old.absent)
 HasCauseIn said old new (RefusedMergedSchematic name) =

@@ -31,9 +31,9 @@ use Rattle.spice_rows.specs.Sizes.{read_limit}
 use Rattle.spice_text.specs.Means.{Means as SpiceMeans}
 use Rattle.lvs_run.specs.Chips.{schematic_at}
 use Rattle.lvs_run.specs.Words.{Outputs, Paths, ToShapes, ToNetlist, ToReport, ToChip, inputs_of}
-use Rattle.lvs_run.specs.Answers.{Answer, Good, Bad, Undecided, Done, IsVerdict}
+use Rattle.lvs_run.specs.Answers.{Answer, Counts, Good, Bad, Undecided, IsVerdict}
 use Rattle.lvs_run.specs.Answers.{comparison_answer}
-use Rattle.lvs_run.specs.Outcomes.{IsCompared}
+use Rattle.lvs_run.specs.Outcomes.{IsReported}
 use Rattle.lvs_run.specs.Flat.{HasBadGate, HoldsAs, ListsAs, OfInputs, OfStated}
 
 -- The one text means one netlist, that of the flat layout; the other is the report on comparing
@@ -69,9 +69,9 @@ OfEachPair r compared P = (f : Compared) (k : ℕ) (c d : Circuit) (p : Pair) �
 -- joins the flat layout with the schematic, flattened from that partner, by the lines of the last
 -- comparison. Where the rules say `flatten_unmatched`, no gate is bad, the top has a partner and
 -- nothing became too large, Bad says that the flat layout corresponds to the flattened schematic in
--- no way, or with `same_pins` in none that keeps the names of pins; where the rules combine devices,
--- it says so of the layout's circuits and the schematic's, in each of which each group of alike
--- transistors is one.
+-- no way, or with `same_pins` in none that keeps the names of pins; where the rules combine
+-- devices, it says so of the layout's circuits and the schematic's, in each of which each group of
+-- alike transistors is one.
 pub record HasVerdicts (a : Answer) (l : Layout) (r : Rules) (schematic : Netlist)
     (netlist_text report_text : List ℕ) : Type 0 where
   pub report : IsReportOf l r schematic a netlist_text report_text
@@ -111,16 +111,16 @@ pub record IsMatchOf (l : Layout) (r : Rules) (schematic : Netlist)
 -- so it is of what a comparison writes of a layout that was read
 abbrev pub VerdictsLaw : Type 0
 VerdictsLaw = (bytes : List ℕ) (name : Option (List ℕ)) (l : Layout) (r : Rules)
-    (schematic : Netlist) (path netlist report : List ℕ) (a : Answer) (done : Done)
-    → IsRead bytes name l → (h : IsCompared l r schematic path netlist report a done)
-    → HasVerdicts a l r schematic h.spelled h.report
+    (schematic : Netlist) (cells : ℕ) (spelled report : List ℕ) (counts : Counts) (a : Answer)
+    → IsRead bytes name l → IsReported l r schematic cells spelled report counts a
+    → HasVerdicts a l r schematic spelled report
 
 -- and after Good
 abbrev pub MatchLaw : Type 0
 MatchLaw = (bytes : List ℕ) (name : Option (List ℕ)) (l : Layout) (r : Rules)
-    (schematic : Netlist) (path netlist report : List ℕ) (a : Answer) (done : Done)
-    → IsRead bytes name l → (h : IsCompared l r schematic path netlist report a done) → a ≡ Good
-    → IsMatchOf l r schematic h.spelled h.report
+    (schematic : Netlist) (cells : ℕ) (spelled report : List ℕ) (counts : Counts) (a : Answer)
+    → IsRead bytes name l → IsReported l r schematic cells spelled report counts a → a ≡ Good
+    → IsMatchOf l r schematic spelled report
 
 -- where it is told, the schematic's bytes mean a netlist with this fact
 abbrev pub WhereMeant : Told → (Netlist → Type 0) → Type 0

@@ -147,8 +147,8 @@ fn schematic_in(alloc: Global, prefix: &String, text: &[u8]) -> Result<Netlist, 
 }
 
 /// Makes a chip, and compares its layout with its schematic by its rules, as `run` does with files
-/// that hold them. What is written are these three. Cost: that of `run` on them, whose own files
-/// are made and let go.
+/// that hold them. What is written are these three. Cost: that of `run` on them
+/// without the shapes file; its netlist and report are made and let go.
 pub fn chip_output<R: Threads + Wait + Sync, G: Gate + Sync>(
     rt: &R,
     alloc: Global,

@@ -14,8 +14,11 @@ use std::alloc::{AllocError, Global};
 /// Why a run ends before it has anything to write.
 #[derive(Debug, Drop)]
 pub enum Stop {
+    /// The words or an input are refused.
     Refused(Refusal),
+    /// A call on the depot failed.
     Outside,
+    /// No memory was left.
     NoMemory,
 }
 

@@ -13,6 +13,9 @@ mod status;
 mod summary;
 mod words;
 
+pub use input::Stop;
 pub use laws::one_outcome;
+pub use readings::{layout_of, rules_of, schematic_of};
 pub use run::run_lvs;
 pub use status::{Refusal, Status};
+pub use summary::refusal_line;

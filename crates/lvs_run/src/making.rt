@@ -1,13 +1,17 @@
 //! What a command has to write of what it has read.
 
-ghost use Rattle.std.specs.Prelude.{◌≡◌, ◌≢◌, ◌≤◌, ◌++◌, ◌∷◌, [], ℕ, List, Option, string_bytes};
-ghost use Rattle.std.specs.Prelude.{IfErr, IfOk, None, OnOk, length};
+ghost use Rattle.std.specs.Prelude.{◌≡◌, ◌≢◌, ◌<◌, ◌≤◌, ◌++◌, ◌∷◌, [], ℕ, List, Option};
+ghost use Rattle.std.specs.Prelude.{IfErr, IfOk, None, OnOk, Some, length, string_bytes};
+ghost use Rattle.cell_graph.specs.Linked.{cell_at};
+ghost use Rattle.cell_graph.specs.declared.cells.CellPart.{CellPart};
 ghost use Rattle.gds_layout.specs.Layouts.{IsRead};
+ghost use Rattle.gds_layout.specs.declared.layout.Layout.{Layout as Layouts};
 ghost use Rattle.lvs_files.specs.Files.{AreApart, files_of};
-ghost use Rattle.lvs_run.specs.Inputs.{IsOutput, IsOutputBeside, NotMerged, stopped};
+ghost use Rattle.lvs_run.specs.Inputs.{IsOutput, IsOutputBeside, IsStopFor, NotForRun, NotMerged};
+ghost use Rattle.lvs_run.specs.Inputs.{NotWide, stopped};
 ghost use Rattle.net_align.specs.Compared.{AreCalleesFirst, IsAlignable};
 ghost use Rattle.net_model.specs.Rows.{plain_netlist};
-ghost use Rattle.netlist_file.specs.File.{IsNetlistFile};
+ghost use Rattle.netlist_file.specs.File.{HasFiles, IsNetlistFile};
 ghost use Rattle.report_file.specs.Combined.{compared_of, wide_name};
 ghost use Rattle.report_file.specs.File.{IsReportFile};
 ghost use Rattle.lvs_run.specs.Answers.{comparison_answer, verdict_of};
@@ -15,12 +19,15 @@ ghost use Rattle.lvs_run.specs.Outcomes.{AreComparable, gates_answer, merge_refu
 ghost use Rattle.lvs_run.specs.Chips.{chip_files};
 ghost use Rattle.lvs_run.specs.Words.{ToChip, ToNetlist, ToShapes, blank_files, file_at};
 ghost use Rattle.lvs_run.specs.Words.{layout_outputs, report_outputs};
+ghost use Rattle.rule_text.specs.Rules.{Rules};
 ghost use Rattle.rule_text.specs.Seen.{rules_seen};
 ghost use Rattle.rule_text.specs.Sound.{IsSound};
+ghost use Rattle.shapes_file.specs.File.{IsShapesFile};
 
 use crate::input::Stop;
 use crate::merging::merge_both;
 use crate::output::{Output, Verdict};
+use crate::status::Refusal;
 use crate::summary::{compared_line, extracted_line, layers_line};
 use crate::words::{LayoutOutputs, ReportPaths};
 use deep_tables::BadGate;
@@ -28,11 +35,11 @@ use gds_layout::Layout;
 use job_board::Gate;
 use lvs_files::Written;
 use net_model::Netlist;
-use netlist_file::{Extraction, extract_files, flat_netlist};
+use netlist_file::{Extraction, Files, NetlistFile, extract_files, extract_netlist, flat_netlist};
 use pair_jobs::Verdict as Comparison;
 use report_file::{Report, combined_alignable, extracted_alignable, report_file};
 use rule_text::RuleSet;
-use shapes_file::shapes_file;
+use shapes_file::{Drawing, Shapes, shapes_file};
 use std::alloc::{AllocError, Global};
 use std::sync::Wait;
 use std::thread::Threads;
@@ -46,23 +53,23 @@ pub fn push_file(files: &mut Vec<Written>, path: String, text: Vec<u8>) -> Resul
     Ok(())
 }
 
-// What `shapes` has to write.
-fn shapes_output<R: Threads + Wait + Sync, G: Gate + Sync>(
-    rt: &R,
-    alloc: Global,
-    layout: &Layout,
-    rules: &RuleSet,
-    workers: usize,
-    path: String,
-    gate: &G,
-) -> Result<Output, AllocError>
-    requires workers { (1 ≤ workers) × (workers ≤ 64) }
-    requires read { (bytes : List ℕ) × (top : Option (List ℕ)) × IsRead bytes top layout.now }
-    requires rules { IsSound (rules_seen rules.now) }
-    ensures { IfOk result (IsOutput (ToShapes (string_bytes path)) layout.now
-        (rules_seen rules.now)) }
+// The end of a run for a cell that is too wide for a shapes file.
+fn wide_stop(alloc: Global, layout: &Layout, cell: u32) -> Stop
+    requires { cell < length layout.now.design.cells }
+    ensures { (c : CellPart) → cell_at layout.now.design cell ≡ Some c
+        → IsStopFor c.name (stopped result) }
 {
-    let shapes = shapes_file(rt, alloc, layout, rules, workers, gate)?;
+    match layout.design.name(cell).try_clone(alloc) {
+        Ok(name) => Stop::Refused(Refusal::Wide(name)),
+        Err(AllocError) => Stop::NoMemory,
+    }
+}
+
+// What `shapes` has to write.
+fn shapes_output(alloc: Global, shapes: Shapes, path: String) -> Result<Output, AllocError>
+    ensures { (l : Layouts) (r : Rules) → IsShapesFile l r shapes.text.items shapes.cells
+        shapes.rectangles → IfOk result (IsOutput (ToShapes (string_bytes path)) l r) }
+{
     let line = layers_line(alloc, &shapes)?;
     let mut files = Vec::new(alloc);
     push_file(&mut files, path, shapes.text)?;
@@ -74,29 +81,22 @@ fn shapes_output<R: Threads + Wait + Sync, G: Gate + Sync>(
 }
 
 // What `extract` has to write.
-fn netlist_output<R: Threads + Wait + Sync, G: Gate + Sync>(
-    rt: &R,
+fn netlist_output(
     alloc: Global,
-    layout: &Layout,
-    rules: &RuleSet,
-    workers: usize,
+    found: Extraction,
     path: String,
     netlist: String,
-    gate: &G,
 ) -> Result<Output, AllocError>
-    requires workers { (1 ≤ workers) × (workers ≤ 64) }
-    requires read { (bytes : List ℕ) × (top : Option (List ℕ)) × IsRead bytes top layout.now }
-    requires rules { IsSound (rules_seen rules.now) }
     requires apart { string_bytes path ≢ string_bytes netlist }
-    ensures { IfOk result (IsOutput (ToNetlist (string_bytes path) (string_bytes netlist))
-        layout.now (rules_seen rules.now)) }
+    ensures { (l : Layouts) (r : Rules) → HasFiles l r found
+        → IfOk result (IsOutput (ToNetlist (string_bytes path) (string_bytes netlist)) l r) }
 {
-    let found = extract_files(rt, alloc, layout, rules, workers, gate)?;
     let line = extracted_line(alloc, &found)?;
-    let verdict = gates_verdict(found.bad.as_slice());
+    let Extraction { shapes, file } = found;
+    let verdict = gates_verdict(file.bad.as_slice());
     let mut files = Vec::new(alloc);
-    push_file(&mut files, path, found.shapes.text)?;
-    push_file(&mut files, netlist, found.text)?;
+    push_file(&mut files, path, shapes.text)?;
+    push_file(&mut files, netlist, file.text)?;
     Ok(Output {
         files,
         line,
@@ -111,7 +111,7 @@ fn report_on<R: Threads + Wait + Sync, G: Gate + Sync>(
     alloc: Global,
     layout: &Layout,
     rules: &RuleSet,
-    found: &Extraction,
+    found: &NetlistFile,
     netlist: &Netlist,
     schematic: &Netlist,
     workers: usize,
@@ -145,7 +145,7 @@ fn report_found<R: Threads + Wait + Sync, G: Gate + Sync>(
     alloc: Global,
     layout: &Layout,
     rules: &RuleSet,
-    found: &Extraction,
+    found: &NetlistFile,
     schematic: &Netlist,
     workers: usize,
     gate: &G,
@@ -185,6 +185,44 @@ fn report_found<R: Threads + Wait + Sync, G: Gate + Sync>(
     Ok(report)
 }
 
+// What `run` has to write, beside what was extracted.
+fn compared_output<R: Threads + Wait + Sync, G: Gate + Sync>(
+    rt: &R,
+    alloc: Global,
+    layout: &Layout,
+    rules: &RuleSet,
+    found: Extraction,
+    schematic: &Netlist,
+    workers: usize,
+    paths: ReportPaths,
+    gate: &G,
+) -> Result<Output, Stop>
+    requires workers { (1 ≤ workers) × (workers ≤ 64) }
+    requires read { (bytes : List ℕ) × (top : Option (List ℕ)) × IsRead bytes top layout.now }
+    requires rules { IsSound (rules_seen rules.now) }
+    requires found { HasFiles layout.now (rules_seen rules.now) found }
+    requires schematic { IsAlignable (plain_netlist schematic.now) }
+    requires apart { (path : List ℕ) → AreApart (blank_files (report_outputs path paths)) }
+    ensures made { (path : List ℕ) → IfOk result (IsOutputBeside (report_outputs path paths)
+        layout.now (rules_seen rules.now) (plain_netlist schematic.now)) }
+    ensures refused { IfErr result (λ why. NotMerged layout.now (rules_seen rules.now)
+        (plain_netlist schematic.now) (stopped why)) }
+{
+    let Extraction { shapes, file } = found;
+    let report = report_found(rt, alloc, layout, rules, &file, schematic, workers, gate)?;
+    let verdict = comparison_verdict(report.verdict);
+    let line = compared_line(alloc, verdict, shapes.cells, &file, report.pairs)?;
+    let mut files = Vec::new(alloc);
+    push_file(&mut files, paths.shapes, shapes.text)?;
+    push_file(&mut files, paths.netlist, file.text)?;
+    push_file(&mut files, paths.report, report.text)?;
+    Ok(Output {
+        files,
+        line,
+        verdict,
+    })
+}
+
 /// What `run` has to write.
 pub fn report_output<R: Threads + Wait + Sync, G: Gate + Sync>(
     rt: &R,
@@ -203,22 +241,19 @@ pub fn report_output<R: Threads + Wait + Sync, G: Gate + Sync>(
     requires apart { (path : List ℕ) → AreApart (blank_files (report_outputs path paths)) }
     ensures made { (path : List ℕ) → IfOk result (IsOutputBeside (report_outputs path paths)
         layout.now (rules_seen rules.now) (plain_netlist schematic.now)) }
-    ensures refused { IfErr result (λ why. NotMerged layout.now (rules_seen rules.now)
+    ensures refused { IfErr result (λ why. NotForRun layout.now (rules_seen rules.now)
         (plain_netlist schematic.now) (stopped why)) }
 {
-    let found = extract_files(rt, alloc, layout, rules, workers, gate)?;
-    let report = report_found(rt, alloc, layout, rules, &found, schematic, workers, gate)?;
-    let verdict = comparison_verdict(report.verdict);
-    let line = compared_line(alloc, verdict, &found, report.pairs)?;
-    let mut files = Vec::new(alloc);
-    push_file(&mut files, paths.shapes, found.shapes.text)?;
-    push_file(&mut files, paths.netlist, found.text)?;
-    push_file(&mut files, paths.report, report.text)?;
-    Ok(Output {
-        files,
-        line,
-        verdict,
-    })
+    layout.design.sound();
+    match extract_files(rt, alloc, layout, rules, workers, gate)? {
+        Files::Whole(found) => {
+            let output = compared_output(
+                rt, alloc, layout, rules, found, schematic, workers, paths, gate,
+            )?;
+            Ok(output)
+        }
+        Files::Wide(cell) => Err(wide_stop(alloc, layout, cell)),
+    }
 }
 
 /// What `make` has to write: these files, and the line of comparing a layout with a schematic.
@@ -242,10 +277,12 @@ pub fn made_output<R: Threads + Wait + Sync, G: Gate + Sync>(
     ensures refused { IfErr result (λ why. NotMerged layout.now (rules_seen rules.now)
         (plain_netlist schematic.now) (stopped why)) }
 {
-    let found = extract_files(rt, alloc, layout, rules, workers, gate)?;
+    layout.design.sound();
+    let found = extract_netlist(rt, alloc, layout, rules, workers, gate)?;
     let report = report_found(rt, alloc, layout, rules, &found, schematic, workers, gate)?;
     let verdict = comparison_verdict(report.verdict);
-    let line = compared_line(alloc, verdict, &found, report.pairs)?;
+    let cells = layout.design.order().len() as u32;
+    let line = compared_line(alloc, verdict, cells, &found, report.pairs)?;
     Ok(Output {
         files,
         line,
@@ -282,17 +319,29 @@ pub fn output_of<R: Threads + Wait + Sync, G: Gate + Sync>(
     workers: usize,
     outputs: LayoutOutputs,
     gate: &G,
-) -> Result<Output, AllocError>
+) -> Result<Output, Stop>
     requires workers { (1 ≤ workers) × (workers ≤ 64) }
     requires read { (bytes : List ℕ) × (top : Option (List ℕ)) × IsRead bytes top layout.now }
     requires rules { IsSound (rules_seen rules.now) }
     requires apart { AreApart (blank_files (layout_outputs outputs)) }
-    ensures { IfOk result (IsOutput (layout_outputs outputs) layout.now (rules_seen rules.now)) }
+    ensures made { IfOk result (IsOutput (layout_outputs outputs) layout.now
+        (rules_seen rules.now)) }
+    ensures refused { IfErr result (λ why. NotWide layout.now (rules_seen rules.now)
+        (stopped why)) }
 {
+    layout.design.sound();
     match outputs {
-        LayoutOutputs::Shapes(path) => shapes_output(rt, alloc, layout, rules, workers, path, gate),
+        LayoutOutputs::Shapes(path) => {
+            match shapes_file(rt, alloc, layout, rules, workers, gate)? {
+                Drawing::Whole(shapes) => Ok(shapes_output(alloc, shapes, path)?),
+                Drawing::Wide(cell) => Err(wide_stop(alloc, layout, cell)),
+            }
+        }
         LayoutOutputs::Netlist { shapes, netlist } => {
-            netlist_output(rt, alloc, layout, rules, workers, shapes, netlist, gate)
+            match extract_files(rt, alloc, layout, rules, workers, gate)? {
+                Files::Whole(found) => Ok(netlist_output(alloc, found, shapes, netlist)?),
+                Files::Wide(cell) => Err(wide_stop(alloc, layout, cell)),
+            }
         }
     }
 }

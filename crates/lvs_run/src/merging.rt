@@ -17,7 +17,8 @@ use net_names::Name;
 use report_file::circuit_name;
 use std::alloc::{AllocError, Global};
 
-/// The netlists of a layout and a schematic, each group of alike transistors of a circuit being one.
+/// The netlists of a layout and a schematic, each group of alike transistors of a circuit being
+/// one.
 #[derive(Drop)]
 pub struct Merged {
     pub layout: Netlist,
@@ -35,8 +36,8 @@ fn wide_name(alloc: Global, netlist: &Netlist, fault: MergeFault) -> Result<Name
     }
 }
 
-/// What is compared of a layout and a schematic by rules that combine devices. The layout is refused
-/// before the schematic. Linear in both.
+/// What is compared of a layout and a schematic by rules that combine devices. The layout is
+/// refused before the schematic. Linear in both.
 pub fn merge_both(alloc: Global, layout: &Netlist, schematic: &Netlist) -> Result<Merged, Stop>
     requires layout { IsAlignable (plain_netlist layout.now) }
     requires schematic { IsAlignable (plain_netlist schematic.now) }

@@ -36,7 +36,9 @@ pub fn rules_stop(fault: RuleFault) -> Stop
     }
 }
 
-/// The rules of the path's file.
+/// The rules that the path's file means. An `Err` says that there is no such file, that it is too
+/// long or has this first fault, that a call on the depot failed, or that memory ran out. Linear in
+/// the file's bytes.
 pub fn rules_of<D: Depot>(alloc: Global, depot: &mut D, path: &String) -> Result<RuleSet, Stop>
     requires { HasRoom (D.state depot.old) }
     ensures quiet { Quiet (D.state depot.old) (D.state depot.new) }
@@ -64,7 +66,9 @@ pub fn layout_stop(fault: LayoutFault) -> Stop
 }
 
 /// The layout of the path's file, from the cell of this name, or from the only one that none refers
-/// to.
+/// to. The file is read in pieces, of which none is kept, to its end or past the limit before its
+/// fault is answered. An `Err` is as that of `rules_of`. Cost: the file's bytes, and linking its
+/// cells.
 pub fn layout_of<D: Depot>(
     alloc: Global,
     depot: &mut D,
@@ -96,7 +100,8 @@ pub fn schematic_stop(fault: SpiceFault) -> Stop
     }
 }
 
-/// The schematic of the path's file.
+/// The netlist that the path's file means. An `Err` is as that of `rules_of`. Linear in the file's
+/// bytes.
 pub fn schematic_of<D: Depot>(alloc: Global, depot: &mut D, path: &String) -> Result<Netlist, Stop>
     requires { HasRoom (D.state depot.old) }
     ensures quiet { Quiet (D.state depot.old) (D.state depot.new) }

@@ -176,11 +176,11 @@ fn deliver<D: Depot, S: Sink>(output: &Output, depot: &mut D, out: &mut S) -> St
 /// summary line.
 ///
 /// All that is written is complete in memory before the first write. After a failed call on one
-/// object the other isn't called. The layout is read in pieces, of which none is kept, to its end or past
-/// the limit before its fault is answered. Cost: reading the inputs, the layers of each reached
+/// object the other isn't called. The layout is read in pieces, of which none is kept, to its end or
+/// past the limit before its fault is answered. Cost: reading the inputs, the layers of each reached
 /// cell (also its nets, gates, pins and circuit), the comparison of each pair of circuits, and the
-/// bytes written; a cell is worked once, however often it is placed. `make` reads no file: it costs
-/// what `run` on its files does.
+/// bytes written; a cell is worked once, however often it is placed. `make` reads no file and makes
+/// no shapes file: else it costs what `run` on its files does.
 pub fn run_lvs<R: Threads + Wait + Sync, D: Depot, S: Sink, G: Gate + Sync>(
     rt: &R,
     alloc: Global,

@@ -39,6 +39,9 @@ pub enum Refusal {
     Layout(LayoutFault),
     /// The schematic's first fault.
     Schematic(SpiceFault),
+    /// The first cell of the layout, in the order of the file, with a rectangle of an output line
+    /// that its shapes file has no room for.
+    Wide(Name),
     /// The first circuit of the layout with alike transistors that are too wide for one.
     MergedLayout(Name),
     /// The same of the schematic.

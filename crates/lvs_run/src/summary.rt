@@ -18,7 +18,7 @@ use fixed_num::ValueFault;
 use gds_elements::GdsFault;
 use gds_layout::LayoutFault;
 use net_names::{Name, escape};
-use netlist_file::Extraction;
+use netlist_file::{Extraction, NetlistFile};
 use rule_text::RuleFault;
 use shapes_file::Shapes;
 use spice_rows::SpiceFault;
@@ -176,8 +176,8 @@ fn schematic_line(alloc: Global, fault: &SpiceFault) -> Result<Vec<u8>, AllocErr
     Ok(line)
 }
 
-// A line of three words and a circuit's name.
-fn merge_line(alloc: Global, words: &[u8], name: &Name) -> Result<Vec<u8>, AllocError>
+// A line of some words and a name.
+fn name_line(alloc: Global, words: &[u8], name: &Name) -> Result<Vec<u8>, AllocError>
     ensures { IfOk result (λ line. line.items ≡ words.now ++ escaped name.now ++ 10 ∷ []) }
 {
     let mut line = words.to_vec(alloc)?;
@@ -187,7 +187,7 @@ fn merge_line(alloc: Global, words: &[u8], name: &Name) -> Result<Vec<u8>, Alloc
     Ok(line)
 }
 
-/// The line of a refusal.
+/// The line that a refusal prints, with its end. An `Err` is want of memory.
 pub fn refusal_line(alloc: Global, why: &Refusal) -> Result<Vec<u8>, AllocError>
     ensures { IfOk result (λ line. line.items ≡ line_of (refused why.now) nothing) }
 {
@@ -199,26 +199,28 @@ pub fn refusal_line(alloc: Global, why: &Refusal) -> Result<Vec<u8>, AllocError>
         Refusal::Rules(fault) => rules_line(alloc, *fault),
         Refusal::Layout(fault) => layout_line(alloc, fault),
         Refusal::Schematic(fault) => schematic_line(alloc, fault),
-        Refusal::MergedLayout(name) => merge_line(alloc, b"refused merge layout ", name),
-        Refusal::MergedSchematic(name) => merge_line(alloc, b"refused merge schematic ", name),
+        Refusal::Wide(name) => name_line(alloc, b"refused layout 28 cell ", name),
+        Refusal::MergedLayout(name) => name_line(alloc, b"refused merge layout ", name),
+        Refusal::MergedSchematic(name) => name_line(alloc, b"refused merge schematic ", name),
     }
 }
 
-/// The line of `run`, with what its comparison came to, the cells of the shapes file, the netlist's
-/// circuits, the compared pairs and the bad gates.
+/// The line of `run` and `make`, with what the comparison came to, the cells that the layout's top
+/// reaches, the netlist's circuits, the compared pairs and the bad gates.
 pub fn compared_line(
     alloc: Global,
     verdict: Verdict,
-    found: &Extraction,
+    cells: u32,
+    found: &NetlistFile,
     pairs: u32,
 ) -> Result<Vec<u8>, AllocError>
     ensures { IfOk result (λ line. line.items ≡ counts_line (verdict_word verdict) (Compared
-        found.now.shapes.cells (length (plain_netlist found.now.netlist).circuits) pairs
+        cells (length (plain_netlist found.now.netlist).circuits) pairs
         (length found.now.bad.items))) }
 {
     let circuits = found.netlist.circuits.len() as u64;
     let mut line = verdict.word().to_vec(alloc)?;
-    push_number(alloc, &mut line, b" cells ", u64::from(found.shapes.cells))?;
+    push_number(alloc, &mut line, b" cells ", u64::from(cells))?;
     push_number(alloc, &mut line, b" circuits ", circuits)?;
     push_number(alloc, &mut line, b" pairs ", u64::from(pairs))?;
     push_number(alloc, &mut line, b" bad ", found.bad.len() as u64)?;
@@ -230,10 +232,10 @@ pub fn compared_line(
 /// gates.
 pub fn extracted_line(alloc: Global, found: &Extraction) -> Result<Vec<u8>, AllocError>
     ensures { IfOk result (λ line. (verdict : List ℕ) → line.items ≡ counts_line verdict (Extracted
-        found.now.shapes.cells (length (plain_netlist found.now.netlist).circuits)
-        (length found.now.bad.items))) }
+        found.now.shapes.cells (length (plain_netlist found.now.file.netlist).circuits)
+        (length found.now.file.bad.items))) }
 {
-    let circuits = found.netlist.circuits.len() as u64;
+    let circuits = found.file.netlist.circuits.len() as u64;
     let mut line = Vec::new(alloc);
     push_number(
         alloc,
@@ -242,7 +244,7 @@ pub fn extracted_line(alloc: Global, found: &Extraction) -> Result<Vec<u8>, Allo
         u64::from(found.shapes.cells),
     )?;
     push_number(alloc, &mut line, b" circuits ", circuits)?;
-    push_number(alloc, &mut line, b" bad ", found.bad.len() as u64)?;
+    push_number(alloc, &mut line, b" bad ", found.file.bad.len() as u64)?;
     line.push(b'\n')?;
     Ok(line)
 }

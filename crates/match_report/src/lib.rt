@@ -8,4 +8,5 @@ mod report;
 mod words;
 
 pub use apart::{push_apart, push_limit};
+pub use pairs::push_answer;
 pub use report::{Compared, report_text};

@@ -4,8 +4,8 @@ use Rattle.std.proofs.Math.Seq.{take-length}
 use Rattle.std.proofs.lemmas.Int.{ints}
 use Rattle.std.proofs.lemmas.List.{map_more, map_push}
 use Rattle.std.proofs.lemmas.Option.{slice_get-get_or}
-use Rattle.cell_context.proofs.Collecting.{near_array}
-use Rattle.cell_context.specs.Arrays.{IsNearArray, shift_x, shift_y}
+use Rattle.cell_context.proofs.Collecting.{close_array}
+use Rattle.cell_context.specs.Arrays.{IsCloseArray, shift_x, shift_y}
 use Rattle.cell_graph.proofs.Bridge.{step_of}
 use Rattle.cell_graph.specs.Linked.{IsSound, Linked, cell_at, motion_at, places_at, plain, plain_cell, reference}
 use Rattle.cell_graph.specs.declared.cells.CellPart.{CellPart}
@@ -84,10 +84,10 @@ plain_places d cell = at d.cells cell
     at (c ∷ cells) zero = refl
     at (c ∷ cells) (suc k) = at cells k
 
-close_sum : (a b c z : ℤ) → IsWithin (2 ^ 33) a → IsWithin (2 ^ 32) b → IsWithin (2 ^ 32) c → z ≡ (a +ℤ b) +ℤ c → IsWithin (2 ^ 38) z
+close_sum : (a b c z : ℤ) → IsWithin (2 ^ 36) a → IsWithin (2 ^ 37) b → IsWithin (2 ^ 37) c → z ≡ (a +ℤ b) +ℤ c → IsWithin (2 ^ 39) z
 close_sum a b c z h g f e = let h1 = h.low in let h2 = h.high in let g1 = g.low in let g2 = g.high in let f1 = f.low in let f2 = f.high in record { low = omega (arith, ints); high = omega (arith, ints) }
 
-close_motion : (p : Place) (row column : ℕ) → IsNearArray p → row < p.rows → column < p.columns → IsClose (motion_at p row column)
+close_motion : (p : Place) (row column : ℕ) → IsCloseArray p → row < p.rows → column < p.columns → IsClose (motion_at p row column)
 close_motion p row column near a b = record {
   dx = close_sum p.motion.dx (pos column *ℤ p.column_step.x) (pos row *ℤ p.row_step.x) (shift_x p row column) near.dx (near.column_x column b) (near.row_x row a) refl;
   dy = close_sum p.motion.dy (pos column *ℤ p.column_step.y) (pos row *ℤ p.row_step.y) (shift_y p row column) near.dy (near.column_y column b) (near.row_y row a) refl;
@@ -101,7 +101,7 @@ pub close_elements : (d : Linked) (cell : ℕ) (es : List Element) → IsSound d
 close_elements d cell es sound all = are_close es (λ k p h.
     let there : slice_get (laws.places_of (plain d) cell) k ≡ Some p = subst (λ (l : List flat.Place). slice_get l k ≡ Some p) all h in
     let s = step_of d cell k p (placed_at (plain d) cell k p there) in
-    let close = close_motion s.from s.row s.column (near_array d cell s.index s.from sound s.step.there) s.step.row_in s.step.column_in in
+    let close = close_motion s.from s.row s.column (close_array d cell s.index s.from sound s.step.there) s.step.row_in s.step.column_in in
     subst (λ (q : flat.Place). IsClose q.motion) (sym s.is) close)
 
 pub elements_all : (d : Linked) (cell k : ℕ) (refs : List Place) (es : List Element) → IsSound d → refs ≡ places_at (cell_at d cell) → k ≡ length refs → map place_of es ≡ places_of (map reference (take k refs)) → length es < 4294967296 → AreElements d cell es

@@ -26,18 +26,18 @@ use Rattle.net_phase.specs.Below.{AreHeldOwn}
 use Rattle.net_phase.specs.Indexes.{span_by, span_of}
 use Rattle.net_phase.specs.Own.{own_at}
 
-low_near : (a b d : ℤ) → IsWithin (2 ^ 30) (int_min (a +ℤ pos 0) (b +ℤ pos 0)) → IsWithin (2 ^ 38) d → IsWithin (2 ^ 40) (int_min (a +ℤ d) (b +ℤ d) -ℤ pos 1)
+low_near : (a b d : ℤ) → IsWithin (2 ^ 36) (int_min (a +ℤ pos 0) (b +ℤ pos 0)) → IsWithin (2 ^ 39) d → IsWithin (2 ^ 40) (int_min (a +ℤ d) (b +ℤ d) -ℤ pos 1)
 low_near a b d h g =
     let hl = h.low in let hh = h.high in let gl = g.low in let gh = g.high in
     record { low = omega (arith, ints, clamps); high = omega (arith, ints, clamps) }
 
-high_near : (a b d : ℤ) → IsWithin (2 ^ 30) (int_max (a +ℤ pos 0) (b +ℤ pos 0)) → IsWithin (2 ^ 38) d → IsWithin (2 ^ 40) (int_max (a +ℤ d) (b +ℤ d) +ℤ pos 1)
+high_near : (a b d : ℤ) → IsWithin (2 ^ 36) (int_max (a +ℤ pos 0) (b +ℤ pos 0)) → IsWithin (2 ^ 39) d → IsWithin (2 ^ 40) (int_max (a +ℤ d) (b +ℤ d) +ℤ pos 1)
 high_near a b d h g =
     let hl = h.low in let hh = h.high in let gl = g.low in let gh = g.high in
     record { low = omega (arith, ints, clamps); high = omega (arith, ints, clamps) }
 
 -- the image of a hull is near
-span_near : (m : Motion) (h : Rect) → IsClose m → IsRectWithin (2 ^ 30) h → IsNearRect (grown (moved_rect m h))
+span_near : (m : Motion) (h : Rect) → IsClose m → IsRectWithin (2 ^ 36) h → IsNearRect (grown (moved_rect m h))
 span_near m h close near =
     let low : Point = record { x = h.x1; y = h.y1 } in
     let high : Point = record { x = h.x2; y = h.y2 } in
@@ -49,7 +49,7 @@ span_near m h close near =
 pub near_of : (m : Motion) → IsClose m → IsNearMotion m
 near_of m close = record { dx = wide m.dx close.dx; dy = wide m.dy close.dy }
   where
-    wide : (z : ℤ) → IsWithin (2 ^ 38) z → IsWithin (2 ^ 40) z
+    wide : (z : ℤ) → IsWithin (2 ^ 39) z → IsWithin (2 ^ 40) z
     wide z w = let l = w.low in let u = w.high in record { low = omega (arith, ints); high = omega (arith, ints) }
 
 pub have_area : (l : List Rect) → ((r : ℕ) (o : Rect) → slice_get l r ≡ Some o → IsRect o) → HaveArea l
@@ -61,7 +61,7 @@ near_hull h is =
     let n = is.near in
     record { x1 = wide h.x1 n.x1; y1 = wide h.y1 n.y1; x2 = wide h.x2 n.x2; y2 = wide h.y2 n.y2 }
   where
-    wide : (z : ℤ) → IsWithin (2 ^ 30) z → IsWithin (2 ^ 40) z
+    wide : (z : ℤ) → IsWithin (2 ^ 36) z → IsWithin (2 ^ 40) z
     wide z w = let l = w.low in let u = w.high in record { low = omega (arith, ints); high = omega (arith, ints) }
 
 hull_is : (d : Linked) (cell : ℕ) (h : Rect) → IsSound d → Some h ≡ hull_of (cell_at d cell) → IsHull h
@@ -158,13 +158,13 @@ module _ (d : Linked) (t : Tables) (all : List (List (List Rect))) (sound : IsSo
         by_hull (hull_of (cell_at d cell)) o some (hull_sound d cell sound) (λ q i. held.held cell c r o q listed i);
   }
     where
-      grown_near : (z : ℤ) → IsWithin (2 ^ 30) z → IsWithin (2 ^ 40) (z -ℤ pos 1)
+      grown_near : (z : ℤ) → IsWithin (2 ^ 36) z → IsWithin (2 ^ 40) (z -ℤ pos 1)
       grown_near z w = let l = w.low in let u = w.high in record { low = omega (arith, ints); high = omega (arith, ints) }
 
-      grown_up : (z : ℤ) → IsWithin (2 ^ 30) z → IsWithin (2 ^ 40) (z +ℤ pos 1)
+      grown_up : (z : ℤ) → IsWithin (2 ^ 36) z → IsWithin (2 ^ 40) (z +ℤ pos 1)
       grown_up z w = let l = w.low in let u = w.high in record { low = omega (arith, ints); high = omega (arith, ints) }
 
-      between : (a b z : ℤ) → a ≤ℤ z → z ≤ℤ b → IsWithin (2 ^ 30) a → IsWithin (2 ^ 30) b → IsWithin (2 ^ 30) z
+      between : (a b z : ℤ) → a ≤ℤ z → z ≤ℤ b → IsWithin (2 ^ 36) a → IsWithin (2 ^ 36) b → IsWithin (2 ^ 36) z
       between a b z lo hi wa wb = let l = wa.low in let u = wb.high in record { low = omega (arith, ints); high = omega (arith, ints) }
 
       by_hull : (hull : Option Rect) (o : Rect) → IsRect o → HullIsSound hull → ((q : Square) → IsIn q o → HullHas hull q) → IsNearRect (grown o)

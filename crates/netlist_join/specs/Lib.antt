@@ -1,5 +1,6 @@
 pub mod Directives
 pub mod Parts
 pub mod Paths
+pub mod Loaded
 pub mod Joining
 pub mod Seen

@@ -1,9 +1,15 @@
 //! The files that netlist files name, read whole.
 
-ghost use Rattle.std.specs.Prelude.{◌≡◌, ◌≤◌, length, IfOk, OnOk, take};
+ghost use Rattle.std.specs.Prelude.{◌≡◌, ◌≤◌, ◌++◌, ◌∷◌, [], false, length, IfErr, IfOk};
+ghost use Rattle.std.specs.Prelude.{OnOk, map, string_bytes, take};
+ghost use Rattle.std.specs.List.{list_any};
+ghost use Rattle.std.specs.Str.{bytes_eq};
 ghost use Rattle.rule_lines.specs.Lines.{begins};
 ghost use Rattle.netlist_join.specs.Paths.{beside, find, folder, folder_len};
-ghost use Rattle.lvs_outside.specs.Store.{HasRoom, IsReading, SameFiles};
+ghost use Rattle.netlist_join.specs.Loaded.{AreFiles, SaysFailed, StartsWith, has_twins};
+ghost use Rattle.netlist_join.specs.Loaded.{paths_of, with_path, with_paths};
+ghost use Rattle.lvs_outside.specs.Loops.{IsFile};
+ghost use Rattle.lvs_outside.specs.Store.{HasRoom, IsThere, Reading, SameFiles, counted};
 ghost use Rattle.netlist_join.specs.declared.files.Failed.TheVariants.{NoMemory};
 
 use crate::directive::{Directive, directive_of};
@@ -88,11 +94,17 @@ pub fn find(files: &[File], path: &[u8]) -> Option<usize>
 }
 
 // The rest of the open file.
+#[tactic(auto, using(crate::proofs::LoadedLemmas::whole))]
 fn read_open<D: Depot>(alloc: Global, depot: &mut D, path: &str) -> Result<Vec<u8>, Failed>
     requires room { HasRoom (D.state depot.old) }
-    requires open { IsReading (D.state depot.old).opened }
+    requires open { (D.state depot.old).opened ≡ Reading path.now 0 }
+    requires there { IsThere ((D.state depot.old).file path.now) }
     ensures room { OnOk result (HasRoom (D.state depot.new)) }
     ensures files { SameFiles (D.state depot.old) (D.state depot.new) }
+    ensures faults { OnOk result ((counted (D.state depot.new)).faults
+        ≡ (counted (D.state depot.old)).faults) }
+    ensures told { IfOk result (λ b. IsFile b.items ((D.state depot.old).file path.now)) }
+    ensures failed { IfErr result (SaysFailed (D.state depot.old) (D.state depot.new)) }
 {
     let mut bytes = Vec::new(alloc);
     match read_rest(depot, &mut bytes) {
@@ -111,6 +123,10 @@ fn read_file<D: Depot>(alloc: Global, depot: &mut D, path: &str) -> Result<Vec<u
     requires { HasRoom (D.state depot.old) }
     ensures room { OnOk result (HasRoom (D.state depot.new)) }
     ensures files { SameFiles (D.state depot.old) (D.state depot.new) }
+    ensures faults { OnOk result ((counted (D.state depot.new)).faults
+        ≡ (counted (D.state depot.old)).faults) }
+    ensures told { IfOk result (λ b. IsFile b.items ((D.state depot.old).file path.now)) }
+    ensures failed { IfErr result (SaysFailed (D.state depot.old) (D.state depot.new)) }
 {
     match depot.open_read(path) {
         Ok(true) => read_open(alloc, depot, path),
@@ -122,24 +138,50 @@ fn read_file<D: Depot>(alloc: Global, depot: &mut D, path: &str) -> Result<Vec<u
     }
 }
 
+// A file of this path is there.
+fn has_path(files: &[File], path: &[u8]) -> bool
+    ensures { result ≡ list_any (λ f. bytes_eq (string_bytes f.path) path.now) files.now }
+{
+    files.iter().any(|f| f.path.as_bytes() == path)
+}
+
+// Keeps a file.
+fn keep(files: &mut Vec<File>, path: String, bytes: Vec<u8>) -> Result<(), Failed>
+    ensures kept { OnOk result (files.new.items
+        ≡ files.old.items ++ record { path = path; bytes = bytes } ∷ []) }
+    ensures failed { IfErr result (λ e. e ≡ NoMemory) }
+{
+    if files.push(File { path, bytes }).is_err() {
+        return Err(Failed::NoMemory);
+    }
+    Ok(())
+}
+
 // Reads the file of this path, where it wasn't read before.
+#[tactic(auto, using(crate::proofs::LoadedLemmas::added, crate::proofs::LoadedLemmas::added_path, crate::proofs::LoadedLemmas::found_path))]
 fn add<D: Depot>(
     alloc: Global,
     depot: &mut D,
     files: &mut Vec<File>,
-    path: String,
+    path: &str,
 ) -> Result<(), Failed>
-    requires { HasRoom (D.state depot.old) }
+    requires room { HasRoom (D.state depot.old) }
+    requires told { AreFiles (D.state depot.old).file files.old.items }
     ensures room { OnOk result (HasRoom (D.state depot.new)) }
     ensures files { SameFiles (D.state depot.old) (D.state depot.new) }
+    ensures faults { OnOk result ((counted (D.state depot.new)).faults
+        ≡ (counted (D.state depot.old)).faults) }
+    ensures told { OnOk result (AreFiles (D.state depot.new).file files.new.items) }
+    ensures paths { OnOk result (paths_of files.new.items
+        ≡ with_path (paths_of files.old.items) path.now) }
+    ensures failed { IfErr result (SaysFailed (D.state depot.old) (D.state depot.new)) }
 {
-    if find(files, path.as_bytes()).is_some() {
+    if has_path(files, path.as_bytes()) {
         return Ok(());
     }
-    let bytes = read_file(alloc, depot, path.as_str())?;
-    if files.push(File { path, bytes }).is_err() {
-        return Err(Failed::NoMemory);
-    }
+    let bytes = read_file(alloc, depot, path)?;
+    let path = String::from_str(alloc, path)?;
+    keep(files, path, bytes)?;
     Ok(())
 }
 
@@ -168,41 +210,61 @@ fn named(alloc: Global, file: &File) -> Result<Vec<String>, AllocError> {
     Ok(paths)
 }
 
+// Reads the files of these paths, each once.
+#[tactic(auto, using(crate::proofs::LoadedLemmas::from_before))]
 fn add_all<D: Depot>(
     alloc: Global,
     depot: &mut D,
     files: &mut Vec<File>,
-    paths: Vec<String>,
+    paths: &[String],
 ) -> Result<(), Failed>
-    requires { HasRoom (D.state depot.old) }
+    requires room { HasRoom (D.state depot.old) }
+    requires told { AreFiles (D.state depot.old).file files.old.items }
     ensures room { OnOk result (HasRoom (D.state depot.new)) }
     ensures files { SameFiles (D.state depot.old) (D.state depot.new) }
+    ensures faults { OnOk result ((counted (D.state depot.new)).faults
+        ≡ (counted (D.state depot.old)).faults) }
+    ensures told { OnOk result (AreFiles (D.state depot.new).file files.new.items) }
+    ensures paths { OnOk result (paths_of files.new.items
+        ≡ with_paths (paths_of files.old.items) (map string_bytes paths.now)) }
+    ensures failed { IfErr result (SaysFailed (D.state depot.old) (D.state depot.new)) }
 {
-    for path in paths {
-        add(alloc, depot, files, path)?;
+    let mut rest = paths;
+    'paths: while let [path, more @ ..] = rest {
+        add(alloc, depot, files, path.as_str())?;
+        rest = more;
     }
     Ok(())
 }
 
-/// These files and all that they name, at once or through others, each once. Linear in the bytes,
-/// but for looking up each named path among the files. No file changes.
+/// These files and all that they name, at once or through others, each once: the inputs first.
+/// Linear in the bytes, but for looking up each named path among the files. No file changes. The
+/// errors: the store has no file of a path, or a longer one than `LIMIT`; a call on the store
+/// failed; more than `MOST` files; no memory.
+#[tactic(auto, using(crate::proofs::LoadedLemmas::apart, crate::proofs::LoadedLemmas::from_before, crate::proofs::LoadedLemmas::go_back, crate::proofs::LoadedLemmas::starts_more, crate::proofs::LoadedLemmas::starts_same))]
 pub fn load_files<D: Depot>(
     alloc: Global,
     depot: &mut D,
-    inputs: Vec<String>,
+    inputs: &[String],
 ) -> Result<Vec<File>, Failed>
     requires { HasRoom (D.state depot.old) }
     ensures room { OnOk result (HasRoom (D.state depot.new)) }
     ensures files { SameFiles (D.state depot.old) (D.state depot.new) }
+    ensures faults { OnOk result ((counted (D.state depot.new)).faults
+        ≡ (counted (D.state depot.old)).faults) }
+    ensures told { IfOk result (λ f. AreFiles (D.state depot.old).file f.items) }
+    ensures inputs { IfOk result (λ f. has_twins (map string_bytes inputs.now) ≡ false
+        → StartsWith (paths_of f.items) (map string_bytes inputs.now)) }
+    ensures failed { IfErr result (SaysFailed (D.state depot.old) (D.state depot.new)) }
 {
     let mut files = Vec::new(alloc);
     add_all(alloc, depot, &mut files, inputs)?;
-    for k in 0..MOST {
+    for k in 0..MOST + 1 {
         if k >= files.len() {
             return Ok(files);
         }
         let paths = named(alloc, &files[k])?;
-        add_all(alloc, depot, &mut files, paths)?;
+        add_all(alloc, depot, &mut files, &paths)?;
     }
     Err(Failed::TooMany)
 }

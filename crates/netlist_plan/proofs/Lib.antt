@@ -1,0 +1,4 @@
+mod Marking
+mod Walking
+mod Plans
+mod Rows

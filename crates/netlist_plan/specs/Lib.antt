@@ -1,2 +1,5 @@
 pub mod Defined
+pub mod Circuits
+pub mod Seen
 pub mod Marks
+pub mod Work

@@ -2,6 +2,7 @@
 //! circuits that are reached from one.
 #![tactic(auto)]
 
+mod circuits;
 mod params;
 mod plan;
 mod reach;

@@ -1,16 +1,17 @@
 //! The names that cards define, and the circuits' calls.
 
-ghost use Rattle.std.specs.Prelude.{◌≡◌, IfErr, IfOk, Ok};
+ghost use Rattle.std.specs.Prelude.{◌≡◌, IfErr, IfOk};
 ghost use Rattle.std.specs.Option.{option_copied};
-ghost use Rattle.netlist_plan.specs.Marks.{KeepsTop};
+ghost use Rattle.netlist_plan.specs.Marks.{AreKept, IsPlan};
 ghost use Rattle.netlist_plan.specs.Defined.{defined, params_seen, settings_seen, SaysFault};
+ghost use Rattle.netlist_plan.specs.Seen.{circuits_seen};
 
+use crate::circuits::Circuits;
 use crate::params::{Params, none, take};
 use crate::reach::reached;
-use netlist_turn::{Row, Settings, TurnFault, folded, is_params, row_of};
-use spice_cards::{CardReader, Token, read_words};
+use netlist_turn::{Settings, TurnFault};
+use spice_cards::CardReader;
 use std::alloc::{AllocError, Global};
-use text_table::TextTable;
 
 /// What is left out, but for what isn't reached.
 #[derive(Clone, Copy)]
@@ -26,111 +27,33 @@ pub struct Plan {
     pub is_found: bool,
 }
 
-// The circuits of the cards so far; `open` is the number of the one that they stand in.
+// Which circuits are kept.
 #[derive(Drop)]
-struct Circuits {
-    circuits: TextTable,
-    calls: Vec<Vec<usize>>,
-    open: Option<usize>,
-    begun: Vec<bool>,
-}
-
-// The name of a called circuit: the last word, but `PARAMS:`.
-fn called<'a>(words: &[&'a [u8]]) -> Option<&'a [u8]> {
-    match words {
-        [] => None,
-        [only] => Some(*only),
-        [.., name, last] => {
-            if is_params(last) {
-                Some(*name)
-            } else {
-                Some(*last)
-            }
-        }
-    }
-}
-
-impl Circuits {
-    fn new(alloc: Global) -> Circuits {
-        Circuits {
-            circuits: TextTable::new(alloc),
-            calls: Vec::new(alloc),
-            open: None,
-            begun: Vec::new(alloc),
-        }
-    }
-
-    // The number of a circuit's name.
-    fn circuit(&mut self, alloc: Global, word: &[u8]) -> Result<usize, AllocError> {
-        let name = folded(alloc, word)?;
-        let k = self.circuits.number(alloc, &name)?;
-        if k >= self.calls.len() {
-            self.calls.push(Vec::new(alloc))?;
-            self.begun.push(false)?;
-        }
-        Ok(k)
-    }
-
-    fn begin(&mut self, alloc: Global, words: &[&[u8]]) -> Result<(), AllocError> {
-        if let [name, ..] = words {
-            let k = self.circuit(alloc, name)?;
-            if k < self.begun.len() {
-                self.begun[k] = true;
-            }
-            self.open = Some(k);
-        }
-        Ok(())
-    }
-
-    fn add_call(&mut self, alloc: Global, words: &[&[u8]]) -> Result<(), AllocError> {
-        let Some(from) = self.open else {
-            return Ok(());
-        };
-        let Some(word) = called(words) else {
-            return Ok(());
-        };
-        let to = self.circuit(alloc, word)?;
-        if from < self.calls.len() {
-            self.calls[from].push(to)?;
-        }
-        Ok(())
-    }
-
-    fn take(&mut self, alloc: Global, tokens: &[Token]) -> Result<(), AllocError> {
-        let [Token::Word(first), behind @ ..] = tokens else {
-            return Ok(());
-        };
-        let mut words = Vec::new(alloc);
-        let _rest = read_words(&mut words, behind)?;
-        match row_of(first) {
-            Row::Opening => self.begin(alloc, &words),
-            Row::Ending => {
-                self.open = None;
-                Ok(())
-            }
-            Row::Call => self.add_call(alloc, &words),
-            _ => Ok(()),
-        }
-    }
+struct Kept {
+    marks: Vec<bool>,
+    all: bool,
+    is_found: bool,
 }
 
 // Which circuits are kept: none is marked where all are.
-fn marks_of(
-    alloc: Global,
-    circuits: &Circuits,
-    top: Option<&[u8]>,
-) -> Result<(Vec<bool>, bool), AllocError>
-    ensures { IfOk result (λ r. KeepsTop circuits.now.circuits r.0.items (option_copied top.entry)
-        r.1) }
+fn kept_of(alloc: Global, circuits: &Circuits, top: Option<&[u8]>) -> Result<Kept, AllocError>
+    ensures { IfOk result (λ r. AreKept (circuits_seen circuits.now) (option_copied top.entry) r.all
+        r.marks.items r.is_found) }
 {
     match top {
-        None => Ok((Vec::new(alloc), true)),
+        None => Ok(Kept {
+            marks: Vec::new(alloc),
+            all: true,
+            is_found: true,
+        }),
         Some(name) => {
-            let name = folded(alloc, name)?;
-            let k = circuits.circuits.place(&name);
-            let begun = circuits.begun.get(k).copied().unwrap_or(false);
-            let is_found = k < circuits.calls.len() && begun;
-            Ok((reached(alloc, &circuits.calls, k)?, is_found))
+            let (k, is_found) = circuits.find(alloc, name)?;
+            let marks = reached(alloc, &circuits.calls, k)?;
+            Ok(Kept {
+                marks,
+                all: false,
+                is_found,
+            })
         }
     }
 }
@@ -144,40 +67,48 @@ fn settled(
     leaving: Leaving,
 ) -> Result<Plan, AllocError>
     ensures params { IfOk result (λ p. settings_seen p.settings ≡ params_seen params) }
-    ensures top { IfOk result (λ p. KeepsTop p.settings.circuits p.settings.marks.items
-        (option_copied top.entry) p.is_found) }
+    ensures circuits { IfOk result (λ p. p.settings.circuits ≡ (circuits_seen circuits).names) }
+    ensures kept { IfOk result (λ p. AreKept (circuits_seen circuits) (option_copied top.entry)
+        p.settings.all p.settings.marks.items p.is_found) }
+    ensures capacitors { IfOk result (λ p. p.settings.capacitors ≡ leaving.capacitors) }
+    ensures resistors { IfOk result (λ p. p.settings.resistors ≡ leaving.resistors) }
 {
-    let (marks, is_found) = marks_of(alloc, &circuits, top)?;
+    let Kept {
+        marks,
+        all,
+        is_found,
+    } = kept_of(alloc, &circuits, top)?;
     let Params { names, values } = params;
     let Circuits {
-        circuits,
+        names: circuits,
         calls: _,
-        open: _,
         begun: _,
+        inside: _,
     } = circuits;
     let settings = Settings {
         names,
         values,
         circuits,
         marks,
-        all: top.is_none(),
+        all,
         capacitors: leaving.capacitors,
         resistors: leaving.resistors,
     };
     Ok(Plan { settings, is_found })
 }
 
-/// What the cards of a text are turned by, where the circuit `top`, and all that it calls, at once
-/// or through others, are kept, or all circuits. Linear in the text.
+/// What the cards of a text are turned by: the names that they define, and where there is a `top`,
+/// just the circuit of that name and those that it calls, at once or through others, are kept; else
+/// all are. Linear in the text. The errors are the first card's that can't be taken.
+#[tactic(auto, using(crate::proofs::Plans::plan))]
 pub fn plan_cards(
     alloc: Global,
     bytes: &[u8],
     top: Option<&[u8]>,
     leaving: Leaving,
 ) -> Result<Plan, TurnFault>
-    ensures made { IfOk result (λ p. defined bytes.now ≡ Ok (settings_seen p.settings)) }
-    ensures top { IfOk result (λ p. KeepsTop p.settings.circuits p.settings.marks.items
-        (option_copied top.entry) p.is_found) }
+    ensures made { IfOk result (λ p. IsPlan bytes.now (option_copied top.entry) leaving p.settings
+        p.is_found) }
     ensures fault { IfErr result (λ e. SaysFault e (defined bytes.now)) }
 {
     let mut cards = match CardReader::new(bytes) {

@@ -1,15 +1,17 @@
 //! The run: files are read and joined, cards turned, the text tried, and then it is written.
 
-ghost use Rattle.std.specs.Prelude.{◌≡◌, true, IfOk, Ok, OnOk, length};
+ghost use Rattle.std.specs.Prelude.{◌≡◌, false, true, IfOk, Ok, OnOk, length, map, string_bytes};
+ghost use Rattle.std.specs.List.{list_any};
+ghost use Rattle.std.specs.Str.{bytes_eq};
+ghost use Rattle.netlist_join.specs.Loaded.{has_twins};
 ghost use Rattle.lvs_outside.specs.Store.{HasRoom, SameFiles};
 ghost use Rattle.lvs_outside.specs.Summary.{SinkHasRoom};
 ghost use Rattle.netlist_turn.specs.Seen.{seen};
 ghost use Rattle.std.specs.Option.{option_copied};
-ghost use Rattle.netlist_plan.specs.Defined.{defined, settings_seen};
-ghost use Rattle.netlist_plan.specs.Marks.{KeepsTop};
+ghost use Rattle.netlist_plan.specs.Marks.{IsPlan};
 ghost use Rattle.netlist_told.specs.Sums.{told_text};
-ghost use Rattle.netlist_run.specs.Accepted.{IsAccepted, IsOutput, IsPrepared, Leaves, Sends};
-ghost use Rattle.netlist_run.specs.Accepted.{top_bytes};
+ghost use Rattle.netlist_run.specs.Accepted.{Delivers, IsAccepted, IsMade, IsOutput, IsPrepared};
+ghost use Rattle.netlist_run.specs.Accepted.{Leaves, Sends, top_bytes};
 
 use crate::lines::{join_stop, line_of, spice_stop, turn_stop};
 use crate::status::{Status, Stop};
@@ -95,9 +97,8 @@ fn turned_output(
     command: &Command,
     settings: &Settings,
 ) -> Result<Output, Stop>
-    requires names { defined joined.now.text.items ≡ Ok (settings_seen settings.now) }
-    requires kept { KeepsTop settings.now.circuits settings.now.marks.items
-        (top_bytes command.now) true }
+    requires plan { IsPlan joined.now.text.items (top_bytes command.now) command.now.leaving
+        settings.now true }
     ensures { IfOk result (λ o. IsOutput files.now joined.now command.now o.text.items
         o.lines.items) }
 {
@@ -119,6 +120,7 @@ fn top_of(command: &Command) -> Option<&[u8]>
 }
 
 // What is made of a joined text.
+#[tactic(auto, using(crate::proofs::Leaving::plan_for))]
 fn made(alloc: Global, files: &[File], joined: &Joined, command: &Command) -> Result<Output, Stop>
     ensures { IfOk result (λ o. IsOutput files.now joined.now command.now o.text.items
         o.lines.items) }
@@ -156,14 +158,6 @@ fn load_stop(alloc: Global, failed: Failed) -> Result<Stop, AllocError> {
     }
 }
 
-fn paths_of(alloc: Global, command: &Command) -> Result<Vec<String>, AllocError> {
-    let mut paths = Vec::new(alloc);
-    for path in &command.inputs {
-        paths.push(path.clone()?)?;
-    }
-    Ok(paths)
-}
-
 // What is to be written of the inputs and the files that they name.
 fn joined_output(
     alloc: Global,
@@ -172,7 +166,7 @@ fn joined_output(
     command: &Command,
 ) -> Result<Output, Stop>
     requires { count ≡ length command.now.inputs.items }
-    ensures { IfOk result (λ o. IsPrepared o.text.items o.lines.items) }
+    ensures { IfOk result (λ o. IsMade files.now command.now o.text.items o.lines.items) }
 {
     let joined = match join_files(alloc, files, count, command.has_title) {
         Ok(joined) => joined,
@@ -184,12 +178,14 @@ fn joined_output(
 
 // Reads the files that a command names, and makes what is to be written.
 fn prepare<D: Depot>(alloc: Global, command: &Command, depot: &mut D) -> Result<Output, Stop>
-    requires { HasRoom (D.state depot.old) }
+    requires room { HasRoom (D.state depot.old) }
+    requires apart { has_twins (map string_bytes command.now.inputs.items) ≡ false }
     ensures room { OnOk result (HasRoom (D.state depot.new)) }
     ensures files { SameFiles (D.state depot.old) (D.state depot.new) }
-    ensures made { IfOk result (λ o. IsPrepared o.text.items o.lines.items) }
+    ensures made { IfOk result (λ o. IsPrepared (D.state depot.old).file o.text.items
+        o.lines.items) }
 {
-    let inputs = paths_of(alloc, command)?;
+    let inputs = command.inputs.as_slice();
     let files = match load_files(alloc, depot, inputs) {
         Ok(files) => files,
         Err(failed) => return Err(load_stop(alloc, failed)?),
@@ -223,9 +219,8 @@ fn stopped<S: Sink>(out: &mut S, stop: Stop) -> Status
 fn deliver<D: Depot, S: Sink>(depot: &mut D, out: &mut S, path: &str, output: &Output) -> Status
     requires depot { HasRoom (D.state depot.old) }
     requires sink { SinkHasRoom (S.state out.old) }
-    requires prepared { IsPrepared output.now.text.items output.now.lines.items }
-    ensures { Leaves (D.state depot.old) (D.state depot.new) (S.state out.old) (S.state out.new)
-        result }
+    ensures { Delivers path.now output.now.text.items output.now.lines.items (D.state depot.old)
+        (D.state depot.new) (S.state out.old) (S.state out.new) result }
 {
     match write_file(depot, path, output.text.as_slice()) {
         Ok(()) => send(out, output.lines.as_slice(), Status::Good),
@@ -243,6 +238,7 @@ fn run_command<D: Depot, S: Sink>(
 ) -> Status
     requires depot { HasRoom (D.state depot.old) }
     requires sink { SinkHasRoom (S.state out.old) }
+    requires apart { has_twins (map string_bytes command.now.inputs.items) ≡ false }
     ensures { Leaves (D.state depot.old) (D.state depot.new) (S.state out.old) (S.state out.new)
         result }
 {
@@ -285,11 +281,27 @@ fn is_input(command: &Command, path: &str) -> bool {
     command.inputs.iter().any(|input| input.as_str() == path)
 }
 
+// Whether a path is one of these.
+fn is_one_of(path: &str, paths: &[String]) -> bool
+    ensures { result ≡ list_any (λ q. bytes_eq path.now (string_bytes q)) paths.now }
+{
+    paths.iter().any(|other| path == other.as_str())
+}
+
+// Whether a path stands behind.
+fn is_behind(path: &str, more: &[String]) -> bool
+    ensures { result ≡ list_any (λ q. bytes_eq path.now q) (map string_bytes more.now) }
+{
+    is_one_of(path, more)
+}
+
 // Whether a path stands twice.
-fn has_twins(paths: &[String]) -> bool {
+fn has_twins(paths: &[String]) -> bool
+    ensures { result ≡ has_twins (map string_bytes paths.now) }
+{
     let mut rest = paths;
     'paths: while let [path, more @ ..] = rest {
-        if more.iter().any(|other| other.as_str() == path.as_str()) {
+        if is_behind(path.as_str(), more) {
             return true;
         }
         rest = more;

@@ -57,6 +57,11 @@ after at Opening left = opened left
 after at Ending left = Outside
 after at row left = at
 
+-- only the card that begins a circuit says whether one is left out
+abbrev pub left_at : Row → Bool → Bool
+left_at Opening left = left
+left_at row left = false
+
 abbrev pub moved : Where → Made → Made
 moved at m = record m { at = at }
 

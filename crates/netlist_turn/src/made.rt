@@ -3,8 +3,8 @@
 ghost use Rattle.std.specs.Prelude.{◌≡◌, OnOk};
 
 use crate::rows::{Row, is_kept_key, left_out};
-use crate::settings::Settings;
-use crate::words::{folded, has_escape, unquoted};
+use crate::settings::{Settings, value_place};
+use crate::words::{has_escape, unquoted};
 use spice_cards::Param;
 use std::alloc::{AllocError, Global};
 
@@ -168,8 +168,8 @@ impl<'a> Turned<'a> {
     {
         let plain = unquoted(value);
         self.unquote(line, value, plain)?;
-        let name = folded(alloc, plain)?;
-        let found = settings.values.get(settings.names.place(&name));
+        let place = value_place(alloc, settings, plain)?;
+        let found = settings.values.get(place);
         self.put_in(line, plain, found)?;
         self.write(b" ")
     }

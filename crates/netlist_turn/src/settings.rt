@@ -2,6 +2,8 @@
 
 ghost use Rattle.std.specs.Prelude.{◌≡◌, IfOk};
 ghost use Rattle.spice_cards.specs.Seen.{params_seen, words_seen};
+ghost use Rattle.net_names.specs.Folding.{folded_bytes};
+ghost use Rattle.text_table.specs.Texts.{place_of};
 ghost use Rattle.netlist_turn.specs.Made.{has_shadow, is_left};
 
 use crate::words::folded;
@@ -33,6 +35,18 @@ pub fn is_left(alloc: Global, settings: &Settings, words: &[&[u8]]) -> Result<bo
     };
     let mark = settings.marks.get(settings.circuits.place(&name)).copied();
     Ok(!settings.all && !mark.unwrap_or(false))
+}
+
+/// The place of a value among the names that `.PARAM` cards define, or the number of them.
+#[tactic(auto, using(crate::proofs::TakenLemmas::no_names))]
+pub fn value_place(alloc: Global, settings: &Settings, value: &[u8]) -> Result<usize, AllocError>
+    ensures { IfOk result (λ k. k ≡ place_of settings.now.names (folded_bytes value.now)) }
+{
+    if settings.names.len() == 0 {
+        return Ok(0);
+    }
+    let name = folded(alloc, value)?;
+    Ok(settings.names.place(&name))
 }
 
 /// Whether a parameter's name is one that a `.PARAM` defines.

@@ -6,7 +6,7 @@ ghost use Rattle.spice_cards.specs.Parts.{words_of};
 ghost use Rattle.netlist_turn.specs.Made.{is_left as is_left_out};
 ghost use Rattle.netlist_turn.specs.Seen.{seen, SaysFault};
 ghost use Rattle.netlist_turn.specs.Turning.{after, by_fate, card_taken, drops_if, end_fate};
-ghost use Rattle.netlist_turn.specs.Turning.{fate_of, is_opening, is_out, moved, open_fate};
+ghost use Rattle.netlist_turn.specs.Turning.{fate_of, is_opening, is_out, left_at, moved, open_fate};
 ghost use Rattle.netlist_turn.specs.Turning.{opened, turned, turning, word_taken};
 
 use crate::fault::TurnFault;
@@ -131,6 +131,22 @@ fn take_by_fate<'a>(
     }
 }
 
+// Whether a circuit that these tokens name is left out, where they begin one.
+fn left_at(
+    alloc: Global,
+    settings: &Settings,
+    row: Row,
+    tokens: &[Token],
+) -> Result<bool, AllocError>
+    ensures { IfOk result (λ b. b ≡ left_at row (is_left_out settings.now
+        (words_of (tokens_seen tokens.now)))) }
+{
+    match row {
+        Row::Opening => left_of(alloc, settings, tokens),
+        _ => Ok(false),
+    }
+}
+
 // Whether a circuit that these tokens name is left out.
 fn left_of(alloc: Global, settings: &Settings, tokens: &[Token]) -> Result<bool, AllocError>
     ensures { IfOk result (λ b. b ≡ is_left_out settings.now (words_of (tokens_seen tokens.now))) }
@@ -155,7 +171,7 @@ fn take_word<'a>(
         first.now (tokens_seen behind.now))) }
 {
     let row = row_of(first);
-    let left = left_of(alloc, settings, behind)?;
+    let left = left_at(alloc, settings, row, behind)?;
     let fate = fate_of(settings, made.at, row, left);
     made.at = after(made.at, row, left);
     take_by_fate(alloc, settings, made, line, row, first, behind, fate)

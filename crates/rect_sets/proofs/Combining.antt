@@ -25,7 +25,7 @@ edges_more f g rects i d old out lt e =
     append_assoc out (l ∷ []) (r ∷ []) ∙ ap (λ (q : List Edge). q ++ (l ∷ r ∷ [])) e ∙ append_assoc old (edges_of f g (take i rects)) (l ∷ r ∷ []) ∙
     ap (λ (q : List Edge). old ++ q) (sym (edges_push f g (take i rects) (get_or rects i d)) ∙ ap (edges_of f g) (sym (take_more rects i d lt)))
 
-sum_append : (test : Edge → Bool) (field : Edge → ℤ) (xs ys : List Edge) → sum_where test field (xs ++ ys) ≡ sum_where test field xs +ℤ sum_where test field ys
+pub sum_append : (test : Edge → Bool) (field : Edge → ℤ) (xs ys : List Edge) → sum_where test field (xs ++ ys) ≡ sum_where test field xs +ℤ sum_where test field ys
 sum_append test field [] ys = omega (arith, ints)
 sum_append test field (x ∷ xs) ys = let r = sum_append test field xs ys in omega (arith, ints, r)
 

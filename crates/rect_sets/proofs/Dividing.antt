@@ -49,11 +49,11 @@ lt_from a b e = by_lt_z a b (λ lt. lt) (λ le. absurd (false≢true (sym (lt_fa
 pub le_from : (a b : ℤ) → int_le a b ≡ true → a ≤ℤ b
 le_from a b e = by_lt_z b a (λ lt. absurd (false≢true (sym (le_false a b lt) ∙ e))) (λ le. le)
 
-and_one : (b c : Bool) → c ≡ true → (b && c) ≡ b
+pub and_one : (b c : Bool) → c ≡ true → (b && c) ≡ b
 and_one true c e = e
 and_one false c e = refl
 
-and_none : (b c : Bool) → c ≡ false → (b && c) ≡ false
+pub and_none : (b c : Bool) → c ≡ false → (b && c) ≡ false
 and_none true c e = e
 and_none false c e = refl
 
@@ -272,7 +272,7 @@ clear_below set axis below at r lt h =
 
 -- what the parts cover
 
-low_between : (x1 x x2 cut : ℤ) → is_between x1 x (if int_lt cut x2 then cut else x2) ≡ (is_between x1 x x2 && int_lt x cut)
+pub low_between : (x1 x x2 cut : ℤ) → is_between x1 x (if int_lt cut x2 then cut else x2) ≡ (is_between x1 x x2 && int_lt x cut)
 low_between x1 x x2 cut = by_lt_z cut x2
     (λ lt. ap (λ (q : ℤ). is_between x1 x q) (if_true (int_lt cut x2) cut x2 (lt_true cut x2 lt)) ∙ shorter x1 x x2 cut lt)
     (λ le. ap (λ (q : ℤ). is_between x1 x q) (if_false (int_lt cut x2) cut x2 (lt_false cut x2 le)) ∙ longer x1 x x2 cut le)
@@ -283,7 +283,7 @@ low_between x1 x x2 cut = by_lt_z cut x2
     longer : (x1 x x2 cut : ℤ) → x2 ≤ℤ cut → is_between x1 x x2 ≡ (is_between x1 x x2 && int_lt x cut)
     longer x1 x x2 cut h = grind (arith, ints)
 
-high_between : (x1 x x2 cut : ℤ) → is_between (if int_lt x1 cut then cut else x1) x x2 ≡ (is_between x1 x x2 && int_le cut x)
+pub high_between : (x1 x x2 cut : ℤ) → is_between (if int_lt x1 cut then cut else x1) x x2 ≡ (is_between x1 x x2 && int_le cut x)
 high_between x1 x x2 cut = by_lt_z x1 cut
     (λ lt. ap (λ (q : ℤ). is_between q x x2) (if_true (int_lt x1 cut) cut x1 (lt_true x1 cut lt)) ∙ shorter x1 x x2 cut lt)
     (λ le. ap (λ (q : ℤ). is_between q x x2) (if_false (int_lt x1 cut) cut x1 (lt_false x1 cut le)) ∙ longer x1 x x2 cut le)
@@ -361,13 +361,13 @@ covers_highs c (r ∷ rects) s =
 
 -- each part has area
 
-less_than_least : (a at b : ℤ) → a <ℤ at → a <ℤ b → a <ℤ (if int_lt at b then at else b)
+pub less_than_least : (a at b : ℤ) → a <ℤ at → a <ℤ b → a <ℤ (if int_lt at b then at else b)
 less_than_least a at b h g = elim (either (int_lt at b)) [
   | inl t ↦ subst (λ (q : ℤ). a <ℤ q) (sym (if_true (int_lt at b) at b t)) h
   | inr f ↦ subst (λ (q : ℤ). a <ℤ q) (sym (if_false (int_lt at b) at b f)) g
 ]
 
-most_less_than : (a at b : ℤ) → at <ℤ b → a <ℤ b → (if int_lt a at then at else a) <ℤ b
+pub most_less_than : (a at b : ℤ) → at <ℤ b → a <ℤ b → (if int_lt a at then at else a) <ℤ b
 most_less_than a at b h g = elim (either (int_lt a at)) [
   | inl t ↦ subst (λ (q : ℤ). q <ℤ b) (sym (if_true (int_lt a at) at a t)) h
   | inr f ↦ subst (λ (q : ℤ). q <ℤ b) (sym (if_false (int_lt a at) at a f)) g

@@ -16,3 +16,6 @@ pub mod Sweeping
 pub mod Unique
 pub mod Moving
 pub mod Single
+pub mod Halving
+pub mod Summing
+pub mod Halved

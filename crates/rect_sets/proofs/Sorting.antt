@@ -18,15 +18,15 @@ use Rattle.geo_base.specs.declared.shapes.Square.{Square}
 use Rattle.rect_sets.specs.declared.row.Edge.{Edge}
 use Rattle.rect_sets.specs.declared.row.Rule.{Rule}
 
-up_part : ℤ → ℕ
+pub up_part : ℤ → ℕ
 up_part (pos n) = n
 up_part (negsuc n) = 0
 
-down_part : ℤ → ℕ
+pub down_part : ℤ → ℕ
 down_part (pos n) = 0
 down_part (negsuc n) = suc n
 
-two_parts : (z : ℤ) → (z +ℤ pos (down_part z)) ≡ pos (up_part z)
+pub two_parts : (z : ℤ) → (z +ℤ pos (down_part z)) ≡ pos (up_part z)
 unfolding up_part down_part
 two_parts (pos n) = omega (arith, ints)
 two_parts (negsuc n) = omega (arith, ints)

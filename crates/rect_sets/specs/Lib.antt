@@ -13,3 +13,5 @@ pub mod Stripes
 pub mod Sweeps
 pub mod Moves
 pub mod Near
+pub mod EdgeCuts
+pub mod Sums

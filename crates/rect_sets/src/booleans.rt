@@ -1,15 +1,9 @@
 //! Booleans of lists of rectangles.
 
-ghost use Rattle.std.specs.Prelude.{◌≡◌, ℕ, ℤ, pos, ◌+◌, ◌<◌, ◌≤ℤ◌, ◌<ℤ◌, ◌++◌, length, IfOk, OnOk};
-ghost use Rattle.std.specs.List.{All};
-ghost use Rattle.geo_base.specs.Rects.{IsRect};
-ghost use Rattle.rect_sets.specs.Rects.{covers};
-ghost use Rattle.rect_sets.specs.Sweeps.{AreBlocks};
-ghost use Rattle.rect_sets.specs.Combined.{IsWeight, left_of, right_of, edges_of, combined};
-ghost use Rattle.rect_sets.specs.Combined.{combined_set};
+ghost use Rattle.std.specs.Prelude.{◌≡◌, pos, ◌++◌, IfOk, OnOk};
+ghost use Rattle.rect_sets.specs.Combined.{IsWeight, left_of, right_of, edges_of};
 
 use crate::row::{Edge, Rule};
-use crate::strips::blocks;
 use geo_base::Rect;
 use std::alloc::{AllocError, Global};
 
@@ -57,16 +51,14 @@ fn push_edges(
     Ok(())
 }
 
-/// The rectangles of the squares where the rule holds of the two lists.
-pub fn combine(alloc: Global, a: &[Rect], b: &[Rect], rule: Rule) -> Result<Vec<Rect>, AllocError>
-    requires a { All IsRect a.now }
-    requires b { All IsRect b.now }
-    ensures { IfOk result (λ r. AreBlocks (combined_set rule a.now b.now) r.items) }
+/// The upright edges of two lists: the first weights are of the one, the second of the other.
+pub fn edges_of(alloc: Global, a: &[Rect], b: &[Rect]) -> Result<Vec<Edge>, AllocError>
+    ensures { IfOk result (λ v. v.items ≡ edges_of (pos 1) (pos 0) a.now
+        ++ edges_of (pos 0) (pos 1) b.now) }
 {
     let count = a.len().saturating_add(b.len()).saturating_mul(2);
     let mut edges = Vec::with_capacity(alloc, count)?;
     push_edges(&mut edges, a, 1, 0)?;
     push_edges(&mut edges, b, 0, 1)?;
-    let rects = blocks(alloc, edges, rule)?;
-    Ok(rects)
+    Ok(edges)
 }

@@ -94,9 +94,10 @@ impl Grid {
         last.saturating_sub(self.stripe_of(low))
     }
 
-    // About how many parts the lines add to the rectangles.
+    // About how many parts the lines add to the rectangles. It looks at some, an odd number of
+    // places apart: of two kinds that alternate it sees both.
     fn crossings(&self, rects: &[Rect]) -> usize {
-        let step = 1 + rects.len() / SAMPLE;
+        let step = 1 + rects.len() / SAMPLE / 2 * 2;
         let mut count = 0usize;
         for rect in rects.iter().step_by(step) {
             count = count.saturating_add(self.crossings_of(rect).saturating_mul(step));

@@ -10,8 +10,8 @@ ghost use Rattle.rect_sets.specs.Combined.{combined_set};
 ghost use Rattle.rect_sets.specs.Stripes.{lists_of, list_at, within, done_of, rest_of, IsSwept};
 ghost use Rattle.rect_sets.specs.Stripes.{AreFirst, AreJoined, AreRising};
 
-use crate::booleans::combine;
 use crate::cuts::{Cut, Lines, lines_of, share};
+use crate::halves::combine;
 use crate::parts::{sort_out, split};
 use crate::row::Rule;
 use geo_base::Rect;

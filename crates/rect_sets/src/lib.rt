@@ -5,6 +5,8 @@ mod active;
 mod booleans;
 mod cuts;
 mod divide;
+mod edge_cuts;
+mod halves;
 mod moves;
 mod opens;
 mod order;
@@ -12,6 +14,7 @@ mod parts;
 mod row;
 mod set;
 mod strips;
+mod sums;
 
 pub use row::{Edge, Rule};
 pub use set::{RectSet, canonical_rects, combine_rects, one_list, sweep};

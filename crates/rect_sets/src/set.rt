@@ -9,10 +9,10 @@ ghost use Rattle.rect_sets.specs.Combined.{combined};
 ghost use Rattle.geo_base.specs.declared.shapes.Square.{Square};
 
 use crate::divide::combine_parts;
+use crate::halves::blocks_in_parts;
 use crate::moves::{images, meeting, shifted};
 use crate::order::in_order;
 use crate::row::{Edge, Rule};
-use crate::strips::blocks;
 use geo_base::{Motion, Rect, Square, Turn};
 use std::alloc::{AllocError, Global};
 use std::marker::Model;
@@ -139,13 +139,15 @@ pub fn combine_rects(
 
 /// The squares where the rule holds of the two sums of the weights of the edges that act on them,
 /// as in a fill by winding number. The edges may come in any order; the weights of each row sum to
-/// 0. In O(n log n + k + m log m), without cuts. An `Err` is want of memory.
+/// 0. In O(n log n + k + m log m) for n edges, k crossings of edges with strips within a part of
+/// the plane, m rectangles of the result: where strips would cross many edges, the edges are cut in
+/// two again and again. An `Err` is want of memory.
 pub fn sweep(alloc: Global, edges: Vec<Edge>, rule: Rule) -> Result<RectSet, AllocError>
     requires edges { All IsEdge edges.items }
     requires balanced { IsBalanced edges.items }
     ensures { IfOk result (λ r. (s : Square) → covers r s ≡ set_of rule edges.items s) }
 {
-    let found = blocks(alloc, edges, rule)?;
+    let found = blocks_in_parts(alloc, edges, rule)?;
     let rects = in_order(alloc, found)?;
     Ok(RectSet { rects })
 }

@@ -12,4 +12,4 @@ pub use laws::{
     exact_report, last_partner, matched_report, matching, one_report, report_verdicts, same_match,
     top_partner,
 };
-pub use turns::circuit_name;
+pub use turns::{Turns, circuit_name, compare_in_turns};

@@ -25,7 +25,9 @@ use std::alloc::{AllocError, Global};
 use std::sync::Wait;
 use std::thread::Threads;
 
-/// The last of the comparisons, and the lines of the pairs that were taken apart before it.
+/// What the comparisons in turns come to: the last of them, `None` where the top has no partner;
+/// and the report's lines on the pairs that were taken apart before it, or on the circuit that would
+/// be too large without them.
 #[derive(Drop)]
 pub struct Turns {
     pub lines: Vec<u8>,
@@ -135,8 +137,8 @@ fn alone_by_rules(
     Ok(Alone { lefts, rights })
 }
 
-// The marks of the pairs that are taken apart after a comparison, with their lines added; none where
-// it is the last one, which has a line where a circuit would become too large.
+// The marks of the pairs that are taken apart after a comparison, with their lines added; none
+// where it is the last one, which has a line where a circuit would become too large.
 fn take_apart(
     alloc: Global,
     rules: &RuleSet,

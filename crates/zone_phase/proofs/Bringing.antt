@@ -28,14 +28,14 @@ left_of true b e = refl
 left_of false b e = e
 
 -- shifts stay near
-ahead_within : (x y : ℤ) → (x ≡ pos 0) ⊎ (y ≡ pos 0) → IsWithin (2 ^ 31) x → IsWithin (2 ^ 31) y → IsWithin (2 ^ 31) (x -ℤ y)
+ahead_within : (x y : ℤ) → (x ≡ pos 0) ⊎ (y ≡ pos 0) → IsWithin (2 ^ 37) x → IsWithin (2 ^ 37) y → IsWithin (2 ^ 37) (x -ℤ y)
 ahead_within x y (inl e) h g = let l = h.low in let u = h.high in let l' = g.low in let u' = g.high in record { low = omega (arith, ints); high = omega (arith, ints) }
 ahead_within x y (inr e) h g = let l = h.low in let u = h.high in let l' = g.low in let u' = g.high in record { low = omega (arith, ints); high = omega (arith, ints) }
 
-start_within : (s x y : ℤ) → IsWithin (2 ^ 30) s → IsWithin (2 ^ 31) x → IsWithin (2 ^ 31) y → IsWithin (2 ^ 33) ((s +ℤ x) +ℤ y)
+start_within : (s x y : ℤ) → IsWithin (2 ^ 36) s → IsWithin (2 ^ 37) x → IsWithin (2 ^ 37) y → IsWithin (2 ^ 39) ((s +ℤ x) +ℤ y)
 start_within s x y k h g = let a = k.low in let b = k.high in let l = h.low in let u = h.high in let l' = g.low in let u' = g.high in record { low = omega (arith, ints); high = omega (arith, ints) }
 
-both_within : (x y z : ℤ) → z ≡ x +ℤ y → IsWithin (2 ^ 31) x → IsWithin (2 ^ 31) y → IsWithin (2 ^ 32) z
+both_within : (x y z : ℤ) → z ≡ x +ℤ y → IsWithin (2 ^ 37) x → IsWithin (2 ^ 37) y → IsWithin (2 ^ 38) z
 both_within x y z e h g = let l = h.low in let u = h.high in let l' = g.low in let u' = g.high in record { low = omega (arith, ints); high = omega (arith, ints) }
 
 no_steps : (a b : ℕ) (s : ℤ) → (a ≡ 0) ⊎ (b ≡ 0) → (pos a *ℤ s ≡ pos 0) ⊎ (pos b *ℤ s ≡ pos 0)
@@ -43,9 +43,9 @@ no_steps a b s (inl e) = inl (ap (λ k. pos k *ℤ s) e ∙ none_times s)
 no_steps a b s (inr e) = inr (ap (λ k. pos k *ℤ s) e ∙ none_times s)
 
 -- twice as many steps
-wide_steps : (n m c : ℕ) (s : ℤ) → ((k : ℕ) → k < n → IsWithin (2 ^ 31) (pos k *ℤ s)) → m < 2 * n → c < m → IsWithin (2 ^ 32) (pos c *ℤ s)
+wide_steps : (n m c : ℕ) (s : ℤ) → ((k : ℕ) → k < n → IsWithin (2 ^ 37) (pos k *ℤ s)) → m < 2 * n → c < m → IsWithin (2 ^ 38) (pos c *ℤ s)
 wide_steps n m c s near lt less = elim (compared c n) [
-  | inl h ↦ wider (2 ^ 31) (2 ^ 32) (pos c *ℤ s) (omega arith) (near c h)
+  | inl h ↦ wider (2 ^ 37) (2 ^ 38) (pos c *ℤ s) (omega arith) (near c h)
   | inr g ↦
       let le : n ≤ c = elim g [ inl e ↦ omega arith | inr h ↦ omega arith ] in
       let e : (n - 1) + (c - (n - 1)) ≡ c = omega arith in
@@ -62,8 +62,8 @@ near_around p up down right left rows columns h s = record {
       (ahead_within _ _ (no_steps up down p.row_step.y s.along) (h.row_y up s.up_in) (h.row_y down s.down_in));
   column_x = λ column lt. wide_steps p.columns columns column p.column_step.x h.column_x s.columns_in lt;
   column_y = λ column lt. wide_steps p.columns columns column p.column_step.y h.column_y s.columns_in lt;
-  row_x = λ row lt. let le = s.rows_in in wider (2 ^ 31) (2 ^ 32) (pos row *ℤ p.row_step.x) (omega arith) (h.row_x row (omega arith));
-  row_y = λ row lt. let le = s.rows_in in wider (2 ^ 31) (2 ^ 32) (pos row *ℤ p.row_step.y) (omega arith) (h.row_y row (omega arith));
+  row_x = λ row lt. let le = s.rows_in in wider (2 ^ 37) (2 ^ 38) (pos row *ℤ p.row_step.x) (omega arith) (h.row_x row (omega arith));
+  row_y = λ row lt. let le = s.rows_in in wider (2 ^ 37) (2 ^ 38) (pos row *ℤ p.row_step.y) (omega arith) (h.row_y row (omega arith));
 }
 
 -- what is there so far is right
@@ -108,7 +108,7 @@ pub visit_near : (p : Place) (hull w : Rect) (v : Visit) → IsNearArray p → I
 visit_near p hull w v near h = subst IsNearMotion (sym h.motion) (near_motion p h.row h.column near h.row_in h.column_in)
 
 pub visit_within : (p : Place) (hull w : Rect) (v : Visit) → IsElementVisit p hull w v → IsRectWithin (2 ^ 39) v.window
-visit_within p hull w v h = wider_rect (2 ^ 31) (2 ^ 39) v.window (omega arith) h.near.near
+visit_within p hull w v h = wider_rect (2 ^ 37) (2 ^ 39) v.window (omega arith) h.near.near
 
 pub brings_flat : (d : Linked) (p : Place) (key : LayerKey) (hull w : Rect) (old new list : List Rect) (v : Visit) → IsSound d → IsExact d p.cell None key v.window list → Adds old new list v.motion w
     → (r : Square) → has v.window r ≡ true → InFlatInput (plain d) p.cell key r → has w (moved_square v.motion r) ≡ true → covers new (moved_square v.motion r) ≡ true

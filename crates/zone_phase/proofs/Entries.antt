@@ -17,10 +17,10 @@ use Rattle.deep_tables.specs.Entries.{downward_cell}
 use Rattle.zone_phase.specs.declared.uses.Use.{Use}
 use Rattle.zone_phase.specs.Jobs.{IsEntry, zone_in, IsFromUses}
 
-one_less : (z : ℤ) → IsWithin (2 ^ 30) z → IsWithin (2 ^ 31) (z -ℤ pos 1)
+one_less : (z : ℤ) → IsWithin (2 ^ 36) z → IsWithin (2 ^ 37) (z -ℤ pos 1)
 one_less z h = let l = h.low in let u = h.high in record { low = omega (arith, ints); high = omega (arith, ints) }
 
-one_more : (z : ℤ) → IsWithin (2 ^ 30) z → IsWithin (2 ^ 31) (z +ℤ pos 1)
+one_more : (z : ℤ) → IsWithin (2 ^ 36) z → IsWithin (2 ^ 37) (z +ℤ pos 1)
 one_more z h = let l = h.low in let u = h.high in record { low = omega (arith, ints); high = omega (arith, ints) }
 
 pub grown_frame : (h : Rect) → IsHull h → IsFrame (grown h)

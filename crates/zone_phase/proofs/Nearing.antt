@@ -116,16 +116,16 @@ pub put_here : (d : Linked) (uses : List Use) (old new : List Neighbour) (n : Ne
 put_here d uses old new n key q (inl e) is are o = subst (Some_of (IsOverBy d key q)) (sym e) (some_last (IsOverBy d key q) old n o)
 put_here d uses old new n key q (inr (e, h)) is are o = subst (Some_of (IsOverBy d key q)) (sym e) (alike_over d uses n key q old is are o h)
 
-none_within : (k : ℕ) → k < 1 → IsWithin (2 ^ 32) (pos k *ℤ pos 0)
+none_within : (k : ℕ) → k < 1 → IsWithin (2 ^ 38) (pos k *ℤ pos 0)
 none_within k lt =
     let e : k ≡ 0 = omega arith in
     let z : pos k *ℤ pos 0 ≡ pos 0 = ap (λ j. pos j *ℤ pos 0) e ∙ none_times (pos 0) in
     record { low = omega (arith, ints); high = omega (arith, ints) }
 
-near_alone : (cell : ℕ) (m : Motion) → IsWithin (2 ^ 30) m.dx → IsWithin (2 ^ 30) m.dy → IsNearArray (alone cell m)
+near_alone : (cell : ℕ) (m : Motion) → IsWithin (2 ^ 36) m.dx → IsWithin (2 ^ 36) m.dy → IsNearArray (alone cell m)
 near_alone cell m x y = record {
-  dx = wider (2 ^ 30) (2 ^ 33) m.dx (omega arith) x;
-  dy = wider (2 ^ 30) (2 ^ 33) m.dy (omega arith) y;
+  dx = wider (2 ^ 36) (2 ^ 39) m.dx (omega arith) x;
+  dy = wider (2 ^ 36) (2 ^ 39) m.dy (omega arith) y;
   column_x = none_within;
   column_y = none_within;
   row_x = none_within;
@@ -142,7 +142,7 @@ seen_neighbour d uses u parent place w v n sound at up there apart h seen = reco
   placed = subst (λ c. slice_get (places_at (cell_at d c)) u.index ≡ Some n.place) up (there ∙ ap Some (sym seen.place_is));
   apart = subst IsAlone (sym seen.place_is) apart;
   inside = subst (λ c. c < length d.cells) (ap (λ (p : Place). p.cell) (sym seen.other)) (visit_lower d parent (Some u.index) w v sound h).0;
-  near = let element = (reference_at d parent h.index h.from sound h.step.there).2.elements h.row h.column h.step.row_in h.step.column_in in subst IsNearArray (sym seen.other) (near_alone v.cell v.motion (subst (λ (m : Motion). IsWithin (2 ^ 30) m.dx) (sym h.motion_is) element.dx) (subst (λ (m : Motion). IsWithin (2 ^ 30) m.dy) (sym h.motion_is) element.dy));
+  near = let element = (reference_at d parent h.index h.from sound h.step.there).2.elements h.row h.column h.step.row_in h.step.column_in in subst IsNearArray (sym seen.other) (near_alone v.cell v.motion (subst (λ (m : Motion). IsWithin (2 ^ 36) m.dx) (sym h.motion_is) element.dx) (subst (λ (m : Motion). IsWithin (2 ^ 36) m.dy) (sym h.motion_is) element.dy));
   single = single;
   lies = seen.lies;
   through = λ key q o. subst (λ c. IsThrough d c (Some u.index) key (moved_square (motion_at n.place 0 0) q)) up (through key q o);

@@ -23,45 +23,45 @@ use geo_base::{LayerKey, Motion, Rect};
 use std::alloc::{AllocError, Global};
 
 fn times(count: u32, step: i64) -> i64
-    requires { IsWithin (2 ^ 31) (pos count *ℤ step) }
+    requires { IsWithin (2 ^ 37) (pos count *ℤ step) }
     ensures exact { result ≡ pos count *ℤ step }
-    ensures near { IsWithin (2 ^ 31) result }
+    ensures near { IsWithin (2 ^ 37) result }
 {
     count as i64 * step
 }
 
 fn less(a: i64, b: i64) -> i64
-    requires a { IsWithin (2 ^ 31) a }
-    requires b { IsWithin (2 ^ 31) b }
+    requires a { IsWithin (2 ^ 37) a }
+    requires b { IsWithin (2 ^ 37) b }
     ensures exact { result ≡ a -ℤ b }
-    ensures near { IsWithin (2 ^ 32) result }
+    ensures near { IsWithin (2 ^ 38) result }
 {
     a - b
 }
 
 fn more(a: i64, b: i64) -> i64
-    requires a { IsWithin (2 ^ 33) a }
-    requires b { IsWithin (2 ^ 32) b }
+    requires a { IsWithin (2 ^ 39) a }
+    requires b { IsWithin (2 ^ 38) b }
     ensures { result ≡ a +ℤ b }
 {
     a + b
 }
 
 fn closer(a: i64, b: i64) -> i64
-    requires a { IsWithin (2 ^ 30) a }
-    requires b { IsWithin (2 ^ 32) b }
+    requires a { IsWithin (2 ^ 36) a }
+    requires b { IsWithin (2 ^ 38) b }
     ensures exact { result ≡ a +ℤ b }
-    ensures near { IsWithin (2 ^ 33) result }
+    ensures near { IsWithin (2 ^ 39) result }
 {
     a + b
 }
 
 // Some steps ahead and some back.
 fn offset(ahead: u32, back: u32, step: i64) -> i64
-    requires ahead { IsWithin (2 ^ 31) (pos ahead *ℤ step) }
-    requires back { IsWithin (2 ^ 31) (pos back *ℤ step) }
+    requires ahead { IsWithin (2 ^ 37) (pos ahead *ℤ step) }
+    requires back { IsWithin (2 ^ 37) (pos back *ℤ step) }
     ensures exact { result ≡ (pos ahead *ℤ step) -ℤ (pos back *ℤ step) }
-    ensures near { IsWithin (2 ^ 32) result }
+    ensures near { IsWithin (2 ^ 38) result }
 {
     less(times(ahead, step), times(back, step))
 }
@@ -75,11 +75,11 @@ fn begun(
     down: u32,
     row_step: i64,
 ) -> i64
-    requires start { IsWithin (2 ^ 30) start }
-    requires right { IsWithin (2 ^ 31) (pos right *ℤ column_step) }
-    requires left { IsWithin (2 ^ 31) (pos left *ℤ column_step) }
-    requires up { IsWithin (2 ^ 31) (pos up *ℤ row_step) }
-    requires down { IsWithin (2 ^ 31) (pos down *ℤ row_step) }
+    requires start { IsWithin (2 ^ 36) start }
+    requires right { IsWithin (2 ^ 37) (pos right *ℤ column_step) }
+    requires left { IsWithin (2 ^ 37) (pos left *ℤ column_step) }
+    requires up { IsWithin (2 ^ 37) (pos up *ℤ row_step) }
+    requires down { IsWithin (2 ^ 37) (pos down *ℤ row_step) }
     ensures { result ≡ (start +ℤ ((pos right *ℤ column_step) -ℤ (pos left *ℤ column_step))) +ℤ
         ((pos up *ℤ row_step) -ℤ (pos down *ℤ row_step)) }
 {

@@ -7,7 +7,7 @@ ghost use Rattle.geo_base.specs.Rects.{has, moved_rect};
 ghost use Rattle.geo_base.specs.declared.shapes.Square.{Square};
 ghost use Rattle.rect_sets.specs.Rects.{covers};
 ghost use Rattle.cell_graph.specs.Linked.{IsFrame, IsHull, IsInside, IsRectWithin, motion_at};
-ghost use Rattle.cell_context.specs.Arrays.{IsNearArray};
+ghost use Rattle.cell_context.specs.Arrays.{IsCloseArray};
 ghost use Rattle.deep_tables.specs.Frames.{grown};
 ghost use Rattle.zone_phase.specs.Pulls.{OnRects, AreCovering};
 
@@ -17,14 +17,14 @@ use geo_base::Rect;
 use std::alloc::{AllocError, Global};
 
 fn before(a: i64) -> i64
-    requires { IsWithin (2 ^ 30) a }
+    requires { IsWithin (2 ^ 36) a }
     ensures exact { result ≡ a -ℤ pos 1 }
 {
     a - 1
 }
 
 fn behind(a: i64) -> i64
-    requires { IsWithin (2 ^ 30) a }
+    requires { IsWithin (2 ^ 36) a }
     ensures exact { result ≡ a +ℤ pos 1 }
 {
     a + 1
@@ -65,7 +65,7 @@ pub fn grown(hull: &Rect) -> Rect
 
 // What an element makes of a hull.
 pub fn element_rect(place: &Place, row: u32, column: u32, hull: &Rect) -> Rect
-    requires near { IsNearArray place.now }
+    requires close { IsCloseArray place.now }
     requires row { row < place.now.rows }
     requires column { column < place.now.columns }
     requires hull { IsFrame hull.now }
@@ -105,7 +105,7 @@ fn is_dense(element: &Rect, row: &Rect, columns: u32) -> bool {
 
 // Adds one window for each element of a row.
 fn push_each(out: &mut Vec<Rect>, place: &Place, row: u32, hull: &Rect) -> Result<(), AllocError>
-    requires near { IsNearArray place.now }
+    requires close { IsCloseArray place.now }
     requires row { row < place.now.rows }
     requires hull { IsFrame hull.now }
     requires within { All (IsRectWithin (2 ^ 39)) out.old.items }
@@ -124,7 +124,7 @@ fn push_each(out: &mut Vec<Rect>, place: &Place, row: u32, hull: &Rect) -> Resul
 
 // Adds one window for a row that is dense, and else one for each element.
 fn push_row(out: &mut Vec<Rect>, place: &Place, row: u32, hull: &Rect) -> Result<(), AllocError>
-    requires near { IsNearArray place.now }
+    requires close { IsCloseArray place.now }
     requires row { row < place.now.rows }
     requires some { 0 < place.now.columns }
     requires hull { IsFrame hull.now }
@@ -149,7 +149,7 @@ fn push_row(out: &mut Vec<Rect>, place: &Place, row: u32, hull: &Rect) -> Result
 
 // Windows that hold the images of a hull.
 pub fn windows(alloc: Global, place: &Place, hull: &Rect) -> Result<Vec<Rect>, AllocError>
-    requires near { IsNearArray place.now }
+    requires close { IsCloseArray place.now }
     requires some { 0 < place.now.columns }
     requires hull { IsFrame hull.now }
     ensures within { IfOk result (λ r. All (IsRectWithin (2 ^ 39)) r.items) }

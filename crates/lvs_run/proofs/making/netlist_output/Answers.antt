@@ -8,13 +8,13 @@ use Rattle.lvs_run.proofs.Adding.{first_file, next_file, verdict_line}
 use Rattle.lvs_run.proofs.making.netlist_output.Goals as goal
 
 pub returns : goal.returns
-returns g c =
-    let found = c.in_ok-found.found in
-    let nl = plain_netlist found.netlist in
+returns c = λ l r files.
+    let found = c.args.found in
+    let nl = plain_netlist found.file.netlist in
     let one = file_at (string_bytes c.args.path) found.shapes.text.items in
-    let two = file_at (string_bytes c.args.netlist) found.text.items in
-    let done = extracted (string_bytes c.args.path) found.shapes.text.items (string_bytes c.args.netlist) found.text.items
-    (Extracted found.shapes.cells (length nl.circuits) (length found.bad.items)) in
+    let two = file_at (string_bytes c.args.netlist) found.file.text.items in
+    let done = extracted (string_bytes c.args.path) found.shapes.text.items (string_bytes c.args.netlist) found.file.text.items
+    (Extracted found.shapes.cells (length nl.circuits) (length found.file.bad.items)) in
     record {
       done = done;
       files = next_file _ _ (one ∷ []) two (first_file _ _ one c.new-files.ensures.items c.in_ok-push_file.ensures) c.in_ok-push_file-2.ensures;
@@ -23,12 +23,12 @@ returns g c =
         text = found.shapes.text.items;
         cells = found.shapes.cells;
         rectangles = found.shapes.rectangles;
-        file = c.in_ok-found.ensures.shapes;
+        file = files.shapes;
         netlist = nl;
-        top = found.top;
-        bad = found.bad.items;
-        spelled = found.text.items;
-        netlist_file = c.in_ok-found.ensures.netlist;
+        top = found.file.top;
+        bad = found.file.bad.items;
+        spelled = found.file.text.items;
+        netlist_file = files.netlist.file;
         answer = c.gates_verdict-verdict.ensures ∙ ap gates_answer c.as_slice.ensures.value;
         whole = refl;
       };

@@ -1,61 +1,25 @@
-use Rattle.std.proofs.Common.{[], ◌∷◌, ◌∙◌, refl, length, string_bytes}
+use Rattle.std.proofs.Common.{subst}
 use Rattle.std.proofs.lemmas.Result.{err_from_is_err_and}
 use Rattle.net_model.specs.Rows.{plain_netlist}
-use Rattle.lvs_run.specs.Answers.{Compared, compared}
-use Rattle.lvs_run.specs.Words.{file_at}
-use Rattle.lvs_run.proofs.Adding.{first_file, next_file, verdict_line}
+use Rattle.netlist_file.specs.File.{AreFiles}
+use Rattle.netlist_file.specs.declared.file.Files.{Files}
+use Rattle.rule_text.specs.Seen.{rules_seen}
+use Rattle.lvs_run.specs.Inputs.{stopped}
+use Rattle.lvs_run.proofs.Widths.{narrow_file, run_far, run_merged, stops_far}
 use Rattle.lvs_run.proofs.making.report_output.Goals as goal
 
-pub returns-clause-made : goal.returns-clause-made
-returns-clause-made g c = λ path.
-    let found = c.in_ok-found.found in
-    let nl = plain_netlist found.netlist in
-    let report = c.in_ok-report.report in
-    let one = file_at (string_bytes c.args.paths.shapes) found.shapes.text.items in
-    let two = file_at (string_bytes c.args.paths.netlist) found.text.items in
-    let three = file_at (string_bytes c.args.paths.report) report.text.items in
-    let done = compared one.path one.text two.path two.text three.path three.text (Compared found.shapes.cells (length nl.circuits) report.pairs (length found.bad.items)) in
-    record {
-      done = done;
-      files = next_file _ _ (one ∷ two ∷ []) three
-          (next_file _ _ (one ∷ []) two (first_file _ _ one c.new-files.ensures.items c.in_ok-push_file.ensures) c.in_ok-push_file-2.ensures) c.in_ok-push_file-3.ensures;
-      apart = c.requires.apart path;
-      is = record {
-        text = found.shapes.text.items;
-        cells = found.shapes.cells;
-        rectangles = found.shapes.rectangles;
-        file = c.in_ok-found.ensures.shapes;
-        netlist = nl;
-        top = found.top;
-        bad = found.bad.items;
-        spelled = found.text.items;
-        netlist_file = c.in_ok-found.ensures.netlist;
-        report = report.text.items;
-        pairs = report.pairs;
-        verdict = report.verdict;
-        comparable = c.in_ok-report.ensures.comparable;
-        narrow = c.in_ok-report.ensures.narrow;
-        report_file = c.in_ok-report.ensures.report;
-        answer = c.comparison_verdict-verdict.ensures;
-        whole = refl;
-      };
-      line = c.in_ok-line.ensures ∙ verdict_line c.comparison_verdict-verdict.result done;
-    }
+pub returns-in_err-output-in-Whole-clause-refused : goal.returns-in_err-output-in-Whole-clause-refused
+returns-in_err-output-in-Whole-clause-refused g c =
+    let l = c.args.layout.now in
+    let r = rules_seen c.args.rules.now in
+    let e = err_from_is_err_and c.from_residual-in_err-output-in-Whole.result c.from_residual-in_err-output-in-Whole.ensures.1 in
+    let files = subst (λ (f : Files). AreFiles l r f) c.in-Whole.is c.in_ok-found.ensures in
+    rw (e.1, e.2) (run_merged l r (plain_netlist c.args.schematic.now) _ (narrow_file l r _ _ _ files.shapes) c.in_err-output-in-Whole.ensures.refused)
 
-pub returns-in_err-found-clause-refused : goal.returns-in_err-found-clause-refused
-returns-in_err-found-clause-refused g c = let e = err_from_is_err_and c.from_residual.result c.from_residual.ensures.1 in rw (e.1, e.2) tt
-
-pub returns-in_err-report-clause-refused : goal.returns-in_err-report-clause-refused
-returns-in_err-report-clause-refused g c = let e = err_from_is_err_and c.from_residual-in_err-report.result c.from_residual-in_err-report.ensures.1 in rw (e.1, e.2) c.in_err-report.ensures.refused
-
-pub returns-in_err-line-clause-refused : goal.returns-in_err-line-clause-refused
-returns-in_err-line-clause-refused g c = let e = err_from_is_err_and c.from_residual-in_err-line.result c.from_residual-in_err-line.ensures.1 in rw (e.1, e.2) tt
-
-pub returns-in_err-push_file-clause-refused : goal.returns-in_err-push_file-clause-refused
-returns-in_err-push_file-clause-refused g c = let e = err_from_is_err_and c.from_residual-in_err-push_file.result c.from_residual-in_err-push_file.ensures.1 in rw (e.1, e.2) tt
-
-pub returns-in_err-push_file-2-clause-refused : goal.returns-in_err-push_file-2-clause-refused
-returns-in_err-push_file-2-clause-refused g c = let e = err_from_is_err_and c.from_residual-in_err-push_file-2.result c.from_residual-in_err-push_file-2.ensures.1 in rw (e.1, e.2) tt
-
-pub returns-in_err-push_file-3-clause-refused : goal.returns-in_err-push_file-3-clause-refused
-returns-in_err-push_file-3-clause-refused g c = let e = err_from_is_err_and c.from_residual-in_err-push_file-3.result c.from_residual-in_err-push_file-3.ensures.1 in rw (e.1, e.2) tt
+pub returns-in-Wide-clause-refused : goal.returns-in-Wide-clause-refused
+returns-in-Wide-clause-refused g c =
+    let l = c.args.layout.now in
+    let r = rules_seen c.args.rules.now in
+    let a = stopped c.wide_stop.result in
+    let wide = subst (λ (f : Files). AreFiles l r f) c.in-Wide.is c.in_ok-found.ensures in
+    run_far l r (plain_netlist c.args.schematic.now) a (stops_far l r c.in-Wide.cell a c.sound.ensures wide c.wide_stop.ensures)

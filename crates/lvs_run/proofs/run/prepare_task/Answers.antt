@@ -1,4 +1,4 @@
-use Rattle.std.proofs.Common.{ap, subst, sym, string_bytes}
+use Rattle.std.proofs.Common.{ap, subst, sym, string_bytes, ◌∙◌}
 use Rattle.std.proofs.lemmas.Result.{err_from_is_err_and}
 use Rattle.std.specs.Option.{option_map}
 use Rattle.rule_text.specs.Seen.{rules_seen}
@@ -6,8 +6,8 @@ use Rattle.lvs_files.specs.Files.{AreApart}
 use Rattle.lvs_run.specs.declared.words.Outputs.{Outputs as Code}
 use Rattle.lvs_run.specs.Words.{Outputs, blank_files, outputs_of, paths_of, schematic_path}
 use Rattle.lvs_run.specs.Inputs.{IsOutput}
-use Rattle.lvs_run.proofs.Ready.{beside_as, reads_files, ready_alone, ready_beside}
-use Rattle.lvs_run.proofs.Stopping.{same_stop, rules_stop, layout_stop, memory_stop, quiet_on, schematic_stop}
+use Rattle.lvs_run.proofs.Ready.{beside_as, reads_files, reads_none, ready_alone, ready_beside}
+use Rattle.lvs_run.proofs.Stopping.{alone_stop, same_stop, rules_stop, layout_stop, quiet_on, schematic_stop}
 use Rattle.lvs_run.proofs.run.prepare_task.Goals as goal
 
 pub returns-in-Some-clause-stops : goal.returns-in-Some-clause-stops
@@ -31,7 +31,8 @@ returns-in_err-output-in-Layout-clause-stops g c =
     let rules = c.in_ok-rule_set.ensures.found in
     let layout = c.in_ok-design.ensures.found in
     let e = err_from_is_err_and c.from_residual-in_err-output-in-Layout.result c.from_residual-in_err-output-in-Layout.ensures.1 in
-    rw (e.1, e.2) (memory_stop p _ _ _ rules.bytes layout.bytes rules.got layout.got)
+    let alone = ap (λ (o : Code). schematic_path (outputs_of o)) c.in-Layout.is ∙ reads_none c.in-Layout.outputs in
+    rw (e.1, e.2) (alone_stop p _ _ _ (rules_seen c.in_ok-rule_set.rule_set) c.in_ok-design.design (ap (λ o. option_map string_bytes o) c.in-None.is) (reads_files c.args.task.outputs) alone c.in_ok-rule_set.ensures.quiet rules layout _ c.in_err-output-in-Layout.ensures.refused)
 
 pub output_of-requires-clause-apart : goal.output_of-requires-clause-apart
 output_of-requires-clause-apart g c κs within =
@@ -51,7 +52,7 @@ returns-in-Layout-clause-ready g c =
     let l = c.in_ok-design.design in
     let r = rules_seen c.in_ok-rule_set.rule_set in
     let same = ap (λ (o : Code). outputs_of o) c.in-Layout.is in
-    let made = subst (λ (o : Outputs). IsOutput o l r c.in_ok-output-in-Layout.output) (sym same) c.in_ok-output-in-Layout.ensures in
+    let made = subst (λ (o : Outputs). IsOutput o l r c.in_ok-output-in-Layout.output) (sym same) c.in_ok-output-in-Layout.ensures.made in
     let first = c.in_ok-rule_set.ensures in
     let then = c.in_ok-design.ensures in
     ready_alone p _ _ _ r l c.in_ok-output-in-Layout.output apart (reads_files c.args.task.outputs) first.quiet first.found first.sound then.found c.covers_flat.ensures c.flat_netlist.ensures made

@@ -1,9 +1,11 @@
 use Rattle.std.proofs.Common.{◌≡◌, length}
+use Rattle.netlist_plan.specs.Circuits.{circuits_of, with_cards}
 use Rattle.netlist_plan.specs.Defined.{defined, defining, params_seen}
+use Rattle.netlist_plan.specs.Seen.{circuits_seen}
 use Rattle.netlist_plan.proofs.plan.plan_cards.Given as goal
 
 abbrev pub invariant-cards : goal.invariant-cards
-invariant-cards l = defining (params_seen l.params) l.cards ≡ defined l.bytes
+invariant-cards l = (defining (params_seen l.params) l.cards ≡ defined l.bytes) × (with_cards (circuits_seen l.circuits) l.cards ≡ circuits_of l.bytes)
 
 abbrev pub decreases-cards : goal.decreases-cards
 decreases-cards l = length l.cards

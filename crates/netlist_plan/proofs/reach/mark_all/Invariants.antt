@@ -1,9 +1,11 @@
-use Rattle.std.proofs.Common.{length}
-use Rattle.netlist_plan.specs.Marks.{StayMarked}
+use Rattle.std.proofs.Common.{◌≡◌, length}
+use Rattle.netlist_plan.specs.Work.{with_row}
 use Rattle.netlist_plan.proofs.reach.mark_all.Given as goal
 
 abbrev pub invariant-row : goal.invariant-row
-invariant-row l = StayMarked l.fn.marks.items l.marks.items
+invariant-row l =
+    with_row (record { marks = l.marks.items; work = l.work.items }) l.rest
+    ≡ with_row (record { marks = l.fn.marks.items; work = l.fn.work.items }) l.row
 
 abbrev pub decreases-row : goal.decreases-row
 decreases-row l = length l.rest

@@ -1,6 +1,10 @@
-use Rattle.std.proofs.Common.{◌<◌, length}
-use Rattle.netlist_plan.specs.Marks.{IsMarked}
+use Rattle.call_order.specs.Order.{lists}
+use Rattle.netlist_plan.proofs.Marking.{left}
+use Rattle.netlist_plan.proofs.Walking.{Walks}
 use Rattle.netlist_plan.proofs.reach.reached.Given as goal
 
 abbrev pub invariant-steps : goal.invariant-steps
-invariant-steps l = l.top < length l.calls → IsMarked l.marks.items l.top
+invariant-steps l = Walks (lists l.calls) l.top (record { marks = l.marks.items; work = l.work.items })
+
+abbrev pub decreases-steps : goal.decreases-steps
+decreases-steps l = left (record { marks = l.marks.items; work = l.work.items })

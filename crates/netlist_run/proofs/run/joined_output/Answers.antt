@@ -4,9 +4,7 @@ use Rattle.netlist_run.proofs.run.joined_output.Goals as goal
 
 pub returns : goal.returns
 returns c = record {
-  files = c.args.files.now;
   joined = c.in-Ok.joined;
-  command = c.args.command.now;
   joins = ap (λ (n : ℕ). joined c.args.files.now n c.args.command.now.has_title) (sym c.requires) ∙ c.in-Ok.ensures.made;
   output = c.in_ok-output.ensures;
 }

@@ -2,14 +2,14 @@ use Rattle.std.proofs.Common.{List, Some, arith, subst, sym, slice_index_or}
 use Rattle.std.specs.List.{All}
 use Rattle.cell_context.specs.declared.arrays.Visit.{Visit}
 use Rattle.cell_context.specs.Over.{AreVisited, IsVisit}
-use Rattle.cell_context.proofs.Collecting.{near_array}
+use Rattle.cell_context.proofs.Collecting.{near_array, close_array}
 use Rattle.cell_context.proofs.Gathering.{no_visit, visit_motion}
 use Rattle.cell_context.proofs.Visiting.{up_to}
 use Rattle.zone_phase.proofs.Nearing.{BringsVisit, all_near, put_each, put_more, seen_neighbour, visit_here}
 use Rattle.zone_phase.proofs.neighbours.push_around.Goals as goal
 
-pub element_rect-window-requires-clause-near : goal.element_rect-window-requires-clause-near
-element_rect-window-requires-clause-near c = near_array c.args.design.now c.args.parent c.args.found.now.index c.args.place.now c.sound.ensures c.requires.there
+pub element_rect-window-requires-clause-close : goal.element_rect-window-requires-clause-close
+element_rect-window-requires-clause-close c = close_array c.args.design.now c.args.parent c.args.found.now.index c.args.place.now c.sound.ensures c.requires.there
 
 pub element_rect-window-requires-clause-row : goal.element_rect-window-requires-clause-row
 element_rect-window-requires-clause-row c = let e = c.requires.alone.0 in omega arith

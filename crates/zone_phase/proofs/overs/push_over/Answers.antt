@@ -2,7 +2,7 @@ use Rattle.std.proofs.Common.{◌∙◌, ◌^◌, List, arith, refl, subst, sym}
 use Rattle.std.specs.List.{All}
 use Rattle.geo_base.specs.declared.shapes.Rect.{Rect}
 use Rattle.cell_graph.specs.Linked.{IsRectWithin}
-use Rattle.cell_context.proofs.Collecting.{is_hull, near_array}
+use Rattle.cell_context.proofs.Collecting.{is_hull, near_array, close_array}
 use Rattle.deep_tables.specs.Entries.{downward_cell}
 use Rattle.zone_phase.specs.Pulls.{Adds, OnRects}
 use Rattle.zone_phase.proofs.Joining.{pieces_within}
@@ -15,8 +15,8 @@ is_bare-requires c = c.requires.neighbour.inside
 pub hull-requires : goal.hull-requires
 hull-requires c = c.requires.neighbour.inside
 
-pub element_rect-window-requires-clause-near : goal.element_rect-window-requires-clause-near
-element_rect-window-requires-clause-near c = let n = c.requires.neighbour in near_array c.args.design.now (downward_cell c.args.design.now n.found.job) n.found.index c.args.neighbour.now.place c.sound.ensures n.placed
+pub element_rect-window-requires-clause-close : goal.element_rect-window-requires-clause-close
+element_rect-window-requires-clause-close c = let n = c.requires.neighbour in close_array c.args.design.now (downward_cell c.args.design.now n.found.job) n.found.index c.args.neighbour.now.place c.sound.ensures n.placed
 
 pub element_rect-window-requires-clause-row : goal.element_rect-window-requires-clause-row
 element_rect-window-requires-clause-row c = let e = c.requires.neighbour.apart.0 in omega arith

@@ -2,7 +2,7 @@ use Rattle.std.proofs.Common.{List, subst}
 use Rattle.geo_base.specs.declared.shapes.Rect.{Rect}
 use Rattle.cell_graph.specs.Linked.{cell_at, own_of}
 use Rattle.cell_graph.proofs.Bridge.{reference_at}
-use Rattle.cell_context.proofs.Collecting.{near_array}
+use Rattle.cell_context.proofs.Collecting.{near_array, close_array}
 use Rattle.zone_phase.specs.Pulls.{Adds, OnRectsIn}
 use Rattle.zone_phase.proofs.Alone.{alone_adds}
 use Rattle.zone_phase.proofs.references.push_alone.Goals as goal
@@ -13,8 +13,8 @@ push_among-requires-clause-near c = near_array c.args.design.now c.args.parent c
 pub push_among-requires-clause-some : goal.push_among-requires-clause-some
 push_among-requires-clause-some c = (reference_at c.args.design.now c.args.parent c.args.index c.args.place.now c.sound.ensures c.requires.there).2.columns
 
-pub windows-requires-clause-near : goal.windows-requires-clause-near
-windows-requires-clause-near c = near_array c.args.design.now c.args.parent c.args.index c.args.place.now c.sound.ensures c.requires.there
+pub windows-requires-clause-close : goal.windows-requires-clause-close
+windows-requires-clause-close c = close_array c.args.design.now c.args.parent c.args.index c.args.place.now c.sound.ensures c.requires.there
 
 pub windows-requires-clause-some : goal.windows-requires-clause-some
 windows-requires-clause-some c = (reference_at c.args.design.now c.args.parent c.args.index c.args.place.now c.sound.ensures c.requires.there).2.columns

@@ -12,8 +12,8 @@ push_among-requires-clause-near c = near_array c.args.design.now c.args.parent c
 pub push_among-requires-clause-some : goal.push_among-requires-clause-some
 push_among-requires-clause-some c = (reference_at c.args.design.now c.args.parent c.args.index c.args.place.now c.sound.ensures c.requires.there).2.columns
 
-pub windows-requires-clause-near : goal.windows-requires-clause-near
-windows-requires-clause-near c = near_array c.args.design.now c.args.parent c.args.index c.args.place.now c.sound.ensures c.requires.there
+pub windows-requires-clause-close : goal.windows-requires-clause-close
+windows-requires-clause-close c = close_array c.args.design.now c.args.parent c.args.index c.args.place.now c.sound.ensures c.requires.there
 
 pub windows-requires-clause-some : goal.windows-requires-clause-some
 windows-requires-clause-some c = (reference_at c.args.design.now c.args.parent c.args.index c.args.place.now c.sound.ensures c.requires.there).2.columns

@@ -1,0 +1,137 @@
+-- What is told of loaded files.
+use Rattle.std.proofs.Common.{◌≡◌, ◌<◌, ℕ, Bool, true, false, List, [], ◌∷◌, ◌++◌, refl, sym, ◌∙◌, ap, subst, append_assoc}
+use Rattle.std.specs.Prelude.{string_bytes, if◌then◌else◌, ◌||◌}
+use Rattle.std.specs.List.{list_any}
+use Rattle.std.specs.Str.{bytes_eq}
+use Rattle.std.proofs.lemmas.List.{append-nil}
+use Rattle.std.proofs.lemmas.List.Elements.{All-weaker, All-push}
+use Rattle.lvs_outside.specs.Loops.{IsFile, IsLonger, IsRest, TellsAll, limit}
+use Rattle.lvs_outside.specs.Store.{Store, Told, Untold, NoFile, Holds, Open, Reading, IsAbsent, IsThere, SameFiles, counted}
+use Rattle.netlist_join.specs.Loaded.{AreFiles, paths_of, has_path, has_twins, with_path, with_paths, StartsWith, SaysFailed}
+use Rattle.netlist_join.specs.declared.files.File.{File}
+use Rattle.netlist_join.specs.declared.files.Failed.{Failed}
+use Rattle.netlist_join.specs.declared.files.Failed.TheVariants.{Outside, Absent, TooLong, TooMany, NoMemory}
+
+rest_whole : (t : Told) (bytes : List ℕ) → IsThere t → IsRest bytes t 0 → IsFile bytes t
+rest_whole Untold bytes there h = tt
+rest_whole NoFile bytes there h = absurd there
+rest_whole (Holds all) bytes there h = sym h
+
+-- the rest of a file that was just opened is the file
+pub whole : (s : Store) (path bytes : List ℕ) → IsThere (s.file path) → s.opened ≡ Reading path 0 → TellsAll s bytes → IsFile bytes (s.file path)
+whole s path bytes there e h =
+    let told : TellsAll (record s { opened = Reading path 0 }) bytes = subst (λ (o : Open). TellsAll (record s { opened = o }) bytes) e h in
+    rest_whole (s.file path) bytes there told
+
+pub any_path : (files : List File) (path : List ℕ) → has_path (paths_of files) path ≡ list_any (λ f. bytes_eq (string_bytes f.path) path) files
+any_path [] path = refl
+any_path (f ∷ files) path = ap (λ (b : Bool). bytes_eq (string_bytes f.path) path || b) (any_path files path)
+
+-- the files of a store are those of one that tells the same
+pub stay : (s t : Store) (files : List File) → SameFiles s t → AreFiles s.file files → AreFiles t.file files
+stay s t files same h =
+    All-weaker (λ (f : File). IsFile f.bytes.items (s.file (string_bytes f.path))) (λ (f : File). IsFile f.bytes.items (t.file (string_bytes f.path)))
+    (λ f g. subst (λ (x : Told). IsFile f.bytes.items x) (sym (same (string_bytes f.path))) g) files h
+
+pub go_back : (s t : Store) (files : List File) → SameFiles s t → AreFiles t.file files → AreFiles s.file files
+go_back s t files same h = stay t s files (λ p. sym (same p)) h
+
+-- one more
+one_more : (s t : Store) (files : List File) (f : File) → SameFiles s t → AreFiles s.file files → IsFile f.bytes.items (s.file (string_bytes f.path)) → AreFiles t.file (files ++ f ∷ [])
+one_more s t files f same h g =
+    All-push (λ (f : File). IsFile f.bytes.items (t.file (string_bytes f.path))) files f (stay s t files same h)
+    (subst (λ (x : Told). IsFile f.bytes.items x) (sym (same (string_bytes f.path))) g)
+
+pub paths_more : (files : List File) (f : File) → paths_of (files ++ f ∷ []) ≡ paths_of files ++ string_bytes f.path ∷ []
+paths_more [] f = refl
+paths_more (g ∷ files) f = ap (λ (ps : List (List ℕ)). string_bytes g.path ∷ ps) (paths_more files f)
+
+pub path_there : (paths : List (List ℕ)) (path : List ℕ) → has_path paths path ≡ true → with_path paths path ≡ paths
+path_there paths path e = ap (λ (b : Bool). if b then paths else paths ++ path ∷ []) e
+
+pub path_new : (paths : List (List ℕ)) (path : List ℕ) → has_path paths path ≡ false → with_path paths path ≡ paths ++ path ∷ []
+path_new paths path e = ap (λ (b : Bool). if b then paths else paths ++ path ∷ []) e
+
+starts_either : (paths : List (List ℕ)) (path : List ℕ) (b : Bool) → StartsWith (if b then paths else paths ++ path ∷ []) paths
+starts_either paths path true = ([], sym (append-nil paths))
+starts_either paths path false = (path ∷ [], refl)
+
+pub starts_on : (first all : List (List ℕ)) (more : List (List ℕ)) → StartsWith all first → StartsWith (with_paths all more) first
+starts_on first all [] h = h
+starts_on first all (p ∷ more) h =
+    let s = starts_either all p (has_path all p) in
+    starts_on first (with_path all p) more (h.0 ++ s.0, s.1 ∙ ap (λ (ps : List (List ℕ)). ps ++ s.0) h.1 ∙ append_assoc first h.0 s.0)
+
+left : (a b : Bool) → (a || b) ≡ false → a ≡ false
+left true b e = e
+left false b e = refl
+
+right : (a b : Bool) → (a || b) ≡ false → b ≡ false
+right true b e = absurd cc
+right false b e = e
+
+neither : (a b : Bool) → a ≡ false → b ≡ false → (a || b) ≡ false
+neither a b e f = ap (λ (x : Bool). x || b) e ∙ f
+
+-- a path of the second list stands in the first
+clash : List (List ℕ) → List (List ℕ) → Bool
+clash all paths = list_any (λ q. has_path all q) paths
+
+not_there : (all : List (List ℕ)) (p q : List ℕ) → has_path all q ≡ false → bytes_eq p q ≡ false → has_path (all ++ p ∷ []) q ≡ false
+not_there [] p q e f = neither (bytes_eq p q) false f refl
+not_there (x ∷ all) p q e f = neither (bytes_eq x q) (has_path (all ++ p ∷ []) q) (left (bytes_eq x q) (has_path all q) e) (not_there all p q (right (bytes_eq x q) (has_path all q) e) f)
+
+no_clash : (all : List (List ℕ)) (p : List ℕ) (paths : List (List ℕ)) → clash all paths ≡ false → list_any (λ q. bytes_eq p q) paths ≡ false → clash (all ++ p ∷ []) paths ≡ false
+unfolding clash
+no_clash all p [] e f = refl
+no_clash all p (q ∷ paths) e f =
+    neither (has_path (all ++ p ∷ []) q) (list_any (λ r. has_path (all ++ p ∷ []) r) paths)
+    (not_there all p q (left (has_path all q) (list_any (λ r. has_path all r) paths) e) (left (bytes_eq p q) (list_any (λ r. bytes_eq p r) paths) f))
+    (no_clash all p paths (right (has_path all q) (list_any (λ r. has_path all r) paths) e) (right (bytes_eq p q) (list_any (λ r. bytes_eq p r) paths) f))
+
+apart_from : (all paths : List (List ℕ)) → clash all paths ≡ false → has_twins paths ≡ false → with_paths all paths ≡ all ++ paths
+unfolding clash
+apart_from all [] e f = sym (append-nil all)
+apart_from all (p ∷ paths) e f =
+    ap (λ (ps : List (List ℕ)). with_paths ps paths) (path_new all p (left (has_path all p) (list_any (λ r. has_path all r) paths) e))
+    ∙ apart_from (all ++ p ∷ []) paths
+    (no_clash all p paths (right (has_path all p) (list_any (λ r. has_path all r) paths) e) (left (list_any (λ q. bytes_eq p q) paths) (has_twins paths) f))
+    (right (list_any (λ q. bytes_eq p q) paths) (has_twins paths) f)
+    ∙ append_assoc all (p ∷ []) paths
+
+clear : (paths : List (List ℕ)) → clash [] paths ≡ false
+unfolding clash
+clear [] = refl
+clear (p ∷ paths) = clear paths
+
+-- paths that are apart stay as they are
+pub apart : (all paths : List (List ℕ)) → StartsWith all (with_paths [] paths) → has_twins paths ≡ false → StartsWith all paths
+apart all paths h e = (h.0, h.1 ∙ ap (λ (ps : List (List ℕ)). ps ++ h.0) (apart_from [] paths (clear paths) e))
+
+-- why, from an earlier store on
+pub from_before : (a b c : Store) (e : Failed) → SameFiles a b → (counted b).faults ≡ (counted a).faults → SaysFailed b c e → SaysFailed a c e
+from_before a b c Outside same quiet h = subst (λ (n : ℕ). n < (counted c).faults) quiet h
+from_before a b c (Absent path) same quiet h = (subst (λ (x : Told). IsAbsent x) (same (string_bytes path)) h.0, h.1)
+from_before a b c (TooLong path) same quiet h = subst (λ (x : Told). IsLonger limit x 0) (same (string_bytes path)) h
+from_before a b c TooMany same quiet h = tt
+from_before a b c NoMemory same quiet h = tt
+
+-- a file more
+pub added : (s t : Store) (files after : List File) (path : List ℕ) (f : File) → SameFiles s t → AreFiles s.file files → IsFile f.bytes.items (s.file path)
+    → string_bytes f.path ≡ path → after ≡ files ++ f ∷ [] → AreFiles t.file after
+added s t files after path f same h g e is =
+    subst (λ (fs : List File). AreFiles t.file fs) (sym is) (one_more s t files f same h (subst (λ (p : List ℕ). IsFile f.bytes.items (s.file p)) (sym e) g))
+
+pub added_path : (files after : List File) (path : List ℕ) (f : File) → list_any (λ x. bytes_eq (string_bytes x.path) path) files ≡ false → string_bytes f.path ≡ path
+    → after ≡ files ++ f ∷ [] → paths_of after ≡ with_path (paths_of files) path
+added_path files after path f none e is =
+    ap paths_of is ∙ paths_more files f ∙ ap (λ (p : List ℕ). paths_of files ++ p ∷ []) e ∙ sym (path_new (paths_of files) path (any_path files path ∙ none))
+
+pub found_path : (files : List File) (path : List ℕ) → list_any (λ x. bytes_eq (string_bytes x.path) path) files ≡ true → paths_of files ≡ with_path (paths_of files) path
+found_path files path some = sym (path_there (paths_of files) path (any_path files path ∙ some))
+
+pub starts_same : (all first : List (List ℕ)) → all ≡ first → StartsWith all first
+starts_same all first e = ([], e ∙ sym (append-nil first))
+
+pub starts_more : (first before after more : List (List ℕ)) → StartsWith before first → after ≡ with_paths before more → StartsWith after first
+starts_more first before after more h e = let s = starts_on first before more h in (s.0, e ∙ s.1)
