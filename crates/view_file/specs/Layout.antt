@@ -1,5 +1,5 @@
 -- The section of the layout: `J(..)`, behind the line that KLayout knows the file by.
-use Rattle.std.specs.Prelude.{◌≡◌, ℕ, ◌*◌, List, ◌++◌, codes, length, map}
+use Rattle.std.specs.Prelude.{◌≡◌, ℕ, List, ◌++◌, codes, length}
 use Rattle.std.specs.List.{All, range_with_len}
 use Rattle.fixed_num.specs.Microns.{IsMicrons}
 use Rattle.plain_netlist.specs.Netlist.{Circuit}

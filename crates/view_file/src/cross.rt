@@ -136,8 +136,8 @@ fn push_answered(
 ) -> Result<(), AllocError>
     ensures { OnOk result (out.new.items ≡ out.old.items ++ answered_both name.now
         (map (λ line. line.items) log.now) (option_map (λ c. plain_circuit c.now) left.entry)
-        (option_map (λ c. plain_circuit c.now) right.entry) (option_map (λ rows. rows.now) proposal.entry)
-        (plain_answer answer.now)) }
+        (option_map (λ c. plain_circuit c.now) right.entry)
+        (option_map (λ rows. rows.now) proposal.entry) (plain_answer answer.now)) }
 {
     let Some(a) = left else {
         return Ok(());
@@ -285,8 +285,8 @@ fn push_all(
 /// Appends the section of partners: each pair of circuits with its answer and the partners of its
 /// nodes, or, where there are no answers, each circuit alone. `names` are those of the layout's
 /// circuits in its section; `logs` the lines that the browser shows with them; `proposals` the rows
-/// of the pairs that don't match, in which past the last each node is alone. Linear in the text, but
-/// for the pins of matches. An `Err` is want of memory, or 2^32 of a kind.
+/// of the pairs that don't match, in which past the last each node is alone. Linear in the text,
+/// but for the pins of matches. An `Err` is want of memory, or 2^32 of a kind.
 pub fn push_cross(
     alloc: Global,
     out: &mut Vec<u8>,
