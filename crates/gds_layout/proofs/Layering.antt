@@ -15,7 +15,7 @@ use Rattle.gds_elements.specs.Meaning.{Shape}
 use Rattle.gds_layout.specs.declared.piles.Pile.{Pile}
 use Rattle.gds_layout.specs.declared.piles.Piles.{Piles}
 use Rattle.gds_layout.specs.Shapes.{is_covering, shapes_cover, is_drawn, with_key, keys_behind}
-use Rattle.gds_layout.specs.Piles.{keys_of, AreDifferent, ArePiles, has_pile, piles_cover}
+use Rattle.gds_layout.specs.Piles.{rects_of, keys_of, AreDifferent, ArePiles, has_pile, piles_cover}
 use Rattle.gds_layout.specs.Layering.{AreLaid, IsFilled, AreFilled}
 use Rattle.gds_layout.specs.Drafts.{IsLayerOf, AreLayersOf}
 use Rattle.gds_layout.proofs.Piling.{itself, other_key}
@@ -92,7 +92,7 @@ apart (p ∷ ps) (l ∷ ls) f d =
 
 -- each pile of the second list alone covers what the first covers on its layer
 abbrev Owns : List Pile → List Pile → Type 0
-Owns all ps = AllByRecursion (λ (p : Pile). ((s : Square) → piles_cover all p.key s ≡ covers p.rects.items s) × (has_pile all p.key ≡ true)) ps
+Owns all ps = AllByRecursion (λ (p : Pile). ((s : Square) → piles_cover all p.key s ≡ covers (rects_of p) s) × (has_pile all p.key ≡ true)) ps
 
 or_second : (a b : Bool) → b ≡ true → (a || b) ≡ true
 or_second true b e = refl
@@ -106,7 +106,7 @@ owns_more p ps [] e h = tt
 owns_more p ps (q ∷ qs) e h =
     let parts = or_false (is_same_key p.key q.key) (list_any (is_same_key p.key) (keys_of qs)) e in (
       (
-        λ s. other_first (is_same_key p.key q.key) (covers p.rects.items s) (piles_cover ps q.key s) parts.0 ∙ h.0.0 s,
+        λ s. other_first (is_same_key p.key q.key) (covers (rects_of p) s) (piles_cover ps q.key s) parts.0 ∙ h.0.0 s,
         or_second (is_same_key p.key q.key) (has_pile ps q.key) h.0.1,
       ),
       owns_more p ps qs parts.1 h.1,
@@ -116,7 +116,7 @@ no_other : (key : LayerKey) (ps : List Pile) (s : Square) → list_any (is_same_
 no_other key [] s e = refl
 no_other key (p ∷ ps) s e =
     let parts = or_false (is_same_key key p.key) (list_any (is_same_key key) (keys_of ps)) e in
-    other_first (is_same_key p.key key) (covers p.rects.items s) (piles_cover ps key s) (other_key key p.key parts.0) ∙ no_other key ps s parts.1
+    other_first (is_same_key p.key key) (covers (rects_of p) s) (piles_cover ps key s) (other_key key p.key parts.0) ∙ no_other key ps s parts.1
 
 alone : (a b c : Bool) → a ≡ true → c ≡ false → ((a && b) || c) ≡ b
 alone a b c e f = rw (e, f) (or_none b)
@@ -125,7 +125,7 @@ owns : (ps : List Pile) → AreDifferent (keys_of ps) → Owns ps ps
 owns [] d = tt
 owns (p ∷ ps) d = (
   (
-    λ s. alone (is_same_key p.key p.key) (covers p.rects.items s) (piles_cover ps p.key s) (itself p.key) (no_other p.key ps s d.0),
+    λ s. alone (is_same_key p.key p.key) (covers (rects_of p) s) (piles_cover ps p.key s) (itself p.key) (no_other p.key ps s d.0),
     ap (λ (b : Bool). b || has_pile ps p.key) (itself p.key),
   ),
   owns_more p ps ps d.0 (owns ps d.1),

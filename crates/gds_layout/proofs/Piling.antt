@@ -13,7 +13,7 @@ use Rattle.geo_base.specs.declared.shapes.Square.{Square}
 use Rattle.rect_sets.specs.Rects.{covers}
 use Rattle.gds_layout.specs.declared.piles.Pile.{Pile}
 use Rattle.gds_layout.specs.Shapes.{with_key}
-use Rattle.gds_layout.specs.Piles.{keys_of, AreDifferent, is_on, piles_cover, has_pile, IsPileAt, Gains}
+use Rattle.gds_layout.specs.Piles.{rects_of, keys_of, AreDifferent, is_on, piles_cover, has_pile, IsPileAt, Gains}
 
 -- ---- keys
 
@@ -157,18 +157,18 @@ pub gained_keys : (n : ℕ) (more : List Rect) (old new : List Pile) → Gains n
 gained_keys n more old new g = ap keys_of g.is ∙ keys_set old n g.before g.after g.there g.key_is
 
 abbrev Sound : List Pile → Type 0
-Sound ps = All (λ q. All IsRect q.rects.items) ps
+Sound ps = All (λ q. All IsRect (rects_of q)) ps
 
-rects_at : (ps : List Pile) (i : ℕ) (p : Pile) → AllByRecursion (λ (q : Pile). All IsRect q.rects.items) ps → slice_get ps i ≡ Some p → All IsRect p.rects.items
+rects_at : (ps : List Pile) (i : ℕ) (p : Pile) → AllByRecursion (λ (q : Pile). All IsRect (rects_of q)) ps → slice_get ps i ≡ Some p → All IsRect (rects_of p)
 rects_at [] i p h e = absurd cc
-rects_at (q ∷ ps) zero p h e = let same : q ≡ p = cc in subst (λ (r : Pile). All IsRect r.rects.items) same h.0
+rects_at (q ∷ ps) zero p h e = let same : q ≡ p = cc in subst (λ (r : Pile). All IsRect (rects_of r)) same h.0
 rects_at (q ∷ ps) (suc i) p h e = rects_at ps i p h.1 e
 
 pub gained_sound : (n : ℕ) (more : List Rect) (old new : List Pile) → Gains n more old new → Sound old → All IsRect more → Sound new
 gained_sound n more old new g h m =
-    let P : Pile → Type 0 = λ q. All IsRect q.rects.items in
+    let P : Pile → Type 0 = λ q. All IsRect (rects_of q) in
     let before = rects_at old n g.before (recursion_from_All P old h) g.there in
-    let after : All IsRect g.after.rects.items = subst (λ (rs : List Rect). All IsRect rs) (sym g.rects_are) (All-append IsRect g.before.rects.items more before m) in
+    let after : All IsRect (rects_of g.after) = subst (λ (rs : List Rect). All IsRect rs) (sym g.rects_are) (All-append IsRect (rects_of g.before) more before m) in
     subst Sound (sym g.is) (All-set P old n g.after after h)
 
 and_or : (a b c : Bool) → (a && (b || c)) ≡ ((a && b) || (a && c))
@@ -179,10 +179,10 @@ pub gained_covers : (n : ℕ) (more : List Rect) (old new : List Pile) (g : Gain
 gained_covers n more old new g k s =
     let on = is_same_key g.before.key k in
     let after : is_on k s g.after ≡ (is_on k s g.before || (on && covers more s)) =
-    ap (λ (q : LayerKey). is_same_key q k && covers g.after.rects.items s) g.key_is
+    ap (λ (q : LayerKey). is_same_key q k && covers (rects_of g.after) s) g.key_is
     ∙ ap (λ (rs : List Rect). on && covers rs s) g.rects_are
-    ∙ ap (λ (b : Bool). on && b) (list_any-append _ g.before.rects.items more)
-    ∙ and_or on (covers g.before.rects.items s) (covers more s) in
+    ∙ ap (λ (b : Bool). on && b) (list_any-append _ (rects_of g.before) more)
+    ∙ and_or on (covers (rects_of g.before) s) (covers more s) in
     ap (λ (ps : List Pile). piles_cover ps k s) g.is ∙ any_set (is_on k s) old n g.before g.after (on && covers more s) g.there after
 
 pub gained_has : (n : ℕ) (more : List Rect) (old new : List Pile) → Gains n more old new → (k : LayerKey) → has_pile new k ≡ has_pile old k

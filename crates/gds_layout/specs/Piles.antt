@@ -8,8 +8,19 @@ use Rattle.geo_base.specs.declared.layer.LayerKey.{LayerKey}
 use Rattle.geo_base.specs.declared.shapes.Rect.{Rect}
 use Rattle.geo_base.specs.declared.shapes.Square.{Square}
 use Rattle.rect_sets.specs.Rects.{covers}
+use Rattle.gds_layout.specs.declared.piles.Laid.{Laid}
+use Rattle.gds_layout.specs.declared.piles.Laid.TheVariants.{Nothing, One, Many}
 use Rattle.gds_layout.specs.declared.piles.Pile.{Pile}
 use Rattle.gds_layout.specs.declared.piles.Piles.{Piles}
+
+-- the rectangles that were laid down
+abbrev pub laid_rects : Laid → List Rect
+laid_rects Nothing = []
+laid_rects (One set) = set
+laid_rects (Many rects) = rects.items
+
+abbrev pub rects_of : Pile → List Rect
+rects_of p = laid_rects p.laid
 
 abbrev pub keys_of : List Pile → List LayerKey
 keys_of piles = map (λ p. p.key) piles
@@ -21,7 +32,7 @@ AreDifferent (k ∷ ks) = (list_any (is_same_key k) ks ≡ false) × AreDifferen
 
 -- whether the pile is on the layer and covers the square
 abbrev pub is_on : LayerKey → Square → Pile → Bool
-is_on key s p = is_same_key p.key key && covers p.rects.items s
+is_on key s p = is_same_key p.key key && covers (rects_of p) s
 
 -- whether one of the piles does
 abbrev pub piles_cover : List Pile → LayerKey → Square → Bool
@@ -35,7 +46,7 @@ has_pile piles key = list_any (λ p. is_same_key p.key key) piles
 pub record ArePiles (p : Piles) : Type 0 where
   pub keys_are : keys_of p.list.items ≡ p.keys
   pub different : AreDifferent p.keys
-  pub sound : All (λ q. All IsRect q.rects.items) p.list.items
+  pub sound : All (λ q. All IsRect (rects_of q)) p.list.items
 
 -- the pile of this number is the layer's
 pub record IsPileAt (piles : List Pile) (key : LayerKey) (number : ℕ) : Type 0 where
@@ -50,4 +61,4 @@ pub record Gains (number : ℕ) (more : List Rect) (old new : List Pile) : Type 
   pub there : slice_get old number ≡ Some before
   pub is : new ≡ set old number after
   pub key_is : after.key ≡ before.key
-  pub rects_are : after.rects.items ≡ before.rects.items ++ more
+  pub rects_are : rects_of after ≡ rects_of before ++ more

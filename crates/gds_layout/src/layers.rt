@@ -7,8 +7,9 @@ ghost use Rattle.gds_elements.specs.Fillable.{IsFillable};
 ghost use Rattle.gds_elements.specs.Reading.{shape_seen};
 ghost use Rattle.gds_layout.specs.Drafts.{AreLayersOf};
 ghost use Rattle.gds_layout.specs.Layering.{AreFilled, AreLaid, IsFilled};
+ghost use Rattle.gds_layout.specs.Piles.{rects_of};
 
-use crate::piles::{Pile, Piles};
+use crate::piles::{Laid, Pile, Piles};
 use cell_graph::OwnLayer;
 use gds_elements::RawShape;
 use rect_sets::RectSet;
@@ -29,18 +30,22 @@ fn piles_of(alloc: Global, shapes: &[RawShape]) -> Result<Vec<Pile>, AllocError>
 
 // The layer that a pile covers.
 fn layer_of(alloc: Global, pile: Pile) -> Result<OwnLayer, AllocError>
-    requires { All IsRect pile.rects.items }
+    requires { All IsRect (rects_of pile) }
     ensures { IfOk result (IsFilled pile) }
 {
-    let Pile { key, rects } = pile;
-    let set = RectSet::canon(alloc, rects)?;
+    let Pile { key, laid } = pile;
+    let set = match laid {
+        Laid::Nothing => RectSet::empty(alloc),
+        Laid::One(set) => set,
+        Laid::Many(rects) => RectSet::canon(alloc, rects)?,
+    };
     let _canonical = set.rects();
     Ok(OwnLayer { key, set })
 }
 
 // The layers that piles cover.
 fn filled(alloc: Global, piles: Vec<Pile>) -> Result<Vec<OwnLayer>, AllocError>
-    requires { All (λ p. All IsRect p.rects.items) piles.items }
+    requires { All (λ p. All IsRect (rects_of p)) piles.items }
     ensures { IfOk result (λ v. AreFilled piles.items v.items) }
 {
     let mut layers = Vec::new(alloc);
@@ -51,7 +56,8 @@ fn filled(alloc: Global, piles: Vec<Pile>) -> Result<Vec<OwnLayer>, AllocError>
     Ok(layers)
 }
 
-/// The layers of shapes: each shape is filled once, and each layer's rectangles are united once.
+/// The layers of shapes: each shape is filled once, and the rectangles of each layer that has
+/// several shapes are united once.
 /// The outlines are let go in between.
 /// Cost: that of the fills and of `RectSet::canon` for each layer; no look-up among layers scans.
 pub(crate) fn layers_of(alloc: Global, shapes: Vec<RawShape>) -> Result<Vec<OwnLayer>, AllocError>

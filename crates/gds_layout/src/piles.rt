@@ -11,7 +11,7 @@ ghost use Rattle.gds_elements.specs.Fillable.{IsFillable};
 ghost use Rattle.gds_elements.specs.Reading.{form_seen, shape_seen};
 ghost use Rattle.gds_layout.specs.Shapes.{shape_covers, is_covering, with_key};
 ghost use Rattle.gds_layout.specs.Piles.{ArePiles, Gains, IsPileAt, has_pile, keys_of};
-ghost use Rattle.gds_layout.specs.Piles.{piles_cover};
+ghost use Rattle.gds_layout.specs.Piles.{laid_rects, piles_cover};
 
 use crate::keys::KeyTable;
 use gds_elements::{RawShape, ShapeForm};
@@ -20,11 +20,20 @@ use poly_fill::{fill_boundary, fill_box, fill_path};
 use rect_sets::RectSet;
 use std::alloc::{AllocError, Global};
 
-/// Rectangles on a layer. They may overlap.
+/// What was laid down on a layer. The set of a single shape is kept: it needs no second sweep.
+/// Rectangles of several shapes may overlap.
+#[derive(Drop)]
+pub enum Laid {
+    Nothing,
+    One(RectSet),
+    Many(Vec<Rect>),
+}
+
+/// What was laid down on a layer of this key.
 #[derive(Drop)]
 pub struct Pile {
     pub key: LayerKey,
-    pub rects: Vec<Rect>,
+    pub laid: Laid,
 }
 
 /// One pile for each layer on which something was laid, and the numbers of the piles by layer.
@@ -51,12 +60,42 @@ fn shape_set(alloc: Global, form: &ShapeForm) -> Result<RectSet, AllocError>
     }
 }
 
-// Adds rectangles to the pile of a number.
-fn add_rects(list: &mut Vec<Pile>, number: usize, more: &[Rect]) -> Result<(), AllocError>
-    requires { number < length list.old.items }
-    ensures { OnOk result (Gains number more.now list.old.items list.new.items) }
+// Two lists of rectangles in one.
+fn joined(alloc: Global, first: &[Rect], second: &[Rect]) -> Result<Vec<Rect>, AllocError>
+    ensures { IfOk result (λ v. v.items ≡ first.now ++ second.now) }
 {
-    list[number].rects.extend_from_slice(more)?;
+    let mut rects = Vec::new(alloc);
+    rects.extend_from_slice(first)?;
+    rects.extend_from_slice(second)?;
+    Ok(rects)
+}
+
+// Lays a shape's set on what was laid down.
+fn lay(alloc: Global, laid: &mut Laid, set: RectSet) -> Result<(), AllocError>
+    ensures { OnOk result (laid_rects laid.new ≡ laid_rects laid.old ++ set) }
+{
+    match laid {
+        Laid::Nothing => *laid = Laid::One(set),
+        Laid::One(first) => {
+            let rects = joined(alloc, first.rects(), set.rects())?;
+            *laid = Laid::Many(rects);
+        }
+        Laid::Many(rects) => rects.extend_from_slice(set.rects())?,
+    }
+    Ok(())
+}
+
+// Lays a shape's set on the pile of a number.
+fn lay_on(
+    alloc: Global,
+    list: &mut Vec<Pile>,
+    number: usize,
+    set: RectSet,
+) -> Result<(), AllocError>
+    requires { number < length list.old.items }
+    ensures { OnOk result (Gains number set list.old.items list.new.items) }
+{
+    lay(alloc, &mut list[number].laid, set)?;
     Ok(())
 }
 
@@ -73,7 +112,7 @@ impl Piles {
     }
 
     // The number of the layer's pile: of a new one, where it has none.
-    fn number(&mut self, alloc: Global, key: LayerKey) -> Result<usize, AllocError>
+    fn number(&mut self, key: LayerKey) -> Result<usize, AllocError>
         requires { ArePiles self.old }
         ensures piles { OnOk result (ArePiles self.new) }
         ensures here { IfOk result (IsPileAt self.new.list.items key) }
@@ -90,7 +129,7 @@ impl Piles {
             self.keys.add(key)?;
             self.list.push(Pile {
                 key,
-                rects: Vec::new(alloc),
+                laid: Laid::Nothing,
             })?;
         }
         Ok(number)
@@ -110,8 +149,9 @@ impl Piles {
             ≡ (has_pile self.old.list.items k || is_same_key shape.now.key k)) }
     {
         let set = shape_set(alloc, &shape.form)?;
-        let number = self.number(alloc, shape.key)?;
-        add_rects(&mut self.list, number, set.rects())?;
+        let _sound = set.rects();
+        let number = self.number(shape.key)?;
+        lay_on(alloc, &mut self.list, number, set)?;
         Ok(())
     }
 }

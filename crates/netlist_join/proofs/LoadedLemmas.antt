@@ -1,9 +1,9 @@
 -- What is told of loaded files.
-use Rattle.std.proofs.Common.{◌≡◌, ◌<◌, ℕ, Bool, true, false, List, [], ◌∷◌, ◌++◌, refl, sym, ◌∙◌, ap, subst, append_assoc}
+use Rattle.std.proofs.Common.{◌≡◌, ◌<◌, ◌≤◌, ℕ, suc, Bool, true, false, List, [], ◌∷◌, ◌++◌, length, refl, sym, ◌∙◌, ap, subst, append_assoc, arith}
 use Rattle.std.specs.Prelude.{string_bytes, if◌then◌else◌, ◌||◌}
 use Rattle.std.specs.List.{list_any}
 use Rattle.std.specs.Str.{bytes_eq}
-use Rattle.std.proofs.lemmas.List.{append-nil}
+use Rattle.std.proofs.lemmas.List.{append-nil, length-append}
 use Rattle.std.proofs.lemmas.List.Elements.{All-weaker, All-push}
 use Rattle.lvs_outside.specs.Loops.{IsFile, IsLonger, IsRest, TellsAll, limit}
 use Rattle.lvs_outside.specs.Store.{Store, Told, Untold, NoFile, Holds, Open, Reading, IsAbsent, IsThere, SameFiles, counted}
@@ -113,8 +113,54 @@ pub from_before : (a b c : Store) (e : Failed) → SameFiles a b → (counted b)
 from_before a b c Outside same quiet h = subst (λ (n : ℕ). n < (counted c).faults) quiet h
 from_before a b c (Absent path) same quiet h = (subst (λ (x : Told). IsAbsent x) (same (string_bytes path)) h.0, h.1)
 from_before a b c (TooLong path) same quiet h = subst (λ (x : Told). IsLonger limit x 0) (same (string_bytes path)) h
-from_before a b c TooMany same quiet h = tt
+from_before a b c TooMany same quiet h = record { files = h.files; told = go_back a b h.files same h.told; apart = h.apart; many = h.many }
 from_before a b c NoMemory same quiet h = tt
+
+-- ---- different paths, and their number
+
+any_end : (p q : List ℕ) (paths : List (List ℕ)) → list_any (λ x. bytes_eq p x) paths ≡ false → bytes_eq p q ≡ false → list_any (λ x. bytes_eq p x) (paths ++ q ∷ []) ≡ false
+any_end p q [] e f = neither (bytes_eq p q) false f refl
+any_end p q (x ∷ paths) e f =
+    neither (bytes_eq p x) (list_any (λ y. bytes_eq p y) (paths ++ q ∷ [])) (left (bytes_eq p x) (list_any (λ y. bytes_eq p y) paths) e)
+    (any_end p q paths (right (bytes_eq p x) (list_any (λ y. bytes_eq p y) paths) e) f)
+
+no_twin : (paths : List (List ℕ)) (q : List ℕ) → has_twins paths ≡ false → has_path paths q ≡ false → has_twins (paths ++ q ∷ []) ≡ false
+no_twin [] q e f = refl
+no_twin (p ∷ paths) q e f =
+    neither (list_any (λ x. bytes_eq p x) (paths ++ q ∷ [])) (has_twins (paths ++ q ∷ []))
+    (any_end p q paths (left (list_any (λ x. bytes_eq p x) paths) (has_twins paths) e) (left (bytes_eq p q) (has_path paths q) f))
+    (no_twin paths q (right (list_any (λ x. bytes_eq p x) paths) (has_twins paths) e) (right (bytes_eq p q) (has_path paths q) f))
+
+apart_either : (paths : List (List ℕ)) (q : List ℕ) (b : Bool) → has_path paths q ≡ b → has_twins paths ≡ false → has_twins (if b then paths else paths ++ q ∷ []) ≡ false
+apart_either paths q true h e = e
+apart_either paths q false h e = no_twin paths q e h
+
+-- paths that are added, each once, are apart where the first ones are
+pub stay_apart : (paths more : List (List ℕ)) → has_twins paths ≡ false → has_twins (with_paths paths more) ≡ false
+stay_apart paths [] e = e
+stay_apart paths (q ∷ more) e = stay_apart (with_path paths q) more (apart_either paths q (has_path paths q) refl e)
+
+-- the first paths, each once, are apart
+pub apart_at_first : (before after : List File) (more : List (List ℕ)) → before ≡ [] → paths_of after ≡ with_paths (paths_of before) more → has_twins (paths_of after) ≡ false
+apart_at_first before after more none e =
+    let all : paths_of after ≡ with_paths [] more = e ∙ ap (λ (fs : List File). with_paths (paths_of fs) more) none in
+    subst (λ (ps : List (List ℕ)). has_twins ps ≡ false) (sym all) (stay_apart [] more refl)
+
+length_starts : (first all : List (List ℕ)) → StartsWith all first → length first ≤ length all
+length_starts first all s = subst (λ (ps : List (List ℕ)). length first ≤ length ps) (sym s.1) (subst (λ (n : ℕ). length first ≤ n) (sym (length-append first s.0)) (omega (arith)))
+
+paths_length : (files : List File) → length (paths_of files) ≡ length files
+paths_length [] = refl
+paths_length (f ∷ files) = ap (λ (n : ℕ). suc n) (paths_length files)
+
+-- files to which some were added are as many, or more
+pub as_many : (before after : List File) (more : List (List ℕ)) (n : ℕ) → paths_of after ≡ with_paths (paths_of before) more → n ≤ length before → n ≤ length after
+as_many before after more n e h =
+    let s = starts_on (paths_of before) (paths_of before) more ([], sym (append-nil (paths_of before))) in
+    let some = length_starts (paths_of before) (with_paths (paths_of before) more) s in
+    let was = paths_length before in
+    let now : length (with_paths (paths_of before) more) ≡ length after = sym (ap (λ (ps : List (List ℕ)). length ps) e) ∙ paths_length after in
+    omega (arith, some, was, now, h)
 
 -- a file more
 pub added : (s t : Store) (files after : List File) (path : List ℕ) (f : File) → SameFiles s t → AreFiles s.file files → IsFile f.bytes.items (s.file path)

@@ -241,7 +241,7 @@ fn add_all<D: Depot>(
 /// Linear in the bytes, but for looking up each named path among the files. No file changes. The
 /// errors: the store has no file of a path, or a longer one than `LIMIT`; a call on the store
 /// failed; more than `MOST` files; no memory.
-#[tactic(auto, using(crate::proofs::LoadedLemmas::apart, crate::proofs::LoadedLemmas::from_before, crate::proofs::LoadedLemmas::go_back, crate::proofs::LoadedLemmas::starts_more, crate::proofs::LoadedLemmas::starts_same))]
+#[tactic(auto, using(crate::proofs::LoadedLemmas::apart, crate::proofs::LoadedLemmas::apart_at_first, crate::proofs::LoadedLemmas::from_before, crate::proofs::LoadedLemmas::go_back, crate::proofs::LoadedLemmas::starts_more, crate::proofs::LoadedLemmas::starts_same))]
 pub fn load_files<D: Depot>(
     alloc: Global,
     depot: &mut D,

@@ -96,7 +96,7 @@ holds_combined Or x y a b e f = cc
 holds_combined Not x y a b e f = cc
 holds_combined Xor x y a b e f = cc
 
-set_both : (rule : Rule) (a b : List Rect) (s : Square) → All IsRect a → All IsRect b → set_of rule (edges_of (pos 1) (pos 0) a ++ edges_of (pos 0) (pos 1) b) s ≡ combined_set rule a b s
+pub set_both : (rule : Rule) (a b : List Rect) (s : Square) → All IsRect a → All IsRect b → set_of rule (edges_of (pos 1) (pos 0) a ++ edges_of (pos 0) (pos 1) b) s ≡ combined_set rule a b s
 set_both rule a b s ha hb =
     let f1 = first_sum (pos 1) (pos 0) a s ha in
     let f2 = first_sum (pos 0) (pos 1) b s hb in

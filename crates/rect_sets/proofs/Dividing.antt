@@ -108,7 +108,7 @@ not_touching cut r h =
 
 -- a block of a half that touches no cut
 
-run_near : (f g : Square → Bool) (y a b : ℤ) → ((x : ℤ) → (a -ℤ pos 1) ≤ℤ x → x ≤ℤ b → f (record { x = x; y = y }) ≡ g (record { x = x; y = y })) → IsRun f y a b → IsRun g y a b
+pub run_near : (f g : Square → Bool) (y a b : ℤ) → ((x : ℤ) → (a -ℤ pos 1) ≤ℤ x → x ≤ℤ b → f (record { x = x; y = y }) ≡ g (record { x = x; y = y })) → IsRun f y a b → IsRun g y a b
 run_near f g y a b same h =
     let some = h.some in
     record {
@@ -153,7 +153,7 @@ high_agrees : (set : Square → Bool) (axis : Axis) (at : ℤ) (r : Rect) → at
 high_agrees set X at r lt x y a b c d = and_one (set (record { x = x; y = y })) (int_le at x) (le_true at x (omega (arith, ints)))
 high_agrees set Y at r lt x y a b c d = and_one (set (record { x = x; y = y })) (int_le at y) (le_true at y (omega (arith, ints)))
 
-low_side : (set : Square → Bool) (axis : Axis) (at : ℤ) (r : Rect) → IsBlock (low_half set (record { axis = axis; at = at })) r → high_end axis r ≤ℤ at
+pub low_side : (set : Square → Bool) (axis : Axis) (at : ℤ) (r : Rect) → IsBlock (low_half set (record { axis = axis; at = at })) r → high_end axis r ≤ℤ at
 low_side set X at r h =
     let s : Square = record { x = r.x2 -ℤ pos 1; y = r.y2 -ℤ pos 1 } in
     let lt = lt_from (r.x2 -ℤ pos 1) at (and_split (set s) (int_lt (r.x2 -ℤ pos 1) at) (last_in _ r h)).1 in omega (arith, ints)
@@ -161,7 +161,7 @@ low_side set Y at r h =
     let s : Square = record { x = r.x2 -ℤ pos 1; y = r.y2 -ℤ pos 1 } in
     let lt = lt_from (r.y2 -ℤ pos 1) at (and_split (set s) (int_lt (r.y2 -ℤ pos 1) at) (last_in _ r h)).1 in omega (arith, ints)
 
-high_side : (set : Square → Bool) (axis : Axis) (at : ℤ) (r : Rect) → IsBlock (high_half set (record { axis = axis; at = at })) r → at ≤ℤ low_end axis r
+pub high_side : (set : Square → Bool) (axis : Axis) (at : ℤ) (r : Rect) → IsBlock (high_half set (record { axis = axis; at = at })) r → at ≤ℤ low_end axis r
 high_side set X at r h = let s : Square = record { x = r.x1; y = r.y1 } in le_from at r.x1 (and_split (set s) (int_le at r.x1) (first_in _ r h)).1
 high_side set Y at r h = let s : Square = record { x = r.x1; y = r.y1 } in le_from at r.y1 (and_split (set s) (int_le at r.y1) (first_in _ r h)).1
 
@@ -224,7 +224,7 @@ or_other true false = refl
 or_other false true = refl
 or_other false false = refl
 
-parted : (set : Square → Bool) (cut : Cut) (low high : List Rect) → AreBlocks (low_half set cut) low → AreBlocks (high_half set cut) high → AreParted set (kept cut high ++ kept cut low) (cut_off cut high ++ cut_off cut low)
+pub parted : (set : Square → Bool) (cut : Cut) (low high : List Rect) → AreBlocks (low_half set cut) low → AreBlocks (high_half set cut) high → AreParted set (kept cut high ++ kept cut low) (cut_off cut high ++ cut_off cut low)
 parted set cut low high h k = record {
   blocks = λ u g. elim (listed_either u (kept cut high) (kept cut low) g) [
     | inl a ↦ (let n = kept_from cut high u a in high_block set cut u ((k.each u).0 n.0) n.1)

@@ -19,3 +19,5 @@ pub mod Single
 pub mod Halving
 pub mod Summing
 pub mod Halved
+pub mod Ranging
+pub mod Levelling

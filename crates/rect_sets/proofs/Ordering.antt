@@ -32,7 +32,7 @@ begins_not a b h e f = false≢true (sym h ∙ both_and (int_eq a.y1 b.y1) (int_
 
 -- members of lists
 
-listed_contains : (r : Rect) (xs : List Rect) → IsListed r xs → Contains xs r
+pub listed_contains : (r : Rect) (xs : List Rect) → IsListed r xs → Contains xs r
 listed_contains r [] h = absurd h
 listed_contains r (x ∷ xs) (inl e) = (zero, omega arith, sym e)
 listed_contains r (x ∷ xs) (inr h) = let c = listed_contains r xs h in let lt = c.1 in (suc c.0, omega arith, c.2)
@@ -48,18 +48,18 @@ contains_listed r xs c = subst (λ (q : Rect). IsListed q xs) c.2 (at_listed xs 
 pub listed_permuted : (xs ys : List Rect) (r : Rect) → IsPermutation xs ys → IsListed r xs → IsListed r ys
 listed_permuted xs ys r p h = contains_listed r ys (Contains-permutation xs ys r p (listed_contains r xs h))
 
-listed_push : (q r : Rect) (xs : List Rect) → IsListed q (xs ++ r ∷ []) → IsListed q xs ⊎ (q ≡ r)
+pub listed_push : (q r : Rect) (xs : List Rect) → IsListed q (xs ++ r ∷ []) → IsListed q xs ⊎ (q ≡ r)
 listed_push q r [] (inl e) = inr e
 listed_push q r [] (inr h) = absurd h
 listed_push q r (x ∷ xs) (inl e) = inl (inl e)
 listed_push q r (x ∷ xs) (inr h) = elim (listed_push q r xs h) [ inl a ↦ inl (inr a) | inr e ↦ inr e ]
 
-push_old : (q r : Rect) (xs : List Rect) → IsListed q xs → IsListed q (xs ++ r ∷ [])
+pub push_old : (q r : Rect) (xs : List Rect) → IsListed q xs → IsListed q (xs ++ r ∷ [])
 push_old q r [] h = absurd h
 push_old q r (x ∷ xs) (inl e) = inl e
 push_old q r (x ∷ xs) (inr h) = inr (push_old q r xs h)
 
-push_new : (r : Rect) (xs : List Rect) → IsListed r (xs ++ r ∷ [])
+pub push_new : (r : Rect) (xs : List Rect) → IsListed r (xs ++ r ∷ [])
 push_new r [] = inl refl
 push_new r (x ∷ xs) = inr (push_new r xs)
 

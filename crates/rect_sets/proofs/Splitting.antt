@@ -18,11 +18,11 @@ pub either : (b : Bool) → (b ≡ true) ⊎ (b ≡ false)
 either true = inl refl
 either false = inr refl
 
-or_left : (b c : Bool) → b ≡ true → (b || c) ≡ true
+pub or_left : (b c : Bool) → b ≡ true → (b || c) ≡ true
 or_left true c e = refl
 or_left false c e = absurd (false≢true e)
 
-or_right : (b c : Bool) → c ≡ true → (b || c) ≡ true
+pub or_right : (b c : Bool) → c ≡ true → (b || c) ≡ true
 or_right true c e = refl
 or_right false c e = e
 
@@ -74,7 +74,7 @@ inside_from r s e = let p = and_split (is_between r.x1 s.x r.x2) (is_between r.y
 has_at : (r : Rect) (x y : ℤ) → r.x1 ≤ℤ x → x <ℤ r.x2 → r.y1 ≤ℤ y → y <ℤ r.y2 → has r (record { x = x; y = y }) ≡ true
 has_at r x y a b c d = and_both (is_between r.x1 x r.x2) (is_between r.y1 y r.y2) (between r.x1 x r.x2 a b) (between r.y1 y r.y2 c d)
 
-covers_at : (rects : List Rect) (r : Rect) (x y : ℤ) → IsListed r rects → r.x1 ≤ℤ x → x <ℤ r.x2 → r.y1 ≤ℤ y → y <ℤ r.y2 → covers rects (record { x = x; y = y }) ≡ true
+pub covers_at : (rects : List Rect) (r : Rect) (x y : ℤ) → IsListed r rects → r.x1 ≤ℤ x → x <ℤ r.x2 → r.y1 ≤ℤ y → y <ℤ r.y2 → covers rects (record { x = x; y = y }) ≡ true
 covers_at rects r x y l a b c d = listed_covers rects (record { x = x; y = y }) r l (has_at r x y a b c d)
 
 -- runs of one row
@@ -86,13 +86,13 @@ one_right : (set : Square → Bool) (y a b d : ℤ) → IsRun set y a b → IsRu
 one_right set y a b d h g lt = let hs = h.some in false≢true (sym h.after ∙ g.inside b (omega (arith, ints)) lt)
 
 -- two runs that share a number are one
-shared : (set : Square → Bool) (y a b c d x : ℤ) → IsRun set y a b → IsRun set y c d → a ≤ℤ x → x <ℤ b → c ≤ℤ x → x <ℤ d → (a ≡ c) × (b ≡ d)
+pub shared : (set : Square → Bool) (y a b c d x : ℤ) → IsRun set y a b → IsRun set y c d → a ≤ℤ x → x <ℤ b → c ≤ℤ x → x <ℤ d → (a ≡ c) × (b ≡ d)
 shared set y a b c d x h g a1 b1 c1 d1 =
     let e : a ≡ c = by_lt_z a c (λ lt. absurd (not_left set y c d a b x g h c1 b1 lt)) (λ le. by_lt_z c a (λ lt. absurd (not_left set y a b c d x h g a1 d1 lt)) (λ le'. omega (arith, ints))) in
     let g' : IsRun set y a d = subst (λ (q : ℤ). IsRun set y q d) (sym e) g in
     (e, by_lt_z b d (λ lt. absurd (one_right set y a b d h g' lt)) (λ le. by_lt_z d b (λ lt. absurd (one_right set y a d b g' h lt)) (λ le'. omega (arith, ints))))
 
-run_to : (set : Square → Bool) (y a b c d : ℤ) → a ≡ c → b ≡ d → IsRun set y a b → IsRun set y c d
+pub run_to : (set : Square → Bool) (y a b c d : ℤ) → a ≡ c → b ≡ d → IsRun set y a b → IsRun set y c d
 run_to set y a b c d e f h = subst (λ (q : ℤ). IsRun set y q d) e (subst (λ (q : ℤ). IsRun set y a q) f h)
 
 not_lower : (set : Square → Bool) (u r : Rect) (y : ℤ) → IsBlock set u → IsBlock set r → u.x1 ≡ r.x1 → u.x2 ≡ r.x2 → y <ℤ u.y2 → r.y1 ≤ℤ y → u.y1 <ℤ r.y1 → ⊥
@@ -238,12 +238,12 @@ listed_either r [] ys h = inr h
 listed_either r (x ∷ xs) ys (inl e) = inl (inl e)
 listed_either r (x ∷ xs) ys (inr h) = elim (listed_either r xs ys h) [ inl a ↦ inl (inr a) | inr b ↦ inr b ]
 
-listed_first : (r : Rect) (xs ys : List Rect) → IsListed r xs → IsListed r (xs ++ ys)
+pub listed_first : (r : Rect) (xs ys : List Rect) → IsListed r xs → IsListed r (xs ++ ys)
 listed_first r [] ys h = absurd h
 listed_first r (x ∷ xs) ys (inl e) = inl e
 listed_first r (x ∷ xs) ys (inr h) = inr (listed_first r xs ys h)
 
-listed_second : (r : Rect) (xs ys : List Rect) → IsListed r ys → IsListed r (xs ++ ys)
+pub listed_second : (r : Rect) (xs ys : List Rect) → IsListed r ys → IsListed r (xs ++ ys)
 listed_second r [] ys h = h
 listed_second r (x ∷ xs) ys h = inr (listed_second r xs ys h)
 

@@ -4,6 +4,7 @@ pub mod Combined
 pub mod Divided
 pub mod Edges
 pub mod Halves
+pub mod Levels
 pub mod Opens
 pub mod Orders
 pub mod Rects

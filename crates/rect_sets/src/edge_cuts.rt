@@ -24,23 +24,11 @@ pub struct Sides {
     pub high: Vec<Edge>,
 }
 
-/// Which lines edges may be cut by.
+/// Which lines edges may be cut by: what touches an upright line is cut by level lines alone.
 #[derive(Clone, Copy, Debug)]
 pub enum Ways {
     Both,
-    Along(Axis),
-    Neither,
-}
-
-impl Ways {
-    /// What touches a line is cut by lines across it alone.
-    pub fn across(self, axis: Axis) -> Ways {
-        match (self, axis) {
-            (Ways::Both, Axis::X) => Ways::Along(Axis::Y),
-            (Ways::Both, Axis::Y) => Ways::Along(Axis::X),
-            _ => Ways::Neither,
-        }
-    }
+    Level,
 }
 
 // What is known of some edges, to choose a line by: what bounds them, and the sum of their heights.
@@ -93,12 +81,10 @@ impl Plane {
     }
 
     // Along the longer side, where both ways are free.
-    fn axis(&self, ways: Ways) -> Option<Axis> {
+    fn axis(&self, ways: Ways) -> Axis {
         match ways {
-            Ways::Both if self.y2.abs_diff(self.y1) <= self.x2.abs_diff(self.x1) => Some(Axis::X),
-            Ways::Both => Some(Axis::Y),
-            Ways::Along(axis) => Some(axis),
-            Ways::Neither => None,
+            Ways::Both if self.y2.abs_diff(self.y1) <= self.x2.abs_diff(self.x1) => Axis::X,
+            _ => Axis::Y,
         }
     }
 
@@ -130,10 +116,7 @@ pub fn line_of(edges: &[Edge], ways: Ways) -> Option<Cut> {
     if steps <= LONG_ROW.saturating_mul(edges.len() as u64) {
         return None;
     }
-    match plane.axis(ways) {
-        Some(axis) => plane.middle(axis),
-        None => None,
-    }
+    plane.middle(plane.axis(ways))
 }
 
 // Adds the part of an edge below a level line.

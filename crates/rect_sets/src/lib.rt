@@ -7,6 +7,7 @@ mod cuts;
 mod divide;
 mod edge_cuts;
 mod halves;
+mod levels;
 mod moves;
 mod opens;
 mod order;

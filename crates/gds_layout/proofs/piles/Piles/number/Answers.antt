@@ -4,9 +4,9 @@ use Rattle.std.proofs.lemmas.List.Elements.{All-nil, All-push}
 use Rattle.geo_base.specs.Layers.{is_same_key}
 use Rattle.geo_base.specs.Rects.{IsRect}
 use Rattle.geo_base.specs.declared.layer.LayerKey.{LayerKey}
-use Rattle.geo_base.specs.declared.shapes.Rect.{Rect}
+use Rattle.gds_layout.specs.declared.piles.Laid.TheVariants.{Nothing}
 use Rattle.gds_layout.specs.declared.piles.Pile.{Pile}
-use Rattle.gds_layout.specs.Piles.{keys_of, IsPileAt, AreDifferent}
+use Rattle.gds_layout.specs.Piles.{rects_of, keys_of, IsPileAt, AreDifferent}
 use Rattle.gds_layout.proofs.Piling.{map_length, absent, found, different_more, keys_more, last_pile, has_already, key_added, key_among}
 use Rattle.gds_layout.proofs.piles.Piles.number.Goals as goal
 
@@ -24,20 +24,20 @@ returns-in_ok-push-clause-piles c =
     let key = c.args.key in
     let many : length c.args.self.now.keys ≡ length list = ap (λ (ks : List LayerKey). length ks) (sym was.keys_are) ∙ map_length list in
     let none = absent key c.args.self.now.keys (sym c.number-number.ensures.place ∙ c.if-number-len.true ∙ c.len.ensures ∙ c.args.self.now.list.ok.0 ∙ sym many) in
-    let p : Pile = record { key = key; rects = c.new.result } in
+    let p : Pile = record { key = key; laid = Nothing } in
     let items : c.push.new.self.items ≡ list ++ p ∷ [] = c.in_ok-push.ensures.items in
     record {
       keys_are = ap keys_of items ∙ keys_more list p ∙ ap (λ (ks : List LayerKey). ks ++ key ∷ []) was.keys_are ∙ sym c.in_ok-add.ensures;
       different = subst AreDifferent (sym c.in_ok-add.ensures) (different_more c.args.self.now.keys key was.different none);
       sound =
-          let P : Pile → Type 0 = λ q. All IsRect q.rects.items in
-          subst (λ (ps : List Pile). All P ps) (sym items) (All-push P list p was.sound (subst (λ (rs : List Rect). All IsRect rs) (sym c.new.ensures.items) (All-nil IsRect)));
+          let P : Pile → Type 0 = λ q. All IsRect (rects_of q) in
+          subst (λ (ps : List Pile). All P ps) (sym items) (All-push P list p was.sound (All-nil IsRect));
     }
 
 pub returns-in_ok-push-clause-here : goal.returns-in_ok-push-clause-here
 returns-in_ok-push-clause-here c =
     let list = c.args.self.now.list.items in
-    let p : Pile = record { key = c.args.key; rects = c.new.result } in
+    let p : Pile = record { key = c.args.key; laid = Nothing } in
     subst (λ (ps : List Pile). IsPileAt ps c.args.key c.number-number.result) (sym c.in_ok-push.ensures.items)
     (last_pile list p c.args.key c.number-number.result (c.if-number-len.true ∙ c.len.ensures ∙ c.args.self.now.list.ok.0) refl)
 
@@ -60,7 +60,7 @@ returns-in_ok-push-clause-keys c =
     let key = c.args.key in
     let many : length c.args.self.now.keys ≡ length list = ap (λ (ks : List LayerKey). length ks) (sym was.keys_are) ∙ map_length list in
     let none = absent key c.args.self.now.keys (sym c.number-number.ensures.place ∙ c.if-number-len.true ∙ c.len.ensures ∙ c.args.self.now.list.ok.0 ∙ sym many) in
-    let p : Pile = record { key = key; rects = c.new.result } in
+    let p : Pile = record { key = key; laid = Nothing } in
     let items : c.push.new.self.items ≡ list ++ p ∷ [] = c.in_ok-push.ensures.items in
     ap keys_of items ∙ keys_more list p ∙ key_added (keys_of list) key (ap (λ (ks : List LayerKey). list_any (is_same_key key) ks) was.keys_are ∙ none)
 
