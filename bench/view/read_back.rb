@@ -1,26 +1,31 @@
 # klayout -b -r read_back.rb -rd list=FILE: what KLayout reads of the databases of the list, a row of words each; names in hexadecimal
 def hex(name) name == "" ? "-" : name.unpack1("H*") end
-def net_id(n) n ? n.cluster_id.to_s : "-" end
+# a net's number: of the layout its own; of the schematic, whose nets have different names, its place
+def net_id(n, places)
+  n ? (n.cluster_id > 0 ? n.cluster_id : places[n.name]).to_s : "-"
+end
 def id(x) x ? x.id.to_s : "-" end
-def circuits(nl, side)
+def circuits(nl, side, all)
   nl.each_circuit do |c|
+    k = 0
+    places = all[c.name] = c.each_net.map { |n| [n.name, k += 1] }.to_h
     puts "circuit #{side} #{hex(c.name)} #{side == "J" ? c.boundary.bbox.to_s : "-"}"
-    c.each_net { |n| puts "net #{n.cluster_id} #{hex(n.name)}" }
-    c.each_pin { |p| puts "pin #{p.id} #{hex(p.name)} #{net_id(c.net_for_pin(p.id))}" }
+    c.each_net { |n| puts "net #{net_id(n, places)} #{hex(n.name)}" }
+    c.each_pin { |p| puts "pin #{p.id} #{hex(p.name)} #{net_id(c.net_for_pin(p.id), places)}" }
     c.each_device do |d|
-      nets = d.device_class.terminal_definitions.map { |t| net_id(d.net_for_terminal(t.id)) }
+      nets = d.device_class.terminal_definitions.map { |t| net_id(d.net_for_terminal(t.id), places) }
       puts "device #{d.id} #{hex(d.device_class.name)} #{d.parameter("L")} #{d.parameter("W")} #{nets.join(" ")}"
     end
     c.each_subcircuit do |s|
       nets = []
-      s.circuit_ref.each_pin { |p| nets << net_id(s.net_for_pin(p.id)) }
+      s.circuit_ref.each_pin { |p| nets << net_id(s.net_for_pin(p.id), places) }
       puts "call #{s.id} #{hex(s.circuit_ref.name)} #{s.trans.to_s.gsub(" ", ";")} #{nets.join(" ")}"
     end
   end
 end
 def shapes(l)
   names = l.layer_names.select { |n| n != "" && n != "device regions" }.sort
-  top = l.netlist.circuit_by_name(l.internal_layout.top_cell.name)
+  top = l.netlist.each_circuit.to_a.last
   return unless top
   top.each_net do |n|
     parts = names.map { |name| r = l.shapes_of_net(n, l.layer_by_name(name), true).merged; r.is_empty? ? nil : "#{name}:#{r.area}@#{r.bbox}".gsub(" ", "") }.compact
@@ -40,14 +45,16 @@ File.readlines($list).each do |line|
   begin
     l = RBA::LayoutVsSchematic::new
     l.read(db)
-    puts "database #{db} #{l.internal_layout.top_cell ? hex(l.internal_layout.top_cell.name) : "-"} #{l.internal_layout.dbu}"
-    circuits(l.netlist, "J")
-    circuits(l.reference, "H")
+    puts "database #{db} #{l.internal_layout.dbu}"
+    left, right = {}, {}
+    circuits(l.netlist, "J", left)
+    circuits(l.reference, "H", right)
     shapes(l)
     x = l.xref
     x.each_circuit_pair do |p|
       puts "pair #{p.first ? hex(p.first.name) : "()"} #{p.second ? hex(p.second.name) : "()"} #{p.status}"
-      x.each_net_pair(p) { |q| puts "N #{net_id(q.first)} #{net_id(q.second)} #{q.status}" }
+      a, b = p.first && left[p.first.name], p.second && right[p.second.name]
+      x.each_net_pair(p) { |q| puts "N #{net_id(q.first, a)} #{net_id(q.second, b)} #{q.status}" }
       x.each_pin_pair(p) { |q| puts "P #{id(q.first)} #{id(q.second)} #{q.status}" }
       x.each_device_pair(p) { |q| puts "D #{id(q.first)} #{id(q.second)} #{q.status}" }
       x.each_subcircuit_pair(p) { |q| puts "X #{id(q.first)} #{id(q.second)} #{q.status}" }
