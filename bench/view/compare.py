@@ -1,16 +1,19 @@
 #!/usr/bin/env python3
-"""Databases as KLayout reads them: bench/view/compare.py LVS_VIEW LVS [--designs COUNT SEED]
+"""Databases as KLayout reads them: bench/view/compare.py LVS_VIEW LVS [--designs COUNT SEED] [--planted] [--keep DIR]
 
 Wants KLayout (apt-get install klayout). LVS writes the netlist and the report of each case, LVS_VIEW its database, KLayout reads the
 database, and what it read must be the netlist's circuits, nets, pins, devices and calls, the schematic's too, and the report's partners.
-The cases are a generated chip, the example, all eight turns of a cell, an array, and of each of these a wrong width, a lost transistor,
-exchanged pins, and a top without a partner. Then COUNT generated designs from SEED on: the shapes of each net of the top, with all
-calls below it, are those of the same layout flattened by KLayout. Exits with 1 where something differs.
+Of small layouts the boxes of the circuits, the places of calls, the rectangles of each net with all calls below and the regions of the
+devices are those that the independent implementation finds (wanted.py). The cases are generated chips, the example, the layouts of
+layouts.py, and of each of these a wrong width, a lost transistor, exchanged pins, and a top without a partner, each also with
+`flatten_unmatched`; with --planted each error of bench/planted; with --designs COUNT generated designs from SEED on. Circuits of which
+something was flattened or dropped, and their callers, have no rectangles to compare. Exits with 1 where something differs.
 """
 import argparse
 import collections
 import os
 import re
+import shutil
 import struct
 import subprocess
 import sys
@@ -20,91 +23,12 @@ HERE = os.path.dirname(os.path.abspath(__file__))
 sys.path[:0] = [os.path.join(HERE, "..", "reference")]
 import gen
 import spice
+import wanted
+from layouts import LAYOUTS
+from names import unescape
 
-RULES = b"""active = input(1, 0)
-poly   = input(2, 0)
-metal  = input(3, 0)
-bulk   = polygon_layer
-gate   = active & poly
-sd     = active - poly
-gate.output(10, 0)
-connect(sd, metal)
-connect(poly, metal)
-connect_global(bulk, "VSS")
-extract_devices(mos4("NMOS"), { "SD" => sd, "G" => gate, "W" => bulk, "tG" => poly })
-"""
-ANGLES = [None, "425A000000000000", "42B4000000000000", "4310E00000000000"]
-UNITS = "3E4189374BC6A7F03944B82FA09B5A54"
-
-
-def rec(kind, form, body=b""):
-    return struct.pack(">HBB", len(body) + 4, kind, form) + body
-
-
-def name_rec(kind, name):
-    return rec(kind, 6, name + b"\0" * (len(name) & 1))
-
-
-def xy(points):
-    return rec(0x10, 3, b"".join(struct.pack(">2i", *p) for p in points)) + rec(0x11, 0)
-
-
-def rect(layer, x1, y1, x2, y2):
-    return (rec(0x08, 0) + rec(0x0D, 2, struct.pack(">H", layer)) + rec(0x0E, 2, bytes(2))
-            + xy([(x1, y1), (x1, y2), (x2, y2), (x2, y1), (x1, y1)]))
-
-
-def placed(cell, x, y, mirror=False, quarter=0):
-    turn = rec(0x1A, 1, b"\x80\0" if mirror else bytes(2)) if mirror or quarter else b""
-    turn += rec(0x1C, 5, bytes.fromhex(ANGLES[quarter])) if quarter else b""
-    return rec(0x0A, 0) + name_rec(0x12, cell) + turn + xy([(x, y)])
-
-
-def array(cell, columns, rows, dx, dy):
-    return (rec(0x0B, 0) + name_rec(0x12, cell) + rec(0x13, 2, struct.pack(">2H", columns, rows))
-            + xy([(0, 0), (columns * dx, 0), (0, rows * dy)]))
-
-
-def library(cells):
-    out = rec(0x00, 2, struct.pack(">h", 600)) + rec(0x01, 2, bytes(24)) + name_rec(0x02, b"VIEW") + rec(0x03, 5, bytes.fromhex(UNITS))
-    for name, items in cells:
-        out += rec(0x05, 2, bytes(24)) + name_rec(0x06, name) + b"".join(items) + rec(0x07, 0)
-    return out + rec(0x04, 0)
-
-
-# a transistor of 0.06 by 0.2, its source and drain under metal of different widths
-TRANSISTOR = [rect(1, 0, 0, 600, 200), rect(2, 260, -100, 320, 300), rect(3, 0, 0, 100, 200), rect(3, 480, 0, 600, 200)]
-
-
-def moved(r, x, y, mirror, quarter):
-    def point(px, py):
-        py = -py if mirror else py
-        for _ in range(quarter):
-            px, py = -py, px
-        return px + x, py + y
-    (ax, ay), (bx, by) = point(r[0], r[1]), point(r[2], r[3])
-    return min(ax, bx), min(ay, by), max(ax, bx), max(ay, by)
-
-
-def all_turns():
-    """A cell of two transistors in each of the eight turns, with metal of the top at the first one's source and drain."""
-    pair = [placed(b"one", 0, 0), placed(b"one", 600, 1500, True, 1), rect(3, 0, 0, 100, 200)]
-    top = []
-    for k in range(8):
-        at = (6000 * k, 700 * k, k >= 4, k % 4)
-        top.append(placed(b"pair", *at))
-        top.append(rect(3, *moved((0, 0, 100, 400), *at)))
-        top.append(rect(3, *moved((480, 0, 600, 50), *at)))
-    return library([(b"one", TRANSISTOR), (b"pair", pair), (b"top", top)])
-
-
-def arrays():
-    """An array of transistors, their drains and sources joined by rows."""
-    rows = [rect(3, 0, 1000 * k, 6600, 1000 * k + 50) for k in range(4)]
-    return library([(b"one", TRANSISTOR), (b"top", [array(b"one", 6, 4, 1200, 1000)] + rows)])
-
-
-Case = collections.namedtuple("Case", "name files words")      # the files by ending: gds, lvs, cir
+# `files` by ending: gds, lvs, cir; `small`: whether the independent implementation can work it
+Case = collections.namedtuple("Case", "name files top small")
 
 
 def put(prefix, files):
@@ -122,17 +46,57 @@ def run(program, words):
 
 
 def cases(lvs, folder):
+    """The right cases."""
     chip, drawn = os.path.join(folder, "chip"), os.path.join(folder, "drawn")
     for n in (4, 100):
         run(lvs, ["make", str(n), "1", "1", chip])
-        yield Case("chip of %d" % n, get(chip, "gds", "lvs", "cir"), ["--top", "TOP"])
-    yield Case("example", get(os.path.join(HERE, "..", "..", "examples", "mos"), "gds", "lvs", "cir"), [])
-    for name, stream in (("eight turns", all_turns()), ("array", arrays())):
-        put(drawn, {"gds": stream, "lvs": RULES})
+        yield Case("chip of %d" % n, get(chip, "gds", "lvs", "cir"), "TOP", n == 4)
+    yield Case("example", get(os.path.join(HERE, "..", "..", "examples", "mos"), "gds", "lvs", "cir"), None, True)
+    for name, made, rules in LAYOUTS:
+        put(drawn, {"gds": made(), "lvs": rules})
         told = run(lvs, ["extract", "--layout", drawn + ".gds", "--rules", drawn + ".lvs", "--shapes", drawn + ".out", "--netlist", drawn + ".cir"])
         if told.returncode:
-            sys.exit("%s: %s" % (name, told.stdout.decode()))
-        yield Case(name, get(drawn, "gds", "lvs", "cir"), [])
+            sys.exit("%s: %s" % (name, told.stdout.decode("latin-1")))
+        yield Case(name, get(drawn, "gds", "lvs", "cir"), None, True)
+
+
+def with_errors(case):
+    """The case, and with each error, where it has a place for it; both also taken apart."""
+    for error in [None] + ERRORS:
+        text = case.files["cir"] if error is None else changed(case.files["cir"], error)
+        if text is not None:
+            name = case.name + (", " + error if error else "")
+            yield case._replace(name=name, files=dict(case.files, cir=text))
+            if error:
+                rules = case.files["lvs"] + b"\nflatten_unmatched\n"
+                yield case._replace(name=name + ", apart", files=dict(case.files, cir=text, lvs=rules))
+
+
+def planted(lvs, folder):
+    """The errors of bench/planted."""
+    kept = os.path.join(folder, "planted")
+    told = run(os.path.join(HERE, "..", "planted"), ["--keep", kept, lvs]).stdout.decode("latin-1")
+    for k, line in enumerate(row for row in told.split("\n") if row.startswith("| ")):
+        yield Case(line.split("|")[1].strip(), get(os.path.join(kept, "e%d" % k), "gds", "lvs", "cir"), "tiny", False)
+
+
+def positive(stream):
+    """The stream with positive path widths: a negative one means the same where nothing is magnified, but KLayout 0.28 turns extensions round."""
+    out, at = bytearray(stream), 0
+    while at + 4 <= len(out):
+        size, kind = struct.unpack(">HB", out[at:at + 3])
+        if kind == 0x0F:
+            out[at + 4:at + 8] = struct.pack(">i", abs(struct.unpack(">i", out[at + 4:at + 8])[0]))
+        at += max(size, 4)
+    return bytes(out)
+
+
+def designs(count, seed0):
+    """Generated designs."""
+    for seed in range(seed0, seed0 + count):
+        words, files = gen.generate(seed, "run")
+        top = words[words.index("--top") + 1] if "--top" in words else None
+        yield Case("design %d" % seed, {"gds": files["l.gds"], "lvs": files["r.lvs"], "cir": files["c.cir"]}, top, True)
 
 
 ERRORS = ["wrong width", "lost transistor", "exchanged pins", "no partner"]
@@ -181,11 +145,13 @@ def read_text(text):
         w = line.split()
         kind = w[0] if w else ""
         if kind == "database":
-            now = found[w[1]] = {"J": {}, "H": {}, "pairs": {}, "shapes": []}
+            now = found[w[1]] = {"J": {}, "H": {}, "pairs": {}}
         elif kind == "failed":
             found[w[1]] = line
         elif kind == "circuit":
-            circuit = now[w[1]][w[2]] = {"nets": [], "pins": [], "devices": [], "calls": []}
+            circuit = now[w[1]][w[2]] = {"box": w[3], "turns": [], "shapes": [], "regions": [], "nets": [], "pins": [], "devices": [], "calls": []}
+        elif kind == "drawn":
+            circuit = now["J"][w[1]]
         elif kind == "net":
             circuit["nets"].append(w[2])
         elif kind == "pin":
@@ -194,12 +160,15 @@ def read_text(text):
             circuit["devices"].append((w[2], "%.9g" % float(w[3]), "%.9g" % float(w[4]), w[5:9]))
         elif kind == "call":
             circuit["calls"].append((w[2], w[4:]))
+            circuit["turns"].append(w[3])
         elif kind == "pair":
             pair = now["pairs"][w[1].lower(), w[2].lower()] = {"status": w[3], "N": [], "P": [], "D": [], "X": []}
         elif kind in ("N", "P", "D", "X"):
             pair[kind].append((w[1], w[2], w[3]))
         elif kind == "shapes":
-            now["shapes"].append(" ".join(w[2:]))
+            circuit["shapes"].append(w[2:])
+        elif kind == "region":
+            circuit["regions"].append(w[2])
     return found
 
 
@@ -209,7 +178,7 @@ def read_report(text):
     for line in text.split(b"\n"):
         w = line.split(b" ")
         if w[0] == b"pair":
-            pairs.append({"names": (w[1].hex(), w[2].hex()), "answer": w[3].decode(), "net": [], "device": [], "call": []})
+            pairs.append({"names": (unescape(w[1]).hex(), unescape(w[2]).hex()), "answer": w[3].decode(), "net": [], "device": [], "call": []})
         elif w[0] in (b"net", b"device", b"call") and pairs:
             pairs[-1][w[0].decode()].append((w[1].decode(), w[2].decode()))
     return pairs
@@ -227,7 +196,7 @@ def once(rows, side, count, first):
 def same(shown, circuit, whole):
     """Whether a circuit is as a netlist has it; where nets that hold nothing may be dropped, its devices and what it calls."""
     if whole:
-        return shown == circuit
+        return all(shown[word] == circuit[word] for word in circuit)
     return [d[:3] for d in shown["devices"]] == [d[:3] for d in circuit["devices"]] and [c[0] for c in shown["calls"]] == [c[0] for c in circuit["calls"]]
 
 
@@ -245,12 +214,12 @@ def check_circuits(read, side, text, told, whole):
             if not same(read[side][shown[names[k]]], plain(circuits[k], lambda n: shown[names[n]]), whole)]
 
 
-def check_pair(read, told):
-    """What differs between a pair and what the report says of it."""
-    sides = []
-    for side, name in zip("JH", told["names"]):
-        sides.append(next((key for key in read[side] if folded(key) == folded(name)), None))
-    got = read["pairs"].get(tuple(sides))
+def check_pair(read, told, number):
+    """What differs between a pair and what the report says of it; a circuit of the layout goes by its cell's name, so by its place."""
+    lefts = list(read["J"])
+    sides = [lefts[number] if number < len(lefts) else None,
+             next((key for key in read["H"] if folded(key) == folded(told["names"][1])), None)]
+    got = read["pairs"].get(tuple(sides)) if None not in sides else None
     if got is None or got["status"] != STATUS[told["answer"]]:
         return "is marked %s" % (got and got["status"])
     for kind, word in (("N", "nets"), ("P", "pins"), ("D", "devices"), ("X", "calls")):
@@ -266,19 +235,52 @@ def check_pair(read, told):
     return None
 
 
-def check(read, files, whole):
-    """What differs between what KLayout read and what the netlists and the report say."""
-    if isinstance(read, str):
-        return [read]
-    told = read_report(files["rep"])
-    wrong = check_circuits(read, "J", files["net"], told, True) + check_circuits(read, "H", files["cir"], told, whole)
-    if told and len(told) != len(read["pairs"]):
-        wrong.append("%d pairs, the report has %d" % (len(read["pairs"]), len(told)))
-    for pair in told:
-        why = check_pair(read, pair)
-        if why:
-            wrong.append("pair %s %s %s" % tuple([bytes.fromhex(n).decode("latin-1") for n in pair["names"]] + [why]))
+def check_rows(read, wanted_case):
+    """What differs between the circuits of both sides and those that are compared, by the independent implementation."""
+    wrong = []
+    rights = [right for _, right in wanted_case.pairs] if wanted_case.pairs else wanted_case.rights
+    for side, circuits in (("J", wanted_case.lefts), ("H", rights)):
+        shown = {folded(key): key for key in read[side]}
+        names = [(wanted_case.shown(c) if side == "J" else c.name).hex() for c in circuits]
+        if sorted(map(folded, names)) != sorted(shown):
+            wrong.append("circuits of %s" % side)
+            continue
+        keys = [shown[folded(name)] for name in names]
+        for key, circuit in zip(keys, circuits):
+            if not same(read[side][key], plain(circuit, lambda number: keys[number]), True):
+                wrong.append("circuit %s of %s" % (circuit.name.decode("latin-1"), side))
     return wrong
+
+
+def unescaped(text):
+    """The bytes of a quoted word."""
+    return re.sub(rb"\\([0-7]{3}|.)", lambda m: bytes([int(m[1], 8)]) if len(m[1]) == 3 else m[1], text)
+
+
+def check_logs(database, report):
+    """Whether each pair that doesn't match has the report's lines behind its names, the last one all gates, too."""
+    lines = report.split(b"\n")
+    blocks, gates = [], [line for line in lines if line.startswith(b"gate ")]
+    for line in lines:
+        if line.startswith(b"pair "):
+            answer = b" ".join(line.split(b" ")[3:])
+            blocks.append([] if answer == b"match" else [answer])
+        elif line.startswith((b"round ", b"guess ")) and blocks:
+            blocks[-1].append(line)
+        elif line.startswith(b"apart "):
+            blocks = []
+    found = []
+    for line in database[database.index(b"\nZ("):].split(b"\n"):
+        if re.match(rb" X\(", line):
+            found.append([])
+        elif entry := re.match(rb"   M\(E B\('(.*)'\)\)$", line):
+            found[-1].append(unescaped(entry[1]))
+        elif entry := re.match(rb"   M\(E B\((.*)\)\)$", line):
+            found[-1].append(entry[1])
+    if not blocks:
+        return []
+    blocks[-1] += gates
+    return ["logs: %s for %s" % (a, b) for a, b in zip(found, blocks) if a != b] + (["logs of %d pairs for %d" % (len(found), len(blocks))] if len(found) != len(blocks) else [])
 
 
 def read_all(folder, databases):
@@ -290,67 +292,41 @@ def read_all(folder, databases):
 
 
 def make(view, lvs, prefix, case):
-    """Runs both programs on a case; what is wrong with their answers."""
-    put(prefix, case.files)
-    inputs = ["--layout", prefix + ".gds", "--rules", prefix + ".lvs", "--schematic", prefix + ".cir"] + case.words
+    """Runs both programs on a case; what is wrong with their answers, or None where both refuse it, or it is too far for KLayout."""
+    put(prefix, dict(case.files, gds=positive(case.files["gds"])))
+    inputs = ["--layout", prefix + ".gds", "--rules", prefix + ".lvs", "--schematic", prefix + ".cir"] + (["--top", case.top] if case.top else [])
     told = run(lvs, ["run"] + inputs + ["--shapes", prefix + ".out", "--netlist", prefix + ".net", "--report", prefix + ".rep"])
     seen = run(view, inputs + ["--database", prefix + ".lvsdb"])
-    if told.returncode != seen.returncode or told.returncode not in (0, 1, 3):
-        return ["statuses %d and %d: %s%s" % (told.returncode, seen.returncode, told.stdout.decode(), seen.stdout.decode())]
+    if told.returncode == 2 and seen.returncode == 2 and told.stdout == seen.stdout:
+        return None
+    if told.returncode in (0, 1, 3) and seen.stdout == b"refused view\n" and case.small and wanted.is_far(case.files["gds"], case.top):
+        return None
+    line = re.sub(rb"^(\w+) cells \d+ ", rb"view \1 ", told.stdout)
+    if told.returncode != seen.returncode or told.returncode not in (0, 1, 3) or seen.stdout != line:
+        return ["statuses %d and %d: %s%s" % (told.returncode, seen.returncode, told.stdout.decode("latin-1"), seen.stdout.decode("latin-1"))]
     return []
 
 
-def known(view, lvs, folder):
-    """The cases with known answers; how many differ."""
-    todo = []
-    for case in cases(lvs, folder):
-        todo.append(case)
-        for error in ERRORS:
-            text = changed(case.files["cir"], error)
-            if text is not None:
-                todo.append(Case("%s, %s" % (case.name, error), dict(case.files, cir=text), case.words))
-    prefixes = [os.path.join(folder, "case%d" % k) for k in range(len(todo))]
-    wrong = [make(view, lvs, prefix, case) for prefix, case in zip(prefixes, todo)]
-    read = read_all(folder, [prefix + ".lvsdb" for prefix, w in zip(prefixes, wrong) if not w])
-    for k, case in enumerate(todo):
-        if not wrong[k]:
-            files = get(prefixes[k], "net", "cir", "rep")
-            wrong[k] = check(read.get(prefixes[k] + ".lvsdb", "not read"), files, "lost" not in case.name)
-        print("%-32s %s" % (case.name, "; ".join(wrong[k]) or "as it should be"))
-    return sum(1 for w in wrong if w)
-
-
-def designs(view, folder, count, seed0):
-    """Generated designs, whole and flattened; how many differ."""
-    todo, flat = [], os.path.join(folder, "flat")
-    for seed in range(seed0, seed0 + count):
-        words, files = gen.generate(seed, "run")
-        prefix = os.path.join(folder, "design%d" % seed)
-        put(prefix, {"gds": files["l.gds"], "lvs": files["r.lvs"], "cir": files["c.cir"]})
-        top = words[words.index("--top") + 1] if "--top" in words else ""
-        inputs = ["--rules", prefix + ".lvs", "--schematic", prefix + ".cir"]
-        whole = run(view, inputs + ["--layout", prefix + ".gds", "--database", prefix + ".lvsdb"] + (["--top", top] if top else []))
-        if whole.returncode in (0, 1, 3) and " " not in top:
-            todo.append((seed, prefix, inputs, top))
-    put(flat, {"list": "".join("%s.gds %s.flat.gds %s\n" % (p, p, top) for _, p, _, top in todo).encode()})
-    subprocess.run(["klayout", "-b", "-r", os.path.join(HERE, "flatten.rb"), "-rd", "list=" + flat + ".list"])
-    both = [(seed, p) for seed, p, inputs, _ in todo if os.path.exists(p + ".flat.gds")
-            and run(view, inputs + ["--layout", p + ".flat.gds", "--database", p + ".flat.lvsdb"]).returncode in (0, 1, 3)]
-    read = read_all(folder, [p + end for _, p in both for end in (".lvsdb", ".flat.lvsdb")])
-    bad = nets = 0
-    for seed, p in both:
-        one, other = read.get(p + ".lvsdb", "not read"), read.get(p + ".flat.lvsdb", "not read")
-        if isinstance(one, str) or isinstance(other, str):
-            bad += 1
-            print("design %d: %s" % (seed, one if isinstance(one, str) else other))
-            continue
-        nets += len(one["shapes"])
-        left = collections.Counter(s for s in one["shapes"] if s) - collections.Counter(other["shapes"])
-        if left:
-            bad += 1
-            print("design %d: only in the hierarchy: %s" % (seed, list(left)[:2]))
-    print("%d designs, %d nets: %d differ" % (len(both), nets, bad))
-    return bad
+def judged(read, prefix, case, total):
+    """What differs between a database as KLayout reads it and what it has to be."""
+    files = get(prefix, "gds", "lvs", "cir", "net", "rep", "lvsdb")
+    if isinstance(read, str):
+        return [read]
+    wrong = check_logs(files["lvsdb"], files["rep"])
+    told = read_report(files["rep"])
+    for number, pair in enumerate(told):
+        why = check_pair(read, pair, number)
+        if why:
+            wrong.append("pair %s %s %s" % tuple([bytes.fromhex(n).decode("latin-1") for n in pair["names"]] + [why]))
+    if not case.small:
+        return wrong + check_circuits(read, "J", files["net"], told, True) + check_circuits(read, "H", files["cir"], told, "lost" not in case.name)
+    right = wanted.Wanted(files, case.top.encode() if case.top else None)
+    wrong += check_rows(read, right)
+    if not wrong:
+        drawn, counts = wanted.differences(read, right)
+        wrong += drawn
+        total.update(dict(zip(("circuits", "nets", "devices"), counts)))
+    return wrong
 
 
 def main():
@@ -358,11 +334,30 @@ def main():
     parser.add_argument("view")
     parser.add_argument("lvs")
     parser.add_argument("--designs", nargs=2, type=int, default=(0, 0), metavar=("COUNT", "SEED"))
-    args = parser.parse_args()
-    with tempfile.TemporaryDirectory() as folder:
-        bad = known(args.view, args.lvs, folder)
-        if args.designs[0]:
-            bad += designs(args.view, folder, *args.designs)
+    parser.add_argument("--planted", action="store_true")
+    parser.add_argument("--keep")
+    given = parser.parse_args()
+    folder = given.keep or tempfile.mkdtemp()
+    os.makedirs(folder, exist_ok=True)
+    todo = [one for case in cases(given.lvs, folder) for one in with_errors(case)]
+    todo += list(planted(given.lvs, folder)) if given.planted else []
+    todo += list(designs(*given.designs)) if given.designs[0] else []
+    prefixes = [os.path.join(folder, "case%d" % k) for k in range(len(todo))]
+    wrong = [make(given.view, given.lvs, prefix, case) for prefix, case in zip(prefixes, todo)]
+    read = read_all(folder, [prefix + ".lvsdb" for prefix, w in zip(prefixes, wrong) if w == []])
+    total = collections.Counter()
+    for k, case in enumerate(todo):
+        if wrong[k] == []:
+            wrong[k] = judged(read.get(prefixes[k] + ".lvsdb", "not read"), prefixes[k], case, total)
+        if wrong[k] is None:
+            continue
+        if wrong[k] or not case.name.startswith("design"):
+            print("%-40s %s" % (case.name, "; ".join(wrong[k]) or "as it should be"), flush=True)
+    bad = sum(1 for w in wrong if w)
+    print("%d cases (%d refused), drawn %d circuits, %d nets, %d devices: %d differ"
+          % (len(todo), wrong.count(None), total["circuits"], total["nets"], total["devices"], bad))
+    if not given.keep:
+        shutil.rmtree(folder)
     sys.exit(1 if bad else 0)
 
 

@@ -5,11 +5,15 @@ def net_id(n, places)
   n ? (n.cluster_id > 0 ? n.cluster_id : places[n.name]).to_s : "-"
 end
 def id(x) x ? x.id.to_s : "-" end
+def box(b) b.empty? ? "-" : [b.left, b.bottom, b.right, b.top].join(",") end
+def rects(region)
+  region.decompose_trapezoids_to_region.each.map { |p| p.is_box? ? box(p.bbox) : "slanted" }.join(";")
+end
 def circuits(nl, side, all)
   nl.each_circuit do |c|
     k = 0
     places = all[c.name] = c.each_net.map { |n| [n.name, k += 1] }.to_h
-    puts "circuit #{side} #{hex(c.name)} #{side == "J" ? c.boundary.bbox.to_s : "-"}"
+    puts "circuit #{side} #{hex(c.name)} #{side == "J" ? box(c.boundary.bbox.to_itype($unit)) : "-"}"
     c.each_net { |n| puts "net #{net_id(n, places)} #{hex(n.name)}" }
     c.each_pin { |p| puts "pin #{p.id} #{hex(p.name)} #{net_id(c.net_for_pin(p.id), places)}" }
     c.each_device do |d|
@@ -19,24 +23,28 @@ def circuits(nl, side, all)
     c.each_subcircuit do |s|
       nets = []
       s.circuit_ref.each_pin { |p| nets << net_id(s.net_for_pin(p.id), places) }
-      puts "call #{s.id} #{hex(s.circuit_ref.name)} #{s.trans.to_s.gsub(" ", ";")} #{nets.join(" ")}"
+      t = s.trans
+      turn = "#{t.is_mirror? ? "m" : "r"},#{t.angle.round},#{(t.disp.x / $unit).round},#{(t.disp.y / $unit).round}"
+      puts "call #{s.id} #{hex(s.circuit_ref.name)} #{turn} #{nets.join(" ")}"
     end
   end
 end
-def shapes(l)
+# of each circuit the shapes of its nets with all calls below, and the regions of its devices
+def drawn(l)
   names = l.layer_names.select { |n| n != "" && n != "device regions" }.sort
-  top = l.netlist.each_circuit.to_a.last
-  return unless top
-  top.each_net do |n|
-    parts = names.map { |name| r = l.shapes_of_net(n, l.layer_by_name(name), true).merged; r.is_empty? ? nil : "#{name}:#{r.area}@#{r.bbox}".gsub(" ", "") }.compact
-    puts "shapes #{n.cluster_id} #{parts.join(" ")}"
-  end
-  regions = l.layer_by_name("device regions")
   l.netlist.each_circuit do |c|
+    puts "drawn #{hex(c.name)}"
+    c.each_net do |n|
+      parts = names.map { |name| [name, l.shapes_of_net(n, l.layer_by_name(name), true).merged] }.reject { |_, r| r.is_empty? }
+      puts "shapes #{n.cluster_id} #{parts.map { |name, r| "#{name}:#{rects(r)}" }.join(" ")}"
+    end
     c.each_device do |d|
       next unless d.device_abstract
-      box = l.internal_layout.cell(d.device_abstract.cell_index).bbox.to_dtype(l.internal_layout.dbu).transformed(d.trans)
-      puts "region #{hex(c.name)} #{d.id} #{box.to_itype(l.internal_layout.dbu)}".gsub(" ", " ")
+      cell = l.internal_layout.cell(d.device_abstract.cell_index)
+      region = RBA::Region::new
+      l.internal_layout.layer_indexes.each { |k| region += RBA::Region::new(cell.begin_shapes_rec(k)) }
+      x, y = (d.trans.disp.x / $unit).round, (d.trans.disp.y / $unit).round
+      puts "region #{d.id} #{rects(region.merged.moved(x, y))}"
     end
   end
 end
@@ -45,11 +53,12 @@ File.readlines($list).each do |line|
   begin
     l = RBA::LayoutVsSchematic::new
     l.read(db)
-    puts "database #{db} #{l.internal_layout.dbu}"
+    $unit = l.internal_layout.dbu
+    puts "database #{db} #{$unit}"
     left, right = {}, {}
     circuits(l.netlist, "J", left)
     circuits(l.reference, "H", right)
-    shapes(l)
+    drawn(l)
     x = l.xref
     x.each_circuit_pair do |p|
       puts "pair #{p.first ? hex(p.first.name) : "()"} #{p.second ? hex(p.second.name) : "()"} #{p.status}"
