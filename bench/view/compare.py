@@ -197,7 +197,8 @@ def same(shown, circuit, whole):
     """Whether a circuit is as a netlist has it; where nets that hold nothing may be dropped, its devices and what it calls."""
     if whole:
         return all(shown[word] == circuit[word] for word in circuit)
-    return [d[:3] for d in shown["devices"]] == [d[:3] for d in circuit["devices"]] and [c[0] for c in shown["calls"]] == [c[0] for c in circuit["calls"]]
+    return ([d[:3] for d in shown["devices"]] == [d[:3] for d in circuit["devices"]]
+            and [c[0] for c in shown["calls"]] == [c[0] for c in circuit["calls"]])
 
 
 def check_circuits(read, side, text, told, whole):
@@ -240,12 +241,10 @@ def check_rows(read, wanted_case):
     wrong = []
     rights = [right for _, right in wanted_case.pairs] if wanted_case.pairs else wanted_case.rights
     for side, circuits in (("J", wanted_case.lefts), ("H", rights)):
-        shown = {folded(key): key for key in read[side]}
-        names = [(wanted_case.shown(c) if side == "J" else c.name).hex() for c in circuits]
-        if sorted(map(folded, names)) != sorted(shown):
+        keys = [(wanted_case.shown(c) if side == "J" else c.name).hex() for c in circuits]
+        if sorted(keys) != sorted(read[side]):
             wrong.append("circuits of %s" % side)
             continue
-        keys = [shown[folded(name)] for name in names]
         for key, circuit in zip(keys, circuits):
             if not same(read[side][key], plain(circuit, lambda number: keys[number]), True):
                 wrong.append("circuit %s of %s" % (circuit.name.decode("latin-1"), side))
@@ -280,7 +279,9 @@ def check_logs(database, report):
     if not blocks:
         return []
     blocks[-1] += gates
-    return ["logs: %s for %s" % (a, b) for a, b in zip(found, blocks) if a != b] + (["logs of %d pairs for %d" % (len(found), len(blocks))] if len(found) != len(blocks) else [])
+    if len(found) != len(blocks):
+        return ["logs of %d pairs for %d" % (len(found), len(blocks))]
+    return ["logs: %s for %s" % (a, b) for a, b in zip(found, blocks) if a != b]
 
 
 def read_all(folder, databases):
