@@ -17,6 +17,13 @@ const FEW: usize = 256;
 // A sweep whose strips cross more edges than this, for each edge that there is, is cut.
 const LONG_ROW: u64 = 128;
 
+// An upright line is chosen across the shorter side where it cuts less than one in so many of what
+// the level line cuts.
+const FAR_FEWER: usize = 8;
+
+// Spreads numbers over 64 bits.
+const MIX: u64 = 0x9E37_79B9_7F4A_7C15;
+
 /// The edges of either side of a line.
 #[derive(Drop)]
 pub struct Sides {
@@ -80,12 +87,23 @@ impl Plane {
         count
     }
 
-    // Along the longer side, where both ways are free.
-    fn axis(&self, ways: Ways) -> Axis {
-        match ways {
-            Ways::Both if self.y2.abs_diff(self.y1) <= self.x2.abs_diff(self.x1) => Axis::X,
-            _ => Axis::Y,
+    // Along the longer side, where both ways are free, unless an upright line cuts far fewer.
+    fn axis(&self, alloc: Global, edges: &[Edge], ways: Ways) -> Result<Axis, AllocError> {
+        if let Ways::Level = ways {
+            return Ok(Axis::Y);
         }
+        if self.y2.abs_diff(self.y1) <= self.x2.abs_diff(self.x1) {
+            return Ok(Axis::X);
+        }
+        let (Some(upright), Some(level)) = (self.middle(Axis::X), self.middle(Axis::Y)) else {
+            return Ok(Axis::Y);
+        };
+        let cut = count_crossing(edges, level.at);
+        let sides = level_sides_at(alloc, edges, upright.at, cut)?;
+        if sides.saturating_mul(FAR_FEWER) < cut {
+            return Ok(Axis::X);
+        }
+        Ok(Axis::Y)
     }
 
     // The line through the middle.
@@ -106,17 +124,63 @@ impl Plane {
     }
 }
 
+// How many edges a level line cuts.
+fn count_crossing(edges: &[Edge], y: i64) -> usize {
+    let mut count = 0usize;
+    for edge in edges {
+        if edge.y1 < y && y < edge.y2 {
+            count = count.saturating_add(1);
+        }
+    }
+    count
+}
+
+// Adds an end of an edge to one of some sums, so that the ends of a level side cancel.
+fn add_end(sums: &mut Vec<i64>, y: i64, weight: i64) {
+    let mixed = y.abs_diff(i64::MIN).wrapping_mul(MIX);
+    let place = (mixed >> 32).checked_rem(sums.len() as u64).unwrap_or(0);
+    let value = i64::try_from(mixed >> 1).unwrap_or(i64::MAX);
+    if let Some(sum) = sums.get_mut(place as usize) {
+        *sum = sum.wrapping_add(weight.wrapping_mul(value));
+    }
+}
+
+// About how many level sides cross an upright line, from the sums of so many groups of ends.
+fn level_sides_at(
+    alloc: Global,
+    edges: &[Edge],
+    x: i64,
+    groups: usize,
+) -> Result<usize, AllocError> {
+    let mut sums = vec![in alloc; 0i64; groups]?;
+    for edge in edges {
+        if edge.x < x {
+            let weight = i64::from(edge.first).wrapping_add(i64::from(edge.second) << 32);
+            add_end(&mut sums, edge.y1, weight);
+            add_end(&mut sums, edge.y2, weight.wrapping_neg());
+        }
+    }
+    let mut count = 0usize;
+    for sum in &sums {
+        if *sum != 0 {
+            count = count.saturating_add(1);
+        }
+    }
+    Ok(count)
+}
+
 /// A line to cut edges by, where that makes their sweep shorter. Linear.
-pub fn line_of(edges: &[Edge], ways: Ways) -> Option<Cut> {
+pub fn line_of(alloc: Global, edges: &[Edge], ways: Ways) -> Result<Option<Cut>, AllocError> {
     if edges.len() < FEW {
-        return None;
+        return Ok(None);
     }
     let plane = Plane::of(edges);
     let steps = plane.ends(edges).saturating_mul(plane.row());
     if steps <= LONG_ROW.saturating_mul(edges.len() as u64) {
-        return None;
+        return Ok(None);
     }
-    plane.middle(plane.axis(ways))
+    let axis = plane.axis(alloc, edges, ways)?;
+    Ok(plane.middle(axis))
 }
 
 // Adds the part of an edge below a level line.

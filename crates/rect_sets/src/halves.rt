@@ -79,7 +79,7 @@ fn blocks_by(
     if depth == 0 {
         return blocks(alloc, edges, rule);
     }
-    let Some(cut) = line_of(&edges, ways) else {
+    let Some(cut) = line_of(alloc, &edges, ways)? else {
         return blocks(alloc, edges, rule);
     };
     let Some(Sides { low, high }) = sides_of(alloc, &edges, &cut)? else {
