@@ -1,1 +1,3 @@
 mod Alone
+mod Nodes
+mod Lone

@@ -1,6 +1,7 @@
 -- The rows of a pair of circuits: each node with its partner, or each alone.
 use Rattle.std.specs.Prelude.{ℕ, zero, suc, ◌+◌, ◌==◌, List, [], ◌∷◌, ◌++◌, Some, None, get_or}
 use Rattle.std.specs.List.{position_or_len}
+use Rattle.view_cross.specs.declared.matched.Counts.{Counts}
 use Rattle.view_cross.specs.declared.rows.Kind.{Kind}
 use Rattle.view_cross.specs.declared.rows.Kind.TheVariants.{Net, Pin, Device, Call}
 use Rattle.view_cross.specs.declared.rows.Mark.TheVariants.{Matched, Mismatched}
@@ -44,3 +45,12 @@ right_alone kind k = record { kind = kind; left = None; right = Some k; mark = M
 abbrev pub lone_rows : (ℕ → Row) → ℕ → ℕ → List Row
 lone_rows row k zero = []
 lone_rows row k (suc n) = row k ∷ lone_rows row (k + 1) n
+
+-- so many left and so many right nodes of a kind, each alone
+abbrev pub lone_of : Kind → ℕ → ℕ → List Row
+lone_of kind n m = lone_rows (left_alone kind) 0 n ++ lone_rows (right_alone kind) 0 m
+
+-- all nodes of two circuits, each alone
+abbrev pub apart_rows : Counts → Counts → List Row
+apart_rows a b = lone_of Net a.nets b.nets ++ (lone_of Pin a.pins b.pins
+    ++ (lone_of Device a.devices b.devices ++ lone_of Call a.calls b.calls))

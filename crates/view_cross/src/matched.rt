@@ -1,8 +1,9 @@
 //! The rows of a pair of circuits.
 
 ghost use Rattle.std.specs.Prelude.{◌≡◌, ◌++◌, ◌∷◌, [], OnOk, IfOk};
-ghost use Rattle.view_cross.specs.Matched.{left_alone, lone_rows, matched_rows, partner_rows};
-ghost use Rattle.view_cross.specs.Matched.{partners, pin_on, pin_row, pin_rows, right_alone};
+ghost use Rattle.view_cross.specs.Matched.{apart_rows, left_alone, lone_of, matched_rows};
+ghost use Rattle.view_cross.specs.Matched.{partner_rows, partners, pin_on, pin_row, pin_rows};
+ghost use Rattle.view_cross.specs.Matched.{right_alone};
 
 use crate::rows::{Kind, Mark, Row};
 use list_base::number;
@@ -90,9 +91,9 @@ fn push_pins(
     Ok(())
 }
 
-/// The rows of a pair that matches: `nets`, `devices` and `calls` have the right number of each left
-/// one, `lefts` and `rights` the nets at the pins. Linear in these, but for the pins: for each left
-/// one the right ones are gone through. An `Err` is want of memory, or 2^32 of a kind.
+/// The rows of a pair that matches: `nets`, `devices` and `calls` have the right number of each
+/// left one, `lefts` and `rights` the nets at the pins. Linear in these, but for the pins: for each
+/// left one the right ones are gone through. An `Err` is want of memory, or 2^32 of a kind.
 pub fn matched_rows(
     alloc: Global,
     nets: &[u32],
@@ -134,11 +135,10 @@ fn right_alone(kind: Kind, k: u32) -> Row
     }
 }
 
-/// Adds a row for each of so many left nodes of a kind, and then for each of so many right ones,
-/// all alone.
-pub fn push_alone(out: &mut Vec<Row>, kind: Kind, lefts: u32, rights: u32) -> Result<(), AllocError>
-    ensures { OnOk result (out.new.items ≡ out.old.items
-        ++ (lone_rows (left_alone kind) 0 lefts ++ lone_rows (right_alone kind) 0 rights)) }
+// Adds a row for each of so many left nodes of a kind, and then for each of so many right ones,
+// all alone.
+fn push_alone(out: &mut Vec<Row>, kind: Kind, lefts: u32, rights: u32) -> Result<(), AllocError>
+    ensures { OnOk result (out.new.items ≡ out.old.items ++ lone_of kind lefts rights) }
 {
     'lefts: for k in 0..lefts {
         out.push(left_alone(kind, k))?;
@@ -147,4 +147,25 @@ pub fn push_alone(out: &mut Vec<Row>, kind: Kind, lefts: u32, rights: u32) -> Re
         out.push(right_alone(kind, k))?;
     }
     Ok(())
+}
+
+/// How many nodes of each kind a circuit has.
+#[derive(Clone, Copy, Debug, PartialEq, Eq)]
+pub struct Counts {
+    pub nets: u32,
+    pub pins: u32,
+    pub devices: u32,
+    pub calls: u32,
+}
+
+/// The rows of two circuits of so many nodes, each alone. Linear in these.
+pub fn apart_rows(alloc: Global, a: Counts, b: Counts) -> Result<Vec<Row>, AllocError>
+    ensures { IfOk result (λ rows. rows.items ≡ apart_rows a b) }
+{
+    let mut rows = Vec::new(alloc);
+    push_alone(&mut rows, Kind::Net, a.nets, b.nets)?;
+    push_alone(&mut rows, Kind::Pin, a.pins, b.pins)?;
+    push_alone(&mut rows, Kind::Device, a.devices, b.devices)?;
+    push_alone(&mut rows, Kind::Call, a.calls, b.calls)?;
+    Ok(rows)
 }

@@ -26,7 +26,8 @@ fn push_line(out: &mut Vec<u8>, line: &[u8]) -> Result<(), AllocError>
 }
 
 fn push_lines(out: &mut Vec<u8>, lines: &[Vec<u8>]) -> Result<(), AllocError>
-    ensures { OnOk result (out.new.items ≡ out.old.items ++ line_texts (map (λ line. line.items) lines.now)) }
+    ensures { OnOk result (out.new.items ≡ out.old.items
+        ++ line_texts (map (λ line. line.items) lines.now)) }
 {
     let mut rest = lines;
     'lines: while let [line, more @ ..] = rest {
@@ -37,7 +38,8 @@ fn push_lines(out: &mut Vec<u8>, lines: &[Vec<u8>]) -> Result<(), AllocError>
 }
 
 fn push_log(out: &mut Vec<u8>, lines: &[Vec<u8>]) -> Result<(), AllocError>
-    ensures { OnOk result (out.new.items ≡ out.old.items ++ log_text (map (λ line. line.items) lines.now)) }
+    ensures { OnOk result (out.new.items ≡ out.old.items
+        ++ log_text (map (λ line. line.items) lines.now)) }
 {
     match lines {
         [] => Ok(()),

@@ -1,8 +1,8 @@
 //! Rows of nodes and their partners.
 
 ghost use Rattle.std.specs.Prelude.{◌≡◌, ◌++◌, OnOk};
-ghost use Rattle.view_cross.specs.Rows.{first_number, kind_letter, mark_letter, row_text, row_texts};
-ghost use Rattle.view_cross.specs.Rows.{side_text};
+ghost use Rattle.view_cross.specs.Rows.{first_number, kind_letter, mark_letter, row_text};
+ghost use Rattle.view_cross.specs.Rows.{row_texts, side_text};
 
 use std::alloc::{AllocError, Global};
 

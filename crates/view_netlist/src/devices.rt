@@ -1,18 +1,17 @@
-//! Devices: sizes in micrometres, and the nets of their terminals.
+//! Devices: places, sizes in micrometres, and the nets of their terminals.
 
-ghost use Rattle.std.specs.Prelude.{◌≡◌, ◌++◌, ◌∷◌, OnOk, codes};
+ghost use Rattle.std.specs.Prelude.{◌≡◌, ◌++◌, ◌∷◌, OnOk, codes, slice_get};
 ghost use Rattle.net_model.specs.Rows.{plain_device};
 ghost use Rattle.spice_text.specs.Written.{Adds};
 ghost use Rattle.view_netlist.specs.Circuits.{IsDeviceText, device_text};
 ghost use Rattle.view_netlist.specs.Rows.{device_end, place_text, size_text, terminal_text};
 ghost use Rattle.view_netlist.specs.Rows.{terminal_texts};
-ghost use Rattle.view_words.specs.Words.{word};
 
+use crate::drawing::{DevicePlace, push_kind};
 use crate::rows::push_place;
 use fixed_num::micron_text;
 use net_model::DeviceRow;
 use std::alloc::{AllocError, Global};
-use view_words::push_word;
 
 fn push_size(out: &mut Vec<u8>, letter: u8, size: &[u8]) -> Result<(), AllocError>
     ensures { OnOk result (out.new.items ≡ out.old.items ++ size_text letter size.now) }
@@ -66,29 +65,41 @@ fn push_row(
     k: u32,
     length: &[u8],
     width: &[u8],
+    place: Option<DevicePlace>,
     d: &DeviceRow,
 ) -> Result<(), AllocError>
     ensures { OnOk result (out.new.items ≡ out.old.items
-        ++ device_text k length.now width.now (plain_device d.now)) }
+        ++ device_text k length.now width.now place (plain_device d.now)) }
 {
     out.extend_from_slice(b"\n  D(")?;
     push_place(alloc, out, k)?;
     out.push(b' ')?;
-    push_word(out, d.class.bytes())?;
+    push_kind(alloc, out, d.class.bytes(), place)?;
     push_end(alloc, out, length, width, d)
 }
 
-/// Appends the row of a device without a place.
+// The place of a number; none past the last.
+fn place_at(places: &[DevicePlace], k: u32) -> Option<DevicePlace>
+    ensures { result ≡ slice_get places.now k }
+{
+    match places.get(k as usize) {
+        Some(place) => Some(*place),
+        None => None,
+    }
+}
+
+/// Appends the row of a device, with its place among these, if it has one.
 pub fn push_device(
     alloc: Global,
     out: &mut Vec<u8>,
+    places: &[DevicePlace],
     k: u32,
     d: &DeviceRow,
 ) -> Result<(), AllocError>
-    ensures { OnOk result
-        (Adds (IsDeviceText k (plain_device d.now)) out.old.items out.new.items) }
+    ensures { OnOk result (Adds (IsDeviceText places.now k (plain_device d.now))
+        out.old.items out.new.items) }
 {
     let length = micron_text(alloc, d.length)?;
     let width = micron_text(alloc, d.width)?;
-    push_row(alloc, out, k, &length, &width, d)
+    push_row(alloc, out, k, &length, &width, place_at(places, k), d)
 }

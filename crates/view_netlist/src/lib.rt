@@ -2,9 +2,14 @@
 #![tactic(auto)]
 
 mod circuits;
+mod classes;
 mod devices;
+mod drawing;
 mod rows;
+mod section;
 
 pub use circuits::push_circuits;
-pub use devices::push_device;
-pub use rows::{push_call_pins, push_name_of, push_pins, push_place};
+pub use classes::{push_classes, used_classes};
+pub use drawing::{DevicePlace, Drawing, Names, Shape, push_region};
+pub use rows::name_at;
+pub use section::push_schematic;

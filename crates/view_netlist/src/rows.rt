@@ -19,14 +19,21 @@ pub fn push_place(alloc: Global, out: &mut Vec<u8>, k: u32) -> Result<(), AllocE
     out.extend_from_slice(&digits)
 }
 
-/// Appends the word of the name of a number; past the last it is empty.
+/// The name of a number; past the last it is empty.
+pub fn name_at(names: &[Name], n: u32) -> &[u8]
+    ensures { result.now ≡ get_or names.now n [] }
+{
+    match names.get(n as usize) {
+        Some(name) => name.bytes(),
+        None => &[],
+    }
+}
+
+/// Appends the word of the name of a number.
 pub fn push_word_of(out: &mut Vec<u8>, names: &[Name], n: u32) -> Result<(), AllocError>
     ensures { OnOk result (out.new.items ≡ out.old.items ++ word (get_or names.now n [])) }
 {
-    match names.get(n as usize) {
-        Some(name) => push_word(out, name.bytes()),
-        None => push_word(out, b""),
-    }
+    push_word(out, name_at(names, n))
 }
 
 /// Appends the name of a net, by its number.

@@ -11,8 +11,8 @@ use crate::words::push_word;
 use geo_base::{Point, Rect};
 use std::alloc::{AllocError, Global};
 
-// A rectangle as the reader takes it: the step from a corner to its lower left corner, its width and
-// its height.
+// A rectangle as the reader takes it: the step from a corner to its lower left corner, its width
+// and its height.
 #[derive(Clone, Copy, Debug, PartialEq, Eq)]
 struct Step {
     dx: i64,

@@ -5,7 +5,7 @@ use Rattle.view_netlist.proofs.circuits.push_calls.Given as goal
 
 abbrev pub invariant-calls : goal.invariant-calls
 invariant-calls l =
-    (l.out.items ++ call_texts l.circuits l.k (map plain_call l.rest) ≡ l.initial.out.items ++ call_texts l.circuits 0 (map plain_call l.calls))
+    (l.out.items ++ call_texts l.circuits l.motions l.k (map plain_call l.rest) ≡ l.initial.out.items ++ call_texts l.circuits l.motions 0 (map plain_call l.calls))
     × (l.k + length l.rest ≡ length l.calls)
 
 abbrev pub decreases-calls : goal.decreases-calls

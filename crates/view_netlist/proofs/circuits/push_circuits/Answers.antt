@@ -7,11 +7,11 @@ use Rattle.view_netlist.specs.Circuits.{IsNumberText}
 use Rattle.view_netlist.proofs.circuits.push_circuits.Goals as goal
 
 pub circuits-init : goal.circuits-init
-circuits-init c = start (AreOneByOne (IsNumberText c.args.names.now (map plain_circuit c.args.circuits.now)) c.args.order.now) c.args.out.now.items
+circuits-init c = start (AreOneByOne (IsNumberText c.args.names.now c.args.drawings.now (map plain_circuit c.args.circuits.now)) c.args.order.now) c.args.out.now.items
 
 pub circuits-preserved : goal.circuits-preserved
 circuits-preserved c =
-    let P = IsNumberText c.args.names.now (map plain_circuit c.args.circuits.now) in
+    let P = IsNumberText c.args.names.now c.args.drawings.now (map plain_circuit c.args.circuits.now) in
     let order = c.args.order.now in
     let whole = AreOneByOne P order in
     let i = c.circuits.i in
@@ -21,7 +21,7 @@ circuits-preserved c =
 
 pub returns : goal.returns
 returns c =
-    let P = IsNumberText c.args.names.now (map plain_circuit c.args.circuits.now) in
+    let P = IsNumberText c.args.names.now c.args.drawings.now (map plain_circuit c.args.circuits.now) in
     let order = c.args.order.now in
     let whole = AreOneByOne P order in
     done (AreOneByOne P []) whole c.args.out.now.items c.circuits.out.items refl

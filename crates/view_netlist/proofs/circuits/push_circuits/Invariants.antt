@@ -5,4 +5,4 @@ use Rattle.view_netlist.specs.Circuits.{IsNumberText}
 use Rattle.view_netlist.proofs.circuits.push_circuits.Given as goal
 
 abbrev pub invariant-circuits : goal.invariant-circuits
-invariant-circuits l = HasWritten (AreOneByOne (IsNumberText l.names (map plain_circuit l.circuits)) (drop l.i l.order)) (AreOneByOne (IsNumberText l.names (map plain_circuit l.circuits)) l.order) l.initial.out.items l.out.items
+invariant-circuits l = HasWritten (AreOneByOne (IsNumberText l.names l.drawings (map plain_circuit l.circuits)) (drop l.i l.order)) (AreOneByOne (IsNumberText l.names l.drawings (map plain_circuit l.circuits)) l.order) l.initial.out.items l.out.items
