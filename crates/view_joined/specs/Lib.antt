@@ -1,3 +1,4 @@
 pub mod Moved
 pub mod Spots
 pub mod Nets
+pub mod Paths

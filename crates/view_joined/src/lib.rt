@@ -2,10 +2,12 @@
 //! moved along the path of its calls.
 #![tactic(auto)]
 
+mod laws;
 mod moved;
 mod nets;
 mod spots;
 
+pub use laws::motion_laws;
 pub use moved::moved_area;
 pub use nets::joined_nets;
 pub use spots::{joined_calls, spot_motions};
