@@ -1,5 +1,5 @@
 -- Motions of spots and of calls, one after the other.
-use Rattle.std.proofs.Common.{◌≡◌, List, [], ◌∷◌, ◌++◌, subst, sym, append_assoc, append-nil}
+use Rattle.std.proofs.Common.{List, [], ◌∷◌, ◌++◌, subst, sym, append_assoc, append-nil}
 use Rattle.geo_base.specs.declared.motion.Motion.{Motion}
 use Rattle.part_origins.specs.Inside.{PlainSpot}
 use Rattle.part_origins.specs.declared.inside.Part.{Part}

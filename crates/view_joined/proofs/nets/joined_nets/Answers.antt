@@ -1,4 +1,4 @@
-use Rattle.std.proofs.Common.{◌≡◌, List, ap, ◌∙◌, map}
+use Rattle.std.proofs.Common.{List, ap, ◌∙◌, map}
 use Rattle.part_origins.specs.Inside.{plain_spot}
 use Rattle.view_netlist.specs.declared.drawing.Shape.{Shape}
 use Rattle.view_joined.specs.Nets.{all_put}

@@ -1,4 +1,4 @@
-use Rattle.std.proofs.Common.{◌≡◌, [], List}
+use Rattle.std.proofs.Common.{◌≡◌, []}
 use Rattle.std.specs.Prelude.{replicate}
 use Rattle.view_joined.specs.Nets.{shape_lists}
 use Rattle.view_joined.proofs.nets.no_lists.Given as goal

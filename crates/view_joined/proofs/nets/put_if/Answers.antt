@@ -1,4 +1,4 @@
-use Rattle.std.proofs.Common.{◌≡◌, ℕ, Option, Some, ◌<◌, ◌≤◌, ◌++◌, List, map, length, sym, ap, ◌∙◌, arith, rules}
+use Rattle.std.proofs.Common.{ℕ, Option, ◌<◌, ◌≤◌, ◌++◌, map, length, sym, ap, ◌∙◌, arith, rules}
 use Rattle.std.specs.Global.{Vec}
 use Rattle.std.proofs.lemmas.List.{length-map}
 use Rattle.view_netlist.specs.declared.drawing.Shape.{Shape}
