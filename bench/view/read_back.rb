@@ -1,42 +1,65 @@
-# klayout -b -r read_back.rb -rd db=FILE: what KLayout reads of a database, line by line
-l = RBA::LayoutVsSchematic::new
-l.read($db)
-names = l.layer_names.select { |n| n != "" }
-def show(nl, kind, l, names)
+# klayout -b -r read_back.rb -rd list=FILE: what KLayout reads of the databases of the list, a row of words each; names in hexadecimal
+def hex(name) name == "" ? "-" : name.unpack1("H*") end
+# a net's number: of the layout its own; of the schematic, whose nets have different names, its place
+def net_id(n, places)
+  n ? (n.cluster_id > 0 ? n.cluster_id : places[n.name]).to_s : "-"
+end
+def id(x) x ? x.id.to_s : "-" end
+def circuits(nl, side, all)
   nl.each_circuit do |c|
-    puts "#{kind} circuit #{c.name} box #{c.respond_to?(:boundary) ? c.boundary : ''}"
-    c.each_net do |n|
-      line = " net #{n.cluster_id rescue ''} #{n.expanded_name.inspect}"
-      if kind == "J"
-        names.each do |name|
-          r = l.shapes_of_net(n, l.layer_by_name(name), true).merged
-          line += " #{name}:#{r.area}@#{r.bbox}" unless r.is_empty?
-        end
-      end
-      puts line
-    end
-    c.each_pin { |p| n = c.net_for_pin(p.id); puts " pin #{p.id} #{p.name.inspect} on #{n ? n.expanded_name.inspect : '-'}" }
+    k = 0
+    places = all[c.name] = c.each_net.map { |n| [n.name, k += 1] }.to_h
+    puts "circuit #{side} #{hex(c.name)} #{side == "J" ? c.boundary.bbox.to_s : "-"}"
+    c.each_net { |n| puts "net #{net_id(n, places)} #{hex(n.name)}" }
+    c.each_pin { |p| puts "pin #{p.id} #{hex(p.name)} #{net_id(c.net_for_pin(p.id), places)}" }
     c.each_device do |d|
-      t = d.device_class.terminal_definitions.map { |x| n = d.net_for_terminal(x.id); "#{x.name}=#{n ? n.expanded_name : '-'}" }
-      a = d.device_abstract ? l.internal_layout.cell(d.device_abstract.cell_index).bbox.transformed(RBA::CplxTrans::new(l.internal_layout.dbu).inverted * d.trans * RBA::CplxTrans::new(l.internal_layout.dbu)).to_s : ""
-      puts " device #{d.id} #{d.device_class.name} L=#{d.parameter('L')} W=#{d.parameter('W')} #{t.join(' ')} #{a}"
+      nets = d.device_class.terminal_definitions.map { |t| net_id(d.net_for_terminal(t.id), places) }
+      puts "device #{d.id} #{hex(d.device_class.name)} #{d.parameter("L")} #{d.parameter("W")} #{nets.join(" ")}"
     end
     c.each_subcircuit do |s|
-      pins = []
-      s.circuit_ref.each_pin { |p| n = s.net_for_pin(p.id); pins << "#{p.id}=#{n ? n.expanded_name : '-'}" }
-      puts " call #{s.id} #{s.circuit_ref.name} #{s.trans} #{pins.join(' ')}"
+      nets = []
+      s.circuit_ref.each_pin { |p| nets << net_id(s.net_for_pin(p.id), places) }
+      puts "call #{s.id} #{hex(s.circuit_ref.name)} #{s.trans.to_s.gsub(" ", ";")} #{nets.join(" ")}"
     end
   end
 end
-puts "top #{l.internal_layout.top_cell ? l.internal_layout.top_cell.name : '-'} dbu #{l.internal_layout.dbu}"
-show(l.netlist, "J", l, names)
-show(l.reference, "H", l, names)
-x = l.xref
-def side(v, circuit = nil) v ? (v.respond_to?(:expanded_name) ? v.expanded_name : (v.respond_to?(:name) ? (v.name != "" ? v.name : v.id.to_s) : v.id.to_s)) : "()" end
-x.each_circuit_pair do |p|
-  puts "Z #{side(p.first)} #{side(p.second)} #{p.status}"
-  x.each_net_pair(p) { |q| puts " N #{side(q.first)} #{side(q.second)} #{q.status}" }
-  x.each_pin_pair(p) { |q| puts " P #{side(q.first)} #{side(q.second)} #{q.status}" }
-  x.each_device_pair(p) { |q| puts " D #{q.first ? q.first.id : '()'} #{q.second ? q.second.id : '()'} #{q.status}" }
-  x.each_subcircuit_pair(p) { |q| puts " X #{q.first ? q.first.id : '()'} #{q.second ? q.second.id : '()'} #{q.status}" }
+def shapes(l)
+  names = l.layer_names.select { |n| n != "" && n != "device regions" }.sort
+  top = l.netlist.each_circuit.to_a.last
+  return unless top
+  top.each_net do |n|
+    parts = names.map { |name| r = l.shapes_of_net(n, l.layer_by_name(name), true).merged; r.is_empty? ? nil : "#{name}:#{r.area}@#{r.bbox}".gsub(" ", "") }.compact
+    puts "shapes #{n.cluster_id} #{parts.join(" ")}"
+  end
+  regions = l.layer_by_name("device regions")
+  l.netlist.each_circuit do |c|
+    c.each_device do |d|
+      next unless d.device_abstract
+      box = l.internal_layout.cell(d.device_abstract.cell_index).bbox.to_dtype(l.internal_layout.dbu).transformed(d.trans)
+      puts "region #{hex(c.name)} #{d.id} #{box.to_itype(l.internal_layout.dbu)}".gsub(" ", " ")
+    end
+  end
+end
+File.readlines($list).each do |line|
+  db = line.strip
+  begin
+    l = RBA::LayoutVsSchematic::new
+    l.read(db)
+    puts "database #{db} #{l.internal_layout.dbu}"
+    left, right = {}, {}
+    circuits(l.netlist, "J", left)
+    circuits(l.reference, "H", right)
+    shapes(l)
+    x = l.xref
+    x.each_circuit_pair do |p|
+      puts "pair #{p.first ? hex(p.first.name) : "()"} #{p.second ? hex(p.second.name) : "()"} #{p.status}"
+      a, b = p.first && left[p.first.name], p.second && right[p.second.name]
+      x.each_net_pair(p) { |q| puts "N #{net_id(q.first, a)} #{net_id(q.second, b)} #{q.status}" }
+      x.each_pin_pair(p) { |q| puts "P #{id(q.first)} #{id(q.second)} #{q.status}" }
+      x.each_device_pair(p) { |q| puts "D #{id(q.first)} #{id(q.second)} #{q.status}" }
+      x.each_subcircuit_pair(p) { |q| puts "X #{id(q.first)} #{id(q.second)} #{q.status}" }
+    end
+  rescue => e
+    puts "failed #{db} #{e.message.gsub("\n", " ")}"
+  end
 end
