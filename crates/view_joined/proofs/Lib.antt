@@ -1,3 +1,4 @@
 pub mod Motions
 pub mod Put
 pub mod Paths
+pub mod Growing

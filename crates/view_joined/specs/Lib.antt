@@ -2,3 +2,4 @@ pub mod Moved
 pub mod Spots
 pub mod Nets
 pub mod Paths
+pub mod Devices

@@ -2,11 +2,13 @@
 //! moved along the path of its calls.
 #![tactic(auto)]
 
+mod devices;
 mod laws;
 mod moved;
 mod nets;
 mod spots;
 
+pub use devices::joined_devices;
 pub use laws::motion_laws;
 pub use moved::moved_area;
 pub use nets::joined_nets;

@@ -76,7 +76,8 @@ pub fn push_moved(out: &mut Vec<Shape>, motion: &Motion, shapes: &[Shape]) -> Re
     Ok(())
 }
 
-fn is_small_point(p: Point) -> bool
+/// Whether both coordinates are less than 2^30 from the origin.
+pub fn is_small_point(p: Point) -> bool
     ensures x { result ≡ true → IsSmall p.x }
     ensures y { result ≡ true → IsSmall p.y }
 {

@@ -34,8 +34,8 @@ pub fn motion_at(motions: &[Motion], i: u32) -> Motion
     }
 }
 
-// The circuit of a spot, 0 past the last.
-fn circuit_at(spots: &[Spot], i: u32) -> u32
+/// The circuit of a spot, 0 past the last.
+pub fn circuit_at(spots: &[Spot], i: u32) -> u32
     ensures { result ≡ circuit_at (map plain_spot spots.now) i }
 {
     match spots.get(i as usize) {
