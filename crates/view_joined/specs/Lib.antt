@@ -3,3 +3,4 @@ pub mod Spots
 pub mod Nets
 pub mod Paths
 pub mod Devices
+pub mod Joined

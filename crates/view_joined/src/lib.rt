@@ -3,12 +3,14 @@
 #![tactic(auto)]
 
 mod devices;
+mod drawing;
 mod laws;
 mod moved;
 mod nets;
 mod spots;
 
 pub use devices::joined_devices;
+pub use drawing::joined_drawing;
 pub use laws::motion_laws;
 pub use moved::moved_area;
 pub use nets::joined_nets;
