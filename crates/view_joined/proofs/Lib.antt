@@ -2,3 +2,4 @@ pub mod Motions
 pub mod Put
 pub mod Paths
 pub mod Growing
+pub mod Covered

@@ -4,3 +4,4 @@ pub mod Nets
 pub mod Paths
 pub mod Devices
 pub mod Joined
+pub mod Covered

@@ -11,7 +11,7 @@ mod spots;
 
 pub use devices::joined_devices;
 pub use drawing::joined_drawing;
-pub use laws::motion_laws;
+pub use laws::joined_laws;
 pub use moved::moved_area;
 pub use nets::joined_nets;
 pub use spots::{joined_calls, spot_motions};
