@@ -84,7 +84,7 @@ fn push_pair(
 }
 
 /// What the page is made from: the unit in picometres, the names of the layout's cells, those of
-/// the schematic's circuits, the circuits of both sides by pair, the places of the left ones' nodes.
+/// the schematic's circuits, the circuits of both sides by pair, the places of the left nodes.
 #[derive(Clone, Copy)]
 struct Book<'a> {
     unit: u32,

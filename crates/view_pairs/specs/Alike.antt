@@ -29,8 +29,8 @@ same_class d e = bytes_eq d.class e.class
 abbrev pub same_pair : CallRow → CallRow → Bool
 same_pair c e = c.circuit == e.circuit
 
--- nets: both pins or both not; pins: on nets that are partners; devices: of one class; calls: of one
--- pair
+-- nets: both pins or both not; pins: on nets that are partners; devices: of one class; calls: of
+-- one pair
 abbrev pub is_alike : Circuit → Circuit → Partners → Kind → ℕ → ℕ → Bool
 is_alike a b nets Net k m = beq (get_or (pin_marks a) k false) (get_or (pin_marks b) m false)
 is_alike a b nets Pin k m = both (meets nets) (slice_get a.pins k) (slice_get b.pins m)

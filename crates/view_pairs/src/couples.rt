@@ -37,8 +37,8 @@ fn alike_couples(
     Ok(found)
 }
 
-/// The partners among so many nodes of a kind, the nets having these: of the couples that are of one
-/// kind, in order, each whose nodes have no partner yet. Linear.
+/// The partners among so many nodes of a kind, the nets having these: of the couples that are of
+/// one kind, in order, each whose nodes have no partner yet. Linear.
 pub fn partners_of(
     alloc: Global,
     sides: &Sides<'_>,

@@ -16,8 +16,8 @@ pub struct End {
     pub other: u32,
 }
 
-/// The nodes of both circuits: of the left one the nets, the transistors, the calls, by number, then
-/// of the right one. Each has its ends, and the number of its kind.
+/// The nodes of both circuits: of the left one the nets, the transistors, the calls, by number,
+/// then of the right one. Each has its ends, and the number of its kind.
 #[derive(Drop)]
 pub struct Graph {
     pub left: Sizes,

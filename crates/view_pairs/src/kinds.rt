@@ -1,5 +1,5 @@
-//! What nodes look like at the start: a net by being a pin, a transistor by its class, a call by its
-//! pair.
+//! What nodes look like at the start: a net by being a pin, a transistor by its class, a call by
+//! its pair.
 
 use crate::alike::Sides;
 use net_model::{CallRow, DeviceRow};

@@ -1,5 +1,5 @@
 //! A proposal of partners for the nodes of two circuits, for show: which net, transistor or call of
-//! the schematic a person would take for one of the layout. What is sure is the comparison's answer.
+//! the schematic a person would take for one of the layout. Sure is only the comparison's answer.
 #![tactic(auto)]
 
 mod alike;

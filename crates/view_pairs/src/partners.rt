@@ -1,7 +1,7 @@
 //! Partners of the nodes of one kind.
 
-ghost use Rattle.std.specs.Prelude.{◌≡◌, ◌⊎◌, true, false, IfOk, length, slice_get, slice_set, Some};
-ghost use Rattle.std.specs.Prelude.{None, replicate};
+ghost use Rattle.std.specs.Prelude.{◌≡◌, ◌⊎◌, true, false, IfOk, length, slice_get, slice_set};
+ghost use Rattle.std.specs.Prelude.{None, Some, replicate};
 ghost use Rattle.view_pairs.specs.Partners.{ArePartners, HaveAll, IsClaimed, free_from, meets};
 ghost use Rattle.view_pairs.specs.Partners.{partner_in};
 

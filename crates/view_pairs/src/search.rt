@@ -149,8 +149,8 @@ impl Search {
         Ok(keys)
     }
 
-    // One repetition: partners by colours, by equal ends, and where just two are left; whether there
-    // were some.
+    // One repetition: partners by colours, by equal ends, and where just two are left; whether
+    // there were some.
     fn repeat(&mut self, alloc: Global) -> Result<bool, AllocError> {
         let colours = self.colours(alloc)?;
         let mut lone = self.coloured(alloc, &colours, false)?;
