@@ -14,8 +14,9 @@ import gds  # noqa: E402
 class Trials:
     """Runs the program in one folder, and counts what was tried and what differed."""
 
-    def __init__(self, program, turner, folder):
-        self.program, self.turner, self.folder, self.tried, self.differed = program, turner, folder, 0, []
+    def __init__(self, program, turner, viewer, folder):
+        self.program, self.turner, self.viewer = program, turner, viewer
+        self.folder, self.tried, self.differed = folder, 0, []
 
     def path(self, name):
         return os.path.join(self.folder, name)
@@ -40,6 +41,10 @@ class Trials:
     def turn(self, *words):
         """lvs_netlist: the exit status, and what it tells."""
         return self.call([self.turner, *words])
+
+    def show(self, *words):
+        """lvs_view: the exit status, and the line."""
+        return self.call([self.viewer, *words])
 
     def compare(self, layout, rules, schematic):
         """A run on these files: the exit status, the line, and the report without its tables of a match."""

@@ -8,6 +8,8 @@ mod fault;
 mod groups;
 mod keys;
 mod merged;
+mod parts;
 
 pub use fault::MergeFault;
 pub use merged::merge;
+pub use parts::{is_exchanged, merged_parts};

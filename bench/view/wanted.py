@@ -1,0 +1,132 @@
+"""What a database has to show of a case, by the independent implementation of the rules (../reference)."""
+
+import os
+import sys
+
+HERE = os.path.dirname(os.path.abspath(__file__))
+sys.path[:0] = [os.path.join(HERE, "..", "reference")]
+import cli
+import turns
+from circuits import Extracted
+from netlist import merged
+from squares import canon
+
+
+def cell_nets(extracted, cell):
+    """The cell's nets in the order of its circuit's."""
+    order = {net: None for net in extracted.pin_nets(cell)}
+    good = [gate for gate in extracted.gates[cell] if gate.good]
+    for gate in good:
+        order.update(dict.fromkeys((gate.drain, gate.gate, gate.source, gate.bulk)))
+    nets = extracted.nets[cell]
+    for place, (child, _) in enumerate(nets.places):
+        if child in extracted.position:
+            order.update(dict.fromkeys(nets.of_child[place, net] for net in extracted.pin_nets(child)))
+    return list(order)
+
+
+def turn(motion):
+    """A motion as read_back.rb prints one."""
+    mirrored = motion.a * motion.d - motion.b * motion.c < 0
+    angle = {(1, 0): 0, (0, 1): 90, (-1, 0): 180, (0, -1): 270}[motion.a, motion.c]
+    return "%s,%d,%d,%d" % ("m" if mirrored else "r", angle, motion.dx, motion.dy)
+
+
+def is_far(stream, top):
+    """Whether something of the layout lies 2^30 or more from its cell's origin."""
+    design = cli.take_layout(stream, top.encode() if top else None)
+    return any(abs(c) >= 2 ** 30 for cell in design.order for c in design.hulls[cell] or ())
+
+
+class Wanted:
+    """The circuits that are compared, and of each circuit of the layout what is drawn."""
+
+    def __init__(self, files, top):
+        rules = cli.take_rules(files["lvs"])
+        design = cli.take_layout(files["gds"], top)
+        schematic = cli.take_schematic(files["cir"])
+        self.extracted = ex = Extracted(design, rules)
+        self.circuits, self.rules = ex.circuits, rules
+        if rules.combine:
+            self.circuits, schematic = [merged(c) for c in ex.circuits], [merged(c) for c in schematic]
+        self.rights = schematic
+        self.pairs, self.answers, _, _ = turns.compare(self.circuits, ex.top, schematic, rules)
+        self.cell = {ex.circuits[k].name: cell for cell, k in ex.position.items()}
+        self.lefts = [left for left, _ in self.pairs] if self.pairs else self.circuits
+
+    def shown(self, circuit):
+        """The circuit's name as the layout has it."""
+        return self.extracted.layout.names[self.cell[circuit.name]]
+
+    def nets(self, circuit):
+        """Of each net its rectangles by layer."""
+        found = self.extracted.nets[self.cell[circuit.name]]
+        names = self.rules.names
+        return [{names[c].decode(): canon(rects) for c, rects in found.squares[net].items() if rects}
+                for net in cell_nets(self.extracted, self.cell[circuit.name])]
+
+    def regions(self, circuit):
+        return [canon(gate.area) for gate in self.extracted.gates[self.cell[circuit.name]] if gate.good]
+
+    def turns(self, circuit):
+        return [turn(motion) for child, motion in self.extracted.layout.places(self.cell[circuit.name])
+                if child in self.extracted.position]
+
+    def hull(self, circuit):
+        return self.extracted.layout.hulls[self.cell[circuit.name]]
+
+    def same_rows(self, circuit):
+        """Whether a circuit as it is compared has the nets, pins and calls of its cell's."""
+        own = self.circuits[self.extracted.position[self.cell[circuit.name]]]
+        calls = [self.lefts[c.circuit].name for c in circuit.calls], [self.circuits[c.circuit].name for c in own.calls]
+        return circuit.nets == own.nets and circuit.pins == own.pins and calls[0] == calls[1] \
+            and [c.nets for c in circuit.calls] == [c.nets for c in own.calls]
+
+    def same_devices(self, circuit):
+        return circuit.devices == self.extracted.circuits[self.extracted.position[self.cell[circuit.name]]].devices
+
+
+def rects(text):
+    """Rectangles of read_back.rb."""
+    return canon([tuple(map(int, r.split(","))) for r in text.split(";")])
+
+
+def layers(words):
+    return {word.split(":")[0]: rects(word.split(":")[1]) for word in words}
+
+
+def whole(wanted, drawn, circuit, memo):
+    """Whether the circuit and all below it are drawn."""
+    if circuit.name not in memo:
+        memo[circuit.name] = wanted.same_rows(circuit) and all(
+            whole(wanted, drawn, wanted.lefts[call.circuit], memo) for call in circuit.calls)
+    return memo[circuit.name]
+
+
+def differences(read, wanted):
+    """What differs between what KLayout read as drawn and what is wanted, and how many circuits, nets and devices were compared."""
+    wrong, memo, counts = [], {}, [0, 0, 0]
+    for circuit in wanted.lefts:
+        key = wanted.shown(circuit).hex()
+        name = wanted.shown(circuit).decode("latin-1")
+        if key not in read["J"]:
+            wrong.append("circuit %s isn't there" % name)
+            continue
+        shown = read["J"][key]
+        if not whole(wanted, read, circuit, memo):
+            continue
+        counts[0] += 1
+        hull = wanted.hull(circuit)
+        if shown["box"] != ("-" if hull is None else ",".join(map(str, hull))):
+            wrong.append("box of %s: %s for %s" % (name, shown["box"], hull))
+        if shown["turns"] != wanted.turns(circuit):
+            wrong.append("calls of %s: %s for %s" % (name, shown["turns"], wanted.turns(circuit)))
+        for k, (found, right) in enumerate(zip(shown["shapes"], wanted.nets(circuit))):
+            counts[1] += 1
+            if layers(found) != right:
+                wrong.append("net %d of %s: %s for %s" % (k + 1, name, layers(found), right))
+        if wanted.same_devices(circuit):
+            counts[2] += len(circuit.devices)
+            if [rects(r) for r in shown["regions"]] != wanted.regions(circuit):
+                wrong.append("regions of %s" % name)
+    return wrong, counts

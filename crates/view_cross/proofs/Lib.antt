@@ -1,0 +1,3 @@
+mod Alone
+mod Nodes
+mod Lone

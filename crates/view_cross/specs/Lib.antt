@@ -1,0 +1,5 @@
+pub mod Rows
+pub mod Pair
+pub mod Matched
+pub mod Laws
+pub mod Whole

@@ -1,0 +1,5 @@
+pub mod Telling
+pub mod Moving
+pub mod Placing
+pub mod Marking
+pub mod Reading

@@ -1,0 +1,4 @@
+pub mod Numbers
+pub mod Devices
+pub mod Calls
+pub mod Drawn

@@ -1,0 +1,71 @@
+//! The motions of calls.
+
+ghost use Rattle.std.specs.Prelude.{◌≡◌, ◌++◌, ◌∷◌, [], ℕ, IfOk, IsSome, OnOk, Some, slice_get};
+ghost use Rattle.deep_tables.specs.Entries.{entry};
+ghost use Rattle.net_walk.specs.declared.cells.Element.{Element};
+ghost use Rattle.view_drawing.specs.Calls.{called_motions, has_circuit};
+
+use crate::small::is_small_point;
+use deep_tables::Circuits;
+use geo_base::{Motion, Point};
+use net_walk::Element;
+use std::alloc::Global;
+use view_shapes::ShowFault;
+
+/// Whether a cell has a circuit.
+pub fn has_circuit(circuits: &Circuits, cell: u32) -> bool
+    requires { IsSome (entry circuits.now cell) }
+    ensures { result ≡ has_circuit circuits.now cell }
+{
+    match circuits.of(cell) {
+        Some(_) => true,
+        None => false,
+    }
+}
+
+fn keep(out: &mut Vec<Motion>, motion: Motion) -> Result<(), ShowFault>
+    ensures { OnOk result (out.new.items ≡ out.old.items ++ motion ∷ []) }
+{
+    let at = Point {
+        x: motion.dx,
+        y: motion.dy,
+    };
+    if !is_small_point(at) {
+        return Err(ShowFault::TooFar);
+    }
+    match out.push(motion) {
+        Ok(()) => Ok(()),
+        Err(_) => Err(ShowFault::NoMemory),
+    }
+}
+
+// Adds the motion of a placement whose cell has a circuit.
+fn add_call(circuits: &Circuits, element: &Element, out: &mut Vec<Motion>) -> Result<(), ShowFault>
+    requires { IsSome (entry circuits.now element.now.cell) }
+    ensures { OnOk result (out.new.items
+        ≡ out.old.items ++ called_motions circuits.now (element.now ∷ [])) }
+{
+    if has_circuit(circuits, element.cell) {
+        keep(out, element.motion)?;
+        return Ok(());
+    }
+    Ok(())
+}
+
+/// The motions of those placements of a cell whose cells have circuits, in order; none where one is
+/// 2^30 or more from the origin. Linear in the placements.
+pub fn call_motions(
+    alloc: Global,
+    circuits: &Circuits,
+    elements: &[Element],
+) -> Result<Vec<Motion>, ShowFault>
+    requires { (k : ℕ) (e : Element) → slice_get elements.now k ≡ Some e
+        → IsSome (entry circuits.now e.cell) }
+    ensures { IfOk result (λ v. v.items ≡ called_motions circuits.now elements.now) }
+{
+    let mut out = Vec::new(alloc);
+    'elements: for k in 0..elements.len() {
+        add_call(circuits, &elements[k], &mut out)?;
+    }
+    Ok(out)
+}

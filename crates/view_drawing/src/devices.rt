@@ -1,0 +1,82 @@
+//! The places of devices.
+
+ghost use Rattle.std.specs.Prelude.{◌≡◌, ◌++◌, ◌∷◌, [], ℕ, IfOk, OnOk, length, map};
+ghost use Rattle.net_model.specs.Rows.{plain_device};
+ghost use Rattle.view_drawing.specs.Devices.{AddsRegions, ArePlaced, AreSmallRegions, IsPlaceOf};
+ghost use Rattle.view_drawing.specs.Devices.{areas_of, is_good};
+
+use crate::regions::{DeviceRegions, add_region, area_from};
+use deep_tables::{Gate, GateState};
+use geo_base::Point;
+use net_model::DeviceRow;
+use std::alloc::{AllocError, Global};
+use view_netlist::DevicePlace;
+use view_shapes::ShowFault;
+
+fn is_good(gate: &Gate) -> bool
+    ensures { result ≡ is_good gate.now.state }
+{
+    match gate.state {
+        GateState::Good { .. } => true,
+        GateState::Bad(_) => false,
+    }
+}
+
+fn place_device(
+    alloc: Global,
+    gate: &Gate,
+    class: &[u8],
+    found: &mut DeviceRegions,
+) -> Result<DevicePlace, ShowFault>
+    ensures added { OnOk result (AddsRegions (areas_of found.old.regions.items) (areas_of found.new.regions.items)) }
+    ensures place { IfOk result (IsPlaceOf (areas_of found.new.regions.items) class.now gate.now) }
+    ensures small { OnOk result (AreSmallRegions (areas_of found.old.regions.items)
+        → AreSmallRegions (areas_of found.new.regions.items)) }
+{
+    let at = Point {
+        x: gate.least.x,
+        y: gate.least.y,
+    };
+    let rects = area_from(alloc, at, gate.area.rects())?;
+    let region = add_region(alloc, found, class, rects)?;
+    Ok(DevicePlace { region, at })
+}
+
+fn keep(out: &mut Vec<DevicePlace>, place: DevicePlace) -> Result<(), AllocError>
+    ensures { OnOk result (out.new.items ≡ out.old.items ++ place ∷ []) }
+{
+    out.push(place)?;
+    Ok(())
+}
+
+/// The places of the devices of a cell's good gates, whose rows these are, in order; regions that
+/// are new are added. Past the last row there are no places. Linear in the gates' rectangles.
+/// `TooFar` where a gate reaches 2^30 or more from the origin.
+pub fn place_devices(
+    alloc: Global,
+    gates: &[Gate],
+    rows: &[DeviceRow],
+    found: &mut DeviceRegions,
+) -> Result<Vec<DevicePlace>, ShowFault>
+    ensures added { OnOk result (AddsRegions (areas_of found.old.regions.items) (areas_of found.new.regions.items)) }
+    ensures places { IfOk result (λ v. ArePlaced (areas_of found.new.regions.items) gates.now
+        (map plain_device rows.now) v.items) }
+    ensures small { OnOk result (AreSmallRegions (areas_of found.old.regions.items)
+        → AreSmallRegions (areas_of found.new.regions.items)) }
+{
+    let mut out = Vec::new(alloc);
+    let mut left = gates;
+    let mut rest = rows;
+    'gates: while let [gate, more @ ..] = left {
+        left = more;
+        if is_good(gate) {
+            let [row, later @ ..] = rest else {
+                return Ok(out);
+            };
+            let place = place_device(alloc, gate, row.class.bytes(), found)?;
+            keep(&mut out, place)?;
+            rest = later;
+        }
+    }
+    Ok(out)
+}

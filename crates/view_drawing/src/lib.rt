@@ -1,0 +1,16 @@
+//! What is drawn of a layout's circuits: boxes, rectangles of nets, regions and places of devices,
+//! motions of calls.
+#![tactic(auto)]
+
+mod called;
+mod calls;
+mod devices;
+mod numbers;
+mod regions;
+mod small;
+mod source;
+
+pub use devices::place_devices;
+pub use numbers::{name_table, net_numbers};
+pub use regions::{DeviceRegions, Region, add_region};
+pub use source::{Lists, Source, draw_cell, find_lists};

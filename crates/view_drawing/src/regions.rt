@@ -1,0 +1,152 @@
+//! The regions of devices, each once.
+
+ghost use Rattle.std.specs.Prelude.{◌≡◌, ◌++◌, ◌∷◌, [], IfOk, OnOk, Some, map, slice_get, true};
+ghost use Rattle.std.specs.List.{All};
+ghost use Rattle.view_words.specs.Numbers.{IsSmallRect};
+ghost use Rattle.view_drawing.specs.Devices.{AddsRegions, AreSmallRegions, IsListedRegion};
+ghost use Rattle.view_drawing.specs.Devices.{areas_of, seen_from};
+
+use crate::small::small_from;
+use geo_base::{Point, Rect};
+use list_base::number;
+use std::alloc::{AllocError, Global};
+use text_table::TextTable;
+use view_shapes::ShowFault;
+
+/// The region of devices of a class, as it is seen from a corner of each.
+#[derive(Drop)]
+pub struct Region {
+    pub class: Vec<u8>,
+    pub rects: Vec<Rect>,
+}
+
+/// The regions that devices have, and a table of texts that tells where one may stand.
+#[derive(Drop)]
+pub struct DeviceRegions {
+    pub regions: Vec<Region>,
+    pub texts: TextTable,
+}
+
+impl DeviceRegions {
+    /// No regions.
+    pub fn none(alloc: Global) -> DeviceRegions
+        ensures { areas_of result.regions.items ≡ [] }
+    {
+        DeviceRegions {
+            regions: Vec::new(alloc),
+            texts: TextTable::new(alloc),
+        }
+    }
+}
+
+fn keep(out: &mut Vec<Rect>, rect: Rect) -> Result<(), AllocError>
+    requires { IsSmallRect rect }
+    ensures kept { OnOk result (out.new.items ≡ out.old.items ++ rect ∷ []) }
+    ensures small { OnOk result (All IsSmallRect out.old.items → All IsSmallRect out.new.items) }
+{
+    out.push(rect)?;
+    Ok(())
+}
+
+/// Rectangles as they are seen from a point; none where one or the point reaches too far.
+pub fn area_from(alloc: Global, p: Point, rects: &[Rect]) -> Result<Vec<Rect>, ShowFault>
+    ensures rects { IfOk result (λ v. v.items ≡ map (seen_from p) rects.now) }
+    ensures small { IfOk result (λ v. All IsSmallRect v.items) }
+{
+    let mut out = Vec::new(alloc);
+    let mut rest = rects;
+    'rects: while let [r, more @ ..] = rest {
+        let seen = small_from(p, r)?;
+        keep(&mut out, seen)?;
+        rest = more;
+    }
+    Ok(out)
+}
+
+fn same_rects(some: &[Rect], others: &[Rect]) -> bool
+    ensures { result ≡ true → some.now ≡ others.now }
+{
+    let mut rest = some;
+    let mut behind = others;
+    'rects: while let [a, more @ ..] = rest {
+        let [b, later @ ..] = behind else {
+            return false;
+        };
+        if a.x1 != b.x1 || a.y1 != b.y1 || a.x2 != b.x2 || a.y2 != b.y2 {
+            return false;
+        }
+        rest = more;
+        behind = later;
+    }
+    behind.is_empty()
+}
+
+// Whether a region is of this class and has these rectangles.
+fn is_same(region: &Region, class: &[u8], rects: &[Rect]) -> bool
+    ensures class { result ≡ true → region.now.class.items ≡ class.now }
+    ensures rects { result ≡ true → region.now.rects.items ≡ rects.now }
+{
+    region.class.as_slice() == class && same_rects(&region.rects, rects)
+}
+
+// Whether this region stands at a place.
+fn is_at(regions: &[Region], k: usize, class: &[u8], rects: &[Rect]) -> bool
+    ensures { result ≡ true → IsListedRegion (areas_of regions.now) k class.now rects.now }
+{
+    if k < regions.len() {
+        return is_same(&regions[k], class, rects);
+    }
+    false
+}
+
+// A text for a class and rectangles.
+fn region_text(alloc: Global, class: &[u8], rects: &[Rect]) -> Result<Vec<u8>, AllocError> {
+    let mut out = Vec::new(alloc);
+    for r in rects {
+        for side in [r.x1, r.y1, r.x2, r.y2] {
+            out.extend_from_slice(&side.to_le_bytes())?;
+        }
+    }
+    out.extend_from_slice(class)?;
+    Ok(out)
+}
+
+// Adds a region behind the others; its number.
+fn push_region(
+    alloc: Global,
+    regions: &mut Vec<Region>,
+    class: &[u8],
+    rects: Vec<Rect>,
+) -> Result<u32, AllocError>
+    ensures added { OnOk result (AddsRegions (areas_of regions.old.items) (areas_of regions.new.items)) }
+    ensures listed { IfOk result (λ k. IsListedRegion (areas_of regions.new.items) k class.now rects.items) }
+    ensures small { OnOk result (AreSmallRegions (areas_of regions.old.items) → All IsSmallRect rects.items
+        → AreSmallRegions (areas_of regions.new.items)) }
+{
+    let next = number(regions.len())?;
+    let class = class.to_vec(alloc)?;
+    regions.push(Region { class, rects })?;
+    Ok(next)
+}
+
+/// The number of the region of a class with these rectangles: it is added where it isn't there.
+/// Linear in the rectangles.
+pub fn add_region(
+    alloc: Global,
+    found: &mut DeviceRegions,
+    class: &[u8],
+    rects: Vec<Rect>,
+) -> Result<u32, AllocError>
+    ensures added { OnOk result (AddsRegions (areas_of found.old.regions.items) (areas_of found.new.regions.items)) }
+    ensures listed { IfOk result (λ k. IsListedRegion (areas_of found.new.regions.items) k class.now
+        rects.items) }
+    ensures small { OnOk result (AreSmallRegions (areas_of found.old.regions.items)
+        → All IsSmallRect rects.items → AreSmallRegions (areas_of found.new.regions.items)) }
+{
+    let text = region_text(alloc, class, &rects)?;
+    let guess = found.texts.number(alloc, &text)?;
+    if is_at(&found.regions, guess, class, &rects) {
+        return number(guess);
+    }
+    push_region(alloc, &mut found.regions, class, rects)
+}

@@ -1,0 +1,5 @@
+pub mod Layers
+pub mod Regions
+pub mod Cross
+pub mod Layout
+pub mod File

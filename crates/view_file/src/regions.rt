@@ -1,0 +1,62 @@
+//! The regions of devices.
+
+ghost use Rattle.std.specs.Prelude.{◌≡◌, ◌++◌, OnOk};
+ghost use Rattle.std.specs.List.{All};
+ghost use Rattle.view_words.specs.Numbers.{IsSmallRect};
+ghost use Rattle.view_file.specs.Regions.{region_head, region_text, region_texts};
+ghost use Rattle.view_file.specs.Regions.{terminal_rows};
+
+use geo_base::{Point, Rect};
+use list_base::number;
+use std::alloc::{AllocError, Global};
+use view_netlist::push_region;
+use view_words::{push_rects, push_word};
+
+/// The region of devices of a class, seen from a corner of each.
+#[derive(Drop)]
+pub struct Region {
+    pub class: Vec<u8>,
+    pub rects: Vec<Rect>,
+}
+
+fn push_head(alloc: Global, out: &mut Vec<u8>, k: u32, class: &[u8]) -> Result<(), AllocError>
+    ensures { OnOk result (out.new.items ≡ out.old.items ++ region_head k class.now) }
+{
+    out.extend_from_slice(b"\n D(")?;
+    push_region(alloc, out, k)?;
+    out.push(b' ')?;
+    push_word(out, class)
+}
+
+fn push_terminals(alloc: Global, out: &mut Vec<u8>, rects: &[Rect]) -> Result<(), AllocError>
+    requires { All IsSmallRect rects.now }
+    ensures { OnOk result (out.new.items ≡ out.old.items ++ terminal_rows rects.now) }
+{
+    out.extend_from_slice(b"\n  T(S)\n  T(G")?;
+    push_rects(alloc, out, b"device regions", Point { x: 0, y: 0 }, rects)?;
+    out.extend_from_slice(b"\n  )\n  T(D)\n  T(B)\n )")
+}
+
+fn push_one(alloc: Global, out: &mut Vec<u8>, k: u32, region: &Region) -> Result<(), AllocError>
+    requires { All IsSmallRect region.now.rects.items }
+    ensures { OnOk result (out.new.items ≡ out.old.items ++ region_text k region.now) }
+{
+    push_head(alloc, out, k, &region.class)?;
+    push_terminals(alloc, out, &region.rects)
+}
+
+/// Appends the regions, numbered from 1. Linear in the rectangles. 2^32 are refused.
+pub fn push_regions(alloc: Global, out: &mut Vec<u8>, regions: &[Region]) -> Result<(), AllocError>
+    requires { All (λ r. All IsSmallRect r.rects.items) regions.now }
+    ensures { OnOk result (out.new.items ≡ out.old.items ++ region_texts 0 regions.now) }
+{
+    number(regions.len())?;
+    let mut k = 0;
+    let mut rest = regions;
+    'regions: while let [region, more @ ..] = rest {
+        push_one(alloc, out, k, region)?;
+        k += 1;
+        rest = more;
+    }
+    Ok(())
+}

@@ -1,0 +1,4 @@
+mod Numbered
+mod Shapes
+mod Drawings
+mod Orders

@@ -1,0 +1,5 @@
+pub mod Rows
+pub mod Drawing
+pub mod Circuits
+pub mod Classes
+pub mod Section

@@ -1,0 +1,15 @@
+//! Circuits as KLayout's netlist browser reads them: nets, pins, devices and calls.
+#![tactic(auto)]
+
+mod circuits;
+mod classes;
+mod devices;
+mod drawing;
+mod rows;
+mod section;
+
+pub use circuits::push_circuits;
+pub use classes::{push_classes, used_classes};
+pub use drawing::{DevicePlace, Drawing, Names, Shape, push_region};
+pub use rows::name_at;
+pub use section::push_schematic;

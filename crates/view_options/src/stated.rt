@@ -1,0 +1,77 @@
+//! What a list of words states.
+
+ghost use Rattle.std.specs.Prelude.{◌≡◌, ◌≤◌, map, IfOk, IsErrOf, None, Some, string_bytes};
+ghost use Rattle.std.specs.Option.{option_map};
+ghost use Rattle.view_options.specs.Items.{AreValues, shared};
+ghost use Rattle.view_options.specs.Seen.{seen_all};
+ghost use Rattle.view_options.specs.Stated.{asked, asked_by, asked_of};
+
+use crate::fitting::{fits, path, top, workers};
+use crate::flag::Flag;
+use crate::items::{Item, read_items, shared};
+use lvs_words::WordFault;
+use net_names::Name;
+use std::alloc::{AllocError, Global};
+
+/// The files that the words name, the name of the layout's top, the number of workers, and the path
+/// of the database, where it is an input too.
+#[derive(Debug, Drop)]
+pub struct Task {
+    pub layout: String,
+    pub rules: String,
+    pub schematic: String,
+    pub database: String,
+    pub top: Option<Name>,
+    pub workers: usize,
+    pub shared: Option<String>,
+}
+
+// The path that the options name twice.
+fn shared_path(alloc: Global, items: &[Item<'_>]) -> Result<Option<String>, AllocError>
+    ensures { IfOk result (λ p. option_map string_bytes p ≡ shared (seen_all items.now)) }
+{
+    match shared(items) {
+        Some(path) => {
+            let path = String::from_str(alloc, path)?;
+            Ok(Some(path))
+        }
+        None => Ok(None),
+    }
+}
+
+// What these options ask for.
+fn task_of(alloc: Global, items: &[Item<'_>]) -> Result<Task, WordFault>
+    requires { AreValues (seen_all items.now) }
+    ensures found { IfOk result (λ t. asked_by (seen_all items.now) ≡ Some (asked_of t)) }
+    ensures refused { IsErrOf result WordFault.Refused → asked_by (seen_all items.now) ≡ None }
+    ensures workers { IfOk result (λ t. (1 ≤ t.workers) × (t.workers ≤ 64)) }
+{
+    if !fits(items) {
+        return Err(WordFault::Refused);
+    }
+    let Some(workers) = workers(items) else {
+        return Err(WordFault::Refused);
+    };
+    Ok(Task {
+        layout: path(alloc, items, Flag::Layout)?,
+        rules: path(alloc, items, Flag::Rules)?,
+        schematic: path(alloc, items, Flag::Schematic)?,
+        database: path(alloc, items, Flag::Database)?,
+        top: top(alloc, items)?,
+        workers,
+        shared: shared_path(alloc, items)?,
+    })
+}
+
+/// What the words ask for: each of them is `--name=value`, or `--name` with its value behind it.
+/// `Refused` where they ask for nothing. Takes memory for the options and the paths, and no more
+/// than a few times the words.
+pub fn read_task(alloc: Global, words: &[String]) -> Result<Task, WordFault>
+    ensures found { IfOk result (λ t. asked (map string_bytes words.now) ≡ Some (asked_of t)) }
+    ensures refused { IsErrOf result WordFault.Refused → asked (map string_bytes words.now)
+        ≡ None }
+    ensures workers { IfOk result (λ t. (1 ≤ t.workers) × (t.workers ≤ 64)) }
+{
+    let items = read_items(alloc, words)?;
+    task_of(alloc, items.as_slice())
+}

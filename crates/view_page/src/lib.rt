@@ -1,0 +1,12 @@
+//! The page in words: for each pair of circuits that isn't all alike, the nets, transistors and
+//! calls that have no partner, or one that isn't their like, by the proposal of partners.
+#![tactic(auto)]
+
+mod names;
+mod notes;
+mod page;
+mod places;
+mod remarks;
+
+pub use page::push_page;
+pub use places::Places;

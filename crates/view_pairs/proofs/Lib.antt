@@ -1,0 +1,4 @@
+mod Claims
+mod Shown
+mod Whole
+mod Marked

@@ -1,0 +1,5 @@
+use Rattle.std.proofs.Common.{◌-◌, length}
+use Rattle.view_pairs.proofs.colours.Colours.part.Given as goal
+
+abbrev pub decreases-loop-i : goal.decreases-loop-i
+decreases-loop-i l = length l.keys - l.i

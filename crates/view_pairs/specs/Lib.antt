@@ -1,0 +1,9 @@
+pub mod Partners
+pub mod Alike
+pub mod Joints
+pub mod Terminals
+pub mod Marks
+pub mod Rows
+pub mod Shown
+pub mod Proposals
+pub mod Added

@@ -1,0 +1,60 @@
+//! Couples of one kind.
+
+ghost use Rattle.std.specs.Prelude.{◌≡◌, ◌++◌, true, IfOk};
+ghost use Rattle.std.specs.List.{list_all};
+ghost use Rattle.net_model.specs.Rows.{plain_circuit};
+ghost use Rattle.view_pairs.specs.Alike.{pin_marks};
+ghost use Rattle.view_pairs.specs.Partners.{ArePartners};
+ghost use Rattle.view_pairs.specs.Proposals.{AreAlike, is_alike_couple};
+
+use crate::alike::{Sides, is_alike};
+use crate::partners::{Couple, Partners, claimed};
+use std::alloc::{AllocError, Global};
+use view_cross::Kind;
+
+// Those of the couples that are of one kind.
+fn alike_couples(
+    alloc: Global,
+    sides: &Sides<'_>,
+    nets: &Partners,
+    kind: Kind,
+    couples: &[Couple],
+) -> Result<Vec<Couple>, AllocError>
+    requires left_pins { sides.now.left_pins.items ≡ pin_marks (plain_circuit sides.now.left.now) }
+    requires right_pins { sides.now.right_pins.items
+        ≡ pin_marks (plain_circuit sides.now.right.now) }
+    ensures { IfOk result (λ found. list_all (is_alike_couple (plain_circuit sides.now.left.now)
+        (plain_circuit sides.now.right.now) nets.now kind) found.items ≡ true) }
+{
+    let mut found = Vec::new(alloc);
+    let mut rest = couples;
+    'couples: while let [couple, more @ ..] = rest {
+        if is_alike(sides, nets, kind, couple.left, couple.right.number) {
+            found.push(*couple)?;
+        }
+        rest = more;
+    }
+    Ok(found)
+}
+
+/// The partners among so many nodes of a kind, the nets having these: of the couples that are of
+/// one kind, in order, each whose nodes have no partner yet. Linear.
+pub fn partners_of(
+    alloc: Global,
+    sides: &Sides<'_>,
+    nets: &Partners,
+    kind: Kind,
+    lefts: usize,
+    rights: usize,
+    couples: &[Couple],
+) -> Result<Partners, AllocError>
+    requires left_pins { sides.now.left_pins.items ≡ pin_marks (plain_circuit sides.now.left.now) }
+    requires right_pins { sides.now.right_pins.items
+        ≡ pin_marks (plain_circuit sides.now.right.now) }
+    ensures partners { IfOk result (λ x. ArePartners lefts rights x) }
+    ensures alike { IfOk result (λ x. AreAlike (plain_circuit sides.now.left.now)
+        (plain_circuit sides.now.right.now) nets.now kind x) }
+{
+    let alike = alike_couples(alloc, sides, nets, kind, couples)?;
+    claimed(alloc, lefts, rights, &alike)
+}

@@ -1,0 +1,98 @@
+-- What is drawn of a layout's circuits as they are compared.
+use Rattle.std.specs.Prelude.{◌≡◌, ℕ, List, [], ◌∷◌, Option, Some, None, map, slice_get}
+use Rattle.std.specs.List.{All}
+use Rattle.cell_graph.specs.Linked.{plain}
+use Rattle.deep_tables.specs.Circuits.{value_of}
+use Rattle.deep_tables.specs.Nets.{AreRightNets}
+use Rattle.flat_layout.specs.Layout.{IsReached}
+use Rattle.flat_layout.specs.Nets.{Tables}
+use Rattle.plain_netlist.specs.Netlist.{Circuit}
+use Rattle.rule_layers.specs.Meaning.{wiring_of}
+use Rattle.rule_text.specs.Seen.{rules_seen}
+use Rattle.spice_text.specs.Needs.{first_seen}
+use Rattle.view_drawing.specs.Devices.{Area}
+use Rattle.view_drawing.specs.Drawn.{AreAllThere, AreListsOf, IsCellDrawn, listed_tables}
+use Rattle.view_drawing.specs.declared.source.Source.{Source}
+use Rattle.view_file.specs.declared.layout.Picture.{Picture}
+use Rattle.view_file.specs.declared.regions.Region.{Region}
+use Rattle.view_laws.specs.Shown.{Called}
+use Rattle.view_netlist.specs.Drawing.{Drawn, IsSmallDrawing, blank, plain_drawing}
+use Rattle.view_netlist.specs.declared.drawing.Drawing.{Drawing}
+use Rattle.view_labels.specs.Labels.{labels_of, layer_names, numbers_of, shown_cell}
+use Rattle.view_labels.specs.Same.{AreSameRows}
+use Rattle.view_picture.specs.declared.drawings.Given.{Given}
+
+-- the devices' places, where the devices are those of the cell's circuit; else none
+abbrev pub devices_kept : Drawn → Drawn
+devices_kept v = record { hull = v.hull; nets = v.nets; devices = []; calls = v.calls }
+
+-- what is drawn of a circuit whose cell has this one: nothing, unless it has its rows; then all of
+-- the cell, without places of devices where these aren't the same
+pub data IsDrawnAs (s : Source) (t : Tables) (called : Called) (shown : List ℕ) (cell : ℕ)
+    (left c : Circuit) (areas : List Area) (v : Drawn) : Type 0 where
+  Other : (AreSameRows shown left c → ⊥) → v ≡ blank
+      → IsDrawnAs s t called shown cell left c areas v
+  Whole : AreSameRows shown left c → left.devices ≡ c.devices
+      → IsCellDrawn s t called cell c areas v → IsDrawnAs s t called shown cell left c areas v
+  Without : AreSameRows shown left c → (left.devices ≡ c.devices → ⊥) → (w : Drawn)
+      → IsCellDrawn s t called cell c areas w → v ≡ devices_kept w
+      → IsDrawnAs s t called shown cell left c areas v
+
+-- the same of a cell that may have no circuit
+abbrev pub IsDrawnOf : Source → Tables → Called → List ℕ → ℕ → Option Circuit → Circuit
+    → List Area → Drawn → Type 0
+IsDrawnOf s t called shown cell None left areas v = v ≡ blank
+IsDrawnOf s t called shown cell (Some c) left areas v =
+    IsDrawnAs s t called shown cell left c areas v
+
+-- of a circuit without a cell nothing is drawn
+abbrev pub IsDrawnIn : Source → Tables → Called → List ℕ → Option ℕ → Circuit → List Area → Drawn
+    → Type 0
+IsDrawnIn s t called shown None left areas v = v ≡ blank
+IsDrawnIn s t called shown (Some cell) left areas v =
+    IsDrawnOf s t called shown cell (value_of s.circuits.now cell).circuit left areas v
+
+-- each of these circuits by its cell
+abbrev pub AreAllDrawn : Source → Tables → Called → List ℕ → List (List ℕ) → List ℕ → List Circuit
+    → List Area → List Drawn → Type 0
+AreAllDrawn s t called cells texts shown [] areas vs = vs ≡ []
+AreAllDrawn s t called cells texts shown (c ∷ cs) areas [] = ⊥
+AreAllDrawn s t called cells texts shown (c ∷ cs) areas (v ∷ vs) =
+    IsDrawnIn s t called shown (shown_cell cells texts c) c areas v
+    × AreAllDrawn s t called cells texts shown cs areas vs
+
+-- the regions of a picture
+abbrev pub shown_area : Region → Area
+shown_area r = record { class = r.class.items; rects = r.rects.items }
+
+abbrev pub shown_areas : List Region → List Area
+shown_areas regions = map shown_area regions
+
+abbrev pub plain_drawings : List Drawing → List Drawn
+plain_drawings ds = map plain_drawing ds
+
+abbrev pub AreAllSmall : List Drawing → Type 0
+AreAllSmall ds = All (λ d. IsSmallDrawing (plain_drawing d)) ds
+
+-- the names of layers and circuits, and what is drawn of each circuit; these are the names of the
+-- cells' circuits
+pub record IsPicture (s : Source) (t : Tables) (called : Called) (cells : List ℕ)
+    (names : List (List ℕ)) (lefts : List Circuit) (p : Picture) : Type 0 where
+  pub layers : p.names.layers.items ≡ layer_names s.rules.now.names.items
+  pub circuits : p.names.circuits.items
+      ≡ labels_of s.design.now cells (first_seen [] names) lefts
+  pub drawings : AreAllDrawn s t called cells (first_seen [] names)
+      (numbers_of (first_seen [] names) lefts) lefts (shown_areas p.regions.items)
+      (plain_drawings p.drawings.items)
+
+-- a cell that the top reaches
+abbrev pub IsReachedIn : Given → ℕ → Type 0
+IsReachedIn g cell = IsReached (plain g.source.design.now) cell
+
+-- the lists are those of right tables, and the cells are reached
+pub record IsDrawable (g : Given) : Type 0 where
+  pub right : AreRightNets (plain g.source.design.now)
+      (wiring_of (rules_seen g.source.rules.now)) (listed_tables g.lists.now)
+  pub entries : AreAllThere g.source
+  pub lists : AreListsOf g.source g.lists.now
+  pub cells : (k cell : ℕ) → slice_get g.cells.now k ≡ Some cell → IsReachedIn g cell

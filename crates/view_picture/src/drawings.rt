@@ -1,0 +1,173 @@
+//! What is drawn of the circuits of a layout as they are compared.
+
+ghost use Rattle.std.specs.Prelude.{◌≡◌, ◌++◌, ◌∷◌, [], IfOk, IfSome, OnOk, Some, map, slice_get};
+ghost use Rattle.deep_tables.specs.Circuits.{value_of};
+ghost use Rattle.net_model.specs.Rows.{plain_circuit};
+ghost use Rattle.spice_text.specs.Needs.{first_seen};
+ghost use Rattle.view_drawing.specs.Devices.{AddsRegions, AreSmallRegions, areas_of};
+ghost use Rattle.view_drawing.specs.Drawn.{listed_tables};
+ghost use Rattle.view_file.specs.Layout.{IsSmallPicture};
+ghost use Rattle.view_netlist.specs.Drawing.{IsSmallDrawing, plain_drawing};
+ghost use Rattle.view_shapes.specs.Shown.{called_by};
+ghost use Rattle.view_picture.specs.Picture.{AreAllDrawn, AreAllSmall, IsDrawable, IsDrawnAs};
+ghost use Rattle.view_picture.specs.Picture.{IsDrawnIn, IsPicture, IsReachedIn};
+ghost use Rattle.view_picture.specs.Picture.{plain_drawings, shown_areas};
+
+use net_model::Circuit;
+use net_names::Name;
+use std::alloc::{AllocError, Global};
+use text_table::TextTable;
+use view_drawing::{DeviceRegions, Lists, Region as Found, Source, draw_cell, name_table};
+use view_file::{Picture, Region};
+use view_labels::{labels, layer_names, same_devices, same_rows, shown_cell, shown_numbers};
+use view_netlist::{Drawing, Names};
+use view_shapes::ShowFault;
+
+/// What was found of a layout: its cells in lists, the cells with circuits, and the names of their
+/// circuits.
+#[derive(Clone, Copy)]
+pub struct Given<'a> {
+    pub source: Source<'a>,
+    pub lists: &'a Lists<'a>,
+    pub cells: &'a [u32],
+    pub names: &'a [Name],
+}
+
+// What is drawn of a circuit whose cell has this one: nothing, unless it has its rows; the devices'
+// places only where the devices are the same.
+fn draw_found(
+    alloc: Global,
+    given: Given,
+    shown: &[u32],
+    cell: u32,
+    left: &Circuit,
+    found: &Circuit,
+    regions: &mut DeviceRegions,
+) -> Result<Drawing, ShowFault>
+    requires given { IsDrawable given }
+    requires reached { IsReachedIn given cell }
+    ensures added { OnOk result (AddsRegions (areas_of regions.old.regions.items)
+        (areas_of regions.new.regions.items)) }
+    ensures drawn { IfOk result (λ v. IsDrawnAs given.entry.source (listed_tables given.entry.lists.now)
+        (called_by given.entry.lists.now.called.items) shown.now cell (plain_circuit left.now)
+        (plain_circuit found.now) (areas_of regions.new.regions.items) (plain_drawing v)) }
+    ensures small { IfOk result (λ v. IsSmallDrawing (plain_drawing v)) }
+    ensures small_regions { OnOk result (AreSmallRegions (areas_of regions.old.regions.items)
+        → AreSmallRegions (areas_of regions.new.regions.items)) }
+{
+    if !same_rows(shown, left, found) {
+        return Ok(Drawing::blank(alloc));
+    }
+    let drawing = draw_cell(alloc, given.source, given.lists, cell, found, regions)?;
+    if same_devices(&left.devices, &found.devices) {
+        return Ok(drawing);
+    }
+    Ok(Drawing {
+        hull: drawing.hull,
+        nets: drawing.nets,
+        devices: Vec::new(alloc),
+        calls: drawing.calls,
+    })
+}
+
+// What is drawn of a circuit of this cell.
+fn draw_in(
+    alloc: Global,
+    given: Given,
+    shown: &[u32],
+    cell: Option<u32>,
+    left: &Circuit,
+    regions: &mut DeviceRegions,
+) -> Result<Drawing, ShowFault>
+    requires given { IsDrawable given }
+    requires reached { IfSome cell (IsReachedIn given) }
+    ensures added { OnOk result (AddsRegions (areas_of regions.old.regions.items)
+        (areas_of regions.new.regions.items)) }
+    ensures drawn { IfOk result (λ v. IsDrawnIn given.entry.source (listed_tables given.entry.lists.now)
+        (called_by given.entry.lists.now.called.items) shown.now cell (plain_circuit left.now)
+        (areas_of regions.new.regions.items) (plain_drawing v)) }
+    ensures small { IfOk result (λ v. IsSmallDrawing (plain_drawing v)) }
+    ensures small_regions { OnOk result (AreSmallRegions (areas_of regions.old.regions.items)
+        → AreSmallRegions (areas_of regions.new.regions.items)) }
+{
+    let Some(cell) = cell else {
+        return Ok(Drawing::blank(alloc));
+    };
+    match given.source.circuits.of(cell) {
+        Some(found) => draw_found(alloc, given, shown, cell, left, found, regions),
+        None => Ok(Drawing::blank(alloc)),
+    }
+}
+
+fn keep(out: &mut Vec<Drawing>, drawing: Drawing) -> Result<(), AllocError>
+    requires { IsSmallDrawing (plain_drawing drawing) }
+    ensures small { OnOk result (AreAllSmall out.old.items → AreAllSmall out.new.items) }
+    ensures kept { OnOk result (plain_drawings out.new.items
+        ≡ plain_drawings out.old.items ++ plain_drawing drawing ∷ []) }
+{
+    out.push(drawing)?;
+    Ok(())
+}
+
+fn draw_all(
+    alloc: Global,
+    given: Given,
+    table: &TextTable,
+    shown: &[u32],
+    lefts: &[Circuit],
+    regions: &mut DeviceRegions,
+) -> Result<Vec<Drawing>, ShowFault>
+    requires given { IsDrawable given }
+    ensures drawn { IfOk result (λ v. AreAllDrawn given.entry.source (listed_tables given.entry.lists.now)
+        (called_by given.entry.lists.now.called.items) given.entry.cells.now table.now shown.now
+        (map plain_circuit lefts.now) (areas_of regions.new.regions.items) (plain_drawings v.items)) }
+    ensures small { IfOk result (λ v. AreAllSmall v.items) }
+    ensures small_regions { OnOk result (AreSmallRegions (areas_of regions.old.regions.items)
+        → AreSmallRegions (areas_of regions.new.regions.items)) }
+{
+    let mut out = Vec::new(alloc);
+    let mut rest = lefts;
+    'circuits: while let [left, more @ ..] = rest {
+        let cell = shown_cell(given.cells, table, left);
+        let drawing = draw_in(alloc, given, shown, cell, left, regions)?;
+        keep(&mut out, drawing)?;
+        rest = more;
+    }
+    Ok(out)
+}
+
+// The regions in the form that the database takes.
+fn regions_of(alloc: Global, found: Vec<Found>) -> Result<Vec<Region>, AllocError>
+    ensures { IfOk result (λ v. shown_areas v.items ≡ areas_of found.items) }
+{
+    let mut out = Vec::new(alloc);
+    'regions: for region in found {
+        let Found { class, rects } = region;
+        out.push(Region { class, rects })?;
+    }
+    Ok(out)
+}
+
+/// The picture of these circuits: each under the name of its cell, with what is drawn of the cell
+/// where it has the rows of the cell's circuit. `TooFar` where something reaches 2^30 or more from
+/// the origin. Cost: that of drawing each cell once.
+pub fn picture(alloc: Global, given: Given, lefts: &[Circuit]) -> Result<Picture, ShowFault>
+    requires { IsDrawable given }
+    ensures picture { IfOk result (IsPicture given.entry.source (listed_tables given.entry.lists.now)
+        (called_by given.entry.lists.now.called.items) given.entry.cells.now given.entry.names.now
+        (map plain_circuit lefts.now)) }
+    ensures small { IfOk result IsSmallPicture }
+{
+    given.source.design.sound();
+    let table = name_table(alloc, given.names)?;
+    let shown = shown_numbers(alloc, &table, lefts)?;
+    let layers = layer_names(alloc, &given.source.rules.names)?;
+    let circuits = labels(alloc, given.source.design, given.cells, &table, lefts)?;
+    let mut found = DeviceRegions::none(alloc);
+    let drawings = draw_all(alloc, given, &table, &shown, lefts, &mut found)?;
+    Ok(Picture {
+        names: Names { layers, circuits },
+        drawings,
+        regions: regions_of(alloc, found.regions)?,
+    })
+}

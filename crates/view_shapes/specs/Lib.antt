@@ -1,0 +1,3 @@
+pub mod Pieces
+pub mod Wanted
+pub mod Shown

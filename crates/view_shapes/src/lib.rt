@@ -1,0 +1,11 @@
+//! What is shown of the nets of a layout's cells, in pieces.
+#![tactic(auto)]
+
+mod moved;
+mod own;
+mod pieces;
+mod shown;
+mod wanted;
+
+pub use pieces::{Piece, ShowFault};
+pub use shown::shown_pieces;

@@ -1,0 +1,7 @@
+mod Bools
+mod PlainWords
+mod QuotedWords
+mod WordLaws
+mod StepLaws
+mod Joins
+pub mod Rows
