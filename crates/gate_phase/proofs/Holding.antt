@@ -16,7 +16,7 @@ use Rattle.deep_tables.specs.Frames.{IsInGrown, grown}
 use Rattle.gate_shapes.specs.Sets.{in_set}
 use Rattle.gate_phase.specs.Own.{IsHeldPart, IsUnitNear, unit_window}
 use Rattle.gate_phase.proofs.Bringing.{near_corners}
-use Rattle.gate_phase.proofs.Keeping.{listed_has, low_in, low_square}
+use Rattle.gate_phase.proofs.Keeping.{held_rect, listed_has, low_in, low_square}
 use Rattle.gate_phase.proofs.Locals.{hull_corners}
 use Rattle.gate_phase.proofs.Seeding.{around_grown, grown_within}
 
@@ -44,6 +44,12 @@ close_windows d cell part close sound held is good = λ k r lt.
     let x = slice_index_or close k r in
     let l = listed_get close k r lt in
     frame_rect (hull_of (cell_at d cell)) x (hull_sound d cell sound) (rect_of (covers close) x ((good.each x).0 l)) (λ q e. close_frame d cell part close held is q (listed_has close x q l e))
+
+pub part_windows : (d : Linked) (cell : ℕ) (part : List Rect) → IsSound d → IsHeldPart d cell part → IsCanonical part → All (IsRectWithin (2 ^ 39)) part
+part_windows d cell part sound held good = λ k r lt.
+    let x = slice_index_or part k r in
+    let l = listed_get part k r lt in
+    held_rect (hull_of (cell_at d cell)) x (hull_sound d cell sound) (rect_of (covers part) x ((good.each x).0 l)) (λ q e. held q (listed_has part x q l e))
 
 pub hull_unit : (o : Option Rect) (q : Square) → HullIsSound o → HullHas o q → IsUnitNear q
 hull_unit None q sound h = absurd h

@@ -1,17 +1,17 @@
 -- The gates of a list, one for each of the cell's own.
-use Rattle.std.proofs.Common.{◌≡◌, ℕ, zero, suc, List, [], ◌∷◌, ◌++◌, Option, Some, None, map, slice_get, length, refl, sym, ◌∙◌, ap, subst}
+use Rattle.std.proofs.Common.{◌≡◌, ℕ, zero, suc, List, [], ◌∷◌, ◌++◌, Some, None, map, slice_get, length, refl, sym, ◌∙◌, ap, subst}
 use Rattle.geo_base.specs.declared.shapes.Square.{Square}
-use Rattle.flat_layout.specs.Gates.{Rule, ground}
+use Rattle.flat_layout.specs.Gates.{Rule}
 use Rattle.flat_layout.specs.GateTables.{GateEntry, GateSquare}
 use Rattle.flat_layout.specs.Layout.{Design}
 use Rattle.flat_layout.specs.Nets.{Tables}
 use Rattle.flat_layout.specs.Regions.{Wiring}
-use Rattle.rule_text.specs.declared.rules.MosRule.{MosRule}
 use Rattle.deep_tables.specs.Gates.{plain_gate}
 use Rattle.deep_tables.specs.declared.gates.Gate.{Gate}
 use Rattle.gate_phase.specs.Judged.{AreGatesOf, IsGateOf}
 use Rattle.gate_phase.specs.Rows.{AreEntriesOf, IsVerdictOf}
-use Rattle.gate_phase.specs.Terminals.{IsOfRule}
+use Rattle.gate_phase.specs.Terminals.{IsOfRule, RuleGrounds, grounds_by}
+use Rattle.gate_phase.specs.declared.device.Device.{Device}
 use Rattle.gate_phase.specs.declared.own.OwnGate.{OwnGate}
 
 pub push_both : (is : OwnGate → Gate → Type 0) (xs : List OwnGate) (gs : List Gate) (x : OwnGate) (g : Gate) → AreGatesOf is xs gs → is x g → AreGatesOf is (xs ++ x ∷ []) (gs ++ g ∷ [])
@@ -44,7 +44,7 @@ own_at is [] (f ∷ gs) h i g e = absurd h
 own_at is (x ∷ xs) (f ∷ gs) h zero g e = let same : f ≡ g = (let k : Some f ≡ Some g = e in cc) in (x, refl, subst (λ z. is x z) same h.0)
 own_at is (x ∷ xs) (f ∷ gs) h (suc i) g e = own_at is xs gs h.1 i g e
 
-pub entries_of : (d : Design) (w : Wiring) (t : Tables) (m : MosRule) (global : Option ℕ) (n cell : ℕ) (u : Rule) (own : List OwnGate) (gs : List Gate) → IsOfRule u m → ground w u ≡ global → AreGatesOf (IsGateOf d w t m global n cell) own gs
+pub entries_of : (d : Design) (w : Wiring) (t : Tables) (m : Device) (global : RuleGrounds) (n cell : ℕ) (u : Rule) (own : List OwnGate) (gs : List Gate) → IsOfRule u m → grounds_by w u ≡ global → AreGatesOf (IsGateOf d w t m global n cell) own gs
     → AreEntriesOf d w t u n cell own (map plain_gate gs)
 entries_of d w t m global n cell u own gs of is h = record {
   count = as_many (IsGateOf d w t m global n cell) own gs h;

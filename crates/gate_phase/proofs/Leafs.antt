@@ -1,5 +1,5 @@
 -- A cell that places nothing.
-use Rattle.std.proofs.Common.{◌≡◌, inl, inr, ℕ, true, List, [], ◌∷◌, Option, Some, None, slice_get, subst}
+use Rattle.std.proofs.Common.{◌≡◌, ◌↔◌, inl, inr, ℕ, true, List, [], ◌∷◌, Option, Some, None, slice_get, subst}
 use Rattle.geo_base.specs.declared.layer.LayerKey.{LayerKey}
 use Rattle.geo_base.specs.declared.shapes.Rect.{Rect}
 use Rattle.geo_base.specs.declared.shapes.Square.{Square}
@@ -13,7 +13,6 @@ use Rattle.flat_laws.proofs.Cover.{kept_here}
 use Rattle.cell_graph.specs.declared.cells.Place.{Place}
 use Rattle.cell_graph.specs.Linked.{Linked, IsSound, HullHas, cell_at, hull_of, places_at, plain}
 use Rattle.cell_graph.proofs.Bridge.{step_of}
-use Rattle.gate_search.specs.Gather.{IsGatheredAround}
 use Rattle.gate_phase.proofs.Keeping.{kept_held, one_window}
 
 none_placed : (d : Linked) (cell number : ℕ) (p : flat.Place) → places_at (cell_at d cell) ≡ [] → IsPlaced (plain d) cell number p → ⊥
@@ -23,18 +22,14 @@ none_placed d cell number p none placed =
     let z : ⊥ = cc in z
 
 -- it keeps what it holds itself
-pub leaf_gathered : (d : Linked) (cell : ℕ) (x : Formula) (seeds layer : List Rect) → places_at (cell_at d cell) ≡ [] → IsLocalLayer (plain d) x cell layer → IsGatheredAround (IsKept (plain d) cell x) seeds layer
-leaf_gathered d cell x seeds layer none is = record {
-  sound = λ q e. kept_here (plain d) cell x q ((is.each q).0 e);
-  around = λ a q kept near e. held a kept;
-  steps = λ p q e step. held q step.to;
-}
-  where
-    held : (q : Square) → IsKept (plain d) cell x q → covers layer q ≡ true
-    held q kept = elim (is.parted q kept) [
-      | inl here ↦ (is.each q).1 here
-      | inr below ↦ absurd (none_placed d cell below.number below.place none below.placed)
-    ]
+pub leaf_kept : (d : Linked) (cell : ℕ) (x : Formula) (layer : List Rect) → places_at (cell_at d cell) ≡ [] → IsLocalLayer (plain d) x cell layer → (q : Square) → (covers layer q ≡ true) ↔ IsKept (plain d) cell x q
+leaf_kept d cell x layer none is q = (
+  (λ e. kept_here (plain d) cell x q ((is.each q).0 e)),
+  (λ kept. elim (is.parted q kept) [
+    | inl here ↦ (is.each q).1 here
+    | inr below ↦ absurd (none_placed d cell below.number below.place none below.placed)
+  ]),
+)
 
 -- its hull as a set
 abbrev pub hull_list : Option Rect → List Rect

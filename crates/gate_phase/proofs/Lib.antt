@@ -21,3 +21,7 @@ pub mod Seeding
 pub mod Shaping
 pub mod Telling
 pub mod Terminal
+pub mod Prefix
+pub mod Numbering
+pub mod Calming
+pub mod Stirring

@@ -10,9 +10,12 @@ use Rattle.flat_layout.specs.Layout.{Some_of}
 use Rattle.rule_text.specs.declared.rules.LayerForm.{LayerForm}
 use Rattle.rule_text.specs.declared.rules.LayerForm.TheVariants as form
 use Rattle.rule_text.specs.declared.rules.LayerRule.{LayerRule}
-use Rattle.rule_text.specs.declared.rules.MosRule.{MosRule}
 use Rattle.rule_layers.specs.Formulas.{formulas, formula_by, formulas_behind}
-use Rattle.gate_phase.specs.Reads.{AreClosed, AreRead, IsMarked, IsMarkedInput, IsOfMos, IsReadBy, MarksMore}
+use Rattle.gate_phase.specs.Devices.{layer_in, region_of}
+use Rattle.gate_phase.specs.Reads.{AreClosed, AreRead, IsMarked, IsMarkedInput, IsOfDevice, IsOfRegion, IsOfSome, IsReadBy, MarksMore}
+use Rattle.gate_phase.specs.declared.device.Device.{Device}
+use Rattle.gate_phase.specs.declared.device.Region.{Region}
+use Rattle.gate_phase.specs.declared.device.Region.TheVariants.{One, Both}
 
 none_some : {A : Type 0} (u : A) → None ≡ Some u → ⊥
 none_some u e = cc
@@ -71,28 +74,39 @@ pub count_behind : (before : List Formula) (names : List LayerRule) → length (
 count_behind before [] = omega arith
 count_behind before (n ∷ names) = let r = count_behind (before ++ formula_by before n.form ∷ []) names in let m = length-append before (formula_by before n.form ∷ []) in omega arith
 
-module _ (names : List LayerRule) (m : MosRule) (marks : List Bool) (closed : AreClosed names 0 marks) (roots : (i : ℕ) → IsOfMos m i → i < length names → IsMarked marks i) where
+module _ (names : List LayerRule) (x : Device) (marks : List Bool) (closed : AreClosed names 0 marks) (roots : (i : ℕ) → IsOfDevice x i → i < length names → IsMarked marks i) where
   all_known : Known names marks (formulas names)
   all_known = known_behind names marks [] names 0 refl closed (λ k rule e. let z : k ≡ 0 + k = omega arith in subst (λ n. slice_get names n ≡ Some rule) z e) (λ j y e. absurd (none_some y e))
 
-  root : (i : ℕ) (key : LayerKey) → IsOfMos m i → Some_of (λ k. k ≡ key) (inputs (get_or (formulas names) i Empty)) → (j : ℕ) × IsMarkedInput names marks j key
+  abbrev IsFound : LayerKey → Type 0
+  IsFound key = (j : ℕ) × IsMarkedInput names marks j key
+
+  root : (i : ℕ) (key : LayerKey) → IsOfDevice x i → Some_of (λ k. k ≡ key) (inputs (get_or (formulas names) i Empty)) → IsFound key
   root i key is listed = tree_at names marks (formulas names) i key all_known (λ lt. roots i is (let n = count_behind [] names in omega arith)) listed
 
-  abbrev In : ℕ → LayerKey → Type 0
-  In i key = Some_of (λ k. k ≡ key) (inputs (get_or (formulas names) i Empty))
+  some_root : (o : Option ℕ) (key : LayerKey) → ((i : ℕ) → IsOfSome o i → IsOfDevice x i) → Some_of (λ k. k ≡ key) (inputs (layer_in (formulas names) o)) → IsFound key
+  some_root None key of listed = absurd listed
+  some_root (Some a) key of listed = root a key (of a refl) listed
 
-  pub read_law : AreRead names m marks
-  read_law key listed = elim (some_split (λ k. k ≡ key) (inputs (get_or (formulas names) m.sd Empty)) _ listed) [
-    | inl h ↦ root m.sd key (inl refl) h
-    | inr t ↦ elim (some_split (λ k. k ≡ key) (inputs (get_or (formulas names) m.g Empty)) _ t) [
-      | inl h ↦ root m.g key (inr (inl refl)) h
-      | inr t2 ↦ elim (some_split (λ k. k ≡ key) (inputs (get_or (formulas names) m.w Empty)) _ t2) [
-        | inl h ↦ root m.w key (inr (inr (inl refl))) h
-        | inr t3 ↦ elim (some_split (λ k. k ≡ key) (inputs (get_or (formulas names) m.ts Empty)) _ t3) [
-          | inl h ↦ root m.ts key (inr (inr (inr (inl refl)))) h
-          | inr t4 ↦ elim (some_split (λ k. k ≡ key) (inputs (get_or (formulas names) m.tg Empty)) _ t4) [
-            | inl h ↦ root m.tg key (inr (inr (inr (inr (inl refl))))) h
-            | inr h ↦ root m.tb key (inr (inr (inr (inr (inr refl))))) h
+  region_root : (g : Region) (key : LayerKey) → ((i : ℕ) → IsOfRegion g i → IsOfDevice x i) → Some_of (λ k. k ≡ key) (inputs (region_of (formulas names) g)) → IsFound key
+  region_root (One a) key of listed = root a key (of a refl) listed
+  region_root (Both a b) key of listed = elim (some_split (λ k. k ≡ key) (inputs (get_or (formulas names) a Empty)) (inputs (get_or (formulas names) b Empty)) listed) [
+    | inl h ↦ root a key (of a (inl refl)) h
+    | inr h ↦ root b key (of b (inr refl)) h
+  ]
+
+  pub read_law : AreRead names x marks
+  read_law key listed = elim (some_split (λ k. k ≡ key) (inputs (layer_in (formulas names) x.ends)) _ listed) [
+    | inl h ↦ some_root x.ends key (λ i is. inl is) h
+    | inr t ↦ elim (some_split (λ k. k ≡ key) (inputs (region_of (formulas names) x.region)) _ t) [
+      | inl h ↦ region_root x.region key (λ i is. inr (inl is)) h
+      | inr t2 ↦ elim (some_split (λ k. k ≡ key) (inputs (layer_in (formulas names) x.well)) _ t2) [
+        | inl h ↦ some_root x.well key (λ i is. inr (inr (inl is))) h
+        | inr t3 ↦ elim (some_split (λ k. k ≡ key) (inputs (get_or (formulas names) x.ts Empty)) _ t3) [
+          | inl h ↦ root x.ts key (inr (inr (inr (inl refl)))) h
+          | inr t4 ↦ elim (some_split (λ k. k ≡ key) (inputs (get_or (formulas names) x.tg Empty)) _ t4) [
+            | inl h ↦ root x.tg key (inr (inr (inr (inr (inl refl))))) h
+            | inr h ↦ root x.tb key (inr (inr (inr (inr (inr refl))))) h
           ]
         ]
       ]
@@ -122,54 +136,49 @@ closed_past names from marks off closed j k r is there reads lt beyond = elim (�
   | no n ↦ closed j k r is there reads lt (λ below. beyond (omega (arith, below, n)))
 ]
 
--- six marks one after another
-pub all_six : (m : MosRule) (o a b c d e n : List Bool) → MarksMore (λ i. (i ≡ m.sd) × (i < length o)) o a → MarksMore (λ i. (i ≡ m.g) × (i < length o)) a b → MarksMore (λ i. (i ≡ m.w) × (i < length o)) b c
-    → MarksMore (λ i. (i ≡ m.ts) × (i < length o)) c d → MarksMore (λ i. (i ≡ m.tg) × (i < length o)) d e → MarksMore (λ i. (i ≡ m.tb) × (i < length o)) e n → MarksMore (λ i. IsOfMos m i × (i < length o)) o n
-all_six m o a b c d e n h1 h2 h3 h4 h5 h6 = record {
-  count = h6.count ∙ h5.count ∙ h4.count ∙ h3.count ∙ h2.count ∙ h1.count;
-  stay = λ i g. from1 i (h1.stay i g);
-  here = λ i (is, lt). elim is [
-    | inl g ↦ from1 i (h1.here i (g, lt))
-    | inr r1 ↦ elim r1 [
-      | inl g ↦ from2 i (h2.here i (g, lt))
-      | inr r2 ↦ elim r2 [
-        | inl g ↦ from3 i (h3.here i (g, lt))
-        | inr r3 ↦ elim r3 [
-          | inl g ↦ from4 i (h4.here i (g, lt))
-          | inr r4 ↦ elim r4 [ inl g ↦ h6.stay i (h5.here i (g, lt)) | inr g ↦ h6.here i (g, lt) ]
-        ]
-      ]
-    ]
-  ];
-  fresh = λ i g. elim (h6.fresh i g) [
-    | inr k ↦ inr (inr (inr (inr (inr (inr k.0)))), k.1)
-    | inl g5 ↦ elim (h5.fresh i g5) [
-      | inr k ↦ inr (inr (inr (inr (inr (inl k.0)))), k.1)
-      | inl g4 ↦ elim (h4.fresh i g4) [
-        | inr k ↦ inr (inr (inr (inr (inl k.0))), k.1)
-        | inl g3 ↦ elim (h3.fresh i g3) [
-          | inr k ↦ inr (inr (inr (inl k.0)), k.1)
-          | inl g2 ↦ elim (h2.fresh i g2) [
-            | inr k ↦ inr (inr (inl k.0), k.1)
-            | inl g1 ↦ elim (h1.fresh i g1) [ inl k ↦ inl k | inr k ↦ inr (inl k.0, k.1) ]
-          ]
-        ]
-      ]
-    ]
+-- marks one after another
+pub one_after : (P Q : ℕ → Type 0) (o a n : List Bool) → MarksMore P o a → MarksMore Q a n → MarksMore (λ i. P i ⊎ Q i) o n
+one_after P Q o a n h g = record {
+  count = g.count ∙ h.count;
+  stay = λ i m. g.stay i (h.stay i m);
+  here = λ i k. elim k [ inl p ↦ g.stay i (h.here i p) | inr q ↦ g.here i q ];
+  fresh = λ i m. elim (g.fresh i m) [
+    | inl was ↦ elim (h.fresh i was) [ inl w ↦ inl w | inr p ↦ inr (inl p) ]
+    | inr q ↦ inr (inr q)
   ];
 }
-  where
-    from4 : (i : ℕ) → IsMarked d i → IsMarked n i
-    from4 i g = h6.stay i (h5.stay i g)
 
-    from3 : (i : ℕ) → IsMarked c i → IsMarked n i
-    from3 i g = from4 i (h4.stay i g)
+marks_as : (P Q : ℕ → Type 0) (o n : List Bool) → ((i : ℕ) → P i → Q i) → ((i : ℕ) → Q i → P i) → MarksMore P o n → MarksMore Q o n
+marks_as P Q o n to from h = record {
+  count = h.count;
+  stay = h.stay;
+  here = λ i q. h.here i (from i q);
+  fresh = λ i m. elim (h.fresh i m) [ inl was ↦ inl was | inr p ↦ inr (to i p) ];
+}
 
-    from2 : (i : ℕ) → IsMarked b i → IsMarked n i
-    from2 i g = from3 i (h3.stay i g)
+-- of each of two below a bound, and of one of the two below it
+either_below : (P Q : ℕ → Type 0) (n i : ℕ) → (P i × (i < n)) ⊎ (Q i × (i < n)) → (P i ⊎ Q i) × (i < n)
+either_below P Q n i (inl h) = (inl h.0, h.1)
+either_below P Q n i (inr h) = (inr h.0, h.1)
 
-    from1 : (i : ℕ) → IsMarked a i → IsMarked n i
-    from1 i g = from2 i (h2.stay i g)
+below_either : (P Q : ℕ → Type 0) (n i : ℕ) → (P i ⊎ Q i) × (i < n) → (P i × (i < n)) ⊎ (Q i × (i < n))
+below_either P Q n i (inl h, lt) = inl (h, lt)
+below_either P Q n i (inr h, lt) = inr (h, lt)
+
+pub both_marks : (P Q : ℕ → Type 0) (b : ℕ) (o a n : List Bool) → MarksMore (λ i. P i × (i < b)) o a → MarksMore (λ i. Q i × (i < b)) a n → MarksMore (λ i. (P i ⊎ Q i) × (i < b)) o n
+both_marks P Q b o a n h g =
+    marks_as (λ i. (P i × (i < b)) ⊎ (Q i × (i < b))) (λ i. (P i ⊎ Q i) × (i < b)) o n (either_below P Q b) (below_either P Q b) (one_after (λ i. P i × (i < b)) (λ i. Q i × (i < b)) o a n h g)
+
+-- the six layers of a device rule
+pub all_six : (x : Device) (o a b c d e n : List Bool) → MarksMore (λ i. IsOfSome x.ends i × (i < length o)) o a → MarksMore (λ i. IsOfRegion x.region i × (i < length o)) a b → MarksMore (λ i. IsOfSome x.well i × (i < length o)) b c
+    → MarksMore (λ i. (i ≡ x.ts) × (i < length o)) c d → MarksMore (λ i. (i ≡ x.tg) × (i < length o)) d e → MarksMore (λ i. (i ≡ x.tb) × (i < length o)) e n → MarksMore (λ i. IsOfDevice x i × (i < length o)) o n
+all_six x o a b c d e n h1 h2 h3 h4 h5 h6 =
+    let m = length o in
+    let p5 = both_marks (λ i. i ≡ x.tg) (λ i. i ≡ x.tb) m d e n h5 h6 in
+    let p4 = both_marks (λ i. i ≡ x.ts) (λ i. (i ≡ x.tg) ⊎ (i ≡ x.tb)) m c d n h4 p5 in
+    let p3 = both_marks (λ i. IsOfSome x.well i) (λ i. (i ≡ x.ts) ⊎ ((i ≡ x.tg) ⊎ (i ≡ x.tb))) m b c n h3 p4 in
+    let p2 = both_marks (λ i. IsOfRegion x.region i) (λ i. IsOfSome x.well i ⊎ ((i ≡ x.ts) ⊎ ((i ≡ x.tg) ⊎ (i ≡ x.tb)))) m a b n h2 p3 in
+    both_marks (λ i. IsOfSome x.ends i) (λ i. IsOfRegion x.region i ⊎ (IsOfSome x.well i ⊎ ((i ≡ x.ts) ⊎ ((i ≡ x.tg) ⊎ (i ≡ x.tb))))) m o a n h1 p2
 
 -- a slice written back
 pub written : {A : Type 0} (xs ys : List A) (n : ℕ) → n ≡ length xs → take n (xs ++ ys) ≡ xs

@@ -1,5 +1,5 @@
 -- The entries of a cell's list, one device rule after the other.
-use Rattle.std.proofs.Common.{◌≡◌, ◌⊎◌, inl, inr, ℕ, ◌+◌, ◌++◌, List, [], ◌∷◌, Option, Some, slice_get, refl, sym, ◌∙◌, ap, subst, arith}
+use Rattle.std.proofs.Common.{◌≡◌, ◌⊎◌, inl, inr, ℕ, ◌+◌, ◌++◌, List, [], ◌∷◌, Some, slice_get, refl, sym, ◌∙◌, ap, subst, arith}
 use Rattle.std.proofs.Math.Decide.{ℕ_discrete}
 use Rattle.std.proofs.lemmas.Option.{slice_get_within}
 use Rattle.geo_base.specs.declared.shapes.Square.{Square}
@@ -20,6 +20,7 @@ use Rattle.gate_shapes.proofs.PartsOf.{end_in}
 use Rattle.gate_phase.specs.Own.{AreOwnGates}
 use Rattle.gate_phase.specs.Rows.{AreEntriesOf, AreGatesTo, GateListLaw}
 use Rattle.gate_phase.specs.declared.own.OwnGate.{OwnGate}
+use Rattle.gate_phase.proofs.Numbering.{one_rule}
 use Rattle.gate_phase.proofs.RowsOf.{entry}
 
 -- a part by any of its squares
@@ -32,9 +33,6 @@ rising_both R (x ∷ xs) ys h g cross = (
   (λ y l. elim (either_side xs ys y l) [ inl a ↦ h.0 y a | inr b ↦ cross x y (inl refl) b ]),
   rising_both R xs ys h.1 g (λ a b l m. cross a b (inr l) m),
 )
-
-one_rule : (o : Option Rule) (a b : Rule) → o ≡ Some a → o ≡ Some b → a ≡ b
-one_rule o a b e f = let g : Some a ≡ Some b = sym e ∙ f in cc
 
 module _ (d : Design) (w : Wiring) (t : Tables) (rules : List Rule) (n cell : ℕ) (u : Rule) (own : List OwnGate) (v es : List GateEntry) (h : AreGatesTo d w t rules n cell v) (at : slice_get rules n ≡ Some u) (are : AreOwnGates d w u cell own)
     (of : AreEntriesOf d w t u n cell own es) where

@@ -1,5 +1,5 @@
 -- Seeds are among what was pushed.
-use Rattle.std.proofs.Common.{◌≡◌, inl, inr, ℕ, zero, suc, ◌<◌, ◌^◌, Bool, true, ◌++◌, List, [], ◌∷◌, Option, Some, None, slice_get, get_or, length, refl, sym, ◌∙◌, ap, subst, arith}
+use Rattle.std.proofs.Common.{◌≡◌, inl, inr, ℕ, ◌<◌, ◌^◌, Bool, true, ◌++◌, List, Option, Some, None, slice_get, get_or, length, sym, ◌∙◌, ap, subst, arith}
 use Rattle.std.proofs.lemmas.Int.{ints}
 use Rattle.std.proofs.lemmas.Option.{slice_get_within}
 use Rattle.geo_base.specs.Motions.{moved_square}
@@ -20,16 +20,13 @@ use Rattle.flat_layout.specs.Seeds.{IsInReach, IsOwnSeed, IsPlacedSeed, IsSeed}
 use Rattle.flat_laws.proofs.Cover.{reached_below}
 use Rattle.cell_graph.specs.declared.cells.Place.{Place}
 use Rattle.cell_graph.specs.Linked.{Linked, IsSound, IsStep, IsHull, IsRectWithin, HullHas, HullIsSound, hull_of, cell_at, places_at, motion_at, plain, reference}
-use Rattle.cell_graph.proofs.Bridge.{own, hulls, hull_sound, has_in, in_has, inside_has, maps, placed_of, reference_at, step_of}
+use Rattle.cell_graph.proofs.Bridge.{own, hulls, hull_sound, has_in, in_has, inside_has, placed_of, reference_at, step_of}
 use Rattle.cell_context.specs.Arrays.{IsCloseArray}
 use Rattle.cell_context.proofs.Collecting.{close_array}
 use Rattle.cell_context.proofs.Reaching.{element_within}
 use Rattle.rule_text.specs.Rules.{Rules}
-use Rattle.rule_text.specs.Sound as rules
-use Rattle.rule_text.specs.declared.rules.MosRule.{MosRule}
 use Rattle.rule_layers.specs.Formulas.{formulas}
-use Rattle.rule_layers.specs.Meaning.{device_rule, device_rules, wiring_of}
-use Rattle.rule_layers.proofs.Wired.{conductors, terminals}
+use Rattle.rule_layers.specs.Meaning.{device_rules, wiring_of}
 use Rattle.deep_tables.specs.declared.zones.CellZones.{CellZones}
 use Rattle.deep_tables.specs.Frames.{IsFramedZone, IsInGrown, grown}
 use Rattle.deep_tables.specs.Zones.{AreZones}
@@ -37,18 +34,24 @@ use Rattle.deep_tables.proofs.Framing.{framed}
 use Rattle.deep_tables.proofs.Reading.{device_zone_at}
 use Rattle.gate_phase.specs.Close.{AreOpen, HasOpenBelow}
 use Rattle.gate_phase.specs.Kept.{HoldsNear}
-use Rattle.gate_phase.specs.Reads.{AreRead, mos_keys}
+use Rattle.gate_phase.specs.Devices.{IsDevice, IsKnownDevice, layer_in, region_of}
+use Rattle.gate_phase.specs.Reads.{AreRead, device_keys}
 use Rattle.gate_phase.specs.Seeding.{BringsOpen, BringsOwn}
+use Rattle.gate_phase.specs.declared.device.Device.{Device}
 
--- a device rule's terminals are read as names
-pub keys_same : (r : Rules) (n : ℕ) (m : MosRule) → rules.IsSound r → slice_get (device_rules r) n ≡ Some (device_rule r m) → mos_keys (formulas r.names) m ≡ gate_inputs (wiring_of r) (device_rule r m)
-keys_same r n m sound at =
-    let t = terminals r n (device_rule r m) sound at in
-    let a = get_or (formulas r.names) m.sd Empty in let b = get_or (formulas r.names) m.g Empty in let w = get_or (formulas r.names) m.w Empty in
-    let ts = sym ((conductors r m.ts).conductor t.ts) in let tg = sym ((conductors r m.tg).conductor t.tg) in let tb = sym ((conductors r m.tb).conductor t.tb) in
-    ap (λ x. inputs a ++ (inputs b ++ (inputs w ++ (inputs x ++ (inputs (get_or (formulas r.names) m.tg Empty) ++ inputs (get_or (formulas r.names) m.tb Empty)))))) ts
-    ∙ ap (λ x. inputs a ++ (inputs b ++ (inputs w ++ (inputs (formula (wiring_of r) m.ts) ++ (inputs x ++ inputs (get_or (formulas r.names) m.tb Empty)))))) tg
-    ∙ ap (λ x. inputs a ++ (inputs b ++ (inputs w ++ (inputs (formula (wiring_of r) m.ts) ++ (inputs (formula (wiring_of r) m.tg) ++ inputs x))))) tb
+-- a device rule reads what its names do
+pub keys_same : (r : Rules) (x : Device) (u : Rule) → IsKnownDevice r x → IsDevice (formulas r.names) x u → device_keys (formulas r.names) x ≡ gate_inputs (wiring_of r) u
+keys_same r x u k d =
+    let f = formulas r.names in let w = wiring_of r in
+    let ts : formula w u.ts ≡ get_or f x.ts Empty = ap (λ c. formula w c) d.ts ∙ k.ts.read in
+    let tg : formula w u.tg ≡ get_or f x.tg Empty = ap (λ c. formula w c) d.tg ∙ k.tg.read in
+    let tb : formula w u.tb ≡ get_or f x.tb Empty = ap (λ c. formula w c) d.tb ∙ k.tb.read in
+    let five = ap (λ y. inputs y ++ inputs (formula w u.tb)) tg ∙ ap (λ y. inputs (get_or f x.tg Empty) ++ inputs y) tb in
+    let four = ap (λ y. inputs y ++ (inputs (formula w u.tg) ++ inputs (formula w u.tb))) ts ∙ ap (λ l. inputs (get_or f x.ts Empty) ++ l) five in
+    let three = ap (λ y. inputs y ++ (inputs (formula w u.ts) ++ (inputs (formula w u.tg) ++ inputs (formula w u.tb)))) d.well ∙ ap (λ l. inputs (layer_in f x.well) ++ l) four in
+    let two = ap (λ y. inputs y ++ (inputs u.well ++ (inputs (formula w u.ts) ++ (inputs (formula w u.tg) ++ inputs (formula w u.tb))))) d.region ∙ ap (λ l. inputs (region_of f x.region) ++ l) three in
+    let one = ap (λ y. inputs y ++ (inputs u.gate ++ (inputs u.well ++ (inputs (formula w u.ts) ++ (inputs (formula w u.tg) ++ inputs (formula w u.tb)))))) d.ends ∙ ap (λ l. inputs (layer_in f x.ends) ++ l) two in
+    sym one
 
 -- around a square of a hull lies the grown hull
 pub around_grown : (o : Option Rect) (a q : Square) → HullHas o a → IsAround a q → IsInGrown o q
@@ -99,17 +102,17 @@ moved_in (Some g) p row column s plane sound all near a b h =
     inside_has (moved_rect m (grown g)) plane (moved_square m s) (all (moved_rect m (grown g)) (element_within p row column (grown g) near a b (grown_within g sound)))
     (moved_rect-has m (grown g) s (grown_some g sound.some) ∙ h)
 
-module _ (d : Linked) (r : Rules) (z : List (Option CellZones)) (cell device : ℕ) (m : MosRule) (sound : IsSound d) (good : rules.IsSound r) (right : AreZones (plain d) r z) (reached : IsReached (plain d) cell) (at : slice_get (device_rules r) device ≡ Some (device_rule r m))
-    (plane : Rect) (all : HoldsNear plane) (marks : List Bool) (read : AreRead r.names m marks) (old out : List Rect)
+module _ (d : Linked) (r : Rules) (z : List (Option CellZones)) (cell device : ℕ) (x : Device) (u : Rule) (sound : IsSound d) (known : IsKnownDevice r x) (of : IsDevice (formulas r.names) x u) (right : AreZones (plain d) r z) (reached : IsReached (plain d) cell) (at : slice_get (device_rules r) device ≡ Some u)
+    (plane : Rect) (all : HoldsNear plane) (marks : List Bool) (read : AreRead r.names x marks) (old out : List Rect)
     (brings : (i : ℕ) (p : Place) → slice_get (places_at (cell_at d cell)) i ≡ Some p → BringsOpen d z device p plane old)
     (grows : (q : Square) → covers old q ≡ true → covers out q ≡ true)
     (mine : BringsOwn d cell r.names marks (length r.names) out) where
   abbrev K : List LayerKey
-  K = gate_inputs (wiring_of r) (device_rule r m)
+  K = gate_inputs (wiring_of r) u
 
   own_there : (q : Square) → IsOwnSeed (plain d) K cell q → covers out q ≡ true
   own_there q h =
-      let i = read h.key (subst (λ ks. Some_of (λ k. k ≡ h.key) ks) (sym (keys_same r device m good at)) h.listed) in
+      let i = read h.key (subst (λ ks. Some_of (λ k. k ≡ h.key) ks) (sym (keys_same r x u known of)) h.listed) in
       mine i.0 h.key (slice_get_within r.names i.0 i.1.0 i.1.1) i.1 q ((own d sound cell h.key q).0 h.own)
 
   placed_there : (q : Square) → IsPlacedSeed (plain d) K cell q → covers out q ≡ true
@@ -118,7 +121,7 @@ module _ (d : Linked) (r : Rules) (z : List (Option CellZones)) (cell device : �
       let reach : IsInReach (plain d) K t.from.cell h.square = subst (λ (y : flat.Place). IsInReach (plain d) K y.cell h.square) t.is h.reach in
       let disturbed : IsDisturbed (plain d) K t.from.cell h.square = subst (λ (y : flat.Place). IsDisturbed (plain d) K y.cell h.square) t.is h.disturbed in
       let image : moved_square (motion_at t.from t.row t.column) h.square ≡ q = ap (λ (y : flat.Place). moved_square y.motion h.square) (sym t.is) ∙ h.image in
-      let e = open_at d r z t.from.cell device (device_rule r m) sound right (reached_step d cell t.index t.row t.column t.from reached t.step) at in
+      let e = open_at d r z t.from.cell device u sound right (reached_step d cell t.index t.row t.column t.from reached t.step) at in
       let inside = reach_grown d K t.from.cell h.square sound reach in
       let there = brings t.index t.from t.step.there e.zone t.row t.column h.square e.is t.step.row_in t.step.column_in inside ((e.framed h.square).1 (disturbed, inside))
       (moved_in (hull_of (cell_at d t.from.cell)) t.from t.row t.column h.square plane (hull_sound d t.from.cell sound) all (close_array d cell t.index t.from sound t.step.there) t.step.row_in t.step.column_in inside) in
@@ -134,22 +137,3 @@ open_below d r z cell device u sound right reached at i p there =
     let ref = (reference_at d cell i p sound there).2 in
     let e = open_at d r z p.cell device u sound right (reached_step d cell i 0 0 p reached (record { there = there; row_in = ref.rows; column_in = ref.columns })) at in
     (e.zone, e.is)
-
--- a device rule of the rules is one by its number
-pub rule_there : (r : Rules) (device : ℕ) (m : MosRule) → slice_get r.devices device ≡ Some m → slice_get (device_rules r) device ≡ Some (device_rule r m)
-rule_there r device m e = maps (device_rule r) r.devices device m e
-
-pub one_rule : (o : Option Rule) (a b : Rule) → o ≡ Some a → o ≡ Some b → a ≡ b
-one_rule o a b e f = let g : Some a ≡ Some b = sym e ∙ f in cc
-
-pub some_rule : (r : Rules) (device : ℕ) → device < length r.devices → (u : Rule) × (slice_get (device_rules r) device ≡ Some u)
-some_rule r device lt = by (slice_get r.devices device) refl
-  where
-    get_within : {A : Type 0} (xs : List A) (k : ℕ) → k < length xs → slice_get xs k ≡ None → ⊥
-    get_within [] k lt e = let z : ⊥ = omega arith in z
-    get_within (x ∷ xs) zero lt e = let f : Some x ≡ None = e in let z : ⊥ = cc in z
-    get_within (x ∷ xs) (suc k) lt e = get_within xs k (omega arith) e
-
-    by : (o : Option MosRule) → slice_get r.devices device ≡ o → (u : Rule) × (slice_get (device_rules r) device ≡ Some u)
-    by None e = absurd (get_within r.devices device lt e)
-    by (Some m) e = (device_rule r m, rule_there r device m e)

@@ -1,17 +1,17 @@
 -- The terminals of a settled good gate are held by nets of its cell.
-use Rattle.std.proofs.Common.{◌≡◌, inr, ℕ, Option, Some, None, refl, subst}
+use Rattle.std.proofs.Common.{◌≡◌, ℕ, Option, Some, None, sym, ap, subst}
 use Rattle.cell_graph.proofs.Bridge.{heights}
 use Rattle.cell_graph.specs.Linked.{IsSound, Linked, cell_at, height_at, hull_of, plain}
 use Rattle.cell_graph.proofs.Bridge.{hull_sound}
 use Rattle.deep_tables.specs.Nets.{AreRightNets}
 use Rattle.flat_laws.proofs.OneNet.{regions}
-use Rattle.flat_laws.proofs.Terminals.{terminals}
-use Rattle.flat_layout.specs.Gates.{InGate, IsTerminalNode, Rule, geometry, ground, sheets}
+use Rattle.flat_laws.proofs.Terminals.{grounds, terminals}
+use Rattle.flat_layout.specs.Gates.{InGate, IsTerminalNode, Rule, anode_ground, form_of, geometry, ground, sheets}
 use Rattle.flat_layout.specs.Layout.{IsReached}
 use Rattle.flat_layout.specs.Nets.{AreTables, Tables}
-use Rattle.flat_layout.specs.Regions.{At, IsNode, Node, Wiring, formula, kept}
+use Rattle.flat_layout.specs.Regions.{At, IsNode, Node, Wiring, formula, ground_of, kept}
 use Rattle.geo_base.specs.declared.shapes.Square.{Square}
-use Rattle.gate_shapes.specs.Shapes.{IsShape}
+use Rattle.gate_shapes.specs.Shapes.{IsShapeBy}
 use Rattle.gate_shapes.specs.declared.shape.GateForm.{GateForm}
 use Rattle.gate_shapes.specs.declared.shape.GateShape.{GateShape}
 use Rattle.gate_shapes.specs.declared.shape.GateShape.TheVariants.{Bad, Good}
@@ -21,12 +21,17 @@ use Rattle.plain_netlist.specs.Netlist.{Bulk, Drain, Gate, Pole, Source}
 use Rattle.rule_layers.proofs.Wired.{known}
 use Rattle.rule_layers.specs.Meaning.{wiring_of}
 use Rattle.rule_text.specs.Rules.{Rules}
-use Rattle.rule_text.specs.declared.rules.MosRule.{MosRule}
 use Rattle.table_laws.proofs.Tabled.{reached_under}
 use Rattle.table_laws.proofs.Tabled as tabled
 use Rattle.gate_phase.specs.Judged.{IsHeldShape}
 use Rattle.gate_phase.specs.Own.{IsOwnGate}
-use Rattle.gate_phase.specs.Terminals.{AreHeld, IsHeldBulk, IsHeldSquare, IsOfRule}
+use Rattle.gate_phase.specs.Devices.{kind_seen}
+use Rattle.gate_phase.specs.Rows.{end_node, gate_node, region_node}
+use Rattle.gate_phase.specs.Terminals.{AreHeld, HasOneEnd, IsHeldEnd, IsHeldGate, IsHeldRegion, IsHeldSquare, IsOfRule, RuleGrounds, grounds_by}
+use Rattle.gate_phase.specs.declared.device.Device.{Device}
+use Rattle.gate_phase.specs.declared.device.Kind.{Kind}
+use Rattle.gate_phase.specs.declared.device.Kind.TheVariants.{Transistor, Resistor, Diode}
+use Rattle.gate_phase.proofs.RowsOf.{HasNodes, nodes_of}
 use Rattle.gate_phase.specs.declared.own.OwnGate.{OwnGate}
 use Rattle.gate_phase.proofs.Holding.{hull_unit}
 use Rattle.gate_phase.proofs.Keeping.{kept_held}
@@ -47,30 +52,46 @@ module _ (d : Linked) (r : Rules) (t : Tables) (sound : IsSound d) (right : AreR
       let x = (regions (plain d) w t (height_at d) tables cell reached).complete (At c s) is in
       record { known = conductor (plain d) w t cell x.0 c s nets_under x.1; near = hull_unit (hull_of (cell_at d cell)) s (hull_sound d cell sound) (kept_held d cell (formula w c) s sound is); held = x }
 
-  module _ (u : Rule) (m : MosRule) (of : IsOfRule u m) (x : OwnGate) (own : IsOwnGate (plain d) w u cell x) (f : GateForm) (shape : IsShape (sheets (plain d) w u cell) (InGate (plain d) (geometry w u) cell x.least) (Good f)) where
-    node : (pole : Pole) (n : Node) → IsTerminalNode (plain d) w u cell x.least shape.source shape.drain pole n → IsNode w (kept (plain d) w cell) n
-    node pole n is = (terminals (plain d) w u cell x.least shape.source shape.drain f.twice_w f.twice_l pole n n reached own.listed.settled shape.form (known r u) is is).0
+  at_held : (a c : ℕ) (s : Square) → a ≡ c → IsNode w (kept (plain d) w cell) (At a s) → IsHeldSquare (plain d) w t cell c s
+  at_held a c s same is = held_square c s (subst (λ k. IsNode w (kept (plain d) w cell) (At k s)) same is)
 
-    at : (c e : ℕ) (s : Square) → c ≡ e → IsNode w (kept (plain d) w cell) (At c s) → IsHeldSquare (plain d) w t cell e s
-    at c e s same is = held_square e s (subst (λ k. IsNode w (kept (plain d) w cell) (At k s)) same is)
+  region_held : (a c : ℕ) (s : Square) (o : Option ℕ) → a ≡ c → ground_of a w.grounds ≡ o → IsNode w (kept (plain d) w cell) (region_node a s (ground_of a w.grounds)) → IsHeldRegion (plain d) w t cell c s o
+  region_held a c s None same is node = at_held a c s same (subst (λ (p : Option ℕ). IsNode w (kept (plain d) w cell) (region_node a s p)) is node)
+  region_held a c s (Some g) same is node = known r a g is
 
-    bulk : (global : Option ℕ) → ground w u ≡ global → IsHeldBulk (plain d) w t cell m.tb x.least global
-    bulk None is = at u.tb m.tb x.least of.tb (node Bulk (At u.tb x.least) (inr (is, (x.least, own.least.has, refl))))
-    bulk (Some g) is = known r u g is
+  end_held : (k : Kind) (u : Rule) (c : ℕ) (s : Square) (o : Option ℕ) → u.ts ≡ c → anode_ground w u ≡ o → IsNode w (kept (plain d) w cell) (end_node (kind_seen k) w u s) → IsHeldEnd k (plain d) w t cell c s o
+  end_held Transistor u c s o same is node = at_held u.ts c s same node
+  end_held Resistor u c s o same is node = at_held u.ts c s same node
+  end_held Diode u c s o same is node = region_held u.ts c s o same is node
 
-    held_form : (global : Option ℕ) → ground w u ≡ global → AreHeld (plain d) w t m cell global x.least f
-    held_form global is = record {
-      source = at u.ts m.ts f.source of.ts (node Source (At u.ts f.source) (f.source, shape.least_source.has, refl));
-      drain = at u.ts m.ts f.drain of.ts (node Drain (At u.ts f.drain) (f.drain, shape.least_drain.has, refl));
-      gate = at u.tg m.tg x.least of.tg (node Gate (At u.tg x.least) (x.least, own.least.has, refl));
-      bulk = bulk global is;
-    }
+  gate_held : (k : Kind) (u : Rule) (c : ℕ) (s : Square) → u.tg ≡ c → IsNode w (kept (plain d) w cell) (gate_node (kind_seen k) w u s) → IsHeldGate k (plain d) w t cell c s
+  gate_held Transistor u c s same node = at_held u.tg c s same node
+  gate_held Resistor u c s same node = tt
+  gate_held Diode u c s same node = tt
 
-  by_shape : (u : Rule) (m : MosRule) (global : Option ℕ) → IsOfRule u m → ground w u ≡ global → (x : OwnGate) → IsOwnGate (plain d) w u cell x → (shape : GateShape) → IsShape (sheets (plain d) w u cell) (InGate (plain d) (geometry w u) cell x.least) shape
-      → IsHeldShape (plain d) w t m cell global x.least shape
-  by_shape u m global of is x own (Good f) shape = held_form u m of x own f shape global is
-  by_shape u m global of is x own (Bad c) shape = tt
+  module _ (u : Rule) (x : Device) (of : IsOfRule u x) (y : OwnGate) (own : IsOwnGate (plain d) w u cell y) (f : GateForm) (n : HasNodes u.kind (plain d) w u cell y.least f) where
+    node : (pole : Pole) (m : Node) → IsTerminalNode (plain d) w u cell y.least n.ends pole m → IsNode w (kept (plain d) w cell) m
+    node pole m is =
+        (terminals (plain d) w u cell y.least n.ends f.twice_w f.twice_l pole m m reached own.listed.settled n.good
+        (λ g e. let c = grounds (plain d) w u cell y.least n.ends pole g (subst (λ z. IsTerminalNode (plain d) w u cell y.least n.ends pole z) (sym e) is) in known r c.0 g c.1) is is).0
+
+    held_form : (g : RuleGrounds) → grounds_by w u ≡ g → AreHeld (plain d) w t x cell g y.least f
+    held_form g is =
+        let ends : anode_ground w u ≡ g.ends = ap (λ (b : RuleGrounds). b.ends) is in
+        let bulk : ground w u ≡ g.bulk = ap (λ (b : RuleGrounds). b.bulk) is in
+        let k = of.kind in record {
+          source = end_held x.kind u x.ts f.source g.ends of.ts ends (subst (λ q. IsNode w (kept (plain d) w cell) (end_node q w u f.source)) k (node Source (end_node u.kind w u f.source) n.source));
+          drain = end_held x.kind u x.ts f.drain g.ends of.ts ends (subst (λ q. IsNode w (kept (plain d) w cell) (end_node q w u f.drain)) k (node Drain (end_node u.kind w u f.drain) n.drain));
+          gate = gate_held x.kind u x.tg y.least of.tg (subst (λ q. IsNode w (kept (plain d) w cell) (gate_node q w u y.least)) k (node Gate (gate_node u.kind w u y.least) n.gate));
+          bulk = region_held u.tb x.tb y.least g.bulk of.tb bulk (node Bulk (region_node u.tb y.least (ground w u)) n.bulk);
+          one = subst (λ q. HasOneEnd q f) k n.one;
+        }
+
+  by_shape : (u : Rule) (x : Device) (g : RuleGrounds) → IsOfRule u x → grounds_by w u ≡ g → (y : OwnGate) → IsOwnGate (plain d) w u cell y → (shape : GateShape) → IsShapeBy (form_of u.kind) (sheets (plain d) w u cell) (InGate (plain d) (geometry w u) cell y.least) shape
+      → IsHeldShape (plain d) w t x cell g y.least shape
+  by_shape u x g of is y own (Good f) shape = held_form u x of y own f (nodes_of (plain d) w u cell y.least u.kind f shape own.least) g is
+  by_shape u x g of is y own (Bad c) shape = tt
 
   -- so what the terminals of an own gate ask is met
-  pub held_shape : (u : Rule) (m : MosRule) (global : Option ℕ) → IsOfRule u m → ground w u ≡ global → (x : OwnGate) → IsOwnGate (plain d) w u cell x → IsHeldShape (plain d) w t m cell global x.least x.shape
-  held_shape u m global of is x own = by_shape u m global of is x own x.shape own.shape
+  pub held_shape : (u : Rule) (x : Device) (g : RuleGrounds) → IsOfRule u x → grounds_by w u ≡ g → (y : OwnGate) → IsOwnGate (plain d) w u cell y → IsHeldShape (plain d) w t x cell g y.least y.shape
+  held_shape u x g of is y own = by_shape u x g of is y own y.shape own.shape

@@ -1,10 +1,13 @@
+pub mod Devices
 pub mod Below
 pub mod Close
 pub mod Indexes
 pub mod Judged
 pub mod Kept
 pub mod Layer
+pub mod Both
 pub mod Own
+pub mod Work
 pub mod Phase
 pub mod Reads
 pub mod Rows

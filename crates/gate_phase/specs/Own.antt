@@ -6,7 +6,7 @@ use Rattle.geo_base.specs.Near.{IsWithin}
 use Rattle.geo_base.specs.declared.shapes.Rect.{Rect}
 use Rattle.geo_base.specs.declared.shapes.Square.{Square}
 use Rattle.flat_layout.specs.Gates.{Geometry, Rule, InGate, IsGateBelow, IsLeast, IsListedGate}
-use Rattle.flat_layout.specs.Gates.{IsSettled, geometry, sheets}
+use Rattle.flat_layout.specs.Gates.{IsSettled, form_of, geometry, sheets}
 use Rattle.flat_layout.specs.Layers.{IsKept}
 use Rattle.flat_layout.specs.Layout.{Design, IsReached}
 use Rattle.flat_layout.specs.Plane.{IsSquareBefore}
@@ -14,13 +14,14 @@ use Rattle.flat_layout.specs.Regions.{Wiring}
 use Rattle.cell_graph.specs.Linked.{Linked, HullHas, cell_at, hull_of, plain}
 use Rattle.rule_text.specs.Rules.{Rules}
 use Rattle.rule_text.specs.Sound.{IsSound}
+use Rattle.rule_layers.specs.Meaning.{device_rules}
 use Rattle.deep_tables.specs.Layers.{AreLayers}
 use Rattle.deep_tables.specs.Zones.{AreZones}
 use Rattle.deep_tables.specs.declared.layers.CellLayers.{CellLayers}
 use Rattle.deep_tables.specs.declared.zones.CellZones.{CellZones}
 use Rattle.gate_search.specs.SearchLaws.{IsTold}
 use Rattle.gate_shapes.specs.Sets.{in_set}
-use Rattle.gate_shapes.specs.Shapes.{IsShape}
+use Rattle.gate_shapes.specs.Shapes.{IsShapeBy}
 use Rattle.gate_phase.specs.Below.{IsFreeElement}
 use Rattle.gate_phase.specs.Close.{MissesOpen}
 use Rattle.gate_phase.specs.declared.own.OwnGate.{OwnGate}
@@ -29,7 +30,7 @@ use Rattle.gate_phase.specs.declared.own.OwnGate.{OwnGate}
 pub record IsReady (d : Linked) (r : Rules) (z : List (Option CellZones))
     (l : List (Option CellLayers)) (cell device : ℕ) : Type 0 where
   pub rules : IsSound r
-  pub known : device < length r.devices
+  pub known : device < length (device_rules r)
   pub zones : AreZones (plain d) r z
   pub layers : AreLayers (plain d) r l
   pub reached : IsReached (plain d) cell
@@ -59,7 +60,8 @@ pub record IsOwnGate (d : Design) (w : Wiring) (u : Rule) (cell : ℕ) (x : OwnG
   pub listed : IsListedGate d (geometry w u) cell x.least
   pub least : IsLeast (InGate d (geometry w u) cell x.least) x.least
   pub area : (q : Square) → in_set x.area q ↔ InGate d (geometry w u) cell x.least q
-  pub shape : IsShape (sheets d w u cell) (InGate d (geometry w u) cell x.least) x.shape
+  pub shape : IsShapeBy (form_of u.kind) (sheets d w u cell) (InGate d (geometry w u) cell x.least)
+      x.shape
 
 -- each gate of the cell's own, once, in order of their least squares; and of each settled gate it
 -- is known whether it is one of these or comes from below

@@ -1,20 +1,8 @@
 -- What a phase of gates is made from.
-use Rattle.std.specs.Prelude.{◌≡◌, ◌<◌, ◌^◌, ℕ, List, length}
-use Rattle.cell_graph.specs.Linked.{Linked, plain}
-use Rattle.deep_tables.specs.Layers.{AreLayers}
-use Rattle.deep_tables.specs.Nets.{AreRightNets}
-use Rattle.deep_tables.specs.Zones.{AreZones}
+use Rattle.std.specs.Prelude.{ℕ, List}
+use Rattle.cell_graph.specs.Linked.{Linked}
 use Rattle.layer_phase.specs.Phase.{AreFreeJobs}
-use Rattle.rule_layers.specs.Meaning.{globals_of, wiring_of}
-use Rattle.rule_text.specs.Seen.{rules_seen}
-use Rattle.rule_text.specs.Sound.{IsSound}
 use Rattle.rule_text.specs.declared.rules.RuleSet.{RuleSet}
-use Rattle.net_phase.specs.Below.{BelowSeen, tables_seen}
-use Rattle.net_phase.specs.Elements.{AreAllElements, element_lists}
-use Rattle.net_phase.specs.Indexes.{AreIndexes}
-use Rattle.net_phase.specs.Own.{AreOwnLists, rect_lists}
-use Rattle.net_phase.specs.Reading.{nets_of}
-use Rattle.gate_phase.specs.Judged.{bulks_of}
 use Rattle.gate_phase.specs.declared.phase.GatePhase.TheInside.{Inside}
 
 -- the layout, the rules and the jobs
@@ -24,29 +12,7 @@ pub record GateJobs : Type 0 where
   pub graph : List (List ℕ)
 
 abbrev pub jobs_seen : Inside → GateJobs
-jobs_seen a = record { design = a.design.now; rules = a.rules.now; graph = a.graph }
-
--- what a job reads
-abbrev pub read_by : Inside → BelowSeen
-read_by a = record {
-  design = a.design.now;
-  rules = a.rules.now;
-  own = rect_lists a.own.items;
-  nets = nets_of a.nets.items;
-}
+jobs_seen a = record { design = a.work.design; rules = a.work.rules; graph = a.graph }
 
 pub record IsGatePhase (a : Inside) : Type 0 where
-  pub sound : IsSound (rules_seen a.rules.now)
-  pub few : length a.rules.now.devices.items < 2 ^ 32
-  pub zones : AreZones (plain a.design.now) (rules_seen a.rules.now) a.zones.now
-  pub layers : AreLayers (plain a.design.now) (rules_seen a.rules.now) a.layers
-  pub conductors : a.conductors ≡ length (wiring_of (rules_seen a.rules.now)).conductors
-  pub globals : a.globals ≡ length (globals_of (rules_seen a.rules.now))
-  pub bulks : a.bulks.items ≡ bulks_of (rules_seen a.rules.now)
-  pub elements : AreAllElements a.design.now (element_lists a.elements.items)
-  pub own : AreOwnLists a.design.now (rules_seen a.rules.now) (rect_lists a.own.items)
-  pub indexes : AreIndexes a.design.now (rect_lists a.own.items) (element_lists a.elements.items)
-      a.indexes
-  pub nets : AreRightNets (plain a.design.now) (wiring_of (rules_seen a.rules.now))
-      (tables_seen (read_by a))
-  pub graph : AreFreeJobs a.design.now a.graph
+  pub graph : AreFreeJobs a.work.design a.graph

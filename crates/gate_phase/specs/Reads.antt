@@ -1,14 +1,17 @@
 -- The input layers that a device rule reads, as marks on the names of the rules.
-use Rattle.std.specs.Prelude.{◌≡◌, ◌⊎◌, ℕ, ◌<◌, true, Bool, List, Some, ◌++◌, length, get_or}
-use Rattle.std.specs.Prelude.{slice_get}
+use Rattle.std.specs.Prelude.{◌≡◌, ◌⊎◌, ℕ, ◌<◌, true, Bool, List, Option, Some, None, ◌++◌, length}
+use Rattle.std.specs.Prelude.{get_or, slice_get}
 use Rattle.geo_base.specs.declared.layer.LayerKey.{LayerKey}
 use Rattle.flat_layout.specs.Layers.{Formula, Empty, inputs}
 use Rattle.flat_layout.specs.Layout.{Some_of}
 use Rattle.rule_text.specs.declared.rules.LayerForm.{LayerForm}
 use Rattle.rule_text.specs.declared.rules.LayerForm.TheVariants as form
 use Rattle.rule_text.specs.declared.rules.LayerRule.{LayerRule}
-use Rattle.rule_text.specs.declared.rules.MosRule.{MosRule}
 use Rattle.rule_layers.specs.Formulas.{formulas}
+use Rattle.gate_phase.specs.Devices.{layer_in, region_of}
+use Rattle.gate_phase.specs.declared.device.Device.{Device}
+use Rattle.gate_phase.specs.declared.device.Region.{Region}
+use Rattle.gate_phase.specs.declared.device.Region.TheVariants.{One, Both}
 
 abbrev pub IsMarked : List Bool → ℕ → Type 0
 IsMarked marks i = slice_get marks i ≡ Some true
@@ -32,15 +35,24 @@ AreClosed names from marks = (j k : ℕ) (rule : LayerRule) → IsMarked marks j
     → IsMarked marks k
 
 -- the name is a layer of a device rule
-abbrev pub IsOfMos : MosRule → ℕ → Type 0
-IsOfMos m i = (i ≡ m.sd) ⊎ ((i ≡ m.g) ⊎ ((i ≡ m.w) ⊎ ((i ≡ m.ts) ⊎ ((i ≡ m.tg) ⊎ (i ≡ m.tb)))))
+abbrev pub IsOfRegion : Region → ℕ → Type 0
+IsOfRegion (One a) i = i ≡ a
+IsOfRegion (Both a b) i = (i ≡ a) ⊎ (i ≡ b)
 
--- the input layers that the six layers of a device rule read
-abbrev pub mos_keys : List Formula → MosRule → List LayerKey
-mos_keys trees m =
-    inputs (get_or trees m.sd Empty) ++ (inputs (get_or trees m.g Empty)
-    ++ (inputs (get_or trees m.w Empty) ++ (inputs (get_or trees m.ts Empty)
-    ++ (inputs (get_or trees m.tg Empty) ++ inputs (get_or trees m.tb Empty)))))
+abbrev pub IsOfSome : Option ℕ → ℕ → Type 0
+IsOfSome None i = ⊥
+IsOfSome (Some a) i = i ≡ a
+
+abbrev pub IsOfDevice : Device → ℕ → Type 0
+IsOfDevice x i = IsOfSome x.ends i ⊎ (IsOfRegion x.region i ⊎ (IsOfSome x.well i ⊎ ((i ≡ x.ts)
+    ⊎ ((i ≡ x.tg) ⊎ (i ≡ x.tb)))))
+
+-- the input layers that the layers of a device rule read
+abbrev pub device_keys : List Formula → Device → List LayerKey
+device_keys trees x =
+    inputs (layer_in trees x.ends) ++ (inputs (region_of trees x.region)
+    ++ (inputs (layer_in trees x.well) ++ (inputs (get_or trees x.ts Empty)
+    ++ (inputs (get_or trees x.tg Empty) ++ inputs (get_or trees x.tb Empty)))))
 
 -- the name is this input layer, and marked
 abbrev pub IsMarkedInput : List LayerRule → List Bool → ℕ → LayerKey → Type 0
@@ -48,7 +60,7 @@ IsMarkedInput names marks i key = (rule : LayerRule) × (slice_get names i ≡ S
     × (rule.form ≡ form.Input key) × IsMarked marks i
 
 -- each input layer that the device rule reads is marked
-abbrev pub AreRead : List LayerRule → MosRule → List Bool → Type 0
-AreRead names m marks = (key : LayerKey)
-    → Some_of (λ k. k ≡ key) (mos_keys (formulas names) m)
+abbrev pub AreRead : List LayerRule → Device → List Bool → Type 0
+AreRead names x marks = (key : LayerKey)
+    → Some_of (λ k. k ≡ key) (device_keys (formulas names) x)
     → (i : ℕ) × IsMarkedInput names marks i key

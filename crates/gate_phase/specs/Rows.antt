@@ -1,9 +1,9 @@
 -- The row of a good gate of a cell's own, from the nets of four nodes.
-use Rattle.std.specs.Prelude.{◌≡◌, ◌⊎◌, ◌<◌, ◌+◌, ◌++◌, ℕ, List, [], Option, Some, None, length}
+use Rattle.std.specs.Prelude.{◌≡◌, ◌⊎◌, ◌↔◌, ◌<◌, ◌+◌, ◌++◌, ℕ, List, [], Option, Some, None, length}
 use Rattle.std.specs.Prelude.{slice_get}
 use Rattle.geo_base.specs.declared.shapes.Square.{Square}
 use Rattle.flat_layout.specs.Gates.{InGate, IsGateBelow, IsLeast, IsListedGate, IsSettled, Rule}
-use Rattle.flat_layout.specs.Gates.{geometry, ground, sheets}
+use Rattle.flat_layout.specs.Gates.{Kind, Mos, Diode, anode_ground, form_of, geometry, ground, sheets}
 use Rattle.flat_layout.specs.GateTables.{AreGates, GateEntry, GateRow, IsGateBefore, IsGateEntry}
 use Rattle.flat_layout.specs.GateTables.{IsGateRow, Verdict}
 use Rattle.flat_layout.specs.GateTables as verdict
@@ -11,33 +11,42 @@ use Rattle.flat_layout.specs.Layout.{Design}
 use Rattle.flat_layout.specs.Nets.{NetHolds, Tables}
 use Rattle.flat_layout.specs.Regions.{At, Ground, Node, Wiring}
 use Rattle.plain_netlist.specs.Lists.{AreRising, IsListed}
-use Rattle.gate_shapes.specs.Shapes.{IsShape, cause_of}
+use Rattle.gate_shapes.specs.Shapes.{IsShapeBy, cause_of}
 use Rattle.gate_shapes.specs.declared.shape.GateForm.{GateForm}
 use Rattle.gate_shapes.specs.declared.shape.GateShape.{GateShape}
 use Rattle.gate_shapes.specs.declared.shape.GateShape.TheVariants.{Bad, Good}
 use Rattle.gate_phase.specs.Own.{AreOwnGates, IsOwnGate}
 use Rattle.gate_phase.specs.declared.own.OwnGate.{OwnGate}
 
--- the node of the bulk: the global of its conductor, or the gate's least square on that
-abbrev pub bulk_node : Rule → Square → Option ℕ → Node
-bulk_node u least None = At u.tb least
-bulk_node u least (Some g) = Ground g
+-- the node of a region on a conductor: the conductor's global, or the region's least square on it
+abbrev pub region_node : ℕ → Square → Option ℕ → Node
+region_node c least None = At c least
+region_node c least (Some g) = Ground g
 
--- these nets hold the least squares of the two groups and of the gate, and the bulk's node
+-- those of an end, by the square of its group, and of the gate
+abbrev pub end_node : Kind → Wiring → Rule → Square → Node
+end_node Diode w u s = region_node u.ts s (anode_ground w u)
+end_node kind w u s = At u.ts s
+
+abbrev pub gate_node : Kind → Wiring → Rule → Square → Node
+gate_node Mos w u s = At u.tg s
+gate_node kind w u s = region_node u.tb s (ground w u)
+
+-- these nets hold the nodes of the four terminals
 pub record HoldTerminals (d : Design) (w : Wiring) (t : Tables) (u : Rule) (cell : ℕ)
     (least : Square) (f : GateForm) (row : GateRow) : Type 0 where
   pub wide : row.twice_w ≡ f.twice_w
   pub long : row.twice_l ≡ f.twice_l
-  pub source : NetHolds d t cell row.source (At u.ts f.source)
-  pub drain : NetHolds d t cell row.drain (At u.ts f.drain)
-  pub gate : NetHolds d t cell row.gate (At u.tg least)
-  pub bulk : NetHolds d t cell row.bulk (bulk_node u least (ground w u))
+  pub source : NetHolds d t cell row.source (end_node u.kind w u f.source)
+  pub drain : NetHolds d t cell row.drain (end_node u.kind w u f.drain)
+  pub gate : NetHolds d t cell row.gate (gate_node u.kind w u least)
+  pub bulk : NetHolds d t cell row.bulk (region_node u.tb least (ground w u))
 
 -- then they are the row of the gate
 abbrev pub RowLaw : Type 0
 RowLaw = (d : Design) (w : Wiring) (t : Tables) (u : Rule) (cell : ℕ) (least : Square)
     (f : GateForm) (row : GateRow)
-    → IsShape (sheets d w u cell) (InGate d (geometry w u) cell least) (Good f)
+    → IsShapeBy (form_of u.kind) (sheets d w u cell) (InGate d (geometry w u) cell least) (Good f)
     → IsLeast (InGate d (geometry w u) cell least) least
     → HoldTerminals d w t u cell least f row → IsGateRow d w t u cell least row
 
@@ -92,6 +101,12 @@ pub record GateListLaw : Type 0 where
   pub all : (d : Design) (w : Wiring) (t : Tables) (rules : List Rule) (cell : ℕ)
       (v : List GateEntry) → AreGatesTo d w t rules (length rules) cell v
       → AreGates d w t rules cell v
+
+-- those of the first rules are the list of these rules alone
+abbrev pub PrefixLaw : Type 0
+PrefixLaw = (d : Design) (w : Wiring) (t : Tables) (front behind : List Rule) (cell : ℕ)
+    (v : List GateEntry)
+    → AreGatesTo d w t (front ++ behind) (length front) cell v ↔ AreGates d w t front cell v
 
 -- the net that holds a node; none where no net of the cell does
 abbrev pub IsNetAt : Design → Tables → ℕ → Node → Option ℕ → Type 0

@@ -4,15 +4,17 @@ ghost use Rattle.deep_tables.specs.Gates.{plain_cause};
 ghost use Rattle.gate_shapes.specs.Shapes.{cause_of};
 ghost use Rattle.net_link_laws.specs.Laws.{AreNetsUnder};
 ghost use Rattle.gate_phase.specs.Judged.{AreGatesOf, IsGateOf, IsHeldShape, IsStateOf};
+ghost use Rattle.gate_phase.specs.Terminals.{grounds_seen};
 ghost use Rattle.gate_phase.specs.declared.own.OwnGate.{OwnGate};
 
+use crate::bulks::Grounds;
+use crate::device::Device;
 use crate::own::OwnGate;
 use crate::terminals::terminal_nets;
 use deep_tables::{Gate, GateCause, GateState};
 use gate_shapes::{GateCause as ShapeCause, GateShape};
 use geo_base::Square;
 use net_walk::Cells;
-use rule_text::MosRule;
 use std::alloc::{AllocError, Global};
 
 // The cause of a bad shape, as the table has it.
@@ -33,8 +35,8 @@ fn state_of<C: Cells>(
     alloc: Global,
     cells: &C,
     cell: u32,
-    rule: &MosRule,
-    global: Option<u32>,
+    rule: &Device,
+    grounds: Grounds,
     globals: u32,
     least: Square,
     shape: GateShape,
@@ -43,14 +45,14 @@ fn state_of<C: Cells>(
     requires nets { AreNetsUnder (C.design cells.now) (C.wiring cells.now) (C.tables cells.now)
         cell }
     requires held { IsHeldShape (C.design cells.now) (C.wiring cells.now) (C.tables cells.now)
-        rule.now cell global least shape }
+        rule.now cell (grounds_seen grounds) least shape }
     ensures { IfOk result (IsStateOf (C.design cells.now) (C.wiring cells.now) (C.tables cells.now)
-        rule.now global cell least shape) }
+        rule.now (grounds_seen grounds) cell least shape) }
 {
     match shape {
         GateShape::Bad(cause) => Ok(GateState::Bad(table_cause(cause))),
         GateShape::Good(form) => {
-            let nets = terminal_nets(alloc, cells, cell, rule, global, globals, least, &form)?;
+            let nets = terminal_nets(alloc, cells, cell, rule, grounds, globals, least, &form)?;
             Ok(GateState::Good {
                 twice_w: form.twice_w,
                 twice_l: form.twice_l,
@@ -70,8 +72,8 @@ pub fn judged_gates<C: Cells>(
     cells: &C,
     cell: u32,
     device: u32,
-    rule: &MosRule,
-    global: Option<u32>,
+    rule: &Device,
+    grounds: Grounds,
     globals: u32,
     own: Vec<OwnGate>,
 ) -> Result<Vec<Gate>, AllocError>
@@ -79,15 +81,15 @@ pub fn judged_gates<C: Cells>(
     requires nets { AreNetsUnder (C.design cells.now) (C.wiring cells.now) (C.tables cells.now)
         cell }
     requires held { (i : ℕ) (x : OwnGate) → slice_get own.items i ≡ Some x → IsHeldShape
-        (C.design cells.now) (C.wiring cells.now) (C.tables cells.now) rule.now cell global x.least
-        x.shape }
+        (C.design cells.now) (C.wiring cells.now) (C.tables cells.now) rule.now cell
+        (grounds_seen grounds) x.least x.shape }
     ensures { IfOk result (λ v. AreGatesOf (IsGateOf (C.design cells.now) (C.wiring cells.now)
-        (C.tables cells.now) rule.now global device cell) own.items v.items) }
+        (C.tables cells.now) rule.now (grounds_seen grounds) device cell) own.items v.items) }
 {
     let mut gates = Vec::new(alloc);
     for gate in own {
         let state = state_of(
-            alloc, cells, cell, rule, global, globals, gate.least, gate.shape,
+            alloc, cells, cell, rule, grounds, globals, gate.least, gate.shape,
         )?;
         gates.push(Gate {
             device,

@@ -1,14 +1,16 @@
-//! The gates of transistors that each cell holds itself.
+//! The gates of transistors that each cell holds itself, and the regions of further devices.
 //!
-//! A gate belongs to the lowest cell in which nothing disturbs it. In a cell, gates of its own can
-//! only lie around its own shapes and around what placed cells leave open; from there whole parts
-//! are gathered of what the cell keeps, and each is judged by what lies close to it. Placed cells
-//! are looked into by windows and never flattened.
+//! A region belongs to the lowest cell in which nothing disturbs it. In a cell, regions of its own
+//! can only lie around its own shapes and around what placed cells leave open; from there whole
+//! parts are gathered of what the cell keeps, and each is judged by what lies close to it. Placed
+//! cells are looked into by windows and never flattened.
 #![tactic(auto)]
 
 mod below;
+mod both;
 mod bulks;
 mod close;
+mod device;
 mod entries;
 mod frame;
 mod indexes;
@@ -25,14 +27,18 @@ mod search;
 mod seeds;
 mod shape;
 mod terminals;
+mod work;
 
-pub use bulks::bulk_globals;
+pub use both::BothLayer;
+pub use bulks::{Grounds, device_grounds};
+pub use device::{Device, Kind, Region, device_at, device_count};
 pub use entries::entry_laws;
 pub use indexes::IndexedLayers;
 pub use kept::{kept_in, kept_rects};
 pub use layer::KeptLayer;
-pub use list::cell_gates;
+pub use list::{cell_gates, push_all};
 pub use nets::{net_at, net_of_global};
 pub use own::{OwnGate, own_gates};
 pub use phase::GatePhase;
 pub use terminals::{TerminalNets, terminal_nets};
+pub use work::DeviceWork;

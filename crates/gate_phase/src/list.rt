@@ -1,28 +1,31 @@
-//! The gates of a cell's list.
-ghost use Rattle.std.specs.Prelude.{◌≡◌, ◌<◌, ◌^◌, ◌++◌, Some, length, slice_get, IfOk, OnOk};
+//! The regions of a cell's list.
+ghost use Rattle.std.specs.Prelude.{◌≡◌, ◌≤◌, ◌++◌, Some, length, map, slice_get, IfOk, OnOk};
 ghost use Rattle.cell_graph.specs.Linked.{plain};
-ghost use Rattle.deep_tables.specs.Gates.{AreCellGates};
 ghost use Rattle.deep_tables.specs.Layers.{AreLayers};
 ghost use Rattle.deep_tables.specs.Nets.{AreRightNets};
 ghost use Rattle.deep_tables.specs.Zones.{AreZones};
-ghost use Rattle.flat_layout.specs.Gates.{Rule, ground};
+ghost use Rattle.flat_layout.specs.Gates.{Rule};
 ghost use Rattle.flat_layout.specs.Layout.{IsReached};
 ghost use Rattle.rule_layers.specs.Meaning.{device_rules, globals_of, wiring_of};
 ghost use Rattle.rule_text.specs.Seen.{rules_seen};
 ghost use Rattle.rule_text.specs.Sound.{IsSound};
-ghost use Rattle.gate_phase.specs.Judged.{AreRuleGates, bulks_of};
+ghost use Rattle.gate_phase.specs.Judged.{AreRuleGates, GoOn, rule_grounds};
 ghost use Rattle.gate_phase.specs.Own.{IsReady};
+ghost use Rattle.gate_phase.specs.Terminals.{grounds_by, grounds_seen};
 
+use crate::bulks::Grounds;
+use crate::device::device_at;
 use crate::indexes::IndexedLayers;
 use crate::judged::judged_gates;
 use crate::own::own_gates;
 use cell_graph::Design;
-use deep_tables::{CellGates, Gate, Zones};
+use deep_tables::{Gate, Zones};
 use net_walk::Cells;
 use rule_text::RuleSet;
 use std::alloc::{AllocError, Global};
 
-fn push_all(gates: &mut Vec<Gate>, more: Vec<Gate>) -> Result<(), AllocError>
+/// Adds gates behind others.
+pub fn push_all(gates: &mut Vec<Gate>, more: Vec<Gate>) -> Result<(), AllocError>
     ensures { OnOk result (gates.new.items ≡ gates.old.items ++ more.items) }
 {
     for gate in more {
@@ -31,7 +34,7 @@ fn push_all(gates: &mut Vec<Gate>, more: Vec<Gate>) -> Result<(), AllocError>
     Ok(())
 }
 
-// The gates of a cell's list for a device rule.
+// The regions of a cell's list for a device rule.
 fn rule_gates<C: Cells>(
     alloc: Global,
     design: &Design,
@@ -41,7 +44,7 @@ fn rule_gates<C: Cells>(
     cells: &C,
     cell: u32,
     device: u32,
-    global: Option<u32>,
+    grounds: Grounds,
     globals: u32,
 ) -> Result<Vec<Gate>, AllocError>
     requires ready { IsReady design.now (rules_seen rules.now) zones.now layers.now cell device }
@@ -49,23 +52,22 @@ fn rule_gates<C: Cells>(
     requires wiring { C.wiring cells.now ≡ wiring_of (rules_seen rules.now) }
     requires nets { AreRightNets (plain design.now) (wiring_of (rules_seen rules.now))
         (C.tables cells.now) }
-    requires global { (u : Rule) → slice_get (device_rules (rules_seen rules.now)) device ≡ Some u
-        → ground (wiring_of (rules_seen rules.now)) u ≡ global }
+    requires grounds { (u : Rule) → slice_get (device_rules (rules_seen rules.now)) device ≡ Some u
+        → grounds_by (wiring_of (rules_seen rules.now)) u ≡ grounds_seen grounds }
     requires globals { globals ≡ length (globals_of (rules_seen rules.now)) }
     ensures { IfOk result (λ v. (u : Rule)
         → slice_get (device_rules (rules_seen rules.now)) device ≡ Some u
-        → AreRuleGates (plain design.now) (rules_seen rules.now) (C.tables cells.now) u device cell
-        v.items) }
+        → AreRuleGates (plain design.now) (rules_seen rules.now) u device cell v.items) }
 {
     design.sound();
-    let rule = &rules.devices[device as usize];
-    let own = own_gates(alloc, design, rules, zones, layers, cell, device)?;
-    judged_gates(alloc, cells, cell, device, rule, global, globals, own)
+    let rule = device_at(rules, device);
+    let own = own_gates(alloc, design, rules, zones, layers, cell, device, &rule)?;
+    judged_gates(alloc, cells, cell, device, &rule, grounds, globals, own)
 }
 
-/// The gates of a cell's list, by device rule, then least square: the good ones with their sizes
-/// and the nets of their terminals, the bad ones with their first cause. The globals of the device
-/// rules' bulks, and the number of all globals, are given.
+/// The regions of a cell's list for the device rules from one number up to another, by rule, then
+/// least square: the good ones with their sizes and the nets of their terminals, the bad ones with
+/// their first cause. The globals of the device rules, and the number of all globals, are given.
 pub fn cell_gates<C: Cells>(
     alloc: Global,
     design: &Design,
@@ -74,11 +76,14 @@ pub fn cell_gates<C: Cells>(
     layers: &IndexedLayers,
     cells: &C,
     cell: u32,
-    bulks: &[Option<u32>],
+    from: u32,
+    to: u32,
+    grounds: &[Grounds],
     globals: u32,
-) -> Result<CellGates, AllocError>
+) -> Result<Vec<Gate>, AllocError>
     requires rules { IsSound (rules_seen rules.now) }
-    requires few { length rules.now.devices.items < 2 ^ 32 }
+    requires from { from ≤ to }
+    requires to { to ≤ length (device_rules (rules_seen rules.now)) }
     requires zones { AreZones (plain design.now) (rules_seen rules.now) zones.now }
     requires layers { AreLayers (plain design.now) (rules_seen rules.now) layers.now }
     requires reached { IsReached (plain design.now) cell }
@@ -86,13 +91,14 @@ pub fn cell_gates<C: Cells>(
     requires wiring { C.wiring cells.now ≡ wiring_of (rules_seen rules.now) }
     requires nets { AreRightNets (plain design.now) (wiring_of (rules_seen rules.now))
         (C.tables cells.now) }
-    requires bulks { bulks.now ≡ bulks_of (rules_seen rules.now) }
+    requires grounds { map grounds_seen grounds.now ≡ rule_grounds (rules_seen rules.now) }
     requires globals { globals ≡ length (globals_of (rules_seen rules.now)) }
-    ensures { IfOk result (AreCellGates (plain design.now) (rules_seen rules.now) cell) }
+    ensures { IfOk result (λ v. GoOn (plain design.now) (rules_seen rules.now) cell from to
+        v.items) }
 {
     design.sound();
     let mut gates = Vec::new(alloc);
-    for device in 0..rules.devices.len() {
+    for device in from..to {
         let found = rule_gates(
             alloc,
             design,
@@ -101,11 +107,11 @@ pub fn cell_gates<C: Cells>(
             layers,
             cells,
             cell,
-            device as u32,
-            bulks[device],
+            device,
+            grounds[device as usize],
             globals,
         )?;
         push_all(&mut gates, found)?;
     }
-    Ok(CellGates { gates })
+    Ok(gates)
 }

@@ -1,12 +1,15 @@
 //! Rectangles of a list that share a square with a window.
 ghost use Rattle.std.specs.Prelude.{◌≡◌, [], ◌∷◌, ◌++◌, true, IfOk, OnOk};
-ghost use Rattle.geo_base.specs.Rects.{has};
+ghost use Rattle.std.specs.List.{All};
+ghost use Rattle.geo_base.specs.Rects.{IsRect, has};
 ghost use Rattle.geo_base.specs.declared.shapes.Rect.{Rect};
 ghost use Rattle.geo_base.specs.declared.shapes.Square.{Square};
 ghost use Rattle.rect_sets.specs.Rects.{IsListed, covers};
+ghost use Rattle.tile_index.specs.Windows.{ArePositions};
 ghost use Rattle.gate_phase.specs.Indexes.{AreMetOf};
 
 use cell_context::meet;
+use deep_tables::IndexedSet;
 use geo_base::Rect;
 use std::alloc::{AllocError, Global};
 use tile_index::TileIndex;
@@ -37,6 +40,23 @@ pub fn met_rects(alloc: Global, rects: &[Rect], window: &Rect) -> Result<Vec<Rec
     Ok(out)
 }
 
+// The rectangles at these positions, whole.
+fn rects_at(
+    alloc: Global,
+    rects: &[Rect],
+    near: &[u32],
+    window: &Rect,
+) -> Result<Vec<Rect>, AllocError>
+    requires { ArePositions rects.now window.now near.now }
+    ensures { IfOk result (λ v. AreMetOf rects.now window.now v.items) }
+{
+    let mut out = Vec::new(alloc);
+    for i in near {
+        out.push(rects[*i as usize])?;
+    }
+    Ok(out)
+}
+
 /// The same by their index. About O(log n + k log k) for k of n rectangles.
 pub fn found_rects(
     alloc: Global,
@@ -48,9 +68,15 @@ pub fn found_rects(
     ensures { IfOk result (λ v. AreMetOf rects.now window.now v.items) }
 {
     let near = index.query(alloc, *window)?;
-    let mut out = Vec::new(alloc);
-    for i in &near {
-        out.push(rects[*i as usize])?;
-    }
-    Ok(out)
+    rects_at(alloc, rects, &near, window)
+}
+
+/// The same of a set with its index.
+pub fn set_rects(alloc: Global, set: &IndexedSet, window: &Rect) -> Result<Vec<Rect>, AllocError>
+    ensures rects { IfOk result (λ v. All IsRect v.items) }
+    ensures met { IfOk result (λ v. AreMetOf set.now window.now v.items) }
+{
+    let near = set.near(alloc, window)?;
+    let found = rects_at(alloc, set.set().rects(), &near, window)?;
+    Ok(found)
 }

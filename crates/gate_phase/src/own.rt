@@ -1,4 +1,4 @@
-//! The gates of a cell's own for a device rule.
+//! The regions of a cell's own for a device rule.
 ghost use Rattle.std.specs.Prelude.{◌≡◌, ◌<◌, ◌^◌, ◌++◌, true, length, slice_get, Some, IfOk, OnOk};
 ghost use Rattle.geo_base.specs.Rects.{has};
 ghost use Rattle.rect_sets.specs.Near.{IsNearSet};
@@ -9,11 +9,13 @@ ghost use Rattle.rule_text.specs.Seen.{rules_seen};
 ghost use Rattle.rule_layers.specs.Meaning.{device_rules, wiring_of};
 ghost use Rattle.gate_shapes.specs.Sets.{in_set};
 ghost use Rattle.gate_phase.specs.Close.{HasOpen, HasOpenBelow};
+ghost use Rattle.gate_phase.specs.Devices.{devices_of};
 ghost use Rattle.gate_phase.specs.Own.{AddsPart, AreOwnGates, IsHeldPart, IsOwnOr, IsReady};
 ghost use Rattle.gate_phase.specs.Own.{IsToldPart, IsUnitNear, TellsOwn, gates_in, unit_window};
 
 use crate::below::is_below;
 use crate::close::{close_to, is_undisturbed};
+use crate::device::Device;
 use crate::indexes::IndexedLayers;
 use crate::search::parts_of;
 use crate::shape::shape_in;
@@ -25,7 +27,7 @@ use rect_sets::RectSet;
 use rule_text::RuleSet;
 use std::alloc::{AllocError, Global};
 
-/// A gate of a cell's own: its squares, the first of these by y, then x, and its shape.
+/// A region of a cell's own: its squares, the first of these by y, then x, and its shape.
 #[derive(Drop)]
 pub struct OwnGate {
     pub area: RectSet,
@@ -80,21 +82,23 @@ fn own_gate(
     zones: &Zones,
     layers: &IndexedLayers,
     cell: u32,
-    device: u32,
+    number: u32,
+    device: &Device,
     part: RectSet,
     least: Square,
 ) -> Result<Option<OwnGate>, AllocError>
-    requires ready { IsReady design.now (rules_seen rules.now) zones.now layers.now cell device }
+    requires ready { IsReady design.now (rules_seen rules.now) zones.now layers.now cell number }
+    requires device { slice_get (devices_of (rules_seen rules.now)) number ≡ Some device.now }
     requires held { IsHeldPart design.now cell part }
     requires least { IsLeast (in_set part) least }
     ensures { IfOk result (λ o. (u : Rule)
-        → slice_get (device_rules (rules_seen rules.now)) device ≡ Some u
+        → slice_get (device_rules (rules_seen rules.now)) number ≡ Some u
         → IsToldPart (plain design.now) (geometry (wiring_of (rules_seen rules.now)) u) cell part
         → IsOwnOr (plain design.now) (wiring_of (rules_seen rules.now)) u cell part least o) }
 {
     design.sound();
     let close = close_to(alloc, &part)?;
-    if !is_own(alloc, design, zones, cell, device, &close, least)? {
+    if !is_own(alloc, design, zones, cell, number, &close, least)? {
         return Ok(None);
     }
     let shape = shape_in(alloc, design, rules, layers, cell, device, &part, &close)?;
@@ -124,13 +128,15 @@ fn push_part(
     zones: &Zones,
     layers: &IndexedLayers,
     cell: u32,
-    device: u32,
+    number: u32,
+    device: &Device,
     part: RectSet,
 ) -> Result<(), AllocError>
-    requires ready { IsReady design.now (rules_seen rules.now) zones.now layers.now cell device }
+    requires ready { IsReady design.now (rules_seen rules.now) zones.now layers.now cell number }
+    requires device { slice_get (devices_of (rules_seen rules.now)) number ≡ Some device.now }
     requires held { IsHeldPart design.now cell part }
     ensures { OnOk result ((u : Rule)
-        → slice_get (device_rules (rules_seen rules.now)) device ≡ Some u
+        → slice_get (device_rules (rules_seen rules.now)) number ≡ Some u
         → IsToldPart (plain design.now) (geometry (wiring_of (rules_seen rules.now)) u) cell part
         → AddsPart (plain design.now) (wiring_of (rules_seen rules.now)) u cell part gates.old.items
         gates.new.items) }
@@ -138,7 +144,7 @@ fn push_part(
     match least(&part) {
         Some(first) => {
             let gate = own_gate(
-                alloc, design, rules, zones, layers, cell, device, part, first,
+                alloc, design, rules, zones, layers, cell, number, device, part, first,
             )?;
             push_gate(gates, gate)
         }
@@ -156,19 +162,21 @@ pub fn own_gates(
     zones: &Zones,
     layers: &IndexedLayers,
     cell: u32,
-    device: u32,
+    number: u32,
+    device: &Device,
 ) -> Result<Vec<OwnGate>, AllocError>
-    requires ready { IsReady design.now (rules_seen rules.now) zones.now layers.now cell device }
+    requires ready { IsReady design.now (rules_seen rules.now) zones.now layers.now cell number }
+    requires device { slice_get (devices_of (rules_seen rules.now)) number ≡ Some device.now }
     ensures { IfOk result (λ v. (u : Rule)
-        → slice_get (device_rules (rules_seen rules.now)) device ≡ Some u
+        → slice_get (device_rules (rules_seen rules.now)) number ≡ Some u
         → AreOwnGates (plain design.now) (wiring_of (rules_seen rules.now)) u cell v.items) }
 {
     design.sound();
     let mut gates = Vec::new(alloc);
-    let parts = parts_of(alloc, design, rules, zones, layers, cell, device)?;
+    let parts = parts_of(alloc, design, rules, zones, layers, cell, number, device)?;
     for part in parts {
         push_part(
-            alloc, &mut gates, design, rules, zones, layers, cell, device, part,
+            alloc, &mut gates, design, rules, zones, layers, cell, number, device, part,
         )?;
     }
     Ok(gates)

@@ -1,5 +1,5 @@
-//! The phase of gates.
-ghost use Rattle.std.specs.Prelude.{◌≡◌, IfOk};
+//! The phase of gates: the regions of transistors' rules.
+ghost use Rattle.std.specs.Prelude.{◌≡◌, IfOk, false};
 ghost use Rattle.cell_graph.specs.Linked.{plain};
 ghost use Rattle.deep_tables.specs.Layers.{AreLayers};
 ghost use Rattle.deep_tables.specs.Nets.{AreNets};
@@ -8,37 +8,22 @@ ghost use Rattle.layer_phase.specs.Phase.{AreFreeJobs};
 ghost use Rattle.rule_text.specs.Seen.{rules_seen};
 ghost use Rattle.rule_text.specs.Sound.{IsSound};
 
-use crate::bulks::bulk_globals;
-use crate::indexes::IndexedLayers;
-use crate::list::cell_gates;
+use crate::work::DeviceWork;
 use cell_graph::Design;
-use deep_tables::{CellGates, CellNets, DeepKey, Layers, Nets, Zones};
-use geo_base::Rect;
+use deep_tables::{CellGates, GateKey, Layers, Nets, Zones};
 use job_graph::{Graph, Phase, Reads};
 use layer_phase::free_graph;
-use list_base::small;
-use net_phase::{Below, Indexes, all_elements, find_indexes, find_wires, known_nets, own_lists};
-use net_walk::Element;
 use rule_text::RuleSet;
 use std::alloc::{AllocError, Global};
 use std::marker::Model;
 use std::snapshot::Snapshot;
 
-/// The gates of each cell that the top reaches. Its jobs go through the design's order. They read
-/// the disturbed squares, the layers and the nets of all cells, so none waits for another.
+/// The gates of transistors of each cell that the top reaches. Its jobs go through the design's
+/// order. They read the disturbed squares, the layers and the nets of all cells, so none waits for
+/// another.
 #[derive(Drop)]
 pub struct GatePhase<'a> {
-    design: &'a Design,
-    rules: &'a RuleSet,
-    zones: &'a Zones,
-    layers: IndexedLayers<'a>,
-    conductors: u32,
-    globals: u32,
-    bulks: Vec<Option<u32>>,
-    own: Vec<Vec<&'a [Rect]>>,
-    elements: Vec<Vec<Element>>,
-    indexes: Indexes,
-    nets: Vec<Option<&'a CellNets>>,
+    work: DeviceWork<'a>,
     graph: Graph,
 }
 
@@ -73,30 +58,17 @@ impl<'a> GatePhase<'a> {
         ensures rules { IfOk result (λ p. p.rules ≡ rules.now) }
         ensures jobs { IfOk result (λ p. AreFreeJobs design.now p.graph) }
     {
-        small(rules.names.len()).ok_or(AllocError)?;
-        small(rules.devices.len()).ok_or(AllocError)?;
-        let wires = find_wires(alloc, rules)?;
-        let bulks = bulk_globals(alloc, rules)?;
-        let own = own_lists(alloc, design, rules, layers)?;
-        let elements = all_elements(alloc, design)?;
-        let indexes = find_indexes(alloc, design, &own, &elements)?;
-        let known = known_nets(alloc, design, nets)?;
+        let work = DeviceWork::new(alloc, design, rules, zones, layers, nets)?;
         let graph = free_graph(alloc, design)?;
-        let indexed = IndexedLayers::new(alloc, design, rules, layers)?;
-        Ok(GatePhase {
-            design,
-            rules,
-            zones,
-            layers: indexed,
-            conductors: wires.conductors,
-            globals: wires.globals,
-            bulks,
-            own,
-            elements,
-            indexes,
-            nets: known,
-            graph,
-        })
+        Ok(GatePhase { work, graph })
+    }
+
+    /// What the phase read, for the phase of further devices.
+    pub fn into_work(self) -> DeviceWork<'a>
+        ensures design { result.design ≡ self.entry.design }
+        ensures rules { result.rules ≡ self.entry.rules }
+    {
+        self.work
     }
 }
 
@@ -108,16 +80,18 @@ impl Phase for GatePhase<'_> {
     ghost key = { λ p. record {
       design = record { marker = record {}; value = p.design };
       rules = record { marker = record {}; value = p.rules };
+      further = record { marker = record {}; value = false };
     } };
 
     fn graph(&self) -> &Graph {
         &self.graph
     }
 
-    fn key(&self) -> DeepKey {
-        DeepKey {
-            design: Snapshot::of(self.design),
-            rules: Snapshot::of(self.rules),
+    fn key(&self) -> GateKey {
+        GateKey {
+            design: Snapshot::of(self.work.design()),
+            rules: Snapshot::of(self.work.rules()),
+            further: Snapshot::of(&false),
         }
     }
 
@@ -128,28 +102,10 @@ impl Phase for GatePhase<'_> {
         reads: &R,
     ) -> Result<CellGates, AllocError> {
         let _ = reads;
-        let design = self.design;
+        let design = self.work.design();
         design.sound();
         let cell = design.order()[job as usize];
-        let cells = Below::new(
-            design,
-            self.rules,
-            self.conductors,
-            &self.own,
-            &self.elements,
-            &self.indexes,
-            &self.nets,
-        );
-        cell_gates(
-            alloc,
-            design,
-            self.rules,
-            self.zones,
-            &self.layers,
-            &cells,
-            cell,
-            &self.bulks,
-            self.globals,
-        )
+        let gates = self.work.gates_of(alloc, cell, 0, self.work.transistors())?;
+        Ok(CellGates { gates })
     }
 }

@@ -1,8 +1,10 @@
 //! Which names a device rule reads.
 ghost use Rattle.std.specs.Prelude.{◌≡◌, ◌<◌, ◌≤◌, ℕ, length, IfOk};
-ghost use Rattle.gate_phase.specs.Reads.{AreRead, IsOfMos, IsReadBy, MarksMore};
+ghost use Rattle.gate_phase.specs.Reads.{AreRead, IsOfDevice, IsOfRegion, IsOfSome, IsReadBy};
+ghost use Rattle.gate_phase.specs.Reads.{MarksMore};
 
-use rule_text::{LayerForm, LayerRule, MosRule, RuleSet};
+use crate::device::{Device, Region, device_at, device_count};
+use rule_text::{LayerForm, LayerRule, RuleSet};
 use std::alloc::{AllocError, Global};
 
 // Marks a name, where it stands before a bound.
@@ -26,18 +28,42 @@ fn mark_read(marks: &mut [bool], form: LayerForm, bound: usize)
     }
 }
 
+// Marks a layer that some kinds don't have.
+fn mark_some(marks: &mut [bool], name: Option<u32>, bound: usize)
+    requires { bound ≤ length marks.old }
+    ensures { MarksMore (λ (i : ℕ). IsOfSome name i × (i < bound)) marks.old marks.new }
+{
+    if let Some(name) = name {
+        mark_before(marks, name, bound);
+    }
+}
+
+// Marks the names of the regions' layer.
+fn mark_region(marks: &mut [bool], region: Region, bound: usize)
+    requires { bound ≤ length marks.old }
+    ensures { MarksMore (λ (i : ℕ). IsOfRegion region i × (i < bound)) marks.old marks.new }
+{
+    match region {
+        Region::One(name) => mark_before(marks, name, bound),
+        Region::Both(a, b) => {
+            mark_before(marks, a, bound);
+            mark_before(marks, b, bound);
+        }
+    }
+}
+
 // Marks the layers of a device rule.
-fn mark_mos(marks: &mut [bool], rule: &MosRule)
-    ensures { MarksMore (λ (i : ℕ). IsOfMos rule.now i × (i < length marks.old)) marks.old
+fn mark_device(marks: &mut [bool], device: &Device)
+    ensures { MarksMore (λ (i : ℕ). IsOfDevice device.now i × (i < length marks.old)) marks.old
         marks.new }
 {
     let bound = marks.len();
-    mark_before(marks, rule.sd, bound);
-    mark_before(marks, rule.g, bound);
-    mark_before(marks, rule.w, bound);
-    mark_before(marks, rule.ts, bound);
-    mark_before(marks, rule.tg, bound);
-    mark_before(marks, rule.tb, bound);
+    mark_some(marks, device.ends, bound);
+    mark_region(marks, device.region, bound);
+    mark_some(marks, device.well, bound);
+    mark_before(marks, device.ts, bound);
+    mark_before(marks, device.tg, bound);
+    mark_before(marks, device.tb, bound);
 }
 
 /// Which names of the rules are layers of device rules. Linear in the names and the device rules.
@@ -45,8 +71,9 @@ pub fn device_names(alloc: Global, rules: &RuleSet) -> Result<Vec<bool>, AllocEr
     ensures { IfOk result (λ v. length v.items ≡ length rules.now.names.items) }
 {
     let mut marks = vec![in alloc; false; rules.names.len()]?;
-    for rule in &rules.devices {
-        mark_mos(&mut marks, rule);
+    let count = device_count(rules)?;
+    for number in 0..count {
+        mark_device(&mut marks, &device_at(rules, number));
     }
     Ok(marks)
 }
@@ -56,13 +83,13 @@ pub fn device_names(alloc: Global, rules: &RuleSet) -> Result<Vec<bool>, AllocEr
 pub fn names_read(
     alloc: Global,
     names: &[LayerRule],
-    rule: &MosRule,
+    device: &Device,
 ) -> Result<Vec<bool>, AllocError>
     ensures count { IfOk result (λ v. length v.items ≡ length names.now) }
-    ensures read { IfOk result (λ v. AreRead names.now rule.now v.items) }
+    ensures read { IfOk result (λ v. AreRead names.now device.now v.items) }
 {
     let mut marks = vec![in alloc; false; names.len()]?;
-    mark_mos(&mut marks, rule);
+    mark_device(&mut marks, device);
     let mut i = names.len();
     while 0 < i {
         i -= 1;

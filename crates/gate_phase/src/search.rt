@@ -1,29 +1,132 @@
-//! Where the gates of a cell's own are among what it keeps of a device rule's layer of gates.
-ghost use Rattle.std.specs.Prelude.{◌≡◌, ◌<◌, length, slice_get, Some, IfOk};
+//! Where the regions of a cell's own are among what it keeps of their layer.
+ghost use Rattle.std.specs.Prelude.{◌≡◌, ◌<◌, [], List, length, slice_get, Some, IfOk, IsSome};
+ghost use Rattle.geo_base.specs.declared.shapes.Rect.{Rect};
+ghost use Rattle.rect_sets.specs.Near.{IsNearSet};
 ghost use Rattle.flat_layout.specs.Gates.{Rule, geometry};
 ghost use Rattle.flat_layout.specs.Layout.{IsReached};
-ghost use Rattle.cell_graph.specs.Linked.{plain};
+ghost use Rattle.cell_graph.specs.Linked.{cell_at, places_at, plain};
 ghost use Rattle.rule_text.specs.Seen.{rules_seen};
-ghost use Rattle.rule_text.specs.Sound.{IsSound};
 ghost use Rattle.rule_layers.specs.Meaning.{device_rules, wiring_of};
-ghost use Rattle.deep_tables.specs.Layers.{AreLayers};
-ghost use Rattle.deep_tables.specs.Zones.{AreZones};
+ghost use Rattle.deep_tables.specs.Layers.{AreLayers, layer_of};
+ghost use Rattle.deep_tables.specs.Zones.{zone_of};
+ghost use Rattle.deep_tables.specs.declared.zones.ZoneKey.TheVariants.{Layer};
+ghost use Rattle.gate_search.specs.Gather.{IsGatheredAround};
+ghost use Rattle.gate_shapes.specs.PartLists.{AreParts};
+ghost use Rattle.gate_phase.specs.Both.{AreCalmInBoth, ArePartsAround, IsReadyRegion};
+ghost use Rattle.gate_phase.specs.Both.{region_formula};
+ghost use Rattle.gate_phase.specs.Devices.{devices_of};
+ghost use Rattle.gate_phase.specs.Own.{IsReady};
 ghost use Rattle.gate_phase.specs.Search.{AreSearched};
 
+use crate::both::{BothLayer, calm_in_both};
+use crate::device::{Device, Region};
 use crate::indexes::IndexedLayers;
 use crate::layer::KeptLayer;
 use crate::seeds::seeds_of;
 use cell_graph::Design;
 use deep_tables::Zones;
-use gate_search::gather_around;
+use gate_search::{GateLayer, gather_around};
 use gate_shapes::parts;
 use rect_sets::RectSet;
 use rule_text::RuleSet;
 use std::alloc::{AllocError, Global};
 
-/// Parts of what a cell keeps of a device rule's layer of gates, in order of their least squares:
-/// among them all gates of the cell's own. A cell that places nothing keeps what it holds itself:
-/// in O(n log n) for n rectangles of that, and no window is asked.
+// What a cell holds itself of both names, less what is disturbed.
+fn local_in_both(
+    alloc: Global,
+    zones: &Zones,
+    layers: &IndexedLayers,
+    cell: u32,
+    names: (u32, u32),
+) -> Result<RectSet, AllocError>
+    requires first_zone { IsSome (zone_of zones.now cell (Layer names.0)) }
+    requires second_zone { IsSome (zone_of zones.now cell (Layer names.1)) }
+    requires first { IsSome (layer_of layers.now cell names.0) }
+    requires second { IsSome (layer_of layers.now cell names.1) }
+    ensures { IfOk result (λ s. (a b : List Rect) → layer_of layers.now cell names.0 ≡ Some a
+        → layer_of layers.now cell names.1 ≡ Some b → AreCalmInBoth zones.now cell names a b s) }
+{
+    let first = layers.local(cell, names.0);
+    let second = layers.local(cell, names.1);
+    let found = calm_in_both(alloc, zones, cell, names, first, second)?;
+    Ok(found)
+}
+
+// The parts of a cell that places nothing: it keeps what it holds itself.
+fn leaf_parts(
+    alloc: Global,
+    design: &Design,
+    rules: &RuleSet,
+    zones: &Zones,
+    layers: &IndexedLayers,
+    cell: u32,
+    region: Region,
+) -> Result<Vec<RectSet>, AllocError>
+    requires leaf { places_at (cell_at design.now cell) ≡ [] }
+    requires region { IsReadyRegion design.now rules.now zones.now cell region }
+    requires layers { AreLayers (plain design.now) (rules_seen rules.now) layers.now }
+    requires reached { IsReached (plain design.now) cell }
+    ensures { IfOk result (λ v. (seeds : List Rect) → ArePartsAround (plain design.now) cell
+        (region_formula rules.now region) seeds v.items) }
+{
+    design.sound();
+    match region {
+        Region::One(name) => parts(alloc, layers.local(cell, name)),
+        Region::Both(a, b) => {
+            let set = local_in_both(alloc, zones, layers, cell, (a, b))?;
+            parts(alloc, &set)
+        }
+    }
+}
+
+// The parts of a layer that are gathered around some squares.
+fn parts_around<L: GateLayer>(
+    alloc: Global,
+    layer: &L,
+    starts: &RectSet,
+) -> Result<Vec<RectSet>, AllocError>
+    requires { IsNearSet starts.now }
+    ensures { IfOk result (λ v. (found : List Rect)
+        × IsGatheredAround (L.keeps layer.now) starts.now found × AreParts found v.items) }
+{
+    let found = gather_around(alloc, layer, starts)?;
+    parts(alloc, &found)
+}
+
+// Those of the layer of regions of what a cell keeps.
+fn region_parts(
+    alloc: Global,
+    design: &Design,
+    rules: &RuleSet,
+    zones: &Zones,
+    layers: &IndexedLayers,
+    cell: u32,
+    region: Region,
+    starts: &RectSet,
+) -> Result<Vec<RectSet>, AllocError>
+    requires near { IsNearSet starts.now }
+    requires region { IsReadyRegion design.now rules.now zones.now cell region }
+    requires layers { AreLayers (plain design.now) (rules_seen rules.now) layers.now }
+    requires reached { IsReached (plain design.now) cell }
+    ensures { IfOk result (λ v. ArePartsAround (plain design.now) cell
+        (region_formula rules.now region) starts.now v.items) }
+{
+    design.sound();
+    match region {
+        Region::One(name) => {
+            let layer = KeptLayer::new(design, rules, layers, cell, name);
+            parts_around(alloc, &layer, starts)
+        }
+        Region::Both(a, b) => {
+            let layer = BothLayer::new(design, rules, zones, layers, cell, (a, b));
+            parts_around(alloc, &layer, starts)
+        }
+    }
+}
+
+/// Parts of what a cell keeps of the layer of a device rule's regions, in order of their least
+/// squares: among them all regions of the cell's own. A cell that places nothing keeps what it
+/// holds itself: in O(n log n) for n rectangles of that, and no window is asked.
 pub fn parts_of(
     alloc: Global,
     design: &Design,
@@ -31,26 +134,21 @@ pub fn parts_of(
     zones: &Zones,
     layers: &IndexedLayers,
     cell: u32,
-    device: u32,
+    number: u32,
+    device: &Device,
 ) -> Result<Vec<RectSet>, AllocError>
-    requires cell { cell < length design.now.cells }
-    requires device { device < length rules.now.devices.items }
-    requires rules { IsSound (rules_seen rules.now) }
-    requires zones { AreZones (plain design.now) (rules_seen rules.now) zones.now }
-    requires layers { AreLayers (plain design.now) (rules_seen rules.now) layers.now }
-    requires reached { IsReached (plain design.now) cell }
+    requires ready { IsReady design.now (rules_seen rules.now) zones.now layers.now cell number }
+    requires device { slice_get (devices_of (rules_seen rules.now)) number ≡ Some device.now }
     ensures { IfOk result (λ v. (u : Rule)
-        → slice_get (device_rules (rules_seen rules.now)) device ≡ Some u
+        → slice_get (device_rules (rules_seen rules.now)) number ≡ Some u
         → AreSearched (plain design.now) (geometry (wiring_of (rules_seen rules.now)) u) cell
         v.items) }
 {
     design.sound();
-    let name = rules.devices[device as usize].g;
+    let region = device.region;
     if design.places(cell).is_empty() {
-        return parts(alloc, layers.local(cell, name));
+        return leaf_parts(alloc, design, rules, zones, layers, cell, region);
     }
-    let starts = seeds_of(alloc, design, rules, zones, cell, device)?;
-    let layer = KeptLayer::new(design, rules, layers, cell, name);
-    let found = gather_around(alloc, &layer, &starts)?;
-    parts(alloc, &found)
+    let starts = seeds_of(alloc, design, rules, zones, cell, number, device)?;
+    region_parts(alloc, design, rules, zones, layers, cell, region, &starts)
 }

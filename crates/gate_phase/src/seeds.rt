@@ -24,9 +24,11 @@ ghost use Rattle.rule_layers.specs.Meaning.{device_rules, wiring_of};
 ghost use Rattle.deep_tables.specs.Frames.{grown};
 ghost use Rattle.deep_tables.specs.Zones.{AreZones};
 ghost use Rattle.gate_phase.specs.Close.{HasOpen, HasOpenBelow};
+ghost use Rattle.gate_phase.specs.Devices.{devices_of};
 ghost use Rattle.gate_phase.specs.Kept.{HoldsNear};
 ghost use Rattle.gate_phase.specs.Seeding.{Brings, BringsOpen, BringsOwn, Grows};
 
+use crate::device::Device;
 use crate::frame::{grown_hull, plane};
 use crate::reads::names_read;
 use cell_context::{place_visits, push_images};
@@ -209,26 +211,27 @@ pub fn seeds_of(
     rules: &RuleSet,
     zones: &Zones,
     cell: u32,
-    device: u32,
+    number: u32,
+    device: &Device,
 ) -> Result<RectSet, AllocError>
     requires cell { cell < length design.now.cells }
-    requires device { device < length rules.now.devices.items }
+    requires device { slice_get (devices_of (rules_seen rules.now)) number ≡ Some device.now }
     requires rules { IsSound (rules_seen rules.now) }
     requires zones { AreZones (plain design.now) (rules_seen rules.now) zones.now }
     requires reached { IsReached (plain design.now) cell }
     ensures near { IfOk result IsNearSet }
     ensures all { IfOk result (λ s. (u : Rule)
-        → slice_get (device_rules (rules_seen rules.now)) device ≡ Some u
+        → slice_get (device_rules (rules_seen rules.now)) number ≡ Some u
         → (q : Square)
         → IsSeed (plain design.now) (gate_inputs (wiring_of (rules_seen rules.now)) u) cell q
         → covers s q ≡ true) }
 {
     design.sound();
     let names = rules.names.as_slice();
-    let marks = names_read(alloc, names, &rules.devices[device as usize])?;
+    let marks = names_read(alloc, names, device)?;
     let plane = plane();
     let mut out = Vec::new(alloc);
-    push_references(alloc, &mut out, design, zones, cell, device, &plane)?;
+    push_references(alloc, &mut out, design, zones, cell, number, &plane)?;
     push_all_own(&mut out, design, cell, names, &marks, &plane)?;
     let set = RectSet::canon(alloc, out)?;
     Ok(set)

@@ -1,24 +1,27 @@
-//! The shape of a gate, by what its cell keeps close to it.
-ghost use Rattle.std.specs.Prelude.{◌≡◌, ◌↔◌, ◌<◌, ◌^◌, ℕ, true, None, length, slice_get, Some};
-ghost use Rattle.std.specs.Prelude.{IfOk};
+//! The shape of a region, by what its cell keeps close to it.
+ghost use Rattle.std.specs.Prelude.{◌≡◌, ◌↔◌, ◌<◌, ◌^◌, ℕ, true, None, length, Some, IfOk};
 ghost use Rattle.std.specs.List.{All};
 ghost use Rattle.geo_base.specs.declared.shapes.Square.{Square};
 ghost use Rattle.rect_sets.specs.Near.{IsNearSet};
-ghost use Rattle.flat_layout.specs.Gates.{InGate, IsSettled, Rule, geometry, sheets};
+ghost use Rattle.flat_layout.specs.Gates.{InGate, IsSettled, Rule, form_of, geometry, sheets};
 ghost use Rattle.flat_layout.specs.Layout.{IsReached};
 ghost use Rattle.flat_layout.specs.Regions.{ground_of};
 ghost use Rattle.cell_graph.specs.Linked.{IsRectWithin, plain};
 ghost use Rattle.rule_text.specs.Seen.{rules_seen};
-ghost use Rattle.rule_text.specs.Sound.{IsSound};
-ghost use Rattle.rule_layers.specs.Meaning.{device_rules, grounds_of, wiring_of};
-ghost use Rattle.deep_tables.specs.Layers.{AreLayers};
-ghost use Rattle.gate_shapes.specs.Shapes.{IsShape};
-ghost use Rattle.gate_phase.specs.Shape.{IsGatePart};
+ghost use Rattle.rule_layers.specs.Meaning.{grounds_of, wiring_of};
+ghost use Rattle.gate_shapes.specs.Sets.{in_set};
+ghost use Rattle.gate_shapes.specs.Shapes.{IsShape, IsShapeAlone, IsShapeBy};
+ghost use Rattle.flat_layout.specs.Layers.{Formula, IsKept};
+ghost use Rattle.rule_layers.specs.Formulas.{formulas};
+ghost use Rattle.gate_phase.specs.Devices.{IsDevice, IsKnownDevice, kind_seen};
+ghost use Rattle.gate_phase.specs.Kept.{HasLocals};
+ghost use Rattle.gate_phase.specs.Shape.{IsGatePart, IsGateSheet, IsReadyShape};
 
+use crate::device::{Device, Kind};
 use crate::indexes::IndexedLayers;
 use crate::kept::kept_in;
 use cell_graph::Design;
-use gate_shapes::{Around, GateShape, shape_of};
+use gate_shapes::{Around, GateShape, Sheets, area_shape, shape_of};
 use rect_sets::RectSet;
 use rule_text::RuleSet;
 use std::alloc::{AllocError, Global};
@@ -35,44 +38,153 @@ fn is_loose(rules: &RuleSet, conductor: u32) -> bool
     true
 }
 
-/// The shape of a settled gate: its sizes and the least squares of its two groups, or its first
-/// fault. What the cell keeps is looked at close to the gate alone.
+// The shape of a region between two groups, with what its gate must lie on.
+fn beside_shape(
+    alloc: Global,
+    design: &Design,
+    rules: &RuleSet,
+    layers: &IndexedLayers,
+    cell: u32,
+    device: &Device,
+    ends: u32,
+    on_gate: &RectSet,
+    part: &RectSet,
+    close: &RectSet,
+) -> Result<GateShape, AllocError>
+    requires ready { IsReadyShape design.now (rules_seen rules.now) layers.now cell }
+    requires device { IsKnownDevice (rules_seen rules.now) device.now }
+    requires ends { ends < length rules.now.names.items }
+    requires near { IsNearSet part.now }
+    requires windows { All (IsRectWithin (2 ^ 39)) close.now }
+    requires sheet { (x : Formula) → HasLocals (plain design.now) layers.now device.now.tg x
+        → IsGateSheet (kind_seen device.now.kind) (IsKept (plain design.now) cell x) close.now
+        part.now on_gate.now }
+    ensures { IfOk result (λ x. (u : Rule) (s : Square)
+        → IsDevice (formulas rules.now.names.items) device.now u
+        → device.now.ends ≡ Some ends
+        → IsGatePart (plain design.now) (geometry (wiring_of (rules_seen rules.now)) u) cell s
+        part.now close.now
+        → IsShape (sheets (plain design.now) (wiring_of (rules_seen rules.now)) u cell)
+        (InGate (plain design.now) (geometry (wiring_of (rules_seen rules.now)) u) cell s) x) }
+{
+    let windows = close.rects();
+    let groups = kept_in(alloc, design, layers, cell, ends, windows)?;
+    let on_ends = kept_in(alloc, design, layers, cell, device.ts, windows)?;
+    let on_bulk = kept_in(alloc, design, layers, cell, device.tb, windows)?;
+    let around = Around {
+        ends: &groups,
+        on_ends: &on_ends,
+        on_gate,
+        on_bulk: &on_bulk,
+        loose: is_loose(rules, device.tb),
+    };
+    shape_of(alloc, part, &around)
+}
+
+// The shape of a region between two groups: a transistor's gate must lie on its conductor; of a
+// resistor nothing is asked, so that the part itself will do.
+fn grouped_shape(
+    alloc: Global,
+    design: &Design,
+    rules: &RuleSet,
+    layers: &IndexedLayers,
+    cell: u32,
+    device: &Device,
+    ends: u32,
+    part: &RectSet,
+    close: &RectSet,
+) -> Result<GateShape, AllocError>
+    requires ready { IsReadyShape design.now (rules_seen rules.now) layers.now cell }
+    requires device { IsKnownDevice (rules_seen rules.now) device.now }
+    requires ends { ends < length rules.now.names.items }
+    requires near { IsNearSet part.now }
+    requires windows { All (IsRectWithin (2 ^ 39)) close.now }
+    ensures { IfOk result (λ x. (u : Rule) (s : Square)
+        → IsDevice (formulas rules.now.names.items) device.now u
+        → device.now.ends ≡ Some ends
+        → IsGatePart (plain design.now) (geometry (wiring_of (rules_seen rules.now)) u) cell s
+        part.now close.now
+        → IsShape (sheets (plain design.now) (wiring_of (rules_seen rules.now)) u cell)
+        (InGate (plain design.now) (geometry (wiring_of (rules_seen rules.now)) u) cell s) x) }
+{
+    match device.kind {
+        Kind::Transistor => {
+            let on_gate = kept_in(alloc, design, layers, cell, device.tg, close.rects())?;
+            beside_shape(
+                alloc, design, rules, layers, cell, device, ends, &on_gate, part, close,
+            )
+        }
+        Kind::Resistor | Kind::Diode => beside_shape(
+            alloc, design, rules, layers, cell, device, ends, part, part, close,
+        ),
+    }
+}
+
+// The shape of a region alone.
+fn alone_shape(
+    alloc: Global,
+    design: &Design,
+    rules: &RuleSet,
+    layers: &IndexedLayers,
+    cell: u32,
+    device: &Device,
+    part: &RectSet,
+) -> Result<GateShape, AllocError>
+    requires ready { IsReadyShape design.now (rules_seen rules.now) layers.now cell }
+    requires device { IsKnownDevice (rules_seen rules.now) device.now }
+    requires near { IsNearSet part.now }
+    requires some { (q : Square) × in_set part.now q }
+    requires windows { All (IsRectWithin (2 ^ 39)) part.now }
+    ensures { IfOk result (λ x. (u : Rule) (s : Square)
+        → IsDevice (formulas rules.now.names.items) device.now u
+        → IsSettled (plain design.now) (geometry (wiring_of (rules_seen rules.now)) u) cell s
+        → ((q : Square) → in_set part.now q
+        ↔ InGate (plain design.now) (geometry (wiring_of (rules_seen rules.now)) u) cell s q)
+        → IsShapeAlone (sheets (plain design.now) (wiring_of (rules_seen rules.now)) u cell)
+        (InGate (plain design.now) (geometry (wiring_of (rules_seen rules.now)) u) cell s) x) }
+{
+    let windows = part.rects();
+    let on_ends = kept_in(alloc, design, layers, cell, device.ts, windows)?;
+    let on_bulk = kept_in(alloc, design, layers, cell, device.tb, windows)?;
+    let sheets = Sheets {
+        on_ends: &on_ends,
+        on_bulk: &on_bulk,
+        free: is_loose(rules, device.ts),
+        loose: is_loose(rules, device.tb),
+    };
+    area_shape(alloc, part, &sheets)
+}
+
+/// The shape of a settled region: its sizes and the least squares of its two ends, or its first
+/// fault. What the cell keeps is looked at close to the region alone.
 pub fn shape_in(
     alloc: Global,
     design: &Design,
     rules: &RuleSet,
     layers: &IndexedLayers,
     cell: u32,
-    device: u32,
+    device: &Device,
     part: &RectSet,
     close: &RectSet,
 ) -> Result<GateShape, AllocError>
-    requires cell { cell < length design.now.cells }
-    requires device { device < length rules.now.devices.items }
-    requires rules { IsSound (rules_seen rules.now) }
-    requires layers { AreLayers (plain design.now) (rules_seen rules.now) layers.now }
-    requires reached { IsReached (plain design.now) cell }
+    requires ready { IsReadyShape design.now (rules_seen rules.now) layers.now cell }
+    requires device { IsKnownDevice (rules_seen rules.now) device.now }
     requires near { IsNearSet part.now }
+    requires some { (q : Square) × in_set part.now q }
+    requires part { All (IsRectWithin (2 ^ 39)) part.now }
     requires windows { All (IsRectWithin (2 ^ 39)) close.now }
     ensures { IfOk result (λ x. (u : Rule) (s : Square)
-        → slice_get (device_rules (rules_seen rules.now)) device ≡ Some u
+        → IsDevice (formulas rules.now.names.items) device.now u
         → IsGatePart (plain design.now) (geometry (wiring_of (rules_seen rules.now)) u) cell s
         part.now close.now
-        → IsShape (sheets (plain design.now) (wiring_of (rules_seen rules.now)) u cell)
+        → IsShapeBy (form_of u.kind) (sheets (plain design.now) (wiring_of (rules_seen rules.now))
+        u cell)
         (InGate (plain design.now) (geometry (wiring_of (rules_seen rules.now)) u) cell s) x) }
 {
-    let rule = &rules.devices[device as usize];
-    let windows = close.rects();
-    let ends = kept_in(alloc, design, layers, cell, rule.sd, windows)?;
-    let on_ends = kept_in(alloc, design, layers, cell, rule.ts, windows)?;
-    let on_gate = kept_in(alloc, design, layers, cell, rule.tg, windows)?;
-    let on_bulk = kept_in(alloc, design, layers, cell, rule.tb, windows)?;
-    let around = Around {
-        ends: &ends,
-        on_ends: &on_ends,
-        on_gate: &on_gate,
-        on_bulk: &on_bulk,
-        loose: is_loose(rules, rule.tb),
-    };
-    shape_of(alloc, part, &around)
+    match device.ends {
+        Some(ends) => grouped_shape(
+            alloc, design, rules, layers, cell, device, ends, part, close,
+        ),
+        None => alone_shape(alloc, design, rules, layers, cell, device, part),
+    }
 }

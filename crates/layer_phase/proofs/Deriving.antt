@@ -21,6 +21,7 @@ use Rattle.rule_text.specs.declared.rules.LayerForm.{LayerForm}
 use Rattle.rule_text.specs.declared.rules.LayerForm.TheVariants as form
 use Rattle.rule_text.specs.declared.rules.LayerRule.{LayerRule}
 use Rattle.rule_text.specs.declared.rules.MosRule.{MosRule}
+use Rattle.rule_text.specs.declared.rules.MoreRule.{MoreRule}
 use Rattle.rule_layers.specs.Formulas.{formula_by, formulas}
 use Rattle.rule_layers.specs.Reads.{AreRead, IsRead}
 use Rattle.rule_layers.proofs.Unread.{input_read, one_some, same_tree}
@@ -45,7 +46,7 @@ tells : (d : Linked) (r : Rules) (z : List (Option CellZones)) (cell name : ℕ)
 tells d r z cell name x sound ready at asked = kept d r z x cell name sound ready.hulls ready.zones ready.reached at asked
 
 -- an input layer among the names as derived names see them is one of the names, and is read
-read_input : (names read : List LayerRule) (k : ℕ) (key : LayerKey) → AreRead names [] read → IsInput read k key → IsInput names k key × IsRead names [] k
+read_input : (names read : List LayerRule) (k : ℕ) (key : LayerKey) → AreRead names [] [] read → IsInput read k key → IsInput names k key × IsRead names [] [] k
 read_input names read k key are is =
     let lt = slice_get_within read k is.0 is.1 in
     let count = are.count in
@@ -55,12 +56,13 @@ read_input names read k key are is =
     let o = are.each k rule at in
     let same : o.0 ≡ is.0 = one_some o.0 is.0 (sym o.1 ∙ is.1) in
     let form_is : o.0.form ≡ form.Input key = ap (λ (r : LayerRule). r.form) same ∙ is.2 in
-    let h = input_read (IsRead names [] k) rule.form o.0.form key o.2 form_is in ((rule, at, h.1), h.0)
+    let h = input_read (IsRead names [] [] k) rule.form o.0.form key o.2 form_is in ((rule, at, h.1), h.0)
 
 -- with device rules it still is read
-still_read : (names : List LayerRule) (devices : List MosRule) (k : ℕ) → IsRead names [] k → IsRead names devices k
-still_read names devices k (inl h) = inl h
-still_read names devices k (inr h) = absurd (let lt = h.at_in in let z : ⊥ = omega arith in z)
+still_read : (names : List LayerRule) (devices : List MosRule) (further : List MoreRule) (k : ℕ) → IsRead names [] [] k → IsRead names devices further k
+still_read names devices further k (inl h) = inl h
+still_read names devices further k (inr (inl h)) = absurd (let lt = h.at_in in let z : ⊥ = omega arith in z)
+still_read names devices further k (inr (inr h)) = absurd (let lt = h.at_in in let z : ⊥ = omega arith in z)
 
 some_key : (d : Linked) (cell : ℕ) (q : Square) (keys : List LayerKey) → IsOwnOn (plain d) keys cell q → (key : LayerKey) × Some_of (λ k. k ≡ key) keys × IsOwn (plain d) cell key q
 some_key d cell q [] h = absurd h
@@ -71,7 +73,7 @@ module _ (d : Linked) (r : Rules) (z : List (Option CellZones)) (cell name : ℕ
     (at : slice_get (formulas r.names) name ≡ Some (Binary op a b)) (seen : AreReadLooks d z r.names cell looks) (flat_in : IsFlatIn d cell looks (Binary op a b) flats)
     (entry : IsZoneAt z cell name zone) (keeps : (q : Square) → (covers calm q ≡ true) ↔ ((covers looks q ≡ true) × IsKeptBy d z cell name q)) where
   tree_seen : slice_get (formulas seen.seen) name ≡ Some (Binary op a b)
-  tree_seen = same_tree r.names [] seen.seen name op a b seen.are at
+  tree_seen = same_tree r.names [] [] seen.seen name op a b seen.are at
 
   own_seen : (q : Square) → IsOwnOn (plain d) (inputs (Binary op a b)) cell q → covers looks q ≡ true
   own_seen q h =
@@ -87,7 +89,7 @@ module _ (d : Linked) (r : Rules) (z : List (Option CellZones)) (cell name : ℕ
       let j = known seen.seen name (Binary op a b) key tree_seen e.listed in
       let reached = reached_below (plain d) cell h.number h.place ready.reached h.placed in
       let input = read_input r.names seen.seen j.0 key seen.are j.1 in
-      let there = zone_at (plain d) r z h.place.cell j.0 (Input key) ready.zones reached (named r.names j.0 key input.0) (still_read r.names r.devices j.0 input.1) in
+      let there = zone_at (plain d) r z h.place.cell j.0 (Input key) ready.zones reached (named r.names j.0 key input.0) (still_read r.names r.devices r.more j.0 input.1) in
       let held : HullHas (hull_of (cell_at d h.place.cell)) h.square = hulls d sound h.place.cell h.key h.square h.flat in
       let one : IsDisturbed (plain d) (key ∷ []) h.place.cell h.square = record { path = e.path; other = e.other; end = e.end; square = e.square; place = e.place; key = key; listed = inl refl; takes = e.takes; others = e.others; own = e.own; apart = e.apart } in
       let frame = (framed d (key ∷ []) h.place.cell there.0 (ready.hulls h.place.cell reached) there.2.canonical).0 there.2 in

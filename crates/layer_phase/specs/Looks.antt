@@ -134,5 +134,5 @@ pub record AreLooks (d : Linked) (z : List (Option CellZones)) (names : List Lay
 pub record AreReadLooks (d : Linked) (z : List (Option CellZones)) (names : List LayerRule)
     (cell : ℕ) (looks : List Rect) : Type 0 where
   pub seen : List LayerRule
-  pub are : AreRead names [] seen
+  pub are : AreRead names [] [] seen
   pub all : AreLooks d z seen cell looks

@@ -27,5 +27,5 @@ pub record IsLayerPhase (a : Inside) : Type 0 where
   pub hulls : HasHulls a.design.now
   pub zones : AreZones (plain a.design.now) (rules_seen a.rules.now) a.zones.now
   pub few : length a.rules.now.names.items < 2 ^ 32
-  pub read : AreRead a.rules.now.names.items [] a.read.items
+  pub read : AreRead a.rules.now.names.items [] [] a.read.items
   pub graph : AreFreeJobs a.design.now a.graph

@@ -154,7 +154,7 @@ pub fn name_layers(
 ) -> Result<Vec<RectSet>, AllocError>
     requires cell { cell < length design.now.cells }
     requires ready { IsReady design.now (rules_seen rules.now) zones.now cell }
-    requires read { AreRead rules.now.names.items [] read.now }
+    requires read { AreRead rules.now.names.items [] [] read.now }
     ensures count { IfOk result (λ v. length v.items ≡ length (formulas rules.now.names.items)) }
     ensures layers { IfOk result (λ v. AreLocals design.now cell (formulas rules.now.names.items)
         v.items) }

@@ -65,7 +65,7 @@ impl<'a> LayerPhase<'a> {
     {
         small(rules.names.len()).ok_or(AllocError)?;
         design.sound();
-        let read = read_names(alloc, &rules.names, &[])?;
+        let read = read_names(alloc, &rules.names, &[], &[])?;
         let graph = free_graph(alloc, design)?;
         Ok(LayerPhase {
             design,

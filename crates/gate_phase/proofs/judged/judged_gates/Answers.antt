@@ -2,6 +2,7 @@ use Rattle.std.proofs.Common.{◌≡◌, ◌∷◌, [], ◌++◌, ◌∙◌, Lis
 use Rattle.std.specs.Vec.Iter.{into_iter_items}
 use Rattle.deep_tables.specs.declared.gates.Gate.{Gate}
 use Rattle.gate_phase.specs.Judged.{AreGatesOf, IsGateOf}
+use Rattle.gate_phase.specs.Terminals.{grounds_seen}
 use Rattle.gate_phase.specs.declared.own.OwnGate.{OwnGate}
 use Rattle.gate_phase.proofs.Judging.{push_both}
 use Rattle.gate_phase.proofs.Owning.{item_here, nothing_left}
@@ -21,7 +22,7 @@ loop-gate-preserved g c =
     let rest = into_iter_items c.next.new.self in
     let steps : into_iter_items at.gate-iterator ≡ x ∷ rest = c.in-Some.ensures.steps.0 in
     let whole : at.yielded ++ (x ∷ rest) ≡ into_iter_items c.into_iter-gate-iterator.result = ap (λ (l : List OwnGate). at.yielded ++ l) (sym steps) ∙ at.invariant.whole in
-    let is = IsGateOf (g.C.Cells.design c.args.cells.now) (g.C.Cells.wiring c.args.cells.now) (g.C.Cells.tables c.args.cells.now) c.args.rule.now c.args.global c.args.device c.args.cell in
+    let is = IsGateOf (g.C.Cells.design c.args.cells.now) (g.C.Cells.wiring c.args.cells.now) (g.C.Cells.tables c.args.cells.now) c.args.rule.now (grounds_seen c.args.grounds) c.args.device c.args.cell in
     let made : Gate = record { device = c.args.device; area = x.area; least = x.least; state = c.in_ok-state.state } in
     record {
       whole = append_assoc at.yielded (x ∷ []) rest ∙ whole;
@@ -32,7 +33,7 @@ loop-gate-preserved g c =
 pub returns : goal.returns
 returns g c =
     let at = c.loop-gate in
-    let is = IsGateOf (g.C.Cells.design c.args.cells.now) (g.C.Cells.wiring c.args.cells.now) (g.C.Cells.tables c.args.cells.now) c.args.rule.now c.args.global c.args.device c.args.cell in
+    let is = IsGateOf (g.C.Cells.design c.args.cells.now) (g.C.Cells.wiring c.args.cells.now) (g.C.Cells.tables c.args.cells.now) c.args.rule.now (grounds_seen c.args.grounds) c.args.device c.args.cell in
     let empty : into_iter_items at.gate-iterator ≡ [] = nothing_left _ (sym at.invariant.left ∙ c.in-None.ensures.steps.0) in
     let all : at.yielded ≡ c.args.own.items = sym (append-nil at.yielded) ∙ ap (λ (l : List OwnGate). at.yielded ++ l) (sym empty) ∙ at.invariant.whole ∙ c.into_iter-gate-iterator.ensures.into_iter_gives.0 in
     subst (λ (l : List OwnGate). AreGatesOf is l at.gates.items) all at.invariant.gates

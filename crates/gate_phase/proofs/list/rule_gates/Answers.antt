@@ -1,15 +1,14 @@
-use Rattle.std.proofs.Common.{◌≡◌, ◌∙◌, Some, slice_get, refl, sym, ap, subst}
-use Rattle.std.proofs.lemmas.Option.{slice_get-get_or}
+use Rattle.std.proofs.Common.{sym, subst}
 use Rattle.cell_graph.specs.Linked.{plain}
 use Rattle.flat_layout.specs.Layout.{Design}
 use Rattle.flat_layout.specs.Regions.{Wiring}
 use Rattle.net_link_laws.specs.Laws.{AreNetsUnder}
-use Rattle.rule_layers.specs.Meaning.{device_rule}
 use Rattle.rule_text.specs.Seen.{rules_seen}
 use Rattle.gate_phase.specs.Judged.{AreGatesOf, IsGateOf, IsHeldShape}
+use Rattle.gate_phase.specs.Terminals.{grounds_seen}
 use Rattle.gate_phase.proofs.Listing.{rule_all}
+use Rattle.gate_phase.proofs.Numbering.{device_is, rule_at}
 use Rattle.gate_phase.proofs.Results.{if_ok}
-use Rattle.gate_phase.proofs.Seeding.{rule_there}
 use Rattle.gate_phase.proofs.Terminal.{held_shape, nets_under}
 use Rattle.gate_phase.proofs.list.rule_gates.Goals as goal
 
@@ -20,22 +19,22 @@ judged_gates-requires-clause-nets g c =
     (subst (λ (z : Wiring). AreNetsUnder (plain d) z t c.args.cell) (sym c.requires.wiring) (nets_under d r t c.sound.ensures c.requires.nets c.args.cell c.requires.ready.reached))
 
 pub judged_gates-requires-clause-held : goal.judged_gates-requires-clause-held
-judged_gates-requires-clause-held g c = λ i x e.
-    let d = c.args.design.now in let r = rules_seen c.args.rules.now in let t = g.C.Cells.tables c.args.cells.now in let m = c.index-rule.result.now in
-    let there : slice_get r.devices c.args.device ≡ Some m = slice_get-get_or r.devices c.args.device m c.requires.ready.known ∙ ap Some (sym c.index-rule.ensures) in
-    let at = rule_there r c.args.device m there in
-    let own = (c.in_ok-own.ensures (device_rule r m) at).each i x e in
-    subst (λ (z : Design). IsHeldShape z (g.C.Cells.wiring c.args.cells.now) t m c.args.cell c.args.global x.least x.shape) (sym c.requires.design)
-    (subst (λ (z : Wiring). IsHeldShape (plain d) z t m c.args.cell c.args.global x.least x.shape) (sym c.requires.wiring)
-    (held_shape d r t c.sound.ensures c.requires.nets c.args.cell c.requires.ready.reached (device_rule r m) m c.args.global (record { ts = refl; tg = refl; tb = refl }) (c.requires.global (device_rule r m) at) x own))
+judged_gates-requires-clause-held g c = λ i y e.
+    let d = c.args.design.now in let r = rules_seen c.args.rules.now in let t = g.C.Cells.tables c.args.cells.now in let x = c.device_at-rule.result in
+    let u = rule_at r c.args.device x c.device_at-rule.ensures in
+    let own = (c.in_ok-own.ensures u.rule u.there).each i y e in
+    let at = grounds_seen c.args.grounds in
+    subst (λ (z : Design). IsHeldShape z (g.C.Cells.wiring c.args.cells.now) t x c.args.cell at y.least y.shape) (sym c.requires.design)
+    (subst (λ (z : Wiring). IsHeldShape (plain d) z t x c.args.cell at y.least y.shape) (sym c.requires.wiring)
+    (held_shape d r t c.sound.ensures c.requires.nets c.args.cell c.requires.ready.reached u.rule x at (record { kind = u.device.kind; ts = u.device.ts; tg = u.device.tg; tb = u.device.tb }) (c.requires.grounds u.rule u.there) y own))
 
 pub returns : goal.returns
 returns g c =
-    let d = plain c.args.design.now in let r = rules_seen c.args.rules.now in let t = g.C.Cells.tables c.args.cells.now in let m = c.index-rule.result.now in let n = c.args.device in
-    let there : slice_get r.devices n ≡ Some m = slice_get-get_or r.devices n m c.requires.ready.known ∙ ap Some (sym c.index-rule.ensures) in
-    let at = rule_there r n m there in
-    if_ok _ _ c.judged_gates.result (λ v of.
-    rule_all d r t m c.args.global n c.args.cell c.in_ok-own.own.items v.items there (c.requires.global (device_rule r m) at) (c.in_ok-own.ensures (device_rule r m) at)
-    (subst (λ (z : Wiring). AreGatesOf (IsGateOf d z t m c.args.global n c.args.cell) c.in_ok-own.own.items v.items) c.requires.wiring
-    (subst (λ (z : Design). AreGatesOf (IsGateOf z (g.C.Cells.wiring c.args.cells.now) t m c.args.global n c.args.cell) c.in_ok-own.own.items v.items) c.requires.design of)))
+    let d = c.args.design.now in let r = rules_seen c.args.rules.now in let t = g.C.Cells.tables c.args.cells.now in let x = c.device_at-rule.result in let n = c.args.device in
+    let at = grounds_seen c.args.grounds in
+    if_ok _ _ c.judged_gates.result (λ v of u there.
+    let is = device_is r n x u c.device_at-rule.ensures there in
+    rule_all d r t x at n c.args.cell u c.in_ok-own.own.items v.items c.sound.ensures c.requires.nets c.requires.ready.reached there (record { kind = is.kind; ts = is.ts; tg = is.tg; tb = is.tb }) (c.requires.grounds u there) (c.in_ok-own.ensures u there)
+    (subst (λ (z : Wiring). AreGatesOf (IsGateOf (plain d) z t x at n c.args.cell) c.in_ok-own.own.items v.items) c.requires.wiring
+    (subst (λ (z : Design). AreGatesOf (IsGateOf z (g.C.Cells.wiring c.args.cells.now) t x at n c.args.cell) c.in_ok-own.own.items v.items) c.requires.design of)))
     c.judged_gates.ensures

@@ -1,29 +1,8 @@
-use Rattle.std.proofs.Common.{◌∙◌, ◌++◌, ◌∷◌, [], List, ℕ, ap, sym, subst, get_or}
-use Rattle.std.proofs.lemmas.List.{map_more, take_all}
+use Rattle.std.proofs.Common.{List, ℕ, sym, subst}
 use Rattle.geo_base.specs.declared.shapes.Rect.{Rect}
 use Rattle.tile_index.specs.Windows.{ArePositions}
-use Rattle.cell_context.proofs.Collecting.{no_rect}
-use Rattle.cell_context.proofs.Near.{chosen, own_inside}
-use Rattle.gate_phase.specs.Indexes.{AreMetOf}
-use Rattle.gate_phase.proofs.Indexing.{chosen_met}
 use Rattle.gate_phase.proofs.met.found_rects.Goals as goal
 
-pub bounds-rects-i : goal.bounds-rects-i
-bounds-rects-i c =
-    let rects = c.args.rects.now in let w = c.args.window.now in let near = c.deref-i-items.result.now in
-    let are = subst (λ (l : List Rect). ArePositions l w c.in_ok-near.near.items) c.requires c.in_ok-near.ensures in
-    own_inside rects w near c.loop-i.i-index (subst (λ (l : List ℕ). ArePositions rects w l) (sym c.deref-i-items.ensures.value) are) c.loop-i-test.true
-
-pub loop-i-preserved : goal.loop-i-preserved
-loop-i-preserved c =
-    let rects = c.args.rects.now in let near = c.deref-i-items.result.now in let k = c.loop-i.i-index in
-    c.in_ok-push.ensures.items ∙ ap (λ (l : List Rect). l ++ get_or rects (get_or near k 0) no_rect ∷ []) c.loop-i.invariant
-    ∙ sym (map_more (λ i. get_or rects i no_rect) near k 0 c.loop-i-test.true)
-
-pub returns : goal.returns
-returns c =
-    let rects = c.args.rects.now in let near = c.in_ok-near.near.items in
-    let are = subst (λ (l : List Rect). ArePositions l c.args.window.now near) c.requires c.in_ok-near.ensures in
-    subst (AreMetOf rects c.args.window.now)
-    (sym (c.loop-i.invariant ∙ ap (chosen rects) (take_all c.loop-i.i-index c.deref-i-items.result.now c.loop-i-test.false ∙ c.deref-i-items.ensures.value)))
-    (chosen_met rects c.args.window.now near are)
+pub rects_at-requires : goal.rects_at-requires
+rects_at-requires c =
+    subst (λ (l : List ℕ). ArePositions c.args.rects.now c.args.window.now l) (sym c.deref.ensures.value) (subst (λ (l : List Rect). ArePositions l c.args.window.now c.in_ok-near.near.items) c.requires c.in_ok-near.ensures)

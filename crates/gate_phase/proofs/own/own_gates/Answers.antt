@@ -6,18 +6,14 @@ use Rattle.cell_graph.specs.Linked.{plain}
 use Rattle.rule_text.specs.Seen.{rules_seen}
 use Rattle.rule_layers.specs.Meaning.{wiring_of}
 use Rattle.gate_search.specs.SearchLaws.{IsSearch}
-use Rattle.gate_phase.proofs.Locals.{reached_cell}
 use Rattle.gate_phase.proofs.Owning.{SoFar, all_so_far, held_part, item_here, nothing_left, so_far_more, told_part}
-use Rattle.gate_phase.proofs.Seeding.{some_rule}
+use Rattle.gate_phase.proofs.Numbering.{some_rule}
 use Rattle.gate_phase.proofs.own.own_gates.Goals as goal
-
-pub parts_of-requires-clause-cell : goal.parts_of-requires-clause-cell
-parts_of-requires-clause-cell c = reached_cell c.args.design.now c.args.cell c.sound.ensures c.requires.ready.reached
 
 pub push_part-requires-clause-held : goal.push_part-requires-clause-held
 push_part-requires-clause-held c =
     let d = c.args.design.now in let r = rules_seen c.args.rules.now in let at = c.loop-part in let x = c.in-Some.part in
-    let u = some_rule r c.args.device c.requires.ready.known in
+    let u = some_rule r c.args.number c.requires.ready.known in
     let s = c.in_ok-parts.ensures u.0 u.1 in
     let steps : into_iter_items at.part-iterator ≡ x ∷ into_iter_items c.next.new.self = c.in-Some.ensures.steps.0 in
     let whole : at.yielded ++ (x ∷ into_iter_items c.next.new.self) ≡ c.in_ok-parts.parts.items = ap (λ (l : List (List Rect)). at.yielded ++ l) (sym steps) ∙ at.invariant.whole ∙ c.into_iter-part-iterator.ensures.into_iter_gives.0 in

@@ -39,4 +39,4 @@ pub returns-clause-read : goal.returns-clause-read
 returns-clause-read c =
     let names = c.args.names.now in let had = c.loop-i.invariant in
     let none : c.loop-i.i ≡ 0 = (let past = c.loop-i-test.false in omega arith) in
-    read_law names c.args.rule.now c.loop-i.marks.items (subst (λ n. AreClosed names n c.loop-i.marks.items) none had.closed) had.roots
+    read_law names c.args.device.now c.loop-i.marks.items (subst (λ n. AreClosed names n c.loop-i.marks.items) none had.closed) had.roots

@@ -26,5 +26,5 @@ form_layers-requires-clause-looks c = record { seen = c.args.read.now; are = c.r
 pub form_layers-requires-clause-flats : goal.form_layers-requires-clause-flats
 form_layers-requires-clause-flats c = λ k op a b at.
     let read = c.args.read.now in
-    let there = same_tree c.args.rules.now.names.items [] read k op a b c.requires.read at in
+    let there = same_tree c.args.rules.now.names.items [] [] read k op a b c.requires.read at in
     subst (λ x. IsFlatIn c.args.design.now c.args.cell c.in_ok-set.set x (get_or c.in_ok-flats.flats.items k [])) (get_or_from_slice_get (formulas read) k (Binary op a b) Empty there) (c.in_ok-flats.ensures.flats k)

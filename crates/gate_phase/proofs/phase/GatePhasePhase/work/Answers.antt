@@ -1,45 +1,24 @@
-use Rattle.std.proofs.Common.{◌≡◌, ◌∙◌, ℕ, List, Option, ap, sym, subst, slice_index}
-use Rattle.std.specs.Borrow.{Bor}
-use Rattle.std.specs.Global.{Vec}
-use Rattle.cell_graph.specs.Linked.{plain}
+use Rattle.std.proofs.Common.{◌≡◌, ◌∙◌, ℕ, List, ap, length-append, map, subst, slice_index, arith}
+use Rattle.cell_graph.specs.Linked.{Linked, plain}
 use Rattle.deep_tables.specs.Entries.{upward_cell}
-use Rattle.deep_tables.specs.Gates.{AreCellGates}
-use Rattle.deep_tables.specs.Nets.{AreRightNets}
-use Rattle.deep_tables.specs.declared.nets.CellNets.{CellNets}
-use Rattle.geo_base.specs.declared.shapes.Rect.{Rect}
-use Rattle.gate_phase.proofs.phase.GatePhasePhase.work.Goals as goal
-use Rattle.gate_phase.specs.Phase.{GateJobs, read_by}
-use Rattle.net_phase.proofs.Nearing.{same_indexes}
-use Rattle.net_phase.proofs.Results.{if_ok}
-use Rattle.net_phase.proofs.Righting.{held_own, same_below}
-use Rattle.net_phase.specs.Below.{AreHeldOwn, BelowSeen, tables_seen}
-use Rattle.net_phase.specs.Own.{rect_lists}
-use Rattle.net_phase.specs.Reading.{nets_of}
-use Rattle.rule_layers.specs.Meaning.{wiring_of}
+use Rattle.deep_tables.specs.Gates.{AreMosCellGates}
+use Rattle.deep_tables.specs.declared.gates.CellGates.{CellGates}
+use Rattle.rule_layers.specs.Meaning.{more_rule, mos_rules}
 use Rattle.rule_text.specs.Seen.{rules_seen}
+use Rattle.gate_phase.specs.Phase.{GateJobs}
+use Rattle.gate_phase.proofs.Listing.{mos_cell}
+use Rattle.gate_phase.proofs.phase.GatePhasePhase.work.Goals as goal
 
-pub new-cells-requires-clause-own : goal.new-cells-requires-clause-own
-new-cells-requires-clause-own g c =
-    let a = c.self.inside in
-    subst (λ (l : List (Vec (Bor (List Rect)))). AreHeldOwn a.design.now (rect_lists l)) (sym c.deref.ensures.value)
-    (held_own a.design.now (rules_seen a.rules.now) (rect_lists a.own.items) c.sound.ensures c.self.invariant.own)
-
-pub new-cells-requires-clause-indexes : goal.new-cells-requires-clause-indexes
-new-cells-requires-clause-indexes g c = same_indexes c.self.inside.design.now _ _ _ _ c.self.inside.indexes (sym c.deref.ensures.value) (sym c.deref-2.ensures.value) c.self.invariant.indexes
-
-pub cell_gates-requires-clause-nets : goal.cell_gates-requires-clause-nets
-cell_gates-requires-clause-nets g c =
-    let a = c.self.inside in
-    let e = c.new-cells.ensures in
-    let same : c.new-cells.result ≡ read_by a =
-    same_below c.new-cells.result a.design.now a.rules.now (rect_lists a.own.items) (nets_of a.nets.items) e.design e.rules
-    (e.own ∙ ap (λ (l : List (Vec (Bor (List Rect)))). rect_lists l) c.deref.ensures.value)
-    (e.nets ∙ ap (λ (l : List (Option (Bor CellNets))). nets_of l) c.deref-3.ensures.value) in
-    subst (λ (z : BelowSeen). AreRightNets (plain a.design.now) (wiring_of (rules_seen a.rules.now)) (tables_seen z)) (sym same) c.self.invariant.nets
+pub gates_of-requires-clause-to : goal.gates_of-requires-clause-to
+gates_of-requires-clause-to g c =
+    let r = rules_seen c.self.inside.work.rules in
+    let both = length-append (mos_rules r) (map (more_rule r) r.more) in let many = c.transistors.ensures in omega (arith, both, many)
 
 pub returns : goal.returns
 returns g c =
     let a = c.self.inside in
-    if_ok _ _ c.cell_gates.result (λ v made.
-    subst (λ (z : GateJobs). AreCellGates (plain z.design) (rules_seen z.rules) (upward_cell z.design c.args.job) v) c.self.view_is
-    (subst (λ (o : List ℕ). AreCellGates (plain a.design.now) (rules_seen a.rules.now) (slice_index o c.args.job) v) c.order.ensures made)) c.cell_gates.ensures
+    let v : CellGates = record { gates = c.in_ok-gates.gates } in
+    let order : c.order.result.now ≡ a.work.design.order = c.order.ensures ∙ ap (λ (d : Linked). d.order) c.design-design.ensures in
+    let made = mos_cell (plain a.work.design) (rules_seen a.work.rules) (slice_index c.order.result.now c.args.job) c.transistors.result v c.transistors.ensures c.in_ok-gates.ensures in
+    subst (λ (z : GateJobs). AreMosCellGates (plain z.design) (rules_seen z.rules) (upward_cell z.design c.args.job) v) c.self.view_is
+    (subst (λ (o : List ℕ). AreMosCellGates (plain a.work.design) (rules_seen a.work.rules) (slice_index o c.args.job) v) order made)

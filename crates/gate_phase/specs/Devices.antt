@@ -1,0 +1,109 @@
+-- A device rule of any kind, by the numbers of its names.
+use Rattle.std.specs.Prelude.{◌≡◌, ℕ, ◌<◌, List, Option, Some, None, ◌++◌, get_or, length, map}
+use Rattle.geo_base.specs.declared.layer.Op.TheVariants.{And}
+use Rattle.flat_layout.specs.Gates as flat
+use Rattle.flat_layout.specs.Layers.{Formula, Empty, Binary}
+use Rattle.flat_layout.specs.Regions.{formula}
+use Rattle.rule_text.specs.Rules.{Rules}
+use Rattle.rule_text.specs.declared.rules.MosRule.{MosRule}
+use Rattle.rule_text.specs.declared.rules.MoreRule.{MoreRule}
+use Rattle.rule_text.specs.declared.rules.MoreRule.TheVariants as more
+use Rattle.rule_layers.specs.Formulas.{formulas}
+use Rattle.rule_layers.specs.Meaning.{wiring_of}
+use Rattle.rule_layers.specs.Reads.{IsRead}
+use Rattle.gate_phase.specs.declared.device.Device.{Device}
+use Rattle.gate_phase.specs.declared.device.Kind.{Kind}
+use Rattle.gate_phase.specs.declared.device.Kind.TheVariants.{Transistor, Resistor, Diode}
+use Rattle.gate_phase.specs.declared.device.Region.{Region}
+use Rattle.gate_phase.specs.declared.device.Region.TheVariants.{One, Both}
+
+-- a transistor's rule by its names
+abbrev pub of_mos : MosRule → Device
+of_mos m = record {
+  kind = Transistor;
+  region = One m.g;
+  ends = Some m.sd;
+  well = Some m.w;
+  ts = m.ts;
+  tg = m.tg;
+  tb = m.tb;
+}
+
+-- and a further one: a resistor's gate is its bulk; a diode has its anode at the ends, its cathode
+-- at the bulk
+abbrev pub of_more : MoreRule → Device
+of_more (more.Resistor class n c w ta tw) = record {
+  kind = Resistor;
+  region = One n;
+  ends = Some c;
+  well = Some w;
+  ts = ta;
+  tg = tw;
+  tb = tw;
+}
+of_more (more.Diode class p n ta tc) = record {
+  kind = Diode;
+  region = Both p n;
+  ends = None;
+  well = None;
+  ts = ta;
+  tg = tc;
+  tb = tc;
+}
+
+-- all device rules by their names, in the order of their numbers
+abbrev pub devices_of : Rules → List Device
+devices_of r = map of_mos r.devices ++ map of_more r.more
+
+abbrev pub kind_seen : Kind → flat.Kind
+kind_seen Transistor = flat.Mos
+kind_seen Resistor = flat.Resistor
+kind_seen Diode = flat.Diode
+
+-- the layer whose parts are the rule's regions
+abbrev pub region_of : List Formula → Region → Formula
+region_of trees (One name) = get_or trees name Empty
+region_of trees (Both a b) = Binary And (get_or trees a Empty) (get_or trees b Empty)
+
+-- a layer that some kinds don't have
+abbrev pub layer_in : List Formula → Option ℕ → Formula
+layer_in trees None = Empty
+layer_in trees (Some name) = get_or trees name Empty
+
+-- these are the names of the rule
+pub record IsDevice (trees : List Formula) (x : Device) (u : flat.Rule) : Type 0 where
+  pub kind : u.kind ≡ kind_seen x.kind
+  pub region : u.gate ≡ region_of trees x.region
+  pub ends : u.sd ≡ layer_in trees x.ends
+  pub well : u.well ≡ layer_in trees x.well
+  pub ts : u.ts ≡ x.ts
+  pub tg : u.tg ≡ x.tg
+  pub tb : u.tb ≡ x.tb
+
+-- a name that is there; where there are two for the regions, each is read by a device rule
+abbrev pub IsKnownRegion : Rules → Region → Type 0
+IsKnownRegion r (One a) = a < length r.names
+IsKnownRegion r (Both a b) = (a < length r.names) × (b < length r.names)
+    × IsRead r.names r.devices r.more a × IsRead r.names r.devices r.more b
+
+-- a diode alone has no groups beside its regions
+abbrev pub AreKnownEnds : Rules → Kind → Option ℕ → Type 0
+AreKnownEnds r Transistor None = ⊥
+AreKnownEnds r Transistor (Some a) = a < length r.names
+AreKnownEnds r Resistor None = ⊥
+AreKnownEnds r Resistor (Some a) = a < length r.names
+AreKnownEnds r Diode None = Unit {0}
+AreKnownEnds r Diode (Some a) = ⊥
+
+-- a terminal's conductor is read as its name
+pub record IsTerminalName (r : Rules) (c : ℕ) : Type 0 where
+  pub known : c < length r.names
+  pub read : formula (wiring_of r) c ≡ get_or (formulas r.names) c Empty
+
+-- the names of a sound device rule
+pub record IsKnownDevice (r : Rules) (x : Device) : Type 0 where
+  pub region : IsKnownRegion r x.region
+  pub ends : AreKnownEnds r x.kind x.ends
+  pub ts : IsTerminalName r x.ts
+  pub tg : IsTerminalName r x.tg
+  pub tb : IsTerminalName r x.tb
