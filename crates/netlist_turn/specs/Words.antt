@@ -7,7 +7,7 @@ use Rattle.std.specs.List.{list_any}
 use Rattle.std.specs.Str.{bytes_eq}
 use Rattle.netlist_lines.specs.Cleaning.{is_quote}
 use Rattle.spice_rows.specs.Names.{is_text}
-use Rattle.spice_rows.specs.Params.{is_device_key}
+use Rattle.spice_rows.specs.Params.{Transistor, is_device_key}
 use Rattle.spice_rows.specs.Rows.{begin}
 use Rattle.netlist_turn.specs.declared.rows.Row.{Row}
 use Rattle.netlist_turn.specs.declared.rows.Row.TheVariants.{Device, Call, Opening, Ending, Plain}
@@ -66,7 +66,7 @@ left_out row w behind = None
 
 -- a parameter that says something, or that the reader passes over
 abbrev pub is_kept_key : Row → List ℕ → Bool
-is_kept_key Device key = is_text (codes "M") key || is_device_key key
+is_kept_key Device key = is_text (codes "M") key || is_device_key Transistor key
 is_kept_key Call key = is_text (codes "M") key
 is_kept_key Opening key = false
 is_kept_key row key = true

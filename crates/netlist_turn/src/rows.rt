@@ -2,7 +2,7 @@
 
 ghost use Rattle.std.specs.Prelude.{◌≡◌};
 ghost use Rattle.spice_cards.specs.Seen.{words_seen};
-ghost use Rattle.spice_rows.specs.Params.{is_device_key};
+ghost use Rattle.spice_rows.specs.Params.{Transistor, is_device_key};
 ghost use Rattle.spice_rows.specs.Rows.{begin};
 ghost use Rattle.std.specs.Prelude.{codes};
 ghost use Rattle.spice_rows.specs.Names.{is_text};
@@ -124,7 +124,7 @@ pub fn left_out(row: Row, word: &[u8], behind: &[&[u8]]) -> Option<Kind>
 }
 
 fn is_device_key(key: &[u8]) -> bool
-    ensures { result ≡ is_device_key key.now }
+    ensures { result ≡ is_device_key Transistor key.now }
 {
     is_text(key, b"L")
         || is_text(key, b"W")

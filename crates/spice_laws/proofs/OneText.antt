@@ -6,12 +6,14 @@ use Rattle.std.proofs.Math.Nat.{mul-le-mul_right, pow-suc}
 use Rattle.std.specs.List.{list_all}
 use Rattle.std.specs.Char.{is_ascii_digit, digit_value}
 use Rattle.std.specs.Str.Parse.{digits_value, digits_value_after}
-use Rattle.fixed_num.specs.Microns.{IsFraction, IsMicrons, pointed}
+use Rattle.fixed_num.specs.Microns.{IsOver, IsPartOf, pointed}
 use Rattle.fixed_num.proofs.Digits.{digit_bounds, digit_worth}
 use Rattle.fixed_num.proofs.Stripped.{ten_positive}
 use Rattle.plain_netlist.specs.Netlist.{Circuit, DeviceRow}
 use Rattle.spice_laws.specs.Once.{OneTextLaw}
-use Rattle.spice_text.specs.Written.{AreOneByOne, AreTexts, IsCircuitText, IsDeviceText, circuit_text, device_text}
+use Rattle.spice_rows.specs.Params.{Kind, Transistor, Resistor, Diode}
+use Rattle.spice_text.specs.Cards.{kind_of}
+use Rattle.spice_text.specs.Written.{AreOneByOne, AreSizes, AreTexts, IsAreaText, IsCircuitText, IsDeviceText, IsLengthText, circuit_text, device_text}
 
 -- ---- digits behind the point
 
@@ -58,84 +60,132 @@ ends_in_zero d (c ∷ cs) h e =
     (d ∷ rest.0, ap (λ (xs : List ℕ). d ∷ xs) rest.1)
 
 -- a first digit is the whole part of ten times the fraction
-pub record IsPeeled (v d : ℕ) (ds : List ℕ) : Type 0 where
-  pub low : digit_value d * 10 ^ 9 ≤ v * 10
-  pub high : v * 10 < digit_value d * 10 ^ 9 + 10 ^ 9
+pub record IsPeeled (tens v d : ℕ) (ds : List ℕ) : Type 0 where
+  pub low : digit_value d * 10 ^ tens ≤ v * 10
+  pub high : v * 10 < digit_value d * 10 ^ tens + 10 ^ tens
 
-peeled : (v d : ℕ) (ds : List ℕ) → IsFraction v (d ∷ ds) → IsPeeled v d ds
-peeled v d ds h = record { low = low (cases_lt (v * 10) (a * 10 ^ 9)); high = high (cases_lt (v * 10) (a * 10 ^ 9 + 10 ^ 9)) }
+peeled : (tens v d : ℕ) (ds : List ℕ) → IsPartOf tens v (d ∷ ds) → IsPeeled tens v d ds
+peeled tens v d ds h = record { low = low (cases_lt (v * 10) (a * t)); high = high (cases_lt (v * 10) (a * t + t)) }
   where
     a : ℕ
     a = digit_value d
 
+    t : ℕ
+    t = 10 ^ tens
+
     p : ℕ
     p = 10 ^ length ds
 
-    worth : a * p * 10 ^ 9 + digits_value 10 ds * 10 ^ 9 ≡ v * p * 10
-    worth = omega (arith, h.worth, first_digit d ds, ap (λ (k : ℕ). v * k) (pow-suc 10 (length ds)))
+    rest : ℕ
+    rest = digits_value 10 ds
+
+    worth : a * p * t + rest * t ≡ v * p * 10
+    worth = omega (arith, h.worth, ap (λ (k : ℕ). k * t) (first_digit d ds), ap (λ (k : ℕ). v * k) (pow-suc 10 (length ds)))
 
     some : 1 ≤ p
     some = ten_positive (length ds)
 
-    less : digits_value 10 ds < p
+    unit : 1 ≤ t
+    unit = ten_positive tens
+
+    less : rest < p
     less = value_low ds (both (is_ascii_digit d) (list_all is_ascii_digit ds) h.digits).1
 
-    low : (v * 10 < a * 10 ^ 9) ⊎ (a * 10 ^ 9 ≤ v * 10) → a * 10 ^ 9 ≤ v * 10
+    low : (v * 10 < a * t) ⊎ (a * t ≤ v * 10) → a * t ≤ v * 10
     low (inr le) = le
     low (inl lt) =
-        let up : v * 10 + 1 ≤ a * 10 ^ 9 = omega (arith, lt) in
+        let up : v * 10 + 1 ≤ a * t = omega (arith, lt) in
         let wide = mul-le-mul_right p up in
         absurd (omega (arith, wide, worth, some))
 
-    high : (v * 10 < a * 10 ^ 9 + 10 ^ 9) ⊎ (a * 10 ^ 9 + 10 ^ 9 ≤ v * 10) → v * 10 < a * 10 ^ 9 + 10 ^ 9
+    high : (v * 10 < a * t + t) ⊎ (a * t + t ≤ v * 10) → v * 10 < a * t + t
     high (inl lt) = lt
     high (inr le) =
         let wide = mul-le-mul_right p le in
-        absurd (omega (arith, wide, worth, less))
+        let fewer : rest + 1 ≤ p = omega (arith, less) in
+        let scaled = mul-le-mul_right t fewer in
+        absurd (omega (arith, wide, worth, scaled, unit))
 
 -- and the rest is a fraction too
-rest_of : (v r d : ℕ) (ds : List ℕ) → r + digit_value d * 10 ^ 9 ≡ v * 10 → IsFraction v (d ∷ ds) → IsFraction r ds
-rest_of v r d ds e h = record {
+rest_of : (tens v r d : ℕ) (ds : List ℕ) → r + digit_value d * 10 ^ tens ≡ v * 10 → IsPartOf tens v (d ∷ ds) → IsPartOf tens r ds
+rest_of tens v r d ds e h = record {
   digits = (both (is_ascii_digit d) (list_all is_ascii_digit ds) h.digits).1;
-  worth = omega (arith, h.worth, first_digit d ds, ap (λ (k : ℕ). v * k) (pow-suc 10 (length ds)), ap (λ (k : ℕ). k * 10 ^ length ds) e);
+  worth = omega (arith, h.worth, ap (λ (k : ℕ). k * 10 ^ tens) (first_digit d ds), ap (λ (k : ℕ). v * k) (pow-suc 10 (length ds)), ap (λ (k : ℕ). k * 10 ^ length ds) e);
   last = λ front same. h.last (d ∷ front) (ap (λ (xs : List ℕ). d ∷ xs) same);
 }
 
-none_left : (v d : ℕ) (ds : List ℕ) → IsFraction v [] → IsFraction v (d ∷ ds) → ⊥
-none_left v d ds h g =
+-- what is nothing many times is nothing
+nothing : (n t : ℕ) → 1 ≤ t → n * t ≡ 0 → n ≡ 0
+nothing n t some e = by (cases_lt 0 n)
+  where
+    by : (0 < n) ⊎ (n ≤ 0) → n ≡ 0
+    by (inr le) = omega (arith, le)
+    by (inl lt) =
+        let up : 1 ≤ n = omega (arith, lt) in
+        let wide = mul-le-mul_right t up in
+        absurd (omega (arith, wide, e, some))
+
+none_left : (tens v d : ℕ) (ds : List ℕ) → IsPartOf tens v [] → IsPartOf tens v (d ∷ ds) → ⊥
+none_left tens v d ds h g =
     let zero_v : v ≡ 0 = (let w = h.worth in omega (arith, w)) in
-    let w : digits_value 10 (d ∷ ds) * 10 ^ 9 ≡ 0 * 10 ^ length (d ∷ ds) = g.worth ∙ ap (λ (k : ℕ). k * 10 ^ length (d ∷ ds)) zero_v in
-    let none : digits_value 10 (d ∷ ds) ≡ 0 = omega (arith, w) in
+    let w : digits_value 10 (d ∷ ds) * 10 ^ tens ≡ 0 * 10 ^ length (d ∷ ds) = g.worth ∙ ap (λ (k : ℕ). k * 10 ^ length (d ∷ ds)) zero_v in
+    let none : digits_value 10 (d ∷ ds) ≡ 0 = nothing (digits_value 10 (d ∷ ds)) (10 ^ tens) (ten_positive tens) (omega (arith, w)) in
     let z = ends_in_zero d ds g.digits none in
     g.last z.0 z.1
 
-one_fraction : (v : ℕ) (ds es : List ℕ) → IsFraction v ds → IsFraction v es → ds ≡ es
-one_fraction v [] [] h g = refl
-one_fraction v [] (e ∷ es) h g = absurd (none_left v e es h g)
-one_fraction v (d ∷ ds) [] h g = absurd (none_left v d ds g h)
-one_fraction v (d ∷ ds) (e ∷ es) h g =
-    let x = peeled v d ds h in
-    let y = peeled v e es g in
-    let worth : digit_value d ≡ digit_value e = (let a = x.low in let b = x.high in let c = y.low in let f = y.high in omega (arith, a, b, c, f)) in
+-- numbers between whose multiples there is no room for one more
+at_most : (a b t v : ℕ) → a * t ≤ v → v < b * t + t → a ≤ b
+at_most a b t v low high = by (cases_lt b a)
+  where
+    by : (b < a) ⊎ (a ≤ b) → a ≤ b
+    by (inr le) = le
+    by (inl lt) =
+        let up : b + 1 ≤ a = omega (arith, lt) in
+        let wide = mul-le-mul_right t up in
+        absurd (omega (arith, wide, low, high))
+
+one_fraction : (tens v : ℕ) (ds es : List ℕ) → IsPartOf tens v ds → IsPartOf tens v es → ds ≡ es
+one_fraction tens v [] [] h g = refl
+one_fraction tens v [] (e ∷ es) h g = absurd (none_left tens v e es h g)
+one_fraction tens v (d ∷ ds) [] h g = absurd (none_left tens v d ds g h)
+one_fraction tens v (d ∷ ds) (e ∷ es) h g =
+    let x = peeled tens v d ds h in
+    let y = peeled tens v e es g in
+    let up = at_most (digit_value d) (digit_value e) (10 ^ tens) (v * 10) x.low y.high in
+    let down = at_most (digit_value e) (digit_value d) (10 ^ tens) (v * 10) y.low x.high in
+    let worth : digit_value d ≡ digit_value e = omega (arith, up, down) in
     let dd = (both (is_ascii_digit d) (list_all is_ascii_digit ds) h.digits).0 in
     let ed = (both (is_ascii_digit e) (list_all is_ascii_digit es) g.digits).0 in
     let first : d ≡ e = digit_same d e dd ed worth in
-    let r : ℕ = v * 10 - digit_value d * 10 ^ 9 in
-    let here : r + digit_value d * 10 ^ 9 ≡ v * 10 = (let a = x.low in omega (arith, a)) in
-    let there : r + digit_value e * 10 ^ 9 ≡ v * 10 = omega (arith, here, worth) in
-    let rest = one_fraction r ds es (rest_of v r d ds here h) (rest_of v r e es there g) in
+    let r : ℕ = v * 10 - digit_value d * 10 ^ tens in
+    let here : r + digit_value d * 10 ^ tens ≡ v * 10 = (let a = x.low in omega (arith, a)) in
+    let there : r + digit_value e * 10 ^ tens ≡ v * 10 = ap (λ (k : ℕ). r + k * 10 ^ tens) (sym worth) ∙ here in
+    let rest = one_fraction tens r ds es (rest_of tens v r d ds here h) (rest_of tens v r e es there g) in
     ap (λ (z : ℕ). z ∷ ds) first ∙ ap (λ (zs : List ℕ). e ∷ zs) rest
 
-one_microns : (v : ℕ) (a b : List ℕ) → IsMicrons v a → IsMicrons v b → a ≡ b
-one_microns v a b h g =
-    let same = one_fraction (v % 10 ^ 9) h.fraction g.fraction h.rest g.rest in
-    h.spelled ∙ ap (λ (ds : List ℕ). decimal (v / 10 ^ 9) ++ pointed ds) same ∙ sym g.spelled
+one_over : (tens v : ℕ) (a b : List ℕ) → IsOver tens v a → IsOver tens v b → a ≡ b
+one_over tens v a b h g =
+    let same = one_fraction tens (v % 10 ^ tens) h.fraction g.fraction h.rest g.rest in
+    h.spelled ∙ ap (λ (ds : List ℕ). decimal (v / 10 ^ tens) ++ pointed ds) same ∙ sym g.spelled
+
+one_length : (v : ℕ) (a b : List ℕ) → IsLengthText v a → IsLengthText v b → a ≡ b
+one_length v a b (m, h, e) (n, g, f) = e ∙ ap (λ (t : List ℕ). t ++ codes "U") (one_over 9 v m n h g) ∙ sym f
+
+one_area : (v : ℕ) (a b : List ℕ) → IsAreaText v a → IsAreaText v b → a ≡ b
+one_area v a b (m, h, e) (n, g, f) = e ∙ ap (λ (t : List ℕ). t ++ codes "P") (one_over 12 v m n h g) ∙ sym f
+
+one_sizes : (kind : Kind) (d : DeviceRow) (x y u v : List ℕ) → AreSizes kind d x y → AreSizes kind d u v → (x ≡ u) × (y ≡ v)
+one_sizes Transistor d x y u v h g = (one_length d.length x u h.0 g.0, one_length d.width y v h.1 g.1)
+one_sizes Resistor d x y u v h g = (one_length d.length x u h.0 g.0, one_length d.width y v h.1 g.1)
+one_sizes Diode d x y u v h g = (one_area d.width x u h.0 g.0, one_length d.length y v h.1 g.1)
 
 -- ---- lines
 
 one_device : (nets : List (List ℕ)) (k : ℕ) (d : DeviceRow) (a b : List ℕ) → IsDeviceText nets k d a → IsDeviceText nets k d b → a ≡ b
-one_device nets k d a b (l, is_l, w, is_w, e) (m, is_m, u, is_u, f) =
-    e ∙ ap (λ (t : List ℕ). device_text nets k d t w) (one_microns d.length l m is_l is_m) ∙ ap (λ (t : List ℕ). device_text nets k d m t) (one_microns d.width w u is_w is_u) ∙ sym f
+one_device nets k d a b (x, y, sizes, e) (u, v, other, f) =
+    let kind = kind_of d.class in
+    let same = one_sizes kind d x y u v sizes other in
+    e ∙ ap (λ (t : List ℕ). device_text kind nets k d t y) same.0 ∙ ap (λ (t : List ℕ). device_text kind nets k d u t) same.1 ∙ sym f
 
 one_texts : {A : Type 0} (P : ℕ → A → List ℕ → Type 0) → ((k : ℕ) (x : A) (a b : List ℕ) → P k x a → P k x b → a ≡ b) → (k : ℕ) (xs : List A) (a b : List ℕ) → AreTexts P k xs a → AreTexts P k xs b → a ≡ b
 one_texts P one k [] a b h g = h ∙ sym g

@@ -17,6 +17,7 @@ use Rattle.net_model.specs.Faults as model
 use Rattle.net_model.specs.Tests.{has_twins}
 use Rattle.spice_rows.specs.Names.{are_apart}
 use Rattle.spice_rows.specs.Rows.{CallCard}
+use Rattle.spice_rows.specs.Sizes.{Limits}
 use Rattle.spice_text.specs.Gather.{Circuit}
 use Rattle.spice_text.specs.Circuits.{names_of, called_in, call_lists}
 use Rattle.spice_text.specs.Faults.{IsSecond, HasCall, is_missing, is_other_count, is_other_than, Lacks}
@@ -26,7 +27,8 @@ use Rattle.spice_text.specs.Laws.{IsName, IsWritable, WrittenMeansLaw, ReadAgain
 use Rattle.spice_text.specs.Written.{or_empty, name_in, IsWritten}
 use Rattle.spice_text.proofs.SearchLemmas.{either}
 use Rattle.spice_text.proofs.PinLemmas.{place_at, has_listed, unseen_behind}
-use Rattle.spice_text.proofs.RowLemmas.{AreNames, name_at, IsUnder, device_card}
+use Rattle.spice_text.specs.Cards.{kind_of}
+use Rattle.spice_text.proofs.RowLemmas.{AreNames, name_at, AreSizesUnder, device_card}
 use Rattle.spice_text.proofs.TextLemmas.{call_card, call_cards, circuit_card, behind, circuit_cards, IsReadable, at_rest, text_read}
 
 some_one : {A : Type 0} (a b : A) → (let x : Option A = Some a in x) ≡ Some b → a ≡ b
@@ -274,8 +276,8 @@ names_all : (nets : List (List ℕ)) (ns : List ℕ) → AreBelow nets ns → ((
 names_all nets [] h named = tt
 names_all nets (n ∷ ns) h named = (named n (name_at nets n) (name_there nets n (h n (inl refl))), names_all nets ns (λ m i. h m (inr i)) named)
 
-abbrev pub AreUnder : Option ℕ → plain.Netlist → Type 0
-AreUnder limit nl = (t i : ℕ) (d : plain.DeviceRow) → plain.IsDevice nl t i d → IsUnder limit d.length × IsUnder limit d.width
+abbrev pub AreUnder : Option Limits → plain.Netlist → Type 0
+AreUnder limit nl = (t i : ℕ) (d : plain.DeviceRow) → plain.IsDevice nl t i d → AreSizesUnder (kind_of d.class) limit d
 
 abbrev terminals : plain.Circuit → List ℕ
 terminals c = flat_map normal.terminal_nets c.devices
@@ -283,7 +285,7 @@ terminals c = flat_map normal.terminal_nets c.devices
 abbrev called_nets : plain.Circuit → List ℕ
 called_nets c = flat_map (λ (r : plain.CallRow). r.nets) c.calls
 
-readable : (limit : Option ℕ) (nl : plain.Netlist) → sound.IsSoundNetlist nl → normal.IsNormalNetlist nl → IsWritable nl → AreUnder limit nl → (t : ℕ) (c : plain.Circuit) → plain.IsCircuit nl t c
+readable : (limit : Option Limits) (nl : plain.Netlist) → sound.IsSoundNetlist nl → normal.IsNormalNetlist nl → IsWritable nl → AreUnder limit nl → (t : ℕ) (c : plain.Circuit) → plain.IsCircuit nl t c
     → IsReadable limit nl.circuits c
 readable limit nl s n w u t c h = record {
   name = w.circuits t c h;
@@ -292,8 +294,9 @@ readable limit nl s n w u t c h = record {
   devices = λ d l.
       let i = position c.devices d l in
       let is : plain.IsDevice nl t i.0 d = (c, h, i.1) in
-      let up = u t i.0 d is in
       record {
+        is = refl;
+        fits = w.cards t c h i.0 d i.1;
         drain = net d l d.drain (inl refl);
         gate = net d l d.gate (inr (inl refl));
         source = net d l d.source (inr (inr (inl refl)));
@@ -301,8 +304,7 @@ readable limit nl s n w u t c h = record {
         class = w.classes t i.0 d is;
         length = w.lengths t i.0 d is;
         width = w.widths t i.0 d is;
-        under_length = up.0;
-        under_width = up.1;
+        under = u t i.0 d is;
       };
   calls = λ r l.
       let k = position c.calls r l in
@@ -406,7 +408,7 @@ netlist_back nl s n = record {
       row_back (map (λ (x : plain.Circuit). x.name) nl.circuits) nl.circuits c (λ a b name p q. s.net_names t.0 a b c name t.1 p q) (n t.0 c t.1) (λ r k. called_back nl c t.0 s t.1 r k) i j));
 }
 
-means_it : (limit : Option ℕ) (nl : plain.Netlist) (text : List ℕ) → model.CallListsLaw → sound.IsSoundNetlist nl → normal.IsNormalNetlist nl → IsWritable nl → AreUnder limit nl → IsWritten nl text
+means_it : (limit : Option Limits) (nl : plain.Netlist) (text : List ℕ) → model.CallListsLaw → sound.IsSoundNetlist nl → normal.IsNormalNetlist nl → IsWritable nl → AreUnder limit nl → IsWritten nl text
     → Means limit text nl
 means_it limit nl text law s n w u h = record {
   cards = at_rest (cards nl);
@@ -420,7 +422,7 @@ means_it limit nl text law s n w u h = record {
 }
 
 pub written_means : model.CallListsLaw → WrittenMeansLaw
-written_means law nl text s n w h = means_it None nl text law s n w (λ t i d k. (tt, tt)) h
+written_means law nl text s n w h = means_it None nl text law s n w (λ t i d k. tt) h
 
 pub read_again : model.CallListsLaw → ReadAgainLaw
 read_again law limit nl text s n w u h = means_it (Some limit) nl text law s n w u h

@@ -7,6 +7,7 @@ use Rattle.text_table.specs.Texts.{place_of}
 use Rattle.plain_netlist.specs.Lists.{IsListed}
 use Rattle.plain_netlist.specs.Netlist as plain
 use Rattle.spice_rows.specs.Rows.{CallCard}
+use Rattle.spice_rows.specs.Sizes.{Limits}
 use Rattle.spice_rows.specs.declared.fault.SpiceFault.{SpiceFault}
 use Rattle.spice_rows.specs.declared.fault.SpiceFault.TheVariants.{NotClosed, NameClash, NoSuchCircuit, PinCount, CircuitCycle, NoMemory}
 use Rattle.spice_text.specs.Gather.{Circuit, Cards, reading_of}
@@ -87,7 +88,7 @@ one_meaning limit text n m x y =
 
 -- ---- and no fault
 
-no_whole : (limit : Option ℕ) (text : List ℕ) (n : plain.Netlist) (fault : SpiceFault) (x : Means limit text n) → IsWholeFault x.cards fault → fault ≡ NoMemory
+no_whole : (limit : Option Limits) (text : List ℕ) (n : plain.Netlist) (fault : SpiceFault) (x : Means limit text n) → IsWholeFault x.cards fault → fault ≡ NoMemory
 no_whole limit text n (NotClosed l) x h = absurd (let e = h.1 in let f = x.ended in let z : ⊥ = cc in z)
 no_whole limit text n NoMemory x h = refl
 no_whole limit text n (NameClash l) x h = absurd (x.one h.1.0 h.1.1.holds)
@@ -99,7 +100,7 @@ no_whole limit text n fault x h = absurd h.1
 not_both : {A E : Type 0} (r : Result A E) (a : A) (e : E) → r ≡ Ok a → r ≡ Err e → ⊥
 not_both r a e f g = let z : ⊥ = cc in z
 
-none_first : (limit : Option ℕ) (text : List ℕ) (n : plain.Netlist) (fault : SpiceFault) → Means limit text n → IsFirstFault limit text fault → fault ≡ NoMemory
+none_first : (limit : Option Limits) (text : List ℕ) (n : plain.Netlist) (fault : SpiceFault) → Means limit text n → IsFirstFault limit text fault → fault ≡ NoMemory
 none_first limit text n fault x (inl e) = absurd (not_both (reading_of limit text) x.cards fault x.read e)
 none_first limit text n fault x (inr (cards, e, w)) =
     let same : cards ≡ x.cards = ok_one {E = SpiceFault} cards x.cards (sym e ∙ x.read) in

@@ -1,5 +1,5 @@
 -- What holds of the name and the pins of each card that opens a circuit holds of those of each circuit of the cards.
-use Rattle.std.proofs.Common.{◌≡◌, inl, inr, ℕ, ◌==◌, Bool, true, false, ◌||◌, not, List, [], ◌∷◌, length, Option, Some, None, Result, Ok, Err, IfOk, refl, sym, subst}
+use Rattle.std.proofs.Common.{◌≡◌, inl, inr, ℕ, ◌==◌, Bool, true, false, not, List, [], ◌∷◌, Option, Some, None, Result, Ok, Err, IfOk, refl, sym, subst}
 use Rattle.std.specs.Prelude.{codes, is_some}
 use Rattle.std.specs.List.{list_any}
 use Rattle.plain_netlist.specs.Lists.{IsListed}
@@ -8,8 +8,8 @@ use Rattle.spice_cards.specs.Tokens.{Token, Word, Equals}
 use Rattle.spice_cards.specs.Cards.{Card, cards_of, early_more}
 use Rattle.spice_cards.specs.Parts.{Param, words_of, behind_words, params_of}
 use Rattle.spice_rows.specs.Names.{names_of, are_apart, is_text}
-use Rattle.spice_rows.specs.Params.{copies_of, is_once, is_one, is_refused}
-use Rattle.spice_rows.specs.Sizes.{Sizes, sizes_of}
+use Rattle.spice_rows.specs.Params.{Kind, Transistor, Resistor, Diode, copies_of, is_one, is_refused}
+use Rattle.spice_rows.specs.Sizes.{Limits, Sizes, sizes_of}
 use Rattle.spice_rows.specs.Rows as rows
 use Rattle.spice_rows.specs.Rows.{CardRow, Opens, Ends, Globals, Stops, Passed, Device, Call}
 use Rattle.spice_rows.specs.declared.fault.SpiceFault.{SpiceFault}
@@ -39,21 +39,32 @@ module _ (P : List ℕ → List (List ℕ) → Type 0) (opens : (words : List (L
     | inr f ↦ rw f (record {})
   ]
 
-  device_of_opened : (line copies : ℕ) (names : List (List ℕ)) (sizes : Result Sizes ValueFault) → IfOk (rows.device_of line copies names sizes) Opened
-  device_of_opened line copies names (Err e) = record {}
-  device_of_opened line copies [] (Ok s) = record {}
-  device_of_opened line copies (a ∷ []) (Ok s) = record {}
-  device_of_opened line copies (a ∷ b ∷ []) (Ok s) = record {}
-  device_of_opened line copies (a ∷ b ∷ c ∷ []) (Ok s) = record {}
-  device_of_opened line copies (a ∷ b ∷ c ∷ d ∷ []) (Ok s) = record {}
-  device_of_opened line copies (a ∷ b ∷ c ∷ d ∷ e ∷ []) (Ok s) = record {}
-  device_of_opened line copies (a ∷ b ∷ c ∷ d ∷ e ∷ f ∷ g) (Ok s) = record {}
+  device_of_opened : (line copies : ℕ) (kind : Kind) (names : List (List ℕ)) (sizes : Result Sizes ValueFault) → IfOk (rows.device_of line copies kind names sizes) Opened
+  device_of_opened line copies kind names (Err e) = record {}
+  device_of_opened line copies Transistor [] (Ok s) = record {}
+  device_of_opened line copies Transistor (a ∷ []) (Ok s) = record {}
+  device_of_opened line copies Transistor (a ∷ b ∷ []) (Ok s) = record {}
+  device_of_opened line copies Transistor (a ∷ b ∷ c ∷ []) (Ok s) = record {}
+  device_of_opened line copies Transistor (a ∷ b ∷ c ∷ d ∷ []) (Ok s) = record {}
+  device_of_opened line copies Transistor (a ∷ b ∷ c ∷ d ∷ e ∷ []) (Ok s) = record {}
+  device_of_opened line copies Transistor (a ∷ b ∷ c ∷ d ∷ e ∷ f ∷ g) (Ok s) = record {}
+  device_of_opened line copies Resistor [] (Ok s) = record {}
+  device_of_opened line copies Resistor (a ∷ []) (Ok s) = record {}
+  device_of_opened line copies Resistor (a ∷ b ∷ []) (Ok s) = record {}
+  device_of_opened line copies Resistor (a ∷ b ∷ c ∷ []) (Ok s) = record {}
+  device_of_opened line copies Resistor (a ∷ b ∷ c ∷ d ∷ []) (Ok s) = record {}
+  device_of_opened line copies Resistor (a ∷ b ∷ c ∷ d ∷ e ∷ f) (Ok s) = record {}
+  device_of_opened line copies Diode [] (Ok s) = record {}
+  device_of_opened line copies Diode (a ∷ []) (Ok s) = record {}
+  device_of_opened line copies Diode (a ∷ b ∷ []) (Ok s) = record {}
+  device_of_opened line copies Diode (a ∷ b ∷ c ∷ []) (Ok s) = record {}
+  device_of_opened line copies Diode (a ∷ b ∷ c ∷ d ∷ e) (Ok s) = record {}
 
-  device_opened : (limit : Option ℕ) (line : ℕ) (names : Option (List (List ℕ))) (ps : List Param) → IfOk (rows.device_row limit line names ps) Opened
-  device_opened limit line None ps = record {}
-  device_opened limit line (Some names) ps = elim (either (not (length names == 5) || not (is_once (codes "L") ps) || not (is_once (codes "W") ps))) [
-    | inl t ↦ rw t (record {})
-    | inr f ↦ rw f (elim (either (list_any is_refused ps)) [ inl t ↦ rw t (record {}) | inr g ↦ rw g (device_of_opened line (copies_of ps) names (sizes_of limit ps)) ])
+  device_opened : (limit : Option Limits) (kind : Kind) (line : ℕ) (names : Option (List (List ℕ))) (ps : List Param) → IfOk (rows.device_row limit kind line names ps) Opened
+  device_opened limit kind line None ps = record {}
+  device_opened limit kind line (Some names) ps = elim (either (rows.is_formed kind names ps)) [
+    | inl t ↦ rw t (elim (either (list_any (is_refused kind) ps)) [ inl t ↦ rw t (record {}) | inr g ↦ rw g (device_of_opened line (copies_of ps) kind names (sizes_of limit kind ps)) ])
+    | inr f ↦ rw f (record {})
   ]
 
   call_opened : (line : ℕ) (names : Option (List (List ℕ))) (ps : List Param) → IfOk (rows.call_row line names ps) Opened
@@ -81,29 +92,35 @@ module _ (P : List ℕ → List (List ℕ) → Type 0) (opens : (words : List (L
   stop_opened line [] (p ∷ ps) = record {}
   stop_opened line (w ∷ ws) ps = record {}
 
-  row_opened : (limit : Option ℕ) (line : ℕ) (open_too : Bool) (first : List ℕ) (words : List (List ℕ)) (ps : List Param) → IfOk (rows.row_of limit line open_too first words ps) Opened
+  row_opened : (limit : Option Limits) (line : ℕ) (open_too : Bool) (first : List ℕ) (words : List (List ℕ)) (ps : List Param) → IfOk (rows.row_of limit line open_too first words ps) Opened
   row_opened limit line open_too first words ps = elim (either (rows.begin first == 0x4D)) [
-    | inl t ↦ rw t (device_opened limit line (names_of words) ps)
-    | inr f ↦ rw f (elim (either (rows.begin first == 0x58)) [
-      | inl t ↦ rw t (call_opened line (names_of words) ps)
-      | inr f ↦ rw f (elim (either (is_text (codes ".SUBCKT") first)) [
-        | inl t ↦ rw t (open_opened line open_too (names_of words) ps (opens words))
-        | inr f ↦ rw f (elim (either (is_text (codes ".ENDS") first)) [
-          | inl t ↦ rw t (end_opened line open_too (names_of words) ps)
-          | inr f ↦ rw f (elim (either (is_text (codes ".GLOBAL") first)) [
-            | inl t ↦ rw t (global_opened line (names_of words) ps)
-            | inr f ↦ rw f (stop_opened line words ps)
+    | inl t ↦ rw t (device_opened limit Transistor line (names_of words) ps)
+    | inr f ↦ rw f (elim (either (rows.begin first == 0x52)) [
+      | inl t ↦ rw t (device_opened limit Resistor line (names_of words) ps)
+      | inr f ↦ rw f (elim (either (rows.begin first == 0x44)) [
+        | inl t ↦ rw t (device_opened limit Diode line (names_of words) ps)
+        | inr f ↦ rw f (elim (either (rows.begin first == 0x58)) [
+          | inl t ↦ rw t (call_opened line (names_of words) ps)
+          | inr f ↦ rw f (elim (either (is_text (codes ".SUBCKT") first)) [
+            | inl t ↦ rw t (open_opened line open_too (names_of words) ps (opens words))
+            | inr f ↦ rw f (elim (either (is_text (codes ".ENDS") first)) [
+              | inl t ↦ rw t (end_opened line open_too (names_of words) ps)
+              | inr f ↦ rw f (elim (either (is_text (codes ".GLOBAL") first)) [
+                | inl t ↦ rw t (global_opened line (names_of words) ps)
+                | inr f ↦ rw f (stop_opened line words ps)
+              ])
+            ])
           ])
         ])
       ])
     ])
   ]
 
-  formed_opened : (limit : Option ℕ) (line : ℕ) (open_too : Bool) (first : List ℕ) (words : List (List ℕ)) (ps : Option (List Param)) → IfOk (rows.formed_row limit line open_too first words ps) Opened
+  formed_opened : (limit : Option Limits) (line : ℕ) (open_too : Bool) (first : List ℕ) (words : List (List ℕ)) (ps : Option (List Param)) → IfOk (rows.formed_row limit line open_too first words ps) Opened
   formed_opened limit line open_too first words None = record {}
   formed_opened limit line open_too first words (Some ps) = row_opened limit line open_too first words ps
 
-  card_opened : (limit : Option ℕ) (line : ℕ) (open_too : Bool) (ts : List Token) → IfOk (rows.card_row limit line open_too ts) Opened
+  card_opened : (limit : Option Limits) (line : ℕ) (open_too : Bool) (ts : List Token) → IfOk (rows.card_row limit line open_too ts) Opened
   card_opened limit line open_too [] = record {}
   card_opened limit line open_too (Equals ∷ ts) = record {}
   card_opened limit line open_too (Word first ∷ ts) = elim (either (rows.is_passed first)) [
@@ -164,7 +181,7 @@ module _ (P : List ℕ → List (List ℕ) → Type 0) (opens : (words : List (L
   on_opened cards line (Ok (Device d copies)) rest o h k = k (with_row cards line (Device d copies)) (with_row_opened cards line (Device d copies) o h)
   on_opened cards line (Ok (Call r)) rest o h k = k (with_row cards line (Call r)) (with_row_opened cards line (Call r) o h)
 
-  reading_opened : (limit : Option ℕ) (cs : List Card) (cards : Cards) → AllOpened cards → IfOk (reading limit cards cs) AllOpened
+  reading_opened : (limit : Option Limits) (cs : List Card) (cards : Cards) → AllOpened cards → IfOk (reading limit cards cs) AllOpened
   reading_opened limit [] cards h = h
   reading_opened limit (c ∷ cs) cards h = on_opened cards c.line (rows.card_row limit c.line (is_some cards.open_one) c.tokens) (λ next. reading limit next cs) (card_opened limit c.line (is_some cards.open_one) c.tokens) h (λ next a. reading_opened limit cs next a)
 
@@ -172,7 +189,7 @@ module _ (P : List ℕ → List (List ℕ) → Type 0) (opens : (words : List (L
   early_opened None r cards h e = subst (λ (x : Result Cards SpiceFault). IfOk x AllOpened) e h
   early_opened (Some line) r cards h e = let z : ⊥ = cc in absurd z
 
-  pub each_opened : (limit : Option ℕ) (bytes : List ℕ) (cards : Cards) → reading_of limit bytes ≡ Ok cards → (c : Circuit) → IsListed c (all_of cards) → P c.name c.pins
+  pub each_opened : (limit : Option Limits) (bytes : List ℕ) (cards : Cards) → reading_of limit bytes ≡ Ok cards → (c : Circuit) → IsListed c (all_of cards) → P c.name c.pins
   each_opened limit bytes cards e =
       let none : AllOpened no_cards = record { all_closed = λ c l. absurd l; one = record {}; top_one = record {} } in
       let a = early_opened (early_more bytes) (reading limit no_cards (cards_of bytes)) cards (reading_opened limit (cards_of bytes) no_cards none) e in

@@ -1,7 +1,6 @@
 -- Pin i of a circuit's row is net i.
 use Rattle.std.proofs.Common.{◌≡◌, inl, inr, ℕ, zero, suc, ◌+◌, ◌<◌, Bool, true, false, ◌||◌, not, List, [], ◌∷◌, ◌++◌, map, length, Option, Some, Ok, refl, sym, subst, ap, ◌∙◌, arith, append_assoc, true≢false}
 use Rattle.std.specs.Prelude.{slice_get, flat_map}
-use Rattle.std.specs.List.{list_any}
 use Rattle.std.specs.Str.{bytes_eq}
 use Rattle.std.proofs.lemmas.List.{append-nil}
 use Rattle.std.proofs.lemmas.List.Folds.{list_any-append}
@@ -14,6 +13,7 @@ use Rattle.plain_netlist.specs.Chains.{IsChain}
 use Rattle.plain_netlist.proofs.Members.{from_map}
 use Rattle.net_model.specs.Tests.{has_twins}
 use Rattle.spice_rows.specs.Names.{are_apart}
+use Rattle.spice_rows.specs.Sizes.{Limits}
 use Rattle.spice_text.specs.Gather.{Circuit, Cards, reading_of}
 use Rattle.spice_text.specs.Circuits as circuits
 use Rattle.spice_text.specs.Circuits.{all_of}
@@ -28,7 +28,7 @@ use Rattle.plain_netlist.proofs.Members.{either_side}
 
 -- ---- no circuit of the cards lists a pin twice
 
-pub pins_apart : (limit : Option ℕ) (bytes : List ℕ) (cards : Cards) → reading_of limit bytes ≡ Ok cards → (c : Circuit) → IsListed c (all_of cards) → are_apart c.pins ≡ true
+pub pins_apart : (limit : Option Limits) (bytes : List ℕ) (cards : Cards) → reading_of limit bytes ≡ Ok cards → (c : Circuit) → IsListed c (all_of cards) → are_apart c.pins ≡ true
 pins_apart limit bytes cards e = each_opened (λ name pins. are_apart pins ≡ true) (λ words name pins named apart. apart) refl limit bytes cards e
 
 -- ---- pins and needed names are apart
@@ -120,7 +120,7 @@ row_pins names needed k c a i n h =
     pins_at (c.pins ++ needed k) others i n a
     (subst (λ (s : List (List ℕ)). slice_get (map (place_of (first_seen [] s)) (c.pins ++ needed k)) i ≡ Some n) (sym (append_assoc c.pins (needed k) others)) h)
 
-pub normal_is : (limit : Option ℕ) (bytes : List ℕ) (cards : Cards) (needed : ℕ → List (List ℕ)) (n : plain.Netlist) → reading_of limit bytes ≡ Ok cards
+pub normal_is : (limit : Option Limits) (bytes : List ℕ) (cards : Cards) (needed : ℕ → List (List ℕ)) (n : plain.Netlist) → reading_of limit bytes ≡ Ok cards
     → ((k : ℕ) → k < length (all_of cards) → Picks (λ g. Needs (all_of cards) g k) (first_seen [] cards.globals) (needed k))
     → n.circuits ≡ rows_from (circuits.names_of (all_of cards)) needed 0 (all_of cards) → normal.IsNormalNetlist n
 normal_is limit bytes cards needed n r p e = λ k x is.

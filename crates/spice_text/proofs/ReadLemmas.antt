@@ -9,6 +9,7 @@ use Rattle.rule_lines.proofs.LineLemmas.{Lacks, ended}
 use Rattle.spice_cards.specs.Tokens.{Token, Word, tokens_of, is_blank}
 use Rattle.spice_cards.specs.Cards.{Card, Cut, is_passed, is_more, cut}
 use Rattle.spice_rows.specs.Rows.{CardRow, Opens, Ends, Globals, Stops, Passed, Device, Call, card_row}
+use Rattle.spice_rows.specs.Sizes.{Limits}
 use Rattle.spice_rows.specs.declared.fault.SpiceFault.{SpiceFault}
 use Rattle.spice_text.specs.Gather.{Cards, with_row, read_on, reading}
 use Rattle.spice_text.proofs.WordLemmas as words
@@ -64,15 +65,15 @@ first_word b bs rest ts star plus blank h l = record {
 
 -- a text that begins on line `from` and ends before line `to` takes some cards on to others,
 -- whatever stands behind it
-abbrev pub Reads : Option ℕ → ℕ → ℕ → Cards → Cards → List ℕ → Type 0
+abbrev pub Reads : Option Limits → ℕ → ℕ → Cards → Cards → List ℕ → Type 0
 Reads limit from to cards next text = (rest : List ℕ) → (cut to (lines_of rest)).more ≡ []
     → ((cut from (lines_of (text ++ rest))).more ≡ [])
     × (reading limit cards (cut from (lines_of (text ++ rest))).cards ≡ reading limit next (cut to (lines_of rest)).cards)
 
-pub no_text : (limit : Option ℕ) (n : ℕ) (cards : Cards) → Reads limit n n cards cards []
+pub no_text : (limit : Option Limits) (n : ℕ) (cards : Cards) → Reads limit n n cards cards []
 no_text limit n cards rest h = (h, refl)
 
-pub one_more : (limit : Option ℕ) (a b c : ℕ) (first second third : Cards) (t u : List ℕ) → Reads limit a b first second t → Reads limit b c second third u
+pub one_more : (limit : Option Limits) (a b c : ℕ) (first second third : Cards) (t u : List ℕ) → Reads limit a b first second t → Reads limit b c second third u
     → Reads limit a c first third (t ++ u)
 one_more limit a b c first second third t u f g rest h =
     let y = g rest h in
@@ -106,7 +107,7 @@ cut_is n text rest ts l h =
     ∙ ap (λ (t : Bool). if t then more else made (tokens_of l.line ++ behind.more)) l.starts
     ∙ ap made (ap (λ (us : List Token). tokens_of l.line ++ us) h ∙ append-nil (tokens_of l.line) ∙ l.tokens)
 
-pub one_line : (limit : Option ℕ) (n : ℕ) (cards : Cards) (row : CardRow) (text : List ℕ) (ts : List Token) → IsLine text ts
+pub one_line : (limit : Option Limits) (n : ℕ) (cards : Cards) (row : CardRow) (text : List ℕ) (ts : List Token) → IsLine text ts
     → card_row limit n (is_some cards.open_one) ts ≡ Ok row → Goes row → Reads limit n (n + 1) cards (with_row cards n row) text
 one_line limit n cards row text ts l said g rest h =
     let e = cut_is n text rest ts l h in

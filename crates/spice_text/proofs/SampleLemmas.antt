@@ -1,5 +1,5 @@
 -- The sample has what the laws ask, and its text is what is written of it.
-use Rattle.std.proofs.Common.{◌≡◌, ◌≢◌, ℕ, zero, suc, ◌*◌, ◌^◌, ◌<◌, ◌≤◌, true, false, List, [], ◌∷◌, ◌++◌, length, Some, refl, sym, subst, ◌∙◌, arith, true≢false}
+use Rattle.std.proofs.Common.{◌≡◌, ◌≢◌, ℕ, zero, suc, ◌*◌, ◌^◌, ◌<◌, true, false, List, [], ◌∷◌, ◌++◌, length, Some, refl, sym, subst, ◌∙◌, arith, true≢false}
 use Rattle.std.specs.Prelude.{slice_get, slice_index, nat_lt, bytes_eq, codes}
 use Rattle.std.specs.Fmt.{digits}
 use Rattle.std.specs.List.{list_all}
@@ -15,9 +15,11 @@ use Rattle.plain_netlist.specs.Sound.{IsGood, IsSoundNetlist, AreCallsFitting, N
 use Rattle.plain_netlist.proofs.Heights.{no_fault_in_good}
 use Rattle.plain_netlist.proofs.Listing.{apart_at}
 use Rattle.plain_netlist.proofs.Numbered.{normal_nets, numbered}
-use Rattle.spice_text.specs.Laws.{IsName, IsWritable, IsWithin}
-use Rattle.spice_text.specs.Sample.{transistor, cell, call, caller, sample, sample_text, SampleLaw}
+use Rattle.spice_rows.specs.Params.{Transistor}
+use Rattle.spice_text.specs.Laws.{IsName, IsWritable, IsWithin, IsWithinFor}
+use Rattle.spice_text.specs.Sample.{limits, transistor, cell, call, caller, sample, sample_text, SampleLaw}
 use Rattle.spice_text.specs.Written.{circuit_text, device_text, IsWritten}
+use Rattle.spice_text.specs.Cards.{FitsCard, kind_of}
 use Rattle.spice_text.proofs.AgainLemmas.{written_means}
 use Rattle.spice_text.proofs.PinLemmas.{apart_of}
 use Rattle.spice_text.proofs.RowLemmas.{AreNames}
@@ -111,12 +113,13 @@ writable = record {
       (name_of_place cell.nets (name_is (codes "D") (omega arith) refl refl, (name_is (codes "G$2") (omega arith) refl refl, (name_is (codes "S") (omega arith) refl refl, (name_is (codes "B") (omega arith) refl refl, tt)))))
       (name_of_place caller.nets (name_is (codes "N") (omega arith) refl refl, tt)) t c is n name;
   classes = device_at (λ d. IsName d.class) (name_is (codes "NMOS") (omega arith) refl refl);
+  cards = λ t c is i d at. device_at (λ d. FitsCard (kind_of d.class) d) tt t i d (c, is, at);
   lengths = device_at (λ d. d.length < 2 ^ 128) (omega arith);
   widths = device_at (λ d. d.width < 2 ^ 128) (omega arith);
 }
 
-within : IsWithin (10 ^ 18) sample
-within = device_at (λ d. (d.length ≤ 10 ^ 18) × (d.width ≤ 10 ^ 18)) (omega arith, omega arith)
+within : IsWithin limits sample
+within = device_at (λ d. IsWithinFor (kind_of d.class) limits d) (omega arith, omega arith)
 
 -- ---- the text
 
@@ -133,7 +136,7 @@ unfolding digits
 two_microns = record { fraction = []; spelled = refl; rest = record { digits = refl; worth = refl; last = no_last } }
 
 abbrev line : List ℕ
-line = device_text cell.nets 1 transistor (codes "1") (codes "2")
+line = device_text Transistor cell.nets 1 transistor (codes "1U") (codes "2U")
 
 abbrev first : List ℕ
 first = circuit_text sample.circuits cell (line ++ [])
@@ -147,7 +150,7 @@ written = (
   first ++ (second ++ []),
   (
     first,
-    (line ++ [], (line, (codes "1", one_micron, codes "2", two_microns, refl), [], refl, refl), refl),
+    (line ++ [], (line, (codes "1U", codes "2U", ((codes "1", one_micron, refl), (codes "2", two_microns, refl)), refl), [], refl, refl), refl),
     second ++ [],
     (second, ([], refl, refl), [], refl, refl),
     refl,

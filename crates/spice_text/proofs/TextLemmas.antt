@@ -10,7 +10,9 @@ use Rattle.spice_cards.specs.Tokens.{Token, Word}
 use Rattle.spice_cards.specs.Cards.{cut, is_more, early_more_in}
 use Rattle.spice_rows.specs.Names.{are_apart}
 use Rattle.spice_rows.specs.Rows.{Opens, Ends as EndsRow, Device, Call, DeviceCard, CallCard}
+use Rattle.spice_rows.specs.Sizes.{Limits}
 use Rattle.spice_text.specs.Gather.{Circuit, Cards, no_cards, begun, reading, reading_of, early_or}
+use Rattle.spice_text.specs.Cards.{kind_of}
 use Rattle.spice_text.specs.Laws.{IsName}
 use Rattle.spice_text.specs.Written.{nets_text, name_in, IsDeviceText, call_text, calls_text, AreTexts, AreOneByOne, IsCircuitText, IsWritten}
 use Rattle.spice_text.proofs.ReadLemmas.{line_of, IsLine, Reads, no_text, one_more, one_line}
@@ -46,11 +48,11 @@ circuit_cards cs n [] = []
 circuit_cards cs n (c ∷ more) = circuit_card cs n c ∷ circuit_cards cs (behind n c) more
 
 -- what is asked of a circuit's names, and of its transistors
-pub record IsReadable (limit : Option ℕ) (cs : List plain.Circuit) (c : plain.Circuit) : Type 0 where
+pub record IsReadable (limit : Option Limits) (cs : List plain.Circuit) (c : plain.Circuit) : Type 0 where
   pub name : IsName c.name
   pub pins : AreNames (map (name_at c.nets) c.pins)
   pub apart : are_apart (map (name_at c.nets) c.pins) ≡ true
-  pub devices : (d : plain.DeviceRow) → IsListed d c.devices → IsCardable limit c.nets d
+  pub devices : (d : plain.DeviceRow) → IsListed d c.devices → IsCardable (kind_of d.class) limit c.nets d
   pub calls : (r : plain.CallRow) → IsListed r c.calls → AreNames (map (name_at c.nets) r.nets) × IsName (name_in (slice_get cs r.circuit))
 
 -- ---- between cards
@@ -66,25 +68,26 @@ inside cs c = record { circuits = cs; open_one = Some c; outside = None; globals
 abbrev holding : Circuit → List DeviceCard → List CallCard → Circuit
 holding c ds rs = record { line = c.line; name = c.name; pins = c.pins; devices = ds; calls = rs }
 
-devices_read : (limit : Option ℕ) (nets : List (List ℕ)) (ds : List plain.DeviceRow) (k n m : ℕ) (cs : List Circuit) (c : Circuit) (front all : List DeviceCard) (text : List ℕ)
-    → ((d : plain.DeviceRow) → IsListed d ds → IsCardable limit nets d) → AreTexts (IsDeviceText nets) k ds text → m ≡ n + length ds → all ≡ front ++ map (device_card nets) ds
+devices_read : (limit : Option Limits) (nets : List (List ℕ)) (ds : List plain.DeviceRow) (k n m : ℕ) (cs : List Circuit) (c : Circuit) (front all : List DeviceCard) (text : List ℕ)
+    → ((d : plain.DeviceRow) → IsListed d ds → IsCardable (kind_of d.class) limit nets d) → AreTexts (IsDeviceText nets) k ds text → m ≡ n + length ds → all ≡ front ++ map (device_card nets) ds
     → Reads limit n m (inside cs (holding c front c.calls)) (inside cs (holding c all c.calls)) text
 devices_read limit nets [] k n m cs c front all text good h em ea =
     subst (λ (t : List ℕ). Reads limit n m (inside cs (holding c front c.calls)) (inside cs (holding c all c.calls)) t) (sym h)
     (subst (λ (j : ℕ). Reads limit n j (inside cs (holding c front c.calls)) (inside cs (holding c all c.calls)) []) (let q : n ≡ m = omega arith in q)
     (subst (λ (xs : List DeviceCard). Reads limit n n (inside cs (holding c front c.calls)) (inside cs (holding c xs c.calls)) []) (sym (ea ∙ append-nil front))
     (no_text limit n (inside cs (holding c front c.calls)))))
-devices_read limit nets (d ∷ ds) k n m cs c front all text good (a, (l, ml, w, mw, ea_text), b, behind_it, e) em ea =
+devices_read limit nets (d ∷ ds) k n m cs c front all text good (a, (x, y, sizes, ea_text), b, behind_it, e) em ea =
     let ok = good d (inl refl) in
-    let line : IsLine a (device_tokens nets k d l w) = subst (λ (t : List ℕ). IsLine t (device_tokens nets k d l w)) (sym ea_text) (device_line limit nets k d l w ok ml mw) in
+    let kind = kind_of d.class in
+    let line : IsLine a (device_tokens kind nets k d x y) = subst (λ (t : List ℕ). IsLine t (device_tokens kind nets k d x y)) (sym ea_text) (device_line limit kind nets k d x y ok sizes) in
     let next = front ++ device_card nets d ∷ [] in
-    let one = one_line limit n (inside cs (holding c front c.calls)) (Device (device_card nets d) 1) a (device_tokens nets k d l w) line (device_said limit n true nets k d l w ok ml mw) tt in
+    let one = one_line limit n (inside cs (holding c front c.calls)) (Device (device_card nets d) 1) a (device_tokens kind nets k d x y) line (device_said limit n true nets k kind d x y ok sizes) tt in
     let more = devices_read limit nets ds (k + 1) (n + 1) m cs c next all b (λ x i. good x (inr i)) behind_it (omega arith)
     (ea ∙ sym (append_assoc front (device_card nets d ∷ []) (map (device_card nets) ds))) in
     subst (λ (t : List ℕ). Reads limit n m (inside cs (holding c front c.calls)) (inside cs (holding c all c.calls)) t) (sym e)
     (one_more limit n (n + 1) m (inside cs (holding c front c.calls)) (inside cs (holding c next c.calls)) (inside cs (holding c all c.calls)) a b one more)
 
-calls_read : (limit : Option ℕ) (pcs : List plain.Circuit) (nets : List (List ℕ)) (rs : List plain.CallRow) (k n m : ℕ) (cs : List Circuit) (c : Circuit) (front all : List CallCard)
+calls_read : (limit : Option Limits) (pcs : List plain.Circuit) (nets : List (List ℕ)) (rs : List plain.CallRow) (k n m : ℕ) (cs : List Circuit) (c : Circuit) (front all : List CallCard)
     → ((r : plain.CallRow) → IsListed r rs → AreNames (map (name_at nets) r.nets) × IsName (name_in (slice_get pcs r.circuit))) → m ≡ n + length rs → all ≡ front ++ call_cards pcs nets n rs
     → Reads limit n m (inside cs (holding c c.devices front)) (inside cs (holding c c.devices all)) (calls_text pcs nets k rs)
 calls_read limit pcs nets [] k n m cs c front all good em ea =
@@ -107,7 +110,7 @@ parted a b c d rest = sym (
     append_assoc a (b ++ (c ++ d)) rest
     ∙ ap (λ (t : List ℕ). a ++ t) (append_assoc b (c ++ d) rest ∙ ap (λ (t : List ℕ). b ++ t) (append_assoc c d rest)))
 
-circuit_read : (limit : Option ℕ) (pcs : List plain.Circuit) (c : plain.Circuit) (n : ℕ) (cs : List Circuit) (text : List ℕ) → IsReadable limit pcs c → IsCircuitText pcs c text
+circuit_read : (limit : Option Limits) (pcs : List plain.Circuit) (c : plain.Circuit) (n : ℕ) (cs : List Circuit) (text : List ℕ) → IsReadable limit pcs c → IsCircuitText pcs c text
     → Reads limit n (behind n c) (at_rest cs) (at_rest (cs ++ circuit_card pcs n c ∷ [])) text
 circuit_read limit pcs c n cs text ok (devices, written, e) =
     let pins = map (name_at c.nets) c.pins in
@@ -131,7 +134,7 @@ circuit_read limit pcs c n cs text ok (devices, written, e) =
     (sym (e ∙ parted (codes ".SUBCKT ") (escaped c.name) (nets_text c.nets c.pins) (codes "\n") (devices ++ (calls ++ closing)))) whole
 
 -- circuits one after another, up to some line
-circuits_read : (limit : Option ℕ) (pcs xs : List plain.Circuit) (n : ℕ) (cs all : List Circuit) (text : List ℕ) → ((c : plain.Circuit) → IsListed c xs → IsReadable limit pcs c)
+circuits_read : (limit : Option Limits) (pcs xs : List plain.Circuit) (n : ℕ) (cs all : List Circuit) (text : List ℕ) → ((c : plain.Circuit) → IsListed c xs → IsReadable limit pcs c)
     → AreOneByOne (IsCircuitText pcs) xs text → all ≡ cs ++ circuit_cards pcs n xs → (m : ℕ) × Reads limit n m (at_rest cs) (at_rest all) text
 circuits_read limit pcs [] n cs all text good h ea = (
   n,
@@ -149,7 +152,7 @@ circuits_read limit pcs (c ∷ xs) n cs all text good (a, one, b, more, e) ea =
 
 -- ---- the whole text
 
-stops_read : (limit : Option ℕ) (n : ℕ) (cards : Cards) → ((cut n (lines_of (codes ".END\n"))).more ≡ []) × (reading limit cards (cut n (lines_of (codes ".END\n"))).cards ≡ Ok cards)
+stops_read : (limit : Option Limits) (n : ℕ) (cards : Cards) → ((cut n (lines_of (codes ".END\n"))).more ≡ []) × (reading limit cards (cut n (lines_of (codes ".END\n"))).cards ≡ Ok cards)
 stops_read limit n cards = (refl, refl)
 
 early_line : (n : ℕ) (text rest : List ℕ) (ts : List Token) → IsLine text ts → early_more_in n (lines_of (text ++ rest)) ≡ None
@@ -160,7 +163,7 @@ early_line n text rest ts l =
     ∙ ap (λ (t : Bool). if t then early_more_in (n + 1) (lines_of rest) else if is_more l.line then here else None) l.kept
     ∙ ap (λ (t : Bool). if t then here else None) l.starts
 
-early_circuits : (limit : Option ℕ) (pcs xs : List plain.Circuit) (text : List ℕ) → ((c : plain.Circuit) → IsListed c xs → IsReadable limit pcs c) → AreOneByOne (IsCircuitText pcs) xs text
+early_circuits : (limit : Option Limits) (pcs xs : List plain.Circuit) (text : List ℕ) → ((c : plain.Circuit) → IsListed c xs → IsReadable limit pcs c) → AreOneByOne (IsCircuitText pcs) xs text
     → early_more_in 2 (lines_of (text ++ codes ".END\n")) ≡ None
 early_circuits limit pcs [] text good h = ap (λ (t : List ℕ). early_more_in 2 (lines_of (t ++ codes ".END\n"))) h
 early_circuits limit pcs (c ∷ xs) text good (a, (devices, written, e), b, more, whole) =
@@ -172,7 +175,7 @@ early_circuits limit pcs (c ∷ xs) text good (a, (devices, written, e), b, more
     ∙ ap (λ (t : List ℕ). early_more_in 2 (lines_of t)) (append_assoc (opening ++ behind_it) b (codes ".END\n") ∙ append_assoc opening behind_it (b ++ codes ".END\n"))
     ∙ early_line 2 opening (behind_it ++ (b ++ codes ".END\n")) (Word (codes ".SUBCKT") ∷ map token_of (c.name ∷ map (name_at c.nets) c.pins)) (open_line c.nets c.name c.pins ok.pins ok.name)
 
-pub text_read : (limit : Option ℕ) (nl : plain.Netlist) (text : List ℕ) → ((c : plain.Circuit) → IsListed c nl.circuits → IsReadable limit nl.circuits c) → IsWritten nl text
+pub text_read : (limit : Option Limits) (nl : plain.Netlist) (text : List ℕ) → ((c : plain.Circuit) → IsListed c nl.circuits → IsReadable limit nl.circuits c) → IsWritten nl text
     → reading_of limit text ≡ Ok (at_rest (circuit_cards nl.circuits 2 nl.circuits))
 text_read limit nl text good (circuits, written, e) =
     let all = circuit_cards nl.circuits 2 nl.circuits in

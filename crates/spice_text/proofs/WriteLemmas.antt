@@ -1,8 +1,11 @@
 -- One text more.
-use Rattle.std.proofs.Common.{◌≡◌, ℕ, ◌+◌, List, [], ◌∷◌, ◌++◌, map, drop, length, ◌<◌, refl, sym, subst, ap, ◌∙◌, append_assoc}
+use Rattle.std.proofs.Common.{◌≡◌, ℕ, zero, suc, ◌+◌, List, [], ◌∷◌, ◌++◌, map, drop, length, ◌<◌, Option, Some, slice_get, refl, sym, subst, ap, ◌∙◌, append_assoc, arith}
 use Rattle.std.proofs.lemmas.List.{append-nil, drop_more}
 use Rattle.std.specs.Prelude.{get_or}
-use Rattle.spice_text.specs.Written.{AreTexts, AreOneByOne, Adds, HasWritten}
+use Rattle.plain_netlist.specs.Netlist.{DeviceRow}
+use Rattle.spice_rows.specs.Params.{Kind, Transistor, Resistor, Diode}
+use Rattle.spice_text.specs.Cards.{FitsCard, HasShown, kind_of, shown_class}
+use Rattle.spice_text.specs.Written.{AreTexts, AreOneByOne, AreSizes, IsDeviceText, device_nets_text, device_text, sizes_text, Adds, HasWritten}
 
 pub start : (Whole : List ℕ → Type 0) (out : List ℕ) → HasWritten Whole Whole out out
 start Whole out = record { text = []; added = sym (append-nil out); whole = λ b r. r }
@@ -28,3 +31,22 @@ done Rest Whole before after r h = (h.text, h.added, subst Whole (append-nil h.t
 
 pub split : {A B : Type 0} (f : A → B) (xs : List A) (i : ℕ) (x : A) → i < length xs → x ≡ get_or xs i x → map f (drop i xs) ≡ f x ∷ map f (drop (i + 1) xs)
 split {A = A} f xs i x l e = ap (λ (ys : List A). map f ys) (drop_more xs i x l) ∙ ap (λ (y : A). f y ∷ map f (drop (i + 1) xs)) (sym e)
+
+-- the item at a place, as it is seen
+pub at_place : {A B : Type 0} (f : A → B) (xs : List A) (i : ℕ) (x : A) → i < length xs → x ≡ get_or xs i x → slice_get (map f xs) i ≡ Some (f x)
+at_place f [] i x lt e = absurd (omega arith)
+at_place {B = B} f (y ∷ ys) zero x lt e = ap (λ z. let o : Option B = Some (f z) in o) (sym e)
+at_place f (y ∷ ys) (suc i) x lt e = at_place f ys i x (omega arith) e
+
+-- ---- a device
+
+pub has_shown : (kind : Kind) (d : DeviceRow) → FitsCard kind d → HasShown kind d.class
+has_shown Transistor d fits = tt
+has_shown Resistor d fits = fits.1
+has_shown Diode d fits = fits.2
+
+pub device : (kind : Kind) (nets : List (List ℕ)) (k : ℕ) (d : DeviceRow) (x y before mid after : List ℕ) → kind ≡ kind_of d.class → AreSizes kind d x y
+    → mid ≡ before ++ device_nets_text kind nets k d → after ≡ mid ++ sizes_text kind (shown_class kind d.class) x y → Adds (IsDeviceText nets k d) before after
+device kind nets k d x y before mid after is sizes e f =
+    let t = f ∙ ap (λ (m : List ℕ). m ++ sizes_text kind (shown_class kind d.class) x y) e ∙ append_assoc before (device_nets_text kind nets k d) (sizes_text kind (shown_class kind d.class) x y) in
+    (device_text kind nets k d x y, t, (x, y, subst (λ (j : Kind). AreSizes j d x y) is sizes, ap (λ (j : Kind). device_text j nets k d x y) is))

@@ -4,6 +4,7 @@ use Rattle.std.specs.Prelude.{codes}
 use Rattle.spice_cards.specs.Cards.{Card, cards_of, early_more}
 use Rattle.spice_rows.specs.Rows.{DeviceCard, CallCard, CardRow, Opens, Ends, Globals, Stops}
 use Rattle.spice_rows.specs.Rows.{Passed, Device, Call, card_row}
+use Rattle.spice_rows.specs.Sizes.{Limits}
 use Rattle.spice_rows.specs.declared.fault.SpiceFault.{SpiceFault}
 use Rattle.spice_rows.specs.declared.fault.SpiceFault.TheVariants.{BadLine}
 
@@ -77,7 +78,7 @@ read_on cards line (Ok Stops) rest = Ok cards
 read_on cards line (Ok row) rest = rest (with_row cards line row)
 
 -- some cards behind others, up to `.END`, or the first fault of one
-abbrev pub reading : Option ℕ → Cards → List Card → Result Cards SpiceFault
+abbrev pub reading : Option Limits → Cards → List Card → Result Cards SpiceFault
 reading limit cards [] = Ok cards
 reading limit cards (c ∷ cs) =
     read_on cards c.line (card_row limit c.line (is_some cards.open_one) c.tokens)
@@ -89,5 +90,5 @@ early_or None rest = rest
 early_or (Some line) rest = Err (BadLine line)
 
 -- the cards of a text, or the first fault of one; values may be limited
-abbrev pub reading_of : Option ℕ → List ℕ → Result Cards SpiceFault
+abbrev pub reading_of : Option Limits → List ℕ → Result Cards SpiceFault
 reading_of limit bytes = early_or (early_more bytes) (reading limit no_cards (cards_of bytes))

@@ -7,6 +7,7 @@ pub mod Ordered
 pub mod Needs
 pub mod Table
 pub mod Means
+pub mod Cards
 pub mod Written
 pub mod Laws
 pub mod Sample

@@ -5,6 +5,7 @@ use Rattle.text_table.specs.Texts.{place_of}
 use Rattle.call_order.specs.Order.{ReachesItself}
 use Rattle.plain_netlist.specs.Netlist as plain
 use Rattle.spice_rows.specs.Rows.{DeviceCard, CallCard}
+use Rattle.spice_rows.specs.Sizes.{Limits}
 use Rattle.spice_rows.specs.declared.fault.SpiceFault.{SpiceFault}
 use Rattle.spice_rows.specs.declared.fault.SpiceFault.TheVariants.{NoMemory}
 use Rattle.spice_text.specs.Gather.{Circuit, Cards, reading_of}
@@ -73,7 +74,7 @@ pub record IsNetlistOf (cs : List Circuit) (globals : List (List ℕ)) (n : plai
     pub rows : n.circuits ≡ rows_from (names_of cs) needed 0 cs
 
 -- a text means this netlist, where its values may be limited
-pub record Means (limit : Option ℕ) (bytes : List ℕ) (n : plain.Netlist) : Type 0 where
+pub record Means (limit : Option Limits) (bytes : List ℕ) (n : plain.Netlist) : Type 0 where
   pub cards : Cards
   pub read : reading_of limit bytes ≡ Ok cards
   pub ended : cards.open_one ≡ None
@@ -84,12 +85,12 @@ pub record Means (limit : Option ℕ) (bytes : List ℕ) (n : plain.Netlist) : T
   pub netlist : IsNetlistOf (all_of cards) cards.globals n
 
 -- a text's first fault is that of a card, or else that of the cards as a whole
-abbrev pub IsFirstFault : Option ℕ → List ℕ → SpiceFault → Type 0
+abbrev pub IsFirstFault : Option Limits → List ℕ → SpiceFault → Type 0
 IsFirstFault limit bytes fault =
     (reading_of limit bytes ≡ Err fault) ⊎ ((cards : Cards) × (reading_of limit bytes ≡ Ok cards)
     × IsWholeFault cards fault)
 
 -- want of memory says nothing of a text
-abbrev pub SaysFirst : Option ℕ → List ℕ → SpiceFault → Type 0
+abbrev pub SaysFirst : Option Limits → List ℕ → SpiceFault → Type 0
 SaysFirst limit bytes NoMemory = Unit {0}
 SaysFirst limit bytes fault = IsFirstFault limit bytes fault

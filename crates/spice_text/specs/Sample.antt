@@ -3,9 +3,14 @@ use Rattle.std.specs.Prelude.{◌^◌, ◌*◌, ℕ, List, [], ◌∷◌, ◌++�
 use Rattle.plain_netlist.specs.Netlist.{DeviceRow, CallRow, Circuit, Netlist}
 use Rattle.plain_netlist.specs.Normal.{IsNormalNetlist}
 use Rattle.plain_netlist.specs.Sound.{IsSoundNetlist}
+use Rattle.spice_rows.specs.Sizes.{Limits}
 use Rattle.spice_text.specs.Laws.{IsWritable, IsWithin}
 use Rattle.spice_text.specs.Means.{Means}
 use Rattle.spice_text.specs.Written.{IsWritten}
+
+-- those of a text which is read
+abbrev pub limits : Limits
+limits = record { length = 10 ^ 18; area = 10 ^ 30 }
 
 -- one micrometre long, two wide
 abbrev pub transistor : DeviceRow
@@ -54,6 +59,6 @@ pub record SampleLaw : Type 0 where
   pub sound : IsSoundNetlist sample
   pub normal : IsNormalNetlist sample
   pub writable : IsWritable sample
-  pub within : IsWithin (10 ^ 18) sample
+  pub within : IsWithin limits sample
   pub written : IsWritten sample sample_text
   pub means : Means None sample_text sample

@@ -1,9 +1,11 @@
 -- The text of a netlist.
-use Rattle.std.specs.Prelude.{◌≡◌, ℕ, ◌+◌, List, [], ◌∷◌, ◌++◌, Option, Some, None, slice_get}
-use Rattle.std.specs.Prelude.{codes, decimal}
-use Rattle.fixed_num.specs.Microns.{IsMicrons}
+use Rattle.std.specs.Prelude.{◌≡◌, ℕ, ◌+◌, List, [], ◌∷◌, ◌++◌, Option, Some, None}
+use Rattle.std.specs.Prelude.{slice_get, codes, decimal}
+use Rattle.fixed_num.specs.Microns.{IsMicrons, IsSquareMicrons}
 use Rattle.net_names.specs.Escapes.{escaped}
 use Rattle.plain_netlist.specs.Netlist.{DeviceRow, CallRow, Circuit, Netlist}
+use Rattle.spice_rows.specs.Params.{Kind, Diode}
+use Rattle.spice_text.specs.Cards.{kind_of, shown_class, letter, card_nets, first_key, second_key}
 
 abbrev pub or_empty : Option (List ℕ) → List ℕ
 or_empty None = []
@@ -21,25 +23,38 @@ abbrev pub name_in : Option Circuit → List ℕ
 name_in None = []
 name_in (Some c) = c.name
 
--- `Mk drain gate source bulk`
-abbrev pub device_nets_text : List (List ℕ) → ℕ → DeviceRow → List ℕ
-device_nets_text names k d =
-    0x4D ∷ (decimal k ++ (net_text names d.drain ++ (net_text names d.gate
-    ++ (net_text names d.source ++ net_text names d.bulk))))
+-- `Mk`, `Rk` or `Dk` and the nets
+abbrev pub device_nets_text : Kind → List (List ℕ) → ℕ → DeviceRow → List ℕ
+device_nets_text kind names k d = letter kind ∷ (decimal k ++ nets_text names (card_nets kind d))
 
--- ` CLASS L=lU W=wU` for sizes in micrometres
-abbrev pub sizes_text : List ℕ → List ℕ → List ℕ → List ℕ
-sizes_text class l w =
-    0x20 ∷ (escaped class ++ (codes " L=" ++ (l ++ (codes "U W=" ++ (w ++ codes "U\n")))))
+-- a length in micrometres, an area in square micrometres
+abbrev pub IsLengthText : ℕ → List ℕ → Type 0
+IsLengthText v text = (m : List ℕ) × IsMicrons v m × (text ≡ m ++ codes "U")
 
--- the line of a transistor
-abbrev pub device_text : List (List ℕ) → ℕ → DeviceRow → List ℕ → List ℕ → List ℕ
-device_text names k d l w = device_nets_text names k d ++ sizes_text d.class l w
+abbrev pub IsAreaText : ℕ → List ℕ → Type 0
+IsAreaText v text = (m : List ℕ) × IsSquareMicrons v m × (text ≡ m ++ codes "P")
 
+-- the two sizes: of a diode its area and its perimeter
+abbrev pub AreSizes : Kind → DeviceRow → List ℕ → List ℕ → Type 0
+AreSizes Diode d first second = IsAreaText d.width first × IsLengthText d.length second
+AreSizes kind d first second = IsLengthText d.length first × IsLengthText d.width second
+
+-- ` CLASS L=lU W=wU` or ` CLASS A=aP P=pU`
+abbrev pub sizes_text : Kind → List ℕ → List ℕ → List ℕ → List ℕ
+sizes_text kind class first second =
+    0x20 ∷ (escaped class ++ (0x20 ∷ first_key kind ∷ 0x3D ∷ (first
+    ++ (0x20 ∷ second_key kind ∷ 0x3D ∷ (second ++ codes "\n")))))
+
+-- the line of a device
+abbrev pub device_text : Kind → List (List ℕ) → ℕ → DeviceRow → List ℕ → List ℕ → List ℕ
+device_text kind names k d first second =
+    device_nets_text kind names k d ++ sizes_text kind (shown_class kind d.class) first second
+
+-- by the kind that its class shows
 abbrev pub IsDeviceText : List (List ℕ) → ℕ → DeviceRow → List ℕ → Type 0
-IsDeviceText names k d text =
-    (l : List ℕ) × IsMicrons d.length l × (w : List ℕ) × IsMicrons d.width w
-    × (text ≡ device_text names k d l w)
+IsDeviceText names k d text = (first : List ℕ) × (second : List ℕ)
+    × AreSizes (kind_of d.class) d first second
+    × (text ≡ device_text (kind_of d.class) names k d first second)
 
 -- `Xk nets circuit`
 abbrev pub call_text : List Circuit → List (List ℕ) → ℕ → CallRow → List ℕ

@@ -4,6 +4,7 @@
 mod calls;
 mod circuits;
 mod faults;
+mod fits;
 mod gather;
 mod laws;
 mod needs;
@@ -13,6 +14,7 @@ mod ordered;
 mod read;
 mod write;
 
+pub use fits::fits_cards;
 pub use laws::{written_laws, written_sample};
 pub use read::read_spice;
 pub use spice_rows::SpiceFault;

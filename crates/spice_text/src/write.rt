@@ -1,17 +1,23 @@
 //! The SPICE text of a netlist.
 
-ghost use Rattle.std.specs.Prelude.{◌≡◌, ◌++◌, ◌∷◌, OnOk, IfOk, decimal, codes, map, slice_get};
+ghost use Rattle.std.specs.Prelude.{◌≡◌, ◌<◌, ◌++◌, ◌∷◌, OnOk, IfOk, decimal, codes, length, map};
+ghost use Rattle.std.specs.Prelude.{slice_get};
 ghost use Rattle.net_names.specs.Escapes.{escaped};
 ghost use Rattle.net_model.specs.Rows.{plain_device, plain_call, plain_circuit, plain_netlist};
 ghost use Rattle.plain_netlist.specs.Netlist.{DeviceRow as PlainDevice};
-ghost use Rattle.spice_text.specs.Written.{net_text, nets_text, device_text, IsDeviceText};
+ghost use Rattle.spice_rows.specs.Seen.{kind_seen};
+ghost use Rattle.spice_text.specs.Cards.{FitsCard, FitDevices, FitCircuits, FitCards, HasShown};
+ghost use Rattle.spice_text.specs.Cards.{kind_of, shown_class, letter, first_key, second_key};
+ghost use Rattle.spice_text.specs.Written.{net_text, nets_text, IsDeviceText, AreSizes};
 ghost use Rattle.spice_text.specs.Written.{call_text, calls_text, AreTexts, AreOneByOne};
 ghost use Rattle.spice_text.specs.Written.{device_nets_text, sizes_text, circuit_text};
+ghost use Rattle.spice_text.specs.Written.{IsLengthText, IsAreaText};
 ghost use Rattle.spice_text.specs.Written.{IsCircuitText, IsWritten, Adds, name_in};
 
-use fixed_num::micron_text;
+use fixed_num::{Femto, area_text, micron_text};
 use net_model::{CallRow, Circuit, DeviceRow, Netlist};
 use net_names::{Name, escape};
+use spice_rows::Kind;
 use std::alloc::{AllocError, Global};
 
 fn push_name(alloc: Global, out: &mut Vec<u8>, name: &Name) -> Result<(), AllocError>
@@ -56,59 +62,144 @@ fn push_number(alloc: Global, out: &mut Vec<u8>, n: usize) -> Result<(), AllocEr
     Ok(())
 }
 
+/// The kind of device that a class shows.
+pub fn kind_of(class: &Name) -> Kind
+    ensures { kind_seen result ≡ kind_of class.now }
+{
+    let [first, ..] = class.bytes() else {
+        return Kind::Transistor;
+    };
+    if *first == 1 {
+        return Kind::Resistor;
+    }
+    if *first == 2 {
+        return Kind::Diode;
+    }
+    Kind::Transistor
+}
+
+fn letter(kind: Kind) -> u8
+    ensures { result ≡ letter (kind_seen kind) }
+{
+    match kind {
+        Kind::Transistor => b'M',
+        Kind::Resistor => b'R',
+        Kind::Diode => b'D',
+    }
+}
+
 fn push_device_nets(
     alloc: Global,
     out: &mut Vec<u8>,
+    kind: Kind,
     nets: &[Name],
     k: usize,
     d: &DeviceRow,
 ) -> Result<(), AllocError>
-    ensures { OnOk result
-        (out.new.items ≡ out.old.items ++ device_nets_text nets.now k (plain_device d.now)) }
+    ensures { OnOk result (out.new.items ≡ out.old.items
+        ++ device_nets_text (kind_seen kind) nets.now k (plain_device d.now)) }
 {
-    out.push(b'M')?;
+    out.push(letter(kind))?;
     push_number(alloc, out, k)?;
-    push_net(alloc, out, nets, d.drain)?;
-    push_net(alloc, out, nets, d.gate)?;
-    push_net(alloc, out, nets, d.source)?;
-    push_net(alloc, out, nets, d.bulk)
+    match kind {
+        Kind::Transistor => push_nets(alloc, out, nets, &[d.drain, d.gate, d.source, d.bulk]),
+        Kind::Resistor => push_nets(alloc, out, nets, &[d.source, d.drain, d.bulk]),
+        Kind::Diode => push_nets(alloc, out, nets, &[d.source, d.gate]),
+    }
+}
+
+// The class as a card has it.
+fn push_class(alloc: Global, out: &mut Vec<u8>, kind: Kind, class: &Name) -> Result<(), AllocError>
+    requires { HasShown (kind_seen kind) class.now }
+    ensures { OnOk result
+        (out.new.items ≡ out.old.items ++ escaped (shown_class (kind_seen kind) class.now)) }
+{
+    match kind {
+        Kind::Transistor => push_name(alloc, out, class),
+        _ => {
+            let shown = Name::from_vec(class.bytes()[1..].to_vec(alloc)?);
+            push_name(alloc, out, &shown)
+        }
+    }
+}
+
+fn first_key(kind: Kind) -> u8
+    ensures { result ≡ first_key (kind_seen kind) }
+{
+    match kind {
+        Kind::Diode => b'A',
+        _ => b'L',
+    }
+}
+
+fn second_key(kind: Kind) -> u8
+    ensures { result ≡ second_key (kind_seen kind) }
+{
+    match kind {
+        Kind::Diode => b'P',
+        _ => b'W',
+    }
+}
+
+// ` K=value`
+fn push_value(out: &mut Vec<u8>, key: u8, value: &[u8]) -> Result<(), AllocError>
+    ensures { OnOk result
+        (out.new.items ≡ out.old.items ++ 0x20 ∷ key ∷ 0x3D ∷ value.now) }
+{
+    out.push(b' ')?;
+    out.push(key)?;
+    out.push(b'=')?;
+    out.extend_from_slice(value)?;
+    Ok(())
 }
 
 fn push_sizes(
     alloc: Global,
     out: &mut Vec<u8>,
+    kind: Kind,
     class: &Name,
-    length: &[u8],
-    width: &[u8],
+    first: &[u8],
+    second: &[u8],
 ) -> Result<(), AllocError>
-    ensures { OnOk result
-        (out.new.items ≡ out.old.items ++ sizes_text class.now length.now width.now) }
+    requires { HasShown (kind_seen kind) class.now }
+    ensures { OnOk result (out.new.items ≡ out.old.items ++ sizes_text (kind_seen kind)
+        (shown_class (kind_seen kind) class.now) first.now second.now) }
 {
     out.push(b' ')?;
-    push_name(alloc, out, class)?;
-    out.extend_from_slice(b" L=")?;
-    out.extend_from_slice(length)?;
-    out.extend_from_slice(b"U W=")?;
-    out.extend_from_slice(width)?;
-    out.extend_from_slice(b"U\n")?;
+    push_class(alloc, out, kind, class)?;
+    push_value(out, first_key(kind), first)?;
+    push_value(out, second_key(kind), second)?;
+    out.push(b'\n')?;
     Ok(())
 }
 
-// A transistor whose sizes are written so.
-fn push_device(
-    alloc: Global,
-    out: &mut Vec<u8>,
-    nets: &[Name],
-    k: usize,
-    d: &DeviceRow,
-    length: &[u8],
-    width: &[u8],
-) -> Result<(), AllocError>
-    ensures { OnOk result (out.new.items
-        ≡ out.old.items ++ device_text nets.now k (plain_device d.now) length.now width.now) }
+fn length_text(alloc: Global, length: Femto) -> Result<Vec<u8>, AllocError>
+    ensures { IfOk result (λ text. IsLengthText length.0 text.items) }
 {
-    push_device_nets(alloc, out, nets, k, d)?;
-    push_sizes(alloc, out, &d.class, length, width)
+    let mut text = micron_text(alloc, length)?;
+    text.push(b'U')?;
+    Ok(text)
+}
+
+fn area_in_text(alloc: Global, area: u128) -> Result<Vec<u8>, AllocError>
+    ensures { IfOk result (λ text. IsAreaText area text.items) }
+{
+    let mut text = area_text(alloc, area)?;
+    text.push(b'P')?;
+    Ok(text)
+}
+
+// The two sizes as the card has them: of a diode its area and its perimeter.
+fn size_texts(alloc: Global, kind: Kind, d: &DeviceRow) -> Result<(Vec<u8>, Vec<u8>), AllocError>
+    ensures { IfOk result (λ texts. AreSizes (kind_seen kind) (plain_device d.now) texts.0.items
+        texts.1.items) }
+{
+    let length = length_text(alloc, d.length)?;
+    match kind {
+        Kind::Transistor => Ok((length, length_text(alloc, d.width)?)),
+        Kind::Resistor => Ok((length, length_text(alloc, d.width)?)),
+        Kind::Diode => Ok((area_in_text(alloc, d.width.0)?, length)),
+    }
 }
 
 fn write_device(
@@ -118,12 +209,14 @@ fn write_device(
     k: usize,
     d: &DeviceRow,
 ) -> Result<(), AllocError>
+    requires { FitsCard (kind_of d.now.class) (plain_device d.now) }
     ensures { OnOk result
         (Adds (IsDeviceText nets.now k (plain_device d.now)) out.old.items out.new.items) }
 {
-    let length = micron_text(alloc, d.length)?;
-    let width = micron_text(alloc, d.width)?;
-    push_device(alloc, out, nets, k, d, &length, &width)
+    let kind = kind_of(&d.class);
+    let (first, second) = size_texts(alloc, kind, d)?;
+    push_device_nets(alloc, out, kind, nets, k, d)?;
+    push_sizes(alloc, out, kind, &d.class, &first, &second)
 }
 
 fn write_devices(
@@ -132,6 +225,7 @@ fn write_devices(
     nets: &[Name],
     devices: &[DeviceRow],
 ) -> Result<(), AllocError>
+    requires { FitDevices (map plain_device devices.now) }
     ensures { OnOk result
         (Adds (AreTexts (IsDeviceText nets.now) 1 (map plain_device devices.now))
         out.old.items out.new.items) }
@@ -224,6 +318,7 @@ fn write_circuit(
     circuits: &[Circuit],
     c: &Circuit,
 ) -> Result<(), AllocError>
+    requires { FitDevices (map plain_device c.now.devices.items) }
     ensures { OnOk result
         (Adds (IsCircuitText (map plain_circuit circuits.now) (plain_circuit c.now))
         out.old.items out.new.items) }
@@ -235,6 +330,7 @@ fn write_circuit(
 }
 
 fn write_circuits(alloc: Global, out: &mut Vec<u8>, circuits: &[Circuit]) -> Result<(), AllocError>
+    requires { FitCircuits (map plain_circuit circuits.now) }
     ensures { OnOk result
         (Adds (AreOneByOne (IsCircuitText (map plain_circuit circuits.now))
         (map plain_circuit circuits.now)) out.old.items out.new.items) }
@@ -245,9 +341,12 @@ fn write_circuits(alloc: Global, out: &mut Vec<u8>, circuits: &[Circuit]) -> Res
     Ok(())
 }
 
-/// The SPICE text of a netlist: a comment, for each circuit its pins, its transistors and its
-/// calls, and `.END`. Names are escaped, sizes are in micrometres. Linear in the text.
+/// The SPICE text of a netlist: a comment, for each circuit its pins, its devices and its calls,
+/// and `.END`. Names are escaped, sizes are in micrometres, a diode's area in square micrometres.
+/// A class that begins with byte 1 is a resistor's, with byte 2 a diode's; it is written without
+/// that byte. Linear in the text.
 pub fn write_spice(alloc: Global, n: &Netlist) -> Result<Vec<u8>, AllocError>
+    requires { FitCards (plain_netlist n.now) }
     ensures { IfOk result (λ text. IsWritten (plain_netlist n.now) text.items) }
 {
     let mut out = Vec::new(alloc);

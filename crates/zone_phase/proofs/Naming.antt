@@ -1,7 +1,8 @@
 -- Zones of names, one name on.
-use Rattle.std.proofs.Common.{◌≡◌, inl, inr, ◌<◌, ◌≤◌, ◌+◌, ℕ, List, [], ◌∷◌, ◌++◌, Some, sym, ap, ◌∙◌, subst, arith, drop, length, length-append, get_or, slice_get, Option}
+use Rattle.std.proofs.Common.{◌≡◌, inl, inr, ◌<◌, ◌≤◌, ◌+◌, ◌-◌, ℕ, zero, suc, refl, None, List, [], ◌∷◌, ◌++◌, map, take, append_assoc, Some, sym, ap, ◌∙◌, subst, arith, drop, length, length-append, get_or, slice_get, Option}
 use Rattle.std.proofs.lemmas.Bool.{cases_lt}
-use Rattle.std.proofs.lemmas.List.{at_drop_more, get_or_append_left, get_or_push, get_or_past}
+use Rattle.std.proofs.lemmas.List.{at_drop_more, get_or_append_left, get_or_push, get_or_past, map-append, take_all, take_more}
+use Rattle.std.proofs.lemmas.Option.{slice_get_within}
 use Rattle.std.proofs.Math.Decide.{ℕ_discrete}
 use Rattle.geo_base.specs.declared.shapes.Rect.{Rect}
 use Rattle.flat_layout.specs.Layers.{Formula, Input, Empty, inputs}
@@ -9,12 +10,11 @@ use Rattle.cell_graph.specs.Linked.{Linked}
 use Rattle.rule_text.specs.declared.rules.LayerForm.{LayerForm}
 use Rattle.rule_text.specs.declared.rules.LayerForm.TheVariants as form
 use Rattle.rule_text.specs.declared.rules.LayerRule.{LayerRule}
-use Rattle.rule_text.specs.declared.rules.MosRule.{MosRule}
 use Rattle.rule_layers.specs.Formulas.{formula_by, formulas_behind}
 use Rattle.deep_tables.specs.declared.zones.CellZones.{CellZones}
 use Rattle.deep_tables.specs.Frames.{IsFramedZone}
 use Rattle.zone_phase.specs.declared.uses.Use.{Use}
-use Rattle.zone_phase.specs.Names.{AreMosZones, AreNameZones, HaveForm, HaveInputs, mos_inputs}
+use Rattle.zone_phase.specs.Names.{AreDeviceZones, AreNameZones, HaveForm, HaveInputs, names_inputs}
 use Rattle.zone_phase.proofs.Putting.{push_cases, push_old, push_new}
 
 -- for no layers nothing is disturbed
@@ -62,15 +62,51 @@ form_entries d value trees all name uses (form.Labels key) count behind h = tt
 form_entries d value trees all name uses form.Empty count behind h = tt
 form_entries d value trees all name uses (form.Binary op a b) count behind h = tt
 
--- the zones of device rules, one rule on
-pub mos_more : (d : Linked) (cell : ℕ) (trees : List Formula) (rules : List MosRule) (m : MosRule) (sets : List (List Rect)) (set : List Rect) → slice_get rules (length sets) ≡ Some m
-    → AreMosZones d cell trees rules sets → IsFramedZone d (mos_inputs trees m) cell set → AreMosZones d cell trees rules (sets ++ set ∷ [])
-mos_more d cell trees rules m sets set at h is k n s there found = elim (push_cases sets set s k found) [
-  | inl old ↦ h k n s there old
-  | inr new ↦
-      let same : n ≡ m = one_rule (slice_get rules (length sets)) n m (subst (λ i. slice_get rules i ≡ Some n) new.0 there) at in
-      subst (λ (x : MosRule). IsFramedZone d (mos_inputs trees x) cell s) (sym same) (subst (IsFramedZone d (mos_inputs trees m) cell) new.1 is)
-]
+-- ---- the zones of device rules
+
+pub no_zones : (d : Linked) (cell : ℕ) (trees : List Formula) → AreDeviceZones d cell trees [] []
+no_zones d cell trees = record { count = refl; zones = λ k names set there found. absurd (none_some names there) }
   where
-    one_rule : (o : Option MosRule) (a b : MosRule) → o ≡ Some a → o ≡ Some b → a ≡ b
-    one_rule o a b e f = let g : Some a ≡ Some b = sym e ∙ f in cc
+    none_some : {A : Type 0} (u : A) → None ≡ Some u → ⊥
+    none_some u e = cc
+
+-- what some names read is what the first reads, and the others
+pub split_first : (trees : List Formula) (names : List ℕ) → 1 ≤ length names
+    → names_inputs trees names ≡ inputs (get_or trees (get_or names 0 0) Empty) ++ names_inputs trees (take (length names - 1) (drop 1 names))
+split_first trees [] h = absurd (omega (arith, h))
+split_first trees (n ∷ ns) h =
+    let count : length (n ∷ ns) - 1 ≡ length ns = omega arith in
+    ap (λ (ms : List ℕ). inputs (get_or trees n Empty) ++ names_inputs trees ms) (sym (take_all (length ns) ns (omega arith)) ∙ ap (λ (k : ℕ). take k ns) (sym count))
+
+-- the names of one rule more
+pub taken_more : {A B : Type 0} (f : A → B) (lists : List B) (xs : List A) (i : ℕ) (x : A) → i < length xs → x ≡ get_or xs i x → (lists ++ map f (take i xs)) ++ f x ∷ [] ≡ lists ++ map f (take (i + 1) xs)
+taken_more {A = A} {B = B} f lists xs i x lt e =
+    append_assoc lists (map f (take i xs)) (f x ∷ [])
+    ∙ ap (λ (ys : List B). lists ++ ys)
+    (sym (map-append f (take i xs) (x ∷ [])) ∙ ap (λ (y : A). map f (take i xs ++ y ∷ [])) e ∙ ap (λ (ys : List A). map f ys) (sym (take_more xs i x lt)))
+
+-- one rule on
+pub zones_more : (d : Linked) (cell : ℕ) (trees : List Formula) (lists : List (List ℕ)) (names : List ℕ) (sets : List (List Rect)) (set : List Rect)
+    → AreDeviceZones d cell trees lists sets → IsFramedZone d (names_inputs trees names) cell set → AreDeviceZones d cell trees (lists ++ names ∷ []) (sets ++ set ∷ [])
+zones_more d cell trees lists names sets set h is = record {
+  count = length-append sets (set ∷ []) ∙ ap (λ (n : ℕ). n + 1) h.count ∙ sym (length-append lists (names ∷ []));
+  zones = λ k ns s there found. elim (push_cases sets set s k found) [
+    | inl old ↦
+        let lt = slice_get_within sets k s old in
+        let count = h.count in
+        let below : k < length lists = omega (arith, lt, count) in
+        h.zones k ns s (old_place lists names ns k below there) old
+    | inr new ↦
+        let at : slice_get (lists ++ names ∷ []) (length lists) ≡ Some ns = subst (λ i. slice_get (lists ++ names ∷ []) i ≡ Some ns) (new.0 ∙ h.count) there in
+        let same : names ≡ ns = one_some names ns (sym (push_new lists names) ∙ at) in
+        subst (λ (x : List ℕ). IsFramedZone d (names_inputs trees x) cell s) same (subst (IsFramedZone d (names_inputs trees names) cell) new.1 is)
+  ];
+}
+  where
+    one_some : {A : Type 0} (a b : A) → Some a ≡ Some b → a ≡ b
+    one_some a b e = cc
+
+    old_place : {A : Type 0} (xs : List A) (x u : A) (k : ℕ) → k < length xs → slice_get (xs ++ x ∷ []) k ≡ Some u → slice_get xs k ≡ Some u
+    old_place [] x u k lt e = absurd (omega arith)
+    old_place (y ∷ xs) x u zero lt e = e
+    old_place (y ∷ xs) x u (suc k) lt e = old_place xs x u k (omega arith) e

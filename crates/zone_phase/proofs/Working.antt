@@ -1,24 +1,28 @@
 -- A cell's entry, from what was found for its names and device rules.
-use Rattle.std.proofs.Common.{◌≡◌, inl, inr, ℕ, ◌<◌, ◌-◌, ◌++◌, List, [], ◌∷◌, Some, ap, refl, sym, ◌∙◌, subst, arith, length, get_or, slice_get, slice_index, IsSomeAnd, Option, None}
+use Rattle.std.proofs.Common.{◌≡◌, ◌⊎◌, inl, inr, ℕ, zero, suc, ◌+◌, ◌<◌, ◌-◌, ◌++◌, List, [], ◌∷◌, map, append_assoc, length-append, true, Some, ap, refl, sym, ◌∙◌, subst, arith, length, get_or, slice_get, slice_index, IsSomeAnd, Option, None}
 use Rattle.std.specs.List.{All}
-use Rattle.std.proofs.lemmas.List.{length-map}
+use Rattle.std.proofs.lemmas.List.{append-nil, length-map}
+use Rattle.plain_netlist.specs.Lists.{IsListed}
 use Rattle.std.proofs.lemmas.Option.{slice_get_within, slice_get-get_or, get_or_from_slice_get}
 use Rattle.geo_base.specs.declared.layer.LayerKey.{LayerKey}
 use Rattle.geo_base.specs.declared.shapes.Rect.{Rect}
 use Rattle.rect_sets.specs.Rects.{IsCanonical}
-use Rattle.flat_layout.specs.Gates.{gate_inputs}
+use Rattle.flat_layout.specs.Gates.{Rule, gate_inputs}
 use Rattle.flat_layout.specs.Layers.{Formula, Input, Empty, Binary, inputs}
-use Rattle.flat_layout.specs.Layout.{IsReached}
+use Rattle.flat_layout.specs.Layout.{IsReached, Some_of}
+use Rattle.flat_laws.proofs.Names.{fewer, more_left, more_right}
 use Rattle.flat_layout.specs.Regions.{formula}
 use Rattle.cell_graph.specs.Linked.{Linked, IsSound, plain, cell_at, places_at}
-use Rattle.cell_graph.proofs.Bridge.{mapped}
 use Rattle.rule_text.specs.Rules.{Rules}
 use Rattle.rule_text.specs.Sound as rules
 use Rattle.rule_text.specs.declared.rules.LayerRule.{LayerRule}
 use Rattle.rule_text.specs.declared.rules.MosRule.{MosRule}
-use Rattle.rule_layers.specs.Meaning.{device_rule, device_rules, wiring_of}
+use Rattle.rule_text.specs.declared.rules.MoreRule.{MoreRule}
+use Rattle.rule_text.specs.declared.rules.MoreRule.TheVariants as more
+use Rattle.rule_text.specs.Reading.{is_conductor}
+use Rattle.rule_layers.specs.Meaning.{device_rule, device_rules, more_rule, wiring_of}
 use Rattle.rule_layers.specs.Formulas.{formulas}
-use Rattle.rule_layers.specs.Reads.{AreRead, IsRead, ReadsLayer}
+use Rattle.rule_layers.specs.Reads.{AreRead, IsRead, ReadsFurther, ReadsLayer}
 use Rattle.rule_layers.proofs.Unread.{derived_tree, read_tree, same_count}
 use Rattle.rule_layers.proofs.Wired.{conductors, terminals}
 use Rattle.deep_tables.specs.declared.zones.CellZones.{CellZones}
@@ -30,7 +34,7 @@ use Rattle.zone_phase.specs.declared.uses.Use.{Use}
 use Rattle.job_graph.specs.Graph.{Waits}
 use Rattle.zone_phase.specs.Graph.{AreParentJobs}
 use Rattle.zone_phase.specs.Jobs.{IsEntry}
-use Rattle.zone_phase.specs.Names.{AreMosZones, AreNameZones, mos_inputs}
+use Rattle.zone_phase.specs.Names.{AreDeviceZones, AreNameZones, device_names, further_names, mos_names, names_inputs}
 use Rattle.zone_phase.specs.Uses.{AreUses, AreUsesOf, HasUse, uses_of}
 
 -- the references to one cell come from all reached cells
@@ -55,7 +59,7 @@ waited d lists graph job P uses jobs lt f k u at =
     f u.job ((jobs.waits job u.job (omega arith)).1 (is.job_in, (u.index, is.place, is.there, is.here)))
 
 -- a right entry has the squares of each input layer that is read
-pub entry_of : (d : Linked) (r : Rules) (cell name : ℕ) (key : LayerKey) (v : CellZones) → HasHulls d → IsReached (plain d) cell → slice_get (formulas r.names) name ≡ Some (Input key) → IsRead r.names r.devices name
+pub entry_of : (d : Linked) (r : Rules) (cell name : ℕ) (key : LayerKey) (v : CellZones) → HasHulls d → IsReached (plain d) cell → slice_get (formulas r.names) name ≡ Some (Input key) → IsRead r.names r.devices r.more name
     → AreCellZones (plain d) r cell v → IsEntry d key name cell v
 entry_of d r cell name key v hulls reached at read h =
     let count = h.names in
@@ -69,54 +73,178 @@ pub some_more : {A : Type 0} (P Q : A → Type 0) (o : Option A) → ((x : A) �
 some_more P Q None f h = h
 some_more P Q (Some x) f h = f x h
 
--- a device rule's terminals are read as names
-keys_same : (r : Rules) (n : ℕ) (m : MosRule) → rules.IsSound r → slice_get (device_rules r) n ≡ Some (device_rule r m) → mos_inputs (formulas r.names) m ≡ gate_inputs (wiring_of r) (device_rule r m)
-keys_same r n m sound at =
-    let t = terminals r n (device_rule r m) sound at in
-    let a = get_or (formulas r.names) m.sd Empty in let b = get_or (formulas r.names) m.g Empty in let w = get_or (formulas r.names) m.w Empty in
-    let ts = sym ((conductors r m.ts).conductor t.ts) in let tg = sym ((conductors r m.tg).conductor t.tg) in let tb = sym ((conductors r m.tb).conductor t.tb) in
-    ap (λ x. inputs a ++ (inputs b ++ (inputs w ++ (inputs x ++ (inputs (get_or (formulas r.names) m.tg Empty) ++ inputs (get_or (formulas r.names) m.tb Empty)))))) ts
-    ∙ ap (λ x. inputs a ++ (inputs b ++ (inputs w ++ (inputs (formula (wiring_of r) m.ts) ++ (inputs x ++ inputs (get_or (formulas r.names) m.tb Empty)))))) tg
-    ∙ ap (λ x. inputs a ++ (inputs b ++ (inputs w ++ (inputs (formula (wiring_of r) m.ts) ++ (inputs (formula (wiring_of r) m.tg) ++ inputs x))))) tb
-
 canonical_at : (sets : List (List Rect)) (k : ℕ) (set : List Rect) → All IsCanonical sets → slice_get sets k ≡ Some set → IsCanonical set
 canonical_at sets k set all at = subst IsCanonical (get_or_from_slice_get sets k set [] at) (all k [] (slice_get_within sets k set at))
 
 -- a name that is asked has one tree over the names, and over them as they are seen
-asked_tree : (r : Rules) (read : List LayerRule) (i : ℕ) (x : Formula) → AreRead r.names r.devices read → get_or (formulas r.names) i Empty ≡ x → IsAsked r i x → get_or (formulas r.names) i Empty ≡ get_or (formulas read) i Empty
-asked_tree r read i (Input key) are e asked = read_tree r.names r.devices read i are asked
-asked_tree r read i Empty are e asked = read_tree r.names r.devices read i are asked
-asked_tree r read i (Binary op a b) are e asked = derived_tree r.names r.devices read i op a b are e
+asked_tree : (r : Rules) (read : List LayerRule) (i : ℕ) (x : Formula) → AreRead r.names r.devices r.more read → get_or (formulas r.names) i Empty ≡ x → IsAsked r i x → get_or (formulas r.names) i Empty ≡ get_or (formulas read) i Empty
+asked_tree r read i (Input key) are e asked = read_tree r.names r.devices r.more read i are asked
+asked_tree r read i Empty are e asked = read_tree r.names r.devices r.more read i are asked
+asked_tree r read i (Binary op a b) are e asked = derived_tree r.names r.devices r.more read i op a b are e
 
-six_same : (a b c d e f u v w x y z : Formula) → a ≡ u → b ≡ v → c ≡ w → d ≡ x → e ≡ y → f ≡ z
-    → inputs a ++ (inputs b ++ (inputs c ++ (inputs d ++ (inputs e ++ inputs f)))) ≡ inputs u ++ (inputs v ++ (inputs w ++ (inputs x ++ (inputs y ++ inputs z))))
-six_same a b c d e f u v w x y z h1 h2 h3 h4 h5 h6 = cc
+-- ---- device rules by place
 
--- and so have the layers of a device rule
-mos_same : (r : Rules) (read : List LayerRule) (i : ℕ) (m : MosRule) → AreRead r.names r.devices read → slice_get r.devices i ≡ Some m → mos_inputs (formulas r.names) m ≡ mos_inputs (formulas read) m
-mos_same r read i m are at =
-    let lt = slice_get_within r.devices i m at in
-    let by : (k : ℕ) → ReadsLayer m k → get_or (formulas r.names) k Empty ≡ get_or (formulas read) k Empty =
-    λ k h. read_tree r.names r.devices read k are (inr (record { at = i; rule = m; at_in = lt; there = at; reads = h })) in
-    six_same _ _ _ _ _ _ _ _ _ _ _ _ (by m.sd (inl refl)) (by m.g (inr (inl refl))) (by m.w (inr (inr (inl refl)))) (by m.ts (inr (inr (inr (inl refl))))) (by m.tg (inr (inr (inr (inr (inl refl)))))) (by m.tb (inr (inr (inr (inr (inr refl))))))
+module _ {A B R N : Type 0} (f : A → R) (g : B → R) (p : A → N) (q : B → N) where
+  one_some : {X : Type 0} (x y : X) → Some x ≡ Some y → x ≡ y
+  one_some x y e = cc
+
+  none_some : {X : Type 0} (x : X) → None ≡ Some x → ⊥
+  none_some x e = cc
+
+  of_second : (es : List B) (i : ℕ) (u : R) → slice_get (map g es) i ≡ Some u → (b : B) × (slice_get es i ≡ Some b) × (slice_get (map q es) i ≡ Some (q b)) × (g b ≡ u)
+  of_second [] i u e = absurd (none_some u e)
+  of_second (b ∷ es) zero u e = (b, refl, refl, one_some (g b) u e)
+  of_second (b ∷ es) (suc i) u e = of_second es i u e
+
+  -- an item of two lists one after the other, and what stands there in two like them
+  of_both : (ds : List A) (es : List B) (i : ℕ) (u : R) → slice_get (map f ds ++ map g es) i ≡ Some u
+      → ((a : A) × (slice_get ds i ≡ Some a) × (slice_get (map p ds ++ map q es) i ≡ Some (p a)) × (f a ≡ u))
+      ⊎ ((k : ℕ) × (b : B) × (slice_get es k ≡ Some b) × (slice_get (map p ds ++ map q es) i ≡ Some (q b)) × (g b ≡ u))
+  of_both [] es i u e = let s = of_second es i u e in inr (i, s.0, s.1, s.2, s.3)
+  of_both (a ∷ ds) es zero u e = inl (a, refl, refl, one_some (f a) u e)
+  of_both (a ∷ ds) es (suc i) u e = of_both ds es i u e
+
+-- ---- what the layers of a rule read
+
+abbrev Within : List LayerKey → List LayerKey → Type 0
+Within xs ys = (key : LayerKey) → Some_of (λ k. k ≡ key) xs → Some_of (λ k. k ≡ key) ys
+
+some_split : (P : LayerKey → Type 0) (xs ys : List LayerKey) → Some_of P (xs ++ ys) → Some_of P xs ⊎ Some_of P ys
+some_split P [] ys h = inr h
+some_split P (x ∷ xs) ys (inl h) = inl (inl h)
+some_split P (x ∷ xs) ys (inr h) = elim (some_split P xs ys h) [ inl a ↦ inl (inr a) | inr b ↦ inr b ]
+
+behind : (xs ys zs : List LayerKey) → Within ys zs → Within (xs ++ ys) (xs ++ zs)
+behind xs ys zs h key i = elim (some_split (λ k. k ≡ key) xs ys i) [
+  | inl a ↦ more_left (λ k. k ≡ key) xs zs a
+  | inr b ↦ more_right (λ k. k ≡ key) xs zs (h key b)
+]
+
+twice : (xs : List LayerKey) → Within (xs ++ []) (xs ++ xs)
+twice xs key i = elim (some_split (λ k. k ≡ key) xs [] i) [ inl a ↦ more_left (λ k. k ≡ key) xs xs a | inr b ↦ absurd b ]
+
+once : (xs : List LayerKey) → Within (xs ++ xs) (xs ++ [])
+once xs key i = elim (some_split (λ k. k ≡ key) xs xs i) [ inl a ↦ more_left (λ k. k ≡ key) xs [] a | inr b ↦ more_left (λ k. k ≡ key) xs [] b ]
+
+plain_end : (xs : List LayerKey) → Within (xs ++ []) xs
+plain_end xs key i = elim (some_split (λ k. k ≡ key) xs [] i) [ inl a ↦ a | inr b ↦ absurd b ]
+
+same_keys : (d : Linked) (xs ys : List LayerKey) (cell : ℕ) (zone : List Rect) → Within xs ys → Within ys xs → IsFramedZone d xs cell zone → IsFramedZone d ys cell zone
+same_keys d xs ys cell zone up down is q = (
+  (λ e. let x = (is q).0 e in (fewer (plain d) xs ys cell q up x.0, x.1)),
+  (λ y. (is q).1 (fewer (plain d) ys xs cell q down y.0, y.1)),
+)
+
+-- names that have one tree over two lists of trees read the same
+same_inputs : (xs ys : List Formula) (names : List ℕ) → ((k : ℕ) → IsListed k names → get_or xs k Empty ≡ get_or ys k Empty) → names_inputs xs names ≡ names_inputs ys names
+same_inputs xs ys [] h = refl
+same_inputs xs ys (k ∷ ks) h =
+    ap (λ x. inputs x ++ names_inputs xs ks) (h k (inl refl))
+    ∙ ap (λ ks. inputs (get_or ys k Empty) ++ ks) (same_inputs xs ys ks (λ j i. h j (inr i)))
+
+layer_read : (m : MosRule) (k : ℕ) → IsListed k (mos_names m) → ReadsLayer m k
+layer_read m k (inl e) = inl (sym e)
+layer_read m k (inr (inl e)) = inr (inl (sym e))
+layer_read m k (inr (inr (inl e))) = inr (inr (inl (sym e)))
+layer_read m k (inr (inr (inr (inl e)))) = inr (inr (inr (inl (sym e))))
+layer_read m k (inr (inr (inr (inr (inl e))))) = inr (inr (inr (inr (inl (sym e)))))
+layer_read m k (inr (inr (inr (inr (inr (inl e)))))) = inr (inr (inr (inr (inr (sym e)))))
+layer_read m k (inr (inr (inr (inr (inr (inr z)))))) = absurd z
+
+further_read : (m : MoreRule) (k : ℕ) → IsListed k (further_names m) → ReadsFurther m k
+further_read (more.Resistor class n c w ta tw) k (inl e) = inr (inl (sym e))
+further_read (more.Resistor class n c w ta tw) k (inr (inl e)) = inl (sym e)
+further_read (more.Resistor class n c w ta tw) k (inr (inr (inl e))) = inr (inr (inl (sym e)))
+further_read (more.Resistor class n c w ta tw) k (inr (inr (inr (inl e)))) = inr (inr (inr (inl (sym e))))
+further_read (more.Resistor class n c w ta tw) k (inr (inr (inr (inr (inl e))))) = inr (inr (inr (inr (sym e))))
+further_read (more.Resistor class n c w ta tw) k (inr (inr (inr (inr (inr z))))) = absurd z
+further_read (more.Diode class p n ta tc) k (inl e) = inl (sym e)
+further_read (more.Diode class p n ta tc) k (inr (inl e)) = inr (inl (sym e))
+further_read (more.Diode class p n ta tc) k (inr (inr (inl e))) = inr (inr (inl (sym e)))
+further_read (more.Diode class p n ta tc) k (inr (inr (inr (inl e)))) = inr (inr (inr (sym e)))
+further_read (more.Diode class p n ta tc) k (inr (inr (inr (inr z)))) = absurd z
+
+-- a rule's layers read what the rule says, and its terminals are read as names
+module _ (d : Linked) (r : Rules) (sound : rules.IsSound r) (cell : ℕ) (zone : List Rect) where
+  tree_of : (k : ℕ) → is_conductor k r ≡ true → get_or (formulas r.names) k Empty ≡ formula (wiring_of r) k
+  tree_of k e = sym ((conductors r k).conductor e)
+
+  mos_zone : (n : ℕ) (m : MosRule) → slice_get (device_rules r) n ≡ Some (device_rule r m) → IsFramedZone d (names_inputs (formulas r.names) (mos_names m)) cell zone
+      → IsFramedZone d (gate_inputs (wiring_of r) (device_rule r m)) cell zone
+  mos_zone n m at is =
+      let t = terminals r n (device_rule r m) sound at in
+      let a = inputs (get_or (formulas r.names) m.sd Empty) in let b = inputs (get_or (formulas r.names) m.g Empty) in let w = inputs (get_or (formulas r.names) m.w Empty) in
+      let x = formula (wiring_of r) m.ts in let y = formula (wiring_of r) m.tg in let z = formula (wiring_of r) m.tb in
+      let known : IsFramedZone d (a ++ (b ++ (w ++ (inputs x ++ (inputs y ++ (inputs z ++ [])))))) cell zone =
+      subst (λ v. IsFramedZone d (a ++ (b ++ (w ++ (inputs x ++ (inputs y ++ (inputs v ++ [])))))) cell zone) (tree_of m.tb t.tb)
+      (subst (λ v. IsFramedZone d (a ++ (b ++ (w ++ (inputs x ++ (inputs v ++ (inputs (get_or (formulas r.names) m.tb Empty) ++ [])))))) cell zone) (tree_of m.tg t.tg)
+      (subst (λ v. IsFramedZone d (a ++ (b ++ (w ++ (inputs v ++ (inputs (get_or (formulas r.names) m.tg Empty) ++ (inputs (get_or (formulas r.names) m.tb Empty) ++ [])))))) cell zone) (tree_of m.ts t.ts) is)) in
+      subst (λ v. IsFramedZone d (a ++ (b ++ (w ++ (inputs x ++ (inputs y ++ v))))) cell zone) (append-nil (inputs z)) known
+
+  further_zone : (n : ℕ) (m : MoreRule) → slice_get (device_rules r) n ≡ Some (more_rule r m) → IsFramedZone d (names_inputs (formulas r.names) (further_names m)) cell zone
+      → IsFramedZone d (gate_inputs (wiring_of r) (more_rule r m)) cell zone
+  further_zone n (more.Resistor class g c w ta tw) at is =
+      let t = terminals r n (more_rule r (more.Resistor class g c w ta tw)) sound at in
+      let a = inputs (get_or (formulas r.names) c Empty) in let b = inputs (get_or (formulas r.names) g Empty) in let e = inputs (get_or (formulas r.names) w Empty) in
+      let x = inputs (formula (wiring_of r) ta) in let y = inputs (formula (wiring_of r) tw) in
+      let known : IsFramedZone d (a ++ (b ++ (e ++ (x ++ (y ++ []))))) cell zone =
+      subst (λ v. IsFramedZone d (a ++ (b ++ (e ++ (x ++ (inputs v ++ []))))) cell zone) (tree_of tw t.tb)
+      (subst (λ v. IsFramedZone d (a ++ (b ++ (e ++ (inputs v ++ (inputs (get_or (formulas r.names) tw Empty) ++ []))))) cell zone) (tree_of ta t.ts) is) in
+      same_keys d (a ++ (b ++ (e ++ (x ++ (y ++ []))))) (a ++ (b ++ (e ++ (x ++ (y ++ y))))) cell zone
+      (behind a (b ++ (e ++ (x ++ (y ++ [])))) (b ++ (e ++ (x ++ (y ++ y)))) (behind b (e ++ (x ++ (y ++ []))) (e ++ (x ++ (y ++ y))) (behind e (x ++ (y ++ [])) (x ++ (y ++ y)) (behind x (y ++ []) (y ++ y) (twice y)))))
+      (behind a (b ++ (e ++ (x ++ (y ++ y)))) (b ++ (e ++ (x ++ (y ++ [])))) (behind b (e ++ (x ++ (y ++ y))) (e ++ (x ++ (y ++ []))) (behind e (x ++ (y ++ y)) (x ++ (y ++ [])) (behind x (y ++ y) (y ++ []) (once y)))))
+      known
+  further_zone n (more.Diode class p m ta tc) at is =
+      let t = terminals r n (more_rule r (more.Diode class p m ta tc)) sound at in
+      let a = inputs (get_or (formulas r.names) p Empty) in let b = inputs (get_or (formulas r.names) m Empty) in
+      let x = inputs (formula (wiring_of r) ta) in let y = inputs (formula (wiring_of r) tc) in
+      let known : IsFramedZone d (a ++ (b ++ (x ++ (y ++ [])))) cell zone =
+      subst (λ v. IsFramedZone d (a ++ (b ++ (x ++ (inputs v ++ [])))) cell zone) (tree_of tc t.tb)
+      (subst (λ v. IsFramedZone d (a ++ (b ++ (inputs v ++ (inputs (get_or (formulas r.names) tc Empty) ++ [])))) cell zone) (tree_of ta t.ts) is) in
+      subst (λ v. IsFramedZone d v cell zone) (sym (append_assoc a b (x ++ (y ++ y))))
+      (same_keys d (a ++ (b ++ (x ++ (y ++ [])))) (a ++ (b ++ (x ++ (y ++ y)))) cell zone
+      (behind a (b ++ (x ++ (y ++ []))) (b ++ (x ++ (y ++ y))) (behind b (x ++ (y ++ [])) (x ++ (y ++ y)) (behind x (y ++ []) (y ++ y) (twice y))))
+      (behind a (b ++ (x ++ (y ++ y))) (b ++ (x ++ (y ++ []))) (behind b (x ++ (y ++ y)) (x ++ (y ++ [])) (behind x (y ++ y) (y ++ []) (once y))))
+      known)
+
+device_count : (r : Rules) → length (device_names r) ≡ length (device_rules r)
+device_count r =
+    length-append (map mos_names r.devices) (map further_names r.more)
+    ∙ ap (λ (n : ℕ). n + length (map further_names r.more)) (length-map r.devices mos_names)
+    ∙ ap (λ (n : ℕ). length r.devices + n) (length-map r.more further_names ∙ sym (length-map r.more (more_rule r)))
+    ∙ ap (λ (n : ℕ). n + length (map (more_rule r) r.more)) (sym (length-map r.devices (device_rule r)))
+    ∙ sym (length-append (map (device_rule r) r.devices) (map (more_rule r) r.more))
+
+-- the set of each rule, by the names as they are seen
+device_zone_at : (d : Linked) (r : Rules) (read : List LayerRule) (cell : ℕ) (sets : List (List Rect)) → rules.IsSound r → AreRead r.names r.devices r.more read → AreDeviceZones d cell (formulas read) (device_names r) sets
+    → (i : ℕ) (u : Rule) (zone : List Rect) → slice_get (device_rules r) i ≡ Some u → slice_get sets i ≡ Some zone → IsFramedZone d (gate_inputs (wiring_of r) u) cell zone
+device_zone_at d r read cell sets sound are h i u zone at there = elim (of_both (device_rule r) (more_rule r) mos_names further_names r.devices r.more i u at) [
+  | inl (m, is_m, names, same) ↦
+      let by : names_inputs (formulas read) (mos_names m) ≡ names_inputs (formulas r.names) (mos_names m) =
+      same_inputs (formulas read) (formulas r.names) (mos_names m) (λ k l. sym (read_tree r.names r.devices r.more read k are (inr (inl (record { at = i; rule = m; at_in = slice_get_within r.devices i m is_m; there = is_m; reads = layer_read m k l }))))) in
+      subst (λ v. IsFramedZone d (gate_inputs (wiring_of r) v) cell zone) same
+      (mos_zone d r sound cell zone i m (at ∙ ap Some (sym same)) (subst (λ ks. IsFramedZone d ks cell zone) by (h.zones i (mos_names m) zone names there)))
+  | inr (k, m, is_m, names, same) ↦
+      let by : names_inputs (formulas read) (further_names m) ≡ names_inputs (formulas r.names) (further_names m) =
+      same_inputs (formulas read) (formulas r.names) (further_names m) (λ j l. sym (read_tree r.names r.devices r.more read j are (inr (inr (record { at = k; rule = m; at_in = slice_get_within r.more k m is_m; there = is_m; reads = further_read m j l }))))) in
+      subst (λ v. IsFramedZone d (gate_inputs (wiring_of r) v) cell zone) same
+      (further_zone d r sound cell zone i m (at ∙ ap Some (sym same)) (subst (λ ks. IsFramedZone d ks cell zone) by (h.zones i (further_names m) zone names there)))
+]
 
 -- the entry of a cell, from the names as they are seen
-pub cell_zones : (d : Linked) (r : Rules) (read : List LayerRule) (cell : ℕ) (v : CellZones) → HasHulls d → rules.IsSound r → AreRead r.names r.devices read → IsReached (plain d) cell
+pub cell_zones : (d : Linked) (r : Rules) (read : List LayerRule) (cell : ℕ) (v : CellZones) → HasHulls d → rules.IsSound r → AreRead r.names r.devices r.more read → IsReached (plain d) cell
     → length v.layers.items ≡ length (formulas read) → AreNameZones d cell (formulas read) v.layers.items → All IsCanonical v.layers.items
-    → length v.devices.items ≡ length r.devices → AreMosZones d cell (formulas read) r.devices v.devices.items → All IsCanonical v.devices.items → AreCellZones (plain d) r cell v
-cell_zones d r read cell v hulls sound are reached names zones canonical rules mos mos_canonical = record {
-  names = names ∙ sym (same_count r.names r.devices read are);
+    → AreDeviceZones d cell (formulas read) (device_names r) v.devices.items → All IsCanonical v.devices.items → AreCellZones (plain d) r cell v
+cell_zones d r read cell v hulls sound are reached names zones canonical devices devices_canonical = record {
+  names = names ∙ sym (same_count r.names r.devices r.more read are);
   layers = λ i x zone at there asked.
       let tree : get_or (formulas r.names) i Empty ≡ x = get_or_from_slice_get (formulas r.names) i x Empty at in
       let seen : get_or (formulas read) i Empty ≡ x = sym (asked_tree r read i x are tree asked) ∙ tree in
       let is : IsFramedZone d (inputs x) cell zone =
       subst (λ t. IsFramedZone d (inputs t) cell zone) seen (subst (IsFramedZone d (inputs (get_or (formulas read) i Empty)) cell) (get_or_from_slice_get v.layers.items i zone [] there) (zones i)) in
       (framed d (inputs x) cell zone (hulls cell reached) (canonical_at v.layers.items i zone canonical there)).1 is;
-  rules = rules ∙ sym (length-map r.devices (device_rule r));
+  rules = devices.count ∙ device_count r;
   devices = λ i u zone at there.
-      let m = mapped (device_rule r) r.devices i u at in
-      let same : mos_inputs (formulas read) m.0 ≡ gate_inputs (wiring_of r) u =
-      sym (mos_same r read i m.0 are m.1) ∙ keys_same r i m.0 sound (at ∙ ap Some (sym m.2)) ∙ ap (gate_inputs (wiring_of r)) m.2 in
-      (framed d (gate_inputs (wiring_of r) u) cell zone (hulls cell reached) (canonical_at v.devices.items i zone mos_canonical there)).1
-      (subst (λ k. IsFramedZone d k cell zone) same (mos i m.0 zone m.1 there));
+      (framed d (gate_inputs (wiring_of r) u) cell zone (hulls cell reached) (canonical_at v.devices.items i zone devices_canonical there)).1
+      (device_zone_at d r read cell v.devices.items sound are devices i u zone at there);
 }

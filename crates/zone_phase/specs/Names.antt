@@ -1,5 +1,6 @@
 -- The disturbed squares of a cell for the names of the rules.
-use Rattle.std.specs.Prelude.{◌≡◌, ℕ, List, [], ◌++◌, Option, Some, get_or, slice_get}
+use Rattle.std.specs.Prelude.{◌≡◌, ℕ, List, [], ◌∷◌, ◌++◌, map, length, Option, Some, get_or}
+use Rattle.std.specs.Prelude.{slice_get}
 use Rattle.geo_base.specs.declared.layer.LayerKey.{LayerKey}
 use Rattle.geo_base.specs.declared.shapes.Rect.{Rect}
 use Rattle.flat_layout.specs.Layers.{Formula, Input, Empty, inputs}
@@ -7,6 +8,9 @@ use Rattle.cell_graph.specs.Linked.{Linked}
 use Rattle.rule_text.specs.declared.rules.LayerForm.{LayerForm}
 use Rattle.rule_text.specs.declared.rules.LayerForm.TheVariants as form
 use Rattle.rule_text.specs.declared.rules.MosRule.{MosRule}
+use Rattle.rule_text.specs.declared.rules.MoreRule.{MoreRule}
+use Rattle.rule_text.specs.declared.rules.MoreRule.TheVariants as more
+use Rattle.rule_text.specs.Rules.{Rules}
 use Rattle.deep_tables.specs.declared.zones.CellZones.{CellZones}
 use Rattle.deep_tables.specs.Frames.{IsFramedZone}
 use Rattle.zone_phase.specs.declared.uses.Use.{Use}
@@ -28,16 +32,27 @@ HaveInputs d value trees uses = (name : ℕ) (key : LayerKey)
     → slice_get trees name ≡ Some (Input key)
     → HaveEntries d value key name uses
 
--- the input layers that the six layers of a device rule read
-abbrev pub mos_inputs : List Formula → MosRule → List LayerKey
-mos_inputs trees m =
-    inputs (get_or trees m.sd Empty) ++ (inputs (get_or trees m.g Empty) ++ (inputs (get_or trees
-    m.w Empty)
-    ++ (inputs (get_or trees m.ts Empty) ++ (inputs (get_or trees m.tg Empty) ++ inputs (get_or
-    trees m.tb Empty)))))
+-- the names of a device rule's layers: six of a transistor's, five of a resistor's, four of a
+-- diode's
+abbrev pub mos_names : MosRule → List ℕ
+mos_names m = m.sd ∷ m.g ∷ m.w ∷ m.ts ∷ m.tg ∷ m.tb ∷ []
 
--- each device rule's set is the cell's disturbed squares for what its layers read
-abbrev pub AreMosZones : Linked → ℕ → List Formula → List MosRule → List (List Rect) → Type 0
-AreMosZones d cell trees rules sets = (k : ℕ) (m : MosRule) (set : List Rect)
-    → slice_get rules k ≡ Some m
-    → slice_get sets k ≡ Some set → IsFramedZone d (mos_inputs trees m) cell set
+abbrev pub further_names : MoreRule → List ℕ
+further_names (more.Resistor class n c w ta tw) = c ∷ n ∷ w ∷ ta ∷ tw ∷ []
+further_names (more.Diode class p n ta tc) = p ∷ n ∷ ta ∷ tc ∷ []
+
+-- those of all device rules: of transistors, then of the others
+abbrev pub device_names : Rules → List (List ℕ)
+device_names r = map mos_names r.devices ++ map further_names r.more
+
+-- the input layers that some names read
+abbrev pub names_inputs : List Formula → List ℕ → List LayerKey
+names_inputs trees [] = []
+names_inputs trees (k ∷ ks) = inputs (get_or trees k Empty) ++ names_inputs trees ks
+
+-- for each list of names the set is the cell's disturbed squares for what they read
+pub record AreDeviceZones (d : Linked) (cell : ℕ) (trees : List Formula) (lists : List (List ℕ))
+    (sets : List (List Rect)) : Type 0 where
+  pub count : length sets ≡ length lists
+  pub zones : (k : ℕ) (names : List ℕ) (set : List Rect) → slice_get lists k ≡ Some names
+      → slice_get sets k ≡ Some set → IsFramedZone d (names_inputs trees names) cell set

@@ -20,6 +20,7 @@ jobs_seen a = record { design = a.design.now; rules = a.rules.now; graph = a.gra
 
 pub record IsZonePhase (a : Inside) : Type 0 where
   pub rules : IsSound (rules_seen a.rules.now)
-  pub read : AreRead a.rules.now.names.items a.rules.now.devices.items a.read.items
+  pub read : AreRead a.rules.now.names.items a.rules.now.devices.items a.rules.now.more.items
+      a.read.items
   pub uses : AreUses a.design.now (lists_of a.uses.items)
   pub graph : AreParentJobs a.design.now a.graph

@@ -1,48 +1,109 @@
 //! A cell's disturbed squares for each device rule.
-ghost use Rattle.std.specs.Prelude.{◌≡◌, ℕ, List, length, IfOk};
+ghost use Rattle.std.specs.Prelude.{◌≡◌, ◌++◌, ℕ, List, IfOk, OnOk, map};
 ghost use Rattle.std.specs.List.{All};
 ghost use Rattle.cell_graph.specs.Linked.{Linked};
 ghost use Rattle.deep_tables.specs.Frames.{IsFramedZone};
 ghost use Rattle.flat_layout.specs.Layers.{Formula};
 ghost use Rattle.rect_sets.specs.Rects.{IsCanonical};
-ghost use Rattle.zone_phase.specs.Names.{AreMosZones, AreNameZones, mos_inputs};
+ghost use Rattle.rule_text.specs.Seen.{rules_seen};
+ghost use Rattle.zone_phase.specs.Names.{AreDeviceZones, AreNameZones, device_names};
+ghost use Rattle.zone_phase.specs.Names.{further_names, mos_names, names_inputs};
 
 use crate::names::push_set;
-use crate::unions::{set_at, with_name};
+use crate::unions::with_name;
 use rect_sets::RectSet;
-use rule_text::MosRule;
+use rule_text::{MoreRule, MosRule, RuleSet};
 use std::alloc::{AllocError, Global};
 
-// The union for the six layers of a device rule.
-fn device_zone(alloc: Global, sets: &[RectSet], rule: &MosRule) -> Result<RectSet, AllocError>
+// The union for some names.
+fn names_zone(alloc: Global, sets: &[RectSet], names: &[u32]) -> Result<RectSet, AllocError>
     ensures { IfOk result (λ r. (d : Linked) (cell : ℕ) (trees : List Formula)
-        → AreNameZones d cell trees sets.now → IsFramedZone d (mos_inputs trees rule.now) cell r) }
+        → AreNameZones d cell trees sets.now
+        → IsFramedZone d (names_inputs trees names.now) cell r) }
 {
-    let none = RectSet::empty(alloc);
-    let bulk = set_at(sets, rule.tb, &none);
-    let ends = with_name(alloc, sets, rule.tg, bulk)?;
-    let terminals = with_name(alloc, sets, rule.ts, &ends)?;
-    let well = with_name(alloc, sets, rule.w, &terminals)?;
-    let gate = with_name(alloc, sets, rule.g, &well)?;
-    let all = with_name(alloc, sets, rule.sd, &gate)?;
+    let [name, more @ ..] = names else {
+        return Ok(RectSet::empty(alloc));
+    };
+    let others = names_zone(alloc, sets, more)?;
+    let all = with_name(alloc, sets, *name, &others)?;
     Ok(all)
 }
 
-/// A cell's disturbed squares for each device rule, from those for the names: five unions a rule.
-pub fn device_zones(
+fn further_zone(alloc: Global, sets: &[RectSet], rule: &MoreRule) -> Result<RectSet, AllocError>
+    ensures { IfOk result (λ r. (d : Linked) (cell : ℕ) (trees : List Formula)
+        → AreNameZones d cell trees sets.now
+        → IsFramedZone d (names_inputs trees (further_names rule.now)) cell r) }
+{
+    match rule {
+        MoreRule::Resistor {
+            r,
+            c,
+            w,
+            ta,
+            tw,
+            ..
+        } => names_zone(alloc, sets, &[*c, *r, *w, *ta, *tw]),
+        MoreRule::Diode { p, n, ta, tc, .. } => names_zone(alloc, sets, &[*p, *n, *ta, *tc]),
+    }
+}
+
+// Those of transistors' rules.
+fn push_mos_zones(
     alloc: Global,
     sets: &[RectSet],
     rules: &[MosRule],
+    zones: &mut Vec<RectSet>,
+) -> Result<(), AllocError>
+    requires { All IsCanonical zones.old.items }
+    ensures zones { OnOk result ((d : Linked) (cell : ℕ) (trees : List Formula)
+        (lists : List (List ℕ)) → AreNameZones d cell trees sets.now
+        → AreDeviceZones d cell trees lists zones.old.items
+        → AreDeviceZones d cell trees (lists ++ map mos_names rules.now) zones.new.items) }
+    ensures canonical { OnOk result (All IsCanonical zones.new.items) }
+{
+    for rule in rules {
+        let names = [rule.sd, rule.g, rule.w, rule.ts, rule.tg, rule.tb];
+        let set = names_zone(alloc, sets, &names)?;
+        push_set(zones, set)?;
+    }
+    Ok(())
+}
+
+// Those of the other devices' rules.
+fn push_further_zones(
+    alloc: Global,
+    sets: &[RectSet],
+    rules: &[MoreRule],
+    zones: &mut Vec<RectSet>,
+) -> Result<(), AllocError>
+    requires { All IsCanonical zones.old.items }
+    ensures zones { OnOk result ((d : Linked) (cell : ℕ) (trees : List Formula)
+        (lists : List (List ℕ)) → AreNameZones d cell trees sets.now
+        → AreDeviceZones d cell trees lists zones.old.items
+        → AreDeviceZones d cell trees (lists ++ map further_names rules.now) zones.new.items) }
+    ensures canonical { OnOk result (All IsCanonical zones.new.items) }
+{
+    for rule in rules {
+        let set = further_zone(alloc, sets, rule)?;
+        push_set(zones, set)?;
+    }
+    Ok(())
+}
+
+/// A cell's disturbed squares for each device rule, from those for the names: a union for each of
+/// the rule's layers.
+pub fn device_zones(
+    alloc: Global,
+    sets: &[RectSet],
+    rules: &RuleSet,
 ) -> Result<Vec<RectSet>, AllocError>
-    ensures count { IfOk result (λ v. length v.items ≡ length rules.now) }
     ensures zones { IfOk result (λ v. (d : Linked) (cell : ℕ) (trees : List Formula)
-        → AreNameZones d cell trees sets.now → AreMosZones d cell trees rules.now v.items) }
+        → AreNameZones d cell trees sets.now
+        → AreDeviceZones d cell trees (device_names (rules_seen rules.now)) v.items) }
     ensures canonical { IfOk result (λ v. All IsCanonical v.items) }
 {
     let mut zones = Vec::new(alloc);
-    for rule in rules {
-        let set = device_zone(alloc, sets, rule)?;
-        push_set(&mut zones, set)?;
-    }
+    push_mos_zones(alloc, sets, &rules.devices, &mut zones)?;
+    push_further_zones(alloc, sets, &rules.more, &mut zones)?;
     Ok(zones)
 }

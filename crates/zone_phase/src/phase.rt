@@ -52,7 +52,7 @@ impl<'a> ZonePhase<'a> {
         ensures rules { IfOk result (λ p. p.rules ≡ rules.now) }
         ensures jobs { IfOk result (λ p. AreParentJobs design.now p.graph) }
     {
-        let read = read_names(alloc, &rules.names, &rules.devices)?;
+        let read = read_names(alloc, &rules.names, &rules.devices, &rules.more)?;
         let uses = find_uses(alloc, design)?;
         let graph = parent_graph(alloc, design, &uses)?;
         Ok(ZonePhase {
@@ -98,7 +98,7 @@ impl Phase for ZonePhase<'_> {
         let cell = order[order.len() - 1 - job as usize];
         let uses = &self.uses[cell as usize];
         let layers = name_zones(alloc, design, reads, uses, cell, &self.read)?;
-        let devices = device_zones(alloc, &layers, &self.rules.devices)?;
+        let devices = device_zones(alloc, &layers, self.rules)?;
         let zones = CellZones::new(alloc, layers, devices)?;
         Ok(zones)
     }

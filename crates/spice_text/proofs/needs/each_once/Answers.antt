@@ -1,4 +1,4 @@
-use Rattle.std.proofs.Common.{◌≡◌, ◌∙◌, sym, ap, subst, arith, [], List, ℕ}
+use Rattle.std.proofs.Common.{◌∙◌, sym, ap, subst, arith, [], List, ℕ}
 use Rattle.plain_netlist.specs.Lists.{AreApart}
 use Rattle.spice_text.specs.Needs.{first_seen}
 use Rattle.spice_text.proofs.SoundLemmas.{seen_apart}

@@ -1,17 +1,14 @@
-use Rattle.std.proofs.Common.{◌≡◌, ◌∙◌, ◌+◌, ◌∷◌, [], ℕ, Some, ap, sym, subst, length, length-append, slice_get}
-use Rattle.std.proofs.lemmas.Option.{slice_get-get_or}
-use Rattle.zone_phase.specs.Names.{AreMosZones}
-use Rattle.zone_phase.proofs.Naming.{mos_more}
+use Rattle.std.proofs.Common.{◌++◌, [], List, subst, sym, map}
+use Rattle.rule_text.specs.declared.rules.MosRule.{MosRule}
+use Rattle.rule_text.specs.declared.rules.MoreRule.{MoreRule}
+use Rattle.zone_phase.specs.Names.{AreDeviceZones, further_names, mos_names}
+use Rattle.zone_phase.proofs.Naming.{no_zones}
 use Rattle.zone_phase.proofs.devices.device_zones.Goals as goal
 
-pub loop-rule-preserved : goal.loop-rule-preserved
-loop-rule-preserved c =
-    let e = c.in_ok-push_set.ensures.list in
-    let sets = c.loop-rule.zones.items in let set = c.in_ok-set.set in let had = c.loop-rule.invariant in
-    let at : slice_get c.args.rules.now (length sets) ≡ Some c.rule-item.result =
-    ap (slice_get c.args.rules.now) had.count ∙ slice_get-get_or c.args.rules.now c.loop-rule.rule-index c.rule-item.result c.loop-rule-test.true ∙ ap Some (sym c.rule-item.is) in
-    record {
-      count = ap length e ∙ length-append sets (set ∷ []) ∙ ap (λ (n : ℕ). n + 1) had.count;
-      zones = λ d cell trees all. subst (AreMosZones d cell trees c.args.rules.now) (sym e) (mos_more d cell trees c.args.rules.now c.rule-item.result sets set at (had.zones d cell trees all) (c.in_ok-set.ensures d cell trees all));
-      canonical = c.in_ok-push_set.ensures.canonical;
-    }
+pub returns-clause-zones : goal.returns-clause-zones
+returns-clause-zones c = λ d cell trees all.
+    let zones = c.push_further_zones.new.zones.items in
+    let first = c.in_ok-push_mos_zones.ensures.zones d cell trees [] all (subst (AreDeviceZones d cell trees []) (sym c.new-zones.ensures.items) (no_zones d cell trees)) in
+    let both = c.in_ok-push_further_zones.ensures.zones d cell trees (map mos_names c.deref.result.now) all first in
+    subst (λ (rs : List MosRule). AreDeviceZones d cell trees (map mos_names rs ++ map further_names c.args.rules.now.more.items) zones) c.deref.ensures.value
+    (subst (λ (rs : List MoreRule). AreDeviceZones d cell trees (map mos_names c.deref.result.now ++ map further_names rs) zones) c.deref-2.ensures.value both)

@@ -6,7 +6,6 @@ use Rattle.cell_graph.specs.Linked.{plain}
 use Rattle.rect_sets.specs.Rects.{IsCanonical}
 use Rattle.rule_text.specs.Seen.{rules_seen}
 use Rattle.rule_text.specs.declared.rules.LayerRule.{LayerRule}
-use Rattle.rule_text.specs.declared.rules.MosRule.{MosRule}
 use Rattle.rule_layers.specs.Formulas.{formulas}
 use Rattle.rule_layers.proofs.Unread.{seen_input}
 use Rattle.flat_layout.specs.Layers.{Input}
@@ -15,7 +14,7 @@ use Rattle.deep_tables.specs.Entries.{downward_cell}
 use Rattle.deep_tables.specs.Zones.{AreCellZones}
 use Rattle.zone_phase.specs.declared.uses.Use.{Use}
 use Rattle.zone_phase.specs.Jobs.{IsEntry}
-use Rattle.zone_phase.specs.Names.{AreMosZones, AreNameZones}
+use Rattle.zone_phase.specs.Names.{AreDeviceZones, AreNameZones, device_names}
 use Rattle.zone_phase.specs.Phase.{ZoneJobs}
 use Rattle.zone_phase.specs.Uses.{AreUsesOf, lists_of}
 use Rattle.zone_phase.proofs.Entries.{job_reached}
@@ -56,7 +55,7 @@ name_zones-requires-clause-entries g c = λ name key named k u at.
     (λ i w. subst (λ (z : ZoneJobs). IsSomeAnd (value i) (AreCellZones (plain z.design) (rules_seen z.rules) (downward_cell z.design i))) (sym c.self.view_is)
     (c.requires.right i (subst (λ (z : ZoneJobs). Waits z.graph c.args.job i) c.self.view_is w)))
     k u there in
-    let input = seen_input r.names r.devices c.self.inside.read.items name key a.read (subst (λ (l : List LayerRule). slice_get (formulas l) name ≡ Some (Input key)) c.deref-2.ensures.value named) in
+    let input = seen_input r.names r.devices r.more c.self.inside.read.items name key a.read (subst (λ (l : List LayerRule). slice_get (formulas l) name ≡ Some (Input key)) c.deref-2.ensures.value named) in
     some_more (AreCellZones (plain d) r (downward_cell d u.job)) (IsEntry d key name (downward_cell d u.job)) (value u.job)
     (λ v. entry_of d r (downward_cell d u.job) name key v (λ n there. c.sound.ensures.hulls.each n) (job_reached d u.job c.sound.ensures (a.uses.each (downward_cell d c.args.job) k u there).job_in) input.0 input.1) right
 
@@ -76,8 +75,6 @@ returns g c =
     (cell_zones d r read (downward_cell d job) v (λ n there. c.sound.ensures.hulls.each n) a.rules a.read (job_reached d job c.sound.ensures lt)
     (ap length same ∙ c.in_ok-layers.ensures.count ∙ ap (λ (l : List LayerRule). length (formulas l)) c.deref-2.ensures.value)
     (subst (AreNameZones d (downward_cell d job) (formulas read)) (sym same) zones) (subst (λ (l : List (List Rect)). All IsCanonical l) (sym same) c.in_ok-layers.ensures.canonical)
-    (ap length same_too ∙ c.in_ok-devices.ensures.count ∙ ap length c.deref-4.ensures.value)
-    (subst (λ (l : List (List Rect)). AreMosZones d (downward_cell d job) (formulas read) r.devices l) (sym same_too)
-    (subst (λ (l : List MosRule). AreMosZones d (downward_cell d job) (formulas read) l c.in_ok-devices.devices.items) c.deref-4.ensures.value
-    (c.in_ok-devices.ensures.zones d (downward_cell d job) (formulas read) (subst (AreNameZones d (downward_cell d job) (formulas read)) (sym c.deref-3.ensures.value) zones))))
+    (subst (λ (l : List (List Rect)). AreDeviceZones d (downward_cell d job) (formulas read) (device_names r) l) (sym same_too)
+    (c.in_ok-devices.ensures.zones d (downward_cell d job) (formulas read) (subst (AreNameZones d (downward_cell d job) (formulas read)) (sym c.deref-3.ensures.value) zones)))
     (subst (λ (l : List (List Rect)). All IsCanonical l) (sym same_too) c.in_ok-devices.ensures.canonical))
