@@ -1,5 +1,5 @@
 -- The transistors of good gates, one after the other.
-use Rattle.std.proofs.Common.{◌≡◌, ℕ, zero, suc, ◌+◌, ◌<◌, List, [], ◌∷◌, ◌++◌, append_assoc, Some, flat_map, map, take, slice_get, get_or, length, refl, sym, ◌∙◌, ap, subst}
+use Rattle.std.proofs.Common.{◌≡◌, ℕ, zero, suc, ◌+◌, ◌<◌, List, [], ◌∷◌, ◌++◌, append_assoc, Some, flat_map, map, take, slice_get, get_or, length, refl, sym, ◌∙◌, ap, subst, arith}
 use Rattle.std.proofs.Math.Seq.{take-length}
 use Rattle.std.proofs.lemmas.Grind.{flat_map-append}
 use Rattle.std.proofs.lemmas.List.{map-append, take_more}
@@ -10,9 +10,8 @@ use Rattle.flat_layout.specs.Gates.{Rule}
 use Rattle.flat_layout.specs.GateTables.{Bad, GateEntry, GateRow, GateSquare, Good, GoodGate, Verdict, good_gates, terminal_net, with_good}
 use Rattle.plain_netlist.specs.Netlist.{Circuit, DeviceRow, on}
 use Rattle.plain_netlist.specs.Normal.{AreNumbered, terminal_nets}
-use Rattle.rule_layers.specs.Meaning.{device_rule, device_rules}
-use Rattle.rule_text.specs.Rules.{Rules, no_rules}
-use Rattle.rule_text.specs.declared.rules.MosRule.{MosRule}
+use Rattle.rule_layers.specs.Meaning.{device_rules}
+use Rattle.rule_text.specs.Rules.{Rules}
 use Rattle.circuit_phase.specs.Devices.{AddDevices, AreDevicesOf}
 use Rattle.circuit_phase.specs.Numbering.{AreKept, with_net}
 use Rattle.circuit_phase.proofs.Counting.{kept, kept_in}
@@ -22,13 +21,11 @@ pub all_kept : (old new : List ℕ) (a b c d : ℕ) → new ≡ with_net (with_n
 all_kept old new a b c d is i x h =
     kept_in (with_net (with_net (with_net old a) b) c) new d i x is (kept (with_net (with_net old a) b) c i x (kept (with_net old a) b i x (kept old a i x h)))
 
-pub rule_at : (r : Rules) (rules : List MosRule) (n : ℕ) (m : MosRule) → r.devices ≡ rules → slice_get rules n ≡ Some m → slice_get (device_rules r) n ≡ Some (device_rule r m)
-rule_at r rules n m is h = at r.devices n (subst (λ (l : List MosRule). slice_get l n ≡ Some m) (sym is) h)
-  where
-    at : (l : List MosRule) (k : ℕ) → slice_get l k ≡ Some m → slice_get (map (device_rule r) l) k ≡ Some (device_rule r m)
-    at [] k h = let z : ⊥ = cc in absurd z
-    at (x ∷ l) zero h = let e : x ≡ m = cc in ap (λ (y : MosRule). Some (device_rule r y)) e
-    at (x ∷ l) (suc k) h = at l k h
+-- a list has an item at each place
+pub some_at : {A : Type 0} (xs : List A) (n : ℕ) → n < length xs → (x : A) × (slice_get xs n ≡ Some x)
+some_at [] n lt = absurd (let z : ⊥ = omega (arith, lt) in z)
+some_at (x ∷ xs) zero lt = (x, refl)
+some_at (x ∷ xs) (suc n) lt = some_at xs n (omega (arith, lt))
 
 pub good_added : (rules : List Rule) (unit : ℕ) (e : GateEntry) (row : GateRow) (old new : List ℕ) (before after : List DeviceRow) (dev : DeviceRow) → e.verdict ≡ Good row → AreKept old new → after ≡ before ++ dev ∷ []
     → IsDeviceOfGate rules unit new (record { at = e.at; row = row }) dev → AreNumbered (length new) (length old) (terminal_nets dev) → AddDevices rules unit (e ∷ []) old new before after
@@ -75,31 +72,31 @@ add_on rules unit gates more old mid new before rows after h g = record {
 }
 
 -- after n gates
-pub record AreDevicesTo (rules : List MosRule) (unit size : ℕ) (old : List ℕ) (gates : List Gate) (count : ℕ) (nets : List ℕ) (n : ℕ) (rows : List DeviceRow) : Type 0 where
+pub record AreDevicesTo (r : Rules) (unit size : ℕ) (old : List ℕ) (gates : List Gate) (count : ℕ) (nets : List ℕ) (n : ℕ) (rows : List DeviceRow) : Type 0 where
   pub same : count ≡ size
-  pub are : (r : Rules) → r.devices ≡ rules → AddDevices (device_rules r) unit (map plain_gate (take n gates)) old nets [] rows
+  pub are : AddDevices (device_rules r) unit (map plain_gate (take n gates)) old nets [] rows
 
-pub no_devices : (rules : List MosRule) (unit size : ℕ) (old : List ℕ) (gates : List Gate) → AreDevicesTo rules unit size old gates size old 0 []
-no_devices rules unit size old gates = record { same = refl; are = λ r is. record { kept = λ i x h. h; added = []; rows = refl; devices = tt; numbered = refl } }
+pub no_devices : (r : Rules) (unit size : ℕ) (old : List ℕ) (gates : List Gate) → AreDevicesTo r unit size old gates size old 0 []
+no_devices r unit size old gates = record { same = refl; are = record { kept = λ i x h. h; added = []; rows = refl; devices = tt; numbered = refl } }
 
-pub one_gate : (rules : List MosRule) (unit size : ℕ) (old : List ℕ) (gates : List Gate) (count more : ℕ) (mid new : List ℕ) (n : ℕ) (gate : Gate) (rows after : List DeviceRow) → n < length gates → gate ≡ get_or gates n gate → more ≡ count
-    → ((r : Rules) → r.devices ≡ rules → AddDevices (device_rules r) unit (plain_gate gate ∷ []) mid new rows after) → AreDevicesTo rules unit size old gates count mid n rows → AreDevicesTo rules unit size old gates more new (n + 1) after
-one_gate rules unit size old gates count more mid new n gate rows after lt is same added h = record {
+pub one_gate : (r : Rules) (unit size : ℕ) (old : List ℕ) (gates : List Gate) (count more : ℕ) (mid new : List ℕ) (n : ℕ) (gate : Gate) (rows after : List DeviceRow) → n < length gates → gate ≡ get_or gates n gate → more ≡ count
+    → AddDevices (device_rules r) unit (plain_gate gate ∷ []) mid new rows after → AreDevicesTo r unit size old gates count mid n rows → AreDevicesTo r unit size old gates more new (n + 1) after
+one_gate r unit size old gates count more mid new n gate rows after lt is same added h = record {
   same = same ∙ h.same;
-  are = λ r e.
+  are =
       let first = take n gates in
       let split : take (n + 1) gates ≡ first ++ gate ∷ [] = take_more gates n gate lt ∙ ap (λ (g : Gate). first ++ g ∷ []) (sym is) in
       let mapped = ap (λ (l : List Gate). map plain_gate l) split ∙ map-append plain_gate first (gate ∷ []) in
       subst (λ (l : List GateEntry). AddDevices (device_rules r) unit l old new [] after) (sym mapped)
-      (add_on (device_rules r) unit (map plain_gate first) (plain_gate gate ∷ []) old mid new [] rows after (h.are r e) (added r e));
+      (add_on (device_rules r) unit (map plain_gate first) (plain_gate gate ∷ []) old mid new [] rows after h.are added);
 }
 
-pub end_kept : (rules : List MosRule) (unit size : ℕ) (old : List ℕ) (gates : List Gate) (count : ℕ) (nets : List ℕ) (n : ℕ) (rows : List DeviceRow) → AreDevicesTo rules unit size old gates count nets n rows → AreKept old nets
-end_kept rules unit size old gates count nets n rows h = (h.are (record no_rules { devices = rules }) refl).kept
+pub end_kept : (r : Rules) (unit size : ℕ) (old : List ℕ) (gates : List Gate) (count : ℕ) (nets : List ℕ) (n : ℕ) (rows : List DeviceRow) → AreDevicesTo r unit size old gates count nets n rows → AreKept old nets
+end_kept r unit size old gates count nets n rows h = h.are.kept
 
-pub end_numbered : (rules : List MosRule) (unit size : ℕ) (old : List ℕ) (gates : List Gate) (count : ℕ) (nets : List ℕ) (n : ℕ) (rows : List DeviceRow) → AreDevicesTo rules unit size old gates count nets n rows → AreNumbered (length nets) (length old) (flat_map terminal_nets rows)
-end_numbered rules unit size old gates count nets n rows h =
-    let a = h.are (record no_rules { devices = rules }) refl in
+pub end_numbered : (r : Rules) (unit size : ℕ) (old : List ℕ) (gates : List Gate) (count : ℕ) (nets : List ℕ) (n : ℕ) (rows : List DeviceRow) → AreDevicesTo r unit size old gates count nets n rows → AreNumbered (length nets) (length old) (flat_map terminal_nets rows)
+end_numbered r unit size old gates count nets n rows h =
+    let a = h.are in
     subst (λ (l : List DeviceRow). AreNumbered (length nets) (length old) (flat_map terminal_nets l)) (sym a.rows) a.numbered
 
 devices_long : (rules : List Rule) (unit : ℕ) (nets : List ℕ) (gates : List GoodGate) (rows : List DeviceRow) → AreDevicesOf rules unit nets gates rows → length rows ≡ length gates
@@ -117,11 +114,11 @@ devices_each rules unit nets (x ∷ gates) (y ∷ rows) h zero gate row g f =
     subst (λ (z : GoodGate). IsDeviceOfGate rules unit nets z row) e (subst (λ (z : DeviceRow). IsDeviceOfGate rules unit nets x z) k h.0)
 devices_each rules unit nets (x ∷ gates) (y ∷ rows) h (suc i) gate row g f = devices_each rules unit nets gates rows h.1 i gate row g f
 
-pub end_devices : (rules : List MosRule) (unit size : ℕ) (old : List ℕ) (gates : List Gate) (count : ℕ) (nets : List ℕ) (n : ℕ) (rows : List DeviceRow) → n ≡ length gates → AreDevicesTo rules unit size old gates count nets n rows
-    → (r : Rules) (c : Circuit) → r.devices ≡ rules → c.devices ≡ rows → AreCircuitDevices (device_rules r) unit (map plain_gate gates) nets c
-end_devices rules unit size old gates count nets n rows e h r c is has =
+pub end_devices : (r : Rules) (unit size : ℕ) (old : List ℕ) (gates : List Gate) (count : ℕ) (nets : List ℕ) (n : ℕ) (rows : List DeviceRow) → n ≡ length gates → AreDevicesTo r unit size old gates count nets n rows
+    → (c : Circuit) → c.devices ≡ rows → AreCircuitDevices (device_rules r) unit (map plain_gate gates) nets c
+end_devices r unit size old gates count nets n rows e h c has =
     let all = ap (λ (k : ℕ). take k gates) e ∙ take-length gates in
-    let a = subst (λ (l : List Gate). AddDevices (device_rules r) unit (map plain_gate l) old nets [] rows) all (h.are r is) in
+    let a = subst (λ (l : List Gate). AddDevices (device_rules r) unit (map plain_gate l) old nets [] rows) all h.are in
     let are = subst (λ (l : List DeviceRow). AreDevicesOf (device_rules r) unit nets (good_gates (map plain_gate gates)) l) (sym (has ∙ a.rows)) a.devices in
     record {
       count = devices_long (device_rules r) unit nets (good_gates (map plain_gate gates)) c.devices are;

@@ -14,4 +14,5 @@ pub mod Marked
 pub mod Naming
 pub mod Numbers
 pub mod Righting
+pub mod Ruled
 pub mod Series

@@ -35,7 +35,7 @@ use Rattle.net_phase.specs.Graph.{AreBelowJobs}
 use Rattle.plain_netlist.proofs.Members.{listed, map_at}
 use Rattle.plain_netlist.specs.Lists.{IsListed}
 use Rattle.plain_netlist.specs.Netlist.{Circuit}
-use Rattle.rule_layers.specs.Meaning.{device_rule, device_rules, wiring_of}
+use Rattle.rule_layers.specs.Meaning.{device_rules, wiring_of}
 use Rattle.rule_text.specs.Rules.{Rules}
 use Rattle.table_laws.proofs.Drawing.{read_drawn}
 use Rattle.table_laws.proofs.Tabled.{leads_both, reached_under}
@@ -170,13 +170,11 @@ module _ (d : Linked) (r : Rules) (unit : ℕ) (nets : List (Option CellNets)) (
       let lt = terminals (plain d) (wiring_of r) s (device_rules r) (λ c. map plain_gate l) cell x nets_right rows has in
       subst (λ o. x < (nets_in o).count) e lt
 
-  pub rules_in : (l : List Gate) (n : ℕ) → list_of (entry gates cell) ≡ Some l → length r.devices ≡ n → (i : ℕ) (gate : Gate) → slice_get l i ≡ Some gate → gate.device < n
-  rules_in l n f e i gate there =
+  pub rules_in : (l : List Gate) → list_of (entry gates cell) ≡ Some l → (i : ℕ) (gate : Gate) → slice_get l i ≡ Some gate → gate.device < length (device_rules r)
+  rules_in l f i gate there =
       let rows : flat_gates.AreGates (plain d) (wiring_of r) s (device_rules r) cell (map plain_gate l) = subst (λ m. flat_gates.AreGates (plain d) (wiring_of r) s (device_rules r) cell m) (gates_read gates cell l f) (at.sources.1.gates_right cell reached) in
       let row = rows.each (plain_gate gate) (listed (map plain_gate l) i (plain_gate gate) (map_at plain_gate l i gate there)) in
-      let lt = slice_get_within (device_rules r) gate.device row.rule row.is in
-      let long = length-map r.devices (device_rule r) in
-      omega (arith, lt, long, e)
+      slice_get_within (device_rules r) gate.device row.rule row.is
 
   pub pin_counts : (v : CellNets) (u : CellPins) → entry nets cell ≡ Some v → entry pins cell ≡ Some u → (length u.pin.items ≡ v.count) × (length u.names.items ≡ v.count)
   pin_counts v u e f =

@@ -1,4 +1,4 @@
--- Transistors of good gates.
+-- Devices of good gates.
 use Rattle.std.specs.Prelude.{◌≡◌, ℕ, List, [], ◌∷◌, ◌++◌, length, flat_map}
 use Rattle.flat_layout.specs.Circuits.{IsDeviceOfGate}
 use Rattle.flat_layout.specs.Gates.{Rule}
@@ -19,7 +19,7 @@ gate_row twice_w twice_l nets = record {
   bulk = nets.bulk;
 }
 
--- each gate's transistor, in order
+-- each gate's device, in order
 abbrev pub AreDevicesOf : List Rule → ℕ → List ℕ → List GoodGate → List DeviceRow → Type 0
 AreDevicesOf rules unit nets [] [] = Unit {0}
 AreDevicesOf rules unit nets [] (row ∷ rows) = ⊥
@@ -27,7 +27,7 @@ AreDevicesOf rules unit nets (gate ∷ gates) [] = ⊥
 AreDevicesOf rules unit nets (gate ∷ gates) (row ∷ rows) =
     IsDeviceOfGate rules unit nets gate row × AreDevicesOf rules unit nets gates rows
 
--- the transistors of the good ones of these gates were added, over nets that were numbered on
+-- the devices of the good ones of these gates were added, over nets that were numbered on
 pub record AddDevices (rules : List Rule) (unit : ℕ) (gates : List GateEntry)
     (old new : List ℕ) (before after : List DeviceRow) : Type 0 where
   pub kept : AreKept old new

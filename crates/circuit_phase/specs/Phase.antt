@@ -1,5 +1,5 @@
 -- What a phase of circuits is made from.
-use Rattle.std.specs.Prelude.{◌≡◌, ◌≤◌, ℕ, List, Option, length}
+use Rattle.std.specs.Prelude.{◌≡◌, ℕ, List, Option, length}
 use Rattle.geo_base.specs.declared.shapes.Rect.{Rect}
 use Rattle.cell_graph.specs.Linked.{Linked, height_at, plain}
 use Rattle.deep_tables.specs.Circuits.{AreCircuitSources}

@@ -12,7 +12,7 @@ ghost use Rattle.flat_layout.specs.Pins.{HasGate};
 ghost use Rattle.geo_base.specs.declared.shapes.Rect.{Rect};
 ghost use Rattle.net_model.specs.Rows.{plain_circuit};
 ghost use Rattle.rule_layers.specs.Meaning.{device_rules};
-ghost use Rattle.rule_text.specs.Rules.{Rules};
+ghost use Rattle.rule_text.specs.Seen.{rules_seen};
 ghost use Rattle.circuit_phase.specs.Made.{IsMadeOf, IsMadeOr};
 ghost use Rattle.circuit_phase.specs.Placed.{AreNetsOver, placed_cells, tables_with};
 
@@ -26,7 +26,7 @@ use deep_tables::{CellNets, CellPins, Gate};
 use list_base::number;
 use net_model::Circuit;
 use net_names::Name;
-use rule_text::MosRule;
+use rule_text::RuleSet;
 use std::alloc::{AllocError, Global};
 
 /// What is known of a cell: its nets, its gates, its pins, the device rules, and the database unit
@@ -36,7 +36,7 @@ pub struct CellParts<'a> {
     pub nets: &'a CellNets,
     pub gates: &'a [Gate],
     pub pins: &'a CellPins,
-    pub rules: &'a [MosRule],
+    pub rules: &'a RuleSet,
     pub unit_pm: u32,
 }
 
@@ -68,12 +68,11 @@ pub fn cell_circuit<P: Placed>(
     requires pin_count { length parts.now.pins.now.pin.items ≡ parts.now.nets.now.count }
     requires name_count { length parts.now.pins.now.names.items ≡ parts.now.nets.now.count }
     requires rules { (i : ℕ) (gate : Gate) → slice_get parts.now.gates.now i ≡ Some gate
-        → gate.device < length parts.now.rules.now }
+        → gate.device < length (device_rules (rules_seen parts.now.rules.now)) }
     ensures name { IfOk result (λ c. c.name ≡ name) }
-    ensures made { IfOk result (λ c. (r : Rules) → r.devices ≡ parts.now.rules.now
-        → IsMadeOf (P.design placed.now) (P.nets placed.now) (P.pins placed.now)
+    ensures made { IfOk result (λ c. IsMadeOf (P.design placed.now) (P.nets placed.now) (P.pins placed.now)
         (P.drawn placed.now) (P.circuits placed.now) cell (map plain_gate parts.now.gates.now)
-        drawn.now (device_rules r) parts.now.unit_pm (plain_circuit c)) }
+        drawn.now (device_rules (rules_seen parts.now.rules.now)) parts.now.unit_pm (plain_circuit c)) }
 {
     number(drawn.len())?;
     let mut numbering = Numbering::new(alloc, parts.nets.count)?;
@@ -126,12 +125,11 @@ pub fn circuit_or_none<P: Placed>(
     requires pin_count { length parts.now.pins.now.pin.items ≡ parts.now.nets.now.count }
     requires name_count { length parts.now.pins.now.names.items ≡ parts.now.nets.now.count }
     requires rules { (i : ℕ) (gate : Gate) → slice_get parts.now.gates.now i ≡ Some gate
-        → gate.device < length parts.now.rules.now }
+        → gate.device < length (device_rules (rules_seen parts.now.rules.now)) }
     requires names { (n : ℕ) → number ≡ Some n → n < length names.now }
-    ensures { IfOk result (λ o. (r : Rules) → r.devices ≡ parts.now.rules.now
-        → IsMadeOr (P.design placed.now) (P.nets placed.now) (P.pins placed.now)
+    ensures { IfOk result (λ o. IsMadeOr (P.design placed.now) (P.nets placed.now) (P.pins placed.now)
         (P.drawn placed.now) (P.circuits placed.now) cell (map plain_gate parts.now.gates.now)
-        drawn.now (device_rules r) parts.now.unit_pm names.now number (plain_or_none o)) }
+        drawn.now (device_rules (rules_seen parts.now.rules.now)) parts.now.unit_pm names.now number (plain_or_none o)) }
 {
     let n = match number {
         None => return Ok(None),

@@ -134,7 +134,7 @@ impl Phase for CircuitPhase<'_> {
             nets: self.nets.of(cell),
             gates: self.gates.of(cell),
             pins: self.pins.of(cell),
-            rules: &self.rules.devices,
+            rules: self.rules,
             unit_pm: self.unit_pm,
         };
         let number = number_of(&self.circuits.cells, &self.circuits.numbers, cell);

@@ -8,7 +8,7 @@ use Rattle.flat_layout.specs.Pins.{CellPins}
 use Rattle.net_model.specs.Rows.{plain_call, plain_device}
 use Rattle.plain_netlist.specs.Netlist.{Circuit}
 use Rattle.rule_layers.specs.Meaning.{device_rules}
-use Rattle.rule_text.specs.Rules.{no_rules}
+use Rattle.rule_text.specs.Seen.{rules_seen}
 use Rattle.circuit_phase.specs.Numbering.{AreNumbersOf}
 use Rattle.circuit_phase.proofs.Assembling.{all_drawn, made_of}
 use Rattle.net_marks.proofs.Poles.{gate_of}
@@ -60,14 +60,14 @@ circuit_net_names-requires-clause-drawn g c =
     let numbers = c.in_ok-pins.pins.items in
     let lead : AreNumbersOf [] first (pin_nets (g.P.Placed.pins p cell) marks) numbers = subst (λ (u : CellPins). AreNumbersOf [] first (pin_nets u marks) numbers) (sym c.requires.pins)
     (subst (λ (z : List ℕ). AreNumbersOf [] first z numbers) (c.deref.ensures.value ∙ c.in_ok-first.ensures) (subst (λ (z : List ℕ). AreNumbersOf z first c.deref.result.now numbers) c.in_ok-numbering.ensures.nets c.in_ok-pins.ensures.numbers)) in
-    let r = record no_rules { devices = parts.rules.now } in
+    let r = rules_seen parts.rules.now in
     let x : Circuit = record { name = []; nets = []; pins = numbers; devices = map plain_device c.in_ok-devices.devices.items; calls = map plain_call c.in_ok-calls.calls.items } in
     let all = all_drawn (g.P.Placed.design p) (g.P.Placed.wiring p) (g.P.Placed.nets p) (g.P.Placed.pins p) (g.P.Placed.drawn p) (g.P.Placed.circuits p) cell (plain_nets parts.nets.now) (map plain_gate parts.gates.now) marks (device_rules r) parts.unit_pm
-    c.requires.drawn c.requires.nets c.requires.right c.requires.terminals (length c.args.cells.now) first c.device_rows.new.numbering.nets new numbers x lead refl c.in_ok-devices.ensures.kept (c.in_ok-devices.ensures.devices r x refl refl) c.in_ok-devices.ensures.numbered c.in_ok-calls.ensures.calls in
+    c.requires.drawn c.requires.nets c.requires.right c.requires.terminals (length c.args.cells.now) first c.device_rows.new.numbering.nets new numbers x lead refl c.in_ok-devices.ensures.kept (c.in_ok-devices.ensures.devices x refl) c.in_ok-devices.ensures.numbered c.in_ok-calls.ensures.calls in
     subst (λ (l : List ℕ). (i y : ℕ) → slice_get l i ≡ Some y → slice_get marks y ≡ Some true) (sym (c.deref-2.ensures.value ∙ c.into_nets-on.ensures.nets)) all
 
 pub returns-clause-made : goal.returns-clause-made
-returns-clause-made g c = λ r is.
+returns-clause-made g c =
     let p = c.args.placed.now in
     let parts = c.args.parts.now in
     let marks = c.args.drawn.now in
@@ -77,11 +77,12 @@ returns-clause-made g c = λ r is.
     let numbers = c.in_ok-pins.pins.items in
     let lead : AreNumbersOf [] first (pin_nets (g.P.Placed.pins p cell) marks) numbers = subst (λ (u : CellPins). AreNumbersOf [] first (pin_nets u marks) numbers) (sym c.requires.pins)
     (subst (λ (z : List ℕ). AreNumbersOf [] first z numbers) (c.deref.ensures.value ∙ c.in_ok-first.ensures) (subst (λ (z : List ℕ). AreNumbersOf z first c.deref.result.now numbers) c.in_ok-numbering.ensures.nets c.in_ok-pins.ensures.numbers)) in
+    let r = rules_seen parts.rules.now in
     let names : List (List ℕ) = c.in_ok-nets.nets.items in
     let x : Circuit = record { name = c.args.name; nets = names; pins = numbers; devices = map plain_device c.in_ok-devices.devices.items; calls = map plain_call c.in_ok-calls.calls.items } in
     let e = c.deref-2.ensures.value ∙ c.into_nets-on.ensures.nets in
     let named = subst (λ (u : CellPins). (a k y : ℕ) → slice_get new a ≡ Some y → slice_get (drawn_nets marks) k ≡ Some y → slice_get names a ≡ slice_get (drawn_names u marks) k) (sym c.requires.pins)
     (subst (λ (l : List ℕ). (a k y : ℕ) → slice_get l a ≡ Some y → slice_get (drawn_nets marks) k ≡ Some y → slice_get names a ≡ slice_get (drawn_names (plain_pins parts.pins.now) marks) k) e c.in_ok-nets.ensures.named) in
     made_of (g.P.Placed.design p) (g.P.Placed.wiring p) (g.P.Placed.nets p) (g.P.Placed.pins p) (g.P.Placed.drawn p) (g.P.Placed.circuits p) cell (plain_nets parts.nets.now) (map plain_gate parts.gates.now) marks (device_rules r) parts.unit_pm
-    c.requires.drawn c.requires.nets c.requires.right c.requires.terminals (length c.args.cells.now) first c.device_rows.new.numbering.nets new numbers x (ap (λ (l : List ℕ). length l) c.requires.cells) lead refl c.in_ok-devices.ensures.kept (c.in_ok-devices.ensures.devices r x is refl) c.in_ok-devices.ensures.numbered c.in_ok-calls.ensures.calls
+    c.requires.drawn c.requires.nets c.requires.right c.requires.terminals (length c.args.cells.now) first c.device_rows.new.numbering.nets new numbers x (ap (λ (l : List ℕ). length l) c.requires.cells) lead refl c.in_ok-devices.ensures.kept (c.in_ok-devices.ensures.devices x refl) c.in_ok-devices.ensures.numbered c.in_ok-calls.ensures.calls
     c.into_nets-on.ensures.apart (c.in_ok-nets.ensures.count ∙ ap (λ (l : List ℕ). length l) e) named

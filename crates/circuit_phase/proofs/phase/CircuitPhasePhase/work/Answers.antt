@@ -1,4 +1,4 @@
-use Rattle.std.proofs.Common.{◌∙◌, ℕ, Bool, List, ap, get_or, length, map, subst, sym}
+use Rattle.std.proofs.Common.{◌∙◌, ℕ, Bool, List, ap, get_or, map, subst, sym}
 use Rattle.cell_graph.specs.Linked.{plain}
 use Rattle.deep_tables.specs.Circuits.{IsCellCircuit, plain_or_none}
 use Rattle.deep_tables.specs.Entries.{upward_cell}
@@ -62,7 +62,7 @@ pub circuit_or_none-requires-clause-drawn : goal.circuit_or_none-requires-clause
 circuit_or_none-requires-clause-drawn g c =
     let a = c.self.inside in
     let cell = get_or c.order.result.now c.args.job 0 in
-    λ own. subst (λ (m : List Bool). AreDrawn (plain a.design.now) (tables_with own (nets_at a.nets.now)) (λ x. map plain_gate c.of-2.result.now) (pins_of a.pins.now) (drawn_by (g.R.Reads.value c.args.reads.now) c.deref.result.now) cell m) (sym c.deref-9.ensures.value) (c.in_ok-drawn.ensures own)
+    λ own. subst (λ (m : List Bool). AreDrawn (plain a.design.now) (tables_with own (nets_at a.nets.now)) (λ x. map plain_gate c.of-2.result.now) (pins_of a.pins.now) (drawn_by (g.R.Reads.value c.args.reads.now) c.deref.result.now) cell m) (sym c.deref-8.ensures.value) (c.in_ok-drawn.ensures own)
 
 pub circuit_or_none-requires-clause-name_count : goal.circuit_or_none-requires-clause-name_count
 circuit_or_none-requires-clause-name_count g c =
@@ -76,13 +76,13 @@ circuit_or_none-requires-clause-rules g c =
     let a = c.self.inside in
     let cell = get_or c.order.result.now c.args.job 0 in
     let at = at_work a c.self.invariant c.args.self.now c.self.view_is c.sound.ensures c.args.job cell c.requires.job (ap (λ (l : List ℕ). get_or l c.args.job 0) c.order.ensures) c.deref-2.result.now c.deref-3.result.now c.deref.result.now c.deref-2.ensures.value c.deref-3.ensures.value c.deref.ensures.value (g.R.Reads.may_read c.args.reads.now) (g.R.Reads.value c.args.reads.now) c.requires.inputs c.requires.right in
-    rules_in a.design.now (rules_seen a.rules.now) a.unit_pm a.nets.now a.gates.now a.pins.now c.deref-2.result.now c.deref-3.result.now c.deref.result.now a.graph c.args.job cell (g.R.Reads.may_read c.args.reads.now) (g.R.Reads.value c.args.reads.now) at c.of-2.result.now (length c.deref-4.result.now) c.of-2.ensures (sym (ap length c.deref-4.ensures.value))
+    rules_in a.design.now (rules_seen a.rules.now) a.unit_pm a.nets.now a.gates.now a.pins.now c.deref-2.result.now c.deref-3.result.now c.deref.result.now a.graph c.args.job cell (g.R.Reads.may_read c.args.reads.now) (g.R.Reads.value c.args.reads.now) at c.of-2.result.now c.of-2.ensures
 
 pub circuit_or_none-requires-clause-names : goal.circuit_or_none-requires-clause-names
 circuit_or_none-requires-clause-names g c =
     let a = c.self.inside in
     let cell = get_or c.order.result.now c.args.job 0 in
-    name_in (plain a.design.now) a.circuits.cells.items c.deref-5.result.now c.deref-10.result.now cell c.number_of-number.result c.deref-5.ensures.value (c.deref-10.ensures.value ∙ c.self.invariant.names) c.number_of-number.ensures
+    name_in (plain a.design.now) a.circuits.cells.items c.deref-4.result.now c.deref-9.result.now cell c.number_of-number.result c.deref-4.ensures.value (c.deref-9.ensures.value ∙ c.self.invariant.names) c.number_of-number.ensures
 
 pub returns : goal.returns
 returns g c =
@@ -95,11 +95,11 @@ returns g c =
     let l = c.of-2.result.now in
     let v : CellCircuit = record { circuit = c.in_ok-circuit.circuit; drawn = c.in_ok-drawn.drawn } in
     let number = c.number_of-number.result in
-    let numbered = subst (λ (x : List ℕ). IsNumberOf x cell number) (c.deref-5.ensures.value ∙ sym c.deref-2.ensures.value) c.number_of-number.ensures in
-    let names = c.deref-10.ensures.value ∙ c.self.invariant.names ∙ sym (ap (cell_circuit_names (plain d)) c.deref-2.ensures.value) in
+    let numbered = subst (λ (x : List ℕ). IsNumberOf x cell number) (c.deref-4.ensures.value ∙ sym c.deref-2.ensures.value) c.number_of-number.ensures in
+    let names = c.deref-9.ensures.value ∙ c.self.invariant.names ∙ sym (ap (cell_circuit_names (plain d)) c.deref-2.ensures.value) in
     let made = subst (λ (x : List (List ℕ)). IsMadeOr (plain d) (nets_at a.nets.now) (pins_of a.pins.now) read c.deref-2.result.now cell (map plain_gate l) c.in_ok-drawn.drawn.items (device_rules r) a.unit_pm x number (plain_or_none c.in_ok-circuit.circuit)) names
-    (subst (λ (m : List Bool). IsMadeOr (plain d) (nets_at a.nets.now) (pins_of a.pins.now) read c.deref-2.result.now cell (map plain_gate l) m (device_rules r) a.unit_pm c.deref-10.result.now number (plain_or_none c.in_ok-circuit.circuit)) c.deref-9.ensures.value
-    (c.in_ok-circuit.ensures r (sym c.deref-4.ensures.value))) in
+    (subst (λ (m : List Bool). IsMadeOr (plain d) (nets_at a.nets.now) (pins_of a.pins.now) read c.deref-2.result.now cell (map plain_gate l) m (device_rules r) a.unit_pm c.deref-9.result.now number (plain_or_none c.in_ok-circuit.circuit)) c.deref-8.ensures.value
+    c.in_ok-circuit.ensures) in
     let right = cell_right a.design.now (rules_seen a.rules.now) a.unit_pm a.nets.now a.gates.now a.pins.now c.deref-2.result.now c.deref-3.result.now c.deref.result.now a.graph c.args.job cell (g.R.Reads.may_read c.args.reads.now) (g.R.Reads.value c.args.reads.now) at l number v c.of-2.ensures numbered c.in_ok-drawn.ensures made in
     subst (λ (z : CircuitJobs). IsCellCircuit z.unit (plain z.design) (rules_seen z.rules) (upward_cell z.design c.args.job) v) c.self.view_is
     (subst (λ e. IsCellCircuit a.unit_pm (plain d) r e v) (ap (λ (x : List ℕ). get_or x c.args.job 0) c.order.ensures) right)
