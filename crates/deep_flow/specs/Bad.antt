@@ -1,5 +1,6 @@
 -- The bad gates of a layout, as they are told.
-use Rattle.std.specs.Prelude.{◌≡◌, ◌<◌, ℕ, List, [], ◌∷◌, ◌++◌, Option, Some, get_or, length, map, slice_get}
+use Rattle.std.specs.Prelude.{◌≡◌, ◌<◌, ℕ, List, [], ◌∷◌, ◌++◌, Option, Some, get_or, length, map}
+use Rattle.std.specs.Prelude.{slice_get}
 use Rattle.flat_layout.specs.Gates.{Cause, Groups, OffGate, OffSd, NoBulk, NoLength}
 use Rattle.flat_layout.specs.GateTables.{all_bad_gates, bad_gates}
 use Rattle.flat_layout.specs.GateTables as flat
