@@ -1,5 +1,5 @@
 -- Lists of bad gates, gate by gate and cell by cell.
-use Rattle.std.proofs.Common.{◌≡◌, ◌∙◌, ◌++◌, ◌<◌, ℕ, List, [], ◌∷◌, Option, Some, ap, sym, subst, refl, length, map, option_map, slice_get, get_or, take, ◌+◌, ◌≤◌, arith}
+use Rattle.std.proofs.Common.{◌≡◌, ◌∙◌, ◌++◌, ◌<◌, ℕ, List, [], ◌∷◌, Option, Some, ap, sym, subst, refl, length, length-append, map, option_map, slice_get, get_or, take, ◌+◌, ◌≤◌, arith}
 use Rattle.std.proofs.lemmas.Grind.{flat_map-append}
 use Rattle.std.proofs.lemmas.List.{append-nil, length-map, map-append, take_all, take_more}
 use Rattle.std.proofs.lemmas.Option.{slice_get-map, slice_get_within}
@@ -18,10 +18,11 @@ use Rattle.flat_layout.specs.GateTables as flat
 use Rattle.flat_layout.specs.Layout.{Design, IsReached}
 use Rattle.flat_layout.specs.Nets.{Tables}
 use Rattle.plain_netlist.proofs.Members.{listed}
-use Rattle.rule_layers.specs.Meaning.{device_rule, device_rules, wiring_of}
-use Rattle.rule_text.specs.Rules.{Rules}
+use Rattle.rule_layers.specs.Meaning.{device_rule, device_rules, more_rule, mos_rules, wiring_of}
+use Rattle.rule_text.specs.Rules.{Rules, class_in}
+use Rattle.rule_text.specs.declared.rules.MosRule.{MosRule}
 use Rattle.circuit_phase.proofs.Gating.{gates_read}
-use Rattle.deep_flow.specs.Bad.{HaveRules, told_bad, told_gates, told_of}
+use Rattle.deep_flow.specs.Bad.{HaveRules, device_count, told_bad, told_gates, told_of}
 
 -- what a cell tells
 abbrev pub told_in : Rules → List (Option CellGates) → ℕ → List BadGate
@@ -44,14 +45,23 @@ told_cells r gates (c ∷ cs) =
     ap (λ l. told_in r gates c ++ l) (told_cells r gates cs)
     ∙ sym (map-append (told_bad r) (bad_gates c (gates_of gates c)) (all_bad_gates (gates_of gates) cs))
 
+-- there are as many classes as device rules
+many_rules : (r : Rules) → device_count r ≡ length (device_rules r)
+many_rules r =
+    let rules = length-append (mos_rules r) (map (more_rule r) r.more) in
+    let classes = length-append (map (λ (m : MosRule). m.class) r.devices) (map class_in r.more) in
+    let a = length-map r.devices (device_rule r) in let b = length-map r.more (more_rule r) in
+    let e = length-map r.devices (λ (m : MosRule). m.class) in let f = length-map r.more class_in in
+    omega (arith, rules, classes, a, b, e, f)
+
 -- over right nets each gate of a cell's list has a rule of the rule set
-pub have_rules : (d : Design) (r : Rules) (t : Tables) (table : List (Option CellGates)) (cell : ℕ) (l : List Gate) → AreRightNets d (wiring_of r) t → AreGates d r table → IsReached d cell → list_of (entry table cell) ≡ Some l → HaveRules (length r.devices) l
+pub have_rules : (d : Design) (r : Rules) (t : Tables) (table : List (Option CellGates)) (cell : ℕ) (l : List Gate) → AreRightNets d (wiring_of r) t → AreGates d r table → IsReached d cell → list_of (entry table cell) ≡ Some l → HaveRules (device_count r) l
 have_rules d r t table cell l nets right reached read i x there =
     let all = subst (λ (v : List GateEntry). flat.AreGates d (wiring_of r) t (device_rules r) cell v) (gates_read table cell l read) (right_gates d r t table nets right cell reached) in
     let at : slice_get (map plain_gate l) i ≡ Some (plain_gate x) = slice_get-map plain_gate l i ∙ ap (option_map plain_gate) there in
     let one = all.each (plain_gate x) (listed (map plain_gate l) i (plain_gate x) at) in
     let lt = slice_get_within (device_rules r) x.device one.rule one.is in
-    omega (arith, lt, length-map r.devices (device_rule r))
+    omega (arith, lt, many_rules r)
 
 -- one cell more
 pub told_more : (r : Rules) (gates : List (Option CellGates)) (cells : List ℕ) (n cell : ℕ) (l : List Gate) (old new : List BadGate) → n < length cells → cell ≡ get_or cells n 0 → list_of (entry gates cell) ≡ Some l

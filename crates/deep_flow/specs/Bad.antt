@@ -1,5 +1,6 @@
 -- The bad gates of a layout, as they are told.
-use Rattle.std.specs.Prelude.{◌≡◌, ◌<◌, ℕ, List, [], ◌∷◌, Option, Some, None, map, slice_get}
+use Rattle.std.specs.Prelude.{◌≡◌, ◌<◌, ℕ, List, [], ◌∷◌, ◌++◌, Option, Some, get_or, length, map}
+use Rattle.std.specs.Prelude.{slice_get}
 use Rattle.flat_layout.specs.Gates.{Cause, Groups, OffGate, OffSd, NoBulk, NoLength}
 use Rattle.flat_layout.specs.GateTables.{all_bad_gates, bad_gates}
 use Rattle.flat_layout.specs.GateTables as flat
@@ -9,8 +10,7 @@ use Rattle.deep_tables.specs.declared.gates.CellGates.{CellGates}
 use Rattle.deep_tables.specs.declared.gates.Gate.{Gate}
 use Rattle.deep_tables.specs.declared.gates.GateCause.{GateCause}
 use Rattle.deep_tables.specs.declared.gates.GateCause.TheVariants as told
-use Rattle.rule_text.specs.Rules.{Rules}
-use Rattle.rule_text.specs.declared.rules.MosRule.{MosRule}
+use Rattle.rule_text.specs.Rules.{Rules, class_in}
 
 abbrev pub told_cause : Cause → GateCause
 told_cause (Groups n) = told.Groups n
@@ -19,13 +19,16 @@ told_cause OffSd = told.OffSd
 told_cause NoBulk = told.NoBulk
 told_cause NoLength = told.NoLength
 
-abbrev pub class_in : Option MosRule → List ℕ
-class_in None = []
-class_in (Some m) = m.class
+-- the classes of all device rules, as the rule file writes them: of transistors, then of the others
+abbrev pub classes_of : Rules → List (List ℕ)
+classes_of r = map (λ d. d.class) r.devices ++ map class_in r.more
 
--- the class of a device rule, as the rule file writes it
+abbrev pub device_count : Rules → ℕ
+device_count r = length (classes_of r)
+
+-- the class of a device rule
 abbrev pub class_at : Rules → ℕ → List ℕ
-class_at r n = class_in (slice_get r.devices n)
+class_at r n = get_or (classes_of r) n []
 
 -- cell, class, least square and cause
 abbrev pub told_bad : Rules → flat.BadGate → BadGate

@@ -7,12 +7,36 @@ ghost use Rattle.flat_layout.specs.Nets.{Tables};
 ghost use Rattle.rule_layers.specs.Meaning.{wiring_of};
 ghost use Rattle.rule_text.specs.Seen.{rules_seen};
 ghost use Rattle.std.specs.List.{flat_map};
-ghost use Rattle.deep_flow.specs.Bad.{HaveRules, told_gates, told_of};
+ghost use Rattle.rule_text.specs.Rules.{class_in};
+ghost use Rattle.deep_flow.specs.Bad.{HaveRules, class_at, device_count, told_gates, told_of};
 
 use cell_graph::Design;
 use deep_tables::{BadGate, Gate, GateState, Gates};
-use rule_text::RuleSet;
+use net_names::Name;
+use rule_text::{MoreRule, RuleSet};
 use std::alloc::{AllocError, Global};
+
+fn further_class(rule: &MoreRule) -> &Name
+    ensures { result.now ≡ class_in rule.now }
+{
+    match rule {
+        MoreRule::Resistor { class, .. } => class,
+        MoreRule::Diode { class, .. } => class,
+    }
+}
+
+// The class of a device rule, as the rule file writes it.
+fn class_at(rules: &RuleSet, device: u32) -> &Name
+    requires { device < device_count (rules_seen rules.now) }
+    ensures { result.now ≡ class_at (rules_seen rules.now) device }
+{
+    let at = device as usize;
+    let count = rules.devices.len();
+    if at < count {
+        return &rules.devices[at].class;
+    }
+    further_class(&rules.more[at - count])
+}
 
 // Adds a gate of the cell where it is bad.
 fn push_bad(
@@ -22,17 +46,17 @@ fn push_bad(
     rules: &RuleSet,
     bad: &mut Vec<BadGate>,
 ) -> Result<(), AllocError>
-    requires { gate.now.device < length rules.now.devices.items }
+    requires { gate.now.device < device_count (rules_seen rules.now) }
     ensures { OnOk result (bad.new.items
         ≡ bad.old.items ++ told_of (rules_seen rules.now) cell gate.now) }
 {
     let GateState::Bad(cause) = gate.state else {
         return Ok(());
     };
-    let rule = &rules.devices[gate.device as usize];
+    let class = class_at(rules, gate.device);
     bad.push(BadGate {
         cell,
-        class: rule.class.try_clone(alloc)?,
+        class: class.try_clone(alloc)?,
         least: gate.least,
         cause,
     })?;
@@ -47,7 +71,7 @@ fn push_cell(
     rules: &RuleSet,
     bad: &mut Vec<BadGate>,
 ) -> Result<(), AllocError>
-    requires { HaveRules (length rules.now.devices.items) gates.now }
+    requires { HaveRules (device_count (rules_seen rules.now)) gates.now }
     ensures { OnOk result (bad.new.items
         ≡ bad.old.items ++ flat_map (told_of (rules_seen rules.now) cell) gates.now) }
 {

@@ -1,7 +1,7 @@
-//! Gates of transistors, cell by cell.
+//! Gates of transistors and regions of further devices, cell by cell.
 ghost use Rattle.std.specs.Prelude.{◌≤◌, IfOk};
 ghost use Rattle.cell_graph.specs.Linked.{plain};
-ghost use Rattle.deep_tables.specs.Gates.{AreGates, gates_of};
+ghost use Rattle.deep_tables.specs.Gates.{AreGates, AreMosGates, gates_of};
 ghost use Rattle.deep_tables.specs.Layers.{AreLayers};
 ghost use Rattle.deep_tables.specs.Nets.{AreNets, AreRightNets, tables_of};
 ghost use Rattle.deep_tables.specs.Zones.{AreZones};
@@ -16,6 +16,7 @@ use cell_graph::Design;
 use deep_tables::{Gates, Layers, Nets, Zones};
 use gate_phase::GatePhase;
 use job_board::{Gate, run_phase};
+use more_devices::MorePhase;
 use rule_text::RuleSet;
 use std::alloc::{AllocError, Global};
 use std::sync::Wait;
@@ -29,9 +30,66 @@ pub struct Gated {
     pub gates: Gates,
 }
 
-/// The gates of each reached cell, over its disturbed squares, layers and nets. A cell is worked
-/// once, by 1 to 64 workers, with one answer for every number of them. An `Err` is want of memory.
+/// The gates of transistors of each reached cell, over its disturbed squares, layers and nets. A
+/// cell is worked once, by 1 to 64 workers, with one answer for every number of them. An `Err` is
+/// want of memory.
 pub fn find_gates<R: Threads + Wait + Sync, G: Gate + Sync>(
+    rt: &R,
+    alloc: Global,
+    design: &Design,
+    rules: &RuleSet,
+    zones: &Zones,
+    layers: &Layers,
+    nets: &Nets,
+    workers: usize,
+    gate: &G,
+) -> Result<Gates, AllocError>
+    requires workers { (1 ≤ workers) × (workers ≤ 64) }
+    requires rules { IsSound (rules_seen rules.now) }
+    requires zones { AreZones (plain design.now) (rules_seen rules.now) zones.now }
+    requires layers { AreLayers (plain design.now) (rules_seen rules.now) layers.now }
+    requires nets { AreNets (plain design.now) (rules_seen rules.now) nets.now }
+    ensures { IfOk result (AreMosGates (plain design.now) (rules_seen rules.now)) }
+{
+    design.sound();
+    let phase = GatePhase::new(alloc, design, rules, zones, layers, nets)?;
+    let results = run_phase(rt, alloc, &phase, workers, gate)?;
+    let gates = Gates::new(alloc, design, results)?;
+    Ok(gates)
+}
+
+/// The devices of each reached cell: the gates of its transistors, as they were found, and behind
+/// them its further devices. A cell is worked once, by 1 to 64 workers, with one answer for every
+/// number of them. An `Err` is want of memory.
+pub fn find_devices<R: Threads + Wait + Sync, G: Gate + Sync>(
+    rt: &R,
+    alloc: Global,
+    design: &Design,
+    rules: &RuleSet,
+    zones: &Zones,
+    layers: &Layers,
+    nets: &Nets,
+    gates: &Gates,
+    workers: usize,
+    gate: &G,
+) -> Result<Gates, AllocError>
+    requires workers { (1 ≤ workers) × (workers ≤ 64) }
+    requires rules { IsSound (rules_seen rules.now) }
+    requires zones { AreZones (plain design.now) (rules_seen rules.now) zones.now }
+    requires layers { AreLayers (plain design.now) (rules_seen rules.now) layers.now }
+    requires nets { AreNets (plain design.now) (rules_seen rules.now) nets.now }
+    requires gates { AreMosGates (plain design.now) (rules_seen rules.now) gates.now }
+    ensures { IfOk result (AreGates (plain design.now) (rules_seen rules.now)) }
+{
+    design.sound();
+    let phase = MorePhase::new(alloc, design, rules, zones, layers, nets, gates)?;
+    let results = run_phase(rt, alloc, &phase, workers, gate)?;
+    let devices = Gates::new(alloc, design, results)?;
+    Ok(devices)
+}
+
+// Both, with what both phases read made once.
+fn all_devices<R: Threads + Wait + Sync, G: Gate + Sync>(
     rt: &R,
     alloc: Global,
     design: &Design,
@@ -53,7 +111,10 @@ pub fn find_gates<R: Threads + Wait + Sync, G: Gate + Sync>(
     let phase = GatePhase::new(alloc, design, rules, zones, layers, nets)?;
     let results = run_phase(rt, alloc, &phase, workers, gate)?;
     let gates = Gates::new(alloc, design, results)?;
-    Ok(gates)
+    let more = MorePhase::over(alloc, phase.into_work(), &gates)?;
+    let found = run_phase(rt, alloc, &more, workers, gate)?;
+    let devices = Gates::new(alloc, design, found)?;
+    Ok(devices)
 }
 
 /// The squares that each reached cell holds itself, its nets, and its gates: each gate of the flat
@@ -86,7 +147,7 @@ pub fn derive_gates<R: Threads + Wait + Sync, G: Gate + Sync>(
     let zones = find_zones(rt, alloc, design, rules, workers, gate)?;
     let layers = find_layers(rt, alloc, design, rules, &zones, workers, gate)?;
     let nets = find_nets(rt, alloc, design, rules, &layers, workers, gate)?;
-    let gates = find_gates(
+    let gates = all_devices(
         rt, alloc, design, rules, &zones, &layers, &nets, workers, gate,
     )?;
     Ok(Gated {

@@ -15,7 +15,7 @@ pub use bad::bad_gates;
 pub use circuits::find_circuits;
 pub use drawn::{Drawn, draw};
 pub use extracted::{Extracted, extract};
-pub use gates::{Gated, derive_gates, find_gates};
+pub use gates::{Gated, derive_gates, find_devices, find_gates};
 pub use layers::{derive_layers, find_layers, find_zones};
 pub use nets::{Connected, derive_nets, find_nets};
 pub use pins::find_pins;

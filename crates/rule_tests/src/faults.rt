@@ -39,7 +39,8 @@ connect_global(bulk, \"VSS\")
     Ok(())
 }
 
-fn joined(alloc: Global, first: &str, last: &str) -> Result<String, AllocError> {
+/// Two texts, one behind the other.
+pub fn joined(alloc: Global, first: &str, last: &str) -> Result<String, AllocError> {
     let mut text = String::new(alloc);
     text.push_str(first)?;
     text.push_str(last)?;

@@ -7,4 +7,6 @@ mod faults;
 #[cfg(test)]
 mod files;
 #[cfg(test)]
+mod further;
+#[cfg(test)]
 mod shown;

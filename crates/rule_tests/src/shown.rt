@@ -1,7 +1,7 @@
 //! A rule set and a fault as text, so that a test compares whole answers.
 
 use geo_base::Op;
-use rule_text::{LayerForm, RuleFault, RuleSet, read_rules};
+use rule_text::{LayerForm, MoreRule, RuleFault, RuleSet, read_rules};
 use std::alloc::{AllocError, Global};
 use std::str;
 
@@ -20,6 +20,29 @@ fn sign_of(op: Op) -> &'static str {
 
 fn add(out: &mut String, piece: Result<String, AllocError>) -> Result<(), AllocError> {
     out.push_str(&piece?)
+}
+
+fn more_shown(alloc: Global, rule: &MoreRule) -> Result<String, AllocError> {
+    match rule {
+        MoreRule::Resistor {
+            class,
+            r,
+            c,
+            w,
+            ta,
+            tw,
+        } => format!(in alloc;
+            "{} r {r} c {c} w {w} ta {ta} tw {tw}\n",
+            text_of(class.bytes())
+        ),
+        MoreRule::Diode {
+            class,
+            p,
+            n,
+            ta,
+            tc,
+        } => format!(in alloc; "{} p {p} n {n} ta {ta} tc {tc}\n", text_of(class.bytes())),
+    }
 }
 
 /// A line for each entry, list after list, with layers as numbers.
@@ -65,6 +88,9 @@ fn shown(alloc: Global, rules: &RuleSet) -> Result<String, AllocError> {
                 d.sd, d.g, d.w, d.ts, d.tg, d.tb
             ),
         )?;
+    }
+    for d in &rules.more {
+        add(&mut out, more_shown(alloc, d))?;
     }
     for (a, b) in &rules.same {
         add(

@@ -23,9 +23,22 @@ fn number(fault: &SpiceFault) -> (u16, u64) {
 }
 
 // Texts, and the first fault of each.
-const TEXTS: [(&str, (u16, u64)); 65] = [
+const TEXTS: [(&str, (u16, u64)); 78] = [
     ("\nfoo\n", (50, 2)),
-    ("r1 a b 1k\n", (50, 1)),
+    ("\nq1 a\n", (50, 2)),
+    ("r1 a b 1k\n", (51, 1)),
+    ("r1 a b res l=1u w=1u\n", (51, 1)),
+    ("r1 a b s res l=1u\n", (51, 1)),
+    ("r1 a b s res l=1u w=1u as=1\n", (52, 1)),
+    ("r1 a b s res l=1u w=1u m=0\n", (52, 1)),
+    ("r1 a b s res l=1q w=1u\n", (531, 1)),
+    ("d1 a c d a=1p\n", (51, 1)),
+    ("d1 a c d a=1p p=1u w=1\n", (52, 1)),
+    ("d1 a c d p=1u a=1e-25\n", (532, 1)),
+    ("d1 a c d a=1.1meg p=1q\n", (533, 1)),
+    ("d1 a c d a=1meg p=1q\n", (531, 1)),
+    ("m1 a b c d \\x01n l=1u w=1u\n", (51, 1)),
+    ("m1 a b c d \\x02n l=1u w=1u q=2\n", (51, 1)),
     (".subckts a\n", (50, 1)),
     ("= a\n", (50, 1)),
     ("x1 a\n + b\n", (50, 2)),

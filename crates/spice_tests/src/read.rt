@@ -1,10 +1,10 @@
 //! Netlist texts, and the text that is written of what is read from each.
 
-use spice_text::{read_spice, write_spice};
+use spice_text::{fits_cards, read_spice, write_spice};
 use std::test::Fail;
 
 // Texts, and the text of what is read from each.
-const TEXTS: [(&str, &str); 20] = [
+const TEXTS: [(&str, &str); 24] = [
     // No card.
     ("", "* lvs netlist\n.END\n"),
     // The first line isn't a title; comments and blank lines stand between a card and its
@@ -129,15 +129,41 @@ const TEXTS: [(&str, &str); 20] = [
         .ENDS NNNNNNNNNNNNNNNNNNNNNNNNNNNNNNNNNNNNNNNNNNNNNNNNNNNNNNN\
         NNNNNNNNNNNNNNNNNNNNNNNNNNNNNNNNNNNNNNNNNNNNNNNNNNNNNNNB\n.END\n",
     ),
+    // A resistor with its bulk, and a diode.
+    (
+        ".subckt r a b vss\nr1 a b vss res l=0.1u w=0.02u\n.ends\n",
+        "* lvs netlist\n.SUBCKT R A B VSS\nR1 A B VSS RES L=0.1U W=0.02U\n.ENDS R\n.END\n",
+    ),
+    (
+        ".subckt dio a k\nd1 a k diode a=0.0004p p=0.08u\n.ends\n",
+        "* lvs netlist\n.SUBCKT DIO A K\nD1 A K DIODE A=0.0004P P=0.08U\n.ENDS DIO\n.END\n",
+    ),
+    // Devices of all kinds are numbered together; a model may begin with any byte.
+    (
+        ".subckt t a k\nmx a k a k n l=1u w=1u\ndx a k \\x02d p=2u a=1e-12 m=2\n.ends\n",
+        "* lvs netlist\n.SUBCKT T A K\nM1 A K A K N L=1U W=1U\nD2 A K \\x02D A=1P P=2U\n\
+        D3 A K \\x02D A=1P P=2U\n.ENDS T\n.END\n",
+    ),
+    // Outside a circuit.
+    (
+        "r1 a b s r l=1u w=1u\n",
+        "* lvs netlist\n.SUBCKT .TOP\nR1 A B S R L=1U W=1U\n.ENDS .TOP\n.END\n",
+    ),
 ];
 
 #[test]
 fn read_and_written(rt: HostRuntime) -> Result<(), Fail> {
     for (text, want) in TEXTS {
         let read = read_spice(rt.alloc(), text.as_bytes()).map_err(|e| Fail::from("read"))?;
+        if !fits_cards(&read) {
+            return Err(Fail::from("cards"));
+        }
         let out = write_spice(rt.alloc(), &read)?;
         assert_eq!(rt; out.as_slice(), want.as_bytes(), "of {text}");
         let again = read_spice(rt.alloc(), &out).map_err(|e| Fail::from("again"))?;
+        if !fits_cards(&again) {
+            return Err(Fail::from("cards again"));
+        }
         let twice = write_spice(rt.alloc(), &again)?;
         assert_eq!(rt; twice.as_slice(), want.as_bytes(), "again of {text}");
     }

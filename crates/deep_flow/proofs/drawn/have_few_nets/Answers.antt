@@ -1,4 +1,4 @@
-use Rattle.std.proofs.Common.{◌≡◌, ℕ, Some, slice_get, get_or, arith, refl}
+use Rattle.std.proofs.Common.{◌≡◌, Some, slice_get, get_or, arith, refl}
 use Rattle.std.proofs.lemmas.Bool.{false≢true}
 use Rattle.std.proofs.lemmas.Option.{slice_get-get_or, slice_get_within}
 use Rattle.deep_flow.proofs.Few.{few_more, not_few}
