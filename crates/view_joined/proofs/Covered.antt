@@ -1,9 +1,7 @@
 -- What the rectangles of an aligned circuit's nets cover.
-use Rattle.std.proofs.Common.{◌≡◌, true, List, [], get_or, refl, sym, ◌∙◌, ap, ap₂, subst}
-use Rattle.geo_base.specs.Motions.{moved_square}
+use Rattle.std.proofs.Common.{◌≡◌, true, get_or, refl, sym, ◌∙◌, ap}
 use Rattle.geo_base.specs.Rects.{has, moved_rect}
 use Rattle.geo_base.specs.declared.motion.Motion.{Motion}
-use Rattle.geo_base.specs.declared.shapes.Rect.{Rect}
 use Rattle.geo_base.specs.declared.shapes.Square.{Square}
 use Rattle.geo_base.proofs.Images.{onto}
 use Rattle.geo_base.proofs.Spans.{moved_rect-has}

@@ -8,8 +8,7 @@ use Rattle.view_netlist.specs.declared.drawing.DevicePlace.{DevicePlace}
 use Rattle.view_netlist.specs.declared.drawing.Drawing.{Drawing}
 use Rattle.view_drawing.specs.Devices.{AddsRegions, AreSmallRegions, Area, seen_from}
 use Rattle.view_drawing.proofs.Placing.{added_twice, none_added, still_listed}
-use Rattle.view_joined.specs.Devices.{AreJoinedDevices, IsJoinedDevice, IsMovedPlace, device_of, moved_rects}
-use Rattle.view_joined.specs.Spots.{circuit_at}
+use Rattle.view_joined.specs.Devices.{AreJoinedDevices, IsJoinedDevice, IsMovedPlace, moved_rects}
 
 pub still_moved : (m : Motion) (p q : DevicePlace) (a b : List Area) → AddsRegions a b → IsMovedPlace m p a q → IsMovedPlace m p b q
 still_moved m p q a b adds h = record {

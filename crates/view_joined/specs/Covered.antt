@@ -1,6 +1,6 @@
 -- What the rectangles of an aligned circuit's nets cover.
-use Rattle.std.specs.Prelude.{◌≡◌, ◌↔◌, ◌<◌, ℕ, true, List, [], Option, Some, None, get_or, slice_get}
-use Rattle.std.specs.Prelude.{slice_index_or}
+use Rattle.std.specs.Prelude.{◌≡◌, ◌↔◌, ◌<◌, ℕ, true, List, [], Option, Some, None, get_or}
+use Rattle.std.specs.Prelude.{slice_get, slice_index_or}
 use Rattle.geo_base.specs.Motions.{moved_square}
 use Rattle.geo_base.specs.Rects.{IsRect, has}
 use Rattle.geo_base.specs.declared.motion.Motion.{Motion}

@@ -1,6 +1,5 @@
-use Rattle.std.proofs.Common.{◌≡◌, ◌<◌, ℕ, List, Some, length, map, slice_get, refl, sym, ap, ap₂, subst, ◌∙◌, arith, rules}
+use Rattle.std.proofs.Common.{◌≡◌, ◌<◌, ℕ, List, Some, length, map, slice_get, refl, subst, rules}
 use Rattle.std.proofs.lemmas.Option.{slice_get_read}
-use Rattle.geo_base.specs.declared.shapes.Point.{Point}
 use Rattle.geo_base.specs.declared.shapes.Rect.{Rect}
 use Rattle.plain_netlist.proofs.Members.{map_at}
 use Rattle.view_drawing.specs.Devices.{IsListedRegion, area_of, areas_of, seen_from}
