@@ -176,7 +176,12 @@ pub fn line_of(alloc: Global, edges: &[Edge], ways: Ways) -> Result<Option<Cut>,
         return Ok(None);
     }
     let plane = Plane::of(edges);
-    let steps = plane.ends(edges).saturating_mul(plane.row());
+    let row = plane.row();
+    // Each edge has two ends: where rows are this short, they needn't be counted.
+    if row <= LONG_ROW / 2 {
+        return Ok(None);
+    }
+    let steps = plane.ends(edges).saturating_mul(row);
     if steps <= LONG_ROW.saturating_mul(edges.len() as u64) {
         return Ok(None);
     }
