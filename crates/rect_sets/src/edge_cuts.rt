@@ -169,13 +169,19 @@ fn level_sides_at(
     Ok(count)
 }
 
-/// A line to cut edges by, where that makes their sweep shorter. Linear.
+/// A line to cut edges by, where that makes their sweep shorter: which one has no contract, since
+/// each gives the same set. Linear. An `Err` is want of memory.
 pub fn line_of(alloc: Global, edges: &[Edge], ways: Ways) -> Result<Option<Cut>, AllocError> {
     if edges.len() < FEW {
         return Ok(None);
     }
     let plane = Plane::of(edges);
-    let steps = plane.ends(edges).saturating_mul(plane.row());
+    let row = plane.row();
+    // Each edge has two ends: where rows are this short, they needn't be counted.
+    if row <= LONG_ROW / 2 {
+        return Ok(None);
+    }
+    let steps = plane.ends(edges).saturating_mul(row);
     if steps <= LONG_ROW.saturating_mul(edges.len() as u64) {
         return Ok(None);
     }
@@ -185,7 +191,8 @@ pub fn line_of(alloc: Global, edges: &[Edge], ways: Ways) -> Result<Option<Cut>,
 
 // Adds the part of an edge below a level line.
 fn push_below(out: &mut Vec<Edge>, edge: &Edge, cut: &Cut) -> Result<(), AllocError>
-    ensures { OnOk result (out.new.items ≡ out.old.items ++ edges_below cut.now.at (edge.now ∷ [])) }
+    ensures { OnOk result (out.new.items
+        ≡ out.old.items ++ edges_below cut.now.at (edge.now ∷ [])) }
 {
     if edge.y1 < cut.at {
         let y2 = if cut.at < edge.y2 { cut.at } else { edge.y2 };
@@ -196,7 +203,8 @@ fn push_below(out: &mut Vec<Edge>, edge: &Edge, cut: &Cut) -> Result<(), AllocEr
 
 // Adds the part of an edge above a level line.
 fn push_above(out: &mut Vec<Edge>, edge: &Edge, cut: &Cut) -> Result<(), AllocError>
-    ensures { OnOk result (out.new.items ≡ out.old.items ++ edges_above cut.now.at (edge.now ∷ [])) }
+    ensures { OnOk result (out.new.items
+        ≡ out.old.items ++ edges_above cut.now.at (edge.now ∷ [])) }
 {
     if cut.at < edge.y2 {
         let y1 = if edge.y1 < cut.at { cut.at } else { edge.y1 };
@@ -229,7 +237,8 @@ fn push_left(out: &mut Vec<Edge>, edge: &Edge, cut: &Cut) -> Result<(), AllocErr
 }
 
 fn push_right(out: &mut Vec<Edge>, edge: &Edge, cut: &Cut) -> Result<(), AllocError>
-    ensures { OnOk result (out.new.items ≡ out.old.items ++ edges_right cut.now.at (edge.now ∷ [])) }
+    ensures { OnOk result (out.new.items
+        ≡ out.old.items ++ edges_right cut.now.at (edge.now ∷ [])) }
 {
     if edge.x < cut.at {
         return Ok(());

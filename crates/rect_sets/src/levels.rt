@@ -55,6 +55,7 @@ fn grow_all(alloc: Global, below: &[Rect], above: &[Rect]) -> Result<Vec<Rect>, 
     Ok(out)
 }
 
+// Adds one above the line, where none below it has its range.
 fn push_other(out: &mut Vec<Rect>, rect: &Rect, below: &[Rect]) -> Result<(), AllocError>
     requires { AreSortedRanges below.now }
     ensures { OnOk result (AddsOthers below.now (rect.now ∷ []) out.old.items out.new.items) }
@@ -77,7 +78,7 @@ fn push_others(out: &mut Vec<Rect>, above: &[Rect], below: &[Rect]) -> Result<()
 }
 
 /// The blocks that touch a level line from below and from above, those of one range as one:
-/// O(n log n).
+/// O(n log n). An `Err` is want of memory.
 pub fn join_level(
     alloc: Global,
     mut below: Vec<Rect>,
