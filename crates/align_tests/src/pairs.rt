@@ -3,7 +3,7 @@
 use crate::conditions::{are_apart, are_callees_first, is_alignable, read};
 use net_align::align;
 use net_names::Name;
-use spice_text::write_spice;
+use spice_text::{fits_cards, write_spice};
 use std::alloc::Global;
 use std::test::Fail;
 
@@ -183,6 +183,9 @@ fn comes_out(alloc: Global, case: &Case) -> Result<bool, Fail> {
     match (found, case.want) {
         (None, None) => Ok(true),
         (Some(pair), Some((left, right))) => {
+            if !fits_cards(&pair.left) || !fits_cards(&pair.right) {
+                return Ok(false);
+            }
             let made_left = write_spice(alloc, &pair.left)?;
             let made_right = write_spice(alloc, &pair.right)?;
             Ok(made_left.as_slice() == left.as_bytes() && made_right.as_slice() == right.as_bytes())

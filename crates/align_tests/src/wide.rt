@@ -2,7 +2,7 @@
 
 use crate::conditions::{are_callees_first, is_alignable, read};
 use net_align::align;
-use spice_text::write_spice;
+use spice_text::{fits_cards, write_spice};
 use std::alloc::{AllocError, Global};
 use std::test::Fail;
 
@@ -44,6 +44,9 @@ fn both_flat(alloc: Global, layout: &str, top: u32, schematic: &str) -> Result<b
     let Some(found) = align(alloc, &layout, top, &schematic, &same)? else {
         return Ok(false);
     };
+    if !fits_cards(&found.left) || !fits_cards(&found.right) {
+        return Ok(false);
+    }
     let left = write_spice(alloc, &found.left)?;
     let right = write_spice(alloc, &found.right)?;
     Ok(left.len() > 1_000_000 && left.as_slice() == right.as_slice())

@@ -41,7 +41,7 @@ X3 VSS N
 .END
 ";
 
-// In each of the six phases over the cells two workers are at work on two of the three cells at
+// In each of the seven phases over the cells two workers are at work on two of the three cells at
 // once.
 #[test]
 fn both_workers_enter(rt: HostRuntime) -> Result<(), Fail> {
@@ -56,12 +56,12 @@ fn both_workers_enter(rt: HostRuntime) -> Result<(), Fail> {
     words.extend_from_slice(&["--workers", "2"])?;
     let gate = Abreast::new();
     let ran = run_through(&rt, alloc, inputs, &words, NONE, &gate)?;
-    let six = Visits {
-        first: 6,
-        second: 6,
+    let seven = Visits {
+        first: 7,
+        second: 7,
         late: 0,
     };
-    assert_eq!(rt; gate.visits(), six);
+    assert_eq!(rt; gate.visits(), seven);
     ends(
         &rt,
         &ran,

@@ -3,7 +3,9 @@
 use crate::commands::{EXTRACT, Inputs, NONE, RUN, ends, holds, run_of};
 use crate::drawn::Item::{Placed, Rect};
 use crate::drawn::{Cell, library};
-use crate::layouts::{COMBINED, INVERTER, INVERTER_RULES, MOS, ONE_GROUP, T, T_SCHEMATIC};
+use crate::layouts::{
+    COMBINED, INVERTER, INVERTER_RULES, MOS, ONE_GROUP, R, R_NETLIST, RESISTORS, T, T_SCHEMATIC,
+};
 use std::alloc::{AllocError, Global};
 use std::process::Abort;
 use std::sync::Wait;
@@ -56,7 +58,7 @@ pub const THREE: &[Cell] = &[
     Cell("TOP", &[Placed("MID", 0, 0)]),
 ];
 
-const CASES: [Case; 15] = [
+const CASES: [Case; 16] = [
     Case {
         name: "one_transistor_run",
         layout: &[T],
@@ -83,6 +85,25 @@ top T T
 bad 0
 pair T T differs
 round 0 of layout device 1 layout 1 schematic 2
+end
+",
+    },
+    // Against its own netlist.
+    Case {
+        name: "resistor",
+        layout: &[R],
+        rules: RESISTORS,
+        schematic: R_NETLIST,
+        code: 0,
+        line: MATCH,
+        report: "lvs report 1
+top R R
+bad 0
+pair R R match
+net A A
+net B B
+net VSS VSS
+device 1 1
 end
 ",
     },

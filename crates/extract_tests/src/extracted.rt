@@ -3,7 +3,9 @@
 use crate::commands::{EXTRACT, Inputs, NONE, ends, holds, run_of};
 use crate::drawn::Item::{Label, Outline, Placed, Rect};
 use crate::drawn::{Cell, library};
-use crate::layouts::{INVERTER, INVERTER_RULES, MOS, ONE_GROUP, T, T_NETLIST};
+use crate::layouts::{
+    DIODES, INVERTER, INVERTER_RULES, MOS, ONE_GROUP, R, R_NETLIST, RESISTORS, T, T_NETLIST,
+};
 use std::test::Fail;
 
 /// A layout, its rules, how `extract` ends, and the two files that are to be written.
@@ -26,7 +28,7 @@ const ONE_BAD: &str = "extracted cells 1 circuits 1 bad 1\n";
 /// A circuit without devices has no pins.
 const NOTHING: &str = "* lvs netlist\n.SUBCKT A\n.ENDS A\n.END\n";
 
-const CASES: [Case; 14] = [
+const CASES: [Case; 17] = [
     // The wire of the parent goes on in the child: one net. A cell without a device has no circuit.
     Case {
         name: "net_through_child",
@@ -323,6 +325,64 @@ X2 \$2 \$3 \$4 VSS T\$\$2
 M1 Y A VDD VDD PMOS L=0.1U W=1U
 M2 Y A VSS VSS NMOS L=0.1U W=0.5U
 .ENDS INV
+.END
+",
+    },
+    Case {
+        name: "resistor",
+        layout: &[R],
+        rules: RESISTORS,
+        code: 0,
+        line: ONE_GOOD,
+        shapes: &[Cell("R", &[])],
+        netlist: R_NETLIST,
+    },
+    Case {
+        name: "diode",
+        layout: &[Cell(
+            "DIO",
+            &[
+                Rect(1, [0, 0, 30, 20]),
+                Rect(2, [10, 0, 50, 20]),
+                Label("A", 5, 10),
+                Label("K", 40, 10),
+            ],
+        )],
+        rules: DIODES,
+        code: 0,
+        line: ONE_GOOD,
+        shapes: &[Cell("DIO", &[])],
+        netlist: "* lvs netlist
+.SUBCKT DIO A K
+D1 A K DIODE A=0.0004P P=0.08U
+.ENDS DIO
+.END
+",
+    },
+    // One side in the placed cell and one in the parent: the region is the parent's. A net with
+    // squares of its own comes before one of a placed cell.
+    Case {
+        name: "diode of two cells",
+        layout: &[
+            Cell("P", &[Rect(1, [0, 0, 30, 20])]),
+            Cell(
+                "TOP",
+                &[
+                    Placed("P", 0, 0),
+                    Rect(2, [10, 0, 50, 20]),
+                    Label("A", 5, 10),
+                    Label("K", 40, 10),
+                ],
+            ),
+        ],
+        rules: DIODES,
+        code: 0,
+        line: "extracted cells 2 circuits 1 bad 0\n",
+        shapes: &[Cell("P", &[]), Cell("TOP", &[Placed("P", 0, 0)])],
+        netlist: "* lvs netlist
+.SUBCKT TOP K A
+D1 A K DIODE A=0.0004P P=0.08U
+.ENDS TOP
 .END
 ",
     },

@@ -59,6 +59,44 @@ m1 d g s vss nmos l=2.5e-07
 /// The ends of one group meet round the gate.
 pub const ONE_GROUP: Cell = Cell("A", &[Rect(2, [0, 0, 30, 30]), Rect(3, [10, -5, 20, 15])]);
 
+/// Rules of a resistor whose bulk is a global.
+pub const RESISTORS: &str = r#"body = input(1, 0)
+c = input(2, 0)
+txt = labels(5, 1)
+bulk = polygon_layer
+extract_devices(resistor_with_bulk("RES", 50), { "R" => body, "C" => c, "W" => bulk })
+connect(c, txt)
+connect_global(bulk, "VSS")
+"#;
+
+/// A resistor with names at its ends.
+pub const R: Cell = Cell(
+    "R",
+    &[
+        Rect(1, [0, 0, 100, 20]),
+        Rect(2, [-20, 0, 0, 20]),
+        Rect(2, [100, 0, 120, 20]),
+        Label("A", -10, 10),
+        Label("B", 110, 10),
+    ],
+);
+
+pub const R_NETLIST: &str = "* lvs netlist
+.SUBCKT R A B VSS
+R1 A B VSS RES L=0.1U W=0.02U
+.ENDS R
+.END
+";
+
+/// Rules of a diode.
+pub const DIODES: &str = r#"p = input(1, 0)
+n = input(2, 0)
+txt = labels(5, 1)
+extract_devices(diode("DIODE"), { "P" => p, "N" => n })
+connect(p, txt)
+connect(n, txt)
+"#;
+
 /// Transistors of two classes in a well, with contacts and a wire.
 pub const INVERTER_RULES: &str = r#"nwell = input(1, 0)
 active = input(2, 0)

@@ -14,7 +14,7 @@ use geo_base::Square;
 use job_board::{Gate, OpenGate};
 use job_tests::{Abreast, Visits};
 use rule_text::read_rules;
-use spice_text::write_spice;
+use spice_text::{fits_cards, write_spice};
 use std::alloc::{AllocError, Global};
 use std::sync::Wait;
 use std::test::Fail;
@@ -65,6 +65,9 @@ fn extracted<R: Threads + Wait + Sync, G: Gate + Sync>(
             least: gate.least,
             cause: gate.cause,
         })?;
+    }
+    if !fits_cards(&found.netlist) {
+        return Err(AllocError);
     }
     Ok(Found {
         text: write_spice(alloc, &found.netlist)?,

@@ -2,6 +2,7 @@
 use Rattle.std.proofs.Common.{◌≡◌, ◌≢◌, ◌⊎◌, inl, inr, ℕ, ◌<◌, List, Option, Some, None, Ok, Err, refl, sym, ap, subst, ◌∙◌, slice_get, arith}
 use Rattle.std.proofs.Math.Decide.{ℕ_discrete}
 use Rattle.call_order.specs.Order.{ReachesItself}
+use Rattle.spice_rows.specs.Sizes.{Limits}
 use Rattle.spice_rows.specs.declared.fault.SpiceFault.{SpiceFault}
 use Rattle.spice_rows.specs.declared.fault.SpiceFault.TheVariants.{NotClosed, NameClash, NoSuchCircuit, PinCount, CircuitCycle, NoMemory}
 use Rattle.spice_text.specs.Gather.{Circuit, Cards}
@@ -96,7 +97,7 @@ one_of_cards cards f g p q (inr a) (inl b) = absurd (not_both cards g b a.0)
 one_of_cards cards f g p q (inr a) (inr b) = one_of_circuits (all_of cards) f g p q a.1 b.1
 
 -- bytes have one first fault at most
-pub one_fault : (limit : Option ℕ) (bytes : List ℕ) (f g : SpiceFault) → f ≢ NoMemory → g ≢ NoMemory → IsFirstFault limit bytes f → IsFirstFault limit bytes g → f ≡ g
+pub one_fault : (limit : Option Limits) (bytes : List ℕ) (f g : SpiceFault) → f ≢ NoMemory → g ≢ NoMemory → IsFirstFault limit bytes f → IsFirstFault limit bytes g → f ≡ g
 one_fault limit bytes f g p q (inl a) (inl b) = let e : Err f ≡ Err g = sym a ∙ b in cc
 one_fault limit bytes f g p q (inl a) (inr b) = let e : Err f ≡ Ok b.0 = sym a ∙ b.1 in cc
 one_fault limit bytes f g p q (inr a) (inl b) = let e : Err g ≡ Ok a.0 = sym b ∙ a.1 in cc

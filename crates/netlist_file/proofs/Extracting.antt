@@ -6,26 +6,17 @@ use Rattle.deep_flow.specs.Bad.{told_bad}
 use Rattle.deep_tables.specs.Nets.{tables_of}
 use Rattle.flat_laws.specs.FlatGates.{FlatGatesLaw}
 use Rattle.flat_laws.specs.GateLaws.{SameGateLaw}
-use Rattle.flat_layout.specs.Gates.{Rule}
 use Rattle.flat_layout.specs.GateTables.{GateEntry, all_bad_gates}
 use Rattle.headline_laws.specs.FlatNetlist.{FlatCorrespondsLaw}
-use Rattle.net_names.specs.Folding.{folded_bytes}
 use Rattle.netlist_file.specs.Flat.{ShowsFlatLaw}
+use Rattle.netlist_file.proofs.Classes.{classed}
 use Rattle.netlist_file.proofs.Showing.{all_bad, all_told, no_bad}
 use Rattle.netlist_file.proofs.Topmost.{last}
-use Rattle.plain_netlist.proofs.Members.{from_map}
-use Rattle.rule_layers.specs.Meaning.{device_rule, device_rules, wiring_of}
+use Rattle.rule_layers.specs.Meaning.{device_rules, wiring_of}
 use Rattle.rule_text.specs.Rules.{Rules}
-use Rattle.spice_laws.specs.Extracted.{AreFolded, ExtractedMeansLaw}
-use Rattle.spice_laws.proofs.GivenLemmas.{folded_fixed}
+use Rattle.spice_laws.specs.Extracted.{ExtractedMeansLaw}
 use Rattle.spice_text.specs.Laws.{OneMeaningLaw}
 use Rattle.table_laws.specs.BadLaws.{BadListedLaw}
-
--- the classes of a rule set's device rules are folded
-folded : (r : Rules) → AreFolded (device_rules r)
-folded r k u is =
-    let m = from_map (device_rule r) r.devices k u is in
-    subst (λ (v : Rule). folded_bytes v.class ≡ v.class) m.2 (folded_fixed m.0.class)
 
 pub shows_flat : ExtractedMeansLaw → OneMeaningLaw → FlatCorrespondsLaw → FlatGatesLaw → SameGateLaw → BadListedLaw → OrderLaw → ShowsFlatLaw
 shows_flat text_means one corresponds gates_law same lists order bytes name l r nl top bad text read sound f =
@@ -37,7 +28,7 @@ shows_flat text_means one corresponds gates_law same lists order bytes name l r 
     let level = height_at l.design in
     let c = f.of_cells.tables in
     let right = f.of_cells.right in
-    let means = text_means d w t c nl rules unit level text right (folded r) f.spelled f.sound f.written in
+    let means = text_means d w t c nl rules unit level text right (classed r sound.formed) f.spelled f.sound f.written in
     let all = gates_law d w t rules c.gates level right.levels.lower right.gates in
     let told = f.told ∙ ap (λ (g : ℕ → List GateEntry). map (told_bad r) (all_bad_gates g l.design.order)) (sym f.of_cells.gates_are) in
     record {

@@ -1,3 +1,4 @@
+pub mod Classes
 pub mod Alike
 pub mod Extracting
 pub mod Showing

@@ -15,7 +15,7 @@ use job_board::Gate;
 use net_model::Netlist;
 use rule_text::RuleSet;
 use shapes_file::{Drawing, Shapes, shapes_of_layers};
-use spice_laws::spelled;
+use spice_laws::{extracted_text, spelled};
 use spice_text::write_spice;
 use std::alloc::{AllocError, Global};
 use std::sync::Wait;
@@ -64,6 +64,7 @@ fn extracted<R: Threads + Wait + Sync, G: Gate + Sync>(
     layout.design.sound();
     let unit_pm = layout.header.unit_pm;
     let found = extract(rt, alloc, &layout.design, rules, unit_pm, workers, gate)?;
+    extracted_text();
     let text = write_spice(alloc, &found.netlist)?;
     spelled(&found.netlist);
     let file = NetlistFile {

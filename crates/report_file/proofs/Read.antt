@@ -4,6 +4,7 @@ use Rattle.net_names.specs.Escapes.{unescaped}
 use Rattle.plain_netlist.specs.Lists.{IsListed}
 use Rattle.report_file.proofs.Folded.{IsFolded, folded_twice}
 use Rattle.spice_rows.specs.Names.{folded_some, name_of, name_onto, names_of}
+use Rattle.spice_rows.specs.Sizes.{Limits}
 use Rattle.spice_text.proofs.OpenedLemmas.{each_opened}
 use Rattle.spice_text.specs.Circuits.{all_of}
 use Rattle.spice_text.specs.Gather.{Circuit, Cards, reading_of}
@@ -42,6 +43,6 @@ first_folded (w ∷ ws) = onto_folded (name_of w) (names_of ws) (name_folded w)
 abbrev pub AreFolded : List Circuit → Type 0
 AreFolded cs = (c : Circuit) → IsListed c cs → IsFolded c.name
 
-pub names_folded : (limit : Option ℕ) (bytes : List ℕ) (cards : Cards) → reading_of limit bytes ≡ Ok cards → AreFolded (all_of cards)
+pub names_folded : (limit : Option Limits) (bytes : List ℕ) (cards : Cards) → reading_of limit bytes ≡ Ok cards → AreFolded (all_of cards)
 names_folded limit bytes cards e =
     each_opened (λ name pins. IsFolded name) (λ words name pins named apart. subst IsFirstFolded named (first_folded words)) refl limit bytes cards e

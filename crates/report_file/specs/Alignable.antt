@@ -9,6 +9,7 @@ use Rattle.net_align.specs.Compared.{AreCalleesFirst, IsAlignable}
 use Rattle.plain_netlist.specs.Netlist.{Netlist}
 use Rattle.plain_netlist.specs.Normal.{IsNormalNetlist}
 use Rattle.plain_netlist.specs.Sound.{IsSoundNetlist}
+use Rattle.spice_rows.specs.Sizes.{Limits}
 use Rattle.spice_text.specs.Means.{Means}
 
 -- a netlist of a layout's circuits, where it is sound
@@ -19,5 +20,5 @@ ExtractedAlignableLaw = (d : Design) (w : Wiring) (t : Tables) (g : CircuitTable
 
 -- a netlist that a text means, where it is sound and in normal form
 abbrev pub ReadAlignableLaw : Type 0
-ReadAlignableLaw = (limit : Option ℕ) (bytes : List ℕ) (nl : Netlist) → Means limit bytes nl
+ReadAlignableLaw = (limit : Option Limits) (bytes : List ℕ) (nl : Netlist) → Means limit bytes nl
     → IsSoundNetlist nl → IsNormalNetlist nl → IsAlignable nl
