@@ -1,0 +1,11 @@
+pub mod Standing
+pub mod Marked
+pub mod Joined
+pub mod Spots
+pub mod Tied
+pub mod Known
+pub mod Numbered
+pub mod Sided
+pub mod Parted
+pub mod Netted
+pub mod Whole

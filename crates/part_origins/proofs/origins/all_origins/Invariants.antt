@@ -1,0 +1,14 @@
+use Rattle.std.proofs.Common.{◌≡◌, ◌+◌, ◌++◌, [], map, length}
+use Rattle.net_model.specs.Rows.{plain_circuit, plain_netlist}
+use Rattle.part_origins.specs.Inside.{plain_inside}
+use Rattle.part_origins.specs.Made.{origins_from, plain_origins}
+use Rattle.part_origins.proofs.origins.all_origins.Given as goal
+
+abbrev pub invariant-circuits : goal.invariant-circuits
+invariant-circuits l =
+    (map plain_origins l.found.items ++ origins_from (plain_netlist l.written) (map plain_inside l.insides) l.numbers l.kept l.i (map (λ p. p.items) l.held.items) (map plain_circuit l.rest)
+    ≡ origins_from (plain_netlist l.written) (map plain_inside l.insides) l.numbers l.kept 0 [] (map plain_circuit l.aligned))
+    × (l.i + length l.rest ≡ length l.aligned)
+
+abbrev pub decreases-circuits : goal.decreases-circuits
+decreases-circuits l = length l.rest

@@ -1,0 +1,5 @@
+pub mod Motions
+pub mod Put
+pub mod Paths
+pub mod Growing
+pub mod Covered

@@ -1,0 +1,14 @@
+use Rattle.std.proofs.Common.{arith}
+use Rattle.std.proofs.lemmas.Int.{ints, clamps}
+use Rattle.geo_base.proofs.Spans.{same_rect}
+use Rattle.view_joined.proofs.devices.seen_from.Goals as goal
+
+pub returns : goal.returns
+returns c =
+    let xl = c.requires.x.low in let xh = c.requires.x.high in
+    let yl = c.requires.y.low in let yh = c.requires.y.high in
+    let al = c.requires.rect.x1.low in let ah = c.requires.rect.x1.high in
+    let bl = c.requires.rect.y1.low in let bh = c.requires.rect.y1.high in
+    let cl = c.requires.rect.x2.low in let ch = c.requires.rect.x2.high in
+    let dl = c.requires.rect.y2.low in let dh = c.requires.rect.y2.high in
+    same_rect _ _ (omega (arith, ints, clamps)) (omega (arith, ints, clamps)) (omega (arith, ints, clamps)) (omega (arith, ints, clamps))

@@ -1,0 +1,12 @@
+use Rattle.std.proofs.Common.{length}
+use Rattle.std.specs.List.{All}
+use Rattle.view_netlist.specs.Drawing.{AreSmallShapes}
+use Rattle.view_joined.specs.Nets.{shape_lists}
+use Rattle.view_joined.proofs.drawing.are_all_small.Given as goal
+
+abbrev pub invariant-nets : goal.invariant-nets
+invariant-nets l =
+    All AreSmallShapes (shape_lists l.rest) → All AreSmallShapes (shape_lists l.nets)
+
+abbrev pub decreases-nets : goal.decreases-nets
+decreases-nets l = length l.rest

@@ -1,0 +1,7 @@
+pub mod Moved
+pub mod Spots
+pub mod Nets
+pub mod Paths
+pub mod Devices
+pub mod Joined
+pub mod Covered
