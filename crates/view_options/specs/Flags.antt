@@ -6,7 +6,7 @@ use denote.Enum.Bare.{sameb}
 use Rattle.view_options.specs.contracts.flag.Flag.{the_type}
 use Rattle.view_options.specs.declared.flag.Flag.{Flag}
 use Rattle.view_options.specs.declared.flag.Flag.TheVariants.{Layout, Rules, Schematic, Database}
-use Rattle.view_options.specs.declared.flag.Flag.TheVariants.{Top, Workers}
+use Rattle.view_options.specs.declared.flag.Flag.TheVariants.{Page, Top, Workers}
 
 -- the option of this name
 abbrev pub flag_of : List ℕ → Option Flag
@@ -15,6 +15,7 @@ flag_of name =
     if bytes_eq name (codes "--rules") then Some Rules else
     if bytes_eq name (codes "--schematic") then Some Schematic else
     if bytes_eq name (codes "--database") then Some Database else
+    if bytes_eq name (codes "--page") then Some Page else
     if bytes_eq name (codes "--top") then Some Top else
     if bytes_eq name (codes "--workers") then Some Workers else None
 
@@ -31,4 +32,5 @@ is_path flag = true
 -- the option's value is the path of a file that is written
 abbrev pub is_written : Flag → Bool
 is_written Database = true
+is_written Page = true
 is_written flag = false

@@ -6,17 +6,18 @@ use Rattle.std.specs.Option.{option_and_then, option_map}
 use Rattle.lvs_words.specs.Commands.{workers_in}
 use Rattle.view_options.specs.declared.flag.Flag.{Flag}
 use Rattle.view_options.specs.declared.flag.Flag.TheVariants.{Layout, Rules, Schematic, Database}
-use Rattle.view_options.specs.declared.flag.Flag.TheVariants.{Top, Workers}
+use Rattle.view_options.specs.declared.flag.Flag.TheVariants.{Page, Top, Workers}
 use Rattle.view_options.specs.declared.stated.Task.{Task}
 use Rattle.view_options.specs.Items.{Item, are_once, items, path, shared, value_of}
 
--- the paths and the name of the top as bytes, the number of workers, and the path of a file that is
--- written and named twice
+-- the paths, of which the page's may be left out, and the name of the top as bytes, the number of
+-- workers, and the path of a file that is written and named twice
 pub record Asked : Type 0 where
   pub layout : List ℕ
   pub rules : List ℕ
   pub schematic : List ℕ
   pub database : List ℕ
+  pub page : Option (List ℕ)
   pub top : Option (List ℕ)
   pub workers : ℕ
   pub shared : Option (List ℕ)
@@ -27,6 +28,7 @@ asked_of t = record {
   rules = string_bytes t.rules;
   schematic = string_bytes t.schematic;
   database = string_bytes t.database;
+  page = option_map string_bytes t.page;
   top = t.top;
   workers = t.workers;
   shared = option_map string_bytes t.shared;
@@ -54,6 +56,7 @@ asked_by is = if fits is then option_and_then (λ k. Some (record {
   rules = path Rules is;
   schematic = path Schematic is;
   database = path Database is;
+  page = value_of Page is;
   top = value_of Top is;
   workers = k;
   shared = shared is;

@@ -1,6 +1,7 @@
 //! Whether options are those that the program needs, and what they give it.
 
 ghost use Rattle.std.specs.Prelude.{◌≡◌, ◌≤◌, IfOk, IfSome, string_bytes};
+ghost use Rattle.std.specs.Option.{option_map};
 ghost use Rattle.view_options.specs.Items.{AreValues, path, value_of};
 ghost use Rattle.view_options.specs.Seen.{seen_all};
 ghost use Rattle.view_options.specs.Stated.{fits, has_needed, workers_of};
@@ -40,6 +41,20 @@ pub fn path(alloc: Global, items: &[Item<'_>], flag: Flag) -> Result<String, All
     match value_of(items, flag) {
         Some(value) => String::from_str(alloc, value),
         None => String::from_str(alloc, ""),
+    }
+}
+
+/// The path of the page, where one is given.
+pub fn page(alloc: Global, items: &[Item<'_>]) -> Result<Option<String>, AllocError>
+    ensures { IfOk result (λ p. option_map string_bytes p
+        ≡ value_of Flag.Page (seen_all items.now)) }
+{
+    match value_of(items, Flag::Page) {
+        Some(value) => {
+            let path = String::from_str(alloc, value)?;
+            Ok(Some(path))
+        }
+        None => Ok(None),
     }
 }
 

@@ -10,6 +10,7 @@ pub enum Flag {
     Rules,
     Schematic,
     Database,
+    Page,
     Top,
     Workers,
 }
@@ -26,6 +27,8 @@ pub fn flag_of(name: &str) -> Option<Flag>
         Some(Flag::Schematic)
     } else if name == "--database" {
         Some(Flag::Database)
+    } else if name == "--page" {
+        Some(Flag::Page)
     } else if name == "--top" {
         Some(Flag::Top)
     } else if name == "--workers" {
@@ -54,6 +57,6 @@ impl Flag {
     pub fn is_written(self) -> bool
         ensures { result ≡ is_written self }
     {
-        matches!(self, Flag::Database)
+        matches!(self, Flag::Database | Flag::Page)
     }
 }

@@ -6,7 +6,7 @@ ghost use Rattle.view_options.specs.Items.{AreValues, shared};
 ghost use Rattle.view_options.specs.Seen.{seen_all};
 ghost use Rattle.view_options.specs.Stated.{asked, asked_by, asked_of};
 
-use crate::fitting::{fits, path, top, workers};
+use crate::fitting::{fits, page, path, top, workers};
 use crate::flag::Flag;
 use crate::items::{Item, read_items, shared};
 use lvs_words::WordFault;
@@ -21,6 +21,7 @@ pub struct Task {
     pub rules: String,
     pub schematic: String,
     pub database: String,
+    pub page: Option<String>,
     pub top: Option<Name>,
     pub workers: usize,
     pub shared: Option<String>,
@@ -57,6 +58,7 @@ fn task_of(alloc: Global, items: &[Item<'_>]) -> Result<Task, WordFault>
         rules: path(alloc, items, Flag::Rules)?,
         schematic: path(alloc, items, Flag::Schematic)?,
         database: path(alloc, items, Flag::Database)?,
+        page: page(alloc, items)?,
         top: top(alloc, items)?,
         workers,
         shared: shared_path(alloc, items)?,

@@ -1,1 +1,2 @@
 pub mod Picturing
+pub mod Joining

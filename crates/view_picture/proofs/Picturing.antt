@@ -61,6 +61,7 @@ goes_end s t called cells texts shown now rest out all e h =
     (h now [] (none_added now) (subst (λ (l : List Circuit). AreAllDrawn s t called cells texts shown l now []) (sym e) refl))
 
 pub record DrawnSoFar (s : Source) (t : Tables) (called : Called) (cells : List ℕ) (texts : List (List ℕ)) (shown : List ℕ) (old now : List Area) (rest : List Circuit) (out : List Drawing) (all : List Circuit) : Type 0 where
+  pub added : AddsRegions old now
   pub small_regions : AreSmallRegions old → AreSmallRegions now
   pub small : AreAllSmall out
   pub goes : Goes s t called cells texts shown now rest (plain_drawings out) all

@@ -1,11 +1,13 @@
 -- What is drawn of a layout's circuits as they are compared.
-use Rattle.std.specs.Prelude.{◌≡◌, ℕ, List, [], ◌∷◌, Option, Some, None, map, slice_get}
+use Rattle.std.specs.Prelude.{◌≡◌, ℕ, List, [], ◌∷◌, Option, Some, None, length, map, slice_get}
 use Rattle.std.specs.List.{All}
 use Rattle.cell_graph.specs.Linked.{plain}
 use Rattle.deep_tables.specs.Circuits.{value_of}
 use Rattle.deep_tables.specs.Nets.{AreRightNets}
 use Rattle.flat_layout.specs.Layout.{IsReached}
 use Rattle.flat_layout.specs.Nets.{Tables}
+use Rattle.part_origins.specs.Inside.{PlainInside}
+use Rattle.part_origins.specs.Made.{AllOrigins, PlainOrigins}
 use Rattle.plain_netlist.specs.Netlist.{Circuit}
 use Rattle.rule_layers.specs.Meaning.{wiring_of}
 use Rattle.rule_text.specs.Seen.{rules_seen}
@@ -15,6 +17,7 @@ use Rattle.view_drawing.specs.Drawn.{AreAllThere, AreListsOf, IsCellDrawn, liste
 use Rattle.view_drawing.specs.declared.source.Source.{Source}
 use Rattle.view_file.specs.declared.layout.Picture.{Picture}
 use Rattle.view_file.specs.declared.regions.Region.{Region}
+use Rattle.view_joined.specs.Joined.{IsJoinedDrawing}
 use Rattle.view_laws.specs.Shown.{Called}
 use Rattle.view_netlist.specs.Drawing.{Drawn, IsSmallDrawing, blank, plain_drawing}
 use Rattle.view_netlist.specs.declared.drawing.Drawing.{Drawing}
@@ -61,6 +64,25 @@ AreAllDrawn s t called cells texts shown (c ∷ cs) areas (v ∷ vs) =
     IsDrawnIn s t called shown (shown_cell cells texts c) c areas v
     × AreAllDrawn s t called cells texts shown cs areas vs
 
+-- of an aligned circuit the joined drawing of the circuits inside it; nothing of one from none
+abbrev pub IsJoinedOf : Option PlainInside → List Drawing → PlainOrigins → Circuit → List Area
+    → Drawn → Type 0
+IsJoinedOf None ds o c areas v = v ≡ blank
+IsJoinedOf (Some x) ds o c areas v = IsJoinedDrawing x o ds (length c.nets) areas v
+
+abbrev pub IsJoinedIn : List PlainInside → List Drawing → PlainOrigins → Circuit → List Area → Drawn
+    → Type 0
+IsJoinedIn xs ds o c areas v = IsJoinedOf (slice_get xs o.circuit) ds o c areas v
+
+-- each of these aligned circuits by its origins, as far as there are any
+abbrev pub AreAllJoined : List PlainInside → List Drawing → List PlainOrigins → List Circuit
+    → List Area → List Drawn → Type 0
+AreAllJoined xs ds os [] areas vs = vs ≡ []
+AreAllJoined xs ds [] (c ∷ cs) areas vs = vs ≡ []
+AreAllJoined xs ds (o ∷ os) (c ∷ cs) areas [] = ⊥
+AreAllJoined xs ds (o ∷ os) (c ∷ cs) areas (v ∷ vs) =
+    IsJoinedIn xs ds o c areas v × AreAllJoined xs ds os cs areas vs
+
 -- the regions of a picture
 abbrev pub shown_area : Region → Area
 shown_area r = record { class = r.class.items; rects = r.rects.items }
@@ -74,15 +96,19 @@ plain_drawings ds = map plain_drawing ds
 abbrev pub AreAllSmall : List Drawing → Type 0
 AreAllSmall ds = All (λ d. IsSmallDrawing (plain_drawing d)) ds
 
--- the names of layers and circuits, and what is drawn of each circuit; these are the names of the
--- cells' circuits
+-- the names of layers and circuits, and what is drawn of each aligned circuit, joined from what is
+-- drawn of the written ones by their cells; these are the names of the cells' circuits
 pub record IsPicture (s : Source) (t : Tables) (called : Called) (cells : List ℕ)
-    (names : List (List ℕ)) (lefts : List Circuit) (p : Picture) : Type 0 where
+    (names : List (List ℕ)) (written : List Circuit) (o : AllOrigins) (lefts : List Circuit)
+    (p : Picture) : Type 0 where
   pub layers : p.names.layers.items ≡ layer_names s.rules.now.names.items
   pub circuits : p.names.circuits.items
       ≡ labels_of s.design.now cells (first_seen [] names) lefts
-  pub drawings : AreAllDrawn s t called cells (first_seen [] names)
-      (numbers_of (first_seen [] names) lefts) lefts (shown_areas p.regions.items)
+  pub drawn : List Drawing
+  pub areas : List Area
+  pub by_cells : AreAllDrawn s t called cells (first_seen [] names)
+      (numbers_of (first_seen [] names) written) written areas (plain_drawings drawn)
+  pub drawings : AreAllJoined o.insides drawn o.circuits lefts (shown_areas p.regions.items)
       (plain_drawings p.drawings.items)
 
 -- a cell that the top reaches

@@ -1,4 +1,4 @@
-//! What is drawn of the circuits of a layout as they are compared.
+//! What is drawn of the circuits of a layout's netlist.
 
 ghost use Rattle.std.specs.Prelude.{◌≡◌, ◌++◌, ◌∷◌, [], IfOk, IfSome, OnOk, Some, map, slice_get};
 ghost use Rattle.deep_tables.specs.Circuits.{value_of};
@@ -15,22 +15,24 @@ ghost use Rattle.view_picture.specs.Picture.{plain_drawings, shown_areas};
 
 use net_model::Circuit;
 use net_names::Name;
+use part_origins::Origins;
 use std::alloc::{AllocError, Global};
 use text_table::TextTable;
 use view_drawing::{DeviceRegions, Lists, Region as Found, Source, draw_cell, name_table};
-use view_file::{Picture, Region};
-use view_labels::{labels, layer_names, same_devices, same_rows, shown_cell, shown_numbers};
-use view_netlist::{Drawing, Names};
+use view_labels::{same_devices, same_rows, shown_cell};
+use view_netlist::Drawing;
 use view_shapes::ShowFault;
 
-/// What was found of a layout: its cells in lists, the cells with circuits, and the names of their
-/// circuits.
+/// What was found of a layout: its cells in lists, the cells with circuits, the names of their
+/// circuits, the netlist that was aligned, and where the parts of the aligned one are from.
 #[derive(Clone, Copy)]
 pub struct Given<'a> {
     pub source: Source<'a>,
     pub lists: &'a Lists<'a>,
     pub cells: &'a [u32],
     pub names: &'a [Name],
+    pub written: &'a [Circuit],
+    pub origins: &'a Origins,
 }
 
 // What is drawn of a circuit whose cell has this one: nothing, unless it has its rows; the devices'
@@ -99,7 +101,8 @@ fn draw_in(
     }
 }
 
-fn keep(out: &mut Vec<Drawing>, drawing: Drawing) -> Result<(), AllocError>
+/// Adds what is drawn of a circuit.
+pub fn keep(out: &mut Vec<Drawing>, drawing: Drawing) -> Result<(), AllocError>
     requires { IsSmallDrawing (plain_drawing drawing) }
     ensures small { OnOk result (AreAllSmall out.old.items → AreAllSmall out.new.items) }
     ensures kept { OnOk result (plain_drawings out.new.items
@@ -109,7 +112,8 @@ fn keep(out: &mut Vec<Drawing>, drawing: Drawing) -> Result<(), AllocError>
     Ok(())
 }
 
-fn draw_all(
+/// What is drawn of each of these circuits by its cell.
+pub fn draw_all(
     alloc: Global,
     given: Given,
     table: &TextTable,
@@ -118,6 +122,8 @@ fn draw_all(
     regions: &mut DeviceRegions,
 ) -> Result<Vec<Drawing>, ShowFault>
     requires given { IsDrawable given }
+    ensures added { OnOk result (AddsRegions (areas_of regions.old.regions.items)
+        (areas_of regions.new.regions.items)) }
     ensures drawn { IfOk result (λ v. AreAllDrawn given.entry.source (listed_tables given.entry.lists.now)
         (called_by given.entry.lists.now.called.items) given.entry.cells.now table.now shown.now
         (map plain_circuit lefts.now) (areas_of regions.new.regions.items) (plain_drawings v.items)) }
@@ -134,40 +140,4 @@ fn draw_all(
         rest = more;
     }
     Ok(out)
-}
-
-// The regions in the form that the database takes.
-fn regions_of(alloc: Global, found: Vec<Found>) -> Result<Vec<Region>, AllocError>
-    ensures { IfOk result (λ v. shown_areas v.items ≡ areas_of found.items) }
-{
-    let mut out = Vec::new(alloc);
-    'regions: for region in found {
-        let Found { class, rects } = region;
-        out.push(Region { class, rects })?;
-    }
-    Ok(out)
-}
-
-/// The picture of these circuits: each under the name of its cell, with what is drawn of the cell
-/// where it has the rows of the cell's circuit. `TooFar` where something reaches 2^30 or more from
-/// the origin. Cost: that of drawing each cell once.
-pub fn picture(alloc: Global, given: Given, lefts: &[Circuit]) -> Result<Picture, ShowFault>
-    requires { IsDrawable given }
-    ensures picture { IfOk result (IsPicture given.entry.source (listed_tables given.entry.lists.now)
-        (called_by given.entry.lists.now.called.items) given.entry.cells.now given.entry.names.now
-        (map plain_circuit lefts.now)) }
-    ensures small { IfOk result IsSmallPicture }
-{
-    given.source.design.sound();
-    let table = name_table(alloc, given.names)?;
-    let shown = shown_numbers(alloc, &table, lefts)?;
-    let layers = layer_names(alloc, &given.source.rules.names)?;
-    let circuits = labels(alloc, given.source.design, given.cells, &table, lefts)?;
-    let mut found = DeviceRegions::none(alloc);
-    let drawings = draw_all(alloc, given, &table, &shown, lefts, &mut found)?;
-    Ok(Picture {
-        names: Names { layers, circuits },
-        drawings,
-        regions: regions_of(alloc, found.regions)?,
-    })
 }

@@ -2,5 +2,8 @@
 #![tactic(auto)]
 
 mod drawings;
+mod joined;
+mod pictures;
 
-pub use drawings::{Given, picture};
+pub use drawings::Given;
+pub use pictures::picture;

@@ -3,7 +3,7 @@ use Rattle.net_model.specs.Rows.{plain_circuit}
 use Rattle.plain_netlist.specs.Netlist.{Circuit}
 use Rattle.view_drawing.specs.Devices.{areas_of}
 use Rattle.view_drawing.specs.Drawn.{listed_tables}
-use Rattle.view_drawing.proofs.Placing.{front, nil_of}
+use Rattle.view_drawing.proofs.Placing.{added_twice, front, nil_of}
 use Rattle.view_netlist.specs.Drawing.{Drawn, plain_drawing}
 use Rattle.view_shapes.specs.Shown.{called_by}
 use Rattle.view_picture.specs.Picture.{IsDrawnIn, plain_drawings}
@@ -30,6 +30,7 @@ circuits-preserved c =
     let drawn = subst (λ (cell : Option ℕ). IsDrawnIn s t called shown cell (plain_circuit left) new v) c.shown_cell-cell.ensures c.in_ok-drawing.ensures.drawn in
     let next = goes_on s t called cells texts shown now new (plain_circuit left) (map plain_circuit more) v out all c.in_ok-drawing.ensures.added drawn here in
     record {
+      added = added_twice _ now new c.circuits.invariant.added c.in_ok-drawing.ensures.added;
       small_regions = λ h. c.in_ok-drawing.ensures.small_regions (c.circuits.invariant.small_regions h);
       small = c.in_ok-keep.ensures.small c.circuits.invariant.small;
       goes = subst (λ (l : List Drawn). Goes s t called cells texts shown new (map plain_circuit more) l all) (sym c.in_ok-keep.ensures.kept) next;
