@@ -1,9 +1,11 @@
 -- The classes of sound rules' devices are folded, show the kinds of the devices, and aren't empty.
-use Rattle.std.proofs.Common.{◌≡◌, inl, inr, ℕ, ◌<◌, ◌==◌, Bool, true, false, List, [], ◌∷◌, map, length, refl, ap, subst, arith}
+use Rattle.std.proofs.Common.{◌≡◌, ◌⊎◌, inl, inr, ℕ, zero, suc, ◌+◌, ◌<◌, ◌==◌, Bool, true, false, List, [], ◌∷◌, ◌++◌, map, length, Some, slice_get, refl, sym, ap, subst, ◌∙◌, arith}
 use Rattle.std.specs.Prelude.{◌&&◌, nat_le}
 use Rattle.std.specs.List.{list_all}
+use Rattle.std.specs.Char.{is_ascii_lowercase}
 use Rattle.std.proofs.lemmas.List.{length-map}
 use Rattle.net_names.specs.Folding.{folded_byte, folded_bytes}
+use Rattle.flat_layout.specs.Gates.{Rule}
 use Rattle.plain_netlist.proofs.Members.{from_map}
 use Rattle.plain_netlist.specs.Classes.{resistor_class, diode_class}
 use Rattle.rule_layers.specs.Meaning.{device_rule, device_rules, more_rule, mos_rules}
