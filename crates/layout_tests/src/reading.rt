@@ -98,8 +98,9 @@ fn cut(alloc: Global, bytes: &[u8], at: usize) -> Result<Layout, LayoutFault>
     reader.finish(alloc, None)
 }
 
+// Whole, cut at each place, and in pieces of one size.
 #[test]
-fn cut_anywhere(rt: HostRuntime) -> Result<(), Fail> {
+fn read_in_pieces(rt: HostRuntime) -> Result<(), Fail> {
     let alloc = rt.alloc();
     for (cells, wanted) in LAYOUTS {
         let stream = library(alloc, cells)?;
@@ -107,21 +108,8 @@ fn cut_anywhere(rt: HostRuntime) -> Result<(), Fail> {
         assert_eq!(rt; told(alloc, &whole, &KEYS)?.as_str(), wanted);
         for at in 0..=stream.len() {
             let layout = cut(alloc, &stream, at)?;
-            assert_eq!(rt;
-                told(alloc, &layout, &KEYS)?.as_str(),
-                wanted,
-                "cut at {at}"
-            );
+            assert_eq!(rt; told(alloc, &layout, &KEYS)?.as_str(), wanted, "{at}");
         }
-    }
-    Ok(())
-}
-
-#[test]
-fn pieces_of_one_size(rt: HostRuntime) -> Result<(), Fail> {
-    let alloc = rt.alloc();
-    for (cells, wanted) in LAYOUTS {
-        let stream = library(alloc, cells)?;
         for size in [1, 2, 3, 1000] {
             let layout = in_pieces(alloc, &stream, size)?;
             assert_eq!(rt; told(alloc, &layout, &KEYS)?.as_str(), wanted, "{size}");
@@ -186,31 +174,11 @@ fn is_cut(alloc: Global, stream: &[u8], at: usize) -> bool {
 }
 
 #[test]
-fn cuts_in_the_header(rt: HostRuntime) -> Result<(), Fail> {
+fn cuts_of_the_stream(rt: HostRuntime) -> Result<(), Fail> {
     let alloc = rt.alloc();
     let squares = library(alloc, &SQUARES)?;
     assert_eq!(rt; squares.len(), 230);
-    for at in 0..94 {
-        assert!(rt; is_cut(alloc, &squares, at), "{at}");
-    }
-    Ok(())
-}
-
-#[test]
-fn cuts_in_the_first_square(rt: HostRuntime) -> Result<(), Fail> {
-    let alloc = rt.alloc();
-    let squares = library(alloc, &SQUARES)?;
-    for at in 94..158 {
-        assert!(rt; is_cut(alloc, &squares, at), "{at}");
-    }
-    Ok(())
-}
-
-#[test]
-fn cuts_behind_it(rt: HostRuntime) -> Result<(), Fail> {
-    let alloc = rt.alloc();
-    let squares = library(alloc, &SQUARES)?;
-    for at in 158..230 {
+    for at in 0..230 {
         assert!(rt; is_cut(alloc, &squares, at), "{at}");
     }
     Ok(())
