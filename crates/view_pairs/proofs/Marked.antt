@@ -18,19 +18,19 @@ second_any : (a b : Bool) → b ≡ true → (a || b) ≡ true
 second_any true b h = refl
 second_any false b h = h
 
-any_listed : (j : ℕ) (ns : List ℕ) → list_any (λ x. x == j) ns ≡ true → IsListed j ns
+pub any_listed : (j : ℕ) (ns : List ℕ) → list_any (λ x. x == j) ns ≡ true → IsListed j ns
 any_listed j [] h = absurd (let e : false ≡ true = h in cc)
 any_listed j (n ∷ ns) h = elim (either (n == j) (list_any (λ x. x == j) ns) h) [
   | inl e ↦ inl (sym (eqb-true n j e))
   | inr e ↦ inr (any_listed j ns e)
 ]
 
-listed_any : (j : ℕ) (ns : List ℕ) → IsListed j ns → list_any (λ x. x == j) ns ≡ true
+pub listed_any : (j : ℕ) (ns : List ℕ) → IsListed j ns → list_any (λ x. x == j) ns ≡ true
 listed_any j [] h = absurd h
 listed_any j (n ∷ ns) (inl e) = first_any (n == j) (list_any (λ x. x == j) ns) (eq-eqb n j (sym e))
 listed_any j (n ∷ ns) (inr h) = second_any (n == j) (list_any (λ x. x == j) ns) (listed_any j ns h)
 
-one_truth : (a b : Bool) → (a ≡ true → b ≡ true) → (b ≡ true → a ≡ true) → a ≡ b
+pub one_truth : (a b : Bool) → (a ≡ true → b ≡ true) → (b ≡ true → a ≡ true) → a ≡ b
 one_truth true b f g = sym (f refl)
 one_truth false true f g = g refl
 one_truth false false f g = refl

@@ -1,5 +1,6 @@
 -- Pairs one after another.
 use Rattle.std.proofs.Common.{◌≡◌, ◌⊎◌, inl, inr, ◌∙◌, ℕ, zero, suc, ◌+◌, ◌<◌, ◌≤◌, Bool, List, [], ◌∷◌, ◌++◌, Some, None, length, get_or, map, slice_get, take, refl, sym, ap, subst, arith}
+use Rattle.match_types.specs.declared.answer.Answer.{Answer}
 use Rattle.plain_netlist.specs.Netlist.{Circuit}
 use Rattle.view_cross.specs.declared.rows.Row.{Row}
 use Rattle.view_pairs.specs.Proposals.{AreProposed, AreShown, IsProposal, asked_at, is_told}
@@ -98,16 +99,16 @@ shown_none lefts rights same = record {
   shown = λ k a b x l r h. absurd (let e : None ≡ Some x = h in cc);
 }
 
-at_place : (cs : List Row_circuit) (k : ℕ) (c : Row_circuit) → k < length cs → c ≡ get_or cs k c → slice_get (map plain_circuit cs) k ≡ Some (plain_circuit c)
+pub at_place : (cs : List Row_circuit) (k : ℕ) (c : Row_circuit) → k < length cs → c ≡ get_or cs k c → slice_get (map plain_circuit cs) k ≡ Some (plain_circuit c)
 at_place cs k c lt e = slice_get-map plain_circuit cs k ∙ ap (option_map plain_circuit) (slice_get-get_or cs k c lt ∙ ap Some (sym e))
 
 -- the next pair of two lists
-pub pair_on : (lefts rights : List Row_circuit) (same told : Bool) (old new : Proposed) (k : ℕ) (a b : Row_circuit)
+pub pair_on : (lefts rights : List Row_circuit) (same told : Bool) (old new : Proposed) (k : ℕ) (answer : Answer) (a b : Row_circuit)
     → AreShown (map plain_circuit lefts) (map plain_circuit rights) same old.proposals.items (rows_in old) → length old.proposals.items ≡ k
     → k < length lefts → k < length rights → a ≡ get_or lefts k a → b ≡ get_or rights k b → told ≡ is_told same (length lefts) k
-    → AddsPair told (plain_circuit a) (plain_circuit b) old new
+    → AddsPair told (plain_circuit a) (plain_circuit b) answer old new
     → AreShown (map plain_circuit lefts) (map plain_circuit rights) same new.proposals.items (rows_in new) × (length new.proposals.items ≡ k + 1)
-pair_on lefts rights same told old new k a b shown at lt rt left right te adds =
+pair_on lefts rights same told old new k answer a b shown at lt rt left right te adds =
     let ls = map plain_circuit lefts in
     let rs = map plain_circuit rights in
     let x = adds.proposal in

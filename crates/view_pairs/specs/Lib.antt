@@ -6,4 +6,8 @@ pub mod Marks
 pub mod Rows
 pub mod Shown
 pub mod Proposals
+pub mod Only
+pub mod Keys
+pub mod Wanted
+pub mod Sure
 pub mod Added

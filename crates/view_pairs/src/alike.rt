@@ -51,7 +51,7 @@ pub fn number_at(numbers: &[u32], k: u32) -> Option<u32>
     }
 }
 
-/// A transistor of a list.
+/// A device of a list.
 pub fn device_at(devices: &[DeviceRow], k: u32) -> Option<&DeviceRow>
     ensures { option_map (λ d. plain_device d.now) result
         ≡ slice_get (map plain_device devices.now) k }

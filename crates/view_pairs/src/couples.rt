@@ -1,11 +1,12 @@
 //! Couples of one kind.
 
-ghost use Rattle.std.specs.Prelude.{◌≡◌, ◌++◌, true, IfOk};
-ghost use Rattle.std.specs.List.{list_all};
+ghost use Rattle.std.specs.Prelude.{◌≡◌, IfOk};
+ghost use Rattle.std.specs.List.{filter};
 ghost use Rattle.net_model.specs.Rows.{plain_circuit};
 ghost use Rattle.view_pairs.specs.Alike.{pin_marks};
 ghost use Rattle.view_pairs.specs.Partners.{ArePartners};
 ghost use Rattle.view_pairs.specs.Proposals.{AreAlike, is_alike_couple};
+ghost use Rattle.view_pairs.specs.Wanted.{TakesAlike};
 
 use crate::alike::{Sides, is_alike};
 use crate::partners::{Couple, Partners, claimed};
@@ -23,8 +24,9 @@ fn alike_couples(
     requires left_pins { sides.now.left_pins.items ≡ pin_marks (plain_circuit sides.now.left.now) }
     requires right_pins { sides.now.right_pins.items
         ≡ pin_marks (plain_circuit sides.now.right.now) }
-    ensures { IfOk result (λ found. list_all (is_alike_couple (plain_circuit sides.now.left.now)
-        (plain_circuit sides.now.right.now) nets.now kind) found.items ≡ true) }
+    ensures { IfOk result (λ found. found.items ≡ filter (is_alike_couple
+        (plain_circuit sides.now.left.now) (plain_circuit sides.now.right.now) nets.now kind)
+        couples.now) }
 {
     let mut found = Vec::new(alloc);
     let mut rest = couples;
@@ -54,7 +56,10 @@ pub fn partners_of(
     ensures partners { IfOk result (λ x. ArePartners lefts rights x) }
     ensures alike { IfOk result (λ x. AreAlike (plain_circuit sides.now.left.now)
         (plain_circuit sides.now.right.now) nets.now kind x) }
+    ensures first { IfOk result (λ x. TakesAlike (plain_circuit sides.now.left.now)
+        (plain_circuit sides.now.right.now) nets.now kind lefts rights couples.now x) }
 {
     let alike = alike_couples(alloc, sides, nets, kind, couples)?;
-    claimed(alloc, lefts, rights, &alike)
+    let found = claimed(alloc, lefts, rights, &alike)?;
+    Ok(found)
 }

@@ -16,7 +16,7 @@ pub struct End {
     pub other: u32,
 }
 
-/// The nodes of both circuits: of the left one the nets, the transistors, the calls, by number,
+/// The nodes of both circuits: of the left one the nets, the devices, the calls, by number,
 /// then of the right one. Each has its ends, and the number of its kind.
 #[derive(Drop)]
 pub struct Graph {

@@ -79,7 +79,7 @@ fn push_channel(
     Ok(())
 }
 
-/// Adds the terminals of a transistor and its partner.
+/// Adds the terminals of a device and its partner.
 pub fn push_device(
     out: &mut Vec<Joint>,
     nets: &Partners,
@@ -103,7 +103,7 @@ fn lone(side: Side, n: u32) -> Joint
     }
 }
 
-/// Adds the nets of a transistor that has no partner.
+/// Adds the nets of a device that has no partner.
 pub fn push_lone_device(out: &mut Vec<Joint>, side: Side, d: &DeviceRow) -> Result<(), AllocError>
     ensures { OnOk result (out.new.items ≡ out.old.items
         ++ lone_joints side (device_nets (plain_device d.now))) }

@@ -1,4 +1,4 @@
-//! What nodes look like at the start: a net by being a pin, a transistor by its class, a call by
+//! What nodes look like at the start: a net by being a pin, a device by its class, a call by
 //! its pair.
 
 use crate::alike::Sides;

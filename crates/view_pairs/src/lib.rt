@@ -1,4 +1,4 @@
-//! A proposal of partners for the nodes of two circuits, for show: which net, transistor or call of
+//! A proposal of partners for the nodes of two circuits, for show: which net, device or call of
 //! the schematic a person would take for one of the layout. Sure is only the comparison's answer.
 #![tactic(auto)]
 
@@ -10,6 +10,7 @@ mod joints;
 mod keys;
 mod kinds;
 mod marks;
+mod only;
 mod pairs;
 mod partners;
 mod proposal;

@@ -177,7 +177,7 @@ fn one_device_mark(
     Ok(sized_mark(mark_by(partner, odd), same_sizes(d, e)))
 }
 
-/// The mark of a transistor and its partner.
+/// The mark of a device and its partner.
 pub fn device_mark(
     alloc: Global,
     nets: &Partners,

@@ -6,6 +6,8 @@ ghost use Rattle.view_pairs.specs.Alike.{pin_marks};
 ghost use Rattle.view_pairs.specs.Proposals.{AreProposed, IsProposal, is_told};
 ghost use Rattle.view_cross.specs.Whole.{AreWhole};
 ghost use Rattle.view_pairs.specs.Added.{AddsPair};
+ghost use Rattle.view_pairs.specs.Sure.{AreMatched, AreNamed, HaveSure};
+ghost use Rattle.view_pairs.specs.Wanted.{AreOnlyOnes, AreWanted, TakesWanted};
 ghost use Rattle.view_pairs.specs.Rows.{asked, proposal_rows};
 
 use crate::alike::{Sides, sides_of};
@@ -14,7 +16,7 @@ use crate::partners::claimed;
 use crate::proposal::Proposal;
 use crate::rows::{proposal_rows, show};
 use crate::search::searched;
-use crate::wanted::{Wanted, found, matched, pin_couples};
+use crate::wanted::{Wanted, found, matched, only_first, pin_couples};
 use job_graph::Reads;
 use list_base::number;
 use match_types::Answer;
@@ -27,8 +29,10 @@ fn proposal_of(alloc: Global, sides: &Sides<'_>, wanted: &Wanted) -> Result<Prop
     requires left_pins { sides.now.left_pins.items ≡ pin_marks (plain_circuit sides.now.left.now) }
     requires right_pins { sides.now.right_pins.items
         ≡ pin_marks (plain_circuit sides.now.right.now) }
-    ensures { IfOk result (λ x. IsProposal (plain_circuit sides.now.left.now)
+    ensures sound { IfOk result (λ x. IsProposal (plain_circuit sides.now.left.now)
         (plain_circuit sides.now.right.now) x) }
+    ensures takes { IfOk result (λ x. TakesWanted (plain_circuit sides.now.left.now)
+        (plain_circuit sides.now.right.now) wanted.now x) }
 {
     let (a, b) = (sides.left, sides.right);
     let none = claimed(alloc, 0, 0, &[])?;
@@ -49,19 +53,31 @@ fn proposal_of(alloc: Global, sides: &Sides<'_>, wanted: &Wanted) -> Result<Prop
     })
 }
 
-// The couples of a match, or those that a search finds.
+// Nodes that alone look so on both sides, and what a search finds.
+fn looked_for(alloc: Global, sides: &Sides<'_>, before: &[Proposal]) -> Result<Wanted, AllocError>
+    ensures { IfOk result (AreOnlyOnes (length before.now) (plain_circuit sides.now.left.now)
+        (plain_circuit sides.now.right.now)) }
+{
+    let result = searched(alloc, sides, before)?;
+    let wanted = found(alloc, &result)?;
+    only_first(alloc, sides, before.len(), &wanted)
+}
+
+// The couples of a match, or those that are looked for.
 fn wanted_of(
     alloc: Global,
     sides: &Sides<'_>,
     before: &[Proposal],
     answer: &Answer,
-) -> Result<Wanted, AllocError> {
+) -> Result<Wanted, AllocError>
+    ensures { IfOk result (AreWanted (length before.now) (plain_circuit sides.now.left.now)
+        (plain_circuit sides.now.right.now) answer.now) }
+{
     match answer {
         Answer::Match(pairing) => matched(alloc, pairing),
-        Answer::Differs(_) | Answer::Undecided(_) | Answer::Skipped(_) => {
-            let result = searched(alloc, sides, before)?;
-            found(alloc, &result)
-        }
+        Answer::Differs(_) => looked_for(alloc, sides, before),
+        Answer::Undecided(_) => looked_for(alloc, sides, before),
+        Answer::Skipped(_) => looked_for(alloc, sides, before),
     }
 }
 
@@ -101,6 +117,9 @@ fn told_pair(
         (plain_circuit right.now) x.proposal) }
     ensures rows { IfOk result (λ x. x.rows.items ≡ proposal_rows (asked told
         (plain_circuit left.now) (plain_circuit right.now) before.now x.proposal)) }
+    ensures sure { IfOk result (λ x. HaveSure (length before.now) (plain_circuit left.now)
+        (plain_circuit right.now) answer.now (proposal_rows (asked told (plain_circuit left.now)
+        (plain_circuit right.now) before.now x.proposal))) }
 {
     let sides = sides_of(alloc, left, right)?;
     let wanted = wanted_of(alloc, &sides, before, answer)?;
@@ -126,7 +145,7 @@ fn add_pair(
     told: bool,
 ) -> Result<(), AllocError>
     ensures { OnOk result (AddsPair told (plain_circuit left.now) (plain_circuit right.now)
-        out.old out.new) }
+        answer.now out.old out.new) }
 {
     let found = told_pair(alloc, left, right, &out.proposals, answer, told)?;
     out.proposals.push(found.proposal)?;
@@ -143,8 +162,9 @@ fn is_told(same_pins: bool, count: u32, k: u32) -> bool
 }
 
 /// For each pair of two netlists that are compared by position its rows: the partners of its nets,
-/// pins, transistors and calls that its pairing gives, or, where it isn't a match, those that are
-/// proposed for it. With `same_pins` names tell the last pair's pins apart. For show: what is sure
+/// pins, devices and calls that its pairing gives, or, where it isn't a match, those that are
+/// proposed for it, among them the only nets of a name, the only devices of a class and the only
+/// calls of a pair. With `same_pins` names tell the last pair's pins apart. For show: what is sure
 /// is the answer. Near linear. The error is want of memory, or 2^32 nodes of a pair.
 pub fn proposals<R: Reads<Answer>>(
     alloc: Global,
@@ -159,6 +179,12 @@ pub fn proposals<R: Reads<Answer>>(
         (map plain_circuit rights.now) same_pins (map (λ r. r.items) rows.items)) }
     ensures whole { IfOk result (λ rows. AreWhole (map plain_circuit lefts.now)
         (map plain_circuit rights.now) (map (λ r. r.items) rows.items)) }
+    ensures matched { IfOk result (λ rows. AreMatched (map plain_circuit lefts.now)
+        (map plain_circuit rights.now) (λ k. R.value answers.now k)
+        (map (λ r. r.items) rows.items)) }
+    ensures named { IfOk result (λ rows. AreNamed (map plain_circuit lefts.now)
+        (map plain_circuit rights.now) (λ k. R.value answers.now k)
+        (map (λ r. r.items) rows.items)) }
 {
     let count = number(lefts.len())?;
     let mut out = Proposed {

@@ -1,9 +1,9 @@
 //! Partners of the nodes of one kind.
 
-ghost use Rattle.std.specs.Prelude.{◌≡◌, ◌⊎◌, true, false, IfOk, length, slice_get, slice_set};
+ghost use Rattle.std.specs.Prelude.{◌≡◌, true, false, IfOk, length, slice_get};
 ghost use Rattle.std.specs.Prelude.{None, Some, replicate};
-ghost use Rattle.view_pairs.specs.Partners.{ArePartners, HaveAll, IsClaimed, free_from, meets};
-ghost use Rattle.view_pairs.specs.Partners.{partner_in};
+ghost use Rattle.view_pairs.specs.Partners.{AreFirstTaken, ArePartners, HaveAll, IsClaim};
+ghost use Rattle.view_pairs.specs.Partners.{IsClaimed, free_from, meets, partner_in, sure};
 
 use list_base::number;
 use std::alloc::{AllocError, Global};
@@ -20,6 +20,19 @@ pub struct Partner {
 pub struct Couple {
     pub left: u32,
     pub right: Partner,
+}
+
+/// These two, that weren't taken from several.
+pub fn sure(left: u32, right: u32) -> Couple
+    ensures { result ≡ sure left right }
+{
+    Couple {
+        left,
+        right: Partner {
+            number: right,
+            tied: false,
+        },
+    }
 }
 
 /// The partner of each left node of a kind, if it has one, and the right nodes that are nobody's.
@@ -72,7 +85,8 @@ impl Claims {
 
     // Whether a left node is there and has no partner.
     fn is_lone(&self, left: u32) -> bool
-        ensures { result ≡ true → slice_get self.now.lefts.items left ≡ Some None }
+        ensures lone { result ≡ true → slice_get self.now.lefts.items left ≡ Some None }
+        ensures not_lone { result ≡ false → slice_get self.now.lefts.items left ≡ Some None → ⊥ }
     {
         match self.lefts.get(left as usize) {
             Some(Some(_)) => false,
@@ -83,7 +97,8 @@ impl Claims {
 
     // Whether a right node is there and nobody's partner.
     fn is_free(&self, right: u32) -> bool
-        ensures { result ≡ true → slice_get self.now.taken.items right ≡ Some false }
+        ensures free { result ≡ true → slice_get self.now.taken.items right ≡ Some false }
+        ensures not_free { result ≡ false → slice_get self.now.taken.items right ≡ Some false → ⊥ }
     {
         match self.taken.get(right as usize) {
             Some(is_taken) => !*is_taken,
@@ -97,8 +112,8 @@ impl Claims {
         ensures claimed { IsClaimed self.new.lefts.items self.new.taken.items }
         ensures count { length self.new.lefts.items ≡ length self.old.lefts.items }
         ensures rights { length self.new.taken.items ≡ length self.old.taken.items }
-        ensures new { (self.new.lefts.items ≡ self.old.lefts.items) ⊎ (self.new.lefts.items
-            ≡ slice_set self.old.lefts.items couple.left (Some couple.right)) }
+        ensures claim { IsClaim self.old.lefts.items self.new.lefts.items self.old.taken.items
+            self.new.taken.items couple }
     {
         if self.is_lone(couple.left) && self.is_free(couple.right.number) {
             self.lefts[couple.left as usize] = Some(couple.right);
@@ -135,6 +150,7 @@ pub fn claimed(
 ) -> Result<Partners, AllocError>
     ensures partners { IfOk result (λ x. ArePartners lefts rights x) }
     ensures couples { IfOk result (λ x. HaveAll couples.now x.lefts.items) }
+    ensures first { IfOk result (λ x. AreFirstTaken lefts rights couples.now x.lefts.items) }
 {
     let mut claims = Claims::none(alloc, lefts, rights)?;
     let mut rest = couples;

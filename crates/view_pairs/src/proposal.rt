@@ -2,7 +2,7 @@
 
 use crate::partners::Partners;
 
-/// The partners of the nets, pins, transistors and calls of two circuits.
+/// The partners of the nets, pins, devices and calls of two circuits.
 #[derive(Drop)]
 pub struct Proposal {
     pub nets: Partners,

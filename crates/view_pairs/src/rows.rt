@@ -169,7 +169,7 @@ fn push_kind(
     push_rights(out, kind, &partners.free)
 }
 
-/// The rows of all nodes of a pair: nets, pins, transistors, calls. Linear in the circuits.
+/// The rows of all nodes of a pair: nets, pins, devices, calls. Linear in the circuits.
 pub fn proposal_rows(alloc: Global, q: &Shown<'_>) -> Result<Vec<Row>, AllocError>
     requires { IsShown q.now }
     ensures { IfOk result (λ rows. rows.items ≡ proposal_rows (asked_of q.now)) }

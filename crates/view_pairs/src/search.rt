@@ -5,6 +5,7 @@ use crate::colours::Colours;
 use crate::graph::Graph;
 use crate::keys::{Choice, Key, Mates, mixed};
 use crate::kinds::kinds_of;
+use crate::only::is_given;
 use crate::proposal::Proposal;
 use net_names::Name;
 use std::alloc::{AllocError, Global};
@@ -32,7 +33,7 @@ fn push_named(
 ) -> Result<(), AllocError> {
     let mut node = first;
     for (name, is_pin) in names.iter().zip(pins) {
-        if !name.bytes().contains(&b'$') {
+        if is_given(name.bytes()) {
             let place = table.number(alloc, name.bytes())?;
             keys.push(Key {
                 class: place as u64,
@@ -129,7 +130,7 @@ impl Search {
         Some(sum)
     }
 
-    // The transistors and calls without a partner, by kind, and by their nets where that is asked:
+    // The devices and calls without a partner, by kind, and by their nets where that is asked:
     // those then whose nets all have partners.
     fn owners(&self, alloc: Global, by_nets: bool) -> Result<Vec<Key>, AllocError> {
         let mut keys = Vec::new(alloc);

@@ -1,4 +1,4 @@
-//! The terminals of all transistors and calls of a pair.
+//! The terminals of all devices and calls of a pair.
 
 ghost use Rattle.std.specs.Prelude.{◌≡◌, ◌++◌, IfOk, OnOk, map, slice_get};
 ghost use Rattle.net_model.specs.Rows.{plain_call, plain_circuit, plain_device};
@@ -178,7 +178,7 @@ fn push_calls(
     push_free_calls(out, &right.calls, &calls.free)
 }
 
-/// The terminals of all transistors and calls, with those of their partners. Linear in them.
+/// The terminals of all devices and calls, with those of their partners. Linear in them.
 pub fn joints_of(
     alloc: Global,
     left: &Circuit,

@@ -1,12 +1,20 @@
 //! The couples that shall be partners, by kind.
 
+ghost use Rattle.std.specs.Prelude.{◌≡◌, ◌++◌, IfOk};
+ghost use Rattle.net_model.specs.Rows.{plain_circuit};
+ghost use Rattle.view_pairs.specs.Only.{in_order};
+ghost use Rattle.view_pairs.specs.Wanted.{AreOfPairing, AreOnlyOnes};
+
+use crate::alike::Sides;
 use crate::graph::Graph;
-use crate::partners::{Couple, Partner, Partners};
+use crate::only::{only_calls, only_devices, only_nets};
+use crate::partners::{Couple, Partner, Partners, sure};
 use crate::search::Search;
+use list_base::number;
 use match_types::{NodeKind, Pairing};
 use std::alloc::{AllocError, Global};
 
-/// Couples of nets, transistors and calls.
+/// Couples of nets, devices and calls.
 #[derive(Drop)]
 pub struct Wanted {
     pub nets: Vec<Couple>,
@@ -45,10 +53,10 @@ fn push_node(
     if mate.number < right.first || mate.number >= right.end() {
         return Ok(());
     }
-    let (kind, number) = left.kind_of(node);
+    let (kind, place) = left.kind_of(node);
     let (_, partner) = right.kind_of(mate.number);
     let couple = Couple {
-        left: number,
+        left: place,
         right: Partner {
             number: partner,
             tied: mate.tied,
@@ -68,28 +76,80 @@ pub fn found(alloc: Global, search: &Search) -> Result<Wanted, AllocError> {
     Ok(wanted)
 }
 
-fn listed(alloc: Global, rights: &[u32]) -> Result<Vec<Couple>, AllocError> {
+// The right number of each left node.
+fn in_order(alloc: Global, rights: &[u32]) -> Result<Vec<Couple>, AllocError>
+    ensures { IfOk result (λ couples. couples.items ≡ in_order 0 rights.now) }
+{
+    number(rights.len())?;
     let mut couples = Vec::new(alloc);
-    let mut left: u32 = 0;
-    for number in rights {
-        couples.push(Couple {
-            left,
-            right: Partner {
-                number: *number,
-                tied: false,
-            },
-        })?;
-        left = left.wrapping_add(1);
+    let mut left = 0;
+    let mut rest = rights;
+    'rights: while let [right, more @ ..] = rest {
+        couples.push(sure(left, *right))?;
+        left += 1;
+        rest = more;
     }
     Ok(couples)
 }
 
-/// Those of a match.
-pub fn matched(alloc: Global, pairing: &Pairing) -> Result<Wanted, AllocError> {
+/// Those of a match. Linear.
+pub fn matched(alloc: Global, pairing: &Pairing) -> Result<Wanted, AllocError>
+    ensures { IfOk result (AreOfPairing pairing.now) }
+{
+    let nets = in_order(alloc, &pairing.nets)?;
+    let devices = in_order(alloc, &pairing.devices)?;
+    let calls = in_order(alloc, &pairing.calls)?;
     Ok(Wanted {
-        nets: listed(alloc, &pairing.nets)?,
-        devices: listed(alloc, &pairing.devices)?,
-        calls: listed(alloc, &pairing.calls)?,
+        nets,
+        devices,
+        calls,
+    })
+}
+
+// Nodes that alone look so on both sides. `before` is the number of pairs that may be called.
+fn only_ones(alloc: Global, sides: &Sides<'_>, before: usize) -> Result<Wanted, AllocError>
+    ensures { IfOk result (AreOnlyOnes before (plain_circuit sides.now.left.now)
+        (plain_circuit sides.now.right.now)) }
+{
+    let (left, right) = (sides.left, sides.right);
+    let nets = only_nets(alloc, &left.nets, &right.nets)?;
+    let devices = only_devices(alloc, &left.devices, &right.devices)?;
+    let calls = only_calls(alloc, before, &left.calls, &right.calls)?;
+    Ok(Wanted {
+        nets,
+        devices,
+        calls,
+    })
+}
+
+// The first couples, and others behind them.
+fn behind(first: Vec<Couple>, others: &[Couple]) -> Result<Vec<Couple>, AllocError>
+    ensures { IfOk result (λ couples. couples.items ≡ first.items ++ others.now) }
+{
+    let mut couples = first;
+    couples.extend_from_slice(others)?;
+    Ok(couples)
+}
+
+/// These, behind nodes that alone look so on both sides. Linear. `before` is the number of pairs that
+/// may be called.
+pub fn only_first(
+    alloc: Global,
+    sides: &Sides<'_>,
+    before: usize,
+    wanted: &Wanted,
+) -> Result<Wanted, AllocError>
+    ensures { IfOk result (AreOnlyOnes before (plain_circuit sides.now.left.now)
+        (plain_circuit sides.now.right.now)) }
+{
+    let first = only_ones(alloc, sides, before)?;
+    let nets = behind(first.nets, &wanted.nets)?;
+    let devices = behind(first.devices, &wanted.devices)?;
+    let calls = behind(first.calls, &wanted.calls)?;
+    Ok(Wanted {
+        nets,
+        devices,
+        calls,
     })
 }
 
