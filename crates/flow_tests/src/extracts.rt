@@ -2,11 +2,10 @@
 
 ghost use Rattle.std.specs.Prelude.{◌≤◌};
 
-use crate::drawn::{Drawn, stream_of};
-use crate::gates::{
-    ACTIVE, CROSSED, HALF_CROSSED, NMOS, POLY, RING, Shape, one_cell, placed_once, push_shapes,
-};
-use crate::streams::{TURNS, push_cell, push_end, push_last, push_place, push_text, start};
+use crate::drawn::Placed::At;
+use crate::drawn::{Drawn, Letter, Shape, stream_of};
+use crate::gates::{ACTIVE, CROSSED, HALF_CROSSED, NMOS, POLY, RING};
+use crate::streams::{R0, push_cell, push_end, push_last, push_place, push_rect, start};
 use deep_flow::extract;
 use deep_tables::GateCause;
 use gds_layout::read_layout;
@@ -93,146 +92,6 @@ fn has_netlist<R: Threads + Wait + Sync>(
     Ok(true)
 }
 
-// The transistor T with these letters at these points, and what stands behind it.
-fn transistor(alloc: Global, letters: &[(u8, i32, i32)]) -> Result<Vec<u8>, AllocError> {
-    let mut out = start(alloc)?;
-    push_shapes(&mut out, b'T', &CROSSED)?;
-    for (letter, x, y) in letters {
-        push_text(&mut out, 5, *letter, *x, *y)?;
-    }
-    push_end(&mut out)?;
-    Ok(out)
-}
-
-const LETTERS: [(u8, i32, i32); 3] = [(b'S', 100, 100), (b'D', 1000, 100), (b'G', 600, 1550)];
-
-#[test]
-fn one_transistor(rt: HostRuntime) -> Result<(), Fail> {
-    let alloc: Global = rt.alloc();
-    let mut layout = transistor(alloc, &LETTERS)?;
-    push_last(&mut layout)?;
-    let text = b"* lvs netlist
-.SUBCKT T G S D VSS
-M1 D G S VSS NMOS L=0.25U W=1.5U
-.ENDS T
-.END
-";
-    assert!(rt; has_netlist(&rt, alloc, &layout, NMOS, text, &[])?);
-    Ok(())
-}
-
-// A cell that places the transistor, and one that places that cell.
-#[test]
-fn three_levels(rt: HostRuntime) -> Result<(), Fail> {
-    let alloc: Global = rt.alloc();
-    let mut layout = transistor(alloc, &LETTERS)?;
-    for (name, placed) in [(b'M', b'T'), (b'U', b'M')] {
-        push_cell(&mut layout, name)?;
-        push_place(&mut layout, placed, TURNS[0], 0, 0)?;
-        push_end(&mut layout)?;
-    }
-    push_last(&mut layout)?;
-    let text = b"* lvs netlist
-.SUBCKT T G S D VSS
-M1 D G S VSS NMOS L=0.25U W=1.5U
-.ENDS T
-.SUBCKT M VSS
-X1 \\$1 \\$2 \\$3 VSS T
-.ENDS M
-.SUBCKT U VSS
-X1 VSS M
-.ENDS U
-.END
-";
-    assert!(rt; has_netlist(&rt, alloc, &layout, NMOS, text, &[])?);
-    Ok(())
-}
-
-// One name for source and drain, and two names for one of them.
-#[test]
-fn equal_labels(rt: HostRuntime) -> Result<(), Fail> {
-    let alloc: Global = rt.alloc();
-    let twice = [(b'S', 100, 100), (b'S', 1000, 100), (b'G', 600, 1550)];
-    let mut layout = transistor(alloc, &twice)?;
-    push_last(&mut layout)?;
-    let text = b"* lvs netlist
-.SUBCKT T G S S\\$3 VSS
-M1 S\\$3 G S VSS NMOS L=0.25U W=1.5U
-.ENDS T
-.END
-";
-    assert!(rt; has_netlist(&rt, alloc, &layout, NMOS, text, &[])?);
-    let both = [
-        (b'S', 100, 100),
-        (b'S', 1000, 100),
-        (b'D', 1000, 100),
-        (b'G', 600, 1550),
-    ];
-    let mut layout = transistor(alloc, &both)?;
-    push_last(&mut layout)?;
-    let text = b"* lvs netlist
-.SUBCKT T G S D\\,S VSS
-M1 D\\,S G S VSS NMOS L=0.25U W=1.5U
-.ENDS T
-.END
-";
-    assert!(rt; has_netlist(&rt, alloc, &layout, NMOS, text, &[])?);
-    Ok(())
-}
-
-const NOTHING: &[u8] = b"* lvs netlist\n.SUBCKT T\n.ENDS T\n.END\n";
-
-// Nets without a transistor.
-#[test]
-fn net_through_child(rt: HostRuntime) -> Result<(), Fail> {
-    let alloc: Global = rt.alloc();
-    let below: [Shape; 1] = [(5, [10, 0, 20, 10])];
-    let own: [Shape; 2] = [(5, [0, 0, 10, 10]), (5, [20, 0, 30, 10])];
-    let layout = placed_once(alloc, &[&below], &own)?;
-    assert!(rt; has_netlist(&rt, alloc, &layout, METAL, NOTHING, &[])?);
-    Ok(())
-}
-
-// Bad gates of the top, and of a cell that it places.
-#[test]
-fn bad_gates(rt: HostRuntime) -> Result<(), Fail> {
-    let alloc: Global = rt.alloc();
-    let half = Told {
-        cell: 0,
-        least: Square { x: 10, y: 0 },
-        cause: GateCause::Groups(1),
-    };
-    let ring = Told {
-        cell: 0,
-        least: Square { x: 10, y: 10 },
-        cause: GateCause::NoLength,
-    };
-    let layout = one_cell(alloc, &HALF_CROSSED)?;
-    assert!(rt; has_netlist(&rt, alloc, &layout, NMOS, NOTHING, &[half])?);
-    let layout = one_cell(alloc, &RING)?;
-    assert!(rt; has_netlist(&rt, alloc, &layout, NMOS, NOTHING, &[ring])?);
-    let layout = placed_once(alloc, &[&RING], &[])?;
-    assert!(rt; has_netlist(&rt, alloc, &layout, NMOS, NOTHING, &[ring])?);
-    Ok(())
-}
-
-// The active layer of one cell and the gate conductor of its parent.
-#[test]
-fn gate_across_cells(rt: HostRuntime) -> Result<(), Fail> {
-    let alloc: Global = rt.alloc();
-    let below: [Shape; 1] = [(ACTIVE, [0, 0, 50, 20])];
-    let own: [Shape; 1] = [(POLY, [20, -5, 30, 25])];
-    let layout = placed_once(alloc, &[&below], &own)?;
-    let text = b"* lvs netlist
-.SUBCKT T VSS
-M1 \\$3 \\$1 \\$2 VSS NMOS L=0.01U W=0.02U
-.ENDS T
-.END
-";
-    assert!(rt; has_netlist(&rt, alloc, &layout, NMOS, text, &[])?);
-    Ok(())
-}
-
 const CHIP: &[u8] = b"nwell = input(1, 0)\nactive = input(2, 0)\npoly = input(3, 0)
 contact = input(4, 0)\nmetal = input(5, 0)\ntie = input(6, 0)\ntxt = labels(5, 1)
 bulk = polygon_layer\npactive = active & nwell\nnactive = active - nwell
@@ -268,24 +127,180 @@ const INVERTER: [Shape; 21] = [
     (6, [50, 2850, 200, 2950]),
 ];
 
-#[test]
-fn inverter(rt: HostRuntime) -> Result<(), Fail> {
-    let alloc: Global = rt.alloc();
-    let mut layout = start(alloc)?;
-    push_shapes(&mut layout, b'T', &INVERTER)?;
-    for (letter, x, y) in [(b'A', 10, 1500), (b'Y', 990, 1500), (b'V', 10, 2900)] {
-        push_text(&mut layout, 5, letter, x, y)?;
-    }
-    push_end(&mut layout)?;
-    push_last(&mut layout)?;
-    let text = b"* lvs netlist
+const LETTERS: [Letter; 3] = [(b'S', 100, 100), (b'D', 1000, 100), (b'G', 600, 1550)];
+
+/// The transistor with names at its terminals.
+const NAMED: Drawn = Drawn(b'T', &CROSSED, &LETTERS, &[]);
+
+const NOTHING: &str = "* lvs netlist\n.SUBCKT T\n.ENDS T\n.END\n";
+
+const HALF: Told = Told {
+    cell: 0,
+    least: Square { x: 10, y: 0 },
+    cause: GateCause::Groups(1),
+};
+
+const AROUND: Told = Told {
+    cell: 0,
+    least: Square { x: 10, y: 10 },
+    cause: GateCause::NoLength,
+};
+
+/// Cells, their rules, the netlist, and the bad gates.
+struct Case(
+    &'static [Drawn],
+    &'static [u8],
+    &'static str,
+    &'static [Told],
+);
+
+static CASES: [Case; 10] = [
+    Case(
+        &[NAMED],
+        NMOS,
+        "* lvs netlist
+.SUBCKT T G S D VSS
+M1 D G S VSS NMOS L=0.25U W=1.5U
+.ENDS T
+.END
+",
+        &[],
+    ),
+    // A cell that places the transistor, and one that places that cell.
+    Case(
+        &[
+            NAMED,
+            Drawn(b'M', &[], &[], &[At(b'T', 0, 0)]),
+            Drawn(b'U', &[], &[], &[At(b'M', 0, 0)]),
+        ],
+        NMOS,
+        "* lvs netlist
+.SUBCKT T G S D VSS
+M1 D G S VSS NMOS L=0.25U W=1.5U
+.ENDS T
+.SUBCKT M VSS
+X1 \\$1 \\$2 \\$3 VSS T
+.ENDS M
+.SUBCKT U VSS
+X1 VSS M
+.ENDS U
+.END
+",
+        &[],
+    ),
+    // One name for source and drain.
+    Case(
+        &[Drawn(
+            b'T',
+            &CROSSED,
+            &[(b'S', 100, 100), (b'S', 1000, 100), (b'G', 600, 1550)],
+            &[],
+        )],
+        NMOS,
+        "* lvs netlist
+.SUBCKT T G S S\\$3 VSS
+M1 S\\$3 G S VSS NMOS L=0.25U W=1.5U
+.ENDS T
+.END
+",
+        &[],
+    ),
+    // Two names for one of them.
+    Case(
+        &[Drawn(
+            b'T',
+            &CROSSED,
+            &[
+                (b'S', 100, 100),
+                (b'S', 1000, 100),
+                (b'D', 1000, 100),
+                (b'G', 600, 1550),
+            ],
+            &[],
+        )],
+        NMOS,
+        "* lvs netlist
+.SUBCKT T G S D\\,S VSS
+M1 D\\,S G S VSS NMOS L=0.25U W=1.5U
+.ENDS T
+.END
+",
+        &[],
+    ),
+    // Nets without a transistor.
+    Case(
+        &[
+            Drawn(b'A', &[(5, [10, 0, 20, 10])], &[], &[]),
+            Drawn(
+                b'T',
+                &[(5, [0, 0, 10, 10]), (5, [20, 0, 30, 10])],
+                &[],
+                &[At(b'A', 0, 0)],
+            ),
+        ],
+        METAL,
+        NOTHING,
+        &[],
+    ),
+    // Bad gates of the top, and of a cell that it places.
+    Case(
+        &[Drawn(b'T', &HALF_CROSSED, &[], &[])],
+        NMOS,
+        NOTHING,
+        &[HALF],
+    ),
+    Case(&[Drawn(b'T', &RING, &[], &[])], NMOS, NOTHING, &[AROUND]),
+    Case(
+        &[
+            Drawn(b'A', &RING, &[], &[]),
+            Drawn(b'T', &[], &[], &[At(b'A', 0, 0)]),
+        ],
+        NMOS,
+        NOTHING,
+        &[AROUND],
+    ),
+    // The active layer of one cell and the gate conductor of its parent.
+    Case(
+        &[
+            Drawn(b'A', &[(ACTIVE, [0, 0, 50, 20])], &[], &[]),
+            Drawn(b'T', &[(POLY, [20, -5, 30, 25])], &[], &[At(b'A', 0, 0)]),
+        ],
+        NMOS,
+        "* lvs netlist
+.SUBCKT T VSS
+M1 \\$3 \\$1 \\$2 VSS NMOS L=0.01U W=0.02U
+.ENDS T
+.END
+",
+        &[],
+    ),
+    Case(
+        &[Drawn(
+            b'T',
+            &INVERTER,
+            &[(b'A', 10, 1500), (b'Y', 990, 1500), (b'V', 10, 2900)],
+            &[],
+        )],
+        CHIP,
+        "* lvs netlist
 .SUBCKT T V A VSS Y
 M1 Y A V V PMOS L=0.1U W=1U
 M2 Y A VSS VSS NMOS L=0.1U W=0.5U
 .ENDS T
 .END
-";
-    assert!(rt; has_netlist(&rt, alloc, &layout, CHIP, text, &[])?);
+",
+        &[],
+    ),
+];
+
+#[test]
+fn netlists_of_layouts(rt: HostRuntime) -> Result<(), Fail> {
+    let alloc: Global = rt.alloc();
+    for Case(cells, rules, text, bad) in &CASES {
+        let layout = stream_of(alloc, cells)?;
+        let is_so = has_netlist(&rt, alloc, &layout, rules, text.as_bytes(), bad)?;
+        assert!(rt; is_so, "{text}");
+    }
     Ok(())
 }
 
@@ -297,18 +312,19 @@ connect_global(sd, \"VSS\")\nconnect_global(poly, \"VSS\")\nconnect_global(bulk,
 // Each cell places the one before twice, side by side or one above the other.
 fn doubled(alloc: Global, levels: u8) -> Result<Vec<u8>, AllocError> {
     let mut out = start(alloc)?;
-    let shapes: [Shape; 2] = [(ACTIVE, [0, 0, 3, 1]), (POLY, [1, -1, 2, 2])];
-    push_shapes(&mut out, b'A', &shapes)?;
+    push_cell(&mut out, b'A')?;
+    push_rect(&mut out, ACTIVE, [0, 0, 3, 1])?;
+    push_rect(&mut out, POLY, [1, -1, 2, 2])?;
     push_end(&mut out)?;
     let mut step = 8i32;
     for level in 1..levels {
         let below = b'A'.wrapping_add(level).wrapping_sub(1);
         push_cell(&mut out, b'A'.wrapping_add(level))?;
-        push_place(&mut out, below, TURNS[0], 0, 0)?;
+        push_place(&mut out, below, R0, 0, 0)?;
         if level % 2 == 1 {
-            push_place(&mut out, below, TURNS[0], step, 0)?;
+            push_place(&mut out, below, R0, step, 0)?;
         } else {
-            push_place(&mut out, below, TURNS[0], 0, step)?;
+            push_place(&mut out, below, R0, 0, step)?;
             step = step.wrapping_mul(2);
         }
         push_end(&mut out)?;
@@ -348,11 +364,16 @@ fn doubling_hierarchy(rt: HostRuntime) -> Result<(), Fail> {
 }
 
 // Three transistors side by side.
-const THREE: [Drawn; 4] = [
+static THREE: [Drawn; 4] = [
     Drawn(b'K', &CROSSED, &[], &[]),
     Drawn(b'L', &CROSSED, &[], &[]),
     Drawn(b'N', &CROSSED, &[], &[]),
-    Drawn(b'T', &[], &[], &[(b'K', 0), (b'L', 2000), (b'N', 4000)]),
+    Drawn(
+        b'T',
+        &[],
+        &[],
+        &[At(b'K', 0, 0), At(b'L', 2000, 0), At(b'N', 4000, 0)],
+    ),
 ];
 
 // In each of the six phases two workers are at work on two of the three cells at once.

@@ -2,9 +2,9 @@
 
 ghost use Rattle.std.specs.Prelude.{◌≤◌};
 
-use crate::streams::{
-    TURNS, push_array, push_cell, push_end, push_last, push_place, push_rect, start,
-};
+use crate::drawn::Placed::{At, Grid, Turned};
+use crate::drawn::{Drawn, Shape, stream_of};
+use crate::streams::{M0, M90, M180, M270, R0, R90, R180, R270};
 use deep_flow::derive_gates;
 use deep_tables::{GateCause, GateState};
 use gds_layout::read_layout;
@@ -35,9 +35,6 @@ pub const ACTIVE: u8 = 2;
 /// The layer of the gates' conductor.
 pub const POLY: u8 = 3;
 
-/// A layer, and x1, y1, x2, y2.
-pub type Shape = (u8, [i32; 4]);
-
 // A transistor of width 10 and length 10.
 const PLAIN: [Shape; 2] = [(ACTIVE, [0, 0, 30, 10]), (POLY, [10, -5, 20, 15])];
 
@@ -49,31 +46,34 @@ struct Listed {
     state: GateState,
 }
 
-// The nets are those of source, drain, gate and bulk.
-fn good(cell: u32, x: i64, y: i64, sizes: [u128; 2], nets: [u32; 4]) -> Listed {
-    let [twice_w, twice_l] = sizes;
-    let [source, drain, gate, bulk] = nets;
-    let state = GateState::Good {
-        twice_w,
-        twice_l,
-        source,
-        drain,
-        gate,
-        bulk,
+// A good gate: its cell, its least square, twice its width and length, and the nets of source,
+// drain, gate and bulk.
+macro_rules! good {
+    ($cell:expr, $x:expr, $y:expr, [$w:expr, $l:expr], [$s:expr, $d:expr, $g:expr, $b:expr]) => {
+        Listed {
+            cell: $cell,
+            least: Square { x: $x, y: $y },
+            state: GateState::Good {
+                twice_w: $w,
+                twice_l: $l,
+                source: $s,
+                drain: $d,
+                gate: $g,
+                bulk: $b,
+            },
+        }
     };
-    Listed {
-        cell,
-        least: Square { x, y },
-        state,
-    }
 }
 
-fn bad(cell: u32, x: i64, y: i64, cause: GateCause) -> Listed {
-    Listed {
-        cell,
-        least: Square { x, y },
-        state: GateState::Bad(cause),
-    }
+// A bad gate: its cell, its least square and its cause.
+macro_rules! bad {
+    ($cell:expr, $x:expr, $y:expr, $cause:expr) => {
+        Listed {
+            cell: $cell,
+            least: Square { x: $x, y: $y },
+            state: GateState::Bad($cause),
+        }
+    };
 }
 
 // The gates of all lists, the cells in the design's order.
@@ -125,58 +125,6 @@ fn has_gates<R: Threads + Wait + Sync>(
     Ok(true)
 }
 
-/// A cell's start, and rectangles of it.
-pub fn push_shapes(out: &mut Vec<u8>, name: u8, shapes: &[Shape]) -> Result<(), AllocError> {
-    push_cell(out, name)?;
-    for (layer, corners) in shapes {
-        push_rect(out, *layer, *corners)?;
-    }
-    Ok(())
-}
-
-/// A layout of one cell.
-pub fn one_cell(alloc: Global, shapes: &[Shape]) -> Result<Vec<u8>, AllocError> {
-    let mut out = start(alloc)?;
-    push_shapes(&mut out, b'T', shapes)?;
-    push_end(&mut out)?;
-    push_last(&mut out)?;
-    Ok(out)
-}
-
-/// Cells of these shapes, each placed at the origin of T, which has shapes of its own.
-pub fn placed_once(
-    alloc: Global,
-    below: &[&[Shape]],
-    own: &[Shape],
-) -> Result<Vec<u8>, AllocError> {
-    let mut out = start(alloc)?;
-    let mut name = b'A';
-    for shapes in below {
-        push_shapes(&mut out, name, shapes)?;
-        push_end(&mut out)?;
-        name = name.wrapping_add(1);
-    }
-    push_shapes(&mut out, b'T', own)?;
-    for place in b'A'..name {
-        push_place(&mut out, place, TURNS[0], 0, 0)?;
-    }
-    push_end(&mut out)?;
-    push_last(&mut out)?;
-    Ok(out)
-}
-
-// Two columns and two rows of the plain transistor, under a shape of the top.
-fn four(alloc: Global, wide: i32, own: &[Shape]) -> Result<Vec<u8>, AllocError> {
-    let mut out = start(alloc)?;
-    push_shapes(&mut out, b'C', &PLAIN)?;
-    push_end(&mut out)?;
-    push_shapes(&mut out, b'T', own)?;
-    push_array(&mut out, b'C', wide, 100)?;
-    push_end(&mut out)?;
-    push_last(&mut out)?;
-    Ok(out)
-}
-
 /// A transistor of width 1,500 and length 250.
 pub const CROSSED: [Shape; 2] = [(ACTIVE, [0, 0, 1250, 1500]), (POLY, [500, -100, 750, 1600])];
 
@@ -211,120 +159,129 @@ const PAIR: [Shape; 3] = [
     (POLY, [30, -5, 34, 15]),
 ];
 
-// A gate across the active layer, one that ends in it, a ring, an L, a U, and two gates with a
-// group in common.
-#[test]
-fn shapes_of_one_cell(rt: HostRuntime) -> Result<(), Fail> {
-    let alloc: Global = rt.alloc();
-    let crossed = good(0, 500, 0, [3000, 500], [1, 2, 0, 3]);
-    let half = bad(0, 10, 0, GateCause::Groups(1));
-    let ring = bad(0, 10, 10, GateCause::NoLength);
-    let corner = good(0, 10, 0, [72, 8], [1, 2, 0, 3]);
-    let bow = good(0, 10, 10, [144, 8], [1, 2, 0, 3]);
-    let first = good(0, 10, 0, [20, 8], [2, 3, 0, 5]);
-    let second = good(0, 30, 0, [20, 8], [3, 4, 1, 5]);
-    let rows: [(&[Shape], &[Listed]); 6] = [
-        (&CROSSED, &[crossed]),
-        (&HALF_CROSSED, &[half]),
-        (&RING, &[ring]),
-        (&CORNER, &[corner]),
-        (&BOW, &[bow]),
-        (&PAIR, &[first, second]),
-    ];
-    for (shapes, gates) in rows {
-        let layout = one_cell(alloc, shapes)?;
-        assert!(rt; has_gates(&rt, alloc, &layout, NMOS, gates)?);
-    }
-    Ok(())
+/// The plain transistor, as a cell C.
+const ONE: Drawn = Drawn(b'C', &PLAIN, &[], &[]);
+
+/// Cells, their rules, and the gates of all lists.
+struct Case(&'static [Drawn], &'static [u8], &'static [Listed]);
+
+// A cell of these shapes.
+macro_rules! one_cell {
+    ($shapes:expr, $gates:expr) => {
+        Case(&[Drawn(b'T', $shapes, &[], &[])], NMOS, $gates)
+    };
 }
 
-// The active layer of one cell and the gate conductor of its parent; and a gate whose squares stand
-// in three cells.
-#[test]
-fn gates_of_parents(rt: HostRuntime) -> Result<(), Fail> {
-    let alloc: Global = rt.alloc();
-    let across = placed_once(
-        alloc,
-        &[&[(ACTIVE, [0, 0, 50, 20])]],
-        &[(POLY, [20, -5, 30, 25])],
-    )?;
-    let gates = [good(1, 20, 0, [40, 20], [1, 2, 0, 3])];
-    assert!(rt; has_gates(&rt, alloc, &across, NMOS, &gates)?);
-    let three = placed_once(
-        alloc,
+// Two placements on one spot in a turn: the gate is the parent's, and has its sizes in each turn.
+macro_rules! twice {
+    ($turn:expr, $x:expr, $y:expr) => {
+        Case(
+            &[
+                ONE,
+                Drawn(
+                    b'T',
+                    &[],
+                    &[],
+                    &[Turned(b'C', $turn), Turned(b'C', $turn)],
+                ),
+            ],
+            NMOS,
+            &[good!(1, $x, $y, [20, 20], [0, 1, 2, 3])],
+        )
+    };
+}
+
+static CASES: [Case; 19] = [
+    // A gate across the active layer, one that ends in it, a ring, an L, a U, and two gates with a
+    // group in common.
+    one_cell!(&CROSSED, &[good!(0, 500, 0, [3000, 500], [1, 2, 0, 3])]),
+    one_cell!(&HALF_CROSSED, &[bad!(0, 10, 0, GateCause::Groups(1))]),
+    one_cell!(&RING, &[bad!(0, 10, 10, GateCause::NoLength)]),
+    one_cell!(&CORNER, &[good!(0, 10, 0, [72, 8], [1, 2, 0, 3])]),
+    one_cell!(&BOW, &[good!(0, 10, 10, [144, 8], [1, 2, 0, 3])]),
+    one_cell!(
+        &PAIR,
         &[
-            &[(ACTIVE, [0, 0, 15, 10])],
-            &[(ACTIVE, [15, 0, 30, 10])],
-            &[(POLY, [10, -5, 20, 15])],
+            good!(0, 10, 0, [20, 8], [2, 3, 0, 5]),
+            good!(0, 30, 0, [20, 8], [3, 4, 1, 5]),
+        ]
+    ),
+    // The active layer of one cell and the gate conductor of its parent.
+    Case(
+        &[
+            Drawn(b'A', &[(ACTIVE, [0, 0, 50, 20])], &[], &[]),
+            Drawn(b'T', &[(POLY, [20, -5, 30, 25])], &[], &[At(b'A', 0, 0)]),
         ],
-        &[],
-    )?;
-    let gates = [good(3, 10, 0, [20, 20], [0, 2, 3, 1])];
-    assert!(rt; has_gates(&rt, alloc, &three, NMOS, &gates)?);
-    Ok(())
-}
-
-// Columns that leave each other's rings free, and columns that don't.
-#[test]
-fn arrays_of_gates(rt: HostRuntime) -> Result<(), Fail> {
-    let alloc: Global = rt.alloc();
-    let free = four(alloc, 42, &[])?;
-    let gates = [good(0, 10, 0, [20, 20], [1, 2, 0, 3])];
-    assert!(rt; has_gates(&rt, alloc, &free, NMOS, &gates)?);
-    let close = four(alloc, 40, &[])?;
-    let gates = [
-        good(1, 10, 0, [20, 20], [0, 1, 6, 7]),
-        good(1, 30, 0, [20, 20], [1, 2, 8, 7]),
-        good(1, 10, 50, [20, 20], [3, 4, 9, 7]),
-        good(1, 30, 50, [20, 20], [4, 5, 10, 7]),
-    ];
-    assert!(rt; has_gates(&rt, alloc, &close, NMOS, &gates)?);
-    Ok(())
-}
-
-// A well of the top over the first column alone.
-#[test]
-fn well_above_gates(rt: HostRuntime) -> Result<(), Fail> {
-    let alloc: Global = rt.alloc();
-    let layout = four(alloc, 100, &[(WELL, [-5, -20, 35, 70])])?;
-    let gates = [
-        good(1, 10, 0, [20, 20], [2, 3, 1, 0]),
-        bad(1, 60, 0, GateCause::NoBulk),
-        good(1, 10, 50, [20, 20], [8, 9, 7, 0]),
-        bad(1, 60, 50, GateCause::NoBulk),
-    ];
-    assert!(rt; has_gates(&rt, alloc, &layout, PMOS, &gates)?);
-    Ok(())
-}
-
-// For each turn the least square of the turned gate.
-const LEAST: [(i64, i64); 8] = [
-    (10, 0),
-    (-10, 10),
-    (-20, -10),
-    (0, -20),
-    (10, -10),
-    (0, 10),
-    (-20, 0),
-    (-10, -20),
+        NMOS,
+        &[good!(1, 20, 0, [40, 20], [1, 2, 0, 3])],
+    ),
+    // A gate whose squares stand in three cells.
+    Case(
+        &[
+            Drawn(b'A', &[(ACTIVE, [0, 0, 15, 10])], &[], &[]),
+            Drawn(b'B', &[(ACTIVE, [15, 0, 30, 10])], &[], &[]),
+            Drawn(b'C', &[(POLY, [10, -5, 20, 15])], &[], &[]),
+            Drawn(
+                b'T',
+                &[],
+                &[],
+                &[At(b'A', 0, 0), At(b'B', 0, 0), At(b'C', 0, 0)],
+            ),
+        ],
+        NMOS,
+        &[good!(3, 10, 0, [20, 20], [0, 2, 3, 1])],
+    ),
+    // Columns that leave each other's rings free, and columns that don't.
+    Case(
+        &[ONE, Drawn(b'T', &[], &[], &[Grid(b'C', 2, 42, 100)])],
+        NMOS,
+        &[good!(0, 10, 0, [20, 20], [1, 2, 0, 3])],
+    ),
+    Case(
+        &[ONE, Drawn(b'T', &[], &[], &[Grid(b'C', 2, 40, 100)])],
+        NMOS,
+        &[
+            good!(1, 10, 0, [20, 20], [0, 1, 6, 7]),
+            good!(1, 30, 0, [20, 20], [1, 2, 8, 7]),
+            good!(1, 10, 50, [20, 20], [3, 4, 9, 7]),
+            good!(1, 30, 50, [20, 20], [4, 5, 10, 7]),
+        ],
+    ),
+    // A well of the top over the first column alone.
+    Case(
+        &[
+            ONE,
+            Drawn(
+                b'T',
+                &[(WELL, [-5, -20, 35, 70])],
+                &[],
+                &[Grid(b'C', 2, 100, 100)],
+            ),
+        ],
+        PMOS,
+        &[
+            good!(1, 10, 0, [20, 20], [2, 3, 1, 0]),
+            bad!(1, 60, 0, GateCause::NoBulk),
+            good!(1, 10, 50, [20, 20], [8, 9, 7, 0]),
+            bad!(1, 60, 50, GateCause::NoBulk),
+        ],
+    ),
+    twice!(R0, 10, 0),
+    twice!(R90, -10, 10),
+    twice!(R180, -20, -10),
+    twice!(R270, 0, -20),
+    twice!(M0, 10, -10),
+    twice!(M90, 0, 10),
+    twice!(M180, -20, 0),
+    twice!(M270, -10, -20),
 ];
 
-// Two placements on one spot: the gate is the parent's, and has its sizes in each turn.
 #[test]
-fn turned_gates(rt: HostRuntime) -> Result<(), Fail> {
+fn gates_of_cells(rt: HostRuntime) -> Result<(), Fail> {
     let alloc: Global = rt.alloc();
-    for turn in 0..8usize {
-        let mut layout = start(alloc)?;
-        push_shapes(&mut layout, b'C', &PLAIN)?;
-        push_end(&mut layout)?;
-        push_cell(&mut layout, b'T')?;
-        push_place(&mut layout, b'C', TURNS[turn], 0, 0)?;
-        push_place(&mut layout, b'C', TURNS[turn], 0, 0)?;
-        push_end(&mut layout)?;
-        push_last(&mut layout)?;
-        let (x, y) = LEAST[turn];
-        let gates = [good(1, x, y, [20, 20], [0, 1, 2, 3])];
-        assert!(rt; has_gates(&rt, alloc, &layout, NMOS, &gates)?);
+    for Case(cells, rules, gates) in &CASES {
+        let layout = stream_of(alloc, cells)?;
+        assert!(rt; has_gates(&rt, alloc, &layout, rules, gates)?, "{gates:?}");
     }
     Ok(())
 }

@@ -2,9 +2,11 @@
 
 ghost use Rattle.std.specs.Prelude.{◌≤◌};
 
-use crate::drawn::{Drawn, stream_of};
+use crate::drawn::Placed::{At, Grid, Turned};
+use crate::drawn::{Drawn, Shape, stream_of};
 use crate::streams::{
-    TURNS, push_array, push_cell, push_end, push_grid, push_last, push_place, push_rect, start,
+    M0, M90, M180, M270, R0, R90, R180, R270, push_cell, push_end, push_last, push_place,
+    push_rect, start,
 };
 use deep_flow::derive_nets;
 use gds_layout::read_layout;
@@ -70,163 +72,172 @@ fn has_nets<R: Threads + Wait + Sync>(
     Ok(true)
 }
 
-// The start of a stream with a cell C that is one rectangle.
-fn square(alloc: Global, layer: u8, corners: [i32; 4]) -> Result<Vec<u8>, AllocError> {
-    let mut out = start(alloc)?;
-    push_cell(&mut out, b'C')?;
-    push_rect(&mut out, layer, corners)?;
-    push_end(&mut out)?;
-    Ok(out)
+/// A cell C of one square.
+const SQUARE: Drawn = Drawn(b'C', &[(1, [0, 0, 10, 10])], &[], &[]);
+
+/// Two squares with a gap between them.
+const APART: [Shape; 2] = [(1, [0, 0, 10, 10]), (1, [20, 0, 30, 10])];
+
+/// A cell C of a bar.
+const BAR: Drawn = Drawn(b'C', &[(1, [0, 0, 10, 5])], &[], &[]);
+
+/// For each turn a square in the far corner of the turned bar.
+const PROBES: [Shape; 8] = [
+    (1, [9, 4, 10, 5]),
+    (1, [-5, 9, -4, 10]),
+    (1, [-10, -5, -9, -4]),
+    (1, [4, -10, 5, -9]),
+    (1, [9, -5, 10, -4]),
+    (1, [4, 9, 5, 10]),
+    (1, [-10, 4, -9, 5]),
+    (1, [-5, -10, -4, -9]),
+];
+
+/// Cells, their rules, the net of each item of the last cell, and how many nets it has.
+struct Case(&'static [Drawn], &'static [u8], &'static [u32], u32);
+
+// The bar in a turn beside all probes: its net is that of its turn's probe, and touches no other.
+macro_rules! probed {
+    ($turn:expr, $net:expr) => {
+        Case(
+            &[
+                BAR,
+                Drawn(b'T', &PROBES, &[], &[Turned(b'C', $turn)]),
+            ],
+            RULES,
+            &[0, 1, 2, 3, 4, 5, 6, 7, $net],
+            8,
+        )
+    };
 }
 
-// Two rectangles with the square placed at a point.
-fn two_and_square(alloc: Global, x: i32, y: i32) -> Result<Vec<u8>, AllocError> {
-    let mut out = square(alloc, 1, [0, 0, 10, 10])?;
-    push_cell(&mut out, b'T')?;
-    push_rect(&mut out, 1, [0, 0, 10, 10])?;
-    push_rect(&mut out, 1, [20, 0, 30, 10])?;
-    push_place(&mut out, b'C', TURNS[0], x, y)?;
-    push_end(&mut out)?;
-    push_last(&mut out)?;
-    Ok(out)
+// The square in two columns and two rows, which together are so wide and so high.
+macro_rules! four {
+    ($wide:expr, $high:expr, $nets:expr, $count:expr) => {
+        Case(
+            &[
+                SQUARE,
+                Drawn(b'T', &[], &[], &[Grid(b'C', 2, $wide, $high)]),
+            ],
+            RULES,
+            $nets,
+            $count,
+        )
+    };
 }
+
+static CASES: [Case; 18] = [
+    // Joined by the child's square.
+    Case(
+        &[SQUARE, Drawn(b'T', &APART, &[], &[At(b'C', 10, 0)])],
+        RULES,
+        &[0, 0, 0],
+        1,
+    ),
+    // Corners alone, and an edge.
+    Case(
+        &[SQUARE, Drawn(b'T', &APART, &[], &[At(b'C', 10, 10)])],
+        RULES,
+        &[0, 1, 2],
+        3,
+    ),
+    Case(
+        &[SQUARE, Drawn(b'T', &APART, &[], &[At(b'C', 11, 10)])],
+        RULES,
+        &[0, 1, 1],
+        2,
+    ),
+    // A rectangle of its own, and two placements of a cell with a part of the global.
+    Case(
+        &[
+            Drawn(b'C', &[(3, [0, 0, 10, 10])], &[], &[]),
+            Drawn(
+                b'T',
+                &[(1, [0, 0, 10, 10])],
+                &[],
+                &[At(b'C', 0, 0), At(b'C', 100, 0)],
+            ),
+        ],
+        GROUNDED,
+        &[0, 1, 1, 1],
+        2,
+    ),
+    four!(20, 20, &[0, 0, 0, 0], 1),
+    four!(40, 20, &[0, 1, 0, 1], 2),
+    four!(20, 40, &[0, 0, 1, 1], 2),
+    four!(40, 40, &[0, 1, 2, 3], 4),
+    // Each element is two squares with a corner in common, and meets its neighbours at corners
+    // alone.
+    Case(
+        &[
+            Drawn(
+                b'C',
+                &[(1, [10, 0, 20, 10]), (1, [0, 10, 10, 20])],
+                &[],
+                &[],
+            ),
+            Drawn(b'T', &[], &[], &[Grid(b'C', 2, 40, 40)]),
+        ],
+        RULES,
+        &[0, 1, 2, 3, 4, 5, 6, 7],
+        8,
+    ),
+    // Two children that overlap, two on one spot, and one apart.
+    Case(
+        &[
+            SQUARE,
+            Drawn(
+                b'T',
+                &[],
+                &[],
+                &[
+                    At(b'C', 0, 0),
+                    At(b'C', 40, 0),
+                    At(b'C', 5, 0),
+                    At(b'C', 40, 0),
+                    At(b'C', 60, 0),
+                ],
+            ),
+        ],
+        RULES,
+        &[0, 1, 0, 1, 2],
+        3,
+    ),
+    // The place of each turn's probe among all of them, by y, then x.
+    probed!(R0, 5),
+    probed!(R90, 6),
+    probed!(R180, 2),
+    probed!(R270, 1),
+    probed!(M0, 3),
+    probed!(M90, 7),
+    probed!(M180, 4),
+    probed!(M270, 0),
+];
 
 #[test]
-fn net_through_child(rt: HostRuntime) -> Result<(), Fail> {
+fn nets_of_top_cells(rt: HostRuntime) -> Result<(), Fail> {
     let alloc: Global = rt.alloc();
-    let layout = two_and_square(alloc, 10, 0)?;
-    assert!(rt; has_nets(&rt, alloc, &layout, RULES, &[0, 0, 0], 1)?);
-    Ok(())
-}
-
-#[test]
-fn corner_and_edge(rt: HostRuntime) -> Result<(), Fail> {
-    let alloc: Global = rt.alloc();
-    let corners = two_and_square(alloc, 10, 10)?;
-    assert!(rt; has_nets(&rt, alloc, &corners, RULES, &[0, 1, 2], 3)?);
-    let edge = two_and_square(alloc, 11, 10)?;
-    assert!(rt; has_nets(&rt, alloc, &edge, RULES, &[0, 1, 1], 2)?);
-    Ok(())
-}
-
-// A rectangle of its own, and two placements of a cell with a part of the global.
-#[test]
-fn global_of_two_cells(rt: HostRuntime) -> Result<(), Fail> {
-    let alloc: Global = rt.alloc();
-    let mut layout = square(alloc, 3, [0, 0, 10, 10])?;
-    push_cell(&mut layout, b'T')?;
-    push_rect(&mut layout, 1, [0, 0, 10, 10])?;
-    push_place(&mut layout, b'C', TURNS[0], 0, 0)?;
-    push_place(&mut layout, b'C', TURNS[0], 100, 0)?;
-    push_end(&mut layout)?;
-    push_last(&mut layout)?;
-    assert!(rt; has_nets(&rt, alloc, &layout, GROUNDED, &[0, 1, 1, 1], 2)?);
-    Ok(())
-}
-
-// By the width of both columns and the height of both rows: the nets of the four elements.
-#[test]
-fn arrays(rt: HostRuntime) -> Result<(), Fail> {
-    let alloc: Global = rt.alloc();
-    for (wide, high, nets, count) in [
-        (20, 20, [0, 0, 0, 0], 1),
-        (40, 20, [0, 1, 0, 1], 2),
-        (20, 40, [0, 0, 1, 1], 2),
-        (40, 40, [0, 1, 2, 3], 4),
-    ] {
-        let mut layout = square(alloc, 1, [0, 0, 10, 10])?;
-        push_cell(&mut layout, b'T')?;
-        push_array(&mut layout, b'C', wide, high)?;
-        push_end(&mut layout)?;
-        push_last(&mut layout)?;
-        assert!(rt; has_nets(&rt, alloc, &layout, RULES, &nets, count)?);
+    for Case(cells, rules, nets, count) in &CASES {
+        let layout = stream_of(alloc, cells)?;
+        let is_so = has_nets(&rt, alloc, &layout, rules, nets, *count)?;
+        assert!(rt; is_so, "{nets:?}");
     }
     Ok(())
 }
 
-// Each element is two squares with a corner in common, and meets its neighbours at corners alone.
-#[test]
-fn array_of_corners(rt: HostRuntime) -> Result<(), Fail> {
-    let alloc: Global = rt.alloc();
-    let mut layout = start(alloc)?;
-    push_cell(&mut layout, b'C')?;
-    push_rect(&mut layout, 1, [10, 0, 20, 10])?;
-    push_rect(&mut layout, 1, [0, 10, 10, 20])?;
-    push_end(&mut layout)?;
-    push_cell(&mut layout, b'T')?;
-    push_array(&mut layout, b'C', 40, 40)?;
-    push_end(&mut layout)?;
-    push_last(&mut layout)?;
-    let nets = [0, 1, 2, 3, 4, 5, 6, 7];
-    assert!(rt; has_nets(&rt, alloc, &layout, RULES, &nets, 8)?);
-    Ok(())
-}
-
-// Two children that overlap, two on one spot, and one apart.
-const STACKED: [Drawn; 2] = [
-    Drawn(b'C', &[(1, [0, 0, 10, 10])], &[], &[]),
-    Drawn(
-        b'T',
-        &[],
-        &[],
-        &[(b'C', 0), (b'C', 40), (b'C', 5), (b'C', 40), (b'C', 60)],
-    ),
+/// A cell of 2^16 squares, placed 2^16 times, has 2^32 items.
+static MANY: [Drawn; 3] = [
+    Drawn(b'C', &[(1, [0, 0, 5, 5])], &[], &[]),
+    Drawn(b'D', &[], &[], &[Grid(b'C', 256, 2560, 2560)]),
+    Drawn(b'T', &[], &[], &[Grid(b'D', 256, 655_360, 655_360)]),
 ];
 
-#[test]
-fn children_over_one_another(rt: HostRuntime) -> Result<(), Fail> {
-    let alloc: Global = rt.alloc();
-    let layout = stream_of(alloc, &STACKED)?;
-    assert!(rt; has_nets(&rt, alloc, &layout, RULES, &[0, 1, 0, 1, 2], 3)?);
-    Ok(())
-}
-
-// A cell of 2^16 squares, placed 2^16 times, has 2^32 items: want of memory, at once.
+// Want of memory, at once.
 #[test]
 fn too_many_items(rt: HostRuntime) -> Result<(), Fail> {
     let alloc: Global = rt.alloc();
-    let mut layout = square(alloc, 1, [0, 0, 5, 5])?;
-    for (name, placed, wide) in [(b'D', b'C', 2560), (b'T', b'D', 655_360)] {
-        push_cell(&mut layout, name)?;
-        push_grid(&mut layout, placed, [256, 256], wide, wide)?;
-        push_end(&mut layout)?;
-    }
-    push_last(&mut layout)?;
+    let layout = stream_of(alloc, &MANY)?;
     assert!(rt; top_nets(&rt, alloc, &layout, RULES, 1).is_err());
-    Ok(())
-}
-
-// For each turn the lower left corner of a square in the far corner of the turned rectangle.
-const PROBES: [(i32, i32); 8] = [
-    (9, 4),
-    (-5, 9),
-    (-10, -5),
-    (4, -10),
-    (9, -5),
-    (4, 9),
-    (-10, 4),
-    (-5, -10),
-];
-
-// The place of each probe among all of them, by y, then x.
-const PLACES: [u32; 8] = [5, 6, 2, 1, 3, 7, 4, 0];
-
-// The child's net is that of its turn's probe, and touches no other.
-#[test]
-fn each_turn(rt: HostRuntime) -> Result<(), Fail> {
-    let alloc: Global = rt.alloc();
-    for turn in 0..8usize {
-        let mut layout = square(alloc, 1, [0, 0, 10, 5])?;
-        push_cell(&mut layout, b'T')?;
-        for (x, y) in PROBES {
-            push_rect(&mut layout, 1, [x, y, x + 1, y + 1])?;
-        }
-        push_place(&mut layout, b'C', TURNS[turn], 0, 0)?;
-        push_end(&mut layout)?;
-        push_last(&mut layout)?;
-        let nets = [0, 1, 2, 3, 4, 5, 6, 7, PLACES[turn]];
-        assert!(rt; has_nets(&rt, alloc, &layout, RULES, &nets, 8)?);
-    }
     Ok(())
 }
 
@@ -243,8 +254,8 @@ fn row(alloc: Global, has_roof: bool) -> Result<Vec<u8>, AllocError> {
         if has_roof && level == 23 {
             push_rect(&mut layout, 2, [-5, -5, 167_772_165, 15])?;
         }
-        push_place(&mut layout, b'A' + level, TURNS[0], 0, 0)?;
-        push_place(&mut layout, b'A' + level, TURNS[0], wide, 0)?;
+        push_place(&mut layout, b'A' + level, R0, 0, 0)?;
+        push_place(&mut layout, b'A' + level, R0, wide, 0)?;
         push_end(&mut layout)?;
         wide = wide.wrapping_mul(2);
     }

@@ -2,6 +2,7 @@
 
 ghost use Rattle.std.specs.Prelude.{◌≤◌};
 
+use crate::drawn::Placed::At;
 use crate::drawn::{Drawn, stream_of};
 use crate::extracts::{METAL, UNIT_PM};
 use crate::gates::{ACTIVE, CROSSED, NMOS, POLY};
@@ -58,12 +59,12 @@ fn all_pins<R: Threads + Wait + Sync>(
 // A layout, its rules, and the nets of its cells.
 struct Row(&'static [Drawn], &'static [u8], &'static str);
 
-const ROWS: [Row; 5] = [
+static ROWS: [Row; 5] = [
     // The gate stands in the parent: source and drain in the child are its terminals.
     Row(
         &[
             Drawn(b'K', &[(ACTIVE, [0, 0, 50, 20])], &[], &[]),
-            Drawn(b'T', &[(POLY, [20, -5, 30, 25])], &[], &[(b'K', 0)]),
+            Drawn(b'T', &[(POLY, [20, -5, 30, 25])], &[], &[At(b'K', 0, 0)]),
         ],
         NMOS,
         "+ + +VSS \n- - - +VSS \n",
@@ -89,7 +90,7 @@ const ROWS: [Row; 5] = [
     Row(
         &[
             Drawn(b'K', &CROSSED, &[(b'S', 100, 100)], &[]),
-            Drawn(b'T', &[], &[], &[(b'K', 0)]),
+            Drawn(b'T', &[], &[], &[At(b'K', 0, 0)]),
         ],
         NMOS,
         "- +S - +VSS \n- - - +VSS \n",
@@ -98,9 +99,9 @@ const ROWS: [Row; 5] = [
     Row(
         &[
             Drawn(b'V', &[(5, [10, 0, 20, 10])], &[], &[]),
-            Drawn(b'A', &[], &[], &[(b'V', 0)]),
-            Drawn(b'B', &[(5, [0, 0, 10, 10])], &[], &[(b'V', 0)]),
-            Drawn(b'T', &[], &[], &[(b'A', 0), (b'B', 100)]),
+            Drawn(b'A', &[], &[], &[At(b'V', 0, 0)]),
+            Drawn(b'B', &[(5, [0, 0, 10, 10])], &[], &[At(b'V', 0, 0)]),
+            Drawn(b'T', &[], &[], &[At(b'A', 0, 0), At(b'B', 100, 0)]),
         ],
         METAL,
         "+ \n- \n- \n- - \n",
@@ -109,8 +110,8 @@ const ROWS: [Row; 5] = [
     Row(
         &[
             Drawn(b'V', &[(5, [10, 0, 20, 10])], &[], &[]),
-            Drawn(b'A', &[], &[], &[(b'V', 0)]),
-            Drawn(b'T', &[(5, [0, 0, 10, 10])], &[], &[(b'A', 0)]),
+            Drawn(b'A', &[], &[], &[At(b'V', 0, 0)]),
+            Drawn(b'T', &[(5, [0, 0, 10, 10])], &[], &[At(b'A', 0, 0)]),
         ],
         METAL,
         "+ \n+ \n- \n",

@@ -19,16 +19,21 @@ const CELL: [u8; 28] = [
 pub type Turn = (u8, [u8; 3]);
 
 /// The eight turns: by 0, 90, 180 and 270 degrees, then the same of the mirrored cell.
-pub const TURNS: [Turn; 8] = [
-    (0, [0, 0, 0]),
-    (0, [0x42, 0x5A, 0]),
-    (0, [0x42, 0xB4, 0]),
-    (0, [0x43, 0x10, 0xE0]),
-    (0x80, [0, 0, 0]),
-    (0x80, [0x42, 0x5A, 0]),
-    (0x80, [0x42, 0xB4, 0]),
-    (0x80, [0x43, 0x10, 0xE0]),
-];
+pub const R0: Turn = (0, [0, 0, 0]);
+
+pub const R90: Turn = (0, [0x42, 0x5A, 0]);
+
+pub const R180: Turn = (0, [0x42, 0xB4, 0]);
+
+pub const R270: Turn = (0, [0x43, 0x10, 0xE0]);
+
+pub const M0: Turn = (0x80, [0, 0, 0]);
+
+pub const M90: Turn = (0x80, [0x42, 0x5A, 0]);
+
+pub const M180: Turn = (0x80, [0x42, 0xB4, 0]);
+
+pub const M270: Turn = (0x80, [0x43, 0x10, 0xE0]);
 
 /// The start of a stream.
 pub fn start(alloc: Global) -> Result<Vec<u8>, AllocError> {
@@ -43,15 +48,25 @@ pub fn push_cell(out: &mut Vec<u8>, name: u8) -> Result<(), AllocError> {
     out.extend_from_slice(&[0, 6, 6, 6, name, 0])
 }
 
+// Numbers of four bytes.
+fn push_numbers(out: &mut Vec<u8>, numbers: &[i32]) -> Result<(), AllocError> {
+    for number in numbers {
+        out.extend_from_slice(&number.to_be_bytes())?;
+    }
+    Ok(())
+}
+
+/// ENDEL.
+const ENDEL: [u8; 4] = [0, 4, 0x11, 0];
+
 /// A rectangle on a layer of datatype 0, as x1, y1, x2, y2.
 pub fn push_rect(out: &mut Vec<u8>, layer: u8, corners: [i32; 4]) -> Result<(), AllocError> {
     let [x1, y1, x2, y2] = corners;
-    out.extend_from_slice(&[0, 4, 8, 0, 0, 6, 0x0D, 2, 0, layer, 0, 6, 0x0E, 2, 0, 0])?;
-    out.extend_from_slice(&[0, 44, 0x10, 3])?;
-    for number in [x1, y1, x1, y2, x2, y2, x2, y1, x1, y1] {
-        out.extend_from_slice(&number.to_be_bytes())?;
-    }
-    out.extend_from_slice(&[0, 4, 0x11, 0])
+    out.extend_from_slice(&[
+        0, 4, 8, 0, 0, 6, 0x0D, 2, 0, layer, 0, 6, 0x0E, 2, 0, 0, 0, 44, 0x10, 3,
+    ])?;
+    push_numbers(out, &[x1, y1, x1, y2, x2, y2, x2, y1, x1, y1])?;
+    out.extend_from_slice(&ENDEL)
 }
 
 /// A text of one letter on a layer and texttype 1.
@@ -62,10 +77,10 @@ pub fn push_text(
     x: i32,
     y: i32,
 ) -> Result<(), AllocError> {
-    out.extend_from_slice(&[0, 4, 0x0C, 0, 0, 6, 0x0D, 2, 0, layer, 0, 6, 0x16, 2, 0, 1])?;
-    out.extend_from_slice(&[0, 12, 0x10, 3])?;
-    out.extend_from_slice(&x.to_be_bytes())?;
-    out.extend_from_slice(&y.to_be_bytes())?;
+    out.extend_from_slice(&[
+        0, 4, 0x0C, 0, 0, 6, 0x0D, 2, 0, layer, 0, 6, 0x16, 2, 0, 1, 0, 12, 0x10, 3,
+    ])?;
+    push_numbers(out, &[x, y])?;
     out.extend_from_slice(&[0, 6, 0x19, 6, letter, 0, 0, 4, 0x11, 0])
 }
 
@@ -77,38 +92,29 @@ pub fn push_place(
     x: i32,
     y: i32,
 ) -> Result<(), AllocError> {
-    let (mirror, angle) = turn;
-    out.extend_from_slice(&[0, 4, 0x0A, 0, 0, 6, 0x12, 6, name, 0])?;
-    out.extend_from_slice(&[0, 6, 0x1A, 1, mirror, 0, 0, 12, 0x1C, 5])?;
-    out.extend_from_slice(&angle)?;
-    out.extend_from_slice(&[0, 0, 0, 0, 0, 0, 12, 0x10, 3])?;
-    out.extend_from_slice(&x.to_be_bytes())?;
-    out.extend_from_slice(&y.to_be_bytes())?;
-    out.extend_from_slice(&[0, 4, 0x11, 0])
+    let (mirror, [a, b, c]) = turn;
+    out.extend_from_slice(&[
+        0, 4, 0x0A, 0, 0, 6, 0x12, 6, name, 0, 0, 6, 0x1A, 1, mirror, 0, 0, 12, 0x1C, 5, a, b, c,
+        0, 0, 0, 0, 0, 0, 12, 0x10, 3,
+    ])?;
+    push_numbers(out, &[x, y])?;
+    out.extend_from_slice(&ENDEL)
 }
 
-/// An array, whose columns together are so wide and whose rows so high.
+/// An array of as many columns as rows; the columns together are so wide, the rows so high.
 pub fn push_grid(
     out: &mut Vec<u8>,
     name: u8,
-    counts: [u16; 2],
+    count: u16,
     wide: i32,
     high: i32,
 ) -> Result<(), AllocError> {
-    out.extend_from_slice(&[0, 4, 0x0B, 0, 0, 6, 0x12, 6, name, 0, 0, 8, 0x13, 2])?;
-    for count in counts {
-        out.extend_from_slice(&count.to_be_bytes())?;
-    }
-    out.extend_from_slice(&[0, 28, 0x10, 3])?;
-    for number in [0, 0, wide, 0, 0, high] {
-        out.extend_from_slice(&number.to_be_bytes())?;
-    }
-    out.extend_from_slice(&[0, 4, 0x11, 0])
-}
-
-/// An array of two columns and two rows.
-pub fn push_array(out: &mut Vec<u8>, name: u8, wide: i32, high: i32) -> Result<(), AllocError> {
-    push_grid(out, name, [2, 2], wide, high)
+    let [a, b] = count.to_be_bytes();
+    out.extend_from_slice(&[
+        0, 4, 0x0B, 0, 0, 6, 0x12, 6, name, 0, 0, 8, 0x13, 2, a, b, a, b, 0, 28, 0x10, 3,
+    ])?;
+    push_numbers(out, &[0, 0, wide, 0, 0, high])?;
+    out.extend_from_slice(&ENDEL)
 }
 
 /// The end of a cell.
