@@ -13,7 +13,7 @@ use view_page::{Places, push_page};
 use view_pairs::proposals;
 
 // A layout and a schematic whose circuits are pairs by place, and of the last pair the marks of its
-// nets, transistors and calls, as the browser has them, and the page.
+// nets, devices and calls, as the browser has them, and the page.
 struct Case {
     layout: &'static str,
     schematic: &'static str,
@@ -23,10 +23,11 @@ struct Case {
 
 const HEAD: &str = "Partners are proposed; what is sure stands in the report.\n";
 
-const CASES: [Case; 4] = [
+const CASES: [Case; 6] = [
     // A width of 0.5 against 0.6.
     Case {
-        layout: ".subckt inv a y v g\nm1 y a v v p l=0.1u w=1u\nm2 y a g g n l=0.1u w=0.5u\n.ends\n",
+        layout: ".subckt inv a y v g\nm1 y a v v p l=0.1u w=1u\nm2 y a g g n l=0.1u w=0.5u\n\
+            .ends\n",
         schematic: ".subckt inv a y v g\nm1 y a v v p l=0.1u w=1u\nm2 y a g g n l=0.1u w=0.6u\n\
             .ends\n",
         marks: "N1N1N1N1D1DW",
@@ -36,7 +37,8 @@ const CASES: [Case; 4] = [
     },
     // A transistor lost in the schematic.
     Case {
-        layout: ".subckt inv a y v g\nm1 y a v v p l=0.1u w=1u\nm2 y a g g n l=0.1u w=0.5u\n.ends\n",
+        layout: ".subckt inv a y v g\nm1 y a v v p l=0.1u w=1u\nm2 y a g g n l=0.1u w=0.5u\n\
+            .ends\n",
         schematic: ".subckt inv a y v g\nm1 y a v v p l=0.1u w=1u\n.ends\n",
         marks: "N0N0N1N0D1D0",
         page: "cell INV, circuit INV of the schematic\n\
@@ -73,6 +75,28 @@ const CASES: [Case; 4] = [
             \x20 net B of the schematic: none in the layout\n\
             \x20 transistor $1 N L=1 W=1 of the schematic: among other neighbours in the layout, \
             transistor $1 N L=1 W=1 at (0, 2.5)\n",
+    },
+    // Sizes of a resistor and of a diode; the resistor's ends may be exchanged.
+    Case {
+        layout: ".subckt t a b w\nr1 a b w rp l=1u w=2u\nd2 a b dn a=0.5p p=3u\n.ends\n",
+        schematic: ".subckt t a b w\nr1 b a w rp l=1u w=2.5u\nd2 a b dn a=0.25p p=3u\n.ends\n",
+        marks: "N1N1N1DWDW",
+        page: "cell T, circuit T of the schematic\n\
+            \x20 resistor $1 RP L=1 W=2.5 of the schematic: in the layout resistor $1 RP \
+            L=1 W=2 at (0, 2.5)\n\
+            \x20 diode $2 DN A=0.25 P=3 of the schematic: in the layout diode $2 DN \
+            A=0.5 P=3 at (1, 2.5)\n",
+    },
+    // A diode turned round.
+    Case {
+        layout: ".subckt t a b\nd1 a b dn a=0.5p p=3u\n.ends\n",
+        schematic: ".subckt t a b\nd1 b a dn a=0.5p p=3u\n.ends\n",
+        marks: "N0N0D0",
+        page: "cell T, circuit T of the schematic\n\
+            \x20 net A of the schematic: among other neighbours in the layout, net A at (0, 0)\n\
+            \x20 net B of the schematic: among other neighbours in the layout, net B at (1, 0)\n\
+            \x20 diode $1 DN A=0.5 P=3 of the schematic: among other neighbours in the layout, \
+            diode $1 DN A=0.5 P=3 at (0, 2.5)\n",
     },
 ];
 

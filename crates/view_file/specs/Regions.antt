@@ -14,8 +14,8 @@ use Rattle.view_file.specs.declared.regions.Region.{Region}
 abbrev pub region_head : ℕ → List ℕ → List ℕ
 region_head k class = codes "\n D(" ++ (region_name k ++ (0x20 ∷ word (class_name class)))
 
--- A row for each terminal, for the region stands in one: a transistor's gate, a resistor's first end,
--- a diode's anode. This is what stands before its rectangles
+-- a row for each terminal, of which one has the region: a transistor's gate, a resistor's first
+-- end, a diode's anode; this is what stands before its rectangles
 abbrev pub region_open : Kind → List ℕ
 region_open Transistor = codes "\n  T(S)\n  T(G"
 region_open Resistor = codes "\n  T(A"

@@ -1,3 +1,4 @@
+pub mod Devices
 pub mod Subjects
 pub mod Remarks
 pub mod Told

@@ -42,7 +42,7 @@ abbrev pub both_line : List ℕ → List ℕ → List ℕ → List ℕ → List 
 both_line said right left place =
     codes "  " ++ (right ++ (said ++ (left ++ (place ++ codes "\n"))))
 
--- two transistors of other sizes
+-- two devices of other sizes
 abbrev pub differ : Told → Kind → ℕ → ℕ → Bool
 differ q Net k m = false
 differ q Pin k m = false

@@ -1,4 +1,4 @@
--- What a line of the page is about: a net, a transistor or a call, by its name and its place.
+-- What a line of the page is about: a net, a device or a call, by its name and its place.
 use Rattle.std.specs.Prelude.{◌≡◌, ℕ, ℤ, pos, negsuc, ◌+◌, ◌*◌, List, [], ◌∷◌, ◌++◌, Option, Some}
 use Rattle.std.specs.Prelude.{None, codes, decimal, get_or, slice_get, unsigned_abs}
 use Rattle.fixed_num.specs.Microns.{IsMicrons}
@@ -6,20 +6,12 @@ use Rattle.geo_base.specs.declared.shapes.Point.{Point}
 use Rattle.plain_netlist.specs.Netlist.{CallRow, Circuit, DeviceRow}
 use Rattle.view_cross.specs.declared.rows.Kind.{Kind}
 use Rattle.view_cross.specs.declared.rows.Kind.TheVariants.{Net, Pin, Device, Call}
+use Rattle.view_page.specs.Devices.{IsDeviceName}
 use Rattle.view_words.specs.Words.{word}
 
 -- `net NAME`
 abbrev pub net_name : List (List ℕ) → ℕ → List ℕ
 net_name names k = codes "net " ++ word (get_or names k [])
-
--- `transistor $K CLASS L=.. W=..`, numbered from 1, sizes in micrometres
-abbrev pub sized_name : ℕ → List ℕ → List ℕ → List ℕ → List ℕ
-sized_name k class l w = codes "transistor $" ++ (decimal (k + 1) ++ (0x20 ∷ (word class
-    ++ (codes " L=" ++ (l ++ (codes " W=" ++ w))))))
-
-abbrev pub IsDeviceName : ℕ → DeviceRow → List ℕ → Type 0
-IsDeviceName k d text = (l : List ℕ) × IsMicrons d.length l × (w : List ℕ) × IsMicrons d.width w
-    × (text ≡ sized_name k d.class l w)
 
 -- `call $K of CIRCUIT`, by the names of the circuits
 abbrev pub call_name : List (List ℕ) → ℕ → CallRow → List ℕ

@@ -1,7 +1,8 @@
-//! The page in words: for each pair of circuits that isn't all alike, the nets, transistors and
-//! calls that have no partner, or one that isn't their like, by the proposal of partners.
+//! The page in words: for each pair of circuits that isn't all alike, the nets, devices and calls
+//! that have no partner, or one that isn't their like, by the proposal of partners.
 #![tactic(auto)]
 
+mod devices;
 mod names;
 mod notes;
 mod page;

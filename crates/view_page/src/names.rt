@@ -1,12 +1,11 @@
-//! The names of nets, transistors and calls.
+//! The names of nets, devices and calls.
 
 ghost use Rattle.std.specs.Prelude.{◌≡◌, ◌+◌, ◌++◌, [], IfOk, OnOk, decimal, get_or};
 ghost use Rattle.std.specs.Option.{option_map};
 ghost use Rattle.net_model.specs.Rows.{plain_call, plain_circuit, plain_device};
-ghost use Rattle.view_page.specs.Subjects.{IsCallAt, IsDeviceAt, IsDeviceName, IsName, call_name};
-ghost use Rattle.view_page.specs.Subjects.{net_name, sized_name};
+ghost use Rattle.view_page.specs.Subjects.{IsCallAt, IsDeviceAt, IsName, call_name, net_name};
 
-use fixed_num::micron_text;
+use crate::devices::device_name;
 use net_model::{CallRow, Circuit, DeviceRow};
 use net_names::Name;
 use std::alloc::{AllocError, Global};
@@ -34,40 +33,12 @@ pub fn net_name(alloc: Global, names: &[Name], k: u32) -> Result<Vec<u8>, AllocE
     Ok(text)
 }
 
-fn push_number(alloc: Global, out: &mut Vec<u8>, k: u32) -> Result<(), AllocError>
+/// Appends the number of a device or call: they count from 1.
+pub fn push_number(alloc: Global, out: &mut Vec<u8>, k: u32) -> Result<(), AllocError>
     ensures { OnOk result (out.new.items ≡ out.old.items ++ decimal (k + 1)) }
 {
     let digits = (u64::from(k) + 1).to_string(alloc)?.into_bytes();
     out.extend_from_slice(&digits)
-}
-
-fn sized_name(
-    alloc: Global,
-    k: u32,
-    class: &[u8],
-    length: &[u8],
-    width: &[u8],
-) -> Result<Vec<u8>, AllocError>
-    ensures { IfOk result (λ text. text.items ≡ sized_name k class.now length.now width.now) }
-{
-    let mut text = Vec::new(alloc);
-    text.extend_from_slice(b"transistor $")?;
-    push_number(alloc, &mut text, k)?;
-    text.push(b' ')?;
-    push_word(&mut text, class)?;
-    text.extend_from_slice(b" L=")?;
-    text.extend_from_slice(length)?;
-    text.extend_from_slice(b" W=")?;
-    text.extend_from_slice(width)?;
-    Ok(text)
-}
-
-fn device_name(alloc: Global, k: u32, d: &DeviceRow) -> Result<Vec<u8>, AllocError>
-    ensures { IfOk result (λ text. IsDeviceName k (plain_device d.now) text.items) }
-{
-    let length = micron_text(alloc, d.length)?;
-    let width = micron_text(alloc, d.width)?;
-    sized_name(alloc, k, d.class.bytes(), &length, &width)
 }
 
 fn some_device(alloc: Global, k: u32, device: Option<&DeviceRow>) -> Result<Vec<u8>, AllocError>

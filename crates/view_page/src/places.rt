@@ -9,7 +9,7 @@ use geo_base::Point;
 use std::alloc::{AllocError, Global};
 use view_cross::Kind;
 
-/// A point of each net, transistor and call of a circuit, by number, in database units; none where
+/// A point of each net, device and call of a circuit, by number, in database units; none where
 /// there is no place.
 #[derive(Drop)]
 pub struct Places {

@@ -105,7 +105,7 @@ fn both_line(
     Ok(text)
 }
 
-// Whether two transistors have other sizes.
+// Whether two devices have other sizes.
 fn sizes_differ(d: Option<&DeviceRow>, e: Option<&DeviceRow>) -> bool
     ensures { result ≡ both (λ x y. not (same_sizes x y))
         (option_map (λ x. plain_device x.now) d.entry)

@@ -9,7 +9,7 @@ use Rattle.match_laws.specs.Circuits.{IsOneToOne}
 use Rattle.match_laws.proofs.Sums.{index_one}
 use Rattle.plain_netlist.specs.Lists.{AreApart, IsListed}
 use Rattle.plain_netlist.proofs.Listing.{apart_at, at_apart}
-use Rattle.plain_netlist.proofs.Members.{either_side, from_map, listed, map_at, position}
+use Rattle.plain_netlist.proofs.Members.{either_side, listed}
 use Rattle.text_table.specs.Texts.{has_text, place_of, with_text}
 use Rattle.view_pairs.specs.Keys.{AreFound, AreKeys, Extends, IsKey, IsPut, couple_at, couple_to, couples_from}
 use Rattle.view_pairs.specs.Only.{AreKeysFirst, AreOnlyFirst, IsOnly, in_order}
@@ -166,22 +166,6 @@ only_texts passes a ls rs lefts rights couples apart hl hr first t k m passing l
     let same : y.0 ≡ x.0 = apart_at t a y.0 x.0 apart y.2 x.2 in
     first x.0 k m (slice_get_within a x.0 t x.2) (only_key passes a ls lefts k x.0 t hl left x.1 x.2)
     (only_key passes a rs rights m x.0 t hr right (y.1 ∙ ap (λ (z : ℕ). Some (Some z)) same) x.2)
-
--- numbers as keys
-only_number : (xs : List ℕ) (k x : ℕ) → IsOnly x k xs → IsOnly (Some x) k (map (λ q. Some q) xs)
-only_number xs k x only = (
-  map_at (λ (q : ℕ). Some q) xs k x only.0,
-  (λ j there.
-      let r = from_map (λ (q : ℕ). Some q) xs j (Some x) there in
-      let same : r.0 ≡ x = (let e : Some r.0 ≡ Some x = r.2 in cc) in
-      only.1 j (r.1 ∙ ap Some same)),
-)
-
-pub only_numbers : (passes : ℕ → Bool) (count : ℕ) (ls rs : List ℕ) (lefts rights : List (Option ℕ)) (couples : List Couple)
-    → ((x : ℕ) → passes x ≡ true → x < count) → lefts ≡ map (λ q. Some q) ls → rights ≡ map (λ q. Some q) rs → AreKeysFirst count lefts rights couples
-    → AreOnlyFirst passes ls rs couples
-only_numbers passes count ls rs lefts rights couples less el er first x k m passing left right =
-    first x k m (less x passing) (subst (IsOnly (Some x) k) (sym el) (only_number ls k x left)) (subst (IsOnly (Some x) m) (sym er) (only_number rs m x right))
 
 -- ---- places of keys
 

@@ -5,7 +5,6 @@ use Rattle.std.specs.Prelude.{bytes_eq}
 use Rattle.std.specs.List.{list_any, range_with_len}
 use Rattle.std.proofs.lemmas.List.FromFn.{get_or-map-range_with_len}
 use Rattle.std.proofs.lemmas.Bool.{eq-eqb}
-use Rattle.std.proofs.lemmas.Bool.Decides.{Decides-ltb}
 use Rattle.std.proofs.lemmas.Option.{slice_get_within}
 use Rattle.std.proofs.lemmas.Slice.Eq.{bytes_eq-Decides}
 use Rattle.match_laws.specs.Circuits.{IsCorrespondence, IsOneToOne, Pair}
@@ -15,7 +14,7 @@ use Rattle.match_types.specs.declared.answer.Answer.TheVariants as answer
 use Rattle.match_types.specs.declared.answer.Pairing.{Pairing as Found}
 use Rattle.plain_netlist.specs.Lists.{IsListed}
 use Rattle.plain_netlist.specs.Netlist.{CallRow, Circuit, DeviceRow}
-use Rattle.plain_netlist.proofs.Members.{from_map, in_left, in_right, item_at, listed}
+use Rattle.plain_netlist.proofs.Members.{in_left, in_right, item_at, listed}
 use Rattle.view_cross.specs.Matched.{right_alone}
 use Rattle.view_cross.specs.declared.rows.Kind.{Kind}
 use Rattle.view_cross.specs.declared.rows.Kind.TheVariants.{Net, Pin, Device, Call}
@@ -25,11 +24,11 @@ use Rattle.net_model.specs.Rows.{plain_circuit}
 use Rattle.net_model.specs.declared.netlist.Circuit.{Circuit as Row_circuit}
 use Rattle.view_pairs.specs.Added.{AddsPair, rows_in}
 use Rattle.view_pairs.specs.Alike.{both, is_alike, pin_marks, same_class, same_pair}
-use Rattle.view_pairs.specs.Only.{IsOnly, in_order, is_any}
+use Rattle.view_pairs.specs.Only.{AreOnlyFirst, in_order, is_given}
 use Rattle.view_pairs.specs.Partners.{HasPartner, IsFirst, sure}
 use Rattle.view_pairs.specs.Rows.{Asked, asked, entry_row, kind_rows, left_rows, mark_at, proposal_rows}
-use Rattle.view_pairs.specs.Sure.{AreAllSure, AreMatchRows, AreMatched, AreNamed, AreOnlyCalls, AreOnlyDevices, AreOnlyNets, ArePartnersBy, HaveOnly, HaveRow, HaveSure, IsNoMatch, called, classes}
-use Rattle.view_pairs.specs.Wanted.{AreOfPairing, AreOnlyOnes, AreWanted, TakesWanted}
+use Rattle.view_pairs.specs.Sure.{AreAllSure, AreMatchRows, AreMatched, AreNameRows, AreNamed, ArePartnersBy, HaveRow, HaveSure, IsNoMatch}
+use Rattle.view_pairs.specs.Wanted.{AreOfPairing, AreWanted, TakesWanted}
 use Rattle.view_pairs.specs.declared.partners.Couple.{Couple}
 use Rattle.view_pairs.specs.declared.partners.Partner.{Partner}
 use Rattle.view_pairs.specs.declared.partners.Partners.{Partners}
@@ -169,35 +168,17 @@ match_rows a b f w q of takes p left right h =
 
 -- ---- any other pair
 
-module _ (before : ℕ) (a b : Circuit) (w : Wanted) (q : Asked) (only : AreOnlyOnes before a b w) (takes : TakesWanted a b w q.proposal) where
-  only_net : (k m : ℕ) → AreOnlyNets a b k m → HaveRow (proposal_rows q) Net k m
-  only_net k m o =
-      let l = slice_get_within a.nets k o.name o.left.0 in
-      let r = slice_get_within b.nets m o.name o.right.0 in
-      net_row q k m false (takes.nets (sure k m) (only.nets o.name k m o.given o.left o.right) (net_alike a b q.proposal.nets k m l r o.pins) l r)
+name_rows : (a b : Circuit) (w : Wanted) (q : Asked) → AreOnlyFirst is_given a.nets b.nets w.nets.items → TakesWanted a b w q.proposal → AreNameRows a b (proposal_rows q)
+name_rows a b w q only takes k m o =
+    let l = slice_get_within a.nets k o.name o.left.0 in
+    let r = slice_get_within b.nets m o.name o.right.0 in
+    net_row q k m false (takes.nets (sure k m) (only o.name k m o.given o.left o.right) (net_alike a b q.proposal.nets k m l r o.pins) l r)
 
-  only_device : (k m : ℕ) → AreOnlyDevices a b k m → HaveRow (proposal_rows q) Device k m
-  only_device k m o =
-      let d = from_map (λ (d : DeviceRow). d.class) a.devices k o.class o.left.0 in
-      let e = from_map (λ (d : DeviceRow). d.class) b.devices m o.class o.right.0 in
-      device_row q k m false (takes.devices (sure k m) (only.devices o.class k m refl o.left o.right)
-      (class_alike a.devices b.devices k m d.0 e.0 d.1 e.1 (d.2 ∙ sym e.2)) (slice_get_within a.devices k d.0 d.1) (slice_get_within b.devices m e.0 e.1))
-
-  only_call : (k m : ℕ) → AreOnlyCalls before a b k m → HaveRow (proposal_rows q) Call k m
-  only_call k m o =
-      let d = from_map (λ (r : CallRow). r.circuit) a.calls k o.pair o.left.0 in
-      let e = from_map (λ (r : CallRow). r.circuit) b.calls m o.pair o.right.0 in
-      call_row q k m false (takes.calls (sure k m) (only.calls o.pair k m ((Decides-ltb o.pair before).1 o.less) o.left o.right)
-      (pair_alike a.calls b.calls k m d.0 e.0 d.1 e.1 (d.2 ∙ sym e.2)) (slice_get_within a.calls k d.0 d.1) (slice_get_within b.calls m e.0 e.1))
-
-  only_rows : HaveOnly before a b (proposal_rows q)
-  only_rows = record { nets = only_net; devices = only_device; calls = only_call }
-
-pub sure_rows : (before : ℕ) (a b : Circuit) (x : Answer) (w : Wanted) (q : Asked) → AreWanted before a b x w → TakesWanted a b w q.proposal → HaveSure before a b x (proposal_rows q)
-sure_rows before a b (answer.Match f) w q wanted takes = match_rows a b f w q wanted takes
-sure_rows before a b (answer.Differs e) w q wanted takes = only_rows before a b w q wanted takes
-sure_rows before a b (answer.Undecided gs) w q wanted takes = only_rows before a b w q wanted takes
-sure_rows before a b (answer.Skipped c) w q wanted takes = only_rows before a b w q wanted takes
+pub sure_rows : (a b : Circuit) (x : Answer) (w : Wanted) (q : Asked) → AreWanted a b x w → TakesWanted a b w q.proposal → HaveSure a b x (proposal_rows q)
+sure_rows a b (answer.Match f) w q wanted takes = match_rows a b f w q wanted takes
+sure_rows a b (answer.Differs e) w q wanted takes = name_rows a b w q wanted takes
+sure_rows a b (answer.Undecided gs) w q wanted takes = name_rows a b w q wanted takes
+sure_rows a b (answer.Skipped c) w q wanted takes = name_rows a b w q wanted takes
 
 -- ---- all pairs
 
@@ -209,7 +190,7 @@ same_circuit a b e = cc
 
 -- one more pair
 pub sure_on : (lefts rights : List Circuit) (answers : ℕ → Option Answer) (lists : List (List Row)) (k : ℕ) (a b : Circuit) (x : Answer) (rows : List Row)
-    → AreAllSure lefts rights answers lists → length lists ≡ k → slice_get lefts k ≡ Some a → slice_get rights k ≡ Some b → answers k ≡ Some x → HaveSure k a b x rows
+    → AreAllSure lefts rights answers lists → length lists ≡ k → slice_get lefts k ≡ Some a → slice_get rights k ≡ Some b → answers k ≡ Some x → HaveSure a b x rows
     → AreAllSure lefts rights answers (lists ++ rows ∷ [])
 sure_on lefts rights answers lists k a b x rows old long left right is here j c d y zs l r v h =
     elim (get_snoc lists rows j zs h) [
@@ -219,9 +200,8 @@ sure_on lefts rights answers lists k a b x rows old long left right is here j c 
           let same_a : a ≡ c = same_circuit a c (sym left ∙ ap (λ (i : ℕ). slice_get lefts i) at ∙ l) in
           let same_b : b ≡ d = same_circuit b d (sym right ∙ ap (λ (i : ℕ). slice_get rights i) at ∙ r) in
           let same_x : x ≡ y = same_answer x y (sym is ∙ ap answers at ∙ v) in
-          let same_k : HaveSure j a b x rows = subst (λ (i : ℕ). HaveSure i a b x rows) at here in
-          subst (λ (zs : List Row). HaveSure j c d y zs) e.1
-          (subst (λ (z : Answer). HaveSure j c d z rows) same_x (subst (λ (z : Circuit). HaveSure j c z x rows) same_b (subst (λ (z : Circuit). HaveSure j z b x rows) same_a same_k)))
+          subst (λ (zs : List Row). HaveSure c d y zs) e.1
+          (subst (λ (z : Answer). HaveSure c d z rows) same_x (subst (λ (z : Circuit). HaveSure c z x rows) same_b (subst (λ (z : Circuit). HaveSure z b x rows) same_a here)))
     ]
 
 -- the next pair of two lists
@@ -237,7 +217,7 @@ pair_sure lefts rights same told answers old new k x a b shown at sure lt rt lef
     let rows = proposal_rows (asked told (plain_circuit a) (plain_circuit b) old.proposals.items adds.proposal) in
     subst (λ (lists : List (List Row)). AreAllSure ls rs answers lists) (sym adds.rows)
     (sure_on ls rs answers (rows_in old) k (plain_circuit a) (plain_circuit b) x rows sure (shown.long ∙ at)
-    (at_place lefts k a lt left) (at_place rights k b rt right) is (subst (λ (n : ℕ). HaveSure n (plain_circuit a) (plain_circuit b) x rows) at adds.sure))
+    (at_place lefts k a lt left) (at_place rights k b rt right) is adds.sure)
 
 pub none_sure : (lefts rights : List Circuit) (answers : ℕ → Option Answer) → AreAllSure lefts rights answers []
 none_sure lefts rights answers k a b x rows l r v h = absurd (let e : None ≡ Some rows = h in cc)
@@ -245,11 +225,11 @@ none_sure lefts rights answers k a b x rows l r v h = absurd (let e : None ≡ S
 pub all_matched : (lefts rights : List Circuit) (answers : ℕ → Option Answer) (lists : List (List Row)) → AreAllSure lefts rights answers lists → AreMatched lefts rights answers lists
 all_matched lefts rights answers lists h k a b f rows l r v at = h k a b (answer.Match f) rows l r v at
 
-by_looks : (before : ℕ) (a b : Circuit) (x : Answer) (rows : List Row) → IsNoMatch x → HaveSure before a b x rows → HaveOnly before a b rows
-by_looks before a b (answer.Match f) rows other h = absurd other
-by_looks before a b (answer.Differs e) rows other h = h
-by_looks before a b (answer.Undecided gs) rows other h = h
-by_looks before a b (answer.Skipped c) rows other h = h
+by_names : (a b : Circuit) (x : Answer) (rows : List Row) → IsNoMatch x → HaveSure a b x rows → AreNameRows a b rows
+by_names a b (answer.Match f) rows other h = absurd other
+by_names a b (answer.Differs e) rows other h = h
+by_names a b (answer.Undecided gs) rows other h = h
+by_names a b (answer.Skipped c) rows other h = h
 
 pub all_named : (lefts rights : List Circuit) (answers : ℕ → Option Answer) (lists : List (List Row)) → AreAllSure lefts rights answers lists → AreNamed lefts rights answers lists
-all_named lefts rights answers lists h k a b x rows l r v other at = by_looks k a b x rows other (h k a b x rows l r v at)
+all_named lefts rights answers lists h k a b x rows l r v other at = by_names a b x rows other (h k a b x rows l r v at)

@@ -1,5 +1,5 @@
 -- Pairs one after another, with their proposals and rows.
-use Rattle.std.specs.Prelude.{◌≡◌, Bool, List, [], ◌∷◌, ◌++◌, length, map}
+use Rattle.std.specs.Prelude.{◌≡◌, Bool, List, [], ◌∷◌, ◌++◌, map}
 use Rattle.match_types.specs.declared.answer.Answer.{Answer}
 use Rattle.plain_netlist.specs.Netlist.{Circuit}
 use Rattle.view_cross.specs.declared.rows.Row.{Row}
@@ -19,4 +19,5 @@ pub record AddsPair (told : Bool) (a b : Circuit) (x : Answer) (old new : Propos
   pub proposals : new.proposals.items ≡ old.proposals.items ++ proposal ∷ []
   pub rows : rows_in new ≡ rows_in old
       ++ proposal_rows (asked told a b old.proposals.items proposal) ∷ []
-  pub sure : HaveSure (length old.proposals.items) a b x (proposal_rows (asked told a b old.proposals.items proposal))
+  pub sure : HaveSure a b x
+      (proposal_rows (asked told a b old.proposals.items proposal))

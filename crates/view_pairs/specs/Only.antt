@@ -1,4 +1,4 @@
--- Couples that are sure: those of a pairing, and nodes that alone look so on both sides.
+-- Couples that are sure: those of a pairing, and nets that alone have a name on both sides.
 use Rattle.std.specs.Prelude.{◌≡◌, ◌<◌, ℕ, ◌+◌, ◌==◌, Bool, true, not, List, [], ◌∷◌, Option, Some}
 use Rattle.std.specs.Prelude.{slice_get}
 use Rattle.std.specs.List.{list_any}
@@ -13,10 +13,6 @@ in_order k (m ∷ ms) = sure k m ∷ in_order (k + 1) ms
 -- a name that someone gave: it has no $
 abbrev pub is_given : List ℕ → Bool
 is_given name = not (list_any (λ b. b == 0x24) name)
-
--- any text passes
-abbrev pub is_any : List ℕ → Bool
-is_any text = true
 
 -- x stands at this place and at no other
 abbrev pub IsOnly : {T : Type 0} → T → ℕ → List T → Type 0

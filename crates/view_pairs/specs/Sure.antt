@@ -1,6 +1,6 @@
 -- What stands for sure in the rows of a pair: of a match the partners of its pairing, of any other
--- pair those nodes that alone look so on both sides.
-use Rattle.std.specs.Prelude.{◌≡◌, ◌↔◌, ◌<◌, ℕ, true, List, Option, Some, map, slice_get}
+-- pair the nets that alone have a name on both sides.
+use Rattle.std.specs.Prelude.{◌≡◌, ◌↔◌, ℕ, true, List, Option, Some, slice_get}
 use Rattle.match_laws.specs.Circuits.{IsCorrespondence, Pair, Pairing}
 use Rattle.match_types.specs.Plain.{plain_pairing}
 use Rattle.match_types.specs.declared.answer.Answer.{Answer}
@@ -43,44 +43,23 @@ pub record AreOnlyNets (a b : Circuit) (k m : ℕ) : Type 0 where
   pub right : IsOnly name m b.nets
   pub pins : IsListed k a.pins ↔ IsListed m b.pins
 
-abbrev pub classes : Circuit → List (List ℕ)
-classes c = map (λ d. d.class) c.devices
-
--- the only devices of a class
-pub record AreOnlyDevices (a b : Circuit) (k m : ℕ) : Type 0 where
-  pub class : List ℕ
-  pub left : IsOnly class k (classes a)
-  pub right : IsOnly class m (classes b)
-
-abbrev pub called : Circuit → List ℕ
-called c = map (λ r. r.circuit) c.calls
-
--- the only calls of a pair before this one
-pub record AreOnlyCalls (before : ℕ) (a b : Circuit) (k m : ℕ) : Type 0 where
-  pub pair : ℕ
-  pub less : pair < before
-  pub left : IsOnly pair k (called a)
-  pub right : IsOnly pair m (called b)
-
 -- are partners
-pub record HaveOnly (before : ℕ) (a b : Circuit) (rows : List Row) : Type 0 where
-  pub nets : (k m : ℕ) → AreOnlyNets a b k m → HaveRow rows Net k m
-  pub devices : (k m : ℕ) → AreOnlyDevices a b k m → HaveRow rows Device k m
-  pub calls : (k m : ℕ) → AreOnlyCalls before a b k m → HaveRow rows Call k m
+abbrev pub AreNameRows : Circuit → Circuit → List Row → Type 0
+AreNameRows a b rows = (k m : ℕ) → AreOnlyNets a b k m → HaveRow rows Net k m
 
 -- by the pair's answer
-abbrev pub HaveSure : ℕ → Circuit → Circuit → Answer → List Row → Type 0
-HaveSure before a b (answer.Match f) rows = AreMatchRows a b (plain_pairing f) rows
-HaveSure before a b (answer.Differs e) rows = HaveOnly before a b rows
-HaveSure before a b (answer.Undecided gs) rows = HaveOnly before a b rows
-HaveSure before a b (answer.Skipped q) rows = HaveOnly before a b rows
+abbrev pub HaveSure : Circuit → Circuit → Answer → List Row → Type 0
+HaveSure a b (answer.Match f) rows = AreMatchRows a b (plain_pairing f) rows
+HaveSure a b (answer.Differs e) rows = AreNameRows a b rows
+HaveSure a b (answer.Undecided gs) rows = AreNameRows a b rows
+HaveSure a b (answer.Skipped q) rows = AreNameRows a b rows
 
 -- of each pair of two netlists
 abbrev pub AreAllSure : List Circuit → List Circuit → (ℕ → Option Answer) → List (List Row)
     → Type 0
 AreAllSure lefts rights answers lists = (k : ℕ) (a b : Circuit) (x : Answer) (rows : List Row)
     → slice_get lefts k ≡ Some a → slice_get rights k ≡ Some b → answers k ≡ Some x
-    → slice_get lists k ≡ Some rows → HaveSure k a b x rows
+    → slice_get lists k ≡ Some rows → HaveSure a b x rows
 
 -- the rows of each match
 abbrev pub AreMatched : List Circuit → List Circuit → (ℕ → Option Answer) → List (List Row)
@@ -96,10 +75,9 @@ IsNoMatch (answer.Differs e) = Unit {0}
 IsNoMatch (answer.Undecided gs) = Unit {0}
 IsNoMatch (answer.Skipped q) = Unit {0}
 
--- and those of each other pair: the only nets of a name are partners, the only devices of a class, the
--- only calls of a pair
+-- and those of each other pair: the only nets of a name are partners
 abbrev pub AreNamed : List Circuit → List Circuit → (ℕ → Option Answer) → List (List Row)
     → Type 0
 AreNamed lefts rights answers lists = (k : ℕ) (a b : Circuit) (x : Answer) (rows : List Row)
     → slice_get lefts k ≡ Some a → slice_get rights k ≡ Some b → answers k ≡ Some x
-    → IsNoMatch x → slice_get lists k ≡ Some rows → HaveOnly k a b rows
+    → IsNoMatch x → slice_get lists k ≡ Some rows → AreNameRows a b rows

@@ -1,14 +1,13 @@
 -- Which couples shall be partners.
-use Rattle.std.specs.Prelude.{◌≡◌, ◌<◌, ℕ, true, List, length, nat_lt}
+use Rattle.std.specs.Prelude.{◌≡◌, ◌<◌, ℕ, true, List, length}
 use Rattle.match_types.specs.declared.answer.Answer.{Answer}
 use Rattle.match_types.specs.declared.answer.Answer.TheVariants as answer
 use Rattle.match_types.specs.declared.answer.Pairing.{Pairing}
 use Rattle.plain_netlist.specs.Netlist.{Circuit}
 use Rattle.view_cross.specs.declared.rows.Kind.{Kind}
 use Rattle.view_cross.specs.declared.rows.Kind.TheVariants.{Net, Device, Call}
-use Rattle.view_pairs.specs.Only.{AreOnlyFirst, in_order, is_given, is_any}
+use Rattle.view_pairs.specs.Only.{AreOnlyFirst, in_order, is_given}
 use Rattle.view_pairs.specs.Partners.{HasPartner, IsFirst}
-use Rattle.view_pairs.specs.Sure.{called, classes}
 use Rattle.view_pairs.specs.Proposals.{is_alike_couple}
 use Rattle.view_pairs.specs.declared.partners.Couple.{Couple}
 use Rattle.view_pairs.specs.declared.partners.Partners.{Partners}
@@ -21,19 +20,12 @@ pub record AreOfPairing (f : Pairing) (w : Wanted) : Type 0 where
   pub devices : w.devices.items ≡ in_order 0 f.devices.items
   pub calls : w.calls.items ≡ in_order 0 f.calls.items
 
--- first of all the only nets of a name, the only devices of a class, the only calls of a pair before
--- this one
-pub record AreOnlyOnes (before : ℕ) (a b : Circuit) (w : Wanted) : Type 0 where
-  pub nets : AreOnlyFirst is_given a.nets b.nets w.nets.items
-  pub devices : AreOnlyFirst is_any (classes a) (classes b) w.devices.items
-  pub calls : AreOnlyFirst (λ q. nat_lt q before) (called a) (called b) w.calls.items
-
--- by the answer: those of the match, or those that are the only ones before others
-abbrev pub AreWanted : ℕ → Circuit → Circuit → Answer → Wanted → Type 0
-AreWanted before a b (answer.Match f) w = AreOfPairing f w
-AreWanted before a b (answer.Differs e) w = AreOnlyOnes before a b w
-AreWanted before a b (answer.Undecided gs) w = AreOnlyOnes before a b w
-AreWanted before a b (answer.Skipped q) w = AreOnlyOnes before a b w
+-- by the answer: those of the match, or first of all the only nets of a name
+abbrev pub AreWanted : Circuit → Circuit → Answer → Wanted → Type 0
+AreWanted a b (answer.Match f) w = AreOfPairing f w
+AreWanted a b (answer.Differs e) w = AreOnlyFirst is_given a.nets b.nets w.nets.items
+AreWanted a b (answer.Undecided gs) w = AreOnlyFirst is_given a.nets b.nets w.nets.items
+AreWanted a b (answer.Skipped q) w = AreOnlyFirst is_given a.nets b.nets w.nets.items
 
 -- a couple of one kind whose nodes are there is of partners where none before it shares a node
 abbrev pub TakesAlike : Circuit → Circuit → Partners → Kind → ℕ → ℕ → List Couple → Partners

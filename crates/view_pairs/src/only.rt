@@ -1,16 +1,13 @@
-//! Nodes that alone look so on both sides.
+//! Nets that alone have a name on both sides.
 
-ghost use Rattle.std.specs.Prelude.{◌≡◌, ◌++◌, IfOk, None, OnOk, Some, get_or, length, map, nat_lt};
-ghost use Rattle.std.specs.Prelude.{slice_get};
-ghost use Rattle.net_model.specs.Rows.{plain_call, plain_device};
+ghost use Rattle.std.specs.Prelude.{◌≡◌, ◌++◌, IfOk, None, OnOk, Some, get_or, length, slice_get};
 ghost use Rattle.plain_netlist.specs.Lists.{AreApart};
 ghost use Rattle.view_pairs.specs.Keys.{AreFound, AreKeys, Extends, IsKey, IsPut, couple_at};
 ghost use Rattle.view_pairs.specs.Keys.{couples_from};
-ghost use Rattle.view_pairs.specs.Only.{AreKeysFirst, AreOnlyFirst, is_given, is_any};
+ghost use Rattle.view_pairs.specs.Only.{AreKeysFirst, AreOnlyFirst, is_given};
 
 use crate::partners::{Couple, sure};
 use list_base::number;
-use net_model::{CallRow, DeviceRow};
 use net_names::Name;
 use std::alloc::{AllocError, Global};
 use text_table::TextTable;
@@ -70,41 +67,6 @@ fn name_keys(
     'names: while let [name, more @ ..] = rest {
         let key = name_key(alloc, table, name)?;
         keys.push(key)?;
-        rest = more;
-    }
-    Ok(keys)
-}
-
-// The keys of devices' classes.
-fn class_keys(
-    alloc: Global,
-    table: &mut TextTable,
-    devices: &[DeviceRow],
-) -> Result<Vec<Option<u32>>, AllocError>
-    requires { AreApart table.old }
-    ensures apart { OnOk result (AreApart table.new) }
-    ensures grown { OnOk result (Extends table.old table.new) }
-    ensures keys { IfOk result (λ keys. AreKeys is_any table.new
-        (map (λ d. d.class) (map plain_device devices.now)) keys.items) }
-{
-    let mut keys = Vec::new(alloc);
-    let mut rest = devices;
-    'devices: while let [d, more @ ..] = rest {
-        let key = key_of(alloc, table, d.class.bytes())?;
-        keys.push(Some(key))?;
-        rest = more;
-    }
-    Ok(keys)
-}
-
-fn call_keys(alloc: Global, calls: &[CallRow]) -> Result<Vec<Option<u32>>, AllocError>
-    ensures { IfOk result (λ keys. keys.items
-        ≡ map (λ q. Some q) (map (λ r. r.circuit) (map plain_call calls.now))) }
-{
-    let mut keys = Vec::new(alloc);
-    let mut rest = calls;
-    'calls: while let [call, more @ ..] = rest {
-        keys.push(Some(call.circuit))?;
         rest = more;
     }
     Ok(keys)
@@ -207,39 +169,5 @@ pub fn only_nets(alloc: Global, lefts: &[Name], rights: &[Name]) -> Result<Vec<C
     let left_keys = name_keys(alloc, &mut table, lefts)?;
     let right_keys = name_keys(alloc, &mut table, rights)?;
     let couples = couples_of(alloc, table.len(), &left_keys, &right_keys)?;
-    Ok(couples)
-}
-
-/// Devices of one class, among them all that have it alone. Linear in the devices.
-pub fn only_devices(
-    alloc: Global,
-    lefts: &[DeviceRow],
-    rights: &[DeviceRow],
-) -> Result<Vec<Couple>, AllocError>
-    ensures { IfOk result (λ couples. AreOnlyFirst is_any
-        (map (λ d. d.class) (map plain_device lefts.now))
-        (map (λ d. d.class) (map plain_device rights.now)) couples.items) }
-{
-    let mut table = TextTable::new(alloc);
-    let left_keys = class_keys(alloc, &mut table, lefts)?;
-    let right_keys = class_keys(alloc, &mut table, rights)?;
-    let couples = couples_of(alloc, table.len(), &left_keys, &right_keys)?;
-    Ok(couples)
-}
-
-/// Calls of one of so many pairs, among them all that call it alone. Linear in the calls and pairs.
-pub fn only_calls(
-    alloc: Global,
-    count: usize,
-    lefts: &[CallRow],
-    rights: &[CallRow],
-) -> Result<Vec<Couple>, AllocError>
-    ensures { IfOk result (λ couples. AreOnlyFirst (λ q. nat_lt q count)
-        (map (λ r. r.circuit) (map plain_call lefts.now))
-        (map (λ r. r.circuit) (map plain_call rights.now)) couples.items) }
-{
-    let left_keys = call_keys(alloc, lefts)?;
-    let right_keys = call_keys(alloc, rights)?;
-    let couples = couples_of(alloc, count, &left_keys, &right_keys)?;
     Ok(couples)
 }

@@ -7,7 +7,8 @@ ghost use Rattle.view_pairs.specs.Proposals.{AreProposed, IsProposal, is_told};
 ghost use Rattle.view_cross.specs.Whole.{AreWhole};
 ghost use Rattle.view_pairs.specs.Added.{AddsPair};
 ghost use Rattle.view_pairs.specs.Sure.{AreMatched, AreNamed, HaveSure};
-ghost use Rattle.view_pairs.specs.Wanted.{AreOnlyOnes, AreWanted, TakesWanted};
+ghost use Rattle.view_pairs.specs.Only.{AreOnlyFirst, is_given};
+ghost use Rattle.view_pairs.specs.Wanted.{AreWanted, TakesWanted};
 ghost use Rattle.view_pairs.specs.Rows.{asked, proposal_rows};
 
 use crate::alike::{Sides, sides_of};
@@ -16,7 +17,7 @@ use crate::partners::claimed;
 use crate::proposal::Proposal;
 use crate::rows::{proposal_rows, show};
 use crate::search::searched;
-use crate::wanted::{Wanted, found, matched, only_first, pin_couples};
+use crate::wanted::{Wanted, found, matched, named_first, pin_couples};
 use job_graph::Reads;
 use list_base::number;
 use match_types::Answer;
@@ -53,14 +54,14 @@ fn proposal_of(alloc: Global, sides: &Sides<'_>, wanted: &Wanted) -> Result<Prop
     })
 }
 
-// Nodes that alone look so on both sides, and what a search finds.
+// Nets that alone have a name on both sides, and what a search finds.
 fn looked_for(alloc: Global, sides: &Sides<'_>, before: &[Proposal]) -> Result<Wanted, AllocError>
-    ensures { IfOk result (AreOnlyOnes (length before.now) (plain_circuit sides.now.left.now)
-        (plain_circuit sides.now.right.now)) }
+    ensures { IfOk result (λ w. AreOnlyFirst is_given sides.now.left.now.nets.items
+        sides.now.right.now.nets.items w.nets.items) }
 {
     let result = searched(alloc, sides, before)?;
     let wanted = found(alloc, &result)?;
-    only_first(alloc, sides, before.len(), &wanted)
+    named_first(alloc, sides, wanted)
 }
 
 // The couples of a match, or those that are looked for.
@@ -70,7 +71,7 @@ fn wanted_of(
     before: &[Proposal],
     answer: &Answer,
 ) -> Result<Wanted, AllocError>
-    ensures { IfOk result (AreWanted (length before.now) (plain_circuit sides.now.left.now)
+    ensures { IfOk result (AreWanted (plain_circuit sides.now.left.now)
         (plain_circuit sides.now.right.now) answer.now) }
 {
     match answer {
@@ -117,7 +118,7 @@ fn told_pair(
         (plain_circuit right.now) x.proposal) }
     ensures rows { IfOk result (λ x. x.rows.items ≡ proposal_rows (asked told
         (plain_circuit left.now) (plain_circuit right.now) before.now x.proposal)) }
-    ensures sure { IfOk result (λ x. HaveSure (length before.now) (plain_circuit left.now)
+    ensures sure { IfOk result (λ x. HaveSure (plain_circuit left.now)
         (plain_circuit right.now) answer.now (proposal_rows (asked told (plain_circuit left.now)
         (plain_circuit right.now) before.now x.proposal))) }
 {
@@ -163,8 +164,7 @@ fn is_told(same_pins: bool, count: u32, k: u32) -> bool
 
 /// For each pair of two netlists that are compared by position its rows: the partners of its nets,
 /// pins, devices and calls that its pairing gives, or, where it isn't a match, those that are
-/// proposed for it, among them the only nets of a name, the only devices of a class and the only
-/// calls of a pair. With `same_pins` names tell the last pair's pins apart. For show: what is sure
+/// proposed for it, among them the only nets of a name. With `same_pins` names tell the last pair's pins apart. For show: what is sure
 /// is the answer. Near linear. The error is want of memory, or 2^32 nodes of a pair.
 pub fn proposals<R: Reads<Answer>>(
     alloc: Global,

@@ -1,13 +1,12 @@
 //! The couples that shall be partners, by kind.
 
 ghost use Rattle.std.specs.Prelude.{◌≡◌, ◌++◌, IfOk};
-ghost use Rattle.net_model.specs.Rows.{plain_circuit};
-ghost use Rattle.view_pairs.specs.Only.{in_order};
-ghost use Rattle.view_pairs.specs.Wanted.{AreOfPairing, AreOnlyOnes};
+ghost use Rattle.view_pairs.specs.Only.{AreOnlyFirst, in_order, is_given};
+ghost use Rattle.view_pairs.specs.Wanted.{AreOfPairing};
 
 use crate::alike::Sides;
 use crate::graph::Graph;
-use crate::only::{only_calls, only_devices, only_nets};
+use crate::only::only_nets;
 use crate::partners::{Couple, Partner, Partners, sure};
 use crate::search::Search;
 use list_base::number;
@@ -106,19 +105,17 @@ pub fn matched(alloc: Global, pairing: &Pairing) -> Result<Wanted, AllocError>
     })
 }
 
-// Nodes that alone look so on both sides. `before` is the number of pairs that may be called.
-fn only_ones(alloc: Global, sides: &Sides<'_>, before: usize) -> Result<Wanted, AllocError>
-    ensures { IfOk result (AreOnlyOnes before (plain_circuit sides.now.left.now)
-        (plain_circuit sides.now.right.now)) }
+/// These, behind nets that alone have a name on both sides. Linear in the nets.
+pub fn named_first(alloc: Global, sides: &Sides<'_>, wanted: Wanted) -> Result<Wanted, AllocError>
+    ensures { IfOk result (λ w. AreOnlyFirst is_given sides.now.left.now.nets.items
+        sides.now.right.now.nets.items w.nets.items) }
 {
-    let (left, right) = (sides.left, sides.right);
-    let nets = only_nets(alloc, &left.nets, &right.nets)?;
-    let devices = only_devices(alloc, &left.devices, &right.devices)?;
-    let calls = only_calls(alloc, before, &left.calls, &right.calls)?;
+    let first = only_nets(alloc, &sides.left.nets, &sides.right.nets)?;
+    let nets = behind(first, &wanted.nets)?;
     Ok(Wanted {
         nets,
-        devices,
-        calls,
+        devices: wanted.devices,
+        calls: wanted.calls,
     })
 }
 
@@ -129,28 +126,6 @@ fn behind(first: Vec<Couple>, others: &[Couple]) -> Result<Vec<Couple>, AllocErr
     let mut couples = first;
     couples.extend_from_slice(others)?;
     Ok(couples)
-}
-
-/// These, behind nodes that alone look so on both sides. Linear. `before` is the number of pairs that
-/// may be called.
-pub fn only_first(
-    alloc: Global,
-    sides: &Sides<'_>,
-    before: usize,
-    wanted: &Wanted,
-) -> Result<Wanted, AllocError>
-    ensures { IfOk result (AreOnlyOnes before (plain_circuit sides.now.left.now)
-        (plain_circuit sides.now.right.now)) }
-{
-    let first = only_ones(alloc, sides, before)?;
-    let nets = behind(first.nets, &wanted.nets)?;
-    let devices = behind(first.devices, &wanted.devices)?;
-    let calls = behind(first.calls, &wanted.calls)?;
-    Ok(Wanted {
-        nets,
-        devices,
-        calls,
-    })
 }
 
 // The pin of each net; the last where several are on one.

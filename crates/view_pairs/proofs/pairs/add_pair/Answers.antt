@@ -1,4 +1,4 @@
-use Rattle.std.proofs.Common.{◌∙◌, List, length, ap, subst}
+use Rattle.std.proofs.Common.{◌∙◌, List, ap, subst}
 use Rattle.net_model.specs.Rows.{plain_circuit}
 use Rattle.view_pairs.specs.Rows.{asked, proposal_rows}
 use Rattle.view_pairs.specs.Sure.{HaveSure}
@@ -18,5 +18,5 @@ returns c =
       proposals = c.in_ok-push.ensures.items;
       rows = rows_more old.rows.items c.push-2.new.self.items x.rows (proposal_rows (asked c.args.told a b old.proposals.items x.proposal)) c.in_ok-push-2.ensures.items
           (c.in_ok-found.ensures.rows ∙ ap (λ (ps : List Proposal). proposal_rows (asked c.args.told a b ps x.proposal)) c.deref.ensures.value);
-      sure = subst (λ (ps : List Proposal). HaveSure (length ps) a b c.args.answer.now (proposal_rows (asked c.args.told a b ps x.proposal))) c.deref.ensures.value c.in_ok-found.ensures.sure;
+      sure = subst (λ (ps : List Proposal). HaveSure a b c.args.answer.now (proposal_rows (asked c.args.told a b ps x.proposal))) c.deref.ensures.value c.in_ok-found.ensures.sure;
     }

@@ -1,4 +1,4 @@
-use Rattle.std.proofs.Common.{◌∙◌, length, ap, subst}
+use Rattle.std.proofs.Common.{◌∙◌, ap, subst}
 use Rattle.net_model.specs.Rows.{plain_circuit}
 use Rattle.net_model.specs.declared.netlist.Circuit.{Circuit}
 use Rattle.view_pairs.specs.Rows.{asked, proposal_rows}
@@ -21,10 +21,9 @@ returns-clause-sure c =
     let w = c.in_ok-wanted.wanted in
     let y = c.args.answer.now in
     let left = c.args.left.now in
-    let before = length c.args.before.now in
     let right = c.args.right.now in
-    let wanted = subst (λ (a : Circuit). AreWanted before (plain_circuit a) (plain_circuit right) y w) c.in_ok-sides.ensures.left
-    (subst (λ (b : Circuit). AreWanted before (plain_circuit sides.left.now) (plain_circuit b) y w) c.in_ok-sides.ensures.right c.in_ok-wanted.ensures) in
+    let wanted = subst (λ (a : Circuit). AreWanted (plain_circuit a) (plain_circuit right) y w) c.in_ok-sides.ensures.left
+    (subst (λ (b : Circuit). AreWanted (plain_circuit sides.left.now) (plain_circuit b) y w) c.in_ok-sides.ensures.right c.in_ok-wanted.ensures) in
     let takes = subst (λ (a : Circuit). TakesWanted (plain_circuit a) (plain_circuit right) w x) c.in_ok-sides.ensures.left
     (subst (λ (b : Circuit). TakesWanted (plain_circuit sides.left.now) (plain_circuit b) w x) c.in_ok-sides.ensures.right c.in_ok-proposal.ensures.takes) in
-    sure_rows before (plain_circuit left) (plain_circuit right) y w (asked c.args.told (plain_circuit left) (plain_circuit right) c.args.before.now x) wanted takes
+    sure_rows (plain_circuit left) (plain_circuit right) y w (asked c.args.told (plain_circuit left) (plain_circuit right) c.args.before.now x) wanted takes
