@@ -8,6 +8,8 @@ REFUSED = [
     (CHIP + ["chip.cir"], "refused words"),
     (CHIP + ["chip.cir", "--database", "out.lvsdb", "--report", "out.txt"], "refused words"),
     (CHIP + ["chip.cir", "--database", "chip.cir"], "refused same chip.cir"),
+    (CHIP + ["chip.cir", "--database", "out.lvsdb", "--page", "chip.gds"], "refused same chip.gds"),
+    (CHIP + ["chip.cir", "--database", "out.lvsdb", "--page", "out.lvsdb"], "refused same out.lvsdb"),
     (CHIP + ["none.cir", "--database", "out.lvsdb"], "refused absent none.cir"),
     (CHIP + ["chip.lvs", "--database", "out.lvsdb"], "refused schematic 50 line 1"),
     (["--layout", "far.gds"] + CHIP[2:] + ["chip.cir", "--database", "out.lvsdb"], "refused view"),
@@ -29,9 +31,14 @@ def try_all(trials):
     for words, line in REFUSED:
         trials.expect(" ".join(words), (2, line), trials.show(*words))
     trials.expect("a match", (0, "view match circuits 4 pairs 4 bad 0"), trials.show(*CHIP, "chip.cir", "--database", "chip.lvsdb"))
-    wrong = trials.show(*CHIP, "width.cir", "--database", "chip.lvsdb")
+    wrong = trials.show(*CHIP, "width.cir", "--database", "chip.lvsdb", "--page", "chip.txt")
     trials.expect("another width", (1, "view mismatch circuits 4 pairs 4 bad 0"), wrong)
     trials.expect_said(tools.section(text, "## A mismatch, step by step"), wrong[1])
+    page = trials.text("chip.txt").split("\n")
+    trials.expect("the page's lines", 4, len(page))
+    for line in page[1:3]:
+        trials.expect_said(tools.section(text, "## A mismatch, step by step"), line)
+    trials.expect_said(tools.section(formats, "## The netlist browser's database"), page[0])
     lines = trials.text("chip.lvsdb").split("\n")
     for line in ("#%lvsdb-klayout", "J(", "H(", "Z("):
         trials.expect(line, True, line in lines)

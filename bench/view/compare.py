@@ -2,12 +2,13 @@
 """Databases as KLayout reads them: bench/view/compare.py LVS_VIEW LVS [--designs COUNT SEED] [--planted] [--keep DIR]
 
 Wants KLayout (apt-get install klayout). LVS writes the netlist and the report of each case, LVS_VIEW its database, KLayout reads the
-database, and what it read must be the netlist's circuits, nets, pins, devices and calls, the schematic's too, and the report's partners.
+database, and what it read must be the netlist's circuits, nets, pins, devices and calls, the schematic's too, and the report's partners;
+the page must have a line for each node that isn't its partner's like, and no other node's.
 Of small layouts the boxes of the circuits, the places of calls, the rectangles of each net with all calls below and the regions of the
 devices are those that the independent implementation finds (wanted.py). The cases are generated chips, the example, the layouts of
 layouts.py, and of each of these a wrong size, a lost device, exchanged pins, and a top without a partner, each also with
-`flatten_unmatched`; with --planted each error of bench/planted; with --designs COUNT generated designs from SEED on. Circuits of which
-something was flattened or dropped, and their callers, have no rectangles to compare. Exits with 1 where something differs.
+`flatten_unmatched`; with --planted each error of bench/planted; with --designs COUNT generated designs from SEED on. Of circuits in which
+others were flattened the nets of their own cells and the regions of all devices are compared. Exits with 1 where something differs.
 """
 import argparse
 import collections
@@ -21,6 +22,7 @@ import tempfile
 
 HERE = os.path.dirname(os.path.abspath(__file__))
 sys.path[:0] = [os.path.join(HERE, "..", "reference")]
+os.environ.setdefault("LVSREF_FEATURES", "more")
 import gen
 import spice
 import wanted
@@ -294,6 +296,39 @@ def check_logs(database, report):
     return ["logs: %s for %s" % (a, b) for a, b in zip(found, blocks) if a != b]
 
 
+def line_of(row, word, shown):
+    """What the page says of a row of nets, devices or calls, or None."""
+    left, right, status = row
+    if right == "-":
+        return word, "none in the schematic"
+    if left == "-":
+        return word, "none in the layout"
+    if status == "Mismatch":
+        return word, "among other neighbours"
+    if word == "device" and shown["J"][int(left) - 1][:3] != shown["H"][int(right) - 1][:3]:
+        return word, "in the layout"
+    return None
+
+
+def check_page(page, read):
+    """Whether each pair that isn't all alike has a line for each node that has no partner, or one that isn't its like."""
+    wanted = []
+    for (left, right), pair in read["pairs"].items():
+        if "()" not in (left, right):
+            shown = {side: read[side][key]["devices"] for side, key in (("J", left), ("H", right))}
+            lines = [line_of(row, word, shown) for kind, word in (("N", "net"), ("D", "device"), ("X", "call")) for row in pair[kind]]
+            wanted.append(collections.Counter(line for line in lines if line))
+    found = []
+    for line in page.decode("latin-1").split("\n")[1:-1]:
+        if line.startswith("cell "):
+            found.append(collections.Counter())
+        elif ": joins nets " not in line and ": in the layout two parts, " not in line:
+            word = line.split()[0]
+            forms = ("none in the schematic", "none in the layout", "among other neighbours", "in the layout")
+            found[-1][word if word in ("net", "call") else "device", next(form for form in forms if form in line)] += 1
+    return [] if found == [lines for lines in wanted if lines] else ["page: %s for %s" % (found, wanted)]
+
+
 def read_all(folder, databases):
     names = os.path.join(folder, "databases")
     put(names, {"list": "\n".join(databases).encode() + b"\n"})
@@ -307,7 +342,7 @@ def make(view, lvs, prefix, case):
     put(prefix, dict(case.files, gds=positive(case.files["gds"])))
     inputs = ["--layout", prefix + ".gds", "--rules", prefix + ".lvs", "--schematic", prefix + ".cir"] + (["--top", case.top] if case.top else [])
     told = run(lvs, ["run"] + inputs + ["--shapes", prefix + ".out", "--netlist", prefix + ".net", "--report", prefix + ".rep"])
-    seen = run(view, inputs + ["--database", prefix + ".lvsdb"])
+    seen = run(view, inputs + ["--database", prefix + ".lvsdb", "--page", prefix + ".page"])
     if told.returncode == 2 and seen.returncode == 2 and told.stdout == seen.stdout:
         return None
     if told.returncode in (0, 1, 3) and seen.stdout == b"refused view\n" and case.small and wanted.is_far(case.files["gds"], case.top):
@@ -320,10 +355,10 @@ def make(view, lvs, prefix, case):
 
 def judged(read, prefix, case, total):
     """What differs between a database as KLayout reads it and what it has to be."""
-    files = get(prefix, "gds", "lvs", "cir", "net", "rep", "lvsdb")
+    files = get(prefix, "gds", "lvs", "cir", "net", "rep", "lvsdb", "page")
     if isinstance(read, str):
         return [read]
-    wrong = check_logs(files["lvsdb"], files["rep"])
+    wrong = check_logs(files["lvsdb"], files["rep"]) + check_page(files["page"], read)
     told = read_report(files["rep"])
     for number, pair in enumerate(told):
         why = check_pair(read, pair, number)

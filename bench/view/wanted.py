@@ -65,9 +65,6 @@ class Wanted:
         return [{names[c].decode(): canon(rects) for c, rects in found.squares[net].items() if rects}
                 for net in cell_nets(self.extracted, self.cell[circuit.name])]
 
-    def regions(self, circuit):
-        return [canon(gate.area) for gate in self.extracted.gates[self.cell[circuit.name]] if gate.good]
-
     def turns(self, circuit):
         return [turn(motion) for child, motion in self.extracted.layout.places(self.cell[circuit.name])
                 if child in self.extracted.position]
@@ -82,6 +79,29 @@ class Wanted:
         return circuit.nets == own.nets and circuit.pins == own.pins and calls[0] == calls[1] \
             and [c.nets for c in circuit.calls] == [c.nets for c in own.calls]
 
+    def own(self, circuit):
+        """The circuit of its cell."""
+        return self.circuits[self.extracted.position[self.cell[circuit.name]]]
+
+    def has_own_nets(self, circuit):
+        """Whether none of its cell's nets was dropped."""
+        own = self.own(circuit)
+        return set(own.nets) <= set(circuit.nets) and len(own.pins) == len(circuit.pins)
+
+    def nets_by_name(self, circuit):
+        """The rectangles of the nets whose names are one net's in the circuit and in its cell's, by number."""
+        own, nets = self.own(circuit), self.nets(circuit)
+        return {circuit.nets.index(name): nets[k] for k, name in enumerate(own.nets)
+                if own.nets.count(name) == circuit.nets.count(name) == 1}
+
+    def all_regions(self, cell):
+        """The regions of a cell's devices and, moved, of those of the cells whose circuits stand in no pair."""
+        kept, found = {c.name for c in self.lefts}, [gate.area for gate in self.extracted.gates[cell] if gate.good]
+        for child, motion in self.extracted.layout.places(cell):
+            if child in self.extracted.position and self.circuits[self.extracted.position[child]].name not in kept:
+                found += [[motion.rect(r) for r in area] for area in self.all_regions(child)]
+        return found
+
     def same_devices(self, circuit):
         return circuit.devices == self.extracted.circuits[self.extracted.position[self.cell[circuit.name]]].devices
 
@@ -95,11 +115,11 @@ def layers(words):
     return {word.split(":")[0]: rects(word.split(":")[1]) for word in words}
 
 
-def whole(wanted, drawn, circuit, memo):
-    """Whether the circuit and all below it are drawn."""
+def whole(wanted, circuit, memo):
+    """Whether the circuit and all below it have the nets of their cells, and more."""
     if circuit.name not in memo:
-        memo[circuit.name] = wanted.same_rows(circuit) and all(
-            whole(wanted, drawn, wanted.lefts[call.circuit], memo) for call in circuit.calls)
+        memo[circuit.name] = wanted.has_own_nets(circuit) and all(
+            whole(wanted, wanted.lefts[call.circuit], memo) for call in circuit.calls)
     return memo[circuit.name]
 
 
@@ -113,20 +133,25 @@ def differences(read, wanted):
             wrong.append("circuit %s isn't there" % name)
             continue
         shown = read["J"][key]
-        if not whole(wanted, read, circuit, memo):
+        if not whole(wanted, circuit, memo):
             continue
         counts[0] += 1
+        is_own = wanted.same_rows(circuit)
         hull = wanted.hull(circuit)
         if shown["box"] != ("-" if hull is None else ",".join(map(str, hull))):
             wrong.append("box of %s: %s for %s" % (name, shown["box"], hull))
-        if shown["turns"] != wanted.turns(circuit):
+        if is_own and shown["turns"] != wanted.turns(circuit):
             wrong.append("calls of %s: %s for %s" % (name, shown["turns"], wanted.turns(circuit)))
-        for k, (found, right) in enumerate(zip(shown["shapes"], wanted.nets(circuit))):
+        right = dict(enumerate(wanted.nets(circuit))) if is_own else wanted.nets_by_name(circuit)
+        for k in right:
             counts[1] += 1
-            if layers(found) != right:
-                wrong.append("net %d of %s: %s for %s" % (k + 1, name, layers(found), right))
-        if wanted.same_devices(circuit):
-            counts[2] += len(circuit.devices)
-            if [rects(r) for r in shown["regions"]] != wanted.regions(circuit):
-                wrong.append("regions of %s" % name)
+            if layers(shown["shapes"][k]) != right[k]:
+                wrong.append("net %d of %s: %s for %s" % (k + 1, name, layers(shown["shapes"][k]), right[k]))
+        if wanted.rules.combine and not wanted.same_devices(circuit):
+            continue
+        counts[2] += len(circuit.devices)
+        regions = [canon(area) for area in wanted.all_regions(wanted.cell[circuit.name])]
+        found = [rects(r) for r in shown["regions"]]
+        if (found, sorted(found))[not is_own] != (regions, sorted(regions))[not is_own]:
+            wrong.append("regions of %s" % name)
     return wrong, counts

@@ -1,0 +1,9 @@
+pub mod Apart
+pub mod Assembled
+pub mod Combined
+pub mod Ending
+pub mod Naming
+pub mod Ordering
+pub mod Pictured
+pub mod Preparing
+pub mod Shown

@@ -1,0 +1,7 @@
+pub mod Codes
+pub mod Lines
+pub mod Ends
+pub mod Found
+pub mod Places
+pub mod Views
+pub mod Runs

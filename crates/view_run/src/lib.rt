@@ -1,0 +1,17 @@
+//! The program that writes what KLayout's netlist browser reads, and the page in words: its run, its
+//! answers and what it tells.
+#![tactic(auto)]
+
+mod drawing;
+mod found;
+mod making;
+mod merging;
+mod places;
+mod run;
+mod status;
+mod stops;
+mod summary;
+mod writing;
+
+pub use run::run_view;
+pub use status::{Status, Why};
