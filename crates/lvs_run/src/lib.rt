@@ -15,6 +15,7 @@ mod words;
 
 pub use input::Stop;
 pub use laws::one_outcome;
+pub use merging::{Merged, merge_both};
 pub use readings::{layout_of, rules_of, schematic_of};
 pub use run::run_lvs;
 pub use status::{Refusal, Status};
