@@ -3,13 +3,12 @@
 The environment variable LVSREF_FEATURES holds a comma separated list of the words below (or
 `all`).  Without it the reference has the plain rule set.
 
-more    resistors and diodes
 sized   `N = A.sized(D)`
 """
 
 import os
 
-KNOWN = ("more", "sized")
+KNOWN = ("sized",)
 
 
 def _chosen():
@@ -24,5 +23,4 @@ def _chosen():
 
 
 ON = _chosen()
-MORE = "more" in ON
 SIZED = "sized" in ON

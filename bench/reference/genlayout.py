@@ -15,7 +15,7 @@ ANGLE_WORDS = {0: ["0000000000000000", "43168000" + "00000000", "C3168000" + "00
                1: ["425A000000000000", "C310E00000000000"],
                2: ["42B4000000000000", "C2B4000000000000"],
                3: ["4310E00000000000", "C25A000000000000"]}
-ACTIVE, POLY, WELL, CONTACT, METAL = 2, 3, 1, 4, 5
+ACTIVE, POLY, WELL, CONTACT, METAL, MARK = 2, 3, 1, 4, 5, 6
 MOST_PATHS = 40
 FAR = [2 ** 31 - 2 ** 17, 2 ** 30, 2 ** 30 - 5, 0]     # sums of them pass the border of 32 bits
 
@@ -59,6 +59,41 @@ class Maker:
             shapes.append((CONTACT, (x, y, x + 1, y + 1)))
         if rng.random() < 0.3:
             shapes.append((WELL, (x - 1, y - 1, x + a + g + b + 1, y + h + 1)))
+        return self.perhaps_turned(shapes)
+
+    def strip(self, x, y):
+        """A strip with a mark over its middle, perhaps with a hole or two ends in one."""
+        rng = self.rng
+        layer = rng.choice([METAL, METAL, METAL, POLY, ACTIVE])
+        a, g, b, h = (rng.randint(1, 2), rng.randint(1, 4), rng.randint(1, 2), rng.randint(1, 3))
+        end, top = x + a + g + b, y + h
+        low, high = rng.choice([0, 0, 1]), rng.choice([0, 0, 1, -1])
+        shapes = [(layer, (x, y, end, top))]
+        if rng.random() < 0.15:
+            top = y + h + 2
+            shapes = [(layer, (x, y, end, y + h)), (layer, (x, y, x + a + 1, top + 1)),
+                      (layer, (end - b - 1, y, end, top + 1)), (layer, (x, top, end, top + 1))]
+            top, high = top + 1, 0
+        shapes.append((MARK, (x + a, y - low, x + a + g, max(top + high, y + 1))))
+        if rng.random() < 0.5:
+            shapes.append((METAL, (x, y, x + 1, y + rng.randint(1, 4))))
+        return self.perhaps_turned(shapes)
+
+    def junction(self, x, y):
+        """Two layers that share a part, or two."""
+        rng = self.rng
+        plus = rng.choice([ACTIVE, POLY, METAL, WELL])
+        minus = rng.choice([MARK, MARK, MARK, CONTACT])
+        a, b, c, h = (rng.randint(0, 2), rng.randint(1, 3), rng.randint(0, 2), rng.randint(1, 3))
+        shapes = [(plus, (x, y, x + a + b, y + h)), (minus, (x + a, y, x + a + b + c, y + h))]
+        if rng.random() < 0.3:
+            shapes.append((plus, (x + a, y + h + 1, x + a + b, y + h + 2)))
+            shapes.append((minus, (x + a, y + h - rng.randint(0, 1), x + a + 1, y + h + 2)))
+        return self.perhaps_turned(shapes)
+
+    def perhaps_turned(self, shapes):
+        """The shapes as they are, or turned and moved."""
+        rng = self.rng
         if rng.random() < 0.4:
             turn = Motion.turned(rng.random() < 0.5, rng.randint(0, 3), 0, 0)
             turn = turn.then(Motion(1, 0, 0, 1, rng.randint(0, 9), rng.randint(0, 9)))
@@ -71,9 +106,12 @@ class Maker:
         if self.devices and rng.random() < 0.8:
             for _ in range(rng.randint(1, 2)):
                 draft.shapes += self.transistor(rng.randint(0, 8), rng.randint(0, 8))
+        for kind in (self.strip, self.junction):
+            if self.devices and rng.random() < 0.6:
+                draft.shapes += kind(rng.randint(0, 9), rng.randint(0, 9))
         for _ in range(rng.randint(0, 2 if self.devices else 4)):
             x, y = rng.randint(0, 12), rng.randint(0, 12)
-            layers = [POLY, METAL, METAL, CONTACT, WELL] if self.devices else [1, 2, 3, 4]
+            layers = [POLY, METAL, METAL, CONTACT, WELL, MARK] if self.devices else [1, 2, 3, 4]
             wide, high = rng.choice([(1, 5), (6, 1), (3, 3), (1, 1), (9, 2)])
             draft.shapes.append((rng.choice(layers), (x, y, x + wide, y + high)))
         while not self.devices and rng.random() < 0.4:

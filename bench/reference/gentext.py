@@ -117,17 +117,72 @@ class RuleMaker:
         self.outputs()
 
     def further(self):
-        """Perhaps a resistor or a diode."""
+        """Perhaps resistors and diodes, of layers that no transistor has."""
         rng, add = self.rng, self.lines.append
-        if not features.MORE:
+        if rng.random() < 0.25:
             return
-        if rng.random() < 0.5:
-            rho = rng.choice([b"", b", 50", b", 0.5"])
-            add(b'extract_devices(resistor_with_bulk("RES"%s), '
-                b'{ "R" => contact, "C" => metal, "W" => bulk })' % rho)
-        if rng.random() < 0.5:
-            add(b'extract_devices(diode("DIO"), { "P" => contact, "N" => metal })')
-            add(b"connect(contact, txt)")
+        add(b"mark = input(6, 0)")
+        self.names.append(b"mark")
+        kinds = rng.choice([b"r", b"r", b"d", b"d", b"rd", b"dr", b"rr", b"dd"])
+        for k, kind in enumerate(kinds):
+            (self.resistor if kind == b"r"[0] else self.diode)(b"%d" % k)
+
+    def resistor(self, tail):
+        """Strips of one layer, between what the mark leaves of it."""
+        rng, add = self.rng, self.lines.append
+        strip = rng.choice([b"metal", b"metal", b"metal", b"poly", b"active"])
+        body, ends, bulk = b"body" + tail, b"ends" + tail, rng.choice([b"bulk", b"bulk", b"well"])
+        add(b"%s = %s & mark" % (body, strip))
+        add(b"%s = %s - mark" % (ends, strip))
+        self.names += [body, ends]
+        keys = [b'"R" => ' + body, b"'C' => " + ends, b'"W" => ' + bulk]
+        if rng.random() < 0.2:
+            keys += [b'"tA" => ' + strip, b'"tB" => ' + strip]
+            ends = strip
+        if rng.random() < 0.2:
+            bulk = rng.choice([b"bulk", b"well", b"mark"])
+            keys.append(b'"tW" => ' + bulk)
+        rng.shuffle(keys)
+        sheet = rng.choice([b"", b", 50", b", 0.5", b", 0000000.0000001"])
+        add(b'extract_devices(resistor_with_bulk("%s"%s), { %s })' % (
+            rng.choice([b"RES", b"Res ", b"r="]) + tail, sheet, b", ".join(keys)))
+        self.joined(ends)
+        if bulk != b"bulk" or rng.random() < 0.1:
+            self.joined(bulk)
+
+    def diode(self, tail):
+        """What two layers share."""
+        rng, add = self.rng, self.lines.append
+        plus = rng.choice([b"active", b"poly", b"metal", b"well"])
+        minus = rng.choice([b"mark", b"mark", b"mark", b"contact", b"metal", b"bulk"])
+        if rng.random() < 0.3:
+            add(b"plus%s = %s - poly" % (tail, plus))
+            plus = b"plus" + tail
+            self.names.append(plus)
+        anode, cathode = plus, minus
+        keys = [b'"P" => ' + plus, b"'N' => " + minus]
+        if rng.random() < 0.2:
+            anode = rng.choice([b"active", b"metal", b"bulk"])
+            keys.append(b'"tA" => ' + anode)
+        if rng.random() < 0.2:
+            cathode = rng.choice([b"well", b"mark", b"bulk"])
+            keys.append(b'"tC" => ' + cathode)
+        rng.shuffle(keys)
+        add(b'extract_devices(diode("%s"), { %s })' % (
+            rng.choice([b"DIO", b"d/", b"\\"]) + tail, b", ".join(keys)))
+        for name in (anode, cathode):
+            self.joined(name)
+
+    def joined(self, name):
+        """A line that makes a layer a conductor, nearly always."""
+        rng, add = self.rng, self.lines.append
+        if rng.random() < 0.02:
+            return
+        if rng.random() < 0.2:
+            add(b'connect_global(%s, "%s")' % (name, rng.choice([b"VSS", b"VSS", b"gnd", b"E"])))
+        else:
+            other = rng.choice([b"txt", b"txt", b"metal", b"contact"])
+            add(b"connect(%s, %s)" % (name, other))
 
     def text(self):
         """The file."""
@@ -168,9 +223,12 @@ class SchematicMaker:
             elif kind == "class":
                 device = device._replace(device_class=device.device_class + b"X")
             elif kind == "exchange":
-                key = rng.choice(["gate", "drain", "source"])
-                if device.device_class[0] > 2:
-                    device = device._replace(**{key: rng.randrange(len(circuit.nets))})
+                groups = {RESISTOR: [("drain",), ("source",), ("gate", "bulk")],
+                          DIODE: [("drain", "source"), ("gate", "bulk")]}
+                keys = rng.choice(groups.get(device.device_class[:1],
+                                             [("gate",), ("drain",), ("source",)]))
+                net = rng.randrange(len(circuit.nets))
+                device = device._replace(**{key: net for key in keys})
             elif kind == "more":
                 circuit.devices.insert(rng.randrange(place + 1), device)
             else:

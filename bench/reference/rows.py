@@ -692,8 +692,6 @@ def merged_fingers():
 
 @check
 def resistor_and_diode():
-    if not features.MORE:
-        return
     head = b"txt = labels(5, 1)\nbulk = polygon_layer\n"
     rules = head + b"""body = input(1, 0)
 c = input(2, 0)

@@ -15,10 +15,8 @@ OPERATORS = {b"&": "and", b"|": "or", b"-": "not", b"^": "xor"}
 WORDS = {b"connect", b"connect_global", b"extract_devices", b"same_circuits", b"max_guesses",
          b"deep", b"netlist", b"align", b"compare", b"schematic", b"input", b"labels",
          b"polygon_layer", b"output", b"mos4", b"flatten_unmatched", b"same_pins",
-         b"combine_devices"}
+         b"combine_devices", b"resistor_with_bulk", b"diode"}
 PATTERN = frozenset(b"*?[{")
-if features.MORE:
-    WORDS |= {b"resistor_with_bulk", b"diode"}
 BAD_BYTES = frozenset(range(32)) - frozenset((9, 10, 13)) | {127}
 MOST_REACH = 10000
 
@@ -289,10 +287,8 @@ class _Reader:
     @staticmethod
     def _device(tokens):
         tokens.mark(b"(")
-        kind = {b"mos4": "mos"}
-        if features.MORE:
-            kind.update({b"resistor_with_bulk": "resistor", b"diode": "diode"})
-        kind = kind.get(tokens.name())
+        kinds = {b"mos4": "mos", b"resistor_with_bulk": "resistor", b"diode": "diode"}
+        kind = kinds.get(tokens.name())
         if kind is None:
             raise _NoFit()
         tokens.mark(b"(")

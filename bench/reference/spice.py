@@ -2,7 +2,6 @@
 
 import re
 
-import features
 import names
 import values
 from netlist import DIODE, RESISTOR, Call, Circuit, Device, normal
@@ -121,7 +120,7 @@ class _Reader:
         tokens = tokens_of(text)
         first, rest = tokens[0], tokens[1:]
         word = names.folded(first[0]) if len(first) == 1 else None
-        letters = b"MX" + (b"RD" if features.MORE else b"")
+        letters = b"MXRD"
         letter = names.folded(first[0][:1])
         if word in WORDS:
             return self._dotted(word, rest, line)
@@ -168,7 +167,7 @@ class _Reader:
         given = [k for k, _ in params if k in sizes]
         if len(plain) != count or sorted(given) != sorted(sizes):
             raise SpiceFault(51, line)
-        if letter == b"M" and features.MORE and plain[4][0] in (1, 2):
+        if letter == b"M" and plain[4][0] in (1, 2):
             raise SpiceFault(51, line)
         times = self._parameters(params, sizes, letter, line)
         size = {}

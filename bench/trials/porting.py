@@ -8,7 +8,8 @@ DOCUMENT = "docs/FROM_KLAYOUT.md"
 BEFORE = ["a = input(1, 0)", "b = input(2, 0)", "c = input(3, 0)", "sd = input(4, 0)", "gate = input(5, 0)",
           "poly = input(6, 0)", "metal = input(7, 0)", "nwell = input(8, 0)", "ntie = input(9, 0)",
           "ptie = input(10, 0)", "bulk = polygon_layer", "txt = labels(5, 1)"]
-BEHIND = ["connect(sd, metal)", "connect(poly, metal)", 'connect_global(bulk, "VSS")']
+BEHIND = ["connect(sd, metal)", "connect(poly, metal)", "connect(a, metal)", "connect(b, metal)",
+          'connect_global(bulk, "VSS")']
 # In the last column: words of a command, and names.
 OTHER = re.compile(r'^(--|lvs_|"|mos4|[a-z]$|.$)')
 ALONE = {"flatten_unmatched", "same_pins", "combine_devices"}

@@ -92,9 +92,13 @@ CELLS = [
 MANY = "".join(f"n{k} = input(1, 0)\n" for k in range(257))
 MOS = 'extract_devices(mos4("N"), { "SD" => a, "G" => b, "W" => c })\n'
 DEVICE = "a = input(1, 0)\nb = input(2, 0)\nc = input(3, 0)\nconnect(a, c)\n" + MOS
+PAIR = "a = input(1, 0)\nb = input(2, 0)\nc = polygon_layer\n"
+DIODE = 'extract_devices(diode("D"), { "P" => a, "N" => b })\n'
+RESISTOR = 'extract_devices(resistor_with_bulk("R", 0.5), { "R" => a, "C" => b, "W" => c })\n'
 # Accepted: names of 64 bytes, 256 of them, statements that may stand twice, and that name nothing.
 RULES_TAKEN = ["combine_devices\ncombine_devices\n", "max_guesses(1)\nmax_guesses(1000000)\n",
                "a" * 64 + " = polygon_layer\n",
+               PAIR + DIODE + "connect(a, b)\n", PAIR + RESISTOR + "connect(b, c)\n",
                'netlist.flatten_circuit("NONE")\nschematic.flatten_circuit("NONE")\n', "deep # and a comment\r\n",
                'same_circuits("A", "B")\nsame_circuits("B", "A")\n', "a=input( 1,0 )\n",
                "".join(f"n{k} = input(1, 0)\n" for k in range(256))]
@@ -115,24 +119,31 @@ RULE_FILES = [
     (33, "same_pins\nsame_pins\n", "line 2"),
     (33, "flatten_unmatched\nflatten_unmatched\n", "line 2"),
     (33, DEVICE + MOS.replace('"N"', '"n"'), "line 6"),
+    (33, DEVICE + 'extract_devices(diode("n"), { "P" => a, "N" => b })\n', "line 6"),
+    (31, DEVICE + 'extract_devices(resistor_with_bulk("R", x), { "R" => a, "C" => b, "W" => c })\n', "line 6"),
     (34, "a = input(1, 0)\nt = labels(5, 1)\nx = a & t\n", "line 3"),
     (34, "a = labels(1, 0)\nb = labels(2, 0)\nconnect(a, b)\n", "line 3"),
     (34, 'a = labels(1, 0)\nconnect_global(a, "G")\n', "line 2"),
     (34, DEVICE, "line 5"),
+    (34, PAIR + DIODE + RESISTOR + MOS, "line 4"),
+    (34, PAIR + "connect(a, b)\n" + RESISTOR + DIODE, "line 5"),
     (35, MANY, "line 257"),
     (36, "a = input(1, 0)\n\0", "offset 16"),
 ]
 CARD = "M1 d g s b NMOS L=0.1U W=1U"
 SCHEMATICS = [
     (50, ".INCLUDE other.cir\n", "line 1"), (50, ".LIB a tt\n", "line 1"), (50, ".PARAM w=1\n", "line 1"),
-    (50, "C1 a b 1p\n", "line 1"), (50, "R1 a b 1\n", "line 1"), (50, "D1 a b DN\n", "line 1"),
+    (50, "C1 a b 1p\n", "line 1"),
     (50, "Q1 c b e QN\n", "line 1"), (50, "L1 a b 1\n", "line 1"),
     (50, "A title\n", "line 1"), (51, "Main block\n", "line 1"),
     (51, f"* a comment\n{CARD} $ fast\n", "line 2"), (51, f"{CARD} ; fast\n", "line 1"),
     (51, "M1 d g s NMOS L=0.1U W=1U\n", "line 1"), (51, "M1 d g s b NMOS L=0.1U\n", "line 1"),
     (51, CARD.replace(" d ", " \\xor ") + "\n", "line 1"),
     (51, f"+ W=1U\n{CARD}\n", "line 1"),
+    (51, "R1 a b 1k\n", "line 1"), (51, "R1 a b RES L=1U W=1U\n", "line 1"), (51, "D1 a b DN\n", "line 1"),
+    (51, "Resistors\n", "line 1"), (51, "M1 d g s b \\x01N L=0.1U W=1U\n", "line 1"),
     (52, f"{CARD} SA=1U\n", "line 1"), (52, f"{CARD} M=0\n", "line 1"), (52, f"{CARD} M=1001\n", "line 1"),
+    (52, "R1 a b s RES L=1U W=1U AS=1P\n", "line 1"), (52, "D1 a b DN A=1P P=4U L=1U\n", "line 1"),
     (52, ".SUBCKT A a\n.ENDS\nX1 n A M=2\n", "line 3"), (52, ".SUBCKT A a\n.ENDS\nX1 n A w=1U\n", "line 3"),
     (52, ".SUBCKT A a w=1U\n.ENDS\n", "line 1"),
     *[(53, f"M1 d g s b NMOS L=0.1U W={text}\n", "line 1 value 1")
@@ -141,12 +152,14 @@ SCHEMATICS = [
     (53, "M1 d g s b NMOS L=0.1U W='2*w'\n", "line 1 value 1"),
     (53, "M1 d g s b NMOS L=0.1U W=0.5F\n", "line 1 value 2"),
     (53, "M1 d g s b NMOS L=0.1U W=1001\n", "line 1 value 3"),
+    (53, "D1 a b DN A=0.1E-24 P=4U\n", "line 1 value 2"), (53, "D1 a b DN A=1.1MEG P=4U\n", "line 1 value 3"),
     (54, ".SUBCKT A a\n", "line 1"), (41, "X1 a B\n", "line 1"),
     (42, ".SUBCKT A a\nX1 a A\n.ENDS\n", "circuit A"),
     (43, ".SUBCKT A a\n.ENDS\nX1 a b A\n", "line 3"), (43, ".SUBCKT A a\n.ENDS\nX1 a / A\n", "line 3"),
     (44, ".SUBCKT A a\n.ENDS\n.SUBCKT a b\n.ENDS\n", "line 3"),
 ]
-TAKEN = ["", f"* a comment\n{CARD}\n", f"{CARD}\n+ AD=1P AS=1P\n", f"{CARD} M=1000\n", "M1 d g s b N L=1 W=1\n",
+TAKEN = ["", f"* a comment\n{CARD}\n", f"{CARD}\n+ AD=1P AS=1P\n", f"{CARD} M=1000\n",
+         "R1 a b s RES L=1U W=1U M=2\n", "D1 a b DN P=4U A=1P\n", "D1 a b \\x02D A=1MEG P=0\n", "M1 d g s b N L=1 W=1\n",
          ".SUBCKT A a\n.ENDS\nX1 n A M=1\n", ".GLOBAL VDD\n", f"{CARD}\n.END\nnothing of this is read\n",
          *[f"M1 d g s b N L=1U W={text}\n" for text in ("1mi", "1me", "2.5e-07", "1E-6meter", "1000", "1f", "1.U")]]
 

@@ -5,7 +5,7 @@ Wants KLayout (apt-get install klayout). LVS writes the netlist and the report o
 database, and what it read must be the netlist's circuits, nets, pins, devices and calls, the schematic's too, and the report's partners.
 Of small layouts the boxes of the circuits, the places of calls, the rectangles of each net with all calls below and the regions of the
 devices are those that the independent implementation finds (wanted.py). The cases are generated chips, the example, the layouts of
-layouts.py, and of each of these a wrong width, a lost transistor, exchanged pins, and a top without a partner, each also with
+layouts.py, and of each of these a wrong size, a lost device, exchanged pins, and a top without a partner, each also with
 `flatten_unmatched`; with --planted each error of bench/planted; with --designs COUNT generated designs from SEED on. Circuits of which
 something was flattened or dropped, and their callers, have no rectangles to compare. Exits with 1 where something differs.
 """
@@ -26,6 +26,7 @@ import spice
 import wanted
 from layouts import LAYOUTS
 from names import unescape
+from netlist import DIODE, RESISTOR
 
 # `files` by ending: gds, lvs, cir; `small`: whether the independent implementation can work it
 Case = collections.namedtuple("Case", "name files top small")
@@ -99,20 +100,20 @@ def designs(count, seed0):
         yield Case("design %d" % seed, {"gds": files["l.gds"], "lvs": files["r.lvs"], "cir": files["c.cir"]}, top, True)
 
 
-ERRORS = ["wrong width", "lost transistor", "exchanged pins", "no partner"]
+ERRORS = ["wrong size", "lost device", "exchanged pins", "no partner"]
 
 
 def changed(text, error):
     """The schematic with an error, or None where it has no place for it."""
     lines = text.split(b"\n")
-    start = {"exchanged pins": b"X", "no partner": b".SUBCKT"}.get(error, b"M")
+    start = {"exchanged pins": b"X", "no partner": b".SUBCKT"}.get(error, (b"M", b"R", b"D"))
     at = [k for k, line in enumerate(lines) if line.startswith(start)]
     if not at:
         return None
     words = lines[at[-1]].split()
-    if error == "wrong width":
-        lines[at[-1]] = re.sub(rb"W=\S+", b"W=7U", lines[at[-1]])
-    elif error == "lost transistor":
+    if error == "wrong size":
+        lines[at[-1]] = re.sub(rb"(W|A)=\S+([UP])", rb"\1=7\2", lines[at[-1]])
+    elif error == "lost device":
         del lines[at[-1]]
     elif error == "exchanged pins":
         if len(words) < 4 or words[1] == words[2]:
@@ -127,13 +128,22 @@ def changed(text, error):
 STATUS = {"match": "Match", "differs": "NoMatch", "undecided": "Skipped", "skipped": "Skipped"}
 
 
+def device(d):
+    """Its class, its two sizes in (square) micrometres, and the nets of KLayout's terminals: S G D B, of a resistor A B W, of a diode A C."""
+    name, first, second, nets = d.device_class, d.length / 1e9, d.width / 1e9, (d.source, d.gate, d.drain, d.bulk)
+    if name[:1] == RESISTOR:
+        name, nets = b"resistor." + name[1:], (d.source, d.drain, d.bulk)
+    elif name[:1] == DIODE:
+        name, first, second, nets = b"diode." + name[1:], d.width / 1e12, d.length / 1e9, (d.source, d.gate)
+    return name.hex(), "%.9g" % first, "%.9g" % second, [str(n + 1) for n in nets]
+
+
 def plain(circuit, name):
     """A circuit of the reference as read_text has one."""
     return {
         "nets": [n.hex() or "-" for n in circuit.nets],
         "pins": [str(n + 1) for n in circuit.pins],
-        "devices": [(d.device_class.hex(), "%.9g" % (d.length / 1e9), "%.9g" % (d.width / 1e9),
-                     [str(n + 1) for n in (d.source, d.gate, d.drain, d.bulk)]) for d in circuit.devices],
+        "devices": [device(d) for d in circuit.devices],
         "calls": [(name(call.circuit), [str(n + 1) for n in call.nets]) for call in circuit.calls],
     }
 
@@ -157,7 +167,7 @@ def read_text(text):
         elif kind == "pin":
             circuit["pins"].append(w[3])
         elif kind == "device":
-            circuit["devices"].append((w[2], "%.9g" % float(w[3]), "%.9g" % float(w[4]), w[5:9]))
+            circuit["devices"].append((w[2], "%.9g" % float(w[3]), "%.9g" % float(w[4]), w[5:]))
         elif kind == "call":
             circuit["calls"].append((w[2], w[4:]))
             circuit["turns"].append(w[3])

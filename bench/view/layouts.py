@@ -1,4 +1,4 @@
-"""Small layouts for compare.py: turns, arrays, wires, vias, feedthroughs, odd names."""
+"""Small layouts for compare.py: turns, arrays, wires, vias, feedthroughs, resistors and diodes, odd names."""
 
 import os
 import sys
@@ -27,6 +27,19 @@ connect_global(bulk, "VSS")
 extract_devices(mos4("NMOS"), { "SD" => sd, "G" => gate, "W" => bulk, "tG" => poly })
 """
 ODD_RULES = RULES.replace(b"NMOS", b"N MOS-4'").replace(b"VSS", b"V'S+ S")
+FURTHER_RULES = b"""body  = input(1, 0)
+ends  = input(2, 0)
+metal = input(3, 0)
+p     = input(4, 0)
+n     = input(5, 0)
+bulk  = polygon_layer
+connect(ends, metal)
+connect(p, metal)
+connect(n, metal)
+connect_global(bulk, "VSS")
+extract_devices(resistor_with_bulk("ONE", 50), { "R" => body, "C" => ends, "W" => bulk })
+extract_devices(diode("TWO"), { "P" => p, "N" => n })
+"""
 # a transistor of 0.06 by 0.2, its source and drain under metal of different widths
 TRANSISTOR = [rect(1, 0, 0, 600, 200), rect(2, 260, -100, 320, 300), rect(3, 0, 0, 100, 200), rect(3, 480, 0, 600, 200)]
 
@@ -80,6 +93,16 @@ def feedthroughs():
     return stream([(b"cell", cell), (b"top", top)])
 
 
+def further():
+    """A resistor, and a diode with its anode on the resistor's first end, in each of the eight turns."""
+    cell = [rect(1, 0, 0, 100, 20), rect(2, -20, 0, 0, 20), rect(2, 100, 0, 120, 20),
+            rect(4, 0, 100, 30, 120), rect(5, 10, 100, 50, 120), rect(3, -20, 0, 5, 120)]
+    top = []
+    for k in range(8):
+        top += turned(b"cell", (1000 * k, 70 * k), k >= 4, k % 4, (105, 5, 115, 15), (40, 105, 45, 115))
+    return stream([(b"cell", cell), (b"top", top)])
+
+
 def odd_names():
     """Names with blanks, quotes, backslashes and bytes above 127."""
     one, pair = b"o n'e \\8", b"\xe9\"p\x01 7#"
@@ -89,4 +112,4 @@ def odd_names():
 
 
 LAYOUTS = [("eight turns", turns, RULES), ("turns of turns", turns_of_turns, RULES), ("arrays", arrays, RULES), ("vias and wires", wires, RULES),
-           ("feedthroughs", feedthroughs, RULES), ("odd names", odd_names, ODD_RULES)]
+           ("feedthroughs", feedthroughs, RULES), ("resistors and diodes", further, FURTHER_RULES), ("odd names", odd_names, ODD_RULES)]

@@ -18,7 +18,8 @@ def circuits(nl, side, all)
     c.each_pin { |p| puts "pin #{p.id} #{hex(p.name)} #{net_id(c.net_for_pin(p.id), places)}" }
     c.each_device do |d|
       nets = d.device_class.terminal_definitions.map { |t| net_id(d.net_for_terminal(t.id), places) }
-      puts "device #{d.id} #{hex(d.device_class.name)} #{d.parameter("L")} #{d.parameter("W")} #{nets.join(" ")}"
+      first, second = d.device_class.parameter_definitions.any? { |p| p.name == "L" } ? ["L", "W"] : ["A", "P"]
+      puts "device #{d.id} #{hex(d.device_class.name)} #{d.parameter(first)} #{d.parameter(second)} #{nets.join(" ")}"
     end
     c.each_subcircuit do |s|
       nets = []

@@ -4,7 +4,8 @@ use crate::commands::{EXTRACT, Inputs, NONE, RUN, ends, holds, run_of};
 use crate::drawn::Item::{Placed, Rect};
 use crate::drawn::{Cell, library};
 use crate::layouts::{
-    COMBINED, INVERTER, INVERTER_RULES, MOS, ONE_GROUP, R, R_NETLIST, RESISTORS, T, T_SCHEMATIC,
+    BAD_DEVICE_RULES, BAD_DEVICES, COMBINED, INVERTER, INVERTER_RULES, MOS, ONE_GROUP, R,
+    R_NETLIST, RESISTORS, T, T_SCHEMATIC,
 };
 use std::alloc::{AllocError, Global};
 use std::process::Abort;
@@ -58,7 +59,7 @@ pub const THREE: &[Cell] = &[
     Cell("TOP", &[Placed("MID", 0, 0)]),
 ];
 
-const CASES: [Case; 16] = [
+const CASES: [Case; 17] = [
     Case {
         name: "one_transistor_run",
         layout: &[T],
@@ -104,6 +105,26 @@ net A A
 net B B
 net VSS VSS
 device 1 1
+end
+",
+    },
+    // The first cause of each: ends before the bulk, groups before both.
+    Case {
+        name: "bad resistors and diodes",
+        layout: &[BAD_DEVICES],
+        rules: BAD_DEVICE_RULES,
+        schematic: ".subckt a\n.ends\n",
+        code: 1,
+        line: "mismatch cells 1 circuits 1 pairs 1 bad 5\n",
+        report: "lvs report 1
+top A A
+bad 5
+gate A Dio 0 300 off-sd
+gate A Dio 0 400 no-bulk
+gate A Res 0 0 off-sd
+gate A Res 0 100 no-bulk
+gate A Res 0 200 groups-3
+pair A A match
 end
 ",
     },

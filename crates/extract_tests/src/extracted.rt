@@ -28,7 +28,7 @@ const ONE_BAD: &str = "extracted cells 1 circuits 1 bad 1\n";
 /// A circuit without devices has no pins.
 const NOTHING: &str = "* lvs netlist\n.SUBCKT A\n.ENDS A\n.END\n";
 
-const CASES: [Case; 17] = [
+const CASES: [Case; 19] = [
     // The wire of the parent goes on in the child: one net. A cell without a device has no circuit.
     Case {
         name: "net_through_child",
@@ -383,6 +383,82 @@ D1 A K DIODE A=0.0004P P=0.08U
 .SUBCKT TOP K A
 D1 A K DIODE A=0.0004P P=0.08U
 .ENDS TOP
+.END
+",
+    },
+    // By the least square of each, wherever it is drawn; a hole's edges count for the length.
+    Case {
+        name: "resistors, one with a hole",
+        layout: &[Cell(
+            "R",
+            &[
+                Rect(1, [0, 100, 100, 120]),
+                Rect(2, [-20, 100, 0, 120]),
+                Rect(2, [100, 100, 120, 120]),
+                Label("C", -10, 110),
+                Label("D", 110, 110),
+                Rect(1, [0, 0, 100, 5]),
+                Rect(1, [0, 15, 100, 20]),
+                Rect(1, [0, 5, 40, 15]),
+                Rect(1, [60, 5, 100, 15]),
+                Rect(2, [-20, 0, 0, 20]),
+                Rect(2, [100, 0, 120, 20]),
+                Label("A", -10, 10),
+                Label("B", 110, 10),
+            ],
+        )],
+        rules: RESISTORS,
+        code: 0,
+        line: ONE_GOOD,
+        shapes: &[Cell("R", &[])],
+        netlist: "* lvs netlist
+.SUBCKT R A B C D VSS
+R1 A B VSS RES L=0.13U W=0.02U
+R2 C D VSS RES L=0.1U W=0.02U
+.ENDS R
+.END
+",
+    },
+    // A diode whose ends are globals has no square on them. Transistors come first, whichever
+    // line of the rules does.
+    Case {
+        name: "diode of two globals",
+        layout: &[Cell(
+            "T",
+            &[
+                Rect(2, [0, 0, 1250, 1500]),
+                Rect(3, [500, -100, 750, 1600]),
+                Label("S", 100, 100),
+                Label("D", 1000, 100),
+                Label("G", 600, 1550),
+                Rect(1, [0, -500, 30, -480]),
+                Rect(4, [10, -500, 50, -480]),
+            ],
+        )],
+        rules: r#"active = input(2, 0)
+poly = input(3, 0)
+p = input(1, 0)
+n = input(4, 0)
+txt = labels(5, 1)
+bulk = polygon_layer
+pad = polygon_layer
+gate = active & poly
+sd = active - poly
+extract_devices(diode("DIODE"), { "P" => p, "N" => n, "tA" => pad, "tC" => bulk })
+extract_devices(mos4("NMOS"), { "SD" => sd, "G" => gate, "W" => bulk, "tG" => poly })
+connect(sd, txt)
+connect(poly, txt)
+connect_global(bulk, "VSS")
+connect_global(pad, "PAD")
+"#,
+        code: 0,
+        line: ONE_GOOD,
+        shapes: &[Cell("T", &[])],
+        netlist: "* lvs netlist
+.SUBCKT T G S D VSS PAD
+M1 D G S VSS NMOS L=0.25U W=1.5U
+D2 PAD VSS DIODE A=0.0004P P=0.08U
+.ENDS T
 .END
 ",
     },

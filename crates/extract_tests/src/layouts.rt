@@ -97,6 +97,49 @@ connect(p, txt)
 connect(n, txt)
 "#;
 
+/// Rules of a diode and of a resistor whose terminals lie on layers of their own.
+pub const BAD_DEVICE_RULES: &str = r#"r = input(1, 0)
+c = input(2, 0)
+m = input(3, 0)
+w = input(4, 0)
+p = input(6, 0)
+n = input(7, 0)
+txt = labels(5, 1)
+extract_devices(diode("Dio"), { "P" => p, "N" => n, "tA" => m, "tC" => w })
+extract_devices(resistor_with_bulk("Res"), { "R" => r, "C" => c, "W" => w, "tA" => m, "tB" => m })
+connect(m, txt)
+connect(w, txt)
+"#;
+
+/// A resistor with one end off the metal and no bulk, one with no bulk, one with three ends; a
+/// diode with a row of squares off the metal and no bulk, one with a row of squares off the bulk.
+pub const BAD_DEVICES: Cell = Cell(
+    "A",
+    &[
+        Rect(1, [0, 0, 10, 4]),
+        Rect(2, [-4, 0, 0, 4]),
+        Rect(2, [10, 0, 14, 4]),
+        Rect(3, [-4, 0, 0, 4]),
+        Rect(1, [0, 100, 10, 104]),
+        Rect(2, [-4, 100, 0, 104]),
+        Rect(2, [10, 100, 14, 104]),
+        Rect(3, [-4, 100, 14, 104]),
+        Rect(1, [0, 200, 10, 204]),
+        Rect(2, [-4, 200, 0, 204]),
+        Rect(2, [10, 200, 14, 204]),
+        Rect(2, [4, 204, 6, 208]),
+        Rect(3, [-4, 200, 14, 208]),
+        Rect(4, [0, 200, 10, 204]),
+        Rect(6, [0, 300, 10, 304]),
+        Rect(7, [0, 300, 10, 304]),
+        Rect(3, [0, 300, 9, 304]),
+        Rect(6, [0, 400, 10, 404]),
+        Rect(7, [0, 400, 10, 404]),
+        Rect(3, [0, 400, 10, 404]),
+        Rect(4, [0, 400, 10, 403]),
+    ],
+);
+
 /// Transistors of two classes in a well, with contacts and a wire.
 pub const INVERTER_RULES: &str = r#"nwell = input(1, 0)
 active = input(2, 0)

@@ -71,7 +71,7 @@ fn push_devices(
         ≡ out.old.items ++ device_text picture.now (map plain_circuit circuits.now)) }
 {
     let classes = used_classes(alloc, circuits)?;
-    push_classes(out, &classes)?;
+    push_classes(alloc, out, &classes)?;
     push_regions(alloc, out, &picture.regions)
 }
 

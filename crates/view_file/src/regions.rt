@@ -2,14 +2,16 @@
 
 ghost use Rattle.std.specs.Prelude.{◌≡◌, ◌++◌, OnOk};
 ghost use Rattle.std.specs.List.{All};
+ghost use Rattle.spice_rows.specs.Seen.{kind_seen};
 ghost use Rattle.view_words.specs.Numbers.{IsSmallRect};
-ghost use Rattle.view_file.specs.Regions.{region_head, region_text, region_texts};
-ghost use Rattle.view_file.specs.Regions.{terminal_rows};
+ghost use Rattle.view_file.specs.Regions.{region_close, region_head, region_open, region_text};
+ghost use Rattle.view_file.specs.Regions.{region_texts, terminal_rows};
 
 use geo_base::{Point, Rect};
 use list_base::number;
+use spice_rows::Kind;
 use std::alloc::{AllocError, Global};
-use view_netlist::push_region;
+use view_netlist::{class_name, push_region, shown_class};
 use view_words::{push_rects, push_word};
 
 /// The region of devices of a class, seen from a corner of each.
@@ -22,27 +24,57 @@ pub struct Region {
 fn push_head(alloc: Global, out: &mut Vec<u8>, k: u32, class: &[u8]) -> Result<(), AllocError>
     ensures { OnOk result (out.new.items ≡ out.old.items ++ region_head k class.now) }
 {
+    let name = class_name(alloc, class)?;
     out.extend_from_slice(b"\n D(")?;
     push_region(alloc, out, k)?;
     out.push(b' ')?;
-    push_word(out, class)
+    push_word(out, &name)
 }
 
-fn push_terminals(alloc: Global, out: &mut Vec<u8>, rects: &[Rect]) -> Result<(), AllocError>
-    requires { All IsSmallRect rects.now }
-    ensures { OnOk result (out.new.items ≡ out.old.items ++ terminal_rows rects.now) }
+// What stands before the rectangles of a region.
+fn region_open(kind: Kind) -> &'static [u8]
+    ensures { result.now ≡ region_open (kind_seen kind) }
 {
-    out.extend_from_slice(b"\n  T(S)\n  T(G")?;
+    match kind {
+        Kind::Transistor => b"\n  T(S)\n  T(G",
+        Kind::Resistor => b"\n  T(A",
+        Kind::Diode => b"\n  T(A",
+    }
+}
+
+// And behind them.
+fn region_close(kind: Kind) -> &'static [u8]
+    ensures { result.now ≡ region_close (kind_seen kind) }
+{
+    match kind {
+        Kind::Transistor => b"\n  )\n  T(D)\n  T(B)\n )",
+        Kind::Resistor => b"\n  )\n  T(B)\n  T(W)\n )",
+        Kind::Diode => b"\n  )\n  T(C)\n )",
+    }
+}
+
+fn push_terminals(
+    alloc: Global,
+    out: &mut Vec<u8>,
+    kind: Kind,
+    rects: &[Rect],
+) -> Result<(), AllocError>
+    requires { All IsSmallRect rects.now }
+    ensures { OnOk result (out.new.items
+        ≡ out.old.items ++ terminal_rows (kind_seen kind) rects.now) }
+{
+    out.extend_from_slice(region_open(kind))?;
     push_rects(alloc, out, b"device regions", Point { x: 0, y: 0 }, rects)?;
-    out.extend_from_slice(b"\n  )\n  T(D)\n  T(B)\n )")
+    out.extend_from_slice(region_close(kind))
 }
 
 fn push_one(alloc: Global, out: &mut Vec<u8>, k: u32, region: &Region) -> Result<(), AllocError>
     requires { All IsSmallRect region.now.rects.items }
     ensures { OnOk result (out.new.items ≡ out.old.items ++ region_text k region.now) }
 {
+    let (kind, _) = shown_class(&region.class);
     push_head(alloc, out, k, &region.class)?;
-    push_terminals(alloc, out, &region.rects)
+    push_terminals(alloc, out, kind, &region.rects)
 }
 
 /// Appends the regions, numbered from 1. Linear in the rectangles. 2^32 are refused.

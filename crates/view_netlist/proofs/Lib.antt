@@ -2,3 +2,4 @@ mod Numbered
 mod Shapes
 mod Drawings
 mod Orders
+mod ClassNames

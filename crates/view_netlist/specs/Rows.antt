@@ -1,7 +1,10 @@
 -- The rows of a circuit, by which layout and schematic are told alike.
 use Rattle.std.specs.Prelude.{ℕ, ◌+◌, List, [], ◌∷◌, ◌++◌, get_or, codes, decimal}
 use Rattle.plain_netlist.specs.Netlist.{DeviceRow}
+use Rattle.spice_rows.specs.Params.{Kind}
+use Rattle.spice_text.specs.Cards.{first_key, second_key}
 use Rattle.view_words.specs.Words.{word}
+use Rattle.view_netlist.specs.Kinds.{terminals}
 
 -- nets, devices and calls are numbered from 1
 abbrev pub place_text : ℕ → List ℕ
@@ -19,7 +22,7 @@ abbrev pub pin_texts : List (List ℕ) → List ℕ → List ℕ
 pin_texts names [] = []
 pin_texts names (n ∷ ns) = pin_text names n ++ pin_texts names ns
 
--- ` E(L SIZE)`, a letter and a size in micrometres
+-- ` E(L SIZE)`, a letter and a size
 abbrev pub size_text : ℕ → List ℕ → List ℕ
 size_text letter size = codes " E(" ++ (letter ∷ 0x20 ∷ (size ++ codes ")"))
 
@@ -27,14 +30,15 @@ size_text letter size = codes " E(" ++ (letter ∷ 0x20 ∷ (size ++ codes ")"))
 abbrev pub terminal_text : ℕ → ℕ → List ℕ
 terminal_text letter n = codes " T(" ++ (letter ∷ 0x20 ∷ (place_text n ++ codes ")"))
 
--- the terminals of a device: source, gate, drain, bulk
-abbrev pub terminal_texts : DeviceRow → List ℕ
-terminal_texts d = terminal_text 0x53 d.source ++ (terminal_text 0x47 d.gate
-    ++ (terminal_text 0x44 d.drain ++ terminal_text 0x42 d.bulk))
+-- these letters and nets
+abbrev pub terminal_texts : List (ℕ × ℕ) → List ℕ
+terminal_texts [] = []
+terminal_texts (t ∷ ts) = terminal_text t.0 t.1 ++ terminal_texts ts
 
--- what stands behind a device's class and place
-abbrev pub device_end : List ℕ → List ℕ → DeviceRow → List ℕ
-device_end l w d = size_text 0x4C l ++ (size_text 0x57 w ++ (terminal_texts d ++ codes ")"))
+-- what stands behind a device's class and place: its two sizes and its terminals
+abbrev pub device_end : Kind → List ℕ → List ℕ → DeviceRow → List ℕ
+device_end kind first second d = size_text (first_key kind) first
+    ++ (size_text (second_key kind) second ++ (terminal_texts (terminals kind d) ++ codes ")"))
 
 -- ` P(PIN NET)` for each pin of a call, pins numbered from 0
 abbrev pub call_pin_texts : ℕ → List ℕ → List ℕ

@@ -5,6 +5,7 @@ ghost use Rattle.net_model.specs.Rows.{plain_circuit};
 ghost use Rattle.spice_text.specs.Needs.{first_seen};
 ghost use Rattle.view_netlist.specs.Classes.{class_text, class_texts, classes_of, used_classes};
 
+use crate::kinds::{class_name, shown_class, template};
 use net_model::Circuit;
 use std::alloc::{AllocError, Global};
 use text_table::TextTable;
@@ -34,22 +35,26 @@ pub fn used_classes(alloc: Global, circuits: &[Circuit]) -> Result<Vec<Vec<u8>>,
     Ok(texts)
 }
 
-fn push_class(out: &mut Vec<u8>, class: &[u8]) -> Result<(), AllocError>
+fn push_class(alloc: Global, out: &mut Vec<u8>, class: &[u8]) -> Result<(), AllocError>
     ensures { OnOk result (out.new.items ≡ out.old.items ++ class_text class.now) }
 {
+    let (kind, _) = shown_class(class);
+    let name = class_name(alloc, class)?;
     out.extend_from_slice(b"\n K(")?;
-    push_word(out, class)?;
-    out.extend_from_slice(b" MOS4)")
+    push_word(out, &name)?;
+    out.push(b' ')?;
+    out.extend_from_slice(template(kind))?;
+    out.extend_from_slice(b")")
 }
 
 /// Appends a row for each class.
-pub fn push_classes(out: &mut Vec<u8>, classes: &[Vec<u8>]) -> Result<(), AllocError>
+pub fn push_classes(alloc: Global, out: &mut Vec<u8>, classes: &[Vec<u8>]) -> Result<(), AllocError>
     ensures { OnOk result (out.new.items ≡ out.old.items
         ++ class_texts (map (λ class. class.items) classes.now)) }
 {
     let mut rest = classes;
     'classes: while let [class, more @ ..] = rest {
-        push_class(out, class)?;
+        push_class(alloc, out, class)?;
         rest = more;
     }
     Ok(())

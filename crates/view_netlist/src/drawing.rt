@@ -7,6 +7,7 @@ ghost use Rattle.view_netlist.specs.Drawing.{shape_rows, turn_text};
 ghost use Rattle.view_words.specs.Numbers.{IsSmall, IsSmallRect};
 ghost use Rattle.view_words.specs.Steps.{step_row, step_to};
 
+use crate::kinds::class_name;
 use crate::rows::{name_at, push_place};
 use geo_base::{Motion, Point, Rect, Turn};
 use net_names::Name;
@@ -147,7 +148,8 @@ pub fn push_kind(
     ensures { OnOk result (out.new.items ≡ out.old.items ++ kind_text class.now place) }
 {
     let Some(p) = place else {
-        return push_word(out, class);
+        let name = class_name(alloc, class)?;
+        return push_word(out, &name);
     };
     push_region(alloc, out, p.region)?;
     out.extend_from_slice(b" Y")?;

@@ -59,7 +59,7 @@ fn push_section(
         (map plain_circuit circuits.now) order.now) out.old.items out.new.items) }
 {
     out.extend_from_slice(b"\nH(")?;
-    push_classes(out, classes)?;
+    push_classes(alloc, out, classes)?;
     push_circuits(alloc, out, names, &[], circuits, order)?;
     out.extend_from_slice(b"\n)")
 }

@@ -26,13 +26,13 @@ use view_shapes::ShowFault;
 /// What was found of a layout: its cells in lists, the cells with circuits, the names of their
 /// circuits, the netlist that was aligned, and where the parts of the aligned one are from.
 #[derive(Clone, Copy)]
-pub struct Given<'a> {
+pub struct Given<'a, 'b> {
     pub source: Source<'a>,
-    pub lists: &'a Lists<'a>,
-    pub cells: &'a [u32],
-    pub names: &'a [Name],
-    pub written: &'a [Circuit],
-    pub origins: &'a Origins,
+    pub lists: &'b Lists<'a>,
+    pub cells: &'b [u32],
+    pub names: &'b [Name],
+    pub written: &'b [Circuit],
+    pub origins: &'b Origins,
 }
 
 // What is drawn of a circuit whose cell has this one: nothing, unless it has its rows; the devices'

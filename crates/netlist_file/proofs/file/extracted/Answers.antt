@@ -7,7 +7,7 @@ use Rattle.rule_text.specs.Seen.{rules_seen}
 use Rattle.netlist_file.proofs.file.extracted.Goals as goal
 
 pub write_spice-requires : goal.write_spice-requires
-write_spice-requires c =
+write_spice-requires g c =
     let design = c.args.layout.now.design in
     let r = rules_seen c.args.rules.now in
     let found = c.in_ok-found.found in
