@@ -1,0 +1,98 @@
+//! What is found of a layout.
+
+ghost use Rattle.std.specs.Prelude.{◌≡◌, ◌≤◌, IfOk};
+ghost use Rattle.rule_text.specs.Seen.{rules_seen};
+ghost use Rattle.rule_text.specs.Sound.{IsSound};
+ghost use Rattle.view_run.specs.Found.{HasFound};
+
+use circuit_phase::circuit_cells;
+use deep_flow::{Gated, derive_gates, draw, find_circuits, find_pins};
+use deep_tables::{BadGate, Circuits, Pins};
+use gds_layout::Layout;
+use job_board::Gate;
+use net_model::Netlist;
+use rule_text::RuleSet;
+use std::alloc::{AllocError, Global};
+use std::sync::Wait;
+use std::thread::Threads;
+use view_drawing::Source;
+
+/// The layers, nets, gates, pins and circuits of a layout's cells, and the cells with circuits.
+#[derive(Drop)]
+pub struct Cells {
+    pub gated: Gated,
+    pub pins: Pins,
+    pub circuits: Circuits,
+    pub cells: Vec<u32>,
+}
+
+/// A layout's netlist with the number of the top's circuit, its bad gates, and its cells.
+#[derive(Drop)]
+pub struct Found {
+    pub netlist: Netlist,
+    pub top: u32,
+    pub bad: Vec<BadGate>,
+    pub cells: Cells,
+}
+
+/// What is found of a layout, by 1 to 64 workers, with one answer for every number of them. A cell is
+/// worked once, but its circuit twice. An `Err` is want of memory, or 2^32 circuits or nets of a
+/// cell.
+pub fn find_all<R: Threads + Wait + Sync, G: Gate + Sync>(
+    rt: &R,
+    alloc: Global,
+    layout: &Layout,
+    rules: &RuleSet,
+    workers: usize,
+    gate: &G,
+) -> Result<Found, AllocError>
+    requires workers { (1 ≤ workers) × (workers ≤ 64) }
+    requires rules { IsSound (rules_seen rules.now) }
+    ensures { IfOk result (HasFound layout.now (rules_seen rules.now)) }
+{
+    layout.design.sound();
+    let design = &layout.design;
+    let unit_pm = layout.header.unit_pm;
+    let gated = derive_gates(rt, alloc, design, rules, workers, gate)?;
+    let (layers, nets, gates) = (&gated.layers, &gated.nets, &gated.gates);
+    let pins = find_pins(rt, alloc, design, rules, layers, nets, gates, workers, gate)?;
+    let drawn = draw(
+        rt, alloc, design, rules, &gated, &pins, unit_pm, workers, gate,
+    )?;
+    let circuits = find_circuits(
+        rt, alloc, design, rules, nets, &pins, gates, unit_pm, workers, gate,
+    )?;
+    let cells = circuit_cells(alloc, design, gates)?;
+    Ok(Found {
+        netlist: drawn.netlist,
+        top: drawn.top,
+        bad: drawn.bad,
+        cells: Cells {
+            gated,
+            pins,
+            circuits,
+            cells,
+        },
+    })
+}
+
+/// The cells in the form that they are drawn from.
+pub fn source_of<'a>(layout: &'a Layout, rules: &'a RuleSet, cells: &'a Cells) -> Source<'a>
+    ensures design { result.design.now ≡ layout.now.design }
+    ensures rules { result.rules.now ≡ rules.now }
+    ensures layers { result.layers.now ≡ cells.now.gated.layers }
+    ensures nets { result.nets.now ≡ cells.now.gated.nets }
+    ensures gates { result.gates.now ≡ cells.now.gated.gates }
+    ensures pins { result.pins.now ≡ cells.now.pins }
+    ensures circuits { result.circuits.now ≡ cells.now.circuits }
+{
+    Source {
+        design: &layout.design,
+        rules,
+        layers: &cells.gated.layers,
+        nets: &cells.gated.nets,
+        gates: &cells.gated.gates,
+        pins: &cells.pins,
+        circuits: &cells.circuits,
+    }
+}

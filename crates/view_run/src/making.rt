@@ -1,0 +1,149 @@
+//! What a run has to write.
+
+ghost use Rattle.std.specs.Prelude.{◌≡◌, ◌≤◌, IfErr, IfOk, length};
+ghost use Rattle.std.specs.Option.{option_map};
+ghost use Rattle.net_align.specs.Compared.{IsAlignable};
+ghost use Rattle.net_model.specs.Rows.{plain_netlist};
+ghost use Rattle.pair_jobs.specs.Verdict.{IsRunVerdict};
+ghost use Rattle.report_file.specs.File.{all_answers, pair_count};
+ghost use Rattle.rule_text.specs.Seen.{rules_seen};
+ghost use Rattle.rule_text.specs.Sound.{IsSound};
+ghost use Rattle.view_run.specs.Ends.{stopped};
+ghost use Rattle.view_run.specs.Found.{HasFound};
+ghost use Rattle.view_run.specs.Views.{IsView, NotMade};
+
+use crate::drawing::{circuit_names, draw};
+use crate::found::{Found, find_all};
+use crate::merging::as_compared;
+use crate::status::Stop;
+use crate::stops::view_stop;
+use crate::summary::view_line;
+use crate::writing::{propose, shown_circuits, write_database, write_page};
+use deep_tables::BadGate;
+use gds_layout::Layout;
+use job_board::Gate;
+use match_report::Compared;
+use net_model::Netlist;
+use pair_jobs::{Verdict, judge_run};
+use part_origins::origins_asked;
+use report_file::{circuit_name, combined_alignable, compare_in_turns, extracted_alignable};
+use rule_text::RuleSet;
+use std::alloc::{AllocError, Global};
+use std::sync::Wait;
+use std::thread::Threads;
+
+/// What is made of a layout and a schematic: the database, the page where it is asked for, the line,
+/// and what they come to.
+#[derive(Drop)]
+pub struct View {
+    pub text: Vec<u8>,
+    pub page: Option<Vec<u8>>,
+    pub line: Vec<u8>,
+    pub verdict: Verdict,
+}
+
+// How many pairs there are.
+fn pair_count(compared: &Option<Compared>) -> usize
+    ensures { result ≡ pair_count compared.now }
+{
+    match compared {
+        Some(found) => found.answers.len(),
+        None => 0,
+    }
+}
+
+// What the bad gates and the pairs come to.
+fn judge(bad: &[BadGate], compared: &Option<Compared>) -> Result<Verdict, AllocError>
+    ensures { IfOk result (IsRunVerdict (length bad.now) (all_answers compared.now)) }
+{
+    match compared {
+        Some(found) => judge_run(bad.len(), Some(&found.answers)),
+        None => judge_run(bad.len(), None),
+    }
+}
+
+// What there is to write, by what was found of the layout.
+fn view_found<R: Threads + Wait + Sync, G: Gate + Sync>(
+    rt: &R,
+    alloc: Global,
+    layout: &Layout,
+    rules: &RuleSet,
+    found: Found,
+    schematic: Netlist,
+    workers: usize,
+    paged: bool,
+    gate: &G,
+) -> Result<View, Stop>
+    requires workers { (1 ≤ workers) × (workers ≤ 64) }
+    requires rules { IsSound (rules_seen rules.now) }
+    requires found { HasFound layout.now (rules_seen rules.now) found }
+    requires schematic { IsAlignable (plain_netlist schematic) }
+    ensures made { IfOk result (λ o. IsView layout.now (rules_seen rules.now)
+        (plain_netlist schematic) paged o.verdict o.text.items
+        (option_map (λ text. text.items) o.page) o.line.items) }
+    ensures refused { IfErr result (λ why. NotMade layout.now (rules_seen rules.now)
+        (plain_netlist schematic) (stopped why)) }
+{
+    layout.design.sound();
+    extracted_alignable();
+    combined_alignable();
+    origins_asked();
+    let Found {
+        netlist,
+        top,
+        bad,
+        cells,
+    } = found;
+    let names = circuit_names(alloc, &netlist)?;
+    let circuits = netlist.circuits.len();
+    let both = as_compared(alloc, rules, netlist, schematic)?;
+    let (one, other) = (&both.layout, &both.schematic);
+    let turns = compare_in_turns(rt, alloc, rules, one, top, other, workers, gate)?;
+    let compared = &turns.compared;
+    let verdict = judge(&bad, compared)?;
+    let shown = shown_circuits(&both, compared);
+    let drawn = match draw(alloc, layout, rules, &cells, &names, one, shown) {
+        Ok(drawn) => drawn,
+        Err(fault) => return Err(view_stop(fault)),
+    };
+    drop(cells);
+    let rows = propose(alloc, rules, compared)?;
+    let name = circuit_name(one, top as usize);
+    let text = write_database(
+        alloc, layout, rules, &drawn, &both, compared, &rows, name, &bad,
+    )?;
+    let page = write_page(alloc, layout, &drawn, &both, compared, &rows, paged)?;
+    let line = view_line(alloc, verdict, circuits, pair_count(compared), bad.len())?;
+    Ok(View {
+        text,
+        page,
+        line,
+        verdict,
+    })
+}
+
+/// What there is to write of a layout, rules and a schematic; the page only if it is asked for.
+pub fn make_view<R: Threads + Wait + Sync, G: Gate + Sync>(
+    rt: &R,
+    alloc: Global,
+    layout: &Layout,
+    rules: &RuleSet,
+    schematic: Netlist,
+    workers: usize,
+    paged: bool,
+    gate: &G,
+) -> Result<View, Stop>
+    requires workers { (1 ≤ workers) × (workers ≤ 64) }
+    requires rules { IsSound (rules_seen rules.now) }
+    requires schematic { IsAlignable (plain_netlist schematic) }
+    ensures made { IfOk result (λ o. IsView layout.now (rules_seen rules.now)
+        (plain_netlist schematic) paged o.verdict o.text.items
+        (option_map (λ text. text.items) o.page) o.line.items) }
+    ensures refused { IfErr result (λ why. NotMade layout.now (rules_seen rules.now)
+        (plain_netlist schematic) (stopped why)) }
+{
+    let found = find_all(rt, alloc, layout, rules, workers, gate)?;
+    view_found(
+        rt, alloc, layout, rules, found, schematic, workers, paged, gate,
+    )
+}
