@@ -4,6 +4,7 @@ use Rattle.std.proofs.lemmas.List.{length-map}
 use Rattle.std.proofs.lemmas.Option.{slice_get_within}
 use Rattle.cell_graph.specs.Linked.{Linked, cell_at, plain}
 use Rattle.deep_flow.specs.Extracted.{IsNetlistOfCells}
+use Rattle.deep_tables.specs.declared.gates.BadGate.{BadGate}
 use Rattle.deep_tables.specs.declared.gates.CellGates.{CellGates}
 use Rattle.deep_tables.specs.declared.layers.CellLayers.{CellLayers}
 use Rattle.deep_tables.specs.declared.nets.CellNets.{CellNets}
@@ -11,6 +12,7 @@ use Rattle.deep_tables.specs.declared.pins.CellPins.{CellPins}
 use Rattle.gds_layout.specs.declared.layout.Layout.{Layout}
 use Rattle.match_report.specs.Gates.{name_of as cell_name}
 use Rattle.match_report.specs.Pairs.{name_of}
+use Rattle.match_report.specs.declared.report.Compared.{Compared}
 use Rattle.merge_laws.specs.Grouped.{merged_circuit, merged_netlist}
 use Rattle.net_align.specs.Compared.{AreCalleesFirst, IsAlignable}
 use Rattle.net_model.specs.Rows.{plain_circuit, plain_netlist}
@@ -77,6 +79,18 @@ module _ (r : Rules) (nl other : Netlist) (b : Both) (both : AreCompared r nl ot
 pub not_drawn : (l : Layout) (r : Rules) (schematic : Netlist) (fault : ShowFault) (e : End) → e ≡ view_answer fault → NotMade l r schematic e
 not_drawn l r schematic faults.TooFar e same = views.Far same
 not_drawn l r schematic faults.NoMemory e same = views.Memory same
+
+-- ---- the same of equal names, gates, rows and numbers
+
+pub database_as : (l : Layout) (r : Rules) (p : Picture) (one two : Netlist) (o : Option Compared) (name top : List ℕ) (gates bad : List BadGate) (lists rows : List (List Row)) (text : List ℕ) → name ≡ top → gates ≡ bad → lists ≡ rows
+    → IsDatabase (cell_name (cell_at l.design l.design.top)) (l.header.unit_pm * 1000) r p (shown_logs (gate_log l.design name gates) o) (shown_lefts one o) (shown_rights two o) lists (all_answers o) text
+    → IsDatabase (cell_name (cell_at l.design l.design.top)) (l.header.unit_pm * 1000) r p (shown_logs (gate_log l.design top bad) o) (shown_lefts one o) (shown_rights two o) rows (all_answers o) text
+database_as l r p one two o name top gates bad lists rows text same_name same_gates same_lists h =
+    let Is : List ℕ → List BadGate → List (List Row) → Type 0 = λ n gs ls. IsDatabase (cell_name (cell_at l.design l.design.top)) (l.header.unit_pm * 1000) r p (shown_logs (gate_log l.design n gs) o) (shown_lefts one o) (shown_rights two o) ls (all_answers o) text in
+    subst (λ (ls : List (List Row)). Is top bad ls) same_lists (subst (λ (gs : List BadGate). Is top gs lists) same_gates (subst (λ (n : List ℕ). Is n gates lists) same_name h))
+
+pub line_as : (line : List ℕ) (v : Verdict) (a b c circuits pairs bad : ℕ) → a ≡ circuits → b ≡ pairs → c ≡ bad → line ≡ view_line v a b c → line ≡ view_line v circuits pairs bad
+line_as line v a b c circuits pairs bad e f g h = rw (sym e, sym f, sym g) h
 
 -- ---- by what was found
 

@@ -1,19 +1,29 @@
-use Rattle.std.proofs.Common.{◌≡◌, ◌<◌, ◌∙◌, ℕ, List, Option, ap, length, map, subst, sym}
+use Rattle.std.proofs.Common.{◌≡◌, ◌<◌, ◌∙◌, ℕ, IfOk, List, Result, ap, length, map, subst, sym}
+use Rattle.std.proofs.lemmas.List.{length-map}
 use Rattle.std.proofs.lemmas.Result.{err_from_is_err_and}
 use Rattle.std.specs.List.{All}
+use Rattle.std.specs.Option.{option_map}
 use Rattle.deep_tables.specs.declared.gates.BadGate.{BadGate}
 use Rattle.lvs_run.proofs.Told.{told_inside}
-use Rattle.net_model.specs.Rows.{plain_netlist}
+use Rattle.net_model.specs.Rows.{plain_circuit, plain_netlist}
+use Rattle.pair_jobs.specs.Verdict.{IsRunVerdict}
 use Rattle.plain_netlist.specs.Netlist.{Netlist}
 use Rattle.plain_netlist.specs.Sound.{IsGood}
+use Rattle.report_file.specs.File.{all_answers, pair_count}
 use Rattle.rule_text.specs.Seen.{rules_seen}
-use Rattle.view_run.proofs.Assembled.{layout_alignable, layout_ordered, not_drawn, not_made, schematic_alignable, top_of_both, top_there}
+use Rattle.view_cross.specs.Whole.{AreWhole}
+use Rattle.view_cross.specs.declared.rows.Row.{Row}
+use Rattle.view_file.specs.declared.layout.Picture.{Picture}
+use Rattle.view_shapes.specs.declared.pieces.ShowFault.{ShowFault}
+use Rattle.view_file.specs.Cross.{lists_of}
+use Rattle.view_run.specs.Views.{ArePictured, IsPageAsked, names_of, shown_lefts, shown_rights}
+use Rattle.view_run.proofs.Assembled.{database_as, is_view, line_as, layout_alignable, layout_ordered, not_drawn, not_made, schematic_alignable, top_of_both, top_there}
 use Rattle.view_run.proofs.Ordering.{shown_ordered}
 use Rattle.view_run.proofs.Shown.{all_paired, left_good, whole_lists}
 use Rattle.view_run.proofs.making.view_found.Goals as goal
 
 pub as_compared-requires-clause-layout : goal.as_compared-requires-clause-layout
-as_compared-requires-clause-layout c =
+as_compared-requires-clause-layout g c =
     let l = c.args.layout.now in
     let r = rules_seen c.args.rules.now in
     let f = c.args.found in
@@ -24,7 +34,7 @@ as_compared-requires-clause-layout c =
     can.0
 
 pub compare_in_turns-requires-clause-layout : goal.compare_in_turns-requires-clause-layout
-compare_in_turns-requires-clause-layout c =
+compare_in_turns-requires-clause-layout g c κs within =
     let l = c.args.layout.now in
     let r = rules_seen c.args.rules.now in
     let f = c.args.found in
@@ -38,7 +48,7 @@ compare_in_turns-requires-clause-layout c =
     layout_alignable r nl other both is_both law can.0
 
 pub compare_in_turns-requires-clause-schematic : goal.compare_in_turns-requires-clause-schematic
-compare_in_turns-requires-clause-schematic c =
+compare_in_turns-requires-clause-schematic g c κs within =
     let l = c.args.layout.now in
     let r = rules_seen c.args.rules.now in
     let f = c.args.found in
@@ -51,7 +61,7 @@ compare_in_turns-requires-clause-schematic c =
     schematic_alignable r nl other both is_both law c.requires.schematic
 
 pub compare_in_turns-requires-clause-order : goal.compare_in_turns-requires-clause-order
-compare_in_turns-requires-clause-order c =
+compare_in_turns-requires-clause-order g c κs within =
     let l = c.args.layout.now in
     let r = rules_seen c.args.rules.now in
     let f = c.args.found in
@@ -65,20 +75,7 @@ compare_in_turns-requires-clause-order c =
     layout_ordered r nl other both is_both can.1
 
 pub compare_in_turns-requires-clause-top : goal.compare_in_turns-requires-clause-top
-compare_in_turns-requires-clause-top c =
-    let l = c.args.layout.now in
-    let r = rules_seen c.args.rules.now in
-    let f = c.args.found in
-    let nl = plain_netlist f.netlist in
-    let other = plain_netlist c.args.schematic in
-    let found = c.requires.found in
-    let both = c.in_ok-both.both in
-    let is_both = c.in_ok-both.ensures.both in
-    let law = c.combined_alignable.ensures.alignable in
-    top_of_both r nl other both is_both f.top (top_there _ _ r _ _ _ _ nl f.top found.of_cells)
-
-pub circuit_name-requires : goal.circuit_name-requires
-circuit_name-requires c =
+compare_in_turns-requires-clause-top g c κs within =
     let l = c.args.layout.now in
     let r = rules_seen c.args.rules.now in
     let f = c.args.found in
@@ -91,7 +88,7 @@ circuit_name-requires c =
     top_of_both r nl other both is_both f.top (top_there _ _ r _ _ _ _ nl f.top found.of_cells)
 
 pub draw-requires-clause-written : goal.draw-requires-clause-written
-draw-requires-clause-written c =
+draw-requires-clause-written g c =
     let l = c.args.layout.now in
     let r = rules_seen c.args.rules.now in
     let f = c.args.found in
@@ -105,7 +102,7 @@ draw-requires-clause-written c =
     (c.origins_asked.ensures.written (plain_netlist both.layout) (layout_alignable r nl other both is_both law can.0) (layout_ordered r nl other both is_both can.1)).0
 
 pub draw-requires-clause-apart : goal.draw-requires-clause-apart
-draw-requires-clause-apart c =
+draw-requires-clause-apart g c =
     let l = c.args.layout.now in
     let r = rules_seen c.args.rules.now in
     let f = c.args.found in
@@ -119,7 +116,7 @@ draw-requires-clause-apart c =
     (c.origins_asked.ensures.written (plain_netlist both.layout) (layout_alignable r nl other both is_both law can.0) (layout_ordered r nl other both is_both can.1)).1
 
 pub draw-requires-clause-shown : goal.draw-requires-clause-shown
-draw-requires-clause-shown c =
+draw-requires-clause-shown g c =
     let l = c.args.layout.now in
     let r = rules_seen c.args.rules.now in
     let f = c.args.found in
@@ -135,8 +132,8 @@ draw-requires-clause-shown c =
     let good = (c.origins_asked.ensures.written (plain_netlist both.layout) (layout_alignable r nl other both is_both law can.0) (layout_ordered r nl other both is_both can.1)).0 in
     subst (λ (n : Netlist). IsGood n (λ k. k)) (sym c.shown_circuits-shown.ensures) (left_good (plain_netlist both.layout) f.top (plain_netlist both.schematic) t.same r.max_guesses r.tells_pins o good t.comparison)
 
-pub propose-requires-clause-paired : goal.propose-requires-clause-paired
-propose-requires-clause-paired c =
+pub propose-requires : goal.propose-requires
+propose-requires g c =
     let l = c.args.layout.now in
     let r = rules_seen c.args.rules.now in
     let f = c.args.found in
@@ -148,10 +145,10 @@ propose-requires-clause-paired c =
     let law = c.combined_alignable.ensures.alignable in
     let o = c.in_ok-turns.turns.compared in
     let t = c.in_ok-turns.ensures in
-    all_paired (plain_netlist both.layout) f.top (plain_netlist both.schematic) t.same r.max_guesses r.tells_pins o t.comparison
+    record { paired = all_paired (plain_netlist both.layout) f.top (plain_netlist both.schematic) t.same r.max_guesses r.tells_pins o t.comparison }
 
 pub write_database-requires-clause-whole : goal.write_database-requires-clause-whole
-write_database-requires-clause-whole c =
+write_database-requires-clause-whole g c =
     let l = c.args.layout.now in
     let r = rules_seen c.args.rules.now in
     let f = c.args.found in
@@ -163,10 +160,11 @@ write_database-requires-clause-whole c =
     let law = c.combined_alignable.ensures.alignable in
     let o = c.in_ok-turns.turns.compared in
     let t = c.in_ok-turns.ensures in
-    whole_lists (plain_netlist both.layout) (plain_netlist both.schematic) o _ c.in_ok-rows.ensures.whole
+    let whole = whole_lists (plain_netlist both.layout) (plain_netlist both.schematic) o _ c.in_ok-rows.ensures.whole in
+    subst (λ (ls : List (List Row)). AreWhole (shown_lefts (plain_netlist both.layout) o) (shown_rights (plain_netlist both.schematic) o) ls) (sym (ap lists_of c.deref-3.ensures.value)) whole
 
 pub write_database-requires-clause-ordered : goal.write_database-requires-clause-ordered
-write_database-requires-clause-ordered c =
+write_database-requires-clause-ordered g c =
     let l = c.args.layout.now in
     let r = rules_seen c.args.rules.now in
     let f = c.args.found in
@@ -181,17 +179,30 @@ write_database-requires-clause-ordered c =
     shown_ordered (plain_netlist both.layout) f.top (plain_netlist both.schematic) t.same r.max_guesses r.tells_pins o (schematic_alignable r nl other both is_both law c.requires.schematic).sound t.comparison
 
 pub write_database-requires-clause-cells : goal.write_database-requires-clause-cells
-write_database-requires-clause-cells c =
+write_database-requires-clause-cells g c =
     let l = c.args.layout.now in
     let r = rules_seen c.args.rules.now in
     let f = c.args.found in
     let nl = plain_netlist f.netlist in
     let other = plain_netlist c.args.schematic in
     let found = c.requires.found in
-    subst (λ (bs : List BadGate). All (λ x. x.cell < length l.design.cells) bs) (sym c.deref.ensures.value) (told_inside l.design r f.cells.gated.gates f.bad.items c.sound.ensures found.told)
+    subst (λ (bs : List BadGate). All (λ x. x.cell < length l.design.cells) bs) (sym c.deref-4.ensures.value) (told_inside l.design r f.cells.gated.gates f.bad.items c.sound.ensures found.told)
+
+pub circuit_name-name-requires : goal.circuit_name-name-requires
+circuit_name-name-requires g c =
+    let l = c.args.layout.now in
+    let r = rules_seen c.args.rules.now in
+    let f = c.args.found in
+    let nl = plain_netlist f.netlist in
+    let other = plain_netlist c.args.schematic in
+    let found = c.requires.found in
+    let both = c.in_ok-both.both in
+    let is_both = c.in_ok-both.ensures.both in
+    let law = c.combined_alignable.ensures.alignable in
+    top_of_both r nl other both is_both f.top (top_there _ _ r _ _ _ _ nl f.top found.of_cells)
 
 pub returns-in_err-both-clause-refused : goal.returns-in_err-both-clause-refused
-returns-in_err-both-clause-refused c =
+returns-in_err-both-clause-refused g c =
     let l = c.args.layout.now in
     let r = rules_seen c.args.rules.now in
     let f = c.args.found in
@@ -202,7 +213,7 @@ returns-in_err-both-clause-refused c =
     rw (e.1, e.2) (not_made l r other f found _ c.in_err-both.ensures.refused)
 
 pub returns-in-Err-clause-refused : goal.returns-in-Err-clause-refused
-returns-in-Err-clause-refused c =
+returns-in-Err-clause-refused g c =
     let l = c.args.layout.now in
     let r = rules_seen c.args.rules.now in
     let f = c.args.found in
@@ -210,3 +221,34 @@ returns-in-Err-clause-refused c =
     let other = plain_netlist c.args.schematic in
     let found = c.requires.found in
     not_drawn l r other c.in-Err.fault _ c.view_stop.ensures
+
+pub returns-clause-made : goal.returns-clause-made
+returns-clause-made g c =
+    let l = c.args.layout.now in
+    let r = rules_seen c.args.rules.now in
+    let f = c.args.found in
+    let nl = plain_netlist f.netlist in
+    let other = plain_netlist c.args.schematic in
+    let found = c.requires.found in
+    let both = c.in_ok-both.both in
+    let is_both = c.in_ok-both.ensures.both in
+    let law = c.combined_alignable.ensures.alignable in
+    let o = c.in_ok-turns.turns.compared in
+    let t = c.in_ok-turns.ensures in
+    let p = c.in-Ok.drawn in
+    let one = plain_netlist both.layout in
+    let two = plain_netlist both.schematic in
+    let shown = c.shown_circuits-shown in
+    let rows = lists_of c.in_ok-rows.rows.items in
+    let text = c.in_ok-text.text.items in
+    let page = option_map (λ text. text.items) c.in_ok-page.page in
+    let v = c.in_ok-verdict.verdict in
+    let pictured = subst (λ (x : Result Picture ShowFault). IfOk x (ArePictured l r f.cells c.deref-2.result.now one (plain_netlist shown.result.now))) c.in-Ok.is c.draw.ensures.picture in
+    let named = subst (λ (ns : List (List ℕ)). ArePictured l r f.cells ns one (plain_netlist shown.result.now) p) (c.deref-2.ensures.value ∙ c.in_ok-names.ensures) pictured in
+    let drawn = subst (λ (n : Netlist). ArePictured l r f.cells (names_of nl) one n p) shown.ensures named in
+    let database = database_as l r p one two o c.circuit_name-name.result.now _ c.deref-4.result.now f.bad.items (lists_of c.deref-3.result.now) rows text c.circuit_name-name.ensures c.deref-4.ensures.value (ap lists_of c.deref-3.ensures.value) c.in_ok-text.ensures in
+    let page_is = subst (λ (ls : List (List Row)). IsPageAsked c.args.paged l.header.unit_pm p (shown_lefts one o) (shown_rights two o) ls page) (ap lists_of c.deref-5.ensures.value) c.in_ok-page.ensures in
+    let verdict = subst (λ (bs : List BadGate). IsRunVerdict (length bs) (all_answers o) v) c.deref.ensures.value c.in_ok-verdict.ensures in
+    let circuits : c.len-circuits.result ≡ length nl.circuits = c.len-circuits.ensures ∙ (f.netlist.circuits.ok.0 ∙ sym (length-map f.netlist.circuits.items plain_circuit)) in
+    let line_is = line_as c.in_ok-line.line.items v _ _ _ (length nl.circuits) (pair_count o) (length f.bad.items) circuits c.pair_count.ensures (c.len.ensures ∙ f.bad.ok.0) c.in_ok-line.ensures in
+    is_view l r other f found c.in_ok-turns.turns p rows c.args.paged text page both v c.in_ok-line.line.items is_both (record { taken = t; drawn = drawn; database = database; page_is = page_is }) verdict c.in_ok-rows.ensures.proposed line_is
