@@ -22,7 +22,6 @@ import tempfile
 
 HERE = os.path.dirname(os.path.abspath(__file__))
 sys.path[:0] = [os.path.join(HERE, "..", "reference")]
-os.environ.setdefault("LVSREF_FEATURES", "more")
 import gen
 import spice
 import wanted
