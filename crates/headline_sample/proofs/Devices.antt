@@ -1,7 +1,7 @@
 -- The two devices of the flat layout.
 use Rattle.std.proofs.Common.{◌≡◌, ◌⊎◌, inl, inr, ℕ, refl, sym, ◌∙◌, ap, subst, arith}
 use Rattle.flat_layout.specs.GateTables.{GateSquare}
-use Rattle.flat_layout.specs.Gates.{IsTerminalNode, Rule}
+use Rattle.flat_layout.specs.Gates.{Ends, IsGoodGate, IsTerminalNode, Region, Rule, TwoGroups}
 use Rattle.flat_layout.specs.Layers.{InFlat}
 use Rattle.flat_layout.specs.Regions.{At, Ground, Node}
 use Rattle.flat_sample.proofs.Columns.{column_above, only_at, poly_above}
@@ -26,7 +26,7 @@ node_on m Gate = At 1 (gate_at m)
 node_on m Drain = At 0 (right_at m)
 node_on m Bulk = Ground 0
 
-nodes : (m : ℕ) → InG 1 (gate_at m) → (pole : Pole) → IsTerminalNode gate_design gate_wiring rule 1 (gate_at m) (edge_to m (left_at m)) (edge_to m (right_at m)) pole (node_on m pole)
+nodes : (m : ℕ) → InG 1 (gate_at m) → (pole : Pole) → IsTerminalNode gate_design gate_wiring rule 1 (gate_at m) (TwoGroups (edge_to m (left_at m)) (edge_to m (right_at m))) pole (node_on m pole)
 nodes m gate Source = (left_at m, group_self 1 (gate_at m) (left_at m), refl)
 nodes m gate Gate = (gate_at m, gate_self 1 (gate_at m) (gate_at m) gate refl, refl)
 nodes m gate Drain = (right_at m, group_self 1 (gate_at m) (right_at m), refl)
@@ -39,8 +39,7 @@ device m gate left right = (
   record {
     rule = rule;
     is = refl;
-    source = edge_to m (left_at m);
-    drain = edge_to m (right_at m);
+    ends = TwoGroups (edge_to m (left_at m)) (edge_to m (right_at m));
     twice_w = 2;
     twice_l = 2;
     good = form 1 m gate left right;
@@ -57,11 +56,16 @@ last_gate = (column_above 0 1 3 (omega arith) (omega arith) (inr (inl refl)), po
 same_spot : (g : GateSquare) (x : ℕ) → g.rule ≡ 0 → g.square ≡ at x → g ≡ spot x
 same_spot g x r e = ap (λ (k : ℕ). let v : GateSquare = record { rule = k; square = g.square } in v) r ∙ ap (λ (q : Square). let v : GateSquare = record { rule = 0; square = q } in v) e
 
+-- a good transistor's square is one of the gates' layer
+on_gate : (s : Square) (ends : Ends) (w l : ℕ) → IsGoodGate gate_design gate_wiring rule 1 s ends w l → InFlat gate_design 1 rule.gate s
+on_gate s Region w l good = absurd good
+on_gate s (TwoGroups e f) w l good = (good.groups.each e (inl refl)).border.inside.from
+
 out : (g : GateSquare) → Device g → (g ≡ spot 1) ⊎ (g ≡ spot 3)
 out g (row, h) =
     let one = only_at rule h.rule g.rule h.is in
-    let gate : InFlat gate_design 1 h.rule.gate g.square = (h.good.groups.each h.source (inl refl)).border.inside.from in
-    elim (sides.gates_odd 1 g.square (subst (λ (r : Rule). InFlat gate_design 1 r.gate g.square) one.1 gate)) [
+    let good = subst (λ (r : Rule). IsGoodGate gate_design gate_wiring r 1 g.square h.ends h.twice_w h.twice_l) one.1 h.good in
+    elim (sides.gates_odd 1 g.square (on_gate g.square h.ends h.twice_w h.twice_l good)) [
       | inl e ↦ inl (same_spot g 1 one.0 e)
       | inr (top, e) ↦ inr (same_spot g 3 one.0 e)
     ]
