@@ -1,4 +1,4 @@
-//! Growing and shrinking: once along the rows and, turned about the diagonal, once along the columns.
+//! Growing and shrinking: along the rows and, turned about the diagonal, along the columns.
 
 ghost use Rattle.std.specs.Prelude.{◌≡◌, ◌↔◌, ℕ, ◌+◌, ◌++◌, ◌^◌, [], ◌∷◌, IfOk, OnOk, true};
 ghost use Rattle.std.specs.List.{All};
