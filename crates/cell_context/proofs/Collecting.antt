@@ -16,6 +16,7 @@ use Rattle.geo_base.specs.declared.shapes.Square.{Square}
 use Rattle.rect_sets.specs.Rects.{covers}
 use Rattle.flat_layout.specs.Layout.{Some_of}
 use Rattle.cell_graph.specs.declared.cells.Place.{Place}
+use Rattle.cell_graph.specs.Grown.{grown, IsInGrown}
 use Rattle.cell_graph.specs.Linked.{Linked, IsSound, IsStep, IsHull, IsFrame, HullIsSound, HullHas, hull_of, cell_at, places_at, motion_at}
 use Rattle.cell_graph.proofs.Bridge.{reference_at, hull_sound}
 use Rattle.cell_context.specs.declared.arrays.Visit.{Visit}
@@ -79,12 +80,12 @@ left_of : (a b : Bool) → (a && b) ≡ true → a ≡ true
 left_of true b e = refl
 left_of false b e = e
 
-held_in : (o : Option Rect) (h : Rect) (q : Square) → Some h ≡ o → has h q ≡ true → HullHas o q
-held_in None h q e g = let f : Some h ≡ None = e in let z : ⊥ = cc in z
-held_in (Some x) h q e g = let f : h ≡ x = cc in subst (λ r. has r q ≡ true) f g
+held_in : (n : ℕ) (o : Option Rect) (h g : Rect) (q : Square) → Some h ≡ o → g ≡ grown n h → has g q ≡ true → IsInGrown n o q
+held_in n None h g q e wide i = let f : Some h ≡ None = e in let z : ⊥ = cc in z
+held_in n (Some x) h g q e wide i = let f : h ≡ x = cc in subst (λ r. has (grown n r) q ≡ true) f (subst (λ r. has r q ≡ true) wide i)
 
-visit_of : (d : Linked) (cell i : ℕ) (skip : Option ℕ) (w hull : Rect) (p : Place) (v : Visit) → Some hull ≡ hull_of (cell_at d p.cell) → slice_get (places_at (cell_at d cell)) i ≡ Some p → (skip ≡ Some i → ⊥) → IsElementVisit p hull w v → IsVisit d cell skip w v
-visit_of d cell i skip w hull p v is there kept h = record {
+visit_of : (n : ℕ) (d : Linked) (cell i : ℕ) (skip : Option ℕ) (w hull g : Rect) (p : Place) (v : Visit) → Some hull ≡ hull_of (cell_at d p.cell) → g ≡ grown n hull → slice_get (places_at (cell_at d cell)) i ≡ Some p → (skip ≡ Some i → ⊥) → IsElementVisit p g w v → IsVisit n d cell skip w v
+visit_of n d cell i skip w hull g p v is wide there kept h = record {
   index = i;
   row = h.row;
   column = h.column;
@@ -94,12 +95,20 @@ visit_of d cell i skip w hull p v is there kept h = record {
   cell_is = h.cell;
   motion_is = h.motion;
   near = h.near;
-  has = λ q e. and_right (has hull q) (has w (moved_square v.motion q)) (sym (h.has q) ∙ e);
-  held = λ q e. held_in (hull_of (cell_at d v.cell)) hull q (is ∙ ap (λ c. hull_of (cell_at d c)) (sym h.cell)) (left_of (has hull q) (has w (moved_square v.motion q)) (sym (h.has q) ∙ e));
+  has = λ q e. and_right (has g q) (has w (moved_square v.motion q)) (sym (h.has q) ∙ e);
+  held = λ q e. held_in n (hull_of (cell_at d v.cell)) hull g q (is ∙ ap (λ c. hull_of (cell_at d c)) (sym h.cell)) wide (left_of (has g q) (has w (moved_square v.motion q)) (sym (h.has q) ∙ e));
 }
 
-pub visits_of : (d : Linked) (cell i : ℕ) (skip : Option ℕ) (w hull : Rect) (p : Place) (vs : List Visit) → Some hull ≡ hull_of (cell_at d p.cell) → slice_get (places_at (cell_at d cell)) i ≡ Some p → (skip ≡ Some i → ⊥) → All (IsElementVisit p hull w) vs → All (IsVisit d cell skip w) vs
-visits_of d cell i skip w hull p vs is there kept h = λ k v lt. visit_of d cell i skip w hull p (slice_index_or vs k v) is there kept (h k v lt)
+pub visits_of : (n : ℕ) (d : Linked) (cell i : ℕ) (skip : Option ℕ) (w hull g : Rect) (p : Place) (vs : List Visit) → Some hull ≡ hull_of (cell_at d p.cell) → g ≡ grown n hull → slice_get (places_at (cell_at d cell)) i ≡ Some p → (skip ≡ Some i → ⊥) → All (IsElementVisit p g w) vs → All (IsVisit n d cell skip w) vs
+visits_of n d cell i skip w hull g p vs is wide there kept h = λ k v lt. visit_of n d cell i skip w hull g p (slice_index_or vs k v) is wide there kept (h k v lt)
+
+pub grown_has : (n : ℕ) (o : Option Rect) (h g : Rect) (q : Square) → Some h ≡ o → g ≡ grown n h → IsInGrown n o q → has g q ≡ true
+grown_has n None h g q e wide i = absurd i
+grown_has n (Some x) h g q e wide i = let f : h ≡ x = cc in subst (λ r. has r q ≡ true) (sym wide) (subst (λ r. has (grown n r) q ≡ true) (sym f) i)
+
+pub no_grown : (n : ℕ) (o : Option Rect) (q : Square) → None ≡ o → IsInGrown n o q → ⊥
+no_grown n None q e g = g
+no_grown n (Some x) q e g = let f : None ≡ Some x = e in let z : ⊥ = cc in z
 
 pub hull_has : (o : Option Rect) (h : Rect) (q : Square) → Some h ≡ o → HullHas o q → has h q ≡ true
 hull_has None h q e g = absurd g
@@ -150,11 +159,11 @@ no_rect = record { x1 = pos 0; y1 = pos 0; x2 = pos 0; y2 = pos 0 }
 pub item_at : {A : Type 0} (xs ys : List A) (k : ℕ) (d : A) → xs ≡ ys → k < length xs → slice_get ys k ≡ Some (slice_index_or xs k d)
 item_at xs ys k d e lt = subst (λ zs. slice_get zs k ≡ Some (slice_index_or xs k d)) e (slice_get-get_or xs k d lt)
 
-pub here_found : (d : Linked) (cell i : ℕ) (place : Place) (w : Rect) (vs : List Visit) → slice_get (places_at (cell_at d cell)) i ≡ Some place → AreVisitedOf d cell i place w vs
-    → (row column : ℕ) (p : Place) (q : Square) → IsStep d cell i row column p → HullHas (hull_of (cell_at d p.cell)) q → has w (moved_square (motion_at p row column) q) ≡ true → Some_of (IsVisited p row column q) vs
-here_found d cell i place w vs there found row column p q step =
+pub here_found : (n : ℕ) (d : Linked) (cell i : ℕ) (place : Place) (w : Rect) (vs : List Visit) → slice_get (places_at (cell_at d cell)) i ≡ Some place → AreVisitedOf n d cell i place w vs
+    → (row column : ℕ) (p : Place) (q : Square) → IsStep d cell i row column p → IsInGrown n (hull_of (cell_at d p.cell)) q → has w (moved_square (motion_at p row column) q) ≡ true → Some_of (IsVisited p row column q) vs
+here_found n d cell i place w vs there found row column p q step =
     let e : place ≡ p = one_place (slice_get (places_at (cell_at d cell)) i) place p there step.there in
-    subst (λ (r : Place). IsStep d cell i row column r → HullHas (hull_of (cell_at d r.cell)) q → has w (moved_square (motion_at r row column) q) ≡ true → Some_of (IsVisited r row column q) vs) e (found row column q) step
+    subst (λ (r : Place). IsStep d cell i row column r → IsInGrown n (hull_of (cell_at d r.cell)) q → has w (moved_square (motion_at r row column) q) ≡ true → Some_of (IsVisited r row column q) vs) e (found row column q) step
 
 pub not_skipped : (skip : Option ℕ) (k : ℕ) → true ≡ not (option_eq eqb skip (Some k)) → skip ≡ Some k → ⊥
 not_skipped None k h e = let f : None ≡ Some k = e in let z : ⊥ = cc in z

@@ -14,9 +14,10 @@ use Rattle.rect_sets.specs.Rects.{covers}
 use Rattle.flat_layout.specs.Arrays.{place_at}
 use Rattle.flat_layout.specs.Layout as flat
 use Rattle.flat_layout.specs.Layout.{Some_of, IsOwn, InFlatInput, Takes}
-use Rattle.cell_graph.specs.Linked.{Linked, IsSound, IsRectWithin, cell_at, places_at, own_of, height_at, plain, reference}
+use Rattle.cell_graph.specs.Linked.{Linked, IsSound, IsRectWithin, cell_at, hull_of, places_at, own_of, height_at, plain, reference}
 use Rattle.cell_graph.proofs.Bridge.{own, hulls, step_of, placed_of, lower, or_split, or_left, or_right}
 use Rattle.cell_graph.proofs.Elements.{number_of}
+use Rattle.cell_graph.proofs.Growing.{grown_none}
 use Rattle.cell_context.specs.declared.arrays.Visit.{Visit}
 use Rattle.cell_context.specs.Visits.{IsVisited}
 use Rattle.cell_context.specs.Over.{IsOver, OverLaw, IsVisit, AreVisited, IsPiece}
@@ -55,15 +56,15 @@ pub over_flat : OverLaw
 over_flat d sound cell key q = (to_flat d cell key q sound, λ h. of_path d cell key q h.path h.end h.square sound h.takes h.own)
 
 -- what a visit promises
-pub visit_lower : (d : Linked) (cell : ℕ) (skip : Option ℕ) (w : Rect) (v : Visit) → IsSound d → IsVisit d cell skip w v → (v.cell < length d.cells) × (height_at d v.cell < height_at d cell)
-visit_lower d cell skip w v sound h = subst (λ c. (c < length d.cells) × (height_at d c < height_at d cell)) (sym h.cell_is) (lower d cell h.index h.from sound h.step.there)
+pub visit_lower : (n : ℕ) (d : Linked) (cell : ℕ) (skip : Option ℕ) (w : Rect) (v : Visit) → IsSound d → IsVisit n d cell skip w v → (v.cell < length d.cells) × (height_at d v.cell < height_at d cell)
+visit_lower n d cell skip w v sound h = subst (λ c. (c < length d.cells) × (height_at d c < height_at d cell)) (sym h.cell_is) (lower d cell h.index h.from sound h.step.there)
 
-pub visit_motion : (d : Linked) (cell : ℕ) (skip : Option ℕ) (w : Rect) (v : Visit) → IsSound d → IsVisit d cell skip w v → IsNearMotion v.motion
-visit_motion d cell skip w v sound h =
+pub visit_motion : (n : ℕ) (d : Linked) (cell : ℕ) (skip : Option ℕ) (w : Rect) (v : Visit) → IsSound d → IsVisit n d cell skip w v → IsNearMotion v.motion
+visit_motion n d cell skip w v sound h =
     subst IsNearMotion (sym h.motion_is) (near_motion h.from h.row h.column (near_array d cell h.index h.from sound h.step.there) h.step.row_in h.step.column_in)
 
-pub visit_window : (d : Linked) (cell : ℕ) (skip : Option ℕ) (w : Rect) (v : Visit) → IsVisit d cell skip w v → IsRectWithin (2 ^ 39) v.window
-visit_window d cell skip w v h = wider_rect (2 ^ 37) (2 ^ 39) v.window (omega arith) h.near.near
+pub visit_window : (n : ℕ) (d : Linked) (cell : ℕ) (skip : Option ℕ) (w : Rect) (v : Visit) → IsVisit n d cell skip w v → IsRectWithin (2 ^ 39) v.window
+visit_window n d cell skip w v h = wider_rect (2 ^ 37) (2 ^ 39) v.window (omega arith) h.near.near
 
 pub pieces_rects : (w : Rect) (rs : List Rect) → All (IsPiece w) rs → All IsRect rs
 pieces_rects w rs h = λ k r lt. (h k r lt).some
@@ -85,7 +86,7 @@ and_left : (a b : Bool) → (a && b) ≡ true → a ≡ true
 and_left true b e = refl
 and_left false b e = e
 
-pub right_more : (d : Linked) (cell : ℕ) (skip : Option ℕ) (key : LayerKey) (w : Rect) (old new below : List Rect) (v : Visit) → IsSound d → IsVisit d cell skip w v
+pub right_more : (d : Linked) (cell : ℕ) (skip : Option ℕ) (key : LayerKey) (w : Rect) (old new below : List Rect) (v : Visit) → IsSound d → IsVisit 0 d cell skip w v
     → AreRight d cell skip key w old → IsExact d v.cell None key v.window below → Adds old new below v.motion w → AreRight d cell skip key w new
 right_more d cell skip key w old new below v sound h right exact adds q e =
     let o = onto v.motion q in
@@ -134,11 +135,11 @@ some_at P (x ∷ xs) d (inr h) = let r = some_at P xs d h in let lt = r.1 in (su
 -- all that lies over a square of the window is there
 pub all_there : (d : Linked) (cell : ℕ) (skip : Option ℕ) (key : LayerKey) (w : Rect) (out : List Rect) (vs : List Visit) (none : Visit) → IsSound d
     → ((q : Square) → covers (own_of (cell_at d cell) key) q ≡ true → has w q ≡ true → covers out q ≡ true)
-    → ((k : ℕ) → k < length vs → Brings d key w out (slice_index_or vs k none)) → AreVisited d cell skip w vs
+    → ((k : ℕ) → k < length vs → Brings d key w out (slice_index_or vs k none)) → AreVisited 0 d cell skip w vs
     → (q : Square) → has w q ≡ true → IsOver d cell skip key q → covers out q ≡ true
 all_there d cell skip key w out vs none sound mine brings found q g (inl e) = mine q e g
 all_there d cell skip key w out vs none sound mine brings found q g (inr t) =
-    let held = hulls d sound t.from.cell key t.square t.flat in
+    let held = (grown_none (hull_of (cell_at d t.from.cell)) t.square).1 (hulls d sound t.from.cell key t.square t.flat) in
     let inside = subst (λ x. has w x ≡ true) (sym t.image) g in
     let s = some_at (IsVisited t.from t.row t.column t.square) vs none (found t.index t.row t.column t.from t.square t.step t.kept held inside) in
     let v = slice_index_or vs s.0 none in

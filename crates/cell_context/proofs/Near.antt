@@ -11,14 +11,18 @@ use Rattle.geo_base.specs.declared.shapes.Rect.{Rect}
 use Rattle.geo_base.specs.declared.shapes.Square.{Square}
 use Rattle.geo_base.proofs.Spans.{moved_rect-has}
 use Rattle.rect_sets.specs.Rects.{covers}
+use Rattle.flat_layout.specs.Plane.{AreWithin}
+use Rattle.flat_laws.proofs.Moves.{withins, within_back}
 use Rattle.tile_index.specs.Windows.{ArePositions}
 use Rattle.cell_graph.specs.declared.arrays.Interval.{Interval}
 use Rattle.cell_graph.specs.declared.arrays.ElementOrigins.{ElementOrigins}
 use Rattle.cell_graph.specs.declared.cells.Place.{Place}
 use Rattle.cell_graph.specs.Arrays.{IsReach, AreOrigins, SomeOrigin, origin}
+use Rattle.cell_graph.specs.Grown.{grown}
 use Rattle.cell_graph.specs.Linked.{Linked, IsSound, IsStep, HullIsSound, HullHas, hull_of, cell_at, places_at, motion_at}
 use Rattle.cell_graph.specs.Spans.{IsSpan, IsPlaceIn, ArePlacesIn}
 use Rattle.cell_graph.proofs.Bridge.{reference_at, hull_sound, inside_has, or_split, or_left, or_right}
+use Rattle.cell_graph.proofs.Growing.{near_square, within_rect}
 use Rattle.cell_graph.proofs.Ranges.{last_reach, low_origin, high_origin, all_origins, min_one, max_one}
 use Rattle.cell_graph.proofs.Sweeping.{still, span_is}
 use Rattle.cell_context.specs.declared.arrays.Visit.{Visit}
@@ -192,9 +196,13 @@ pub pieces_of : (out start rects set : List Rect) (w : Rect) (q : Square) → st
 pieces_of out start rects set w q none is e = e ∙ ap (λ (l : List Rect). covers l q || (covers rects q && has w q)) none ∙ ap (λ (l : List Rect). covers l q && has w q) is
 
 -- where each reference that the index gives is visited, all that reach into the window are
-pub all_visited : (d : Linked) (cell : ℕ) (skip : Option ℕ) (w : Rect) (near : List ℕ) (visits : List Visit) → IsSound d → ArePlacesIn d cell w near
-    → ((k : ℕ) → k < length near → AreVisitedAt d cell skip w (get_or near k 0) visits) → AreVisited d cell skip w visits
-all_visited d cell skip w near visits sound are found i row column p q step kept held met =
-    let t = (are.each i).1 (reaches d cell i row column p w q sound step held met) in
+pub all_visited : (n : ℕ) (d : Linked) (cell : ℕ) (skip : Option ℕ) (w g : Rect) (near : List ℕ) (visits : List Visit) → IsSound d → g ≡ grown n w → ArePlacesIn d cell g near
+    → ((k : ℕ) → k < length near → AreVisitedAt n d cell skip w (get_or near k 0) visits) → AreVisited n d cell skip w visits
+all_visited n d cell skip w g near visits sound wide are found i row column p q step kept held met =
+    let m = motion_at p row column in
+    let s = near_square n (hull_of (cell_at d p.cell)) q (hull_sound d p.cell sound) held in
+    let close : AreWithin n (moved_square m s.0) (moved_square m q) = (withins n m s.0 q).1 (within_back n q s.0 s.2) in
+    let outer : has g (moved_square m s.0) ≡ true = subst (λ r. has r (moved_square m s.0) ≡ true) (sym wide) (within_rect n w (moved_square m s.0) (moved_square m q) met close) in
+    let t = (are.each i).1 (reaches d cell i row column p g s.0 sound step s.1 outer) in
     let is : get_or near t.0 0 ≡ i = get_or_default near t.0 0 i t.1 ∙ t.2 in
-    (subst (λ (n : ℕ). AreVisitedAt d cell skip w n visits) is (found t.0 t.1)) row column p q step kept held met
+    (subst (λ (j : ℕ). AreVisitedAt n d cell skip w j visits) is (found t.0 t.1)) row column p q step kept held met

@@ -8,8 +8,9 @@ use Rattle.geo_base.specs.declared.shapes.Square.{Square}
 use Rattle.rect_sets.specs.Rects.{covers}
 use Rattle.flat_layout.specs.Layout.{InFlatInput, Some_of}
 use Rattle.cell_graph.specs.declared.cells.Place.{Place}
-use Rattle.cell_graph.specs.Linked.{Linked, IsSound, IsStep, IsFrame, IsInside, HullHas, hull_of}
-use Rattle.cell_graph.specs.Linked.{cell_at, own_of, plain, motion_at}
+use Rattle.cell_graph.specs.Grown.{IsInGrown}
+use Rattle.cell_graph.specs.Linked.{Linked, IsSound, IsStep, IsFrame, IsInside, hull_of, cell_at}
+use Rattle.cell_graph.specs.Linked.{own_of, plain, motion_at}
 use Rattle.cell_context.specs.declared.arrays.Visit.{Visit}
 use Rattle.cell_context.specs.Visits.{IsVisited}
 
@@ -36,8 +37,8 @@ abbrev pub OverLaw : Type 0
 OverLaw = (d : Linked) → IsSound d → (cell : ℕ) (key : LayerKey) (q : Square)
     → IsOver d cell None key q ↔ InFlatInput (plain d) cell key q
 
--- a part of a placed cell that reaches into the window
-pub record IsVisit (d : Linked) (cell : ℕ) (skip : Option ℕ) (w : Rect) (v : Visit) : Type 0 where
+-- a part of a placed cell's hull, grown by n, that reaches into the window
+pub record IsVisit (n : ℕ) (d : Linked) (cell : ℕ) (skip : Option ℕ) (w : Rect) (v : Visit) : Type 0 where
   pub index : ℕ
   pub row : ℕ
   pub column : ℕ
@@ -47,29 +48,30 @@ pub record IsVisit (d : Linked) (cell : ℕ) (skip : Option ℕ) (w : Rect) (v :
   pub cell_is : v.cell ≡ from.cell
   pub motion_is : v.motion ≡ motion_at from row column
   pub near : IsFrame v.window
-  pub held : (q : Square) → has v.window q ≡ true → HullHas (hull_of (cell_at d v.cell)) q
+  pub held : (q : Square) → has v.window q ≡ true → IsInGrown n (hull_of (cell_at d v.cell)) q
   pub has : (q : Square) → has v.window q ≡ true → has w (moved_square v.motion q) ≡ true
 
--- each element's squares that come into the window are visited, of one reference
-abbrev pub AreVisitedOf : Linked → ℕ → ℕ → Place → Rect → List Visit → Type 0
-AreVisitedOf d cell i p w visits = (row column : ℕ) (q : Square) → IsStep d cell i row column p
-    → HullHas (hull_of (cell_at d p.cell)) q
+-- each element's squares, of its grown hull, that come into the window are visited, of one
+-- reference
+abbrev pub AreVisitedOf : ℕ → Linked → ℕ → ℕ → Place → Rect → List Visit → Type 0
+AreVisitedOf n d cell i p w visits = (row column : ℕ) (q : Square) → IsStep d cell i row column p
+    → IsInGrown n (hull_of (cell_at d p.cell)) q
     → has w (moved_square (motion_at p row column) q) ≡ true
     → Some_of (IsVisited p row column q) visits
 
 -- the same of the reference of a number, unless it is skipped
-abbrev pub AreVisitedAt : Linked → ℕ → Option ℕ → Rect → ℕ → List Visit → Type 0
-AreVisitedAt d cell skip w i visits =
+abbrev pub AreVisitedAt : ℕ → Linked → ℕ → Option ℕ → Rect → ℕ → List Visit → Type 0
+AreVisitedAt n d cell skip w i visits =
     (row column : ℕ) (p : Place) (q : Square) → IsStep d cell i row column p → (skip ≡ Some i → ⊥)
-    → HullHas (hull_of (cell_at d p.cell)) q
+    → IsInGrown n (hull_of (cell_at d p.cell)) q
     → has w (moved_square (motion_at p row column) q) ≡ true
     → Some_of (IsVisited p row column q) visits
 
 -- and of all
-abbrev pub AreVisited : Linked → ℕ → Option ℕ → Rect → List Visit → Type 0
-AreVisited d cell skip w visits =
+abbrev pub AreVisited : ℕ → Linked → ℕ → Option ℕ → Rect → List Visit → Type 0
+AreVisited n d cell skip w visits =
     (i row column : ℕ) (p : Place) (q : Square) → IsStep d cell i row column p → (skip ≡ Some i → ⊥)
-    → HullHas (hull_of (cell_at d p.cell)) q
+    → IsInGrown n (hull_of (cell_at d p.cell)) q
     → has w (moved_square (motion_at p row column) q) ≡ true
     → Some_of (IsVisited p row column q) visits
 

@@ -1,6 +1,7 @@
 //! Flat squares of a cell in a window.
 
-ghost use Rattle.std.specs.Prelude.{slice_get, ◌≡◌, ◌↔◌, ◌||◌, ◌&&◌, ◌<◌, ◌^◌, ℕ, OnOk, IfOk, true};
+ghost use Rattle.std.specs.Prelude.{slice_get, ◌≡◌, ◌↔◌, ◌||◌, ◌&&◌, ◌<◌, ◌≤◌, ◌^◌, ℕ, OnOk, IfOk};
+ghost use Rattle.std.specs.Prelude.{true};
 ghost use Rattle.std.specs.Prelude.{length, Option, Some, None};
 ghost use Rattle.std.specs.List.{All};
 ghost use Rattle.geo_base.specs.Near.{IsNearMotion, IsNearRect};
@@ -17,6 +18,7 @@ ghost use Rattle.tile_index.specs.Windows.{ArePositions};
 ghost use Rattle.cell_graph.specs.declared.cells.Place.{Place};
 
 use crate::arrays::{Visit, meet, place_visits};
+use crate::growth::grown;
 use cell_graph::{Design, Place};
 use geo_base::{LayerKey, Motion, Rect};
 use rect_sets::RectSet;
@@ -90,13 +92,15 @@ fn push_visits(
     place: &Place,
     window: &Rect,
     skip: Option<usize>,
+    by: u32,
 ) -> Result<(), AllocError>
     requires there { slice_get (places_at (cell_at design.now cell)) index ≡ Some place.now }
     requires kept { skip ≡ Some index → ⊥ }
     requires window { IsRectWithin (2 ^ 39) window.now }
-    requires each { All (IsVisit design.now cell skip window.now) out.old.items }
-    ensures each { OnOk result (All (IsVisit design.now cell skip window.now) out.new.items) }
-    ensures found { OnOk result (AreVisitedOf design.now cell index place.now window.now
+    requires by { by ≤ 20001 }
+    requires each { All (IsVisit by design.now cell skip window.now) out.old.items }
+    ensures each { OnOk result (All (IsVisit by design.now cell skip window.now) out.new.items) }
+    ensures found { OnOk result (AreVisitedOf by design.now cell index place.now window.now
         out.new.items) }
     ensures stay { OnOk result ((row column : ℕ) (p : Place) (q : Square)
         → Some_of (IsVisited p row column q) out.old.items
@@ -104,7 +108,8 @@ fn push_visits(
 {
     design.sound();
     if let Some(hull) = design.hull(place.cell) {
-        let more = place_visits(alloc, place, &hull, window)?;
+        let wide = grown(&hull, by);
+        let more = place_visits(alloc, place, &wide, window)?;
         out.extend_from_slice(&more)?;
     }
     Ok(())
@@ -119,13 +124,16 @@ fn push_kept(
     index: usize,
     window: &Rect,
     skip: Option<usize>,
+    by: u32,
 ) -> Result<(), AllocError>
     requires cell { cell < length design.now.cells }
     requires there { index < length (places_at (cell_at design.now cell)) }
     requires window { IsRectWithin (2 ^ 39) window.now }
-    requires each { All (IsVisit design.now cell skip window.now) out.old.items }
-    ensures each { OnOk result (All (IsVisit design.now cell skip window.now) out.new.items) }
-    ensures found { OnOk result (AreVisitedAt design.now cell skip window.now index out.new.items) }
+    requires by { by ≤ 20001 }
+    requires each { All (IsVisit by design.now cell skip window.now) out.old.items }
+    ensures each { OnOk result (All (IsVisit by design.now cell skip window.now) out.new.items) }
+    ensures found { OnOk result (AreVisitedAt by design.now cell skip window.now index
+        out.new.items) }
     ensures stay { OnOk result ((row column : ℕ) (p : Place) (q : Square)
         → Some_of (IsVisited p row column q) out.old.items
         → Some_of (IsVisited p row column q) out.new.items) }
@@ -134,28 +142,32 @@ fn push_kept(
         return Ok(());
     }
     let place = &design.places(cell)[index];
-    push_visits(alloc, out, design, cell, index, place, window, skip)
+    push_visits(alloc, out, design, cell, index, place, window, skip, by)
 }
 
-/// The elements of a cell's references whose images reach into a window, but for one reference to
-/// be skipped. The design's index finds the references: the others cost nothing.
+/// The elements of a cell's references whose hulls, grown by so many squares on each side, come
+/// into a window, but for one reference to be skipped. The design's index finds the references: the
+/// others cost nothing.
 pub fn visits(
     alloc: Global,
     design: &Design,
     cell: u32,
     window: &Rect,
     skip: Option<usize>,
+    by: u32,
 ) -> Result<Vec<Visit>, AllocError>
     requires cell { cell < length design.now.cells }
     requires window { IsRectWithin (2 ^ 39) window.now }
-    ensures each { IfOk result (λ v. All (IsVisit design.now cell skip window.now) v.items) }
-    ensures found { IfOk result (λ v. AreVisited design.now cell skip window.now v.items) }
+    requires by { by ≤ 20001 }
+    ensures each { IfOk result (λ v. All (IsVisit by design.now cell skip window.now) v.items) }
+    ensures found { IfOk result (λ v. AreVisited by design.now cell skip window.now v.items) }
 {
     design.sound();
     let mut out = Vec::new(alloc);
-    let near = design.places_in(alloc, cell, *window)?;
+    let wide = grown(window, by);
+    let near = design.places_in(alloc, cell, wide)?;
     for i in &near {
-        push_kept(alloc, &mut out, design, cell, *i as usize, window, skip)?;
+        push_kept(alloc, &mut out, design, cell, *i as usize, window, skip, by)?;
     }
     Ok(out)
 }
@@ -182,7 +194,7 @@ pub fn gather(
     let mut out = Vec::new(alloc);
     let near = design.own_in(alloc, cell, key, *window)?;
     push_pieces(&mut out, design.own(cell, key).rects(), &near, window)?;
-    let list = visits(alloc, design, cell, window, skip)?;
+    let list = visits(alloc, design, cell, window, skip, 0)?;
     for visit in &list {
         let below = gather(alloc, design, visit.cell, key, &visit.window, None)?;
         push_images(&mut out, &below, &visit.motion, window)?;

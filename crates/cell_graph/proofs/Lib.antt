@@ -1,5 +1,6 @@
 pub mod Elements
 pub mod Bridge
+pub mod Growing
 pub mod Seeing
 pub mod Ordered
 pub mod Raising

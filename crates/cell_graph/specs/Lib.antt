@@ -1,4 +1,5 @@
 pub mod Linked
+pub mod Grown
 pub mod Inside
 pub mod Laws
 pub mod Chains

@@ -49,6 +49,7 @@ pub fn find_layers<R: Threads + Wait + Sync, G: Gate + Sync>(
     gate: &G,
 ) -> Result<Layers, AllocError>
     requires workers { (1 ≤ workers) × (workers ≤ 64) }
+    requires rules { IsSound (rules_seen rules.now) }
     requires zones { AreZones (plain design.now) (rules_seen rules.now) zones.now }
     ensures { IfOk result (AreLayers (plain design.now) (rules_seen rules.now)) }
 {

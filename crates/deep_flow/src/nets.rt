@@ -36,6 +36,7 @@ pub fn find_nets<R: Threads + Wait + Sync, G: Gate + Sync>(
     gate: &G,
 ) -> Result<Nets, AllocError>
     requires workers { (1 ≤ workers) × (workers ≤ 64) }
+    requires rules { IsSound (rules_seen rules.now) }
     requires layers { AreLayers (plain design.now) (rules_seen rules.now) layers.now }
     ensures { IfOk result (AreNets (plain design.now) (rules_seen rules.now)) }
 {

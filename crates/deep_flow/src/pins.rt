@@ -6,6 +6,7 @@ ghost use Rattle.deep_tables.specs.Layers.{AreLayers};
 ghost use Rattle.deep_tables.specs.Nets.{AreNets};
 ghost use Rattle.deep_tables.specs.Pins.{ArePins};
 ghost use Rattle.rule_text.specs.Seen.{rules_seen};
+ghost use Rattle.rule_text.specs.Sound.{IsSound};
 
 use cell_graph::Design;
 use deep_tables::{Gates, Layers, Nets, Pins};
@@ -31,6 +32,7 @@ pub fn find_pins<R: Threads + Wait + Sync, G: Gate + Sync>(
     gate: &G,
 ) -> Result<Pins, AllocError>
     requires workers { (1 ≤ workers) × (workers ≤ 64) }
+    requires rules { IsSound (rules_seen rules.now) }
     requires layers { AreLayers (plain design.now) (rules_seen rules.now) layers.now }
     requires nets { AreNets (plain design.now) (rules_seen rules.now) nets.now }
     requires gates { AreGates (plain design.now) (rules_seen rules.now) gates.now }

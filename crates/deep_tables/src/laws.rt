@@ -37,7 +37,7 @@ pub fn layer_table()
     ensures empty { EmptyLayerLaw }
 {}
 
-/// Disturbed squares in a hull grown by one, by the hull that the design has.
+/// Disturbed squares in a grown hull, by the hull that the design has.
 pub fn zone_frames()
     ensures { FrameLaw }
 {}

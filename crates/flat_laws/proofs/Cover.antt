@@ -1,7 +1,7 @@
 -- What the cells hold covers what a cell keeps.
 use Rattle.std.proofs.Common.{◌⊎◌, inl, inr, ℕ, zero, suc, ◌<◌, ◌++◌, List, [], ◌∷◌, refl, sym, subst, arith}
 use Rattle.flat_laws.specs.LayerLaws.{CoverLaw}
-use Rattle.flat_layout.specs.Layers.{Formula, Input, Empty, Binary, inputs, reach, IsKept, IsKeptBelow, IsLocal, IsCovered}
+use Rattle.flat_layout.specs.Layers.{Formula, Input, Empty, Binary, Sized, inputs, reach, IsCalmFlat, IsKept, IsKeptBelow, IsLocal, IsCovered}
 use Rattle.flat_layout.specs.Layout.{Place, Design, IsPlaced, Leads, Takes, IsReached, IsHeight}
 use Rattle.geo_base.specs.Motions.{moved_square}
 use Rattle.geo_base.specs.declared.shapes.Square.{Square}
@@ -14,17 +14,22 @@ leads_on d from mid to k p (j ∷ ks) h placed = (h.0, h.1, leads_on d h.0.cell 
 pub reached_below : (d : Design) (cell k : ℕ) (p : Place) → IsReached d cell → IsPlaced d cell k p → IsReached d p.cell
 reached_below d cell k p r placed = record { path = r.path ++ k ∷ []; leads = leads_on d d.top cell p.cell k p r.path r.leads placed }
 
+calm_flat_above : (d : Design) (cell k : ℕ) (p : Place) (name : Formula) (q : Square) → IsReached d cell → IsPlaced d cell k p → IsCalmFlat d p.cell name q → IsCalmFlat d cell name (moved_square p.motion q)
+calm_flat_above d cell k p name q reached placed h =
+    ((same_flat d name cell k p q reached placed h.1).1 h.0, stirless_above d (inputs name) (reach name) cell k p q placed h.1)
+
 -- what a placed cell keeps, its parent keeps
 pub kept_above : (d : Design) (cell k : ℕ) (p : Place) (name : Formula) (q : Square) → IsReached d cell → IsPlaced d cell k p → IsKept d p.cell name q → IsKept d cell name (moved_square p.motion q)
 kept_above d cell k p (Input key) q reached placed kept = record { path = k ∷ kept.path; end = kept.end; square = kept.square; takes = (p, placed, q, kept.takes, refl); own = kept.own }
 kept_above d cell k p Empty q reached placed kept = kept
-kept_above d cell k p (Binary op a b) q reached placed kept =
-    ((same_flat d (Binary op a b) cell k p q reached placed kept.1).1 kept.0, stirless_above d (inputs (Binary op a b)) (reach (Binary op a b)) cell k p q placed kept.1)
+kept_above d cell k p (Binary op a b) q reached placed kept = calm_flat_above d cell k p (Binary op a b) q reached placed kept
+kept_above d cell k p (Sized by a) q reached placed kept = calm_flat_above d cell k p (Sized by a) q reached placed kept
 
 pub kept_here : (d : Design) (cell : ℕ) (name : Formula) (q : Square) → IsLocal d cell name q → IsKept d cell name q
 kept_here d cell (Input key) q h = record { path = []; end = cell; square = q; takes = (refl, refl); own = h }
 kept_here d cell Empty q h = h
 kept_here d cell (Binary op a b) q h = h.0
+kept_here d cell (Sized by a) q h = h.0
 
 kept_along : (d : Design) (name : Formula) (path : List ℕ) (cell end : ℕ) (s q : Square) → IsReached d cell → Takes d cell path end s q → IsLocal d end name s → IsKept d cell name q
 kept_along d name [] cell end s q reached takes here =

@@ -1,16 +1,16 @@
 -- What isn't disturbed in a placed cell isn't in its parent, and derived names stay the same where nothing is disturbed in their reach.
-use Rattle.std.proofs.Common.{◌≡◌, inl, inr, ◌↔◌, ℕ, max, ◌≤◌, List, [], ◌∷◌, ◌++◌, refl, sym, subst, ◌∙◌, ap, append_assoc}
+use Rattle.std.proofs.Common.{◌≡◌, inl, inr, ◌↔◌, ℕ, suc, ◌+◌, max, ◌≤◌, ℤ, pos, negsuc, unsigned_abs, List, [], ◌∷◌, ◌++◌, refl, sym, subst, ◌∙◌, ap, append_assoc}
 use Rattle.std.proofs.Math.Nat.{le-max_left, le-max_right}
-use Rattle.flat_laws.specs.LayerLaws.{CalmLaw, NameStillLaw, NearInputLaw, SameFlatLaw, StillLaw}
-use Rattle.flat_layout.specs.Layers.{Formula, Input, Empty, Binary, inputs, reach, Combines, InFlat, IsStirred}
+use Rattle.flat_laws.specs.LayerLaws.{CalmLaw, NearInputLaw, SameFlatLaw, StillLaw}
+use Rattle.flat_layout.specs.Layers.{Formula, Input, Empty, Binary, Sized, inputs, reach, Combines, InFlat, IsStirred}
 use Rattle.flat_layout.specs.Layout.{Place, Design, Some_of, IsPlaced, Takes, InFlatInput, IsPrefix, IsDisturbed}
-use Rattle.flat_layout.specs.Plane.{AreWithin}
+use Rattle.flat_layout.specs.Plane.{AreWithin, IsSized}
 use Rattle.geo_base.specs.declared.layer.LayerKey.{LayerKey}
 use Rattle.geo_base.specs.Motions.{moved_square}
 use Rattle.geo_base.specs.declared.layer.Op.{Op}
 use Rattle.geo_base.specs.declared.layer.Op.TheVariants.{And, Or, Not, Xor}
 use Rattle.geo_base.specs.declared.shapes.Square.{Square}
-use Rattle.flat_laws.proofs.Moves.{onto, withins, within_same, within_none, wider}
+use Rattle.flat_laws.proofs.Moves.{onto, withins, within_same, within_none, wider, farther}
 use Rattle.flat_laws.proofs.Paths.{joined, law}
 
 pub extends : (d : Design) (from mid k : ℕ) (p : Place) (ks : List ℕ) (s q : Square) → Takes d from ks mid (moved_square p.motion s) q → IsPlaced d mid k p → Takes d from (ks ++ k ∷ []) p.cell s q
@@ -51,17 +51,6 @@ still d keys cell q = (
   stirs d keys 0 cell q,
 )
 
-pub reach_none : (name : Formula) → reach name ≡ 0
-reach_none (Input key) = refl
-reach_none Empty = refl
-reach_none (Binary op a b) = ap (λ n. max n (reach b)) (reach_none a) ∙ ap (λ n. max 0 n) (reach_none b)
-
-pub name_still : NameStillLaw
-name_still d name cell q = (
-  (λ h. (still d (inputs name) cell q).0 (subst (λ n. IsStirred d (inputs name) n cell q) (reach_none name) h)),
-  stirs d (inputs name) (reach name) cell q,
-)
-
 pub more_left : (P : LayerKey → Type 0) (xs ys : List LayerKey) → Some_of P xs → Some_of P (xs ++ ys)
 more_left P [] ys h = absurd h
 more_left P (x ∷ xs) ys (inl h) = inl h
@@ -91,6 +80,27 @@ left_part d a b cell q h = fewer_stirred d (inputs a) (inputs a ++ inputs b) (re
 right_part : (d : Design) (a b : Formula) (cell : ℕ) (q : Square) → IsStirred d (inputs b) (reach b) cell q → IsStirred d (inputs a ++ inputs b) (max (reach a) (reach b)) cell q
 right_part d a b cell q h = fewer_stirred d (inputs b) (inputs a ++ inputs b) (reach b) (max (reach a) (reach b)) cell q (le-max_right (reach a) (reach b)) (λ key l. more_right (λ j. j ≡ key) (inputs a) (inputs b) l) h
 
+-- what is stirred near a near square is stirred here
+farther_stirred : (d : Design) (keys : List LayerKey) (m n cell : ℕ) (z q : Square) → AreWithin n z q → IsStirred d keys m cell z → IsStirred d keys (m + n) cell q
+farther_stirred d keys m n cell z q near h = record { square = h.square; within = farther m n h.square z q h.within near; disturbed = h.disturbed }
+
+-- a sized set is the same where all within the size is
+same_size : (set there : Square → Type 0) (p : Place) (by : ℤ) (q : Square) → ((z : Square) → AreWithin (unsigned_abs by) z q → there (moved_square p.motion z) ↔ set z) → IsSized by there (moved_square p.motion q) ↔ IsSized by set q
+same_size set there p (pos n) q same = (
+  (λ h.
+      let o = onto p.motion h.square in
+      let near : AreWithin n o.0 q = (withins n p.motion o.0 q).0 (subst (λ z. AreWithin n z (moved_square p.motion q)) (sym o.1) h.within) in
+      record { square = o.0; within = near; has = (same o.0 near).0 (subst (λ z. there z) (sym o.1) h.has) }),
+  (λ h. record { square = moved_square p.motion h.square; within = (withins n p.motion h.square q).1 h.within; has = (same h.square h.within).1 h.has }),
+)
+same_size set there p (negsuc n) q same = (
+  (λ h z near. (same z near).0 (h (moved_square p.motion z) ((withins (suc n) p.motion z q).1 near))),
+  (λ h z near.
+      let o = onto p.motion z in
+      let close : AreWithin (suc n) o.0 q = (withins (suc n) p.motion o.0 q).0 (subst (λ v. AreWithin (suc n) v (moved_square p.motion q)) (sym o.1) near) in
+      subst (λ v. there v) o.1 ((same o.0 close).1 (h o.0 close))),
+)
+
 pub same_flat : SameFlatLaw
 same_flat d (Input key) parent k p q reached placed calm = law d (key ∷ []) key parent k p q reached placed (inl refl) (λ h. calm (stirs d (key ∷ []) 0 p.cell q h))
 same_flat d Empty parent k p q reached placed calm = ((λ h. h), (λ h. h))
@@ -100,6 +110,9 @@ same_flat d (Binary op a b) parent k p q reached placed calm =
       (λ h. combined op _ _ _ _ one two h),
       (λ h. combined op _ _ _ _ (one.1, one.0) (two.1, two.0) h),
     )
+same_flat d (Sized by a) parent k p q reached placed calm =
+    same_size (InFlat d p.cell a) (InFlat d parent a) p by q
+    (λ z near. same_flat d a parent k p z reached placed (λ h. calm (farther_stirred d (inputs a) (reach a) (unsigned_abs by) p.cell z q near h)))
 
 abbrev IsNearInput : Design → ℕ → Formula → Square → Type 0
 IsNearInput d cell name q = (key : LayerKey) × Some_of (λ k. k ≡ key) (inputs name) × (z : Square) × AreWithin (reach name) z q × InFlatInput d cell key z
@@ -110,6 +123,11 @@ from_left d cell op a b q h = (h.0, more_left (λ j. j ≡ h.0) (inputs a) (inpu
 from_right : (d : Design) (cell : ℕ) (op : Op) (a b : Formula) (q : Square) → IsNearInput d cell b q → IsNearInput d cell (Binary op a b) q
 from_right d cell op a b q h = (h.0, more_right (λ j. j ≡ h.0) (inputs a) (inputs b) h.1, h.2, wider (reach b) (max (reach a) (reach b)) h.2 q (le-max_right (reach a) (reach b)) h.3, h.4)
 
+-- a square of the sized set comes from one of the set within the size
+from_size : (set : Square → Type 0) (by : ℤ) (q : Square) → IsSized by set q → (z : Square) × AreWithin (unsigned_abs by) z q × set z
+from_size set (pos n) q h = (h.square, h.within, h.has)
+from_size set (negsuc n) q h = (q, within_same (suc n) q, h q (within_same (suc n) q))
+
 pub near_input : NearInputLaw
 near_input d cell (Input key) q h = (key, inl refl, q, within_same 0 q, h)
 near_input d cell Empty q h = absurd h
@@ -119,10 +137,7 @@ near_input d cell (Binary Or a b) q (inr h) = from_right d cell Or a b q (near_i
 near_input d cell (Binary Not a b) q h = from_left d cell Not a b q (near_input d cell a q h.0)
 near_input d cell (Binary Xor a b) q (inl h) = from_left d cell Xor a b q (near_input d cell a q h.0)
 near_input d cell (Binary Xor a b) q (inr h) = from_right d cell Xor a b q (near_input d cell b q h.0)
-
--- a flat square of a name lies under a shape on one of its inputs
-pub under_input : (d : Design) (cell : ℕ) (name : Formula) (q : Square) → InFlat d cell name q → (key : LayerKey) × Some_of (λ k. k ≡ key) (inputs name) × InFlatInput d cell key q
-under_input d cell name q h =
-    let r = near_input d cell name q h in
-    let near : AreWithin 0 r.2 q = subst (λ n. AreWithin n r.2 q) (reach_none name) r.3 in
-    (r.0, r.1, subst (λ z. InFlatInput d cell r.0 z) (within_none r.2 q near) r.4)
+near_input d cell (Sized by a) q h =
+    let z = from_size (InFlat d cell a) by q h in
+    let r = near_input d cell a z.0 z.2 in
+    (r.0, r.1, r.2, farther (reach a) (unsigned_abs by) r.2 z.0 q r.3 z.1, r.4)

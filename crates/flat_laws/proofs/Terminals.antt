@@ -4,7 +4,7 @@ use Rattle.flat_laws.specs.GateLaws.{GroundNodeLaw, IsReadWhole, TerminalNodeLaw
 use Rattle.flat_laws.specs.LayerLaws.{TopKeptLaw}
 use Rattle.flat_layout.specs.Gates.{Rule, Geometry, geometry, ground, IsReadBy, IsStep, InGate, InSide, InOneGroup, Edge, IsWide, IsSettled, Ends, TwoGroups, Region, Form, Beside, Alone, Kind, Mos, Resistor, Diode, form_of, gate_sheet, sheets, IsRegionNode, IsGroupNode, IsGateNode, IsTerminalNode}
 use Rattle.flat_layout.specs.Parts.{AllOn, IsGoodForm}
-use Rattle.flat_layout.specs.Layers.{Formula, Input, Empty, Binary, inputs, reach, InFlat, IsKept, IsStirred}
+use Rattle.flat_layout.specs.Layers.{Formula, Input, Empty, Binary, Sized, inputs, reach, InFlat, IsKept, IsStirred}
 use Rattle.flat_layout.specs.Layout.{Design}
 use Rattle.flat_layout.specs.Regions.{Wiring, Node, At, Ground, IsNode, IsLink, InOneRegion, formula, ground_of, kept}
 use Rattle.geo_base.specs.declared.shapes.Square.{Square}
@@ -22,11 +22,13 @@ pub keep : (d : Design) (g : Geometry) (cell : ℕ) (name : Formula) (q : Square
 keep d g cell (Input key) q read calm h = h
 keep d g cell Empty q read calm h = h
 keep d g cell (Binary op a b) q read calm h = (h, λ k. calm (fewer_stirred d (inputs (Binary op a b)) g.keys (reach (Binary op a b)) g.reach cell q read.reach read.keys k))
+keep d g cell (Sized by a) q read calm h = (h, λ k. calm (fewer_stirred d (inputs (Sized by a)) g.keys (reach (Sized by a)) g.reach cell q read.reach read.keys k))
 
 pub top_kept : TopKeptLaw
 top_kept d height (Input key) q linked = ((λ h. h), (λ h. h))
 top_kept d height Empty q linked = ((λ h. h), (λ h. h))
 top_kept d height (Binary op a b) q linked = ((λ h. h.0), (λ h. (h, λ g. calm_top d height linked (inputs (Binary op a b)) g.square g.disturbed)))
+top_kept d height (Sized by a) q linked = ((λ h. h.0), (λ h. (h, λ g. calm_top d height linked (inputs (Sized by a)) g.square g.disturbed)))
 
 module _ (d : Design) (w : Wiring) (u : Rule) (cell : ℕ) (s : Square) (settled : IsSettled d (geometry w u) cell s) where
   abbrev geo : Geometry

@@ -30,11 +30,6 @@ abbrev pub StillLaw : Type 0
 StillLaw = (d : Design) (keys : List LayerKey) (cell : ℕ) (q : Square) → IsStirred d keys 0 cell q
     ↔ IsDisturbed d keys cell q
 
--- no name reaches further than its square
-abbrev pub NameStillLaw : Type 0
-NameStillLaw = (d : Design) (name : Formula) (cell : ℕ) (q : Square)
-    → IsStirred d (inputs name) (reach name) cell q ↔ IsDisturbed d (inputs name) cell q
-
 -- a flat square of a name lies within its reach of a shape on one of its inputs
 abbrev pub NearInputLaw : Type 0
 NearInputLaw = (d : Design) (cell : ℕ) (name : Formula) (q : Square) → InFlat d cell name q

@@ -1,75 +1,71 @@
--- Which gates of a cell are its own, by a sound geometry that reaches no further than its squares.
-use Rattle.std.specs.Prelude.{◌↔◌, ℕ, Bool, true, ◌≡◌, ◌⊎◌}
+-- Which gates of a cell are its own, by a sound geometry.
+use Rattle.std.specs.Prelude.{◌↔◌, ℕ, ◌+◌, Bool, true, ◌≡◌, ◌⊎◌}
 use Rattle.flat_layout.specs.Gates.{Geometry, InGate, IsGateBelow, IsGateOrRing, IsListedGate}
-use Rattle.flat_layout.specs.Gates.{IsSettled, Rule, geometry}
-use Rattle.flat_layout.specs.Layers.{InFlat, IsKept}
-use Rattle.flat_layout.specs.Layout.{Design, IsDisturbed, IsPlaced, IsReached, Place}
+use Rattle.flat_layout.specs.Gates.{IsSettled, IsSoundGeometry}
+use Rattle.flat_layout.specs.Layers.{InFlat, IsKept, IsStirred}
+use Rattle.flat_layout.specs.Layout.{Design, IsPlaced, IsReached, Place}
 use Rattle.flat_layout.specs.Parts.{InPart}
-use Rattle.flat_layout.specs.Plane.{IsAround}
-use Rattle.flat_layout.specs.Regions.{Wiring}
-use Rattle.flat_layout.specs.Seeds.{IsInReach, IsOwnSeed, IsSeed, IsGateThrough, IsFreeThrough}
-use Rattle.flat_layout.specs.Seeds.{IsCalmPart, IsClosed, IsStillGeometry}
+use Rattle.flat_layout.specs.Plane.{AreWithin, IsAround}
+use Rattle.flat_layout.specs.Seeds.{IsInReach, IsOwnSeed, IsNearSeed, IsGateThrough}
+use Rattle.flat_layout.specs.Seeds.{IsFreeThrough, IsCalmPart, IsClosed}
 use Rattle.geo_base.specs.Motions.{moved_square}
 use Rattle.geo_base.specs.declared.shapes.Square.{Square}
 
--- a rule's geometry is one
-abbrev pub GateStillLaw : Type 0
-GateStillLaw = (w : Wiring) (u : Rule) → IsStillGeometry (geometry w u)
-
 -- all that is close to a gate lies in reach of the cell
 abbrev pub ReachLaw : Type 0
-ReachLaw = (d : Design) (g : Geometry) (cell : ℕ) (s q : Square) → IsStillGeometry g
-    → IsGateOrRing d g cell s q → IsInReach d g.keys cell q
+ReachLaw = (d : Design) (g : Geometry) (cell : ℕ) (s q : Square) → IsSoundGeometry g
+    → IsGateOrRing d g cell s q → IsInReach d g.keys (g.reach + 1) cell q
 
--- a gate that touches no seed is the image of a settled one
+-- a gate near which there is no seed is the image of a settled one
 abbrev pub SeedLaw : Type 0
-SeedLaw = (d : Design) (g : Geometry) (cell : ℕ) (s : Square) → IsStillGeometry g → IsReached d cell
+SeedLaw = (d : Design) (g : Geometry) (cell : ℕ) (s : Square) → IsSoundGeometry g → IsReached d cell
     → InFlat d cell g.region s
-    → ((q : Square) → IsGateOrRing d g cell s q → IsSeed d g.keys cell q → ⊥)
+    → ((q : Square) → IsGateOrRing d g cell s q → IsNearSeed d g cell q → ⊥)
     → IsGateBelow d g cell s
 
 -- a gate is the image of a settled one through a placement exactly where what is close to it is
 -- free there
 abbrev pub ThroughLaw : Type 0
-ThroughLaw = (d : Design) (g : Geometry) (cell k : ℕ) (p : Place) (s : Square) → IsStillGeometry g
+ThroughLaw = (d : Design) (g : Geometry) (cell k : ℕ) (p : Place) (s : Square) → IsSoundGeometry g
     → IsReached d cell → IsPlaced d cell k p → InFlat d cell g.region s
     → IsGateThrough d g cell s p ↔ IsFreeThrough d g cell s p
 
--- that nothing close to it is disturbed there is enough
+-- that within reach of what is close to it nothing is disturbed there is enough
 abbrev pub CalmThroughLaw : Type 0
 CalmThroughLaw = (d : Design) (g : Geometry) (cell k : ℕ) (p : Place) (s : Square)
-    → IsStillGeometry g → IsReached d cell → IsPlaced d cell k p → InFlat d cell g.region s
+    → IsSoundGeometry g → IsReached d cell → IsPlaced d cell k p → InFlat d cell g.region s
     → ((q : Square) → IsGateOrRing d g cell s (moved_square p.motion q)
-    → IsDisturbed d g.keys p.cell q → ⊥) → IsGateThrough d g cell s p
+    → IsStirred d g.keys g.reach p.cell q → ⊥) → IsGateThrough d g cell s p
 
--- the test by tables: a set that has all in reach of the placed cell, and the disturbed squares of
--- that set
+-- the test by tables: a set that has all in reach of the placed cell, and which of its squares lie
+-- within reach of disturbed ones
 abbrev pub TestLaw : Type 0
 TestLaw = (d : Design) (g : Geometry) (cell k : ℕ) (p : Place) (s : Square)
-    (hull zones : Square → Bool) → IsStillGeometry g → IsReached d cell → IsPlaced d cell k p
+    (hull stirred : Square → Bool) → IsSoundGeometry g → IsReached d cell → IsPlaced d cell k p
     → InFlat d cell g.region s
-    → ((q : Square) → IsInReach d g.keys p.cell q → hull q ≡ true)
-    → ((q : Square) → hull q ≡ true → (zones q ≡ true) ↔ IsDisturbed d g.keys p.cell q)
+    → ((q : Square) → IsInReach d g.keys (g.reach + 1) p.cell q → hull q ≡ true)
+    → ((q : Square) → hull q ≡ true → (stirred q ≡ true)
+    ↔ IsStirred d g.keys g.reach p.cell q)
     → IsGateThrough d g cell s p ↔ ((q : Square) → IsGateOrRing d g cell s (moved_square p.motion q)
-    → (hull q ≡ true) × (zones q ≡ true → ⊥))
+    → (hull q ≡ true) × (stirred q ≡ true → ⊥))
 
 -- and it is the image of one at all exactly where it is through some placement
 abbrev pub BelowLaw : Type 0
 BelowLaw =
-    (d : Design) (g : Geometry) (cell : ℕ) (s : Square) → IsStillGeometry g → IsReached d cell
+    (d : Design) (g : Geometry) (cell : ℕ) (s : Square) → IsSoundGeometry g → IsReached d cell
     → IsGateBelow d g cell s ↔ ((k : ℕ) × (p : Place) × IsPlaced d cell k p
     × IsGateThrough d g cell s p)
 
--- a gate that touches an own shape isn't
+-- a gate within whose reach there is an own shape isn't
 abbrev pub OwnSeedLaw : Type 0
-OwnSeedLaw = (d : Design) (g : Geometry) (cell : ℕ) (s q : Square) → IsStillGeometry g
+OwnSeedLaw = (d : Design) (g : Geometry) (cell : ℕ) (s q z : Square) → IsSoundGeometry g
     → IsReached d cell → InFlat d cell g.region s → IsGateOrRing d g cell s q
-    → IsOwnSeed d g.keys cell q → IsGateBelow d g cell s → ⊥
+    → AreWithin g.reach z q → IsOwnSeed d g.keys cell z → IsGateBelow d g cell s → ⊥
 
 -- a part of the kept gate squares that nothing disturbs close by is a settled gate, and each
 -- settled gate is one
 abbrev pub KeptPartLaw : Type 0
-KeptPartLaw = (d : Design) (g : Geometry) (cell : ℕ) (s : Square) → IsStillGeometry g
+KeptPartLaw = (d : Design) (g : Geometry) (cell : ℕ) (s : Square) → IsSoundGeometry g
     → IsKept d cell g.region s
     → (IsCalmPart d g cell s ↔ IsSettled d g cell s)
     × (IsSettled d g cell s → (q : Square) → InPart (IsKept d cell g.region) s q
@@ -82,11 +78,11 @@ ClosedLaw = (d : Design) (g : Geometry) (cell : ℕ) (found : Square → Bool) �
     ↔ InPart (IsKept d cell g.region) s q
 
 -- of a settled gate it is known whether it is the cell's own, where it is known of those that were
--- found, and all that touch a seed were
+-- found, and all that are near a seed were
 abbrev pub PartedLaw : Type 0
-PartedLaw = (d : Design) (g : Geometry) (cell : ℕ) (found : Square → Bool) → IsStillGeometry g
+PartedLaw = (d : Design) (g : Geometry) (cell : ℕ) (found : Square → Bool) → IsSoundGeometry g
     → IsReached d cell → IsClosed d g cell found
-    → ((a q : Square) → IsKept d cell g.region a → IsAround a q → IsSeed d g.keys cell q
+    → ((a q : Square) → IsKept d cell g.region a → IsAround a q → IsNearSeed d g cell q
     → found a ≡ true)
     → ((s : Square) → found s ≡ true → IsSettled d g cell s → IsListedGate d g cell s
     ⊎ IsGateBelow d g cell s)

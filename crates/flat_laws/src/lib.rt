@@ -10,14 +10,14 @@ ghost use Rattle.flat_laws.specs.GateLaws.{ReadLayersLaw, KeptGateLaw, KeptFormL
 ghost use Rattle.flat_laws.specs.GateLaws.{GateLaw, TopLaw, TerminalNodeLaw, GroundNodeLaw};
 ghost use Rattle.flat_laws.specs.GateLaws.{GoodInLaw, OneCountLaw, OneSizesLaw};
 ghost use Rattle.flat_laws.specs.GateLaws.{NotBothLaw, OneCauseLaw, SameGateLaw, CauseAlongLaw};
-ghost use Rattle.flat_laws.specs.LayerLaws.{ZoneLaw, UndisturbedLaw, StillLaw, NameStillLaw};
+ghost use Rattle.flat_laws.specs.LayerLaws.{ZoneLaw, UndisturbedLaw, StillLaw};
 ghost use Rattle.flat_laws.specs.LayerLaws.{NearInputLaw, CalmLaw, SameFlatLaw, CoverLaw};
 ghost use Rattle.flat_laws.specs.LayerLaws.{TopKeptLaw};
 ghost use Rattle.flat_laws.specs.NetLaws.{TouchLaw, RegionLaw, OneParentLaw, OneTableLaw, ReadLaw};
 ghost use Rattle.flat_laws.specs.NetLaws.{TogetherLaw};
 ghost use Rattle.flat_laws.specs.NetlistLaws.{RowsLaw, PlannedLaw, PartLaw, NetLaw, NetlistLaw};
 ghost use Rattle.flat_laws.specs.NetlistLaws.{EqualPolesLaw, FlatNetlistLaw, FlatRegionLaw};
-ghost use Rattle.flat_laws.specs.SeedLaws.{GateStillLaw, ReachLaw, SeedLaw, ThroughLaw};
+ghost use Rattle.flat_laws.specs.SeedLaws.{ReachLaw, SeedLaw, ThroughLaw};
 ghost use Rattle.flat_laws.specs.SeedLaws.{CalmThroughLaw, TestLaw, BelowLaw, OwnSeedLaw};
 ghost use Rattle.flat_laws.specs.SeedLaws.{KeptPartLaw, ClosedLaw, PartedLaw};
 
@@ -26,10 +26,9 @@ pub fn zones()
     ensures { ZoneLaw }
 {}
 
-/// What lies within the reach of a name: for the names of today the square itself.
+/// What lies within the reach of a name: of an input layer the square itself.
 pub fn reaches()
     ensures still { StillLaw }
-    ensures name { NameStillLaw }
     ensures near { NearInputLaw }
 {}
 
@@ -92,7 +91,6 @@ pub fn verdicts()
 /// A cell's own gates touch its own shapes or what placed cells leave open, and which come from
 /// below is told by squares.
 pub fn own_gates()
-    ensures still { GateStillLaw }
     ensures reach { ReachLaw }
     ensures seed { SeedLaw }
     ensures through { ThroughLaw }

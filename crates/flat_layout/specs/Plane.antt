@@ -1,5 +1,5 @@
--- Unit squares beside and around each other, and in rectangles.
-use Rattle.std.specs.Prelude.{◌≡◌, ◌⊎◌, ℕ, ◌≤ℤ◌, ◌<ℤ◌, pos, ◌+ℤ◌}
+-- Unit squares beside and around each other, and in rectangles; sets of them grown and shrunk.
+use Rattle.std.specs.Prelude.{◌≡◌, ◌⊎◌, ℕ, suc, ℤ, ◌≤ℤ◌, ◌<ℤ◌, pos, negsuc, ◌+ℤ◌}
 use Rattle.geo_base.specs.declared.shapes.Point.{Point}
 use Rattle.geo_base.specs.declared.shapes.Rect.{Rect}
 use Rattle.geo_base.specs.declared.shapes.Square.{Square}
@@ -23,6 +23,21 @@ pub record AreWithin (n : ℕ) (p q : Square) : Type 0 where
   pub right : p.x ≤ℤ (q.x +ℤ pos n)
   pub low : q.y ≤ℤ (p.y +ℤ pos n)
   pub high : p.y ≤ℤ (q.y +ℤ pos n)
+
+-- some square of the set lies within n of q: q lies in the set's sum with a square of side 2n + 1
+pub record IsReachedBy (n : ℕ) (set : Square → Type 0) (q : Square) : Type 0 where
+  pub square : Square
+  pub within : AreWithin n square q
+  pub has : set square
+
+-- the set has all squares within n of q
+abbrev pub IsHeldBy : ℕ → (Square → Type 0) → Square → Type 0
+IsHeldBy n set q = (z : Square) → AreWithin n z q → set z
+
+-- q lies in the set grown by so much on all sides, or shrunk by so much below 0
+abbrev pub IsSized : ℤ → (Square → Type 0) → Square → Type 0
+IsSized (pos n) set q = IsReachedBy n set q
+IsSized (negsuc n) set q = IsHeldBy (suc n) set q
 
 -- they are one square or share an edge or a corner
 abbrev pub IsAround : Square → Square → Type 0

@@ -10,7 +10,7 @@ use Rattle.flat_layout.specs.Layout.{Place, Layer, Cell, Some_of, IsOwn, Takes, 
 use Rattle.flat_layout.specs.Plane.{IsIn}
 use Rattle.flat_layout.specs.Regions.{formula}
 use Rattle.plain_netlist.specs.Lists.{IsListed}
-use Rattle.flat_laws.proofs.Names.{name_still}
+use Rattle.flat_laws.proofs.Names.{still}
 use Rattle.flat_sample.proofs.Columns.{one_place, lower_cell, placed_here, no_place, levels, moved_column, one_column, some_column, own_column, column_own, IsFlatColumn, flat_column, column_flat, column_above, poly_at, no_poly, child_poly, parent_poly, poly_above}
 use Rattle.flat_sample.proofs.Right.{input_parted}
 use Rattle.flat_sample.specs.Sample.{sample_level}
@@ -121,7 +121,7 @@ calm_column keys x small h =
     absurd (omega (arith, ints))
 
 calm_reach : (x : ℕ) → x ≤ 2 → IsStirred gate_design (inputs sides) (reach sides) 0 (at x) → ⊥
-calm_reach x small h = calm_column (inputs sides) x small ((name_still gate_design sides 0 (at x)).0 h)
+calm_reach x small h = calm_column (inputs sides) x small ((still gate_design (inputs sides) 0 (at x)).0 h)
 
 -- the parent's poly lies over the child's column 3
 crossed : IsDisturbed gate_design (inputs sides) 0 (at 3)
@@ -141,13 +141,13 @@ crossed = record {
 
 -- the child keeps its sides in columns 0 and 2
 child_kept : (q : Square) → IsKept gate_design 0 sides q → (q ≡ at 0) ⊎ (q ≡ at 2)
-child_kept q h = elim (child_sides q h.0) [ inl e ↦ inl e | inr f ↦ elim f [ inl e ↦ inr e | inr e ↦ absurd (h.1 ((name_still gate_design sides 0 q).1 (subst (IsDisturbed gate_design (inputs sides) 0) (sym e) crossed))) ] ]
+child_kept q h = elim (child_sides q h.0) [ inl e ↦ inl e | inr f ↦ elim f [ inl e ↦ inr e | inr e ↦ absurd (h.1 ((still gate_design (inputs sides) 0 q).1 (subst (IsDisturbed gate_design (inputs sides) 0) (sym e) crossed))) ] ]
 
 -- and not the one in column 3
 pub lost : InFlat gate_design 0 sides (at 3) × (IsKept gate_design 0 sides (at 3) → ⊥)
 lost =
     let bare : InFlat gate_design 0 (Input (key_of 1)) (at 3) → ⊥ = λ h. elim (poly_at 0 (at 3) h) [ inl e ↦ (let f = one_column 3 1 e in absurd (omega arith)) | inr e ↦ (let f = e.0 in absurd (omega arith)) ] in
-    ((column_flat 0 0 3 (omega arith) (inr (inr (inr (inl refl)))), bare), λ h. h.1 ((name_still gate_design sides 0 (at 3)).1 crossed))
+    ((column_flat 0 0 3 (omega arith) (inr (inr (inr (inl refl)))), bare), λ h. h.1 ((still gate_design (inputs sides) 0 (at 3)).1 crossed))
 
 kept_left : IsKept gate_design 0 sides (at 0)
 kept_left = (child_left, calm_reach 0 (omega arith))

@@ -1,13 +1,21 @@
--- What isn't disturbed at a square isn't within a name's reach of it.
-use Rattle.std.proofs.Common.{◌↔◌, ℕ, Bool, IsTrue, IfSome, Option, Some, None}
-use Rattle.flat_layout.specs.Layers.{Formula, inputs, reach, InFlat, IsStirred}
+-- What isn't disturbed at a square isn't within the reach of a name that is nowhere sized.
+use Rattle.std.proofs.Common.{◌≡◌, ◌↔◌, ◌∙◌, ℕ, max, ap, refl, sym, subst, Bool, IsTrue, IfSome, Option, Some, None}
+use Rattle.flat_layout.specs.Layers.{inputs, reach, InFlat, IsStirred}
 use Rattle.flat_layout.specs.Layout.{Design, IsDisturbed}
-use Rattle.flat_laws.proofs.Names.{name_still}
+use Rattle.flat_laws.proofs.Names.{still}
+use Rattle.flat_slow.specs.Slow.{plain_formula}
+use Rattle.flat_slow.specs.declared.layers.Formula.{Formula, Input, Empty, Binary'}
 use Rattle.geo_base.specs.declared.shapes.Square.{Square}
 
-pub stirless : (d : Design) (name : Formula) (cell : ℕ) (q : Square) (told : Option Bool) → IfSome told (λ b. IsTrue b ↔ (InFlat d cell name q × (IsDisturbed d (inputs name) cell q → ⊥)))
-    → IfSome told (λ b. IsTrue b ↔ (InFlat d cell name q × (IsStirred d (inputs name) (reach name) cell q → ⊥)))
-stirless d name cell q None h = h
-stirless d name cell q (Some b) h =
-    let same = name_still d name cell q in
+reach_none : (tree : Formula) → reach (plain_formula tree) ≡ 0
+reach_none (Input key) = refl
+reach_none Empty = refl
+reach_none (Binary' op p a q b) = ap (λ n. max n (reach (plain_formula b))) (reach_none a) ∙ ap (λ n. max 0 n) (reach_none b)
+
+pub stirless : (d : Design) (tree : Formula) (cell : ℕ) (q : Square) (told : Option Bool) → IfSome told (λ b. IsTrue b ↔ (InFlat d cell (plain_formula tree) q × (IsDisturbed d (inputs (plain_formula tree)) cell q → ⊥)))
+    → IfSome told (λ b. IsTrue b ↔ (InFlat d cell (plain_formula tree) q × (IsStirred d (inputs (plain_formula tree)) (reach (plain_formula tree)) cell q → ⊥)))
+stirless d tree cell q None h = h
+stirless d tree cell q (Some b) h =
+    let keys = inputs (plain_formula tree) in
+    let same = subst (λ (n : ℕ). IsStirred d keys n cell q ↔ IsDisturbed d keys cell q) (sym (reach_none tree)) (still d keys cell q) in
     ((λ t. let r = h.0 t in (r.0, λ s. r.1 (same.0 s))), (λ (flat, calm). h.1 (flat, λ s. calm (same.1 s))))

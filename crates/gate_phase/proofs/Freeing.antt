@@ -6,6 +6,7 @@ use Rattle.geo_base.specs.declared.motion.Motion.{Motion}
 use Rattle.geo_base.specs.declared.shapes.Rect.{Rect}
 use Rattle.geo_base.specs.declared.shapes.Square.{Square}
 use Rattle.rect_sets.specs.Rects.{covers}
+use Rattle.cell_graph.proofs.Growing.{grown_none}
 use Rattle.cell_graph.specs.Linked.{Linked, HullHas, cell_at, hull_of, motion_at}
 use Rattle.cell_context.specs.declared.arrays.Visit.{Visit}
 use Rattle.cell_context.specs.Over.{IsVisit, AreVisited}
@@ -54,11 +55,11 @@ module _ (close there outside zone : List Rect) (m : Motion) (frame : Rect) (pul
   )
 
 -- a visit's cell has its entry
-pub visit_open : (d : Linked) (z : List (Option CellZones)) (cell device : ℕ) (w : Rect) (v : Visit) → HasOpenBelow d z cell device → IsVisit d cell None w v → HasOpen z v.cell device
+pub visit_open : (d : Linked) (z : List (Option CellZones)) (cell device : ℕ) (w : Rect) (v : Visit) → HasOpenBelow d z cell device → IsVisit 0 d cell None w v → HasOpen z v.cell device
 visit_open d z cell device w v have h = subst (λ c. HasOpen z c device) (sym h.cell_is) (have h.index h.from h.step.there)
 
 -- a visit where all is free is such an element
-pub free_visit : (d : Linked) (z : List (Option CellZones)) (cell device : ℕ) (close : List Rect) (w : Rect) (v : Visit) → IsVisit d cell None w v → IsFreeIn d z device close v.cell v.motion → IsFreeElement d z cell device close w
+pub free_visit : (d : Linked) (z : List (Option CellZones)) (cell device : ℕ) (close : List Rect) (w : Rect) (v : Visit) → IsVisit 0 d cell None w v → IsFreeIn d z device close v.cell v.motion → IsFreeElement d z cell device close w
 free_visit d z cell device close w v h free =
     let s = low_square v.window in
     let inside = low_in v.window h.near.some in
@@ -69,14 +70,14 @@ free_visit d z cell device close w v h free =
       from = h.from;
       step = h.step;
       square = s;
-      held = subst (λ c. HullHas (hull_of (cell_at d c)) s) h.cell_is (h.held s inside);
+      held = subst (λ c. HullHas (hull_of (cell_at d c)) s) h.cell_is ((grown_none (hull_of (cell_at d v.cell)) s).0 (h.held s inside));
       met = subst (λ (m : Motion). has w (moved_square m s) ≡ true) h.motion_is (h.has s inside);
       free = subst (λ (m : Motion). IsFreeIn d z device close h.from.cell m) h.motion_is (subst (λ c. IsFreeIn d z device close c v.motion) h.cell_is free);
     }
 
 -- and where no visit is, no element is
-pub no_visit_free : (d : Linked) (z : List (Option CellZones)) (cell device : ℕ) (close : List Rect) (w : Rect) (vs : List Visit) (none : Visit) → AreVisited d cell None w vs
+pub no_visit_free : (d : Linked) (z : List (Option CellZones)) (cell device : ℕ) (close : List Rect) (w : Rect) (vs : List Visit) (none : Visit) → AreVisited 0 d cell None w vs
     → ((k : ℕ) → k < length vs → IsFreeIn d z device close (slice_index_or vs k none).cell (slice_index_or vs k none).motion → ⊥) → IsFreeElement d z cell device close w → ⊥
 no_visit_free d z cell device close w vs none found never f =
-    let s = some_at (IsVisited f.from f.row f.column f.square) vs none (found f.index f.row f.column f.from f.square f.step (λ e. let g : None ≡ Some f.index = e in let z : ⊥ = cc in z) f.held f.met) in
+    let s = some_at (IsVisited f.from f.row f.column f.square) vs none (found f.index f.row f.column f.from f.square f.step (λ e. let g : None ≡ Some f.index = e in let z : ⊥ = cc in z) ((grown_none (hull_of (cell_at d f.from.cell)) f.square).1 f.held) f.met) in
     never s.0 s.1 (subst (λ (m : Motion). IsFreeIn d z device close (slice_index_or vs s.0 none).cell m) (sym s.2.motion) (subst (λ c. IsFreeIn d z device close c (motion_at f.from f.row f.column)) (sym s.2.cell) f.free))

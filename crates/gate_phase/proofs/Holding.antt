@@ -25,16 +25,16 @@ pub held_near : (d : Linked) (cell : ℕ) (part : List Rect) → IsSound d → I
 held_near d cell part sound held q e = hull_corners (hull_of (cell_at d cell)) q (hull_sound d cell sound) (held q e)
 
 -- and what is close to it lies in the grown hull
-pub close_frame : (d : Linked) (cell : ℕ) (part close : List Rect) → IsHeldPart d cell part → ((q : Square) → in_set close q ↔ IsCloseTo (in_set part) q) → (q : Square) → in_set close q → IsInGrown (hull_of (cell_at d cell)) q
+pub close_frame : (d : Linked) (cell : ℕ) (part close : List Rect) → IsHeldPart d cell part → ((q : Square) → in_set close q ↔ IsCloseTo (in_set part) q) → (q : Square) → in_set close q → IsInGrown 1 (hull_of (cell_at d cell)) q
 close_frame d cell part close held is q e = let c = (is q).0 e in around_grown (hull_of (cell_at d cell)) c.square q (held c.square c.in_part) c.around
 
-frame_corners : (o : Option Rect) (q : Square) → HullIsSound o → IsInGrown o q → HasNearCorners q
+frame_corners : (o : Option Rect) (q : Square) → HullIsSound o → IsInGrown 1 o q → HasNearCorners q
 frame_corners None q sound h = absurd h
-frame_corners (Some w) q sound h = near_corners (grown w) q (wider_rect (2 ^ 37) (2 ^ 39) (grown w) (omega arith) (grown_within w sound)) h
+frame_corners (Some w) q sound h = near_corners (grown 1 w) q (wider_rect (2 ^ 37) (2 ^ 39) (grown 1 w) (omega arith) (grown_within w sound)) h
 
-frame_rect : (o : Option Rect) (r : Rect) → HullIsSound o → IsRect r → ((q : Square) → has r q ≡ true → IsInGrown o q) → IsRectWithin (2 ^ 39) r
+frame_rect : (o : Option Rect) (r : Rect) → HullIsSound o → IsRect r → ((q : Square) → has r q ≡ true → IsInGrown 1 o q) → IsRectWithin (2 ^ 39) r
 frame_rect None r sound some h = absurd (h (low_square r) (low_in r some))
-frame_rect (Some w) r sound some h = within_inside (2 ^ 39) r (grown w) some (inside_from r (grown w) some h) (wider_rect (2 ^ 37) (2 ^ 39) (grown w) (omega arith) (grown_within w sound))
+frame_rect (Some w) r sound some h = within_inside (2 ^ 39) r (grown 1 w) some (inside_from r (grown 1 w) some h) (wider_rect (2 ^ 37) (2 ^ 39) (grown 1 w) (omega arith) (grown_within w sound))
 
 pub close_near : (d : Linked) (cell : ℕ) (part close : List Rect) → IsSound d → IsHeldPart d cell part → ((q : Square) → in_set close q ↔ IsCloseTo (in_set part) q) → IsNearSet close
 close_near d cell part close sound held is q e = frame_corners (hull_of (cell_at d cell)) q (hull_sound d cell sound) (close_frame d cell part close held is q e)

@@ -1,9 +1,9 @@
 -- A cell that places nothing.
-use Rattle.std.proofs.Common.{◌≡◌, ◌↔◌, inl, inr, ℕ, true, List, [], ◌∷◌, Option, Some, None, slice_get, subst}
-use Rattle.geo_base.specs.declared.layer.LayerKey.{LayerKey}
+use Rattle.std.proofs.Common.{◌≡◌, ◌↔◌, inl, inr, ℕ, true, List, [], ◌∷◌, Option, Some, None, refl, slice_get, subst}
 use Rattle.geo_base.specs.declared.shapes.Rect.{Rect}
 use Rattle.geo_base.specs.declared.shapes.Square.{Square}
 use Rattle.rect_sets.specs.Rects.{covers}
+use Rattle.flat_layout.specs.Gates.{Geometry}
 use Rattle.flat_layout.specs.Layers.{Formula, Input, IsKept}
 use Rattle.flat_layout.specs.Layout as flat
 use Rattle.flat_layout.specs.Layout.{IsPlaced}
@@ -41,6 +41,6 @@ held_covers None q h = absurd h
 held_covers (Some r) q h = one_window r q h
 
 -- its seeds are its own shapes, which lie in the hull
-pub leaf_seed : (d : Linked) (keys : List LayerKey) (cell : ℕ) (q : Square) → IsSound d → places_at (cell_at d cell) ≡ [] → IsSeed (plain d) keys cell q → covers (hull_list (hull_of (cell_at d cell))) q ≡ true
-leaf_seed d keys cell q sound none (inl h) = held_covers (hull_of (cell_at d cell)) q (kept_held d cell (Input h.key) q sound (kept_here (plain d) cell (Input h.key) q h.own))
-leaf_seed d keys cell q sound none (inr h) = absurd (none_placed d cell h.number h.place none h.placed)
+pub leaf_seed : (d : Linked) (g : Geometry) (cell : ℕ) (q : Square) → IsSound d → places_at (cell_at d cell) ≡ [] → IsSeed (plain d) g cell q → covers (hull_list (hull_of (cell_at d cell))) q ≡ true
+leaf_seed d g cell q sound none (inl h) = held_covers (hull_of (cell_at d cell)) q (kept_held d cell (Input h.key) q sound refl (kept_here (plain d) cell (Input h.key) q h.own))
+leaf_seed d g cell q sound none (inr h) = absurd (none_placed d cell h.number h.place none h.placed)

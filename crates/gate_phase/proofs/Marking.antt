@@ -52,6 +52,7 @@ form_known all marks before n rule (form.Binary op a b) key e at len marked clos
   | inl h ↦ tree_at all marks before a key known (λ lt. closed a (inl refl) (omega arith)) h
   | inr h ↦ tree_at all marks before b key known (λ lt. closed b (inr refl) (omega arith)) h
 ]
+form_known all marks before n rule (form.Sized a by) key e at len marked closed known listed = tree_at all marks before a key known (λ lt. closed a refl (omega arith)) listed
 
 known_behind : (all : List LayerRule) (marks : List Bool) (before : List Formula) (rest : List LayerRule) (n : ℕ) → n ≡ length before → AreClosed all 0 marks → ((k : ℕ) (rule : LayerRule) → slice_get rest k ≡ Some rule → slice_get all (n + k) ≡ Some rule)
     → Known all marks before → Known all marks (formulas_behind before rest)

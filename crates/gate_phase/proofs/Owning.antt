@@ -15,7 +15,7 @@ use Rattle.gate_search.specs.SearchLaws.{IsSearch}
 use Rattle.gate_search.proofs.Searching.{found_law, known_law, part_law}
 use Rattle.cell_graph.specs.Linked.{Linked, IsSound, plain}
 use Rattle.gate_phase.proofs.Keeping.{kept_held}
-use Rattle.gate_phase.proofs.Telling.{part_kept}
+use Rattle.gate_phase.proofs.Telling.{no_more, part_kept}
 use Rattle.deep_tables.specs.declared.zones.CellZones.{CellZones}
 use Rattle.gate_phase.specs.Below.{IsFreeElement}
 use Rattle.gate_phase.specs.Close.{MissesOpen}
@@ -188,5 +188,5 @@ told_part d g cell seeds gathered parts search i part at = record {
   told = λ q e. part_law d g cell seeds gathered parts search i part q at e;
 }
 
-pub held_part : (d : Linked) (g : Geometry) (cell : ℕ) (seeds gathered : List Rect) (parts : List (List Rect)) → IsSound d → IsSearch (plain d) g cell seeds gathered parts → (i : ℕ) (part : List Rect) → slice_get parts i ≡ Some part → IsHeldPart d cell part
-held_part d g cell seeds gathered parts sound search i part at q e = kept_held d cell g.region q sound (part_kept (plain d) g cell seeds gathered parts search i part q at e)
+pub held_part : (d : Linked) (g : Geometry) (cell : ℕ) (seeds gathered : List Rect) (parts : List (List Rect)) → IsSound d → g.reach ≡ 0 → IsSearch (plain d) g cell seeds gathered parts → (i : ℕ) (part : List Rect) → slice_get parts i ≡ Some part → IsHeldPart d cell part
+held_part d g cell seeds gathered parts sound none search i part at q e = kept_held d cell g.region q sound (no_more _ g.reach search.sound.reach none) (part_kept (plain d) g cell seeds gathered parts search i part q at e)

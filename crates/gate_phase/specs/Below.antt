@@ -25,7 +25,7 @@ pub record IsFreeIn (d : Linked) (z : List (Option CellZones)) (device : ℕ) (c
   pub hull_is : hull_of (cell_at d cell) ≡ Some hull
   pub zone : List Rect
   pub zone_is : AreOpen z cell device zone
-  pub free : IsFree close m (grown hull) zone
+  pub free : IsFree close m (grown 1 hull) zone
 
 -- and so it is in the cell of an element that takes a square of its hull to the start
 pub record IsFreeElement (d : Linked) (z : List (Option CellZones)) (cell device : ℕ)

@@ -8,6 +8,8 @@ use Rattle.rect_sets.specs.Rects.{covers}
 use Rattle.flat_layout.specs.Layers.{Binary, Formula, IsKept, inputs}
 use Rattle.flat_layout.specs.Layout as flat
 use Rattle.cell_graph.specs.Linked.{Linked, plain}
+use Rattle.rule_text.specs.Seen.{rules_seen}
+use Rattle.rule_text.specs.Sound.{IsSound}
 use Rattle.rule_text.specs.declared.rules.RuleSet.{RuleSet}
 use Rattle.rule_layers.specs.Formulas.{formulas}
 use Rattle.deep_tables.specs.Frames.{IsFramedZone}
@@ -37,13 +39,14 @@ pub record IsStirredFor (d : Linked) (r : RuleSet) (z : List (Option CellZones))
     : Type 0 where
   pub zone : List Rect
   pub is : zone_of z cell (Layer name) ≡ Some zone
-  pub framed : IsFramedZone d (inputs (formula_of r name)) cell zone
+  pub framed : IsFramedZone 1 d (inputs (formula_of r name)) cell zone
 
 -- the one name's layer or the other's, of the same cell
 abbrev pub kept_by : Linked → RuleSet → ℕ → ℕ → KeptOf
 kept_by d r cell name = record { design = d; rules = r; cell = cell; name = name }
 
 pub record IsBothLayer (a : Inside) : Type 0 where
+  pub rules : IsSound (rules_seen a.first.rules)
   pub first : a.first ≡ kept_by a.design.now a.first.rules a.cell a.names.0
   pub second : a.second ≡ kept_by a.design.now a.first.rules a.cell a.names.1
   pub first_zone : IsStirredFor a.design.now a.first.rules a.zones.now a.cell a.names.0

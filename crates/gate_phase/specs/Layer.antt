@@ -6,6 +6,7 @@ use Rattle.flat_layout.specs.Layers.{Formula, Empty, IsKept}
 use Rattle.flat_layout.specs.Layout.{IsReached}
 use Rattle.cell_graph.specs.Linked.{Linked, plain}
 use Rattle.rule_text.specs.Seen.{rules_seen}
+use Rattle.rule_text.specs.Sound.{IsSound}
 use Rattle.rule_text.specs.declared.rules.RuleSet.{RuleSet}
 use Rattle.rule_layers.specs.Formulas.{formulas}
 use Rattle.deep_tables.specs.Layers.{AreLayers}
@@ -26,6 +27,7 @@ formula_of r name = get_or (formulas r.names.items) name Empty
 
 -- the table has what the cells at and below this one hold themselves
 pub record IsKeptLayer (a : Inside) : Type 0 where
+  pub rules : IsSound (rules_seen a.rules.now)
   pub name : a.name < length a.rules.now.names.items
   pub layers : AreLayers (plain a.design.now) (rules_seen a.rules.now) a.layers.now
   pub reached : IsReached (plain a.design.now) a.cell

@@ -26,6 +26,7 @@ pub record MarksMore (P : ℕ → Type 0) (old new : List Bool) : Type 0 where
 -- the form reads the name of this number
 abbrev pub IsReadBy : LayerForm → ℕ → Type 0
 IsReadBy (form.Binary op a b) i = (i ≡ a) ⊎ (i ≡ b)
+IsReadBy (form.Sized a by) i = i ≡ a
 IsReadBy _ i = ⊥
 
 -- of each marked name from this one on, what it reads before itself is marked

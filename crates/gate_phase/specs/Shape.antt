@@ -7,6 +7,7 @@ use Rattle.flat_layout.specs.Gates.{Diode}
 use Rattle.flat_layout.specs.Layout.{Design, IsReached}
 use Rattle.cell_graph.specs.Linked.{Linked, plain}
 use Rattle.rule_text.specs.Rules.{Rules}
+use Rattle.rule_text.specs.Sound.{IsSound}
 use Rattle.deep_tables.specs.Layers.{AreLayers}
 use Rattle.deep_tables.specs.declared.layers.CellLayers.{CellLayers}
 use Rattle.gate_search.specs.Gather.{AreMet}
@@ -30,6 +31,7 @@ IsGateSheet Diode keeps windows part sheet = sheet ≡ part
 -- a reached cell with right layers
 pub record IsReadyShape (d : Linked) (r : Rules) (l : List (Option CellLayers)) (cell : ℕ) : Type 0
   where
+    pub rules : IsSound r
     pub known : cell < length d.cells
     pub layers : AreLayers (plain d) r l
     pub reached : IsReached (plain d) cell

@@ -96,7 +96,7 @@ pub fn is_below(
         ↔ IsFreeElement design.now zones.now cell device close.now start.now) }
 {
     design.sound();
-    let list = visits(alloc, design, cell, start, None)?;
+    let list = visits(alloc, design, cell, start, None, 0)?;
     for visit in &list {
         if is_free_visit(alloc, design, zones, device, close, visit)? {
             return Ok(true);

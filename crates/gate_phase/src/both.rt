@@ -5,6 +5,7 @@ ghost use Rattle.rect_sets.specs.Rects.{covers};
 ghost use Rattle.flat_layout.specs.Layout.{IsReached};
 ghost use Rattle.cell_graph.specs.Linked.{plain};
 ghost use Rattle.rule_text.specs.Seen.{rules_seen};
+ghost use Rattle.rule_text.specs.Sound.{IsSound};
 ghost use Rattle.deep_tables.specs.Layers.{AreLayers};
 ghost use Rattle.deep_tables.specs.Zones.{zone_of};
 ghost use Rattle.deep_tables.specs.declared.zones.ZoneKey.TheVariants.{Layer};
@@ -89,6 +90,7 @@ impl<'a, 'l> BothLayer<'a, 'l> {
         cell: u32,
         names: (u32, u32),
     ) -> BothLayer<'a, 'l>
+        requires rules { IsSound (rules_seen rules.now) }
         requires first { names.0 < length rules.now.names.items }
         requires second { names.1 < length rules.now.names.items }
         requires first_zone { IsStirredFor design.now rules.now zones.now cell names.0 }

@@ -23,7 +23,7 @@ pub fn plane() -> Rect
 /// A hull and the squares around it.
 pub fn grown_hull(hull: &Rect) -> Rect
     requires { IsHull hull.now }
-    ensures grown { result ≡ grown hull.now }
+    ensures grown { result ≡ grown 1 hull.now }
     ensures frame { IsFrame result }
 {
     Rect {

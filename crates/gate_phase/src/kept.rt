@@ -39,7 +39,7 @@ pub fn kept_rects(
     design.sound();
     let mut out = layers.met(alloc, cell, name, window)?;
     let frame = plane();
-    let list = visits(alloc, design, cell, window, None)?;
+    let list = visits(alloc, design, cell, window, None, 0)?;
     for visit in &list {
         let below = kept_rects(alloc, design, layers, visit.cell, name, &visit.window)?;
         push_images(&mut out, &below, &visit.motion, &frame)?;

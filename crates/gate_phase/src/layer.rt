@@ -3,6 +3,7 @@ ghost use Rattle.std.specs.Prelude.{◌≡◌, ◌<◌, length};
 ghost use Rattle.flat_layout.specs.Layout.{IsReached};
 ghost use Rattle.cell_graph.specs.Linked.{plain};
 ghost use Rattle.rule_text.specs.Seen.{rules_seen};
+ghost use Rattle.rule_text.specs.Sound.{IsSound};
 ghost use Rattle.deep_tables.specs.Layers.{AreLayers};
 
 use crate::frame::plane;
@@ -46,6 +47,7 @@ impl<'a, 'l> KeptLayer<'a, 'l> {
         cell: u32,
         name: u32,
     ) -> KeptLayer<'a, 'l>
+        requires rules { IsSound (rules_seen rules.now) }
         requires name { name < length rules.now.names.items }
         requires layers { AreLayers (plain design.now) (rules_seen rules.now) layers.now }
         requires reached { IsReached (plain design.now) cell }

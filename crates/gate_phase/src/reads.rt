@@ -22,9 +22,15 @@ fn mark_read(marks: &mut [bool], form: LayerForm, bound: usize)
     requires { bound ≤ length marks.old }
     ensures { MarksMore (λ (i : ℕ). IsReadBy form i × (i < bound)) marks.old marks.new }
 {
-    if let LayerForm::Binary(_, a, b) = form {
-        mark_before(marks, a, bound);
-        mark_before(marks, b, bound);
+    match form {
+        LayerForm::Input(_) => {}
+        LayerForm::Labels(_) => {}
+        LayerForm::Empty => {}
+        LayerForm::Binary(_, a, b) => {
+            mark_before(marks, a, bound);
+            mark_before(marks, b, bound);
+        }
+        LayerForm::Sized(a, _) => mark_before(marks, a, bound),
     }
 }
 

@@ -6,6 +6,7 @@ ghost use Rattle.flat_layout.specs.Gates.{Rule, geometry};
 ghost use Rattle.flat_layout.specs.Layout.{IsReached};
 ghost use Rattle.cell_graph.specs.Linked.{cell_at, places_at, plain};
 ghost use Rattle.rule_text.specs.Seen.{rules_seen};
+ghost use Rattle.rule_text.specs.Sound.{IsSound};
 ghost use Rattle.rule_layers.specs.Meaning.{device_rules, wiring_of};
 ghost use Rattle.deep_tables.specs.Layers.{AreLayers, layer_of};
 ghost use Rattle.deep_tables.specs.Zones.{zone_of};
@@ -62,6 +63,7 @@ fn leaf_parts(
     cell: u32,
     region: Region,
 ) -> Result<Vec<RectSet>, AllocError>
+    requires rules { IsSound (rules_seen rules.now) }
     requires leaf { places_at (cell_at design.now cell) ≡ [] }
     requires region { IsReadyRegion design.now rules.now zones.now cell region }
     requires layers { AreLayers (plain design.now) (rules_seen rules.now) layers.now }
@@ -105,6 +107,7 @@ fn region_parts(
     starts: &RectSet,
 ) -> Result<Vec<RectSet>, AllocError>
     requires near { IsNearSet starts.now }
+    requires rules { IsSound (rules_seen rules.now) }
     requires region { IsReadyRegion design.now rules.now zones.now cell region }
     requires layers { AreLayers (plain design.now) (rules_seen rules.now) layers.now }
     requires reached { IsReached (plain design.now) cell }

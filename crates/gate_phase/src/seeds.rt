@@ -8,7 +8,7 @@ ghost use Rattle.geo_base.specs.declared.layer.LayerKey.{LayerKey};
 ghost use Rattle.geo_base.specs.declared.shapes.Square.{Square};
 ghost use Rattle.rect_sets.specs.Near.{IsNearSet};
 ghost use Rattle.rect_sets.specs.Rects.{covers};
-ghost use Rattle.flat_layout.specs.Gates.{Rule, gate_inputs};
+ghost use Rattle.flat_layout.specs.Gates.{Rule, geometry};
 ghost use Rattle.flat_layout.specs.Layout.{IsReached};
 ghost use Rattle.flat_layout.specs.Seeds.{IsSeed};
 ghost use Rattle.cell_graph.specs.Linked.{IsFrame, IsHull, IsRectWithin, cell_at, own_of};
@@ -223,7 +223,7 @@ pub fn seeds_of(
     ensures all { IfOk result (λ s. (u : Rule)
         → slice_get (device_rules (rules_seen rules.now)) number ≡ Some u
         → (q : Square)
-        → IsSeed (plain design.now) (gate_inputs (wiring_of (rules_seen rules.now)) u) cell q
+        → IsSeed (plain design.now) (geometry (wiring_of (rules_seen rules.now)) u) cell q
         → covers s q ≡ true) }
 {
     design.sound();

@@ -10,7 +10,7 @@ use Rattle.flat_layout.specs.Layers.{IsKept}
 use Rattle.flat_layout.specs.Layout.{Design}
 use Rattle.flat_layout.specs.Parts.{IsStep, InPart}
 use Rattle.flat_layout.specs.Plane.{IsAround}
-use Rattle.flat_layout.specs.Seeds.{IsSeed, IsClosed}
+use Rattle.flat_layout.specs.Seeds.{IsNearSeed, IsClosed}
 use Rattle.flat_laws.proofs.Seeds.{kept_part, closed, parted, unfound}
 use Rattle.gate_shapes.specs.Sets.{in_set}
 use Rattle.gate_shapes.proofs.Joined.{step_back}
@@ -28,7 +28,7 @@ module _ (d : Design) (g : Geometry) (cell : ℕ) (seeds found : List Rect) (par
   is_closed : IsClosed d g cell (covers found)
   is_closed = record { kept = h.gathered.sound; steps = h.gathered.steps }
 
-  seeds_found : (a q : Square) → K a → IsAround a q → IsSeed d g.keys cell q → covers found a ≡ true
+  seeds_found : (a q : Square) → K a → IsAround a q → IsNearSeed d g cell q → covers found a ≡ true
   seeds_found a q k around seed = h.gathered.around a q k around (h.all q seed)
 
   -- a part by any of its squares
@@ -55,7 +55,7 @@ module _ (d : Design) (g : Geometry) (cell : ℕ) (seeds found : List Rect) (par
   told i part s at here =
       let same = to_kept i part s at here in
       let is : K s = ((same s).0 here).from in
-      let law = kept_part d g cell s h.still is in
+      let law = kept_part d g cell s h.sound is in
       record {
         settled = (
           (λ settled q c. ((law.0).1 settled).calm q (record { square = c.square; in_part = (same c.square).0 c.in_part; around = c.around })),
@@ -69,12 +69,12 @@ module _ (d : Design) (g : Geometry) (cell : ℕ) (seeds found : List Rect) (par
 
   pub known : ((i : ℕ) (part : List Rect) (s : Square) → slice_get parts i ≡ Some part → in_set part s → IsSettled d g cell s → IsListedGate d g cell s ⊎ IsGateBelow d g cell s)
       → (s : Square) → IsSettled d g cell s → IsListedGate d g cell s ⊎ IsGateBelow d g cell s
-  known judged = parted d g cell (covers found) h.still h.reached is_closed seeds_found (λ s e settled. let p = part_of s e in judged p.0 p.1 s p.2 p.3 settled)
+  known judged = parted d g cell (covers found) h.sound h.reached is_closed seeds_found (λ s e settled. let p = part_of s e in judged p.0 p.1 s p.2 p.3 settled)
 
   pub own_found : (s : Square) → IsListedGate d g cell s → (i : ℕ) × (part : List Rect) × (slice_get parts i ≡ Some part) × in_set part s
   own_found s own = elim (either_bool (covers found s)) [
     | inl e ↦ part_of s e
-    | inr not ↦ absurd (own.new (unfound d g h.still cell (covers found) h.reached is_closed seeds_found s own.settled not))
+    | inr not ↦ absurd (own.new (unfound d g h.sound cell (covers found) h.reached is_closed seeds_found s own.settled not))
   ]
 
 pub part_law : PartLaw

@@ -1,18 +1,18 @@
 -- What a cell keeps of the squares in both of two names.
-use Rattle.std.specs.Prelude.{◌↔◌, ℕ}
+use Rattle.std.specs.Prelude.{◌↔◌, ℕ, max}
 use Rattle.geo_base.specs.declared.layer.Op.TheVariants.{And}
 use Rattle.geo_base.specs.declared.shapes.Square.{Square}
-use Rattle.flat_layout.specs.Layers.{Formula, Binary, inputs, IsKept}
-use Rattle.flat_layout.specs.Layout.{Design, IsDisturbed}
+use Rattle.flat_layout.specs.Layers.{Formula, Binary, inputs, reach, IsKept, IsStirred}
+use Rattle.flat_layout.specs.Layout.{Design}
 
--- for neither name the square is disturbed
+-- for neither name anything is disturbed within the greater reach of the two
 pub record AreBothCalm (d : Design) (cell : ℕ) (a b : Formula) (q : Square) : Type 0 where
-  pub first : IsDisturbed d (inputs a) cell q → ⊥
-  pub second : IsDisturbed d (inputs b) cell q → ⊥
+  pub first : IsStirred d (inputs a) (max (reach a) (reach b)) cell q → ⊥
+  pub second : IsStirred d (inputs b) (max (reach a) (reach b)) cell q → ⊥
 
--- the cell keeps it of both names, and it is disturbed for neither: of an input layer a cell keeps
--- disturbed squares too. That holds as no name has a reach; with one the square's surroundings
--- would count for both names by the greater reach
+-- the cell keeps it of both names, and near it nothing is disturbed for either: of an input layer a
+-- cell keeps disturbed squares too, and of the name with the smaller reach those that only the
+-- other's reach has to leave out
 abbrev pub KeptBothLaw : Type 0
 KeptBothLaw = (d : Design) (cell : ℕ) (a b : Formula) (q : Square)
     → IsKept d cell (Binary And a b) q

@@ -3,30 +3,31 @@ use Rattle.std.specs.Prelude.{◌≡◌, ◌⊎◌, ◌↔◌, ℕ, List, Some, 
 use Rattle.geo_base.specs.declared.shapes.Rect.{Rect}
 use Rattle.geo_base.specs.declared.shapes.Square.{Square}
 use Rattle.flat_layout.specs.Gates.{Geometry, InGate, IsSettled, IsGateBelow, IsListedGate}
-use Rattle.flat_layout.specs.Layers.{IsKept}
-use Rattle.flat_layout.specs.Layout.{Design, IsReached, IsDisturbed}
+use Rattle.flat_layout.specs.Gates.{IsSoundGeometry}
+use Rattle.flat_layout.specs.Layers.{IsKept, IsStirred}
+use Rattle.flat_layout.specs.Layout.{Design, IsReached}
 use Rattle.flat_layout.specs.Parts.{IsCloseTo}
-use Rattle.flat_layout.specs.Seeds.{IsSeed, IsStillGeometry}
+use Rattle.flat_layout.specs.Seeds.{IsNearSeed}
 use Rattle.gate_shapes.specs.PartLists.{AreParts}
 use Rattle.gate_shapes.specs.Sets.{in_set}
 use Rattle.gate_search.specs.Gather.{IsGatheredAround}
 
--- the seeds hold all squares where gates may begin, and the parts are those of what was gathered
--- around them
+-- the seeds hold all squares near which gates may begin, and the parts are those of what was
+-- gathered around them
 pub record IsSearch (d : Design) (g : Geometry) (cell : ℕ) (seeds found : List Rect)
     (parts : List (List Rect)) : Type 0 where
-  pub still : IsStillGeometry g
+  pub sound : IsSoundGeometry g
   pub reached : IsReached d cell
-  pub all : (q : Square) → IsSeed d g.keys cell q → in_set seeds q
+  pub all : (q : Square) → IsNearSeed d g cell q → in_set seeds q
   pub gathered : IsGatheredAround (IsKept d cell g.region) seeds found
   pub parted : AreParts found parts
 
--- a part is settled exactly where no square close to it is disturbed, and is then the gate of each
--- of its squares
+-- a part is settled exactly where nothing is disturbed within reach of a square close to it, and is
+-- then the gate of each of its squares
 pub record IsTold (d : Design) (g : Geometry) (cell : ℕ) (part : List Rect) (s : Square) : Type 0
   where
     pub settled : IsSettled d g cell s ↔ ((q : Square) → IsCloseTo (in_set part) q
-        → IsDisturbed d g.keys cell q → ⊥)
+        → IsStirred d g.keys g.reach cell q → ⊥)
     pub squares : IsSettled d g cell s → (q : Square) → in_set part q ↔ InGate d g cell s q
 
 abbrev pub PartLaw : Type 0

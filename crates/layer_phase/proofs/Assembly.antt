@@ -1,25 +1,23 @@
 -- The parts give the layer.
-use Rattle.std.proofs.Common.{◌≡◌, ◌⊎◌, inl, inr, ℕ, Bool, true, false, not, ◌&&◌, Option, Some, None, refl, sym, ◌∙◌, ap, arith}
-use Rattle.std.proofs.lemmas.Int.{ints}
-use Rattle.geo_base.specs.declared.layer.Op.{Op}
+use Rattle.std.proofs.Common.{◌≡◌, ◌⊎◌, inl, inr, ℕ, ◌+◌, ◌≤◌, Bool, true, false, not, ◌&&◌, List, [], ◌∷◌, map, Option, Some, None, refl, sym, ◌∙◌, ap}
+use Rattle.std.specs.List.{All}
+use Rattle.std.proofs.lemmas.List.Elements.{All-head, All-tail}
+use Rattle.geo_base.specs.Rects.{has, IsRect}
 use Rattle.geo_base.specs.declared.shapes.Rect.{Rect}
 use Rattle.geo_base.specs.declared.shapes.Square.{Square}
-use Rattle.rect_sets.specs.Rects.{covers}
-use Rattle.flat_layout.specs.Layers.{Formula, Binary, inputs, InFlat, IsKeptBelow, IsKept}
-use Rattle.flat_layout.specs.Layout.{IsDisturbed}
-use Rattle.flat_laws.proofs.Names.{name_still, under_input}
-use Rattle.cell_graph.specs.Linked.{Linked, IsSound, HullHas, hull_of, cell_at, plain}
-use Rattle.cell_graph.proofs.Bridge.{hulls, has_in, in_has}
-use Rattle.deep_laws.specs.Layers.{AreDecidedBelow}
-use Rattle.deep_laws.proofs.Layers.{candidate, below}
-use Rattle.deep_tables.specs.Frames.{IsInGrown, grown}
+use Rattle.rect_sets.specs.Rects.{covers, IsCanonical}
+use Rattle.rect_sets.proofs.Unique.{all_rects, rect_of}
+use Rattle.flat_layout.specs.Layers.{Formula, Input, Empty, Binary, Sized, inputs, reach, InFlat, IsKeptBelow, IsKept, IsLocal, IsStirred}
+use Rattle.flat_layout.specs.Plane.{AreWithin}
+use Rattle.flat_laws.proofs.Moves.{farther, within_back}
+use Rattle.flat_laws.proofs.Names.{near_input}
+use Rattle.cell_graph.specs.Grown.{grown, IsInGrown}
+use Rattle.cell_graph.specs.Linked.{Linked, IsSound, hull_of, cell_at, plain}
+use Rattle.cell_graph.proofs.Bridge.{hulls, or_split, or_left, or_right}
+use Rattle.cell_graph.proofs.Growing.{near_rect, within_grown, within_rect, wider_grown}
+use Rattle.deep_laws.specs.Layers.{AreDecidedBelow, IsDerived}
+use Rattle.deep_laws.proofs.Layers.{candidate, below, keeps, calm_kept, new_local, local_new}
 use Rattle.layer_phase.specs.Parts.{IsFromCalmHull, HaveZones, LayerLaw}
-
-pub in_grown : (o : Option Rect) (q : Square) → HullHas o q → IsInGrown o q
-in_grown None q h = h
-in_grown (Some r) q h =
-    let i = has_in r q h in let i0 = i.0 in let i1 = i.1 in let i2 = i.2 in let i3 = i.3 in
-    in_has (grown r) q ((omega (arith, ints)), (omega (arith, ints)), (omega (arith, ints)), (omega (arith, ints)))
 
 pub is_or_not : (b : Bool) → (b ≡ true) ⊎ (b ≡ false)
 is_or_not true = inl refl
@@ -37,71 +35,118 @@ split_local false z c e = let g : false ≡ true = e in absurd (let z : ⊥ = cc
 join_local : (f z c : Bool) → f ≡ true → z ≡ false → c ≡ false → ((f && not z) && not c) ≡ true
 join_local f z c e g h = ap (λ b. (b && not z) && not c) e ∙ ap (λ b. (true && not b) && not c) g ∙ ap (λ b. (true && not false) && not b) h
 
-decided : (d : Linked) (name : Formula) (cell : ℕ) → IsSound d → HaveZones d name cell → AreDecidedBelow (plain d) (inputs name) cell
-decided d name cell sound zones k p key r placed flat =
-    let z = zones k p placed in
-    elim (is_or_not (covers z.0 r)) [
-      | inl e ↦ inl ((z.1 r).0 e).0
-      | inr e ↦ inr (λ h. not_both (covers z.0 r) ((z.1 r).1 (h, in_grown (hull_of (cell_at d p.cell)) r (hulls d sound p.cell key r flat))) e)
+-- rectangles that are grown cover what lies near them, and no more
+near_covered : (n : ℕ) (zone : List Rect) (q s : Square) → covers zone s ≡ true → AreWithin n q s → covers (map (grown n) zone) q ≡ true
+near_covered n [] q s e near = absurd (let f : false ≡ true = e in let z : ⊥ = cc in z)
+near_covered n (r ∷ zone) q s e near = elim (or_split (has r s) (covers zone s) e) [
+  | inl h ↦ or_left (has (grown n r) q) (covers (map (grown n) zone) q) (within_rect n r q s h near)
+  | inr h ↦ or_right (has (grown n r) q) (covers (map (grown n) zone) q) (near_covered n zone q s h near)
+]
+
+covered_near : (n : ℕ) (zone : List Rect) (q : Square) → All IsRect zone → covers (map (grown n) zone) q ≡ true → (s : Square) × (covers zone s ≡ true) × AreWithin n q s
+covered_near n [] q some e = absurd (let f : false ≡ true = e in let z : ⊥ = cc in z)
+covered_near n (r ∷ zone) q some e = elim (or_split (has (grown n r) q) (covers (map (grown n) zone) q) e) [
+  | inl h ↦ let s = near_rect n r q (All-head IsRect r zone some) h in (s.0, or_left (has r s.0) (covers zone s.0) s.1, s.2)
+  | inr h ↦ let s = covered_near n zone q (All-tail IsRect r zone some) h in (s.0, or_right (has r s.0) (covers zone s.0) s.1, s.2)
+]
+
+rects_of : (zone : List Rect) → IsCanonical zone → All IsRect zone
+rects_of zone h = all_rects zone (λ r i. rect_of _ r ((h.each r).0 i))
+
+decided : (n : ℕ) (d : Linked) (name : Formula) (cell : ℕ) → reach name + reach name ≤ n → IsSound d → HaveZones n d name cell → AreDecidedBelow (plain d) cell name
+decided n d name cell twice sound zones k p key z r placed flat near =
+    let e = zones k p placed in
+    let m = reach name in
+    elim (is_or_not (covers (map (grown m) e.0) r)) [
+      | inl c ↦
+          let s = covered_near m e.0 r (rects_of e.0 e.2) c in
+          inl (record { square = s.0; within = within_back m r s.0 s.2; disturbed = ((e.1 s.0).0 s.1).0 })
+      | inr c ↦ inr (λ h.
+          let back = within_back m h.square r h.within in
+          let far : AreWithin (m + m) h.square z = within_back (m + m) z h.square (farther m m z r h.square near back) in
+          let held = within_grown (m + m) (hull_of (cell_at d p.cell)) h.square z (hulls d sound p.cell key z flat) far in
+          not_both (covers (map (grown m) e.0) r) (near_covered m e.0 r h.square ((e.1 h.square).1 (h.disturbed, wider_grown (m + m) n (hull_of (cell_at d p.cell)) h.square twice held)) back) c)
     ]
 
+kept_flat : (d : Linked) (cell : ℕ) (name : Formula) (q : Square) → IsKept (plain d) cell name q → InFlat (plain d) cell name q
+kept_flat d cell (Input key) q h = h
+kept_flat d cell Empty q h = h
+kept_flat d cell (Binary op a b) q h = h.0
+kept_flat d cell (Sized by a) q h = h.0
+
+-- a name's flat squares lie in the hull, grown by its reach
+pub near_held : (d : Linked) (cell : ℕ) (name : Formula) (q : Square) → IsSound d → InFlat (plain d) cell name q → IsInGrown (reach name) (hull_of (cell_at d cell)) q
+near_held d cell name q sound f =
+    let u = near_input (plain d) cell name q f in
+    within_grown (reach name) (hull_of (cell_at d cell)) q u.2 (hulls d sound cell u.0 u.2 u.4) (within_back (reach name) u.2 q u.3)
+
 -- a kept square below lies in the placed cell's hull
-below_held : (d : Linked) (name : Formula) (cell : ℕ) (q : Square) (op : Op) (a b : Formula) → IsSound d → IsKeptBelow (plain d) cell (Binary op a b) q → IsFromCalmHull d (Binary op a b) cell q
-below_held d name cell q op a b sound h =
-    let u = under_input (plain d) h.place.cell (Binary op a b) h.square h.kept.0 in
-    record { number = h.number; place = h.place; square = h.square; placed = h.placed; held = hulls d sound h.place.cell u.0 h.square u.2; calm = λ e. h.kept.1 ((name_still (plain d) (Binary op a b) h.place.cell h.square).1 e); image = h.image }
+below_held : (d : Linked) (name : Formula) (cell : ℕ) (q : Square) → IsDerived name → IsSound d → IsKeptBelow (plain d) cell name q → IsFromCalmHull d name cell q
+below_held d name cell q derived sound h = record {
+  number = h.number;
+  place = h.place;
+  square = h.square;
+  placed = h.placed;
+  held = near_held d h.place.cell name h.square sound (kept_flat d h.place.cell name h.square h.kept);
+  calm = (calm_kept (plain d) h.place.cell name h.square derived h.kept).1;
+  image = h.image;
+}
 
 pub layer : LayerLaw
-layer d op a b cell places flat zone calm local sound reached zones parts canonical made = record {
+layer n d name cell places flat zone calm local derived twice sound reached zones parts canonical made = record {
   canonical = canonical;
   each = λ q. (to q, from q);
   parted = λ q kept. elim (part q kept) [ inl e ↦ inl (to q e) | inr h ↦ inr h ];
 }
   where
-    name : Formula
-    name = Binary op a b
+    calm_below : (q : Square) → InFlat (plain d) cell name q → IsFromCalmHull d name cell q → IsKeptBelow (plain d) cell name q
+    calm_below q f h = (below (plain d) name cell q derived reached f).1 (record { number = h.number; place = h.place; square = h.square; placed = h.placed; calm = h.calm; image = h.image })
 
-    grown_of : (q : Square) → InFlat (plain d) cell (Binary op a b) q → IsInGrown (hull_of (cell_at d cell)) q
-    grown_of q f = let u = under_input (plain d) cell (Binary op a b) q f in in_grown (hull_of (cell_at d cell)) q (hulls d sound cell u.0 q u.2)
+    calm_zone : (q : Square) → covers zone q ≡ false → InFlat (plain d) cell name q → IsStirred (plain d) (inputs name) (reach name) cell q → ⊥
+    calm_zone q e f h = not_both (covers zone q) ((parts.zones q (near_held d cell name q sound f)).1 h) e
 
-    calm_below : (q : Square) → InFlat (plain d) cell (Binary op a b) q → IsFromCalmHull d (Binary op a b) cell q → IsKeptBelow (plain d) cell (Binary op a b) q
-    calm_below q f h = (below (plain d) op a b cell q reached f).1 (record { number = h.number; place = h.place; square = h.square; placed = h.placed; calm = h.calm; image = h.image })
+    zone_off : (q : Square) → InFlat (plain d) cell name q → (IsStirred (plain d) (inputs name) (reach name) cell q → ⊥) → covers zone q ≡ false
+    zone_off q f h = elim (is_or_not (covers zone q)) [ inl e ↦ absurd (h ((parts.zones q (near_held d cell name q sound f)).0 e)) | inr e ↦ e ]
 
-    calm_zone : (q : Square) → covers zone q ≡ false → InFlat (plain d) cell (Binary op a b) q → IsDisturbed (plain d) (inputs (Binary op a b)) cell q → ⊥
-    calm_zone q e f h = not_both (covers zone q) ((parts.zones q).1 (h, grown_of q f)) e
-
-    zone_off : (q : Square) → (IsDisturbed (plain d) (inputs (Binary op a b)) cell q → ⊥) → covers zone q ≡ false
-    zone_off q h = elim (is_or_not (covers zone q)) [ inl e ↦ absurd (h ((parts.zones q).0 e).0) | inr e ↦ e ]
-
-    to : (q : Square) → covers local q ≡ true → IsKept (plain d) cell (Binary op a b) q × (IsKeptBelow (plain d) cell (Binary op a b) q → ⊥)
+    to : (q : Square) → covers local q ≡ true → IsLocal (plain d) cell name q
     to q e =
         let s = split_local (covers flat q) (covers zone q) (covers calm q) (sym (made q) ∙ e) in
         let f = (parts.flats q).0 s.0 in
-        ((f.1, λ e. calm_zone q s.1 f.1 ((name_still (plain d) (Binary op a b) cell q).0 e)), (λ h. not_both (covers calm q) ((parts.calms q f.0).1 (below_held d (Binary op a b) cell q op a b sound h)) s.2))
+        new_local (plain d) cell name q derived (
+          keeps (plain d) cell name q (f.1, calm_zone q s.1 f.1),
+          λ h. not_both (covers calm q) ((parts.calms q f.0).1 (below_held d name cell q derived sound h)) s.2,
+        )
 
-    looked : (q : Square) → InFlat (plain d) cell (Binary op a b) q → (covers places q ≡ true) ⊎ IsKeptBelow (plain d) cell (Binary op a b) q
-    looked q f = elim (candidate (plain d) op a b cell q reached (decided d (Binary op a b) cell sound zones) f) [
+    looked : (q : Square) → InFlat (plain d) cell name q → (covers places q ≡ true) ⊎ IsKeptBelow (plain d) cell name q
+    looked q f = elim (candidate (plain d) name cell q reached (decided n d name cell twice sound zones) f) [
       | inl h ↦ inl (parts.own q h)
-      | inr g ↦ elim g [ inl h ↦ inl (parts.disturbed q h) | inr h ↦ inr h ]
+      | inr g ↦ elim g [ inl h ↦ inl (parts.stirred q h) | inr h ↦ inr h ]
     ]
 
-    there : (q : Square) → IsKept (plain d) cell (Binary op a b) q → covers places q ≡ true → covers calm q ≡ false → covers local q ≡ true
-    there q kept e c = made q ∙ join_local (covers flat q) (covers zone q) (covers calm q) ((parts.flats q).1 (e, kept.0)) (zone_off q (λ e. kept.1 ((name_still (plain d) (Binary op a b) cell q).1 e))) c
+    there : (q : Square) → IsKept (plain d) cell name q → covers places q ≡ true → covers calm q ≡ false → covers local q ≡ true
+    there q kept e c =
+        let k = calm_kept (plain d) cell name q derived kept in
+        made q ∙ join_local (covers flat q) (covers zone q) (covers calm q) ((parts.flats q).1 (e, k.0)) (zone_off q k.0 k.1) c
 
-    from : (q : Square) → IsKept (plain d) cell (Binary op a b) q × (IsKeptBelow (plain d) cell (Binary op a b) q → ⊥) → covers local q ≡ true
-    from q (kept, none) = elim (looked q kept.0) [
-      | inr h ↦ absurd (none h)
-      | inl e ↦ elim (is_or_not (covers calm q)) [
-        | inl c ↦ absurd (none (calm_below q kept.0 ((parts.calms q e).0 c)))
-        | inr c ↦ there q kept e c
-      ]
-    ]
+    from : (q : Square) → IsLocal (plain d) cell name q → covers local q ≡ true
+    from q h =
+        let new = local_new (plain d) cell name q derived h in
+        let f = kept_flat d cell name q new.0 in
+        elim (looked q f) [
+          | inr b ↦ absurd (new.1 b)
+          | inl e ↦ elim (is_or_not (covers calm q)) [
+            | inl c ↦ absurd (new.1 (calm_below q f ((parts.calms q e).0 c)))
+            | inr c ↦ there q new.0 e c
+          ]
+        ]
 
-    part : (q : Square) → IsKept (plain d) cell (Binary op a b) q → (covers local q ≡ true) ⊎ IsKeptBelow (plain d) cell (Binary op a b) q
-    part q kept = elim (looked q kept.0) [
-      | inr h ↦ inr h
-      | inl e ↦ elim (is_or_not (covers calm q)) [
-        | inl c ↦ inr (calm_below q kept.0 ((parts.calms q e).0 c))
-        | inr c ↦ inl (there q kept e c)
-      ]
-    ]
+    part : (q : Square) → IsKept (plain d) cell name q → (covers local q ≡ true) ⊎ IsKeptBelow (plain d) cell name q
+    part q kept =
+        let f = kept_flat d cell name q kept in
+        elim (looked q f) [
+          | inr h ↦ inr h
+          | inl e ↦ elim (is_or_not (covers calm q)) [
+            | inl c ↦ inr (calm_below q f ((parts.calms q e).0 c))
+            | inr c ↦ inl (there q kept e c)
+          ]
+        ]

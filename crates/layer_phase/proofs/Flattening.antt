@@ -157,6 +157,7 @@ form_known all before n rule (form.Binary op a b) key e at known listed = elim (
   | inl h ↦ tree_at all before a key known h
   | inr h ↦ tree_at all before b key known h
 ]
+form_known all before n rule (form.Sized a by) key e at known listed = tree_at all before a key known listed
 
 known_behind : (all : List LayerRule) (before : List Formula) (rest : List LayerRule) (n : ℕ) → ((k : ℕ) (rule : LayerRule) → slice_get rest k ≡ Some rule → slice_get all (n + k) ≡ Some rule) → Known all before → Known all (formulas_behind before rest)
 known_behind all before [] n at known = known

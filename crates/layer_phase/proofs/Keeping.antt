@@ -14,6 +14,7 @@ use Rattle.cell_graph.proofs.Bridge.{or_split, or_left, or_right}
 use Rattle.cell_context.specs.declared.arrays.Visit.{Visit}
 use Rattle.cell_context.specs.Visits.{IsVisited}
 use Rattle.cell_context.specs.Over.{IsVisit, AreVisited}
+use Rattle.cell_graph.proofs.Growing.{grown_none}
 use Rattle.cell_context.proofs.Collecting.{and_right}
 use Rattle.cell_context.proofs.Visiting.{and_both, inside_from, within_inside, near_rect, wider_rect}
 use Rattle.cell_context.proofs.Gathering.{Adds, some_at}
@@ -38,10 +39,10 @@ not_true false e = refl
 not_false : (b : Bool) → b ≡ false → not b ≡ true
 not_false b e = ap not e
 
-pub entry_of : (d : Linked) (z : List (Option CellZones)) (cell name : ℕ) (w : Rect) (v : Visit) → HaveEntries d z cell name → IsVisit d cell None w v → HasEntry z v.cell name
+pub entry_of : (d : Linked) (z : List (Option CellZones)) (cell name : ℕ) (w : Rect) (v : Visit) → HaveEntries d z cell name → IsVisit 0 d cell None w v → HasEntry z v.cell name
 entry_of d z cell name w v have h = subst (λ c. HasEntry z c name) (sym h.cell_is) (have h.index h.row h.column h.from h.step)
 
-pub right_more : (d : Linked) (z : List (Option CellZones)) (cell name : ℕ) (w : Rect) (old new keep : List Rect) (v : Visit) → HaveEntries d z cell name → IsVisit d cell None w v
+pub right_more : (d : Linked) (z : List (Option CellZones)) (cell name : ℕ) (w : Rect) (old new keep : List Rect) (v : Visit) → HaveEntries d z cell name → IsVisit 0 d cell None w v
     → ((q : Square) → covers old q ≡ true → (has w q ≡ true) × IsKeptBy d z cell name q) → IsCalmPart z name v keep → Adds old new keep v.motion w
     → (q : Square) → covers new q ≡ true → (has w q ≡ true) × IsKeptBy d z cell name q
 right_more d z cell name w old new keep v have h right calm adds q e =
@@ -63,7 +64,7 @@ right_more d z cell name w old new keep v have h right calm adds q e =
               from = h.from;
               step = h.step;
               square = s;
-              held = subst (λ c. HullHas (hull_of (cell_at d c)) s) h.cell_is (h.held s (and_left (has v.window s) (not zone) k));
+              held = subst (λ c. HullHas (hull_of (cell_at d c)) s) h.cell_is ((grown_none (hull_of (cell_at d v.cell)) s).0 (h.held s (and_left (has v.window s) (not zone) k)));
               entry = n.0;
               at = subst (λ c. IsZoneAt z c name n.0) h.cell_is n.1;
               off = not_true zone (and_right (has v.window s) (not zone) k);
@@ -79,11 +80,11 @@ brings_here z name w old new keep v calm adds e s at h off g =
     adds s ∙ or_right (covers old (moved_square v.motion s)) (covers keep s && has w (moved_square v.motion s)) (and_both (covers keep s) (has w (moved_square v.motion s)) k g)
 
 pub all_there : (d : Linked) (z : List (Option CellZones)) (cell name : ℕ) (w : Rect) (out : List Rect) (vs : List Visit) (none : Visit)
-    → ((k : ℕ) → k < length vs → BringsCalm z name w out (slice_index_or vs k none)) → AreVisited d cell None w vs
+    → ((k : ℕ) → k < length vs → BringsCalm z name w out (slice_index_or vs k none)) → AreVisited 0 d cell None w vs
     → (q : Square) → has w q ≡ true → IsKeptBy d z cell name q → covers out q ≡ true
 all_there d z cell name w out vs none brings found q g t =
     let inside = subst (λ x. has w x ≡ true) (sym t.image) g in
-    let s = some_at (IsVisited t.from t.row t.column t.square) vs none (found t.index t.row t.column t.from t.square t.step (λ e. let f : None ≡ Some t.index = e in let z : ⊥ = cc in z) t.held inside) in
+    let s = some_at (IsVisited t.from t.row t.column t.square) vs none (found t.index t.row t.column t.from t.square t.step (λ e. let f : None ≡ Some t.index = e in let z : ⊥ = cc in z) ((grown_none (hull_of (cell_at d t.from.cell)) t.square).1 t.held) inside) in
     let v = slice_index_or vs s.0 none in
     let m : moved_square v.motion t.square ≡ q = ap (λ (m : Motion). moved_square m t.square) s.2.motion ∙ t.image in
     let b = brings s.0 s.1 t.entry t.square (subst (λ c. IsZoneAt z c name t.entry) (sym s.2.cell) t.at) s.2.has t.off (subst (λ x. has w x ≡ true) (sym m) g) in

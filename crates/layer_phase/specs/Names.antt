@@ -2,15 +2,16 @@
 -- holds itself.
 use Rattle.std.specs.Prelude.{◌≡◌, ◌↔◌, ℕ, ◌<◌, ◌^◌, true, List, [], Option, Some, length, get_or}
 use Rattle.std.specs.Prelude.{slice_get}
-use Rattle.geo_base.specs.declared.layer.Op.{Op}
 use Rattle.geo_base.specs.declared.shapes.Rect.{Rect}
 use Rattle.geo_base.specs.declared.shapes.Square.{Square}
 use Rattle.rect_sets.specs.Rects.{covers}
-use Rattle.flat_layout.specs.Layers.{Formula, Binary, Empty, InFlat}
+use Rattle.flat_layout.specs.Layers.{Formula, Empty, InFlat}
 use Rattle.flat_layout.specs.Layout.{IsReached}
 use Rattle.flat_layout.specs.Values.{IsLocalLayer}
 use Rattle.cell_graph.specs.Linked.{Linked, plain}
+use Rattle.deep_laws.specs.Layers.{IsDerived}
 use Rattle.rule_text.specs.Rules.{Rules}
+use Rattle.rule_text.specs.Sound.{IsSound}
 use Rattle.deep_tables.specs.declared.zones.CellZones.{CellZones}
 use Rattle.deep_tables.specs.Frames.{HasHulls}
 use Rattle.deep_tables.specs.Zones.{AreZones}
@@ -25,11 +26,10 @@ abbrev pub AreFlats : Linked → ℕ → List Rect → List Formula → List (Li
 AreFlats d cell looks trees sets = (k : ℕ)
     → IsFlatIn d cell looks (get_or trees k Empty) (get_or sets k [])
 
--- the same of each tree with an operator
+-- the same of each tree of a derived name
 abbrev pub AreDerivedFlats : Linked → ℕ → List Rect → List Formula → List (List Rect) → Type 0
-AreDerivedFlats d cell looks trees sets = (k : ℕ) (op : Op) (a b : Formula)
-    → slice_get trees k ≡ Some (Binary op a b)
-    → IsFlatIn d cell looks (Binary op a b) (get_or sets k [])
+AreDerivedFlats d cell looks trees sets = (k : ℕ) (x : Formula) → IsDerived x
+    → slice_get trees k ≡ Some x → IsFlatIn d cell looks x (get_or sets k [])
 
 -- the squares that the cell holds itself of each tree
 abbrev pub AreLocals : Linked → ℕ → List Formula → List (List Rect) → Type 0
@@ -37,8 +37,9 @@ AreLocals d cell trees sets = (k : ℕ) (x : Formula) (set : List Rect)
     → slice_get trees k ≡ Some x → slice_get sets k ≡ Some set
     → IsLocalLayer (plain d) x cell set
 
--- a reached cell of a layout with its hulls, and right disturbed squares for the rules
+-- sound rules, a reached cell of a layout with its hulls, and right disturbed squares for the rules
 pub record IsReady (d : Linked) (r : Rules) (z : List (Option CellZones)) (cell : ℕ) : Type 0 where
+  pub rules : IsSound r
   pub hulls : HasHulls d
   pub zones : AreZones (plain d) r z
   pub few : length r.names < 2 ^ 32

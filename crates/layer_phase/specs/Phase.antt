@@ -6,6 +6,7 @@ use Rattle.deep_tables.specs.Frames.{HasHulls}
 use Rattle.deep_tables.specs.Zones.{AreZones}
 use Rattle.rule_text.specs.declared.rules.RuleSet.{RuleSet}
 use Rattle.rule_text.specs.Seen.{rules_seen}
+use Rattle.rule_text.specs.Sound.{IsSound}
 use Rattle.rule_layers.specs.Reads.{AreRead}
 use Rattle.layer_phase.specs.declared.phase.LayerPhase.TheInside.{Inside}
 
@@ -24,6 +25,7 @@ abbrev pub jobs_seen : Inside → LayerJobs
 jobs_seen a = record { design = a.design.now; rules = a.rules.now; graph = a.graph }
 
 pub record IsLayerPhase (a : Inside) : Type 0 where
+  pub rules : IsSound (rules_seen a.rules.now)
   pub hulls : HasHulls a.design.now
   pub zones : AreZones (plain a.design.now) (rules_seen a.rules.now) a.zones.now
   pub few : length a.rules.now.names.items < 2 ^ 32

@@ -6,6 +6,7 @@ ghost use Rattle.geo_base.specs.declared.shapes.Rect.{Rect};
 ghost use Rattle.rule_text.specs.declared.rules.LayerForm.TheVariants.{Input as InputForm};
 ghost use Rattle.geo_base.specs.declared.layer.LayerKey.{LayerKey};
 ghost use Rattle.rule_layers.specs.Formulas.{formula_by, formulas};
+ghost use Rattle.rule_layers.specs.Unsized.{AreUnsized, IsUnsized};
 ghost use Rattle.layer_phase.specs.Looks.{AreNear, Grows, HoldsOwn};
 ghost use Rattle.layer_phase.specs.Names.{AreFlats, IsFlatIn};
 
@@ -69,7 +70,7 @@ fn input_flat<'a>(
     Ok(Flat::own(set))
 }
 
-// A name's flat squares, over those of the names before it.
+// A name's flat squares, over those of the names before it. No name is sized yet.
 fn form_flat<'a>(
     alloc: Global,
     design: &'a Design,
@@ -80,6 +81,7 @@ fn form_flat<'a>(
 ) -> Result<Flat<'a>, AllocError>
     requires cell { cell < length design.now.cells }
     requires near { AreNear looks.now }
+    requires unsized { IsUnsized form }
     requires own { (key : LayerKey) → form ≡ InputForm key
         → Grows (own_of (cell_at design.now cell) key) looks.now }
     ensures { IfOk result (λ r. (trees : List Formula)
@@ -91,6 +93,7 @@ fn form_flat<'a>(
         LayerForm::Labels(_) => Ok(Flat::own(RectSet::empty(alloc))),
         LayerForm::Empty => Ok(Flat::own(RectSet::empty(alloc))),
         LayerForm::Binary(op, a, b) => two_flats(alloc, before, op, a, b),
+        LayerForm::Sized(_, _) => Ok(Flat::own(RectSet::empty(alloc))),
     }
 }
 
@@ -105,6 +108,7 @@ pub fn name_flats<'a>(
 ) -> Result<Vec<Flat<'a>>, AllocError>
     requires cell { cell < length design.now.cells }
     requires near { AreNear looks.now }
+    requires unsized { AreUnsized names.now }
     requires own { HoldsOwn design.now names.now cell looks.now }
     ensures count { IfOk result (λ v. length v.items ≡ length names.now) }
     ensures flats { IfOk result (λ v. AreFlats design.now cell looks.now (formulas names.now)

@@ -1,9 +1,9 @@
 //! The squares that a cell holds itself, for each name of the rules.
 ghost use Rattle.std.specs.Prelude.{◌≡◌, ◌<◌, ◌^◌, ℕ, List, [], Some, length, slice_get, IfOk};
 ghost use Rattle.cell_graph.specs.Linked.{plain};
-ghost use Rattle.flat_layout.specs.Layers.{Binary, Input, Formula};
+ghost use Rattle.deep_laws.specs.Layers.{IsDerived};
+ghost use Rattle.flat_layout.specs.Layers.{Input, Formula};
 ghost use Rattle.flat_layout.specs.Values.{IsLocalLayer};
-ghost use Rattle.geo_base.specs.declared.layer.Op.{Op};
 ghost use Rattle.rule_layers.specs.Formulas.{formula_by, formulas};
 ghost use Rattle.rule_text.specs.Seen.{rules_seen};
 ghost use Rattle.layer_phase.specs.Names.{AreDerivedFlats, AreLocals, IsFlatIn, IsReady};
@@ -54,10 +54,10 @@ fn derived_layer(
     requires ready { IsReady design.now (rules_seen rules.now) zones.now cell }
     requires looks { AreReadLooks design.now zones.now rules.now.names.items cell looks.now }
     requires name { name < length (formulas rules.now.names.items) }
-    ensures { IfOk result (λ r. (op : Op) (a b : Formula)
-        → slice_get (formulas rules.now.names.items) name ≡ Some (Binary op a b)
-        → IsFlatIn design.now cell looks.now (Binary op a b) flat.entry
-        → IsLocalLayer (plain design.now) (Binary op a b) cell r) }
+    ensures { IfOk result (λ r. (x : Formula) → IsDerived x
+        → slice_get (formulas rules.now.names.items) name ≡ Some x
+        → IsFlatIn design.now cell looks.now x flat.entry
+        → IsLocalLayer (plain design.now) x cell r) }
 {
     design.sound();
     let _ = rules;
@@ -87,8 +87,8 @@ fn form_layer(
     requires name { name < length (formulas rules.now.names.items) }
     ensures { IfOk result (λ r. (trees : List Formula)
         → slice_get (formulas rules.now.names.items) name ≡ Some (formula_by trees form)
-        → ((op : Op) (a b : Formula) → formula_by trees form ≡ Binary op a b
-        → IsFlatIn design.now cell looks.now (Binary op a b) flat.entry)
+        → (IsDerived (formula_by trees form)
+        → IsFlatIn design.now cell looks.now (formula_by trees form) flat.entry)
         → IsLocalLayer (plain design.now) (formula_by trees form) cell r) }
 {
     match form {
@@ -96,6 +96,9 @@ fn form_layer(
         LayerForm::Labels(_) => Ok(RectSet::empty(alloc)),
         LayerForm::Empty => Ok(RectSet::empty(alloc)),
         LayerForm::Binary(_, _, _) => {
+            derived_layer(alloc, design, rules, zones, cell, name, looks, flat)
+        }
+        LayerForm::Sized(_, _) => {
             derived_layer(alloc, design, rules, zones, cell, name, looks, flat)
         }
     }

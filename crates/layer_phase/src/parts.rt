@@ -81,7 +81,7 @@ pub fn calm_pieces(
 {
     design.sound();
     let mut out = Vec::new(alloc);
-    let list = visits(alloc, design, cell, window, None)?;
+    let list = visits(alloc, design, cell, window, None, 0)?;
     for visit in &list {
         let keep = calm_part(alloc, zones, visit, name)?;
         push_images(&mut out, keep.rects(), &visit.motion, window)?;

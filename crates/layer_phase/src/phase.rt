@@ -3,6 +3,7 @@ ghost use Rattle.std.specs.Prelude.{◌≡◌, IfOk};
 ghost use Rattle.cell_graph.specs.Linked.{plain};
 ghost use Rattle.deep_tables.specs.Zones.{AreZones};
 ghost use Rattle.rule_text.specs.Seen.{rules_seen};
+ghost use Rattle.rule_text.specs.Sound.{IsSound};
 ghost use Rattle.layer_phase.specs.Phase.{AreFreeJobs};
 
 use crate::layers::name_layers;
@@ -58,6 +59,7 @@ impl<'a> LayerPhase<'a> {
         rules: &'a RuleSet,
         zones: &'a Zones,
     ) -> Result<LayerPhase<'a>, AllocError>
+        requires rules { IsSound (rules_seen rules.now) }
         requires zones { AreZones (plain design.now) (rules_seen rules.now) zones.now }
         ensures design { IfOk result (λ p. p.design ≡ design.now) }
         ensures rules { IfOk result (λ p. p.rules ≡ rules.now) }

@@ -8,16 +8,20 @@ use Rattle.deep_tables.specs.declared.nets.CellNets.{CellNets}
 use Rattle.deep_tables.proofs.Agreeing.{nets_over_any}
 use Rattle.flat_laws.proofs.Cover.{reached_below}
 use Rattle.flat_laws.proofs.Items.{together as nets_together}
-use Rattle.flat_laws.proofs.Names.{under_input}
-use Rattle.flat_layout.specs.Layers.{Binary, Empty, Input, IsLocal, Formula}
+use Rattle.flat_laws.proofs.Moves.{within_none}
+use Rattle.flat_laws.proofs.Names.{near_input}
+use Rattle.flat_layout.specs.Layers.{Binary, Empty, Input, Sized, InFlat, IsLocal, Formula, reach}
 use Rattle.flat_layout.specs.Layout.{IsPlaced, IsReached, Leads, Place}
 use Rattle.flat_layout.specs.Nets.{AreListed, AreNets, AreRightBelow, IsNetsOf, Tables}
+use Rattle.flat_layout.specs.Plane.{AreWithin}
 use Rattle.flat_layout.specs.Regions.{formula}
 use Rattle.geo_base.specs.declared.shapes.Rect.{Rect}
 use Rattle.geo_base.specs.declared.shapes.Square.{Square}
 use Rattle.net_walk.proofs.Insides.{rect_of}
 use Rattle.rule_layers.specs.Meaning.{wiring_of}
+use Rattle.rule_layers.proofs.Unsized.{still}
 use Rattle.rule_text.specs.Rules.{Rules}
+use Rattle.rule_text.specs.Sound as rules
 use Rattle.table_laws.proofs.Tabled.{leads_both, reached_under}
 use Rattle.table_laws.proofs.Tabled as tabled
 use Rattle.rule_text.specs.Seen.{rules_seen}
@@ -49,24 +53,29 @@ right_below d r all nets cell sound reached own read = record {
         let v = some_and (AreCellNets (plain d) r f) (get_or nets f None) (read f (k, p, placed, (path, leads))) in
         subst (λ o. IsNetsOf (plain d) (wiring_of r) f (nets_in o)) (sym v.1) v.2
 
-local_in_hull : (d : Linked) (name : Formula) (cell : ℕ) (q : Square) → IsSound d → IsLocal (plain d) cell name q → HullHas (hull_of (cell_at d cell)) q
-local_in_hull d (Input key) cell q sound h = hulls d sound cell key q (record { path = []; end = cell; square = q; takes = (refl, refl); own = h })
-local_in_hull d Empty cell q sound h = absurd h
-local_in_hull d (Binary op a b) cell q sound h =
-    let under = under_input (plain d) cell (Binary op a b) q h.0.0 in
-    hulls d sound cell under.0 q under.2
+-- a name that isn't sized has its flat squares in the hull
+pub flat_in_hull : (d : Linked) (name : Formula) (cell : ℕ) (q : Square) → IsSound d → reach name ≡ 0 → InFlat (plain d) cell name q → HullHas (hull_of (cell_at d cell)) q
+flat_in_hull d name cell q sound none h =
+    let u = near_input (plain d) cell name q h in
+    subst (λ s. HullHas (hull_of (cell_at d cell)) s) (within_none u.2 q (subst (λ n. AreWithin n u.2 q) none u.3)) (hulls d sound cell u.0 u.2 u.4)
+
+local_in_hull : (d : Linked) (name : Formula) (cell : ℕ) (q : Square) → IsSound d → reach name ≡ 0 → IsLocal (plain d) cell name q → HullHas (hull_of (cell_at d cell)) q
+local_in_hull d (Input key) cell q sound none h = hulls d sound cell key q (record { path = []; end = cell; square = q; takes = (refl, refl); own = h })
+local_in_hull d Empty cell q sound none h = absurd h
+local_in_hull d (Binary op a b) cell q sound none h = flat_in_hull d (Binary op a b) cell q sound none h.0.0
+local_in_hull d (Sized by a) cell q sound none h = flat_in_hull d (Sized by a) cell q sound none h.0.0
 
 nothing_listed : (l : List Rect) (r : ℕ) (o : Rect) → l ≡ [] → slice_get l r ≡ Some o → ⊥
 nothing_listed l r o e h = let f : slice_get [] r ≡ Some o = subst (λ (m : List Rect). slice_get m r ≡ Some o) e h in cc
 
-pub held_own : (d : Linked) (r : Rules) (all : List (List (List Rect))) → IsSound d → AreOwnLists d r all → AreHeldOwn d all
-held_own d r all sound own = record {
+pub held_own : (d : Linked) (r : Rules) (all : List (List (List Rect))) → IsSound d → rules.IsSound r → AreOwnLists d r all → AreHeldOwn d all
+held_own d r all sound ruled own = record {
   some = λ cell c k o h. elim (own.others cell c) [
     | inl reached ↦ let filled = (listed cell c reached).own.filled k o h in rect_of o filled.0 filled.1
     | inr none ↦ absurd (nothing_listed (own_at all cell c) k o none h)
   ];
   held = λ cell c k o q h inside. elim (own.others cell c) [
-    | inl reached ↦ local_in_hull d (formula (wiring_of r) c) cell q sound ((listed cell c reached).own.local k o q h inside)
+    | inl reached ↦ local_in_hull d (formula (wiring_of r) c) cell q sound ((still r ruled).conductors c) ((listed cell c reached).own.local k o q h inside)
     | inr none ↦ absurd (nothing_listed (own_at all cell c) k o none h)
   ];
 }

@@ -3,6 +3,7 @@ use Rattle.std.specs.Prelude.{ℕ, List}
 use Rattle.cell_graph.specs.Linked.{Linked}
 use Rattle.rule_text.specs.declared.rules.RuleSet.{RuleSet}
 use Rattle.rule_text.specs.Seen.{rules_seen}
+use Rattle.rule_text.specs.Sound.{IsSound}
 use Rattle.rule_layers.specs.Meaning.{wiring_of}
 use Rattle.net_phase.specs.Elements.{AreAllElements, element_lists}
 use Rattle.net_phase.specs.Graph.{AreBelowJobs}
@@ -21,6 +22,7 @@ abbrev pub jobs_seen : Inside → NetJobs
 jobs_seen a = record { design = a.design.now; rules = a.rules.now; graph = a.graph }
 
 pub record IsNetPhase (a : Inside) : Type 0 where
+  pub rules : IsSound (rules_seen a.rules.now)
   pub graph : AreBelowJobs a.design.now a.graph
   pub wires : AreWires (wiring_of (rules_seen a.rules.now)) a.wires
   pub elements : AreAllElements a.design.now (element_lists a.elements.items)

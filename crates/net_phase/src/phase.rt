@@ -5,6 +5,7 @@ ghost use Rattle.deep_tables.specs.Layers.{AreLayers};
 ghost use Rattle.deep_tables.specs.Nets.{plain_nets};
 ghost use Rattle.flat_layout.specs.Nets.{AreNets, AreRightBelow};
 ghost use Rattle.rule_text.specs.Seen.{rules_seen};
+ghost use Rattle.rule_text.specs.Sound.{IsSound};
 ghost use Rattle.net_phase.specs.Below.{tables_seen, wiring_seen};
 ghost use Rattle.net_phase.specs.Graph.{AreBelowJobs};
 ghost use Rattle.net_phase.specs.Wires.{AreWires};
@@ -62,6 +63,7 @@ impl<'a> NetPhase<'a> {
         rules: &'a RuleSet,
         layers: &'a Layers,
     ) -> Result<NetPhase<'a>, AllocError>
+        requires rules { IsSound (rules_seen rules.now) }
         requires layers { AreLayers (plain design.now) (rules_seen rules.now) layers.now }
         ensures design { IfOk result (λ p. p.design ≡ design.now) }
         ensures rules { IfOk result (λ p. p.rules ≡ rules.now) }

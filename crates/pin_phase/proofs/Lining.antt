@@ -37,6 +37,7 @@ no_labels (form.Input key) not = refl
 no_labels (form.Labels key) not = absurd (not key refl)
 no_labels form.Empty not = refl
 no_labels (form.Binary op a b) not = refl
+no_labels (form.Sized a by) not = refl
 
 -- what a connect line connects to texts
 abbrev pub labels_at : Rules → ℕ × ℕ → List Label

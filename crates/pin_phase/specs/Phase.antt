@@ -6,6 +6,7 @@ use Rattle.deep_tables.specs.Nets.{AreRightNets}
 use Rattle.flat_layout.specs.GateTables.{GateEntry}
 use Rattle.rule_layers.specs.Meaning.{device_rules, globals_of, labels_of, wiring_of}
 use Rattle.rule_text.specs.Seen.{rules_seen}
+use Rattle.rule_text.specs.Sound.{IsSound}
 use Rattle.rule_text.specs.declared.rules.RuleSet.{RuleSet}
 use Rattle.net_phase.specs.Below.{BelowSeen, tables_seen}
 use Rattle.net_phase.specs.Elements.{AreAllElements, element_lists}
@@ -36,6 +37,7 @@ read_by a = record {
 }
 
 pub record IsPinPhase (a : Inside) : Type 0 where
+  pub rules : IsSound (rules_seen a.rules.now)
   pub conductors : a.conductors ≡ length (wiring_of (rules_seen a.rules.now)).conductors
   pub lines : map label a.lines.items ≡ labels_of (rules_seen a.rules.now)
   pub globals : names_of a.globals.items ≡ globals_of (rules_seen a.rules.now)

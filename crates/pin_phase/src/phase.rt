@@ -5,6 +5,7 @@ ghost use Rattle.deep_tables.specs.Gates.{AreGates};
 ghost use Rattle.deep_tables.specs.Layers.{AreLayers};
 ghost use Rattle.deep_tables.specs.Nets.{AreNets};
 ghost use Rattle.rule_text.specs.Seen.{rules_seen};
+ghost use Rattle.rule_text.specs.Sound.{IsSound};
 ghost use Rattle.zone_phase.specs.Graph.{AreParentJobs};
 
 use crate::lines::{TextLine, global_names, text_lines};
@@ -65,6 +66,7 @@ impl<'a> PinPhase<'a> {
         nets: &'a Nets,
         gates: &Gates,
     ) -> Result<PinPhase<'a>, AllocError>
+        requires rules { IsSound (rules_seen rules.now) }
         requires layers { AreLayers (plain design.now) (rules_seen rules.now) layers.now }
         requires nets { AreNets (plain design.now) (rules_seen rules.now) nets.now }
         requires gates { AreGates (plain design.now) (rules_seen rules.now) gates.now }

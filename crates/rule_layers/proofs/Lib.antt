@@ -1,3 +1,5 @@
 pub mod Marking
 pub mod Unread
 pub mod Wired
+pub mod Reaching
+pub mod Unsized

@@ -1,12 +1,12 @@
 -- Names that are read, and trees that read them.
-use Rattle.std.proofs.Common.{◌≡◌, ◌⊎◌, inl, inr, ℕ, zero, suc, ◌<◌, ◌≤◌, ◌+◌, Bool, true, false, List, [], ◌∷◌, ◌++◌, Some, None, refl, sym, ap, ◌∙◌, subst, arith, length, length-append, get_or, slice_get}
+use Rattle.std.proofs.Common.{◌≡◌, ◌⊎◌, inl, inr, ℕ, zero, suc, ◌<◌, ◌≤◌, ◌+◌, ℤ, Bool, true, false, List, [], ◌∷◌, ◌++◌, Some, None, refl, sym, ap, ◌∙◌, subst, arith, length, length-append, get_or, slice_get}
 use Rattle.std.proofs.Math.Decide.{ℕ_discrete}
 use Rattle.std.proofs.lemmas.Bool.{cases_lt}
 use Rattle.std.proofs.lemmas.List.{get_or_append_left, get_or_push, get_or_past}
 use Rattle.std.proofs.lemmas.Option.{get_or_from_slice_get, slice_get-get_or, slice_get_within}
 use Rattle.geo_base.specs.declared.layer.LayerKey.{LayerKey}
 use Rattle.geo_base.specs.declared.layer.Op.{Op}
-use Rattle.flat_layout.specs.Layers.{Formula, Input, Empty, Binary}
+use Rattle.flat_layout.specs.Layers.{Formula, Input, Empty, Binary, Sized}
 use Rattle.rule_text.specs.declared.rules.LayerForm.{LayerForm}
 use Rattle.rule_text.specs.declared.rules.LayerForm.TheVariants as form
 use Rattle.rule_text.specs.declared.rules.LayerRule.{LayerRule}
@@ -74,6 +74,7 @@ input_read P f seen key (inr h) is = absurd (no_input f key (sym h.1 ∙ is))
     no_input (form.Labels k) key e = cc
     no_input form.Empty key e = cc
     no_input (form.Binary op a b) key e = cc
+    no_input (form.Sized a by) key e = cc
 
 -- trees that are one, but for input layers that aren't read
 
@@ -83,8 +84,18 @@ IsAlike P x y = ((x ≡ y) × ((key : LayerKey) → y ≡ Input key → P)) ⊎ 
 no_key : {P : Type 0} (y : Formula) (key : LayerKey) → y ≡ Empty → y ≡ Input key → P
 no_key y key e h = absurd (let z : Empty ≡ Input key = sym e ∙ h in let w : ⊥ = cc in w)
 
-no_derived : {P : Type 0} (op : Op) (a b y : Formula) (key : LayerKey) → y ≡ Binary op a b → y ≡ Input key → P
-no_derived op a b y key e h = absurd (let z : Binary op a b ≡ Input key = sym e ∙ h in let w : ⊥ = cc in w)
+-- it is no input layer
+abbrev pub IsOther : Formula → Type 0
+IsOther x = (key : LayerKey) → x ≡ Input key → ⊥
+
+binary_other : (op : Op) (a b : Formula) → IsOther (Binary op a b)
+binary_other op a b key e = cc
+
+sized_other : (by : ℤ) (a : Formula) → IsOther (Sized by a)
+sized_other by a key e = cc
+
+no_derived : {P : Type 0} (x y : Formula) (key : LayerKey) → IsOther x → y ≡ x → y ≡ Input key → P
+no_derived x y key other e h = absurd (other key (sym e ∙ h))
 
 record AreAlike (names : List LayerRule) (devices : List MosRule) (further : List MoreRule) (xs ys : List Formula) : Type 0 where
   pub long : length xs ≡ length ys
@@ -104,12 +115,14 @@ form_same names devices further xs ys n rule (form.Binary op a b) e h at =
     let first = operand names devices further xs ys n rule a h at (subst (λ g. Reads g a) (sym e) (inl refl)) in
     let second = operand names devices further xs ys n rule b h at (subst (λ g. Reads g b) (sym e) (inr refl)) in
     ap (λ x. Binary op x (get_or xs b Empty)) first ∙ ap (Binary op (get_or ys a Empty)) second
+form_same names devices further xs ys n rule (form.Sized a by) e h at = ap (Sized by) (operand names devices further xs ys n rule a h at (subst (λ g. Reads g a) (sym e) refl))
 
 unread_alike : (P : Type 0) (xs ys : List Formula) (f seen : LayerForm) → formula_by xs f ≡ formula_by ys f → (P → ⊥) → seen ≡ read_form false f → IsAlike P (formula_by xs f) (formula_by ys seen)
 unread_alike P xs ys (form.Input key) seen same not is = inr (not, ap (formula_by ys) is, (key, refl))
 unread_alike P xs ys (form.Labels key) seen same not is = inl (same ∙ ap (formula_by ys) (sym is), λ k e. no_key (formula_by ys seen) k (ap (formula_by ys) is) e)
 unread_alike P xs ys form.Empty seen same not is = inl (same ∙ ap (formula_by ys) (sym is), λ k e. no_key (formula_by ys seen) k (ap (formula_by ys) is) e)
-unread_alike P xs ys (form.Binary op a b) seen same not is = inl (same ∙ ap (formula_by ys) (sym is), λ k e. no_derived op (get_or ys a Empty) (get_or ys b Empty) (formula_by ys seen) k (ap (formula_by ys) is) e)
+unread_alike P xs ys (form.Binary op a b) seen same not is = inl (same ∙ ap (formula_by ys) (sym is), λ k e. no_derived (formula_by ys (form.Binary op a b)) (formula_by ys seen) k (binary_other op (get_or ys a Empty) (get_or ys b Empty)) (ap (formula_by ys) is) e)
+unread_alike P xs ys (form.Sized a by) seen same not is = inl (same ∙ ap (formula_by ys) (sym is), λ k e. no_derived (formula_by ys (form.Sized a by)) (formula_by ys seen) k (sized_other by (get_or ys a Empty)) (ap (formula_by ys) is) e)
 
 form_alike : (names : List LayerRule) (devices : List MosRule) (further : List MoreRule) (xs ys : List Formula) (n : ℕ) (rule seen : LayerRule) → AreAlike names devices further xs ys → slice_get names n ≡ Some rule → IsReadAs (IsRead names devices further n) rule.form seen.form
     → IsAlike (IsRead names devices further n) (formula_by xs rule.form) (formula_by ys seen.form)
@@ -171,19 +184,32 @@ same_count names devices further read are = (alike names devices further read ar
 pub read_tree : (names : List LayerRule) (devices : List MosRule) (further : List MoreRule) (read : List LayerRule) (k : ℕ) → AreRead names devices further read → IsRead names devices further k → get_or (formulas names) k Empty ≡ get_or (formulas read) k Empty
 read_tree names devices further read k are is = elim ((alike names devices further read are).each k) [ inl e ↦ e.0 | inr u ↦ absurd (u.0 is) ]
 
--- and so has a derived name
-pub derived_tree : (names : List LayerRule) (devices : List MosRule) (further : List MoreRule) (read : List LayerRule) (k : ℕ) (op : Op) (a b : Formula) → AreRead names devices further read → get_or (formulas names) k Empty ≡ Binary op a b → get_or (formulas names) k Empty ≡ get_or (formulas read) k Empty
-derived_tree names devices further read k op a b are tree = elim ((alike names devices further read are).each k) [
+-- and so has a name that is no input layer
+pub other_tree : (names : List LayerRule) (devices : List MosRule) (further : List MoreRule) (read : List LayerRule) (k : ℕ) (x : Formula) → IsOther x → AreRead names devices further read → get_or (formulas names) k Empty ≡ x → get_or (formulas names) k Empty ≡ get_or (formulas read) k Empty
+other_tree names devices further read k x other are tree = elim ((alike names devices further read are).each k) [
   | inl e ↦ e.0
-  | inr u ↦ absurd (let z : Binary op a b ≡ Input u.2.0 = sym tree ∙ u.2.1 in let w : ⊥ = cc in w)
+  | inr u ↦ absurd (other u.2.0 (sym tree ∙ u.2.1))
 ]
 
-pub same_tree : (names : List LayerRule) (devices : List MosRule) (further : List MoreRule) (read : List LayerRule) (k : ℕ) (op : Op) (a b : Formula) → AreRead names devices further read → slice_get (formulas names) k ≡ Some (Binary op a b) → slice_get (formulas read) k ≡ Some (Binary op a b)
-same_tree names devices further read k op a b are at =
-    let tree : get_or (formulas names) k Empty ≡ Binary op a b = get_or_from_slice_get (formulas names) k (Binary op a b) Empty at in
-    let lt = slice_get_within (formulas names) k (Binary op a b) at in
+pub other_there : (names : List LayerRule) (devices : List MosRule) (further : List MoreRule) (read : List LayerRule) (k : ℕ) (x : Formula) → IsOther x → AreRead names devices further read → slice_get (formulas names) k ≡ Some x → slice_get (formulas read) k ≡ Some x
+other_there names devices further read k x other are at =
+    let tree : get_or (formulas names) k Empty ≡ x = get_or_from_slice_get (formulas names) k x Empty at in
+    let lt = slice_get_within (formulas names) k x at in
     let long = same_count names devices further read are in
-    slice_get-get_or (formulas read) k Empty (omega (arith, lt, long)) ∙ ap Some (sym (derived_tree names devices further read k op a b are tree) ∙ tree)
+    slice_get-get_or (formulas read) k Empty (omega (arith, lt, long)) ∙ ap Some (sym (other_tree names devices further read k x other are tree) ∙ tree)
+
+-- and so has a derived name
+pub derived_tree : (names : List LayerRule) (devices : List MosRule) (further : List MoreRule) (read : List LayerRule) (k : ℕ) (op : Op) (a b : Formula) → AreRead names devices further read → get_or (formulas names) k Empty ≡ Binary op a b → get_or (formulas names) k Empty ≡ get_or (formulas read) k Empty
+derived_tree names devices further read k op a b are tree = other_tree names devices further read k (Binary op a b) (binary_other op a b) are tree
+
+pub same_tree : (names : List LayerRule) (devices : List MosRule) (further : List MoreRule) (read : List LayerRule) (k : ℕ) (op : Op) (a b : Formula) → AreRead names devices further read → slice_get (formulas names) k ≡ Some (Binary op a b) → slice_get (formulas read) k ≡ Some (Binary op a b)
+same_tree names devices further read k op a b are at = other_there names devices further read k (Binary op a b) (binary_other op a b) are at
+
+pub sized_tree : (names : List LayerRule) (devices : List MosRule) (further : List MoreRule) (read : List LayerRule) (k : ℕ) (by : ℤ) (a : Formula) → AreRead names devices further read → get_or (formulas names) k Empty ≡ Sized by a → get_or (formulas names) k Empty ≡ get_or (formulas read) k Empty
+sized_tree names devices further read k by a are tree = other_tree names devices further read k (Sized by a) (sized_other by a) are tree
+
+pub same_sized_tree : (names : List LayerRule) (devices : List MosRule) (further : List MoreRule) (read : List LayerRule) (k : ℕ) (by : ℤ) (a : Formula) → AreRead names devices further read → slice_get (formulas names) k ≡ Some (Sized by a) → slice_get (formulas read) k ≡ Some (Sized by a)
+same_sized_tree names devices further read k by a are at = other_there names devices further read k (Sized by a) (sized_other by a) are at
 
 -- an input layer among the trees as they are seen is one of the trees, and is read
 pub seen_input : (names : List LayerRule) (devices : List MosRule) (further : List MoreRule) (read : List LayerRule) (k : ℕ) (key : LayerKey) → AreRead names devices further read → slice_get (formulas read) k ≡ Some (Input key) → (slice_get (formulas names) k ≡ Some (Input key)) × IsRead names devices further k

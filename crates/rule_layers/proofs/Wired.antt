@@ -87,7 +87,7 @@ and_both : (p q : Bool) → (p && q) ≡ true → (p ≡ true) × (q ≡ true)
 and_both true q e = (refl, e)
 and_both false q e = cc
 
-of_map : {A B : Type 0} (f : A → B) (xs : List A) (n : ℕ) (b : B) → slice_get (map f xs) n ≡ Some b → (a : A) × (slice_get xs n ≡ Some a) × (f a ≡ b)
+pub of_map : {A B : Type 0} (f : A → B) (xs : List A) (n : ℕ) (b : B) → slice_get (map f xs) n ≡ Some b → (a : A) × (slice_get xs n ≡ Some a) × (f a ≡ b)
 of_map f [] n b h = cc
 of_map f (x ∷ xs) zero b h = (x, refl, same_Some _ _ h)
 of_map f (x ∷ xs) (suc n) b h = of_map f xs n b h

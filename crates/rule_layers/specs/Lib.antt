@@ -2,3 +2,4 @@ pub mod Formulas
 pub mod Meaning
 pub mod Laws
 pub mod Reads
+pub mod Unsized

@@ -8,12 +8,13 @@ use Rattle.rule_text.specs.declared.rules.MosRule.{MosRule}
 use Rattle.rule_text.specs.declared.rules.MoreRule.{MoreRule}
 use Rattle.rule_text.specs.declared.rules.MoreRule.TheVariants as more
 
--- an operator reads its operands
+-- an operator reads its operands, a sized layer the one that it is made of
 abbrev pub Reads : LayerForm → ℕ → Type 0
 Reads (form.Input key) k = ⊥
 Reads (form.Labels key) k = ⊥
 Reads form.Empty k = ⊥
 Reads (form.Binary op a b) k = (a ≡ k) ⊎ (b ≡ k)
+Reads (form.Sized a by) k = a ≡ k
 
 -- the rule of a transistor reads its six layers
 abbrev pub ReadsLayer : MosRule → ℕ → Type 0
@@ -71,6 +72,7 @@ read_form false (form.Input key) = form.Empty
 read_form false (form.Labels key) = form.Labels key
 read_form false form.Empty = form.Empty
 read_form false (form.Binary op a b) = form.Binary op a b
+read_form false (form.Sized a by) = form.Sized a by
 
 -- the form of a name that is read, or of one that isn't
 abbrev pub IsReadAs : Type 0 → LayerForm → LayerForm → Type 0

@@ -6,9 +6,13 @@
 #![tactic(auto)]
 
 ghost use Rattle.rule_layers.specs.Laws.{ConductorLaw, KnownGlobalLaw, TerminalConductorLaw};
+ghost use Rattle.rule_layers.specs.Laws.{ReachLaw, ReachInLaw, NearLaw, GateReachLaw};
+ghost use Rattle.rule_layers.specs.Unsized.{StillLaw};
 
+mod margin;
 mod reads;
 
+pub use margin::zone_margin;
 pub use reads::read_names;
 
 /// Conductors are read as their names; grounds are known globals; a device's terminals are
@@ -17,4 +21,14 @@ pub fn meaning()
     ensures conductor { ConductorLaw }
     ensures global { KnownGlobalLaw }
     ensures terminal { TerminalConductorLaw }
+{}
+
+/// How far names and device rules reach: no further than the furthest name, and that no further
+/// than 10,000; and no name may be sized yet.
+pub fn reaches()
+    ensures name { ReachLaw }
+    ensures inside { ReachInLaw }
+    ensures near { NearLaw }
+    ensures device { GateReachLaw }
+    ensures still { StillLaw }
 {}

@@ -21,9 +21,15 @@ fn mark(marks: &mut Vec<bool>, name: u32)
 fn mark_form(marks: &mut Vec<bool>, form: LayerForm)
     ensures { Marks (Reads form) marks.old.items marks.new.items }
 {
-    if let LayerForm::Binary(_, a, b) = form {
-        mark(marks, a);
-        mark(marks, b);
+    match form {
+        LayerForm::Input(_) => {}
+        LayerForm::Labels(_) => {}
+        LayerForm::Empty => {}
+        LayerForm::Binary(_, a, b) => {
+            mark(marks, a);
+            mark(marks, b);
+        }
+        LayerForm::Sized(a, _) => mark(marks, a),
     }
 }
 

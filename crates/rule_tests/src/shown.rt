@@ -60,6 +60,7 @@ fn shown(alloc: Global, rules: &RuleSet) -> Result<String, AllocError> {
                 key.layer, key.datatype
             ),
             LayerForm::Empty => format!(in alloc; "{name} empty\n"),
+            LayerForm::Sized(a, by) => format!(in alloc; "{name} {a} sized {by}\n"),
             LayerForm::Binary(op, a, b) => format!(in alloc; "{name} {a}{}{b}\n", sign_of(op)),
         };
         add(&mut out, line)?;

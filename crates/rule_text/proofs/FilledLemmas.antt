@@ -2,7 +2,7 @@
 use Rattle.std.proofs.Common.{◌≡◌, ℕ, zero, suc, ◌+◌, ◌-◌, ◌*◌, ◌<◌, ◌≤◌, cond, List, [], ◌∷◌, length, take, drop, Bool, true, false, Option, Some, None, refl, sym, ap, subst, arith}
 use Rattle.std.specs.Prelude.{◌&&◌, nat_le, slice_get, unwrap_or}
 use Rattle.rule_lines.specs.Tokens.{Token, Word, Text, Mark, Arrow, Bad, is_digit}
-use Rattle.rule_text.specs.Rows.{Slot, Fresh, Name, Layer, Guesses, Digits, Quoted, Exact, Operator, Key, Sign, Maps, is_name, is_string, number_from, guesses_of, fits_slot, fits, word_of, word_at}
+use Rattle.rule_text.specs.Rows.{Slot, Fresh, Name, Layer, Guesses, Size, Digits, Quoted, Exact, Operator, Key, Sign, Maps, is_name, is_string, number_from, number_of, guesses_of, size_of, fits_slot, fits, word_of, word_at}
 use Rattle.rule_text.specs.Filled.{FillsSlot, AreFilled}
 
 first_true : (a b : Bool) → (a && b) ≡ true → a ≡ true
@@ -42,6 +42,10 @@ number_most limit n (b ∷ bs) h =
 limit_most : (w : List ℕ) → unwrap_or (guesses_of w) 0 ≤ 1000000
 limit_most w = cond_most (nat_le 1 (length w) && nat_le (length w) 7) 1000000 (number_from 1000000 0 w) (number_most 1000000 0 w (omega arith))
 
+size_most : (w : List ℕ) → unwrap_or (size_of w) 0 ≤ 10000
+size_most w = cond_most (nat_le (length w) 5) 10000 (number_of 10000 w)
+    (cond_most (nat_le 1 (length w) && nat_le (length w) 7) 10000 (number_from 10000 0 w) (number_most 10000 0 w (omega arith)))
+
 slot_filled : (s : Slot) (t : Token) → fits_slot s t ≡ true → FillsSlot s (word_of (Some t))
 slot_filled Fresh (Word w) e = name_filled w (first_true (is_name w) _ e)
 slot_filled Fresh (Text w) e = absurd cc
@@ -70,6 +74,11 @@ slot_filled Guesses (Text w) e = absurd cc
 slot_filled Guesses (Mark b) e = absurd cc
 slot_filled Guesses Arrow e = absurd cc
 slot_filled Guesses Bad e = absurd cc
+slot_filled Size (Word w) e = (limit_some (unwrap_or (size_of w) 0) e, size_most w)
+slot_filled Size (Text w) e = absurd cc
+slot_filled Size (Mark b) e = absurd cc
+slot_filled Size Arrow e = absurd cc
+slot_filled Size Bad e = absurd cc
 slot_filled Operator t e = tt
 slot_filled (Key k) t e = tt
 slot_filled (Sign b) t e = tt

@@ -3,4 +3,5 @@ pub mod TableLemmas
 pub mod FilledLemmas
 pub mod ReadingLemmas
 pub mod ListLemmas
+pub mod ReachLemmas
 pub mod SoundLemmas

@@ -1,7 +1,7 @@
 -- A statement that passes keeps the entries sound.
-use Rattle.std.proofs.Common.{◌≡◌, inl, inr, ℕ, zero, suc, ◌+◌, ◌<◌, List, [], ◌∷◌, ◌++◌, length, map, Bool, true, false, cond, Option, Some, None, refl, sym, ap, subst, ◌∙◌, arith}
+use Rattle.std.proofs.Common.{◌≡◌, inl, inr, ℕ, zero, suc, ◌+◌, ◌<◌, ◌≤◌, List, [], ◌∷◌, ◌++◌, length, map, Bool, true, false, cond, Option, Some, None, refl, sym, ap, subst, ◌∙◌, arith}
 use Rattle.std.specs.Prelude.{◌&&◌, ◌||◌, not, nat_le, slice_get, if◌then◌else◌}
-use Rattle.std.specs.List.{list_any, list_all, position_or_len}
+use Rattle.std.specs.List.{All, list_any, list_all, position_or_len}
 use Rattle.std.specs.Str.{bytes_eq}
 use Rattle.std.proofs.lemmas.List.{map-append, length-map, length-append}
 use Rattle.std.proofs.lemmas.Slice.Eq.{bytes_eq-Decides}
@@ -15,15 +15,18 @@ use Rattle.rule_text.specs.declared.rules.Output.{Output}
 use Rattle.rule_text.specs.declared.rules.MosRule.{MosRule}
 use Rattle.rule_text.specs.declared.rules.MoreRule.{MoreRule}
 use Rattle.rule_text.specs.declared.rules.MoreRule.TheVariants as more
-use Rattle.rule_text.specs.Rows.{is_string, Form, Input, Labels, Empty, Binary, Mos, More, Resistor, Diode, Statement, Define, Draw, Connect, Global, Extract, Further, Same, FlattenLayout, FlattenSchematic, FlattenUnmatched, SamePins, Combine, MaxGuesses, Accepted}
-use Rattle.rule_text.specs.Rules.{Rules, no_rules, names_of, place_of, is_defined, is_text_rule, has_texts, is_labels, operands_of, uses_of, is_twice, is_misplaced, statement_fault, numbered, mos_rule, further_rule, class_in, has_class, mos_classes, more_classes, named, drawn, extracting, going_on, paired, names_layout, names_schematic, flattening_layout, flattening_schematic, with_statement}
+use Rattle.rule_text.specs.Rows.{is_string, Form, Input, Labels, Empty, Binary, Sized, Mos, More, Resistor, Diode, Statement, Define, Draw, Connect, Global, Extract, Further, Same, FlattenLayout, FlattenSchematic, FlattenUnmatched, SamePins, Combine, MaxGuesses, Accepted}
+use Rattle.rule_text.specs.Rules.{Rules, no_rules, names_of, place_of, is_defined, is_text_rule, has_texts, is_labels, operands_of, uses_of, reach_of, is_far, is_twice, is_misplaced, statement_fault, numbered, mos_rule, further_rule, class_in, has_class, mos_classes, more_classes, named, drawn, extracting, going_on, paired, names_layout, names_schematic, flattening_layout, flattening_schematic, with_statement}
 use Rattle.geo_base.specs.Layers.{is_same_key}
-use Rattle.rule_text.specs.Filled.{IsFilled, IsString, class_of}
+use Rattle.rule_text.specs.Filled.{IsFilled, IsFilledForm, IsString, class_of}
+use Rattle.rule_text.specs.Reaches.{MOST_REACH, reaches}
 use Rattle.rule_text.specs.Reading.{is_connected, is_more_connected, first_loose, first_loose_more, lesser, loose_of}
 use Rattle.plain_netlist.specs.Lists.{AreApart}
 use Rattle.plain_netlist.proofs.Listing.{apart_at, at_apart}
 use Rattle.rule_text.specs.Sound.{Each, IsLayer, AreOperands, AreJoined, AreMosLayers, AreMoreLayers, IsFormed, IsSound}
 use Rattle.rule_text.proofs.ListLemmas.{among_more}
+use Rattle.rule_text.proofs.ReachLemmas.{reaches_more}
+use Rattle.std.proofs.lemmas.List.Elements.{All-nil, All-push}
 
 both_true : (a b : Bool) → (a && b) ≡ true → (a ≡ true) × (b ≡ true)
 both_true true b e = (refl, e)
@@ -38,12 +41,13 @@ or_true true b e = refl
 or_true false b e = absurd cc
 
 -- what a statement that passes is known of
-tests : (a b c d : Bool) (f g h i : RuleFault) → (if not a then Some f else if b then Some g else if c then Some h else if d then Some i else None) ≡ None
-    → (a ≡ true) × (b ≡ false) × (c ≡ false)
-tests false b c d f g h i e = absurd cc
-tests true true c d f g h i e = absurd cc
-tests true false true d f g h i e = absurd cc
-tests true false false d f g h i e = (refl, refl, refl)
+tests : (a z b c d : Bool) (f y g h i : RuleFault) → (if not a then Some f else if z then Some y else if b then Some g else if c then Some h else if d then Some i else None) ≡ None
+    → (a ≡ true) × (z ≡ false) × (b ≡ false) × (c ≡ false)
+tests false z b c d f y g h i e = absurd cc
+tests true true b c d f y g h i e = absurd cc
+tests true false true c d f y g h i e = absurd cc
+tests true false false true d f y g h i e = absurd cc
+tests true false false false d f y g h i e = (refl, refl, refl, refl)
 
 -- lists with an entry more
 
@@ -141,6 +145,7 @@ operands_kept names n k (form.Input key) h = tt
 operands_kept names n k (form.Labels key) h = tt
 operands_kept names n k form.Empty h = tt
 operands_kept names n k (form.Binary op a b) h = (h.0, h.1, layer_kept names n a h.2, layer_kept names n b h.3)
+operands_kept names n k (form.Sized a by) h = (h.0, layer_kept names n a h.1, h.2)
 
 -- the layers that a statement uses
 
@@ -155,22 +160,29 @@ all_layers r (w ∷ ws) e f =
     let l = both_false (is_labels w r) (list_any (λ v. is_labels v r) ws) f in
     (layer w r d.0 l.0, all_layers r ws d.1 l.1)
 
-new_operands : (r : Rules) (f : Form) (n : LayerRule) → list_all (λ w. is_defined w r) (operands_of f) ≡ true → list_any (λ w. is_labels w r) (operands_of f) ≡ false
+new_operands : (r : Rules) (f : Form) (n : LayerRule) → list_all (λ w. is_defined w r) (operands_of f) ≡ true → list_any (λ w. is_labels w r) (operands_of f) ≡ false → IsFilledForm f
     → AreOperands (r.names ++ n ∷ []) (length r.names) (numbered r f)
-new_operands r (Input key) n e g = tt
-new_operands r (Labels key) n e g = tt
-new_operands r Empty n e g = tt
-new_operands r (Binary op a b) n e g =
+new_operands r (Input key) n e g filled = tt
+new_operands r (Labels key) n e g filled = tt
+new_operands r Empty n e g filled = tt
+new_operands r (Sized a by) n e g filled =
+    let ls = all_layers r (a ∷ []) e g in
+    (ls.0.below, layer_kept r.names n (place_of a r) ls.0, filled)
+new_operands r (Binary op a b) n e g filled =
     let ls = all_layers r (a ∷ b ∷ []) e g in
     (ls.0.below, ls.1.0.below, layer_kept r.names n (place_of a r) ls.0, layer_kept r.names n (place_of b r) ls.1.0)
 
+near_most : (n : ℕ) → not (nat_le n MOST_REACH) ≡ false → n ≤ MOST_REACH
+near_most n e = grind (arith, e)
+
 defined_more : (r : Rules) (name : List ℕ) (f : Form) → is_defined name r ≡ false → list_all (λ w. is_defined w r) (operands_of f) ≡ true
-    → list_any (λ w. is_labels w r) (operands_of f) ≡ false → IsFormed r → IsFormed (named r name (numbered r f))
-defined_more r name f fresh used plain h =
+    → list_any (λ w. is_labels w r) (operands_of f) ≡ false → IsFilledForm f → is_far r (Define name f) ≡ false → IsFormed r → IsFormed (named r name (numbered r f))
+defined_more r name f fresh used plain filled near h =
     let n : LayerRule = record { name = name; form = numbered r f } in
     record {
       names = map_apart (bytes_eq name) (λ m. m.name) r.names n (same_bytes name) fresh h.names;
-      operands = each_more (λ k m. AreOperands (r.names ++ n ∷ []) k m.form) r.names n (λ k m e. operands_kept r.names n k m.form (h.operands k m e)) (new_operands r f n used plain);
+      operands = each_more (λ k m. AreOperands (r.names ++ n ∷ []) k m.form) r.names n (λ k m e. operands_kept r.names n k m.form (h.operands k m e)) (new_operands r f n used plain filled);
+      near = subst (λ (l : List ℕ). All (λ m. m ≤ MOST_REACH) l) (sym (reaches_more r.names n)) (All-push (λ m. m ≤ MOST_REACH) (reaches r.names) (reach_of r f) h.near (near_most (reach_of r f) near));
       keys = h.keys;
       outputs = λ k o e. layer_kept r.names n o.layer (h.outputs k o e);
       connects = λ k c e. joined_kept r.names n c.0 c.1 (h.connects k c e);
@@ -196,6 +208,7 @@ drawn_more r name key fresh ls h =
     record {
       names = h.names;
       operands = h.operands;
+      near = h.near;
       keys = map_apart (is_same_key key) (λ p. p.key) r.outputs o (same_key key) fresh h.keys;
       outputs = each_more (λ k p. IsLayer r.names p.layer) r.outputs o h.outputs ls.0;
       connects = h.connects;
@@ -218,6 +231,7 @@ connect_more : (r : Rules) (a b : List ℕ) → AreJoined r.names (place_of a r)
 connect_more r a b ls h = record {
   names = h.names;
   operands = h.operands;
+  near = h.near;
   keys = h.keys;
   outputs = h.outputs;
   connects = each_more (λ k c. AreJoined r.names c.0 c.1) r.connects (place_of a r, place_of b r) h.connects ls;
@@ -240,6 +254,7 @@ global_more : (r : Rules) (a net : List ℕ) → AllLayers r (a ∷ []) → IsFo
 global_more r a net ls h = record {
   names = h.names;
   operands = h.operands;
+  near = h.near;
   keys = h.keys;
   outputs = h.outputs;
   connects = h.connects;
@@ -284,6 +299,7 @@ extract_more r m fresh filled ls h =
     record {
       names = h.names;
       operands = h.operands;
+      near = h.near;
       keys = h.keys;
       outputs = h.outputs;
       connects = h.connects;
@@ -322,6 +338,7 @@ further_more r m fresh filled ls h =
     record {
       names = h.names;
       operands = h.operands;
+      near = h.near;
       keys = h.keys;
       outputs = h.outputs;
       connects = h.connects;
@@ -346,6 +363,7 @@ same_more r a b fresh h =
     record {
       names = h.names;
       operands = h.operands;
+      near = h.near;
       keys = h.keys;
       outputs = h.outputs;
       connects = h.connects;
@@ -368,6 +386,7 @@ flat_layout_more : (r : Rules) (a : List ℕ) → names_layout r (folded_bytes a
 flat_layout_more r a fresh h = record {
   names = h.names;
   operands = h.operands;
+  near = h.near;
   keys = h.keys;
   outputs = h.outputs;
   connects = h.connects;
@@ -390,6 +409,7 @@ flat_schematic_more : (r : Rules) (b : List ℕ) → names_schematic r (folded_b
 flat_schematic_more r b fresh h = record {
   names = h.names;
   operands = h.operands;
+  near = h.near;
   keys = h.keys;
   outputs = h.outputs;
   connects = h.connects;
@@ -412,6 +432,7 @@ unmatched_more : (r : Rules) → IsFormed r → IsFormed (with_statement r Flatt
 unmatched_more r h = record {
   names = h.names;
   operands = h.operands;
+  near = h.near;
   keys = h.keys;
   outputs = h.outputs;
   connects = h.connects;
@@ -434,6 +455,7 @@ pins_more : (r : Rules) → IsFormed r → IsFormed (with_statement r SamePins)
 pins_more r h = record {
   names = h.names;
   operands = h.operands;
+  near = h.near;
   keys = h.keys;
   outputs = h.outputs;
   connects = h.connects;
@@ -456,6 +478,7 @@ combine_more : (r : Rules) → IsFormed r → IsFormed (with_statement r Combine
 combine_more r h = record {
   names = h.names;
   operands = h.operands;
+  near = h.near;
   keys = h.keys;
   outputs = h.outputs;
   connects = h.connects;
@@ -478,6 +501,7 @@ guesses_more : (r : Rules) (n : ℕ) → IsFilled (MaxGuesses n) → IsFormed r 
 guesses_more r n fits h = record {
   names = h.names;
   operands = h.operands;
+  near = h.near;
   keys = h.keys;
   outputs = h.outputs;
   connects = h.connects;
@@ -497,31 +521,31 @@ guesses_more r n fits h = record {
 }
 
 passes : (r : Rules) (line : ℕ) (s : Statement) → statement_fault r line s ≡ None
-    → (list_all (λ w. is_defined w r) (uses_of s) ≡ true) × (is_twice r s ≡ false) × (is_misplaced r s ≡ false)
-passes r line s e = tests (list_all (λ w. is_defined w r) (uses_of s)) (is_twice r s) (is_misplaced r s) _ _ _ _ _ e
+    → (list_all (λ w. is_defined w r) (uses_of s) ≡ true) × (is_far r s ≡ false) × (is_twice r s ≡ false) × (is_misplaced r s ≡ false)
+passes r line s e = tests (list_all (λ w. is_defined w r) (uses_of s)) (is_far r s) (is_twice r s) (is_misplaced r s) _ _ _ _ _ _ e
 
-by_tests : (r : Rules) (s : Statement) → list_all (λ w. is_defined w r) (uses_of s) ≡ true → is_twice r s ≡ false → is_misplaced r s ≡ false
+by_tests : (r : Rules) (s : Statement) → list_all (λ w. is_defined w r) (uses_of s) ≡ true → is_far r s ≡ false → is_twice r s ≡ false → is_misplaced r s ≡ false
     → IsFilled s → IsFormed r → IsFormed (with_statement r s)
-by_tests r (Define name f) used fresh plain filled h = defined_more r name f fresh used plain h
-by_tests r (Draw name key) used fresh plain filled h = drawn_more r name key fresh (all_layers r (name ∷ []) used plain) h
-by_tests r (Connect a b) used fresh plain filled h =
+by_tests r (Define name f) used near fresh plain filled h = defined_more r name f fresh used plain filled.1 near h
+by_tests r (Draw name key) used near fresh plain filled h = drawn_more r name key fresh (all_layers r (name ∷ []) used plain) h
+by_tests r (Connect a b) used near fresh plain filled h =
     let d = both_true (is_defined a r) (list_all (λ w. is_defined w r) (b ∷ [])) used in
     let e = both_true (is_defined b r) true d.1 in
     connect_more r a b (record { left = name_below a r d.0; right = name_below b r e.0; plain = plain }) h
-by_tests r (Global a net) used fresh plain filled h = global_more r a net (all_layers r (a ∷ []) used plain) h
-by_tests r (Extract m) used fresh plain filled h = extract_more r m fresh filled (all_layers r (m.sd ∷ m.g ∷ m.w ∷ m.ts ∷ m.tg ∷ m.tb ∷ []) used plain) h
-by_tests r (Further m) used fresh plain filled h = further_more r m fresh filled (all_layers r (uses_of (Further m)) used plain) h
-by_tests r (Same a b) used fresh plain filled h = same_more r a b fresh h
-by_tests r (FlattenLayout a) used fresh plain filled h = flat_layout_more r a fresh h
-by_tests r (FlattenSchematic b) used fresh plain filled h = flat_schematic_more r b fresh h
-by_tests r FlattenUnmatched used fresh plain filled h = unmatched_more r h
-by_tests r SamePins used fresh plain filled h = pins_more r h
-by_tests r Combine used fresh plain filled h = combine_more r h
-by_tests r (MaxGuesses n) used fresh plain filled h = guesses_more r n filled h
-by_tests r Accepted used fresh plain filled h = h
+by_tests r (Global a net) used near fresh plain filled h = global_more r a net (all_layers r (a ∷ []) used plain) h
+by_tests r (Extract m) used near fresh plain filled h = extract_more r m fresh filled (all_layers r (m.sd ∷ m.g ∷ m.w ∷ m.ts ∷ m.tg ∷ m.tb ∷ []) used plain) h
+by_tests r (Further m) used near fresh plain filled h = further_more r m fresh filled (all_layers r (uses_of (Further m)) used plain) h
+by_tests r (Same a b) used near fresh plain filled h = same_more r a b fresh h
+by_tests r (FlattenLayout a) used near fresh plain filled h = flat_layout_more r a fresh h
+by_tests r (FlattenSchematic b) used near fresh plain filled h = flat_schematic_more r b fresh h
+by_tests r FlattenUnmatched used near fresh plain filled h = unmatched_more r h
+by_tests r SamePins used near fresh plain filled h = pins_more r h
+by_tests r Combine used near fresh plain filled h = combine_more r h
+by_tests r (MaxGuesses n) used near fresh plain filled h = guesses_more r n filled h
+by_tests r Accepted used near fresh plain filled h = h
 
 pub formed_more : (r : Rules) (line : ℕ) (s : Statement) → statement_fault r line s ≡ None → IsFilled s → IsFormed r → IsFormed (with_statement r s)
-formed_more r line s e filled h = let t = passes r line s e in by_tests r s t.0 t.1 t.2 filled h
+formed_more r line s e filled h = let t = passes r line s e in by_tests r s t.0 t.1 t.2 t.3 filled h
 
 none_each : {A : Type 0} (P : ℕ → A → Type 0) → Each P []
 none_each P = λ k x e. absurd cc
@@ -530,6 +554,7 @@ pub none_formed : IsFormed no_rules
 none_formed = record {
   names = tt;
   operands = none_each _;
+  near = All-nil _;
   keys = tt;
   outputs = none_each _;
   connects = none_each _;

@@ -1,13 +1,18 @@
 -- What fits its slot has a byte or lies in its range.
-use Rattle.std.specs.Prelude.{◌≡◌, ℕ, ◌+◌, ◌<◌, ◌≤◌, true, List, [], ◌∷◌, length, unwrap_or}
+use Rattle.std.specs.Prelude.{◌≡◌, ℕ, ◌+◌, ◌<◌, ◌≤◌, ℤ, unsigned_abs, true, List, [], ◌∷◌, length}
+use Rattle.std.specs.Prelude.{unwrap_or}
 use Rattle.rule_lines.specs.Tokens.{Token}
-use Rattle.rule_text.specs.Rows.{Slot, Fresh, Name, Quoted, Exact, Guesses, Statement, Define}
-use Rattle.rule_text.specs.Rows.{Global, Extract, Further, More, Resistor, Diode, Same}
-use Rattle.rule_text.specs.Rows.{FlattenLayout, FlattenSchematic, MaxGuesses, guesses_of, is_string}
-use Rattle.rule_text.specs.Rows.{word_at}
+use Rattle.rule_text.specs.Rows.{Slot, Fresh, Name, Quoted, Exact, Guesses, Size, Form, Sized}
+use Rattle.rule_text.specs.Rows.{Statement, Define, Global, Extract, Further, More, Resistor, Diode, Same}
+use Rattle.rule_text.specs.Rows.{FlattenLayout, FlattenSchematic, MaxGuesses, guesses_of, size_of}
+use Rattle.rule_text.specs.Rows.{is_string, word_at}
 
 abbrev pub IsGuessLimit : ℕ → Type 0
 IsGuessLimit n = (1 ≤ n) × (n ≤ 1000000)
+
+-- by how many squares a layer may be grown or shrunk
+abbrev pub IsSize : ℕ → Type 0
+IsSize n = (1 ≤ n) × (n ≤ 10000)
 
 -- some printable bytes
 abbrev pub IsString : List ℕ → Type 0
@@ -19,6 +24,7 @@ FillsSlot Name w = 0 < length w
 FillsSlot Quoted w = IsString w
 FillsSlot Exact w = 0 < length w
 FillsSlot Guesses w = IsGuessLimit (unwrap_or (guesses_of w) 0)
+FillsSlot Size w = IsSize (unwrap_or (size_of w) 0)
 FillsSlot _ w = Unit {0}
 
 -- the tokens from a place on fill their slots
@@ -30,9 +36,14 @@ abbrev pub class_of : More → List ℕ
 class_of (Resistor class r c w ta tw) = class
 class_of (Diode class p n ta tc) = class
 
--- what becomes a name has a byte, a class is a string, and the limit of guesses lies in its range
+abbrev pub IsFilledForm : Form → Type 0
+IsFilledForm (Sized a by) = IsSize (unsigned_abs by)
+IsFilledForm _ = Unit {0}
+
+-- what becomes a name has a byte, a class is a string, sizes and the limit of guesses lie in their
+-- ranges
 abbrev pub IsFilled : Statement → Type 0
-IsFilled (Define name form) = 0 < length name
+IsFilled (Define name form) = (0 < length name) × IsFilledForm form
 IsFilled (Global a net) = 0 < length net
 IsFilled (Extract m) = IsString m.class
 IsFilled (Further m) = IsString (class_of m)

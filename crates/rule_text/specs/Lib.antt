@@ -2,6 +2,7 @@ pub mod Faults
 pub mod Rows
 pub mod Filled
 pub mod Devices
+pub mod Reaches
 pub mod Rules
 pub mod Reading
 pub mod Seen

@@ -8,13 +8,16 @@ use Rattle.rule_text.specs.declared.fault.RuleFault.TheVariants.{NoMemory}
 use Rattle.rule_text.specs.declared.reader.Reader.{Reader}
 use Rattle.rule_text.specs.Rules.{Rules, names_of, fault_of, with_line, device_line, more_line}
 use Rattle.rule_text.specs.Rules.{mos_classes, more_classes}
+use Rattle.rule_text.specs.Reaches.{reaches}
 use Rattle.rule_text.specs.Reading.{reading, device_lines, more_lines}
 use Rattle.rule_text.specs.Seen.{rules_seen}
 use Rattle.rule_text.specs.Sound.{IsFormed}
 
--- the tables hold what was there before, there are at most 256 names, and each device has its line
+-- the tables hold what was there before, there are at most 256 names, and each device has its line;
+-- the reaches are those of the names
 pub record IsReady (r : Reader) : Type 0 where
   pub names : r.names ≡ names_of (rules_seen r.rules)
+  pub distances : r.reaches.items ≡ reaches r.rules.names.items
   pub keys : r.keys ≡ map (λ o. o.key) r.rules.outputs.items
   pub classes : r.classes ≡ mos_classes (rules_seen r.rules)
   pub others : r.others ≡ more_classes (rules_seen r.rules)

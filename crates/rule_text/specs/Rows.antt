@@ -1,6 +1,7 @@
 -- The table of statements: a row is a list of slots, one for each token, and a line means the one
 -- row that its tokens fit.
-use Rattle.std.specs.Prelude.{ℕ, ◌+◌, ◌-◌, ◌*◌, Bool, true, false, ◌==◌, ◌&&◌, ◌||◌, not, nat_le}
+use Rattle.std.specs.Prelude.{ℕ, ◌+◌, ◌-◌, ◌*◌, ℤ, pos, neg_ℤ, Bool, true, false, ◌==◌, ◌&&◌}
+use Rattle.std.specs.Prelude.{◌||◌, not, nat_le}
 use Rattle.std.specs.Prelude.{List, [], ◌∷◌, length, slice_index, slice_get, codes, Option, Some}
 use Rattle.std.specs.Prelude.{None, is_some, unwrap_or, if◌then◌else◌}
 use Rattle.std.specs.List.{list_any, list_all}
@@ -16,6 +17,7 @@ pub data Slot : Type 0 where
   Name : Slot
   Layer : Slot
   Guesses : Slot
+  Size : Slot
   Digits : Slot
   Quoted : Slot
   Exact : Slot
@@ -56,6 +58,10 @@ layer_of w = number_of 65535 w
 abbrev pub guesses_of : List ℕ → Option ℕ
 guesses_of w = number_of 1000000 w
 
+-- one to five digits
+abbrev pub size_of : List ℕ → Option ℕ
+size_of w = if nat_le (length w) 5 then number_of 10000 w else None
+
 abbrev pub is_digits : List ℕ → Bool
 is_digits w = is_some (number_of 9999999 w)
 
@@ -79,6 +85,7 @@ fits_slot Fresh (Word w) = is_name w && not (is_statement_word w)
 fits_slot Name (Word w) = is_name w
 fits_slot Layer (Word w) = is_some (layer_of w)
 fits_slot Guesses (Word w) = nat_le 1 (unwrap_or (guesses_of w) 0)
+fits_slot Size (Word w) = nat_le 1 (unwrap_or (size_of w) 0)
 fits_slot Digits (Word w) = is_digits w
 fits_slot Quoted (Text w) = is_string w
 fits_slot Exact (Text w) = is_string w && not (list_any is_wild w)
@@ -104,6 +111,9 @@ DOT = 0x2E
 
 abbrev pub COMMA : ℕ
 COMMA = 0x2C
+
+abbrev pub MINUS : ℕ
+MINUS = 0x2D
 
 abbrev pub OPEN : ℕ
 OPEN = 0x28
@@ -136,6 +146,16 @@ polygon_layer_row = Fresh ∷ Sign EQUALS ∷ Key (codes "polygon_layer") ∷ []
 -- N = A & B, and so for |, - and ^
 abbrev pub binary_row : List Slot
 binary_row = Fresh ∷ Sign EQUALS ∷ Name ∷ Operator ∷ Name ∷ []
+
+-- N = A.sized(D)
+abbrev pub grown_row : List Slot
+grown_row = Fresh ∷ Sign EQUALS ∷ Name ∷ Sign DOT ∷ Key (codes "sized") ∷ Sign OPEN ∷ Size
+    ∷ Sign CLOSE ∷ []
+
+-- N = A.sized(-D)
+abbrev pub shrunk_row : List Slot
+shrunk_row = Fresh ∷ Sign EQUALS ∷ Name ∷ Sign DOT ∷ Key (codes "sized") ∷ Sign OPEN ∷ Sign MINUS
+    ∷ Size ∷ Sign CLOSE ∷ []
 
 -- N.output(L, D)
 abbrev pub output_row : List Slot
@@ -207,12 +227,13 @@ guesses_row = Key (codes "max_guesses") ∷ Sign OPEN ∷ Guesses ∷ Sign CLOSE
 abbrev pub schematic_row : List Slot
 schematic_row = Key (codes "schematic") ∷ Sign OPEN ∷ Quoted ∷ Sign CLOSE ∷ []
 
--- what a name is defined to be, its operands as names
+-- what a name is defined to be, its operands as names; a sized one is grown, or shrunk below 0
 pub data Form : Type 0 where
   Input : (key : LayerKey) → Form
   Labels : (key : LayerKey) → Form
   Empty : Form
   Binary : (op : Op) (a b : List ℕ) → Form
+  Sized : (a : List ℕ) (by : ℤ) → Form
 
 -- a transistor's class, and its layers as names
 pub record Mos : Type 0 where
@@ -264,6 +285,9 @@ sign_at n ts = sign_of (slice_get ts n)
 abbrev pub layer_at : ℕ → List Token → ℕ
 layer_at n ts = unwrap_or (layer_of (word_at n ts)) 0
 
+abbrev pub size_at : ℕ → List Token → ℕ
+size_at n ts = unwrap_or (size_of (word_at n ts)) 0
+
 -- the layer pair whose numbers stand at two places
 abbrev pub key_at : ℕ → ℕ → List Token → LayerKey
 key_at n m ts = record { layer = layer_at n ts; datatype = layer_at m ts }
@@ -279,6 +303,10 @@ definition_of ts =
     else if fits polygon_layer_row ts then Some (Define (word_at 0 ts) Empty)
     else if fits binary_row ts then Some
     (Define (word_at 0 ts) (Binary (op_of (sign_at 3 ts)) (word_at 2 ts) (word_at 4 ts)))
+    else if fits grown_row ts then Some
+    (Define (word_at 0 ts) (Sized (word_at 2 ts) (pos (size_at 6 ts))))
+    else if fits shrunk_row ts then Some
+    (Define (word_at 0 ts) (Sized (word_at 2 ts) (neg_ℤ (pos (size_at 7 ts)))))
     else None
 
 -- what is written and what conducts

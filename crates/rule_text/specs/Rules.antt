@@ -20,13 +20,14 @@ use Rattle.rule_text.specs.declared.fault.RuleFault.{RuleFault}
 use Rattle.rule_text.specs.declared.fault.RuleFault.TheVariants.{UnknownStatement, BadForm}
 use Rattle.rule_text.specs.declared.fault.RuleFault.TheVariants.{UnknownName, NameTwice}
 use Rattle.rule_text.specs.declared.fault.RuleFault.TheVariants.{NotConductor, TooManyLayers}
-use Rattle.rule_text.specs.Rows.{Form, Input, Labels, Empty, Binary, Mos, Statement, Define, Draw}
-use Rattle.rule_text.specs.Rows.{Connect, Global, Extract, Further, More, Resistor, Diode, Same}
+use Rattle.rule_text.specs.Rows.{Form, Input, Labels, Empty, Binary, Sized, Mos, Statement, Define}
+use Rattle.rule_text.specs.Rows.{Draw, Connect, Global, Extract, Further, More, Resistor, Diode, Same}
 use Rattle.rule_text.specs.Rows.{MaxGuesses, Accepted, EQUALS, DOT}
 use Rattle.rule_text.specs.Rows.{FlattenLayout, FlattenSchematic, FlattenUnmatched, SamePins, Combine}
 use Rattle.rule_text.specs.Rows.{is_name, is_statement_word, definition_of, wiring_of}
 use Rattle.rule_text.specs.Rows.{flattening_of, setting_of}
 use Rattle.rule_text.specs.Filled.{class_of}
+use Rattle.rule_text.specs.Reaches.{MOST_REACH, reach_by, reaches}
 use Rattle.rule_text.specs.Devices.{devices_of}
 
 -- a rule set with plain lists
@@ -95,6 +96,19 @@ operands_of (Input key) = []
 operands_of (Labels key) = []
 operands_of Empty = []
 operands_of (Binary op a b) = a ∷ b ∷ []
+operands_of (Sized a by) = a ∷ []
+
+-- a form with numbers in place of its operands' names
+abbrev pub numbered : Rules → Form → LayerForm
+numbered r (Input key) = form.Input key
+numbered r (Labels key) = form.Labels key
+numbered r Empty = form.Empty
+numbered r (Binary op a b) = form.Binary op (place_of a r) (place_of b r)
+numbered r (Sized a by) = form.Sized (place_of a r) by
+
+-- how far the name of a form would reach
+abbrev pub reach_of : Rules → Form → ℕ
+reach_of r f = reach_by (reaches r.names) (numbered r f)
 
 -- the names that a statement uses
 abbrev pub uses_of : Statement → List (List ℕ)
@@ -166,10 +180,16 @@ abbrev pub is_definition : Statement → Bool
 is_definition (Define name form) = true
 is_definition _ = false
 
+-- a name would reach further than names may
+abbrev pub is_far : Rules → Statement → Bool
+is_far r (Define name form) = not (nat_le (reach_of r form) MOST_REACH)
+is_far r _ = false
+
 -- the first test that a statement on a line fails behind the rules of the lines before
 abbrev pub statement_fault : Rules → ℕ → Statement → Option RuleFault
 statement_fault r line s =
     if not (list_all (λ w. is_defined w r) (uses_of s)) then Some (UnknownName line)
+    else if is_far r s then Some (BadForm line)
     else if is_twice r s then Some (NameTwice line)
     else if is_misplaced r s then Some (NotConductor line)
     else if is_definition s && nat_le 256 (length r.names) then Some (TooManyLayers line)
@@ -207,13 +227,6 @@ form_fault r line (Some s) = statement_fault r line s
 abbrev pub fault_of : Rules → ℕ → List Token → Option RuleFault
 fault_of r line ts =
     if is_unknown ts then Some (UnknownStatement line) else form_fault r line (statement_of ts)
-
--- a form with numbers in place of its operands' names
-abbrev pub numbered : Rules → Form → LayerForm
-numbered r (Input key) = form.Input key
-numbered r (Labels key) = form.Labels key
-numbered r Empty = form.Empty
-numbered r (Binary op a b) = form.Binary op (place_of a r) (place_of b r)
 
 abbrev pub mos_rule : Rules → Mos → MosRule
 mos_rule r m = record {

@@ -20,6 +20,7 @@ slot code.Fresh = rows.Fresh
 slot code.Name = rows.Name
 slot code.Layer = rows.Layer
 slot code.Guesses = rows.Guesses
+slot code.Size = rows.Size
 slot code.Digits = rows.Digits
 slot code.Quoted = rows.Quoted
 slot code.Exact = rows.Exact
@@ -43,6 +44,7 @@ form (found_form.Input key) = rows.Input key
 form (found_form.Labels key) = rows.Labels key
 form found_form.Empty = rows.Empty
 form (found_form.Binary op a b) = rows.Binary op a.now b.now
+form (found_form.Sized a by) = rows.Sized a.now by
 
 abbrev pub mos : FoundMos → Mos
 mos m = record {

@@ -1,6 +1,8 @@
 -- Sound rule sets: operands stand before their names, numbers are numbers of layers, nothing is
 -- there twice, and devices are connected.
-use Rattle.std.specs.Prelude.{◌≡◌, ℕ, ◌<◌, true, false, ◌&&◌, List, length, map, slice_get, Some}
+use Rattle.std.specs.Prelude.{◌≡◌, ℕ, ◌<◌, ◌≤◌, unsigned_abs, true, false, ◌&&◌, List, length, map}
+use Rattle.std.specs.Prelude.{slice_get, Some}
+use Rattle.std.specs.List.{All}
 use Rattle.net_names.specs.Folding.{folded_bytes}
 use Rattle.plain_netlist.specs.Lists.{AreApart}
 use Rattle.rule_text.specs.declared.rules.LayerForm.{LayerForm}
@@ -13,7 +15,8 @@ use Rattle.rule_text.specs.Rows.{is_string}
 use Rattle.rule_text.specs.Rules.{Rules, names_of, has_texts, mos_classes, more_classes}
 use Rattle.rule_text.specs.Rules.{class_in}
 use Rattle.rule_text.specs.Reading.{is_connected, is_more_connected}
-use Rattle.rule_text.specs.Filled.{IsGuessLimit}
+use Rattle.rule_text.specs.Filled.{IsGuessLimit, IsSize}
+use Rattle.rule_text.specs.Reaches.{MOST_REACH, reaches}
 
 -- P holds of each entry and its number
 abbrev pub Each : {A : Type 0} → (ℕ → A → Type 0) → List A → Type 0
@@ -24,9 +27,10 @@ pub record IsLayer (names : List LayerRule) (k : ℕ) : Type 0 where
   pub below : k < length names
   pub plain : has_texts k names ≡ false
 
--- the operands of name k are layers that stand before it
+-- the operands of name k are layers that stand before it, and a size is one
 abbrev pub AreOperands : List LayerRule → ℕ → LayerForm → Type 0
 AreOperands names k (form.Binary op a b) = (a < k) × (b < k) × IsLayer names a × IsLayer names b
+AreOperands names k (form.Sized a by) = (a < k) × IsLayer names a × IsSize (unsigned_abs by)
 AreOperands names k _ = Unit {0}
 
 -- two names, of which one at most is a labels name
@@ -49,10 +53,12 @@ AreMoreLayers names (more.Resistor class n c w ta tw) = IsLayer names n × IsLay
 AreMoreLayers names (more.Diode class p n ta tc) = IsLayer names p × IsLayer names n
     × IsLayer names ta × IsLayer names tc
 
--- the entries pass the tests of their lines; classes are strings of printable bytes
+-- the entries pass the tests of their lines; classes are strings of printable bytes; no name
+-- reaches further than names may
 pub record IsFormed (r : Rules) : Type 0 where
   pub names : AreApart (names_of r)
   pub operands : Each (λ k n. AreOperands r.names k n.form) r.names
+  pub near : All (λ n. n ≤ MOST_REACH) (reaches r.names)
   pub keys : AreApart (map (λ o. o.key) r.outputs)
   pub outputs : Each (λ k o. IsLayer r.names o.layer) r.outputs
   pub connects : Each (λ k c. AreJoined r.names c.0 c.1) r.connects

@@ -10,6 +10,7 @@ ghost use Rattle.rule_text.specs.Sound.{IsSound};
 
 mod devices;
 mod fault;
+mod reach;
 mod reader;
 mod rows;
 mod rules;
@@ -17,6 +18,7 @@ mod slots;
 mod tables;
 
 pub use fault::RuleFault;
+pub use reach::reaches;
 use reader::Reader;
 use rule_lines::first_no_text;
 pub use rules::{LayerForm, LayerRule, MoreRule, MosRule, Output, RuleSet};

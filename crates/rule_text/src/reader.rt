@@ -11,6 +11,7 @@ ghost use Rattle.rule_text.specs.Reading.{lesser};
 
 use crate::devices::devices_of;
 use crate::fault::RuleFault;
+use crate::reach::reach_by;
 use crate::rows::{
     Form, More, Mos, Statement, definition_of, flattening_of, setting_of, wiring_of,
 };
@@ -22,14 +23,18 @@ use net_names::{Name, folded};
 use rule_lines::{Token, next_line, read_tokens};
 use std::alloc::{AllocError, Global};
 
+/// How far a name may reach: no name may be sized yet.
+const MOST_REACH: u64 = 0;
+
 /// The most names that a rule file may define.
 const MOST_NAMES: usize = 256;
 
-/// The rules so far; tables of what may stand once alone (classes and circuits with their letters
-/// folded); the lines of the devices.
+/// The rules so far; how far each name reaches; tables of what may stand once alone (classes and
+/// circuits with their letters folded); the lines of the devices.
 #[derive(Drop)]
 pub struct Reader {
     pub rules: RuleSet,
+    pub reaches: Vec<u32>,
     pub names: TextTable,
     pub keys: KeyTable,
     pub classes: TextTable,
@@ -58,6 +63,7 @@ impl<'a> Statement<'a> {
     {
         match self {
             Statement::Define(_, Form::Binary(_, a, b)) => Ok(vec![in alloc; *a, *b]?),
+            Statement::Define(_, Form::Sized(a, _)) => Ok(vec![in alloc; *a]?),
             Statement::Define(_, _) => Ok(Vec::new(alloc)),
             Statement::Draw(name, _) => Ok(vec![in alloc; *name]?),
             Statement::Connect(a, b) => Ok(vec![in alloc; *a, *b]?),
@@ -170,6 +176,8 @@ impl Reader {
     ghost use Rattle.std.specs.Str.{bytes_eq};
     ghost use Rattle.rule_text.specs.Rules.{no_rules, is_defined, place_of, is_labels};
     ghost use Rattle.geo_base.specs.Layers.{is_same_key};
+    ghost use Rattle.rule_text.specs.Rules.{is_far, reach_of};
+    ghost use Rattle.rule_text.specs.Reaches.{MOST_REACH, reach_by, reaches};
     ghost use Rattle.rule_text.specs.Rules.{uses_of, is_twice, is_misplaced, statement_fault};
     ghost use Rattle.rule_text.specs.Rules.{fault_of, numbered, named, drawn, extracting, paired};
     ghost use Rattle.rule_text.specs.Rules.{names_layout, names_schematic, flattening_layout};
@@ -208,6 +216,7 @@ impl Reader {
         };
         Reader {
             rules,
+            reaches: Vec::new(alloc),
             names: TextTable::new(alloc),
             keys: KeyTable::new(alloc),
             classes: TextTable::new(alloc),
@@ -289,6 +298,19 @@ impl Reader {
         Ok(self.classes.contains(class.bytes()) || self.others.contains(class.bytes()))
     }
 
+    // Whether the name of a definition would reach too far.
+    fn is_far(&self, s: &Statement) -> bool
+        requires { IsReady self.now }
+        ensures { result ≡ is_far (rules_seen self.now.rules) (statement_seen s.now) }
+    {
+        match s {
+            Statement::Define(_, form) => {
+                reach_by(&self.reaches, self.numbered(form)) > MOST_REACH
+            }
+            _ => false,
+        }
+    }
+
     fn is_twice(&self, alloc: Global, s: &Statement) -> Result<bool, AllocError>
         requires ready { IsReady self.now }
         requires filled { IsFilled (statement_seen s.now) }
@@ -338,6 +360,9 @@ impl Reader {
         if !self.are_defined(&uses) {
             return Err(RuleFault::UnknownName(line));
         }
+        if self.is_far(s) {
+            return Err(RuleFault::BadForm(line));
+        }
         if self.is_twice(alloc, s)? {
             return Err(RuleFault::NameTwice(line));
         }
@@ -355,6 +380,7 @@ impl Reader {
         requires filled { 0 < length name.now }
         requires fresh { is_defined name.now (rules_seen self.old.rules) ≡ false }
         requires room { length self.old.rules.names.items < 256 }
+        requires near { reach_by (reaches self.old.rules.names.items) form ≤ MOST_REACH }
         ensures rules { OnOk result (rules_seen self.new.rules
             ≡ named (rules_seen self.old.rules) name.now form) }
         ensures device_lines { OnOk result
@@ -363,6 +389,8 @@ impl Reader {
             (self.new.more_lines.items ≡ self.old.more_lines.items) }
         ensures ready { OnOk result (IsReady self.new) }
     {
+        let reach = reach_by(&self.reaches, form) as u32;
+        self.reaches.push(reach)?;
         self.names.add(alloc, name)?;
         self.rules.names.push(LayerRule {
             name: name_of(alloc, name)?,
@@ -542,6 +570,7 @@ impl Reader {
             Form::Labels(key) => LayerForm::Labels(*key),
             Form::Empty => LayerForm::Empty,
             Form::Binary(op, a, b) => LayerForm::Binary(*op, self.place(a), self.place(b)),
+            Form::Sized(a, by) => LayerForm::Sized(self.place(a), *by),
         }
     }
 

@@ -7,18 +7,21 @@ ghost use Rattle.rule_text.specs.Rows.{is_accepted, setting_of};
 ghost use Rattle.rule_text.specs.Seen.{statement, statements};
 ghost use Rattle.rule_text.specs.Filled.{IsFilled};
 
-use crate::slots::Slot::{self, Exact, Fresh, Guesses, Key, Layer, Name, Operator, Quoted, Sign};
-use crate::slots::{fits, key_at, number_of, sign_at, word_at};
+use crate::slots::Slot::{
+    self, Exact, Fresh, Guesses, Key, Layer, Name, Operator, Quoted, Sign, Size,
+};
+use crate::slots::{fits, key_at, number_of, sign_at, size_at, word_at};
 use geo_base::{LayerKey, Op};
 use rule_lines::Token;
 
-/// What a name is defined to be.
+/// What a name is defined to be; a sized one is another grown, or shrunk below 0.
 #[derive(Clone, Copy)]
 pub enum Form<'a> {
     Input(LayerKey),
     Labels(LayerKey),
     Empty,
     Binary(Op, &'a [u8], &'a [u8]),
+    Sized(&'a [u8], i32),
 }
 
 /// A transistor's class and its layers.
@@ -110,6 +113,31 @@ const POLYGON_LAYER: [Slot; 3] = [Fresh, EQUALS, Key(b"polygon_layer")];
 // N = A & B, and so for |, - and ^
 const BINARY: [Slot; 5] = [Fresh, EQUALS, Name, Operator, Name];
 
+// N = A.sized(D)
+const GROWN: [Slot; 8] = [
+    Fresh,
+    EQUALS,
+    Name,
+    Sign(b'.'),
+    Key(b"sized"),
+    OPEN,
+    Size,
+    CLOSE,
+];
+
+// N = A.sized(-D)
+const SHRUNK: [Slot; 9] = [
+    Fresh,
+    EQUALS,
+    Name,
+    Sign(b'.'),
+    Key(b"sized"),
+    OPEN,
+    Sign(b'-'),
+    Size,
+    CLOSE,
+];
+
 // N.output(L, D)
 const OUTPUT: [Slot; 8] = [
     Name,
@@ -200,6 +228,14 @@ pub fn definition_of<'a>(tokens: &[Token<'a>]) -> Option<Statement<'a>>
                 word_at(tokens, 4),
             ),
         ));
+    }
+    if fits(&GROWN, tokens) {
+        let by = size_at(tokens, 6) as i32;
+        return Some(Statement::Define(word_at(tokens, 0), Form::Sized(word_at(tokens, 2), by)));
+    }
+    if fits(&SHRUNK, tokens) {
+        let by = -(size_at(tokens, 7) as i32);
+        return Some(Statement::Define(word_at(tokens, 0), Form::Sized(word_at(tokens, 2), by)));
     }
     None
 }

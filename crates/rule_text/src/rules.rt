@@ -5,13 +5,15 @@ use geo_base::{LayerKey, Op};
 use net_names::Name;
 use std::alloc::{AllocError, Global};
 
-/// What a name stands for. Operands are numbers of names.
+/// What a name stands for. Operands are numbers of names. A sized layer is another grown by so many
+/// squares on all sides, or shrunk where the number is below 0.
 #[derive(Clone, Copy, Debug, PartialEq, Eq)]
 pub enum LayerForm {
     Input(LayerKey),
     Labels(LayerKey),
     Empty,
     Binary(Op, u32, u32),
+    Sized(u32, i32),
 }
 
 /// A defined name; its number is its place in `RuleSet::names`.

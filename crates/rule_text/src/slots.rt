@@ -5,6 +5,7 @@ ghost use Rattle.std.specs.List.{list_all, list_any};
 ghost use Rattle.std.specs.Str.{bytes_eq};
 ghost use Rattle.rule_lines.specs.Seen.{seen, seen_all};
 ghost use Rattle.rule_text.specs.Rows.{is_name, is_statement_word, number_of, layer_of, guesses_of};
+ghost use Rattle.rule_text.specs.Rows.{size_of, size_at};
 ghost use Rattle.rule_text.specs.Rows.{is_digits, is_printable, is_string, is_wild, is_operator};
 ghost use Rattle.rule_text.specs.Rows.{fits_slot, fits};
 ghost use Rattle.rule_text.specs.Rows.{word_at, sign_at, layer_at, key_at};
@@ -15,7 +16,7 @@ use geo_base::LayerKey;
 use rule_lines::{Token, is_digit, is_small};
 
 /// What may stand at a place of a row: a name that may be defined, a name, a layer number, a number
-/// of guesses, digits, a string, a string that is no pattern, an operator, a given word or sign, or
+/// of guesses, a size, digits, a string, a string that is no pattern, an operator, a given word or sign, or
 /// `=>`.
 #[derive(Clone, Copy)]
 pub enum Slot<'a> {
@@ -23,6 +24,7 @@ pub enum Slot<'a> {
     Name,
     Layer,
     Guesses,
+    Size,
     Digits,
     Quoted,
     Exact,
@@ -112,6 +114,13 @@ fn layer_of(word: &[u8]) -> Option<u16>
     }
 }
 
+fn size_of(word: &[u8]) -> Option<u32>
+    ensures is { result ≡ size_of word.now }
+    ensures within { IfSome result (λ n. n ≤ 10000) }
+{
+    if word.len() <= 5 { number_of(10_000, word) } else { None }
+}
+
 fn is_digits(word: &[u8]) -> bool
     ensures { result ≡ is_digits word.now }
 {
@@ -162,6 +171,7 @@ fn fits_slot(slot: &Slot, token: &Token) -> bool
         (Slot::Name, Token::Word(w)) => is_name(w),
         (Slot::Layer, Token::Word(w)) => layer_of(w).is_some(),
         (Slot::Guesses, Token::Word(w)) => number_of(1_000_000, w).unwrap_or(0) >= 1,
+        (Slot::Size, Token::Word(w)) => size_of(w).unwrap_or(0) >= 1,
         (Slot::Digits, Token::Word(w)) => is_digits(w),
         (Slot::Quoted, Token::Text(w)) => is_string(w),
         (Slot::Exact, Token::Text(w)) => is_string(w) && !is_pattern(w),
@@ -186,8 +196,8 @@ fn all_fit(row: &[Slot], tokens: &[Token]) -> bool
 }
 
 #[tactic(auto, using(crate::proofs::FilledLemmas::filled))]
-/// Whether each token fits its slot. A name or string then has a byte, and a number of guesses lies
-/// in its range.
+/// Whether each token fits its slot. A name or string then has a byte, and a size or a number of
+/// guesses lies in its range.
 pub fn fits(row: &[Slot], tokens: &[Token]) -> bool
     ensures fits { result ≡ fits (slots_seen row.now) (seen_all tokens.now) }
     ensures filled { result ≡ true → AreFilled 0 (slots_seen row.now) (seen_all tokens.now) }
@@ -218,6 +228,13 @@ fn layer_at(tokens: &[Token], n: usize) -> u16
     ensures { result ≡ layer_at n (seen_all tokens.now) }
 {
     layer_of(word_at(tokens, n)).unwrap_or(0)
+}
+
+pub fn size_at(tokens: &[Token], n: usize) -> u32
+    ensures is { result ≡ size_at n (seen_all tokens.now) }
+    ensures within { result ≤ 10000 }
+{
+    size_of(word_at(tokens, n)).unwrap_or(0)
 }
 
 pub fn key_at(tokens: &[Token], n: usize, m: usize) -> LayerKey

@@ -138,7 +138,7 @@ pub flat : FlatHullLaw
 flat d cell key q h = in_hull d cell 0 q q (corners d cell key h.path h.end h.square q h.takes h.own) (omega (arith, ints)) (omega (arith, ints)) (omega (arith, ints)) (omega (arith, ints))
 
 pub reach : ReachHullLaw
-reach d keys cell q h =
+reach d keys n cell q h =
     let f = h.flat in
-    let a = h.around.left in let b = h.around.right in let c = h.around.low in let e = h.around.high in
-    in_hull d cell 1 h.square q (corners d cell h.key f.path f.end f.square h.square f.takes f.own) (omega (arith, ints)) (omega (arith, ints)) (omega (arith, ints)) (omega (arith, ints))
+    let a = h.within.left in let b = h.within.right in let c = h.within.low in let e = h.within.high in
+    in_hull d cell n h.square q (corners d cell h.key f.path f.end f.square h.square f.takes f.own) (omega (arith, ints)) (omega (arith, ints)) (omega (arith, ints)) (omega (arith, ints))

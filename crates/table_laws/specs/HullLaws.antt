@@ -28,8 +28,8 @@ abbrev pub FlatHullLaw : Type 0
 FlatHullLaw = (d : Design) (cell : ℕ) (key : LayerKey) (q : Square) → InFlatInput d cell key q
     → IsInHull d cell 0 q
 
--- what lies at or around one lies in the hull grown by one, so that the disturbed squares of this
--- window are enough for gates and their rings
+-- what lies within n of one lies in the hull grown by n, so that the disturbed squares of such a
+-- window are enough for what lies so near
 abbrev pub ReachHullLaw : Type 0
-ReachHullLaw = (d : Design) (keys : List LayerKey) (cell : ℕ) (q : Square) → IsInReach d keys cell q
-    → IsInHull d cell 1 q
+ReachHullLaw = (d : Design) (keys : List LayerKey) (n cell : ℕ) (q : Square)
+    → IsInReach d keys n cell q → IsInHull d cell n q

@@ -10,6 +10,7 @@ ghost use Rattle.net_model.specs.Rows.{plain_circuit};
 ghost use Rattle.net_phase.specs.Elements.{element_lists};
 ghost use Rattle.rule_layers.specs.Meaning.{wiring_of};
 ghost use Rattle.rule_text.specs.Seen.{rules_seen};
+ghost use Rattle.rule_text.specs.Sound.{IsSound};
 ghost use Rattle.view_netlist.specs.Drawing.{AreSmallShapes, IsSmallDrawing, plain_drawing};
 ghost use Rattle.view_nets.specs.Nets.{list_at};
 ghost use Rattle.view_shapes.specs.Shown.{called_by};
@@ -106,6 +107,7 @@ fn draw_nets(
     cell: u32,
     circuit: &Circuit,
 ) -> Result<Vec<Vec<Shape>>, ShowFault>
+    requires rules { IsSound (rules_seen source.rules.now) }
     requires right { AreRightNets (plain source.design.now)
         (wiring_of (rules_seen source.rules.now)) (listed_tables lists.now) }
     requires entries { AreAllThere source }
@@ -155,6 +157,7 @@ pub fn draw_cell(
     circuit: &Circuit,
     regions: &mut DeviceRegions,
 ) -> Result<Drawing, ShowFault>
+    requires rules { IsSound (rules_seen source.rules.now) }
     requires right { AreRightNets (plain source.design.now)
         (wiring_of (rules_seen source.rules.now)) (listed_tables lists.now) }
     requires entries { AreAllThere source }

@@ -3,6 +3,7 @@ use Rattle.std.specs.Prelude.{ℕ, List, [], ◌∷◌, ◌++◌, codes, decimal
 use Rattle.geo_base.specs.declared.layer.LayerKey.{LayerKey}
 use Rattle.rule_text.specs.declared.rules.LayerForm.{LayerForm}
 use Rattle.rule_text.specs.declared.rules.LayerForm.TheVariants.{Input, Labels, Empty, Binary}
+use Rattle.rule_text.specs.declared.rules.LayerForm.TheVariants.{Sized}
 use Rattle.rule_text.specs.declared.rules.LayerRule.{LayerRule}
 use Rattle.view_words.specs.Words.{word}
 
@@ -20,6 +21,7 @@ source_text (Input key) = 0x20 ∷ word (key_text key)
 source_text (Labels key) = []
 source_text Empty = []
 source_text (Binary op a b) = []
+source_text (Sized a by) = []
 
 -- `L(NAME)` for each name of the rules
 abbrev pub layer_row : LayerRule → List ℕ

@@ -34,6 +34,7 @@ fn push_source(alloc: Global, out: &mut Vec<u8>, form: &LayerForm) -> Result<(),
         LayerForm::Labels(_) => Ok(()),
         LayerForm::Empty => Ok(()),
         LayerForm::Binary(_, _, _) => Ok(()),
+        LayerForm::Sized(_, _) => Ok(()),
     }
 }
 

@@ -11,6 +11,7 @@ use Rattle.part_origins.specs.Made.{AllOrigins, PlainOrigins}
 use Rattle.plain_netlist.specs.Netlist.{Circuit}
 use Rattle.rule_layers.specs.Meaning.{wiring_of}
 use Rattle.rule_text.specs.Seen.{rules_seen}
+use Rattle.rule_text.specs.Sound.{IsSound}
 use Rattle.spice_text.specs.Needs.{first_seen}
 use Rattle.view_drawing.specs.Devices.{Area}
 use Rattle.view_drawing.specs.Drawn.{AreAllThere, AreListsOf, IsCellDrawn, listed_tables}
@@ -117,6 +118,7 @@ IsReachedIn g cell = IsReached (plain g.source.design.now) cell
 
 -- the lists are those of right tables, and the cells are reached
 pub record IsDrawable (g : Given) : Type 0 where
+  pub rules : IsSound (rules_seen g.source.rules.now)
   pub right : AreRightNets (plain g.source.design.now)
       (wiring_of (rules_seen g.source.rules.now)) (listed_tables g.lists.now)
   pub entries : AreAllThere g.source

@@ -1,5 +1,5 @@
 -- Entries of parents.
-use Rattle.std.proofs.Common.{◌≡◌, ◌⊎◌, ◌↔◌, inl, inr, ℕ, ℤ, zero, suc, pos, ◌<◌, ◌-◌, ◌^◌, ◌+ℤ◌, ◌-ℤ◌, true, false, List, [], ◌∷◌, Option, Some, None, refl, sym, ◌∙◌, subst, arith, length, slice_index_or, IsSomeAnd}
+use Rattle.std.proofs.Common.{◌≡◌, ◌⊎◌, ◌↔◌, inl, inr, ℕ, ℤ, zero, suc, pos, ◌<◌, ◌≤◌, ◌-◌, ◌^◌, ◌+ℤ◌, ◌-ℤ◌, true, false, List, [], ◌∷◌, Option, Some, None, refl, sym, ◌∙◌, subst, arith, length, slice_index_or, IsSomeAnd}
 use Rattle.std.proofs.lemmas.Int.{ints}
 use Rattle.geo_base.specs.Near.{IsWithin}
 use Rattle.geo_base.specs.declared.layer.LayerKey.{LayerKey}
@@ -15,19 +15,7 @@ use Rattle.deep_tables.specs.declared.zones.CellZones.{CellZones}
 use Rattle.deep_tables.specs.Frames.{IsFramedZone, grown}
 use Rattle.deep_tables.specs.Entries.{downward_cell}
 use Rattle.zone_phase.specs.declared.uses.Use.{Use}
-use Rattle.zone_phase.specs.Jobs.{IsEntry, zone_in, IsFromUses}
-
-one_less : (z : ℤ) → IsWithin (2 ^ 36) z → IsWithin (2 ^ 37) (z -ℤ pos 1)
-one_less z h = let l = h.low in let u = h.high in record { low = omega (arith, ints); high = omega (arith, ints) }
-
-one_more : (z : ℤ) → IsWithin (2 ^ 36) z → IsWithin (2 ^ 37) (z +ℤ pos 1)
-one_more z h = let l = h.low in let u = h.high in record { low = omega (arith, ints); high = omega (arith, ints) }
-
-pub grown_frame : (h : Rect) → IsHull h → IsFrame (grown h)
-grown_frame h s = let w = s.some.wide in let u = s.some.high in record {
-  some = record { wide = omega (arith, ints); high = omega (arith, ints) };
-  near = record { x1 = one_less h.x1 s.near.x1; y1 = one_less h.y1 s.near.y1; x2 = one_more h.x2 s.near.x2; y2 = one_more h.y2 s.near.y2 };
-}
+use Rattle.zone_phase.specs.Jobs.{HasName, IsEntry, zone_in, IsFromUses}
 
 pub at_any : {A : Type 0} (xs : List A) (k : ℕ) (a b : A) → k < length xs → slice_index_or xs k a ≡ slice_index_or xs k b
 at_any [] k a b lt = absurd (let z : ⊥ = omega arith in z)
@@ -37,9 +25,9 @@ at_any (x ∷ xs) (suc k) a b lt = at_any xs k a b (omega arith)
 pub some_and : {A : Type 0} (P : A → Type 0) (o : Option A) (x : A) → o ≡ Some x → IsSomeAnd o P → P x
 some_and P o x e h = subst (λ p. IsSomeAnd p P) e h
 
-pub entry_zone : (d : Linked) (key : LayerKey) (name cell : ℕ) (o : Option CellZones) → IsSomeAnd o (IsEntry d key name cell) → IsFramedZone d (key ∷ []) cell (zone_in o name)
-entry_zone d key name cell None h = absurd h
-entry_zone d key name cell (Some v) h = h.1
+pub entry_zone : (margin : ℕ) (d : Linked) (key : LayerKey) (name cell : ℕ) (o : Option CellZones) → IsSomeAnd o (IsEntry margin d key name cell) → IsFramedZone margin d (key ∷ []) cell (zone_in o name)
+entry_zone margin d key name cell None h = absurd h
+entry_zone margin d key name cell (Some v) h = h.1
 
 pub job_reached : (d : Linked) (job : ℕ) → IsSound d → job < length d.order → IsReached (plain d) (downward_cell d job)
 job_reached d job sound lt = sound.order.reached (length d.order - 1 - job) (omega arith)
@@ -58,3 +46,8 @@ made_of d value name cell key g uses near set old out new none same h k q = (
   ]),
   (λ j. same q ∙ (k q).1 (elim j [ inl u ↦ inl ((h q).1 (inr u)) | inr o ↦ inr o ])),
 )
+
+-- an entry with the cell's squares has squares of the name
+pub entry_name : (margin : ℕ) (d : Linked) (key : LayerKey) (name cell : ℕ) (o : Option CellZones) → IsSomeAnd o (IsEntry margin d key name cell) → IsSomeAnd o (HasName name)
+entry_name margin d key name cell None h = h
+entry_name margin d key name cell (Some v) h = h.0

@@ -25,11 +25,11 @@ use Rattle.zone_phase.specs.Pulls.{Why}
 use Rattle.zone_phase.specs.Uses.{AreUsesOf}
 use Rattle.zone_phase.proofs.Steps.{grown_up}
 
-in_grown : (o : Option Rect) (hull g : Rect) (q : Square) → o ≡ Some hull → g ≡ grown hull → has g q ≡ true → IsInGrown o q
-in_grown o hull g q e f h = subst (λ x. IsInGrown x q) (sym e) (subst (λ r. has r q ≡ true) f h)
+in_grown : (margin : ℕ) (o : Option Rect) (hull g : Rect) (q : Square) → o ≡ Some hull → g ≡ grown margin hull → has g q ≡ true → IsInGrown margin o q
+in_grown margin o hull g q e f h = subst (λ x. IsInGrown margin x q) (sym e) (subst (λ r. has r q ≡ true) f h)
 
-has_grown : (o : Option Rect) (hull g : Rect) (q : Square) → o ≡ Some hull → g ≡ grown hull → IsInGrown o q → has g q ≡ true
-has_grown o hull g q e f h = subst (λ r. has r q ≡ true) (sym f) (subst (λ x. IsInGrown x q) e h)
+has_grown : (margin : ℕ) (o : Option Rect) (hull g : Rect) (q : Square) → o ≡ Some hull → g ≡ grown margin hull → IsInGrown margin o q → has g q ≡ true
+has_grown margin o hull g q e f h = subst (λ r. has r q ≡ true) (sym f) (subst (λ x. IsInGrown margin x q) e h)
 
 -- what is brought here is brought
 weaker : (d : Linked) (zone : List Rect) (parent index : ℕ) (key : LayerKey) (p : Place) (row column : ℕ) (q : Square) → WhyHere zone d parent index key p row column q → Why zone d parent index key p row column q
@@ -52,13 +52,13 @@ neighbour_at d uses key q [] are h = absurd h
 neighbour_at d uses key q (n ∷ near) are (inl o) = (n, are 0 n refl, o)
 neighbour_at d uses key q (n ∷ near) are (inr h) = neighbour_at d uses key q near (λ k m at. are (suc k) m at) h
 
-pub use_step : (d : Linked) (value : ℕ → Option CellZones) (name cell : ℕ) (key : LayerKey) (hull g : Rect) (uses : List Use) (near : List Neighbour) (zone : List Rect) → IsSound d → hull_of (cell_at d cell) ≡ Some hull → g ≡ grown hull
-    → ((k : ℕ) (u : Use) → slice_get uses k ≡ Some u → IsReached (plain d) (downward_cell d u.job) × IsFramedZone d (key ∷ []) (downward_cell d u.job) (zone_in (value u.job) name))
+pub use_step : (margin : ℕ) (d : Linked) (value : ℕ → Option CellZones) (name cell : ℕ) (key : LayerKey) (hull g : Rect) (uses : List Use) (near : List Neighbour) (zone : List Rect) → IsSound d → hull_of (cell_at d cell) ≡ Some hull → g ≡ grown margin hull
+    → ((k : ℕ) (u : Use) → slice_get uses k ≡ Some u → IsReached (plain d) (downward_cell d u.job) × IsFramedZone margin d (key ∷ []) (downward_cell d u.job) (zone_in (value u.job) name))
     → AreUsesOf d cell uses → AreNeighbours d uses near → AreAllNear d g uses (length uses) near
-    → ((q : Square) → (covers zone q ≡ true) ↔ (IsFromUses d value name cell key g uses (length uses) q ⊎ ((has g q ≡ true) × Some_of (IsOverBy d key q) near))) → IsFramedZone d (key ∷ []) cell zone
-use_step d value name cell key hull g uses near zone sound is wide right all are every made q = (to, from)
+    → ((q : Square) → (covers zone q ≡ true) ↔ (IsFromUses d value name cell key g uses (length uses) q ⊎ ((has g q ≡ true) × Some_of (IsOverBy d key q) near))) → IsFramedZone margin d (key ∷ []) cell zone
+use_step margin d value name cell key hull g uses near zone sound is wide right all are every made q = (to, from)
   where
-    of_use : IsFromUses d value name cell key g uses (length uses) q → IsDisturbed (plain d) (key ∷ []) cell q × IsInGrown (hull_of (cell_at d cell)) q
+    of_use : IsFromUses d value name cell key g uses (length uses) q → IsDisturbed (plain d) (key ∷ []) cell q × IsInGrown margin (hull_of (cell_at d cell)) q
     of_use h =
         let b = h.brings in
         let r = right h.at h.found h.there in (
@@ -76,10 +76,10 @@ use_step d value name cell key hull g uses near zone sound is wide right all are
               | inr o ↦ inr o
             ];
           }),
-          in_grown (hull_of (cell_at d cell)) hull g q is wide b.inner,
+          in_grown margin (hull_of (cell_at d cell)) hull g q is wide b.inner,
         )
 
-    of_neighbour : has g q ≡ true → Some_of (IsOverBy d key q) near → IsDisturbed (plain d) (key ∷ []) cell q × IsInGrown (hull_of (cell_at d cell)) q
+    of_neighbour : has g q ≡ true → Some_of (IsOverBy d key q) near → IsDisturbed (plain d) (key ∷ []) cell q × IsInGrown margin (hull_of (cell_at d cell)) q
     of_neighbour inner h =
         let n = neighbour_at d uses key q near are h in
         let b = n.1 in
@@ -97,22 +97,22 @@ use_step d value name cell key hull g uses near zone sound is wide right all are
             here = subst (λ (p : Place). p.cell ≡ cell) same used.here;
             why = inr (inl (inr (b.through key q n.2)));
           }),
-          in_grown (hull_of (cell_at d cell)) hull g q is wide inner,
+          in_grown margin (hull_of (cell_at d cell)) hull g q is wide inner,
         )
 
-    to : covers zone q ≡ true → IsDisturbed (plain d) (key ∷ []) cell q × IsInGrown (hull_of (cell_at d cell)) q
+    to : covers zone q ≡ true → IsDisturbed (plain d) (key ∷ []) cell q × IsInGrown margin (hull_of (cell_at d cell)) q
     to e = elim ((made q).0 e) [ inl h ↦ of_use h | inr h ↦ of_neighbour h.0 h.1 ]
 
-    from : IsDisturbed (plain d) (key ∷ []) cell q × IsInGrown (hull_of (cell_at d cell)) q → covers zone q ≡ true
+    from : IsDisturbed (plain d) (key ∷ []) cell q × IsInGrown margin (hull_of (cell_at d cell)) q → covers zone q ≡ true
     from (h, i) =
         let b = (array_zones d sound cell key q).0 h in
-        let up = grown_up d b.parent b.index b.row b.column b.from q sound b.step (subst (λ c. IsInGrown (hull_of (cell_at d c)) q) (sym b.here) i) in
+        let up = grown_up margin d b.parent b.index b.row b.column b.from q sound b.step (subst (λ c. IsInGrown margin (hull_of (cell_at d c)) q) (sym b.here) i) in
         let j = all.all b.parent b.index b.from b.reached b.step.there b.here in
         let u = j.2.found in
         let at : downward_cell d u.job ≡ b.parent = ap (downward_cell d) j.2.job ∙ j.1 in
         let r = right j.2.at u j.2.there in
         let m = moved_square (motion_at b.from b.row b.column) q in
-        let inner = has_grown (hull_of (cell_at d cell)) hull g q is wide i in
+        let inner = has_grown margin (hull_of (cell_at d cell)) hull g q is wide i in
         let step : IsStep d (downward_cell d u.job) u.index b.row b.column b.from =
         subst (λ i. IsStep d (downward_cell d u.job) i b.row b.column b.from) (sym j.2.index) (subst (λ c. IsStep d c b.index b.row b.column b.from) (sym at) b.step) in
         let brought : WhyHere (zone_in (value u.job) name) d (downward_cell d u.job) u.index key b.from b.row b.column q → covers zone q ≡ true = λ why.
@@ -124,7 +124,7 @@ use_step d value name cell key hull g uses near zone sound is wide right all are
           brings = record { row = b.row; column = b.column; from = b.from; step = step; here = b.here; inner = inner; why = why };
         })) in
         elim b.why [
-          | inl z ↦ brought (inl ((r.1 m).1 (subst (λ c. IsDisturbed (plain d) (key ∷ []) c m) (sym at) z, subst (λ c. IsInGrown (hull_of (cell_at d c)) m) (sym at) up)))
+          | inl z ↦ brought (inl ((r.1 m).1 (subst (λ c. IsDisturbed (plain d) (key ∷ []) c m) (sym at) z, subst (λ c. IsInGrown margin (hull_of (cell_at d c)) m) (sym at) up)))
           | inr o ↦ elim o [
             | inr y ↦ brought (inr (inr y))
             | inl x ↦ elim (subst (λ n. IsOver d (downward_cell d u.job) (Some n) key m) (sym j.2.index) (subst (λ c. IsOver d c (Some b.index) key m) (sym at) x)) [
@@ -144,5 +144,5 @@ use_step d value name cell key hull g uses near zone sound is wide right all are
         ]
 
 -- a cell without squares has no zone
-pub no_zone : (d : Linked) (cell : ℕ) (key : LayerKey) (zone : List Rect) → None ≡ hull_of (cell_at d cell) → ((q : Square) → covers zone q ≡ true → ⊥) → IsFramedZone d (key ∷ []) cell zone
-no_zone d cell key zone e none q = ((λ h. absurd (none q h)), λ h. absurd (subst (λ o. IsInGrown o q) (sym e) h.1))
+pub no_zone : (margin : ℕ) (d : Linked) (cell : ℕ) (key : LayerKey) (zone : List Rect) → None ≡ hull_of (cell_at d cell) → ((q : Square) → covers zone q ≡ true → ⊥) → IsFramedZone margin d (key ∷ []) cell zone
+no_zone margin d cell key zone e none q = ((λ h. absurd (none q h)), λ h. absurd (subst (λ o. IsInGrown margin o q) (sym e) h.1))

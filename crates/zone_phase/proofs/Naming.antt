@@ -18,27 +18,27 @@ use Rattle.zone_phase.specs.Names.{AreDeviceZones, AreNameZones, HaveForm, HaveI
 use Rattle.zone_phase.proofs.Putting.{push_cases, push_old, push_new}
 
 -- for no layers nothing is disturbed
-pub framed_none : (d : Linked) (cell : ℕ) → IsFramedZone d [] cell []
-framed_none d cell q = ((λ h. absurd (let z : ⊥ = cc in z)), (λ h. absurd h.0.listed))
+pub framed_none : (margin : ℕ) (d : Linked) (cell : ℕ) → IsFramedZone margin d [] cell []
+framed_none margin d cell q = ((λ h. absurd (let z : ⊥ = cc in z)), (λ h. absurd h.0.listed))
 
-pub no_names : (d : Linked) (cell : ℕ) → AreNameZones d cell [] []
-no_names d cell k = framed_none d cell
+pub no_names : (margin : ℕ) (d : Linked) (cell : ℕ) → AreNameZones margin d cell [] []
+no_names margin d cell k = framed_none margin d cell
 
-pub names_more : (d : Linked) (cell : ℕ) (trees : List Formula) (tree : Formula) (sets : List (List Rect)) (set : List Rect) → length sets ≡ length trees
-    → AreNameZones d cell trees sets → IsFramedZone d (inputs tree) cell set → AreNameZones d cell (trees ++ tree ∷ []) (sets ++ set ∷ [])
-names_more d cell trees tree sets set count h is k = elim (cases_lt k (length trees)) [
+pub names_more : (margin : ℕ) (d : Linked) (cell : ℕ) (trees : List Formula) (tree : Formula) (sets : List (List Rect)) (set : List Rect) → length sets ≡ length trees
+    → AreNameZones margin d cell trees sets → IsFramedZone margin d (inputs tree) cell set → AreNameZones margin d cell (trees ++ tree ∷ []) (sets ++ set ∷ [])
+names_more margin d cell trees tree sets set count h is k = elim (cases_lt k (length trees)) [
   | inl below ↦
-      subst (λ t. IsFramedZone d (inputs t) cell (get_or (sets ++ set ∷ []) k [])) (sym (get_or_append_left trees (tree ∷ []) Empty k below))
-      (subst (IsFramedZone d (inputs (get_or trees k Empty)) cell) (sym (get_or_append_left sets (set ∷ []) [] k (subst (λ n. k < n) (sym count) below))) (h k))
+      subst (λ t. IsFramedZone margin d (inputs t) cell (get_or (sets ++ set ∷ []) k [])) (sym (get_or_append_left trees (tree ∷ []) Empty k below))
+      (subst (IsFramedZone margin d (inputs (get_or trees k Empty)) cell) (sym (get_or_append_left sets (set ∷ []) [] k (subst (λ n. k < n) (sym count) below))) (h k))
   | inr from ↦ elim (ℕ_discrete k (length trees)) [
     | yes e ↦
-        subst (λ t. IsFramedZone d (inputs t) cell (get_or (sets ++ set ∷ []) k [])) (sym (get_or_push trees tree Empty k (sym e)))
-        (subst (IsFramedZone d (inputs tree) cell) (sym (get_or_push sets set [] k (count ∙ sym e))) is)
+        subst (λ t. IsFramedZone margin d (inputs t) cell (get_or (sets ++ set ∷ []) k [])) (sym (get_or_push trees tree Empty k (sym e)))
+        (subst (IsFramedZone margin d (inputs tree) cell) (sym (get_or_push sets set [] k (count ∙ sym e))) is)
     | no n ↦
         let a : length (trees ++ tree ∷ []) ≤ k = (let m = length-append trees (tree ∷ []) in omega arith) in
         let b : length (sets ++ set ∷ []) ≤ k = (let m = length-append sets (set ∷ []) in omega arith) in
-        subst (λ t. IsFramedZone d (inputs t) cell (get_or (sets ++ set ∷ []) k [])) (sym (get_or_past (trees ++ tree ∷ []) k Empty a))
-        (subst (IsFramedZone d [] cell) (sym (get_or_past (sets ++ set ∷ []) k [] b)) (framed_none d cell))
+        subst (λ t. IsFramedZone margin d (inputs t) cell (get_or (sets ++ set ∷ []) k [])) (sym (get_or_past (trees ++ tree ∷ []) k Empty a))
+        (subst (IsFramedZone margin d [] cell) (sym (get_or_past (sets ++ set ∷ []) k [] b)) (framed_none margin d cell))
   ]
 ]
 
@@ -55,17 +55,18 @@ one_on trees names i rule lt is =
     ∙ ap (λ (r : LayerRule). formulas_behind (trees ++ formula_by trees r.form ∷ []) (drop (i + 1) names)) is)
 
 -- the entries of the form that is next
-pub form_entries : (d : Linked) (value : ℕ → Option CellZones) (trees : List Formula) (all : List Formula) (name : ℕ) (uses : List Use) (f : LayerForm) → length trees ≡ name
-    → ((k : ℕ) (x : Formula) → slice_get (trees ++ formula_by trees f ∷ []) k ≡ Some x → slice_get all k ≡ Some x) → HaveInputs d value all uses → HaveForm d value name uses f
-form_entries d value trees all name uses (form.Input key) count behind h = h name key (behind name (Input key) (subst (λ n. slice_get (trees ++ Input key ∷ []) n ≡ Some (Input key)) count (push_new trees (Input key))))
-form_entries d value trees all name uses (form.Labels key) count behind h = tt
-form_entries d value trees all name uses form.Empty count behind h = tt
-form_entries d value trees all name uses (form.Binary op a b) count behind h = tt
+pub form_entries : (margin : ℕ) (d : Linked) (value : ℕ → Option CellZones) (trees : List Formula) (all : List Formula) (name : ℕ) (uses : List Use) (f : LayerForm) → length trees ≡ name
+    → ((k : ℕ) (x : Formula) → slice_get (trees ++ formula_by trees f ∷ []) k ≡ Some x → slice_get all k ≡ Some x) → HaveInputs margin d value all uses → HaveForm margin d value name uses f
+form_entries margin d value trees all name uses (form.Input key) count behind h = h name key (behind name (Input key) (subst (λ n. slice_get (trees ++ Input key ∷ []) n ≡ Some (Input key)) count (push_new trees (Input key))))
+form_entries margin d value trees all name uses (form.Labels key) count behind h = tt
+form_entries margin d value trees all name uses form.Empty count behind h = tt
+form_entries margin d value trees all name uses (form.Binary op a b) count behind h = tt
+form_entries margin d value trees all name uses (form.Sized a by) count behind h = tt
 
 -- ---- the zones of device rules
 
-pub no_zones : (d : Linked) (cell : ℕ) (trees : List Formula) → AreDeviceZones d cell trees [] []
-no_zones d cell trees = record { count = refl; zones = λ k names set there found. absurd (none_some names there) }
+pub no_zones : (margin : ℕ) (d : Linked) (cell : ℕ) (trees : List Formula) → AreDeviceZones margin d cell trees [] []
+no_zones margin d cell trees = record { count = refl; zones = λ k names set there found. absurd (none_some names there) }
   where
     none_some : {A : Type 0} (u : A) → None ≡ Some u → ⊥
     none_some u e = cc
@@ -86,9 +87,9 @@ taken_more {A = A} {B = B} f lists xs i x lt e =
     (sym (map-append f (take i xs) (x ∷ [])) ∙ ap (λ (y : A). map f (take i xs ++ y ∷ [])) e ∙ ap (λ (ys : List A). map f ys) (sym (take_more xs i x lt)))
 
 -- one rule on
-pub zones_more : (d : Linked) (cell : ℕ) (trees : List Formula) (lists : List (List ℕ)) (names : List ℕ) (sets : List (List Rect)) (set : List Rect)
-    → AreDeviceZones d cell trees lists sets → IsFramedZone d (names_inputs trees names) cell set → AreDeviceZones d cell trees (lists ++ names ∷ []) (sets ++ set ∷ [])
-zones_more d cell trees lists names sets set h is = record {
+pub zones_more : (margin : ℕ) (d : Linked) (cell : ℕ) (trees : List Formula) (lists : List (List ℕ)) (names : List ℕ) (sets : List (List Rect)) (set : List Rect)
+    → AreDeviceZones margin d cell trees lists sets → IsFramedZone margin d (names_inputs trees names) cell set → AreDeviceZones margin d cell trees (lists ++ names ∷ []) (sets ++ set ∷ [])
+zones_more margin d cell trees lists names sets set h is = record {
   count = length-append sets (set ∷ []) ∙ ap (λ (n : ℕ). n + 1) h.count ∙ sym (length-append lists (names ∷ []));
   zones = λ k ns s there found. elim (push_cases sets set s k found) [
     | inl old ↦
@@ -99,7 +100,7 @@ zones_more d cell trees lists names sets set h is = record {
     | inr new ↦
         let at : slice_get (lists ++ names ∷ []) (length lists) ≡ Some ns = subst (λ i. slice_get (lists ++ names ∷ []) i ≡ Some ns) (new.0 ∙ h.count) there in
         let same : names ≡ ns = one_some names ns (sym (push_new lists names) ∙ at) in
-        subst (λ (x : List ℕ). IsFramedZone d (names_inputs trees x) cell s) same (subst (IsFramedZone d (names_inputs trees names) cell) new.1 is)
+        subst (λ (x : List ℕ). IsFramedZone margin d (names_inputs trees x) cell s) same (subst (IsFramedZone margin d (names_inputs trees names) cell) new.1 is)
   ];
 }
   where

@@ -18,13 +18,14 @@ use Rattle.geo_base.proofs.Spans.{moved_rect-has}
 use Rattle.flat_layout.specs.Layout.{InFlatInput, Some_of}
 use Rattle.flat_laws.proofs.Squares.{same_square}
 use Rattle.cell_graph.specs.declared.cells.Place.{Place}
-use Rattle.cell_graph.specs.Linked.{Linked, IsSound, cell_at, motion_at, places_at, plain}
+use Rattle.cell_graph.specs.Linked.{Linked, IsSound, cell_at, hull_of, motion_at, places_at, plain}
 use Rattle.cell_graph.proofs.Bridge.{hulls, reference_at}
 use Rattle.cell_context.specs.Arrays.{IsNearArray}
 use Rattle.cell_context.specs.declared.arrays.Visit.{Visit}
 use Rattle.cell_context.specs.Over.{AreVisited, IsThrough, IsVisit}
 use Rattle.cell_context.specs.Visits.{IsVisited}
 use Rattle.cell_context.proofs.Gathering.{some_at, visit_lower}
+use Rattle.cell_graph.proofs.Growing.{grown_none}
 use Rattle.cell_context.proofs.Visiting.{some_last, some_more, wider}
 use Rattle.deep_tables.specs.Entries.{downward_cell}
 use Rattle.zone_phase.specs.declared.neighbours.Neighbour.{Neighbour}
@@ -134,14 +135,14 @@ near_alone cell m x y = record {
 
 -- what is visited near a placement is its neighbour
 pub seen_neighbour : (d : Linked) (uses : List Use) (u : Use) (parent : ℕ) (place : Place) (w : Rect) (v : Visit) (n : Neighbour) → IsSound d → Listed uses u → parent ≡ downward_cell d u.job
-    → slice_get (places_at (cell_at d parent)) u.index ≡ Some place → IsAlone place → IsVisit d parent (Some u.index) w v → IsSeenAs place v n → IsNeighbour d uses n
+    → slice_get (places_at (cell_at d parent)) u.index ≡ Some place → IsAlone place → IsVisit 0 d parent (Some u.index) w v → IsSeenAs place v n → IsNeighbour d uses n
 seen_neighbour d uses u parent place w v n sound at up there apart h seen = record {
   at = at.0;
   found = u;
   there = at.1;
   placed = subst (λ c. slice_get (places_at (cell_at d c)) u.index ≡ Some n.place) up (there ∙ ap Some (sym seen.place_is));
   apart = subst IsAlone (sym seen.place_is) apart;
-  inside = subst (λ c. c < length d.cells) (ap (λ (p : Place). p.cell) (sym seen.other)) (visit_lower d parent (Some u.index) w v sound h).0;
+  inside = subst (λ c. c < length d.cells) (ap (λ (p : Place). p.cell) (sym seen.other)) (visit_lower 0 d parent (Some u.index) w v sound h).0;
   near = let element = (reference_at d parent h.index h.from sound h.step.there).2.elements h.row h.column h.step.row_in h.step.column_in in subst IsNearArray (sym seen.other) (near_alone v.cell v.motion (subst (λ (m : Motion). IsWithin (2 ^ 36) m.dx) (sym h.motion_is) element.dx) (subst (λ (m : Motion). IsWithin (2 ^ 36) m.dy) (sym h.motion_is) element.dy));
   single = single;
   lies = seen.lies;
@@ -178,9 +179,9 @@ visit_here d uses old new place v n put is are seen key q r flat image =
 
 -- all that is over the placement is brought
 pub all_near : (d : Linked) (parent index : ℕ) (place : Place) (g w : Rect) (list : List Neighbour) (vs : List Visit) (none : Visit) → IsSound d → IsRect g → w ≡ moved_rect (motion_at place 0 0) g
-    → ((k : ℕ) → k < length vs → BringsVisit d place (slice_index_or vs k none) list) → AreVisited d parent (Some index) w vs → IsAllNear d g parent index place list
+    → ((k : ℕ) → k < length vs → BringsVisit d place (slice_index_or vs k none) list) → AreVisited 0 d parent (Some index) w vs → IsAllNear d g parent index place list
 all_near d parent index place g w list vs none sound some is brings visited key q inner t =
-    let held = hulls d sound t.from.cell key t.square t.flat in
+    let held = (grown_none (hull_of (cell_at d t.from.cell)) t.square).1 (hulls d sound t.from.cell key t.square t.flat) in
     let inside : has w (moved_square (motion_at place 0 0) q) ≡ true = subst (λ x. has x (moved_square (motion_at place 0 0) q) ≡ true) (sym is) (moved_rect-has (motion_at place 0 0) g q some ∙ inner) in
     let s = some_at (IsVisited t.from t.row t.column t.square) vs none (visited t.index t.row t.column t.from t.square t.step t.kept held (subst (λ x. has w x ≡ true) (sym t.image) inside)) in
     brings s.0 s.1 key q t.square (subst (λ c. InFlatInput (plain d) c key t.square) (sym s.2.cell) t.flat) (ap (λ (m : Motion). moved_square m t.square) s.2.motion ∙ t.image)

@@ -9,8 +9,8 @@ use Rattle.deep_laws.proofs.Zones.{union}
 use Rattle.deep_tables.specs.Frames.{IsFramedZone}
 use Rattle.geo_base.specs.declared.layer.LayerKey.{LayerKey}
 
-pub united : (a b r : List Rect) → ((s : Square) → covers r s ≡ (covers a s || covers b s)) → (d : Linked) (xs ys : List LayerKey) (cell : ℕ) → IsFramedZone d xs cell a → IsFramedZone d ys cell b → IsFramedZone d (xs ++ ys) cell r
-united a b r e d xs ys cell h g q = (
+pub united : (a b r : List Rect) → ((s : Square) → covers r s ≡ (covers a s || covers b s)) → (margin : ℕ) (d : Linked) (xs ys : List LayerKey) (cell : ℕ) → IsFramedZone margin d xs cell a → IsFramedZone margin d ys cell b → IsFramedZone margin d (xs ++ ys) cell r
+united a b r e margin d xs ys cell h g q = (
   (λ c. elim (or_split (covers a q) (covers b q) (sym (e q) ∙ c)) [
     | inl i ↦ let z = (h q).0 i in ((union (plain d) xs ys cell q).1 (inl z.0), z.1)
     | inr i ↦ let z = (g q).0 i in ((union (plain d) xs ys cell q).1 (inr z.0), z.1)
@@ -20,3 +20,7 @@ united a b r e d xs ys cell h g q = (
     | inr i ↦ or_right (covers a q) (covers b q) ((g q).1 (i, z.1))
   ]),
 )
+
+-- a set of the same squares is as good
+pub same_zone : (a r : List Rect) → ((s : Square) → covers r s ≡ covers a s) → (margin : ℕ) (d : Linked) (keys : List LayerKey) (cell : ℕ) → IsFramedZone margin d keys cell a → IsFramedZone margin d keys cell r
+same_zone a r e margin d keys cell h q = ((λ c. (h q).0 (sym (e q) ∙ c)), (λ z. e q ∙ (h q).1 z))

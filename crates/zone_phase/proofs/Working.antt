@@ -8,7 +8,7 @@ use Rattle.geo_base.specs.declared.layer.LayerKey.{LayerKey}
 use Rattle.geo_base.specs.declared.shapes.Rect.{Rect}
 use Rattle.rect_sets.specs.Rects.{IsCanonical}
 use Rattle.flat_layout.specs.Gates.{Rule, gate_inputs}
-use Rattle.flat_layout.specs.Layers.{Formula, Input, Empty, Binary, inputs}
+use Rattle.flat_layout.specs.Layers.{Formula, Input, Empty, Binary, Sized, inputs}
 use Rattle.flat_layout.specs.Layout.{IsReached, Some_of}
 use Rattle.flat_laws.proofs.Names.{fewer, more_left, more_right}
 use Rattle.flat_layout.specs.Regions.{formula}
@@ -21,9 +21,9 @@ use Rattle.rule_text.specs.declared.rules.MoreRule.{MoreRule}
 use Rattle.rule_text.specs.declared.rules.MoreRule.TheVariants as more
 use Rattle.rule_text.specs.Reading.{is_conductor}
 use Rattle.rule_layers.specs.Meaning.{device_rule, device_rules, more_rule, wiring_of}
-use Rattle.rule_layers.specs.Formulas.{formulas}
+use Rattle.rule_layers.specs.Formulas.{formulas, zone_margin}
 use Rattle.rule_layers.specs.Reads.{AreRead, IsRead, ReadsFurther, ReadsLayer}
-use Rattle.rule_layers.proofs.Unread.{derived_tree, read_tree, same_count}
+use Rattle.rule_layers.proofs.Unread.{derived_tree, read_tree, same_count, sized_tree}
 use Rattle.rule_layers.proofs.Wired.{conductors, terminals}
 use Rattle.deep_tables.specs.declared.zones.CellZones.{CellZones}
 use Rattle.deep_tables.specs.Entries.{downward_cell}
@@ -60,14 +60,14 @@ waited d lists graph job P uses jobs lt f k u at =
 
 -- a right entry has the squares of each input layer that is read
 pub entry_of : (d : Linked) (r : Rules) (cell name : ℕ) (key : LayerKey) (v : CellZones) → HasHulls d → IsReached (plain d) cell → slice_get (formulas r.names) name ≡ Some (Input key) → IsRead r.names r.devices r.more name
-    → AreCellZones (plain d) r cell v → IsEntry d key name cell v
+    → AreCellZones (plain d) r cell v → IsEntry (zone_margin r.names) d key name cell v
 entry_of d r cell name key v hulls reached at read h =
     let count = h.names in
     let named = slice_get_within (formulas r.names) name (Input key) at in
     let within : name < length v.layers.items = omega arith in
     let zone = get_or v.layers.items name [] in
     let is = h.layers name (Input key) zone at (slice_get-get_or v.layers.items name [] within) read in
-    (within, (framed d (key ∷ []) cell zone (hulls cell reached) is.canonical).0 is)
+    (within, (framed d (key ∷ []) (zone_margin r.names) cell zone (hulls cell reached) is.canonical).0 is)
 
 pub some_more : {A : Type 0} (P Q : A → Type 0) (o : Option A) → ((x : A) → P x → Q x) → IsSomeAnd o P → IsSomeAnd o Q
 some_more P Q None f h = h
@@ -81,6 +81,7 @@ asked_tree : (r : Rules) (read : List LayerRule) (i : ℕ) (x : Formula) → Are
 asked_tree r read i (Input key) are e asked = read_tree r.names r.devices r.more read i are asked
 asked_tree r read i Empty are e asked = read_tree r.names r.devices r.more read i are asked
 asked_tree r read i (Binary op a b) are e asked = derived_tree r.names r.devices r.more read i op a b are e
+asked_tree r read i (Sized by a) are e asked = sized_tree r.names r.devices r.more read i by a are e
 
 -- ---- device rules by place
 
@@ -129,8 +130,8 @@ once xs key i = elim (some_split (λ k. k ≡ key) xs xs i) [ inl a ↦ more_lef
 plain_end : (xs : List LayerKey) → Within (xs ++ []) xs
 plain_end xs key i = elim (some_split (λ k. k ≡ key) xs [] i) [ inl a ↦ a | inr b ↦ absurd b ]
 
-same_keys : (d : Linked) (xs ys : List LayerKey) (cell : ℕ) (zone : List Rect) → Within xs ys → Within ys xs → IsFramedZone d xs cell zone → IsFramedZone d ys cell zone
-same_keys d xs ys cell zone up down is q = (
+same_keys : (margin : ℕ) (d : Linked) (xs ys : List LayerKey) (cell : ℕ) (zone : List Rect) → Within xs ys → Within ys xs → IsFramedZone margin d xs cell zone → IsFramedZone margin d ys cell zone
+same_keys margin d xs ys cell zone up down is q = (
   (λ e. let x = (is q).0 e in (fewer (plain d) xs ys cell q up x.0, x.1)),
   (λ y. (is q).1 (fewer (plain d) ys xs cell q down y.0, y.1)),
 )
@@ -165,32 +166,32 @@ further_read (more.Diode class p n ta tc) k (inr (inr (inr (inl e)))) = inr (inr
 further_read (more.Diode class p n ta tc) k (inr (inr (inr (inr z)))) = absurd z
 
 -- a rule's layers read what the rule says, and its terminals are read as names
-module _ (d : Linked) (r : Rules) (sound : rules.IsSound r) (cell : ℕ) (zone : List Rect) where
+module _ (margin : ℕ) (d : Linked) (r : Rules) (sound : rules.IsSound r) (cell : ℕ) (zone : List Rect) where
   tree_of : (k : ℕ) → is_conductor k r ≡ true → get_or (formulas r.names) k Empty ≡ formula (wiring_of r) k
   tree_of k e = sym ((conductors r k).conductor e)
 
-  mos_zone : (n : ℕ) (m : MosRule) → slice_get (device_rules r) n ≡ Some (device_rule r m) → IsFramedZone d (names_inputs (formulas r.names) (mos_names m)) cell zone
-      → IsFramedZone d (gate_inputs (wiring_of r) (device_rule r m)) cell zone
+  mos_zone : (n : ℕ) (m : MosRule) → slice_get (device_rules r) n ≡ Some (device_rule r m) → IsFramedZone margin d (names_inputs (formulas r.names) (mos_names m)) cell zone
+      → IsFramedZone margin d (gate_inputs (wiring_of r) (device_rule r m)) cell zone
   mos_zone n m at is =
       let t = terminals r n (device_rule r m) sound at in
       let a = inputs (get_or (formulas r.names) m.sd Empty) in let b = inputs (get_or (formulas r.names) m.g Empty) in let w = inputs (get_or (formulas r.names) m.w Empty) in
       let x = formula (wiring_of r) m.ts in let y = formula (wiring_of r) m.tg in let z = formula (wiring_of r) m.tb in
-      let known : IsFramedZone d (a ++ (b ++ (w ++ (inputs x ++ (inputs y ++ (inputs z ++ [])))))) cell zone =
-      subst (λ v. IsFramedZone d (a ++ (b ++ (w ++ (inputs x ++ (inputs y ++ (inputs v ++ [])))))) cell zone) (tree_of m.tb t.tb)
-      (subst (λ v. IsFramedZone d (a ++ (b ++ (w ++ (inputs x ++ (inputs v ++ (inputs (get_or (formulas r.names) m.tb Empty) ++ [])))))) cell zone) (tree_of m.tg t.tg)
-      (subst (λ v. IsFramedZone d (a ++ (b ++ (w ++ (inputs v ++ (inputs (get_or (formulas r.names) m.tg Empty) ++ (inputs (get_or (formulas r.names) m.tb Empty) ++ [])))))) cell zone) (tree_of m.ts t.ts) is)) in
-      subst (λ v. IsFramedZone d (a ++ (b ++ (w ++ (inputs x ++ (inputs y ++ v))))) cell zone) (append-nil (inputs z)) known
+      let known : IsFramedZone margin d (a ++ (b ++ (w ++ (inputs x ++ (inputs y ++ (inputs z ++ [])))))) cell zone =
+      subst (λ v. IsFramedZone margin d (a ++ (b ++ (w ++ (inputs x ++ (inputs y ++ (inputs v ++ [])))))) cell zone) (tree_of m.tb t.tb)
+      (subst (λ v. IsFramedZone margin d (a ++ (b ++ (w ++ (inputs x ++ (inputs v ++ (inputs (get_or (formulas r.names) m.tb Empty) ++ [])))))) cell zone) (tree_of m.tg t.tg)
+      (subst (λ v. IsFramedZone margin d (a ++ (b ++ (w ++ (inputs v ++ (inputs (get_or (formulas r.names) m.tg Empty) ++ (inputs (get_or (formulas r.names) m.tb Empty) ++ [])))))) cell zone) (tree_of m.ts t.ts) is)) in
+      subst (λ v. IsFramedZone margin d (a ++ (b ++ (w ++ (inputs x ++ (inputs y ++ v))))) cell zone) (append-nil (inputs z)) known
 
-  further_zone : (n : ℕ) (m : MoreRule) → slice_get (device_rules r) n ≡ Some (more_rule r m) → IsFramedZone d (names_inputs (formulas r.names) (further_names m)) cell zone
-      → IsFramedZone d (gate_inputs (wiring_of r) (more_rule r m)) cell zone
+  further_zone : (n : ℕ) (m : MoreRule) → slice_get (device_rules r) n ≡ Some (more_rule r m) → IsFramedZone margin d (names_inputs (formulas r.names) (further_names m)) cell zone
+      → IsFramedZone margin d (gate_inputs (wiring_of r) (more_rule r m)) cell zone
   further_zone n (more.Resistor class g c w ta tw) at is =
       let t = terminals r n (more_rule r (more.Resistor class g c w ta tw)) sound at in
       let a = inputs (get_or (formulas r.names) c Empty) in let b = inputs (get_or (formulas r.names) g Empty) in let e = inputs (get_or (formulas r.names) w Empty) in
       let x = inputs (formula (wiring_of r) ta) in let y = inputs (formula (wiring_of r) tw) in
-      let known : IsFramedZone d (a ++ (b ++ (e ++ (x ++ (y ++ []))))) cell zone =
-      subst (λ v. IsFramedZone d (a ++ (b ++ (e ++ (x ++ (inputs v ++ []))))) cell zone) (tree_of tw t.tb)
-      (subst (λ v. IsFramedZone d (a ++ (b ++ (e ++ (inputs v ++ (inputs (get_or (formulas r.names) tw Empty) ++ []))))) cell zone) (tree_of ta t.ts) is) in
-      same_keys d (a ++ (b ++ (e ++ (x ++ (y ++ []))))) (a ++ (b ++ (e ++ (x ++ (y ++ y))))) cell zone
+      let known : IsFramedZone margin d (a ++ (b ++ (e ++ (x ++ (y ++ []))))) cell zone =
+      subst (λ v. IsFramedZone margin d (a ++ (b ++ (e ++ (x ++ (inputs v ++ []))))) cell zone) (tree_of tw t.tb)
+      (subst (λ v. IsFramedZone margin d (a ++ (b ++ (e ++ (inputs v ++ (inputs (get_or (formulas r.names) tw Empty) ++ []))))) cell zone) (tree_of ta t.ts) is) in
+      same_keys margin d (a ++ (b ++ (e ++ (x ++ (y ++ []))))) (a ++ (b ++ (e ++ (x ++ (y ++ y))))) cell zone
       (behind a (b ++ (e ++ (x ++ (y ++ [])))) (b ++ (e ++ (x ++ (y ++ y)))) (behind b (e ++ (x ++ (y ++ []))) (e ++ (x ++ (y ++ y))) (behind e (x ++ (y ++ [])) (x ++ (y ++ y)) (behind x (y ++ []) (y ++ y) (twice y)))))
       (behind a (b ++ (e ++ (x ++ (y ++ y)))) (b ++ (e ++ (x ++ (y ++ [])))) (behind b (e ++ (x ++ (y ++ y))) (e ++ (x ++ (y ++ []))) (behind e (x ++ (y ++ y)) (x ++ (y ++ [])) (behind x (y ++ y) (y ++ []) (once y)))))
       known
@@ -198,11 +199,11 @@ module _ (d : Linked) (r : Rules) (sound : rules.IsSound r) (cell : ℕ) (zone :
       let t = terminals r n (more_rule r (more.Diode class p m ta tc)) sound at in
       let a = inputs (get_or (formulas r.names) p Empty) in let b = inputs (get_or (formulas r.names) m Empty) in
       let x = inputs (formula (wiring_of r) ta) in let y = inputs (formula (wiring_of r) tc) in
-      let known : IsFramedZone d (a ++ (b ++ (x ++ (y ++ [])))) cell zone =
-      subst (λ v. IsFramedZone d (a ++ (b ++ (x ++ (inputs v ++ [])))) cell zone) (tree_of tc t.tb)
-      (subst (λ v. IsFramedZone d (a ++ (b ++ (inputs v ++ (inputs (get_or (formulas r.names) tc Empty) ++ [])))) cell zone) (tree_of ta t.ts) is) in
-      subst (λ v. IsFramedZone d v cell zone) (sym (append_assoc a b (x ++ (y ++ y))))
-      (same_keys d (a ++ (b ++ (x ++ (y ++ [])))) (a ++ (b ++ (x ++ (y ++ y)))) cell zone
+      let known : IsFramedZone margin d (a ++ (b ++ (x ++ (y ++ [])))) cell zone =
+      subst (λ v. IsFramedZone margin d (a ++ (b ++ (x ++ (inputs v ++ [])))) cell zone) (tree_of tc t.tb)
+      (subst (λ v. IsFramedZone margin d (a ++ (b ++ (inputs v ++ (inputs (get_or (formulas r.names) tc Empty) ++ [])))) cell zone) (tree_of ta t.ts) is) in
+      subst (λ v. IsFramedZone margin d v cell zone) (sym (append_assoc a b (x ++ (y ++ y))))
+      (same_keys margin d (a ++ (b ++ (x ++ (y ++ [])))) (a ++ (b ++ (x ++ (y ++ y)))) cell zone
       (behind a (b ++ (x ++ (y ++ []))) (b ++ (x ++ (y ++ y))) (behind b (x ++ (y ++ [])) (x ++ (y ++ y)) (behind x (y ++ []) (y ++ y) (twice y))))
       (behind a (b ++ (x ++ (y ++ y))) (b ++ (x ++ (y ++ []))) (behind b (x ++ (y ++ y)) (x ++ (y ++ [])) (behind x (y ++ y) (y ++ []) (once y))))
       known)
@@ -216,35 +217,35 @@ device_count r =
     ∙ sym (length-append (map (device_rule r) r.devices) (map (more_rule r) r.more))
 
 -- the set of each rule, by the names as they are seen
-device_zone_at : (d : Linked) (r : Rules) (read : List LayerRule) (cell : ℕ) (sets : List (List Rect)) → rules.IsSound r → AreRead r.names r.devices r.more read → AreDeviceZones d cell (formulas read) (device_names r) sets
-    → (i : ℕ) (u : Rule) (zone : List Rect) → slice_get (device_rules r) i ≡ Some u → slice_get sets i ≡ Some zone → IsFramedZone d (gate_inputs (wiring_of r) u) cell zone
-device_zone_at d r read cell sets sound are h i u zone at there = elim (of_both (device_rule r) (more_rule r) mos_names further_names r.devices r.more i u at) [
+device_zone_at : (margin : ℕ) (d : Linked) (r : Rules) (read : List LayerRule) (cell : ℕ) (sets : List (List Rect)) → rules.IsSound r → AreRead r.names r.devices r.more read → AreDeviceZones margin d cell (formulas read) (device_names r) sets
+    → (i : ℕ) (u : Rule) (zone : List Rect) → slice_get (device_rules r) i ≡ Some u → slice_get sets i ≡ Some zone → IsFramedZone margin d (gate_inputs (wiring_of r) u) cell zone
+device_zone_at margin d r read cell sets sound are h i u zone at there = elim (of_both (device_rule r) (more_rule r) mos_names further_names r.devices r.more i u at) [
   | inl (m, is_m, names, same) ↦
       let by : names_inputs (formulas read) (mos_names m) ≡ names_inputs (formulas r.names) (mos_names m) =
       same_inputs (formulas read) (formulas r.names) (mos_names m) (λ k l. sym (read_tree r.names r.devices r.more read k are (inr (inl (record { at = i; rule = m; at_in = slice_get_within r.devices i m is_m; there = is_m; reads = layer_read m k l }))))) in
-      subst (λ v. IsFramedZone d (gate_inputs (wiring_of r) v) cell zone) same
-      (mos_zone d r sound cell zone i m (at ∙ ap Some (sym same)) (subst (λ ks. IsFramedZone d ks cell zone) by (h.zones i (mos_names m) zone names there)))
+      subst (λ v. IsFramedZone margin d (gate_inputs (wiring_of r) v) cell zone) same
+      (mos_zone margin d r sound cell zone i m (at ∙ ap Some (sym same)) (subst (λ ks. IsFramedZone margin d ks cell zone) by (h.zones i (mos_names m) zone names there)))
   | inr (k, m, is_m, names, same) ↦
       let by : names_inputs (formulas read) (further_names m) ≡ names_inputs (formulas r.names) (further_names m) =
       same_inputs (formulas read) (formulas r.names) (further_names m) (λ j l. sym (read_tree r.names r.devices r.more read j are (inr (inr (record { at = k; rule = m; at_in = slice_get_within r.more k m is_m; there = is_m; reads = further_read m j l }))))) in
-      subst (λ v. IsFramedZone d (gate_inputs (wiring_of r) v) cell zone) same
-      (further_zone d r sound cell zone i m (at ∙ ap Some (sym same)) (subst (λ ks. IsFramedZone d ks cell zone) by (h.zones i (further_names m) zone names there)))
+      subst (λ v. IsFramedZone margin d (gate_inputs (wiring_of r) v) cell zone) same
+      (further_zone margin d r sound cell zone i m (at ∙ ap Some (sym same)) (subst (λ ks. IsFramedZone margin d ks cell zone) by (h.zones i (further_names m) zone names there)))
 ]
 
 -- the entry of a cell, from the names as they are seen
 pub cell_zones : (d : Linked) (r : Rules) (read : List LayerRule) (cell : ℕ) (v : CellZones) → HasHulls d → rules.IsSound r → AreRead r.names r.devices r.more read → IsReached (plain d) cell
-    → length v.layers.items ≡ length (formulas read) → AreNameZones d cell (formulas read) v.layers.items → All IsCanonical v.layers.items
-    → AreDeviceZones d cell (formulas read) (device_names r) v.devices.items → All IsCanonical v.devices.items → AreCellZones (plain d) r cell v
+    → length v.layers.items ≡ length (formulas read) → AreNameZones (zone_margin r.names) d cell (formulas read) v.layers.items → All IsCanonical v.layers.items
+    → AreDeviceZones (zone_margin r.names) d cell (formulas read) (device_names r) v.devices.items → All IsCanonical v.devices.items → AreCellZones (plain d) r cell v
 cell_zones d r read cell v hulls sound are reached names zones canonical devices devices_canonical = record {
   names = names ∙ sym (same_count r.names r.devices r.more read are);
   layers = λ i x zone at there asked.
       let tree : get_or (formulas r.names) i Empty ≡ x = get_or_from_slice_get (formulas r.names) i x Empty at in
       let seen : get_or (formulas read) i Empty ≡ x = sym (asked_tree r read i x are tree asked) ∙ tree in
-      let is : IsFramedZone d (inputs x) cell zone =
-      subst (λ t. IsFramedZone d (inputs t) cell zone) seen (subst (IsFramedZone d (inputs (get_or (formulas read) i Empty)) cell) (get_or_from_slice_get v.layers.items i zone [] there) (zones i)) in
-      (framed d (inputs x) cell zone (hulls cell reached) (canonical_at v.layers.items i zone canonical there)).1 is;
+      let is : IsFramedZone (zone_margin r.names) d (inputs x) cell zone =
+      subst (λ t. IsFramedZone (zone_margin r.names) d (inputs t) cell zone) seen (subst (IsFramedZone (zone_margin r.names) d (inputs (get_or (formulas read) i Empty)) cell) (get_or_from_slice_get v.layers.items i zone [] there) (zones i)) in
+      (framed d (inputs x) (zone_margin r.names) cell zone (hulls cell reached) (canonical_at v.layers.items i zone canonical there)).1 is;
   rules = devices.count ∙ device_count r;
   devices = λ i u zone at there.
-      (framed d (gate_inputs (wiring_of r) u) cell zone (hulls cell reached) (canonical_at v.devices.items i zone devices_canonical there)).1
-      (device_zone_at d r read cell v.devices.items sound are devices i u zone at there);
+      (framed d (gate_inputs (wiring_of r) u) (zone_margin r.names) cell zone (hulls cell reached) (canonical_at v.devices.items i zone devices_canonical there)).1
+      (device_zone_at (zone_margin r.names) d r read cell v.devices.items sound are devices i u zone at there);
 }

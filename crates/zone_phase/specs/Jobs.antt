@@ -18,15 +18,24 @@ abbrev pub zone_in : Option CellZones → ℕ → List Rect
 zone_in None name = []
 zone_in (Some v) name = get_or v.layers.items name []
 
--- the entry has the name's squares, and these are the cell's
-abbrev pub IsEntry : Linked → LayerKey → ℕ → ℕ → CellZones → Type 0
-IsEntry d key name cell v = (name < length v.layers.items)
-    × IsFramedZone d (key ∷ []) cell (get_or v.layers.items name [])
+-- the entry has squares for the name of this number
+abbrev pub HasName : ℕ → CellZones → Type 0
+HasName name v = name < length v.layers.items
+
+-- and these are the cell's disturbed squares for the key, in its hull grown by n
+abbrev pub IsEntry : ℕ → Linked → LayerKey → ℕ → ℕ → CellZones → Type 0
+IsEntry n d key name cell v = HasName name v
+    × IsFramedZone n d (key ∷ []) cell (get_or v.layers.items name [])
 
 -- the entries of the references' jobs have the name's squares
-abbrev pub HaveEntries : Linked → (ℕ → Option CellZones) → LayerKey → ℕ → List Use → Type 0
-HaveEntries d value key name uses = (k : ℕ) (u : Use) → slice_get uses k ≡ Some u
-    → IsSomeAnd (value u.job) (IsEntry d key name (downward_cell d u.job))
+abbrev pub HaveEntries : ℕ → Linked → (ℕ → Option CellZones) → LayerKey → ℕ → List Use → Type 0
+HaveEntries n d value key name uses = (k : ℕ) (u : Use) → slice_get uses k ≡ Some u
+    → IsSomeAnd (value u.job) (IsEntry n d key name (downward_cell d u.job))
+
+-- the entries of the references' jobs have squares for the name
+abbrev pub HaveName : (ℕ → Option CellZones) → ℕ → List Use → Type 0
+HaveName value name uses = (k : ℕ) (u : Use) → slice_get uses k ≡ Some u
+    → IsSomeAnd (value u.job) (HasName name)
 
 -- the entries of the references' jobs may be read
 abbrev pub MayRead : (ℕ → Type 0) → List Use → Type 0

@@ -16,21 +16,22 @@ use Rattle.deep_tables.specs.Frames.{IsFramedZone}
 use Rattle.zone_phase.specs.declared.uses.Use.{Use}
 use Rattle.zone_phase.specs.Jobs.{HaveEntries}
 
--- each tree's set is the cell's disturbed squares for what it reads; past the end both are empty
-abbrev pub AreNameZones : Linked → ℕ → List Formula → List (List Rect) → Type 0
-AreNameZones d cell trees sets = (k : ℕ)
-    → IsFramedZone d (inputs (get_or trees k Empty)) cell (get_or sets k [])
+-- each tree's set is the cell's disturbed squares for what it reads, in the hull grown by n; past
+-- the end both are empty
+abbrev pub AreNameZones : ℕ → Linked → ℕ → List Formula → List (List Rect) → Type 0
+AreNameZones n d cell trees sets = (k : ℕ)
+    → IsFramedZone n d (inputs (get_or trees k Empty)) cell (get_or sets k [])
 
 -- where the name is an input layer, the entries of the references' jobs have its squares
-abbrev pub HaveForm : Linked → (ℕ → Option CellZones) → ℕ → List Use → LayerForm → Type 0
-HaveForm d value name uses (form.Input key) = HaveEntries d value key name uses
-HaveForm d value name uses _ = Unit {0}
+abbrev pub HaveForm : ℕ → Linked → (ℕ → Option CellZones) → ℕ → List Use → LayerForm → Type 0
+HaveForm n d value name uses (form.Input key) = HaveEntries n d value key name uses
+HaveForm n d value name uses _ = Unit {0}
 
 -- the same of all input layers
-abbrev pub HaveInputs : Linked → (ℕ → Option CellZones) → List Formula → List Use → Type 0
-HaveInputs d value trees uses = (name : ℕ) (key : LayerKey)
+abbrev pub HaveInputs : ℕ → Linked → (ℕ → Option CellZones) → List Formula → List Use → Type 0
+HaveInputs n d value trees uses = (name : ℕ) (key : LayerKey)
     → slice_get trees name ≡ Some (Input key)
-    → HaveEntries d value key name uses
+    → HaveEntries n d value key name uses
 
 -- the names of a device rule's layers: six of a transistor's, five of a resistor's, four of a
 -- diode's
@@ -51,8 +52,8 @@ names_inputs trees [] = []
 names_inputs trees (k ∷ ks) = inputs (get_or trees k Empty) ++ names_inputs trees ks
 
 -- for each list of names the set is the cell's disturbed squares for what they read
-pub record AreDeviceZones (d : Linked) (cell : ℕ) (trees : List Formula) (lists : List (List ℕ))
+pub record AreDeviceZones (n : ℕ) (d : Linked) (cell : ℕ) (trees : List Formula) (lists : List (List ℕ))
     (sets : List (List Rect)) : Type 0 where
   pub count : length sets ≡ length lists
   pub zones : (k : ℕ) (names : List ℕ) (set : List Rect) → slice_get lists k ≡ Some names
-      → slice_get sets k ≡ Some set → IsFramedZone d (names_inputs trees names) cell set
+      → slice_get sets k ≡ Some set → IsFramedZone n d (names_inputs trees names) cell set

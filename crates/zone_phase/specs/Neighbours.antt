@@ -127,7 +127,7 @@ abbrev pub BringsMore : Linked → List Neighbour → List Neighbour → Type 0
 BringsMore d old new = (key : LayerKey) (q : Square) → Some_of (IsOverBy d key q) old
     → Some_of (IsOverBy d key q) new
 
--- a cell's neighbours in its grown hull, where it has one
-abbrev pub AreNear : Linked → ℕ → List Use → List Neighbour → Type 0
-AreNear d cell uses list = (h : Rect) → hull_of (cell_at d cell) ≡ Some h
-    → AreNeighbours d uses list × AreAllNear d (grown h) uses (length uses) list
+-- a cell's neighbours in its hull grown by n, where it has one
+abbrev pub AreNear : ℕ → Linked → ℕ → List Use → List Neighbour → Type 0
+AreNear n d cell uses list = (h : Rect) → hull_of (cell_at d cell) ≡ Some h
+    → AreNeighbours d uses list × AreAllNear d (grown n h) uses (length uses) list

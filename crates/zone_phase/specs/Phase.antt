@@ -1,9 +1,10 @@
 -- What a phase of disturbed squares is made from.
-use Rattle.std.specs.Prelude.{List, ℕ}
+use Rattle.std.specs.Prelude.{◌≡◌, ◌≤◌, List, ℕ}
 use Rattle.cell_graph.specs.Linked.{Linked}
 use Rattle.rule_text.specs.declared.rules.RuleSet.{RuleSet}
 use Rattle.rule_text.specs.Seen.{rules_seen}
 use Rattle.rule_text.specs.Sound.{IsSound}
+use Rattle.rule_layers.specs.Formulas.{zone_margin}
 use Rattle.rule_layers.specs.Reads.{AreRead}
 use Rattle.zone_phase.specs.Graph.{AreParentJobs}
 use Rattle.zone_phase.specs.Uses.{AreUses, lists_of}
@@ -20,6 +21,8 @@ jobs_seen a = record { design = a.design.now; rules = a.rules.now; graph = a.gra
 
 pub record IsZonePhase (a : Inside) : Type 0 where
   pub rules : IsSound (rules_seen a.rules.now)
+  pub margin : a.margin ≡ zone_margin a.rules.now.names.items
+  pub most : a.margin ≤ 20001
   pub read : AreRead a.rules.now.names.items a.rules.now.devices.items a.rules.now.more.items
       a.read.items
   pub uses : AreUses a.design.now (lists_of a.uses.items)

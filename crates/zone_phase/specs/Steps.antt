@@ -14,10 +14,10 @@ use Rattle.deep_tables.specs.Frames.{IsFramedZone, IsInGrown}
 
 -- a placed cell's grown hull comes to lie in the grown hull of the cell that places it
 abbrev pub GrownLaw : Type 0
-GrownLaw = (d : Linked) (cell i row column : ℕ) (p : Place) (q : Square) → IsSound d
+GrownLaw = (n : ℕ) (d : Linked) (cell i row column : ℕ) (p : Place) (q : Square) → IsSound d
     → IsStep d cell i row column p
-    → IsInGrown (hull_of (cell_at d p.cell)) q
-    → IsInGrown (hull_of (cell_at d cell)) (moved_square (motion_at p row column) q)
+    → IsInGrown n (hull_of (cell_at d p.cell)) q
+    → IsInGrown n (hull_of (cell_at d cell)) (moved_square (motion_at p row column) q)
 
 -- a reference of a reached parent brings q onto the parent's disturbed squares, or onto shapes
 -- beside it
@@ -38,11 +38,11 @@ pub record IsBrought (d : Linked) (zones : ℕ
 -- where each reached parent has its disturbed squares, the cell has those that its parents'
 -- references bring into its grown hull
 abbrev pub ZoneStepLaw : Type 0
-ZoneStepLaw = (d : Linked) (zones : ℕ
+ZoneStepLaw = (n : ℕ) (d : Linked) (zones : ℕ
     → List Rect) (cell : ℕ) (key : LayerKey) (zone : List Rect) → IsSound d
     → ((parent i row column : ℕ) (p : Place) → IsReached (plain d) parent
     → IsStep d parent i row column p → p.cell ≡ cell
-    → IsFramedZone d (key ∷ []) parent (zones parent))
+    → IsFramedZone n d (key ∷ []) parent (zones parent))
     → ((q : Square) → (covers zone q ≡ true) ↔ (IsBrought d zones cell key q
-    × IsInGrown (hull_of (cell_at d cell)) q))
-    → IsFramedZone d (key ∷ []) cell zone
+    × IsInGrown n (hull_of (cell_at d cell)) q))
+    → IsFramedZone n d (key ∷ []) cell zone

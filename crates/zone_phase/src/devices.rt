@@ -17,9 +17,9 @@ use std::alloc::{AllocError, Global};
 
 // The union for some names.
 fn names_zone(alloc: Global, sets: &[RectSet], names: &[u32]) -> Result<RectSet, AllocError>
-    ensures { IfOk result (λ r. (d : Linked) (cell : ℕ) (trees : List Formula)
-        → AreNameZones d cell trees sets.now
-        → IsFramedZone d (names_inputs trees names.now) cell r) }
+    ensures { IfOk result (λ r. (n : ℕ) (d : Linked) (cell : ℕ)
+        (trees : List Formula) → AreNameZones n d cell trees sets.now
+        → IsFramedZone n d (names_inputs trees names.now) cell r) }
 {
     let [name, more @ ..] = names else {
         return Ok(RectSet::empty(alloc));
@@ -30,9 +30,9 @@ fn names_zone(alloc: Global, sets: &[RectSet], names: &[u32]) -> Result<RectSet,
 }
 
 fn further_zone(alloc: Global, sets: &[RectSet], rule: &MoreRule) -> Result<RectSet, AllocError>
-    ensures { IfOk result (λ r. (d : Linked) (cell : ℕ) (trees : List Formula)
-        → AreNameZones d cell trees sets.now
-        → IsFramedZone d (names_inputs trees (further_names rule.now)) cell r) }
+    ensures { IfOk result (λ r. (n : ℕ) (d : Linked) (cell : ℕ)
+        (trees : List Formula) → AreNameZones n d cell trees sets.now
+        → IsFramedZone n d (names_inputs trees (further_names rule.now)) cell r) }
 {
     match rule {
         MoreRule::Resistor {
@@ -55,10 +55,10 @@ fn push_mos_zones(
     zones: &mut Vec<RectSet>,
 ) -> Result<(), AllocError>
     requires { All IsCanonical zones.old.items }
-    ensures zones { OnOk result ((d : Linked) (cell : ℕ) (trees : List Formula)
-        (lists : List (List ℕ)) → AreNameZones d cell trees sets.now
-        → AreDeviceZones d cell trees lists zones.old.items
-        → AreDeviceZones d cell trees (lists ++ map mos_names rules.now) zones.new.items) }
+    ensures zones { OnOk result ((n : ℕ) (d : Linked) (cell : ℕ) (trees : List Formula)
+        (lists : List (List ℕ)) → AreNameZones n d cell trees sets.now
+        → AreDeviceZones n d cell trees lists zones.old.items
+        → AreDeviceZones n d cell trees (lists ++ map mos_names rules.now) zones.new.items) }
     ensures canonical { OnOk result (All IsCanonical zones.new.items) }
 {
     for rule in rules {
@@ -77,10 +77,10 @@ fn push_further_zones(
     zones: &mut Vec<RectSet>,
 ) -> Result<(), AllocError>
     requires { All IsCanonical zones.old.items }
-    ensures zones { OnOk result ((d : Linked) (cell : ℕ) (trees : List Formula)
-        (lists : List (List ℕ)) → AreNameZones d cell trees sets.now
-        → AreDeviceZones d cell trees lists zones.old.items
-        → AreDeviceZones d cell trees (lists ++ map further_names rules.now) zones.new.items) }
+    ensures zones { OnOk result ((n : ℕ) (d : Linked) (cell : ℕ) (trees : List Formula)
+        (lists : List (List ℕ)) → AreNameZones n d cell trees sets.now
+        → AreDeviceZones n d cell trees lists zones.old.items
+        → AreDeviceZones n d cell trees (lists ++ map further_names rules.now) zones.new.items) }
     ensures canonical { OnOk result (All IsCanonical zones.new.items) }
 {
     for rule in rules {
@@ -97,9 +97,9 @@ pub fn device_zones(
     sets: &[RectSet],
     rules: &RuleSet,
 ) -> Result<Vec<RectSet>, AllocError>
-    ensures zones { IfOk result (λ v. (d : Linked) (cell : ℕ) (trees : List Formula)
-        → AreNameZones d cell trees sets.now
-        → AreDeviceZones d cell trees (device_names (rules_seen rules.now)) v.items) }
+    ensures zones { IfOk result (λ v. (n : ℕ) (d : Linked) (cell : ℕ)
+        (trees : List Formula) → AreNameZones n d cell trees sets.now
+        → AreDeviceZones n d cell trees (device_names (rules_seen rules.now)) v.items) }
     ensures canonical { IfOk result (λ v. All IsCanonical v.items) }
 {
     let mut zones = Vec::new(alloc);

@@ -1,5 +1,5 @@
 //! A cell's disturbed squares for each name of the rules.
-ghost use Rattle.std.specs.Prelude.{◌≡◌, ◌<◌, ◌∷◌, [], ◌++◌, ℕ, List, get_or, length, IfOk, OnOk};
+ghost use Rattle.std.specs.Prelude.{◌≡◌, ◌<◌, ◌≤◌, ◌∷◌, [], ◌++◌, ℕ, List, get_or, length, IfOk, OnOk};
 ghost use Rattle.std.specs.List.{All};
 ghost use Rattle.cell_graph.specs.Linked.{Linked};
 ghost use Rattle.deep_tables.specs.Frames.{IsFramedZone};
@@ -18,18 +18,29 @@ use crate::zones::key_zone;
 use cell_graph::Design;
 use deep_tables::CellZones;
 use job_graph::Reads;
-use rect_sets::RectSet;
+use rect_sets::{RectSet, Rule, combine_rects};
 use rule_text::{LayerForm, LayerRule, MosRule};
 use std::alloc::{AllocError, Global};
 
 // The union for two names.
 fn two_zones(alloc: Global, sets: &[RectSet], a: u32, b: u32) -> Result<RectSet, AllocError>
-    ensures { IfOk result (λ r. (d : Linked) (cell : ℕ) (trees : List Formula)
-        → AreNameZones d cell trees sets.now
-        → IsFramedZone d (inputs (get_or trees a Empty) ++ inputs (get_or trees b Empty)) cell r) }
+    ensures { IfOk result (λ r. (n : ℕ) (d : Linked) (cell : ℕ)
+        (trees : List Formula) → AreNameZones n d cell trees sets.now
+        → IsFramedZone n d (inputs (get_or trees a Empty) ++ inputs (get_or trees b Empty)) cell r) }
 {
     let none = RectSet::empty(alloc);
     let set = with_name(alloc, sets, a, set_at(sets, b, &none))?;
+    Ok(set)
+}
+
+// Those for one name.
+fn one_zone(alloc: Global, sets: &[RectSet], a: u32) -> Result<RectSet, AllocError>
+    ensures { IfOk result (λ r. (n : ℕ) (d : Linked) (cell : ℕ)
+        (trees : List Formula) → AreNameZones n d cell trees sets.now
+        → IsFramedZone n d (inputs (get_or trees a Empty)) cell r) }
+{
+    let none = RectSet::empty(alloc);
+    let set = combine_rects(alloc, set_at(sets, a, &none).rects(), &[], Rule::First)?;
     Ok(set)
 }
 
@@ -44,23 +55,28 @@ fn form_zone<R: Reads<CellZones>>(
     form: LayerForm,
     before: &[RectSet],
     neighbours: &[Neighbour],
+    margin: u32,
 ) -> Result<RectSet, AllocError>
-    requires neighbours { AreNear design.now cell uses.now neighbours.now }
+    requires neighbours { AreNear margin design.now cell uses.now neighbours.now }
     requires cell { cell < length design.now.cells }
     requires uses { AreUsesOf design.now cell uses.now }
+    requires margin { margin ≤ 20001 }
     requires may { MayRead (R.may_read reads.now) uses.now }
-    requires entries { HaveForm design.now (R.value reads.now) name uses.now form }
+    requires entries { HaveForm margin design.now (R.value reads.now) name uses.now form }
     ensures { IfOk result (λ r. (trees : List Formula)
-        → AreNameZones design.now cell trees before.now
-        → IsFramedZone design.now (inputs (formula_by trees form)) cell r) }
+        → AreNameZones margin design.now cell trees before.now
+        → IsFramedZone margin design.now (inputs (formula_by trees form)) cell r) }
 {
     match form {
         LayerForm::Input(key) => {
-            key_zone(alloc, design, reads, uses, name, cell, key, neighbours)
+            key_zone(
+            alloc, design, reads, uses, name, cell, key, neighbours, margin,
+        )
         }
         LayerForm::Labels(_) => Ok(RectSet::empty(alloc)),
         LayerForm::Empty => Ok(RectSet::empty(alloc)),
         LayerForm::Binary(_, a, b) => two_zones(alloc, before, a, b),
+        LayerForm::Sized(a, _) => one_zone(alloc, before, a),
     }
 }
 
@@ -75,10 +91,10 @@ pub fn push_set(sets: &mut Vec<RectSet>, set: RectSet) -> Result<(), AllocError>
     Ok(())
 }
 
-/// A cell's disturbed squares for each name, in the order of the rules. What lies beside its
-/// placements is looked up once, in one window of the parent for each; then each input layer costs
-/// a walk of the references to the cell and of the neighbours that lie differently, and each other
-/// name a union.
+/// A cell's disturbed squares for each name, in its hull grown by the margin, in the order of the
+/// rules. What lies beside its placements is looked up once, in one window of the parent for each;
+/// then each input layer costs a walk of the references to the cell and of the neighbours that lie
+/// differently, and each other name a union.
 pub fn name_zones<R: Reads<CellZones>>(
     alloc: Global,
     design: &Design,
@@ -86,16 +102,18 @@ pub fn name_zones<R: Reads<CellZones>>(
     uses: &[Use],
     cell: u32,
     names: &[LayerRule],
+    margin: u32,
 ) -> Result<Vec<RectSet>, AllocError>
     requires cell { cell < length design.now.cells }
     requires uses { AreUsesOf design.now cell uses.now }
+    requires margin { margin ≤ 20001 }
     requires may { MayRead (R.may_read reads.now) uses.now }
-    requires entries { HaveInputs design.now (R.value reads.now) (formulas names.now) uses.now }
+    requires entries { HaveInputs margin design.now (R.value reads.now) (formulas names.now) uses.now }
     ensures count { IfOk result (λ v. length v.items ≡ length (formulas names.now)) }
-    ensures zones { IfOk result (λ v. AreNameZones design.now cell (formulas names.now) v.items) }
+    ensures zones { IfOk result (λ v. AreNameZones margin design.now cell (formulas names.now) v.items) }
     ensures canonical { IfOk result (λ v. All IsCanonical v.items) }
 {
-    let neighbours = neighbours_of(alloc, design, uses, cell)?;
+    let neighbours = neighbours_of(alloc, design, uses, cell, margin)?;
     let mut sets = Vec::new(alloc);
     for (name, rule) in names.iter().enumerate() {
         let set = form_zone(
@@ -108,6 +126,7 @@ pub fn name_zones<R: Reads<CellZones>>(
             rule.form,
             &sets,
             &neighbours,
+            margin,
         )?;
         push_set(&mut sets, set)?;
     }

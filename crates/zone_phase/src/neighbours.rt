@@ -1,5 +1,5 @@
 //! What lies beside the placements of a cell: each way in which another placement lies there, once.
-ghost use Rattle.std.specs.Prelude.{◌≡◌, ◌↔◌, ◌<◌, ◌^◌, ℕ, true, [], length, Some, OnOk, IfOk};
+ghost use Rattle.std.specs.Prelude.{◌≡◌, ◌↔◌, ◌<◌, ◌≤◌, ◌^◌, ℕ, true, [], length, Some, OnOk, IfOk};
 ghost use Rattle.std.specs.Prelude.{slice_get};
 ghost use Rattle.geo_base.specs.Near.{IsNearMotion};
 ghost use Rattle.cell_graph.specs.Linked.{IsFrame, cell_at, hull_of, places_at};
@@ -12,8 +12,8 @@ ghost use Rattle.zone_phase.specs.Uses.{AreUsesOf, IsUse};
 ghost use Rattle.cell_context.specs.Arrays.{IsNearArray};
 
 use crate::uses::Use;
-use crate::windows::{element_rect, grown};
-use cell_context::{Visit, motion_at, visits};
+use crate::windows::element_rect;
+use cell_context::{Visit, grown, motion_at, visits};
 use cell_graph::{Design, Place};
 use geo_base::{Motion, Point, Rect, Turn};
 use std::alloc::{AllocError, Global};
@@ -159,7 +159,7 @@ fn push_around(
     let _ = uses;
     design.sound();
     let window = element_rect(place, 0, 0, grown);
-    for visit in &visits(alloc, design, parent, &window, Some(found.index))? {
+    for visit in &visits(alloc, design, parent, &window, Some(found.index), 0)? {
         push_neighbour(memo, place, visit)?;
     }
     Ok(())
@@ -227,15 +227,17 @@ pub fn neighbours_of(
     design: &Design,
     uses: &[Use],
     cell: u32,
+    margin: u32,
 ) -> Result<Vec<Neighbour>, AllocError>
     requires cell { cell < length design.now.cells }
     requires uses { AreUsesOf design.now cell uses.now }
-    ensures { IfOk result (λ v. AreNear design.now cell uses.now v.items) }
+    requires margin { margin ≤ 20001 }
+    ensures { IfOk result (λ v. AreNear margin design.now cell uses.now v.items) }
 {
     design.sound();
     match design.hull(cell) {
         Some(hull) => {
-            let list = find_neighbours(alloc, design, uses, cell, &grown(&hull))?;
+            let list = find_neighbours(alloc, design, uses, cell, &grown(&hull, margin))?;
             Ok(list)
         }
         None => Ok(Vec::new(alloc)),

@@ -11,7 +11,7 @@ use crate::uses::{Use, find_uses};
 use cell_graph::Design;
 use deep_tables::{CellZones, DeepKey};
 use job_graph::{Graph, Phase, Reads};
-use rule_layers::read_names;
+use rule_layers::{read_names, zone_margin};
 use rule_text::{LayerRule, RuleSet};
 use std::alloc::{AllocError, Global};
 use std::marker::Model;
@@ -25,6 +25,7 @@ use std::snapshot::Snapshot;
 pub struct ZonePhase<'a> {
     design: &'a Design,
     rules: &'a RuleSet,
+    margin: u32,
     read: Vec<LayerRule>,
     uses: Vec<Vec<Use>>,
     graph: Graph,
@@ -52,12 +53,14 @@ impl<'a> ZonePhase<'a> {
         ensures rules { IfOk result (λ p. p.rules ≡ rules.now) }
         ensures jobs { IfOk result (λ p. AreParentJobs design.now p.graph) }
     {
+        let margin = zone_margin(alloc, rules)?;
         let read = read_names(alloc, &rules.names, &rules.devices, &rules.more)?;
         let uses = find_uses(alloc, design)?;
         let graph = parent_graph(alloc, design, &uses)?;
         Ok(ZonePhase {
             design,
             rules,
+            margin,
             read,
             uses,
             graph,
@@ -97,7 +100,7 @@ impl Phase for ZonePhase<'_> {
         let order = design.order();
         let cell = order[order.len() - 1 - job as usize];
         let uses = &self.uses[cell as usize];
-        let layers = name_zones(alloc, design, reads, uses, cell, &self.read)?;
+        let layers = name_zones(alloc, design, reads, uses, cell, &self.read, self.margin)?;
         let devices = device_zones(alloc, &layers, self.rules)?;
         let zones = CellZones::new(alloc, layers, devices)?;
         Ok(zones)

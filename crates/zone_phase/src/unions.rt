@@ -12,12 +12,11 @@ use rect_sets::RectSet;
 use std::alloc::{AllocError, Global};
 
 /// The union of disturbed squares for two lists of layers: those of a name that reads two others,
-/// or
-/// of a device rule.
+/// or of a device rule.
 pub fn both_zones(alloc: Global, a: &RectSet, b: &RectSet) -> Result<RectSet, AllocError>
-    ensures { IfOk result (λ r. (d : Linked) (xs ys : List LayerKey) (cell : ℕ)
-        → IsFramedZone d xs cell a.now → IsFramedZone d ys cell b.now
-        → IsFramedZone d (xs ++ ys) cell r) }
+    ensures { IfOk result (λ r. (n : ℕ) (d : Linked) (xs ys : List LayerKey) (cell : ℕ)
+        → IsFramedZone n d xs cell a.now → IsFramedZone n d ys cell b.now
+        → IsFramedZone n d (xs ++ ys) cell r) }
 {
     let set = combine(alloc, a, b, Op::Or)?;
     Ok(set)
@@ -38,9 +37,10 @@ pub fn with_name(
     name: u32,
     others: &RectSet,
 ) -> Result<RectSet, AllocError>
-    ensures { IfOk result (λ r. (d : Linked) (cell : ℕ) (trees : List Formula) (ys : List LayerKey)
-        → AreNameZones d cell trees sets.now → IsFramedZone d ys cell others.now
-        → IsFramedZone d (inputs (get_or trees name Empty) ++ ys) cell r) }
+    ensures { IfOk result (λ r. (n : ℕ) (d : Linked) (cell : ℕ) (trees : List Formula)
+        (ys : List LayerKey) → AreNameZones n d cell trees sets.now
+        → IsFramedZone n d ys cell others.now
+        → IsFramedZone n d (inputs (get_or trees name Empty) ++ ys) cell r) }
 {
     let none = RectSet::empty(alloc);
     let set = both_zones(alloc, set_at(sets, name, &none), others)?;

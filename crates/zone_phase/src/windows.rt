@@ -1,34 +1,19 @@
 //! Windows of a parent that hold what the elements of an array make of a hull.
 
-ghost use Rattle.std.specs.Prelude.{◌≡◌, ◌<◌, ◌^◌, ℕ, pos, ◌+ℤ◌, ◌-ℤ◌, ◌≤ℤ◌, true, OnOk, IfOk};
+ghost use Rattle.std.specs.Prelude.{◌≡◌, ◌<◌, ◌^◌, ℕ, ◌≤ℤ◌, true, OnOk, IfOk};
 ghost use Rattle.std.specs.List.{All};
 ghost use Rattle.geo_base.specs.Near.{IsWithin};
 ghost use Rattle.geo_base.specs.Rects.{has, moved_rect};
 ghost use Rattle.geo_base.specs.declared.shapes.Square.{Square};
 ghost use Rattle.rect_sets.specs.Rects.{covers};
-ghost use Rattle.cell_graph.specs.Linked.{IsFrame, IsHull, IsInside, IsRectWithin, motion_at};
+ghost use Rattle.cell_graph.specs.Linked.{IsFrame, IsInside, IsRectWithin, motion_at};
 ghost use Rattle.cell_context.specs.Arrays.{IsCloseArray};
-ghost use Rattle.deep_tables.specs.Frames.{grown};
 ghost use Rattle.zone_phase.specs.Pulls.{OnRects, AreCovering};
 
 use cell_context::motion_at;
 use cell_graph::Place;
 use geo_base::Rect;
 use std::alloc::{AllocError, Global};
-
-fn before(a: i64) -> i64
-    requires { IsWithin (2 ^ 36) a }
-    ensures exact { result ≡ a -ℤ pos 1 }
-{
-    a - 1
-}
-
-fn behind(a: i64) -> i64
-    requires { IsWithin (2 ^ 36) a }
-    ensures exact { result ≡ a +ℤ pos 1 }
-{
-    a + 1
-}
 
 fn lower(a: i64, b: i64) -> i64
     requires a { IsWithin (2 ^ 39) a }
@@ -48,19 +33,6 @@ fn upper(a: i64, b: i64) -> i64
     ensures near { IsWithin (2 ^ 39) result }
 {
     if a < b { b } else { a }
-}
-
-// A hull grown by one square on each side.
-pub fn grown(hull: &Rect) -> Rect
-    requires { IsHull hull.now }
-    ensures { result ≡ grown hull.now }
-{
-    Rect {
-        x1: before(hull.x1),
-        y1: before(hull.y1),
-        x2: behind(hull.x2),
-        y2: behind(hull.y2),
-    }
 }
 
 // What an element makes of a hull.

@@ -1,5 +1,5 @@
 //! A cell's disturbed squares for one input layer.
-ghost use Rattle.std.specs.Prelude.{◌≡◌, ◌↔◌, ◌⊎◌, ◌<◌, true, ℕ, length, Some, OnOk, IfOk};
+ghost use Rattle.std.specs.Prelude.{◌≡◌, ◌↔◌, ◌⊎◌, ◌<◌, ◌≤◌, true, ℕ, length, Some, OnOk, IfOk};
 ghost use Rattle.std.specs.Prelude.{IsSomeAnd, [], ◌∷◌};
 ghost use Rattle.std.specs.List.{All};
 ghost use Rattle.geo_base.specs.Rects.{IsRect};
@@ -8,7 +8,8 @@ ghost use Rattle.rect_sets.specs.Rects.{covers};
 ghost use Rattle.cell_graph.specs.Linked.{IsFrame, cell_at, hull_of};
 ghost use Rattle.deep_tables.specs.Frames.{IsFramedZone};
 ghost use Rattle.deep_tables.specs.Entries.{downward_cell};
-ghost use Rattle.zone_phase.specs.Jobs.{HaveEntries, IsEntry, IsFromUse, IsFromUses, MayRead};
+ghost use Rattle.zone_phase.specs.Jobs.{HasName, HaveEntries, HaveName, IsFromUse, IsFromUses};
+ghost use Rattle.zone_phase.specs.Jobs.{MayRead};
 ghost use Rattle.zone_phase.specs.Jobs.{zone_in};
 ghost use Rattle.deep_tables.specs.Frames.{grown};
 ghost use Rattle.zone_phase.specs.Neighbours.{AreAllNear, AreNear, AreNeighbours};
@@ -20,7 +21,7 @@ use crate::pulls::is_last;
 use crate::references::push_reference;
 use crate::thins::{FIRST_ROOM, thin};
 use crate::uses::Use;
-use crate::windows::grown;
+use cell_context::grown;
 use cell_graph::Design;
 use deep_tables::CellZones;
 use geo_base::{LayerKey, Rect};
@@ -43,8 +44,7 @@ fn push_use<R: Reads<CellZones>>(
 ) -> Result<(), AllocError>
     requires found { IsUse design.now cell found.now }
     requires may { R.may_read reads.now found.now.job }
-    requires entry { IsSomeAnd (R.value reads.now found.now.job)
-        (IsEntry design.now key name (downward_cell design.now found.now.job)) }
+    requires entry { IsSomeAnd (R.value reads.now found.now.job) (HasName name) }
     requires hull { hull_of (cell_at design.now cell) ≡ Some hull.now }
     requires grown { IsFrame grown.now }
     requires rects { All IsRect out.old.items }
@@ -88,7 +88,7 @@ fn push_uses<R: Reads<CellZones>>(
 ) -> Result<(), AllocError>
     requires uses { AreUsesOf design.now cell uses.now }
     requires may { MayRead (R.may_read reads.now) uses.now }
-    requires entries { HaveEntries design.now (R.value reads.now) key name uses.now }
+    requires entries { HaveName (R.value reads.now) name uses.now }
     requires hull { hull_of (cell_at design.now cell) ≡ Some hull.now }
     requires grown { IsFrame grown.now }
     requires rects { All IsRect out.old.items }
@@ -122,19 +122,21 @@ fn hull_zone<R: Reads<CellZones>>(
     key: LayerKey,
     hull: &Rect,
     neighbours: &[Neighbour],
+    margin: u32,
 ) -> Result<RectSet, AllocError>
     requires hull { hull_of (cell_at design.now cell) ≡ Some hull.now }
     requires neighbours { AreNeighbours design.now uses.now neighbours.now }
-    requires all { AreAllNear design.now (grown hull.now) uses.now (length uses.now)
+    requires all { AreAllNear design.now (grown margin hull.now) uses.now (length uses.now)
         neighbours.now }
     requires uses { AreUsesOf design.now cell uses.now }
+    requires margin { margin ≤ 20001 }
     requires may { MayRead (R.may_read reads.now) uses.now }
-    requires entries { HaveEntries design.now (R.value reads.now) key name uses.now }
-    ensures { IfOk result (IsFramedZone design.now (key ∷ []) cell) }
+    requires entries { HaveEntries margin design.now (R.value reads.now) key name uses.now }
+    ensures { IfOk result (IsFramedZone margin design.now (key ∷ []) cell) }
 {
     design.sound();
     let mut out = Vec::new(alloc);
-    let wide = grown(hull);
+    let wide = grown(hull, margin);
     push_uses(
         alloc, &mut out, design, reads, uses, name, cell, key, hull, &wide,
     )?;
@@ -143,7 +145,7 @@ fn hull_zone<R: Reads<CellZones>>(
     Ok(set)
 }
 
-/// A cell's disturbed squares for an input layer, within its grown hull, from the entries of the
+/// A cell's disturbed squares for an input layer, within its hull grown by the margin, from the entries of the
 /// jobs of the cells that place it.
 pub fn key_zone<R: Reads<CellZones>>(
     alloc: Global,
@@ -154,17 +156,19 @@ pub fn key_zone<R: Reads<CellZones>>(
     cell: u32,
     key: LayerKey,
     neighbours: &[Neighbour],
+    margin: u32,
 ) -> Result<RectSet, AllocError>
-    requires neighbours { AreNear design.now cell uses.now neighbours.now }
+    requires neighbours { AreNear margin design.now cell uses.now neighbours.now }
     requires cell { cell < length design.now.cells }
     requires uses { AreUsesOf design.now cell uses.now }
+    requires margin { margin ≤ 20001 }
     requires may { MayRead (R.may_read reads.now) uses.now }
-    requires entries { HaveEntries design.now (R.value reads.now) key name uses.now }
-    ensures { IfOk result (IsFramedZone design.now (key ∷ []) cell) }
+    requires entries { HaveEntries margin design.now (R.value reads.now) key name uses.now }
+    ensures { IfOk result (IsFramedZone margin design.now (key ∷ []) cell) }
 {
     match design.hull(cell) {
         Some(hull) => hull_zone(
-            alloc, design, reads, uses, name, cell, key, &hull, neighbours,
+            alloc, design, reads, uses, name, cell, key, &hull, neighbours, margin,
         ),
         None => Ok(RectSet::empty(alloc)),
     }

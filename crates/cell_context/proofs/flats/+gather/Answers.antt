@@ -18,21 +18,21 @@ loop-visit-init t c = record {
 
 pub gather-requires : goal.gather-requires
 gather-requires t c =
-    let each = subst (All (IsVisit c.args.design.now c.args.cell c.args.skip c.args.window.now)) (sym c.deref-visit-items.ensures.value) c.in_ok-list.ensures.each in
+    let each = subst (All (IsVisit 0 c.args.design.now c.args.cell c.args.skip c.args.window.now)) (sym c.deref-visit-items.ensures.value) c.in_ok-list.ensures.each in
     let v = each c.loop-visit.visit-index no_visit c.loop-visit-test.true in
-    let low = visit_lower c.args.design.now c.args.cell c.args.skip c.args.window.now _ c.sound.ensures v in
+    let low = visit_lower 0 c.args.design.now c.args.cell c.args.skip c.args.window.now _ c.sound.ensures v in
     let lt = low.1 in let d = c.decreases in
-    (omega arith, (low.0, visit_window c.args.design.now c.args.cell c.args.skip c.args.window.now _ v))
+    (omega arith, (low.0, visit_window 0 c.args.design.now c.args.cell c.args.skip c.args.window.now _ v))
 
 pub push_images-requires-clause-near : goal.push_images-requires-clause-near
 push_images-requires-clause-near t c =
-    let each = subst (All (IsVisit c.args.design.now c.args.cell c.args.skip c.args.window.now)) (sym c.deref-visit-items.ensures.value) c.in_ok-list.ensures.each in
+    let each = subst (All (IsVisit 0 c.args.design.now c.args.cell c.args.skip c.args.window.now)) (sym c.deref-visit-items.ensures.value) c.in_ok-list.ensures.each in
     let v = each c.loop-visit.visit-index no_visit c.loop-visit-test.true in
-    visit_motion c.args.design.now c.args.cell c.args.skip c.args.window.now _ c.sound.ensures v
+    visit_motion 0 c.args.design.now c.args.cell c.args.skip c.args.window.now _ c.sound.ensures v
 
 pub loop-visit-preserved : goal.loop-visit-preserved
 loop-visit-preserved t c =
-    let each = subst (All (IsVisit c.args.design.now c.args.cell c.args.skip c.args.window.now)) (sym c.deref-visit-items.ensures.value) c.in_ok-list.ensures.each in
+    let each = subst (All (IsVisit 0 c.args.design.now c.args.cell c.args.skip c.args.window.now)) (sym c.deref-visit-items.ensures.value) c.in_ok-list.ensures.each in
     let h = each c.loop-visit.visit-index no_visit c.loop-visit-test.true in
     let v = slice_index_or c.deref-visit-items.result.now c.loop-visit.visit-index no_visit in
     let adds = subst (λ (l : List Rect). Adds c.loop-visit.out.items c.push_images.new.out.items l v.motion c.args.window.now) c.deref-in-loop-visit.ensures.value c.in_ok-push_images.ensures.covers in
@@ -51,12 +51,12 @@ returns-clause-exact t c = λ q. (
   λ h.
       all_there c.args.design.now c.args.cell c.args.skip c.args.key c.args.window.now c.loop-visit.out.items c.deref-visit-items.result.now no_visit c.sound.ensures c.loop-visit.invariant.own
       (λ k lt. c.loop-visit.invariant.found k (let past = c.loop-visit-test.false in omega arith))
-      (subst (λ (l : List Visit). AreVisited c.args.design.now c.args.cell c.args.skip c.args.window.now l) (sym c.deref-visit-items.ensures.value) c.in_ok-list.ensures.found) q h.0 h.1,
+      (subst (λ (l : List Visit). AreVisited 0 c.args.design.now c.args.cell c.args.skip c.args.window.now l) (sym c.deref-visit-items.ensures.value) c.in_ok-list.ensures.found) q h.0 h.1,
 )
 
 pub push_images-requires-clause-near_rects : goal.push_images-requires-clause-near_rects
 push_images-requires-clause-near_rects t c =
-    let each = subst (All (IsVisit c.args.design.now c.args.cell c.args.skip c.args.window.now)) (sym c.deref-visit-items.ensures.value) c.in_ok-list.ensures.each in
+    let each = subst (All (IsVisit 0 c.args.design.now c.args.cell c.args.skip c.args.window.now)) (sym c.deref-visit-items.ensures.value) c.in_ok-list.ensures.each in
     let v = each c.loop-visit.visit-index no_visit c.loop-visit-test.true in
     subst (λ (l : List Rect). All IsNearRect l) (sym c.deref-in-loop-visit.ensures.value)
-    (pieces_near (slice_index_or c.deref-visit-items.result.now c.loop-visit.visit-index no_visit).window c.in_ok-below.below.items (visit_window c.args.design.now c.args.cell c.args.skip c.args.window.now _ v) c.in_ok-below.ensures.pieces)
+    (pieces_near (slice_index_or c.deref-visit-items.result.now c.loop-visit.visit-index no_visit).window c.in_ok-below.below.items (visit_window 0 c.args.design.now c.args.cell c.args.skip c.args.window.now _ v) c.in_ok-below.ensures.pieces)

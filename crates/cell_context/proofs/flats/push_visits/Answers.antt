@@ -1,9 +1,12 @@
 use Rattle.std.proofs.lemmas.List.Elements.{All-append}
-use Rattle.cell_graph.proofs.Bridge.{lower, reference_at}
+use Rattle.std.proofs.Common.{◌^◌, sym, subst, arith}
+use Rattle.cell_graph.specs.Linked.{HullIsSound, IsFrame, IsHull}
+use Rattle.cell_graph.proofs.Bridge.{hull_sound, lower, reference_at}
+use Rattle.cell_graph.proofs.Growing.{grown_frame}
 use Rattle.cell_context.specs.Visits.{IsVisited}
 use Rattle.cell_context.specs.Over.{IsVisit}
-use Rattle.cell_context.proofs.Collecting.{near_array, is_hull, visits_of, hull_has}
-use Rattle.cell_context.proofs.Visiting.{some_more, some_behind}
+use Rattle.cell_context.proofs.Collecting.{near_array, grown_has, visits_of}
+use Rattle.cell_context.proofs.Visiting.{some_more, some_behind, wider_rect}
 use Rattle.cell_context.proofs.flats.push_visits.Goals as goal
 
 pub hull-requires : goal.hull-requires
@@ -16,17 +19,22 @@ pub place_visits-requires-clause-some : goal.place_visits-requires-clause-some
 place_visits-requires-clause-some c = (reference_at c.args.design.now c.args.cell c.args.index c.args.place.now c.sound.ensures c.requires.there).2.columns
 
 pub place_visits-requires-clause-hull : goal.place_visits-requires-clause-hull
-place_visits-requires-clause-hull c = is_hull c.args.design.now c.args.place.now.cell c.in-Some.hull c.sound.ensures c.in-Some.ensures
+place_visits-requires-clause-hull c = subst IsFrame (sym c.grown.ensures) (grown_frame c.args.by c.in-Some.hull c.requires.by (subst HullIsSound (sym c.in-Some.ensures) (hull_sound c.args.design.now c.args.place.now.cell c.sound.ensures)))
+
+pub grown-requires : goal.grown-requires
+grown-requires c =
+    let h : IsHull c.in-Some.hull = subst HullIsSound (sym c.in-Some.ensures) (hull_sound c.args.design.now c.args.place.now.cell c.sound.ensures) in
+    wider_rect (2 ^ 36) (2 ^ 39) c.in-Some.hull (omega arith) h.near
 
 pub returns-in_ok-extend_from_slice-clause-each : goal.returns-in_ok-extend_from_slice-clause-each
 returns-in_ok-extend_from_slice-clause-each c =
-    rw (c.in_ok-extend_from_slice.ensures.items, c.deref.ensures.value) (All-append (IsVisit c.args.design.now c.args.cell c.args.skip c.args.window.now) c.args.out.now.items c.in_ok-more.more.items c.requires.each
-    (visits_of c.args.design.now c.args.cell c.args.index c.args.skip c.args.window.now c.in-Some.hull c.args.place.now c.in_ok-more.more.items c.in-Some.ensures c.requires.there c.requires.kept c.in_ok-more.ensures.each))
+    rw (c.in_ok-extend_from_slice.ensures.items, c.deref.ensures.value) (All-append (IsVisit c.args.by c.args.design.now c.args.cell c.args.skip c.args.window.now) c.args.out.now.items c.in_ok-more.more.items c.requires.each
+    (visits_of c.args.by c.args.design.now c.args.cell c.args.index c.args.skip c.args.window.now c.in-Some.hull c.grown.result c.args.place.now c.in_ok-more.more.items c.in-Some.ensures c.grown.ensures c.requires.there c.requires.kept c.in_ok-more.ensures.each))
 
 pub returns-in_ok-extend_from_slice-clause-found : goal.returns-in_ok-extend_from_slice-clause-found
 returns-in_ok-extend_from_slice-clause-found c = λ row column q step held met.
     rw (c.in_ok-extend_from_slice.ensures.items, c.deref.ensures.value) (some_behind (IsVisited c.args.place.now row column q) c.args.out.now.items c.in_ok-more.more.items
-    (c.in_ok-more.ensures.found row column q step.row_in step.column_in (record { inner = hull_has _ c.in-Some.hull q c.in-Some.ensures held; outer = met })))
+    (c.in_ok-more.ensures.found row column q step.row_in step.column_in (record { inner = grown_has c.args.by _ c.in-Some.hull c.grown.result q c.in-Some.ensures c.grown.ensures held; outer = met })))
 
 pub returns-in_ok-extend_from_slice-clause-stay : goal.returns-in_ok-extend_from_slice-clause-stay
 returns-in_ok-extend_from_slice-clause-stay c = λ row column p q h. rw c.in_ok-extend_from_slice.ensures.items (some_more (IsVisited p row column q) c.args.out.now.items c.deref.result.now h)

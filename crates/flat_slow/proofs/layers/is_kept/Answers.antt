@@ -12,4 +12,4 @@ returns-in-Input c = subst (λ (f : Formula). IfSome c.in_input.result (λ b. Is
 pub returns-in-Binary : goal.returns-in-Binary
 returns-in-Binary c = subst (λ (f : Formula). IfSome c.is_calm.result (λ b. IsTrue b ↔ IsKept (plain c.args.d.now) c.args.cell (plain_formula f) c.args.q)) (sym c.in-Binary.is)
     (subst (λ (f : Formula). IfSome c.is_calm.result (λ b. IsTrue b ↔ (InFlat (plain c.args.d.now) c.args.cell (plain_formula f) c.args.q × (IsStirred (plain c.args.d.now) (inputs (plain_formula f)) (reach (plain_formula f)) c.args.cell c.args.q → ⊥)))) c.in-Binary.is
-    (stirless (plain c.args.d.now) (plain_formula c.args.layer.now) c.args.cell c.args.q c.is_calm.result c.is_calm.ensures))
+    (stirless (plain c.args.d.now) c.args.layer.now c.args.cell c.args.q c.is_calm.result c.is_calm.ensures))

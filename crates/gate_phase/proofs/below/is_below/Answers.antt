@@ -11,25 +11,25 @@ use Rattle.gate_phase.proofs.below.is_below.Goals as goal
 pub is_free_visit-requires-clause-cell : goal.is_free_visit-requires-clause-cell
 is_free_visit-requires-clause-cell c =
     let d = c.args.design.now in let cell = c.args.cell in let w = c.args.start.now in
-    let each = subst (All (IsVisit d cell None w)) (sym c.deref-visit-items.ensures.value) c.in_ok-list.ensures.each in
-    (visit_lower d cell None w _ c.sound.ensures (each c.loop-visit.visit-index no_visit c.loop-visit-test.true)).0
+    let each = subst (All (IsVisit 0 d cell None w)) (sym c.deref-visit-items.ensures.value) c.in_ok-list.ensures.each in
+    (visit_lower 0 d cell None w _ c.sound.ensures (each c.loop-visit.visit-index no_visit c.loop-visit-test.true)).0
 
 pub is_free_visit-requires-clause-motion : goal.is_free_visit-requires-clause-motion
 is_free_visit-requires-clause-motion c =
     let d = c.args.design.now in let cell = c.args.cell in let w = c.args.start.now in
-    let each = subst (All (IsVisit d cell None w)) (sym c.deref-visit-items.ensures.value) c.in_ok-list.ensures.each in
-    visit_motion d cell None w _ c.sound.ensures (each c.loop-visit.visit-index no_visit c.loop-visit-test.true)
+    let each = subst (All (IsVisit 0 d cell None w)) (sym c.deref-visit-items.ensures.value) c.in_ok-list.ensures.each in
+    visit_motion 0 d cell None w _ c.sound.ensures (each c.loop-visit.visit-index no_visit c.loop-visit-test.true)
 
 pub is_free_visit-requires-clause-zone : goal.is_free_visit-requires-clause-zone
 is_free_visit-requires-clause-zone c =
     let d = c.args.design.now in let cell = c.args.cell in let w = c.args.start.now in
-    let each = subst (All (IsVisit d cell None w)) (sym c.deref-visit-items.ensures.value) c.in_ok-list.ensures.each in
+    let each = subst (All (IsVisit 0 d cell None w)) (sym c.deref-visit-items.ensures.value) c.in_ok-list.ensures.each in
     visit_open d c.args.zones.now cell c.args.device w _ c.requires.zones (each c.loop-visit.visit-index no_visit c.loop-visit-test.true)
 
 pub returns-then-branch : goal.returns-then-branch
 returns-then-branch c =
     let d = c.args.design.now in let cell = c.args.cell in let w = c.args.start.now in
-    let each = subst (All (IsVisit d cell None w)) (sym c.deref-visit-items.ensures.value) c.in_ok-list.ensures.each in
+    let each = subst (All (IsVisit 0 d cell None w)) (sym c.deref-visit-items.ensures.value) c.in_ok-list.ensures.each in
     let v = each c.loop-visit.visit-index no_visit c.loop-visit-test.true in
     ((λ e. free_visit d c.args.zones.now cell c.args.device c.args.close.now w _ v (c.in_ok-is_free_visit.ensures.0 c.if-branch.true)), (λ f. refl))
 
@@ -43,6 +43,6 @@ returns c =
     let d = c.args.design.now in let cell = c.args.cell in let w = c.args.start.now in (
       (λ e. absurd (let f : false ≡ true = e in let z : ⊥ = cc in z)),
       (λ f.
-          absurd (no_visit_free d c.args.zones.now cell c.args.device c.args.close.now w c.deref-visit-items.result.now no_visit (subst (λ (l : List Visit). AreVisited d cell None w l) (sym c.deref-visit-items.ensures.value) c.in_ok-list.ensures.found)
+          absurd (no_visit_free d c.args.zones.now cell c.args.device c.args.close.now w c.deref-visit-items.result.now no_visit (subst (λ (l : List Visit). AreVisited 0 d cell None w l) (sym c.deref-visit-items.ensures.value) c.in_ok-list.ensures.found)
           (λ k lt. c.loop-visit.invariant k (let past = c.loop-visit-test.false in omega arith)) f)),
     )

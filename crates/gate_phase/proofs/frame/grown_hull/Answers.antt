@@ -10,5 +10,5 @@ returns-clause-grown c =
     let e3 : FitsSigned w64 h.x2 = search rules in let e4 : FitsSigned w64 h.y2 = search rules in
     let f1 : FitsSigned w64 (h.x1 -ℤ pos 1) = search rules in let f2 : FitsSigned w64 (h.y1 -ℤ pos 1) = search rules in
     let f3 : FitsSigned w64 (h.x2 +ℤ pos 1) = search rules in let f4 : FitsSigned w64 (h.y2 +ℤ pos 1) = search rules in
-    let r : grown h ≡ grown h = refl in
+    let r : grown 1 h ≡ grown 1 h = refl in
     simp to_z-of_z r

@@ -29,22 +29,22 @@ loop-visit-init t c =
 pub kept_rects-requires : goal.kept_rects-requires
 kept_rects-requires t c =
     let d = c.args.design.now in let cell = c.args.cell in let w = c.args.window.now in
-    let each = subst (All (IsVisit d cell None w)) (sym c.deref-visit-items.ensures.value) c.in_ok-list.ensures.each in
+    let each = subst (All (IsVisit 0 d cell None w)) (sym c.deref-visit-items.ensures.value) c.in_ok-list.ensures.each in
     let v = each c.loop-visit.visit-index no_visit c.loop-visit-test.true in
-    let low = visit_lower d cell None w _ c.sound.ensures v in
+    let low = visit_lower 0 d cell None w _ c.sound.ensures v in
     let lt = low.1 in let m = c.decreases in
-    (omega arith, (low.0, (visit_reached d cell w _ c.requires.reached v, (c.requires.locals, visit_window d cell None w _ v))))
+    (omega arith, (low.0, (visit_reached d cell w _ c.requires.reached v, (c.requires.locals, visit_window 0 d cell None w _ v))))
 
 pub push_images-requires-clause-near : goal.push_images-requires-clause-near
 push_images-requires-clause-near t c =
     let d = c.args.design.now in let cell = c.args.cell in let w = c.args.window.now in
-    let each = subst (All (IsVisit d cell None w)) (sym c.deref-visit-items.ensures.value) c.in_ok-list.ensures.each in
-    visit_motion d cell None w _ c.sound.ensures (each c.loop-visit.visit-index no_visit c.loop-visit-test.true)
+    let each = subst (All (IsVisit 0 d cell None w)) (sym c.deref-visit-items.ensures.value) c.in_ok-list.ensures.each in
+    visit_motion 0 d cell None w _ c.sound.ensures (each c.loop-visit.visit-index no_visit c.loop-visit-test.true)
 
 pub loop-visit-preserved : goal.loop-visit-preserved
 loop-visit-preserved t c =
     let d = c.args.design.now in let cell = c.args.cell in let w = c.args.window.now in
-    let each = subst (All (IsVisit d cell None w)) (sym c.deref-visit-items.ensures.value) c.in_ok-list.ensures.each in
+    let each = subst (All (IsVisit 0 d cell None w)) (sym c.deref-visit-items.ensures.value) c.in_ok-list.ensures.each in
     let h = each c.loop-visit.visit-index no_visit c.loop-visit-test.true in
     let v = slice_index_or c.deref-visit-items.result.now c.loop-visit.visit-index no_visit in
     let old = c.loop-visit.out.items in let new = c.push_images.new.out.items in let below = c.in_ok-below.below.items in
@@ -68,4 +68,4 @@ returns-clause-exact t c = λ x locals.
     let d = c.args.design.now in let cell = c.args.cell in let w = c.args.window.now in
     met_window d c.args.layers.now cell c.args.name x w c.loop-visit.out.items c.deref-visit-items.result.now no_visit c.sound.ensures c.requires.reached locals (c.loop-visit.invariant.sound x locals) c.loop-visit.invariant.own
     (λ k lt. c.loop-visit.invariant.found x locals k (let past = c.loop-visit-test.false in omega arith))
-    (subst (λ (l : List Visit). AreVisited d cell None w l) (sym c.deref-visit-items.ensures.value) c.in_ok-list.ensures.found)
+    (subst (λ (l : List Visit). AreVisited 0 d cell None w l) (sym c.deref-visit-items.ensures.value) c.in_ok-list.ensures.found)

@@ -16,7 +16,7 @@ pub judged_gates-requires-clause-nets : goal.judged_gates-requires-clause-nets
 judged_gates-requires-clause-nets g c =
     let d = c.args.design.now in let r = rules_seen c.args.rules.now in let t = g.C.Cells.tables c.args.cells.now in
     subst (λ (z : Design). AreNetsUnder z (g.C.Cells.wiring c.args.cells.now) t c.args.cell) (sym c.requires.design)
-    (subst (λ (z : Wiring). AreNetsUnder (plain d) z t c.args.cell) (sym c.requires.wiring) (nets_under d r t c.sound.ensures c.requires.nets c.args.cell c.requires.ready.reached))
+    (subst (λ (z : Wiring). AreNetsUnder (plain d) z t c.args.cell) (sym c.requires.wiring) (nets_under d r t c.sound.ensures c.requires.ready.rules c.requires.nets c.args.cell c.requires.ready.reached))
 
 pub judged_gates-requires-clause-held : goal.judged_gates-requires-clause-held
 judged_gates-requires-clause-held g c = λ i y e.
@@ -26,7 +26,7 @@ judged_gates-requires-clause-held g c = λ i y e.
     let at = grounds_seen c.args.grounds in
     subst (λ (z : Design). IsHeldShape z (g.C.Cells.wiring c.args.cells.now) t x c.args.cell at y.least y.shape) (sym c.requires.design)
     (subst (λ (z : Wiring). IsHeldShape (plain d) z t x c.args.cell at y.least y.shape) (sym c.requires.wiring)
-    (held_shape d r t c.sound.ensures c.requires.nets c.args.cell c.requires.ready.reached u.rule x at (record { kind = u.device.kind; ts = u.device.ts; tg = u.device.tg; tb = u.device.tb }) (c.requires.grounds u.rule u.there) y own))
+    (held_shape d r t c.sound.ensures c.requires.ready.rules c.requires.nets c.args.cell c.requires.ready.reached u.rule x at (record { kind = u.device.kind; ts = u.device.ts; tg = u.device.tg; tb = u.device.tb }) (c.requires.grounds u.rule u.there) y own))
 
 pub returns : goal.returns
 returns g c =

@@ -27,12 +27,12 @@ is_own-requires-clause-least c = unit_near c.args.design.now c.args.cell c.args.
 pub is_own-requires-clause-zone : goal.is_own-requires-clause-zone
 is_own-requires-clause-zone c =
     let u = some_rule (rules_seen c.args.rules.now) c.args.number c.requires.ready.known in
-    let e = open_at c.args.design.now (rules_seen c.args.rules.now) c.args.zones.now c.args.cell c.args.number u.0 c.sound.ensures c.requires.ready.zones c.requires.ready.reached u.1 in (e.zone, e.is)
+    let e = open_at c.args.design.now (rules_seen c.args.rules.now) c.args.zones.now c.args.cell c.args.number u.0 c.sound.ensures c.requires.ready.rules c.requires.ready.zones c.requires.ready.reached u.1 in (e.zone, e.is)
 
 pub is_own-requires-clause-zones : goal.is_own-requires-clause-zones
 is_own-requires-clause-zones c =
     let u = some_rule (rules_seen c.args.rules.now) c.args.number c.requires.ready.known in
-    open_below c.args.design.now (rules_seen c.args.rules.now) c.args.zones.now c.args.cell c.args.number u.0 c.sound.ensures c.requires.ready.zones c.requires.ready.reached u.1
+    open_below c.args.design.now (rules_seen c.args.rules.now) c.args.zones.now c.args.cell c.args.number u.0 c.sound.ensures c.requires.ready.rules c.requires.ready.zones c.requires.ready.reached u.1
 
 pub returns-then-not-branch : goal.returns-then-not-branch
 returns-then-not-branch c = λ u at is settled.
@@ -40,11 +40,11 @@ returns-then-not-branch c = λ u at is settled.
     let part = c.args.part in let close = c.in_ok-close.close in let least = c.args.least in let inside = c.requires.least.has in let ready = c.requires.ready in
     let flat = λ (a : Square) (e : in_set part a). kept_flat (plain d) cell u.gate a (is.kept a e) in
     let told = is.told least inside in
-    let miss = (settled_told d r z cell n u c.sound.ensures ready.zones ready.reached at part close least told flat c.in_ok-close.ensures).1 settled in
-    (below_told d r z cell n u c.sound.ensures ready.zones ready.reached at part close least told flat c.in_ok-close.ensures settled (unit_window least) (unit_has least)).0 (c.in_ok-is_own.ensures.below c.if-not-branch.true miss)
+    let miss = (settled_told d r z cell n u c.sound.ensures ready.rules ready.zones ready.reached at part close least told flat c.in_ok-close.ensures).1 settled in
+    (below_told d r z cell n u c.sound.ensures ready.rules ready.zones ready.reached at part close least told flat c.in_ok-close.ensures settled (unit_window least) (unit_has least)).0 (c.in_ok-is_own.ensures.below c.if-not-branch.true miss)
 
 pub shape_in-requires-clause-ready : goal.shape_in-requires-clause-ready
-shape_in-requires-clause-ready c = record { known = reached_cell c.args.design.now c.args.cell c.sound.ensures c.requires.ready.reached; layers = c.requires.ready.layers; reached = c.requires.ready.reached }
+shape_in-requires-clause-ready c = record { rules = c.requires.ready.rules; known = reached_cell c.args.design.now c.args.cell c.sound.ensures c.requires.ready.reached; layers = c.requires.ready.layers; reached = c.requires.ready.reached }
 
 pub shape_in-requires-clause-device : goal.shape_in-requires-clause-device
 shape_in-requires-clause-device c = known_device (rules_seen c.args.rules.now) c.args.number c.args.device.now c.requires.ready.rules c.requires.device
@@ -68,7 +68,7 @@ returns c = λ u at is.
     let flat = λ (a : Square) (e : in_set part a). kept_flat (plain d) cell u.gate a (is.kept a e) in
     let told = is.told least inside in
     let yes = c.if-not-branch.false in
-    let settled = (settled_told d r z cell n u c.sound.ensures ready.zones ready.reached at part close least told flat c.in_ok-close.ensures).0 (c.in_ok-is_own.ensures.calm yes) in
+    let settled = (settled_told d r z cell n u c.sound.ensures ready.rules ready.zones ready.reached at part close least told flat c.in_ok-close.ensures).0 (c.in_ok-is_own.ensures.calm yes) in
     let squares = told.squares settled in (
       refl,
       (
@@ -76,7 +76,7 @@ returns c = λ u at is.
         record {
           listed = record {
             settled = settled;
-            new = λ b. c.in_ok-is_own.ensures.new yes ((below_told d r z cell n u c.sound.ensures ready.zones ready.reached at part close least told flat c.in_ok-close.ensures settled (unit_window least) (unit_has least)).1 b);
+            new = λ b. c.in_ok-is_own.ensures.new yes ((below_told d r z cell n u c.sound.ensures ready.rules ready.zones ready.reached at part close least told flat c.in_ok-close.ensures settled (unit_window least) (unit_has least)).1 b);
           };
           least = record { has = (squares least).0 inside; least = λ q i. c.requires.least.least q ((squares q).1 i) };
           area = squares;

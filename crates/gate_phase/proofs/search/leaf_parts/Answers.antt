@@ -20,7 +20,7 @@ pub local-requires : goal.local-requires
 local-requires c =
     let d = c.args.design.now in let r = rules_seen c.args.rules.now in
     let ready = subst (λ g. IsReadyRegion d c.args.rules.now c.args.zones.now c.args.cell g) c.in-One.is c.requires.region in
-    let l = locals_of (plain d) r c.args.layers.now c.in-One.name c.requires.layers ready c.args.cell c.requires.reached in
+    let l = locals_of (plain d) r c.args.layers.now c.in-One.name c.requires.layers ready c.requires.rules c.args.cell c.requires.reached in
     subst IsSome (sym l.1) refl
 
 pub local_in_both-requires-clause-first_zone : goal.local_in_both-requires-clause-first_zone
@@ -37,21 +37,21 @@ pub local_in_both-requires-clause-first : goal.local_in_both-requires-clause-fir
 local_in_both-requires-clause-first c =
     let d = c.args.design.now in let r = rules_seen c.args.rules.now in
     let ready = subst (λ g. IsReadyRegion d c.args.rules.now c.args.zones.now c.args.cell g) c.in-Both.is c.requires.region in
-    let l = locals_of (plain d) r c.args.layers.now c.in-Both.a c.requires.layers ready.0 c.args.cell c.requires.reached in
+    let l = locals_of (plain d) r c.args.layers.now c.in-Both.a c.requires.layers ready.0 c.requires.rules c.args.cell c.requires.reached in
     subst IsSome (sym l.1) refl
 
 pub local_in_both-requires-clause-second : goal.local_in_both-requires-clause-second
 local_in_both-requires-clause-second c =
     let d = c.args.design.now in let r = rules_seen c.args.rules.now in
     let ready = subst (λ g. IsReadyRegion d c.args.rules.now c.args.zones.now c.args.cell g) c.in-Both.is c.requires.region in
-    let l = locals_of (plain d) r c.args.layers.now c.in-Both.b c.requires.layers ready.1 c.args.cell c.requires.reached in
+    let l = locals_of (plain d) r c.args.layers.now c.in-Both.b c.requires.layers ready.1 c.requires.rules c.args.cell c.requires.reached in
     subst IsSome (sym l.1) refl
 
 pub returns-in-One : goal.returns-in-One
 returns-in-One c =
     let d = c.args.design.now in let r = rules_seen c.args.rules.now in let cell = c.args.cell in let name = c.in-One.name in
     let ready = subst (λ g. IsReadyRegion d c.args.rules.now c.args.zones.now cell g) c.in-One.is c.requires.region in
-    let l = locals_of (plain d) r c.args.layers.now name c.requires.layers ready cell c.requires.reached in
+    let l = locals_of (plain d) r c.args.layers.now name c.requires.layers ready c.requires.rules cell c.requires.reached in
     let x = formula_of c.args.rules.now name in
     let is = subst (IsLocalLayer (plain d) x cell) (one_layer (layer_of c.args.layers.now cell name) l.0 c.local.result.now l.1 c.local.ensures) l.2 in
     let of = subst (λ g. IfOk c.parts.result (λ v. (seeds : List Rect) → ArePartsAround (plain d) cell (region_formula c.args.rules.now g) seeds v.items)) (sym c.in-One.is) in
@@ -61,11 +61,11 @@ pub returns-in_ok-set-in-Both : goal.returns-in_ok-set-in-Both
 returns-in_ok-set-in-Both c =
     let d = c.args.design.now in let r = rules_seen c.args.rules.now in let cell = c.args.cell in let a = c.in-Both.a in let b = c.in-Both.b in
     let ready = subst (λ g. IsReadyRegion d c.args.rules.now c.args.zones.now cell g) c.in-Both.is c.requires.region in
-    let la = locals_of (plain d) r c.args.layers.now a c.requires.layers ready.0 cell c.requires.reached in
-    let lb = locals_of (plain d) r c.args.layers.now b c.requires.layers ready.1 cell c.requires.reached in
+    let la = locals_of (plain d) r c.args.layers.now a c.requires.layers ready.0 c.requires.rules cell c.requires.reached in
+    let lb = locals_of (plain d) r c.args.layers.now b c.requires.layers ready.1 c.requires.rules cell c.requires.reached in
     let x = formula_of c.args.rules.now a in let y = formula_of c.args.rules.now b in
     let set = c.in_ok-set-in-Both.set in
     let calm = c.in_ok-set-in-Both.ensures la.0 lb.0 la.1 lb.1 in
-    let whole = both_whole d c.args.rules.now c.args.zones.now cell c.sound.ensures (a, b) ready.2 ready.3 la.0 lb.0 set calm (leaf_kept d cell x la.0 c.requires.leaf la.2) (leaf_kept d cell y lb.0 c.requires.leaf lb.2) in
+    let whole = both_whole d c.args.rules.now c.args.zones.now cell c.sound.ensures (a, b) ready.2 ready.3 la.3 lb.3 la.0 lb.0 set calm (leaf_kept d cell x la.0 c.requires.leaf la.2) (leaf_kept d cell y lb.0 c.requires.leaf lb.2) in
     let of = subst (λ g. IfOk c.parts-in-Both.result (λ v. (seeds : List Rect) → ArePartsAround (plain d) cell (region_formula c.args.rules.now g) seeds v.items)) (sym c.in-Both.is) in
     of (if_ok _ _ c.parts-in-Both.result (λ v are seeds. record { found = set; gathered = whole_gathered (IsKept (plain d) cell (Binary And x y)) seeds set whole; parted = are }) c.parts-in-Both.ensures)

@@ -18,11 +18,11 @@ use Rattle.gate_phase.proofs.shape.alone_shape.Goals as goal
 
 pub kept_in-requires-clause-locals : goal.kept_in-requires-clause-locals
 kept_in-requires-clause-locals c =
-    let r = rules_seen c.args.rules.now in let x = c.args.device.now in (get_or (formulas r.names) x.ts Empty, locals_of (plain c.args.design.now) r c.args.layers.now x.ts c.requires.ready.layers c.requires.device.ts.known)
+    let r = rules_seen c.args.rules.now in let x = c.args.device.now in (get_or (formulas r.names) x.ts Empty, locals_of (plain c.args.design.now) r c.args.layers.now x.ts c.requires.ready.layers c.requires.device.ts.known c.requires.ready.rules)
 
 pub kept_in-requires-2-clause-locals : goal.kept_in-requires-2-clause-locals
 kept_in-requires-2-clause-locals c =
-    let r = rules_seen c.args.rules.now in let x = c.args.device.now in (get_or (formulas r.names) x.tb Empty, locals_of (plain c.args.design.now) r c.args.layers.now x.tb c.requires.ready.layers c.requires.device.tb.known)
+    let r = rules_seen c.args.rules.now in let x = c.args.device.now in (get_or (formulas r.names) x.tb Empty, locals_of (plain c.args.design.now) r c.args.layers.now x.tb c.requires.ready.layers c.requires.device.tb.known c.requires.ready.rules)
 
 pub returns : goal.returns
 returns c =
@@ -32,7 +32,7 @@ returns c =
     let is_met : (y : Formula) (name : ℕ) (set : List Rect) → y ≡ get_or f name Empty → name < length r.names → ((z : Formula) → HasLocals d layers name z → AreMet (IsKept d cell z) c.rects-windows.result.now set) → AreMet (IsKept d cell y) part set =
     λ y name set e lt h.
     subst (λ (v : Formula). AreMet (IsKept d cell v) part set) (sym e)
-    (subst (λ (l : List Rect). AreMet (IsKept d cell (get_or f name Empty)) l set) c.rects-windows.ensures.list (h (get_or f name Empty) (locals_of d r layers name c.requires.ready.layers lt))) in
+    (subst (λ (l : List Rect). AreMet (IsKept d cell (get_or f name Empty)) l set) c.rects-windows.ensures.list (h (get_or f name Empty) (locals_of d r layers name c.requires.ready.layers lt c.requires.ready.rules))) in
     if_ok _ _ c.area_shape.result
     (λ shape told u s is settled squares.
     let read = read_layers w u in

@@ -20,15 +20,15 @@ use Rattle.gate_phase.proofs.shape.beside_shape.Goals as goal
 
 pub kept_in-requires-clause-locals : goal.kept_in-requires-clause-locals
 kept_in-requires-clause-locals c =
-    let r = rules_seen c.args.rules.now in (get_or (formulas r.names) c.args.ends Empty, locals_of (plain c.args.design.now) r c.args.layers.now c.args.ends c.requires.ready.layers c.requires.ends)
+    let r = rules_seen c.args.rules.now in (get_or (formulas r.names) c.args.ends Empty, locals_of (plain c.args.design.now) r c.args.layers.now c.args.ends c.requires.ready.layers c.requires.ends c.requires.ready.rules)
 
 pub kept_in-requires-2-clause-locals : goal.kept_in-requires-2-clause-locals
 kept_in-requires-2-clause-locals c =
-    let r = rules_seen c.args.rules.now in let x = c.args.device.now in (get_or (formulas r.names) x.ts Empty, locals_of (plain c.args.design.now) r c.args.layers.now x.ts c.requires.ready.layers c.requires.device.ts.known)
+    let r = rules_seen c.args.rules.now in let x = c.args.device.now in (get_or (formulas r.names) x.ts Empty, locals_of (plain c.args.design.now) r c.args.layers.now x.ts c.requires.ready.layers c.requires.device.ts.known c.requires.ready.rules)
 
 pub kept_in-requires-3-clause-locals : goal.kept_in-requires-3-clause-locals
 kept_in-requires-3-clause-locals c =
-    let r = rules_seen c.args.rules.now in let x = c.args.device.now in (get_or (formulas r.names) x.tb Empty, locals_of (plain c.args.design.now) r c.args.layers.now x.tb c.requires.ready.layers c.requires.device.tb.known)
+    let r = rules_seen c.args.rules.now in let x = c.args.device.now in (get_or (formulas r.names) x.tb Empty, locals_of (plain c.args.design.now) r c.args.layers.now x.tb c.requires.ready.layers c.requires.device.tb.known c.requires.ready.rules)
 
 pub returns : goal.returns
 returns c =
@@ -36,7 +36,7 @@ returns c =
     let w = wiring_of r in let layers = c.args.layers.now in let part = c.args.part.now in let close = c.args.close.now in
     let f = formulas r.names in
     let is_met : (name : ℕ) (set : List Rect) → name < length r.names → ((y : Formula) → HasLocals d layers name y → AreMet (IsKept d cell y) c.rects-windows.result.now set) → AreMet (IsKept d cell (get_or f name Empty)) close set =
-    λ name set lt h. subst (λ (l : List Rect). AreMet (IsKept d cell (get_or f name Empty)) l set) c.rects-windows.ensures.list (h (get_or f name Empty) (locals_of d r layers name c.requires.ready.layers lt)) in
+    λ name set lt h. subst (λ (l : List Rect). AreMet (IsKept d cell (get_or f name Empty)) l set) c.rects-windows.ensures.list (h (get_or f name Empty) (locals_of d r layers name c.requires.ready.layers lt c.requires.ready.rules)) in
     let as_named : (y z : Formula) (set : List Rect) → y ≡ z → AreMet (IsKept d cell z) close set → AreMet (IsKept d cell y) close set = λ y z set e h. subst (λ (v : Formula). AreMet (IsKept d cell v) close set) (sym e) h in
     if_ok _ _ c.shape_of.result
     (λ shape told u s is has here.
@@ -45,7 +45,7 @@ returns c =
     let ts : formula w u.ts ≡ get_or f x.ts Empty = ap (λ n. formula w n) is.ts ∙ c.requires.device.ts.read in
     let tg : formula w u.tg ≡ get_or f x.tg Empty = ap (λ n. formula w n) is.tg ∙ c.requires.device.tg.read in
     let tb : formula w u.tb ≡ get_or f x.tb Empty = ap (λ n. formula w n) is.tb ∙ c.requires.device.tb.read in
-    let sheet = c.requires.sheet (get_or f x.tg Empty) (locals_of d r layers x.tg c.requires.ready.layers c.requires.device.tg.known) in
+    let sheet = c.requires.sheet (get_or f x.tg Empty) (locals_of d r layers x.tg c.requires.ready.layers c.requires.device.tg.known c.requires.ready.rules) in
     let sheet_of = subst (λ k. IsGateSheet k (IsKept d cell (formula w u.tg)) close part c.args.on_gate.now) (sym is.kind) (subst (λ (v : Formula). IsGateSheet (kind_seen x.kind) (IsKept d cell v) close part c.args.on_gate.now) (sym tg) sheet) in
     look d w u cell s part c.in_ok-groups.groups c.in_ok-on_ends.on_ends c.args.on_gate.now c.in_ok-on_bulk.on_bulk c.is_loose.result shape
     (record {

@@ -25,3 +25,8 @@ loop-rule-preserved c =
           (flats_more d c.args.cell looks had.0 tree sets set (had.3 ∙ sym had.2) had.4
           (c.in_ok-set.ensures had.0 (subst (AreFlats d c.args.cell looks had.0) (sym c.deref.ensures.value) had.4))),
     )
+
+pub form_flat-requires-clause-unsized : goal.form_flat-requires-clause-unsized
+form_flat-requires-clause-unsized c =
+    let rule = c.rule-item.result in
+    c.requires.unsized c.loop-rule.rule-index rule (slice_get-get_or c.args.names.now c.loop-rule.rule-index rule c.loop-rule-test.true ∙ ap Some (sym c.rule-item.is))

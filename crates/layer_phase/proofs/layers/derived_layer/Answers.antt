@@ -25,7 +25,7 @@ disturbed-zone-requires c =
     some_is _ h.0 h.1
 
 pub returns : goal.returns
-returns c = λ op a b at flat_in.
-    derived c.args.design.now (rules_seen c.args.rules.now) c.args.zones.now c.args.cell c.args.name op a b c.args.looks.now c.args.flat c.disturbed-zone.result.now c.in_ok-calm.calm
-    c.sound.ensures c.requires.ready at c.requires.looks flat_in c.disturbed-zone.ensures c.in_ok-calm.ensures c.in_ok-local.local c.rects-canonical.ensures.canonical
+returns c = λ x is at flat_in.
+    derived c.args.design.now (rules_seen c.args.rules.now) c.args.zones.now c.args.cell c.args.name x c.args.looks.now c.args.flat c.disturbed-zone.result.now c.in_ok-calm.calm
+    c.sound.ensures c.requires.ready is at c.requires.looks flat_in c.disturbed-zone.ensures c.in_ok-calm.ensures c.in_ok-local.local c.rects-canonical.ensures.canonical
     (λ q. c.in_ok-local.ensures q ∙ ap (λ v. (v && not (covers c.disturbed-zone.result.now q)) && not (covers c.in_ok-calm.calm q)) (c.in_ok-squares.ensures q))

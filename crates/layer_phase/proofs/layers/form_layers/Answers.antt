@@ -1,8 +1,8 @@
 use Rattle.std.proofs.Common.{◌≡◌, ◌<◌, ◌∙◌, ◌+◌, ◌++◌, ◌∷◌, [], ℕ, Some, List, ap, sym, subst, arith, drop, length, length-append, get_or, slice_get}
 use Rattle.std.proofs.lemmas.Option.{get_or_from_slice_get, slice_get_within}
 use Rattle.geo_base.specs.declared.shapes.Rect.{Rect}
-use Rattle.geo_base.specs.declared.layer.Op.{Op}
-use Rattle.flat_layout.specs.Layers.{Binary, Formula}
+use Rattle.deep_laws.specs.Layers.{IsDerived}
+use Rattle.flat_layout.specs.Layers.{Formula}
 use Rattle.cell_graph.proofs.Finishes.{at_middle, one_yielded}
 use Rattle.rule_layers.specs.Formulas.{formula_by, formulas, formulas_behind}
 use Rattle.layer_phase.specs.Names.{AreLocals, IsFlatIn}
@@ -35,8 +35,7 @@ loop-flat-preserved c =
     subst (λ (l : List Formula). slice_get l name ≡ Some tree) on
     (behind_stays (had.0 ++ tree ∷ []) (drop (name + 1) names) name tree (subst (λ n. slice_get (had.0 ++ tree ∷ []) n ≡ Some tree) (had.2 ∙ sym count) (push_new had.0 tree))) in
     let item : get_or flats name [] ≡ flat = get_or_from_slice_get flats name flat [] (subst (λ n. slice_get flats n ≡ Some flat) (sym same) there) in
-    let flat_in : (op : Op) (a b : Formula) → tree ≡ Binary op a b → IsFlatIn d cell looks (Binary op a b) flat =
-    λ op a b is. subst (IsFlatIn d cell looks (Binary op a b)) item (c.requires.flats name op a b (at ∙ ap Some is)) in
+    let flat_in : IsDerived tree → IsFlatIn d cell looks tree flat = λ is. subst (IsFlatIn d cell looks tree) item (c.requires.flats name tree is at) in
     let e : c.push.new.self.items ≡ sets ++ layer ∷ [] = c.in_ok-push.ensures.items in
     let more = locals_more d cell (formulas names) tree sets layer (subst (λ n. slice_get (formulas names) n ≡ Some tree) count at) had.5 (c.in_ok-layer.ensures had.0 at flat_in) in
     let grown : length c.push.new.self.items ≡ name + 1 = ap length e ∙ length-append sets (layer ∷ []) ∙ ap (λ (n : ℕ). n + 1) (sym count) in (

@@ -1,13 +1,15 @@
 use Rattle.std.proofs.Common.{◌<◌, [], arith, get_or, length, subst}
 use Rattle.std.proofs.lemmas.Option.{get_or_from_slice_get, slice_get-get_or}
-use Rattle.flat_layout.specs.Layers.{Binary, Empty}
+use Rattle.flat_layout.specs.Layers.{Empty}
 use Rattle.cell_graph.proofs.Bridge.{reference_at}
 use Rattle.rule_layers.specs.Formulas.{formulas}
 use Rattle.rule_text.specs.Seen.{rules_seen}
 use Rattle.layer_phase.proofs.Telling.{entries}
 use Rattle.layer_phase.proofs.Flattening.{count_behind}
 use Rattle.layer_phase.specs.Names.{IsFlatIn}
-use Rattle.rule_layers.proofs.Unread.{same_tree}
+use Rattle.rule_layers.proofs.Unread.{other_there}
+use Rattle.rule_layers.proofs.Unsized.{read_unsized, unsized}
+use Rattle.layer_phase.proofs.Deriving.{derived_other}
 use Rattle.layer_phase.proofs.layers.name_layers.Goals as goal
 
 pub looks-requires-clause-entries : goal.looks-requires-clause-entries
@@ -24,7 +26,11 @@ pub form_layers-requires-clause-looks : goal.form_layers-requires-clause-looks
 form_layers-requires-clause-looks c = record { seen = c.args.read.now; are = c.requires.read; all = c.in_ok-set.ensures }
 
 pub form_layers-requires-clause-flats : goal.form_layers-requires-clause-flats
-form_layers-requires-clause-flats c = λ k op a b at.
+form_layers-requires-clause-flats c = λ k x is at.
     let read = c.args.read.now in
-    let there = same_tree c.args.rules.now.names.items [] [] read k op a b c.requires.read at in
-    subst (λ x. IsFlatIn c.args.design.now c.args.cell c.in_ok-set.set x (get_or c.in_ok-flats.flats.items k [])) (get_or_from_slice_get (formulas read) k (Binary op a b) Empty there) (c.in_ok-flats.ensures.flats k)
+    let there = other_there c.args.rules.now.names.items [] [] read k x (derived_other x is) c.requires.read at in
+    subst (λ y. IsFlatIn c.args.design.now c.args.cell c.in_ok-set.set y (get_or c.in_ok-flats.flats.items k [])) (get_or_from_slice_get (formulas read) k x Empty there) (c.in_ok-flats.ensures.flats k)
+
+pub name_flats-requires-clause-unsized : goal.name_flats-requires-clause-unsized
+name_flats-requires-clause-unsized c =
+    read_unsized c.args.rules.now.names.items [] [] c.args.read.now c.requires.read (unsized (rules_seen c.args.rules.now) c.requires.ready.rules)

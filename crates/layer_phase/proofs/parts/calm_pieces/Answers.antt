@@ -12,17 +12,17 @@ use Rattle.layer_phase.proofs.parts.calm_pieces.Goals as goal
 
 pub calm_part-requires-clause-entry : goal.calm_part-requires-clause-entry
 calm_part-requires-clause-entry c =
-    let each = subst (All (IsVisit c.args.design.now c.args.cell None c.args.window.now)) (sym c.deref-visit-items.ensures.value) c.in_ok-list.ensures.each in
+    let each = subst (All (IsVisit 0 c.args.design.now c.args.cell None c.args.window.now)) (sym c.deref-visit-items.ensures.value) c.in_ok-list.ensures.each in
     entry_of c.args.design.now c.args.zones.now c.args.cell c.args.name c.args.window.now _ c.requires.entries (each c.loop-visit.visit-index no_visit c.loop-visit-test.true)
 
 pub push_images-requires-clause-near : goal.push_images-requires-clause-near
 push_images-requires-clause-near c =
-    let each = subst (All (IsVisit c.args.design.now c.args.cell None c.args.window.now)) (sym c.deref-visit-items.ensures.value) c.in_ok-list.ensures.each in
-    visit_motion c.args.design.now c.args.cell None c.args.window.now _ c.sound.ensures (each c.loop-visit.visit-index no_visit c.loop-visit-test.true)
+    let each = subst (All (IsVisit 0 c.args.design.now c.args.cell None c.args.window.now)) (sym c.deref-visit-items.ensures.value) c.in_ok-list.ensures.each in
+    visit_motion 0 c.args.design.now c.args.cell None c.args.window.now _ c.sound.ensures (each c.loop-visit.visit-index no_visit c.loop-visit-test.true)
 
 pub push_images-requires-clause-near_rects : goal.push_images-requires-clause-near_rects
 push_images-requires-clause-near_rects c =
-    let each = subst (All (IsVisit c.args.design.now c.args.cell None c.args.window.now)) (sym c.deref-visit-items.ensures.value) c.in_ok-list.ensures.each in
+    let each = subst (All (IsVisit 0 c.args.design.now c.args.cell None c.args.window.now)) (sym c.deref-visit-items.ensures.value) c.in_ok-list.ensures.each in
     let h = each c.loop-visit.visit-index no_visit c.loop-visit-test.true in
     let v = slice_index_or c.deref-visit-items.result.now c.loop-visit.visit-index no_visit in
     let calm : IsCalmPart c.args.zones.now c.args.name v c.rects.result.now = λ e at s. ap (λ (l : List Rect). covers l s) c.rects.ensures.list ∙ c.in_ok-keep.ensures e at s in
@@ -31,7 +31,7 @@ push_images-requires-clause-near_rects c =
 
 pub loop-visit-preserved : goal.loop-visit-preserved
 loop-visit-preserved c =
-    let each = subst (All (IsVisit c.args.design.now c.args.cell None c.args.window.now)) (sym c.deref-visit-items.ensures.value) c.in_ok-list.ensures.each in
+    let each = subst (All (IsVisit 0 c.args.design.now c.args.cell None c.args.window.now)) (sym c.deref-visit-items.ensures.value) c.in_ok-list.ensures.each in
     let h = each c.loop-visit.visit-index no_visit c.loop-visit-test.true in
     let v = slice_index_or c.deref-visit-items.result.now c.loop-visit.visit-index no_visit in
     let calm : IsCalmPart c.args.zones.now c.args.name v c.rects.result.now = λ e at s. ap (λ (l : List Rect). covers l s) c.rects.ensures.list ∙ c.in_ok-keep.ensures e at s in
@@ -50,5 +50,5 @@ returns-clause-exact c = λ q. (
   λ h.
       all_there c.args.design.now c.args.zones.now c.args.cell c.args.name c.args.window.now c.loop-visit.out.items c.deref-visit-items.result.now no_visit
       (λ k lt. c.loop-visit.invariant.found k (let past = c.loop-visit-test.false in omega arith))
-      (subst (λ (l : List Visit). AreVisited c.args.design.now c.args.cell None c.args.window.now l) (sym c.deref-visit-items.ensures.value) c.in_ok-list.ensures.found) q h.0 h.1,
+      (subst (λ (l : List Visit). AreVisited 0 c.args.design.now c.args.cell None c.args.window.now l) (sym c.deref-visit-items.ensures.value) c.in_ok-list.ensures.found) q h.0 h.1,
 )

@@ -22,7 +22,7 @@ pub new-cells-requires-clause-own : goal.new-cells-requires-clause-own
 new-cells-requires-clause-own c =
     let d = c.args.source.design.now in
     subst (λ (l : List (Vec (Bor (List Rect)))). AreHeldOwn d (rect_lists l)) (sym c.deref.ensures.value)
-    (held_own d (rules_seen c.args.source.rules.now) (rect_lists c.args.lists.now.own.items) c.sound.ensures c.requires.lists.own)
+    (held_own d (rules_seen c.args.source.rules.now) (rect_lists c.args.lists.now.own.items) c.sound.ensures c.requires.rules c.requires.lists.own)
 
 pub circuit_shapes-requires : goal.circuit_shapes-requires
 circuit_shapes-requires c =

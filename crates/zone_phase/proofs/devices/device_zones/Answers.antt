@@ -6,9 +6,9 @@ use Rattle.zone_phase.proofs.Naming.{no_zones}
 use Rattle.zone_phase.proofs.devices.device_zones.Goals as goal
 
 pub returns-clause-zones : goal.returns-clause-zones
-returns-clause-zones c = λ d cell trees all.
+returns-clause-zones c = λ n d cell trees all.
     let zones = c.push_further_zones.new.zones.items in
-    let first = c.in_ok-push_mos_zones.ensures.zones d cell trees [] all (subst (AreDeviceZones d cell trees []) (sym c.new-zones.ensures.items) (no_zones d cell trees)) in
-    let both = c.in_ok-push_further_zones.ensures.zones d cell trees (map mos_names c.deref.result.now) all first in
-    subst (λ (rs : List MosRule). AreDeviceZones d cell trees (map mos_names rs ++ map further_names c.args.rules.now.more.items) zones) c.deref.ensures.value
-    (subst (λ (rs : List MoreRule). AreDeviceZones d cell trees (map mos_names c.deref.result.now ++ map further_names rs) zones) c.deref-2.ensures.value both)
+    let first = c.in_ok-push_mos_zones.ensures.zones n d cell trees [] all (subst (AreDeviceZones n d cell trees []) (sym c.new-zones.ensures.items) (no_zones n d cell trees)) in
+    let both = c.in_ok-push_further_zones.ensures.zones n d cell trees (map mos_names c.deref.result.now) all first in
+    subst (λ (rs : List MosRule). AreDeviceZones n d cell trees (map mos_names rs ++ map further_names c.args.rules.now.more.items) zones) c.deref.ensures.value
+    (subst (λ (rs : List MoreRule). AreDeviceZones n d cell trees (map mos_names c.deref.result.now ++ map further_names rs) zones) c.deref-2.ensures.value both)

@@ -8,10 +8,10 @@ use Rattle.zone_phase.proofs.devices.further_zone.Goals as goal
 
 pub returns-in-Resistor : goal.returns-in-Resistor
 returns-in-Resistor c =
-    subst (λ (m : MoreRule). IfOk c.names_zone.result (λ r. (d : Linked) (cell : ℕ) (trees : List Formula) → AreNameZones d cell trees c.args.sets.now → IsFramedZone d (names_inputs trees (further_names m)) cell r))
+    subst (λ (m : MoreRule). IfOk c.names_zone.result (λ r. (n : ℕ) (d : Linked) (cell : ℕ) (trees : List Formula) → AreNameZones n d cell trees c.args.sets.now → IsFramedZone n d (names_inputs trees (further_names m)) cell r))
     (sym c.in-Resistor.is) c.names_zone.ensures
 
 pub returns-in-Diode : goal.returns-in-Diode
 returns-in-Diode c =
-    subst (λ (m : MoreRule). IfOk c.names_zone-in-Diode.result (λ r. (d : Linked) (cell : ℕ) (trees : List Formula) → AreNameZones d cell trees c.args.sets.now → IsFramedZone d (names_inputs trees (further_names m)) cell r))
+    subst (λ (m : MoreRule). IfOk c.names_zone-in-Diode.result (λ r. (n : ℕ) (d : Linked) (cell : ℕ) (trees : List Formula) → AreNameZones n d cell trees c.args.sets.now → IsFramedZone n d (names_inputs trees (further_names m)) cell r))
     (sym c.in-Diode.is) c.names_zone-in-Diode.ensures

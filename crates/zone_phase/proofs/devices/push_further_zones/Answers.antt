@@ -13,15 +13,15 @@ loop-rule-preserved c =
     let rule = c.rule-item.result in
     let had = c.loop-rule.invariant in
     record {
-      zones = λ d cell trees lists all old.
-          subst (AreDeviceZones d cell trees (lists ++ map further_names (take (i + 1) rules))) (sym e)
-          (subst (λ (ls : List (List ℕ)). AreDeviceZones d cell trees ls (c.loop-rule.zones.items ++ c.in_ok-set.set ∷ []))
+      zones = λ n d cell trees lists all old.
+          subst (AreDeviceZones n d cell trees (lists ++ map further_names (take (i + 1) rules))) (sym e)
+          (subst (λ (ls : List (List ℕ)). AreDeviceZones n d cell trees ls (c.loop-rule.zones.items ++ c.in_ok-set.set ∷ []))
           (taken_more further_names lists rules i rule c.loop-rule-test.true c.rule-item.is)
-          (zones_more d cell trees (lists ++ map further_names (take i rules)) (further_names rule) c.loop-rule.zones.items c.in_ok-set.set (had.zones d cell trees lists all old) (c.in_ok-set.ensures d cell trees all)));
+          (zones_more n d cell trees (lists ++ map further_names (take i rules)) (further_names rule) c.loop-rule.zones.items c.in_ok-set.set (had.zones n d cell trees lists all old) (c.in_ok-set.ensures n d cell trees all)));
       canonical = c.in_ok-push_set.ensures.canonical;
     }
 
 pub returns-clause-zones : goal.returns-clause-zones
-returns-clause-zones c = λ d cell trees lists all old.
-    subst (λ (rs : List MoreRule). AreDeviceZones d cell trees (lists ++ map further_names rs) c.loop-rule.zones.items) (take_all c.loop-rule.rule-index c.args.rules.now c.loop-rule-test.false)
-    (c.loop-rule.invariant.zones d cell trees lists all old)
+returns-clause-zones c = λ n d cell trees lists all old.
+    subst (λ (rs : List MoreRule). AreDeviceZones n d cell trees (lists ++ map further_names rs) c.loop-rule.zones.items) (take_all c.loop-rule.rule-index c.args.rules.now c.loop-rule-test.false)
+    (c.loop-rule.invariant.zones n d cell trees lists all old)

@@ -8,7 +8,7 @@ use Rattle.zone_phase.proofs.devices.push_mos_zones.Given as goal
 
 abbrev pub invariant-loop-rule : goal.invariant-loop-rule
 invariant-loop-rule l = record {
-  zones : (d : Linked) (cell : ℕ) (trees : List Formula) (lists : List (List ℕ)) → AreNameZones d cell trees l.sets → AreDeviceZones d cell trees lists l.fn.zones.items
-      → AreDeviceZones d cell trees (lists ++ map mos_names (take l.rule-index l.rules)) l.zones.items;
+  zones : (n : ℕ) (d : Linked) (cell : ℕ) (trees : List Formula) (lists : List (List ℕ)) → AreNameZones n d cell trees l.sets → AreDeviceZones n d cell trees lists l.fn.zones.items
+      → AreDeviceZones n d cell trees (lists ++ map mos_names (take l.rule-index l.rules)) l.zones.items;
   canonical : All IsCanonical l.zones.items;
 }

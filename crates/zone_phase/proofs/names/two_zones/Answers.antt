@@ -4,6 +4,6 @@ use Rattle.deep_tables.specs.Frames.{IsFramedZone}
 use Rattle.zone_phase.proofs.names.two_zones.Goals as goal
 
 pub returns : goal.returns
-returns c = λ d cell trees h.
-    c.in_ok-set.ensures d cell trees (inputs (get_or trees c.args.b Empty)) h
-    (subst (IsFramedZone d (inputs (get_or trees c.args.b Empty)) cell) (sym c.set_at.ensures) (h c.args.b))
+returns c = λ n d cell trees h.
+    c.in_ok-set.ensures n d cell trees (inputs (get_or trees c.args.b Empty)) h
+    (subst (IsFramedZone n d (inputs (get_or trees c.args.b Empty)) cell) (sym c.set_at.ensures) (h c.args.b))

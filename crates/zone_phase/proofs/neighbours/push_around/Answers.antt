@@ -23,13 +23,13 @@ push_neighbour-requires-clause-near c = near_array c.args.design.now c.args.pare
 pub push_neighbour-requires-clause-motion : goal.push_neighbour-requires-clause-motion
 push_neighbour-requires-clause-motion c =
     let d = c.args.design.now in let w = c.element_rect-window.result in
-    let each = subst (All (IsVisit d c.args.parent (Some c.args.found.now.index) w)) (sym c.deref-visit-items.ensures.value) c.in_ok-visits.ensures.each in
-    visit_motion d c.args.parent (Some c.args.found.now.index) w _ c.sound.ensures (each c.loop-visit.visit-index no_visit c.loop-visit-test.true)
+    let each = subst (All (IsVisit 0 d c.args.parent (Some c.args.found.now.index) w)) (sym c.deref-visit-items.ensures.value) c.in_ok-visits.ensures.each in
+    visit_motion 0 d c.args.parent (Some c.args.found.now.index) w _ c.sound.ensures (each c.loop-visit.visit-index no_visit c.loop-visit-test.true)
 
 pub loop-visit-preserved : goal.loop-visit-preserved
 loop-visit-preserved c =
     let d = c.args.design.now in let w = c.element_rect-window.result in let uses = c.args.uses.now in let place = c.args.place.now in
-    let each = subst (All (IsVisit d c.args.parent (Some c.args.found.now.index) w)) (sym c.deref-visit-items.ensures.value) c.in_ok-visits.ensures.each in
+    let each = subst (All (IsVisit 0 d c.args.parent (Some c.args.found.now.index) w)) (sym c.deref-visit-items.ensures.value) c.in_ok-visits.ensures.each in
     let h = each c.loop-visit.visit-index no_visit c.loop-visit-test.true in
     let v = slice_index_or c.deref-visit-items.result.now c.loop-visit.visit-index no_visit in
     let old = c.loop-visit.memo.list.items in let new = c.push_neighbour.new.memo.list.items in
@@ -48,4 +48,4 @@ returns-clause-all c =
     let d = c.args.design.now in let w = c.element_rect-window.result in let index = c.args.found.now.index in
     all_near d c.args.parent index c.args.place.now c.args.grown.now w c.loop-visit.memo.list.items c.deref-visit-items.result.now no_visit c.sound.ensures c.requires.grown.some c.element_rect-window.ensures.exact
     (λ k lt. c.loop-visit.invariant.found k (let past = c.loop-visit-test.false in omega (arith, lt, past)))
-    (subst (λ (l : List Visit). AreVisited d c.args.parent (Some index) w l) (sym c.deref-visit-items.ensures.value) c.in_ok-visits.ensures.found)
+    (subst (λ (l : List Visit). AreVisited 0 d c.args.parent (Some index) w l) (sym c.deref-visit-items.ensures.value) c.in_ok-visits.ensures.found)

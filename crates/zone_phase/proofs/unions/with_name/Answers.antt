@@ -4,6 +4,6 @@ use Rattle.deep_tables.specs.Frames.{IsFramedZone}
 use Rattle.zone_phase.proofs.unions.with_name.Goals as goal
 
 pub returns : goal.returns
-returns c = λ d cell trees ys h g.
-    c.in_ok-set.ensures d (inputs (get_or trees c.args.name Empty)) ys cell
-    (subst (IsFramedZone d (inputs (get_or trees c.args.name Empty)) cell) (sym c.set_at.ensures) (h c.args.name)) g
+returns c = λ n d cell trees ys h g.
+    c.in_ok-set.ensures n d (inputs (get_or trees c.args.name Empty)) ys cell
+    (subst (IsFramedZone n d (inputs (get_or trees c.args.name Empty)) cell) (sym c.set_at.ensures) (h c.args.name)) g

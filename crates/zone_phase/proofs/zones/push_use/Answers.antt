@@ -6,7 +6,7 @@ use Rattle.cell_graph.specs.declared.cells.Place.{Place}
 use Rattle.cell_context.proofs.Collecting.{item_at, one_place}
 use Rattle.cell_graph.specs.Linked.{cell_at, places_at}
 use Rattle.deep_tables.specs.Entries.{downward_cell}
-use Rattle.zone_phase.specs.Jobs.{IsEntry, zone_in}
+use Rattle.zone_phase.specs.Jobs.{HasName, zone_in}
 use Rattle.zone_phase.specs.Neighbours.{WhyHere}
 use Rattle.zone_phase.specs.Pulls.{Adds}
 use Rattle.zone_phase.proofs.Entries.{some_and, at_any}
@@ -20,14 +20,14 @@ no_place = record { cell = 0; motion = record { turn = R0; dx = pos 0; dy = pos 
 pub returns-clause-exact : goal.returns-clause-exact
 returns-clause-exact g c =
     let d = c.args.design.now in let u = c.args.found.now in
-    let h = some_and (IsEntry d c.args.key c.args.name (downward_cell d u.job)) _ _ c.get.ensures c.requires.entry in
+    let h = some_and (HasName c.args.name) _ _ c.get.ensures c.requires.entry in
     let listed : c.places.result.now ≡ places_at (cell_at d (downward_cell d u.job)) = c.places.ensures ∙ ap (λ (o : List ℕ). places_at (cell_at d (slice_index o (length o - 1 - u.job)))) c.order-order.ensures in
     let within = slice_get_within c.places.result.now u.index c.requires.found.place (subst (λ (l : List Place). slice_get l u.index ≡ Some c.requires.found.place) (sym listed) c.requires.found.there) in
     let there = item_at c.places.result.now (places_at (cell_at d (downward_cell d u.job))) u.index no_place listed within in
     let place = slice_index_or c.places.result.now u.index no_place in
     let same = one_place (slice_get (places_at (cell_at d (downward_cell d u.job))) u.index) c.requires.found.place place c.requires.found.there there in
     let zone : c.index-zone.result.now ≡ zone_in (g.R.Reads.value c.args.reads.now u.job) c.args.name =
-    (c.index-zone.ensures ∙ at_any c.get.result.now.layers.items c.args.name c.index-zone.result.now [] h.0) ∙ ap (λ o. zone_in o c.args.name) (sym c.get.ensures) in
+    (c.index-zone.ensures ∙ at_any c.get.result.now.layers.items c.args.name c.index-zone.result.now [] h) ∙ ap (λ o. zone_in o c.args.name) (sym c.get.ensures) in
     on_ok _ _ c.push_reference.result
     (λ adds. use_adds d (zone_in (g.R.Reads.value c.args.reads.now u.job) c.args.name) c.args.cell c.args.key c.args.grown.now u place c.args.out.now.items c.push_reference.new.out.items there
     (subst (λ (p : Place). p.cell ≡ c.args.cell) same c.requires.found.here)

@@ -27,7 +27,7 @@ pub new-cells-requires-clause-own : goal.new-cells-requires-clause-own
 new-cells-requires-clause-own c =
     let d = c.args.design.now in
     subst (λ (l : List (Vec (Bor (List Rect)))). AreHeldOwn d (rect_lists l)) (sym c.deref-3.ensures.value)
-    (held_own d (rules_seen c.args.rules.now) (rect_lists c.in_ok-own.own.items) c.sound.ensures c.in_ok-own.ensures)
+    (held_own d (rules_seen c.args.rules.now) (rect_lists c.in_ok-own.own.items) c.sound.ensures c.requires.rules c.in_ok-own.ensures)
 
 pub new-cells-requires-clause-indexes : goal.new-cells-requires-clause-indexes
 new-cells-requires-clause-indexes c =

@@ -6,7 +6,7 @@ use Rattle.cell_graph.specs.Linked.{plain}
 use Rattle.rect_sets.specs.Rects.{IsCanonical}
 use Rattle.rule_text.specs.Seen.{rules_seen}
 use Rattle.rule_text.specs.declared.rules.LayerRule.{LayerRule}
-use Rattle.rule_layers.specs.Formulas.{formulas}
+use Rattle.rule_layers.specs.Formulas.{formulas, zone_margin}
 use Rattle.rule_layers.proofs.Unread.{seen_input}
 use Rattle.flat_layout.specs.Layers.{Input}
 use Rattle.deep_tables.specs.declared.zones.CellZones.{CellZones}
@@ -56,8 +56,8 @@ name_zones-requires-clause-entries g c = λ name key named k u at.
     (c.requires.right i (subst (λ (z : ZoneJobs). Waits z.graph c.args.job i) c.self.view_is w)))
     k u there in
     let input = seen_input r.names r.devices r.more c.self.inside.read.items name key a.read (subst (λ (l : List LayerRule). slice_get (formulas l) name ≡ Some (Input key)) c.deref-2.ensures.value named) in
-    some_more (AreCellZones (plain d) r (downward_cell d u.job)) (IsEntry d key name (downward_cell d u.job)) (value u.job)
-    (λ v. entry_of d r (downward_cell d u.job) name key v (λ n there. c.sound.ensures.hulls.each n) (job_reached d u.job c.sound.ensures (a.uses.each (downward_cell d c.args.job) k u there).job_in) input.0 input.1) right
+    some_more (AreCellZones (plain d) r (downward_cell d u.job)) (IsEntry c.self.inside.margin d key name (downward_cell d u.job)) (value u.job)
+    (λ v h. subst (λ m. IsEntry m d key name (downward_cell d u.job) v) (sym a.margin) (entry_of d r (downward_cell d u.job) name key v (λ n there. c.sound.ensures.hulls.each n) (job_reached d u.job c.sound.ensures (a.uses.each (downward_cell d c.args.job) k u there).job_in) input.0 input.1 h)) right
 
 pub returns : goal.returns
 returns g c =
@@ -68,13 +68,15 @@ returns g c =
     let lt : job < length d.order = subst (λ n. job < n) (ap (λ (z : ZoneJobs). length z.graph) (sym c.self.view_is) ∙ a.graph.jobs) c.requires.job in
     let cell = ap (λ (o : List ℕ). slice_index o (length o - 1 - job)) c.order-order.ensures in
     let read = c.self.inside.read.items in
-    let zones : AreNameZones d (downward_cell d job) (formulas read) c.in_ok-layers.layers.items =
-    subst (λ n. AreNameZones d n (formulas read) c.in_ok-layers.layers.items) cell
-    (subst (λ (l : List LayerRule). AreNameZones d (slice_index c.order-order.result.now (length c.order-order.result.now - 1 - job)) (formulas l) c.in_ok-layers.layers.items) c.deref-2.ensures.value c.in_ok-layers.ensures.zones) in
+    let m = zone_margin r.names in
+    let zones : AreNameZones m d (downward_cell d job) (formulas read) c.in_ok-layers.layers.items =
+    subst (λ n. AreNameZones n d (downward_cell d job) (formulas read) c.in_ok-layers.layers.items) a.margin
+    (subst (λ n. AreNameZones c.self.inside.margin d n (formulas read) c.in_ok-layers.layers.items) cell
+    (subst (λ (l : List LayerRule). AreNameZones c.self.inside.margin d (slice_index c.order-order.result.now (length c.order-order.result.now - 1 - job)) (formulas l) c.in_ok-layers.layers.items) c.deref-2.ensures.value c.in_ok-layers.ensures.zones)) in
     subst (λ (z : ZoneJobs). AreCellZones (plain z.design) (rules_seen z.rules) (downward_cell z.design job) v) c.self.view_is
     (cell_zones d r read (downward_cell d job) v (λ n there. c.sound.ensures.hulls.each n) a.rules a.read (job_reached d job c.sound.ensures lt)
     (ap length same ∙ c.in_ok-layers.ensures.count ∙ ap (λ (l : List LayerRule). length (formulas l)) c.deref-2.ensures.value)
-    (subst (AreNameZones d (downward_cell d job) (formulas read)) (sym same) zones) (subst (λ (l : List (List Rect)). All IsCanonical l) (sym same) c.in_ok-layers.ensures.canonical)
-    (subst (λ (l : List (List Rect)). AreDeviceZones d (downward_cell d job) (formulas read) (device_names r) l) (sym same_too)
-    (c.in_ok-devices.ensures.zones d (downward_cell d job) (formulas read) (subst (AreNameZones d (downward_cell d job) (formulas read)) (sym c.deref-3.ensures.value) zones)))
+    (subst (AreNameZones m d (downward_cell d job) (formulas read)) (sym same) zones) (subst (λ (l : List (List Rect)). All IsCanonical l) (sym same) c.in_ok-layers.ensures.canonical)
+    (subst (λ (l : List (List Rect)). AreDeviceZones m d (downward_cell d job) (formulas read) (device_names r) l) (sym same_too)
+    (c.in_ok-devices.ensures.zones m d (downward_cell d job) (formulas read) (subst (AreNameZones m d (downward_cell d job) (formulas read)) (sym c.deref-3.ensures.value) zones)))
     (subst (λ (l : List (List Rect)). All IsCanonical l) (sym same_too) c.in_ok-devices.ensures.canonical))
