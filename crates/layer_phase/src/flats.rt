@@ -81,7 +81,7 @@ fn form_flat<'a>(
 ) -> Result<Flat<'a>, AllocError>
     requires cell { cell < length design.now.cells }
     requires near { AreNear looks.now }
-    requires unsized { IsUnsized form }
+    requires plain { IsUnsized form }
     requires own { (key : LayerKey) → form ≡ InputForm key
         → Grows (own_of (cell_at design.now cell) key) looks.now }
     ensures { IfOk result (λ r. (trees : List Formula)
@@ -108,7 +108,7 @@ pub fn name_flats<'a>(
 ) -> Result<Vec<Flat<'a>>, AllocError>
     requires cell { cell < length design.now.cells }
     requires near { AreNear looks.now }
-    requires unsized { AreUnsized names.now }
+    requires plain { AreUnsized names.now }
     requires own { HoldsOwn design.now names.now cell looks.now }
     ensures count { IfOk result (λ v. length v.items ≡ length names.now) }
     ensures flats { IfOk result (λ v. AreFlats design.now cell looks.now (formulas names.now)

@@ -5,16 +5,9 @@ ghost use Rattle.geo_base.specs.declared.shapes.Square.{Square};
 ghost use Rattle.rect_sets.specs.Rects.{covers};
 
 use cell_graph::Design;
-use geo_base::{LayerKey, Motion, Turn};
+use geo_base::LayerKey;
 use rect_sets::RectSet;
 use std::alloc::{AllocError, Global};
-
-/// The motion that leaves all where it is.
-const STILL: Motion = Motion {
-    turn: Turn::R0,
-    dx: 0,
-    dy: 0,
-};
 
 /// A copy of a cell's own squares on a layer. Linear.
 pub fn own_copy(
@@ -27,6 +20,5 @@ pub fn own_copy(
     ensures { IfOk result (λ r. (q : Square) → covers r q
         ≡ covers (own_of (cell_at design.now cell) key) q) }
 {
-    design.sound();
-    design.own(cell, key).moved(alloc, &STILL)
+    design.own(cell, key).try_clone(alloc)
 }

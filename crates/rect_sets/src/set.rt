@@ -75,6 +75,14 @@ impl RectSet {
         self.rects.as_slice()
     }
 
+    /// The same set once more. Linear; an `Err` is want of memory.
+    pub fn try_clone(&self, alloc: Global) -> Result<RectSet, AllocError>
+        ensures { IfOk result (λ r. r ≡ self.now) }
+    {
+        let rects = self.rects.to_vec(alloc)?;
+        Ok(RectSet { rects })
+    }
+
     /// The union of any rectangles, in O(n log n + k + m log m) and O(n + m) memory: n rectangles,
     /// k crossings of upright edges with strips within a part of the plane, m rectangles of the
     /// result. An `Err` is want of memory.

@@ -118,7 +118,11 @@ fn size_of(word: &[u8]) -> Option<u32>
     ensures is { result ≡ size_of word.now }
     ensures within { IfSome result (λ n. n ≤ 10000) }
 {
-    if word.len() <= 5 { number_of(10_000, word) } else { None }
+    if word.len() <= 5 {
+        number_of(10_000, word)
+    } else {
+        None
+    }
 }
 
 fn is_digits(word: &[u8]) -> bool

@@ -18,7 +18,7 @@ use crate::zones::key_zone;
 use cell_graph::Design;
 use deep_tables::CellZones;
 use job_graph::Reads;
-use rect_sets::{RectSet, Rule, combine_rects};
+use rect_sets::RectSet;
 use rule_text::{LayerForm, LayerRule, MosRule};
 use std::alloc::{AllocError, Global};
 
@@ -40,7 +40,7 @@ fn one_zone(alloc: Global, sets: &[RectSet], a: u32) -> Result<RectSet, AllocErr
         → IsFramedZone n d (inputs (get_or trees a Empty)) cell r) }
 {
     let none = RectSet::empty(alloc);
-    let set = combine_rects(alloc, set_at(sets, a, &none).rects(), &[], Rule::First)?;
+    let set = set_at(sets, a, &none).try_clone(alloc)?;
     Ok(set)
 }
 
@@ -70,8 +70,8 @@ fn form_zone<R: Reads<CellZones>>(
     match form {
         LayerForm::Input(key) => {
             key_zone(
-            alloc, design, reads, uses, name, cell, key, neighbours, margin,
-        )
+                alloc, design, reads, uses, name, cell, key, neighbours, margin,
+            )
         }
         LayerForm::Labels(_) => Ok(RectSet::empty(alloc)),
         LayerForm::Empty => Ok(RectSet::empty(alloc)),
