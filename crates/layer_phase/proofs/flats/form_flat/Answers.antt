@@ -14,4 +14,4 @@ returns-in-Binary c =
     c.two_flats.ensures
 
 pub returns-in-Sized : goal.returns-in-Sized
-returns-in-Sized c = absurd (subst IsUnsized c.in-Sized.is c.requires.unsized)
+returns-in-Sized c = absurd (subst IsUnsized c.in-Sized.is c.requires.plain)

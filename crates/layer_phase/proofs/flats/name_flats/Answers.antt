@@ -26,7 +26,7 @@ loop-rule-preserved c =
           (c.in_ok-set.ensures had.0 (subst (AreFlats d c.args.cell looks had.0) (sym c.deref.ensures.value) had.4))),
     )
 
-pub form_flat-requires-clause-unsized : goal.form_flat-requires-clause-unsized
-form_flat-requires-clause-unsized c =
+pub form_flat-requires-clause-plain : goal.form_flat-requires-clause-plain
+form_flat-requires-clause-plain c =
     let rule = c.rule-item.result in
-    c.requires.unsized c.loop-rule.rule-index rule (slice_get-get_or c.args.names.now c.loop-rule.rule-index rule c.loop-rule-test.true ∙ ap Some (sym c.rule-item.is))
+    c.requires.plain c.loop-rule.rule-index rule (slice_get-get_or c.args.names.now c.loop-rule.rule-index rule c.loop-rule-test.true ∙ ap Some (sym c.rule-item.is))

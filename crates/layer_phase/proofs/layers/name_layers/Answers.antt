@@ -31,6 +31,6 @@ form_layers-requires-clause-flats c = λ k x is at.
     let there = other_there c.args.rules.now.names.items [] [] read k x (derived_other x is) c.requires.read at in
     subst (λ y. IsFlatIn c.args.design.now c.args.cell c.in_ok-set.set y (get_or c.in_ok-flats.flats.items k [])) (get_or_from_slice_get (formulas read) k x Empty there) (c.in_ok-flats.ensures.flats k)
 
-pub name_flats-requires-clause-unsized : goal.name_flats-requires-clause-unsized
-name_flats-requires-clause-unsized c =
+pub name_flats-requires-clause-plain : goal.name_flats-requires-clause-plain
+name_flats-requires-clause-plain c =
     read_unsized c.args.rules.now.names.items [] [] c.args.read.now c.requires.read (unsized (rules_seen c.args.rules.now) c.requires.ready.rules)
