@@ -1,4 +1,4 @@
-use Rattle.std.proofs.Common.{◌≡◌, ◌≤◌, ◌+◌, ◌∙◌, ℕ, List, ap, sym, subst, drop, arith}
+use Rattle.std.proofs.Common.{◌≤◌, ◌+◌, ◌∙◌, ℕ, List, ap, sym, subst, drop, arith}
 use Rattle.std.specs.List.{All}
 use Rattle.rule_text.specs.Reaches.{MOST_REACH, reach_by}
 use Rattle.rule_text.proofs.ReachLemmas.{next_reach, one_on}
