@@ -1,11 +1,11 @@
 -- How far names and device rules reach.
-use Rattle.std.proofs.Common.{◌≡◌, inl, inr, ℕ, zero, suc, ◌+◌, ◌≤◌, max, unsigned_abs, Bool, true, false, List, [], ◌∷◌, ◌++◌, map, Some, refl, sym, ap, subst, ◌∙◌, arith, get_or, slice_get}
+use Rattle.std.proofs.Common.{◌≡◌, inl, inr, ℕ, zero, suc, ◌+◌, ◌≤◌, max, unsigned_abs, Bool, true, false, List, [], ◌∷◌, ◌++◌, map, refl, sym, ap, subst, ◌∙◌, arith, get_or}
 use Rattle.std.proofs.Math.Nat.{le-max_left, le-max_right, le_trans}
 use Rattle.std.proofs.lemmas.List.{map-append}
 use Rattle.std.specs.List.{All}
 use Rattle.std.proofs.lemmas.List.Elements.{All-head, All-tail}
 use Rattle.flat_layout.specs.Gates.{Rule, gate_reach}
-use Rattle.flat_layout.specs.Layers.{Formula, Empty, Binary, reach}
+use Rattle.flat_layout.specs.Layers.{Formula, Empty, reach}
 use Rattle.flat_layout.specs.Regions.{formula}
 use Rattle.rule_text.specs.declared.rules.LayerForm.{LayerForm}
 use Rattle.rule_text.specs.declared.rules.LayerForm.TheVariants as form
@@ -13,12 +13,12 @@ use Rattle.rule_text.specs.declared.rules.LayerRule.{LayerRule}
 use Rattle.rule_text.specs.declared.rules.MosRule.{MosRule}
 use Rattle.rule_text.specs.declared.rules.MoreRule.{MoreRule}
 use Rattle.rule_text.specs.declared.rules.MoreRule.TheVariants as more
-use Rattle.rule_text.specs.Reaches.{MOST_REACH, reach_by, reaches, reaches_behind}
+use Rattle.rule_text.specs.Reaches.{MOST_REACH, reach_by, reaches_behind}
 use Rattle.rule_text.specs.Reading.{is_conductor}
 use Rattle.rule_text.specs.Rules.{Rules}
 use Rattle.rule_layers.specs.Formulas.{formulas, formulas_behind, formula_by, greatest, greatest_reach}
 use Rattle.rule_layers.specs.Laws.{ReachLaw, ReachInLaw, NearLaw, GateReachLaw}
-use Rattle.rule_layers.specs.Meaning.{device_rule, device_rules, more_rule, mos_rules, wiring_of}
+use Rattle.rule_layers.specs.Meaning.{device_rule, more_rule, mos_rules, wiring_of}
 use Rattle.rule_layers.proofs.Wired.{conductors, of_both, of_map}
 
 one_reach : (xs : List Formula) (k : ℕ) → get_or (map reach xs) k 0 ≡ reach (get_or xs k Empty)
@@ -56,7 +56,7 @@ greater m n limit h g = grind (arith, h, g)
 
 pub all_near : (limit : ℕ) (ns : List ℕ) → All (λ n. n ≤ limit) ns → greatest ns ≤ limit
 all_near limit [] h = omega arith
-all_near limit (n ∷ ns) h = greater n (greatest ns) limit (All-head _ n ns h) (all_near limit ns (All-tail _ n ns h))
+all_near limit (n ∷ ns) h = greater n (greatest ns) limit (All-head (λ m. m ≤ limit) n ns h) (all_near limit ns (All-tail (λ m. m ≤ limit) n ns h))
 
 pub near : NearLaw
 near r sound =

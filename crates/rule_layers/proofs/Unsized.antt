@@ -1,11 +1,11 @@
 -- No name of a sound rule set is sized yet.
-use Rattle.std.proofs.Common.{◌≡◌, inl, inr, ℕ, zero, suc, ◌+◌, ◌<◌, ◌≤◌, max, unsigned_abs, List, [], ◌∷◌, ◌++◌, map, Some, refl, sym, ap, subst, ◌∙◌, arith, get_or, slice_get, length, length-append, false}
+use Rattle.std.proofs.Common.{◌≡◌, inl, inr, ℕ, zero, suc, ◌+◌, ◌≤◌, max, unsigned_abs, List, [], ◌∷◌, ◌++◌, map, Some, refl, sym, ap, subst, ◌∙◌, arith, get_or, slice_get, length, length-append, false}
 use Rattle.std.specs.List.{All}
 use Rattle.std.proofs.Math.Decide.{ℕ_discrete}
 use Rattle.std.proofs.lemmas.Bool.{cases_lt}
 use Rattle.std.proofs.lemmas.List.{get_or_append_left, get_or_push, get_or_past}
 use Rattle.std.proofs.lemmas.Option.{slice_get-get_or, slice_get_within}
-use Rattle.flat_layout.specs.Gates.{Rule, gate_reach}
+use Rattle.flat_layout.specs.Gates.{gate_reach}
 use Rattle.flat_layout.specs.Layers.{Formula, Empty, reach}
 use Rattle.flat_layout.specs.Regions.{formula}
 use Rattle.rule_text.specs.declared.rules.LayerForm.{LayerForm}
@@ -13,16 +13,15 @@ use Rattle.rule_text.specs.declared.rules.LayerForm.TheVariants as form
 use Rattle.rule_text.specs.declared.rules.LayerRule.{LayerRule}
 use Rattle.rule_text.specs.declared.rules.MosRule.{MosRule}
 use Rattle.rule_text.specs.declared.rules.MoreRule.{MoreRule}
-use Rattle.rule_text.specs.Filled.{IsSize}
-use Rattle.rule_text.specs.Reaches.{MOST_REACH, reach_by, reaches, reaches_behind}
+use Rattle.rule_text.specs.Reaches.{MOST_REACH, reach_by, reaches_behind}
 use Rattle.rule_text.specs.Rules.{Rules}
 use Rattle.rule_text.specs.Sound.{IsSound, AreOperands}
 use Rattle.rule_text.proofs.ReachLemmas.{next_reach}
 use Rattle.rule_layers.specs.Formulas.{formulas, formulas_behind, formula_by, greatest_reach}
-use Rattle.rule_layers.specs.Meaning.{device_rules, wiring_of}
+use Rattle.rule_layers.specs.Meaning.{wiring_of}
 use Rattle.rule_layers.specs.Reads.{AreRead, IsRead, IsReadAs, read_form}
 use Rattle.rule_layers.specs.Unsized.{AreUnsized, IsUnsized, StillLaw}
-use Rattle.rule_layers.proofs.Reaching.{all_near, conductor_reach, gate_reaches, reach_in, reach_law}
+use Rattle.rule_layers.proofs.Reaching.{all_near, conductor_reach, gate_reaches, reach_law}
 use Rattle.rule_layers.proofs.Unread.{one_some}
 
 -- what holds of all reaches holds of that of each form, over some names before it

@@ -13,7 +13,7 @@ fn greatest(numbers: &[u32]) -> u32
 {
     match numbers {
         [] => 0,
-        [number, more @ ..] => number.max(greatest(more)),
+        [number, more @ ..] => (*number).max(greatest(more)),
     }
 }
 

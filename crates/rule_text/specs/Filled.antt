@@ -1,5 +1,5 @@
 -- What fits its slot has a byte or lies in its range.
-use Rattle.std.specs.Prelude.{◌≡◌, ℕ, ◌+◌, ◌<◌, ◌≤◌, ℤ, unsigned_abs, true, List, [], ◌∷◌, length}
+use Rattle.std.specs.Prelude.{◌≡◌, ℕ, ◌+◌, ◌<◌, ◌≤◌, unsigned_abs, true, List, [], ◌∷◌, length}
 use Rattle.std.specs.Prelude.{unwrap_or}
 use Rattle.rule_lines.specs.Tokens.{Token}
 use Rattle.rule_text.specs.Rows.{Slot, Fresh, Name, Quoted, Exact, Guesses, Size, Form, Sized}

@@ -16,8 +16,8 @@ use geo_base::LayerKey;
 use rule_lines::{Token, is_digit, is_small};
 
 /// What may stand at a place of a row: a name that may be defined, a name, a layer number, a number
-/// of guesses, a size, digits, a string, a string that is no pattern, an operator, a given word or sign, or
-/// `=>`.
+/// of guesses, a size, digits, a string, a string that is no pattern, an operator, a given word or
+/// sign, or `=>`.
 #[derive(Clone, Copy)]
 pub enum Slot<'a> {
     Fresh,
