@@ -38,7 +38,8 @@ OverLaw = (d : Linked) → IsSound d → (cell : ℕ) (key : LayerKey) (q : Squa
     → IsOver d cell None key q ↔ InFlatInput (plain d) cell key q
 
 -- a part of a placed cell's hull, grown by n, that reaches into the window
-pub record IsVisit (n : ℕ) (d : Linked) (cell : ℕ) (skip : Option ℕ) (w : Rect) (v : Visit) : Type 0 where
+pub record IsVisit (n : ℕ) (d : Linked) (cell : ℕ) (skip : Option ℕ) (w : Rect) (v : Visit) :
+    Type 0 where
   pub index : ℕ
   pub row : ℕ
   pub column : ℕ

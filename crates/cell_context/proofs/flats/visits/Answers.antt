@@ -7,8 +7,8 @@ use Rattle.cell_context.proofs.flats.visits.Goals as goal
 
 pub push_kept-requires-clause-there : goal.push_kept-requires-clause-there
 push_kept-requires-clause-there c =
-    let are = subst (λ (l : List ℕ). ArePlacesIn c.args.design.now c.args.cell c.grown.result l) (sym c.deref-i-items.ensures.value) c.in_ok-near.ensures in
-    found_inside c.args.design.now c.args.cell c.grown.result c.deref-i-items.result.now c.loop-i.i-index are c.loop-i-test.true
+    let are = subst (λ (l : List ℕ). ArePlacesIn c.args.design.now c.args.cell c.grown-wide.result l) (sym c.deref-i-items.ensures.value) c.in_ok-near.ensures in
+    found_inside c.args.design.now c.args.cell c.grown-wide.result c.deref-i-items.result.now c.loop-i.i-index are c.loop-i-test.true
 
 pub loop-i-preserved : goal.loop-i-preserved
 loop-i-preserved c = record {
@@ -20,6 +20,6 @@ loop-i-preserved c = record {
 
 pub returns-clause-found : goal.returns-clause-found
 returns-clause-found c =
-    let are = subst (λ (l : List ℕ). ArePlacesIn c.args.design.now c.args.cell c.grown.result l) (sym c.deref-i-items.ensures.value) c.in_ok-near.ensures in
-    all_visited c.args.by c.args.design.now c.args.cell c.args.skip c.args.window.now c.grown.result c.deref-i-items.result.now c.loop-i.out.items c.sound.ensures c.grown.ensures are
+    let are = subst (λ (l : List ℕ). ArePlacesIn c.args.design.now c.args.cell c.grown-wide.result l) (sym c.deref-i-items.ensures.value) c.in_ok-near.ensures in
+    all_visited c.args.by c.args.design.now c.args.cell c.args.skip c.args.window.now c.grown-wide.result c.deref-i-items.result.now c.loop-i.out.items c.sound.ensures c.grown-wide.ensures are
     (λ k lt. c.loop-i.invariant.found k (let past = c.loop-i-test.false in omega (arith, lt, past)))
