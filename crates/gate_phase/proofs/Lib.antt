@@ -1,3 +1,4 @@
+pub mod Apart
 pub mod Bringing
 pub mod Bulking
 pub mod Closing

@@ -1,5 +1,5 @@
 -- Seeds are among what was pushed.
-use Rattle.std.proofs.Common.{◌≡◌, inl, inr, ℕ, ◌<◌, ◌+◌, ◌^◌, Bool, true, ◌++◌, List, Option, Some, None, slice_get, get_or, length, sym, ◌∙◌, ap, subst, arith}
+use Rattle.std.proofs.Common.{◌≡◌, inl, inr, ℕ, ◌<◌, ◌≤◌, ◌+◌, ◌^◌, Bool, true, ◌++◌, List, Option, Some, None, slice_get, get_or, length, sym, ◌∙◌, ap, subst, arith}
 use Rattle.std.proofs.lemmas.Int.{ints}
 use Rattle.std.proofs.lemmas.Option.{slice_get_within}
 use Rattle.geo_base.specs.Motions.{moved_square}
@@ -11,7 +11,7 @@ use Rattle.geo_base.proofs.Spans.{moved_rect-has}
 use Rattle.rect_sets.specs.Rects.{covers}
 use Rattle.flat_layout.specs.Arrays.{place_at}
 use Rattle.flat_layout.specs.Gates.{Geometry, Rule, gate_inputs, gate_reach, geometry}
-use Rattle.flat_layout.specs.Layers.{Empty, inputs}
+use Rattle.flat_layout.specs.Layers.{Empty, Formula, InFlat, inputs, reach}
 use Rattle.flat_layout.specs.Layout as flat
 use Rattle.flat_layout.specs.Layout.{IsReached, IsDisturbed, Some_of}
 use Rattle.flat_layout.specs.Plane.{AreWithin, IsAround}
@@ -19,9 +19,10 @@ use Rattle.flat_layout.specs.Regions.{formula}
 use Rattle.flat_layout.specs.Seeds.{IsInReach, IsNearSeed, IsOwnSeed, IsPlacedSeed, IsSeed}
 use Rattle.flat_laws.proofs.Cover.{reached_below}
 use Rattle.flat_laws.proofs.Moves.{within_back, within_none}
+use Rattle.flat_laws.proofs.Names.{near_input}
 use Rattle.cell_graph.specs.declared.cells.Place.{Place}
 use Rattle.cell_graph.specs.Linked.{Linked, IsSound, IsStep, IsHull, IsRectWithin, HullHas, HullIsSound, hull_of, cell_at, places_at, motion_at, plain, reference}
-use Rattle.cell_graph.proofs.Growing.{within_grown}
+use Rattle.cell_graph.proofs.Growing.{wider_grown, within_grown}
 use Rattle.cell_graph.proofs.Bridge.{own, hulls, hull_sound, inside_has, placed_of, reference_at, step_of}
 use Rattle.cell_context.specs.Arrays.{IsCloseArray}
 use Rattle.cell_context.proofs.Collecting.{close_array}
@@ -29,6 +30,7 @@ use Rattle.cell_context.proofs.Reaching.{element_within}
 use Rattle.rule_text.specs.Rules.{Rules}
 use Rattle.rule_text.specs.Sound as rules
 use Rattle.rule_layers.specs.Formulas.{formulas, zone_margin}
+use Rattle.rule_layers.proofs.Reaching.{gate_reaches, near as names_near}
 use Rattle.rule_layers.proofs.Unsized.{still}
 use Rattle.rule_layers.specs.Meaning.{device_rules, wiring_of}
 use Rattle.deep_tables.specs.declared.zones.CellZones.{CellZones}
@@ -65,22 +67,32 @@ around_grown o a q h near = within_grown 1 o q a h (within_back 1 a q near)
 pub reach_grown : (d : Linked) (keys : List LayerKey) (n cell : ℕ) (q : Square) → IsSound d → IsInReach (plain d) keys n cell q → IsInGrown n (hull_of (cell_at d cell)) q
 reach_grown d keys n cell q sound h = within_grown n (hull_of (cell_at d cell)) q h.square (hulls d sound cell h.key h.square h.flat) (within_back n h.square q h.within)
 
+-- a flat square of a name lies in the hull, grown by the name's reach
+pub flat_grown : (d : Linked) (x : Formula) (cell : ℕ) (q : Square) → IsSound d → InFlat (plain d) cell x q → IsInGrown (reach x) (hull_of (cell_at d cell)) q
+flat_grown d x cell q sound h =
+    let u = near_input (plain d) cell x q h in
+    within_grown (reach x) (hull_of (cell_at d cell)) q u.2 (hulls d sound cell u.0 u.2 u.4) (within_back (reach x) u.2 q u.3)
+
+-- no device rule reaches further than 10,000
+pub reach_most : (r : Rules) (device n : ℕ) (u : Rule) → rules.IsSound r → slice_get (device_rules r) device ≡ Some u → gate_reach (wiring_of r) u ≡ n → n ≤ 10000
+reach_most r device n u ruled at is = let most = gate_reaches r device u at in let limit = names_near r ruled in omega (arith, most, limit, is)
+
 -- near a square there is a seed where it is one, by a geometry that reaches no further
 pub near_seed : (P : Square → Type 0) (d : flat.Design) (g : Geometry) (cell : ℕ) (q : Square) → g.reach ≡ 0 → ((s : Square) → IsSeed d g cell s → P s) → IsNearSeed d g cell q → P q
 near_seed P d g cell q none all h = subst P (within_none h.square q (subst (λ n. AreWithin n h.square q) none h.within)) (all h.square h.seed)
 
 -- the entry of a reached cell
-pub record IsOpenZone (d : Linked) (keys : List LayerKey) (z : List (Option CellZones)) (cell device : ℕ) : Type 0 where
+pub record IsOpenZone (margin : ℕ) (d : Linked) (keys : List LayerKey) (z : List (Option CellZones)) (cell device : ℕ) : Type 0 where
   pub zone : List Rect
   pub is : AreOpen z cell device zone
-  pub framed : IsFramedZone 1 d keys cell zone
+  pub framed : IsFramedZone margin d keys cell zone
 
-pub open_at : (d : Linked) (r : Rules) (z : List (Option CellZones)) (cell device : ℕ) (u : Rule) → IsSound d → rules.IsSound r → AreZones (plain d) r z → IsReached (plain d) cell → slice_get (device_rules r) device ≡ Some u
-    → IsOpenZone d (gate_inputs (wiring_of r) u) z cell device
-open_at d r z cell device u sound ruled right reached at =
+pub open_at : (d : Linked) (r : Rules) (z : List (Option CellZones)) (cell device : ℕ) (u : Rule) → IsSound d → AreZones (plain d) r z → IsReached (plain d) cell → slice_get (device_rules r) device ≡ Some u
+    → IsOpenZone (zone_margin r.names) d (gate_inputs (wiring_of r) u) z cell device
+open_at d r z cell device u sound right reached at =
     let h = device_zone_at (plain d) r z cell device u right reached at in
     let frame = (framed d (gate_inputs (wiring_of r) u) (zone_margin r.names) cell h.0 (sound.hulls.each cell) h.2.canonical).0 h.2 in
-    record { zone = h.0; is = h.1; framed = subst (λ n. IsFramedZone n d (gate_inputs (wiring_of r) u) cell h.0) (still r ruled).margin frame }
+    record { zone = h.0; is = h.1; framed = frame }
 
 pub reached_step : (d : Linked) (cell i row column : ℕ) (p : Place) → IsReached (plain d) cell → IsStep d cell i row column p → IsReached (plain d) p.cell
 reached_step d cell i row column p reached step = reached_below (plain d) cell _ (place_at (reference p) row column) reached (placed_of d cell i row column p step)
@@ -132,10 +144,10 @@ module _ (d : Linked) (r : Rules) (z : List (Option CellZones)) (cell device : �
       let reach : IsInReach (plain d) K ((N + 1) + N) t.from.cell h.square = subst (λ (y : flat.Place). IsInReach (plain d) K ((N + 1) + N) y.cell h.square) t.is h.reach in
       let disturbed : IsDisturbed (plain d) K t.from.cell h.square = subst (λ (y : flat.Place). IsDisturbed (plain d) K y.cell h.square) t.is h.disturbed in
       let image : moved_square (motion_at t.from t.row t.column) h.square ≡ q = ap (λ (y : flat.Place). moved_square y.motion h.square) (sym t.is) ∙ h.image in
-      let e = open_at d r z t.from.cell device u sound ruled right (reached_step d cell t.index t.row t.column t.from reached t.step) at in
+      let e = open_at d r z t.from.cell device u sound right (reached_step d cell t.index t.row t.column t.from reached t.step) at in
       let wide = reach_grown d K ((N + 1) + N) t.from.cell h.square sound reach in
       let inside : IsInGrown 1 (hull_of (cell_at d t.from.cell)) h.square = subst (λ n. IsInGrown ((n + 1) + n) (hull_of (cell_at d t.from.cell)) h.square) none wide in
-      let there = brings t.index t.from t.step.there e.zone t.row t.column h.square e.is t.step.row_in t.step.column_in inside ((e.framed h.square).1 (disturbed, inside))
+      let there = brings t.index t.from t.step.there e.zone t.row t.column h.square e.is t.step.row_in t.step.column_in inside ((e.framed h.square).1 (disturbed, wider_grown 1 (zone_margin r.names) (hull_of (cell_at d t.from.cell)) h.square (omega arith) inside))
       (moved_in (hull_of (cell_at d t.from.cell)) t.from t.row t.column h.square plane (hull_sound d t.from.cell sound) all (close_array d cell t.index t.from sound t.step.there) t.step.row_in t.step.column_in inside) in
       grows q (subst (λ x. covers old x ≡ true) image there)
 
@@ -144,8 +156,8 @@ module _ (d : Linked) (r : Rules) (z : List (Option CellZones)) (cell device : �
   seed_there q (inr h) = placed_there q h
 
 -- all placed cells have entries
-pub open_below : (d : Linked) (r : Rules) (z : List (Option CellZones)) (cell device : ℕ) (u : Rule) → IsSound d → rules.IsSound r → AreZones (plain d) r z → IsReached (plain d) cell → slice_get (device_rules r) device ≡ Some u → HasOpenBelow d z cell device
-open_below d r z cell device u sound ruled right reached at i p there =
+pub open_below : (d : Linked) (r : Rules) (z : List (Option CellZones)) (cell device : ℕ) (u : Rule) → IsSound d → AreZones (plain d) r z → IsReached (plain d) cell → slice_get (device_rules r) device ≡ Some u → HasOpenBelow d z cell device
+open_below d r z cell device u sound right reached at i p there =
     let ref = (reference_at d cell i p sound there).2 in
-    let e = open_at d r z p.cell device u sound ruled right (reached_step d cell i 0 0 p reached (record { there = there; row_in = ref.rows; column_in = ref.columns })) at in
+    let e = open_at d r z p.cell device u sound right (reached_step d cell i 0 0 p reached (record { there = there; row_in = ref.rows; column_in = ref.columns })) at in
     (e.zone, e.is)

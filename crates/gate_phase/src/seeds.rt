@@ -119,7 +119,7 @@ fn push_reference(
     match design.hull(place.cell) {
         Some(hull) => {
             let zone = zones.disturbed(place.cell, ZoneKey::Device(device));
-            push_part(alloc, out, place, &grown_hull(&hull), zone, plane)
+            push_part(alloc, out, place, &grown_hull(&hull, 1), zone, plane)
         }
         None => Ok(()),
     }

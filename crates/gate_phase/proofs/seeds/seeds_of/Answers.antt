@@ -12,7 +12,7 @@ pub push_references-requires-clause-entries : goal.push_references-requires-clau
 push_references-requires-clause-entries c =
     let r = rules_seen c.args.rules.now in
     let u = rule_at r c.args.number c.args.device.now c.requires.device in
-    open_below c.args.design.now r c.args.zones.now c.args.cell c.args.number u.rule c.sound.ensures c.requires.rules c.requires.zones c.requires.reached u.there
+    open_below c.args.design.now r c.args.zones.now c.args.cell c.args.number u.rule c.sound.ensures c.requires.zones c.requires.reached u.there
 
 pub returns-clause-near : goal.returns-clause-near
 returns-clause-near c = near_set c.plane-plane.result c.push_all_own.new.out.items c.in_ok-set.set c.plane-plane.ensures.near c.in_ok-push_all_own.ensures.pieces c.in_ok-set.ensures
