@@ -15,6 +15,7 @@ pub mod Locals
 pub mod Marking
 pub mod Owning
 pub mod Results
+pub mod Reaching
 pub mod RowsOf
 pub mod Netting
 pub mod RuleLists

@@ -185,7 +185,9 @@ pub fn own_gates(
 {
     design.sound();
     let mut gates = Vec::new(alloc);
-    let parts = parts_of(alloc, design, rules, zones, layers, cell, number, device)?;
+    let parts = parts_of(
+        alloc, design, rules, zones, layers, cell, number, device, reach,
+    )?;
     for part in parts {
         push_part(
             alloc, &mut gates, design, rules, zones, layers, cell, number, device, part, reach,

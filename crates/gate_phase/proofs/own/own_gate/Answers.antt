@@ -1,41 +1,36 @@
-use Rattle.std.proofs.Common.{ℕ, ◌<◌, ◌≤◌, length, refl, subst}
+use Rattle.std.proofs.Common.{refl, subst}
 use Rattle.geo_base.specs.declared.shapes.Square.{Square}
 use Rattle.rect_sets.specs.Rects.{IsCanonical}
 use Rattle.cell_graph.specs.Linked.{plain}
 use Rattle.rule_text.specs.Seen.{rules_seen}
-use Rattle.rule_text.specs.Sound.{IsSound}
-use Rattle.rule_text.specs.declared.rules.RuleSet.{RuleSet}
-use Rattle.rule_layers.specs.Meaning.{device_rules}
 use Rattle.gate_shapes.specs.Sets.{in_set}
-use Rattle.gate_phase.specs.Own.{IsRuleReach, unit_window}
+use Rattle.gate_phase.specs.Own.{unit_window}
 use Rattle.gate_phase.proofs.Holding.{close_near, close_windows, held_near, part_windows, unit_has, unit_near}
 use Rattle.gate_phase.proofs.Locals.{reached_cell}
 use Rattle.gate_phase.proofs.Numbering.{device_is, known_device, some_rule}
-use Rattle.gate_phase.proofs.Seeding.{open_at, open_below, reach_most}
+use Rattle.gate_phase.proofs.Reaching.{rule_most}
+use Rattle.gate_phase.proofs.Seeding.{open_at, open_below}
 use Rattle.gate_phase.proofs.Telling.{below_told, kept_flat, settled_told}
 use Rattle.gate_phase.proofs.own.own_gate.Goals as goal
 
-own_most : (r : RuleSet) (number n : ℕ) → IsSound (rules_seen r) → number < length (device_rules (rules_seen r)) → IsRuleReach (rules_seen r) number n → n ≤ 10000
-own_most r number n ruled lt is = let u = some_rule (rules_seen r) number lt in reach_most (rules_seen r) number n u.0 ruled u.1 (is u.0 u.1)
-
 pub close_to-requires : goal.close_to-requires
-close_to-requires c = held_near c.args.reach c.args.design.now c.args.cell c.args.part (own_most c.args.rules.now c.args.number c.args.reach c.requires.ready.rules c.requires.ready.known c.requires.reach) c.sound.ensures c.requires.held
+close_to-requires c = held_near c.args.reach c.args.design.now c.args.cell c.args.part (rule_most (rules_seen c.args.rules.now) c.args.number c.args.reach c.requires.ready.rules c.requires.ready.known c.requires.reach) c.sound.ensures c.requires.held
 
 pub is_own-requires-clause-cell : goal.is_own-requires-clause-cell
 is_own-requires-clause-cell c = reached_cell c.args.design.now c.args.cell c.sound.ensures c.requires.ready.reached
 
 pub is_own-requires-clause-near : goal.is_own-requires-clause-near
-is_own-requires-clause-near c = close_near c.args.reach c.args.design.now c.args.cell c.args.part c.in_ok-close.close (own_most c.args.rules.now c.args.number c.args.reach c.requires.ready.rules c.requires.ready.known c.requires.reach) c.sound.ensures c.requires.held c.in_ok-close.ensures
+is_own-requires-clause-near c = close_near c.args.reach c.args.design.now c.args.cell c.args.part c.in_ok-close.close (rule_most (rules_seen c.args.rules.now) c.args.number c.args.reach c.requires.ready.rules c.requires.ready.known c.requires.reach) c.sound.ensures c.requires.held c.in_ok-close.ensures
 
 pub is_own-requires-clause-reach : goal.is_own-requires-clause-reach
-is_own-requires-clause-reach c = own_most c.args.rules.now c.args.number c.args.reach c.requires.ready.rules c.requires.ready.known c.requires.reach
+is_own-requires-clause-reach c = rule_most (rules_seen c.args.rules.now) c.args.number c.args.reach c.requires.ready.rules c.requires.ready.known c.requires.reach
 
 pub is_own-requires-clause-windows : goal.is_own-requires-clause-windows
 is_own-requires-clause-windows c =
-    close_windows c.args.reach c.args.design.now c.args.cell c.args.part c.in_ok-close.close (own_most c.args.rules.now c.args.number c.args.reach c.requires.ready.rules c.requires.ready.known c.requires.reach) c.sound.ensures c.requires.held c.in_ok-close.ensures (subst IsCanonical c.close.view_is c.close.invariant)
+    close_windows c.args.reach c.args.design.now c.args.cell c.args.part c.in_ok-close.close (rule_most (rules_seen c.args.rules.now) c.args.number c.args.reach c.requires.ready.rules c.requires.ready.known c.requires.reach) c.sound.ensures c.requires.held c.in_ok-close.ensures (subst IsCanonical c.close.view_is c.close.invariant)
 
 pub is_own-requires-clause-least : goal.is_own-requires-clause-least
-is_own-requires-clause-least c = unit_near c.args.reach c.args.design.now c.args.cell c.args.part c.args.least (own_most c.args.rules.now c.args.number c.args.reach c.requires.ready.rules c.requires.ready.known c.requires.reach) c.sound.ensures c.requires.held c.requires.least.has
+is_own-requires-clause-least c = unit_near c.args.reach c.args.design.now c.args.cell c.args.part c.args.least (rule_most (rules_seen c.args.rules.now) c.args.number c.args.reach c.requires.ready.rules c.requires.ready.known c.requires.reach) c.sound.ensures c.requires.held c.requires.least.has
 
 pub is_own-requires-clause-zone : goal.is_own-requires-clause-zone
 is_own-requires-clause-zone c =
@@ -66,13 +61,13 @@ pub shape_in-requires-clause-some : goal.shape_in-requires-clause-some
 shape_in-requires-clause-some c = (c.args.least, c.requires.least.has)
 
 pub shape_in-requires-clause-part : goal.shape_in-requires-clause-part
-shape_in-requires-clause-part c = part_windows c.args.reach c.args.design.now c.args.cell c.args.part (own_most c.args.rules.now c.args.number c.args.reach c.requires.ready.rules c.requires.ready.known c.requires.reach) c.sound.ensures c.requires.held (subst IsCanonical c.part.view_is c.part.invariant)
+shape_in-requires-clause-part c = part_windows c.args.reach c.args.design.now c.args.cell c.args.part (rule_most (rules_seen c.args.rules.now) c.args.number c.args.reach c.requires.ready.rules c.requires.ready.known c.requires.reach) c.sound.ensures c.requires.held (subst IsCanonical c.part.view_is c.part.invariant)
 
 pub shape_in-requires-clause-near : goal.shape_in-requires-clause-near
-shape_in-requires-clause-near c = held_near c.args.reach c.args.design.now c.args.cell c.args.part (own_most c.args.rules.now c.args.number c.args.reach c.requires.ready.rules c.requires.ready.known c.requires.reach) c.sound.ensures c.requires.held
+shape_in-requires-clause-near c = held_near c.args.reach c.args.design.now c.args.cell c.args.part (rule_most (rules_seen c.args.rules.now) c.args.number c.args.reach c.requires.ready.rules c.requires.ready.known c.requires.reach) c.sound.ensures c.requires.held
 
 pub shape_in-requires-clause-windows : goal.shape_in-requires-clause-windows
-shape_in-requires-clause-windows c = close_windows c.args.reach c.args.design.now c.args.cell c.args.part c.in_ok-close.close (own_most c.args.rules.now c.args.number c.args.reach c.requires.ready.rules c.requires.ready.known c.requires.reach) c.sound.ensures c.requires.held c.in_ok-close.ensures (subst IsCanonical c.close.view_is c.close.invariant)
+shape_in-requires-clause-windows c = close_windows c.args.reach c.args.design.now c.args.cell c.args.part c.in_ok-close.close (rule_most (rules_seen c.args.rules.now) c.args.number c.args.reach c.requires.ready.rules c.requires.ready.known c.requires.reach) c.sound.ensures c.requires.held c.in_ok-close.ensures (subst IsCanonical c.close.view_is c.close.invariant)
 
 pub returns : goal.returns
 returns c = λ u at is.
