@@ -45,7 +45,6 @@ pub record IsDeviceWork (a : Inside) : Type 0 where
   pub elements : AreAllElements a.design.now (element_lists a.elements.items)
   pub own : AreOwnLists a.design.now (rules_seen a.rules.now) (rect_lists a.own.items)
   pub indexes : AreIndexes a.design.now (rules_seen a.rules.now) (rect_lists a.own.items)
-      (element_lists a.elements.items)
-      a.indexes
+      (element_lists a.elements.items) a.indexes
   pub nets : AreRightNets (plain a.design.now) (wiring_of (rules_seen a.rules.now))
       (tables_seen (read_by a))

@@ -61,7 +61,7 @@ fn rule_gates<C: Cells>(
 {
     design.sound();
     let rule = device_at(rules, device);
-    let own = own_gates(alloc, design, rules, zones, layers, cell, device, &rule)?;
+    let own = own_gates(alloc, design, rules, zones, layers, cell, device, &rule, 0)?;
     judged_gates(alloc, cells, cell, device, &rule, grounds, globals, own)
 }
 

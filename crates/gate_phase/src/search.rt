@@ -16,7 +16,7 @@ ghost use Rattle.gate_shapes.specs.PartLists.{AreParts};
 ghost use Rattle.gate_phase.specs.Both.{AreCalmInBoth, ArePartsAround, IsReadyRegion};
 ghost use Rattle.gate_phase.specs.Both.{region_formula};
 ghost use Rattle.gate_phase.specs.Devices.{devices_of};
-ghost use Rattle.gate_phase.specs.Own.{IsReady};
+ghost use Rattle.gate_phase.specs.Own.{IsReady, IsRuleReach};
 ghost use Rattle.gate_phase.specs.Search.{AreSearched};
 
 use crate::both::{BothLayer, calm_in_both};
@@ -139,7 +139,9 @@ pub fn parts_of(
     cell: u32,
     number: u32,
     device: &Device,
+    reach: u32,
 ) -> Result<Vec<RectSet>, AllocError>
+    requires reach { IsRuleReach (rules_seen rules.now) number reach }
     requires ready { IsReady design.now (rules_seen rules.now) zones.now layers.now cell number }
     requires device { slice_get (devices_of (rules_seen rules.now)) number ≡ Some device.now }
     ensures { IfOk result (λ v. (u : Rule)
@@ -152,6 +154,6 @@ pub fn parts_of(
     if design.places(cell).is_empty() {
         return leaf_parts(alloc, design, rules, zones, layers, cell, region);
     }
-    let starts = seeds_of(alloc, design, rules, zones, cell, number, device)?;
+    let starts = seeds_of(alloc, design, rules, zones, cell, number, device, reach)?;
     region_parts(alloc, design, rules, zones, layers, cell, region, &starts)
 }

@@ -1,0 +1,25 @@
+//! The squares near a set.
+ghost use Rattle.std.specs.Prelude.{◌↔◌, ◌≤◌, ◌^◌, IfOk};
+ghost use Rattle.geo_base.specs.declared.shapes.Square.{Square};
+ghost use Rattle.rect_sets.specs.Near.{IsNearSet};
+ghost use Rattle.flat_layout.specs.Plane.{IsReachedBy};
+ghost use Rattle.sized_layers.specs.Sizes.{IsSetWithin};
+ghost use Rattle.gate_shapes.specs.Sets.{in_set};
+
+use rect_sets::RectSet;
+use sized_layers::size;
+use std::alloc::{AllocError, Global};
+
+/// The squares within so many of a set's. Within none it is the set itself, which costs nothing;
+/// else as `size` does.
+pub fn within_reach(alloc: Global, set: RectSet, reach: u32) -> Result<RectSet, AllocError>
+    requires reach { reach ≤ 10000 }
+    requires within { IsSetWithin (2 ^ 39) set }
+    ensures squares { IfOk result (λ r. (q : Square) → in_set r q ↔ IsReachedBy reach (in_set set) q) }
+    ensures near { IfOk result IsNearSet }
+{
+    if reach == 0 {
+        return Ok(set);
+    }
+    size(alloc, &set, i64::from(reach))
+}
