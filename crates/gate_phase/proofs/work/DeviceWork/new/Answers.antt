@@ -27,10 +27,6 @@ invariant_of-result c =
       grounds = c.in_ok-grounds.ensures;
       elements = c.in_ok-elements.ensures;
       own = c.in_ok-own.ensures;
-<<<<<<< HEAD
       indexes = same_indexes d r _ _ _ _ c.in_ok-indexes.indexes c.deref.ensures.value c.deref-2.ensures.value c.in_ok-indexes.ensures;
-=======
-      indexes = same_indexes d _ _ _ _ _ c.in_ok-indexes.indexes c.deref.ensures.value c.deref-2.ensures.value c.in_ok-indexes.ensures;
->>>>>>> 32b35fa8c4e317ae8bb3b7a7100124285c939659
       nets = right_known d r (rect_lists c.in_ok-own.own.items) c.args.nets.now (nets_of c.in_ok-known.known.items) c.in_ok-own.ensures c.requires.nets c.in_ok-known.ensures;
     }
