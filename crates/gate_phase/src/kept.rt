@@ -19,7 +19,8 @@ use std::alloc::{AllocError, Global};
 /// Rectangles of what a cell keeps of a name, among them all that share a square with the window.
 /// Rectangles aren't cut to the window: a long one costs as a short one. On a layer of a device
 /// rule indexes find them: what lies far from the window costs nothing. Cells whose hulls, grown by
-/// the name's reach, miss the window aren't walked, and of an array only the elements that reach into it.
+/// the name's reach, miss the window aren't walked, and of an array only the elements that reach
+/// into it.
 pub fn kept_rects(
     alloc: Global,
     design: &Design,
