@@ -1,4 +1,4 @@
-//! What a cell keeps of the squares in both of two names, as a layer that is asked window by window.
+//! What a cell keeps of the squares in both of two names, as a layer asked window by window.
 ghost use Rattle.std.specs.Prelude.{◌≡◌, ◌<◌, ◌≤◌, ◌^◌, length, IfOk};
 ghost use Rattle.flat_layout.specs.Layout.{IsReached};
 ghost use Rattle.cell_graph.specs.Linked.{plain};

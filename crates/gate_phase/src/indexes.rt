@@ -1,5 +1,6 @@
 //! What cells hold themselves, looked into by windows.
-ghost use Rattle.std.specs.Prelude.{◌≡◌, ◌<◌, ◌^◌, ℕ, List, Some, get_or, length, max, IfOk, IfSome, IsSome};
+ghost use Rattle.std.specs.Prelude.{◌≡◌, ◌<◌, ◌^◌, ℕ, List, Some, get_or, length, max, IfOk, IfSome};
+ghost use Rattle.std.specs.Prelude.{IsSome};
 ghost use Rattle.geo_base.specs.declared.shapes.Rect.{Rect};
 ghost use Rattle.cell_graph.specs.Linked.{plain};
 ghost use Rattle.flat_layout.specs.Layout.{IsReached};

@@ -18,7 +18,8 @@ use std::alloc::{AllocError, Global};
 pub fn within_reach(alloc: Global, set: RectSet, reach: u32) -> Result<RectSet, AllocError>
     requires reach { reach ≤ 10000 }
     requires within { IsSetWithin (2 ^ 39) set }
-    ensures squares { IfOk result (λ r. (q : Square) → in_set r q ↔ IsReachedBy reach (in_set set) q) }
+    ensures squares { IfOk result (λ r. (q : Square) → in_set r q
+        ↔ IsReachedBy reach (in_set set) q) }
     ensures near { IfOk result IsNearSet }
 {
     if reach == 0 {
