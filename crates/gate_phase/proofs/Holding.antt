@@ -14,20 +14,16 @@ use Rattle.cell_graph.proofs.Bridge.{has_in, hull_sound, in_has}
 use Rattle.cell_graph.proofs.Growing.{grown_frame, near_square, within_grown}
 use Rattle.flat_layout.specs.Plane.{AreWithin}
 use Rattle.flat_laws.proofs.Moves.{farther, within_back}
-use Rattle.cell_context.proofs.Visiting.{inside_from, within_inside, wider_rect}
+use Rattle.cell_context.proofs.Visiting.{wider_rect}
 use Rattle.deep_tables.specs.Frames.{IsInGrown, grown}
 use Rattle.gate_shapes.specs.Sets.{in_set}
 use Rattle.gate_phase.specs.Own.{IsHeldPart, IsUnitNear, unit_window}
 use Rattle.gate_phase.proofs.Bringing.{near_corners}
-use Rattle.gate_phase.proofs.Keeping.{listed_has, low_in, low_square}
+use Rattle.gate_phase.proofs.Keeping.{frame_rect, listed_has}
 
-frame_corners : (n : ℕ) (o : Option Rect) (q : Square) → n ≤ 20001 → HullIsSound o → IsInGrown n o q → HasNearCorners q
+pub frame_corners : (n : ℕ) (o : Option Rect) (q : Square) → n ≤ 20001 → HullIsSound o → IsInGrown n o q → HasNearCorners q
 frame_corners n None q most sound h = absurd h
 frame_corners n (Some w) q most sound h = near_corners (grown n w) q (wider_rect (2 ^ 37) (2 ^ 39) (grown n w) (omega arith) (grown_frame n w most sound).near) h
-
-frame_rect : (n : ℕ) (o : Option Rect) (r : Rect) → n ≤ 20001 → HullIsSound o → IsRect r → ((q : Square) → has r q ≡ true → IsInGrown n o q) → IsRectWithin (2 ^ 39) r
-frame_rect n None r most sound some h = absurd (h (low_square r) (low_in r some))
-frame_rect n (Some w) r most sound some h = within_inside (2 ^ 39) r (grown n w) some (inside_from r (grown n w) some h) (wider_rect (2 ^ 37) (2 ^ 39) (grown n w) (omega arith) (grown_frame n w most sound).near)
 
 -- a held part is near
 pub held_near : (n : ℕ) (d : Linked) (cell : ℕ) (part : List Rect) → n ≤ 10000 → IsSound d → IsHeldPart n d cell part → IsNearSet part
@@ -56,14 +52,7 @@ close_windows n d cell part close most sound held is good = frame_windows (n + 1
 pub part_windows : (n : ℕ) (d : Linked) (cell : ℕ) (part : List Rect) → n ≤ 10000 → IsSound d → IsHeldPart n d cell part → IsCanonical part → All (IsRectWithin (2 ^ 39)) part
 part_windows n d cell part most sound held good = frame_windows n (hull_of (cell_at d cell)) part (omega arith) (hull_sound d cell sound) held good
 
-pub hull_unit : (o : Option Rect) (q : Square) → HullIsSound o → HullHas o q → IsUnitNear q
-hull_unit None q sound h = absurd h
-hull_unit (Some w) q sound h =
-    let i = has_in w q h in let i0 = i.0 in let i1 = i.1 in let i2 = i.2 in let i3 = i.3 in
-    let a = sound.near.x1.low in let b = sound.near.x2.high in let e = sound.near.y1.low in let f = sound.near.y2.high in
-    record { x = record { low = omega (arith, ints); high = omega (arith, ints) }; y = record { low = omega (arith, ints); high = omega (arith, ints) } }
-
-grown_unit : (n : ℕ) (o : Option Rect) (q : Square) → n ≤ 20001 → HullIsSound o → IsInGrown n o q → IsUnitNear q
+pub grown_unit : (n : ℕ) (o : Option Rect) (q : Square) → n ≤ 20001 → HullIsSound o → IsInGrown n o q → IsUnitNear q
 grown_unit n None q most sound h = absurd h
 grown_unit n (Some w) q most sound h =
     let i = has_in (grown n w) q h in let i0 = i.0 in let i1 = i.1 in let i2 = i.2 in let i3 = i.3 in

@@ -16,24 +16,23 @@ use Rattle.cell_graph.specs.Linked.{Linked, cell_at, hull_of, plain}
 use Rattle.rule_text.specs.Rules.{Rules}
 use Rattle.rule_text.specs.Sound.{IsSound}
 use Rattle.rule_layers.specs.Meaning.{device_rules, wiring_of}
-use Rattle.deep_tables.specs.Layers.{AreLayers}
 use Rattle.deep_tables.specs.Zones.{AreZones}
-use Rattle.deep_tables.specs.declared.layers.CellLayers.{CellLayers}
 use Rattle.deep_tables.specs.declared.zones.CellZones.{CellZones}
 use Rattle.gate_search.specs.SearchLaws.{IsTold}
 use Rattle.gate_shapes.specs.Sets.{in_set}
 use Rattle.gate_shapes.specs.Shapes.{IsShapeBy}
 use Rattle.gate_phase.specs.Below.{IsFreeElement}
 use Rattle.gate_phase.specs.Close.{MissesOpen}
+use Rattle.gate_phase.specs.Indexes.{AreLayersOf, LayersOf}
 use Rattle.gate_phase.specs.declared.own.OwnGate.{OwnGate}
 
 -- a reached cell and a device rule, with right tables
 pub record IsReady (d : Linked) (r : Rules) (z : List (Option CellZones))
-    (l : List (Option CellLayers)) (cell device : ℕ) : Type 0 where
+    (l : LayersOf) (cell device : ℕ) : Type 0 where
   pub rules : IsSound r
   pub known : device < length (device_rules r)
   pub zones : AreZones (plain d) r z
-  pub layers : AreLayers (plain d) r l
+  pub layers : AreLayersOf (plain d) r l
   pub reached : IsReached (plain d) cell
 
 -- a square that is near enough for a window

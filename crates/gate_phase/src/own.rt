@@ -1,5 +1,6 @@
 //! The regions of a cell's own for a device rule.
-ghost use Rattle.std.specs.Prelude.{◌≡◌, ◌<◌, ◌≤◌, ◌^◌, ◌++◌, true, length, slice_get, Some, IfOk, OnOk};
+ghost use Rattle.std.specs.Prelude.{◌≡◌, ◌<◌, ◌≤◌, ◌^◌, ◌++◌, true, length, slice_get, Some, IfOk};
+ghost use Rattle.std.specs.Prelude.{OnOk};
 ghost use Rattle.std.specs.List.{All};
 ghost use Rattle.geo_base.specs.Rects.{has};
 ghost use Rattle.rect_sets.specs.Near.{IsNearSet};
@@ -163,8 +164,8 @@ fn push_part(
 }
 
 /// The gates of a cell's own for a device rule, in order of their least squares, each with its
-/// shape. The rule reaches so far. What placed cells hold themselves isn't looked at but where something of this cell, or
-/// something that disturbs a placed cell, lies beside it.
+/// shape. The rule reaches so far. What placed cells hold themselves isn't looked at but where
+/// something of this cell, or something that disturbs a placed cell, lies beside it.
 pub fn own_gates(
     alloc: Global,
     design: &Design,

@@ -96,8 +96,8 @@ fn push_part(
     push_array(alloc, out, place, below, part.rects(), plane)
 }
 
-// Adds what is disturbed for a device rule in the cell of a reference, in its hull grown by so much,
-// by all its elements.
+// Adds what is disturbed for a device rule in the cell of a reference, in its hull grown so far, by
+// all its elements.
 fn push_reference(
     alloc: Global,
     out: &mut Vec<Rect>,
@@ -209,9 +209,10 @@ fn push_all_own(
 }
 
 /// Squares of a cell around which all its own gates for a device rule lie: each gate that isn't a
-/// placed cell's touches one of them. They are all squares within the rule's reach of its seeds. A cell costs its own rectangles on the layers that the rule
-/// reads and, for each reference, what is disturbed in the placed cell, once for each element; a
-/// reference to a cell in which nothing is disturbed costs one look.
+/// placed cell's touches one of them. They are all squares within the rule's reach of its seeds. A
+/// cell costs its own rectangles on the layers that the rule reads and, for each reference, what is
+/// disturbed in the placed cell, once for each element; a reference to a cell in which nothing is
+/// disturbed costs one look.
 pub fn seeds_of(
     alloc: Global,
     design: &Design,

@@ -22,7 +22,7 @@ pub leaf_parts-requires-clause-leaf : goal.leaf_parts-requires-clause-leaf
 leaf_parts-requires-clause-leaf c = sym c.places.ensures ∙ nothing_left c.places.result.now (eqb-true (length c.places.result.now) 0 (sym c.is_empty.ensures ∙ c.if-is_empty.true))
 
 pub leaf_parts-requires-clause-region : goal.leaf_parts-requires-clause-region
-leaf_parts-requires-clause-region c = ready_region c.args.design.now c.args.rules.now c.args.zones.now c.args.cell c.args.device.now.region c.sound.ensures c.requires.ready.rules c.requires.ready.zones c.requires.ready.reached (known_device (rules_seen c.args.rules.now) c.args.number c.args.device.now c.requires.ready.rules c.requires.device).region
+leaf_parts-requires-clause-region c = ready_region c.args.design.now c.args.rules.now c.args.zones.now c.args.cell c.args.device.now.region c.sound.ensures c.requires.ready.zones c.requires.ready.reached (known_device (rules_seen c.args.rules.now) c.args.number c.args.device.now c.requires.ready.rules c.requires.device).region
 
 pub returns-then-is_empty : goal.returns-then-is_empty
 returns-then-is_empty c =
@@ -50,7 +50,7 @@ pub seeds_of-requires-clause-cell : goal.seeds_of-requires-clause-cell
 seeds_of-requires-clause-cell c = reached_cell c.args.design.now c.args.cell c.sound.ensures c.requires.ready.reached
 
 pub region_parts-requires-clause-region : goal.region_parts-requires-clause-region
-region_parts-requires-clause-region c = ready_region c.args.design.now c.args.rules.now c.args.zones.now c.args.cell c.args.device.now.region c.sound.ensures c.requires.ready.rules c.requires.ready.zones c.requires.ready.reached (known_device (rules_seen c.args.rules.now) c.args.number c.args.device.now c.requires.ready.rules c.requires.device).region
+region_parts-requires-clause-region c = ready_region c.args.design.now c.args.rules.now c.args.zones.now c.args.cell c.args.device.now.region c.sound.ensures c.requires.ready.zones c.requires.ready.reached (known_device (rules_seen c.args.rules.now) c.args.number c.args.device.now c.requires.ready.rules c.requires.device).region
 
 pub returns : goal.returns
 returns c =

@@ -21,7 +21,7 @@ invariant_of-result c =
       sound = c.requires.rules;
       few = c.in_ok-device_count.ensures.few;
       zones = c.requires.zones;
-      layers = subst (AreLayers (plain d) r) (sym c.in_ok-indexed.ensures) c.requires.layers;
+      layers = record { table = subst (AreLayers (plain d) r) (sym c.in_ok-indexed.ensures.table) c.requires.layers; reaches = c.in_ok-indexed.ensures.reaches };
       conductors = c.in_ok-wires.ensures.conductors;
       globals = c.in_ok-wires.ensures.globals;
       grounds = c.in_ok-grounds.ensures;
