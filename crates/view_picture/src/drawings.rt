@@ -1,14 +1,17 @@
 //! What is drawn of the circuits of a layout's netlist.
 
-ghost use Rattle.std.specs.Prelude.{◌≡◌, ◌++◌, ◌∷◌, [], IfOk, IfSome, OnOk, Some, map, slice_get};
+ghost use Rattle.std.specs.Prelude.{◌≡◌, ◌++◌, ◌∷◌, [], IfOk, IfSome, IsErrOf, OnOk, Some};
+ghost use Rattle.std.specs.Prelude.{map, slice_get, true};
 ghost use Rattle.deep_tables.specs.Circuits.{value_of};
 ghost use Rattle.net_model.specs.Rows.{plain_circuit};
 ghost use Rattle.spice_text.specs.Needs.{first_seen};
+ghost use Rattle.view_drawing.specs.Calls.{has_circuit};
 ghost use Rattle.view_drawing.specs.Devices.{AddsRegions, AreSmallRegions, areas_of};
 ghost use Rattle.view_drawing.specs.Drawn.{listed_tables};
 ghost use Rattle.view_file.specs.Layout.{IsSmallPicture};
 ghost use Rattle.view_netlist.specs.Drawing.{IsSmallDrawing, plain_drawing};
 ghost use Rattle.view_shapes.specs.Shown.{called_by};
+ghost use Rattle.view_picture.specs.Far.{HasFarCell};
 ghost use Rattle.view_picture.specs.Picture.{AreAllDrawn, AreAllSmall, IsDrawable, IsDrawnAs};
 ghost use Rattle.view_picture.specs.Picture.{IsDrawnIn, IsPicture, IsReachedIn};
 ghost use Rattle.view_picture.specs.Picture.{plain_drawings, shown_areas};
@@ -48,6 +51,7 @@ fn draw_found(
 ) -> Result<Drawing, ShowFault>
     requires given { IsDrawable given }
     requires reached { IsReachedIn given cell }
+    requires circuit { has_circuit given.source.circuits.now cell ≡ true }
     ensures added { OnOk result (AddsRegions (areas_of regions.old.regions.items)
         (areas_of regions.new.regions.items)) }
     ensures drawn { IfOk result (λ v. IsDrawnAs given.entry.source (listed_tables given.entry.lists.now)
@@ -56,6 +60,8 @@ fn draw_found(
     ensures small { IfOk result (λ v. IsSmallDrawing (plain_drawing v)) }
     ensures small_regions { OnOk result (AreSmallRegions (areas_of regions.old.regions.items)
         → AreSmallRegions (areas_of regions.new.regions.items)) }
+    ensures far { IsErrOf result ShowFault.TooFar → HasFarCell given.entry.source
+        (listed_tables given.entry.lists.now) (called_by given.entry.lists.now.called.items) }
 {
     if !same_rows(shown, left, found) {
         return Ok(Drawing::blank(alloc));
@@ -91,6 +97,8 @@ fn draw_in(
     ensures small { IfOk result (λ v. IsSmallDrawing (plain_drawing v)) }
     ensures small_regions { OnOk result (AreSmallRegions (areas_of regions.old.regions.items)
         → AreSmallRegions (areas_of regions.new.regions.items)) }
+    ensures far { IsErrOf result ShowFault.TooFar → HasFarCell given.entry.source
+        (listed_tables given.entry.lists.now) (called_by given.entry.lists.now.called.items) }
 {
     let Some(cell) = cell else {
         return Ok(Drawing::blank(alloc));
@@ -130,6 +138,8 @@ pub fn draw_all(
     ensures small { IfOk result (λ v. AreAllSmall v.items) }
     ensures small_regions { OnOk result (AreSmallRegions (areas_of regions.old.regions.items)
         → AreSmallRegions (areas_of regions.new.regions.items)) }
+    ensures far { IsErrOf result ShowFault.TooFar → HasFarCell given.entry.source
+        (listed_tables given.entry.lists.now) (called_by given.entry.lists.now.called.items) }
 {
     let mut out = Vec::new(alloc);
     let mut rest = lefts;
