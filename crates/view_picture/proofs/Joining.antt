@@ -11,14 +11,14 @@ use Rattle.view_drawing.specs.Devices.{AddsRegions, Area, AreSmallRegions}
 use Rattle.view_joined.proofs.Growing.{still_moved}
 use Rattle.view_joined.specs.Devices.{AreJoinedDevices}
 use Rattle.view_joined.specs.Joined.{IsJoinedDrawing}
-use Rattle.view_netlist.specs.Drawing.{Drawn}
+use Rattle.view_netlist.specs.Drawing.{AreAllSmall, Drawn}
 use Rattle.view_netlist.specs.declared.drawing.DevicePlace.{DevicePlace}
 use Rattle.view_netlist.specs.declared.drawing.Drawing.{Drawing}
 use Rattle.view_joined.proofs.Small.{longer, stood_before}
 use Rattle.view_joined.specs.Devices.{HaveRegions, IsFarDevice, IsFarMoved}
 use Rattle.view_joined.specs.Far.{Call, Device, JoinsFar, Net, Spot}
 use Rattle.view_picture.specs.Far.{HasFarJoined}
-use Rattle.view_picture.specs.Picture.{AreAllJoined, AreAllSmall, IsJoinedIn, IsJoinedOf, plain_drawings}
+use Rattle.view_picture.specs.Picture.{AreAllJoined, IsJoinedIn, IsJoinedOf, plain_drawings}
 
 still_devices : (spots : List PlainSpot) (ds : List Drawing) (ms : List Motion) (a b : List Area) (parts : List Part) (qs : List DevicePlace) → AddsRegions a b → AreJoinedDevices spots ds ms a parts qs → AreJoinedDevices spots ds ms b parts qs
 still_devices spots ds ms a b [] [] adds h = h

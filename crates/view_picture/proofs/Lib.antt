@@ -1,3 +1,3 @@
 pub mod Picturing
 pub mod Joining
-mod Listed
+pub mod Listed

@@ -8,34 +8,29 @@ ghost use Rattle.spice_text.specs.Needs.{first_seen};
 ghost use Rattle.view_drawing.specs.Calls.{has_circuit};
 ghost use Rattle.view_drawing.specs.Devices.{AddsRegions, AreSmallRegions, areas_of};
 ghost use Rattle.view_drawing.specs.Drawn.{listed_tables};
-ghost use Rattle.view_file.specs.Layout.{IsSmallPicture};
-ghost use Rattle.view_netlist.specs.Drawing.{IsSmallDrawing, plain_drawing};
+ghost use Rattle.view_netlist.specs.Drawing.{AreAllSmall, IsSmallDrawing, plain_drawing};
 ghost use Rattle.view_shapes.specs.Shown.{called_by};
 ghost use Rattle.view_picture.specs.Far.{HasFarCell};
-ghost use Rattle.view_picture.specs.Picture.{AreAllDrawn, AreAllSmall, IsDrawable, IsDrawnAs};
-ghost use Rattle.view_picture.specs.Picture.{IsDrawnIn, IsPicture, IsReachedIn};
-ghost use Rattle.view_picture.specs.Picture.{plain_drawings, shown_areas};
+ghost use Rattle.view_picture.specs.Picture.{AreAllDrawn, AreDrawn, IsDrawable};
+ghost use Rattle.view_picture.specs.Picture.{IsDrawnAs, IsDrawnIn, IsReachedIn, plain_drawings};
 
 use net_model::Circuit;
 use net_names::Name;
-use part_origins::Origins;
 use std::alloc::{AllocError, Global};
 use text_table::TextTable;
-use view_drawing::{DeviceRegions, Lists, Region as Found, Source, draw_cell, name_table};
-use view_labels::{same_devices, same_rows, shown_cell};
+use view_drawing::{DeviceRegions, Lists, Source, draw_cell, name_table};
+use view_labels::{same_devices, same_rows, shown_cell, shown_numbers};
 use view_netlist::Drawing;
 use view_shapes::ShowFault;
 
 /// What was found of a layout: its cells in lists, the cells with circuits, the names of their
-/// circuits, the netlist that was aligned, and where the parts of the aligned one are from.
+/// circuits.
 #[derive(Clone, Copy)]
 pub struct Given<'a, 'b> {
     pub source: Source<'a>,
     pub lists: &'b Lists<'a>,
     pub cells: &'b [u32],
     pub names: &'b [Name],
-    pub written: &'b [Circuit],
-    pub origins: &'b Origins,
 }
 
 // What is drawn of a circuit whose cell has this one: nothing, unless it has its rows; the devices'
@@ -120,8 +115,8 @@ pub fn keep(out: &mut Vec<Drawing>, drawing: Drawing) -> Result<(), AllocError>
     Ok(())
 }
 
-/// What is drawn of each of these circuits by its cell.
-pub fn draw_all(
+// What is drawn of each of these circuits by its cell.
+fn draw_all(
     alloc: Global,
     given: Given,
     table: &TextTable,
@@ -150,4 +145,36 @@ pub fn draw_all(
         rest = more;
     }
     Ok(out)
+}
+
+/// What is drawn of the circuits of a netlist, and the regions that their devices have.
+#[derive(Drop)]
+pub struct Sketch {
+    pub drawings: Vec<Drawing>,
+    pub regions: DeviceRegions,
+}
+
+/// What is drawn of the circuits of a layout's netlist by their cells, before it is aligned. After
+/// it the lists and tables of the cells aren't needed. `TooFar` where something reaches 2^30 or more
+/// from the origin. Cost: that of drawing each cell once.
+pub fn draw_written(
+    alloc: Global,
+    given: Given,
+    written: &[Circuit],
+) -> Result<Sketch, ShowFault>
+    requires given { IsDrawable given }
+    ensures drawn { IfOk result (AreDrawn given.entry.source (listed_tables given.entry.lists.now)
+        (called_by given.entry.lists.now.called.items) given.entry.cells.now given.entry.names.now
+        (map plain_circuit written.now)) }
+    ensures small { IfOk result (λ v. AreAllSmall v.drawings.items) }
+    ensures small_regions { IfOk result (λ v.
+        AreSmallRegions (areas_of v.regions.regions.items)) }
+    ensures far { IsErrOf result ShowFault.TooFar → HasFarCell given.entry.source
+        (listed_tables given.entry.lists.now) (called_by given.entry.lists.now.called.items) }
+{
+    let table = name_table(alloc, given.names)?;
+    let shown = shown_numbers(alloc, &table, written)?;
+    let mut regions = DeviceRegions::none(alloc);
+    let drawings = draw_all(alloc, given, &table, &shown, written, &mut regions)?;
+    Ok(Sketch { drawings, regions })
 }

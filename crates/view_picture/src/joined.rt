@@ -6,9 +6,9 @@ ghost use Rattle.part_origins.specs.Inside.{plain_inside};
 ghost use Rattle.part_origins.specs.Made.{plain_origins};
 ghost use Rattle.view_drawing.specs.Devices.{AddsRegions, AreSmallRegions, areas_of};
 ghost use Rattle.view_joined.specs.Devices.{HaveRegions};
-ghost use Rattle.view_netlist.specs.Drawing.{IsSmallDrawing, plain_drawing};
+ghost use Rattle.view_netlist.specs.Drawing.{AreAllSmall, IsSmallDrawing, plain_drawing};
 ghost use Rattle.view_picture.specs.Far.{HasFarJoined, IsFarJoined};
-ghost use Rattle.view_picture.specs.Picture.{AreAllJoined, AreAllSmall, IsJoinedIn};
+ghost use Rattle.view_picture.specs.Picture.{AreAllJoined, IsJoinedIn};
 ghost use Rattle.view_picture.specs.Picture.{plain_drawings};
 
 use crate::drawings::keep;
