@@ -17,7 +17,7 @@ use Rattle.view_netlist.specs.declared.drawing.Drawing.{Drawing}
 use Rattle.view_joined.proofs.Small.{longer, stood_before}
 use Rattle.view_joined.specs.Devices.{HaveRegions, IsFarDevice, IsFarMoved}
 use Rattle.view_joined.specs.Far.{Call, Device, JoinsFar, Net, Spot}
-use Rattle.view_picture.specs.Far.{HasFarJoined}
+use Rattle.view_picture.specs.Far.{HasFarJoined, IsFarOf}
 use Rattle.view_picture.specs.Picture.{AreAllJoined, IsJoinedIn, IsJoinedOf, plain_drawings}
 
 still_devices : (spots : List PlainSpot) (ds : List Drawing) (ms : List Motion) (a b : List Area) (parts : List Part) (qs : List DevicePlace) → AddsRegions a b → AreJoinedDevices spots ds ms a parts qs → AreJoinedDevices spots ds ms b parts qs
@@ -56,11 +56,15 @@ devices_before spots ds ms a b adds have (c ∷ cs) (inl h) =
     inl (h.0, h.1, (moved.0, stood_before a b h.0.region moved.0 adds (have _ _ h.0 h.1) moved.1, moved.2))
 devices_before spots ds ms a b adds have (c ∷ cs) (inr h) = inr (devices_before spots ds ms a b adds have cs h)
 
-pub far_before : (x : PlainInside) (o : PlainOrigins) (ds : List Drawing) (a b : List Area) → AddsRegions a b → HaveRegions a ds → JoinsFar x o ds b → JoinsFar x o ds a
+far_before : (x : PlainInside) (o : PlainOrigins) (ds : List Drawing) (a b : List Area) → AddsRegions a b → HaveRegions a ds → JoinsFar x o ds b → JoinsFar x o ds a
 far_before x o ds a b adds have (Spot h) = Spot h
 far_before x o ds a b adds have (Net ms moved q t is h) = Net ms moved q t is h
 far_before x o ds a b adds have (Call ms moved h) = Call ms moved h
 far_before x o ds a b adds have (Device ms moved h) = Device ms moved (devices_before x.spots ds ms a b adds have o.devices h)
+
+pub far_of_before : (x : Option PlainInside) (o : PlainOrigins) (ds : List Drawing) (a b : List Area) → AddsRegions a b → HaveRegions a ds → IsFarOf x ds b o → IsFarOf x ds a o
+far_of_before None o ds a b adds have h = h
+far_of_before (Some x) o ds a b adds have h = far_before x o ds a b adds have h
 
 module _ (xs : List PlainInside) (ds : List Drawing) where
   -- what is drawn of the circuits that are left stands behind what was drawn before

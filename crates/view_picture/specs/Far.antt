@@ -1,5 +1,5 @@
 -- What of a layout's circuits reaches 2^30 or more from the origin, so that they can't be drawn.
-use Rattle.std.specs.Prelude.{◌≡◌, ℕ, true, List, Some, slice_get}
+use Rattle.std.specs.Prelude.{◌≡◌, ℕ, true, List, Option, Some, None, slice_get}
 use Rattle.cell_graph.specs.Linked.{plain}
 use Rattle.flat_layout.specs.Layout.{IsReached, Some_of}
 use Rattle.flat_layout.specs.Nets.{Tables}
@@ -21,9 +21,12 @@ pub record HasFarCell (s : Source) (t : Tables) (called : Called) : Type 0 where
   pub far : ReachesFar s t called cell
 
 -- something that is moved, of the circuits inside an aligned one of this origin
+abbrev pub IsFarOf : Option PlainInside → List Drawing → List Area → PlainOrigins → Type 0
+IsFarOf None drawings areas o = ⊥
+IsFarOf (Some x) drawings areas o = JoinsFar x o drawings areas
+
 abbrev pub IsFarJoined : List PlainInside → List Drawing → List Area → PlainOrigins → Type 0
-IsFarJoined xs drawings areas o =
-    (x : PlainInside) × (slice_get xs o.circuit ≡ Some x) × JoinsFar x o drawings areas
+IsFarJoined xs drawings areas o = IsFarOf (slice_get xs o.circuit) drawings areas o
 
 abbrev pub HasFarJoined : List PlainInside → List PlainOrigins → List Drawing → List Area → Type 0
 HasFarJoined xs os drawings areas = Some_of (IsFarJoined xs drawings areas) os

@@ -45,8 +45,7 @@ fn draw_joined(
     match insides.get(origins.circuit as usize) {
         Some(inside) => {
             let count = left.nets.len();
-            let drawing = joined_drawing(alloc, inside, origins, drawings, count, regions)?;
-            Ok(drawing)
+            joined_drawing(alloc, inside, origins, drawings, count, regions)
         }
         None => Ok(Drawing::blank(alloc)),
     }

@@ -1,4 +1,4 @@
-use Rattle.std.proofs.Common.{inl, inr, ◌∷◌, ◌-◌, List, drop, length, map, subst, sym, take}
+use Rattle.std.proofs.Common.{inl, inr, ◌∷◌, ◌-◌, List, drop, length, map, subst, sym, take, slice_get}
 use Rattle.std.proofs.lemmas.Result.{err_from_is_err_and}
 use Rattle.net_model.specs.Rows.{plain_circuit}
 use Rattle.part_origins.specs.Inside.{plain_inside}
@@ -10,7 +10,7 @@ use Rattle.view_drawing.proofs.Placing.{added_twice, front, nil_of}
 use Rattle.view_netlist.specs.Drawing.{Drawn, plain_drawing}
 use Rattle.view_picture.specs.Far.{HasFarJoined, IsFarJoined}
 use Rattle.view_picture.specs.Picture.{IsJoinedIn, plain_drawings}
-use Rattle.view_picture.proofs.Joining.{JoinsOn, far_before, joins_end, joins_next, joins_short, regions_too}
+use Rattle.view_picture.proofs.Joining.{JoinsOn, far_of_before, joins_end, joins_next, joins_short, regions_too}
 use Rattle.view_drawing.proofs.Fars.{err_as}
 use Rattle.view_picture.proofs.joined.join_all.Goals as goal
 
@@ -70,5 +70,5 @@ returns-in_err-drawing-clause-far c =
     let now = areas_of c.circuits.regions.regions.items in
     rw (x.1, x.2) (λ s.
     let h = subst (λ (l : List Inside). IsFarJoined (map plain_inside l) ds now (plain_origins one)) c.deref.ensures.value (c.in_err-drawing.ensures.far (err_as _ _ s)) in
-    let before = far_before h.0 (plain_origins one) ds old now c.circuits.invariant.added c.requires.listed h.2 in
-    c.circuits.invariant.far (subst (λ (l : List PlainOrigins). HasFarJoined xs l ds old) (sym (front plain_origins from one c.in-len1-up-from.len_at_least c.one-item.is)) (inl (h.0, h.1, before))))
+    let before = far_of_before (slice_get xs one.circuit) (plain_origins one) ds old now c.circuits.invariant.added c.requires.listed h in
+    c.circuits.invariant.far (subst (λ (l : List PlainOrigins). HasFarJoined xs l ds old) (sym (front plain_origins from one c.in-len1-up-from.len_at_least c.one-item.is)) (inl before)))
