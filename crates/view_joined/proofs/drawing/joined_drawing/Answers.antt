@@ -1,8 +1,9 @@
-use Rattle.std.proofs.Common.{List, [], map, subst, sym, IfSome}
+use Rattle.std.proofs.Common.{List, [], Option, map, subst, sym, IfSome}
 use Rattle.std.proofs.lemmas.Result.{err_from_is_err_and}
 use Rattle.std.specs.Global.{Vec}
 use Rattle.std.specs.List.{All}
 use Rattle.flat_layout.specs.Layout.{Some_of}
+use Rattle.geo_base.specs.declared.shapes.Rect.{Rect}
 use Rattle.part_origins.specs.Inside.{plain_inside, plain_spot}
 use Rattle.part_origins.specs.Made.{plain_origins}
 use Rattle.part_origins.specs.declared.inside.Spot.{Spot}
@@ -38,7 +39,7 @@ returns-in_err-calls-clause-far c =
     let ds = c.args.drawings.now in
     let ms = c.in_ok-motions.motions.items in
     let moved = subst (λ (l : List Spot). AreMotions (map plain_spot l) ds [] (map plain_spot l) ms) c.as_slice-spots.ensures.value c.in_ok-motions.ensures.motions in
-    rw (e.1, e.2) (λ s. Call ms moved (rw (c.as_slice-spots.ensures.value, c.deref-4.ensures.value, c.deref-5.ensures.value) at (c.in_err-calls.ensures.far (err_as _ _ s))))
+    rw (e.1, e.2) (λ s. Call ms moved (rw (c.as_slice-spots.ensures.value, c.deref-then-are_all_small.ensures.value, c.deref-then-are_all_small-2.ensures.value) at (c.in_err-calls.ensures.far (err_as _ _ s))))
 
 pub returns-in_err-devices-clause-far : goal.returns-in_err-devices-clause-far
 returns-in_err-devices-clause-far c =
@@ -46,4 +47,12 @@ returns-in_err-devices-clause-far c =
     let ds = c.args.drawings.now in
     let ms = c.in_ok-motions.motions.items in
     let moved = subst (λ (l : List Spot). AreMotions (map plain_spot l) ds [] (map plain_spot l) ms) c.as_slice-spots.ensures.value c.in_ok-motions.ensures.motions in
-    rw (e.1, e.2) (λ s. Device ms moved (rw (c.as_slice-spots.ensures.value, c.deref-6.ensures.value, c.deref-7.ensures.value) at (c.in_err-devices.ensures.far (err_as _ _ s))))
+    rw (e.1, e.2) (λ s. Device ms moved (rw (c.as_slice-spots.ensures.value, c.deref-then-are_all_small-3.ensures.value, c.deref-then-are_all_small-4.ensures.value) at (c.in_err-devices.ensures.far (err_as _ _ s))))
+
+pub returns-then-are_all_small-clause-small : goal.returns-then-are_all_small-clause-small
+returns-then-are_all_small-clause-small c = record {
+  hull = subst (λ (h : Option Rect). IfSome h IsSmallRect) (sym c.hull_of.ensures) (drawn_small c.args.drawings.now c.args.origins.now.circuit c.requires.drawings).hull;
+  nets = subst (λ (l : List (Vec Shape)). All AreSmallShapes (shape_lists l)) c.deref-3.ensures.value (c.are_all_small.ensures.small c.if-are_all_small.true);
+  devices = c.in_ok-devices.ensures.small_places;
+  calls = c.in_ok-calls.ensures.small;
+}
