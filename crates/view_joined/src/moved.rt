@@ -43,11 +43,7 @@ fn keep_rect(out: &mut Vec<Rect>, rect: Rect) -> Result<(), AllocError>
 }
 
 /// Adds the rectangles of a net, moved. Linear.
-pub fn push_moved(
-    out: &mut Vec<Shape>,
-    motion: &Motion,
-    shapes: &[Shape],
-) -> Result<(), AllocError>
+pub fn push_moved(out: &mut Vec<Shape>, motion: &Motion, shapes: &[Shape]) -> Result<(), AllocError>
     requires motion { IsSmallShift motion.now }
     requires small { AreSmallShapes shapes.now }
     ensures moved { OnOk result (out.new.items

@@ -157,11 +157,7 @@ pub struct Sketch {
 /// What is drawn of the circuits of a layout's netlist by their cells, before it is aligned. After
 /// it the lists and tables of the cells aren't needed. `TooFar` where something reaches 2^30 or more
 /// from the origin. Cost: that of drawing each cell once.
-pub fn draw_written(
-    alloc: Global,
-    given: Given,
-    written: &[Circuit],
-) -> Result<Sketch, ShowFault>
+pub fn draw_written(alloc: Global, given: Given, written: &[Circuit]) -> Result<Sketch, ShowFault>
     requires given { IsDrawable given }
     ensures drawn { IfOk result (AreDrawn given.entry.source (listed_tables given.entry.lists.now)
         (called_by given.entry.lists.now.called.items) given.entry.cells.now given.entry.names.now

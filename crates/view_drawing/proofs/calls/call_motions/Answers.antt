@@ -26,6 +26,6 @@ elements-preserved c =
     let rest = drop (k + 1) es in
     let step : drop k es ≡ e ∷ rest = drop_at es k e (slice_get-get_or es k no_element c.elements-test.true) in (
       ap (λ (l : List Motion). l ++ called_motions table rest) c.in_ok-add_call.ensures.added ∙ append_assoc out (called_motions table (e ∷ [])) (called_motions table rest)
-      ∙ ap (λ (l : List Motion). out ++ l) (sym (called_one table e rest)) ∙ ap (λ (l : List Element). out ++ called_motions table l) (sym step) ∙ c.elements.invariant.0,
+          ∙ ap (λ (l : List Motion). out ++ l) (sym (called_one table e rest)) ∙ ap (λ (l : List Element). out ++ called_motions table l) (sym step) ∙ c.elements.invariant.0,
       c.in_ok-add_call.ensures.small c.elements.invariant.1,
     )

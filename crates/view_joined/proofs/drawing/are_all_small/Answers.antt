@@ -17,8 +17,7 @@ nets-preserved c =
     let after = take (length rest - 1) (drop 1 rest) in
     let e : rest ≡ first ∷ after = front_is rest first c.in-len1-up.len_at_least c.shapes-item.is in
     let there : AreSmallShapes c.deref.result.now = c.are_small.ensures.small (search rules) in
-    let one : AreSmallShapes first.items = subst (λ (z : List Shape). AreSmallShapes z) c.deref.ensures.value there in
-    (
+    let one : AreSmallShapes first.items = subst (λ (z : List Shape). AreSmallShapes z) c.deref.ensures.value there in (
       (λ small. c.nets.invariant.0 (subst (λ (z : List (Vec Shape)). All AreSmallShapes (shape_lists z)) (sym e) (All-cons AreSmallShapes first.items (shape_lists after) one small))),
       (λ far. c.nets.invariant.1 (subst (λ (z : List (Vec Shape)). Some_of HasFarShape (shape_lists z)) (sym e) (inr far))),
     )
