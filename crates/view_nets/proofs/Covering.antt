@@ -109,7 +109,7 @@ small_at : (numbers : List (Option ℕ)) (ps : List Piece) (a : ℕ) → AreSmal
 small_at numbers [] a h = All-nil Small
 small_at numbers (p ∷ ps) a h =
     let o = get_or numbers p.net None in
-    All-append Small (shape_at o p a) (shapes_at numbers ps a) (small_one o p a h.0) (small_at numbers ps a h.2)
+    All-append Small (shape_at o p a) (shapes_at numbers ps a) (small_one o p a h.0) (small_at numbers ps a h.1)
 
 pub small_lists : (count : ℕ) (numbers : List (Option ℕ)) (pieces : List Piece) (lists : List (Vec Shape)) → HaveShapes count numbers pieces lists → AreSmall pieces → All AreSmallShapes (map (λ v. v.items) lists)
 small_lists count numbers pieces lists have small k d lt =

@@ -6,6 +6,7 @@ use Rattle.std.proofs.lemmas.List.{take_more}
 use Rattle.std.proofs.Math.Seq.{take-length}
 use Rattle.flat_layout.specs.Plane.{IsIn}
 use Rattle.geo_base.specs.Motions.{moved_square}
+use Rattle.geo_base.specs.Near.{IsNearRect}
 use Rattle.geo_base.specs.Rects.{has, IsRect}
 use Rattle.geo_base.specs.declared.motion.Motion.{Motion}
 use Rattle.geo_base.specs.declared.shapes.Rect.{Rect}
@@ -13,9 +14,8 @@ use Rattle.geo_base.specs.declared.shapes.Square.{Square}
 use Rattle.net_walk.proofs.Insides.{moved_in, from_in}
 use Rattle.net_walk.specs.Held.{IsMarked}
 use Rattle.net_walk.specs.Walk.{HaveArea}
-use Rattle.view_words.specs.Numbers.{IsSmallRect}
 use Rattle.view_shapes.specs.declared.pieces.Piece.{Piece}
-use Rattle.view_shapes.specs.Pieces.{IsOver, AreSmall, AddsPieces, IsOfRect, IsOfOwnAt, IsOfOwn, IsOfMoved, AreListed}
+use Rattle.view_shapes.specs.Pieces.{IsOver, AreNear, AreProper, AddsPieces, IsOfRect, IsOfOwnAt, IsOfOwn, IsOfMoved, AreListed}
 
 over_left : (ps qs : List Piece) (c x : ℕ) (q : Square) → IsOver ps c x q → IsOver (ps ++ qs) c x q
 over_left [] qs c x q h = absurd h
@@ -31,21 +31,21 @@ over_either [] qs c x q h = inr h
 over_either (p ∷ ps) qs c x q (inl h) = inl (inl h)
 over_either (p ∷ ps) qs c x q (inr h) = elim (over_either ps qs c x q h) [ inl a ↦ inl (inr a) | inr b ↦ inr b ]
 
-small_last : (ps : List Piece) (p : Piece) → AreSmall ps → IsSmallRect p.rect → IsRect p.rect → AreSmall (ps ++ p ∷ [])
-small_last [] p h g r = (g, r, tt)
-small_last (x ∷ ps) p h g r = (h.0, h.1, small_last ps p h.2 g r)
+proper_last : (ps : List Piece) (p : Piece) → AreProper ps → IsRect p.rect → AreProper (ps ++ p ∷ [])
+proper_last [] p h r = (r, tt)
+proper_last (x ∷ ps) p h r = (h.0, proper_last ps p h.1 r)
 
 pub added_none : (R : ℕ → ℕ → Square → Type 0) (ps : List Piece) → ((c x : ℕ) (q : Square) → R c x q → ⊥) → AddsPieces R ps ps
-added_none R ps none = record { over = λ c x q. ((λ h. inl h), (λ h. elim h [ inl a ↦ a | inr b ↦ absurd (none c x q b) ])); small = λ h. h }
+added_none R ps none = record { over = λ c x q. ((λ h. inl h), (λ h. elim h [ inl a ↦ a | inr b ↦ absurd (none c x q b) ])); proper = λ h. h }
 
 -- one piece more
-pub added_one : (ps : List Piece) (p : Piece) → IsSmallRect p.rect → IsRect p.rect → AddsPieces (IsOfRect p.conductor p.net p.rect) ps (ps ++ p ∷ [])
-added_one ps p small is = record {
+pub added_one : (ps : List Piece) (p : Piece) → IsRect p.rect → AddsPieces (IsOfRect p.conductor p.net p.rect) ps (ps ++ p ∷ [])
+added_one ps p is = record {
   over = λ c x q. (
     (λ h. elim (over_either ps (p ∷ []) c x q h) [ inl a ↦ inl a | inr b ↦ inr (elim b [ inl k ↦ k | inr k ↦ absurd k ]) ]),
     (λ h. elim h [ inl a ↦ over_left ps (p ∷ []) c x q a | inr b ↦ over_right ps (p ∷ []) c x q (inl b) ]),
   );
-  small = λ h. small_last ps p h small is;
+  proper = λ h. proper_last ps p h is;
 }
 
 -- what is added in two steps
@@ -61,7 +61,7 @@ added_both R S T old mid new h g same = record {
       | inr t ↦ elim ((same c x q).0 t) [ inl r ↦ inl ((h.over c x q).1 (inr r)) | inr s ↦ inr s ]
     ])),
   );
-  small = λ k. g.small (h.small k);
+  proper = λ k. g.proper (h.proper k);
 }
 
 -- the same by another name
@@ -71,7 +71,7 @@ added_as R T old new h same = record {
     (λ k. elim ((h.over c x q).0 k) [ inl o ↦ inl o | inr r ↦ inr ((same c x q).1 r) ]),
     (λ k. (h.over c x q).1 (elim k [ inl o ↦ inl o | inr t ↦ inr ((same c x q).0 t) ])),
   );
-  small = h.small;
+  proper = h.proper;
 }
 
 abbrev pub nowhere : Rect
@@ -178,7 +178,7 @@ listed_at long at [] k h lt = absurd (omega arith)
 listed_at long at (p ∷ ps) zero h lt = h.0
 listed_at long at (p ∷ ps) (suc k) h lt = listed_at long at ps k h.1 (omega arith)
 
-pub small_at : (ps : List Piece) (k : ℕ) → AreSmall ps → k < length ps → IsSmallRect (get_or ps k no_piece).rect × IsRect (get_or ps k no_piece).rect
-small_at [] k h lt = absurd (omega arith)
-small_at (p ∷ ps) zero h lt = (h.0, h.1)
-small_at (p ∷ ps) (suc k) h lt = small_at ps k h.2 (omega arith)
+pub near_at : (ps : List Piece) (k : ℕ) → AreNear ps → k < length ps → IsNearRect (get_or ps k no_piece).rect × IsRect (get_or ps k no_piece).rect
+near_at [] k h lt = absurd (omega arith)
+near_at (p ∷ ps) zero h lt = (h.0, h.1)
+near_at (p ∷ ps) (suc k) h lt = near_at ps k h.2 (omega arith)

@@ -19,7 +19,7 @@ use Rattle.net_walk.proofs.Walking.{IsAmong, IsNext, among_more, net_at, at_net,
 use Rattle.net_walk.specs.Held.{IsMarked}
 use Rattle.view_laws.specs.Shown.{Called, IsShown, NetShows}
 use Rattle.view_shapes.proofs.Adding.{added_none, added_both, added_as}
-use Rattle.view_shapes.specs.Pieces.{IsOver, AreSmall, AreListed, AddsPieces, IsOfOwn, IsOfOwnAt, IsOfMoved}
+use Rattle.view_shapes.specs.Pieces.{IsOver, AreNear, AreListed, AddsPieces, IsOfOwn, IsOfOwnAt, IsOfMoved}
 use Rattle.view_shapes.specs.Shown.{IsShownWanted}
 use Rattle.view_shapes.specs.Wanted.{AreWantedBelow}
 use Rattle.view_shapes.specs.declared.pieces.Piece.{Piece}
@@ -221,7 +221,7 @@ module _ (d : Design) (w : Wiring) (t : Tables) (cell : ℕ) (nets : AreNets d w
             (λ s. elim s [ inl a ↦ so_far_more k (IsBefore k) (IsBefore (k + 1)) (before_next k) c x q a | inr b ↦ child_from c x q b ]),
           ))
 
-      listed : (ps : List Piece) → ((c x : ℕ) (q : Square) → IsOver ps c x q → IsOver pieces c x q) → AreSmall ps → AreListed (length (t.nets cell).net_of) at ps
+      listed : (ps : List Piece) → ((c x : ℕ) (q : Square) → IsOver ps c x q → IsOver pieces c x q) → AreNear ps → AreListed (length (t.nets cell).net_of) at ps
       listed [] f h = tt
       listed (o ∷ ps) f h =
           let q : Square = record { x = o.rect.x1; y = o.rect.y1 } in
@@ -234,7 +234,7 @@ module _ (d : Design) (w : Wiring) (t : Tables) (cell : ℕ) (nets : AreNets d w
           (omega (arith, lt, fits, here), listed ps (λ c x v g. f c x v (inr g)) h.2)
 
       -- their nets stand in the list
-      pub below_listed : AreSmall pieces → AreListed (length (t.nets cell).net_of) at pieces
+      pub below_listed : AreNear pieces → AreListed (length (t.nets cell).net_of) at pieces
       below_listed h = listed pieces (λ c x q g. g) h
 
   all_among : (c x : ℕ) (q : Square) (item : Item) → IsInNet (t.nets cell) item x → ItemHolds d t cell item (At c q) → IsAmong (IsBefore (length (places_of d cell))) item

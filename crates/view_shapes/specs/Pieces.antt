@@ -3,6 +3,7 @@ use Rattle.std.specs.Prelude.{◌≡◌, ◌⊎◌, ◌↔◌, ℕ, ◌+◌, ◌
 use Rattle.flat_layout.specs.Layout.{Some_of}
 use Rattle.flat_layout.specs.Plane.{IsIn}
 use Rattle.geo_base.specs.Motions.{moved_square}
+use Rattle.geo_base.specs.Near.{IsNearRect}
 use Rattle.geo_base.specs.Rects.{IsRect}
 use Rattle.geo_base.specs.declared.motion.Motion.{Motion}
 use Rattle.geo_base.specs.declared.shapes.Rect.{Rect}
@@ -15,10 +16,24 @@ use Rattle.view_shapes.specs.declared.pieces.Piece.{Piece}
 abbrev pub IsOver : List Piece → ℕ → ℕ → Square → Type 0
 IsOver pieces c x q = Some_of (λ p. (p.conductor ≡ c) × (p.net ≡ x) × IsIn q p.rect) pieces
 
--- each has squares, and reaches less than 2^30 from the origin
+-- each has squares
+abbrev pub AreProper : List Piece → Type 0
+AreProper [] = Unit {0}
+AreProper (p ∷ ps) = IsRect p.rect × AreProper ps
+
+-- and is so near that it can be moved
+abbrev pub AreNear : List Piece → Type 0
+AreNear [] = Unit {0}
+AreNear (p ∷ ps) = IsNearRect p.rect × IsRect p.rect × AreNear ps
+
+-- each reaches less than 2^30 from the origin
 abbrev pub AreSmall : List Piece → Type 0
 AreSmall [] = Unit {0}
-AreSmall (p ∷ ps) = IsSmallRect p.rect × IsRect p.rect × AreSmall ps
+AreSmall (p ∷ ps) = IsSmallRect p.rect × AreSmall ps
+
+-- one doesn't
+abbrev pub HasFar : List Piece → Type 0
+HasFar pieces = Some_of (λ p. IsSmallRect p.rect → ⊥) pieces
 
 -- the nets of the pieces stand in the list
 abbrev pub AreListed : ℕ → ℕ → List Piece → Type 0
@@ -28,7 +43,7 @@ AreListed long at (p ∷ ps) = (at + p.net < long) × AreListed long at ps
 -- the pieces are those before and some more, which are over these squares
 pub record AddsPieces (R : ℕ → ℕ → Square → Type 0) (old new : List Piece) : Type 0 where
   pub over : (c x : ℕ) (q : Square) → IsOver new c x q ↔ (IsOver old c x q ⊎ R c x q)
-  pub small : AreSmall old → AreSmall new
+  pub proper : AreProper old → AreProper new
 
 abbrev pub IsOfRect : ℕ → ℕ → Rect → ℕ → ℕ → Square → Type 0
 IsOfRect conductor net rect c x q = (conductor ≡ c) × (net ≡ x) × IsIn q rect

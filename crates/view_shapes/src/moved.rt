@@ -1,13 +1,13 @@
 //! The pieces of a placed cell, as its placement brings them.
 
 ghost use Rattle.std.specs.Prelude.{◌≡◌, ◌+◌, ◌<◌, ◌∷◌, [], OnOk, length};
-ghost use Rattle.geo_base.specs.Near.{IsNearMotion};
+ghost use Rattle.geo_base.specs.Near.{IsNearMotion, IsNearRect};
 ghost use Rattle.geo_base.specs.Rects.{IsRect};
-ghost use Rattle.view_shapes.specs.Pieces.{AddsPieces, AreListed, AreSmall, IsOfMoved};
-ghost use Rattle.view_words.specs.Numbers.{IsSmallRect};
+ghost use Rattle.view_shapes.specs.Pieces.{AddsPieces, AreListed, AreNear, IsOfMoved};
 
-use crate::pieces::{Piece, ShowFault, push_piece};
+use crate::pieces::{Piece, push_piece};
 use geo_base::Motion;
+use std::alloc::AllocError;
 
 fn push_image(
     piece: &Piece,
@@ -15,9 +15,9 @@ fn push_image(
     net_of: &[u32],
     at: usize,
     out: &mut Vec<Piece>,
-) -> Result<(), ShowFault>
+) -> Result<(), AllocError>
     requires listed { at + piece.now.net < length net_of.now }
-    requires small { IsSmallRect piece.now.rect }
+    requires near_rect { IsNearRect piece.now.rect }
     requires rect { IsRect piece.now.rect }
     requires near { IsNearMotion motion.now }
     ensures { OnOk result (AddsPieces (IsOfMoved motion.now (piece.now ∷ []) net_of.now at)
@@ -36,9 +36,9 @@ pub fn push_moved(
     net_of: &[u32],
     at: usize,
     out: &mut Vec<Piece>,
-) -> Result<(), ShowFault>
+) -> Result<(), AllocError>
     requires listed { AreListed (length net_of.now) at pieces.now }
-    requires small { AreSmall pieces.now }
+    requires pieces { AreNear pieces.now }
     requires near { IsNearMotion motion.now }
     ensures { OnOk result (AddsPieces (IsOfMoved motion.now pieces.now net_of.now at)
         out.old.items out.new.items) }

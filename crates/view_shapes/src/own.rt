@@ -4,9 +4,10 @@ ghost use Rattle.std.specs.Prelude.{◌≡◌, ◌+◌, ◌<◌, ◌≤◌, OnOk
 ghost use Rattle.net_walk.specs.Walk.{HaveArea};
 ghost use Rattle.view_shapes.specs.Pieces.{AddsPieces, IsOfOwn, IsOfOwnAt};
 
-use crate::pieces::{Piece, ShowFault, push_piece};
+use crate::pieces::{Piece, push_piece};
 use crate::wanted::is_marked;
 use geo_base::Rect;
+use std::alloc::AllocError;
 
 fn push_at(
     own: &[Rect],
@@ -16,7 +17,7 @@ fn push_at(
     wanted: &[bool],
     r: usize,
     out: &mut Vec<Piece>,
-) -> Result<(), ShowFault>
+) -> Result<(), AllocError>
     requires area { HaveArea own.now }
     requires inside { r < length own.now }
     requires fits { at + length own.now ≤ length net_of.now }
@@ -40,7 +41,7 @@ pub fn push_own(
     at: usize,
     wanted: &[bool],
     out: &mut Vec<Piece>,
-) -> Result<(), ShowFault>
+) -> Result<(), AllocError>
     requires area { HaveArea own.now }
     requires fits { at + length own.now ≤ length net_of.now }
     ensures { OnOk result (AddsPieces

@@ -1,8 +1,8 @@
 //! Pieces of nets.
 
-ghost use Rattle.std.specs.Prelude.{◌≡◌, OnOk};
+ghost use Rattle.std.specs.Prelude.{◌≡◌, OnOk, false, true};
 ghost use Rattle.geo_base.specs.Rects.{IsRect};
-ghost use Rattle.view_shapes.specs.Pieces.{AddsPieces, IsOfRect};
+ghost use Rattle.view_shapes.specs.Pieces.{AddsPieces, AreSmall, HasFar, IsOfRect};
 ghost use Rattle.view_shapes.specs.declared.pieces.ShowFault.TheVariants.{NoMemory};
 
 use geo_base::Rect;
@@ -32,25 +32,35 @@ impl From<AllocError> for ShowFault {
     }
 }
 
-/// Adds a piece; none that reaches too far.
+/// Adds a piece.
 pub fn push_piece(
     out: &mut Vec<Piece>,
     conductor: u32,
     net: u32,
     rect: Rect,
-) -> Result<(), ShowFault>
+) -> Result<(), AllocError>
     requires { IsRect rect }
     ensures { OnOk result (AddsPieces (IsOfRect conductor net rect) out.old.items out.new.items) }
 {
-    if !is_small_rect(&rect) {
-        return Err(ShowFault::TooFar);
-    }
-    match out.push(Piece {
+    out.push(Piece {
         conductor,
         net,
         rect,
-    }) {
-        Ok(()) => Ok(()),
-        Err(_) => Err(ShowFault::NoMemory),
+    })?;
+    Ok(())
+}
+
+/// Whether all pieces reach less than 2^30 from the origin. Linear in them.
+pub fn are_small(pieces: &[Piece]) -> bool
+    ensures small { result ≡ true → AreSmall pieces.now }
+    ensures far { result ≡ false → HasFar pieces.now }
+{
+    let mut rest = pieces;
+    'pieces: while let [piece, more @ ..] = rest {
+        if !is_small_rect(&piece.rect) {
+            return false;
+        }
+        rest = more;
     }
+    true
 }

@@ -12,13 +12,14 @@ use Rattle.net_link_laws.specs.Places.{owned_before, places_of}
 use Rattle.net_walk.proofs.Walking.{own_fits, child_fits, element_at, as_long, near_at, no_element}
 use Rattle.net_walk.specs.Held.{IsMarked}
 use Rattle.net_walk.specs.Walk.{place_of}
+use Rattle.view_shapes.proofs.Bounding.{all_near}
 use Rattle.view_shapes.proofs.Showing.{IsSoFar, IsBefore, IsOfConductors, conductors_none, conductors_more, own_first, child_none, child_more, below_listed, all_shown_there}
 use Rattle.view_shapes.specs.Pieces.{AddsPieces}
 use Rattle.view_shapes.specs.Shown.{called_by}
 use Rattle.view_shapes.specs.Wanted.{AreWantedBelow}
 use Rattle.view_shapes.specs.declared.pieces.Piece.{Piece}
-use Rattle.view_shapes.proofs.shown.+shown_pieces.Goals as goal
-use Rattle.view_shapes.proofs.shown.+shown_pieces.Goals.{then-is_any+in_ok-found+in_ok-push_moved, else-is_any}
+use Rattle.view_shapes.proofs.shown.+find_pieces.Goals as goal
+use Rattle.view_shapes.proofs.shown.+find_pieces.Goals.{then-is_any+in_ok-found+in_ok-push_moved, else-is_any}
 
 -- without marks no net is called
 no_calls : (e b : ℕ) → called_by [] e b ≡ false
@@ -140,8 +141,8 @@ overflow_add-at-in-children g t c =
     let f = c.net_of-net_of.type_inv.0 in
     omega (arith, fits, long, at, count, f)
 
-pub shown_pieces-requires : goal.shown_pieces-requires
-shown_pieces-requires g t c =
+pub find_pieces-requires : goal.find_pieces-requires
+find_pieces-requires g t c =
     let d = g.C.Cells.design c.args.cells.now in
     let w = g.C.Cells.wiring c.args.cells.now in
     let tables = g.C.Cells.tables c.args.cells.now in
@@ -159,8 +160,21 @@ pub push_moved-requires-clause-near : goal.push_moved-requires-clause-near
 push_moved-requires-clause-near g t c =
     near_at c.places-elements.result.now c.children.k c.places-elements.ensures.close c.children-test.true
 
-pub returns-clause-small : goal.returns-clause-small
-returns-clause-small g t c = c.children.invariant.1.small tt
+pub returns-clause-near : goal.returns-clause-near
+returns-clause-near g t c =
+    let d = g.C.Cells.design c.args.cells.now in
+    let w = g.C.Cells.wiring c.args.cells.now in
+    let tables = g.C.Cells.tables c.args.cells.now in
+    let cell = c.args.cell in
+    let wanted = c.args.wanted.now in
+    let called = called_by c.args.called.now in
+    let nets : AreNets d w tables cell (tables.nets cell) = c.requires cell ([], refl) in
+    let es = c.places-elements.result.now in
+    let long = as_long es (places_of d cell) c.places-elements.ensures.all in
+    let over = c.children-test.false in
+    let end : c.children.k ≡ length (places_of d cell) = omega (arith, long, over) in
+    let shown = all_shown_there d w tables cell nets called wanted c.children.out.items (subst (λ n. AddsPieces (IsSoFar d tables called cell wanted (IsBefore n)) [] c.children.out.items) end c.children.invariant.1) in
+    all_near d tables called cell wanted c.children.out.items c.hull-hull.result shown c.hull-hull.ensures.some c.hull-hull.ensures.none (c.children.invariant.1.proper tt)
 
 pub returns-clause-shown : goal.returns-clause-shown
 returns-clause-shown g t c =
@@ -198,11 +212,11 @@ push_moved-requires-clause-listed g t c =
     let are : AreWantedBelow (tables.nets cell).net_of c.children.at (tables.nets p.cell).count wanted marks below = rw (c.net_of-net_of.ensures, c.count-count.ensures) at c.in_ok-below.ensures in
     let pieces = c.in_ok-found.found.items in
     let shown = rw c.as_slice-marked.ensures.value at c.in_ok-found.ensures.shown in
-    let fits = below_listed d w tables cell nets called wanted k p there nets_too c.children.at c.children.invariant.0 marks below same are (called_by []) pieces no_calls shown c.in_ok-found.ensures.small in
+    let fits = below_listed d w tables cell nets called wanted k p there nets_too c.children.at c.children.invariant.0 marks below same are (called_by []) pieces no_calls shown c.in_ok-found.ensures.near in
     rw (c.as_slice-pieces.ensures.value, c.net_of-net_of.ensures) fits
 
-pub push_moved-requires-clause-small : goal.push_moved-requires-clause-small
-push_moved-requires-clause-small g t c = rw c.as_slice-pieces.ensures.value c.in_ok-found.ensures.small
+pub push_moved-requires-clause-pieces : goal.push_moved-requires-clause-pieces
+push_moved-requires-clause-pieces g t c = rw c.as_slice-pieces.ensures.value c.in_ok-found.ensures.near
 
 pub children-preserved : goal.children-preserved
 children-preserved g t c =

@@ -3,10 +3,10 @@ use Rattle.net_link_laws.specs.Places.{owned_before, nets_before, places_of}
 use Rattle.view_shapes.proofs.Showing.{IsBefore, IsOfConductors, IsSoFar}
 use Rattle.view_shapes.specs.Pieces.{AddsPieces}
 use Rattle.view_shapes.specs.Shown.{called_by}
-use Rattle.view_shapes.proofs.shown.+shown_pieces.Given as goal
+use Rattle.view_shapes.proofs.shown.+find_pieces.Given as goal
 
-abbrev pub decreases-shown_pieces : goal.decreases-shown_pieces
-decreases-shown_pieces g l = g.C.Cells.height l.cells.now l.cell
+abbrev pub decreases-find_pieces : goal.decreases-find_pieces
+decreases-find_pieces g l = g.C.Cells.height l.cells.now l.cell
 
 abbrev pub invariant-layers : goal.invariant-layers
 invariant-layers g l =
