@@ -20,12 +20,11 @@ use Rattle.cell_graph.proofs.Bridge.{hulls, own, step_of}
 use Rattle.cell_graph.proofs.Growing.{grown_none, wider_grown}
 use Rattle.deep_laws.specs.Layers.{IsDerived, IsFromStirred, IsNearOwn}
 use Rattle.rule_text.specs.Rules.{Rules}
-use Rattle.rule_text.specs.declared.rules.LayerForm.{LayerForm}
 use Rattle.rule_text.specs.declared.rules.LayerForm.TheVariants as form
 use Rattle.rule_text.specs.declared.rules.LayerRule.{LayerRule}
 use Rattle.rule_text.specs.declared.rules.MosRule.{MosRule}
 use Rattle.rule_text.specs.declared.rules.MoreRule.{MoreRule}
-use Rattle.rule_layers.specs.Formulas.{formula_by, formulas, zone_margin}
+use Rattle.rule_layers.specs.Formulas.{formulas, zone_margin}
 use Rattle.rule_layers.specs.Reads.{AreRead, IsRead}
 use Rattle.rule_layers.proofs.Unread.{IsOther, input_read, one_some, other_there}
 use Rattle.rule_layers.proofs.Unsized.{still as still_names}
@@ -56,8 +55,8 @@ asked_derived r name (Binary op a b) h = tt
 asked_derived r name (Sized by a) h = tt
 
 pub derived_other : (x : Formula) → IsDerived x → IsOther x
-derived_other (Input key) h = absurd h
-derived_other Empty h = absurd h
+derived_other (Input k) h key e = absurd h
+derived_other Empty h key e = absurd h
 derived_other (Binary op a b) h key e = cc
 derived_other (Sized by a) h key e = cc
 

@@ -1,5 +1,5 @@
 -- A right table tells what placed cells keep.
-use Rattle.std.proofs.Common.{◌≡◌, inl, inr, ℕ, ◌≤◌, arith, false, List, Option, Some, sym, ◌∙◌, ap, subst, slice_get}
+use Rattle.std.proofs.Common.{◌≡◌, inl, inr, ℕ, arith, false, List, Option, Some, sym, ◌∙◌, ap, subst, slice_get}
 use Rattle.geo_base.specs.declared.shapes.Rect.{Rect}
 use Rattle.geo_base.specs.Motions.{moved_square}
 use Rattle.geo_base.specs.declared.shapes.Square.{Square}
@@ -39,7 +39,7 @@ entries d r z x cell name right reached named i row column p step = zone_entry (
 pub kept : KeptLaw
 kept d r z x cell name sound hulls right reached named asked none = record {
   entries = λ i row column p step. let e = at p.cell (reached_step d cell i row column p reached step) in (e.0, e.1);
-  zones = λ k p placed. let e = at p.cell (reached_below (plain d) cell k p reached placed) in (e.0, (e.2, e.3));
+  zones = λ k p placed. let e = at p.cell (reached_below (plain d) cell k p reached placed) in (e.0, e.2, e.3);
   kept = λ q. (to q, from q);
 }
   where

@@ -42,8 +42,8 @@ HaveZones n d name cell = (k : ℕ) (p : Place) → IsPlaced (plain d) cell k p 
     × IsFramedZone n d (inputs name) p.cell zone × IsCanonical zone
 
 -- flat squares among those looked at, without those near which something is disturbed and those
--- that placed cells keep: the cell's layer. The disturbed squares of placed cells count twice as far
--- as the name reaches
+-- that placed cells keep: the cell's layer. The disturbed squares of placed cells count twice as
+-- far as the name reaches
 abbrev pub LayerLaw : Type 0
 LayerLaw = (n : ℕ) (d : Linked) (name : Formula) (cell : ℕ) (places flat zone calm local : List
     Rect) → IsDerived name → reach name + reach name ≤ n → IsSound d → IsReached (plain d) cell

@@ -4,7 +4,7 @@ ghost use Rattle.layer_phase.specs.Parts.{InputLayerLaw, LayerLaw};
 
 /// The parts that the phase makes give a cell's layer; of an input layer it has its own squares.
 pub fn layer_law()
-    ensures binary { LayerLaw }
+    ensures derived { LayerLaw }
     ensures input { InputLayerLaw }
 {}
 

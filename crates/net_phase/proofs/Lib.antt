@@ -5,6 +5,7 @@ pub mod Itemizing
 pub mod Knowing
 pub mod Layering
 pub mod Listing
+pub mod Reaching
 pub mod Results
 pub mod Righting
 pub mod Wiring

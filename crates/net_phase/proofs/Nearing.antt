@@ -23,6 +23,7 @@ use Rattle.net_walk.specs.declared.cells.Element.{Element}
 use Rattle.tile_index.proofs.Meeting.{meets_share, share_meets}
 use Rattle.tile_index.specs.Windows.{ArePositions, meets}
 use Rattle.net_phase.specs.Elements.{element_lists}
+use Rattle.rule_text.specs.Rules.{Rules}
 use Rattle.net_phase.specs.Indexes.{AreIndexes, span_of, spans_of}
 use Rattle.net_phase.specs.Own.{rect_lists}
 use Rattle.net_phase.specs.declared.indexes.Indexes.{Indexes}
@@ -39,19 +40,19 @@ none_near rects w none = record {
   all = λ r rect q at here within. absurd (let e : slice_get [] r ≡ Some rect = subst (λ (l : List Rect). slice_get l r ≡ Some rect) none at in let z : ⊥ = cc in z);
 }
 
-span_at : (d : Linked) (es : List Element) (k : ℕ) → k < length es → slice_get (spans_of d es) k ≡ Some (span_of d (get_or es k no_element))
-span_at d [] k lt = absurd (omega (arith, lt))
-span_at d (e ∷ es) zero lt = refl
-span_at d (e ∷ es) (suc k) lt = span_at d es k (omega (arith, lt))
+span_at : (n : ℕ) (d : Linked) (es : List Element) (k : ℕ) → k < length es → slice_get (spans_of n d es) k ≡ Some (span_of n d (get_or es k no_element))
+span_at n d [] k lt = absurd (omega (arith, lt))
+span_at n d (e ∷ es) zero lt = refl
+span_at n d (e ∷ es) (suc k) lt = span_at n d es k (omega (arith, lt))
 
 -- where what bounds a placement has all that its nets bring there, those that share no square with
 -- the window bring nothing there
-pub found_places : (d : Linked) (t : Tables) (cell : ℕ) (w : Rect) (es : List Element) (near : List ℕ) → map place_of es ≡ places_of (plain d) cell → ArePositions (spans_of d es) w near
-    → ((e : Element) (c x : ℕ) (m : Square) → NetHolds (plain d) t e.cell x (At c m) → has (span_of d e) (moved_square e.motion m) ≡ true) → ArePlacesNear (plain d) t cell w near
-found_places d t cell w es near same are held = record {
+pub found_places : (n : ℕ) (d : Linked) (t : Tables) (cell : ℕ) (w : Rect) (es : List Element) (near : List ℕ) → map place_of es ≡ places_of (plain d) cell → ArePositions (spans_of n d es) w near
+    → ((e : Element) (c x : ℕ) (m : Square) → NetHolds (plain d) t e.cell x (At c m) → has (span_of n d e) (moved_square e.motion m) ≡ true) → ArePlacesNear (plain d) t cell w near
+found_places n d t cell w es near same are held = record {
   inside = λ j lt.
-      let i = own_inside (spans_of d es) w near j are lt in
-      let a = length-map es (span_of d) in
+      let i = own_inside (spans_of n d es) w near j are lt in
+      let a = length-map es (span_of n d) in
       let b = as_long es (places_of (plain d) cell) same in
       omega (arith, i, a, b);
   all = λ k p at.
@@ -61,30 +62,30 @@ found_places d t cell w es near same are held = record {
       let e = get_or es k no_element in
       let there = element_at es (places_of (plain d) cell) k same lt in
       let is : place_of e ≡ p = let f : Some (place_of e) ≡ Some p = sym there ∙ at in cc in
-      subst (λ (o : Place). HasNoPart (plain d) t o w ⊎ Contains near k) is (by_test k e (span_at d es k lt) (meets (span_of d e) w) refl);
+      subst (λ (o : Place). HasNoPart (plain d) t o w ⊎ Contains near k) is (by_test k e (span_at n d es k lt) (meets (span_of n d e) w) refl);
 }
   where
-    by_test : (k : ℕ) (e : Element) → slice_get (spans_of d es) k ≡ Some (span_of d e) → (b : Bool) → meets (span_of d e) w ≡ b → HasNoPart (plain d) t (place_of e) w ⊎ Contains near k
-    by_test k e at true met = inr ((are.each k).1 (span_of d e, at, meets_share (span_of d e) w met))
+    by_test : (k : ℕ) (e : Element) → slice_get (spans_of n d es) k ≡ Some (span_of n d e) → (b : Bool) → meets (span_of n d e) w ≡ b → HasNoPart (plain d) t (place_of e) w ⊎ Contains near k
+    by_test k e at true met = inr ((are.each k).1 (span_of n d e, at, meets_share (span_of n d e) w met))
     by_test k e at false miss = inl (λ c x m holds within.
-        let met = share_meets (span_of d e) w (moved_square e.motion m, held e c x m holds, in_to w (moved_square e.motion m) within) in
+        let met = share_meets (span_of n d e) w (moved_square e.motion m, held e c x m holds, in_to w (moved_square e.motion m) within) in
         let z : ⊥ = (let f : false ≡ true = sym miss ∙ met in cc) in
         z)
 
-pub no_places : (d : Linked) (t : Tables) (cell : ℕ) (w : Rect) (es : List Element) → map place_of es ≡ places_of (plain d) cell → spans_of d es ≡ [] → ArePlacesNear (plain d) t cell w []
-no_places d t cell w es same none = record {
+pub no_places : (n : ℕ) (d : Linked) (t : Tables) (cell : ℕ) (w : Rect) (es : List Element) → map place_of es ≡ places_of (plain d) cell → spans_of n d es ≡ [] → ArePlacesNear (plain d) t cell w []
+no_places n d t cell w es same none = record {
   inside = λ j lt. absurd (omega (arith, lt));
   all = λ k p at.
       let i = slice_get_within (places_of (plain d) cell) k p at in
-      let a = length-map es (span_of d) in
+      let a = length-map es (span_of n d) in
       let b = as_long es (places_of (plain d) cell) same in
-      let n : length (spans_of d es) ≡ 0 = ap (λ (l : List Rect). length l) none in
-      absurd (omega (arith, i, a, b, n));
+      let none_there : length (spans_of n d es) ≡ 0 = ap (λ (l : List Rect). length l) none in
+      absurd (omega (arith, i, a, b, none_there));
 }
 
 -- over the same lists indexes are the same
-pub same_indexes : (d : Linked) (own rects : List (Vec (Bor (List Rect)))) (elements others : List (Vec Element)) (x : Indexes) → own ≡ rects → elements ≡ others → AreIndexes d (rect_lists own) (element_lists elements) x
-    → AreIndexes d (rect_lists rects) (element_lists others) x
-same_indexes d own rects elements others x e f h =
-    subst (λ (l : List (Vec Element)). AreIndexes d (rect_lists rects) (element_lists l) x) f
-    (subst (λ (l : List (Vec (Bor (List Rect)))). AreIndexes d (rect_lists l) (element_lists elements) x) e h)
+pub same_indexes : (d : Linked) (r : Rules) (own rects : List (Vec (Bor (List Rect)))) (elements others : List (Vec Element)) (x : Indexes) → own ≡ rects → elements ≡ others → AreIndexes d r (rect_lists own) (element_lists elements) x
+    → AreIndexes d r (rect_lists rects) (element_lists others) x
+same_indexes d r own rects elements others x e f h =
+    subst (λ (l : List (Vec Element)). AreIndexes d r (rect_lists rects) (element_lists l) x) f
+    (subst (λ (l : List (Vec (Bor (List Rect)))). AreIndexes d r (rect_lists l) (element_lists elements) x) e h)

@@ -1,6 +1,8 @@
 -- Right layers and right nets below a cell are tables that are right there.
-use Rattle.std.proofs.Common.{◌≡◌, inl, inr, ℕ, ◌<◌, List, [], ◌∷◌, ◌++◌, Option, Some, None, IsSomeAnd, slice_get, get_or, refl, sym, ◌∙◌, ap, subst, length, slice_index}
+use Rattle.std.proofs.Common.{◌≡◌, inl, inr, ℕ, ◌<◌, ◌≤◌, List, [], ◌∷◌, ◌++◌, Option, Some, None, IsSomeAnd, slice_get, get_or, refl, sym, ◌∙◌, ap, subst, length, slice_index}
 use Rattle.cell_graph.proofs.Bridge.{heights, hulls}
+use Rattle.cell_graph.proofs.Growing.{wider_grown, within_grown}
+use Rattle.cell_graph.specs.Grown.{IsInGrown}
 use Rattle.cell_graph.specs.Linked.{HullHas, IsSound, Linked, cell_at, height_at, hull_of, plain}
 use Rattle.deep_tables.proofs.Reading.{some_and}
 use Rattle.deep_tables.specs.Nets.{AreCellNets, nets_in, plain_nets}
@@ -8,10 +10,10 @@ use Rattle.deep_tables.specs.declared.nets.CellNets.{CellNets}
 use Rattle.deep_tables.proofs.Agreeing.{nets_over_any}
 use Rattle.flat_laws.proofs.Cover.{reached_below}
 use Rattle.flat_laws.proofs.Items.{together as nets_together}
-use Rattle.flat_laws.proofs.Moves.{within_none}
+use Rattle.flat_laws.proofs.Moves.{within_back, within_none}
 use Rattle.flat_laws.proofs.Names.{near_input}
 use Rattle.flat_layout.specs.Layers.{Binary, Empty, Input, Sized, InFlat, IsLocal, Formula, reach}
-use Rattle.flat_layout.specs.Layout.{IsPlaced, IsReached, Leads, Place}
+use Rattle.flat_layout.specs.Layout.{Design, IsPlaced, IsReached, Leads, Place}
 use Rattle.flat_layout.specs.Nets.{AreListed, AreNets, AreRightBelow, IsNetsOf, Tables}
 use Rattle.flat_layout.specs.Plane.{AreWithin}
 use Rattle.flat_layout.specs.Regions.{formula}
@@ -19,13 +21,13 @@ use Rattle.geo_base.specs.declared.shapes.Rect.{Rect}
 use Rattle.geo_base.specs.declared.shapes.Square.{Square}
 use Rattle.net_walk.proofs.Insides.{rect_of}
 use Rattle.rule_layers.specs.Meaning.{wiring_of}
-use Rattle.rule_layers.proofs.Unsized.{still}
 use Rattle.rule_text.specs.Rules.{Rules}
-use Rattle.rule_text.specs.Sound as rules
 use Rattle.table_laws.proofs.Tabled.{leads_both, reached_under}
 use Rattle.table_laws.proofs.Tabled as tabled
 use Rattle.rule_text.specs.Seen.{rules_seen}
 use Rattle.rule_text.specs.declared.rules.RuleSet.{RuleSet}
+use Rattle.net_phase.proofs.Holding.{to_bound}
+use Rattle.net_phase.specs.Indexes.{IsNetReach, bound_of}
 use Rattle.net_phase.specs.Below.{AreHeldOwn, BelowSeen, tables_seen, wiring_seen}
 use Rattle.job_graph.specs.Graph.{inputs_of}
 use Rattle.net_phase.specs.Graph.{AreBelowJobs, IsBelow}
@@ -59,23 +61,32 @@ flat_in_hull d name cell q sound none h =
     let u = near_input (plain d) cell name q h in
     subst (λ s. HullHas (hull_of (cell_at d cell)) s) (within_none u.2 q (subst (λ n. AreWithin n u.2 q) none u.3)) (hulls d sound cell u.0 u.2 u.4)
 
-local_in_hull : (d : Linked) (name : Formula) (cell : ℕ) (q : Square) → IsSound d → reach name ≡ 0 → IsLocal (plain d) cell name q → HullHas (hull_of (cell_at d cell)) q
-local_in_hull d (Input key) cell q sound none h = hulls d sound cell key q (record { path = []; end = cell; square = q; takes = (refl, refl); own = h })
-local_in_hull d Empty cell q sound none h = absurd h
-local_in_hull d (Binary op a b) cell q sound none h = flat_in_hull d (Binary op a b) cell q sound none h.0.0
-local_in_hull d (Sized by a) cell q sound none h = flat_in_hull d (Sized by a) cell q sound none h.0.0
+-- the flat squares of a name that reaches no further than n lie in the hull grown by n
+flat_in_grown : (n : ℕ) (d : Linked) (name : Formula) (cell : ℕ) (q : Square) → IsSound d → reach name ≤ n → InFlat (plain d) cell name q → IsInGrown n (hull_of (cell_at d cell)) q
+flat_in_grown n d name cell q sound le h =
+    let u = near_input (plain d) cell name q h in
+    wider_grown (reach name) n (hull_of (cell_at d cell)) q le (within_grown (reach name) (hull_of (cell_at d cell)) q u.2 (hulls d sound cell u.0 u.2 u.4) (within_back (reach name) u.2 q u.3))
+
+local_flat : (d : Design) (name : Formula) (cell : ℕ) (q : Square) → IsLocal d cell name q → InFlat d cell name q
+local_flat d (Input key) cell q h = record { path = []; end = cell; square = q; takes = (refl, refl); own = h }
+local_flat d Empty cell q h = absurd h
+local_flat d (Binary op a b) cell q h = h.0.0
+local_flat d (Sized by a) cell q h = h.0.0
+
+local_in_bound : (n : ℕ) (d : Linked) (name : Formula) (cell : ℕ) (q : Square) → IsSound d → reach name ≤ n → IsLocal (plain d) cell name q → HullHas (bound_of n d cell) q
+local_in_bound n d name cell q sound le h = to_bound n (hull_of (cell_at d cell)) q (flat_in_grown n d name cell q sound le (local_flat (plain d) name cell q h))
 
 nothing_listed : (l : List Rect) (r : ℕ) (o : Rect) → l ≡ [] → slice_get l r ≡ Some o → ⊥
 nothing_listed l r o e h = let f : slice_get [] r ≡ Some o = subst (λ (m : List Rect). slice_get m r ≡ Some o) e h in cc
 
-pub held_own : (d : Linked) (r : Rules) (all : List (List (List Rect))) → IsSound d → rules.IsSound r → AreOwnLists d r all → AreHeldOwn d all
-held_own d r all sound ruled own = record {
+pub held_own : (n : ℕ) (d : Linked) (r : Rules) (all : List (List (List Rect))) → IsSound d → IsNetReach r n → AreOwnLists d r all → AreHeldOwn n d all
+held_own n d r all sound near own = record {
   some = λ cell c k o h. elim (own.others cell c) [
     | inl reached ↦ let filled = (listed cell c reached).own.filled k o h in rect_of o filled.0 filled.1
     | inr none ↦ absurd (nothing_listed (own_at all cell c) k o none h)
   ];
   held = λ cell c k o q h inside. elim (own.others cell c) [
-    | inl reached ↦ local_in_hull d (formula (wiring_of r) c) cell q sound ((still r ruled).conductors c) ((listed cell c reached).own.local k o q h inside)
+    | inl reached ↦ local_in_bound n d (formula (wiring_of r) c) cell q sound (near.all c) ((listed cell c reached).own.local k o q h inside)
     | inr none ↦ absurd (nothing_listed (own_at all cell c) k o none h)
   ];
 }

@@ -6,14 +6,14 @@ use Rattle.geo_base.specs.declared.shapes.Square.{Square}
 use Rattle.flat_layout.specs.Nets.{Tables}
 use Rattle.flat_layout.specs.Plane.{IsIn}
 use Rattle.flat_layout.specs.Regions.{Wiring}
-use Rattle.cell_graph.specs.Linked.{HullHas, IsSound, Linked, cell_at, hull_of}
+use Rattle.cell_graph.specs.Linked.{HullHas, IsSound, Linked}
 use Rattle.rule_text.specs.declared.rules.RuleSet.{RuleSet}
 use Rattle.rule_text.specs.Seen.{rules_seen}
 use Rattle.rule_layers.specs.Meaning.{wiring_of}
 use Rattle.deep_tables.specs.Nets.{nets_in}
 use Rattle.deep_tables.specs.declared.nets.CellNets.{CellNets}
 use Rattle.net_phase.specs.Elements.{AreAllElements, element_lists}
-use Rattle.net_phase.specs.Indexes.{AreIndexes}
+use Rattle.net_phase.specs.Indexes.{AreIndexes, bound_of}
 use Rattle.net_phase.specs.Own.{own_at, rect_lists}
 use Rattle.net_phase.specs.Reading.{nets_of}
 use Rattle.net_phase.specs.declared.below.Below.TheInside.{Inside}
@@ -43,16 +43,16 @@ tables_seen v = record {
   nets = λ cell. nets_in (get_or v.nets cell None);
 }
 
--- own rectangles have squares, and the cell's hull holds them
-pub record AreHeldOwn (d : Linked) (all : List (List (List Rect))) : Type 0 where
+-- own rectangles have squares, and what bounds the cell's nets holds them
+pub record AreHeldOwn (n : ℕ) (d : Linked) (all : List (List (List Rect))) : Type 0 where
   pub some : (cell c r : ℕ) (o : Rect) → slice_get (own_at all cell c) r ≡ Some o → IsRect o
   pub held : (cell c r : ℕ) (o : Rect) (q : Square) → slice_get (own_at all cell c) r ≡ Some o
-      → IsIn q o → HullHas (hull_of (cell_at d cell)) q
+      → IsIn q o → HullHas (bound_of n d cell) q
 
 pub record IsBelowView (a : Inside) : Type 0 where
   pub sound : IsSound a.design.now
   pub conductors : a.conductors ≡ length (wiring_of (rules_seen a.rules.now)).conductors
   pub elements : AreAllElements a.design.now (element_lists a.elements.now)
-  pub own : AreHeldOwn a.design.now (rect_lists a.own.now)
-  pub indexes : AreIndexes a.design.now (rect_lists a.own.now) (element_lists a.elements.now)
-      a.indexes.now
+  pub own : AreHeldOwn a.indexes.now.reach a.design.now (rect_lists a.own.now)
+  pub indexes : AreIndexes a.design.now (rules_seen a.rules.now) (rect_lists a.own.now)
+      (element_lists a.elements.now) a.indexes.now

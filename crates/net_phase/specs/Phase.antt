@@ -27,5 +27,5 @@ pub record IsNetPhase (a : Inside) : Type 0 where
   pub wires : AreWires (wiring_of (rules_seen a.rules.now)) a.wires
   pub elements : AreAllElements a.design.now (element_lists a.elements.items)
   pub own : AreOwnLists a.design.now (rules_seen a.rules.now) (rect_lists a.own.items)
-  pub indexes : AreIndexes a.design.now (rect_lists a.own.items) (element_lists a.elements.items)
-      a.indexes
+  pub indexes : AreIndexes a.design.now (rules_seen a.rules.now) (rect_lists a.own.items)
+      (element_lists a.elements.items) a.indexes

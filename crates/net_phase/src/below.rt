@@ -9,7 +9,7 @@ ghost use Rattle.net_phase.specs.Indexes.{AreIndexes, index_lists};
 ghost use Rattle.net_phase.specs.Own.{own_at, rect_lists};
 ghost use Rattle.net_phase.specs.Reading.{nets_of, now_of};
 
-use crate::indexes::{Indexes, hull_at};
+use crate::indexes::{Indexes, bound_at};
 use crate::items::first_net;
 use cell_graph::Design;
 use deep_tables::{CellNets, Item};
@@ -56,9 +56,9 @@ impl<'a, 'l> Below<'a, 'l> {
     ) -> Below<'a, 'l>
         requires conductors { conductors ≡ length (wiring_of (rules_seen rules.now)).conductors }
         requires elements { AreAllElements design.now (element_lists elements.now) }
-        requires own { AreHeldOwn design.now (rect_lists own.now) }
-        requires indexes { AreIndexes design.now (rect_lists own.now) (element_lists elements.now)
-            indexes.now }
+        requires own { AreHeldOwn indexes.now.reach design.now (rect_lists own.now) }
+        requires indexes { AreIndexes design.now (rules_seen rules.now) (rect_lists own.now)
+            (element_lists elements.now) indexes.now }
         ensures design { result.design ≡ design.now }
         ensures rules { result.rules ≡ rules.now }
         ensures own { result.own ≡ rect_lists own.now }
@@ -202,13 +202,13 @@ impl Cells for Below<'_, '_> {
     }
 
     fn hull(&self, cell: u32) -> Option<Rect> {
-        hull_at(self.design, cell)
+        bound_at(self.design, cell, self.indexes.reach)
     }
 
     fn span(&self, element: &Element) -> Option<Rect> {
-        match hull_at(self.design, element.cell) {
+        match bound_at(self.design, element.cell, self.indexes.reach) {
             None => None,
-            Some(hull) => Some(element.motion.rect(hull)),
+            Some(bound) => Some(element.motion.rect(bound)),
         }
     }
 

@@ -73,7 +73,7 @@ impl<'a> NetPhase<'a> {
         small(rules.names.len()).ok_or(AllocError)?;
         let own = own_lists(alloc, design, rules, layers)?;
         let elements = all_elements(alloc, design)?;
-        let indexes = find_indexes(alloc, design, &own, &elements)?;
+        let indexes = find_indexes(alloc, design, rules, &own, &elements)?;
         let graph = below_graph(alloc, design)?;
         Ok(NetPhase {
             design,

@@ -1,7 +1,5 @@
 -- Entries of parents.
-use Rattle.std.proofs.Common.{◌≡◌, ◌⊎◌, ◌↔◌, inl, inr, ℕ, ℤ, zero, suc, pos, ◌<◌, ◌≤◌, ◌-◌, ◌^◌, ◌+ℤ◌, ◌-ℤ◌, true, false, List, [], ◌∷◌, Option, Some, None, refl, sym, ◌∙◌, subst, arith, length, slice_index_or, IsSomeAnd}
-use Rattle.std.proofs.lemmas.Int.{ints}
-use Rattle.geo_base.specs.Near.{IsWithin}
+use Rattle.std.proofs.Common.{◌≡◌, ◌⊎◌, ◌↔◌, inl, inr, ℕ, zero, suc, ◌<◌, ◌-◌, true, false, List, [], ◌∷◌, Option, Some, None, refl, sym, ◌∙◌, subst, arith, length, slice_index_or, IsSomeAnd}
 use Rattle.geo_base.specs.declared.layer.LayerKey.{LayerKey}
 use Rattle.geo_base.specs.declared.shapes.Rect.{Rect}
 use Rattle.geo_base.specs.declared.shapes.Square.{Square}
@@ -10,9 +8,9 @@ use Rattle.flat_layout.specs.Layout.{IsReached, Some_of}
 use Rattle.geo_base.specs.Rects.{has}
 use Rattle.zone_phase.specs.declared.neighbours.Neighbour.{Neighbour}
 use Rattle.zone_phase.specs.Neighbours.{IsOverBy}
-use Rattle.cell_graph.specs.Linked.{Linked, IsSound, IsHull, IsFrame, plain}
+use Rattle.cell_graph.specs.Linked.{Linked, IsSound, plain}
 use Rattle.deep_tables.specs.declared.zones.CellZones.{CellZones}
-use Rattle.deep_tables.specs.Frames.{IsFramedZone, grown}
+use Rattle.deep_tables.specs.Frames.{IsFramedZone}
 use Rattle.deep_tables.specs.Entries.{downward_cell}
 use Rattle.zone_phase.specs.declared.uses.Use.{Use}
 use Rattle.zone_phase.specs.Jobs.{HasName, IsEntry, zone_in, IsFromUses}

@@ -1,17 +1,12 @@
 -- Disturbed squares of a cell from those of its parents.
-use Rattle.std.proofs.Common.{◌≡◌, inl, inr, ℕ, ℤ, pos, ◌+ℤ◌, ◌-ℤ◌, ◌≤ℤ◌, ◌<ℤ◌, true, [], ◌∷◌, Option, Some, None, sym, subst, arith}
-use Rattle.std.proofs.lemmas.Int.{ints, by_lt_z}
+use Rattle.std.proofs.Common.{◌≡◌, inl, inr, true, [], ◌∷◌, sym, subst}
 use Rattle.geo_base.specs.Motions.{moved_square}
-use Rattle.geo_base.specs.declared.shapes.Rect.{Rect}
-use Rattle.geo_base.specs.declared.shapes.Square.{Square}
 use Rattle.rect_sets.specs.Rects.{covers}
-use Rattle.flat_layout.specs.Plane.{AreWithin}
 use Rattle.flat_layout.specs.Layout.{IsDisturbed}
-use Rattle.flat_laws.proofs.Moves.{withins}
-use Rattle.cell_graph.specs.Linked.{HullHas, HullIsSound, plain, motion_at, hull_of, cell_at}
+use Rattle.cell_graph.specs.Linked.{plain, motion_at, hull_of, cell_at}
 use Rattle.cell_graph.proofs.Growing as growing
 use Rattle.deep_laws.proofs.Zones.{array_zones}
-use Rattle.deep_tables.specs.Frames.{IsInGrown, grown}
+use Rattle.deep_tables.specs.Frames.{IsInGrown}
 use Rattle.zone_phase.specs.Steps.{GrownLaw, ZoneStepLaw}
 
 pub grown_up : GrownLaw

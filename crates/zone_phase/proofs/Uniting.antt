@@ -20,7 +20,3 @@ united a b r e margin d xs ys cell h g q = (
     | inr i ↦ or_right (covers a q) (covers b q) ((g q).1 (i, z.1))
   ]),
 )
-
--- a set of the same squares is as good
-pub same_zone : (a r : List Rect) → ((s : Square) → covers r s ≡ covers a s) → (margin : ℕ) (d : Linked) (keys : List LayerKey) (cell : ℕ) → IsFramedZone margin d keys cell a → IsFramedZone margin d keys cell r
-same_zone a r e margin d keys cell h q = ((λ c. (h q).0 (sym (e q) ∙ c)), (λ z. e q ∙ (h q).1 z))

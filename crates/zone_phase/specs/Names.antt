@@ -52,8 +52,8 @@ names_inputs trees [] = []
 names_inputs trees (k ∷ ks) = inputs (get_or trees k Empty) ++ names_inputs trees ks
 
 -- for each list of names the set is the cell's disturbed squares for what they read
-pub record AreDeviceZones (n : ℕ) (d : Linked) (cell : ℕ) (trees : List Formula) (lists : List (List ℕ))
-    (sets : List (List Rect)) : Type 0 where
+pub record AreDeviceZones (n : ℕ) (d : Linked) (cell : ℕ) (trees : List Formula)
+    (lists : List (List ℕ)) (sets : List (List Rect)) : Type 0 where
   pub count : length sets ≡ length lists
   pub zones : (k : ℕ) (names : List ℕ) (set : List Rect) → slice_get lists k ≡ Some names
       → slice_get sets k ≡ Some set → IsFramedZone n d (names_inputs trees names) cell set

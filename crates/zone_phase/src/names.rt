@@ -1,5 +1,6 @@
 //! A cell's disturbed squares for each name of the rules.
-ghost use Rattle.std.specs.Prelude.{◌≡◌, ◌<◌, ◌≤◌, ◌∷◌, [], ◌++◌, ℕ, List, get_or, length, IfOk, OnOk};
+ghost use Rattle.std.specs.Prelude.{◌≡◌, ◌<◌, ◌≤◌, ◌∷◌, [], ◌++◌, ℕ, List, get_or, length, IfOk};
+ghost use Rattle.std.specs.Prelude.{OnOk};
 ghost use Rattle.std.specs.List.{All};
 ghost use Rattle.cell_graph.specs.Linked.{Linked};
 ghost use Rattle.deep_tables.specs.Frames.{IsFramedZone};
@@ -26,7 +27,8 @@ use std::alloc::{AllocError, Global};
 fn two_zones(alloc: Global, sets: &[RectSet], a: u32, b: u32) -> Result<RectSet, AllocError>
     ensures { IfOk result (λ r. (n : ℕ) (d : Linked) (cell : ℕ)
         (trees : List Formula) → AreNameZones n d cell trees sets.now
-        → IsFramedZone n d (inputs (get_or trees a Empty) ++ inputs (get_or trees b Empty)) cell r) }
+        → IsFramedZone n d (inputs (get_or trees a Empty) ++ inputs (get_or trees b Empty)) cell
+        r) }
 {
     let none = RectSet::empty(alloc);
     let set = with_name(alloc, sets, a, set_at(sets, b, &none))?;
@@ -108,9 +110,11 @@ pub fn name_zones<R: Reads<CellZones>>(
     requires uses { AreUsesOf design.now cell uses.now }
     requires margin { margin ≤ 20001 }
     requires may { MayRead (R.may_read reads.now) uses.now }
-    requires entries { HaveInputs margin design.now (R.value reads.now) (formulas names.now) uses.now }
+    requires entries { HaveInputs margin design.now (R.value reads.now) (formulas names.now)
+        uses.now }
     ensures count { IfOk result (λ v. length v.items ≡ length (formulas names.now)) }
-    ensures zones { IfOk result (λ v. AreNameZones margin design.now cell (formulas names.now) v.items) }
+    ensures zones { IfOk result (λ v. AreNameZones margin design.now cell (formulas names.now)
+        v.items) }
     ensures canonical { IfOk result (λ v. All IsCanonical v.items) }
 {
     let neighbours = neighbours_of(alloc, design, uses, cell, margin)?;

@@ -145,8 +145,8 @@ fn hull_zone<R: Reads<CellZones>>(
     Ok(set)
 }
 
-/// A cell's disturbed squares for an input layer, within its hull grown by the margin, from the entries of the
-/// jobs of the cells that place it.
+/// A cell's disturbed squares for an input layer, within its hull grown by the margin, from the
+/// entries of the jobs of the cells that place it.
 pub fn key_zone<R: Reads<CellZones>>(
     alloc: Global,
     design: &Design,

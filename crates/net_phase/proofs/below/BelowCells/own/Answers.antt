@@ -9,4 +9,4 @@ pub returns-clause-filled : goal.returns-clause-filled
 returns-clause-filled c =
     let a = c.self.inside in
     subst HaveArea (sym c.rects_at.ensures)
-    (own_area a.design.now (tables_seen (below_seen a)) (rect_lists a.own.now) c.self.invariant.sound c.self.invariant.own (λ cell k. refl) c.args.cell c.args.conductor)
+    (own_area a.indexes.now.reach c.self.invariant.indexes.reach.most a.design.now (tables_seen (below_seen a)) (rect_lists a.own.now) c.self.invariant.sound c.self.invariant.own (λ cell k. refl) c.args.cell c.args.conductor)

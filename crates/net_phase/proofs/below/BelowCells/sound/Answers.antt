@@ -15,4 +15,4 @@ pub returns-clause-own : goal.returns-clause-own
 returns-clause-own c =
     let a = c.self.inside in
     subst (λ (v : BelowSeen). AreNearOwn (tables_seen v)) c.self.view_is
-    (near_own a.design.now (tables_seen (below_seen a)) (rect_lists a.own.now) c.self.invariant.sound c.self.invariant.own (λ cell k. refl))
+    (near_own a.indexes.now.reach c.self.invariant.indexes.reach.most a.design.now (tables_seen (below_seen a)) (rect_lists a.own.now) c.self.invariant.sound c.self.invariant.own (λ cell k. refl))
