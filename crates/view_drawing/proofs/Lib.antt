@@ -3,3 +3,4 @@ pub mod Moving
 pub mod Placing
 pub mod Marking
 pub mod Reading
+pub mod Fars

@@ -7,8 +7,10 @@ use Rattle.std.proofs.lemmas.Option.{none-some, same_Some}
 use Rattle.deep_tables.specs.declared.gates.Gate.{Gate}
 use Rattle.geo_base.specs.declared.shapes.Rect.{Rect}
 use Rattle.plain_netlist.specs.Netlist.{DeviceRow}
+use Rattle.view_netlist.specs.Drawing.{AreSmallPlaces}
 use Rattle.view_netlist.specs.declared.drawing.DevicePlace.{DevicePlace}
 use Rattle.view_drawing.specs.Devices.{AddsRegions, Area, ArePlaces, AreSmallRegions, IsListedRegion, IsPlaceOf, good_of, is_good}
+use Rattle.view_drawing.specs.Far.{HasFarGate}
 
 pub none_added : (rs : List Area) → AddsRegions rs rs
 none_added rs = ([], sym (append-nil rs))
@@ -71,6 +73,8 @@ pub record PlacesSoFar (old now : List Area) (left : List Gate) (rest : List Dev
   pub added : AddsRegions old now
   pub small : AreSmallRegions old → AreSmallRegions now
   pub goes : Goes now left rest out gates rows
+  pub small_places : AreSmallPlaces out
+  pub far : HasFarGate left → HasFarGate gates
 
 -- ---- one region more
 

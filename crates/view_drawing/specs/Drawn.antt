@@ -53,8 +53,8 @@ pub record AreListsOf (s : Source) (l : Lists) : Type 0 where
   pub conductors : l.conductors ≡ length (wiring_of (rules_seen s.rules.now)).conductors
   pub elements : AreAllElements s.design.now (element_lists l.elements.items)
   pub own : AreOwnLists s.design.now (rules_seen s.rules.now) (rect_lists l.own.items)
-  pub indexes : AreIndexes s.design.now (rect_lists l.own.items) (element_lists l.elements.items)
-      l.indexes
+  pub indexes : AreIndexes s.design.now (rules_seen s.rules.now) (rect_lists l.own.items)
+      (element_lists l.elements.items) l.indexes
   pub nets : (cell : ℕ) → IsReached (plain s.design.now) cell
       → get_or (nets_of l.nets.items) cell None ≡ entry s.nets.now cell
   pub called : (cell b : ℕ) → IsReached (plain s.design.now) cell

@@ -2,3 +2,4 @@ pub mod Numbers
 pub mod Devices
 pub mod Calls
 pub mod Drawn
+pub mod Far

@@ -1,9 +1,13 @@
 //! The motions of calls.
 
-ghost use Rattle.std.specs.Prelude.{◌≡◌, ◌++◌, ◌∷◌, [], ℕ, IfOk, IsSome, OnOk, Some, slice_get};
+ghost use Rattle.std.specs.Prelude.{◌≡◌, ◌↔◌, ◌++◌, ◌∷◌, [], ℕ, IfOk, IsErrOf, IsSome, IsTrue};
+ghost use Rattle.std.specs.Prelude.{OnOk, Some, slice_get};
 ghost use Rattle.deep_tables.specs.Entries.{entry};
 ghost use Rattle.net_walk.specs.declared.cells.Element.{Element};
+ghost use Rattle.std.specs.List.{All};
+ghost use Rattle.view_netlist.specs.Drawing.{IsSmallShift};
 ghost use Rattle.view_drawing.specs.Calls.{called_motions, has_circuit};
+ghost use Rattle.view_drawing.specs.Far.{HasFarCall, IsFarCall, IsFarShift};
 
 use crate::small::is_small_point;
 use deep_tables::Circuits;
@@ -23,14 +27,22 @@ pub fn has_circuit(circuits: &Circuits, cell: u32) -> bool
     }
 }
 
-fn keep(out: &mut Vec<Motion>, motion: Motion) -> Result<(), ShowFault>
-    ensures { OnOk result (out.new.items ≡ out.old.items ++ motion ∷ []) }
+/// Whether both parts of a motion's shift are small.
+pub fn is_small_shift(motion: &Motion) -> bool
+    ensures { IsTrue result ↔ IsSmallShift motion.now }
 {
-    let at = Point {
+    is_small_point(Point {
         x: motion.dx,
         y: motion.dy,
-    };
-    if !is_small_point(at) {
+    })
+}
+
+fn keep(out: &mut Vec<Motion>, motion: Motion) -> Result<(), ShowFault>
+    ensures kept { OnOk result (out.new.items ≡ out.old.items ++ motion ∷ []) }
+    ensures small { OnOk result (All IsSmallShift out.old.items → All IsSmallShift out.new.items) }
+    ensures far { IsErrOf result ShowFault.TooFar → IsFarShift motion }
+{
+    if !is_small_shift(&motion) {
         return Err(ShowFault::TooFar);
     }
     match out.push(motion) {
@@ -42,8 +54,10 @@ fn keep(out: &mut Vec<Motion>, motion: Motion) -> Result<(), ShowFault>
 // Adds the motion of a placement whose cell has a circuit.
 fn add_call(circuits: &Circuits, element: &Element, out: &mut Vec<Motion>) -> Result<(), ShowFault>
     requires { IsSome (entry circuits.now element.now.cell) }
-    ensures { OnOk result (out.new.items
+    ensures added { OnOk result (out.new.items
         ≡ out.old.items ++ called_motions circuits.now (element.now ∷ [])) }
+    ensures small { OnOk result (All IsSmallShift out.old.items → All IsSmallShift out.new.items) }
+    ensures far { IsErrOf result ShowFault.TooFar → IsFarCall circuits.now element.now }
 {
     if has_circuit(circuits, element.cell) {
         keep(out, element.motion)?;
@@ -52,8 +66,8 @@ fn add_call(circuits: &Circuits, element: &Element, out: &mut Vec<Motion>) -> Re
     Ok(())
 }
 
-/// The motions of those placements of a cell whose cells have circuits, in order; none where one is
-/// 2^30 or more from the origin. Linear in the placements.
+/// The motions of those placements of a cell whose cells have circuits, in order. `TooFar` where
+/// one is 2^30 or more from the origin. Linear in the placements.
 pub fn call_motions(
     alloc: Global,
     circuits: &Circuits,
@@ -61,7 +75,9 @@ pub fn call_motions(
 ) -> Result<Vec<Motion>, ShowFault>
     requires { (k : ℕ) (e : Element) → slice_get elements.now k ≡ Some e
         → IsSome (entry circuits.now e.cell) }
-    ensures { IfOk result (λ v. v.items ≡ called_motions circuits.now elements.now) }
+    ensures motions { IfOk result (λ v. v.items ≡ called_motions circuits.now elements.now) }
+    ensures small { IfOk result (λ v. All IsSmallShift v.items) }
+    ensures far { IsErrOf result ShowFault.TooFar → HasFarCall circuits.now elements.now }
 {
     let mut out = Vec::new(alloc);
     'elements: for k in 0..elements.len() {

@@ -1,9 +1,11 @@
 //! The places of devices.
 
-ghost use Rattle.std.specs.Prelude.{◌≡◌, ◌++◌, ◌∷◌, [], ℕ, IfOk, OnOk, length, map};
+ghost use Rattle.std.specs.Prelude.{◌≡◌, ◌++◌, ◌∷◌, [], ℕ, IfOk, IsErrOf, OnOk, length, map};
 ghost use Rattle.net_model.specs.Rows.{plain_device};
 ghost use Rattle.view_drawing.specs.Devices.{AddsRegions, ArePlaced, AreSmallRegions, IsPlaceOf};
-ghost use Rattle.view_drawing.specs.Devices.{areas_of, is_good};
+ghost use Rattle.view_drawing.specs.Devices.{areas_of, corner_of, is_good};
+ghost use Rattle.view_drawing.specs.Far.{HasFarGate, IsFarArea};
+ghost use Rattle.view_netlist.specs.Drawing.{AreSmallPlaces, IsSmallPoint};
 
 use crate::regions::{DeviceRegions, add_region, area_from};
 use deep_tables::{Gate, GateState};
@@ -32,6 +34,9 @@ fn place_device(
     ensures place { IfOk result (IsPlaceOf (areas_of found.new.regions.items) class.now gate.now) }
     ensures small { OnOk result (AreSmallRegions (areas_of found.old.regions.items)
         → AreSmallRegions (areas_of found.new.regions.items)) }
+    ensures at { IfOk result (λ p. IsSmallPoint p.at) }
+    ensures far { IsErrOf result ShowFault.TooFar
+        → IsFarArea (corner_of gate.now.least) gate.now.area }
 {
     let at = Point {
         x: gate.least.x,
@@ -43,7 +48,9 @@ fn place_device(
 }
 
 fn keep(out: &mut Vec<DevicePlace>, place: DevicePlace) -> Result<(), AllocError>
-    ensures { OnOk result (out.new.items ≡ out.old.items ++ place ∷ []) }
+    requires { IsSmallPoint place.at }
+    ensures kept { OnOk result (out.new.items ≡ out.old.items ++ place ∷ []) }
+    ensures small { OnOk result (AreSmallPlaces out.old.items → AreSmallPlaces out.new.items) }
 {
     out.push(place)?;
     Ok(())
@@ -63,6 +70,8 @@ pub fn place_devices(
         (map plain_device rows.now) v.items) }
     ensures small { OnOk result (AreSmallRegions (areas_of found.old.regions.items)
         → AreSmallRegions (areas_of found.new.regions.items)) }
+    ensures small_places { IfOk result (λ v. AreSmallPlaces v.items) }
+    ensures far { IsErrOf result ShowFault.TooFar → HasFarGate gates.now }
 {
     let mut out = Vec::new(alloc);
     let mut left = gates;

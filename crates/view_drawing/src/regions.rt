@@ -1,12 +1,15 @@
 //! The regions of devices, each once.
 
-ghost use Rattle.std.specs.Prelude.{◌≡◌, ◌++◌, ◌∷◌, [], IfOk, OnOk, Some, map, slice_get, true};
+ghost use Rattle.std.specs.Prelude.{◌≡◌, ◌++◌, ◌∷◌, [], IfOk, IsErrOf, OnOk, Some, map, slice_get, true};
 ghost use Rattle.std.specs.List.{All};
+ghost use Rattle.flat_layout.specs.Layout.{Some_of};
+ghost use Rattle.view_netlist.specs.Drawing.{IsSmallPoint};
 ghost use Rattle.view_words.specs.Numbers.{IsSmallRect};
 ghost use Rattle.view_drawing.specs.Devices.{AddsRegions, AreSmallRegions, IsListedRegion};
 ghost use Rattle.view_drawing.specs.Devices.{areas_of, seen_from};
+ghost use Rattle.view_drawing.specs.Far.{IsFarArea, IsFarFrom};
 
-use crate::small::small_from;
+use crate::small::{is_small_point, small_from};
 use geo_base::{Point, Rect};
 use list_base::number;
 use std::alloc::{AllocError, Global};
@@ -48,19 +51,32 @@ fn keep(out: &mut Vec<Rect>, rect: Rect) -> Result<(), AllocError>
     Ok(())
 }
 
-/// Rectangles as they are seen from a point; none where one or the point reaches too far.
-pub fn area_from(alloc: Global, p: Point, rects: &[Rect]) -> Result<Vec<Rect>, ShowFault>
+fn rects_from(alloc: Global, p: Point, rects: &[Rect]) -> Result<Vec<Rect>, ShowFault>
+    requires { IsSmallPoint p }
     ensures rects { IfOk result (λ v. v.items ≡ map (seen_from p) rects.now) }
     ensures small { IfOk result (λ v. All IsSmallRect v.items) }
+    ensures far { IsErrOf result ShowFault.TooFar → Some_of (IsFarFrom p) rects.now }
 {
     let mut out = Vec::new(alloc);
-    let mut rest = rects;
-    'rects: while let [r, more @ ..] = rest {
-        let seen = small_from(p, r)?;
+    'rects: for k in 0..rects.len() {
+        let seen = small_from(p, &rects[k])?;
         keep(&mut out, seen)?;
-        rest = more;
     }
     Ok(out)
+}
+
+/// Rectangles as they are seen from a point. `TooFar` where the point or one of them, as it is or
+/// as it is seen, reaches 2^30 or more from the origin.
+pub fn area_from(alloc: Global, p: Point, rects: &[Rect]) -> Result<Vec<Rect>, ShowFault>
+    ensures point { OnOk result (IsSmallPoint p) }
+    ensures rects { IfOk result (λ v. v.items ≡ map (seen_from p) rects.now) }
+    ensures small { IfOk result (λ v. All IsSmallRect v.items) }
+    ensures far { IsErrOf result ShowFault.TooFar → IsFarArea p rects.now }
+{
+    if !is_small_point(p) {
+        return Err(ShowFault::TooFar);
+    }
+    rects_from(alloc, p, rects)
 }
 
 fn same_rects(some: &[Rect], others: &[Rect]) -> bool

@@ -1,8 +1,10 @@
 //! What is less than 2^30 from the origin.
 
-ghost use Rattle.std.specs.Prelude.{◌≡◌, true, IfOk};
-ghost use Rattle.view_words.specs.Numbers.{IsSmall, IsSmallRect};
+ghost use Rattle.std.specs.Prelude.{◌≡◌, ◌↔◌, IfOk, IsErrOf, IsTrue};
+ghost use Rattle.view_netlist.specs.Drawing.{IsSmallPoint};
+ghost use Rattle.view_words.specs.Numbers.{IsSmallRect};
 ghost use Rattle.view_drawing.specs.Devices.{IsSmallHull, seen_from};
+ghost use Rattle.view_drawing.specs.Far.{IsFarFrom, IsFarHull};
 
 use geo_base::{Point, Rect};
 use view_shapes::ShowFault;
@@ -10,8 +12,7 @@ use view_words::is_small_rect;
 
 /// Whether both coordinates are small.
 pub fn is_small_point(p: Point) -> bool
-    ensures x { result ≡ true → IsSmall p.x }
-    ensures y { result ≡ true → IsSmall p.y }
+    ensures { IsTrue result ↔ IsSmallPoint p }
 {
     is_small_rect(&Rect {
         x1: p.x,
@@ -25,6 +26,7 @@ pub fn is_small_point(p: Point) -> bool
 pub fn small_hull(hull: Option<Rect>) -> Result<Option<Rect>, ShowFault>
     ensures hull { IfOk result (λ h. h ≡ hull) }
     ensures small { IfOk result IsSmallHull }
+    ensures far { IsErrOf result ShowFault.TooFar → IsFarHull hull }
 {
     match hull {
         Some(r) => {
@@ -39,8 +41,7 @@ pub fn small_hull(hull: Option<Rect>) -> Result<Option<Rect>, ShowFault>
 
 // The rectangle as it is seen from a point.
 fn seen_from(p: Point, r: &Rect) -> Rect
-    requires x { IsSmall p.x }
-    requires y { IsSmall p.y }
+    requires point { IsSmallPoint p }
     requires rect { IsSmallRect r.now }
     ensures { result ≡ seen_from p r.now }
 {
@@ -52,13 +53,14 @@ fn seen_from(p: Point, r: &Rect) -> Rect
     }
 }
 
-/// The rectangle as it is seen from a point; none where one of them, or the answer, reaches too
-/// far.
+/// The rectangle as it is seen from a point; none where it, or the answer, reaches too far.
 pub fn small_from(p: Point, r: &Rect) -> Result<Rect, ShowFault>
+    requires { IsSmallPoint p }
     ensures rect { IfOk result (λ seen. seen ≡ seen_from p r.now) }
     ensures small { IfOk result IsSmallRect }
+    ensures far { IsErrOf result ShowFault.TooFar → IsFarFrom p r.now }
 {
-    if !is_small_point(p) || !is_small_rect(r) {
+    if !is_small_rect(r) {
         return Err(ShowFault::TooFar);
     }
     let seen = seen_from(p, r);

@@ -1,6 +1,6 @@
 //! What is drawn of the circuit of a cell.
 
-ghost use Rattle.std.specs.Prelude.{◌≡◌, IfOk, OnOk, [], get_or, length, map};
+ghost use Rattle.std.specs.Prelude.{◌≡◌, IfOk, IsErrOf, OnOk, [], get_or, length, map};
 ghost use Rattle.std.specs.List.{All};
 ghost use Rattle.cell_graph.specs.Linked.{plain};
 ghost use Rattle.deep_tables.specs.Layers.{AreLayers};
@@ -16,7 +16,9 @@ ghost use Rattle.view_nets.specs.Nets.{list_at};
 ghost use Rattle.view_shapes.specs.Shown.{called_by};
 ghost use Rattle.view_drawing.specs.Devices.{AddsRegions, AreSmallRegions, areas_of};
 ghost use Rattle.view_drawing.specs.Drawn.{AreAllThere, AreCellNetsDrawn, AreListsOf, IsCellDrawn};
-ghost use Rattle.view_drawing.specs.Drawn.{listed_tables};
+ghost use Rattle.view_drawing.specs.Drawn.{drawn_in, listed_tables};
+ghost use Rattle.view_drawing.specs.Far.{ReachesFar};
+ghost use Rattle.view_shapes.specs.Shown.{ShowsFar};
 
 use crate::called::called_marks;
 use crate::calls::call_motions;
@@ -63,6 +65,7 @@ pub struct Lists<'a> {
 /// The lists of a layout: O(n log n) in its rectangles and placements, of which nothing is copied.
 /// An `Err` is want of memory, or 2^32 of a kind.
 pub fn find_lists<'a>(alloc: Global, source: Source<'a>) -> Result<Lists<'a>, AllocError>
+    requires rules { IsSound (rules_seen source.rules.now) }
     requires layers { AreLayers (plain source.design.now) (rules_seen source.rules.now)
         source.layers.now }
     requires nets { AreNets (plain source.design.now) (rules_seen source.rules.now)
@@ -76,7 +79,7 @@ pub fn find_lists<'a>(alloc: Global, source: Source<'a>) -> Result<Lists<'a>, Al
     let wires = find_wires(alloc, source.rules)?;
     let own = own_lists(alloc, source.design, source.rules, source.layers)?;
     let elements = all_elements(alloc, source.design)?;
-    let indexes = find_indexes(alloc, source.design, &own, &elements)?;
+    let indexes = find_indexes(alloc, source.design, source.rules, &own, &elements)?;
     let nets = known_nets(alloc, source.design, source.nets)?;
     let called = called_marks(alloc, source.design, source.pins, source.circuits)?;
     Ok(Lists {
@@ -117,6 +120,9 @@ fn draw_nets(
     ensures drawn { IfOk result (λ v. AreCellNetsDrawn source.entry (listed_tables lists.now)
         (called_by lists.now.called.items) cell (plain_circuit circuit.now) (list_at v.items)) }
     ensures small { IfOk result (λ v. All AreSmallShapes (map (λ s. s.items) v.items)) }
+    ensures far { IsErrOf result ShowFault.TooFar → ShowsFar (plain source.entry.design.now)
+        (listed_tables lists.now) (called_by lists.now.called.items) cell
+        (drawn_in source.entry.circuits.now cell) }
 {
     source.design.sound();
     let cells = Below::new(
@@ -171,6 +177,8 @@ pub fn draw_cell(
     ensures small { IfOk result (λ v. IsSmallDrawing (plain_drawing v)) }
     ensures small_regions { OnOk result (AreSmallRegions (areas_of regions.old.regions.items)
         → AreSmallRegions (areas_of regions.new.regions.items)) }
+    ensures far { IsErrOf result ShowFault.TooFar → ReachesFar source.entry
+        (listed_tables lists.now) (called_by lists.now.called.items) cell }
 {
     source.design.sound();
     let hull = small_hull(source.design.hull(cell))?;

@@ -1,14 +1,17 @@
 -- The places of devices, one after the other, while regions are added.
-use Rattle.std.proofs.Common.{◌≡◌, ◌-◌, ◌≤◌, List, [], ◌∷◌, ◌++◌, length, take, drop, get_or, subst, sym, append_assoc, append-nil, ap, map, arith}
+use Rattle.std.proofs.Common.{inr, ◌≡◌, ◌-◌, ◌≤◌, List, [], ◌∷◌, ◌++◌, length, take, drop, get_or, subst, sym, append_assoc, append-nil, ap, map, arith}
 use Rattle.std.proofs.lemmas.List.{take_all}
+use Rattle.std.proofs.lemmas.List.Elements.{All-nil, All-push}
+use Rattle.flat_layout.specs.Layout.{Some_of}
 use Rattle.geo_base.specs.declared.motion.Motion.{Motion}
 use Rattle.part_origins.specs.Inside.{PlainSpot}
 use Rattle.part_origins.specs.declared.inside.Part.{Part}
+use Rattle.view_netlist.specs.Drawing.{AreSmallPlaces, IsSmallPoint}
 use Rattle.view_netlist.specs.declared.drawing.DevicePlace.{DevicePlace}
 use Rattle.view_netlist.specs.declared.drawing.Drawing.{Drawing}
 use Rattle.view_drawing.specs.Devices.{AddsRegions, AreSmallRegions, Area, seen_from}
 use Rattle.view_drawing.proofs.Placing.{added_twice, none_added, still_listed}
-use Rattle.view_joined.specs.Devices.{AreJoinedDevices, IsJoinedDevice, IsMovedPlace, moved_rects}
+use Rattle.view_joined.specs.Devices.{AreJoinedDevices, IsFarDevice, IsJoinedDevice, IsMovedPlace, moved_rects}
 
 pub still_moved : (m : Motion) (p q : DevicePlace) (a b : List Area) → AddsRegions a b → IsMovedPlace m p a q → IsMovedPlace m p b q
 still_moved m p q a b adds h = record {
@@ -21,17 +24,21 @@ still_moved m p q a b adds h = record {
 module _ (spots : List PlainSpot) (drawings : List Drawing) (motions : List Motion) where
   pub record SoFar (old now : List Area) (all : List Part) (out : List DevicePlace) (rest : List Part) : Type 0 where
     pub added : AddsRegions old now
-    pub small : AreSmallRegions old → AreSmallRegions now
+    pub small : AreSmallRegions now
+    pub places : AreSmallPlaces out
+    pub far : Some_of (IsFarDevice spots drawings motions old) rest → Some_of (IsFarDevice spots drawings motions old) all
     pub then : (new : List Area) → AddsRegions now new → (qs : List DevicePlace) → AreJoinedDevices spots drawings motions new rest qs → AreJoinedDevices spots drawings motions new all (out ++ qs)
 
-  pub begin : (old : List Area) (all : List Part) → SoFar old old all [] all
-  begin old all = record { added = none_added old; small = λ h. h; then = λ new adds qs h. h }
+  pub begin : (old : List Area) (all : List Part) → AreSmallRegions old → SoFar old old all [] all
+  begin old all h = record { added = none_added old; small = h; places = All-nil (λ (p : DevicePlace). IsSmallPoint p.at); far = λ g. g; then = λ new adds qs g. g }
 
-  pub more : (old now next : List Area) (all : List Part) (out : List DevicePlace) (c : Part) (rest : List Part) (q : DevicePlace) → SoFar old now all out (c ∷ rest) → AddsRegions now next → (AreSmallRegions now → AreSmallRegions next)
+  pub more : (old now next : List Area) (all : List Part) (out : List DevicePlace) (c : Part) (rest : List Part) (q : DevicePlace) → SoFar old now all out (c ∷ rest) → AddsRegions now next → AreSmallRegions next → IsSmallPoint q.at
       → IsJoinedDevice spots drawings motions next c q → SoFar old next all (out ++ q ∷ []) rest
-  more old now next all out c rest q h adds small is = record {
+  more old now next all out c rest q h adds small at is = record {
     added = added_twice old now next h.added adds;
-    small = λ s. small (h.small s);
+    small = small;
+    places = All-push (λ (p : DevicePlace). IsSmallPoint p.at) out q h.places at;
+    far = λ g. h.far (inr g);
     then = λ new behind qs g.
         subst (λ (z : List DevicePlace). AreJoinedDevices spots drawings motions new all z) (sym (append_assoc out (q ∷ []) qs))
         (h.then new (added_twice now next new adds behind) (q ∷ qs) ((is.0, is.1, still_moved _ is.0 q next new behind is.2), g));

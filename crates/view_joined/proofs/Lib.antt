@@ -3,3 +3,5 @@ pub mod Put
 pub mod Paths
 pub mod Growing
 pub mod Covered
+pub mod Small
+pub mod FarNets

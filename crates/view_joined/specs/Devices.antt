@@ -1,5 +1,6 @@
 -- Where the devices of aligned circuits stand.
-use Rattle.std.specs.Prelude.{◌≡◌, ℕ, List, [], ◌∷◌, map, Option, Some, None, get_or, slice_get}
+use Rattle.std.specs.Prelude.{◌≡◌, ◌<◌, ℕ, List, [], ◌∷◌, map, Option, Some, None, get_or}
+use Rattle.std.specs.Prelude.{length, slice_get}
 use Rattle.geo_base.specs.Motions.{moved_square}
 use Rattle.geo_base.specs.Rects.{moved_rect}
 use Rattle.geo_base.specs.declared.motion.Motion.{Motion}
@@ -12,6 +13,7 @@ use Rattle.view_netlist.specs.Drawing.{drawn_of}
 use Rattle.view_netlist.specs.declared.drawing.DevicePlace.{DevicePlace}
 use Rattle.view_netlist.specs.declared.drawing.Drawing.{Drawing}
 use Rattle.view_drawing.specs.Devices.{Area, IsListedRegion, corner_of, seen_from}
+use Rattle.view_drawing.specs.Far.{IsFarArea}
 use Rattle.view_joined.specs.Moved.{placed_rect}
 use Rattle.view_joined.specs.Spots.{circuit_at, still}
 
@@ -34,9 +36,19 @@ pub record IsMovedPlace (m : Motion) (p : DevicePlace) (areas : List Area)
   pub region : IsListedRegion areas q.region area.class
       (map (seen_from q.at) (moved_rects m p.at area.rects))
 
+-- where it would stand then, it reaches too far
+abbrev pub IsFarMoved : Motion → DevicePlace → List Area → Type 0
+IsFarMoved m p areas = (area : Area) × (slice_get areas p.region ≡ Some area)
+    × IsFarArea (moved_corner m p.at) (moved_rects m p.at area.rects)
+
 -- the place of a device of a circuit, if it is drawn
 abbrev pub device_of : List Drawing → ℕ → ℕ → Option DevicePlace
 device_of drawings circuit device = slice_get (drawn_of drawings circuit).devices device
+
+-- each device that is drawn has its region among these
+abbrev pub HaveRegions : List Area → List Drawing → Type 0
+HaveRegions areas drawings = (circuit device : ℕ) (p : DevicePlace)
+    → device_of drawings circuit device ≡ Some p → p.region < length areas
 
 module _ (spots : List PlainSpot) (drawings : List Drawing) (motions : List Motion)
     (areas : List Area) where
@@ -45,6 +57,11 @@ module _ (spots : List PlainSpot) (drawings : List Drawing) (motions : List Moti
   IsJoinedDevice part q = (p : DevicePlace)
       × (device_of drawings (circuit_at spots part.spot) part.number ≡ Some p)
       × IsMovedPlace (get_or motions part.spot still) p areas q
+
+  abbrev pub IsFarDevice : Part → Type 0
+  IsFarDevice part = (p : DevicePlace)
+      × (device_of drawings (circuit_at spots part.spot) part.number ≡ Some p)
+      × IsFarMoved (get_or motions part.spot still) p areas
 
   -- of these devices, in order, up to the first that isn't drawn in its circuit
   abbrev pub AreJoinedDevices : List Part → List DevicePlace → Type 0

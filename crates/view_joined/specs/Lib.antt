@@ -5,3 +5,4 @@ pub mod Paths
 pub mod Devices
 pub mod Joined
 pub mod Covered
+pub mod Far

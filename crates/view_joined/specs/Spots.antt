@@ -1,11 +1,12 @@
 -- The motions of the circuits that stand inside a flat one.
-use Rattle.std.specs.Prelude.{◌≡◌, ℕ, pos, List, [], ◌∷◌, ◌++◌, Option, Some, None, get_or}
+use Rattle.std.specs.Prelude.{◌≡◌, ◌⊎◌, ℕ, pos, List, [], ◌∷◌, ◌++◌, Option, Some, None, get_or}
 use Rattle.std.specs.Prelude.{slice_get}
 use Rattle.geo_base.specs.Laws.{IsMotionAfter}
 use Rattle.geo_base.specs.declared.motion.Motion.{Motion}
 use Rattle.geo_base.specs.declared.motion.Turn.TheVariants.{R0}
 use Rattle.part_origins.specs.Inside.{PlainSpot}
 use Rattle.part_origins.specs.declared.inside.Part.{Part}
+use Rattle.view_drawing.specs.Far.{IsFarShift}
 use Rattle.view_netlist.specs.Drawing.{drawn_of}
 use Rattle.view_netlist.specs.declared.drawing.Drawing.{Drawing}
 
@@ -42,6 +43,15 @@ module _ (spots : List PlainSpot) (drawings : List Drawing) where
   AreMotions before (s ∷ ss) (m ∷ ms) =
       IsSpotMotion before s.by m × AreMotions (before ++ m ∷ []) ss ms
   AreMotions before _ _ = ⊥
+
+  -- of these spots, in order, one is moved too far
+  abbrev pub IsFarSpot : List Motion → List PlainSpot → Type 0
+  IsFarSpot before [] = ⊥
+  IsFarSpot before (s ∷ ss) = (m : Motion) × IsSpotMotion before s.by m
+      × (IsFarShift m ⊎ IsFarSpot (before ++ m ∷ []) ss)
+
+  abbrev pub IsFarCallAt : List Motion → Part → Type 0
+  IsFarCallAt motions call = (m : Motion) × IsCallMotion motions call m × IsFarShift m
 
   -- one for each of these calls
   abbrev pub AreCallMotions : List Motion → List Part → List Motion → Type 0

@@ -1,90 +1,37 @@
 //! The places of the devices of aligned circuits.
 
-ghost use Rattle.std.specs.Prelude.{◌≡◌, ◌∷◌, ◌++◌, [], IfOk, OnOk, map};
+ghost use Rattle.std.specs.Prelude.{◌≡◌, ◌<◌, ◌∷◌, ◌++◌, [], IfOk, IsErrOf, OnOk, length, map};
 ghost use Rattle.std.specs.List.{All};
-ghost use Rattle.geo_base.specs.Near.{IsNearMotion};
+ghost use Rattle.flat_layout.specs.Layout.{Some_of};
 ghost use Rattle.part_origins.specs.Inside.{plain_spot};
-ghost use Rattle.view_words.specs.Numbers.{IsSmall, IsSmallRect};
+ghost use Rattle.view_netlist.specs.Drawing.{AreAllSmall, AreSmallPlaces, IsSmallPoint, IsSmallShift};
+ghost use Rattle.view_words.specs.Numbers.{IsSmallRect};
 ghost use Rattle.view_drawing.specs.Devices.{AddsRegions, AreSmallRegions, IsListedRegion};
 ghost use Rattle.view_drawing.specs.Devices.{areas_of, seen_from};
-ghost use Rattle.view_joined.specs.Devices.{AreJoinedDevices, IsMovedPlace, device_of};
-ghost use Rattle.view_joined.specs.Devices.{moved_corner, moved_rects};
+ghost use Rattle.view_drawing.specs.Far.{IsFarArea};
+ghost use Rattle.view_joined.specs.Devices.{AreJoinedDevices, HaveRegions, IsFarDevice, IsFarMoved};
+ghost use Rattle.view_joined.specs.Devices.{IsMovedPlace, device_of, moved_corner, moved_rects};
 
-use crate::moved::{is_small_point, moved_area};
-use crate::spots::{circuit_at, is_small, motion_at};
+use crate::moved::moved_area;
+use crate::spots::{circuit_at, motion_at};
 use geo_base::{Motion, Point, Rect, Square};
 use part_origins::{Part, Spot};
 use std::alloc::{AllocError, Global};
-use view_drawing::{DeviceRegions, Region, add_region};
+use view_drawing::{DeviceRegions, Region, add_region, area_from};
 use view_netlist::{DevicePlace, Drawing};
 use view_shapes::ShowFault;
-use view_words::is_small_rect;
 
 // The lower left corner of the image of the square at a point.
-fn moved_corner(motion: &Motion, p: Point) -> Result<Point, ShowFault>
-    requires near { IsNearMotion motion.now }
-    ensures { IfOk result (λ q. q ≡ moved_corner motion.now p) }
+fn moved_corner(motion: &Motion, p: Point) -> Point
+    requires motion { IsSmallShift motion.now }
+    requires point { IsSmallPoint p }
+    ensures { result ≡ moved_corner motion.now p }
 {
-    if !is_small_point(p) {
-        return Err(ShowFault::TooFar);
-    }
     let moved = motion.square(Square { x: p.x, y: p.y });
-    Ok(Point {
+    Point {
         x: moved.x,
         y: moved.y,
-    })
-}
-
-// The rectangle as it is seen from a point.
-fn seen_from(p: Point, r: &Rect) -> Rect
-    requires x { IsSmall p.x }
-    requires y { IsSmall p.y }
-    requires rect { IsSmallRect r.now }
-    ensures { result ≡ seen_from p r.now }
-{
-    Rect {
-        x1: r.x1 - p.x,
-        y1: r.y1 - p.y,
-        x2: r.x2 - p.x,
-        y2: r.y2 - p.y,
     }
-}
-
-fn small_seen(p: Point, r: &Rect) -> Result<Rect, ShowFault>
-    ensures seen { IfOk result (λ s. s ≡ seen_from p r.now) }
-    ensures small { IfOk result IsSmallRect }
-{
-    if !is_small_point(p) || !is_small_rect(r) {
-        return Err(ShowFault::TooFar);
-    }
-    let seen = seen_from(p, r);
-    if !is_small_rect(&seen) {
-        return Err(ShowFault::TooFar);
-    }
-    Ok(seen)
-}
-
-fn keep_rect(out: &mut Vec<Rect>, rect: Rect) -> Result<(), AllocError>
-    requires { IsSmallRect rect }
-    ensures kept { OnOk result (out.new.items ≡ out.old.items ++ rect ∷ []) }
-    ensures small { OnOk result (All IsSmallRect out.old.items → All IsSmallRect out.new.items) }
-{
-    out.push(rect)?;
-    Ok(())
-}
-
-fn area_from(alloc: Global, p: Point, rects: &[Rect]) -> Result<Vec<Rect>, ShowFault>
-    ensures rects { IfOk result (λ v. v.items ≡ map (seen_from p) rects.now) }
-    ensures small { IfOk result (λ v. All IsSmallRect v.items) }
-{
-    let mut out = Vec::new(alloc);
-    let mut rest = rects;
-    'rects: while let [r, more @ ..] = rest {
-        let seen = small_seen(p, r)?;
-        keep_rect(&mut out, seen)?;
-        rest = more;
-    }
-    Ok(out)
 }
 
 fn class_of(alloc: Global, region: &Region) -> Result<Vec<u8>, AllocError>
@@ -102,10 +49,15 @@ fn rects_from(
     at: Point,
     region: &Region,
 ) -> Result<Vec<Rect>, ShowFault>
-    requires near { IsNearMotion motion.now }
+    requires motion { IsSmallShift motion.now }
+    requires place { IsSmallPoint place }
+    requires region { All IsSmallRect region.now.rects.items }
+    ensures at { OnOk result (IsSmallPoint at) }
     ensures rects { IfOk result (λ v. v.items
         ≡ map (seen_from at) (moved_rects motion.now place region.now.rects.items)) }
     ensures small { IfOk result (λ v. All IsSmallRect v.items) }
+    ensures far { IsErrOf result ShowFault.TooFar
+        → IsFarArea at (moved_rects motion.now place region.now.rects.items) }
 {
     let area = moved_area(alloc, motion, place, &region.rects)?;
     let rects = area_from(alloc, at, &area)?;
@@ -136,18 +88,20 @@ fn moved_place(
     place: DevicePlace,
     found: &mut DeviceRegions,
 ) -> Result<DevicePlace, ShowFault>
-    requires near { IsNearMotion motion.now }
+    requires motion { IsSmallShift motion.now }
+    requires place { IsSmallPoint place.at }
+    requires region { place.region < length found.old.regions.items }
+    requires regions { AreSmallRegions (areas_of found.old.regions.items) }
     ensures added { OnOk result (AddsRegions (areas_of found.old.regions.items)
         (areas_of found.new.regions.items)) }
     ensures place { IfOk result (IsMovedPlace motion.now place
         (areas_of found.new.regions.items)) }
-    ensures small { OnOk result (AreSmallRegions (areas_of found.old.regions.items)
-        → AreSmallRegions (areas_of found.new.regions.items)) }
+    ensures small { OnOk result (AreSmallRegions (areas_of found.new.regions.items)) }
+    ensures at { IfOk result (λ q. IsSmallPoint q.at) }
+    ensures far { IsErrOf result ShowFault.TooFar
+        → IsFarMoved motion.now place (areas_of found.old.regions.items) }
 {
-    let at = moved_corner(motion, place.at)?;
-    if place.region as usize >= found.regions.len() {
-        return Err(ShowFault::TooFar);
-    }
+    let at = moved_corner(motion, place.at);
     let old = &found.regions[place.region as usize];
     let class = class_of(alloc, old)?;
     let rects = rects_from(alloc, motion, place.at, at, old)?;
@@ -169,29 +123,12 @@ fn device_of(drawings: &[Drawing], circuit: u32, device: u32) -> Option<DevicePl
 }
 
 fn keep_place(out: &mut Vec<DevicePlace>, place: DevicePlace) -> Result<(), AllocError>
-    ensures { OnOk result (out.new.items ≡ out.old.items ++ place ∷ []) }
+    requires { IsSmallPoint place.at }
+    ensures kept { OnOk result (out.new.items ≡ out.old.items ++ place ∷ []) }
+    ensures small { OnOk result (AreSmallPlaces out.old.items → AreSmallPlaces out.new.items) }
 {
     out.push(place)?;
     Ok(())
-}
-
-fn joined_device(
-    alloc: Global,
-    motion: Motion,
-    place: DevicePlace,
-    found: &mut DeviceRegions,
-) -> Result<DevicePlace, ShowFault>
-    ensures added { OnOk result (AddsRegions (areas_of found.old.regions.items)
-        (areas_of found.new.regions.items)) }
-    ensures place { IfOk result (IsMovedPlace motion place
-        (areas_of found.new.regions.items)) }
-    ensures small { OnOk result (AreSmallRegions (areas_of found.old.regions.items)
-        → AreSmallRegions (areas_of found.new.regions.items)) }
-{
-    if !is_small(&motion) {
-        return Err(ShowFault::TooFar);
-    }
-    moved_place(alloc, &motion, place, found)
 }
 
 /// The places of these devices at spots, in order, up to the first that isn't drawn in its circuit;
@@ -205,12 +142,18 @@ pub fn joined_devices(
     devices: &[Part],
     found: &mut DeviceRegions,
 ) -> Result<Vec<DevicePlace>, ShowFault>
+    requires drawings { AreAllSmall drawings.now }
+    requires motions { All IsSmallShift motions.now }
+    requires listed { HaveRegions (areas_of found.old.regions.items) drawings.now }
+    requires regions { AreSmallRegions (areas_of found.old.regions.items) }
     ensures added { OnOk result (AddsRegions (areas_of found.old.regions.items)
         (areas_of found.new.regions.items)) }
     ensures places { IfOk result (λ v. AreJoinedDevices (map plain_spot spots.now) drawings.now
         motions.now (areas_of found.new.regions.items) devices.now v.items) }
-    ensures small { OnOk result (AreSmallRegions (areas_of found.old.regions.items)
-        → AreSmallRegions (areas_of found.new.regions.items)) }
+    ensures small { OnOk result (AreSmallRegions (areas_of found.new.regions.items)) }
+    ensures small_places { IfOk result (λ v. AreSmallPlaces v.items) }
+    ensures far { IsErrOf result ShowFault.TooFar → Some_of (IsFarDevice (map plain_spot spots.now)
+        drawings.now motions.now (areas_of found.old.regions.items)) devices.now }
 {
     let mut out = Vec::new(alloc);
     let mut rest = devices;
@@ -219,7 +162,8 @@ pub fn joined_devices(
         let Some(place) = device_of(drawings, circuit, part.number) else {
             return Ok(out);
         };
-        let moved = joined_device(alloc, motion_at(motions, part.spot), place, found)?;
+        let motion = motion_at(motions, part.spot);
+        let moved = moved_place(alloc, &motion, place, found)?;
         keep_place(&mut out, moved)?;
         rest = more;
     }

@@ -1,13 +1,15 @@
 //! The drawings of aligned circuits.
 
-ghost use Rattle.std.specs.Prelude.{◌≡◌, IfOk, IfSome, OnOk, true};
+ghost use Rattle.std.specs.Prelude.{◌≡◌, IfOk, IsErrOf, OnOk, false, true};
 ghost use Rattle.std.specs.List.{All};
+ghost use Rattle.flat_layout.specs.Layout.{Some_of};
 ghost use Rattle.part_origins.specs.Inside.{plain_inside};
 ghost use Rattle.part_origins.specs.Made.{plain_origins};
 ghost use Rattle.view_drawing.specs.Devices.{AddsRegions, AreSmallRegions, areas_of};
-ghost use Rattle.view_netlist.specs.Drawing.{AreSmallShapes, IsSmallDrawing, drawn_of};
+ghost use Rattle.view_netlist.specs.Drawing.{AreAllSmall, AreSmallShapes, IsSmallDrawing, drawn_of};
 ghost use Rattle.view_netlist.specs.Drawing.{plain_drawing};
-ghost use Rattle.view_words.specs.Numbers.{IsSmallRect};
+ghost use Rattle.view_joined.specs.Devices.{HaveRegions};
+ghost use Rattle.view_joined.specs.Far.{HasFarShape, JoinsFar};
 ghost use Rattle.view_joined.specs.Joined.{IsJoinedDrawing};
 ghost use Rattle.view_joined.specs.Nets.{shape_lists};
 
@@ -32,17 +34,9 @@ fn hull_of(drawings: &[Drawing], circuit: u32) -> Option<Rect>
     }
 }
 
-fn is_small_hull(hull: &Option<Rect>) -> bool
-    ensures { result ≡ true → IfSome hull.now IsSmallRect }
-{
-    match hull {
-        Some(r) => is_small_rect(r),
-        None => true,
-    }
-}
-
 fn are_small(shapes: &[Shape]) -> bool
-    ensures { result ≡ true → AreSmallShapes shapes.now }
+    ensures small { result ≡ true → AreSmallShapes shapes.now }
+    ensures far { result ≡ false → HasFarShape shapes.now }
 {
     let mut rest = shapes;
     'shapes: while let [shape, more @ ..] = rest {
@@ -55,7 +49,8 @@ fn are_small(shapes: &[Shape]) -> bool
 }
 
 fn are_all_small(nets: &[Vec<Shape>]) -> bool
-    ensures { result ≡ true → All AreSmallShapes (shape_lists nets.now) }
+    ensures small { result ≡ true → All AreSmallShapes (shape_lists nets.now) }
+    ensures far { result ≡ false → Some_of HasFarShape (shape_lists nets.now) }
 {
     let mut rest = nets;
     'nets: while let [shapes, more @ ..] = rest {
@@ -79,28 +74,31 @@ pub fn joined_drawing(
     count: usize,
     found: &mut DeviceRegions,
 ) -> Result<Drawing, ShowFault>
+    requires drawings { AreAllSmall drawings.now }
+    requires listed { HaveRegions (areas_of found.old.regions.items) drawings.now }
+    requires regions { AreSmallRegions (areas_of found.old.regions.items) }
     ensures added { OnOk result (AddsRegions (areas_of found.old.regions.items)
         (areas_of found.new.regions.items)) }
     ensures joined { IfOk result (λ v. IsJoinedDrawing (plain_inside inside.now)
         (plain_origins origins.now) drawings.now count (areas_of found.new.regions.items)
         (plain_drawing v)) }
     ensures small { IfOk result (λ v. IsSmallDrawing (plain_drawing v)) }
-    ensures small_regions { OnOk result (AreSmallRegions (areas_of found.old.regions.items)
-        → AreSmallRegions (areas_of found.new.regions.items)) }
+    ensures small_regions { OnOk result (AreSmallRegions (areas_of found.new.regions.items)) }
+    ensures far { IsErrOf result ShowFault.TooFar → JoinsFar (plain_inside inside.now)
+        (plain_origins origins.now) drawings.now (areas_of found.old.regions.items) }
 {
     let spots = inside.spots.as_slice();
     let motions = spot_motions(alloc, spots, drawings)?;
     let nets = joined_nets(alloc, spots, &motions, drawings, &origins.nets, count)?;
-    let calls = joined_calls(alloc, spots, drawings, &motions, &origins.calls)?;
-    let devices = joined_devices(alloc, spots, drawings, &motions, &origins.devices, found)?;
-    let hull = hull_of(drawings, origins.circuit);
-    if !is_small_hull(&hull) || !are_all_small(&nets) {
-        return Err(ShowFault::TooFar);
+    if are_all_small(&nets) {
+        let calls = joined_calls(alloc, spots, drawings, &motions, &origins.calls)?;
+        let devices = joined_devices(alloc, spots, drawings, &motions, &origins.devices, found)?;
+        return Ok(Drawing {
+            hull: hull_of(drawings, origins.circuit),
+            nets,
+            devices,
+            calls,
+        });
     }
-    Ok(Drawing {
-        hull,
-        nets,
-        devices,
-        calls,
-    })
+    Err(ShowFault::TooFar)
 }

@@ -1,20 +1,21 @@
 //! The rectangles of the nets of aligned circuits.
 
 ghost use Rattle.std.specs.Prelude.{◌≡◌, [], None, IfOk, OnOk, map, replicate, slice_index_or};
-ghost use Rattle.geo_base.specs.Near.{IsNearMotion};
+ghost use Rattle.std.specs.List.{All};
 ghost use Rattle.part_origins.specs.Inside.{plain_spot};
+ghost use Rattle.view_netlist.specs.Drawing.{AreAllSmall, AreSmallShapes, IsSmallDrawing};
+ghost use Rattle.view_netlist.specs.Drawing.{IsSmallShift};
 ghost use Rattle.view_netlist.specs.Drawing.{blank, drawn_of, plain_drawing};
 ghost use Rattle.view_joined.specs.Moved.{moved_shape};
 ghost use Rattle.view_joined.specs.Nets.{AreJoined, all_put, put_if, shape_lists, spot_put};
 
 use crate::moved::push_moved;
-use crate::spots::{is_small, motion_at};
+use crate::spots::motion_at;
 use geo_base::Motion;
 use list_base::number;
 use part_origins::Spot;
 use std::alloc::{AllocError, Global};
 use view_netlist::{Drawing, Shape};
-use view_shapes::ShowFault;
 
 // The number of a flat net in the aligned circuit.
 fn number_at(numbers: &[Option<u32>], n: u32) -> Option<u32>
@@ -32,8 +33,9 @@ fn put_if(
     number: Option<u32>,
     motion: &Motion,
     shapes: &[Shape],
-) -> Result<(), ShowFault>
-    requires near { IsNearMotion motion.now }
+) -> Result<(), AllocError>
+    requires motion { IsSmallShift motion.now }
+    requires shapes { AreSmallShapes shapes.now }
     ensures { OnOk result (shape_lists lists.new.items
         ≡ put_if number (map (moved_shape motion.now) shapes.now) (shape_lists lists.old.items)) }
 {
@@ -52,8 +54,9 @@ fn put_spot(
     motion: &Motion,
     drawing: &Drawing,
     nets: &[u32],
-) -> Result<(), ShowFault>
-    requires near { IsNearMotion motion.now }
+) -> Result<(), AllocError>
+    requires motion { IsSmallShift motion.now }
+    requires drawing { IsSmallDrawing (plain_drawing drawing.now) }
     ensures { OnOk result (shape_lists lists.new.items ≡ spot_put numbers.now motion.now
         (plain_drawing drawing.now).nets 0 nets.now (shape_lists lists.old.items)) }
 {
@@ -96,15 +99,14 @@ fn put_drawn(
     drawings: &[Drawing],
     nothing: &Drawing,
     spot: &Spot,
-) -> Result<(), ShowFault>
-    requires { plain_drawing nothing.now ≡ blank }
+) -> Result<(), AllocError>
+    requires motion { IsSmallShift motion }
+    requires small { AreAllSmall drawings.now }
+    requires nothing { plain_drawing nothing.now ≡ blank }
     ensures { OnOk result (shape_lists lists.new.items ≡ spot_put numbers.now motion
         (drawn_of drawings.now spot.now.circuit).nets 0 spot.now.nets.items
         (shape_lists lists.old.items)) }
 {
-    if !is_small(&motion) {
-        return Err(ShowFault::TooFar);
-    }
     let drawing = drawing_at(drawings, nothing, spot.circuit);
     put_spot(lists, numbers, &motion, drawing, &spot.nets)
 }
@@ -116,8 +118,10 @@ fn put_all(
     drawings: &[Drawing],
     nothing: &Drawing,
     spots: &[Spot],
-) -> Result<(), ShowFault>
-    requires { plain_drawing nothing.now ≡ blank }
+) -> Result<(), AllocError>
+    requires motions { All IsSmallShift motions.now }
+    requires small { AreAllSmall drawings.now }
+    requires nothing { plain_drawing nothing.now ≡ blank }
     ensures { OnOk result (shape_lists lists.new.items ≡ all_put numbers.now motions.now
         drawings.now 0 (map plain_spot spots.now) (shape_lists lists.old.items)) }
 {
@@ -141,8 +145,8 @@ fn put_all(
 
 /// For each of so many nets of an aligned circuit, the rectangles that are drawn of it: those of
 /// the nets of the circuits inside it that are this one, moved as these are. `numbers` has the
-/// number of each net of the flat circuit, `drawings` what is drawn of each circuit. `TooFar` where
-/// one reaches 2^30 or more from the origin. Linear in the rectangles.
+/// number of each net of the flat circuit, `drawings` what is drawn of each circuit. Linear in the
+/// rectangles.
 pub fn joined_nets(
     alloc: Global,
     spots: &[Spot],
@@ -150,7 +154,9 @@ pub fn joined_nets(
     drawings: &[Drawing],
     numbers: &[Option<u32>],
     count: usize,
-) -> Result<Vec<Vec<Shape>>, ShowFault>
+) -> Result<Vec<Vec<Shape>>, AllocError>
+    requires motions { All IsSmallShift motions.now }
+    requires small { AreAllSmall drawings.now }
     ensures { IfOk result (λ v. AreJoined (map plain_spot spots.now) motions.now drawings.now
         numbers.now count (shape_lists v.items)) }
 {

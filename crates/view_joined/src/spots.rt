@@ -1,17 +1,22 @@
 //! The motions of the circuits that stand inside a flat one.
 
-ghost use Rattle.std.specs.Prelude.{◌≡◌, ◌∷◌, ◌++◌, [], IfOk, OnOk, get_or, map, true};
-ghost use Rattle.geo_base.specs.Near.{IsNearMotion};
+ghost use Rattle.std.specs.Prelude.{◌≡◌, ◌∷◌, ◌++◌, [], IfOk, IsErrOf, OnOk, get_or, map};
+ghost use Rattle.std.specs.List.{All};
+ghost use Rattle.flat_layout.specs.Layout.{Some_of};
+ghost use Rattle.geo_base.specs.declared.motion.Motion.{Motion};
 ghost use Rattle.part_origins.specs.Inside.{plain_spot};
-ghost use Rattle.view_joined.specs.Spots.{AreCallMotions, AreMotions, IsCallMotion, IsSpotMotion};
-ghost use Rattle.view_joined.specs.Spots.{call_motion, circuit_at, still};
+ghost use Rattle.view_drawing.specs.Far.{IsFarShift};
+ghost use Rattle.view_netlist.specs.Drawing.{AreAllSmall, IsSmallShift};
+ghost use Rattle.view_joined.specs.Spots.{AreCallMotions, AreMotions, IsCallMotion};
+ghost use Rattle.view_joined.specs.Spots.{IsFarCallAt, IsFarSpot, IsSpotMotion, call_motion};
+ghost use Rattle.view_joined.specs.Spots.{circuit_at, still};
 
-use geo_base::{Motion, Rect, Turn};
+use geo_base::{Motion, Turn};
 use part_origins::{Part, Spot};
 use std::alloc::{AllocError, Global};
+use view_drawing::is_small_shift;
 use view_netlist::Drawing;
 use view_shapes::ShowFault;
-use view_words::is_small_rect;
 
 // No motion.
 fn still() -> Motion
@@ -54,18 +59,6 @@ fn call_motion(drawings: &[Drawing], circuit: u32, call: u32) -> Motion
     }
 }
 
-/// Whether its shift is less than 2^30.
-pub fn is_small(motion: &Motion) -> bool
-    ensures { result ≡ true → IsNearMotion motion.now }
-{
-    is_small_rect(&Rect {
-        x1: motion.dx,
-        y1: motion.dy,
-        x2: motion.dx,
-        y2: motion.dy,
-    })
-}
-
 // The motion of a call at a spot: that of the call first, then the spot's.
 fn call_at(
     spots: &[Spot],
@@ -73,18 +66,21 @@ fn call_at(
     motions: &[Motion],
     call: Part,
 ) -> Result<Motion, ShowFault>
-    ensures { IfOk result (IsCallMotion (map plain_spot spots.now) drawings.now motions.now call) }
+    requires drawings { AreAllSmall drawings.now }
+    requires motions { All IsSmallShift motions.now }
+    ensures moved { IfOk result (IsCallMotion (map plain_spot spots.now) drawings.now motions.now
+        call) }
+    ensures small { IfOk result IsSmallShift }
+    ensures far { IsErrOf result ShowFault.TooFar → IsFarCallAt (map plain_spot spots.now)
+        drawings.now motions.now call }
 {
     let own = call_motion(drawings, circuit_at(spots, call.spot), call.number);
     let outer = motion_at(motions, call.spot);
-    if !is_small(&own) || !is_small(&outer) {
-        return Err(ShowFault::TooFar);
-    }
     let both = own.then(&outer);
-    if !is_small(&both) {
-        return Err(ShowFault::TooFar);
+    if is_small_shift(&both) {
+        return Ok(both);
     }
-    Ok(both)
+    Err(ShowFault::TooFar)
 }
 
 fn spot_motion(
@@ -93,7 +89,13 @@ fn spot_motion(
     motions: &[Motion],
     by: Option<Part>,
 ) -> Result<Motion, ShowFault>
-    ensures { IfOk result (IsSpotMotion (map plain_spot spots.now) drawings.now motions.now by) }
+    requires drawings { AreAllSmall drawings.now }
+    requires motions { All IsSmallShift motions.now }
+    ensures moved { IfOk result (IsSpotMotion (map plain_spot spots.now) drawings.now motions.now
+        by) }
+    ensures small { IfOk result IsSmallShift }
+    ensures far { IsErrOf result ShowFault.TooFar → (m : Motion)
+        × IsSpotMotion (map plain_spot spots.now) drawings.now motions.now by m × IsFarShift m }
 {
     match by {
         None => Ok(still()),
@@ -102,7 +104,9 @@ fn spot_motion(
 }
 
 fn keep(out: &mut Vec<Motion>, motion: Motion) -> Result<(), AllocError>
-    ensures { OnOk result (out.new.items ≡ out.old.items ++ motion ∷ []) }
+    requires { IsSmallShift motion }
+    ensures kept { OnOk result (out.new.items ≡ out.old.items ++ motion ∷ []) }
+    ensures small { OnOk result (All IsSmallShift out.old.items → All IsSmallShift out.new.items) }
 {
     out.push(motion)?;
     Ok(())
@@ -110,14 +114,18 @@ fn keep(out: &mut Vec<Motion>, motion: Motion) -> Result<(), AllocError>
 
 /// For each circuit that stands inside a flat one, how it is moved: along the path of its calls,
 /// the innermost first. `drawings` has what is drawn of each circuit, by number. `TooFar` where a
-/// motion reaches 2^30 or more. Linear.
+/// motion's shift is 2^30 or more. Linear.
 pub fn spot_motions(
     alloc: Global,
     spots: &[Spot],
     drawings: &[Drawing],
 ) -> Result<Vec<Motion>, ShowFault>
-    ensures { IfOk result (λ v. AreMotions (map plain_spot spots.now) drawings.now []
+    requires { AreAllSmall drawings.now }
+    ensures motions { IfOk result (λ v. AreMotions (map plain_spot spots.now) drawings.now []
         (map plain_spot spots.now) v.items) }
+    ensures small { IfOk result (λ v. All IsSmallShift v.items) }
+    ensures far { IsErrOf result ShowFault.TooFar → IsFarSpot (map plain_spot spots.now)
+        drawings.now [] (map plain_spot spots.now) }
 {
     let mut motions = Vec::new(alloc);
     let mut rest = spots;
@@ -137,8 +145,13 @@ pub fn joined_calls(
     motions: &[Motion],
     calls: &[Part],
 ) -> Result<Vec<Motion>, ShowFault>
-    ensures { IfOk result (λ v. AreCallMotions (map plain_spot spots.now) drawings.now motions.now
-        calls.now v.items) }
+    requires drawings { AreAllSmall drawings.now }
+    requires motions { All IsSmallShift motions.now }
+    ensures motions { IfOk result (λ v. AreCallMotions (map plain_spot spots.now) drawings.now
+        motions.now calls.now v.items) }
+    ensures small { IfOk result (λ v. All IsSmallShift v.items) }
+    ensures far { IsErrOf result ShowFault.TooFar → Some_of (IsFarCallAt (map plain_spot spots.now)
+        drawings.now motions.now) calls.now }
 {
     let mut out = Vec::new(alloc);
     let mut rest = calls;

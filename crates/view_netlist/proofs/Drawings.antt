@@ -5,7 +5,8 @@ use Rattle.std.proofs.Math.Decide.{dec_lt}
 use Rattle.std.proofs.lemmas.List.{get_or_past}
 use Rattle.std.proofs.lemmas.List.Elements.{All-nil, All-head, All-tail}
 use Rattle.view_words.specs.Numbers.{IsSmallRect}
-use Rattle.view_netlist.specs.Drawing.{AreSmallShapes, Drawn, IsSmallDrawing, blank, drawn_of, plain_drawing}
+use Rattle.view_netlist.specs.Drawing.{AreSmallShapes, Drawn, IsSmallDrawing, IsSmallPoint, IsSmallShift, blank, drawn_of, plain_drawing}
+use Rattle.view_netlist.specs.declared.drawing.DevicePlace.{DevicePlace}
 use Rattle.view_netlist.specs.declared.drawing.Drawing.{Drawing}
 use Rattle.view_netlist.specs.declared.drawing.Shape.{Shape}
 
@@ -19,7 +20,7 @@ shapes_small d k h =
 
 -- nothing is small
 pub blank_small : IsSmallDrawing blank
-blank_small = record { hull = tt; nets = All-nil AreSmallShapes }
+blank_small = record { hull = tt; nets = All-nil AreSmallShapes; devices = All-nil (λ (p : DevicePlace). IsSmallPoint p.at); calls = All-nil IsSmallShift }
 
 -- what is drawn of any number's circuit is small where all drawings are
 pub drawn_small : (ds : List Drawing) (k : ℕ) → All (λ d. IsSmallDrawing (plain_drawing d)) ds → IsSmallDrawing (drawn_of ds k)

@@ -1,5 +1,5 @@
 mod Numbered
 mod Shapes
-mod Drawings
+pub mod Drawings
 mod Orders
 mod ClassNames

@@ -8,7 +8,7 @@ use Rattle.geo_base.specs.declared.motion.Turn.TheVariants.{R0, R90, R180, R270,
 use Rattle.geo_base.specs.declared.motion.Turn.TheVariants.{M270}
 use Rattle.geo_base.specs.declared.shapes.Point.{Point}
 use Rattle.geo_base.specs.declared.shapes.Rect.{Rect}
-use Rattle.view_words.specs.Numbers.{IsSmallRect, pair_text}
+use Rattle.view_words.specs.Numbers.{IsSmall, IsSmallRect, pair_text}
 use Rattle.view_words.specs.Steps.{step_row, step_text, step_to, upper_right}
 use Rattle.view_words.specs.Words.{word}
 use Rattle.view_netlist.specs.Kinds.{class_name}
@@ -43,9 +43,27 @@ drawn_of ds k = get_or (map plain_drawing ds) k blank
 abbrev pub AreSmallShapes : List Shape → Type 0
 AreSmallShapes shapes = All (λ s. IsSmallRect s.rect) shapes
 
+-- both coordinates of a point, both parts of a motion's shift, are less than 2^30 from the origin
+pub record IsSmallPoint (p : Point) : Type 0 where
+  pub x : IsSmall p.x
+  pub y : IsSmall p.y
+
+pub record IsSmallShift (m : Motion) : Type 0 where
+  pub dx : IsSmall m.dx
+  pub dy : IsSmall m.dy
+
+abbrev pub AreSmallPlaces : List DevicePlace → Type 0
+AreSmallPlaces places = All (λ p. IsSmallPoint p.at) places
+
 pub record IsSmallDrawing (d : Drawn) : Type 0 where
   pub hull : IfSome d.hull IsSmallRect
   pub nets : All AreSmallShapes d.nets
+  pub devices : AreSmallPlaces d.devices
+  pub calls : All IsSmallShift d.calls
+
+-- each of the drawings is small
+abbrev pub AreAllSmall : List Drawing → Type 0
+AreAllSmall drawings = All (λ d. IsSmallDrawing (plain_drawing d)) drawings
 
 abbrev pub origin : Point
 origin = record { x = pos 0; y = pos 0 }

@@ -1,5 +1,6 @@
 -- What is drawn of aligned circuits stays right while regions are added.
-use Rattle.std.proofs.Common.{◌≡◌, ℕ, List, [], ◌∷◌, ◌++◌, Option, Some, None, length, refl, slice_get, subst, sym, append_assoc, append-nil}
+use Rattle.std.proofs.Common.{inl, inr, ◌≡◌, ℕ, List, [], ◌∷◌, ◌++◌, Option, Some, None, length, refl, slice_get, subst, sym, append_assoc, append-nil}
+use Rattle.flat_layout.specs.Layout.{Some_of}
 use Rattle.geo_base.specs.declared.motion.Motion.{Motion}
 use Rattle.part_origins.specs.Inside.{PlainInside, PlainSpot}
 use Rattle.part_origins.specs.Made.{PlainOrigins}
@@ -10,10 +11,14 @@ use Rattle.view_drawing.specs.Devices.{AddsRegions, Area, AreSmallRegions}
 use Rattle.view_joined.proofs.Growing.{still_moved}
 use Rattle.view_joined.specs.Devices.{AreJoinedDevices}
 use Rattle.view_joined.specs.Joined.{IsJoinedDrawing}
-use Rattle.view_netlist.specs.Drawing.{Drawn}
+use Rattle.view_netlist.specs.Drawing.{AreAllSmall, Drawn}
 use Rattle.view_netlist.specs.declared.drawing.DevicePlace.{DevicePlace}
 use Rattle.view_netlist.specs.declared.drawing.Drawing.{Drawing}
-use Rattle.view_picture.specs.Picture.{AreAllJoined, AreAllSmall, IsJoinedIn, IsJoinedOf, plain_drawings}
+use Rattle.view_joined.proofs.Small.{longer, stood_before}
+use Rattle.view_joined.specs.Devices.{HaveRegions, IsFarDevice, IsFarMoved}
+use Rattle.view_joined.specs.Far.{Call, Device, JoinsFar, Net, Spot}
+use Rattle.view_picture.specs.Far.{HasFarJoined, IsFarOf}
+use Rattle.view_picture.specs.Picture.{AreAllJoined, IsJoinedIn, IsJoinedOf, plain_drawings}
 
 still_devices : (spots : List PlainSpot) (ds : List Drawing) (ms : List Motion) (a b : List Area) (parts : List Part) (qs : List DevicePlace) → AddsRegions a b → AreJoinedDevices spots ds ms a parts qs → AreJoinedDevices spots ds ms b parts qs
 still_devices spots ds ms a b [] [] adds h = h
@@ -38,6 +43,29 @@ still_of (Some x) ds o c a b v adds h = still_drawing x o ds (length c.nets) a b
 still_in : (xs : List PlainInside) (ds : List Drawing) (o : PlainOrigins) (c : Circuit) (a b : List Area) (v : Drawn) → AddsRegions a b → IsJoinedIn xs ds o c a v → IsJoinedIn xs ds o c b v
 still_in xs ds o c a b v adds h = still_of (slice_get xs o.circuit) ds o c a b v adds h
 
+-- what is drawn has its region among the first ones still
+pub regions_too : (a b : List Area) (ds : List Drawing) → AddsRegions a b → HaveRegions a ds → HaveRegions b ds
+regions_too a b ds adds h circuit device p at = longer a b p.region adds (h circuit device p at)
+
+-- and what is too far by more regions is too far by these
+devices_before : (spots : List PlainSpot) (ds : List Drawing) (ms : List Motion) (a b : List Area) → AddsRegions a b → HaveRegions a ds → (parts : List Part)
+    → Some_of (IsFarDevice spots ds ms b) parts → Some_of (IsFarDevice spots ds ms a) parts
+devices_before spots ds ms a b adds have [] h = h
+devices_before spots ds ms a b adds have (c ∷ cs) (inl h) =
+    let moved = h.2 in
+    inl (h.0, h.1, (moved.0, stood_before a b h.0.region moved.0 adds (have _ _ h.0 h.1) moved.1, moved.2))
+devices_before spots ds ms a b adds have (c ∷ cs) (inr h) = inr (devices_before spots ds ms a b adds have cs h)
+
+far_before : (x : PlainInside) (o : PlainOrigins) (ds : List Drawing) (a b : List Area) → AddsRegions a b → HaveRegions a ds → JoinsFar x o ds b → JoinsFar x o ds a
+far_before x o ds a b adds have (Spot h) = Spot h
+far_before x o ds a b adds have (Net ms moved q t is h) = Net ms moved q t is h
+far_before x o ds a b adds have (Call ms moved h) = Call ms moved h
+far_before x o ds a b adds have (Device ms moved h) = Device ms moved (devices_before x.spots ds ms a b adds have o.devices h)
+
+pub far_of_before : (x : Option PlainInside) (o : PlainOrigins) (ds : List Drawing) (a b : List Area) → AddsRegions a b → HaveRegions a ds → IsFarOf x ds b o → IsFarOf x ds a o
+far_of_before None o ds a b adds have h = h
+far_of_before (Some x) o ds a b adds have h = far_before x o ds a b adds have h
+
 module _ (xs : List PlainInside) (ds : List Drawing) where
   -- what is drawn of the circuits that are left stands behind what was drawn before
   abbrev pub JoinsOn : List Area → List PlainOrigins → List Circuit → List Drawn → List PlainOrigins → List Circuit → Type 0
@@ -45,8 +73,9 @@ module _ (xs : List PlainInside) (ds : List Drawing) where
 
   pub record JoinedSoFar (old now : List Area) (os : List PlainOrigins) (cs : List Circuit) (out : List Drawing) (all_os : List PlainOrigins) (all_cs : List Circuit) : Type 0 where
     pub added : AddsRegions old now
-    pub small_regions : AreSmallRegions old → AreSmallRegions now
+    pub small_regions : AreSmallRegions now
     pub small : AreAllSmall out
+    pub far : HasFarJoined xs os ds old → HasFarJoined xs all_os ds old
     pub goes : JoinsOn now os cs (plain_drawings out) all_os all_cs
 
   pub joins_next : (now new : List Area) (o : PlainOrigins) (os : List PlainOrigins) (c : Circuit) (cs : List Circuit) (v : Drawn) (out : List Drawn) (all_os : List PlainOrigins) (all_cs : List Circuit)

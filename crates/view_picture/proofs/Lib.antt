@@ -1,2 +1,3 @@
 pub mod Picturing
 pub mod Joining
+pub mod Listed

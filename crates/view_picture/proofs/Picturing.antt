@@ -10,12 +10,12 @@ use Rattle.view_drawing.specs.Drawn.{IsCellDrawn, items_in}
 use Rattle.view_drawing.specs.declared.source.Source.{Source}
 use Rattle.view_labels.specs.Labels.{shown_cell}
 use Rattle.view_laws.specs.Shown.{Called}
-use Rattle.view_netlist.specs.Drawing.{Drawn}
+use Rattle.view_netlist.specs.Drawing.{AreAllSmall, Drawn}
 use Rattle.view_netlist.specs.declared.drawing.Drawing.{Drawing}
 use Rattle.view_file.specs.declared.regions.Region.{Region}
 use Rattle.view_words.specs.Numbers.{IsSmallRect}
 use Rattle.std.specs.List.{All}
-use Rattle.view_picture.specs.Picture.{shown_area, shown_areas, AreAllDrawn, AreAllSmall, plain_drawings, IsDrawnAs, IsDrawnIn, IsDrawnOf, Other, Whole, Without}
+use Rattle.view_picture.specs.Picture.{shown_area, shown_areas, AreAllDrawn, plain_drawings, IsDrawnAs, IsDrawnIn, IsDrawnOf, Other, Whole, Without}
 
 still_cell : (s : Source) (t : Tables) (called : Called) (cell : ℕ) (c : Circuit) (a b : List Area) (v : Drawn) → AddsRegions a b → IsCellDrawn s t called cell c a v → IsCellDrawn s t called cell c b v
 still_cell s t called cell c a b v h l = record {

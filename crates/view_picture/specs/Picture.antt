@@ -1,7 +1,6 @@
 -- What is drawn of a layout's circuits as they are compared.
 use Rattle.std.specs.Prelude.{◌≡◌, ℕ, List, [], ◌∷◌, Option, Some, None, length, map, slice_get}
-use Rattle.std.specs.List.{All}
-use Rattle.cell_graph.specs.Linked.{plain}
+use Rattle.cell_graph.specs.Linked.{Linked, plain}
 use Rattle.deep_tables.specs.Circuits.{value_of}
 use Rattle.deep_tables.specs.Nets.{AreRightNets}
 use Rattle.flat_layout.specs.Layout.{IsReached}
@@ -12,19 +11,21 @@ use Rattle.plain_netlist.specs.Netlist.{Circuit}
 use Rattle.rule_layers.specs.Meaning.{wiring_of}
 use Rattle.rule_text.specs.Seen.{rules_seen}
 use Rattle.rule_text.specs.Sound.{IsSound}
+use Rattle.rule_text.specs.declared.rules.LayerRule.{LayerRule}
 use Rattle.spice_text.specs.Needs.{first_seen}
-use Rattle.view_drawing.specs.Devices.{Area}
+use Rattle.view_drawing.specs.Devices.{Area, areas_of}
 use Rattle.view_drawing.specs.Drawn.{AreAllThere, AreListsOf, IsCellDrawn, listed_tables}
 use Rattle.view_drawing.specs.declared.source.Source.{Source}
 use Rattle.view_file.specs.declared.layout.Picture.{Picture}
 use Rattle.view_file.specs.declared.regions.Region.{Region}
 use Rattle.view_joined.specs.Joined.{IsJoinedDrawing}
 use Rattle.view_laws.specs.Shown.{Called}
-use Rattle.view_netlist.specs.Drawing.{Drawn, IsSmallDrawing, blank, plain_drawing}
+use Rattle.view_netlist.specs.Drawing.{Drawn, blank, plain_drawing}
 use Rattle.view_netlist.specs.declared.drawing.Drawing.{Drawing}
 use Rattle.view_labels.specs.Labels.{labels_of, layer_names, numbers_of, shown_cell}
 use Rattle.view_labels.specs.Same.{AreSameRows}
 use Rattle.view_picture.specs.declared.drawings.Given.{Given}
+use Rattle.view_picture.specs.declared.drawings.Sketch.{Sketch}
 
 -- the devices' places, where the devices are those of the cell's circuit; else none
 abbrev pub devices_kept : Drawn → Drawn
@@ -94,23 +95,31 @@ shown_areas regions = map shown_area regions
 abbrev pub plain_drawings : List Drawing → List Drawn
 plain_drawings ds = map plain_drawing ds
 
-abbrev pub AreAllSmall : List Drawing → Type 0
-AreAllSmall ds = All (λ d. IsSmallDrawing (plain_drawing d)) ds
+-- what is drawn of each circuit of a netlist by its cell; these are the names of the cells' circuits
+pub record AreDrawn (s : Source) (t : Tables) (called : Called) (cells : List ℕ)
+    (names : List (List ℕ)) (written : List Circuit) (v : Sketch) : Type 0 where
+  pub by_cells : AreAllDrawn s t called cells (first_seen [] names)
+      (numbers_of (first_seen [] names) written) written (areas_of v.regions.regions.items)
+      (plain_drawings v.drawings.items)
 
 -- the names of layers and circuits, and what is drawn of each aligned circuit, joined from what is
--- drawn of the written ones by their cells; these are the names of the cells' circuits
+-- drawn of the circuits that were aligned
+pub record IsJoinedPicture (d : Linked) (rules : List LayerRule) (cells : List ℕ)
+    (names : List (List ℕ)) (drawn : List Drawing) (o : AllOrigins) (lefts : List Circuit)
+    (p : Picture) : Type 0 where
+  pub layers : p.names.layers.items ≡ layer_names rules
+  pub circuits : p.names.circuits.items ≡ labels_of d cells (first_seen [] names) lefts
+  pub drawings : AreAllJoined o.insides drawn o.circuits lefts (shown_areas p.regions.items)
+      (plain_drawings p.drawings.items)
+
+-- the picture of aligned circuits, joined from what is drawn of the written ones by their cells
 pub record IsPicture (s : Source) (t : Tables) (called : Called) (cells : List ℕ)
     (names : List (List ℕ)) (written : List Circuit) (o : AllOrigins) (lefts : List Circuit)
     (p : Picture) : Type 0 where
-  pub layers : p.names.layers.items ≡ layer_names s.rules.now.names.items
-  pub circuits : p.names.circuits.items
-      ≡ labels_of s.design.now cells (first_seen [] names) lefts
-  pub drawn : List Drawing
-  pub areas : List Area
-  pub by_cells : AreAllDrawn s t called cells (first_seen [] names)
-      (numbers_of (first_seen [] names) written) written areas (plain_drawings drawn)
-  pub drawings : AreAllJoined o.insides drawn o.circuits lefts (shown_areas p.regions.items)
-      (plain_drawings p.drawings.items)
+  pub sketch : Sketch
+  pub drawn : AreDrawn s t called cells names written sketch
+  pub joined : IsJoinedPicture s.design.now s.rules.now.names.items cells names
+      sketch.drawings.items o lefts p
 
 -- a cell that the top reaches
 abbrev pub IsReachedIn : Given → ℕ → Type 0

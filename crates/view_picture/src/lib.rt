@@ -5,5 +5,5 @@ mod drawings;
 mod joined;
 mod pictures;
 
-pub use drawings::Given;
+pub use drawings::{Given, Sketch, draw_written};
 pub use pictures::picture;

@@ -1,21 +1,27 @@
 //! The picture of a layout's circuits as they are compared.
 
-ghost use Rattle.std.specs.Prelude.{◌≡◌, [], IfOk, map};
+ghost use Rattle.std.specs.Prelude.{◌≡◌, IfOk, IsErrOf, length, map};
 ghost use Rattle.net_model.specs.Rows.{plain_circuit};
 ghost use Rattle.part_origins.specs.Made.{plain_all};
-ghost use Rattle.view_drawing.specs.Devices.{areas_of};
-ghost use Rattle.view_drawing.specs.Drawn.{listed_tables};
+ghost use Rattle.view_drawing.specs.Devices.{AreSmallRegions, areas_of};
 ghost use Rattle.view_file.specs.Layout.{IsSmallPicture};
-ghost use Rattle.view_shapes.specs.Shown.{called_by};
-ghost use Rattle.view_picture.specs.Picture.{IsDrawable, IsPicture, shown_areas};
+ghost use Rattle.view_joined.specs.Devices.{HaveRegions};
+ghost use Rattle.view_labels.specs.Labels.{AreInside};
+ghost use Rattle.view_netlist.specs.Drawing.{AreAllSmall};
+ghost use Rattle.view_picture.specs.Far.{HasFarJoined};
+ghost use Rattle.view_picture.specs.Picture.{IsJoinedPicture, shown_areas};
 
-use crate::drawings::{Given, draw_all};
+use crate::drawings::Sketch;
 use crate::joined::join_all;
+use cell_graph::Design;
 use net_model::Circuit;
+use net_names::Name;
+use part_origins::Origins;
+use rule_text::RuleSet;
 use std::alloc::{AllocError, Global};
-use view_drawing::{DeviceRegions, Region as Found, name_table};
+use view_drawing::{Region as Found, name_table};
 use view_file::{Picture, Region};
-use view_labels::{labels, layer_names, shown_numbers};
+use view_labels::{labels, layer_names};
 use view_netlist::Names;
 use view_shapes::ShowFault;
 
@@ -32,28 +38,40 @@ fn regions_of(alloc: Global, found: Vec<Found>) -> Result<Vec<Region>, AllocErro
 }
 
 /// The picture of these circuits of an aligned netlist: each under the name of its cell, with what
-/// is drawn of the circuits that stand inside it. `TooFar` where something reaches 2^30 or more from
-/// the origin. Cost: that of drawing each cell
-/// once, and what is drawn of flattened ones once for each call.
-pub fn picture(alloc: Global, given: Given, lefts: &[Circuit]) -> Result<Picture, ShowFault>
-    requires { IsDrawable given }
-    ensures picture { IfOk result (IsPicture given.entry.source (listed_tables given.entry.lists.now)
-        (called_by given.entry.lists.now.called.items) given.entry.cells.now given.entry.names.now
-        (map plain_circuit given.entry.written.now) (plain_all given.entry.origins.now)
-        (map plain_circuit lefts.now)) }
+/// is drawn of the circuits that stand inside it, by the sketch of the netlist that was aligned.
+/// `cells` are the cells with circuits, `names` the names of their circuits. `TooFar` where
+/// something reaches 2^30 or more from the origin. Cost: what is drawn, of flattened circuits once
+/// for each call.
+pub fn picture(
+    alloc: Global,
+    design: &Design,
+    rules: &RuleSet,
+    cells: &[u32],
+    names: &[Name],
+    sketch: Sketch,
+    origins: &Origins,
+    lefts: &[Circuit],
+) -> Result<Picture, ShowFault>
+    requires cells { AreInside (length design.now.cells) cells.now }
+    requires small { AreAllSmall sketch.drawings.items }
+    requires listed { HaveRegions (areas_of sketch.regions.regions.items) sketch.drawings.items }
+    requires small_regions { AreSmallRegions (areas_of sketch.regions.regions.items) }
+    ensures picture { IfOk result (IsJoinedPicture design.now rules.now.names.items cells.now
+        names.now sketch.drawings.items (plain_all origins.now) (map plain_circuit lefts.now)) }
     ensures small { IfOk result IsSmallPicture }
+    ensures far { IsErrOf result ShowFault.TooFar → HasFarJoined
+        (plain_all origins.now).insides (plain_all origins.now).circuits sketch.drawings.items
+        (areas_of sketch.regions.regions.items) }
 {
-    given.source.design.sound();
-    let table = name_table(alloc, given.names)?;
-    let shown = shown_numbers(alloc, &table, given.written)?;
-    let layers = layer_names(alloc, &given.source.rules.names)?;
-    let circuits = labels(alloc, given.source.design, given.cells, &table, lefts)?;
-    let mut found = DeviceRegions::none(alloc);
-    let written = draw_all(alloc, given, &table, &shown, given.written, &mut found)?;
-    let drawings = join_all(alloc, given.origins, &written, lefts, &mut found)?;
+    let Sketch { drawings, regions } = sketch;
+    let mut found = regions;
+    let table = name_table(alloc, names)?;
+    let layers = layer_names(alloc, &rules.names)?;
+    let circuits = labels(alloc, design, cells, &table, lefts)?;
+    let joined = join_all(alloc, origins, &drawings, lefts, &mut found)?;
     Ok(Picture {
         names: Names { layers, circuits },
-        drawings,
+        drawings: joined,
         regions: regions_of(alloc, found.regions)?,
     })
 }

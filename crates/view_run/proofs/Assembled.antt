@@ -33,8 +33,13 @@ use Rattle.view_labels.specs.Logs.{gate_log}
 use Rattle.view_run.specs.Ends.{End}
 use Rattle.view_run.specs.Found.{AreCompared, HasFound, Memory, NotCompared, Wide}
 use Rattle.view_run.specs.Lines.{view_line}
-use Rattle.view_run.specs.Views.{ArePictured, AreRowsOf, IsNetlistFound, IsPageAsked, IsView, NotMade, names_of, shown_left, shown_lefts, shown_logs, shown_rights, view_answer}
-use Rattle.view_run.specs.Views as views
+use Rattle.view_drawing.specs.Devices.{areas_of}
+use Rattle.view_drawing.specs.declared.source.Source.{Source}
+use Rattle.view_picture.specs.declared.drawings.Sketch.{Sketch}
+use Rattle.view_run.specs.Views.{AreCellsOf, ArePictured, AreRowsOf, IsNetlistFound, IsPageAsked, IsView, names_of, shown_left, shown_lefts, shown_logs, shown_rights, view_answer}
+use Rattle.view_run.specs.Far.{HasFarAligned, HasFarBy, IsTooFar, NotMade}
+use Rattle.view_run.specs.Far as refusals
+use Rattle.view_run.specs.Sketched.{IsSketchOf}
 use Rattle.view_run.specs.declared.found.Found.{Found}
 use Rattle.view_shapes.specs.declared.pieces.ShowFault.{ShowFault}
 use Rattle.view_shapes.specs.declared.pieces.ShowFault.TheVariants as faults
@@ -76,9 +81,9 @@ module _ (r : Rules) (nl other : Netlist) (b : Both) (both : AreCompared r nl ot
   top_of_both top lt = top_compared r nl b.layout top both.layout_is lt
 
 -- what can't be drawn isn't made
-pub not_drawn : (l : Layout) (r : Rules) (schematic : Netlist) (fault : ShowFault) (e : End) → e ≡ view_answer fault → NotMade l r schematic e
-not_drawn l r schematic faults.TooFar e same = views.Far same
-not_drawn l r schematic faults.NoMemory e same = views.Memory same
+pub not_drawn : (l : Layout) (r : Rules) (schematic : Netlist) (fault : ShowFault) (e : End) → e ≡ view_answer fault → (fault ≡ faults.TooFar → IsTooFar l r schematic) → NotMade l r schematic e
+not_drawn l r schematic faults.TooFar e same far = refusals.Far (far refl) same
+not_drawn l r schematic faults.NoMemory e same far = refusals.Memory same
 
 -- ---- the same of equal names, gates, rows and numbers
 
@@ -99,9 +104,9 @@ module _ (l : Layout) (r : Rules) (schematic : Netlist) (f : Found) (found : Has
   netlist_found = record { of_cells = found.of_cells; sound = found.sound; told = found.told }
 
   pub not_made : (e : End) → NotCompared r (plain_netlist f.netlist) schematic e → NotMade l r schematic e
-  not_made e (Wide a refused same) = views.Wide a
+  not_made e (Wide a refused same) = refusals.Wide a
       (record { cells = f.cells; are = found.cells; netlist = plain_netlist f.netlist; top = f.top; bad = f.bad.items; found = netlist_found; refused = refused }) same
-  not_made e (Memory same) = views.Memory same
+  not_made e (Memory same) = refusals.Memory same
 
   -- ---- what is made over the netlists that are compared
   module _ (t : Turns) (p : Picture) (rows : List (List Row)) (paged : Bool) (text : List ℕ) (page : Option (List ℕ)) where
@@ -141,4 +146,35 @@ module _ (l : Layout) (r : Rules) (schematic : Netlist) (f : Found) (found : Has
           database = m.database;
           page_is = m.page_is;
           line_is = line_is;
+        }
+
+  -- ---- what is too far of the netlists that are compared
+  module _ (t : Turns) (s : Source) (cells : List ℕ) (sketch : Sketch) where
+    pub record FarMade (one other : Netlist) : Type 0 where
+      pub taken : IsTaken r one f.top other t
+      pub sketched : IsSketchOf l r s cells (names_of (plain_netlist f.netlist)) one sketch
+      pub by : HasFarBy one (shown_left one t.compared) sketch.drawings.items (areas_of sketch.regions.regions.items)
+
+    pub far_aligned : (b : Both) → AreCompared r (plain_netlist f.netlist) schematic b → AreCellsOf l r s cells → s.layers.now ≡ f.cells.gated.layers → s.nets.now ≡ f.cells.gated.nets → s.gates.now ≡ f.cells.gated.gates
+        → s.pins.now ≡ f.cells.pins → FarMade (plain_netlist b.layout) (plain_netlist b.schematic) → HasFarAligned l r schematic
+    far_aligned b both are layers nets gates pins made =
+        let nl = plain_netlist f.netlist in
+        let m = subst (λ (n : Netlist). FarMade (compared_of r nl) n) both.schematic_is (subst (λ (n : Netlist). FarMade n (plain_netlist b.schematic)) both.layout_is made) in
+        let by_layers = subst (λ (xs : List (Option CellLayers)). IsNetlistFound l r xs f.cells.gated.nets f.cells.gated.gates f.cells.pins nl f.top f.bad.items) (sym layers) netlist_found in
+        let by_nets = subst (λ (xs : List (Option CellNets)). IsNetlistFound l r s.layers.now xs f.cells.gated.gates f.cells.pins nl f.top f.bad.items) (sym nets) by_layers in
+        let by_gates = subst (λ (xs : List (Option CellGates)). IsNetlistFound l r s.layers.now s.nets.now xs f.cells.pins nl f.top f.bad.items) (sym gates) by_nets in
+        record {
+          source = s;
+          cells = cells;
+          are = are;
+          netlist = nl;
+          top = f.top;
+          bad = f.bad.items;
+          found = subst (λ (xs : List (Option CellPins)). IsNetlistFound l r s.layers.now s.nets.now s.gates.now xs nl f.top f.bad.items) (sym pins) by_gates;
+          turns = t;
+          narrow = both.narrow;
+          taken = m.taken;
+          sketch = sketch;
+          sketched = m.sketched;
+          by = m.by;
         }

@@ -21,7 +21,7 @@ use Rattle.rule_text.specs.Rules.{Rules}
 use Rattle.view_options.specs.Stated.{Asked}
 use Rattle.view_run.specs.Ends.{AsRun, End, ShowsTheFaults, TooFar, refused_for, stopped, verdict_end}
 use Rattle.view_run.specs.Runs.{BadLayout, BadRules, BadSchematic, Comes, Delivers, IsPageApart, IsReady, IsSilent, NoMemory, NothingMade, Refused, SamePath, Sends, Stopped, Stops, WrongWords, Wrote, page_files}
-use Rattle.view_run.specs.Views.{Far, Memory, NotMade, Wide}
+use Rattle.view_run.specs.Far.{Far, Memory, NotMade, Wide}
 use Rattle.view_run.specs.declared.status.Stop.{Stop}
 use Rattle.view_run.specs.declared.status.Stop.TheVariants as stop
 use Rattle.view_run.specs.declared.status.Why.{Why}
@@ -46,7 +46,7 @@ as_end old new e f same h = subst (λ (x : End). EndFaults x old new) (sym same)
 
 not_made : (l : Layout) (r : Rules) (nl : Netlist) (old new : Store) (e : End) → NotMade l r nl e → new.faults ≡ old.faults → EndFaults e old new
 not_made l r nl old new e (Wide a w same) h = as_end old new e (AsRun a) same (of_merge old new a (only_these (wide_name r w.netlist) (wide_name r nl) a w.refused) h)
-not_made l r nl old new e (Far same) h = as_end old new e TooFar same h
+not_made l r nl old new e (Far far same) h = as_end old new e TooFar same h
 not_made l r nl old new e (Memory same) h = as_end old new e (AsRun run.NoMemory) same h
 
 pub stop_faults : (words : Option Asked) (old new : Store) (e : End) → Stops words old new e → EndFaults e old new

@@ -18,7 +18,8 @@ use Rattle.spice_text.specs.Means.{Means as SpiceMeans}
 use Rattle.view_options.specs.Stated.{Asked}
 use Rattle.view_run.specs.Ends.{AsRun, End}
 use Rattle.view_run.specs.Runs.{Asks, BadLayout, BadRules, BadSchematic, IsReady, NoMemory, NothingMade, ReadsAll, ReadsLayout, ReadsRules, Stops, page_files}
-use Rattle.view_run.specs.Views.{IsView, NotMade}
+use Rattle.view_run.specs.Far.{NotMade}
+use Rattle.view_run.specs.Views.{IsView}
 
 pub rules_stop : (q : Asked) (old new : Store) (a : Answer) (e : End) → q.shared ≡ None → e ≡ AsRun a → RefusesRules old new q.rules a → Stops (Some q) old new e
 rules_stop q old new a e apart same h = BadRules q a (record { stated = refl; apart = apart }) h same

@@ -4,4 +4,6 @@ pub mod Ends
 pub mod Found
 pub mod Places
 pub mod Views
+pub mod Sketched
+pub mod Far
 pub mod Runs

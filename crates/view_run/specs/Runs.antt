@@ -19,7 +19,8 @@ use Rattle.spice_text.specs.Means.{Means as SpiceMeans}
 use Rattle.view_options.specs.Stated.{Asked}
 use Rattle.view_run.specs.Ends.{AsRun, End, refusal_text, refused_for, verdict_end}
 use Rattle.view_run.specs.declared.status.Why.{Why}
-use Rattle.view_run.specs.Views.{IsView, NotMade}
+use Rattle.view_run.specs.Far.{NotMade}
+use Rattle.view_run.specs.Views.{IsView}
 
 -- the words ask for these files, of which none that is written is named twice
 pub record Asks (words : Option Asked) (q : Asked) : Type 0 where

@@ -151,12 +151,6 @@ pub record IsTooWide (l : Layout) (r : Rules) (schematic : Netlist) (a : Answer)
       netlist top bad
   pub refused : merge_refusal (wide_name r netlist) (wide_name r schematic) ≡ Some a
 
--- why nothing is made of a layout, rules and a schematic
-pub data NotMade (l : Layout) (r : Rules) (schematic : Netlist) (e : End) : Type 0 where
-  Wide : (a : Answer) → IsTooWide l r schematic a → e ≡ AsRun a → NotMade l r schematic e
-  Far : e ≡ TooFar → NotMade l r schematic e
-  Memory : e ≡ AsRun NoMemory → NotMade l r schematic e
-
 -- each circuit has one of the other side, and an answer
 pub record ArePaired (c : Compared) : Type 0 where
   pub rights : length (rights_of c) ≡ length (lefts_of c)

@@ -10,9 +10,10 @@ ghost use Rattle.rule_text.specs.Seen.{rules_seen};
 ghost use Rattle.rule_text.specs.Sound.{IsSound};
 ghost use Rattle.view_run.specs.Ends.{stopped};
 ghost use Rattle.view_run.specs.Found.{HasFound};
-ghost use Rattle.view_run.specs.Views.{IsView, NotMade};
+ghost use Rattle.view_run.specs.Far.{NotMade};
+ghost use Rattle.view_run.specs.Views.{IsView};
 
-use crate::drawing::{circuit_names, draw};
+use crate::drawing::{circuit_names, draw, joined};
 use crate::found::{Found, find_all};
 use crate::merging::as_compared;
 use crate::status::Stop;
@@ -98,21 +99,24 @@ fn view_found<R: Threads + Wait + Sync, G: Gate + Sync>(
     let circuits = netlist.circuits.len();
     let both = as_compared(alloc, rules, netlist, schematic)?;
     let (one, other) = (&both.layout, &both.schematic);
+    let drawn = match draw(alloc, layout, rules, cells, names, one) {
+        Ok(drawn) => drawn,
+        Err(fault) => return Err(view_stop(fault)),
+    };
     let turns = compare_in_turns(rt, alloc, rules, one, top, other, workers, gate)?;
     let compared = &turns.compared;
     let verdict = judge(&bad, compared)?;
     let shown = shown_circuits(&both, compared);
-    let drawn = match draw(alloc, layout, rules, &cells, &names, one, shown) {
-        Ok(drawn) => drawn,
+    let picture = match joined(alloc, layout, rules, drawn, one, shown) {
+        Ok(picture) => picture,
         Err(fault) => return Err(view_stop(fault)),
     };
-    drop(cells);
     let rows = propose(alloc, rules, compared)?;
     let name = circuit_name(one, top as usize);
     let text = write_database(
-        alloc, layout, rules, &drawn, &both, compared, &rows, name, &bad,
+        alloc, layout, rules, &picture, &both, compared, &rows, name, &bad,
     )?;
-    let page = write_page(alloc, layout, &drawn, &both, compared, &rows, paged)?;
+    let page = write_page(alloc, layout, &picture, &both, compared, &rows, paged)?;
     let line = view_line(alloc, verdict, circuits, pair_count(compared), bad.len())?;
     Ok(View {
         text,

@@ -1,8 +1,7 @@
 use Rattle.std.proofs.Common.{List, subst, sym}
 use Rattle.view_drawing.proofs.Placing.{all_one}
-use Rattle.view_netlist.specs.Drawing.{IsSmallDrawing, plain_drawing}
+use Rattle.view_netlist.specs.Drawing.{AreAllSmall, IsSmallDrawing, plain_drawing}
 use Rattle.view_netlist.specs.declared.drawing.Drawing.{Drawing}
-use Rattle.view_picture.specs.Picture.{AreAllSmall}
 use Rattle.view_picture.proofs.drawings.keep.Goals as goal
 
 pub returns-clause-small : goal.returns-clause-small

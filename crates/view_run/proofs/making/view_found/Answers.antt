@@ -1,4 +1,4 @@
-use Rattle.std.proofs.Common.{◌≡◌, ◌<◌, ◌∙◌, ℕ, IfOk, List, Result, ap, length, map, subst, sym}
+use Rattle.std.proofs.Common.{◌≡◌, ◌<◌, ◌∙◌, ℕ, Err, IfOk, List, [], Result, ap, length, map, subst, sym}
 use Rattle.std.proofs.lemmas.List.{length-map}
 use Rattle.std.proofs.lemmas.Result.{err_from_is_err_and}
 use Rattle.std.specs.List.{All}
@@ -16,8 +16,16 @@ use Rattle.view_cross.specs.declared.rows.Row.{Row}
 use Rattle.view_file.specs.declared.layout.Picture.{Picture}
 use Rattle.view_shapes.specs.declared.pieces.ShowFault.{ShowFault}
 use Rattle.view_file.specs.Cross.{lists_of}
+use Rattle.spice_text.specs.Needs.{first_seen}
+use Rattle.view_drawing.specs.Devices.{areas_of}
+use Rattle.view_labels.specs.Labels.{numbers_of}
+use Rattle.view_picture.proofs.Listed.{regions_listed}
+use Rattle.view_run.specs.Far.{Aligned, HasFarBy, Written}
+use Rattle.view_run.specs.Sketched.{AreSketched, IsJoinedBy, IsSketchOf}
+use Rattle.view_run.specs.declared.drawing.Sketched.{Sketched}
+use Rattle.view_run.proofs.Pictured.{pictured}
 use Rattle.view_run.specs.Views.{ArePictured, IsPageAsked, names_of, shown_lefts, shown_rights}
-use Rattle.view_run.proofs.Assembled.{database_as, is_view, line_as, layout_alignable, layout_ordered, not_drawn, not_made, schematic_alignable, top_of_both, top_there}
+use Rattle.view_run.proofs.Assembled.{database_as, far_aligned, is_view, line_as, layout_alignable, layout_ordered, not_drawn, not_made, schematic_alignable, top_of_both, top_there}
 use Rattle.view_run.proofs.Ordering.{shown_ordered}
 use Rattle.view_run.proofs.Shown.{all_paired, left_good, whole_lists}
 use Rattle.view_run.proofs.making.view_found.Goals as goal
@@ -87,8 +95,8 @@ compare_in_turns-requires-clause-top g c κs within =
     let law = c.combined_alignable.ensures.alignable in
     top_of_both r nl other both is_both f.top (top_there _ _ r _ _ _ _ nl f.top found.of_cells)
 
-pub draw-requires-clause-written : goal.draw-requires-clause-written
-draw-requires-clause-written g c =
+pub joined-requires-clause-written : goal.joined-requires-clause-written
+joined-requires-clause-written g c =
     let l = c.args.layout.now in
     let r = rules_seen c.args.rules.now in
     let f = c.args.found in
@@ -101,8 +109,8 @@ draw-requires-clause-written g c =
     let law = c.combined_alignable.ensures.alignable in
     (c.origins_asked.ensures.written (plain_netlist both.layout) (layout_alignable r nl other both is_both law can.0) (layout_ordered r nl other both is_both can.1)).0
 
-pub draw-requires-clause-apart : goal.draw-requires-clause-apart
-draw-requires-clause-apart g c =
+pub joined-requires-clause-apart : goal.joined-requires-clause-apart
+joined-requires-clause-apart g c =
     let l = c.args.layout.now in
     let r = rules_seen c.args.rules.now in
     let f = c.args.found in
@@ -115,8 +123,8 @@ draw-requires-clause-apart g c =
     let law = c.combined_alignable.ensures.alignable in
     (c.origins_asked.ensures.written (plain_netlist both.layout) (layout_alignable r nl other both is_both law can.0) (layout_ordered r nl other both is_both can.1)).1
 
-pub draw-requires-clause-shown : goal.draw-requires-clause-shown
-draw-requires-clause-shown g c =
+pub joined-requires-clause-shown : goal.joined-requires-clause-shown
+joined-requires-clause-shown g c =
     let l = c.args.layout.now in
     let r = rules_seen c.args.rules.now in
     let f = c.args.found in
@@ -161,7 +169,7 @@ write_database-requires-clause-whole g c =
     let o = c.in_ok-turns.turns.compared in
     let t = c.in_ok-turns.ensures in
     let whole = whole_lists (plain_netlist both.layout) (plain_netlist both.schematic) o _ c.in_ok-rows.ensures.whole in
-    subst (λ (ls : List (List Row)). AreWhole (shown_lefts (plain_netlist both.layout) o) (shown_rights (plain_netlist both.schematic) o) ls) (sym (ap lists_of c.deref-3.ensures.value)) whole
+    subst (λ (ls : List (List Row)). AreWhole (shown_lefts (plain_netlist both.layout) o) (shown_rights (plain_netlist both.schematic) o) ls) (sym (ap lists_of c.deref-2.ensures.value)) whole
 
 pub write_database-requires-clause-ordered : goal.write_database-requires-clause-ordered
 write_database-requires-clause-ordered g c =
@@ -186,7 +194,7 @@ write_database-requires-clause-cells g c =
     let nl = plain_netlist f.netlist in
     let other = plain_netlist c.args.schematic in
     let found = c.requires.found in
-    subst (λ (bs : List BadGate). All (λ x. x.cell < length l.design.cells) bs) (sym c.deref-4.ensures.value) (told_inside l.design r f.cells.gated.gates f.bad.items c.sound.ensures found.told)
+    subst (λ (bs : List BadGate). All (λ x. x.cell < length l.design.cells) bs) (sym c.deref-3.ensures.value) (told_inside l.design r f.cells.gated.gates f.bad.items c.sound.ensures found.told)
 
 pub circuit_name-name-requires : goal.circuit_name-name-requires
 circuit_name-name-requires g c =
@@ -212,6 +220,32 @@ returns-in_err-both-clause-refused g c =
     let e = err_from_is_err_and c.from_residual-in_err-both.result c.from_residual-in_err-both.ensures.1 in
     rw (e.1, e.2) (not_made l r other f found _ c.in_err-both.ensures.refused)
 
+pub joined-requires-clause-inside : goal.joined-requires-clause-inside
+joined-requires-clause-inside g c =
+    let l = c.args.layout.now in
+    let r = rules_seen c.args.rules.now in
+    let f = c.args.found in
+    let nl = plain_netlist f.netlist in
+    let other = plain_netlist c.args.schematic in
+    let found = c.requires.found in
+    let both = c.in_ok-both.both in
+    let drawn = c.in-Ok.drawn in
+    let are = subst (λ (x : Result Sketched ShowFault). IfOk x (AreSketched l c.args.rules.now f.cells c.in_ok-names.names.items (plain_netlist both.layout))) c.in-Ok.is c.draw.ensures.sketched in
+    are.inside
+
+pub joined-requires-clause-small_regions : goal.joined-requires-clause-small_regions
+joined-requires-clause-small_regions g c =
+    let l = c.args.layout.now in
+    let r = rules_seen c.args.rules.now in
+    let f = c.args.found in
+    let nl = plain_netlist f.netlist in
+    let other = plain_netlist c.args.schematic in
+    let found = c.requires.found in
+    let both = c.in_ok-both.both in
+    let drawn = c.in-Ok.drawn in
+    let are = subst (λ (x : Result Sketched ShowFault). IfOk x (AreSketched l c.args.rules.now f.cells c.in_ok-names.names.items (plain_netlist both.layout))) c.in-Ok.is c.draw.ensures.sketched in
+    are.small_regions
+
 pub returns-in-Err-clause-refused : goal.returns-in-Err-clause-refused
 returns-in-Err-clause-refused g c =
     let l = c.args.layout.now in
@@ -220,7 +254,28 @@ returns-in-Err-clause-refused g c =
     let nl = plain_netlist f.netlist in
     let other = plain_netlist c.args.schematic in
     let found = c.requires.found in
-    not_drawn l r other c.in-Err.fault _ c.view_stop.ensures
+    not_drawn l r other c.in-Err.fault _ c.view_stop.ensures (λ is. Written (c.draw.ensures.far (c.in-Err.is ∙ ap (λ (f : ShowFault). let x : Result Sketched ShowFault = Err f in x) is)))
+
+pub returns-in-Err-joined-clause-refused : goal.returns-in-Err-joined-clause-refused
+returns-in-Err-joined-clause-refused g c =
+    let l = c.args.layout.now in
+    let r = rules_seen c.args.rules.now in
+    let f = c.args.found in
+    let nl = plain_netlist f.netlist in
+    let other = plain_netlist c.args.schematic in
+    let found = c.requires.found in
+    let both = c.in_ok-both.both in
+    let one = plain_netlist both.layout in
+    let v = c.in-Ok.drawn in
+    let t = c.in_ok-turns.turns in
+    let shown = c.shown_circuits-shown in
+    let are = subst (λ (x : Result Sketched ShowFault). IfOk x (AreSketched l c.args.rules.now f.cells c.in_ok-names.names.items one)) c.in-Ok.is c.draw.ensures.sketched in
+    let named = subst (λ (ns : List (List ℕ)). IsSketchOf l r are.source f.cells.cells.items ns one v.sketch) c.in_ok-names.ensures are.sketch in
+    not_drawn l r other c.in-Err-joined.fault _ c.view_stop-in-Err-joined.ensures (λ is.
+    let by0 = c.joined.ensures.far (c.in-Err-joined.is ∙ ap (λ (g : ShowFault). let x : Result Picture ShowFault = Err g in x) is) in
+    let by = subst (λ (n : Netlist). HasFarBy one n v.sketch.drawings.items (areas_of v.sketch.regions.regions.items)) shown.ensures by0 in
+    Aligned (far_aligned l r other f found t are.source f.cells.cells.items v.sketch both c.in_ok-both.ensures.both are.are are.layers are.nets are.gates are.pins
+    (record { taken = c.in_ok-turns.ensures; sketched = named; by = by })))
 
 pub returns-clause-made : goal.returns-clause-made
 returns-clause-made g c =
@@ -235,7 +290,7 @@ returns-clause-made g c =
     let law = c.combined_alignable.ensures.alignable in
     let o = c.in_ok-turns.turns.compared in
     let t = c.in_ok-turns.ensures in
-    let p = c.in-Ok.drawn in
+    let p = c.in-Ok-joined.picture in
     let one = plain_netlist both.layout in
     let two = plain_netlist both.schematic in
     let shown = c.shown_circuits-shown in
@@ -243,12 +298,29 @@ returns-clause-made g c =
     let text = c.in_ok-text.text.items in
     let page = option_map (λ text. text.items) c.in_ok-page.page in
     let v = c.in_ok-verdict.verdict in
-    let pictured = subst (λ (x : Result Picture ShowFault). IfOk x (ArePictured l r f.cells c.deref-2.result.now one (plain_netlist shown.result.now))) c.in-Ok.is c.draw.ensures.picture in
-    let named = subst (λ (ns : List (List ℕ)). ArePictured l r f.cells ns one (plain_netlist shown.result.now) p) (c.deref-2.ensures.value ∙ c.in_ok-names.ensures) pictured in
+    let are = subst (λ (x : Result Sketched ShowFault). IfOk x (AreSketched l c.args.rules.now f.cells c.in_ok-names.names.items one)) c.in-Ok.is c.draw.ensures.sketched in
+    let by = subst (λ (x : Result Picture ShowFault). IfOk x (IsJoinedBy l.design c.args.rules.now.names.items c.in-Ok.drawn.cells.items c.in-Ok.drawn.names.items c.in-Ok.drawn.sketch.drawings.items one (plain_netlist shown.result.now))) c.in-Ok-joined.is c.joined.ensures.picture in
+    let whole = pictured l c.args.rules.now f.cells c.in_ok-names.names.items one (plain_netlist shown.result.now) c.in-Ok.drawn p are by in
+    let named = subst (λ (ns : List (List ℕ)). ArePictured l r f.cells ns one (plain_netlist shown.result.now) p) c.in_ok-names.ensures whole in
     let drawn = subst (λ (n : Netlist). ArePictured l r f.cells (names_of nl) one n p) shown.ensures named in
-    let database = database_as l r p one two o c.circuit_name-name.result.now _ c.deref-4.result.now f.bad.items (lists_of c.deref-3.result.now) rows text c.circuit_name-name.ensures c.deref-4.ensures.value (ap lists_of c.deref-3.ensures.value) c.in_ok-text.ensures in
-    let page_is = subst (λ (ls : List (List Row)). IsPageAsked c.args.paged l.header.unit_pm p (shown_lefts one o) (shown_rights two o) ls page) (ap lists_of c.deref-5.ensures.value) c.in_ok-page.ensures in
+    let database = database_as l r p one two o c.circuit_name-name.result.now _ c.deref-3.result.now f.bad.items (lists_of c.deref-2.result.now) rows text c.circuit_name-name.ensures c.deref-3.ensures.value (ap lists_of c.deref-2.ensures.value) c.in_ok-text.ensures in
+    let page_is = subst (λ (ls : List (List Row)). IsPageAsked c.args.paged l.header.unit_pm p (shown_lefts one o) (shown_rights two o) ls page) (ap lists_of c.deref-4.ensures.value) c.in_ok-page.ensures in
     let verdict = subst (λ (bs : List BadGate). IsRunVerdict (length bs) (all_answers o) v) c.deref.ensures.value c.in_ok-verdict.ensures in
     let circuits : c.len-circuits.result ≡ length nl.circuits = c.len-circuits.ensures ∙ (f.netlist.circuits.ok.0 ∙ sym (length-map f.netlist.circuits.items plain_circuit)) in
     let line_is = line_as c.in_ok-line.line.items v _ _ _ (length nl.circuits) (pair_count o) (length f.bad.items) circuits c.pair_count.ensures (c.len.ensures ∙ f.bad.ok.0) c.in_ok-line.ensures in
     is_view l r other f found c.in_ok-turns.turns p rows c.args.paged text page both v c.in_ok-line.line.items is_both (record { taken = t; drawn = drawn; database = database; page_is = page_is }) verdict c.in_ok-rows.ensures.proposed line_is
+
+pub joined-requires-clause-small : goal.joined-requires-clause-small
+joined-requires-clause-small g c =
+    let l = c.args.layout.now in
+    let are = subst (λ (x : Result Sketched ShowFault). IfOk x (AreSketched l c.args.rules.now c.args.found.cells c.in_ok-names.names.items (plain_netlist c.in_ok-both.both.layout))) c.in-Ok.is c.draw.ensures.sketched in
+    are.small
+
+pub joined-requires-clause-listed : goal.joined-requires-clause-listed
+joined-requires-clause-listed g c =
+    let l = c.args.layout.now in
+    let v = c.in-Ok.drawn in
+    let are = subst (λ (x : Result Sketched ShowFault). IfOk x (AreSketched l c.args.rules.now c.args.found.cells c.in_ok-names.names.items (plain_netlist c.in_ok-both.both.layout))) c.in-Ok.is c.draw.ensures.sketched in
+    let names = c.in_ok-names.names.items in
+    let written = (plain_netlist c.in_ok-both.both.layout).circuits in
+    regions_listed are.source are.sketch.nets are.sketch.called c.args.found.cells.cells.items (first_seen [] names) (numbers_of (first_seen [] names) written) written (areas_of v.sketch.regions.regions.items) v.sketch.drawings.items are.sketch.drawn.by_cells
