@@ -1,5 +1,5 @@
 -- What stands for sure in the rows of a pair: of a match the partners of its pairing, of any other
--- pair the nets that alone have a name on both sides.
+-- pair the nets that alone have a name on both sides. Devices and calls have no names.
 use Rattle.std.specs.Prelude.{◌≡◌, ◌↔◌, ℕ, true, List, Option, Some, slice_get}
 use Rattle.match_laws.specs.Circuits.{IsCorrespondence, Pair, Pairing}
 use Rattle.match_types.specs.Plain.{plain_pairing}

@@ -164,8 +164,10 @@ fn is_told(same_pins: bool, count: u32, k: u32) -> bool
 
 /// For each pair of two netlists that are compared by position its rows: the partners of its nets,
 /// pins, devices and calls that its pairing gives, or, where it isn't a match, those that are
-/// proposed for it, among them the only nets of a name. With `same_pins` names tell the last pair's pins apart. For show: what is sure
-/// is the answer. Near linear. The error is want of memory, or 2^32 nodes of a pair.
+/// proposed for it, among them the only nets of a name. Names tell nothing of devices and calls,
+/// since these have none: a netlist keeps no card's own name, and a layout has no such names. With
+/// `same_pins` names tell the last pair's pins apart. For show: what is sure is the answer. Near
+/// linear. The error is want of memory, or 2^32 nodes of a pair.
 pub fn proposals<R: Reads<Answer>>(
     alloc: Global,
     lefts: &[Circuit],
