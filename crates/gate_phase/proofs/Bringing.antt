@@ -10,7 +10,8 @@ use Rattle.geo_base.specs.declared.layer.LayerKey.{LayerKey}
 use Rattle.geo_base.specs.declared.motion.Motion.{Motion}
 use Rattle.geo_base.specs.declared.shapes.Rect.{Rect}
 use Rattle.geo_base.specs.declared.shapes.Square.{Square}
-use Rattle.rect_sets.specs.Near.{HasNearCorners, IsNearSet}
+use Rattle.rect_sets.specs.Near.{HasNearCorners}
+use Rattle.sized_layers.specs.Sizes.{IsSetWithin}
 use Rattle.rect_sets.specs.Rects.{covers}
 use Rattle.rect_sets.proofs.Unique.{listed_get}
 use Rattle.cell_graph.specs.declared.cells.Place.{Place}
@@ -71,9 +72,12 @@ near_corners r q near e =
       high = record { x = record { low = omega (arith, ints); high = omega (arith, ints) }; y = record { low = omega (arith, ints); high = omega (arith, ints) } };
     }
 
--- pieces of the plane are a near set
-pub near_set : (plane : Rect) (out set : List Rect) → IsRectWithin (2 ^ 39) plane → All (IsPiece plane) out → ((s : Square) → covers set s ≡ covers out s) → IsNearSet set
-near_set plane out set near pieces same q e = near_corners plane q near (in_plane out pieces (sym (same q) ∙ e))
+-- what is made of pieces of the plane lies within it
+pub within_set : (plane : Rect) (out set : List Rect) → IsRectWithin (2 ^ 39) plane → All (IsPiece plane) out → ((s : Square) → covers set s ≡ covers out s) → IsSetWithin (2 ^ 39) set
+within_set plane out set near pieces same q e =
+    let i = has_in plane q (in_plane out pieces (sym (same q) ∙ e)) in let i0 = i.0 in let i1 = i.1 in let i2 = i.2 in let i3 = i.3 in
+    let a = near.x1.low in let b = near.x2.high in let c = near.y1.low in let f = near.y2.high in
+    record { left = omega (arith, ints); right = omega (arith, ints); low = omega (arith, ints); high = omega (arith, ints) }
   where
     in_plane : (rs : List Rect) → All (IsPiece plane) rs → covers rs q ≡ true → has plane q ≡ true
     in_plane [] all f = let g : false ≡ true = f in absurd (let z : ⊥ = cc in z)

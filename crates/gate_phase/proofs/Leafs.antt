@@ -4,16 +4,19 @@ use Rattle.geo_base.specs.declared.shapes.Rect.{Rect}
 use Rattle.geo_base.specs.declared.shapes.Square.{Square}
 use Rattle.rect_sets.specs.Rects.{covers}
 use Rattle.flat_layout.specs.Gates.{Geometry}
-use Rattle.flat_layout.specs.Layers.{Formula, Input, IsKept}
+use Rattle.flat_layout.specs.Layers.{Formula, IsKept}
 use Rattle.flat_layout.specs.Layout as flat
 use Rattle.flat_layout.specs.Layout.{IsPlaced}
-use Rattle.flat_layout.specs.Seeds.{IsSeed}
+use Rattle.flat_layout.specs.Seeds.{IsNearSeed, IsSeed}
 use Rattle.flat_layout.specs.Values.{IsLocalLayer}
 use Rattle.flat_laws.proofs.Cover.{kept_here}
+use Rattle.flat_laws.proofs.Moves.{within_back}
 use Rattle.cell_graph.specs.declared.cells.Place.{Place}
 use Rattle.cell_graph.specs.Linked.{Linked, IsSound, HullHas, cell_at, hull_of, places_at, plain}
-use Rattle.cell_graph.proofs.Bridge.{step_of}
-use Rattle.gate_phase.proofs.Keeping.{kept_held, one_window}
+use Rattle.cell_graph.specs.Grown.{grown, IsInGrown}
+use Rattle.cell_graph.proofs.Bridge.{hulls, step_of}
+use Rattle.cell_graph.proofs.Growing.{within_grown}
+use Rattle.gate_phase.proofs.Keeping.{one_window}
 
 none_placed : (d : Linked) (cell number : ℕ) (p : flat.Place) → places_at (cell_at d cell) ≡ [] → IsPlaced (plain d) cell number p → ⊥
 none_placed d cell number p none placed =
@@ -31,16 +34,21 @@ leaf_kept d cell x layer none is q = (
   ]),
 )
 
--- its hull as a set
-abbrev pub hull_list : Option Rect → List Rect
-hull_list None = []
-hull_list (Some r) = r ∷ []
+-- its grown hull as a set
+abbrev pub hull_list : ℕ → Option Rect → List Rect
+hull_list n None = []
+hull_list n (Some r) = grown n r ∷ []
 
-held_covers : (o : Option Rect) (q : Square) → HullHas o q → covers (hull_list o) q ≡ true
-held_covers None q h = absurd h
-held_covers (Some r) q h = one_window r q h
+held_covers : (n : ℕ) (o : Option Rect) (q : Square) → IsInGrown n o q → covers (hull_list n o) q ≡ true
+held_covers n None q h = absurd h
+held_covers n (Some r) q h = one_window (grown n r) q h
+
+leaf_held : (d : Linked) (g : Geometry) (cell : ℕ) (q : Square) → IsSound d → places_at (cell_at d cell) ≡ [] → IsSeed (plain d) g cell q → HullHas (hull_of (cell_at d cell)) q
+leaf_held d g cell q sound none (inl h) = hulls d sound cell h.key q (record { path = []; end = cell; square = q; takes = (refl, refl); own = h.own })
+leaf_held d g cell q sound none (inr h) = absurd (none_placed d cell h.number h.place none h.placed)
 
 -- its seeds are its own shapes, which lie in the hull
-pub leaf_seed : (d : Linked) (g : Geometry) (cell : ℕ) (q : Square) → IsSound d → places_at (cell_at d cell) ≡ [] → IsSeed (plain d) g cell q → covers (hull_list (hull_of (cell_at d cell))) q ≡ true
-leaf_seed d g cell q sound none (inl h) = held_covers (hull_of (cell_at d cell)) q (kept_held d cell (Input h.key) q sound refl (kept_here (plain d) cell (Input h.key) q h.own))
-leaf_seed d g cell q sound none (inr h) = absurd (none_placed d cell h.number h.place none h.placed)
+pub leaf_seed : (d : Linked) (g : Geometry) (cell : ℕ) (q : Square) → IsSound d → places_at (cell_at d cell) ≡ [] → IsNearSeed (plain d) g cell q → covers (hull_list g.reach (hull_of (cell_at d cell))) q ≡ true
+leaf_seed d g cell q sound none h =
+    let o = hull_of (cell_at d cell) in
+    held_covers g.reach o q (within_grown g.reach o q h.square (leaf_held d g cell h.square sound none h.seed) (within_back g.reach h.square q h.within))

@@ -1,3 +1,4 @@
+pub mod Apart
 pub mod Bringing
 pub mod Bulking
 pub mod Closing
@@ -14,6 +15,7 @@ pub mod Locals
 pub mod Marking
 pub mod Owning
 pub mod Results
+pub mod Reaching
 pub mod RowsOf
 pub mod Netting
 pub mod RuleLists

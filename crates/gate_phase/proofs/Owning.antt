@@ -13,9 +13,10 @@ use Rattle.gate_shapes.specs.PartLists.{AreParts}
 use Rattle.gate_shapes.specs.Sets.{in_set}
 use Rattle.gate_search.specs.SearchLaws.{IsSearch}
 use Rattle.gate_search.proofs.Searching.{found_law, known_law, part_law}
-use Rattle.cell_graph.specs.Linked.{Linked, IsSound, plain}
-use Rattle.gate_phase.proofs.Keeping.{kept_held}
-use Rattle.gate_phase.proofs.Telling.{no_more, part_kept}
+use Rattle.cell_graph.specs.Linked.{Linked, IsSound, cell_at, hull_of, plain}
+use Rattle.cell_graph.proofs.Growing.{wider_grown}
+use Rattle.gate_phase.proofs.Seeding.{flat_grown}
+use Rattle.gate_phase.proofs.Telling.{kept_flat, part_kept}
 use Rattle.deep_tables.specs.declared.zones.CellZones.{CellZones}
 use Rattle.gate_phase.specs.Below.{IsFreeElement}
 use Rattle.gate_phase.specs.Close.{MissesOpen}
@@ -160,16 +161,16 @@ module _ (d : Design) (w : Wiring) (u : Rule) (cell : ℕ) (gathered : List Rect
   }
 
 -- what the tests tell together
-pub told_own : (d : Linked) (z : List (Option CellZones)) (cell device : ℕ) (close : List Rect) (least : Square) (window : Rect) (b : Bool) → window ≡ unit_window least → MissesOpen z cell device close → (b ≡ true) ↔ IsFreeElement d z cell device close window
-    → TellsOwn d z cell device close least (not b)
-told_own d z cell device close least window true e calm told = record {
+pub told_own : (n : ℕ) (d : Linked) (z : List (Option CellZones)) (cell device : ℕ) (close : List Rect) (least : Square) (window : Rect) (b : Bool) → window ≡ unit_window least → MissesOpen n z cell device close → (b ≡ true) ↔ IsFreeElement n d z cell device close window
+    → TellsOwn n d z cell device close least (not b)
+told_own n d z cell device close least window true e calm told = record {
   calm = λ f. calm;
   new = λ f. absurd (let g : false ≡ true = f in let n : ⊥ = cc in n);
-  below = λ f miss. subst (IsFreeElement d z cell device close) e (told.0 refl);
+  below = λ f miss. subst (IsFreeElement n d z cell device close) e (told.0 refl);
 }
-told_own d z cell device close least window false e calm told = record {
+told_own n d z cell device close least window false e calm told = record {
   calm = λ f. calm;
-  new = λ f free. let g : false ≡ true = told.1 (subst (IsFreeElement d z cell device close) (sym e) free) in let n : ⊥ = cc in n;
+  new = λ f free. let g : false ≡ true = told.1 (subst (IsFreeElement n d z cell device close) (sym e) free) in let n : ⊥ = cc in n;
   below = λ f. absurd (let g : true ≡ false = f in let n : ⊥ = cc in n);
 }
 
@@ -188,5 +189,5 @@ told_part d g cell seeds gathered parts search i part at = record {
   told = λ q e. part_law d g cell seeds gathered parts search i part q at e;
 }
 
-pub held_part : (d : Linked) (g : Geometry) (cell : ℕ) (seeds gathered : List Rect) (parts : List (List Rect)) → IsSound d → g.reach ≡ 0 → IsSearch (plain d) g cell seeds gathered parts → (i : ℕ) (part : List Rect) → slice_get parts i ≡ Some part → IsHeldPart d cell part
-held_part d g cell seeds gathered parts sound none search i part at q e = kept_held d cell g.region q sound (no_more _ g.reach search.sound.reach none) (part_kept (plain d) g cell seeds gathered parts search i part q at e)
+pub held_part : (d : Linked) (g : Geometry) (cell : ℕ) (seeds gathered : List Rect) (parts : List (List Rect)) → IsSound d → IsSearch (plain d) g cell seeds gathered parts → (i : ℕ) (part : List Rect) → slice_get parts i ≡ Some part → IsHeldPart g.reach d cell part
+held_part d g cell seeds gathered parts sound search i part at q e = wider_grown _ g.reach (hull_of (cell_at d cell)) q search.sound.reach (flat_grown d g.region cell q sound (kept_flat (plain d) cell g.region q (part_kept (plain d) g cell seeds gathered parts search i part q at e)))

@@ -1,5 +1,5 @@
 -- Seeds are among what was pushed.
-use Rattle.std.proofs.Common.{◌≡◌, inl, inr, ℕ, ◌<◌, ◌+◌, ◌^◌, Bool, true, ◌++◌, List, Option, Some, None, slice_get, get_or, length, sym, ◌∙◌, ap, subst, arith}
+use Rattle.std.proofs.Common.{◌≡◌, inl, inr, ℕ, ◌<◌, ◌≤◌, ◌+◌, ◌^◌, Bool, true, ◌++◌, List, Option, Some, None, slice_get, get_or, length, sym, ◌∙◌, ap, subst, arith}
 use Rattle.std.proofs.lemmas.Int.{ints}
 use Rattle.std.proofs.lemmas.Option.{slice_get_within}
 use Rattle.geo_base.specs.Motions.{moved_square}
@@ -11,17 +11,19 @@ use Rattle.geo_base.proofs.Spans.{moved_rect-has}
 use Rattle.rect_sets.specs.Rects.{covers}
 use Rattle.flat_layout.specs.Arrays.{place_at}
 use Rattle.flat_layout.specs.Gates.{Geometry, Rule, gate_inputs, gate_reach, geometry}
-use Rattle.flat_layout.specs.Layers.{Empty, inputs}
+use Rattle.flat_layout.specs.Layers.{Empty, Formula, InFlat, inputs, reach}
 use Rattle.flat_layout.specs.Layout as flat
 use Rattle.flat_layout.specs.Layout.{IsReached, IsDisturbed, Some_of}
-use Rattle.flat_layout.specs.Plane.{AreWithin, IsAround}
+use Rattle.flat_layout.specs.Plane.{AreWithin, IsAround, IsReachedBy}
+use Rattle.gate_shapes.specs.Sets.{in_set}
 use Rattle.flat_layout.specs.Regions.{formula}
 use Rattle.flat_layout.specs.Seeds.{IsInReach, IsNearSeed, IsOwnSeed, IsPlacedSeed, IsSeed}
 use Rattle.flat_laws.proofs.Cover.{reached_below}
-use Rattle.flat_laws.proofs.Moves.{within_back, within_none}
+use Rattle.flat_laws.proofs.Moves.{within_back}
+use Rattle.flat_laws.proofs.Names.{near_input}
 use Rattle.cell_graph.specs.declared.cells.Place.{Place}
 use Rattle.cell_graph.specs.Linked.{Linked, IsSound, IsStep, IsHull, IsRectWithin, HullHas, HullIsSound, hull_of, cell_at, places_at, motion_at, plain, reference}
-use Rattle.cell_graph.proofs.Growing.{within_grown}
+use Rattle.cell_graph.proofs.Growing.{grown_frame, wider_grown, within_grown}
 use Rattle.cell_graph.proofs.Bridge.{own, hulls, hull_sound, inside_has, placed_of, reference_at, step_of}
 use Rattle.cell_context.specs.Arrays.{IsCloseArray}
 use Rattle.cell_context.proofs.Collecting.{close_array}
@@ -29,7 +31,8 @@ use Rattle.cell_context.proofs.Reaching.{element_within}
 use Rattle.rule_text.specs.Rules.{Rules}
 use Rattle.rule_text.specs.Sound as rules
 use Rattle.rule_layers.specs.Formulas.{formulas, zone_margin}
-use Rattle.rule_layers.proofs.Unsized.{still}
+use Rattle.rule_layers.proofs.Reaching.{near as names_near}
+use Rattle.gate_phase.proofs.Reaching.{rule_margin}
 use Rattle.rule_layers.specs.Meaning.{device_rules, wiring_of}
 use Rattle.deep_tables.specs.declared.zones.CellZones.{CellZones}
 use Rattle.deep_tables.specs.Frames.{IsFramedZone, IsInGrown, grown}
@@ -65,51 +68,41 @@ around_grown o a q h near = within_grown 1 o q a h (within_back 1 a q near)
 pub reach_grown : (d : Linked) (keys : List LayerKey) (n cell : ℕ) (q : Square) → IsSound d → IsInReach (plain d) keys n cell q → IsInGrown n (hull_of (cell_at d cell)) q
 reach_grown d keys n cell q sound h = within_grown n (hull_of (cell_at d cell)) q h.square (hulls d sound cell h.key h.square h.flat) (within_back n h.square q h.within)
 
--- near a square there is a seed where it is one, by a geometry that reaches no further
-pub near_seed : (P : Square → Type 0) (d : flat.Design) (g : Geometry) (cell : ℕ) (q : Square) → g.reach ≡ 0 → ((s : Square) → IsSeed d g cell s → P s) → IsNearSeed d g cell q → P q
-near_seed P d g cell q none all h = subst P (within_none h.square q (subst (λ n. AreWithin n h.square q) none h.within)) (all h.square h.seed)
+-- a flat square of a name lies in the hull, grown by the name's reach
+pub flat_grown : (d : Linked) (x : Formula) (cell : ℕ) (q : Square) → IsSound d → InFlat (plain d) cell x q → IsInGrown (reach x) (hull_of (cell_at d cell)) q
+flat_grown d x cell q sound h =
+    let u = near_input (plain d) cell x q h in
+    within_grown (reach x) (hull_of (cell_at d cell)) q u.2 (hulls d sound cell u.0 u.2 u.4) (within_back (reach x) u.2 q u.3)
 
 -- the entry of a reached cell
-pub record IsOpenZone (d : Linked) (keys : List LayerKey) (z : List (Option CellZones)) (cell device : ℕ) : Type 0 where
+pub record IsOpenZone (margin : ℕ) (d : Linked) (keys : List LayerKey) (z : List (Option CellZones)) (cell device : ℕ) : Type 0 where
   pub zone : List Rect
   pub is : AreOpen z cell device zone
-  pub framed : IsFramedZone 1 d keys cell zone
+  pub framed : IsFramedZone margin d keys cell zone
 
-pub open_at : (d : Linked) (r : Rules) (z : List (Option CellZones)) (cell device : ℕ) (u : Rule) → IsSound d → rules.IsSound r → AreZones (plain d) r z → IsReached (plain d) cell → slice_get (device_rules r) device ≡ Some u
-    → IsOpenZone d (gate_inputs (wiring_of r) u) z cell device
-open_at d r z cell device u sound ruled right reached at =
+pub open_at : (d : Linked) (r : Rules) (z : List (Option CellZones)) (cell device : ℕ) (u : Rule) → IsSound d → AreZones (plain d) r z → IsReached (plain d) cell → slice_get (device_rules r) device ≡ Some u
+    → IsOpenZone (zone_margin r.names) d (gate_inputs (wiring_of r) u) z cell device
+open_at d r z cell device u sound right reached at =
     let h = device_zone_at (plain d) r z cell device u right reached at in
     let frame = (framed d (gate_inputs (wiring_of r) u) (zone_margin r.names) cell h.0 (sound.hulls.each cell) h.2.canonical).0 h.2 in
-    record { zone = h.0; is = h.1; framed = subst (λ n. IsFramedZone n d (gate_inputs (wiring_of r) u) cell h.0) (still r ruled).margin frame }
+    record { zone = h.0; is = h.1; framed = frame }
 
 pub reached_step : (d : Linked) (cell i row column : ℕ) (p : Place) → IsReached (plain d) cell → IsStep d cell i row column p → IsReached (plain d) p.cell
 reached_step d cell i row column p reached step = reached_below (plain d) cell _ (place_at (reference p) row column) reached (placed_of d cell i row column p step)
 
-pub grown_within : (r : Rect) → IsHull r → IsRectWithin (2 ^ 37) (grown 1 r)
-grown_within r h =
-    let a = h.near.x1.low in let b = h.near.x1.high in let c = h.near.y1.low in let e = h.near.y1.high in
-    let f = h.near.x2.low in let g = h.near.x2.high in let i = h.near.y2.low in let j = h.near.y2.high in
-    record {
-      x1 = record { low = omega (arith, ints); high = omega (arith, ints) };
-      y1 = record { low = omega (arith, ints); high = omega (arith, ints) };
-      x2 = record { low = omega (arith, ints); high = omega (arith, ints) };
-      y2 = record { low = omega (arith, ints); high = omega (arith, ints) };
-    }
-
-grown_some : (r : Rect) → IsRect r → IsRect (grown 1 r)
-grown_some r h = let a = h.wide in let b = h.high in record { wide = omega (arith, ints); high = omega (arith, ints) }
-
 -- an element takes a grown hull into the plane
-moved_in : (o : Option Rect) (p : Place) (row column : ℕ) (s : Square) (plane : Rect) → HullIsSound o → HoldsNear plane → IsCloseArray p → row < p.rows → column < p.columns → IsInGrown 1 o s → has plane (moved_square (motion_at p row column) s) ≡ true
-moved_in None p row column s plane sound all near a b h = absurd h
-moved_in (Some g) p row column s plane sound all near a b h =
+moved_in : (n : ℕ) (o : Option Rect) (p : Place) (row column : ℕ) (s : Square) (plane : Rect) → n ≤ 20001 → HullIsSound o → HoldsNear plane → IsCloseArray p → row < p.rows → column < p.columns → IsInGrown n o s
+    → has plane (moved_square (motion_at p row column) s) ≡ true
+moved_in n None p row column s plane most sound all near a b h = absurd h
+moved_in n (Some g) p row column s plane most sound all near a b h =
     let m = motion_at p row column in
-    inside_has (moved_rect m (grown 1 g)) plane (moved_square m s) (all (moved_rect m (grown 1 g)) (element_within p row column (grown 1 g) near a b (grown_within g sound)))
-    (moved_rect-has m (grown 1 g) s (grown_some g sound.some) ∙ h)
+    let frame = grown_frame n g most sound in
+    inside_has (moved_rect m (grown n g)) plane (moved_square m s) (all (moved_rect m (grown n g)) (element_within p row column (grown n g) near a b frame.near))
+    (moved_rect-has m (grown n g) s frame.some ∙ h)
 
 module _ (d : Linked) (r : Rules) (z : List (Option CellZones)) (cell device : ℕ) (x : Device) (u : Rule) (sound : IsSound d) (ruled : rules.IsSound r) (known : IsKnownDevice r x) (of : IsDevice (formulas r.names) x u) (right : AreZones (plain d) r z) (reached : IsReached (plain d) cell) (at : slice_get (device_rules r) device ≡ Some u)
     (plane : Rect) (all : HoldsNear plane) (marks : List Bool) (read : AreRead r.names x marks) (old out : List Rect)
-    (brings : (i : ℕ) (p : Place) → slice_get (places_at (cell_at d cell)) i ≡ Some p → BringsOpen d z device p plane old)
+    (n : ℕ) (is : gate_reach (wiring_of r) u ≡ n) (brings : (i : ℕ) (p : Place) → slice_get (places_at (cell_at d cell)) i ≡ Some p → BringsOpen ((n + 1) + n) d z device p plane old)
     (grows : (q : Square) → covers old q ≡ true → covers out q ≡ true)
     (mine : BringsOwn d cell r.names marks (length r.names) out) where
   abbrev K : List LayerKey
@@ -117,9 +110,6 @@ module _ (d : Linked) (r : Rules) (z : List (Option CellZones)) (cell device : �
 
   abbrev N : ℕ
   N = gate_reach (wiring_of r) u
-
-  none : N ≡ 0
-  none = (still r ruled).devices device u at
 
   own_there : (q : Square) → IsOwnSeed (plain d) K cell q → covers out q ≡ true
   own_there q h =
@@ -132,20 +122,27 @@ module _ (d : Linked) (r : Rules) (z : List (Option CellZones)) (cell device : �
       let reach : IsInReach (plain d) K ((N + 1) + N) t.from.cell h.square = subst (λ (y : flat.Place). IsInReach (plain d) K ((N + 1) + N) y.cell h.square) t.is h.reach in
       let disturbed : IsDisturbed (plain d) K t.from.cell h.square = subst (λ (y : flat.Place). IsDisturbed (plain d) K y.cell h.square) t.is h.disturbed in
       let image : moved_square (motion_at t.from t.row t.column) h.square ≡ q = ap (λ (y : flat.Place). moved_square y.motion h.square) (sym t.is) ∙ h.image in
-      let e = open_at d r z t.from.cell device u sound ruled right (reached_step d cell t.index t.row t.column t.from reached t.step) at in
+      let e = open_at d r z t.from.cell device u sound right (reached_step d cell t.index t.row t.column t.from reached t.step) at in
+      let o = hull_of (cell_at d t.from.cell) in
       let wide = reach_grown d K ((N + 1) + N) t.from.cell h.square sound reach in
-      let inside : IsInGrown 1 (hull_of (cell_at d t.from.cell)) h.square = subst (λ n. IsInGrown ((n + 1) + n) (hull_of (cell_at d t.from.cell)) h.square) none wide in
-      let there = brings t.index t.from t.step.there e.zone t.row t.column h.square e.is t.step.row_in t.step.column_in inside ((e.framed h.square).1 (disturbed, inside))
-      (moved_in (hull_of (cell_at d t.from.cell)) t.from t.row t.column h.square plane (hull_sound d t.from.cell sound) all (close_array d cell t.index t.from sound t.step.there) t.step.row_in t.step.column_in inside) in
+      let margin = rule_margin r device u at in
+      let limit = names_near r ruled in
+      let inside = subst (λ m. IsInGrown ((m + 1) + m) o h.square) is wide in
+      let there = brings t.index t.from t.step.there e.zone t.row t.column h.square e.is t.step.row_in t.step.column_in inside ((e.framed h.square).1 (disturbed, wider_grown ((N + 1) + N) (zone_margin r.names) o h.square margin wide))
+      (moved_in ((N + 1) + N) o t.from t.row t.column h.square plane (omega (arith, margin, limit)) (hull_sound d t.from.cell sound) all (close_array d cell t.index t.from sound t.step.there) t.step.row_in t.step.column_in wide) in
       grows q (subst (λ x. covers old x ≡ true) image there)
 
-  pub seed_there : (q : Square) → IsSeed (plain d) (geometry (wiring_of r) u) cell q → covers out q ≡ true
+  seed_there : (q : Square) → IsSeed (plain d) (geometry (wiring_of r) u) cell q → covers out q ≡ true
   seed_there q (inl h) = own_there q h
   seed_there q (inr h) = placed_there q h
 
+  -- near each square near which there is a seed there is one of these
+  pub near_there : (q : Square) → IsNearSeed (plain d) (geometry (wiring_of r) u) cell q → IsReachedBy n (in_set out) q
+  near_there q h = record { square = h.square; within = subst (λ m. AreWithin m h.square q) is h.within; has = seed_there h.square h.seed }
+
 -- all placed cells have entries
-pub open_below : (d : Linked) (r : Rules) (z : List (Option CellZones)) (cell device : ℕ) (u : Rule) → IsSound d → rules.IsSound r → AreZones (plain d) r z → IsReached (plain d) cell → slice_get (device_rules r) device ≡ Some u → HasOpenBelow d z cell device
-open_below d r z cell device u sound ruled right reached at i p there =
+pub open_below : (d : Linked) (r : Rules) (z : List (Option CellZones)) (cell device : ℕ) (u : Rule) → IsSound d → AreZones (plain d) r z → IsReached (plain d) cell → slice_get (device_rules r) device ≡ Some u → HasOpenBelow d z cell device
+open_below d r z cell device u sound right reached at i p there =
     let ref = (reference_at d cell i p sound there).2 in
-    let e = open_at d r z p.cell device u sound ruled right (reached_step d cell i 0 0 p reached (record { there = there; row_in = ref.rows; column_in = ref.columns })) at in
+    let e = open_at d r z p.cell device u sound right (reached_step d cell i 0 0 p reached (record { there = there; row_in = ref.rows; column_in = ref.columns })) at in
     (e.zone, e.is)

@@ -1,17 +1,14 @@
 -- What is disturbed for the names of a region.
-use Rattle.std.proofs.Common.{◌≡◌, ℕ, ◌<◌, List, [], Option, Some, length, slice_get, subst, arith}
+use Rattle.std.proofs.Common.{◌≡◌, ℕ, ◌<◌, List, [], Option, Some, length, slice_get, arith}
 use Rattle.std.proofs.lemmas.Option.{slice_get-get_or}
 use Rattle.flat_layout.specs.Layers.{Binary, Empty, Formula, Input, Sized, inputs}
 use Rattle.flat_layout.specs.Layout.{IsReached}
 use Rattle.cell_graph.specs.Linked.{IsSound, Linked, plain}
 use Rattle.rule_text.specs.Rules.{Rules}
 use Rattle.rule_text.specs.Seen.{rules_seen}
-use Rattle.rule_text.specs.Sound as rules
 use Rattle.rule_text.specs.declared.rules.RuleSet.{RuleSet}
 use Rattle.rule_layers.specs.Formulas.{formulas, zone_margin}
-use Rattle.rule_layers.proofs.Unsized.{still}
 use Rattle.rule_layers.specs.Reads.{IsRead}
-use Rattle.deep_tables.specs.Frames.{IsFramedZone}
 use Rattle.deep_tables.specs.Zones.{AreZones, IsAsked}
 use Rattle.deep_tables.specs.declared.zones.CellZones.{CellZones}
 use Rattle.deep_tables.proofs.Framing.{framed}
@@ -30,14 +27,14 @@ asked r i Empty h = h
 asked r i (Binary op a b) h = tt
 asked r i (Sized by a) h = tt
 
-stirred : (d : Linked) (r : RuleSet) (z : List (Option CellZones)) (cell name : ℕ) → IsSound d → rules.IsSound (rules_seen r) → AreZones (plain d) (rules_seen r) z → IsReached (plain d) cell → name < length r.names.items → IsRead r.names.items r.devices.items r.more.items name → IsStirredFor d r z cell name
-stirred d r z cell name sound ruled right reached lt read =
+stirred : (d : Linked) (r : RuleSet) (z : List (Option CellZones)) (cell name : ℕ) → IsSound d → AreZones (plain d) (rules_seen r) z → IsReached (plain d) cell → name < length r.names.items → IsRead r.names.items r.devices.items r.more.items name → IsStirredFor d r z cell name
+stirred d r z cell name sound right reached lt read =
     let x = formula_of r name in
     let at : slice_get (formulas r.names.items) name ≡ Some x = slice_get-get_or (formulas r.names.items) name Empty (let n = count_behind [] r.names.items in omega (arith, lt, n)) in
     let h = zone_at (plain d) (rules_seen r) z cell name x right reached at (asked (rules_seen r) name x read) in
     let frame = (framed d (inputs x) (zone_margin r.names.items) cell h.0 (sound.hulls.each cell) h.2.canonical).0 h.2 in
-    record { zone = h.0; is = h.1; framed = subst (λ n. IsFramedZone n d (inputs x) cell h.0) (still (rules_seen r) ruled).margin frame }
+    record { zone = h.0; is = h.1; framed = frame }
 
-pub ready_region : (d : Linked) (r : RuleSet) (z : List (Option CellZones)) (cell : ℕ) (g : Region) → IsSound d → rules.IsSound (rules_seen r) → AreZones (plain d) (rules_seen r) z → IsReached (plain d) cell → IsKnownRegion (rules_seen r) g → IsReadyRegion d r z cell g
-ready_region d r z cell (One a) sound ruled right reached h = h
-ready_region d r z cell (Both a b) sound ruled right reached h = (h.0, h.1, stirred d r z cell a sound ruled right reached h.0 h.2, stirred d r z cell b sound ruled right reached h.1 h.3)
+pub ready_region : (d : Linked) (r : RuleSet) (z : List (Option CellZones)) (cell : ℕ) (g : Region) → IsSound d → AreZones (plain d) (rules_seen r) z → IsReached (plain d) cell → IsKnownRegion (rules_seen r) g → IsReadyRegion d r z cell g
+ready_region d r z cell (One a) sound right reached h = h
+ready_region d r z cell (Both a b) sound right reached h = (h.0, h.1, stirred d r z cell a sound right reached h.0 h.2, stirred d r z cell b sound right reached h.1 h.3)

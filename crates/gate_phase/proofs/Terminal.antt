@@ -1,5 +1,5 @@
 -- The terminals of a settled good gate are held by nets of its cell.
-use Rattle.std.proofs.Common.{◌≡◌, ℕ, Option, Some, None, sym, ap, subst}
+use Rattle.std.proofs.Common.{◌≡◌, ℕ, Option, Some, None, sym, ap, subst, arith}
 use Rattle.cell_graph.proofs.Bridge.{heights}
 use Rattle.cell_graph.specs.Linked.{IsSound, Linked, cell_at, height_at, hull_of, plain}
 use Rattle.cell_graph.proofs.Bridge.{hull_sound}
@@ -21,8 +21,8 @@ use Rattle.plain_netlist.specs.Netlist.{Bulk, Drain, Gate, Pole, Source}
 use Rattle.rule_layers.proofs.Wired.{known}
 use Rattle.rule_layers.specs.Meaning.{wiring_of}
 use Rattle.rule_text.specs.Rules.{Rules}
+use Rattle.flat_layout.specs.Layers.{reach}
 use Rattle.rule_text.specs.Sound as rules
-use Rattle.rule_layers.proofs.Unsized.{still}
 use Rattle.table_laws.proofs.Tabled.{reached_under}
 use Rattle.table_laws.proofs.Tabled as tabled
 use Rattle.gate_phase.specs.Judged.{IsHeldShape}
@@ -35,8 +35,9 @@ use Rattle.gate_phase.specs.declared.device.Kind.{Kind}
 use Rattle.gate_phase.specs.declared.device.Kind.TheVariants.{Transistor, Resistor, Diode}
 use Rattle.gate_phase.proofs.RowsOf.{HasNodes, nodes_of}
 use Rattle.gate_phase.specs.declared.own.OwnGate.{OwnGate}
-use Rattle.gate_phase.proofs.Holding.{hull_unit}
-use Rattle.gate_phase.proofs.Keeping.{kept_held}
+use Rattle.gate_phase.proofs.Holding.{grown_unit}
+use Rattle.gate_phase.proofs.Keeping.{kept_grown}
+use Rattle.gate_phase.proofs.Reaching.{conductor_most}
 
 module _ (d : Linked) (r : Rules) (t : Tables) (sound : IsSound d) (ruled : rules.IsSound r) (right : AreRightNets (plain d) (wiring_of r) t) (cell : ℕ) (reached : IsReached (plain d) cell) where
   abbrev w : Wiring
@@ -52,7 +53,7 @@ module _ (d : Linked) (r : Rules) (t : Tables) (sound : IsSound d) (ruled : rule
   held_square : (c : ℕ) (s : Square) → IsNode w (kept (plain d) w cell) (At c s) → IsHeldSquare (plain d) w t cell c s
   held_square c s is =
       let x = (regions (plain d) w t (height_at d) tables cell reached).complete (At c s) is in
-      record { known = conductor (plain d) w t cell x.0 c s nets_under x.1; near = hull_unit (hull_of (cell_at d cell)) s (hull_sound d cell sound) (kept_held d cell (formula w c) s sound ((still r ruled).conductors c) is); held = x }
+      record { known = conductor (plain d) w t cell x.0 c s nets_under x.1; near = grown_unit (reach (formula w c)) (hull_of (cell_at d cell)) s (let most = conductor_most r c ruled in omega (arith, most)) (hull_sound d cell sound) (kept_grown d cell (formula w c) s sound is); held = x }
 
   at_held : (a c : ℕ) (s : Square) → a ≡ c → IsNode w (kept (plain d) w cell) (At a s) → IsHeldSquare (plain d) w t cell c s
   at_held a c s same is = held_square c s (subst (λ k. IsNode w (kept (plain d) w cell) (At k s)) same is)

@@ -1,12 +1,14 @@
 -- What is close to a part, and what of it is disturbed.
 use Rattle.std.specs.Prelude.{◌≡◌, ℕ, List, Option, Some, slice_get}
 use Rattle.geo_base.specs.declared.shapes.Rect.{Rect}
+use Rattle.geo_base.specs.declared.shapes.Square.{Square}
+use Rattle.flat_layout.specs.Plane.{IsReachedBy}
 use Rattle.cell_graph.specs.declared.cells.Place.{Place}
 use Rattle.cell_graph.specs.Linked.{Linked, cell_at, places_at}
 use Rattle.deep_tables.specs.declared.zones.CellZones.{CellZones}
 use Rattle.deep_tables.specs.declared.zones.ZoneKey.TheVariants.{Device}
 use Rattle.deep_tables.specs.Zones.{zone_of}
-use Rattle.gate_shapes.specs.Shapes.{MissEachOther}
+use Rattle.gate_shapes.specs.Sets.{in_set}
 
 -- the squares of a cell that are disturbed for a device rule
 abbrev pub AreOpen : List (Option CellZones) → ℕ → ℕ → List Rect → Type 0
@@ -21,7 +23,11 @@ abbrev pub HasOpenBelow : Linked → List (Option CellZones) → ℕ → ℕ →
 HasOpenBelow d z cell device = (i : ℕ) (p : Place)
     → slice_get (places_at (cell_at d cell)) i ≡ Some p → HasOpen z p.cell device
 
--- nothing that is close is disturbed
-abbrev pub MissesOpen : List (Option CellZones) → ℕ → ℕ → List Rect → Type 0
-MissesOpen z cell device close = (zone : List Rect) × AreOpen z cell device zone
-    × MissEachOther close zone
+-- no square of the one lies within n of one of the other
+abbrev pub AreApart : ℕ → List Rect → List Rect → Type 0
+AreApart n set other = (q : Square) → in_set set q → IsReachedBy n (in_set other) q → ⊥
+
+-- nothing is disturbed within n of what is close
+abbrev pub MissesOpen : ℕ → List (Option CellZones) → ℕ → ℕ → List Rect → Type 0
+MissesOpen n z cell device close = (zone : List Rect) × AreOpen z cell device zone
+    × AreApart n close zone

@@ -1,5 +1,5 @@
 -- A device rule of any kind, by the numbers of its names.
-use Rattle.std.specs.Prelude.{◌≡◌, ℕ, ◌<◌, List, Option, Some, None, ◌++◌, get_or, length, map}
+use Rattle.std.specs.Prelude.{◌≡◌, ℕ, ◌<◌, List, Option, Some, None, ◌++◌, get_or, length, map, max}
 use Rattle.geo_base.specs.declared.layer.Op.TheVariants.{And}
 use Rattle.flat_layout.specs.Gates as flat
 use Rattle.flat_layout.specs.Layers.{Formula, Empty, Binary}
@@ -69,6 +69,20 @@ region_of trees (Both a b) = Binary And (get_or trees a Empty) (get_or trees b E
 abbrev pub layer_in : List Formula → Option ℕ → Formula
 layer_in trees None = Empty
 layer_in trees (Some name) = get_or trees name Empty
+
+-- how far these reach, and how far all layers of the rule do, by the reaches of the names
+abbrev pub region_reach : List ℕ → Region → ℕ
+region_reach reaches (One name) = get_or reaches name 0
+region_reach reaches (Both a b) = max (get_or reaches a 0) (get_or reaches b 0)
+
+abbrev pub layer_reach : List ℕ → Option ℕ → ℕ
+layer_reach reaches None = 0
+layer_reach reaches (Some name) = get_or reaches name 0
+
+abbrev pub device_reach : List ℕ → Device → ℕ
+device_reach reaches x = max (layer_reach reaches x.ends) (max (region_reach reaches x.region)
+    (max (layer_reach reaches x.well) (max (get_or reaches x.ts 0)
+    (max (get_or reaches x.tg 0) (get_or reaches x.tb 0)))))
 
 -- these are the names of the rule
 pub record IsDevice (trees : List Formula) (x : Device) (u : flat.Rule) : Type 0 where

@@ -5,9 +5,25 @@ use Rattle.geo_base.specs.Rects.{has}
 use Rattle.geo_base.specs.declared.shapes.Rect.{Rect}
 use Rattle.geo_base.specs.declared.shapes.Square.{Square}
 use Rattle.rect_sets.specs.Rects.{IsListed, covers}
-use Rattle.deep_tables.specs.Layers.{layer_of}
+use Rattle.flat_layout.specs.Layout.{Design}
+use Rattle.rule_text.specs.Reaches.{reaches}
+use Rattle.rule_text.specs.Rules.{Rules}
+use Rattle.deep_tables.specs.Layers.{AreLayers, layer_of}
 use Rattle.deep_tables.specs.declared.layers.CellLayers.{CellLayers}
 use Rattle.gate_phase.specs.declared.indexes.IndexedLayers.TheInside.{Inside}
+
+-- what cells hold themselves, and how far each name reaches
+pub record LayersOf : Type 0 where
+  pub table : List (Option CellLayers)
+  pub reaches : List ℕ
+
+abbrev pub layers_of : Inside → LayersOf
+layers_of a = record { table = a.layers.now; reaches = a.reaches.items }
+
+-- right for the rules
+pub record AreLayersOf (d : Design) (r : Rules) (x : LayersOf) : Type 0 where
+  pub table : AreLayers d r x.table
+  pub reaches : x.reaches ≡ reaches r.names
 
 -- rectangles of a list, among them all that share a square with the window
 pub record AreMetOf (rects : List Rect) (window : Rect) (met : List Rect) : Type 0 where

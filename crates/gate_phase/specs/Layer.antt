@@ -9,7 +9,7 @@ use Rattle.rule_text.specs.Seen.{rules_seen}
 use Rattle.rule_text.specs.Sound.{IsSound}
 use Rattle.rule_text.specs.declared.rules.RuleSet.{RuleSet}
 use Rattle.rule_layers.specs.Formulas.{formulas}
-use Rattle.deep_tables.specs.Layers.{AreLayers}
+use Rattle.gate_phase.specs.Indexes.{AreLayersOf}
 use Rattle.gate_phase.specs.declared.layer.KeptLayer.TheInside.{Inside}
 
 pub record KeptOf : Type 0 where
@@ -29,7 +29,7 @@ formula_of r name = get_or (formulas r.names.items) name Empty
 pub record IsKeptLayer (a : Inside) : Type 0 where
   pub rules : IsSound (rules_seen a.rules.now)
   pub name : a.name < length a.rules.now.names.items
-  pub layers : AreLayers (plain a.design.now) (rules_seen a.rules.now) a.layers.now
+  pub layers : AreLayersOf (plain a.design.now) (rules_seen a.rules.now) a.layers.now
   pub reached : IsReached (plain a.design.now) a.cell
 
 -- the cell keeps the square, which lies where motions are worked

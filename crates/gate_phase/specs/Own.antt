@@ -6,33 +6,33 @@ use Rattle.geo_base.specs.Near.{IsWithin}
 use Rattle.geo_base.specs.declared.shapes.Rect.{Rect}
 use Rattle.geo_base.specs.declared.shapes.Square.{Square}
 use Rattle.flat_layout.specs.Gates.{Geometry, Rule, InGate, IsGateBelow, IsLeast, IsListedGate}
-use Rattle.flat_layout.specs.Gates.{IsSettled, form_of, geometry, sheets}
+use Rattle.flat_layout.specs.Gates.{IsSettled, form_of, gate_reach, geometry, sheets}
 use Rattle.flat_layout.specs.Layers.{IsKept}
 use Rattle.flat_layout.specs.Layout.{Design, IsReached}
 use Rattle.flat_layout.specs.Plane.{IsSquareBefore}
 use Rattle.flat_layout.specs.Regions.{Wiring}
-use Rattle.cell_graph.specs.Linked.{Linked, HullHas, cell_at, hull_of, plain}
+use Rattle.cell_graph.specs.Grown.{IsInGrown}
+use Rattle.cell_graph.specs.Linked.{Linked, cell_at, hull_of, plain}
 use Rattle.rule_text.specs.Rules.{Rules}
 use Rattle.rule_text.specs.Sound.{IsSound}
-use Rattle.rule_layers.specs.Meaning.{device_rules}
-use Rattle.deep_tables.specs.Layers.{AreLayers}
+use Rattle.rule_layers.specs.Meaning.{device_rules, wiring_of}
 use Rattle.deep_tables.specs.Zones.{AreZones}
-use Rattle.deep_tables.specs.declared.layers.CellLayers.{CellLayers}
 use Rattle.deep_tables.specs.declared.zones.CellZones.{CellZones}
 use Rattle.gate_search.specs.SearchLaws.{IsTold}
 use Rattle.gate_shapes.specs.Sets.{in_set}
 use Rattle.gate_shapes.specs.Shapes.{IsShapeBy}
 use Rattle.gate_phase.specs.Below.{IsFreeElement}
 use Rattle.gate_phase.specs.Close.{MissesOpen}
+use Rattle.gate_phase.specs.Indexes.{AreLayersOf, LayersOf}
 use Rattle.gate_phase.specs.declared.own.OwnGate.{OwnGate}
 
 -- a reached cell and a device rule, with right tables
 pub record IsReady (d : Linked) (r : Rules) (z : List (Option CellZones))
-    (l : List (Option CellLayers)) (cell device : ℕ) : Type 0 where
+    (l : LayersOf) (cell device : ℕ) : Type 0 where
   pub rules : IsSound r
   pub known : device < length (device_rules r)
   pub zones : AreZones (plain d) r z
-  pub layers : AreLayers (plain d) r l
+  pub layers : AreLayersOf (plain d) r l
   pub reached : IsReached (plain d) cell
 
 -- a square that is near enough for a window
@@ -43,17 +43,22 @@ pub record IsUnitNear (s : Square) : Type 0 where
 abbrev pub unit_window : Square → Rect
 unit_window s = record { x1 = s.x; y1 = s.y; x2 = s.x +ℤ pos 1; y2 = s.y +ℤ pos 1 }
 
--- nothing close is disturbed here, and through no element is all of it free
-pub record TellsOwn (d : Linked) (z : List (Option CellZones)) (cell device : ℕ) (close : List Rect)
-    (least : Square) (told : Bool) : Type 0 where
-  pub calm : told ≡ true → MissesOpen z cell device close
-  pub new : told ≡ true → IsFreeElement d z cell device close (unit_window least) → ⊥
-  pub below : told ≡ false → MissesOpen z cell device close
-      → IsFreeElement d z cell device close (unit_window least)
+-- nothing is disturbed here within n of what is close, and through no element is all of it free
+pub record TellsOwn (n : ℕ) (d : Linked) (z : List (Option CellZones)) (cell device : ℕ)
+    (close : List Rect) (least : Square) (told : Bool) : Type 0 where
+  pub calm : told ≡ true → MissesOpen n z cell device close
+  pub new : told ≡ true → IsFreeElement n d z cell device close (unit_window least) → ⊥
+  pub below : told ≡ false → MissesOpen n z cell device close
+      → IsFreeElement n d z cell device close (unit_window least)
 
--- the hull holds the part
-abbrev pub IsHeldPart : Linked → ℕ → List Rect → Type 0
-IsHeldPart d cell part = (q : Square) → in_set part q → HullHas (hull_of (cell_at d cell)) q
+-- the hull, grown by n, holds the part
+abbrev pub IsHeldPart : ℕ → Linked → ℕ → List Rect → Type 0
+IsHeldPart n d cell part = (q : Square) → in_set part q → IsInGrown n (hull_of (cell_at d cell)) q
+
+-- the rule of this number reaches so far
+abbrev pub IsRuleReach : Rules → ℕ → ℕ → Type 0
+IsRuleReach r device n = (u : Rule) → slice_get (device_rules r) device ≡ Some u
+    → gate_reach (wiring_of r) u ≡ n
 
 -- a gate of the cell's own, by its least square, with its shape
 pub record IsOwnGate (d : Design) (w : Wiring) (u : Rule) (cell : ℕ) (x : OwnGate) : Type 0 where

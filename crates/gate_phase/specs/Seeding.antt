@@ -26,11 +26,11 @@ Brings p below rects plane out = (row column : ℕ) (s : Square) → row < p.row
     → has plane (moved_square (motion_at p row column) s) ≡ true
     → covers out (moved_square (motion_at p row column) s) ≡ true
 
--- the same of what is disturbed for a device rule in the placed cell's grown hull
-abbrev pub BringsOpen : Linked → List (Option CellZones) → ℕ → Place → Rect → List Rect → Type 0
-BringsOpen d z device p plane out = (zone : List Rect) (row column : ℕ) (s : Square)
+-- the same of what is disturbed for a device rule in the placed cell's hull, grown by n
+abbrev pub BringsOpen : ℕ → Linked → List (Option CellZones) → ℕ → Place → Rect → List Rect → Type 0
+BringsOpen n d z device p plane out = (zone : List Rect) (row column : ℕ) (s : Square)
     → AreOpen z p.cell device zone → row < p.rows → column < p.columns
-    → IsInGrown 1 (hull_of (cell_at d p.cell)) s → covers zone s ≡ true
+    → IsInGrown n (hull_of (cell_at d p.cell)) s → covers zone s ≡ true
     → has plane (moved_square (motion_at p row column) s) ≡ true
     → covers out (moved_square (motion_at p row column) s) ≡ true
 

@@ -8,8 +8,7 @@ use Rattle.flat_layout.specs.Layout.{Design, IsReached}
 use Rattle.cell_graph.specs.Linked.{Linked, plain}
 use Rattle.rule_text.specs.Rules.{Rules}
 use Rattle.rule_text.specs.Sound.{IsSound}
-use Rattle.deep_tables.specs.Layers.{AreLayers}
-use Rattle.deep_tables.specs.declared.layers.CellLayers.{CellLayers}
+use Rattle.gate_phase.specs.Indexes.{AreLayersOf, LayersOf}
 use Rattle.gate_search.specs.Gather.{AreMet}
 use Rattle.flat_layout.specs.Parts.{IsCloseTo}
 use Rattle.gate_shapes.specs.Sets.{in_set}
@@ -29,9 +28,8 @@ IsGateSheet Resistor keeps windows part sheet = sheet ≡ part
 IsGateSheet Diode keeps windows part sheet = sheet ≡ part
 
 -- a reached cell with right layers
-pub record IsReadyShape (d : Linked) (r : Rules) (l : List (Option CellLayers)) (cell : ℕ) : Type 0
-  where
-    pub rules : IsSound r
-    pub known : cell < length d.cells
-    pub layers : AreLayers (plain d) r l
-    pub reached : IsReached (plain d) cell
+pub record IsReadyShape (d : Linked) (r : Rules) (l : LayersOf) (cell : ℕ) : Type 0 where
+  pub rules : IsSound r
+  pub known : cell < length d.cells
+  pub layers : AreLayersOf (plain d) r l
+  pub reached : IsReached (plain d) cell

@@ -1,7 +1,7 @@
 -- What the phases of devices read.
 use Rattle.std.specs.Prelude.{◌≡◌, ◌<◌, ◌^◌, length, map}
 use Rattle.cell_graph.specs.Linked.{Linked, plain}
-use Rattle.deep_tables.specs.Layers.{AreLayers}
+use Rattle.gate_phase.specs.Indexes.{AreLayersOf}
 use Rattle.deep_tables.specs.Nets.{AreRightNets}
 use Rattle.deep_tables.specs.Zones.{AreZones}
 use Rattle.rule_layers.specs.Meaning.{device_rules, globals_of, wiring_of}
@@ -38,13 +38,13 @@ pub record IsDeviceWork (a : Inside) : Type 0 where
   pub sound : IsSound (rules_seen a.rules.now)
   pub few : length (device_rules (rules_seen a.rules.now)) < 2 ^ 32
   pub zones : AreZones (plain a.design.now) (rules_seen a.rules.now) a.zones.now
-  pub layers : AreLayers (plain a.design.now) (rules_seen a.rules.now) a.layers
+  pub layers : AreLayersOf (plain a.design.now) (rules_seen a.rules.now) a.layers
   pub conductors : a.conductors ≡ length (wiring_of (rules_seen a.rules.now)).conductors
   pub globals : a.globals ≡ length (globals_of (rules_seen a.rules.now))
   pub grounds : map grounds_seen a.grounds.items ≡ rule_grounds (rules_seen a.rules.now)
   pub elements : AreAllElements a.design.now (element_lists a.elements.items)
   pub own : AreOwnLists a.design.now (rules_seen a.rules.now) (rect_lists a.own.items)
-  pub indexes : AreIndexes a.design.now (rect_lists a.own.items) (element_lists a.elements.items)
-      a.indexes
+  pub indexes : AreIndexes a.design.now (rules_seen a.rules.now) (rect_lists a.own.items)
+      (element_lists a.elements.items) a.indexes
   pub nets : AreRightNets (plain a.design.now) (wiring_of (rules_seen a.rules.now))
       (tables_seen (read_by a))

@@ -1,19 +1,19 @@
-//! What a cell keeps of the squares in both of two names, as a layer that is asked window by window.
-ghost use Rattle.std.specs.Prelude.{◌≡◌, ◌<◌, ◌&&◌, not, length, IfOk, IsSome};
-ghost use Rattle.geo_base.specs.declared.shapes.Square.{Square};
-ghost use Rattle.rect_sets.specs.Rects.{covers};
+//! What a cell keeps of the squares in both of two names, as a layer asked window by window.
+ghost use Rattle.std.specs.Prelude.{◌≡◌, ◌<◌, ◌≤◌, ◌^◌, length, IfOk};
 ghost use Rattle.flat_layout.specs.Layout.{IsReached};
 ghost use Rattle.cell_graph.specs.Linked.{plain};
 ghost use Rattle.rule_text.specs.Seen.{rules_seen};
 ghost use Rattle.rule_text.specs.Sound.{IsSound};
-ghost use Rattle.deep_tables.specs.Layers.{AreLayers};
-ghost use Rattle.deep_tables.specs.Zones.{zone_of};
-ghost use Rattle.deep_tables.specs.declared.zones.ZoneKey.TheVariants.{Layer};
-ghost use Rattle.gate_phase.specs.Both.{AreCalmInBoth, IsStirredFor};
+ghost use Rattle.gate_phase.specs.Indexes.{AreLayersOf};
+ghost use Rattle.sized_layers.specs.Sizes.{IsSetWithin};
+ghost use Rattle.gate_phase.specs.Both.{AreCalm, AreCalmInBoth, HasNearZone, IsStirredFor};
 
+use crate::device::Region;
 use crate::indexes::IndexedLayers;
 use crate::layer::KeptLayer;
 use crate::met::set_rects;
+use crate::nearby::rects_within_reach;
+use cell_context::grown;
 use cell_graph::Design;
 use deep_tables::{IndexedSet, ZoneKey, Zones};
 use edge_boolean::combine;
@@ -35,6 +35,7 @@ pub struct BothLayer<'a, 'l> {
     zones: &'a Zones,
     cell: u32,
     names: (u32, u32),
+    reach: u32,
 }
 
 impl<'a, 'l> Model for BothLayer<'a, 'l> {
@@ -47,21 +48,25 @@ impl<'a, 'l> Model for BothLayer<'a, 'l> {
     ghost invariant = { IsBothLayer };
 }
 
-// The squares of a set that aren't disturbed, by windows of what is.
-fn calm(alloc: Global, set: &RectSet, zone: &IndexedSet) -> Result<RectSet, AllocError>
-    ensures { IfOk result (λ s. (q : Square)
-        → covers s q ≡ (covers set.now q && not (covers zone.now q))) }
+// The squares of a set within so many of which nothing is disturbed, by windows of what is.
+fn calm(alloc: Global, set: &RectSet, zone: &IndexedSet, reach: u32) -> Result<RectSet, AllocError>
+    requires reach { reach ≤ 10000 }
+    requires set { IsSetWithin (2 ^ 38) set.now }
+    requires zone { IsSetWithin (2 ^ 39) zone.now }
+    ensures { IfOk result (AreCalm reach set.now zone.now) }
 {
     let mut stirred = Vec::new(alloc);
     for rect in set.rects() {
-        let more = set_rects(alloc, zone, rect)?;
+        let more = set_rects(alloc, zone, &grown(rect, reach))?;
         stirred.extend_from_slice(&more)?;
     }
-    let found = combine_rects(alloc, set.rects(), &stirred, Rule::Not)?;
+    let near = rects_within_reach(alloc, stirred, reach)?;
+    let found = combine_rects(alloc, set.rects(), &near, Rule::Not)?;
     Ok(found)
 }
 
-/// The squares in both sets that are disturbed in the cell for neither name.
+/// The squares in both sets within so many of which nothing is disturbed in the cell for either
+/// name.
 pub fn calm_in_both(
     alloc: Global,
     zones: &Zones,
@@ -69,14 +74,19 @@ pub fn calm_in_both(
     names: (u32, u32),
     first: &RectSet,
     second: &RectSet,
+    reach: u32,
 ) -> Result<RectSet, AllocError>
-    requires first { IsSome (zone_of zones.now cell (Layer names.0)) }
-    requires second { IsSome (zone_of zones.now cell (Layer names.1)) }
-    ensures { IfOk result (AreCalmInBoth zones.now cell names first.now second.now) }
+    requires reach { reach ≤ 10000 }
+    requires first { HasNearZone zones.now cell names.0 }
+    requires second { HasNearZone zones.now cell names.1 }
+    requires set { IsSetWithin (2 ^ 38) first.now }
+    ensures { IfOk result (AreCalmInBoth reach zones.now cell names first.now second.now) }
 {
     let both = combine(alloc, first, second, Op::And)?;
-    let once = calm(alloc, &both, zones.indexed(cell, ZoneKey::Layer(names.0)))?;
-    let found = calm(alloc, &once, zones.indexed(cell, ZoneKey::Layer(names.1)))?;
+    let one = zones.indexed(cell, ZoneKey::Layer(names.0));
+    let once = calm(alloc, &both, one, reach)?;
+    let other = zones.indexed(cell, ZoneKey::Layer(names.1));
+    let found = calm(alloc, &once, other, reach)?;
     Ok(found)
 }
 
@@ -95,7 +105,7 @@ impl<'a, 'l> BothLayer<'a, 'l> {
         requires second { names.1 < length rules.now.names.items }
         requires first_zone { IsStirredFor design.now rules.now zones.now cell names.0 }
         requires second_zone { IsStirredFor design.now rules.now zones.now cell names.1 }
-        requires layers { AreLayers (plain design.now) (rules_seen rules.now) layers.now }
+        requires layers { AreLayersOf (plain design.now) (rules_seen rules.now) layers.now }
         requires reached { IsReached (plain design.now) cell }
         ensures design { result.design ≡ design.now }
         ensures rules { result.rules ≡ rules.now }
@@ -109,6 +119,7 @@ impl<'a, 'l> BothLayer<'a, 'l> {
             zones,
             cell,
             names,
+            reach: layers.region_reach(Region::Both(names.0, names.1)),
         }
     }
 }
@@ -122,7 +133,9 @@ impl GateLayer for BothLayer<'_, '_> {
         self.design.sound();
         let first = self.first.near(alloc, window)?;
         let second = self.second.near(alloc, window)?;
-        let found = calm_in_both(alloc, self.zones, self.cell, self.names, &first, &second)?;
+        let found = calm_in_both(
+            alloc, self.zones, self.cell, self.names, &first, &second, self.reach,
+        )?;
         Ok(found)
     }
 

@@ -1,14 +1,16 @@
 //! What is close to a part: its squares and those of its ring.
-ghost use Rattle.std.specs.Prelude.{◌≡◌, ◌↔◌, true, IfOk};
+ghost use Rattle.std.specs.Prelude.{◌≡◌, ◌↔◌, ◌≤◌, ◌^◌, true, IfOk};
+ghost use Rattle.std.specs.List.{All};
 ghost use Rattle.geo_base.specs.declared.shapes.Square.{Square};
 ghost use Rattle.rect_sets.specs.Near.{IsNearSet};
 ghost use Rattle.flat_layout.specs.Parts.{IsCloseTo};
+ghost use Rattle.cell_graph.specs.Linked.{IsRectWithin};
 ghost use Rattle.gate_shapes.specs.Sets.{in_set};
-ghost use Rattle.gate_shapes.specs.Shapes.{MissEachOther};
-ghost use Rattle.gate_phase.specs.Close.{HasOpen, MissesOpen};
+ghost use Rattle.gate_phase.specs.Close.{AreApart, HasOpen, MissesOpen};
 
+use cell_context::grown;
 use deep_tables::{IndexedSet, ZoneKey, Zones};
-use gate_shapes::grown;
+use gate_shapes::grown as ring_windows;
 use rect_sets::RectSet;
 use std::alloc::{AllocError, Global};
 
@@ -17,16 +19,23 @@ pub fn close_to(alloc: Global, part: &RectSet) -> Result<RectSet, AllocError>
     requires { IsNearSet part.now }
     ensures { IfOk result (λ s. (q : Square) → in_set s q ↔ IsCloseTo (in_set part.now) q) }
 {
-    let windows = grown(alloc, part.rects())?;
+    let windows = ring_windows(alloc, part.rects())?;
     RectSet::canon(alloc, windows)
 }
 
-/// Whether no square lies in both, by windows of the one in the other.
-pub fn misses(alloc: Global, set: &RectSet, other: &IndexedSet) -> Result<bool, AllocError>
-    ensures { IfOk result (λ b. (b ≡ true) ↔ MissEachOther set.now other.now) }
+/// Whether no square of the one lies within so many of one of the other, by windows of the one in
+/// the other.
+pub fn misses(
+    alloc: Global,
+    set: &RectSet,
+    other: &IndexedSet,
+    reach: u32,
+) -> Result<bool, AllocError>
+    requires { All (IsRectWithin (2 ^ 39)) set.now }
+    ensures { IfOk result (λ b. (b ≡ true) ↔ AreApart reach set.now other.now) }
 {
     for rect in set.rects() {
-        let near = other.near(alloc, rect)?;
+        let near = other.near(alloc, &grown(rect, reach))?;
         if !near.is_empty() {
             return Ok(false);
         }
@@ -34,16 +43,20 @@ pub fn misses(alloc: Global, set: &RectSet, other: &IndexedSet) -> Result<bool, 
     Ok(true)
 }
 
-/// Whether nothing that is close is disturbed in the cell for a device rule.
+/// Whether nothing is disturbed in the cell for a device rule within the rule's reach of what is
+/// close.
 pub fn is_undisturbed(
     alloc: Global,
     zones: &Zones,
     cell: u32,
     device: u32,
     close: &RectSet,
+    reach: u32,
 ) -> Result<bool, AllocError>
-    requires { HasOpen zones.now cell device }
-    ensures { IfOk result (λ b. (b ≡ true) ↔ MissesOpen zones.now cell device close.now) }
+    requires zone { HasOpen zones.now cell device }
+    requires windows { All (IsRectWithin (2 ^ 39)) close.now }
+    ensures { IfOk result (λ b. (b ≡ true) ↔ MissesOpen reach zones.now cell device close.now) }
 {
-    misses(alloc, close, zones.indexed(cell, ZoneKey::Device(device)))
+    let zone = zones.indexed(cell, ZoneKey::Device(device));
+    misses(alloc, close, zone, reach)
 }

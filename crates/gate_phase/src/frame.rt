@@ -1,9 +1,10 @@
-//! The plane in which designs are worked, and hulls grown by one square.
-ghost use Rattle.std.specs.Prelude.{◌≡◌, ◌^◌};
+//! The plane in which designs are worked, and grown hulls.
+ghost use Rattle.std.specs.Prelude.{◌≡◌, ◌≤◌, ◌^◌};
 ghost use Rattle.cell_graph.specs.Linked.{IsFrame, IsHull, IsRectWithin};
 ghost use Rattle.deep_tables.specs.Frames.{grown};
 ghost use Rattle.gate_phase.specs.Kept.{HoldsNear};
 
+use cell_context::grown;
 use geo_base::Rect;
 
 /// All that lies within plus or minus 2^39, among it all that a design holds.
@@ -20,16 +21,12 @@ pub fn plane() -> Rect
     }
 }
 
-/// A hull and the squares around it.
-pub fn grown_hull(hull: &Rect) -> Rect
-    requires { IsHull hull.now }
-    ensures grown { result ≡ grown 1 hull.now }
+/// A hull and the squares within so many of it.
+pub fn grown_hull(hull: &Rect, by: u32) -> Rect
+    requires hull { IsHull hull.now }
+    requires by { by ≤ 20001 }
+    ensures grown { result ≡ grown by hull.now }
     ensures frame { IsFrame result }
 {
-    Rect {
-        x1: hull.x1 - 1,
-        y1: hull.y1 - 1,
-        x2: hull.x2 + 1,
-        y2: hull.y2 + 1,
-    }
+    grown(hull, by)
 }

@@ -1,39 +1,43 @@
 //! What cells hold themselves, looked into by windows.
-ghost use Rattle.std.specs.Prelude.{◌≡◌, ◌<◌, ◌^◌, ℕ, List, Some, length, IfOk, IfSome, IsSome};
+ghost use Rattle.std.specs.Prelude.{◌≡◌, ◌<◌, ◌^◌, ℕ, List, Some, get_or, length, max, IfOk, IfSome};
+ghost use Rattle.std.specs.Prelude.{IsSome};
 ghost use Rattle.geo_base.specs.declared.shapes.Rect.{Rect};
 ghost use Rattle.cell_graph.specs.Linked.{plain};
 ghost use Rattle.flat_layout.specs.Layout.{IsReached};
 ghost use Rattle.rule_text.specs.Seen.{rules_seen};
 ghost use Rattle.deep_tables.specs.Layers.{AreLayers, layer_of};
+ghost use Rattle.rule_text.specs.Reaches.{reaches};
+ghost use Rattle.rule_text.specs.Sound.{IsSound};
+ghost use Rattle.gate_phase.specs.Devices.{device_reach, layer_reach, region_reach};
 ghost use Rattle.gate_phase.specs.Indexes.{AreIndexes, AreMetOf, index_in, index_lists};
 
+use crate::device::{Device, Region};
 use crate::met::{found_rects, met_rects};
 use crate::reads::device_names;
 use cell_graph::Design;
 use deep_tables::{Layers, index_of};
 use geo_base::Rect;
 use rect_sets::RectSet;
-use rule_text::RuleSet;
+use rule_text::{RuleSet, reaches};
 use std::alloc::{AllocError, Global};
 use std::marker::Model;
 use tile_index::TileIndex;
 
-/// The squares that cells hold themselves, with indexes of the layers of device rules. Contracts
-/// see the table of layers.
+/// The squares that cells hold themselves, with indexes of the layers of device rules, and how far
+/// each name reaches. Contracts see the table of layers and the reaches.
 #[derive(Drop)]
 pub struct IndexedLayers<'a> {
     layers: &'a Layers,
     indexes: Vec<Vec<Option<TileIndex>>>,
+    reaches: Vec<u32>,
 }
 
 impl<'a> Model for IndexedLayers<'a> {
-    ghost use Rattle.std.specs.Prelude.{List, Option};
-    ghost use Rattle.deep_tables.specs.declared.layers.CellLayers.{CellLayers};
-    ghost use Rattle.gate_phase.specs.Indexes.{IsIndexedTable};
+    ghost use Rattle.gate_phase.specs.Indexes.{IsIndexedTable, LayersOf, layers_of};
 
-    ghost Value = { List (Option CellLayers) };
+    ghost Value = { LayersOf };
 
-    ghost view = { λ a. a.layers.now };
+    ghost view = { layers_of };
 
     ghost invariant = { IsIndexedTable };
 }
@@ -104,8 +108,10 @@ impl<'a> IndexedLayers<'a> {
         layers: &'a Layers,
     ) -> Result<IndexedLayers<'a>, AllocError>
         requires few { length rules.now.names.items < 2 ^ 32 }
+        requires rules { IsSound (rules_seen rules.now) }
         requires layers { AreLayers (plain design.now) (rules_seen rules.now) layers.now }
-        ensures { IfOk result (λ x. x ≡ layers.now) }
+        ensures table { IfOk result (λ x. x.table ≡ layers.now) }
+        ensures reaches { IfOk result (λ x. x.reaches ≡ reaches rules.now.names.items) }
     {
         design.sound();
         let marks = device_names(alloc, rules)?;
@@ -117,13 +123,67 @@ impl<'a> IndexedLayers<'a> {
             let found = cell_indexes(alloc, layers, &marks, *cell)?;
             indexes[*cell as usize] = found;
         }
-        Ok(IndexedLayers { layers, indexes })
+        let reaches = reaches(alloc, &rules.names)?;
+        Ok(IndexedLayers {
+            layers,
+            indexes,
+            reaches,
+        })
+    }
+
+    /// How far a name reaches, in squares; 0 past the last name.
+    pub fn reach(&self, name: u32) -> u32
+        ensures { result ≡ get_or self.now.reaches name 0 }
+    {
+        match self.reaches.get(name as usize) {
+            Some(reach) => *reach,
+            None => 0,
+        }
+    }
+
+    fn layer_reach(&self, name: Option<u32>) -> u32
+        ensures { result ≡ layer_reach self.now.reaches name }
+    {
+        match name {
+            Some(name) => self.reach(name),
+            None => 0,
+        }
+    }
+
+    /// How far a layer of regions reaches.
+    pub fn region_reach(&self, region: Region) -> u32
+        ensures { result ≡ region_reach self.now.reaches region }
+    {
+        match region {
+            Region::One(name) => self.reach(name),
+            Region::Both(a, b) => self.reach(a).max(self.reach(b)),
+        }
+    }
+
+    fn terminal_reach(&self, device: &Device) -> u32
+        ensures { result ≡ max (get_or self.now.reaches device.now.ts 0)
+            (max (get_or self.now.reaches device.now.tg 0)
+            (get_or self.now.reaches device.now.tb 0)) }
+    {
+        self.reach(device.ts)
+            .max(self.reach(device.tg).max(self.reach(device.tb)))
+    }
+
+    /// How far a device rule reaches: as far as the layer that it reads which reaches furthest.
+    pub fn device_reach(&self, device: &Device) -> u32
+        ensures { result ≡ device_reach self.now.reaches device.now }
+    {
+        let well = self
+            .layer_reach(device.well)
+            .max(self.terminal_reach(device));
+        let region = self.region_reach(device.region).max(well);
+        self.layer_reach(device.ends).max(region)
     }
 
     /// What a cell holds itself of a name, in constant time.
     pub fn local(&self, cell: u32, name: u32) -> &RectSet
-        requires { IsSome (layer_of self.now cell name) }
-        ensures { layer_of self.now cell name ≡ Some result.now }
+        requires { IsSome (layer_of self.now.table cell name) }
+        ensures { layer_of self.now.table cell name ≡ Some result.now }
     {
         self.layers.local(cell, name)
     }
@@ -138,9 +198,9 @@ impl<'a> IndexedLayers<'a> {
         name: u32,
         window: &Rect,
     ) -> Result<Vec<Rect>, AllocError>
-        requires { IsSome (layer_of self.now cell name) }
+        requires { IsSome (layer_of self.now.table cell name) }
         ensures { IfOk result (λ v. (layer : List Rect)
-            → layer_of self.now cell name ≡ Some layer → AreMetOf layer window.now v.items) }
+            → layer_of self.now.table cell name ≡ Some layer → AreMetOf layer window.now v.items) }
     {
         let rects = self.local(cell, name).rects();
         match index_at(&self.indexes, cell, name) {

@@ -4,7 +4,7 @@ ghost use Rattle.flat_layout.specs.Layout.{IsReached};
 ghost use Rattle.cell_graph.specs.Linked.{plain};
 ghost use Rattle.rule_text.specs.Seen.{rules_seen};
 ghost use Rattle.rule_text.specs.Sound.{IsSound};
-ghost use Rattle.deep_tables.specs.Layers.{AreLayers};
+ghost use Rattle.gate_phase.specs.Indexes.{AreLayersOf};
 
 use crate::frame::plane;
 use crate::indexes::IndexedLayers;
@@ -49,7 +49,7 @@ impl<'a, 'l> KeptLayer<'a, 'l> {
     ) -> KeptLayer<'a, 'l>
         requires rules { IsSound (rules_seen rules.now) }
         requires name { name < length rules.now.names.items }
-        requires layers { AreLayers (plain design.now) (rules_seen rules.now) layers.now }
+        requires layers { AreLayersOf (plain design.now) (rules_seen rules.now) layers.now }
         requires reached { IsReached (plain design.now) cell }
         ensures design { result.design ≡ design.now }
         ensures rules { result.rules ≡ rules.now }

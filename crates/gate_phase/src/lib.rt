@@ -19,6 +19,7 @@ mod kept;
 mod layer;
 mod list;
 mod met;
+mod nearby;
 mod nets;
 mod own;
 mod phase;

@@ -1,7 +1,7 @@
 //! The regions of a cell's list.
 ghost use Rattle.std.specs.Prelude.{◌≡◌, ◌≤◌, ◌++◌, Some, length, map, slice_get, IfOk, OnOk};
 ghost use Rattle.cell_graph.specs.Linked.{plain};
-ghost use Rattle.deep_tables.specs.Layers.{AreLayers};
+ghost use Rattle.gate_phase.specs.Indexes.{AreLayersOf};
 ghost use Rattle.deep_tables.specs.Nets.{AreRightNets};
 ghost use Rattle.deep_tables.specs.Zones.{AreZones};
 ghost use Rattle.flat_layout.specs.Gates.{Rule};
@@ -61,7 +61,10 @@ fn rule_gates<C: Cells>(
 {
     design.sound();
     let rule = device_at(rules, device);
-    let own = own_gates(alloc, design, rules, zones, layers, cell, device, &rule)?;
+    let reach = layers.device_reach(&rule);
+    let own = own_gates(
+        alloc, design, rules, zones, layers, cell, device, &rule, reach,
+    )?;
     judged_gates(alloc, cells, cell, device, &rule, grounds, globals, own)
 }
 
@@ -85,7 +88,7 @@ pub fn cell_gates<C: Cells>(
     requires from { from ≤ to }
     requires to { to ≤ length (device_rules (rules_seen rules.now)) }
     requires zones { AreZones (plain design.now) (rules_seen rules.now) zones.now }
-    requires layers { AreLayers (plain design.now) (rules_seen rules.now) layers.now }
+    requires layers { AreLayersOf (plain design.now) (rules_seen rules.now) layers.now }
     requires reached { IsReached (plain design.now) cell }
     requires design { C.design cells.now ≡ plain design.now }
     requires wiring { C.wiring cells.now ≡ wiring_of (rules_seen rules.now) }

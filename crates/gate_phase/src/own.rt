@@ -1,5 +1,7 @@
 //! The regions of a cell's own for a device rule.
-ghost use Rattle.std.specs.Prelude.{◌≡◌, ◌<◌, ◌^◌, ◌++◌, true, length, slice_get, Some, IfOk, OnOk};
+ghost use Rattle.std.specs.Prelude.{◌≡◌, ◌<◌, ◌≤◌, ◌^◌, ◌++◌, true, length, slice_get, Some, IfOk};
+ghost use Rattle.std.specs.Prelude.{OnOk};
+ghost use Rattle.std.specs.List.{All};
 ghost use Rattle.geo_base.specs.Rects.{has};
 ghost use Rattle.rect_sets.specs.Near.{IsNearSet};
 ghost use Rattle.flat_layout.specs.Gates.{Rule, geometry};
@@ -11,6 +13,7 @@ ghost use Rattle.gate_shapes.specs.Sets.{in_set};
 ghost use Rattle.gate_phase.specs.Close.{HasOpen, HasOpenBelow};
 ghost use Rattle.gate_phase.specs.Devices.{devices_of};
 ghost use Rattle.gate_phase.specs.Own.{AddsPart, AreOwnGates, IsHeldPart, IsOwnOr, IsReady};
+ghost use Rattle.gate_phase.specs.Own.{IsRuleReach};
 ghost use Rattle.gate_phase.specs.Own.{IsToldPart, IsUnitNear, TellsOwn, gates_in, unit_window};
 
 use crate::below::is_below;
@@ -59,18 +62,22 @@ fn is_own(
     device: u32,
     close: &RectSet,
     least: Square,
+    reach: u32,
 ) -> Result<bool, AllocError>
+    requires reach { reach ≤ 10000 }
     requires cell { cell < length design.now.cells }
     requires near { IsNearSet close.now }
+    requires windows { All (IsRectWithin (2 ^ 39)) close.now }
     requires least { IsUnitNear least }
     requires zone { HasOpen zones.now cell device }
     requires zones { HasOpenBelow design.now zones.now cell device }
-    ensures { IfOk result (TellsOwn design.now zones.now cell device close.now least) }
+    ensures { IfOk result (TellsOwn reach design.now zones.now cell device close.now least) }
 {
-    if !is_undisturbed(alloc, zones, cell, device, close)? {
+    if !is_undisturbed(alloc, zones, cell, device, close, reach)? {
         return Ok(false);
     }
-    let below = is_below(alloc, design, zones, cell, device, close, &unit(least))?;
+    let start = unit(least);
+    let below = is_below(alloc, design, zones, cell, device, close, &start, reach)?;
     Ok(!below)
 }
 
@@ -86,10 +93,12 @@ fn own_gate(
     device: &Device,
     part: RectSet,
     least: Square,
+    reach: u32,
 ) -> Result<Option<OwnGate>, AllocError>
     requires ready { IsReady design.now (rules_seen rules.now) zones.now layers.now cell number }
+    requires reach { IsRuleReach (rules_seen rules.now) number reach }
     requires device { slice_get (devices_of (rules_seen rules.now)) number ≡ Some device.now }
-    requires held { IsHeldPart design.now cell part }
+    requires held { IsHeldPart reach design.now cell part }
     requires least { IsLeast (in_set part) least }
     ensures { IfOk result (λ o. (u : Rule)
         → slice_get (device_rules (rules_seen rules.now)) number ≡ Some u
@@ -98,7 +107,7 @@ fn own_gate(
 {
     design.sound();
     let close = close_to(alloc, &part)?;
-    if !is_own(alloc, design, zones, cell, number, &close, least)? {
+    if !is_own(alloc, design, zones, cell, number, &close, least, reach)? {
         return Ok(None);
     }
     let shape = shape_in(alloc, design, rules, layers, cell, device, &part, &close)?;
@@ -131,10 +140,12 @@ fn push_part(
     number: u32,
     device: &Device,
     part: RectSet,
+    reach: u32,
 ) -> Result<(), AllocError>
     requires ready { IsReady design.now (rules_seen rules.now) zones.now layers.now cell number }
+    requires reach { IsRuleReach (rules_seen rules.now) number reach }
     requires device { slice_get (devices_of (rules_seen rules.now)) number ≡ Some device.now }
-    requires held { IsHeldPart design.now cell part }
+    requires held { IsHeldPart reach design.now cell part }
     ensures { OnOk result ((u : Rule)
         → slice_get (device_rules (rules_seen rules.now)) number ≡ Some u
         → IsToldPart (plain design.now) (geometry (wiring_of (rules_seen rules.now)) u) cell part
@@ -144,7 +155,7 @@ fn push_part(
     match least(&part) {
         Some(first) => {
             let gate = own_gate(
-                alloc, design, rules, zones, layers, cell, number, device, part, first,
+                alloc, design, rules, zones, layers, cell, number, device, part, first, reach,
             )?;
             push_gate(gates, gate)
         }
@@ -153,8 +164,8 @@ fn push_part(
 }
 
 /// The gates of a cell's own for a device rule, in order of their least squares, each with its
-/// shape. What placed cells hold themselves isn't looked at but where something of this cell, or
-/// something that disturbs a placed cell, lies beside it.
+/// shape. The rule reaches so far. What placed cells hold themselves isn't looked at but where
+/// something of this cell, or something that disturbs a placed cell, lies beside it.
 pub fn own_gates(
     alloc: Global,
     design: &Design,
@@ -164,8 +175,10 @@ pub fn own_gates(
     cell: u32,
     number: u32,
     device: &Device,
+    reach: u32,
 ) -> Result<Vec<OwnGate>, AllocError>
     requires ready { IsReady design.now (rules_seen rules.now) zones.now layers.now cell number }
+    requires reach { IsRuleReach (rules_seen rules.now) number reach }
     requires device { slice_get (devices_of (rules_seen rules.now)) number ≡ Some device.now }
     ensures { IfOk result (λ v. (u : Rule)
         → slice_get (device_rules (rules_seen rules.now)) number ≡ Some u
@@ -173,10 +186,12 @@ pub fn own_gates(
 {
     design.sound();
     let mut gates = Vec::new(alloc);
-    let parts = parts_of(alloc, design, rules, zones, layers, cell, number, device)?;
+    let parts = parts_of(
+        alloc, design, rules, zones, layers, cell, number, device, reach,
+    )?;
     for part in parts {
         push_part(
-            alloc, &mut gates, design, rules, zones, layers, cell, number, device, part,
+            alloc, &mut gates, design, rules, zones, layers, cell, number, device, part, reach,
         )?;
     }
     Ok(gates)

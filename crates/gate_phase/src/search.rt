@@ -1,5 +1,6 @@
 //! Where the regions of a cell's own are among what it keeps of their layer.
-ghost use Rattle.std.specs.Prelude.{◌≡◌, ◌<◌, [], List, length, slice_get, Some, IfOk, IsSome};
+ghost use Rattle.std.specs.Prelude.{◌≡◌, ◌<◌, ◌≤◌, ◌^◌, [], List, length, slice_get, Some, IfOk};
+ghost use Rattle.std.specs.Prelude.{IsSome};
 ghost use Rattle.geo_base.specs.declared.shapes.Rect.{Rect};
 ghost use Rattle.rect_sets.specs.Near.{IsNearSet};
 ghost use Rattle.flat_layout.specs.Gates.{Rule, geometry};
@@ -8,15 +9,16 @@ ghost use Rattle.cell_graph.specs.Linked.{cell_at, places_at, plain};
 ghost use Rattle.rule_text.specs.Seen.{rules_seen};
 ghost use Rattle.rule_text.specs.Sound.{IsSound};
 ghost use Rattle.rule_layers.specs.Meaning.{device_rules, wiring_of};
-ghost use Rattle.deep_tables.specs.Layers.{AreLayers, layer_of};
-ghost use Rattle.deep_tables.specs.Zones.{zone_of};
-ghost use Rattle.deep_tables.specs.declared.zones.ZoneKey.TheVariants.{Layer};
+ghost use Rattle.deep_tables.specs.Layers.{layer_of};
+ghost use Rattle.gate_phase.specs.Indexes.{AreLayersOf};
 ghost use Rattle.gate_search.specs.Gather.{IsGatheredAround};
 ghost use Rattle.gate_shapes.specs.PartLists.{AreParts};
-ghost use Rattle.gate_phase.specs.Both.{AreCalmInBoth, ArePartsAround, IsReadyRegion};
+ghost use Rattle.gate_phase.specs.Both.{AreCalmInBoth, ArePartsAround, HasNearZone, IsReadyRegion};
 ghost use Rattle.gate_phase.specs.Both.{region_formula};
-ghost use Rattle.gate_phase.specs.Devices.{devices_of};
-ghost use Rattle.gate_phase.specs.Own.{IsReady};
+ghost use Rattle.gate_phase.specs.Devices.{devices_of, region_reach};
+ghost use Rattle.gate_phase.specs.declared.device.Region.TheVariants.{Both};
+ghost use Rattle.sized_layers.specs.Sizes.{IsSetWithin};
+ghost use Rattle.gate_phase.specs.Own.{IsReady, IsRuleReach};
 ghost use Rattle.gate_phase.specs.Search.{AreSearched};
 
 use crate::both::{BothLayer, calm_in_both};
@@ -40,16 +42,20 @@ fn local_in_both(
     cell: u32,
     names: (u32, u32),
 ) -> Result<RectSet, AllocError>
-    requires first_zone { IsSome (zone_of zones.now cell (Layer names.0)) }
-    requires second_zone { IsSome (zone_of zones.now cell (Layer names.1)) }
-    requires first { IsSome (layer_of layers.now cell names.0) }
-    requires second { IsSome (layer_of layers.now cell names.1) }
-    ensures { IfOk result (λ s. (a b : List Rect) → layer_of layers.now cell names.0 ≡ Some a
-        → layer_of layers.now cell names.1 ≡ Some b → AreCalmInBoth zones.now cell names a b s) }
+    requires reach { region_reach layers.now.reaches (Both names.0 names.1) ≤ 10000 }
+    requires first_zone { HasNearZone zones.now cell names.0 }
+    requires second_zone { HasNearZone zones.now cell names.1 }
+    requires first { (a : List Rect) × (layer_of layers.now.table cell names.0 ≡ Some a)
+        × IsSetWithin (2 ^ 38) a }
+    requires second { IsSome (layer_of layers.now.table cell names.1) }
+    ensures { IfOk result (λ s. (a b : List Rect) → layer_of layers.now.table cell names.0 ≡ Some a
+        → layer_of layers.now.table cell names.1 ≡ Some b → AreCalmInBoth
+        (region_reach layers.now.reaches (Both names.0 names.1)) zones.now cell names a b s) }
 {
     let first = layers.local(cell, names.0);
     let second = layers.local(cell, names.1);
-    let found = calm_in_both(alloc, zones, cell, names, first, second)?;
+    let reach = layers.region_reach(Region::Both(names.0, names.1));
+    let found = calm_in_both(alloc, zones, cell, names, first, second, reach)?;
     Ok(found)
 }
 
@@ -66,7 +72,7 @@ fn leaf_parts(
     requires rules { IsSound (rules_seen rules.now) }
     requires leaf { places_at (cell_at design.now cell) ≡ [] }
     requires region { IsReadyRegion design.now rules.now zones.now cell region }
-    requires layers { AreLayers (plain design.now) (rules_seen rules.now) layers.now }
+    requires layers { AreLayersOf (plain design.now) (rules_seen rules.now) layers.now }
     requires reached { IsReached (plain design.now) cell }
     ensures { IfOk result (λ v. (seeds : List Rect) → ArePartsAround (plain design.now) cell
         (region_formula rules.now region) seeds v.items) }
@@ -109,7 +115,7 @@ fn region_parts(
     requires near { IsNearSet starts.now }
     requires rules { IsSound (rules_seen rules.now) }
     requires region { IsReadyRegion design.now rules.now zones.now cell region }
-    requires layers { AreLayers (plain design.now) (rules_seen rules.now) layers.now }
+    requires layers { AreLayersOf (plain design.now) (rules_seen rules.now) layers.now }
     requires reached { IsReached (plain design.now) cell }
     ensures { IfOk result (λ v. ArePartsAround (plain design.now) cell
         (region_formula rules.now region) starts.now v.items) }
@@ -139,7 +145,9 @@ pub fn parts_of(
     cell: u32,
     number: u32,
     device: &Device,
+    reach: u32,
 ) -> Result<Vec<RectSet>, AllocError>
+    requires reach { IsRuleReach (rules_seen rules.now) number reach }
     requires ready { IsReady design.now (rules_seen rules.now) zones.now layers.now cell number }
     requires device { slice_get (devices_of (rules_seen rules.now)) number ≡ Some device.now }
     ensures { IfOk result (λ v. (u : Rule)
@@ -152,6 +160,6 @@ pub fn parts_of(
     if design.places(cell).is_empty() {
         return leaf_parts(alloc, design, rules, zones, layers, cell, region);
     }
-    let starts = seeds_of(alloc, design, rules, zones, cell, number, device)?;
+    let starts = seeds_of(alloc, design, rules, zones, cell, number, device, reach)?;
     region_parts(alloc, design, rules, zones, layers, cell, region, &starts)
 }

@@ -1,5 +1,5 @@
 //! Where gates of a cell's own may begin: at its own shapes, and at what placed cells leave open.
-ghost use Rattle.std.specs.Prelude.{◌≡◌, ◌<◌, ◌^◌, ℕ, true, length, slice_get, Some, IfOk};
+ghost use Rattle.std.specs.Prelude.{◌≡◌, ◌<◌, ◌≤◌, ◌^◌, ℕ, true, length, slice_get, Some, IfOk};
 ghost use Rattle.std.specs.Prelude.{OnOk};
 ghost use Rattle.std.specs.List.{All};
 ghost use Rattle.geo_base.specs.Near.{IsNearRect};
@@ -10,7 +10,7 @@ ghost use Rattle.rect_sets.specs.Near.{IsNearSet};
 ghost use Rattle.rect_sets.specs.Rects.{covers};
 ghost use Rattle.flat_layout.specs.Gates.{Rule, geometry};
 ghost use Rattle.flat_layout.specs.Layout.{IsReached};
-ghost use Rattle.flat_layout.specs.Seeds.{IsSeed};
+ghost use Rattle.flat_layout.specs.Seeds.{IsNearSeed};
 ghost use Rattle.cell_graph.specs.Linked.{IsFrame, IsHull, IsRectWithin, cell_at, own_of};
 ghost use Rattle.cell_graph.specs.Linked.{places_at};
 ghost use Rattle.cell_graph.specs.Linked.{plain};
@@ -26,10 +26,12 @@ ghost use Rattle.deep_tables.specs.Zones.{AreZones};
 ghost use Rattle.gate_phase.specs.Close.{HasOpen, HasOpenBelow};
 ghost use Rattle.gate_phase.specs.Devices.{devices_of};
 ghost use Rattle.gate_phase.specs.Kept.{HoldsNear};
+ghost use Rattle.gate_phase.specs.Own.{IsRuleReach};
 ghost use Rattle.gate_phase.specs.Seeding.{Brings, BringsOpen, BringsOwn, Grows};
 
 use crate::device::Device;
 use crate::frame::{grown_hull, plane};
+use crate::nearby::within_reach;
 use crate::reads::names_read;
 use cell_context::{place_visits, push_images};
 use cell_graph::{Design, Place};
@@ -94,7 +96,8 @@ fn push_part(
     push_array(alloc, out, place, below, part.rects(), plane)
 }
 
-// Adds what is disturbed for a device rule in the cell of a reference, by all its elements.
+// Adds what is disturbed for a device rule in the cell of a reference, in its hull grown so far, by
+// all its elements.
 fn push_reference(
     alloc: Global,
     out: &mut Vec<Rect>,
@@ -105,21 +108,23 @@ fn push_reference(
     place: &Place,
     device: u32,
     plane: &Rect,
+    by: u32,
 ) -> Result<(), AllocError>
+    requires by { by ≤ 20001 }
     requires there { slice_get (places_at (cell_at design.now cell)) index ≡ Some place.now }
     requires plane { IsRectWithin (2 ^ 39) plane.now }
     requires entry { HasOpen zones.now place.now.cell device }
     requires pieces { All (IsPiece plane.now) out.old.items }
     ensures pieces { OnOk result (All (IsPiece plane.now) out.new.items) }
     ensures grows { OnOk result (Grows out.old.items out.new.items) }
-    ensures brings { OnOk result (BringsOpen design.now zones.now device place.now plane.now
+    ensures brings { OnOk result (BringsOpen by design.now zones.now device place.now plane.now
         out.new.items) }
 {
     design.sound();
     match design.hull(place.cell) {
         Some(hull) => {
             let zone = zones.disturbed(place.cell, ZoneKey::Device(device));
-            push_part(alloc, out, place, &grown_hull(&hull), zone, plane)
+            push_part(alloc, out, place, &grown_hull(&hull, by), zone, plane)
         }
         None => Ok(()),
     }
@@ -134,7 +139,9 @@ fn push_references(
     cell: u32,
     device: u32,
     plane: &Rect,
+    by: u32,
 ) -> Result<(), AllocError>
+    requires by { by ≤ 20001 }
     requires cell { cell < length design.now.cells }
     requires plane { IsRectWithin (2 ^ 39) plane.now }
     requires entries { HasOpenBelow design.now zones.now cell device }
@@ -142,10 +149,10 @@ fn push_references(
     ensures pieces { OnOk result (All (IsPiece plane.now) out.new.items) }
     ensures brings { OnOk result ((i : ℕ) (p : Place)
         → slice_get (places_at (cell_at design.now cell)) i ≡ Some p
-        → BringsOpen design.now zones.now device p plane.now out.new.items) }
+        → BringsOpen by design.now zones.now device p plane.now out.new.items) }
 {
     for (i, place) in design.places(cell).iter().enumerate() {
-        push_reference(alloc, out, design, zones, cell, i, place, device, plane)?;
+        push_reference(alloc, out, design, zones, cell, i, place, device, plane, by)?;
     }
     Ok(())
 }
@@ -202,9 +209,10 @@ fn push_all_own(
 }
 
 /// Squares of a cell around which all its own gates for a device rule lie: each gate that isn't a
-/// placed cell's touches one of them. A cell costs its own rectangles on the layers that the rule
-/// reads and, for each reference, what is disturbed in the placed cell, once for each element; a
-/// reference to a cell in which nothing is disturbed costs one look.
+/// placed cell's touches one of them. They are all squares within the rule's reach of its seeds. A
+/// cell costs its own rectangles on the layers that the rule reads and, for each reference, what is
+/// disturbed in the placed cell, once for each element; a reference to a cell in which nothing is
+/// disturbed costs one look.
 pub fn seeds_of(
     alloc: Global,
     design: &Design,
@@ -213,7 +221,9 @@ pub fn seeds_of(
     cell: u32,
     number: u32,
     device: &Device,
+    reach: u32,
 ) -> Result<RectSet, AllocError>
+    requires reach { IsRuleReach (rules_seen rules.now) number reach }
     requires cell { cell < length design.now.cells }
     requires device { slice_get (devices_of (rules_seen rules.now)) number ≡ Some device.now }
     requires rules { IsSound (rules_seen rules.now) }
@@ -223,7 +233,7 @@ pub fn seeds_of(
     ensures all { IfOk result (λ s. (u : Rule)
         → slice_get (device_rules (rules_seen rules.now)) number ≡ Some u
         → (q : Square)
-        → IsSeed (plain design.now) (geometry (wiring_of (rules_seen rules.now)) u) cell q
+        → IsNearSeed (plain design.now) (geometry (wiring_of (rules_seen rules.now)) u) cell q
         → covers s q ≡ true) }
 {
     design.sound();
@@ -231,8 +241,10 @@ pub fn seeds_of(
     let marks = names_read(alloc, names, device)?;
     let plane = plane();
     let mut out = Vec::new(alloc);
-    push_references(alloc, &mut out, design, zones, cell, number, &plane)?;
+    let by = reach + 1 + reach;
+    push_references(alloc, &mut out, design, zones, cell, number, &plane, by)?;
     push_all_own(&mut out, design, cell, names, &marks, &plane)?;
     let set = RectSet::canon(alloc, out)?;
-    Ok(set)
+    let starts = within_reach(alloc, set, reach)?;
+    Ok(starts)
 }

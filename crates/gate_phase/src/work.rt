@@ -76,7 +76,7 @@ impl<'a> DeviceWork<'a> {
         let grounds = device_grounds(alloc, rules)?;
         let own = own_lists(alloc, design, rules, layers)?;
         let elements = all_elements(alloc, design)?;
-        let indexes = find_indexes(alloc, design, &own, &elements)?;
+        let indexes = find_indexes(alloc, design, rules, &own, &elements)?;
         let known = known_nets(alloc, design, nets)?;
         let indexed = IndexedLayers::new(alloc, design, rules, layers)?;
         Ok(DeviceWork {

@@ -1,23 +1,20 @@
 -- The parts give the layer.
-use Rattle.std.proofs.Common.{◌≡◌, ◌⊎◌, inl, inr, ℕ, ◌+◌, ◌≤◌, Bool, true, false, not, ◌&&◌, List, [], ◌∷◌, map, refl, sym, ◌∙◌, ap}
-use Rattle.std.specs.List.{All}
-use Rattle.std.proofs.lemmas.List.Elements.{All-head, All-tail}
-use Rattle.geo_base.specs.Rects.{has, IsRect}
-use Rattle.geo_base.specs.declared.shapes.Rect.{Rect}
+use Rattle.std.proofs.Common.{◌≡◌, ◌⊎◌, inl, inr, ℕ, ◌+◌, ◌≤◌, Bool, true, false, not, ◌&&◌, refl, sym, ◌∙◌, ap}
 use Rattle.geo_base.specs.declared.shapes.Square.{Square}
-use Rattle.rect_sets.specs.Rects.{covers, IsCanonical}
-use Rattle.rect_sets.proofs.Unique.{all_rects, rect_of}
+use Rattle.rect_sets.specs.Rects.{covers}
 use Rattle.flat_layout.specs.Layers.{Formula, Input, Empty, Binary, Sized, inputs, reach, InFlat, IsKeptBelow, IsKept, IsLocal, IsStirred}
-use Rattle.flat_layout.specs.Plane.{AreWithin}
-use Rattle.flat_laws.proofs.Moves.{farther, within_back}
+use Rattle.flat_laws.proofs.Moves.{within_back}
 use Rattle.flat_laws.proofs.Names.{near_input}
-use Rattle.cell_graph.specs.Grown.{grown, IsInGrown}
+use Rattle.cell_graph.specs.Grown.{IsInGrown}
 use Rattle.cell_graph.specs.Linked.{Linked, IsSound, hull_of, cell_at, plain}
-use Rattle.cell_graph.proofs.Bridge.{hulls, or_split, or_left, or_right}
-use Rattle.cell_graph.proofs.Growing.{near_rect, within_grown, within_rect, wider_grown}
+use Rattle.cell_graph.proofs.Bridge.{hulls, hull_sound}
+use Rattle.cell_graph.proofs.Growing.{within_grown}
 use Rattle.deep_laws.specs.Layers.{AreDecidedBelow, IsDerived}
 use Rattle.deep_laws.proofs.Layers.{candidate, below, keeps, calm_kept, new_local, local_new}
+use Rattle.layer_phase.specs.Around.{around}
 use Rattle.layer_phase.specs.Parts.{IsFromCalmHull, HaveZones, LayerLaw}
+use Rattle.layer_phase.proofs.Around.{rects_of}
+use Rattle.layer_phase.proofs.Stirring.{stirred_around}
 
 pub is_or_not : (b : Bool) → (b ≡ true) ⊎ (b ≡ false)
 is_or_not true = inl refl
@@ -35,37 +32,15 @@ split_local false z c e = let g : false ≡ true = e in absurd (let z : ⊥ = cc
 join_local : (f z c : Bool) → f ≡ true → z ≡ false → c ≡ false → ((f && not z) && not c) ≡ true
 join_local f z c e g h = ap (λ b. (b && not z) && not c) e ∙ ap (λ b. (true && not b) && not c) g ∙ ap (λ b. (true && not false) && not b) h
 
--- rectangles that are grown cover what lies near them, and no more
-near_covered : (n : ℕ) (zone : List Rect) (q s : Square) → covers zone s ≡ true → AreWithin n q s → covers (map (grown n) zone) q ≡ true
-near_covered n [] q s e near = absurd (let f : false ≡ true = e in let z : ⊥ = cc in z)
-near_covered n (r ∷ zone) q s e near = elim (or_split (has r s) (covers zone s) e) [
-  | inl h ↦ or_left (has (grown n r) q) (covers (map (grown n) zone) q) (within_rect n r q s h near)
-  | inr h ↦ or_right (has (grown n r) q) (covers (map (grown n) zone) q) (near_covered n zone q s h near)
-]
-
-covered_near : (n : ℕ) (zone : List Rect) (q : Square) → All IsRect zone → covers (map (grown n) zone) q ≡ true → (s : Square) × (covers zone s ≡ true) × AreWithin n q s
-covered_near n [] q some e = absurd (let f : false ≡ true = e in let z : ⊥ = cc in z)
-covered_near n (r ∷ zone) q some e = elim (or_split (has (grown n r) q) (covers (map (grown n) zone) q) e) [
-  | inl h ↦ let s = near_rect n r q (All-head IsRect r zone some) h in (s.0, or_left (has r s.0) (covers zone s.0) s.1, s.2)
-  | inr h ↦ let s = covered_near n zone q (All-tail IsRect r zone some) h in (s.0, or_right (has r s.0) (covers zone s.0) s.1, s.2)
-]
-
-rects_of : (zone : List Rect) → IsCanonical zone → All IsRect zone
-rects_of zone h = all_rects zone (λ r i. rect_of _ r ((h.each r).0 i))
-
 decided : (n : ℕ) (d : Linked) (name : Formula) (cell : ℕ) → reach name + reach name ≤ n → IsSound d → HaveZones n d name cell → AreDecidedBelow (plain d) cell name
 decided n d name cell twice sound zones k p key z r placed flat near =
     let e = zones k p placed in
     let m = reach name in
-    elim (is_or_not (covers (map (grown m) e.0) r)) [
-      | inl c ↦
-          let s = covered_near m e.0 r (rects_of e.0 e.2) c in
-          inl (record { square = s.0; within = within_back m r s.0 s.2; disturbed = ((e.1 s.0).0 s.1).0 })
-      | inr c ↦ inr (λ h.
-          let back = within_back m h.square r h.within in
-          let far : AreWithin (m + m) h.square z = within_back (m + m) z h.square (farther m m z r h.square near back) in
-          let held = within_grown (m + m) (hull_of (cell_at d p.cell)) h.square z (hulls d sound p.cell key z flat) far in
-          not_both (covers (map (grown m) e.0) r) (near_covered m e.0 r h.square ((e.1 h.square).1 (h.disturbed, wider_grown (m + m) n (hull_of (cell_at d p.cell)) h.square twice held)) back) c)
+    let inner = within_grown m (hull_of (cell_at d p.cell)) r z (hulls d sound p.cell key z flat) (within_back m z r near) in
+    let is = stirred_around m n d (inputs name) p.cell e.0 r twice e.1 (rects_of e.0 e.2) (hull_sound d p.cell sound) inner in
+    elim (is_or_not (covers (around m e.0) r)) [
+      | inl c ↦ inl (is.0 c)
+      | inr c ↦ inr (λ h. not_both (covers (around m e.0) r) (is.1 h) c)
     ]
 
 kept_flat : (d : Linked) (cell : ℕ) (name : Formula) (q : Square) → IsKept (plain d) cell name q → InFlat (plain d) cell name q

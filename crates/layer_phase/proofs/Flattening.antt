@@ -1,9 +1,11 @@
 -- Flat squares of names among those looked at.
-use Rattle.std.proofs.Common.{◌≡◌, ◌⊎◌, inl, inr, ℕ, zero, suc, ◌<◌, ◌≤◌, ◌+◌, Bool, true, false, ◌==◌, List, [], ◌∷◌, ◌++◌, Option, Some, None, refl, sym, ap, ◌∙◌, subst, arith, drop, length, length-append, get_or, slice_get}
+use Rattle.std.proofs.Common.{◌≡◌, ◌⊎◌, ◌↔◌, inl, inr, ℕ, zero, suc, ◌<◌, ◌≤◌, ◌+◌, ℤ, pos, negsuc, max, unsigned_abs, Bool, true, false, ◌==◌, List, [], ◌∷◌, ◌++◌, Option, Some, None, refl, sym, ap, ◌∙◌, subst, arith, drop, length, length-append, get_or, slice_get}
 use Rattle.std.proofs.Math.Decide.{ℕ_discrete}
+use Rattle.std.proofs.lemmas.Int.{ints}
+use Rattle.std.proofs.Math.Nat.{le-max_left, le-max_right}
 use Rattle.std.proofs.lemmas.Bool.{cases_lt, eqb-true}
 use Rattle.std.proofs.lemmas.List.{at_drop_more, get_or_append_left, get_or_push, get_or_past}
-use Rattle.std.proofs.lemmas.Option.{slice_get-get_or}
+use Rattle.std.proofs.lemmas.Option.{get_or_from_slice_get, slice_get-get_or}
 use Rattle.geo_base.specs.declared.layer.LayerKey.{LayerKey}
 use Rattle.geo_base.specs.declared.layer.Op.{Op}
 use Rattle.geo_base.specs.declared.layer.Op.TheVariants.{And, Or, Not, Xor}
@@ -11,9 +13,12 @@ use Rattle.geo_base.specs.declared.shapes.Rect.{Rect}
 use Rattle.geo_base.specs.declared.shapes.Square.{Square}
 use Rattle.rect_sets.specs.Rects.{covers}
 use Rattle.edge_boolean.specs.Ops.{operated}
-use Rattle.flat_layout.specs.Layers.{Formula, Input, Empty, Binary, inputs, InFlat, Combines}
-use Rattle.flat_layout.specs.Layout.{Some_of}
+use Rattle.flat_layout.specs.Layers.{Formula, Input, Empty, Binary, Sized, inputs, reach, InFlat, Combines}
+use Rattle.flat_layout.specs.Layout.{InFlatInput, Some_of}
+use Rattle.flat_layout.specs.Plane.{AreWithin, IsSized}
 use Rattle.flat_layout.specs.Values.{IsLocalLayer}
+use Rattle.flat_laws.proofs.Moves.{farther, wider, within_none, within_same}
+use Rattle.sized_layers.specs.Sizes.{IsSetWithin, IsSize, growth}
 use Rattle.cell_graph.specs.Linked.{Linked, IsSound, cell_at, own_of, places_at, plain}
 use Rattle.cell_context.proofs.Gathering.{over_flat}
 use Rattle.rule_text.specs.declared.rules.LayerForm.{LayerForm}
@@ -22,6 +27,7 @@ use Rattle.rule_text.specs.declared.rules.LayerRule.{LayerRule}
 use Rattle.rule_layers.specs.Formulas.{formulas, formula_by, formulas_behind}
 use Rattle.layer_phase.specs.Looks.{Grows, IsInput}
 use Rattle.layer_phase.specs.Names.{AreFlats, AreLocals, IsFlatIn}
+use Rattle.layer_phase.proofs.Around.{wider_set}
 
 -- one operator on squares among those looked at
 op_to : (op : Op) (L A B : Type 0) (a b : Bool) → (a ≡ true → L × A) → (L × A → a ≡ true) → (b ≡ true → L × B) → (L × B → b ≡ true) → operated op a b ≡ true → L × Combines op A B
@@ -54,16 +60,87 @@ op_from Xor L A B true false fa ga fb gb h = refl
 op_from Xor L A B false true fa ga fb gb h = refl
 op_from Xor L A B false false fa ga fb gb h = elim h.1 [ inl x ↦ ga (h.0, x.0) | inr y ↦ gb (h.0, y.0) ]
 
+op_some : (op : Op) (a b : Bool) → operated op a b ≡ true → (a ≡ true) ⊎ (b ≡ true)
+op_some op true b e = inl refl
+op_some op false true e = inr refl
+op_some And false false e = absurd (let z : ⊥ = cc in z)
+op_some Or false false e = absurd (let z : ⊥ = cc in z)
+op_some Not false false e = absurd (let z : ⊥ = cc in z)
+op_some Xor false false e = absurd (let z : ⊥ = cc in z)
+
+no_more : (n m : ℕ) → n ≤ m → m ≡ 0 → n ≡ 0
+no_more n m le e = omega arith
+
 pub combined : (d : Linked) (cell : ℕ) (looks : List Rect) (op : Op) (x y : Formula) (a b r : List Rect) → ((s : Square) → covers r s ≡ operated op (covers a s) (covers b s))
     → IsFlatIn d cell looks x a → IsFlatIn d cell looks y b → IsFlatIn d cell looks (Binary op x y) r
-combined d cell looks op x y a b r e h g q = (
-  (λ c. op_to op (covers looks q ≡ true) (InFlat (plain d) cell x q) (InFlat (plain d) cell y q) (covers a q) (covers b q) (h q).0 (h q).1 (g q).0 (g q).1 (sym (e q) ∙ c)),
-  (λ c. e q ∙ op_from op (covers looks q ≡ true) (InFlat (plain d) cell x q) (InFlat (plain d) cell y q) (covers a q) (covers b q) (h q).0 (h q).1 (g q).0 (g q).1 c),
+combined d cell looks op x y a b r e h g = record {
+  right = λ q held.
+      let one = h.right q (λ z near. held z (wider (reach x) (max (reach x) (reach y)) z q (le-max_left (reach x) (reach y)) near)) in
+      let two = g.right q (λ z near. held z (wider (reach y) (max (reach x) (reach y)) z q (le-max_right (reach x) (reach y)) near)) in
+      let A = InFlat (plain d) cell x q in let B = InFlat (plain d) cell y q in (
+        (λ c. (op_to op (Unit {0}) A B (covers a q) (covers b q) (λ i. (tt, one.0 i)) (λ p. one.1 p.1) (λ i. (tt, two.0 i)) (λ p. two.1 p.1) (sym (e q) ∙ c)).1),
+        (λ c. e q ∙ op_from op (Unit {0}) A B (covers a q) (covers b q) (λ i. (tt, one.0 i)) (λ p. one.1 p.1) (λ i. (tt, two.0 i)) (λ p. two.1 p.1) (tt, c)),
+      );
+  inside = λ none q c. elim (op_some op (covers a q) (covers b q) (sym (e q) ∙ c)) [
+    | inl i ↦ h.inside (no_more (reach x) (max (reach x) (reach y)) (le-max_left (reach x) (reach y)) none) q i
+    | inr i ↦ g.inside (no_more (reach y) (max (reach x) (reach y)) (le-max_right (reach x) (reach y)) none) q i
+  ];
+  range = λ m near q c. elim (op_some op (covers a q) (covers b q) (sym (e q) ∙ c)) [
+    | inl i ↦ wider_set (m + reach x) (m + max (reach x) (reach y)) a (let le = le-max_left (reach x) (reach y) in omega arith) (h.range m near) q i
+    | inr i ↦ wider_set (m + reach y) (m + max (reach x) (reach y)) b (let le = le-max_right (reach x) (reach y) in omega arith) (g.range m near) q i
+  ];
+}
+
+-- sets that are one wherever it counts are one when sized
+sized_same : (by : ℤ) (A B : Square → Type 0) (q : Square) → ((z : Square) → AreWithin (unsigned_abs by) z q → A z ↔ B z) → IsSized by A q ↔ IsSized by B q
+sized_same (pos n) A B q same = (
+  (λ h. record { square = h.square; within = h.within; has = (same h.square h.within).0 h.has }),
+  (λ h. record { square = h.square; within = h.within; has = (same h.square h.within).1 h.has }),
 )
+sized_same (negsuc n) A B q same = ((λ h z near. (same z near).0 (h z near)), (λ h z near. (same z near).1 (h z near)))
+
+sized_inside : (by : ℤ) (n : ℕ) (a places : List Rect) (q : Square) → n + unsigned_abs by ≡ 0 → (n ≡ 0 → Grows a places) → IsSized by (λ (s : Square). covers a s ≡ true) q → covers places q ≡ true
+sized_inside (pos k) n a places q none inside h =
+    let here : k ≡ 0 = omega (arith, none) in
+    let same : h.square ≡ q = within_none h.square q (subst (λ m. AreWithin m h.square q) here h.within) in
+    inside (omega (arith, none)) q (subst (λ (s : Square). covers a s ≡ true) same h.has)
+sized_inside (negsuc k) n a places q none inside h = absurd (let z : ⊥ = omega (arith, none) in z)
+
+growth_most : (by : ℤ) → growth by ≤ unsigned_abs by
+growth_most (pos n) = omega arith
+growth_most (negsuc n) = omega arith
+
+pub sized_flats : (d : Linked) (cell : ℕ) (places : List Rect) (by : ℤ) (x : Formula) (a r : List Rect) → ((s : Square) → (covers r s ≡ true) ↔ IsSized by (λ (q : Square). covers a q ≡ true) s)
+    → ((n : ℕ) → IsSetWithin n a → IsSetWithin (n + growth by) r) → IsFlatIn d cell places x a → IsFlatIn d cell places (Sized by x) r
+sized_flats d cell places by x a r is range h = record {
+  right = λ q held.
+      let same = sized_same by (λ (s : Square). covers a s ≡ true) (InFlat (plain d) cell x) q
+      (λ z near. h.right z (λ w close. held w (farther (reach x) (unsigned_abs by) w z q close near))) in
+      ((λ c. same.0 ((is q).0 c)), (λ f. (is q).1 (same.1 f)));
+  inside = λ none q c. sized_inside by (reach x) a places q none h.inside ((is q).0 c);
+  range = λ m near. wider_set ((m + reach x) + growth by) (m + (reach x + unsigned_abs by)) r (let le = growth_most by in omega (arith, le)) (range (m + reach x) (h.range m near));
+}
+
+-- how far a layer may be sized, by how far the name reaches
+pub is_size : (by : ℤ) (n : ℕ) → n + unsigned_abs by ≤ 10000 → IsSize by
+is_size (pos k) n le = record { low = omega (arith, ints); high = omega (arith, ints) }
+is_size (negsuc k) n le = record { low = omega (arith, ints); high = omega (arith, ints) }
 
 -- nothing is flat for an empty name
 pub no_flat : (d : Linked) (cell : ℕ) (looks : List Rect) → IsFlatIn d cell looks Empty []
-no_flat d cell looks q = ((λ e. let f : false ≡ true = e in absurd (let z : ⊥ = cc in z)), (λ h. absurd h.1))
+no_flat d cell looks = record {
+  right = λ q held. ((λ e. let f : false ≡ true = e in absurd (let z : ⊥ = cc in z)), (λ h. absurd h));
+  inside = λ none q e. let f : false ≡ true = e in absurd (let z : ⊥ = cc in z);
+  range = λ m near q e. let f : false ≡ true = e in absurd (let z : ⊥ = cc in z);
+}
+
+-- an input layer reaches no further than its squares
+pub input_flats : (d : Linked) (cell : ℕ) (key : LayerKey) (places set : List Rect) → ((q : Square) → (covers set q ≡ true) ↔ ((covers places q ≡ true) × InFlatInput (plain d) cell key q)) → IsFlatIn d cell places (Input key) set
+input_flats d cell key places set is = record {
+  right = λ q held. ((λ e. ((is q).0 e).1), (λ h. (is q).1 (held q (within_same 0 q), h)));
+  inside = λ none q e. ((is q).0 e).0;
+  range = λ m near. wider_set m (m + 0) set (omega arith) (λ q e. near q ((is q).0 e).0);
+}
 
 pub flats_more : (d : Linked) (cell : ℕ) (looks : List Rect) (trees : List Formula) (tree : Formula) (sets : List (List Rect)) (set : List Rect) → length sets ≡ length trees
     → AreFlats d cell looks trees sets → IsFlatIn d cell looks tree set → AreFlats d cell looks (trees ++ tree ∷ []) (sets ++ set ∷ [])
@@ -112,6 +189,15 @@ pub one_on : (trees : List Formula) (names : List LayerRule) (i : ℕ) (rule : L
 one_on trees names i rule lt is =
     sym (at_drop_more (formulas_behind trees) names i rule lt
     ∙ ap (λ (r : LayerRule). formulas_behind (trees ++ formula_by trees r.form ∷ []) (drop (i + 1) names)) is)
+
+-- how far the next form reaches, where no tree reaches further
+pub form_reach : (before : List Formula) (names rest : List LayerRule) (name : ℕ) (f : LayerForm) (a : ℕ) (by : ℤ) → length before ≡ name → formulas_behind (before ++ formula_by before f ∷ []) rest ≡ formulas names → f ≡ form.Sized a by
+    → ((k : ℕ) → reach (get_or (formulas names) k Empty) ≤ 10000) → reach (get_or before a Empty) + unsigned_abs by ≤ 10000
+form_reach before names rest name f a by count on is near =
+    let tree = formula_by before f in
+    let there : slice_get (formulas names) (length before) ≡ Some tree = subst (λ (l : List Formula). slice_get l (length before) ≡ Some tree) on (behind_stays (before ++ tree ∷ []) rest (length before) tree (push_new before tree)) in
+    let at : get_or (formulas names) (length before) Empty ≡ tree = get_or_from_slice_get (formulas names) (length before) tree Empty there in
+    subst (λ (x : LayerForm). reach (formula_by before x) ≤ 10000) is (subst (λ (t : Formula). reach t ≤ 10000) at (near (length before)))
 
 -- each name has a tree
 pub count_behind : (before : List Formula) (names : List LayerRule) → length (formulas_behind before names) ≡ length before + length names
@@ -201,12 +287,13 @@ no_items (x ∷ xs) e = let z : suc (length xs) ≡ 0 = eqb-true _ _ e in absurd
 -- a cell that places no other has its own squares alone
 pub leaf_flat : (d : Linked) (cell : ℕ) (key : LayerKey) (looks set : List Rect) → IsSound d → (length (places_at (cell_at d cell)) == 0) ≡ true → Grows (own_of (cell_at d cell) key) looks
     → ((q : Square) → covers set q ≡ covers (own_of (cell_at d cell) key) q) → IsFlatIn d cell looks (Input key) set
-leaf_flat d cell key looks set sound none grows same q =
-    let over = over_flat d sound cell key q in
-    let empty = no_items (places_at (cell_at d cell)) none in (
+leaf_flat d cell key looks set sound none grows same =
+    let empty = no_items (places_at (cell_at d cell)) none in
+    input_flats d cell key looks set (λ q.
+    let over = over_flat d sound cell key q in (
       (λ e. let o = sym (same q) ∙ e in (grows q o, over.0 (inl o))),
       (λ h. same q ∙ elim (over.1 h.1) [
         | inl o ↦ o
         | inr t ↦ absurd (none_some t.from (subst (λ l. slice_get l t.index ≡ Some t.from) empty t.step.there))
       ]),
-    )
+    ))

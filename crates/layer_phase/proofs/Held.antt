@@ -1,18 +1,22 @@
 -- Rectangles that a hull holds.
-use Rattle.std.proofs.Common.{◌≡◌, inl, inr, ℕ, zero, suc, ◌<◌, ◌+◌, ◌^◌, Bool, true, false, ◌&&◌, List, [], ◌∷◌, ◌++◌, Option, Some, slice_get, slice_index_or, length, refl, sym, ◌∙◌, ap, subst, arith}
+use Rattle.std.proofs.Common.{◌≡◌, inl, inr, ℕ, zero, suc, ◌<◌, ◌+◌, ◌^◌, ℤ, pos, ◌-ℤ◌, Bool, true, false, ◌&&◌, List, [], ◌∷◌, ◌++◌, Option, Some, slice_get, slice_index_or, length, refl, sym, ◌∙◌, ap, subst, arith}
 use Rattle.std.specs.List.{All}
 use Rattle.std.proofs.Math.Decide.{ℕ_discrete}
+use Rattle.std.proofs.lemmas.Int.{ints}
 use Rattle.geo_base.specs.Near.{IsNearRect}
 use Rattle.geo_base.specs.Rects.{has, IsRect}
 use Rattle.geo_base.specs.declared.layer.LayerKey.{LayerKey}
 use Rattle.geo_base.specs.declared.shapes.Rect.{Rect}
 use Rattle.geo_base.specs.declared.shapes.Square.{Square}
 use Rattle.rect_sets.specs.Rects.{covers}
-use Rattle.cell_graph.specs.Linked.{Linked, IsSound, IsHull, HullIsSound, HullHas, hull_of, cell_at, own_of}
-use Rattle.cell_graph.proofs.Bridge.{or_split, or_left, or_right, inside_has, own_in_hull}
+use Rattle.cell_graph.specs.Grown.{IsInGrown}
+use Rattle.cell_graph.specs.Linked.{Linked, IsSound, IsFrame, IsRectWithin, HullHas, hull_of, cell_at, own_of}
+use Rattle.cell_graph.proofs.Bridge.{in_has, or_split, or_left, or_right, inside_has, own_in_hull}
+use Rattle.cell_graph.proofs.Growing.{grown_none, wider_grown}
 use Rattle.cell_context.specs.Over.{IsPiece}
 use Rattle.cell_context.proofs.Collecting.{covers_append, and_right}
 use Rattle.cell_context.proofs.Visiting.{inside_from, within_inside, near_rect, wider_rect}
+use Rattle.sized_layers.specs.Sizes.{IsSetWithin, IsSquareWithin}
 use Rattle.rule_text.specs.declared.rules.LayerForm.TheVariants as form
 use Rattle.rule_text.specs.declared.rules.LayerRule.{LayerRule}
 use Rattle.layer_phase.specs.Looks.{AreHeld, AreNear, IsInput}
@@ -30,29 +34,50 @@ held_pieces w (x ∷ xs) h q e = elim (or_split (has x q) (covers xs q) e) [
   | inr f ↦ held_pieces w xs (λ k d lt. h (suc k) d (omega arith)) q f
 ]
 
-within : (w : Rect) (rs : List Rect) → IsHull w → All IsRect rs → ((q : Square) → covers rs q ≡ true → has w q ≡ true) → AreNear rs
+within : (w : Rect) (rs : List Rect) → IsFrame w → All IsRect rs → ((q : Square) → covers rs q ≡ true → has w q ≡ true) → AreNear rs
 within w rs hull some h = λ k r lt.
     let x = slice_index_or rs k r in
-    within_inside (2 ^ 39) x w (some k r lt) (inside_from x w (some k r lt) (λ q e. h q (listed_has rs k r q lt e))) (wider_rect (2 ^ 36) (2 ^ 39) w (omega arith) hull.near)
+    within_inside (2 ^ 39) x w (some k r lt) (inside_from x w (some k r lt) (λ q e. h q (listed_has rs k r q lt e))) (wider_rect (2 ^ 37) (2 ^ 39) w (omega arith) hull.near)
 
--- what a hull holds is near
-pub held_near : (o : Option Rect) (w : Rect) (rs : List Rect) → o ≡ Some w → HullIsSound o → All IsRect rs → AreHeld o rs → AreNear rs
-held_near o w rs e sound some held = within w rs (subst HullIsSound e sound) some (λ q c. subst (λ x. HullHas x q) e (held q c))
+-- the corners of a rectangle tell how far it reaches
+corners : (m : ℕ) (r : Rect) → IsRect r → ((q : Square) → has r q ≡ true → IsSquareWithin m q) → IsRectWithin m r
+corners m r some h =
+    let wide = some.wide in let high = some.high in
+    let low : Square = record { x = r.x1; y = r.y1 } in
+    let top : Square = record { x = r.x2 -ℤ pos 1; y = r.y2 -ℤ pos 1 } in
+    let a = h low (in_has r low ((omega (arith, ints)), (omega (arith, ints)), (omega (arith, ints)), (omega (arith, ints)))) in
+    let b = h top (in_has r top ((omega (arith, ints)), (omega (arith, ints)), (omega (arith, ints)), (omega (arith, ints)))) in
+    let a1 = a.left in let a2 = a.right in let a3 = a.low in let a4 = a.high in
+    let b1 = b.left in let b2 = b.right in let b3 = b.low in let b4 = b.high in
+    record {
+      x1 = record { low = omega (arith, ints); high = omega (arith, ints) };
+      y1 = record { low = omega (arith, ints); high = omega (arith, ints) };
+      x2 = record { low = omega (arith, ints); high = omega (arith, ints) };
+      y2 = record { low = omega (arith, ints); high = omega (arith, ints) };
+    }
+
+-- the rectangles of a set reach no further than its squares
+pub rects_within : (m : ℕ) (rs : List Rect) → All IsRect rs → IsSetWithin m rs → All (IsRectWithin m) rs
+rects_within m rs some h = λ k r lt. corners m (slice_index_or rs k r) (some k r lt) (λ q e. h q (listed_has rs k r q lt e))
+
+-- a hull's square lies in the grown hull
+pub in_grown : (n : ℕ) (o : Option Rect) (q : Square) → HullHas o q → IsInGrown n o q
+in_grown n o q h = wider_grown 0 n o q (omega arith) ((grown_none o q).1 h)
 
 and_left : (a b : Bool) → (a && b) ≡ true → a ≡ true
 and_left true b e = refl
 and_left false b e = e
 
--- the part of a set in a hull is near
-pub part_near : (w : Rect) (zone part : List Rect) → IsHull w → All IsRect part → ((s : Square) → covers part s ≡ (covers zone s && has w s)) → All IsNearRect part
+-- the part of a set in a frame is near
+pub part_near : (w : Rect) (zone part : List Rect) → IsFrame w → All IsRect part → ((s : Square) → covers part s ≡ (covers zone s && has w s)) → All IsNearRect part
 part_near w zone part hull some is =
     let near = within w part hull some (λ q e. and_right (covers zone q) (has w q) (sym (is q) ∙ e)) in λ k r lt. near_rect (slice_index_or part k r) (near k r lt)
 
 -- own squares behind others
-pub own_held : (d : Linked) (cell : ℕ) (key : LayerKey) (old new : List Rect) → IsSound d → new ≡ old ++ own_of (cell_at d cell) key → AreHeld (hull_of (cell_at d cell)) old → AreHeld (hull_of (cell_at d cell)) new
-own_held d cell key old new sound e held q f = elim (or_split (covers old q) (covers (own_of (cell_at d cell) key) q) (sym (ap (λ l. covers l q) e ∙ covers_append old (own_of (cell_at d cell) key) q) ∙ f)) [
+pub own_held : (n : ℕ) (d : Linked) (cell : ℕ) (key : LayerKey) (old new : List Rect) → IsSound d → new ≡ old ++ own_of (cell_at d cell) key → AreHeld n (hull_of (cell_at d cell)) old → AreHeld n (hull_of (cell_at d cell)) new
+own_held n d cell key old new sound e held q f = elim (or_split (covers old q) (covers (own_of (cell_at d cell) key) q) (sym (ap (λ l. covers l q) e ∙ covers_append old (own_of (cell_at d cell) key) q) ∙ f)) [
   | inl g ↦ held q g
-  | inr g ↦ own_in_hull d cell key q sound g
+  | inr g ↦ in_grown n (hull_of (cell_at d cell)) q (own_in_hull d cell key q sound g)
 ]
 
 one_rule : (o : Option LayerRule) (a b : LayerRule) → o ≡ Some a → o ≡ Some b → a ≡ b

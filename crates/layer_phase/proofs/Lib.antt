@@ -1,3 +1,4 @@
+pub mod Around
 pub mod Assembly
 pub mod Bringing
 pub mod Deriving
@@ -8,5 +9,7 @@ pub mod Inputs
 pub mod Keeping
 pub mod Leaves
 pub mod Looking
+pub mod Owning
 pub mod Results
+pub mod Stirring
 pub mod Telling

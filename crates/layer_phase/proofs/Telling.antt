@@ -1,5 +1,5 @@
 -- A right table tells what placed cells keep.
-use Rattle.std.proofs.Common.{◌≡◌, inl, inr, ℕ, arith, false, List, Option, Some, sym, ◌∙◌, ap, subst, slice_get}
+use Rattle.std.proofs.Common.{◌≡◌, ◌↔◌, inl, inr, ℕ, true, false, List, Option, Some, sym, ◌∙◌, ap, subst, slice_get}
 use Rattle.geo_base.specs.declared.shapes.Rect.{Rect}
 use Rattle.geo_base.specs.Motions.{moved_square}
 use Rattle.geo_base.specs.declared.shapes.Square.{Square}
@@ -7,13 +7,11 @@ use Rattle.rect_sets.specs.Rects.{covers, IsCanonical}
 use Rattle.flat_layout.specs.Arrays.{place_at}
 use Rattle.flat_layout.specs.Layers.{Formula, inputs, reach, IsStirred}
 use Rattle.flat_layout.specs.Layout as flat
-use Rattle.flat_layout.specs.Layout.{IsReached, IsPlaced, IsDisturbed}
+use Rattle.flat_layout.specs.Layout.{IsReached}
 use Rattle.flat_laws.proofs.Cover.{reached_below}
-use Rattle.flat_laws.proofs.Names.{still, stirs}
 use Rattle.cell_graph.specs.declared.cells.Place.{Place}
-use Rattle.cell_graph.specs.Linked.{Linked, IsStep, HullHas, hull_of, cell_at, plain, reference}
-use Rattle.cell_graph.proofs.Bridge.{step_of, placed_of}
-use Rattle.cell_graph.proofs.Growing.{grown_none, wider_grown}
+use Rattle.cell_graph.specs.Linked.{Linked, IsStep, hull_of, cell_at, plain, reference}
+use Rattle.cell_graph.proofs.Bridge.{hull_sound, step_of, placed_of}
 use Rattle.deep_tables.specs.declared.zones.CellZones.{CellZones}
 use Rattle.deep_tables.specs.Frames.{IsFramedZone, IsInGrown}
 use Rattle.deep_tables.proofs.Framing.{framed}
@@ -21,10 +19,13 @@ use Rattle.deep_tables.proofs.Reading.{zone_at, zone_entry}
 use Rattle.deep_tables.specs.Zones.{AreZones}
 use Rattle.rule_layers.specs.Formulas.{formulas, zone_margin}
 use Rattle.rule_text.specs.Rules.{Rules}
+use Rattle.layer_phase.specs.Around.{around}
 use Rattle.layer_phase.specs.Parts.{IsFromCalmHull}
 use Rattle.layer_phase.specs.Keeps.{HaveEntries, IsKeptBy, IsZoneAt}
 use Rattle.layer_phase.specs.Bridge.{KeptLaw}
+use Rattle.layer_phase.proofs.Around.{rects_of}
 use Rattle.layer_phase.proofs.Assembly.{is_or_not, not_both}
+use Rattle.layer_phase.proofs.Stirring.{stirred_around}
 
 reached_step : (d : Linked) (cell i row column : ℕ) (p : Place) → IsReached (plain d) cell → IsStep d cell i row column p → IsReached (plain d) p.cell
 reached_step d cell i row column p reached step = reached_below (plain d) cell _ (place_at (reference p) row column) reached (placed_of d cell i row column p step)
@@ -37,7 +38,7 @@ pub entries : (d : Linked) (r : Rules) (z : List (Option CellZones)) (x : Formul
 entries d r z x cell name right reached named i row column p step = zone_entry (plain d) r z p.cell name x right (reached_step d cell i row column p reached step) named
 
 pub kept : KeptLaw
-kept d r z x cell name sound hulls right reached named asked none = record {
+kept d r z x cell name sound hulls right reached named asked twice = record {
   entries = λ i row column p step. let e = at p.cell (reached_step d cell i row column p reached step) in (e.0, e.1);
   zones = λ k p placed. let e = at p.cell (reached_below (plain d) cell k p reached placed) in (e.0, e.2, e.3);
   kept = λ q. (to q, from q);
@@ -48,31 +49,33 @@ kept d r z x cell name sound hulls right reached named asked none = record {
         let h = zone_at (plain d) r z e name x right there named asked in
         (h.0, h.1, (framed d (inputs x) (zone_margin r.names) e h.0 (hulls e there) h.2.canonical).0 h.2, h.2.canonical)
 
-    to : (q : Square) → IsKeptBy d z cell name q → IsFromCalmHull d x cell q
+    stirred : (e : ℕ) (zone : List Rect) (s : Square) → IsFramedZone (zone_margin r.names) d (inputs x) e zone → IsCanonical zone → IsInGrown (reach x) (hull_of (cell_at d e)) s
+        → (covers (around (reach x) zone) s ≡ true) ↔ IsStirred (plain d) (inputs x) (reach x) e s
+    stirred e zone s frame canonical inner = stirred_around (reach x) (zone_margin r.names) d (inputs x) e zone s twice frame (rects_of zone canonical) (hull_sound d e sound) inner
+
+    to : (q : Square) → IsKeptBy (reach x) d z cell name q → IsFromCalmHull d x cell q
     to q h =
         let e = at h.from.cell (reached_step d cell h.index h.row h.column h.from reached h.step) in
         let same : e.0 ≡ h.entry = one_entry z h.from.cell name e.0 h.entry e.1 h.at in
-        let off : covers e.0 h.square ≡ false = subst (λ (v : List Rect). covers v h.square ≡ false) (sym same) h.off in
-        let inner = (grown_none (hull_of (cell_at d h.from.cell)) h.square).1 h.held in
+        let off : covers (around (reach x) e.0) h.square ≡ false = subst (λ (v : List Rect). covers (around (reach x) v) h.square ≡ false) (sym same) h.off in
+        let is = stirred h.from.cell e.0 h.square e.2 e.3 h.held in
         record {
           number = _;
           place = place_at (reference h.from) h.row h.column;
           square = h.square;
           placed = placed_of d cell h.index h.row h.column h.from h.step;
-          held = subst (λ n. IsInGrown n (hull_of (cell_at d h.from.cell)) h.square) (sym none) inner;
-          calm = λ g.
-              let here = (still (plain d) (inputs x) h.from.cell h.square).0 (subst (λ n. IsStirred (plain d) (inputs x) n h.from.cell h.square) none g) in
-              not_both (covers e.0 h.square) ((e.2 h.square).1 (here, wider_grown 0 (zone_margin r.names) (hull_of (cell_at d h.from.cell)) h.square (omega arith) inner)) off;
+          held = h.held;
+          calm = λ g. not_both (covers (around (reach x) e.0) h.square) (is.1 g) off;
           image = h.image;
         }
 
-    from : (q : Square) → IsFromCalmHull d x cell q → IsKeptBy d z cell name q
+    from : (q : Square) → IsFromCalmHull d x cell q → IsKeptBy (reach x) d z cell name q
     from q h =
         let t = step_of d cell h.number h.place h.placed in
         let e = at t.from.cell (reached_step d cell t.index t.row t.column t.from reached t.step) in
-        let here : IsDisturbed (plain d) (inputs x) h.place.cell h.square → ⊥ = λ g. h.calm (stirs (plain d) (inputs x) (reach x) h.place.cell h.square g) in
-        let calm : IsDisturbed (plain d) (inputs x) t.from.cell h.square → ⊥ = subst (λ (y : flat.Place). IsDisturbed (plain d) (inputs x) y.cell h.square → ⊥) t.is here in
-        let held = (grown_none (hull_of (cell_at d h.place.cell)) h.square).0 (subst (λ n. IsInGrown n (hull_of (cell_at d h.place.cell)) h.square) none h.held) in
+        let calm : IsStirred (plain d) (inputs x) (reach x) t.from.cell h.square → ⊥ = subst (λ (y : flat.Place). IsStirred (plain d) (inputs x) (reach x) y.cell h.square → ⊥) t.is h.calm in
+        let held : IsInGrown (reach x) (hull_of (cell_at d t.from.cell)) h.square = subst (λ (y : flat.Place). IsInGrown (reach x) (hull_of (cell_at d y.cell)) h.square) t.is h.held in
+        let is = stirred t.from.cell e.0 h.square e.2 e.3 held in
         record {
           index = t.index;
           row = t.row;
@@ -80,11 +83,11 @@ kept d r z x cell name sound hulls right reached named asked none = record {
           from = t.from;
           step = t.step;
           square = h.square;
-          held = subst (λ (y : flat.Place). HullHas (hull_of (cell_at d y.cell)) h.square) t.is held;
+          held = held;
           entry = e.0;
           at = e.1;
-          off = elim (is_or_not (covers e.0 h.square)) [
-            | inl c ↦ absurd (calm ((e.2 h.square).0 c).0)
+          off = elim (is_or_not (covers (around (reach x) e.0) h.square)) [
+            | inl c ↦ absurd (calm (is.0 c))
             | inr c ↦ c
           ];
           image = ap (λ (y : flat.Place). moved_square y.motion h.square) (sym t.is) ∙ h.image;

@@ -9,13 +9,19 @@ use Rattle.geo_base.specs.declared.shapes.Rect.{Rect}
 use Rattle.geo_base.specs.declared.shapes.Square.{Square}
 use Rattle.rect_sets.specs.Rects.{covers}
 use Rattle.cell_graph.specs.declared.cells.Place.{Place}
-use Rattle.cell_graph.specs.Linked.{Linked, HullHas, IsRectWithin, cell_at, motion_at}
+use Rattle.cell_graph.specs.Grown.{IsInGrown}
+use Rattle.cell_graph.specs.Linked.{Linked, IsRectWithin, cell_at, motion_at}
 use Rattle.cell_graph.specs.Linked.{own_of, places_at, plain}
 use Rattle.flat_layout.specs.Layout.{InFlatInput}
+use Rattle.flat_layout.specs.Plane.{AreWithin}
 use Rattle.rule_text.specs.declared.rules.LayerForm.TheVariants as form
 use Rattle.rule_text.specs.declared.rules.LayerRule.{LayerRule}
-use Rattle.rule_layers.specs.Reads.{AreRead}
+use Rattle.deep_laws.specs.Layers.{IsDerived}
+use Rattle.flat_layout.specs.Layers.{Formula}
+use Rattle.rule_layers.specs.Formulas.{formulas}
+use Rattle.rule_layers.specs.Reads.{IsRead}
 use Rattle.deep_tables.specs.declared.zones.CellZones.{CellZones}
+use Rattle.sized_layers.specs.Sizes.{IsSetWithin}
 use Rattle.layer_phase.specs.Keeps.{HasEntry, IsZoneAt}
 use Rattle.layer_phase.specs.declared.exposed.Exposed.{Exposed}
 
@@ -27,9 +33,9 @@ AreNear rects = All (IsRectWithin (2 ^ 39)) rects
 abbrev pub Grows : List Rect → List Rect → Type 0
 Grows old new = (q : Square) → covers old q ≡ true → covers new q ≡ true
 
--- the hull holds what they cover
-abbrev pub AreHeld : Option Rect → List Rect → Type 0
-AreHeld hull rects = (q : Square) → covers rects q ≡ true → HullHas hull q
+-- the hull, grown by n, holds what they cover
+abbrev pub AreHeld : ℕ → Option Rect → List Rect → Type 0
+AreHeld n hull rects = (q : Square) → covers rects q ≡ true → IsInGrown n hull q
 
 -- the name of this number is this input layer
 abbrev pub IsInput : List LayerRule → ℕ → LayerKey → Type 0
@@ -44,29 +50,36 @@ Brings p below rects window out = (row column : ℕ) (s : Square) → row < p.ro
     → covers rects s ≡ true → has window (moved_square (motion_at p row column) s) ≡ true
     → covers out (moved_square (motion_at p row column) s) ≡ true
 
--- a square of a cell that is disturbed for an input layer of the names, and flat on one
-pub record IsExposed (d : Linked) (z : List (Option CellZones)) (names : List LayerRule) (cell : ℕ)
-    (s : Square) : Type 0 where
+-- a square of a cell within n of which something is disturbed for an input layer of the names, and
+-- a square flat on one
+pub record IsExposed (n : ℕ) (d : Linked) (z : List (Option CellZones)) (names : List LayerRule)
+    (cell : ℕ) (s : Square) : Type 0 where
   pub name : ℕ
   pub key : LayerKey
   pub named : IsInput names name key
   pub zone : List Rect
   pub entry : IsZoneAt z cell name zone
-  pub disturbed : covers zone s ≡ true
+  pub near : Square
+  pub disturbed : covers zone near ≡ true
+  pub within : AreWithin n near s
   pub other : ℕ
   pub flat_key : LayerKey
   pub flat_named : IsInput names other flat_key
-  pub flat : InFlatInput (plain d) cell flat_key s
+  pub shape : Square
+  pub flat : InFlatInput (plain d) cell flat_key shape
+  pub close : AreWithin n shape s
 
 -- a cell's exposed squares are covered
-abbrev pub AreExposed : Linked → List (Option CellZones) → List LayerRule → ℕ → List Rect → Type 0
-AreExposed d z names cell rects = (s : Square) → IsExposed d z names cell s → covers rects s ≡ true
+abbrev pub AreExposed : ℕ → Linked → List (Option CellZones) → List LayerRule → ℕ → List Rect
+    → Type 0
+AreExposed n d z names cell rects = (s : Square) → IsExposed n d z names cell s
+    → covers rects s ≡ true
 
 -- sets with the exposed squares of their cells, all near
-abbrev pub AreExposedLists : Linked → List (Option CellZones) → List LayerRule → List Exposed
+abbrev pub AreExposedLists : ℕ → Linked → List (Option CellZones) → List LayerRule → List Exposed
     → Type 0
-AreExposedLists d z names lists = (k : ℕ) (e : Exposed) → slice_get lists k ≡ Some e
-    → AreExposed d z names e.cell e.set × All IsNearRect e.set
+AreExposedLists n d z names lists = (k : ℕ) (e : Exposed) → slice_get lists k ≡ Some e
+    → AreExposed n d z names e.cell e.set × All IsNearRect e.set
 
 -- the set at the position is of the cell
 abbrev pub IsListAt : List Exposed → ℕ → ℕ → Type 0
@@ -93,10 +106,10 @@ HaveFlat d names bound cell places rects = (name : ℕ) (key : LayerKey) → nam
     → covers rects s ≡ true
 
 -- an array's images of the placed cell's exposed squares are covered, where they lie in the window
-abbrev pub BringsExposed : Linked → List (Option CellZones) → List LayerRule → Place → Rect
+abbrev pub BringsExposed : ℕ → Linked → List (Option CellZones) → List LayerRule → Place → Rect
     → List Rect → Type 0
-BringsExposed d z names p window out = (row column : ℕ) (s : Square) → row < p.rows
-    → column < p.columns → IsExposed d z names p.cell s
+BringsExposed n d z names p window out = (row column : ℕ) (s : Square) → row < p.rows
+    → column < p.columns → IsExposed n d z names p.cell s
     → has window (moved_square (motion_at p row column) s) ≡ true
     → covers out (moved_square (motion_at p row column) s) ≡ true
 
@@ -115,24 +128,30 @@ BringsOwn d cell names bound out = (name : ℕ) (key : LayerKey) → name < boun
     → IsInput names name key
     → Grows (own_of (cell_at d cell) key) out
 
--- the cell's own squares on input layers are among those looked at
-abbrev pub HoldsOwn : Linked → List LayerRule → ℕ → List Rect → Type 0
-HoldsOwn d names cell looks = (name : ℕ) (key : LayerKey) → IsInput names name key
-    → Grows (own_of (cell_at d cell) key) looks
+-- all squares within n of the cell's own on input layers are among those looked at
+abbrev pub HoldsOwn : ℕ → Linked → List LayerRule → ℕ → List Rect → Type 0
+HoldsOwn n d names cell looks = (name : ℕ) (key : LayerKey) → IsInput names name key
+    → (s q : Square) → covers (own_of (cell_at d cell) key) s ≡ true → AreWithin n s q
+    → covers looks q ≡ true
 
--- near squares with the cell's own on input layers, and with all images of what is exposed in
--- placed cells
-pub record AreLooks (d : Linked) (z : List (Option CellZones)) (names : List LayerRule) (cell : ℕ)
-    (looks : List Rect) : Type 0 where
-  pub near : AreNear looks
-  pub own : HoldsOwn d names cell looks
+-- squares within plus or minus 2^37, with all those within n of the cell's own on input layers, and
+-- with all images of what is exposed in placed cells
+pub record AreLooks (n : ℕ) (d : Linked) (z : List (Option CellZones)) (names : List LayerRule)
+    (cell : ℕ) (looks : List Rect) : Type 0 where
+  pub within : IsSetWithin (2 ^ 37) looks
+  pub own : HoldsOwn n d names cell looks
   pub below : (i : ℕ) (p : Place) → slice_get (places_at (cell_at d cell)) i ≡ Some p
       → (row column : ℕ) (s : Square) → row < p.rows → column < p.columns
-      → IsExposed d z names p.cell s → covers looks (moved_square (motion_at p row column) s) ≡ true
+      → IsExposed n d z names p.cell s
+      → covers looks (moved_square (motion_at p row column) s) ≡ true
 
--- squares that have to be looked at for derived names: their input layers alone count
-pub record AreReadLooks (d : Linked) (z : List (Option CellZones)) (names : List LayerRule)
-    (cell : ℕ) (looks : List Rect) : Type 0 where
+-- squares that have to be looked at for a derived name that reaches n squares far: the input layers
+-- count that it is seen to be made of, and names that it isn't made of may be left out
+pub record AreReadLooks (n : ℕ) (d : Linked) (z : List (Option CellZones)) (names : List LayerRule)
+    (name cell : ℕ) (looks : List Rect) : Type 0 where
   pub seen : List LayerRule
-  pub are : AreRead names [] [] seen
-  pub all : AreLooks d z seen cell looks
+  pub tree : (x : Formula) → IsDerived x → slice_get (formulas names) name ≡ Some x
+      → slice_get (formulas seen) name ≡ Some x
+  pub inputs : (k : ℕ) (key : LayerKey) → IsInput seen k key
+      → IsInput names k key × IsRead names [] [] k
+  pub all : AreLooks n d z seen cell looks

@@ -1,11 +1,12 @@
 -- What a cell has of the rules' names: flat squares among those looked at, and squares that it
 -- holds itself.
-use Rattle.std.specs.Prelude.{◌≡◌, ◌↔◌, ℕ, ◌<◌, ◌^◌, true, List, [], Option, Some, length, get_or}
-use Rattle.std.specs.Prelude.{slice_get}
+use Rattle.std.specs.Prelude.{◌≡◌, ◌↔◌, ℕ, ◌+◌, ◌<◌, ◌^◌, true, List, [], Option, Some, length}
+use Rattle.std.specs.Prelude.{get_or, slice_get}
 use Rattle.geo_base.specs.declared.shapes.Rect.{Rect}
 use Rattle.geo_base.specs.declared.shapes.Square.{Square}
 use Rattle.rect_sets.specs.Rects.{covers}
-use Rattle.flat_layout.specs.Layers.{Formula, Empty, InFlat}
+use Rattle.flat_layout.specs.Layers.{Formula, Empty, InFlat, reach}
+use Rattle.flat_layout.specs.Plane.{IsHeldBy}
 use Rattle.flat_layout.specs.Layout.{IsReached}
 use Rattle.flat_layout.specs.Values.{IsLocalLayer}
 use Rattle.cell_graph.specs.Linked.{Linked, plain}
@@ -15,11 +16,17 @@ use Rattle.rule_text.specs.Sound.{IsSound}
 use Rattle.deep_tables.specs.declared.zones.CellZones.{CellZones}
 use Rattle.deep_tables.specs.Frames.{HasHulls}
 use Rattle.deep_tables.specs.Zones.{AreZones}
+use Rattle.sized_layers.specs.Sizes.{IsSetWithin}
+use Rattle.layer_phase.specs.Looks.{Grows}
 
--- exactly the tree's flat squares among those looked at
-abbrev pub IsFlatIn : Linked → ℕ → List Rect → Formula → List Rect → Type 0
-IsFlatIn d cell looks x set = (q : Square) → (covers set q ≡ true) ↔ ((covers looks q ≡ true)
-    × InFlat (plain d) cell x q)
+-- the tree's flat squares, exactly wherever all squares within its reach are among those gathered;
+-- where it doesn't reach further than its squares, no others; and none further out than its reach
+pub record IsFlatIn (d : Linked) (cell : ℕ) (places : List Rect) (x : Formula) (set : List Rect) :
+    Type 0 where
+  pub right : (q : Square) → IsHeldBy (reach x) (λ s. covers places s ≡ true) q
+      → (covers set q ≡ true) ↔ InFlat (plain d) cell x q
+  pub inside : reach x ≡ 0 → Grows set places
+  pub range : (m : ℕ) → IsSetWithin m places → IsSetWithin (m + reach x) set
 
 -- the same of each tree; past the end both are empty
 abbrev pub AreFlats : Linked → ℕ → List Rect → List Formula → List (List Rect) → Type 0

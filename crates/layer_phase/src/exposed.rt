@@ -1,7 +1,7 @@
 //! The squares of placed cells that have to be looked at, found once for each cell: those that are
 //! disturbed for an input layer and flat on one. Everywhere else the placed cell keeps what lies
 //! there, or nothing lies there.
-ghost use Rattle.std.specs.Prelude.{◌≡◌, ◌<◌, ◌^◌, [], ◌++◌, ◌∷◌, ℕ, List, Some, length};
+ghost use Rattle.std.specs.Prelude.{◌≡◌, ◌<◌, ◌≤◌, ◌^◌, [], ◌++◌, ◌∷◌, ℕ, List, Some, length};
 ghost use Rattle.std.specs.Prelude.{slice_get, true, IfOk, IfSome, OnOk};
 ghost use Rattle.std.specs.List.{All};
 ghost use Rattle.geo_base.specs.Near.{IsNearRect};
@@ -11,17 +11,22 @@ ghost use Rattle.geo_base.specs.declared.shapes.Rect.{Rect as Rectangle};
 ghost use Rattle.geo_base.specs.declared.shapes.Square.{Square};
 ghost use Rattle.rect_sets.specs.Rects.{covers};
 ghost use Rattle.flat_layout.specs.Layout.{InFlatInput};
-ghost use Rattle.cell_graph.specs.Linked.{IsHull, cell_at, hull_of, plain};
+ghost use Rattle.cell_graph.specs.Linked.{IsFrame, cell_at, hull_of, plain};
 ghost use Rattle.rule_text.specs.declared.rules.LayerForm.TheVariants.{Input};
+ghost use Rattle.sized_layers.specs.Sizes.{IsSetWithin};
+ghost use Rattle.layer_phase.specs.Around.{around};
 ghost use Rattle.layer_phase.specs.Keeps.{HasEntry, IsZoneAt};
 ghost use Rattle.layer_phase.specs.declared.exposed.Exposed.{Exposed as ExposedSet};
 ghost use Rattle.layer_phase.specs.Looks.{AreExposed, AreExposedLists, AreNear, Grows, HasAll};
 ghost use Rattle.layer_phase.specs.Looks.{HaveDisturbed, HaveFlat, HoldDisturbed, IsListAt};
 
+use crate::grown::{around, twice_around, twice_grown};
 use crate::parts::input_squares;
+use cell_context::grown;
 use cell_graph::Design;
 use deep_tables::{ZoneKey, Zones};
-use geo_base::Rect;
+use edge_boolean::combine;
+use geo_base::{Op, Rect};
 use rect_sets::RectSet;
 use rule_text::{LayerForm, LayerRule};
 use std::alloc::{AllocError, Global};
@@ -97,25 +102,24 @@ fn push_all_disturbed(
     Ok(())
 }
 
-// A cell's squares in its hull that are disturbed for one of the input layers.
+// A cell's squares in a window that are disturbed for one of the input layers.
 fn disturbed_in(
     alloc: Global,
     zones: &Zones,
     cell: u32,
     names: &[LayerRule],
-    hull: &Rect,
+    window: &Rect,
 ) -> Result<RectSet, AllocError>
     requires few { length names.now < 2 ^ 32 }
     requires entries { HasAll zones.now cell (length names.now) }
-    requires hull { IsHull hull.now }
-    ensures near { IfOk result AreNear }
-    ensures zones { IfOk result (HoldDisturbed zones.now names.now cell hull.now) }
+    requires window { IsFrame window.now }
+    ensures within { IfOk result (IsSetWithin (2 ^ 37)) }
+    ensures zones { IfOk result (HoldDisturbed zones.now names.now cell window.now) }
 {
     let mut out = Vec::new(alloc);
     push_all_disturbed(&mut out, zones, cell, names)?;
     let all = RectSet::canon(alloc, out)?;
-    let part = all.window(alloc, *hull)?;
-    let _near = part.rects();
+    let part = all.window(alloc, *window)?;
     Ok(part)
 }
 
@@ -131,7 +135,9 @@ fn push_flat(
     requires cell { cell < length design.now.cells }
     requires near { AreNear places.now }
     requires rects { All IsRect out.old.items }
+    requires held { Grows out.old.items places.now }
     ensures rects { OnOk result (All IsRect out.new.items) }
+    ensures held { OnOk result (Grows out.new.items places.now) }
     ensures grows { OnOk result (Grows out.old.items out.new.items) }
     ensures flat { OnOk result ((key : LayerKey) → form ≡ Input key
         → (s : Square) → covers places.now s ≡ true → InFlatInput (plain design.now) cell key s
@@ -158,7 +164,9 @@ fn push_all_flat(
     requires cell { cell < length design.now.cells }
     requires near { AreNear places.now }
     requires rects { All IsRect out.old.items }
+    requires held { Grows out.old.items places.now }
     ensures rects { OnOk result (All IsRect out.new.items) }
+    ensures held { OnOk result (Grows out.new.items places.now) }
     ensures flat { OnOk result (HaveFlat design.now names.now (length names.now) cell places.now
         out.new.items) }
 {
@@ -166,6 +174,37 @@ fn push_all_flat(
         push_flat(alloc, out, design, cell, rule.form, places)?;
     }
     Ok(())
+}
+
+// The squares of a window that lie within so many squares of both sets: where that is 0, those of
+// the second, which lies in the first.
+fn near_both(
+    alloc: Global,
+    places: &RectSet,
+    flat: &RectSet,
+    window: &Rect,
+    most: u32,
+) -> Result<RectSet, AllocError>
+    requires places { IsSetWithin (2 ^ 39) places.now }
+    requires flat { IsSetWithin (2 ^ 39) flat.now }
+    requires window { IsFrame window.now }
+    requires most { most ≤ 10000 }
+    ensures near { IfOk result (All IsNearRect) }
+    ensures both { IfOk result (λ r. (q : Square) → covers (around most places.now) q ≡ true
+        → covers (around most flat.now) q ≡ true → has window.now q ≡ true
+        → covers r q ≡ true) }
+{
+    if most == 0 {
+        let part = flat.window(alloc, *window)?;
+        let _near = part.rects();
+        return Ok(part);
+    }
+    let stirred = around(alloc, places, most)?;
+    let wide = around(alloc, flat, most)?;
+    let set = combine(alloc, &stirred, &wide, Op::And)?;
+    let part = set.window(alloc, *window)?;
+    let _near = part.rects();
+    Ok(part)
 }
 
 // The exposed squares of a cell that has a hull.
@@ -176,21 +215,26 @@ fn hull_exposed(
     cell: u32,
     names: &[LayerRule],
     hull: &Rect,
+    most: u32,
 ) -> Result<RectSet, AllocError>
     requires cell { cell < length design.now.cells }
     requires hull { hull_of (cell_at design.now cell) ≡ Some hull.now }
     requires few { length names.now < 2 ^ 32 }
+    requires most { most ≤ 10000 }
     requires entries { HasAll zones.now cell (length names.now) }
     ensures near { IfOk result (All IsNearRect) }
-    ensures exposed { IfOk result (AreExposed design.now zones.now names.now cell) }
+    ensures exposed { IfOk result (AreExposed most design.now zones.now names.now cell) }
 {
     design.sound();
-    let places = disturbed_in(alloc, zones, cell, names, hull)?;
+    let wide = twice_grown(hull, most);
+    let places = disturbed_in(alloc, zones, cell, names, &wide)?;
+    let near = twice_around(alloc, &places, most)?;
+    let _near_rects = near.rects();
     let mut out = Vec::new(alloc);
-    push_all_flat(alloc, &mut out, design, cell, names, &places)?;
-    let all = RectSet::canon(alloc, out)?;
-    let set = all.window(alloc, *hull)?;
-    let _near = set.rects();
+    push_all_flat(alloc, &mut out, design, cell, names, &near)?;
+    let flat = RectSet::canon(alloc, out)?;
+    let window = grown(hull, most);
+    let set = near_both(alloc, &places, &flat, &window, most)?;
     Ok(set)
 }
 
@@ -201,16 +245,18 @@ fn find_exposed(
     zones: &Zones,
     cell: u32,
     names: &[LayerRule],
+    most: u32,
 ) -> Result<RectSet, AllocError>
     requires cell { cell < length design.now.cells }
     requires few { length names.now < 2 ^ 32 }
+    requires most { most ≤ 10000 }
     requires entries { HasAll zones.now cell (length names.now) }
     ensures near { IfOk result (All IsNearRect) }
-    ensures exposed { IfOk result (AreExposed design.now zones.now names.now cell) }
+    ensures exposed { IfOk result (AreExposed most design.now zones.now names.now cell) }
 {
     design.sound();
     match design.hull(cell) {
-        Some(hull) => hull_exposed(alloc, design, zones, cell, names, &hull),
+        Some(hull) => hull_exposed(alloc, design, zones, cell, names, &hull, most),
         None => Ok(RectSet::empty(alloc)),
     }
 }
@@ -267,19 +313,21 @@ pub fn expose(
     cell: u32,
     names: &[LayerRule],
     memo: &mut ExposedLists,
+    most: u32,
 ) -> Result<usize, AllocError>
     requires cell { cell < length design.now.cells }
     requires few { length names.now < 2 ^ 32 }
+    requires most { most ≤ 10000 }
     requires entries { HasAll zones.now cell (length names.now) }
-    requires lists { AreExposedLists design.now zones.now names.now memo.old.lists.items }
-    ensures lists { OnOk result (AreExposedLists design.now zones.now names.now
+    requires lists { AreExposedLists most design.now zones.now names.now memo.old.lists.items }
+    ensures lists { OnOk result (AreExposedLists most design.now zones.now names.now
         memo.new.lists.items) }
     ensures at { IfOk result (IsListAt memo.new.lists.items cell) }
 {
     match known(memo, cell) {
         Some(position) => Ok(position),
         None => {
-            let set = find_exposed(alloc, design, zones, cell, names)?;
+            let set = find_exposed(alloc, design, zones, cell, names, most)?;
             let last = keep(memo, Exposed { cell, set })?;
             Ok(last)
         }

@@ -1,13 +1,14 @@
 //! The flat squares of a cell among those that are looked at, for each name of the rules.
-ghost use Rattle.std.specs.Prelude.{◌≡◌, ◌<◌, ℕ, List, [], get_or, length, IfOk};
+ghost use Rattle.std.specs.Prelude.{◌≡◌, ◌<◌, ◌≤◌, ◌^◌, ℕ, ℤ, List, [], get_or, length, IfOk};
 ghost use Rattle.cell_graph.specs.Linked.{Linked, cell_at, own_of};
-ghost use Rattle.flat_layout.specs.Layers.{Binary, Empty, Input, Formula};
+ghost use Rattle.flat_layout.specs.Layers.{Binary, Empty, Input, Sized, Formula, reach};
 ghost use Rattle.geo_base.specs.declared.shapes.Rect.{Rect};
 ghost use Rattle.rule_text.specs.declared.rules.LayerForm.TheVariants.{Input as InputForm};
+ghost use Rattle.rule_text.specs.declared.rules.LayerForm.TheVariants.{Sized as SizedForm};
 ghost use Rattle.geo_base.specs.declared.layer.LayerKey.{LayerKey};
 ghost use Rattle.rule_layers.specs.Formulas.{formula_by, formulas};
-ghost use Rattle.rule_layers.specs.Unsized.{AreUnsized, IsUnsized};
-ghost use Rattle.layer_phase.specs.Looks.{AreNear, Grows, HoldsOwn};
+ghost use Rattle.sized_layers.specs.Sizes.{IsSetWithin, IsSize};
+ghost use Rattle.layer_phase.specs.Looks.{AreNear, Grows, IsInput};
 ghost use Rattle.layer_phase.specs.Names.{AreFlats, IsFlatIn};
 
 use crate::flat::Flat;
@@ -17,6 +18,7 @@ use edge_boolean::combine;
 use geo_base::{LayerKey, Op};
 use rect_sets::RectSet;
 use rule_text::{LayerForm, LayerRule};
+use sized_layers::size;
 use std::alloc::{AllocError, Global};
 
 // The set of a name, and none past the last.
@@ -49,6 +51,25 @@ fn two_flats<'a>(
     Ok(Flat::own(set))
 }
 
+// The flat squares of a name that is another grown or shrunk.
+fn sized_flat<'a>(
+    alloc: Global,
+    before: &[Flat<'_>],
+    a: u32,
+    by: i32,
+) -> Result<Flat<'a>, AllocError>
+    requires size { IsSize by }
+    requires within { IsSetWithin (2 ^ 39) (get_or before.now a []) }
+    ensures { IfOk result (λ r. (d : Linked) (cell : ℕ) (looks : List Rect) (trees : List Formula)
+        → AreFlats d cell looks trees before.now
+        → IsFlatIn d cell looks (Sized by (get_or trees a Empty)) r) }
+{
+    let none = RectSet::empty(alloc);
+    let operand = set_at(before, a, &none);
+    let set = size(alloc, operand, i64::from(by))?;
+    Ok(Flat::own(set))
+}
+
 // The flat squares of an input layer. A cell that places no other has its own alone.
 fn input_flat<'a>(
     alloc: Global,
@@ -67,10 +88,11 @@ fn input_flat<'a>(
         return Ok(Flat::lent(design.own(cell, key)));
     }
     let set = input_squares(alloc, design, cell, key, looks)?;
-    Ok(Flat::own(set))
+    let flat = Flat::own(set);
+    Ok(flat)
 }
 
-// A name's flat squares, over those of the names before it. No name is sized yet.
+// A name's flat squares, over those of the names before it.
 fn form_flat<'a>(
     alloc: Global,
     design: &'a Design,
@@ -81,7 +103,8 @@ fn form_flat<'a>(
 ) -> Result<Flat<'a>, AllocError>
     requires cell { cell < length design.now.cells }
     requires near { AreNear looks.now }
-    requires plain { IsUnsized form }
+    requires sized { (a : ℕ) (by : ℤ) → form ≡ SizedForm a by
+        → IsSize by × IsSetWithin (2 ^ 39) (get_or before.now a []) }
     requires own { (key : LayerKey) → form ≡ InputForm key
         → Grows (own_of (cell_at design.now cell) key) looks.now }
     ensures { IfOk result (λ r. (trees : List Formula)
@@ -93,7 +116,7 @@ fn form_flat<'a>(
         LayerForm::Labels(_) => Ok(Flat::own(RectSet::empty(alloc))),
         LayerForm::Empty => Ok(Flat::own(RectSet::empty(alloc))),
         LayerForm::Binary(op, a, b) => two_flats(alloc, before, op, a, b),
-        LayerForm::Sized(_, _) => Ok(Flat::own(RectSet::empty(alloc))),
+        LayerForm::Sized(a, by) => sized_flat(alloc, before, a, by),
     }
 }
 
@@ -108,8 +131,10 @@ pub fn name_flats<'a>(
 ) -> Result<Vec<Flat<'a>>, AllocError>
     requires cell { cell < length design.now.cells }
     requires near { AreNear looks.now }
-    requires plain { AreUnsized names.now }
-    requires own { HoldsOwn design.now names.now cell looks.now }
+    requires reach { (k : ℕ) → reach (get_or (formulas names.now) k Empty) ≤ 10000 }
+    requires within { IsSetWithin (2 ^ 38) looks.now }
+    requires own { (name : ℕ) (key : LayerKey) → IsInput names.now name key
+        → Grows (own_of (cell_at design.now cell) key) looks.now }
     ensures count { IfOk result (λ v. length v.items ≡ length names.now) }
     ensures flats { IfOk result (λ v. AreFlats design.now cell looks.now (formulas names.now)
         v.items) }

@@ -4,6 +4,7 @@
 mod exposed;
 mod flat;
 mod flats;
+mod grown;
 mod laws;
 mod layers;
 mod looks;

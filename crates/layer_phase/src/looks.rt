@@ -1,7 +1,7 @@
 //! The squares of a cell that have to be looked at: its own shapes, and what is exposed in the
 //! cells that it places. Everywhere else a placed cell keeps what lies there.
-ghost use Rattle.std.specs.Prelude.{◌≡◌, ◌<◌, ◌^◌, [], ℕ, List, Option, length, slice_get, Some};
-ghost use Rattle.std.specs.Prelude.{IfOk, OnOk};
+ghost use Rattle.std.specs.Prelude.{◌≡◌, ◌<◌, ◌≤◌, ◌^◌, [], ℕ, List, Option, length, Some};
+ghost use Rattle.std.specs.Prelude.{slice_get, IfOk, OnOk};
 ghost use Rattle.std.specs.List.{All};
 ghost use Rattle.geo_base.specs.Near.{IsNearRect};
 ghost use Rattle.geo_base.specs.Rects.{IsRect, has};
@@ -10,16 +10,18 @@ ghost use Rattle.geo_base.specs.declared.shapes.Square.{Square};
 ghost use Rattle.rect_sets.specs.Rects.{covers};
 ghost use Rattle.cell_context.specs.Arrays.{IsNearArray};
 ghost use Rattle.cell_context.specs.Over.{IsPiece};
-ghost use Rattle.cell_graph.specs.Linked.{IsHull, cell_at, hull_of, own_of, places_at};
+ghost use Rattle.cell_graph.specs.Linked.{IsFrame, cell_at, hull_of, own_of, places_at};
 ghost use Rattle.cell_graph.specs.declared.cells.Place.{Place};
 ghost use Rattle.deep_tables.specs.declared.zones.CellZones.{CellZones};
 ghost use Rattle.rule_text.specs.declared.rules.LayerForm.TheVariants.{Input};
 ghost use Rattle.rule_text.specs.declared.rules.LayerRule.{LayerRule as Rule};
 ghost use Rattle.layer_phase.specs.Looks.{AreExposedLists, AreHeld, AreLooks, Brings};
 ghost use Rattle.layer_phase.specs.Looks.{BringsExposed, BringsOwn, Grows, HasAll, HaveAll};
+ghost use Rattle.layer_phase.specs.Looks.{HoldsOwn};
 
 use crate::exposed::{ExposedLists, expose, set_at};
-use cell_context::{place_visits, push_images};
+use crate::grown::around;
+use cell_context::{grown, place_visits, push_images};
 use cell_graph::{Design, Place};
 use deep_tables::Zones;
 use geo_base::Rect;
@@ -38,8 +40,8 @@ fn push_array(
 ) -> Result<(), AllocError>
     requires near { IsNearArray place.now }
     requires some { 0 < place.now.columns }
-    requires below { IsHull below.now }
-    requires window { IsHull window.now }
+    requires below { IsFrame below.now }
+    requires window { IsFrame window.now }
     requires rects { All IsRect rects.now }
     requires near_rects { All IsNearRect rects.now }
     requires pieces { All (IsPiece window.now) out.old.items }
@@ -64,8 +66,8 @@ fn push_set(
 ) -> Result<(), AllocError>
     requires near { IsNearArray place.now }
     requires some { 0 < place.now.columns }
-    requires below { IsHull below.now }
-    requires window { IsHull window.now }
+    requires below { IsFrame below.now }
+    requires window { IsFrame window.now }
     requires near_rects { All IsNearRect set.now }
     requires pieces { All (IsPiece window.now) out.old.items }
     ensures pieces { OnOk result (All (IsPiece window.now) out.new.items) }
@@ -90,26 +92,29 @@ fn push_reference(
     names: &[LayerRule],
     window: &Rect,
     memo: &mut ExposedLists,
+    most: u32,
 ) -> Result<(), AllocError>
     requires there { slice_get (places_at (cell_at design.now cell)) index ≡ Some place.now }
-    requires window { IsHull window.now }
+    requires window { IsFrame window.now }
     requires few { length names.now < 2 ^ 32 }
+    requires most { most ≤ 10000 }
     requires entries { HasAll zones.now place.now.cell (length names.now) }
-    requires lists { AreExposedLists design.now zones.now names.now memo.old.lists.items }
+    requires lists { AreExposedLists most design.now zones.now names.now memo.old.lists.items }
     requires pieces { All (IsPiece window.now) out.old.items }
-    ensures lists { OnOk result (AreExposedLists design.now zones.now names.now
+    ensures lists { OnOk result (AreExposedLists most design.now zones.now names.now
         memo.new.lists.items) }
     ensures pieces { OnOk result (All (IsPiece window.now) out.new.items) }
     ensures grows { OnOk result (Grows out.old.items out.new.items) }
-    ensures brings { OnOk result (BringsExposed design.now zones.now names.now place.now window.now
-        out.new.items) }
+    ensures brings { OnOk result (BringsExposed most design.now zones.now names.now place.now
+        window.now out.new.items) }
 {
     design.sound();
     match design.hull(place.cell) {
         Some(below) => {
-            let position = expose(alloc, design, zones, place.cell, names, memo)?;
+            let position = expose(alloc, design, zones, place.cell, names, memo, most)?;
             let set = set_at(&memo.lists, position);
-            push_set(alloc, out, place, &below, set, window)?;
+            let wide = grown(&below, most);
+            push_set(alloc, out, place, &wide, set, window)?;
             Ok(())
         }
         None => Ok(()),
@@ -125,21 +130,23 @@ fn push_references(
     cell: u32,
     names: &[LayerRule],
     window: &Rect,
+    most: u32,
 ) -> Result<(), AllocError>
     requires cell { cell < length design.now.cells }
-    requires window { IsHull window.now }
+    requires window { IsFrame window.now }
     requires few { length names.now < 2 ^ 32 }
+    requires most { most ≤ 10000 }
     requires entries { HaveAll design.now zones.now cell (length names.now) }
     requires pieces { All (IsPiece window.now) out.old.items }
     ensures pieces { OnOk result (All (IsPiece window.now) out.new.items) }
     ensures brings { OnOk result ((i : ℕ) (p : Place)
         → slice_get (places_at (cell_at design.now cell)) i ≡ Some p
-        → BringsExposed design.now zones.now names.now p window.now out.new.items) }
+        → BringsExposed most design.now zones.now names.now p window.now out.new.items) }
 {
     let mut memo = ExposedLists::new(alloc);
     for (i, place) in design.places(cell).iter().enumerate() {
         push_reference(
-            alloc, out, design, zones, cell, i, place, names, window, &mut memo,
+            alloc, out, design, zones, cell, i, place, names, window, &mut memo, most,
         )?;
     }
     Ok(())
@@ -154,9 +161,9 @@ fn push_own(
 ) -> Result<(), AllocError>
     requires cell { cell < length design.now.cells }
     requires rects { All IsRect out.old.items }
-    requires held { AreHeld (hull_of (cell_at design.now cell)) out.old.items }
     ensures rects { OnOk result (All IsRect out.new.items) }
-    ensures held { OnOk result (AreHeld (hull_of (cell_at design.now cell)) out.new.items) }
+    ensures held { (n : ℕ) → AreHeld n (hull_of (cell_at design.now cell)) out.old.items
+        → OnOk result (AreHeld n (hull_of (cell_at design.now cell)) out.new.items) }
     ensures grows { OnOk result (Grows out.old.items out.new.items) }
     ensures brings { OnOk result ((key : LayerKey) → form ≡ Input key
         → Grows (own_of (cell_at design.now cell) key) out.new.items) }
@@ -177,9 +184,9 @@ fn push_all_own(
 ) -> Result<(), AllocError>
     requires cell { cell < length design.now.cells }
     requires rects { All IsRect out.old.items }
-    requires held { AreHeld (hull_of (cell_at design.now cell)) out.old.items }
     ensures rects { OnOk result (All IsRect out.new.items) }
-    ensures held { OnOk result (AreHeld (hull_of (cell_at design.now cell)) out.new.items) }
+    ensures held { (n : ℕ) → AreHeld n (hull_of (cell_at design.now cell)) out.old.items
+        → OnOk result (AreHeld n (hull_of (cell_at design.now cell)) out.new.items) }
     ensures grows { OnOk result (Grows out.old.items out.new.items) }
     ensures brings { OnOk result (BringsOwn design.now cell names.now (length names.now)
         out.new.items) }
@@ -187,6 +194,39 @@ fn push_all_own(
     for rule in names {
         push_own(out, design, cell, rule.form)?;
     }
+    Ok(())
+}
+
+// Adds the squares within so many squares of the cell's own on input layers.
+fn push_near_own(
+    alloc: Global,
+    out: &mut Vec<Rect>,
+    design: &Design,
+    cell: u32,
+    names: &[LayerRule],
+    most: u32,
+) -> Result<(), AllocError>
+    requires cell { cell < length design.now.cells }
+    requires most { most ≤ 10000 }
+    requires rects { All IsRect out.old.items }
+    requires held { AreHeld most (hull_of (cell_at design.now cell)) out.old.items }
+    ensures rects { OnOk result (All IsRect out.new.items) }
+    ensures held { OnOk result (AreHeld most (hull_of (cell_at design.now cell)) out.new.items) }
+    ensures grows { OnOk result (Grows out.old.items out.new.items) }
+    ensures brings { OnOk result (HoldsOwn most design.now names.now cell out.new.items) }
+{
+    design.sound();
+    if most == 0 {
+        push_all_own(out, design, cell, names)?;
+        return Ok(());
+    }
+    let mut own = Vec::new(alloc);
+    push_all_own(&mut own, design, cell, names)?;
+    let set = RectSet::canon(alloc, own)?;
+    let _rects = set.rects();
+    let wide = around(alloc, &set, most)?;
+    let rects = wide.rects();
+    out.extend_from_slice(rects)?;
     Ok(())
 }
 
@@ -198,19 +238,21 @@ fn looks_in(
     cell: u32,
     names: &[LayerRule],
     hull: &Rect,
+    most: u32,
 ) -> Result<RectSet, AllocError>
     requires cell { cell < length design.now.cells }
     requires hull { hull_of (cell_at design.now cell) ≡ Some hull.now }
     requires few { length names.now < 2 ^ 32 }
+    requires most { most ≤ 10000 }
     requires entries { HaveAll design.now zones.now cell (length names.now) }
-    ensures { IfOk result (AreLooks design.now zones.now names.now cell) }
+    ensures { IfOk result (AreLooks most design.now zones.now names.now cell) }
 {
     design.sound();
     let mut out = Vec::new(alloc);
-    push_references(alloc, &mut out, design, zones, cell, names, hull)?;
-    push_all_own(&mut out, design, cell, names)?;
+    let window = grown(hull, most);
+    push_references(alloc, &mut out, design, zones, cell, names, &window, most)?;
+    push_near_own(alloc, &mut out, design, cell, names, most)?;
     let set = RectSet::canon(alloc, out)?;
-    let _near = set.rects();
     Ok(set)
 }
 
@@ -226,16 +268,23 @@ fn whole(alloc: Global, hull: &Rect) -> Result<RectSet, AllocError>
 }
 
 // The squares to be looked at of a cell that places no other.
-fn leaf_looks(alloc: Global, design: &Design, cell: u32, hull: &Rect) -> Result<RectSet, AllocError>
+fn leaf_looks(
+    alloc: Global,
+    design: &Design,
+    cell: u32,
+    hull: &Rect,
+    most: u32,
+) -> Result<RectSet, AllocError>
     requires hull { hull_of (cell_at design.now cell) ≡ Some hull.now }
+    requires most { most ≤ 10000 }
     requires leaf { places_at (cell_at design.now cell) ≡ [] }
     ensures { IfOk result (λ r. (z : List (Option CellZones)) (names : List Rule)
-        → AreLooks design.now z names cell r) }
+        → AreLooks most design.now z names cell r) }
 {
     design.sound();
     let _ = cell;
-    let set = whole(alloc, hull)?;
-    let _near = set.rects();
+    let wide = grown(hull, most);
+    let set = whole(alloc, &wide)?;
     Ok(set)
 }
 
@@ -247,16 +296,18 @@ fn hull_looks(
     cell: u32,
     names: &[LayerRule],
     hull: &Rect,
+    most: u32,
 ) -> Result<RectSet, AllocError>
     requires cell { cell < length design.now.cells }
     requires hull { hull_of (cell_at design.now cell) ≡ Some hull.now }
     requires few { length names.now < 2 ^ 32 }
+    requires most { most ≤ 10000 }
     requires entries { HaveAll design.now zones.now cell (length names.now) }
-    ensures { IfOk result (AreLooks design.now zones.now names.now cell) }
+    ensures { IfOk result (AreLooks most design.now zones.now names.now cell) }
 {
     match design.places(cell) {
-        [] => leaf_looks(alloc, design, cell, hull),
-        _ => looks_in(alloc, design, zones, cell, names, hull),
+        [] => leaf_looks(alloc, design, cell, hull, most),
+        _ => looks_in(alloc, design, zones, cell, names, hull, most),
     }
 }
 
@@ -269,15 +320,17 @@ pub fn looks(
     zones: &Zones,
     cell: u32,
     names: &[LayerRule],
+    most: u32,
 ) -> Result<RectSet, AllocError>
     requires cell { cell < length design.now.cells }
     requires few { length names.now < 2 ^ 32 }
+    requires most { most ≤ 10000 }
     requires entries { HaveAll design.now zones.now cell (length names.now) }
-    ensures { IfOk result (AreLooks design.now zones.now names.now cell) }
+    ensures { IfOk result (AreLooks most design.now zones.now names.now cell) }
 {
     design.sound();
     match design.hull(cell) {
-        Some(hull) => hull_looks(alloc, design, zones, cell, names, &hull),
+        Some(hull) => hull_looks(alloc, design, zones, cell, names, &hull, most),
         None => Ok(RectSet::empty(alloc)),
     }
 }

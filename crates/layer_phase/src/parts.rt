@@ -1,20 +1,23 @@
 //! The parts of which a cell's layers are made.
-ghost use Rattle.std.specs.Prelude.{◌≡◌, ◌↔◌, ◌<◌, ◌^◌, ◌&&◌, not, ℕ, IfOk, OnOk, true, length};
-ghost use Rattle.std.specs.Prelude.{List};
+ghost use Rattle.std.specs.Prelude.{◌≡◌, ◌↔◌, ◌<◌, ◌≤◌, ◌^◌, ◌&&◌, not, ℕ, IfOk, OnOk, true};
+ghost use Rattle.std.specs.Prelude.{List, length};
 ghost use Rattle.std.specs.List.{All};
 ghost use Rattle.geo_base.specs.Rects.{IsRect, has};
-ghost use Rattle.geo_base.specs.declared.shapes.Rect.{Rect};
+ghost use Rattle.geo_base.specs.declared.shapes.Rect.{Rect as Rectangle};
 ghost use Rattle.geo_base.specs.declared.shapes.Square.{Square};
 ghost use Rattle.rect_sets.specs.Rects.{covers};
 ghost use Rattle.flat_layout.specs.Layers.{Formula, IsLocal};
 ghost use Rattle.flat_layout.specs.Layout.{InFlatInput, IsReached};
-ghost use Rattle.cell_graph.specs.Linked.{IsRectWithin, plain};
+ghost use Rattle.cell_graph.specs.Grown.{grown};
+ghost use Rattle.cell_graph.specs.Linked.{IsFrame, IsRectWithin, plain};
+ghost use Rattle.layer_phase.specs.Around.{around};
 ghost use Rattle.layer_phase.specs.Keeps.{HasEntry, HaveEntries, IsKeptBy, IsZoneAt};
 ghost use Rattle.cell_context.specs.Over.{IsPiece};
 ghost use Rattle.deep_tables.specs.declared.zones.CellZones.{CellZones};
 ghost use Rattle.layer_phase.specs.Looks.{AreNear};
 
-use cell_context::{Visit, gather, push_images, push_pieces, visits};
+use crate::grown::around;
+use cell_context::{Visit, gather, grown, push_images, push_pieces, visits};
 use cell_graph::Design;
 use deep_tables::{ZoneKey, Zones};
 use edge_boolean::combine;
@@ -46,24 +49,77 @@ pub fn input_squares(
     Ok(set)
 }
 
-// The part of a visit's window that isn't disturbed in the visited cell: only what is disturbed in
-// the window is looked at.
-fn calm_part(alloc: Global, zones: &Zones, visit: &Visit, name: u32) -> Result<RectSet, AllocError>
-    requires window { IsRect visit.now.window }
-    requires entry { HasEntry zones.now visit.now.cell name }
-    ensures { IfOk result (λ r. (v : List Rect) → IsZoneAt zones.now visit.now.cell name v
-        → (s : Square) → covers r s ≡ (has visit.now.window s && not (covers v s))) }
+// What is disturbed for a name in a visited cell and lies in a window, as pieces of it: found by
+// the index.
+fn disturbed_near(
+    alloc: Global,
+    zones: &Zones,
+    cell: u32,
+    name: u32,
+    window: &Rect,
+) -> Result<Vec<Rect>, AllocError>
+    requires window { IsRect window.now }
+    requires entry { HasEntry zones.now cell name }
+    ensures rects { IfOk result (λ r. All IsRect r.items) }
+    ensures zone { IfOk result (λ r. (v : List Rectangle) → IsZoneAt zones.now cell name v
+        → (q : Square) → covers r.items q ≡ (covers v q && has window.now q)) }
+    ensures sound { IfOk result (λ _. (v : List Rectangle) → IsZoneAt zones.now cell name v
+        → All IsRect v) }
 {
-    let zone = zones.indexed(visit.cell, ZoneKey::Layer(name));
-    let near = zone.near(alloc, &visit.window)?;
+    let zone = zones.indexed(cell, ZoneKey::Layer(name));
+    let near = zone.near(alloc, window)?;
     let mut there = Vec::new(alloc);
-    push_pieces(&mut there, zone.set().rects(), &near, &visit.window)?;
-    let keep = combine_rects(alloc, &[visit.window], &there, Rule::Not)?;
-    Ok(keep)
+    push_pieces(&mut there, zone.set().rects(), &near, window)?;
+    Ok(there)
 }
 
-/// What the placed cells keep of a name's flat squares in a window: the parts of their hulls that
-/// aren't disturbed.
+// A window without the squares within so many squares of others in the grown window.
+fn cut_near(
+    alloc: Global,
+    window: &Rect,
+    there: Vec<Rect>,
+    reach: u32,
+) -> Result<RectSet, AllocError>
+    requires window { IsFrame window.now }
+    requires reach { reach ≤ 10000 }
+    requires rects { All IsRect there.items }
+    requires held { (q : Square) → covers there.items q ≡ true
+        → has (grown reach window.now) q ≡ true }
+    ensures { IfOk result (λ r. (q : Square)
+        → covers r q ≡ (has window.now q && not (covers (around reach there.items) q))) }
+{
+    if reach == 0 {
+        return combine_rects(alloc, &[*window], &there, Rule::Not);
+    }
+    let set = RectSet::canon(alloc, there)?;
+    let _rects = set.rects();
+    let stirred = around(alloc, &set, reach)?;
+    combine_rects(alloc, &[*window], stirred.rects(), Rule::Not)
+}
+
+// The part of a visit's window near which nothing is disturbed in the visited cell: only what is
+// disturbed in the grown window is looked at.
+fn calm_part(
+    alloc: Global,
+    zones: &Zones,
+    visit: &Visit,
+    name: u32,
+    reach: u32,
+) -> Result<RectSet, AllocError>
+    requires window { IsFrame visit.now.window }
+    requires reach { reach ≤ 10000 }
+    requires entry { HasEntry zones.now visit.now.cell name }
+    ensures { IfOk result (λ r. (v : List Rectangle) → IsZoneAt zones.now visit.now.cell name v
+        → (s : Square) → covers r s
+        ≡ (has visit.now.window s && not (covers (around reach v) s))) }
+{
+    let wide = grown(&visit.window, reach);
+    let there = disturbed_near(alloc, zones, visit.cell, name, &wide)?;
+    cut_near(alloc, &visit.window, there, reach)
+}
+
+/// What the placed cells keep of a name's flat squares in a window: the parts of their hulls, grown
+/// by the name's reach, near which nothing is disturbed.
 pub fn calm_pieces(
     alloc: Global,
     design: &Design,
@@ -71,19 +127,22 @@ pub fn calm_pieces(
     cell: u32,
     name: u32,
     window: &Rect,
+    reach: u32,
 ) -> Result<Vec<Rect>, AllocError>
     requires cell { cell < length design.now.cells }
     requires window { IsRectWithin (2 ^ 39) window.now }
+    requires reach { reach ≤ 10000 }
     requires entries { HaveEntries design.now zones.now cell name }
     ensures pieces { IfOk result (λ r. All (IsPiece window.now) r.items) }
     ensures exact { IfOk result (λ r. (q : Square) → (covers r.items q ≡ true)
-        ↔ ((has window.now q ≡ true) × IsKeptBy design.now zones.now cell name q)) }
+        ↔ ((has window.now q ≡ true) × IsKeptBy reach design.now zones.now cell
+        name q)) }
 {
     design.sound();
     let mut out = Vec::new(alloc);
-    let list = visits(alloc, design, cell, window, None, 0)?;
+    let list = visits(alloc, design, cell, window, None, reach)?;
     for visit in &list {
-        let keep = calm_part(alloc, zones, visit, name)?;
+        let keep = calm_part(alloc, zones, visit, name, reach)?;
         push_images(&mut out, keep.rects(), &visit.motion, window)?;
     }
     Ok(out)
@@ -97,16 +156,19 @@ pub fn calm_squares(
     cell: u32,
     name: u32,
     places: &RectSet,
+    reach: u32,
 ) -> Result<RectSet, AllocError>
     requires cell { cell < length design.now.cells }
     requires near { AreNear places.now }
+    requires reach { reach ≤ 10000 }
     requires entries { HaveEntries design.now zones.now cell name }
     ensures { IfOk result (λ r. (q : Square) → (covers r q ≡ true)
-        ↔ ((covers places.now q ≡ true) × IsKeptBy design.now zones.now cell name q)) }
+        ↔ ((covers places.now q ≡ true) × IsKeptBy reach design.now zones.now cell
+        name q)) }
 {
     let mut out = Vec::new(alloc);
     for rect in places.rects() {
-        let more = calm_pieces(alloc, design, zones, cell, name, rect)?;
+        let more = calm_pieces(alloc, design, zones, cell, name, rect, reach)?;
         out.extend_from_slice(&more)?;
     }
     let set = RectSet::canon(alloc, out)?;

@@ -27,6 +27,7 @@ use Rattle.net_marks.proofs.Poles.{gate_of}
 use Rattle.net_phase.proofs.Righting.{tables_by}
 use Rattle.rule_layers.specs.Meaning.{device_rules, wiring_of}
 use Rattle.rule_text.specs.Rules.{Rules}
+use Rattle.rule_text.specs.Sound as rules
 use Rattle.zone_phase.proofs.Entries.{job_reached}
 use Rattle.zone_phase.specs.Graph.{AreParentJobs}
 use Rattle.pin_phase.specs.Links.{AreKnownGates, AreKnownNets, AreLinks, lists_of}
@@ -35,27 +36,27 @@ use Rattle.pin_phase.specs.declared.links.Link.{Link}
 use Rattle.pin_phase.proofs.Naming.{texts_of}
 use Rattle.pin_phase.proofs.Working.{IsKnown, link_at}
 
-pub known_all : (d : Linked) (r : Rules) (all : List (List (List Rect))) (table known : List (Option CellNets)) → IsSound d → AreNets (plain d) r table
+pub known_all : (d : Linked) (r : Rules) (all : List (List (List Rect))) (table known : List (Option CellNets)) → IsSound d → rules.IsSound r → AreNets (plain d) r table
     → ((cell : ℕ) → IsReached (plain d) cell → get_or known cell None ≡ entry table cell) → AreRightNets (plain d) (wiring_of r) (tables_by all known)
     → AreKnownNets (plain d) (wiring_of r) (tables_by all known) table
-known_all d r all table known sound nets same right = record {
+known_all d r all table known sound ruled nets same right = record {
   some = λ cell reached. some_at (AreCellNets (plain d) r cell) (entry table cell) (nets cell reached);
   same = λ cell reached. ap nets_in (sym (same cell reached));
-  right = λ cell reached. nets_under d r (tables_by all known) sound right cell reached cell ([], refl);
+  right = λ cell reached. nets_under d r (tables_by all known) sound ruled right cell reached cell ([], refl);
 }
 
-pub gates_all : (d : Linked) (r : Rules) (all : List (List (List Rect))) (known : List (Option CellNets)) (gates : List (Option CellGates)) → IsSound d → AreGates (plain d) r gates
+pub gates_all : (d : Linked) (r : Rules) (all : List (List (List Rect))) (known : List (Option CellNets)) (gates : List (Option CellGates)) → IsSound d → rules.IsSound r → AreGates (plain d) r gates
     → AreRightNets (plain d) (wiring_of r) (tables_by all known) → AreKnownGates (plain d) (tables_by all known) gates
-gates_all d r all known gates sound are right = record {
+gates_all d r all known gates sound ruled are right = record {
   some = λ cell reached. some_at (AreCellGates (plain d) r cell) (entry gates cell) (are cell reached);
   terminals = λ cell x reached h.
-      terminals (plain d) (wiring_of r) (tables_by all known) (device_rules r) (gates_of gates) cell x (nets_under d r (tables_by all known) sound right cell reached cell ([], refl))
+      terminals (plain d) (wiring_of r) (tables_by all known) (device_rules r) (gates_of gates) cell x (nets_under d r (tables_by all known) sound ruled right cell reached cell ([], refl))
       (right_gates (plain d) r (tables_by all known) gates right are cell reached) (gate_of x (gates_of gates cell) h);
 }
 
 -- so a job knows all that it reads
-pub known : (d : Linked) (r : Rules) (t : Tables) (gates : ℕ → List GateEntry) → IsSound d → AreRightNets (plain d) (wiring_of r) t → AreRightGates (plain d) (wiring_of r) t (device_rules r) gates → IsKnown d r t gates
-known d r t gates sound nets right = record { sound = sound; nets = nets; under = λ cell reached. nets_under d r t sound nets cell reached; right = right }
+pub known : (d : Linked) (r : Rules) (t : Tables) (gates : ℕ → List GateEntry) → IsSound d → rules.IsSound r → AreRightNets (plain d) (wiring_of r) t → AreRightGates (plain d) (wiring_of r) t (device_rules r) gates → IsKnown d r t gates
+known d r t gates sound ruled nets right = record { sound = sound; nets = nets; under = λ cell reached. nets_under d r t sound ruled nets cell reached; right = right }
 
 -- the texts of a design's cell
 pub cell_texts : (d : Linked) (cell : ℕ) (texts : List RawText) → cell < length d.cells → ((c : CellPart) → cell_at d cell ≡ Some c → texts ≡ c.texts.items) → AreTextsOf (plain d) cell texts

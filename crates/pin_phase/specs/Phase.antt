@@ -44,8 +44,8 @@ pub record IsPinPhase (a : Inside) : Type 0 where
   pub few : length a.globals.items < 2 ^ 32
   pub elements : AreAllElements a.design.now (element_lists a.elements.items)
   pub own : AreOwnLists a.design.now (rules_seen a.rules.now) (rect_lists a.own.items)
-  pub indexes : AreIndexes a.design.now (rect_lists a.own.items) (element_lists a.elements.items)
-      a.indexes
+  pub indexes : AreIndexes a.design.now (rules_seen a.rules.now) (rect_lists a.own.items)
+      (element_lists a.elements.items) a.indexes
   pub nets : AreRightNets (plain a.design.now) (wiring_of (rules_seen a.rules.now))
       (tables_seen (read_by a))
   pub gates : ℕ → List GateEntry

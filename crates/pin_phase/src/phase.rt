@@ -81,7 +81,7 @@ impl<'a> PinPhase<'a> {
         let globals = global_names(alloc, rules)?;
         let own = own_lists(alloc, design, rules, layers)?;
         let elements = all_elements(alloc, design)?;
-        let indexes = find_indexes(alloc, design, &own, &elements)?;
+        let indexes = find_indexes(alloc, design, rules, &own, &elements)?;
         let known = known_nets(alloc, design, nets)?;
         let cells = Below::new(
             design,

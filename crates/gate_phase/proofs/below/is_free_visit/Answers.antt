@@ -1,7 +1,14 @@
 use Rattle.std.proofs.Common.{◌∙◌, sym, subst}
 use Rattle.cell_graph.specs.Linked.{HullIsSound}
 use Rattle.cell_graph.proofs.Bridge.{hull_sound}
+use Rattle.gate_phase.proofs.Freeing.{free_in}
+use Rattle.gate_phase.proofs.Results.{if_ok}
 use Rattle.gate_phase.proofs.below.is_free_visit.Goals as goal
 
-pub grown_hull-requires : goal.grown_hull-requires
-grown_hull-requires c = subst HullIsSound (sym c.hull.ensures ∙ c.in-Some.is) (hull_sound c.args.design.now c.args.visit.now.cell c.sound.ensures)
+pub grown_hull-frame-requires-clause-hull : goal.grown_hull-frame-requires-clause-hull
+grown_hull-frame-requires-clause-hull c = subst HullIsSound (sym c.hull.ensures ∙ c.in-Some.is) (hull_sound c.args.design.now c.args.visit.now.cell c.sound.ensures)
+
+pub returns-in-Some : goal.returns-in-Some
+returns-in-Some c =
+    if_ok _ _ c.is_free.result (λ b told.
+    free_in c.args.reach c.args.design.now c.args.zones.now c.args.device c.args.close.now c.args.visit.now.cell c.args.visit.now.motion c.in-Some.hull c.grown_hull-frame.result c.indexed-zone.result.now b (sym c.hull.ensures ∙ c.in-Some.is) c.grown_hull-frame.ensures.grown c.indexed-zone.ensures told) c.is_free.ensures

@@ -20,6 +20,6 @@ abbrev pub invariant-loop-visit : goal.invariant-loop-visit
 invariant-loop-visit l = record {
   pieces : All (IsPiece l.frame) l.out.items;
   sound : (x : Formula) → HasLocals (plain l.design) l.layers l.name x → AreKept l.design l.cell x l.out.items;
-  own : (layer : List Rect) (q : Square) → layer_of l.layers l.cell l.name ≡ Some layer → covers layer q ≡ true → has l.window q ≡ true → covers l.out.items q ≡ true;
+  own : (layer : List Rect) (q : Square) → layer_of l.layers.table l.cell l.name ≡ Some layer → covers layer q ≡ true → has l.window q ≡ true → covers l.out.items q ≡ true;
   found : (x : Formula) → HasLocals (plain l.design) l.layers l.name x → (k : ℕ) → k < l.visit-index → Brings l.design x l.window l.out.items (slice_index_or l.visit-items k no_visit);
 }

@@ -4,6 +4,8 @@ use Rattle.flat_layout.specs.Layout.{Design}
 use Rattle.flat_layout.specs.Regions.{Wiring}
 use Rattle.net_link_laws.specs.Laws.{AreNetsUnder}
 use Rattle.rule_text.specs.Seen.{rules_seen}
+use Rattle.gate_phase.specs.Own.{IsRuleReach}
+use Rattle.gate_phase.proofs.Reaching.{rule_reach}
 use Rattle.gate_phase.specs.Judged.{AreGatesOf, IsGateOf, IsHeldShape}
 use Rattle.gate_phase.specs.Terminals.{grounds_seen}
 use Rattle.gate_phase.proofs.Listing.{rule_all}
@@ -11,6 +13,11 @@ use Rattle.gate_phase.proofs.Numbering.{device_is, rule_at}
 use Rattle.gate_phase.proofs.Results.{if_ok}
 use Rattle.gate_phase.proofs.Terminal.{held_shape, nets_under}
 use Rattle.gate_phase.proofs.list.rule_gates.Goals as goal
+
+pub own_gates-requires-clause-reach : goal.own_gates-requires-clause-reach
+own_gates-requires-clause-reach g c =
+    let r = rules_seen c.args.rules.now in
+    subst (IsRuleReach r c.args.device) (sym c.device_reach-reach.ensures) (rule_reach r c.args.layers.now.reaches c.args.device c.device_at-rule.result c.requires.ready.rules c.requires.ready.layers.reaches c.device_at-rule.ensures)
 
 pub judged_gates-requires-clause-nets : goal.judged_gates-requires-clause-nets
 judged_gates-requires-clause-nets g c =

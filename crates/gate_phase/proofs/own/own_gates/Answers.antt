@@ -5,7 +5,7 @@ use Rattle.flat_layout.specs.Gates.{geometry}
 use Rattle.cell_graph.specs.Linked.{plain}
 use Rattle.rule_text.specs.Seen.{rules_seen}
 use Rattle.rule_layers.specs.Meaning.{wiring_of}
-use Rattle.rule_layers.proofs.Unsized.{still}
+use Rattle.gate_phase.specs.Own.{IsHeldPart}
 use Rattle.gate_search.specs.SearchLaws.{IsSearch}
 use Rattle.gate_phase.proofs.Owning.{SoFar, all_so_far, held_part, item_here, nothing_left, so_far_more, told_part}
 use Rattle.gate_phase.proofs.Numbering.{some_rule}
@@ -18,7 +18,7 @@ push_part-requires-clause-held c =
     let s = c.in_ok-parts.ensures u.0 u.1 in
     let steps : into_iter_items at.part-iterator ≡ x ∷ into_iter_items c.next.new.self = c.in-Some.ensures.steps.0 in
     let whole : at.yielded ++ (x ∷ into_iter_items c.next.new.self) ≡ c.in_ok-parts.parts.items = ap (λ (l : List (List Rect)). at.yielded ++ l) (sym steps) ∙ at.invariant.whole ∙ c.into_iter-part-iterator.ensures.into_iter_gives.0 in
-    held_part d (geometry (wiring_of r) u.0) c.args.cell s.0 s.1 c.in_ok-parts.parts.items c.sound.ensures ((still r c.requires.ready.rules).devices c.args.number u.0 u.1) s.2 (length at.yielded) x (item_here at.yielded (into_iter_items c.next.new.self) c.in_ok-parts.parts.items x whole)
+    subst (λ n. IsHeldPart n d c.args.cell x) (c.requires.reach u.0 u.1) (held_part d (geometry (wiring_of r) u.0) c.args.cell s.0 s.1 c.in_ok-parts.parts.items c.sound.ensures s.2 (length at.yielded) x (item_here at.yielded (into_iter_items c.next.new.self) c.in_ok-parts.parts.items x whole))
 
 pub loop-part-preserved : goal.loop-part-preserved
 loop-part-preserved c =

@@ -1,7 +1,5 @@
-use Rattle.std.proofs.Common.{◌≡◌, ◌∙◌, [], true, sym, subst, length}
+use Rattle.std.proofs.Common.{◌≡◌, ◌∙◌, [], sym, subst, length}
 use Rattle.std.proofs.lemmas.Bool.{eqb-true}
-use Rattle.geo_base.specs.declared.shapes.Square.{Square}
-use Rattle.rect_sets.specs.Rects.{covers}
 use Rattle.flat_layout.specs.Gates.{geometry}
 use Rattle.flat_layout.specs.Layers.{Formula, IsKept}
 use Rattle.flat_laws.proofs.Formed.{read_layers}
@@ -9,13 +7,11 @@ use Rattle.cell_graph.specs.Linked.{cell_at, hull_of, places_at, plain}
 use Rattle.gate_search.specs.Gather.{IsGatheredAround}
 use Rattle.rule_text.specs.Seen.{rules_seen}
 use Rattle.rule_layers.specs.Meaning.{wiring_of}
-use Rattle.rule_layers.proofs.Unsized.{still}
 use Rattle.gate_phase.proofs.Leafs.{hull_list, leaf_seed}
 use Rattle.gate_phase.proofs.Locals.{reached_cell}
 use Rattle.gate_phase.proofs.Numbering.{device_is, known_device}
 use Rattle.gate_phase.proofs.Owning.{nothing_left}
 use Rattle.gate_phase.proofs.Results.{if_ok}
-use Rattle.gate_phase.proofs.Seeding.{near_seed}
 use Rattle.gate_phase.proofs.Stirring.{ready_region}
 use Rattle.gate_phase.proofs.search.parts_of.Goals as goal
 
@@ -26,16 +22,16 @@ pub leaf_parts-requires-clause-leaf : goal.leaf_parts-requires-clause-leaf
 leaf_parts-requires-clause-leaf c = sym c.places.ensures ∙ nothing_left c.places.result.now (eqb-true (length c.places.result.now) 0 (sym c.is_empty.ensures ∙ c.if-is_empty.true))
 
 pub leaf_parts-requires-clause-region : goal.leaf_parts-requires-clause-region
-leaf_parts-requires-clause-region c = ready_region c.args.design.now c.args.rules.now c.args.zones.now c.args.cell c.args.device.now.region c.sound.ensures c.requires.ready.rules c.requires.ready.zones c.requires.ready.reached (known_device (rules_seen c.args.rules.now) c.args.number c.args.device.now c.requires.ready.rules c.requires.device).region
+leaf_parts-requires-clause-region c = ready_region c.args.design.now c.args.rules.now c.args.zones.now c.args.cell c.args.device.now.region c.sound.ensures c.requires.ready.zones c.requires.ready.reached (known_device (rules_seen c.args.rules.now) c.args.number c.args.device.now c.requires.ready.rules c.requires.device).region
 
 pub returns-then-is_empty : goal.returns-then-is_empty
 returns-then-is_empty c =
     let d = c.args.design.now in let r = rules_seen c.args.rules.now in let cell = c.args.cell in
     let w = wiring_of r in
     let none : places_at (cell_at d cell) ≡ [] = sym c.places.ensures ∙ nothing_left c.places.result.now (eqb-true (length c.places.result.now) 0 (sym c.is_empty.ensures ∙ c.if-is_empty.true)) in
-    let seeds = hull_list (hull_of (cell_at d cell)) in
     if_ok _ _ c.leaf_parts.result
     (λ v of u at.
+    let seeds = hull_list (geometry w u).reach (hull_of (cell_at d cell)) in
     let is = device_is r c.args.number c.args.device.now u c.requires.device at in
     let p = of seeds in (
       seeds,
@@ -43,7 +39,7 @@ returns-then-is_empty c =
       record {
         sound = (read_layers w u).gate;
         reached = c.requires.ready.reached;
-        all = λ q h. near_seed (λ (s : Square). covers seeds s ≡ true) (plain d) (geometry w u) cell q ((still r c.requires.ready.rules).devices c.args.number u at) (λ s seed. leaf_seed d (geometry w u) cell s c.sound.ensures none seed) h;
+        all = λ q h. leaf_seed d (geometry w u) cell q c.sound.ensures none h;
         gathered = subst (λ (x : Formula). IsGatheredAround (IsKept (plain d) cell x) seeds p.found) (sym is.region) p.gathered;
         parted = p.parted;
       },
@@ -54,7 +50,7 @@ pub seeds_of-requires-clause-cell : goal.seeds_of-requires-clause-cell
 seeds_of-requires-clause-cell c = reached_cell c.args.design.now c.args.cell c.sound.ensures c.requires.ready.reached
 
 pub region_parts-requires-clause-region : goal.region_parts-requires-clause-region
-region_parts-requires-clause-region c = ready_region c.args.design.now c.args.rules.now c.args.zones.now c.args.cell c.args.device.now.region c.sound.ensures c.requires.ready.rules c.requires.ready.zones c.requires.ready.reached (known_device (rules_seen c.args.rules.now) c.args.number c.args.device.now c.requires.ready.rules c.requires.device).region
+region_parts-requires-clause-region c = ready_region c.args.design.now c.args.rules.now c.args.zones.now c.args.cell c.args.device.now.region c.sound.ensures c.requires.ready.zones c.requires.ready.reached (known_device (rules_seen c.args.rules.now) c.args.number c.args.device.now c.requires.ready.rules c.requires.device).region
 
 pub returns : goal.returns
 returns c =
@@ -68,7 +64,7 @@ returns c =
       record {
         sound = (read_layers w u).gate;
         reached = c.requires.ready.reached;
-        all = λ q h. near_seed (λ (s : Square). covers starts s ≡ true) (plain d) (geometry w u) cell q ((still r c.requires.ready.rules).devices c.args.number u at) (c.in_ok-starts.ensures.all u at) h;
+        all = c.in_ok-starts.ensures.all u at;
         gathered = subst (λ (x : Formula). IsGatheredAround (IsKept (plain d) cell x) starts p.found) (sym is.region) p.gathered;
         parted = p.parted;
       },

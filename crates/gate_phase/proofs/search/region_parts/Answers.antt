@@ -1,7 +1,7 @@
 use Rattle.std.proofs.Common.{IfOk, sym, subst}
 use Rattle.cell_graph.specs.Linked.{plain}
 use Rattle.rule_text.specs.Seen.{rules_seen}
-use Rattle.rule_layers.proofs.Unsized.{still}
+use Rattle.gate_phase.proofs.Reaching.{name_most}
 use Rattle.gate_phase.specs.Both.{ArePartsAround, IsReadyRegion, region_formula}
 use Rattle.gate_phase.proofs.Gathering.{gathered_both, gathered_kept}
 use Rattle.gate_phase.proofs.Results.{if_ok}
@@ -26,10 +26,10 @@ pub returns-in-One : goal.returns-in-One
 returns-in-One c =
     let d = c.args.design.now in let cell = c.args.cell in let starts = c.args.starts.now in let e = c.new-layer.ensures in
     let of = subst (λ g. IfOk c.parts_around.result (λ v. ArePartsAround (plain d) cell (region_formula c.args.rules.now g) starts v.items)) (sym c.in-One.is) in
-    of (if_ok _ _ c.parts_around.result (λ v p. record { found = p.0; gathered = gathered_kept c.new-layer.result d c.args.rules.now cell c.in-One.name starts p.0 e.design e.rules e.cell e.name c.sound.ensures ((still (rules_seen c.args.rules.now) c.requires.rules).names c.in-One.name) p.1; parted = p.2 }) c.parts_around.ensures)
+    of (if_ok _ _ c.parts_around.result (λ v p. record { found = p.0; gathered = gathered_kept c.new-layer.result d c.args.rules.now cell c.in-One.name starts p.0 e.design e.rules e.cell e.name c.sound.ensures (name_most (rules_seen c.args.rules.now) c.in-One.name c.requires.rules) p.1; parted = p.2 }) c.parts_around.ensures)
 
 pub returns-in-Both : goal.returns-in-Both
 returns-in-Both c =
     let d = c.args.design.now in let cell = c.args.cell in let starts = c.args.starts.now in let e = c.new-layer-in-Both.ensures in
     let of = subst (λ g. IfOk c.parts_around-in-Both.result (λ v. ArePartsAround (plain d) cell (region_formula c.args.rules.now g) starts v.items)) (sym c.in-Both.is) in
-    of (if_ok _ _ c.parts_around-in-Both.result (λ v p. record { found = p.0; gathered = gathered_both c.new-layer-in-Both.result d c.args.rules.now cell (c.in-Both.a, c.in-Both.b) starts p.0 e.design e.rules e.cell e.names c.sound.ensures ((still (rules_seen c.args.rules.now) c.requires.rules).names c.in-Both.a) ((still (rules_seen c.args.rules.now) c.requires.rules).names c.in-Both.b) p.1; parted = p.2 }) c.parts_around-in-Both.ensures)
+    of (if_ok _ _ c.parts_around-in-Both.result (λ v p. record { found = p.0; gathered = gathered_both c.new-layer-in-Both.result d c.args.rules.now cell (c.in-Both.a, c.in-Both.b) starts p.0 e.design e.rules e.cell e.names c.sound.ensures (name_most (rules_seen c.args.rules.now) c.in-Both.a c.requires.rules) (name_most (rules_seen c.args.rules.now) c.in-Both.b c.requires.rules) p.1; parted = p.2 }) c.parts_around-in-Both.ensures)

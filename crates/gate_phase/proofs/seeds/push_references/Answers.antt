@@ -25,7 +25,7 @@ loop-i-preserved c =
     record {
       pieces = e.pieces;
       brings = λ k p lt at. elim (ℕ_discrete k i) [
-        | yes same ↦ subst (λ (x : Place). BringsOpen d c.args.zones.now c.args.device x c.args.plane.now c.push_reference.new.out.items)
+        | yes same ↦ subst (λ (x : Place). BringsOpen c.args.by d c.args.zones.now c.args.device x c.args.plane.now c.push_reference.new.out.items)
             (one_place (slice_get places i) place p there (subst (λ n. slice_get places n ≡ Some p) same at)) e.brings
         | no not ↦ λ zone row column s entry a b held covered met.
             e.grows _ (c.loop-i.invariant.brings k p (omega arith) at zone row column s entry a b held covered met)

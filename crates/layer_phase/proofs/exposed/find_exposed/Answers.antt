@@ -1,7 +1,7 @@
 use Rattle.std.proofs.Common.{◌∙◌, sym, subst, arith}
 use Rattle.std.specs.List.{All}
 use Rattle.geo_base.specs.Near.{IsNearRect}
-use Rattle.cell_graph.specs.Linked.{HullHas}
+use Rattle.cell_graph.specs.Grown.{IsInGrown}
 use Rattle.layer_phase.proofs.Exposing.{exposed_held}
 use Rattle.layer_phase.proofs.exposed.find_exposed.Goals as goal
 
@@ -10,4 +10,4 @@ returns-in-None-clause-near c = subst (All IsNearRect) (sym c.empty.ensures) (λ
 
 pub returns-in-None-clause-exposed : goal.returns-in-None-clause-exposed
 returns-in-None-clause-exposed c = λ s e.
-    absurd (subst (λ o. HullHas o s) (sym c.hull.ensures ∙ c.in-None.is) (exposed_held c.args.design.now c.args.zones.now c.args.names.now c.args.cell s c.sound.ensures e))
+    absurd (subst (λ o. IsInGrown c.args.most o s) (sym c.hull.ensures ∙ c.in-None.is) (exposed_held c.args.most c.args.design.now c.args.zones.now c.args.names.now c.args.cell s c.sound.ensures e))

@@ -15,6 +15,7 @@ loop-rule-preserved c =
     let e = c.in_ok-push_flat.ensures in
     record {
       rects = e.rects;
+      held = e.held;
       flat = inputs_more names i rule (λ name key. (s : Square) → covers c.args.places.now s ≡ true → InFlatInput (plain d) c.args.cell key s → covers c.push_flat.new.out.items s ≡ true) at
           (λ name key lt is s h f. e.grows s (c.loop-rule.invariant.flat name key lt is s h f)) e.flat;
     }

@@ -1,12 +1,18 @@
-use Rattle.std.proofs.Common.{◌≡◌, ◌∙◌, ◌&&◌, not, Some, IsSome, Option, ap, refl, sym, subst}
+use Rattle.std.proofs.Common.{◌≡◌, ◌↔◌, inl, inr, ◌&&◌, ◌||◌, ◌==◌, ◌^◌, not, true, ℕ, Some, IsSome, Option, arith, refl, sym, subst}
 use Rattle.std.proofs.lemmas.Option.{slice_get-get_or}
 use Rattle.rect_sets.specs.Rects.{covers}
 use Rattle.cell_graph.specs.Linked.{plain}
-use Rattle.flat_layout.specs.Layers.{Empty}
+use Rattle.flat_layout.specs.Layers.{Empty, reach}
+use Rattle.geo_base.specs.declared.shapes.Square.{Square}
 use Rattle.rule_layers.specs.Formulas.{formulas}
 use Rattle.rule_text.specs.Seen.{rules_seen}
 use Rattle.deep_tables.proofs.Reading.{zone_entry}
-use Rattle.layer_phase.proofs.Deriving.{derived}
+use Rattle.layer_phase.specs.Around.{around}
+use Rattle.layer_phase.specs.Keeps.{IsKeptBy}
+use Rattle.layer_phase.specs.Looks.{AreReadLooks}
+use Rattle.layer_phase.proofs.Around.{wider_set}
+use Rattle.layer_phase.proofs.Deriving.{derived, seen_flats}
+use Rattle.layer_phase.proofs.Held.{rects_within}
 use Rattle.layer_phase.proofs.Telling.{entries}
 use Rattle.layer_phase.proofs.layers.derived_layer.Goals as goal
 
@@ -24,8 +30,22 @@ disturbed-zone-requires c =
     let h = zone_entry (plain c.args.design.now) r c.args.zones.now c.args.cell c.args.name _ c.requires.ready.zones c.requires.ready.reached (slice_get-get_or (formulas r.names) c.args.name Empty c.requires.name) in
     some_is _ h.0 h.1
 
+pub calm_squares-requires-clause-near : goal.calm_squares-requires-clause-near
+calm_squares-requires-clause-near c = rects_within (2 ^ 39) c.args.looks.now c.rects-rects.ensures.sound (wider_set (2 ^ 37) (2 ^ 39) c.args.looks.now (omega arith) c.requires.looks.all.within)
+
+pub undisturbed-requires-clause-zone : goal.undisturbed-requires-clause-zone
+undisturbed-requires-clause-zone c = elim c.requires.zone [ inl e ↦ inl e | inr h ↦ inr (h c.disturbed-zone.result.now c.disturbed-zone.ensures) ]
+
 pub returns : goal.returns
-returns c = λ x is at flat_in.
-    derived c.args.design.now (rules_seen c.args.rules.now) c.args.zones.now c.args.cell c.args.name x c.args.looks.now c.args.flat c.disturbed-zone.result.now c.in_ok-calm.calm
-    c.sound.ensures c.requires.ready is at c.requires.looks flat_in c.disturbed-zone.ensures c.in_ok-calm.ensures c.in_ok-local.local c.rects-canonical.ensures.canonical
-    (λ q. c.in_ok-local.ensures q ∙ ap (λ v. (v && not (covers c.disturbed-zone.result.now q)) && not (covers c.in_ok-calm.calm q)) (c.in_ok-squares.ensures q))
+returns c = λ x wide is far at grows flat.
+    let d = c.args.design.now in let r = rules_seen c.args.rules.now in let z = c.args.zones.now in let looks = c.args.looks.now in
+    let zone = c.disturbed-zone.result.now in let squares = c.in_ok-squares.squares in let calm = c.in_ok-calm.calm in let local = c.in_ok-local.local in
+    let back : c.args.far ≡ reach x = sym far in
+    let seen : AreReadLooks (reach x) d z r.names c.args.name c.args.cell looks = subst (λ n. AreReadLooks n d z r.names c.args.name c.args.cell looks) back c.requires.looks in
+    let near : (q : Square) → covers wide q ≡ covers (around (reach x) looks) q = subst (λ (n : ℕ). (q : Square) → covers wide q ≡ covers (around n looks) q) back grows in
+    let cut : (q : Square) → covers squares q ≡ (covers c.args.flat q && ((reach x == 0) || covers looks q)) = subst (λ (n : ℕ). (q : Square) → covers squares q ≡ (covers c.args.flat q && ((n == 0) || covers looks q))) back c.in_ok-squares.ensures in
+    let keeps : (q : Square) → (covers calm q ≡ true) ↔ ((covers looks q ≡ true) × IsKeptBy (reach x) d z c.args.cell c.args.name q) =
+    subst (λ (n : ℕ). (q : Square) → (covers calm q ≡ true) ↔ ((covers looks q ≡ true) × IsKeptBy n d z c.args.cell c.args.name q)) back c.in_ok-calm.ensures in
+    let made : (q : Square) → covers local q ≡ ((covers squares q && not (covers (around (reach x) zone) q)) && not (covers calm q)) =
+    subst (λ (n : ℕ). (q : Square) → covers local q ≡ ((covers squares q && not (covers (around n zone) q)) && not (covers calm q))) back c.in_ok-local.ensures in
+    derived d r z c.args.cell c.args.name x looks squares zone calm c.sound.ensures c.requires.ready is at seen (seen_flats d c.args.cell x looks wide c.args.flat squares near flat cut) c.disturbed-zone.ensures keeps local c.rects-canonical.ensures.canonical made

@@ -2,7 +2,7 @@ use Rattle.std.proofs.Common.{◌≡◌, ◌<◌, ◌∙◌, ◌+◌, ◌++◌, 
 use Rattle.std.proofs.lemmas.Option.{get_or_from_slice_get, slice_get_within}
 use Rattle.geo_base.specs.declared.shapes.Rect.{Rect}
 use Rattle.deep_laws.specs.Layers.{IsDerived}
-use Rattle.flat_layout.specs.Layers.{Formula}
+use Rattle.flat_layout.specs.Layers.{Empty, Formula, reach}
 use Rattle.cell_graph.proofs.Finishes.{at_middle, one_yielded}
 use Rattle.rule_layers.specs.Formulas.{formula_by, formulas, formulas_behind}
 use Rattle.layer_phase.specs.Names.{AreLocals, IsFlatIn}
@@ -36,8 +36,9 @@ loop-flat-preserved c =
     (behind_stays (had.0 ++ tree ∷ []) (drop (name + 1) names) name tree (subst (λ n. slice_get (had.0 ++ tree ∷ []) n ≡ Some tree) (had.2 ∙ sym count) (push_new had.0 tree))) in
     let item : get_or flats name [] ≡ flat = get_or_from_slice_get flats name flat [] (subst (λ n. slice_get flats n ≡ Some flat) (sym same) there) in
     let flat_in : IsDerived tree → IsFlatIn d cell looks tree flat = λ is. subst (IsFlatIn d cell looks tree) item (c.requires.flats name tree is at) in
+    let none : reach tree ≡ 0 = subst (λ (t : Formula). reach t ≡ 0) (get_or_from_slice_get (formulas names) name tree Empty at) (c.requires.still name) in
     let e : c.push.new.self.items ≡ sets ++ layer ∷ [] = c.in_ok-push.ensures.items in
-    let more = locals_more d cell (formulas names) tree sets layer (subst (λ n. slice_get (formulas names) n ≡ Some tree) count at) had.5 (c.in_ok-layer.ensures had.0 at flat_in) in
+    let more = locals_more d cell (formulas names) tree sets layer (subst (λ n. slice_get (formulas names) n ≡ Some tree) count at) had.5 (c.in_ok-layer.ensures had.0 at none flat_in) in
     let grown : length c.push.new.self.items ≡ name + 1 = ap length e ∙ length-append sets (layer ∷ []) ∙ ap (λ (n : ℕ). n + 1) (sym count) in (
       had.0 ++ tree ∷ [],
       subst (λ n. formulas_behind (had.0 ++ tree ∷ []) (drop n names) ≡ formulas names) (sym grown) on,
@@ -46,3 +47,6 @@ loop-flat-preserved c =
       grown ∙ ap (λ (n : ℕ). n + 1) same ∙ sym (length-append yielded (flat ∷ [])),
       subst (λ (l : List (List Rect)). AreLocals d cell (formulas names) l) (sym e) more,
     )
+
+pub form_layer-requires-clause-looks : goal.form_layer-requires-clause-looks
+form_layer-requires-clause-looks c = c.requires.looks c.len-name.result

@@ -12,7 +12,7 @@ loop-rule-preserved c =
     let e = c.in_ok-push_own.ensures in
     record {
       rects = e.rects;
-      held = e.held;
+      held = λ n h. e.held n (c.loop-rule.invariant.held n h);
       grows = λ q h. e.grows q (c.loop-rule.invariant.grows q h);
       brings = inputs_more names i rule (λ name key. Grows (own_of (cell_at d c.args.cell) key) c.push_own.new.out.items) at (λ name key lt is q h. e.grows q (c.loop-rule.invariant.brings name key lt is q h)) e.brings;
     }

@@ -26,7 +26,7 @@ loop-i-preserved c =
       lists = e.lists;
       pieces = e.pieces;
       brings = λ k p lt at. elim (ℕ_discrete k i) [
-        | yes same ↦ subst (λ (x : Place). BringsExposed d c.args.zones.now c.args.names.now x c.args.window.now c.push_reference.new.out.items)
+        | yes same ↦ subst (λ (x : Place). BringsExposed c.args.most d c.args.zones.now c.args.names.now x c.args.window.now c.push_reference.new.out.items)
             (one_place (slice_get places i) place p there (subst (λ n. slice_get places n ≡ Some p) same at)) e.brings
         | no not ↦ λ row column s a b h met. e.grows _ (c.loop-i.invariant.brings k p (omega arith) at row column s a b h met)
       ];

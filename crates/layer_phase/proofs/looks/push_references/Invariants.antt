@@ -8,7 +8,7 @@ use Rattle.layer_phase.proofs.looks.push_references.Given as goal
 
 abbrev pub invariant-loop-i : goal.invariant-loop-i
 invariant-loop-i l = record {
-  lists : AreExposedLists l.design l.zones l.names l.memo.lists.items;
+  lists : AreExposedLists l.most l.design l.zones l.names l.memo.lists.items;
   pieces : All (IsPiece l.window) l.out.items;
-  brings : (k : ℕ) (p : Place) → k < l.i → slice_get (places_at (cell_at l.design l.cell)) k ≡ Some p → BringsExposed l.design l.zones l.names p l.window l.out.items;
+  brings : (k : ℕ) (p : Place) → k < l.i → slice_get (places_at (cell_at l.design l.cell)) k ≡ Some p → BringsExposed l.most l.design l.zones l.names p l.window l.out.items;
 }

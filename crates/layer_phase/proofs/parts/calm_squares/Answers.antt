@@ -14,5 +14,5 @@ loop-rect-preserved c =
     let e = c.in_ok-extend_from_slice.ensures.items ∙ ap (λ (l : List Rect). c.loop-rect.out.items ++ l) c.deref.ensures.value in
     record {
       rects = subst (All IsRect) (sym e) (All-append IsRect c.loop-rect.out.items c.in_ok-more.more.items c.loop-rect.invariant.rects (pieces_rects _ c.in_ok-more.more.items c.in_ok-more.ensures.pieces));
-      exact = grow_by (IsKeptBy c.args.design.now c.args.zones.now c.args.cell c.args.name) c.loop-rect.out.items c.in_ok-more.more.items c.extend_from_slice.new.self.items c.rects-rect-items.result.now c.loop-rect.rect-index z c.loop-rect-test.true e c.loop-rect.invariant.exact c.in_ok-more.ensures.exact;
+      exact = grow_by (IsKeptBy c.args.reach c.args.design.now c.args.zones.now c.args.cell c.args.name) c.loop-rect.out.items c.in_ok-more.more.items c.extend_from_slice.new.self.items c.rects-rect-items.result.now c.loop-rect.rect-index z c.loop-rect-test.true e c.loop-rect.invariant.exact c.in_ok-more.ensures.exact;
     }

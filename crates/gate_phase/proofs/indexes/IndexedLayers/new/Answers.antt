@@ -1,7 +1,10 @@
-use Rattle.std.proofs.Common.{◌≡◌, ◌∙◌, ℕ, List, length, length-set, get_or, slice_index, ap, sym, subst, arith}
+use Rattle.std.proofs.Common.{◌≡◌, ◌∙◌, ◌≤◌, ℕ, List, length, length-set, get_or, slice_index, ap, sym, subst, arith}
 use Rattle.cell_graph.specs.Linked.{plain}
 use Rattle.flat_layout.specs.Layout.{IsReached}
+use Rattle.std.specs.List.{All}
+use Rattle.rule_text.specs.Reaches.{MOST_REACH, reaches}
 use Rattle.rule_text.specs.Seen.{rules_seen}
+use Rattle.rule_text.specs.declared.rules.LayerRule.{LayerRule}
 use Rattle.net_phase.proofs.Layering.{layer_there}
 use Rattle.gate_phase.specs.Indexes.{index_lists}
 use Rattle.gate_phase.proofs.Indexing.{cell_set, no_indexes}
@@ -36,3 +39,6 @@ loop-cell-preserved c =
       long = length-set all (get_or c.order-cell-items.result.now n 0) c.in_ok-found.found ∙ whole;
       right = cell_set c.args.layers.now all (get_or c.order-cell-items.result.now n 0) c.in_ok-found.found (omega (arith, same, inside, whole)) c.loop-cell.invariant.right c.in_ok-found.ensures;
     }
+
+pub reaches-requires : goal.reaches-requires
+reaches-requires c = subst (λ (l : List LayerRule). All (λ n. n ≤ MOST_REACH) (reaches l)) (sym c.deref-2.ensures.value) c.requires.rules.formed.near

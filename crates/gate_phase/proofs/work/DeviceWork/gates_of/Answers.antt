@@ -20,11 +20,11 @@ use Rattle.rule_text.specs.Seen.{rules_seen}
 pub new-cells-requires-clause-own : goal.new-cells-requires-clause-own
 new-cells-requires-clause-own c =
     let a = c.self.inside in
-    subst (λ (l : List (Vec (Bor (List Rect)))). AreHeldOwn a.design.now (rect_lists l)) (sym c.deref.ensures.value)
-    (held_own a.design.now (rules_seen a.rules.now) (rect_lists a.own.items) c.sound.ensures c.self.invariant.sound c.self.invariant.own)
+    subst (λ (l : List (Vec (Bor (List Rect)))). AreHeldOwn a.indexes.reach a.design.now (rect_lists l)) (sym c.deref.ensures.value)
+    (held_own a.indexes.reach a.design.now (rules_seen a.rules.now) (rect_lists a.own.items) c.sound.ensures c.self.invariant.indexes.reach c.self.invariant.own)
 
 pub new-cells-requires-clause-indexes : goal.new-cells-requires-clause-indexes
-new-cells-requires-clause-indexes c = same_indexes c.self.inside.design.now _ _ _ _ c.self.inside.indexes (sym c.deref.ensures.value) (sym c.deref-2.ensures.value) c.self.invariant.indexes
+new-cells-requires-clause-indexes c = same_indexes c.self.inside.design.now _ _ _ _ _ c.self.inside.indexes (sym c.deref.ensures.value) (sym c.deref-2.ensures.value) c.self.invariant.indexes
 
 pub cell_gates-requires-clause-nets : goal.cell_gates-requires-clause-nets
 cell_gates-requires-clause-nets c =

@@ -21,12 +21,12 @@ invariant_of-result c =
       sound = c.requires.rules;
       few = c.in_ok-device_count.ensures.few;
       zones = c.requires.zones;
-      layers = subst (AreLayers (plain d) r) (sym c.in_ok-indexed.ensures) c.requires.layers;
+      layers = record { table = subst (AreLayers (plain d) r) (sym c.in_ok-indexed.ensures.table) c.requires.layers; reaches = c.in_ok-indexed.ensures.reaches };
       conductors = c.in_ok-wires.ensures.conductors;
       globals = c.in_ok-wires.ensures.globals;
       grounds = c.in_ok-grounds.ensures;
       elements = c.in_ok-elements.ensures;
       own = c.in_ok-own.ensures;
-      indexes = same_indexes d _ _ _ _ c.in_ok-indexes.indexes c.deref.ensures.value c.deref-2.ensures.value c.in_ok-indexes.ensures;
+      indexes = same_indexes d r _ _ _ _ c.in_ok-indexes.indexes c.deref.ensures.value c.deref-2.ensures.value c.in_ok-indexes.ensures;
       nets = right_known d r (rect_lists c.in_ok-own.own.items) c.args.nets.now (nets_of c.in_ok-known.known.items) c.in_ok-own.ensures c.requires.nets c.in_ok-known.ensures;
     }

@@ -26,12 +26,12 @@ known_nets-requires c cell reached = some_at (AreCellNets (plain c.args.design.n
 pub new-cells-requires-clause-own : goal.new-cells-requires-clause-own
 new-cells-requires-clause-own c =
     let d = c.args.design.now in
-    subst (λ (l : List (Vec (Bor (List Rect)))). AreHeldOwn d (rect_lists l)) (sym c.deref-3.ensures.value)
-    (held_own d (rules_seen c.args.rules.now) (rect_lists c.in_ok-own.own.items) c.sound.ensures c.requires.rules c.in_ok-own.ensures)
+    subst (λ (l : List (Vec (Bor (List Rect)))). AreHeldOwn c.in_ok-indexes.indexes.reach d (rect_lists l)) (sym c.deref-3.ensures.value)
+    (held_own c.in_ok-indexes.indexes.reach d (rules_seen c.args.rules.now) (rect_lists c.in_ok-own.own.items) c.sound.ensures c.in_ok-indexes.ensures.reach c.in_ok-own.ensures)
 
 pub new-cells-requires-clause-indexes : goal.new-cells-requires-clause-indexes
 new-cells-requires-clause-indexes c =
-    same_indexes c.args.design.now _ _ _ _ c.in_ok-indexes.indexes (c.deref.ensures.value ∙ sym c.deref-3.ensures.value) (c.deref-2.ensures.value ∙ sym c.deref-4.ensures.value) c.in_ok-indexes.ensures
+    same_indexes c.args.design.now _ _ _ _ _ c.in_ok-indexes.indexes (c.deref.ensures.value ∙ sym c.deref-3.ensures.value) (c.deref-2.ensures.value ∙ sym c.deref-4.ensures.value) c.in_ok-indexes.ensures
 
 pub find_links-requires-clause-nets : goal.find_links-requires-clause-nets
 find_links-requires-clause-nets c =
@@ -43,7 +43,7 @@ find_links-requires-clause-nets c =
     (e.own ∙ ap (λ (l : List (Vec (Bor (List Rect)))). rect_lists l) c.deref-3.ensures.value)
     (e.nets ∙ ap (λ (l : List (Option (Bor CellNets))). nets_of l) c.deref-5.ensures.value) in
     let right = right_known d r all c.args.nets.now known c.in_ok-own.ensures c.requires.nets c.in_ok-known.ensures in
-    subst (λ (z : BelowSeen). AreKnownNets (plain d) (wiring_seen z) (tables_seen z) c.args.nets.now) (sym same) (known_all d r all c.args.nets.now known c.sound.ensures c.requires.nets c.in_ok-known.ensures right)
+    subst (λ (z : BelowSeen). AreKnownNets (plain d) (wiring_seen z) (tables_seen z) c.args.nets.now) (sym same) (known_all d r all c.args.nets.now known c.sound.ensures c.requires.rules c.requires.nets c.in_ok-known.ensures right)
 
 pub find_links-requires-clause-gates : goal.find_links-requires-clause-gates
 find_links-requires-clause-gates c =
@@ -55,7 +55,7 @@ find_links-requires-clause-gates c =
     (e.own ∙ ap (λ (l : List (Vec (Bor (List Rect)))). rect_lists l) c.deref-3.ensures.value)
     (e.nets ∙ ap (λ (l : List (Option (Bor CellNets))). nets_of l) c.deref-5.ensures.value) in
     let right = right_known d r all c.args.nets.now known c.in_ok-own.ensures c.requires.nets c.in_ok-known.ensures in
-    subst (λ (z : BelowSeen). AreKnownGates (plain d) (tables_seen z) c.args.gates.now) (sym same) (gates_all d r all known c.args.gates.now c.sound.ensures c.requires.gates right)
+    subst (λ (z : BelowSeen). AreKnownGates (plain d) (tables_seen z) c.args.gates.now) (sym same) (gates_all d r all known c.args.gates.now c.sound.ensures c.requires.rules c.requires.gates right)
 
 pub invariant_of-result : goal.invariant_of-result
 invariant_of-result c =
@@ -71,13 +71,14 @@ invariant_of-result c =
     let named = ap length c.in_ok-globals.ensures in
     let count = c.in_ok-wires.ensures.globals in
     record {
+      rules = c.requires.rules;
       conductors = c.in_ok-wires.ensures.conductors;
       lines = c.in_ok-lines.ensures;
       globals = c.in_ok-globals.ensures;
       few = omega (arith, long, named, count);
       elements = c.in_ok-elements.ensures;
       own = c.in_ok-own.ensures;
-      indexes = same_indexes d _ _ _ _ c.in_ok-indexes.indexes c.deref.ensures.value c.deref-2.ensures.value c.in_ok-indexes.ensures;
+      indexes = same_indexes d _ _ _ _ _ c.in_ok-indexes.indexes c.deref.ensures.value c.deref-2.ensures.value c.in_ok-indexes.ensures;
       nets = right;
       gates = gates_of c.args.gates.now;
       right = right_gates (plain d) r (tables_by all known) c.args.gates.now right c.requires.gates;

@@ -32,11 +32,11 @@ use Rattle.pin_phase.proofs.phase.PinPhasePhase.work.Goals as goal
 pub new-cells-requires-clause-own : goal.new-cells-requires-clause-own
 new-cells-requires-clause-own g c =
     let a = c.self.inside in
-    subst (λ (l : List (Vec (Bor (List Rect)))). AreHeldOwn a.design.now (rect_lists l)) (sym c.deref.ensures.value)
-    (held_own a.design.now (rules_seen a.rules.now) (rect_lists a.own.items) c.sound.ensures c.self.invariant.rules c.self.invariant.own)
+    subst (λ (l : List (Vec (Bor (List Rect)))). AreHeldOwn a.indexes.reach a.design.now (rect_lists l)) (sym c.deref.ensures.value)
+    (held_own a.indexes.reach a.design.now (rules_seen a.rules.now) (rect_lists a.own.items) c.sound.ensures c.self.invariant.indexes.reach c.self.invariant.own)
 
 pub new-cells-requires-clause-indexes : goal.new-cells-requires-clause-indexes
-new-cells-requires-clause-indexes g c = same_indexes c.self.inside.design.now _ _ _ _ c.self.inside.indexes (sym c.deref.ensures.value) (sym c.deref-2.ensures.value) c.self.invariant.indexes
+new-cells-requires-clause-indexes g c = same_indexes c.self.inside.design.now _ _ _ _ _ c.self.inside.indexes (sym c.deref.ensures.value) (sym c.deref-2.ensures.value) c.self.invariant.indexes
 
 pub net_tags-requires-clause-nets : goal.net_tags-requires-clause-nets
 net_tags-requires-clause-nets g c =
@@ -50,7 +50,7 @@ net_tags-requires-clause-nets g c =
     (e.nets ∙ ap (λ (l : List (Option (Bor CellNets))). nets_of l) c.deref-3.ensures.value) in
     let lt : job < length order = subst (λ n. job < n) (ap (λ (z : PinJobs). length z.graph) (sym c.self.view_is) ∙ c.self.invariant.graph.jobs ∙ ap (λ (o : List ℕ). length o) (sym c.order-order.ensures)) c.requires.job in
     subst (λ (z : BelowSeen). AreNetsUnder (plain z.design) (wiring_seen z) (tables_seen z) cell) (sym same)
-    (nets_under d (rules_seen a.rules.now) (tables_seen (read_by a)) c.sound.ensures c.self.invariant.nets cell (reached_at d order job c.sound.ensures c.order-order.ensures lt))
+    (nets_under d (rules_seen a.rules.now) (tables_seen (read_by a)) c.sound.ensures c.self.invariant.rules c.self.invariant.nets cell (reached_at d order job c.sound.ensures c.order-order.ensures lt))
 
 pub net_tags-requires-clause-texts : goal.net_tags-requires-clause-texts
 net_tags-requires-clause-texts g c =
@@ -96,7 +96,7 @@ pin_marks-requires-clause-nets g c = λ i l at.
     let here : cell ≡ downward_cell d job = ap (λ (o : List ℕ). slice_index o (length o - 1 - job)) c.order-order.ensures in
     let lt : job < length d.order = subst (λ n. job < n) (ap (λ (z : PinJobs). length z.graph) (sym c.self.view_is) ∙ c.self.invariant.graph.jobs) c.requires.job in
     let links = links_here d a.links.items order job c.index-links.result.now c.deref-6.result.now c.sound.ensures c.self.invariant.links.count c.order-order.ensures lt c.index-links.ensures c.deref-6.ensures.value in
-    let k = known d r t c.self.invariant.gates c.sound.ensures c.self.invariant.nets c.self.invariant.right in
+    let k = known d r t c.self.invariant.gates c.sound.ensures c.self.invariant.rules c.self.invariant.nets c.self.invariant.right in
     let count : length c.in_ok-tags.tags ≡ (t.nets (downward_cell d job)).count = c.in_ok-tags.ensures.count ∙ ap (λ (z : BelowSeen). ((tables_seen z).nets cell).count) same ∙ ap (λ n. (t.nets n).count) here in
     subst (λ n. l.net < n) (sym count) (net_in d r t c.self.invariant.gates (lists_of a.links.items) (downward_cell d job) c.deref-6.result.now k c.self.invariant.links links i l at)
 
@@ -115,7 +115,7 @@ returns g c =
     let here : slice_index order (length order - 1 - job) ≡ cell = ap (λ (o : List ℕ). slice_index o (length o - 1 - job)) c.order-order.ensures in
     let lt : job < length d.order = subst (λ n. job < n) (ap (λ (z : PinJobs). length z.graph) (sym c.self.view_is) ∙ c.self.invariant.graph.jobs) c.requires.job in
     let of = links_here d a.links.items order job c.index-links.result.now links c.sound.ensures c.self.invariant.links.count c.order-order.ensures lt c.index-links.ensures c.deref-6.ensures.value in
-    let k = known d r t c.self.invariant.gates c.sound.ensures c.self.invariant.nets c.self.invariant.right in
+    let k = known d r t c.self.invariant.gates c.sound.ensures c.self.invariant.rules c.self.invariant.nets c.self.invariant.right in
     let tags : AreTags (plain d) (wiring_of r) t cell c.in_ok-tags.tags =
     subst (λ n. AreTags (plain d) (wiring_of r) t n c.in_ok-tags.tags) here
     (subst (λ (z : BelowSeen). AreTags (plain z.design) (wiring_seen z) (tables_seen z) (slice_index order (length order - 1 - job)) c.in_ok-tags.tags) same c.in_ok-tags.ensures) in
