@@ -1,8 +1,13 @@
 -- What is drawn over the lists of a layout's cells, and the picture that is joined of it, are those of
 -- the layout.
-use Rattle.std.proofs.Common.{◌≡◌, ◌<◌, ℕ, List, Some, length, refl, slice_get, subst, sym}
+use Rattle.std.proofs.Common.{◌≡◌, ◌<◌, ℕ, List, Option, Some, None, IsSome, IsSomeAnd, length, refl, slice_get, subst, sym}
 use Rattle.cell_graph.specs.Linked.{Linked, plain}
+use Rattle.deep_tables.specs.Entries.{entry}
 use Rattle.deep_tables.specs.Nets.{AreRightNets}
+use Rattle.deep_tables.specs.declared.circuits.CellCircuit.{CellCircuit}
+use Rattle.deep_tables.specs.declared.gates.CellGates.{CellGates}
+use Rattle.deep_tables.specs.declared.nets.CellNets.{CellNets}
+use Rattle.deep_tables.specs.declared.pins.CellPins.{CellPins}
 use Rattle.deep_tables.specs.Pins.{pins_of}
 use Rattle.flat_layout.specs.Layout.{IsReached}
 use Rattle.gds_layout.specs.declared.layout.Layout.{Layout}
@@ -16,7 +21,7 @@ use Rattle.rule_text.specs.declared.rules.RuleSet.{RuleSet}
 use Rattle.view_drawing.proofs.Reading.{inside}
 use Rattle.view_drawing.specs.Calls.{called_in}
 use Rattle.view_drawing.specs.Devices.{AreSmallRegions, areas_of}
-use Rattle.view_drawing.specs.Drawn.{AreListsOf, listed_tables}
+use Rattle.view_drawing.specs.Drawn.{AreAllThere, AreListsOf, listed_tables}
 use Rattle.view_drawing.specs.declared.source.Lists.{Lists}
 use Rattle.view_drawing.specs.declared.source.Source.{Source}
 use Rattle.view_file.specs.declared.layout.Picture.{Picture}
@@ -35,6 +40,22 @@ use Rattle.view_run.specs.declared.found.Cells.{Cells}
 
 pub reached : (l : Layout) (r : Rules) (c : Cells) → HasCells l r c → (k cell : ℕ) → slice_get c.cells.items k ≡ Some cell → IsReached (plain l.design) cell
 reached l r c h k cell e = ((h.cells.each cell).0 (listed c.cells.items k cell e)).0
+
+some_of_and : {X : Type 0} (P : X → Type 0) (o : Option X) → IsSomeAnd o P → IsSome o
+some_of_and P None h = absurd h
+some_of_and P (Some x) h = refl
+
+-- the tables have an entry for each cell that the top reaches
+pub all_there : (l : Layout) (r : Rules) (c : Cells) (s : Source) → HasCells l r c → s.design.now ≡ l.design → s.nets.now ≡ c.gated.nets → s.gates.now ≡ c.gated.gates → s.pins.now ≡ c.pins → s.circuits.now ≡ c.circuits → AreAllThere s
+all_there l r c s h design nets gates pins circuits cell reached =
+    let here : IsReached (plain l.design) cell = subst (λ (d : Linked). IsReached (plain d) cell) design reached in
+    let t = h.tables in
+    record {
+      nets = subst (λ (x : List (Option CellNets)). IsSome (entry x cell)) (sym nets) (some_of_and _ _ (t.are_nets cell here));
+      gates = subst (λ (x : List (Option CellGates)). IsSome (entry x cell)) (sym gates) (some_of_and _ _ (t.are_gates cell here));
+      pins = subst (λ (x : List (Option CellPins)). IsSome (entry x cell)) (sym pins) (some_of_and _ _ (t.are_pins cell here));
+      circuits = subst (λ (x : List (Option CellCircuit)). IsSome (entry x cell)) (sym circuits) (some_of_and _ _ (t.are_circuits cell here));
+    }
 
 module _ (l : Layout) (rules : RuleSet) (c : Cells) (names : List (List ℕ)) (written : Netlist) (s : Source) (lists : Lists) (design : s.design.now ≡ l.design) (same : s.rules.now ≡ rules) where
   -- the nets are right for the layout

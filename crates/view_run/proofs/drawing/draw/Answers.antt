@@ -10,7 +10,7 @@ use Rattle.view_picture.specs.Picture.{AreDrawn}
 use Rattle.view_shapes.specs.Shown.{called_by}
 use Rattle.std.proofs.lemmas.Result.{err_from_is_err_and}
 use Rattle.view_drawing.proofs.Fars.{err_as}
-use Rattle.view_run.proofs.Pictured.{far_circuit, reached, sketched}
+use Rattle.view_run.proofs.Pictured.{all_there, far_circuit, reached, sketched}
 use Rattle.view_run.proofs.drawing.draw.Goals as goal
 
 pub draw_lists-requires-clause-cells : goal.draw_lists-requires-clause-cells
@@ -42,3 +42,8 @@ returns-in_err-sketch-clause-far c =
     let s = c.source_of-source in
     rw (e.1, e.2) (λ is. far_circuit c.args.layout.now c.args.rules.now c.args.found c.args.names.items (plain_netlist c.args.written.now) s.result c.in_ok-lists.lists s.ensures.design s.ensures.rules c.requires.cells
     s.ensures.layers s.ensures.nets s.ensures.gates s.ensures.pins s.ensures.circuits c.in_ok-lists.ensures.lists c.in_ok-lists.ensures.right (c.in_err-sketch.ensures.far (err_as _ _ is)))
+
+pub draw_lists-requires-clause-entries : goal.draw_lists-requires-clause-entries
+draw_lists-requires-clause-entries c =
+    let s = c.source_of-source in
+    all_there c.args.layout.now (rules_seen c.args.rules.now) c.args.found s.result c.requires.cells s.ensures.design s.ensures.nets s.ensures.gates s.ensures.pins s.ensures.circuits
