@@ -3,12 +3,14 @@
 use Rattle.std.proofs.Common.{◌≡◌, ◌<◌, ℕ, List, Option, Some, None, IsSome, IsSomeAnd, length, refl, slice_get, subst, sym}
 use Rattle.cell_graph.specs.Linked.{Linked, plain}
 use Rattle.deep_tables.specs.Entries.{entry}
-use Rattle.deep_tables.specs.Nets.{AreRightNets}
+use Rattle.deep_tables.specs.Circuits.{IsCellCircuit}
+use Rattle.deep_tables.specs.Gates.{AreCellGates}
+use Rattle.deep_tables.specs.Nets.{AreCellNets, AreRightNets}
+use Rattle.deep_tables.specs.Pins.{AreCellPins, pins_of}
 use Rattle.deep_tables.specs.declared.circuits.CellCircuit.{CellCircuit}
 use Rattle.deep_tables.specs.declared.gates.CellGates.{CellGates}
 use Rattle.deep_tables.specs.declared.nets.CellNets.{CellNets}
 use Rattle.deep_tables.specs.declared.pins.CellPins.{CellPins}
-use Rattle.deep_tables.specs.Pins.{pins_of}
 use Rattle.flat_layout.specs.Layout.{IsReached}
 use Rattle.gds_layout.specs.declared.layout.Layout.{Layout}
 use Rattle.plain_netlist.proofs.Members.{listed}
@@ -50,11 +52,12 @@ pub all_there : (l : Layout) (r : Rules) (c : Cells) (s : Source) → HasCells l
 all_there l r c s h design nets gates pins circuits cell reached =
     let here : IsReached (plain l.design) cell = subst (λ (d : Linked). IsReached (plain d) cell) design reached in
     let t = h.tables in
+    let d = plain l.design in
     record {
-      nets = subst (λ (x : List (Option CellNets)). IsSome (entry x cell)) (sym nets) (some_of_and _ _ (t.are_nets cell here));
-      gates = subst (λ (x : List (Option CellGates)). IsSome (entry x cell)) (sym gates) (some_of_and _ _ (t.are_gates cell here));
-      pins = subst (λ (x : List (Option CellPins)). IsSome (entry x cell)) (sym pins) (some_of_and _ _ (t.are_pins cell here));
-      circuits = subst (λ (x : List (Option CellCircuit)). IsSome (entry x cell)) (sym circuits) (some_of_and _ _ (t.are_circuits cell here));
+      nets = subst (λ (x : List (Option CellNets)). IsSome (entry x cell)) (sym nets) (some_of_and (AreCellNets d r cell) (entry c.gated.nets cell) (t.are_nets cell here));
+      gates = subst (λ (x : List (Option CellGates)). IsSome (entry x cell)) (sym gates) (some_of_and (AreCellGates d r cell) (entry c.gated.gates cell) (t.are_gates cell here));
+      pins = subst (λ (x : List (Option CellPins)). IsSome (entry x cell)) (sym pins) (some_of_and (AreCellPins d r cell) (entry c.pins cell) (t.are_pins cell here));
+      circuits = subst (λ (x : List (Option CellCircuit)). IsSome (entry x cell)) (sym circuits) (some_of_and (IsCellCircuit l.header.unit_pm d r cell) (entry c.circuits cell) (t.are_circuits cell here));
     }
 
 module _ (l : Layout) (rules : RuleSet) (c : Cells) (names : List (List ℕ)) (written : Netlist) (s : Source) (lists : Lists) (design : s.design.now ≡ l.design) (same : s.rules.now ≡ rules) where
