@@ -88,6 +88,13 @@ still_read names devices further k (inl h) = inl h
 still_read names devices further k (inr (inl h)) = absurd (let lt = h.at_in in let z : ⊥ = omega arith in z)
 still_read names devices further k (inr (inr h)) = absurd (let lt = h.at_in in let z : ⊥ = omega arith in z)
 
+-- an entry of a derived name is the cell's disturbed squares
+pub entry_frame : (d : Linked) (r : Rules) (z : List (Option CellZones)) (cell name : ℕ) (x : Formula) (zone : List Rect) → IsReady d r z cell → IsDerived x → slice_get (formulas r.names) name ≡ Some x → IsZoneAt z cell name zone
+    → IsFramedZone (zone_margin r.names) d (inputs x) cell zone
+entry_frame d r z cell name x zone ready derived_name at entry =
+    let h = zone_at (plain d) r z cell name x ready.zones ready.reached at (asked_derived r name x derived_name) in
+    subst (IsFramedZone (zone_margin r.names) d (inputs x) cell) (one_zone _ h.0 zone h.1 entry) ((framed d (inputs x) (zone_margin r.names) cell h.0 (ready.hulls cell ready.reached) h.2.canonical).0 h.2)
+
 margin_twice : (r : Rules) (name : ℕ) (x : Formula) → slice_get (formulas r.names) name ≡ Some x → reach x + reach x ≤ zone_margin r.names
 margin_twice r name x at =
     let far : reach x ≤ greatest_reach r.names = subst (λ (t : Formula). reach t ≤ greatest_reach r.names) (get_or_from_slice_get (formulas r.names) name x Empty at) (reach_in r.names name) in

@@ -4,6 +4,7 @@ pub mod Bringing
 pub mod Deriving
 pub mod Exposing
 pub mod Flattening
+pub mod Grouping
 pub mod Held
 pub mod Inputs
 pub mod Keeping

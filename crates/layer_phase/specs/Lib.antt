@@ -1,3 +1,4 @@
+pub mod Groups
 pub mod Around
 pub mod Flat
 pub mod Parts

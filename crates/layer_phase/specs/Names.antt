@@ -10,7 +10,6 @@ use Rattle.flat_layout.specs.Plane.{IsHeldBy}
 use Rattle.flat_layout.specs.Layout.{IsReached}
 use Rattle.flat_layout.specs.Values.{IsLocalLayer}
 use Rattle.cell_graph.specs.Linked.{Linked, plain}
-use Rattle.deep_laws.specs.Layers.{IsDerived}
 use Rattle.rule_text.specs.Rules.{Rules}
 use Rattle.rule_text.specs.Sound.{IsSound}
 use Rattle.deep_tables.specs.declared.zones.CellZones.{CellZones}
@@ -32,11 +31,6 @@ pub record IsFlatIn (d : Linked) (cell : ℕ) (places : List Rect) (x : Formula)
 abbrev pub AreFlats : Linked → ℕ → List Rect → List Formula → List (List Rect) → Type 0
 AreFlats d cell looks trees sets = (k : ℕ)
     → IsFlatIn d cell looks (get_or trees k Empty) (get_or sets k [])
-
--- the same of each tree of a derived name
-abbrev pub AreDerivedFlats : Linked → ℕ → List Rect → List Formula → List (List Rect) → Type 0
-AreDerivedFlats d cell looks trees sets = (k : ℕ) (x : Formula) → IsDerived x
-    → slice_get trees k ≡ Some x → IsFlatIn d cell looks x (get_or sets k [])
 
 -- the squares that the cell holds itself of each tree
 abbrev pub AreLocals : Linked → ℕ → List Formula → List (List Rect) → Type 0

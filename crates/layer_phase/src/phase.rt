@@ -12,7 +12,7 @@ use deep_tables::{CellLayers, DeepKey, Zones};
 use job_graph::{Graph, Phase, Reads};
 use list_base::small;
 use rule_layers::read_names;
-use rule_text::{LayerRule, RuleSet};
+use rule_text::{LayerRule, RuleSet, reaches};
 use std::alloc::{AllocError, Global};
 use std::marker::Model;
 use std::snapshot::Snapshot;
@@ -26,6 +26,7 @@ pub struct LayerPhase<'a> {
     rules: &'a RuleSet,
     zones: &'a Zones,
     read: Vec<LayerRule>,
+    found: Vec<u32>,
     graph: Graph,
 }
 
@@ -68,12 +69,14 @@ impl<'a> LayerPhase<'a> {
         small(rules.names.len()).ok_or(AllocError)?;
         design.sound();
         let read = read_names(alloc, &rules.names, &[], &[])?;
+        let found = reaches(alloc, &rules.names)?;
         let graph = free_graph(alloc, design)?;
         Ok(LayerPhase {
             design,
             rules,
             zones,
             read,
+            found,
             graph,
         })
     }
@@ -110,7 +113,15 @@ impl Phase for LayerPhase<'_> {
         let design = self.design;
         design.sound();
         let cell = design.order()[job as usize];
-        let layers = name_layers(alloc, design, self.rules, &self.read, self.zones, cell)?;
+        let layers = name_layers(
+            alloc,
+            design,
+            self.rules,
+            &self.read,
+            &self.found,
+            self.zones,
+            cell,
+        )?;
         Ok(CellLayers { layers })
     }
 }

@@ -1,4 +1,4 @@
-use Rattle.std.proofs.Common.{◌≡◌, ◌↔◌, inl, inr, ◌&&◌, ◌||◌, ◌==◌, ◌^◌, not, true, ℕ, Some, IsSome, Option, arith, refl, sym, subst}
+use Rattle.std.proofs.Common.{◌≡◌, ◌↔◌, ◌&&◌, ◌||◌, ◌==◌, ◌^◌, not, true, ℕ, Some, IsSome, Option, arith, refl, sym, subst}
 use Rattle.std.proofs.lemmas.Option.{slice_get-get_or}
 use Rattle.rect_sets.specs.Rects.{covers}
 use Rattle.cell_graph.specs.Linked.{plain}
@@ -34,7 +34,7 @@ pub calm_squares-requires-clause-near : goal.calm_squares-requires-clause-near
 calm_squares-requires-clause-near c = rects_within (2 ^ 39) c.args.looks.now c.rects-rects.ensures.sound (wider_set (2 ^ 37) (2 ^ 39) c.args.looks.now (omega arith) c.requires.looks.all.within)
 
 pub undisturbed-requires-clause-zone : goal.undisturbed-requires-clause-zone
-undisturbed-requires-clause-zone c = elim c.requires.zone [ inl e ↦ inl e | inr h ↦ inr (h c.disturbed-zone.result.now c.disturbed-zone.ensures) ]
+undisturbed-requires-clause-zone c = c.requires.zone c.disturbed-zone.result.now c.disturbed-zone.ensures
 
 pub returns : goal.returns
 returns c = λ x wide is far at grows flat.

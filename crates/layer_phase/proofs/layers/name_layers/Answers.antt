@@ -1,60 +1,17 @@
-use Rattle.std.proofs.Common.{◌<◌, ◌^◌, [], arith, get_or, length, subst}
-use Rattle.std.proofs.lemmas.Option.{get_or_from_slice_get, slice_get-get_or}
-use Rattle.flat_layout.specs.Layers.{Empty}
-use Rattle.cell_graph.proofs.Bridge.{reference_at}
+use Rattle.std.proofs.Common.{◌∙◌, List, ap, arith, length, subst}
+use Rattle.rule_text.specs.declared.rules.LayerRule.{LayerRule}
+use Rattle.layer_phase.specs.Groups.{ArePlain}
 use Rattle.rule_layers.specs.Formulas.{formulas}
-use Rattle.rule_text.specs.Seen.{rules_seen}
-use Rattle.layer_phase.proofs.Telling.{entries}
-use Rattle.layer_phase.proofs.Flattening.{count_behind}
-use Rattle.layer_phase.specs.Names.{IsFlatIn}
-use Rattle.rule_layers.proofs.Unread.{other_there}
-use Rattle.rule_layers.proofs.Unsized.{read_unsized, unsized, unsized_reach}
-use Rattle.flat_laws.proofs.Moves.{within_same}
-use Rattle.layer_phase.proofs.Around.{wider_set}
-use Rattle.layer_phase.proofs.Held.{rects_within}
-use Rattle.layer_phase.proofs.Deriving.{derived_other, read_input}
+use Rattle.layer_phase.proofs.Grouping.{all_done, done_none, tree_count}
 use Rattle.layer_phase.proofs.layers.name_layers.Goals as goal
 
-pub looks-requires-clause-entries : goal.looks-requires-clause-entries
-looks-requires-clause-entries c = λ i p at name lt.
+pub loop-name-init : goal.loop-name-init
+loop-name-init c = done_none c.args.design.now c.args.cell (formulas c.args.rules.now.names.items) c.new-done.result.items c.in_ok-layers.layers.items c.new-done.ensures.items
+    (c.in_ok-layers.ensures.count ∙ ap (λ (l : List LayerRule). length (formulas l)) c.deref.ensures.value)
+    (subst (λ (l : List LayerRule). ArePlain c.args.design.now c.args.cell (formulas l) c.in_ok-layers.layers.items) c.deref.ensures.value c.in_ok-layers.ensures.layers)
+
+pub returns-clause-layers : goal.returns-clause-layers
+returns-clause-layers c =
     let names = c.args.rules.now.names.items in
-    let count = count_behind [] names in
-    let same = c.requires.read.count in
-    let within : name < length (formulas names) = omega (arith, count, same, lt) in
-    let from = (reference_at c.args.design.now c.args.cell i p c.sound.ensures at).2 in
-    entries c.args.design.now (rules_seen c.args.rules.now) c.args.zones.now _ c.args.cell name c.requires.ready.zones c.requires.ready.reached (slice_get-get_or (formulas names) name Empty within) i 0 0 p
-    (record { there = at; row_in = from.rows; column_in = from.columns })
-
-pub form_layers-requires-clause-looks : goal.form_layers-requires-clause-looks
-form_layers-requires-clause-looks c = λ k.
-    let names = c.args.rules.now.names.items in
-    record {
-      seen = c.args.read.now;
-      tree = λ x is at. other_there names [] [] c.args.read.now k x (derived_other x is) c.requires.read at;
-      inputs = λ j key is. read_input names c.args.read.now j key c.requires.read is;
-      all = c.in_ok-set.ensures;
-    }
-
-pub form_layers-requires-clause-still : goal.form_layers-requires-clause-still
-form_layers-requires-clause-still c = unsized_reach c.args.rules.now.names.items (unsized (rules_seen c.args.rules.now) c.requires.ready.rules)
-
-pub form_layers-requires-clause-flats : goal.form_layers-requires-clause-flats
-form_layers-requires-clause-flats c = λ k x is at.
-    let read = c.args.read.now in
-    let there = other_there c.args.rules.now.names.items [] [] read k x (derived_other x is) c.requires.read at in
-    subst (λ y. IsFlatIn c.args.design.now c.args.cell c.in_ok-set.set y (get_or c.in_ok-flats.flats.items k [])) (get_or_from_slice_get (formulas read) k x Empty there) (c.in_ok-flats.ensures.flats k)
-
-pub name_flats-requires-clause-near : goal.name_flats-requires-clause-near
-name_flats-requires-clause-near c = rects_within (2 ^ 39) c.in_ok-set.set c.rects-rects.ensures.sound (wider_set (2 ^ 37) (2 ^ 39) c.in_ok-set.set (omega arith) c.in_ok-set.ensures.within)
-
-pub name_flats-requires-clause-within : goal.name_flats-requires-clause-within
-name_flats-requires-clause-within c = wider_set (2 ^ 37) (2 ^ 38) c.in_ok-set.set (omega arith) c.in_ok-set.ensures.within
-
-pub name_flats-requires-clause-reach : goal.name_flats-requires-clause-reach
-name_flats-requires-clause-reach c = λ k.
-    let read = c.args.read.now in
-    let e = unsized_reach read (read_unsized c.args.rules.now.names.items [] [] read c.requires.read (unsized (rules_seen c.args.rules.now) c.requires.ready.rules)) k in
-    omega (arith, e)
-
-pub name_flats-requires-clause-own : goal.name_flats-requires-clause-own
-name_flats-requires-clause-own c = λ name key is q e. c.in_ok-set.ensures.own name key is q q e (within_same 0 q)
+    let past = c.loop-name-test.false in let trees = tree_count names in
+    all_done c.args.design.now c.args.cell c.loop-name.name (formulas names) c.loop-name.done.items c.loop-name.layers.items (omega (arith, past, trees)) c.loop-name.invariant

@@ -1,4 +1,4 @@
-use Rattle.std.proofs.Common.{◌≡◌, ◌∙◌, inl, inr, ◌&&◌, not, ℕ, arith, ap, sym}
+use Rattle.std.proofs.Common.{◌≡◌, ◌∙◌, ◌&&◌, not, ℕ, arith, ap, sym}
 use Rattle.rect_sets.specs.Rects.{covers}
 use Rattle.layer_phase.specs.Around.{around}
 use Rattle.layer_phase.proofs.Around.{around_none}
@@ -12,11 +12,6 @@ returns-then-far-eq0 c =
     if_ok _ _ c.local_squares.result
     (λ r h q. h q ∙ ap (λ b. (covers c.args.squares q && not b) && not (covers c.args.calm.now q)) (sym (around_none c.args.zone.now q) ∙ ap (λ (n : ℕ). covers (around n c.args.zone.now) q) (sym e)))
     c.local_squares.ensures
-
-pub around-requires-clause-within : goal.around-requires-clause-within
-around-requires-clause-within c =
-    let t = c.if-far-eq0.false in
-    elim c.requires.zone [ inl e ↦ absurd (let z : ⊥ = omega arith in z) | inr h ↦ h ]
 
 pub returns : goal.returns
 returns c =
