@@ -37,7 +37,7 @@ use view_file::Picture;
 use view_picture::{Given, Sketch, draw_written, picture};
 use view_shapes::ShowFault;
 
-/// The names of a netlist's circuits.
+/// The names of a netlist's circuits. Linear in their bytes.
 pub fn circuit_names(alloc: Global, netlist: &Netlist) -> Result<Vec<Name>, AllocError>
     ensures { IfOk result (λ v. v.items ≡ names_of (plain_netlist netlist.now)) }
 {
@@ -94,7 +94,8 @@ pub struct Sketched {
 }
 
 /// What is drawn of a layout's circuits, before they are aligned. All else that was found of the
-/// cells is freed.
+/// cells is freed. `TooFar` where something reaches 2^30 or more from the origin. Cost: that of
+/// drawing each cell once.
 pub fn draw(
     alloc: Global,
     layout: &Layout,
@@ -123,7 +124,8 @@ pub fn draw(
     })
 }
 
-/// The picture of these circuits, which the drawn ones were aligned to.
+/// The picture of these circuits, which the drawn ones were aligned to. `TooFar` as for `draw`.
+/// Cost: what is drawn, of flattened circuits once for each call.
 pub fn joined(
     alloc: Global,
     layout: &Layout,
