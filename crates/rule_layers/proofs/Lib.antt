@@ -2,4 +2,3 @@ pub mod Marking
 pub mod Unread
 pub mod Wired
 pub mod Reaching
-pub mod Unsized

@@ -2,4 +2,3 @@ pub mod Formulas
 pub mod Meaning
 pub mod Laws
 pub mod Reads
-pub mod Unsized

@@ -7,7 +7,6 @@
 
 ghost use Rattle.rule_layers.specs.Laws.{ConductorLaw, KnownGlobalLaw, TerminalConductorLaw};
 ghost use Rattle.rule_layers.specs.Laws.{ReachLaw, ReachInLaw, NearLaw, GateReachLaw};
-ghost use Rattle.rule_layers.specs.Unsized.{StillLaw};
 
 mod margin;
 mod reads;
@@ -24,11 +23,10 @@ pub fn meaning()
 {}
 
 /// How far names and device rules reach: no further than the furthest name, and that no further
-/// than 10,000; and no name may be sized yet.
+/// than 10,000.
 pub fn reaches()
     ensures name { ReachLaw }
     ensures inside { ReachInLaw }
     ensures near { NearLaw }
     ensures device { GateReachLaw }
-    ensures still { StillLaw }
 {}

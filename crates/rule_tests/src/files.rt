@@ -112,6 +112,10 @@ b = input(0000001, 2)
 c = _a1 | b
 d = c ^ b
 x = polygon_layer
+sized = c - d
+grown = _a1.sized(10000)
+shrunk = sized . sized ( - 00001 )
+both = grown | shrunk
 max_guesses(7)
 connect_global(c, 'G')
 connect_global(d, \"G # 1\")
@@ -137,6 +141,10 @@ b input 1/2
 c 0|1
 d 2^1
 x empty
+sized 2-3
+grown 0 sized 10000
+shrunk 5 sized -1
+both 6|7
 output 3 0/1
 global 2 G
 global 3 G # 1

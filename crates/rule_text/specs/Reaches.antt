@@ -4,9 +4,9 @@ use Rattle.rule_text.specs.declared.rules.LayerForm.{LayerForm}
 use Rattle.rule_text.specs.declared.rules.LayerForm.TheVariants as form
 use Rattle.rule_text.specs.declared.rules.LayerRule.{LayerRule}
 
--- how far a name may reach: no name may be sized yet
+-- how far a name may reach, in squares
 abbrev pub MOST_REACH : ℕ
-MOST_REACH = 0
+MOST_REACH = 10000
 
 -- the reach of a form, from those of the names before it
 abbrev pub reach_by : List ℕ → LayerForm → ℕ

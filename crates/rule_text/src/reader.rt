@@ -23,8 +23,8 @@ use net_names::{Name, folded};
 use rule_lines::{Token, next_line, read_tokens};
 use std::alloc::{AllocError, Global};
 
-/// How far a name may reach: no name may be sized yet.
-const MOST_REACH: u64 = 0;
+/// How far a name may reach, in squares.
+const MOST_REACH: u64 = 10_000;
 
 /// The most names that a rule file may define.
 const MOST_NAMES: usize = 256;
