@@ -6,13 +6,14 @@ ghost use Rattle.rule_text.specs.Seen.{rules_seen};
 ghost use Rattle.rule_text.specs.Sound.{IsSound};
 ghost use Rattle.layer_phase.specs.Phase.{AreFreeJobs};
 
+use crate::groups::{Group, groups_of};
 use crate::layers::name_layers;
+use crate::work::CellWork;
 use cell_graph::Design;
 use deep_tables::{CellLayers, DeepKey, Zones};
 use job_graph::{Graph, Phase, Reads};
 use list_base::small;
-use rule_layers::read_names;
-use rule_text::{LayerRule, RuleSet, reaches};
+use rule_text::{RuleSet, reaches};
 use std::alloc::{AllocError, Global};
 use std::marker::Model;
 use std::snapshot::Snapshot;
@@ -25,8 +26,7 @@ pub struct LayerPhase<'a> {
     design: &'a Design,
     rules: &'a RuleSet,
     zones: &'a Zones,
-    read: Vec<LayerRule>,
-    found: Vec<u32>,
+    groups: Vec<Group>,
     graph: Graph,
 }
 
@@ -68,15 +68,14 @@ impl<'a> LayerPhase<'a> {
     {
         small(rules.names.len()).ok_or(AllocError)?;
         design.sound();
-        let read = read_names(alloc, &rules.names, &[], &[])?;
         let found = reaches(alloc, &rules.names)?;
+        let groups = groups_of(alloc, &rules.names, &found)?;
         let graph = free_graph(alloc, design)?;
         Ok(LayerPhase {
             design,
             rules,
             zones,
-            read,
-            found,
+            groups,
             graph,
         })
     }
@@ -112,16 +111,13 @@ impl Phase for LayerPhase<'_> {
         let _ = reads;
         let design = self.design;
         design.sound();
-        let cell = design.order()[job as usize];
-        let layers = name_layers(
-            alloc,
+        let work = CellWork {
             design,
-            self.rules,
-            &self.read,
-            &self.found,
-            self.zones,
-            cell,
-        )?;
+            rules: self.rules,
+            zones: self.zones,
+            cell: design.order()[job as usize],
+        };
+        let layers = name_layers(alloc, &work, &self.groups)?;
         Ok(CellLayers { layers })
     }
 }
