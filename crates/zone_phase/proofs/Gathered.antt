@@ -49,10 +49,13 @@ pub others_bring : (d : Linked) (p : Place) (key : LayerKey) (w : Rect) (t0 t1 t
     → Brings d (around p 0 0 0 (p.columns - 1) 1 (p.columns - 1)) key w t3 t4
     → SomeBring d (siblings p) key w t0 t4
 others_bring d p key w t0 t1 t2 t3 t4 b1 b2 b3 b4 =
-    one_more d (around p 1 0 0 (p.columns - 1) (p.rows - 1) (2 * p.columns - 1)) _ key w t0 t1 t4 b1
-    (one_more d (around p 0 (p.rows - 1) 0 (p.columns - 1) (p.rows - 1) (2 * p.columns - 1)) _ key w t1 t2 t4 b2
-    (one_more d (around p 0 0 1 0 1 (p.columns - 1)) _ key w t2 t3 t4 b3
-    (one_more d (around p 0 0 0 (p.columns - 1) 1 (p.columns - 1)) [] key w t3 t4 t4 b4 (no_more d key w t4))))
+    let second = around p 0 (p.rows - 1) 0 (p.columns - 1) (p.rows - 1) (2 * p.columns - 1) in
+    let third = around p 0 0 1 0 1 (p.columns - 1) in
+    let fourth = around p 0 0 0 (p.columns - 1) 1 (p.columns - 1) in
+    one_more d (around p 1 0 0 (p.columns - 1) (p.rows - 1) (2 * p.columns - 1)) (second ∷ third ∷ fourth ∷ []) key w t0 t1 t4 b1
+    (one_more d second (third ∷ fourth ∷ []) key w t1 t2 t4 b2
+    (one_more d third (fourth ∷ []) key w t2 t3 t4 b3
+    (one_more d fourth [] key w t3 t4 t4 b4 (no_more d key w t4))))
 
 module _ (d : Linked) (p : Place) (key : LayerKey) (w : Rect) (t0 t1 : List Rect) (none : t0 ≡ []) (brought : SomeBring d (siblings p) key w t0 t1) (q : Square) where
   by : (up down right left rows columns : ℕ) → IsBroughtTo d (around p up down right left rows columns) key (moved_square (motion_at p 0 0) q) → IsBroughtBy d p key q (around p up down right left rows columns)
