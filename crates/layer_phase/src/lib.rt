@@ -15,4 +15,4 @@ mod squares;
 mod work;
 
 pub use laws::{kept_law, layer_law};
-pub use phase::{LayerPhase, free_graph};
+pub use phase::LayerPhase;
