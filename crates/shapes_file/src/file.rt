@@ -32,7 +32,8 @@ pub struct Shapes {
 }
 
 /// A layout's shapes file, or the first cell in the order of the file for which there is none: it
-/// holds a rectangle of an output line itself with a coordinate outside 32 bits.
+/// holds a rectangle of an output line itself with a coordinate outside 32 bits, or its hull, grown
+/// as far as output lines' names reach, leaves the range of hulls.
 #[derive(Drop)]
 pub enum Drawing {
     Whole(Shapes),
@@ -72,7 +73,7 @@ pub fn shapes_of_layers(
     ensures { IfOk result (IsDrawing layout.now (rules_seen rules.now)) }
 {
     writable();
-    match wide_cell(layout, rules, layers) {
+    match wide_cell(alloc, layout, rules, layers)? {
         Some(cell) => Ok(Drawing::Wide(cell)),
         None => Ok(Drawing::Whole(write_file(alloc, layout, rules, layers)?)),
     }
