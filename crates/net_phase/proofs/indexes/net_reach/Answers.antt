@@ -1,8 +1,6 @@
 use Rattle.std.proofs.Common.{◌≡◌, ◌≤◌, ◌∙◌, ℕ, Bool, List, true, false, ap, get_or, subst, sym, arith}
-use Rattle.std.proofs.lemmas.List.Elements.{All-head}
 use Rattle.std.specs.List.{All}
 use Rattle.rule_text.specs.Reaches.{reaches}
-use Rattle.rule_text.specs.Rules.{Rules}
 use Rattle.rule_text.specs.Seen.{rules_seen}
 use Rattle.rule_text.specs.declared.rules.LayerRule.{LayerRule}
 use Rattle.net_phase.proofs.Reaching.{bounds_reach}
