@@ -1,8 +1,8 @@
 -- What a phase of layers is made from.
 use Rattle.std.specs.Prelude.{◌≡◌, ◌<◌, ◌^◌, ℕ, List, [], length}
-use Rattle.job_graph.specs.Graph.{Waits}
 use Rattle.cell_graph.specs.Linked.{Linked, plain}
 use Rattle.deep_tables.specs.Frames.{HasHulls}
+use Rattle.deep_tables.specs.Jobs.{AreFreeJobs}
 use Rattle.deep_tables.specs.Zones.{AreZones}
 use Rattle.rule_text.specs.declared.rules.RuleSet.{RuleSet}
 use Rattle.rule_text.specs.Reaches.{reaches}
@@ -10,11 +10,6 @@ use Rattle.rule_text.specs.Seen.{rules_seen}
 use Rattle.rule_text.specs.Sound.{IsSound}
 use Rattle.rule_layers.specs.Reads.{AreRead}
 use Rattle.layer_phase.specs.declared.phase.LayerPhase.TheInside.{Inside}
-
--- the jobs go through the design's order, and wait for none
-pub record AreFreeJobs (d : Linked) (graph : List (List ℕ)) : Type 0 where
-  pub jobs : length graph ≡ length d.order
-  pub waits : (job input : ℕ) → Waits graph job input → ⊥
 
 -- the layout, the rules and the jobs
 pub record LayerJobs : Type 0 where

@@ -13,4 +13,4 @@ mod parts;
 mod phase;
 
 pub use laws::{kept_law, layer_law};
-pub use phase::{LayerPhase, free_graph};
+pub use phase::LayerPhase;

@@ -4,11 +4,11 @@ ghost use Rattle.cell_graph.specs.Linked.{plain};
 ghost use Rattle.deep_tables.specs.Zones.{AreZones};
 ghost use Rattle.rule_text.specs.Seen.{rules_seen};
 ghost use Rattle.rule_text.specs.Sound.{IsSound};
-ghost use Rattle.layer_phase.specs.Phase.{AreFreeJobs};
+ghost use Rattle.deep_tables.specs.Jobs.{AreFreeJobs};
 
 use crate::layers::name_layers;
 use cell_graph::Design;
-use deep_tables::{CellLayers, DeepKey, Zones};
+use deep_tables::{CellLayers, DeepKey, Zones, free_graph};
 use job_graph::{Graph, Phase, Reads};
 use list_base::small;
 use rule_layers::read_names;
@@ -38,17 +38,6 @@ impl<'a> Model for LayerPhase<'a> {
     ghost view = { jobs_seen };
 
     ghost invariant = { IsLayerPhase };
-}
-
-/// The graph of jobs of the reached cells in which none waits. Linear in the reached cells.
-pub fn free_graph(alloc: Global, design: &Design) -> Result<Graph, AllocError>
-    ensures { IfOk result (AreFreeJobs design.now) }
-{
-    let mut inputs = Vec::new(alloc);
-    for _ in 0..design.order().len() {
-        inputs.push(Vec::new(alloc))?;
-    }
-    Graph::from_inputs(alloc, inputs)
 }
 
 impl<'a> LayerPhase<'a> {
