@@ -1,6 +1,5 @@
 //! Small layouts and the netlists that are extracted from them, as SPICE text.
 
-
 use crate::drawn::Placed::At;
 use crate::drawn::{Drawn, Letter, Shape, stream_of};
 use crate::gates::{ACTIVE, CROSSED, HALF_CROSSED, NMOS, POLY, RING};
