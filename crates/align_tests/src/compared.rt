@@ -3,7 +3,7 @@
 ghost use Rattle.std.specs.Prelude.{◌≤◌};
 
 use crate::conditions::{are_apart, are_callees_first, is_alignable, read};
-use job_board::OpenGate;
+use job_board::{Crew, OpenGate};
 use job_graph::{Reads, Results};
 use match_flow::compare;
 use match_types::Answer;
@@ -212,7 +212,6 @@ fn comes_out<R: Threads + Wait + Sync>(
         return Ok(false);
     }
     let found = compare(
-        rt,
         alloc,
         &layout,
         case.top,
@@ -220,8 +219,7 @@ fn comes_out<R: Threads + Wait + Sync>(
         &same,
         case.limit,
         case.same_pins,
-        workers,
-        &OpenGate,
+        &Crew::new(rt, workers, &OpenGate),
     )?;
     match (found, case.want) {
         (None, None) => Ok(true),

@@ -1,6 +1,6 @@
 use Rattle.std.proofs.Common.{◌≡◌, ℕ, [], length}
 use Rattle.job_graph.specs.Graph.{inputs_of, lists}
-use Rattle.layer_phase.proofs.phase.free_graph.Given as goal
+use Rattle.deep_tables.proofs.jobs.free_graph.Given as goal
 
 abbrev pub invariant-loop : goal.invariant-loop
 invariant-loop l = record {

@@ -1,4 +1,4 @@
-//! Flat squares of a name: found ones, or a cell's own where they stand.
+//! Squares that were found, or that are lent where they stand.
 ghost use Rattle.std.specs.Prelude.{◌≡◌, IfOk};
 ghost use Rattle.geo_base.specs.declared.shapes.Square.{Square};
 ghost use Rattle.rect_sets.specs.Rects.{covers};
@@ -14,37 +14,37 @@ pub enum Holder<'a> {
     Own(RectSet),
 }
 
-/// Flat squares, which may be lent. In contracts it is their list.
+/// Squares, which may be lent. In contracts it is their list.
 #[derive(Drop)]
-pub struct Flat<'a> {
+pub struct Squares<'a> {
     holder: Holder<'a>,
 }
 
-impl<'a> Model for Flat<'a> {
+impl<'a> Model for Squares<'a> {
     ghost use Rattle.std.specs.Prelude.{List};
     ghost use Rattle.geo_base.specs.declared.shapes.Rect.{Rect};
-    ghost use Rattle.layer_phase.specs.Flat.{flat_seen};
+    ghost use Rattle.layer_phase.specs.Squares.{squares_seen};
 
     ghost Value = { List Rect };
 
-    ghost view = { flat_seen };
+    ghost view = { squares_seen };
 }
 
-impl<'a> Flat<'a> {
+impl<'a> Squares<'a> {
     /// A set that stays where it is.
-    pub fn lent(set: &'a RectSet) -> Flat<'a>
+    pub fn lent(set: &'a RectSet) -> Squares<'a>
         ensures { result ≡ set.now }
     {
-        Flat {
+        Squares {
             holder: Holder::Lent(set),
         }
     }
 
     /// A set that was found.
-    pub fn own(set: RectSet) -> Flat<'a>
+    pub fn own(set: RectSet) -> Squares<'a>
         ensures { result ≡ set }
     {
-        Flat {
+        Squares {
             holder: Holder::Own(set),
         }
     }
@@ -63,7 +63,7 @@ impl<'a> Flat<'a> {
     pub fn into_set(self, alloc: Global) -> Result<RectSet, AllocError>
         ensures { IfOk result (λ r. (q : Square) → covers r q ≡ covers self.entry q) }
     {
-        let Flat { holder } = self;
+        let Squares { holder } = self;
         match holder {
             Holder::Lent(set) => copied(alloc, set),
             Holder::Own(set) => Ok(set),
