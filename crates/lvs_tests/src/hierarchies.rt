@@ -31,6 +31,10 @@ e = c ^ d
 e.output(10, 0)
 ";
 
+const GROWN: &str = "a = input(1, 0)\nb = a.sized(2)\nb.output(10, 0)\n";
+
+const SHRUNK: &str = "a = input(1, 0)\nb = a.sized(-2)\nb.output(10, 0)\n";
+
 const EMPTY: &str = "a = input(1, 0)
 n = polygon_layer
 c = a - n
@@ -40,7 +44,7 @@ d.output(11, 0)
 n.output(12, 0)
 ";
 
-static CASES: [Case; 9] = [
+static CASES: [Case; 11] = [
     // Mirrored first, then turned, then stepped: columns along x, rows along y.
     Case {
         name: "mirrored array",
@@ -221,6 +225,44 @@ static CASES: [Case; 9] = [
             ),
         ],
     },
+    // One placement has another within 2 to its right, one to its left: what grows out on either
+    // side stands in the parent.
+    Case {
+        name: "grown",
+        layout: &[
+            Cell("K", &[Rect((1, 0, 0, 10, 10))]),
+            Cell("TOP", &[Placed("K", 0, 0), Placed("K", 12, 0)]),
+        ],
+        rules: GROWN,
+        line: "shapes cells 2 rectangles 4\n",
+        wanted: &[
+            Cell("K", &[Rect((10, 0, -2, 10, 12))]),
+            Cell(
+                "TOP",
+                &[
+                    Placed("K", 0, 0),
+                    Placed("K", 12, 0),
+                    Rect((10, -2, -2, 0, 12)),
+                    Rect((10, 10, -2, 12, 12)),
+                    Rect((10, 22, -2, 24, 12)),
+                ],
+            ),
+        ],
+    },
+    // The seam between the cell's square and its parent's isn't shrunk away.
+    Case {
+        name: "shrunk",
+        layout: &[
+            Cell("K", &[Rect((1, 0, 0, 10, 10))]),
+            Cell("TOP", &[Placed("K", 0, 0), Rect((1, 10, 0, 20, 10))]),
+        ],
+        rules: SHRUNK,
+        line: "shapes cells 2 rectangles 2\n",
+        wanted: &[
+            Cell("K", &[Rect((10, 2, 2, 8, 8))]),
+            Cell("TOP", &[Placed("K", 0, 0), Rect((10, 8, 2, 18, 8))]),
+        ],
+    },
     Case {
         name: "empty layer",
         layout: &[
@@ -396,6 +438,10 @@ const CROSSED: &[Shape] = &[(1, 0, 0, 1, 1), (2, 0, 0, 1, 1)];
 
 const CROSSING: &str = "a = input(1, 0)\nb = input(2, 0)\nc = a & b\nc.output(10, 0)\n";
 
+const NEAR: &str = "a = input(1, 0)\nb = a.sized(1)\nb.output(10, 0)\n";
+
+const UNWRITTEN: &str = "a = input(1, 0)\nb = a.sized(1)\na.output(10, 0)\n";
+
 const UNDRAWN: &str = "a = input(1, 0)\nb = input(2, 0)\nc = a & b\n";
 
 const EXTRACT: [&str; 9] = [
@@ -448,7 +494,7 @@ struct Run(
     u8,
 );
 
-static RUNS: [Run; 11] = [
+static RUNS: [Run; 14] = [
     // A chain of 64 references is read, one of 65 isn't.
     Run(
         Made::Chain(65),
@@ -478,6 +524,29 @@ static RUNS: [Run; 11] = [
         COPY,
         "refused layout 25 cell C32\n",
         2,
+    ),
+    // What is written ends at 2^36, and one unit further; and where the layer that is grown isn't
+    // written.
+    Run(
+        Made::Far(&[(1, 0, 0, 31, 1)], 33, 1),
+        &SHAPES,
+        NEAR,
+        "shapes cells 33 rectangles 1\n",
+        0,
+    ),
+    Run(
+        Made::Far(&[(1, 0, 0, 32, 1)], 33, 1),
+        &SHAPES,
+        NEAR,
+        "refused layout 28 cell C32\n",
+        2,
+    ),
+    Run(
+        Made::Far(&[(1, 0, 0, 32, 1)], 33, 1),
+        &SHAPES,
+        UNWRITTEN,
+        "shapes cells 33 rectangles 1\n",
+        0,
     ),
     // The crossing is held by a cell in which it lies outside 32 bits; by one in which it doesn't;
     // and where no output line asks for it.
