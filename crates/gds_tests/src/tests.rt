@@ -1,5 +1,7 @@
 //! What no clause says: streams and their libraries or faults.
 
+ghost use Rattle.std.specs.Prelude.{◌≤◌, length};
+
 use crate::streams::{
     BOUNDARY, CELL, END, FAULTS, FULL, HEAD, KLAYOUT, PATH, PLAIN, STORED, bytes,
 };
@@ -134,10 +136,13 @@ fn whole(alloc: Global, stream: &[u8]) -> Result<String, GdsFault> {
 }
 
 // The library of a stream in two pieces.
-fn cut(alloc: Global, stream: &[u8], at: usize) -> Result<String, GdsFault> {
+fn cut(alloc: Global, stream: &[u8], at: usize) -> Result<String, GdsFault>
+    requires { at ≤ length stream.now }
+{
+    let (piece, behind) = stream.split_at(at);
     let mut reader = LibraryReader::new(alloc);
-    reader.feed(alloc, stream.get(..at).unwrap_or(&[]))?;
-    reader.feed(alloc, stream.get(at..).unwrap_or(&[]))?;
+    reader.feed(alloc, piece)?;
+    reader.feed(alloc, behind)?;
     Ok(written(alloc, &reader.finish()?)?)
 }
 
