@@ -29,7 +29,7 @@ const INVERTER: &str = "Match(Pairing { nets: [3, 2, 0, 1], devices: [1, 0], cal
 const WIDER: &str = "Differs(Round { round: 0, node: Node { side: Layout, kind: Device, number: 1 }\
     , left: 1, right: 0 })";
 
-const CASES: [Case; 11] = [
+static CASES: [Case; 11] = [
     // Two circuits of the schematic that no call names, and no name is the top's.
     Case {
         layout: ".subckt chip s\nm1 s s s s n l=1u w=1u\n.ends\n",
