@@ -4,3 +4,4 @@ pub mod Placing
 pub mod Marking
 pub mod Reading
 pub mod Fars
+pub mod Bounding

@@ -12,13 +12,14 @@ use Rattle.deep_tables.specs.declared.gates.Gate.{Gate}
 use Rattle.flat_layout.specs.Circuits.{AreCircuitNets}
 use Rattle.flat_layout.specs.Layout.{Design, Place, IsPlaced, IsReached}
 use Rattle.flat_layout.specs.Nets.{Tables}
+use Rattle.net_phase.specs.Below.{AreHeldOwn}
 use Rattle.net_phase.specs.Elements.{AreAllElements, element_lists}
-use Rattle.net_phase.specs.Indexes.{AreIndexes}
 use Rattle.net_phase.specs.Own.{AreOwnLists, own_at, rect_lists}
 use Rattle.net_phase.specs.Reading.{nets_of}
 use Rattle.plain_netlist.specs.Lists.{AreRising, IsListed}
 use Rattle.plain_netlist.specs.Netlist.{Circuit}
 use Rattle.rule_layers.specs.Meaning.{wiring_of}
+use Rattle.rule_text.specs.Reaches.{MOST_REACH}
 use Rattle.rule_text.specs.Seen.{rules_seen}
 use Rattle.view_laws.specs.Shown.{Called}
 use Rattle.geo_base.specs.declared.motion.Motion.{Motion}
@@ -48,13 +49,13 @@ listed_tables l = record {
   nets = λ cell. nets_in (get_or (nets_of l.nets.items) cell None);
 }
 
--- the lists say of each reached cell what the tables say
+-- the lists say of each reached cell what the tables say, and own rectangles reach no further out
+-- of a cell's hull than names may
 pub record AreListsOf (s : Source) (l : Lists) : Type 0 where
   pub conductors : l.conductors ≡ length (wiring_of (rules_seen s.rules.now)).conductors
   pub elements : AreAllElements s.design.now (element_lists l.elements.items)
   pub own : AreOwnLists s.design.now (rules_seen s.rules.now) (rect_lists l.own.items)
-  pub indexes : AreIndexes s.design.now (rules_seen s.rules.now) (rect_lists l.own.items)
-      (element_lists l.elements.items) l.indexes
+  pub held : AreHeldOwn MOST_REACH s.design.now (rect_lists l.own.items)
   pub nets : (cell : ℕ) → IsReached (plain s.design.now) cell
       → get_or (nets_of l.nets.items) cell None ≡ entry s.nets.now cell
   pub called : (cell b : ℕ) → IsReached (plain s.design.now) cell

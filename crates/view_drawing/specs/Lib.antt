@@ -3,3 +3,4 @@ pub mod Devices
 pub mod Calls
 pub mod Drawn
 pub mod Far
+pub mod Placed

@@ -1,7 +1,7 @@
 //! The motions of calls.
 
-ghost use Rattle.std.specs.Prelude.{◌≡◌, ◌↔◌, ◌++◌, ◌∷◌, [], ℕ, IfOk, IsErrOf, IsSome, IsTrue};
-ghost use Rattle.std.specs.Prelude.{OnOk, Some, slice_get};
+ghost use Rattle.std.specs.Prelude.{◌≡◌, ◌≤◌, ◌↔◌, ◌++◌, ◌∷◌, [], ℕ, IfOk, IsErrOf, IsSome, IsTrue};
+ghost use Rattle.std.specs.Prelude.{OnOk, Some, length, slice_get};
 ghost use Rattle.deep_tables.specs.Entries.{entry};
 ghost use Rattle.net_walk.specs.declared.cells.Element.{Element};
 ghost use Rattle.std.specs.List.{All};
@@ -66,6 +66,29 @@ fn add_call(circuits: &Circuits, element: &Element, out: &mut Vec<Motion>) -> Re
     Ok(())
 }
 
+// One where a placement's cell has a circuit.
+fn count_call(circuits: &Circuits, element: &Element) -> usize
+    requires { IsSome (entry circuits.now element.now.cell) }
+    ensures calls { result ≡ length (called_motions circuits.now (element.now ∷ [])) }
+    ensures most { result ≤ 1 }
+{
+    let is_call = has_circuit(circuits, element.cell);
+    if is_call { 1 } else { 0 }
+}
+
+// How many placements of a cell have circuits.
+fn count_calls(circuits: &Circuits, elements: &[Element]) -> usize
+    requires { (k : ℕ) (e : Element) → slice_get elements.now k ≡ Some e
+        → IsSome (entry circuits.now e.cell) }
+    ensures { result ≡ length (called_motions circuits.now elements.now) }
+{
+    let mut count = 0usize;
+    'elements: for k in 0..elements.len() {
+        count += count_call(circuits, &elements[k]);
+    }
+    count
+}
+
 /// The motions of those placements of a cell whose cells have circuits, in order. `TooFar` where
 /// one is 2^30 or more from the origin. Linear in the placements.
 pub fn call_motions(
@@ -79,7 +102,7 @@ pub fn call_motions(
     ensures small { IfOk result (λ v. All IsSmallShift v.items) }
     ensures far { IsErrOf result ShowFault.TooFar → HasFarCall circuits.now elements.now }
 {
-    let mut out = Vec::new(alloc);
+    let mut out = Vec::with_capacity(alloc, count_calls(circuits, elements))?;
     'elements: for k in 0..elements.len() {
         add_call(circuits, &elements[k], &mut out)?;
     }

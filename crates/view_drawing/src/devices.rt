@@ -47,7 +47,8 @@ fn place_device(
     Ok(DevicePlace { region, at })
 }
 
-fn keep(out: &mut Vec<DevicePlace>, place: DevicePlace) -> Result<(), AllocError>
+/// Adds a place.
+pub fn keep_place(out: &mut Vec<DevicePlace>, place: DevicePlace) -> Result<(), AllocError>
     requires { IsSmallPoint place.at }
     ensures kept { OnOk result (out.new.items ≡ out.old.items ++ place ∷ []) }
     ensures small { OnOk result (AreSmallPlaces out.old.items → AreSmallPlaces out.new.items) }
@@ -83,7 +84,7 @@ pub fn place_devices(
                 return Ok(out);
             };
             let place = place_device(alloc, gate, row.class.bytes(), found)?;
-            keep(&mut out, place)?;
+            keep_place(&mut out, place)?;
             rest = later;
         }
     }

@@ -6,12 +6,13 @@ mod called;
 mod calls;
 mod devices;
 mod numbers;
+mod placed;
 mod regions;
 mod small;
 mod source;
 
 pub use calls::is_small_shift;
-pub use devices::place_devices;
+pub use devices::{keep_place, place_devices};
 pub use numbers::{name_table, net_numbers};
 pub use regions::{DeviceRegions, Region, add_region, area_from};
 pub use source::{Lists, Source, draw_cell, find_lists};

@@ -34,7 +34,7 @@ pub fn name_table(alloc: Global, names: &[Name]) -> Result<TextTable, AllocError
 fn places_of(alloc: Global, table: &TextTable, names: &[Name]) -> Result<Vec<u32>, AllocError>
     ensures { IfOk result (λ v. v.items ≡ map (place_of table.now) names.now) }
 {
-    let mut places = Vec::new(alloc);
+    let mut places = Vec::with_capacity(alloc, names.len())?;
     let mut rest = names;
     'names: while let [name, more @ ..] = rest {
         places.push(number(table.place(name.bytes()))?)?;
@@ -58,7 +58,7 @@ fn next_if(left: &[u32], wanted: bool) -> (Option<u32>, &[u32])
 fn spread(alloc: Global, marks: &[bool], numbers: &[u32]) -> Result<Vec<Option<u32>>, AllocError>
     ensures { IfOk result (λ v. v.items ≡ spread marks.now numbers.now) }
 {
-    let mut out = Vec::new(alloc);
+    let mut out = Vec::with_capacity(alloc, marks.len())?;
     let mut left = numbers;
     let mut rest = marks;
     'marks: while let [is, more @ ..] = rest {
@@ -93,6 +93,8 @@ pub fn net_numbers(
     let table = name_table(alloc, names)?;
     let own = drawn_names(alloc, pins, drawn)?;
     let places = places_of(alloc, &table, &own)?;
+    drop(own);
+    drop(table);
     let numbers = spread(alloc, drawn, &places)?;
     Ok(numbers)
 }

@@ -24,6 +24,7 @@ use crate::called::called_marks;
 use crate::calls::call_motions;
 use crate::devices::place_devices;
 use crate::numbers::net_numbers;
+use crate::placed::{Placed, elements_at};
 use crate::regions::DeviceRegions;
 use crate::small::small_hull;
 use cell_graph::Design;
@@ -31,7 +32,7 @@ use deep_tables::{CellNets, Circuits, Gates, Layers, Nets, Pins};
 use geo_base::Rect;
 use list_base::number;
 use net_model::Circuit;
-use net_phase::{Below, Indexes, all_elements, find_indexes, find_wires, known_nets, own_lists};
+use net_phase::{all_elements, find_wires, known_nets, own_lists};
 use net_walk::Element;
 use rule_text::RuleSet;
 use std::alloc::{AllocError, Global};
@@ -57,12 +58,11 @@ pub struct Lists<'a> {
     pub conductors: u32,
     pub own: Vec<Vec<&'a [Rect]>>,
     pub elements: Vec<Vec<Element>>,
-    pub indexes: Indexes,
     pub nets: Vec<Option<&'a CellNets>>,
     pub called: Vec<Vec<bool>>,
 }
 
-/// The lists of a layout: O(n log n) in its rectangles and placements, of which nothing is copied.
+/// The lists of a layout: linear in its rectangles and placements, of which no rectangle is copied.
 /// An `Err` is want of memory, or 2^32 of a kind.
 pub fn find_lists<'a>(alloc: Global, source: Source<'a>) -> Result<Lists<'a>, AllocError>
     requires rules { IsSound (rules_seen source.rules.now) }
@@ -75,31 +75,20 @@ pub fn find_lists<'a>(alloc: Global, source: Source<'a>) -> Result<Lists<'a>, Al
     ensures right { IfOk result (λ l. AreRightNets (plain source.entry.design.now)
         (wiring_of (rules_seen source.entry.rules.now)) (listed_tables l)) }
 {
+    source.design.sound();
     number(source.rules.names.len())?;
     let wires = find_wires(alloc, source.rules)?;
     let own = own_lists(alloc, source.design, source.rules, source.layers)?;
     let elements = all_elements(alloc, source.design)?;
-    let indexes = find_indexes(alloc, source.design, source.rules, &own, &elements)?;
     let nets = known_nets(alloc, source.design, source.nets)?;
     let called = called_marks(alloc, source.design, source.pins, source.circuits)?;
     Ok(Lists {
         conductors: wires.conductors,
         own,
         elements,
-        indexes,
         nets,
         called,
     })
-}
-
-// The placements of a cell; none past the last.
-fn elements_at(elements: &[Vec<Element>], cell: u32) -> &[Element]
-    ensures { result.now ≡ get_or (element_lists elements.now) cell [] }
-{
-    match elements.get(cell as usize) {
-        None => &[],
-        Some(found) => found.as_slice(),
-    }
 }
 
 // The rectangles of the nets of a cell's circuit.
@@ -110,7 +99,6 @@ fn draw_nets(
     cell: u32,
     circuit: &Circuit,
 ) -> Result<Vec<Vec<Shape>>, ShowFault>
-    requires rules { IsSound (rules_seen source.rules.now) }
     requires right { AreRightNets (plain source.design.now)
         (wiring_of (rules_seen source.rules.now)) (listed_tables lists.now) }
     requires entries { AreAllThere source }
@@ -125,13 +113,12 @@ fn draw_nets(
         (drawn_in source.entry.circuits.now cell) }
 {
     source.design.sound();
-    let cells = Below::new(
+    let cells = Placed::new(
         source.design,
         source.rules,
         lists.conductors,
         &lists.own,
         &lists.elements,
-        &lists.indexes,
         &lists.nets,
     );
     let drawn = source.circuits.drawn(cell);
@@ -163,7 +150,6 @@ pub fn draw_cell(
     circuit: &Circuit,
     regions: &mut DeviceRegions,
 ) -> Result<Drawing, ShowFault>
-    requires rules { IsSound (rules_seen source.rules.now) }
     requires right { AreRightNets (plain source.design.now)
         (wiring_of (rules_seen source.rules.now)) (listed_tables lists.now) }
     requires entries { AreAllThere source }

@@ -1,6 +1,6 @@
 //! The places of the devices of aligned circuits.
 
-ghost use Rattle.std.specs.Prelude.{◌≡◌, ◌<◌, ◌∷◌, ◌++◌, [], IfOk, IsErrOf, OnOk, length, map};
+ghost use Rattle.std.specs.Prelude.{◌≡◌, ◌<◌, IfOk, IsErrOf, OnOk, length, map};
 ghost use Rattle.std.specs.List.{All};
 ghost use Rattle.flat_layout.specs.Layout.{Some_of};
 ghost use Rattle.part_origins.specs.Inside.{plain_spot};
@@ -17,7 +17,7 @@ use crate::spots::{circuit_at, motion_at};
 use geo_base::{Motion, Point, Rect, Square};
 use part_origins::{Part, Spot};
 use std::alloc::{AllocError, Global};
-use view_drawing::{DeviceRegions, Region, add_region, area_from};
+use view_drawing::{DeviceRegions, Region, add_region, area_from, keep_place};
 use view_netlist::{DevicePlace, Drawing};
 use view_shapes::ShowFault;
 
@@ -120,15 +120,6 @@ fn device_of(drawings: &[Drawing], circuit: u32, device: u32) -> Option<DevicePl
         },
         None => None,
     }
-}
-
-fn keep_place(out: &mut Vec<DevicePlace>, place: DevicePlace) -> Result<(), AllocError>
-    requires { IsSmallPoint place.at }
-    ensures kept { OnOk result (out.new.items ≡ out.old.items ++ place ∷ []) }
-    ensures small { OnOk result (AreSmallPlaces out.old.items → AreSmallPlaces out.new.items) }
-{
-    out.push(place)?;
-    Ok(())
 }
 
 /// The places of these devices at spots, in order, up to the first that isn't drawn in its circuit;

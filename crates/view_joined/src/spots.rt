@@ -153,7 +153,7 @@ pub fn joined_calls(
     ensures far { IsErrOf result ShowFault.TooFar → Some_of (IsFarCallAt (map plain_spot spots.now)
         drawings.now motions.now) calls.now }
 {
-    let mut out = Vec::new(alloc);
+    let mut out = Vec::with_capacity(alloc, calls.len())?;
     let mut rest = calls;
     'calls: while let [call, more @ ..] = rest {
         let motion = call_at(spots, drawings, motions, *call)?;

@@ -40,7 +40,7 @@ fn number_at(numbers: &[Option<u32>], net: u32) -> Option<u32>
 fn no_shapes(alloc: Global, count: usize) -> Result<Vec<Vec<Shape>>, AllocError>
     ensures { IfOk result (λ v. HasNone count v.items) }
 {
-    let mut lists = Vec::new(alloc);
+    let mut lists = Vec::with_capacity(alloc, count)?;
     'counts: for _ in 0..count {
         lists.push(Vec::new(alloc))?;
     }

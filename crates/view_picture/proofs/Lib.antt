@@ -1,3 +1,4 @@
 pub mod Picturing
+pub mod Parting
 pub mod Joining
 pub mod Listed

@@ -15,7 +15,7 @@ use Rattle.view_netlist.specs.declared.drawing.Drawing.{Drawing}
 use Rattle.view_file.specs.declared.regions.Region.{Region}
 use Rattle.view_words.specs.Numbers.{IsSmallRect}
 use Rattle.std.specs.List.{All}
-use Rattle.view_picture.specs.Picture.{shown_area, shown_areas, AreAllDrawn, plain_drawings, IsDrawnAs, IsDrawnIn, IsDrawnOf, Other, Whole, Without}
+use Rattle.view_picture.specs.Picture.{shown_area, shown_areas, AreAllDrawn, plain_drawings, IsDrawnAs, IsDrawnIn, IsDrawnOf, Cell, Other}
 
 still_cell : (s : Source) (t : Tables) (called : Called) (cell : ℕ) (c : Circuit) (a b : List Area) (v : Drawn) → AddsRegions a b → IsCellDrawn s t called cell c a v → IsCellDrawn s t called cell c b v
 still_cell s t called cell c a b v h l = record {
@@ -28,8 +28,7 @@ still_cell s t called cell c a b v h l = record {
 
 still_as : (s : Source) (t : Tables) (called : Called) (shown : List ℕ) (cell : ℕ) (left c : Circuit) (a b : List Area) (v : Drawn) → AddsRegions a b → IsDrawnAs s t called shown cell left c a v → IsDrawnAs s t called shown cell left c b v
 still_as s t called shown cell left c a b v h (Other o e) = Other o e
-still_as s t called shown cell left c a b v h (Whole r d w) = Whole r d (still_cell s t called cell c a b v h w)
-still_as s t called shown cell left c a b v h (Without r d w is e) = Without r d w (still_cell s t called cell c a b w h is) e
+still_as s t called shown cell left c a b v h (Cell r w is places e) = Cell r w (still_cell s t called cell c a b w h is) places e
 
 still_of : (s : Source) (t : Tables) (called : Called) (shown : List ℕ) (cell : ℕ) (found : Option Circuit) (left : Circuit) (a b : List Area) (v : Drawn) → AddsRegions a b → IsDrawnOf s t called shown cell found left a v → IsDrawnOf s t called shown cell found left b v
 still_of s t called shown cell None left a b v h e = e

@@ -10,7 +10,6 @@ use Rattle.part_origins.specs.Made.{AllOrigins, PlainOrigins}
 use Rattle.plain_netlist.specs.Netlist.{Circuit}
 use Rattle.rule_layers.specs.Meaning.{wiring_of}
 use Rattle.rule_text.specs.Seen.{rules_seen}
-use Rattle.rule_text.specs.Sound.{IsSound}
 use Rattle.rule_text.specs.declared.rules.LayerRule.{LayerRule}
 use Rattle.spice_text.specs.Needs.{first_seen}
 use Rattle.view_drawing.specs.Devices.{Area, areas_of}
@@ -21,27 +20,28 @@ use Rattle.view_file.specs.declared.regions.Region.{Region}
 use Rattle.view_joined.specs.Joined.{IsJoinedDrawing}
 use Rattle.view_laws.specs.Shown.{Called}
 use Rattle.view_netlist.specs.Drawing.{Drawn, blank, plain_drawing}
+use Rattle.view_netlist.specs.declared.drawing.DevicePlace.{DevicePlace}
 use Rattle.view_netlist.specs.declared.drawing.Drawing.{Drawing}
 use Rattle.view_labels.specs.Labels.{labels_of, layer_names, numbers_of, shown_cell}
 use Rattle.view_labels.specs.Same.{AreSameRows}
+use Rattle.view_picture.specs.Parts.{AreDevicePlaces}
 use Rattle.view_picture.specs.declared.drawings.Given.{Given}
 use Rattle.view_picture.specs.declared.drawings.Sketch.{Sketch}
 
--- the devices' places, where the devices are those of the cell's circuit; else none
-abbrev pub devices_kept : Drawn → Drawn
-devices_kept v = record { hull = v.hull; nets = v.nets; devices = []; calls = v.calls }
+-- the same with its devices at other places
+abbrev pub with_devices : List DevicePlace → Drawn → Drawn
+with_devices places v =
+    record { hull = v.hull; nets = v.nets; devices = places; calls = v.calls }
 
 -- what is drawn of a circuit whose cell has this one: nothing, unless it has its rows; then all of
--- the cell, without places of devices where these aren't the same
+-- the cell, with the places of the circuit's own devices
 pub data IsDrawnAs (s : Source) (t : Tables) (called : Called) (shown : List ℕ) (cell : ℕ)
     (left c : Circuit) (areas : List Area) (v : Drawn) : Type 0 where
   Other : (AreSameRows shown left c → ⊥) → v ≡ blank
       → IsDrawnAs s t called shown cell left c areas v
-  Whole : AreSameRows shown left c → left.devices ≡ c.devices
-      → IsCellDrawn s t called cell c areas v → IsDrawnAs s t called shown cell left c areas v
-  Without : AreSameRows shown left c → (left.devices ≡ c.devices → ⊥) → (w : Drawn)
-      → IsCellDrawn s t called cell c areas w → v ≡ devices_kept w
-      → IsDrawnAs s t called shown cell left c areas v
+  Cell : AreSameRows shown left c → (w : Drawn) → IsCellDrawn s t called cell c areas w
+      → AreDevicePlaces left.devices c.devices w.devices v.devices
+      → v ≡ with_devices v.devices w → IsDrawnAs s t called shown cell left c areas v
 
 -- the same of a cell that may have no circuit
 abbrev pub IsDrawnOf : Source → Tables → Called → List ℕ → ℕ → Option Circuit → Circuit
@@ -127,7 +127,6 @@ IsReachedIn g cell = IsReached (plain g.source.design.now) cell
 
 -- the lists are those of right tables, and the cells are reached
 pub record IsDrawable (g : Given) : Type 0 where
-  pub rules : IsSound (rules_seen g.source.rules.now)
   pub right : AreRightNets (plain g.source.design.now)
       (wiring_of (rules_seen g.source.rules.now)) (listed_tables g.lists.now)
   pub entries : AreAllThere g.source

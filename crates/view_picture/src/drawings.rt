@@ -14,12 +14,13 @@ ghost use Rattle.view_picture.specs.Far.{HasFarCell};
 ghost use Rattle.view_picture.specs.Picture.{AreAllDrawn, AreDrawn, IsDrawable};
 ghost use Rattle.view_picture.specs.Picture.{IsDrawnAs, IsDrawnIn, IsReachedIn, plain_drawings};
 
+use crate::parts::device_places;
 use net_model::Circuit;
 use net_names::Name;
 use std::alloc::{AllocError, Global};
 use text_table::TextTable;
 use view_drawing::{DeviceRegions, Lists, Source, draw_cell, name_table};
-use view_labels::{same_devices, same_rows, shown_cell, shown_numbers};
+use view_labels::{same_rows, shown_cell, shown_numbers};
 use view_netlist::Drawing;
 use view_shapes::ShowFault;
 
@@ -33,8 +34,8 @@ pub struct Given<'a, 'b> {
     pub names: &'b [Name],
 }
 
-// What is drawn of a circuit whose cell has this one: nothing, unless it has its rows; the devices'
-// places only where the devices are the same.
+// What is drawn of a circuit whose cell has this one: nothing, unless it has its rows; devices
+// where the cell's stand that they are, or are made of.
 fn draw_found(
     alloc: Global,
     given: Given,
@@ -62,14 +63,18 @@ fn draw_found(
         return Ok(Drawing::blank(alloc));
     }
     let drawing = draw_cell(alloc, given.source, given.lists, cell, found, regions)?;
-    if same_devices(&left.devices, &found.devices) {
-        return Ok(drawing);
-    }
+    let Drawing {
+        hull,
+        nets,
+        devices: places,
+        calls,
+    } = drawing;
+    let devices = device_places(alloc, &left.devices, &found.devices, places)?;
     Ok(Drawing {
-        hull: drawing.hull,
-        nets: drawing.nets,
-        devices: Vec::new(alloc),
-        calls: drawing.calls,
+        hull,
+        nets,
+        devices,
+        calls,
     })
 }
 

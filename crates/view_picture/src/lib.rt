@@ -3,6 +3,7 @@
 
 mod drawings;
 mod joined;
+mod parts;
 mod pictures;
 
 pub use drawings::{Given, Sketch, draw_written};

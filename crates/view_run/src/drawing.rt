@@ -59,7 +59,6 @@ fn draw_lists<'a, 'b>(
     names: &'b [Name],
     written: &[Circuit],
 ) -> Result<Sketch, ShowFault>
-    requires rules { IsSound (rules_seen source.rules.now) }
     requires right { AreRightNets (plain source.design.now)
         (wiring_of (rules_seen source.rules.now)) (listed_tables lists.now) }
     requires entries { AreAllThere source }

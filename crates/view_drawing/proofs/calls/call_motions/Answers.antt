@@ -11,7 +11,7 @@ use Rattle.view_drawing.proofs.calls.call_motions.Goals as goal
 
 pub returns-in_err-add_call-clause-far : goal.returns-in_err-add_call-clause-far
 returns-in_err-add_call-clause-far c =
-    let e = err_from_is_err_and c.from_residual.result c.from_residual.ensures.1 in
+    let e = err_from_is_err_and c.from_residual-in_err-add_call.result c.from_residual-in_err-add_call.ensures.1 in
     let es = c.args.elements.now in
     let k = c.elements.k in
     rw (e.1, e.2) (λ s. (k, get_or es k no_element, slice_get-get_or es k no_element c.elements-test.true, c.in_err-add_call.ensures.far (err_as _ _ s)))

@@ -36,8 +36,8 @@ gates-preserved-then-is_good c =
     record {
       added = added_twice _ now new c.gates.invariant.added c.in_ok-place.ensures.added;
       small = λ h. c.in_ok-place.ensures.small (c.gates.invariant.small h);
-      goes = subst (λ (l : List DevicePlace). Goes new more (map plain_device later) l gates rows) (sym c.in_ok-keep.ensures.kept) next;
-      small_places = c.in_ok-keep.ensures.small c.gates.invariant.small_places;
+      goes = subst (λ (l : List DevicePlace). Goes new more (map plain_device later) l gates rows) (sym c.in_ok-keep_place.ensures.kept) next;
+      small_places = c.in_ok-keep_place.ensures.small c.gates.invariant.small_places;
       far = λ h. c.gates.invariant.far (subst (λ (l : List Gate). HasFarGate l) (sym (front_is left gate c.in-len1-up.len_at_least c.gate-item.is)) (inr h));
     }
 

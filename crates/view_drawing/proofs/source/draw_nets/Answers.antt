@@ -8,10 +8,11 @@ use Rattle.deep_tables.specs.declared.nets.CellNets.{CellNets}
 use Rattle.geo_base.specs.declared.shapes.Rect.{Rect}
 use Rattle.net_link_laws.specs.Laws.{AreNetsUnder}
 use Rattle.net_model.specs.Rows.{plain_circuit}
-use Rattle.net_phase.proofs.Righting.{held_own, same_below, seen_by}
+use Rattle.net_phase.proofs.Righting.{same_below, seen_by}
 use Rattle.net_phase.specs.Below.{AreHeldOwn, BelowSeen, tables_seen, wiring_seen}
 use Rattle.net_phase.specs.Own.{rect_lists}
 use Rattle.net_phase.specs.Reading.{nets_of}
+use Rattle.rule_text.specs.Reaches.{MOST_REACH}
 use Rattle.rule_text.specs.Seen.{rules_seen}
 use Rattle.view_nets.specs.Nets.{list_at}
 use Rattle.view_nets.specs.Shown.{AreNetsDrawn, TellsNets}
@@ -24,10 +25,7 @@ use Rattle.view_drawing.proofs.source.draw_nets.Goals as goal
 
 pub new-cells-requires-clause-own : goal.new-cells-requires-clause-own
 new-cells-requires-clause-own c =
-    let d = c.args.source.design.now in
-    let n = c.args.lists.now.indexes.reach in
-    subst (λ (l : List (Vec (Bor (List Rect)))). AreHeldOwn n d (rect_lists l)) (sym c.deref.ensures.value)
-    (held_own n d (rules_seen c.args.source.rules.now) (rect_lists c.args.lists.now.own.items) c.sound.ensures c.requires.lists.indexes.reach c.requires.lists.own)
+    subst (λ (l : List (Vec (Bor (List Rect)))). AreHeldOwn MOST_REACH c.args.source.design.now (rect_lists l)) (sym c.deref.ensures.value) c.requires.lists.held
 
 pub circuit_shapes-requires : goal.circuit_shapes-requires
 circuit_shapes-requires c =

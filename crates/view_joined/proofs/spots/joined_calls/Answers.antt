@@ -38,11 +38,11 @@ returns-clause-motions c =
 pub calls-init : goal.calls-init
 calls-init c =
     let spots = map plain_spot c.args.spots.now in
-    subst (λ (z : List Motion). HasCalls spots c.args.drawings.now c.args.motions.now c.args.calls.now z c.args.calls.now) (sym c.new-out.ensures.items) (calls_begin spots c.args.drawings.now c.args.motions.now c.args.calls.now)
+    subst (λ (z : List Motion). HasCalls spots c.args.drawings.now c.args.motions.now c.args.calls.now z c.args.calls.now) (sym c.in_ok-out.ensures.items) (calls_begin spots c.args.drawings.now c.args.motions.now c.args.calls.now)
 
 pub returns-in_err-motion-clause-far : goal.returns-in_err-motion-clause-far
 returns-in_err-motion-clause-far c =
-    let x = err_from_is_err_and c.from_residual.result c.from_residual.ensures.1 in
+    let x = err_from_is_err_and c.from_residual-in_err-motion.result c.from_residual-in_err-motion.ensures.1 in
     let rest = c.calls.rest.now in
     let zero : Part = record { spot = 0; number = 0 } in
     let call : Part = get_or rest 0 zero in

@@ -6,7 +6,7 @@ use Rattle.view_nets.proofs.Listing.{none_more, none_yet}
 use Rattle.view_nets.proofs.nets.no_shapes.Goals as goal
 
 pub counts-init : goal.counts-init
-counts-init c = none_yet c.new-lists.result.items c.new-lists.ensures.items
+counts-init c = none_yet c.in_ok-lists.lists.items c.in_ok-lists.ensures.items
 
 pub counts-preserved : goal.counts-preserved
 counts-preserved c =
