@@ -11,5 +11,6 @@ mod merged;
 mod parts;
 
 pub use fault::MergeFault;
+pub use groups::merge_devices;
 pub use merged::merge;
 pub use parts::{is_exchanged, merged_parts};
