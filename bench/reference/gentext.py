@@ -2,7 +2,6 @@
 
 from names import escape, folded
 from netlist import DIODE, RESISTOR, terminals
-import features
 
 NOISE = [b"deep", b"netlist", b"align", b"compare", b"schematic('x.cir')", b"# a comment", b"",
          b"  \t", b"netlist # 'x"]
@@ -34,7 +33,7 @@ class RuleMaker:
         rng = self.rng
         for k in range(count):
             name = b"d%d" % k
-            if features.SIZED and rng.random() < 0.3:
+            if rng.random() < 0.3:
                 size = rng.choice([1, 2, 3, -1, -2])
                 self.lines.append(b"%s = %s.sized(%d)" % (name, rng.choice(self.names), size))
             else:

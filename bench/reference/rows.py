@@ -7,7 +7,6 @@ import traceback
 
 import chip
 import cli
-import features
 import gds
 import layout
 import match
@@ -270,6 +269,11 @@ def wide_layouts():
                                for k in range(1, 33)])
     equal(go(SHAPES, l=chain(32), r=one)[0], b"shapes cells 33 rectangles 1")
     refused_layout(chain(33), b"25 cell C32", one)
+    grown = b"a = input(1, 0)\nb = a.sized(1)\nb.output(10, 0)\n"
+    equal(go(SHAPES, l=chain(31), r=grown)[0], b"shapes cells 33 rectangles 1")
+    refused_layout(chain(32), b"28 cell C32", grown)
+    unwritten = grown.replace(b"b.output", b"a.output")
+    equal(go(SHAPES, l=chain(32), r=unwritten)[0], b"shapes cells 33 rectangles 1")
     cells = [(b"C0", [rect(1, 0, 0, 1, 1), rect(2, 0, 0, 1, 1)]),
              (b"C1", [sref(b"C0", (far, 0))]),
              (b"C2", [sref(b"C1", (far, 0)), sref(b"C1", (far, 0))])]
@@ -292,6 +296,8 @@ def refused_rules():
         (first + b"d = a & zz\n", b"32 line 2"), (first + first, b"33 line 2"),
         (first + b"t = labels(5, 1)\nx = a & t\n", b"34 line 3"),
         (PLAIN_MOS.replace(b"connect(poly, txt)\n", b""), b"34 line 7"),
+        (first + b"x = a.sized(0)\n", b"31 line 2"),
+        (first + b"x = a.sized(10000)\ny = x.sized(- 1)\n", b"31 line 3"),
         (b"\0", b"36 offset 0"), (b"foo\r", b"30 line 1"), (first[:-1] + b"\r", b"31 line 1"),
         (b"foo => b\n", b"30 line 1"), (b"foo$bar\n", b"30 line 1"),
         (b"input = input(1, 0)\n", b"31 line 1"), (b"deep.output(1, 0)\n", b"32 line 1"),
@@ -302,11 +308,6 @@ def refused_rules():
         (first + b"a = labels(1, 0)\nq = zz & a\n", b"33 line 2"),
         (PLAIN_MOS.replace(b'"tG" => poly', b'"tG" => poly, "tS" => gate'), b"31 line 7"),
     ]
-    if not features.SIZED:
-        cases.append((first + b"x = a.sized(5)\n", b"31 line 2"))
-    else:
-        cases.append((first + b"x = a.sized(0)\n", b"31 line 2"))
-        cases.append((first + b"x = a.sized(10000)\ny = x.sized(- 1)\n", b"31 line 3"))
     for rules, wanted in cases:
         refused(rules, wanted)
     equal(go(SHAPES, l=FIRST_STREAM, r=b"")[0], b"shapes cells 1 rectangles 0")
@@ -718,8 +719,6 @@ connect(n, txt)
 
 @check
 def sized_layers():
-    if not features.SIZED:
-        return
     rules = b"a = input(1, 0)\ns = a.sized(%s)\ns.output(10, 0)\n"
     cells = [(b"K", [rect(1, 0, 0, 10, 10)]),
              (b"TOP", [sref(b"K", (0, 0)), sref(b"K", (12, 0))])]

@@ -2,7 +2,6 @@
 
 import re
 
-import features
 from names import folded
 
 NAME_LIMIT = 256
@@ -220,7 +219,7 @@ class _Reader:
             return (first.decode(), tokens.key())
         if first == b"polygon_layer" and mark == (None, None):
             return ("empty",)
-        if features.SIZED and mark == ("mark", b"."):
+        if mark == ("mark", b"."):
             return ("sized", first, _Reader._size(tokens))
         operator = tokens.take()
         if operator[0] != "mark" or operator[1] not in OPERATORS:

@@ -3,7 +3,7 @@
 ghost use Rattle.std.specs.Prelude.{◌≤◌};
 
 use crate::conditions::{are_apart, are_callees_first, is_alignable, read};
-use job_board::OpenGate;
+use job_board::{Crew, OpenGate};
 use job_graph::{Reads, Results};
 use match_flow::compare;
 use match_types::Answer;
@@ -29,7 +29,7 @@ const INVERTER: &str = "Match(Pairing { nets: [3, 2, 0, 1], devices: [1, 0], cal
 const WIDER: &str = "Differs(Round { round: 0, node: Node { side: Layout, kind: Device, number: 1 }\
     , left: 1, right: 0 })";
 
-const CASES: [Case; 11] = [
+static CASES: [Case; 11] = [
     // Two circuits of the schematic that no call names, and no name is the top's.
     Case {
         layout: ".subckt chip s\nm1 s s s s n l=1u w=1u\n.ends\n",
@@ -212,7 +212,6 @@ fn comes_out<R: Threads + Wait + Sync>(
         return Ok(false);
     }
     let found = compare(
-        rt,
         alloc,
         &layout,
         case.top,
@@ -220,8 +219,7 @@ fn comes_out<R: Threads + Wait + Sync>(
         &same,
         case.limit,
         case.same_pins,
-        workers,
-        &OpenGate,
+        &Crew::new(rt, workers, &OpenGate),
     )?;
     match (found, case.want) {
         (None, None) => Ok(true),

@@ -3,7 +3,7 @@
 ghost use Rattle.std.specs.Prelude.{◌≤◌};
 
 use crate::conditions::{are_apart, are_callees_first, is_alignable, read};
-use job_board::OpenGate;
+use job_board::{Crew, OpenGate};
 use match_flow::compare;
 use net_align::align;
 use net_names::Name;
@@ -68,9 +68,8 @@ fn matched<R: Threads + Wait + Sync>(
     if netlist.circuits.len() <= PAIRS as usize {
         return Ok(0);
     }
-    let found = compare(
-        rt, alloc, &netlist, PAIRS, &netlist, &same, 1, false, workers, &OpenGate,
-    )?;
+    let crew = Crew::new(rt, workers, &OpenGate);
+    let found = compare(alloc, &netlist, PAIRS, &netlist, &same, 1, false, &crew)?;
     let Some(made) = found else {
         return Ok(0);
     };

@@ -12,7 +12,7 @@ struct Case {
     want: &'static str,
 }
 
-const CASES: [Case; 4] = [
+static CASES: [Case; 4] = [
     // Source and drain exchanged are the same two; another length is another transistor.
     Case {
         given: ".subckt c d g s b n\nm1 d g s b n l=1u w=1u\nm2 s g d b n l=1u w=2u\n\

@@ -17,7 +17,7 @@ struct Case {
     want: Option<(&'static str, &'static str)>,
 }
 
-const CASES: [Case; 10] = [
+static CASES: [Case; 10] = [
     // A circuit in the middle is flattened: its device behind the caller's own, its inner net with
     // the call's number, its call in the caller.
     Case {

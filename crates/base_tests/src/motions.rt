@@ -2,47 +2,117 @@
 
 use geo_base::{Motion, Point, Rect, Square, Turn};
 
-// One square and one rectangle off both axes under each turn, and a shift, worked out with pen and
-// paper.
+const SQUARE: Square = Square { x: 3, y: 1 };
+
+const RECT: Rect = Rect {
+    x1: 3,
+    y1: 1,
+    x2: 5,
+    y2: 2,
+};
+
+/// A turn, and where it takes the square and the rectangle, worked out with pen and paper.
+static TURNS: [(Turn, Square, Rect); 8] = [
+    (
+        Turn::R0,
+        Square { x: 3, y: 1 },
+        Rect {
+            x1: 3,
+            y1: 1,
+            x2: 5,
+            y2: 2,
+        },
+    ),
+    (
+        Turn::R90,
+        Square { x: -2, y: 3 },
+        Rect {
+            x1: -2,
+            y1: 3,
+            x2: -1,
+            y2: 5,
+        },
+    ),
+    (
+        Turn::R180,
+        Square { x: -4, y: -2 },
+        Rect {
+            x1: -5,
+            y1: -2,
+            x2: -3,
+            y2: -1,
+        },
+    ),
+    (
+        Turn::R270,
+        Square { x: 1, y: -4 },
+        Rect {
+            x1: 1,
+            y1: -5,
+            x2: 2,
+            y2: -3,
+        },
+    ),
+    (
+        Turn::M0,
+        Square { x: 3, y: -2 },
+        Rect {
+            x1: 3,
+            y1: -2,
+            x2: 5,
+            y2: -1,
+        },
+    ),
+    (
+        Turn::M90,
+        Square { x: 1, y: 3 },
+        Rect {
+            x1: 1,
+            y1: 3,
+            x2: 2,
+            y2: 5,
+        },
+    ),
+    (
+        Turn::M180,
+        Square { x: -4, y: 1 },
+        Rect {
+            x1: -5,
+            y1: 1,
+            x2: -3,
+            y2: 2,
+        },
+    ),
+    (
+        Turn::M270,
+        Square { x: -2, y: -4 },
+        Rect {
+            x1: -2,
+            y1: -5,
+            x2: -1,
+            y2: -3,
+        },
+    ),
+];
+
+// One square and one rectangle off both axes under each turn, and a shift.
 #[test]
 fn eight_turns(rt: HostRuntime) {
-    let square = Square { x: 3, y: 1 };
-    let rect = Rect {
-        x1: 3,
-        y1: 1,
-        x2: 5,
-        y2: 2,
-    };
-    let table = [
-        (Turn::R0, (3, 1), (3, 1, 5, 2)),
-        (Turn::R90, (-2, 3), (-2, 3, -1, 5)),
-        (Turn::R180, (-4, -2), (-5, -2, -3, -1)),
-        (Turn::R270, (1, -4), (1, -5, 2, -3)),
-        (Turn::M0, (3, -2), (3, -2, 5, -1)),
-        (Turn::M90, (1, 3), (1, 3, 2, 5)),
-        (Turn::M180, (-4, 1), (-5, 1, -3, 2)),
-        (Turn::M270, (-2, -4), (-2, -5, -1, -3)),
-    ];
-    for (turn, (x, y), (x1, y1, x2, y2)) in table {
+    for (turn, square, rect) in &TURNS {
+        let turn = *turn;
         let still = Motion { turn, dx: 0, dy: 0 };
-        assert_eq!(rt;
-            still.square(square),
-            Square { x, y },
-            "square under {turn:?}"
+        assert!(rt; still.square(SQUARE) == *square, "square under {turn:?}");
+        assert!(rt; still.rect(RECT) == *rect, "rectangle under {turn:?}");
+        let (dx, dy) = (100, -40);
+        let moved = Motion { turn, dx, dy }.square(SQUARE);
+        assert!(rt;
+            Some(moved.x) == square.x.checked_add(100),
+            "shifted under {turn:?}"
         );
-        assert_eq!(rt;
-            still.rect(rect),
-            Rect { x1, y1, x2, y2 },
-            "rectangle under {turn:?}"
+        assert!(rt;
+            Some(moved.y) == square.y.checked_sub(40),
+            "shifted under {turn:?}"
         );
-        let shifted = Motion {
-            turn,
-            dx: 100,
-            dy: -40,
-        };
-        let moved = shifted.square(square);
-        assert_eq!(rt; Some(moved.x), x.checked_add(100), "shifted under {turn:?}");
-        assert_eq!(rt; Some(moved.y), y.checked_sub(40), "shifted under {turn:?}");
     }
 }
 

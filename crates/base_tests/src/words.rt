@@ -61,56 +61,62 @@ fn commands(rt: HostRuntime) -> Result<(), Fail> {
     Ok(())
 }
 
+/// Lines, and the path that is shared.
+static SHARED: [(&str, &str); 9] = [
+    ("shapes l r s", "none"),
+    ("shapes l l s", "none"),
+    ("shapes x r x", "x"),
+    ("shapes l x x", "x"),
+    ("extract --rules r --netlist a --layout a --shapes r", "r"),
+    ("extract --layout a --netlist a --shapes r --rules r", "a"),
+    (
+        "extract --shapes=b=c --layout l --rules r --netlist b=c",
+        "b=c",
+    ),
+    (
+        "extract --layout l --rules l --shapes s --netlist n --top s",
+        "none",
+    ),
+    ("make 1 2 3 p", "none"),
+];
+
 // The first path, in the order of the words, of a file that is named twice and written.
 #[test]
 fn shared_paths(rt: HostRuntime) -> Result<(), Fail> {
     let alloc = rt.alloc();
-    for (line, path) in [
-        ("shapes l r s", "none"),
-        ("shapes l l s", "none"),
-        ("shapes x r x", "x"),
-        ("shapes l x x", "x"),
-        ("extract --rules r --netlist a --layout a --shapes r", "r"),
-        ("extract --layout a --netlist a --shapes r --rules r", "a"),
-        (
-            "extract --shapes=b=c --layout l --rules r --netlist b=c",
-            "b=c",
-        ),
-        (
-            "extract --layout l --rules l --shapes s --netlist n --top s",
-            "none",
-        ),
-        ("make 1 2 3 p", "none"),
-    ] {
-        assert_eq!(rt; shared_of(alloc, line)?.as_str(), path);
+    for (line, path) in &SHARED {
+        assert_eq!(rt; shared_of(alloc, line)?.as_str(), *path);
     }
     Ok(())
 }
 
+/// Lines that are no command.
+static REFUSED: [&str; 19] = [
+    "",
+    "run",
+    "shapes l r",
+    "shapes l -r s",
+    "draw l r s",
+    "extract --layout l --rules r --shapes s",
+    "extract --layout l --rules r --shapes s --netlist",
+    "extract --layout l --rules r --shapes s --netlist=",
+    "extract --layout l --rules r --shapes s --netlist n --netlist m",
+    "extract --layout l --rules r --shapes s --netlist n --report q",
+    "extract --layout l --rules r --shapes s --netlist n --top -T",
+    "extract --layout l --rules r --shapes s --netlist n --workers 65",
+    "extract --layout l --rules r --shapes s --netlist n --workers 0",
+    "extract --layout l --rules r --shapes s --netlist n --workers +1",
+    "extract --layout l --rules r --shapes s --netlist n --workers 000000000000000000001",
+    "extract --layout l --rules r --shapes s --netlist n behind",
+    "make 100001 1 1 p",
+    "make 1 18446744073709551616 1 p",
+    "make 1 1 1 -p",
+];
+
 #[test]
 fn refused(rt: HostRuntime) -> Result<(), Fail> {
     let alloc = rt.alloc();
-    for line in [
-        "",
-        "run",
-        "shapes l r",
-        "shapes l -r s",
-        "draw l r s",
-        "extract --layout l --rules r --shapes s",
-        "extract --layout l --rules r --shapes s --netlist",
-        "extract --layout l --rules r --shapes s --netlist=",
-        "extract --layout l --rules r --shapes s --netlist n --netlist m",
-        "extract --layout l --rules r --shapes s --netlist n --report q",
-        "extract --layout l --rules r --shapes s --netlist n --top -T",
-        "extract --layout l --rules r --shapes s --netlist n --workers 65",
-        "extract --layout l --rules r --shapes s --netlist n --workers 0",
-        "extract --layout l --rules r --shapes s --netlist n --workers +1",
-        "extract --layout l --rules r --shapes s --netlist n --workers 000000000000000000001",
-        "extract --layout l --rules r --shapes s --netlist n behind",
-        "make 100001 1 1 p",
-        "make 1 18446744073709551616 1 p",
-        "make 1 1 1 -p",
-    ] {
+    for line in &REFUSED {
         assert_eq!(rt; stated(alloc, line)?.as_str(), "refused");
     }
     assert_eq!(rt;

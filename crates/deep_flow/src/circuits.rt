@@ -1,5 +1,5 @@
 //! Circuits, cell by cell.
-ghost use Rattle.std.specs.Prelude.{◌≤◌, IfOk};
+ghost use Rattle.std.specs.Prelude.{IfOk};
 ghost use Rattle.cell_graph.specs.Linked.{plain};
 ghost use Rattle.circuit_phase.specs.Phase.{HasOwn};
 ghost use Rattle.deep_tables.specs.Circuits.{AreCircuits};
@@ -12,7 +12,7 @@ ghost use Rattle.rule_text.specs.Seen.{rules_seen};
 use cell_graph::Design;
 use circuit_phase::CircuitPhase;
 use deep_tables::{Circuits, Gates, Nets, Pins};
-use job_board::{Gate, run_phase};
+use job_board::{Crew, Gate, run_phase};
 use rule_text::RuleSet;
 use std::alloc::{AllocError, Global};
 use std::sync::Wait;
@@ -22,7 +22,6 @@ use std::thread::Threads;
 /// picometres, at most 1,000,000. A cell is worked once, by 1 to 64 workers, with one answer for
 /// every number of them. An `Err` is want of memory.
 pub fn find_circuits<R: Threads + Wait + Sync, G: Gate + Sync>(
-    rt: &R,
     alloc: Global,
     design: &Design,
     rules: &RuleSet,
@@ -30,10 +29,8 @@ pub fn find_circuits<R: Threads + Wait + Sync, G: Gate + Sync>(
     pins: &Pins,
     gates: &Gates,
     unit_pm: u32,
-    workers: usize,
-    gate: &G,
+    crew: &Crew<R, G>,
 ) -> Result<Circuits, AllocError>
-    requires workers { (1 ≤ workers) × (workers ≤ 64) }
     requires own { HasOwn (plain design.now) (wiring_of (rules_seen rules.now)) }
     requires nets { AreNets (plain design.now) (rules_seen rules.now) nets.now }
     requires pins { ArePins (plain design.now) (rules_seen rules.now) pins.now }
@@ -42,7 +39,7 @@ pub fn find_circuits<R: Threads + Wait + Sync, G: Gate + Sync>(
 {
     design.sound();
     let phase = CircuitPhase::new(alloc, design, rules, nets, pins, gates, unit_pm)?;
-    let results = run_phase(rt, alloc, &phase, workers, gate)?;
+    let results = run_phase(alloc, &phase, crew)?;
     let circuits = Circuits::new(alloc, design, results)?;
     Ok(circuits)
 }

@@ -1,5 +1,5 @@
 //! What is extracted over a layout's layers, nets, gates and pins: its netlist and its bad gates.
-ghost use Rattle.std.specs.Prelude.{◌≡◌, ◌↔◌, ◌<◌, ◌≤◌, ◌^◌, ℕ, length, slice_get};
+ghost use Rattle.std.specs.Prelude.{◌≡◌, ◌↔◌, ◌<◌, ◌^◌, ℕ, length, slice_get};
 ghost use Rattle.std.specs.Prelude.{IfOk, IsSome, Some, true};
 ghost use Rattle.cell_graph.specs.Linked.{plain};
 ghost use Rattle.deep_tables.specs.Entries.{entry};
@@ -23,7 +23,7 @@ use crate::netlist::netlist;
 use cell_graph::Design;
 use circuit_phase::circuit_cells;
 use deep_tables::{BadGate, Circuits, Pins};
-use job_board::Gate;
+use job_board::{Crew, Gate};
 use list_base::{number, small};
 use net_model::Netlist;
 use rule_text::RuleSet;
@@ -84,17 +84,14 @@ fn have_few_nets(circuits: &Circuits, cells: &[u32]) -> bool
 /// unit is in picometres. A cell is worked once, however often it is placed. The answer is the same
 /// for every number of workers. An `Err` is want of memory, or 2^32 circuits or nets of a cell.
 pub fn draw<R: Threads + Wait + Sync, G: Gate + Sync>(
-    rt: &R,
     alloc: Global,
     design: &Design,
     rules: &RuleSet,
     gated: &Gated,
     pins: &Pins,
     unit_pm: u32,
-    workers: usize,
-    gate: &G,
+    crew: &Crew<R, G>,
 ) -> Result<Drawn, AllocError>
-    requires workers { (1 ≤ workers) × (workers ≤ 64) }
     requires layers { AreLayers (plain design.now) (rules_seen rules.now) gated.now.layers }
     requires nets { AreNets (plain design.now) (rules_seen rules.now) gated.now.nets }
     requires gates { AreGates (plain design.now) (rules_seen rules.now) gated.now.gates }
@@ -109,9 +106,7 @@ pub fn draw<R: Threads + Wait + Sync, G: Gate + Sync>(
     design.sound();
     let nets = &gated.nets;
     let gates = &gated.gates;
-    let circuits = find_circuits(
-        rt, alloc, design, rules, nets, pins, gates, unit_pm, workers, gate,
-    )?;
+    let circuits = find_circuits(alloc, design, rules, nets, pins, gates, unit_pm, crew)?;
     let cells = circuit_cells(alloc, design, gates)?;
     number(cells.len())?;
     if !have_few_nets(&circuits, &cells) {

@@ -1,5 +1,5 @@
 //! Extraction: a layout's netlist and all that it is made from, cell by cell.
-ghost use Rattle.std.specs.Prelude.{◌≡◌, ◌≤◌, IfOk};
+ghost use Rattle.std.specs.Prelude.{◌≡◌, IfOk};
 ghost use Rattle.cell_graph.specs.Linked.{plain};
 ghost use Rattle.deep_tables.specs.Gates.{AreGates, gates_of};
 ghost use Rattle.deep_tables.specs.Layers.{AreLayers};
@@ -20,7 +20,7 @@ use crate::gates::derive_gates;
 use crate::pins::find_pins;
 use cell_graph::Design;
 use deep_tables::{BadGate, Gates, Layers, Nets, Pins};
-use job_board::Gate;
+use job_board::{Crew, Gate};
 use net_model::Netlist;
 use rule_text::RuleSet;
 use std::alloc::{AllocError, Global};
@@ -45,15 +45,12 @@ pub struct Extracted {
 /// however often it is placed. The database unit is in picometres. The answer is the same for every
 /// number of workers. An `Err` is want of memory, or 2^32 circuits or nets of a cell.
 pub fn extract<R: Threads + Wait + Sync, G: Gate + Sync>(
-    rt: &R,
     alloc: Global,
     design: &Design,
     rules: &RuleSet,
     unit_pm: u32,
-    workers: usize,
-    gate: &G,
+    crew: &Crew<R, G>,
 ) -> Result<Extracted, AllocError>
-    requires workers { (1 ≤ workers) × (workers ≤ 64) }
     requires rules { IsSound (rules_seen rules.now) }
     ensures layers { IfOk result (λ e. AreLayers (plain design.now) (rules_seen rules.now)
         e.layers) }
@@ -71,21 +68,17 @@ pub fn extract<R: Threads + Wait + Sync, G: Gate + Sync>(
     ensures bad { IfOk result (λ e. e.bad.items
         ≡ told_gates (rules_seen rules.now) e.gates design.now.order) }
 {
-    let gated = derive_gates(rt, alloc, design, rules, workers, gate)?;
+    let gated = derive_gates(alloc, design, rules, crew)?;
     let pins = find_pins(
-        rt,
         alloc,
         design,
         rules,
         &gated.layers,
         &gated.nets,
         &gated.gates,
-        workers,
-        gate,
+        crew,
     )?;
-    let drawn = draw(
-        rt, alloc, design, rules, &gated, &pins, unit_pm, workers, gate,
-    )?;
+    let drawn = draw(alloc, design, rules, &gated, &pins, unit_pm, crew)?;
     Ok(Extracted {
         layers: gated.layers,
         nets: gated.nets,

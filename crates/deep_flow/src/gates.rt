@@ -1,5 +1,5 @@
 //! Gates of transistors and regions of further devices, cell by cell.
-ghost use Rattle.std.specs.Prelude.{◌≤◌, IfOk};
+ghost use Rattle.std.specs.Prelude.{IfOk};
 ghost use Rattle.cell_graph.specs.Linked.{plain};
 ghost use Rattle.deep_tables.specs.Gates.{AreGates, AreMosGates, gates_of};
 ghost use Rattle.deep_tables.specs.Layers.{AreLayers};
@@ -15,7 +15,7 @@ use crate::nets::find_nets;
 use cell_graph::Design;
 use deep_tables::{Gates, Layers, Nets, Zones};
 use gate_phase::GatePhase;
-use job_board::{Gate, run_phase};
+use job_board::{Crew, Gate, run_phase};
 use more_devices::MorePhase;
 use rule_text::RuleSet;
 use std::alloc::{AllocError, Global};
@@ -34,17 +34,14 @@ pub struct Gated {
 /// cell is worked once, by 1 to 64 workers, with one answer for every number of them. An `Err` is
 /// want of memory.
 pub fn find_gates<R: Threads + Wait + Sync, G: Gate + Sync>(
-    rt: &R,
     alloc: Global,
     design: &Design,
     rules: &RuleSet,
     zones: &Zones,
     layers: &Layers,
     nets: &Nets,
-    workers: usize,
-    gate: &G,
+    crew: &Crew<R, G>,
 ) -> Result<Gates, AllocError>
-    requires workers { (1 ≤ workers) × (workers ≤ 64) }
     requires rules { IsSound (rules_seen rules.now) }
     requires zones { AreZones (plain design.now) (rules_seen rules.now) zones.now }
     requires layers { AreLayers (plain design.now) (rules_seen rules.now) layers.now }
@@ -53,7 +50,7 @@ pub fn find_gates<R: Threads + Wait + Sync, G: Gate + Sync>(
 {
     design.sound();
     let phase = GatePhase::new(alloc, design, rules, zones, layers, nets)?;
-    let results = run_phase(rt, alloc, &phase, workers, gate)?;
+    let results = run_phase(alloc, &phase, crew)?;
     let gates = Gates::new(alloc, design, results)?;
     Ok(gates)
 }
@@ -62,7 +59,6 @@ pub fn find_gates<R: Threads + Wait + Sync, G: Gate + Sync>(
 /// them its further devices. A cell is worked once, by 1 to 64 workers, with one answer for every
 /// number of them. An `Err` is want of memory.
 pub fn find_devices<R: Threads + Wait + Sync, G: Gate + Sync>(
-    rt: &R,
     alloc: Global,
     design: &Design,
     rules: &RuleSet,
@@ -70,10 +66,8 @@ pub fn find_devices<R: Threads + Wait + Sync, G: Gate + Sync>(
     layers: &Layers,
     nets: &Nets,
     gates: &Gates,
-    workers: usize,
-    gate: &G,
+    crew: &Crew<R, G>,
 ) -> Result<Gates, AllocError>
-    requires workers { (1 ≤ workers) × (workers ≤ 64) }
     requires rules { IsSound (rules_seen rules.now) }
     requires zones { AreZones (plain design.now) (rules_seen rules.now) zones.now }
     requires layers { AreLayers (plain design.now) (rules_seen rules.now) layers.now }
@@ -83,24 +77,21 @@ pub fn find_devices<R: Threads + Wait + Sync, G: Gate + Sync>(
 {
     design.sound();
     let phase = MorePhase::new(alloc, design, rules, zones, layers, nets, gates)?;
-    let results = run_phase(rt, alloc, &phase, workers, gate)?;
+    let results = run_phase(alloc, &phase, crew)?;
     let devices = Gates::new(alloc, design, results)?;
     Ok(devices)
 }
 
 // Both, with what both phases read made once.
 fn all_devices<R: Threads + Wait + Sync, G: Gate + Sync>(
-    rt: &R,
     alloc: Global,
     design: &Design,
     rules: &RuleSet,
     zones: &Zones,
     layers: &Layers,
     nets: &Nets,
-    workers: usize,
-    gate: &G,
+    crew: &Crew<R, G>,
 ) -> Result<Gates, AllocError>
-    requires workers { (1 ≤ workers) × (workers ≤ 64) }
     requires rules { IsSound (rules_seen rules.now) }
     requires zones { AreZones (plain design.now) (rules_seen rules.now) zones.now }
     requires layers { AreLayers (plain design.now) (rules_seen rules.now) layers.now }
@@ -109,10 +100,10 @@ fn all_devices<R: Threads + Wait + Sync, G: Gate + Sync>(
 {
     design.sound();
     let phase = GatePhase::new(alloc, design, rules, zones, layers, nets)?;
-    let results = run_phase(rt, alloc, &phase, workers, gate)?;
+    let results = run_phase(alloc, &phase, crew)?;
     let gates = Gates::new(alloc, design, results)?;
     let more = MorePhase::over(alloc, phase.into_work(), &gates)?;
-    let found = run_phase(rt, alloc, &more, workers, gate)?;
+    let found = run_phase(alloc, &more, crew)?;
     let devices = Gates::new(alloc, design, found)?;
     Ok(devices)
 }
@@ -122,14 +113,11 @@ fn all_devices<R: Threads + Wait + Sync, G: Gate + Sync>(
 /// its cause where it is bad. A cell is worked once, however often it is placed. The answer is the
 /// same for every number of workers. An `Err` is want of memory.
 pub fn derive_gates<R: Threads + Wait + Sync, G: Gate + Sync>(
-    rt: &R,
     alloc: Global,
     design: &Design,
     rules: &RuleSet,
-    workers: usize,
-    gate: &G,
+    crew: &Crew<R, G>,
 ) -> Result<Gated, AllocError>
-    requires workers { (1 ≤ workers) × (workers ≤ 64) }
     requires rules { IsSound (rules_seen rules.now) }
     ensures layers { IfOk result (λ c. AreLayers (plain design.now) (rules_seen rules.now)
         c.layers) }
@@ -144,12 +132,10 @@ pub fn derive_gates<R: Threads + Wait + Sync, G: Gate + Sync>(
         (device_rules (rules_seen rules.now)) (gates_of c.gates)) }
 {
     design.sound();
-    let zones = find_zones(rt, alloc, design, rules, workers, gate)?;
-    let layers = find_layers(rt, alloc, design, rules, &zones, workers, gate)?;
-    let nets = find_nets(rt, alloc, design, rules, &layers, workers, gate)?;
-    let gates = all_devices(
-        rt, alloc, design, rules, &zones, &layers, &nets, workers, gate,
-    )?;
+    let zones = find_zones(alloc, design, rules, crew)?;
+    let layers = find_layers(alloc, design, rules, &zones, crew)?;
+    let nets = find_nets(alloc, design, rules, &layers, crew)?;
+    let gates = all_devices(alloc, design, rules, &zones, &layers, &nets, crew)?;
     Ok(Gated {
         layers,
         nets,

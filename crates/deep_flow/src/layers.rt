@@ -1,5 +1,5 @@
 //! Derived layers, cell by cell.
-ghost use Rattle.std.specs.Prelude.{◌≤◌, IfOk};
+ghost use Rattle.std.specs.Prelude.{IfOk};
 ghost use Rattle.cell_graph.specs.Linked.{plain};
 ghost use Rattle.deep_tables.specs.Layers.{AreLayers};
 ghost use Rattle.deep_tables.specs.Zones.{AreZones};
@@ -8,7 +8,7 @@ ghost use Rattle.rule_text.specs.Sound.{IsSound};
 
 use cell_graph::Design;
 use deep_tables::{Layers, Zones};
-use job_board::{Gate, run_phase};
+use job_board::{Crew, Gate, run_phase};
 use layer_phase::LayerPhase;
 use rule_text::RuleSet;
 use std::alloc::{AllocError, Global};
@@ -19,20 +19,17 @@ use zone_phase::ZonePhase;
 /// The disturbed squares of each reached cell. A cell is worked once, by 1 to 64 workers, with one
 /// answer for every number of them. An `Err` is want of memory.
 pub fn find_zones<R: Threads + Wait + Sync, G: Gate + Sync>(
-    rt: &R,
     alloc: Global,
     design: &Design,
     rules: &RuleSet,
-    workers: usize,
-    gate: &G,
+    crew: &Crew<R, G>,
 ) -> Result<Zones, AllocError>
-    requires workers { (1 ≤ workers) × (workers ≤ 64) }
     requires rules { IsSound (rules_seen rules.now) }
     ensures { IfOk result (AreZones (plain design.now) (rules_seen rules.now)) }
 {
     design.sound();
     let phase = ZonePhase::new(alloc, design, rules)?;
-    let results = run_phase(rt, alloc, &phase, workers, gate)?;
+    let results = run_phase(alloc, &phase, crew)?;
     let zones = Zones::new(alloc, design, results)?;
     Ok(zones)
 }
@@ -40,22 +37,19 @@ pub fn find_zones<R: Threads + Wait + Sync, G: Gate + Sync>(
 /// What each reached cell holds itself of each name, over its disturbed squares. A cell is worked
 /// once, by 1 to 64 workers, with one answer for every number of them. An `Err` is want of memory.
 pub fn find_layers<R: Threads + Wait + Sync, G: Gate + Sync>(
-    rt: &R,
     alloc: Global,
     design: &Design,
     rules: &RuleSet,
     zones: &Zones,
-    workers: usize,
-    gate: &G,
+    crew: &Crew<R, G>,
 ) -> Result<Layers, AllocError>
-    requires workers { (1 ≤ workers) × (workers ≤ 64) }
     requires rules { IsSound (rules_seen rules.now) }
     requires zones { AreZones (plain design.now) (rules_seen rules.now) zones.now }
     ensures { IfOk result (AreLayers (plain design.now) (rules_seen rules.now)) }
 {
     design.sound();
     let phase = LayerPhase::new(alloc, design, rules, zones)?;
-    let results = run_phase(rt, alloc, &phase, workers, gate)?;
+    let results = run_phase(alloc, &phase, crew)?;
     let layers = Layers::new(alloc, design, results)?;
     Ok(layers)
 }
@@ -64,17 +58,14 @@ pub fn find_layers<R: Threads + Wait + Sync, G: Gate + Sync>(
 /// flattened: a cell is worked once, however often it is placed. The answer is the same for every
 /// number of workers. An `Err` is want of memory.
 pub fn derive_layers<R: Threads + Wait + Sync, G: Gate + Sync>(
-    rt: &R,
     alloc: Global,
     design: &Design,
     rules: &RuleSet,
-    workers: usize,
-    gate: &G,
+    crew: &Crew<R, G>,
 ) -> Result<Layers, AllocError>
-    requires workers { (1 ≤ workers) × (workers ≤ 64) }
     requires rules { IsSound (rules_seen rules.now) }
     ensures { IfOk result (AreLayers (plain design.now) (rules_seen rules.now)) }
 {
-    let zones = find_zones(rt, alloc, design, rules, workers, gate)?;
-    find_layers(rt, alloc, design, rules, &zones, workers, gate)
+    let zones = find_zones(alloc, design, rules, crew)?;
+    find_layers(alloc, design, rules, &zones, crew)
 }

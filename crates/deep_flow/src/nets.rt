@@ -1,5 +1,5 @@
 //! Nets, cell by cell.
-ghost use Rattle.std.specs.Prelude.{◌≤◌, IfOk};
+ghost use Rattle.std.specs.Prelude.{IfOk};
 ghost use Rattle.cell_graph.specs.Linked.{plain};
 ghost use Rattle.deep_tables.specs.Layers.{AreLayers};
 ghost use Rattle.deep_tables.specs.Nets.{AreNets, AreRightNets, tables_of};
@@ -10,7 +10,7 @@ ghost use Rattle.rule_text.specs.Sound.{IsSound};
 use crate::layers::derive_layers;
 use cell_graph::Design;
 use deep_tables::{Layers, Nets};
-use job_board::{Gate, run_phase};
+use job_board::{Crew, Gate, run_phase};
 use net_phase::NetPhase;
 use rule_text::RuleSet;
 use std::alloc::{AllocError, Global};
@@ -27,22 +27,19 @@ pub struct Connected {
 /// The nets of each reached cell, over its layers. A cell is worked once, by 1 to 64 workers, with
 /// one answer for every number of them. An `Err` is want of memory.
 pub fn find_nets<R: Threads + Wait + Sync, G: Gate + Sync>(
-    rt: &R,
     alloc: Global,
     design: &Design,
     rules: &RuleSet,
     layers: &Layers,
-    workers: usize,
-    gate: &G,
+    crew: &Crew<R, G>,
 ) -> Result<Nets, AllocError>
-    requires workers { (1 ≤ workers) × (workers ≤ 64) }
     requires rules { IsSound (rules_seen rules.now) }
     requires layers { AreLayers (plain design.now) (rules_seen rules.now) layers.now }
     ensures { IfOk result (AreNets (plain design.now) (rules_seen rules.now)) }
 {
     design.sound();
     let phase = NetPhase::new(alloc, design, rules, layers)?;
-    let results = run_phase(rt, alloc, &phase, workers, gate)?;
+    let results = run_phase(alloc, &phase, crew)?;
     let nets = Nets::new(alloc, design, results)?;
     Ok(nets)
 }
@@ -52,14 +49,11 @@ pub fn find_nets<R: Threads + Wait + Sync, G: Gate + Sync>(
 /// worked once, however often it is placed. The answer is the same for every number of workers. An
 /// `Err` is want of memory.
 pub fn derive_nets<R: Threads + Wait + Sync, G: Gate + Sync>(
-    rt: &R,
     alloc: Global,
     design: &Design,
     rules: &RuleSet,
-    workers: usize,
-    gate: &G,
+    crew: &Crew<R, G>,
 ) -> Result<Connected, AllocError>
-    requires workers { (1 ≤ workers) × (workers ≤ 64) }
     requires rules { IsSound (rules_seen rules.now) }
     ensures layers { IfOk result (λ c. AreLayers (plain design.now) (rules_seen rules.now)
         c.layers) }
@@ -68,7 +62,7 @@ pub fn derive_nets<R: Threads + Wait + Sync, G: Gate + Sync>(
         (wiring_of (rules_seen rules.now))
         (tables_of (rules_seen rules.now) c.layers c.nets)) }
 {
-    let layers = derive_layers(rt, alloc, design, rules, workers, gate)?;
-    let nets = find_nets(rt, alloc, design, rules, &layers, workers, gate)?;
+    let layers = derive_layers(alloc, design, rules, crew)?;
+    let nets = find_nets(alloc, design, rules, &layers, crew)?;
     Ok(Connected { layers, nets })
 }

@@ -1,5 +1,5 @@
 //! Pins and base names, cell by cell.
-ghost use Rattle.std.specs.Prelude.{◌≤◌, IfOk};
+ghost use Rattle.std.specs.Prelude.{IfOk};
 ghost use Rattle.cell_graph.specs.Linked.{plain};
 ghost use Rattle.deep_tables.specs.Gates.{AreGates};
 ghost use Rattle.deep_tables.specs.Layers.{AreLayers};
@@ -10,7 +10,7 @@ ghost use Rattle.rule_text.specs.Sound.{IsSound};
 
 use cell_graph::Design;
 use deep_tables::{Gates, Layers, Nets, Pins};
-use job_board::{Gate, run_phase};
+use job_board::{Crew, Gate, run_phase};
 use pin_phase::PinPhase;
 use rule_text::RuleSet;
 use std::alloc::{AllocError, Global};
@@ -21,17 +21,14 @@ use std::thread::Threads;
 /// cell is worked once, by 1 to 64 workers, with one answer for every number of them. An `Err` is
 /// want of memory.
 pub fn find_pins<R: Threads + Wait + Sync, G: Gate + Sync>(
-    rt: &R,
     alloc: Global,
     design: &Design,
     rules: &RuleSet,
     layers: &Layers,
     nets: &Nets,
     gates: &Gates,
-    workers: usize,
-    gate: &G,
+    crew: &Crew<R, G>,
 ) -> Result<Pins, AllocError>
-    requires workers { (1 ≤ workers) × (workers ≤ 64) }
     requires rules { IsSound (rules_seen rules.now) }
     requires layers { AreLayers (plain design.now) (rules_seen rules.now) layers.now }
     requires nets { AreNets (plain design.now) (rules_seen rules.now) nets.now }
@@ -40,7 +37,7 @@ pub fn find_pins<R: Threads + Wait + Sync, G: Gate + Sync>(
 {
     design.sound();
     let phase = PinPhase::new(alloc, design, rules, layers, nets, gates)?;
-    let results = run_phase(rt, alloc, &phase, workers, gate)?;
+    let results = run_phase(alloc, &phase, crew)?;
     let pins = Pins::new(alloc, design, results)?;
     Ok(pins)
 }

@@ -3,6 +3,7 @@ pub mod Entries
 pub mod Frames
 pub mod Gates
 pub mod Indexed
+pub mod Jobs
 pub mod Laws
 pub mod Layers
 pub mod Nets

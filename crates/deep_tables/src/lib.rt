@@ -11,6 +11,7 @@
 mod circuits;
 mod gates;
 mod indexed;
+mod jobs;
 mod keys;
 mod laws;
 mod layers;
@@ -22,6 +23,7 @@ mod zones;
 pub use circuits::{CellCircuit, CircuitKey, Circuits};
 pub use gates::{BadGate, CellGates, Gate, GateCause, GateState, Gates};
 pub use indexed::{IndexedSet, index_of};
+pub use jobs::free_graph;
 pub use keys::{DeepKey, GateKey};
 pub use laws::{
     circuit_table, gate_table, layer_table, net_table, over_any, pin_table, zone_frames, zone_table,

@@ -1,5 +1,9 @@
 //! The commands over files in memory.
 
+ghost use Rattle.std.specs.Prelude.{IfOk};
+ghost use Rattle.lvs_outside.specs.MemoryStore.{memory_store};
+ghost use Rattle.lvs_outside.specs.Store.{HasRoom};
+
 use job_board::{Gate, OpenGate};
 use lvs_outside::{MemoryDepot, MemorySink};
 use lvs_run::run_lvs;
@@ -61,8 +65,8 @@ pub struct Failing {
 
 pub const NONE: Failing = Failing { depot: 0, sink: 0 };
 
-/// Strings of these words.
-pub fn words_of(alloc: Global, words: &[&str]) -> Result<Vec<String>, AllocError> {
+// Strings of these words.
+fn words_of(alloc: Global, words: &[&str]) -> Result<Vec<String>, AllocError> {
     let mut made = Vec::new(alloc);
     for word in words {
         made.push(String::from_str(alloc, word)?)?;
@@ -70,23 +74,85 @@ pub fn words_of(alloc: Global, words: &[&str]) -> Result<Vec<String>, AllocError
     Ok(made)
 }
 
-/// A list of one number.
-pub fn one(alloc: Global, number: u64) -> Result<Vec<u64>, AllocError> {
+// A list of one number.
+fn one(alloc: Global, number: u64) -> Result<Vec<u64>, AllocError> {
     let mut numbers = Vec::new(alloc);
     numbers.push(number)?;
     Ok(numbers)
 }
 
-/// A copy of the path's file.
-pub fn file_of(
-    alloc: Global,
-    depot: &MemoryDepot,
-    path: &str,
-) -> Result<Option<Vec<u8>>, AllocError> {
+// A copy of the path's file.
+fn file_of(alloc: Global, depot: &MemoryDepot, path: &str) -> Result<Option<Vec<u8>>, AllocError> {
     match depot.file(path) {
         Some(bytes) => Ok(Some(bytes.to_vec(alloc)?)),
         None => Ok(None),
     }
+}
+
+/// Some words and more.
+pub fn joined<'a>(
+    alloc: Global,
+    words: &[&'a str],
+    more: &[&'a str],
+) -> Result<Vec<&'a str>, AllocError> {
+    let mut all = Vec::new(alloc);
+    for word in words {
+        all.push(*word)?;
+    }
+    for word in more {
+        all.push(*word)?;
+    }
+    Ok(all)
+}
+
+/// The paths of three files, and what they hold.
+pub type Files<'a> = [(&'a str, &'a [u8]); 3];
+
+// A depot of these files, of which the call of a number fails.
+fn depot_of(alloc: Global, files: Files<'_>, failing: u64) -> Result<MemoryDepot, AllocError>
+    ensures { IfOk result (λ d. HasRoom (memory_store d)) }
+{
+    let [(first, a), (second, b), (third, c)] = files;
+    let mut depot = MemoryDepot::new(alloc, one(alloc, failing)?);
+    depot.put(alloc, first, a)?;
+    depot.put(alloc, second, b)?;
+    depot.put(alloc, third, c)?;
+    Ok(depot)
+}
+
+// How a run ended, its line, and the files of three paths.
+fn ran_of(
+    alloc: Global,
+    code: u8,
+    line: &[u8],
+    depot: &MemoryDepot,
+    paths: [&str; 3],
+) -> Result<Ran, AllocError> {
+    let [shapes, netlist, report] = paths;
+    Ok(Ran {
+        code,
+        line: line.to_vec(alloc)?,
+        shapes: file_of(alloc, depot, shapes)?,
+        netlist: file_of(alloc, depot, netlist)?,
+        report: file_of(alloc, depot, report)?,
+    })
+}
+
+/// Runs the words over these files, each job through a gate, and copies the files of three paths.
+pub fn run_files<R: Threads + Wait + Sync, G: Gate + Sync>(
+    rt: &R,
+    alloc: Global,
+    files: Files<'_>,
+    words: &[&str],
+    paths: [&str; 3],
+    failing: Failing,
+    gate: &G,
+) -> Result<Ran, AllocError> {
+    let words = words_of(alloc, words)?;
+    let mut depot = depot_of(alloc, files, failing.depot)?;
+    let mut sink = MemorySink::new(alloc, one(alloc, failing.sink)?);
+    let status = run_lvs(rt, alloc, words.as_slice(), &mut depot, &mut sink, gate);
+    ran_of(alloc, status.code(), sink.bytes(), &depot, paths)
 }
 
 /// Runs the words over the files l, r and c, and each job through a gate.
@@ -98,20 +164,12 @@ pub fn run_through<R: Threads + Wait + Sync, G: Gate + Sync>(
     failing: Failing,
     gate: &G,
 ) -> Result<Ran, AllocError> {
-    let words = words_of(alloc, words)?;
-    let mut depot = MemoryDepot::new(alloc, one(alloc, failing.depot)?);
-    depot.put(alloc, "l", inputs.layout)?;
-    depot.put(alloc, "r", inputs.rules.as_bytes())?;
-    depot.put(alloc, "c", inputs.schematic.as_bytes())?;
-    let mut sink = MemorySink::new(alloc, one(alloc, failing.sink)?);
-    let status = run_lvs(rt, alloc, words.as_slice(), &mut depot, &mut sink, gate);
-    Ok(Ran {
-        code: status.code(),
-        line: sink.bytes().to_vec(alloc)?,
-        shapes: file_of(alloc, &depot, "s")?,
-        netlist: file_of(alloc, &depot, "n")?,
-        report: file_of(alloc, &depot, "p")?,
-    })
+    let files = [
+        ("l", inputs.layout),
+        ("r", inputs.rules.as_bytes()),
+        ("c", inputs.schematic.as_bytes()),
+    ];
+    run_files(rt, alloc, files, words, ["s", "n", "p"], failing, gate)
 }
 
 /// Runs the words over the files l, r and c.
@@ -151,8 +209,8 @@ pub fn refuses<R: Abort + Threads + Wait + Sync>(
 ) -> Result<(), AllocError> {
     let ran = run_of(rt, alloc, inputs, words, NONE)?;
     ends(rt, &ran, 2, line, line);
-    assert_eq!(rt; ran.shapes, None, "{line}");
-    assert_eq!(rt; ran.netlist, None, "{line}");
-    assert_eq!(rt; ran.report, None, "{line}");
+    assert!(rt; ran.shapes.is_none(), "{line}");
+    assert!(rt; ran.netlist.is_none(), "{line}");
+    assert!(rt; ran.report.is_none(), "{line}");
     Ok(())
 }

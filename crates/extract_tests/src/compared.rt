@@ -59,7 +59,7 @@ pub const THREE: &[Cell] = &[
     Cell("TOP", &[Placed("MID", 0, 0)]),
 ];
 
-const CASES: [Case; 17] = [
+static CASES: [Case; 17] = [
     Case {
         name: "one_transistor_run",
         layout: &[T],

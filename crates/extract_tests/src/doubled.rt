@@ -3,7 +3,10 @@
 use crate::commands::{EXTRACT, Inputs, NONE, RUN, Ran, ends, holds, run_of};
 use crate::drawn::{begin, begin_cell, end, end_cell, push_placed, push_rect};
 use std::alloc::{AllocError, Global};
+use std::process::Abort;
+use std::sync::Wait;
 use std::test::Fail;
+use std::thread::Threads;
 
 /// The number of the top cell.
 const LAST: u32 = 40;
@@ -26,6 +29,22 @@ type Drawn = (u8, [i32; 4]);
 /// A bar across another.
 const CROSSED: [Drawn; 2] = [(2, [0, 0, 3, 1]), (3, [1, -1, 2, 2])];
 
+// A cell that has the one before twice, this far apart.
+fn push_double(
+    alloc: Global,
+    out: &mut Vec<u8>,
+    number: u32,
+    x: i32,
+    y: i32,
+) -> Result<(), AllocError> {
+    let name = format!(in alloc; "C{number}")?;
+    let below = format!(in alloc; "C{}", number.saturating_sub(1))?;
+    begin_cell(alloc, out, name.as_str())?;
+    push_placed(alloc, out, below.as_str(), 0, 0)?;
+    push_placed(alloc, out, below.as_str(), x, y)?;
+    end_cell(out)
+}
+
 // C0 holds these; each further cell has the one before twice, side by side and on top of one
 // another in turn.
 fn doubled(alloc: Global, crossed: &[Drawn]) -> Result<Vec<u8>, AllocError> {
@@ -37,18 +56,12 @@ fn doubled(alloc: Global, crossed: &[Drawn]) -> Result<Vec<u8>, AllocError> {
     end_cell(&mut out)?;
     let mut step = 8i32;
     for number in 1..=LAST {
-        let below = number.saturating_sub(1);
-        let name = format!(in alloc; "C{number}")?;
-        let below = format!(in alloc; "C{below}")?;
-        begin_cell(alloc, &mut out, name.as_str())?;
-        push_placed(alloc, &mut out, below.as_str(), 0, 0)?;
         if number % 2 == 1 {
-            push_placed(alloc, &mut out, below.as_str(), step, 0)?;
+            push_double(alloc, &mut out, number, step, 0)?;
         } else {
-            push_placed(alloc, &mut out, below.as_str(), 0, step)?;
+            push_double(alloc, &mut out, number, 0, step)?;
             step = step.saturating_mul(2);
         }
-        end_cell(&mut out)?;
     }
     end(&mut out)?;
     Ok(out)
@@ -81,39 +94,37 @@ fn report(alloc: Global) -> Result<String, AllocError> {
     Ok(text)
 }
 
+// A run ends with this line, and writes the schematic as its netlist and a square in C0.
+fn told<R: Abort + Threads + Wait + Sync>(
+    rt: &R,
+    alloc: Global,
+    inputs: Inputs<'_>,
+    words: &[&str],
+    line: &str,
+) -> Result<Ran, AllocError> {
+    let ran = run_of(rt, alloc, inputs, words, NONE)?;
+    ends(rt, &ran, 0, line, line);
+    holds(rt, &ran.netlist, inputs.schematic, line);
+    let shapes = Some(doubled(alloc, &[(10, [1, 0, 2, 1])])?);
+    assert!(rt; ran.shapes == shapes, "{line}");
+    Ok(ran)
+}
+
 // 2^40 transistors in 41 cells, as the netlist of `extract` and compared with that netlist.
 #[test]
 fn doubling_hierarchy(rt: HostRuntime) -> Result<(), Fail> {
     let alloc = rt.alloc();
     let layout = doubled(alloc, &CROSSED)?;
-    let shapes = Some(doubled(alloc, &[(10, [1, 0, 2, 1])])?);
     let netlist = netlist(alloc)?;
     let inputs = Inputs {
         layout: &layout,
         rules: RULES,
         schematic: netlist.as_str(),
     };
-    let ran: Ran = run_of(&rt, alloc, inputs, &EXTRACT, NONE)?;
-    ends(
-        &rt,
-        &ran,
-        0,
-        "extracted cells 41 circuits 41 bad 0\n",
-        "extract",
-    );
-    holds(&rt, &ran.netlist, netlist.as_str(), "extract");
-    assert!(rt; ran.shapes == shapes);
-    let ran: Ran = run_of(&rt, alloc, inputs, &RUN, NONE)?;
-    ends(
-        &rt,
-        &ran,
-        0,
-        "match cells 41 circuits 41 pairs 41 bad 0\n",
-        "run",
-    );
-    holds(&rt, &ran.netlist, netlist.as_str(), "run");
-    assert!(rt; ran.shapes == shapes);
-    let report = report(alloc)?;
-    holds(&rt, &ran.report, report.as_str(), "run");
+    let line = "extracted cells 41 circuits 41 bad 0\n";
+    told(&rt, alloc, inputs, &EXTRACT, line)?;
+    let line = "match cells 41 circuits 41 pairs 41 bad 0\n";
+    let ran = told(&rt, alloc, inputs, &RUN, line)?;
+    holds(&rt, &ran.report, report(alloc)?.as_str(), "run");
     Ok(())
 }

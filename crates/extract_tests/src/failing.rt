@@ -30,20 +30,36 @@ fn left_of(first: u64, failed: u64, whole: usize) -> Option<usize> {
     Some(whole)
 }
 
+// Whether a run failed, said nothing, and left so many bytes of the shapes file and the netlist.
+fn has_left(ran: &Ran, shapes: Option<usize>, netlist: Option<usize>) -> bool {
+    let is_silent = ran.code == 4 && ran.line.is_empty();
+    is_silent && size_of(&ran.shapes) == shapes && size_of(&ran.netlist) == netlist
+}
+
+// Whether the run left what stands where a call failed, by the number of the shapes file's start.
+fn has_failed(ran: &Ran, first: u64, failed: u64, sizes: [usize; 3]) -> bool {
+    let (second, third) = (first.saturating_add(3), first.saturating_add(6));
+    let [shapes, netlist, report] = sizes;
+    let shapes = left_of(first, failed, shapes);
+    let netlist = left_of(second, failed, netlist);
+    has_left(ran, shapes, netlist) && size_of(&ran.report) == left_of(third, failed, report)
+}
+
 // Runs the words with one call of the depot, or else of the sink, that fails.
-fn failed<R: Abort + Threads + Wait + Sync>(
+fn failed<R: Threads + Wait + Sync>(
     rt: &R,
     alloc: Global,
-    layout: &[u8],
     words: &[&str],
-    failing: Failing,
+    depot: u64,
+    sink: u64,
 ) -> Result<Ran, AllocError> {
+    let layout = library(alloc, &[T])?;
     let inputs = Inputs {
-        layout,
+        layout: &layout,
         rules: MOS,
         schematic: T_SCHEMATIC,
     };
-    run_of(rt, alloc, inputs, words, failing)
+    run_of(rt, alloc, inputs, words, Failing { depot, sink })
 }
 
 // Each call of the depot fails in turn, then the sink's: an input has its open and two reads, a
@@ -56,47 +72,17 @@ fn each_call<R: Abort + Threads + Wait + Sync>(
     sizes: [usize; 3],
     files: u64,
 ) -> Result<(), AllocError> {
-    let layout = library(alloc, &[T])?;
     let first = inputs.saturating_mul(3).saturating_add(1);
     let last = files.saturating_mul(3).saturating_add(first);
-    let [shapes, netlist, report] = sizes;
     for depot in 1..last {
-        let ran = failed(rt, alloc, &layout, words, Failing { depot, sink: 0 })?;
-        assert_eq!(rt; ran.code, 4, "call {depot}");
-        assert_eq!(rt; ran.line.len(), 0, "call {depot}");
-        let (second, third) = (first.saturating_add(3), first.saturating_add(6));
-        assert_eq!(rt;
-            size_of(&ran.shapes),
-            left_of(first, depot, shapes),
-            "call {depot}"
-        );
-        assert_eq!(rt;
-            size_of(&ran.netlist),
-            left_of(second, depot, netlist),
-            "call {depot}"
-        );
-        assert_eq!(rt;
-            size_of(&ran.report),
-            left_of(third, depot, report),
-            "call {depot}"
-        );
+        let ran = failed(rt, alloc, words, depot, 0)?;
+        assert!(rt; has_failed(&ran, first, depot, sizes), "call {depot}");
     }
-    let ran = failed(
-        rt,
-        alloc,
-        &layout,
-        words,
-        Failing {
-            depot: last,
-            sink: 0,
-        },
-    )?;
-    assert_eq!(rt; ran.code, 0);
-    let ran = failed(rt, alloc, &layout, words, Failing { depot: 0, sink: 1 })?;
-    assert_eq!(rt; ran.code, 4);
-    assert_eq!(rt; ran.line.len(), 0);
-    assert_eq!(rt; size_of(&ran.shapes), Some(shapes));
-    assert_eq!(rt; size_of(&ran.netlist), Some(netlist));
+    let whole = failed(rt, alloc, words, last, 0)?;
+    assert!(rt; whole.code == 0);
+    let silent = failed(rt, alloc, words, 0, 1)?;
+    let [shapes, netlist, _] = sizes;
+    assert!(rt; has_left(&silent, Some(shapes), Some(netlist)));
     Ok(())
 }
 

@@ -69,7 +69,7 @@ const MEMORY: &[Cell] = &[
     ),
 ];
 
-const CASES: [Case; 2] = [
+static CASES: [Case; 2] = [
     Case {
         name: "ring oscillator",
         layout: RING,

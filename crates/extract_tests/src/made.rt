@@ -1,11 +1,8 @@
 //! A chip that was made, and what is run on its files.
 
-use crate::commands::{Failing, NONE, file_of, holds, one, words_of};
+use crate::commands::{Failing, NONE, Ran, ends, holds, joined, run_files};
 use job_board::OpenGate;
-use lvs_outside::{MemoryDepot, MemorySink};
-use lvs_run::run_lvs;
 use std::alloc::{AllocError, Global};
-use std::process::Abort;
 use std::sync::Wait;
 use std::test::Fail;
 use std::thread::Threads;
@@ -44,55 +41,24 @@ const RUN: [&str; 9] = [
     "--workers",
 ];
 
-/// How the words ended, and three files.
-#[derive(Debug, Drop)]
-struct Ended {
-    code: u8,
-    line: Vec<u8>,
-    files: [Option<Vec<u8>>; 3],
-}
+const BIG_FILES: [&str; 3] = ["big.gds", "big.lvs", "big.cir"];
 
-// Runs the words over these files of a chip, and copies the files of three paths.
-fn run_over<R: Threads + Wait + Sync>(
+const SMALL: [&str; 5] = ["make", "1", "0", "1", "p"];
+
+const SMALL_FILES: [&str; 3] = ["p.gds", "p.lvs", "p.cir"];
+
+// Runs the words of `make` over empty files: of what it leaves the layout stands in the place of
+// the shapes file, the rules in that of the netlist, the schematic in that of the report.
+fn make<R: Threads + Wait + Sync>(
     rt: &R,
     alloc: Global,
-    chip: [&[u8]; 3],
     words: &[&str],
     paths: [&str; 3],
     failing: Failing,
-) -> Result<Ended, AllocError> {
-    let words = words_of(alloc, words)?;
-    let [layout, rules, schematic] = chip;
-    let mut depot = MemoryDepot::new(alloc, one(alloc, failing.depot)?);
-    depot.put(alloc, "big.gds", layout)?;
-    depot.put(alloc, "big.lvs", rules)?;
-    depot.put(alloc, "big.cir", schematic)?;
-    let mut sink = MemorySink::new(alloc, one(alloc, failing.sink)?);
-    let status = run_lvs(
-        rt,
-        alloc,
-        words.as_slice(),
-        &mut depot,
-        &mut sink,
-        &OpenGate,
-    );
-    let [one, two, three] = paths;
-    Ok(Ended {
-        code: status.code(),
-        line: sink.bytes().to_vec(alloc)?,
-        files: [
-            file_of(alloc, &depot, one)?,
-            file_of(alloc, &depot, two)?,
-            file_of(alloc, &depot, three)?,
-        ],
-    })
-}
-
-// They ended with this status and this line.
-fn ends<R: Abort>(rt: &R, ended: &Ended, code: u8, line: &str) {
-    let told = str::from_utf8(&ended.line).unwrap_or("not UTF-8");
-    assert_eq!(rt; told, line);
-    assert_eq!(rt; ended.code, code);
+) -> Result<Ran, AllocError> {
+    let none: &[u8] = &[];
+    let files = [("big.gds", none), ("big.lvs", none), ("big.cir", none)];
+    run_files(rt, alloc, files, words, paths, failing, &OpenGate)
 }
 
 // A file's bytes.
@@ -103,37 +69,66 @@ fn bytes_of(file: &Option<Vec<u8>>) -> &[u8] {
     }
 }
 
-const EMPTY: [&[u8]; 3] = [&[], &[], &[]];
+// Runs `run` on a chip that was made, with so many workers.
+fn run_made<R: Threads + Wait + Sync>(
+    rt: &R,
+    alloc: Global,
+    chip: &Ran,
+    workers: &str,
+    failing: Failing,
+) -> Result<Ran, AllocError> {
+    let files = [
+        ("big.gds", bytes_of(&chip.shapes)),
+        ("big.lvs", bytes_of(&chip.netlist)),
+        ("big.cir", bytes_of(&chip.report)),
+    ];
+    let words = joined(alloc, &RUN, &[workers])?;
+    run_files(
+        rt,
+        alloc,
+        files,
+        &words,
+        ["s", "n", "p"],
+        failing,
+        &OpenGate,
+    )
+}
 
-const SMALL: [&str; 3] = ["p.gds", "p.lvs", "p.cir"];
+// Whether these of the three files are there.
+fn has_files(ran: &Ran, wanted: [bool; 3]) -> bool {
+    let [shapes, netlist, report] = wanted;
+    ran.shapes.is_some() == shapes
+        && ran.netlist.is_some() == netlist
+        && ran.report.is_some() == report
+}
 
 // One inverter, of which there is one kind.
 #[test]
 fn one_inverter(rt: HostRuntime) -> Result<(), Fail> {
-    let alloc = rt.alloc();
-    let words = ["make", "1", "0", "1", "p"];
-    let ended = run_over(&rt, alloc, EMPTY, &words, SMALL, NONE)?;
-    ends(&rt, &ended, 0, "match cells 3 circuits 3 pairs 3 bad 0\n");
-    let [layout, rules, schematic] = &ended.files;
-    assert!(rt; layout.is_some());
-    assert!(rt; rules.is_some());
-    holds(&rt, schematic, SINGLE, "p.cir");
+    let made = make(&rt, rt.alloc(), &SMALL, SMALL_FILES, NONE)?;
+    let line = "match cells 3 circuits 3 pairs 3 bad 0\n";
+    ends(&rt, &made, 0, line, "make");
+    assert!(rt; has_files(&made, [true; 3]));
+    holds(&rt, &made.report, SINGLE, "p.cir");
     Ok(())
 }
 
-// No inverter, and too many workers.
+/// No inverter, and too many workers.
+static REFUSED: [[&str; 5]; 2] = [["make", "0", "0", "1", "p"], ["make", "1", "0", "65", "p"]];
+
 #[test]
 fn refused_chips(rt: HostRuntime) -> Result<(), Fail> {
-    let alloc = rt.alloc();
-    for words in [["make", "0", "0", "1", "p"], ["make", "1", "0", "65", "p"]] {
-        let ended = run_over(&rt, alloc, EMPTY, &words, SMALL, NONE)?;
-        ends(&rt, &ended, 2, "refused words\n");
-        let [layout, rules, schematic] = &ended.files;
-        assert!(rt; layout.is_none());
-        assert!(rt; rules.is_none());
-        assert!(rt; schematic.is_none());
+    for words in &REFUSED {
+        let made = make(&rt, rt.alloc(), words, SMALL_FILES, NONE)?;
+        ends(&rt, &made, 2, "refused words\n", "make");
+        assert!(rt; has_files(&made, [false; 3]));
     }
     Ok(())
+}
+
+// Whether two runs left the same files.
+fn are_alike(ran: &Ran, other: &Ran) -> bool {
+    ran.shapes == other.shapes && ran.netlist == other.netlist && ran.report == other.report
 }
 
 // `make`, then `run` on its files: one line, and the same bytes by any number of workers. A call
@@ -142,35 +137,18 @@ fn refused_chips(rt: HostRuntime) -> Result<(), Fail> {
 fn generated_chip(rt: HostRuntime) -> Result<(), Fail> {
     let alloc = rt.alloc();
     let words = ["make", "10000", "7", "1", "big"];
-    let paths = ["big.gds", "big.lvs", "big.cir"];
-    let made = run_over(&rt, alloc, EMPTY, &words, paths, NONE)?;
-    ends(&rt, &made, 0, BIG);
-    let [layout, rules, schematic] = &made.files;
-    let chip = [bytes_of(layout), bytes_of(rules), bytes_of(schematic)];
-    let [w0, w1, w2, w3, w4, w5, w6, w7, w8] = RUN;
-    let paths = ["s", "n", "p"];
-    let words = [w0, w1, w2, w3, w4, w5, w6, w7, w8, "1"];
-    let first = run_over(&rt, alloc, chip, &words, paths, NONE)?;
-    ends(&rt, &first, 0, BIG);
+    let made = make(&rt, alloc, &words, BIG_FILES, NONE)?;
+    ends(&rt, &made, 0, BIG, "make");
+    let first = run_made(&rt, alloc, &made, "1", NONE)?;
+    ends(&rt, &first, 0, BIG, "1");
     for workers in ["4", "64"] {
-        let words = [w0, w1, w2, w3, w4, w5, w6, w7, w8, workers];
-        let ended = run_over(&rt, alloc, chip, &words, paths, NONE)?;
-        ends(&rt, &ended, 0, BIG);
-        assert_eq!(rt; ended.files, first.files, "{workers} workers");
+        let ran = run_made(&rt, alloc, &made, workers, NONE)?;
+        ends(&rt, &ran, 0, BIG, workers);
+        assert!(rt; are_alike(&ran, &first), "{workers} workers");
     }
-    let ended = run_over(
-        &rt,
-        alloc,
-        chip,
-        &words,
-        paths,
-        Failing { depot: 5, sink: 0 },
-    )?;
-    ends(&rt, &ended, 4, "");
-    let [shapes, netlist, report] = &ended.files;
-    assert!(rt; shapes.is_none());
-    assert!(rt; netlist.is_none());
-    assert!(rt; report.is_none());
+    let failed = run_made(&rt, alloc, &made, "1", Failing { depot: 5, sink: 0 })?;
+    ends(&rt, &failed, 4, "", "failed");
+    assert!(rt; has_files(&failed, [false; 3]));
     Ok(())
 }
 
@@ -179,25 +157,20 @@ fn generated_chip(rt: HostRuntime) -> Result<(), Fail> {
 #[test]
 fn failing_calls(rt: HostRuntime) -> Result<(), Fail> {
     let alloc = rt.alloc();
-    let words = ["make", "1", "0", "1", "p"];
-    for depot in 1..10 {
-        let ended = run_over(&rt, alloc, EMPTY, &words, SMALL, Failing { depot, sink: 0 })?;
-        ends(&rt, &ended, 4, "");
-        let [layout, rules, schematic] = &ended.files;
-        assert_eq!(rt; layout.is_some(), depot > 1, "call {depot}");
-        assert_eq!(rt; rules.is_some(), depot > 4, "call {depot}");
-        assert_eq!(rt; schematic.is_some(), depot > 7, "call {depot}");
+    for depot in 1..10u64 {
+        let made = make(&rt, alloc, &SMALL, SMALL_FILES, Failing { depot, sink: 0 })?;
+        ends(&rt, &made, 4, "", "depot");
+        let wanted = [depot > 1, depot > 4, depot > 7];
+        assert!(rt; has_files(&made, wanted), "call {depot}");
     }
-    let ended = run_over(
+    let made = make(
         &rt,
         alloc,
-        EMPTY,
-        &words,
-        SMALL,
+        &SMALL,
+        SMALL_FILES,
         Failing { depot: 0, sink: 1 },
     )?;
-    ends(&rt, &ended, 4, "");
-    let [_, _, schematic] = &ended.files;
-    assert!(rt; schematic.is_some());
+    ends(&rt, &made, 4, "", "sink");
+    assert!(rt; made.report.is_some());
     Ok(())
 }

@@ -12,15 +12,19 @@ use std::thread::Threads;
 /// How many cells there are beside the top, a transistor in each.
 const CELLS: u32 = 1024;
 
+fn push_cell(alloc: Global, out: &mut Vec<u8>, number: u32) -> Result<(), AllocError> {
+    let name = format!(in alloc; "C{number}")?;
+    begin_cell(alloc, out, name.as_str())?;
+    push_rect(alloc, out, 2, [0, 0, 1250, 1500])?;
+    push_rect(alloc, out, 3, [500, -100, 750, 1600])?;
+    end_cell(out)
+}
+
 // Each cell is placed once in the top, side by side.
 fn many_cells(alloc: Global) -> Result<Vec<u8>, AllocError> {
     let mut out = begin(alloc)?;
     for number in 0..CELLS {
-        let name = format!(in alloc; "C{number}")?;
-        begin_cell(alloc, &mut out, name.as_str())?;
-        push_rect(alloc, &mut out, 2, [0, 0, 1250, 1500])?;
-        push_rect(alloc, &mut out, 3, [500, -100, 750, 1600])?;
-        end_cell(&mut out)?;
+        push_cell(alloc, &mut out, number)?;
     }
     begin_cell(alloc, &mut out, "T")?;
     let mut x = 0i32;

@@ -1,13 +1,16 @@
 //! Words, paths, layouts and schematics that are refused, and words in other orders.
 
-use crate::commands::{EXTRACT, Inputs, NONE, RUN, ends, holds, refuses, run_of};
+use crate::commands::{EXTRACT, Inputs, NONE, RUN, ends, holds, joined, refuses, run_of};
 use crate::drawn::{Cell, library};
 use crate::layouts::{MOS, T, T_NETLIST, T_SCHEMATIC};
 use std::alloc::{AllocError, Global};
+use std::process::Abort;
+use std::sync::Wait;
 use std::test::Fail;
+use std::thread::Threads;
 
 /// Words behind those of `extract`.
-const BEHIND_EXTRACT: [&[&str]; 27] = [
+static BEHIND_EXTRACT: [&[&str]; 27] = [
     &["x"],
     &["--"],
     &["-"],
@@ -38,7 +41,7 @@ const BEHIND_EXTRACT: [&[&str]; 27] = [
 ];
 
 /// Whole lists of words.
-const REFUSED: [&[&str]; 21] = [
+static REFUSED: [&[&str]; 21] = [
     &[],
     &[""],
     &["run"],
@@ -83,7 +86,7 @@ const REFUSED: [&[&str]; 21] = [
 ];
 
 /// Words of paths that are refused, and their lines.
-const PATHS: [(&[&str], &str); 11] = [
+static PATHS: [(&[&str], &str); 11] = [
     (&["shapes", "x", "r", "x"], "refused same x\n"),
     (&["shapes", "l", "x", "s"], "refused absent x\n"),
     (
@@ -188,20 +191,22 @@ const PATHS: [(&[&str], &str); 11] = [
     ),
 ];
 
-// Some words and more.
-fn joined<'a>(
+/// Words behind those of `run`.
+static BEHIND_RUN: [&[&str]; 3] = [&["--workers=65"], &["--schematic=d"], &["--report=p"]];
+
+// Each of these words behind the first ones is refused.
+fn all_refused<R: Abort + Threads + Wait + Sync>(
+    rt: &R,
     alloc: Global,
-    words: &[&'a str],
-    more: &[&'a str],
-) -> Result<Vec<&'a str>, AllocError> {
-    let mut all = Vec::new(alloc);
-    for word in words {
-        all.push(*word)?;
+    inputs: Inputs<'_>,
+    first: &[&str],
+    rows: &[&[&str]],
+) -> Result<(), AllocError> {
+    for more in rows {
+        let words = joined(alloc, first, more)?;
+        refuses(rt, alloc, inputs, &words, "refused words\n")?;
     }
-    for word in more {
-        all.push(*word)?;
-    }
-    Ok(all)
+    Ok(())
 }
 
 #[test]
@@ -213,25 +218,17 @@ fn refused_words(rt: HostRuntime) -> Result<(), Fail> {
         rules: MOS,
         schematic: T_SCHEMATIC,
     };
-    for more in BEHIND_EXTRACT {
-        let words = joined(alloc, &EXTRACT, more)?;
-        refuses(&rt, alloc, inputs, &words, "refused words\n")?;
-    }
-    for more in [&["--workers=65"], &["--schematic=d"], &["--report=p"]] {
-        let words = joined(alloc, &RUN, more)?;
-        refuses(&rt, alloc, inputs, &words, "refused words\n")?;
-    }
-    for words in REFUSED {
-        refuses(&rt, alloc, inputs, words, "refused words\n")?;
-    }
-    for (words, line) in PATHS {
+    all_refused(&rt, alloc, inputs, &EXTRACT, &BEHIND_EXTRACT)?;
+    all_refused(&rt, alloc, inputs, &RUN, &BEHIND_RUN)?;
+    all_refused(&rt, alloc, inputs, &[], &REFUSED)?;
+    for (words, line) in &PATHS {
         refuses(&rt, alloc, inputs, words, line)?;
     }
     Ok(())
 }
 
 /// Words that all ask for the same.
-const EQUAL: [&[&str]; 5] = [
+static EQUAL: [&[&str]; 5] = [
     &[
         "extract",
         "--netlist=n",
@@ -288,7 +285,7 @@ fn accepted_words(rt: HostRuntime) -> Result<(), Fail> {
         rules: MOS,
         schematic: "",
     };
-    for words in EQUAL {
+    for words in &EQUAL {
         let ran = run_of(&rt, alloc, inputs, words, NONE)?;
         ends(
             &rt,
@@ -302,6 +299,26 @@ fn accepted_words(rt: HostRuntime) -> Result<(), Fail> {
     Ok(())
 }
 
+/// Words behind those of `extract` that name no top, and their lines.
+static UNCLEAR: [(&[&str], &str); 2] = [
+    (&[], "refused layout 23 cell T cell A\n"),
+    (&["--top=t"], "refused layout 24\n"),
+];
+
+/// Words that name the top, and their lines.
+static NAMED: [(&[&str], &[&str], &str); 2] = [
+    (
+        &EXTRACT,
+        &["--top=T"],
+        "extracted cells 1 circuits 1 bad 0\n",
+    ),
+    (
+        &RUN,
+        &["--top", "T"],
+        "match cells 1 circuits 1 pairs 1 bad 0\n",
+    ),
+];
+
 // The cell of the given name alone is extracted; names differ in the case of their letters.
 #[test]
 fn named_top(rt: HostRuntime) -> Result<(), Fail> {
@@ -312,35 +329,23 @@ fn named_top(rt: HostRuntime) -> Result<(), Fail> {
         rules: MOS,
         schematic: T_SCHEMATIC,
     };
-    refuses(
-        &rt,
-        alloc,
-        inputs,
-        &EXTRACT,
-        "refused layout 23 cell T cell A\n",
-    )?;
-    let words = joined(alloc, &EXTRACT, &["--top=t"])?;
-    refuses(&rt, alloc, inputs, &words, "refused layout 24\n")?;
-    let words = joined(alloc, &EXTRACT, &["--top=T"])?;
-    let ran = run_of(&rt, alloc, inputs, &words, NONE)?;
-    ends(&rt, &ran, 0, "extracted cells 1 circuits 1 bad 0\n", "top");
-    holds(&rt, &ran.netlist, T_NETLIST, "top");
+    for (more, line) in &UNCLEAR {
+        let words = joined(alloc, &EXTRACT, more)?;
+        refuses(&rt, alloc, inputs, &words, line)?;
+    }
     let wanted = Some(library(alloc, &[Cell("T", &[])])?);
-    assert!(rt; ran.shapes == wanted);
-    let words = joined(alloc, &RUN, &["--top", "T"])?;
-    let ran = run_of(&rt, alloc, inputs, &words, NONE)?;
-    ends(
-        &rt,
-        &ran,
-        0,
-        "match cells 1 circuits 1 pairs 1 bad 0\n",
-        "top",
-    );
+    for (first, more, line) in &NAMED {
+        let words = joined(alloc, first, more)?;
+        let ran = run_of(&rt, alloc, inputs, &words, NONE)?;
+        ends(&rt, &ran, 0, line, "top");
+        holds(&rt, &ran.netlist, T_NETLIST, "top");
+        assert!(rt; ran.shapes == wanted);
+    }
     Ok(())
 }
 
 /// Schematics, and the lines of their first faults.
-const SCHEMATICS: [(&str, &str); 15] = [
+static SCHEMATICS: [(&str, &str); 15] = [
     (
         ".subckt t g s d vss\nm1 d g s vss nmos l=2.5e-07\n+ w=1.5u5x\n.ends\n",
         "refused schematic 53 line 2 value 1\n",
@@ -402,7 +407,7 @@ const SCHEMATICS: [(&str, &str); 15] = [
 fn refused_schematics(rt: HostRuntime) -> Result<(), Fail> {
     let alloc = rt.alloc();
     let layout = library(alloc, &[T])?;
-    for (schematic, line) in SCHEMATICS {
+    for (schematic, line) in &SCHEMATICS {
         let inputs = Inputs {
             layout: &layout,
             rules: MOS,

@@ -8,19 +8,31 @@ use std::test::Fail;
 
 const LINE: &str = "extracted cells 1 circuits 1 bad 0\n";
 
-// A transistor with texts at its gate and its drain.
-fn begun(alloc: Global) -> Result<Vec<u8>, AllocError> {
+// A transistor with texts at its gate and its drain, and one of every byte at its source.
+fn drawn(alloc: Global) -> Result<Vec<u8>, AllocError> {
+    let text = every_byte(alloc)?;
     let mut out = begin(alloc)?;
     begin_cell(alloc, &mut out, "T")?;
     push_rect(alloc, &mut out, 2, [0, 0, 1250, 1500])?;
     push_rect(alloc, &mut out, 3, [500, -100, 750, 1600])?;
     push_label(alloc, &mut out, b"G", 600, 1550)?;
     push_label(alloc, &mut out, b"D", 1000, 100)?;
+    push_label(alloc, &mut out, &text, 100, 100)?;
+    end_cell(&mut out)?;
+    end(&mut out)?;
     Ok(out)
 }
 
+fn every_byte(alloc: Global) -> Result<Vec<u8>, AllocError> {
+    let mut text = Vec::new(alloc);
+    for byte in 0..=255u8 {
+        text.push(byte)?;
+    }
+    Ok(text)
+}
+
 /// How each byte is spelled in a name, by its number.
-const SPELLED: [&str; 16] = [
+static SPELLED: [&str; 16] = [
     r"\x00\x01\x02\x03\x04\x05\x06\x07\x08\x09\x0A\x0B\x0C\x0D\x0E\x0F",
     r"\x10\x11\x12\x13\x14\x15\x16\x17\x18\x19\x1A\x1B\x1C\x1D\x1E\x1F",
     r##"\x20!\"#\$\%\&\'\(\)\*\+\,-./"##,
@@ -40,22 +52,20 @@ const SPELLED: [&str; 16] = [
 ];
 
 // A name with a dollar gets its net's number.
-#[test]
-fn text_of_every_byte(rt: HostRuntime) -> Result<(), Fail> {
-    let alloc = rt.alloc();
-    let mut text = Vec::new(alloc);
-    for byte in 0..=255u8 {
-        text.push(byte)?;
-    }
-    let mut layout = begun(alloc)?;
-    push_label(alloc, &mut layout, &text, 100, 100)?;
-    end_cell(&mut layout)?;
-    end(&mut layout)?;
+fn netlist(alloc: Global) -> Result<String, AllocError> {
     let mut name = String::new(alloc);
-    for spelled in SPELLED {
+    for spelled in &SPELLED {
         name.push_str(spelled)?;
     }
     name.push_str(r"\$2")?;
+    let first = format!(in alloc; "* lvs netlist\n.SUBCKT T G {name} D VSS\n")?;
+    format!(in alloc; "{first}M1 D G {name} VSS NMOS L=0.25U W=1.5U\n.ENDS T\n.END\n")
+}
+
+#[test]
+fn text_of_every_byte(rt: HostRuntime) -> Result<(), Fail> {
+    let alloc = rt.alloc();
+    let layout = drawn(alloc)?;
     let inputs = Inputs {
         layout: &layout,
         rules: MOS,
@@ -63,10 +73,6 @@ fn text_of_every_byte(rt: HostRuntime) -> Result<(), Fail> {
     };
     let ran = run_of(&rt, alloc, inputs, &EXTRACT, NONE)?;
     ends(&rt, &ran, 0, LINE, "every byte");
-    let first = format!(in alloc; "* lvs netlist\n.SUBCKT T G {name} D VSS\n")?;
-    let netlist = format!(in alloc;
-        "{first}M1 D G {name} VSS NMOS L=0.25U W=1.5U\n.ENDS T\n.END\n"
-    )?;
-    holds(&rt, &ran.netlist, netlist.as_str(), "every byte");
+    holds(&rt, &ran.netlist, netlist(alloc)?.as_str(), "every byte");
     Ok(())
 }

@@ -34,7 +34,7 @@ const MATCH: &str = "match cells 1 circuits 1 pairs 1 bad 0\n";
 
 const MISMATCH: &str = "mismatch cells 1 circuits 1 pairs 1 bad 0\n";
 
-const CASES: [Case; 4] = [
+static CASES: [Case; 4] = [
     // A transistor has no direction, and pins have no order.
     Case {
         name: "pins in another order",

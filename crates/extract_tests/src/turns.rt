@@ -125,7 +125,7 @@ x1 vss mid
 .ends
 ";
 
-const CASES: [Case; 7] = [
+static CASES: [Case; 7] = [
     // The wrong transistor stays one, and the first line tells where its cause is.
     Case {
         name: "a width two levels down",

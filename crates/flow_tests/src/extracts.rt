@@ -1,7 +1,5 @@
 //! Small layouts and the netlists that are extracted from them, as SPICE text.
 
-ghost use Rattle.std.specs.Prelude.{◌≤◌};
-
 use crate::drawn::Placed::At;
 use crate::drawn::{Drawn, Letter, Shape, stream_of};
 use crate::gates::{ACTIVE, CROSSED, HALF_CROSSED, NMOS, POLY, RING};
@@ -10,7 +8,7 @@ use deep_flow::extract;
 use deep_tables::GateCause;
 use gds_layout::read_layout;
 use geo_base::Square;
-use job_board::{Gate, OpenGate};
+use job_board::{Crew, Gate, OpenGate};
 use job_tests::{Abreast, Visits};
 use rule_text::read_rules;
 use spice_text::{fits_cards, write_spice};
@@ -41,22 +39,18 @@ struct Found {
 }
 
 fn extracted<R: Threads + Wait + Sync, G: Gate + Sync>(
-    rt: &R,
     alloc: Global,
     layout: &[u8],
     rules: &[u8],
-    workers: usize,
-    gate: &G,
-) -> Result<Found, AllocError>
-    requires { (1 ≤ workers) × (workers ≤ 64) }
-{
+    crew: &Crew<R, G>,
+) -> Result<Found, AllocError> {
     let Ok(layout) = read_layout(alloc, layout, None) else {
         return Err(AllocError);
     };
     let Ok(rules) = read_rules(alloc, rules) else {
         return Err(AllocError);
     };
-    let found = extract(rt, alloc, &layout.design, &rules, UNIT_PM, workers, gate)?;
+    let found = extract(alloc, &layout.design, &rules, UNIT_PM, crew)?;
     let mut bad = Vec::new(alloc);
     for gate in &found.bad {
         bad.push(Told {
@@ -84,7 +78,7 @@ fn has_netlist<R: Threads + Wait + Sync>(
     bad: &[Told],
 ) -> Result<bool, AllocError> {
     for workers in 1..3 {
-        let found = extracted(rt, alloc, layout, rules, workers, &OpenGate)?;
+        let found = extracted(alloc, layout, rules, &Crew::new(rt, workers, &OpenGate))?;
         if found.text.as_slice() != text || found.bad.as_slice() != bad {
             return Ok(false);
         }
@@ -382,7 +376,7 @@ fn both_workers_enter(rt: HostRuntime) -> Result<(), Fail> {
     let alloc: Global = rt.alloc();
     let layout = stream_of(alloc, &THREE)?;
     let gate = Abreast::new();
-    let found = extracted(&rt, alloc, &layout, NMOS, 2, &gate)?;
+    let found = extracted(alloc, &layout, NMOS, &Crew::new(&rt, 2, &gate))?;
     let seven = Visits {
         first: 7,
         second: 7,

@@ -9,7 +9,7 @@ use deep_flow::derive_gates;
 use deep_tables::{GateCause, GateState};
 use gds_layout::read_layout;
 use geo_base::Square;
-use job_board::OpenGate;
+use job_board::{Crew, OpenGate};
 use rule_text::read_rules;
 use std::alloc::{AllocError, Global};
 use std::sync::Wait;
@@ -94,7 +94,7 @@ fn all_gates<R: Threads + Wait + Sync>(
     };
     let design = &layout.design;
     design.sound();
-    let found = derive_gates(rt, alloc, design, &rules, workers, &OpenGate)?;
+    let found = derive_gates(alloc, design, &rules, &Crew::new(rt, workers, &OpenGate))?;
     let mut all = Vec::new(alloc);
     for cell in design.order() {
         for gate in found.gates.of(*cell) {

@@ -10,7 +10,7 @@ use crate::streams::{
 };
 use deep_flow::derive_nets;
 use gds_layout::read_layout;
-use job_board::OpenGate;
+use job_board::{Crew, OpenGate};
 use rule_text::read_rules;
 use std::alloc::{AllocError, Global};
 use std::sync::Wait;
@@ -46,7 +46,7 @@ fn top_nets<R: Threads + Wait + Sync>(
     };
     let design = &layout.design;
     design.sound();
-    let found = derive_nets(rt, alloc, design, &rules, workers, &OpenGate)?;
+    let found = derive_nets(alloc, design, &rules, &Crew::new(rt, workers, &OpenGate))?;
     let nets = found.nets.of(design.top());
     Ok(Found {
         net_of: nets.net_of.to_vec(alloc)?,

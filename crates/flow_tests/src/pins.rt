@@ -9,7 +9,7 @@ use crate::gates::{ACTIVE, CROSSED, NMOS, POLY};
 use deep_flow::extract;
 use deep_tables::CellPins;
 use gds_layout::read_layout;
-use job_board::OpenGate;
+use job_board::{Crew, OpenGate};
 use rule_text::read_rules;
 use std::alloc::{AllocError, Global};
 use std::sync::Wait;
@@ -47,7 +47,8 @@ fn all_pins<R: Threads + Wait + Sync>(
     };
     let design = &layout.design;
     design.sound();
-    let found = extract(rt, alloc, design, &rules, UNIT_PM, workers, &OpenGate)?;
+    let crew = Crew::new(rt, workers, &OpenGate);
+    let found = extract(alloc, design, &rules, UNIT_PM, &crew)?;
     let mut out = Vec::new(alloc);
     for cell in design.order() {
         let pins = found.pins.of(*cell);

@@ -2,14 +2,14 @@
 use Rattle.std.proofs.Common.{◌≡◌, ◌↔◌, inl, inr, ℕ, ◌+◌, ◌≤◌, ◌^◌, true, List, Option, Some, None, slice_index_or, sym, subst, arith}
 use Rattle.std.specs.List.{All}
 use Rattle.std.proofs.lemmas.Int.{ints}
-use Rattle.geo_base.specs.Rects.{has, IsRect}
+use Rattle.geo_base.specs.Rects.{has}
 use Rattle.geo_base.specs.declared.shapes.Rect.{Rect}
 use Rattle.geo_base.specs.declared.shapes.Square.{Square}
 use Rattle.rect_sets.specs.Near.{HasNearCorners, IsNearSet}
 use Rattle.rect_sets.specs.Rects.{IsCanonical, covers}
 use Rattle.rect_sets.proofs.Unique.{listed_get, rect_of}
 use Rattle.flat_layout.specs.Parts.{IsCloseTo, IsLeast}
-use Rattle.cell_graph.specs.Linked.{Linked, IsSound, IsRectWithin, HullHas, HullIsSound, cell_at, hull_of}
+use Rattle.cell_graph.specs.Linked.{Linked, IsSound, IsRectWithin, HullIsSound, cell_at, hull_of}
 use Rattle.cell_graph.proofs.Bridge.{has_in, hull_sound, in_has}
 use Rattle.cell_graph.proofs.Growing.{grown_frame, near_square, within_grown}
 use Rattle.flat_layout.specs.Plane.{AreWithin}

@@ -14,7 +14,7 @@ use Rattle.rect_sets.proofs.Splitting.{listed_either}
 use Rattle.std.proofs.lemmas.List.{take_more}
 use Rattle.flat_layout.specs.Arrays.{place_at}
 use Rattle.flat_layout.specs.Layout as flat
-use Rattle.flat_layout.specs.Layout.{IsReached, Some_of}
+use Rattle.flat_layout.specs.Layout.{IsReached}
 use Rattle.flat_layout.specs.Layers.{Formula, IsKept, IsKeptBelow, reach}
 use Rattle.flat_layout.specs.Values.{IsLocalLayer}
 use Rattle.flat_laws.proofs.Cover.{reached_below, kept_above, kept_here}

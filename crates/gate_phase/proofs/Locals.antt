@@ -8,7 +8,7 @@ use Rattle.geo_base.specs.declared.shapes.Square.{Square}
 use Rattle.rect_sets.specs.Near.{HasNearCorners}
 use Rattle.flat_layout.specs.Layers.{Formula, Empty, IsKept, reach}
 use Rattle.flat_layout.specs.Layout.{Design, IsReached}
-use Rattle.cell_graph.specs.Linked.{Linked, IsSound, HullHas, HullIsSound, cell_at, hull_of, plain}
+use Rattle.cell_graph.specs.Linked.{Linked, IsSound, HullIsSound, cell_at, hull_of, plain}
 use Rattle.cell_graph.proofs.Bridge.{hull_sound, inside_has}
 use Rattle.cell_context.specs.Arrays.{IsPart}
 use Rattle.cell_context.proofs.Visiting.{and_both, wider_rect}
@@ -20,7 +20,6 @@ use Rattle.deep_tables.proofs.Reading.{layer_at}
 use Rattle.gate_search.specs.Gather.{AreMet}
 use Rattle.gate_phase.specs.Kept.{HasLocals, HoldsNear}
 use Rattle.gate_phase.specs.Layer.{IsKeptNear, KeptOf, formula_of}
-use Rattle.gate_phase.proofs.Bringing.{near_corners}
 use Rattle.cell_graph.specs.Grown.{grown, IsInGrown}
 use Rattle.cell_graph.proofs.Growing.{grown_frame}
 use Rattle.gate_phase.proofs.Holding.{frame_corners}

@@ -1,16 +1,15 @@
 -- Seeds are among what was pushed.
-use Rattle.std.proofs.Common.{◌≡◌, inl, inr, ℕ, ◌<◌, ◌≤◌, ◌+◌, ◌^◌, Bool, true, ◌++◌, List, Option, Some, None, slice_get, get_or, length, sym, ◌∙◌, ap, subst, arith}
-use Rattle.std.proofs.lemmas.Int.{ints}
+use Rattle.std.proofs.Common.{◌≡◌, inl, inr, ℕ, ◌<◌, ◌≤◌, ◌+◌, Bool, true, ◌++◌, List, Option, Some, None, slice_get, get_or, length, sym, ◌∙◌, ap, subst, arith}
 use Rattle.std.proofs.lemmas.Option.{slice_get_within}
 use Rattle.geo_base.specs.Motions.{moved_square}
-use Rattle.geo_base.specs.Rects.{has, IsRect, moved_rect}
+use Rattle.geo_base.specs.Rects.{has, moved_rect}
 use Rattle.geo_base.specs.declared.layer.LayerKey.{LayerKey}
 use Rattle.geo_base.specs.declared.shapes.Rect.{Rect}
 use Rattle.geo_base.specs.declared.shapes.Square.{Square}
 use Rattle.geo_base.proofs.Spans.{moved_rect-has}
 use Rattle.rect_sets.specs.Rects.{covers}
 use Rattle.flat_layout.specs.Arrays.{place_at}
-use Rattle.flat_layout.specs.Gates.{Geometry, Rule, gate_inputs, gate_reach, geometry}
+use Rattle.flat_layout.specs.Gates.{Rule, gate_inputs, gate_reach, geometry}
 use Rattle.flat_layout.specs.Layers.{Empty, Formula, InFlat, inputs, reach}
 use Rattle.flat_layout.specs.Layout as flat
 use Rattle.flat_layout.specs.Layout.{IsReached, IsDisturbed, Some_of}
@@ -22,7 +21,7 @@ use Rattle.flat_laws.proofs.Cover.{reached_below}
 use Rattle.flat_laws.proofs.Moves.{within_back}
 use Rattle.flat_laws.proofs.Names.{near_input}
 use Rattle.cell_graph.specs.declared.cells.Place.{Place}
-use Rattle.cell_graph.specs.Linked.{Linked, IsSound, IsStep, IsHull, IsRectWithin, HullHas, HullIsSound, hull_of, cell_at, places_at, motion_at, plain, reference}
+use Rattle.cell_graph.specs.Linked.{Linked, IsSound, IsStep, HullHas, HullIsSound, hull_of, cell_at, places_at, motion_at, plain, reference}
 use Rattle.cell_graph.proofs.Growing.{grown_frame, wider_grown, within_grown}
 use Rattle.cell_graph.proofs.Bridge.{own, hulls, hull_sound, inside_has, placed_of, reference_at, step_of}
 use Rattle.cell_context.specs.Arrays.{IsCloseArray}

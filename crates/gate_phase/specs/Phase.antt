@@ -1,7 +1,7 @@
 -- What a phase of gates is made from.
 use Rattle.std.specs.Prelude.{ℕ, List}
 use Rattle.cell_graph.specs.Linked.{Linked}
-use Rattle.layer_phase.specs.Phase.{AreFreeJobs}
+use Rattle.deep_tables.specs.Jobs.{AreFreeJobs}
 use Rattle.rule_text.specs.declared.rules.RuleSet.{RuleSet}
 use Rattle.gate_phase.specs.declared.phase.GatePhase.TheInside.{Inside}
 

@@ -11,6 +11,11 @@ pub(crate) const HEAD: &str =
 pub(crate) const CELL: &str =
     "001C0502 000000000000000000000000000000000000000000000000 00060606 4100";
 
+/// The starts of a boundary and of a path on a layer.
+pub(crate) const BOUNDARY: &str = "00040800 00060D020001 00060E020000";
+
+pub(crate) const PATH: &str = "00040900 00060D020001 00060E020000";
+
 /// The ends of a structure and of the library.
 pub(crate) const END: &str = "00040700 00040400";
 
@@ -78,7 +83,7 @@ pub(crate) const KLAYOUT: &str =
 
 /// What stands first in a structure, the number of the fault that its last record gives, and that
 /// record's index and offset.
-pub(crate) const FAULTS: [(&str, &str, u8, u64, u64); 58] = [
+pub(crate) static FAULTS: [(&str, &str, u8, u64, u64); 58] = [
     (
         "slanted edge",
         "00040800 00060D020001 00060E020000 \

@@ -3,6 +3,7 @@
 
 mod board;
 mod close;
+mod crew;
 mod gate;
 mod inputs;
 mod layout;
@@ -18,6 +19,7 @@ mod work;
 
 pub use board::Board;
 pub use close::NotFull;
+pub use crew::Crew;
 pub use gate::{Gate, OpenGate};
 pub use run::run_phase;
 pub use seat::{BoardSeat, Claim, Look, Progress, Ready, Ticket};

@@ -5,6 +5,7 @@ ghost use Rattle.job_board.specs.Board.{SawAll, SawStop};
 ghost use Rattle.job_board.specs.Work.{IsBoardOf, MayGoOn, HasEnded, IsLessBy};
 
 use crate::board::Board;
+use crate::crew::Crew;
 use crate::gate::Gate;
 use crate::seat::BoardSeat;
 use crate::work::work_all;
@@ -58,28 +59,25 @@ fn join_seats<T: Defined + Drop>(
     Ok(())
 }
 
-/// The value of each job of a phase, worked by this many workers at once without a lock: a worker
+/// The value of each job of a phase, worked by the crew's workers at once without a lock: a worker
 /// takes any job whose inputs are all published, enters the gate and works it. The calling thread
 /// is one of them, so a thread that can't be started changes no answer. A worker that finds no
 /// memory stops the others. The values stand in the order of the jobs, and are the same for every
 /// number of workers and every order in which jobs come free. Want of memory is answered only where
 /// this call or a worker found none. O(jobs + inputs) beside the work itself and the waiting.
 pub fn run_phase<R: Threads + Wait + Sync, P: Phase + Sync, G: Gate + Sync>(
-    rt: &R,
     alloc: Global,
     phase: &P,
-    workers: usize,
-    gate: &G,
+    crew: &Crew<R, G>,
 ) -> Result<Results<P::Out>, AllocError>
-    requires { (1 ≤ workers) × (workers ≤ 64) }
     ensures { IfOk result (AreDefined P.Out.is_defined (P.key phase.now) (P.graph phase.now)) }
 {
     let (board, seat) = Board::new(alloc, phase.graph(), phase.key())?;
     let mut seat = seat;
-    let seats = split_seats(alloc, &board, &mut seat, workers as u32)?;
+    let seats = split_seats(alloc, &board, &mut seat, crew.workers as u32)?;
     let shared = &board;
     let ended = thread::map_vec(
-        rt,
+        crew.rt,
         seats,
         &|worker: (u32, BoardSeat<P::Out>)| -> Result<BoardSeat<P::Out>, AllocError>
             requires board { IsBoardOf (P.graph phase.now) (P.key phase.now) shared.now }
@@ -87,7 +85,7 @@ pub fn run_phase<R: Threads + Wait + Sync, P: Phase + Sync, G: Gate + Sync>(
             ensures { IfOk result (HasEnded shared.entry.now) }
         {
             let (place, mut seat) = worker;
-            work_all(rt, alloc, phase, gate, shared, place, &mut seat)?;
+            work_all(alloc, phase, crew, shared, place, &mut seat)?;
             Ok(seat)
         },
     )?;

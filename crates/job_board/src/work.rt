@@ -4,6 +4,7 @@ ghost use Rattle.job_board.specs.Board.{IsSeatOf, IsTicket, HasTicket, Stopped, 
 ghost use Rattle.job_board.specs.Work.{IsBoardOf, IsWorkers, MayGoOn, HasEnded};
 
 use crate::board::Board;
+use crate::crew::Crew;
 use crate::gate::Gate;
 use crate::seat::{BoardSeat, Claim, Look, Ticket};
 use crate::tries::Tries;
@@ -36,10 +37,9 @@ fn work_ticket<R: Wait, P: Phase>(
 
 /// Works a job where it is ready and no seat has it, and says whether it did.
 fn try_job<R: Wait, P: Phase, G: Gate>(
-    rt: &R,
     alloc: Global,
     phase: &P,
-    gate: &G,
+    crew: &Crew<R, G>,
     board: &Board<P::Out>,
     seat: &mut BoardSeat<P::Out>,
     job: u32,
@@ -56,18 +56,17 @@ fn try_job<R: Wait, P: Phase, G: Gate>(
     let Claim::Mine(ticket) = board.claim(seat, ready) else {
         return Ok(false);
     };
-    gate.enter(job);
-    work_ticket(rt, alloc, phase, board, seat, ticket)?;
+    crew.gate.enter(job);
+    work_ticket(crew.rt, alloc, phase, board, seat, ticket)?;
     Ok(true)
 }
 
 /// Tries jobs until all are finished or the board is stopped. After a job those that wait for it
 /// come first.
 fn work_on<R: Wait, P: Phase, G: Gate>(
-    rt: &R,
     alloc: Global,
     phase: &P,
-    gate: &G,
+    crew: &Crew<R, G>,
     board: &Board<P::Out>,
     seat: &mut BoardSeat<P::Out>,
     tries: &mut Tries,
@@ -79,13 +78,13 @@ fn work_on<R: Wait, P: Phase, G: Gate>(
     ensures ended { OnOk result (HasEnded board.now seat.new) }
 {
     let jobs = u64::from(board.jobs());
-    for _ in rt.forever() {
+    for _ in crew.rt.forever() {
         let progress = board.progress(seat);
         if progress.stopped || progress.finished == jobs {
             return Ok(());
         }
         let job = tries.next();
-        if try_job(rt, alloc, phase, gate, board, seat, job)? {
+        if try_job(alloc, phase, crew, board, seat, job)? {
             board.add_dependents(job, tries);
         } else {
             thread::yield_now();
@@ -97,10 +96,9 @@ fn work_on<R: Wait, P: Phase, G: Gate>(
 /// What one worker does with its seat, from a place of its own on. A worker that finds no memory
 /// stops the board.
 pub(crate) fn work_all<R: Wait, P: Phase, G: Gate>(
-    rt: &R,
     alloc: Global,
     phase: &P,
-    gate: &G,
+    crew: &Crew<R, G>,
     board: &Board<P::Out>,
     place: u32,
     seat: &mut BoardSeat<P::Out>,
@@ -119,7 +117,7 @@ pub(crate) fn work_all<R: Wait, P: Phase, G: Gate>(
         board.stop(seat);
         return Err(AllocError);
     };
-    let ended = work_on(rt, alloc, phase, gate, board, seat, &mut tries);
+    let ended = work_on(alloc, phase, crew, board, seat, &mut tries);
     if ended.is_err() {
         board.stop(seat);
     }

@@ -1,7 +1,7 @@
 //! A phase that sums along a graph, run by one worker and by many.
 
 use crate::graphs::graph_of;
-use job_board::{Gate, OpenGate, run_phase};
+use job_board::{Crew, Gate, OpenGate, run_phase};
 use job_graph::{Defined, Graph, Phase, Reads};
 use std::alloc::{AllocError, Global};
 use std::sync::atomic::AtomicU64;
@@ -120,7 +120,7 @@ fn chain_is_summed(rt: HostRuntime) -> Result<(), Fail> {
             graph: graph_of(alloc, &CHAIN)?,
             short: NONE,
         };
-        let values = run_phase(&rt, alloc, &sums, workers, &OpenGate)?;
+        let values = run_phase(alloc, &sums, &Crew::new(&rt, workers, &OpenGate))?;
         assert!(rt; values.len() == 10 && values.get(9).0 == 55 && values.get(4).0 == 15);
     }
     Ok(())
@@ -137,7 +137,7 @@ fn no_job_after_want_of_memory(rt: HostRuntime) -> Result<(), Fail> {
         let gate = Entered {
             seen: AtomicU64::new(0),
         };
-        let answer = run_phase(&rt, alloc, &sums, workers, &gate);
+        let answer = run_phase(alloc, &sums, &Crew::new(&rt, workers, &gate));
         assert!(rt; answer.is_err() && gate.seen.load(SeqCst) == 0b11_1111);
     }
     Ok(())
@@ -155,7 +155,7 @@ fn both_workers_enter(rt: HostRuntime) -> Result<(), Fail> {
         second: AtomicU64::new(0),
         met: AtomicU64::new(0),
     };
-    let values = run_phase(&rt, alloc, &sums, 2, &gate)?;
+    let values = run_phase(alloc, &sums, &Crew::new(&rt, 2, &gate))?;
     assert!(rt; values.len() == 2 && gate.met.load(SeqCst) == 2);
     Ok(())
 }

@@ -93,6 +93,9 @@ around_same n a b q ra rb same = same_bool (covers (around n a) q) (covers (arou
     (λ e. let z = covered_near n b q rb e in near_covered n a q z.0 (same z.0 ∙ z.1) z.2)
 
 -- grown once more
+pub none_twice : (n : ℕ) (set twice : List Rect) (q : Square) → n ≡ 0 → twice ≡ set → covers twice q ≡ covers (around n (around n set)) q
+none_twice n set twice q e is = subst (λ m. covers twice q ≡ covers (around m (around m set)) q) (sym e) (ap (λ (l : List Rect). covers l q) is ∙ sym (around_none set q) ∙ sym (around_none (around 0 set) q))
+
 pub around_twice : (n : ℕ) (set once twice : List Rect) (q : Square) → All IsRect set → All IsRect once → ((s : Square) → covers once s ≡ covers (around n set) s) → ((s : Square) → covers twice s ≡ covers (around n once) s)
     → covers twice q ≡ covers (around n (around n set)) q
 around_twice n set once twice q rs ro first second = second q ∙ around_same n once (around n set) q ro (around_rects n set rs) first

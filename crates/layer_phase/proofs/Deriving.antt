@@ -1,10 +1,9 @@
 -- A derived layer of a cell, from what is looked at.
-use Rattle.std.proofs.lemmas.Option.{get_or_from_slice_get, slice_get-get_or, slice_get_within}
+use Rattle.std.proofs.lemmas.Option.{get_or_from_slice_get}
 use Rattle.std.proofs.lemmas.Bool.{eqb-true}
 use Rattle.deep_tables.specs.Zones.{IsAsked}
-use Rattle.std.proofs.Common.{◌≡◌, ◌↔◌, inl, inr, ℕ, ◌+◌, ◌<◌, ◌≤◌, arith, length, Bool, true, false, not, ◌&&◌, ◌||◌, ◌==◌, List, [], ◌∷◌, Option, Some, refl, sym, ◌∙◌, ap, subst, get_or, slice_get}
+use Rattle.std.proofs.Common.{◌≡◌, ◌↔◌, inl, inr, ℕ, ◌+◌, ◌≤◌, arith, Bool, true, false, not, ◌&&◌, ◌||◌, ◌==◌, List, [], ◌∷◌, Option, Some, refl, sym, ◌∙◌, ap, subst, slice_get}
 use Rattle.geo_base.specs.Motions.{moved_square}
-use Rattle.geo_base.specs.declared.layer.LayerKey.{LayerKey}
 use Rattle.geo_base.specs.declared.shapes.Rect.{Rect}
 use Rattle.geo_base.specs.declared.shapes.Square.{Square}
 use Rattle.rect_sets.specs.Rects.{covers, IsCanonical}
@@ -22,13 +21,11 @@ use Rattle.cell_context.proofs.Collecting.{and_right}
 use Rattle.cell_context.proofs.Visiting.{and_both}
 use Rattle.deep_laws.specs.Layers.{IsDerived, IsFromStirred, IsNearOwn}
 use Rattle.rule_text.specs.Rules.{Rules}
-use Rattle.rule_text.specs.declared.rules.LayerForm.TheVariants as form
 use Rattle.rule_text.specs.declared.rules.LayerRule.{LayerRule}
 use Rattle.rule_text.specs.declared.rules.MosRule.{MosRule}
 use Rattle.rule_text.specs.declared.rules.MoreRule.{MoreRule}
 use Rattle.rule_layers.specs.Formulas.{formulas, greatest_reach, zone_margin}
-use Rattle.rule_layers.specs.Reads.{AreRead, IsRead}
-use Rattle.rule_layers.proofs.Unread.{IsOther, input_read, one_some}
+use Rattle.rule_layers.specs.Reads.{IsRead}
 use Rattle.rule_layers.proofs.Reaching.{reach_in}
 use Rattle.deep_tables.specs.declared.zones.CellZones.{CellZones}
 use Rattle.deep_tables.specs.Frames.{IsFramedZone}
@@ -37,7 +34,7 @@ use Rattle.deep_tables.proofs.Reading.{zone_at}
 use Rattle.layer_phase.specs.Around.{around}
 use Rattle.layer_phase.specs.Bridge.{TellsKept}
 use Rattle.layer_phase.specs.Keeps.{IsKeptBy, IsZoneAt}
-use Rattle.layer_phase.specs.Looks.{AreReadLooks, IsExposed, IsInput}
+use Rattle.layer_phase.specs.Looks.{AreReadLooks, IsExposed}
 use Rattle.layer_phase.specs.Names.{IsFlatIn, IsReady}
 use Rattle.layer_phase.specs.Parts.{AreParts}
 use Rattle.layer_phase.proofs.Around.{around_none, near_covered, rects_of}
@@ -62,25 +59,6 @@ asked_derived r name (Input key) h = absurd h
 asked_derived r name Empty h = absurd h
 asked_derived r name (Binary op a b) h = tt
 asked_derived r name (Sized by a) h = tt
-
-pub derived_other : (x : Formula) → IsDerived x → IsOther x
-derived_other (Input k) h key e = absurd h
-derived_other Empty h key e = absurd h
-derived_other (Binary op a b) h key e = cc
-derived_other (Sized by a) h key e = cc
-
--- an input layer among the names as derived names see them is one of the names, and is read
-pub read_input : (names read : List LayerRule) (k : ℕ) (key : LayerKey) → AreRead names [] [] read → IsInput read k key → IsInput names k key × IsRead names [] [] k
-read_input names read k key are is =
-    let lt = slice_get_within read k is.0 is.1 in
-    let count = are.count in
-    let within : k < length names = omega (arith, lt, count) in
-    let rule = get_or names k is.0 in
-    let at : slice_get names k ≡ Some rule = slice_get-get_or names k is.0 within in
-    let o = are.each k rule at in
-    let same : o.0 ≡ is.0 = one_some o.0 is.0 (sym o.1 ∙ is.1) in
-    let form_is : o.0.form ≡ form.Input key = ap (λ (r : LayerRule). r.form) same ∙ is.2 in
-    let h = input_read (IsRead names [] [] k) rule.form o.0.form key o.2 form_is in ((rule, at, h.1), h.0)
 
 -- with device rules it still is read
 still_read : (names : List LayerRule) (devices : List MosRule) (further : List MoreRule) (k : ℕ) → IsRead names [] [] k → IsRead names devices further k
@@ -135,7 +113,7 @@ module _ (d : Linked) (r : Rules) (z : List (Option CellZones)) (cell name : ℕ
   asked = asked_derived r name x derived_name
 
   tree_seen : slice_get (formulas seen.seen) name ≡ Some x
-  tree_seen = seen.tree x derived_name at
+  tree_seen = seen.tree x derived_name refl at
 
   own_seen : (q : Square) → IsNearOwn (plain d) cell x q → covers looks q ≡ true
   own_seen q h =

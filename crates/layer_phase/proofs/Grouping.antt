@@ -1,9 +1,10 @@
 -- Derived names by how far they reach.
-use Rattle.std.proofs.Common.{◌≡◌, ◌⊎◌, inl, inr, ℕ, zero, suc, ◌<◌, ◌≤◌, ◌+◌, ◌^◌, ◌==◌, ◌||◌, Bool, true, false, List, [], ◌∷◌, ◌++◌, map, Option, Some, None, refl, sym, ap, ◌∙◌, subst, arith, get_or, length, length-append, slice_get, slice_set}
-use Rattle.std.specs.List.{list_any}
+use Rattle.std.proofs.Common.{◌≡◌, ◌⊎◌, inl, inr, ℕ, zero, suc, ◌<◌, ◌≤◌, ◌+◌, ◌^◌, ◌==◌, Bool, true, false, List, [], ◌∷◌, ◌++◌, map, Option, Some, None, refl, sym, ap, ◌∙◌, subst, arith, get_or, length, length-append, slice_get, slice_set}
+use Rattle.std.specs.List.{All}
 use Rattle.std.proofs.Math.Decide.{ℕ_discrete}
-use Rattle.std.proofs.lemmas.Bool.{cases_lt, eqb-false, eqb-true}
-use Rattle.std.proofs.lemmas.List.{get_or_append_left, get_or_push, get_or_past, length-map}
+use Rattle.std.proofs.lemmas.Bool.{eqb-false}
+use Rattle.std.proofs.lemmas.List.{get_or_append_left, get_or_push, length-map}
+use Rattle.std.proofs.lemmas.List.Elements.{All-nil, All-push}
 use Rattle.std.proofs.lemmas.Option.{get_or_from_slice_get, slice_get-get_or, slice_get_within}
 use Rattle.geo_base.specs.declared.shapes.Rect.{Rect}
 use Rattle.geo_base.specs.declared.shapes.Square.{Square}
@@ -22,17 +23,17 @@ use Rattle.rule_text.specs.declared.rules.LayerForm.{LayerForm}
 use Rattle.rule_text.specs.declared.rules.LayerForm.TheVariants as form
 use Rattle.rule_text.specs.declared.rules.LayerRule.{LayerRule}
 use Rattle.rule_layers.specs.Formulas.{formula_by, formulas, formulas_behind, zone_margin}
-use Rattle.rule_layers.specs.Reads.{AreRead, IsRead, IsReadAs, read_form}
 use Rattle.rule_layers.proofs.Reaching.{near, reach_in, reach_law}
-use Rattle.rule_layers.proofs.Unread.{one_some, other_tree}
+use Rattle.rule_layers.proofs.Unread.{one_some}
 use Rattle.deep_tables.specs.declared.zones.CellZones.{CellZones}
 use Rattle.deep_tables.specs.Frames.{IsFramedZone}
-use Rattle.layer_phase.specs.Groups.{AreDone, ArePlain, Finds, is_derived}
+use Rattle.layer_phase.specs.Groups.{AreDone, AreGroups, AreGroupsTo, ArePlain, Finds, HasReach, IsGroup, IsMember, is_derived}
+use Rattle.layer_phase.specs.declared.groups.Group.{Group}
 use Rattle.layer_phase.specs.Keeps.{IsZoneAt}
 use Rattle.layer_phase.specs.Names.{AreLocals, IsReady}
 use Rattle.layer_phase.proofs.Around.{grown_within, set_within}
-use Rattle.layer_phase.proofs.Deriving.{derived_other, entry_frame}
-use Rattle.layer_phase.proofs.Flattening.{behind_stays, count_behind, push_cases, push_new}
+use Rattle.layer_phase.proofs.Deriving.{entry_frame}
+use Rattle.layer_phase.proofs.Flattening.{behind_stays, count_behind, push_cases, push_new, push_old}
 
 pub derived_by : (trees : List Formula) (f : LayerForm) → is_derived f ≡ true → IsDerived (formula_by trees f)
 derived_by trees (form.Input key) e = let z : ⊥ = cc in absurd z
@@ -104,60 +105,13 @@ reach_here names found k x e lt at =
     let n = found_count names found e in
     reach_at names found k (get_or found k 0) x e (slice_get-get_or found k 0 (omega (arith, n, lt))) at
 
--- and of one that is seen
-not_form : (f : LayerForm) → (is_derived f ≡ true → ⊥) → is_derived (read_form false f) ≡ true → ⊥
-not_form (form.Input key) h e = let z : ⊥ = cc in z
-not_form (form.Labels key) h e = h e
-not_form form.Empty h e = h e
-not_form (form.Binary op a b) h e = h e
-not_form (form.Sized a by) h e = h e
-
-not_seen : (P : Type 0) (f seen : LayerForm) → (is_derived f ≡ true → ⊥) → IsReadAs P f seen → is_derived seen ≡ true → ⊥
-not_seen P f seen h (inl r) e = h (subst (λ (g : LayerForm). is_derived g ≡ true) r.1 e)
-not_seen P f seen h (inr r) e = not_form f h (subst (λ (g : LayerForm). is_derived g ≡ true) r.1 e)
-
-is_or_not : (b : Bool) → (b ≡ true) ⊎ (b ≡ true → ⊥)
+pub is_or_not : (b : Bool) → (b ≡ true) ⊎ (b ≡ true → ⊥)
 is_or_not true = inl refl
 is_or_not false = inr (λ e. let z : ⊥ = cc in z)
 
-near_tree : (r : Rules) (k : ℕ) → rules.IsSound r → reach (get_or (formulas r.names) k Empty) ≤ 10000
+-- no name reaches further than names may
+pub near_tree : (r : Rules) (k : ℕ) → rules.IsSound r → reach (get_or (formulas r.names) k Empty) ≤ 10000
 near_tree r k sound = let a = reach_in r.names k in let b = near r sound in omega (arith, a, b)
-
-pub read_near : (r : Rules) (read : List LayerRule) (k : ℕ) → rules.IsSound r → AreRead r.names [] [] read → reach (get_or (formulas read) k Empty) ≤ 10000
-read_near r read k sound are = elim (cases_lt k (length (formulas read))) [
-  | inr past ↦ let e = ap reach (get_or_past (formulas read) k Empty past) in omega (arith, e)
-  | inl lt ↦
-      let y = get_or (formulas read) k Empty in
-      let there : slice_get (formulas read) k ≡ Some y = slice_get-get_or (formulas read) k Empty lt in
-      let count = are.count in let trees = tree_count read in
-      let inside : k < length r.names = omega (arith, count, trees, lt) in
-      let none : LayerRule = get_or read k (record { name = []; form = form.Empty }) in
-      at r read k y sound are there (get_or r.names k none) (slice_get-get_or r.names k none inside)
-]
-  where
-    at : (r : Rules) (read : List LayerRule) (k : ℕ) (y : Formula) → rules.IsSound r → AreRead r.names [] [] read → slice_get (formulas read) k ≡ Some y → (rule : LayerRule) → slice_get r.names k ≡ Some rule → reach y ≤ 10000
-    at r read k y sound are there rule here =
-        let x = get_or (formulas r.names) k Empty in
-        let trees = tree_count r.names in let lt = slice_get_within r.names k rule here in
-        let tree : slice_get (formulas r.names) k ≡ Some x = slice_get-get_or (formulas r.names) k Empty (omega (arith, trees, lt)) in
-        let o = are.each k rule here in
-        elim (is_or_not (is_derived rule.form)) [
-          | inl h ↦
-              let derived = is_of r.names k rule x here tree h in
-              let same : x ≡ get_or (formulas read) k Empty = other_tree r.names [] [] read k x (derived_other x derived) are refl in
-              let here_too : get_or (formulas read) k Empty ≡ y = get_or_from_slice_get (formulas read) k y Empty there in
-              subst (λ (t : Formula). reach t ≤ 10000) (same ∙ here_too) (near_tree r k sound)
-          | inr h ↦
-              let t = form_of read k o.0 y o.1 there in
-              let e = ap reach t.1 ∙ plain_reach t.0 o.0.form (not_seen (IsRead r.names [] [] k) rule.form o.0.form h o.2) in
-              omega (arith, e)
-        ]
-
-pub found_near : (r : Rules) (found : List ℕ) (k : ℕ) → rules.IsSound r → found ≡ reaches r.names → k < length r.names → get_or found k 0 ≤ 10000
-found_near r found k sound e lt =
-    let trees = tree_count r.names in
-    let same = reach_here r.names found k (get_or (formulas r.names) k Empty) e lt (slice_get-get_or (formulas r.names) k Empty (omega (arith, trees, lt))) in
-    subst (λ n. n ≤ 10000) (sym same) (near_tree r k sound)
 
 -- a table's entry lies near
 framed_within : (m : ℕ) (o : Option Rect) (zone : List Rect) → m ≤ 20001 → HullIsSound o → ((q : Square) → covers zone q ≡ true → IsInGrown m o q) → IsSetWithin (2 ^ 39) zone
@@ -217,63 +171,29 @@ none_found far d cell trees sets = record { count = refl; found = λ k x lt at i
 pub start : (far : ℕ) (d : Linked) (cell : ℕ) (trees : List Formula) (sets : List (List Rect)) → Finds far d cell 0 trees sets sets
 start far d cell trees sets = none_found far d cell trees sets
 
-pub finds_more : (far : ℕ) (d : Linked) (cell name : ℕ) (trees : List Formula) (old mid new : List (List Rect)) (member : Bool) → Finds far d cell name trees old mid → length new ≡ length mid
-    → ((x : Formula) → slice_get trees name ≡ Some x → IsDerived x → reach x ≡ far → member ≡ true)
-    → ((x : Formula) → slice_get trees name ≡ Some x → member ≡ true → IsDerived x × (reach x ≡ far))
-    → (member ≡ true → (x : Formula) → IsDerived x → reach x ≡ far → slice_get trees name ≡ Some x → IsLocalLayer (plain d) x cell (get_or new name []))
-    → (member ≡ false → new ≡ mid) → ((k : ℕ) → (k ≡ name → ⊥) → get_or new k [] ≡ get_or mid k []) → Finds far d cell (name + 1) trees old new
-finds_more far d cell name trees old mid new member had count is of here none rest = record {
+pub finds_more : (far : ℕ) (d : Linked) (cell name : ℕ) (names : List LayerRule) (old mid new : List (List Rect)) → Finds far d cell name (formulas names) old mid → length new ≡ length mid
+    → ((x : Formula) → IsDerived x → reach x ≡ far → slice_get (formulas names) name ≡ Some x → IsLocalLayer (plain d) x cell (get_or new name []))
+    → ((IsMember names far name → ⊥) → new ≡ mid) → ((k : ℕ) → (k ≡ name → ⊥) → get_or new k [] ≡ get_or mid k []) → Finds far d cell (name + 1) (formulas names) old new
+finds_more far d cell name names old mid new had count here none rest = record {
   count = count ∙ had.count;
   found = λ k x lt at derived far_is. elim (ℕ_discrete k name) [
     | yes e ↦
-        let there : slice_get trees name ≡ Some x = subst (λ n. slice_get trees n ≡ Some x) e at in
-        subst (λ n. IsLocalLayer (plain d) x cell (get_or new n [])) (sym e) (here (is x there derived far_is) x derived far_is there)
+        let there : slice_get (formulas names) name ≡ Some x = subst (λ n. slice_get (formulas names) n ≡ Some x) e at in
+        subst (λ n. IsLocalLayer (plain d) x cell (get_or new n [])) (sym e) (here x derived far_is there)
     | no n ↦ subst (IsLocalLayer (plain d) x cell) (sym (rest k n)) (had.found k x (omega (arith, lt, n)) at derived far_is)
   ];
   other = λ k x at not. elim (ℕ_discrete k name) [
     | yes e ↦
-        let there : slice_get trees name ≡ Some x = subst (λ n. slice_get trees n ≡ Some x) e at in
-        ap (λ (l : List (List Rect)). get_or l k []) (none (is_false member (λ m. let o = of x there m in not o.0 o.1))) ∙ had.other k x at not
+        let there : slice_get (formulas names) name ≡ Some x = subst (λ n. slice_get (formulas names) n ≡ Some x) e at in
+        ap (λ (l : List (List Rect)). get_or l k []) (none (λ m.
+        let one : m.tree ≡ x = one_some m.tree x (sym m.at ∙ there) in
+        not (subst IsDerived one m.derived) (ap reach (sym one) ∙ m.far_is))) ∙ had.other k x at not
     | no n ↦ rest k n ∙ had.other k x at not
   ];
   behind = λ k le. rest k (λ e. let z : ⊥ = omega (arith, le, e) in z) ∙ had.behind k (omega (arith, le));
 }
-  where
-    is_false : (b : Bool) → (b ≡ true → ⊥) → b ≡ false
-    is_false true h = absurd (h refl)
-    is_false false h = refl
 
--- ---- one reach on
-
-any_or : (done : List ℕ) (far n : ℕ) → list_any (λ m. m == n) (done ++ far ∷ []) ≡ true → (list_any (λ m. m == n) done ≡ true) ⊎ (far ≡ n)
-any_or [] far n e = elim (is_or_not (far == n)) [ inl h ↦ inr (eqb-true far n h) | inr h ↦ absurd (h (or_none (far == n) e)) ]
-  where
-    or_none : (b : Bool) → (b || false) ≡ true → b ≡ true
-    or_none true e = refl
-    or_none false e = e
-any_or (d ∷ done) far n e = elim (is_or_not (d == n)) [
-  | inl h ↦ inl (ap (λ b. b || list_any (λ m. m == n) done) h)
-  | inr h ↦ elim (any_or done far n (behind (d == n) (list_any (λ m. m == n) (done ++ far ∷ [])) h e)) [ inl g ↦ inl (or_right_of (d == n) (list_any (λ m. m == n) done) g) | inr g ↦ inr g ]
-]
-  where
-    behind : (a b : Bool) → (a ≡ true → ⊥) → (a || b) ≡ true → b ≡ true
-    behind true b h e = absurd (h refl)
-    behind false b h e = e
-
-    or_right_of : (a b : Bool) → b ≡ true → (a || b) ≡ true
-    or_right_of true b e = refl
-    or_right_of false b e = e
-
-any_old : (done : List ℕ) (far n : ℕ) → list_any (λ m. m == n) done ≡ true → list_any (λ m. m == n) (done ++ far ∷ []) ≡ true
-any_old [] far n e = absurd (let f : false ≡ true = e in let z : ⊥ = cc in z)
-any_old (d ∷ done) far n e = elim (is_or_not (d == n)) [
-  | inl h ↦ ap (λ b. b || list_any (λ m. m == n) (done ++ far ∷ [])) h
-  | inr h ↦ right (d == n) (list_any (λ m. m == n) done) (list_any (λ m. m == n) (done ++ far ∷ [])) h e (any_old done far n)
-]
-  where
-    right : (a b c : Bool) → (a ≡ true → ⊥) → (a || b) ≡ true → (b ≡ true → c ≡ true) → (a || c) ≡ true
-    right true b c h e f = absurd (h refl)
-    right false b c h e f = f e
+-- ---- one group on
 
 not_false : (b : Bool) → (b ≡ false → ⊥) → b ≡ true
 not_false true h = refl
@@ -282,53 +202,81 @@ not_false false h = absurd (h refl)
 pub same_any : (far : ℕ) → (far == far) ≡ true
 same_any far = not_false (far == far) (λ e. eqb-false far far e refl)
 
-any_last : (done : List ℕ) (far : ℕ) → list_any (λ m. m == far) (done ++ far ∷ []) ≡ true
-any_last [] far = ap (λ b. b || false) (same_any far)
-any_last (d ∷ done) far = elim (is_or_not (d == far)) [
-  | inl h ↦ ap (λ b. b || list_any (λ m. m == far) (done ++ far ∷ [])) h
-  | inr h ↦ right (d == far) (list_any (λ m. m == far) (done ++ far ∷ [])) (any_last done far)
-]
-  where
-    right : (a b : Bool) → b ≡ true → (a || b) ≡ true
-    right true b e = refl
-    right false b e = e
+-- how far a group reaches
+pub group_near : (r : Rules) (g : Group) → rules.IsSound r → IsGroup r.names g → g.reach ≤ 10000
+group_near r g sound group =
+    let m = group.some.1 in
+    let tree : get_or (formulas r.names) group.some.0 Empty ≡ m.tree = get_or_from_slice_get (formulas r.names) group.some.0 m.tree Empty m.at in
+    subst (λ n. n ≤ 10000) (ap reach tree ∙ m.far_is) (near_tree r group.some.0 sound)
 
--- a name that isn't derived, or whose reach is done
-pub done_skip : (d : Linked) (cell name : ℕ) (trees : List Formula) (done : List ℕ) (sets : List (List Rect)) → AreDone d cell name trees done sets
-    → ((x : Formula) → slice_get trees name ≡ Some x → IsDerived x → list_any (λ n. n == reach x) done ≡ true) → AreDone d cell (name + 1) trees done sets
-done_skip d cell name trees done sets had here = record {
-  count = had.count;
-  rest = had.rest;
-  found = had.found;
-  seen = λ k x lt at derived. elim (ℕ_discrete k name) [
-    | yes e ↦ here x (subst (λ n. slice_get trees n ≡ Some x) e at) derived
-    | no n ↦ had.seen k x (omega (arith, lt, n)) at derived
+pub member_of : (names : List LayerRule) (found : List ℕ) (k : ℕ) (rule : LayerRule) → found ≡ reaches names → k < length names → slice_get names k ≡ Some rule → is_derived rule.form ≡ true → IsMember names (get_or found k 0) k
+member_of names found k rule e lt there derived =
+    let trees = tree_count names in
+    let x = get_or (formulas names) k Empty in
+    let at : slice_get (formulas names) k ≡ Some x = slice_get-get_or (formulas names) k Empty (omega (arith, trees, lt)) in
+    record { tree = x; at = at; derived = is_of names k rule x there at derived; far_is = sym (reach_here names found k x e lt at) }
+
+pub groups_none : (names : List LayerRule) → AreGroupsTo names 0 []
+groups_none names = record {
+  each = All-nil (IsGroup names);
+  found = λ k x lt at derived. absurd (let z : ⊥ = omega (arith, lt) in z);
+}
+
+pub reach_wider : (groups more : List Group) (g : Group) (far : ℕ) → more ≡ groups ++ g ∷ [] → HasReach groups (length groups) far → HasReach more (length more) far
+reach_wider groups more g far e h =
+    let long = length-append groups (g ∷ []) in
+    let lt = h.at_in in
+    subst (λ (l : List Group). HasReach l (length l) far) (sym e) (record { at = h.at; group = h.group; at_in = omega (arith, long, lt); there = push_old groups g h.group h.at h.there; far_is = h.far_is })
+
+pub reach_new : (groups more : List Group) (g : Group) → more ≡ groups ++ g ∷ [] → HasReach more (length more) g.reach
+reach_new groups more g e =
+    let long = length-append groups (g ∷ []) in
+    subst (λ (l : List Group). HasReach l (length l) g.reach) (sym e) (record { at = length groups; group = g; at_in = omega (arith, long); there = push_new groups g; far_is = refl })
+
+-- a name that isn't derived, or whose group is there
+pub groups_skip : (names : List LayerRule) (name : ℕ) (groups : List Group) → AreGroupsTo names name groups → ((x : Formula) → slice_get (formulas names) name ≡ Some x → IsDerived x → HasReach groups (length groups) (reach x)) → AreGroupsTo names (name + 1) groups
+groups_skip names name groups had here = record {
+  each = had.each;
+  found = λ k x lt at derived. elim (ℕ_discrete k name) [
+    | yes e ↦ here x (subst (λ n. slice_get (formulas names) n ≡ Some x) e at) derived
+    | no n ↦ had.found k x (omega (arith, lt, n)) at derived
   ];
 }
 
--- the names of one reach more
-pub done_more : (d : Linked) (cell name far : ℕ) (trees : List Formula) (done more : List ℕ) (old new : List (List Rect)) → more ≡ done ++ far ∷ [] → ((x : Formula) → slice_get trees name ≡ Some x → far ≡ reach x)
-    → (list_any (λ n. n == far) done ≡ true → ⊥) → Finds far d cell (length trees) trees old new → AreDone d cell name trees done old → AreDone d cell (name + 1) trees more new
-done_more d cell name far trees done more old new is far_is fresh finds had = record {
-  count = finds.count ∙ had.count;
-  rest = λ k x at not. subst (IsLocalLayer (plain d) x cell) (sym (finds.other k x at (λ derived e. not derived))) (had.rest k x at not);
-  found = λ k x at derived e. elim (any_or done far (reach x) (subst (λ (l : List ℕ). list_any (λ n. n == reach x) l ≡ true) is e)) [
-    | inl before ↦
-        subst (IsLocalLayer (plain d) x cell) (sym (finds.other k x at (λ h same. fresh (subst (λ m. list_any (λ n. n == m) done ≡ true) same before)))) (had.found k x at derived before)
-    | inr same ↦ finds.found k x (slice_get_within trees k x at) at derived (sym same)
+-- a group more
+pub groups_more : (names : List LayerRule) (name : ℕ) (groups more : List Group) (g : Group) → more ≡ groups ++ g ∷ [] → IsGroup names g → AreGroupsTo names name groups → ((x : Formula) → slice_get (formulas names) name ≡ Some x → IsDerived x → g.reach ≡ reach x) → AreGroupsTo names (name + 1) more
+groups_more names name groups more g e is had here = record {
+  each = subst (All (IsGroup names)) (sym e) (All-push (IsGroup names) groups g had.each is);
+  found = λ k x lt at derived. elim (ℕ_discrete k name) [
+    | yes same ↦ subst (HasReach more (length more)) (here x (subst (λ n. slice_get (formulas names) n ≡ Some x) same at) derived) (reach_new groups more g e)
+    | no n ↦ reach_wider groups more g (reach x) e (had.found k x (omega (arith, lt, n)) at derived)
   ];
-  seen = λ k x lt at derived. subst (λ (l : List ℕ). list_any (λ n. n == reach x) l ≡ true) (sym is) (elim (ℕ_discrete k name) [
-    | yes e ↦ subst (λ m. list_any (λ n. n == m) (done ++ far ∷ []) ≡ true) (far_is x (subst (λ n. slice_get trees n ≡ Some x) e at)) (any_last done far)
-    | no n ↦ any_old done far (reach x) (had.seen k x (omega (arith, lt, n)) at derived)
-  ]);
 }
 
-pub done_none : (d : Linked) (cell : ℕ) (trees : List Formula) (done : List ℕ) (sets : List (List Rect)) → done ≡ [] → length sets ≡ length trees → ArePlain d cell trees sets → AreDone d cell 0 trees done sets
-done_none d cell trees done sets e count plain_sets = record {
+pub done_none : (d : Linked) (cell : ℕ) (trees : List Formula) (groups : List Group) (sets : List (List Rect)) → length sets ≡ length trees → ArePlain d cell trees sets → AreDone d cell trees groups 0 sets
+done_none d cell trees groups sets count plain_sets = record {
   count = count;
   rest = plain_sets;
-  found = λ k x at derived any. absurd (let f : false ≡ true = sym (ap (λ (l : List ℕ). list_any (λ n. n == reach x) l) e) ∙ any in let z : ⊥ = cc in z);
-  seen = λ k x lt at derived. absurd (let z : ⊥ = omega (arith, lt) in z);
+  found = λ k x at derived has. absurd (let lt = has.at_in in let z : ⊥ = omega (arith, lt) in z);
+}
+
+-- the names of one group more
+pub done_more : (d : Linked) (cell : ℕ) (trees : List Formula) (groups : List Group) (i : ℕ) (g : Group) (old new : List (List Rect)) → slice_get groups i ≡ Some g → Finds g.reach d cell (length trees) trees old new → AreDone d cell trees groups i old → AreDone d cell trees groups (i + 1) new
+done_more d cell trees groups i g old new there finds had = record {
+  count = finds.count ∙ had.count;
+  rest = λ k x at not. subst (IsLocalLayer (plain d) x cell) (sym (finds.other k x at (λ derived e. not derived))) (had.rest k x at not);
+  found = λ k x at derived has. elim (ℕ_discrete (reach x) g.reach) [
+    | yes e ↦ finds.found k x (slice_get_within trees k x at) at derived e
+    | no n ↦
+        let lt = has.at_in in
+        let before : HasReach groups i (reach x) = elim (ℕ_discrete has.at i) [
+          | yes e ↦
+              let one : has.group ≡ g = one_some has.group g (sym has.there ∙ subst (λ j. slice_get groups j ≡ Some g) (sym e) there) in
+              absurd (n (sym has.far_is ∙ ap (λ (h : Group). h.reach) one))
+          | no other ↦ record { at = has.at; group = has.group; at_in = omega (arith, lt, other); there = has.there; far_is = has.far_is }
+        ] in
+        subst (IsLocalLayer (plain d) x cell) (sym (finds.other k x at (λ h e. n e))) (had.found k x at derived before)
+  ];
 }
 
 is_derived_or_not : (x : Formula) → IsDerived x ⊎ (IsDerived x → ⊥)
@@ -337,12 +285,13 @@ is_derived_or_not Empty = inr (λ h. h)
 is_derived_or_not (Binary op a b) = inl tt
 is_derived_or_not (Sized by a) = inl tt
 
--- where all names are seen, all have their squares
-pub all_done : (d : Linked) (cell bound : ℕ) (trees : List Formula) (done : List ℕ) (sets : List (List Rect)) → length trees ≤ bound → AreDone d cell bound trees done sets → AreLocals d cell trees sets
-all_done d cell bound trees done sets past had k x set at there =
+-- where all groups are done, all names have their squares
+pub all_done : (d : Linked) (cell bound : ℕ) (names : List LayerRule) (groups : List Group) (sets : List (List Rect)) → bound ≡ length groups → AreGroups names groups → AreDone d cell (formulas names) groups bound sets → AreLocals d cell (formulas names) sets
+all_done d cell bound names groups sets end are had k x set at there =
     let item : get_or sets k [] ≡ set = get_or_from_slice_get sets k set [] there in
-    let lt = slice_get_within trees k x at in
+    let lt = slice_get_within (formulas names) k x at in
+    let trees = tree_count names in
     subst (IsLocalLayer (plain d) x cell) item (elim (is_derived_or_not x) [
-      | inl derived ↦ had.found k x at derived (had.seen k x (omega (arith, lt, past)) at derived)
+      | inl derived ↦ had.found k x at derived (subst (λ n. HasReach groups n (reach x)) (sym end) (are.found k x (omega (arith, lt, trees)) at derived))
       | inr not ↦ had.rest k x at not
     ])

@@ -10,7 +10,9 @@ pub mod Inputs
 pub mod Keeping
 pub mod Leaves
 pub mod Looking
+pub mod Needing
 pub mod Owning
 pub mod Results
+pub mod Seeing
 pub mod Stirring
 pub mod Telling

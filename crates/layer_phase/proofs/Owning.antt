@@ -1,5 +1,5 @@
 -- What lies near a cell's own squares.
-use Rattle.std.proofs.Common.{◌≡◌, ◌∙◌, inl, inr, ℕ, ◌+◌, ◌^◌, true, false, List, [], ◌++◌, Option, Some, None, arith, ap, length, subst, sym}
+use Rattle.std.proofs.Common.{◌≡◌, ◌∙◌, inl, inr, ℕ, ◌^◌, true, false, List, [], ◌++◌, Option, Some, None, arith, ap, length, subst, sym}
 use Rattle.std.specs.List.{All}
 use Rattle.std.proofs.lemmas.Option.{slice_get_within}
 use Rattle.geo_base.specs.Rects.{IsRect}

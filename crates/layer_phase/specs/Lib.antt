@@ -1,9 +1,10 @@
 pub mod Groups
 pub mod Around
-pub mod Flat
+pub mod Squares
 pub mod Parts
 pub mod Keeps
 pub mod Looks
 pub mod Bridge
 pub mod Names
+pub mod Work
 pub mod Phase

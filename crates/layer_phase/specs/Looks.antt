@@ -17,7 +17,7 @@ use Rattle.flat_layout.specs.Plane.{AreWithin}
 use Rattle.rule_text.specs.declared.rules.LayerForm.TheVariants as form
 use Rattle.rule_text.specs.declared.rules.LayerRule.{LayerRule}
 use Rattle.deep_laws.specs.Layers.{IsDerived}
-use Rattle.flat_layout.specs.Layers.{Formula}
+use Rattle.flat_layout.specs.Layers.{Formula, reach}
 use Rattle.rule_layers.specs.Formulas.{formulas}
 use Rattle.rule_layers.specs.Reads.{IsRead}
 use Rattle.deep_tables.specs.declared.zones.CellZones.{CellZones}
@@ -150,7 +150,7 @@ pub record AreLooks (n : ℕ) (d : Linked) (z : List (Option CellZones)) (names 
 pub record AreReadLooks (n : ℕ) (d : Linked) (z : List (Option CellZones)) (names : List LayerRule)
     (name cell : ℕ) (looks : List Rect) : Type 0 where
   pub seen : List LayerRule
-  pub tree : (x : Formula) → IsDerived x → slice_get (formulas names) name ≡ Some x
+  pub tree : (x : Formula) → IsDerived x → reach x ≡ n → slice_get (formulas names) name ≡ Some x
       → slice_get (formulas seen) name ≡ Some x
   pub inputs : (k : ℕ) (key : LayerKey) → IsInput seen k key
       → IsInput names k key × IsRead names [] [] k

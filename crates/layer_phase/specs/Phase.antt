@@ -1,20 +1,14 @@
 -- What a phase of layers is made from.
-use Rattle.std.specs.Prelude.{◌≡◌, ◌<◌, ◌^◌, ℕ, List, [], length}
-use Rattle.job_graph.specs.Graph.{Waits}
+use Rattle.std.specs.Prelude.{◌<◌, ◌^◌, ℕ, List, length}
 use Rattle.cell_graph.specs.Linked.{Linked, plain}
 use Rattle.deep_tables.specs.Frames.{HasHulls}
+use Rattle.deep_tables.specs.Jobs.{AreFreeJobs}
 use Rattle.deep_tables.specs.Zones.{AreZones}
 use Rattle.rule_text.specs.declared.rules.RuleSet.{RuleSet}
-use Rattle.rule_text.specs.Reaches.{reaches}
 use Rattle.rule_text.specs.Seen.{rules_seen}
 use Rattle.rule_text.specs.Sound.{IsSound}
-use Rattle.rule_layers.specs.Reads.{AreRead}
+use Rattle.layer_phase.specs.Groups.{AreGroups}
 use Rattle.layer_phase.specs.declared.phase.LayerPhase.TheInside.{Inside}
-
--- the jobs go through the design's order, and wait for none
-pub record AreFreeJobs (d : Linked) (graph : List (List ℕ)) : Type 0 where
-  pub jobs : length graph ≡ length d.order
-  pub waits : (job input : ℕ) → Waits graph job input → ⊥
 
 -- the layout, the rules and the jobs
 pub record LayerJobs : Type 0 where
@@ -30,6 +24,5 @@ pub record IsLayerPhase (a : Inside) : Type 0 where
   pub hulls : HasHulls a.design.now
   pub zones : AreZones (plain a.design.now) (rules_seen a.rules.now) a.zones.now
   pub few : length a.rules.now.names.items < 2 ^ 32
-  pub read : AreRead a.rules.now.names.items [] [] a.read.items
-  pub found : a.found.items ≡ reaches a.rules.now.names.items
+  pub groups : AreGroups a.rules.now.names.items a.groups.items
   pub graph : AreFreeJobs a.design.now a.graph

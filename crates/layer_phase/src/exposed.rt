@@ -17,11 +17,13 @@ ghost use Rattle.sized_layers.specs.Sizes.{IsSetWithin};
 ghost use Rattle.layer_phase.specs.Around.{around};
 ghost use Rattle.layer_phase.specs.Keeps.{HasEntry, IsZoneAt};
 ghost use Rattle.layer_phase.specs.declared.exposed.Exposed.{Exposed as ExposedSet};
+ghost use Rattle.layer_phase.specs.Work.{IsView};
 ghost use Rattle.layer_phase.specs.Looks.{AreExposed, AreExposedLists, AreNear, Grows, HasAll};
 ghost use Rattle.layer_phase.specs.Looks.{HaveDisturbed, HaveFlat, HoldDisturbed, IsListAt};
 
-use crate::grown::{around, twice_around, twice_grown};
+use crate::grown::{sized, twice_around, twice_grown};
 use crate::parts::input_squares;
+use crate::work::View;
 use cell_context::grown;
 use cell_graph::Design;
 use deep_tables::{ZoneKey, Zones};
@@ -199,8 +201,8 @@ fn near_both(
         let _near = part.rects();
         return Ok(part);
     }
-    let stirred = around(alloc, places, most)?;
-    let wide = around(alloc, flat, most)?;
+    let stirred = sized(alloc, places, most)?;
+    let wide = sized(alloc, flat, most)?;
     let set = combine(alloc, &stirred, &wide, Op::And)?;
     let part = set.window(alloc, *window)?;
     let _near = part.rects();
@@ -208,55 +210,43 @@ fn near_both(
 }
 
 // The exposed squares of a cell that has a hull.
-fn hull_exposed(
-    alloc: Global,
-    design: &Design,
-    zones: &Zones,
-    cell: u32,
-    names: &[LayerRule],
-    hull: &Rect,
-    most: u32,
-) -> Result<RectSet, AllocError>
-    requires cell { cell < length design.now.cells }
-    requires hull { hull_of (cell_at design.now cell) ≡ Some hull.now }
-    requires few { length names.now < 2 ^ 32 }
-    requires most { most ≤ 10000 }
-    requires entries { HasAll zones.now cell (length names.now) }
+fn hull_exposed(alloc: Global, view: &View, cell: u32, hull: &Rect) -> Result<RectSet, AllocError>
+    requires cell { cell < length view.now.design.now.cells }
+    requires hull { hull_of (cell_at view.now.design.now cell) ≡ Some hull.now }
+    requires view { IsView view.now }
+    requires entries { HasAll view.now.zones.now cell (length view.now.names.now) }
     ensures near { IfOk result (All IsNearRect) }
-    ensures exposed { IfOk result (AreExposed most design.now zones.now names.now cell) }
+    ensures exposed { IfOk result (AreExposed view.now.reach view.now.design.now view.now.zones.now
+        view.now.names.now cell) }
 {
+    let design = view.design;
     design.sound();
-    let wide = twice_grown(hull, most);
-    let places = disturbed_in(alloc, zones, cell, names, &wide)?;
-    let near = twice_around(alloc, &places, most)?;
-    let _near_rects = near.rects();
+    let wide = twice_grown(hull, view.reach);
+    let places = disturbed_in(alloc, view.zones, cell, view.names, &wide)?;
+    let near = twice_around(alloc, &places, view.reach)?;
+    let there = near.set();
+    let _near_rects = there.rects();
     let mut out = Vec::new(alloc);
-    push_all_flat(alloc, &mut out, design, cell, names, &near)?;
+    push_all_flat(alloc, &mut out, design, cell, view.names, there)?;
     let flat = RectSet::canon(alloc, out)?;
-    let window = grown(hull, most);
-    let set = near_both(alloc, &places, &flat, &window, most)?;
+    let window = grown(hull, view.reach);
+    let set = near_both(alloc, &places, &flat, &window, view.reach)?;
     Ok(set)
 }
 
 // The exposed squares of a cell: a walk in what is disturbed for each input layer.
-fn find_exposed(
-    alloc: Global,
-    design: &Design,
-    zones: &Zones,
-    cell: u32,
-    names: &[LayerRule],
-    most: u32,
-) -> Result<RectSet, AllocError>
-    requires cell { cell < length design.now.cells }
-    requires few { length names.now < 2 ^ 32 }
-    requires most { most ≤ 10000 }
-    requires entries { HasAll zones.now cell (length names.now) }
+fn find_exposed(alloc: Global, view: &View, cell: u32) -> Result<RectSet, AllocError>
+    requires cell { cell < length view.now.design.now.cells }
+    requires view { IsView view.now }
+    requires entries { HasAll view.now.zones.now cell (length view.now.names.now) }
     ensures near { IfOk result (All IsNearRect) }
-    ensures exposed { IfOk result (AreExposed most design.now zones.now names.now cell) }
+    ensures exposed { IfOk result (AreExposed view.now.reach view.now.design.now view.now.zones.now
+        view.now.names.now cell) }
 {
+    let design = view.design;
     design.sound();
     match design.hull(cell) {
-        Some(hull) => hull_exposed(alloc, design, zones, cell, names, &hull, most),
+        Some(hull) => hull_exposed(alloc, view, cell, &hull),
         None => Ok(RectSet::empty(alloc)),
     }
 }
@@ -308,26 +298,23 @@ pub fn set_at(lists: &[Exposed], position: usize) -> &RectSet
 /// The position of a cell's exposed squares. Where they aren't known yet, they are found.
 pub fn expose(
     alloc: Global,
-    design: &Design,
-    zones: &Zones,
+    view: &View,
     cell: u32,
-    names: &[LayerRule],
     memo: &mut ExposedLists,
-    most: u32,
 ) -> Result<usize, AllocError>
-    requires cell { cell < length design.now.cells }
-    requires few { length names.now < 2 ^ 32 }
-    requires most { most ≤ 10000 }
-    requires entries { HasAll zones.now cell (length names.now) }
-    requires lists { AreExposedLists most design.now zones.now names.now memo.old.lists.items }
-    ensures lists { OnOk result (AreExposedLists most design.now zones.now names.now
-        memo.new.lists.items) }
+    requires cell { cell < length view.now.design.now.cells }
+    requires view { IsView view.now }
+    requires entries { HasAll view.now.zones.now cell (length view.now.names.now) }
+    requires lists { AreExposedLists view.now.reach view.now.design.now view.now.zones.now
+        view.now.names.now memo.old.lists.items }
+    ensures lists { OnOk result (AreExposedLists view.now.reach view.now.design.now
+        view.now.zones.now view.now.names.now memo.new.lists.items) }
     ensures at { IfOk result (IsListAt memo.new.lists.items cell) }
 {
     match known(memo, cell) {
         Some(position) => Ok(position),
         None => {
-            let set = find_exposed(alloc, design, zones, cell, names, most)?;
+            let set = find_exposed(alloc, view, cell)?;
             let last = keep(memo, Exposed { cell, set })?;
             Ok(last)
         }

@@ -11,8 +11,8 @@ ghost use Rattle.sized_layers.specs.Sizes.{IsSetWithin, IsSize};
 ghost use Rattle.layer_phase.specs.Looks.{AreNear, Grows, IsInput};
 ghost use Rattle.layer_phase.specs.Names.{AreFlats, IsFlatIn};
 
-use crate::flat::Flat;
 use crate::parts::input_squares;
+use crate::squares::Squares;
 use cell_graph::Design;
 use edge_boolean::combine;
 use geo_base::{LayerKey, Op};
@@ -22,7 +22,7 @@ use sized_layers::size;
 use std::alloc::{AllocError, Global};
 
 // The set of a name, and none past the last.
-fn set_at<'a>(sets: &'a [Flat<'_>], name: u32, none: &'a RectSet) -> &'a RectSet
+fn set_at<'a>(sets: &'a [Squares<'_>], name: u32, none: &'a RectSet) -> &'a RectSet
     requires { none.now ≡ [] }
     ensures { result.now ≡ get_or sets.now name [] }
 {
@@ -35,11 +35,11 @@ fn set_at<'a>(sets: &'a [Flat<'_>], name: u32, none: &'a RectSet) -> &'a RectSet
 // The flat squares of a name that reads two others.
 fn two_flats<'a>(
     alloc: Global,
-    before: &[Flat<'_>],
+    before: &[Squares<'_>],
     op: Op,
     a: u32,
     b: u32,
-) -> Result<Flat<'a>, AllocError>
+) -> Result<Squares<'a>, AllocError>
     ensures { IfOk result (λ r. (d : Linked) (cell : ℕ) (looks : List Rect) (trees : List Formula)
         → AreFlats d cell looks trees before.now
         → IsFlatIn d cell looks (Binary op (get_or trees a Empty) (get_or trees b Empty)) r) }
@@ -48,16 +48,16 @@ fn two_flats<'a>(
     let first = set_at(before, a, &none);
     let second = set_at(before, b, &none);
     let set = combine(alloc, first, second, op)?;
-    Ok(Flat::own(set))
+    Ok(Squares::own(set))
 }
 
 // The flat squares of a name that is another grown or shrunk.
 fn sized_flat<'a>(
     alloc: Global,
-    before: &[Flat<'_>],
+    before: &[Squares<'_>],
     a: u32,
     by: i32,
-) -> Result<Flat<'a>, AllocError>
+) -> Result<Squares<'a>, AllocError>
     requires size { IsSize by }
     requires within { IsSetWithin (2 ^ 39) (get_or before.now a []) }
     ensures { IfOk result (λ r. (d : Linked) (cell : ℕ) (looks : List Rect) (trees : List Formula)
@@ -67,7 +67,7 @@ fn sized_flat<'a>(
     let none = RectSet::empty(alloc);
     let operand = set_at(before, a, &none);
     let set = size(alloc, operand, i64::from(by))?;
-    Ok(Flat::own(set))
+    Ok(Squares::own(set))
 }
 
 // The flat squares of an input layer. A cell that places no other has its own alone.
@@ -77,7 +77,7 @@ fn input_flat<'a>(
     cell: u32,
     key: LayerKey,
     looks: &RectSet,
-) -> Result<Flat<'a>, AllocError>
+) -> Result<Squares<'a>, AllocError>
     requires cell { cell < length design.now.cells }
     requires near { AreNear looks.now }
     requires own { Grows (own_of (cell_at design.now cell) key) looks.now }
@@ -85,10 +85,10 @@ fn input_flat<'a>(
 {
     design.sound();
     if design.places(cell).is_empty() {
-        return Ok(Flat::lent(design.own(cell, key)));
+        return Ok(Squares::lent(design.own(cell, key)));
     }
     let set = input_squares(alloc, design, cell, key, looks)?;
-    let flat = Flat::own(set);
+    let flat = Squares::own(set);
     Ok(flat)
 }
 
@@ -98,9 +98,9 @@ fn form_flat<'a>(
     design: &'a Design,
     cell: u32,
     looks: &RectSet,
-    before: &[Flat<'_>],
+    before: &[Squares<'_>],
     form: LayerForm,
-) -> Result<Flat<'a>, AllocError>
+) -> Result<Squares<'a>, AllocError>
     requires cell { cell < length design.now.cells }
     requires near { AreNear looks.now }
     requires sized { (a : ℕ) (by : ℤ) → form ≡ SizedForm a by
@@ -113,8 +113,8 @@ fn form_flat<'a>(
 {
     match form {
         LayerForm::Input(key) => input_flat(alloc, design, cell, key, looks),
-        LayerForm::Labels(_) => Ok(Flat::own(RectSet::empty(alloc))),
-        LayerForm::Empty => Ok(Flat::own(RectSet::empty(alloc))),
+        LayerForm::Labels(_) => Ok(Squares::own(RectSet::empty(alloc))),
+        LayerForm::Empty => Ok(Squares::own(RectSet::empty(alloc))),
         LayerForm::Binary(op, a, b) => two_flats(alloc, before, op, a, b),
         LayerForm::Sized(a, by) => sized_flat(alloc, before, a, by),
     }
@@ -128,7 +128,7 @@ pub fn name_flats<'a>(
     cell: u32,
     looks: &RectSet,
     names: &[LayerRule],
-) -> Result<Vec<Flat<'a>>, AllocError>
+) -> Result<Vec<Squares<'a>>, AllocError>
     requires cell { cell < length design.now.cells }
     requires near { AreNear looks.now }
     requires reach { (k : ℕ) → reach (get_or (formulas names.now) k Empty) ≤ 10000 }

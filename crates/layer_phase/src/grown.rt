@@ -8,14 +8,15 @@ ghost use Rattle.cell_graph.specs.Linked.{IsRectWithin};
 ghost use Rattle.sized_layers.specs.Sizes.{IsSetWithin};
 ghost use Rattle.layer_phase.specs.Around.{around};
 
+use crate::squares::Squares;
 use cell_context::grown;
 use geo_base::Rect;
 use rect_sets::RectSet;
 use sized_layers::size;
 use std::alloc::{AllocError, Global};
 
-// The same for any number.
-fn sized(alloc: Global, set: &RectSet, by: u32) -> Result<RectSet, AllocError>
+/// The squares within so many squares of a set's. Costs as `size`.
+pub fn sized(alloc: Global, set: &RectSet, by: u32) -> Result<RectSet, AllocError>
     requires within { IsSetWithin (2 ^ 39) set.now }
     requires by { by ≤ 10000 }
     ensures squares { IfOk result (λ r. (q : Square) → covers r q ≡ covers (around by set.now) q) }
@@ -27,8 +28,8 @@ fn sized(alloc: Global, set: &RectSet, by: u32) -> Result<RectSet, AllocError>
     Ok(wide)
 }
 
-/// The squares within so many squares of a set's. Of 0 a copy, else as `size`.
-pub fn around(alloc: Global, set: &RectSet, by: u32) -> Result<RectSet, AllocError>
+/// The same. By 0 the set itself is lent.
+pub fn around<'a>(alloc: Global, set: &'a RectSet, by: u32) -> Result<Squares<'a>, AllocError>
     requires within { IsSetWithin (2 ^ 39) set.now }
     requires by { by ≤ 10000 }
     ensures squares { IfOk result (λ r. (q : Square) → covers r q ≡ covers (around by set.now) q) }
@@ -36,13 +37,14 @@ pub fn around(alloc: Global, set: &RectSet, by: u32) -> Result<RectSet, AllocErr
         → IfOk result (λ r. IsSetWithin (n + by) r) }
 {
     if by == 0 {
-        return set.try_clone(alloc);
+        return Ok(Squares::lent(set));
     }
-    sized(alloc, set, by)
+    let wide = sized(alloc, set, by)?;
+    Ok(Squares::own(wide))
 }
 
 /// The same by twice as many.
-pub fn twice_around(alloc: Global, set: &RectSet, by: u32) -> Result<RectSet, AllocError>
+pub fn twice_around<'a>(alloc: Global, set: &'a RectSet, by: u32) -> Result<Squares<'a>, AllocError>
     requires within { IsSetWithin (2 ^ 38) set.now }
     requires by { by ≤ 10000 }
     ensures squares { IfOk result (λ r. (q : Square)
@@ -50,11 +52,14 @@ pub fn twice_around(alloc: Global, set: &RectSet, by: u32) -> Result<RectSet, Al
     ensures range { (n : ℕ) → IsSetWithin n set.now
         → IfOk result (λ r. IsSetWithin ((n + by) + by) r) }
 {
+    if by == 0 {
+        return Ok(Squares::lent(set));
+    }
     let _rects = set.rects();
-    let once = around(alloc, set, by)?;
+    let once = sized(alloc, set, by)?;
     let _once_rects = once.rects();
-    let twice = around(alloc, &once, by)?;
-    Ok(twice)
+    let twice = sized(alloc, &once, by)?;
+    Ok(Squares::own(twice))
 }
 
 /// A rectangle grown by twice so many squares on each side.

@@ -2,8 +2,8 @@
 #![tactic(auto)]
 
 mod exposed;
-mod flat;
 mod flats;
+mod groups;
 mod grown;
 mod laws;
 mod layers;
@@ -11,6 +11,8 @@ mod looks;
 mod own;
 mod parts;
 mod phase;
+mod squares;
+mod work;
 
 pub use laws::{kept_law, layer_law};
-pub use phase::{LayerPhase, free_graph};
+pub use phase::LayerPhase;

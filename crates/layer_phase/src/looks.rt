@@ -18,9 +18,11 @@ ghost use Rattle.rule_text.specs.declared.rules.LayerRule.{LayerRule as Rule};
 ghost use Rattle.layer_phase.specs.Looks.{AreExposedLists, AreHeld, AreLooks, Brings};
 ghost use Rattle.layer_phase.specs.Looks.{BringsExposed, BringsOwn, Grows, HasAll, HaveAll};
 ghost use Rattle.layer_phase.specs.Looks.{HoldsOwn};
+ghost use Rattle.layer_phase.specs.Work.{IsReference, IsView};
 
 use crate::exposed::{ExposedLists, expose, set_at};
-use crate::grown::around;
+use crate::grown::sized;
+use crate::work::View;
 use cell_context::{grown, place_visits, push_images};
 use cell_graph::{Design, Place};
 use deep_tables::Zones;
@@ -84,36 +86,32 @@ fn push_set(
 fn push_reference(
     alloc: Global,
     out: &mut Vec<Rect>,
-    design: &Design,
-    zones: &Zones,
-    cell: u32,
-    index: usize,
+    view: &View,
     place: &Place,
-    names: &[LayerRule],
     window: &Rect,
     memo: &mut ExposedLists,
-    most: u32,
 ) -> Result<(), AllocError>
-    requires there { slice_get (places_at (cell_at design.now cell)) index ≡ Some place.now }
+    requires there { IsReference view.now.design.now place.now }
+    requires view { IsView view.now }
     requires window { IsFrame window.now }
-    requires few { length names.now < 2 ^ 32 }
-    requires most { most ≤ 10000 }
-    requires entries { HasAll zones.now place.now.cell (length names.now) }
-    requires lists { AreExposedLists most design.now zones.now names.now memo.old.lists.items }
+    requires entries { HasAll view.now.zones.now place.now.cell (length view.now.names.now) }
+    requires lists { AreExposedLists view.now.reach view.now.design.now view.now.zones.now
+        view.now.names.now memo.old.lists.items }
     requires pieces { All (IsPiece window.now) out.old.items }
-    ensures lists { OnOk result (AreExposedLists most design.now zones.now names.now
-        memo.new.lists.items) }
+    ensures lists { OnOk result (AreExposedLists view.now.reach view.now.design.now
+        view.now.zones.now view.now.names.now memo.new.lists.items) }
     ensures pieces { OnOk result (All (IsPiece window.now) out.new.items) }
     ensures grows { OnOk result (Grows out.old.items out.new.items) }
-    ensures brings { OnOk result (BringsExposed most design.now zones.now names.now place.now
-        window.now out.new.items) }
+    ensures brings { OnOk result (BringsExposed view.now.reach view.now.design.now
+        view.now.zones.now view.now.names.now place.now window.now out.new.items) }
 {
+    let design = view.design;
     design.sound();
     match design.hull(place.cell) {
         Some(below) => {
-            let position = expose(alloc, design, zones, place.cell, names, memo, most)?;
+            let position = expose(alloc, view, place.cell, memo)?;
             let set = set_at(&memo.lists, position);
-            let wide = grown(&below, most);
+            let wide = grown(&below, view.reach);
             push_set(alloc, out, place, &wide, set, window)?;
             Ok(())
         }
@@ -125,29 +123,24 @@ fn push_reference(
 fn push_references(
     alloc: Global,
     out: &mut Vec<Rect>,
-    design: &Design,
-    zones: &Zones,
+    view: &View,
     cell: u32,
-    names: &[LayerRule],
     window: &Rect,
-    most: u32,
 ) -> Result<(), AllocError>
-    requires cell { cell < length design.now.cells }
+    requires cell { cell < length view.now.design.now.cells }
+    requires view { IsView view.now }
     requires window { IsFrame window.now }
-    requires few { length names.now < 2 ^ 32 }
-    requires most { most ≤ 10000 }
-    requires entries { HaveAll design.now zones.now cell (length names.now) }
+    requires entries { HaveAll view.now.design.now view.now.zones.now cell (length
+        view.now.names.now) }
     requires pieces { All (IsPiece window.now) out.old.items }
     ensures pieces { OnOk result (All (IsPiece window.now) out.new.items) }
-    ensures brings { OnOk result ((i : ℕ) (p : Place)
-        → slice_get (places_at (cell_at design.now cell)) i ≡ Some p
-        → BringsExposed most design.now zones.now names.now p window.now out.new.items) }
+    ensures brings { OnOk result ((i : ℕ) (p : Place) → slice_get (places_at (cell_at
+        view.now.design.now cell)) i ≡ Some p → BringsExposed view.now.reach view.now.design.now
+        view.now.zones.now view.now.names.now p window.now out.new.items) }
 {
     let mut memo = ExposedLists::new(alloc);
-    for (i, place) in design.places(cell).iter().enumerate() {
-        push_reference(
-            alloc, out, design, zones, cell, i, place, names, window, &mut memo, most,
-        )?;
+    for place in view.design.places(cell) {
+        push_reference(alloc, out, view, place, window, &mut memo)?;
     }
     Ok(())
 }
@@ -201,57 +194,52 @@ fn push_all_own(
 fn push_near_own(
     alloc: Global,
     out: &mut Vec<Rect>,
-    design: &Design,
+    view: &View,
     cell: u32,
-    names: &[LayerRule],
-    most: u32,
 ) -> Result<(), AllocError>
-    requires cell { cell < length design.now.cells }
-    requires most { most ≤ 10000 }
+    requires cell { cell < length view.now.design.now.cells }
+    requires view { IsView view.now }
     requires rects { All IsRect out.old.items }
-    requires held { AreHeld most (hull_of (cell_at design.now cell)) out.old.items }
+    requires held { AreHeld view.now.reach (hull_of (cell_at view.now.design.now cell))
+        out.old.items }
     ensures rects { OnOk result (All IsRect out.new.items) }
-    ensures held { OnOk result (AreHeld most (hull_of (cell_at design.now cell)) out.new.items) }
+    ensures held { OnOk result (AreHeld view.now.reach (hull_of (cell_at view.now.design.now cell))
+        out.new.items) }
     ensures grows { OnOk result (Grows out.old.items out.new.items) }
-    ensures brings { OnOk result (HoldsOwn most design.now names.now cell out.new.items) }
+    ensures brings { OnOk result (HoldsOwn view.now.reach view.now.design.now view.now.names.now
+        cell out.new.items) }
 {
+    let design = view.design;
     design.sound();
-    if most == 0 {
-        push_all_own(out, design, cell, names)?;
+    if view.reach == 0 {
+        push_all_own(out, design, cell, view.names)?;
         return Ok(());
     }
     let mut own = Vec::new(alloc);
-    push_all_own(&mut own, design, cell, names)?;
+    push_all_own(&mut own, design, cell, view.names)?;
     let set = RectSet::canon(alloc, own)?;
     let _rects = set.rects();
-    let wide = around(alloc, &set, most)?;
+    let wide = sized(alloc, &set, view.reach)?;
     let rects = wide.rects();
     out.extend_from_slice(rects)?;
     Ok(())
 }
 
 // The squares to be looked at of a cell that has a hull.
-fn looks_in(
-    alloc: Global,
-    design: &Design,
-    zones: &Zones,
-    cell: u32,
-    names: &[LayerRule],
-    hull: &Rect,
-    most: u32,
-) -> Result<RectSet, AllocError>
-    requires cell { cell < length design.now.cells }
-    requires hull { hull_of (cell_at design.now cell) ≡ Some hull.now }
-    requires few { length names.now < 2 ^ 32 }
-    requires most { most ≤ 10000 }
-    requires entries { HaveAll design.now zones.now cell (length names.now) }
-    ensures { IfOk result (AreLooks most design.now zones.now names.now cell) }
+fn looks_in(alloc: Global, view: &View, cell: u32, hull: &Rect) -> Result<RectSet, AllocError>
+    requires cell { cell < length view.now.design.now.cells }
+    requires hull { hull_of (cell_at view.now.design.now cell) ≡ Some hull.now }
+    requires view { IsView view.now }
+    requires entries { HaveAll view.now.design.now view.now.zones.now cell (length
+        view.now.names.now) }
+    ensures { IfOk result (AreLooks view.now.reach view.now.design.now view.now.zones.now
+        view.now.names.now cell) }
 {
-    design.sound();
+    view.design.sound();
     let mut out = Vec::new(alloc);
-    let window = grown(hull, most);
-    push_references(alloc, &mut out, design, zones, cell, names, &window, most)?;
-    push_near_own(alloc, &mut out, design, cell, names, most)?;
+    let window = grown(hull, view.reach);
+    push_references(alloc, &mut out, view, cell, &window)?;
+    push_near_own(alloc, &mut out, view, cell)?;
     let set = RectSet::canon(alloc, out)?;
     Ok(set)
 }
@@ -268,69 +256,51 @@ fn whole(alloc: Global, hull: &Rect) -> Result<RectSet, AllocError>
 }
 
 // The squares to be looked at of a cell that places no other.
-fn leaf_looks(
-    alloc: Global,
-    design: &Design,
-    cell: u32,
-    hull: &Rect,
-    most: u32,
-) -> Result<RectSet, AllocError>
-    requires hull { hull_of (cell_at design.now cell) ≡ Some hull.now }
-    requires most { most ≤ 10000 }
-    requires leaf { places_at (cell_at design.now cell) ≡ [] }
-    ensures { IfOk result (λ r. (z : List (Option CellZones)) (names : List Rule)
-        → AreLooks most design.now z names cell r) }
+fn leaf_looks(alloc: Global, view: &View, cell: u32, hull: &Rect) -> Result<RectSet, AllocError>
+    requires hull { hull_of (cell_at view.now.design.now cell) ≡ Some hull.now }
+    requires view { IsView view.now }
+    requires leaf { places_at (cell_at view.now.design.now cell) ≡ [] }
+    ensures { IfOk result (AreLooks view.now.reach view.now.design.now view.now.zones.now
+        view.now.names.now cell) }
 {
-    design.sound();
+    view.design.sound();
     let _ = cell;
-    let wide = grown(hull, most);
+    let wide = grown(hull, view.reach);
     let set = whole(alloc, &wide)?;
     Ok(set)
 }
 
 // The same of a cell that has a hull.
-fn hull_looks(
-    alloc: Global,
-    design: &Design,
-    zones: &Zones,
-    cell: u32,
-    names: &[LayerRule],
-    hull: &Rect,
-    most: u32,
-) -> Result<RectSet, AllocError>
-    requires cell { cell < length design.now.cells }
-    requires hull { hull_of (cell_at design.now cell) ≡ Some hull.now }
-    requires few { length names.now < 2 ^ 32 }
-    requires most { most ≤ 10000 }
-    requires entries { HaveAll design.now zones.now cell (length names.now) }
-    ensures { IfOk result (AreLooks most design.now zones.now names.now cell) }
+fn hull_looks(alloc: Global, view: &View, cell: u32, hull: &Rect) -> Result<RectSet, AllocError>
+    requires cell { cell < length view.now.design.now.cells }
+    requires hull { hull_of (cell_at view.now.design.now cell) ≡ Some hull.now }
+    requires view { IsView view.now }
+    requires entries { HaveAll view.now.design.now view.now.zones.now cell (length
+        view.now.names.now) }
+    ensures { IfOk result (AreLooks view.now.reach view.now.design.now view.now.zones.now
+        view.now.names.now cell) }
 {
-    match design.places(cell) {
-        [] => leaf_looks(alloc, design, cell, hull, most),
-        _ => looks_in(alloc, design, zones, cell, names, hull, most),
+    match view.design.places(cell) {
+        [] => leaf_looks(alloc, view, cell, hull),
+        _ => looks_in(alloc, view, cell, hull),
     }
 }
 
 /// The squares of a cell that have to be looked at. An array costs one look; beside that a placed
 /// cell costs a walk in what is disturbed there, once for all its placements, and each element the
 /// rectangles of what is exposed in it.
-pub fn looks(
-    alloc: Global,
-    design: &Design,
-    zones: &Zones,
-    cell: u32,
-    names: &[LayerRule],
-    most: u32,
-) -> Result<RectSet, AllocError>
-    requires cell { cell < length design.now.cells }
-    requires few { length names.now < 2 ^ 32 }
-    requires most { most ≤ 10000 }
-    requires entries { HaveAll design.now zones.now cell (length names.now) }
-    ensures { IfOk result (AreLooks most design.now zones.now names.now cell) }
+pub fn looks(alloc: Global, view: &View, cell: u32) -> Result<RectSet, AllocError>
+    requires cell { cell < length view.now.design.now.cells }
+    requires view { IsView view.now }
+    requires entries { HaveAll view.now.design.now view.now.zones.now cell (length
+        view.now.names.now) }
+    ensures { IfOk result (AreLooks view.now.reach view.now.design.now view.now.zones.now
+        view.now.names.now cell) }
 {
+    let design = view.design;
     design.sound();
     match design.hull(cell) {
-        Some(hull) => hull_looks(alloc, design, zones, cell, names, &hull, most),
+        Some(hull) => hull_looks(alloc, view, cell, &hull),
         None => Ok(RectSet::empty(alloc)),
     }
 }

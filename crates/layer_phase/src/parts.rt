@@ -16,7 +16,8 @@ ghost use Rattle.cell_context.specs.Over.{IsPiece};
 ghost use Rattle.deep_tables.specs.declared.zones.CellZones.{CellZones};
 ghost use Rattle.layer_phase.specs.Looks.{AreNear};
 
-use crate::grown::around;
+use crate::grown::sized;
+use crate::work::CellWork;
 use cell_context::{Visit, gather, grown, push_images, push_pieces, visits};
 use cell_graph::Design;
 use deep_tables::{ZoneKey, Zones};
@@ -93,7 +94,7 @@ fn cut_near(
     }
     let set = RectSet::canon(alloc, there)?;
     let _rects = set.rects();
-    let stirred = around(alloc, &set, reach)?;
+    let stirred = sized(alloc, &set, reach)?;
     combine_rects(alloc, &[*window], stirred.rects(), Rule::Not)
 }
 
@@ -122,27 +123,25 @@ fn calm_part(
 /// by the name's reach, near which nothing is disturbed.
 pub fn calm_pieces(
     alloc: Global,
-    design: &Design,
-    zones: &Zones,
-    cell: u32,
+    work: &CellWork,
     name: u32,
     window: &Rect,
     reach: u32,
 ) -> Result<Vec<Rect>, AllocError>
-    requires cell { cell < length design.now.cells }
+    requires cell { work.now.cell < length work.now.design.now.cells }
     requires window { IsRectWithin (2 ^ 39) window.now }
     requires reach { reach ≤ 10000 }
-    requires entries { HaveEntries design.now zones.now cell name }
+    requires entries { HaveEntries work.now.design.now work.now.zones.now work.now.cell name }
     ensures pieces { IfOk result (λ r. All (IsPiece window.now) r.items) }
-    ensures exact { IfOk result (λ r. (q : Square) → (covers r.items q ≡ true)
-        ↔ ((has window.now q ≡ true) × IsKeptBy reach design.now zones.now cell
-        name q)) }
+    ensures exact { IfOk result (λ r. (q : Square) → (covers r.items q ≡ true) ↔ ((has window.now q
+        ≡ true) × IsKeptBy reach work.now.design.now work.now.zones.now work.now.cell name q)) }
 {
+    let design = work.design;
     design.sound();
     let mut out = Vec::new(alloc);
-    let list = visits(alloc, design, cell, window, None, reach)?;
+    let list = visits(alloc, design, work.cell, window, None, reach)?;
     for visit in &list {
-        let keep = calm_part(alloc, zones, visit, name, reach)?;
+        let keep = calm_part(alloc, work.zones, visit, name, reach)?;
         push_images(&mut out, keep.rects(), &visit.motion, window)?;
     }
     Ok(out)
@@ -151,24 +150,21 @@ pub fn calm_pieces(
 /// The same of all squares that are looked at.
 pub fn calm_squares(
     alloc: Global,
-    design: &Design,
-    zones: &Zones,
-    cell: u32,
+    work: &CellWork,
     name: u32,
     places: &RectSet,
     reach: u32,
 ) -> Result<RectSet, AllocError>
-    requires cell { cell < length design.now.cells }
+    requires cell { work.now.cell < length work.now.design.now.cells }
     requires near { AreNear places.now }
     requires reach { reach ≤ 10000 }
-    requires entries { HaveEntries design.now zones.now cell name }
-    ensures { IfOk result (λ r. (q : Square) → (covers r q ≡ true)
-        ↔ ((covers places.now q ≡ true) × IsKeptBy reach design.now zones.now cell
-        name q)) }
+    requires entries { HaveEntries work.now.design.now work.now.zones.now work.now.cell name }
+    ensures { IfOk result (λ r. (q : Square) → (covers r q ≡ true) ↔ ((covers places.now q ≡ true) ×
+        IsKeptBy reach work.now.design.now work.now.zones.now work.now.cell name q)) }
 {
     let mut out = Vec::new(alloc);
     for rect in places.rects() {
-        let more = calm_pieces(alloc, design, zones, cell, name, rect, reach)?;
+        let more = calm_pieces(alloc, work, name, rect, reach)?;
         out.extend_from_slice(&more)?;
     }
     let set = RectSet::canon(alloc, out)?;

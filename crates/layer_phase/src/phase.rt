@@ -4,15 +4,16 @@ ghost use Rattle.cell_graph.specs.Linked.{plain};
 ghost use Rattle.deep_tables.specs.Zones.{AreZones};
 ghost use Rattle.rule_text.specs.Seen.{rules_seen};
 ghost use Rattle.rule_text.specs.Sound.{IsSound};
-ghost use Rattle.layer_phase.specs.Phase.{AreFreeJobs};
+ghost use Rattle.deep_tables.specs.Jobs.{AreFreeJobs};
 
+use crate::groups::{Group, groups_of};
 use crate::layers::name_layers;
+use crate::work::CellWork;
 use cell_graph::Design;
-use deep_tables::{CellLayers, DeepKey, Zones};
+use deep_tables::{CellLayers, DeepKey, Zones, free_graph};
 use job_graph::{Graph, Phase, Reads};
 use list_base::small;
-use rule_layers::read_names;
-use rule_text::{LayerRule, RuleSet, reaches};
+use rule_text::{RuleSet, reaches};
 use std::alloc::{AllocError, Global};
 use std::marker::Model;
 use std::snapshot::Snapshot;
@@ -25,8 +26,7 @@ pub struct LayerPhase<'a> {
     design: &'a Design,
     rules: &'a RuleSet,
     zones: &'a Zones,
-    read: Vec<LayerRule>,
-    found: Vec<u32>,
+    groups: Vec<Group>,
     graph: Graph,
 }
 
@@ -40,20 +40,9 @@ impl<'a> Model for LayerPhase<'a> {
     ghost invariant = { IsLayerPhase };
 }
 
-/// The graph of jobs of the reached cells in which none waits. Linear in the reached cells.
-pub fn free_graph(alloc: Global, design: &Design) -> Result<Graph, AllocError>
-    ensures { IfOk result (AreFreeJobs design.now) }
-{
-    let mut inputs = Vec::new(alloc);
-    for _ in 0..design.order().len() {
-        inputs.push(Vec::new(alloc))?;
-    }
-    Graph::from_inputs(alloc, inputs)
-}
-
 impl<'a> LayerPhase<'a> {
     /// The phase of a layout and of its disturbed squares for these rules. 2^32 names or more are
-    /// refused. Linear in the reached cells and the names.
+    /// refused. Linear in the reached cells, and in the names for each reach.
     pub fn new(
         alloc: Global,
         design: &'a Design,
@@ -68,15 +57,14 @@ impl<'a> LayerPhase<'a> {
     {
         small(rules.names.len()).ok_or(AllocError)?;
         design.sound();
-        let read = read_names(alloc, &rules.names, &[], &[])?;
         let found = reaches(alloc, &rules.names)?;
+        let groups = groups_of(alloc, &rules.names, &found)?;
         let graph = free_graph(alloc, design)?;
         Ok(LayerPhase {
             design,
             rules,
             zones,
-            read,
-            found,
+            groups,
             graph,
         })
     }
@@ -112,16 +100,13 @@ impl Phase for LayerPhase<'_> {
         let _ = reads;
         let design = self.design;
         design.sound();
-        let cell = design.order()[job as usize];
-        let layers = name_layers(
-            alloc,
+        let work = CellWork {
             design,
-            self.rules,
-            &self.read,
-            &self.found,
-            self.zones,
-            cell,
-        )?;
+            rules: self.rules,
+            zones: self.zones,
+            cell: design.order()[job as usize],
+        };
+        let layers = name_layers(alloc, &work, &self.groups)?;
         Ok(CellLayers { layers })
     }
 }

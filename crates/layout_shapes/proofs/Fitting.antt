@@ -1,5 +1,5 @@
 -- Each reached cell can be written.
-use Rattle.std.proofs.Common.{◌≡◌, inl, inr, ℕ, ◌+◌, ◌<◌, List, [], ◌∷◌, ◌++◌, length, get_or, slice_get, Option, Some, None, Bool, false, sym, subst, arith}
+use Rattle.std.proofs.Common.{◌≡◌, inl, inr, ℕ, ◌+◌, ◌<◌, List, [], ◌∷◌, ◌++◌, length, get_or, slice_get, Option, Some, None, sym, ap, ◌∙◌, subst, arith}
 use Rattle.std.specs.Prelude.{IsSome}
 use Rattle.std.specs.List.{All}
 use Rattle.std.proofs.lemmas.List.{length-append, get_or_default}
@@ -7,7 +7,7 @@ use Rattle.std.proofs.lemmas.Option.{slice_get_cases, get_or_from_slice_get}
 use Rattle.geo_base.specs.declared.shapes.Rect.{Rect}
 use Rattle.flat_layout.specs.Layers.{Formula}
 use Rattle.flat_layout.specs.Layout.{IsReached}
-use Rattle.cell_graph.specs.Linked.{Linked, IsOrder, IsSound, plain, places_at}
+use Rattle.cell_graph.specs.Linked.{Linked, IsHull, IsOrder, IsSound, HullIsSound, cell_at, hull_of, plain, places_at}
 use Rattle.cell_graph.specs.declared.cells.CellPart.{CellPart}
 use Rattle.rule_text.specs.declared.rules.LayerRule.{LayerRule}
 use Rattle.rule_text.specs.declared.rules.Output.{Output}
@@ -19,10 +19,10 @@ use Rattle.deep_tables.specs.declared.layers.CellLayers.{CellLayers}
 use Rattle.gds_layout.specs.declared.layout.Layout.{Layout}
 use Rattle.gds_shapes.specs.Data.{IsNamed}
 use Rattle.gds_shapes.specs.References.{FitsReference}
-use Rattle.layout_shapes.specs.Wide.{AreHeld, IsFirstWide, is_wide}
+use Rattle.layout_shapes.specs.Wide.{AreHeld, IsFirstWide, IsWideCell, has_wide_line}
 use Rattle.layout_shapes.specs.Writable.{IsWritable, CanWriteLine, CanWriteCell}
 use Rattle.layout_shapes.specs.Written.{AreReached, name_of, ref_of}
-use Rattle.layout_shapes.proofs.Long.{narrow_line}
+use Rattle.layout_shapes.proofs.Long.{narrow_line, never}
 use Rattle.layout_shapes.proofs.Reaching.{contained, within, reached_at}
 
 count_behind : (before : List Formula) (names : List LayerRule) → length (formulas_behind before names) ≡ length before + length names
@@ -63,8 +63,15 @@ pub all_held : LayerAtLaw → (d : Linked) (r : Rules) (table : List (Option Cel
 all_held at d r table order sound_rules are k z lt =
     held_cell at d r table (get_or d.order k z) sound_rules are (contained d order (get_or d.order k z) (k, lt, get_or_default d.order k (get_or d.order k z) z lt))
 
+-- the hull of a cell that has one
+pub hull_in : (d : Linked) (cell : ℕ) (h : Rect) → IsSound d → cell < length d.cells → hull_of (cell_at d cell) ≡ Some h → IsHull h
+hull_in d cell h sound inside e =
+    let c = there d.cells cell inside in
+    let has : c.0.hull ≡ Some h = sym (ap hull_of c.1) ∙ e in
+    subst HullIsSound has (sound.each cell c.0 c.1).hull
+
 pub can_write : LayerAtLaw → (l : Layout) (r : Rules) (table : List (Option CellLayers)) (cell : ℕ) → IsSound l.design → rules.IsSound r → AreLayers (plain l.design) r table → IsWritable l
-    → is_wide table r cell ≡ false → IsReached (plain l.design) cell → CanWriteCell l r table cell
+    → (IsWideCell (plain l.design) r table cell → ⊥) → IsReached (plain l.design) cell → CanWriteCell l r table cell
 can_write at l r table cell sound sound_rules are writable narrow reached =
     let d = l.design in
     let inside = within d cell sound.order reached in
@@ -80,7 +87,7 @@ can_write at l r table cell sound sound_rules are writable narrow reached =
       refs = subst (λ (o : Option CellPart). All (λ p. FitsReference (ref_of d p)) (places_at o)) (sym c.1) can.refs;
       lines = entries (CanWriteLine table cell) r.outputs (λ k o e. record {
         held = held_line at d r table cell o are reached (sound_rules.formed.outputs k o e).below;
-        long = narrow_line table r cell k o narrow e;
+        long = narrow_line table r cell k o (never (has_wide_line table r cell) (λ h. narrow (inl h))) e;
       });
     }
 

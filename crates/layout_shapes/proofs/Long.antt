@@ -1,15 +1,14 @@
 -- What a cell that isn't wide holds has room in a stream.
-use Rattle.std.proofs.Common.{◌≡◌, ℕ, zero, suc, ℤ, pos, ◌-ℤ◌, ◌^◌, Bool, true, false, ◌&&◌, ◌||◌, not, List, [], ◌∷◌, Option, Some, None, slice_get, refl, subst, arith}
+use Rattle.std.proofs.Common.{◌≡◌, ℕ, zero, suc, ℤ, Bool, true, false, ◌&&◌, ◌||◌, not, List, [], ◌∷◌, Option, Some, None, slice_get, refl, subst, arith}
 use Rattle.std.proofs.lemmas.Int.{ints}
 use Rattle.std.specs.List.{All, AllByRecursion as ByRecursion, list_any}
 use Rattle.std.proofs.lemmas.List.Elements.{All-from_recursion}
 use Rattle.geo_base.specs.Near.{IsLong, IsLongRect}
-use Rattle.geo_base.specs.Rects.{is_between}
 use Rattle.geo_base.specs.declared.shapes.Rect.{Rect}
 use Rattle.rule_text.specs.declared.rules.Output.{Output}
 use Rattle.rule_text.specs.Rules.{Rules}
 use Rattle.deep_tables.specs.declared.layers.CellLayers.{CellLayers}
-use Rattle.layout_shapes.specs.Wide.{is_long, is_long_rect, is_wide, is_wide_line}
+use Rattle.layout_shapes.specs.Wide.{has_wide_line, is_long, is_long_rect, is_wide_line}
 use Rattle.layout_shapes.specs.Written.{line_of}
 
 first : (a b : Bool) → (a && b) ≡ true → a ≡ true
@@ -27,6 +26,10 @@ neither false b h = refl
 nor : (a b : Bool) → (a || b) ≡ false → b ≡ false
 nor true b h = cc
 nor false b h = h
+
+pub never : (a : Bool) → (a ≡ true → ⊥) → a ≡ false
+never true h = absurd (h refl)
+never false h = refl
 
 held : (a : Bool) → not a ≡ false → a ≡ true
 held true h = refl
@@ -56,6 +59,6 @@ none_at f [] k x h e = let g : None ≡ Some x = e in absurd (let z : ⊥ = cc i
 none_at f (y ∷ xs) zero x h e = let g : y ≡ x = cc in subst (λ v. f v ≡ false) g (neither (f y) (list_any f xs) h)
 none_at f (y ∷ xs) (suc k) x h e = none_at f xs k x (nor (f y) (list_any f xs) h) e
 
-pub narrow_line : (table : List (Option CellLayers)) (r : Rules) (cell k : ℕ) (o : Output) → is_wide table r cell ≡ false → slice_get r.outputs k ≡ Some o → All IsLongRect (line_of table cell o).1
+pub narrow_line : (table : List (Option CellLayers)) (r : Rules) (cell k : ℕ) (o : Output) → has_wide_line table r cell ≡ false → slice_get r.outputs k ≡ Some o → All IsLongRect (line_of table cell o).1
 narrow_line table r cell k o h e =
     All-from_recursion IsLongRect (line_of table cell o).1 (long_rects (line_of table cell o).1 (none_at (λ (o : Output). is_wide_line (line_of table cell o).1) r.outputs k o h e))

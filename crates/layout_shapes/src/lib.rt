@@ -4,6 +4,7 @@
 
 mod cells;
 mod laws;
+mod reach;
 mod shapes;
 mod wide;
 

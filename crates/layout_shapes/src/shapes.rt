@@ -27,7 +27,8 @@ use std::alloc::{AllocError, Global};
 /// references in order, and then the squares that it holds itself of each output line of the rules
 /// in order, a rectangle as a boundary. Cells, references and arrays stand as they are; nothing is
 /// spelled out, and texts aren't written. No such cell holds a rectangle that is wider than the
-/// stream has room for (`wide_cell`). An `Err` is want of memory. Cost: the bytes written.
+/// stream has room for, or lies too far out to be read back (`wide_cell`). An `Err` is want of
+/// memory. Cost: the bytes written.
 pub fn shapes_text(
     alloc: Global,
     layout: &Layout,

@@ -5,7 +5,7 @@ ghost use Rattle.std.specs.Prelude.{◌≤◌};
 use crate::told::told;
 use gds_layout::read_layout;
 use geo_base::LayerKey;
-use job_board::OpenGate;
+use job_board::{Crew, OpenGate};
 use rule_text::read_rules;
 use shapes_file::{Drawing, shapes_file};
 use std::alloc::{AllocError, Global};
@@ -102,7 +102,7 @@ fn written<R: Threads + Wait + Sync>(
     let Ok(rules) = read_rules(alloc, RULES) else {
         return Err(AllocError);
     };
-    match shapes_file(rt, alloc, &layout, &rules, 2, &OpenGate)? {
+    match shapes_file(alloc, &layout, &rules, &Crew::new(rt, 2, &OpenGate))? {
         Drawing::Whole(file) => Ok(file.text),
         Drawing::Wide(_) => Err(AllocError),
     }

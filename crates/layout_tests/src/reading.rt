@@ -34,7 +34,7 @@ const SQUARES: [Cell; 1] = [Cell("A", &[Rect(1, [0, 0, 10, 10]), Rect(2, [5, 5, 
 const MISSING: [Cell; 1] = [Cell("A", &[Placed("B", 0, 0)])];
 
 /// Each layout's cells, and what is read of them.
-const LAYOUTS: [(&[Cell], &str); 2] = [
+static LAYOUTS: [(&[Cell], &str); 2] = [
     (
         &SQUARES,
         "unit 1000 top 0
@@ -98,21 +98,26 @@ fn cut(alloc: Global, bytes: &[u8], at: usize) -> Result<Layout, LayoutFault>
     reader.finish(alloc, None)
 }
 
+// What is read of a layout.
+fn text_of(alloc: Global, layout: Result<Layout, LayoutFault>) -> Result<String, LayoutFault> {
+    Ok(told(alloc, &layout?, &KEYS)?)
+}
+
 // Whole, cut at each place, and in pieces of one size.
 #[test]
 fn read_in_pieces(rt: HostRuntime) -> Result<(), Fail> {
     let alloc = rt.alloc();
-    for (cells, wanted) in LAYOUTS {
+    for (cells, wanted) in &LAYOUTS {
         let stream = library(alloc, cells)?;
-        let whole = read_layout(alloc, &stream, None)?;
-        assert_eq!(rt; told(alloc, &whole, &KEYS)?.as_str(), wanted);
+        let whole = text_of(alloc, read_layout(alloc, &stream, None))?;
+        assert_eq!(rt; whole.as_str(), *wanted);
         for at in 0..=stream.len() {
-            let layout = cut(alloc, &stream, at)?;
-            assert_eq!(rt; told(alloc, &layout, &KEYS)?.as_str(), wanted, "{at}");
+            let found = text_of(alloc, cut(alloc, &stream, at))?;
+            assert!(rt; found.as_str() == *wanted, "{at}");
         }
         for size in [1, 2, 3, 1000] {
-            let layout = in_pieces(alloc, &stream, size)?;
-            assert_eq!(rt; told(alloc, &layout, &KEYS)?.as_str(), wanted, "{size}");
+            let found = text_of(alloc, in_pieces(alloc, &stream, size))?;
+            assert!(rt; found.as_str() == *wanted, "{size}");
         }
     }
     Ok(())
@@ -134,6 +139,11 @@ fn place_of(fault: &LayoutFault) -> Option<Place> {
     }
 }
 
+// The place of an answer's fault.
+fn fault_of<T: Drop>(answer: Result<T, LayoutFault>) -> Option<Place> {
+    place_of(&answer.err()?)
+}
+
 // The two squares, the second with a slanted edge.
 fn slanted(alloc: Global) -> Result<Vec<u8>, AllocError> {
     let straight = library(alloc, &SQUARES)?;
@@ -141,16 +151,16 @@ fn slanted(alloc: Global) -> Result<Vec<u8>, AllocError> {
 }
 
 /// Where each record of the two squares' stream ends.
-const ENDS: [usize; 18] = [
+static ENDS: [usize; 18] = [
     6, 34, 40, 60, 88, 94, 98, 104, 110, 154, 158, 162, 168, 174, 218, 222, 226, 230,
 ];
 
 // The fault of so many first bytes of that stream: too few, in the record that they end in.
 fn cut_place(at: usize) -> Place {
     let mut place: Place = (1, 0, 0);
-    for end in ENDS {
-        if end <= at {
-            place = (1, place.1.saturating_add(1), end as u64);
+    for end in &ENDS {
+        if *end <= at {
+            place = (1, place.1.saturating_add(1), *end as u64);
         }
     }
     place
@@ -160,13 +170,11 @@ fn cut_place(at: usize) -> Place {
 fn is_cut(alloc: Global, stream: &[u8], at: usize) -> bool {
     let wanted = Some(cut_place(at));
     let bytes = front(stream, at);
-    let whole = read_layout(alloc, bytes, None).err();
-    if whole.as_ref().and_then(place_of) != wanted {
+    if fault_of(read_layout(alloc, bytes, None)) != wanted {
         return false;
     }
     for size in [1, 7, 1000] {
-        let parts = in_pieces(alloc, bytes, size).err();
-        if parts.as_ref().and_then(place_of) != wanted {
+        if fault_of(in_pieces(alloc, bytes, size)) != wanted {
             return false;
         }
     }
@@ -192,13 +200,10 @@ fn faults_in_pieces(rt: HostRuntime) -> Result<(), Fail> {
     let missing = library(alloc, &MISSING)?;
     assert_eq!(rt; missing.len(), 128);
     for size in [1, 2, 3, 1000] {
-        for (bytes, place) in [
-            (front(&slanted, 230), (6, 14, 174)),
-            (front(&missing, 124), (1, 11, 124)),
-        ] {
-            let fault = in_pieces(alloc, bytes, size).err();
-            assert_eq!(rt; fault.as_ref().and_then(place_of), Some(place), "{size}");
-        }
+        let first = fault_of(in_pieces(alloc, front(&slanted, 230), size));
+        assert!(rt; first == Some((6, 14, 174)), "{size}");
+        let second = fault_of(in_pieces(alloc, front(&missing, 124), size));
+        assert!(rt; second == Some((1, 11, 124)), "{size}");
     }
     Ok(())
 }
@@ -211,7 +216,7 @@ fn told_with_its_record(rt: HostRuntime) -> Result<(), Fail> {
     for at in 0..=230usize {
         let mut reader = LayoutReader::new(alloc);
         let answer = reader.feed(alloc, front(&slanted, at));
-        assert_eq!(rt; answer.is_err(), at >= 218, "{at}");
+        assert!(rt; answer.is_err() == (at >= 218), "{at}");
     }
     Ok(())
 }
@@ -223,12 +228,11 @@ fn kept_fault(rt: HostRuntime) -> Result<(), Fail> {
     let slanted = slanted(alloc)?;
     assert_eq!(rt; slanted.len(), 230);
     let mut reader = LayoutReader::new(alloc);
-    let fault = reader.feed(alloc, &slanted).err();
-    assert_eq!(rt; fault.as_ref().and_then(place_of), Some((6, 14, 174)));
-    let fault = reader.feed(alloc, &[0, 4]).err();
-    assert_eq!(rt; fault.as_ref().and_then(place_of), Some((6, 14, 174)));
-    let fault = reader.finish(alloc, None).err();
-    assert_eq!(rt; fault.as_ref().and_then(place_of), Some((6, 14, 174)));
+    let first = fault_of(reader.feed(alloc, &slanted));
+    let second = fault_of(reader.feed(alloc, &[0, 4]));
+    let third = fault_of(reader.finish(alloc, None));
+    let wanted = Some((6, 14, 174));
+    assert!(rt; first == wanted && second == wanted && third == wanted);
     Ok(())
 }
 
@@ -248,7 +252,7 @@ fn link_of(fault: &LayoutFault) -> (u8, &[u8]) {
 }
 
 /// Cells that can't be linked, the name of the top or nothing, and their fault.
-const UNLINKED: [(&[Cell], &str, u8, &str); 7] = [
+static UNLINKED: [(&[Cell], &str, u8, &str); 7] = [
     (&[], "", 24, ""),
     (&[Cell("A", &[])], "B", 24, ""),
     (&[Cell("A", &[]), Cell("A", &[])], "", 20, "A"),
@@ -276,43 +280,63 @@ const UNLINKED: [(&[Cell], &str, u8, &str); 7] = [
     ),
 ];
 
+// Whether the answer is this fault of the links.
+fn is_fault(answer: Result<Layout, LayoutFault>, number: u8, name: &str) -> bool {
+    match answer {
+        Ok(_) => false,
+        Err(fault) => {
+            let (found, cell) = link_of(&fault);
+            found == number && cell == name.as_bytes()
+        }
+    }
+}
+
+// The layout of this top of a stream in pieces of this size, or what the end answers.
+fn ended(
+    alloc: Global,
+    stream: &[u8],
+    size: usize,
+    top: &str,
+) -> Result<Result<Layout, LayoutFault>, LayoutFault>
+    requires { 0 < size }
+{
+    let top = Name::from_bytes(alloc, top.as_bytes())?;
+    let reader = fed(alloc, stream, size)?;
+    Ok(reader.finish(alloc, top.as_ref()))
+}
+
 // A fault of the links comes from the end alone, whatever the pieces.
 #[test]
 fn links_at_the_end(rt: HostRuntime) -> Result<(), Fail> {
     let alloc = rt.alloc();
-    for (cells, top, number, name) in UNLINKED {
+    for (cells, top, number, name) in &UNLINKED {
         let stream = library(alloc, cells)?;
-        let top = Name::from_bytes(alloc, top.as_bytes())?;
         for size in [1, 1000] {
-            let reader = fed(alloc, &stream, size)?;
-            let fault = reader.finish(alloc, top.as_ref()).err();
-            let wanted = (number, name.as_bytes());
-            assert_eq!(rt;
-                fault.as_ref().map(link_of),
-                Some(wanted),
-                "{number} {size}"
-            );
+            let answer = ended(alloc, &stream, size, top)?;
+            assert!(rt; is_fault(answer, *number, name), "{number} {size}");
         }
     }
     Ok(())
+}
+
+fn push_empty(alloc: Global, out: &mut Vec<u8>, number: u32) -> Result<(), AllocError> {
+    begin_cell(alloc, out, format!(in alloc; "C{number}")?.as_str())?;
+    end_cell(out)
+}
+
+fn push_once(alloc: Global, out: &mut Vec<u8>, number: u32) -> Result<(), AllocError> {
+    push_placed(alloc, out, format!(in alloc; "C{number}")?.as_str(), 0, 0)
 }
 
 // Cells by their numbers, and a cell that places each of them once.
 fn placed_once(alloc: Global, cells: u32) -> Result<Vec<u8>, AllocError> {
     let mut out = begin(alloc)?;
     for number in 0..cells {
-        begin_cell(alloc, &mut out, format!(in alloc; "C{number}")?.as_str())?;
-        end_cell(&mut out)?;
+        push_empty(alloc, &mut out, number)?;
     }
     begin_cell(alloc, &mut out, "TOP")?;
     for number in 0..cells {
-        push_placed(
-            alloc,
-            &mut out,
-            format!(in alloc; "C{number}")?.as_str(),
-            0,
-            0,
-        )?;
+        push_once(alloc, &mut out, number)?;
     }
     end_cell(&mut out)?;
     end(&mut out)?;
@@ -323,12 +347,10 @@ fn placed_once(alloc: Global, cells: u32) -> Result<Vec<u8>, AllocError> {
 #[test]
 fn most_cells(rt: HostRuntime) -> Result<(), Fail> {
     let alloc = rt.alloc();
-    let stream = placed_once(alloc, 65535)?;
-    let layout = read_layout(alloc, &stream, None)?;
-    assert_eq!(rt; layout.design.cells(), 65536);
-    assert_eq!(rt; layout.design.top(), 65535);
-    let stream = placed_once(alloc, 65536)?;
-    let fault = read_layout(alloc, &stream, None).err();
-    assert_eq!(rt; fault.as_ref().map(link_of), Some((26, [].as_slice())));
+    let layout = read_layout(alloc, &placed_once(alloc, 65535)?, None)?;
+    assert!(rt; layout.design.cells() == 65536);
+    assert!(rt; layout.design.top() == 65535);
+    let answer = read_layout(alloc, &placed_once(alloc, 65536)?, None);
+    assert!(rt; is_fault(answer, 26, ""));
     Ok(())
 }

@@ -7,8 +7,12 @@ use gds_layout::Layout;
 use geo_base::{LayerKey, Rect};
 use std::alloc::{AllocError, Global};
 
-fn add_rect(alloc: Global, out: &mut String, r: &Rect) -> Result<(), AllocError> {
-    out.push_str(&format!(in alloc; " {} {} {} {}\n", r.x1, r.y1, r.x2, r.y2)?)
+fn add(out: &mut String, line: Result<String, AllocError>) -> Result<(), AllocError> {
+    out.push_str(&line?)
+}
+
+fn rect_of(alloc: Global, r: &Rect) -> Result<String, AllocError> {
+    format!(in alloc; " {} {} {} {}\n", r.x1, r.y1, r.x2, r.y2)
 }
 
 // The squares of a layer, a rectangle a line.
@@ -19,32 +23,36 @@ fn add_layer(
     rects: &[Rect],
 ) -> Result<(), AllocError> {
     for r in rects {
-        out.push_str(&format!(in alloc; "{}/{}", key.layer, key.datatype)?)?;
-        add_rect(alloc, out, r)?;
+        add(out, format!(in alloc; "{}/{}", key.layer, key.datatype))?;
+        add(out, rect_of(alloc, r))?;
     }
     Ok(())
 }
 
 fn add_place(alloc: Global, out: &mut String, place: &Place) -> Result<(), AllocError> {
-    let motion = place.motion;
-    out.push_str(&format!(in alloc;
+    let (motion, columns, rows) = (place.motion, place.column_step, place.row_step);
+    let cell = format!(in alloc;
         "cell {} {:?} {} {}",
         place.cell, motion.turn, motion.dx, motion.dy
-    )?)?;
-    out.push_str(&format!(in alloc;
-        ", {} columns by {} {}",
-        place.columns, place.column_step.x, place.column_step.y
-    )?)?;
-    out.push_str(&format!(in alloc;
-        ", {} rows by {} {}\n",
-        place.rows, place.row_step.x, place.row_step.y
-    )?)
+    );
+    add(out, cell)?;
+    add(
+        out,
+        format!(in alloc;
+            ", {} columns by {} {}",
+            place.columns, columns.x, columns.y
+        ),
+    )?;
+    add(
+        out,
+        format!(in alloc; ", {} rows by {} {}\n", place.rows, rows.x, rows.y),
+    )
 }
 
 fn add_name(alloc: Global, out: &mut String, name: &[u8]) -> Result<(), AllocError> {
     out.push_str("name")?;
     for byte in name {
-        out.push_str(&format!(in alloc; " {byte}")?)?;
+        add(out, format!(in alloc; " {byte}"))?;
     }
     out.push_str("\n")
 }
@@ -61,7 +69,7 @@ fn add_cell(
     add_name(alloc, out, design.name(cell).bytes())?;
     if let Some(hull) = design.hull(cell) {
         out.push_str("hull")?;
-        add_rect(alloc, out, &hull)?;
+        add(out, rect_of(alloc, &hull))?;
     }
     for key in keys {
         add_layer(alloc, out, *key, design.own(cell, *key).rects())?;

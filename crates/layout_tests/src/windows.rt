@@ -29,7 +29,7 @@ fn rects_of(alloc: Global, list: &[Corners]) -> Result<Vec<Rect>, AllocError> {
 const THREE: [Corners; 3] = [[0, 0, 10, 10], [5, 5, 15, 15], [20, 0, 30, 10]];
 
 /// Rectangles, a window, and the positions that it finds.
-const LISTS: [(&[Corners], Corners, &[u32]); 10] = [
+static LISTS: [(&[Corners], Corners, &[u32]); 10] = [
     (&THREE, [9, 9, 21, 10], &[0, 1, 2]),
     (&THREE, [10, 0, 20, 5], &[]),
     // The corner of one, and the edges of others.
@@ -54,12 +54,12 @@ const LISTS: [(&[Corners], Corners, &[u32]); 10] = [
 #[test]
 fn lists(rt: HostRuntime) -> Result<(), Fail> {
     let alloc = rt.alloc();
-    for (list, window, wanted) in LISTS {
+    for (list, window, wanted) in &LISTS {
         let rects = rects_of(alloc, list)?;
         for hull in [[0, 0, 30, 15], [-1000, -1000, 1000, 1000], [3, 3, 4, 4]] {
             let index = TileIndex::build(alloc, &rects, rect(hull))?;
-            let found = index.query(alloc, rect(window))?;
-            assert_eq!(rt; found.as_slice(), wanted, "{window:?}");
+            let found = index.query(alloc, rect(*window))?;
+            assert_eq!(rt; found.as_slice(), *wanted, "{window:?}");
         }
     }
     Ok(())
@@ -80,7 +80,7 @@ fn chip(alloc: Global) -> Result<Vec<Rect>, AllocError> {
 }
 
 /// Windows, and what they find of the chip.
-const CHIP: [(Corners, &[u32]); 6] = [
+static CHIP: [(Corners, &[u32]); 6] = [
     // In the third row, the third and the fourth square.
     ([45, 45, 61, 51], &[0, 203, 204]),
     // Between four squares.
@@ -96,9 +96,9 @@ fn one_over_many(rt: HostRuntime) -> Result<(), Fail> {
     let alloc = rt.alloc();
     let rects = chip(alloc)?;
     let index = TileIndex::build(alloc, &rects, rect([0, 0, 2000, 2000]))?;
-    for (window, wanted) in CHIP {
-        let found = index.query(alloc, rect(window))?;
-        assert_eq!(rt; found.as_slice(), wanted, "{window:?}");
+    for (window, wanted) in &CHIP {
+        let found = index.query(alloc, rect(*window))?;
+        assert_eq!(rt; found.as_slice(), *wanted, "{window:?}");
     }
     let all = index.query(alloc, rect([0, 0, 2000, 2000]))?;
     assert_eq!(rt; all.len(), 10001);
@@ -126,7 +126,7 @@ const DRAWN: [Cell; 1] = [Cell(
 )];
 
 /// A layer, a window, and the positions in the layer's list that it finds.
-const OWN: [(LayerKey, Corners, &[u32]); 7] = [
+static OWN: [(LayerKey, Corners, &[u32]); 7] = [
     (FIRST, [9, 9, 21, 10], &[0]),
     (FIRST, [10, 0, 20, 5], &[]),
     (SECOND, [9, 9, 21, 10], &[0, 1]),
@@ -159,15 +159,15 @@ fn own_found(
 fn own_squares(rt: HostRuntime) -> Result<(), Fail> {
     let alloc = rt.alloc();
     let layout = read_layout(alloc, &library(alloc, &DRAWN)?, None)?;
-    for (key, window, wanted) in OWN {
-        let found = own_found(alloc, &layout, key, window)?;
-        assert_eq!(rt; found.as_slice(), wanted, "{key:?} {window:?}");
+    for (key, window, wanted) in &OWN {
+        let found = own_found(alloc, &layout, *key, *window)?;
+        assert_eq!(rt; found.as_slice(), *wanted, "{key:?} {window:?}");
     }
     Ok(())
 }
 
 /// A square, a square off the origin, a cell without any, and one that places the latter.
-const CHILDREN: [Cell; 4] = [
+static CHILDREN: [Cell; 4] = [
     Cell("K", &[Shape(1, [0, 0, 10, 10])]),
     Cell("S", &[Shape(1, [2, 1, 3, 2])]),
     Cell("E", &[]),
@@ -175,7 +175,7 @@ const CHILDREN: [Cell; 4] = [
 ];
 
 /// What the top places, a window, and the positions of the references that it finds.
-const PLACES: [(&[Item], Corners, &[u32]); 12] = [
+static PLACES: [(&[Item], Corners, &[u32]); 12] = [
     (&TWICE, [9, 0, 101, 1], &[0, 1]),
     (&TWICE, [5, 0, 15, 10], &[0]),
     (&TWICE, [10, 0, 100, 10], &[]),
@@ -221,10 +221,10 @@ fn places_found(alloc: Global, layout: &Layout, window: Corners) -> Result<Vec<u
 fn references(rt: HostRuntime) -> Result<(), Fail> {
     let alloc = rt.alloc();
     let top = Name::from_bytes(alloc, b"T")?;
-    for (items, window, wanted) in PLACES {
+    for (items, window, wanted) in &PLACES {
         let layout = read_layout(alloc, &with_top(alloc, items)?, top.as_ref())?;
-        let found = places_found(alloc, &layout, window)?;
-        assert_eq!(rt; found.as_slice(), wanted, "{window:?}");
+        let found = places_found(alloc, &layout, *window)?;
+        assert_eq!(rt; found.as_slice(), *wanted, "{window:?}");
     }
     Ok(())
 }

@@ -29,7 +29,7 @@ use crate::status::Refusal;
 use crate::words::ChipTask;
 use chip_maker::{Made, make};
 use gds_layout::{Layout, read_layout};
-use job_board::Gate;
+use job_board::{Crew, Gate};
 use lvs_files::Written;
 use lvs_outside::LIMIT;
 use net_model::Netlist;
@@ -176,6 +176,7 @@ pub fn chip_output<R: Threads + Wait + Sync, G: Gate + Sync>(
     let layout = layout_in(alloc, &prefix, texts.layout.as_slice(), &top)?;
     let schematic = schematic_in(alloc, &prefix, texts.schematic.as_slice())?;
     let files = files_to_write(alloc, texts, &prefix)?;
-    let output = made_output(rt, alloc, &layout, &rules, &schematic, workers, files, gate)?;
+    let crew = Crew::new(rt, workers, gate);
+    let output = made_output(alloc, &layout, &rules, &schematic, files, &crew)?;
     Ok(output)
 }

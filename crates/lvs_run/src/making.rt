@@ -1,6 +1,6 @@
 //! What a command has to write of what it has read.
 
-ghost use Rattle.std.specs.Prelude.{◌≡◌, ◌≢◌, ◌<◌, ◌≤◌, ◌++◌, ◌∷◌, [], ℕ, List, Option};
+ghost use Rattle.std.specs.Prelude.{◌≡◌, ◌≢◌, ◌<◌, ◌++◌, ◌∷◌, [], ℕ, List, Option};
 ghost use Rattle.std.specs.Prelude.{IfErr, IfOk, None, OnOk, Some, length, string_bytes};
 ghost use Rattle.cell_graph.specs.Linked.{cell_at};
 ghost use Rattle.cell_graph.specs.declared.cells.CellPart.{CellPart};
@@ -32,7 +32,7 @@ use crate::summary::{compared_line, extracted_line, layers_line};
 use crate::words::{LayoutOutputs, ReportPaths};
 use deep_tables::BadGate;
 use gds_layout::Layout;
-use job_board::Gate;
+use job_board::{Crew, Gate};
 use lvs_files::Written;
 use net_model::Netlist;
 use netlist_file::{Extraction, Files, NetlistFile, extract_files, extract_netlist, flat_netlist};
@@ -107,17 +107,14 @@ fn netlist_output(
 // The report on what was extracted from a layout, its netlist being compared as the one of these,
 // and a schematic as the other.
 fn report_on<R: Threads + Wait + Sync, G: Gate + Sync>(
-    rt: &R,
     alloc: Global,
     layout: &Layout,
     rules: &RuleSet,
     found: &NetlistFile,
     netlist: &Netlist,
     schematic: &Netlist,
-    workers: usize,
-    gate: &G,
+    crew: &Crew<R, G>,
 ) -> Result<Report, AllocError>
-    requires workers { (1 ≤ workers) × (workers ≤ 64) }
     requires read { (bytes : List ℕ) × (top : Option (List ℕ)) × IsRead bytes top layout.now }
     requires rules { IsSound (rules_seen rules.now) }
     requires found { IsNetlistFile layout.now (rules_seen rules.now)
@@ -133,24 +130,19 @@ fn report_on<R: Threads + Wait + Sync, G: Gate + Sync>(
 {
     flat_netlist();
     let (design, top, bad) = (&layout.design, found.top, found.bad.as_slice());
-    let report = report_file(
-        rt, alloc, design, rules, netlist, top, bad, schematic, workers, gate,
-    )?;
+    let report = report_file(alloc, design, rules, netlist, top, bad, schematic, crew)?;
     Ok(report)
 }
 
 // The report on what was extracted from a layout, compared with a schematic.
 fn report_found<R: Threads + Wait + Sync, G: Gate + Sync>(
-    rt: &R,
     alloc: Global,
     layout: &Layout,
     rules: &RuleSet,
     found: &NetlistFile,
     schematic: &Netlist,
-    workers: usize,
-    gate: &G,
+    crew: &Crew<R, G>,
 ) -> Result<Report, Stop>
-    requires workers { (1 ≤ workers) × (workers ≤ 64) }
     requires read { (bytes : List ℕ) × (top : Option (List ℕ)) × IsRead bytes top layout.now }
     requires rules { IsSound (rules_seen rules.now) }
     requires found { IsNetlistFile layout.now (rules_seen rules.now)
@@ -172,32 +164,25 @@ fn report_found<R: Threads + Wait + Sync, G: Gate + Sync>(
     combined_alignable();
     if !rules.combine {
         let netlist = &found.netlist;
-        let report = report_on(
-            rt, alloc, layout, rules, found, netlist, schematic, workers, gate,
-        )?;
+        let report = report_on(alloc, layout, rules, found, netlist, schematic, crew)?;
         return Ok(report);
     }
     let both = merge_both(alloc, &found.netlist, schematic)?;
     let (netlist, other) = (&both.layout, &both.schematic);
-    let report = report_on(
-        rt, alloc, layout, rules, found, netlist, other, workers, gate,
-    )?;
+    let report = report_on(alloc, layout, rules, found, netlist, other, crew)?;
     Ok(report)
 }
 
 // What `run` has to write, beside what was extracted.
 fn compared_output<R: Threads + Wait + Sync, G: Gate + Sync>(
-    rt: &R,
     alloc: Global,
     layout: &Layout,
     rules: &RuleSet,
     found: Extraction,
     schematic: &Netlist,
-    workers: usize,
     paths: ReportPaths,
-    gate: &G,
+    crew: &Crew<R, G>,
 ) -> Result<Output, Stop>
-    requires workers { (1 ≤ workers) × (workers ≤ 64) }
     requires read { (bytes : List ℕ) × (top : Option (List ℕ)) × IsRead bytes top layout.now }
     requires rules { IsSound (rules_seen rules.now) }
     requires found { HasFiles layout.now (rules_seen rules.now) found }
@@ -209,7 +194,7 @@ fn compared_output<R: Threads + Wait + Sync, G: Gate + Sync>(
         (plain_netlist schematic.now) (stopped why)) }
 {
     let Extraction { shapes, file } = found;
-    let report = report_found(rt, alloc, layout, rules, &file, schematic, workers, gate)?;
+    let report = report_found(alloc, layout, rules, &file, schematic, crew)?;
     let verdict = comparison_verdict(report.verdict);
     let line = compared_line(alloc, verdict, shapes.cells, &file, report.pairs)?;
     let mut files = Vec::new(alloc);
@@ -225,16 +210,13 @@ fn compared_output<R: Threads + Wait + Sync, G: Gate + Sync>(
 
 /// What `run` has to write.
 pub fn report_output<R: Threads + Wait + Sync, G: Gate + Sync>(
-    rt: &R,
     alloc: Global,
     layout: &Layout,
     rules: &RuleSet,
     schematic: &Netlist,
-    workers: usize,
     paths: ReportPaths,
-    gate: &G,
+    crew: &Crew<R, G>,
 ) -> Result<Output, Stop>
-    requires workers { (1 ≤ workers) × (workers ≤ 64) }
     requires read { (bytes : List ℕ) × (top : Option (List ℕ)) × IsRead bytes top layout.now }
     requires rules { IsSound (rules_seen rules.now) }
     requires schematic { IsAlignable (plain_netlist schematic.now) }
@@ -245,11 +227,9 @@ pub fn report_output<R: Threads + Wait + Sync, G: Gate + Sync>(
         (plain_netlist schematic.now) (stopped why)) }
 {
     layout.design.sound();
-    match extract_files(rt, alloc, layout, rules, workers, gate)? {
+    match extract_files(alloc, layout, rules, crew)? {
         Files::Whole(found) => {
-            let output = compared_output(
-                rt, alloc, layout, rules, found, schematic, workers, paths, gate,
-            )?;
+            let output = compared_output(alloc, layout, rules, found, schematic, paths, crew)?;
             Ok(output)
         }
         Files::Wide(cell) => Err(wide_stop(alloc, layout, cell)),
@@ -258,16 +238,13 @@ pub fn report_output<R: Threads + Wait + Sync, G: Gate + Sync>(
 
 /// What `make` has to write: these files, and the line of comparing a layout with a schematic.
 pub fn made_output<R: Threads + Wait + Sync, G: Gate + Sync>(
-    rt: &R,
     alloc: Global,
     layout: &Layout,
     rules: &RuleSet,
     schematic: &Netlist,
-    workers: usize,
     files: Vec<Written>,
-    gate: &G,
+    crew: &Crew<R, G>,
 ) -> Result<Output, Stop>
-    requires workers { (1 ≤ workers) × (workers ≤ 64) }
     requires read { (bytes : List ℕ) × (top : Option (List ℕ)) × IsRead bytes top layout.now }
     requires rules { IsSound (rules_seen rules.now) }
     requires schematic { IsAlignable (plain_netlist schematic.now) }
@@ -278,8 +255,8 @@ pub fn made_output<R: Threads + Wait + Sync, G: Gate + Sync>(
         (plain_netlist schematic.now) (stopped why)) }
 {
     layout.design.sound();
-    let found = extract_netlist(rt, alloc, layout, rules, workers, gate)?;
-    let report = report_found(rt, alloc, layout, rules, &found, schematic, workers, gate)?;
+    let found = extract_netlist(alloc, layout, rules, crew)?;
+    let report = report_found(alloc, layout, rules, &found, schematic, crew)?;
     let verdict = comparison_verdict(report.verdict);
     let cells = layout.design.order().len() as u32;
     let line = compared_line(alloc, verdict, cells, &found, report.pairs)?;
@@ -312,15 +289,12 @@ fn gates_verdict(bad: &[BadGate]) -> Verdict
 
 /// What the command with these outputs, which reads no schematic, has to write.
 pub fn output_of<R: Threads + Wait + Sync, G: Gate + Sync>(
-    rt: &R,
     alloc: Global,
     layout: &Layout,
     rules: &RuleSet,
-    workers: usize,
     outputs: LayoutOutputs,
-    gate: &G,
+    crew: &Crew<R, G>,
 ) -> Result<Output, Stop>
-    requires workers { (1 ≤ workers) × (workers ≤ 64) }
     requires read { (bytes : List ℕ) × (top : Option (List ℕ)) × IsRead bytes top layout.now }
     requires rules { IsSound (rules_seen rules.now) }
     requires apart { AreApart (blank_files (layout_outputs outputs)) }
@@ -332,13 +306,13 @@ pub fn output_of<R: Threads + Wait + Sync, G: Gate + Sync>(
     layout.design.sound();
     match outputs {
         LayoutOutputs::Shapes(path) => {
-            match shapes_file(rt, alloc, layout, rules, workers, gate)? {
+            match shapes_file(alloc, layout, rules, crew)? {
                 Drawing::Whole(shapes) => Ok(shapes_output(alloc, shapes, path)?),
                 Drawing::Wide(cell) => Err(wide_stop(alloc, layout, cell)),
             }
         }
         LayoutOutputs::Netlist { shapes, netlist } => {
-            match extract_files(rt, alloc, layout, rules, workers, gate)? {
+            match extract_files(alloc, layout, rules, crew)? {
                 Files::Whole(found) => Ok(netlist_output(alloc, found, shapes, netlist)?),
                 Files::Wide(cell) => Err(wide_stop(alloc, layout, cell)),
             }

@@ -27,7 +27,7 @@ use crate::status::{Refusal, Status};
 use crate::summary::refusal_line;
 use crate::words::{Outputs, ReportPaths, Task, Work, read_work};
 use gds_layout::Layout;
-use job_board::Gate;
+use job_board::{Crew, Gate};
 use lvs_files::write_files;
 use lvs_outside::{Depot, Sink, write_all};
 use lvs_words::WordFault;
@@ -41,18 +41,15 @@ use std::thread::Threads;
 
 // Reads the schematic, and makes all that is to be written of the comparison with it.
 fn compare<R: Threads + Wait + Sync, D: Depot, G: Gate + Sync>(
-    rt: &R,
     alloc: Global,
     layout: &Layout,
     rules: &RuleSet,
     schematic: &String,
-    workers: usize,
     paths: ReportPaths,
     depot: &mut D,
-    gate: &G,
+    crew: &Crew<R, G>,
 ) -> Result<Output, Stop>
     requires depot { HasRoom (D.state depot.old) }
-    requires workers { (1 ≤ workers) × (workers ≤ 64) }
     requires read { (bytes : List ℕ) × (top : Option (List ℕ)) × IsRead bytes top layout.now }
     requires rules { IsSound (rules_seen rules.now) }
     requires apart { (path : List ℕ) → AreApart (blank_files (report_outputs path paths)) }
@@ -65,7 +62,7 @@ fn compare<R: Threads + Wait + Sync, D: Depot, G: Gate + Sync>(
 {
     read_alignable();
     let netlist = schematic_of(alloc, depot, schematic)?;
-    let output = report_output(rt, alloc, layout, rules, &netlist, workers, paths, gate)?;
+    let output = report_output(alloc, layout, rules, &netlist, paths, crew)?;
     Ok(output)
 }
 
@@ -104,15 +101,14 @@ fn prepare_task<R: Threads + Wait + Sync, D: Depot, G: Gate + Sync>(
     }
     let rule_set = rules_of(alloc, depot, &rules)?;
     let design = layout_of(alloc, depot, &layout, &top)?;
+    let crew = Crew::new(rt, workers, gate);
     match outputs {
         Outputs::Layout(outputs) => {
-            let output = output_of(rt, alloc, &design, &rule_set, workers, outputs, gate)?;
+            let output = output_of(alloc, &design, &rule_set, outputs, &crew)?;
             Ok(output)
         }
         Outputs::Report { schematic, paths } => {
-            let made = compare(
-                rt, alloc, &design, &rule_set, &schematic, workers, paths, depot, gate,
-            )?;
+            let made = compare(alloc, &design, &rule_set, &schematic, paths, depot, &crew)?;
             Ok(made)
         }
     }

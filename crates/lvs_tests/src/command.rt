@@ -1,5 +1,9 @@
 //! The command over files in memory.
 
+ghost use Rattle.std.specs.Prelude.{IfOk};
+ghost use Rattle.lvs_outside.specs.MemoryStore.{memory_store};
+ghost use Rattle.lvs_outside.specs.Store.{HasRoom};
+
 use job_board::OpenGate;
 use lvs_outside::{MemoryDepot, MemorySink};
 use lvs_run::run_lvs;
@@ -43,6 +47,31 @@ fn one(alloc: Global, number: u64) -> Result<Vec<u64>, AllocError> {
     Ok(numbers)
 }
 
+// A depot of the files l and r, of which the call of a number fails.
+fn depot_of(
+    alloc: Global,
+    layout: &[u8],
+    rules: &[u8],
+    failing: u64,
+) -> Result<MemoryDepot, AllocError>
+    ensures { IfOk result (λ d. HasRoom (memory_store d)) }
+{
+    let mut depot = MemoryDepot::new(alloc, one(alloc, failing)?);
+    depot.put(alloc, "l", layout)?;
+    depot.put(alloc, "r", rules)?;
+    Ok(depot)
+}
+
+// How a run ended, its line and its file.
+fn ran_of(alloc: Global, code: u8, line: &[u8], depot: &MemoryDepot) -> Result<Ran, AllocError> {
+    let line = line.to_vec(alloc)?;
+    let shapes = match depot.file("s") {
+        Some(bytes) => Some(bytes.to_vec(alloc)?),
+        None => None,
+    };
+    Ok(Ran { code, line, shapes })
+}
+
 /// Runs the words over the files l (the layout) and r (the rules).
 pub fn run_of<R: Threads + Wait + Sync>(
     rt: &R,
@@ -53,9 +82,7 @@ pub fn run_of<R: Threads + Wait + Sync>(
     failing: Failing,
 ) -> Result<Ran, AllocError> {
     let words = words_of(alloc, words)?;
-    let mut depot = MemoryDepot::new(alloc, one(alloc, failing.depot)?);
-    depot.put(alloc, "l", layout)?;
-    depot.put(alloc, "r", rules)?;
+    let mut depot = depot_of(alloc, layout, rules, failing.depot)?;
     let mut sink = MemorySink::new(alloc, one(alloc, failing.sink)?);
     let status = run_lvs(
         rt,
@@ -65,13 +92,14 @@ pub fn run_of<R: Threads + Wait + Sync>(
         &mut sink,
         &OpenGate,
     );
-    let shapes = match depot.file("s") {
-        Some(bytes) => Some(bytes.to_vec(alloc)?),
-        None => None,
-    };
-    let line = sink.bytes().to_vec(alloc)?;
-    let code = status.code();
-    Ok(Ran { code, line, shapes })
+    ran_of(alloc, status.code(), sink.bytes(), &depot)
+}
+
+/// A run ends with this status and this line.
+pub fn ends<R: Abort>(rt: &R, run: &Ran, code: u8, line: &str) {
+    let said = str::from_utf8(&run.line).unwrap_or("not UTF-8");
+    assert_eq!(rt; said, line);
+    assert_eq!(rt; run.code, code, "{line}");
 }
 
 /// A refusal has status 2 and its line, and starts no file.
@@ -84,8 +112,7 @@ pub fn refuses<R: Abort + Threads + Wait + Sync>(
     line: &str,
 ) -> Result<(), AllocError> {
     let run = run_of(rt, alloc, layout, rules, words, NONE)?;
-    assert_eq!(rt; run.code, 2);
-    assert_eq!(rt; run.line.as_slice(), line.as_bytes());
-    assert_eq!(rt; run.shapes, None);
+    ends(rt, &run, 2, line);
+    assert!(rt; run.shapes.is_none(), "{line}");
     Ok(())
 }

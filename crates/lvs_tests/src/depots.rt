@@ -45,8 +45,8 @@ fn endless_rules(rt: HostRuntime) -> Result<(), Fail> {
     let alloc = rt.alloc();
     let mut depot = EndlessDepot::new();
     let (code, line) = over(&rt, alloc, &SHAPES, &mut depot, false)?;
-    assert_eq!(rt; line.as_slice(), b"refused long r\n".as_slice());
-    assert_eq!(rt; code, 2);
+    assert!(rt; line.as_slice() == b"refused long r\n".as_slice());
+    assert!(rt; code == 2);
     Ok(())
 }
 
@@ -57,8 +57,8 @@ fn nothing_taken(rt: HostRuntime) -> Result<(), Fail> {
     depot.put(alloc, "l", &overlap(alloc)?)?;
     depot.put(alloc, "r", RULES)?;
     let (code, line) = over(&rt, alloc, &SHAPES, &mut depot, false)?;
-    assert_eq!(rt; line.len(), 0);
-    assert_eq!(rt; code, 4);
+    assert!(rt; line.is_empty());
+    assert!(rt; code == 4);
     Ok(())
 }
 
@@ -100,28 +100,42 @@ impl Depot for Asked<'_> {
     }
 }
 
+/// Words, and how many calls of the depot they come to.
+static ROWS: [(&[&str], u64); 5] = [
+    (&["run"], 0),
+    (&["shapes", "l", "-r", "s"], 0),
+    (&["shapes", "l", "r", "r"], 0),
+    (&["shapes", "l", "x", "s"], 1),
+    (&SHAPES, 9),
+];
+
+// How many calls of the depot the words come to, and the code.
+fn asked<R: Threads + Wait + Sync>(
+    rt: &R,
+    alloc: Global,
+    layout: &[u8],
+    words: &[&str],
+    sink_fails: bool,
+) -> Result<(u64, u8), AllocError> {
+    let mut inner = QuietDepot::new(alloc);
+    inner.lend("l", layout)?;
+    inner.lend("r", RULES)?;
+    let mut depot = Asked { inner, calls: 0 };
+    let (code, _) = over(rt, alloc, words, &mut depot, sink_fails)?;
+    Ok((depot.calls, code))
+}
+
 // No call before wrong words are refused, and none once the sink failed: an input has its open and
 // two reads, a file its start, write and finish.
 #[test]
 fn calls_made(rt: HostRuntime) -> Result<(), Fail> {
     let alloc = rt.alloc();
     let layout = overlap(alloc)?;
-    let rows: [(&[&str], u64); 5] = [
-        (&["run"], 0),
-        (&["shapes", "l", "-r", "s"], 0),
-        (&["shapes", "l", "r", "r"], 0),
-        (&["shapes", "l", "x", "s"], 1),
-        (&SHAPES, 9),
-    ];
-    for (words, calls) in rows {
+    for (words, calls) in &ROWS {
         for sink_fails in [false, true] {
-            let mut inner = QuietDepot::new(alloc);
-            inner.lend("l", &layout)?;
-            inner.lend("r", RULES)?;
-            let mut depot = Asked { inner, calls: 0 };
-            let (code, _) = over(&rt, alloc, words, &mut depot, sink_fails)?;
-            assert_eq!(rt; depot.calls, calls);
-            assert_eq!(rt; code == 4, sink_fails);
+            let (made, code) = asked(&rt, alloc, &layout, words, sink_fails)?;
+            assert!(rt; made == *calls);
+            assert!(rt; (code == 4) == sink_fails);
         }
     }
     Ok(())

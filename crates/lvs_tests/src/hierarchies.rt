@@ -2,10 +2,13 @@
 
 use crate::cells::Item::{Placed, Rect, Turned};
 use crate::cells::{Cell, begin, begin_cell, end, end_cell, library, push_placed};
-use crate::command::{NONE, SHAPES, refuses, run_of};
+use crate::command::{NONE, SHAPES, ends, refuses, run_of};
 use crate::streams::{Shape, corners, push_boundary};
 use std::alloc::{AllocError, Global};
+use std::process::Abort;
+use std::sync::Wait;
 use std::test::Fail;
+use std::thread::Threads;
 
 /// A layout, its rules, the summary line, and the cells that are to be written.
 struct Case {
@@ -28,6 +31,10 @@ e = c ^ d
 e.output(10, 0)
 ";
 
+const GROWN: &str = "a = input(1, 0)\nb = a.sized(2)\nb.output(10, 0)\n";
+
+const SHRUNK: &str = "a = input(1, 0)\nb = a.sized(-2)\nb.output(10, 0)\n";
+
 const EMPTY: &str = "a = input(1, 0)
 n = polygon_layer
 c = a - n
@@ -37,7 +44,7 @@ d.output(11, 0)
 n.output(12, 0)
 ";
 
-const CASES: [Case; 9] = [
+static CASES: [Case; 11] = [
     // Mirrored first, then turned, then stepped: columns along x, rows along y.
     Case {
         name: "mirrored array",
@@ -218,6 +225,44 @@ const CASES: [Case; 9] = [
             ),
         ],
     },
+    // One placement has another within 2 to its right, one to its left: what grows out on either
+    // side stands in the parent.
+    Case {
+        name: "grown",
+        layout: &[
+            Cell("K", &[Rect((1, 0, 0, 10, 10))]),
+            Cell("TOP", &[Placed("K", 0, 0), Placed("K", 12, 0)]),
+        ],
+        rules: GROWN,
+        line: "shapes cells 2 rectangles 4\n",
+        wanted: &[
+            Cell("K", &[Rect((10, 0, -2, 10, 12))]),
+            Cell(
+                "TOP",
+                &[
+                    Placed("K", 0, 0),
+                    Placed("K", 12, 0),
+                    Rect((10, -2, -2, 0, 12)),
+                    Rect((10, 10, -2, 12, 12)),
+                    Rect((10, 22, -2, 24, 12)),
+                ],
+            ),
+        ],
+    },
+    // The seam between the cell's square and its parent's isn't shrunk away.
+    Case {
+        name: "shrunk",
+        layout: &[
+            Cell("K", &[Rect((1, 0, 0, 10, 10))]),
+            Cell("TOP", &[Placed("K", 0, 0), Rect((1, 10, 0, 20, 10))]),
+        ],
+        rules: SHRUNK,
+        line: "shapes cells 2 rectangles 2\n",
+        wanted: &[
+            Cell("K", &[Rect((10, 2, 2, 8, 8))]),
+            Cell("TOP", &[Placed("K", 0, 0), Rect((10, 8, 2, 18, 8))]),
+        ],
+    },
     Case {
         name: "empty layer",
         layout: &[
@@ -233,22 +278,30 @@ const CASES: [Case; 9] = [
     },
 ];
 
+// A case comes out as it is wanted.
+fn comes_out<R: Abort + Threads + Wait + Sync>(
+    rt: &R,
+    alloc: Global,
+    case: &Case,
+) -> Result<(), AllocError> {
+    let layout = library(alloc, case.layout)?;
+    let run = run_of(rt, alloc, &layout, case.rules.as_bytes(), &SHAPES, NONE)?;
+    ends(rt, &run, 0, case.line);
+    let wanted = library(alloc, case.wanted)?;
+    assert!(rt; run.shapes == Some(wanted), "{}", case.name);
+    Ok(())
+}
+
 #[test]
 fn written_hierarchies(rt: HostRuntime) -> Result<(), Fail> {
-    let alloc = rt.alloc();
     for case in &CASES {
-        let layout = library(alloc, case.layout)?;
-        let run = run_of(&rt, alloc, &layout, case.rules.as_bytes(), &SHAPES, NONE)?;
-        assert_eq!(rt; run.line.as_slice(), case.line.as_bytes(), "{}", case.name);
-        assert_eq!(rt; run.code, 0, "{}", case.name);
-        let wanted = library(alloc, case.wanted)?;
-        assert!(rt; run.shapes == Some(wanted), "{}", case.name);
+        comes_out(&rt, rt.alloc(), case)?;
     }
     Ok(())
 }
 
 /// Layouts whose cells can't be linked, and their lines.
-const REFUSED: [(&[Cell], &str); 7] = [
+static REFUSED: [(&[Cell], &str); 7] = [
     (&[], "refused layout 24\n"),
     (
         &[Cell("A", &[]), Cell("A", &[])],
@@ -286,7 +339,7 @@ const REFUSED: [(&[Cell], &str); 7] = [
 #[test]
 fn refused_cells(rt: HostRuntime) -> Result<(), Fail> {
     let alloc = rt.alloc();
-    for (cells, line) in REFUSED {
+    for (cells, line) in &REFUSED {
         let layout = library(alloc, cells)?;
         refuses(&rt, alloc, &layout, COPY.as_bytes(), &SHAPES, line)?;
     }
@@ -349,39 +402,45 @@ fn doubled(alloc: Global) -> Result<Vec<u8>, AllocError> {
     Ok(out)
 }
 
-// A chain of 64 references is read, one of 65 isn't.
-#[test]
-fn deepest(rt: HostRuntime) -> Result<(), Fail> {
-    let alloc = rt.alloc();
-    let layout = chain(alloc, 65)?;
-    let run = run_of(&rt, alloc, &layout, COPY.as_bytes(), &SHAPES, NONE)?;
-    assert_eq!(rt;
-        run.line.as_slice(),
-        b"shapes cells 65 rectangles 1\n".as_slice()
-    );
-    assert_eq!(rt; run.code, 0);
-    let layout = chain(alloc, 66)?;
-    let line = "refused layout 27 cell C65\n";
-    refuses(&rt, alloc, &layout, COPY.as_bytes(), &SHAPES, line)?;
-    Ok(())
-}
-
-/// A chain of cells, each with the one before at the farthest point to the right; the last has it
-/// so many times. The command, its rules, line and code.
-struct Far {
-    shapes: &'static [Shape],
+// A chain of so many cells, each with the one before at the farthest point to the right; the last
+// has it so many times.
+fn far_chain(
+    alloc: Global,
+    shapes: &[Shape],
     cells: u32,
     last: usize,
-    words: &'static [&'static str],
-    rules: &'static str,
-    line: &'static str,
-    code: u8,
+) -> Result<Vec<u8>, AllocError> {
+    let mut out = begin(alloc)?;
+    let points = [(i32::MAX, 0), (i32::MAX, 0)];
+    for number in 0..cells {
+        let is_last = number.saturating_add(1) == cells;
+        let count = if is_last { last } else { 1 };
+        let there = points.get(..count).unwrap_or(&[]);
+        push_chain(alloc, &mut out, number, shapes, there)?;
+    }
+    end(&mut out)?;
+    Ok(out)
+}
+
+// So many empty cells.
+fn apart(alloc: Global, cells: u32) -> Result<Vec<u8>, AllocError> {
+    let mut out = begin(alloc)?;
+    for number in 0..cells {
+        begin_cell(alloc, &mut out, format!(in alloc; "C{number}")?.as_str())?;
+        end_cell(&mut out)?;
+    }
+    end(&mut out)?;
+    Ok(out)
 }
 
 // Two placements on one spot leave the crossing of their bars to the cell that has both.
 const CROSSED: &[Shape] = &[(1, 0, 0, 1, 1), (2, 0, 0, 1, 1)];
 
 const CROSSING: &str = "a = input(1, 0)\nb = input(2, 0)\nc = a & b\nc.output(10, 0)\n";
+
+const NEAR: &str = "a = input(1, 0)\nb = a.sized(1)\nb.output(10, 0)\n";
+
+const UNWRITTEN: &str = "a = input(1, 0)\nb = a.sized(1)\na.output(10, 0)\n";
 
 const UNDRAWN: &str = "a = input(1, 0)\nb = input(2, 0)\nc = a & b\n";
 
@@ -397,118 +456,7 @@ const EXTRACT: [&str; 9] = [
     "n",
 ];
 
-const FARTHEST: [Far; 6] = [
-    // A hull that ends at 2^36, and one unit more.
-    Far {
-        shapes: &[(1, 0, 0, 32, 1)],
-        cells: 33,
-        last: 1,
-        words: &SHAPES,
-        rules: COPY,
-        line: "shapes cells 33 rectangles 1\n",
-        code: 0,
-    },
-    Far {
-        shapes: &[(1, 0, 0, 33, 1)],
-        cells: 33,
-        last: 1,
-        words: &SHAPES,
-        rules: COPY,
-        line: "refused layout 25 cell C32\n",
-        code: 2,
-    },
-    // The crossing is held by a cell in which it lies outside 32 bits; by one in which it doesn't;
-    // and where no output line asks for it.
-    Far {
-        shapes: CROSSED,
-        cells: 3,
-        last: 2,
-        words: &SHAPES,
-        rules: CROSSING,
-        line: "refused layout 28 cell C2\n",
-        code: 2,
-    },
-    Far {
-        shapes: CROSSED,
-        cells: 3,
-        last: 1,
-        words: &SHAPES,
-        rules: CROSSING,
-        line: "shapes cells 3 rectangles 1\n",
-        code: 0,
-    },
-    Far {
-        shapes: CROSSED,
-        cells: 3,
-        last: 2,
-        words: &EXTRACT,
-        rules: CROSSING,
-        line: "refused layout 28 cell C2\n",
-        code: 2,
-    },
-    Far {
-        shapes: CROSSED,
-        cells: 3,
-        last: 2,
-        words: &EXTRACT,
-        rules: UNDRAWN,
-        line: "extracted cells 3 circuits 1 bad 0\n",
-        code: 0,
-    },
-];
-
-fn far_chain(alloc: Global, far: &Far) -> Result<Vec<u8>, AllocError> {
-    let mut out = begin(alloc)?;
-    let points = [(i32::MAX, 0), (i32::MAX, 0)];
-    for number in 0..far.cells {
-        let is_last = number.saturating_add(1) == far.cells;
-        let count = if is_last { far.last } else { 1 };
-        let there = points.get(..count).unwrap_or(&[]);
-        push_chain(alloc, &mut out, number, far.shapes, there)?;
-    }
-    end(&mut out)?;
-    Ok(out)
-}
-
-#[test]
-fn farthest(rt: HostRuntime) -> Result<(), Fail> {
-    let alloc = rt.alloc();
-    for far in &FARTHEST {
-        let layout = far_chain(alloc, far)?;
-        let run = run_of(&rt, alloc, &layout, far.rules.as_bytes(), far.words, NONE)?;
-        assert_eq!(rt; run.line.as_slice(), far.line.as_bytes());
-        assert_eq!(rt; run.code, far.code);
-    }
-    Ok(())
-}
-
-// 2^40 crossings in 41 cells: one rectangle is written.
-#[test]
-fn doubling_hierarchy(rt: HostRuntime) -> Result<(), Fail> {
-    let alloc = rt.alloc();
-    let layout = doubled(alloc)?;
-    let rules = b"a = input(1, 0)\nb = input(2, 0)\nc = a & b\nc.output(10, 0)\n";
-    let run = run_of(&rt, alloc, &layout, rules, &SHAPES, NONE)?;
-    assert_eq!(rt;
-        run.line.as_slice(),
-        b"shapes cells 41 rectangles 1\n".as_slice()
-    );
-    assert_eq!(rt; run.code, 0);
-    Ok(())
-}
-
-// So many empty cells.
-fn apart(alloc: Global, cells: u32) -> Result<Vec<u8>, AllocError> {
-    let mut out = begin(alloc)?;
-    for number in 0..cells {
-        begin_cell(alloc, &mut out, format!(in alloc; "C{number}")?.as_str())?;
-        end_cell(&mut out)?;
-    }
-    end(&mut out)?;
-    Ok(out)
-}
-
-const METAL: &[u8] = b"metal = input(5, 0)\ntxt = labels(5, 1)\nconnect(metal, txt)\n";
+const METAL: &str = "metal = input(5, 0)\ntxt = labels(5, 1)\nconnect(metal, txt)\n";
 
 const FIRST_CELL: [&str; 11] = [
     "extract",
@@ -524,18 +472,154 @@ const FIRST_CELL: [&str; 11] = [
     "C0",
 ];
 
-// As many cells as a layout may have, and one more.
+/// A layout that is made.
+enum Made {
+    /// So many cells, each with the one before once.
+    Chain(u32),
+    /// 2^40 crossings in 41 cells.
+    Doubled,
+    /// A chain to the right: the shapes of its first cell, how many cells, and how often the last has
+    /// the one before.
+    Far(&'static [Shape], u32, usize),
+    /// So many empty cells.
+    Apart(u32),
+}
+
+/// A layout, the command and its rules, the line and the status.
+struct Run(
+    Made,
+    &'static [&'static str],
+    &'static str,
+    &'static str,
+    u8,
+);
+
+static RUNS: [Run; 14] = [
+    // A chain of 64 references is read, one of 65 isn't.
+    Run(
+        Made::Chain(65),
+        &SHAPES,
+        COPY,
+        "shapes cells 65 rectangles 1\n",
+        0,
+    ),
+    Run(
+        Made::Chain(66),
+        &SHAPES,
+        COPY,
+        "refused layout 27 cell C65\n",
+        2,
+    ),
+    // A hull that ends at 2^36, and one unit more.
+    Run(
+        Made::Far(&[(1, 0, 0, 32, 1)], 33, 1),
+        &SHAPES,
+        COPY,
+        "shapes cells 33 rectangles 1\n",
+        0,
+    ),
+    Run(
+        Made::Far(&[(1, 0, 0, 33, 1)], 33, 1),
+        &SHAPES,
+        COPY,
+        "refused layout 25 cell C32\n",
+        2,
+    ),
+    // What is written ends at 2^36, and one unit further; and where the layer that is grown isn't
+    // written.
+    Run(
+        Made::Far(&[(1, 0, 0, 31, 1)], 33, 1),
+        &SHAPES,
+        NEAR,
+        "shapes cells 33 rectangles 1\n",
+        0,
+    ),
+    Run(
+        Made::Far(&[(1, 0, 0, 32, 1)], 33, 1),
+        &SHAPES,
+        NEAR,
+        "refused layout 28 cell C32\n",
+        2,
+    ),
+    Run(
+        Made::Far(&[(1, 0, 0, 32, 1)], 33, 1),
+        &SHAPES,
+        UNWRITTEN,
+        "shapes cells 33 rectangles 1\n",
+        0,
+    ),
+    // The crossing is held by a cell in which it lies outside 32 bits; by one in which it doesn't;
+    // and where no output line asks for it.
+    Run(
+        Made::Far(CROSSED, 3, 2),
+        &SHAPES,
+        CROSSING,
+        "refused layout 28 cell C2\n",
+        2,
+    ),
+    Run(
+        Made::Far(CROSSED, 3, 1),
+        &SHAPES,
+        CROSSING,
+        "shapes cells 3 rectangles 1\n",
+        0,
+    ),
+    Run(
+        Made::Far(CROSSED, 3, 2),
+        &EXTRACT,
+        CROSSING,
+        "refused layout 28 cell C2\n",
+        2,
+    ),
+    Run(
+        Made::Far(CROSSED, 3, 2),
+        &EXTRACT,
+        UNDRAWN,
+        "extracted cells 3 circuits 1 bad 0\n",
+        0,
+    ),
+    // One rectangle is written.
+    Run(
+        Made::Doubled,
+        &SHAPES,
+        CROSSING,
+        "shapes cells 41 rectangles 1\n",
+        0,
+    ),
+    // As many cells as a layout may have, and one more.
+    Run(
+        Made::Apart(65536),
+        &FIRST_CELL,
+        METAL,
+        "extracted cells 1 circuits 1 bad 0\n",
+        0,
+    ),
+    Run(
+        Made::Apart(65537),
+        &FIRST_CELL,
+        METAL,
+        "refused layout 26\n",
+        2,
+    ),
+];
+
+fn stream_of(alloc: Global, made: &Made) -> Result<Vec<u8>, AllocError> {
+    match made {
+        Made::Chain(cells) => chain(alloc, *cells),
+        Made::Doubled => doubled(alloc),
+        Made::Far(shapes, cells, last) => far_chain(alloc, shapes, *cells, *last),
+        Made::Apart(cells) => apart(alloc, *cells),
+    }
+}
+
 #[test]
-fn most_cells(rt: HostRuntime) -> Result<(), Fail> {
+fn made_hierarchies(rt: HostRuntime) -> Result<(), Fail> {
     let alloc = rt.alloc();
-    for (cells, code, line) in [
-        (65536, 0, "extracted cells 1 circuits 1 bad 0\n"),
-        (65537, 2, "refused layout 26\n"),
-    ] {
-        let layout = apart(alloc, cells)?;
-        let run = run_of(&rt, alloc, &layout, METAL, &FIRST_CELL, NONE)?;
-        assert_eq!(rt; run.line.as_slice(), line.as_bytes());
-        assert_eq!(rt; run.code, code);
+    for Run(layout, words, rules, line, code) in &RUNS {
+        let layout = stream_of(alloc, layout)?;
+        let run = run_of(&rt, alloc, &layout, rules.as_bytes(), words, NONE)?;
+        ends(&rt, &run, *code, line);
+        assert!(rt; *code == 0 || run.shapes.is_none(), "{line}");
     }
     Ok(())
 }

@@ -1,5 +1,6 @@
 //! Runs over a depot and a sink that only count bytes.
 
+use crate::command::{SHAPES, words_of};
 use crate::streams::stream;
 use job_board::OpenGate;
 use lvs_outside::QuietDepot;
@@ -14,49 +15,16 @@ const RULES: &[u8] = b"a = input(1, 0)\nb = input(2, 0)\nc = a & b\nc.output(10,
 // The most bytes of a file that are read.
 const LIMIT: usize = 1 << 28;
 
-fn shapes_words(alloc: Global) -> Result<Vec<String>, AllocError> {
-    let mut words = Vec::new(alloc);
-    for word in ["shapes", "l", "r", "s"] {
-        words.push(String::from_str(alloc, word)?)?;
-    }
-    Ok(words)
-}
-
-// The common rectangle of two: 166 bytes of the shapes file, 28 of the line.
-#[test]
-fn common_rectangle_counted(rt: HostRuntime) -> Result<(), Fail> {
-    let alloc = rt.alloc();
-    let layout = stream(alloc, &[(1, 0, 0, 10, 10), (2, 5, 5, 15, 15)])?;
-    let words = shapes_words(alloc)?;
-    let mut depot = QuietDepot::new(alloc);
-    depot.lend("l", &layout)?;
-    depot.lend("r", RULES)?;
-    let mut sink = QuietDepot::new(alloc);
-    let status = run_lvs(
-        &rt,
-        alloc,
-        words.as_slice(),
-        &mut depot,
-        &mut sink,
-        &OpenGate,
-    );
-    assert_eq!(rt; status.code(), 0);
-    assert_eq!(rt; depot.written(), 166);
-    assert_eq!(rt; sink.written(), 28);
-    Ok(())
-}
-
-// How many bytes of a line a layout of so many zeros comes to, where it is refused and nothing is
-// written.
-fn line_of_zeros<R: Threads + Wait + Sync>(
+// The status of `shapes` on a layout, and how many bytes of the shapes file and of the line it
+// writes.
+fn counted<R: Threads + Wait + Sync>(
     rt: &R,
     alloc: Global,
-    length: usize,
-) -> Result<Option<u64>, AllocError> {
-    let layout = vec![in alloc; 0_u8; length]?;
-    let words = shapes_words(alloc)?;
+    layout: &[u8],
+) -> Result<(u8, u64, u64), AllocError> {
+    let words = words_of(alloc, &SHAPES)?;
     let mut depot = QuietDepot::new(alloc);
-    depot.lend("l", &layout)?;
+    depot.lend("l", layout)?;
     depot.lend("r", RULES)?;
     let mut sink = QuietDepot::new(alloc);
     let status = run_lvs(
@@ -67,11 +35,16 @@ fn line_of_zeros<R: Threads + Wait + Sync>(
         &mut sink,
         &OpenGate,
     );
-    if status.code() == 2 && depot.written() == 0 {
-        Ok(Some(sink.written()))
-    } else {
-        Ok(None)
-    }
+    Ok((status.code(), depot.written(), sink.written()))
+}
+
+// The common rectangle of two.
+#[test]
+fn common_rectangle_counted(rt: HostRuntime) -> Result<(), Fail> {
+    let alloc = rt.alloc();
+    let layout = stream(alloc, &[(1, 0, 0, 10, 10), (2, 5, 5, 15, 15)])?;
+    assert_eq!(rt; counted(&rt, alloc, &layout)?, (0, 166, 28));
+    Ok(())
 }
 
 // The longest layout is read, and has a fault in its first record (`refused layout 2 record 0
@@ -79,7 +52,9 @@ fn line_of_zeros<R: Threads + Wait + Sync>(
 #[test]
 fn longest_files(rt: HostRuntime) -> Result<(), Fail> {
     let alloc = rt.alloc();
-    assert_eq!(rt; line_of_zeros(&rt, alloc, LIMIT)?, Some(35));
-    assert_eq!(rt; line_of_zeros(&rt, alloc, LIMIT + 1)?, Some(15));
+    for (length, line) in [(LIMIT, 35), (LIMIT + 1, 15)] {
+        let zeros = vec![in alloc; 0_u8; length]?;
+        assert_eq!(rt; counted(&rt, alloc, &zeros)?, (2, 0, line));
+    }
     Ok(())
 }

@@ -64,18 +64,19 @@ pub fn outline(alloc: Global, points: &[(i32, i32)]) -> Result<Vec<u8>, AllocErr
     Ok(out)
 }
 
-/// The bytes with the byte at a place changed.
-pub fn with_byte(
-    alloc: Global,
-    bytes: &[u8],
-    place: usize,
-    byte: u8,
-) -> Result<Vec<u8>, AllocError> {
-    let mut changed = bytes.to_vec(alloc)?;
-    if let Some(old) = changed.get_mut(place) {
-        *old = byte;
+/// Bytes in place of those from one place up to another.
+pub struct Splice(pub usize, pub &'static [u8], pub usize);
+
+/// The bytes with these parts changed, one after the other.
+pub fn spliced(alloc: Global, bytes: &[u8], splices: &[Splice]) -> Result<Vec<u8>, AllocError> {
+    let mut out = bytes.to_vec(alloc)?;
+    for Splice(at, put, from) in splices {
+        let rest = out.get(*from..).unwrap_or(&[]).to_vec(alloc)?;
+        out.truncate(*at);
+        out.extend_from_slice(put)?;
+        out.extend_from_slice(&rest)?;
     }
-    Ok(changed)
+    Ok(out)
 }
 
 /// The first bytes, so many at most.

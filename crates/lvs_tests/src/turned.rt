@@ -1,10 +1,13 @@
 //! Each operator across a placement in each of the eight turns.
 
 use crate::cells::{begin, begin_cell, end, end_cell, push_turned};
-use crate::command::{NONE, SHAPES, run_of};
+use crate::command::{NONE, SHAPES, ends, run_of};
 use crate::streams::{Shape, corners, push_boundary};
 use std::alloc::{AllocError, Global};
+use std::process::Abort;
+use std::sync::Wait;
 use std::test::Fail;
+use std::thread::Threads;
 
 /// A rectangle as x1, y1, x2, y2.
 type Corners = [i32; 4];
@@ -29,7 +32,7 @@ const HALF: &[u8] = &[0x42, 0xB4, 0, 0, 0, 0, 0, 0];
 
 const THREE_QUARTERS: &[u8] = &[0x43, 0x10, 0xE0, 0, 0, 0, 0, 0];
 
-const TURNS: [Turn; 8] = [
+static TURNS: [Turn; 8] = [
     Turn {
         strans: &[],
         angle: &[],
@@ -110,13 +113,25 @@ fn rest_of(turn: &Turn, rest: Rest) -> Option<Corners> {
 const AROUND: &[Corners] = &[[0, 0, 2, 1], [0, 1, 4, 2]];
 
 /// An operator on the cell's rectangle a and the top's bar b, what the cell keeps, what the top has
-/// itself, and how many rectangles these are.
-const OPERATORS: [(&str, &[Corners], Rest, u32); 5] = [
-    ("a & b", &[], Rest::Inside, 1),
-    ("a | b", AROUND, Rest::Bar, 3),
-    ("a - b", AROUND, Rest::Nothing, 2),
-    ("b - a", &[], Rest::Outside, 1),
-    ("a ^ b", AROUND, Rest::Outside, 3),
+/// itself, and the line.
+struct Operator(&'static str, &'static [Corners], Rest, &'static str);
+
+static OPERATORS: [Operator; 5] = [
+    Operator("a & b", &[], Rest::Inside, "shapes cells 2 rectangles 1\n"),
+    Operator("a | b", AROUND, Rest::Bar, "shapes cells 2 rectangles 3\n"),
+    Operator(
+        "a - b",
+        AROUND,
+        Rest::Nothing,
+        "shapes cells 2 rectangles 2\n",
+    ),
+    Operator("b - a", &[], Rest::Outside, "shapes cells 2 rectangles 1\n"),
+    Operator(
+        "a ^ b",
+        AROUND,
+        Rest::Outside,
+        "shapes cells 2 rectangles 3\n",
+    ),
 ];
 
 fn push_rect(out: &mut Vec<u8>, layer: u8, rect: Corners) -> Result<(), AllocError> {
@@ -148,20 +163,32 @@ fn placed(
     Ok(out)
 }
 
+// What an operator makes of the bar in a turn.
+fn comes_out<R: Abort + Threads + Wait + Sync>(
+    rt: &R,
+    alloc: Global,
+    layout: &[u8],
+    turn: &Turn,
+    operator: &Operator,
+) -> Result<(), AllocError> {
+    let Operator(made, kept, rest, line) = operator;
+    let rules = format!(in alloc;
+        "a = input(1, 0)\nb = input(2, 0)\nc = {made}\nc.output(10, 0)\n"
+    )?;
+    let run = run_of(rt, alloc, layout, rules.as_bytes(), &SHAPES, NONE)?;
+    ends(rt, &run, 0, line);
+    let wanted = placed(alloc, turn, (10, kept), (10, rest_of(turn, *rest)))?;
+    assert!(rt; run.shapes == Some(wanted), "{made} {:?}", turn.bar);
+    Ok(())
+}
+
 #[test]
 fn each_turn(rt: HostRuntime) -> Result<(), Fail> {
     let alloc = rt.alloc();
     for turn in &TURNS {
         let layout = placed(alloc, turn, (1, &[[0, 0, 4, 2]]), (2, Some(turn.bar)))?;
-        for (operator, kept, rest, count) in OPERATORS {
-            let rules = format!(in alloc;
-                "a = input(1, 0)\nb = input(2, 0)\nc = {operator}\nc.output(10, 0)\n"
-            )?;
-            let run = run_of(&rt, alloc, &layout, rules.as_bytes(), &SHAPES, NONE)?;
-            let line = format!(in alloc; "shapes cells 2 rectangles {count}\n")?;
-            assert_eq!(rt; run.line.as_slice(), line.as_bytes(), "{operator}");
-            let wanted = placed(alloc, turn, (10, kept), (10, rest_of(turn, rest)))?;
-            assert!(rt; run.shapes == Some(wanted), "{operator} {:?}", turn.bar);
+        for operator in &OPERATORS {
+            comes_out(&rt, alloc, &layout, turn, operator)?;
         }
     }
     Ok(())

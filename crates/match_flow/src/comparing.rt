@@ -1,5 +1,5 @@
 //! The comparison of a layout's netlist with a schematic.
-ghost use Rattle.std.specs.Prelude.{◌↔◌, ◌<◌, ◌≤◌, IfOk, IfSome, IsNone, length, map};
+ghost use Rattle.std.specs.Prelude.{◌↔◌, ◌<◌, IfOk, IfSome, IsNone, length, map};
 ghost use Rattle.match_types.specs.Plain.{plain_answer};
 ghost use Rattle.match_types.specs.Answered.{asked_of};
 ghost use Rattle.net_align.specs.Compared.{AreAligned, AreCalleesFirst, AreComparable};
@@ -10,7 +10,7 @@ ghost use Rattle.pair_jobs.specs.Answers.{AreAllAnswers};
 ghost use Rattle.plain_netlist.specs.Lists.{AreApart};
 
 use crate::phase::PairPhase;
-use job_board::{Gate, run_phase};
+use job_board::{Crew, Gate, run_phase};
 use job_graph::Results;
 use match_types::Answer;
 use net_align::{Aligned, align};
@@ -30,15 +30,12 @@ pub struct Comparison {
 
 // The answers of all pairs.
 fn answer_pairs<R: Threads + Wait + Sync, G: Gate + Sync>(
-    rt: &R,
     alloc: Global,
     aligned: &Aligned,
     limit: u32,
     same_pins: bool,
-    workers: usize,
-    gate: &G,
+    crew: &Crew<R, G>,
 ) -> Result<Results<Answer>, AllocError>
-    requires workers { (1 ≤ workers) × (workers ≤ 64) }
     requires sides { AreComparable (plain_netlist aligned.now.left)
         (plain_netlist aligned.now.right) }
     ensures { IfOk result (λ answers. AreAllAnswers (plain_netlist aligned.now.left)
@@ -46,7 +43,7 @@ fn answer_pairs<R: Threads + Wait + Sync, G: Gate + Sync>(
         (asked_of (plain_netlist aligned.now.left) limit same_pins) (map plain_answer answers)) }
 {
     let phase = PairPhase::new(alloc, &aligned.left, &aligned.right, limit, same_pins)?;
-    run_phase(rt, alloc, &phase, workers, gate)
+    run_phase(alloc, &phase, crew)
 }
 
 /// The layout below its top compared with the schematic; nothing where the top has no partner.
@@ -54,7 +51,6 @@ fn answer_pairs<R: Threads + Wait + Sync, G: Gate + Sync>(
 /// calls, with at most `limit` refuted guesses; with `same_pins` names tell the tops' pins apart.
 /// The answer is the same for every number of workers. The error is want of memory.
 pub fn compare<R: Threads + Wait + Sync, G: Gate + Sync>(
-    rt: &R,
     alloc: Global,
     layout: &Netlist,
     top: u32,
@@ -62,8 +58,7 @@ pub fn compare<R: Threads + Wait + Sync, G: Gate + Sync>(
     same: &[(Name, Name)],
     limit: u32,
     same_pins: bool,
-    workers: usize,
-    gate: &G,
+    crew: &Crew<R, G>,
 ) -> Result<Option<Comparison>, AllocError>
     requires layout { IsAlignable (plain_netlist layout.now) }
     requires schematic { IsAlignable (plain_netlist schematic.now) }
@@ -71,7 +66,6 @@ pub fn compare<R: Threads + Wait + Sync, G: Gate + Sync>(
     requires top { top < length layout.now.circuits.items }
     requires lefts { AreApart (left_names same.now) }
     requires rights { AreApart (right_names same.now) }
-    requires workers { (1 ≤ workers) × (workers ≤ 64) }
     ensures none { IfOk result (λ found. IsNone found
         ↔ HasNoPartner (plain_netlist layout.now) (plain_netlist schematic.now) top same.now) }
     ensures pair { IfOk result (λ found. IfSome found (λ c.
@@ -86,7 +80,7 @@ pub fn compare<R: Threads + Wait + Sync, G: Gate + Sync>(
     let Some(aligned) = align(alloc, layout, top, schematic, same)? else {
         return Ok(None);
     };
-    let answers = answer_pairs(rt, alloc, &aligned, limit, same_pins, workers, gate)?;
+    let answers = answer_pairs(alloc, &aligned, limit, same_pins, crew)?;
     let Aligned { left, right } = aligned;
     Ok(Some(Comparison {
         left,

@@ -2,7 +2,7 @@
 use Rattle.std.specs.Prelude.{ℕ, List}
 use Rattle.cell_graph.specs.Linked.{Linked, plain}
 use Rattle.deep_tables.specs.Gates.{AreMosGates}
-use Rattle.layer_phase.specs.Phase.{AreFreeJobs}
+use Rattle.deep_tables.specs.Jobs.{AreFreeJobs}
 use Rattle.rule_text.specs.Seen.{rules_seen}
 use Rattle.rule_text.specs.declared.rules.RuleSet.{RuleSet}
 use Rattle.more_devices.specs.declared.phase.MorePhase.TheInside.{Inside}

@@ -5,16 +5,15 @@ ghost use Rattle.deep_tables.specs.Gates.{AreMosGates};
 ghost use Rattle.deep_tables.specs.Layers.{AreLayers};
 ghost use Rattle.deep_tables.specs.Nets.{AreNets};
 ghost use Rattle.deep_tables.specs.Zones.{AreZones};
-ghost use Rattle.layer_phase.specs.Phase.{AreFreeJobs};
+ghost use Rattle.deep_tables.specs.Jobs.{AreFreeJobs};
 ghost use Rattle.rule_text.specs.Seen.{rules_seen};
 ghost use Rattle.rule_text.specs.Sound.{IsSound};
 
 use crate::copies::copies_of;
 use cell_graph::Design;
-use deep_tables::{CellGates, GateKey, Gates, Layers, Nets, Zones};
+use deep_tables::{CellGates, GateKey, Gates, Layers, Nets, Zones, free_graph};
 use gate_phase::{DeviceWork, push_all};
 use job_graph::{Graph, Phase, Reads};
-use layer_phase::free_graph;
 use rule_text::RuleSet;
 use std::alloc::{AllocError, Global};
 use std::marker::Model;

@@ -6,7 +6,7 @@ use Rattle.cell_context.proofs.Collecting.{hull_has, no_hull}
 use Rattle.cell_graph.proofs.Bridge.{has_in, hull_sound, step_of}
 use Rattle.cell_graph.proofs.Growing.{grown_frame, grown_up}
 use Rattle.cell_graph.specs.Grown.{IsInGrown, grown as widened}
-use Rattle.cell_graph.specs.Linked.{HullHas, HullIsSound, IsFrame, IsHull, IsRectWithin, IsSound, Linked, cell_at, hull_of, motion_at, plain}
+use Rattle.cell_graph.specs.Linked.{HullHas, HullIsSound, IsFrame, IsRectWithin, IsSound, Linked, cell_at, hull_of, motion_at, plain}
 use Rattle.flat_layout.specs.Layout.{IsPlaced, Place}
 use Rattle.flat_layout.specs.Nets.{Child, Global, HoldsAt, Item, NetHolds, Own, Tables}
 use Rattle.flat_layout.specs.Plane.{IsIn}

@@ -17,3 +17,6 @@ pub mod Ordering
 pub mod Results
 pub mod Wholes
 pub mod Holding
+pub mod Motions
+pub mod Leading
+pub mod Enough

@@ -3,8 +3,6 @@ use Rattle.std.proofs.Common.{◌≡◌, ◌⊎◌, inl, inr, ℕ, ◌+◌, ◌<
 use Rattle.std.proofs.Math.Decide.{ℕ_discrete}
 use Rattle.std.proofs.Math.Seq.{take-length}
 use Rattle.std.proofs.lemmas.List.{take_more}
-use Rattle.std.proofs.lemmas.Option.{slice_get_within}
-use Rattle.flat_laws.proofs.Items.{at_placed}
 use Rattle.flat_layout.specs.Layout.{Design, Place}
 use Rattle.flat_layout.specs.Nets.{Child, Tables, items_of}
 use Rattle.flat_layout.specs.Plane.{IsIn}
@@ -15,13 +13,13 @@ use Rattle.link_classes.specs.Classes.{IsLinked, IsOf, AreInRange}
 use Rattle.link_classes.specs.declared.classes.Link.{Link}
 use Rattle.net_link_laws.proofs.Assembling.{square_back}
 use Rattle.touching_pieces.proofs.Chains.{one_back, one_on}
-use Rattle.net_link_laws.proofs.Looking.{contact_links, hulls}
+use Rattle.net_link_laws.proofs.Looking.{hulls}
 use Rattle.net_link_laws.proofs.Standing.{items_long, nets_under}
 use Rattle.net_link_laws.specs.Found.{IsSquareLink}
 use Rattle.net_link_laws.specs.Places.{places_of}
-use Rattle.net_link_laws.specs.Windows.{grown}
+use Rattle.net_link_laws.specs.Windows.{AreInContact, grown}
 use Rattle.net_walk.proofs.Insides.{common_in}
-use Rattle.net_walk.specs.Pairs.{first_of, IsSpanPiece, AddsSpan, AreSpanPieces, AddsPair, AddsPairs, AddsChildren}
+use Rattle.net_walk.specs.Pairs.{first_of, IsSpanPiece, AddsSpan, AreSpanPieces, AddsPair, AddsPairs}
 use Rattle.net_walk.specs.Walk.{IsSpan, HasNoSquare}
 use Rattle.touching_pieces.specs.Pairs.{IsAmong, AreInTouch, AreOne, AddsTouching}
 use Rattle.touching_pieces.specs.Touching.{AreTouching}
@@ -116,16 +114,15 @@ pairs_more d w t cell pairs n o old mid new lt h g =
     } in
     subst (λ (l : List Link). AddsPairs d w t cell l old new) (sym (take_more pairs n o lt)) now
 
-meet : (d : Design) (w : Wiring) (t : Tables) (cell : ℕ) (spans : List Piece) (pairs : List Link) → AreSpanPieces d t cell (length (places_of d cell)) spans → AddsTouching spans spans [] pairs
-    → (i j x y : ℕ) → (i ≡ j → ⊥) → IsSquareLink d w t cell (Child i x) (Child j y) → IsLinked pairs i j
-meet d w t cell spans pairs are touching i j x y not s =
-    let p = s.from.0 in
-    let q = s.to.0 in
-    let there = at_placed d cell i p s.from.1 in
-    let there_too = at_placed d cell j q s.to.1 in
-    let m = (contact_links d w t cell i x j y p q s.from.1 s.to.1 s.from s.to).0 s in
-    let a = elim (are.found i p (slice_get_within (places_of d cell) i p there) there) as (λ _. (o : Piece) × IsAmong o spans × IsSpanPiece d t p i o) [ inl none ↦ absurd (none m.c x m.m m.held) | inr o ↦ o ] in
-    let b = elim (are.found j q (slice_get_within (places_of d cell) j q there_too) there_too) as (λ _. (o : Piece) × IsAmong o spans × IsSpanPiece d t q j o) [ inl none ↦ absurd (none m.e y m.n m.others) | inr o ↦ o ] in
+-- a piece of a placement, where it has squares
+abbrev pub HasPiece : Design → Tables → Place → ℕ → List Piece → Type 0
+HasPiece d t p i spans = HasNoSquare d t p.cell ⊎ ((o : Piece) × IsAmong o spans × IsSpanPiece d t p i o)
+
+pub meet : (d : Design) (w : Wiring) (t : Tables) (cell : ℕ) (p q : Place) (spans : List Piece) (pairs : List Link) → AddsTouching spans spans [] pairs → (i j x y : ℕ) → (i ≡ j → ⊥) → HasPiece d t p i spans → HasPiece d t q j spans → AreInContact d w t p q x y
+    → IsLinked pairs i j
+meet d w t cell p q spans pairs touching i j x y not f g m =
+    let a = elim f as (λ _. (o : Piece) × IsAmong o spans × IsSpanPiece d t p i o) [ inl none ↦ absurd (none m.c x m.m m.held) | inr o ↦ o ] in
+    let b = elim g as (λ _. (o : Piece) × IsAmong o spans × IsSpanPiece d t q j o) [ inl none ↦ absurd (none m.e y m.n m.others) | inr o ↦ o ] in
     let both = hulls d t p q a.2.span b.2.span a.2.is.all b.2.is.all m.c m.e x y m.m m.n m.held m.others m.near in
     let square = moved_square p.motion m.m in
     let inside = common_in (grown a.2.span) (grown b.2.span) square both.0 in
@@ -139,40 +136,13 @@ meet d w t cell spans pairs are touching i j x y not s =
     let in_touch : AreInTouch spans spans i j = record { one = a.0; other = b.0; in_ones = a.1; in_others = b.1; touching = touch; from = a.2.item; to = b.2.item } in
     elim (touching.found i j in_touch) [ inl e ↦ absurd (not e) | inr l ↦ l ]
 
--- all that may touch are among the pairs
-pub all_children : (d : Design) (w : Wiring) (t : Tables) (cell n : ℕ) (spans : List Piece) (pairs : List Link) (k : ℕ) (old new : List Link) → AreSpanPieces d t cell (length (places_of d cell)) spans → AddsTouching spans spans [] pairs
-    → k ≡ length pairs → AddsPairs d w t cell (take k pairs) old new → AddsChildren d w t cell old new
-all_children d w t cell n spans pairs k old new are touching e h =
-    let whole : AddsPairs d w t cell pairs old new = subst (λ (l : List Link). AddsPairs d w t cell l old new) (ap (λ i. take i pairs) e ∙ take-length pairs) h in
-    record {
-      kept = whole.kept;
-      each = whole.each;
-      found = λ i j x y not s. whole.found i j x y (meet d w t cell spans pairs are touching i j x y not s) s;
-    }
-
 pub pairs_all : (d : Design) (w : Wiring) (t : Tables) (cell : ℕ) (pairs : List Link) (k : ℕ) (old new : List Link) → k ≡ length pairs → AddsPairs d w t cell (take k pairs) old new → AddsPairs d w t cell pairs old new
 pairs_all d w t cell pairs k old new e h = subst (λ (l : List Link). AddsPairs d w t cell l old new) (ap (λ i. take i pairs) e ∙ take-length pairs) h
 
--- pairs that touch are of placements
-in_range : (n : ℕ) (ls : List Link) → ((i j : ℕ) → IsLinked ls i j → (i < n) × (j < n)) → AreInRange n ls
+-- pairs of numbers below a count
+pub in_range : (n : ℕ) (ls : List Link) → ((i j : ℕ) → IsLinked ls i j → (i < n) × (j < n)) → AreInRange n ls
 in_range n [] f = tt
 in_range n (l ∷ ls) f = let h = f l.one l.other (inl (inl (refl, refl))) in (h.0, h.1, in_range n ls (λ i j m. f i j (inr m)))
-
-pub pairs_in_range : (d : Design) (t : Tables) (cell : ℕ) (spans : List Piece) (pairs : List Link) → AreSpanPieces d t cell (length (places_of d cell)) spans → AddsTouching spans spans [] pairs → AreInRange (length (places_of d cell)) pairs
-pairs_in_range d t cell spans pairs are touching =
-    let n = length (places_of d cell) in
-    let of_piece : (o : Piece) (i : ℕ) → IsAmong o spans → o.item ≡ i → i < n = λ o i m e. let f = are.each o m in let lt = slice_get_within (places_of d cell) o.item f.0 f.1 in subst (λ k. k < n) e lt in
-    in_range n pairs (λ i j m. elim (touching.each i j m) [
-      | inl a ↦ absurd a
-      | inr b ↦ elim b [
-        | inl h ↦ (of_piece h.one i h.in_ones h.from, of_piece h.other j h.in_others h.to)
-        | inr h ↦ (of_piece h.other i h.in_others h.to, of_piece h.one j h.in_ones h.from)
-      ]
-    ])
-
-pub children_all : (d : Design) (w : Wiring) (t : Tables) (cell : ℕ) (spans : List Piece) (pairs : List Link) (old new : List Link) → AreSpanPieces d t cell (length (places_of d cell)) spans → AddsTouching spans spans [] pairs → AddsPairs d w t cell pairs old new
-    → AddsChildren d w t cell old new
-children_all d w t cell spans pairs old new are touching h = record { kept = h.kept; each = h.each; found = λ i j x y not s. h.found i j x y (meet d w t cell spans pairs are touching i j x y not s) s }
 
 -- a placed cell's nets stand within the list
 pub child_room : (d : Design) (w : Wiring) (t : Tables) (cell k : ℕ) (p : Place) → slice_get (places_of d cell) k ≡ Some p → first_of d w t cell k + (t.nets p.cell).count ≤ length (items_of d w t cell)

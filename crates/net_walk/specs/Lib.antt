@@ -11,3 +11,4 @@ pub mod Alike
 pub mod Contacts
 pub mod Held
 pub mod Whole
+pub mod Leaders

@@ -8,7 +8,7 @@ use Rattle.geo_base.specs.Motions.{moved_square}
 use Rattle.geo_base.specs.Near.{IsNearRect}
 use Rattle.geo_base.specs.declared.shapes.Square.{Square}
 use Rattle.geo_base.specs.declared.shapes.Rect.{Rect}
-use Rattle.link_classes.specs.Classes.{IsLinked}
+use Rattle.link_classes.specs.Classes.{AreInRange, IsLinked}
 use Rattle.link_classes.specs.declared.classes.Link.{Link}
 use Rattle.net_link_laws.specs.Found.{IsSquareLink}
 use Rattle.net_link_laws.specs.Places.{owned_before, nets_before, places_of}
@@ -104,3 +104,10 @@ pub record AddsChildren (d : Design) (w : Wiring) (t : Tables) (cell : ℕ)
       × (slice_get (items_of d w t cell) j ≡ Some b) × IsSquareLink d w t cell a b)
   pub found : (k l x y : ℕ) → (k ≡ l → ⊥) → IsSquareLink d w t cell (Child k x) (Child l y)
       → AreOne new (first_of d w t cell k + x) (first_of d w t cell l + y)
+
+-- pairs of placements such that links of these are links of any two
+pub record AreEnoughPairs (d : Design) (w : Wiring) (t : Tables) (cell : ℕ)
+    (pairs : List Link) : Type 0 where
+  pub range : AreInRange (length (places_of d cell)) pairs
+  pub all : (old new : List Link) → AddsPairs d w t cell pairs old new
+      → AddsChildren d w t cell old new

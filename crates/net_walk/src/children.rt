@@ -7,13 +7,14 @@ ghost use Rattle.flat_layout.specs.Regions.{IsJoined};
 ghost use Rattle.net_link_laws.specs.Places.{places_of};
 ghost use Rattle.net_walk.specs.Contacts.{IsBeside};
 ghost use Rattle.net_walk.specs.Pairs.{AddsChildren, AddsPair, AddsPairs, AddsSpan, AreSpanPieces};
-ghost use Rattle.net_walk.specs.Pairs.{IsWindowFor, AreNeverNear, first_of};
+ghost use Rattle.net_walk.specs.Pairs.{AreEnoughPairs, AreNeverNear, IsWindowFor, first_of};
 ghost use Rattle.net_walk.specs.Walk.{IsClose, place_of};
 ghost use Rattle.link_classes.specs.Classes.{AreInRange};
 ghost use Rattle.touching_pieces.specs.Pairs.{AreJoined};
 
 use crate::cells::{Cells, Element};
 use crate::contacts::{Beside, beside_of, replay};
+use crate::leaders::{leaders_of, leading, push_followers};
 use crate::lyings::alike_together;
 use crate::rects::{common, grown, is_rect};
 use geo_base::Rect;
@@ -155,10 +156,28 @@ fn link_pairs<C: Cells>(
     Ok(())
 }
 
+// The pairs of placements to be linked: of those that stand alike one leads the others, and each
+// two leaders whose hulls meet or touch.
+fn enough_pairs<C: Cells>(alloc: Global, cells: &C, cell: u32) -> Result<Vec<Link>, AllocError>
+    ensures { IfOk result (λ v. AreEnoughPairs (C.design cells.now) (C.wiring cells.now)
+        (C.tables cells.now) cell v.items) }
+{
+    let elements = cells.places(cell);
+    let leaders = leaders_of(alloc, elements)?;
+    let all = span_pieces(alloc, cells, cell)?;
+    let spans = leading(alloc, &all, &leaders)?;
+    let mut touching = Vec::new(alloc);
+    touching_pairs(alloc, &spans, &spans, &mut touching)?;
+    push_followers(&leaders, &mut touching)?;
+    let pairs = alike_together(alloc, elements, &touching)?;
+    Ok(pairs)
+}
+
 /// Adds links whose chains join what squares link of the nets of any two placements of a cell. Cost:
-/// O(n log n) for n placements and pairs of placements whose hulls meet or touch; for each way in
-/// which two placed cells lie beside each other two walks a conductor through what both hold, and
-/// near m log m for m pieces that are found; and the links. An `Err` is want of memory.
+/// O(n log n) for n placements and pairs of placements whose hulls meet or touch, where all that
+/// stand alike count as one; for each way in which two placed cells lie beside each other two walks
+/// a conductor through what both hold, and near m log m for m pieces that are found; and the links.
+/// An `Err` is want of memory.
 pub fn children_links<C: Cells>(
     alloc: Global,
     cells: &C,
@@ -179,10 +198,7 @@ pub fn children_links<C: Cells>(
     ensures { OnOk result (AddsChildren (C.design cells.now) (C.wiring cells.now)
         (C.tables cells.now) cell out.old.items out.new.items) }
 {
-    let spans = span_pieces(alloc, cells, cell)?;
-    let mut touching = Vec::new(alloc);
-    touching_pairs(alloc, &spans, &spans, &mut touching)?;
-    let pairs = alike_together(alloc, cells.places(cell), &touching)?;
+    let pairs = enough_pairs(alloc, cells, cell)?;
     link_pairs(alloc, cells, cell, &pairs, firsts, joins, out)?;
     Ok(())
 }

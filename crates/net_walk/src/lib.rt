@@ -8,6 +8,7 @@ mod children;
 mod contacts;
 mod globals;
 mod held;
+mod leaders;
 mod lyings;
 mod own;
 mod pushes;

@@ -26,7 +26,7 @@ struct Lying {
     other: u32,
 }
 
-fn turn_number(turn: Turn) -> u8 {
+pub(crate) fn turn_number(turn: Turn) -> u8 {
     match turn {
         Turn::R0 => 0,
         Turn::R90 => 1,

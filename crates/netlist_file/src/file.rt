@@ -1,6 +1,6 @@
 //! A layout's shapes file, its netlist and the netlist's text.
 
-ghost use Rattle.std.specs.Prelude.{◌≤◌, ℕ, List, Option, IfOk};
+ghost use Rattle.std.specs.Prelude.{ℕ, List, Option, IfOk};
 ghost use Rattle.cell_graph.specs.Linked.{plain};
 ghost use Rattle.deep_tables.specs.Layers.{AreLayers};
 ghost use Rattle.gds_layout.specs.Layouts.{IsRead};
@@ -11,7 +11,7 @@ ghost use Rattle.rule_text.specs.Sound.{IsSound};
 use deep_flow::extract;
 use deep_tables::{BadGate, Layers};
 use gds_layout::Layout;
-use job_board::Gate;
+use job_board::{Crew, Gate};
 use net_model::Netlist;
 use rule_text::RuleSet;
 use shapes_file::{Drawing, Shapes, shapes_of_layers};
@@ -48,14 +48,11 @@ pub enum Files {
 
 // A layout's layers and its netlist.
 fn extracted<R: Threads + Wait + Sync, G: Gate + Sync>(
-    rt: &R,
     alloc: Global,
     layout: &Layout,
     rules: &RuleSet,
-    workers: usize,
-    gate: &G,
+    crew: &Crew<R, G>,
 ) -> Result<(Layers, NetlistFile), AllocError>
-    requires workers { (1 ≤ workers) × (workers ≤ 64) }
     requires rules { IsSound (rules_seen rules.now) }
     ensures layers { IfOk result (λ v. AreLayers (plain layout.now.design) (rules_seen rules.now)
         v.0) }
@@ -63,7 +60,7 @@ fn extracted<R: Threads + Wait + Sync, G: Gate + Sync>(
 {
     layout.design.sound();
     let unit_pm = layout.header.unit_pm;
-    let found = extract(rt, alloc, &layout.design, rules, unit_pm, workers, gate)?;
+    let found = extract(alloc, &layout.design, rules, unit_pm, crew)?;
     extracted_text();
     let text = write_spice(alloc, &found.netlist)?;
     spelled(&found.netlist);
@@ -83,18 +80,15 @@ fn extracted<R: Threads + Wait + Sync, G: Gate + Sync>(
 /// which there are 1 to 64. An `Err` is want of memory, or 2^32 circuits or nets of a cell. Cost:
 /// the layers, nets, gates, pins and circuit of each cell, and the bytes written.
 pub fn extract_netlist<R: Threads + Wait + Sync, G: Gate + Sync>(
-    rt: &R,
     alloc: Global,
     layout: &Layout,
     rules: &RuleSet,
-    workers: usize,
-    gate: &G,
+    crew: &Crew<R, G>,
 ) -> Result<NetlistFile, AllocError>
-    requires workers { (1 ≤ workers) × (workers ≤ 64) }
     requires rules { IsSound (rules_seen rules.now) }
     ensures { IfOk result (HasNetlist layout.now (rules_seen rules.now)) }
 {
-    let (_, file) = extracted(rt, alloc, layout, rules, workers, gate)?;
+    let (_, file) = extracted(alloc, layout, rules, crew)?;
     Ok(file)
 }
 
@@ -102,19 +96,16 @@ pub fn extract_netlist<R: Threads + Wait + Sync, G: Gate + Sync>(
 /// first cell for which there is no shapes file. An `Err` is want of memory, or 2^32 circuits or
 /// nets of a cell. Cost: that of `extract_netlist`, and the bytes written.
 pub fn extract_files<R: Threads + Wait + Sync, G: Gate + Sync>(
-    rt: &R,
     alloc: Global,
     layout: &Layout,
     rules: &RuleSet,
-    workers: usize,
-    gate: &G,
+    crew: &Crew<R, G>,
 ) -> Result<Files, AllocError>
-    requires workers { (1 ≤ workers) × (workers ≤ 64) }
     requires read { (bytes : List ℕ) × (top : Option (List ℕ)) × IsRead bytes top layout.now }
     requires rules { IsSound (rules_seen rules.now) }
     ensures { IfOk result (AreFiles layout.now (rules_seen rules.now)) }
 {
-    let (layers, file) = extracted(rt, alloc, layout, rules, workers, gate)?;
+    let (layers, file) = extracted(alloc, layout, rules, crew)?;
     match shapes_of_layers(alloc, layout, rules, &layers)? {
         Drawing::Whole(shapes) => Ok(Files::Whole(Extraction { shapes, file })),
         Drawing::Wide(cell) => Ok(Files::Wide(cell)),

@@ -6,7 +6,7 @@ use std::test::Fail;
 
 const SQUARE_METRE: u128 = 1_000_000_000_000_000_000_000_000;
 
-const AREAS: [(&str, u128); 14] = [
+static AREAS: [(&str, u128); 14] = [
     ("1", SQUARE_METRE),
     ("0", 0),
     ("1p", 1_000_000_000_000),
@@ -26,7 +26,7 @@ const AREAS: [(&str, u128); 14] = [
     ("0.25psqm", 250_000_000_000),
 ];
 
-const FAULTS: [(&str, ValueFault); 9] = [
+static FAULTS: [(&str, ValueFault); 9] = [
     ("", NotNumber),
     ("-1p", NotNumber),
     ("1mil", NotNumber),
@@ -40,11 +40,11 @@ const FAULTS: [(&str, ValueFault); 9] = [
 
 #[test]
 fn areas(rt: HostRuntime) {
-    for (text, want) in AREAS {
-        assert_eq!(rt; parse_area(text.as_bytes()), Ok(want), "at {text}");
+    for (text, want) in &AREAS {
+        assert_eq!(rt; parse_area(text.as_bytes()), Ok(*want), "at {text}");
     }
-    for (text, want) in FAULTS {
-        assert_eq!(rt; parse_area(text.as_bytes()), Err(want), "at {text}");
+    for (text, want) in &FAULTS {
+        assert_eq!(rt; parse_area(text.as_bytes()), Err(*want), "at {text}");
     }
     assert_eq!(rt; parse_area(b"1p2"), Err(NotNumber));
 }

@@ -6,7 +6,7 @@ use std::test::Fail;
 
 const FEMTO_PER_METRE: u128 = 1_000_000_000_000_000;
 
-const VALUES: [(&str, u128); 31] = [
+static VALUES: [(&str, u128); 31] = [
     ("0.25u", 250_000_000),
     ("2.5e-07", 250_000_000),
     ("1500n", 1_500_000_000),
@@ -40,7 +40,7 @@ const VALUES: [(&str, u128); 31] = [
     ("999.999999999999999", 1000 * FEMTO_PER_METRE - 1),
 ];
 
-const FAULTS: [(&str, ValueFault); 31] = [
+static FAULTS: [(&str, ValueFault); 31] = [
     ("", NotNumber),
     (".", NotNumber),
     ("u", NotNumber),
@@ -76,15 +76,15 @@ const FAULTS: [(&str, ValueFault); 31] = [
 
 #[test]
 fn plain_values(rt: HostRuntime) {
-    for (text, want) in VALUES {
-        assert_eq!(rt; parse_value(text.as_bytes()), Ok(Femto(want)), "at {text}");
+    for (text, want) in &VALUES {
+        assert_eq!(rt; parse_value(text.as_bytes()), Ok(Femto(*want)), "at {text}");
     }
 }
 
 #[test]
 fn faulty_values(rt: HostRuntime) {
-    for (text, want) in FAULTS {
-        assert_eq!(rt; parse_value(text.as_bytes()), Err(want), "at {text}");
+    for (text, want) in &FAULTS {
+        assert_eq!(rt; parse_value(text.as_bytes()), Err(*want), "at {text}");
     }
 }
 

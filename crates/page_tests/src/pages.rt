@@ -23,7 +23,7 @@ struct Case {
 
 const HEAD: &str = "Partners are proposed; what is sure stands in the report.\n";
 
-const CASES: [Case; 6] = [
+static CASES: [Case; 6] = [
     // A width of 0.5 against 0.6.
     Case {
         layout: ".subckt inv a y v g\nm1 y a v v p l=0.1u w=1u\nm2 y a g g n l=0.1u w=0.5u\n\

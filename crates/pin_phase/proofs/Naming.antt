@@ -8,7 +8,7 @@ use Rattle.cell_graph.specs.declared.cells.CellPart.{CellPart}
 use Rattle.cell_graph.specs.declared.cells.RawText.{RawText}
 use Rattle.cell_graph.specs.Linked.{Linked, cell_at, plain, plain_cell, plain_text}
 use Rattle.flat_laws.proofs.Items.{items_sound}
-use Rattle.flat_layout.specs.Layout.{Design, HasText, Some_of, Text}
+use Rattle.flat_layout.specs.Layout.{Design, Some_of, Text}
 use Rattle.flat_layout.specs.Layout as flat
 use Rattle.flat_layout.specs.Nets.{AreNets, IsItemLink, NetHolds, Tables}
 use Rattle.flat_layout.specs.Pins.{IsNodeTag, IsTag}

@@ -10,19 +10,31 @@ pub fn matched(answer: Option<Answer>) -> Option<Pairing> {
     }
 }
 
-// The guesses that exclude a match.
-pub fn excluded(answer: Option<Answer>) -> Option<Vec<Guess>> {
-    match answer {
-        Some(Answer::Differs(Evidence::Tree(guesses))) => Some(guesses),
-        _other => None,
+// Whether a match has these partners of nets, of devices and of calls.
+pub fn is_paired(answer: Option<Answer>, nets: &[u32], devices: &[u32], calls: &[u32]) -> bool {
+    match matched(answer) {
+        Some(found) => {
+            found.nets.as_slice() == nets
+                && found.devices.as_slice() == devices
+                && found.calls.as_slice() == calls
+        }
+        None => false,
     }
 }
 
-// The guesses that the limit stopped.
-pub fn stopped(answer: Option<Answer>) -> Option<Vec<Guess>> {
+// Whether these guesses exclude a match.
+pub fn is_excluded(answer: Option<Answer>, wanted: &[Guess]) -> bool {
     match answer {
-        Some(Answer::Undecided(guesses)) => Some(guesses),
-        _other => None,
+        Some(Answer::Differs(Evidence::Tree(guesses))) => guesses.as_slice() == wanted,
+        _other => false,
+    }
+}
+
+// Whether the limit stopped these guesses.
+pub fn is_stopped(answer: Option<Answer>, wanted: &[Guess]) -> bool {
+    match answer {
+        Some(Answer::Undecided(guesses)) => guesses.as_slice() == wanted,
+        _other => false,
     }
 }
 

@@ -3,7 +3,7 @@
 use crate::answers::matched;
 use crate::builders::{circuit, name, transistor};
 use crate::fitting::compare;
-use match_types::ChildPins;
+use match_types::{Answer, ChildPins};
 use net_model::Circuit;
 use std::alloc::{AllocError, Global};
 
@@ -24,20 +24,22 @@ fn chain(alloc: Global, inverters: u32, backwards: bool) -> Result<Circuit, Allo
     Ok(c)
 }
 
+// The chain forwards and backwards.
+fn both_ways(alloc: Global) -> Result<Option<Answer>, AllocError> {
+    let left = chain(alloc, 10_000, false)?;
+    let right = chain(alloc, 10_000, true)?;
+    compare(alloc, &left, &right, &ChildPins::new(alloc, false), 1)
+}
+
 // 20,000 transistors: the rounds alone pair each with the one at its place.
 #[test]
 fn a_long_chain(rt: HostRuntime) -> Result<(), AllocError> {
-    let alloc = rt.alloc();
-    let left = chain(alloc, 10_000, false)?;
-    let right = chain(alloc, 10_000, true)?;
-    let none = ChildPins::new(alloc, false);
-    match matched(compare(alloc, &left, &right, &none, 1)?) {
-        Some(pairing) => {
-            assert_eq!(rt; pairing.nets.len(), 10_003);
-            assert_eq!(rt; pairing.devices.len(), 20_000);
-            assert_eq!(rt; pairing.devices.first(), Some(&19_998));
-        }
-        None => assert_eq!(rt; "no match", ""),
-    }
+    let Some(pairing) = matched(both_ways(rt.alloc())?) else {
+        assert!(rt; false, "no match");
+        return Ok(());
+    };
+    assert!(rt; pairing.nets.len() == 10_003);
+    assert!(rt; pairing.devices.len() == 20_000);
+    assert!(rt; pairing.devices.first() == Some(&19_998));
     Ok(())
 }

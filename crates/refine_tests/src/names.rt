@@ -36,12 +36,12 @@ fn round_of(answer: Option<Answer>) -> Option<u32> {
 fn names_of_pins(rt: HostRuntime) -> Result<(), AllocError> {
     let alloc = rt.alloc();
     let turned = told(alloc, &[b"C", b"D", b"A", b"B", b"G"])?;
-    assert_eq!(rt; is_matched(turned), Some(true));
+    assert!(rt; is_matched(turned) == Some(true));
     let small = told(alloc, &[b"a", b"b", b"c", b"d", b"g"])?;
-    assert_eq!(rt; is_matched(small), Some(true));
+    assert!(rt; is_matched(small) == Some(true));
     let exchanged = told(alloc, &[b"B", b"A", b"C", b"D", b"G"])?;
-    assert_eq!(rt; round_of(exchanged), Some(1));
+    assert!(rt; round_of(exchanged) == Some(1));
     let other = told(alloc, &[b"A", b"Z", b"C", b"D", b"G"])?;
-    assert_eq!(rt; round_of(other), Some(0));
+    assert!(rt; round_of(other) == Some(0));
     Ok(())
 }

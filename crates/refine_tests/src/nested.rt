@@ -1,6 +1,6 @@
 //! Guesses below guesses: loops that differ, and a limit amid the search.
 
-use crate::answers::{excluded, stopped};
+use crate::answers::{is_excluded, is_stopped};
 use crate::builders::{circuit, transistor};
 use crate::fitting::compare;
 use match_types::{Answer, ChildPins, Guess, GuessEnd, NodeKind};
@@ -49,63 +49,41 @@ fn second(right: u32) -> Guess {
 // ends so itself.
 #[test]
 fn each_guess_ended(rt: HostRuntime) -> Result<(), AllocError> {
-    let alloc = rt.alloc();
-    match excluded(compare_loops(alloc, 1000)?) {
-        Some(guesses) => {
-            let want = [
-                first(2, GuessEnd::Below),
-                second(4),
-                second(5),
-                first(3, GuessEnd::Below),
-                second(4),
-                second(5),
-                first(4, GuessEnd::Refuted(1)),
-                first(5, GuessEnd::Refuted(1)),
-            ];
-            assert_eq!(rt; guesses.as_slice(), want.as_slice());
-        }
-        None => assert_eq!(rt; "no difference", ""),
-    }
+    let wanted = [
+        first(2, GuessEnd::Below),
+        second(4),
+        second(5),
+        first(3, GuessEnd::Below),
+        second(4),
+        second(5),
+        first(4, GuessEnd::Refuted(1)),
+        first(5, GuessEnd::Refuted(1)),
+    ];
+    assert!(rt; is_excluded(compare_loops(rt.alloc(), 1000)?, &wanted));
     Ok(())
 }
 
-// The limit stops the search amid the guesses below the second one, which is open.
+// The limit stops the search amid the guesses below the second one, which is open; and below the
+// first one.
 #[test]
 fn one_guess_open(rt: HostRuntime) -> Result<(), AllocError> {
-    let alloc = rt.alloc();
-    match stopped(compare_loops(alloc, 3)?) {
-        Some(guesses) => {
-            let want = [
-                first(2, GuessEnd::Below),
-                second(4),
-                second(5),
-                first(3, GuessEnd::Open),
-                second(4),
-            ];
-            assert_eq!(rt; guesses.as_slice(), want.as_slice());
-        }
-        None => assert_eq!(rt; "decided", ""),
-    }
-    match stopped(compare_loops(alloc, 1)?) {
-        Some(guesses) => {
-            let want = [first(2, GuessEnd::Open), second(4)];
-            assert_eq!(rt; guesses.as_slice(), want.as_slice());
-        }
-        None => assert_eq!(rt; "decided", ""),
-    }
+    let wanted = [
+        first(2, GuessEnd::Below),
+        second(4),
+        second(5),
+        first(3, GuessEnd::Open),
+        second(4),
+    ];
+    assert!(rt; is_stopped(compare_loops(rt.alloc(), 3)?, &wanted));
+    let wanted = [first(2, GuessEnd::Open), second(4)];
+    assert!(rt; is_stopped(compare_loops(rt.alloc(), 1)?, &wanted));
     Ok(())
 }
 
 // Between two guesses none is open: the first one ended below.
 #[test]
 fn no_guess_open(rt: HostRuntime) -> Result<(), AllocError> {
-    let alloc = rt.alloc();
-    match stopped(compare_loops(alloc, 2)?) {
-        Some(guesses) => {
-            let want = [first(2, GuessEnd::Below), second(4), second(5)];
-            assert_eq!(rt; guesses.as_slice(), want.as_slice());
-        }
-        None => assert_eq!(rt; "decided", ""),
-    }
+    let wanted = [first(2, GuessEnd::Below), second(4), second(5)];
+    assert!(rt; is_stopped(compare_loops(rt.alloc(), 2)?, &wanted));
     Ok(())
 }

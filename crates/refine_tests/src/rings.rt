@@ -1,6 +1,6 @@
 //! Rings of transistors that only guesses tell apart.
 
-use crate::answers::{excluded, matched, stopped};
+use crate::answers::{is_excluded, is_paired, is_stopped};
 use crate::builders::{circuit, transistor};
 use crate::fitting::compare;
 use match_types::{Answer, ChildPins, Guess, GuessEnd, NodeKind};
@@ -40,40 +40,25 @@ fn guess(right: u32) -> Guess {
 // One ring of six against two of three: each guess is refuted in round 3.
 #[test]
 fn two_rings(rt: HostRuntime) -> Result<(), AllocError> {
-    let alloc = rt.alloc();
-    match excluded(rings(alloc, 1000)?) {
-        Some(guesses) => {
-            let want = [guess(2), guess(3), guess(4), guess(5), guess(6), guess(7)];
-            assert_eq!(rt; guesses.as_slice(), want.as_slice());
-        }
-        None => assert_eq!(rt; "no difference", ""),
-    }
-    match stopped(rings(alloc, 3)?) {
-        Some(guesses) => {
-            let want = [guess(2), guess(3), guess(4)];
-            assert_eq!(rt; guesses.as_slice(), want.as_slice());
-        }
-        None => assert_eq!(rt; "decided", ""),
-    }
+    let wanted = [guess(2), guess(3), guess(4), guess(5), guess(6), guess(7)];
+    assert!(rt; is_excluded(rings(rt.alloc(), 1000)?, &wanted));
+    let wanted = [guess(2), guess(3), guess(4)];
+    assert!(rt; is_stopped(rings(rt.alloc(), 3)?, &wanted));
     Ok(())
 }
 
-// A ring against one whose nets stand in another order: the first guess, by name, is solved.
-#[test]
-fn one_ring(rt: HostRuntime) -> Result<(), AllocError> {
-    let alloc = rt.alloc();
+// A ring against one whose nets stand in another order.
+fn reordered(alloc: Global) -> Result<Option<Answer>, AllocError> {
     let left = ring(alloc, [3, 4, 5, 6, 7, 2])?;
     let right = ring(alloc, [4, 5, 3, 6, 7, 2])?;
-    let none = ChildPins::new(alloc, false);
-    match matched(compare(alloc, &left, &right, &none, 1)?) {
-        Some(pairing) => {
-            assert_eq!(rt;
-                pairing.nets.as_slice(),
-                [0, 1, 2, 4, 3, 5, 6, 7].as_slice()
-            );
-            assert_eq!(rt; pairing.devices.as_slice(), [0, 2, 1, 3, 4, 5].as_slice());
-        }
-        None => assert_eq!(rt; "no match", ""),
-    }
+    compare(alloc, &left, &right, &ChildPins::new(alloc, false), 1)
+}
+
+// The first guess, by name, is solved.
+#[test]
+fn one_ring(rt: HostRuntime) -> Result<(), AllocError> {
+    let answer = reordered(rt.alloc())?;
+    let is_so = is_paired(answer, &[0, 1, 2, 4, 3, 5, 6, 7], &[0, 2, 1, 3, 4, 5], &[]);
+    assert!(rt; is_so);
     Ok(())
 }

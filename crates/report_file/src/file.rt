@@ -12,7 +12,7 @@ ghost use Rattle.rule_text.specs.Sound.{IsSound};
 use crate::turns::{Turns, circuit_name, compare_in_turns};
 use cell_graph::Design;
 use deep_tables::BadGate;
-use job_board::Gate;
+use job_board::{Crew, Gate};
 use list_base::number;
 use match_report::{Compared, report_text};
 use net_model::Netlist;
@@ -86,7 +86,6 @@ fn write_report(
 /// 64. An `Err` is want of memory, or 2^32 pairs or more. Cost: the comparison of the pairs, and
 /// the bytes written.
 pub fn report_file<R: Threads + Wait + Sync, G: Gate + Sync>(
-    rt: &R,
     alloc: Global,
     design: &Design,
     rules: &RuleSet,
@@ -94,8 +93,7 @@ pub fn report_file<R: Threads + Wait + Sync, G: Gate + Sync>(
     top: u32,
     bad: &[BadGate],
     schematic: &Netlist,
-    workers: usize,
-    gate: &G,
+    crew: &Crew<R, G>,
 ) -> Result<Report, AllocError>
     requires rules { IsSound (rules_seen rules.now) }
     requires netlist { IsAlignable (plain_netlist netlist.now) }
@@ -103,12 +101,11 @@ pub fn report_file<R: Threads + Wait + Sync, G: Gate + Sync>(
     requires order { AreCalleesFirst (plain_netlist netlist.now) }
     requires top { top < length netlist.now.circuits.items }
     requires cells { All (λ x. x.cell < length design.now.cells) bad.now }
-    requires workers { (1 ≤ workers) × (workers ≤ 64) }
     ensures { IfOk result (λ x. IsReportFile design.now (rules_seen rules.now)
         (plain_netlist netlist.now) top bad.now (plain_netlist schematic.now) x.text.items x.pairs
         x.verdict) }
 {
-    let turns = compare_in_turns(rt, alloc, rules, netlist, top, schematic, workers, gate)?;
+    let turns = compare_in_turns(alloc, rules, netlist, top, schematic, crew)?;
     let name = circuit_name(netlist, top as usize);
     let report = write_report(alloc, design, name, bad, &turns)?;
     Ok(report)

@@ -1,5 +1,5 @@
 //! Layout and schematic compared in turns.
-ghost use Rattle.std.specs.Prelude.{◌≡◌, ◌<◌, ◌≤◌, ◌++◌, IfOk, IfSome, IsNone, length, slice_get};
+ghost use Rattle.std.specs.Prelude.{◌≡◌, ◌<◌, ◌++◌, IfOk, IfSome, IsNone, length, slice_get};
 ghost use Rattle.align_laws.specs.Partners.{AreSides};
 ghost use Rattle.match_report.specs.Pairs.{name_of};
 ghost use Rattle.net_align.specs.Compared.{AreCalleesFirst, IsAlignable};
@@ -13,7 +13,7 @@ ghost use Rattle.report_file.specs.Taken.{AddsLast, AddsTurn, IsTaken};
 ghost use Rattle.rule_text.specs.Seen.{rules_seen};
 ghost use Rattle.rule_text.specs.Sound.{IsSound};
 
-use job_board::Gate;
+use job_board::{Crew, Gate};
 use match_flow::{Comparison, compare};
 use match_report::{Compared, push_apart, push_limit};
 use net_align::partner_of_top;
@@ -36,7 +36,6 @@ pub struct Turns {
 
 // Layout and schematic compared, in the form that a report has.
 fn compare_netlists<R: Threads + Wait + Sync, G: Gate + Sync>(
-    rt: &R,
     alloc: Global,
     layout: &Netlist,
     top: u32,
@@ -44,8 +43,7 @@ fn compare_netlists<R: Threads + Wait + Sync, G: Gate + Sync>(
     same: &[(Name, Name)],
     limit: u32,
     same_pins: bool,
-    workers: usize,
-    gate: &G,
+    crew: &Crew<R, G>,
 ) -> Result<Option<Compared>, AllocError>
     requires layout { IsAlignable (plain_netlist layout.now) }
     requires schematic { IsAlignable (plain_netlist schematic.now) }
@@ -53,14 +51,10 @@ fn compare_netlists<R: Threads + Wait + Sync, G: Gate + Sync>(
     requires top { top < length layout.now.circuits.items }
     requires lefts { AreApart (left_names same.now) }
     requires rights { AreApart (right_names same.now) }
-    requires workers { (1 ≤ workers) × (workers ≤ 64) }
     ensures { IfOk result (IsComparison (plain_netlist layout.now) top (plain_netlist schematic.now)
         same.now limit same_pins) }
 {
-    let Some(found) = compare(
-        rt, alloc, layout, top, schematic, same, limit, same_pins, workers, gate,
-    )?
-    else {
+    let Some(found) = compare(alloc, layout, top, schematic, same, limit, same_pins, crew)? else {
         return Ok(None);
     };
     let Comparison {
@@ -187,21 +181,18 @@ fn take_apart(
 /// pairs or more. Cost: that of each comparison, of which there are at most as many as circuits of
 /// the layout.
 pub fn compare_in_turns<R: Threads + Wait + Sync, G: Gate + Sync>(
-    rt: &R,
     alloc: Global,
     rules: &RuleSet,
     layout: &Netlist,
     top: u32,
     schematic: &Netlist,
-    workers: usize,
-    gate: &G,
+    crew: &Crew<R, G>,
 ) -> Result<Turns, AllocError>
     requires rules { IsSound (rules_seen rules.now) }
     requires layout { IsAlignable (plain_netlist layout.now) }
     requires schematic { IsAlignable (plain_netlist schematic.now) }
     requires order { AreCalleesFirst (plain_netlist layout.now) }
     requires top { top < length layout.now.circuits.items }
-    requires workers { (1 ≤ workers) × (workers ≤ 64) }
     ensures { IfOk result (IsTaken (rules_seen rules.now) (plain_netlist layout.now) top
         (plain_netlist schematic.now)) }
 {
@@ -213,7 +204,7 @@ pub fn compare_in_turns<R: Threads + Wait + Sync, G: Gate + Sync>(
         let same = same_alone(alloc, &rules.same, &alone, most)?;
         let (limit, same_pins) = (rules.max_guesses, rules.tells_pins);
         let Some(found) = compare_netlists(
-            rt, alloc, layout, top, schematic, &same, limit, same_pins, workers, gate,
+            alloc, layout, top, schematic, &same, limit, same_pins, crew,
         )?
         else {
             return Ok(Turns {

@@ -1,14 +1,11 @@
 //! Rule files that are refused, each fault with its line, and the edges of limits.
 
-use crate::shown::answer;
+use crate::shown::all_answer;
 use rule_text::read_rules;
 use std::alloc::{AllocError, Global};
 use std::test::Fail;
 
-// One file for each fault.
-#[test]
-fn refused_rules(rt: HostRuntime) -> Result<(), Fail> {
-    let loose = "active = input(2, 0)
+const LOOSE: &str = "active = input(2, 0)
 poly = input(3, 0)
 txt = labels(5, 1)
 bulk = polygon_layer
@@ -18,39 +15,29 @@ extract_devices(mos4(\"NMOS\"), { \"SD\" => sd, \"G\" => gate, \"W\" => bulk, \"
 connect(sd, txt)
 connect_global(bulk, \"VSS\")
 ";
-    for (text, fault) in [
-        ("a = input(1, 0)\na.width(10)\n", "30 2"),
-        ("a = input(1, 0)\nx = a.sized(0)\n", "31 2"),
-        ("a = input(1, 0)\nd = a & zz\n", "32 2"),
-        ("a = input(1, 0)\na = input(1, 0)\n", "33 2"),
-        ("a = input(1, 0)\nt = labels(5, 1)\nx = a & t\n", "34 3"),
-        (loose, "34 7"),
-        ("\0", "36 0"),
-        ("x\na = \u{1}", "36 6"),
-        ("foo\n\u{7f}", "36 4"),
-        ("", "guesses 1000\n"),
-    ] {
-        assert_eq!(rt;
-            answer(rt.alloc(), text.as_bytes())?.as_str(),
-            fault,
-            "at {text:?}"
-        );
-    }
+
+/// Whole files, and their faults.
+static RULES: [(&str, &str); 10] = [
+    ("a = input(1, 0)\na.width(10)\n", "30 2"),
+    ("a = input(1, 0)\nx = a.sized(0)\n", "31 2"),
+    ("a = input(1, 0)\nd = a & zz\n", "32 2"),
+    ("a = input(1, 0)\na = input(1, 0)\n", "33 2"),
+    ("a = input(1, 0)\nt = labels(5, 1)\nx = a & t\n", "34 3"),
+    (LOOSE, "34 7"),
+    ("\0", "36 0"),
+    ("x\na = \u{1}", "36 6"),
+    ("foo\n\u{7f}", "36 4"),
+    ("", "guesses 1000\n"),
+];
+
+// One file for each fault.
+#[test]
+fn refused_rules(rt: HostRuntime) -> Result<(), Fail> {
+    all_answer(&rt, rt.alloc(), "", &RULES)?;
     Ok(())
 }
 
-/// Two texts, one behind the other.
-pub fn joined(alloc: Global, first: &str, last: &str) -> Result<String, AllocError> {
-    let mut text = String::new(alloc);
-    text.push_str(first)?;
-    text.push_str(last)?;
-    Ok(text)
-}
-
-// A line behind seven others: its fault, or none.
-#[test]
-fn sixty_lines(rt: HostRuntime) -> Result<(), Fail> {
-    let before = "a = input(1, 0)
+const BEFORE: &str = "a = input(1, 0)
 b = input(2, 0)
 t = labels(5, 1)
 a.output(10, 0)
@@ -58,150 +45,157 @@ extract_devices(mos4('N'), { 'SD' => a, 'G' => b, 'W' => a })
 connect(a, b)
 same_circuits('L', 'S')
 ";
-    for (line, fault) in [
-        ("foo", "30 8"),
-        ("foo %", "30 8"),
-        ("foo => b", "30 8"),
-        ("foo$bar", "30 8"),
-        ("foo \"open", "30 8"),
-        ("foo(a)", "30 8"),
-        ("a.width(10)", "30 8"),
-        ("a . outputs(1, 2)", "30 8"),
-        ("a.Output(1, 2)", "30 8"),
-        ("c = a & b extra", "31 8"),
-        ("c = ", "31 8"),
-        ("c = %", "31 8"),
-        ("c = A & b", "31 8"),
-        ("C = a & b", "31 8"),
-        ("1c = a & b", "31 8"),
-        ("Foo", "31 8"),
-        ("% foo", "31 8"),
-        ("input = input(1, 0)", "31 8"),
-        ("deep = polygon_layer", "31 8"),
-        ("mos4 = a & b", "31 8"),
-        ("input", "31 8"),
-        ("deep deep", "31 8"),
-        ("schematic(a)", "31 8"),
-        ("schematic('')", "31 8"),
-        ("c = input(1, 65536)", "31 8"),
-        ("c = input(1, 00000000)", "31 8"),
-        ("c = input(1, -1)", "31 8"),
-        ("c = input(0x1, 1)", "31 8"),
-        ("c = polygon_layer()", "31 8"),
-        ("c = a + b", "31 8"),
-        ("c = a.sized(0)", "31 8"),
-        ("c = a.sized(10001)", "31 8"),
-        ("c = a.sized(-10001)", "31 8"),
-        ("c = a.sized(000001)", "31 8"),
-        ("c = a.sized(x)", "31 8"),
-        ("c = a.sized(+5)", "31 8"),
-        ("c = a.sized(5, 5)", "31 8"),
-        ("c = z.sized(0)", "31 8"),
-        ("c = a.sized(10000)\nd = c.sized(1)", "31 9"),
-        ("c = a.sized(-10000)\nd = c.sized(-1)", "31 9"),
-        ("c = a.sized(10000)\na = c.sized(1)", "31 9"),
-        ("max_guesses(0)", "31 8"),
-        ("max_guesses(1000001)", "31 8"),
-        ("netlist.flatten_circuit('A*')", "31 8"),
-        ("netlist.flatten_circuit('A', 'B')", "31 8"),
-        ("schematic.flatten_circuit(a)", "31 8"),
-        ("schematic.flatten_circuit('[')", "31 8"),
-        ("deep.flatten_circuit('A')", "31 8"),
-        ("flatten_unmatched x", "31 8"),
-        ("flatten_unmatched = a & b", "31 8"),
-        ("same_pins x", "31 8"),
-        ("same_pins = a & b", "31 8"),
-        ("combine_devices()", "31 8"),
-        ("combine_devices = a & b", "31 8"),
-        ("connect(a b)", "31 8"),
-        ("connect_global(a, \"x')", "31 8"),
-        ("connect_global(a, 'h\u{e9}')", "31 8"),
-        ("connect_global(a, 'a\tb')", "31 8"),
-        ("connect_global(a, '# no comment'", "31 8"),
-        (
-            "extract_devices(mos4('P'), { 'SD' => a, 'G' => b })",
-            "31 8",
-        ),
-        (
-            "extract_devices(mos4('P'), { 'SD' => a, 'G' => b, 'W' => a, })",
-            "31 8",
-        ),
-        (
-            "extract_devices(mos4('P'), { 'SD' => a, 'G' => b, 'W' => a, 'G' => b })",
-            "31 8",
-        ),
-        (
-            "extract_devices(mos4('P'), { 'SD' => a, 'G' => b, 'W' => a, 'T' => b })",
-            "31 8",
-        ),
-        (
-            "extract_devices(mos4('P'), { 'SD' => a, 'G' => b, 'W' => a, 'tS' => b })",
-            "31 8",
-        ),
-        (
-            "extract_devices(mos4('P'), { 'SD' = > a, 'G' => b, 'W' => a })",
-            "31 8",
-        ),
-        ("extract_devices(mos4('P'), { })", "31 8"),
-        ("c = a & d", "32 8"),
-        ("c = z.sized(5)", "32 8"),
-        ("c = c & a", "32 8"),
-        ("c = a & input", "32 8"),
-        ("deep.output(1, 0)", "32 8"),
-        ("connect(a, z)", "32 8"),
-        (
-            "extract_devices(mos4('n'), { 'SD' => a, 'G' => z, 'W' => a })",
-            "32 8",
-        ),
-        ("a = a & t", "33 8"),
-        ("a = b.sized(5)", "33 8"),
-        ("t.output(10, 0)", "33 8"),
-        (
-            "extract_devices(mos4('n'), { 'SD' => t, 'G' => b, 'W' => a })",
-            "33 8",
-        ),
-        ("same_circuits('l', 'X')", "33 8"),
-        ("same_circuits('X', 's')", "33 8"),
-        ("netlist.flatten_circuit('l')", "33 8"),
-        ("schematic.flatten_circuit('s')", "33 8"),
-        (
-            "netlist.flatten_circuit('q')\nsame_circuits('Q', 'X')",
-            "33 9",
-        ),
-        ("flatten_unmatched\nflatten_unmatched", "33 9"),
-        ("same_pins\nsame_pins", "33 9"),
-        ("c = t ^ a", "34 8"),
-        ("c = t.sized(5)", "34 8"),
-        ("t.output(10, 1)", "34 8"),
-        ("connect(t, t)", "34 8"),
-        ("connect_global(t, 'G')", "34 8"),
-        (
-            "extract_devices(mos4('P'), { 'SD' => a, 'G' => b, 'W' => a, 'tB' => t })",
-            "34 8",
-        ),
-        (
-            "c = polygon_layer\nextract_devices(mos4('P'), { 'SD' => a, 'G' => c, 'W' => a })",
-            "34 9",
-        ),
-    ] {
-        let text = joined(rt.alloc(), before, line)?;
-        assert_eq!(rt;
-            answer(rt.alloc(), text.as_bytes())?.as_str(),
-            fault,
-            "at {line:?}"
-        );
-    }
+
+/// Lines behind those seven, and their faults.
+static LINES: [(&str, &str); 91] = [
+    ("foo", "30 8"),
+    ("foo %", "30 8"),
+    ("foo => b", "30 8"),
+    ("foo$bar", "30 8"),
+    ("foo \"open", "30 8"),
+    ("foo(a)", "30 8"),
+    ("a.width(10)", "30 8"),
+    ("a . outputs(1, 2)", "30 8"),
+    ("a.Output(1, 2)", "30 8"),
+    ("c = a & b extra", "31 8"),
+    ("c = ", "31 8"),
+    ("c = %", "31 8"),
+    ("c = A & b", "31 8"),
+    ("C = a & b", "31 8"),
+    ("1c = a & b", "31 8"),
+    ("Foo", "31 8"),
+    ("% foo", "31 8"),
+    ("input = input(1, 0)", "31 8"),
+    ("deep = polygon_layer", "31 8"),
+    ("mos4 = a & b", "31 8"),
+    ("input", "31 8"),
+    ("deep deep", "31 8"),
+    ("schematic(a)", "31 8"),
+    ("schematic('')", "31 8"),
+    ("c = input(1, 65536)", "31 8"),
+    ("c = input(1, 00000000)", "31 8"),
+    ("c = input(1, -1)", "31 8"),
+    ("c = input(0x1, 1)", "31 8"),
+    ("c = polygon_layer()", "31 8"),
+    ("c = a + b", "31 8"),
+    ("c = a.sized(0)", "31 8"),
+    ("c = a.sized(10001)", "31 8"),
+    ("c = a.sized(-10001)", "31 8"),
+    ("c = a.sized(000001)", "31 8"),
+    ("c = a.sized(x)", "31 8"),
+    ("c = a.sized(+5)", "31 8"),
+    ("c = a.sized(5, 5)", "31 8"),
+    ("c = z.sized(0)", "31 8"),
+    ("c = a.sized(10000)\nd = c.sized(1)", "31 9"),
+    ("c = a.sized(-10000)\nd = c.sized(-1)", "31 9"),
+    ("c = a.sized(10000)\na = c.sized(1)", "31 9"),
+    ("max_guesses(0)", "31 8"),
+    ("max_guesses(1000001)", "31 8"),
+    ("netlist.flatten_circuit('A*')", "31 8"),
+    ("netlist.flatten_circuit('A', 'B')", "31 8"),
+    ("schematic.flatten_circuit(a)", "31 8"),
+    ("schematic.flatten_circuit('[')", "31 8"),
+    ("deep.flatten_circuit('A')", "31 8"),
+    ("flatten_unmatched x", "31 8"),
+    ("flatten_unmatched = a & b", "31 8"),
+    ("same_pins x", "31 8"),
+    ("same_pins = a & b", "31 8"),
+    ("combine_devices()", "31 8"),
+    ("combine_devices = a & b", "31 8"),
+    ("connect(a b)", "31 8"),
+    ("connect_global(a, \"x')", "31 8"),
+    ("connect_global(a, 'h\u{e9}')", "31 8"),
+    ("connect_global(a, 'a\tb')", "31 8"),
+    ("connect_global(a, '# no comment'", "31 8"),
+    (
+        "extract_devices(mos4('P'), { 'SD' => a, 'G' => b })",
+        "31 8",
+    ),
+    (
+        "extract_devices(mos4('P'), { 'SD' => a, 'G' => b, 'W' => a, })",
+        "31 8",
+    ),
+    (
+        "extract_devices(mos4('P'), { 'SD' => a, 'G' => b, 'W' => a, 'G' => b })",
+        "31 8",
+    ),
+    (
+        "extract_devices(mos4('P'), { 'SD' => a, 'G' => b, 'W' => a, 'T' => b })",
+        "31 8",
+    ),
+    (
+        "extract_devices(mos4('P'), { 'SD' => a, 'G' => b, 'W' => a, 'tS' => b })",
+        "31 8",
+    ),
+    (
+        "extract_devices(mos4('P'), { 'SD' = > a, 'G' => b, 'W' => a })",
+        "31 8",
+    ),
+    ("extract_devices(mos4('P'), { })", "31 8"),
+    ("c = a & d", "32 8"),
+    ("c = z.sized(5)", "32 8"),
+    ("c = c & a", "32 8"),
+    ("c = a & input", "32 8"),
+    ("deep.output(1, 0)", "32 8"),
+    ("connect(a, z)", "32 8"),
+    (
+        "extract_devices(mos4('n'), { 'SD' => a, 'G' => z, 'W' => a })",
+        "32 8",
+    ),
+    ("a = a & t", "33 8"),
+    ("a = b.sized(5)", "33 8"),
+    ("t.output(10, 0)", "33 8"),
+    (
+        "extract_devices(mos4('n'), { 'SD' => t, 'G' => b, 'W' => a })",
+        "33 8",
+    ),
+    ("same_circuits('l', 'X')", "33 8"),
+    ("same_circuits('X', 's')", "33 8"),
+    ("netlist.flatten_circuit('l')", "33 8"),
+    ("schematic.flatten_circuit('s')", "33 8"),
+    (
+        "netlist.flatten_circuit('q')\nsame_circuits('Q', 'X')",
+        "33 9",
+    ),
+    ("flatten_unmatched\nflatten_unmatched", "33 9"),
+    ("same_pins\nsame_pins", "33 9"),
+    ("c = t ^ a", "34 8"),
+    ("c = t.sized(5)", "34 8"),
+    ("t.output(10, 1)", "34 8"),
+    ("connect(t, t)", "34 8"),
+    ("connect_global(t, 'G')", "34 8"),
+    (
+        "extract_devices(mos4('P'), { 'SD' => a, 'G' => b, 'W' => a, 'tB' => t })",
+        "34 8",
+    ),
+    (
+        "c = polygon_layer\nextract_devices(mos4('P'), { 'SD' => a, 'G' => c, 'W' => a })",
+        "34 9",
+    ),
+];
+
+// A line behind seven others: its fault, or none.
+#[test]
+fn refused_lines(rt: HostRuntime) -> Result<(), Fail> {
+    all_answer(&rt, rt.alloc(), BEFORE, &LINES)?;
     Ok(())
 }
 
 // A name of 64 bytes is one, a name of 65 is none.
+static LONG: [(&str, &str); 2] = [
+    (
+        "a234567890123456789012345678901234567890123456789012345678901234 = polygon_layer",
+        "a234567890123456789012345678901234567890123456789012345678901234 empty\nguesses 1000\n",
+    ),
+    (
+        "_a234567890123456789012345678901234567890123456789012345678901234 = polygon_layer",
+        "31 1",
+    ),
+];
+
 #[test]
 fn name_lengths(rt: HostRuntime) -> Result<(), Fail> {
-    let most = "a234567890123456789012345678901234567890123456789012345678901234";
-    let text = joined(rt.alloc(), most, " = polygon_layer")?;
-    assert_eq!(rt; read_rules(rt.alloc(), text.as_bytes()).is_ok(), true);
-    let text = joined(rt.alloc(), "_", &text)?;
-    assert_eq!(rt; answer(rt.alloc(), text.as_bytes())?.as_str(), "31 1");
+    all_answer(&rt, rt.alloc(), "", &LONG)?;
     Ok(())
 }
 
@@ -213,41 +207,41 @@ fn many_names(alloc: Global, count: u32) -> Result<String, AllocError> {
     Ok(text)
 }
 
+/// Lines behind the most names, and their faults.
+static BEHIND_NAMES: [(&str, &str); 4] = [
+    ("n256 = polygon_layer", "35 257"),
+    ("n256 = n0 & n256", "32 257"),
+    ("n255 = n0 & n1", "33 257"),
+    ("connect_global(n256, 'G')", "32 257"),
+];
+
 #[test]
 fn name_count(rt: HostRuntime) -> Result<(), Fail> {
     let text = many_names(rt.alloc(), 256)?;
-    assert_eq!(rt; read_rules(rt.alloc(), text.as_bytes()).is_ok(), true);
-    for (last, fault) in [
-        ("n256 = polygon_layer", "35 257"),
-        ("n256 = n0 & n256", "32 257"),
-        ("n255 = n0 & n1", "33 257"),
-        ("connect_global(n256, 'G')", "32 257"),
-    ] {
-        let text = joined(rt.alloc(), &text, last)?;
-        assert_eq!(rt;
-            answer(rt.alloc(), text.as_bytes())?.as_str(),
-            fault,
-            "at {last:?}"
-        );
-    }
+    assert!(rt; read_rules(rt.alloc(), text.as_bytes()).is_ok());
+    all_answer(&rt, rt.alloc(), &text, &BEHIND_NAMES)?;
     Ok(())
+}
+
+fn push_links(alloc: Global, text: &mut String, number: u32) -> Result<(), AllocError> {
+    let lines = format!(in alloc; "connect(n0, n249)\nn249.output({number}, 0)\n")?;
+    text.push_str(&lines)
+}
+
+// How many names, connections and outputs there are.
+fn counts(alloc: Global, text: &str) -> Option<[usize; 3]> {
+    let rules = read_rules(alloc, text.as_bytes()).ok()?;
+    Some([rules.names.len(), rules.connects.len(), rules.outputs.len()])
 }
 
 // 250 names and 100,000 further lines, half of which may stand once alone.
 #[test]
 fn many_lines(rt: HostRuntime) -> Result<(), Fail> {
-    let mut text = many_names(rt.alloc(), 250)?;
-    for k in 0..50000u32 {
-        text.push_str("connect(n0, n249)\n")?;
-        text.push_str(&format!(in rt.alloc(); "n249.output({k}, 0)\n")?)?;
+    let alloc = rt.alloc();
+    let mut text = many_names(alloc, 250)?;
+    for number in 0..50000u32 {
+        push_links(alloc, &mut text, number)?;
     }
-    let Ok(rules) = read_rules(rt.alloc(), text.as_bytes()) else {
-        assert!(rt; false, "refused");
-        return Ok(());
-    };
-    assert_eq!(rt;
-        (rules.names.len(), rules.connects.len(), rules.outputs.len()),
-        (250, 50000, 50000)
-    );
+    assert!(rt; counts(alloc, &text) == Some([250, 50000, 50000]));
     Ok(())
 }

@@ -1,12 +1,13 @@
 //! Worked rule files, with their whole rule sets.
 
-use crate::shown::answer;
+use crate::shown::all_answer;
 use std::test::Fail;
 
-// One transistor over an active layer, with text labels.
-#[test]
-fn transistor_rules(rt: HostRuntime) -> Result<(), Fail> {
-    let text = "active = input(2, 0)
+/// Files, and their whole rule sets.
+static FILES: [(&str, &str); 3] = [
+    // One transistor over an active layer, with text labels.
+    (
+        "active = input(2, 0)
 poly = input(3, 0)
 txt = labels(5, 1)
 bulk = polygon_layer
@@ -16,8 +17,8 @@ extract_devices(mos4(\"NMOS\"), { \"SD\" => sd, \"G\" => gate, \"W\" => bulk, \"
 connect(sd, txt)
 connect(poly, txt)
 connect_global(bulk, \"VSS\")
-";
-    let rules = "active input 2/0
+",
+        "active input 2/0
 poly input 3/0
 txt labels 5/1
 bulk empty
@@ -28,15 +29,11 @@ connect 1 2
 global 3 VSS
 NMOS sd 5 g 4 w 3 ts 5 tg 1 tb 3
 guesses 1000
-";
-    assert_eq!(rt; answer(rt.alloc(), text.as_bytes())?.as_str(), rules);
-    Ok(())
-}
-
-// Two classes of transistors in wells, with ties, two wells' nets and written layers.
-#[test]
-fn two_class_rules(rt: HostRuntime) -> Result<(), Fail> {
-    let text = "nwell = input(1, 0)
+",
+    ),
+    // Two classes of transistors in wells, with ties, two wells' nets and written layers.
+    (
+        "nwell = input(1, 0)
 active = input(2, 0)
 poly = input(3, 0)
 contact = input(4, 0)
@@ -66,8 +63,8 @@ connect_global(bulk, \"VSS\")
 connect_global(ptie, \"VSS\")
 psd.output(10, 0)
 nsd.output(11, 0)
-";
-    let rules = "nwell input 1/0
+",
+        "nwell input 1/0
 active input 2/0
 poly input 3/0
 contact input 4/0
@@ -98,15 +95,11 @@ global 14 VSS
 PMOS sd 12 g 10 w 0 ts 12 tg 2 tb 0
 NMOS sd 13 g 11 w 7 ts 13 tg 2 tb 7
 guesses 1000
-";
-    assert_eq!(rt; answer(rt.alloc(), text.as_bytes())?.as_str(), rules);
-    Ok(())
-}
-
-// Every statement, entry keys in another order and with both quotes; the last max_guesses counts.
-#[test]
-fn every_statement(rt: HostRuntime) -> Result<(), Fail> {
-    let text = "deep
+",
+    ),
+    // Every statement, entry keys in another order and with both quotes; the last max_guesses counts.
+    (
+        "deep
 _a1 = input(0, 65535)
 b = input(0000001, 2)
 c = _a1 | b
@@ -135,8 +128,8 @@ align
 compare
 max_guesses(1000000)
 d.output(0, 1)
-";
-    let rules = "_a1 input 0/65535
+",
+        "_a1 input 0/65535
 b input 1/2
 c 0|1
 d 2^1
@@ -158,45 +151,50 @@ flattens unmatched
 tells pins
 combine
 guesses 1000000
-";
-    assert_eq!(rt; answer(rt.alloc(), text.as_bytes())?.as_str(), rules);
+",
+    ),
+];
+
+#[test]
+fn whole_files(rt: HostRuntime) -> Result<(), Fail> {
+    all_answer(&rt, rt.alloc(), "", &FILES)?;
     Ok(())
 }
+
+const NONE: &str = "guesses 1000\n";
+
+const ONE: &str = "a input 1/0\nguesses 1000\n";
+
+const TWO: &str = "a input 1/0\nb input 2/0\nguesses 1000\n";
+
+/// Files, and their rules or their faults.
+static ENDS: [(&str, &str); 18] = [
+    ("", NONE),
+    ("\n", NONE),
+    ("\r\n", NONE),
+    ("# only\n\t # comments\n", NONE),
+    ("# no end", NONE),
+    ("# a CR \r inside a comment\n", NONE),
+    ("a = input(1, 0)", ONE),
+    ("a=input(1,0)\n", ONE),
+    ("\ta\t=\tinput\t(\t1\t,\t0\t)\t\n", ONE),
+    ("a = input(1, 0) # a comment \"\n", ONE),
+    ("a = input(1, 0)#", ONE),
+    ("a = input(1, 0)\r\nb = input(2, 0)\r\n", TWO),
+    (
+        "\n\r\na = input(1, 0)\n\n# b = input(3, 0)\nb = input(2, 0)",
+        TWO,
+    ),
+    ("a = input(1, 0)\r", "31 1"),
+    ("a = input(1, 0)\rb = input(2, 0)\n", "31 1"),
+    ("a = input(1, 0)\r\r\n", "31 1"),
+    ("\r", "31 1"),
+    ("a = input(1, 0)\n\na = input(1, 0)", "33 3"),
+];
 
 // How lines end and what separates tokens.
 #[test]
 fn line_ends(rt: HostRuntime) -> Result<(), Fail> {
-    let none = "guesses 1000\n";
-    let one = "a input 1/0\nguesses 1000\n";
-    let two = "a input 1/0\nb input 2/0\nguesses 1000\n";
-    for (text, rules) in [
-        ("", none),
-        ("\n", none),
-        ("\r\n", none),
-        ("# only\n\t # comments\n", none),
-        ("# no end", none),
-        ("# a CR \r inside a comment\n", none),
-        ("a = input(1, 0)", one),
-        ("a=input(1,0)\n", one),
-        ("\ta\t=\tinput\t(\t1\t,\t0\t)\t\n", one),
-        ("a = input(1, 0) # a comment \"\n", one),
-        ("a = input(1, 0)#", one),
-        ("a = input(1, 0)\r\nb = input(2, 0)\r\n", two),
-        (
-            "\n\r\na = input(1, 0)\n\n# b = input(3, 0)\nb = input(2, 0)",
-            two,
-        ),
-        ("a = input(1, 0)\r", "31 1"),
-        ("a = input(1, 0)\rb = input(2, 0)\n", "31 1"),
-        ("a = input(1, 0)\r\r\n", "31 1"),
-        ("\r", "31 1"),
-        ("a = input(1, 0)\n\na = input(1, 0)", "33 3"),
-    ] {
-        assert_eq!(rt;
-            answer(rt.alloc(), text.as_bytes())?.as_str(),
-            rules,
-            "at {text:?}"
-        );
-    }
+    all_answer(&rt, rt.alloc(), "", &ENDS)?;
     Ok(())
 }

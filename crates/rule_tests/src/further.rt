@@ -1,8 +1,7 @@
 //! Rules of resistors and diodes behind that of a transistor: the devices that they give, and their
 //! faults.
 
-use crate::faults::joined;
-use crate::shown::answer;
+use crate::shown::all_answer;
 use std::test::Fail;
 
 const BEFORE: &str = "a = input(1, 0)
@@ -23,7 +22,7 @@ global 2 G
 N sd 0 g 1 w 2 ts 0 tg 1 tb 2
 ";
 
-const RULES: [(&str, &str); 8] = [
+static RULES: [(&str, &str); 8] = [
     (
         "extract_devices(resistor_with_bulk('R'), { 'R' => a, 'C' => b, 'W' => w })",
         "R r 0 c 1 w 2 ta 1 tw 2\n",
@@ -62,7 +61,7 @@ const RULES: [(&str, &str); 8] = [
 ];
 
 // The lines behind extract_devices.
-const FAULTS: [(&str, &str); 33] = [
+static FAULTS: [(&str, &str); 33] = [
     ("(resistor('R', 50), { 'R' => a, 'C' => b })", "31 8"),
     (
         "(resistor_with_bulk(R), { 'R' => a, 'C' => b, 'W' => w })",
@@ -161,7 +160,7 @@ const FAULTS: [(&str, &str); 33] = [
 ];
 
 // Names that the statements take, and terminals' layers that don't conduct in the end.
-const LINES: [(&str, &str); 9] = [
+static LINES: [(&str, &str); 9] = [
     ("diode = a & b", "31 8"),
     ("resistor_with_bulk = a & b", "31 8"),
     ("resistor_with_bulk('R')", "31 8"),
@@ -192,34 +191,19 @@ const LINES: [(&str, &str); 9] = [
 
 #[test]
 fn further_rules(rt: HostRuntime) -> Result<(), Fail> {
-    for (line, shown) in RULES {
-        let text = joined(rt.alloc(), BEFORE, line)?;
-        let want = joined(rt.alloc(), SHOWN, shown)?;
-        let want = joined(rt.alloc(), &want, "guesses 1000\n")?;
-        assert_eq!(rt;
-            answer(rt.alloc(), text.as_bytes())?.as_str(),
-            want.as_str(),
-            "at {line:?}"
-        );
+    let alloc = rt.alloc();
+    for (line, shown) in &RULES {
+        let want = format!(in alloc; "{SHOWN}{shown}guesses 1000\n")?;
+        all_answer(&rt, alloc, BEFORE, &[(line, want.as_str())])?;
     }
     Ok(())
 }
 
 #[test]
 fn further_faults(rt: HostRuntime) -> Result<(), Fail> {
-    let before = joined(rt.alloc(), BEFORE, "extract_devices")?;
-    for (before, lines) in [
-        (before.as_str(), FAULTS.as_slice()),
-        (BEFORE, LINES.as_slice()),
-    ] {
-        for (line, fault) in lines {
-            let text = joined(rt.alloc(), before, line)?;
-            assert_eq!(rt;
-                answer(rt.alloc(), text.as_bytes())?.as_str(),
-                *fault,
-                "at {line:?}"
-            );
-        }
-    }
+    let alloc = rt.alloc();
+    let before = format!(in alloc; "{BEFORE}extract_devices")?;
+    all_answer(&rt, alloc, &before, &FAULTS)?;
+    all_answer(&rt, alloc, BEFORE, &LINES)?;
     Ok(())
 }

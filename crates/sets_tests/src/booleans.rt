@@ -6,35 +6,48 @@ use geo_base::{Op, Rect, Square};
 use std::alloc::{AllocError, Global};
 use std::test::Fail;
 
-fn rect(x1: i64, y1: i64, x2: i64, y2: i64) -> Rect {
-    Rect { x1, y1, x2, y2 }
+macro_rules! rect {
+    ($x1:expr, $y1:expr, $x2:expr, $y2:expr) => {
+        Rect {
+            x1: $x1,
+            y1: $y1,
+            x2: $x2,
+            y2: $y2,
+        }
+    };
 }
+
+/// An operator, and what it makes of two squares that overlap.
+static OVERLAPS: [(Op, &[Rect]); 4] = [
+    (Op::And, &[rect!(5, 5, 10, 10)]),
+    (
+        Op::Or,
+        &[
+            rect!(0, 0, 10, 5),
+            rect!(0, 5, 15, 10),
+            rect!(5, 10, 15, 15),
+        ],
+    ),
+    (Op::Not, &[rect!(0, 0, 10, 5), rect!(0, 5, 5, 10)]),
+    (
+        Op::Xor,
+        &[
+            rect!(0, 0, 10, 5),
+            rect!(0, 5, 5, 10),
+            rect!(10, 5, 15, 10),
+            rect!(5, 10, 15, 15),
+        ],
+    ),
+];
 
 #[test]
 fn two_squares_that_overlap(rt: HostRuntime) -> Result<(), Fail> {
     let alloc = rt.alloc();
-    let a = set_of(alloc, &[rect(0, 0, 10, 10)])?;
-    let b = set_of(alloc, &[rect(5, 5, 15, 15)])?;
-    for (op, want) in [
-        (Op::And, [rect(5, 5, 10, 10)].as_slice()),
-        (
-            Op::Or,
-            [rect(0, 0, 10, 5), rect(0, 5, 15, 10), rect(5, 10, 15, 15)].as_slice(),
-        ),
-        (Op::Not, [rect(0, 0, 10, 5), rect(0, 5, 5, 10)].as_slice()),
-        (
-            Op::Xor,
-            [
-                rect(0, 0, 10, 5),
-                rect(0, 5, 5, 10),
-                rect(10, 5, 15, 10),
-                rect(5, 10, 15, 15),
-            ]
-            .as_slice(),
-        ),
-    ] {
-        let set = combine(alloc, &a, &b, op)?;
-        assert_eq!(rt; set.rects(), want, "{op:?}");
+    let a = set_of(alloc, &[rect!(0, 0, 10, 10)])?;
+    let b = set_of(alloc, &[rect!(5, 5, 15, 15)])?;
+    for (op, want) in &OVERLAPS {
+        let set = combine(alloc, &a, &b, *op)?;
+        assert_eq!(rt; set.rects(), *want, "{op:?}");
     }
     Ok(())
 }
@@ -45,9 +58,9 @@ fn bars(alloc: Global, count: u8, length: i64, upright: bool) -> Result<Vec<Rect
     for i in 0..count {
         let at = i64::from(i) * 2;
         let bar = if upright {
-            rect(at, 0, at + 1, length)
+            rect!(at, 0, at + 1, length)
         } else {
-            rect(0, at, length, at + 1)
+            rect!(0, at, length, at + 1)
         };
         out.push(bar)?;
     }
@@ -58,9 +71,9 @@ fn bars(alloc: Global, count: u8, length: i64, upright: bool) -> Result<Vec<Rect
 fn comb_over_comb(rt: HostRuntime) -> Result<(), Fail> {
     let alloc = rt.alloc();
     let mut teeth_up = bars(alloc, 100, 200, true)?;
-    teeth_up.push(rect(0, -1, 200, 0))?;
+    teeth_up.push(rect!(0, -1, 200, 0))?;
     let mut teeth_right = bars(alloc, 100, 200, false)?;
-    teeth_right.push(rect(-1, 0, 0, 200))?;
+    teeth_right.push(rect!(-1, 0, 0, 200))?;
     let a = set_of(alloc, &teeth_up)?;
     let b = set_of(alloc, &teeth_right)?;
     let both = combine(alloc, &a, &b, Op::And)?;
@@ -69,7 +82,7 @@ fn comb_over_comb(rt: HostRuntime) -> Result<(), Fail> {
         for i in 0..100u8 {
             let x = i64::from(i) * 2;
             let y = i64::from(j) * 2;
-            want.push(rect(x, y, x + 1, y + 1))?;
+            want.push(rect!(x, y, x + 1, y + 1))?;
         }
     }
     assert_eq!(rt; both.rects(), want.as_slice());
@@ -86,7 +99,7 @@ fn checkerboard(rt: HostRuntime) -> Result<(), Fail> {
     for y in 0..64u8 {
         for x in 0..64u8 {
             if x % 2 != y % 2 {
-                want.push(rect(
+                want.push(rect!(
                     i64::from(x),
                     i64::from(y),
                     i64::from(x) + 1,
@@ -96,8 +109,8 @@ fn checkerboard(rt: HostRuntime) -> Result<(), Fail> {
         }
     }
     assert_eq!(rt; one.rects(), want.as_slice());
-    let whole = combine(alloc, &one, &set_of(alloc, &[rect(0, 0, 64, 64)])?, Op::Or)?;
-    assert_eq!(rt; whole.rects(), [rect(0, 0, 64, 64)].as_slice());
+    let whole = combine(alloc, &one, &set_of(alloc, &[rect!(0, 0, 64, 64)])?, Op::Or)?;
+    assert_eq!(rt; whole.rects(), [rect!(0, 0, 64, 64)].as_slice());
     Ok(())
 }
 
@@ -117,7 +130,7 @@ fn random_rects(alloc: Global, count: u32, seed: u64) -> Result<Vec<Rect>, Alloc
         let y1 = i64::from(((state >> 48) % 64) as u8);
         let width = i64::from(((state >> 32) % 8) as u8);
         let height = i64::from(((state >> 56) % 8) as u8);
-        out.push(rect(x1, y1, x1 + width, y1 + height))?;
+        out.push(rect!(x1, y1, x1 + width, y1 + height))?;
     }
     Ok(out)
 }
@@ -152,22 +165,14 @@ fn random_sets_square_by_square(rt: HostRuntime) -> Result<(), Fail> {
                 };
                 let p = is_in(&first, s);
                 let q = is_in(&second, s);
-                assert_eq!(rt;
+                let found = [
                     both.contains(s),
-                    p && q,
-                    "and at {s:?}, {count} rectangles"
-                );
-                assert_eq!(rt;
                     either.contains(s),
-                    p || q,
-                    "or at {s:?}, {count} rectangles"
-                );
-                assert_eq!(rt;
                     rest.contains(s),
-                    p && !q,
-                    "not at {s:?}, {count} rectangles"
-                );
-                assert_eq!(rt; one.contains(s), p != q, "xor at {s:?}, {count} rectangles");
+                    one.contains(s),
+                ];
+                let wanted = [p && q, p || q, p && !q, p != q];
+                assert_eq!(rt; found, wanted, "{s:?}, {count} rectangles");
             }
         }
     }
@@ -182,7 +187,7 @@ fn one_sweep_of_many(rt: HostRuntime) -> Result<(), Fail> {
     let mut stack = Vec::new(alloc);
     for k in 0..40_000u16 {
         let y = i64::from(k) * 2;
-        stack.push(rect(0, y, 10, y + 1))?;
+        stack.push(rect!(0, y, 10, y + 1))?;
     }
     let set = set_of(alloc, &stack)?;
     assert!(rt; set.rects() == stack.as_slice());

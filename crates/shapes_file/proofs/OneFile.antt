@@ -25,7 +25,7 @@ use Rattle.gds_shapes.specs.Stream.{Heading, Drawn, library_bytes}
 use Rattle.gds_layout.specs.declared.layout.Header.{Header}
 use Rattle.gds_layout.specs.declared.layout.Layout.{Layout}
 use Rattle.gds_layout.specs.Once.{IsSameHeader, IsSameLayout, OneLayoutLaw, contents}
-use Rattle.layout_shapes.specs.Wide.{is_wide, is_wide_line}
+use Rattle.layout_shapes.specs.Wide.{IsFarOut, IsWideCell, has_wide_line, is_wide_line, output_reach}
 use Rattle.layout_shapes.specs.Written.{heading_of, name_of, ref_of, squares_of, line_of, drawn, AreReached}
 use Rattle.shapes_file.specs.File.{IsNarrow, IsShapesFile, IsWide, count_in}
 use Rattle.shapes_file.specs.One.{IsSameCell, IsSameFile, NoFileLaw, OneFileLaw, OneWideLaw}
@@ -245,33 +245,39 @@ any_same : {A : Type 0} (f g : A → Bool) (xs : List A) → ((x : A) → f x �
 any_same f g [] h = refl
 any_same f g (x ∷ xs) h = ap (λ (b : Bool). b || list_any f xs) (h x) ∙ ap (λ (b : Bool). g x || b) (any_same f g xs h)
 
-both_ways : (b : Bool) → b ≡ true → b ≡ false → ⊥
-both_ways b e f = let g : true ≡ false = sym e ∙ f in cc
-
 apart : (a b : ℕ) → (a < b → ⊥) → (b < a → ⊥) → a ≡ b
 apart a b f g = elim (cases_lt a b) [ inl lt ↦ absurd (f lt) | inr le ↦ elim (cases_lt b a) [ inl lt ↦ absurd (g lt) | inr more ↦ omega (arith, le, more) ] ]
 
 module _ (lists : OneListLaw) (l m : Layout) (r : Rules) (s : IsSameLayout l m) where
-  same_wide : (table other : List (Option CellLayers)) → AreLayers (plain l.design) r table → AreLayers (plain m.design) r other → (cell : ℕ) → flat.IsReached (plain l.design) cell → is_wide table r cell ≡ is_wide other r cell
-  same_wide table other a b cell reached =
-      let same = same_plain l.design m.design s.cells s.top in
-      let layers : AreLayers (plain l.design) r other = subst (λ (f : flat.Design). AreLayers f r other) (sym same) b in
+  -- what is wide by one table of the layers is so by another
+  one_lines : (table other : List (Option CellLayers)) → AreLayers (plain l.design) r table → AreLayers (plain l.design) r other → (cell : ℕ) → flat.IsReached (plain l.design) cell → has_wide_line table r cell ≡ has_wide_line other r cell
+  one_lines table other a b cell reached =
       any_same (λ (o : Output). is_wide_line (line_of table cell o).1) (λ (o : Output). is_wide_line (line_of other cell o).1) r.outputs
-      (λ o. ap (λ (x : LayerKey × List Rect). is_wide_line x.1) (one_line lists (plain l.design) r table other a layers cell reached o))
+      (λ o. ap (λ (x : LayerKey × List Rect). is_wide_line x.1) (one_line lists (plain l.design) r table other a b cell reached o))
+
+  one_plain : plain l.design ≡ plain m.design
+  one_plain = same_plain l.design m.design s.cells s.top
+
+  wide_too : (table other : List (Option CellLayers)) → AreLayers (plain l.design) r table → AreLayers (plain m.design) r other → (cell : ℕ) → flat.IsReached (plain l.design) cell → IsWideCell (plain l.design) r table cell → IsWideCell (plain m.design) r other cell
+  wide_too table other a b cell reached (inl e) = inl (sym (one_lines table other a (subst (λ (f : flat.Design). AreLayers f r other) (sym one_plain) b) cell reached) ∙ e)
+  wide_too table other a b cell reached (inr f) = inr (subst (λ (d : flat.Design). IsFarOut d (output_reach r) cell) one_plain f)
+
+  wide_back : (table other : List (Option CellLayers)) → AreLayers (plain l.design) r table → AreLayers (plain m.design) r other → (cell : ℕ) → flat.IsReached (plain l.design) cell → IsWideCell (plain m.design) r other cell → IsWideCell (plain l.design) r table cell
+  wide_back table other a b cell reached (inl e) = inl (one_lines table other a (subst (λ (f : flat.Design). AreLayers f r other) (sym one_plain) b) cell reached ∙ e)
+  wide_back table other a b cell reached (inr f) = inr (subst (λ (d : flat.Design). IsFarOut d (output_reach r) cell) (sym one_plain) f)
 
   there_too : (cell : ℕ) → flat.IsReached (plain l.design) cell → flat.IsReached (plain m.design) cell
-  there_too cell h = subst (λ (f : flat.Design). flat.IsReached f cell) (same_plain l.design m.design s.cells s.top) h
+  there_too cell h = subst (λ (f : flat.Design). flat.IsReached f cell) one_plain h
 
   here_too : (cell : ℕ) → flat.IsReached (plain m.design) cell → flat.IsReached (plain l.design) cell
-  here_too cell h = subst (λ (f : flat.Design). flat.IsReached f cell) (sym (same_plain l.design m.design s.cells s.top)) h
+  here_too cell h = subst (λ (f : flat.Design). flat.IsReached f cell) (sym one_plain) h
 
   one_number : (cell other : ℕ) → IsWide l r cell → IsWide m r other → cell ≡ other
   one_number cell other a b =
-      let same = same_wide a.table b.table a.layers b.layers in
       let there = here_too other b.first.0 in
       apart cell other
-      (λ lt. both_ways (is_wide a.table r cell) a.first.1 (same cell a.first.0 ∙ b.first.2 cell lt (there_too cell a.first.0)))
-      (λ lt. both_ways (is_wide b.table r other) b.first.1 (sym (same other there) ∙ a.first.2 other lt there))
+      (λ lt. b.first.2 cell lt (there_too cell a.first.0) (wide_too a.table b.table a.layers b.layers cell a.first.0 a.first.1))
+      (λ lt. a.first.2 other lt there (wide_back a.table b.table a.layers b.layers other there b.first.1))
 
   one_cell : (cell other : ℕ) → IsWide l r cell → IsWide m r other → IsSameCell l m cell other
   one_cell cell other a b =
@@ -281,7 +287,7 @@ module _ (lists : OneListLaw) (l m : Layout) (r : Rules) (s : IsSameLayout l m) 
   no_cell : (cell : ℕ) → IsNarrow l r → IsWide m r cell → ⊥
   no_cell cell a b =
       let there = here_too cell b.first.0 in
-      both_ways (is_wide b.table r cell) b.first.1 (sym (same_wide a.table b.table a.layers b.layers cell there) ∙ a.narrow cell there)
+      a.narrow cell there (wide_back a.table b.table a.layers b.layers cell there b.first.1)
 
 pub one_wide : OneLayoutLaw → OneListLaw → OneWideLaw
 one_wide layouts lists bytes top l m r cell other x y a b = one_cell lists l m r (layouts bytes top l m x y) cell other a b

@@ -1,6 +1,6 @@
 //! A layout's shapes file, and what a summary line counts in it.
 
-ghost use Rattle.std.specs.Prelude.{◌≤◌, ℕ, List, Option, None, IfOk};
+ghost use Rattle.std.specs.Prelude.{ℕ, List, Option, None, IfOk};
 ghost use Rattle.cell_graph.specs.Linked.{plain};
 ghost use Rattle.deep_tables.specs.Layers.{AreLayers};
 ghost use Rattle.gds_layout.specs.Layouts.{IsRead};
@@ -15,7 +15,7 @@ use crate::laws::writable;
 use deep_flow::derive_layers;
 use deep_tables::{Layers, layer_table};
 use gds_layout::Layout;
-use job_board::Gate;
+use job_board::{Crew, Gate};
 use layout_shapes::{shapes_text, wide_cell};
 use rule_text::RuleSet;
 use std::alloc::{AllocError, Global};
@@ -32,7 +32,8 @@ pub struct Shapes {
 }
 
 /// A layout's shapes file, or the first cell in the order of the file for which there is none: it
-/// holds a rectangle of an output line itself with a coordinate outside 32 bits.
+/// holds a rectangle of an output line itself with a coordinate outside 32 bits, or its hull, grown
+/// as far as output lines' names reach, leaves the range of hulls.
 #[derive(Drop)]
 pub enum Drawing {
     Whole(Shapes),
@@ -45,19 +46,16 @@ pub enum Drawing {
 /// number of workers, of which there are 1 to 64. An `Err` is want of memory. Cost: the layers of
 /// each cell, and the bytes written.
 pub fn shapes_file<R: Threads + Wait + Sync, G: Gate + Sync>(
-    rt: &R,
     alloc: Global,
     layout: &Layout,
     rules: &RuleSet,
-    workers: usize,
-    gate: &G,
+    crew: &Crew<R, G>,
 ) -> Result<Drawing, AllocError>
-    requires workers { (1 ≤ workers) × (workers ≤ 64) }
     requires read { (bytes : List ℕ) × (top : Option (List ℕ)) × IsRead bytes top layout.now }
     requires rules { IsSound (rules_seen rules.now) }
     ensures { IfOk result (IsDrawing layout.now (rules_seen rules.now)) }
 {
-    let layers = derive_layers(rt, alloc, &layout.design, rules, workers, gate)?;
+    let layers = derive_layers(alloc, &layout.design, rules, crew)?;
     shapes_of_layers(alloc, layout, rules, &layers)
 }
 
@@ -75,7 +73,7 @@ pub fn shapes_of_layers(
     ensures { IfOk result (IsDrawing layout.now (rules_seen rules.now)) }
 {
     writable();
-    match wide_cell(layout, rules, layers) {
+    match wide_cell(alloc, layout, rules, layers)? {
         Some(cell) => Ok(Drawing::Wide(cell)),
         None => Ok(Drawing::Whole(write_file(alloc, layout, rules, layers)?)),
     }

@@ -23,7 +23,7 @@ fn number(fault: &SpiceFault) -> (u16, u64) {
 }
 
 // Texts, and the first fault of each.
-const TEXTS: [(&str, (u16, u64)); 78] = [
+static TEXTS: [(&str, (u16, u64)); 78] = [
     ("\nfoo\n", (50, 2)),
     ("\nq1 a\n", (50, 2)),
     ("r1 a b 1k\n", (51, 1)),
@@ -126,10 +126,10 @@ const TEXTS: [(&str, (u16, u64)); 78] = [
 
 #[test]
 fn first_faults(rt: HostRuntime) -> Result<(), Fail> {
-    for (text, want) in TEXTS {
+    for (text, want) in &TEXTS {
         match read_spice(rt.alloc(), text.as_bytes()) {
             Ok(_) => return Err(Fail::from("no fault")),
-            Err(e) => assert_eq!(rt; number(&e), want, "of {text}"),
+            Err(e) => assert_eq!(rt; number(&e), *want, "of {text}"),
         }
     }
     Ok(())

@@ -4,7 +4,7 @@ use spice_text::{fits_cards, read_spice, write_spice};
 use std::test::Fail;
 
 // Texts, and the text of what is read from each.
-const TEXTS: [(&str, &str); 24] = [
+static TEXTS: [(&str, &str); 24] = [
     // No card.
     ("", "* lvs netlist\n.END\n"),
     // The first line isn't a title; comments and blank lines stand between a card and its
@@ -153,7 +153,7 @@ const TEXTS: [(&str, &str); 24] = [
 
 #[test]
 fn read_and_written(rt: HostRuntime) -> Result<(), Fail> {
-    for (text, want) in TEXTS {
+    for (text, want) in &TEXTS {
         let read = read_spice(rt.alloc(), text.as_bytes()).map_err(|e| Fail::from("read"))?;
         if !fits_cards(&read) {
             return Err(Fail::from("cards"));

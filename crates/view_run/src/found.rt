@@ -1,6 +1,6 @@
 //! What is found of a layout.
 
-ghost use Rattle.std.specs.Prelude.{◌≡◌, ◌≤◌, IfOk};
+ghost use Rattle.std.specs.Prelude.{◌≡◌, IfOk};
 ghost use Rattle.rule_text.specs.Seen.{rules_seen};
 ghost use Rattle.rule_text.specs.Sound.{IsSound};
 ghost use Rattle.view_run.specs.Found.{HasFound};
@@ -9,7 +9,7 @@ use circuit_phase::circuit_cells;
 use deep_flow::{Gated, derive_gates, draw, find_circuits, find_pins};
 use deep_tables::{BadGate, Circuits, Pins};
 use gds_layout::Layout;
-use job_board::Gate;
+use job_board::{Crew, Gate};
 use net_model::Netlist;
 use rule_text::RuleSet;
 use std::alloc::{AllocError, Global};
@@ -39,29 +39,22 @@ pub struct Found {
 /// worked once, but its circuit twice. An `Err` is want of memory, or 2^32 circuits or nets of a
 /// cell.
 pub fn find_all<R: Threads + Wait + Sync, G: Gate + Sync>(
-    rt: &R,
     alloc: Global,
     layout: &Layout,
     rules: &RuleSet,
-    workers: usize,
-    gate: &G,
+    crew: &Crew<R, G>,
 ) -> Result<Found, AllocError>
-    requires workers { (1 ≤ workers) × (workers ≤ 64) }
     requires rules { IsSound (rules_seen rules.now) }
     ensures { IfOk result (HasFound layout.now (rules_seen rules.now)) }
 {
     layout.design.sound();
     let design = &layout.design;
     let unit_pm = layout.header.unit_pm;
-    let gated = derive_gates(rt, alloc, design, rules, workers, gate)?;
+    let gated = derive_gates(alloc, design, rules, crew)?;
     let (layers, nets, gates) = (&gated.layers, &gated.nets, &gated.gates);
-    let pins = find_pins(rt, alloc, design, rules, layers, nets, gates, workers, gate)?;
-    let drawn = draw(
-        rt, alloc, design, rules, &gated, &pins, unit_pm, workers, gate,
-    )?;
-    let circuits = find_circuits(
-        rt, alloc, design, rules, nets, &pins, gates, unit_pm, workers, gate,
-    )?;
+    let pins = find_pins(alloc, design, rules, layers, nets, gates, crew)?;
+    let drawn = draw(alloc, design, rules, &gated, &pins, unit_pm, crew)?;
+    let circuits = find_circuits(alloc, design, rules, nets, &pins, gates, unit_pm, crew)?;
     let cells = circuit_cells(alloc, design, gates)?;
     Ok(Found {
         netlist: drawn.netlist,

@@ -1,6 +1,6 @@
 //! What a run has to write.
 
-ghost use Rattle.std.specs.Prelude.{◌≡◌, ◌≤◌, IfErr, IfOk, length};
+ghost use Rattle.std.specs.Prelude.{◌≡◌, IfErr, IfOk, length};
 ghost use Rattle.std.specs.Option.{option_map};
 ghost use Rattle.net_align.specs.Compared.{IsAlignable};
 ghost use Rattle.net_model.specs.Rows.{plain_netlist};
@@ -22,7 +22,7 @@ use crate::summary::view_line;
 use crate::writing::{propose, shown_circuits, write_database, write_page};
 use deep_tables::BadGate;
 use gds_layout::Layout;
-use job_board::Gate;
+use job_board::{Crew, Gate};
 use match_report::Compared;
 use net_model::Netlist;
 use pair_jobs::{Verdict, judge_run};
@@ -65,17 +65,14 @@ fn judge(bad: &[BadGate], compared: &Option<Compared>) -> Result<Verdict, AllocE
 
 // What there is to write, by what was found of the layout.
 fn view_found<R: Threads + Wait + Sync, G: Gate + Sync>(
-    rt: &R,
     alloc: Global,
     layout: &Layout,
     rules: &RuleSet,
     found: Found,
     schematic: Netlist,
-    workers: usize,
     paged: bool,
-    gate: &G,
+    crew: &Crew<R, G>,
 ) -> Result<View, Stop>
-    requires workers { (1 ≤ workers) × (workers ≤ 64) }
     requires rules { IsSound (rules_seen rules.now) }
     requires found { HasFound layout.now (rules_seen rules.now) found }
     requires schematic { IsAlignable (plain_netlist schematic) }
@@ -103,7 +100,7 @@ fn view_found<R: Threads + Wait + Sync, G: Gate + Sync>(
         Ok(drawn) => drawn,
         Err(fault) => return Err(view_stop(fault)),
     };
-    let turns = compare_in_turns(rt, alloc, rules, one, top, other, workers, gate)?;
+    let turns = compare_in_turns(alloc, rules, one, top, other, crew)?;
     let compared = &turns.compared;
     let verdict = judge(&bad, compared)?;
     let shown = shown_circuits(&both, compared);
@@ -128,16 +125,13 @@ fn view_found<R: Threads + Wait + Sync, G: Gate + Sync>(
 
 /// What there is to write of a layout, rules and a schematic; the page only if it is asked for.
 pub fn make_view<R: Threads + Wait + Sync, G: Gate + Sync>(
-    rt: &R,
     alloc: Global,
     layout: &Layout,
     rules: &RuleSet,
     schematic: Netlist,
-    workers: usize,
     paged: bool,
-    gate: &G,
+    crew: &Crew<R, G>,
 ) -> Result<View, Stop>
-    requires workers { (1 ≤ workers) × (workers ≤ 64) }
     requires rules { IsSound (rules_seen rules.now) }
     requires schematic { IsAlignable (plain_netlist schematic) }
     ensures made { IfOk result (λ o. IsView layout.now (rules_seen rules.now)
@@ -146,8 +140,6 @@ pub fn make_view<R: Threads + Wait + Sync, G: Gate + Sync>(
     ensures refused { IfErr result (λ why. NotMade layout.now (rules_seen rules.now)
         (plain_netlist schematic) (stopped why)) }
 {
-    let found = find_all(rt, alloc, layout, rules, workers, gate)?;
-    view_found(
-        rt, alloc, layout, rules, found, schematic, workers, paged, gate,
-    )
+    let found = find_all(alloc, layout, rules, crew)?;
+    view_found(alloc, layout, rules, found, schematic, paged, crew)
 }

@@ -17,7 +17,7 @@ ghost use Rattle.view_run.specs.Runs.{page_files};
 use crate::making::{View, make_view};
 use crate::status::{Status, Stop, Why};
 use crate::stops::run_stop;
-use job_board::Gate;
+use job_board::{Crew, Gate};
 use lvs_files::{Written, write_files};
 use lvs_outside::{Depot, Sink, write_all};
 use lvs_run::{Refusal, layout_of, refusal_line, rules_of, schematic_of};
@@ -113,8 +113,9 @@ fn prepare<R: Threads + Wait + Sync, D: Depot, G: Gate + Sync>(
         Ok(schematic) => schematic,
         Err(stop) => return Err(run_stop(stop)),
     };
-    let (workers, paged) = (task.workers, task.page.is_some());
-    let made = make_view(rt, alloc, &layout, &rules, schematic, workers, paged, gate)?;
+    let crew = Crew::new(rt, task.workers, gate);
+    let paged = task.page.is_some();
+    let made = make_view(alloc, &layout, &rules, schematic, paged, &crew)?;
     let output = output_of(alloc, task, made)?;
     Ok(output)
 }

@@ -18,7 +18,7 @@ use Rattle.geo_base.proofs.Spans.{moved_rect-has}
 use Rattle.flat_layout.specs.Layout.{InFlatInput, Some_of}
 use Rattle.flat_laws.proofs.Squares.{same_square}
 use Rattle.cell_graph.specs.declared.cells.Place.{Place}
-use Rattle.cell_graph.specs.Linked.{Linked, IsSound, cell_at, hull_of, motion_at, places_at, plain}
+use Rattle.cell_graph.specs.Linked.{Linked, IsSound, IsStep, cell_at, hull_of, motion_at, places_at, plain}
 use Rattle.cell_graph.proofs.Bridge.{hulls, reference_at}
 use Rattle.cell_context.specs.Arrays.{IsNearArray}
 use Rattle.cell_context.specs.declared.arrays.Visit.{Visit}
@@ -30,10 +30,13 @@ use Rattle.cell_context.proofs.Visiting.{some_last, some_more, wider}
 use Rattle.deep_tables.specs.Entries.{downward_cell}
 use Rattle.zone_phase.specs.declared.neighbours.Neighbour.{Neighbour}
 use Rattle.zone_phase.specs.declared.uses.Use.{Use}
-use Rattle.zone_phase.specs.Neighbours.{AreNeighbours, BringsMore, IsAllNear, IsAlone, IsNeighbour, IsOverBy, IsPutOnce, IsSeenAs, LieAlike, LiesSo, Listed, alone}
+use Rattle.zone_phase.specs.Neighbours.{AreAllNear, AreNeighbours, BringsMore, IsAllNear, IsAlone, IsNeighbour, IsOverBy, IsPutOnce, IsSeenAs, LieAlike, LiesSo, Listed, StandAlike, StandsAgain, alone}
 use Rattle.zone_phase.specs.Siblings.{IsBroughtTo}
 use Rattle.zone_phase.proofs.Around.{none_times}
 use Rattle.zone_phase.proofs.Putting.{push_cases}
+use Rattle.zone_phase.proofs.Using.{one_use}
+use Rattle.cell_context.proofs.Collecting.{one_place}
+use Rattle.std.proofs.Math.Decide.{ℕ_discrete}
 
 parts : (b c : Bool) → (b && c) ≡ true → (b ≡ true) × (c ≡ true)
 parts true c e = (refl, e)
@@ -185,3 +188,48 @@ all_near d parent index place g w list vs none sound some is brings visited key 
     let inside : has w (moved_square (motion_at place 0 0) q) ≡ true = subst (λ x. has x (moved_square (motion_at place 0 0) q) ≡ true) (sym is) (moved_rect-has (motion_at place 0 0) g q some ∙ inner) in
     let s = some_at (IsVisited t.from t.row t.column t.square) vs none (visited t.index t.row t.column t.from t.square t.step t.kept held (subst (λ x. has w x ≡ true) (sym t.image) inside)) in
     brings s.0 s.1 key q t.square (subst (λ c. InFlatInput (plain d) c key t.square) (sym s.2.cell) t.flat) (ap (λ (m : Motion). moved_square m t.square) s.2.motion ∙ t.image)
+
+same_index : (i j : ℕ) → Some i ≡ Some j → i ≡ j
+same_index i j e = cc
+
+-- what is over a placement is over another that stands there alike
+over_again : (d : Linked) (parent i j : ℕ) (p o : Place) (key : LayerKey) (q : Square) → slice_get (places_at (cell_at d parent)) i ≡ Some p → slice_get (places_at (cell_at d parent)) j ≡ Some o → IsAlone p → StandAlike o p
+    → IsThrough d parent (Some i) key (moved_square (motion_at p 0 0) q) → IsThrough d parent (Some j) key (moved_square (motion_at o 0 0) q)
+over_again d parent i j p o key q at at_too apart h t = elim (ℕ_discrete t.index j) [
+  | no not ↦ record { index = t.index; row = t.row; column = t.column; from = t.from; step = t.step; kept = λ e. not (sym (same_index j t.index e)); square = t.square; flat = t.flat; image = t.image ∙ here }
+  | yes e ↦
+      let from : t.from ≡ o = one_place (slice_get (places_at (cell_at d parent)) j) t.from o (subst (λ k. slice_get (places_at (cell_at d parent)) k ≡ Some t.from) e t.step.there) at_too in
+      let was : IsBroughtTo d t.from key (moved_square (motion_at p 0 0) q) = record { row = t.row; column = t.column; row_in = t.step.row_in; column_in = t.step.column_in; square = t.square; flat = t.flat; image = t.image } in
+      let r = only d o key (moved_square (motion_at p 0 0) q) h.apart (subst (λ (x : Place). IsBroughtTo d x key (moved_square (motion_at p 0 0) q)) from was) in
+      let step : IsStep d parent i 0 0 p = record { there = at; row_in = some_below p.rows apart.0; column_in = some_below p.columns apart.1 } in
+      record {
+        index = i;
+        row = 0;
+        column = 0;
+        from = p;
+        step = step;
+        kept = λ f. t.kept (sym f ∙ ap Some (sym e));
+        square = r.0;
+        flat = subst (λ c. InFlatInput (plain d) c key r.0) h.cell r.1;
+        image = first_moved p r.0 ∙ ap (λ (m : Motion). moved_square m r.0) (sym h.motion) ∙ r.2 ∙ here;
+      }
+]
+  where
+    here : moved_square (motion_at p 0 0) q ≡ moved_square (motion_at o 0 0) q
+    here = first_moved p q ∙ ap (λ (m : Motion). moved_square m q) (sym h.motion) ∙ sym (first_moved o q)
+
+-- so what is near it is near the other
+near_alike : (d : Linked) (g : Rect) (parent i j : ℕ) (p o : Place) (list : List Neighbour) → slice_get (places_at (cell_at d parent)) i ≡ Some p → slice_get (places_at (cell_at d parent)) j ≡ Some o → IsAlone p → StandAlike o p
+    → IsAllNear d g parent j o list → IsAllNear d g parent i p list
+near_alike d g parent i j p o list at at_too apart h near key q inner t = near key q inner (over_again d parent i j p o key q at at_too apart h t)
+
+-- and nothing has to be found for a placement that stands as an earlier one does
+pub near_again : (d : Linked) (g : Rect) (uses : List Use) (at : ℕ) (u : Use) (p : Place) (list : List Neighbour) → slice_get uses at ≡ Some u → slice_get (places_at (cell_at d (downward_cell d u.job))) u.index ≡ Some p → IsAlone p
+    → StandsAgain uses at (places_at (cell_at d (downward_cell d u.job))) p → AreAllNear d g uses at list → IsAllNear d g (downward_cell d u.job) u.index p list
+near_again d g uses at u p list there placed apart h near =
+    let same = one_use (slice_get uses at) h.this u h.this_there there in
+    let job : h.found.job ≡ u.job = h.job ∙ ap (λ (x : Use). x.job) same in
+    let other : slice_get (places_at (cell_at d (downward_cell d h.found.job))) h.found.index ≡ Some h.other = subst (λ k. slice_get (places_at (cell_at d (downward_cell d k))) h.found.index ≡ Some h.other) (sym job) h.placed in
+    let was : IsAllNear d g (downward_cell d h.found.job) h.found.index h.other list = near h.earlier h.found h.before h.there h.other other h.alike.apart in
+    let here : IsAllNear d g (downward_cell d u.job) h.found.index h.other list = subst (λ k. IsAllNear d g (downward_cell d k) h.found.index h.other list) job was in
+    near_alike d g (downward_cell d u.job) u.index h.found.index p h.other list placed h.placed apart h.alike here

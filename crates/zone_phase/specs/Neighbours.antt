@@ -131,3 +131,22 @@ BringsMore d old new = (key : LayerKey) (q : Square) → Some_of (IsOverBy d key
 abbrev pub AreNear : ℕ → Linked → ℕ → List Use → List Neighbour → Type 0
 AreNear n d cell uses list = (h : Rect) → hull_of (cell_at d cell) ≡ Some h
     → AreNeighbours d uses list × AreAllNear d (grown n h) uses (length uses) list
+
+-- references of one placement, which place the same cell alike
+pub record StandAlike (o p : Place) : Type 0 where
+  pub apart : IsAlone o
+  pub cell : o.cell ≡ p.cell
+  pub motion : o.motion ≡ p.motion
+
+-- an earlier use in the same cell is of a placement that stands as this one does
+pub record StandsAgain (uses : List Use) (at : ℕ) (places : List Place) (p : Place) : Type 0 where
+  pub earlier : ℕ
+  pub before : earlier < at
+  pub found : Use
+  pub there : slice_get uses earlier ≡ Some found
+  pub this : Use
+  pub this_there : slice_get uses at ≡ Some this
+  pub job : found.job ≡ this.job
+  pub other : Place
+  pub placed : slice_get places found.index ≡ Some other
+  pub alike : StandAlike other p

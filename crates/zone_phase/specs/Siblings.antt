@@ -76,6 +76,11 @@ abbrev pub Brings : Linked → Place → LayerKey → Rect → List Rect → Lis
 Brings d v key window old new = (s : Square) → (covers new s ≡ true)
     ↔ ((covers old s ≡ true) ⊎ ((has window s ≡ true) × IsBroughtTo d v key s))
 
+-- rectangles grew by what any of the arrays brings into the window
+abbrev pub SomeBring : Linked → List Place → LayerKey → Rect → List Rect → List Rect → Type 0
+SomeBring d vs key window old new = (s : Square) → (covers new s ≡ true)
+    ↔ ((covers old s ≡ true) ⊎ ((has window s ≡ true) × Some_of (λ v. IsBroughtTo d v key s) vs))
+
 -- shifts by whole rows and columns that stay near
 pub record AreShifts (p : Place) (up down right left rows columns : ℕ) : Type 0 where
   pub along : (up ≡ 0) ⊎ (down ≡ 0)

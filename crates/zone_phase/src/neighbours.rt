@@ -7,7 +7,7 @@ ghost use Rattle.deep_tables.specs.Entries.{downward_cell};
 ghost use Rattle.deep_tables.specs.Frames.{IsInGrown};
 ghost use Rattle.zone_phase.specs.Neighbours.{AreAllNear, AreNear, AreNeighbours, BringsMore};
 ghost use Rattle.zone_phase.specs.Neighbours.{IsAllNear, IsAlone, IsKnown, IsNearUse, IsPut};
-ghost use Rattle.zone_phase.specs.Neighbours.{IsRelative, Listed, alone};
+ghost use Rattle.zone_phase.specs.Neighbours.{IsRelative, Listed, StandAlike, StandsAgain, alone};
 ghost use Rattle.zone_phase.specs.Uses.{AreUsesOf, IsUse};
 ghost use Rattle.cell_context.specs.Arrays.{IsNearArray};
 
@@ -28,11 +28,13 @@ pub struct Neighbour {
     pub relative: Motion,
 }
 
-/// Neighbours that lie differently, and the position of each by how it lies.
+/// Neighbours that lie differently, and the position of each by how it lies; and the position of a
+/// use by its job and how its placement stands.
 #[derive(Drop)]
 pub struct Neighbours {
     pub list: Vec<Neighbour>,
     pub positions: HashMap<(u32, u8, i64, i64), usize>,
+    pub stood: HashMap<(u32, u8, i64, i64), usize>,
 }
 
 /// Whether a reference is of one placement.
@@ -165,20 +167,64 @@ fn push_around(
     Ok(())
 }
 
-// Adds the neighbours at a use, where it is of one placement.
+// Whether two references of one placement place the same cell alike.
+fn stand_alike(one: &Place, other: &Place) -> bool
+    ensures { result ≡ true → StandAlike one.now other.now }
+{
+    if !is_alone(one) {
+        return false;
+    }
+    if one.cell != other.cell {
+        return false;
+    }
+    one.motion == other.motion
+}
+
+// Whether an earlier use in the same cell has a placement that stands as this one does.
+fn stands_again(uses: &[Use], at: usize, places: &[Place], place: &Place, earlier: usize) -> bool
+    requires { at < length uses.now }
+    ensures { result ≡ true → StandsAgain uses.now at places.now place.now }
+{
+    if earlier >= at {
+        return false;
+    }
+    if uses[earlier].job != uses[at].job {
+        return false;
+    }
+    match places.get(uses[earlier].index) {
+        None => false,
+        Some(other) => stand_alike(other, place),
+    }
+}
+
+// The same of a use that may be known.
+fn is_again(uses: &[Use], at: usize, places: &[Place], place: &Place, known: Option<usize>) -> bool
+    requires { at < length uses.now }
+    ensures { result ≡ true → StandsAgain uses.now at places.now place.now }
+{
+    match known {
+        None => false,
+        Some(earlier) => stands_again(uses, at, places, place, earlier),
+    }
+}
+
+// Adds the neighbours at a use, where it is of one placement. What stands as an earlier one does in
+// the same cell has no others.
 fn push_use(
     alloc: Global,
     memo: &mut Neighbours,
     design: &Design,
     uses: &[Use],
+    at: usize,
     found: &Use,
     cell: u32,
     grown: &Rect,
 ) -> Result<(), AllocError>
     requires use_of { IsUse design.now cell found.now }
-    requires found { Listed uses.now found.now }
+    requires there { slice_get uses.now at ≡ Some found.now }
     requires grown { IsFrame grown.now }
     requires each { AreNeighbours design.now uses.now memo.old.list.items }
+    requires near { AreAllNear design.now grown.now uses.now at memo.old.list.items }
     ensures each { OnOk result (AreNeighbours design.now uses.now memo.new.list.items) }
     ensures more { OnOk result (BringsMore design.now memo.old.list.items memo.new.list.items) }
     ensures all { OnOk result (IsNearUse design.now grown.now found.now memo.new.list.items) }
@@ -191,6 +237,13 @@ fn push_use(
     if !is_alone(place) {
         return Ok(());
     }
+    let motion = &place.motion;
+    let key = (found.job, turn_number(motion.turn), motion.dx, motion.dy);
+    let known = memo.stood.get(&key).copied();
+    if is_again(uses, at, design.places(parent), place, known) {
+        return Ok(());
+    }
+    memo.stood.insert(key, at)?;
     push_around(alloc, memo, design, uses, found, parent, place, grown)?;
     Ok(())
 }
@@ -212,16 +265,17 @@ fn find_neighbours(
     let mut memo = Neighbours {
         list: Vec::new(alloc),
         positions: HashMap::new(alloc),
+        stood: HashMap::new(alloc),
     };
-    for found in uses {
-        push_use(alloc, &mut memo, design, uses, found, cell, grown)?;
+    for at in 0..uses.len() {
+        push_use(alloc, &mut memo, design, uses, at, &uses[at], cell, grown)?;
     }
     let Neighbours { list, .. } = memo;
     Ok(list)
 }
 
 /// The neighbours of the placements of a cell, of references of one placement each: one window of
-/// the parent for each, and of those that lie alike one.
+/// the parent for all that stand alike there, and of those that lie alike one.
 pub fn neighbours_of(
     alloc: Global,
     design: &Design,

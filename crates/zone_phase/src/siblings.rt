@@ -14,7 +14,8 @@ ghost use Rattle.cell_context.specs.Arrays.{IsNearArray, IsCloseArray};
 ghost use Rattle.cell_context.specs.Over.{IsPiece};
 ghost use Rattle.deep_laws.specs.Zones.{IsFromSibling};
 ghost use Rattle.zone_phase.specs.Pulls.{Adds};
-ghost use Rattle.zone_phase.specs.Siblings.{around, Brings, AreShifts, AreRowShifts};
+ghost use Rattle.zone_phase.specs.Siblings.{around, siblings, Brings, SomeBring};
+ghost use Rattle.zone_phase.specs.Siblings.{AreShifts, AreRowShifts};
 
 use crate::windows::element_rect;
 use cell_context::{gather, motion_at, place_visits, push_images};
@@ -257,8 +258,66 @@ fn push_rows(
     Ok(())
 }
 
-// Adds the squares of a grown hull over which some element of the array has a sibling: four arrays
-// round the first element tell.
+// Adds what the siblings of the array's elements bring into a window of the first element: four
+// arrays round the first element tell.
+fn push_others(
+    alloc: Global,
+    there: &mut Vec<Rect>,
+    design: &Design,
+    place: &Place,
+    key: LayerKey,
+    hull: &Rect,
+    window: &Rect,
+) -> Result<(), AllocError>
+    requires close { IsCloseArray place.now }
+    requires rows { 0 < place.now.rows }
+    requires columns { 0 < place.now.columns }
+    requires cell { place.now.cell < length design.now.cells }
+    requires hull { hull_of (cell_at design.now place.now.cell) ≡ Some hull.now }
+    requires frame { IsFrame hull.now }
+    requires window { IsRectWithin (2 ^ 39) window.now }
+    requires pieces { All (IsPiece window.now) there.old.items }
+    ensures pieces { OnOk result (All (IsPiece window.now) there.new.items) }
+    ensures exact { OnOk result (SomeBring design.now (siblings place.now) key window.now
+        there.old.items there.new.items) }
+{
+    let rows = place.rows - 1;
+    let columns = place.columns - 1;
+    push_rows(alloc, there, design, place, key, hull, window, 1, 0, rows)?;
+    push_rows(
+        alloc,
+        there,
+        design,
+        place,
+        key,
+        hull,
+        window,
+        0,
+        rows as u32,
+        rows,
+    )?;
+    push_around(
+        alloc, there, design, place, key, hull, window, 0, 0, 1, 0, 1, columns,
+    )?;
+    push_around(
+        alloc,
+        there,
+        design,
+        place,
+        key,
+        hull,
+        window,
+        0,
+        0,
+        0,
+        columns as u32,
+        1,
+        columns,
+    )?;
+    Ok(())
+}
+
+// Adds the squares of a grown hull over which some element of the array has a sibling.
 pub fn push_siblings(
     alloc: Global,
     out: &mut Vec<Rect>,
@@ -284,42 +343,8 @@ pub fn push_siblings(
 {
     let first = motion_at(place, 0, 0);
     let window = element_rect(place, 0, 0, grown);
-    let rows = place.rows - 1;
-    let columns = place.columns - 1;
     let mut there = Vec::new(alloc);
-    push_rows(
-        alloc, &mut there, design, place, key, hull, &window, 1, 0, rows,
-    )?;
-    push_rows(
-        alloc,
-        &mut there,
-        design,
-        place,
-        key,
-        hull,
-        &window,
-        0,
-        rows as u32,
-        rows,
-    )?;
-    push_around(
-        alloc, &mut there, design, place, key, hull, &window, 0, 0, 1, 0, 1, columns,
-    )?;
-    push_around(
-        alloc,
-        &mut there,
-        design,
-        place,
-        key,
-        hull,
-        &window,
-        0,
-        0,
-        0,
-        columns as u32,
-        1,
-        columns,
-    )?;
+    push_others(alloc, &mut there, design, place, key, hull, &window)?;
     let mut more = Vec::new(alloc);
     push_images(&mut more, &there, &first.inverse(), grown)?;
     out.extend_from_slice(&more)?;

@@ -5,7 +5,7 @@ use Rattle.rule_text.specs.declared.rules.RuleSet.{RuleSet}
 use Rattle.deep_tables.specs.Entries.{upward_cell}
 use Rattle.deep_tables.specs.Gates.{AreCellGates, AreMosCellGates, AreMosGates}
 use Rattle.deep_tables.proofs.Finding.{upward}
-use Rattle.layer_phase.specs.Phase.{AreFreeJobs}
+use Rattle.deep_tables.specs.Jobs.{AreFreeJobs}
 use Rattle.deep_flow.proofs.Jobs.{by_jobs}
 use Rattle.deep_flow.proofs.gates.all_devices.Goals as goal
 

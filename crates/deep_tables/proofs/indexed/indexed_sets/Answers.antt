@@ -1,4 +1,4 @@
-use Rattle.std.proofs.Common.{◌≡◌, ◌++◌, ◌∷◌, [], List, ap, ◌∙◌}
+use Rattle.std.proofs.Common.{◌++◌, ◌∷◌, [], List, ap, ◌∙◌}
 use Rattle.geo_base.specs.declared.shapes.Rect.{Rect}
 use Rattle.cell_graph.proofs.Finishes.{one_yielded}
 use Rattle.deep_tables.proofs.indexed.indexed_sets.Goals as goal

@@ -1,6 +1,5 @@
-use Rattle.std.proofs.Common.{◌≡◌, ◌∙◌, ◌^◌, List, refl, subst, sym}
+use Rattle.std.proofs.Common.{◌∙◌, ◌^◌, refl, subst, sym}
 use Rattle.std.specs.Option.{IsSome}
-use Rattle.geo_base.specs.declared.shapes.Rect.{Rect}
 use Rattle.rect_sets.proofs.Splitting.{and_split}
 use Rattle.rect_sets.specs.Rects.{covers}
 use Rattle.sized_layers.specs.Sizes.{IsSetWithin}

@@ -1,4 +1,4 @@
-use Rattle.std.proofs.Common.{◌≡◌, ◌^◌, true, false, ℕ, List, pos, length, refl, sym, subst, arith}
+use Rattle.std.proofs.Common.{◌≡◌, ◌^◌, true, false, pos, length, refl, sym, subst, arith}
 use Rattle.std.specs.List.{All}
 use Rattle.geo_base.specs.declared.shapes.Rect.{Rect}
 use Rattle.tile_index.specs.Windows.{ArePositions}

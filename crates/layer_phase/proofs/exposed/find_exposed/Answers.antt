@@ -10,4 +10,4 @@ returns-in-None-clause-near c = subst (All IsNearRect) (sym c.empty.ensures) (λ
 
 pub returns-in-None-clause-exposed : goal.returns-in-None-clause-exposed
 returns-in-None-clause-exposed c = λ s e.
-    absurd (subst (λ o. IsInGrown c.args.most o s) (sym c.hull.ensures ∙ c.in-None.is) (exposed_held c.args.most c.args.design.now c.args.zones.now c.args.names.now c.args.cell s c.sound.ensures e))
+    absurd (subst (λ o. IsInGrown c.args.view.now.reach o s) (sym c.hull.ensures ∙ c.in-None.is) (exposed_held c.args.view.now.reach c.args.view.now.design.now c.args.view.now.zones.now c.args.view.now.names.now c.args.cell s c.sound.ensures e))

@@ -6,4 +6,4 @@ use Rattle.layer_phase.proofs.layers.fill_group.Given as goal
 abbrev pub invariant-loop-flat : goal.invariant-loop-flat
 invariant-loop-flat l =
     (l.fn.flats.items ≡ l.yielded ++ l.flat-iterator.rest.items) × (l.name ≡ length l.yielded)
-    × Finds l.far l.design l.cell l.name (formulas l.rules.names.items) l.fn.layers.items l.layers.items
+    × Finds l.group.reach l.work.design.now l.work.cell l.name (formulas l.work.rules.now.names.items) l.fn.layers.items l.layers.items

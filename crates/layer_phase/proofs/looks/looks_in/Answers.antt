@@ -13,31 +13,31 @@ use Rattle.layer_phase.proofs.looks.looks_in.Goals as goal
 
 pub grown-window-requires : goal.grown-window-requires
 grown-window-requires c =
-    let h : IsHull c.args.hull.now = subst HullIsSound c.requires.hull (hull_sound c.args.design.now c.args.cell c.sound.ensures) in
+    let h : IsHull c.args.hull.now = subst HullIsSound c.requires.hull (hull_sound c.args.view.now.design.now c.args.cell c.sound.ensures) in
     wider_rect (2 ^ 36) (2 ^ 39) c.args.hull.now (omega arith) h.near
 
 pub push_references-requires-clause-window : goal.push_references-requires-clause-window
 push_references-requires-clause-window c =
-    let most = c.requires.most in
-    subst IsFrame (sym c.grown-window.ensures) (grown_frame c.args.most c.args.hull.now (omega arith) (subst HullIsSound c.requires.hull (hull_sound c.args.design.now c.args.cell c.sound.ensures)))
+    let most = c.requires.view.most in
+    subst IsFrame (sym c.grown-window.ensures) (grown_frame c.args.view.now.reach c.args.hull.now (omega arith) (subst HullIsSound c.requires.hull (hull_sound c.args.view.now.design.now c.args.cell c.sound.ensures)))
 
 pub push_near_own-requires-clause-held : goal.push_near_own-requires-clause-held
 push_near_own-requires-clause-held c = λ q e.
-    subst (λ o. IsInGrown c.args.most o q) (sym c.requires.hull)
+    subst (λ o. IsInGrown c.args.view.now.reach o q) (sym c.requires.hull)
     (subst (λ r. has r q ≡ true) c.grown-window.ensures (held_pieces c.grown-window.result c.push_references.new.out.items c.in_ok-push_references.ensures.pieces q e))
 
 pub returns : goal.returns
 returns c =
-    let d = c.args.design.now in let n = c.args.most in let set = c.in_ok-set.set in
+    let d = c.args.view.now.design.now in let n = c.args.view.now.reach in let set = c.in_ok-set.set in
     let same = c.in_ok-set.ensures in let own = c.in_ok-push_near_own.ensures in
     let h : IsHull c.args.hull.now = subst HullIsSound c.requires.hull (hull_sound d c.args.cell c.sound.ensures) in
-    let most = c.requires.most in
+    let most = c.requires.view.most in
     record {
       within = set_within (2 ^ 37) (grown n c.args.hull.now) set (grown_within (2 ^ 36) n (2 ^ 37) c.args.hull.now (omega arith) h.near)
           (λ q e. subst (λ o. IsInGrown n o q) c.requires.hull (own.held q (sym (same q) ∙ e)));
       own = λ name key named s q here near. same q ∙ own.brings name key named s q here near;
       below = λ i p at row column s a b e.
-          let held = exposed_held n d c.args.zones.now c.args.names.now p.cell s c.sound.ensures e in
+          let held = exposed_held n d c.args.view.now.zones.now c.args.view.now.names.now p.cell s c.sound.ensures e in
           let up = grown_up n d c.args.cell i row column p s c.sound.ensures (record { there = at; row_in = a; column_in = b }) held in
           let inner : has (grown n c.args.hull.now) (moved_square (motion_at p row column) s) ≡ true = subst (λ o. IsInGrown n o (moved_square (motion_at p row column) s)) c.requires.hull up in
           let met : has c.grown-window.result (moved_square (motion_at p row column) s) ≡ true = subst (λ r. has r (moved_square (motion_at p row column) s) ≡ true) (sym c.grown-window.ensures) inner in

@@ -13,27 +13,34 @@ no_place = record { cell = 0; motion = record { turn = R0; dx = pos 0; dy = pos 
 
 pub push_reference-requires-clause-entries : goal.push_reference-requires-clause-entries
 push_reference-requires-clause-entries c =
-    c.requires.entries c.loop-i.i (slice_index_or c.places-place-items.result.now c.loop-i.i no_place)
-    (item_at c.places-place-items.result.now (places_at (cell_at c.args.design.now c.args.cell)) c.loop-i.i no_place c.places-place-items.ensures c.loop-i-test.true)
+    c.requires.entries c.loop-place.place-index (slice_index_or c.places-place-items.result.now c.loop-place.place-index no_place)
+    (item_at c.places-place-items.result.now (places_at (cell_at c.args.view.now.design.now c.args.cell)) c.loop-place.place-index no_place c.places-place-items.ensures c.loop-place-test.true)
 
-pub loop-i-preserved : goal.loop-i-preserved
-loop-i-preserved c =
-    let d = c.args.design.now in let places = places_at (cell_at d c.args.cell) in let i = c.loop-i.i in
-    let there = item_at c.places-place-items.result.now places i no_place c.places-place-items.ensures c.loop-i-test.true in
+pub push_reference-requires-clause-there : goal.push_reference-requires-clause-there
+push_reference-requires-clause-there c = record {
+  cell = c.args.cell;
+  index = c.loop-place.place-index;
+  there = item_at c.places-place-items.result.now (places_at (cell_at c.args.view.now.design.now c.args.cell)) c.loop-place.place-index no_place c.places-place-items.ensures c.loop-place-test.true;
+}
+
+pub loop-place-preserved : goal.loop-place-preserved
+loop-place-preserved c =
+    let d = c.args.view.now.design.now in let places = places_at (cell_at d c.args.cell) in let i = c.loop-place.place-index in
+    let there = item_at c.places-place-items.result.now places i no_place c.places-place-items.ensures c.loop-place-test.true in
     let place = slice_index_or c.places-place-items.result.now i no_place in
     let e = c.in_ok-push_reference.ensures in
     record {
       lists = e.lists;
       pieces = e.pieces;
       brings = λ k p lt at. elim (ℕ_discrete k i) [
-        | yes same ↦ subst (λ (x : Place). BringsExposed c.args.most d c.args.zones.now c.args.names.now x c.args.window.now c.push_reference.new.out.items)
+        | yes same ↦ subst (λ (x : Place). BringsExposed c.args.view.now.reach d c.args.view.now.zones.now c.args.view.now.names.now x c.args.window.now c.push_reference.new.out.items)
             (one_place (slice_get places i) place p there (subst (λ n. slice_get places n ≡ Some p) same at)) e.brings
-        | no not ↦ λ row column s a b h met. e.grows _ (c.loop-i.invariant.brings k p (omega arith) at row column s a b h met)
+        | no not ↦ λ row column s a b h met. e.grows _ (c.loop-place.invariant.brings k p (omega arith) at row column s a b h met)
       ];
     }
 
 pub returns-clause-brings : goal.returns-clause-brings
 returns-clause-brings c = λ i p at.
-    let lt = slice_get_within (places_at (cell_at c.args.design.now c.args.cell)) i p at in
-    let past : length (places_at (cell_at c.args.design.now c.args.cell)) ≤ c.loop-i.i = subst (λ l. length l ≤ c.loop-i.i) c.places-place-items.ensures c.loop-i-test.false in
-    c.loop-i.invariant.brings i p (omega arith) at
+    let lt = slice_get_within (places_at (cell_at c.args.view.now.design.now c.args.cell)) i p at in
+    let past : length (places_at (cell_at c.args.view.now.design.now c.args.cell)) ≤ c.loop-place.place-index = subst (λ l. length l ≤ c.loop-place.place-index) c.places-place-items.ensures c.loop-place-test.false in
+    c.loop-place.invariant.brings i p (omega arith) at

@@ -2,7 +2,6 @@ use Rattle.std.proofs.Common.{◌≡◌, ◌∙◌, ◌^◌, true, arith, sym, s
 use Rattle.geo_base.specs.Rects.{has, IsRect}
 use Rattle.geo_base.specs.declared.shapes.Rect.{Rect}
 use Rattle.rect_sets.specs.Rects.{covers}
-use Rattle.cell_graph.specs.Grown.{grown}
 use Rattle.cell_context.proofs.Visiting.{wider_rect}
 use Rattle.layer_phase.specs.Around.{around}
 use Rattle.layer_phase.proofs.Around.{around_part, cut_same, grown_rect}

@@ -12,6 +12,6 @@ use Rattle.layer_phase.proofs.parts.calm_pieces.Given as goal
 abbrev pub invariant-loop-visit : goal.invariant-loop-visit
 invariant-loop-visit l = record {
   pieces : All (IsPiece l.window) l.out.items;
-  right : (q : Square) → covers l.out.items q ≡ true → (has l.window q ≡ true) × IsKeptBy l.reach l.design l.zones l.cell l.name q;
-  found : (k : ℕ) → k < l.visit-index → BringsCalm l.reach l.zones l.name l.window l.out.items (slice_index_or l.visit-items k no_visit);
+  right : (q : Square) → covers l.out.items q ≡ true → (has l.window q ≡ true) × IsKeptBy l.reach l.work.design.now l.work.zones.now l.work.cell l.name q;
+  found : (k : ℕ) → k < l.visit-index → BringsCalm l.reach l.work.zones.now l.name l.window l.out.items (slice_index_or l.visit-items k no_visit);
 }

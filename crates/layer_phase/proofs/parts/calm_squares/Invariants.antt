@@ -9,5 +9,5 @@ use Rattle.layer_phase.proofs.parts.calm_squares.Given as goal
 abbrev pub invariant-loop-rect : goal.invariant-loop-rect
 invariant-loop-rect l = record {
   rects : All IsRect l.out.items;
-  exact : (q : Square) → (covers l.out.items q ≡ true) ↔ ((covers (take l.rect-index l.rect-items) q ≡ true) × IsKeptBy l.reach l.design l.zones l.cell l.name q);
+  exact : (q : Square) → (covers l.out.items q ≡ true) ↔ ((covers (take l.rect-index l.rect-items) q ≡ true) × IsKeptBy l.reach l.work.design.now l.work.zones.now l.work.cell l.name q);
 }

@@ -21,8 +21,8 @@ returns-then-reach-eq0 c =
     ∙ ap (λ b. has c.args.window.now q && not b) (sym (around_none c.args.there.items q) ∙ ap (λ (n : ℕ). covers (around n c.args.there.items) q) (sym e)))
     c.combine_rects.ensures
 
-pub around-requires-clause-within : goal.around-requires-clause-within
-around-requires-clause-within c =
+pub sized-requires-clause-within : goal.sized-requires-clause-within
+sized-requires-clause-within c =
     let le = c.requires.reach in
     set_within (2 ^ 39) (grown c.args.reach c.args.window.now) c.in_ok-set.set (grown_within (2 ^ 37) c.args.reach (2 ^ 39) c.args.window.now (omega arith) c.requires.window.near)
     (λ q e. c.requires.held q (sym (c.in_ok-set.ensures q) ∙ e))

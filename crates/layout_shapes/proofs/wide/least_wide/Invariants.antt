@@ -1,7 +1,8 @@
 use Rattle.std.proofs.Common.{take}
+use Rattle.cell_graph.specs.Linked.{plain}
 use Rattle.rule_text.specs.Seen.{rules_seen}
-use Rattle.layout_shapes.specs.Wide.{IsLeast, is_wide}
+use Rattle.layout_shapes.specs.Wide.{IsLeast, IsWideCell}
 use Rattle.layout_shapes.proofs.wide.least_wide.Given as goal
 
 abbrev pub invariant-loop-cell : goal.invariant-loop-cell
-invariant-loop-cell l = IsLeast (is_wide l.layers (rules_seen l.rules)) (take l.cell-index l.cells) l.least
+invariant-loop-cell l = IsLeast (IsWideCell (plain l.design) (rules_seen l.rules) l.layers) (take l.cell-index l.cells) l.least

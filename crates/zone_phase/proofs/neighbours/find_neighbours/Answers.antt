@@ -1,4 +1,4 @@
-use Rattle.std.proofs.Common.{◌≡◌, Some, arith, length, slice_get, slice_index_or, subst}
+use Rattle.std.proofs.Common.{◌≡◌, ◌<◌, Some, arith, length, slice_get, slice_index_or, subst}
 use Rattle.std.proofs.Math.Decide.{ℕ_discrete}
 use Rattle.std.proofs.lemmas.Option.{slice_get-get_or}
 use Rattle.zone_phase.specs.declared.uses.Use.{Use}
@@ -10,15 +10,16 @@ abbrev no_use : Use
 no_use = record { job = 0; index = 0 }
 
 pub push_use-requires-clause-use_of : goal.push_use-requires-clause-use_of
-push_use-requires-clause-use_of c = c.requires.uses.each c.loop-found.found-index _ (slice_get-get_or c.args.uses.now c.loop-found.found-index no_use c.loop-found-test.true)
+push_use-requires-clause-use_of c = c.requires.uses.each c.loop-at.at _ (slice_get-get_or c.args.uses.now c.loop-at.at no_use (omega arith))
 
-pub push_use-requires-clause-found : goal.push_use-requires-clause-found
-push_use-requires-clause-found c = (c.loop-found.found-index, slice_get-get_or c.args.uses.now c.loop-found.found-index no_use c.loop-found-test.true)
+pub push_use-requires-clause-there : goal.push_use-requires-clause-there
+push_use-requires-clause-there c = slice_get-get_or c.args.uses.now c.loop-at.at no_use (omega arith)
 
-pub loop-found-preserved : goal.loop-found-preserved
-loop-found-preserved c =
-    let d = c.args.design.now in let uses = c.args.uses.now in let i = c.loop-found.found-index in
-    let at = slice_get-get_or uses i no_use c.loop-found-test.true in
+pub loop-at-preserved : goal.loop-at-preserved
+loop-at-preserved c =
+    let d = c.args.design.now in let uses = c.args.uses.now in let i = c.loop-at.at in
+    let within : i < length uses = omega arith in
+    let at = slice_get-get_or uses i no_use within in
     let e = c.in_ok-push_use.ensures in
     record {
       each = e.each;
@@ -26,11 +27,11 @@ loop-found-preserved c =
         | yes here ↦
             subst (λ (x : Use). IsNearUse d c.args.grown.now x c.push_use.new.memo.list.items)
             (one_use (slice_get uses i) (slice_index_or uses i no_use) u at (subst (λ j. slice_get uses j ≡ Some u) here there)) e.all
-        | no not ↦ λ p placed apart key q inner t. e.more key q (c.loop-found.invariant.all k u (omega (arith, lt, not)) there p placed apart key q inner t)
+        | no not ↦ λ p placed apart key q inner t. e.more key q (c.loop-at.invariant.all k u (omega (arith, lt, not)) there p placed apart key q inner t)
       ];
     }
 
 pub returns-clause-all : goal.returns-clause-all
 returns-clause-all c =
-    let end : c.loop-found.found-index ≡ length c.args.uses.now = (let a = c.loop-found-test.false in let b = c.loop-found.auto.found-index-end in omega arith) in
-    subst (λ n. AreAllNear c.args.design.now c.args.grown.now c.args.uses.now n c.loop-found.memo.list.items) end c.loop-found.invariant.all
+    let end : c.loop-at.at ≡ length c.args.uses.now = omega arith in
+    subst (λ n. AreAllNear c.args.design.now c.args.grown.now c.args.uses.now n c.loop-at.memo.list.items) end c.loop-at.invariant.all

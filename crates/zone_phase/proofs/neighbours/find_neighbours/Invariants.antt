@@ -1,8 +1,8 @@
 use Rattle.zone_phase.specs.Neighbours.{AreAllNear, AreNeighbours}
 use Rattle.zone_phase.proofs.neighbours.find_neighbours.Given as goal
 
-abbrev pub invariant-loop-found : goal.invariant-loop-found
-invariant-loop-found l = record {
+abbrev pub invariant-loop-at : goal.invariant-loop-at
+invariant-loop-at l = record {
   each : AreNeighbours l.design l.uses l.memo.list.items;
-  all : AreAllNear l.design l.grown l.uses l.found-index l.memo.list.items;
+  all : AreAllNear l.design l.grown l.uses l.at l.memo.list.items;
 }

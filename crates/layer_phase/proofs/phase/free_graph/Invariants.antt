@@ -1,9 +1,0 @@
-use Rattle.std.proofs.Common.{◌≡◌, ℕ, [], length}
-use Rattle.job_graph.specs.Graph.{inputs_of, lists}
-use Rattle.layer_phase.proofs.phase.free_graph.Given as goal
-
-abbrev pub invariant-loop : goal.invariant-loop
-invariant-loop l = record {
-  count : length (lists l.inputs.items) ≡ l.counter;
-  empty : (job : ℕ) → inputs_of (lists l.inputs.items) job ≡ [];
-}

@@ -1,0 +1,23 @@
+//! What the calls of this crate read together.
+
+use cell_graph::Design;
+use deep_tables::Zones;
+use rule_text::{LayerRule, RuleSet};
+
+/// A reached cell of a layout, with the rules and the layout's disturbed squares for them.
+#[derive(Drop)]
+pub struct CellWork<'a> {
+    pub design: &'a Design,
+    pub rules: &'a RuleSet,
+    pub zones: &'a Zones,
+    pub cell: u32,
+}
+
+/// A layout and its disturbed squares, as the derived names of one reach see them.
+#[derive(Drop)]
+pub struct View<'a> {
+    pub design: &'a Design,
+    pub zones: &'a Zones,
+    pub names: &'a [LayerRule],
+    pub reach: u32,
+}
