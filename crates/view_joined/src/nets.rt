@@ -15,7 +15,7 @@ use geo_base::Motion;
 use list_base::number;
 use part_origins::Spot;
 use std::alloc::{AllocError, Global};
-use view_netlist::{Drawing, Shape, drawing_at};
+use view_netlist::{Drawing, Shape};
 
 // The number of a flat net in the aligned circuit.
 fn number_at(numbers: &[Option<u32>], n: u32) -> Option<u32>
@@ -69,6 +69,17 @@ fn put_spot(
         rest = more;
     }
     Ok(())
+}
+
+// What is drawn of the circuit of a number; past the last, what stands for nothing.
+fn drawing_at<'a>(drawings: &'a [Drawing], nothing: &'a Drawing, k: u32) -> &'a Drawing
+    requires { plain_drawing nothing.now ≡ blank }
+    ensures { plain_drawing result.now ≡ drawn_of drawings.now k }
+{
+    match drawings.get(k as usize) {
+        Some(drawing) => drawing,
+        None => nothing,
+    }
 }
 
 fn no_lists(alloc: Global, count: usize) -> Result<Vec<Vec<Shape>>, AllocError>
