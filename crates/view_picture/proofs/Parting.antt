@@ -9,7 +9,7 @@ use Rattle.view_picture.specs.Parts.{AreMerged, before, first_place, first_place
 use Rattle.view_picture.proofs.Picturing.{not_both}
 
 pub merged_if : (b : Bool) (rows others made : List DeviceRow) → made ≡ map merged_row (groups others) → are_wide (groups others) ≡ false → (b ≡ true) ↔ (rows ≡ made) → (b ≡ true) ↔ AreMerged rows others
-merged_if b rows others made is narrow same = ((λ t. record { rows = same.0 t ∙ is; narrow = narrow }), (λ m. same.1 (m.rows ∙ sym is)))
+merged_if b rows others made is narrow same = ((λ t. record { same = same.0 t ∙ is; narrow = narrow }), (λ m. same.1 (m.same ∙ sym is)))
 
 pub wide_not : (rows others : List DeviceRow) → are_wide (groups others) ≡ true → (false ≡ true) ↔ AreMerged rows others
 wide_not rows others wide = ((λ t. absurd (let z : ⊥ = cc in z)), (λ m. absurd (not_both (are_wide (groups others)) wide m.narrow)))

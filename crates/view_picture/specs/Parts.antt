@@ -21,7 +21,7 @@ first_places all (ks ∷ more) = before (first_place all ks) (first_places all m
 
 -- the devices are the others with each group of alike transistors as one, none of them too wide
 pub record AreMerged (rows others : List DeviceRow) : Type 0 where
-  pub rows : rows ≡ map merged_row (groups others)
+  pub same : rows ≡ map merged_row (groups others)
   pub narrow : are_wide (groups others) ≡ false
 
 -- the places of devices, by those of the cell's: the same of the same devices; of merged ones that
