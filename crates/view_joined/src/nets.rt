@@ -15,7 +15,7 @@ use geo_base::Motion;
 use list_base::number;
 use part_origins::Spot;
 use std::alloc::{AllocError, Global};
-use view_netlist::{Drawing, Shape};
+use view_netlist::{Drawing, Shape, drawing_at};
 
 // The number of a flat net in the aligned circuit.
 fn number_at(numbers: &[Option<u32>], n: u32) -> Option<u32>
@@ -71,21 +71,10 @@ fn put_spot(
     Ok(())
 }
 
-// What is drawn of the circuit of a number; past the last, what stands for nothing.
-fn drawing_at<'a>(drawings: &'a [Drawing], nothing: &'a Drawing, k: u32) -> &'a Drawing
-    requires { plain_drawing nothing.now ≡ blank }
-    ensures { plain_drawing result.now ≡ drawn_of drawings.now k }
-{
-    match drawings.get(k as usize) {
-        Some(drawing) => drawing,
-        None => nothing,
-    }
-}
-
 fn no_lists(alloc: Global, count: usize) -> Result<Vec<Vec<Shape>>, AllocError>
     ensures { IfOk result (λ v. shape_lists v.items ≡ replicate count []) }
 {
-    let mut lists = Vec::new(alloc);
+    let mut lists = Vec::with_capacity(alloc, count)?;
     for i in 0..count {
         lists.push(Vec::new(alloc))?;
     }

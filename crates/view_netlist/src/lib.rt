@@ -12,7 +12,7 @@ mod section;
 
 pub use circuits::push_circuits;
 pub use classes::{push_classes, used_classes};
-pub use drawing::{DevicePlace, Drawing, Names, Shape, push_region};
+pub use drawing::{DevicePlace, Drawing, Names, Shape, drawing_at, push_region};
 pub use kinds::{class_name, kind_word, shown_class, size_keys, size_texts};
 pub use laws::class_names;
 pub use rows::name_at;
