@@ -22,10 +22,11 @@ fn reach_of(line: &Output, reaches: &[u32]) -> u32
 fn furthest(lines: &[Output], reaches: &[u32]) -> u32
     ensures { result ≡ greatest (map (λ o. get_or reaches.now o.layer 0) lines.now) }
 {
-    match lines {
-        [] => 0,
-        [line, more @ ..] => reach_of(line, reaches).max(furthest(more, reaches)),
+    let mut most = 0;
+    for line in lines {
+        most = reach_of(line, reaches).max(most);
     }
+    most
 }
 
 /// How far the output lines' names reach at most, in squares. Linear in names and lines; memory is

@@ -328,6 +328,14 @@ fn changed_streams(rt: HostRuntime) -> Result<(), Fail> {
     Ok(())
 }
 
+// The stream of a cell without shapes, which is written where nothing is in common.
+#[test]
+fn least_stream(rt: HostRuntime) -> Result<(), Fail> {
+    let wanted = stream(rt.alloc(), &[])?;
+    assert_eq!(rt; wanted.len(), 102);
+    Ok(())
+}
+
 // NULs behind ENDLIB aren't read: the file that is written is the same.
 #[test]
 fn nothing_behind_the_end(rt: HostRuntime) -> Result<(), Fail> {

@@ -99,12 +99,8 @@ fn checkerboard(rt: HostRuntime) -> Result<(), Fail> {
     for y in 0..64u8 {
         for x in 0..64u8 {
             if x % 2 != y % 2 {
-                want.push(rect!(
-                    i64::from(x),
-                    i64::from(y),
-                    i64::from(x) + 1,
-                    i64::from(y) + 1,
-                ))?;
+                let (left, low) = (i64::from(x), i64::from(y));
+                want.push(rect!(left, low, left + 1, low + 1))?;
             }
         }
     }
