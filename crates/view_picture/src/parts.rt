@@ -80,7 +80,8 @@ pub fn device_places(
     if same_devices(rows, others) {
         return Ok(places);
     }
-    if are_merged(alloc, rows, others)? {
+    let is_merged = are_merged(alloc, rows, others)?;
+    if is_merged {
         let parts = merged_parts(alloc, others)?;
         let firsts = first_places(alloc, &places, &parts)?;
         return Ok(firsts);

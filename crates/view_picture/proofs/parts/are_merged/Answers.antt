@@ -1,4 +1,4 @@
-use Rattle.std.proofs.Common.{◌∙◌, List, Some, None, ap, map, subst}
+use Rattle.std.proofs.Common.{◌∙◌, List, ap, map, subst}
 use Rattle.device_merge.specs.Merging.{IsMerged}
 use Rattle.net_model.specs.Rows.{plain_device}
 use Rattle.net_model.specs.declared.netlist.DeviceRow.{DeviceRow}

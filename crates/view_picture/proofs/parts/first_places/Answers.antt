@@ -1,4 +1,4 @@
-use Rattle.std.proofs.Common.{◌≡◌, ◌-◌, ◌++◌, ◌∷◌, ◌∙◌, ℕ, List, None, Some, ap, drop, length, subst, sym, take}
+use Rattle.std.proofs.Common.{◌≡◌, ◌-◌, ◌++◌, ◌∙◌, ℕ, List, None, Some, ap, drop, length, subst, sym, take}
 use Rattle.std.specs.Global.{Vec}
 use Rattle.device_merge.specs.Parts.{place_lists}
 use Rattle.view_drawing.proofs.Placing.{front, nil_of}
