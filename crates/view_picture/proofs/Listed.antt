@@ -51,7 +51,7 @@ before_of areas (Some q) ps f h zero p at = f p (let e : q ≡ p = same_Some q p
 before_of areas (Some q) ps f h (suc j) p at = h j p at
 
 firsts_of : (areas : List Area) (all : List DevicePlace) (lists : List (List ℕ)) → HaveListed areas all → HaveListed areas (first_places all lists)
-firsts_of areas all [] h j p at = absurd (none_at j p at)
+firsts_of areas all [] h = λ j p at. absurd (none_at j p at)
 firsts_of areas all (ks ∷ more) h = before_of areas (first_place all ks) (first_places all more) (λ p e. one_of areas all ks p h e) (firsts_of areas all more h)
 
 chosen : (areas : List Area) (rows others : List DeviceRow) (all places : List DevicePlace) → HaveListed areas all → AreDevicePlaces rows others all places → HaveListed areas places
