@@ -110,7 +110,7 @@ static ROWS: [(&[&str], u64); 5] = [
 ];
 
 // How many calls of the depot the words come to, and the code.
-fn asked<R: Threads + Wait + Sync>(
+fn calls_of<R: Threads + Wait + Sync>(
     rt: &R,
     alloc: Global,
     layout: &[u8],
@@ -133,7 +133,7 @@ fn calls_made(rt: HostRuntime) -> Result<(), Fail> {
     let layout = overlap(alloc)?;
     for (words, calls) in &ROWS {
         for sink_fails in [false, true] {
-            let (made, code) = asked(&rt, alloc, &layout, words, sink_fails)?;
+            let (made, code) = calls_of(&rt, alloc, &layout, words, sink_fails)?;
             assert!(rt; made == *calls);
             assert!(rt; (code == 4) == sink_fails);
         }
