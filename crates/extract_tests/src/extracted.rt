@@ -28,7 +28,7 @@ const ONE_BAD: &str = "extracted cells 1 circuits 1 bad 1\n";
 /// A circuit without devices has no pins.
 const NOTHING: &str = "* lvs netlist\n.SUBCKT A\n.ENDS A\n.END\n";
 
-static CASES: [Case; 19] = [
+const CASES: [Case; 19] = [
     // The wire of the parent goes on in the child: one net. A cell without a device has no circuit.
     Case {
         name: "net_through_child",
@@ -479,7 +479,7 @@ fn extracted_layouts(rt: HostRuntime) -> Result<(), Fail> {
         holds(&rt, &ran.netlist, case.netlist, case.name);
         let wanted = library(alloc, case.shapes)?;
         assert!(rt; ran.shapes == Some(wanted), "{}", case.name);
-        assert!(rt; ran.report.is_none(), "{}", case.name);
+        assert_eq!(rt; ran.report, None, "{}", case.name);
     }
     Ok(())
 }

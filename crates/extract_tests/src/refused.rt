@@ -195,12 +195,12 @@ static PATHS: [(&[&str], &str); 11] = [
 static BEHIND_RUN: [&[&str]; 3] = [&["--workers=65"], &["--schematic=d"], &["--report=p"]];
 
 // Each of these words behind the first ones is refused.
-fn all_refused<R: Abort + Threads + Wait + Sync>(
+fn all_refused<'x, R: Abort + Threads + Wait + Sync>(
     rt: &R,
     alloc: Global,
     inputs: Inputs<'_>,
-    first: &[&str],
-    rows: &[&[&str]],
+    first: &[&'x str],
+    rows: &[&[&'x str]],
 ) -> Result<(), AllocError> {
     for more in rows {
         let words = joined(alloc, first, more)?;
