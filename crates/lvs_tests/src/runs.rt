@@ -149,7 +149,7 @@ static REFUSED: [(&[&str], &str, &str); 15] = [
     ),
     (
         &SHAPES,
-        "a = input(1, 0)\nx = a.sized(5)\n",
+        "a = input(1, 0)\nx = a.sized(0)\n",
         "refused rules 31 line 2\n",
     ),
     (
