@@ -77,7 +77,7 @@ macro_rules! text {
 /// The farthest that an element says.
 const FAR: i32 = 2147483647;
 
-pub static CASES: [Case; 28] = [
+pub const CASES: [Case; 28] = [
     Case {
         name: "both ways round",
         layout: &[

@@ -18,7 +18,7 @@ const BELOW: Corners = [0, 0, 19980, 10];
 const ABOVE: Corners = [0, 1490, 19980, 1500];
 
 /// The second comb's teeth from the right, those of the first from the left, the backs.
-static COMBS: [Row; 4] = [
+const COMBS: [Row; 4] = [
     Row(2, TEETH, -20, &[[19965, 500, 19975, 1490]]),
     Row(1, TEETH, 20, &[[0, 10, 10, 1000]]),
     Row(2, 1, 0, &[ABOVE]),
@@ -31,7 +31,7 @@ const RULES: &str = "a = input(1, 0)\nb = input(2, 0)\n\
 
 /// What the operators give. Between the backs, rows 10 to 500 hold teeth of the first comb,
 /// 500 to 1000 of both, 1000 to 1490 of the second.
-static COMBINED: [Row; 14] = [
+const COMBINED: [Row; 14] = [
     Row(10, TEETH, 20, &[[5, 500, 10, 1000]]),
     Row(11, 1, 0, &[BELOW]),
     Row(11, TEETH, 20, &[[0, 10, 10, 500]]),
