@@ -2,7 +2,7 @@
 
 ghost use Rattle.lvs_outside.specs.Store.{HasRoom};
 
-use crate::command::{SHAPES, words_of};
+use crate::commands::{SHAPES, words_of};
 use crate::streams::stream;
 use job_board::OpenGate;
 use lvs_outside::{Depot, EndlessDepot, Failed, IdleDepot, MemorySink, QuietDepot};

@@ -1,9 +1,10 @@
 //! Layouts of several cells: what is written of them, and why they are refused.
 
-use crate::cells::Item::{Placed, Rect, Turned};
-use crate::cells::{Cell, begin, begin_cell, end, end_cell, library, push_placed};
-use crate::command::{NONE, SHAPES, ends, refuses, run_of};
-use crate::streams::{Shape, corners, push_boundary};
+use crate::commands::{EXTRACT, NONE, SHAPES, drawing, ends, refuses, run_of};
+use crate::drawn::Item::{Placed, Rect, Turned};
+use crate::drawn::{Cell, begin, begin_cell, end, end_cell, library, push_placed};
+use crate::shaped::COPY;
+use crate::streams::{Shape, push_shape};
 use std::alloc::{AllocError, Global};
 use std::process::Abort;
 use std::sync::Wait;
@@ -18,8 +19,6 @@ struct Case {
     line: &'static str,
     wanted: &'static [Cell],
 }
-
-const COPY: &str = "a = input(1, 0)\na.output(10, 0)\n";
 
 const LESS: &str = "a = input(1, 0)\nb = input(2, 0)\nc = a - b\nc.output(10, 0)\n";
 
@@ -49,7 +48,7 @@ static CASES: [Case; 11] = [
     Case {
         name: "mirrored array",
         layout: &[
-            Cell("K", &[Rect((1, 2, 1, 3, 2))]),
+            Cell("K", &[Rect(1, [2, 1, 3, 2])]),
             Cell(
                 "TOP",
                 &[Turned("K", 3, 2, [(100, 200), (130, 200), (100, 240)])],
@@ -58,7 +57,7 @@ static CASES: [Case; 11] = [
         rules: COPY,
         line: "shapes cells 2 rectangles 1\n",
         wanted: &[
-            Cell("K", &[Rect((10, 2, 1, 3, 2))]),
+            Cell("K", &[Rect(10, [2, 1, 3, 2])]),
             Cell(
                 "TOP",
                 &[Turned("K", 3, 2, [(100, 200), (130, 200), (100, 240)])],
@@ -70,26 +69,26 @@ static CASES: [Case; 11] = [
     Case {
         name: "parent cuts child",
         layout: &[
-            Cell("K", &[Rect((1, 0, 0, 10, 10))]),
+            Cell("K", &[Rect(1, [0, 0, 10, 10])]),
             Cell(
                 "TOP",
                 &[
                     Placed("K", 0, 0),
                     Placed("K", 100, 0),
-                    Rect((2, 5, 0, 15, 10)),
+                    Rect(2, [5, 0, 15, 10]),
                 ],
             ),
         ],
         rules: LESS,
         line: "shapes cells 2 rectangles 2\n",
         wanted: &[
-            Cell("K", &[Rect((10, 0, 0, 5, 10))]),
+            Cell("K", &[Rect(10, [0, 0, 5, 10])]),
             Cell(
                 "TOP",
                 &[
                     Placed("K", 0, 0),
                     Placed("K", 100, 0),
-                    Rect((10, 105, 0, 110, 10)),
+                    Rect(10, [105, 0, 110, 10]),
                 ],
             ),
         ],
@@ -98,13 +97,13 @@ static CASES: [Case; 11] = [
     Case {
         name: "two on one spot",
         layout: &[
-            Cell("K", &[Rect((1, 0, 0, 10, 10))]),
+            Cell("K", &[Rect(1, [0, 0, 10, 10])]),
             Cell(
                 "TOP",
                 &[
                     Placed("K", 0, 0),
                     Placed("K", 0, 0),
-                    Rect((2, 5, 0, 15, 10)),
+                    Rect(2, [5, 0, 15, 10]),
                 ],
             ),
         ],
@@ -117,7 +116,7 @@ static CASES: [Case; 11] = [
                 &[
                     Placed("K", 0, 0),
                     Placed("K", 0, 0),
-                    Rect((10, 0, 0, 5, 10)),
+                    Rect(10, [0, 0, 5, 10]),
                 ],
             ),
         ],
@@ -126,21 +125,21 @@ static CASES: [Case; 11] = [
     Case {
         name: "order of the file",
         layout: &[
-            Cell("TOP", &[Placed("K", 7, 0), Rect((1, 0, 0, 5, 5))]),
-            Cell("K", &[Rect((1, 0, 0, 1, 1))]),
+            Cell("TOP", &[Placed("K", 7, 0), Rect(1, [0, 0, 5, 5])]),
+            Cell("K", &[Rect(1, [0, 0, 1, 1])]),
         ],
         rules: COPY,
         line: "shapes cells 2 rectangles 2\n",
         wanted: &[
-            Cell("TOP", &[Placed("K", 7, 0), Rect((10, 0, 0, 5, 5))]),
-            Cell("K", &[Rect((10, 0, 0, 1, 1))]),
+            Cell("TOP", &[Placed("K", 7, 0), Rect(10, [0, 0, 5, 5])]),
+            Cell("K", &[Rect(10, [0, 0, 1, 1])]),
         ],
     },
     // No rule names the layer.
     Case {
         name: "nothing of a layer",
         layout: &[
-            Cell("K", &[Rect((3, 0, 0, 10, 10))]),
+            Cell("K", &[Rect(3, [0, 0, 10, 10])]),
             Cell("TOP", &[Placed("K", 1, 1)]),
         ],
         rules: COPY,
@@ -151,7 +150,7 @@ static CASES: [Case; 11] = [
     Case {
         name: "cut on one of three paths",
         layout: &[
-            Cell("K", &[Rect((1, 0, 0, 10, 10))]),
+            Cell("K", &[Rect(1, [0, 0, 10, 10])]),
             Cell("M", &[Placed("K", 0, 0)]),
             Cell(
                 "TOP",
@@ -159,15 +158,15 @@ static CASES: [Case; 11] = [
                     Placed("M", 0, 0),
                     Placed("M", 100, 0),
                     Placed("K", 200, 0),
-                    Rect((2, 205, 0, 215, 10)),
+                    Rect(2, [205, 0, 215, 10]),
                 ],
             ),
         ],
         rules: LESS,
         line: "shapes cells 3 rectangles 2\n",
         wanted: &[
-            Cell("K", &[Rect((10, 0, 0, 5, 10))]),
-            Cell("M", &[Placed("K", 0, 0), Rect((10, 5, 0, 10, 10))]),
+            Cell("K", &[Rect(10, [0, 0, 5, 10])]),
+            Cell("M", &[Placed("K", 0, 0), Rect(10, [5, 0, 10, 10])]),
             Cell(
                 "TOP",
                 &[Placed("M", 0, 0), Placed("M", 100, 0), Placed("K", 200, 0)],
@@ -179,20 +178,20 @@ static CASES: [Case; 11] = [
     Case {
         name: "array over itself",
         layout: &[
-            Cell("K", &[Rect((1, 0, 0, 10, 10))]),
+            Cell("K", &[Rect(1, [0, 0, 10, 10])]),
             Cell("TOP", &[Turned("K", 2, 1, [(0, 0), (12, 0), (0, 20)])]),
         ],
         rules: LESS,
         line: "shapes cells 2 rectangles 4\n",
         wanted: &[
-            Cell("K", &[Rect((10, 0, 4, 10, 6))]),
+            Cell("K", &[Rect(10, [0, 4, 10, 6])]),
             Cell(
                 "TOP",
                 &[
                     Turned("K", 2, 1, [(0, 0), (12, 0), (0, 20)]),
-                    Rect((10, 0, 0, 4, 10)),
-                    Rect((10, 6, 0, 10, 10)),
-                    Rect((10, 12, 0, 16, 10)),
+                    Rect(10, [0, 0, 4, 10]),
+                    Rect(10, [6, 0, 10, 10]),
+                    Rect(10, [12, 0, 16, 10]),
                 ],
             ),
         ],
@@ -201,26 +200,26 @@ static CASES: [Case; 11] = [
     Case {
         name: "names of names",
         layout: &[
-            Cell("K", &[Rect((1, 0, 0, 10, 10)), Rect((2, 0, 0, 4, 10))]),
+            Cell("K", &[Rect(1, [0, 0, 10, 10]), Rect(2, [0, 0, 4, 10])]),
             Cell(
                 "TOP",
                 &[
                     Placed("K", 0, 0),
-                    Rect((1, 2, 0, 6, 10)),
-                    Rect((2, 20, 0, 22, 10)),
+                    Rect(1, [2, 0, 6, 10]),
+                    Rect(2, [20, 0, 22, 10]),
                 ],
             ),
         ],
         rules: NAMES,
         line: "shapes cells 2 rectangles 3\n",
         wanted: &[
-            Cell("K", &[Rect((10, 0, 0, 2, 10))]),
+            Cell("K", &[Rect(10, [0, 0, 2, 10])]),
             Cell(
                 "TOP",
                 &[
                     Placed("K", 0, 0),
-                    Rect((10, 2, 0, 4, 10)),
-                    Rect((10, 20, 0, 22, 10)),
+                    Rect(10, [2, 0, 4, 10]),
+                    Rect(10, [20, 0, 22, 10]),
                 ],
             ),
         ],
@@ -230,21 +229,21 @@ static CASES: [Case; 11] = [
     Case {
         name: "grown",
         layout: &[
-            Cell("K", &[Rect((1, 0, 0, 10, 10))]),
+            Cell("K", &[Rect(1, [0, 0, 10, 10])]),
             Cell("TOP", &[Placed("K", 0, 0), Placed("K", 12, 0)]),
         ],
         rules: GROWN,
         line: "shapes cells 2 rectangles 4\n",
         wanted: &[
-            Cell("K", &[Rect((10, 0, -2, 10, 12))]),
+            Cell("K", &[Rect(10, [0, -2, 10, 12])]),
             Cell(
                 "TOP",
                 &[
                     Placed("K", 0, 0),
                     Placed("K", 12, 0),
-                    Rect((10, -2, -2, 0, 12)),
-                    Rect((10, 10, -2, 12, 12)),
-                    Rect((10, 22, -2, 24, 12)),
+                    Rect(10, [-2, -2, 0, 12]),
+                    Rect(10, [10, -2, 12, 12]),
+                    Rect(10, [22, -2, 24, 12]),
                 ],
             ),
         ],
@@ -253,27 +252,27 @@ static CASES: [Case; 11] = [
     Case {
         name: "shrunk",
         layout: &[
-            Cell("K", &[Rect((1, 0, 0, 10, 10))]),
-            Cell("TOP", &[Placed("K", 0, 0), Rect((1, 10, 0, 20, 10))]),
+            Cell("K", &[Rect(1, [0, 0, 10, 10])]),
+            Cell("TOP", &[Placed("K", 0, 0), Rect(1, [10, 0, 20, 10])]),
         ],
         rules: SHRUNK,
         line: "shapes cells 2 rectangles 2\n",
         wanted: &[
-            Cell("K", &[Rect((10, 2, 2, 8, 8))]),
-            Cell("TOP", &[Placed("K", 0, 0), Rect((10, 8, 2, 18, 8))]),
+            Cell("K", &[Rect(10, [2, 2, 8, 8])]),
+            Cell("TOP", &[Placed("K", 0, 0), Rect(10, [8, 2, 18, 8])]),
         ],
     },
     Case {
         name: "empty layer",
         layout: &[
-            Cell("K", &[Rect((1, 0, 0, 10, 10))]),
-            Cell("TOP", &[Placed("K", 0, 0), Rect((1, 20, 0, 30, 10))]),
+            Cell("K", &[Rect(1, [0, 0, 10, 10])]),
+            Cell("TOP", &[Placed("K", 0, 0), Rect(1, [20, 0, 30, 10])]),
         ],
         rules: EMPTY,
         line: "shapes cells 2 rectangles 2\n",
         wanted: &[
-            Cell("K", &[Rect((10, 0, 0, 10, 10))]),
-            Cell("TOP", &[Placed("K", 0, 0), Rect((10, 20, 0, 30, 10))]),
+            Cell("K", &[Rect(10, [0, 0, 10, 10])]),
+            Cell("TOP", &[Placed("K", 0, 0), Rect(10, [20, 0, 30, 10])]),
         ],
     },
 ];
@@ -285,8 +284,8 @@ fn comes_out<R: Abort + Threads + Wait + Sync>(
     case: &Case,
 ) -> Result<(), AllocError> {
     let layout = library(alloc, case.layout)?;
-    let run = run_of(rt, alloc, &layout, case.rules.as_bytes(), &SHAPES, NONE)?;
-    ends(rt, &run, 0, case.line);
+    let run = run_of(rt, alloc, drawing(&layout, case.rules), &SHAPES, NONE)?;
+    ends(rt, &run, 0, case.line, case.name);
     let wanted = library(alloc, case.wanted)?;
     assert!(rt; run.shapes == Some(wanted), "{}", case.name);
     Ok(())
@@ -341,7 +340,7 @@ fn refused_cells(rt: HostRuntime) -> Result<(), Fail> {
     let alloc = rt.alloc();
     for (cells, line) in &REFUSED {
         let layout = library(alloc, cells)?;
-        refuses(&rt, alloc, &layout, COPY.as_bytes(), &SHAPES, line)?;
+        refuses(&rt, alloc, drawing(&layout, COPY), &SHAPES, line)?;
     }
     Ok(())
 }
@@ -359,7 +358,7 @@ fn push_chain(
     begin_cell(alloc, out, name.as_str())?;
     if number == 0 {
         for shape in shapes {
-            push_boundary(out, shape.0, &corners(*shape))?;
+            push_shape(alloc, out, *shape)?;
         }
     } else {
         let before = number.saturating_sub(1);
@@ -443,18 +442,6 @@ const NEAR: &str = "a = input(1, 0)\nb = a.sized(1)\nb.output(10, 0)\n";
 const UNWRITTEN: &str = "a = input(1, 0)\nb = a.sized(1)\na.output(10, 0)\n";
 
 const UNDRAWN: &str = "a = input(1, 0)\nb = input(2, 0)\nc = a & b\n";
-
-const EXTRACT: [&str; 9] = [
-    "extract",
-    "--layout",
-    "l",
-    "--rules",
-    "r",
-    "--shapes",
-    "s",
-    "--netlist",
-    "n",
-];
 
 const METAL: &str = "metal = input(5, 0)\ntxt = labels(5, 1)\nconnect(metal, txt)\n";
 
@@ -617,8 +604,8 @@ fn made_hierarchies(rt: HostRuntime) -> Result<(), Fail> {
     let alloc = rt.alloc();
     for Run(layout, words, rules, line, code) in &RUNS {
         let layout = stream_of(alloc, layout)?;
-        let run = run_of(&rt, alloc, &layout, rules.as_bytes(), words, NONE)?;
-        ends(&rt, &run, *code, line);
+        let run = run_of(&rt, alloc, drawing(&layout, rules), words, NONE)?;
+        ends(&rt, &run, *code, line, line);
         assert!(rt; *code == 0 || run.shapes.is_none(), "{line}");
     }
     Ok(())

@@ -1,6 +1,6 @@
 //! Runs over a depot and a sink that only count bytes.
 
-use crate::command::{SHAPES, words_of};
+use crate::commands::{SHAPES, words_of};
 use crate::streams::stream;
 use job_board::OpenGate;
 use lvs_outside::QuietDepot;

@@ -1,6 +1,7 @@
 //! Runs of `shapes` on one cell: what is written, what is refused, and calls that fail.
 
-use crate::command::{Failing, NONE, Ran, SHAPES, ends, refuses, run_of};
+use crate::commands::{Failing, NONE, Ran, SHAPES, drawing, ends, refuses, run_of};
+use crate::shaped::COPY;
 use crate::streams::{Shape, Splice, front, outline, spliced, stream};
 use std::alloc::{AllocError, Global};
 use std::process::Abort;
@@ -9,8 +10,6 @@ use std::test::Fail;
 use std::thread::Threads;
 
 const RULES: &str = "a = input(1, 0)\nb = input(2, 0)\nc = a & b\nc.output(10, 0)\n";
-
-const COPY: &str = "a = input(1, 0)\na.output(10, 0)\n";
 
 const FOUR: &str = "a = input(1, 0)\nb = input(2, 0)\nd = a - b\ne = a | b\nf = a ^ b
 e.output(11, 0)\nd.output(12, 0)\nf.output(13, 0)\n";
@@ -100,8 +99,8 @@ fn writes<R: Abort + Threads + Wait + Sync>(
     line: &str,
     wanted: &[Shape],
 ) -> Result<(), AllocError> {
-    let run = run_of(rt, alloc, layout, rules.as_bytes(), &SHAPES, NONE)?;
-    ends(rt, &run, 0, line);
+    let run = run_of(rt, alloc, drawing(layout, rules), &SHAPES, NONE)?;
+    ends(rt, &run, 0, line, line);
     let wanted = Some(stream(alloc, wanted)?);
     assert!(rt; run.shapes == wanted, "{line}");
     Ok(())
@@ -179,7 +178,7 @@ fn refused_words_and_rules(rt: HostRuntime) -> Result<(), Fail> {
     let alloc = rt.alloc();
     let layout = stream(alloc, &OVERLAP)?;
     for (words, rules, line) in &REFUSED {
-        refuses(&rt, alloc, &layout, rules.as_bytes(), words, line)?;
+        refuses(&rt, alloc, drawing(&layout, rules), words, line)?;
     }
     Ok(())
 }
@@ -216,7 +215,7 @@ fn every_cut(rt: HostRuntime) -> Result<(), Fail> {
         let line = format!(in alloc; "refused layout 1 record {record} offset {start}\n")?;
         for at in *start..*end {
             let cut = front(&layout, at);
-            refuses(&rt, alloc, cut, RULES.as_bytes(), &SHAPES, &line)?;
+            refuses(&rt, alloc, drawing(cut, RULES), &SHAPES, &line)?;
         }
     }
     Ok(())
@@ -318,7 +317,7 @@ fn changed_streams(rt: HostRuntime) -> Result<(), Fail> {
     let layout = stream(alloc, &OVERLAP)?;
     for (splices, line) in &CHANGED {
         let changed = spliced(alloc, &layout, splices)?;
-        refuses(&rt, alloc, &changed, RULES.as_bytes(), &SHAPES, line)?;
+        refuses(&rt, alloc, drawing(&changed, RULES), &SHAPES, line)?;
     }
     for (splices, length) in &SAME {
         let changed = spliced(alloc, &layout, splices)?;
@@ -381,7 +380,7 @@ fn each_call_fails(rt: HostRuntime) -> Result<(), Fail> {
     for (depot, sink, code, written) in &FAILS {
         let (depot, sink) = (*depot, *sink);
         let failing = Failing { depot, sink };
-        let run = run_of(&rt, alloc, &layout, RULES.as_bytes(), &SHAPES, failing)?;
+        let run = run_of(&rt, alloc, drawing(&layout, RULES), &SHAPES, failing)?;
         let is_so = run.code == *code && run.line.is_empty() == (*code == 4);
         assert!(rt; is_so, "{depot} {sink}");
         assert!(rt; has_left(&run, &wanted, *written), "{depot} {sink}");

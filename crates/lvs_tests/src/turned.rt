@@ -1,8 +1,7 @@
 //! Each operator across a placement in each of the eight turns.
 
-use crate::cells::{begin, begin_cell, end, end_cell, push_turned};
-use crate::command::{NONE, SHAPES, ends, run_of};
-use crate::streams::{Shape, corners, push_boundary};
+use crate::commands::{NONE, SHAPES, drawing, ends, run_of};
+use crate::drawn::{begin, begin_cell, end, end_cell, push_rect, push_turned};
 use std::alloc::{AllocError, Global};
 use std::process::Abort;
 use std::sync::Wait;
@@ -134,12 +133,6 @@ static OPERATORS: [Operator; 5] = [
     ),
 ];
 
-fn push_rect(out: &mut Vec<u8>, layer: u8, rect: Corners) -> Result<(), AllocError> {
-    let [x1, y1, x2, y2] = rect;
-    let shape: Shape = (layer, x1, y1, x2, y2);
-    push_boundary(out, layer, &corners(shape))
-}
-
 // K with these rectangles on the one layer, and a top that places it and has this one on the other.
 fn placed(
     alloc: Global,
@@ -150,13 +143,13 @@ fn placed(
     let mut out = begin(alloc)?;
     begin_cell(alloc, &mut out, "K")?;
     for rect in below.1 {
-        push_rect(&mut out, below.0, *rect)?;
+        push_rect(alloc, &mut out, below.0, *rect)?;
     }
     end_cell(&mut out)?;
     begin_cell(alloc, &mut out, "TOP")?;
     push_turned(alloc, &mut out, "K", turn.strans, turn.angle)?;
     if let Some(rect) = above.1 {
-        push_rect(&mut out, above.0, rect)?;
+        push_rect(alloc, &mut out, above.0, rect)?;
     }
     end_cell(&mut out)?;
     end(&mut out)?;
@@ -175,8 +168,8 @@ fn comes_out<R: Abort + Threads + Wait + Sync>(
     let rules = format!(in alloc;
         "a = input(1, 0)\nb = input(2, 0)\nc = {made}\nc.output(10, 0)\n"
     )?;
-    let run = run_of(rt, alloc, layout, rules.as_bytes(), &SHAPES, NONE)?;
-    ends(rt, &run, 0, line);
+    let run = run_of(rt, alloc, drawing(layout, rules.as_str()), &SHAPES, NONE)?;
+    ends(rt, &run, 0, line, made);
     let wanted = placed(alloc, turn, (10, kept), (10, rest_of(turn, *rest)))?;
     assert!(rt; run.shapes == Some(wanted), "{made} {:?}", turn.bar);
     Ok(())

@@ -1,14 +1,9 @@
 //! Layouts at the limits of the format and of the reach, and one that is swept all at once.
 
-use crate::drawn::{Form, HEAD, OUTLINE, TAIL, push, push_rectangle};
-use crate::runs::{writes, writes_count};
+use crate::elements::{FAR, Form, HEAD, OUTLINE, TAIL, push, push_rectangle};
+use crate::shaped::{COPY, writes, writes_count};
 use std::alloc::{AllocError, Global};
 use std::test::Fail;
-
-const COPY: &str = "a = input(1, 0)\na.output(10, 0)\n";
-
-/// The farthest that an element says.
-const FAR: i32 = 2147483647;
 
 /// A PATH of width 20 that goes on by half of it at both ends.
 const WIRE: Form = Form {

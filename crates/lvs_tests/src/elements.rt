@@ -5,6 +5,9 @@ use std::alloc::AllocError;
 /// Two corners of a rectangle: x1, y1, x2, y2.
 pub type Corners = [i32; 4];
 
+/// The farthest that an element says.
+pub const FAR: i32 = 2147483647;
+
 /// An element of a layout: its layer, its type, its form, and x and y of each of its points.
 pub struct Element(pub u16, pub u16, pub Form, pub &'static [i32]);
 

@@ -3,7 +3,8 @@
 //! The rectangles of a layer: in each row of unit squares every longest run of covered squares,
 //! equal runs of rows on one another as one rectangle, ordered by y1, then x1.
 
-use crate::drawn::{Corners, Element, Form, OUTLINE};
+use crate::elements::{Corners, Element, FAR, Form, OUTLINE};
+use crate::shaped::COPY;
 
 /// A layout, its rules, and for each output line its layer, datatype and rectangles.
 pub struct Case {
@@ -12,8 +13,6 @@ pub struct Case {
     pub rules: &'static str,
     pub wanted: &'static [(u16, u16, &'static [Corners])],
 }
-
-const COPY: &str = "a = input(1, 0)\na.output(10, 0)\n";
 
 /// BOX.
 const BLOCK: Form = Form {
@@ -73,9 +72,6 @@ macro_rules! text {
         }
     };
 }
-
-/// The farthest that an element says.
-const FAR: i32 = 2147483647;
 
 pub const CASES: [Case; 28] = [
     Case {

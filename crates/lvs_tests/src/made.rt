@@ -1,6 +1,6 @@
 //! A chip that was made, and what is run on its files.
 
-use crate::commands::{Failing, NONE, Ran, ends, holds, joined, run_files};
+use crate::commands::{Failing, NONE, Ran, bytes_of, ends, holds, joined, run_files};
 use job_board::OpenGate;
 use std::alloc::{AllocError, Global};
 use std::sync::Wait;
@@ -59,14 +59,6 @@ fn make<R: Threads + Wait + Sync>(
     let none: &[u8] = &[];
     let files = [("big.gds", none), ("big.lvs", none), ("big.cir", none)];
     run_files(rt, alloc, files, words, paths, failing, &OpenGate)
-}
-
-// A file's bytes.
-fn bytes_of(file: &Option<Vec<u8>>) -> &[u8] {
-    match file {
-        Some(bytes) => bytes.as_slice(),
-        None => &[],
-    }
 }
 
 // Runs `run` on a chip that was made, with so many workers.

@@ -1,7 +1,7 @@
 //! Two combs whose teeth lie half over one another, under each operator.
 
-use crate::drawn::{Corners, HEAD, TAIL, push_rectangle};
-use crate::runs::writes;
+use crate::elements::{Corners, HEAD, TAIL, push_rectangle};
+use crate::shaped::writes;
 use std::alloc::{AllocError, Global};
 use std::test::Fail;
 

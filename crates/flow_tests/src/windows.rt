@@ -1,7 +1,7 @@
 //! What windows find: in lists of rectangles, in a cell's layers and among its references.
 
-use crate::streams::Item::{Placed, Rect as Shape, Turned};
-use crate::streams::{Cell, Item, begin, end, library, push_cell};
+use crate::cells::Item::{Placed, Rect as Shape, Turned};
+use crate::cells::{Cell, Item, begin, end, library, push_cell};
 use gds_layout::{Layout, read_layout};
 use geo_base::{LayerKey, Rect};
 use net_names::Name;

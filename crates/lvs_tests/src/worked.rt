@@ -1,8 +1,8 @@
 //! The layouts that were worked out by hand, each run through its rules.
 
 use crate::cases::{CASES, Case};
-use crate::drawn::{Element, HEAD, TAIL, push, push_rectangle};
-use crate::runs::writes;
+use crate::elements::{Element, HEAD, TAIL, push, push_rectangle};
+use crate::shaped::writes;
 use std::alloc::{AllocError, Global};
 use std::test::Fail;
 

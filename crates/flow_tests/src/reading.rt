@@ -2,8 +2,8 @@
 
 ghost use Rattle.std.specs.Prelude.{◌≤◌, ◌<◌, length};
 
-use crate::streams::Item::{Placed, Rect, Turned};
-use crate::streams::{
+use crate::cells::Item::{Placed, Rect, Turned};
+use crate::cells::{
     Cell, begin, begin_cell, end, end_cell, front, library, push_placed, with_byte,
 };
 use crate::told::told;

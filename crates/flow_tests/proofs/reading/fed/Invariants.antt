@@ -1,5 +1,5 @@
 use Rattle.std.proofs.Common.{◌≡◌, ◌+◌, length}
-use Rattle.layout_tests.proofs.reading.fed.Given as goal
+use Rattle.flow_tests.proofs.reading.fed.Given as goal
 
 abbrev pub invariant-loop-rest : goal.invariant-loop-rest
 invariant-loop-rest l = length l.reader.fed + length l.rest ≡ length l.bytes

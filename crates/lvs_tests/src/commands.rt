@@ -12,6 +12,9 @@ use std::process::Abort;
 use std::sync::Wait;
 use std::thread::Threads;
 
+/// The words of `shapes` over the files l (the layout) and r (the rules).
+pub const SHAPES: [&str; 4] = ["shapes", "l", "r", "s"];
+
 /// The words of `extract` over the files l (the layout) and r (the rules).
 pub const EXTRACT: [&str; 9] = [
     "extract",
@@ -46,6 +49,15 @@ pub struct Inputs<'a> {
     pub schematic: &'a str,
 }
 
+/// A layout and its rules, without a schematic.
+pub fn drawing<'a>(layout: &'a [u8], rules: &'a str) -> Inputs<'a> {
+    Inputs {
+        layout,
+        rules,
+        schematic: "",
+    }
+}
+
 /// What a run left.
 #[derive(Debug, Drop)]
 pub struct Ran {
@@ -65,8 +77,8 @@ pub struct Failing {
 
 pub const NONE: Failing = Failing { depot: 0, sink: 0 };
 
-// Strings of these words.
-fn words_of(alloc: Global, words: &[&str]) -> Result<Vec<String>, AllocError> {
+/// Strings of these words.
+pub fn words_of(alloc: Global, words: &[&str]) -> Result<Vec<String>, AllocError> {
     let mut made = Vec::new(alloc);
     for word in words {
         made.push(String::from_str(alloc, word)?)?;
@@ -79,6 +91,14 @@ fn one(alloc: Global, number: u64) -> Result<Vec<u64>, AllocError> {
     let mut numbers = Vec::new(alloc);
     numbers.push(number)?;
     Ok(numbers)
+}
+
+/// A file's bytes, none where there is no file.
+pub fn bytes_of(file: &Option<Vec<u8>>) -> &[u8] {
+    match file {
+        Some(bytes) => bytes.as_slice(),
+        None => &[],
+    }
 }
 
 // A copy of the path's file.

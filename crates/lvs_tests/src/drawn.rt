@@ -12,6 +12,9 @@ pub enum Item {
     Label(&'static str, i32, i32),
     /// SREF of the cell of this name at a point.
     Placed(&'static str, i32, i32),
+    /// AREF of the cell of this name, mirrored and turned by a quarter: columns, rows, and its
+    /// three points.
+    Turned(&'static str, u16, u16, [(i32, i32); 3]),
 }
 
 /// A cell's name, and what stands in it.
@@ -23,6 +26,9 @@ const HEAD: [u8; 60] = [
     0, 0, 0, 0, 0, 0, 0, 0, 0, 0, 0, 0, 0x00, 0x06, 0x02, 0x06, 0x4C, 0x00, 0x00, 0x14, 0x03, 0x05,
     0x3E, 0x41, 0x89, 0x37, 0x4B, 0xC6, 0xA7, 0xF0, 0x39, 0x44, 0xB8, 0x2F, 0xA0, 0x9B, 0x5A, 0x54,
 ];
+
+/// ANGLE of a quarter turn.
+const QUARTER: [u8; 8] = [0x42, 0x5A, 0, 0, 0, 0, 0, 0];
 
 // A record of a kind, a form and at most 1,000 bytes of data.
 fn push_record(out: &mut Vec<u8>, kind: u8, form: u8, data: &[u8]) -> Result<(), AllocError> {
@@ -51,8 +57,8 @@ fn push_points(alloc: Global, out: &mut Vec<u8>, points: &[(i32, i32)]) -> Resul
     push_record(out, 0x10, 0x03, &data)
 }
 
-// A boundary of these points.
-fn push_outline(
+/// A boundary of these points on a layer of datatype 0.
+pub fn push_outline(
     alloc: Global,
     out: &mut Vec<u8>,
     layer: u8,
@@ -107,12 +113,57 @@ pub fn push_placed(
     push_record(out, 0x11, 0, &[])
 }
 
+/// SREF of the cell of a name at the origin, with these data of STRANS and of ANGLE; where one has
+/// none, without that record.
+pub fn push_turned(
+    alloc: Global,
+    out: &mut Vec<u8>,
+    name: &str,
+    strans: &[u8],
+    angle: &[u8],
+) -> Result<(), AllocError> {
+    push_record(out, 0x0A, 0, &[])?;
+    push_string(alloc, out, 0x12, name.as_bytes())?;
+    if !strans.is_empty() {
+        push_record(out, 0x1A, 0x01, strans)?;
+    }
+    if !angle.is_empty() {
+        push_record(out, 0x1C, 0x05, angle)?;
+    }
+    push_points(alloc, out, &[(0, 0)])?;
+    push_record(out, 0x11, 0, &[])
+}
+
+// COLROW.
+fn push_counts(out: &mut Vec<u8>, counts: [u16; 2]) -> Result<(), AllocError> {
+    let [columns, rows] = counts;
+    let ([a, b], [c, d]) = (columns.to_be_bytes(), rows.to_be_bytes());
+    push_record(out, 0x13, 0x02, &[a, b, c, d])
+}
+
+// AREF of the cell of a name, mirrored and turned by a quarter.
+fn push_array(
+    alloc: Global,
+    out: &mut Vec<u8>,
+    name: &str,
+    counts: [u16; 2],
+    points: &[(i32, i32)],
+) -> Result<(), AllocError> {
+    push_record(out, 0x0B, 0, &[])?;
+    push_string(alloc, out, 0x12, name.as_bytes())?;
+    push_record(out, 0x1A, 0x01, &[0x80, 0])?;
+    push_record(out, 0x1C, 0x05, &QUARTER)?;
+    push_counts(out, counts)?;
+    push_points(alloc, out, points)?;
+    push_record(out, 0x11, 0, &[])
+}
+
 /// AREF of the cell of a name from the origin on: how many columns and rows, and their step.
 pub fn push_grid(
     alloc: Global,
     out: &mut Vec<u8>,
     name: &str,
-    counts: [i16; 2],
+    counts: [u16; 2],
     step: i32,
 ) -> Result<(), AllocError> {
     let [columns, rows] = counts;
@@ -120,9 +171,7 @@ pub fn push_grid(
     let top = i32::from(rows).saturating_mul(step);
     push_record(out, 0x0B, 0, &[])?;
     push_string(alloc, out, 0x12, name.as_bytes())?;
-    let [a, b] = columns.to_be_bytes();
-    let [c, d] = rows.to_be_bytes();
-    push_record(out, 0x13, 0x02, &[a, b, c, d])?;
+    push_counts(out, counts)?;
     push_points(alloc, out, &[(0, 0), (right, 0), (0, top)])?;
     push_record(out, 0x11, 0, &[])
 }
@@ -133,6 +182,9 @@ fn push_item(alloc: Global, out: &mut Vec<u8>, item: &Item) -> Result<(), AllocE
         Item::Outline(layer, points) => push_outline(alloc, out, *layer, points),
         Item::Label(text, x, y) => push_label(alloc, out, text.as_bytes(), *x, *y),
         Item::Placed(name, x, y) => push_placed(alloc, out, name, *x, *y),
+        Item::Turned(name, columns, rows, points) => {
+            push_array(alloc, out, name, [*columns, *rows], points)
+        }
     }
 }
 

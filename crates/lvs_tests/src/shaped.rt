@@ -1,12 +1,13 @@
-//! Whole runs of `shapes` over memory.
+//! Runs of `shapes` on one cell whose file is to hold these bytes.
 
-use job_board::OpenGate;
-use lvs_outside::{MemoryDepot, MemorySink};
-use lvs_run::run_lvs;
+use crate::commands::{NONE, SHAPES, bytes_of, drawing, ends, run_of};
 use std::alloc::{AllocError, Global};
 use std::process::Abort;
 use std::sync::Wait;
 use std::thread::Threads;
+
+/// Layer 1 as it is drawn.
+pub const COPY: &str = "a = input(1, 0)\na.output(10, 0)\n";
 
 /// Runs `shapes l r s` over the files l (the layout) and r (the rules): the status is 0, s has the
 /// wanted bytes, and the line says how many rectangles they hold.
@@ -32,26 +33,10 @@ pub fn writes_count<R: Abort + Threads + Wait + Sync>(
     count: usize,
     name: &str,
 ) -> Result<(), AllocError> {
-    let mut words = Vec::new(alloc);
-    for word in ["shapes", "l", "r", "s"] {
-        words.push(String::from_str(alloc, word)?)?;
-    }
-    let mut depot = MemoryDepot::new(alloc, Vec::new(alloc));
-    depot.put(alloc, "l", layout)?;
-    depot.put(alloc, "r", rules.as_bytes())?;
-    let mut sink = MemorySink::new(alloc, Vec::new(alloc));
-    let status = run_lvs(
-        rt,
-        alloc,
-        words.as_slice(),
-        &mut depot,
-        &mut sink,
-        &OpenGate,
-    );
-    assert_eq!(rt; status.code(), 0, "{name}");
     let line = format!(in alloc; "shapes cells 1 rectangles {count}\n")?;
-    assert_eq!(rt; sink.bytes(), line.as_bytes(), "{name}");
-    let shapes = depot.file("s").unwrap_or(&[]);
+    let ran = run_of(rt, alloc, drawing(layout, rules), &SHAPES, NONE)?;
+    ends(rt, &ran, 0, line.as_str(), name);
+    let shapes = bytes_of(&ran.shapes);
     assert!(rt; shapes == wanted, "{name}: {shapes:?}");
     Ok(())
 }
