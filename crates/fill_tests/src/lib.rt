@@ -3,8 +3,7 @@
 
 #[cfg(test)]
 mod boundaries;
+#[cfg(test)]
 mod common;
 #[cfg(test)]
 mod paths;
-
-pub use common::path_set;

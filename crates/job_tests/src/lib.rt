@@ -4,9 +4,9 @@
 #[cfg(test)]
 mod board;
 mod gates;
+#[cfg(test)]
 mod graphs;
 #[cfg(test)]
 mod phase;
 
 pub use gates::{Abreast, Visits};
-pub use graphs::graph_of;

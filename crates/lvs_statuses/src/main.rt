@@ -10,60 +10,72 @@ use std::rt::Files;
 use std::sync::Wait;
 use std::thread::Threads;
 
-/// Layout, rules, and the schematic of a comparison: two rectangles overlap; a ring of six
-/// transistors isn't two rings of three; there are no such rules; three guesses don't tell the rings
-/// apart. Then a placed and routed block of 64 standard cells (tiny of bench/flow) with
-/// `flatten_unmatched` against its hierarchical schematic, which it is in three styles of cells, of
-/// which two have taps or wells that reach past the cells' boxes; with a wire that is cut; with two
-/// wires that are joined; with `same_pins`, and then against a schematic in which the names of two
-/// outputs are exchanged. Last, the rules are a folder.
-const RUNS: [[&str; 3]; 12] = [
-    ["common.gds", "common.lvs", ""],
-    ["ring.gds", "ring.lvs", "two.cir"],
-    ["common.gds", "none.lvs", ""],
-    ["ring.gds", "few.lvs", "two.cir"],
-    ["inside.gds", "tiny.lvs", "tiny.cir"],
-    ["rail.gds", "tiny.lvs", "tiny.cir"],
-    ["over.gds", "tiny.lvs", "tiny.cir"],
-    ["open.gds", "tiny.lvs", "tiny.cir"],
-    ["short.gds", "tiny.lvs", "tiny.cir"],
-    ["inside.gds", "pins.lvs", "tiny.cir"],
-    ["inside.gds", "pins.lvs", "labels.cir"],
-    ["common.gds", ".", ""],
-];
-
-// The words of `shapes` where there is no schematic, else those of `run`.
-fn words_of(alloc: Global, files: [&str; 3]) -> Result<Vec<String>, AllocError> {
-    let [layout, rules, schematic] = files;
-    let mut words = Vec::new(alloc);
-    if schematic.is_empty() {
-        for word in ["shapes", layout, rules, "out.gds"] {
-            words.push(String::from_str(alloc, word)?)?;
-        }
-        return Ok(words);
-    }
-    words.push(String::from_str(alloc, "run")?)?;
-    for (name, path) in [
-        ("--layout", layout),
-        ("--rules", rules),
-        ("--schematic", schematic),
-        ("--shapes", "s.gds"),
-        ("--netlist", "n.cir"),
-        ("--report", "p.txt"),
-    ] {
-        words.push(String::from_str(alloc, name)?)?;
-        words.push(String::from_str(alloc, path)?)?;
-    }
-    Ok(words)
+// The words of `shapes` on a layout and its rules.
+macro_rules! shapes {
+    ($layout:expr, $rules:expr) => {
+        &["shapes", $layout, $rules, "out.gds"]
+    };
 }
 
-// Runs over the files, and writes the status behind the run's line.
+// The words of `run` on a layout, its rules and a schematic.
+macro_rules! run {
+    ($layout:expr, $rules:expr, $schematic:expr) => {
+        &[
+            "run",
+            "--layout",
+            $layout,
+            "--rules",
+            $rules,
+            "--schematic",
+            $schematic,
+            "--shapes",
+            "s.gds",
+            "--netlist",
+            "n.cir",
+            "--report",
+            "p.txt",
+        ]
+    };
+}
+
+/// The words of each run: two rectangles overlap; a ring of six transistors isn't two rings of
+/// three; there are no such rules; three guesses don't tell the rings apart. Then a placed and routed
+/// block of 64 standard cells (tiny of bench/flow) with `flatten_unmatched` against its hierarchical
+/// schematic, which it is in three styles of cells, of which two have taps or wells that reach past
+/// the cells' boxes; with a wire that is cut; with two wires that are joined; with `same_pins`, and
+/// then against a schematic in which the names of two outputs are exchanged. Last, the rules are a
+/// folder.
+static RUNS: [&[&str]; 12] = [
+    shapes!("common.gds", "common.lvs"),
+    run!("ring.gds", "ring.lvs", "two.cir"),
+    shapes!("common.gds", "none.lvs"),
+    run!("ring.gds", "few.lvs", "two.cir"),
+    run!("inside.gds", "tiny.lvs", "tiny.cir"),
+    run!("rail.gds", "tiny.lvs", "tiny.cir"),
+    run!("over.gds", "tiny.lvs", "tiny.cir"),
+    run!("open.gds", "tiny.lvs", "tiny.cir"),
+    run!("short.gds", "tiny.lvs", "tiny.cir"),
+    run!("inside.gds", "pins.lvs", "tiny.cir"),
+    run!("inside.gds", "pins.lvs", "labels.cir"),
+    shapes!("common.gds", "."),
+];
+
+// Strings of these words.
+fn words_of(alloc: Global, words: &[&str]) -> Result<Vec<String>, AllocError> {
+    let mut made = Vec::new(alloc);
+    for word in words {
+        made.push(String::from_str(alloc, word)?)?;
+    }
+    Ok(made)
+}
+
+// Runs the words, and writes the status behind the run's line.
 fn ended<R: Files + Print + Threads + Wait + Sync>(
     rt: &R,
     alloc: Global,
-    files: [&str; 3],
+    words: &[&str],
 ) -> Result<u8, AllocError> {
-    let words = words_of(alloc, files)?;
+    let words = words_of(alloc, words)?;
     let mut depot = FileDepot::new(rt);
     let mut out = StdoutSink::new(rt);
     let status = run_lvs(rt, alloc, words.as_slice(), &mut depot, &mut out, &OpenGate);
@@ -79,8 +91,8 @@ fn ended<R: Files + Print + Threads + Wait + Sync>(
 fn main(rt: HostRuntime) -> ExitCode {
     let alloc = rt.alloc();
     let mut last = Status::NoMemory.code();
-    for files in RUNS {
-        match ended(&rt, alloc, files) {
+    for words in &RUNS {
+        match ended(&rt, alloc, words) {
             Ok(code) => last = code,
             Err(_) => return ExitCode::from(Status::NoMemory.code()),
         }

@@ -44,10 +44,10 @@ fn file_depot_keeps_a_file(rt: HostRuntime) -> Result<(), Fail> {
     let path = "lvs_outside_tests_file";
     let answer = write_and_read(&mut FileDepot::new(&rt), path, b"GDS\x00\xff", &mut back);
     fs::remove_file(&rt, path)?;
-    assert_eq!(rt; answer, Ok(true));
-    assert_eq!(rt; back.as_slice(), b"GDS\x00\xff".as_slice());
+    assert!(rt; answer == Ok(true));
+    assert!(rt; back.as_slice() == b"GDS\x00\xff".as_slice());
     let absent = FileDepot::new(&rt).open_read(path);
-    assert_eq!(rt; absent, Ok(false));
+    assert!(rt; absent == Ok(false));
     Ok(())
 }
 
@@ -59,35 +59,38 @@ fn file_depot_fails(rt: HostRuntime) -> Result<(), Fail> {
     let mut back = Vec::new(alloc);
     let path = "no_folder/file";
     let answer = write_and_read(&mut FileDepot::new(&rt), path, b"GDS", &mut back);
-    assert_eq!(rt; answer, Err(ReadFault::Failed));
-    assert_eq!(rt; FileDepot::new(&rt).open_read(path), Ok(false));
+    assert!(rt; answer == Err(ReadFault::Failed));
+    assert!(rt; FileDepot::new(&rt).open_read(path) == Ok(false));
     assert!(rt; write_file(&mut FileDepot::new(&rt), "/dev/full", b"GDS").is_err());
     assert!(rt; write_file(&mut FileDepot::new(&rt), "/dev/null", b"GDS").is_ok());
     let mut none = Vec::new(alloc);
     let answer = read_back(&mut FileDepot::new(&rt), ".", &mut none);
-    assert_eq!(rt; answer, Err(ReadFault::Failed));
+    assert!(rt; answer == Err(ReadFault::Failed));
     Ok(())
 }
+
+/// A call that fails, whether a file is written all the same, and what reading it answers.
+static FAULTS: [(Fault, bool, Result<bool, ReadFault>); 6] = [
+    (Fault::None, true, Ok(true)),
+    (Fault::Read, true, Err(ReadFault::Failed)),
+    (Fault::Write, false, Ok(true)),
+    (Fault::Flush, false, Ok(true)),
+    (Fault::Sync, false, Ok(true)),
+    (Fault::NoSync, true, Ok(true)),
+];
 
 // What is told by any call on a file is told by the depot: a read, a write, what was held back until
 // the file is flushed or synced. A device can't be synced.
 #[test]
 fn file_depot_tells_each_fault(rt: HostRuntime) -> Result<(), Fail> {
     let alloc = rt.alloc();
-    for (fault, is_written, read) in [
-        (Fault::None, true, Ok(true)),
-        (Fault::Read, true, Err(ReadFault::Failed)),
-        (Fault::Write, false, Ok(true)),
-        (Fault::Flush, false, Ok(true)),
-        (Fault::Sync, false, Ok(true)),
-        (Fault::NoSync, true, Ok(true)),
-    ] {
-        let files = Broken { fault };
+    for (fault, is_written, read) in &FAULTS {
+        let files = Broken { fault: *fault };
         let mut back = Vec::new(alloc);
         let written = write_file(&mut FileDepot::new(&files), "a", b"GDS");
-        assert_eq!(rt; written.is_ok(), is_written, "{fault:?}");
+        assert!(rt; written.is_ok() == *is_written, "{fault:?}");
         let answer = read_back(&mut FileDepot::new(&files), "a", &mut back);
-        assert_eq!(rt; answer, read, "{fault:?}");
+        assert!(rt; answer == *read, "{fault:?}");
     }
     Ok(())
 }
@@ -97,31 +100,45 @@ fn stdout_sink_takes_a_line(rt: HostRuntime) {
     assert!(rt; write_all(&mut StdoutSink::new(&rt), b"shapes cells 1 rectangles 1\n").is_ok());
 }
 
+/// The number of a call, what writing and reading answer, the file that is left and what was read.
+struct Call(
+    u64,
+    Result<bool, ReadFault>,
+    Option<&'static str>,
+    &'static str,
+);
+
 // Calls 1 to 3 write the file, 4 opens it, 5 reads it, and 6 reads its end.
+static CALLS: [Call; 7] = [
+    Call(1, Err(ReadFault::Failed), None, ""),
+    Call(2, Err(ReadFault::Failed), Some(""), ""),
+    Call(3, Err(ReadFault::Failed), Some("abc"), ""),
+    Call(4, Err(ReadFault::Failed), Some("abc"), ""),
+    Call(5, Err(ReadFault::Failed), Some("abc"), ""),
+    Call(6, Err(ReadFault::Failed), Some("abc"), "abc"),
+    Call(7, Ok(true), Some("abc"), "abc"),
+];
+
+// Whether a depot has this file, or none.
+fn has_file(depot: &MemoryDepot, path: &str, text: Option<&str>) -> bool {
+    match (depot.file(path), text) {
+        (None, None) => true,
+        (Some(bytes), Some(text)) => bytes == text.as_bytes(),
+        _ => false,
+    }
+}
+
 #[test]
 fn memory_depot_fails_where_it_is_told(rt: HostRuntime) -> Result<(), Fail> {
     let alloc = rt.alloc();
-    let rows = [
-        (1, Err(ReadFault::Failed), None, ""),
-        (2, Err(ReadFault::Failed), Some(""), ""),
-        (3, Err(ReadFault::Failed), Some("abc"), ""),
-        (4, Err(ReadFault::Failed), Some("abc"), ""),
-        (5, Err(ReadFault::Failed), Some("abc"), ""),
-        (6, Err(ReadFault::Failed), Some("abc"), "abc"),
-        (7, Ok(true), Some("abc"), "abc"),
-    ];
-    for (number, want, file, read) in rows {
-        let mut depot = MemoryDepot::new(alloc, vec![in alloc; number]?);
+    for Call(number, want, file, read) in &CALLS {
+        let mut depot = MemoryDepot::new(alloc, vec![in alloc; *number]?);
         let mut back = Vec::new(alloc);
         let answer = write_and_read(&mut depot, "a.gds", b"abc", &mut back);
-        assert_eq!(rt; answer, want, "call {number} fails");
-        assert_eq!(rt;
-            depot.file("a.gds"),
-            file.map(|text| text.as_bytes()),
-            "call {number} fails"
-        );
-        assert_eq!(rt; back.as_slice(), read.as_bytes(), "call {number} fails");
-        assert_eq!(rt; depot.refused(), 0);
+        assert!(rt; answer == *want, "call {number}");
+        assert!(rt; has_file(&depot, "a.gds", *file), "call {number}");
+        assert!(rt; back.as_slice() == read.as_bytes(), "call {number}");
+        assert!(rt; depot.refused() == 0, "call {number}");
     }
     Ok(())
 }
@@ -133,25 +150,22 @@ fn memory_depot_holds_what_is_put(rt: HostRuntime) -> Result<(), Fail> {
     for (path, bytes) in [("a", "one"), ("b", "two"), ("a", "three")] {
         depot.put(alloc, path, bytes.as_bytes())?;
     }
-    for (path, want) in [("a", Some("three")), ("b", Some("two")), ("c", None)] {
-        assert_eq!(rt;
-            depot.file(path),
-            want.map(|text| text.as_bytes()),
-            "{path}"
-        );
-    }
+    assert!(rt; has_file(&depot, "a", Some("three")));
+    assert!(rt; has_file(&depot, "b", Some("two")));
+    assert!(rt; has_file(&depot, "c", None));
     Ok(())
 }
 
 #[test]
 fn memory_sink_fails_where_it_is_told(rt: HostRuntime) -> Result<(), Fail> {
     let alloc = rt.alloc();
-    for (number, want) in [(1, ""), (2, "line\n")] {
+    for number in 1..3 {
         let mut out = MemorySink::new(alloc, vec![in alloc; number]?);
         let done = write_all(&mut out, b"line\n");
-        assert_eq!(rt; done.is_ok(), number == 2);
-        assert_eq!(rt; out.bytes(), want.as_bytes());
-        assert_eq!(rt; out.refused(), 0);
+        let line = if number == 2 { "line\n" } else { "" };
+        assert!(rt; done.is_ok() == (number == 2));
+        assert!(rt; out.bytes() == line.as_bytes());
+        assert!(rt; out.refused() == 0);
     }
     Ok(())
 }
@@ -161,10 +175,10 @@ fn memory_sink_fails_where_it_is_told(rt: HostRuntime) -> Result<(), Fail> {
 fn endless_depot_has_no_end(rt: HostRuntime) {
     let mut depot = EndlessDepot::new();
     assert!(rt; write_file(&mut depot, "a", b"abc").is_ok());
-    assert_eq!(rt; depot.open_read("b"), Ok(true));
+    assert!(rt; depot.open_read("b") == Ok(true));
     let mut buf = [1; 3];
-    assert_eq!(rt; depot.read(&mut buf), Ok(3));
-    assert_eq!(rt; buf, [0; 3]);
+    assert!(rt; depot.read(&mut buf) == Ok(3));
+    assert!(rt; buf == [0; 3]);
 }
 
 // What was put is read, a piece isn't taken, and an empty one is no fault.
@@ -175,10 +189,10 @@ fn idle_depot_takes_nothing(rt: HostRuntime) -> Result<(), Fail> {
         let mut depot = IdleDepot::new(alloc);
         let mut back = Vec::new(alloc);
         depot.put(alloc, "a", b"one")?;
-        assert_eq!(rt; read_back(&mut depot, "a", &mut back), Ok(true));
-        assert_eq!(rt; back.as_slice(), b"one".as_slice());
+        assert!(rt; read_back(&mut depot, "a", &mut back) == Ok(true));
+        assert!(rt; back.as_slice() == b"one".as_slice());
         let written = write_file(&mut IdleDepot::new(alloc), "b", text.as_bytes());
-        assert_eq!(rt; written.is_ok(), is_written);
+        assert!(rt; written.is_ok() == is_written);
     }
     Ok(())
 }
@@ -214,9 +228,9 @@ fn quiet_depot_reads_what_is_lent(rt: HostRuntime) -> Result<(), Fail> {
         ("c", None),
     ];
     for (path, want) in rows {
-        assert_eq!(rt; read_in_twos(&mut depot, path), Ok(want), "{path}");
+        assert!(rt; read_in_twos(&mut depot, path) == Ok(want), "{path}");
     }
-    assert_eq!(rt; depot.written(), 0);
+    assert!(rt; depot.written() == 0);
     Ok(())
 }
 
@@ -226,19 +240,19 @@ fn quiet_depot_counts_what_is_written(rt: HostRuntime) -> Result<(), Fail> {
     depot.lend("a", b"one")?;
     for path in ["a", "b"] {
         assert!(rt; depot.start_write(path).is_ok());
-        assert_eq!(rt; Depot::write(&mut depot, b"line"), Ok(4));
-        assert_eq!(rt; Depot::write(&mut depot, b""), Ok(0));
-        assert_eq!(rt; Depot::write(&mut depot, b"\n"), Ok(1));
+        assert!(rt; Depot::write(&mut depot, b"line") == Ok(4));
+        assert!(rt; Depot::write(&mut depot, b"") == Ok(0));
+        assert!(rt; Depot::write(&mut depot, b"\n") == Ok(1));
         assert!(rt; depot.finish_write().is_ok());
-        assert_eq!(rt; depot.open_read(path), Ok(false), "{path}");
+        assert!(rt; depot.open_read(path) == Ok(false), "{path}");
     }
-    assert_eq!(rt; depot.written(), 10);
+    assert!(rt; depot.written() == 10);
     for piece in ["shapes", "", "\n"] {
-        assert_eq!(rt; Sink::write(&mut depot, piece.as_bytes()), Ok(piece.len()));
+        assert!(rt; Sink::write(&mut depot, piece.as_bytes()) == Ok(piece.len()));
     }
-    assert_eq!(rt; depot.written(), 17);
+    assert!(rt; depot.written() == 17);
     depot.lend("a", b"two")?;
-    assert_eq!(rt; depot.open_read("a"), Ok(true));
+    assert!(rt; depot.open_read("a") == Ok(true));
     Ok(())
 }
 
@@ -249,8 +263,8 @@ fn quiet_depot_goes_through_the_loops(rt: HostRuntime) -> Result<(), Fail> {
     let mut depot = QuietDepot::new(alloc);
     let mut back = Vec::new(alloc);
     let answer = write_and_read(&mut depot, "a", b"abc", &mut back);
-    assert_eq!(rt; answer, Ok(false));
+    assert!(rt; answer == Ok(false));
     assert!(rt; write_all(&mut depot, b"line\n").is_ok());
-    assert_eq!(rt; depot.written(), 8);
+    assert!(rt; depot.written() == 8);
     Ok(())
 }

@@ -3,8 +3,7 @@
 
 #[cfg(test)]
 mod booleans;
+#[cfg(test)]
 mod common;
 #[cfg(test)]
 mod moves;
-
-pub use common::{is_rect, near_part, set_of, swept};
