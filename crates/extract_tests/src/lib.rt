@@ -14,6 +14,8 @@ mod doubled;
 #[cfg(test)]
 mod drawn;
 #[cfg(test)]
+mod example;
+#[cfg(test)]
 mod extracted;
 #[cfg(test)]
 mod failing;
