@@ -48,7 +48,7 @@ fn nets_at(
     requires { (i : ℕ) → i < length places.now → start + get_or places.now i 0 < length nets.now }
     ensures { IfOk result (λ v. v.items ≡ map (λ b. get_or nets.now (start + b) 0) places.now) }
 {
-    let mut out = Vec::new(alloc);
+    let mut out = Vec::with_capacity(alloc, places.len())?;
     for place in places {
         out.push(nets[start + *place as usize])?;
     }
@@ -130,7 +130,7 @@ pub fn call_rows<P: Placed>(
         numbering.old.nets numbering.new.nets (map plain_call rows.items)) }
 {
     let _ = cell;
-    let mut rows = Vec::new(alloc);
+    let mut rows = Vec::with_capacity(alloc, cells.len())?;
     let mut start = own_count(&nets.items);
     for k in 0..cells.len() {
         let child = cells[k];

@@ -27,7 +27,7 @@ pub fn circuit_net_names(
     let names = drawn_names(alloc, pins, drawn)?;
     let order = drawn_nets(alloc, drawn)?;
     let places = positions(alloc, drawn.len() as u32, &order)?;
-    let mut out = Vec::new(alloc);
+    let mut out = Vec::with_capacity(alloc, nets.len())?;
     for net in nets {
         let place = places[*net as usize];
         out.push(names[place as usize].try_clone(alloc)?)?;

@@ -80,7 +80,7 @@ pub fn number_nets(
     ensures numbers { IfOk result (λ v.
         AreNumbersOf numbering.old.nets numbering.new.nets nets.now v.items) }
 {
-    let mut numbers = Vec::new(alloc);
+    let mut numbers = Vec::with_capacity(alloc, nets.len())?;
     for i in 0..nets.len() {
         numbers.push(numbering.number(nets[i])?)?;
     }

@@ -97,13 +97,13 @@ positive : (z : ℤ) → pos 0 <ℤ z → pos (unsigned_abs z) ≡ z
 positive (pos n) h = refl
 positive (negsuc n) h = absurd (omega (arith, ints))
 
-to_abs : (a b : ℤ) → a <ℤ b → pos (unsigned_abs (b -ℤ a)) ≡ (b -ℤ a)
+pub to_abs : (a b : ℤ) → a <ℤ b → pos (unsigned_abs (b -ℤ a)) ≡ (b -ℤ a)
 to_abs a b h = positive (b -ℤ a) (omega (arith, ints))
 
 width_is : (a b : ℤ) → a <ℤ b → (a +ℤ pos (unsigned_abs (b -ℤ a))) ≡ b
 width_is a b h = omega (arith, ints, to_abs a b h)
 
-rect_count : (r : Rect) → IsRect r → Counts (λ q. has r q ≡ true) (area_of r)
+pub rect_count : (r : Rect) → IsRect r → Counts (λ q. has r q ≡ true) (area_of r)
 rect_count r rect =
     let w = unsigned_abs (r.x2 -ℤ r.x1) in
     let h = unsigned_abs (r.y2 -ℤ r.y1) in

@@ -39,7 +39,7 @@ pub from_not : (b : Bool) → (b ≡ true → ⊥) → not b ≡ true
 from_not true h = absurd (h refl)
 from_not false h = refl
 
-behind_edge : (side : Side) (q : Square) → SharesEdge (behind side q) q
+pub behind_edge : (side : Side) (q : Square) → SharesEdge (behind side q) q
 behind_edge Right q = inr (omega (arith, ints), inl (omega (arith, ints)))
 behind_edge Up q = inl (omega (arith, ints), inl (omega (arith, ints)))
 behind_edge Left q = inr (omega (arith, ints), inr (omega (arith, ints)))

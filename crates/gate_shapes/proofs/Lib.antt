@@ -8,5 +8,8 @@ pub mod Members
 pub mod PartsOf
 pub mod Groups
 pub mod Judging
+pub mod Strips
+pub mod Between
+pub mod Courses
 pub mod Looking
 pub mod Meeting

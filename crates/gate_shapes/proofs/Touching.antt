@@ -212,7 +212,7 @@ over_from a b e =
 over_to : (a b : Rect) → IsOver a b → is_over a b ≡ true
 over_to a b h = let x = h.row in let y = h.left in let z = h.right in grind (arith, ints, Decides-int_eq a.y2 b.y1)
 
-le_from : (a b : ℤ) → int_le a b ≡ true → a ≤ℤ b
+pub le_from : (a b : ℤ) → int_le a b ≡ true → a ≤ℤ b
 le_from a b e = by_lt_z b a (λ lt. absurd (false≢true (sym (no_le a b lt) ∙ e))) (λ le. le)
   where
     no_le : (a b : ℤ) → b <ℤ a → int_le a b ≡ false

@@ -1,5 +1,6 @@
 pub mod Sets
 pub mod Borders
+pub mod Plain
 pub mod Contacts
 pub mod PartLists
 pub mod Sorted

@@ -8,7 +8,8 @@ use geo_base::Rect;
 use rect_sets::RectSet;
 use std::alloc::AllocError;
 
-fn area_of(rect: &Rect) -> u128
+/// How many squares the rectangle has.
+pub fn area_of(rect: &Rect) -> u128
     ensures { result ≡ area_of rect.now }
 {
     let width = rect.x2.abs_diff(rect.x1);

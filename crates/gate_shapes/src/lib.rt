@@ -8,6 +8,7 @@ mod border;
 mod contacts;
 mod laws;
 mod pieces;
+mod plain;
 mod shape;
 
 pub use alone::{Sheets, area_shape};

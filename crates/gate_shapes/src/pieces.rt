@@ -2,8 +2,11 @@
 
 ghost use Rattle.std.specs.Prelude.{◌≡◌, ◌↔◌, ℕ, ◌^◌, ◌<◌, ◌≤◌, length, slice_get, slice_index, Some};
 ghost use Rattle.std.specs.Prelude.{IfOk, OnErr, MatchOption};
+ghost use Rattle.std.specs.List.{All};
+ghost use Rattle.geo_base.specs.Rects.{IsRect};
 ghost use Rattle.geo_base.specs.declared.shapes.Rect.{Rect};
 ghost use Rattle.geo_base.specs.declared.shapes.Square.{Square};
+ghost use Rattle.rect_sets.specs.Rects.{covers};
 ghost use Rattle.gate_shapes.specs.Sets.{in_set};
 ghost use Rattle.gate_shapes.specs.PartLists.{AreParts, members};
 ghost use Rattle.flat_layout.specs.Parts.{IsLeast};
@@ -13,7 +16,7 @@ use crate::contacts::contacts;
 use geo_base::{Rect, Square};
 use link_classes::joined_classes;
 use list_base::small;
-use rect_sets::{RectSet, Rule, combine_rects};
+use rect_sets::RectSet;
 use std::alloc::{AllocError, Global};
 
 fn short(rects: &[Rect]) -> Result<u32, AllocError>
@@ -48,13 +51,22 @@ fn sorted_out(
     Ok(lists)
 }
 
+// The union of rectangles; of one of them without a sweep.
+fn set_of(alloc: Global, list: &[Rect]) -> Result<RectSet, AllocError>
+    requires { All IsRect list.now }
+    ensures { IfOk result (λ r. (q : Square) → covers r q ≡ covers list.now q) }
+{
+    let rects = list.to_vec(alloc)?;
+    RectSet::canon(alloc, rects)
+}
+
 fn sets_of(alloc: Global, lists: &[Vec<Rect>]) -> Result<Vec<RectSet>, AllocError>
     requires { HaveRects lists.now }
     ensures { IfOk result (λ v. AreSetsOf lists.now v.items) }
 {
     let mut sets = Vec::new(alloc);
     for list in lists {
-        let set = combine_rects(alloc, list, &[], Rule::First)?;
+        let set = set_of(alloc, list)?;
         sets.push(set)?;
     }
     Ok(sets)

@@ -10,6 +10,7 @@ ghost use Rattle.gate_shapes.specs.Shapes.{IsShape};
 
 use crate::border::{border_of, sides_of};
 use crate::pieces::{least, parts};
+use crate::plain::plain_form;
 use geo_base::{Rect, Square};
 use rect_sets::{RectSet, Rule, combine_rects};
 use std::alloc::{AllocError, Global};
@@ -155,12 +156,8 @@ fn first_fault(
     Ok(None)
 }
 
-/// The part as a gate: its sizes and the least squares of its two groups, or its first fault. Only
-/// the squares of the part and of its ring count, so the sets around may be cut to the part's box
-/// grown by one. In O(n log n) for n rectangles of the part and of the sets there, however many
-/// groups they are; no square is looked at alone. 2^32 rectangles or more are taken for want of
-/// memory.
-pub fn shape_of(alloc: Global, part: &RectSet, around: &Around) -> Result<GateShape, AllocError>
+// The same of any part, by its border and its ring.
+fn ring_shape(alloc: Global, part: &RectSet, around: &Around) -> Result<GateShape, AllocError>
     requires { IsNearSet part.now }
     ensures { IfOk result (λ s. IsShape
         (sheets_of around.now.ends.now around.now.on_ends.now around.now.on_gate.now
@@ -183,5 +180,22 @@ pub fn shape_of(alloc: Global, part: &RectSet, around: &Around) -> Result<GateSh
             source: first_square(one),
             drain: first_square(other),
         })),
+    }
+}
+
+/// The part as a gate: its sizes and the least squares of its two groups, or its first fault. Only
+/// the squares of the part and of its ring count, so the sets around may be cut to the part's box
+/// grown by one. In O(n log n) for n rectangles of the part and of the sets there, however many
+/// groups they are; no square is looked at alone. One rectangle between two, as most gates are, is
+/// told in O(n). 2^32 rectangles or more are taken for want of memory.
+pub fn shape_of(alloc: Global, part: &RectSet, around: &Around) -> Result<GateShape, AllocError>
+    requires { IsNearSet part.now }
+    ensures { IfOk result (λ s. IsShape
+        (sheets_of around.now.ends.now around.now.on_ends.now around.now.on_gate.now
+        around.now.on_bulk.now around.now.loose) (in_set part.now) s) }
+{
+    match plain_form(part, around)? {
+        Some(form) => Ok(GateShape::Good(form)),
+        None => ring_shape(alloc, part, around),
     }
 }

@@ -11,7 +11,7 @@ use crate::seat::BoardSeat;
 use crate::work::work_all;
 use job_graph::{Defined, Phase, Results};
 use std::alloc::{AllocError, Global};
-use std::sync::Wait;
+use std::sync::{Condvar, Wait};
 use std::thread;
 use std::thread::Threads;
 
@@ -60,11 +60,12 @@ fn join_seats<T: Defined + Drop>(
 }
 
 /// The value of each job of a phase, worked by the crew's workers at once without a lock: a worker
-/// takes any job whose inputs are all published, enters the gate and works it. The calling thread
-/// is one of them, so a thread that can't be started changes no answer. A worker that finds no
-/// memory stops the others. The values stand in the order of the jobs, and are the same for every
-/// number of workers and every order in which jobs come free. Want of memory is answered only where
-/// this call or a worker found none. O(jobs + inputs) beside the work itself and the waiting.
+/// takes any job whose inputs are all published, enters the gate and works it; it sleeps while
+/// there is none. The calling thread is one of them, so a thread that can't be started changes no
+/// answer. A worker that finds no memory stops the others. The values stand in the order of the
+/// jobs, and are the same for every number of workers and every order in which jobs come free. Want
+/// of memory is answered only where this call or a worker found none. O(jobs + inputs) beside the
+/// work itself and the waiting.
 pub fn run_phase<R: Threads + Wait + Sync, P: Phase + Sync, G: Gate + Sync>(
     alloc: Global,
     phase: &P,
@@ -76,6 +77,7 @@ pub fn run_phase<R: Threads + Wait + Sync, P: Phase + Sync, G: Gate + Sync>(
     let mut seat = seat;
     let seats = split_seats(alloc, &board, &mut seat, crew.workers as u32)?;
     let shared = &board;
+    let idle = &Condvar::new();
     let ended = thread::map_vec(
         crew.rt,
         seats,
@@ -85,7 +87,7 @@ pub fn run_phase<R: Threads + Wait + Sync, P: Phase + Sync, G: Gate + Sync>(
             ensures { IfOk result (HasEnded shared.entry.now) }
         {
             let (place, mut seat) = worker;
-            work_all(alloc, phase, crew, shared, place, &mut seat)?;
+            work_all(alloc, phase, crew, shared, idle, place, &mut seat)?;
             Ok(seat)
         },
     )?;

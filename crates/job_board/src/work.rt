@@ -10,8 +10,8 @@ use crate::seat::{BoardSeat, Claim, Look, Ticket};
 use crate::tries::Tries;
 use job_graph::Phase;
 use std::alloc::{AllocError, Global};
-use std::sync::Wait;
-use std::thread;
+use std::sync::{Condvar, Wait};
+use std::time::Duration;
 
 /// Works a claimed job and publishes its value.
 fn work_ticket<R: Wait, P: Phase>(
@@ -62,12 +62,13 @@ fn try_job<R: Wait, P: Phase, G: Gate>(
 }
 
 /// Tries jobs until all are finished or the board is stopped. After a job those that wait for it
-/// come first.
+/// come first. A worker that finds none to be ready sleeps until a job is published.
 fn work_on<R: Wait, P: Phase, G: Gate>(
     alloc: Global,
     phase: &P,
     crew: &Crew<R, G>,
     board: &Board<P::Out>,
+    idle: &Condvar,
     seat: &mut BoardSeat<P::Out>,
     tries: &mut Tries,
 ) -> Result<(), AllocError>
@@ -78,6 +79,8 @@ fn work_on<R: Wait, P: Phase, G: Gate>(
     ensures ended { OnOk result (HasEnded board.now seat.new) }
 {
     let jobs = u64::from(board.jobs());
+    let mut seen = idle.notifications();
+    let mut missed = 0u64;
     for _ in crew.rt.forever() {
         let progress = board.progress(seat);
         if progress.stopped || progress.finished == jobs {
@@ -85,21 +88,28 @@ fn work_on<R: Wait, P: Phase, G: Gate>(
         }
         let job = tries.next();
         if try_job(alloc, phase, crew, board, seat, job)? {
+            idle.notify_all();
             board.add_dependents(job, tries);
+            (seen, missed) = (idle.notifications(), 0);
+        } else if missed < 2 * jobs {
+            missed += 1;
         } else {
-            thread::yield_now();
+            idle.sleep(crew.rt, seen, Duration::from_millis(100));
+            (seen, missed) = (idle.notifications(), 0);
         }
     }
     unreachable!();
 }
 
 /// What one worker does with its seat, from a place of its own on. A worker that finds no memory
-/// stops the board.
+/// stops the board. Workers that find no ready job sleep on `idle`, which is told of each published
+/// job and of a stop.
 pub(crate) fn work_all<R: Wait, P: Phase, G: Gate>(
     alloc: Global,
     phase: &P,
     crew: &Crew<R, G>,
     board: &Board<P::Out>,
+    idle: &Condvar,
     place: u32,
     seat: &mut BoardSeat<P::Out>,
 ) -> Result<(), AllocError>
@@ -115,11 +125,13 @@ pub(crate) fn work_all<R: Wait, P: Phase, G: Gate>(
     }
     let Ok(mut tries) = Tries::new(alloc, jobs, place % jobs) else {
         board.stop(seat);
+        idle.notify_all();
         return Err(AllocError);
     };
-    let ended = work_on(alloc, phase, crew, board, seat, &mut tries);
+    let ended = work_on(alloc, phase, crew, board, idle, seat, &mut tries);
     if ended.is_err() {
         board.stop(seat);
+        idle.notify_all();
     }
     ended
 }

@@ -7,6 +7,7 @@ ghost use Rattle.rule_text.specs.declared.rules.LayerRule.{LayerRule as Rule};
 ghost use Rattle.layer_phase.specs.Groups.{AreBefore, AreGroups, AreGroupsTo, AreNeeded, AreSeen};
 ghost use Rattle.layer_phase.specs.Groups.{HasReach, IsGroup, IsMember, is_derived, seen_form};
 
+use rule_layers::mark_operands;
 use rule_text::{LayerForm, LayerRule};
 use std::alloc::{AllocError, Global};
 
@@ -62,32 +63,6 @@ fn members_of(
         members.push(member)?;
     }
     Ok(members)
-}
-
-// Marks a name, where there is one of this number.
-fn mark(marks: &mut Vec<bool>, name: u32)
-    ensures { Marks (λ k. name ≡ k) marks.old.items marks.new.items }
-{
-    let at = name as usize;
-    if at < marks.len() {
-        marks[at] = true;
-    }
-}
-
-// Marks what a form reads.
-fn mark_operands(marks: &mut Vec<bool>, form: LayerForm)
-    ensures { Marks (Reads form) marks.old.items marks.new.items }
-{
-    match form {
-        LayerForm::Input(_) => {}
-        LayerForm::Labels(_) => {}
-        LayerForm::Empty => {}
-        LayerForm::Binary(_, a, b) => {
-            mark(marks, a);
-            mark(marks, b);
-        }
-        LayerForm::Sized(a, _) => mark(marks, a),
-    }
 }
 
 // Marks what a name is made of, where it is marked itself.

@@ -22,6 +22,8 @@ mod drawn;
 #[cfg(test)]
 mod elements;
 #[cfg(test)]
+mod example;
+#[cfg(test)]
 mod extracted;
 #[cfg(test)]
 mod failing;

@@ -1,10 +1,10 @@
 //! The placements of cells, one by one.
-ghost use Rattle.std.specs.Prelude.{◌≡◌, ◌<◌, ◌++◌, length, map, IfOk, OnOk};
+ghost use Rattle.std.specs.Prelude.{◌≡◌, ◌<◌, ◌++◌, ◌≤◌, ◌^◌, length, map, IfOk, MatchOption, OnOk};
 ghost use Rattle.cell_context.specs.Arrays.{IsNearArray};
 ghost use Rattle.cell_graph.specs.Linked.{cell_at, places_at, plain, reference};
 ghost use Rattle.flat_layout.specs.Arrays.{array_places, places_of, row_places};
 ghost use Rattle.net_walk.specs.Walk.{place_of};
-ghost use Rattle.net_phase.specs.Elements.{AreAllElements, AreElements, element_lists};
+ghost use Rattle.net_phase.specs.Elements.{AreAllElements, AreElements, element_lists, placed_by};
 
 use cell_context::motion_at;
 use cell_graph::{Design, Place};
@@ -39,13 +39,26 @@ fn push_array(place: &Place, out: &mut Vec<Element>) -> Result<(), AllocError>
     Ok(())
 }
 
-// A cell's placements. 2^32 or more are refused.
+// How many placements references bring, where that is below 2^32.
+fn count_places(places: &[Place]) -> Option<u32>
+    ensures { MatchOption result (2 ^ 32 ≤ placed_by places.now) (λ n. n ≡ placed_by places.now) }
+{
+    let mut count: u32 = 0;
+    for place in places {
+        let size = u32::from(place.rows).checked_mul(u32::from(place.columns))?;
+        count = count.checked_add(size)?;
+    }
+    Some(count)
+}
+
+// A cell's placements. 2^32 or more are refused, before any is made.
 fn elements(alloc: Global, design: &Design, cell: u32) -> Result<Vec<Element>, AllocError>
     requires { cell < length design.now.cells }
     ensures { IfOk result (λ v. AreElements design.now cell v.items) }
 {
     design.sound();
-    let mut out = Vec::new(alloc);
+    let count = count_places(design.places(cell)).ok_or(AllocError)?;
+    let mut out = Vec::with_capacity(alloc, count as usize)?;
     for place in design.places(cell) {
         push_array(place, &mut out)?;
     }

@@ -111,7 +111,7 @@ fn spans_of(
     requires reach { reach ≤ 10000 }
     ensures { IfOk result (λ v. v.items ≡ spans_of reach design.now elements.now) }
 {
-    let mut spans = Vec::new(alloc);
+    let mut spans = Vec::with_capacity(alloc, elements.len())?;
     for k in 0..elements.len() {
         spans.push(span_of(design, &elements[k], reach))?;
     }

@@ -66,12 +66,13 @@ fn push_placed<C: Cells>(cells: &C, cell: u32, out: &mut Vec<Item>) -> Result<()
 }
 
 /// The items of a cell: for each conductor its rectangles, for each placement the placed cell's
-/// nets, then the globals.
+/// nets, then the globals. Room is asked for so many at once.
 pub fn list_items<C: Cells>(
     alloc: Global,
     cells: &C,
     cell: u32,
     globals: u32,
+    count: u32,
 ) -> Result<Vec<Item>, AllocError>
     requires few { length (items_of (C.design cells.now) (C.wiring cells.now) (C.tables cells.now)
         cell) < 4294967296 }
@@ -79,7 +80,7 @@ pub fn list_items<C: Cells>(
     ensures { IfOk result (λ v. map plain_item v.items
         ≡ items_of (C.design cells.now) (C.wiring cells.now) (C.tables cells.now) cell) }
 {
-    let mut out = Vec::new(alloc);
+    let mut out = Vec::with_capacity(alloc, count as usize)?;
     push_rects(cells, cell, &mut out)?;
     push_placed(cells, cell, &mut out)?;
     push_globals(globals, &mut out)?;

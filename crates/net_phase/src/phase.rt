@@ -106,7 +106,7 @@ fn cell_nets(alloc: Global, below: &Below, wires: &Wires, cell: u32) -> Result<C
         wires.globals,
     )?;
     let classes = joined_classes(alloc, count, &links)?;
-    let items = list_items(alloc, below, cell, wires.globals)?;
+    let items = list_items(alloc, below, cell, wires.globals, count)?;
     Ok(CellNets {
         items,
         net_of: classes.class_of,

@@ -12,7 +12,7 @@ mod margin;
 mod reads;
 
 pub use margin::zone_margin;
-pub use reads::read_names;
+pub use reads::{mark_operands, read_names};
 
 /// Conductors are read as their names; grounds are known globals; a device's terminals are
 /// conductors.

@@ -17,8 +17,8 @@ fn mark(marks: &mut Vec<bool>, name: u32)
     }
 }
 
-// Marks the names that the form reads.
-fn mark_form(marks: &mut Vec<bool>, form: LayerForm)
+/// Marks the names that a form reads, those of them that have a place in `marks`. Takes no memory.
+pub fn mark_operands(marks: &mut Vec<bool>, form: LayerForm)
     ensures { Marks (Reads form) marks.old.items marks.new.items }
 {
     match form {
@@ -78,7 +78,7 @@ fn mark_names(marks: &mut Vec<bool>, names: &[LayerRule])
     ensures { Marks (IsByName names.now (length names.now)) marks.old.items marks.new.items }
 {
     for rule in names {
-        mark_form(marks, rule.form);
+        mark_operands(marks, rule.form);
     }
 }
 

@@ -167,23 +167,23 @@ fn answer(alloc: Global, text: &[u8]) -> Result<String, AllocError> {
     match read_rules(alloc, text) {
         Ok(rules) => shown(alloc, &rules),
         Err(fault) => {
-            let number = fault.number().unwrap_or(0);
-            let place = place_of(fault);
+            let (number, place) = told(fault);
             format!(in alloc; "{number} {place}")
         }
     }
 }
 
-fn place_of(fault: RuleFault) -> u64 {
+// A fault's number as summary lines print it, and its line or offset.
+fn told(fault: RuleFault) -> (u8, u64) {
     match fault {
-        RuleFault::UnknownStatement(at) => at,
-        RuleFault::BadForm(at) => at,
-        RuleFault::UnknownName(at) => at,
-        RuleFault::NameTwice(at) => at,
-        RuleFault::NotConductor(at) => at,
-        RuleFault::TooManyLayers(at) => at,
-        RuleFault::NotText(at) => at,
-        RuleFault::NoMemory => 0,
+        RuleFault::UnknownStatement(at) => (30, at),
+        RuleFault::BadForm(at) => (31, at),
+        RuleFault::UnknownName(at) => (32, at),
+        RuleFault::NameTwice(at) => (33, at),
+        RuleFault::NotConductor(at) => (34, at),
+        RuleFault::TooManyLayers(at) => (35, at),
+        RuleFault::NotText(at) => (36, at),
+        RuleFault::NoMemory => (0, 0),
     }
 }
 

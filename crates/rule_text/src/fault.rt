@@ -1,7 +1,6 @@
-//! The first fault of a rule file, and its number.
+//! The first fault of a rule file.
 
 ghost use Rattle.std.specs.Prelude.{◌≡◌};
-ghost use Rattle.rule_text.specs.Faults.{number_of};
 ghost use Rattle.rule_text.specs.declared.fault.RuleFault.TheVariants.{NoMemory};
 
 use std::alloc::AllocError;
@@ -26,24 +25,6 @@ pub enum RuleFault {
     NotText(u64),
     #[error("no memory")]
     NoMemory,
-}
-
-impl RuleFault {
-    /// The number that a summary line prints.
-    pub fn number(&self) -> Option<u8>
-        ensures { result ≡ number_of self.now }
-    {
-        match self {
-            RuleFault::UnknownStatement(_) => Some(30),
-            RuleFault::BadForm(_) => Some(31),
-            RuleFault::UnknownName(_) => Some(32),
-            RuleFault::NameTwice(_) => Some(33),
-            RuleFault::NotConductor(_) => Some(34),
-            RuleFault::TooManyLayers(_) => Some(35),
-            RuleFault::NotText(_) => Some(36),
-            RuleFault::NoMemory => None,
-        }
-    }
 }
 
 impl From<AllocError> for RuleFault {

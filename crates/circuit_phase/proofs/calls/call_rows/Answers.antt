@@ -12,7 +12,7 @@ loop-k-init g c =
     let p = c.args.placed.now in
     let v = plain_nets c.args.nets.now in
     rows_none (g.P.Placed.design p) (g.P.Placed.nets p) (g.P.Placed.pins p) (g.P.Placed.drawn p) (g.P.Placed.circuits p) c.args.cell v c.args.numbering.now.count c.args.numbering.now.nets c.own_count-start.result
-    (map plain_item c.deref.result.now) (map plain_call c.new-rows.result.items) (ap (λ (l : List Item). map plain_item l) c.deref.ensures.value) c.own_count-start.ensures (ap (λ (l : List CallRow). map plain_call l) c.new-rows.ensures.items)
+    (map plain_item c.deref.result.now) (map plain_call c.in_ok-rows.rows.items) (ap (λ (l : List Item). map plain_item l) c.deref.ensures.value) c.own_count-start.ensures (ap (λ (l : List CallRow). map plain_call l) c.in_ok-rows.ensures.items)
 
 pub push_call-requires-clause-may : goal.push_call-requires-clause-may
 push_call-requires-clause-may g c =

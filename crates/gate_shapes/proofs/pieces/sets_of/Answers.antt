@@ -15,8 +15,8 @@ use Rattle.gate_shapes.proofs.pieces.sets_of.Goals as goal
 pub loop-list-init : goal.loop-list-init
 loop-list-init c = subst (λ (l : List (List Rect)). AreSetsOf (take 0 c.args.lists.now) l) (sym c.new-sets.ensures.items) (sets_none c.args.lists.now)
 
-pub combine_rects-requires-clause-a : goal.combine_rects-requires-clause-a
-combine_rects-requires-clause-a c =
+pub set_of-requires : goal.set_of-requires
+set_of-requires c =
     let list : Vec Rect Global = c.list-item.result in
     let at : slice_get c.args.lists.now c.loop-list.list-index ≡ Some list = slice_get-get_or c.args.lists.now c.loop-list.list-index list (omega arith) ∙ ap (λ (v : Vec Rect Global). Some v) (sym c.list-item.is) in
     subst (λ (l : List Rect). All IsRect l) (sym c.deref.ensures.value) (c.requires c.loop-list.list-index list at)

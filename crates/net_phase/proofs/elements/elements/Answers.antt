@@ -9,7 +9,7 @@ use Rattle.net_phase.proofs.elements.elements.Goals as goal
 use Rattle.net_walk.specs.Walk.{place_of}
 
 pub loop-place-init : goal.loop-place-init
-loop-place-init c = rw c.new-out.ensures.items refl
+loop-place-init c = rw c.in_ok-out.ensures.items refl
 
 pub push_array-requires : goal.push_array-requires
 push_array-requires c =

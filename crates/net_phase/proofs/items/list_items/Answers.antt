@@ -14,7 +14,7 @@ returns g c =
     let cell = c.args.cell in
     let owned = own_items t cell 0 w.conductors in
     let children = child_items t 0 (places_of d cell) in
-    let first = c.in_ok-push_rects.ensures ∙ ap (λ (l : List Code). map plain_item l ++ owned) c.new-out.ensures.items in
+    let first = c.in_ok-push_rects.ensures ∙ ap (λ (l : List Code). map plain_item l ++ owned) c.in_ok-out.ensures.items in
     c.in_ok-push_globals.ensures
     ∙ ap (λ (l : List Item). l ++ run GlobalItem 0 c.args.globals) (c.in_ok-push_placed.ensures ∙ ap (λ (l : List Item). l ++ children) first)
     ∙ behind_both owned children (run GlobalItem 0 c.args.globals)

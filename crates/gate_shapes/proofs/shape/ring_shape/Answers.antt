@@ -6,7 +6,7 @@ use Rattle.gate_shapes.specs.Shapes.{AreKept, IsFirstFault, sheets_of}
 use Rattle.gate_shapes.specs.declared.shape.GateCause.{GateCause}
 use Rattle.gate_shapes.proofs.Groups.{all_groups}
 use Rattle.gate_shapes.proofs.Judging.{bad_law, good_law, some_first, some_second, two_items, below_groups}
-use Rattle.gate_shapes.proofs.shape.shape_of.Goals as goal
+use Rattle.gate_shapes.proofs.shape.ring_shape.Goals as goal
 
 pub returns-then-len-ne2 : goal.returns-then-len-ne2
 returns-then-len-ne2 c =
