@@ -130,31 +130,30 @@ fn nested_references(rt: HostRuntime) {
         dy: 7,
     };
     let corner = Point { x: 3, y: 1 };
-    assert_eq!(rt; inner.point(corner), Point { x: 11, y: 23 });
-    assert_eq!(rt; outer.point(Point { x: 11, y: 23 }), Point { x: 18, y: -4 });
+    assert!(rt; inner.point(corner) == Point { x: 11, y: 23 });
+    assert!(rt; outer.point(Point { x: 11, y: 23 }) == Point { x: 18, y: -4 });
     let both = inner.then(&outer);
-    assert_eq!(rt;
-        both,
-        Motion {
+    assert!(rt;
+        both == Motion {
             turn: Turn::M0,
             dx: 15,
             dy: -3
         }
     );
-    assert_eq!(rt;
-        inner.inverse(),
-        Motion {
-            turn: Turn::M90,
-            dx: -20,
-            dy: -10
-        }
+    assert!(rt;
+        inner.inverse()
+            == Motion {
+                turn: Turn::M90,
+                dx: -20,
+                dy: -10
+            }
     );
-    assert_eq!(rt;
-        outer.inverse(),
-        Motion {
-            turn: Turn::R90,
-            dx: 7,
-            dy: 5
-        }
+    assert!(rt;
+        outer.inverse()
+            == Motion {
+                turn: Turn::R90,
+                dx: 7,
+                dy: 5
+            }
     );
 }

@@ -47,16 +47,16 @@ fn shared_of(alloc: Global, line: &str) -> Result<String, AllocError> {
 fn commands(rt: HostRuntime) -> Result<(), Fail> {
     let alloc = rt.alloc();
     let wanted = stated(alloc, "extract --layout l --rules r --shapes s --netlist n")?;
-    assert_eq!(rt;
-        wanted.as_str(),
-        "Extract { layout: \"l\", rules: \"r\", shapes: \"s\", netlist: \"n\", top: None, \
+    assert!(rt;
+        wanted.as_str()
+            == "Extract { layout: \"l\", rules: \"r\", shapes: \"s\", netlist: \"n\", top: None, \
         workers: 1 } None"
     );
     for line in [
         "extract --netlist=n --workers 1 --shapes s --rules=r --layout l",
         "extract --workers=01 --layout=l --netlist=n --shapes=s --rules=r",
     ] {
-        assert_eq!(rt; stated(alloc, line)?, wanted);
+        assert!(rt; stated(alloc, line)? == wanted);
     }
     Ok(())
 }
@@ -85,7 +85,7 @@ static SHARED: [(&str, &str); 9] = [
 fn shared_paths(rt: HostRuntime) -> Result<(), Fail> {
     let alloc = rt.alloc();
     for (line, path) in &SHARED {
-        assert_eq!(rt; shared_of(alloc, line)?.as_str(), *path);
+        assert!(rt; shared_of(alloc, line)?.as_str() == *path);
     }
     Ok(())
 }
@@ -117,11 +117,11 @@ static REFUSED: [&str; 19] = [
 fn refused(rt: HostRuntime) -> Result<(), Fail> {
     let alloc = rt.alloc();
     for line in &REFUSED {
-        assert_eq!(rt; stated(alloc, line)?.as_str(), "refused");
+        assert!(rt; stated(alloc, line)?.as_str() == "refused");
     }
-    assert_eq!(rt;
-        stated(alloc, "make 100000 18446744073709551615 64 p")?.as_str(),
-        "Make { n: 100000, seed: 18446744073709551615, workers: 64, prefix: \"p\" } None"
+    assert!(rt;
+        stated(alloc, "make 100000 18446744073709551615 64 p")?.as_str()
+            == "Make { n: 100000, seed: 18446744073709551615, workers: 64, prefix: \"p\" } None"
     );
     Ok(())
 }

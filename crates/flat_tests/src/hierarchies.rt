@@ -125,16 +125,12 @@ fn mirrored_array(rt: HostRuntime) -> Result<(), Fail> {
     let a = Formula::Input(A);
     let window = rect(95, 195, 130, 230);
     for ask in [Ask::Flat, Ask::Kept] {
-        assert_eq!(rt;
-            has_exactly(&d, ask, TOP, &a, window, &wanted),
-            Some(true),
+        assert!(rt;
+            has_exactly(&d, ask, TOP, &a, window, &wanted) == Some(true),
             "{ask:?}"
         );
     }
-    assert_eq!(rt;
-        has_exactly(&d, Ask::Local, TOP, &a, window, &[]),
-        Some(true)
-    );
+    assert!(rt; has_exactly(&d, Ask::Local, TOP, &a, window, &[]) == Some(true));
     Ok(())
 }
 
@@ -157,9 +153,8 @@ fn parent_cuts_child(rt: HostRuntime) -> Result<(), Fail> {
         (Ask::Kept, TOP, far, rect(100, 0, 110, 10)),
         (Ask::Local, TOP, far, rect(105, 0, 110, 10)),
     ] {
-        assert_eq!(rt;
-            has_exactly(&d, ask, cell, &c, window, &[wanted]),
-            Some(true),
+        assert!(rt;
+            has_exactly(&d, ask, cell, &c, window, &[wanted]) == Some(true),
             "{ask:?} {cell} {window:?}"
         );
     }
@@ -180,9 +175,8 @@ fn two_on_one_spot(rt: HostRuntime) -> Result<(), Fail> {
         (Ask::Kept, TOP, rect(0, 0, 5, 10)),
         (Ask::Local, TOP, rect(0, 0, 5, 10)),
     ] {
-        assert_eq!(rt;
-            has_exactly(&d, ask, cell, &c, window, &[wanted]),
-            Some(true),
+        assert!(rt;
+            has_exactly(&d, ask, cell, &c, window, &[wanted]) == Some(true),
             "{ask:?} {cell}"
         );
     }

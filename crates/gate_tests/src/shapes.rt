@@ -54,7 +54,7 @@ fn a_transistor(rt: HostRuntime) -> Result<(), Fail> {
         &[rect(500, -100, 750, 1600)],
     )?;
     let want = good(3000, 500, Square { x: 499, y: 0 }, Square { x: 750, y: 0 });
-    assert_eq!(rt; found.as_slice(), [want].as_slice());
+    assert!(rt; found.as_slice() == [want].as_slice());
     Ok(())
 }
 
@@ -62,10 +62,7 @@ fn a_transistor(rt: HostRuntime) -> Result<(), Fail> {
 fn one_group(rt: HostRuntime) -> Result<(), Fail> {
     let alloc = rt.alloc();
     let found = judged(alloc, &[rect(0, 0, 30, 30)], &[rect(10, -5, 20, 15)])?;
-    assert_eq!(rt;
-        found.as_slice(),
-        [GateShape::Bad(GateCause::Groups(1))].as_slice()
-    );
+    assert!(rt; found.as_slice() == [GateShape::Bad(GateCause::Groups(1))].as_slice());
     Ok(())
 }
 
@@ -79,10 +76,7 @@ fn a_closed_ring(rt: HostRuntime) -> Result<(), Fail> {
         rect(30, 20, 40, 30),
     ];
     let found = judged(alloc, &[rect(0, 0, 50, 50)], &ring)?;
-    assert_eq!(rt;
-        found.as_slice(),
-        [GateShape::Bad(GateCause::NoLength)].as_slice()
-    );
+    assert!(rt; found.as_slice() == [GateShape::Bad(GateCause::NoLength)].as_slice());
     Ok(())
 }
 
@@ -102,7 +96,7 @@ fn a_large_gate(rt: HostRuntime) -> Result<(), Fail> {
         Square { x: -1, y: 0 },
         Square { x: side, y: 0 },
     );
-    assert_eq!(rt; found.as_slice(), [want].as_slice());
+    assert!(rt; found.as_slice() == [want].as_slice());
     Ok(())
 }
 
@@ -119,12 +113,12 @@ fn corners_do_not_join(rt: HostRuntime) -> Result<(), Fail> {
         ],
     )?;
     let found = parts(alloc, &set)?;
-    assert_eq!(rt; found.len(), 2);
+    assert!(rt; found.len() == 2);
     for (part, want) in found
         .iter()
         .zip([Square { x: 0, y: 0 }, Square { x: 2, y: 2 }])
     {
-        assert_eq!(rt; least(part), Some(want));
+        assert!(rt; least(part) == Some(want));
     }
     Ok(())
 }
@@ -160,7 +154,7 @@ fn seeds_gather_whole_parts(rt: HostRuntime) -> Result<(), Fail> {
         let seeds = set_of(alloc, &[seed])?;
         let near = near_part(alloc, &seeds)?;
         let found = gather_around(alloc, &layer, &near)?;
-        assert_eq!(rt; found.rects(), want);
+        assert!(rt; found.rects() == want);
     }
     Ok(())
 }
@@ -181,6 +175,6 @@ fn seeds_gather_long_parts(rt: HostRuntime) -> Result<(), Fail> {
     let seeds = set_of(alloc, &[rect(0, -1, 1, 0)])?;
     let near = near_part(alloc, &seeds)?;
     let found = gather_around(alloc, &layer, &near)?;
-    assert_eq!(rt; found.rects(), all.rects());
+    assert!(rt; found.rects() == all.rects());
     Ok(())
 }

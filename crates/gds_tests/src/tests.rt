@@ -160,8 +160,8 @@ fn libraries(rt: HostRuntime) -> Result<(), Fail> {
     let alloc = rt.alloc();
     for (texts, wanted) in &LIBRARIES {
         let stream = bytes(alloc, texts)?;
-        assert_eq!(rt; whole(alloc, &stream)?.as_str(), *wanted);
-        assert_eq!(rt; bytewise(alloc, &stream)?.as_str(), *wanted);
+        assert!(rt; whole(alloc, &stream)?.as_str() == *wanted);
+        assert!(rt; bytewise(alloc, &stream)?.as_str() == *wanted);
     }
     Ok(())
 }
@@ -170,10 +170,10 @@ fn libraries(rt: HostRuntime) -> Result<(), Fail> {
 fn cut_anywhere(rt: HostRuntime) -> Result<(), Fail> {
     let alloc = rt.alloc();
     let stream = bytes(alloc, &[STORED])?;
-    assert_eq!(rt; stream.len(), 230);
+    assert!(rt; stream.len() == 230);
     for at in 0..=stream.len() {
         let found = cut(alloc, &stream, at)?;
-        assert_eq!(rt; found.as_str(), STORED_LIBRARY, "cut at {at}");
+        assert!(rt; found.as_str() == STORED_LIBRARY, "cut at {at}");
     }
     Ok(())
 }
@@ -183,7 +183,7 @@ fn nothing_behind_the_end(rt: HostRuntime) -> Result<(), Fail> {
     let alloc = rt.alloc();
     let mut stream = bytes(alloc, &[STORED])?;
     stream.extend_from_slice(&[0; 2048])?;
-    assert_eq!(rt; whole(alloc, &stream)?.as_str(), STORED_LIBRARY);
+    assert!(rt; whole(alloc, &stream)?.as_str() == STORED_LIBRARY);
     Ok(())
 }
 
@@ -192,9 +192,9 @@ fn header(rt: HostRuntime) -> Result<(), Fail> {
     let alloc = rt.alloc();
     let stored = bytes(alloc, &[STORED])?;
     let library = read_library(alloc, &stored)?;
-    assert_eq!(rt; library.version, [0x02, 0x58]);
-    assert_eq!(rt; library.dates, [0; 24]);
-    assert_eq!(rt; Some(library.units.as_slice()), stored.get(44..60));
+    assert!(rt; library.version == [0x02, 0x58]);
+    assert!(rt; library.dates == [0; 24]);
+    assert!(rt; Some(library.units.as_slice()) == stored.get(44..60));
     Ok(())
 }
 
@@ -240,7 +240,7 @@ fn changed_streams(rt: HostRuntime) -> Result<(), Fail> {
         let mut stream = bytes(alloc, &[STORED])?;
         with_bytes(&mut stream, *place, others);
         let found = fault(alloc, stream.get(..*length).unwrap_or(&[]));
-        assert_eq!(rt; found, Some(*wanted));
+        assert!(rt; found == Some(*wanted));
     }
     Ok(())
 }
@@ -250,7 +250,7 @@ fn first_faults(rt: HostRuntime) -> Result<(), Fail> {
     let alloc = rt.alloc();
     for (name, text, number, index, offset) in &FAULTS {
         let found = fault(alloc, &bytes(alloc, &[HEAD, CELL, *text])?);
-        assert_eq!(rt; found, Some((*number, *index, *offset)), "{name}");
+        assert!(rt; found == Some((*number, *index, *offset)), "{name}");
     }
     Ok(())
 }
@@ -299,7 +299,7 @@ fn faulty_headers(rt: HostRuntime) -> Result<(), Fail> {
     let alloc = rt.alloc();
     for (texts, wanted) in &HEADERS {
         let found = fault(alloc, &bytes(alloc, texts)?);
-        assert_eq!(rt; found, Some(*wanted), "{texts:?}");
+        assert!(rt; found == Some(*wanted), "{texts:?}");
     }
     Ok(())
 }

@@ -41,38 +41,38 @@ static FAULTS: [(&str, ValueFault); 9] = [
 #[test]
 fn areas(rt: HostRuntime) {
     for (text, want) in &AREAS {
-        assert_eq!(rt; parse_area(text.as_bytes()), Ok(*want), "at {text}");
+        assert!(rt; parse_area(text.as_bytes()) == Ok(*want), "at {text}");
     }
     for (text, want) in &FAULTS {
-        assert_eq!(rt; parse_area(text.as_bytes()), Err(*want), "at {text}");
+        assert!(rt; parse_area(text.as_bytes()) == Err(*want), "at {text}");
     }
-    assert_eq!(rt; parse_area(b"1p2"), Err(NotNumber));
+    assert!(rt; parse_area(b"1p2") == Err(NotNumber));
 }
+
+/// Areas in square picometres, and their texts in square micrometres.
+static WRITTEN: [(u128, &str); 7] = [
+    (0, "0"),
+    (1, "0.000000000001"),
+    (400_000_000, "0.0004"),
+    (1_000_000_000_000, "1"),
+    (1_500_000_000_000, "1.5"),
+    (10_000_000_000_010, "10.00000000001"),
+    (
+        1_000_000_000_000_000_000_000_000_000_000,
+        "1000000000000000000",
+    ),
+];
 
 // With ample memory each area is written, and read again with a `P` behind it.
 #[test]
 fn square_micrometres(rt: HostRuntime) -> Result<(), Fail> {
-    for (area, want) in [
-        (0, "0"),
-        (1, "0.000000000001"),
-        (400_000_000, "0.0004"),
-        (1_000_000_000_000, "1"),
-        (1_500_000_000_000, "1.5"),
-        (10_000_000_000_010, "10.00000000001"),
-        (
-            1_000_000_000_000_000_000_000_000_000_000,
-            "1000000000000000000",
-        ),
-    ] {
-        let mut text = area_text(rt.alloc(), area)?;
-        assert_eq!(rt; text.as_slice(), want.as_bytes(), "at {area}");
+    for (area, want) in &WRITTEN {
+        let mut text = area_text(rt.alloc(), *area)?;
+        assert!(rt; text.as_slice() == want.as_bytes(), "at {area}");
         text.push(b'P')?;
-        assert_eq!(rt; parse_area(&text), Ok(area), "at {area}");
+        assert!(rt; parse_area(&text) == Ok(*area), "at {area}");
     }
     let most = area_text(rt.alloc(), u128::MAX)?;
-    assert_eq!(rt;
-        most.as_slice(),
-        b"340282366920938463463374607.431768211455".as_slice()
-    );
+    assert!(rt; most.as_slice() == b"340282366920938463463374607.431768211455".as_slice());
     Ok(())
 }

@@ -77,58 +77,67 @@ static FAULTS: [(&str, ValueFault); 31] = [
 #[test]
 fn plain_values(rt: HostRuntime) {
     for (text, want) in &VALUES {
-        assert_eq!(rt; parse_value(text.as_bytes()), Ok(Femto(*want)), "at {text}");
+        assert!(rt;
+            parse_value(text.as_bytes()) == Ok(Femto(*want)),
+            "at {text}"
+        );
     }
 }
 
 #[test]
 fn faulty_values(rt: HostRuntime) {
     for (text, want) in &FAULTS {
-        assert_eq!(rt; parse_value(text.as_bytes()), Err(*want), "at {text}");
+        assert!(rt; parse_value(text.as_bytes()) == Err(*want), "at {text}");
     }
 }
 
 #[test]
 fn fault_numbers(rt: HostRuntime) {
     for (fault, want) in [(NotNumber, 1), (TooFine, 2), (TooLarge, 3)] {
-        assert_eq!(rt; fault.number(), want);
+        assert!(rt; fault.number() == want);
     }
 }
 
+/// Texts with long exponents, and what each is.
+static EXPONENTS: [(&str, Result<Femto, ValueFault>); 5] = [
+    (
+        "1e0000000000000000000000000000000000000003",
+        Ok(Femto(1000 * FEMTO_PER_METRE)),
+    ),
+    ("0e9999999999999999999999999999999999999999", Ok(Femto(0))),
+    ("0e-9999999999999999999999999999999999999999", Ok(Femto(0))),
+    ("1e9999999999999999999999999999999999999999", Err(TooLarge)),
+    ("1e-9999999999999999999999999999999999999999", Err(TooFine)),
+];
+
 #[test]
 fn long_exponents(rt: HostRuntime) {
-    for (text, want) in [
-        (
-            "1e0000000000000000000000000000000000000003",
-            Ok(Femto(1000 * FEMTO_PER_METRE)),
-        ),
-        ("0e9999999999999999999999999999999999999999", Ok(Femto(0))),
-        ("0e-9999999999999999999999999999999999999999", Ok(Femto(0))),
-        ("1e9999999999999999999999999999999999999999", Err(TooLarge)),
-        ("1e-9999999999999999999999999999999999999999", Err(TooFine)),
-    ] {
-        assert_eq!(rt; parse_value(text.as_bytes()), want, "at {text}");
+    for (text, want) in &EXPONENTS {
+        assert!(rt; parse_value(text.as_bytes()) == *want, "at {text}");
     }
 }
+
+/// A text, 399 times a digit and a text, and what they are together.
+static DIGITS: [(&str, u8, &str, Result<Femto, ValueFault>); 7] = [
+    ("1", b'0', "e-399", Ok(Femto(FEMTO_PER_METRE))),
+    ("9", b'0', "e-399u", Ok(Femto(9_000_000_000))),
+    ("1", b'0', "1e-400", Err(TooFine)),
+    ("9", b'9', "e-397", Err(TooFine)),
+    ("9", b'9', "e-396", Err(TooLarge)),
+    ("0.", b'0', "1e400", Ok(Femto(FEMTO_PER_METRE))),
+    ("0.0", b'0', "1e400", Ok(Femto(FEMTO_PER_METRE / 10))),
+];
 
 // 400 digits with an exponent that undoes them.
 #[test]
 fn long_digits(rt: HostRuntime) -> Result<(), Fail> {
-    for (first, digit, last, want) in [
-        ("1", b'0', "e-399", Ok(Femto(FEMTO_PER_METRE))),
-        ("9", b'0', "e-399u", Ok(Femto(9_000_000_000))),
-        ("1", b'0', "1e-400", Err(TooFine)),
-        ("9", b'9', "e-397", Err(TooFine)),
-        ("9", b'9', "e-396", Err(TooLarge)),
-        ("0.", b'0', "1e400", Ok(Femto(FEMTO_PER_METRE))),
-        ("0.0", b'0', "1e400", Ok(Femto(FEMTO_PER_METRE / 10))),
-    ] {
+    for (first, digit, last, want) in &DIGITS {
         let mut text = first.as_bytes().to_vec(rt.alloc())?;
         for _ in 0..399 {
-            text.push(digit)?;
+            text.push(*digit)?;
         }
         text.extend_from_slice(last.as_bytes())?;
-        assert_eq!(rt; parse_value(&text), want, "at {first}..{last}");
+        assert!(rt; parse_value(&text) == *want, "at {first}..{last}");
     }
     Ok(())
 }
