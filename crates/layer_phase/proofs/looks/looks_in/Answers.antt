@@ -1,4 +1,4 @@
-use Rattle.std.proofs.Common.{◌≡◌, ◌⊎◌, inl, inr, ◌∙◌, ◌^◌, Bool, true, false, ◌&&◌, not, refl, ap, arith, sym, subst}
+use Rattle.std.proofs.Common.{◌≡◌, inl, inr, ◌∙◌, ◌^◌, true, not, ap, arith, sym, subst}
 use Rattle.geo_base.specs.Motions.{moved_square}
 use Rattle.geo_base.specs.Rects.{has, IsRect}
 use Rattle.rect_sets.specs.Rects.{covers}
