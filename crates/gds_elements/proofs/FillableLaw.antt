@@ -14,9 +14,10 @@ use Rattle.geo_base.specs.Outlines.{IsClosed, last_from}
 use Rattle.gds_records.specs.Records.{Rec, Records, NoRecords, ◌▸◌}
 use Rattle.gds_records.specs.Kinds.{BOUNDARY, PATH, BOX, WIDTH, XY, ENDEL, ENDSTR, PATHTYPE, BGNEXTN, ENDEXTN}
 use Rattle.gds_elements.specs.Bounds.{is_start, is_line, is_bound}
-use Rattle.gds_elements.specs.Data.{number, coordinate, long, origin, points_of, is_same, first_of, last_of, is_closed, widened, hull, has_area}
+use Rattle.gds_elements.specs.Data.{number, coordinate, long, origin, points_of, first_of, last_of, is_closed, widened, hull, has_area}
 use Rattle.gds_elements.specs.Meaning.{Boundary, Path, Box, Shape, Cell, Library, opened, last_kind, columns_of, rows_of, part, is_cell_bound, key_of, half_of, beyond, box_form, shapes_by, gathered, open_shapes, open_points, shapes_of, open_cells, cells_of}
 use Rattle.gds_elements.specs.Faults.{are_complete, outline_fault, points_fault, content_fault, Passes}
+use Rattle.gds_elements.proofs.SamePoints.{same_point}
 use Rattle.gds_elements.proofs.Lines.{neither, xy_none}
 use Rattle.gds_elements.proofs.Passing.{passed}
 use Rattle.gds_elements.specs.Fillable.{IsFillable, AreFillable, FillableLaw}
@@ -52,12 +53,6 @@ points_by (a ∷ b ∷ c ∷ d ∷ e ∷ []) = tt
 points_by (a ∷ b ∷ c ∷ d ∷ e ∷ f ∷ []) = tt
 points_by (a ∷ b ∷ c ∷ d ∷ e ∷ f ∷ g ∷ []) = tt
 points_by (a ∷ b ∷ c ∷ d ∷ e ∷ f ∷ g ∷ h ∷ rest) = (record { x = four_long _; y = four_long _ }, points_by rest)
-
-same_point : (p q : Point) → is_same p q ≡ true → p ≡ q
-same_point p q h =
-    let x : p.x ≡ q.x = grind (arith, ints) in
-    let y : p.y ≡ q.y = grind (arith, ints) in
-    ap (λ (z : ℤ). let r : Point = record { x = z; y = p.y } in r) x ∙ ap (λ (z : ℤ). let r : Point = record { x = q.x; y = z } in r) y
 
 last_is : (p : Point) (ps : List Point) → last_from p ps ≡ get_or (p ∷ ps) (length ps) origin
 last_is p [] = refl

@@ -1,4 +1,5 @@
 pub mod PointLemmas
+pub mod SamePoints
 pub mod Trimmed
 pub mod Parts
 pub mod Ends

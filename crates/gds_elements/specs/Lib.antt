@@ -1,6 +1,7 @@
 pub mod Bounds
 pub mod Data
 pub mod Meaning
+pub mod Corners
 pub mod Faults
 pub mod Reading
 pub mod Pieces

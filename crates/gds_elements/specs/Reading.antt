@@ -7,6 +7,8 @@ use Rattle.gds_records.specs.Kinds.{XY, ANGLE, PATHTYPE, BGNEXTN, ENDEXTN}
 use Rattle.gds_elements.specs.Data.{number, long, exactly, trimmed, side, first_of}
 use Rattle.gds_elements.specs.declared.library.ShapeForm.{ShapeForm}
 use Rattle.gds_elements.specs.declared.library.ShapeForm.TheVariants.{Boundary, Path, Box}
+use Rattle.gds_elements.specs.declared.library.ShapeForm.TheVariants as form
+use Rattle.gds_elements.specs.Corners.{corner_points}
 use Rattle.gds_elements.specs.declared.library.RawShape.{RawShape}
 use Rattle.gds_elements.specs.declared.library.RawText.{RawText}
 use Rattle.gds_elements.specs.declared.library.RawRef.{RawRef}
@@ -34,6 +36,7 @@ use Rattle.gds_elements.specs.Meaning as m
 
 abbrev pub form_seen : ShapeForm → m.Form
 form_seen (Boundary points) = m.Boundary points.items
+form_seen (form.Corners corners) = m.Boundary (corner_points corners)
 form_seen (Path points half begin end) = m.Path points.items half begin end
 form_seen (Box rect) = m.Box rect
 

@@ -5,10 +5,11 @@ ghost use Rattle.gds_records.specs.Records.{Records, NoRecords, ◌▸◌};
 ghost use Rattle.gds_elements.specs.Data.{points_of};
 ghost use Rattle.gds_elements.specs.Bounds.{is_start, is_line, is_bound};
 ghost use Rattle.gds_elements.specs.Meaning.{array, beyond, box_form, path_form, single, turn_of};
-ghost use Rattle.gds_elements.specs.Meaning.{gathered, motion_of};
+ghost use Rattle.gds_elements.specs.Meaning.{Boundary, gathered, motion_of};
 ghost use Rattle.gds_elements.specs.Reading.{HoldsDrawing, HoldsPlacing, HoldsElement, form_seen};
 ghost use Rattle.gds_elements.specs.Reading.{ref_seen, rec};
 
+use crate::corners::corners_of;
 use crate::data::{columns_in, long, number, quarter_of, rows_in, trimmed};
 use crate::library::{RawRef, ShapeForm};
 use crate::points::{has_area, hull, side, step};
@@ -224,6 +225,16 @@ fn beyond(path_type: u16, half: i64, extension: i64) -> i64
         2 => half,
         4 => extension,
         _ => 0,
+    }
+}
+
+/// The outline of a boundary. One that goes round a rectangle is kept without a list.
+pub(crate) fn outline_form(points: Vec<Point>) -> ShapeForm
+    ensures { form_seen result ≡ Boundary points.items }
+{
+    match corners_of(&points) {
+        Some(corners) => ShapeForm::Corners(corners),
+        None => ShapeForm::Boundary(points),
     }
 }
 

@@ -2,6 +2,7 @@
 //! stream.
 #![tactic(auto)]
 
+mod corners;
 mod data;
 mod element;
 mod faults;
@@ -16,6 +17,7 @@ mod reading;
 mod stream;
 mod taken;
 
+pub use corners::Corners;
 pub use data::unit_of;
 pub use laws::{derived, fillable, measured, one_meaning, placeable};
 pub use library::{GdsFault, Library, RawCell, RawRef, RawShape, RawText, ShapeForm};

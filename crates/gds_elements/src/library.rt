@@ -3,6 +3,7 @@
 ghost use Rattle.std.specs.Prelude.{◌≡◌};
 ghost use Rattle.gds_elements.specs.declared.library.GdsFault.TheVariants.{NoMemory};
 
+use crate::corners::Corners;
 use geo_base::{LayerKey, Motion, Point, Rect};
 use net_names::Name;
 use std::alloc::AllocError;
@@ -42,6 +43,8 @@ pub enum ShapeForm {
     /// The closed outline of a BOUNDARY, or of a BOX without area: its first point stands at its
     /// end again.
     Boundary(Vec<Point>),
+    /// The outline of a BOUNDARY that goes round a rectangle.
+    Corners(Corners),
     /// A PATH, half its width, and how far it goes beyond its first and its last point.
     Path {
         points: Vec<Point>,

@@ -35,7 +35,8 @@ pub(crate) fn points(alloc: Global, body: &[u8]) -> Result<Vec<Point>, AllocErro
     Ok(points)
 }
 
-fn is_same(p: Point, q: Point) -> bool
+/// Whether two points are the same.
+pub(crate) fn is_same(p: Point, q: Point) -> bool
     ensures { result ≡ is_same p q }
 {
     p.x == q.x && p.y == q.y

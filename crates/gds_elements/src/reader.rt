@@ -14,8 +14,8 @@ ghost use Rattle.gds_elements.specs.Reading.{refs_in};
 ghost use Rattle.gds_elements.specs.Reading.{shape_seen, shapes_in, taken_cells, texts_in};
 
 use crate::data::{exactly, trimmed};
-use crate::element::{Element, Placing, box_form, path_form};
-use crate::library::{Library, RawCell, RawRef, RawShape, RawText, ShapeForm};
+use crate::element::{Element, Placing, box_form, outline_form, path_form};
+use crate::library::{Library, RawCell, RawRef, RawShape, RawText};
 use crate::points::first_of;
 use crate::taken::{Taken, add_taken, nothing_taken};
 use gds_records::kinds;
@@ -161,7 +161,7 @@ impl Structure {
         match start {
             kinds::BOUNDARY => self.add_shape(RawShape {
                 key,
-                form: ShapeForm::Boundary(points),
+                form: outline_form(points),
             }),
             kinds::PATH => self.add_shape(RawShape {
                 key,

@@ -50,6 +50,7 @@ fn shape_set(alloc: Global, form: &ShapeForm) -> Result<RectSet, AllocError>
 {
     match form {
         ShapeForm::Boundary(points) => fill_boundary(alloc, points),
+        ShapeForm::Corners(corners) => fill_boundary(alloc, &corners.points()),
         ShapeForm::Path {
             points,
             half,

@@ -26,6 +26,10 @@ fn add_shape(alloc: Global, out: &mut String, shape: &RawShape) -> Result<(), Al
             out.push_str(" boundary")?;
             add_points(alloc, out, points)?;
         }
+        ShapeForm::Corners(corners) => {
+            out.push_str(" boundary")?;
+            add_points(alloc, out, &corners.points())?;
+        }
         ShapeForm::Path {
             points,
             half,

@@ -92,10 +92,16 @@ layer n d name cell places flat zone calm local derived twice sound reached zone
           λ h. not_both (covers calm q) ((parts.calms q f.0).1 (below_held d name cell q derived sound h)) s.2,
         )
 
-    looked : (q : Square) → InFlat (plain d) cell name q → (covers places q ≡ true) ⊎ IsKeptBelow (plain d) cell name q
-    looked q f = elim (candidate (plain d) name cell q reached (decided n d name cell twice sound zones) f) [
+    looked : (q : Square) → IsKept (plain d) cell name q → (covers places q ≡ true) ⊎ IsKeptBelow (plain d) cell name q
+    looked q kept = elim (candidate (plain d) name cell q reached (decided n d name cell twice sound zones) (kept_flat d cell name q kept)) [
       | inl h ↦ inl (parts.own q h)
-      | inr g ↦ elim g [ inl h ↦ inl (parts.stirred q h) | inr h ↦ inr h ]
+      | inr g ↦ elim g [
+        | inl h ↦ elim (parts.stirred q h) [
+          | inl e ↦ inl e
+          | inr e ↦ let k = calm_kept (plain d) cell name q derived kept in absurd (not_both (covers zone q) e (zone_off q k.0 k.1))
+        ]
+        | inr h ↦ inr h
+      ]
     ]
 
     there : (q : Square) → IsKept (plain d) cell name q → covers places q ≡ true → covers calm q ≡ false → covers local q ≡ true
@@ -107,7 +113,7 @@ layer n d name cell places flat zone calm local derived twice sound reached zone
     from q h =
         let new = local_new (plain d) cell name q derived h in
         let f = kept_flat d cell name q new.0 in
-        elim (looked q f) [
+        elim (looked q new.0) [
           | inr b ↦ absurd (new.1 b)
           | inl e ↦ elim (is_or_not (covers calm q)) [
             | inl c ↦ absurd (new.1 (calm_below q f ((parts.calms q e).0 c)))
@@ -118,7 +124,7 @@ layer n d name cell places flat zone calm local derived twice sound reached zone
     part : (q : Square) → IsKept (plain d) cell name q → (covers local q ≡ true) ⊎ IsKeptBelow (plain d) cell name q
     part q kept =
         let f = kept_flat d cell name q kept in
-        elim (looked q f) [
+        elim (looked q kept) [
           | inr h ↦ inr h
           | inl e ↦ elim (is_or_not (covers calm q)) [
             | inl c ↦ inr (calm_below q f ((parts.calms q e).0 c))

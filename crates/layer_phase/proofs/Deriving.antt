@@ -2,7 +2,7 @@
 use Rattle.std.proofs.lemmas.Option.{get_or_from_slice_get}
 use Rattle.std.proofs.lemmas.Bool.{eqb-true}
 use Rattle.deep_tables.specs.Zones.{IsAsked}
-use Rattle.std.proofs.Common.{◌≡◌, ◌↔◌, inl, inr, ℕ, ◌+◌, ◌≤◌, arith, Bool, true, false, not, ◌&&◌, ◌||◌, ◌==◌, List, [], ◌∷◌, Option, Some, refl, sym, ◌∙◌, ap, subst, slice_get}
+use Rattle.std.proofs.Common.{◌≡◌, ◌⊎◌, ◌↔◌, inl, inr, ℕ, ◌+◌, ◌≤◌, arith, Bool, true, false, not, ◌&&◌, ◌||◌, ◌==◌, List, [], ◌∷◌, Option, Some, refl, sym, ◌∙◌, ap, subst, slice_get}
 use Rattle.geo_base.specs.Motions.{moved_square}
 use Rattle.geo_base.specs.declared.shapes.Rect.{Rect}
 use Rattle.geo_base.specs.declared.shapes.Square.{Square}
@@ -13,7 +13,7 @@ use Rattle.flat_layout.specs.Layout.{IsDisturbed}
 use Rattle.flat_layout.specs.Plane.{AreWithin, IsHeldBy}
 use Rattle.flat_layout.specs.Values.{IsLocalLayer}
 use Rattle.flat_laws.proofs.Cover.{reached_below}
-use Rattle.flat_laws.proofs.Moves.{farther, within_back}
+use Rattle.flat_laws.proofs.Moves.{farther, within_back, within_same}
 use Rattle.cell_graph.specs.Linked.{Linked, IsSound, cell_at, hull_of, motion_at, plain}
 use Rattle.cell_graph.proofs.Bridge.{hulls, hull_sound, or_right, own, step_of}
 use Rattle.cell_graph.proofs.Growing.{within_grown, wider_grown}
@@ -120,7 +120,7 @@ module _ (d : Linked) (r : Rules) (z : List (Option CellZones)) (cell name : ℕ
       let j = known seen.seen name x h.key tree_seen h.listed in
       seen.all.own j.0 h.key j.1 h.square q ((own d sound cell h.key h.square).0 h.own) h.within
 
-  stirred_seen : (q : Square) → IsFromStirred (plain d) cell x q → covers looks q ≡ true
+  stirred_seen : (q : Square) → IsFromStirred (plain d) cell x q → (covers looks q ≡ true) ⊎ (covers (around (reach x) zone) q ≡ true)
   stirred_seen q h =
       let t = step_of d cell h.number h.place h.placed in
       let n = reach x in
@@ -140,9 +140,15 @@ module _ (d : Linked) (r : Rules) (z : List (Option CellZones)) (cell name : ℕ
       let exposed : IsExposed n d z seen.seen h.place.cell h.square =
       record { name = j.0; key = key; named = j.1; zone = there.0; entry = there.1; near = near; disturbed = covered; within = h.stirred.within; other = k.0; flat_key = h.key; flat_named = k.1; shape = h.shape; flat = h.flat; close = h.within } in
       let image : moved_square (motion_at t.from t.row t.column) h.square ≡ q = ap (λ (y : flat.Place). moved_square y.motion h.square) (sym t.is) ∙ h.image in
-      subst (λ s. covers looks s ≡ true) image
-      (seen.all.below t.index t.from t.step.there t.row t.column h.square t.step.row_in t.step.column_in
-      (subst (λ (y : flat.Place). IsExposed n d z seen.seen y.cell h.square) t.is exposed))
+      let found = seen.all.below t.index t.from t.step.there t.row t.column h.square t.step.row_in t.step.column_in
+      (subst (λ (y : flat.Place). IsExposed n d z seen.seen y.cell h.square) t.is exposed) in
+      elim found [
+        | inl e ↦ inl (subst (λ s. covers looks s ≡ true) image e)
+        | inr e ↦
+            let there' : covers seen.all.stirred q ≡ true = subst (λ s. covers seen.all.stirred s ≡ true) image e in
+            let mark = seen.marked x derived_name refl at in
+            inr (near_covered n zone q q (seen.all.for_all name mark.0 mark.1 zone entry q there') (within_same n q))
+      ]
 
   -- the entry of the table
   zone_here : IsFramedZone (zone_margin r.names) d (inputs x) cell zone × IsCanonical zone

@@ -64,7 +64,7 @@ rects_within m rs some h = λ k r lt. corners m (slice_index_or rs k r) (some k 
 pub in_grown : (n : ℕ) (o : Option Rect) (q : Square) → HullHas o q → IsInGrown n o q
 in_grown n o q h = wider_grown 0 n o q (omega arith) ((grown_none o q).1 h)
 
-and_left : (a b : Bool) → (a && b) ≡ true → a ≡ true
+pub and_left : (a b : Bool) → (a && b) ≡ true → a ≡ true
 and_left true b e = refl
 and_left false b e = e
 

@@ -1,5 +1,5 @@
 -- Names as a group of derived names sees them.
-use Rattle.std.proofs.Common.{◌≡◌, inl, inr, ℕ, suc, ◌<◌, ◌≤◌, ◌+◌, Bool, true, false, List, [], ◌∷◌, ◌++◌, Some, refl, sym, ap, ◌∙◌, subst, arith, length, length-append, get_or, slice_get}
+use Rattle.std.proofs.Common.{◌≡◌, inl, inr, ℕ, suc, ◌<◌, ◌≤◌, ◌+◌, Bool, true, false, List, [], ◌∷◌, ◌++◌, Option, Some, refl, sym, ap, ◌∙◌, subst, arith, length, length-append, get_or, slice_get}
 use Rattle.std.proofs.Math.Decide.{ℕ_discrete}
 use Rattle.std.proofs.lemmas.Bool.{cases_lt}
 use Rattle.std.proofs.lemmas.List.{get_or_append_left, get_or_push, get_or_past}
@@ -15,6 +15,11 @@ use Rattle.rule_text.specs.declared.rules.LayerRule.{LayerRule}
 use Rattle.rule_layers.specs.Formulas.{formula_by, formulas, formulas_behind}
 use Rattle.rule_layers.specs.Reads.{IsRead, Reads}
 use Rattle.rule_layers.proofs.Unread.{one_some}
+use Rattle.cell_graph.specs.Linked.{Linked, plain}
+use Rattle.deep_tables.specs.declared.zones.CellZones.{CellZones}
+use Rattle.deep_tables.proofs.Reading.{zone_entry}
+use Rattle.layer_phase.specs.Keeps.{HasEntry}
+use Rattle.layer_phase.specs.Names.{IsReady}
 use Rattle.layer_phase.specs.Groups.{AreNeeded, AreSeen, IsGroup, IsMember, is_derived, seen_form}
 use Rattle.layer_phase.specs.Looks.{IsInput}
 use Rattle.layer_phase.specs.declared.groups.Group.{Group}
@@ -161,3 +166,19 @@ seen_near r g k sound group =
       | inl m ↦ subst (λ (t : Formula). reach t ≤ 10000) (all.each k m) (near_tree r k sound)
       | inr n ↦ let e = ap reach (all.none k n) in omega (arith, e)
     ]
+
+-- a member is marked
+pub member_marked : (names : List LayerRule) (g : Group) (k : ℕ) (x : Formula) → IsGroup names g → IsDerived x → reach x ≡ g.reach → slice_get (formulas names) k ≡ Some x → (k < length g.members.items) × (get_or g.members.items k false ≡ true)
+member_marked names g k x group derived far at =
+    let trees = tree_count names in
+    let lt = slice_get_within (formulas names) k x at in
+    let count = group.count in
+    let inside : k < length g.members.items = omega (arith, trees, lt, count) in
+    (inside, (group.members k inside).1 (record { tree = x; at = at; derived = derived; far_is = far }))
+
+-- and has its entry in the table of disturbed squares
+pub marked_entry : (d : Linked) (r : Rules) (z : List (Option CellZones)) (cell : ℕ) (g : Group) (k : ℕ) → IsReady d r z cell → IsGroup r.names g → k < length g.members.items → get_or g.members.items k false ≡ true → HasEntry z cell k
+marked_entry d r z cell g k ready group lt mark =
+    let m = (group.members k lt).0 mark in
+    let h = zone_entry (plain d) r z cell k m.tree ready.zones ready.reached m.at in
+    (h.0, h.1)

@@ -1,5 +1,6 @@
 -- Rectangles that are looked at.
-use Rattle.std.specs.Prelude.{◌≡◌, ℕ, ◌<◌, ◌^◌, true, List, [], Option, Some, slice_get}
+use Rattle.std.specs.Prelude.{◌≡◌, ◌⊎◌, ℕ, ◌<◌, ◌^◌, Bool, true, false, List, [], Option, Some}
+use Rattle.std.specs.Prelude.{get_or, length, slice_get}
 use Rattle.std.specs.List.{All}
 use Rattle.geo_base.specs.Near.{IsNearRect}
 use Rattle.geo_base.specs.Motions.{moved_square}
@@ -134,19 +135,34 @@ HoldsOwn n d names cell looks = (name : ℕ) (key : LayerKey) → IsInput names 
     → (s q : Square) → covers (own_of (cell_at d cell) key) s ≡ true → AreWithin n s q
     → covers looks q ≡ true
 
+-- the cell has entries for the marked names
+abbrev pub HaveMarked : List (Option CellZones) → ℕ → List Bool → Type 0
+HaveMarked z cell marks = (name : ℕ) → name < length marks → get_or marks name false ≡ true
+    → HasEntry z cell name
+
+-- squares that are disturbed in the cell for each of the first names that is marked
+abbrev pub AreStirredFor : List (Option CellZones) → ℕ → List Bool → ℕ → List Rect → Type 0
+AreStirredFor z cell marks bound set = (name : ℕ) → name < bound → get_or marks name false ≡ true
+    → (zone : List Rect) → IsZoneAt z cell name zone → Grows set zone
+
 -- squares within plus or minus 2^37, with all those within n of the cell's own on input layers, and
--- with all images of what is exposed in placed cells
+-- with all images of what is exposed in placed cells, but of such as are disturbed in the cell for
+-- all marked names
 pub record AreLooks (n : ℕ) (d : Linked) (z : List (Option CellZones)) (names : List LayerRule)
-    (cell : ℕ) (looks : List Rect) : Type 0 where
+    (marks : List Bool) (cell : ℕ) (looks : List Rect) : Type 0 where
   pub within : IsSetWithin (2 ^ 37) looks
   pub own : HoldsOwn n d names cell looks
+  pub stirred : List Rect
+  pub for_all : AreStirredFor z cell marks (length marks) stirred
   pub below : (i : ℕ) (p : Place) → slice_get (places_at (cell_at d cell)) i ≡ Some p
       → (row column : ℕ) (s : Square) → row < p.rows → column < p.columns
       → IsExposed n d z names p.cell s
-      → covers looks (moved_square (motion_at p row column) s) ≡ true
+      → (covers looks (moved_square (motion_at p row column) s) ≡ true)
+      ⊎ (covers stirred (moved_square (motion_at p row column) s) ≡ true)
 
 -- squares that have to be looked at for a derived name that reaches n squares far: the input layers
--- count that it is seen to be made of, and names that it isn't made of may be left out
+-- count that it is seen to be made of, and names that it isn't made of may be left out; where all
+-- marked names are disturbed, of which it is one, there need be none
 pub record AreReadLooks (n : ℕ) (d : Linked) (z : List (Option CellZones)) (names : List LayerRule)
     (name cell : ℕ) (looks : List Rect) : Type 0 where
   pub seen : List LayerRule
@@ -154,4 +170,7 @@ pub record AreReadLooks (n : ℕ) (d : Linked) (z : List (Option CellZones)) (na
       → slice_get (formulas seen) name ≡ Some x
   pub inputs : (k : ℕ) (key : LayerKey) → IsInput seen k key
       → IsInput names k key × IsRead names [] [] k
-  pub all : AreLooks n d z seen cell looks
+  pub marks : List Bool
+  pub marked : (x : Formula) → IsDerived x → reach x ≡ n → slice_get (formulas names) name ≡ Some x
+      → (name < length marks) × (get_or marks name false ≡ true)
+  pub all : AreLooks n d z seen marks cell looks

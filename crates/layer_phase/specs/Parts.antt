@@ -1,5 +1,5 @@
 -- The parts of which a cell's layer is made.
-use Rattle.std.specs.Prelude.{◌≡◌, ◌↔◌, ℕ, ◌+◌, ◌≤◌, true, ◌&&◌, not, List}
+use Rattle.std.specs.Prelude.{◌≡◌, ◌⊎◌, ◌↔◌, ℕ, ◌+◌, ◌≤◌, true, ◌&&◌, not, List}
 use Rattle.geo_base.specs.declared.layer.LayerKey.{LayerKey}
 use Rattle.geo_base.specs.declared.shapes.Rect.{Rect}
 use Rattle.geo_base.specs.declared.shapes.Square.{Square}
@@ -23,12 +23,13 @@ pub record IsFromCalmHull (d : Linked) (name : Formula) (cell : ℕ) (q : Square
   pub calm : IsStirred (plain d) (inputs name) (reach name) place.cell square → ⊥
   pub image : moved_square place.motion square ≡ q
 
--- squares that are looked at, the flat ones of these, those of the cell's grown hull near which
--- something is disturbed, and those that placed cells keep
+-- squares that are looked at, where nothing is disturbed, the flat ones of these, those of the cell's
+-- grown hull near which something is disturbed, and those that placed cells keep
 pub record AreParts (d : Linked) (name : Formula) (cell : ℕ) (places flat zone calm : List Rect) :
     Type 0 where
   pub own : (q : Square) → IsNearOwn (plain d) cell name q → covers places q ≡ true
-  pub stirred : (q : Square) → IsFromStirred (plain d) cell name q → covers places q ≡ true
+  pub stirred : (q : Square) → IsFromStirred (plain d) cell name q → (covers places q ≡ true)
+      ⊎ (covers zone q ≡ true)
   pub flats : (q : Square) → (covers flat q ≡ true) ↔ ((covers places q ≡ true)
       × InFlat (plain d) cell name q)
   pub zones : (q : Square) → IsInGrown (reach name) (hull_of (cell_at d cell)) q

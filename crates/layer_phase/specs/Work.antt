@@ -12,9 +12,10 @@ pub record IsWork (w : CellWork) : Type 0 where
   pub inside : w.cell < length w.design.now.cells
   pub ready : IsReady w.design.now (rules_seen w.rules.now) w.zones.now w.cell
 
--- names that can be numbered, and a reach that names may have
+-- names that can be numbered, a mark for each, and a reach that names may have
 pub record IsView (v : View) : Type 0 where
   pub few : length v.names.now < 2 ^ 32
+  pub count : length v.members.now ≡ length v.names.now
   pub most : v.reach ≤ 10000
 
 -- a reference of one of the layout's cells

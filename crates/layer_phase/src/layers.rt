@@ -244,6 +244,7 @@ fn find_group(
         design: work.design,
         zones: work.zones,
         names: &group.names,
+        members: &group.members,
         reach: group.reach,
     };
     let set = looks(alloc, &view, work.cell)?;

@@ -12,6 +12,7 @@ mod own;
 mod parts;
 mod phase;
 mod squares;
+mod stirred;
 mod work;
 
 pub use laws::{kept_law, layer_law};

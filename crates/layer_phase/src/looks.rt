@@ -17,11 +17,12 @@ ghost use Rattle.rule_text.specs.declared.rules.LayerForm.TheVariants.{Input};
 ghost use Rattle.rule_text.specs.declared.rules.LayerRule.{LayerRule as Rule};
 ghost use Rattle.layer_phase.specs.Looks.{AreExposedLists, AreHeld, AreLooks, Brings};
 ghost use Rattle.layer_phase.specs.Looks.{BringsExposed, BringsOwn, Grows, HasAll, HaveAll};
-ghost use Rattle.layer_phase.specs.Looks.{HoldsOwn};
+ghost use Rattle.layer_phase.specs.Looks.{HaveMarked, HoldsOwn};
 ghost use Rattle.layer_phase.specs.Work.{IsReference, IsView};
 
 use crate::exposed::{ExposedLists, expose, set_at};
 use crate::grown::sized;
+use crate::stirred::{outside, stirred_of};
 use crate::work::View;
 use cell_context::{grown, place_visits, push_images};
 use cell_graph::{Design, Place};
@@ -232,13 +233,17 @@ fn looks_in(alloc: Global, view: &View, cell: u32, hull: &Rect) -> Result<RectSe
     requires view { IsView view.now }
     requires entries { HaveAll view.now.design.now view.now.zones.now cell (length
         view.now.names.now) }
+    requires marked { HaveMarked view.now.zones.now cell view.now.members.now }
     ensures { IfOk result (AreLooks view.now.reach view.now.design.now view.now.zones.now
-        view.now.names.now cell) }
+        view.now.names.now view.now.members.now cell) }
 {
     view.design.sound();
-    let mut out = Vec::new(alloc);
+    let mut found = Vec::new(alloc);
     let window = grown(hull, view.reach);
-    push_references(alloc, &mut out, view, cell, &window)?;
+    push_references(alloc, &mut found, view, cell, &window)?;
+    let all = whole(alloc, &window)?;
+    let stirred = stirred_of(alloc, view, cell, all)?;
+    let mut out = outside(alloc, found, &stirred)?;
     push_near_own(alloc, &mut out, view, cell)?;
     let set = RectSet::canon(alloc, out)?;
     Ok(set)
@@ -261,7 +266,7 @@ fn leaf_looks(alloc: Global, view: &View, cell: u32, hull: &Rect) -> Result<Rect
     requires view { IsView view.now }
     requires leaf { places_at (cell_at view.now.design.now cell) ≡ [] }
     ensures { IfOk result (AreLooks view.now.reach view.now.design.now view.now.zones.now
-        view.now.names.now cell) }
+        view.now.names.now view.now.members.now cell) }
 {
     view.design.sound();
     let _ = cell;
@@ -277,8 +282,9 @@ fn hull_looks(alloc: Global, view: &View, cell: u32, hull: &Rect) -> Result<Rect
     requires view { IsView view.now }
     requires entries { HaveAll view.now.design.now view.now.zones.now cell (length
         view.now.names.now) }
+    requires marked { HaveMarked view.now.zones.now cell view.now.members.now }
     ensures { IfOk result (AreLooks view.now.reach view.now.design.now view.now.zones.now
-        view.now.names.now cell) }
+        view.now.names.now view.now.members.now cell) }
 {
     match view.design.places(cell) {
         [] => leaf_looks(alloc, view, cell, hull),
@@ -288,14 +294,16 @@ fn hull_looks(alloc: Global, view: &View, cell: u32, hull: &Rect) -> Result<Rect
 
 /// The squares of a cell that have to be looked at. An array costs one look; beside that a placed
 /// cell costs a walk in what is disturbed there, once for all its placements, and each element the
-/// rectangles of what is exposed in it.
+/// rectangles of what is exposed in it. What is disturbed in the cell itself for all members of the
+/// group isn't looked at, but where own shapes lie.
 pub fn looks(alloc: Global, view: &View, cell: u32) -> Result<RectSet, AllocError>
     requires cell { cell < length view.now.design.now.cells }
     requires view { IsView view.now }
     requires entries { HaveAll view.now.design.now view.now.zones.now cell (length
         view.now.names.now) }
+    requires marked { HaveMarked view.now.zones.now cell view.now.members.now }
     ensures { IfOk result (AreLooks view.now.reach view.now.design.now view.now.zones.now
-        view.now.names.now cell) }
+        view.now.names.now view.now.members.now cell) }
 {
     let design = view.design;
     design.sound();

@@ -13,11 +13,13 @@ pub struct CellWork<'a> {
     pub cell: u32,
 }
 
-/// A layout and its disturbed squares, as the derived names of one reach see them.
+/// A layout and its disturbed squares, as the derived names of one reach see them: `members` tells
+/// which these are.
 #[derive(Drop)]
 pub struct View<'a> {
     pub design: &'a Design,
     pub zones: &'a Zones,
     pub names: &'a [LayerRule],
+    pub members: &'a [bool],
     pub reach: u32,
 }

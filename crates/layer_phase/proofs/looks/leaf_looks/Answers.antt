@@ -18,4 +18,4 @@ whole-requires c =
 
 pub returns : goal.returns
 returns c =
-    whole_looks c.args.view.now.reach c.args.view.now.design.now c.args.view.now.zones.now c.args.view.now.names.now c.args.cell c.args.hull.now c.grown-wide.result c.in_ok-set.set c.requires.view.most c.sound.ensures c.requires.hull c.grown-wide.ensures c.requires.leaf c.in_ok-set.ensures
+    whole_looks c.args.view.now.reach c.args.view.now.design.now c.args.view.now.zones.now c.args.view.now.names.now c.args.view.now.members.now c.args.cell c.args.hull.now c.grown-wide.result c.in_ok-set.set c.requires.view.most c.sound.ensures c.requires.hull c.grown-wide.ensures c.requires.leaf c.in_ok-set.ensures
