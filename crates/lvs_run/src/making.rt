@@ -11,7 +11,7 @@ ghost use Rattle.lvs_run.specs.Inputs.{IsOutput, IsOutputBeside, IsStopFor, NotF
 ghost use Rattle.lvs_run.specs.Inputs.{NotWide, stopped};
 ghost use Rattle.net_align.specs.Compared.{AreCalleesFirst, IsAlignable};
 ghost use Rattle.net_model.specs.Rows.{plain_netlist};
-ghost use Rattle.netlist_file.specs.File.{HasFiles, IsNetlistFile};
+ghost use Rattle.netlist_file.specs.File.{AreFiles, HasFiles, IsNetlistFile};
 ghost use Rattle.report_file.specs.Combined.{compared_of, wide_name};
 ghost use Rattle.report_file.specs.File.{IsReportFile};
 ghost use Rattle.lvs_run.specs.Answers.{comparison_answer, verdict_of};
@@ -208,17 +208,19 @@ fn compared_output<R: Threads + Wait + Sync, G: Gate + Sync>(
     })
 }
 
-/// What `run` has to write.
+/// What `run` has to write, beside what was extracted.
 pub fn report_output<R: Threads + Wait + Sync, G: Gate + Sync>(
     alloc: Global,
     layout: &Layout,
     rules: &RuleSet,
+    files: Files,
     schematic: &Netlist,
     paths: ReportPaths,
     crew: &Crew<R, G>,
 ) -> Result<Output, Stop>
     requires read { (bytes : List ℕ) × (top : Option (List ℕ)) × IsRead bytes top layout.now }
     requires rules { IsSound (rules_seen rules.now) }
+    requires files { AreFiles layout.now (rules_seen rules.now) files }
     requires schematic { IsAlignable (plain_netlist schematic.now) }
     requires apart { (path : List ℕ) → AreApart (blank_files (report_outputs path paths)) }
     ensures made { (path : List ℕ) → IfOk result (IsOutputBeside (report_outputs path paths)
@@ -227,7 +229,7 @@ pub fn report_output<R: Threads + Wait + Sync, G: Gate + Sync>(
         (plain_netlist schematic.now) (stopped why)) }
 {
     layout.design.sound();
-    match extract_files(alloc, layout, rules, crew)? {
+    match files {
         Files::Whole(found) => {
             let output = compared_output(alloc, layout, rules, found, schematic, paths, crew)?;
             Ok(output)

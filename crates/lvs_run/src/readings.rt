@@ -1,38 +1,43 @@
 //! The rules, the layout and the schematic of input files.
 
-ghost use Rattle.std.specs.Prelude.{◌≡◌, string_bytes, IfOk, IfErr};
+ghost use Rattle.std.specs.Prelude.{◌≡◌, ℕ, List, Option, string_bytes, IfOk, IfErr};
 ghost use Rattle.gds_layout.specs.Layouts.{IsRead};
 ghost use Rattle.lvs_outside.specs.Store.{HasRoom};
 ghost use Rattle.lvs_run.specs.Answers.{refused_layout, refused_rules, refused_schematic};
 ghost use Rattle.lvs_run.specs.Inputs.{Quiet, ReadAs, RefusesLayout, RefusesRules};
 ghost use Rattle.lvs_run.specs.Inputs.{RefusesSchematic, stopped};
 ghost use Rattle.net_model.specs.Rows.{plain_netlist};
+ghost use Rattle.netlist_file.specs.File.{AreFiles};
 ghost use Rattle.plain_netlist.specs.Normal.{IsNormalNetlist};
 ghost use Rattle.plain_netlist.specs.Sound.{IsSoundNetlist};
 ghost use Rattle.rule_text.specs.Reading.{Means};
 ghost use Rattle.rule_text.specs.Seen.{rules_seen};
 ghost use Rattle.rule_text.specs.Sound.{IsSound};
 ghost use Rattle.spice_rows.specs.Sizes.{read_limit};
-ghost use Rattle.spice_text.specs.Means.{Means as SpiceMeans};
+ghost use Rattle.spice_text.specs.Means.{Means as SpiceMeans, SaysFirst};
 
 use crate::input::{Stop, feed_input, read_input};
 use crate::status::Refusal;
 use gds_layout::{Layout, LayoutFault, LayoutReader};
+use job_board::{Crew, Gate};
 use lvs_outside::Depot;
 use net_model::Netlist;
 use net_names::Name;
+use netlist_file::{Files, extract_files};
 use rule_text::{RuleFault, RuleSet, read_rules};
 use spice_rows::SpiceFault;
 use spice_text::read_spice;
-use std::alloc::Global;
+use std::alloc::{AllocError, Global};
+use std::sync::Wait;
+use std::thread::Threads;
 
 /// The answer of a fault of the rules.
 pub fn rules_stop(fault: RuleFault) -> Stop
     ensures { stopped result ≡ refused_rules fault }
 {
-    match fault.number() {
-        Some(_) => Stop::Refused(Refusal::Rules(fault)),
-        None => Stop::NoMemory,
+    match fault {
+        RuleFault::NoMemory => Stop::NoMemory,
+        fault => Stop::Refused(Refusal::Rules(fault)),
     }
 }
 
@@ -115,6 +120,66 @@ pub fn schematic_of<D: Depot>(alloc: Global, depot: &mut D, path: &String) -> Re
     let bytes = read_input(alloc, depot, path)?;
     match read_spice(alloc, bytes.as_slice()) {
         Ok(netlist) => Ok(netlist),
+        Err(fault) => Err(schematic_stop(fault)),
+    }
+}
+
+// The netlist that these bytes mean, and what is extracted from a layout, side by side.
+fn read_beside<R: Threads + Wait + Sync, G: Gate + Sync>(
+    alloc: Global,
+    bytes: Vec<u8>,
+    layout: &Layout,
+    rules: &RuleSet,
+    crew: &Crew<R, G>,
+) -> (Result<Netlist, SpiceFault>, Result<Files, AllocError>)
+    requires read { (stream : List ℕ) × (top : Option (List ℕ)) × IsRead stream top layout.now }
+    requires rules { IsSound (rules_seen rules.now) }
+    ensures found { IfOk result.0 (λ nl. SpiceMeans read_limit bytes.items (plain_netlist nl)) }
+    ensures sound { IfOk result.0 (λ nl. IsSoundNetlist (plain_netlist nl)) }
+    ensures normal { IfOk result.0 (λ nl. IsNormalNetlist (plain_netlist nl)) }
+    ensures fault { IfErr result.0 (SaysFirst read_limit bytes.items) }
+    ensures files { IfOk result.1 (AreFiles layout.now (rules_seen rules.now)) }
+{
+    let extraction = move || -> Result<Files, AllocError>
+        requires { ((stream : List ℕ) × (top : Option (List ℕ)) × IsRead stream top layout.now)
+            × IsSound (rules_seen rules.now) }
+        ensures { IfOk result (AreFiles layout.entry.now (rules_seen rules.entry.now)) }
+    { extract_files(alloc, layout, rules, crew) };
+    crew.both(|| read_spice(alloc, bytes.as_slice()), extraction)
+}
+
+/// The netlist that the path's file means, and what is extracted from a layout: one worker reads
+/// and then extracts, two or more do both at once, in vain where the file is refused. An `Err` is
+/// as that of `schematic_of`. Cost: that of `schematic_of` and of `extract_files`.
+pub fn schematic_beside<R: Threads + Wait + Sync, D: Depot, G: Gate + Sync>(
+    alloc: Global,
+    depot: &mut D,
+    path: &String,
+    layout: &Layout,
+    rules: &RuleSet,
+    crew: &Crew<R, G>,
+) -> Result<(Netlist, Files), Stop>
+    requires room { HasRoom (D.state depot.old) }
+    requires read { (bytes : List ℕ) × (top : Option (List ℕ)) × IsRead bytes top layout.now }
+    requires rules { IsSound (rules_seen rules.now) }
+    ensures quiet { Quiet (D.state depot.old) (D.state depot.new) }
+    ensures found { IfOk result (λ v. ReadAs (D.state depot.old) (D.state depot.new)
+        (string_bytes path.now) (λ bytes. SpiceMeans read_limit bytes (plain_netlist v.0))) }
+    ensures sound { IfOk result (λ v. IsSoundNetlist (plain_netlist v.0)) }
+    ensures normal { IfOk result (λ v. IsNormalNetlist (plain_netlist v.0)) }
+    ensures files { IfOk result (λ v. AreFiles layout.now (rules_seen rules.now) v.1) }
+    ensures refused { IfErr result (λ why. RefusesSchematic (D.state depot.old) (D.state depot.new)
+        (string_bytes path.now) (stopped why)) }
+{
+    if crew.workers == 1 {
+        let netlist = schematic_of(alloc, depot, path)?;
+        let files = extract_files(alloc, layout, rules, crew)?;
+        return Ok((netlist, files));
+    }
+    let bytes = read_input(alloc, depot, path)?;
+    let (read, files) = read_beside(alloc, bytes, layout, rules, crew);
+    match read {
+        Ok(netlist) => Ok((netlist, files?)),
         Err(fault) => Err(schematic_stop(fault)),
     }
 }

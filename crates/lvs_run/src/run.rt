@@ -22,7 +22,7 @@ use crate::input::Stop;
 use crate::laws::compared_laws;
 use crate::making::{output_of, report_output};
 use crate::output::Output;
-use crate::readings::{layout_of, rules_of, schematic_of};
+use crate::readings::{layout_of, rules_of, schematic_beside};
 use crate::status::{Refusal, Status};
 use crate::summary::refusal_line;
 use crate::words::{Outputs, ReportPaths, Task, Work, read_work};
@@ -61,8 +61,9 @@ fn compare<R: Threads + Wait + Sync, D: Depot, G: Gate + Sync>(
         (D.state depot.old) (D.state depot.new) (string_bytes schematic.now) (stopped why)) }
 {
     read_alignable();
-    let netlist = schematic_of(alloc, depot, schematic)?;
-    let output = report_output(alloc, layout, rules, &netlist, paths, crew)?;
+    let both = schematic_beside(alloc, depot, schematic, layout, rules, crew)?;
+    let (netlist, files) = both;
+    let output = report_output(alloc, layout, rules, files, &netlist, paths, crew)?;
     Ok(output)
 }
 
@@ -172,11 +173,12 @@ fn deliver<D: Depot, S: Sink>(output: &Output, depot: &mut D, out: &mut S) -> St
 /// summary line.
 ///
 /// All that is written is complete in memory before the first write. After a failed call on one
-/// object the other isn't called. The layout is read in pieces, of which none is kept, to its end or
-/// past the limit before its fault is answered. Cost: reading the inputs, the layers of each reached
-/// cell (also its nets, gates, pins and circuit), the comparison of each pair of circuits, and the
-/// bytes written; a cell is worked once, however often it is placed. `make` reads no file and makes
-/// no shapes file: else it costs what `run` on its files does.
+/// object the other isn't called. Two workers or more read the schematic beside extraction, whose
+/// work is in vain where it is refused. The layout is read in pieces, of which none is kept, to its
+/// end or past the limit before its fault is answered. Cost: reading the inputs, the layers of each
+/// reached cell (also its nets, gates, pins and circuit), the comparison of each pair of circuits,
+/// and the bytes written; a cell is worked once, however often it is placed. `make` reads no file
+/// and makes no shapes file: else it costs what `run` on its files does.
 pub fn run_lvs<R: Threads + Wait + Sync, D: Depot, S: Sink, G: Gate + Sync>(
     rt: &R,
     alloc: Global,

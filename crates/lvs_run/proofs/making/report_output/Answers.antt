@@ -12,8 +12,8 @@ pub returns-in_err-output-in-Whole-clause-refused : goal.returns-in_err-output-i
 returns-in_err-output-in-Whole-clause-refused g c =
     let l = c.args.layout.now in
     let r = rules_seen c.args.rules.now in
-    let e = err_from_is_err_and c.from_residual-in_err-output-in-Whole.result c.from_residual-in_err-output-in-Whole.ensures.1 in
-    let files = subst (λ (f : Files). AreFiles l r f) c.in-Whole.is c.in_ok-found.ensures in
+    let e = err_from_is_err_and c.from_residual.result c.from_residual.ensures.1 in
+    let files = subst (λ (f : Files). AreFiles l r f) c.in-Whole.is c.requires.files in
     rw (e.1, e.2) (run_merged l r (plain_netlist c.args.schematic.now) _ (narrow_file l r _ _ _ files.shapes) c.in_err-output-in-Whole.ensures.refused)
 
 pub returns-in-Wide-clause-refused : goal.returns-in-Wide-clause-refused
@@ -21,5 +21,5 @@ returns-in-Wide-clause-refused g c =
     let l = c.args.layout.now in
     let r = rules_seen c.args.rules.now in
     let a = stopped c.wide_stop.result in
-    let wide = subst (λ (f : Files). AreFiles l r f) c.in-Wide.is c.in_ok-found.ensures in
+    let wide = subst (λ (f : Files). AreFiles l r f) c.in-Wide.is c.requires.files in
     run_far l r (plain_netlist c.args.schematic.now) a (stops_far l r c.in-Wide.cell a c.sound.ensures wide c.wide_stop.ensures)
