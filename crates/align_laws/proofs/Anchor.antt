@@ -1,11 +1,8 @@
 -- A chain between held items needs no item that isn't held, where each item has one above it at most and what is above a held one is held.
 use Rattle.std.proofs.Common.{◌≡◌, ◌⊎◌, inl, inr, Bool, true, false, List, [], ◌∷◌, refl, sym, subst}
+use Rattle.std.proofs.lemmas.Bool.{cases_Bool}
 use Rattle.plain_netlist.specs.Chains.{IsChain, Reaches}
 use Rattle.plain_netlist.proofs.Links.{stays, single, both}
-
-pub is_it : (b : Bool) → (b ≡ true) ⊎ (b ≡ false)
-is_it true = inl refl
-is_it false = inr refl
 
 module _ {A : Type 0} (J : A → A → Type 0) (held : A → Bool) (one : (u w s : A) → J u s → J w s → u ≡ w) (closed : (u s : A) → J u s → held s ≡ true → held u ≡ true) where
   abbrev Either : A → A → Type 0
@@ -30,7 +27,7 @@ module _ {A : Type 0} (J : A → A → Type 0) (held : A → Bool) (one : (u w s
   held_top s t (u ∷ us) r h = let no : held s ≡ false = r.0 in absurd cc
 
   next : (a s z : A) → Anchored a s → Either s z → Anchored a z
-  next a s z r (inl down) = elim (is_it (held z)) [
+  next a s z r (inl down) = elim (cases_Bool (held z)) [
     | inl yes_z ↦
         let up = closed s z down yes_z in
         let e : s ≡ r.top = held_top s r.top r.via r.rises up in
@@ -38,7 +35,7 @@ module _ {A : Type 0} (J : A → A → Type 0) (held : A → Bool) (one : (u w s
         record { top = z; via = []; rises = (refl, yes_z); chain = both HeldLink a s z here (single HeldLink s z (inl down, up, yes_z)) }
     | inr no_z ↦ record { top = r.top; via = s ∷ r.via; rises = (no_z, down, r.rises); chain = r.chain }
   ]
-  next a s z r (inr up) = elim (is_it (held s)) [
+  next a s z r (inr up) = elim (cases_Bool (held s)) [
     | inl yes_s ↦
         let over = closed z s up yes_s in
         let e : s ≡ r.top = held_top s r.top r.via r.rises yes_s in

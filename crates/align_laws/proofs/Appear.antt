@@ -1,6 +1,6 @@
 -- What a cut circuit names: its held pins, the terminals of its devices, and its nets at the held pins of kept calls, renumbered.
 use Rattle.std.proofs.Common.{◌≡◌, inl, inr, ℕ, zero, suc, ◌<◌, Bool, true, false, cond, List, [], ◌∷◌, ◌++◌, map, length, Some, slice_get, refl, sym, ◌∙◌, ap, ap₂, subst, arith}
-use Rattle.plain_netlist.proofs.Members.{from_map, item_at}
+use Rattle.base_laws.proofs.Items.{get_left, item_at, map_from}
 use Rattle.std.specs.List.{flat_map}
 use Rattle.std.proofs.lemmas.List.{map-append}
 use Rattle.std.proofs.lemmas.Simd.{map-map}
@@ -12,14 +12,14 @@ use Rattle.align_laws.specs.Flat.{row_through}
 use Rattle.align_laws.specs.Lists.{over, pieces, net_at_pin, given_of}
 use Rattle.align_laws.specs.Cut.{Alignment, CutCall, held_pins, cut_row, cut_calls, cut, OnHeldPin, AreCut}
 use Rattle.align_laws.proofs.CutList.{given_is, held_of}
-use Rattle.align_laws.proofs.Pieces.{append_left, append_right, append_cases, place_pin}
+use Rattle.align_laws.proofs.Pieces.{append_right, append_cases, place_pin}
 use Rattle.align_laws.proofs.SameViews.{keep_from}
 use Rattle.align_laws.proofs.Views.{keep}
 
 -- lists joined item by item
 pub flat_in : {A B : Type 0} (g : A → List B) (xs : List A) (k q : ℕ) (x : A) (y : B) → slice_get xs k ≡ Some x → slice_get (g x) q ≡ Some y → (i : ℕ) × (slice_get (flat_map g xs) i ≡ Some y)
 flat_in g [] k q x y h e = absurd (none-some x h)
-flat_in {A} g (z ∷ zs) zero q x y h e = (q, append_left (g z) (flat_map g zs) q y (subst (λ (u : A). slice_get (g u) q ≡ Some y) (sym (same_Some _ _ h)) e))
+flat_in {A} g (z ∷ zs) zero q x y h e = (q, get_left (g z) (flat_map g zs) q y (subst (λ (u : A). slice_get (g u) q ≡ Some y) (sym (same_Some _ _ h)) e))
 flat_in g (z ∷ zs) (suc k) q x y h e = let f = flat_in g zs k q x y h e in (over (g z) f.0, append_right (g z) (flat_map g zs) f.0 y f.1)
 
 flat_of : {A B : Type 0} (g : A → List B) (xs : List A) (i : ℕ) (y : B) → slice_get (flat_map g xs) i ≡ Some y → (k : ℕ) × (x : A) × (q : ℕ) × (slice_get xs k ≡ Some x) × (slice_get (g x) q ≡ Some y)
@@ -110,7 +110,7 @@ module _ (f o : Netlist) (w : Alignment) (are : AreCut f o w) (height : ℕ → 
 
   on_call : (c k q n : ℕ) (row : CallRow) → IsCall f c k row → w.kept row.circuit ≡ true → slice_get (old_nets f w row) q ≡ Some n → OnHeldPin f w c n
   on_call c k q n row call kept at =
-      let m = from_map (λ p. net_at_pin row.nets (λ m. 0) p) (held_pins f w row.circuit) q n at in
+      let m = map_from (λ p. net_at_pin row.nets (λ m. 0) p) (held_pins f w row.circuit) q n at in
       let d = good.called c k row call in
       let h = held_of f w height good row.circuit q m.0 d.0 d.1 m.1 in
       let outer = call_pin c k q m.0 row call m.1 in

@@ -1,6 +1,7 @@
 -- Lists cut so are pruned.
 use Rattle.std.proofs.Common.{◌≡◌, inl, inr, ℕ, zero, suc, ◌<◌, Bool, true, cond, [], ◌∷◌, length, Some, slice_get, refl, sym, ◌∙◌, ap, subst}
-use Rattle.plain_netlist.proofs.Members.{map_at, from_map, item_at}
+use Rattle.base_laws.proofs.Items.{item_at, map_to, map_from}
+use Rattle.std.proofs.lemmas.Bool.{cases_Bool}
 use Rattle.std.proofs.lemmas.Option.{slice_get_within}
 use Rattle.plain_netlist.specs.Netlist.{on, CallRow, Circuit, Netlist, IsCircuit, IsCall, IsPin}
 use Rattle.align_laws.specs.Flat.{row_through}
@@ -8,7 +9,6 @@ use Rattle.align_laws.specs.Lists.{joined_place, net_at_pin, circuit_or, call_or
 use Rattle.align_laws.proofs.Prune.{ArePinsKept, ArePinsBack, IsPruned, ArePruned, from_or, cuts_of, AreDeadGone}
 use Rattle.plain_netlist.specs.Sound.{IsGood}
 use Rattle.align_laws.specs.Cut.{CutCall, Alignment, held_pin, held_pins, cut_row, cut_call, cut_calls, cut, AreCut}
-use Rattle.align_laws.proofs.Anchor.{is_it}
 use Rattle.align_laws.proofs.Pieces.{piece_at, piece_of, place_pin}
 
 one_item : {B : Type 0} (r y : B) (n : ℕ) → slice_get (r ∷ []) n ≡ Some y → (n ≡ 0) × (r ≡ y)
@@ -41,7 +41,7 @@ module _ (f : Netlist) (w : Alignment) (height : ℕ → ℕ) (good : IsGood f h
       let p = piece_of (held_pin f w c) (given_of f c).pins q n at in
       let here : IsPin f c p.item p.of = (x, is, subst (λ (z : Circuit). slice_get z.pins p.item ≡ Some p.of) (given_is f c x is) p.is) in
       let num = good.pins c p.item p.of here in
-      elim (is_it (w.held c p.of)) [
+      elim (cases_Bool (w.held c p.of)) [
         | inl h ↦
             let there : slice_get (p.of ∷ []) p.number ≡ Some n = subst (λ (t : Bool). slice_get (cond t (p.of ∷ []) []) p.number ≡ Some n) h p.at in
             let e : p.of ≡ n = (one_item p.of n p.number there).1 in (
@@ -55,10 +55,10 @@ module _ (f : Netlist) (w : Alignment) (height : ℕ → ℕ) (good : IsGood f h
 
 module _ (f o : Netlist) (w : Alignment) (are : AreCut f o w) (height : ℕ → ℕ) (good : IsGood f height) (dead : AreDeadGone f w) where
   pin_there : (c q n : ℕ) → w.kept c ≡ true → slice_get (held_pins f w c) q ≡ Some n → IsPin o (w.number c) q (w.new c n)
-  pin_there c q n kept at = (cut f w c, are.there c kept, map_at (w.new c) (held_pins f w c) q n at)
+  pin_there c q n kept at = (cut f w c, are.there c kept, map_to (w.new c) (held_pins f w c) q n at)
 
   pin_from : (c q m : ℕ) → w.kept c ≡ true → IsPin o (w.number c) q m → (n : ℕ) × (slice_get (held_pins f w c) q ≡ Some n) × (w.new c n ≡ m)
-  pin_from c q m kept (y, is, at) = from_map (w.new c) (held_pins f w c) q m (subst (λ (z : Circuit). slice_get z.pins q ≡ Some m) (cut_is f o w are c y kept is) at)
+  pin_from c q m kept (y, is, at) = map_from (w.new c) (held_pins f w c) q m (subst (λ (z : Circuit). slice_get z.pins q ≡ Some m) (cut_is f o w are c y kept is) at)
 
   pins_kept : (c k : ℕ) (row : CallRow) → w.kept c ≡ true → IsCall f c k row → w.kept row.circuit ≡ true → ArePinsKept f o (cuts_of f w) c row (cut_row f w c row)
   pins_kept c k row there call kept p outer inner net pin h =
@@ -69,13 +69,13 @@ module _ (f o : Netlist) (w : Alignment) (are : AreCut f o w) (height : ℕ → 
       let here : slice_get row.nets inner ≡ Some outer = subst (λ (m : ℕ). slice_get row.nets m ≡ Some outer) (sym num) net in (
         up,
         q,
-        map_at (λ p. w.new c (net_at_pin row.nets (λ m. 0) p)) (held_pins f w row.circuit) q inner at ∙ ap (λ (m : ℕ). Some (w.new c m)) (place_pin row.nets (λ m. 0) inner outer here),
+        map_to (λ p. w.new c (net_at_pin row.nets (λ m. 0) p)) (held_pins f w row.circuit) q inner at ∙ ap (λ (m : ℕ). Some (w.new c m)) (place_pin row.nets (λ m. 0) inner outer here),
         pin_there row.circuit q inner kept at,
       )
 
   pins_back : (c k : ℕ) (row : CallRow) → w.kept c ≡ true → IsCall f c k row → w.kept row.circuit ≡ true → ArePinsBack f o (cuts_of f w) c row (cut_row f w c row)
   pins_back c k row there call kept q outer inner net pin =
-      let n = from_map (λ p. w.new c (net_at_pin row.nets (λ m. 0) p)) (held_pins f w row.circuit) q outer net in
+      let n = map_from (λ p. w.new c (net_at_pin row.nets (λ m. 0) p)) (held_pins f w row.circuit) q outer net in
       let m = pin_from row.circuit q inner kept pin in
       let same : m.0 ≡ n.0 = let a = m.1 in let b = n.1 in cc in
       let d = good.called c k row call in
@@ -97,9 +97,9 @@ module _ (f o : Netlist) (w : Alignment) (are : AreCut f o w) (height : ℕ → 
       record {
         target = λ k row call. ap (λ (r : CallRow). r.circuit) (row_is f c k row call);
         device = λ j row dev.
-            (cut f w c, are.there c there, map_at (row_through (w.new c)) (given_of f c).devices j row (subst (λ (z : Circuit). slice_get z.devices j ≡ Some row) (sym (given_is f c dev.0 dev.1)) dev.2));
+            (cut f w c, are.there c there, map_to (row_through (w.new c)) (given_of f c).devices j row (subst (λ (z : Circuit). slice_get z.devices j ≡ Some row) (sym (given_is f c dev.0 dev.1)) dev.2));
         device_back = λ j other dev.
-            let m = from_map (row_through (w.new c)) (given_of f c).devices j other (subst (λ (z : Circuit). slice_get z.devices j ≡ Some other) (cut_is f o w are c dev.0 there dev.1) dev.2) in
+            let m = map_from (row_through (w.new c)) (given_of f c).devices j other (subst (λ (z : Circuit). slice_get z.devices j ≡ Some other) (cut_is f o w are c dev.0 there dev.1) dev.2) in
             (m.0, (x.0, x.1, subst (λ (z : Circuit). slice_get z.devices j ≡ Some m.0) (given_is f c x.0 x.1) m.1));
         terminal = λ j row pole dev. (are.held c (on pole row) there).1 (inl (j, row, pole, dev, refl));
         call = λ k row call kept.
@@ -107,18 +107,18 @@ module _ (f o : Netlist) (w : Alignment) (are : AreCut f o w) (height : ℕ → 
             let one : slice_get (cut_call f w c k row) 0 ≡ Some item = subst (λ (t : Bool). slice_get (cond t (item ∷ []) []) 0 ≡ Some item) (sym kept) refl in
             let at = piece_at (cut_call f w c) (given_of f c).calls k 0 row item (call_here f c k row call) one in (
               cut_row f w c row,
-              (cut f w c, are.there c there, map_at (λ (r : CutCall). r.row) (cut_calls f w c) (joined_place (cut_call f w c) (given_of f c).calls k 0) item at),
+              (cut f w c, are.there c there, map_to (λ (r : CutCall). r.row) (cut_calls f w c) (joined_place (cut_call f w c) (given_of f c).calls k 0) item at),
               refl,
               ap from_or at,
               pins_kept c k row there call kept,
             );
         dead = λ k row call no path j r h. dead c k row there call no path j r h;
         call_back = λ e other dev.
-            let m = from_map (λ (r : CutCall). r.row) (cut_calls f w c) e other (subst (λ (z : Circuit). slice_get z.calls e ≡ Some other) (cut_is f o w are c dev.0 there dev.1) dev.2) in
+            let m = map_from (λ (r : CutCall). r.row) (cut_calls f w c) e other (subst (λ (z : Circuit). slice_get z.calls e ≡ Some other) (cut_is f o w are c dev.0 there dev.1) dev.2) in
             let p = piece_of (cut_call f w c) (given_of f c).calls e m.0 m.1 in
             let call : IsCall f c p.item p.of = (x.0, x.1, subst (λ (z : Circuit). slice_get z.calls p.item ≡ Some p.of) (given_is f c x.0 x.1) p.is) in
             let item : CutCall = record { from = p.item; row = cut_row f w c p.of } in
-            elim (is_it (w.kept p.of.circuit)) [
+            elim (cases_Bool (w.kept p.of.circuit)) [
               | inl h ↦
                   let low : slice_get (item ∷ []) p.number ≡ Some m.0 = subst (λ (t : Bool). slice_get (cond t (item ∷ []) []) p.number ≡ Some m.0) h p.at in
                   let i = one_item item m.0 p.number low in

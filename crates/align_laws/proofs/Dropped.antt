@@ -1,12 +1,13 @@
 -- Dropping what holds nothing leaves devices and their nets as they are.
-use Rattle.std.proofs.Common.{◌≡◌, ◌↔◌, ◌&&◌, inl, inr, ℕ, Bool, true, false, List, [], ◌∷◌, ◌++◌, Some, slice_get, refl, sym, ◌∙◌, ap, subst}
+use Rattle.std.proofs.Common.{◌≡◌, ◌↔◌, ◌&&◌, inl, inr, ℕ, Bool, true, List, [], ◌∷◌, ◌++◌, Some, slice_get, refl, sym, ◌∙◌, ap, subst}
+use Rattle.std.proofs.lemmas.Bool.{cases_Bool, and_parts, and_from}
 use Rattle.plain_netlist.proofs.Once.{one_call}
 use Rattle.plain_netlist.specs.Netlist.{Pole, Source, Gate, Drain, Bulk, on, DeviceRow, CallRow, Netlist, IsCall, IsPin, Slot, Joins, IsJoin, IsEitherJoin, InOneNet, HasDevice, slot, IsOnPin}
 use Rattle.align_laws.specs.Flat.{below, IsRowImage, row_through}
 use Rattle.align_laws.proofs.Prune.{Cuts, ArePruned, IsHeldSlot, new_slot, new_path, IsPrunedExpansion, PruneLaw}
 use Rattle.plain_netlist.proofs.Links.{along}
 use Rattle.align_laws.proofs.Joined.{net_same, net_back, net_on, net_down, call_joins}
-use Rattle.align_laws.proofs.Anchor.{is_it, HeldLink, held_chain, held_root}
+use Rattle.align_laws.proofs.Anchor.{HeldLink, held_chain, held_root}
 
 pole_through : (f : ℕ → ℕ) (pole : Pole) (r : DeviceRow) → on pole (row_through f r) ≡ f (on pole r)
 pole_through f Source r = refl
@@ -17,18 +18,6 @@ pole_through f Bulk r = refl
 abbrev held_at : Cuts → ℕ → List ℕ → ℕ → Bool
 held_at v c [] n = v.held c n
 held_at v c (k ∷ ks) n = v.kept (v.target c k) && held_at v (v.target c k) ks n
-
-and_left : (a b : Bool) → (a && b) ≡ true → a ≡ true
-and_left true b h = refl
-and_left false b h = absurd cc
-
-and_right : (a b : Bool) → (a && b) ≡ true → b ≡ true
-and_right true b h = h
-and_right false b h = absurd cc
-
-and_both : (a b : Bool) → a ≡ true → b ≡ true → (a && b) ≡ true
-and_both true b h g = g
-and_both false b h g = absurd cc
 
 last_one : (xs ys : List ℕ) (k j : ℕ) → xs ++ k ∷ [] ≡ ys ++ j ∷ [] → (xs ≡ ys) × (k ≡ j)
 last_one [] [] k j h = (refl, cc)
@@ -73,17 +62,17 @@ module _ (f o : Netlist) (v : Cuts) (are : ArePruned f o v) where
   held_above : (path : List ℕ) (c outer k inner : ℕ) → v.kept c ≡ true → Joins f c path outer k inner → held_at v c (path ++ k ∷ []) inner ≡ true → held_at v c path outer ≡ true
   held_above [] c outer k inner there (row, call, called, at, p, net, pin) h =
       let target = (are.each c there).target k row call in
-      let kept : v.kept row.circuit ≡ true = subst (λ (t : ℕ). v.kept t ≡ true) target (and_left (v.kept (v.target c k)) (v.held (v.target c k) inner) h) in
-      let low : v.held row.circuit inner ≡ true = subst (λ (t : ℕ). v.held t inner ≡ true) target (and_right (v.kept (v.target c k)) (v.held (v.target c k) inner) h) in
+      let kept : v.kept row.circuit ≡ true = subst (λ (t : ℕ). v.kept t ≡ true) target ((and_parts (v.kept (v.target c k)) (v.held (v.target c k) inner) h).0) in
+      let low : v.held row.circuit inner ≡ true = subst (λ (t : ℕ). v.held t inner ≡ true) target ((and_parts (v.kept (v.target c k)) (v.held (v.target c k) inner) h).1) in
       (((are.each c there).call k row call kept).4 p outer inner net (called, at, pin) low).0
   held_above (j ∷ js) c outer k inner there (row, call, rest) h =
       let target = (are.each c there).target j row call in
-      let kept = and_left (v.kept (v.target c j)) (held_at v (v.target c j) (js ++ k ∷ []) inner) h in
-      let low = and_right (v.kept (v.target c j)) (held_at v (v.target c j) (js ++ k ∷ []) inner) h in
+      let kept = (and_parts (v.kept (v.target c j)) (held_at v (v.target c j) (js ++ k ∷ []) inner) h).0 in
+      let low = (and_parts (v.kept (v.target c j)) (held_at v (v.target c j) (js ++ k ∷ []) inner) h).1 in
       let kept_row : v.kept row.circuit ≡ true = subst (λ (t : ℕ). v.kept t ≡ true) target kept in
       let low_row : held_at v row.circuit (js ++ k ∷ []) inner ≡ true = subst (λ (t : ℕ). held_at v t (js ++ k ∷ []) inner ≡ true) target low in
       let up = held_above js row.circuit outer k inner kept_row rest low_row in
-      and_both (v.kept (v.target c j)) (held_at v (v.target c j) js outer) kept (subst (λ (t : ℕ). held_at v t js outer ≡ true) (sym target) up)
+      and_from (v.kept (v.target c j)) (held_at v (v.target c j) js outer) kept (subst (λ (t : ℕ). held_at v t js outer ≡ true) (sym target) up)
 
   abbrev held_slot : ℕ → Slot → Bool
   held_slot c s = held_at v c s.path s.net
@@ -95,7 +84,7 @@ module _ (f o : Netlist) (v : Cuts) (are : ArePruned f o v) where
   is_held [] c n there h = h
   is_held (k ∷ ks) c n there (row, call, kept, h) =
       let target = (are.each c there).target k row call in
-      and_both (v.kept (v.target c k)) (held_at v (v.target c k) ks n) (subst (λ (t : ℕ). v.kept t ≡ true) (sym target) kept)
+      and_from (v.kept (v.target c k)) (held_at v (v.target c k) ks n) (subst (λ (t : ℕ). v.kept t ≡ true) (sym target) kept)
       (subst (λ (t : ℕ). held_at v t ks n ≡ true) (sym target) (is_held ks row.circuit n kept h))
 
   -- joins of held nets
@@ -103,16 +92,16 @@ module _ (f o : Netlist) (v : Cuts) (are : ArePruned f o v) where
       → InOneNet o (v.number c) (new_slot v c path outer) (new_slot v c (path ++ k ∷ []) inner)
   new_joins [] c outer k inner there (row, call, called, at, p, net, pin) h =
       let target = (are.each c there).target k row call in
-      let kept : v.kept row.circuit ≡ true = subst (λ (t : ℕ). v.kept t ≡ true) target (and_left (v.kept (v.target c k)) (v.held (v.target c k) inner) h) in
-      let low : v.held row.circuit inner ≡ true = subst (λ (t : ℕ). v.held t inner ≡ true) target (and_right (v.kept (v.target c k)) (v.held (v.target c k) inner) h) in
+      let kept : v.kept row.circuit ≡ true = subst (λ (t : ℕ). v.kept t ≡ true) target ((and_parts (v.kept (v.target c k)) (v.held (v.target c k) inner) h).0) in
+      let low : v.held row.circuit inner ≡ true = subst (λ (t : ℕ). v.held t inner ≡ true) target ((and_parts (v.kept (v.target c k)) (v.held (v.target c k) inner) h).1) in
       let m = (are.each c there).call k row call kept in
       let q = m.4 p outer inner net (called, at, pin) low in
       subst (λ (t : ℕ). InOneNet o (v.number c) (slot [] (v.net c outer)) (slot (v.call c k ∷ []) (v.net t inner))) (sym target)
       (call_joins o (v.number c) (v.call c k) m.0 q.1 (v.net c outer) (v.net row.circuit inner) m.1 q.2 q.3)
   new_joins (j ∷ js) c outer k inner there (row, call, rest) h =
       let target = (are.each c there).target j row call in
-      let kept : v.kept row.circuit ≡ true = subst (λ (t : ℕ). v.kept t ≡ true) target (and_left (v.kept (v.target c j)) (held_at v (v.target c j) (js ++ k ∷ []) inner) h) in
-      let low : held_at v row.circuit (js ++ k ∷ []) inner ≡ true = subst (λ (t : ℕ). held_at v t (js ++ k ∷ []) inner ≡ true) target (and_right (v.kept (v.target c j)) (held_at v (v.target c j) (js ++ k ∷ []) inner) h) in
+      let kept : v.kept row.circuit ≡ true = subst (λ (t : ℕ). v.kept t ≡ true) target ((and_parts (v.kept (v.target c j)) (held_at v (v.target c j) (js ++ k ∷ []) inner) h).0) in
+      let low : held_at v row.circuit (js ++ k ∷ []) inner ≡ true = subst (λ (t : ℕ). held_at v t (js ++ k ∷ []) inner ≡ true) target ((and_parts (v.kept (v.target c j)) (held_at v (v.target c j) (js ++ k ∷ []) inner) h).1) in
       let m = (are.each c there).call j row call kept in
       let rec = new_joins js row.circuit outer k inner kept rest low in
       let go = net_down o (v.number c) (v.call c j) m.0 m.1 (new_slot v row.circuit js outer) (new_slot v row.circuit (js ++ k ∷ []) inner)
@@ -202,7 +191,7 @@ module _ (f o : Netlist) (v : Cuts) (are : ArePruned f o v) where
 
   -- devices
   kept_call : (c k : ℕ) (call : CallRow) (path : List ℕ) (j : ℕ) (row : DeviceRow) → v.kept c ≡ true → IsCall f c k call → HasDevice f call.circuit path j row → v.kept call.circuit ≡ true
-  kept_call c k call path j row there is h = elim (is_it (v.kept call.circuit)) [
+  kept_call c k call path j row there is h = elim (cases_Bool (v.kept call.circuit)) [
     | inl y ↦ y
     | inr n ↦ absurd ((are.each c there).dead k call is n path j row h)
   ]

@@ -1,7 +1,7 @@
 -- Flattening leaves the expansion as it is.
 use Rattle.std.proofs.Common.{◌≡◌, ◌↔◌, inl, inr, ℕ, zero, suc, ◌<◌, List, [], ◌∷◌, ◌++◌, Some, slice_get, refl, sym, ◌∙◌, ap, subst, arith}
+use Rattle.base_laws.proofs.Items.{map_to, map_from}
 use Rattle.plain_netlist.proofs.Once.{one_call}
-use Rattle.plain_netlist.proofs.Members.{map_at, from_map}
 use Rattle.plain_netlist.specs.Chains.{Reaches}
 use Rattle.plain_netlist.specs.Netlist.{Pole, Source, Gate, Drain, Bulk, on, DeviceRow, CallRow, Netlist, IsCall, IsDevice, IsPin, HasNet, IsSlot, Slot, Joins, IsEitherJoin, InOneNet, HasDevice, slot}
 use Rattle.align_laws.specs.Flat.{Placing, CallFate, Stays, Goes, Maps, below, beyond, inside, step, image, placed_net, placed_device, net_image, device_image, origin, IsPlacedInside, AreInlined, IsRowImage, IsSameExpansion, FlatLaw, row_through, call_through}
@@ -21,7 +21,7 @@ module _ (g f : Netlist) (v : Maps) (height : ℕ → ℕ) (are : AreInlined g f
   inside_joins c k row i is [] outer e inner (own, call, called, at, p, net, pin) s deep low =
       let there = (is.call e own call).0 in
       let go : Reaches (IsEitherJoin f c) (slot [] (i.net outer)) (slot (i.call e ∷ []) inner) =
-      call_joins f c (i.call e) (call_through i.net own) p (i.net outer) inner there (map_at i.net own.nets p outer net) (called, at, pin) in
+      call_joins f c (i.call e) (call_through i.net own) p (i.net outer) inner there (map_to i.net own.nets p outer net) (called, at, pin) in
       subst (λ (q : List ℕ). Reaches (IsEitherJoin f c) (slot [] (i.net outer)) (inside placed_net i q s.net)) deep
       (subst (λ (n : ℕ). Reaches (IsEitherJoin f c) (slot [] (i.net outer)) (slot (i.call e ∷ []) n)) (sym low) go)
   inside_joins c k row i is (x ∷ xs) outer e inner (own, call, rest) s deep low =
@@ -98,7 +98,7 @@ module _ (g f : Netlist) (v : Maps) (height : ℕ → ℕ) (are : AreInlined g f
         let inlaid = (are.each c).goes k i given is fate in
         let there = inlaid.call m own deep in
         let one : call_through i.net own ≡ row = one_call f c e (call_through i.net own) row (subst (λ (n : ℕ). IsCall f c n (call_through i.net own)) num there.0) call in
-        let n = from_map i.net own.nets p outer (subst (λ (r : CallRow). slice_get r.nets p ≡ Some outer) (sym one) net) in
+        let n = map_from i.net own.nets p outer (subst (λ (r : CallRow). slice_get r.nets p ≡ Some outer) (sym one) net) in
         let lower = are.lower c k given is in
         let deeper : height given.circuit < h = let a = low in omega arith in
         let rec = way_joins h given.circuit m own p n.0 inner deeper deep n.1 (subst (λ (r : CallRow). IsPin g r.circuit p inner) (sym one) pin) in

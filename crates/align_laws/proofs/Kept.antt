@@ -1,5 +1,7 @@
 -- An aligned netlist keeps what a kept circuit expands to.
 use Rattle.std.proofs.Common.{◌≡◌, ◌↔◌, inl, inr, ℕ, zero, suc, ◌<◌, Bool, true, false, cond, List, refl, sym, ◌∙◌, ap, subst, arith}
+use Rattle.base_laws.proofs.Tests.{not_both}
+use Rattle.std.proofs.lemmas.Bool.{cases_Bool}
 use Rattle.std.proofs.Math.Path.{fun_ext}
 use Rattle.plain_netlist.specs.Netlist.{Pole, Source, Gate, Drain, Bulk, on, DeviceRow, CallRow, Netlist, IsCall, Slot, slot, InOneNet, HasDevice, IsTerminal, IsOnPin}
 use Rattle.plain_netlist.specs.Flats.{Row, AreRowsAlike, Corresponds, row_at, expanded}
@@ -9,17 +11,12 @@ use Rattle.align_laws.specs.Flat.{Stays, Goes, Maps, AreInlined, call_through, I
 use Rattle.align_laws.specs.Lists.{FlatCircuit, maps_of, AreFlat, row_of, given_of, placing_of, own_calls, joined_place}
 use Rattle.align_laws.specs.Cut.{Alignment, cut_path, cut_slot}
 use Rattle.align_laws.specs.Aligned.{IsAlignedBy, IsKeptExpansion, aligned_net, aligned_device, AlignedLaw, AlignedCorrespondsLaw}
-use Rattle.align_laws.proofs.Anchor.{is_it}
 use Rattle.align_laws.proofs.CutList.{cut_pruned, row_is}
 use Rattle.align_laws.proofs.FlatGood.{flat_is_good}
 use Rattle.align_laws.proofs.Flatten.{same_expansion}
 use Rattle.align_laws.proofs.Listed.{listed}
 use Rattle.align_laws.proofs.Prune.{cuts_of, slot_is, path_is, AreDeadGone}
 use Rattle.align_laws.proofs.Wholly.{whole_net, whole_device, kept_expansion}
-
-pub is_not : (b : Bool) → b ≡ true → b ≡ false → ⊥
-is_not true h g = absurd cc
-is_not false h g = absurd cc
 
 -- kept circuits stay, and those with devices that aren't kept go; others may go or stay
 pub record MayGo (g : Netlist) (kept goes : ℕ → Bool) : Type 0 where
@@ -28,7 +25,7 @@ pub record MayGo (g : Netlist) (kept goes : ℕ → Bool) : Type 0 where
 
 pub may_go : (g : Netlist) (kept goes : ℕ → Bool) → ((c : ℕ) → (goes c ≡ true) ↔ ((kept c ≡ false) × HasDevices g c)) → MayGo g kept goes
 may_go g kept goes h = record {
-  stay = λ c k. elim (is_it (goes c)) [ inl t ↦ absurd (is_not (kept c) k ((h c).0 t).0) | inr f ↦ f ];
+  stay = λ c k. elim (cases_Bool (goes c)) [ inl t ↦ absurd (not_both (kept c) k ((h c).0 t).0) | inr f ↦ f ];
   go = λ c k d. (h c).1 (k, d);
 }
 
@@ -40,7 +37,7 @@ module _ (g f : Netlist) (goes : ℕ → Bool) (flats : ℕ → FlatCircuit) (he
   are = listed g f goes flats height good flat
 
   stays_fate : (c k e : ℕ) (row : CallRow) → IsCall g c k row → v.fate c k ≡ Stays e → goes row.circuit ≡ false
-  stays_fate c k e row call fate = elim (is_it (goes row.circuit)) [
+  stays_fate c k e row call fate = elim (cases_Bool (goes row.circuit)) [
     | inr h ↦ h
     | inl h ↦
         let t : goes (row_of g c k).circuit ≡ true = ap (λ (r : CallRow). goes r.circuit) (row_is g c k row call) ∙ h in
@@ -70,7 +67,7 @@ module _ (g f : Netlist) (goes : ℕ → Bool) (flats : ℕ → FlatCircuit) (he
   has_devices c path j row h = let b = (same_expansion g f v height are c).back path j row h in (b.0.path, b.0.net, b.1, b.2)
 
   pub dead_gone : (w : Alignment) → MayGo g w.kept goes → AreDeadGone f w
-  dead_gone w may c k row kept call gone path j r h = is_not (goes row.circuit) (may.go row.circuit gone (has_devices row.circuit path j r h)) (stays c k row call)
+  dead_gone w may c k row kept call gone path j r h = not_both (goes row.circuit) (may.go row.circuit gone (has_devices row.circuit path j r h)) (stays c k row call)
 
 module _ (g o : Netlist) (w : Alignment) (goes : ℕ → Bool) (may : MayGo g w.kept goes) (a : IsAlignedBy goes g o w) (c : ℕ) (kept : w.kept c ≡ true) where
   abbrev m : Maps

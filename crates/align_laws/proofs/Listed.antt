@@ -1,14 +1,14 @@
 -- Lists made of a circuit and of those below it are what flattening asks.
 use Rattle.std.proofs.Common.{◌≡◌, ◌↔◌, ◌⊎◌, inl, inr, ℕ, zero, suc, ◌<◌, Bool, true, false, cond, List, [], ◌∷◌, ◌++◌, map, length, Option, Some, slice_get, refl, sym, ◌∙◌, ap, ap₂, subst, arith}
+use Rattle.base_laws.proofs.Items.{get_left, item_at, map_to, map_from}
+use Rattle.std.proofs.lemmas.Bool.{cases_Bool}
 use Rattle.plain_netlist.proofs.Once.{one_call, one_row}
-use Rattle.plain_netlist.proofs.Members.{from_map, map_at, from_map, item_at}
 use Rattle.plain_netlist.specs.Sound.{IsGood}
 use Rattle.std.proofs.lemmas.Option.{slice_get_within}
 use Rattle.plain_netlist.specs.Netlist.{Pole, Source, Gate, Drain, Bulk, on, DeviceRow, CallRow, Circuit, Netlist, IsCircuit, IsCall, IsDevice, IsPin, HasNet, slot}
 use Rattle.align_laws.specs.Flat.{Placing, Stays, Goes, Maps, below, IsPlacedInside, IsInlined, AreInlined, row_through, call_through}
 use Rattle.align_laws.specs.Lists.{NetAt, DeviceAt, CallAt, FlatCircuit, over, indexed, pieces, joined_place, past, net_below, device_below, call_below, own_net, own_device, inner_nets, net_in, inner_devices, own_calls, inner_calls, plain, AreFlat, circuit_or, call_or, net_or, device_or, way_or, onward_or, given_of, row_of, placing_of, maps_of, ListLaw}
-use Rattle.align_laws.proofs.Anchor.{is_it}
-use Rattle.align_laws.proofs.Pieces.{append_left, append_right, append_cases, piece_at, piece_of, place_pin, place_cases, indexed_at, indexed_of}
+use Rattle.align_laws.proofs.Pieces.{append_right, append_cases, piece_at, piece_of, place_pin, place_cases, indexed_at, indexed_of}
 
 pole_through : (f : ℕ → ℕ) (pole : Pole) (r : DeviceRow) → on pole (row_through f r) ≡ f (on pole r)
 pole_through f Source r = refl
@@ -34,27 +34,27 @@ module _ (g f : Netlist) (goes : ℕ → Bool) (flats : ℕ → FlatCircuit) (he
 
   device_at : (c j : ℕ) (row : DeviceRow) → IsDevice f c j row → (d : DeviceAt) × (slice_get (flats c).devices j ≡ Some d) × (d.row ≡ row)
   device_at c j row (x, is, at) =
-      from_map (λ (d : DeviceAt). d.row) (flats c).devices j row (subst (λ (y : Circuit). slice_get y.devices j ≡ Some row) (flat_is c x is) at)
+      map_from (λ (d : DeviceAt). d.row) (flats c).devices j row (subst (λ (y : Circuit). slice_get y.devices j ≡ Some row) (flat_is c x is) at)
 
   device_there : (c j : ℕ) (x : Circuit) (d : DeviceAt) → IsCircuit g c x → slice_get (flats c).devices j ≡ Some d → IsDevice f c j d.row
-  device_there c j x d is at = (plain (flats c), flat.there c x is, map_at (λ (d : DeviceAt). d.row) (flats c).devices j d at)
+  device_there c j x d is at = (plain (flats c), flat.there c x is, map_to (λ (d : DeviceAt). d.row) (flats c).devices j d at)
 
   call_at : (c j : ℕ) (row : CallRow) → IsCall f c j row → (d : CallAt) × (slice_get (flats c).calls j ≡ Some d) × (d.row ≡ row)
   call_at c j row (x, is, at) =
-      from_map (λ (d : CallAt). d.row) (flats c).calls j row (subst (λ (y : Circuit). slice_get y.calls j ≡ Some row) (flat_is c x is) at)
+      map_from (λ (d : CallAt). d.row) (flats c).calls j row (subst (λ (y : Circuit). slice_get y.calls j ≡ Some row) (flat_is c x is) at)
 
   call_there : (c j : ℕ) (x : Circuit) (d : CallAt) → IsCircuit g c x → slice_get (flats c).calls j ≡ Some d → IsCall f c j d.row
-  call_there c j x d is at = (plain (flats c), flat.there c x is, map_at (λ (d : CallAt). d.row) (flats c).calls j d at)
+  call_there c j x d is at = (plain (flats c), flat.there c x is, map_to (λ (d : CallAt). d.row) (flats c).calls j d at)
 
   pub net_at : (c n : ℕ) → HasNet f c n → (d : NetAt) × (slice_get (flats c).nets n ≡ Some d)
   net_at c n (x, is, low) =
       let y = item_at x.nets n low in
-      let m = from_map (λ (d : NetAt). d.name) (flats c).nets n y.0 (subst (λ (z : Circuit). slice_get z.nets n ≡ Some y.0) (flat_is c x is) y.1) in
+      let m = map_from (λ (d : NetAt). d.name) (flats c).nets n y.0 (subst (λ (z : Circuit). slice_get z.nets n ≡ Some y.0) (flat_is c x is) y.1) in
       (m.0, m.1)
 
   pub net_there : (c n : ℕ) (x : Circuit) (d : NetAt) → IsCircuit g c x → slice_get (flats c).nets n ≡ Some d → HasNet f c n
   net_there c n x d is at =
-      (plain (flats c), flat.there c x is, slice_get_within (map (λ (d : NetAt). d.name) (flats c).nets) n d.name (map_at (λ (d : NetAt). d.name) (flats c).nets n d at))
+      (plain (flats c), flat.there c x is, slice_get_within (map (λ (d : NetAt). d.name) (flats c).nets) n d.name (map_to (λ (d : NetAt). d.name) (flats c).nets n d at))
 
   -- what becomes of a call
   fate_is : (c k : ℕ) (x : Circuit) (row : CallRow) → IsCircuit g c x → IsCall g c k row
@@ -73,7 +73,7 @@ module _ (g f : Netlist) (goes : ℕ → Bool) (flats : ℕ → FlatCircuit) (he
   own_net_there : (c n : ℕ) → HasNet g c n → HasNet f c n × (v.net_from c n ≡ slot [] n)
   own_net_there c n (x, is, low) =
       let y = item_at x.nets n low in
-      let own = append_left (indexed own_net x.nets) (pieces (inner_nets goes flats) x.calls) n (own_net n y.0) (indexed_at own_net x.nets n y.0 y.1) in
+      let own = get_left (indexed own_net x.nets) (pieces (inner_nets goes flats) x.calls) n (own_net n y.0) (indexed_at own_net x.nets n y.0 y.1) in
       let at : slice_get (flats c).nets n ≡ Some (own_net n y.0) = subst (λ (z : FlatCircuit). slice_get z.nets n ≡ Some (own_net n y.0)) (sym (flat.each c x is)) own in
       (net_there c n x (own_net n y.0) is at, ap net_or at)
 
@@ -86,7 +86,7 @@ module _ (g f : Netlist) (goes : ℕ → Bool) (flats : ℕ → FlatCircuit) (he
 
     inner_at : (m : ℕ) (y : NetAt) → slice_get (past row.nets (flats row.circuit).nets) m ≡ Some y → slice_get (flats c).nets (far m) ≡ Some (net_below k y)
     inner_at m y at =
-        let one = map_at (net_below k) (past row.nets (flats row.circuit).nets) m y at in
+        let one = map_to (net_below k) (past row.nets (flats row.circuit).nets) m y at in
         let two : slice_get (inner_nets goes flats k row) m ≡ Some (net_below k y) =
         subst (λ (t : Bool). slice_get (cond t (map (net_below k) (past row.nets (flats row.circuit).nets)) []) m ≡ Some (net_below k y)) (sym h) one in
         let three = piece_at (inner_nets goes flats) x.calls k m row (net_below k y) (call_here c k x row is call) two in
@@ -121,7 +121,7 @@ module _ (g f : Netlist) (goes : ℕ → Bool) (flats : ℕ → FlatCircuit) (he
           ];
       device = λ j own dev.
           let d = device_at row.circuit j own dev in
-          let one = map_at (device_below k to) (flats row.circuit).devices j d.0 d.1 in
+          let one = map_to (device_below k to) (flats row.circuit).devices j d.0 d.1 in
           let two : slice_get (inner_devices goes flats x k row) j ≡ Some (device_below k to d.0) =
           subst (λ (t : Bool). slice_get (cond t (map (device_below k to) (flats row.circuit).devices) []) j ≡ Some (device_below k to d.0)) (sym h) one in
           let three = piece_at (inner_devices goes flats x) x.calls k j row (device_below k to d.0) (call_here c k x row is call) two in
@@ -134,7 +134,7 @@ module _ (g f : Netlist) (goes : ℕ → Bool) (flats : ℕ → FlatCircuit) (he
           );
       call = λ j own dev.
           let d = call_at row.circuit j own dev in
-          let one = map_at (call_below k to) (flats row.circuit).calls j d.0 d.1 in
+          let one = map_to (call_below k to) (flats row.circuit).calls j d.0 d.1 in
           let two : slice_get (inner_calls goes flats x k row) j ≡ Some (call_below k to d.0) =
           subst (λ (t : Bool). slice_get (cond t (map (call_below k to) (flats row.circuit).calls) []) j ≡ Some (call_below k to d.0)) (sym h) one in
           let three = piece_at (inner_calls goes flats x) x.calls k j row (call_below k to d.0) (call_here c k x row is call) two in
@@ -153,7 +153,7 @@ module _ (g f : Netlist) (goes : ℕ → Bool) (flats : ℕ → FlatCircuit) (he
   stays_there : (c k e : ℕ) (row : CallRow) → IsCall g c k row → v.fate c k ≡ Stays e → IsCall f c e row × (v.way c e ≡ k ∷ [])
   stays_there c k e row call fate =
       let x = call.0 in
-      elim (is_it (goes row.circuit)) [
+      elim (cases_Bool (goes row.circuit)) [
         | inl h ↦ let a = fate_goes c k x row call.1 call h in absurd (let b : Goes (placing_of goes flats x k row) ≡ Stays e = sym a ∙ fate in cc)
         | inr h ↦
             let a = fate_stays c k x row call.1 call h in
@@ -162,7 +162,7 @@ module _ (g f : Netlist) (goes : ℕ → Bool) (flats : ℕ → FlatCircuit) (he
             let own : CallAt = record { way = k ∷ []; row = row } in
             let one : slice_get (own_calls goes flats k row) 0 ≡ Some own = subst (λ (t : Bool). slice_get (cond t [] (own ∷ [])) 0 ≡ Some own) (sym h) refl in
             let two = piece_at (own_calls goes flats) x.calls k 0 row own call.2 one in
-            let three = append_left (pieces (own_calls goes flats) x.calls) (pieces (inner_calls goes flats x) x.calls) (joined_place (own_calls goes flats) x.calls k 0) own two in
+            let three = get_left (pieces (own_calls goes flats) x.calls) (pieces (inner_calls goes flats x) x.calls) (joined_place (own_calls goes flats) x.calls k 0) own two in
             let four : slice_get (flats c).calls (joined_place (own_calls goes flats) x.calls k 0) ≡ Some own =
             subst (λ (z : FlatCircuit). slice_get z.calls (joined_place (own_calls goes flats) x.calls k 0) ≡ Some own) (sym (flat.each c x call.1)) three in
             let at : slice_get (flats c).calls e ≡ Some own = subst (λ (q : ℕ). slice_get (flats c).calls q ≡ Some own) num four in
@@ -172,7 +172,7 @@ module _ (g f : Netlist) (goes : ℕ → Bool) (flats : ℕ → FlatCircuit) (he
   goes_there : (c k : ℕ) (i : Placing) (row : CallRow) → IsCall g c k row → v.fate c k ≡ Goes i → IsPlacedInside g f v c k row i
   goes_there c k i row call fate =
       let x = call.0 in
-      elim (is_it (goes row.circuit)) [
+      elim (cases_Bool (goes row.circuit)) [
         | inl h ↦
             let a = fate_goes c k x row call.1 call h in
             let b : Goes (placing_of goes flats x k row) ≡ Goes i = sym a ∙ fate in
@@ -196,11 +196,11 @@ module _ (g f : Netlist) (goes : ℕ → Bool) (flats : ℕ → FlatCircuit) (he
         | inr (m, low, num) ↦
             let p = piece_of (inner_devices goes flats x) x.calls m d.0 low in
             let call : IsCall g c p.item p.of = (x, b.1, p.is) in
-            elim (is_it (goes p.of.circuit)) [
+            elim (cases_Bool (goes p.of.circuit)) [
               | inl h ↦
                   let there : slice_get (map (device_below p.item (net_in goes flats x p.item p.of)) (flats p.of.circuit).devices) p.number ≡ Some d.0 =
                   subst (λ (t : Bool). slice_get (cond t (map (device_below p.item (net_in goes flats x p.item p.of)) (flats p.of.circuit).devices) []) p.number ≡ Some d.0) h p.at in
-                  let o = from_map (device_below p.item (net_in goes flats x p.item p.of)) (flats p.of.circuit).devices p.number d.0 there in
+                  let o = map_from (device_below p.item (net_in goes flats x p.item p.of)) (flats p.of.circuit).devices p.number d.0 there in
                   let called = good.called c p.item p.of call in
                   inr (
                     p.item,
@@ -236,7 +236,7 @@ module _ (g f : Netlist) (goes : ℕ → Bool) (flats : ℕ → FlatCircuit) (he
             let p = piece_of (own_calls goes flats) x.calls j d.0 own in
             let call : IsCall g c p.item p.of = (x, b.1, p.is) in
             let kept : CallAt = record { way = p.item ∷ []; row = p.of } in
-            elim (is_it (goes p.of.circuit)) [
+            elim (cases_Bool (goes p.of.circuit)) [
               | inl h ↦
                   let none : slice_get [] p.number ≡ Some d.0 = subst (λ (t : Bool). slice_get (cond t [] (kept ∷ [])) p.number ≡ Some d.0) h p.at in
                   absurd cc
@@ -250,11 +250,11 @@ module _ (g f : Netlist) (goes : ℕ → Bool) (flats : ℕ → FlatCircuit) (he
         | inr (m, low, num) ↦
             let p = piece_of (inner_calls goes flats x) x.calls m d.0 low in
             let call : IsCall g c p.item p.of = (x, b.1, p.is) in
-            elim (is_it (goes p.of.circuit)) [
+            elim (cases_Bool (goes p.of.circuit)) [
               | inl h ↦
                   let there : slice_get (map (call_below p.item (net_in goes flats x p.item p.of)) (flats p.of.circuit).calls) p.number ≡ Some d.0 =
                   subst (λ (t : Bool). slice_get (cond t (map (call_below p.item (net_in goes flats x p.item p.of)) (flats p.of.circuit).calls) []) p.number ≡ Some d.0) h p.at in
-                  let o = from_map (call_below p.item (net_in goes flats x p.item p.of)) (flats p.of.circuit).calls p.number d.0 there in
+                  let o = map_from (call_below p.item (net_in goes flats x p.item p.of)) (flats p.of.circuit).calls p.number d.0 there in
                   let called = good.called c p.item p.of call in
                   inr (
                     p.item,
@@ -291,7 +291,7 @@ module _ (g f : Netlist) (goes : ℕ → Bool) (flats : ℕ → FlatCircuit) (he
     net = own_net_there c;
     device = λ j row dev.
         let x = dev.0 in
-        let own = append_left (indexed own_device x.devices) (pieces (inner_devices goes flats x) x.calls) j (own_device j row) (indexed_at own_device x.devices j row dev.2) in
+        let own = get_left (indexed own_device x.devices) (pieces (inner_devices goes flats x) x.calls) j (own_device j row) (indexed_at own_device x.devices j row dev.2) in
         let at : slice_get (flats c).devices j ≡ Some (own_device j row) = subst (λ (z : FlatCircuit). slice_get z.devices j ≡ Some (own_device j row)) (sym (flat.each c x dev.1)) own in
         (device_there c j x (own_device j row) dev.1 at, ap device_or at);
     stays = stays_there c;
@@ -308,7 +308,7 @@ module _ (g f : Netlist) (goes : ℕ → Bool) (flats : ℕ → FlatCircuit) (he
         let inlaid = goes_there c k i given is fate in
         let there = inlaid.call m own deep in
         let one : call_through i.net own ≡ row = one_call f c e (call_through i.net own) row (subst (λ (n : ℕ). IsCall f c n (call_through i.net own)) num there.0) call in
-        let b = from_map i.net own.nets p n (subst (λ (r : CallRow). slice_get r.nets p ≡ Some n) (sym one) net) in
+        let b = map_from i.net own.nets p n (subst (λ (r : CallRow). slice_get r.nets p ≡ Some n) (sym one) net) in
         let lower = good.lower c k given is in
         let deeper : height given.circuit < h = let a = low in omega arith in
         subst (λ (q : ℕ). HasNet f c q) b.2 (inlaid.within b.0 (calls_within h given.circuit m p b.0 own deeper deep b.1))

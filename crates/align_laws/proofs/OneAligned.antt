@@ -1,6 +1,8 @@
 -- There is one aligned netlist: what is kept, and under which numbers, determines its circuits, whatever goes without bringing anything.
 use Rattle.std.proofs.Common.{◌≡◌, ◌⊎◌, inl, inr, ℕ, suc, ◌<◌, ◌≤◌, ltb, Bool, true, false, not, cond, List, [], ◌∷◌, ◌++◌, map, length, Some, slice_get, refl, sym, subst, ◌∙◌, ap, ap₂, arith}
-use Rattle.plain_netlist.proofs.Members.{map_at, from_map}
+use Rattle.base_laws.proofs.Items.{get_left, map_to, map_from}
+use Rattle.base_laws.proofs.Tests.{not_both, same_truth}
+use Rattle.std.proofs.lemmas.Bool.{cases_Bool}
 use Rattle.std.specs.List.{flat_map}
 use Rattle.std.proofs.lemmas.List.{map-append}
 use Rattle.std.proofs.lemmas.Simd.{map-map}
@@ -14,14 +16,13 @@ use Rattle.align_laws.specs.Flat.{AreInlined, row_through}
 use Rattle.align_laws.specs.Lists.{FlatCircuit, over, pieces, net_at_pin, given_of, plain, maps_of}
 use Rattle.align_laws.specs.Cut.{Alignment, CutCall, held_pin, held_pins, cut_row, cut_calls, cut}
 use Rattle.align_laws.specs.Aligned.{IsAlignedBy, OneAlignedLaw, AllFlattenedLaw}
-use Rattle.align_laws.proofs.Anchor.{is_it}
 use Rattle.align_laws.proofs.Appear.{flat_in, terminal_at, old_nets, kept_calls, old, cut_kept, appear, given_at, held_there, call_pin, all_held}
 use Rattle.align_laws.proofs.CutList.{given_is, held_of, cut_is}
 use Rattle.align_laws.proofs.FlatGood.{flat_is_good}
-use Rattle.align_laws.proofs.Kept.{MayGo, may_go, is_not}
+use Rattle.align_laws.proofs.Kept.{MayGo, may_go}
 use Rattle.align_laws.proofs.Listed.{listed}
 use Rattle.align_laws.proofs.Origins.{from_one, own_from, net_name, named_from}
-use Rattle.align_laws.proofs.Pieces.{append_left, append_right}
+use Rattle.align_laws.proofs.Pieces.{append_right}
 use Rattle.align_laws.proofs.Renumbered.{numbered_has, renumbered}
 use Rattle.align_laws.proofs.SameViews.{same_at, keep_from, left_from, right_from, devices_seen, calls_seen, held_to, pole_seen, reach_by}
 use Rattle.align_laws.proofs.Unique.{pieces_same}
@@ -32,11 +33,6 @@ get_ext [] [] h = refl
 get_ext [] (y ∷ ys) h = absurd (none-some y (h 0))
 get_ext (x ∷ xs) [] h = absurd (none-some x (sym (h 0)))
 get_ext {X} (x ∷ xs) (y ∷ ys) h = ap₂ (λ (z : X) (zs : List X). z ∷ zs) (same_Some _ _ (h 0)) (get_ext xs ys (λ k. h (suc k)))
-
-pub same_bool : (s t : Bool) → (s ≡ true → t ≡ true) → (t ≡ true → s ≡ true) → s ≡ t
-same_bool true t h g = sym (h refl)
-same_bool false true h g = g refl
-same_bool false false h g = refl
 
 keep_same : (k l : ℕ → Bool) (rows : List CallRow) → ((c : ℕ) → k c ≡ l c) → keep k rows ≡ keep l rows
 keep_same k l [] h = refl
@@ -104,7 +100,7 @@ module _ (g : Netlist) (kept : ℕ → Bool) (height : ℕ → ℕ) (good : IsGo
 
   -- both hold the same pins
   held_same : (c n : ℕ) (x : Circuit) → R c → kept c ≡ true → IsCircuit g c x → IsPin g c n n → v.held c n ≡ w.held c n
-  held_same c n x r k is pin = same_bool (v.held c n) (w.held c n)
+  held_same c n x r k is pin = same_truth (v.held c n) (w.held c n)
       (λ h. held_to g kept height good R down o v goes a may v_kept p w also_goes b also_may w_kept same (suc (height c)) c n x (omega arith) r k is pin h)
       (λ h. held_to g kept height good R down p w also_goes b also_may w_kept o v goes a may v_kept turned_same (suc (height c)) c n x (omega arith) r k is pin h)
 
@@ -268,7 +264,7 @@ module _ (g : Netlist) (kept : ℕ → Bool) (height : ℕ → ℕ) (good : IsGo
             let low : j < length (v.names c) = (Decides-ltb _ _).0 e in
             let long = one.0 in
             let i = numbered_has (length (v.names c)) 0 (map (v.new c) (old a.flat v c)) numbered_left j (omega arith) low in
-            let m = from_map (v.new c) (old a.flat v c) i.0 j i.1 in
+            let m = map_from (v.new c) (old a.flat v c) i.0 j i.1 in
             let s = same_at (L c) (S c) (old a.flat v c) (old b.flat w c) places i.0 m.0 m.1 in
             let h = left_held i.0 m.0 m.1 in
             let g' = right_held i.0 s.0 s.1 in
@@ -292,9 +288,9 @@ module _ (g : Netlist) (kept : ℕ → Bool) (height : ℕ → ℕ) (good : IsGo
     pins_new : map (v.new c) (held_pins a.flat v c) ≡ map (w.new c) (held_pins b.flat w c)
     pins_new =
         map_same_at (v.new c) (w.new c) (held_pins a.flat v c) (λ i n at.
-        let here : slice_get (old a.flat v c) i ≡ Some n = append_left (held_pins a.flat v c) (flat_map terminal_nets (given_of a.flat c).devices ++ flat_map (old_nets a.flat v) (kept_calls a.flat v c)) i n at in
+        let here : slice_get (old a.flat v c) i ≡ Some n = get_left (held_pins a.flat v c) (flat_map terminal_nets (given_of a.flat c).devices ++ flat_map (old_nets a.flat v) (kept_calls a.flat v c)) i n at in
         let there : slice_get (held_pins b.flat w c) i ≡ Some n = subst (λ (ns : List ℕ). slice_get ns i ≡ Some n) (pins_same c x r k is) at in
-        one.1 i n n here (append_left (held_pins b.flat w c) (flat_map terminal_nets (given_of b.flat c).devices ++ flat_map (old_nets b.flat w) (kept_calls b.flat w c)) i n there))
+        one.1 i n n here (get_left (held_pins b.flat w c) (flat_map terminal_nets (given_of b.flat c).devices ++ flat_map (old_nets b.flat w) (kept_calls b.flat w c)) i n there))
         ∙ ap (map (w.new c)) (pins_same c x r k is)
 
     devices_new : map (row_through (v.new c)) (given_of a.flat c).devices ≡ map (row_through (w.new c)) (given_of b.flat c).devices
@@ -303,7 +299,7 @@ module _ (g : Netlist) (kept : ℕ → Bool) (height : ℕ → ℕ) (good : IsGo
         let t = terminal_at d pole in
         let i = flat_in terminal_nets (given_of a.flat c).devices j t.0 d (on pole d) at t.1 in
         let here = append_right (held_pins a.flat v c) (flat_map terminal_nets (given_of a.flat c).devices ++ flat_map (old_nets a.flat v) (kept_calls a.flat v c)) i.0 (on pole d)
-        (append_left (flat_map terminal_nets (given_of a.flat c).devices) (flat_map (old_nets a.flat v) (kept_calls a.flat v c)) i.0 (on pole d) i.1) in
+        (get_left (flat_map terminal_nets (given_of a.flat c).devices) (flat_map (old_nets a.flat v) (kept_calls a.flat v c)) i.0 (on pole d) i.1) in
         new_same (over (held_pins a.flat v c) i.0) (on pole d) (on pole e) here ((b.cut_down.held c (on pole e) right_kept).1 (inl (j, e, pole, (given_of b.flat c, right_at, there), refl))) (pole_seen (L c) (S c) d e q pole)))
 
     module _ (number_same : (d : ℕ) → kept d ≡ true → v.number d ≡ w.number d) where
@@ -319,11 +315,11 @@ module _ (g : Netlist) (kept : ℕ → Bool) (height : ℕ → ℕ) (good : IsGo
           new_at i row also m at there q n h =
               let net = net_at_pin row.nets (λ z. 0) n in
               let other = net_at_pin also.nets (λ z. 0) n in
-              let first = flat_in (old_nets a.flat v) (kept_calls a.flat v c) i q row net at (map_at (λ z. net_at_pin row.nets (λ y. 0) z) (held_pins a.flat v row.circuit) q n h) in
+              let first = flat_in (old_nets a.flat v) (kept_calls a.flat v c) i q row net at (map_to (λ z. net_at_pin row.nets (λ y. 0) z) (held_pins a.flat v row.circuit) q n h) in
               let here = append_right (held_pins a.flat v c) (flat_map terminal_nets (given_of a.flat c).devices ++ flat_map (old_nets a.flat v) (kept_calls a.flat v c)) (over (flat_map terminal_nets (given_of a.flat c).devices) first.0) net
               (append_right (flat_map terminal_nets (given_of a.flat c).devices) (flat_map (old_nets a.flat v) (kept_calls a.flat v c)) first.0 net first.1) in
               let on_right : slice_get (held_pins b.flat w also.circuit) q ≡ Some n = subst (λ (ns : List ℕ). slice_get ns q ≡ Some n) (pins_called row also m) h in
-              let second = flat_in (old_nets b.flat w) (kept_calls b.flat w c) i q also other there (map_at (λ z. net_at_pin also.nets (λ y. 0) z) (held_pins b.flat w also.circuit) q n on_right) in
+              let second = flat_in (old_nets b.flat w) (kept_calls b.flat w c) i q also other there (map_to (λ z. net_at_pin also.nets (λ y. 0) z) (held_pins b.flat w also.circuit) q n on_right) in
               let yonder = append_right (held_pins b.flat w c) (flat_map terminal_nets (given_of b.flat c).devices ++ flat_map (old_nets b.flat w) (kept_calls b.flat w c)) (over (flat_map terminal_nets (given_of b.flat c).devices) second.0) other
               (append_right (flat_map terminal_nets (given_of b.flat c).devices) (flat_map (old_nets b.flat w) (kept_calls b.flat w c)) second.0 other second.1) in
               new_same (over (held_pins a.flat v c) (over (flat_map terminal_nets (given_of a.flat c).devices) first.0)) net other here
@@ -374,7 +370,7 @@ kept_is g k l goes h may = record { stay = λ c e. may.stay c (sym (h c) ∙ e);
 pub one_aligned : OneAlignedLaw
 one_aligned g o p a b s t kept_same number_same c kept x y is also =
     let given = given_kept g o a s.goes s.by c kept in
-    let goes_same : (d : ℕ) → s.goes d ≡ t.goes d = λ d. same_bool (s.goes d) (t.goes d) (λ h. let f = (s.going d).0 h in (t.going d).1 (sym (kept_same d) ∙ f.0, f.1)) (λ h. let f = (t.going d).0 h in (s.going d).1 (kept_same d ∙ f.0, f.1)) in
+    let goes_same : (d : ℕ) → s.goes d ≡ t.goes d = λ d. same_truth (s.goes d) (t.goes d) (λ h. let f = (s.going d).0 h in (t.going d).1 (sym (kept_same d) ∙ f.0, f.1)) (λ h. let f = (t.going d).0 h in (s.going d).1 (kept_same d ∙ f.0, f.1)) in
     cut_is s.by.flat o a s.by.cut_down c x kept is
     ∙ (cut_one g a.kept s.by.height s.by.good (λ d. Unit {0}) (λ d k row r call. tt) o a s.goes s.by (may_go g a.kept s.goes s.going) (λ d. refl) p b t.goes t.by
     (kept_is g a.kept b.kept t.goes kept_same (may_go g b.kept t.goes t.going)) (λ d. sym (kept_same d)) (λ d r. inl (goes_same d)) c given.0 given.1 tt kept number_same
@@ -411,24 +407,24 @@ all_flattened g o p a b top s t kept_same number_same tops c kept x y is also =
     reached d k = elim (tops d k) [ inl e ↦ ([], sym e) | inr r ↦ r.0 ]
 
     nothing_below : (d : ℕ) → IsCalledFrom g top d → a.kept d ≡ false → (HasDevices g d → ⊥) → (e : ℕ) → IsCalledFrom g d e → a.kept e ≡ false
-    nothing_below d r gone none e h = elim (is_it (a.kept e)) [
+    nothing_below d r gone none e h = elim (cases_Bool (a.kept e)) [
       | inr f ↦ f
       | inl f ↦ elim (tops e f) [
         | inl same ↦
             let up : IsCallPath g d h.0 top = subst (λ (m : ℕ). IsCallPath g d h.0 m) same h.1 in
             let is_top : d ≡ top = below_top g s.by.height s.by.good h.0 top d r up in
-            absurd (is_not (a.kept e) f (ap a.kept (same ∙ sym is_top) ∙ gone))
+            absurd (not_both (a.kept e) f (ap a.kept (same ∙ sym is_top) ∙ gone))
         | inr (from, has) ↦ absurd (none (devices_up g h.0 d e h.1 has))
       ]
     ]
 
     differ : (d : ℕ) → IsCalledFrom g top d → (s.goes d ≡ not (b.kept d)) ⊎ IsIdle g a.kept d
-    differ d r = elim (is_it (a.kept d)) [
+    differ d r = elim (cases_Bool (a.kept d)) [
       | inl k ↦ inl ((may_go g a.kept s.goes s.going).stay d k ∙ sym (ap not (sym (kept_same d) ∙ k)))
-      | inr k ↦ elim (is_it (s.goes d)) [
+      | inr k ↦ elim (cases_Bool (s.goes d)) [
         | inl e ↦ inl (e ∙ sym (ap not (sym (kept_same d) ∙ k)))
         | inr e ↦
-            let none : HasDevices g d → ⊥ = λ has. is_not (s.goes d) ((may_go g a.kept s.goes s.going).go d k has) e in
+            let none : HasDevices g d → ⊥ = λ has. not_both (s.goes d) ((may_go g a.kept s.goes s.going).go d k has) e in
             inr (record { none = none; kept_none = nothing_below d r k none })
       ]
     ]

@@ -1,13 +1,14 @@
 -- There is one aligned pair: the pairs determine what is kept and its numbers, and these the circuits.
 use Rattle.std.proofs.Common.{◌≡◌, inl, inr, ℕ, zero, suc, ◌<◌, true, List, slice_get, sym, ◌∙◌, ap, subst, arith}
+use Rattle.base_laws.proofs.Items.{item_at}
+use Rattle.base_laws.proofs.Tests.{same_truth}
 use Rattle.std.proofs.lemmas.Option.{none-some, slice_get_within}
 use Rattle.plain_netlist.specs.Netlist.{Circuit, Netlist, IsCircuit}
 use Rattle.plain_netlist.proofs.Faults.{sides}
-use Rattle.plain_netlist.proofs.Members.{item_at}
 use Rattle.align_laws.specs.Cut.{Alignment, cut}
 use Rattle.align_laws.specs.Aligned.{IsAligned, HasOnlyKept}
 use Rattle.align_laws.specs.Partners.{OnePairLaw}
-use Rattle.align_laws.proofs.OneAligned.{get_ext, same_bool, one_aligned}
+use Rattle.align_laws.proofs.OneAligned.{get_ext, one_aligned}
 use Rattle.align_laws.proofs.Origins.{option_cases}
 
 -- kept circuits in order have the same numbers in two alignments without gaps
@@ -74,8 +75,8 @@ one_netlist g o p v w a b only also kept_same number_same =
 
 pub one_pair : OnePairLaw
 one_pair layout schematic top right_top same l r m s v w x y p q =
-    let left_kept : (c : ℕ) → v.kept c ≡ x.kept c = λ c. same_bool (v.kept c) (x.kept c) (λ h. (q.pairs.left_kept c).1 ((p.pairs.left_kept c).0 h)) (λ h. (p.pairs.left_kept c).1 ((q.pairs.left_kept c).0 h)) in
-    let right_kept : (c : ℕ) → w.kept c ≡ y.kept c = λ c. same_bool (w.kept c) (y.kept c) (λ h. (q.pairs.right_kept c).1 ((p.pairs.right_kept c).0 h)) (λ h. (p.pairs.right_kept c).1 ((q.pairs.right_kept c).0 h)) in
+    let left_kept : (c : ℕ) → v.kept c ≡ x.kept c = λ c. same_truth (v.kept c) (x.kept c) (λ h. (q.pairs.left_kept c).1 ((p.pairs.left_kept c).0 h)) (λ h. (p.pairs.left_kept c).1 ((q.pairs.left_kept c).0 h)) in
+    let right_kept : (c : ℕ) → w.kept c ≡ y.kept c = λ c. same_truth (w.kept c) (y.kept c) (λ h. (q.pairs.right_kept c).1 ((p.pairs.right_kept c).0 h)) (λ h. (p.pairs.right_kept c).1 ((q.pairs.right_kept c).0 h)) in
     let left_number : (c : ℕ) → v.kept c ≡ true → v.number c ≡ x.number c = λ c. numbers layout l m v x p.left_aligned q.left_aligned p.left_only q.left_only left_kept p.pairs.rising q.pairs.rising (suc c) c (omega arith) in
     let right_number : (c : ℕ) → w.kept c ≡ true → w.number c ≡ y.number c = λ c kept.
     let pair = (p.pairs.right_kept c).0 kept in

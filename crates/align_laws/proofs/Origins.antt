@@ -1,12 +1,12 @@
 -- Each net of a flat circuit is from a place of its own, which gives its name; and where a flattened call puts a net.
 use Rattle.std.proofs.Common.{◌≡◌, ◌⊎◌, inl, inr, ℕ, zero, suc, ◌<◌, Bool, true, cond, List, [], ◌∷◌, ◌++◌, map, Option, Some, None, slice_get, decimal, refl, sym, ◌∙◌, ap, ap₂, subst, arith}
-use Rattle.plain_netlist.proofs.Members.{from_map, map_at, item_at}
+use Rattle.base_laws.proofs.Items.{item_at, map_to, map_from}
+use Rattle.std.proofs.lemmas.Bool.{cases_Bool}
 use Rattle.std.proofs.lemmas.Option.{slice_get_within, same_Some, none-some}
 use Rattle.plain_netlist.specs.Netlist.{CallRow, Circuit, Netlist, IsCircuit, IsCall, IsPin, HasNet, Slot, slot}
 use Rattle.plain_netlist.specs.Sound.{IsGood}
 use Rattle.align_laws.specs.Flat.{Maps, below, AreInlined}
 use Rattle.align_laws.specs.Lists.{NetAt, FlatCircuit, over, indexed, pieces, joined_place, past, net_below, own_net, inner_nets, net_in, AreFlat, net_or, placing_of, maps_of, given_of, row_of, plain}
-use Rattle.align_laws.proofs.Anchor.{is_it}
 use Rattle.align_laws.proofs.Listed.{listed, net_at, fate_goes}
 use Rattle.align_laws.proofs.Pieces.{append_cases, piece_of, indexed_of}
 use Rattle.align_laws.proofs.CutList.{given_is, row_is}
@@ -80,11 +80,11 @@ module _ (g f : Netlist) (goes : ℕ → Bool) (flats : ℕ → FlatCircuit) (he
         | inl k ↦ let o = indexed_of own_net x.nets i a k in inl (o.0, o.1, sym o.2)
         | inr (m, at, e) ↦
             let p = piece_of (inner_nets goes flats) x.calls m a at in
-            elim (is_it (goes p.of.circuit)) [
+            elim (cases_Bool (goes p.of.circuit)) [
               | inl t ↦
                   let item : slice_get (map (net_below p.item) (past p.of.nets (flats p.of.circuit).nets)) p.number ≡ Some a
                   = subst (λ (b : Bool). slice_get (cond b (map (net_below p.item) (past p.of.nets (flats p.of.circuit).nets)) []) p.number ≡ Some a) t p.at in
-                  let o = from_map (net_below p.item) (past p.of.nets (flats p.of.circuit).nets) p.number a item in
+                  let o = map_from (net_below p.item) (past p.of.nets (flats p.of.circuit).nets) p.number a item in
                   inr (record {
                     call = p.item;
                     row = p.of;
@@ -212,4 +212,4 @@ module _ (g f : Netlist) (goes : ℕ → Bool) (flats : ℕ → FlatCircuit) (he
       let a = net_at g f goes flats height good flat c n h in
       let given = flat.back c h.0 h.1 in
       let name = name_at (suc (height c)) c n given.0 a.0 (omega arith) given.1 a.1 in
-      map_at (λ (y : NetAt). y.name) (flats c).nets n a.0 a.1 ∙ ap Some (name ∙ ap (λ (y : Slot). net_name g y.path c y.net) (sym (from_is c n a.0 a.1)))
+      map_to (λ (y : NetAt). y.name) (flats c).nets n a.0 a.1 ∙ ap Some (name ∙ ap (λ (y : Slot). net_name g y.path c y.net) (sym (from_is c n a.0 a.1)))

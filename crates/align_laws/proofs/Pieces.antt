@@ -1,11 +1,7 @@
 -- Lists made piece by piece.
 use Rattle.std.proofs.Common.{◌≡◌, ◌⊎◌, inl, inr, ℕ, zero, suc, List, [], ◌∷◌, ◌++◌, Some, slice_get, refl, ◌∙◌, ap, subst}
+use Rattle.base_laws.proofs.Items.{get_left}
 use Rattle.align_laws.specs.Lists.{over, indexed, pieces, joined_place, past, net_at_pin}
-
-pub append_left : {B : Type 0} (xs ys : List B) (j : ℕ) (y : B) → slice_get xs j ≡ Some y → slice_get (xs ++ ys) j ≡ Some y
-append_left [] ys j y h = absurd cc
-append_left (x ∷ xs) ys zero y h = h
-append_left (x ∷ xs) ys (suc j) y h = append_left xs ys j y h
 
 pub append_right : {B : Type 0} (xs ys : List B) (j : ℕ) (y : B) → slice_get ys j ≡ Some y → slice_get (xs ++ ys) (over xs j) ≡ Some y
 append_right [] ys j y h = h
@@ -24,7 +20,7 @@ piece_at f [] i j x y h g = absurd cc
 piece_at {A = A} {B = B} f (z ∷ zs) zero j x y h g =
     let e : Some z ≡ Some x = h in
     let s : x ≡ z = cc in
-    append_left (f 0 z) (pieces (λ k. f (suc k)) zs) j y (subst (λ (w : A). slice_get (f 0 w) j ≡ Some y) s g)
+    get_left (f 0 z) (pieces (λ k. f (suc k)) zs) j y (subst (λ (w : A). slice_get (f 0 w) j ≡ Some y) s g)
 piece_at f (z ∷ zs) (suc i) j x y h g =
     append_right (f 0 z) (pieces (λ k. f (suc k)) zs) (joined_place (λ k. f (suc k)) zs i j) y (piece_at (λ k. f (suc k)) zs i j x y h g)
 

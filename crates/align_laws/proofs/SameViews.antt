@@ -1,6 +1,7 @@
 -- Two flattenings that differ in circuits that bring nothing have the same devices and kept calls, and hold the same pins.
 use Rattle.std.proofs.Common.{◌≡◌, ◌⊎◌, inl, inr, ℕ, zero, suc, ◌<◌, Bool, true, false, cond, List, [], ◌∷◌, ◌++◌, map, Some, slice_get, refl, sym, ◌∙◌, ap, subst, arith}
-use Rattle.plain_netlist.proofs.Members.{map_at, from_map}
+use Rattle.base_laws.proofs.Items.{map_to, map_from}
+use Rattle.std.proofs.lemmas.Bool.{cases_Bool}
 use Rattle.std.proofs.lemmas.Option.{none-some, same_Some}
 use Rattle.plain_netlist.specs.Netlist.{Pole, Source, Gate, Drain, Bulk, on, DeviceRow, CallRow, Circuit, Netlist, IsCircuit, IsCall, IsDevice, IsPin, HasNet, Slot, slot}
 use Rattle.plain_netlist.specs.Sound.{IsGood, IsCallPath}
@@ -8,7 +9,6 @@ use Rattle.align_laws.specs.Flat.{AreInlined}
 use Rattle.align_laws.specs.Lists.{pieces, plain, maps_of}
 use Rattle.align_laws.specs.Cut.{Alignment}
 use Rattle.align_laws.specs.Aligned.{IsAlignedBy}
-use Rattle.align_laws.proofs.Anchor.{is_it}
 use Rattle.align_laws.proofs.Held.{lower_calls}
 use Rattle.align_laws.proofs.InnerCalls.{inner_calls as calls_inside}
 use Rattle.align_laws.proofs.Kept.{MayGo}
@@ -19,7 +19,7 @@ use Rattle.align_laws.proofs.Views.{Seen, seen, seen_on, SeenCall, seen_call, ca
 
 -- equal images have equal items at equal places
 pub same_at : {A B C : Type 0} (h : A → C) (k : B → C) (xs : List A) (ys : List B) → map h xs ≡ map k ys → (i : ℕ) (x : A) → slice_get xs i ≡ Some x → (y : B) × (slice_get ys i ≡ Some y) × (k y ≡ h x)
-same_at {C = C} h k xs ys e i x at = from_map k ys i (h x) (subst (λ (zs : List C). slice_get zs i ≡ Some (h x)) e (map_at h xs i x at))
+same_at {C = C} h k xs ys e i x at = map_from k ys i (h x) (subst (λ (zs : List C). slice_get zs i ≡ Some (h x)) e (map_to h xs i x at))
 
 pub keep_at : (kept : ℕ → Bool) (rows : List CallRow) (k : ℕ) (row : CallRow) → slice_get rows k ≡ Some row → kept row.circuit ≡ true → (e : ℕ) × (slice_get (keep kept rows) e ≡ Some row)
 keep_at kept [] k row at t = absurd (none-some row at)
@@ -27,14 +27,14 @@ keep_at kept (r ∷ rs) zero row at t =
     let same : r ≡ row = same_Some _ _ at in
     let here : kept r.circuit ≡ true = ap (λ (x : CallRow). kept x.circuit) same ∙ t in
     (0, subst (λ (b : Bool). slice_get (cond b (r ∷ keep kept rs) (keep kept rs)) 0 ≡ Some row) (sym here) at)
-keep_at kept (r ∷ rs) (suc k) row at t = let rest = keep_at kept rs k row at t in elim (is_it (kept r.circuit)) [
+keep_at kept (r ∷ rs) (suc k) row at t = let rest = keep_at kept rs k row at t in elim (cases_Bool (kept r.circuit)) [
   | inl h ↦ (suc rest.0, subst (λ (b : Bool). slice_get (cond b (r ∷ keep kept rs) (keep kept rs)) (suc rest.0) ≡ Some row) (sym h) rest.1)
   | inr h ↦ (rest.0, subst (λ (b : Bool). slice_get (cond b (r ∷ keep kept rs) (keep kept rs)) rest.0 ≡ Some row) (sym h) rest.1)
 ]
 
 pub keep_from : (kept : ℕ → Bool) (rows : List CallRow) (e : ℕ) (row : CallRow) → slice_get (keep kept rows) e ≡ Some row → (k : ℕ) × (slice_get rows k ≡ Some row) × (kept row.circuit ≡ true)
 keep_from kept [] e row at = absurd (none-some row at)
-keep_from kept (r ∷ rs) e row at = elim (is_it (kept r.circuit)) [
+keep_from kept (r ∷ rs) e row at = elim (cases_Bool (kept r.circuit)) [
   | inl h ↦ first e h (subst (λ (b : Bool). slice_get (cond b (r ∷ keep kept rs) (keep kept rs)) e ≡ Some row) h at) (λ m. keep_from kept rs m row)
   | inr h ↦ let rest = keep_from kept rs e row (subst (λ (b : Bool). slice_get (cond b (r ∷ keep kept rs) (keep kept rs)) e ≡ Some row) h at) in (suc rest.0, rest.1, rest.2)
 ]

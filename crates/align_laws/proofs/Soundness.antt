@@ -1,16 +1,16 @@
 -- An aligned netlist of kept circuits alone is good and in normal form.
-use Rattle.std.proofs.Common.{◌≡◌, inl, inr, ℕ, zero, suc, ◌<◌, Bool, true, cond, List, [], ◌∷◌, ◌++◌, Option, Some, None, slice_get, length, map, refl, sym, ◌∙◌, ap, subst, arith}
+use Rattle.std.proofs.Common.{◌≡◌, inl, inr, ℕ, zero, suc, ◌<◌, Bool, true, cond, [], ◌∷◌, Option, Some, None, slice_get, length, map, refl, sym, ◌∙◌, ap, subst, arith}
+use Rattle.base_laws.proofs.Items.{get_last, map_from}
+use Rattle.std.proofs.lemmas.Bool.{cases_Bool}
 use Rattle.std.proofs.lemmas.Option.{slice_get_within, same_Some, none-some}
 use Rattle.plain_netlist.specs.Netlist.{CallRow, Circuit, Netlist, IsCircuit, IsCall}
 use Rattle.plain_netlist.specs.Normal.{IsNormalNetlist, IsNormalCircuit}
 use Rattle.plain_netlist.specs.Sound.{AreCallsFitting, HasNetTwins, IsGood, IsSoundNetlist, NetlistFault, NameClash, BadTerminal, NoSuchCircuit, PinCount, CircuitCycle, ShowsFault}
 use Rattle.plain_netlist.proofs.Heights.{no_fault_in_good}
 use Rattle.plain_netlist.proofs.Numbered.{normal_nets}
-use Rattle.plain_netlist.proofs.Members.{from_map}
 use Rattle.align_laws.specs.Lists.{FlatCircuit, given_of}
 use Rattle.align_laws.specs.Cut.{Alignment, CutCall, cut, cut_calls, cut_call, cut_row, held_pins}
 use Rattle.align_laws.specs.Aligned.{IsAlignedBy, HasOnlyKept, AlignedSoundLaw, AlignedFaultLaw, NoFurtherLaw}
-use Rattle.align_laws.proofs.Anchor.{is_it}
 use Rattle.align_laws.proofs.CutList.{given_is}
 use Rattle.align_laws.proofs.FlatGood.{flat_is_good, long_map}
 use Rattle.align_laws.proofs.Pieces.{piece_of}
@@ -34,7 +34,7 @@ module _ (g o : Netlist) (w : Alignment) (goes : ℕ → Bool) (a : IsAlignedBy 
       (f.0, f.1, (let z : x ≡ cut a.flat w f.0 = cc in z), f.2)
 
   one_of : (c k : ℕ) (row : CallRow) (r : CutCall) → (n : ℕ) → slice_get (cut_call a.flat w c k row) n ≡ Some r → (w.kept row.circuit ≡ true) × (r.row ≡ cut_row a.flat w c row)
-  one_of c k row r n h = elim (is_it (w.kept row.circuit)) [
+  one_of c k row r n h = elim (cases_Bool (w.kept row.circuit)) [
     | inl e ↦ (e, first n (subst (λ (t : Bool). slice_get (cond t (item ∷ []) []) n ≡ Some r) e h))
     | inr e ↦ absurd (none-some r (subst (λ (t : Bool). slice_get (cond t (item ∷ []) []) n ≡ Some r) e h))
   ]
@@ -51,7 +51,7 @@ module _ (g o : Netlist) (w : Alignment) (goes : ℕ → Bool) (a : IsAlignedBy 
       let f = cut_of i x is in
       let given = a.cut_down.given f.0 f.1 in
       let there : slice_get (map (λ (r : CutCall). r.row) (cut_calls a.flat w f.0)) e ≡ Some row = subst (λ (y : Circuit). slice_get y.calls e ≡ Some row) f.2 at in
-      let r = from_map (λ (r : CutCall). r.row) (cut_calls a.flat w f.0) e row there in
+      let r = map_from (λ (r : CutCall). r.row) (cut_calls a.flat w f.0) e row there in
       let p = piece_of (cut_call a.flat w f.0) (given_of a.flat f.0).calls e r.0 r.1 in
       let one = one_of f.0 p.item p.of r.0 p.number p.at in
       record {
@@ -118,13 +118,9 @@ module _ (g o : Netlist) (w : Alignment) (goes : ℕ → Bool) (a : IsAlignedBy 
 pub aligned_sound : AlignedSoundLaw
 aligned_sound g o w a only = (normal g o w a.goes a.by only, some_good g o w a.goes a.by only)
 
-last : {A : Type 0} (xs : List A) (x : A) → slice_get (xs ++ x ∷ []) (length xs) ≡ Some x
-last [] x = refl
-last (y ∷ xs) x = last xs x
-
 pub no_further : NoFurtherLaw
 no_further g o w x a only =
-    let f = only.from (length o.circuits) x (last o.circuits x) in
+    let f = only.from (length o.circuits) x (get_last o.circuits x) in
     let low = slice_get_within o.circuits (w.number f.0) _ (a.by.cut_down.there f.0 f.1) in
     let e = f.2 in
     omega arith

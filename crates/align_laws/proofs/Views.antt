@@ -1,6 +1,7 @@
 -- The devices and kept calls of a flat circuit, with their nets as the places that these are from: a recursion over the calls alone.
 use Rattle.std.proofs.Common.{◌≡◌, inl, inr, ℕ, suc, Bool, true, false, cond, List, [], ◌∷◌, ◌++◌, map, Some, slice_get, refl, ◌∙◌, ap, ap₂}
-use Rattle.plain_netlist.proofs.Members.{map_at}
+use Rattle.base_laws.proofs.Items.{map_to}
+use Rattle.base_laws.proofs.Tests.{not_both}
 use Rattle.std.proofs.lemmas.List.{map-append}
 use Rattle.plain_netlist.specs.Netlist.{Pole, Source, Gate, Drain, Bulk, on, DeviceRow, CallRow, Circuit, Netlist, IsCircuit, IsCall, IsDevice, Slot, slot}
 use Rattle.plain_netlist.specs.Sound.{IsGood, HasDevices, IsCalledFrom}
@@ -8,7 +9,7 @@ use Rattle.align_laws.specs.Flat.{AreInlined, row_through, call_through}
 use Rattle.align_laws.specs.Lists.{DeviceAt, CallAt, FlatCircuit, indexed, pieces, device_below, call_below, own_device, inner_devices, own_calls, inner_calls, net_in, plain, AreFlat, maps_of}
 use Rattle.align_laws.specs.Words.{IsWay}
 use Rattle.align_laws.proofs.InnerCalls.{inner_calls as calls_inside}
-use Rattle.align_laws.proofs.Kept.{MayGo, has_devices, is_not}
+use Rattle.align_laws.proofs.Kept.{MayGo, has_devices}
 use Rattle.align_laws.proofs.Listed.{listed}
 use Rattle.align_laws.proofs.Origins.{enter, from, own_from, brought_from}
 use Rattle.align_laws.proofs.Unique.{pieces_same}
@@ -138,10 +139,10 @@ module _ (g f : Netlist) (goes : ℕ → Bool) (flats : ℕ → FlatCircuit) (he
   call_view c = map (seen_call (origin c)) (keep kept (plain (flats c)).calls)
 
   device_there : (c j : ℕ) (x : Circuit) (d : DeviceAt) → IsCircuit g c x → slice_get (flats c).devices j ≡ Some d → IsDevice f c j d.row
-  device_there c j x d is h = (plain (flats c), flat.there c x is, map_at (λ (d : DeviceAt). d.row) (flats c).devices j d h)
+  device_there c j x d is h = (plain (flats c), flat.there c x is, map_to (λ (d : DeviceAt). d.row) (flats c).devices j d h)
 
   call_there : (c j : ℕ) (x : Circuit) (r : CallAt) → IsCircuit g c x → slice_get (flats c).calls j ≡ Some r → IsCall f c j r.row
-  call_there c j x r is h = (plain (flats c), flat.there c x is, map_at (λ (r : CallAt). r.row) (flats c).calls j r h)
+  call_there c j x r is h = (plain (flats c), flat.there c x is, map_to (λ (r : CallAt). r.row) (flats c).calls j r h)
 
   devices_in : (c k : ℕ) (x : Circuit) (row : CallRow) → IsCircuit g c x → slice_get x.calls k ≡ Some row → map (seen (origin c)) (map (λ (d : DeviceAt). d.row) (inner_devices goes flats x k row)) ≡ cond (goes row.circuit) (map (seen_on (enter k row)) (device_view row.circuit)) []
   devices_in c k x row is at = known (goes row.circuit) refl
@@ -191,7 +192,7 @@ module _ (g f : Netlist) (goes : ℕ → Bool) (flats : ℕ → FlatCircuit) (he
 
       known : (a b : Bool) → kept row.circuit ≡ a → goes row.circuit ≡ b
           → map (seen_call (origin c)) (keep kept (map (λ (r : CallAt). r.row) (cond b [] (record { way = k ∷ []; row = row } ∷ [])))) ≡ cond a (seen_call (slot []) row ∷ []) []
-      known true true e t = absurd (is_not (goes row.circuit) t (may.stay row.circuit e))
+      known true true e t = absurd (not_both (goes row.circuit) t (may.stay row.circuit e))
       known false true e t = refl
       known true false e t = one true e ∙ ap (λ (y : SeenCall). y ∷ []) nets
       known false false e t = one false e

@@ -1,5 +1,7 @@
 -- What the tests of conditions tell.
 use Rattle.std.proofs.Common.{◌≡◌, inl, inr, ℕ, zero, suc, ◌+◌, ◌<◌, Bool, true, false, ◌||◌, List, [], ◌∷◌, length, map, Some, slice_get, refl, sym, ◌∙◌, ap₂, subst, arith, true≢false}
+use Rattle.base_laws.proofs.Items.{map_from}
+use Rattle.std.proofs.lemmas.Bool.{cases_Bool}
 use Rattle.std.specs.Prelude.{nat_lt, not}
 use Rattle.std.proofs.Math.Decide.{ℕ_discrete}
 use Rattle.std.specs.List.{list_any}
@@ -16,8 +18,6 @@ use Rattle.net_model.specs.declared.netlist.Circuit.{Circuit}
 use Rattle.net_model.specs.declared.netlist.Netlist.{Netlist}
 use Rattle.net_model.proofs.FirstLemmas.{any_listed}
 use Rattle.net_align.specs.Names.{left_names, right_names}
-use Rattle.net_align.proofs.ByName.{map_at}
-use Rattle.net_align.proofs.Finding.{either}
 use Rattle.align_tests.specs.Small.{has_small}
 
 same_byte : (b : ℕ) → is_ascii_lowercase b ≡ false → folded_byte b ≡ b
@@ -25,7 +25,7 @@ same_byte b e = rw e refl
 
 folded_same : (name : List ℕ) → has_small name ≡ false → folded_bytes name ≡ name
 folded_same [] e = refl
-folded_same (b ∷ name) e = elim (either (is_ascii_lowercase b)) [
+folded_same (b ∷ name) e = elim (cases_Bool (is_ascii_lowercase b)) [
   | inl t ↦ absurd (true≢false (sym (rw t refl) ∙ e))
   | inr f ↦ ap₂ (λ (x : ℕ) (xs : List ℕ). x ∷ xs) (same_byte b f) (folded_same name (rest f e))
 ]
@@ -35,8 +35,8 @@ folded_same (b ∷ name) e = elim (either (is_ascii_lowercase b)) [
 
 no_small : (cs : List Circuit) (i : ℕ) (x : PlainCircuit) → list_any (λ (c : Circuit). has_small c.name) cs ≡ false → slice_get (map plain_circuit cs) i ≡ Some x → folded_bytes x.name ≡ x.name
 no_small cs i x none at =
-    let r = map_at plain_circuit cs i x at in
-    elim (either (has_small r.0.name)) [
+    let r = map_from plain_circuit cs i x at in
+    elim (cases_Bool (has_small r.0.name)) [
       | inl t ↦ absurd (true≢false (sym (any_listed (λ (c : Circuit). has_small c.name) cs r.0 (listed cs i r.0 r.1) t) ∙ none))
       | inr f ↦ subst (λ (y : PlainCircuit). folded_bytes y.name ≡ y.name) r.2 (folded_same r.0.name f)
     ]
@@ -67,11 +67,11 @@ low_row (r ∷ rows) c none k w e = go (nat_lt r.circuit c) refl none k e (λ f 
 pub calls_low : (n : Netlist) (c : ℕ) (x : Circuit) → slice_get n.circuits.items c ≡ Some x → list_any (λ (r : CallRow). not (nat_lt r.circuit c)) x.calls.items ≡ false
     → (k : ℕ) (row : PlainCall) → IsCall (plain_netlist n) c k row → row.circuit < c
 calls_low n c x at none k row (y, is, e) =
-    let r = map_at plain_circuit n.circuits.items c y is in
+    let r = map_from plain_circuit n.circuits.items c y is in
     let s : Some r.0 ≡ Some x = sym r.1 ∙ at in
     let same : r.0 ≡ x = cc in
     let there : slice_get (map plain_call x.calls.items) k ≡ Some row = subst (λ (z : Circuit). slice_get (map plain_call z.calls.items) k ≡ Some row) same (subst (λ (z : PlainCircuit). slice_get z.calls k ≡ Some row) (sym r.2) e) in
-    let w = map_at plain_call x.calls.items k row there in
+    let w = map_from plain_call x.calls.items k row there in
     subst (λ (z : PlainCall). z.circuit < c) w.2 (low_row x.calls.items c none k w.0 w.1)
 
 pub first_more : (nl : Plain) (i : ℕ) → AreFirstBelow nl i → ((k : ℕ) (row : PlainCall) → IsCall nl i k row → row.circuit < i) → AreFirstBelow nl (i + 1)

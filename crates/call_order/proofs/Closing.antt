@@ -1,5 +1,6 @@
 -- What closing numbers does to a walk's state.
 use Rattle.std.proofs.Common.{◌≡◌, ◌⊎◌, inl, inr, ℕ, zero, suc, ◌<◌, Bool, true, false, List, [], ◌∷◌, ◌++◌, length, set, Option, Some, None, refl, sym, ap, subst, ◌∙◌, arith, append_assoc, length-set}
+use Rattle.std.proofs.lemmas.Bool.{cases_Bool}
 use Rattle.std.specs.Prelude.{slice_index, slice_index_or, nat_lt}
 use Rattle.std.proofs.Math.Decide.{ℕ_discrete}
 use Rattle.std.proofs.lemmas.List.{get_or-set_same, get_or-set_other, append-nil}
@@ -56,13 +57,9 @@ apart_by (x ∷ xs) one = (
 
 -- ---- the least number
 
-pub either : (b : Bool) → (b ≡ true) ⊎ (b ≡ false)
-either true = inl refl
-either false = inr refl
-
 pub least_more : (C R : ℕ → Type 0) (o : Option ℕ) (k : ℕ) → LeastOf C R o → R k → LeastOf (λ j. C j ⊎ (j ≡ k)) R (lesser o k)
 least_more C R None k h r = (r, λ j c q. elim c [ inl old ↦ absurd (h j old q) | inr e ↦ (omega arith) ])
-least_more C R (Some f) k h r = elim (either (nat_lt k f)) [
+least_more C R (Some f) k h r = elim (cases_Bool (nat_lt k f)) [
   | inl t ↦ rw t (r, λ j c q. elim c [ inl old ↦ (let l = h.1 j old q in grind (arith, t, l)) | inr e ↦ (omega arith) ])
   | inr t ↦ rw t (h.0, λ j c q. elim c [ inl old ↦ h.1 j old q | inr e ↦ grind (arith, t, e) ])
 ]
@@ -140,7 +137,7 @@ closing_plain k s C R h n =
 
 some_lesser : (o : Option ℕ) (k : ℕ) → (f : ℕ) × (lesser o k ≡ Some f)
 some_lesser None k = (k, refl)
-some_lesser (Some f) k = elim (either (nat_lt k f)) [ inl t ↦ (k, rw t refl) | inr t ↦ (f, rw t refl) ]
+some_lesser (Some f) k = elim (cases_Bool (nat_lt k f)) [ inl t ↦ (k, rw t refl) | inr t ↦ (f, rw t refl) ]
 
 still_some : (ks : List ℕ) (s : State) (f : ℕ) → s.first ≡ Some f → (g : ℕ) × ((closing true ks s).first ≡ Some g)
 still_some [] s f e = (f, e)

@@ -1,5 +1,6 @@
 -- A step that leaves a number without calls left, and closes its ring where that has none left, keeps the walk.
 use Rattle.std.proofs.Common.{◌≡◌, ◌⊎◌, inl, inr, ℕ, ◌+◌, ◌-◌, ◌*◌, ◌<◌, ◌≤◌, ◌==◌, Bool, true, false, List, [], ◌∷◌, ◌++◌, length, take, drop, Option, Some, None, refl, sym, ap, subst, ◌∙◌, arith, length-take-le, length-drop}
+use Rattle.std.proofs.lemmas.Bool.{cases_Bool, cases_lt}
 use Rattle.std.specs.Prelude.{slice_index, slice_index_or}
 use Rattle.std.proofs.lemmas.Bool.Decides.{eqb_tells}
 use Rattle.std.proofs.lemmas.List.{get_or-take, get_or-drop, get_or_append_left, take_all, take-append-le, take_at, nil_from_length}
@@ -9,8 +10,8 @@ use Rattle.call_order.specs.declared.walk.Place.TheVariants.{Unseen, Open, Close
 use Rattle.call_order.specs.declared.walk.Ring.{Ring}
 use Rattle.call_order.specs.Walk.{State, rested, closing, without, left, left_from, at, worked, place_of, IsLast, IsUnmet, IsClosed, Followed, AreFollowed, IsBehind, IsRing, IsLinked, AreRings, AreBehind, LeastOf, IsBase, IsWalk, IsFurther, weight, calls_left}
 use Rattle.call_order.proofs.Reach.{To, turned_by}
-use Rattle.call_order.proofs.Rings.{below, Leaves, Nothing, rings_kept, linked_kept}
-use Rattle.call_order.proofs.Closing.{placed, place_in, is_listed, listed_left, listed_right, listed_either, apart_append, apart_by, either, least_same, closing_followed, closing_path, closing_work, closing_rings, closing_order, closing_places_len, closing_other, closing_here, closing_cycle, closing_plain, closing_finds}
+use Rattle.call_order.proofs.Rings.{Leaves, Nothing, rings_kept, linked_kept}
+use Rattle.call_order.proofs.Closing.{placed, place_in, is_listed, listed_left, listed_right, listed_either, apart_append, apart_by, least_same, closing_followed, closing_path, closing_work, closing_rings, closing_order, closing_places_len, closing_other, closing_here, closing_cycle, closing_plain, closing_finds}
 use Rattle.call_order.proofs.Steps.{one_place, met_there}
 
 -- the last ring r, with the rings rs before it, has no work left, and each call of its numbers was followed
@@ -135,7 +136,7 @@ module _ (calls : List (List ℕ)) (s : State) (r : Ring) (rs : List Ring) (w : 
 
     behind_more : (o : Option ℕ) → AreBehind calls s.order o → AreBehind calls (s.order ++ at s r.path ∷ []) o
     behind_more (Some f) h = tt
-    behind_more None h = λ i b l call. elim (below i (length s.order)) [
+    behind_more None h = λ i b l call. elim (cases_lt i (length s.order)) [
       | inl low ↦
           let old = h i b low (subst (λ x. Calls calls x b) (get_or_append_left s.order (at s r.path ∷ []) 0 i low) call) in
           subst (λ ks. IsListed b ks) (sym (take-append-le i s.order (at s r.path ∷ []) (omega arith))) old
@@ -182,7 +183,7 @@ module _ (calls : List (List ℕ)) (s : State) (r : Ring) (rs : List Ring) (w : 
     open_place = λ k i o.
         let outside : IsListed k members → ⊥ = λ m. (let e : Closed ≡ Open i = sym (now_closed k m) ∙ o in cc) in
         let p = w.open_place k i (sym (same_place k outside) ∙ o) in
-        let low : i < r.path = elim (below i r.path) [ inl l ↦ l | inr high ↦ absurd (outside (subst (λ x. IsListed x members) p.1 (is_member i high p.0))) ] in
+        let low : i < r.path = elim (cases_lt i r.path) [ inl l ↦ l | inr high ↦ absurd (outside (subst (λ x. IsListed x members) p.1 (is_member i high p.0))) ] in
         ((let e = path_len in omega arith), at_before i low ∙ p.1);
     fresh = λ k u. ap (λ ks. slice_index ks k) followed_is
         ∙ w.fresh k (elim (is_listed k members) [ inl m ↦ absurd (let e : Closed ≡ Unseen = sym (now_closed k m) ∙ u in let z : ⊥ = cc in z) | inr n ↦ sym (same_place k n) ∙ u ]);
@@ -193,8 +194,8 @@ module _ (calls : List (List ℕ)) (s : State) (r : Ring) (rs : List Ring) (w : 
     closed_listed = λ k h. subst (λ ks. IsListed k ks) (sym order_is) (elim (was_closed k h) [ inl old ↦ listed_left s.order members k (w.closed_listed k old) | inr m ↦ listed_right s.order members k m ]);
     listed_closed = λ k h. elim (listed_either s.order members k (subst (λ ks. IsListed k ks) order_is h)) [ inl old ↦ still_closed k (w.listed_closed k old) | inr m ↦ now_closed k m ];
     apart = subst AreApart (sym order_is) (apart_append s.order members w.apart (apart_by members one) (λ k l m. not_closed k m (w.listed_closed k l)));
-    least = elim (either r.is_cycle) [ inl cycle ↦ least_cycle cycle | inr plain ↦ least_plain plain ];
-    behind = elim (either r.is_cycle) [ inl cycle ↦ behind_cycle cycle | inr plain ↦ behind_plain plain ];
+    least = elim (cases_Bool r.is_cycle) [ inl cycle ↦ least_cycle cycle | inr plain ↦ least_plain plain ];
+    behind = elim (cases_Bool r.is_cycle) [ inl cycle ↦ behind_cycle cycle | inr plain ↦ behind_plain plain ];
   }
     where
       one : (i j : ℕ) → i < length members → j < length members → slice_index members i ≡ slice_index members j → i ≡ j
@@ -293,7 +294,7 @@ module _ (calls : List (List ℕ)) (s : State) (v : ℕ) (w : IsWalk calls s) (l
         works = λ m low high. let p = ring.works m low (omega arith) in (p.0, p.1, p.2, p.3 ∙ sym (work_before m (omega arith)));
         waits = λ i low high. elim (ring.waits i low high) [
           | inl done ↦ inl done
-          | inr (m, from, to, here) ↦ elim (below m (length s.work - 1)) [
+          | inr (m, from, to, here) ↦ elim (cases_lt m (length s.work - 1)) [
             | inl before ↦ inr (m, from, (omega arith), here ∙ sym (work_before m before))
             | inr now ↦
                 let m_is : m ≡ length s.work - 1 = omega arith in
@@ -352,7 +353,7 @@ module _ (calls : List (List ℕ)) (s : State) (v : ℕ) (w : IsWalk calls s) (l
 
   further : (rs : List Ring) → rs ≡ s.rings → AreRings calls s (length s.path) (length s.work) rs → IsFurther calls s (left_from s1 rs)
   further [] e h = let some = last.some in let none = h.1 in absurd (omega arith)
-  further (r ∷ rs) e h = elim (either (r.work == length s1.work)) [
+  further (r ∷ rs) e h = elim (cases_Bool (r.work == length s1.work)) [
     | inl none ↦ rw none (record {
       walk = walk_closed r rs h.0 h.1 h.2 none;
       less = (let same = weight_closed r rs h.0 h.1 h.2 none in let low = less_weight in omega arith);

@@ -1,15 +1,11 @@
 -- Rings of a path: what a step leaves as it is, and rings joined.
 use Rattle.std.proofs.Common.{◌≡◌, ◌⊎◌, inl, inr, ℕ, ◌<◌, ◌≤◌, true, false, nat_lt, List, [], ◌∷◌, refl, sym, subst, ◌∙◌, arith, true≢false}
-use Rattle.std.proofs.lemmas.Bool.Decides.{leb_tells}
+use Rattle.std.proofs.lemmas.Bool.{cases_Bool, cases_lt}
 use Rattle.call_order.specs.Order.{Calls, ReachesItself}
 use Rattle.call_order.specs.declared.walk.Place.TheVariants.{Open, Closed}
 use Rattle.call_order.specs.declared.walk.Ring.{Ring}
 use Rattle.call_order.specs.Walk.{State, at, worked, place_of, Followed, AreFollowed, IsBehind, IsRing, IsLinked, AreRings, joined_rings}
 use Rattle.call_order.proofs.Reach.{To, through, one, turned}
-use Rattle.call_order.proofs.Closing.{either}
-
-pub below : (a b : ℕ) → (a < b) ⊎ (b ≤ a)
-below a b = elim (leb_tells b a) [ inl h ↦ inr h.1 | inr h ↦ inl h.1 ]
 
 -- what a step may leave of a state, from the place d up to e of the path and up to f of the work:
 -- the numbers stay, calls that were followed newly have New, and what was met stays so
@@ -124,20 +120,20 @@ module _ (calls : List (List ℕ)) where
       let low_path = g.some in let low_work = g.some_work in let some = h.some in let some_work = h.some_work in record {
         some = omega arith;
         some_work = omega arith;
-        out = λ i low high. elim (below i r.path) [ inl l ↦ g.out i low l | inr l ↦ through calls _ _ _ link (h.out i l high) ];
-        on = λ i low high. elim (below i r.path) [
+        out = λ i low high. elim (cases_lt i r.path) [ inl l ↦ g.out i low l | inr l ↦ through calls _ _ _ link (h.out i l high) ];
+        on = λ i low high. elim (cases_lt i r.path) [
           | inl l ↦ through calls _ _ _ (g.back i low l) (through calls _ _ _ link (h.on r.path (omega arith) some))
           | inr l ↦ h.on i l high
         ];
-        calls_in = λ i b low high w. elim (below i r.path) [
+        calls_in = λ i b low high w. elim (cases_lt i r.path) [
           | inl l ↦ inl (g.calls_in i b low l w)
           | inr l ↦ elim (h.calls_in i b l high w) [ inl o ↦ inl (behind_low t r.path q.path b (omega arith) o) | inr n ↦ inr n ]
         ];
-        works = λ m low high. elim (below m r.work) [
+        works = λ m low high. elim (cases_lt m r.work) [
           | inl l ↦ let w = g.works m low l in (w.0, w.1, (let a = w.2 in omega arith), w.3)
           | inr l ↦ let w = h.works m l high in (w.0, (let a = w.1 in omega arith), w.2, w.3)
         ];
-        waits = λ i low high. elim (below i r.path) [
+        waits = λ i low high. elim (cases_lt i r.path) [
           | inl l ↦ elim (g.waits i low l) [ inl a ↦ inl a | inr (m, from, to, w) ↦ inr (m, from, (omega arith), w) ]
           | inr l ↦ elim (h.waits i l high) [ inl a ↦ inl a | inr (m, from, to, w) ↦ inr (m, (omega arith), to, w) ]
         ];
@@ -163,11 +159,11 @@ module _ (calls : List (List ℕ)) where
       → IsLinked calls t r rs → AreRings calls t r.path r.work rs
       → ((i : ℕ) → r.path ≤ i → i < d → To calls (at t i) (at t r.path)) → j < d → Calls calls v (at t j)
       → AreRings calls t e f (joined_rings j (r ∷ rs))
-  joined_are New t r [] e f v j d h new link more own low call = elim (either (nat_lt j r.path)) [
+  joined_are New t r [] e f v j d h new link more own low call = elim (cases_Bool (nat_lt j r.path)) [
     | inl b ↦ let first = more.0 in absurd (grind (arith, b, first))
     | inr b ↦ rw b (turned_ring New t r e f v j h (λ k x n. inr (j, grind (arith, b), new k x n)) call (own j (grind (arith, b)) low), link, more)
   ]
-  joined_are New t r (q ∷ qs) e f v j d h new link more own low call = elim (either (nat_lt j r.path)) [
+  joined_are New t r (q ∷ qs) e f v j d h new link more own low call = elim (cases_Bool (nat_lt j r.path)) [
     | inl b ↦ rw b (joined_are New t q qs e f v j r.path (broader New t r q e f v h link more.0) new more.1 more.2 more.0.back (grind (arith, b)) call)
     | inr b ↦ rw b (turned_ring New t r e f v j h (λ k x n. inr (j, grind (arith, b), new k x n)) call (own j (grind (arith, b)) low), link, more)
   ]

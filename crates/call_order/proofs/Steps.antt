@@ -1,5 +1,6 @@
 -- What the steps of a walk keep: calls followed, numbers opened, rings joined.
 use Rattle.std.proofs.Common.{◌≡◌, ◌≢◌, ◌⊎◌, inl, inr, ℕ, zero, suc, ◌+◌, ◌<◌, ◌≤◌, false, List, [], ◌∷◌, length, take, Option, Some, None, refl, sym, ap, subst, ◌∙◌, arith, length-set, add-one}
+use Rattle.std.proofs.lemmas.Bool.{cases_lt}
 use Rattle.std.specs.Prelude.{slice_index, slice_index_or}
 use Rattle.std.proofs.Math.Decide.{ℕ_discrete}
 use Rattle.std.proofs.lemmas.List.{get_or-set_same, get_or-set_other, get_or_append_left, get_or_push, length_push}
@@ -9,11 +10,11 @@ use Rattle.call_order.specs.declared.walk.Place.{Place}
 use Rattle.call_order.specs.declared.walk.Place.TheVariants.{Unseen, Open, Closed}
 use Rattle.call_order.specs.Walk.{State, opened, followed_on, at, worked, place_of, IsUnmet, IsClosed, Followed, AreFollowed, IsRing, IsBase, LeastOf}
 use Rattle.call_order.proofs.Reach.{To, stays}
-use Rattle.call_order.proofs.Rings.{below, Leaves}
+use Rattle.call_order.proofs.Rings.{Leaves}
 
 -- a number that was not met has a place only where there is one
 pub met_there : (s : State) (k : ℕ) → (IsUnmet s k → ⊥) → k < length s.places
-met_there s k h = elim (below k (length s.places)) [ inl l ↦ l | inr past ↦ absurd (h (past_places s.places k past)) ]
+met_there s k h = elim (cases_lt k (length s.places)) [ inl l ↦ l | inr past ↦ absurd (h (past_places s.places k past)) ]
   where
     past_places : (ps : List Place) (k : ℕ) → length ps ≤ k → slice_index_or ps k Unseen ≡ Unseen
     past_places [] k h = refl
@@ -154,7 +155,7 @@ module _ (calls : List (List ℕ)) (s : State) (w : IsBase calls s) where
       range = w.range;
       followed_len = w.followed_len;
       places_len = length-set s.places k (Open far) ∙ w.places_len;
-      on_path = λ i l. elim (below i far) [
+      on_path = λ i l. elim (cases_lt i far) [
         | inl before ↦ let o = w.on_path i before in
             ap (λ x. place_of wider x) (at_before i before) ∙ place_other (at s i) (open_other (at s i) i o) ∙ o
         | inr last ↦ let long = length_push s.path k in let e : i ≡ far = omega arith in

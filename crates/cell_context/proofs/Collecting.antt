@@ -1,5 +1,7 @@
 -- Collecting what visits bring.
 use Rattle.std.proofs.Common.{◌≡◌, inl, inr, ℕ, ℤ, suc, pos, negsuc, ◌*ℤ◌, ◌+ℤ◌, ◌*◌, ◌<◌, ◌+◌, ◌^◌, List, [], ◌∷◌, ◌++◌, Option, Some, None, Bool, true, false, ◌&&◌, ◌||◌, slice_get, slice_index_or, length, take, not, refl, sym, ◌∙◌, ap, subst, arith}
+use Rattle.base_laws.proofs.Tests.{or_assoc, or_false}
+use Rattle.std.proofs.lemmas.Bool.{and_parts}
 use Rattle.std.specs.List.{All}
 use Rattle.std.proofs.lemmas.Int.{ints}
 use Rattle.std.proofs.Math.IntN.{pos-*ℤ-pos, pos-*ℤ-negsuc, neg_ℤ}
@@ -72,14 +74,6 @@ is_hull d cell h sound e =
     let g : IsHull h = subst HullIsSound (sym e) (hull_sound d cell sound) in
     record { some = g.some; near = wider_rect (2 ^ 36) (2 ^ 37) h (omega arith) g.near }
 
-pub and_right : (a b : Bool) → (a && b) ≡ true → b ≡ true
-and_right true b e = e
-and_right false b e = let f : false ≡ true = e in absurd (let z : ⊥ = cc in z)
-
-left_of : (a b : Bool) → (a && b) ≡ true → a ≡ true
-left_of true b e = refl
-left_of false b e = e
-
 held_in : (n : ℕ) (o : Option Rect) (h g : Rect) (q : Square) → Some h ≡ o → g ≡ grown n h → has g q ≡ true → IsInGrown n o q
 held_in n None h g q e wide i = let f : Some h ≡ None = e in let z : ⊥ = cc in z
 held_in n (Some x) h g q e wide i = let f : h ≡ x = cc in subst (λ r. has (grown n r) q ≡ true) f (subst (λ r. has r q ≡ true) wide i)
@@ -95,8 +89,8 @@ visit_of n d cell i skip w hull g p v is wide there kept h = record {
   cell_is = h.cell;
   motion_is = h.motion;
   near = h.near;
-  has = λ q e. and_right (has g q) (has w (moved_square v.motion q)) (sym (h.has q) ∙ e);
-  held = λ q e. held_in n (hull_of (cell_at d v.cell)) hull g q (is ∙ ap (λ c. hull_of (cell_at d c)) (sym h.cell)) wide (left_of (has g q) (has w (moved_square v.motion q)) (sym (h.has q) ∙ e));
+  has = λ q e. (and_parts (has g q) (has w (moved_square v.motion q)) (sym (h.has q) ∙ e)).1;
+  held = λ q e. held_in n (hull_of (cell_at d v.cell)) hull g q (is ∙ ap (λ c. hull_of (cell_at d c)) (sym h.cell)) wide ((and_parts (has g q) (has w (moved_square v.motion q)) (sym (h.has q) ∙ e)).0);
 }
 
 pub visits_of : (n : ℕ) (d : Linked) (cell i : ℕ) (skip : Option ℕ) (w hull g : Rect) (p : Place) (vs : List Visit) → Some hull ≡ hull_of (cell_at d p.cell) → g ≡ grown n hull → slice_get (places_at (cell_at d cell)) i ≡ Some p → (skip ≡ Some i → ⊥) → All (IsElementVisit p g w) vs → All (IsVisit n d cell skip w) vs
@@ -121,11 +115,6 @@ no_hull (Some x) q e g = let f : None ≡ Some x = e in let z : ⊥ = cc in z
 pub one_place : (o : Option Place) (p r : Place) → o ≡ Some p → o ≡ Some r → p ≡ r
 one_place o p r e f = let g : Some p ≡ Some r = sym e ∙ f in cc
 
--- covering
-pub or_assoc : (a b c : Bool) → ((a || b) || c) ≡ (a || (b || c))
-or_assoc true b c = refl
-or_assoc false b c = refl
-
 pub or_and : (a b c : Bool) → ((a && c) || (b && c)) ≡ ((a || b) && c)
 or_and true true true = refl
 or_and true true false = refl
@@ -137,13 +126,9 @@ pub covers_append : (xs ys : List Rect) (q : Square) → covers (xs ++ ys) q ≡
 covers_append [] ys q = refl
 covers_append (x ∷ xs) ys q = ap (λ c. has x q || c) (covers_append xs ys q) ∙ sym (or_assoc (has x q) (covers xs q) (covers ys q))
 
-or_none : (b : Bool) → (b || false) ≡ b
-or_none true = refl
-or_none false = refl
-
 pub covers_more : (rects : List Rect) (k : ℕ) (d : Rect) (q : Square) → k < length rects → covers (take (k + 1) rects) q ≡ (covers (take k rects) q || has (slice_index_or rects k d) q)
 covers_more rects k d q lt =
-    ap (λ l. covers l q) (take_more rects k d lt) ∙ covers_append (take k rects) (slice_index_or rects k d ∷ []) q ∙ ap (λ c. covers (take k rects) q || c) (or_none (has (slice_index_or rects k d) q))
+    ap (λ l. covers l q) (take_more rects k d lt) ∙ covers_append (take k rects) (slice_index_or rects k d ∷ []) q ∙ ap (λ c. covers (take k rects) q || c) (or_false (has (slice_index_or rects k d) q))
 
 -- one more rectangle
 pub covers_next : (old new : Bool) (rects : List Rect) (k : ℕ) (d : Rect) (q : Square) (start w here : Bool) → k < length rects → old ≡ (start || (covers (take k rects) q && w)) → here ≡ has (slice_index_or rects k d) q

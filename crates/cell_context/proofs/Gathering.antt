@@ -1,5 +1,6 @@
 -- What is gathered through visits.
-use Rattle.std.proofs.Common.{◌≡◌, ◌↔◌, inl, inr, ℕ, zero, suc, pos, ◌<◌, ◌^◌, List, [], ◌∷◌, Option, Some, None, Bool, true, false, ◌&&◌, ◌||◌, slice_index_or, length, map, refl, sym, ◌∙◌, ap, subst, arith}
+use Rattle.std.proofs.Common.{◌≡◌, ◌↔◌, inl, inr, ℕ, zero, suc, pos, ◌<◌, ◌^◌, List, [], ◌∷◌, Option, Some, None, true, ◌&&◌, ◌||◌, slice_index_or, length, map, refl, sym, ◌∙◌, ap, subst, arith}
+use Rattle.std.proofs.lemmas.Bool.{and_parts, and_from, or_cases, or_left, or_right}
 use Rattle.std.specs.List.{All}
 use Rattle.geo_base.specs.Near.{IsNearMotion, IsNearRect}
 use Rattle.geo_base.specs.Motions.{moved_square}
@@ -15,14 +16,14 @@ use Rattle.flat_layout.specs.Arrays.{place_at}
 use Rattle.flat_layout.specs.Layout as flat
 use Rattle.flat_layout.specs.Layout.{Some_of, IsOwn, InFlatInput, Takes}
 use Rattle.cell_graph.specs.Linked.{Linked, IsSound, IsRectWithin, cell_at, hull_of, places_at, own_of, height_at, plain, reference}
-use Rattle.cell_graph.proofs.Bridge.{own, hulls, step_of, placed_of, lower, or_split, or_left, or_right}
+use Rattle.cell_graph.proofs.Bridge.{own, hulls, step_of, placed_of, lower}
 use Rattle.cell_graph.proofs.Elements.{number_of}
 use Rattle.cell_graph.proofs.Growing.{grown_none}
 use Rattle.cell_context.specs.declared.arrays.Visit.{Visit}
 use Rattle.cell_context.specs.Visits.{IsVisited}
 use Rattle.cell_context.specs.Over.{IsOver, OverLaw, IsVisit, AreVisited, IsPiece}
-use Rattle.cell_context.proofs.Visiting.{near_motion, near_rect, wider_rect, within_inside, and_both}
-use Rattle.cell_context.proofs.Collecting.{near_array, and_right}
+use Rattle.cell_context.proofs.Visiting.{near_motion, near_rect, wider_rect, within_inside}
+use Rattle.cell_context.proofs.Collecting.{near_array}
 
 to_flat : (d : Linked) (cell : ℕ) (key : LayerKey) (q : Square) → IsSound d → IsOver d cell None key q → InFlatInput (plain d) cell key q
 to_flat d cell key q sound (inl e) = record { path = []; end = cell; square = q; takes = (refl, refl); own = (own d sound cell key q).1 e }
@@ -82,10 +83,6 @@ AreRight d cell skip key w rs = (q : Square) → covers rs q ≡ true → (has w
 abbrev pub Adds : List Rect → List Rect → List Rect → Motion → Rect → Type 0
 Adds old new below m w = (s : Square) → covers new (moved_square m s) ≡ (covers old (moved_square m s) || (covers below s && has w (moved_square m s)))
 
-and_left : (a b : Bool) → (a && b) ≡ true → a ≡ true
-and_left true b e = refl
-and_left false b e = e
-
 pub right_more : (d : Linked) (cell : ℕ) (skip : Option ℕ) (key : LayerKey) (w : Rect) (old new below : List Rect) (v : Visit) → IsSound d → IsVisit 0 d cell skip w v
     → AreRight d cell skip key w old → IsExact d v.cell None key v.window below → Adds old new below v.motion w → AreRight d cell skip key w new
 right_more d cell skip key w old new below v sound h right exact adds q e =
@@ -93,12 +90,12 @@ right_more d cell skip key w old new below v sound h right exact adds q e =
     subst (λ x. (has w x ≡ true) × IsOver d cell skip key x) o.1 (at o.0 (subst (λ x. covers new x ≡ true) (sym o.1) e))
   where
     at : (s : Square) → covers new (moved_square v.motion s) ≡ true → (has w (moved_square v.motion s) ≡ true) × IsOver d cell skip key (moved_square v.motion s)
-    at s e = elim (or_split (covers old (moved_square v.motion s)) (covers below s && has w (moved_square v.motion s)) (sym (adds s) ∙ e)) [
+    at s e = elim (or_cases (covers old (moved_square v.motion s)) (covers below s && has w (moved_square v.motion s)) (sym (adds s) ∙ e)) [
       | inl f ↦ right (moved_square v.motion s) f
       | inr f ↦
-          let b = (exact s).0 (and_left (covers below s) (has w (moved_square v.motion s)) f) in
+          let b = (exact s).0 ((and_parts (covers below s) (has w (moved_square v.motion s)) f).0) in
           let there = (over_flat d sound v.cell key s).0 b.1 in (
-            and_right (covers below s) (has w (moved_square v.motion s)) f,
+            (and_parts (covers below s) (has w (moved_square v.motion s)) f).1,
             inr (record {
               index = h.index;
               row = h.row;
@@ -125,7 +122,7 @@ Brings d key w rs v = (r : Square) → has v.window r ≡ true → InFlatInput (
 
 pub brings_here : (d : Linked) (key : LayerKey) (w : Rect) (old new below : List Rect) (v : Visit) → IsSound d → IsExact d v.cell None key v.window below → Adds old new below v.motion w → Brings d key w new v
 brings_here d key w old new below v sound exact adds r h flat g =
-    adds r ∙ or_right (covers old (moved_square v.motion r)) (covers below r && has w (moved_square v.motion r)) (and_both (covers below r) (has w (moved_square v.motion r)) ((exact r).1 (h, (over_flat d sound v.cell key r).1 flat)) g)
+    adds r ∙ or_right (covers old (moved_square v.motion r)) (covers below r && has w (moved_square v.motion r)) (and_from (covers below r) (has w (moved_square v.motion r)) ((exact r).1 (h, (over_flat d sound v.cell key r).1 flat)) g)
 
 pub some_at : {A : Type 0} (P : A → Type 0) (xs : List A) (d : A) → Some_of P xs → (k : ℕ) × (k < length xs) × P (slice_index_or xs k d)
 some_at P [] d h = absurd h
@@ -157,8 +154,8 @@ pub start_right : (d : Linked) (cell : ℕ) (skip : Option ℕ) (key : LayerKey)
 start_right d cell skip key w old new rects none is h q e =
     let f : (covers [] q || (covers rects q && has w q)) ≡ true = ap (λ l. covers l q || (covers rects q && has w q)) (sym none) ∙ sym (h q) ∙ e in
     let g : (covers rects q && has w q) ≡ true = f in
-    (and_right (covers rects q) (has w q) g, inl (subst (λ l. covers l q ≡ true) is (and_left (covers rects q) (has w q) g)))
+    ((and_parts (covers rects q) (has w q) g).1, inl (subst (λ l. covers l q ≡ true) is ((and_parts (covers rects q) (has w q) g).0)))
 
 pub start_own : (d : Linked) (cell : ℕ) (key : LayerKey) (w : Rect) (old new rects : List Rect) → rects ≡ own_of (cell_at d cell) key → Starts old new rects w
     → (q : Square) → covers (own_of (cell_at d cell) key) q ≡ true → has w q ≡ true → covers new q ≡ true
-start_own d cell key w old new rects is h q e g = h q ∙ or_right (covers old q) (covers rects q && has w q) (and_both (covers rects q) (has w q) (subst (λ l. covers l q ≡ true) (sym is) e) g)
+start_own d cell key w old new rects is h q e g = h q ∙ or_right (covers old q) (covers rects q && has w q) (and_from (covers rects q) (has w q) (subst (λ l. covers l q ≡ true) (sym is) e) g)

@@ -1,5 +1,7 @@
 -- Which references and which own rectangles reach into a window.
 use Rattle.std.proofs.Common.{◌≡◌, inl, inr, ℕ, zero, suc, ℤ, pos, ◌-◌, ◌+◌, ◌<◌, ◌≤◌, ◌^◌, ◌+ℤ◌, ◌*ℤ◌, ◌≤ℤ◌, Bool, true, false, ◌&&◌, ◌||◌, List, [], ◌∷◌, Option, Some, None, map, take, length, get_or, slice_get, refl, sym, ◌∙◌, ap, subst, arith}
+use Rattle.base_laws.proofs.Tests.{or_assoc, same_truth, or_false}
+use Rattle.std.proofs.lemmas.Bool.{or_cases, or_left, or_right}
 use Rattle.std.specs.Int.{int_min, int_max}
 use Rattle.std.proofs.lemmas.Int.{ints, clamps}
 use Rattle.std.proofs.lemmas.List.{get_or_default, map_more, take_all}
@@ -21,13 +23,13 @@ use Rattle.cell_graph.specs.Arrays.{IsReach, AreOrigins, SomeOrigin, origin}
 use Rattle.cell_graph.specs.Grown.{grown}
 use Rattle.cell_graph.specs.Linked.{Linked, IsSound, IsStep, HullIsSound, HullHas, hull_of, cell_at, places_at, motion_at}
 use Rattle.cell_graph.specs.Spans.{IsSpan, IsPlaceIn, ArePlacesIn}
-use Rattle.cell_graph.proofs.Bridge.{reference_at, hull_sound, inside_has, or_split, or_left, or_right}
+use Rattle.cell_graph.proofs.Bridge.{reference_at, hull_sound, inside_has}
 use Rattle.cell_graph.proofs.Growing.{near_square, within_rect}
 use Rattle.cell_graph.proofs.Ranges.{last_reach, low_origin, high_origin, all_origins, min_one, max_one}
 use Rattle.cell_graph.proofs.Sweeping.{still, span_is}
 use Rattle.cell_context.specs.declared.arrays.Visit.{Visit}
 use Rattle.cell_context.specs.Over.{AreVisited, AreVisitedAt}
-use Rattle.cell_context.proofs.Collecting.{close_array, no_rect, or_assoc, or_and, covers_append}
+use Rattle.cell_context.proofs.Collecting.{close_array, no_rect, or_and, covers_append}
 use Rattle.cell_context.proofs.Visiting.{wider}
 
 -- ---- each reference has a span
@@ -127,14 +129,14 @@ at_covers (r ∷ rects) (suc k) d q lt e = or_right (has r q) (covers rects q) (
 -- a rectangle that covers, by its number
 pub covering : (rects : List Rect) (q : Square) → covers rects q ≡ true → (k : ℕ) × (r : Rect) × (slice_get rects k ≡ Some r) × (has r q ≡ true)
 covering [] q e = cc
-covering (r ∷ rects) q e = elim (or_split (has r q) (covers rects q) e) [
+covering (r ∷ rects) q e = elim (or_cases (has r q) (covers rects q) e) [
   | inl h ↦ (0, r, refl, h)
   | inr h ↦ (let t = covering rects q h in (suc t.0, t.1, t.2, t.3))
 ]
 
 chosen_covers : (rects : List Rect) (near : List ℕ) (q : Square) → ((k : ℕ) → k < length near → get_or near k 0 < length rects) → covers (chosen rects near) q ≡ true → covers rects q ≡ true
 chosen_covers rects [] q inside e = cc
-chosen_covers rects (i ∷ near) q inside e = elim (or_split (has (get_or rects i no_rect) q) (covers (chosen rects near) q) e) [
+chosen_covers rects (i ∷ near) q inside e = elim (or_cases (has (get_or rects i no_rect) q) (covers (chosen rects near) q) e) [
   | inl h ↦ at_covers rects i no_rect q (inside 0 (omega arith)) h
   | inr h ↦ chosen_covers rects near q (λ k lt. inside (suc k) (omega (arith, lt))) h
 ]
@@ -146,11 +148,6 @@ contains_covers rects (j ∷ near) i r q zero lt e there h =
 contains_covers rects (j ∷ near) i r q (suc k) lt e there h =
     or_right (has (get_or rects j no_rect) q) (covers (chosen rects near) q) (contains_covers rects near i r q k (omega (arith, lt)) e there h)
 
-same_bool : (a b : Bool) → (a ≡ true → b ≡ true) → (b ≡ true → a ≡ true) → a ≡ b
-same_bool true b f g = sym (f refl)
-same_bool false true f g = g refl
-same_bool false false f g = refl
-
 none_and : (b : Bool) → (b && false) ≡ false
 none_and true = refl
 none_and false = refl
@@ -161,21 +158,17 @@ chosen_same rects w near q are = by_test (has w q) refl
   where
     by_test : (b : Bool) → has w q ≡ b → (covers (chosen rects near) q && b) ≡ (covers rects q && b)
     by_test false e = none_and (covers (chosen rects near) q) ∙ sym (none_and (covers rects q))
-    by_test true e = ap (λ b. b && true) (same_bool (covers (chosen rects near) q) (covers rects q) (chosen_covers rects near q (λ k lt. own_inside rects w near k are lt)) (λ h.
+    by_test true e = ap (λ b. b && true) (same_truth (covers (chosen rects near) q) (covers rects q) (chosen_covers rects near q (λ k lt. own_inside rects w near k are lt)) (λ h.
         let c = covering rects q h in
         let t = (are.each c.0).1 (c.1, c.2, (q, c.3, e)) in
         contains_covers rects near c.0 c.1 q t.0 t.1 t.2 c.2 c.3))
-
-or_none : (b : Bool) → (b || false) ≡ b
-or_none true = refl
-or_none false = refl
 
 chosen_more : (rects : List Rect) (near : List ℕ) (k : ℕ) (q : Square) → k < length near
     → covers (chosen rects (take (k + 1) near)) q ≡ (covers (chosen rects (take k near)) q || has (get_or rects (get_or near k 0) no_rect) q)
 chosen_more rects near k q lt =
     let r = get_or rects (get_or near k 0) no_rect in
     ap (λ (l : List Rect). covers l q) (map_more (λ i. get_or rects i no_rect) near k 0 lt) ∙ covers_append (chosen rects (take k near)) (r ∷ []) q
-    ∙ ap (λ c. covers (chosen rects (take k near)) q || c) (or_none (has r q))
+    ∙ ap (λ c. covers (chosen rects (take k near)) q || c) (or_false (has r q))
 
 -- one more of them
 pub chosen_next : (old new : Bool) (rects : List Rect) (near : List ℕ) (k : ℕ) (q : Square) (start w here : Bool) → k < length near → old ≡ (start || (covers (chosen rects (take k near)) q && w))

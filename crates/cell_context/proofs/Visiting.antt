@@ -1,5 +1,6 @@
 -- Visits of elements.
-use Rattle.std.proofs.Common.{◌≡◌, inl, inr, ℕ, ℤ, pos, ◌+ℤ◌, ◌-ℤ◌, ◌*ℤ◌, ◌<ℤ◌, ◌≤ℤ◌, ◌<◌, ◌≤◌, ◌+◌, ◌^◌, List, [], ◌∷◌, ◌++◌, Bool, true, false, ◌&&◌, refl, sym, ◌∙◌, ap, subst, arith}
+use Rattle.std.proofs.Common.{◌≡◌, inl, inr, ℕ, ℤ, pos, ◌+ℤ◌, ◌-ℤ◌, ◌*ℤ◌, ◌<ℤ◌, ◌≤ℤ◌, ◌<◌, ◌≤◌, ◌+◌, ◌^◌, List, [], ◌∷◌, ◌++◌, true, false, ◌&&◌, refl, sym, ◌∙◌, ap, subst, arith}
+use Rattle.std.proofs.lemmas.Bool.{and_parts, and_from}
 use Rattle.std.proofs.lemmas.Int.{ints}
 use Rattle.std.proofs.Math.Decide.{ℕ_discrete}
 use Rattle.geo_base.specs.Near.{IsWithin, IsNear, IsNearMotion, IsNearRect}
@@ -59,17 +60,10 @@ inside_from a b some h =
     let p0 = p.0 in let p2 = p.2 in let q1 = q.1 in let q3 = q.3 in
     record { x1 = p0; y1 = p2; x2 = omega (arith, ints); y2 = omega (arith, ints) }
 
-and_left : (a b : Bool) → (a && b) ≡ true → a ≡ true
-and_left true b e = refl
-and_left false b e = e
-
-pub and_both : (a b : Bool) → a ≡ true → b ≡ true → (a && b) ≡ true
-and_both a b e f = ap (λ c. c && b) e ∙ f
-
 pub part_of_hull : (win hull w : Rect) (m : Motion) → IsFrame hull → IsRect win → ((q : Square) → has win q ≡ (has hull q && has w (moved_square m q))) → IsFrame win
 part_of_hull win hull w m h some has_is = record {
   some = some;
-  near = within_inside (2 ^ 37) win hull some (inside_from win hull some (λ q e. and_left (has hull q) (has w (moved_square m q)) (sym (has_is q) ∙ e))) h.near;
+  near = within_inside (2 ^ 37) win hull some (inside_from win hull some (λ q e. (and_parts (has hull q) (has w (moved_square m q)) (sym (has_is q) ∙ e)).0)) h.near;
 }
 
 -- what the moved hull and the window share, moved back
@@ -80,13 +74,13 @@ moved_back hull w at part win m back h p undone g q =
 
 pub found_met : (p : Place) (hull w win : Rect) (row column : ℕ) (m : Motion) (q : Square) → m ≡ motion_at p row column → ((q : Square) → has win q ≡ (has hull q && has w (moved_square m q))) → IsMet p hull w row column q → has win q ≡ true
 found_met p hull w win row column m q e h met =
-    h q ∙ and_both (has hull q) (has w (moved_square m q)) met.inner (ap (λ (n : Motion). has w (moved_square n q)) e ∙ met.outer)
+    h q ∙ and_from (has hull q) (has w (moved_square m q)) met.inner (ap (λ (n : Motion). has w (moved_square n q)) e ∙ met.outer)
 
 pub none_met : (p : Place) (hull w at : Rect) (row column : ℕ) (m : Motion) (q : Square) → m ≡ motion_at p row column → ((s : Square) → has at (moved_square m s) ≡ has hull s) → ((q : Square) → (has at q && has w q) ≡ false) → IsMet p hull w row column q → ⊥
 none_met p hull w at row column m q e h none met =
     let a : has at (moved_square m q) ≡ true = h q ∙ met.inner in
     let b : has w (moved_square m q) ≡ true = ap (λ (n : Motion). has w (moved_square n q)) e ∙ met.outer in
-    let c : false ≡ true = sym (none (moved_square m q)) ∙ and_both (has at (moved_square m q)) (has w (moved_square m q)) a b in
+    let c : false ≡ true = sym (none (moved_square m q)) ∙ and_from (has at (moved_square m q)) (has w (moved_square m q)) a b in
     let z : ⊥ = cc in z
 
 pub some_last : {A : Type 0} (P : A → Type 0) (xs : List A) (x : A) → P x → Some_of P (xs ++ x ∷ [])

@@ -1,8 +1,10 @@
 -- A design beside the plain layout that it stands for.
-use Rattle.std.proofs.Common.{◌≡◌, ◌⊎◌, inl, inr, ℕ, zero, suc, ◌<◌, List, [], ◌∷◌, Option, Some, None, Bool, true, false, ◌||◌, map, slice_get, length, refl, sym, ◌∙◌, ap, subst, arith, if◌then◌else◌}
+use Rattle.std.proofs.Common.{◌≡◌, ◌⊎◌, inl, inr, ℕ, zero, suc, ◌<◌, List, [], ◌∷◌, Option, Some, None, Bool, true, false, map, slice_get, length, refl, sym, ◌∙◌, ap, subst, arith, if◌then◌else◌}
+use Rattle.base_laws.proofs.Items.{map_from, map_to}
+use Rattle.std.proofs.lemmas.Bool.{or_cases, or_left, or_right}
 use Rattle.std.specs.List.{All}
 use Rattle.std.specs.Option.{option_map}
-use Rattle.std.proofs.lemmas.Option.{slice_get-map, slice_get_within}
+use Rattle.std.proofs.lemmas.Option.{slice_get_within}
 use Rattle.std.proofs.lemmas.List.Elements.{All-head, All-tail}
 use Rattle.std.proofs.lemmas.Int.{ints}
 use Rattle.geo_base.specs.Motions.{moved_square}
@@ -17,7 +19,7 @@ use Rattle.flat_layout.specs.Plane.{IsIn}
 use Rattle.flat_layout.specs.Arrays.{place_at, places_of}
 use Rattle.flat_layout.specs.Layout as flat
 use Rattle.plain_netlist.specs.Lists.{IsListed, AreApart}
-use Rattle.flat_layout.specs.Layout.{Some_of, IsOwn, IsPlaced, Takes, InFlatInput, IsHeight}
+use Rattle.flat_layout.specs.Layout.{Some_of, IsOwn, IsPlaced, Takes}
 use Rattle.cell_graph.specs.Linked.{Linked, IsSound, IsReference, IsInside, HoldsImage, HoldsRects, HullHas, HullIsSound, layer_keys, own_rects, own_of, cell_at, hull_of, places_at, height_at, height_of, plain, plain_cell, plain_layer, reference, motion_at, IsStep}
 use Rattle.geo_base.specs.Layers.{is_same_key}
 use Rattle.cell_graph.specs.Laws.{OwnLaw, HeightLaw, HullLaw}
@@ -29,12 +31,6 @@ use Rattle.cell_graph.proofs.Elements.{element_of, element_at, number_of}
 mapped_one : {A B : Type 0} (f : A → B) (o : Option A) (y : B) → option_map f o ≡ Some y → (x : A) × (o ≡ Some x) × (f x ≡ y)
 mapped_one f None y e = let g : None ≡ Some y = e in absurd (let h : ⊥ = cc in h)
 mapped_one f (Some x) y e = let g : Some (f x) ≡ Some y = e in (x, refl, (let h : f x ≡ y = cc in h))
-
-pub mapped : {A B : Type 0} (f : A → B) (xs : List A) (k : ℕ) (y : B) → slice_get (map f xs) k ≡ Some y → (x : A) × (slice_get xs k ≡ Some x) × (f x ≡ y)
-mapped f xs k y e = mapped_one f (slice_get xs k) y (sym (slice_get-map f xs k) ∙ e)
-
-pub maps : {A B : Type 0} (f : A → B) (xs : List A) (k : ℕ) (x : A) → slice_get xs k ≡ Some x → slice_get (map f xs) k ≡ Some (f x)
-maps f xs k x e = slice_get-map f xs k ∙ ap (option_map f) e
 
 pub all_at : {A : Type 0} (P : A → Type 0) (xs : List A) (k : ℕ) (x : A) → All P xs → slice_get xs k ≡ Some x → P x
 all_at P [] k x h e = let f : None ≡ Some x = e in absurd (let z : ⊥ = cc in z)
@@ -53,20 +49,9 @@ inside_has a b q h e = let i = has_in a q e in let x1 = h.x1 in let y1 = h.y1 in
     let i0 = i.0 in let i1 = i.1 in let i2 = i.2 in let i3 = i.3 in
     in_has b q ((omega (arith, ints)), (omega (arith, ints)), (omega (arith, ints)), (omega (arith, ints)))
 
-pub or_split : (a b : Bool) → (a || b) ≡ true → (a ≡ true) ⊎ (b ≡ true)
-or_split true b e = inl refl
-or_split false b e = inr e
-
-pub or_left : (a b : Bool) → a ≡ true → (a || b) ≡ true
-or_left a b e = ap (λ c. c || b) e
-
-pub or_right : (a b : Bool) → b ≡ true → (a || b) ≡ true
-or_right true b e = refl
-or_right false b e = e
-
 pub covers_some : (rects : List Rect) (q : Square) → covers rects q ≡ true → Some_of (IsIn q) rects
 covers_some [] q e = let f : false ≡ true = e in absurd (let z : ⊥ = cc in z)
-covers_some (r ∷ rects) q e = elim (or_split (has r q) (covers rects q) e) [ inl h ↦ inl (has_in r q h) | inr h ↦ inr (covers_some rects q h) ]
+covers_some (r ∷ rects) q e = elim (or_cases (has r q) (covers rects q) e) [ inl h ↦ inl (has_in r q h) | inr h ↦ inr (covers_some rects q h) ]
 
 pub some_covers : (rects : List Rect) (q : Square) → Some_of (IsIn q) rects → covers rects q ≡ true
 some_covers [] q h = absurd h
@@ -123,7 +108,7 @@ own_from (l ∷ layers) key q e = elim (key_is l.key key) [
 
 -- the part of a cell that the plain layout has
 pub part_of : (d : Linked) (cell : ℕ) (c : flat.Cell) → slice_get (plain d).cells cell ≡ Some c → (p : CellPart) × (cell_at d cell ≡ Some p) × (plain_cell p ≡ c)
-part_of d cell c e = mapped plain_cell d.cells cell c e
+part_of d cell c e = map_from plain_cell d.cells cell c e
 
 pub own : OwnLaw
 own d sound cell key q = (
@@ -136,7 +121,7 @@ own d sound cell key q = (
   where
     from : (o : Option CellPart) → cell_at d cell ≡ o → covers (own_of o key) q ≡ true → IsOwn (plain d) cell key q
     from None e f = let g : false ≡ true = f in absurd (let z : ⊥ = cc in z)
-    from (Some c) e f = (plain_cell c, maps plain_cell d.cells cell c e, own_from c.layers.items key q f)
+    from (Some c) e f = (plain_cell c, map_to plain_cell d.cells cell c e, own_from c.layers.items key q f)
 
 -- placements are elements of references
 pub record IsStepOf (d : Linked) (cell k : ℕ) (p : flat.Place) : Type 0 where
@@ -153,7 +138,7 @@ step_of d cell k p h =
     let m = part_of d cell h.0 h.1 in
     let places : slice_get (places_of (map reference m.0.places.items)) k ≡ Some p = subst (λ (c : flat.Cell). slice_get c.places k ≡ Some p) (sym m.2) h.2 in
     let e = element_of (map reference m.0.places.items) k p places in
-    let r = mapped reference m.0.places.items e.index e.reference e.there in
+    let r = map_from reference m.0.places.items e.index e.reference e.there in
     record {
       index = e.index;
       row = e.row;
@@ -176,8 +161,8 @@ placed_of d cell i row column p h = at (cell_at d cell) refl h.there
         → IsPlaced (plain d) cell (number_of (map reference (places_at (cell_at d cell))) i (reference p) row column) (place_at (reference p) row column)
     at None e f = let g : None ≡ Some p = f in absurd (let z : ⊥ = cc in z)
     at (Some c) e f =
-        let there = element_at (map reference c.places.items) i (reference p) row column (maps reference c.places.items i p f) h.row_in h.column_in in
-        subst (λ o. IsPlaced (plain d) cell (number_of (map reference (places_at o)) i (reference p) row column) (place_at (reference p) row column)) (sym e) (plain_cell c, maps plain_cell d.cells cell c e, there)
+        let there = element_at (map reference c.places.items) i (reference p) row column (map_to reference c.places.items i p f) h.row_in h.column_in in
+        subst (λ o. IsPlaced (plain d) cell (number_of (map reference (places_at o)) i (reference p) row column) (place_at (reference p) row column)) (sym e) (plain_cell c, map_to plain_cell d.cells cell c e, there)
 
 -- what the design promises of a reference
 pub reference_at : (d : Linked) (cell i : ℕ) (p : Place) → IsSound d → slice_get (places_at (cell_at d cell)) i ≡ Some p → (c : CellPart) × (cell_at d cell ≡ Some c) × IsReference d.cells c p
@@ -229,7 +214,7 @@ own_held hull (l ∷ layers) key q h e = elim (key_is l.key key) [
   where
     listed_held : (h : Rect) (rects : List Rect) (q : Square) → All (λ r. IsInside r h) rects → covers rects q ≡ true → has h q ≡ true
     listed_held h [] q a e = let f : false ≡ true = e in absurd (let z : ⊥ = cc in z)
-    listed_held h (r ∷ rects) q a e = elim (or_split (has r q) (covers rects q) e) [ inl f ↦ inside_has r h q (All-head (λ r. IsInside r h) r rects a) f | inr f ↦ listed_held h rects q (All-tail (λ r. IsInside r h) r rects a) f ]
+    listed_held h (r ∷ rects) q a e = elim (or_cases (has r q) (covers rects q) e) [ inl f ↦ inside_has r h q (All-head (λ r. IsInside r h) r rects a) f | inr f ↦ listed_held h rects q (All-tail (λ r. IsInside r h) r rects a) f ]
 
     rects_held : (hull : Option Rect) (rects : List Rect) (q : Square) → HoldsRects hull rects → covers rects q ≡ true → HullHas hull q
     rects_held None rects q a e = let f : false ≡ true = subst (λ l. covers l q ≡ true) a e in let z : ⊥ = cc in z

@@ -1,5 +1,6 @@
 -- Calls of numbers are references of cells.
-use Rattle.std.proofs.Common.{◌≡◌, ◌⊎◌, inl, inr, ℕ, zero, suc, ◌+◌, ◌<◌, ◌≤◌, List, [], ◌∷◌, ◌++◌, Some, None, length, map, take, set, slice_get, refl, sym, ◌∙◌, ap, subst, arith}
+use Rattle.std.proofs.Common.{◌≡◌, inl, inr, ℕ, zero, suc, ◌+◌, ◌<◌, ◌≤◌, List, [], ◌∷◌, ◌++◌, Some, None, length, map, take, set, slice_get, refl, sym, ◌∙◌, ap, subst, arith}
+use Rattle.std.proofs.lemmas.Bool.{cases_lt}
 use Rattle.std.proofs.Math.Decide.{ℕ_discrete}
 use Rattle.std.proofs.lemmas.Option.{slice_get_within}
 use Rattle.std.proofs.lemmas.List.{get_or-set_same, get_or-set_other, take_all}
@@ -149,14 +150,8 @@ all_settled parts order n hs o le h i j lt r =
     counted [] = refl
     counted (p ∷ parts) = ap suc (counted parts)
 
-order_of : (a b : ℕ) → (a < b) ⊎ (b ≤ a)
-order_of zero zero = inr (omega arith)
-order_of zero (suc b) = inl (omega arith)
-order_of (suc a) zero = inr (omega arith)
-order_of (suc a) (suc b) = elim (order_of a b) [ inl x ↦ inl (let f : suc a < suc b = omega arith in f) | inr x ↦ inr (let f : suc b ≤ suc a = omega arith in f) ]
-
 below : (n : ℕ) → (65 ≤ n → ⊥) → n < 65
-below n not = elim (order_of n 65) [ inl a ↦ a | inr b ↦ absurd (not b) ]
+below n not = elim (cases_lt n 65) [ inl a ↦ a | inr b ↦ absurd (not b) ]
 
 -- what the drafts tell by names
 pub draft_no_cycle : (cells : List CellDraft) (parts : List Part) → HasNoRepeat cells → AreParts cells parts → (order : List ℕ) → IsCallOrder (called parts) order → HasNoCycle cells

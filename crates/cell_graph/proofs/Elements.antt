@@ -1,15 +1,10 @@
 -- Placements of arrays by reference, row and column.
 use Rattle.std.proofs.Common.{◌≡◌, ◌⊎◌, inl, inr, ℕ, zero, suc, ◌+◌, ◌*◌, ◌<◌, List, [], ◌∷◌, ◌++◌, Some, None, slice_get, length, refl, sym, ◌∙◌, ap, subst, arith, length-append, ◌/◌}
+use Rattle.base_laws.proofs.Items.{get_left}
 use Rattle.std.proofs.Math.Nat.{mul-le-mul_right}
 use Rattle.std.proofs.lemmas.Nat.{div-mul-add}
 use Rattle.flat_layout.specs.Arrays.{Reference, place_at, row_places, array_places, places_of}
 use Rattle.flat_layout.specs.Layout as flat
-
--- an item of two lists, one behind the other
-pub in_first : {A : Type 0} (xs ys : List A) (k : ℕ) (x : A) → slice_get xs k ≡ Some x → slice_get (xs ++ ys) k ≡ Some x
-in_first [] ys k x e = let f : None ≡ Some x = e in absurd (let z : ⊥ = cc in z)
-in_first (y ∷ xs) ys zero x e = e
-in_first (y ∷ xs) ys (suc k) x e = in_first xs ys k x e
 
 pub in_second : {A : Type 0} (xs ys : List A) (k : ℕ) (x : A) → slice_get ys k ≡ Some x → slice_get (xs ++ ys) (length xs + k) ≡ Some x
 in_second [] ys k x e = subst (λ i. slice_get ys i ≡ Some x) (let f : k ≡ 0 + k = omega arith in f) e
@@ -80,7 +75,7 @@ pub array_at : (r : Reference) (row n i column : ℕ) → i < n → column < r.c
 array_at r row zero i column lt within = absurd (let z : ⊥ = omega arith in z)
 array_at r row (suc n) zero column lt within =
     let a = row_at r row 0 r.columns column within in
-    let b = in_first (row_places r row 0 r.columns) (array_places r (suc row) n) column _ a in
+    let b = get_left (row_places r row 0 r.columns) (array_places r (suc row) n) column _ a in
     let m = mul_zero r.columns in
     let k : column ≡ element_number r zero column = omega arith in
     let at : place_at r row (0 + column) ≡ place_at r (row + 0) column = ap (λ c. place_at r row c) (let g : 0 + column ≡ column = omega arith in g) ∙ ap (λ c. place_at r c column) (let g : row ≡ row + 0 = omega arith in g) in
@@ -138,7 +133,7 @@ element_at [] i r row column e a b = let f : None ≡ Some r = e in absurd (let 
 element_at (s ∷ rs) zero r row column e a b =
     let same : s ≡ r = cc in
     let at = array_at r 0 r.rows row column a b in
-    let f = in_first (array_places r 0 r.rows) (places_of rs) (element_number r row column) _ at in
+    let f = get_left (array_places r 0 r.rows) (places_of rs) (element_number r row column) _ at in
     let g : slice_get (places_of (r ∷ rs)) (0 + element_number r row column) ≡ Some (place_at r row column) = subst (λ j. slice_get (places_of (r ∷ rs)) j ≡ Some (place_at r row column)) (let h : element_number r row column ≡ 0 + element_number r row column = omega arith in h) (f ∙ ap (λ c. Some (place_at r c column)) (let h : 0 + row ≡ row = omega arith in h)) in
     subst (λ (t : Reference). slice_get (places_of (t ∷ rs)) (0 + element_number r row column) ≡ Some (place_at r row column)) (sym same) g
 element_at (s ∷ rs) (suc i) r row column e a b =

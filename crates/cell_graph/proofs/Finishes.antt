@@ -1,5 +1,6 @@
 -- Cells finished one by one.
 use Rattle.std.proofs.Common.{◌≡◌, inl, inr, ℕ, zero, suc, ◌+◌, ◌<◌, ◌≤◌, Bool, List, [], ◌∷◌, ◌++◌, Option, Some, None, length, set, slice_get, refl, sym, ◌∙◌, ap, subst, arith, length-append}
+use Rattle.base_laws.proofs.Items.{get_left, get_last}
 use Rattle.std.proofs.Math.Decide.{ℕ_discrete}
 use Rattle.std.proofs.lemmas.Option.{slice_get_within}
 use Rattle.std.proofs.lemmas.List.{length-set}
@@ -63,15 +64,6 @@ none_kept parts top order = record {
   rising = λ j k a b lt e f. (let g : None ≡ Some a = e in absurd (let z : ⊥ = cc in z));
 }
 
-at_front : {A : Type 0} (xs ys : List A) (k : ℕ) (x : A) → slice_get xs k ≡ Some x → slice_get (xs ++ ys) k ≡ Some x
-at_front [] ys k x e = let f : None ≡ Some x = e in absurd (let z : ⊥ = cc in z)
-at_front (y ∷ xs) ys zero x e = e
-at_front (y ∷ xs) ys (suc k) x e = at_front xs ys k x e
-
-at_last : {A : Type 0} (xs : List A) (x : A) → slice_get (xs ++ x ∷ []) (length xs) ≡ Some x
-at_last [] x = refl
-at_last (y ∷ xs) x = at_last xs x
-
 pub one_kept : (parts : List Part) (top : ℕ) (order : List ℕ) (n i : ℕ) (kept : List ℕ) → slice_get order n ≡ Some i → IsFromTop parts top i → AreReached parts top order n kept
     → AreReached parts top order (n + 1) (kept ++ i ∷ [])
 one_kept parts top order n i kept at from h = record {
@@ -79,8 +71,8 @@ one_kept parts top order n i kept at from h = record {
   all = λ k a lt e g. elim (ℕ_discrete k n) [
     | yes is ↦
         let same : i ≡ a = (let f : Some i ≡ Some a = sym at ∙ subst (λ k. slice_get order k ≡ Some a) is e in cc) in
-        (length kept, subst (λ a. slice_get (kept ++ i ∷ []) (length kept) ≡ Some a) same (at_last kept i))
-    | no not ↦ let r = h.all k a (let f : k < n = omega arith in f) e g in (r.0, at_front kept (i ∷ []) r.0 a r.1)
+        (length kept, subst (λ a. slice_get (kept ++ i ∷ []) (length kept) ≡ Some a) same (get_last kept i))
+    | no not ↦ let r = h.all k a (let f : k < n = omega arith in f) e g in (r.0, get_left kept (i ∷ []) r.0 a r.1)
   ];
   from = λ j a e. elim (last_split kept i a j e) [
     | inl f ↦ let r = h.from j a f in let lt = r.1 in (r.0, (let g : r.0 < n + 1 = omega arith in g), r.2)

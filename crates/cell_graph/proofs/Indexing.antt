@@ -1,5 +1,6 @@
 -- Spans of one reference after another, and indexes of one cell after another.
 use Rattle.std.proofs.Common.{◌≡◌, ◌⊎◌, inl, inr, ℕ, zero, suc, ◌+◌, ◌<◌, ◌≤◌, List, [], ◌∷◌, ◌++◌, Some, None, length, get_or, slice_get, slice_index, refl, sym, ◌∙◌, ap, subst, arith, length-append}
+use Rattle.base_laws.proofs.Items.{get_left}
 use Rattle.std.specs.List.Sorted.{IsStrictlyIncreasing}
 use Rattle.std.proofs.Math.Decide.{ℕ_discrete}
 use Rattle.std.proofs.lemmas.Option.{slice_get_within, slice_get-get_or, get_or_from_slice_get}
@@ -12,7 +13,7 @@ use Rattle.cell_graph.specs.Indexes.{AreSpansTo, AreSpans, IsIndexed, AreIndexed
 use Rattle.cell_graph.specs.Linked.{HullIsSound, IsReference, hull_of}
 use Rattle.cell_graph.specs.Spans.{IsSpanOr, HasSpan}
 use Rattle.cell_graph.proofs.Bridge.{all_at}
-use Rattle.cell_graph.proofs.Elements.{in_first, in_second, in_either}
+use Rattle.cell_graph.proofs.Elements.{in_second, in_either}
 
 -- a greater number behind rising ones
 at_index : (xs : List ℕ) (k : ℕ) → k < length xs → slice_get xs k ≡ Some (slice_index xs k)
@@ -25,7 +26,7 @@ pub rising_more : (xs : List ℕ) (n : ℕ) → IsStrictlyIncreasing xs → ((k 
 rising_more xs n rising low k lt =
     let count = length-append xs (n ∷ []) in
     let here : k < length xs = omega arith in
-    let a : slice_index (xs ++ n ∷ []) k ≡ slice_index xs k = index_at (xs ++ n ∷ []) k (slice_index xs k) (in_first xs (n ∷ []) k (slice_index xs k) (at_index xs k here)) in
+    let a : slice_index (xs ++ n ∷ []) k ≡ slice_index xs k = index_at (xs ++ n ∷ []) k (slice_index xs k) (get_left xs (n ∷ []) k (slice_index xs k) (at_index xs k here)) in
     elim (ℕ_discrete (k + 1) (length xs)) [
       | yes e ↦
           let b : slice_index (xs ++ n ∷ []) (k + 1) ≡ n = index_at (xs ++ n ∷ []) (k + 1) n (subst (λ i. slice_get (xs ++ n ∷ []) i ≡ Some n) (let f : length xs + 0 ≡ k + 1 = omega arith in f) (in_second xs (n ∷ []) 0 n refl)) in
@@ -33,7 +34,7 @@ rising_more xs n rising low k lt =
           (let f : slice_index (xs ++ n ∷ []) k < slice_index (xs ++ n ∷ []) (k + 1) = omega arith in f)
       | no e ↦
           let next : k + 1 < length xs = omega arith in
-          let b : slice_index (xs ++ n ∷ []) (k + 1) ≡ slice_index xs (k + 1) = index_at (xs ++ n ∷ []) (k + 1) (slice_index xs (k + 1)) (in_first xs (n ∷ []) (k + 1) (slice_index xs (k + 1)) (at_index xs (k + 1) next)) in
+          let b : slice_index (xs ++ n ∷ []) (k + 1) ≡ slice_index xs (k + 1) = index_at (xs ++ n ∷ []) (k + 1) (slice_index xs (k + 1)) (get_left xs (n ∷ []) (k + 1) (slice_index xs (k + 1)) (at_index xs (k + 1) next)) in
           let below = rising k next in
           (let f : slice_index (xs ++ n ∷ []) k < slice_index (xs ++ n ∷ []) (k + 1) = omega arith in f)
     ]
@@ -70,7 +71,7 @@ span_more cells places n numbers spans s here h = record {
   each = λ j k r at_j at_r. by j k r at_j at_r (in_either numbers (n ∷ []) j k at_j) (in_either spans (s ∷ []) j r at_r);
   all = λ k r lt has. elim (ℕ_discrete k n) [
     | yes e ↦ (length numbers + 0, subst (λ i. slice_get (numbers ++ n ∷ []) (length numbers + 0) ≡ Some i) (sym e) (in_second numbers (n ∷ []) 0 n refl))
-    | no e ↦ (let on = h.all k r (omega arith) has in (on.0, in_first numbers (n ∷ []) on.0 k on.1))
+    | no e ↦ (let on = h.all k r (omega arith) has in (on.0, get_left numbers (n ∷ []) on.0 k on.1))
   ];
   ascending = rising_more numbers n h.ascending (λ j k at_j. (
       let lt = slice_get_within numbers j k at_j in

@@ -1,5 +1,6 @@
 -- Names looked up, references resolved one by one.
 use Rattle.std.proofs.Common.{◌≡◌, ◌⊎◌, inl, inr, ℕ, zero, suc, ◌+◌, ◌<◌, ◌≤◌, List, [], ◌∷◌, ◌++◌, Some, None, Result, Ok, Err, IfOk, Bool, false, not, cond, length, length-append, slice_get, refl, sym, ◌∙◌, ap, subst, arith}
+use Rattle.std.proofs.lemmas.Bool.{cases_Bool}
 use Rattle.std.specs.List.{position_or_len}
 use Rattle.std.specs.Str.{bytes_eq}
 use Rattle.std.proofs.lemmas.Slice.Eq.{bytes_eq-Decides}
@@ -10,7 +11,6 @@ use Rattle.cell_graph.specs.declared.drafts.CellDraft.{CellDraft}
 use Rattle.cell_graph.specs.Parts.{Part, AreResolved}
 use Rattle.cell_graph.specs.Drafts.{names_of, IsNamed, IsMissing, IsLoose, IsFirstLoose, HasFew, HasNoLoose, IsResolved, AreAllResolved, AreParts}
 use Rattle.cell_graph.specs.Naming.{place_of, AreResolvedTo, ArePartsTo}
-use Rattle.cell_graph.proofs.Naming.{bool_is}
 use Rattle.cell_graph.proofs.Resolving.{at_too}
 
 abbrev pub place : List ℕ → List CellDraft → ℕ
@@ -21,7 +21,7 @@ first_place b n = cond (not b) (1 + n) 0
 
 pub place_named : (cells : List CellDraft) (name : List ℕ) → place name cells < length cells → IsNamed cells name (place name cells)
 place_named [] name lt = absurd (let z : ⊥ = omega arith in z)
-place_named (c ∷ cells) name lt = elim (bool_is (bytes_eq name c.name)) [
+place_named (c ∷ cells) name lt = elim (cases_Bool (bytes_eq name c.name)) [
   | inl e ↦ subst (λ b. IsNamed (c ∷ cells) name (first_place b (place name cells))) (sym e) (record { cell = c; there = refl; named = sym ((bytes_eq-Decides name c.name).0 e) })
   | inr e ↦
       let more : first_place false (place name cells) < suc (length cells) = subst (λ b. first_place b (place name cells) < suc (length cells)) e lt in
@@ -39,7 +39,7 @@ named_place (c ∷ cells) name zero h =
     subst (λ b. first_place b (place name cells) < suc (length cells)) (sym ((bytes_eq-Decides name c.name).1 named)) (omega arith)
 named_place (c ∷ cells) name (suc k) h =
     let r = named_place cells name k (record { cell = h.cell; there = h.there; named = h.named }) in
-    elim (bool_is (bytes_eq name c.name)) [
+    elim (cases_Bool (bytes_eq name c.name)) [
       | inl e ↦ subst (λ b. first_place b (place name cells) < suc (length cells)) (sym e) (omega arith)
       | inr e ↦ subst (λ b. first_place b (place name cells) < suc (length cells)) (sym e) (let f : 1 + place name cells < suc (length cells) = omega arith in f)
     ]

@@ -1,5 +1,6 @@
 -- Names without a repeat.
-use Rattle.std.proofs.Common.{◌≡◌, ◌⊎◌, inl, inr, ℕ, zero, suc, ◌+◌, ◌<◌, ◌≤◌, List, [], ◌∷◌, ◌++◌, Some, None, take, length, slice_get, refl, sym, ◌∙◌, ap, subst, arith, true, false, Bool, ◌||◌}
+use Rattle.std.proofs.Common.{◌≡◌, inl, inr, ℕ, zero, suc, ◌+◌, ◌<◌, ◌≤◌, List, [], ◌∷◌, ◌++◌, Some, None, take, length, slice_get, refl, sym, ◌∙◌, ap, subst, arith, true, false, ◌||◌}
+use Rattle.std.proofs.lemmas.Bool.{cases_Bool, or_right}
 use Rattle.std.proofs.Math.Decide.{ℕ_discrete}
 use Rattle.std.specs.List.{list_any}
 use Rattle.std.specs.Str.{bytes_eq}
@@ -13,24 +14,16 @@ pub record NamesSoFar (cells : List CellDraft) (n : ℕ) (names : List (List ℕ
   pub are : names ≡ names_of (take n cells)
   pub once : (i : ℕ) → i < n → IsRepeat cells i → ⊥
 
-pub bool_is : (b : Bool) → (b ≡ true) ⊎ (b ≡ false)
-bool_is true = inl refl
-bool_is false = inr refl
-
 -- a name that is among the first n names one of the first n cells, and back
 pub found_named : (cells : List CellDraft) (n : ℕ) (name : List ℕ) → list_any (bytes_eq name) (names_of (take n cells)) ≡ true → (i : ℕ) × (i < n) × IsNamed cells name i
 found_named cells zero name e = let f : false ≡ true = e in absurd (let z : ⊥ = cc in z)
 found_named [] (suc n) name e = let f : false ≡ true = e in absurd (let z : ⊥ = cc in z)
-found_named (c ∷ cells) (suc n) name e = elim (bool_is (bytes_eq name c.name)) [
+found_named (c ∷ cells) (suc n) name e = elim (cases_Bool (bytes_eq name c.name)) [
   | inl f ↦ (0, (let lt : 0 < suc n = omega arith in lt), record { cell = c; there = refl; named = sym ((bytes_eq-Decides name c.name).0 f) })
   | inr f ↦
       let h = found_named cells n name (subst (λ b. (b || list_any (bytes_eq name) (names_of (take n cells))) ≡ true) f e) in
       (suc h.0, (let lt : suc h.0 < suc n = (let below = h.1 in omega arith) in lt), record { cell = h.2.cell; there = h.2.there; named = h.2.named })
 ]
-
-or_right : (a b : Bool) → b ≡ true → (a || b) ≡ true
-or_right true b e = refl
-or_right false b e = e
 
 pub named_found : (cells : List CellDraft) (n : ℕ) (name : List ℕ) (i : ℕ) → i < n → IsNamed cells name i → list_any (bytes_eq name) (names_of (take n cells)) ≡ true
 named_found cells zero name i lt h = absurd (let z : ⊥ = omega arith in z)

@@ -1,5 +1,6 @@
 -- The hulls of finished cells are those of the plain layout that the design stands for.
 use Rattle.std.proofs.Common.{◌≡◌, ◌⊎◌, inl, inr, ℕ, zero, suc, ◌<◌, ℤ, pos, ◌+ℤ◌, ◌-ℤ◌, ◌≤ℤ◌, ◌<ℤ◌, List, [], ◌∷◌, Option, Some, None, map, slice_get, refl, sym, ◌∙◌, ap, subst, arith}
+use Rattle.base_laws.proofs.Items.{map_from, map_to, item_at}
 use Rattle.std.proofs.lemmas.Int.{ints}
 use Rattle.std.proofs.lemmas.Option.{slice_get_within}
 use Rattle.std.specs.Global.{Vec}
@@ -22,8 +23,8 @@ use Rattle.cell_graph.specs.declared.cells.OwnLayer.{OwnLayer}
 use Rattle.cell_graph.specs.declared.cells.RawText.{RawText}
 use Rattle.cell_graph.specs.declared.cells.Place.{Place}
 use Rattle.cell_graph.specs.declared.cells.CellPart.{CellPart}
-use Rattle.cell_graph.specs.Linked.{linked_of, plain, plain_cell, plain_layer, plain_text, reference, motion_at, cell_at, places_at, hull_of, IsSound, IsStep}
-use Rattle.cell_graph.proofs.Bridge.{all_at, mapped, maps, part_of, step_of, placed_of}
+use Rattle.cell_graph.specs.Linked.{linked_of, plain, plain_cell, plain_layer, plain_text, reference, motion_at, cell_at, places_at, hull_of, IsStep}
+use Rattle.cell_graph.proofs.Bridge.{all_at, part_of, step_of, placed_of}
 use Rattle.cell_graph.specs.declared.bounds.Bounds.{Bounds}
 use Rattle.cell_graph.specs.declared.drafts.CellDraft.{CellDraft}
 use Rattle.cell_graph.specs.Bounds.{range_of}
@@ -34,7 +35,7 @@ use Rattle.cell_graph.specs.Parts.{Part}
 use Rattle.cell_graph.specs.Sides.{Left, Low, Right, High, Holds, Widens}
 use Rattle.cell_graph.proofs.Extending.{low_of, high_of}
 use Rattle.cell_graph.proofs.Hulls.{some_among, among_some, element_from, element_to, image_held}
-use Rattle.cell_graph.proofs.Sound.{IsDone, MadeAt, made_at, up, corner_held, some_at}
+use Rattle.cell_graph.proofs.Sound.{IsDone, MadeAt, made_at, up, corner_held}
 use Rattle.cell_graph.proofs.Widening.{least_of}
 
 -- what stands between held corners is held
@@ -90,7 +91,7 @@ squares_held : (cells : List CellDraft) (i : ℕ) (c : CellDraft) (b : Option Bo
     → Some_of (λ (layer : flat.Layer). (layer.key ≡ key) × Some_of (IsIn q) layer.rects) (map plain_layer c.layers.items) → plane.IsCorner p q → Holds b p
 squares_held cells i c b key q p there least some corner =
     let o = some_among (λ (layer : flat.Layer). (layer.key ≡ key) × Some_of (IsIn q) layer.rects) (map plain_layer c.layers.items) some in
-    let l = mapped plain_layer c.layers.items o.0 o.1 o.2 in
+    let l = map_from plain_layer c.layers.items o.0 o.1 o.2 in
     let on = o.3 in
     let in_l : Some_of (IsIn q) l.0.set = subst (λ (x : flat.Layer). Some_of (IsIn q) x.rects) (sym l.2) on.1 in
     let r = some_among (IsIn q) l.0.set in_l in
@@ -104,7 +105,7 @@ texts_held : (cells : List CellDraft) (i : ℕ) (c : CellDraft) (b : Option Boun
     → Some_of (λ t. t ≡ text) (map plain_text c.texts.items) → text.at ≡ p → Holds b p
 texts_held cells i c b text p there least some at =
     let o = some_among (λ t. t ≡ text) (map plain_text c.texts.items) some in
-    let t = mapped plain_text c.texts.items o.0 o.1 o.2 in
+    let t = map_from plain_text c.texts.items o.0 o.1 o.2 in
     let is : t.0.at ≡ p = ap (λ (x : flat.Text). x.at) (t.2 ∙ o.3) ∙ at in
     least.holds p (0, inr (inl (c, there, among_some (λ (t : RawText). t.at ≡ p) c.texts.items o.0 t.0 t.1 is)))
 
@@ -134,7 +135,7 @@ finished_at cells parts hs order found top kept ds done i c e =
 draft_at : (cells : List CellDraft) (parts : List Part) (hs order : List ℕ) (found : List (Option Bounds)) (top : ℕ) (kept : List ℕ) (ds : List CellPart) → IsDone cells parts hs order found top kept ds
     → (i : ℕ) (c : CellDraft) → slice_get cells i ≡ Some c → Finished cells parts hs found ds i
 draft_at cells parts hs order found top kept ds done i c e =
-    let p = some_at ds i (subst (λ n. i < n) (sym done.made.count) (slice_get_within cells i c e)) in
+    let p = item_at ds i (subst (λ n. i < n) (sym done.made.count) (slice_get_within cells i c e)) in
     record { cell = p.0; at = p.1; made = made_at cells parts hs found ds done.are done.made i p.0 p.1 }
 
 element_in : (cells : List CellDraft) (parts : List Part) (hs : List ℕ) (found : List (Option Bounds)) (top : ℕ) (kept : List ℕ) (ds : List CellPart) (i : ℕ) (f : Finished cells parts hs found ds i)
@@ -160,7 +161,7 @@ own_held cells parts hs order found top kept ds done i p (inl (key, q, o, corner
     let m = f.made in
     let least = (done.bounds.each i (slice_get_within cells i m.draft m.there)).least in
     let c : flat.Cell = o.0 in
-    let e : plain_cell f.cell ≡ c = (let g : Some (plain_cell f.cell) ≡ Some c = sym (maps plain_cell ds i f.cell f.at) ∙ o.1 in cc) in
+    let e : plain_cell f.cell ≡ c = (let g : Some (plain_cell f.cell) ≡ Some c = sym (map_to plain_cell ds i f.cell f.at) ∙ o.1 in cc) in
     let some = subst (λ (c : flat.Cell). Some_of (λ (layer : flat.Layer). (layer.key ≡ key) × Some_of (IsIn q) layer.rects) c.layers) (sym e) o.2 in
     let in_draft = subst (λ (ls : Vec OwnLayer). Some_of (λ (layer : flat.Layer). (layer.key ≡ key) × Some_of (IsIn q) layer.rects) (map plain_layer ls.items)) m.is.layers_are some in
     squares_held cells i m.draft (found_at found i) key q p m.there least in_draft corner
@@ -169,7 +170,7 @@ own_held cells parts hs order found top kept ds done i p (inr (inl (text, o, at)
     let m = f.made in
     let least = (done.bounds.each i (slice_get_within cells i m.draft m.there)).least in
     let c : flat.Cell = o.0 in
-    let e : plain_cell f.cell ≡ c = (let g : Some (plain_cell f.cell) ≡ Some c = sym (maps plain_cell ds i f.cell f.at) ∙ o.1 in cc) in
+    let e : plain_cell f.cell ≡ c = (let g : Some (plain_cell f.cell) ≡ Some c = sym (map_to plain_cell ds i f.cell f.at) ∙ o.1 in cc) in
     let some = subst (λ (c : flat.Cell). Some_of (λ t. t ≡ text) c.texts) (sym e) o.2 in
     let in_draft = subst (λ (ts : Vec RawText). Some_of (λ t. t ≡ text) (map plain_text ts.items)) m.is.texts_are some in
     texts_held cells i m.draft (found_at found i) text p m.there least in_draft at
@@ -246,9 +247,9 @@ corner_point cells parts hs order found top kept ds done i p f some =
     let y = square_at r.1.y1 r.1.y2 p.y rect.high corner.1 in
     let q : Square = record { x = x.0; y = y.0 } in
     let at_l : slice_get f.cell.layers.items o.0 ≡ Some l = subst (λ (ls : Vec OwnLayer). slice_get ls.items o.0 ≡ Some l) (sym m.is.layers_are) o.2 in
-    let on = among_some (λ (layer : flat.Layer). (layer.key ≡ l.key) × Some_of (IsIn q) layer.rects) (map plain_layer f.cell.layers.items) o.0 (plain_layer l) (maps plain_layer f.cell.layers.items o.0 l at_l)
+    let on = among_some (λ (layer : flat.Layer). (layer.key ≡ l.key) × Some_of (IsIn q) layer.rects) (map plain_layer f.cell.layers.items) o.0 (plain_layer l) (map_to plain_layer f.cell.layers.items o.0 l at_l)
     (refl, among_some (IsIn q) l.set r.0 r.1 r.2 (x.1, x.2, y.1, y.2)) in
-    inl (l.key, q, (plain_cell f.cell, maps plain_cell ds i f.cell f.at, on), record { x = x.3; y = y.3 })
+    inl (l.key, q, (plain_cell f.cell, map_to plain_cell ds i f.cell f.at, on), record { x = x.3; y = y.3 })
 
 own_point : (cells : List CellDraft) (parts : List Part) (hs order : List ℕ) (found : List (Option Bounds)) (top : ℕ) (kept : List ℕ) (ds : List CellPart) → IsDone cells parts hs order found top kept ds
     → (i : ℕ) (p : Point) → IsOwnPoint cells i p → plain_hull.IsOwnPoint (plain (linked_of ds top kept)) i p
@@ -262,8 +263,8 @@ own_point cells parts hs order found top kept ds done i p (inr (inl (c, there, s
     let same : c ≡ m.draft = (let g : Some c ≡ Some m.draft = sym there ∙ m.there in cc) in
     let o = some_among (λ (t : RawText). t.at ≡ p) m.draft.texts.items (subst (λ (c : CellDraft). Some_of (λ (t : RawText). t.at ≡ p) c.texts.items) same some) in
     let at_t : slice_get f.cell.texts.items o.0 ≡ Some o.1 = subst (λ (ts : Vec RawText). slice_get ts.items o.0 ≡ Some o.1) (sym m.is.texts_are) o.2 in
-    let on = among_some (λ t. t ≡ plain_text o.1) (map plain_text f.cell.texts.items) o.0 (plain_text o.1) (maps plain_text f.cell.texts.items o.0 o.1 at_t) refl in
-    inr (inl (plain_text o.1, (plain_cell f.cell, maps plain_cell ds i f.cell f.at, on), o.3))
+    let on = among_some (λ t. t ≡ plain_text o.1) (map plain_text f.cell.texts.items) o.0 (plain_text o.1) (map_to plain_text f.cell.texts.items o.0 o.1 at_t) refl in
+    inr (inl (plain_text o.1, (plain_cell f.cell, map_to plain_cell ds i f.cell f.at, on), o.3))
 own_point cells parts hs order found top kept ds done i p (inr (inr (m, j, e, origin))) =
     let pl = placement_of cells parts hs order found top kept ds done i m j e in
     inr (inr (pl.number, pl.place, pl.placed, ap (λ (m : Motion). m.dx) pl.motion ∙ sym origin.0, ap (λ (m : Motion). m.dy) pl.motion ∙ sym origin.1))

@@ -1,8 +1,7 @@
 -- Squares of a cell seen from a cell below it.
-use Rattle.std.proofs.Common.{◌≡◌, ◌<◌, ◌^◌, ◌+◌, ◌≤ℤ◌, ◌+ℤ◌, ◌-ℤ◌, ℕ, ℤ, pos, List, [], ◌∷◌, Option, Some, None, refl, sym, subst, true, arith}
+use Rattle.std.proofs.Common.{◌≡◌, ◌^◌, ◌+◌, ◌≤ℤ◌, ◌+ℤ◌, ◌-ℤ◌, ℕ, ℤ, pos, List, [], ◌∷◌, Option, Some, None, refl, sym, subst, true, arith}
 use Rattle.std.proofs.lemmas.Int.{ints}
 use Rattle.geo_base.specs.Motions.{moved_point, moved_square}
-use Rattle.geo_base.specs.Near.{IsWithin}
 use Rattle.geo_base.specs.Rects.{has}
 use Rattle.geo_base.specs.declared.motion.Motion.{Motion}
 use Rattle.geo_base.specs.declared.motion.Turn.{Turn}
@@ -12,7 +11,7 @@ use Rattle.geo_base.specs.declared.shapes.Rect.{Rect}
 use Rattle.geo_base.specs.declared.shapes.Square.{Square}
 use Rattle.flat_layout.specs.Hull.{TakesPoint}
 use Rattle.flat_layout.specs.Layout.{Design, Takes}
-use Rattle.cell_graph.specs.Linked.{Linked, IsHull, IsPointWithin, IsSound, HullHas, HullIsSound, cell_at, hull_of, origin, plain}
+use Rattle.cell_graph.specs.Linked.{IsHull, IsPointWithin, HullHas, HullIsSound, cell_at, hull_of, origin, plain}
 use Rattle.cell_graph.specs.Laws.{SeenLaw}
 use Rattle.cell_graph.proofs.Bridge.{has_in, hull_sound}
 

@@ -1,5 +1,6 @@
 -- The finished cells and their order make a sound design: what the drafts name.
 use Rattle.std.proofs.Common.{◌≡◌, ◌⊎◌, inl, inr, ℕ, zero, suc, ◌<◌, ◌≤◌, ◌^◌, ℤ, ◌≤ℤ◌, List, [], ◌∷◌, Option, Some, None, length, get_or, slice_get, slice_index, refl, sym, ◌∙◌, ap, subst, arith}
+use Rattle.base_laws.proofs.Items.{item_at}
 use Rattle.std.specs.List.{All}
 use Rattle.std.proofs.lemmas.Int.{ints, clamps}
 use Rattle.std.proofs.lemmas.Option.{slice_get_within, slice_get-get_or}
@@ -162,11 +163,6 @@ hull_exact Q (Some b) None least is =
     inr (range_of b, least_of Q b least, elim is [ inl f ↦ inl (flat_side b.x1 b.x2 o.0 f) | inr f ↦ inr (flat_side b.y1 b.y2 o.1 f) ])
 hull_exact Q (Some b) (Some r) least is = subst (IsLeastRange Q) (sym is.0) (least_of Q b least)
 
-pub some_at : {A : Type 0} (xs : List A) (k : ℕ) → k < length xs → (x : A) × (slice_get xs k ≡ Some x)
-some_at [] k lt = absurd (let z : ⊥ = omega arith in z)
-some_at (x ∷ xs) zero lt = (x, refl)
-some_at (x ∷ xs) (suc k) lt = some_at xs k (let f : k < length xs = omega arith in f)
-
 -- one reference of a finished cell
 reference_sound : (cells : List CellDraft) (parts : List Part) (hs order : List ℕ) (found : List (Option Bounds)) (top : ℕ) (kept : List ℕ) (ds : List CellPart) → IsDone cells parts hs order found top kept ds
     → (i : ℕ) (p : CellPart) → MadeAt cells parts hs found i p → (k : ℕ) (pl : Place) → slice_get p.places.items k ≡ Some pl → IsReference ds p pl
@@ -177,7 +173,7 @@ reference_sound cells parts hs order found top kept ds done i p m k pl at =
     let r = part_refers cells i m.draft places k pl m.there all in_part in
     let in_i = slice_get_within cells i m.draft m.there in
     let in_j = slice_get_within cells pl.cell r.names.cell r.names.there in
-    let q = some_at ds pl.cell (subst (λ n. pl.cell < n) (sym done.made.count) in_j) in
+    let q = item_at ds pl.cell (subst (λ n. pl.cell < n) (sym done.made.count) in_j) in
     let n = made_at cells parts hs found ds done.are done.made pl.cell q.0 q.1 in
     let lower = refers_lower cells hs done.heights i pl.cell r in
     let hp = m.is.height_is in
@@ -242,7 +238,7 @@ level_sound cells parts hs order found top kept ds done i p m = by (height_in hs
         let long = (done.heights.each k in_k).longest n (j, l) in
         let h : height_in hs k ≡ n = omega (arith, down, long, e) in
         let q = refers_places cells parts done.sound.once done.are i k r in
-        let o = some_at ds k (subst (λ n. k < n) (sym done.made.count) in_k) in
+        let o = item_at ds k (subst (λ n. k < n) (sym done.made.count) in_k) in
         let below = made_at cells parts hs found ds done.are done.made k o.0 o.1 in
         let same : q.part ≡ m.part = (let f : Some q.part ≡ Some m.part = sym q.there ∙ m.part_there in cc) in
         inr (record {
@@ -315,7 +311,7 @@ path_from cells parts hs order found top kept ds done (k ∷ path) i j (p, place
 height_here : (cells : List CellDraft) (parts : List Part) (hs : List ℕ) (found : List (Option Bounds)) (top : ℕ) (kept : List ℕ) (ds : List CellPart) → AreParts cells parts → AreMade cells parts found hs ds
     → (i : ℕ) → i < length cells → height_at (linked_of ds top kept) i ≡ height_in hs i
 height_here cells parts hs found top kept ds are made i lt =
-    let p = some_at ds i (subst (λ n. i < n) (sym made.count) lt) in
+    let p = item_at ds i (subst (λ n. i < n) (sym made.count) lt) in
     let m = made_at cells parts hs found ds are made i p.0 p.1 in
     ap height_of p.1 ∙ m.is.height_is
 

@@ -1,5 +1,6 @@
 -- What a window finds by the indexes of a cell.
 use Rattle.std.proofs.Common.{◌≡◌, ℕ, zero, suc, ◌+◌, ◌<◌, List, [], Some, None, length, map, get_or, slice_get, slice_index, sym, ◌∙◌, ap, subst, arith}
+use Rattle.base_laws.proofs.Items.{map_from, map_to, item_at}
 use Rattle.std.specs.Prelude.{Contains}
 use Rattle.std.specs.List.Sorted.{IsStrictlyIncreasing}
 use Rattle.std.specs.List.{All}
@@ -13,8 +14,6 @@ use Rattle.cell_graph.specs.declared.indexes.CellIndex.{CellIndex}
 use Rattle.cell_graph.specs.Indexes.{AreSpans, IsIndexed, AreIndexed}
 use Rattle.cell_graph.specs.Linked.{Linked, cell_at, places_at, hull_of}
 use Rattle.cell_graph.specs.Spans.{IsSpan, HasSpan, IsPlaceIn, ArePlacesIn}
-use Rattle.cell_graph.proofs.Bridge.{mapped, maps}
-use Rattle.cell_graph.proofs.Sound.{some_at}
 use Rattle.cell_graph.proofs.Sweeping.{one_span}
 
 contains_at : {A : Type 0} (xs : List A) (x : A) → Contains xs x → (k : ℕ) × (slice_get xs k ≡ Some x)
@@ -56,7 +55,7 @@ rises_between xs h a b lt within =
 mapped_index : (numbers found : List ℕ) (k : ℕ) → k < length found → slice_index (map (slice_index numbers) found) k ≡ slice_index numbers (slice_index found k)
 mapped_index numbers found k lt =
     get_or_from_slice_get (map (slice_index numbers) found) k (slice_index numbers (slice_index found k)) 0
-    (maps (slice_index numbers) found k (slice_index found k) (slice_get-get_or found k 0 lt))
+    (map_to (slice_index numbers) found k (slice_index found k) (slice_get-get_or found k 0 lt))
 
 rising_mapped : (numbers found : List ℕ) → IsStrictlyIncreasing numbers → IsStrictlyIncreasing found → ((k j : ℕ) → slice_get found k ≡ Some j → j < length numbers)
     → IsStrictlyIncreasing (map (slice_index numbers) found)
@@ -96,7 +95,7 @@ places_found d cell w numbers spans found h g = record {
     to : (k : ℕ) → Contains (map (slice_index numbers) found) k → IsPlaceIn d cell w k
     to k has =
         let at = contains_at (map (slice_index numbers) found) k has in
-        let j = mapped (slice_index numbers) found at.0 k at.1 in
+        let j = map_from (slice_index numbers) found at.0 k at.1 in
         let is = (g.each j.0).0 (at_contains found j.0 at.0 j.1) in
         let within = positions_inside spans w found (length numbers) h.count g at.0 j.0 j.1 in
         let number : slice_get numbers j.0 ≡ Some k = slice_get-get_or numbers j.0 0 within ∙ ap Some j.2 in
@@ -111,7 +110,7 @@ places_found d cell w numbers spans found h g = record {
         let same : r ≡ s = span_same d.cells (places_at (cell_at d cell)) k r s has (h.each on.0 k s on.1 at_s).1 in
         let is : IsFound spans w on.0 = (s, at_s, subst (λ q. ShareSquare q w) same shares) in
         let at = contains_at found on.0 ((g.each on.0).1 is) in
-        at_contains (map (slice_index numbers) found) k at.0 (maps (slice_index numbers) found at.0 on.0 at.1 ∙ ap Some (get_or_from_slice_get numbers on.0 k 0 on.1))
+        at_contains (map (slice_index numbers) found) k at.0 (map_to (slice_index numbers) found at.0 on.0 at.1 ∙ ap Some (get_or_from_slice_get numbers on.0 k 0 on.1))
 
 -- the indexes of a design's cell
 pub index_here : (cells : List CellPart) (indexes : List CellIndex) → AreIndexed cells indexes → (i : ℕ) → i < length cells → (part : CellPart) (x : CellIndex)
@@ -126,7 +125,7 @@ index_here cells indexes h i lt part x is_part is_x =
 pub index_at_cell : (cells : List CellPart) (indexes : List CellIndex) → AreIndexed cells indexes → (i : ℕ) → i < length cells → (x : CellIndex) → x ≡ get_or indexes i x
     → AreSpans cells (places_at (slice_get cells i)) x.spanned.items x.spans
 index_at_cell cells indexes h i lt x is_x =
-    let c = some_at cells i lt in
+    let c = item_at cells i lt in
     let in_indexes : i < length indexes = subst (λ n. i < n) (sym h.count) lt in
     let at_x : slice_get indexes i ≡ Some x = slice_get-get_or indexes i x in_indexes ∙ ap Some (sym is_x) in
     subst (λ o. AreSpans cells (places_at o) x.spanned.items x.spans) (sym c.1) (h.each i c.0 x c.1 at_x).spans

@@ -1,5 +1,5 @@
 -- The transistors of good gates, one after the other.
-use Rattle.std.proofs.Common.{◌≡◌, ℕ, zero, suc, ◌+◌, ◌<◌, List, [], ◌∷◌, ◌++◌, append_assoc, Some, flat_map, map, take, slice_get, get_or, length, refl, sym, ◌∙◌, ap, subst, arith}
+use Rattle.std.proofs.Common.{◌≡◌, ℕ, zero, suc, ◌+◌, ◌<◌, List, [], ◌∷◌, ◌++◌, append_assoc, Some, flat_map, map, take, slice_get, get_or, length, refl, sym, ◌∙◌, ap, subst}
 use Rattle.std.proofs.Math.Seq.{take-length}
 use Rattle.std.proofs.lemmas.Grind.{flat_map-append}
 use Rattle.std.proofs.lemmas.List.{map-append, take_more}
@@ -20,12 +20,6 @@ use Rattle.circuit_phase.proofs.Series.{numbered_on}
 pub all_kept : (old new : List ℕ) (a b c d : ℕ) → new ≡ with_net (with_net (with_net (with_net old a) b) c) d → AreKept old new
 all_kept old new a b c d is i x h =
     kept_in (with_net (with_net (with_net old a) b) c) new d i x is (kept (with_net (with_net old a) b) c i x (kept (with_net old a) b i x (kept old a i x h)))
-
--- a list has an item at each place
-pub some_at : {A : Type 0} (xs : List A) (n : ℕ) → n < length xs → (x : A) × (slice_get xs n ≡ Some x)
-some_at [] n lt = absurd (let z : ⊥ = omega (arith, lt) in z)
-some_at (x ∷ xs) zero lt = (x, refl)
-some_at (x ∷ xs) (suc n) lt = some_at xs n (omega (arith, lt))
 
 pub good_added : (rules : List Rule) (unit : ℕ) (e : GateEntry) (row : GateRow) (old new : List ℕ) (before after : List DeviceRow) (dev : DeviceRow) → e.verdict ≡ Good row → AreKept old new → after ≡ before ++ dev ∷ []
     → IsDeviceOfGate rules unit new (record { at = e.at; row = row }) dev → AreNumbered (length new) (length old) (terminal_nets dev) → AddDevices rules unit (e ∷ []) old new before after

@@ -1,5 +1,6 @@
 -- The circuit of a cell from its pins, its transistors and its calls.
 use Rattle.std.proofs.Common.{◌≡◌, inl, inr, ℕ, ◌<◌, Bool, true, List, [], ◌++◌, Some, flat_map, slice_get, length, sym, ◌∙◌, ap, subst, arith}
+use Rattle.base_laws.proofs.Items.{item_at}
 use Rattle.std.proofs.lemmas.Option.{same_Some, slice_get_within}
 use Rattle.flat_layout.specs.Circuits.{AreCircuitDevices, AreDrawn, IsDrawnBelow, drawn_names, drawn_nets, pin_nets}
 use Rattle.flat_layout.specs.Gates.{Rule}
@@ -9,7 +10,7 @@ use Rattle.flat_layout.specs.Nets.{CellNets, Child}
 use Rattle.flat_layout.specs.Pins.{CellPins, HasGate, IsNetOf}
 use Rattle.flat_layout.specs.Regions.{Wiring}
 use Rattle.geo_base.specs.declared.shapes.Rect.{Rect}
-use Rattle.plain_netlist.proofs.Members.{either_side, from_all, item_at, listed, position}
+use Rattle.plain_netlist.proofs.Members.{either_side, from_all, listed, position}
 use Rattle.plain_netlist.specs.Lists.{AreApart, IsListed}
 use Rattle.plain_netlist.specs.Netlist.{Bulk, CallRow, Circuit, DeviceRow, Drain, Gate, Pole, Source, on}
 use Rattle.plain_netlist.specs.Normal.{AreNumbered, appearances, terminal_nets}

@@ -1,5 +1,6 @@
 -- Where the nets of placed cells stand among the items of a cell, and their calls, one by one.
 use Rattle.std.proofs.Common.{◌≡◌, ◌⊎◌, inl, inr, ℕ, zero, suc, ◌+◌, ◌<◌, ◌≤◌, Bool, true, false, drop, List, [], ◌∷◌, ◌++◌, append_assoc, Some, map, flat_map, slice_get, get_or, length, refl, sym, ◌∙◌, ap, subst, arith}
+use Rattle.base_laws.proofs.Items.{item_at, map_to, map_from}
 use Rattle.std.proofs.Math.Decide.{ℕ_discrete}
 use Rattle.std.proofs.lemmas.Grind.{flat_map-append}
 use Rattle.std.proofs.lemmas.List.{append-nil, drop_more, length-map}
@@ -16,7 +17,7 @@ use Rattle.flat_layout.specs.Regions.{Wiring}
 use Rattle.geo_base.specs.declared.shapes.Rect.{Rect}
 use Rattle.net_link_laws.proofs.Standing.{child_place, items_long, nets_under, owned_long}
 use Rattle.net_link_laws.specs.Places.{nets_before, owned_before, places_of}
-use Rattle.plain_netlist.proofs.Members.{either_side, from_map, in_left, in_right, item_at, listed, map_at}
+use Rattle.plain_netlist.proofs.Members.{either_side, in_left, in_right, listed}
 use Rattle.plain_netlist.specs.Lists.{AreRising, IsListed}
 use Rattle.plain_netlist.specs.Netlist.{CallRow}
 use Rattle.plain_netlist.specs.Normal.{AreNumbered}
@@ -44,7 +45,7 @@ own_step raw i n d lt own h =
     let items = map plain_item raw in
     let item = plain_item (get_or raw i d) in
     let rest = drop (i + 1) items in
-    let at : get_or items i item ≡ item = get_or_from_slice_get items i item item (map_at plain_item raw i (get_or raw i d) (slice_get-get_or raw i d lt)) in
+    let at : get_or items i item ≡ item = get_or_from_slice_get items i item item (map_to plain_item raw i (get_or raw i d) (slice_get-get_or raw i d lt)) in
     let long = length-map raw plain_item in
     let split : drop i items ≡ item ∷ rest = drop_more items i item (omega (arith, lt, long)) ∙ ap (λ (x : Item). x ∷ rest) at in
     let e = ap own_count split ∙ own_more item rest (sym own) in
@@ -55,7 +56,7 @@ own_stop raw i n d lt own h =
     let items = map plain_item raw in
     let item = plain_item (get_or raw i d) in
     let rest = drop (i + 1) items in
-    let at : get_or items i item ≡ item = get_or_from_slice_get items i item item (map_at plain_item raw i (get_or raw i d) (slice_get-get_or raw i d lt)) in
+    let at : get_or items i item ≡ item = get_or_from_slice_get items i item item (map_to plain_item raw i (get_or raw i d) (slice_get-get_or raw i d lt)) in
     let long = length-map raw plain_item in
     let split : drop i items ≡ item ∷ rest = drop_more items i item (omega (arith, lt, long)) ∙ ap (λ (x : Item). x ∷ rest) at in
     let e = ap own_count split ∙ own_last item rest (sym own) in
@@ -142,7 +143,7 @@ inside d w nets cell v (own, are) k p placed =
 pub place_of : (d : Design) (cell k : ℕ) → k < length (placed_cells d cell) → (p : Place) × IsPlaced d cell k p × (get_or (placed_cells d cell) k 0 ≡ p.cell)
 place_of d cell k lt =
     let at = item_at (placed_cells d cell) k lt in
-    let m = from_map (λ (p : Place). p.cell) (places_of d cell) k at.0 at.1 in
+    let m = map_from (λ (p : Place). p.cell) (places_of d cell) k at.0 at.1 in
     (m.0, placed_at d cell k m.0 m.1, get_or_from_slice_get (placed_cells d cell) k at.0 0 at.1 ∙ sym m.2)
 
 pub child_of : (d : Design) (cell : ℕ) (cells : List ℕ) (k : ℕ) → cells ≡ placed_cells d cell → k < length cells → (p : Place) × IsPlaced d cell k p × (get_or cells k 0 ≡ p.cell)
@@ -224,7 +225,7 @@ nets_inside nets places out start count is inside low i lt =
     let f : ℕ → ℕ = λ b. get_or nets (start + b) 0 in
     let long : length out ≡ length places = ap (λ (m : List ℕ). length m) is ∙ length-map places f in
     let less : i < length places = omega (arith, lt, long) in
-    let at = map_at f places i (get_or places i 0) (slice_get-get_or places i 0 less) in
+    let at = map_to f places i (get_or places i 0) (slice_get-get_or places i 0 less) in
     let same : get_or out i 0 ≡ f (get_or places i 0) = ap (λ (m : List ℕ). get_or m i 0) is ∙ get_or_from_slice_get (map f places) i (f (get_or places i 0)) 0 at in
     subst (λ n. n < count) (sym same) (low (start + get_or places i 0) (inside i less))
 
@@ -245,7 +246,7 @@ module _ (d : Design) (w : Wiring) (nets : ℕ → CellNets) (pins : ℕ → Cel
         let end = inside d w nets cell v are n p placed in
         let has : slice_get v.net_of (start + inner) ≡ Some (f inner) = slice_get-get_or v.net_of (start + inner) 0 (omega (arith, end, lt)) in
         let net : IsNetOf v (Child n inner) (f inner) = (start + inner, record { listed = item; numbered = has }) in
-        (f inner, h.nets.each i (f inner) outer (map_at f (pin_nets (pins p.cell) (drawn p.cell)) i inner at) there, subst (λ u. IsNetOf u (Child n inner) (f inner)) (sym same) net);
+        (f inner, h.nets.each i (f inner) outer (map_to f (pin_nets (pins p.cell) (drawn p.cell)) i inner at) there, subst (λ u. IsNetOf u (Child n inner) (f inner)) (sym same) net);
   }
     where
       start : ℕ

@@ -1,5 +1,6 @@
 -- A circuit that was made over what was read is the cell's over all drawn nets that are right below.
 use Rattle.std.proofs.Common.{◌≡◌, ◌⊎◌, inl, inr, ℕ, zero, suc, ◌<◌, Bool, true, List, [], ◌∷◌, Some, slice_get, length, refl, sym, subst, arith}
+use Rattle.base_laws.proofs.Items.{item_at}
 use Rattle.std.proofs.lemmas.Option.{slice_get_within}
 use Rattle.flat_layout.specs.Circuits.{AreCircuitDevices, AreCircuitNets, AreCircuitPins, AreDrawn, CircuitParts, IsCircuitOf, IsDrawn, IsDrawnBelow, cell_circuit_names, pin_nets}
 use Rattle.flat_layout.specs.Gates.{Rule}
@@ -9,7 +10,7 @@ use Rattle.flat_layout.specs.Nets.{AreNets, CellNets, Child, IsUnder, Item, Tabl
 use Rattle.flat_layout.specs.Pins.{CellPins, HasGate, IsNetOf}
 use Rattle.flat_layout.specs.Regions.{Wiring}
 use Rattle.geo_base.specs.declared.shapes.Rect.{Rect}
-use Rattle.plain_netlist.proofs.Members.{item_at, listed, position}
+use Rattle.plain_netlist.proofs.Members.{listed, position}
 use Rattle.plain_netlist.specs.Lists.{IsListed}
 use Rattle.plain_netlist.specs.Netlist.{Circuit, on}
 use Rattle.circuit_phase.specs.Made.{IsMadeOf}

@@ -1,37 +1,22 @@
 -- Nets numbered one by one.
-use Rattle.std.proofs.Common.{◌≡◌, ◌⊎◌, inl, inr, ℕ, zero, suc, ◌<◌, ◌==◌, ◌||◌, Bool, true, false, List, [], ◌∷◌, ◌++◌, Option, Some, None, slice_get, slice_set, length, refl, sym, ◌∙◌, ap, subst, arith}
+use Rattle.std.proofs.Common.{◌≡◌, ◌⊎◌, inl, inr, ℕ, zero, suc, ◌<◌, ◌==◌, Bool, true, false, List, [], ◌∷◌, ◌++◌, Option, Some, None, slice_get, slice_set, length, refl, sym, ◌∙◌, ap, subst, arith}
 use Rattle.std.specs.Prelude.{if◌then◌else◌}
 use Rattle.std.proofs.Math.Decide.{ℕ_discrete}
-use Rattle.std.proofs.lemmas.Bool.{eq-eqb, eqb-true}
-use Rattle.std.proofs.lemmas.Option.{same_Some, slice_get_within}
+use Rattle.std.proofs.lemmas.Bool.{eq-eqb, eqb-true, cases_Bool, or_cases, or_right, or_left, false≢true}
+use Rattle.std.proofs.lemmas.Option.{same_Some, slice_get_within, none-some}
 use Rattle.plain_netlist.proofs.Members.{position}
 use Rattle.plain_netlist.specs.Lists.{AreApart}
 use Rattle.circuit_phase.specs.Numbered.{AreNumbers}
 use Rattle.circuit_phase.specs.Numbering.{has_net, with_net}
-use Rattle.net_marks.proofs.Terminals.{left, right}
-
-clash : false ≡ true → ⊥
-clash e = let z : ⊥ = cc in z
-
-nothing : {A : Type 0} → (a : A) → None ≡ Some a → ⊥
-nothing a e = let z : ⊥ = cc in z
-
-truth : (b : Bool) → (b ≡ true) ⊎ (b ≡ false)
-truth true = inl refl
-truth false = inr refl
-
-either : (a b : Bool) → (a || b) ≡ true → (a ≡ true) ⊎ (b ≡ true)
-either true b h = inl refl
-either false b h = inr h
 
 found : (nets : List ℕ) (x i : ℕ) → slice_get nets i ≡ Some x → has_net nets x ≡ true
-found [] x i h = absurd (nothing x h)
-found (y ∷ nets) x zero h = left (y == x) (has_net nets x) (eq-eqb y x (same_Some y x h))
-found (y ∷ nets) x (suc i) h = right (y == x) (has_net nets x) (found nets x i h)
+found [] x i h = absurd (none-some x h)
+found (y ∷ nets) x zero h = or_left (y == x) (has_net nets x) (eq-eqb y x (same_Some y x h))
+found (y ∷ nets) x (suc i) h = or_right (y == x) (has_net nets x) (found nets x i h)
 
 place : (nets : List ℕ) (x : ℕ) → has_net nets x ≡ true → (i : ℕ) × (slice_get nets i ≡ Some x)
-place [] x h = absurd (clash h)
-place (y ∷ nets) x h = elim (either (y == x) (has_net nets x) h) [
+place [] x h = absurd (false≢true h)
+place (y ∷ nets) x h = elim (or_cases (y == x) (has_net nets x) h) [
   | inl e ↦ (0, ap (λ (z : ℕ). Some z) (eqb-true y x e))
   | inr e ↦ let r = place nets x e in (suc r.0, r.1)
 ]
@@ -41,13 +26,13 @@ last_at [] x = refl
 last_at (y ∷ nets) x = last_at nets x
 
 first_at : (nets : List ℕ) (x i y : ℕ) → slice_get nets i ≡ Some y → slice_get (nets ++ x ∷ []) i ≡ Some y
-first_at [] x i y h = absurd (nothing y h)
+first_at [] x i y h = absurd (none-some y h)
 first_at (z ∷ nets) x zero y h = h
 first_at (z ∷ nets) x (suc i) y h = first_at nets x i y h
 
 pub at_first : (nets : List ℕ) (x i y : ℕ) → slice_get (nets ++ x ∷ []) i ≡ Some y → (slice_get nets i ≡ Some y) ⊎ ((i ≡ length nets) × (x ≡ y))
 at_first [] x zero y h = inr (refl, same_Some x y h)
-at_first [] x (suc i) y h = absurd (nothing y h)
+at_first [] x (suc i) y h = absurd (none-some y h)
 at_first (z ∷ nets) x zero y h = inl h
 at_first (z ∷ nets) x (suc i) y h = elim (at_first nets x i y h) [
   | inl e ↦ inl e
@@ -70,8 +55,8 @@ pub with_old : (numbers : List (Option ℕ)) (nets : List ℕ) (x n : ℕ) → A
 with_old numbers nets x n are h = sym (ap (λ (b : Bool). if b then nets else nets ++ x ∷ []) (found nets x n (are.stands x n h)))
 
 no_number : (numbers : List (Option ℕ)) (nets : List ℕ) (x : ℕ) → AreNumbers numbers nets → slice_get numbers x ≡ Some None → has_net nets x ≡ false
-no_number numbers nets x are h = elim (truth (has_net nets x)) [
-  | inl e ↦ let r = place nets x e in absurd (nothing r.0 (same_Some None (Some r.0) (sym h ∙ are.has x r.0 r.1)))
+no_number numbers nets x are h = elim (cases_Bool (has_net nets x)) [
+  | inl e ↦ let r = place nets x e in absurd (none-some r.0 (same_Some None (Some r.0) (sym h ∙ are.has x r.0 r.1)))
   | inr e ↦ e
 ]
 
@@ -93,7 +78,7 @@ numbered_more numbers nets x n are h e = record {
   has = λ y i g. elim (at_first nets x i y g) [
     | inl l ↦
         let old = are.has y i l in
-        let not : y ≡ x → ⊥ = λ f. nothing i (same_Some None (Some i) (sym h ∙ sym (ap (λ (k : ℕ). slice_get numbers k) f) ∙ old)) in
+        let not : y ≡ x → ⊥ = λ f. none-some i (same_Some None (Some i) (sym h ∙ sym (ap (λ (k : ℕ). slice_get numbers k) f) ∙ old)) in
         set_other numbers x (Some n) y not ∙ old
     | inr r ↦
         let same : n ≡ i = e ∙ sym r.0 in
@@ -114,7 +99,7 @@ numbers_apart numbers nets are = once nets (λ i j x h g. same_Some i j (same_So
 
 -- a numbered net keeps its number
 pub kept : (nets : List ℕ) (x i y : ℕ) → slice_get nets i ≡ Some y → slice_get (with_net nets x) i ≡ Some y
-kept nets x i y h = elim (truth (has_net nets x)) [
+kept nets x i y h = elim (cases_Bool (has_net nets x)) [
   | inl e ↦ subst (λ (b : Bool). slice_get (if b then nets else nets ++ x ∷ []) i ≡ Some y) (sym e) h
   | inr e ↦ subst (λ (b : Bool). slice_get (if b then nets else nets ++ x ∷ []) i ≡ Some y) (sym e) (first_at nets x i y h)
 ]

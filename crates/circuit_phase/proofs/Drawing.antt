@@ -2,7 +2,7 @@
 use Rattle.std.proofs.Common.{◌≡◌, ◌⊎◌, inl, inr, ℕ, zero, suc, ◌<◌, ◌==◌, ◌&&◌, ◌||◌, Bool, true, false, List, [], ◌∷◌, Some, map, slice_get, get_or, take, drop, ◌++◌, length, refl, sym, ◌∙◌, ap, subst, arith}
 use Rattle.std.specs.Prelude.{replicate}
 use Rattle.std.proofs.Math.Seq.{take-append_seam}
-use Rattle.std.proofs.lemmas.Bool.{eq-eqb, eqb-true}
+use Rattle.std.proofs.lemmas.Bool.{eq-eqb, eqb-true, or_cases, and_parts, or_right, or_left, false≢true}
 use Rattle.std.proofs.lemmas.Option.{same_Some, slice_get_within, get_or_from_slice_get}
 use Rattle.flat_layout.specs.Circuits.{AreDrawn, IsDrawnBelow}
 use Rattle.flat_layout.specs.GateTables.{GateEntry}
@@ -14,21 +14,6 @@ use Rattle.flat_laws.proofs.Items.{items_sound}
 use Rattle.net_marks.specs.Marks.{has_terminal}
 use Rattle.circuit_phase.specs.Placed.{AreReadable, is_child_marked, is_drawn_pin, is_marked_by, placed_cells}
 use Rattle.net_marks.proofs.Poles.{gate_of, of_gate}
-use Rattle.net_marks.proofs.Terminals.{left, right}
-
-clash : false ≡ true → ⊥
-clash e = let z : ⊥ = cc in z
-
-either : (a b : Bool) → (a || b) ≡ true → (a ≡ true) ⊎ (b ≡ true)
-either true b h = inl refl
-either false b h = inr h
-
-each : (a b : Bool) → (a && b) ≡ true → (a ≡ true) × (b ≡ true)
-each true b h = (refl, h)
-each false b h = absurd (clash h)
-
-eqb : (x y : ℕ) → (x == y) ≡ true → x ≡ y
-eqb x y h = eqb-true x y h
 
 -- drawn pins
 
@@ -40,10 +25,10 @@ pub record IsMarkAt (test : Item → Bool) (items : List Item) (nets : List ℕ)
   pub is : test item ≡ true
 
 mark_at : (test : Item → Bool) (items : List Item) (nets : List ℕ) (x : ℕ) → is_marked_by test items nets x ≡ true → IsMarkAt test items nets x
-mark_at test [] nets x h = absurd (clash h)
-mark_at test (i ∷ items) [] x h = absurd (clash h)
-mark_at test (i ∷ items) (n ∷ nets) x h = elim (either (test i && (x == n)) (is_marked_by test items nets x) h) [
-  | inl e ↦ let b = each (test i) (x == n) e in record { index = 0; item = i; listed = refl; numbered = ap (λ (m : ℕ). Some m) (sym (eqb x n b.1)); is = b.0 }
+mark_at test [] nets x h = absurd (false≢true h)
+mark_at test (i ∷ items) [] x h = absurd (false≢true h)
+mark_at test (i ∷ items) (n ∷ nets) x h = elim (or_cases (test i && (x == n)) (is_marked_by test items nets x) h) [
+  | inl e ↦ let b = and_parts (test i) (x == n) e in record { index = 0; item = i; listed = refl; numbered = ap (λ (m : ℕ). Some m) (sym (eqb-true x n b.1)); is = b.0 }
   | inr e ↦ let r = mark_at test items nets x e in record { index = suc r.index; item = r.item; listed = r.listed; numbered = r.numbered; is = r.is }
 ]
 
@@ -53,11 +38,11 @@ at_mark test (j ∷ items) [] x i item h g is = let z : ⊥ = cc in absurd z
 at_mark test (j ∷ items) (n ∷ nets) x zero item h g is =
     let e : j ≡ item = cc in
     let f : x ≡ n = cc in
-    left (test j && (x == n)) (is_marked_by test items nets x) (ap (λ (b : Bool). b && (x == n)) (ap test e ∙ is) ∙ eq-eqb x n f)
-at_mark test (j ∷ items) (n ∷ nets) x (suc i) item h g is = right (test j && (x == n)) (is_marked_by test items nets x) (at_mark test items nets x i item h g is)
+    or_left (test j && (x == n)) (is_marked_by test items nets x) (ap (λ (b : Bool). b && (x == n)) (ap test e ∙ is) ∙ eq-eqb x n f)
+at_mark test (j ∷ items) (n ∷ nets) x (suc i) item h g is = or_right (test j && (x == n)) (is_marked_by test items nets x) (at_mark test items nets x i item h g is)
 
 truth : (l : List Bool) (i : ℕ) → get_or l i false ≡ true → slice_get l i ≡ Some true
-truth [] i h = absurd (clash h)
+truth [] i h = absurd (false≢true h)
 truth (b ∷ l) zero h = ap (λ (c : Bool). Some c) h
 truth (b ∷ l) (suc i) h = truth l i h
 
@@ -69,10 +54,10 @@ pub record IsChildMark (pins : ℕ → CellPins) (drawn : ℕ → List Bool) (ce
   pub drawn_there : get_or (drawn (get_or cells number 0)) net false ≡ true
 
 child_mark : (pins : ℕ → CellPins) (drawn : ℕ → List Bool) (cells : List ℕ) (item : Item) → is_child_marked pins drawn cells item ≡ true → IsChildMark pins drawn cells item
-child_mark pins drawn cells (Own c r) h = absurd (clash h)
-child_mark pins drawn cells (Global g) h = absurd (clash h)
+child_mark pins drawn cells (Own c r) h = absurd (false≢true h)
+child_mark pins drawn cells (Global g) h = absurd (false≢true h)
 child_mark pins drawn cells (Child k b) h =
-    let e = each (get_or (pins (get_or cells k 0)).pins b false) (get_or (drawn (get_or cells k 0)) b false) h in
+    let e = and_parts (get_or (pins (get_or cells k 0)).pins b false) (get_or (drawn (get_or cells k 0)) b false) h in
     record { number = k; net = b; is = refl; pin = e.0; drawn_there = e.1 }
 
 cell_at : (ps : List Place) (k : ℕ) (p : Place) → slice_get ps k ≡ Some p → get_or (map (λ (q : Place). q.cell) ps) k 0 ≡ p.cell
@@ -89,7 +74,7 @@ pub drawn_of : (d : Design) (w : Wiring) (s t : Tables) (l : List GateEntry) (pi
     → ((x : ℕ) → get_or marks x false ≡ (is_marked_by (is_child_marked pins drawn cells) v.items v.net_of x || (has_terminal x l || false))) → AreDrawn d t (λ c. l) pins drawn cell marks
 drawn_of d w s t l pins drawn cell v cells marks same nets are long marked = record {
   count = long ∙ sym (ap (λ (n : CellNets). n.count) same);
-  each = λ x lt. ((λ h. there x (sym (marked x) ∙ get_or_from_slice_get marks x true false h)), (λ h. truth marks x (marked x ∙ back x h)));
+  and_parts = λ x lt. ((λ h. there x (sym (marked x) ∙ get_or_from_slice_get marks x true false h)), (λ h. truth marks x (marked x ∙ back x h)));
 }
   where
     test : Item → Bool
@@ -112,16 +97,16 @@ drawn_of d w s t l pins drawn cell v cells marks same nets are long marked = rec
         }
 
     there : (x : ℕ) → (is_marked_by test v.items v.net_of x || (has_terminal x l || false)) ≡ true → HasGate (λ c. l) cell x ⊎ IsDrawnBelow d t pins drawn cell x
-    there x h = elim (either (is_marked_by test v.items v.net_of x) (has_terminal x l || false) h) [
+    there x h = elim (or_cases (is_marked_by test v.items v.net_of x) (has_terminal x l || false) h) [
       | inl e ↦ inr (below x (mark_at test v.items v.net_of x e))
-      | inr e ↦ elim (either (has_terminal x l) false e) [
+      | inr e ↦ elim (or_cases (has_terminal x l) false e) [
         | inl f ↦ inl (gate_of x l f)
-        | inr f ↦ absurd (clash f)
+        | inr f ↦ absurd (false≢true f)
       ]
     ]
 
     back : (x : ℕ) → HasGate (λ c. l) cell x ⊎ IsDrawnBelow d t pins drawn cell x → (is_marked_by test v.items v.net_of x || (has_terminal x l || false)) ≡ true
-    back x (inl g) = right (is_marked_by test v.items v.net_of x) (has_terminal x l || false) (left (has_terminal x l) false (of_gate x l g))
+    back x (inl g) = or_right (is_marked_by test v.items v.net_of x) (has_terminal x l || false) (or_left (has_terminal x l) false (of_gate x l g))
     back x (inr b) =
         let i = b.is_of.0 in
         let listed = subst (λ (n : CellNets). slice_get n.items i ≡ Some (Child b.number b.net)) same b.is_of.1.listed in
@@ -130,16 +115,11 @@ drawn_of d w s t l pins drawn cell v cells marks same nets are long marked = rec
         let pin = get_or_from_slice_get (pins b.place.cell).pins b.net true false b.is_pin in
         let dr = get_or_from_slice_get (drawn b.place.cell) b.net true false b.is_drawn in
         let is : test (Child b.number b.net) ≡ true = ap (λ (e : ℕ). is_drawn_pin pins drawn e b.net) at ∙ ap (λ (c : Bool). c && get_or (drawn b.place.cell) b.net false) pin ∙ dr in
-        left (is_marked_by test v.items v.net_of x) (has_terminal x l || false) (at_mark test v.items v.net_of x i (Child b.number b.net) listed numbered is)
+        or_left (is_marked_by test v.items v.net_of x) (has_terminal x l || false) (at_mark test v.items v.net_of x i (Child b.number b.net) listed numbered is)
 
 -- what is written through a slice of all marks is all of them
 pub written : (n : ℕ) (xs ys : List Bool) → length xs ≡ n → take n (xs ++ drop (length xs) ys) ≡ xs
 written n xs ys e = subst (λ (k : ℕ). take k (xs ++ drop (length xs) ys) ≡ xs) e (take-append_seam xs (drop (length xs) ys))
-
-pub all_false : (n x : ℕ) → get_or (replicate n false) x false ≡ false
-all_false zero x = refl
-all_false (suc n) zero = refl
-all_false (suc n) (suc x) = all_false n x
 
 pub false_long : (n : ℕ) → length (replicate n false) ≡ n
 false_long zero = refl

@@ -1,5 +1,6 @@
 -- Names with endings, one by one.
-use Rattle.std.proofs.Common.{◌≡◌, ℕ, zero, suc, ◌+◌, ◌<◌, Bool, true, false, ◌==◌, ◌&&◌, ◌||◌, ◌⊎◌, inl, inr, List, [], ◌∷◌, ◌++◌, append_assoc, append-nil, get_or, length, drop, refl, sym, ◌∙◌, ap, subst, arith}
+use Rattle.std.proofs.Common.{◌≡◌, ℕ, zero, suc, ◌+◌, ◌<◌, Bool, true, false, ◌==◌, ◌&&◌, ◌||◌, inl, inr, List, [], ◌∷◌, ◌++◌, append_assoc, append-nil, get_or, length, drop, refl, sym, ◌∙◌, ap, subst, arith}
+use Rattle.std.proofs.lemmas.Bool.{cases_Bool}
 use Rattle.std.specs.Prelude.{bytes_eq, if◌then◌else◌, Option}
 use Rattle.std.specs.Borrow.{Bor}
 use Rattle.std.proofs.Math.Bool.{or_comm}
@@ -29,10 +30,6 @@ two_end [] (suc i) h = refl
 two_end (a ∷ s) zero h = absurd (omega arith)
 two_end (a ∷ s) (suc i) h = two_end s i (omega arith)
 
-either : (b : Bool) → (b ≡ true) ⊎ (b ≡ false)
-either true = inl refl
-either false = inr refl
-
 -- two lists of the same texts
 abbrev pub HaveSame : List (List ℕ) → List (List ℕ) → Type 0
 HaveSame e f = (s : List ℕ) → is_used s e ≡ is_used s f
@@ -54,7 +51,7 @@ same_apart needs ending asks e f k (b ∷ bs) h =
     ∙ ap (λ (l : List (List ℕ)). (if needs f b then b ++ ending k else b) ∷ l) (same_apart needs ending asks (b ∷ e) (b ∷ f) (suc k) bs (λ s. ap (λ (t : Bool). bytes_eq s b || t) (h s)))
 
 used_again : (e : List (List ℕ)) (b : List ℕ) → has_text e b ≡ true → (s : List ℕ) → is_used s (b ∷ e) ≡ is_used s e
-used_again e b h s = elim (either (bytes_eq s b)) [
+used_again e b h s = elim (cases_Bool (bytes_eq s b)) [
   | inl same ↦ let is : s ≡ b = (bytes_eq-Decides s b).0 same in ap (λ (t : Bool). t || is_used s e) same ∙ sym (ap (λ (t : List ℕ). is_used t e) is ∙ h)
   | inr not ↦ ap (λ (t : Bool). t || is_used s e) not
 ]
@@ -63,7 +60,7 @@ used_last : (e : List (List ℕ)) (b s : List ℕ) → is_used s (b ∷ e) ≡ i
 used_last e b s = or_comm (bytes_eq s b) (is_used s e) ∙ ap (λ (t : Bool). is_used s e || t) (or_comm false (bytes_eq s b)) ∙ sym (list_any-append (bytes_eq s) e (b ∷ []))
 
 pub with_same : (e : List (List ℕ)) (b : List ℕ) → HaveSame (b ∷ e) (with_text e b)
-with_same e b s = elim (either (has_text e b)) [
+with_same e b s = elim (cases_Bool (has_text e b)) [
   | inl has ↦ used_again e b has s ∙ sym (ap (λ (t : Bool). is_used s (if t then e else e ++ b ∷ [])) has)
   | inr not ↦ used_last e b s ∙ sym (ap (λ (t : Bool). is_used s (if t then e else e ++ b ∷ [])) not)
 ]

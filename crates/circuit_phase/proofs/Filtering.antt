@@ -2,17 +2,13 @@
 use Rattle.std.proofs.Common.{◌≡◌, ◌⊎◌, ◌↔◌, inl, inr, ℕ, ◌==◌, Bool, true, false, List, [], ◌∷◌, take, get_or, length, refl, sym, ◌∙◌, ap, subst}
 use Rattle.std.specs.List.{filter}
 use Rattle.std.proofs.Math.Seq.{take-length}
-use Rattle.std.proofs.lemmas.Bool.{eq-eqb, eqb-true}
-use Rattle.cell_graph.proofs.Bridge.{or_left, or_right, or_split}
+use Rattle.std.proofs.lemmas.Bool.{eq-eqb, eqb-true, or_cases, or_left, or_right, false≢true}
 use Rattle.flat_layout.specs.Circuits.{AreCircuitCells, HasCircuit}
 use Rattle.flat_layout.specs.GateTables.{GateEntry}
 use Rattle.flat_layout.specs.Layout.{Design, IsReached}
 use Rattle.flat_layout.specs.Order.{IsCellBefore, IsOrder}
 use Rattle.plain_netlist.specs.Lists.{AreRising, IsListed}
 use Rattle.circuit_phase.specs.Gated.{IsGated, is_circuit_cell}
-
-clash : false ≡ true → ⊥
-clash e = let z : ⊥ = cc in z
 
 abbrev keep : (b : Bool) (x : ℕ) (l : List ℕ) → List ℕ
 keep true x l = x ∷ l
@@ -33,7 +29,7 @@ in_kept false c x l h = inr h
 kept_in : (b : Bool) (c x : ℕ) (l : List ℕ) → ((b ≡ true) × (c ≡ x)) ⊎ IsListed c l → IsListed c (keep b x l)
 kept_in true c x l (inl e) = inl e.1
 kept_in true c x l (inr h) = inr h
-kept_in false c x l (inl e) = absurd (clash e.0)
+kept_in false c x l (inl e) = absurd (false≢true e.0)
 kept_in false c x l (inr h) = h
 
 in_filter : (t : ℕ → Bool) (l : List ℕ) (c : ℕ) → IsListed c (filter t l) → IsListed c l × (t c ≡ true)
@@ -66,7 +62,7 @@ all_listed d of marks order n cells e marked h level is =
         (λ g.
             let f = in_filter t order cell g in
             let reached = ((is.each cell).0 f.0).0 in
-            let has : HasCircuit d of cell = elim (or_split (cell == d.top) (get_or marks cell false) f.1) [
+            let has : HasCircuit d of cell = elim (or_cases (cell == d.top) (get_or marks cell false) f.1) [
               | inl a ↦ inl (eqb-true cell d.top a)
               | inr a ↦ inr ((marked cell reached).0 a)
             ] in

@@ -1,8 +1,9 @@
 -- Cells with a good gate in or below them, along the order.
 use Rattle.std.proofs.Common.{◌≡◌, ◌↔◌, inl, inr, ℕ, zero, suc, ◌+◌, ◌<◌, ◌||◌, Bool, true, false, List, [], ◌∷◌, Option, Some, None, map, slice_get, slice_set, slice_index, get_or, length, refl, sym, ◌∙◌, ap, subst, arith}
+use Rattle.std.proofs.lemmas.Bool.{or_cases, or_left, or_right, false≢true}
 use Rattle.std.proofs.Math.Decide.{dec_lt, ℕ_discrete}
 use Rattle.std.proofs.lemmas.Option.{same_Some}
-use Rattle.cell_graph.proofs.Bridge.{lower, or_left, or_right, or_split, placed_of, reference_at, step_of}
+use Rattle.cell_graph.proofs.Bridge.{lower, placed_of, reference_at, step_of}
 use Rattle.cell_graph.proofs.Elements.{number_of}
 use Rattle.cell_graph.specs.Linked.{IsSound, Linked, cell_at, height_at, places_at, plain, reference}
 use Rattle.cell_graph.specs.declared.cells.Place.{Place}
@@ -18,9 +19,6 @@ use Rattle.flat_layout.specs.Layout.{IsPlaced, IsReached, Leads}
 use Rattle.plain_netlist.specs.Lists.{IsListed}
 use Rattle.circuit_phase.specs.Gated.{IsGated, has_good, has_marked, is_good}
 
-clash : false ≡ true → ⊥
-clash e = let z : ⊥ = cc in z
-
 -- good gates of a list
 
 one_good : (at : GateSquare) (v : Verdict) (b : Bool) (gates : List GoodGate) → (b ≡ true → (g : GoodGate) × IsListed g gates) → (is_good v || b) ≡ true → (g : GoodGate) × IsListed g (with_good at v gates)
@@ -28,7 +26,7 @@ one_good at (Good row) b gates rest h = (record { at = at; row = row }, inl refl
 one_good at (Bad cause) b gates rest h = rest h
 
 good_of : (l : List Gate) → has_good l ≡ true → (g : GoodGate) × IsListed g (good_gates (map plain_gate l))
-good_of [] h = absurd (clash h)
+good_of [] h = absurd (false≢true h)
 good_of (x ∷ l) h = one_good (plain_gate x).at (plain_state x.state) (has_good l) (good_gates (map plain_gate l)) (good_of l) h
 
 good_one : (at : GateSquare) (v : Verdict) (b : Bool) (gates : List GoodGate) (g : GoodGate) → (IsListed g gates → b ≡ true) → IsListed g (with_good at v gates) → (is_good v || b) ≡ true
@@ -49,8 +47,8 @@ gates_read table cell l h = at (entry table cell) h
 -- references to marked cells
 
 marked_some : (marks : List Bool) (l : List Place) → has_marked marks l ≡ true → (i : ℕ) × (p : Place) × (slice_get l i ≡ Some p) × (get_or marks p.cell false ≡ true)
-marked_some marks [] h = absurd (clash h)
-marked_some marks (x ∷ l) h = elim (or_split (get_or marks x.cell false) (has_marked marks l) h) [
+marked_some marks [] h = absurd (false≢true h)
+marked_some marks (x ∷ l) h = elim (or_cases (get_or marks x.cell false) (has_marked marks l) h) [
   | inl e ↦ (0, x, refl, e)
   | inr e ↦ let r = marked_some marks l e in (suc r.0, r.1, r.2, r.3)
 ]
@@ -111,7 +109,7 @@ here : (d : Linked) (of : ℕ → List GateEntry) (cell : ℕ) (marks : List Boo
     → ((i : ℕ) (p : Place) → slice_get (places_at (cell_at d cell)) i ≡ Some p → (get_or marks p.cell false ≡ true) ↔ IsGated (plain d) of p.cell)
     → ((has_good gates || has_marked marks (places_at (cell_at d cell))) ≡ true) ↔ IsGated (plain d) of cell
 here d of cell marks gates sound is known = (
-  (λ h. elim (or_split (has_good gates) (has_marked marks (places_at (cell_at d cell))) h) [
+  (λ h. elim (or_cases (has_good gates) (has_marked marks (places_at (cell_at d cell))) h) [
     | inl e ↦ let g = good_of gates e in (cell, ([], refl), g.0, subst (λ (l : List GateEntry). IsListed g.0 (good_gates l)) (sym is) g.1)
     | inr e ↦
         let m = marked_some marks (places_at (cell_at d cell)) e in

@@ -1,5 +1,6 @@
 -- The names of drawn nets in another order, and positions in lists of places and of cells.
 use Rattle.std.proofs.Common.{◌≡◌, ℕ, suc, ◌+◌, ◌<◌, ◌≤◌, Bool, true, false, List, [], ◌∷◌, ◌++◌, Some, map, take, slice_get, get_or, length, refl, sym, ◌∙◌, ap, subst, arith}
+use Rattle.base_laws.proofs.Items.{map_to}
 use Rattle.std.proofs.lemmas.List.{length-map, map_push, take_more}
 use Rattle.std.proofs.lemmas.Option.{slice_get-get_or, slice_get_within, get_or_from_slice_get}
 use Rattle.deep_tables.specs.Positions.{AreApartBelow, ArePositions}
@@ -7,7 +8,6 @@ use Rattle.flat_layout.specs.Circuits.{drawn_names, drawn_nets, true_places}
 use Rattle.flat_layout.specs.Names.{apart_names, net_ending, net_needs}
 use Rattle.flat_layout.specs.Pins.{CellPins}
 use Rattle.net_names.specs.Folding.{folded_bytes}
-use Rattle.plain_netlist.proofs.Members.{map_at}
 use Rattle.plain_netlist.specs.Lists as lists
 use Rattle.circuit_phase.proofs.Leading.{at_place, places_apart}
 use Rattle.circuit_phase.proofs.Marked.{place_in}
@@ -54,7 +54,7 @@ named_at pins marks order places nets names out is are named made a k x at there
     let lt = slice_get_within order k x here in
     let place : get_or places x 0 ≡ k = ap (λ n. get_or places n 0) (sym (get_or_from_slice_get order k x 0 here)) ∙ are k lt in
     let long : length names ≡ length order = ap (λ (l : List (List ℕ)). length l) named ∙ names_long pins marks ∙ sym (ap (λ (l : List ℕ). length l) is) in
-    ap (λ (l : List (List ℕ)). slice_get l a) made ∙ map_at (λ x. get_or names (get_or places x 0) []) nets a x at ∙ ap (λ n. Some (get_or names n [])) place
+    ap (λ (l : List (List ℕ)). slice_get l a) made ∙ map_to (λ x. get_or names (get_or places x 0) []) nets a x at ∙ ap (λ n. Some (get_or names n [])) place
     ∙ sym (slice_get-get_or names k [] (omega (arith, lt, long))) ∙ ap (λ (l : List (List ℕ)). slice_get l k) named
 
 pub map_next : {B : Type 0} → (f : ℕ → B) (xs : List ℕ) (n : ℕ) (old new : List B) (b : B) → n < length xs → b ≡ f (get_or xs n 0) → new ≡ old ++ b ∷ [] → old ≡ map f (take n xs) → new ≡ map f (take (n + 1) xs)

@@ -1,9 +1,9 @@
 -- The numbers and names of the cells with circuits.
 use Rattle.std.proofs.Common.{◌≡◌, inl, inr, ℕ, ◌+◌, ◌<◌, List, [], ◌∷◌, ◌++◌, Option, Some, map, take, slice_get, get_or, length, sym, ◌∙◌, ap, subst, arith}
+use Rattle.base_laws.proofs.Items.{map_to, item_at}
 use Rattle.std.proofs.lemmas.List.{length-map, map_push, take_more}
 use Rattle.std.proofs.lemmas.Option.{slice_get-get_or, slice_get_within, get_or_from_slice_get}
 use Rattle.std.specs.Borrow.{Bor}
-use Rattle.cell_graph.proofs.Bridge.{maps}
 use Rattle.cell_graph.specs.Linked.{IsSound, Linked, cell_at, height_at, plain, plain_cell}
 use Rattle.cell_graph.specs.declared.cells.CellPart.{CellPart}
 use Rattle.deep_tables.specs.Positions.{AreApartBelow, ArePositions}
@@ -15,7 +15,7 @@ use Rattle.flat_layout.specs.Nets.{no_cell}
 use Rattle.flat_layout.specs.Order.{IsCellBefore}
 use Rattle.net_names.specs.Folding.{folded_bytes}
 use Rattle.plain_netlist.proofs.Listing.{rising_apart}
-use Rattle.plain_netlist.proofs.Members.{item_at, listed, position}
+use Rattle.plain_netlist.proofs.Members.{listed, position}
 use Rattle.plain_netlist.specs.Lists.{IsListed}
 use Rattle.circuit_phase.specs.Names.{folded_names}
 use Rattle.circuit_phase.specs.Placed.{IsNumberOf}
@@ -52,7 +52,7 @@ number_none cells numbers cell n are is not h =
 pub name_of : (d : Linked) (cell : ℕ) (name : List ℕ) → cell < length d.cells → ((c : CellPart) → cell_at d cell ≡ Some c → name ≡ c.name) → name ≡ cell_name (plain d) cell
 name_of d cell name lt is =
     let c = item_at d.cells cell lt in
-    let there : get_or (plain d).cells cell no_cell ≡ plain_cell c.0 = get_or_from_slice_get (plain d).cells cell (plain_cell c.0) no_cell (maps plain_cell d.cells cell c.0 c.1) in
+    let there : get_or (plain d).cells cell no_cell ≡ plain_cell c.0 = get_or_from_slice_get (plain d).cells cell (plain_cell c.0) no_cell (map_to plain_cell d.cells cell c.0 c.1) in
     is c.0 c.1 ∙ sym (ap (λ (e : Cell). e.name) there)
 
 abbrev pub name_at : Linked → ℕ → List ℕ

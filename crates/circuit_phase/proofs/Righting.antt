@@ -1,5 +1,6 @@
 -- What a job reads is right, and so is what it makes.
 use Rattle.std.proofs.Common.{◌≡◌, inr, ℕ, zero, suc, ◌<◌, Bool, List, [], ◌∷◌, ◌++◌, Option, Some, None, IsSomeAnd, map, slice_get, slice_index, get_or, length, refl, sym, ◌∙◌, ap, subst, arith}
+use Rattle.base_laws.proofs.Items.{map_to}
 use Rattle.std.proofs.lemmas.List.{length-map}
 use Rattle.std.proofs.lemmas.Option.{slice_get_within}
 use Rattle.cell_graph.proofs.Bridge.{heights}
@@ -32,7 +33,7 @@ use Rattle.flat_layout.specs.Values.{AreDrawnBelow, AreDrawnOf, IsCircuitOr}
 use Rattle.geo_base.specs.declared.shapes.Rect.{Rect}
 use Rattle.job_graph.specs.Graph.{Waits}
 use Rattle.net_phase.specs.Graph.{AreBelowJobs}
-use Rattle.plain_netlist.proofs.Members.{listed, map_at}
+use Rattle.plain_netlist.proofs.Members.{listed}
 use Rattle.plain_netlist.specs.Lists.{IsListed}
 use Rattle.plain_netlist.specs.Netlist.{Circuit}
 use Rattle.rule_layers.specs.Meaning.{device_rules, wiring_of}
@@ -173,7 +174,7 @@ module _ (d : Linked) (r : Rules) (unit : ℕ) (nets : List (Option CellNets)) (
   pub rules_in : (l : List Gate) → list_of (entry gates cell) ≡ Some l → (i : ℕ) (gate : Gate) → slice_get l i ≡ Some gate → gate.device < length (device_rules r)
   rules_in l f i gate there =
       let rows : flat_gates.AreGates (plain d) (wiring_of r) s (device_rules r) cell (map plain_gate l) = subst (λ m. flat_gates.AreGates (plain d) (wiring_of r) s (device_rules r) cell m) (gates_read gates cell l f) (at.sources.1.gates_right cell reached) in
-      let row = rows.each (plain_gate gate) (listed (map plain_gate l) i (plain_gate gate) (map_at plain_gate l i gate there)) in
+      let row = rows.each (plain_gate gate) (listed (map plain_gate l) i (plain_gate gate) (map_to plain_gate l i gate there)) in
       slice_get_within (device_rules r) gate.device row.rule row.is
 
   pub pin_counts : (v : CellNets) (u : CellPins) → entry nets cell ≡ Some v → entry pins cell ≡ Some u → (length u.pin.items ≡ v.count) × (length u.names.items ≡ v.count)

@@ -1,12 +1,12 @@
 -- Each pair fits where the answers of the pairs that it calls are right, and a right match is a correspondence.
 use Rattle.std.proofs.Common.{◌≡◌, inl, inr, ℕ, zero, suc, ◌<◌, ◌≤◌, ◌==◌, Bool, true, cond, ◌||◌, List, [], ◌∷◌, length, take, get_or, Option, Some, None, slice_get, refl, sym, ◌∙◌, ap, subst, arith}
+use Rattle.std.proofs.lemmas.Bool.{cases_Bool}
 use Rattle.std.specs.List.{list_any}
 use Rattle.std.proofs.lemmas.Bool.Decides.{Decides-eqb}
 use Rattle.std.proofs.lemmas.Option.{slice_get-get_or, same_Some, none-some}
 use Rattle.round_laws.specs.Nodes.{Side, Layout, Schematic, Node}
 use Rattle.plain_netlist.specs.Lists.{IsListed}
 use Rattle.round_laws.specs.Web.{End}
-use Rattle.round_laws.proofs.Agree.{is_it}
 use Rattle.plain_netlist.specs.Netlist.{Pole, Source, Gate, Drain, Bulk, on, DeviceRow, CallRow, Circuit, Netlist, IsDevice, IsCircuit, IsCall, IsPin, HasNet}
 use Rattle.plain_netlist.specs.Sound.{IsGood}
 use Rattle.plain_netlist.proofs.Once.{one_circuit}
@@ -20,7 +20,7 @@ use Rattle.composed_laws.proofs.PinLists.{listed_at, one_to_one, same_long}
 
 pub any_listed : (q : ℕ) (rows : List CallRow) → list_any (λ (r : CallRow). r.circuit == q) rows ≡ true → (k : ℕ) × (row : CallRow) × (slice_get rows k ≡ Some row) × (row.circuit ≡ q)
 any_listed q [] h = absurd (let z : ⊥ = cc in z)
-any_listed q (r ∷ rows) h = elim (is_it (r.circuit == q)) [
+any_listed q (r ∷ rows) h = elim (cases_Bool (r.circuit == q)) [
   | inl e ↦ (0, r, refl, (Decides-eqb r.circuit q).0 e)
   | inr e ↦ let rest : list_any (λ (s : CallRow). s.circuit == q) rows ≡ true = sym (ap (λ t. t || list_any (λ (s : CallRow). s.circuit == q) rows) e) ∙ h in let z = any_listed q rows rest in (suc z.0, z.1, z.2, z.3)
 ]
@@ -44,7 +44,7 @@ module _ (left right : Netlist) (height : ℕ → ℕ) (left_good : IsGood left 
   kids_from k c pins is kid = match_of c (answers k) pins (sym (ap (λ (x : Circuit). right_pins x (pairing_or (answers k))) (ap circuit_or is)) ∙ kid)
 
   pub kids_in : (c : Circuit) (q : ℕ) (pins : List ℕ) → children_in left answers c q ≡ Some pins → (kids q ≡ Some pins) × ((k : ℕ) × (row : CallRow) × (slice_get c.calls k ≡ Some row) × (row.circuit ≡ q))
-  kids_in c q pins h = elim (is_it (is_called c q)) [
+  kids_in c q pins h = elim (cases_Bool (is_called c q)) [
     | inl e ↦ (sym (ap (λ t. cond t (kids q) None) e) ∙ h, any_listed q c.calls e)
     | inr e ↦ let no : None ≡ Some pins = sym (ap (λ t. cond t (kids q) None) e) ∙ h in absurd (let z : ⊥ = cc in z)
   ]

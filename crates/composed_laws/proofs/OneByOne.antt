@@ -1,9 +1,9 @@
 -- The answer of one pair after the other: each is the only one, and together they are the answers.
 use Rattle.std.proofs.Common.{◌≡◌, inl, inr, ℕ, zero, suc, ◌<◌, ◌≤◌, true, cond, List, length, Option, Some, None, sym, ◌∙◌, ap, subst, arith}
+use Rattle.std.proofs.lemmas.Bool.{cases_Bool}
 use Rattle.std.proofs.Math.Path.{fun_ext}
 use Rattle.std.proofs.lemmas.Option.{none-some}
 use Rattle.round_laws.specs.Nodes.{Layout, Schematic}
-use Rattle.round_laws.proofs.Agree.{is_it}
 use Rattle.plain_netlist.specs.Netlist.{Circuit, Netlist, IsCircuit}
 use Rattle.plain_netlist.specs.Sound.{IsGood}
 use Rattle.plain_netlist.proofs.Once.{one_circuit}
@@ -28,7 +28,7 @@ module _ (left right : Netlist) (asked : Asked) (sides : AreSides left right) wh
 
   -- children that are read are called
   called_of : (read : ℕ → Answer) (c : Circuit) (q : ℕ) (pins : List ℕ) → children_in left read c q ≡ Some pins → is_called c q ≡ true
-  called_of read c q pins h = elim (is_it (is_called c q)) [
+  called_of read c q pins h = elim (cases_Bool (is_called c q)) [
     | inl e ↦ e
     | inr e ↦ absurd (none-some pins (sym (ap (λ t. cond t (children_of left read q) None) e) ∙ h))
   ]
@@ -79,7 +79,7 @@ module _ (left right : Netlist) (asked : Asked) (sides : AreSides left right) wh
 
   -- pairs with the same answers below have the same children
   children_same : (k : ℕ) (c : Circuit) (a b : ℕ → Answer) → ((q : ℕ) → is_called c q ≡ true → a q ≡ b q) → children_in left a c ≡ children_in left b c
-  children_same k c a b same = fun_ext (λ q. elim (is_it (is_called c q)) [
+  children_same k c a b same = fun_ext (λ q. elim (cases_Bool (is_called c q)) [
     | inr none ↦ ap (λ t. cond t (children_of left a q) None) none ∙ sym (ap (λ t. cond t (children_of left b q) None) none)
     | inl e ↦
         ap (λ t. cond t (children_of left a q) None) e

@@ -1,12 +1,13 @@
 -- A match of each pair names pairs that are one to one and onto, so both netlists expand to the same.
 use Rattle.std.proofs.Common.{◌≡◌, inl, inr, ℕ, suc, ◌<◌, false, List, [], ◌∷◌, length, slice_index, Option, Some, slice_get, refl, sym, ◌∙◌, ap, subst, arith}
+use Rattle.base_laws.proofs.Items.{item_at}
 use Rattle.std.proofs.lemmas.Option.{same_Some, slice_get_within, slice_get-get_or, get_or_from_slice_get}
 use Rattle.plain_netlist.specs.Lists.{IsListed}
 use Rattle.plain_netlist.specs.Netlist.{Pole, Source, Gate, Drain, Bulk, on, DeviceRow, CallRow, Circuit, Netlist, IsCircuit, IsCall, IsDevice, HasNet, HasDevice, Slot, slot}
 use Rattle.plain_netlist.proofs.Members.{listed}
 use Rattle.plain_netlist.proofs.Once.{one_circuit}
 use Rattle.match_laws.specs.Circuits.{Pairing, IsOneToOne, IsCorrespondence, IsDeviceImage}
-use Rattle.match_laws.proofs.Sums.{found_at, index_below, index_one, index_found}
+use Rattle.match_laws.proofs.Sums.{index_below, index_one, index_found}
 use Rattle.composed_laws.specs.Paired.{AreRowsPaired, IsImaged, IsPaired, IsWholeMatch}
 use Rattle.plain_netlist.specs.Flats.{Row, AreRowsAlike, Corresponds, row_at, expanded}
 use Rattle.composed_laws.specs.Composed.{IsMatch, IsComparable, IsNetPair, IsDevicePair, IsCallPair, AreDevicesPaired, AreNetsPaired, WholeMatchLaw, MatchCorrespondsLaw}
@@ -76,14 +77,14 @@ module _ (left right : Netlist) (children : ℕ → Option (List ℕ)) (m : ℕ 
       let p = pair_at c x is in
       let low = slice_get_within x.devices i row at in
       let j : ℕ = slice_index (m c).devices i in
-      let e = found_at p.0.devices j (index_below (m c).devices _ _ i p.2.devices low) in
+      let e = item_at p.0.devices j (index_below (m c).devices _ _ i p.2.devices low) in
       (j, e.0, (x, is, list_there (m c).devices _ _ i p.2.devices low), (p.0, p.1, e.1), rows_paired c x row e.0 i is (x, is, at) (p.2.device i row e.0 at e.1))
 
   devices_back : (c j : ℕ) (other : DeviceRow) → IsDevice right c j other → (i : ℕ) × (row : DeviceRow) × Device c i j × IsDevice left c i row × AreRowsPaired (Net c) row other
   devices_back c j other (y, is, at) =
       let p = pair_back c y is in
       let i = index_found (m c).devices _ _ j p.2.devices (slice_get_within y.devices j other at) in
-      let d = found_at p.0.devices i.0 i.1 in (
+      let d = item_at p.0.devices i.0 i.1 in (
         i.0,
         d.0,
         (p.0, p.1, list_there (m c).devices _ _ i.0 p.2.devices i.1 ∙ ap Some i.2),
@@ -97,7 +98,7 @@ module _ (left right : Netlist) (children : ℕ → Option (List ℕ)) (m : ℕ 
       let p = pair_at c x is in
       let low = slice_get_within x.calls k row at in
       let j : ℕ = slice_index (m c).calls k in
-      let e = found_at p.0.calls j (index_below (m c).calls _ _ k p.2.calls low) in
+      let e = item_at p.0.calls j (index_below (m c).calls _ _ k p.2.calls low) in
       let i = p.2.call k row e.0 at e.1 in (
         j,
         e.0,
@@ -136,7 +137,7 @@ module _ (left right : Netlist) (children : ℕ → Option (List ℕ)) (m : ℕ 
   calls_back c k row (y, is, at) =
       let p = pair_back c y is in
       let j = index_found (m c).calls _ _ k p.2.calls (slice_get_within y.calls k row at) in
-      let d = found_at p.0.calls j.0 j.1 in
+      let d = item_at p.0.calls j.0 j.1 in
       let i = p.2.call j.0 d.0 row d.1 (ap (slice_get y.calls) j.2 ∙ at) in (
         j.0,
         d.0,

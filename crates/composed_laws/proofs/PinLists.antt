@@ -2,14 +2,13 @@
 use Rattle.std.proofs.Common.{◌≡◌, ◌↔◌, inl, inr, ℕ, zero, suc, ◌+◌, ◌<◌, ◌≤◌, ◌==◌, Bool, true, false, cond, List, [], ◌∷◌, length, take, slice_index, Some, slice_get, refl, sym, ◌∙◌, ap, subst, arith}
 use Rattle.std.specs.List.{count_by}
 use Rattle.std.proofs.Math.Decide.{ℕ_discrete}
-use Rattle.std.proofs.lemmas.Bool.{eq-eqb}
+use Rattle.std.proofs.lemmas.Bool.{eq-eqb, ne_eqb}
 use Rattle.std.proofs.lemmas.List.{get_or-take, length-take-le}
 use Rattle.std.proofs.lemmas.Option.{slice_get-get_or}
 use Rattle.plain_netlist.specs.Lists.{IsListed}
 use Rattle.round_laws.proofs.Agree.{count-cons}
 use Rattle.plain_netlist.specs.Netlist.{Circuit}
 use Rattle.match_laws.specs.Circuits.{Pair, Pairing, IsOneToOne, IsCorrespondence}
-use Rattle.match_laws.proofs.Sums.{not_equal}
 
 -- how many entries are below q, class by class
 total : ℕ → List ℕ → ℕ
@@ -27,7 +26,7 @@ total_high zero x xs lt = refl
 total_high (suc q) x xs lt =
     let h = total_high q x xs (omega arith) in
     let step = count-cons (λ y. q == y) x xs in
-    let no : (q == x) ≡ false = not_equal q x (λ e. absurd (omega arith)) in
+    let no : (q == x) ≡ false = ne_eqb q x (λ e. absurd (omega arith)) in
     let zero_here : ◌≡◌ {A = ℕ} (cond (q == x) 1 0) 0 = ap (λ (t : Bool). cond {A = ℕ} t 1 0) no in
     omega arith
 
@@ -44,7 +43,7 @@ total_low (suc q) x xs lt =
           omega arith
       | no not ↦
           let h = total_low q x xs (omega (arith, not)) in
-          let no : (q == x) ≡ false = not_equal q x not in
+          let no : (q == x) ≡ false = ne_eqb q x not in
           let zero_here : ◌≡◌ {A = ℕ} (cond (q == x) 1 0) 0 = ap (λ (t : Bool). cond {A = ℕ} t 1 0) no in
           omega arith
     ]
@@ -64,7 +63,7 @@ none_above j q [] lt h = refl
 none_above j q (x ∷ xs) lt h =
     let step = count-cons (λ y. j == y) x xs in
     let rest = none_above j q xs lt (λ i in_range low. h (suc i) (omega arith) low) in
-    let no : (j == x) ≡ false = not_equal j x (λ e. h 0 (omega arith) (let low : x < q = omega arith in low)) in
+    let no : (j == x) ≡ false = ne_eqb j x (λ e. h 0 (omega arith) (let low : x < q = omega arith in low)) in
     let zero_here : ◌≡◌ {A = ℕ} (cond (j == x) 1 0) 0 = ap (λ (t : Bool). cond {A = ℕ} t 1 0) no in
     omega arith
 

@@ -1,23 +1,13 @@
 -- The bad gates of a layout, as they are told.
 use Rattle.std.specs.Prelude.{◌≡◌, ◌<◌, ℕ, List, [], ◌∷◌, ◌++◌, Option, Some, get_or, length, map}
 use Rattle.std.specs.Prelude.{slice_get}
-use Rattle.flat_layout.specs.Gates.{Cause, Groups, OffGate, OffSd, NoBulk, NoLength}
 use Rattle.flat_layout.specs.GateTables.{all_bad_gates, bad_gates}
 use Rattle.flat_layout.specs.GateTables as flat
 use Rattle.deep_tables.specs.Gates.{gates_of, plain_gate}
 use Rattle.deep_tables.specs.declared.gates.BadGate.{BadGate}
 use Rattle.deep_tables.specs.declared.gates.CellGates.{CellGates}
 use Rattle.deep_tables.specs.declared.gates.Gate.{Gate}
-use Rattle.deep_tables.specs.declared.gates.GateCause.{GateCause}
-use Rattle.deep_tables.specs.declared.gates.GateCause.TheVariants as told
 use Rattle.rule_text.specs.Rules.{Rules, class_in}
-
-abbrev pub told_cause : Cause → GateCause
-told_cause (Groups n) = told.Groups n
-told_cause OffGate = told.OffGate
-told_cause OffSd = told.OffSd
-told_cause NoBulk = told.NoBulk
-told_cause NoLength = told.NoLength
 
 -- the classes of all device rules, as the rule file writes them: of transistors, then of the others
 abbrev pub classes_of : Rules → List (List ℕ)
@@ -36,7 +26,7 @@ told_bad r b = record {
   cell = b.cell;
   class = class_at r b.at.rule;
   least = b.at.square;
-  cause = told_cause b.cause;
+  cause = b.cause;
 }
 
 -- of a cell's gate, nothing where it is good

@@ -1,12 +1,13 @@
 -- Disturbed squares by reference, row and column.
 use Rattle.std.proofs.Common.{◌≡◌, ◌⊎◌, inl, inr, ℕ, ◌<◌, arith, List, [], ◌∷◌, ◌++◌, Some, slice_get, map, refl, sym, ◌∙◌, ap, subst}
+use Rattle.base_laws.proofs.Items.{map_to}
 use Rattle.std.proofs.Math.Decide.{ℕ_discrete}
 use Rattle.geo_base.specs.Motions.{moved_square}
 use Rattle.geo_base.specs.declared.layer.LayerKey.{LayerKey}
 use Rattle.geo_base.specs.declared.shapes.Square.{Square}
 use Rattle.flat_layout.specs.Arrays.{place_at}
 use Rattle.flat_layout.specs.Layout as flat
-use Rattle.flat_layout.specs.Layout.{Design, Some_of, IsOwn, IsPlaced, IsReached, IsDisturbed, IsPrefix, InFlatInput, Takes}
+use Rattle.flat_layout.specs.Layout.{Design, Some_of, IsOwn, IsDisturbed, IsPrefix, InFlatInput, Takes}
 use Rattle.flat_layout.specs.Zones.{IsBeside, IsDisturbedAbove}
 use Rattle.flat_laws.proofs.Names.{more_left, more_right}
 use Rattle.flat_laws.proofs.Paths.{first_differs}
@@ -14,7 +15,7 @@ use Rattle.flat_laws.proofs.Zone.{zones}
 use Rattle.cell_graph.specs.declared.cells.Place.{Place}
 use Rattle.cell_graph.specs.Linked.{Linked, IsSound, IsStep, plain, motion_at, reference, places_at, cell_at}
 use Rattle.cell_graph.proofs.Elements.{number_of, same_element, same_number}
-use Rattle.cell_graph.proofs.Bridge.{own, step_of, placed_of, maps}
+use Rattle.cell_graph.proofs.Bridge.{own, step_of, placed_of}
 use Rattle.cell_context.specs.Over.{IsOver}
 use Rattle.cell_context.proofs.Collecting.{one_place}
 use Rattle.deep_laws.specs.Zones.{IsFromSibling, IsDisturbedFrom, ArrayZoneLaw, UnionLaw}
@@ -25,7 +26,7 @@ numbered d cell i p row column = number_of (map reference (places_at (cell_at d 
 same_index : (d : Linked) (cell i row column j row' column' : ℕ) (p r : Place) → IsStep d cell i row column p → IsStep d cell j row' column' r → numbered d cell i p row column ≡ numbered d cell j r row' column' → i ≡ j
 same_index d cell i row column j row' column' p r h g e =
     same_number (map reference (places_at (cell_at d cell))) i j (reference p) (reference r) row column row' column'
-    (maps reference (places_at (cell_at d cell)) i p h.there) (maps reference (places_at (cell_at d cell)) j r g.there) h.row_in h.column_in g.row_in g.column_in e
+    (map_to reference (places_at (cell_at d cell)) i p h.there) (map_to reference (places_at (cell_at d cell)) j r g.there) h.row_in h.column_in g.row_in g.column_in e
 
 -- beside the placement: own shapes, other references, other elements of the reference
 abbrev Beside : Linked → ℕ → LayerKey → ℕ → Place → ℕ → ℕ → Square → Type 0

@@ -11,7 +11,7 @@ use Rattle.flat_laws.proofs.Cover.{reached_below}
 use Rattle.flat_laws.proofs.Items.{one_table, placed_at}
 use Rattle.cell_graph.specs.Linked.{plain, height_at}
 use Rattle.cell_graph.proofs.Bridge.{heights}
-use Rattle.table_laws.proofs.Tabled.{one_own, own_of, reached_under}
+use Rattle.table_laws.proofs.Tabled.{one_own, reached_under}
 use Rattle.table_laws.proofs.Tabled as tabled
 use Rattle.deep_tables.specs.Nets.{AreRightNets}
 use Rattle.deep_tables.specs.OverAny.{NetsOverAnyLaw, OneTablesLaw}

@@ -4,7 +4,6 @@ use Rattle.std.specs.Prelude.{IsSome, map, slice_get}
 use Rattle.geo_base.specs.declared.shapes.Square.{Square}
 use Rattle.rect_sets.specs.Rects.{covers}
 use Rattle.flat_layout.specs.Gates.{Rule, InGate, geometry}
-use Rattle.flat_layout.specs.Gates as flat
 use Rattle.flat_layout.specs.GateTables.{GateEntry, Verdict}
 use Rattle.flat_layout.specs.GateTables as gates
 use Rattle.flat_layout.specs.Layout.{Design, IsReached}
@@ -16,24 +15,14 @@ use Rattle.deep_tables.specs.Entries.{entry, AreEntries}
 use Rattle.deep_tables.specs.Nets.{AreRightNets}
 use Rattle.deep_tables.specs.declared.gates.CellGates.{CellGates}
 use Rattle.deep_tables.specs.declared.gates.Gate.{Gate}
-use Rattle.deep_tables.specs.declared.gates.GateCause.{GateCause}
-use Rattle.deep_tables.specs.declared.gates.GateCause.TheVariants.{Groups, OffGate, OffSd, NoBulk}
-use Rattle.deep_tables.specs.declared.gates.GateCause.TheVariants.{NoLength}
 use Rattle.deep_tables.specs.declared.gates.GateState.{GateState}
 use Rattle.deep_tables.specs.declared.gates.GateState.TheVariants.{Good, Bad}
 
 -- gates as plain values
-abbrev pub plain_cause : GateCause → flat.Cause
-plain_cause (Groups n) = flat.Groups n
-plain_cause OffGate = flat.OffGate
-plain_cause OffSd = flat.OffSd
-plain_cause NoBulk = flat.NoBulk
-plain_cause NoLength = flat.NoLength
-
 abbrev pub plain_state : GateState → Verdict
 plain_state (Good w l s d g b) = gates.Good
     (record { twice_w = w; twice_l = l; source = s; gate = g; drain = d; bulk = b })
-plain_state (Bad cause) = gates.Bad (plain_cause cause)
+plain_state (Bad cause) = gates.Bad cause
 
 abbrev pub plain_gate : Gate → GateEntry
 plain_gate x = record {

@@ -6,27 +6,13 @@ ghost use Rattle.deep_tables.specs.Gates.{list_of};
 use crate::keys::GateKey;
 use crate::table::Table;
 use cell_graph::Design;
+use flat_layout::GateCause;
 use geo_base::Square;
 use job_graph::{Defined, Results};
 use net_names::Name;
 use rect_sets::RectSet;
 use std::alloc::{AllocError, Global};
 use std::marker::Model;
-
-/// Why a gate is bad: the first test that it fails.
-#[derive(Clone, Copy, Debug, PartialEq, Eq)]
-pub enum GateCause {
-    /// It hasn't two groups of source or drain, but so many.
-    Groups(u128),
-    /// A square of it isn't on the conductor of gates.
-    OffGate,
-    /// A square of a group isn't on the conductor of sources and drains.
-    OffSd,
-    /// The conductor of bulks has no global, and a square of the gate isn't on it.
-    NoBulk,
-    /// It has no boundary but to source and drain.
-    NoLength,
-}
 
 /// A good gate has twice its width and twice its length, in sides of unit squares, and the nets of
 /// its terminals.

@@ -21,7 +21,8 @@ mod table;
 mod zones;
 
 pub use circuits::{CellCircuit, CircuitKey, Circuits};
-pub use gates::{BadGate, CellGates, Gate, GateCause, GateState, Gates};
+pub use flat_layout::GateCause;
+pub use gates::{BadGate, CellGates, Gate, GateState, Gates};
 pub use indexed::{IndexedSet, index_of};
 pub use jobs::free_graph;
 pub use keys::{DeepKey, GateKey};

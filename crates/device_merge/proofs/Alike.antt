@@ -1,5 +1,7 @@
 -- Keys of transistors, and which transistors are alike.
-use Rattle.std.proofs.Common.{◌≡◌, ◌<◌, ◌≤◌, ◌+◌, ◌⊎◌, inl, inr, ℕ, suc, Bool, true, false, ◌==◌, ◌&&◌, ◌||◌, nat_lt, cond, Some, None, List, [], ◌∷◌, length, refl, ap, ◌∙◌, sym, subst, arith, true≢false, ◌++◌}
+use Rattle.std.proofs.Common.{◌≡◌, ◌<◌, ◌≤◌, ◌+◌, inl, inr, ℕ, suc, Bool, true, false, ◌==◌, ◌&&◌, ◌||◌, nat_lt, cond, Some, None, List, [], ◌∷◌, length, refl, ap, ◌∙◌, sym, subst, arith, true≢false, ◌++◌}
+use Rattle.base_laws.proofs.Tests.{same_truth, turned_test}
+use Rattle.std.proofs.lemmas.Bool.{cases_Bool}
 use Rattle.std.specs.Prelude.{if◌then◌else◌, not, bytes_eq, unwrap_or}
 use Rattle.std.specs.Option.{option_eq}
 use Rattle.std.specs.List.{list_any, position_or_len}
@@ -10,12 +12,6 @@ use Rattle.merge_laws.specs.Merge.{may_merge}
 use Rattle.device_merge.specs.Keys.{AreKeys, IsKey, lone, lower, higher, place_of}
 use Rattle.device_merge.specs.contracts.keys.DeviceKeyPartialEq.TheImpl.{eq-value}
 use Rattle.device_merge.specs.declared.keys.DeviceKey.{DeviceKey}
-
--- two tests that hold at once are one
-pub same_test : (a b : Bool) → (a ≡ true → b ≡ true) → (b ≡ true → a ≡ true) → a ≡ b
-same_test true b f g = sym (f refl)
-same_test false true f g = g refl
-same_test false false f g = refl
 
 -- the two nets in the order of their numbers
 pub ordered : (a b c d : ℕ) (p q : Bool) → nat_lt a b ≡ p → nat_lt c d ≡ q
@@ -28,11 +24,8 @@ ordered a b c d false false e f = grind (arith, e, f)
 pub channel : (a b c d : ℕ) → ((lower a b == lower c d) && (higher a b == higher c d)) ≡ ((c == a && d == b) || (c == b && d == a))
 channel a b c d = ordered a b c d (nat_lt a b) (nat_lt c d) refl refl
 
-pub turned : (a b : ℕ) → (a == b) ≡ (b == a)
-turned a b = grind (arith)
-
 pub bytes_turned : (xs ys : List ℕ) → bytes_eq xs ys ≡ bytes_eq ys xs
-bytes_turned xs ys = same_test (bytes_eq xs ys) (bytes_eq ys xs) (λ e. (bytes_eq-Decides ys xs).1 (sym ((bytes_eq-Decides xs ys).0 e))) (λ e. (bytes_eq-Decides xs ys).1 (sym ((bytes_eq-Decides ys xs).0 e)))
+bytes_turned xs ys = same_truth (bytes_eq xs ys) (bytes_eq ys xs) (λ e. (bytes_eq-Decides ys xs).1 (sym ((bytes_eq-Decides xs ys).0 e))) (λ e. (bytes_eq-Decides xs ys).1 (sym ((bytes_eq-Decides ys xs).0 e)))
 
 -- where the classes are one, the places of those alike to none tell them apart
 pub alone_apart : (m p : Bool) (i n : ℕ) → i < n → m ≡ p
@@ -74,7 +67,7 @@ pub same_key : (q k : DeviceKey) (n place : ℕ) (row first : DeviceRow) → pla
 same_key q k n place row first low a b =
     rw a.class (rw a.length (rw a.gate (rw a.bulk (rw a.low (rw a.high (rw a.alone
     (rw b.class (rw b.length (rw b.gate (rw b.bulk (rw b.low (rw b.high (rw b.alone
-    (rw (bytes_turned row.class first.class) (rw (turned row.length first.length) (rw (turned row.gate first.gate) (rw (turned row.bulk first.bulk)
+    (rw (bytes_turned row.class first.class) (rw (turned_test row.length first.length) (rw (turned_test row.gate first.gate) (rw (turned_test row.bulk first.bulk)
     (tests _ (may_merge first.class) (bytes_eq first.class row.class) (first.length == row.length) (first.gate == row.gate) (first.bulk == row.bulk) _ _ _
     (λ e. alone_apart (may_merge row.class) (may_merge first.class) place n low (ap may_merge (sym ((bytes_eq-Decides first.class row.class).0 e))))
     (channel row.source row.drain first.source first.drain)))))))))))))))))))
@@ -101,14 +94,10 @@ pub or_len : (n m : ℕ) (b : Bool) → nat_lt n m ≡ b → n ≤ m → unwrap_
 or_len n m true e h = refl
 or_len n m false e h = grind (arith, e, h)
 
-either : (b : Bool) → (b ≡ true) ⊎ (b ≡ false)
-either true = inl refl
-either false = inr refl
-
 -- a key that isn't found isn't there
 pub absent : {A : Type 0} (xs : List A) (p : A → Bool) → position_or_len p xs ≡ length xs → list_any p xs ≡ false
 absent [] p e = refl
-absent (x ∷ xs) p e = elim (either (p x)) [
+absent (x ∷ xs) p e = elim (cases_Bool (p x)) [
   | inl y ↦ let z : 0 ≡ suc (length xs) = sym (rw y refl) ∙ e in absurd (omega arith)
   | inr n ↦ rw n (absent xs p (let z : 1 + position_or_len p xs ≡ suc (length xs) = sym (rw n refl) ∙ e in omega arith))
 ]

@@ -1,5 +1,6 @@
 -- The transistors of a circuit merged one after another.
 use Rattle.std.proofs.Common.{◌≡◌, ◌<◌, ◌≤◌, ◌+◌, ◌^◌, ℕ, zero, suc, Bool, true, false, List, [], ◌∷◌, ◌++◌, map, length, refl, sym, subst, ap, ◌∙◌, arith}
+use Rattle.base_laws.proofs.Lists.{map_count}
 use Rattle.std.specs.Prelude.{slice_index_or, slice_set, take, drop, ◌-◌, ◌||◌}
 use Rattle.fixed_num.specs.declared.femto.Femto.{Femto}
 use Rattle.net_model.specs.declared.netlist.DeviceRow.{DeviceRow as Held}
@@ -14,13 +15,9 @@ use Rattle.device_merge.specs.declared.groups.Merging.{Merging}
 use Rattle.device_merge.specs.declared.keys.DeviceKey.{DeviceKey}
 use Rattle.device_merge.proofs.Joined.{begins, begun_rows, begun_wide, joins, keys_stay, narrow_joined, wide_all, wide_joined}
 
-length_map : {A B : Type 0} (f : A → B) (xs : List A) → length (map f xs) ≡ length xs
-length_map f [] = refl
-length_map f (x ∷ xs) = ap (λ (n : ℕ). suc n) (length_map f xs)
-
 -- one row for each group
 pub as_many_rows : (m : Merging) (gs : List Group) → IsMerging m gs → length m.rows.items ≡ length gs
-as_many_rows m gs h = sym (length_map plain_device m.rows.items) ∙ ap (λ (rs : List DeviceRow). length rs) h.rows ∙ length_map merged_row gs
+as_many_rows m gs h = sym (map_count plain_device m.rows.items) ∙ ap (λ (rs : List DeviceRow). length rs) h.rows ∙ map_count merged_row gs
 
 -- the row at a place, and with another width
 pub width_here : (rows : List Held) (i : ℕ) (d : Held) → i < length rows → width_at i (map plain_device rows) ≡ (slice_index_or rows i d).width.0

@@ -1,5 +1,8 @@
 -- What a transistor does to the groups of alike ones: it joins one or begins one.
-use Rattle.std.proofs.Common.{◌≡◌, ◌<◌, ◌≤◌, ◌+◌, ◌^◌, ◌⊎◌, inl, inr, ℕ, suc, Bool, true, false, ◌&&◌, ◌||◌, nat_lt, cond, List, [], ◌∷◌, ◌++◌, map, length, refl, ap, ◌∙◌, sym, subst, arith, true≢false}
+use Rattle.std.proofs.Common.{◌≡◌, ◌<◌, ◌≤◌, ◌+◌, ◌^◌, ℕ, suc, Bool, true, false, ◌&&◌, ◌||◌, nat_lt, cond, List, [], ◌∷◌, ◌++◌, map, length, refl, ap, ◌∙◌, sym, subst, arith, true≢false}
+use Rattle.base_laws.proofs.Lists.{map_last}
+use Rattle.base_laws.proofs.Tests.{or_true}
+use Rattle.std.proofs.lemmas.Bool.{or_from, or_parts}
 use Rattle.std.specs.Prelude.{not}
 use Rattle.plain_netlist.specs.Netlist.{DeviceRow}
 use Rattle.merge_laws.specs.Grouped.{Group, Placed, are_wide, grouped, is_alike, is_wide, members, merged_row, sum_width, with_device}
@@ -10,10 +13,6 @@ use Rattle.device_merge.specs.declared.keys.DeviceKey.{DeviceKey}
 
 abbrev pub joined : Group → Placed → Group
 joined g d = record { first = g.first; others = g.others ++ d ∷ [] }
-
-either : (b : Bool) → (b ≡ true) ⊎ (b ≡ false)
-either true = inl refl
-either false = inr refl
 
 sum_more : (ds : List Placed) (d : Placed) → sum_width (ds ++ d ∷ []) ≡ sum_width ds + d.row.width
 sum_more [] d = omega arith
@@ -70,21 +69,6 @@ merges a b e = first (may_merge a.class) _ _ _ _ _ e
     first true c l g b h e = refl
     first false c l g b h e = e
 
-or_true : (b : Bool) → (b || true) ≡ true
-or_true true = refl
-or_true false = refl
-
-or_false : (a b : Bool) → a ≡ false → b ≡ false → (a || b) ≡ false
-or_false a b e f = rw e f
-
-none_first : (a b : Bool) → (a || b) ≡ false → a ≡ false
-none_first true b e = e
-none_first false b e = refl
-
-none_rest : (a b : Bool) → (a || b) ≡ false → b ≡ false
-none_rest true b e = absurd (true≢false e)
-none_rest false b e = e
-
 -- wide exactly by its width, where its class may merge
 pub past : (m : Bool) (w : ℕ) → m ≡ true → 10 ^ 27 < w → (m && nat_lt (10 ^ 27) w) ≡ true
 past m w e h = rw e (grind (arith, h))
@@ -105,13 +89,13 @@ wide_joined (g ∷ gs) d low wide = at (is_alike g.first.row d.row) refl low wid
 
 pub narrow_joined : (gs : List Group) (d : Placed) → are_wide gs ≡ false → place_of gs d.row < length gs → width_at (place_of gs d.row) (map merged_row gs) + d.row.width ≤ 10 ^ 27 → are_wide (with_device gs d) ≡ false
 narrow_joined [] d none low fits = absurd (omega arith)
-narrow_joined (g ∷ gs) d none low fits = at (is_alike g.first.row d.row) low fits (narrow_joined gs d (none_rest _ _ none))
+narrow_joined (g ∷ gs) d none low fits = at (is_alike g.first.row d.row) low fits (narrow_joined gs d ((or_parts _ _ none).1))
   where
     at : (b : Bool) → cond (not b) (1 + place_of gs d.row) 0 < suc (length gs) → width_at (cond (not b) (1 + place_of gs d.row) 0) (merged_row g ∷ map merged_row gs) + d.row.width ≤ 10 ^ 27
         → (place_of gs d.row < length gs → width_at (place_of gs d.row) (map merged_row gs) + d.row.width ≤ 10 ^ 27 → are_wide (with_device gs d) ≡ false)
         → are_wide (cond b (joined g d ∷ gs) (g ∷ with_device gs d)) ≡ false
-    at true l w rec = or_false _ _ (within (may_merge g.first.row.class) (sum_width (members g ++ d ∷ [])) (rw (sum_more (members g) d) w)) (none_rest _ _ none)
-    at false l w rec = or_false _ _ (none_first _ _ none) (rec (omega arith) (subst (λ (k : ℕ). width_at k (merged_row g ∷ map merged_row gs) + d.row.width ≤ 10 ^ 27) (sym (one_more (place_of gs d.row))) w))
+    at true l w rec = or_from _ _ (within (may_merge g.first.row.class) (sum_width (members g ++ d ∷ [])) (rw (sum_more (members g) d) w)) ((or_parts _ _ none).1)
+    at false l w rec = or_from _ _ ((or_parts _ _ none).0) (rec (omega arith) (subst (λ (k : ℕ). width_at k (merged_row g ∷ map merged_row gs) + d.row.width ≤ 10 ^ 27) (sym (one_more (place_of gs d.row))) w))
 
 -- a transistor alone is as wide as it is
 lone_wide : (place : ℕ) (row : DeviceRow) → is_wide (merged_row (lone place row)) ≡ is_wide row
@@ -154,10 +138,6 @@ wide_stays (g ∷ gs) d wide = at (is_alike g.first.row d.row) (wide_stays gs d)
 pub wide_all : (gs : List Group) (place : ℕ) (rows : List DeviceRow) → are_wide gs ≡ true → are_wide (grouped gs place rows) ≡ true
 wide_all gs place [] wide = wide
 wide_all gs place (row ∷ rows) wide = wide_all (with_device gs (placed place row)) (suc place) rows (wide_stays gs (placed place row) wide)
-
-pub map_last : {A B : Type 0} (f : A → B) (xs : List A) (x : A) → map f (xs ++ x ∷ []) ≡ map f xs ++ f x ∷ []
-map_last f [] x = refl
-map_last f (y ∷ ys) x = ap (λ zs. f y ∷ zs) (map_last f ys x)
 
 lone_row : (place : ℕ) (row : DeviceRow) → merged_row (lone place row) ≡ row
 lone_row place row = ap (λ (w : ℕ). record {

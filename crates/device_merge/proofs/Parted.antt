@@ -1,16 +1,17 @@
 -- The places of a group's transistors, as groups grow.
 use Rattle.std.proofs.Common.{◌≡◌, ◌<◌, ◌≤◌, ◌+◌, ℕ, zero, suc, Bool, true, false, cond, List, [], ◌∷◌, ◌++◌, map, length, refl, ap, ◌∙◌, sym, subst, arith}
+use Rattle.base_laws.proofs.Lists.{map_last, map_count}
 use Rattle.std.specs.Prelude.{not, slice_index_or, slice_set}
 use Rattle.std.specs.Global.{Vec}
 use Rattle.std.proofs.lemmas.List.Sums.{prefix_len-le-length}
 use Rattle.plain_netlist.specs.Netlist.{DeviceRow}
-use Rattle.merge_laws.specs.Grouped.{Group, Placed, grouped, groups, is_alike, members, with_device}
+use Rattle.merge_laws.specs.Grouped.{Group, Placed, grouped, groups, is_alike, with_device}
 use Rattle.device_merge.specs.Keys.{AreKeys, lone, place_of}
 use Rattle.device_merge.specs.Merging.{placed}
 use Rattle.device_merge.specs.Parts.{IsParting, joined_at, place_lists, places_of}
 use Rattle.device_merge.specs.declared.keys.DeviceKey.{DeviceKey}
 use Rattle.device_merge.specs.declared.parts.Parting.{Parting}
-use Rattle.device_merge.proofs.Joined.{begins, joined, keys_stay, map_last}
+use Rattle.device_merge.proofs.Joined.{begins, joined, keys_stay}
 
 pub set_joined : (lists : List (Vec ℕ)) (at : ℕ) (v d : Vec ℕ) (place : ℕ) → at < length lists → v.items ≡ (slice_index_or lists at d).items ++ place ∷ [] → place_lists (slice_set lists at v) ≡ joined_at at place (place_lists lists)
 set_joined [] at v d place low e = absurd (omega arith)
@@ -34,13 +35,9 @@ joins_places (g ∷ gs) d = at (is_alike g.first.row d.row) (joins_places gs d)
     at true rec = ap (λ (t : List ℕ). (g.first.place ∷ t) ∷ map places_of gs) (map_last (λ (e : Placed). e.place) g.others d)
     at false rec = subst (λ (k : ℕ). places_of g ∷ map places_of (with_device gs d) ≡ joined_at k d.place (places_of g ∷ map places_of gs)) (one_more (place_of gs d.row)) (ap (λ (t : List (List ℕ)). places_of g ∷ t) rec)
 
-length_map : {A B : Type 0} (f : A → B) (xs : List A) → length (map f xs) ≡ length xs
-length_map f [] = refl
-length_map f (x ∷ xs) = ap (λ (n : ℕ). suc n) (length_map f xs)
-
 -- as many lists as groups
 pub as_many : (p : Parting) (gs : List Group) → IsParting p gs → length p.places.items ≡ length gs
-as_many p gs h = sym (length_map (λ (l : Vec ℕ). l.items) p.places.items) ∙ ap (λ (ls : List (List ℕ)). length ls) h.places ∙ length_map places_of gs
+as_many p gs h = sym (map_count (λ (l : Vec ℕ). l.items) p.places.items) ∙ ap (λ (ls : List (List ℕ)). length ls) h.places ∙ map_count places_of gs
 
 pub joined_parting : (old new : Parting) (gs : List Group) (d : Placed) (at : ℕ) → IsParting old gs → at ≡ place_of gs d.row → at < length old.places.items → new.keys ≡ old.keys
     → place_lists new.places.items ≡ joined_at at d.place (place_lists old.places.items) → IsParting new (with_device gs d)
@@ -84,7 +81,3 @@ ended p place all h = h.parting.places ∙ ap (λ (gs : List Group). map places_
 
 pub begun : (p : Parting) (all : List DeviceRow) → IsParting p [] → IsGoing p 0 all all
 begun p all h = record { gs = []; parting = h; behind = refl }
-
-pub none_left : {A : Type 0} (xs : List A) → length xs < 1 → xs ≡ []
-none_left [] low = refl
-none_left (x ∷ xs) low = absurd (omega arith)

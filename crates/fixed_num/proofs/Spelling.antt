@@ -1,7 +1,8 @@
 -- A text that is spelled as a value is read as just that value.
 use Rattle.std.proofs.Common.{◌≡◌, ℕ, zero, suc, ◌+◌, ◌<◌, Bool, true, false, List, [], ◌∷◌, ◌++◌, length, take, drop, map, Option, Some, None, refl, sym, ap, subst, ◌∙◌, arith, eq-eqb}
+use Rattle.std.proofs.lemmas.Option.{same_Some}
 use Rattle.std.specs.Prelude.{◌==◌, ◌&&◌, if◌then◌else◌, cond}
-use Rattle.std.proofs.lemmas.Bool.{eqb-true}
+use Rattle.std.proofs.lemmas.Bool.{eqb-true, and_parts}
 use Rattle.std.proofs.lemmas.Bool.Decides.{nat_tests}
 use Rattle.std.proofs.lemmas.List.{take-append-drop}
 use Rattle.std.specs.List.{list_all, prefix_len}
@@ -18,14 +19,6 @@ abbrev NoPoint : List ℕ → Type 0
 NoPoint [] = Unit {0}
 NoPoint (b ∷ bs) = (b == 46) ≡ false
 
-both : (a b : Bool) → (a && b) ≡ true → (a ≡ true) × (b ≡ true)
-both true true e = (refl, refl)
-both true false e = absurd (let bad : false ≡ true = e in cc)
-both false b e = absurd (let bad : false ≡ true = e in cc)
-
-some_inj : {A : Type 0} (a b : A) → Some a ≡ Some b → a ≡ b
-some_inj a b e = cc
-
 -- the digits at the head of digits and what isn't one
 taken : (t : Bool) (d : ℕ) (xs : List ℕ) (k : ℕ) → t ≡ true → (take (cond t (1 + k) 0) (d ∷ xs) ≡ d ∷ take k xs) × (drop (cond t (1 + k) 0) (d ∷ xs) ≡ drop k xs)
 taken false d xs k e = absurd (let bad : false ≡ true = e in cc)
@@ -40,7 +33,7 @@ front [] (b ∷ bs) all none = (
   ap (λ (t : Bool). drop (cond t (1 + prefix_len is_ascii_digit bs) 0) (b ∷ bs)) none,
 )
 front (d ∷ ds) rest all none =
-    let h = both (is_ascii_digit d) (list_all is_ascii_digit ds) all in
+    let h = and_parts (is_ascii_digit d) (list_all is_ascii_digit ds) all in
     let more = front ds rest h.1 none in
     let t = taken (is_ascii_digit d) d (ds ++ rest) (prefix_len is_ascii_digit (ds ++ rest)) h.0 in
     (t.0 ∙ ap (λ (xs : List ℕ). d ∷ xs) more.0, t.1 ∙ more.1)
@@ -54,7 +47,7 @@ mark b h = (grind (arith, nat_tests), grind (arith, nat_tests))
 tail_first : (x : Option Exponent) (letters : List ℕ) → IsExponent x → list_all is_ascii_alphabetic letters ≡ true
     → NoDigit (exponent_text x ++ letters) × NoPoint (exponent_text x ++ letters)
 tail_first None [] e all = (tt, tt)
-tail_first None (b ∷ bs) e all = letter b (both (is_ascii_alphabetic b) (list_all is_ascii_alphabetic bs) all).0
+tail_first None (b ∷ bs) e all = letter b (and_parts (is_ascii_alphabetic b) (list_all is_ascii_alphabetic bs) all).0
 tail_first (Some x) letters e all = mark x.mark e.0
 
 fraction_front : (f : Option (List ℕ)) (rest : List ℕ) → AreDigits (places_of f) → NoDigit rest → NoPoint rest
@@ -97,7 +90,7 @@ signed_front Minus ds letters all some none = let h = front ds letters all none 
 signed_front Unsigned [] letters all some none = absurd (omega arith)
 signed_front Unsigned (d ∷ ds) letters all some none =
     let h = front (d ∷ ds) letters all none in
-    let s = no_sign d (both (is_ascii_digit d) (list_all is_ascii_digit ds) all).0 in
+    let s = no_sign d (and_parts (is_ascii_digit d) (list_all is_ascii_digit ds) all).0 in
     let unsigned : signed_power (d ∷ (ds ++ letters)) ≡ (let p : Power = record { minus = false; digits = digits_of (d ∷ (ds ++ letters)); rest = after_digits (d ∷ (ds ++ letters)) } in p) = rw s.0 (rw s.1 refl) in
     unsigned ∙ power_is false _ _ (d ∷ ds) letters h.0 h.1
 
@@ -215,14 +208,14 @@ has_split q p h = split (length q.digits == 0) refl
   where
     split : (t : Bool) → (length q.digits == 0) ≡ t → (0 < length q.digits) × (q ≡ p)
     split true e = absurd (let bad = rw e at h in let none : None ≡ Some p = bad in cc)
-    split false e = (grind (arith, nat_tests), some_inj q p (rw e at h))
+    split false e = (grind (arith, nat_tests), same_Some q p (rw e at h))
 
 power_split : (text : List ℕ) (p : Power) → power_of text ≡ Some p → Found text p
-power_split [] p h = subst (Found []) (some_inj _ p h) (record { exponent = None; spelled = refl; ordered = tt; same = refl })
+power_split [] p h = subst (Found []) (same_Some _ p h) (record { exponent = None; spelled = refl; ordered = tt; same = refl })
 power_split (b ∷ bs) p h = split (to_ascii_lowercase b == 101) refl
   where
     split : (t : Bool) → (to_ascii_lowercase b == 101) ≡ t → Found (b ∷ bs) p
-    split false e = subst (Found (b ∷ bs)) (some_inj _ p (rw e at h)) (record { exponent = None; spelled = refl; ordered = tt; same = refl })
+    split false e = subst (Found (b ∷ bs)) (same_Some _ p (rw e at h)) (record { exponent = None; spelled = refl; ordered = tt; same = refl })
     split true e =
         let q = signed_power bs in
         let k = has_split q p (rw e at h) in
@@ -256,7 +249,7 @@ taken_of whole places rest n h = split (length whole == 0 && length places == 0)
   where
     units : (p : Power) (o : Option ℕ) → with_unit whole places p o ≡ Some n → (s : ℕ) × (o ≡ Some s) × (number_at whole places p s ≡ n)
     units p None e = absurd (cc)
-    units p (Some s) e = (s, refl, some_inj _ n e)
+    units p (Some s) e = (s, refl, same_Some _ n e)
 
     powers : (o : Option Power) → with_power whole places o ≡ Some n → (p : Power) × (o ≡ Some p) × (with_unit whole places p (unit_of p.rest) ≡ Some n)
     powers None e = absurd (cc)

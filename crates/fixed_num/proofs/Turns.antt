@@ -1,18 +1,11 @@
 -- Quarter turns and database units, as tests of a real.
-use Rattle.std.proofs.Common.{◌≡◌, ◌≢◌, ℕ, zero, suc, ◌+◌, ◌-◌, ◌*◌, ◌/◌, ◌%◌, ◌^◌, ◌<◌, ◌≤◌, Bool, true, false, cond, Option, Some, None, refl, sym, ap, ◌∙◌, arith, eq-eqb}
+use Rattle.std.proofs.Common.{◌≡◌, ℕ, zero, suc, ◌+◌, ◌-◌, ◌*◌, ◌/◌, ◌%◌, ◌^◌, ◌<◌, ◌≤◌, Bool, true, false, cond, Option, Some, None, refl, sym, ap, ◌∙◌, arith, eq-eqb}
 use Rattle.std.specs.Prelude.{nat_le, nat_lt, ◌==◌, ◌&&◌, not}
-use Rattle.std.proofs.lemmas.Bool.{eqb-true}
+use Rattle.std.proofs.lemmas.Bool.{eqb-true, ne_eqb}
 use Rattle.fixed_num.specs.Real.{Real, IsAngle, IsPicometres, is_unit, quarter_of, whole}
 
 abbrev chain : Bool → Bool → Bool → Bool → Bool → Option ℕ
 chain a b c d e = cond a (Some 0) (cond b (Some 1) (cond c (Some 2) (cond d (Some 3) (cond e (Some 4) None))))
-
-no : (w x : ℕ) → w ≢ x → (w == x) ≡ false
-no w x h = other (w == x) (λ e. h (eqb-true w x e))
-  where
-    other : (c : Bool) → (c ≡ true → ⊥) → c ≡ false
-    other true f = absurd (f refl)
-    other false f = refl
 
 turns_is : (w a : ℕ) → a ≤ 4 → w ≡ 90 * a * 16 ^ 78 → chain (w == 90 * 0 * 16 ^ 78) (w == 90 * 1 * 16 ^ 78) (w == 90 * 2 * 16 ^ 78) (w == 90 * 3 * 16 ^ 78) (w == 90 * 4 * 16 ^ 78) ≡ Some a
 turns_is w zero le e = rw e refl
@@ -24,11 +17,11 @@ turns_is w (suc (suc (suc (suc (suc n))))) le e = absurd (omega arith)
 
 turns_none : (w : ℕ) → ((a : ℕ) → a ≤ 4 → w ≡ 90 * a * 16 ^ 78 → ⊥) → chain (w == 90 * 0 * 16 ^ 78) (w == 90 * 1 * 16 ^ 78) (w == 90 * 2 * 16 ^ 78) (w == 90 * 3 * 16 ^ 78) (w == 90 * 4 * 16 ^ 78) ≡ None
 turns_none w h =
-    let a = no w (90 * 0 * 16 ^ 78) (h 0 (omega arith)) in
-    let b = no w (90 * 1 * 16 ^ 78) (h 1 (omega arith)) in
-    let c = no w (90 * 2 * 16 ^ 78) (h 2 (omega arith)) in
-    let d = no w (90 * 3 * 16 ^ 78) (h 3 (omega arith)) in
-    let e = no w (90 * 4 * 16 ^ 78) (h 4 (omega arith)) in
+    let a = ne_eqb w (90 * 0 * 16 ^ 78) (h 0 (omega arith)) in
+    let b = ne_eqb w (90 * 1 * 16 ^ 78) (h 1 (omega arith)) in
+    let c = ne_eqb w (90 * 2 * 16 ^ 78) (h 2 (omega arith)) in
+    let d = ne_eqb w (90 * 3 * 16 ^ 78) (h 3 (omega arith)) in
+    let e = ne_eqb w (90 * 4 * 16 ^ 78) (h 4 (omega arith)) in
     rw (a, b, c, d, e) refl
 
 abbrev of_turns : Bool → Option ℕ → Option ℕ

@@ -10,7 +10,7 @@ use Rattle.flat_laws.proofs.Once.{each_once, gate_between, gate_on, gate_self, s
 use Rattle.flat_laws.proofs.Paths.{same_place}
 use Rattle.flat_laws.proofs.Rows.{one_least, square_apart}
 use Rattle.flat_laws.proofs.Zone.{leads_of}
-use Rattle.flat_layout.specs.Gates.{Ends, Cause, Geometry, Rule, geometry, InGate, IsBadGate, IsGoodGate, IsLeast, IsListedGate, IsSettled, IsSoundGeometry, IsTerminalNode, IsFound, moved_ends}
+use Rattle.flat_layout.specs.Gates.{Ends, Geometry, Rule, geometry, InGate, IsBadGate, IsGoodGate, IsLeast, IsListedGate, IsSettled, IsSoundGeometry, IsTerminalNode, IsFound, moved_ends}
 use Rattle.flat_layout.specs.GateTables.{AreGates, Bad, GateEntry, GateRow, Good, IsGateBefore, IsGateEntry, IsVerdict, Verdict}
 use Rattle.flat_layout.specs.Layers.{InFlat}
 use Rattle.flat_layout.specs.Layout.{Design, IsHeight, IsPlaced, IsReached, Leads, Place, Takes}
@@ -21,6 +21,7 @@ use Rattle.geo_base.specs.Motions.{moved_square}
 use Rattle.geo_base.specs.declared.shapes.Square.{Square}
 use Rattle.plain_netlist.specs.Lists.{AreRising, IsListed}
 use Rattle.plain_netlist.specs.Netlist.{Pole}
+use Rattle.flat_layout.specs.declared.cause.GateCause.{GateCause}
 
 one_end : (d : Design) (path : List ℕ) (cell a b : ℕ) → Leads d cell path a → Leads d cell path b → a ≡ b
 one_end d [] cell a b h g = sym h ∙ g
@@ -172,12 +173,12 @@ module _ (d : Design) (w : Wiring) (t : Tables) (rules : List Rule) (gates : ℕ
         by (Good row) this = let a = above (Good row) this in let same = one_sizes d w u d.top q a.ends ends row.twice_w row.twice_l m n a.good good in (row, this, same.0, same.1)
         by (Bad cause) this = absurd (not_both d w u d.top q ends m n cause good (above (Bad cause) this).1)
 
-    is_bad : (c : Cause) → IsBadGate d w u d.top q c → x.verdict ≡ Bad c
+    is_bad : (c : GateCause) → IsBadGate d w u d.top q c → x.verdict ≡ Bad c
     is_bad c bad = by x.verdict refl
       where
         by : (v : Verdict) → x.verdict ≡ v → x.verdict ≡ Bad c
         by (Good row) this = let a = above (Good row) this in absurd (not_both d w u d.top q a.ends row.twice_w row.twice_l c a.good bad)
-        by (Bad cause) this = this ∙ ap (λ (e : Cause). Bad e) (one_cause d w u d.top q cause c (above (Bad cause) this).1 bad)
+        by (Bad cause) this = this ∙ ap (λ (e : GateCause). Bad e) (one_cause d w u d.top q cause c (above (Bad cause) this).1 bad)
 
 pub flat_gates : FlatGatesLaw
 flat_gates d w t rules gates height lower right = record {

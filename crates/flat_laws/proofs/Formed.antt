@@ -3,7 +3,7 @@ use Rattle.std.proofs.Common.{◌≡◌, ◌↔◌, inl, inr, ℕ, max, ◌≤�
 use Rattle.std.proofs.Math.Nat.{le-max_left, le-max_right}
 use Rattle.std.proofs.lemmas.List.{length-map}
 use Rattle.flat_laws.specs.GateLaws.{IsReadWhole, KeptFormLaw, ReadLayersLaw}
-use Rattle.flat_layout.specs.Gates.{Rule, Geometry, geometry, gate_inputs, IsReadBy, IsStep, InGate, IsGateOrRing, InRing, IsSettled, InSide, InOneGroup, Edge, IsBorder, IsWide, IsLong, AreGroups, IsGoodGate, IsTerminalNode, Cause, Groups, OffGate, OffSd, NoBulk, NoLength, IsBadGate, Ends, TwoGroups, Region, Form, Beside, Alone, Kind, Mos, Resistor, Diode, form_of, gate_sheet, sheets, IsRegionNode, IsGroupNode, IsGateNode, moved_edge, moved_ends}
+use Rattle.flat_layout.specs.Gates.{Rule, Geometry, geometry, gate_inputs, IsReadBy, IsStep, InGate, IsGateOrRing, InRing, IsSettled, InSide, InOneGroup, Edge, IsBorder, IsWide, IsLong, AreGroups, IsGoodGate, IsTerminalNode, IsBadGate, Ends, TwoGroups, Region, Form, Beside, Alone, Kind, Mos, Resistor, Diode, form_of, gate_sheet, sheets, IsRegionNode, IsGroupNode, IsGateNode, moved_edge, moved_ends}
 use Rattle.flat_layout.specs.Layers.{Formula, inputs, reach, InFlat}
 use Rattle.flat_layout.specs.Layout.{Place, Design, Some_of, IsPlaced, IsReached}
 use Rattle.flat_layout.specs.Parts.{AllOn, SomeOff, InEnds, IsGoodPart, IsBadPart, IsGoodArea, IsBadArea, IsGoodForm, IsBadForm}
@@ -19,6 +19,8 @@ use Rattle.plain_netlist.proofs.Links.{single, along}
 use Rattle.flat_laws.proofs.Moves.{edges, onto}
 use Rattle.flat_laws.proofs.Mapped.{counts_map, classes_map, chain_down}
 use Rattle.flat_laws.proofs.Kept.{close_in, close_by, same_read, gate_up, gate_down, squares, ring}
+use Rattle.flat_layout.specs.declared.cause.GateCause.{GateCause}
+use Rattle.flat_layout.specs.declared.cause.GateCause.TheVariants.{Groups, OffGate, OffSd, NoBulk, NoLength}
 
 -- some gate square is off the conductor; each square of the two groups is on that of source and drain; some isn't
 abbrev IsGateOff : Design → Wiring → Rule → ℕ → Square → ℕ → Type 0
@@ -396,7 +398,7 @@ module _ (d : Design) (w : Wiring) (u : Rule) (cell k : ℕ) (p : Place) (s : Sq
   sheet_off Resistor (q, i, not) = absurd (not tt)
   sheet_off Diode (q, i, not) = absurd (not tt)
 
-  bad_part : (c : Cause) → IsBadPart (sheets d w u p.cell) (InGate d geo p.cell s) c → IsBadPart (sheets d w u cell) (InGate d geo cell (f s)) c
+  bad_part : (c : GateCause) → IsBadPart (sheets d w u p.cell) (InGate d geo p.cell s) c → IsBadPart (sheets d w u cell) (InGate d geo cell (f s)) c
   bad_part (Groups count) (list, h, long, not) = (map both_ends list, same_groups list h, length-map list both_ends ∙ long, not)
   bad_part OffGate (e, g, h, off) = (both_ends e, both_ends g, same_groups (e ∷ (g ∷ [])) h, sheet_off u.kind off)
   bad_part OffSd (e, g, h, tg, off) = (both_ends e, both_ends g, same_groups (e ∷ (g ∷ [])) h, sheet_on u.kind tg, ends_off e g h off)
@@ -411,18 +413,18 @@ module _ (d : Design) (w : Wiring) (u : Rule) (cell k : ℕ) (p : Place) (s : Sq
     counts_map both_ends one_edge (IsLong d w u p.cell s) (IsLong d w u cell (f s)) long onto_edge 0 zero_long,
   )
 
-  bad_area : (c : Cause) → IsBadArea (sheets d w u p.cell) (InGate d geo p.cell s) c → IsBadArea (sheets d w u cell) (InGate d geo cell (f s)) c
+  bad_area : (c : GateCause) → IsBadArea (sheets d w u p.cell) (InGate d geo p.cell s) c → IsBadArea (sheets d w u cell) (InGate d geo cell (f s)) c
   bad_area (Groups count) h = h
   bad_area OffGate h = h
   bad_area OffSd (free, off) = (free, gate_off u.ts whole.ts off)
   bad_area NoBulk (on, none, off) = ((λ free. all_on (formula w u.ts) whole.ts (on free)), none, gate_off u.tb whole.tb off)
   bad_area NoLength h = h
 
-  bad_form : (form : Form) (c : Cause) → IsBadForm form (sheets d w u p.cell) (InGate d geo p.cell s) c → IsBadForm form (sheets d w u cell) (InGate d geo cell (f s)) c
+  bad_form : (form : Form) (c : GateCause) → IsBadForm form (sheets d w u p.cell) (InGate d geo p.cell s) c → IsBadForm form (sheets d w u cell) (InGate d geo cell (f s)) c
   bad_form Beside c h = bad_part c h
   bad_form Alone c h = bad_area c h
 
-  pub bad : (c : Cause) → IsBadGate d w u p.cell s c → IsBadGate d w u cell (f s) c
+  pub bad : (c : GateCause) → IsBadGate d w u p.cell s c → IsBadGate d w u cell (f s) c
   bad c h = bad_form (form_of u.kind) c h
 
   -- ---- terminals

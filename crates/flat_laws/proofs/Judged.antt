@@ -2,7 +2,7 @@
 use Rattle.std.proofs.Common.{◌≡◌, ◌⊎◌, inl, inr, ℕ, suc, ◌≤◌, List, [], ◌∷◌, length, refl, sym, ◌∙◌, ap, subst, arith}
 use Rattle.geo_base.specs.declared.shapes.Square.{Square}
 use Rattle.flat_laws.specs.GateLaws.{CauseAlongLaw, NotBothLaw, OneCauseLaw}
-use Rattle.flat_layout.specs.Gates.{Rule, geometry, Cause, Groups, OffGate, OffSd, NoBulk, NoLength, Edge, Ends, TwoGroups, Region, Form, Beside, Alone, form_of, gate_sheet, sheets, AreClasses, AreGroups, IsStep, InSide, InOneGroup, IsWide, IsBadGate, InGate}
+use Rattle.flat_layout.specs.Gates.{Rule, geometry, Edge, Ends, TwoGroups, Region, Form, Beside, Alone, form_of, gate_sheet, sheets, AreClasses, AreGroups, IsStep, InSide, InOneGroup, IsWide, IsBadGate, InGate}
 use Rattle.flat_layout.specs.Parts.{AllOn, SomeOff, InEnds, IsGoodPart, IsBadPart, IsGoodArea, IsBadArea, IsGoodForm, IsBadForm}
 use Rattle.flat_layout.specs.Layout.{Design}
 use Rattle.flat_layout.specs.Layers.{InFlat}
@@ -14,6 +14,8 @@ use Rattle.flat_laws.proofs.Cover.{reached_below}
 use Rattle.flat_laws.proofs.Formed.{bad, read_layers}
 use Rattle.flat_laws.proofs.Once.{settled_along}
 use Rattle.flat_laws.proofs.Squares.{edge_back}
+use Rattle.flat_layout.specs.declared.cause.GateCause.{GateCause}
+use Rattle.flat_layout.specs.declared.cause.GateCause.TheVariants.{Groups, OffGate, OffSd, NoBulk, NoLength}
 
 module _ {A : Type 0} (P : A → Type 0) (R : A → A → Type 0) (turn : (a b : A) → R a b → R b a) (on : (a b c : A) → R a b → R b c → R a c) (l m : List A) (x : AreClasses P R l) (y : AreClasses P R m) where
   record Images (xs : List A) : Type 0 where
@@ -108,14 +110,14 @@ module _ (d : Design) (w : Wiring) (u : Rule) (cell : ℕ) (s : Square) where
   many : (l : List Edge) (e f : Edge) (count : ℕ) → AreGroups d w u cell s l → length l ≡ count → (count ≡ 2 → ⊥) → AreGroups d w u cell s (e ∷ (f ∷ [])) → ⊥
   many l e f count x long apart2 y = let h = as_many l (e ∷ (f ∷ [])) x y in apart2 (sym long ∙ h)
 
-  not_both_part : (e f : Edge) (m n : ℕ) (c : Cause) → IsGoodPart (sheets d w u cell) (InGate d (geometry w u) cell s) e f m n → IsBadPart (sheets d w u cell) (InGate d (geometry w u) cell s) c → ⊥
+  not_both_part : (e f : Edge) (m n : ℕ) (c : GateCause) → IsGoodPart (sheets d w u cell) (InGate d (geometry w u) cell s) e f m n → IsBadPart (sheets d w u cell) (InGate d (geometry w u) cell s) c → ⊥
   not_both_part e f m n (Groups count) form (l, x, long, apart2) = many l e f count x long apart2 form.groups
   not_both_part e f m n OffGate form (a, b, x, off) = on_off on_tg form.gate_on off
   not_both_part e f m n OffSd form (a, b, x, gate, off) = ends_clash a b e f x form.groups form.ends_on off
   not_both_part e f m n NoBulk form (a, b, x, gate, ends, none, off) = on_off on_tb (form.bulk_on none) off
   not_both_part e f m n NoLength form (a, b, x, gate, ends, bulk, none) = let h = (counts d w u cell s n 0).1 form.long none in let k = form.some in absurd (omega arith)
 
-  one_part : (a b : Cause) → IsBadPart (sheets d w u cell) (InGate d (geometry w u) cell s) a → IsBadPart (sheets d w u cell) (InGate d (geometry w u) cell s) b → a ≡ b
+  one_part : (a b : GateCause) → IsBadPart (sheets d w u cell) (InGate d (geometry w u) cell s) a → IsBadPart (sheets d w u cell) (InGate d (geometry w u) cell s) b → a ≡ b
   one_part (Groups m) (Groups n) (l, x, long, apart2) (k, y, far, not) = let h = as_many l k x y in ap Groups (sym long ∙ (h ∙ far))
   one_part (Groups m) OffGate (l, x, long, apart2) k = absurd (many l k.0 k.1 m x long apart2 k.2)
   one_part (Groups m) OffSd (l, x, long, apart2) k = absurd (many l k.0 k.1 m x long apart2 k.2)
@@ -142,14 +144,14 @@ module _ (d : Design) (w : Wiring) (u : Rule) (cell : ℕ) (s : Square) where
   one_part NoBulk NoLength h k = absurd (on_off on_tb (k.5 h.5) h.6)
   one_part NoLength NoBulk h k = absurd (on_off on_tb (h.5 k.5) k.6)
 
-  not_both_area : (m n : ℕ) (c : Cause) → IsGoodArea (sheets d w u cell) (InGate d (geometry w u) cell s) m n → IsBadArea (sheets d w u cell) (InGate d (geometry w u) cell s) c → ⊥
+  not_both_area : (m n : ℕ) (c : GateCause) → IsGoodArea (sheets d w u cell) (InGate d (geometry w u) cell s) m n → IsBadArea (sheets d w u cell) (InGate d (geometry w u) cell s) c → ⊥
   not_both_area m n (Groups count) form h = h
   not_both_area m n OffGate form h = h
   not_both_area m n OffSd form (free, off) = on_off on_ts (form.ends_on free) off
   not_both_area m n NoBulk form (ends, none, off) = on_off on_tb (form.bulk_on none) off
   not_both_area m n NoLength form h = h
 
-  one_area : (a b : Cause) → IsBadArea (sheets d w u cell) (InGate d (geometry w u) cell s) a → IsBadArea (sheets d w u cell) (InGate d (geometry w u) cell s) b → a ≡ b
+  one_area : (a b : GateCause) → IsBadArea (sheets d w u cell) (InGate d (geometry w u) cell s) a → IsBadArea (sheets d w u cell) (InGate d (geometry w u) cell s) b → a ≡ b
   one_area (Groups m) b h k = absurd h
   one_area OffGate b h k = absurd h
   one_area NoLength b h k = absurd h
@@ -164,13 +166,13 @@ module _ (d : Design) (w : Wiring) (u : Rule) (cell : ℕ) (s : Square) where
   one_area NoBulk OffSd h k = absurd (on_off on_ts (h.0 k.0) k.1)
   one_area NoBulk NoBulk h k = refl
 
-  not_both_form : (form : Form) (ends : Ends) (m n : ℕ) (c : Cause) → IsGoodForm form (sheets d w u cell) (InGate d (geometry w u) cell s) ends m n → IsBadForm form (sheets d w u cell) (InGate d (geometry w u) cell s) c → ⊥
+  not_both_form : (form : Form) (ends : Ends) (m n : ℕ) (c : GateCause) → IsGoodForm form (sheets d w u cell) (InGate d (geometry w u) cell s) ends m n → IsBadForm form (sheets d w u cell) (InGate d (geometry w u) cell s) c → ⊥
   not_both_form Beside (TwoGroups e f) m n c h k = not_both_part e f m n c h k
   not_both_form Beside Region m n c h k = h
   not_both_form Alone (TwoGroups e f) m n c h k = h
   not_both_form Alone Region m n c h k = not_both_area m n c h k
 
-  one_form : (form : Form) (a b : Cause) → IsBadForm form (sheets d w u cell) (InGate d (geometry w u) cell s) a → IsBadForm form (sheets d w u cell) (InGate d (geometry w u) cell s) b → a ≡ b
+  one_form : (form : Form) (a b : GateCause) → IsBadForm form (sheets d w u cell) (InGate d (geometry w u) cell s) a → IsBadForm form (sheets d w u cell) (InGate d (geometry w u) cell s) b → a ≡ b
   one_form Beside a b h k = one_part a b h k
   one_form Alone a b h k = one_area a b h k
 

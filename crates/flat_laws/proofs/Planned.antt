@@ -1,5 +1,6 @@
 -- Right tables, in words of numbers and indexes.
 use Rattle.std.proofs.Common.{◌≡◌, inl, inr, ℕ, zero, suc, ◌+◌, ◌<◌, ◌≤◌, Bool, true, false, ◌&&◌, List, [], ◌∷◌, Some, slice_get, length, refl, sym, ◌∙◌, ap, subst, arith}
+use Rattle.std.proofs.lemmas.Bool.{and_parts}
 use Rattle.flat_laws.specs.NetlistLaws.{PlannedLaw}
 use Rattle.flat_laws.specs.Planned.{IsPlannedCircuit, IsJoiningCall}
 use Rattle.flat_layout.specs.Circuits.{CircuitParts, HasCircuit, IsCallOf, IsCircuitCell, IsCircuitOf, IsDeviceOfGate, both, pin_nets, true_places}
@@ -37,14 +38,10 @@ at_true k (true ∷ bs) (suc j) h = inr (subst (λ n. IsListed n (true_places (s
 at_true k (false ∷ bs) zero h = cc
 at_true k (false ∷ bs) (suc j) h = subst (λ n. IsListed n (true_places (suc k) bs)) (let e : suc k + j ≡ k + suc j = omega arith in e) (at_true (suc k) bs j h)
 
-and_true : (a b : Bool) → (a && b) ≡ true → (a ≡ true) × (b ≡ true)
-and_true true b h = (refl, h)
-and_true false b h = cc
-
 both_at : (ps ds : List Bool) (j : ℕ) → slice_get (both ps ds) j ≡ Some true → (slice_get ps j ≡ Some true) × (slice_get ds j ≡ Some true)
 both_at [] ds j h = cc
 both_at (p ∷ ps) [] j h = cc
-both_at (p ∷ ps) (b ∷ ds) zero h = let e : (p && b) ≡ true = (let f : Some (p && b) ≡ Some true = h in cc) in let r = and_true p b e in (ap Some r.0, ap Some r.1)
+both_at (p ∷ ps) (b ∷ ds) zero h = let e : (p && b) ≡ true = (let f : Some (p && b) ≡ Some true = h in cc) in let r = and_parts p b e in (ap Some r.0, ap Some r.1)
 both_at (p ∷ ps) (b ∷ ds) (suc j) h = both_at ps ds j h
 
 at_both : (ps ds : List Bool) (j : ℕ) → slice_get ps j ≡ Some true → slice_get ds j ≡ Some true → slice_get (both ps ds) j ≡ Some true

@@ -1,6 +1,5 @@
 -- A device whose card names fewer nets has the others on the same.
 use Rattle.std.proofs.Common.{◌≡◌, ℕ, ◌<◌, List, Some, slice_get, length, refl, sym, ◌∙◌, ap, subst}
-use Rattle.flat_layout.specs.Circuits.{IsCircuitCell}
 use Rattle.flat_layout.specs.Expanded.{AreTablesRight, CircuitTables}
 use Rattle.flat_layout.specs.Gates.{Ends, TwoGroups, Region, Form, Beside, Alone, Kind, Mos, Resistor, Diode, Rule, form_of, geometry, sheets, InGate, IsDrainNode, IsGateNode, IsSettled, IsSourceNode, IsTerminalNode}
 use Rattle.flat_layout.specs.GateTables.{GateRow, IsGateRow, terminal_net}
@@ -9,7 +8,7 @@ use Rattle.flat_layout.specs.Nets.{Tables}
 use Rattle.flat_layout.specs.Parts.{IsGoodForm}
 use Rattle.flat_layout.specs.Regions.{Wiring, Node, Ground, IsNode, kept}
 use Rattle.geo_base.specs.declared.shapes.Square.{Square}
-use Rattle.plain_netlist.specs.Netlist.{DeviceRow, Netlist, IsDevice, Pole, Source, Gate, Drain, Bulk, on}
+use Rattle.plain_netlist.specs.Netlist.{DeviceRow, Netlist, Pole, Source, Gate, Drain, Bulk, on}
 use Rattle.flat_laws.specs.NetlistLaws.{EqualPolesLaw, HasEqualPoles}
 use Rattle.flat_laws.specs.Planned.{ArePlanned}
 use Rattle.flat_laws.proofs.OneNet.{regions}

@@ -1,7 +1,7 @@
 -- A gate is the same by each of its squares.
 use Rattle.std.proofs.Common.{◌≡◌, ◌↔◌, inl, inr, ℕ, List, [], ◌∷◌, refl, ap, subst, map}
 use Rattle.flat_laws.specs.GateLaws.{SameGateLaw}
-use Rattle.flat_layout.specs.Gates.{Rule, Geometry, geometry, IsStep, InGate, IsGateOrRing, InSide, InOneGroup, Edge, Ends, TwoGroups, Region, Form, Beside, Alone, form_of, gate_sheet, sheets, IsBorder, IsWide, IsLong, AreGroups, IsGoodGate, Cause, Groups, OffGate, OffSd, NoBulk, NoLength, IsBadGate}
+use Rattle.flat_layout.specs.Gates.{Rule, Geometry, geometry, IsStep, InGate, IsGateOrRing, InSide, InOneGroup, Edge, Ends, TwoGroups, Region, Form, Beside, Alone, form_of, gate_sheet, sheets, IsBorder, IsWide, IsLong, AreGroups, IsGoodGate, IsBadGate}
 use Rattle.flat_layout.specs.Layers.{InFlat}
 use Rattle.flat_layout.specs.Layout.{Design}
 use Rattle.flat_layout.specs.Parts.{AllOn, SomeOff, InEnds, IsGoodPart, IsBadPart, IsGoodArea, IsBadArea, IsGoodForm, IsBadForm}
@@ -10,6 +10,8 @@ use Rattle.geo_base.specs.declared.shapes.Square.{Square}
 use Rattle.plain_netlist.proofs.Links.{single, along}
 use Rattle.flat_laws.proofs.Mapped.{counts_map, classes_map}
 use Rattle.flat_laws.proofs.Once.{gate_on, gate_between}
+use Rattle.flat_layout.specs.declared.cause.GateCause.{GateCause}
+use Rattle.flat_layout.specs.declared.cause.GateCause.TheVariants.{Groups, OffGate, OffSd, NoBulk, NoLength}
 
 -- a gate's form by another of its squares
 module _ (d : Design) (w : Wiring) (u : Rule) (cell : ℕ) (s z : Square) (one : InGate d (geometry w u) cell s z) where
@@ -106,7 +108,7 @@ module _ (d : Design) (w : Wiring) (u : Rule) (cell : ℕ) (s z : Square) (one :
   abbrev on_tg : Square → Type 0
   on_tg = gate_sheet u.kind (InFlat d cell (formula w u.tg))
 
-  bad_part : (c : Cause) → IsBadPart (sheets d w u cell) (InGate d geo cell s) c → IsBadPart (sheets d w u cell) (InGate d geo cell z) c
+  bad_part : (c : GateCause) → IsBadPart (sheets d w u cell) (InGate d geo cell s) c → IsBadPart (sheets d w u cell) (InGate d geo cell z) c
   bad_part (Groups count) (list, h, long, not) = (list, same_groups list h, long, not)
   bad_part OffGate (e, g, h, off) = (e, g, same_groups (e ∷ (g ∷ [])) h, off_same on_tg off)
   bad_part OffSd (e, g, h, tg, (q, i, not)) = (e, g, same_groups (e ∷ (g ∷ [])) h, all_same on_tg tg, (q, (end_same e g q).0 i, not))
@@ -122,18 +124,18 @@ module _ (d : Design) (w : Wiring) (u : Rule) (cell : ℕ) (s z : Square) (one :
     counts_map (λ (x : Edge). x) (λ a b k. k) (IsLong d w u cell s) (IsLong d w u cell z) long_same (λ b. (b, refl)) 0 none,
   )
 
-  bad_area : (c : Cause) → IsBadArea (sheets d w u cell) (InGate d geo cell s) c → IsBadArea (sheets d w u cell) (InGate d geo cell z) c
+  bad_area : (c : GateCause) → IsBadArea (sheets d w u cell) (InGate d geo cell s) c → IsBadArea (sheets d w u cell) (InGate d geo cell z) c
   bad_area (Groups count) h = h
   bad_area OffGate h = h
   bad_area OffSd (free, off) = (free, off_same (InFlat d cell (formula w u.ts)) off)
   bad_area NoBulk (on, none, off) = ((λ free. all_same (InFlat d cell (formula w u.ts)) (on free)), none, off_same (InFlat d cell (formula w u.tb)) off)
   bad_area NoLength h = h
 
-  bad_form : (form : Form) (c : Cause) → IsBadForm form (sheets d w u cell) (InGate d geo cell s) c → IsBadForm form (sheets d w u cell) (InGate d geo cell z) c
+  bad_form : (form : Form) (c : GateCause) → IsBadForm form (sheets d w u cell) (InGate d geo cell s) c → IsBadForm form (sheets d w u cell) (InGate d geo cell z) c
   bad_form Beside c h = bad_part c h
   bad_form Alone c h = bad_area c h
 
-  pub bad_same : (c : Cause) → IsBadGate d w u cell s c → IsBadGate d w u cell z c
+  pub bad_same : (c : GateCause) → IsBadGate d w u cell s c → IsBadGate d w u cell z c
   bad_same c h = bad_form (form_of u.kind) c h
 
 pub same_gate : SameGateLaw

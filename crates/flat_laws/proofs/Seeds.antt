@@ -2,8 +2,8 @@
 use Rattle.flat_laws.proofs.Squares.{edge_back}
 use Rattle.flat_laws.proofs.Terminals.{keep}
 use Rattle.plain_netlist.proofs.Links.{stays, single, prepend, both, back, along}
-use Rattle.std.proofs.lemmas.Bool.{false≢true}
-use Rattle.std.proofs.Common.{◌≡◌, ◌↔◌, inl, inr, ℕ, ◌+◌, List, [], ◌∷◌, refl, sym, subst, Bool, true, false, ◌⊎◌, arith}
+use Rattle.std.proofs.Common.{◌≡◌, ◌↔◌, inl, inr, ℕ, ◌+◌, List, [], ◌∷◌, refl, sym, subst, Bool, true, arith}
+use Rattle.base_laws.proofs.Tests.{true_or_not}
 use Rattle.flat_laws.specs.SeedLaws.{ReachLaw, SeedLaw, ThroughLaw, CalmThroughLaw, TestLaw, BelowLaw, OwnSeedLaw, KeptPartLaw, ClosedLaw, PartedLaw}
 use Rattle.flat_layout.specs.Gates.{Geometry, IsStep, InGate, IsGateOrRing, IsSettled, IsSoundGeometry, IsGateBelow}
 use Rattle.flat_layout.specs.Layers.{inputs, reach as reach_from, InFlat, Formula, Input, Empty, Binary, Sized, IsKept, IsStirred}
@@ -16,7 +16,7 @@ use Rattle.geo_base.specs.Motions.{moved_square}
 use Rattle.geo_base.specs.declared.shapes.Square.{Square}
 use Rattle.plain_netlist.specs.Chains.{IsChain, Reaches}
 use Rattle.flat_laws.proofs.Kept.{in_next, close_in, close, gate_up, gate_down}
-use Rattle.flat_laws.proofs.Moves.{edges, arounds, around_same, edge_around, farther, onto, wider, within_back, withins}
+use Rattle.flat_laws.proofs.Moves.{edges, arounds, edge_around, farther, onto, wider, within_back, withins}
 use Rattle.flat_laws.proofs.Names.{same_flat, fewer_stirred, near_input}
 use Rattle.flat_laws.proofs.Once.{gate_flat, gate_on, gate_between, gate_self}
 use Rattle.flat_laws.proofs.Paths.{disturbs}
@@ -269,10 +269,6 @@ closed d geo cell found h s q is = (
   (λ p. record { from = is; joined = inside d geo cell found h s q p.joined.via is p.joined.chain }),
 )
 
-either_bool : (b : Bool) → (b ≡ true) ⊎ (b ≡ true → ⊥)
-either_bool true = inl refl
-either_bool false = inr (λ e. false≢true e)
-
 -- a settled gate that wasn't found comes from below
 pub unfound : (d : Design) (geo : Geometry) (small : IsSoundGeometry geo) (cell : ℕ) (found : Square → Bool) → IsReached d cell → IsClosed d geo cell found
     → ((a q : Square) → IsKept d cell geo.region a → IsAround a q → IsNearSeed d geo cell q → found a ≡ true) → (s : Square) → IsSettled d geo cell s → (found s ≡ true → ⊥) → IsGateBelow d geo cell s
@@ -289,7 +285,7 @@ unfound d geo small cell found reached h seeds s settled not =
     turn_step S a b k = record { from = k.to; to = k.from; edge = edge_back a b k.edge }
 
 pub parted : PartedLaw
-parted d geo cell found small reached h seeds judged s settled = elim (either_bool (found s)) [
+parted d geo cell found small reached h seeds judged s settled = elim (true_or_not (found s)) [
   | inl e ↦ judged s e settled
   | inr not ↦ inr (unfound d geo small cell found reached h seeds s settled not)
 ]

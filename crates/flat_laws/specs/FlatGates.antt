@@ -1,7 +1,7 @@
 -- The gates of the cells' lists, seen from the top along all paths, are the gates of the flat top,
 -- each once.
 use Rattle.std.specs.Prelude.{◌≡◌, ℕ, List, Some, slice_get}
-use Rattle.flat_layout.specs.Gates.{Ends, Cause, Rule, geometry, InGate, IsGoodGate, IsBadGate}
+use Rattle.flat_layout.specs.Gates.{Ends, Rule, geometry, InGate, IsGoodGate, IsBadGate}
 use Rattle.flat_layout.specs.Gates.{IsTerminalNode}
 use Rattle.flat_layout.specs.GateTables.{AreGates, Bad, GateEntry, GateRow, Good, IsGateRow}
 use Rattle.flat_layout.specs.GateTables.{Verdict}
@@ -12,6 +12,7 @@ use Rattle.flat_layout.specs.Regions.{Wiring, Node, At, Ground}
 use Rattle.geo_base.specs.declared.shapes.Square.{Square}
 use Rattle.plain_netlist.specs.Lists.{IsListed}
 use Rattle.plain_netlist.specs.Netlist.{Pole}
+use Rattle.flat_layout.specs.declared.cause.GateCause.{GateCause}
 
 -- the path takes a node of its end to a node: a square as it takes squares, a global to itself
 abbrev pub TakesNode : Design → ℕ → List ℕ → ℕ → Node → Node → Type 0
@@ -67,7 +68,7 @@ pub record AreFlatGates (d : Design) (w : Wiring) (t : Tables) (rules : List Rul
       (m n : ℕ) → ShowsGate d gates path end x q → slice_get rules x.at.rule ≡ Some u
       → IsGoodGate d w u d.top q ends m n
       → (row : GateRow) × (x.verdict ≡ Good row) × (row.twice_w ≡ m) × (row.twice_l ≡ n)
-  pub bad : (u : Rule) (path : List ℕ) (end : ℕ) (x : GateEntry) (q : Square) (c : Cause)
+  pub bad : (u : Rule) (path : List ℕ) (end : ℕ) (x : GateEntry) (q : Square) (c : GateCause)
       → ShowsGate d gates path end x q → slice_get rules x.at.rule ≡ Some u
       → IsBadGate d w u d.top q c → x.verdict ≡ Bad c
 

@@ -1,6 +1,6 @@
 -- Gates of a placed cell and of its parent.
 use Rattle.std.specs.Prelude.{◌≡◌, ◌⊎◌, ◌↔◌, ℕ, ◌<◌, List, Some, length}
-use Rattle.flat_layout.specs.Gates.{Cause, Counts, Ends, Geometry, InGate, InOneGroup, InRing}
+use Rattle.flat_layout.specs.Gates.{Counts, Ends, Geometry, InGate, InOneGroup, InRing}
 use Rattle.flat_layout.specs.Gates.{InSide, IsBadGate, IsBorder, IsFound, IsGateBelow, IsGoodGate}
 use Rattle.flat_layout.specs.Gates.{IsListedGate, IsLong, IsReadBy, IsSettled, IsSoundGeometry}
 use Rattle.flat_layout.specs.Gates.{IsTerminalNode, IsWide, Rule, geometry, moved_ends}
@@ -11,6 +11,7 @@ use Rattle.flat_layout.specs.Regions.{ground_of}
 use Rattle.geo_base.specs.Motions.{moved_square}
 use Rattle.geo_base.specs.declared.shapes.Square.{Square}
 use Rattle.plain_netlist.specs.Netlist.{Pole}
+use Rattle.flat_layout.specs.declared.cause.GateCause.{GateCause}
 
 -- a rule's geometry reads each layer of the rule
 pub record IsReadWhole (w : Wiring) (u : Rule) : Type 0 where
@@ -56,7 +57,7 @@ pub record IsFormKept (d : Design) (w : Wiring) (u : Rule) (cell : ℕ) (p : Pla
   pub good_back : (ends : Ends) (m n : ℕ)
       → IsGoodGate d w u cell (moved_square p.motion s) (moved_ends p.motion ends) m n
       → IsGoodGate d w u p.cell s ends m n
-  pub bad : (c : Cause) → IsBadGate d w u p.cell s c
+  pub bad : (c : GateCause) → IsBadGate d w u p.cell s c
       → IsBadGate d w u cell (moved_square p.motion s) c
 
 abbrev pub KeptFormLaw : Type 0
@@ -122,11 +123,11 @@ OneSizesLaw = (d : Design) (w : Wiring) (u : Rule) (cell : ℕ) (s : Square) (a 
 -- a good gate isn't bad
 abbrev pub NotBothLaw : Type 0
 NotBothLaw = (d : Design) (w : Wiring) (u : Rule) (cell : ℕ) (s : Square) (ends : Ends) (m n : ℕ)
-    (c : Cause) → IsGoodGate d w u cell s ends m n → IsBadGate d w u cell s c → ⊥
+    (c : GateCause) → IsGoodGate d w u cell s ends m n → IsBadGate d w u cell s c → ⊥
 
 -- and a bad one has one cause
 abbrev pub OneCauseLaw : Type 0
-OneCauseLaw = (d : Design) (w : Wiring) (u : Rule) (cell : ℕ) (s : Square) (a b : Cause)
+OneCauseLaw = (d : Design) (w : Wiring) (u : Rule) (cell : ℕ) (s : Square) (a b : GateCause)
     → IsBadGate d w u cell s a → IsBadGate d w u cell s b → a ≡ b
 
 -- a gate is good, or bad for a cause, by each of its squares
@@ -134,10 +135,10 @@ abbrev pub SameGateLaw : Type 0
 SameGateLaw = (d : Design) (w : Wiring) (u : Rule) (cell : ℕ) (s q : Square)
     → InGate d (geometry w u) cell s q
     → ((ends : Ends) (m n : ℕ) → IsGoodGate d w u cell s ends m n → IsGoodGate d w u cell q ends m n)
-    × ((c : Cause) → IsBadGate d w u cell s c → IsBadGate d w u cell q c)
+    × ((c : GateCause) → IsBadGate d w u cell s c → IsBadGate d w u cell q c)
 
 -- the image of a settled bad gate along a path is bad for the same cause
 abbrev pub CauseAlongLaw : Type 0
 CauseAlongLaw = (d : Design) (w : Wiring) (u : Rule) (path : List ℕ) (cell end : ℕ) (s q : Square)
-    (c : Cause) → IsReached d cell → Takes d cell path end s q → IsSettled d (geometry w u) end s
+    (c : GateCause) → IsReached d cell → Takes d cell path end s q → IsSettled d (geometry w u) end s
     → IsBadGate d w u end s c → IsBadGate d w u cell q c

@@ -1,7 +1,7 @@
 -- The gates of a cell's list: good ones over the nets of the cell, bad ones with their cause.
 use Rattle.std.specs.Prelude.{◌≡◌, ◌⊎◌, ◌++◌, ℕ, ◌<◌, List, [], ◌∷◌, Some, slice_get}
 use Rattle.geo_base.specs.declared.shapes.Square.{Square}
-use Rattle.flat_layout.specs.Gates.{Rule, Ends, Cause, geometry, InGate, IsSettled, IsGateBelow}
+use Rattle.flat_layout.specs.Gates.{Rule, Ends, geometry, InGate, IsSettled, IsGateBelow}
 use Rattle.flat_layout.specs.Gates.{IsListedGate, IsLeast, IsGoodGate, IsBadGate, IsSourceFirst}
 use Rattle.flat_layout.specs.Gates.{IsTerminalNode}
 use Rattle.flat_layout.specs.Layout.{Design}
@@ -11,6 +11,7 @@ use Rattle.flat_layout.specs.Plane.{IsSquareBefore}
 use Rattle.flat_layout.specs.Regions.{Wiring, Node}
 use Rattle.plain_netlist.specs.Lists.{IsListed, AreRising}
 use Rattle.plain_netlist.specs.Netlist.{Pole, Source, Gate, Drain, Bulk}
+use Rattle.flat_layout.specs.declared.cause.GateCause.{GateCause}
 
 -- a gate, by its rule's number and one of its squares
 pub record GateSquare : Type 0 where
@@ -40,7 +41,7 @@ terminal_net Bulk r = r.bulk
 -- the verdict on a gate
 pub data Verdict : Type 0 where
   Good : (row : GateRow) → Verdict
-  Bad : (cause : Cause) → Verdict
+  Bad : (cause : GateCause) → Verdict
 
 -- a gate of a cell's list, by its least square
 pub record GateEntry : Type 0 where
@@ -101,7 +102,7 @@ good_gates (x ∷ xs) = with_good x.at x.verdict (good_gates xs)
 pub record BadGate : Type 0 where
   pub cell : ℕ
   pub at : GateSquare
-  pub cause : Cause
+  pub cause : GateCause
 
 abbrev pub with_bad : ℕ → GateSquare → Verdict → List BadGate → List BadGate
 with_bad cell at (Good row) bad = bad

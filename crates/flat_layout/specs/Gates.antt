@@ -7,14 +7,14 @@ use Rattle.geo_base.specs.declared.motion.Motion.{Motion}
 use Rattle.geo_base.specs.declared.shapes.Square.{Square}
 use Rattle.flat_layout.specs.Layers.{Formula, inputs, reach, InFlat, IsStirred}
 use Rattle.flat_layout.specs.Layout.{Place, Design, Some_of, IsPlaced, Takes}
-pub use Rattle.flat_layout.specs.Parts.{IsStep, IsLeast, Edge, Counts, AreClasses, Cause, Groups}
-pub use Rattle.flat_layout.specs.Parts.{OffGate, OffSd, NoBulk, NoLength}
+pub use Rattle.flat_layout.specs.Parts.{IsStep, IsLeast, Edge, Counts, AreClasses}
 pub use Rattle.flat_layout.specs.Parts.{Form, Beside, Alone, Ends, TwoGroups, Region}
 use Rattle.flat_layout.specs.Parts.{InPart, IsCloseTo, InRingOf, InSideOf, InGroupOf, IsBorderOf}
 use Rattle.flat_layout.specs.Parts.{IsWideOf, IsLongOf, AreGroupsOf, Sheets, IsGoodForm, IsBadForm}
 use Rattle.flat_layout.specs.Plane.{IsSquareBefore}
 use Rattle.flat_layout.specs.Regions.{Wiring, Node, At, Ground, formula, ground_of}
 use Rattle.plain_netlist.specs.Netlist.{Pole, Source, Gate, Drain, Bulk}
+use Rattle.flat_layout.specs.declared.cause.GateCause.{GateCause}
 
 -- what the geometry of a kind of device reads: the layer whose parts are its gates, the input
 -- layers on which a shape from elsewhere disturbs one, and how far from a gate's squares and its
@@ -181,7 +181,7 @@ IsGoodGate d w u cell s =
     IsGoodForm (form_of u.kind) (sheets d w u cell) (InGate d (geometry w u) cell s)
 
 -- a bad one: the first test that it fails
-abbrev pub IsBadGate : Design → Wiring → Rule → ℕ → Square → Cause → Type 0
+abbrev pub IsBadGate : Design → Wiring → Rule → ℕ → Square → GateCause → Type 0
 IsBadGate d w u cell s =
     IsBadForm (form_of u.kind) (sheets d w u cell) (InGate d (geometry w u) cell s)
 

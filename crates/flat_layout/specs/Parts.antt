@@ -5,6 +5,9 @@ use Rattle.geo_base.specs.declared.shapes.Square.{Square}
 use Rattle.plain_netlist.specs.Chains.{Reaches}
 use Rattle.plain_netlist.specs.Lists.{IsListed, AreApart}
 use Rattle.flat_layout.specs.Plane.{SharesEdge, IsAround, IsSquareBefore}
+use Rattle.flat_layout.specs.declared.cause.GateCause.{GateCause}
+use Rattle.flat_layout.specs.declared.cause.GateCause.TheVariants.{Groups, OffGate, OffSd}
+use Rattle.flat_layout.specs.declared.cause.GateCause.TheVariants.{NoBulk, NoLength}
 
 -- neighbours in a set
 pub record IsStep (set : Square → Type 0) (p q : Square) : Type 0 where
@@ -117,16 +120,8 @@ pub record IsGoodPart (g : Sheets) (part : Square → Type 0) (e f : Edge)
   pub ends_on : AllOn (InEnds part g.ends e f) g.on_ends
   pub bulk_on : g.loose → AllOn part g.on_bulk
 
--- why a gate is bad
-pub data Cause : Type 0 where
-  Groups : (count : ℕ) → Cause
-  OffGate : Cause
-  OffSd : Cause
-  NoBulk : Cause
-  NoLength : Cause
-
 -- the first test that a bad gate fails
-abbrev pub IsBadPart : Sheets → (Square → Type 0) → Cause → Type 0
+abbrev pub IsBadPart : Sheets → (Square → Type 0) → GateCause → Type 0
 IsBadPart g part (Groups count) =
     (list : List Edge) × AreGroupsOf part g.ends list × (length list ≡ count) × (count ≡ 2 → ⊥)
 IsBadPart g part OffGate =
@@ -161,7 +156,7 @@ pub record IsGoodArea (g : Sheets) (part : Square → Type 0) (squares twice_edg
   pub bulk_on : g.loose → AllOn part g.on_bulk
 
 -- the first test that a bad one fails
-abbrev pub IsBadArea : Sheets → (Square → Type 0) → Cause → Type 0
+abbrev pub IsBadArea : Sheets → (Square → Type 0) → GateCause → Type 0
 IsBadArea g part OffSd = g.free × SomeOff part g.on_ends
 IsBadArea g part NoBulk = (g.free → AllOn part g.on_ends) × g.loose × SomeOff part g.on_bulk
 IsBadArea g part cause = ⊥
@@ -172,6 +167,6 @@ IsGoodForm Beside g part (TwoGroups e f) w l = IsGoodPart g part e f w l
 IsGoodForm Alone g part Region w l = IsGoodArea g part w l
 IsGoodForm form g part ends w l = ⊥
 
-abbrev pub IsBadForm : Form → Sheets → (Square → Type 0) → Cause → Type 0
+abbrev pub IsBadForm : Form → Sheets → (Square → Type 0) → GateCause → Type 0
 IsBadForm Beside g part cause = IsBadPart g part cause
 IsBadForm Alone g part cause = IsBadArea g part cause

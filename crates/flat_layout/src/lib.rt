@@ -1,4 +1,5 @@
-//! What a hierarchical layout means, flat and cell by cell: definitions alone, over plain records.
+//! What a hierarchical layout means, flat and cell by cell: definitions over plain records, and
+//! the one type that code shares, why a gate is bad.
 //!
 //! Of layouts: `specs/Plane` has unit squares, `Layout` designs, paths, flat input layers and
 //! disturbed squares, `Order` and `Hull` the order of cells and their hulls, `Arrays` the
@@ -11,3 +12,7 @@
 //! `Values` what each phase fills in, `Expanded` a netlist beside the flat layout. The laws between
 //! them are the contracts of `flat_laws`.
 #![tactic(auto)]
+
+mod cause;
+
+pub use cause::GateCause;

@@ -1,6 +1,6 @@
 -- Whether two sets come near each other, rectangle by rectangle.
 use Rattle.std.proofs.Common.{◌≡◌, inl, inr, ℕ, suc, ◌+◌, ◌<◌, ◌≤◌, List, [], ◌∷◌, Some, true, false, ◌||◌, length, get_or, take, slice_get, refl, sym, ◌∙◌, ap, subst, arith}
-use Rattle.std.proofs.lemmas.Bool.{false≢true}
+use Rattle.std.proofs.lemmas.Bool.{false≢true, or_cases}
 use Rattle.std.proofs.lemmas.List.{get_or_default, take_more, take_all}
 use Rattle.std.proofs.lemmas.Option.{slice_get_within, get_or_from_slice_get}
 use Rattle.geo_base.specs.Rects.{has, IsRect}
@@ -8,7 +8,7 @@ use Rattle.geo_base.specs.declared.shapes.Rect.{Rect}
 use Rattle.geo_base.specs.declared.shapes.Square.{Square}
 use Rattle.rect_sets.specs.Rects.{IsCanonical, covers}
 use Rattle.rect_sets.proofs.Blocking.{listed_covers}
-use Rattle.rect_sets.proofs.Splitting.{or_split, covers_append}
+use Rattle.rect_sets.proofs.Splitting.{covers_append}
 use Rattle.rect_sets.proofs.Unique.{listed_get, rect_of}
 use Rattle.tile_index.specs.Windows.{ArePositions}
 use Rattle.flat_layout.specs.Plane.{IsReachedBy}
@@ -23,7 +23,7 @@ apart_none n rects other q e near = false≢true e
 -- a rectangle of the list that has the square, by its number
 covering : (rects : List Rect) (q : Square) → in_set rects q → (k : ℕ) × (r : Rect) × (slice_get rects k ≡ Some r) × (has r q ≡ true)
 covering [] q e = absurd (false≢true e)
-covering (r ∷ rects) q e = elim (or_split (has r q) (covers rects q) e) [
+covering (r ∷ rects) q e = elim (or_cases (has r q) (covers rects q) e) [
   | inl h ↦ (0, r, refl, h)
   | inr h ↦ (let t = covering rects q h in (suc t.0, t.1, t.2, t.3))
 ]
@@ -59,9 +59,9 @@ pub apart_next : (n : ℕ) (rects other : List Rect) (near : List ℕ) (i : ℕ)
 apart_next n rects other near i d lt are none h q e reached =
     let r = get_or rects i d in
     let more : covers (take (i + 1) rects) q ≡ (covers (take i rects) q || covers (r ∷ []) q) = ap (λ (l : List Rect). covers l q) (take_more rects i d lt) ∙ covers_append (take i rects) (r ∷ []) q in
-    elim (or_split (covers (take i rects) q) (covers (r ∷ []) q) (sym more ∙ e)) [
+    elim (or_cases (covers (take i rects) q) (covers (r ∷ []) q) (sym more ∙ e)) [
       | inl g ↦ h q g reached
-      | inr g ↦ elim (or_split (has r q) false g) [
+      | inr g ↦ elim (or_cases (has r q) false g) [
         | inl k ↦
             let t = covering other reached.square reached.has in
             let c = (are.each t.0).1 (t.1, t.2, (reached.square, t.3, within_rect n r reached.square q k reached.within)) in

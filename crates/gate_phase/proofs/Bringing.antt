@@ -1,5 +1,6 @@
 -- Images of rectangles through the elements of an array, one visit after another.
 use Rattle.std.proofs.Common.{◌≡◌, ◌<◌, ◌^◌, ℕ, true, false, ◌&&◌, ◌++◌, List, [], ◌∷◌, inl, inr, suc, slice_index_or, length, sym, ◌∙◌, subst, arith}
+use Rattle.std.proofs.lemmas.Bool.{and_parts, and_from, or_cases, or_right}
 use Rattle.std.specs.List.{All}
 use Rattle.std.proofs.lemmas.Int.{ints}
 use Rattle.std.proofs.lemmas.List.Elements.{All-append}
@@ -16,12 +17,11 @@ use Rattle.rect_sets.specs.Rects.{covers}
 use Rattle.rect_sets.proofs.Unique.{listed_get}
 use Rattle.cell_graph.specs.declared.cells.Place.{Place}
 use Rattle.cell_graph.specs.Linked.{Linked, IsSound, IsFrame, IsRectWithin, cell_at, hull_of, own_of}
-use Rattle.cell_graph.proofs.Bridge.{has_in, hull_sound, own_in_hull, inside_has, or_split, or_right}
+use Rattle.cell_graph.proofs.Bridge.{has_in, hull_sound, own_in_hull, inside_has}
 use Rattle.cell_context.specs.declared.arrays.Visit.{Visit}
 use Rattle.cell_context.specs.Over.{IsPiece}
 use Rattle.cell_context.specs.Visits.{IsVisited, IsMet, IsFound}
-use Rattle.cell_context.proofs.Collecting.{and_right}
-use Rattle.cell_context.proofs.Visiting.{and_both, inside_from, within_inside, near_rect, wider_rect}
+use Rattle.cell_context.proofs.Visiting.{inside_from, within_inside, near_rect, wider_rect}
 use Rattle.cell_context.proofs.Gathering.{Adds, some_at}
 use Rattle.gate_phase.specs.Kept.{HoldsNear}
 use Rattle.gate_phase.specs.Seeding.{Brings}
@@ -33,7 +33,7 @@ BringsVisit rects w out v = (s : Square) → covers rects s ≡ true → has w (
 
 pub visit_here : (rects old new : List Rect) (w : Rect) (v : Visit) → Adds old new rects v.motion w → BringsVisit rects w new v
 visit_here rects old new w v adds s e g =
-    adds s ∙ or_right (covers old (moved_square v.motion s)) (covers rects s && has w (moved_square v.motion s)) (and_both (covers rects s) (has w (moved_square v.motion s)) e g)
+    adds s ∙ or_right (covers old (moved_square v.motion s)) (covers rects s && has w (moved_square v.motion s)) (and_from (covers rects s) (has w (moved_square v.motion s)) e g)
 
 pub all_brought : (p : Place) (below w : Rect) (rects out : List Rect) (vs : List Visit) (none : Visit) → ((k : ℕ) → k < length vs → BringsVisit rects w out (slice_index_or vs k none))
     → ((row column : ℕ) (q : Square) → row < p.rows → column < p.columns → IsMet p below w row column q → IsFound p row column q vs) → Brings p below rects w out
@@ -46,7 +46,7 @@ all_brought p below w rects out vs none there found row column s row_in column_i
 pub part_near : (w : Rect) (zone part : List Rect) → IsFrame w → All IsRect part → ((s : Square) → covers part s ≡ (covers zone s && has w s)) → All IsNearRect part
 part_near w zone part frame some is = λ k r lt.
     let x = slice_index_or part k r in
-    let inside = inside_from x w (some k r lt) (λ q e. and_right (covers zone q) (has w q) (sym (is q) ∙ listed_has part x q (listed_get part k r lt) e)) in
+    let inside = inside_from x w (some k r lt) (λ q e. (and_parts (covers zone q) (has w q) (sym (is q) ∙ listed_has part x q (listed_get part k r lt) e)).1) in
     near_rect x (within_inside (2 ^ 39) x w (some k r lt) inside (wider_rect (2 ^ 37) (2 ^ 39) w (omega arith) frame.near))
 
 -- a cell's own rectangles lie in the plane
@@ -81,7 +81,7 @@ within_set plane out set near pieces same q e =
   where
     in_plane : (rs : List Rect) → All (IsPiece plane) rs → covers rs q ≡ true → has plane q ≡ true
     in_plane [] all f = let g : false ≡ true = f in absurd (let z : ⊥ = cc in z)
-    in_plane (x ∷ xs) all f = elim (or_split (has x q) (covers xs q) f) [
+    in_plane (x ∷ xs) all f = elim (or_cases (has x q) (covers xs q) f) [
       | inl g ↦ inside_has x plane q (all 0 x (omega arith)).inside g
       | inr g ↦ in_plane xs (λ k r lt. all (suc k) r (omega arith)) g
     ]

@@ -1,7 +1,7 @@
 -- What a cell keeps of the squares in both of two names.
-use Rattle.std.proofs.Common.{◌≡◌, ◌↔◌, ◌⊎◌, inl, inr, ℕ, pos, ◌+◌, ◌<◌, ◌≤◌, ◌^◌, ◌-ℤ◌, max, Bool, true, false, ◌&&◌, ◌||◌, not, List, [], ◌∷◌, ◌++◌, Option, Some, None, length, get_or, slice_index_or, take, refl, sym, ◌∙◌, ap, subst, arith}
+use Rattle.std.proofs.Common.{◌≡◌, ◌↔◌, inl, inr, ℕ, pos, ◌+◌, ◌<◌, ◌≤◌, ◌^◌, ◌-ℤ◌, max, true, false, ◌&&◌, ◌||◌, not, List, [], ◌∷◌, ◌++◌, Option, Some, None, length, get_or, slice_index_or, take, sym, ◌∙◌, ap, subst, arith}
 use Rattle.std.specs.List.{All}
-use Rattle.std.proofs.lemmas.Bool.{false≢true}
+use Rattle.std.proofs.lemmas.Bool.{false≢true, and_from, or_cases, or_left, or_right, cases_Bool, not-true, and_parts}
 use Rattle.std.proofs.lemmas.Int.{ints}
 use Rattle.std.proofs.lemmas.List.{take_all}
 use Rattle.geo_base.specs.Rects.{has}
@@ -9,7 +9,7 @@ use Rattle.geo_base.specs.declared.layer.Op.TheVariants.{And}
 use Rattle.geo_base.specs.declared.shapes.Rect.{Rect}
 use Rattle.geo_base.specs.declared.shapes.Square.{Square}
 use Rattle.rect_sets.specs.Rects.{IsCanonical, covers}
-use Rattle.rect_sets.proofs.Splitting.{and_split, covers_append}
+use Rattle.rect_sets.proofs.Splitting.{covers_append}
 use Rattle.rect_sets.proofs.Unique.{listed_get, rect_of}
 use Rattle.sized_layers.specs.Sizes.{IsSetWithin, IsSquareWithin}
 use Rattle.flat_layout.specs.Layers.{Binary, Formula, IsKept, IsStirred, inputs, reach}
@@ -17,10 +17,9 @@ use Rattle.flat_layout.specs.Plane.{AreWithin, IsReachedBy}
 use Rattle.flat_laws.proofs.Moves.{farther}
 use Rattle.cell_graph.specs.Grown.{grown, IsInGrown}
 use Rattle.cell_graph.specs.Linked.{HullIsSound, IsRectWithin, IsSound, Linked, cell_at, hull_of, plain}
-use Rattle.cell_graph.proofs.Bridge.{has_in, hull_sound, in_has, or_left, or_right, or_split}
+use Rattle.cell_graph.proofs.Bridge.{has_in, hull_sound, in_has}
 use Rattle.cell_graph.proofs.Growing.{grown_frame, near_square, wider_grown, within_grown, within_rect}
 use Rattle.cell_context.proofs.Collecting.{covers_more}
-use Rattle.cell_context.proofs.Visiting.{and_both}
 use Rattle.rule_text.specs.Seen.{rules_seen}
 use Rattle.rule_text.specs.Sound as rules
 use Rattle.rule_text.specs.declared.rules.RuleSet.{RuleSet}
@@ -39,14 +38,6 @@ use Rattle.gate_phase.proofs.Keeping.{chosen, kept_grown, listed_has, low_in, lo
 use Rattle.gate_phase.proofs.Locals.{both_most, kept_corners}
 use Rattle.gate_phase.proofs.Reaching.{name_most}
 
-either : (b : Bool) → (b ≡ true) ⊎ (b ≡ false)
-either true = inl refl
-either false = inr refl
-
-not_false : (b : Bool) → not b ≡ true → b ≡ false
-not_false true e = absurd (false≢true e)
-not_false false e = refl
-
 either_most : (m n limit : ℕ) → m ≤ limit → n ≤ limit → max m n ≤ limit
 either_most m n limit h g = grind (arith, h, g)
 
@@ -61,8 +52,8 @@ stirring_none n zone rects = record { sound = λ q e. absurd (false≢true e); c
 -- one rectangle on, by what meets it grown
 pub stirring_more : (n : ℕ) (zone rects old more new : List Rect) (i : ℕ) (d : Rect) → i < length rects → new ≡ old ++ more → AreStirring n zone (take i rects) old → AreMetOf zone (grown n (get_or rects i d)) more → AreStirring n zone (take (i + 1) rects) new
 stirring_more n zone rects old more new i d lt is before met = record {
-  sound = λ q e. elim (or_split (covers old q) (covers more q) (sym (both q) ∙ e)) [ inl f ↦ before.sound q f | inr f ↦ chosen zone more met.listed q f ];
-  complete = λ p q e there near. elim (or_split (covers (take i rects) p) (has (get_or rects i d) p) (sym (covers_more rects i d p lt) ∙ e)) [
+  sound = λ q e. elim (or_cases (covers old q) (covers more q) (sym (both q) ∙ e)) [ inl f ↦ before.sound q f | inr f ↦ chosen zone more met.listed q f ];
+  complete = λ p q e there near. elim (or_cases (covers (take i rects) p) (has (get_or rects i d) p) (sym (covers_more rects i d p lt) ∙ e)) [
     | inl f ↦ both q ∙ or_left (covers old q) (covers more q) (before.complete p q f there near)
     | inr f ↦ both q ∙ or_right (covers old q) (covers more q) (met.complete q there (within_rect n (get_or rects i d) q p f near))
   ];
@@ -75,11 +66,11 @@ stirring_more n zone rects old more new i d lt is before met = record {
 pub calm_left : (n : ℕ) (set zone stirred near found : List Rect) → AreStirring n zone set stirred → ((q : Square) → in_set near q ↔ IsReachedBy n (in_set stirred) q) → ((q : Square) → covers found q ≡ (covers set q && not (covers near q))) → AreCalm n set zone found
 calm_left n set zone stirred near found are close cut q = (
   (λ e.
-      let two = and_split (covers set q) (not (covers near q)) (sym (cut q) ∙ e) in
-      (two.0, λ reached. false≢true (sym (not_false (covers near q) two.1) ∙ (close q).1 (record { square = reached.square; within = reached.within; has = are.complete q reached.square two.0 reached.has reached.within })))),
-  (λ (here, off). elim (either (covers near q)) [
+      let two = and_parts (covers set q) (not (covers near q)) (sym (cut q) ∙ e) in
+      (two.0, λ reached. false≢true (sym (not-true (covers near q) two.1) ∙ (close q).1 (record { square = reached.square; within = reached.within; has = are.complete q reached.square two.0 reached.has reached.within })))),
+  (λ (here, off). elim (cases_Bool (covers near q)) [
     | inl on ↦ let c = (close q).0 on in absurd (off (record { square = c.square; within = c.within; has = are.sound c.square c.has }))
-    | inr none ↦ cut q ∙ and_both (covers set q) (not (covers near q)) here (ap not none)
+    | inr none ↦ cut q ∙ and_from (covers set q) (not (covers near q)) here (ap not none)
   ]),
 )
 

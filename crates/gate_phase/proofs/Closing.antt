@@ -1,5 +1,6 @@
 -- What is close to a part.
-use Rattle.std.proofs.Common.{◌≡◌, ◌↔◌, ℕ, Bool, true, map, List, Option, Some, sym, subst, ◌∙◌, ap}
+use Rattle.std.proofs.Common.{◌≡◌, ◌↔◌, ℕ, Bool, true, map, List, Option, sym, subst, ◌∙◌, ap}
+use Rattle.base_laws.proofs.Items.{one_entry}
 use Rattle.geo_base.specs.declared.shapes.Rect.{Rect}
 use Rattle.geo_base.specs.declared.shapes.Square.{Square}
 use Rattle.rect_sets.specs.Rects.{IsCanonical, covers}
@@ -16,10 +17,6 @@ close_law part windows set good is same q =
     let law = close_same part (λ r l. rect_of (covers part) r ((good.each r).0 l)) q in
     let e : covers set q ≡ covers (map grown_rect part) q = same q ∙ ap (λ (l : List Rect). covers l q) is in
     ((λ h. law.0 (sym e ∙ h)), (λ c. e ∙ law.1 c))
-
--- an entry is one value
-pub one_entry : {A : Type 0} (o : Option A) (a b : A) → o ≡ Some a → o ≡ Some b → a ≡ b
-one_entry o a b e f = let g : Some a ≡ Some b = sym e ∙ f in cc
 
 -- what the cell's entry tells
 pub open_told : (n : ℕ) (z : List (Option CellZones)) (cell device : ℕ) (close zone : List Rect) (b : Bool) → AreOpen z cell device zone → (b ≡ true) ↔ AreApart n close zone → (b ≡ true) ↔ MissesOpen n z cell device close

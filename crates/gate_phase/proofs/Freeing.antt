@@ -1,5 +1,7 @@
 -- Whether what is close is free in placed cells, visit by visit.
-use Rattle.std.proofs.Common.{◌≡◌, ◌↔◌, ◌⊎◌, inl, inr, ℕ, ◌+◌, ◌<◌, ◌^◌, Bool, true, false, not, ◌&&◌, List, [], ◌∷◌, Option, None, Some, slice_index_or, length, refl, sym, ◌∙◌, ap, subst, arith}
+use Rattle.std.proofs.Common.{◌≡◌, ◌↔◌, inl, inr, ℕ, ◌+◌, ◌<◌, ◌^◌, Bool, true, false, not, ◌&&◌, List, [], ◌∷◌, Option, None, Some, slice_index_or, length, sym, ◌∙◌, ap, subst, arith}
+use Rattle.base_laws.proofs.Items.{one_entry}
+use Rattle.std.proofs.lemmas.Bool.{and_parts, and_from, cases_Bool}
 use Rattle.std.specs.List.{All}
 use Rattle.geo_base.specs.Motions.{moved_square}
 use Rattle.geo_base.specs.Rects.{has}
@@ -14,40 +16,30 @@ use Rattle.cell_graph.specs.Linked.{Linked, IsFrame, IsRectWithin, cell_at, hull
 use Rattle.cell_context.specs.declared.arrays.Visit.{Visit}
 use Rattle.cell_context.specs.Over.{IsVisit, AreVisited}
 use Rattle.cell_context.specs.Visits.{IsVisited}
-use Rattle.cell_context.proofs.Collecting.{and_right}
 use Rattle.cell_context.proofs.Gathering.{some_at}
-use Rattle.cell_context.proofs.Visiting.{and_both, inside_from, within_inside, wider_rect}
+use Rattle.cell_context.proofs.Visiting.{inside_from, within_inside, wider_rect}
 use Rattle.deep_tables.specs.declared.zones.CellZones.{CellZones}
 use Rattle.gate_shapes.specs.Sets.{in_set}
 use Rattle.gate_phase.specs.Below.{IsFree, IsFreeElement, IsFreeIn}
 use Rattle.gate_phase.specs.Close.{AreApart, AreOpen, HasOpen, HasOpenBelow}
-use Rattle.gate_phase.proofs.Closing.{one_entry}
 use Rattle.gate_phase.proofs.Keeping.{in_one, listed_has, low_in, low_square, one_window}
-
-and_left : (a b : Bool) → (a && b) ≡ true → a ≡ true
-and_left true b e = refl
-and_left false b e = e
 
 not_true : (b : Bool) → not b ≡ true → b ≡ true → ⊥
 not_true true e f = let g : false ≡ true = e in let z : ⊥ = cc in z
 not_true false e f = let z : ⊥ = cc in z
-
-either : (b : Bool) → (b ≡ true) ⊎ (b ≡ false)
-either true = inl refl
-either false = inr refl
 
 module _ (n : ℕ) (close there outside zone : List Rect) (m : Motion) (frame : Rect) (pulled : (q : Square) → covers there q ≡ covers close (moved_square m q)) (cut : (q : Square) → covers outside q ≡ (covers there q && not (covers (frame ∷ []) q))) where
   -- a square outside the frame isn't free
   pub not_free : (q : Square) → in_set outside q → IsFree n close m frame zone → ⊥
   not_free q e free =
       let on = sym (cut q) ∙ e in
-      let inside = free q (sym (pulled q) ∙ and_left (covers there q) (not (covers (frame ∷ []) q)) on) in
-      not_true (covers (frame ∷ []) q) (and_right (covers there q) (not (covers (frame ∷ []) q)) on) (one_window frame q inside.0)
+      let inside = free q (sym (pulled q) ∙ (and_parts (covers there q) (not (covers (frame ∷ []) q)) on).0) in
+      not_true (covers (frame ∷ []) q) ((and_parts (covers there q) (not (covers (frame ∷ []) q)) on).1) (one_window frame q inside.0)
 
   in_frame : ((q : Square) → in_set outside q → ⊥) → (q : Square) → covers there q ≡ true → has frame q ≡ true
-  in_frame none q e = elim (either (covers (frame ∷ []) q)) [
+  in_frame none q e = elim (cases_Bool (covers (frame ∷ []) q)) [
     | inl f ↦ in_one frame q f
-    | inr f ↦ absurd (none q (cut q ∙ and_both (covers there q) (not (covers (frame ∷ []) q)) e (ap not f)))
+    | inr f ↦ absurd (none q (cut q ∙ and_from (covers there q) (not (covers (frame ∷ []) q)) e (ap not f)))
   ]
 
   -- where all lies in it, its rectangles are near

@@ -1,13 +1,9 @@
 -- Whether a conductor has a global.
-use Rattle.std.proofs.Common.{◌≡◌, ◌⊎◌, inl, inr, ℕ, zero, suc, Bool, true, false, ◌==◌, if◌then◌else◌, List, [], ◌∷◌, Some, None, map, slice_get, refl, sym, ◌∙◌, ap}
-use Rattle.std.proofs.lemmas.Bool.{eqb-true}
+use Rattle.std.proofs.Common.{◌≡◌, inl, inr, ℕ, zero, suc, ◌==◌, if◌then◌else◌, List, [], ◌∷◌, Some, None, map, slice_get, refl, sym, ◌∙◌, ap}
+use Rattle.std.proofs.lemmas.Bool.{eqb-true, cases_Bool}
 use Rattle.std.proofs.lemmas.Bool.Decides.{eqb_tells}
 use Rattle.flat_layout.specs.Regions.{Line, ground_of}
 use Rattle.rule_layers.specs.Meaning.{line}
-
-either : (b : Bool) → (b ≡ true) ⊎ (b ≡ false)
-either true = inl refl
-either false = inr refl
 
 module _ (c : ℕ) (number : ℕ × List ℕ → ℕ) where
   abbrev lines : List (ℕ × List ℕ) → List Line
@@ -15,7 +11,7 @@ module _ (c : ℕ) (number : ℕ × List ℕ → ℕ) where
 
   pub no_ground : (gs : List (ℕ × List ℕ)) → ((k : ℕ) (g : ℕ × List ℕ) → slice_get gs k ≡ Some g → g.0 ≡ c → ⊥) → ground_of c (lines gs) ≡ None
   no_ground [] none = refl
-  no_ground (g ∷ gs) none = elim (either (g.0 == c)) [
+  no_ground (g ∷ gs) none = elim (cases_Bool (g.0 == c)) [
     | inl e ↦ absurd (none 0 g refl (eqb-true _ _ e))
     | inr e ↦ ap (λ b. if b then Some (number g) else ground_of c (lines gs)) e ∙ no_ground gs (λ k x at. none (suc k) x at)
   ]
@@ -28,7 +24,7 @@ module _ (c : ℕ) (number : ℕ × List ℕ → ℕ) where
         | inl (t, f) ↦ let h : Some (number x) ≡ None = sym (ap (λ b. if b then Some (number x) else ground_of c (lines gs)) t) ∙ none in let z : ⊥ = cc in z
         | inr (t, n) ↦ n (ap (λ (y : ℕ × List ℕ). y.0) same ∙ e)
       ]
-  has_ground (x ∷ gs) (suc k) g at e none = elim (either (x.0 == c)) [
+  has_ground (x ∷ gs) (suc k) g at e none = elim (cases_Bool (x.0 == c)) [
     | inl f ↦ let h : Some (number x) ≡ None = sym (ap (λ b. if b then Some (number x) else ground_of c (lines gs)) f) ∙ none in let z : ⊥ = cc in z
     | inr f ↦ has_ground gs k g at e (sym (ap (λ b. if b then Some (number x) else ground_of c (lines gs)) f) ∙ none)
   ]

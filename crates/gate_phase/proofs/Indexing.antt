@@ -1,5 +1,6 @@
 -- Indexes of what cells hold themselves.
 use Rattle.std.proofs.Common.{◌≡◌, ◌⊎◌, inl, inr, ℕ, zero, suc, ◌<◌, List, [], ◌∷◌, ◌++◌, Option, Some, None, length, get_or, refl, sym, ◌∙◌, ap, subst, arith}
+use Rattle.std.proofs.lemmas.Bool.{and_from, and_parts}
 use Rattle.std.proofs.Math.Decide.{ℕ_discrete}
 use Rattle.std.proofs.lemmas.List.{get_or-set_other, get_or-set_same, length-map, map-set}
 use Rattle.std.specs.Global.{Vec}
@@ -7,12 +8,10 @@ use Rattle.std.specs.Prelude.{set}
 use Rattle.geo_base.specs.Rects.{has}
 use Rattle.geo_base.specs.declared.shapes.Rect.{Rect}
 use Rattle.rect_sets.specs.Rects.{IsListed, covers}
-use Rattle.rect_sets.proofs.Splitting.{and_split}
 use Rattle.rect_sets.proofs.Unique.{listed_get}
 use Rattle.tile_index.specs.Windows.{ArePositions}
 use Rattle.cell_context.proofs.Collecting.{no_rect}
 use Rattle.cell_context.proofs.Near.{chosen, chosen_same, own_inside}
-use Rattle.cell_context.proofs.Visiting.{and_both}
 use Rattle.deep_tables.specs.Layers.{layer_of}
 use Rattle.deep_tables.specs.declared.layers.CellLayers.{CellLayers}
 use Rattle.gate_phase.specs.Indexes.{AreAllIndexes, AreIndexes, AreMetOf, index_lists}
@@ -26,7 +25,7 @@ chosen_listed rects (i ∷ near) r inside (inr l) = chosen_listed rects near r (
 pub chosen_met : (rects : List Rect) (w : Rect) (near : List ℕ) → ArePositions rects w near → AreMetOf rects w (chosen rects near)
 chosen_met rects w near are = record {
   listed = λ r l. chosen_listed rects near r (λ k lt. own_inside rects w near k are lt) l;
-  complete = λ q e g. (and_split (covers (chosen rects near) q) (has w q) (chosen_same rects w near q are ∙ and_both (covers rects q) (has w q) e g)).0;
+  complete = λ q e g. (and_parts (covers (chosen rects near) q) (has w q) (chosen_same rects w near q are ∙ and_from (covers rects q) (has w q) e g)).0;
 }
 
 last_of : (old : List (Option (List Rect))) (o : Option (List Rect)) (i : ℕ) (rects : List Rect) → get_or (old ++ o ∷ []) i None ≡ Some rects → (get_or old i None ≡ Some rects) ⊎ ((i ≡ length old) × (o ≡ Some rects))

@@ -1,5 +1,6 @@
 -- The gates of a list, one for each of the cell's own.
-use Rattle.std.proofs.Common.{◌≡◌, ℕ, zero, suc, List, [], ◌∷◌, ◌++◌, Some, None, map, slice_get, length, refl, sym, ◌∙◌, ap, subst}
+use Rattle.std.proofs.Common.{◌≡◌, ℕ, zero, suc, List, [], ◌∷◌, ◌++◌, Some, map, slice_get, length, refl, sym, ◌∙◌, ap, subst}
+use Rattle.std.proofs.lemmas.Option.{none-some}
 use Rattle.geo_base.specs.declared.shapes.Square.{Square}
 use Rattle.flat_layout.specs.Gates.{Rule}
 use Rattle.flat_layout.specs.GateTables.{GateEntry, GateSquare}
@@ -26,20 +27,17 @@ as_many is [] (g ∷ gs) h = absurd h
 as_many is (x ∷ xs) [] h = absurd h
 as_many is (x ∷ xs) (g ∷ gs) h = ap suc (as_many is xs gs h.1)
 
-none_some : {A : Type 0} (u : A) → None ≡ Some u → ⊥
-none_some u e = cc
-
 -- the entry at a place is a gate's, and the gate is that of the own gate there
 pub pair_at : (is : OwnGate → Gate → Type 0) (xs : List OwnGate) (gs : List Gate) → AreGatesOf is xs gs → (i : ℕ) (x : OwnGate) (e : GateEntry) → slice_get xs i ≡ Some x → slice_get (map plain_gate gs) i ≡ Some e
     → (g : Gate) × is x g × (plain_gate g ≡ e)
-pair_at is [] gs h i x e a b = absurd (none_some x a)
+pair_at is [] gs h i x e a b = absurd (none-some x a)
 pair_at is (y ∷ xs) [] h i x e a b = absurd h
 pair_at is (y ∷ xs) (g ∷ gs) h zero x e a b = let same : y ≡ x = (let f : Some y ≡ Some x = a in cc) in let one : plain_gate g ≡ e = (let f : Some (plain_gate g) ≡ Some e = b in cc) in (g, subst (λ z. is z g) same h.0, one)
 pair_at is (y ∷ xs) (g ∷ gs) h (suc i) x e a b = pair_at is xs gs h.1 i x e a b
 
 -- and of each gate there is an own one
 pub own_at : (is : OwnGate → Gate → Type 0) (xs : List OwnGate) (gs : List Gate) → AreGatesOf is xs gs → (i : ℕ) (g : Gate) → slice_get gs i ≡ Some g → (x : OwnGate) × (slice_get xs i ≡ Some x) × is x g
-own_at is xs [] h i g e = absurd (none_some g e)
+own_at is xs [] h i g e = absurd (none-some g e)
 own_at is [] (f ∷ gs) h i g e = absurd h
 own_at is (x ∷ xs) (f ∷ gs) h zero g e = let same : f ≡ g = (let k : Some f ≡ Some g = e in cc) in (x, refl, subst (λ z. is x z) same h.0)
 own_at is (x ∷ xs) (f ∷ gs) h (suc i) g e = own_at is xs gs h.1 i g e

@@ -1,5 +1,6 @@
 -- What a cell keeps, from what it holds itself and from visits.
-use Rattle.std.proofs.Common.{◌≡◌, inl, inr, ℕ, ◌<◌, ◌≤◌, ◌+◌, ◌^◌, List, [], ◌∷◌, ◌++◌, Option, Some, None, Bool, true, false, ◌&&◌, slice_index_or, get_or, length, take, refl, sym, ◌∙◌, ap, subst, arith}
+use Rattle.std.proofs.Common.{◌≡◌, inl, inr, ℕ, ◌<◌, ◌≤◌, ◌+◌, ◌^◌, List, [], ◌∷◌, ◌++◌, Option, Some, None, true, false, ◌&&◌, slice_index_or, get_or, length, take, refl, sym, ◌∙◌, ap, subst, arith}
+use Rattle.std.proofs.lemmas.Bool.{and_from, or_cases, or_left, or_right, and_parts}
 use Rattle.std.specs.List.{All}
 use Rattle.geo_base.specs.Motions.{moved_square}
 use Rattle.geo_base.specs.Rects.{has, IsRect}
@@ -21,13 +22,13 @@ use Rattle.flat_laws.proofs.Cover.{reached_below, kept_above, kept_here}
 use Rattle.cell_graph.specs.Linked.{Linked, IsSound, IsRectWithin, HullHas, HullIsSound, hull_of, cell_at, motion_at, plain, reference}
 use Rattle.cell_graph.specs.Grown.{grown, IsInGrown}
 use Rattle.cell_graph.proofs.Growing.{grown_frame}
-use Rattle.cell_graph.proofs.Bridge.{hull_sound, inside_has, in_has, or_split, or_left, or_right, placed_of, step_of}
+use Rattle.cell_graph.proofs.Bridge.{hull_sound, inside_has, in_has, placed_of, step_of}
 use Rattle.cell_context.specs.declared.arrays.Visit.{Visit}
 use Rattle.cell_context.specs.Visits.{IsVisited}
 use Rattle.cell_context.specs.Over.{IsVisit, AreVisited, IsPiece}
 use Rattle.cell_context.proofs.Collecting.{covers_more}
 use Rattle.cell_context.proofs.Gathering.{Adds, some_at}
-use Rattle.cell_context.proofs.Visiting.{and_both, inside_from, within_inside, wider_rect}
+use Rattle.cell_context.proofs.Visiting.{inside_from, within_inside, wider_rect}
 use Rattle.deep_tables.specs.Layers.{layer_of}
 use Rattle.gate_search.specs.Gather.{AreMet}
 use Rattle.net_phase.proofs.Righting.{flat_in_hull}
@@ -35,10 +36,6 @@ use Rattle.gate_phase.specs.Indexes.{LayersOf}
 use Rattle.gate_phase.specs.Kept.{HasLocals, HoldsNear, IsNearPiece}
 use Rattle.gate_phase.proofs.Seeding.{flat_grown}
 use Rattle.gate_phase.proofs.Telling.{kept_flat}
-
-and_left : (a b : Bool) → (a && b) ≡ true → a ≡ true
-and_left true b e = refl
-and_left false b e = e
 
 -- a kept square of a name lies in the cell's hull, grown by the name's reach
 pub kept_grown : (d : Linked) (cell : ℕ) (x : Formula) (q : Square) → IsSound d → IsKept (plain d) cell x q → IsInGrown (reach x) (hull_of (cell_at d cell)) q
@@ -71,7 +68,7 @@ listed_has (x ∷ xs) r q (inr l) e = or_right (has x q) (covers xs q) (listed_h
 
 pub one_of : (rects : List Rect) (q : Square) → covers rects q ≡ true → (r : Rect) × IsListed r rects × (has r q ≡ true)
 one_of [] q e = let f : false ≡ true = e in absurd (let z : ⊥ = cc in z)
-one_of (x ∷ xs) q e = elim (or_split (has x q) (covers xs q) e) [
+one_of (x ∷ xs) q e = elim (or_cases (has x q) (covers xs q) e) [
   | inl f ↦ (x, inl refl, f)
   | inr f ↦ let t = one_of xs q f in (t.0, inr t.1, t.2)
 ]
@@ -115,9 +112,9 @@ right_more n d cell x w plane old new below v reached h right exact adds q e =
     subst (λ y. IsKept (plain d) cell x y) o.1 (at o.0 (subst (λ y. covers new y ≡ true) (sym o.1) e))
   where
     at : (s : Square) → covers new (moved_square v.motion s) ≡ true → IsKept (plain d) cell x (moved_square v.motion s)
-    at s e = elim (or_split (covers old (moved_square v.motion s)) (covers below s && has plane (moved_square v.motion s)) (sym (adds s) ∙ e)) [
+    at s e = elim (or_cases (covers old (moved_square v.motion s)) (covers below s && has plane (moved_square v.motion s)) (sym (adds s) ∙ e)) [
       | inl f ↦ right (moved_square v.motion s) f
-      | inr f ↦ visit_kept n d cell x w v s reached h (exact s (and_left (covers below s) (has plane (moved_square v.motion s)) f))
+      | inr f ↦ visit_kept n d cell x w v s reached h (exact s ((and_parts (covers below s) (has plane (moved_square v.motion s)) f).0))
     ]
 
 -- the visit brings what its cell keeps in its window
@@ -128,7 +125,7 @@ pub brings_here : (d : Linked) (x : Formula) (w plane : Rect) (old new below : L
     → ((s : Square) → IsKept (plain d) v.cell x s → has v.window s ≡ true → covers below s ≡ true) → Adds old new below v.motion plane → Brings d x w new v
 brings_here d x w plane old new below v all near exact adds s h kept g =
     adds s ∙ or_right (covers old (moved_square v.motion s)) (covers below s && has plane (moved_square v.motion s))
-    (and_both (covers below s) (has plane (moved_square v.motion s)) (exact s kept h) (inside_has w plane (moved_square v.motion s) (all w near) g))
+    (and_from (covers below s) (has plane (moved_square v.motion s)) (exact s kept h) (inside_has w plane (moved_square v.motion s) (all w near) g))
 
 -- what the window has of all that is kept is there
 pub all_there : (n : ℕ) (d : Linked) (cell : ℕ) (x : Formula) (w : Rect) (layer out : List Rect) (vs : List Visit) (none : Visit) → IsSound d → n ≡ reach x → IsLocalLayer (plain d) x cell layer
@@ -173,7 +170,7 @@ chosen_more rects old new k d r lt step before l =
 
 pub complete_more : (rects old new : List Rect) (w : Rect) (k : ℕ) (d : Rect) (q : Square) → k < length rects → (covers old q ≡ true → covers new q ≡ true) → (has (slice_index_or rects k d) q ≡ true → has w q ≡ true → covers new q ≡ true)
     → (covers (take k rects) q ≡ true → has w q ≡ true → covers old q ≡ true) → covers (take (k + 1) rects) q ≡ true → has w q ≡ true → covers new q ≡ true
-complete_more rects old new w k d q lt stay here before e g = elim (or_split (covers (take k rects) q) (has (slice_index_or rects k d) q) (sym (covers_more rects k d q lt) ∙ e)) [
+complete_more rects old new w k d q lt stay here before e g = elim (or_cases (covers (take k rects) q) (has (slice_index_or rects k d) q) (sym (covers_more rects k d q lt) ∙ e)) [
   | inl f ↦ stay (before f g)
   | inr f ↦ here f g
 ]
@@ -201,7 +198,7 @@ chosen_pieces d layers cell name x layer some plane sound reached locals at all 
     local_pieces d x cell layer some plane sound l.3.most (subst (IsLocalLayer (plain d) x cell) same l.2) all h
 
 pub in_one : (w : Rect) (q : Square) → covers (w ∷ []) q ≡ true → has w q ≡ true
-in_one w q e = elim (or_split (has w q) false e) [ inl f ↦ f | inr f ↦ absurd (let g : false ≡ true = f in let z : ⊥ = cc in z) ]
+in_one w q e = elim (or_cases (has w q) false e) [ inl f ↦ f | inr f ↦ absurd (let g : false ≡ true = f in let z : ⊥ = cc in z) ]
 
 pub one_window : (w : Rect) (q : Square) → has w q ≡ true → covers (w ∷ []) q ≡ true
 one_window w q e = or_left (has w q) false e

@@ -1,5 +1,6 @@
 -- The regions of a cell's list, one device rule after the other.
-use Rattle.std.proofs.Common.{◌≡◌, ◌↔◌, ℕ, zero, suc, ◌+◌, ◌++◌, true, List, [], ◌∷◌, Some, None, map, slice_get, length, append-nil, append_assoc, refl, sym, ◌∙◌, ap, subst}
+use Rattle.std.proofs.Common.{◌≡◌, ◌↔◌, ℕ, zero, suc, ◌+◌, ◌++◌, true, List, [], ◌∷◌, Some, map, slice_get, length, append-nil, append_assoc, refl, sym, ◌∙◌, ap, subst}
+use Rattle.std.proofs.lemmas.Option.{none-some}
 use Rattle.geo_base.specs.declared.shapes.Rect.{Rect}
 use Rattle.geo_base.specs.declared.shapes.Square.{Square}
 use Rattle.rect_sets.specs.Rects.{covers}
@@ -72,9 +73,6 @@ module _ (d : Linked) (r : Rules) (s : Tables) (x : Device) (g : RuleGrounds) (n
     areas = has_area;
   }
 
-none_some : {A : Type 0} (u : A) → None ≡ Some u → ⊥
-none_some u e = cc
-
 map_both : {A B : Type 0} (f : A → B) (xs ys : List A) → map f (xs ++ ys) ≡ map f xs ++ map f ys
 map_both f [] ys = refl
 map_both f (x ∷ xs) ys = ap (λ l. f x ∷ l) (map_both f xs ys)
@@ -87,7 +85,7 @@ each_both P (z ∷ xs) ys f g (suc i) x e = each_both P xs ys (λ k y h. f (suc 
 pub go_none : (d : Design) (r : Rules) (cell n : ℕ) → GoOn d r cell n n []
 go_none d r cell n = record {
   entries = λ t before right h. subst (λ (l : List Gate). AreGatesTo d (wiring_of r) t (device_rules r) n cell (map plain_gate l)) (sym (append-nil before)) h;
-  areas = λ i x e. absurd (none_some x e);
+  areas = λ i x e. absurd (none-some x e);
 }
 
 -- with those of one rule more

@@ -1,5 +1,6 @@
 -- What the tables have of a reached cell.
 use Rattle.std.proofs.Common.{◌≡◌, ℕ, zero, suc, ◌<◌, ◌≤◌, ◌^◌, true, false, ◌&&◌, List, [], ◌∷◌, Option, Some, None, get_or, length, max, sym, ◌∙◌, subst, arith}
+use Rattle.std.proofs.lemmas.Bool.{and_from}
 use Rattle.std.specs.List.{All}
 use Rattle.std.proofs.lemmas.Option.{slice_get-get_or}
 use Rattle.geo_base.specs.Rects.{has}
@@ -11,7 +12,7 @@ use Rattle.flat_layout.specs.Layout.{Design, IsReached}
 use Rattle.cell_graph.specs.Linked.{Linked, IsSound, HullIsSound, cell_at, hull_of, plain}
 use Rattle.cell_graph.proofs.Bridge.{hull_sound, inside_has}
 use Rattle.cell_context.specs.Arrays.{IsPart}
-use Rattle.cell_context.proofs.Visiting.{and_both, wider_rect}
+use Rattle.cell_context.proofs.Visiting.{wider_rect}
 use Rattle.rule_text.specs.Rules.{Rules}
 use Rattle.rule_text.specs.Sound as rules
 use Rattle.rule_layers.specs.Formulas.{formulas}
@@ -65,7 +66,7 @@ met_near v w near plane set sound most all part met =
       sound = λ q e. let k = met.sound q e in record { kept = k; near = kept_corners v.design v.cell x q sound most k };
       complete = λ q k e.
           met.complete q k.kept
-          (one_window near q (part.has q ∙ and_both (has w q) (has plane q) (in_one w q e) (kept_plane v.design v.cell x q plane sound most all k.kept)));
+          (one_window near q (part.has q ∙ and_from (has w q) (has plane q) (in_one w q e) (kept_plane v.design v.cell x q plane sound most all k.kept)));
     }
 
 -- and one that misses the plane has nothing
@@ -75,5 +76,5 @@ none_near v w plane sound most all none = record {
   complete = λ q k e.
       let x = formula_of v.rules v.name in
       let in_plane = kept_plane v.design v.cell x q plane sound most all k.kept in
-      absurd (let f : false ≡ true = sym (none q) ∙ and_both (has w q) (has plane q) (in_one w q e) in_plane in let z : ⊥ = cc in z);
+      absurd (let f : false ≡ true = sym (none q) ∙ and_from (has w q) (has plane q) (in_one w q e) in_plane in let z : ⊥ = cc in z);
 }

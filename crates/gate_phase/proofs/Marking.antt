@@ -1,9 +1,10 @@
 -- Marks on what a device rule reads.
-use Rattle.std.proofs.Common.{◌≡◌, ◌⊎◌, inl, inr, ℕ, zero, suc, ◌<◌, ◌+◌, Bool, true, false, List, [], ◌∷◌, ◌++◌, Option, Some, None, refl, sym, ap, ◌∙◌, subst, arith, length, length-append, get_or, slice_get, slice_index_or, take}
+use Rattle.std.proofs.Common.{◌≡◌, ◌⊎◌, inl, inr, ℕ, suc, ◌<◌, ◌+◌, Bool, true, false, List, [], ◌∷◌, ◌++◌, Option, Some, None, refl, sym, ap, ◌∙◌, subst, arith, length, length-append, get_or, slice_get, slice_index_or, take}
+use Rattle.base_laws.proofs.Items.{push_cases}
 use Rattle.std.proofs.Math.Decide.{ℕ_discrete}
 use Rattle.std.proofs.lemmas.Bool.{cases_lt}
 use Rattle.std.proofs.lemmas.List.{get_or_past}
-use Rattle.std.proofs.lemmas.Option.{slice_get-get_or}
+use Rattle.std.proofs.lemmas.Option.{slice_get-get_or, none-some}
 use Rattle.geo_base.specs.declared.layer.LayerKey.{LayerKey}
 use Rattle.flat_layout.specs.Layers.{Formula, Empty, inputs}
 use Rattle.flat_layout.specs.Layout.{Some_of}
@@ -16,15 +17,6 @@ use Rattle.gate_phase.specs.Reads.{AreClosed, AreRead, IsMarked, IsMarkedInput, 
 use Rattle.gate_phase.specs.declared.device.Device.{Device}
 use Rattle.gate_phase.specs.declared.device.Region.{Region}
 use Rattle.gate_phase.specs.declared.device.Region.TheVariants.{One, Both}
-
-none_some : {A : Type 0} (u : A) → None ≡ Some u → ⊥
-none_some u e = cc
-
-push_cases : {A : Type 0} (xs : List A) (x u : A) (k : ℕ) → slice_get (xs ++ x ∷ []) k ≡ Some u → (slice_get xs k ≡ Some u) ⊎ ((k ≡ length xs) × (x ≡ u))
-push_cases [] x u zero e = inr (refl, cc)
-push_cases [] x u (suc k) e = absurd (none_some u e)
-push_cases (y ∷ xs) x u zero e = inl e
-push_cases (y ∷ xs) x u (suc k) e = elim (push_cases xs x u k e) [ inl h ↦ inl h | inr h ↦ let n = h.0 in inr ((omega arith), h.1) ]
 
 pub some_split : {A : Type 0} (P : A → Type 0) (xs ys : List A) → Some_of P (xs ++ ys) → Some_of P xs ⊎ Some_of P ys
 some_split P [] ys h = inr h
@@ -77,7 +69,7 @@ count_behind before (n ∷ names) = let r = count_behind (before ++ formula_by b
 
 module _ (names : List LayerRule) (x : Device) (marks : List Bool) (closed : AreClosed names 0 marks) (roots : (i : ℕ) → IsOfDevice x i → i < length names → IsMarked marks i) where
   all_known : Known names marks (formulas names)
-  all_known = known_behind names marks [] names 0 refl closed (λ k rule e. let z : k ≡ 0 + k = omega arith in subst (λ n. slice_get names n ≡ Some rule) z e) (λ j y e. absurd (none_some y e))
+  all_known = known_behind names marks [] names 0 refl closed (λ k rule e. let z : k ≡ 0 + k = omega arith in subst (λ n. slice_get names n ≡ Some rule) z e) (λ j y e. absurd (none-some y e))
 
   abbrev IsFound : LayerKey → Type 0
   IsFound key = (j : ℕ) × IsMarkedInput names marks j key

@@ -1,9 +1,9 @@
 -- Device rules by their numbers.
 use Rattle.std.proofs.Common.{◌≡◌, ◌⊎◌, inl, inr, ℕ, zero, suc, ◌<◌, ◌+◌, true, List, [], ◌∷◌, ◌++◌, Option, Some, None, map, length, length-append, slice_get, refl, sym, ◌∙◌, subst, arith}
+use Rattle.base_laws.proofs.Items.{map_to, get_left, map_from}
 use Rattle.std.proofs.lemmas.List.{length-map}
-use Rattle.std.proofs.lemmas.Option.{same_Some, slice_get_within}
+use Rattle.std.proofs.lemmas.Option.{slice_get_within}
 use Rattle.flat_layout.specs.Gates.{Rule}
-use Rattle.cell_graph.proofs.Bridge.{maps}
 use Rattle.rule_text.specs.Rules.{Rules}
 use Rattle.rule_text.specs.Reading.{is_conductor}
 use Rattle.rule_text.specs.Sound.{AreMoreLayers, IsSound}
@@ -24,22 +24,16 @@ count_rules r =
     let first = length-map r.devices (device_rule r) in let second = length-map r.more (more_rule r) in
     omega (arith, both, first, second)
 
--- in front stands the first list, and behind its length the second
-pub in_front : {A : Type 0} (xs ys : List A) (n : ℕ) (a : A) → slice_get xs n ≡ Some a → slice_get (xs ++ ys) n ≡ Some a
-in_front [] ys n a e = absurd (let f : None ≡ Some a = e in let z : ⊥ = cc in z)
-in_front (x ∷ xs) ys zero a e = e
-in_front (x ∷ xs) ys (suc n) a e = in_front xs ys n a e
-
 pub behind : {A : Type 0} (xs ys : List A) (n k : ℕ) (a : A) → n ≡ length xs + k → slice_get ys k ≡ Some a → slice_get (xs ++ ys) n ≡ Some a
 behind [] ys n k a e h = let z : n ≡ k = omega (arith, e) in subst (λ i. slice_get ys i ≡ Some a) (sym z) h
 behind (x ∷ xs) ys zero k a e h = absurd (let z : ⊥ = omega (arith, e) in z)
 behind (x ∷ xs) ys (suc n) k a e h = behind xs ys n k a (omega (arith, e)) h
 
 pub mos_at : (r : Rules) (n : ℕ) (m : MosRule) → slice_get r.devices n ≡ Some m → slice_get (devices_of r) n ≡ Some (of_mos m)
-mos_at r n m e = in_front (map of_mos r.devices) (map of_more r.more) n (of_mos m) (maps of_mos r.devices n m e)
+mos_at r n m e = get_left (map of_mos r.devices) (map of_more r.more) n (of_mos m) (map_to of_mos r.devices n m e)
 
 pub more_at : (r : Rules) (n k : ℕ) (m : MoreRule) → n ≡ length r.devices + k → slice_get r.more k ≡ Some m → slice_get (devices_of r) n ≡ Some (of_more m)
-more_at r n k m e h = let long = length-map r.devices of_mos in behind (map of_mos r.devices) (map of_more r.more) n k (of_more m) (omega (arith, e, long)) (maps of_more r.more k m h)
+more_at r n k m e h = let long = length-map r.devices of_mos in behind (map of_mos r.devices) (map of_more r.more) n k (of_more m) (omega (arith, e, long)) (map_to of_more r.more k m h)
 
 -- an item of two lists stands in front or behind
 two_parts : {A : Type 0} (xs ys : List A) (n : ℕ) (a : A) → slice_get (xs ++ ys) n ≡ Some a → (slice_get xs n ≡ Some a) ⊎ ((k : ℕ) × (n ≡ length xs + k) × (slice_get ys k ≡ Some a))
@@ -50,11 +44,6 @@ two_parts (x ∷ xs) ys (suc n) a h = elim (two_parts xs ys n a h) [
   | inr (k, e, g) ↦ inr (k, omega (arith, e), g)
 ]
 
-of_map : {A B : Type 0} (f : A → B) (xs : List A) (n : ℕ) (b : B) → slice_get (map f xs) n ≡ Some b → (a : A) × (slice_get xs n ≡ Some a) × (f a ≡ b)
-of_map f [] n b h = absurd (let e : None ≡ Some b = h in let z : ⊥ = cc in z)
-of_map f (x ∷ xs) zero b h = (x, refl, same_Some _ _ h)
-of_map f (x ∷ xs) (suc n) b h = of_map f xs n b h
-
 -- a device rule is a transistor's or a further one
 abbrev pub IsMosAt : Rules → ℕ → Device → Type 0
 IsMosAt r n x = (m : MosRule) × (slice_get r.devices n ≡ Some m) × (of_mos m ≡ x)
@@ -64,9 +53,9 @@ IsMoreAt r n x = (k : ℕ) × (n ≡ length r.devices + k) × (m : MoreRule) × 
 
 pub by_kind : (r : Rules) (n : ℕ) (x : Device) → slice_get (devices_of r) n ≡ Some x → IsMosAt r n x ⊎ IsMoreAt r n x
 by_kind r n x h = elim (two_parts (map of_mos r.devices) (map of_more r.more) n x h) [
-  | inl g ↦ let m = of_map of_mos r.devices n x g in inl (m.0, m.1, m.2)
+  | inl g ↦ let m = map_from of_mos r.devices n x g in inl (m.0, m.1, m.2)
   | inr (k, e, g) ↦
-      let m = of_map of_more r.more k x g in
+      let m = map_from of_more r.more k x g in
       let long = length-map r.devices of_mos in
       inr (k, omega (arith, e, long), m.0, m.1, m.2)
 ]
@@ -88,13 +77,13 @@ pub rule_at : (r : Rules) (n : ℕ) (x : Device) → slice_get (devices_of r) n 
 rule_at r n x h = elim (by_kind r n x h) [
   | inl (m, at, e) ↦ record {
     rule = device_rule r m;
-    there = in_front (mos_rules r) (map (more_rule r) r.more) n (device_rule r m) (maps (device_rule r) r.devices n m at);
+    there = get_left (mos_rules r) (map (more_rule r) r.more) n (device_rule r m) (map_to (device_rule r) r.devices n m at);
     device = subst (λ (y : Device). IsDevice (formulas r.names) y (device_rule r m)) e (mos_device r m);
   }
   | inr (k, is, m, at, e) ↦
       let long = length-map r.devices (device_rule r) in record {
         rule = more_rule r m;
-        there = behind (mos_rules r) (map (more_rule r) r.more) n k (more_rule r m) (omega (arith, is, long)) (maps (more_rule r) r.more k m at);
+        there = behind (mos_rules r) (map (more_rule r) r.more) n k (more_rule r m) (omega (arith, is, long)) (map_to (more_rule r) r.more k m at);
         device = subst (λ (y : Device). IsDevice (formulas r.names) y (more_rule r m)) e (more_device r m);
       }
 ]
@@ -125,7 +114,7 @@ some_rule r n lt = by (slice_get (device_rules r) n) refl
 known_mos : (r : Rules) (n : ℕ) (m : MosRule) → IsSound r → slice_get r.devices n ≡ Some m → IsKnownDevice r (of_mos m)
 known_mos r n m sound there =
     let l = sound.formed.devices n m there in
-    let t = terminals r n (device_rule r m) sound (in_front (mos_rules r) (map (more_rule r) r.more) n (device_rule r m) (maps (device_rule r) r.devices n m there)) in
+    let t = terminals r n (device_rule r m) sound (get_left (mos_rules r) (map (more_rule r) r.more) n (device_rule r m) (map_to (device_rule r) r.devices n m there)) in
     record {
       region = l.g.below;
       ends = l.sd.below;
@@ -161,6 +150,6 @@ known_device r n x sound at = elim (by_kind r n x at) [
   | inl (m, there, e) ↦ subst (λ (y : Device). IsKnownDevice r y) e (known_mos r n m sound there)
   | inr (k, is, m, there, e) ↦
       let long = length-map r.devices (device_rule r) in
-      let t = terminals r n (more_rule r m) sound (behind (mos_rules r) (map (more_rule r) r.more) n k (more_rule r m) (omega (arith, is, long)) (maps (more_rule r) r.more k m there)) in
+      let t = terminals r n (more_rule r m) sound (behind (mos_rules r) (map (more_rule r) r.more) n k (more_rule r m) (omega (arith, is, long)) (map_to (more_rule r) r.more k m there)) in
       subst (λ (y : Device). IsKnownDevice r y) e (known_more r n k m sound is there t (sound.formed.more k m there))
 ]

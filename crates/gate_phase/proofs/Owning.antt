@@ -1,7 +1,8 @@
 -- Own gates, part by part.
 use Rattle.std.proofs.Common.{◌≡◌, ◌⊎◌, ◌↔◌, inl, inr, ℕ, zero, suc, ◌<◌, ◌≤◌, ◌+◌, Bool, true, false, not, List, [], ◌∷◌, ◌++◌, Option, Some, None, slice_get, length, refl, sym, ◌∙◌, ap, subst, arith}
+use Rattle.base_laws.proofs.Items.{push_cases, get_last, one_entry}
 use Rattle.std.proofs.Math.Decide.{ℕ_discrete}
-use Rattle.std.proofs.lemmas.Option.{slice_get_within}
+use Rattle.std.proofs.lemmas.Option.{slice_get_within, none-some}
 use Rattle.geo_base.specs.declared.shapes.Rect.{Rect}
 use Rattle.geo_base.specs.declared.shapes.Square.{Square}
 use Rattle.flat_layout.specs.Gates.{Geometry, Rule, IsGateBelow, IsListedGate, IsSettled, geometry}
@@ -43,30 +44,14 @@ listed_at d g cell part is a b at_a at_b h =
     let settled = settled_at d g cell part is a b at_a at_b h.settled in
     record { settled = settled; new = λ k. h.new (below_at d g cell part is b a at_b at_a settled k) }
 
-none_some : {A : Type 0} (u : A) → None ≡ Some u → ⊥
-none_some u e = cc
-
-push_cases : {A : Type 0} (xs : List A) (x u : A) (k : ℕ) → slice_get (xs ++ x ∷ []) k ≡ Some u → (slice_get xs k ≡ Some u) ⊎ ((k ≡ length xs) × (x ≡ u))
-push_cases [] x u zero e = inr (refl, cc)
-push_cases [] x u (suc k) e = absurd (none_some u e)
-push_cases (y ∷ xs) x u zero e = inl e
-push_cases (y ∷ xs) x u (suc k) e = elim (push_cases xs x u k e) [ inl h ↦ inl h | inr h ↦ let n = h.0 in inr ((omega arith), h.1) ]
-
 push_old : {A : Type 0} (xs ys : List A) (u : A) (k : ℕ) → slice_get xs k ≡ Some u → slice_get (xs ++ ys) k ≡ Some u
-push_old [] ys u k e = absurd (none_some u e)
+push_old [] ys u k e = absurd (none-some u e)
 push_old (y ∷ xs) ys u zero e = e
 push_old (y ∷ xs) ys u (suc k) e = push_old xs ys u k e
-
-push_new : {A : Type 0} (xs : List A) (x : A) → slice_get (xs ++ x ∷ []) (length xs) ≡ Some x
-push_new [] x = refl
-push_new (y ∷ xs) x = push_new xs x
 
 append_none : {A : Type 0} (xs : List A) → xs ++ [] ≡ xs
 append_none [] = refl
 append_none (x ∷ xs) = ap (λ ys. x ∷ ys) (append_none xs)
-
-one_of : {A : Type 0} (o : Option A) (a b : A) → o ≡ Some a → o ≡ Some b → a ≡ b
-one_of o a b e f = let g : Some a ≡ Some b = sym e ∙ f in cc
 
 module _ (d : Design) (w : Wiring) (u : Rule) (cell : ℕ) (gathered : List Rect) (parts : List (List Rect)) (are : AreParts gathered parts) where
   abbrev g : Geometry
@@ -82,11 +67,11 @@ module _ (d : Design) (w : Wiring) (u : Rule) (cell : ℕ) (gathered : List Rect
 
   pub none_yet : SoFar 0 []
   none_yet = record {
-    each = λ i x e. absurd (none_some x e);
+    each = λ i x e. absurd (none-some x e);
     found = λ i part s lt. absurd (let z : ⊥ = omega arith in z);
     parted = λ i part s lt. absurd (let z : ⊥ = omega arith in z);
-    from = λ j x e. absurd (none_some x e);
-    rising = λ i j x y lt e. absurd (none_some x e);
+    from = λ j x e. absurd (none-some x e);
+    rising = λ i j x y lt e. absurd (none-some x e);
   }
 
   module _ (n : ℕ) (part : List Rect) (at : slice_get parts n ≡ Some part) (is : IsToldPart d g cell part) (old : List OwnGate) (h : SoFar n old) where
@@ -101,14 +86,14 @@ module _ (d : Design) (w : Wiring) (u : Rule) (cell : ℕ) (gathered : List Rect
       each = h.each;
       found = λ i p s lt there inside own. elim (ℕ_discrete i n) [
         | yes e ↦
-            let same : p ≡ part = one_of (slice_get parts n) p part (subst (λ k. slice_get parts k ≡ Some p) e there) at in
+            let same : p ≡ part = one_entry (slice_get parts n) p part (subst (λ k. slice_get parts k ≡ Some p) e there) at in
             let own_least = listed_at d g cell part is s least (subst (λ l. in_set l s) same inside) is_least.has own in
             absurd (own_least.new (right own_least.settled))
         | no not ↦ h.found i p s (omega arith) there inside own
       ];
       parted = λ i p s lt there inside settled. elim (ℕ_discrete i n) [
         | yes e ↦
-            let same : p ≡ part = one_of (slice_get parts n) p part (subst (λ k. slice_get parts k ≡ Some p) e there) at in
+            let same : p ≡ part = one_entry (slice_get parts n) p part (subst (λ k. slice_get parts k ≡ Some p) e there) at in
             let here = subst (λ l. in_set l s) same inside in
             let settled_least = settled_at d g cell part is s least here is_least.has settled in
             inr (below_at d g cell part is least s is_least.has here settled_least (right settled_least))
@@ -121,13 +106,13 @@ module _ (d : Design) (w : Wiring) (u : Rule) (cell : ℕ) (gathered : List Rect
       each = λ i y e. elim (push_cases old x y i e) [ inl f ↦ h.each i y f | inr f ↦ subst (IsOwnGate d w u cell) f.1 right.1.1 ];
       found = λ i p s lt there inside own. elim (ℕ_discrete i n) [
         | yes e ↦
-            let same : p ≡ part = one_of (slice_get parts n) p part (subst (λ k. slice_get parts k ≡ Some p) e there) at in
-            (length old, x, push_new old x, subst (λ l. in_set l s) (same ∙ sym right.1.0) inside)
+            let same : p ≡ part = one_entry (slice_get parts n) p part (subst (λ k. slice_get parts k ≡ Some p) e there) at in
+            (length old, x, get_last old x, subst (λ l. in_set l s) (same ∙ sym right.1.0) inside)
         | no not ↦ let f = h.found i p s (omega arith) there inside own in (f.0, f.1, push_old old (x ∷ []) f.1 f.0 f.2, f.3)
       ];
       parted = λ i p s lt there inside settled. elim (ℕ_discrete i n) [
         | yes e ↦
-            let same : p ≡ part = one_of (slice_get parts n) p part (subst (λ k. slice_get parts k ≡ Some p) e there) at in
+            let same : p ≡ part = one_entry (slice_get parts n) p part (subst (λ k. slice_get parts k ≡ Some p) e there) at in
             let here = subst (λ l. in_set l s) same inside in
             let listed : IsListedGate d g cell least = subst (IsListedGate d g cell) right.0 right.1.1.listed in
             inl (listed_at d g cell part is least s is_least.has here listed)

@@ -10,14 +10,14 @@ use Rattle.flat_layout.specs.Nets.{NetHolds, Tables}
 use Rattle.flat_layout.specs.Plane.{IsSquareBefore}
 use Rattle.flat_layout.specs.Regions.{Node, Wiring, ground_of}
 use Rattle.plain_netlist.specs.Netlist.{Pole, Source, Gate, Drain, Bulk}
-use Rattle.gate_shapes.specs.Shapes.{IsShapeBy, cause_of}
-use Rattle.gate_shapes.specs.declared.shape.GateCause.{GateCause}
+use Rattle.gate_shapes.specs.Shapes.{IsShapeBy}
 use Rattle.gate_shapes.specs.declared.shape.GateForm.{GateForm}
 use Rattle.gate_shapes.specs.declared.shape.GateShape.{GateShape}
 use Rattle.gate_shapes.specs.declared.shape.GateShape.TheVariants.{Bad, Good}
 use Rattle.gate_phase.specs.Terminals.{HasOneEnd}
 use Rattle.gate_phase.proofs.Holding.{one_least}
 use Rattle.gate_phase.specs.Rows.{EntryLaw, IsVerdictOf, RowLaw, end_node, gate_node, region_node}
+use Rattle.flat_layout.specs.declared.cause.GateCause.{GateCause}
 
 before_after : (p q r : Square) → IsSquareBefore p q → (q ≡ r) ⊎ IsSquareBefore q r → IsSquareBefore p r
 before_after p q r h (inl e) = subst (IsSquareBefore p) e h
@@ -97,7 +97,7 @@ row d w t u cell s f r shape least holds =
     nets n Gate = (gate_node u.kind w u s, n.gate, holds.gate)
     nets n Bulk = (region_node u.tb s (ground w u), n.bulk, holds.bulk)
 
-by_form : (form : Form) (g : Sheets) (part : Square → Type 0) (c : GateCause) → IsShapeBy form g part (Bad c) → IsBadForm form g part (cause_of c)
+by_form : (form : Form) (g : Sheets) (part : Square → Type 0) (c : GateCause) → IsShapeBy form g part (Bad c) → IsBadForm form g part c
 by_form Beside g part c h = h
 by_form Alone g part c h = h
 

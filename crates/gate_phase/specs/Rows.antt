@@ -11,7 +11,7 @@ use Rattle.flat_layout.specs.Layout.{Design}
 use Rattle.flat_layout.specs.Nets.{NetHolds, Tables}
 use Rattle.flat_layout.specs.Regions.{At, Ground, Node, Wiring}
 use Rattle.plain_netlist.specs.Lists.{AreRising, IsListed}
-use Rattle.gate_shapes.specs.Shapes.{IsShapeBy, cause_of}
+use Rattle.gate_shapes.specs.Shapes.{IsShapeBy}
 use Rattle.gate_shapes.specs.declared.shape.GateForm.{GateForm}
 use Rattle.gate_shapes.specs.declared.shape.GateShape.{GateShape}
 use Rattle.gate_shapes.specs.declared.shape.GateShape.TheVariants.{Bad, Good}
@@ -54,7 +54,7 @@ RowLaw = (d : Design) (w : Wiring) (t : Tables) (u : Rule) (cell : ℕ) (least :
 abbrev pub IsVerdictOf : Design → Wiring → Tables → Rule → ℕ → Square → GateShape → Verdict → Type 0
 IsVerdictOf d w t u cell least (Good f) v =
     (row : GateRow) × (v ≡ verdict.Good row) × HoldTerminals d w t u cell least f row
-IsVerdictOf d w t u cell least (Bad c) v = v ≡ verdict.Bad (cause_of c)
+IsVerdictOf d w t u cell least (Bad c) v = v ≡ verdict.Bad c
 
 -- a gate of the cell's own, under its rule and its least square, with this verdict, is a right
 -- entry of the cell's list

@@ -1,7 +1,5 @@
 //! The gates of a cell's list for one device rule, from the cell's own gates.
 ghost use Rattle.std.specs.Prelude.{◌≡◌, ℕ, Some, length, slice_get, IfOk};
-ghost use Rattle.deep_tables.specs.Gates.{plain_cause};
-ghost use Rattle.gate_shapes.specs.Shapes.{cause_of};
 ghost use Rattle.net_link_laws.specs.Laws.{AreNetsUnder};
 ghost use Rattle.gate_phase.specs.Judged.{AreGatesOf, IsGateOf, IsHeldShape, IsStateOf};
 ghost use Rattle.gate_phase.specs.Terminals.{grounds_seen};
@@ -11,24 +9,11 @@ use crate::bulks::Grounds;
 use crate::device::Device;
 use crate::own::OwnGate;
 use crate::terminals::terminal_nets;
-use deep_tables::{Gate, GateCause, GateState};
-use gate_shapes::{GateCause as ShapeCause, GateShape};
+use deep_tables::{Gate, GateState};
+use gate_shapes::GateShape;
 use geo_base::Square;
 use net_walk::Cells;
 use std::alloc::{AllocError, Global};
-
-// The cause of a bad shape, as the table has it.
-fn table_cause(cause: ShapeCause) -> GateCause
-    ensures { plain_cause result ≡ cause_of cause }
-{
-    match cause {
-        ShapeCause::Groups(count) => GateCause::Groups(count),
-        ShapeCause::OffGate => GateCause::OffGate,
-        ShapeCause::OffSd => GateCause::OffSd,
-        ShapeCause::NoBulk => GateCause::NoBulk,
-        ShapeCause::NoLength => GateCause::NoLength,
-    }
-}
 
 // The verdict on a gate of this shape.
 fn state_of<C: Cells>(
@@ -50,7 +35,7 @@ fn state_of<C: Cells>(
         rule.now (grounds_seen grounds) cell least shape) }
 {
     match shape {
-        GateShape::Bad(cause) => Ok(GateState::Bad(table_cause(cause))),
+        GateShape::Bad(cause) => Ok(GateState::Bad(cause)),
         GateShape::Good(form) => {
             let nets = terminal_nets(alloc, cells, cell, rule, grounds, globals, least, &form)?;
             Ok(GateState::Good {

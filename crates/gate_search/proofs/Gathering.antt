@@ -1,6 +1,7 @@
 -- Rounds of windows.
-use Rattle.std.proofs.Common.{◌≡◌, ◌⊎◌, inl, inr, ℕ, ◌+◌, ◌<◌, ◌≤◌, Option, Some, None, List, [], ◌∷◌, ◌++◌, Bool, true, false, ◌&&◌, ◌||◌, not, map, length, get_or, take, refl, sym, ◌∙◌, ap, subst}
-use Rattle.std.proofs.lemmas.Bool.{false≢true}
+use Rattle.std.proofs.Common.{◌≡◌, ◌⊎◌, inl, inr, ℕ, ◌+◌, ◌<◌, ◌≤◌, Option, Some, None, List, [], ◌∷◌, ◌++◌, true, false, ◌&&◌, ◌||◌, not, map, length, get_or, take, sym, ◌∙◌, ap, subst}
+use Rattle.base_laws.proofs.Tests.{true_or_not}
+use Rattle.std.proofs.lemmas.Bool.{false≢true, or_left, or_right, and_from, or_cases, and_parts}
 use Rattle.std.proofs.lemmas.List.{take_more, take_all}
 use Rattle.std.specs.List.{All}
 use Rattle.std.specs.Option.{MatchOption, is_some}
@@ -9,23 +10,18 @@ use Rattle.geo_base.specs.Rects.{has, IsRect}
 use Rattle.geo_base.specs.declared.shapes.Rect.{Rect}
 use Rattle.geo_base.specs.declared.shapes.Square.{Square}
 use Rattle.rect_sets.specs.Rects.{covers, IsCanonical}
-use Rattle.rect_sets.proofs.Splitting.{or_split, and_split, covers_append}
+use Rattle.rect_sets.proofs.Splitting.{covers_append}
 use Rattle.rect_sets.proofs.Unique.{rect_of}
 use Rattle.flat_layout.specs.Parts.{IsCloseTo}
 use Rattle.gate_shapes.specs.Borders.{grown_rect}
 use Rattle.gate_shapes.specs.Sets.{in_set}
-use Rattle.gate_shapes.proofs.Areas.{or_first, or_second, both_and}
 use Rattle.gate_shapes.proofs.Borders.{from_not}
 use Rattle.gate_shapes.proofs.Groups.{beside_around}
 use Rattle.gate_shapes.proofs.Rings.{close_same}
 use Rattle.gate_search.specs.Gather.{AreMet, IsGathered, IsGathering, IsGatheredAround}
 
-pub either_bool : (b : Bool) → (b ≡ true) ⊎ (b ≡ true → ⊥)
-either_bool true = inl refl
-either_bool false = inr (λ e. false≢true e)
-
 in_one : (w : Rect) (q : Square) → in_set (w ∷ []) q → has w q ≡ true
-in_one w q e = elim (or_split (has w q) false e) [ inl f ↦ f | inr f ↦ absurd (false≢true f) ]
+in_one w q e = elim (or_cases (has w q) false e) [ inl f ↦ f | inr f ↦ absurd (false≢true f) ]
 
 module _ (keeps : Square → Type 0) where
   pub met_none : (windows : List Rect) → AreMet keeps (take 0 windows) []
@@ -35,13 +31,13 @@ module _ (keeps : Square → Type 0) where
   met_more windows i d all part new lt is h g =
       let either : (q : Square) → covers new q ≡ (covers all q || covers part q) = λ q. ap (λ (l : List Rect). covers l q) is ∙ covers_append all part q in
       record {
-        sound = λ q e. elim (or_split (covers all q) (covers part q) (sym (either q) ∙ e)) [ inl f ↦ h.sound q f | inr f ↦ g.sound q f ];
+        sound = λ q e. elim (or_cases (covers all q) (covers part q) (sym (either q) ∙ e)) [ inl f ↦ h.sound q f | inr f ↦ g.sound q f ];
         complete = λ q k e.
             let w = get_or windows i d in
             let more : covers (take (i + 1) windows) q ≡ (covers (take i windows) q || covers (w ∷ []) q) = ap (λ (l : List Rect). covers l q) (take_more windows i d lt) ∙ covers_append (take i windows) (w ∷ []) q in
-            either q ∙ elim (or_split (covers (take i windows) q) (covers (w ∷ []) q) (sym more ∙ e)) [
-              | inl f ↦ or_first (covers all q) (covers part q) (h.complete q k f)
-              | inr f ↦ or_second (covers all q) (covers part q) (g.complete q k f)
+            either q ∙ elim (or_cases (covers (take i windows) q) (covers (w ∷ []) q) (sym more ∙ e)) [
+              | inl f ↦ or_left (covers all q) (covers part q) (h.complete q k f)
+              | inr f ↦ or_right (covers all q) (covers part q) (g.complete q k f)
             ];
       }
 
@@ -62,24 +58,24 @@ module _ (keeps : Square → Type 0) where
   pub gather_more : (windows done fresh next done' fresh' : List Rect) → IsCanonical fresh → AreMet keeps (map grown_rect fresh) next → ((q : Square) → covers done' q ≡ (covers done q || covers fresh q))
       → ((q : Square) → covers fresh' q ≡ (covers next q && not (covers done' q))) → IsGathering keeps windows done fresh → IsGathering keeps windows done' fresh'
   gather_more windows done fresh next done' fresh' good met joined left h = record {
-    sound_done = λ q e. elim (or_split (covers done q) (covers fresh q) (sym (joined q) ∙ e)) [ inl f ↦ h.sound_done q f | inr f ↦ h.sound_fresh q f ];
-    sound_fresh = λ q e. met.sound q (and_split (covers next q) (not (covers done' q)) (sym (left q) ∙ e)).0;
+    sound_done = λ q e. elim (or_cases (covers done q) (covers fresh q) (sym (joined q) ∙ e)) [ inl f ↦ h.sound_done q f | inr f ↦ h.sound_fresh q f ];
+    sound_fresh = λ q e. met.sound q (and_parts (covers next q) (not (covers done' q)) (sym (left q) ∙ e)).0;
     complete = λ q k e. inl (to_done q (h.complete q k e));
-    steps = λ p q e s. elim (or_split (covers done p) (covers fresh p) (sym (joined p) ∙ e)) [
+    steps = λ p q e s. elim (or_cases (covers done p) (covers fresh p) (sym (joined p) ∙ e)) [
       | inl f ↦ inl (to_done q (h.steps p q f s))
-      | inr f ↦ elim (either_bool (covers done' q)) [
+      | inr f ↦ elim (true_or_not (covers done' q)) [
         | inl g ↦ inl g
         | inr g ↦
             let close : IsCloseTo (in_set fresh) q = record { square = p; in_part = f; around = beside_around p q s.edge } in
             let window : in_set (map grown_rect fresh) q = (close_same fresh (λ r l. rect_of (covers fresh) r ((good.each r).0 l)) q).1 close in
-            inr (left q ∙ both_and (covers next q) (not (covers done' q)) (met.complete q s.to window) (from_not (covers done' q) g))
+            inr (left q ∙ and_from (covers next q) (not (covers done' q)) (met.complete q s.to window) (from_not (covers done' q) g))
       ]
     ];
   }
     where
       to_done : (q : Square) → in_set done q ⊎ in_set fresh q → in_set done' q
-      to_done q (inl f) = joined q ∙ or_first (covers done q) (covers fresh q) f
-      to_done q (inr f) = joined q ∙ or_second (covers done q) (covers fresh q) f
+      to_done q (inl f) = joined q ∙ or_left (covers done q) (covers fresh q) f
+      to_done q (inr f) = joined q ∙ or_right (covers done q) (covers fresh q) f
 
   pub gather_all : (windows done fresh : List Rect) → ((q : Square) → in_set fresh q → ⊥) → IsGathering keeps windows done fresh → IsGathered keeps windows done
   gather_all windows done fresh none h = record {

@@ -1,17 +1,16 @@
 -- Rounds of windows end: each takes squares that none took before, of a bounded plane.
 use Rattle.std.proofs.Common.{◌≡◌, ◌⊎◌, inl, inr, ℕ, ◌+◌, ◌*◌, ◌^◌, ◌<◌, ◌≤◌, ℤ, pos, ◌-ℤ◌, Option, Some, None, List, true, ◌&&◌, ◌||◌, not, refl, sym, ◌∙◌, ap, subst, arith}
-use Rattle.std.proofs.lemmas.Bool.{false≢true}
+use Rattle.std.proofs.lemmas.Bool.{false≢true, or_left, or_right, and_parts}
 use Rattle.std.proofs.lemmas.Int.{ints}
 use Rattle.std.specs.Option.{MatchOption, is_some}
 use Rattle.geo_base.specs.declared.shapes.Rect.{Rect}
 use Rattle.geo_base.specs.declared.shapes.Square.{Square}
 use Rattle.rect_sets.specs.Near.{IsNearSet}
 use Rattle.rect_sets.specs.Rects.{covers, IsCanonical}
-use Rattle.rect_sets.proofs.Splitting.{and_split}
 use Rattle.flat_layout.specs.Parts.{Counts}
 use Rattle.flat_laws.proofs.Count.{fewer}
 use Rattle.gate_shapes.specs.Sets.{in_set, area}
-use Rattle.gate_shapes.proofs.Areas.{IsWithin, box_count, canonical_count, or_first, or_second}
+use Rattle.gate_shapes.proofs.Areas.{IsWithin, box_count, canonical_count}
 use Rattle.gate_shapes.proofs.Counting.{counts_one, counts_or}
 use Rattle.gate_search.specs.Gather.{IsGathering}
 
@@ -48,15 +47,15 @@ grows done fresh joined q good good' is here not =
     counts_or (in_set done) (λ a. a ≡ q) (area done) 1 (area done + 1) refl (λ a e f. not (subst (λ (s : Square). in_set done s) f e)) (canonical_count done good) (counts_one (λ a. a ≡ q) q refl (λ a e. e)) in
     let le = fewer_of (λ a. in_set done a ⊎ (a ≡ q)) (in_set joined) (area done + 1) (area joined) more (canonical_count joined good')
     (λ a e. elim e [
-      | inl f ↦ is a ∙ or_first (covers done a) (covers fresh a) f
-      | inr f ↦ is a ∙ or_second (covers done a) (covers fresh a) (subst (λ (s : Square). in_set fresh s) (sym f) here)
+      | inl f ↦ is a ∙ or_left (covers done a) (covers fresh a) f
+      | inr f ↦ is a ∙ or_right (covers done a) (covers fresh a) (subst (λ (s : Square). in_set fresh s) (sym f) here)
     ]) in
     omega (arith, le)
 
 -- what is left of a set without what is done
 pub apart_left : (done next fresh : List Rect) → ((q : Square) → covers fresh q ≡ (covers next q && not (covers done q))) → (q : Square) → in_set done q → in_set fresh q → ⊥
 apart_left done next fresh left q there here =
-    let neither = (and_split (covers next q) (not (covers done q)) (sym (left q) ∙ here)).1 in
+    let neither = (and_parts (covers next q) (not (covers done q)) (sym (left q) ∙ here)).1 in
     false≢true (sym (ap not there) ∙ neither)
 
 pub some_from : (o : Option Square) (P : Type 0) (Q : Square → Type 0) → is_some o ≡ true → MatchOption o P Q → (q : Square) × Q q

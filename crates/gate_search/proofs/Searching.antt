@@ -1,5 +1,6 @@
 -- The parts of what was gathered, and the gates of the cell.
 use Rattle.std.proofs.Common.{◌≡◌, ◌⊎◌, ◌↔◌, inl, inr, ℕ, List, Some, true}
+use Rattle.base_laws.proofs.Tests.{true_or_not}
 use Rattle.std.specs.Prelude.{slice_get}
 use Rattle.geo_base.specs.declared.shapes.Rect.{Rect}
 use Rattle.geo_base.specs.declared.shapes.Square.{Square}
@@ -15,7 +16,6 @@ use Rattle.flat_laws.proofs.Seeds.{kept_part, closed, parted, unfound}
 use Rattle.gate_shapes.specs.Sets.{in_set}
 use Rattle.gate_shapes.proofs.Joined.{step_back}
 use Rattle.gate_shapes.proofs.PartsOf.{end_in}
-use Rattle.gate_search.proofs.Gathering.{either_bool}
 use Rattle.gate_search.specs.SearchLaws.{IsSearch, IsTold, PartLaw, FoundLaw, KnownLaw}
 
 module _ (d : Design) (g : Geometry) (cell : ℕ) (seeds found : List Rect) (parts : List (List Rect)) (h : IsSearch d g cell seeds found parts) where
@@ -72,7 +72,7 @@ module _ (d : Design) (g : Geometry) (cell : ℕ) (seeds found : List Rect) (par
   known judged = parted d g cell (covers found) h.sound h.reached is_closed seeds_found (λ s e settled. let p = part_of s e in judged p.0 p.1 s p.2 p.3 settled)
 
   pub own_found : (s : Square) → IsListedGate d g cell s → (i : ℕ) × (part : List Rect) × (slice_get parts i ≡ Some part) × in_set part s
-  own_found s own = elim (either_bool (covers found s)) [
+  own_found s own = elim (true_or_not (covers found s)) [
     | inl e ↦ part_of s e
     | inr not ↦ absurd (own.new (unfound d g h.sound cell (covers found) h.reached is_closed seeds_found s own.settled not))
   ]

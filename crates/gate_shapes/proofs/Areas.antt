@@ -1,15 +1,15 @@
 -- A canonical list has as many squares as its area says.
-use Rattle.std.proofs.Common.{◌≡◌, ◌⊎◌, inl, inr, ℕ, zero, suc, ◌+◌, ◌*◌, ℤ, pos, ◌+ℤ◌, ◌-ℤ◌, ◌≤ℤ◌, ◌<ℤ◌, unsigned_abs, List, [], ◌∷◌, ◌++◌, Bool, true, false, ◌||◌, ◌&&◌, ◌<◌, ◌≤◌, length, take, get_or, negsuc, refl, sym, ◌∙◌, ap, subst, arith, Result, Ok, Err}
+use Rattle.std.proofs.Common.{◌≡◌, ◌⊎◌, inl, inr, ℕ, zero, suc, ◌+◌, ◌*◌, ℤ, pos, ◌+ℤ◌, ◌-ℤ◌, ◌≤ℤ◌, ◌<ℤ◌, unsigned_abs, List, [], ◌∷◌, ◌++◌, Bool, true, false, ◌<◌, ◌≤◌, length, take, get_or, negsuc, refl, sym, ◌∙◌, ap, subst, arith, Result, Ok, Err}
 use Rattle.std.specs.Result.{OnErr}
 use Rattle.std.proofs.lemmas.Int.{ints, by_lt_z}
-use Rattle.std.proofs.lemmas.Bool.{false≢true}
+use Rattle.std.proofs.lemmas.Bool.{false≢true, or_left, or_right, or_cases}
 use Rattle.std.proofs.lemmas.List.{take_more}
 use Rattle.geo_base.specs.Rects.{has, IsRect}
 use Rattle.geo_base.specs.declared.shapes.Rect.{Rect}
 use Rattle.geo_base.specs.declared.shapes.Square.{Square}
 use Rattle.rect_sets.specs.Rects.{covers, IsBlock, IsBelow, AreAbove, IsOrdered, IsListed, IsCanonical}
 use Rattle.rect_sets.proofs.Blocking.{covers_listed}
-use Rattle.rect_sets.proofs.Splitting.{IsInside, inside_from, shared_block, or_split}
+use Rattle.rect_sets.proofs.Splitting.{IsInside, inside_from, shared_block}
 use Rattle.rect_sets.proofs.Unique.{rect_of}
 use Rattle.flat_layout.specs.Parts.{Counts}
 use Rattle.gate_shapes.specs.Sets.{in_set, area_of, area}
@@ -78,18 +78,6 @@ box_count x w y (suc n) =
     (row_count x y w)
     (box_count x w (y +ℤ pos 1) n))
 
-pub or_first : (b c : Bool) → b ≡ true → (b || c) ≡ true
-or_first true c e = refl
-or_first false c e = absurd (false≢true e)
-
-pub or_second : (b c : Bool) → c ≡ true → (b || c) ≡ true
-or_second true c e = refl
-or_second false c e = e
-
-pub both_and : (b c : Bool) → b ≡ true → c ≡ true → (b && c) ≡ true
-both_and true c e f = f
-both_and false c e f = absurd (false≢true e)
-
 pub inside_has : (r : Rect) (s : Square) → IsInside r s → has r s ≡ true
 inside_has r s h = let a = h.x1 in let b = h.x2 in let c = h.y1 in let d = h.y2 in grind (arith, ints)
 
@@ -127,7 +115,7 @@ list_count : (rects : List Rect) → AreDisjoint rects → ((r : Rect) → IsLis
 list_count [] h good = counts_none (in_set []) (λ q e. false≢true e)
 list_count (r ∷ rects) h good =
     counts_same (λ q. (has r q ≡ true) ⊎ in_set rects q) (in_set (r ∷ rects)) (area (r ∷ rects))
-    (λ q. ((λ i. elim i [ inl e ↦ or_first (has r q) (covers rects q) e | inr e ↦ or_second (has r q) (covers rects q) e ]), or_split (has r q) (covers rects q)))
+    (λ q. ((λ i. elim i [ inl e ↦ or_left (has r q) (covers rects q) e | inr e ↦ or_right (has r q) (covers rects q) e ]), or_cases (has r q) (covers rects q)))
     (counts_or (λ q. has r q ≡ true) (in_set rects) (area_of r) (area rects) (area (r ∷ rects)) refl h.0 (rect_count r (good r (inl refl))) (list_count rects h.1 (λ s l. good s (inr l))))
 
 not_above : (r : Rect) (rects : List Rect) → AreAbove r rects → IsListed r rects → ⊥

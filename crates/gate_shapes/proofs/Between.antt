@@ -1,31 +1,24 @@
 -- A rectangle between two: its ends are two groups, so it is a good gate.
-use Rattle.std.proofs.Common.{◌≡◌, ◌⊎◌, ◌↔◌, inl, inr, ℕ, zero, suc, ◌+◌, ◌<◌, List, [], ◌∷◌, Some, None, Bool, true, false, ◌&&◌, ◌||◌, refl, sym, ◌∙◌, ap, subst, arith}
+use Rattle.std.proofs.Common.{◌≡◌, ◌⊎◌, ◌↔◌, inl, inr, ℕ, zero, suc, ◌<◌, List, [], ◌∷◌, Some, None, Bool, true, refl, sym, subst, arith}
 use Rattle.std.specs.Prelude.{slice_get}
 use Rattle.std.proofs.lemmas.Int.{ints}
-use Rattle.std.proofs.lemmas.Bool.{false≢true}
-use Rattle.std.proofs.lemmas.Bool.Decides.{Decides-int_eq}
-use Rattle.std.specs.Ordering.{int_eq}
-use Rattle.geo_base.specs.Rects.{has, IsRect}
+use Rattle.geo_base.specs.Rects.{IsRect}
 use Rattle.geo_base.specs.declared.shapes.Rect.{Rect}
 use Rattle.geo_base.specs.declared.shapes.Square.{Square}
-use Rattle.plain_netlist.specs.Chains.{IsChain, Reaches}
-use Rattle.rect_sets.specs.Rects.{covers}
-use Rattle.rect_sets.proofs.Splitting.{IsInside, inside_from, and_split, or_split}
+use Rattle.plain_netlist.specs.Chains.{IsChain}
+use Rattle.rect_sets.proofs.Splitting.{IsInside}
 use Rattle.flat_layout.specs.Parts.{AllOn, IsLeast, IsStep, InPart, InSideOf}
 use Rattle.flat_layout.specs.Plane.{SharesEdge, IsSquareBefore}
-use Rattle.gate_shapes.specs.Borders.{grown_rect, IsBorder}
+use Rattle.gate_shapes.specs.Borders.{IsBorder}
 use Rattle.gate_shapes.specs.PartLists.{AreParts}
 use Rattle.gate_shapes.specs.Plain.{corner}
-use Rattle.gate_shapes.specs.Sets.{in_set, area_of}
-use Rattle.gate_shapes.specs.Shapes.{AreKept, IsGood, Meet, sheets_of}
-use Rattle.gate_shapes.specs.declared.border.Side.{Side}
-use Rattle.gate_shapes.specs.declared.border.Side.TheVariants.{Right, Up, Left, Down}
+use Rattle.gate_shapes.specs.Sets.{in_set}
+use Rattle.gate_shapes.specs.Shapes.{AreKept, IsGood, sheets_of}
 use Rattle.gate_shapes.specs.declared.shape.GateForm.{GateForm}
-use Rattle.gate_shapes.proofs.Areas.{inside_has, or_first, or_second}
-use Rattle.gate_shapes.proofs.Joined.{edge_back, step_back, walk}
+use Rattle.gate_shapes.proofs.Joined.{edge_back, walk}
 use Rattle.gate_shapes.proofs.Judging.{good_law}
 use Rattle.gate_shapes.proofs.PartsOf.{least_of, one_least}
-use Rattle.gate_shapes.proofs.Strips.{one_has, has_one, two_have, has_first, has_second, beyond_rect, in_ring, near_part, level_border, upright_border}
+use Rattle.gate_shapes.proofs.Strips.{one_has, has_one, two_have, has_first, has_second}
 
 corner_inside : (r : Rect) → IsRect r → IsInside r (corner r)
 corner_inside r h = let w = h.wide in let t = h.high in record { x1 = omega (arith, ints); x2 = w; y1 = omega (arith, ints); y2 = t }

@@ -1,14 +1,13 @@
 -- The boundary edges of a part, side by side.
 use Rattle.std.proofs.Common.{◌≡◌, ◌⊎◌, ◌↔◌, inl, inr, ℕ, ◌+◌, ℤ, List, Bool, true, false, ◌&&◌, ◌||◌, not, refl, sym, ◌∙◌, ap, subst, arith}
 use Rattle.std.proofs.lemmas.Int.{ints}
-use Rattle.std.proofs.lemmas.Bool.{false≢true}
+use Rattle.std.proofs.lemmas.Bool.{false≢true, or_left, or_right, and_from, or_cases, and_parts}
 use Rattle.geo_base.specs.Motions.{moved_square}
 use Rattle.geo_base.specs.declared.motion.Motion.{Motion}
 use Rattle.geo_base.specs.declared.motion.Turn.TheVariants.{R0}
 use Rattle.geo_base.specs.declared.shapes.Rect.{Rect}
 use Rattle.geo_base.specs.declared.shapes.Square.{Square}
 use Rattle.rect_sets.specs.Rects.{covers}
-use Rattle.rect_sets.proofs.Splitting.{and_split, or_split}
 use Rattle.flat_layout.specs.Parts.{Edge, IsBorderOf, IsWideOf, IsLongOf, Counts}
 use Rattle.flat_layout.specs.Plane.{SharesEdge}
 use Rattle.gate_shapes.specs.Borders.{step_x, step_y, behind, IsOnSide, IsFlank, IsBorder}
@@ -16,7 +15,7 @@ use Rattle.gate_shapes.specs.Sets.{in_set}
 use Rattle.gate_shapes.specs.declared.border.Flank.{Flank}
 use Rattle.gate_shapes.specs.declared.border.Side.{Side}
 use Rattle.gate_shapes.specs.declared.border.Side.TheVariants.{Right, Up, Left, Down}
-use Rattle.gate_shapes.proofs.Areas.{same_square, both_and, or_first, or_second}
+use Rattle.gate_shapes.proofs.Areas.{same_square}
 use Rattle.gate_shapes.proofs.Counting.{counts_same, counts_or, counts_image}
 
 abbrev shift : ℤ → ℤ → Motion
@@ -54,18 +53,18 @@ edge_is side e h = ap (λ (v : Square). let x : Edge = record { inner = v; outer
 module _ (side : Side) (part ends out : List Rect) (beside : (q : Square) → covers out q ≡ (covers part (behind side q) && not (covers part q))) where
   border_at : (q : Square) → covers out q ≡ true → IsBorderOf (in_set part) (edge_at side q)
   border_at q h =
-      let p = and_split (covers part (behind side q)) (not (covers part q)) (sym (beside q) ∙ h) in
+      let p = and_parts (covers part (behind side q)) (not (covers part q)) (sym (beside q) ∙ h) in
       record { inside = p.0; outside = not_true (covers part q) p.1; edge = behind_edge side q }
 
   out_at : (q : Square) → IsBorderOf (in_set part) (edge_at side q) → covers out q ≡ true
-  out_at q h = beside q ∙ both_and (covers part (behind side q)) (not (covers part q)) h.inside (from_not (covers part q) h.outside)
+  out_at q h = beside q ∙ and_from (covers part (behind side q)) (not (covers part q)) h.inside (from_not (covers part q) h.outside)
 
   module _ (touched : List Rect) (cut : (q : Square) → covers touched q ≡ (covers out q && covers ends q)) where
     wide_at : (q : Square) → in_set touched q → IsWideOf (in_set part) (in_set ends) (edge_at side q)
-    wide_at q h = let p = and_split (covers out q) (covers ends q) (sym (cut q) ∙ h) in record { border = border_at q p.0; sd = p.1 }
+    wide_at q h = let p = and_parts (covers out q) (covers ends q) (sym (cut q) ∙ h) in record { border = border_at q p.0; sd = p.1 }
 
     touched_at : (q : Square) → IsWideOf (in_set part) (in_set ends) (edge_at side q) → in_set touched q
-    touched_at q h = cut q ∙ both_and (covers out q) (covers ends q) (out_at q h.border) h.sd
+    touched_at q h = cut q ∙ and_from (covers out q) (covers ends q) (out_at q h.border) h.sd
 
     wide_same : (e : Edge) → ((q : Square) × in_set touched q × (e ≡ edge_at side q)) ↔ (IsWideOf (in_set part) (in_set ends) e × IsOnSide side e)
     wide_same e = (
@@ -83,13 +82,13 @@ module _ (side : Side) (part ends out : List Rect) (beside : (q : Square) → co
     long_same : (e : Edge) → ((q : Square) × in_set others q × (e ≡ edge_at side q)) ↔ (IsLongOf (in_set part) (in_set ends) e × IsOnSide side e)
     long_same e = (
       (λ h.
-          let p = and_split (covers out h.0) (not (covers ends h.0)) (sym (cut h.0) ∙ h.1) in
+          let p = and_parts (covers out h.0) (not (covers ends h.0)) (sym (cut h.0) ∙ h.1) in
           let here : IsLongOf (in_set part) (in_set ends) (edge_at side h.0) = record { border = border_at h.0 p.0; other = not_true (covers ends h.0) p.1 } in
           subst (λ (x : Edge). IsLongOf (in_set part) (in_set ends) x × IsOnSide side x) (sym h.2) (here, refl)),
       (λ h.
           let is = edge_is side e h.1 in
           let g = subst (λ (x : Edge). IsLongOf (in_set part) (in_set ends) x) is h.0 in
-          (e.outer, cut e.outer ∙ both_and (covers out e.outer) (not (covers ends e.outer)) (out_at e.outer g.border) (from_not (covers ends e.outer) g.other), is)),
+          (e.outer, cut e.outer ∙ and_from (covers out e.outer) (not (covers ends e.outer)) (out_at e.outer g.border) (from_not (covers ends e.outer) g.other), is)),
     )
 
 pub flank_law : (side : Side) (part ends out touched others : List Rect) (wide long : ℕ) → ((q : Square) → covers out q ≡ (covers part (behind side q) && not (covers part q)))
@@ -184,18 +183,18 @@ border_law part ends touched r u l d wide long fr fu fl fd ew el same = record {
 
 pub from_or : (a b c d r : List Rect) → ((q : Square) → covers r q ≡ (((covers a q || covers b q) || covers c q) || covers d q)) → (q : Square) → in_set r q ↔ (((in_set a q ⊎ in_set b q) ⊎ in_set c q) ⊎ in_set d q)
 from_or a b c d r h q = (
-  (λ e. elim (or_split ((covers a q || covers b q) || covers c q) (covers d q) (sym (h q) ∙ e)) [
-    | inl f ↦ elim (or_split (covers a q || covers b q) (covers c q) f) [
-      | inl g ↦ inl (inl (or_split (covers a q) (covers b q) g))
+  (λ e. elim (or_cases ((covers a q || covers b q) || covers c q) (covers d q) (sym (h q) ∙ e)) [
+    | inl f ↦ elim (or_cases (covers a q || covers b q) (covers c q) f) [
+      | inl g ↦ inl (inl (or_cases (covers a q) (covers b q) g))
       | inr g ↦ inl (inr g)
     ]
     | inr f ↦ inr f
   ]),
   (λ e. h q ∙ elim e [
-    | inl f ↦ or_first ((covers a q || covers b q) || covers c q) (covers d q) (elim f [
-      | inl g ↦ or_first (covers a q || covers b q) (covers c q) (elim g [ inl k ↦ or_first (covers a q) (covers b q) k | inr k ↦ or_second (covers a q) (covers b q) k ])
-      | inr g ↦ or_second (covers a q || covers b q) (covers c q) g
+    | inl f ↦ or_left ((covers a q || covers b q) || covers c q) (covers d q) (elim f [
+      | inl g ↦ or_left (covers a q || covers b q) (covers c q) (elim g [ inl k ↦ or_left (covers a q) (covers b q) k | inr k ↦ or_right (covers a q) (covers b q) k ])
+      | inr g ↦ or_right (covers a q || covers b q) (covers c q) g
     ])
-    | inr f ↦ or_second ((covers a q || covers b q) || covers c q) (covers d q) f
+    | inr f ↦ or_right ((covers a q || covers b q) || covers c q) (covers d q) f
   ]),
 )

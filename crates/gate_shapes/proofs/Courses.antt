@@ -1,7 +1,8 @@
 -- What the tests on sides tell, and the two ways in which a rectangle lies between two others.
-use Rattle.std.proofs.Common.{◌≡◌, ◌⊎◌, ◌↔◌, inl, inr, ℕ, ◌+◌, ◌*◌, ◌<◌, ℤ, pos, ◌+ℤ◌, ◌-ℤ◌, ◌≤ℤ◌, ◌<ℤ◌, int_le, List, [], ◌∷◌, Bool, true, false, ◌&&◌, Result, Ok, Err, Option, Some, None, length, slice_index_or, refl, sym, ◌∙◌, ap, subst, arith}
+use Rattle.std.proofs.Common.{◌≡◌, ◌↔◌, inl, inr, ◌<◌, ℤ, ◌≤ℤ◌, ◌<ℤ◌, int_le, List, [], ◌∷◌, Bool, true, false, Result, Ok, Err, Option, Some, None, length, slice_index_or, refl, sym, ◌∙◌, subst, arith}
+use Rattle.base_laws.proofs.Tests.{le_from}
 use Rattle.std.proofs.lemmas.Int.{ints}
-use Rattle.std.proofs.lemmas.Bool.{false≢true}
+use Rattle.std.proofs.lemmas.Bool.{false≢true, or_left, or_right, or_cases, and_parts}
 use Rattle.std.proofs.lemmas.Bool.Decides.{Decides-int_eq}
 use Rattle.std.specs.Ordering.{int_eq}
 use Rattle.std.specs.declared.alloc.AllocError.{AllocError}
@@ -11,20 +12,17 @@ use Rattle.geo_base.specs.Rects.{has, IsRect}
 use Rattle.geo_base.specs.declared.shapes.Rect.{Rect}
 use Rattle.geo_base.specs.declared.shapes.Square.{Square}
 use Rattle.rect_sets.specs.Rects.{covers}
-use Rattle.rect_sets.proofs.Splitting.{IsInside, and_split, or_split}
+use Rattle.rect_sets.proofs.Splitting.{IsInside}
 use Rattle.flat_layout.specs.Parts.{AllOn, InSideOf}
-use Rattle.flat_layout.specs.Plane.{SharesEdge, IsSquareBefore}
-use Rattle.gate_shapes.specs.Borders.{IsBorder}
-use Rattle.gate_shapes.specs.Plain.{beyond, corner, has_all, is_held, is_left, is_under, is_level, is_upright, same_rows, same_columns, spans_across, spans_up, IsPlainForm}
-use Rattle.gate_shapes.specs.Sets.{in_set, area_of}
+use Rattle.flat_layout.specs.Plane.{SharesEdge}
+use Rattle.gate_shapes.specs.Plain.{beyond, has_all, is_held, is_left, is_under, is_level, is_upright, same_rows, same_columns, spans_across, spans_up, IsPlainForm}
+use Rattle.gate_shapes.specs.Sets.{in_set}
 use Rattle.gate_shapes.specs.Shapes.{IsGood, sheets_of}
-use Rattle.gate_shapes.specs.declared.border.Side.{Side}
 use Rattle.gate_shapes.specs.declared.border.Side.TheVariants.{Right, Up, Left, Down}
 use Rattle.gate_shapes.specs.declared.shape.GateForm.{GateForm}
-use Rattle.gate_shapes.proofs.Areas.{inside_has, or_first, or_second}
+use Rattle.gate_shapes.proofs.Areas.{inside_has}
 use Rattle.gate_shapes.proofs.Between.{two_ends}
 use Rattle.gate_shapes.proofs.Strips.{one_has, two_have, has_first, has_second, beyond_rect, in_ring, near_part, level_border, upright_border, strip_some}
-use Rattle.gate_shapes.proofs.Touching.{le_from}
 
 -- what the tests on sides tell
 
@@ -40,21 +38,21 @@ record IsUnder (a b : Rect) : Type 0 where
 
 left_from : (a b : Rect) → is_left a b ≡ true → IsLeftOf a b
 left_from a b e =
-    let p = and_split (int_eq a.x2 b.x1) (same_rows a b) e in
-    let q = and_split (int_eq a.y1 b.y1) (int_eq a.y2 b.y2) p.1 in
+    let p = and_parts (int_eq a.x2 b.x1) (same_rows a b) e in
+    let q = and_parts (int_eq a.y1 b.y1) (int_eq a.y2 b.y2) p.1 in
     record { meets = (Decides-int_eq a.x2 b.x1).0 p.0; low = (Decides-int_eq a.y1 b.y1).0 q.0; high = (Decides-int_eq a.y2 b.y2).0 q.1 }
 
 under_from : (a b : Rect) → is_under a b ≡ true → IsUnder a b
 under_from a b e =
-    let p = and_split (int_eq a.y2 b.y1) (same_columns a b) e in
-    let q = and_split (int_eq a.x1 b.x1) (int_eq a.x2 b.x2) p.1 in
+    let p = and_parts (int_eq a.y2 b.y1) (same_columns a b) e in
+    let q = and_parts (int_eq a.x1 b.x1) (int_eq a.x2 b.x2) p.1 in
     record { meets = (Decides-int_eq a.y2 b.y1).0 p.0; low = (Decides-int_eq a.x1 b.x1).0 q.0; high = (Decides-int_eq a.x2 b.x2).0 q.1 }
 
 held_in : (r outer : Rect) (q : Square) → has_all r outer ≡ true → IsInside r q → IsInside outer q
 held_in r outer q e h =
-    let p = and_split (spans_across r outer) (spans_up r outer) e in
-    let x = and_split (int_le outer.x1 r.x1) (int_le r.x2 outer.x2) p.0 in
-    let y = and_split (int_le outer.y1 r.y1) (int_le r.y2 outer.y2) p.1 in
+    let p = and_parts (spans_across r outer) (spans_up r outer) e in
+    let x = and_parts (int_le outer.x1 r.x1) (int_le r.x2 outer.x2) p.0 in
+    let y = and_parts (int_le outer.y1 r.y1) (int_le r.y2 outer.y2) p.1 in
     let a = le_from outer.x1 r.x1 x.0 in let b = le_from r.x2 outer.x2 x.1 in
     let c = le_from outer.y1 r.y1 y.0 in let d = le_from r.y2 outer.y2 y.1 in
     let x1 = h.x1 in let x2 = h.x2 in let y1 = h.y1 in let y2 = h.y2 in
@@ -63,9 +61,9 @@ held_in r outer q e h =
 -- one rectangle of the list that has all of it
 pub held_on : (r : Rect) (rects : List Rect) → is_held r rects ≡ true → AllOn (in_set (r ∷ [])) (in_set rects)
 held_on r [] e q h = absurd (false≢true e)
-held_on r (outer ∷ rects) e q h = elim (or_split (has_all r outer) (is_held r rects) e) [
-  | inl f ↦ or_first (has outer q) (covers rects q) (inside_has outer q (held_in r outer q f (one_has r q h)))
-  | inr f ↦ or_second (has outer q) (covers rects q) (held_on r rects f q h)
+held_on r (outer ∷ rects) e q h = elim (or_cases (has_all r outer) (is_held r rects) e) [
+  | inl f ↦ or_left (has outer q) (covers rects q) (inside_has outer q (held_in r outer q f (one_has r q h)))
+  | inr f ↦ or_right (has outer q) (covers rects q) (held_on r rects f q h)
 ]
 
 module _ (one r other : Rect) (good_one : IsRect one) (good : IsRect r) (good_other : IsRect other) where
@@ -185,13 +183,13 @@ module _ (one r other : Rect) (good_one : IsRect one) (good : IsRect r) (good_ot
 pub level_good : (one r other : Rect) (on_ends on_gate on_bulk : List Rect) (loose : Bool) (f : GateForm) → IsRect one → IsRect r → IsRect other → is_level one r other ≡ true
     → IsPlainForm r Left Right Down Up on_ends on_gate on_bulk loose f → IsGood (sheets_of (one ∷ (other ∷ [])) on_ends on_gate on_bulk loose) (in_set (r ∷ [])) f
 level_good one r other on_ends on_gate on_bulk loose f a b c e h =
-    let p = and_split (is_left one r) (is_left r other) e in
+    let p = and_parts (is_left one r) (is_left r other) e in
     level_law one r other a b c (left_from one r p.0) (left_from r other p.1) on_ends on_gate on_bulk loose f h
 
 pub upright_good : (one r other : Rect) (on_ends on_gate on_bulk : List Rect) (loose : Bool) (f : GateForm) → IsRect one → IsRect r → IsRect other → is_upright one r other ≡ true
     → IsPlainForm r Down Up Left Right on_ends on_gate on_bulk loose f → IsGood (sheets_of (one ∷ (other ∷ [])) on_ends on_gate on_bulk loose) (in_set (r ∷ [])) f
 upright_good one r other on_ends on_gate on_bulk loose f a b c e h =
-    let p = and_split (is_under one r) (is_under r other) e in
+    let p = and_parts (is_under one r) (is_under r other) e in
     upright_law one r other a b c (under_from one r p.0) (under_from r other p.1) on_ends on_gate on_bulk loose f h
 
 one_of : (l : List Rect) (d : Rect) → length l ≡ 1 → l ≡ slice_index_or l 0 d ∷ []

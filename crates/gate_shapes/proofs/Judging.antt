@@ -8,10 +8,10 @@ use Rattle.flat_layout.specs.Parts.{Edge, InSideOf, InGroupOf, IsWideOf, IsLongO
 use Rattle.gate_shapes.specs.PartLists.{AreParts}
 use Rattle.flat_layout.specs.Parts.{IsLeast}
 use Rattle.gate_shapes.specs.Sets.{in_set}
-use Rattle.gate_shapes.specs.Shapes.{AreKept, sheets_of, IsFirstFault, cause_of, IsGood}
-use Rattle.gate_shapes.specs.declared.shape.GateCause.{GateCause}
-use Rattle.gate_shapes.specs.declared.shape.GateCause.TheVariants.{Groups, OffGate, OffSd, NoBulk, NoLength}
+use Rattle.gate_shapes.specs.Shapes.{AreKept, sheets_of, IsFirstFault, IsGood}
 use Rattle.gate_shapes.proofs.Groups.{AreTwo, group_squares, two_groups}
+use Rattle.flat_layout.specs.declared.cause.GateCause.{GateCause}
+use Rattle.flat_layout.specs.declared.cause.GateCause.TheVariants.{Groups, OffGate, OffSd, NoBulk, NoLength}
 
 pub two_items : (kept : List ℕ) (i j x y : ℕ) → length kept ≡ 2 → i ≡ get_or kept 0 x → j ≡ get_or kept 1 y → kept ≡ i ∷ (j ∷ [])
 two_items [] i j x y e f g = absurd (omega (arith, e))
@@ -71,7 +71,7 @@ module _ (part ends sides touched : List Rect) (groups : List (List Rect)) (kept
     ends_off (inl (q, h, not)) = (q, inl ((same_first q).0 h), not)
     ends_off (inr (q, h, not)) = (q, inr ((same_second q).0 h), not)
 
-    pub bad_law : (c : GateCause) → IsFirstFault g part one other long (Some c) → IsBadPart g P (cause_of c)
+    pub bad_law : (c : GateCause) → IsFirstFault g part one other long (Some c) → IsBadPart g P c
     bad_law (Groups n) h = absurd h
     bad_law OffGate h = (two.source, two.drain, two.groups_two, h)
     bad_law OffSd h = (two.source, two.drain, two.groups_two, h.0, ends_off h.1)

@@ -2,7 +2,7 @@
 use Rattle.std.proofs.Common.{◌↔◌, inl, inr, ℕ, List, [], ◌∷◌, refl}
 use Rattle.geo_base.specs.declared.shapes.Square.{Square}
 use Rattle.plain_netlist.proofs.Links.{single, along}
-use Rattle.flat_layout.specs.Parts.{Edge, IsStep, IsCloseTo, InSideOf, InGroupOf, IsBorderOf, IsWideOf, IsLongOf, AreClasses, AreGroupsOf, Sheets, AllOn, SomeOff, InEnds, IsGoodPart, IsGoodArea, IsBadArea, Cause, Groups, OffGate, OffSd, NoBulk, NoLength, IsBadPart}
+use Rattle.flat_layout.specs.Parts.{Edge, IsStep, IsCloseTo, InSideOf, InGroupOf, IsBorderOf, IsWideOf, IsLongOf, AreClasses, AreGroupsOf, Sheets, AllOn, SomeOff, InEnds, IsGoodPart, IsGoodArea, IsBadArea, IsBadPart}
 use Rattle.flat_layout.specs.Parts.{IsLeast}
 use Rattle.geo_base.specs.declared.shapes.Rect.{Rect}
 use Rattle.flat_layout.specs.Gates.{InGate, gate_sheet, geometry, sheets}
@@ -12,12 +12,14 @@ use Rattle.flat_layout.specs.Layout.{Design}
 use Rattle.flat_layout.specs.Regions.{Wiring, formula}
 use Rattle.gate_shapes.specs.LookLaws.{IsExactNear, IsExactOn, LookAloneLaw, LookLaw}
 use Rattle.gate_shapes.specs.Sets.{in_set}
-use Rattle.gate_shapes.specs.Shapes.{IsShape, IsShapeAlone, cause_of, sheets_alone, sheets_of}
+use Rattle.gate_shapes.specs.Shapes.{IsShape, IsShapeAlone, sheets_alone, sheets_of}
 use Rattle.gate_shapes.specs.declared.shape.GateShape.{GateShape}
 use Rattle.gate_shapes.specs.declared.shape.GateShape.TheVariants.{Good, Bad}
 use Rattle.gate_shapes.proofs.Counting.{counts_same}
 use Rattle.gate_shapes.proofs.Groups.{beside_around, around_self}
 use Rattle.gate_shapes.proofs.PartsOf.{end_in}
+use Rattle.flat_layout.specs.declared.cause.GateCause.{GateCause}
+use Rattle.flat_layout.specs.declared.cause.GateCause.TheVariants.{Groups, OffGate, OffSd, NoBulk, NoLength}
 
 classes_same : {A : Type 0} (P Q : A → Type 0) (R S : A → A → Type 0) → ((a : A) → P a ↔ Q a) → ((a b : A) → R a b ↔ S a b) → (list : List A) → AreClasses P R list → AreClasses Q S list
 classes_same P Q R S same joins list h = record {
@@ -128,7 +130,7 @@ module _ (P Q : Square → Type 0) (same : (q : Square) → P q ↔ Q q) (g h : 
     bulk_on = bulk_on v.bulk_on;
   }
 
-  pub bad : (c : Cause) → IsBadPart g P c → IsBadPart h Q c
+  pub bad : (c : GateCause) → IsBadPart g P c → IsBadPart h Q c
   bad (Groups n) (list, k, count, not) = (list, groups list k, count, not)
   bad OffGate (e, f, k, off) = (e, f, groups (e ∷ (f ∷ [])) k, some_off g.on_gate h.on_gate on_gate off)
   bad OffSd (e, f, k, on, off) = (e, f, groups (e ∷ (f ∷ [])) k, all_on g.on_gate h.on_gate on_gate on, ends_off e f k off)
@@ -148,7 +150,7 @@ module _ (P Q : Square → Type 0) (same : (q : Square) → P q ↔ Q q) (g h : 
     least_drain = least v.drain.outer f.drain v.least_drain;
     order = v.order;
   }
-  shape (Bad c) v = bad (cause_of c) v
+  shape (Bad c) v = bad c v
 
 -- what agrees at the gate, agrees on the part
 exact_on : (P : Square → Type 0) (d : Design) (w : Wiring) (u : Rule) (cell : ℕ) (s : Square) → ((q : Square) → P q ↔ InGate d (geometry w u) cell s q) → (rects : List Rect) (set : Square → Type 0)
@@ -181,7 +183,7 @@ module _ (P Q : Square → Type 0) (same : (q : Square) → P q ↔ Q q) (g h : 
     bulk_on = λ z. lone_on g.on_bulk h.on_bulk on_bulk (v.bulk_on (loose.1 z));
   }
 
-  bad_area : (c : Cause) → IsBadArea g P c → IsBadArea h Q c
+  bad_area : (c : GateCause) → IsBadArea g P c → IsBadArea h Q c
   bad_area (Groups n) v = v
   bad_area OffGate v = v
   bad_area OffSd (open_, off) = (free.0 open_, lone_off g.on_ends h.on_ends on_ends off)
@@ -193,7 +195,7 @@ module _ (P Q : Square → Type 0) (same : (q : Square) → P q ↔ Q q) (g h : 
 
   pub shape_alone : (v : GateShape) → IsShapeAlone g P v → IsShapeAlone h Q v
   shape_alone (Good f) v = record { form = good_area f.twice_w f.twice_l v.form; least_source = lone_least f.source v.least_source; least_drain = lone_least f.drain v.least_drain }
-  shape_alone (Bad c) v = bad_area (cause_of c) v
+  shape_alone (Bad c) v = bad_area c v
 
 pub look_alone : LookAloneLaw
 look_alone d w u cell s part on_ends on_bulk free loose v are h =

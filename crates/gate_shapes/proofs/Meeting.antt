@@ -1,6 +1,6 @@
 -- Whether two sets have a common square, rectangle by rectangle.
 use Rattle.std.proofs.Common.{◌≡◌, ◌==◌, inl, inr, ℕ, zero, suc, ◌+◌, ◌<◌, ◌≤◌, List, [], ◌∷◌, Some, Bool, true, false, ◌&&◌, ◌||◌, length, get_or, take, slice_get, refl, sym, ◌∙◌, ap, arith}
-use Rattle.std.proofs.lemmas.Bool.{eqb-true, false≢true}
+use Rattle.std.proofs.lemmas.Bool.{eqb-true, false≢true, and_from, false_from_ne_true, or_cases, and_parts}
 use Rattle.std.proofs.lemmas.List.{get_or_default, take_more, take_all}
 use Rattle.std.proofs.lemmas.Option.{slice_get_within, get_or_from_slice_get}
 use Rattle.geo_base.specs.Rects.{has}
@@ -8,12 +8,11 @@ use Rattle.geo_base.specs.declared.shapes.Rect.{Rect}
 use Rattle.geo_base.specs.declared.shapes.Square.{Square}
 use Rattle.rect_sets.specs.Rects.{covers}
 use Rattle.rect_sets.proofs.Blocking.{listed_covers}
-use Rattle.rect_sets.proofs.Splitting.{and_split, or_split, covers_append}
+use Rattle.rect_sets.proofs.Splitting.{covers_append}
 use Rattle.rect_sets.proofs.Unique.{listed_get}
 use Rattle.tile_index.specs.Windows.{ArePositions}
 use Rattle.gate_shapes.specs.Sets.{in_set}
 use Rattle.gate_shapes.specs.Shapes.{Meet, MissEachOther}
-use Rattle.gate_shapes.proofs.Areas.{both_and}
 
 pub miss_none : (rects other : List Rect) → MissEachOther (take 0 rects) other
 miss_none rects other q e f = false≢true e
@@ -21,7 +20,7 @@ miss_none rects other q e f = false≢true e
 -- a rectangle of the list that has the square, by its number
 covering : (rects : List Rect) (q : Square) → in_set rects q → (k : ℕ) × (r : Rect) × (slice_get rects k ≡ Some r) × (has r q ≡ true)
 covering [] q e = absurd (false≢true e)
-covering (r ∷ rects) q e = elim (or_split (has r q) (covers rects q) e) [
+covering (r ∷ rects) q e = elim (or_cases (has r q) (covers rects q) e) [
   | inl h ↦ (0, r, refl, h)
   | inr h ↦ (let t = covering rects q h in (suc t.0, t.1, t.2, t.3))
 ]
@@ -50,24 +49,20 @@ pub miss_more : (rects other near : List Rect) (i : ℕ) (d : Rect) → i < leng
 miss_more rects other near i d lt cut none h q e f =
     let r = get_or rects i d in
     let more : covers (take (i + 1) rects) q ≡ (covers (take i rects) q || covers (r ∷ []) q) = ap (λ (l : List Rect). covers l q) (take_more rects i d lt) ∙ covers_append (take i rects) (r ∷ []) q in
-    elim (or_split (covers (take i rects) q) (covers (r ∷ []) q) (sym more ∙ e)) [
+    elim (or_cases (covers (take i rects) q) (covers (r ∷ []) q) (sym more ∙ e)) [
       | inl g ↦ h q g f
-      | inr g ↦ elim (or_split (has r q) false g) [ inl k ↦ none q (cut q ∙ both_and (covers other q) (has r q) f k) | inr k ↦ false≢true k ]
+      | inr g ↦ elim (or_cases (has r q) false g) [ inl k ↦ none q (cut q ∙ and_from (covers other q) (has r q) f k) | inr k ↦ false≢true k ]
     ]
-
-not_true : (b : Bool) → (b ≡ true → ⊥) → b ≡ false
-not_true true h = absurd (h refl)
-not_true false h = refl
 
 -- where none is, the sets miss each other so far
 pub miss_next : (rects other : List Rect) (near : List ℕ) (i : ℕ) (d : Rect) → i < length rects → ArePositions other (get_or rects i d) near → length near ≡ 0 → MissEachOther (take i rects) other
     → MissEachOther (take (i + 1) rects) other
 miss_next rects other near i d lt are none before =
-    miss_more rects other [] i d lt (λ q. sym (not_true (covers other q && has (get_or rects i d) q) (λ e. apart q e))) (λ q e. false≢true e) before
+    miss_more rects other [] i d lt (λ q. sym (false_from_ne_true (covers other q && has (get_or rects i d) q) (λ e. apart q e))) (λ q e. false≢true e) before
   where
     apart : (q : Square) → (covers other q && has (get_or rects i d) q) ≡ true → ⊥
     apart q e =
-        let both = and_split (covers other q) (has (get_or rects i d) q) e in
+        let both = and_parts (covers other q) (has (get_or rects i d) q) e in
         let t = covering other q both.0 in
         let c = (are.each t.0).1 (t.1, t.2, (q, t.3, both.1)) in
         let within = c.1 in

@@ -1,10 +1,11 @@
 -- Rectangles sorted out by their classes.
 use Rattle.std.proofs.Common.{◌≡◌, ◌⊎◌, inl, inr, ℕ, zero, suc, ◌+◌, ◌<◌, ◌≤◌, ◌==◌, List, [], ◌∷◌, ◌++◌, Some, None, Bool, true, false, if◌then◌else◌, length, get_or, take, set, refl, sym, ◌∙◌, ap, subst, arith, eq-eqb, length-append}
+use Rattle.base_laws.proofs.Tests.{if_true, if_false}
 use Rattle.std.specs.Prelude.{slice_get, Vec}
 use Rattle.std.specs.Global.{Global}
 use Rattle.std.proofs.Math.Decide.{ℕ_discrete}
 use Rattle.std.proofs.Math.ListN.{length-set}
-use Rattle.std.proofs.lemmas.Bool.{false≢true}
+use Rattle.std.proofs.lemmas.Bool.{ne_eqb}
 use Rattle.std.proofs.lemmas.List.{take_more, take_all, length-take-le}
 use Rattle.geo_base.specs.declared.shapes.Rect.{Rect}
 use Rattle.rect_sets.specs.Rects.{AreAbove, IsOrdered, IsListed}
@@ -23,9 +24,6 @@ get_set (y ∷ xs) zero v u zero e = inl (refl, let f : Some v ≡ Some u = e in
 get_set (y ∷ xs) zero v u (suc x) e = inr ((λ z. absurd (omega (arith, z))), e)
 get_set (y ∷ xs) (suc k) v u zero e = inr ((λ z. absurd (omega (arith, z))), e)
 get_set (y ∷ xs) (suc k) v u (suc x) e = elim (get_set xs k v u x e) [ inl f ↦ inl (ap (λ (n : ℕ). suc n) f.0, f.1) | inr f ↦ inr ((λ z. f.0 (omega (arith, z))), f.1) ]
-
-not_eqb : (c x : ℕ) → (c ≡ x → ⊥) → (c == x) ≡ false
-not_eqb c x not = grind (arith, not)
 
 members_push : (x c : ℕ) (cs : List ℕ) (r : Rect) (rs : List Rect) → length cs ≡ length rs → members x (cs ++ c ∷ []) (rs ++ r ∷ []) ≡ (if c == x then members x cs rs ++ r ∷ [] else members x cs rs)
 members_push x c [] r [] e = refl
@@ -67,7 +65,7 @@ sorted_more rects cs count i d lists old new lt long at grown h = record {
             ap (λ (w : Vec Rect Global). w.items) f.1 ∙ grown ∙ ap (λ (l : List Rect). l ++ r ∷ []) (h.each x old (subst (λ (n : ℕ). slice_get lists n ≡ Some old) (sym f.0) at))
             ∙ sym (both ∙ ap (λ (b : Bool). if b then members x (take i cs) (take i rects) ++ r ∷ [] else members x (take i cs) (take i rects)) same)
         | inr f ↦
-            let other : (c == x) ≡ false = not_eqb c x (λ z. f.0 (sym z)) in
+            let other : (c == x) ≡ false = ne_eqb c x (λ z. f.0 (sym z)) in
             h.each x u f.1 ∙ sym (both ∙ ap (λ (b : Bool). if b then members x (take i cs) (take i rects) ++ r ∷ [] else members x (take i cs) (take i rects)) other)
       ];
 }
@@ -77,14 +75,6 @@ sorted_all rects cs count i lists le long h =
     subst (λ (l : List Rect). AreSortedOut l cs count lists) (take_all i rects le) (subst (λ (l : List ℕ). AreSortedOut (take i rects) l count lists) (take_all i cs (omega arith)) h)
 
 -- the rectangles of a class
-
-if_true : {A : Type 0} (b : Bool) (x y : A) → b ≡ true → (if b then x else y) ≡ x
-if_true true x y e = refl
-if_true false x y e = absurd (false≢true e)
-
-if_false : {A : Type 0} (b : Bool) (x y : A) → b ≡ false → (if b then x else y) ≡ y
-if_false true x y e = absurd (false≢true (sym e))
-if_false false x y e = refl
 
 -- a member's place
 pub record IsMemberAt (x : ℕ) (cs : List ℕ) (rs : List Rect) (r : Rect) (i : ℕ) : Type 0 where
@@ -99,7 +89,7 @@ member_place x (c ∷ cs) (s ∷ rs) r l = elim (ℕ_discrete c x) [
     | inl f ↦ (zero, record { class = ap (λ (n : ℕ). Some n) e; rect = ap (λ (t : Rect). Some t) (sym f) })
     | inr g ↦ (let p = member_place x cs rs r g in (suc p.0, record { class = p.1.class; rect = p.1.rect }))
   ]
-  | no not ↦ (let p = member_place x cs rs r (subst (λ (m : List Rect). IsListed r m) (if_false (c == x) (s ∷ members x cs rs) (members x cs rs) (not_eqb c x not)) l) in (suc p.0, record { class = p.1.class; rect = p.1.rect }))
+  | no not ↦ (let p = member_place x cs rs r (subst (λ (m : List Rect). IsListed r m) (if_false (c == x) (s ∷ members x cs rs) (members x cs rs) (ne_eqb c x not)) l) in (suc p.0, record { class = p.1.class; rect = p.1.rect }))
 ]
 
 pub place_member : (x : ℕ) (cs : List ℕ) (rs : List Rect) (r : Rect) (i : ℕ) → slice_get cs i ≡ Some x → slice_get rs i ≡ Some r → IsListed r (members x cs rs)
@@ -113,7 +103,7 @@ place_member x (c ∷ cs) (s ∷ rs) r (suc i) e f =
     let rest = place_member x cs rs r i e f in
     elim (ℕ_discrete c x) [
       | yes same ↦ subst (λ (m : List Rect). IsListed r m) (sym (if_true (c == x) (s ∷ members x cs rs) (members x cs rs) (eq-eqb c x same))) (inr rest)
-      | no not ↦ subst (λ (m : List Rect). IsListed r m) (sym (if_false (c == x) (s ∷ members x cs rs) (members x cs rs) (not_eqb c x not))) rest
+      | no not ↦ subst (λ (m : List Rect). IsListed r m) (sym (if_false (c == x) (s ∷ members x cs rs) (members x cs rs) (ne_eqb c x not))) rest
     ]
 
 above_members : (x : ℕ) (q : Rect) (cs : List ℕ) (rs : List Rect) → AreAbove q rs → AreAbove q (members x cs rs)
@@ -121,7 +111,7 @@ above_members x q [] rs h = tt
 above_members x q (c ∷ cs) [] h = tt
 above_members x q (c ∷ cs) (s ∷ rs) h = elim (ℕ_discrete c x) [
   | yes same ↦ subst (λ (m : List Rect). AreAbove q m) (sym (if_true (c == x) (s ∷ members x cs rs) (members x cs rs) (eq-eqb c x same))) (h.0, above_members x q cs rs h.1)
-  | no not ↦ subst (λ (m : List Rect). AreAbove q m) (sym (if_false (c == x) (s ∷ members x cs rs) (members x cs rs) (not_eqb c x not))) (above_members x q cs rs h.1)
+  | no not ↦ subst (λ (m : List Rect). AreAbove q m) (sym (if_false (c == x) (s ∷ members x cs rs) (members x cs rs) (ne_eqb c x not))) (above_members x q cs rs h.1)
 ]
 
 pub ordered_members : (x : ℕ) (cs : List ℕ) (rs : List Rect) → IsOrdered rs → IsOrdered (members x cs rs)
@@ -129,5 +119,5 @@ ordered_members x [] rs h = tt
 ordered_members x (c ∷ cs) [] h = tt
 ordered_members x (c ∷ cs) (s ∷ rs) h = elim (ℕ_discrete c x) [
   | yes same ↦ subst (λ (m : List Rect). IsOrdered m) (sym (if_true (c == x) (s ∷ members x cs rs) (members x cs rs) (eq-eqb c x same))) (above_members x s cs rs h.0, ordered_members x cs rs h.1)
-  | no not ↦ subst (λ (m : List Rect). IsOrdered m) (sym (if_false (c == x) (s ∷ members x cs rs) (members x cs rs) (not_eqb c x not))) (ordered_members x cs rs h.1)
+  | no not ↦ subst (λ (m : List Rect). IsOrdered m) (sym (if_false (c == x) (s ∷ members x cs rs) (members x cs rs) (ne_eqb c x not))) (ordered_members x cs rs h.1)
 ]

@@ -1,5 +1,6 @@
 -- The squares around a set.
 use Rattle.std.proofs.Common.{◌≡◌, ◌↔◌, inl, inr, ℕ, ◌+◌, ◌<◌, ℤ, pos, ◌+ℤ◌, ◌-ℤ◌, ◌≤ℤ◌, ◌<ℤ◌, List, [], ◌∷◌, ◌++◌, true, ◌&&◌, not, map, length, get_or, take, refl, sym, ◌∙◌, ap, subst, arith}
+use Rattle.std.proofs.lemmas.Bool.{and_from, and_parts}
 use Rattle.std.proofs.lemmas.Int.{ints, by_lt_z}
 use Rattle.std.proofs.lemmas.List.{take_more}
 use Rattle.std.specs.List.{All}
@@ -8,12 +9,12 @@ use Rattle.geo_base.specs.declared.shapes.Rect.{Rect}
 use Rattle.geo_base.specs.declared.shapes.Square.{Square}
 use Rattle.rect_sets.specs.Rects.{covers, IsListed, IsCanonical}
 use Rattle.rect_sets.proofs.Blocking.{listed_covers, covers_listed}
-use Rattle.rect_sets.proofs.Splitting.{inside_from, and_split}
+use Rattle.rect_sets.proofs.Splitting.{inside_from}
 use Rattle.rect_sets.proofs.Unique.{all_rects, rect_of}
 use Rattle.flat_layout.specs.Parts.{IsCloseTo, InSideOf}
 use Rattle.gate_shapes.specs.Borders.{grown_rect}
 use Rattle.gate_shapes.specs.Sets.{in_set}
-use Rattle.gate_shapes.proofs.Areas.{inside_has, both_and}
+use Rattle.gate_shapes.proofs.Areas.{inside_has}
 use Rattle.gate_shapes.proofs.Borders.{not_true, from_not}
 
 listed_grown : (r : Rect) (rects : List Rect) → IsListed r rects → IsListed (grown_rect r) (map grown_rect rects)
@@ -80,12 +81,12 @@ pub sides_law : (part ends near sides : List Rect) → IsCanonical part → ((q 
     → (q : Square) → in_set sides q ↔ InSideOf (in_set part) (in_set ends) q
 sides_law part ends near sides good cut rest q = (
   (λ e.
-      let p = and_split (covers near q) (not (covers part q)) (sym (rest q) ∙ e) in
-      let n = and_split (covers (map grown_rect part) q) (covers ends q) (sym (cut q) ∙ p.0) in
+      let p = and_parts (covers near q) (not (covers part q)) (sym (rest q) ∙ e) in
+      let n = and_parts (covers (map grown_rect part) q) (covers ends q) (sym (cut q) ∙ p.0) in
       record { ring = record { close = (close_same part (listed_rects part good) q).0 n.0; outside = not_true (covers part q) p.1 }; sd = n.1 }),
   (λ h.
-      rest q ∙ both_and (covers near q) (not (covers part q))
-      (cut q ∙ both_and (covers (map grown_rect part) q) (covers ends q) ((close_same part (listed_rects part good) q).1 h.ring.close) h.sd)
+      rest q ∙ and_from (covers near q) (not (covers part q))
+      (cut q ∙ and_from (covers (map grown_rect part) q) (covers ends q) ((close_same part (listed_rects part good) q).1 h.ring.close) h.sd)
       (from_not (covers part q) h.ring.outside)),
 )
 

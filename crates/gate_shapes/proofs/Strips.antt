@@ -1,40 +1,39 @@
 -- The squares along the sides of one rectangle, and its border where ends lie along two of them.
-use Rattle.std.proofs.Common.{◌≡◌, ◌⊎◌, ◌↔◌, inl, inr, ℕ, zero, suc, ◌+◌, ◌*◌, ◌<◌, ℤ, ◌-ℤ◌, ◌<ℤ◌, unsigned_abs, List, [], ◌∷◌, Bool, true, false, ◌&&◌, ◌||◌, not, length, map, refl, sym, ◌∙◌, ap, subst, arith}
+use Rattle.std.proofs.Common.{◌≡◌, ◌⊎◌, inl, inr, ℕ, zero, suc, ◌+◌, ◌*◌, ◌<◌, ℤ, ◌-ℤ◌, ◌<ℤ◌, unsigned_abs, List, [], ◌∷◌, Bool, true, false, ◌&&◌, not, refl, sym, subst, arith}
+use Rattle.base_laws.proofs.Tests.{same_truth}
 use Rattle.std.proofs.lemmas.Int.{ints, by_lt_z}
-use Rattle.std.proofs.lemmas.Bool.{false≢true}
+use Rattle.std.proofs.lemmas.Bool.{false≢true, or_left, or_right, and_from, or_cases, and_parts}
 use Rattle.geo_base.specs.Rects.{has, IsRect}
 use Rattle.geo_base.specs.declared.shapes.Rect.{Rect}
 use Rattle.geo_base.specs.declared.shapes.Square.{Square}
 use Rattle.rect_sets.specs.Rects.{covers, IsListed}
-use Rattle.rect_sets.proofs.Blocking.{same_bool}
-use Rattle.rect_sets.proofs.Splitting.{IsInside, inside_from, and_split, or_split}
-use Rattle.flat_layout.specs.Parts.{Counts, IsCloseTo, InRingOf, InSideOf}
+use Rattle.rect_sets.proofs.Splitting.{IsInside, inside_from}
+use Rattle.flat_layout.specs.Parts.{Counts, IsCloseTo, InRingOf}
 use Rattle.gate_shapes.specs.Borders.{behind, grown_rect, IsFlank, IsBorder}
 use Rattle.gate_shapes.specs.Plain.{beyond}
 use Rattle.gate_shapes.specs.Sets.{in_set, area_of}
-use Rattle.gate_shapes.specs.declared.border.Flank.{Flank}
 use Rattle.gate_shapes.specs.declared.border.Side.{Side}
 use Rattle.gate_shapes.specs.declared.border.Side.TheVariants.{Right, Up, Left, Down}
-use Rattle.gate_shapes.proofs.Areas.{rect_count, to_abs, inside_has, both_and, or_first, or_second}
+use Rattle.gate_shapes.proofs.Areas.{rect_count, to_abs, inside_has}
 use Rattle.gate_shapes.proofs.Borders.{flank_law, border_law, behind_edge, not_true, from_not}
 use Rattle.gate_shapes.proofs.Counting.{counts_none, counts_same}
 use Rattle.gate_shapes.proofs.Groups.{beside_around}
 use Rattle.gate_shapes.proofs.Rings.{close_same}
 
 pub one_has : (r : Rect) (q : Square) → in_set (r ∷ []) q → IsInside r q
-one_has r q e = elim (or_split (has r q) false e) [ inl h ↦ inside_from r q h | inr h ↦ absurd (false≢true h) ]
+one_has r q e = elim (or_cases (has r q) false e) [ inl h ↦ inside_from r q h | inr h ↦ absurd (false≢true h) ]
 
 pub has_one : (r : Rect) (q : Square) → IsInside r q → in_set (r ∷ []) q
-has_one r q h = or_first (has r q) false (inside_has r q h)
+has_one r q h = or_left (has r q) false (inside_has r q h)
 
 pub two_have : (r s : Rect) (q : Square) → in_set (r ∷ (s ∷ [])) q → IsInside r q ⊎ IsInside s q
-two_have r s q e = elim (or_split (has r q) (covers (s ∷ []) q) e) [ inl h ↦ inl (inside_from r q h) | inr h ↦ inr (one_has s q h) ]
+two_have r s q e = elim (or_cases (has r q) (covers (s ∷ []) q) e) [ inl h ↦ inl (inside_from r q h) | inr h ↦ inr (one_has s q h) ]
 
 pub has_first : (r s : Rect) (q : Square) → IsInside r q → in_set (r ∷ (s ∷ [])) q
-has_first r s q h = or_first (has r q) (covers (s ∷ []) q) (inside_has r q h)
+has_first r s q h = or_left (has r q) (covers (s ∷ []) q) (inside_has r q h)
 
 pub has_second : (r s : Rect) (q : Square) → IsInside s q → in_set (r ∷ (s ∷ [])) q
-has_second r s q h = or_second (has r q) (covers (s ∷ []) q) (has_one s q h)
+has_second r s q h = or_right (has r q) (covers (s ∷ []) q) (has_one s q h)
 
 pub beyond_rect : (side : Side) (r : Rect) → IsRect r → IsRect (beyond side r)
 beyond_rect Right r h = let w = h.wide in let t = h.high in record { wide = omega (arith, ints); high = t }
@@ -92,10 +91,10 @@ module _ (r : Rect) (good : IsRect r) where
 
   beyond_is : (side : Side) (q : Square) → covers (beyond side r ∷ []) q ≡ (covers part (behind side q) && not (covers part q))
   beyond_is side q =
-      same_bool (covers (beyond side r ∷ []) q) (covers part (behind side q) && not (covers part q))
+      same_truth (covers (beyond side r ∷ []) q) (covers part (behind side q) && not (covers part q))
       (λ e. let h = one_has (beyond side r) q e in
-      both_and (covers part (behind side q)) (not (covers part q)) (has_one r (behind side q) (step_in side r q good h)) (from_not (covers part q) (λ f. stays_out side r q h (one_has r q f))))
-      (λ e. let p = and_split (covers part (behind side q)) (not (covers part q)) e in
+      and_from (covers part (behind side q)) (not (covers part q)) (has_one r (behind side q) (step_in side r q good h)) (from_not (covers part q) (λ f. stays_out side r q h (one_has r q f))))
+      (λ e. let p = and_parts (covers part (behind side q)) (not (covers part q)) e in
       has_one (beyond side r) q (step_out side r q (one_has r (behind side q) p.0) (λ h. not_true (covers part q) p.1 (has_one r q h))))
 
   -- squares beyond a side lie in the ring
@@ -115,7 +114,7 @@ module _ (r : Rect) (good : IsRect r) where
   strip_count : (side : Side) → Counts (in_set (beyond side r ∷ [])) (area_of (beyond side r))
   strip_count side =
       counts_same (λ q. has (beyond side r) q ≡ true) (in_set (beyond side r ∷ [])) (area_of (beyond side r))
-      (λ q. ((λ h. or_first (has (beyond side r) q) false h), (λ e. inside_has (beyond side r) q (one_has (beyond side r) q e))))
+      (λ q. ((λ h. or_left (has (beyond side r) q) false h), (λ e. inside_has (beyond side r) q (one_has (beyond side r) q e))))
       (rect_count (beyond side r) (beyond_rect side r good))
 
   pub strip_some : (side : Side) → 0 < area_of (beyond side r)

@@ -1,8 +1,9 @@
 -- Two walks along upper and lower sides meet each contact.
 use Rattle.std.proofs.Common.{◌≡◌, ◌⊎◌, inl, inr, ℕ, zero, suc, ◌+◌, ◌-◌, ◌<◌, ◌≤◌, ℤ, pos, ◌-ℤ◌, ◌≤ℤ◌, ◌<ℤ◌, List, [], ◌∷◌, ◌++◌, Bool, true, false, ◌&&◌, int_lt, int_le, Some, None, length, get_or, take, if◌then◌else◌, refl, sym, ◌∙◌, ap, subst, arith}
+use Rattle.base_laws.proofs.Tests.{lt_from, le_from}
 use Rattle.std.specs.Prelude.{slice_get}
 use Rattle.std.proofs.Math.Decide.{ℕ_discrete}
-use Rattle.std.proofs.lemmas.Bool.{false≢true, cases_lt}
+use Rattle.std.proofs.lemmas.Bool.{false≢true, cases_lt, or_right, and_from, cases_Bool, or_cases, and_parts}
 use Rattle.std.proofs.lemmas.Bool.Decides.{Decides-int_eq}
 use Rattle.std.proofs.lemmas.Int.{ints, by_lt_z}
 use Rattle.std.proofs.lemmas.List.{take_more, length-take-le}
@@ -16,8 +17,7 @@ use Rattle.geo_base.specs.declared.shapes.Square.{Square}
 use Rattle.link_classes.specs.Classes.{IsLinked, AreInRange}
 use Rattle.link_classes.specs.declared.classes.Link.{Link}
 use Rattle.rect_sets.specs.Rects.{covers, IsRun, IsBlock, IsBelow, AreAbove, IsOrdered, IsListed, IsCanonical}
-use Rattle.rect_sets.proofs.Splitting.{shared_block, and_split, or_split}
-use Rattle.gate_shapes.proofs.Areas.{both_and, or_second}
+use Rattle.rect_sets.proofs.Splitting.{shared_block}
 use Rattle.gate_shapes.specs.declared.contacts.Top.{Top}
 use Rattle.gate_shapes.specs.Contacts.{crosses, is_over, ends_first, IsOver, tops_from, found, IsNotLater, AreSortedTops, IsContact, AreContacts, ContactsSoFar, AreTops}
 
@@ -197,31 +197,19 @@ range_both : (n : ℕ) (xs ys : List Link) → AreInRange n xs → AreInRange n 
 range_both n [] ys h g = g
 range_both n (l ∷ xs) ys h g = (h.0, h.1, range_both n xs ys h.2 g)
 
-lt_from : (a b : ℤ) → int_lt a b ≡ true → a <ℤ b
-lt_from a b e = by_lt_z a b (λ lt. lt) (λ le. absurd (false≢true (sym (no_lt a b le) ∙ e)))
-  where
-    no_lt : (a b : ℤ) → b ≤ℤ a → int_lt a b ≡ false
-    no_lt a b le = grind (arith, ints)
-
 over_from : (a b : Rect) → is_over a b ≡ true → IsOver a b
 over_from a b e =
-    let p = and_split (int_eq a.y2 b.y1) (crosses a b) e in
-    let q = and_split (int_lt a.x1 b.x2) (int_lt b.x1 a.x2) p.1 in
+    let p = and_parts (int_eq a.y2 b.y1) (crosses a b) e in
+    let q = and_parts (int_lt a.x1 b.x2) (int_lt b.x1 a.x2) p.1 in
     record { row = (Decides-int_eq a.y2 b.y1).0 p.0; left = lt_from a.x1 b.x2 q.0; right = lt_from b.x1 a.x2 q.1 }
 
 over_to : (a b : Rect) → IsOver a b → is_over a b ≡ true
 over_to a b h = let x = h.row in let y = h.left in let z = h.right in grind (arith, ints, Decides-int_eq a.y2 b.y1)
 
-pub le_from : (a b : ℤ) → int_le a b ≡ true → a ≤ℤ b
-le_from a b e = by_lt_z b a (λ lt. absurd (false≢true (sym (no_le a b lt) ∙ e))) (λ le. le)
-  where
-    no_le : (a b : ℤ) → b <ℤ a → int_le a b ≡ false
-    no_le a b lt = grind (arith, ints)
-
 first_from : (a b : Rect) → ends_first a b ≡ true → (a.y2 <ℤ b.y1) ⊎ ((a.y2 ≡ b.y1) × (a.x2 ≤ℤ b.x2))
-first_from a b e = elim (or_split (int_lt a.y2 b.y1) (int_eq a.y2 b.y1 && int_le a.x2 b.x2) e) [
+first_from a b e = elim (or_cases (int_lt a.y2 b.y1) (int_eq a.y2 b.y1 && int_le a.x2 b.x2) e) [
   | inl h ↦ inl (lt_from a.y2 b.y1 h)
-  | inr h ↦ let p = and_split (int_eq a.y2 b.y1) (int_le a.x2 b.x2) h in inr ((Decides-int_eq a.y2 b.y1).0 p.0, le_from a.x2 b.x2 p.1)
+  | inr h ↦ let p = and_parts (int_eq a.y2 b.y1) (int_le a.x2 b.x2) h in inr ((Decides-int_eq a.y2 b.y1).0 p.0, le_from a.x2 b.x2 p.1)
 ]
 
 first_not : (a b : Rect) → ends_first a b ≡ false → (b.y1 <ℤ a.y2) ⊎ ((a.y2 ≡ b.y1) × (b.x2 <ℤ a.x2))
@@ -238,16 +226,12 @@ first_not a b e =
     lower a b lt = grind (arith, ints)
 
     level : (a b : Rect) → a.y2 ≡ b.y1 → a.x2 ≤ℤ b.x2 → ends_first a b ≡ true
-    level a b y le = let t = (Decides-int_eq a.y2 b.y1).1 y in or_second (int_lt a.y2 b.y1) (int_eq a.y2 b.y1 && int_le a.x2 b.x2) (both_and (int_eq a.y2 b.y1) (int_le a.x2 b.x2) t (le_to a.x2 b.x2 le))
+    level a b y le = let t = (Decides-int_eq a.y2 b.y1).1 y in or_right (int_lt a.y2 b.y1) (int_eq a.y2 b.y1 && int_le a.x2 b.x2) (and_from (int_eq a.y2 b.y1) (int_le a.x2 b.x2) t (le_to a.x2 b.x2 le))
 
 -- the walk
 
 pub contacts_none : (rects : List Rect) (tops : List Top) → ContactsSoFar rects tops 0 0 []
 contacts_none rects tops = record { sound = λ x y h. absurd h; inside = tt; seen = λ a b t s e f w over. absurd (elim w [ inl lt ↦ omega arith | inr lt ↦ omega arith ]) }
-
-either_bool : (b : Bool) → (b ≡ true) ⊎ (b ≡ false)
-either_bool true = inl refl
-either_bool false = inr refl
 
 same_some : {A : Type 0} (xs : List A) (a : ℕ) (s t : A) → slice_get xs a ≡ Some s → slice_get xs a ≡ Some t → s ≡ t
 same_some xs a s t e f = let g : Some s ≡ Some t = sym e ∙ f in cc
@@ -269,7 +253,7 @@ module _ (rects : List Rect) (tops : List Top) (good : IsCanonical rects) (are :
   contact over = record { one = t.rect; other = r; first = are.each i t at_i; second = at_j; over = over }
 
   sound_found : (x y : ℕ) → IsLinked (found t r j) x y → IsContact rects x y ⊎ IsContact rects y x
-  sound_found x y h = elim (either_bool (is_over t.rect r)) [
+  sound_found x y h = elim (cases_Bool (is_over t.rect r)) [
     | inl e ↦
         let over = contact (over_from t.rect r e) in
         let f : found t r j ≡ link ∷ [] = ap (λ (b : Bool). if b then (link ∷ []) else []) e in
@@ -287,7 +271,7 @@ module _ (rects : List Rect) (tops : List Top) (good : IsCanonical rects) (are :
   sound_new x y h = elim (linked_either links (found t r j) x y h) [ inl g ↦ far.sound x y g | inr g ↦ sound_found x y g ]
 
   inside_found : AreInRange (length rects) (found t r j)
-  inside_found = elim (either_bool (is_over t.rect r)) [
+  inside_found = elim (cases_Bool (is_over t.rect r)) [
     | inl e ↦
         let f : found t r j ≡ link ∷ [] = ap (λ (b : Bool). if b then (link ∷ []) else []) e in
         subst (λ (ls : List Link). AreInRange (length rects) ls) (sym f) (slice_get_within rects t.index t.rect (are.each i t at_i), slice_get_within rects j r at_j, tt)

@@ -3,19 +3,17 @@ use Rattle.std.specs.Prelude.{◌≡◌, ◌⊎◌, ℕ, ◌<◌, Bool, true, fa
 use Rattle.std.specs.Prelude.{slice_get}
 use Rattle.geo_base.specs.declared.shapes.Rect.{Rect}
 use Rattle.geo_base.specs.declared.shapes.Square.{Square}
-use Rattle.flat_layout.specs.Parts.{Edge, InGroupOf, Sheets, AllOn, SomeOff, IsGoodPart, Cause}
-use Rattle.flat_layout.specs.Parts.{Groups as GroupsCause, OffGate as OffGateCause}
-use Rattle.flat_layout.specs.Parts.{OffSd as OffSdCause, NoBulk as NoBulkCause}
-use Rattle.flat_layout.specs.Parts.{NoLength as NoLengthCause, IsBadPart}
+use Rattle.flat_layout.specs.Parts.{Edge, InGroupOf, Sheets, AllOn, SomeOff, IsGoodPart}
+use Rattle.flat_layout.specs.Parts.{IsBadPart}
 use Rattle.flat_layout.specs.Parts.{IsLeast, IsGoodArea, IsBadArea, Form, Beside, Alone}
 use Rattle.flat_layout.specs.Plane.{IsSquareBefore}
 use Rattle.gate_shapes.specs.Sets.{in_set}
-use Rattle.gate_shapes.specs.declared.shape.GateCause.{GateCause}
-use Rattle.gate_shapes.specs.declared.shape.GateCause.TheVariants.{Groups, OffGate, OffSd, NoBulk}
-use Rattle.gate_shapes.specs.declared.shape.GateCause.TheVariants.{NoLength}
 use Rattle.gate_shapes.specs.declared.shape.GateForm.{GateForm}
 use Rattle.gate_shapes.specs.declared.shape.GateShape.{GateShape}
 use Rattle.gate_shapes.specs.declared.shape.GateShape.TheVariants.{Good, Bad}
+use Rattle.flat_layout.specs.declared.cause.GateCause.{GateCause}
+use Rattle.flat_layout.specs.declared.cause.GateCause.TheVariants.{Groups, OffGate, OffSd}
+use Rattle.flat_layout.specs.declared.cause.GateCause.TheVariants.{NoBulk, NoLength}
 
 -- whether each square of the one set lies in the other
 pub record TellsOn (set other : List Rect) (told : Bool) : Type 0 where
@@ -89,13 +87,6 @@ IsFirstFault g part source drain long (Some NoLength) = AllOn (in_set part) g.on
     × (AllOn (in_set source) g.on_ends × AllOn (in_set drain) g.on_ends)
     × (g.loose → AllOn (in_set part) g.on_bulk) × (long ≡ 0)
 
-abbrev pub cause_of : GateCause → Cause
-cause_of (Groups n) = GroupsCause n
-cause_of OffGate = OffGateCause
-cause_of OffSd = OffSdCause
-cause_of NoBulk = NoBulkCause
-cause_of NoLength = NoLengthCause
-
 -- a good gate with its sizes; the source is the group with the least square
 pub record IsGood (g : Sheets) (part : Square → Type 0) (f : GateForm) : Type 0 where
   pub source : Edge
@@ -108,7 +99,7 @@ pub record IsGood (g : Sheets) (part : Square → Type 0) (f : GateForm) : Type 
 -- a good gate, or a bad one with its first cause
 abbrev pub IsShape : Sheets → (Square → Type 0) → GateShape → Type 0
 IsShape g part (Good f) = IsGood g part f
-IsShape g part (Bad c) = IsBadPart g part (cause_of c)
+IsShape g part (Bad c) = IsBadPart g part c
 
 -- the same of a part alone: its squares, twice its boundary edges, and its least square at both
 -- ends
@@ -119,7 +110,7 @@ pub record IsGoodAlone (g : Sheets) (part : Square → Type 0) (f : GateForm) : 
 
 abbrev pub IsShapeAlone : Sheets → (Square → Type 0) → GateShape → Type 0
 IsShapeAlone g part (Good f) = IsGoodAlone g part f
-IsShapeAlone g part (Bad c) = IsBadArea g part (cause_of c)
+IsShapeAlone g part (Bad c) = IsBadArea g part c
 
 -- by the form of the device
 abbrev pub IsShapeBy : Form → Sheets → (Square → Type 0) → GateShape → Type 0

@@ -9,7 +9,8 @@ ghost use Rattle.gate_shapes.specs.Shapes.{IsShapeAlone, TellsOff, sheets_alone}
 
 use crate::area::{count, plus};
 use crate::border::border_of;
-use crate::shape::{GateCause, GateForm, GateShape, first_square, is_on};
+use crate::shape::{GateForm, GateShape, first_square, is_on};
+use flat_layout::GateCause;
 use rect_sets::RectSet;
 use std::alloc::{AllocError, Global};
 

@@ -13,6 +13,7 @@ mod shape;
 
 pub use alone::{Sheets, area_shape};
 pub use border::{border_of, grown, sides_of};
+pub use flat_layout::GateCause;
 pub use laws::{looks, looks_alone};
 pub use pieces::{least, parts};
-pub use shape::{Around, GateCause, GateForm, GateShape, shape_of};
+pub use shape::{Around, GateForm, GateShape, shape_of};

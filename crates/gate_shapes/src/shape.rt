@@ -11,20 +11,11 @@ ghost use Rattle.gate_shapes.specs.Shapes.{IsShape};
 use crate::border::{border_of, sides_of};
 use crate::pieces::{least, parts};
 use crate::plain::plain_form;
+use flat_layout::GateCause;
 use geo_base::{Rect, Square};
 use rect_sets::{RectSet, Rule, combine_rects};
 use std::alloc::{AllocError, Global};
 use tile_index::TileIndex;
-
-/// Why a gate is bad: the first of these that holds.
-#[derive(Clone, Copy, Debug, PartialEq, Eq)]
-pub enum GateCause {
-    Groups(u128),
-    OffGate,
-    OffSd,
-    NoBulk,
-    NoLength,
-}
 
 /// A good gate: its sizes in unit edges, and the least squares of its two groups. The source is the
 /// group with the least square. Of a part alone it is the part's squares and twice its boundary

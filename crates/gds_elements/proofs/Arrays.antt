@@ -1,8 +1,8 @@
 -- An array's columns and rows stand before its end.
-use Rattle.std.proofs.Common.{◌≡◌, inl, inr, ℕ, ◌<◌, Bool, true, false, cond, List, [], ◌∷◌, ◌++◌, Option, Some, None, refl, sym, ap, subst, ◌∙◌, arith}
+use Rattle.std.proofs.Common.{◌≡◌, inl, inr, ℕ, ◌<◌, Bool, true, false, cond, List, [], ◌∷◌, ◌++◌, Some, None, refl, sym, ap, subst, ◌∙◌, arith}
 use Rattle.std.specs.Prelude.{◌==◌, ◌&&◌, ◌||◌, not, nat_lt}
 use Rattle.std.specs.List.{All, AllByRecursion as ByRecursion}
-use Rattle.std.proofs.lemmas.Bool.{eqb-true}
+use Rattle.std.proofs.lemmas.Bool.{eqb-true, and_parts, or_parts}
 use Rattle.std.proofs.lemmas.List.Elements.{All-from_recursion}
 use Rattle.geo_base.specs.declared.motion.Motion.{Motion}
 use Rattle.geo_base.specs.declared.shapes.Point.{Point}
@@ -105,10 +105,6 @@ is_still w (Then a b) = is_still w a && is_still w b
 is_still w (Or a b) = is_still w a && is_still w b
 is_still w (Many a) = is_still w a
 
-both : (a b : Bool) → (a && b) ≡ true → (a ≡ true) × (b ≡ true)
-both true b e = (refl, e)
-both false b e = absurd cc
-
 same : (w v : Bool) → cond w v (not v) ≡ true → v ≡ w
 same true v e = e
 same false true e = absurd cc
@@ -116,9 +112,9 @@ same false false e = refl
 
 still : (w : Bool) (p : Pattern) → is_still w p ≡ true → Leads p w w
 still w Done e = done w
-still w (One k) e = let t = both _ _ e in one k w w t.0 (same w (awaits w k) t.1)
-still w (Then a b) e = let t = both _ _ e in behind a b w w w (still w a t.0) (still w b t.1)
-still w (Or a b) e = let t = both _ _ e in either a b w w (still w a t.0) (still w b t.1)
+still w (One k) e = let t = and_parts _ _ e in one k w w t.0 (same w (awaits w k) t.1)
+still w (Then a b) e = let t = and_parts _ _ e in behind a b w w w (still w a t.0) (still w b t.1)
+still w (Or a b) e = let t = and_parts _ _ e in either a b w w (still w a t.0) (still w b t.1)
 still w (Many a) e = many a w (still w a e)
 
 abbrev from_colrow : Pattern
@@ -222,7 +218,7 @@ pub record AreCounts (columns rows : ℕ) : Type 0 where
   pub rows_some : 0 < rows
 
 counted : (n : ℕ) → is_count n ≡ true → 0 < n
-counted n e = let f = (both (nat_lt 0 n) (nat_lt n 32768) e).0 in grind (arith, f)
+counted n e = let f = (and_parts (nat_lt 0 n) (nat_lt n 32768) e).0 in grind (arith, f)
 
 colrow_test : (a : Bool) (n : ℕ) → cond a None (Some n) ≡ None → a ≡ true
 colrow_test true n e = refl
@@ -230,7 +226,7 @@ colrow_test false n e = absurd cc
 
 colrow_counts : (start : ℕ) (so_far : List Point) (columns rows kind : ℕ) (body : List ℕ) → kind ≡ COLROW → content_fault start so_far columns rows kind body ≡ None → AreCounts (columns_in body) (rows_in body)
 colrow_counts start so_far columns rows kind body e h =
-    let t = both _ _ (colrow_test (is_count (columns_in body) && is_count (rows_in body)) 12 (subst (λ (k : ℕ). content_fault start so_far columns rows k body ≡ None) e h)) in
+    let t = and_parts _ _ (colrow_test (is_count (columns_in body) && is_count (rows_in body)) 12 (subst (λ (k : ℕ). content_fault start so_far columns rows k body ≡ None) e h)) in
     record { columns_some = counted (columns_in body) t.0; rows_some = counted (rows_in body) t.1 }
 
 -- an open array that isn't awaited has its columns and rows
@@ -260,10 +256,6 @@ aref_is k e = ap (λ (n : ℕ). n == 0x13) (eqb-true _ _ e)
 not_aref : (k : ℕ) → (k == 0x0B) ≡ false → k ≡ 0x0B → ⊥
 not_aref k e h = let bad : true ≡ false = sym (ap (λ (n : ℕ). n == 0x0B) h) ∙ e in cc
 
-neither : (a b : Bool) → (a || b) ≡ false → (a ≡ false) × (b ≡ false)
-neither true b e = absurd cc
-neither false b e = (refl, e)
-
 second : (a b : Bool) → (a || b) ≡ true → a ≡ false → b ≡ true
 second true b e f = absurd cc
 second false b e f = e
@@ -273,7 +265,7 @@ open_counts NoRecords p e o = absurd cc
 open_counts (before ▸ r) p e o =
     counts_by r.kind (opened before) (awaits_all false (kinds_of before)) (r.kind == COLROW) (r.kind == 0x0B) (is_bound r.kind) (is_start r.kind) (r.kind == ENDEL) r.body (part COLROW before)
     (λ k. colrow_counts (opened before) (open_points before) (columns_of before) (rows_of before) r.kind r.body (eqb-true _ _ k) (tests before r p.2).1)
-    (aref_is r.kind) (λ s k. not_aref r.kind k) (neither (is_start r.kind) (r.kind == ENDEL)) (second (is_start r.kind) (r.kind == ENDEL))
+    (aref_is r.kind) (λ s k. not_aref r.kind k) (or_parts (is_start r.kind) (r.kind == ENDEL)) (second (is_start r.kind) (r.kind == ENDEL))
     (open_counts before p.0) (sym (awaits_append false (kinds_of before) (r.kind ∷ [])) ∙ e) o
 
 -- ---- references

@@ -1,10 +1,10 @@
 -- The shapes of accepted bytes can be filled.
-use Rattle.std.proofs.Common.{◌≡◌, ◌⊎◌, inl, inr, ℕ, suc, ◌-◌, ◌<◌, ℤ, pos, negsuc, Bool, true, false, cond, List, [], ◌∷◌, ◌++◌, length, Option, Some, None, refl, sym, ap, subst, ◌∙◌, arith}
-use Rattle.std.specs.Prelude.{◌==◌, ◌||◌, ◌&&◌, ◌^◌, ◌%◌, not, nat_lt, nat_le, get_or, fold}
+use Rattle.std.proofs.Common.{◌≡◌, ◌⊎◌, inl, inr, ℕ, suc, ◌-◌, ◌<◌, ℤ, pos, negsuc, Bool, true, false, cond, List, [], ◌∷◌, ◌++◌, length, None, refl, sym, ap, subst, ◌∙◌, arith}
+use Rattle.std.specs.Prelude.{◌==◌, ◌&&◌, ◌^◌, ◌%◌, not, nat_lt, nat_le, get_or, fold}
 use Rattle.std.specs.Int.{w32, cast_signed, int_min, int_max}
 use Rattle.std.specs.List.{All, AllByRecursion as ByRecursion}
 use Rattle.std.proofs.lemmas.Int.{ints}
-use Rattle.std.proofs.lemmas.Bool.{eqb-true}
+use Rattle.std.proofs.lemmas.Bool.{eqb-true, and_parts, or_parts}
 use Rattle.std.proofs.lemmas.List.Elements.{All-from_recursion}
 use Rattle.geo_base.specs.declared.shapes.Point.{Point}
 use Rattle.geo_base.specs.declared.shapes.Rect.{Rect}
@@ -18,7 +18,7 @@ use Rattle.gds_elements.specs.Data.{number, coordinate, long, origin, points_of,
 use Rattle.gds_elements.specs.Meaning.{Boundary, Path, Box, Shape, Cell, Library, opened, last_kind, columns_of, rows_of, part, is_cell_bound, key_of, half_of, beyond, box_form, shapes_by, gathered, open_shapes, open_points, shapes_of, open_cells, cells_of}
 use Rattle.gds_elements.specs.Faults.{are_complete, outline_fault, points_fault, content_fault, Passes}
 use Rattle.gds_elements.proofs.SamePoints.{same_point}
-use Rattle.gds_elements.proofs.Lines.{neither, xy_none}
+use Rattle.gds_elements.proofs.Lines.{xy_none}
 use Rattle.gds_elements.proofs.Passing.{passed}
 use Rattle.gds_elements.specs.Fillable.{IsFillable, AreFillable, FillableLaw}
 
@@ -83,10 +83,6 @@ hull_long ps h = let f = first_long ps h in widened_long _ ps (record { x1 = f.x
 
 -- ---- the open element's points
 
-both_first : (a b : Bool) → (a && b) ≡ true → b ≡ true
-both_first true b h = h
-both_first false b h = cc
-
 outline_true : (fits : Bool) (points : List Point) → outline_fault fits points ≡ None → fits ≡ true
 outline_true true points h = refl
 outline_true false points h = cc
@@ -112,7 +108,7 @@ abbrev IsOpenBox : ℕ → List Point → Type 0
 IsOpenBox start points = start ≡ BOX → IsClosed points
 
 box_closed : (whole : Bool) (so_far points : List Point) → points_fault BOX whole so_far points ≡ None → is_closed points ≡ true
-box_closed whole so_far points h = both_first (whole && length points == 5) (is_closed points) (outline_true (whole && length points == 5 && is_closed points) points h)
+box_closed whole so_far points h = (and_parts (whole && length points == 5) (is_closed points) (outline_true (whole && length points == 5 && is_closed points) points h)).1
 
 xy_box : (start : ℕ) (so_far : List Point) (columns rows kind : ℕ) (body : List ℕ) → kind ≡ XY → content_fault start so_far columns rows kind body ≡ None → IsOpenBox start (gathered start so_far (points_of body))
 xy_box start so_far columns rows kind body e h is =
@@ -133,7 +129,7 @@ box_by false false start end kind old points so_far g h i =
 open_box : (rs : Records) → Passes rs → IsOpenBox (opened rs) (open_points rs)
 open_box NoRecords p = λ _. tt
 open_box (before ▸ r) p =
-    box_by (is_bound r.kind) (r.kind == XY) (is_start r.kind) (r.kind == ENDEL) r.kind (opened before) (gathered (opened before) (open_points before) (points_of r.body)) (open_points before) (neither (is_start r.kind) (r.kind == ENDEL))
+    box_by (is_bound r.kind) (r.kind == XY) (is_start r.kind) (r.kind == ENDEL) r.kind (opened before) (gathered (opened before) (open_points before) (points_of r.body)) (open_points before) (or_parts (is_start r.kind) (r.kind == ENDEL))
     (λ e. xy_box (opened before) (open_points before) (columns_of before) (rows_of before) r.kind r.body (eqb-true _ _ e) (passed before r p.2).sound) (open_box before p.0)
 
 -- a boundary's points are closed where no more of them may come
@@ -147,7 +143,7 @@ over true false true h e = inr refl
 over true false false h e = absurd cc
 
 outline_closed : (start : ℕ) (points : List Point) → start ≡ BOUNDARY → are_complete start points ≡ true → IsClosed points
-outline_closed start points e h = closed points (both_first (nat_le 4 (length points)) (is_closed points) (subst (λ (k : ℕ). are_complete k points ≡ true) e h))
+outline_closed start points e h = closed points ((and_parts (nat_le 4 (length points)) (is_closed points) (subst (λ (k : ℕ). are_complete k points ≡ true) e h)).1)
 
 boundary_by : (bound xy start end : Bool) (kind old : ℕ) (points so_far : List Point) → (bound ≡ false → (start ≡ false) × (end ≡ false))
     → (xy ≡ false → old ≡ BOUNDARY → IsClosed so_far) → xy ≡ false → cond start kind (cond end 0 old) ≡ BOUNDARY → IsClosed (cond bound [] (cond xy points so_far))
@@ -160,7 +156,7 @@ open_boundary : (rs : Records) → Passes rs → opened rs ≡ BOUNDARY → IsOv
 open_boundary rs p is (inr outline) = outline_closed (opened rs) (open_points rs) is outline
 open_boundary NoRecords p is (inl none) = tt
 open_boundary (before ▸ r) p is (inl none) =
-    boundary_by (is_bound r.kind) (r.kind == XY) (is_start r.kind) (r.kind == ENDEL) r.kind (opened before) (gathered (opened before) (open_points before) (points_of r.body)) (open_points before) (neither (is_start r.kind) (r.kind == ENDEL))
+    boundary_by (is_bound r.kind) (r.kind == XY) (is_start r.kind) (r.kind == ENDEL) r.kind (opened before) (gathered (opened before) (open_points before) (points_of r.body)) (open_points before) (or_parts (is_start r.kind) (r.kind == ENDEL))
     (λ e was. open_boundary before p.0 was (over (last_kind before == XY) (r.kind == XY) (are_complete (opened before) (open_points before)) (passed before r p.2).finished e)) none is
 
 -- at an element's end a boundary's and a box's points are closed

@@ -1,21 +1,17 @@
 -- Points gathered over records: no edge of a boundary or a path that passes is slanted.
-use Rattle.std.proofs.Common.{◌≡◌, ◌⊎◌, inl, inr, ℕ, ◌<◌, Bool, true, false, cond, List, [], ◌∷◌, ◌++◌, length, Option, Some, None, refl, sym, ap, subst, ◌∙◌, arith}
+use Rattle.std.proofs.Common.{◌≡◌, ℕ, Bool, true, false, cond, List, [], ◌∷◌, ◌++◌, length, Option, Some, None, refl, sym, ap, subst, ◌∙◌, arith}
 use Rattle.std.specs.Prelude.{◌==◌, ◌&&◌, ◌||◌, ◌%◌, ◌+◌, not, nat_le, nat_lt, get_or}
-use Rattle.std.proofs.lemmas.Bool.{eqb-true}
+use Rattle.std.proofs.lemmas.Bool.{eqb-true, and_parts, or_parts}
 use Rattle.std.proofs.lemmas.List.{append-nil}
 use Rattle.geo_base.specs.declared.shapes.Point.{Point}
 use Rattle.geo_base.specs.Outlines.{last_from}
-use Rattle.gds_records.specs.Records.{Rec, Records, NoRecords, ◌▸◌}
+use Rattle.gds_records.specs.Records.{Records, NoRecords, ◌▸◌}
 use Rattle.gds_records.specs.Kinds.{SREF, AREF, TEXT, BOX, XY, ENDEL}
 use Rattle.gds_elements.specs.Bounds.{is_start, is_line, is_bound}
 use Rattle.gds_elements.specs.Data.{first_of, is_closed, is_level, is_straight, last_of, points_of, origin}
 use Rattle.gds_elements.specs.Meaning.{opened, open_points, gathered, columns_of, rows_of}
 use Rattle.gds_elements.specs.Faults.{Passes, array_fault, content_fault, line_fault, outline_fault, points_fault, or_else}
 use Rattle.gds_elements.proofs.Passing.{passed}
-
-and_parts : (a b : Bool) → (a && b) ≡ true → (a ≡ true) × (b ≡ true)
-and_parts true b e = (refl, e)
-and_parts false b e = absurd cc
 
 -- points behind a straight line
 pub straight_on : (p q : Point) (xs ys : List Point) → is_straight (p ∷ xs) ≡ true → is_straight ((p ∷ xs) ++ q ∷ ys) ≡ (is_level (last_from p xs) q && is_straight (q ∷ ys))
@@ -69,10 +65,6 @@ xy_none start so_far columns rows kind body e h =
 abbrev IsStraightLine : ℕ → List Point → Type 0
 IsStraightLine start points = is_line start ≡ true → is_straight points ≡ true
 
-pub neither : (a b : Bool) → (a || b) ≡ false → (a ≡ false) × (b ≡ false)
-neither true b h = absurd (let e : true ≡ false = h in cc)
-neither false b h = (refl, h)
-
 gathers : (start : ℕ) (whole : Bool) (so_far points : List Point) → points_fault start whole so_far points ≡ None → IsStraightLine start (gathered start so_far points)
 gathers start whole so_far points h line =
     let f : line_fault whole so_far points ≡ None = by_line (is_line start) (line_fault whole so_far points) others line h in
@@ -100,7 +92,7 @@ pub straight : (rs : Records) → Passes rs → is_line (opened rs) ≡ true →
 straight NoRecords p = λ line. refl
 straight (before ▸ r) p =
     straight_by (is_bound r.kind) (r.kind == XY) (is_start r.kind) (r.kind == ENDEL) r.kind (opened before) (open_points before) (gathered (opened before) (open_points before) (points_of r.body))
-    (neither (is_start r.kind) (r.kind == ENDEL))
+    (or_parts (is_start r.kind) (r.kind == ENDEL))
     (λ e. gathers (opened before) ((length r.body % 8) == 0) (open_points before) (points_of r.body)
     (xy_none (opened before) (open_points before) (columns_of before) (rows_of before) r.kind r.body (eqb-true _ _ e) (passed before r p.2).sound))
     (straight before p.0)

@@ -1,15 +1,11 @@
 -- What the open element's parts are behind one record more.
 use Rattle.std.proofs.Common.{◌≡◌, ℕ, Bool, true, false, cond, [], ◌++◌, refl, sym, ap, ◌∙◌}
-use Rattle.std.specs.Prelude.{◌==◌, ◌||◌}
-use Rattle.std.proofs.lemmas.Bool.{eqb-true}
+use Rattle.std.specs.Prelude.{◌==◌}
+use Rattle.std.proofs.lemmas.Bool.{eqb-true, or_parts}
 use Rattle.gds_records.specs.Records.{Rec, Records, ◌▸◌}
 use Rattle.gds_records.specs.Kinds.{ENDEL}
 use Rattle.gds_elements.specs.Bounds.{is_start, is_bound}
 use Rattle.gds_elements.specs.Meaning.{opened, found, cells_of, open_cells}
-
-neither : (a b : Bool) → (a || b) ≡ false → (a ≡ false) × (b ≡ false)
-neither true b e = absurd cc
-neither false b e = (refl, e)
 
 -- a record of a wanted kind
 pub found_new : (wanted bound : ℕ → Bool) (before : Records) (r : Rec) → wanted r.kind ≡ true → found wanted bound (before ▸ r) ≡ r.body
@@ -22,7 +18,7 @@ found_still wanted bound before r e f =
 
 pub opened_still : (before : Records) (r : Rec) → is_bound r.kind ≡ false → opened (before ▸ r) ≡ opened before
 opened_still before r e =
-    let n = neither (is_start r.kind) (r.kind == ENDEL) e in
+    let n = or_parts (is_start r.kind) (r.kind == ENDEL) e in
     ap (λ (b : Bool). cond b r.kind (cond (r.kind == ENDEL) 0 (opened before))) n.0 ∙ ap (λ (b : Bool). cond b 0 (opened before)) n.1
 
 -- no structure ends

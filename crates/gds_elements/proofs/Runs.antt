@@ -1,6 +1,5 @@
 -- Records, one after another.
-use Rattle.std.proofs.Common.{◌≡◌, inl, inr, ℕ, ◌+◌, ◌-◌, ◌<◌, ◌≤◌, Bool, true, false, List, [], ◌++◌, length, take, drop, Ok, Err, refl, sym, ap, ◌∙◌, append_assoc, arith}
-use Rattle.std.specs.Prelude.{not}
+use Rattle.std.proofs.Common.{◌≡◌, inl, inr, ℕ, ◌+◌, ◌-◌, ◌<◌, ◌≤◌, true, false, List, [], ◌++◌, length, take, drop, Ok, Err, sym, ap, ◌∙◌, append_assoc, arith}
 use Rattle.std.proofs.lemmas.List.{take_at, take-append-drop, length-append, length-drop}
 use Rattle.std.proofs.Math.Seq.{take-add}
 use Rattle.gds_records.specs.Records.{Rec, record_bytes}
@@ -66,11 +65,3 @@ pub run_fault : (before rs : Records) (bytes : List ℕ) (at : ℕ) (e : GdsFaul
     → Runs before bytes (Err e) new
 run_fault before rs bytes at (Bad number index offset) new reached passes going (i, o, fault, other) = (rs, at, reached, passes, going, i, o, fault, other)
 run_fault before rs bytes at NoMemory new reached passes going h = tt
-
-pub not_true : (b : Bool) → not b ≡ true → b ≡ false
-not_true true e = absurd cc
-not_true false e = refl
-
-pub not_false : (b : Bool) → not b ≡ false → b ≡ true
-not_false true e = refl
-not_false false e = absurd cc

@@ -8,7 +8,7 @@ use Rattle.gds_grammar.specs.Pattern.{Pattern, after, after_any}
 use Rattle.gds_grammar.specs.Left.{left_of, lefts_of}
 use Rattle.gds_grammar.specs.Order.{left_after, is_empty, can_go_on}
 use Rattle.geo_base.specs.declared.shapes.Point.{Point}
-use Rattle.gds_elements.specs.Data.{number, long, columns_in, rows_in, is_count, points_of, is_closed, is_straight, has_length, side, goes_into, real_in, unit_in}
+use Rattle.gds_elements.specs.Data.{number, long, columns_in, rows_in, is_count, points_of, is_closed, is_straight, side, goes_into, real_in, unit_in}
 use Rattle.fixed_num.specs.Real.{is_one, quarter_of, is_unit}
 use Rattle.gds_elements.specs.Bounds.{is_line}
 use Rattle.gds_elements.specs.Meaning.{opened, last_kind, open_points, columns_of, rows_of}

@@ -1,8 +1,8 @@
 -- An accepted library has a unit.
-use Rattle.std.proofs.Common.{◌≡◌, ℕ, Bool, true, false, cond, List, [], ◌∷◌, ◌++◌, length, replicate, Option, Some, None, refl, sym, ap, subst, ◌∙◌, append_assoc}
-use Rattle.std.specs.Prelude.{◌==◌, ◌||◌, not, take, drop}
+use Rattle.std.proofs.Common.{◌≡◌, ℕ, Bool, true, false, cond, List, [], ◌∷◌, ◌++◌, length, replicate, Some, None, refl, sym, ap, subst, ◌∙◌, append_assoc}
+use Rattle.std.specs.Prelude.{◌==◌, ◌||◌, take, drop}
 use Rattle.std.specs.List.{list_any}
-use Rattle.std.proofs.lemmas.Bool.{eqb-true}
+use Rattle.std.proofs.lemmas.Bool.{eqb-true, or_right, true≢false}
 use Rattle.std.proofs.lemmas.List.Folds.{list_any-append}
 use Rattle.gds_records.specs.Records.{Rec, Records, NoRecords, ◌▸◌}
 use Rattle.gds_records.specs.Kinds.{UNITS}
@@ -24,12 +24,8 @@ use Rattle.fixed_num.proofs.Turns.{unit_nearest}
 abbrev has_units : List ℕ → Bool
 has_units ks = list_any (λ k. k == 0x03) ks
 
-or_second : (a b : Bool) → b ≡ true → (a || b) ≡ true
-or_second true b e = refl
-or_second false b e = e
-
 behind : (a b : Pattern) (ks : List ℕ) → Allows (Then a b) ks → ((ys : List ℕ) → Allows b ys → has_units ys ≡ true) → has_units ks ≡ true
-behind a b ks h f = ap (λ (zs : List ℕ). has_units zs) h.2 ∙ list_any-append (λ (k : ℕ). k == 0x03) h.0 h.1 ∙ or_second _ _ (f h.1 h.4)
+behind a b ks h f = ap (λ (zs : List ℕ). has_units zs) h.2 ∙ list_any-append (λ (k : ℕ). k == 0x03) h.0 h.1 ∙ or_right _ _ (f h.1 h.4)
 
 at_front : (b : Pattern) (ks : List ℕ) → (xs : List ℕ) × (ys : List ℕ) × (ks ≡ xs ++ ys) × (xs ≡ 0x03 ∷ []) × Allows b ys → has_units ks ≡ true
 at_front b ks h = ap (λ (zs : List ℕ). has_units zs) h.2 ∙ ap (λ (zs : List ℕ). has_units (zs ++ h.1)) h.3
@@ -48,9 +44,6 @@ library_units ks h =
     behind g.HEADER from_start ks h (λ xs a. behind g.BGNLIB (Then (Many g.option) from_name) xs a (λ ys b. behind (Many g.option) from_name ys b
     (λ zs c. behind g.LIBNAME (Then (Many g.option) from_units) zs c (λ us d. behind (Many g.option) from_units us d (λ vs e. at_front (Then (Many g.structure) g.ENDLIB) vs e)))))
 
-true_false : true ≡ false → ⊥
-true_false h = cc
-
 ended_units : (rs : Records) → Passes rs → IsEnded rs → has_units (kinds_of rs) ≡ true
 ended_units NoRecords p e = absurd cc
 ended_units (before ▸ r) p e =
@@ -63,7 +56,7 @@ ended_units (before ▸ r) p e =
     by_rest (k ∷ ks) h =
         let whole : kinds_of before ++ r.kind ∷ k ∷ ks ≡ kinds_of (before ▸ r) ++ k ∷ ks = sym (append_assoc (kinds_of before) (r.kind ∷ []) (k ∷ ks)) in
         let on : can_go_on (before ▸ r) k ≡ true = (grammar_law (before ▸ r) k).1 (ks, subst (λ (zs : List ℕ). Allows g.library zs) whole h) in
-        absurd (true_false (sym on ∙ stops (before ▸ r) k e))
+        absurd (true≢false (sym on ∙ stops (before ▸ r) k e))
 
 unit_tested : (u : Bool) (n : ℕ) → cond u None (Some n) ≡ None → u ≡ true
 unit_tested true n e = refl
@@ -71,7 +64,7 @@ unit_tested false n e = absurd cc
 
 or_left : (a b : Bool) → b ≡ false → (a || b) ≡ true → a ≡ true
 or_left true b e h = refl
-or_left false b e h = absurd (true_false (sym h ∙ e))
+or_left false b e h = absurd (true≢false (sym h ∙ e))
 
 unit_more : (before : Records) (r : Rec) → fault_of before r ≡ None → (has_units (kinds_of before) ≡ true → is_unit (real_in (unit_in (head_part UNITS before))) ≡ true)
     → has_units (kinds_of (before ▸ r)) ≡ true → is_unit (real_in (unit_in (head_part UNITS (before ▸ r)))) ≡ true

@@ -1,11 +1,10 @@
 -- What the data of a record says: numbers, strings, points and eight-byte reals (GDSII Stream
 -- Format, Release 6, data types).
-use Rattle.std.specs.Prelude.{ℕ, zero, suc, ◌+◌, ◌-◌, ◌*◌, ◌%◌, ◌^◌, ℤ, pos, ◌-ℤ◌, Bool, true}
+use Rattle.std.specs.Prelude.{ℕ, zero, suc, ◌+◌, ◌-◌, ◌%◌, ℤ, pos, ◌-ℤ◌, Bool, true}
 use Rattle.std.specs.Prelude.{false, ◌==◌, ◌||◌, ◌&&◌, not, nat_lt, nat_le, int_lt, int_div}
 use Rattle.std.specs.Prelude.{unsigned_abs, List, [], ◌∷◌, length, take, drop, replicate}
 use Rattle.std.specs.Prelude.{slice_index, get_or, fold, Option, Some, None, if◌then◌else◌}
 use Rattle.std.specs.List.{list_all, list_any, zip}
-use Rattle.std.specs.Option.{option_map}
 use Rattle.std.specs.Ordering.{int_eq}
 use Rattle.std.specs.Int.{w16, w32, from_be_bytes, cast_signed, int_min, int_max}
 use Rattle.fixed_num.specs.Real.{Real, is_unit, real_of}

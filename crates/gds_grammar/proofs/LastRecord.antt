@@ -1,7 +1,7 @@
 -- Nothing stands behind ENDLIB.
 use Rattle.std.proofs.Common.{◌≡◌, ℕ, Bool, true, false, cond, List, [], ◌∷◌, ◌++◌, map, refl, sym, ap, subst, ◌∙◌, eq-eqb}
 use Rattle.std.specs.Prelude.{◌==◌, ◌&&◌, not}
-use Rattle.std.proofs.lemmas.Bool.{eqb-true}
+use Rattle.std.proofs.lemmas.Bool.{eqb-true, and_parts, and_from, not-true}
 use Rattle.gds_records.specs.Records.{Records, NoRecords, ◌▸◌}
 use Rattle.gds_grammar.specs.Pattern.{Pattern, Done, One, Then, Or, Many, may_be_empty, followed_by, Next, nexts, lefts_by, after, after_any}
 use Rattle.gds_grammar.specs.Order.{left_after, is_empty, can_go_on, IsEnded}
@@ -26,14 +26,6 @@ abbrev pub EachNext : (Next → Type 0) → List Next → Type 0
 EachNext P [] = Unit {0}
 EachNext P (n ∷ ns) = P n × EachNext P ns
 
-and_true : (a b : Bool) → (a && b) ≡ true → (a ≡ true) × (b ≡ true)
-and_true true b e = (refl, e)
-and_true false b e = absurd cc
-
-and_both : (a b : Bool) → a ≡ true → b ≡ true → (a && b) ≡ true
-and_both true b e f = f
-and_both false b e f = absurd cc
-
 EachNext-append : (P : Next → Type 0) (xs ys : List Next) → EachNext P xs → EachNext P ys → EachNext P (xs ++ ys)
 EachNext-append P [] ys h g = g
 EachNext-append P (x ∷ xs) ys h g = (h.0, EachNext-append P xs ys h.1 g)
@@ -47,17 +39,17 @@ map_next f (n ∷ ns) = f n ∷ map_next f ns
 
 lacks_followed : (l b : Pattern) → lacks l ≡ true → lacks b ≡ true → lacks (followed_by l b) ≡ true
 lacks_followed Done b h g = g
-lacks_followed (One k) b h g = and_both (lacks (One k)) (lacks b) h g
-lacks_followed (Then a c) b h g = and_both (lacks (Then a c)) (lacks b) h g
-lacks_followed (Or a c) b h g = and_both (lacks (Or a c)) (lacks b) h g
-lacks_followed (Many a) b h g = and_both (lacks (Many a)) (lacks b) h g
+lacks_followed (One k) b h g = and_from (lacks (One k)) (lacks b) h g
+lacks_followed (Then a c) b h g = and_from (lacks (Then a c)) (lacks b) h g
+lacks_followed (Or a c) b h g = and_from (lacks (Or a c)) (lacks b) h g
+lacks_followed (Many a) b h g = and_from (lacks (Many a)) (lacks b) h g
 
 ends_followed : (l b : Pattern) → lacks l ≡ true → ends b ≡ true → ends (followed_by l b) ≡ true
 ends_followed Done b h g = g
-ends_followed (One k) b h g = and_both (lacks (One k)) (ends b) h g
-ends_followed (Then a c) b h g = and_both (lacks (Then a c)) (ends b) h g
-ends_followed (Or a c) b h g = and_both (lacks (Or a c)) (ends b) h g
-ends_followed (Many a) b h g = and_both (lacks (Many a)) (ends b) h g
+ends_followed (One k) b h g = and_from (lacks (One k)) (ends b) h g
+ends_followed (Then a c) b h g = and_from (lacks (Then a c)) (ends b) h g
+ends_followed (Or a c) b h g = and_from (lacks (Or a c)) (ends b) h g
+ends_followed (Many a) b h g = and_from (lacks (Many a)) (ends b) h g
 
 -- a step that isn't ENDLIB, and leaves none
 pub record Lacks (n : Next) : Type 0 where
@@ -69,10 +61,6 @@ pub record Ends (n : Next) : Type 0 where
   pub last : (n.kind == 0x04) ≡ true → n.left ≡ Done
   pub left : ends n.left ≡ true
 
-not_true : (b : Bool) → not b ≡ true → b ≡ false
-not_true true e = absurd cc
-not_true false e = refl
-
 if_each : (P : Next → Type 0) (b : Bool) (xs : List Next) → EachNext P xs → EachNext P (cond b xs [])
 if_each P true xs h = h
 if_each P false xs h = tt
@@ -83,19 +71,19 @@ mapped P Q b (n ∷ ns) f h = (f n h.0, mapped P Q b ns f h.1)
 
 steps_lack : (p : Pattern) → lacks p ≡ true → EachNext Lacks (nexts p)
 steps_lack Done h = tt
-steps_lack (One k) h = (record { other = not_true (k == 0x04) h; left = refl }, tt)
+steps_lack (One k) h = (record { other = not-true (k == 0x04) h; left = refl }, tt)
 steps_lack (Then a b) h =
-    let both = and_true (lacks a) (lacks b) h in
+    let both = and_parts (lacks a) (lacks b) h in
     EachNext-append Lacks (map (with_rest b) (nexts a)) (cond (may_be_empty a) (nexts b) [])
     (mapped Lacks Lacks b (nexts a) (λ n l. record { other = l.other; left = lacks_followed n.left b l.left both.1 }) (steps_lack a both.0))
     (if_each Lacks (may_be_empty a) (nexts b) (steps_lack b both.1))
-steps_lack (Or a b) h = let both = and_true (lacks a) (lacks b) h in EachNext-append Lacks (nexts a) (nexts b) (steps_lack a both.0) (steps_lack b both.1)
+steps_lack (Or a b) h = let both = and_parts (lacks a) (lacks b) h in EachNext-append Lacks (nexts a) (nexts b) (steps_lack a both.0) (steps_lack b both.1)
 steps_lack (Many a) h = mapped Lacks Lacks (Many a) (nexts a) (λ n l. record { other = l.other; left = lacks_followed n.left (Many a) l.left h }) (steps_lack a h)
 
 lacks_ends : (p : Pattern) → lacks p ≡ true → ends p ≡ true
 lacks_ends Done h = refl
 lacks_ends (One k) h = refl
-lacks_ends (Then a b) h = let both = and_true (lacks a) (lacks b) h in and_both (lacks a) (ends b) both.0 (lacks_ends b both.1)
+lacks_ends (Then a b) h = let both = and_parts (lacks a) (lacks b) h in and_from (lacks a) (ends b) both.0 (lacks_ends b both.1)
 lacks_ends (Or a b) h = h
 lacks_ends (Many a) h = h
 
@@ -107,7 +95,7 @@ steps_end : (p : Pattern) → ends p ≡ true → EachNext Ends (nexts p)
 steps_end Done h = tt
 steps_end (One k) h = (record { last = λ e. refl; left = refl }, tt)
 steps_end (Then a b) h =
-    let both = and_true (lacks a) (ends b) h in
+    let both = and_parts (lacks a) (ends b) h in
     EachNext-append Ends (map (with_rest b) (nexts a)) (cond (may_be_empty a) (nexts b) [])
     (mapped Lacks Ends b (nexts a) (λ n l. record { last = λ e. absurd (let bad : true ≡ false = sym e ∙ l.other in cc); left = ends_followed n.left b l.left both.1 }) (steps_lack a both.0))
     (if_each Ends (may_be_empty a) (nexts b) (steps_end b both.1))

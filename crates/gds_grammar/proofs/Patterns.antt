@@ -1,6 +1,6 @@
 -- What may come next in a pattern, and what it allows.
 use Rattle.std.proofs.Common.{◌≡◌, ◌⊎◌, inl, inr, ℕ, Bool, true, false, cond, List, [], ◌∷◌, ◌++◌, refl, sym, ap, subst, ◌∙◌, map}
-use Rattle.std.specs.Prelude.{◌&&◌, ◌||◌}
+use Rattle.std.proofs.lemmas.Bool.{or_cases, and_parts, or_left, or_right, and_from}
 use Rattle.gds_grammar.specs.Pattern.{Pattern, Done, One, Then, Or, Many, Allows, EachOf, joined, may_be_empty, followed_by, Next, nexts}
 
 -- membership
@@ -57,33 +57,13 @@ some_text (Then a b) = let u = some_text a in let v = some_text b in (u.0 ++ v.0
 some_text (Or a b) = let u = some_text a in (u.0, inl u.1)
 some_text (Many a) = ([], ([], refl, tt))
 
-or_true : (a b : Bool) → (a || b) ≡ true → (a ≡ true) ⊎ (b ≡ true)
-or_true true b e = inl refl
-or_true false b e = inr e
-
-and_true : (a b : Bool) → (a && b) ≡ true → (a ≡ true) × (b ≡ true)
-and_true true b e = (refl, e)
-and_true false b e = absurd cc
-
 -- the empty text
 pub empty_allowed : (p : Pattern) → may_be_empty p ≡ true → Allows p []
 empty_allowed Done e = refl
 empty_allowed (One k) e = absurd cc
-empty_allowed (Then a b) e = let both = and_true (may_be_empty a) (may_be_empty b) e in ([], [], refl, empty_allowed a both.0, empty_allowed b both.1)
-empty_allowed (Or a b) e = elim (or_true (may_be_empty a) (may_be_empty b) e) [ inl h ↦ inl (empty_allowed a h) | inr h ↦ inr (empty_allowed b h) ]
+empty_allowed (Then a b) e = let both = and_parts (may_be_empty a) (may_be_empty b) e in ([], [], refl, empty_allowed a both.0, empty_allowed b both.1)
+empty_allowed (Or a b) e = elim (or_cases (may_be_empty a) (may_be_empty b) e) [ inl h ↦ inl (empty_allowed a h) | inr h ↦ inr (empty_allowed b h) ]
 empty_allowed (Many a) e = ([], refl, tt)
-
-or_left : (a b : Bool) → a ≡ true → (a || b) ≡ true
-or_left true b e = refl
-or_left false b e = absurd cc
-
-or_right : (a b : Bool) → b ≡ true → (a || b) ≡ true
-or_right true b e = refl
-or_right false b e = e
-
-and_both : (a b : Bool) → a ≡ true → b ≡ true → (a && b) ≡ true
-and_both true b e f = f
-and_both false b e f = absurd cc
 
 no_parts : (xs ys : List ℕ) → [] ≡ xs ++ ys → (xs ≡ []) × (ys ≡ [])
 no_parts [] ys e = (refl, sym e)
@@ -94,7 +74,7 @@ allowed_empty Done h = refl
 allowed_empty (One k) h = absurd cc
 allowed_empty (Then a b) h =
     let e = no_parts h.0 h.1 h.2 in
-    and_both (may_be_empty a) (may_be_empty b) (allowed_empty a (subst (λ (xs : List ℕ). Allows a xs) e.0 h.3)) (allowed_empty b (subst (λ (ys : List ℕ). Allows b ys) e.1 h.4))
+    and_from (may_be_empty a) (may_be_empty b) (allowed_empty a (subst (λ (xs : List ℕ). Allows a xs) e.0 h.3)) (allowed_empty b (subst (λ (ys : List ℕ). Allows b ys) e.1 h.4))
 allowed_empty (Or a b) (inl h) = or_left (may_be_empty a) (may_be_empty b) (allowed_empty a h)
 allowed_empty (Or a b) (inr h) = or_right (may_be_empty a) (may_be_empty b) (allowed_empty b h)
 allowed_empty (Many a) h = refl

@@ -1,5 +1,7 @@
 -- Piles that cover what shapes do, as layers.
 use Rattle.std.proofs.Common.{◌≡◌, inl, inr, Bool, true, false, List, [], ◌∷◌, ◌++◌, refl, sym, ap, subst, ◌∙◌}
+use Rattle.base_laws.proofs.Tests.{or_false}
+use Rattle.std.proofs.lemmas.Bool.{or_parts, or_right}
 use Rattle.std.specs.Prelude.{◌||◌, ◌&&◌}
 use Rattle.std.specs.List.{AllByRecursion, list_any}
 use Rattle.std.proofs.lemmas.List.Folds.{list_any-append}
@@ -21,10 +23,6 @@ use Rattle.gds_layout.specs.Drafts.{IsLayerOf, AreLayersOf}
 use Rattle.gds_layout.proofs.Piling.{itself, other_key}
 
 -- ---- shapes
-
-or_none : (a : Bool) → (a || false) ≡ a
-or_none true = refl
-or_none false = refl
 
 -- the piles cover these shapes
 pub record Covers (shapes : List Shape) (piles : List Pile) : Type 0 where
@@ -48,11 +46,11 @@ covers_more shapes shape old new c f h keys = record {
   keys_same = keys ∙ ap (λ (ks : List LayerKey). with_key ks shape.key) c.keys_same ∙ sym (keys_more [] shapes shape);
   covers_same = λ k s.
       f k s ∙ ap (λ (b : Bool). b || is_covering k s shape) (c.covers_same k s)
-      ∙ ap (λ (b : Bool). shapes_cover shapes k s || b) (sym (or_none (is_covering k s shape)))
+      ∙ ap (λ (b : Bool). shapes_cover shapes k s || b) (sym (or_false (is_covering k s shape)))
       ∙ sym (list_any-append (is_covering k s) shapes (shape ∷ []));
   has_same = λ k.
       h k ∙ ap (λ (b : Bool). b || is_same_key shape.key k) (c.has_same k)
-      ∙ ap (λ (b : Bool). is_drawn shapes k || b) (sym (or_none (is_same_key shape.key k)))
+      ∙ ap (λ (b : Bool). is_drawn shapes k || b) (sym (or_false (is_same_key shape.key k)))
       ∙ sym (list_any-append (λ (t : Shape). is_same_key t.key k) shapes (shape ∷ []));
 }
 
@@ -67,21 +65,17 @@ filled_more (q ∷ ps) [] p l f h = absurd f
 filled_more [] (m ∷ ls) p l f h = absurd f
 filled_more (q ∷ ps) (m ∷ ls) p l f h = (f.0, filled_more ps ls p l f.1 h)
 
-or_false : (a b : Bool) → (a || b) ≡ false → (a ≡ false) × (b ≡ false)
-or_false true b e = absurd cc
-or_false false b e = (refl, e)
-
 has_none : (key : LayerKey) (ps : List Pile) (ls : List OwnLayer) → AreFilled ps ls → list_any (is_same_key key) (keys_of ps) ≡ false → IsListed key (layer_keys ls) → ⊥
 has_none key [] [] f e h = h
 has_none key (p ∷ ps) [] f e h = f
 has_none key [] (l ∷ ls) f e h = f
 has_none key (p ∷ ps) (l ∷ ls) f e (inl h) =
-    let parts = or_false (is_same_key key p.key) (list_any (is_same_key key) (keys_of ps)) e in
+    let parts = or_parts (is_same_key key p.key) (list_any (is_same_key key) (keys_of ps)) e in
     let same : key ≡ p.key = h ∙ f.0.key_is in
     let bad : true ≡ false = sym (itself key) ∙ ap (λ (q : LayerKey). is_same_key key q) same ∙ parts.0 in
     absurd (let z : ⊥ = cc in z)
 has_none key (p ∷ ps) (l ∷ ls) f e (inr h) =
-    has_none key ps ls f.1 (or_false (is_same_key key p.key) (list_any (is_same_key key) (keys_of ps)) e).1 h
+    has_none key ps ls f.1 (or_parts (is_same_key key p.key) (list_any (is_same_key key) (keys_of ps)) e).1 h
 
 apart : (ps : List Pile) (ls : List OwnLayer) → AreFilled ps ls → AreDifferent (keys_of ps) → AreApart (layer_keys ls)
 apart [] [] f d = tt
@@ -94,20 +88,16 @@ apart (p ∷ ps) (l ∷ ls) f d =
 abbrev Owns : List Pile → List Pile → Type 0
 Owns all ps = AllByRecursion (λ (p : Pile). ((s : Square) → piles_cover all p.key s ≡ covers (rects_of p) s) × (has_pile all p.key ≡ true)) ps
 
-or_second : (a b : Bool) → b ≡ true → (a || b) ≡ true
-or_second true b e = refl
-or_second false b e = e
-
 other_first : (a b c : Bool) → a ≡ false → ((a && b) || c) ≡ c
 other_first a b c e = rw e refl
 
 owns_more : (p : Pile) (ps qs : List Pile) → list_any (is_same_key p.key) (keys_of qs) ≡ false → Owns ps qs → Owns (p ∷ ps) qs
 owns_more p ps [] e h = tt
 owns_more p ps (q ∷ qs) e h =
-    let parts = or_false (is_same_key p.key q.key) (list_any (is_same_key p.key) (keys_of qs)) e in (
+    let parts = or_parts (is_same_key p.key q.key) (list_any (is_same_key p.key) (keys_of qs)) e in (
       (
         λ s. other_first (is_same_key p.key q.key) (covers (rects_of p) s) (piles_cover ps q.key s) parts.0 ∙ h.0.0 s,
-        or_second (is_same_key p.key q.key) (has_pile ps q.key) h.0.1,
+        or_right (is_same_key p.key q.key) (has_pile ps q.key) h.0.1,
       ),
       owns_more p ps qs parts.1 h.1,
     )
@@ -115,11 +105,11 @@ owns_more p ps (q ∷ qs) e h =
 no_other : (key : LayerKey) (ps : List Pile) (s : Square) → list_any (is_same_key key) (keys_of ps) ≡ false → piles_cover ps key s ≡ false
 no_other key [] s e = refl
 no_other key (p ∷ ps) s e =
-    let parts = or_false (is_same_key key p.key) (list_any (is_same_key key) (keys_of ps)) e in
+    let parts = or_parts (is_same_key key p.key) (list_any (is_same_key key) (keys_of ps)) e in
     other_first (is_same_key p.key key) (covers (rects_of p) s) (piles_cover ps key s) (other_key key p.key parts.0) ∙ no_other key ps s parts.1
 
 alone : (a b c : Bool) → a ≡ true → c ≡ false → ((a && b) || c) ≡ b
-alone a b c e f = rw (e, f) (or_none b)
+alone a b c e f = rw (e, f) (or_false b)
 
 owns : (ps : List Pile) → AreDifferent (keys_of ps) → Owns ps ps
 owns [] d = tt

@@ -1,5 +1,7 @@
 -- Bytes are read as one layout.
-use Rattle.std.proofs.Common.{◌≡◌, ℕ, zero, suc, List, [], ◌∷◌, map, length, Option, Some, None, slice_get, refl, sym, ap, subst, ◌∙◌, arith}
+use Rattle.std.proofs.Common.{◌≡◌, ℕ, List, [], ◌∷◌, map, length, Option, Some, None, refl, sym, ap, subst, ◌∙◌}
+use Rattle.base_laws.proofs.Lists.{map_count}
+use Rattle.base_laws.proofs.Items.{one_list, map_from}
 use Rattle.geo_base.specs.declared.motion.Motion.{Motion}
 use Rattle.geo_base.specs.declared.shapes.Point.{Point}
 use Rattle.rect_sets.specs.Rects.{OneListLaw}
@@ -41,14 +43,6 @@ one_place ds once r p q x name motion columns rows column_step row_step =
     ∙ ap (λ (n : Point). let z : Place = record { cell = q.cell; motion = q.motion; columns = q.columns; rows = q.rows; column_step = n; row_step = p.row_step } in z) d
     ∙ ap (λ (n : Point). let z : Place = record { cell = q.cell; motion = q.motion; columns = q.columns; rows = q.rows; column_step = q.column_step; row_step = n } in z) e
 
--- lists as long that agree at each place are one
-one_list : {A : Type 0} (xs ys : List A) → length xs ≡ length ys → ((k : ℕ) (x y : A) → slice_get xs k ≡ Some x → slice_get ys k ≡ Some y → x ≡ y) → xs ≡ ys
-one_list [] [] e h = refl
-one_list (x ∷ xs) [] e h = absurd (omega (arith, e))
-one_list [] (y ∷ ys) e h = absurd (omega (arith, e))
-one_list (x ∷ xs) (y ∷ ys) e h =
-    ap (λ z. z ∷ xs) (h 0 x y refl refl) ∙ ap (λ zs. y ∷ zs) (one_list xs ys (let f : length xs ≡ length ys = omega (arith, e) in f) (λ k a b p q. h (suc k) a b p q))
-
 one_places : (cells ds : List CellDraft) → AreIn ds cells → HasNoRepeat cells → (refs : List DraftRef) (ps qs : List Place) → AreAllResolved cells refs ps → AreAllResolved ds refs qs → ps ≡ qs
 one_places cells ds back once refs ps qs x y = one_list ps qs (x.count ∙ sym y.count) (
     λ k p q a b.
@@ -83,21 +77,12 @@ part_same cells ds back once i c d p q same x y = same_cell p q
     (ap (map plain_text) x.texts ∙ one_texts c.texts.items d.texts.items same.texts ∙ ap (map plain_text) (sym y.texts))
     (one_places cells ds back once c.refs.items p.places.items q.places.items x.places (subst (λ (rs : List DraftRef). AreAllResolved ds rs q.places.items) (sym same.refs) y.places))
 
-map_count : {A B : Type 0} (f : A → B) (xs : List A) → length (map f xs) ≡ length xs
-map_count f [] = refl
-map_count f (x ∷ xs) = ap (λ (n : ℕ). suc n) (map_count f xs)
-
-map_at : {A B : Type 0} (f : A → B) (xs : List A) (k : ℕ) (y : B) → slice_get (map f xs) k ≡ Some y → (x : A) × (slice_get xs k ≡ Some x) × (f x ≡ y)
-map_at f [] k y e = absurd cc
-map_at f (x ∷ xs) zero y e = let same : f x ≡ y = cc in (x, refl, same)
-map_at f (x ∷ xs) (suc k) y e = map_at f xs k y e
-
 cells_same : (cells ds : List CellDraft) (top : Option (List ℕ)) (l m : Linked) → length cells ≡ length ds → AreIn cells ds → AreIn ds cells → IsLink cells top l → IsLink ds top m → map contents l.cells ≡ map contents m.cells
 cells_same cells ds top l m count to back x y = one_list (map contents l.cells) (map contents m.cells)
     (map_count contents l.cells ∙ x.count ∙ count ∙ sym y.count ∙ sym (map_count contents m.cells))
     (λ k a b p q.
-    let one = map_at contents l.cells k a p in
-    let two = map_at contents m.cells k b q in
+    let one = map_from contents l.cells k a p in
+    let two = map_from contents m.cells k b q in
     let c = at_too l.cells cells k one.0 x.count one.1 in
     let d = to k c.0 c.1 in
     sym one.2

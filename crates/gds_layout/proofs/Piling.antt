@@ -1,5 +1,7 @@
 -- Rectangles laid on piles.
 use Rattle.std.proofs.Common.{◌≡◌, ℕ, zero, suc, ◌+◌, ◌<◌, Bool, true, false, cond, List, [], ◌∷◌, ◌++◌, length, set, Some, slice_get, refl, sym, ap, subst, ◌∙◌, arith}
+use Rattle.std.proofs.lemmas.Map.Keys.{any_passes_from_place}
+use Rattle.std.proofs.lemmas.Bool.{or_parts}
 use Rattle.std.specs.Prelude.{◌||◌, ◌&&◌, not}
 use Rattle.std.specs.List.{All, AllByRecursion, list_any, position_or_len}
 use Rattle.std.proofs.lemmas.List.{map-append}
@@ -33,10 +35,6 @@ other_key k m h = by_test (is_same_key m k) refl
     by_test false e = refl
     by_test true e = let same = same_key m k e in let bad : true ≡ false = sym (itself k) ∙ ap (λ (q : LayerKey). is_same_key k q) (sym same) ∙ h in absurd cc
 
-or_false : (a b : Bool) → (a || b) ≡ false → (a ≡ false) × (b ≡ false)
-or_false true b e = absurd cc
-or_false false b e = (refl, e)
-
 -- ---- the number of a layer
 
 absent_by : (b : Bool) (n len : ℕ) (rest : Bool) → cond (not b) (1 + n) 0 ≡ suc len → (n ≡ len → rest ≡ false) → (b || rest) ≡ false
@@ -61,7 +59,7 @@ found key (p ∷ ps) lt = found_by key p ps (is_same_key key p.key) (position_or
 pub different_more : (ks : List LayerKey) (key : LayerKey) → AreDifferent ks → list_any (is_same_key key) ks ≡ false → AreDifferent (ks ++ key ∷ [])
 different_more [] key d none = (refl, tt)
 different_more (k ∷ ks) key d none =
-    let parts = or_false (is_same_key key k) (list_any (is_same_key key) ks) none in (
+    let parts = or_parts (is_same_key key k) (list_any (is_same_key key) ks) none in (
       list_any-append (is_same_key k) ks (key ∷ []) ∙ neither (list_any (is_same_key k) ks) (is_same_key k key) d.0 (other_key key k parts.0),
       different_more ks key d.1 parts.1,
     )
@@ -85,15 +83,6 @@ at_end (q ∷ ps) p = at_end ps p
 pub last_pile : (ps : List Pile) (p : Pile) (key : LayerKey) (n : ℕ) → n ≡ length ps → p.key ≡ key → IsPileAt (ps ++ p ∷ []) key n
 last_pile ps p key n e f = subst (λ (j : ℕ). IsPileAt (ps ++ p ∷ []) key j) (sym e) record { pile = p; there = at_end ps p; key_is = f }
 
-any_there : {A : Type 0} (f : A → Bool) (xs : List A) (i : ℕ) (x : A) → slice_get xs i ≡ Some x → f x ≡ true → list_any f xs ≡ true
-any_there f [] i x e h = absurd cc
-any_there f (y ∷ xs) zero x e h = let same : y ≡ x = cc in ap (λ (b : Bool). b || list_any f xs) (ap f same ∙ h)
-any_there f (y ∷ xs) (suc i) x e h = second (f y) (list_any f xs) (any_there f xs i x e h)
-  where
-    second : (a b : Bool) → b ≡ true → (a || b) ≡ true
-    second true b e = refl
-    second false b e = e
-
 pub has_already : (ps : List Pile) (key : LayerKey) (n : ℕ) → IsPileAt ps key n → (k : LayerKey) → has_pile ps k ≡ (has_pile ps k || is_same_key key k)
 has_already ps key n is k = by_test (is_same_key key k) refl
   where
@@ -104,7 +93,7 @@ has_already ps key n is k = by_test (is_same_key key k) refl
         or_none true = refl
         or_none false = refl
     by_test true e =
-        let on : has_pile ps k ≡ true = any_there (λ (p : Pile). is_same_key p.key k) ps n is.pile is.there (ap (λ (q : LayerKey). is_same_key q k) is.key_is ∙ e) in
+        let on : has_pile ps k ≡ true = any_passes_from_place (λ (p : Pile). is_same_key p.key k) ps n is.pile is.there (ap (λ (q : LayerKey). is_same_key q k) is.key_is ∙ e) in
         on ∙ sym (ap (λ (b : Bool). b || true) on)
 
 -- the key isn't among them, and is added; or it is

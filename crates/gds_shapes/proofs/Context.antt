@@ -1,6 +1,7 @@
 -- What stands behind records: the library's heading and cells so far, and the open cell's content.
-use Rattle.std.proofs.Common.{◌≡◌, ℕ, Bool, true, false, cond, List, [], ◌∷◌, ◌++◌, Option, Some, None, refl, ap, ◌∙◌, arith}
-use Rattle.std.specs.Prelude.{◌==◌, ◌&&◌, ◌||◌, not, IsTrue}
+use Rattle.std.proofs.Common.{◌≡◌, ℕ, Bool, true, false, cond, List, [], ◌∷◌, ◌++◌, None, refl, ap, ◌∙◌, arith}
+use Rattle.std.proofs.lemmas.Bool.{not-true, or_from}
+use Rattle.std.specs.Prelude.{◌==◌, ◌&&◌, not, IsTrue}
 use Rattle.std.proofs.lemmas.List.{append-nil}
 use Rattle.gds_records.specs.Records.{Rec, IsRecord, is_listed, Records, ◌▸◌, followed_by_all}
 use Rattle.gds_grammar.specs.Pattern.{Pattern, after_any}
@@ -91,7 +92,7 @@ bare_record kind h = record { kind = h; form = omega arith; even = refl; short =
 pub number_record : (kind n : ℕ) → IsTrue (is_listed kind) → IsRecord (number kind n)
 number_record kind n h = record { kind = h; form = omega arith; even = refl; short = omega arith; bytes = number_bytes n }
 
--- ---- a record more that neither begins nor ends a cell or an element
+-- ---- a record more that or_from begins nor ends a cell or an element
 
 abbrev pub is_inner : ℕ → Bool
 is_inner kind = not (kind == HEADER) && (not (kind == BGNLIB) && (not (kind == LIBNAME) && (not (kind == UNITS) && (not (kind == BGNSTR) && (not (kind == STRNAME) && (not (kind == ENDSTR) && not (kind == ENDEL)))))))
@@ -99,10 +100,6 @@ is_inner kind = not (kind == HEADER) && (not (kind == BGNLIB) && (not (kind == L
 both : (a b : Bool) → (not a && b) ≡ true → (a ≡ false) × (b ≡ true)
 both true b h = absurd cc
 both false b h = (refl, h)
-
-not_false : (a : Bool) → not a ≡ true → a ≡ false
-not_false true h = absurd cc
-not_false false h = refl
 
 pub record IsInner (kind : ℕ) : Type 0 where
   pub header : (kind == HEADER) ≡ false
@@ -123,7 +120,7 @@ inner kind h =
     let e = both (kind == BGNSTR) _ d.1 in
     let f = both (kind == STRNAME) _ e.1 in
     let g = both (kind == ENDSTR) _ f.1 in
-    record { header = a.0; begin = b.0; name = c.0; units = d.0; cell_begin = e.0; cell_name = f.0; cell_end = g.0; element_end = not_false (kind == ENDEL) g.1 }
+    record { header = a.0; begin = b.0; name = c.0; units = d.0; cell_begin = e.0; cell_name = f.0; cell_end = g.0; element_end = not-true (kind == ENDEL) g.1 }
 
 pub head_more : (h : Heading) (cells : List Cell) (rs : Records) (r : Rec) → is_inner r.kind ≡ true → Head h cells rs → IsRecord r → fault_of rs r ≡ None → Head h cells (rs ▸ r)
 head_more h cells rs r inside s is passes =
@@ -140,13 +137,10 @@ head_more h cells rs r inside s is passes =
 passed_by : {X : Type 0} (a b : Bool) (x y z : X) → a ≡ false → b ≡ false → cond a x (cond b y z) ≡ z
 passed_by a b x y z e f = rw (e, f) refl
 
-neither : (a b : Bool) → a ≡ false → b ≡ false → (a || b) ≡ false
-neither a b e f = rw (e, f) refl
-
 pub body_more : (cell : Drawn) (shapes : List Shape) (refs : List Ref) (rs : Records) (r : Rec) → is_inner r.kind ≡ true → Body cell shapes refs rs → Body cell shapes refs (rs ▸ r)
 body_more cell shapes refs rs r inside s =
     let i = inner r.kind inside in
-    let bound : is_cell_bound r.kind ≡ false = neither (r.kind == BGNSTR) (r.kind == ENDSTR) i.cell_begin i.cell_end in
+    let bound : is_cell_bound r.kind ≡ false = or_from (r.kind == BGNSTR) (r.kind == ENDSTR) i.cell_begin i.cell_end in
     record {
       dates = passed_by (r.kind == BGNSTR) (is_cell_bound r.kind) r.body [] (cell_part BGNSTR rs) i.cell_begin bound ∙ s.dates;
       name = passed_by (r.kind == STRNAME) (is_cell_bound r.kind) r.body [] (cell_part STRNAME rs) i.cell_name bound ∙ s.name;

@@ -1,9 +1,8 @@
 -- The corners of a rectangle pass the tests of a boundary's points.
-use Rattle.std.proofs.Common.{◌≡◌, ℕ, Bool, true, false, cond, List, [], Option, Some, None, refl, ap, ℤ}
-use Rattle.std.specs.Prelude.{◌&&◌, ◌||◌}
+use Rattle.std.proofs.Common.{◌≡◌, ℕ, Bool, true, cond, [], Option, Some, None, refl, ap, ℤ}
+use Rattle.std.proofs.lemmas.Bool.{and_from, or_right, or_left}
 use Rattle.std.specs.Ordering.{int_eq}
 use Rattle.std.proofs.lemmas.Bool.Decides.{Decides-int_eq}
-use Rattle.geo_base.specs.declared.shapes.Point.{Point}
 use Rattle.geo_base.specs.declared.shapes.Rect.{Rect}
 use Rattle.gds_elements.specs.Data.{is_closed, is_straight}
 use Rattle.gds_elements.specs.Faults.{are_complete, or_else, content_fault}
@@ -13,21 +12,11 @@ use Rattle.gds_shapes.proofs.Bodies.{rect_back}
 same : (z : ℤ) → int_eq z z ≡ true
 same z = (Decides-int_eq z z).1 refl
 
-both : (a b : Bool) → a ≡ true → b ≡ true → (a && b) ≡ true
-both a b e f = rw (e, f) refl
-
-second : (a b : Bool) → b ≡ true → (a || b) ≡ true
-second true b e = refl
-second false b e = e
-
-first : (a b : Bool) → a ≡ true → (a || b) ≡ true
-first a b e = rw e refl
-
 closed : (r : Rect) → is_closed (corners r) ≡ true
-closed r = both _ _ (same r.x1) (same r.y1)
+closed r = and_from _ _ (same r.x1) (same r.y1)
 
 straight : (r : Rect) → is_straight (corners r) ≡ true
-straight r = both _ _ (first _ _ (same r.x1)) (both _ _ (second _ _ (same r.y2)) (both _ _ (first _ _ (same r.x2)) (both _ _ (second _ _ (same r.y1)) refl)))
+straight r = and_from _ _ (or_left _ _ (same r.x1)) (and_from _ _ (or_right _ _ (same r.y2)) (and_from _ _ (or_left _ _ (same r.x2)) (and_from _ _ (or_right _ _ (same r.y1)) refl)))
 
 sound : (straight : Bool) → straight ≡ true → cond {A = Option ℕ} straight None (Some 6) ≡ None
 sound straight e = rw e refl

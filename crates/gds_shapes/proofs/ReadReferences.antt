@@ -3,7 +3,7 @@ use Rattle.std.proofs.Common.{◌≡◌, ◌⊎◌, inl, inr, ℕ, zero, suc, �
 use Rattle.std.specs.Prelude.{◌==◌, ◌&&◌, ◌||◌, nat_lt, int_div, ◌+ℤ◌, ◌-ℤ◌, ◌*ℤ◌, ◌≤ℤ◌, neg_ℤ}
 use Rattle.std.specs.Int.{w32, cast_signed}
 use Rattle.std.specs.List.{All, AllByRecursion as ByRecursion}
-use Rattle.std.proofs.lemmas.Bool.{eqb-true}
+use Rattle.std.proofs.lemmas.Bool.{eqb-true, and_parts}
 use Rattle.std.proofs.lemmas.Int.{ints}
 use Rattle.std.proofs.lemmas.List.Elements.{All-from_recursion}
 use Rattle.std.proofs.Math.Nat.{mul-div-le}
@@ -13,7 +13,6 @@ use Rattle.geo_base.specs.declared.motion.Turn.{Turn}
 use Rattle.geo_base.specs.declared.shapes.Point.{Point}
 use Rattle.gds_records.specs.Records.{Rec, Records, NoRecords, ◌▸◌}
 use Rattle.gds_records.specs.Kinds.{BOUNDARY, PATH, SREF, AREF, COLROW, STRING, SNAME, ANGLE, XY, ENDEL, ENDSTR}
-use Rattle.gds_grammar.specs.Order.{can_go_on}
 use Rattle.gds_elements.specs.Bounds.{is_line, is_bound}
 use Rattle.gds_elements.specs.Data.{coordinate, origin, first_of, points_of, side, step, columns_in, rows_in, is_count, is_empty, trimmed}
 use Rattle.gds_elements.specs.Meaning.{Ref, Cell, Library, opened, gathered, open_points, columns_of, rows_of, part, text_part, is_cell_bound, is_mirrored, quarters, turn_of, motion_of, single, array, refs_by, open_refs, refs_of, open_cells, cells_of}
@@ -121,10 +120,6 @@ ends bytes at c = by_test (length bytes == 24) refl
 low_counts : (columns rows : ℕ) → is_count columns ≡ true → is_count rows ≡ true → (columns < 2 ^ 15) × (rows < 2 ^ 15)
 low_counts columns rows e f = (grind arith, grind arith)
 
-both : (a b : Bool) → (a && b) ≡ true → (a ≡ true) × (b ≡ true)
-both true b e = (refl, e)
-both false b e = absurd cc
-
 abbrev AreLow : ℕ → ℕ → Type 0
 AreLow columns rows = (columns < 2 ^ 15) × (rows < 2 ^ 15)
 
@@ -136,7 +131,7 @@ counts_more before r p rest = by_test (r.kind == COLROW) (is_bound r.kind) refl
         let content = (passed before r p).sound in
         let kind : r.kind ≡ COLROW = eqb-true _ _ e in
         let test = unit_tested (is_count (columns_in r.body) && is_count (rows_in r.body)) 12 (subst (λ (k : ℕ). content_fault (opened before) (open_points before) (columns_of before) (rows_of before) k r.body ≡ None) kind content) in
-        let t = both _ _ test in
+        let t = and_parts _ _ test in
         low_counts (columns_in r.body) (rows_in r.body) t.0 t.1
     by_test false true e = (omega arith, omega arith)
     by_test false false e = rest

@@ -1,6 +1,7 @@
 -- The sides of an array as they are read, and its steps.
 use Rattle.std.proofs.Common.{◌≡◌, ℕ, zero, suc, ◌+◌, ◌*◌, ◌%◌, ◌/◌, ◌^◌, ◌<◌, Bool, true, false, cond, [], ◌∷◌, ◌++◌, refl, sym, ap, ◌∙◌, arith, ℤ, pos, negsuc}
-use Rattle.std.specs.Prelude.{◌==◌, ◌&&◌, not, unsigned_abs, int_div, ◌+ℤ◌, ◌-ℤ◌, ◌*ℤ◌, neg_ℤ}
+use Rattle.std.proofs.lemmas.Bool.{and_from}
+use Rattle.std.specs.Prelude.{◌==◌, not, unsigned_abs, int_div, ◌+ℤ◌, ◌-ℤ◌, ◌*ℤ◌, neg_ℤ}
 use Rattle.std.specs.Int.{w16, to_be_bytes}
 use Rattle.std.specs.List.{flat_map}
 use Rattle.std.proofs.lemmas.Int.{ints, unsigned_abs-mul}
@@ -34,9 +35,6 @@ none_left c s = ap (λ (n : ℕ). n % c) (unsigned_abs-mul (pos c) s) ∙ mul-mo
 abbrev pub multiple : ℕ → Point → Point
 multiple c s = record { x = pos c *ℤ s.x; y = pos c *ℤ s.y }
 
-both : (a b : Bool) → a ≡ true → b ≡ true → (a && b) ≡ true
-both a b e f = rw (e, f) refl
-
 zero_same : (n : ℕ) → n ≡ 0 → (n == 0) ≡ true
 zero_same n e = rw e refl
 
@@ -45,7 +43,7 @@ not_zero zero h = absurd (omega (arith, h))
 not_zero (suc c) h = grind arith
 
 pub goes : (c : ℕ) (s : Point) → 0 < c → goes_into c (multiple c s) ≡ true
-goes c s h = both _ _ (both _ _ (ap not (not_zero c h)) (zero_same _ (none_left c s.x))) (zero_same _ (none_left c s.y))
+goes c s h = and_from _ _ (and_from _ _ (ap not (not_zero c h)) (zero_same _ (none_left c s.x))) (zero_same _ (none_left c s.y))
 
 pub stepped_back : (c : ℕ) (s : Point) → 0 < c → step (multiple c s) c ≡ s
 stepped_back c s h =

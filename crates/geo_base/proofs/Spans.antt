@@ -1,5 +1,6 @@
 -- A motion takes the numbers of a range to those of the range between the images of its ends.
 use Rattle.std.proofs.Common.{◌≡◌, ℤ, pos, ◌+ℤ◌, ◌-ℤ◌, ◌<ℤ◌, ◌≤ℤ◌, ap, ◌∙◌, sym, refl, arith, Bool, true, false, ◌&&◌, int_lt, int_le}
+use Rattle.base_laws.proofs.Tests.{lt_to, le_to}
 use Rattle.std.proofs.lemmas.Int.{ints, by_lt_z}
 use Rattle.std.specs.Int.{int_min, int_max}
 use Rattle.geo_base.specs.declared.shapes.Square.{Square}
@@ -10,15 +11,8 @@ use Rattle.geo_base.specs.declared.motion.Motion.{Motion}
 use Rattle.geo_base.specs.Motions.{moved_square}
 use Rattle.geo_base.specs.Rects.{is_between, has, IsRect, moved_rect}
 
--- tests of two numbers
-pub lt_true : (a b : ℤ) → a <ℤ b → int_lt a b ≡ true
-lt_true a b h = grind (arith, ints)
-
 pub lt_false : (a b : ℤ) → b ≤ℤ a → int_lt a b ≡ false
 lt_false a b h = grind (arith, ints)
-
-pub le_true : (a b : ℤ) → a ≤ℤ b → int_le a b ≡ true
-le_true a b h = grind (arith, ints)
 
 pub le_false : (a b : ℤ) → b <ℤ a → int_le a b ≡ false
 le_false a b h = grind (arith, ints)
@@ -50,13 +44,13 @@ faced a b x p q t d h e f g =
 
     le_is : (b x q t d : ℤ) → q ≡ (pos 0 -ℤ b) +ℤ d → t ≡ (pos 0 -ℤ x -ℤ pos 1) +ℤ d → int_le q t ≡ int_lt x b
     le_is b x q t d e f = by_lt_z x b
-        (λ lt. le_true q t (omega (arith, ints)) ∙ sym (lt_true x b lt))
+        (λ lt. le_to q t (omega (arith, ints)) ∙ sym (lt_to x b lt))
         (λ le. le_false q t (omega (arith, ints)) ∙ sym (lt_false x b le))
 
     lt_is : (a x p t d : ℤ) → p ≡ (pos 0 -ℤ a) +ℤ d → t ≡ (pos 0 -ℤ x -ℤ pos 1) +ℤ d → int_lt t p ≡ int_le a x
     lt_is a x p t d e f = by_lt_z x a
         (λ lt. lt_false t p (omega (arith, ints)) ∙ sym (le_false a x lt))
-        (λ le. lt_true t p (omega (arith, ints)) ∙ sym (le_true a x le))
+        (λ le. lt_to t p (omega (arith, ints)) ∙ sym (le_to a x le))
 
 abbrev turned_twice : ℤ → ℤ
 turned_twice a = pos 0 -ℤ (pos 0 -ℤ a)

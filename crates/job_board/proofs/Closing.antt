@@ -1,5 +1,6 @@
 -- What the table holds once every job is finished.
 use Rattle.std.proofs.Common.{◌≡◌, ◌≢◌, ℕ, zero, suc, ◌+◌, ◌<◌, ◌≤◌, true, not, ◌==◌, List, [], ◌∷◌, ◌++◌, length, slice_index, slice_get, IsSomeAnd, Option, Some, None, inl, inr, length-append, refl, sym, ap, ◌∙◌, subst, arith}
+use Rattle.std.proofs.lemmas.Bool.{eq-eqb}
 use mathlib.Core.Option.{some, some-injective}
 use mathlib.Core.Logic.{dite}
 use Rattle.std.proofs.Math.Decide.{ℕ_discrete}
@@ -14,14 +15,14 @@ use Rattle.job_board.specs.Pieces.{AreOwn}
 use Rattle.job_board.specs.Slots.{first, own_slot, own_spot, SpotOk, Filled}
 use Rattle.job_board.specs.Rule.{Holds, IsOnce, graph_of, dependents_of}
 use Rattle.job_board.proofs.Slots.{block}
-use Rattle.job_board.proofs.SlotSteps.{claimed_at, finished_at, own_filled}
+use Rattle.job_board.proofs.SlotSteps.{claimed_at, own_filled}
 
 -- the own slot of each job holds a right note
 pub closed_right : {T K : Type 0} (defined : K → ℕ → T → Type 0) (p : Plan T K) (words : List ℕ) (xs : List (Option (CellNote T))) (id : ℕ) (v : View T K) → Final (Seen (Holds None (IsRight defined p) p) id v) words xs → v.full ≡ true → (k : ℕ) → k < length (graph_of p)
     → (y : CellNote T) × (get_elem? xs (own_slot (graph_of p) k) ≡ some (Some y)) × IsRight defined p k (Some y)
 closed_right {T} defined p words xs id v f full k l = let s = f.0 in let r = f.1.0 in let st = r.standing in let ok = r.keeps.shows.seats id v f.1.1 in
     let done : st.stage k ≡ length (inputs_of (dependents_of p) k) + 2 = ok.full full k l in
-    let spot : own_spot (not (st.stage k == 0)) (st.stage k == length (inputs_of (dependents_of p) k) + 2) ≡ Filled = own_filled (not (st.stage k == 0)) (st.stage k == length (inputs_of (dependents_of p) k) + 2) (claimed_at (st.stage k) (λ z. absurd (omega arith))) (finished_at (st.stage k) (length (inputs_of (dependents_of p) k) + 2) done) in
+    let spot : own_spot (not (st.stage k == 0)) (st.stage k == length (inputs_of (dependents_of p) k) + 2) ≡ Filled = own_filled (not (st.stage k == 0)) (st.stage k == length (inputs_of (dependents_of p) k) + 2) (claimed_at (st.stage k) (λ z. absurd (omega arith))) (eq-eqb (st.stage k) (length (inputs_of (dependents_of p) k) + 2) done) in
     let h = subst (λ z. SpotOk None (IsRight defined p) z k (get_elem? s.homes (own_slot (graph_of p) k))) spot (r.slots.own k l) in
     there h.0 (f.4 (own_slot (graph_of p) k) h.0 h.1) h.2
   where

@@ -1,6 +1,5 @@
 -- How many of the numbers below n.
-use Rattle.std.proofs.Common.{◌==◌, ◌≡◌, ◌≢◌, ℕ, zero, suc, ◌+◌, ◌<◌, ◌≤◌, Bool, true, false, refl, sym, ap, ◌∙◌, arith}
-use Rattle.std.proofs.lemmas.Bool.Decides.{nat_tests}
+use Rattle.std.proofs.Common.{◌≡◌, ◌≢◌, ℕ, zero, suc, ◌+◌, ◌<◌, ◌≤◌, Bool, true, false, refl, sym, ap, ◌∙◌, arith}
 use Rattle.std.proofs.Math.Decide.{ℕ_discrete}
 use mathlib.Core.Logic.{dite}
 use Rattle.job_board.specs.Rule.{how_many, one_if}
@@ -35,6 +34,3 @@ one_more f g j (suc n) l a b e = dite (ℕ_discrete j n)
 pub how_many_all : (f : ℕ → Bool) (n : ℕ) → ((j : ℕ) → j < n → f j ≡ true) → how_many f n ≡ n
 how_many_all f zero e = refl
 how_many_all f (suc n) e = let a = how_many_all f n (λ j l. e j (omega arith)) in let b = ap one_if (e n (omega arith)) in omega arith
-
-pub is_same : (a b : ℕ) → a ≡ b → (a == b) ≡ true
-is_same a b e = grind (arith, nat_tests)

@@ -1,5 +1,7 @@
 -- Cutting a seat in two, and taking one in, keep the rule.
 use Rattle.std.proofs.Common.{◌≡◌, ◌≢◌, ◌⊎◌, ℕ, zero, suc, Bool, true, false, ◌||◌, ◌==◌, if◌then◌else◌, List, [], ◌∷◌, ◌++◌, length, set, Some, refl, sym, ap, ◌∙◌, subst, arith, inl, inr, ⊎_elim, length-set, length-append}
+use Rattle.std.proofs.lemmas.Bool.{ne_eqb, eqb-true}
+use Rattle.base_laws.proofs.Tests.{or_true}
 use Rattle.std.proofs.lemmas.Bool.Decides.{nat_tests}
 use Rattle.std.proofs.Math.Decide.{ℕ_discrete}
 use mathlib.Core.Logic.{dite}
@@ -17,18 +19,8 @@ use Rattle.job_board.specs.Views.{spent_view, cut_view, split_off, joined_view}
 use Rattle.job_board.proofs.Parts.{unspent, at_new, parts_split, parts_join}
 use Rattle.job_board.proofs.Keeping.{views_change, is_there, below, stop_stays}
 
-or_true : (b : Bool) → (b || true) ≡ true
-or_true true = refl
-or_true false = refl
-
-not_same : (a b : ℕ) → a ≢ b → (a == b) ≡ false
-not_same a b n = grind (arith, nat_tests)
-
 same_self : (a : ℕ) → (a == a) ≡ true
 same_self a = grind (arith, nat_tests)
-
-is_same : (a b : ℕ) → (a == b) ≡ true → a ≡ b
-is_same a b e = grind (arith, nat_tests)
 
 -- what the first seat took in is now its own
 unfoldable pub passed : (ℕ → ℕ) → ℕ → ℕ → ℕ → ℕ
@@ -40,7 +32,7 @@ passed_here holder other id j e = let t : (holder j == suc other) ≡ true = gri
 
 passed_else : (holder : ℕ → ℕ) (other id j : ℕ) → holder j ≢ suc other → passed holder other id j ≡ holder j
 unfolding passed
-passed_else holder other id j n = ap (λ b. if b then suc id else holder j) (not_same (holder j) (suc other) n)
+passed_else holder other id j n = ap (λ b. if b then suc id else holder j) (ne_eqb (holder j) (suc other) n)
 
 joined_by : (a : ℕ) (o i : ℕ) → o ≢ i → ((a == suc o) || (a == suc i)) ≡ ((if a == suc o then suc i else a) == suc i)
 joined_by a o i n = dite (ℕ_discrete a (suc o))
@@ -64,7 +56,7 @@ module _ {T K S : Type 0} (empty : S) (right : ℕ → S → Type 0) (p : Plan T
   splits id v planned s r at = let h = r.keeps.shows in let x = r.standing in let ok = h.seats id v at in let vs : List (View T K) = set s.views id (cut_view v) in
       let mine : SeatOk p x id (cut_view v) = record { plan = ok.plan; claims = ok.claims; once = ok.once; made = ok.made; work = ok.work; ready = ok.ready; full = ok.full; stopped = ok.stopped; seen_stop = ok.seen_stop; number = ok.number; done = ok.done } in
       let wide' = length-set s.views id (cut_view v) in
-      let new : SeatOk p x (length vs) (split_off v) = record { plan = ok.plan; claims = λ k. let a = h.holders k in sym (not_same (x.holder k) (suc (length vs)) (λ z. absurd (omega arith))); once = tt; made = tt; work = tt; ready = tt; full = λ f. absurd (cc); stopped = λ f. absurd (cc); seen_stop = λ f. absurd (cc); number = tt; done = λ k e. let a = h.holders k in absurd (omega arith) } in
+      let new : SeatOk p x (length vs) (split_off v) = record { plan = ok.plan; claims = λ k. let a = h.holders k in sym (ne_eqb (x.holder k) (suc (length vs)) (λ z. absurd (omega arith))); once = tt; made = tt; work = tt; ready = tt; full = λ f. absurd (cc); stopped = λ f. absurd (cc); seen_stop = λ f. absurd (cc); number = tt; done = λ k e. let a = h.holders k in absurd (omega arith) } in
       record {
         standing = x;
         slots = r.slots;
@@ -120,7 +112,7 @@ module _ {T K S : Type 0} (empty : S) (right : ℕ → S → Type 0) (p : Plan T
       let mine : SeatOk p y id u = record {
         plan = ok.plan;
         claims = λ j. has_more j w.claims v.claims ∙ ap (λ b. b || has_job j v.claims) (ow.claims j) ∙ ap (λ b. (x.holder j == suc other) || b) (ok.claims j) ∙ passes j;
-        once = once_more w.claims v.claims ow.once ok.once (λ j e. let t : x.holder j ≡ suc other = is_same (x.holder j) (suc other) (sym (ow.claims j) ∙ e) in ok.claims j ∙ not_same (x.holder j) (suc id) (λ z. apart (omega arith)));
+        once = once_more w.claims v.claims ow.once ok.once (λ j e. let t : x.holder j ≡ suc other = eqb-true (x.holder j) (suc other) (sym (ow.claims j) ∙ e) in ok.claims j ∙ ne_eqb (x.holder j) (suc id) (λ z. apart (omega arith)));
         made = made_more x.machine w.claims v.claims ow.made ok.made;
         work = work_kept x y id v.work (λ j e. passed_else x.holder other id j (λ z. apart (omega arith)) ∙ e) (λ _. refl) ok.work;
         ready = ok.ready;
@@ -158,22 +150,22 @@ module _ {T K S : Type 0} (empty : S) (right : ℕ → S → Type 0) (p : Plan T
 
       none_left : (j : ℕ) → (passed r.standing.holder other id j == suc other) ≡ false
       none_left j = dite (ℕ_discrete (r.standing.holder j) (suc other))
-          (λ e. not_same (passed r.standing.holder other id j) (suc other) (λ z. let t = passed_here r.standing.holder other id j e in apart (omega arith)))
-          (λ n. not_same (passed r.standing.holder other id j) (suc other) (λ z. n (sym (passed_else r.standing.holder other id j n) ∙ z)))
+          (λ e. ne_eqb (passed r.standing.holder other id j) (suc other) (λ z. let t = passed_here r.standing.holder other id j e in apart (omega arith)))
+          (λ n. ne_eqb (passed r.standing.holder other id j) (suc other) (λ z. n (sym (passed_else r.standing.holder other id j n) ∙ z)))
 
       holds_none : (j : ℕ) → passed r.standing.holder other id j ≢ suc other
       holds_none j z = dite (ℕ_discrete (r.standing.holder j) (suc other)) (λ e. let t = passed_here r.standing.holder other id j e in apart (omega arith)) (λ n. n (sym (passed_else r.standing.holder other id j n) ∙ z))
 
       held_still : (j : ℕ) → (passed r.standing.holder other id j == 0) ≡ (r.standing.holder j == 0)
       held_still j = dite (ℕ_discrete (r.standing.holder j) (suc other))
-          (λ e. not_same (passed r.standing.holder other id j) 0 (λ z. let t = passed_here r.standing.holder other id j e in absurd (omega arith)) ∙ sym (not_same (r.standing.holder j) 0 (λ z. absurd (omega arith))))
+          (λ e. ne_eqb (passed r.standing.holder other id j) 0 (λ z. let t = passed_here r.standing.holder other id j e in absurd (omega arith)) ∙ sym (ne_eqb (r.standing.holder j) 0 (λ z. absurd (omega arith))))
           (λ n. ap (λ z. z == 0) (passed_else r.standing.holder other id j n))
 
       others_kept : (o : ℕ) (z : View T K) → o ≢ id → o ≢ other → SeatOk p r.standing o z → SeatOk p record { machine = r.standing.machine; stage = r.standing.stage; holder = passed r.standing.holder other id; stopped = r.standing.stopped } o z
       others_kept o z ni nx k = record {
         plan = k.plan;
         claims = λ j. k.claims j ∙ dite (ℕ_discrete (r.standing.holder j) (suc other))
-            (λ e. not_same (r.standing.holder j) (suc o) (λ q. nx (omega arith)) ∙ sym (not_same (passed r.standing.holder other id j) (suc o) (λ q. let t = passed_here r.standing.holder other id j e in ni (omega arith))))
+            (λ e. ne_eqb (r.standing.holder j) (suc o) (λ q. nx (omega arith)) ∙ sym (ne_eqb (passed r.standing.holder other id j) (suc o) (λ q. let t = passed_here r.standing.holder other id j e in ni (omega arith))))
             (λ n. ap (λ q. q == suc o) (sym (passed_else r.standing.holder other id j n)));
         once = k.once;
         made = k.made;

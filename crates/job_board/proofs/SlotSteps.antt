@@ -1,10 +1,11 @@
 -- What the slots show after a claim, after an arrival, and after the end of a job.
 use Rattle.std.proofs.Common.{◌≡◌, ◌≢◌, ◌⊎◌, ℕ, zero, suc, ◌+◌, ◌<◌, ◌≤◌, Bool, true, false, not, ◌==◌, List, [], ◌∷◌, ◌++◌, map, replicate, drop, length, set, slice_index, refl, sym, ap, ◌∙◌, subst, arith, inl, inr, ⊎_elim, length-set}
+use Rattle.std.proofs.lemmas.Bool.{ne_eqb, eq-eqb}
 use Rattle.std.proofs.lemmas.Bool.Decides.{nat_tests}
 use Rattle.std.proofs.lemmas.List.{map-append, length-replicate}
 use Rattle.std.proofs.Math.Decide.{ℕ_discrete, dec_lt}
 use mathlib.Core.Logic.{dite}
-use mathlib.Core.Option.{some, none, some-injective}
+use mathlib.Core.Option.{some}
 use mathlib.Core.Option as maybe
 use lib.ListN.{get_elem?}
 use Rattle.atomic_table.specs.Table.{homes_after, carried_after, Valid}
@@ -24,12 +25,6 @@ claimed_at st n = grind (arith, nat_tests)
 
 pub free_at : (st : ℕ) → st ≡ 0 → not (st == 0) ≡ false
 free_at st e = grind (arith, nat_tests)
-
-pub unfinished_at : (st l : ℕ) → st ≢ l → (st == l) ≡ false
-unfinished_at st l n = grind (arith, nat_tests)
-
-pub finished_at : (st l : ℕ) → st ≡ l → (st == l) ≡ true
-finished_at st l e = grind (arith, nat_tests)
 
 out_claimed : (a b c f : Bool) → c ≡ true → f ≡ false → edge_spot a b c f ≡ Out
 out_claimed a b true false e g = refl
@@ -208,7 +203,7 @@ module _ {S : Type 0} (empty : S) (right : ℕ → S → Type 0) (g d : List (Li
             dite (ℕ_discrete k j)
             (λ s. let sq : length (inputs_of g k) ≡ length (inputs_of g j) = ap (λ z. length (inputs_of g z)) s in let se : e ≡ first g j + q = ap (λ z. first g z + q) s in
             shows_now (edge_spot (not (put stage j 1 i == 0)) (not (has i (awaits k))) (not (put stage j 1 k == 0)) (put stage j 1 k == length (inputs_of d k) + 2)) Out i (get_elem? homes' e)
-            (out_claimed (not (put stage j 1 i == 0)) (not (has i (awaits k))) (not (put stage j 1 k == 0)) (put stage j 1 k == length (inputs_of d k) + 2) (ap (λ z. not (z == 0)) (put_here stage j 1 k s)) (ap (λ z. z == length (inputs_of d k) + 2) (put_here stage j 1 k s) ∙ unfinished_at 1 (length (inputs_of d k) + 2) (λ z. absurd (omega arith))))
+            (out_claimed (not (put stage j 1 i == 0)) (not (has i (awaits k))) (not (put stage j 1 k == 0)) (put stage j 1 k == length (inputs_of d k) + 2) (ap (λ z. not (z == 0)) (put_here stage j 1 k s)) (ap (λ z. z == length (inputs_of d k) + 2) (put_here stage j 1 k s) ∙ ne_eqb 1 (length (inputs_of d k) + 2) (λ z. absurd (omega arith))))
             (left_here homes c xs e (omega arith) (ap (λ z. has z (names xs)) se ∙ taken_input j ys jl many q (omega arith))))
             (λ n. dite (ℕ_discrete i j)
             (λ s. let h : has j (inputs_of g k) ≡ true = ap (λ z. has z (inputs_of g k)) (sym s) ∙ has_index (inputs_of g k) q ql in let t = fits.all j k h in let op : has j (awaits k) ≡ true = ap (λ z. has j (awaits z)) (sym t.2) ∙ open_edges t.0 t.1 in
@@ -223,7 +218,7 @@ module _ {S : Type 0} (empty : S) (right : ℕ → S → Type 0) (g d : List (Li
             (ok.edges k q kl ql)));
         own = λ k kl. let e = own_slot g k in let homes' = homes_after homes c (take_them xs) in let ins = inside k (length (inputs_of g k)) kl (omega arith) in dite (ℕ_discrete k j)
             (λ s. shows_now (own_spot (not (put stage j 1 k == 0)) (put stage j 1 k == length (inputs_of d k) + 2)) Out k (get_elem? homes' e)
-            (own_out (not (put stage j 1 k == 0)) (put stage j 1 k == length (inputs_of d k) + 2) (ap (λ z. not (z == 0)) (put_here stage j 1 k s)) (ap (λ z. z == length (inputs_of d k) + 2) (put_here stage j 1 k s) ∙ unfinished_at 1 (length (inputs_of d k) + 2) (λ z. absurd (omega arith))))
+            (own_out (not (put stage j 1 k == 0)) (put stage j 1 k == length (inputs_of d k) + 2) (ap (λ z. not (z == 0)) (put_here stage j 1 k s)) (ap (λ z. z == length (inputs_of d k) + 2) (put_here stage j 1 k s) ∙ ne_eqb 1 (length (inputs_of d k) + 2) (λ z. absurd (omega arith))))
             (left_here homes c xs e (omega arith) (ap (λ z. has (own_slot g z) (names xs)) s ∙ taken_own j ys jl many)))
             (λ n. stays_there (own_spot (not (stage k == 0)) (stage k == length (inputs_of d k) + 2)) (own_spot (not (put stage j 1 k == 0)) (put stage j 1 k == length (inputs_of d k) + 2)) k (get_elem? homes e) (get_elem? homes' e)
             (λ z. own_spot (not (put_else stage j 1 k n z == 0)) (put_else stage j 1 k n z == length (inputs_of d k) + 2))
@@ -238,7 +233,7 @@ module _ {S : Type 0} (empty : S) (right : ℕ → S → Type 0) (g d : List (Li
   told_slots awaits stage homes ok j k st y jl kl n0 n1 m0 m1 free edge shut good = let p = placed j (inputs_of g k) edge in let pl = p.0 in let e0 = edge_slot g j k in let ins = inside k (place j (inputs_of g k)) kl (omega arith) in let deep = ok.deep in
       let claim : (i : ℕ) → not (put stage j st i == 0) ≡ not (stage i == 0) = λ i. at_put (λ a z. not (z == 0) ≡ not (stage a == 0)) stage j st i (λ e. claimed_at st m0 ∙ sym (ap (λ z. not (stage z == 0)) e ∙ claimed_at (stage j) n0)) (λ _. refl) in
       let fin : (i : ℕ) → (put stage j st i == length (inputs_of d i) + 2) ≡ (stage i == length (inputs_of d i) + 2) = λ i. at_put (λ a z. (z == length (inputs_of d a) + 2) ≡ (stage a == length (inputs_of d a) + 2)) stage j st i
-      (λ e. ap (λ z. st == length (inputs_of d z) + 2) e ∙ unfinished_at st (length (inputs_of d j) + 2) m1 ∙ sym (ap (λ z. stage z == length (inputs_of d z) + 2) e ∙ unfinished_at (stage j) (length (inputs_of d j) + 2) n1)) (λ _. refl) in
+      (λ e. ap (λ z. st == length (inputs_of d z) + 2) e ∙ ne_eqb st (length (inputs_of d j) + 2) m1 ∙ sym (ap (λ z. stage z == length (inputs_of d z) + 2) e ∙ ne_eqb (stage j) (length (inputs_of d j) + 2) n1)) (λ _. refl) in
       record {
         deep = length-set homes e0 (some y) ∙ ok.deep;
         edges = λ a q al ql. let i = slice_index (inputs_of g a) q in let e = first g a + q in let homes' = set homes e0 (some y) in
@@ -286,7 +281,7 @@ module _ {S : Type 0} (empty : S) (right : ℕ → S → Type 0) (g d : List (Li
             (λ s. let u : length (inputs_of g k) ≡ length (inputs_of g j) = ap (λ z. length (inputs_of g z)) s in let se : first g k + q ≡ first g j + q = ap (λ z. first g z + q) s in
             shows_now now Vacant i (get_elem? homes' e)
             (vacant_finished (not (put stage j z0 i == 0)) (not (has i (awaits k))) (not (put stage j z0 k == 0)) (put stage j z0 k == length (inputs_of d k) + 2)
-            (claim k ∙ ap (λ z. not (stage z == 0)) s ∙ claimed_at (stage j) n0) (finished_at (put stage j z0 k) (length (inputs_of d k) + 2) (put_here stage j z0 k s ∙ ap (λ z. length (inputs_of d z) + 2) (sym s))))
+            (claim k ∙ ap (λ z. not (stage z == 0)) s ∙ claimed_at (stage j) n0) (eq-eqb (put stage j z0 k) (length (inputs_of d k) + 2) (put_here stage j z0 k s ∙ ap (λ z. length (inputs_of d z) + 2) (sym s))))
             (back_here homes xs c e empty (omega arith) parts (inr (subst (λ z. Among z empty (numbered (first g j) ys)) (sym se) (empties (first g j) (length (inputs_of g j)) q (omega arith))))))
             (λ n. stays_there (edge_spot (not (stage i == 0)) (not (has i (awaits k))) (not (stage k == 0)) (stage k == length (inputs_of d k) + 2)) now i (get_elem? homes e) (get_elem? homes' e)
             (same_spot (not (stage i == 0)) (not (has i (awaits k))) (not (stage k == 0)) (stage k == length (inputs_of d k) + 2) (not (put stage j z0 i == 0)) (not (has i (awaits k))) (not (put stage j z0 k == 0)) (put stage j z0 k == length (inputs_of d k) + 2)
@@ -296,7 +291,7 @@ module _ {S : Type 0} (empty : S) (right : ℕ → S → Type 0) (g d : List (Li
         own = λ k kl. let e = own_slot g k in let ins = inside k (length (inputs_of g k)) kl (omega arith) in let now = own_spot (not (put stage j z0 k == 0)) (put stage j z0 k == length (inputs_of d k) + 2) in
             dite (ℕ_discrete k j)
             (λ s. shows_now now Filled k (get_elem? homes' e)
-            (own_filled (not (put stage j z0 k == 0)) (put stage j z0 k == length (inputs_of d k) + 2) (claim k ∙ ap (λ z. not (stage z == 0)) s ∙ claimed_at (stage j) n0) (finished_at (put stage j z0 k) (length (inputs_of d k) + 2) (put_here stage j z0 k s ∙ ap (λ z. length (inputs_of d z) + 2) (sym s))))
+            (own_filled (not (put stage j z0 k == 0)) (put stage j z0 k == length (inputs_of d k) + 2) (claim k ∙ ap (λ z. not (stage z == 0)) s ∙ claimed_at (stage j) n0) (eq-eqb (put stage j z0 k) (length (inputs_of d k) + 2) (put_here stage j z0 k s ∙ ap (λ z. length (inputs_of d z) + 2) (sym s))))
             (y, back_here homes xs c e y (omega arith) parts (inl (ap (own_slot g) s, refl)), subst (λ z. right z y) (sym s) good))
             (λ n. stays_there (own_spot (not (stage k == 0)) (stage k == length (inputs_of d k) + 2)) now k (get_elem? homes e) (get_elem? homes' e)
             (λ z. own_spot (claim k z) (put_else stage j z0 k n z == length (inputs_of d k) + 2))

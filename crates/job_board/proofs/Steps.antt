@@ -1,5 +1,6 @@
 -- Each kind of step keeps the rule.
-use Rattle.std.proofs.Common.{◌≡◌, ◌≢◌, ◌⊎◌, ℕ, zero, suc, ◌+◌, ◌-◌, ◌*◌, ◌/◌, ◌%◌, ◌^◌, ◌<◌, Bool, true, false, not, ◌||◌, ◌==◌, ltb, bit_or, max, List, [], ◌∷◌, ◌++◌, replicate, drop, length, get_or, set, slice_index, Option, Some, None, is_some, refl, sym, ap, ◌∙◌, subst, arith, inl, inr, ⊎_elim, length-set, get_or-set_other, get_or-set_same}
+use Rattle.std.proofs.Common.{◌≡◌, ◌≢◌, ◌⊎◌, ℕ, zero, suc, ◌+◌, ◌-◌, ◌*◌, ◌/◌, ◌%◌, ◌^◌, ◌<◌, Bool, true, false, not, ◌==◌, ltb, bit_or, max, List, [], ◌∷◌, ◌++◌, replicate, drop, length, get_or, set, slice_index, Option, Some, None, is_some, refl, sym, ap, ◌∙◌, subst, arith, inl, inr, ⊎_elim, length-set, get_or-set_other, get_or-set_same}
+use Rattle.std.proofs.lemmas.Bool.{or_cases, eq-eqb, ne_eqb, eqb-true}
 use Rattle.std.proofs.lemmas.Bool.Decides.{nat_tests}
 use Rattle.std.proofs.Math.Decide.{ℕ_discrete, dec_lt}
 use mathlib.Core.Logic.{dite}
@@ -31,7 +32,7 @@ use Rattle.job_board.specs.Slots.{first, edge_slot, SlotsOk, taken, AreRight, he
 use Rattle.job_board.proofs.Slots.{take_them, carried_them, give_them, gives_valid}
 use Rattle.job_board.proofs.SlotSteps.{claimed_at, filled, claimed_slots, told_slots, held_length, given_drop, ended_slots, opened_slots}
 use Rattle.job_board.specs.Plays.{noting, readied, claiming, telling, resting, counting, stopping, Looks, Claims, Took, right_in, Tells, Ends, Counts, Stops}
-use Rattle.job_board.proofs.Counting.{one_if_small, how_many_small, all_of_them, how_many_all, is_same, same_many, one_more}
+use Rattle.job_board.proofs.Counting.{one_if_small, how_many_small, all_of_them, how_many_all, same_many, one_more}
 use Rattle.job_board.proofs.Keeping.{job_stays, made_stays, ready_stays, moved, views_change, is_there, unmoved, moves}
 
 -- one more event
@@ -92,16 +93,6 @@ shut_both q z a l m = let x : ltb (suc q) (a + 2) ≡ false = grind (arith, nat_
 
 above_one : (q : ℕ) → ltb 1 (suc (suc q)) ≡ true
 above_one q = grind (arith, nat_tests)
-
-not_same : (a b : ℕ) → a ≢ b → (a == b) ≡ false
-not_same a b n = grind (arith, nat_tests)
-
-eqb_is : (a b : ℕ) → (a == b) ≡ true → a ≡ b
-eqb_is a b e = grind (arith, nat_tests)
-
-all_or : (a b : Bool) → (a || b) ≡ true → (a ≡ true) ⊎ (b ≡ true)
-all_or true b e = inl refl
-all_or false b e = inr e
 
 none_told : (q : ℕ) → ltb 0 (q + 2) ≡ true
 none_told q = grind (arith, nat_tests)
@@ -335,7 +326,7 @@ module _ {T K S : Type 0} (empty : S) (right : Plan T K → ℕ → S → Type 0
       let made = publishes m j r.keeps.reached some' in let m1 : Machine = record { awaits = m.awaits; claimed = m.claimed; published = made.0 } in
       let wide = h.wide in let y = (x + 2) % 18446744073709551616 in let small = r.keeps.fits.inputs.count in
       let old = how_many (λ a. st.stage a == last_stage d a) (length g) in let new = how_many (λ a. put st.stage j z a == last_stage d a) (length g) in
-      let up : new ≡ old + 1 = one_more (λ a. st.stage a == last_stage d a) (λ a. put st.stage j z a == last_stage d a) j (length g) l (not_same (st.stage j) (last_stage d j) (λ e. absurd (omega arith)))
+      let up : new ≡ old + 1 = one_more (λ a. st.stage a == last_stage d a) (λ a. put st.stage j z a == last_stage d a) j (length g) l (ne_eqb (st.stage j) (last_stage d j) (λ e. absurd (omega arith)))
       (ap (λ a. a == last_stage d j) (put_here st.stage j z j refl) ∙ same_self z) (λ a ne. ap (λ b. b == last_stage d a) (put_else st.stage j z a ne)) in
       let xs = held_by empty g j note in let act = give_them xs in let over = ended_slots empty (right p) g d r.keeps.fits m.awaits st.stage s.homes r.slots j note c l (λ e. absurd (omega arith)) good in
       let few = how_many_small (λ a. st.stage a == last_stage d a) (length g) in let bit = one_if_small st.stopped in let was = h.done in (
@@ -390,11 +381,11 @@ module _ {T K S : Type 0} (empty : S) (right : Plan T K → ℕ → S → Type 0
           made = ok.made;
           work = ok.work;
           ready = ok.ready;
-          full = λ f j l. let a = all_or me.0.full (x / 2 == length (graph_in me.0.plan)) f in ⊎_elim (λ t. ok.full t j l)
-              (λ t. let e : x / 2 ≡ length g = eqb_is (x / 2) (length (graph_in me.0.plan)) t ∙ ap (λ (y : Option (Plan T K)). length (graph_in y)) planned in let was = h.done in let bit = one_if_small st.stopped in
-              eqb_is (st.stage j) (last_stage d j) (all_of_them (λ b. st.stage b == last_stage d b) (length g) (omega arith) j l)) a;
+          full = λ f j l. let a = or_cases me.0.full (x / 2 == length (graph_in me.0.plan)) f in ⊎_elim (λ t. ok.full t j l)
+              (λ t. let e : x / 2 ≡ length g = eqb-true (x / 2) (length (graph_in me.0.plan)) t ∙ ap (λ (y : Option (Plan T K)). length (graph_in y)) planned in let was = h.done in let bit = one_if_small st.stopped in
+              eqb-true (st.stage j) (last_stage d j) (all_of_them (λ b. st.stage b == last_stage d b) (length g) (omega arith) j l)) a;
           stopped = ok.stopped;
-          seen_stop = λ f. ⊎_elim (λ t. ok.seen_stop t) (λ t. stop_is (eqb_is (x % 2) 1 t)) (all_or me.0.seen_stop (x % 2 == 1) f);
+          seen_stop = λ f. ⊎_elim (λ t. ok.seen_stop t) (λ t. stop_is (eqb-true (x % 2) 1 t)) (or_cases me.0.seen_stop (x % 2 == 1) f);
           number = ok.number;
           done = ok.done;
         } ((λ z. z), refl, planned)) r.slots,
@@ -402,7 +393,7 @@ module _ {T K S : Type 0} (empty : S) (right : Plan T K → ℕ → S → Type 0
           refl,
           (let few = how_many_small (λ b. st.stage b == last_stage d b) (length g) in let was = h.done in let bit = one_if_small st.stopped in
               let n : length (graph_in me.0.plan) ≡ length g = ap (λ (y : Option (Plan T K)). length (graph_in y)) planned in omega arith),
-          (λ f. let all = how_many_all (λ b. st.stage b == last_stage d b) (length g) (λ b l. is_same (st.stage b) (last_stage d b) (ok.full f b l)) in let was = h.done in let bit = one_if_small st.stopped in
+          (λ f. let all = how_many_all (λ b. st.stage b == last_stage d b) (length g) (λ b l. eq-eqb (st.stage b) (last_stage d b) (ok.full f b l)) in let was = h.done in let bit = one_if_small st.stopped in
               let n : length (graph_in me.0.plan) ≡ length g = ap (λ (y : Option (Plan T K)). length (graph_in y)) planned in omega arith),
           (λ f. let was = h.done in let bit : one_if st.stopped ≡ 1 = ap one_if (ok.stopped f) in omega arith),
           (λ f. let was = h.done in let bit : one_if st.stopped ≡ 1 = ap one_if (ok.seen_stop f) in omega arith),
@@ -456,7 +447,7 @@ opens {T} {K} {S} empty right p words fits wide first' each = record {
     reached = ([], refl);
     shows = record {
       wide = wide;
-      done = first' ∙ (let e = none_of_them (λ j. 0 == last_stage (dependents_of p) j) (length (graph_of p)) (λ j. not_same 0 (last_stage (dependents_of p) j) (λ z. absurd (omega arith))) in omega arith);
+      done = first' ∙ (let e = none_of_them (λ j. 0 == last_stage (dependents_of p) j) (length (graph_of p)) (λ j. ne_eqb 0 (last_stage (dependents_of p) j) (λ z. absurd (omega arith))) in omega arith);
       jobs = λ j l. record {
         count = (each j l).1;
         claim = (each j l).0;
@@ -469,7 +460,7 @@ opens {T} {K} {S} empty right p words fits wide first' each = record {
       unheld = λ _ _. refl;
       holders = λ _. omega arith;
       seats = λ id v at. alone (λ i u. SeatOk p record { machine = start (graph_of p); stage = λ _. 0; holder = λ _. 0; stopped = false } i u) (newcomer p)
-          record { plan = refl; claims = λ j. sym (not_same 0 1 (λ e. absurd (omega arith))); once = tt; made = tt; work = tt; ready = tt; full = λ f. absurd (cc); stopped = λ f. absurd (cc); seen_stop = λ f. absurd (cc); number = tt; done = λ j e. absurd (omega arith) } id v at;
+          record { plan = refl; claims = λ j. sym (ne_eqb 0 1 (λ e. absurd (omega arith))); once = tt; made = tt; work = tt; ready = tt; full = λ f. absurd (cc); stopped = λ f. absurd (cc); seen_stop = λ f. absurd (cc); number = tt; done = λ j e. absurd (omega arith) } id v at;
       stop = λ z. absurd (cc);
     };
     parts = parts_open p;

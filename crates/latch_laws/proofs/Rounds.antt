@@ -1,5 +1,6 @@
 -- The rounds of the two latches, without a guess and with one, and the answer.
 use Rattle.std.proofs.Common.{◌≡◌, inl, inr, ℕ, zero, suc, ◌==◌, ◌&&◌, ◌||◌, ◌<◌, ◌≤◌, ltb, not, Bool, true, List, [], ◌∷◌, ◌++◌, length, slice_get, slice_index, refl, sym, subst, ◌∙◌, ap, ap₂, arith}
+use Rattle.std.proofs.lemmas.Bool.{or_cases}
 use Rattle.plain_netlist.proofs.Members.{listed}
 use Rattle.std.specs.List.{list_all, count_by}
 use Rattle.std.proofs.lemmas.Option.{none-some}
@@ -8,7 +9,7 @@ use Rattle.plain_netlist.specs.Netlist.{DeviceRow}
 use Rattle.round_laws.specs.Web.{End, Web, IsWeb, IsNode, on_left, IsEven, IsSolved, Guess, under, first_of, mate}
 use Rattle.round_laws.specs.Nodes.{Node, Side, Layout, Schematic, Kind, Net, Device, Call}
 use Rattle.round_laws.specs.Guesses.{rank, IsNoLater, IsChosen, candidates, Found, guessed, IsWholeSearch}
-use Rattle.round_laws.proofs.Agree.{either, under_web}
+use Rattle.round_laws.proofs.Agree.{under_web}
 use Rattle.match_laws.specs.Circuits.{circuit_of, device_ends, node, numbers_from, web_of, IsFitting, AreMatched, Pairing, numbers_of, pairing_of}
 use Rattle.match_laws.specs.Answer.{Match, equal_names, setting_of, IsAnswer}
 use Rattle.match_laws.proofs.Images.{web_good, nodes_has, size}
@@ -107,7 +108,7 @@ chosen = record {
   least = λ b i more.
       let n : on_left w 1 b ≡ tied_by b = left_by w 1 c1 h1 b (inl i) in
       let one_or_two = all_at (λ x. (tied_by x == 1) || (tied_by x == 2)) b w.left refl i in
-      elim (either (tied_by b == 1) (tied_by b == 2) one_or_two) [
+      elim (or_cases (tied_by b == 1) (tied_by b == 2) one_or_two) [
         | inl one ↦ let e : tied_by b ≡ 1 = (Decides-eqb _ _).0 one in absurd (omega arith)
         | inr also ↦ let e : tied_by b ≡ 2 = (Decides-eqb _ _).0 also in no_later _ _ b (two ∙ sym (n ∙ e))
       ];

@@ -1,5 +1,7 @@
 -- Sets grown by how far names reach.
 use Rattle.std.proofs.Common.{◌≡◌, ◌↔◌, inl, inr, ℕ, ◌+◌, ◌≤◌, ℤ, pos, ◌+ℤ◌, ◌-ℤ◌, Bool, true, false, not, ◌&&◌, ◌||◌, List, [], ◌∷◌, Some, refl, sym, ◌∙◌, ap, subst, arith}
+use Rattle.base_laws.proofs.Tests.{same_truth}
+use Rattle.std.proofs.lemmas.Bool.{or_cases, or_left, or_right, and_parts, and_from}
 use Rattle.std.specs.List.{All}
 use Rattle.std.proofs.lemmas.Int.{ints}
 use Rattle.std.proofs.lemmas.List.Elements.{All-nil, All-cons, All-head, All-tail}
@@ -14,26 +16,21 @@ use Rattle.flat_laws.proofs.Moves.{within_back}
 use Rattle.sized_layers.specs.Sizes.{IsSetWithin}
 use Rattle.cell_graph.specs.Grown.{grown}
 use Rattle.cell_graph.specs.Linked.{IsRectWithin}
-use Rattle.cell_graph.proofs.Bridge.{has_in, or_split, or_left, or_right}
+use Rattle.cell_graph.proofs.Bridge.{has_in}
 use Rattle.cell_graph.proofs.Growing.{grown_none, near_rect, within_rect}
 use Rattle.layer_phase.specs.Around.{around}
-
-same_bool : (a b : Bool) → (a ≡ true → b ≡ true) → (b ≡ true → a ≡ true) → a ≡ b
-same_bool true b f g = sym (f refl)
-same_bool false true f g = g refl
-same_bool false false f g = refl
 
 -- rectangles that are grown cover what lies near them, and no more
 pub near_covered : (n : ℕ) (zone : List Rect) (q s : Square) → covers zone s ≡ true → AreWithin n q s → covers (around n zone) q ≡ true
 near_covered n [] q s e near = absurd (let f : false ≡ true = e in let z : ⊥ = cc in z)
-near_covered n (r ∷ zone) q s e near = elim (or_split (has r s) (covers zone s) e) [
+near_covered n (r ∷ zone) q s e near = elim (or_cases (has r s) (covers zone s) e) [
   | inl h ↦ or_left (has (grown n r) q) (covers (around n zone) q) (within_rect n r q s h near)
   | inr h ↦ or_right (has (grown n r) q) (covers (around n zone) q) (near_covered n zone q s h near)
 ]
 
 pub covered_near : (n : ℕ) (zone : List Rect) (q : Square) → All IsRect zone → covers (around n zone) q ≡ true → (s : Square) × (covers zone s ≡ true) × AreWithin n q s
 covered_near n [] q some e = absurd (let f : false ≡ true = e in let z : ⊥ = cc in z)
-covered_near n (r ∷ zone) q some e = elim (or_split (has (grown n r) q) (covers (around n zone) q) e) [
+covered_near n (r ∷ zone) q some e = elim (or_cases (has (grown n r) q) (covers (around n zone) q) e) [
   | inl h ↦ let s = near_rect n r q (All-head IsRect r zone some) h in (s.0, or_left (has r s.0) (covers zone s.0) s.1, s.2)
   | inr h ↦ let s = covered_near n zone q (All-tail IsRect r zone some) h in (s.0, or_right (has r s.0) (covers zone s.0) s.1, s.2)
 ]
@@ -51,33 +48,26 @@ around_is n zone q some = (
 pub of_size : (n : ℕ) (set r : List Rect) → All IsRect set → ((s : Square) → (covers r s ≡ true) ↔ IsReachedBy n (λ q. covers set q ≡ true) s) → (q : Square) → covers r q ≡ covers (around n set) q
 of_size n set r some is q =
     let a = around_is n set q some in
-    same_bool (covers r q) (covers (around n set) q) (λ e. a.1 ((is q).0 e)) (λ e. (is q).1 (a.0 e))
+    same_truth (covers r q) (covers (around n set) q) (λ e. a.1 ((is q).0 e)) (λ e. (is q).1 (a.0 e))
 
 -- grown by nothing they are the set
 pub around_none : (zone : List Rect) (q : Square) → covers (around 0 zone) q ≡ covers zone q
 around_none [] q = refl
 around_none (r ∷ zone) q =
     let one = grown_none (Some r) q in
-    ap (λ b. b || covers (around 0 zone) q) (same_bool (has (grown 0 r) q) (has r q) one.0 one.1) ∙ ap (λ b. has r q || b) (around_none zone q)
-
-and_left : (a b : Bool) → (a && b) ≡ true → a ≡ true
-and_left true b e = refl
-and_left false b e = e
-
-and_true : (a b : Bool) → a ≡ true → b ≡ true → (a && b) ≡ true
-and_true a b e f = ap (λ x. x && b) e ∙ f
+    ap (λ b. b || covers (around 0 zone) q) (same_truth (has (grown 0 r) q) (has r q) one.0 one.1) ∙ ap (λ b. has r q || b) (around_none zone q)
 
 -- within a window a set counts only near it
 pub around_part : (n : ℕ) (zone there : List Rect) (w wide : Rect) (s : Square) → All IsRect zone → All IsRect there → wide ≡ grown n w → ((q : Square) → covers there q ≡ (covers zone q && has wide q)) → has w s ≡ true
     → covers (around n there) s ≡ covers (around n zone) s
-around_part n zone there w wide s some parts is made h = same_bool (covers (around n there) s) (covers (around n zone) s)
+around_part n zone there w wide s some parts is made h = same_truth (covers (around n there) s) (covers (around n zone) s)
     (λ e.
     let z = covered_near n there s parts e in
-    near_covered n zone s z.0 (and_left (covers zone z.0) (has wide z.0) (sym (made z.0) ∙ z.1)) z.2)
+    near_covered n zone s z.0 ((and_parts (covers zone z.0) (has wide z.0) (sym (made z.0) ∙ z.1)).0) z.2)
     (λ e.
     let z = covered_near n zone s some e in
     let inside : has wide z.0 ≡ true = subst (λ r. has r z.0 ≡ true) (sym is) (within_rect n w z.0 s h (within_back n s z.0 z.2)) in
-    near_covered n there s z.0 (made z.0 ∙ and_true (covers zone z.0) (has wide z.0) z.1 inside) z.2)
+    near_covered n there s z.0 (made z.0 ∙ and_from (covers zone z.0) (has wide z.0) z.1 inside) z.2)
 
 pub grown_rect : (n : ℕ) (r : Rect) → IsRect r → IsRect (grown n r)
 grown_rect n r h = let w = h.wide in let u = h.high in record { wide = omega (arith, ints); high = omega (arith, ints) }
@@ -88,7 +78,7 @@ around_rects n (r ∷ zone) some = All-cons IsRect (grown n r) (around n zone) (
 
 -- lists that cover the same squares do when grown
 pub around_same : (n : ℕ) (a b : List Rect) (q : Square) → All IsRect a → All IsRect b → ((s : Square) → covers a s ≡ covers b s) → covers (around n a) q ≡ covers (around n b) q
-around_same n a b q ra rb same = same_bool (covers (around n a) q) (covers (around n b) q)
+around_same n a b q ra rb same = same_truth (covers (around n a) q) (covers (around n b) q)
     (λ e. let z = covered_near n a q ra e in near_covered n b q z.0 (sym (same z.0) ∙ z.1) z.2)
     (λ e. let z = covered_near n b q rb e in near_covered n a q z.0 (same z.0 ∙ z.1) z.2)
 

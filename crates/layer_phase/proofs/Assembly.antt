@@ -1,5 +1,7 @@
 -- The parts give the layer.
 use Rattle.std.proofs.Common.{◌≡◌, ◌⊎◌, inl, inr, ℕ, ◌+◌, ◌≤◌, Bool, true, false, not, ◌&&◌, refl, sym, ◌∙◌, ap}
+use Rattle.base_laws.proofs.Tests.{not_both}
+use Rattle.std.proofs.lemmas.Bool.{cases_Bool}
 use Rattle.geo_base.specs.declared.shapes.Square.{Square}
 use Rattle.rect_sets.specs.Rects.{covers}
 use Rattle.flat_layout.specs.Layers.{Formula, Input, Empty, Binary, Sized, inputs, reach, InFlat, IsKeptBelow, IsKept, IsLocal, IsStirred}
@@ -16,13 +18,6 @@ use Rattle.layer_phase.specs.Parts.{IsFromCalmHull, HaveZones, LayerLaw}
 use Rattle.layer_phase.proofs.Around.{rects_of}
 use Rattle.layer_phase.proofs.Stirring.{stirred_around}
 
-pub is_or_not : (b : Bool) → (b ≡ true) ⊎ (b ≡ false)
-is_or_not true = inl refl
-is_or_not false = inr refl
-
-pub not_both : (b : Bool) → b ≡ true → b ≡ false → ⊥
-not_both b e f = let g : true ≡ false = sym e ∙ f in let z : ⊥ = cc in z
-
 split_local : (f z c : Bool) → ((f && not z) && not c) ≡ true → (f ≡ true) × (z ≡ false) × (c ≡ false)
 split_local true false false e = (refl, refl, refl)
 split_local true false true e = let g : false ≡ true = e in absurd (let z : ⊥ = cc in z)
@@ -38,7 +33,7 @@ decided n d name cell twice sound zones k p key z r placed flat near =
     let m = reach name in
     let inner = within_grown m (hull_of (cell_at d p.cell)) r z (hulls d sound p.cell key z flat) (within_back m z r near) in
     let is = stirred_around m n d (inputs name) p.cell e.0 r twice e.1 (rects_of e.0 e.2) (hull_sound d p.cell sound) inner in
-    elim (is_or_not (covers (around m e.0) r)) [
+    elim (cases_Bool (covers (around m e.0) r)) [
       | inl c ↦ inl (is.0 c)
       | inr c ↦ inr (λ h. not_both (covers (around m e.0) r) (is.1 h) c)
     ]
@@ -81,7 +76,7 @@ layer n d name cell places flat zone calm local derived twice sound reached zone
     calm_zone q e f h = not_both (covers zone q) ((parts.zones q (near_held d cell name q sound f)).1 h) e
 
     zone_off : (q : Square) → InFlat (plain d) cell name q → (IsStirred (plain d) (inputs name) (reach name) cell q → ⊥) → covers zone q ≡ false
-    zone_off q f h = elim (is_or_not (covers zone q)) [ inl e ↦ absurd (h ((parts.zones q (near_held d cell name q sound f)).0 e)) | inr e ↦ e ]
+    zone_off q f h = elim (cases_Bool (covers zone q)) [ inl e ↦ absurd (h ((parts.zones q (near_held d cell name q sound f)).0 e)) | inr e ↦ e ]
 
     to : (q : Square) → covers local q ≡ true → IsLocal (plain d) cell name q
     to q e =
@@ -115,7 +110,7 @@ layer n d name cell places flat zone calm local derived twice sound reached zone
         let f = kept_flat d cell name q new.0 in
         elim (looked q new.0) [
           | inr b ↦ absurd (new.1 b)
-          | inl e ↦ elim (is_or_not (covers calm q)) [
+          | inl e ↦ elim (cases_Bool (covers calm q)) [
             | inl c ↦ absurd (new.1 (calm_below q f ((parts.calms q e).0 c)))
             | inr c ↦ there q new.0 e c
           ]
@@ -126,7 +121,7 @@ layer n d name cell places flat zone calm local derived twice sound reached zone
         let f = kept_flat d cell name q kept in
         elim (looked q kept) [
           | inr h ↦ inr h
-          | inl e ↦ elim (is_or_not (covers calm q)) [
+          | inl e ↦ elim (cases_Bool (covers calm q)) [
             | inl c ↦ inr (calm_below q f ((parts.calms q e).0 c))
             | inr c ↦ inl (there q kept e c)
           ]

@@ -1,5 +1,6 @@
 -- Images of rectangles through the elements of an array, one visit after another.
 use Rattle.std.proofs.Common.{◌≡◌, ℕ, ◌<◌, true, ◌&&◌, List, slice_index_or, length, sym, ◌∙◌, subst}
+use Rattle.std.proofs.lemmas.Bool.{and_from, or_right}
 use Rattle.geo_base.specs.Motions.{moved_square}
 use Rattle.geo_base.specs.Rects.{has}
 use Rattle.geo_base.specs.declared.motion.Motion.{Motion}
@@ -7,10 +8,8 @@ use Rattle.geo_base.specs.declared.shapes.Rect.{Rect}
 use Rattle.geo_base.specs.declared.shapes.Square.{Square}
 use Rattle.rect_sets.specs.Rects.{covers}
 use Rattle.cell_graph.specs.declared.cells.Place.{Place}
-use Rattle.cell_graph.proofs.Bridge.{or_right}
 use Rattle.cell_context.specs.declared.arrays.Visit.{Visit}
 use Rattle.cell_context.specs.Visits.{IsVisited, IsMet, IsFound}
-use Rattle.cell_context.proofs.Visiting.{and_both}
 use Rattle.cell_context.proofs.Gathering.{Adds, some_at}
 use Rattle.layer_phase.specs.Looks.{Brings}
 
@@ -20,7 +19,7 @@ BringsVisit rects w out v = (s : Square) → covers rects s ≡ true → has w (
 
 pub visit_here : (rects old new : List Rect) (w : Rect) (v : Visit) → Adds old new rects v.motion w → BringsVisit rects w new v
 visit_here rects old new w v adds s e g =
-    adds s ∙ or_right (covers old (moved_square v.motion s)) (covers rects s && has w (moved_square v.motion s)) (and_both (covers rects s) (has w (moved_square v.motion s)) e g)
+    adds s ∙ or_right (covers old (moved_square v.motion s)) (covers rects s && has w (moved_square v.motion s)) (and_from (covers rects s) (has w (moved_square v.motion s)) e g)
 
 pub all_brought : (p : Place) (below w : Rect) (rects out : List Rect) (vs : List Visit) (none : Visit) → ((k : ℕ) → k < length vs → BringsVisit rects w out (slice_index_or vs k none))
     → ((row column : ℕ) (q : Square) → row < p.rows → column < p.columns → IsMet p below w row column q → IsFound p row column q vs) → Brings p below rects w out

@@ -1,6 +1,6 @@
 -- A derived layer of a cell, from what is looked at.
 use Rattle.std.proofs.lemmas.Option.{get_or_from_slice_get}
-use Rattle.std.proofs.lemmas.Bool.{eqb-true}
+use Rattle.std.proofs.lemmas.Bool.{eqb-true, and_parts, and_from, or_right}
 use Rattle.deep_tables.specs.Zones.{IsAsked}
 use Rattle.std.proofs.Common.{◌≡◌, ◌⊎◌, ◌↔◌, inl, inr, ℕ, ◌+◌, ◌≤◌, arith, Bool, true, false, not, ◌&&◌, ◌||◌, ◌==◌, List, [], ◌∷◌, Option, Some, refl, sym, ◌∙◌, ap, subst, slice_get}
 use Rattle.geo_base.specs.Motions.{moved_square}
@@ -15,10 +15,8 @@ use Rattle.flat_layout.specs.Values.{IsLocalLayer}
 use Rattle.flat_laws.proofs.Cover.{reached_below}
 use Rattle.flat_laws.proofs.Moves.{farther, within_back, within_same}
 use Rattle.cell_graph.specs.Linked.{Linked, IsSound, cell_at, hull_of, motion_at, plain}
-use Rattle.cell_graph.proofs.Bridge.{hulls, hull_sound, or_right, own, step_of}
+use Rattle.cell_graph.proofs.Bridge.{hulls, hull_sound, own, step_of}
 use Rattle.cell_graph.proofs.Growing.{within_grown, wider_grown}
-use Rattle.cell_context.proofs.Collecting.{and_right}
-use Rattle.cell_context.proofs.Visiting.{and_both}
 use Rattle.deep_laws.specs.Layers.{IsDerived, IsFromStirred, IsNearOwn}
 use Rattle.rule_text.specs.Rules.{Rules}
 use Rattle.rule_text.specs.declared.rules.LayerRule.{LayerRule}
@@ -45,10 +43,6 @@ use Rattle.layer_phase.proofs.Telling.{kept}
 
 one_zone : (o : Option (List Rect)) (v w : List Rect) → o ≡ Some v → o ≡ Some w → v ≡ w
 one_zone o v w h g = let e : Some v ≡ Some w = sym h ∙ g in cc
-
-and_left : (a b : Bool) → (a && b) ≡ true → a ≡ true
-and_left true b e = refl
-and_left false b e = e
 
 -- what the table of disturbed squares tells of a name
 tells : (d : Linked) (r : Rules) (z : List (Option CellZones)) (cell name : ℕ) (x : Formula) → IsSound d → IsReady d r z cell → slice_get (formulas r.names) name ≡ Some x → IsAsked r name x → reach x + reach x ≤ zone_margin r.names → TellsKept (zone_margin r.names) d z x cell name
@@ -95,12 +89,12 @@ seen_flats d cell x looks wide flats squares is flat made q = (to, from)
     to : covers squares q ≡ true → (covers looks q ≡ true) × InFlat (plain d) cell x q
     to e =
         let both = sym (made q) ∙ e in
-        let c = and_left (covers flats q) ((reach x == 0) || covers looks q) both in
-        let here = inner (reach x == 0) refl c (and_right (covers flats q) ((reach x == 0) || covers looks q) both) in
+        let c = (and_parts (covers flats q) ((reach x == 0) || covers looks q) both).0 in
+        let here = inner (reach x == 0) refl c ((and_parts (covers flats q) ((reach x == 0) || covers looks q) both).1) in
         (here, (flat.right q (held here)).0 c)
 
     from : (covers looks q ≡ true) × InFlat (plain d) cell x q → covers squares q ≡ true
-    from h = made q ∙ and_both (covers flats q) ((reach x == 0) || covers looks q) ((flat.right q (held h.0)).1 h.1) (or_right (reach x == 0) (covers looks q) h.0)
+    from h = made q ∙ and_from (covers flats q) ((reach x == 0) || covers looks q) ((flat.right q (held h.0)).1 h.1) (or_right (reach x == 0) (covers looks q) h.0)
 
 module _ (d : Linked) (r : Rules) (z : List (Option CellZones)) (cell name : ℕ) (x : Formula) (looks squares zone calm : List Rect) (sound : IsSound d) (ready : IsReady d r z cell)
     (derived_name : IsDerived x) (at : slice_get (formulas r.names) name ≡ Some x) (seen : AreReadLooks (reach x) d z r.names name cell looks)

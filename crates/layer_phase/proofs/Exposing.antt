@@ -1,7 +1,9 @@
 -- Exposed squares of a cell.
-use Rattle.std.proofs.Common.{◌≡◌, ◌∙◌, ◌⊎◌, inl, inr, ℕ, zero, suc, ◌&&◌, true, List, [], ◌∷◌, ◌++◌, Option, Some, None, ap, refl, sym, subst, length, slice_get}
+use Rattle.std.proofs.Common.{◌≡◌, ◌∙◌, ◌⊎◌, inl, inr, ℕ, zero, suc, ◌&&◌, true, List, [], ◌∷◌, ◌++◌, Option, Some, ap, refl, sym, subst, length, slice_get}
+use Rattle.base_laws.proofs.Items.{get_last}
+use Rattle.std.proofs.lemmas.Bool.{and_from}
 use Rattle.std.specs.List.{All}
-use Rattle.std.proofs.lemmas.Option.{slice_get_within}
+use Rattle.std.proofs.lemmas.Option.{slice_get_within, none-some}
 use Rattle.geo_base.specs.Near.{IsNearRect}
 use Rattle.geo_base.specs.Rects.{has}
 use Rattle.geo_base.specs.declared.shapes.Rect.{Rect}
@@ -12,14 +14,12 @@ use Rattle.cell_graph.specs.Grown.{grown, IsInGrown}
 use Rattle.cell_graph.specs.Linked.{Linked, IsSound, HullHas, cell_at, hull_of}
 use Rattle.cell_graph.proofs.Bridge.{hulls}
 use Rattle.cell_graph.proofs.Growing.{within_grown, within_rect}
-use Rattle.cell_context.proofs.Visiting.{and_both}
 use Rattle.rule_text.specs.declared.rules.LayerRule.{LayerRule}
 use Rattle.deep_tables.specs.declared.zones.CellZones.{CellZones}
 use Rattle.layer_phase.specs.Around.{around}
 use Rattle.layer_phase.specs.declared.exposed.Exposed.{Exposed}
 use Rattle.layer_phase.specs.Looks.{AreExposed, AreExposedLists, HaveDisturbed, HaveFlat, HoldDisturbed, IsExposed, IsListAt}
 use Rattle.layer_phase.proofs.Around.{near_covered}
-use Rattle.layer_phase.proofs.Flattening.{push_new}
 
 -- what is exposed lies in the cell's grown hull
 pub exposed_held : (n : ℕ) (d : Linked) (z : List (Option CellZones)) (names : List LayerRule) (cell : ℕ) (s : Square) → IsSound d → IsExposed n d z names cell s → IsInGrown n (hull_of (cell_at d cell)) s
@@ -29,7 +29,7 @@ exposed_held n d z names cell s sound e = within_grown n (hull_of (cell_at d cel
 pub hold : (z : List (Option CellZones)) (names : List LayerRule) (cell : ℕ) (w : Rect) (out all part : List Rect) → HaveDisturbed z names (length names) cell out → ((s : Square) → covers all s ≡ covers out s)
     → ((s : Square) → covers part s ≡ (covers all s && has w s)) → HoldDisturbed z names cell w part
 hold z names cell w out all part have same is name key named zone at s e g =
-    is s ∙ and_both (covers all s) (has w s) (same s ∙ have name key (slice_get_within names name named.0 named.1) named zone at s e) g
+    is s ∙ and_from (covers all s) (has w s) (same s ∙ have name key (slice_get_within names name named.0 named.1) named zone at s e) g
 
 -- what lies near what is disturbed, and near what is flat
 pub found : (n : ℕ) (d : Linked) (z : List (Option CellZones)) (names : List LayerRule) (cell : ℕ) (w wide window : Rect) (places near out all set : List Rect) → IsSound d → hull_of (cell_at d cell) ≡ Some w
@@ -46,16 +46,13 @@ found n d z names cell w wide window places near out all set sound hull wide_is 
     let here = same e.shape ∙ flat e.other e.flat_key (slice_get_within names e.other e.flat_named.0 e.flat_named.1) e.flat_named e.shape seen e.flat in
     both s stirred (near_covered n all s e.shape here (within_back n e.shape s e.close)) (subst (λ r. has r s ≡ true) (sym window_is) inner)
 
-none_some : {A : Type 0} (x : A) → None ≡ Some x → ⊥
-none_some x e = cc
-
 some_same : {A : Type 0} (x y : A) → Some x ≡ Some y → y ≡ x
 some_same x y e = cc
 
 -- an element of a list with one behind
 at_either : {A : Type 0} (xs : List A) (x y : A) (k : ℕ) → slice_get (xs ++ x ∷ []) k ≡ Some y → (slice_get xs k ≡ Some y) ⊎ (y ≡ x)
 at_either [] x y zero e = inr (some_same x y e)
-at_either [] x y (suc k) e = absurd (none_some y e)
+at_either [] x y (suc k) e = absurd (none-some y e)
 at_either (z ∷ xs) x y zero e = inl e
 at_either (z ∷ xs) x y (suc k) e = at_either xs x y k e
 
@@ -69,10 +66,10 @@ kept_lists n d z names old new e is are exposed near k x at =
     ]
 
 pub kept_at : (old new : List Exposed) (e : Exposed) (position : ℕ) → new ≡ old ++ e ∷ [] → position ≡ length old → IsListAt new e.cell position
-kept_at old new e position is p = (e, subst (λ (l : List Exposed). slice_get l position ≡ Some e) (sym is) (subst (λ n. slice_get (old ++ e ∷ []) n ≡ Some e) (sym p) (push_new old e)), refl)
+kept_at old new e position is p = (e, subst (λ (l : List Exposed). slice_get l position ≡ Some e) (sym is) (subst (λ n. slice_get (old ++ e ∷ []) n ≡ Some e) (sym p) (get_last old e)), refl)
 
 pub no_lists : (n : ℕ) (d : Linked) (z : List (Option CellZones)) (names : List LayerRule) (lists : List Exposed) → lists ≡ [] → AreExposedLists n d z names lists
-no_lists n d z names lists e k x at = absurd (none_some x (subst (λ (l : List Exposed). slice_get l k ≡ Some x) e at))
+no_lists n d z names lists e k x at = absurd (none-some x (subst (λ (l : List Exposed). slice_get l k ≡ Some x) e at))
 
 -- what a list has at a position
 pub list_at : (n : ℕ) (d : Linked) (z : List (Option CellZones)) (names : List LayerRule) (lists : List Exposed) (cell position : ℕ) (e : Exposed) → AreExposedLists n d z names lists → IsListAt lists cell position

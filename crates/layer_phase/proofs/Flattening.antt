@@ -1,11 +1,12 @@
 -- Flat squares of names among those looked at.
-use Rattle.std.proofs.Common.{◌≡◌, ◌⊎◌, ◌↔◌, inl, inr, ℕ, zero, suc, ◌<◌, ◌≤◌, ◌+◌, ℤ, pos, negsuc, max, unsigned_abs, Bool, true, false, ◌==◌, List, [], ◌∷◌, ◌++◌, Option, Some, None, refl, sym, ap, ◌∙◌, subst, arith, drop, length, length-append, get_or, slice_get}
+use Rattle.std.proofs.Common.{◌≡◌, ◌⊎◌, ◌↔◌, inl, inr, ℕ, zero, suc, ◌<◌, ◌≤◌, ◌+◌, ℤ, pos, negsuc, max, unsigned_abs, Bool, true, false, ◌==◌, List, [], ◌∷◌, ◌++◌, Option, Some, refl, sym, ap, ◌∙◌, subst, arith, drop, length, length-append, get_or, slice_get}
+use Rattle.base_laws.proofs.Items.{push_cases, push_old, get_last}
 use Rattle.std.proofs.Math.Decide.{ℕ_discrete}
 use Rattle.std.proofs.lemmas.Int.{ints}
 use Rattle.std.proofs.Math.Nat.{le-max_left, le-max_right}
 use Rattle.std.proofs.lemmas.Bool.{cases_lt, eqb-true}
 use Rattle.std.proofs.lemmas.List.{at_drop_more, get_or_append_left, get_or_push, get_or_past}
-use Rattle.std.proofs.lemmas.Option.{get_or_from_slice_get, slice_get-get_or}
+use Rattle.std.proofs.lemmas.Option.{get_or_from_slice_get, slice_get-get_or, none-some}
 use Rattle.geo_base.specs.declared.layer.LayerKey.{LayerKey}
 use Rattle.geo_base.specs.declared.layer.Op.{Op}
 use Rattle.geo_base.specs.declared.layer.Op.TheVariants.{And, Or, Not, Xor}
@@ -160,24 +161,6 @@ flats_more d cell looks trees tree sets set count h is k = elim (cases_lt k (len
   ]
 ]
 
-none_some : {A : Type 0} (u : A) → None ≡ Some u → ⊥
-none_some u e = cc
-
-pub push_cases : {A : Type 0} (xs : List A) (x u : A) (k : ℕ) → slice_get (xs ++ x ∷ []) k ≡ Some u → (slice_get xs k ≡ Some u) ⊎ ((k ≡ length xs) × (x ≡ u))
-push_cases [] x u zero e = inr (refl, cc)
-push_cases [] x u (suc k) e = absurd (none_some u e)
-push_cases (y ∷ xs) x u zero e = inl e
-push_cases (y ∷ xs) x u (suc k) e = elim (push_cases xs x u k e) [ inl h ↦ inl h | inr h ↦ let n = h.0 in inr ((omega arith), h.1) ]
-
-pub push_old : {A : Type 0} (xs : List A) (x u : A) (k : ℕ) → slice_get xs k ≡ Some u → slice_get (xs ++ x ∷ []) k ≡ Some u
-push_old [] x u k e = absurd (none_some u e)
-push_old (y ∷ xs) x u zero e = e
-push_old (y ∷ xs) x u (suc k) e = push_old xs x u k e
-
-pub push_new : {A : Type 0} (xs : List A) (x : A) → slice_get (xs ++ x ∷ []) (length xs) ≡ Some x
-push_new [] x = refl
-push_new (y ∷ xs) x = push_new xs x
-
 -- names before stay where they are
 pub behind_stays : (before : List Formula) (names : List LayerRule) (k : ℕ) (x : Formula) → slice_get before k ≡ Some x → slice_get (formulas_behind before names) k ≡ Some x
 behind_stays before [] k x e = e
@@ -195,7 +178,7 @@ pub form_reach : (before : List Formula) (names rest : List LayerRule) (name : �
     → ((k : ℕ) → reach (get_or (formulas names) k Empty) ≤ 10000) → reach (get_or before a Empty) + unsigned_abs by ≤ 10000
 form_reach before names rest name f a by count on is near =
     let tree = formula_by before f in
-    let there : slice_get (formulas names) (length before) ≡ Some tree = subst (λ (l : List Formula). slice_get l (length before) ≡ Some tree) on (behind_stays (before ++ tree ∷ []) rest (length before) tree (push_new before tree)) in
+    let there : slice_get (formulas names) (length before) ≡ Some tree = subst (λ (l : List Formula). slice_get l (length before) ≡ Some tree) on (behind_stays (before ++ tree ∷ []) rest (length before) tree (get_last before tree)) in
     let at : get_or (formulas names) (length before) Empty ≡ tree = get_or_from_slice_get (formulas names) (length before) tree Empty there in
     subst (λ (x : LayerForm). reach (formula_by before x) ≤ 10000) is (subst (λ (t : Formula). reach t ≤ 10000) at (near (length before)))
 
@@ -206,13 +189,13 @@ count_behind before (n ∷ names) = let r = count_behind (before ++ formula_by b
 
 -- the tree of an input layer
 pub input_tree : (before : List Formula) (names : List LayerRule) (k : ℕ) (key : LayerKey) → IsInput names k key → slice_get (formulas_behind before names) (length before + k) ≡ Some (Input key)
-input_tree before [] k key is = absurd (none_some is.0 is.1)
+input_tree before [] k key is = absurd (none-some is.0 is.1)
 input_tree before (n ∷ names) zero key is =
     let same : n ≡ is.0 = (let e : Some n ≡ Some is.0 = is.1 in cc) in
     let tree : formula_by before n.form ≡ Input key = ap (λ (r : LayerRule). formula_by before r.form) same ∙ ap (formula_by before) is.2 in
     let place : length before ≡ length before + 0 = omega arith in
     behind_stays (before ++ formula_by before n.form ∷ []) names (length before + 0) (Input key)
-    (subst (λ i. slice_get (before ++ formula_by before n.form ∷ []) i ≡ Some (Input key)) place (push_new before (formula_by before n.form) ∙ ap Some tree))
+    (subst (λ i. slice_get (before ++ formula_by before n.form ∷ []) i ≡ Some (Input key)) place (get_last before (formula_by before n.form) ∙ ap Some tree))
 input_tree before (n ∷ names) (suc k) key is =
     let m = length-append before (formula_by before n.form ∷ []) in
     let place : length (before ++ formula_by before n.form ∷ []) + k ≡ length before + suc k = omega arith in
@@ -258,7 +241,7 @@ known_behind all before (rule ∷ rest) n at known =
 
 pub known : (names : List LayerRule) (i : ℕ) (x : Formula) (key : LayerKey) → slice_get (formulas names) i ≡ Some x → Some_of (λ k. k ≡ key) (inputs x) → (j : ℕ) × IsInput names j key
 known names i x key at listed =
-    known_behind names [] names 0 (λ k rule e. let z : k ≡ 0 + k = omega arith in subst (λ n. slice_get names n ≡ Some rule) z e) (λ j y e. absurd (none_some y e)) i x at key listed
+    known_behind names [] names 0 (λ k rule e. let z : k ≡ 0 + k = omega arith in subst (λ n. slice_get names n ≡ Some rule) z e) (λ j y e. absurd (none-some y e)) i x at key listed
 
 pub named : (names : List LayerRule) (k : ℕ) (key : LayerKey) → IsInput names k key → slice_get (formulas names) k ≡ Some (Input key)
 named names k key is = let z : 0 + k ≡ k = omega arith in subst (λ n. slice_get (formulas names) n ≡ Some (Input key)) z (input_tree [] names k key is)
@@ -294,6 +277,6 @@ leaf_flat d cell key looks set sound none grows same =
       (λ e. let o = sym (same q) ∙ e in (grows q o, over.0 (inl o))),
       (λ h. same q ∙ elim (over.1 h.1) [
         | inl o ↦ o
-        | inr t ↦ absurd (none_some t.from (subst (λ l. slice_get l t.index ≡ Some t.from) empty t.step.there))
+        | inr t ↦ absurd (none-some t.from (subst (λ l. slice_get l t.index ≡ Some t.from) empty t.step.there))
       ]),
     ))

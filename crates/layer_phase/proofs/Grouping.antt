@@ -1,11 +1,12 @@
 -- Derived names by how far they reach.
-use Rattle.std.proofs.Common.{◌≡◌, ◌⊎◌, inl, inr, ℕ, zero, suc, ◌<◌, ◌≤◌, ◌+◌, ◌^◌, ◌==◌, Bool, true, false, List, [], ◌∷◌, ◌++◌, map, Option, Some, None, refl, sym, ap, ◌∙◌, subst, arith, get_or, length, length-append, slice_get, slice_set}
+use Rattle.std.proofs.Common.{◌≡◌, ◌⊎◌, inl, inr, ℕ, zero, suc, ◌<◌, ◌≤◌, ◌+◌, ◌^◌, ◌==◌, true, List, [], ◌∷◌, ◌++◌, map, Option, Some, None, refl, sym, ap, ◌∙◌, subst, arith, get_or, length, length-append, slice_get, slice_set}
+use Rattle.base_laws.proofs.Items.{push_cases, push_old, get_last}
 use Rattle.std.specs.List.{All}
 use Rattle.std.proofs.Math.Decide.{ℕ_discrete}
-use Rattle.std.proofs.lemmas.Bool.{eqb-false}
+use Rattle.std.proofs.lemmas.Bool.{eqb-false, true_from_ne_false}
 use Rattle.std.proofs.lemmas.List.{get_or_append_left, get_or_push, length-map}
 use Rattle.std.proofs.lemmas.List.Elements.{All-nil, All-push}
-use Rattle.std.proofs.lemmas.Option.{get_or_from_slice_get, slice_get-get_or, slice_get_within}
+use Rattle.std.proofs.lemmas.Option.{get_or_from_slice_get, slice_get-get_or, slice_get_within, none-some, same_Some}
 use Rattle.geo_base.specs.declared.shapes.Rect.{Rect}
 use Rattle.geo_base.specs.declared.shapes.Square.{Square}
 use Rattle.rect_sets.specs.Rects.{covers}
@@ -24,7 +25,6 @@ use Rattle.rule_text.specs.declared.rules.LayerForm.TheVariants as form
 use Rattle.rule_text.specs.declared.rules.LayerRule.{LayerRule}
 use Rattle.rule_layers.specs.Formulas.{formula_by, formulas, formulas_behind, zone_margin}
 use Rattle.rule_layers.proofs.Reaching.{near, reach_in, reach_law}
-use Rattle.rule_layers.proofs.Unread.{one_some}
 use Rattle.deep_tables.specs.declared.zones.CellZones.{CellZones}
 use Rattle.deep_tables.specs.Frames.{IsFramedZone}
 use Rattle.layer_phase.specs.Groups.{AreDone, AreGroups, AreGroupsTo, ArePlain, Finds, HasReach, IsGroup, IsMember, is_derived}
@@ -33,7 +33,7 @@ use Rattle.layer_phase.specs.Keeps.{IsZoneAt}
 use Rattle.layer_phase.specs.Names.{AreLocals, IsReady}
 use Rattle.layer_phase.proofs.Around.{grown_within, set_within}
 use Rattle.layer_phase.proofs.Deriving.{entry_frame}
-use Rattle.layer_phase.proofs.Flattening.{behind_stays, count_behind, push_cases, push_new, push_old}
+use Rattle.layer_phase.proofs.Flattening.{behind_stays, count_behind}
 
 pub derived_by : (trees : List Formula) (f : LayerForm) → is_derived f ≡ true → IsDerived (formula_by trees f)
 derived_by trees (form.Input key) e = let z : ⊥ = cc in absurd z
@@ -56,19 +56,16 @@ plain_reach trees form.Empty h = refl
 plain_reach trees (form.Binary op a b) h = absurd (h refl)
 plain_reach trees (form.Sized a by) h = absurd (h refl)
 
-none_some : {A : Type 0} (x : A) → None ≡ Some x → ⊥
-none_some x e = cc
-
 -- each tree is that of its rule's form
 behind_form : (before : List Formula) (names : List LayerRule) (k : ℕ) (rule : LayerRule) (x : Formula) → slice_get names k ≡ Some rule → slice_get (formulas_behind before names) (length before + k) ≡ Some x
     → (trees : List Formula) × (x ≡ formula_by trees rule.form)
-behind_form before [] k rule x e at = absurd (none_some rule e)
+behind_form before [] k rule x e at = absurd (none-some rule e)
 behind_form before (n ∷ names) zero rule x e at =
     let tree = formula_by before n.form in
     let place : length before + 0 ≡ length before = omega arith in
-    let there : slice_get (formulas_behind (before ++ tree ∷ []) names) (length before) ≡ Some tree = behind_stays (before ++ tree ∷ []) names (length before) tree (push_new before tree) in
-    let same : x ≡ tree = one_some x tree (sym (subst (λ i. slice_get (formulas_behind (before ++ tree ∷ []) names) i ≡ Some x) place at) ∙ there) in
-    (before, same ∙ ap (λ (r : LayerRule). formula_by before r.form) (one_some n rule e))
+    let there : slice_get (formulas_behind (before ++ tree ∷ []) names) (length before) ≡ Some tree = behind_stays (before ++ tree ∷ []) names (length before) tree (get_last before tree) in
+    let same : x ≡ tree = same_Some x tree (sym (subst (λ i. slice_get (formulas_behind (before ++ tree ∷ []) names) i ≡ Some x) place at) ∙ there) in
+    (before, same ∙ ap (λ (r : LayerRule). formula_by before r.form) (same_Some n rule e))
 behind_form before (n ∷ names) (suc k) rule x e at =
     let tree = formula_by before n.form in
     let m = length-append before (tree ∷ []) in
@@ -90,8 +87,8 @@ tree_count names = let c = count_behind [] names in omega (arith, c)
 
 -- how far the tree of a name reaches
 map_at : (xs : List Formula) (k far : ℕ) (x : Formula) → slice_get (map reach xs) k ≡ Some far → slice_get xs k ≡ Some x → far ≡ reach x
-map_at [] k far x e at = absurd (none_some x at)
-map_at (y ∷ xs) zero far x e at = one_some far (reach y) (sym e) ∙ ap reach (one_some y x at)
+map_at [] k far x e at = absurd (none-some x at)
+map_at (y ∷ xs) zero far x e at = same_Some far (reach y) (sym e) ∙ ap reach (same_Some y x at)
 map_at (y ∷ xs) (suc k) far x e at = map_at xs k far x e at
 
 pub reach_at : (names : List LayerRule) (found : List ℕ) (k far : ℕ) (x : Formula) → found ≡ reaches names → slice_get found k ≡ Some far → slice_get (formulas names) k ≡ Some x → far ≡ reach x
@@ -104,10 +101,6 @@ pub reach_here : (names : List LayerRule) (found : List ℕ) (k : ℕ) (x : Form
 reach_here names found k x e lt at =
     let n = found_count names found e in
     reach_at names found k (get_or found k 0) x e (slice_get-get_or found k 0 (omega (arith, n, lt))) at
-
-pub is_or_not : (b : Bool) → (b ≡ true) ⊎ (b ≡ true → ⊥)
-is_or_not true = inl refl
-is_or_not false = inr (λ e. let z : ⊥ = cc in z)
 
 -- no name reaches further than names may
 pub near_tree : (r : Rules) (k : ℕ) → rules.IsSound r → reach (get_or (formulas r.names) k Empty) ≤ 10000
@@ -186,7 +179,7 @@ finds_more far d cell name names old mid new had count here none rest = record {
     | yes e ↦
         let there : slice_get (formulas names) name ≡ Some x = subst (λ n. slice_get (formulas names) n ≡ Some x) e at in
         ap (λ (l : List (List Rect)). get_or l k []) (none (λ m.
-        let one : m.tree ≡ x = one_some m.tree x (sym m.at ∙ there) in
+        let one : m.tree ≡ x = same_Some m.tree x (sym m.at ∙ there) in
         not (subst IsDerived one m.derived) (ap reach (sym one) ∙ m.far_is))) ∙ had.other k x at not
     | no n ↦ rest k n ∙ had.other k x at not
   ];
@@ -195,12 +188,8 @@ finds_more far d cell name names old mid new had count here none rest = record {
 
 -- ---- one group on
 
-not_false : (b : Bool) → (b ≡ false → ⊥) → b ≡ true
-not_false true h = refl
-not_false false h = absurd (h refl)
-
 pub same_any : (far : ℕ) → (far == far) ≡ true
-same_any far = not_false (far == far) (λ e. eqb-false far far e refl)
+same_any far = true_from_ne_false (far == far) (λ e. eqb-false far far e refl)
 
 -- how far a group reaches
 pub group_near : (r : Rules) (g : Group) → rules.IsSound r → IsGroup r.names g → g.reach ≤ 10000
@@ -231,7 +220,7 @@ reach_wider groups more g far e h =
 pub reach_new : (groups more : List Group) (g : Group) → more ≡ groups ++ g ∷ [] → HasReach more (length more) g.reach
 reach_new groups more g e =
     let long = length-append groups (g ∷ []) in
-    subst (λ (l : List Group). HasReach l (length l) g.reach) (sym e) (record { at = length groups; group = g; at_in = omega (arith, long); there = push_new groups g; far_is = refl })
+    subst (λ (l : List Group). HasReach l (length l) g.reach) (sym e) (record { at = length groups; group = g; at_in = omega (arith, long); there = get_last groups g; far_is = refl })
 
 -- a name that isn't derived, or whose group is there
 pub groups_skip : (names : List LayerRule) (name : ℕ) (groups : List Group) → AreGroupsTo names name groups → ((x : Formula) → slice_get (formulas names) name ≡ Some x → IsDerived x → HasReach groups (length groups) (reach x)) → AreGroupsTo names (name + 1) groups
@@ -271,7 +260,7 @@ done_more d cell trees groups i g old new there finds had = record {
         let lt = has.at_in in
         let before : HasReach groups i (reach x) = elim (ℕ_discrete has.at i) [
           | yes e ↦
-              let one : has.group ≡ g = one_some has.group g (sym has.there ∙ subst (λ j. slice_get groups j ≡ Some g) (sym e) there) in
+              let one : has.group ≡ g = same_Some has.group g (sym has.there ∙ subst (λ j. slice_get groups j ≡ Some g) (sym e) there) in
               absurd (n (sym has.far_is ∙ ap (λ (h : Group). h.reach) one))
           | no other ↦ record { at = has.at; group = has.group; at_in = omega (arith, lt, other); there = has.there; far_is = has.far_is }
         ] in

@@ -1,5 +1,6 @@
 -- Rectangles that a hull holds.
-use Rattle.std.proofs.Common.{◌≡◌, inl, inr, ℕ, zero, suc, ◌<◌, ◌+◌, ◌^◌, pos, ◌-ℤ◌, Bool, true, false, ◌&&◌, List, [], ◌∷◌, ◌++◌, Option, Some, slice_get, slice_index_or, length, refl, sym, ◌∙◌, ap, subst, arith}
+use Rattle.std.proofs.Common.{◌≡◌, inl, inr, ℕ, zero, suc, ◌<◌, ◌+◌, ◌^◌, pos, ◌-ℤ◌, true, false, ◌&&◌, List, [], ◌∷◌, ◌++◌, Option, Some, slice_get, slice_index_or, length, sym, ◌∙◌, ap, subst, arith}
+use Rattle.std.proofs.lemmas.Bool.{and_parts, or_cases, or_left, or_right}
 use Rattle.std.specs.List.{All}
 use Rattle.std.proofs.Math.Decide.{ℕ_discrete}
 use Rattle.std.proofs.lemmas.Int.{ints}
@@ -11,10 +12,10 @@ use Rattle.geo_base.specs.declared.shapes.Square.{Square}
 use Rattle.rect_sets.specs.Rects.{covers}
 use Rattle.cell_graph.specs.Grown.{IsInGrown}
 use Rattle.cell_graph.specs.Linked.{Linked, IsSound, IsFrame, IsRectWithin, HullHas, hull_of, cell_at, own_of}
-use Rattle.cell_graph.proofs.Bridge.{in_has, or_split, or_left, or_right, inside_has, own_in_hull}
+use Rattle.cell_graph.proofs.Bridge.{in_has, inside_has, own_in_hull}
 use Rattle.cell_graph.proofs.Growing.{grown_none, wider_grown}
 use Rattle.cell_context.specs.Over.{IsPiece}
-use Rattle.cell_context.proofs.Collecting.{covers_append, and_right}
+use Rattle.cell_context.proofs.Collecting.{covers_append}
 use Rattle.cell_context.proofs.Visiting.{inside_from, within_inside, near_rect, wider_rect}
 use Rattle.sized_layers.specs.Sizes.{IsSetWithin, IsSquareWithin}
 use Rattle.rule_text.specs.declared.rules.LayerForm.TheVariants as form
@@ -29,7 +30,7 @@ listed_has (x ∷ xs) (suc k) r q lt e = or_right (has x q) (covers xs q) (liste
 -- pieces of a window lie in it
 pub held_pieces : (w : Rect) (rs : List Rect) → All (IsPiece w) rs → (q : Square) → covers rs q ≡ true → has w q ≡ true
 held_pieces w [] h q e = let f : false ≡ true = e in absurd (let z : ⊥ = cc in z)
-held_pieces w (x ∷ xs) h q e = elim (or_split (has x q) (covers xs q) e) [
+held_pieces w (x ∷ xs) h q e = elim (or_cases (has x q) (covers xs q) e) [
   | inl f ↦ inside_has x w q (h 0 x (omega arith)).inside f
   | inr f ↦ held_pieces w xs (λ k d lt. h (suc k) d (omega arith)) q f
 ]
@@ -64,18 +65,14 @@ rects_within m rs some h = λ k r lt. corners m (slice_index_or rs k r) (some k 
 pub in_grown : (n : ℕ) (o : Option Rect) (q : Square) → HullHas o q → IsInGrown n o q
 in_grown n o q h = wider_grown 0 n o q (omega arith) ((grown_none o q).1 h)
 
-pub and_left : (a b : Bool) → (a && b) ≡ true → a ≡ true
-and_left true b e = refl
-and_left false b e = e
-
 -- the part of a set in a frame is near
 pub part_near : (w : Rect) (zone part : List Rect) → IsFrame w → All IsRect part → ((s : Square) → covers part s ≡ (covers zone s && has w s)) → All IsNearRect part
 part_near w zone part hull some is =
-    let near = within w part hull some (λ q e. and_right (covers zone q) (has w q) (sym (is q) ∙ e)) in λ k r lt. near_rect (slice_index_or part k r) (near k r lt)
+    let near = within w part hull some (λ q e. (and_parts (covers zone q) (has w q) (sym (is q) ∙ e)).1) in λ k r lt. near_rect (slice_index_or part k r) (near k r lt)
 
 -- own squares behind others
 pub own_held : (n : ℕ) (d : Linked) (cell : ℕ) (key : LayerKey) (old new : List Rect) → IsSound d → new ≡ old ++ own_of (cell_at d cell) key → AreHeld n (hull_of (cell_at d cell)) old → AreHeld n (hull_of (cell_at d cell)) new
-own_held n d cell key old new sound e held q f = elim (or_split (covers old q) (covers (own_of (cell_at d cell) key) q) (sym (ap (λ l. covers l q) e ∙ covers_append old (own_of (cell_at d cell) key) q) ∙ f)) [
+own_held n d cell key old new sound e held q f = elim (or_cases (covers old q) (covers (own_of (cell_at d cell) key) q) (sym (ap (λ l. covers l q) e ∙ covers_append old (own_of (cell_at d cell) key) q) ∙ f)) [
   | inl g ↦ held q g
   | inr g ↦ in_grown n (hull_of (cell_at d cell)) q (own_in_hull d cell key q sound g)
 ]

@@ -1,5 +1,6 @@
 -- What is looked at, one rectangle after another.
 use Rattle.std.proofs.Common.{◌≡◌, ◌↔◌, inl, inr, ℕ, ◌<◌, ◌+◌, true, ◌||◌, List, ◌++◌, None, length, take, slice_index_or, sym, ◌∙◌, ap}
+use Rattle.std.proofs.lemmas.Bool.{or_cases, or_left, or_right}
 use Rattle.geo_base.specs.Rects.{has}
 use Rattle.geo_base.specs.declared.layer.LayerKey.{LayerKey}
 use Rattle.geo_base.specs.declared.shapes.Rect.{Rect}
@@ -7,7 +8,6 @@ use Rattle.geo_base.specs.declared.shapes.Square.{Square}
 use Rattle.rect_sets.specs.Rects.{covers}
 use Rattle.flat_layout.specs.Layout.{InFlatInput}
 use Rattle.cell_graph.specs.Linked.{Linked, IsSound, plain}
-use Rattle.cell_graph.proofs.Bridge.{or_split, or_left, or_right}
 use Rattle.cell_context.specs.Over.{IsOver}
 use Rattle.cell_context.proofs.Collecting.{covers_append, covers_more}
 use Rattle.cell_context.proofs.Gathering.{over_flat}
@@ -20,11 +20,11 @@ grow d cell key old more new rects k z sound lt e before here q =
     let joined : covers new q ≡ (covers old q || covers more q) = ap (λ l. covers l q) e ∙ covers_append old more q in
     let next = covers_more rects k z q lt in
     let o = over_flat d sound cell key q in (
-      (λ h. elim (or_split (covers old q) (covers more q) (sym joined ∙ h)) [
+      (λ h. elim (or_cases (covers old q) (covers more q) (sym joined ∙ h)) [
         | inl g ↦ let b = (before q).0 g in (next ∙ or_left (covers (take k rects) q) (has (slice_index_or rects k z) q) b.0, b.1)
         | inr g ↦ let b = (here q).0 g in (next ∙ or_right (covers (take k rects) q) (has (slice_index_or rects k z) q) b.0, o.0 b.1)
       ]),
-      (λ h. joined ∙ elim (or_split (covers (take k rects) q) (has (slice_index_or rects k z) q) (sym next ∙ h.0)) [
+      (λ h. joined ∙ elim (or_cases (covers (take k rects) q) (has (slice_index_or rects k z) q) (sym next ∙ h.0)) [
         | inl g ↦ or_left (covers old q) (covers more q) ((before q).1 (g, h.1))
         | inr g ↦ or_right (covers old q) (covers more q) ((here q).1 (g, o.1 h.1))
       ]),
@@ -38,11 +38,11 @@ pub grow_by : (P : Square → Type 0) (old more new rects : List Rect) (k : ℕ)
 grow_by P old more new rects k z lt e before here q =
     let joined : covers new q ≡ (covers old q || covers more q) = ap (λ l. covers l q) e ∙ covers_append old more q in
     let next = covers_more rects k z q lt in (
-      (λ h. elim (or_split (covers old q) (covers more q) (sym joined ∙ h)) [
+      (λ h. elim (or_cases (covers old q) (covers more q) (sym joined ∙ h)) [
         | inl g ↦ let b = (before q).0 g in (next ∙ or_left (covers (take k rects) q) (has (slice_index_or rects k z) q) b.0, b.1)
         | inr g ↦ let b = (here q).0 g in (next ∙ or_right (covers (take k rects) q) (has (slice_index_or rects k z) q) b.0, b.1)
       ]),
-      (λ h. joined ∙ elim (or_split (covers (take k rects) q) (has (slice_index_or rects k z) q) (sym next ∙ h.0)) [
+      (λ h. joined ∙ elim (or_cases (covers (take k rects) q) (has (slice_index_or rects k z) q) (sym next ∙ h.0)) [
         | inl g ↦ or_left (covers old q) (covers more q) ((before q).1 (g, h.1))
         | inr g ↦ or_right (covers old q) (covers more q) ((here q).1 (g, h.1))
       ]),

@@ -1,17 +1,16 @@
 -- Names and all that they are made of.
 use Rattle.std.proofs.Common.{◌≡◌, ◌⊎◌, ◌↔◌, inl, inr, ℕ, ◌<◌, ◌≤◌, ◌+◌, Bool, true, false, List, [], ◌∷◌, ◌++◌, Some, sym, ◌∙◌, ap, subst, arith, length, length-append, get_or, slice_get}
+use Rattle.base_laws.proofs.Items.{push_old, get_last}
 use Rattle.std.proofs.Math.Decide.{ℕ_discrete}
 use Rattle.std.proofs.lemmas.List.{get_or_append_left, get_or_push}
-use Rattle.std.proofs.lemmas.Option.{slice_get_within}
+use Rattle.std.proofs.lemmas.Option.{slice_get_within, same_Some}
 use Rattle.rule_text.specs.Rules.{Rules}
 use Rattle.rule_text.specs.Sound.{AreOperands, IsSound}
 use Rattle.rule_text.specs.declared.rules.LayerForm.{LayerForm}
 use Rattle.rule_text.specs.declared.rules.LayerForm.TheVariants as form
 use Rattle.rule_text.specs.declared.rules.LayerRule.{LayerRule}
 use Rattle.rule_layers.specs.Reads.{Marks, Reads}
-use Rattle.rule_layers.proofs.Unread.{one_some}
 use Rattle.layer_phase.specs.Groups.{AreBefore, AreNeeded, AreSeen, seen_form}
-use Rattle.layer_phase.proofs.Flattening.{push_new, push_old}
 
 -- one of the names from a number on is marked and made of it
 pub record IsByFrom (names : List LayerRule) (marks : List Bool) (from k : ℕ) : Type 0 where
@@ -84,7 +83,7 @@ needed_more members names old new name rule before at marked marks had =
               let from = by.at_from in let within = slice_get_within names by.at by.rule by.there in
               elim (ℕ_discrete by.at name) [
                 | yes same ↦
-                    let one : by.rule ≡ rule = one_some by.rule rule (sym by.there ∙ subst (λ j. slice_get names j ≡ Some rule) (sym same) at) in
+                    let one : by.rule ≡ rule = same_Some by.rule rule (sym by.there ∙ subst (λ j. slice_get names j ≡ Some rule) (sym same) at) in
                     inr (subst (λ (v : LayerRule). Reads v.form k) one by.reads)
                 | no other ↦ elim ((marks.each by.at (omega (arith, within, count))).0 by.marked) [
                   | inl o ↦ inl ((had.each k lt).1 (inr (record { at = by.at; rule = by.rule; at_from = omega (arith, from, other); there = by.there; marked = o; reads = by.reads })))
@@ -137,9 +136,9 @@ seen_more names marks n rule other seen at is h = record {
   count = length-append seen (other ∷ []) ∙ ap (λ (k : ℕ). k + 1) h.count;
   each = λ k r below there. elim (ℕ_discrete k n) [
     | yes e ↦
-        let same : r ≡ rule = one_some r rule (sym there ∙ subst (λ j. slice_get names j ≡ Some rule) (sym e) at) in (
+        let same : r ≡ rule = same_Some r rule (sym there ∙ subst (λ j. slice_get names j ≡ Some rule) (sym e) at) in (
           other,
-          subst (λ j. slice_get (seen ++ other ∷ []) j ≡ Some other) (h.count ∙ sym e) (push_new seen other),
+          subst (λ j. slice_get (seen ++ other ∷ []) j ≡ Some other) (h.count ∙ sym e) (get_last seen other),
           subst (λ j. other.form ≡ seen_form (get_or marks j false) r.form) (sym e) (subst (λ (v : LayerRule). other.form ≡ seen_form (get_or marks n false) v.form) (sym same) is),
         )
     | no not ↦ let o = h.each k r (omega (arith, below, not)) there in (o.0, push_old seen other o.0 k o.1, o.2)

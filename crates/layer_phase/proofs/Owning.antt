@@ -1,5 +1,6 @@
 -- What lies near a cell's own squares.
 use Rattle.std.proofs.Common.{◌≡◌, ◌∙◌, inl, inr, ℕ, ◌^◌, true, false, List, [], ◌++◌, Option, Some, None, arith, ap, length, subst, sym}
+use Rattle.std.proofs.lemmas.Bool.{or_cases, or_left, or_right}
 use Rattle.std.specs.List.{All}
 use Rattle.std.proofs.lemmas.Option.{slice_get_within}
 use Rattle.geo_base.specs.Rects.{IsRect}
@@ -10,7 +11,6 @@ use Rattle.flat_layout.specs.Plane.{AreWithin}
 use Rattle.flat_laws.proofs.Moves.{within_back, within_none}
 use Rattle.sized_layers.specs.Sizes.{IsSetWithin}
 use Rattle.cell_graph.specs.Linked.{Linked, HullIsSound}
-use Rattle.cell_graph.proofs.Bridge.{or_split, or_left, or_right}
 use Rattle.cell_graph.proofs.Growing.{grown_none, within_grown}
 use Rattle.cell_context.proofs.Collecting.{covers_append}
 use Rattle.rule_text.specs.declared.rules.LayerRule.{LayerRule}
@@ -39,7 +39,7 @@ own_within (Some w) own set sound held same =
 
 pub held_behind : (n : ℕ) (o : Option Rect) (old own set wide new : List Rect) → AreHeld n o old → AreHeld 0 o own → All IsRect set → ((q : Square) → covers set q ≡ covers own q) → ((q : Square) → covers wide q ≡ covers (around n set) q)
     → new ≡ old ++ wide → AreHeld n o new
-held_behind n o old own set wide new before here some same grows is q e = elim (or_split (covers old q) (covers wide q) (sym (ap (λ l. covers l q) is ∙ covers_append old wide q) ∙ e)) [
+held_behind n o old own set wide new before here some same grows is q e = elim (or_cases (covers old q) (covers wide q) (sym (ap (λ l. covers l q) is ∙ covers_append old wide q) ∙ e)) [
   | inl h ↦ before q h
   | inr h ↦
       let z = covered_near n set q some (sym (grows q) ∙ h) in

@@ -1,9 +1,10 @@
 -- Names as a group of derived names sees them.
 use Rattle.std.proofs.Common.{◌≡◌, inl, inr, ℕ, suc, ◌<◌, ◌≤◌, ◌+◌, Bool, true, false, List, [], ◌∷◌, ◌++◌, Option, Some, refl, sym, ap, ◌∙◌, subst, arith, length, length-append, get_or, slice_get}
+use Rattle.base_laws.proofs.Tests.{true_or_not}
 use Rattle.std.proofs.Math.Decide.{ℕ_discrete}
 use Rattle.std.proofs.lemmas.Bool.{cases_lt}
 use Rattle.std.proofs.lemmas.List.{get_or_append_left, get_or_push, get_or_past}
-use Rattle.std.proofs.lemmas.Option.{get_or_from_slice_get, slice_get-get_or, slice_get_within}
+use Rattle.std.proofs.lemmas.Option.{get_or_from_slice_get, slice_get-get_or, slice_get_within, same_Some}
 use Rattle.geo_base.specs.declared.layer.LayerKey.{LayerKey}
 use Rattle.flat_layout.specs.Layers.{Formula, Empty, Binary, Sized, reach}
 use Rattle.deep_laws.specs.Layers.{IsDerived}
@@ -14,7 +15,6 @@ use Rattle.rule_text.specs.declared.rules.LayerForm.TheVariants as form
 use Rattle.rule_text.specs.declared.rules.LayerRule.{LayerRule}
 use Rattle.rule_layers.specs.Formulas.{formula_by, formulas, formulas_behind}
 use Rattle.rule_layers.specs.Reads.{IsRead, Reads}
-use Rattle.rule_layers.proofs.Unread.{one_some}
 use Rattle.cell_graph.specs.Linked.{Linked, plain}
 use Rattle.deep_tables.specs.declared.zones.CellZones.{CellZones}
 use Rattle.deep_tables.proofs.Reading.{zone_entry}
@@ -23,7 +23,7 @@ use Rattle.layer_phase.specs.Names.{IsReady}
 use Rattle.layer_phase.specs.Groups.{AreNeeded, AreSeen, IsGroup, IsMember, is_derived, seen_form}
 use Rattle.layer_phase.specs.Looks.{IsInput}
 use Rattle.layer_phase.specs.declared.groups.Group.{Group}
-use Rattle.layer_phase.proofs.Grouping.{is_or_not, near_tree, of_is, tree_count}
+use Rattle.layer_phase.proofs.Grouping.{near_tree, of_is, tree_count}
 
 -- trees that are one where they are marked; of the second ones the others are empty
 record AreSame (marks : List Bool) (xs ys : List Formula) : Type 0 where
@@ -92,7 +92,7 @@ same_behind members names marks (r ∷ rest) (s ∷ seen) n xs ys needed e long 
     let zero_on : n + 0 ≡ n = omega arith in
     let first = f 0 r refl in
     let at : slice_get names n ≡ Some r = subst (λ i. slice_get names i ≡ Some r) zero_on first.0 in
-    let same : first.1 ≡ s = one_some first.1 s (sym first.2) in
+    let same : first.1 ≡ s = same_Some first.1 s (sym first.2) in
     let b = get_or marks n false in
     let as_seen : s.form ≡ seen_form b r.form = subst (λ (v : LayerRule). v.form ≡ seen_form b r.form) same (subst (λ i. first.1.form ≡ seen_form (get_or marks i false) r.form) zero_on first.3) in
     let here : get_or marks (length xs) false ≡ true → formula_by xs r.form ≡ formula_by ys s.form = (λ m.
@@ -145,7 +145,7 @@ input_too names g k key group is =
     let rule = get_or names k is.0 in
     let at : slice_get names k ≡ Some rule = slice_get-get_or names k is.0 within in
     let o = group.seen.each k rule at in
-    let same_rule : o.0 ≡ is.0 = one_some o.0 is.0 (sym o.1 ∙ is.1) in
+    let same_rule : o.0 ≡ is.0 = same_Some o.0 is.0 (sym o.1 ∙ is.1) in
     let form_is : seen_form (get_or group.marks k false) rule.form ≡ form.Input key = sym o.2 ∙ ap (λ (r : LayerRule). r.form) same_rule ∙ is.2 in
     let h = input_seen (get_or group.marks k false) rule.form key form_is in
     let some = group.count in (
@@ -162,7 +162,7 @@ input_too names g k key group is =
 pub seen_near : (r : Rules) (g : Group) (k : ℕ) → rules.IsSound r → IsGroup r.names g → reach (get_or (formulas g.names.items) k Empty) ≤ 10000
 seen_near r g k sound group =
     let all = same g.members.items r.names group.marks g.names.items group.needed group.seen in
-    elim (is_or_not (get_or group.marks k false)) [
+    elim (true_or_not (get_or group.marks k false)) [
       | inl m ↦ subst (λ (t : Formula). reach t ≤ 10000) (all.each k m) (near_tree r k sound)
       | inr n ↦ let e = ap reach (all.none k n) in omega (arith, e)
     ]

@@ -1,5 +1,7 @@
 -- A right table tells what placed cells keep.
 use Rattle.std.proofs.Common.{◌≡◌, ◌↔◌, inl, inr, ℕ, true, false, List, Option, Some, sym, ◌∙◌, ap, subst, slice_get}
+use Rattle.base_laws.proofs.Tests.{not_both}
+use Rattle.std.proofs.lemmas.Bool.{cases_Bool}
 use Rattle.geo_base.specs.declared.shapes.Rect.{Rect}
 use Rattle.geo_base.specs.Motions.{moved_square}
 use Rattle.geo_base.specs.declared.shapes.Square.{Square}
@@ -24,7 +26,6 @@ use Rattle.layer_phase.specs.Parts.{IsFromCalmHull}
 use Rattle.layer_phase.specs.Keeps.{HaveEntries, IsKeptBy, IsZoneAt}
 use Rattle.layer_phase.specs.Bridge.{KeptLaw}
 use Rattle.layer_phase.proofs.Around.{rects_of}
-use Rattle.layer_phase.proofs.Assembly.{is_or_not, not_both}
 use Rattle.layer_phase.proofs.Stirring.{stirred_around}
 
 reached_step : (d : Linked) (cell i row column : ℕ) (p : Place) → IsReached (plain d) cell → IsStep d cell i row column p → IsReached (plain d) p.cell
@@ -86,7 +87,7 @@ kept d r z x cell name sound hulls right reached named asked twice = record {
           held = held;
           entry = e.0;
           at = e.1;
-          off = elim (is_or_not (covers (around (reach x) e.0) h.square)) [
+          off = elim (cases_Bool (covers (around (reach x) e.0) h.square)) [
             | inl c ↦ absurd (calm (is.0 c))
             | inr c ↦ c
           ];

@@ -1,5 +1,7 @@
 -- Each reached cell can be written.
 use Rattle.std.proofs.Common.{◌≡◌, inl, inr, ℕ, ◌+◌, ◌<◌, List, [], ◌∷◌, ◌++◌, length, get_or, slice_get, Option, Some, None, sym, ap, ◌∙◌, subst, arith}
+use Rattle.base_laws.proofs.Items.{item_at}
+use Rattle.std.proofs.lemmas.Bool.{false_from_ne_true}
 use Rattle.std.specs.Prelude.{IsSome}
 use Rattle.std.specs.List.{All}
 use Rattle.std.proofs.lemmas.List.{length-append, get_or_default}
@@ -22,7 +24,7 @@ use Rattle.gds_shapes.specs.References.{FitsReference}
 use Rattle.layout_shapes.specs.Wide.{AreHeld, IsFirstWide, IsWideCell, has_wide_line}
 use Rattle.layout_shapes.specs.Writable.{IsWritable, CanWriteLine, CanWriteCell}
 use Rattle.layout_shapes.specs.Written.{AreReached, name_of, ref_of}
-use Rattle.layout_shapes.proofs.Long.{narrow_line, never}
+use Rattle.layout_shapes.proofs.Long.{narrow_line}
 use Rattle.layout_shapes.proofs.Reaching.{contained, within, reached_at}
 
 count_behind : (before : List Formula) (names : List LayerRule) → length (formulas_behind before names) ≡ length before + length names
@@ -32,10 +34,6 @@ count_behind before (n ∷ names) =
     let one : length (before ++ formula_by before n.form ∷ []) ≡ length before + 1 = length-append before (formula_by before n.form ∷ []) in
     omega (arith, more, one)
 
--- what stands at a number below the length
-pub there : {X : Type 0} (xs : List X) (i : ℕ) → i < length xs → (x : X) × (slice_get xs i ≡ Some x)
-there xs i lt = elim (slice_get_cases xs i).1 [ inl h ↦ (h.0, h.2) | inr h ↦ (let le = h.0 in absurd (let z : ⊥ = omega (arith, lt, le) in z)) ]
-
 some_is : (o : Option (List Rect)) (v : List Rect) → o ≡ Some v → IsSome o
 some_is o v e = subst (λ (p : Option (List Rect)). IsSome p) (sym e) search
 
@@ -43,7 +41,7 @@ held_line : LayerAtLaw → (d : Linked) (r : Rules) (table : List (Option CellLa
     → o.layer < length r.names → IsSome (layer_of table cell o.layer)
 held_line at d r table cell o are reached below =
     let count = count_behind [] r.names in
-    let x = there (formulas r.names) o.layer (omega (arith, below, count)) in
+    let x = item_at (formulas r.names) o.layer (omega (arith, below, count)) in
     let h = at (plain d) r table cell o.layer x.0 are reached x.1 in
     some_is (layer_of table cell o.layer) h.0 h.1
 
@@ -66,7 +64,7 @@ all_held at d r table order sound_rules are k z lt =
 -- the hull of a cell that has one
 pub hull_in : (d : Linked) (cell : ℕ) (h : Rect) → IsSound d → cell < length d.cells → hull_of (cell_at d cell) ≡ Some h → IsHull h
 hull_in d cell h sound inside e =
-    let c = there d.cells cell inside in
+    let c = item_at d.cells cell inside in
     let has : c.0.hull ≡ Some h = sym (ap hull_of c.1) ∙ e in
     subst HullIsSound has (sound.each cell c.0 c.1).hull
 
@@ -77,7 +75,7 @@ can_write at l r table cell sound sound_rules are writable narrow reached =
     let inside = within d cell sound.order reached in
     let count = writable.count in
     let dated : cell < length l.cell_dates.items = omega (arith, inside, count) in
-    let c = there d.cells cell inside in
+    let c = item_at d.cells cell inside in
     let can = writable.each cell c.0 c.1 in
     record {
       inside = inside;
@@ -87,7 +85,7 @@ can_write at l r table cell sound sound_rules are writable narrow reached =
       refs = subst (λ (o : Option CellPart). All (λ p. FitsReference (ref_of d p)) (places_at o)) (sym c.1) can.refs;
       lines = entries (CanWriteLine table cell) r.outputs (λ k o e. record {
         held = held_line at d r table cell o are reached (sound_rules.formed.outputs k o e).below;
-        long = narrow_line table r cell k o (never (has_wide_line table r cell) (λ h. narrow (inl h))) e;
+        long = narrow_line table r cell k o (false_from_ne_true (has_wide_line table r cell) (λ h. narrow (inl h))) e;
       });
     }
 

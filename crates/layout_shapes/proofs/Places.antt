@@ -1,7 +1,7 @@
 -- A single placement is the same whatever its steps.
 use Rattle.std.proofs.Common.{◌≡◌, ℕ, Bool, true, false, cond, [], ◌∷◌, refl, sym, ap, ◌∙◌, arith, ℤ, pos}
 use Rattle.std.specs.Prelude.{◌==◌, ◌&&◌, ◌+ℤ◌, ◌*ℤ◌}
-use Rattle.std.proofs.lemmas.Bool.{eqb-true}
+use Rattle.std.proofs.lemmas.Bool.{eqb-true, and_parts}
 use Rattle.std.proofs.lemmas.Int.{ints}
 use Rattle.geo_base.specs.declared.motion.Turn.{Turn}
 use Rattle.geo_base.specs.declared.shapes.Point.{Point}
@@ -30,17 +30,13 @@ one cell turn o a b columns rows e f =
     ap (λ (n : ℕ). places_of (made cell turn o n rows a b ∷ [])) e ∙ ap (λ (n : ℕ). places_of (made cell turn o 1 n a b ∷ [])) f
     ∙ ap (λ (p : Place). p ∷ []) (at_origin cell turn o a b 1 1)
 
-both : (a b : Bool) → (a && b) ≡ true → (a ≡ true) × (b ≡ true)
-both true b e = (refl, e)
-both false b e = absurd cc
-
 pub law : PlacesLaw
 law d p = by_test (p.columns == 1 && p.rows == 1) refl
   where
     by_test : (b : Bool) → (p.columns == 1 && p.rows == 1) ≡ b → places_of (placing p.cell (cond b (single (ref_of d p).cell p.motion) (ref_of d p)) ∷ []) ≡ places_of (reference p ∷ [])
     by_test false e = refl
     by_test true e =
-        let t = both (p.columns == 1) (p.rows == 1) e in
+        let t = and_parts (p.columns == 1) (p.rows == 1) e in
         let o : Point = record { x = p.motion.dx; y = p.motion.dy } in
         let zero_point : Point = record { x = pos 0; y = pos 0 } in
         one p.cell p.motion.turn o zero_point zero_point 1 1 refl refl ∙ sym (one p.cell p.motion.turn o p.column_step p.row_step p.columns p.rows (eqb-true _ _ t.0) (eqb-true _ _ t.1))

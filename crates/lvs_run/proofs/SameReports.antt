@@ -3,7 +3,6 @@ use Rattle.std.proofs.Common.{◌≡◌, ℕ, zero, suc, List, [], ◌∷◌, �
 use Rattle.cell_graph.specs.Linked.{Linked}
 use Rattle.cell_graph.specs.declared.cells.CellPart.{CellPart}
 use Rattle.cell_graph.specs.declared.cells.Place.{Place}
-use Rattle.deep_tables.specs.Gates.{plain_cause}
 use Rattle.deep_tables.specs.declared.gates.BadGate.{BadGate}
 use Rattle.flat_layout.specs.Layout as flat
 use Rattle.gds_layout.specs.Once.{contents}
@@ -31,7 +30,7 @@ same_name (x ∷ xs) (y ∷ ys) (suc i) e = let t : map contents xs ≡ map cont
 same_lines : (d e : Linked) (bad : List BadGate) → map contents d.cells ≡ map contents e.cells → gate_lines d bad ≡ gate_lines e bad
 same_lines d e [] same = refl
 same_lines d e (x ∷ xs) same =
-    ap (λ (w : List ℕ). (codes "gate" ++ (name_word w ++ (name_word x.class ++ (square_words x.least ++ (cause_word (plain_cause x.cause) ++ 10 ∷ []))))) ++ gate_lines d xs)
+    ap (λ (w : List ℕ). (codes "gate" ++ (name_word w ++ (name_word x.class ++ (square_words x.least ++ (cause_word x.cause ++ 10 ∷ []))))) ++ gate_lines d xs)
     (same_name d.cells e.cells x.cell same)
     ∙ ap (λ (ls : List ℕ). gate_line e x ++ ls) (same_lines d e xs same)
 

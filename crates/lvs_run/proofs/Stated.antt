@@ -1,5 +1,7 @@
 -- What the words of a command say of its workers and of the files that it writes.
 use Rattle.std.proofs.Common.{◌≡◌, ℕ, zero, suc, slice_get, codes, ◌≤◌, ◌-◌, ◌^◌, Bool, true, false, ◌&&◌, ◌||◌, List, [], ◌∷◌, Option, Some, None, is_some, if◌then◌else◌, refl, sym, subst, arith, ◌∙◌}
+use Rattle.base_laws.proofs.Tests.{or_true}
+use Rattle.std.proofs.lemmas.Bool.{and_parts}
 use Rattle.std.specs.List.{list_any}
 use Rattle.std.specs.Option.{option_and_then, unwrap_or}
 use Rattle.std.specs.Str.{bytes_eq}
@@ -24,10 +26,6 @@ same_flag a b e = same_true the_type tt a b e
 -- a file is written to the path that the option gives
 abbrev pub Writes : Flag → Type 0
 Writes f = (is_path f ≡ true) × (is_written f ≡ true)
-
-or_true : (b : Bool) → (b || true) ≡ true
-or_true true = refl
-or_true false = refl
 
 clash : (i j : Item) → Writes i.flag → Writes j.flag → i.value ≡ j.value → clashes i j ≡ true
 clash i j w u e = let s : bytes_eq i.value j.value ≡ true = (bytes_eq-Decides i.value j.value).1 e in rw (w.0, u.0, w.1, s) refl
@@ -136,24 +134,19 @@ with_workers : (o : Option ℕ) (of : ℕ → Asked) (a : Asked) (shared : Optio
 with_workers None of a shared h e = none_asked a shared e
 with_workers (Some k) of a shared h e = of_asked (of k) a shared (h k refl) e
 
-both : (a b : Bool) → (a && b) ≡ true → (a ≡ true) × (b ≡ true)
-both true true e = (refl, refl)
-both true false e = let no : false ≡ true = e in cc
-both false b e = let no : false ≡ true = e in cc
-
 -- an option that is needed is there
 needed_at : (fs : List Flag) (is : List Item) (i : ℕ) (f : Flag) → has_needed fs is ≡ true → slice_get fs i ≡ Some f → is_some (value_of f is) ≡ true
 needed_at [] is zero f e h = cc
 needed_at [] is (suc i) f e h = cc
 needed_at (g ∷ gs) is zero f e h =
-    let here = both (is_some (value_of g is)) (has_needed gs is) e in
+    let here = and_parts (is_some (value_of g is)) (has_needed gs is) e in
     let same : g ≡ f = cc in subst (λ (x : Flag). is_some (value_of x is) ≡ true) same here.0
 needed_at (g ∷ gs) is (suc i) f e h =
-    let here = both (is_some (value_of g is)) (has_needed gs is) e in
+    let here = and_parts (is_some (value_of g is)) (has_needed gs is) e in
     let behind : slice_get gs i ≡ Some f = h in needed_at gs is i f here.1 behind
 
 all_needed : (fs : List Flag) (is : List Item) → fits fs is ≡ true → has_needed fs is ≡ true
-all_needed fs is e = let h = both (are_once is && has_known fs is) (has_needed fs is) e in h.1
+all_needed fs is e = let h = and_parts (are_once is && has_known fs is) (has_needed fs is) e in h.1
 
 fair_extract_of : (is : List Item) (a : Asked) → extract_of is ≡ Some a → IsFair a (shared is)
 fair_extract_of is a e =

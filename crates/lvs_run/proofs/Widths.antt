@@ -1,10 +1,10 @@
 -- Which answers refuse what is to be compared.
 use Rattle.std.proofs.Common.{◌≡◌, ◌⊎◌, inl, inr, ◌+◌, ◌<◌, ◌≤◌, ℕ, suc, true, false, Bool, cond, if◌then◌else◌, List, [], ◌∷◌, length, slice_get, Option, Some, None, refl, sym, subst, ap, ap₂, ◌∙◌, arith}
+use Rattle.base_laws.proofs.Items.{item_at}
 use Rattle.std.specs.Option.{option_map}
 use Rattle.cell_graph.specs.Linked.{Linked, IsSound, cell_at}
 use Rattle.cell_graph.specs.declared.cells.CellPart.{CellPart}
 use Rattle.layout_shapes.specs.Written.{name_of as cell_name}
-use Rattle.layout_shapes.proofs.Fitting.{there}
 use Rattle.layout_shapes.proofs.Reaching.{within}
 use Rattle.deep_tables.specs.declared.gates.BadGate.{BadGate}
 use Rattle.gds_layout.specs.declared.layout.Layout.{Layout}
@@ -99,7 +99,7 @@ wide_inside l r cell sound h = within l.design cell sound.order h.first.0
 
 -- and its name refuses the layout
 pub stops_far : (l : Layout) (r : Rules) (cell : ℕ) (a : Answer) → IsSound l.design → IsWide l r cell → ((c : CellPart) → cell_at l.design cell ≡ Some c → IsStopFor c.name a) → NotWide l r a
-stops_far l r cell a sound h f = by_part (there l.design.cells cell (wide_inside l r cell sound h)) a f
+stops_far l r cell a sound h f = by_part (item_at l.design.cells cell (wide_inside l r cell sound h)) a f
   where
     far : (p : (c : CellPart) × (cell_at l.design cell ≡ Some c)) (a : Answer) → a ≡ RefusedWide p.0.name → IsTooFar l r a
     far p a e = record { cell = cell; wide = h; answer = e ∙ ap (λ (n : List ℕ). RefusedWide n) (sym (ap cell_name p.1)) }

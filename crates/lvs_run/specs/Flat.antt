@@ -10,13 +10,13 @@ use Rattle.rule_text.specs.Rules.{Rules}
 use Rattle.rule_text.specs.Reading.{Means}
 use Rattle.cell_graph.specs.Linked.{plain}
 use Rattle.deep_tables.specs.declared.gates.BadGate.{BadGate}
-use Rattle.flat_layout.specs.Gates.{Cause}
 use Rattle.flat_layout.specs.GateTables.{GateSquare}
 use Rattle.netlist_file.specs.Flat.{HasNoBadGate, IsBadFlatGate, ShowsFlat}
 use Rattle.plain_netlist.specs.Netlist.{Netlist}
 use Rattle.rule_layers.specs.Meaning.{device_rules, wiring_of}
 use Rattle.lvs_run.specs.Words.{Outputs, Paths, ToNetlist, ForNetlist, ForShapes}
 use Rattle.lvs_run.specs.Answers.{Answer, Good, Bad, IsVerdict}
+use Rattle.flat_layout.specs.declared.cause.GateCause.{GateCause}
 
 -- the list has a file of this path, and this is a fact of its text
 abbrev pub ListsAs : List File → List ℕ → (List ℕ → Type 0) → Type 0
@@ -64,7 +64,7 @@ WritesFlat said old new a = IsVerdict a → OfStated said (λ p. ForShapes p.out
 
 -- a gate of the flat layout is bad
 abbrev pub HasBadGate : Layout → Rules → Type 0
-HasBadGate l r = (g : GateSquare) × (cause : Cause)
+HasBadGate l r = (g : GateSquare) × (cause : GateCause)
     × IsBadFlatGate (plain l.design) (wiring_of r) (device_rules r) g cause
 
 -- the answer is Good exactly where no gate of the flat layout is bad, and Bad exactly where one is

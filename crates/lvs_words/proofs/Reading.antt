@@ -1,5 +1,5 @@
 -- Options, read one after the other.
-use Rattle.std.proofs.Common.{◌≡◌, ◌+◌, ◌++◌, ℕ, Bool, true, false, List, [], ◌∷◌, length, take, drop, get_or, map, ◌≤◌, ◌-◌, not, subst, if◌then◌else◌, Option, Some, None, refl, sym, ap, ◌∙◌, arith, append_assoc}
+use Rattle.std.proofs.Common.{◌≡◌, ◌+◌, ◌++◌, ℕ, Bool, true, false, List, [], ◌∷◌, length, take, drop, get_or, map, ◌≤◌, ◌-◌, subst, if◌then◌else◌, Option, Some, None, refl, sym, ap, ◌∙◌, arith, append_assoc}
 use Rattle.std.proofs.lemmas.List.{drop_all, take_all}
 use Rattle.std.specs.List.{position_or_len, before_first, after_first}
 use Rattle.lvs_words.specs.Flags.{is_same}
@@ -68,10 +68,6 @@ kept_one new found i ws bs whole e had next =
 pub values_kept : (new found : List Code) (i : Code) → new ≡ found ++ i ∷ [] → AreValues (seen_all found) → is_value (seen i).value ≡ true → AreValues (seen_all new)
 values_kept new found i e had value =
     subst (λ (xs : List Code). AreValues (seen_all xs)) (sym e) (subst (λ (xs : List Item). AreValues xs) (sym (seen_one found i)) (values_one (seen_all found) (seen i) had value))
-
-pub ok_of : (b : Bool) → not b ≡ false → b ≡ true
-ok_of true e = refl
-ok_of false e = let f : true ≡ false = e in cc
 
 -- the first of the words, and those behind it
 pub front_of : {A : Type 0} → (f : A → List ℕ) (ws : List A) (w : A) → 1 ≤ length ws → w ≡ get_or ws 0 w → map f ws ≡ f w ∷ map f (take (length ws - 1) (drop 1 ws))

@@ -1,5 +1,7 @@
 -- The ends of a node in the graph are those of the web.
 use Rattle.std.proofs.Common.{◌≡◌, inl, inr, ℕ, ◌+◌, ◌<◌, ◌==◌, Bool, true, false, cond, List, [], ◌∷◌, ◌++◌, map, length, slice_index, slice_get, Option, refl, sym, subst, ◌∙◌, ap, ap₂, arith}
+use Rattle.base_laws.proofs.Tests.{same_truth}
+use Rattle.std.proofs.lemmas.Bool.{cases_Bool, false_from_ne_true, ne_eqb}
 use Rattle.std.specs.List.{count_by, sum_by, flat_map}
 use Rattle.std.proofs.lemmas.List.Sums.{sum_by-cons, sum_by-append}
 use Rattle.std.proofs.lemmas.Bool.Decides.{Decides-eqb}
@@ -7,12 +9,11 @@ use Rattle.plain_netlist.specs.Netlist.{DeviceRow, CallRow}
 use Rattle.plain_netlist.specs.Lists.{IsListed}
 use Rattle.round_laws.specs.Web.{Port as PlainPort, Pin, End as PlainEnd, IsNode}
 use Rattle.round_laws.specs.Nodes.{Node, Side, Layout, Schematic, Kind, Net, Device, Call}
-use Rattle.round_laws.proofs.Agree.{is_it, same_test, in_left, in_right, count_none, count_same}
+use Rattle.round_laws.proofs.Agree.{in_left, in_right, count_none, count_same}
 use Rattle.round_laws.proofs.Stable.{in_either}
-use Rattle.round_laws.proofs.Fast.{false_if}
 use Rattle.part_laws.specs.Renamed.{renamed_end}
 use Rattle.match_laws.specs.Circuits.{Pair, circuit_of, numbers_from, node, end_at, right_pin, device_ends, call_ends, terminals, terminals_of, owners, nodes, same_node, ends_on, near_at, web_of, IsFitting}
-use Rattle.match_laws.proofs.Sums.{sum_same, sum-map, sum-flat, in_map, number_once, not_equal}
+use Rattle.match_laws.proofs.Sums.{sum_same, sum-map, sum-flat, in_map, number_once}
 use Rattle.match_laws.proofs.Images.{size, seen, in_device, node_decides, nodes_there, device_terms, call_terms, terminals_listed, sum-turned}
 use Rattle.match_graph.specs.declared.graph.End.{End}
 use Rattle.match_graph.specs.declared.edges.Edge.{Edge}
@@ -48,12 +49,12 @@ pick t g n [] is one = absurd (omega arith)
 pick {X} t g n (x ∷ xs) is one =
     let a = sum_by-cons (λ y. cond {A = ℕ} (t y) 1 0) x xs in
     let b = sum_by-cons (λ y. cond {A = ℕ} (t y) (g y) 0) x xs in
-    elim (is_it (t x)) [
+    elim (cases_Bool (t x)) [
       | inl r ↦
           let c = hit (t x) 1 r in
           let d = hit (t x) (g x) r in
           let none : count_by t xs ≡ 0 = omega arith in
-          let rest = sum_none (λ y. cond {A = ℕ} (t y) (g y) 0) xs (λ y i. miss (t y) (g y) (false_if (t y) (λ u. passes_none t xs none y i u))) in
+          let rest = sum_none (λ y. cond {A = ℕ} (t y) (g y) 0) xs (λ y i. miss (t y) (g y) (false_from_ne_true (t y) (λ u. passes_none t xs none y i u))) in
           let e = is x (inl refl) r in
           omega arith
       | inr r ↦
@@ -142,12 +143,12 @@ owner_terminal p side fit o i e j =
 
 -- equal numbers of nodes as a test
 pub index_test : (p : Pair) (a b : Node) → IsNode (web_of p) a → IsNode (web_of p) b → (index_of p a == index_of p b) ≡ same_node a b
-index_test p a b i j = same_test _ _
+index_test p a b i j = same_truth _ _
     (λ t. (node_decides a b).1 (index-injective p a b i j ((Decides-eqb (index_of p a) (index_of p b)).0 t)))
     (λ t. (Decides-eqb (index_of p a) (index_of p b)).1 (ap (index_of p) ((node_decides a b).0 t)))
 
 unequal_index : (p : Pair) (a b : Node) → IsNode (web_of p) a → IsNode (web_of p) b → (a.kind ≡ b.kind → ⊥) → (index_of p a == index_of p b) ≡ false
-unequal_index p a b i j not = not_equal (index_of p a) (index_of p b) (λ e. not (ap (λ (x : Node). x.kind) (index-injective p a b i j e)))
+unequal_index p a b i j not = ne_eqb (index_of p a) (index_of p b) (λ e. not (ap (λ (x : Node). x.kind) (index-injective p a b i j e)))
 
 -- a node stands once among all
 once_all : (p : Pair) (a : Node) → IsNode (web_of p) a → count_by (λ o. index_of p o == index_of p a) (nodes p Layout ++ nodes p Schematic) ≡ 1
@@ -161,7 +162,7 @@ once_all p a i =
     let numbers : sum_by (λ x. cond {A = ℕ} (x == index_of p a) 1 0) (map (index_of p) (nodes p Layout) ++ map (index_of p) (nodes p Schematic)) ≡ sum_by (λ x. cond {A = ℕ} (x == index_of p a) 1 0) (numbers_from 0 (nodes_in p.left + nodes_in p.right))
     = ap (sum_by (λ x. cond {A = ℕ} (x == index_of p a) 1 0)) joined in
     let turned : count_by (λ x. x == index_of p a) (numbers_from 0 (nodes_in p.left + nodes_in p.right)) ≡ count_by (λ x. index_of p a == x) (numbers_from 0 (nodes_in p.left + nodes_in p.right))
-    = count_same _ _ (numbers_from 0 (nodes_in p.left + nodes_in p.right)) (λ x j. same_test _ _ (λ t. (Decides-eqb (index_of p a) x).1 (sym ((Decides-eqb x (index_of p a)).0 t))) (λ t. (Decides-eqb x (index_of p a)).1 (sym ((Decides-eqb (index_of p a) x).0 t)))) in
+    = count_same _ _ (numbers_from 0 (nodes_in p.left + nodes_in p.right)) (λ x j. same_truth _ _ (λ t. (Decides-eqb (index_of p a) x).1 (sym ((Decides-eqb x (index_of p a)).0 t))) (λ t. (Decides-eqb x (index_of p a)).1 (sym ((Decides-eqb (index_of p a) x).0 t)))) in
     let below : index_of p a < 0 + (nodes_in p.left + nodes_in p.right)
     = elim i [ inl j ↦ let h = index-last p Layout a j in omega arith | inr j ↦ let h = index-last p Schematic a j in omega arith ] in
     let one = number_once (index_of p a) 0 (nodes_in p.left + nodes_in p.right) (omega arith) below in
@@ -236,7 +237,7 @@ net_all p fl fr a i is g =
 other_none : (p : Pair) (side other : Side) → IsFitting p other → (a : Node) → a.side ≡ side → (side ≡ other → ⊥) → (g : End → ℕ) → sum_by (on_net p g a) (owners p other) ≡ 0
 other_none p side other fit a stands not g = sum_none (on_net p g a) (owners p other) (λ o i.
     sum_none _ (terminals_of p o) (λ e m. miss (same_node e.node a) (g (end (port_of e.port) (index_of p o)))
-    (false_if (same_node e.node a) (λ t.
+    (false_from_ne_true (same_node e.node a) (λ t.
     let n : e.node ≡ a = (node_decides e.node a).0 t in
     let s = nodes_there p other e.node (owner_terminal p other fit o i e m) in
     not (sym stands ∙ (sym (ap (λ (x : Node). x.side) n) ∙ s.stands))))))

@@ -1,10 +1,10 @@
 -- Numbers for what the first round goes by, one node after another.
 use Rattle.std.proofs.Common.{◌≡◌, ℕ, zero, suc, ◌+◌, ◌<◌, ◌≤◌, ◌==◌, Bool, false, cond, List, [], ◌∷◌, ◌++◌, length, map, take, slice_get, slice_index, get_or, Option, Some, None, refl, sym, subst, ◌∙◌, ap, ap₂, arith, append_assoc, inl, inr}
+use Rattle.base_laws.proofs.Tests.{same_truth}
 use Rattle.std.specs.HashMap.{get, hash_map_len}
 use Rattle.std.specs.Bool.{Decides}
 use Rattle.std.specs.List.{list_any}
-use Rattle.round_laws.proofs.Agree.{is_it, same_test}
-use Rattle.std.proofs.lemmas.Bool.{cases_lt}
+use Rattle.std.proofs.lemmas.Bool.{cases_lt, cases_Bool}
 use Rattle.std.proofs.lemmas.Option.{same_Some, slice_get_within, get_or_from_slice_get}
 use Rattle.std.proofs.lemmas.List.{append-nil, get_or_push, get_or_append_left, length_push, map_more, map_push, take_all}
 use Rattle.match_laws.specs.Circuits.{Own as PlainOwn, OfNone, same_own, numbers_from, is_pin, pin_name, OfNet}
@@ -69,7 +69,7 @@ grown owns number new count kinds own h none is =
     let miss : (q : Own) → eq-value.it own q ≡ false → new q ≡ number q
     = λ q e. is q ∙ ap (λ (t : Bool). cond t (Some count) (number q)) e in
     let kept : (q : Own) (v : ℕ) → number q ≡ Some v → new q ≡ Some v
-    = λ q v e. elim (is_it (eq-value.it own q)) [
+    = λ q v e. elim (cases_Bool (eq-value.it own q)) [
       | inl t ↦ absurd (none-some v (sym none ∙ (h.alike own q ((same_decides own q).0 t) ∙ e)))
       | inr f ↦ miss q f ∙ e
     ] in
@@ -77,21 +77,21 @@ grown owns number new count kinds own h none is =
       long = h.long;
       given = λ i l q e. kept q (slice_index kinds i) (h.given i l q e);
       made = h.made;
-      low = λ q v e. elim (is_it (eq-value.it own q)) [
+      low = λ q v e. elim (cases_Bool (eq-value.it own q)) [
         | inl t ↦
             let same : count ≡ v = same_Some _ _ (sym (hit q ((same_decides own q).0 t)) ∙ e) in
             omega arith
         | inr f ↦ let l = h.low q v (sym (miss q f) ∙ e) in omega arith
       ];
-      one = λ q r v e g. elim (is_it (eq-value.it own q)) [
-        | inl t ↦ elim (is_it (eq-value.it own r)) [
+      one = λ q r v e g. elim (cases_Bool (eq-value.it own q)) [
+        | inl t ↦ elim (cases_Bool (eq-value.it own r)) [
           | inl u ↦ sym ((same_decides own q).0 t) ∙ (same_decides own r).0 u
           | inr f ↦
               let same : count ≡ v = same_Some _ _ (sym (hit q ((same_decides own q).0 t)) ∙ e) in
               let l = h.low r v (sym (miss r f) ∙ g) in
               absurd (omega arith)
         ]
-        | inr f ↦ elim (is_it (eq-value.it own r)) [
+        | inr f ↦ elim (cases_Bool (eq-value.it own r)) [
           | inl u ↦
               let same : count ≡ v = same_Some _ _ (sym (hit r ((same_decides own r).0 u)) ∙ g) in
               let l = h.low q v (sym (miss q f) ∙ e) in
@@ -158,7 +158,7 @@ rows_all f rows i l = ap (map f) (take_all i rows l)
 
 -- a mark is set exactly where the net is listed
 pub marked : (pins : List ℕ) (marks : List Bool) (n : ℕ) → AreMarked pins marks → n < length marks → get_or marks n false ≡ list_any (λ p. p == n) pins
-marked pins marks n h l = same_test _ _ (λ t. listed_any n pins ((h n l).0 t)) (λ t. (h n l).1 (any_listed n pins t))
+marked pins marks n h l = same_truth _ _ (λ t. listed_any n pins ((h n l).0 t)) (λ t. (h n l).1 (any_listed n pins t))
 
 -- equal names make equal nodes
 same_nets : (told : Bool) (c : Circuit) (names : List (Option (List ℕ))) (n : ℕ) → n ≤ length c.nets → ArePinNames told c names

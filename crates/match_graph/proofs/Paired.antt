@@ -1,5 +1,7 @@
 -- The arrays are the graph of the pair.
 use Rattle.std.proofs.Common.{◌≡◌, ◌⊎◌, inl, inr, ℕ, zero, suc, ◌+◌, ◌-◌, ◌<◌, ◌≤◌, ◌==◌, ◌&&◌, Bool, true, false, cond, List, [], ◌∷◌, ◌++◌, map, length, slice_index, slice_get, get_or, Option, Some, None, refl, sym, subst, ◌∙◌, ap, ap₂, arith, length-append}
+use Rattle.base_laws.proofs.Tests.{turned_test, same_truth}
+use Rattle.std.proofs.lemmas.Bool.{cases_Bool}
 use Rattle.std.proofs.lemmas.List.{length-map, get_or_append_left, get_or-append_right}
 use Rattle.std.proofs.lemmas.Bool.Decides.{Decides-eqb}
 use Rattle.plain_netlist.specs.Netlist.{DeviceRow, CallRow, Circuit}
@@ -7,7 +9,6 @@ use Rattle.plain_netlist.specs.Lists.{IsListed}
 use Rattle.round_laws.specs.Web.{Port as PlainPort, same_port, Channel, Gate, Bulk, Pin, End as PlainEnd, IsNode}
 use Rattle.round_laws.specs.Nodes.{Node, Side, Layout, Schematic, Kind, Net, Device, Call}
 use Rattle.round_laws.specs.Colours.{ends_of}
-use Rattle.round_laws.proofs.Agree.{is_it, same_test}
 use Rattle.round_laws.proofs.Stable.{in_either}
 use Rattle.match_laws.specs.Circuits.{Pair, is_pin, pin_name, circuit_of, numbers_from, node, end_at, right_pin, device_ends, call_ends, terminals, terminals_of, owners, nodes, same_node, ends_on, near_at, web_of, IsFitting, Own, OfNet, OfCall, OfNone, same_own, own_at, own}
 use Rattle.match_laws.proofs.Sums.{sum_same, sum-map, sum-flat, in_map}
@@ -118,9 +119,6 @@ swapped true false false = refl
 swapped false true true = refl
 swapped false true false = refl
 swapped false false q = refl
-
-turned_test : (m n : ℕ) → (m == n) ≡ (n == m)
-turned_test m n = same_test _ _ (λ t. (Decides-eqb n m).1 (sym ((Decides-eqb m n).0 t))) (λ t. (Decides-eqb m n).1 (sym ((Decides-eqb n m).0 t)))
 
 one_turned : (q : PlainPort) (a b : ℕ) (y : Edge) → cond (y.owner == a) (cond {A = ℕ} (same_port q (plain_port y.port) && (b == y.net)) 1 0) 0
     ≡ cond (y.net == b) (cond {A = ℕ} (same_port q (plain_port y.port) && (a == y.owner)) 1 0) 0
@@ -245,7 +243,7 @@ alike_same p kinds h a b i j =
     let la = index_below p a i in
     let lb = index_below p b j in
     let s = h.same (index_of p a) (index_of p b) (omega arith) (omega arith) in
-    same_test _ _
+    same_truth _ _
     (λ t. (own_decides (own p a) (own p b)).1 (sym (own_of p a i) ∙ (s.0 ((Decides-eqb (slice_index kinds (index_of p a)) (slice_index kinds (index_of p b))).0 t) ∙ own_of p b j)))
     (λ t. (Decides-eqb (slice_index kinds (index_of p a)) (slice_index kinds (index_of p b))).1 (s.1 (own_of p a i ∙ ((own_decides (own p a) (own p b)).0 t ∙ sym (own_of p b j)))))
 
@@ -278,7 +276,7 @@ terminal_pin p side Call k e q i l is = elim (seen (slice_get (circuit_of p side
 
 turned_port : (net owner : Node) (es : List (PlainEnd Node)) (e : PlainEnd Node) → IsListed e (ends_on net owner es) → (x : PlainEnd Node) × IsListed x es × (e.port ≡ x.port)
 turned_port net owner [] e i = absurd i
-turned_port net owner (x ∷ xs) e i = elim (is_it (same_node x.node net)) [
+turned_port net owner (x ∷ xs) e i = elim (cases_Bool (same_node x.node net)) [
   | inl r ↦ elim (subst (λ (b : Bool). IsListed e (cond b (end_at x.port owner ∷ ends_on net owner xs) (ends_on net owner xs))) r i) [
     | inl h ↦ (x, inl refl, ap (λ (y : PlainEnd Node). y.port) h)
     | inr j ↦ let f = turned_port net owner xs e j in (f.0, inr f.1, f.2)

@@ -1,5 +1,8 @@
 -- A correspondence of circuits is one of their web.
 use Rattle.std.proofs.Common.{◌≡◌, ◌⊎◌, inl, inr, ℕ, ◌+◌, ◌<◌, ◌==◌, cond, Bool, true, false, List, [], ◌∷◌, map, length, slice_index, Option, Some, None, slice_get, bytes_eq, refl, sym, subst, ◌∙◌, ap, ap₂, arith, true≢false}
+use Rattle.base_laws.proofs.Tests.{same_truth}
+use Rattle.base_laws.proofs.Items.{item_at}
+use Rattle.std.proofs.lemmas.Bool.{and_from, cases_Bool}
 use Rattle.std.specs.List.{count_by, sum_by, flat_map, list_any}
 use Rattle.std.specs.Cmp.{bool_eq_equiv}
 use Rattle.std.specs.Bool.{Decides, beq}
@@ -11,10 +14,10 @@ use Rattle.round_laws.specs.Web.{Port, Channel, Gate, Bulk, Pin, End, IsWeb, IsW
 use Rattle.round_laws.specs.Nodes.{Node, Side, Layout, Schematic, Kind, Net, Device, Call}
 use Rattle.plain_netlist.specs.Netlist.{DeviceRow, CallRow}
 use Rattle.match_laws.specs.Circuits.{Pair, circuit_of, right_pin, numbers_from, node, end_at, device_ends, call_ends, terminals, terminals_of, owners, nodes, same_side, same_kind, same_node, ends_on, near_at, Own, OfNet, OfDevice, OfCall, OfNone, same_own, own_at, own, web_of, IsOneToOne, Pairing, IsDeviceImage, IsCallImage, IsCorrespondence, IsFitting, image_at, node_image}
-use Rattle.round_laws.proofs.Agree.{at_equivalence, both, first, second, same_test, is_it, in_left, in_right}
+use Rattle.round_laws.proofs.Agree.{at_equivalence, first, second, in_left, in_right}
 use Rattle.round_laws.proofs.Stable.{in_either, any_found, any_of}
 use Rattle.round_laws.proofs.Unique.{node_is}
-use Rattle.match_laws.proofs.Sums.{decided_equivalence, sum_same, sum-map, sum-flat, in_numbers, numbers_has, onto_sum, index_below, index_one, listed_index, found_at, map_has, in_map}
+use Rattle.match_laws.proofs.Sums.{decided_equivalence, sum_same, sum-map, sum-flat, in_numbers, numbers_has, onto_sum, index_below, index_one, listed_index, map_has, in_map}
 
 -- nodes
 pub side_decides : (a b : Side) → Decides (same_side a b) (a ≡ b)
@@ -39,8 +42,8 @@ node_decides a b = (
   (λ h. node_is a b ((side_decides a.side b.side).0 (first (same_side a.side b.side) _ h))
       ((kind_decides a.kind b.kind).0 (first (same_kind a.kind b.kind) _ (second (same_side a.side b.side) _ h)))
       ((Decides-eqb a.number b.number).0 (second (same_kind a.kind b.kind) _ (second (same_side a.side b.side) _ h)))),
-  (λ h. both (same_side a.side b.side) _ ((side_decides a.side b.side).1 (ap (λ (x : Node). x.side) h))
-      (both (same_kind a.kind b.kind) _ ((kind_decides a.kind b.kind).1 (ap (λ (x : Node). x.kind) h))
+  (λ h. and_from (same_side a.side b.side) _ ((side_decides a.side b.side).1 (ap (λ (x : Node). x.side) h))
+      (and_from (same_kind a.kind b.kind) _ ((kind_decides a.kind b.kind).1 (ap (λ (x : Node). x.kind) h))
       ((Decides-eqb a.number b.number).1 (ap (λ (x : Node). x.number) h)))),
 )
 
@@ -169,7 +172,7 @@ own_decides (OfNet a m) (OfNet b n) = (
   (λ h.
       let e : a ≡ b = cc in
       let q : m ≡ n = cc in
-      both (beq a b) _ (subst (λ (x : Bool). beq a x ≡ true) e (bool_eq_equiv.refl a)) ((bytes_eq-Decides m n).1 q)),
+      and_from (beq a b) _ (subst (λ (x : Bool). beq a x ≡ true) e (bool_eq_equiv.refl a)) ((bytes_eq-Decides m n).1 q)),
 )
   where
     bool_is : (a b : Bool) → beq a b ≡ true → a ≡ b
@@ -187,7 +190,7 @@ own_decides (OfDevice c l w) (OfDevice d m v) = (
       let p : c ≡ d = cc in
       let q : l ≡ m = cc in
       let r : w ≡ v = cc in
-      both (bytes_eq c d) _ ((bytes_eq-Decides c d).1 p) (both (l == m) _ ((Decides-eqb l m).1 q) ((Decides-eqb w v).1 r))),
+      and_from (bytes_eq c d) _ ((bytes_eq-Decides c d).1 p) (and_from (l == m) _ ((Decides-eqb l m).1 q) ((Decides-eqb w v).1 r))),
 )
 own_decides (OfCall p) (OfCall q) = ((λ h. ap OfCall ((Decides-eqb p q).0 h)), (λ h. let e : p ≡ q = cc in (Decides-eqb p q).1 e))
 own_decides OfNone OfNone = ((λ _. refl), (λ _. refl))
@@ -196,15 +199,15 @@ own_decides a b = ((λ h. absurd (true≢false (sym h))), (λ h. absurd cc))
 device_at : (p : Pair) (f : Pairing) → IsCorrespondence p f → (k : ℕ) → k < size p Layout Device
     → (d : DeviceRow) × (slice_get p.left.devices k ≡ Some d) × (e : DeviceRow) × (slice_get p.right.devices (slice_index f.devices k) ≡ Some e) × IsDeviceImage f.nets d e
 device_at p f c k h =
-    let d = found_at p.left.devices k h in
-    let e = found_at p.right.devices (slice_index f.devices k) (image_below p f c Device k h) in
+    let d = item_at p.left.devices k h in
+    let e = item_at p.right.devices (slice_index f.devices k) (image_below p f c Device k h) in
     (d.0, d.1, e.0, e.1, c.device k d.0 e.0 d.1 e.1)
 
 call_at : (p : Pair) (f : Pairing) → IsCorrespondence p f → (k : ℕ) → k < size p Layout Call
     → (d : CallRow) × (slice_get p.left.calls k ≡ Some d) × (e : CallRow) × (slice_get p.right.calls (slice_index f.calls k) ≡ Some e) × IsCallImage p.children f.nets d e
 call_at p f c k h =
-    let d = found_at p.left.calls k h in
-    let e = found_at p.right.calls (slice_index f.calls k) (image_below p f c Call k h) in
+    let d = item_at p.left.calls k h in
+    let e = item_at p.right.calls (slice_index f.calls k) (image_below p f c Call k h) in
     (d.0, d.1, e.0, e.1, c.call k d.0 e.0 d.1 e.1)
 
 abbrev device_own : Option DeviceRow → Own
@@ -222,7 +225,7 @@ any_listed n xs h =
     subst (λ (x : ℕ). IsListed x xs) ((Decides-eqb f.0 n).0 f.2) f.1
 
 own_carried : (p : Pair) (f : Pairing) → IsCorrespondence p f → (kind : Kind) (k : ℕ) → k < size p Layout kind → own_at p Layout kind k ≡ own_at p Schematic kind (image_at f kind k)
-own_carried p f c Net k h = ap₂ OfNet (same_test _ _
+own_carried p f c Net k h = ap₂ OfNet (same_truth _ _
     (λ t. listed_any (slice_index f.nets k) p.right.pins ((c.pin k h).0 (any_listed k p.left.pins t)))
     (λ t. listed_any k p.left.pins ((c.pin k h).1 (any_listed (slice_index f.nets k) p.right.pins t)))) (c.named k h)
 own_carried p f c Device k h =
@@ -351,7 +354,7 @@ in_flat h y (x ∷ xs) i = elim (in_either y (h x) (flat_map h xs) i) [
 
 pub in_turned : (net owner : Node) (es : List (End Node)) (e : End Node) → IsListed e (ends_on net owner es) → e.node ≡ owner
 in_turned net owner [] e i = absurd i
-in_turned net owner (x ∷ xs) e i = elim (is_it (same_node x.node net)) [
+in_turned net owner (x ∷ xs) e i = elim (cases_Bool (same_node x.node net)) [
   | inl r ↦ elim (subst (λ (b : Bool). IsListed e (cond b (end_at x.port owner ∷ ends_on net owner xs) (ends_on net owner xs))) r i) [
     | inl h ↦ ap (λ (y : End Node). y.node) h
     | inr j ↦ in_turned net owner xs e j
@@ -382,7 +385,7 @@ sum-turned g net owner [] = refl
 sum-turned g net owner (e ∷ es) =
     let b = sum_by-cons (λ x. cond {A = ℕ} (same_node x.node net) (g (end_at x.port owner)) 0) e es in
     let rest = sum-turned g net owner es in
-    elim (is_it (same_node e.node net)) [
+    elim (cases_Bool (same_node e.node net)) [
       | inl r ↦
           let h : sum_by g (ends_on net owner (e ∷ es)) ≡ sum_by g (end_at e.port owner ∷ ends_on net owner es)
           = ap (λ (t : Bool). sum_by g (cond t (end_at e.port owner ∷ ends_on net owner es) (ends_on net owner es))) r in
@@ -397,7 +400,7 @@ sum-turned g net owner (e ∷ es) =
     ]
 
 same_carried : (p : Pair) (f : Pairing) → IsCorrespondence p f → (a b : Node) → IsListed a (nodes p Layout) → IsListed b (nodes p Layout) → same_node (node_image f a) (node_image f b) ≡ same_node a b
-same_carried p f c a b i j = same_test _ _
+same_carried p f c a b i j = same_truth _ _
     (λ h. (node_decides a b).1 (carried_one p f c a b i j ((node_decides (node_image f a) (node_image f b)).0 h)))
     (λ h. (node_decides (node_image f a) (node_image f b)).1 (ap (node_image f) ((node_decides a b).0 h)))
 

@@ -1,5 +1,8 @@
 -- A correspondence of the web of two circuits is one of the circuits.
 use Rattle.std.proofs.Common.{◌≡◌, ◌⊎◌, inl, inr, ℕ, zero, suc, ◌+◌, ◌<◌, ◌≤◌, ◌==◌, ◌&&◌, cond, Bool, true, false, List, [], ◌∷◌, map, length, slice_index, Option, Some, None, slice_get, refl, sym, subst, ◌∙◌, ap, ap₂, arith}
+use Rattle.base_laws.proofs.Tests.{same_truth}
+use Rattle.base_laws.proofs.Items.{item_at}
+use Rattle.std.proofs.lemmas.Bool.{and_from, cases_Bool}
 use Rattle.std.specs.List.{count_by, list_any}
 use Rattle.std.proofs.Math.Decide.{ℕ_discrete}
 use Rattle.std.proofs.lemmas.Option.{same_Some, slice_get_within}
@@ -9,10 +12,10 @@ use Rattle.round_laws.specs.Web.{Port, Channel, Gate, Bulk, Pin, same_port, End,
 use Rattle.round_laws.specs.Nodes.{Node, Side, Layout, Schematic, Kind, Net, Device, Call}
 use Rattle.plain_netlist.specs.Netlist.{DeviceRow, CallRow}
 use Rattle.match_laws.specs.Circuits.{Pair, circuit_of, right_pin, numbers_from, node, end_at, device_ends, call_ends, nodes, same_node, near_at, Own, OfNet, OfDevice, OfCall, OfNone, own_at, own, web_of, IsOneToOne, IsDeviceImage, IsCallImage, IsCorrespondence, IsFitting, numbers_of, pairing_of, AreMatched, pin_name}
-use Rattle.round_laws.proofs.Agree.{count-cons, both, first, second, same_test, is_it, count_same, port_same}
+use Rattle.round_laws.proofs.Agree.{count-cons, first, second, count_same, port_same}
 use Rattle.round_laws.proofs.Stable.{any_found, any_of}
 use Rattle.round_laws.proofs.Solved.{count-has, cut, here_mid}
-use Rattle.match_laws.proofs.Sums.{sum-map, in_numbers, numbers_has, number_once, found_at, map_has, in_map, listed_index}
+use Rattle.match_laws.proofs.Sums.{sum-map, in_numbers, numbers_has, number_once, map_has, in_map, listed_index}
 use Rattle.match_laws.proofs.Images.{size, nodes_has, nodes_there, own_decides, node_decides, sum_four, device_terms, call_terms}
 
 -- kinds
@@ -30,8 +33,8 @@ call_own o = elim o [ None ↦ OfNone | Some c ↦ OfCall c.circuit ]
 
 own_kind : (p : Pair) (side : Side) (kind : Kind) (k : ℕ) → k < size p side kind → kind_of (own_at p side kind k) ≡ Some kind
 own_kind p side Net k h = refl
-own_kind p side Device k h = let d = found_at (circuit_of p side).devices k h in ap (λ (o : Option DeviceRow). kind_of (device_own o)) d.1
-own_kind p side Call k h = let c = found_at (circuit_of p side).calls k h in ap (λ (o : Option CallRow). kind_of (call_own o)) c.1
+own_kind p side Device k h = let d = item_at (circuit_of p side).devices k h in ap (λ (o : Option DeviceRow). kind_of (device_own o)) d.1
+own_kind p side Call k h = let c = item_at (circuit_of p side).calls k h in ap (λ (o : Option CallRow). kind_of (call_own o)) c.1
 
 record HasImage (p : Pair) (f : Node → Node) (kind : Kind) (k : ℕ) : Type 0 where
   is : f (node Layout kind k) ≡ node Schematic kind (f (node Layout kind k)).number
@@ -105,7 +108,7 @@ one_to_one p f c kind = record {
       ∙ (count_same (λ x. j == (f (node Layout kind x)).number) (λ x. k.0 == x) (numbers_from 0 (size p Layout kind)) (λ x i.
       let b = in_numbers x 0 (size p Layout kind) i in
       let high = b.1 in
-      same_test _ _
+      same_truth _ _
       (λ t. (Decides-eqb k.0 x).1 (number_one p f c kind k.0 x low (omega arith) (k.2 ∙ (Decides-eqb j _).0 t)))
       (λ t. (Decides-eqb j _).1 (sym k.2 ∙ ap (λ (y : ℕ). (f (node Layout kind y)).number) ((Decides-eqb k.0 x).0 t))))
       ∙ number_once k.0 0 (size p Layout kind) (omega arith) (omega arith));
@@ -144,7 +147,7 @@ equal_one : (m x : ℕ) → m ≡ x → one_for (m == x) ≡ 1
 equal_one m x e = ap one_for ((Decides-eqb m x).1 e)
 
 unequal_none : (m x : ℕ) → (m ≡ x → ⊥) → one_for (m == x) ≡ 0
-unequal_none m x h = elim (is_it (m == x)) [ inl r ↦ absurd (h ((Decides-eqb m x).0 r)) | inr r ↦ ap one_for r ]
+unequal_none m x h = elim (cases_Bool (m == x)) [ inl r ↦ absurd (h ((Decides-eqb m x).0 r)) | inr r ↦ ap one_for r ]
 
 two_of_two : (s d t u : ℕ) → ((m : ℕ) → one_for (m == s) + one_for (m == d) ≡ one_for (m == t) + one_for (m == u)) → ((s ≡ t) × (d ≡ u)) ⊎ ((s ≡ u) × (d ≡ t))
 two_of_two s d t u h =
@@ -280,7 +283,7 @@ call_image p f fit matched c k d e h left right =
         let mine : End Node = end_at (Pin d.circuit (right_pin p Layout d.circuit i)) (node Layout Net (slice_index d.nets i)) in
         let some = count-has (λ x. q (end_at x.port (f x.node))) mine (call_ends p Layout d)
         (map_has (λ j. end_at (Pin d.circuit (right_pin p Layout d.circuit j)) (node Layout Net (slice_index d.nets j))) i (numbers_from 0 (length d.nets)) (numbers_has i 0 (length d.nets) (omega arith) (omega arith)))
-        (both (same_port (Pin d.circuit (slice_index pins i)) (Pin d.circuit (right_pin p Layout d.circuit i))) (m == m) port ((Decides-eqb m m).1 refl)) in
+        (and_from (same_port (Pin d.circuit (slice_index pins i)) (Pin d.circuit (right_pin p Layout d.circuit i))) (m == m) port ((Decides-eqb m m).1 refl)) in
         let x = cut (at_net (Pin d.circuit (slice_index pins i)) m) (call_ends p Schematic e) (omega arith) in
         let listed : IsListed x.item (call_ends p Schematic e) = subst (λ (y : List (End Node)). IsListed x.item y) (sym x.is) (here_mid x.before x.item x.behind) in
         let j = in_map (λ y. end_at (Pin e.circuit y) (node Schematic Net (slice_index e.nets y))) x.item (numbers_from 0 (length e.nets)) listed in

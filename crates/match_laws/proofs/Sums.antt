@@ -1,5 +1,7 @@
 -- Sums and counts over lists of numbers, and over lists with as many of each class.
-use Rattle.std.proofs.Common.{◌≡◌, inl, inr, ℕ, zero, suc, ◌+◌, ◌<◌, ◌≤◌, ◌==◌, ltb, cond, Bool, true, false, List, [], ◌∷◌, ◌++◌, map, length, slice_index, Some, slice_get, refl, sym, subst, ◌∙◌, ap, arith}
+use Rattle.std.proofs.Common.{◌≡◌, inl, inr, ℕ, zero, suc, ◌+◌, ◌<◌, ◌≤◌, ◌==◌, ltb, cond, Bool, true, List, [], ◌∷◌, ◌++◌, map, length, slice_index, refl, sym, subst, ◌∙◌, ap, arith}
+use Rattle.base_laws.proofs.Tests.{same_truth}
+use Rattle.std.proofs.lemmas.Bool.{cases_Bool, ne_eqb}
 use Rattle.std.specs.List.{count_by, sum_by, flat_map}
 use Rattle.std.specs.Cmp.{IsEquivalence}
 use Rattle.std.specs.Bool.{Decides}
@@ -8,13 +10,13 @@ use Rattle.std.proofs.lemmas.List.Sums.{sum_by-cons, sum_by-append}
 use Rattle.std.proofs.lemmas.Bool.Decides.{Decides-eqb, Decides-ltb, not_from_Decides}
 use Rattle.plain_netlist.specs.Lists.{IsListed}
 use Rattle.match_laws.specs.Circuits.{numbers_from, IsOneToOne}
-use Rattle.round_laws.proofs.Agree.{count-cons, count_none, same_test, is_it}
+use Rattle.round_laws.proofs.Agree.{count-cons, count_none}
 use Rattle.round_laws.proofs.Solved.{count-has, cut, in_mid, here_mid, count-mid}
 
 pub decided_equivalence : {X : Type 0} (same : X → X → Bool) → ((a b : X) → Decides (same a b) (a ≡ b)) → IsEquivalence same
 decided_equivalence {X} same is = record {
   refl = λ a. (is a a).1 refl;
-  symm = λ a b. same_test (same a b) (same b a) (λ h. (is b a).1 (sym ((is a b).0 h))) (λ h. (is a b).1 (sym ((is b a).0 h)));
+  symm = λ a b. same_truth (same a b) (same b a) (λ h. (is b a).1 (sym ((is a b).0 h))) (λ h. (is a b).1 (sym ((is b a).0 h)));
   congr = λ a b c h. ap (λ (x : X). same x c) ((is a b).0 h);
 }
 
@@ -99,9 +101,6 @@ numbers_has k a (suc n) low high =
       | no not ↦ inr (numbers_has k (suc a) n (omega (arith, not)) (omega arith))
     ]
 
-pub not_equal : (k x : ℕ) → (k ≡ x → ⊥) → (k == x) ≡ false
-not_equal k x h = elim (is_it (k == x)) [ inl r ↦ absurd (h ((Decides-eqb k x).0 r)) | inr r ↦ r ]
-
 pub number_once : (k a n : ℕ) → a ≤ k → k < a + n → count_by (λ x. k == x) (numbers_from a n) ≡ 1
 number_once k a zero low high = absurd (omega arith)
 number_once k a (suc n) low high =
@@ -109,10 +108,10 @@ number_once k a (suc n) low high =
     elim (ℕ_discrete k a) [
       | yes e ↦
           let here : ◌≡◌ {A = ℕ} (cond (k == a) 1 0) 1 = ap (λ (t : Bool). cond {A = ℕ} t 1 0) ((Decides-eqb k a).1 e) in
-          let rest = count_none (λ x. k == x) (numbers_from (suc a) n) (λ x i. not_equal k x (let h = in_numbers x (suc a) n i in let low = h.0 in λ same. omega arith)) in
+          let rest = count_none (λ x. k == x) (numbers_from (suc a) n) (λ x i. ne_eqb k x (let h = in_numbers x (suc a) n i in let low = h.0 in λ same. omega arith)) in
           omega arith
       | no not ↦
-          let here : ◌≡◌ {A = ℕ} (cond (k == a) 1 0) 0 = ap (λ (t : Bool). cond {A = ℕ} t 1 0) (not_equal k a not) in
+          let here : ◌≡◌ {A = ℕ} (cond (k == a) 1 0) 0 = ap (λ (t : Bool). cond {A = ℕ} t 1 0) (ne_eqb k a not) in
           let rest = number_once k (suc a) n (omega (arith, not)) (omega arith) in
           omega arith
     ]
@@ -147,10 +146,10 @@ onto_sum xs m n one g =
     ∙ (sum_at g xs ∙ ap (λ (l : ℕ). sum_by (λ i. g (slice_index xs i)) (numbers_from 0 l)) one.count)
   where
     counted : (xs : List ℕ) (m n : ℕ) → IsOneToOne xs m n → (c : ℕ) → count_by (λ x. c == x) xs ≡ count_by (λ x. c == x) (numbers_from 0 n)
-    counted xs m n one c = elim (is_it (ltb c n)) [
+    counted xs m n one c = elim (cases_Bool (ltb c n)) [
       | inl r ↦ let low : c < n = (Decides-ltb c n).0 r in one.once c low ∙ sym (number_once c 0 n (omega arith) (omega arith))
-      | inr r ↦ let high : n ≤ c = omega (arith, not_from_Decides _ (Decides-ltb c n) r) in count_none (λ x. c == x) xs (λ x i. not_equal c x (λ e. let b = one.below x i in omega arith))
-          ∙ sym (count_none (λ x. c == x) (numbers_from 0 n) (λ x i. not_equal c x (λ e. let b = in_numbers x 0 n i in let t = b.1 in omega arith)))
+      | inr r ↦ let high : n ≤ c = omega (arith, not_from_Decides _ (Decides-ltb c n) r) in count_none (λ x. c == x) xs (λ x i. ne_eqb c x (λ e. let b = one.below x i in omega arith))
+          ∙ sym (count_none (λ x. c == x) (numbers_from 0 n) (λ x i. ne_eqb c x (λ e. let b = in_numbers x 0 n i in let t = b.1 in omega arith)))
     ]
 
 pub index_below : (xs : List ℕ) (m n i : ℕ) → IsOneToOne xs m n → i < m → slice_index xs i < n
@@ -179,12 +178,6 @@ index_one xs m n i j one a b e =
     let c = one.count in
     index_once xs (slice_index xs i) i j (one.once (slice_index xs i) (index_below xs m n i one a)) (omega arith) (omega arith) refl (sym e)
 
--- an item of a list
-pub found_at : {X : Type 0} (xs : List X) (k : ℕ) → k < length xs → (x : X) × (slice_get xs k ≡ Some x)
-found_at [] k h = absurd (omega arith)
-found_at (x ∷ xs) zero h = (x, refl)
-found_at (x ∷ xs) (suc k) h = found_at xs k (omega arith)
-
 pub map_has : {X Y : Type 0} (h : X → Y) (x : X) (xs : List X) → IsListed x xs → IsListed (h x) (map h xs)
 map_has h x [] i = absurd i
 map_has h x (y ∷ ys) (inl e) = inl (ap h e)
@@ -198,7 +191,7 @@ in_map h y (x ∷ xs) (inr i) = let f = in_map h y xs i in (f.0, inr f.1, f.2)
 -- each number below is in a list that is one to one
 index_of : (xs : List ℕ) (j : ℕ) → 1 ≤ count_by (λ x. j == x) xs → (i : ℕ) × (i < length xs) × (slice_index xs i ≡ j)
 index_of [] j h = absurd (omega arith)
-index_of (x ∷ xs) j h = elim (is_it (j == x)) [
+index_of (x ∷ xs) j h = elim (cases_Bool (j == x)) [
   | inl r ↦ (0, omega arith, sym ((Decides-eqb j x).0 r))
   | inr r ↦
       let step = count-cons (λ y. j == y) x xs in

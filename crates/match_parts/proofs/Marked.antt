@@ -1,5 +1,6 @@
 -- Marks of the numbers that stand in a list.
-use Rattle.std.proofs.Common.{◌≡◌, ◌⊎◌, inl, inr, ℕ, zero, suc, ◌+◌, ◌<◌, ◌≤◌, ◌==◌, cond, Bool, true, false, List, [], ◌∷◌, length, slice_index, get_or, take, refl, sym, subst, ◌∙◌, ap, arith, true≢false, length-set}
+use Rattle.std.proofs.Common.{◌≡◌, inl, inr, ℕ, zero, suc, ◌+◌, ◌<◌, ◌≤◌, ◌==◌, cond, Bool, true, false, List, [], ◌∷◌, length, slice_index, get_or, take, refl, sym, subst, ◌∙◌, ap, arith, true≢false, length-set}
+use Rattle.std.proofs.lemmas.Bool.{ne_eqb}
 use Rattle.std.specs.List.{count_by}
 use Rattle.std.specs.Bool.{Decides}
 use Rattle.std.proofs.Math.Decide.{ℕ_discrete}
@@ -11,13 +12,6 @@ use Rattle.plain_netlist.specs.Lists.{IsListed}
 use Rattle.match_laws.specs.Circuits.{IsOneToOne}
 use Rattle.match_laws.proofs.Sums.{index_below}
 use Rattle.match_parts.specs.Marks.{StandsOnce, IsMarked, AreUnset}
-
-is_it : (b : Bool) → (b ≡ true) ⊎ (b ≡ false)
-is_it true = inl refl
-is_it false = inr refl
-
-unequal : (k x : ℕ) → (k ≡ x → ⊥) → (k == x) ≡ false
-unequal k x h = elim (is_it (k == x)) [ inl r ↦ absurd (h ((Decides-eqb k x).0 r)) | inr r ↦ r ]
 
 -- the sum of f below n
 abbrev below_sum : (ℕ → ℕ) → ℕ → ℕ
@@ -41,10 +35,10 @@ sum_hit x zero h = absurd (omega arith)
 sum_hit x (suc n) h = elim (ℕ_discrete n x) [
   | yes e ↦
       let one : ◌≡◌ {A = ℕ} (cond {A = ℕ} (n == x) 1 0) 1 = ap (λ (t : Bool). cond {A = ℕ} t 1 0) ((Decides-eqb n x).1 e) in
-      let rest = sum_zero (λ j. cond {A = ℕ} (j == x) 1 0) n (λ j l. ap (λ (t : Bool). cond {A = ℕ} t 1 0) (unequal j x (λ s. omega arith))) in
+      let rest = sum_zero (λ j. cond {A = ℕ} (j == x) 1 0) n (λ j l. ap (λ (t : Bool). cond {A = ℕ} t 1 0) (ne_eqb j x (λ s. omega arith))) in
       omega arith
   | no not ↦
-      let none : ◌≡◌ {A = ℕ} (cond {A = ℕ} (n == x) 1 0) 0 = ap (λ (t : Bool). cond {A = ℕ} t 1 0) (unequal n x not) in
+      let none : ◌≡◌ {A = ℕ} (cond {A = ℕ} (n == x) 1 0) 0 = ap (λ (t : Bool). cond {A = ℕ} t 1 0) (ne_eqb n x not) in
       let rest = sum_hit x n (omega (arith, not)) in
       omega arith
 ]
@@ -135,7 +129,7 @@ marked xs i n marks more h l low unset_before e = record {
         omega arith
     | no not ↦
         let before = h.mark j m in
-        let after = count_by_more_no (λ x. j == x) xs i 0 l (unequal j (slice_index xs i) not) in
+        let after = count_by_more_no (λ x. j == x) xs i 0 l (ne_eqb j (slice_index xs i) not) in
         let now : get_or more j false ≡ get_or marks j false = ap (λ (ms : List Bool). get_or ms j false) e ∙ get_or-set_other marks (slice_index xs i) j true false not in
         let same : ◌≡◌ {A = ℕ} (cond {A = ℕ} (get_or more j false) 1 0) (cond {A = ℕ} (get_or marks j false) 1 0) = ap (λ (t : Bool). cond {A = ℕ} t 1 0) now in
         omega arith

@@ -2,8 +2,7 @@
 ghost use Rattle.std.specs.Prelude.{◌≡◌, ◌<◌, ◌++◌, OnOk, length};
 ghost use Rattle.std.specs.List.{All};
 ghost use Rattle.cell_graph.specs.Linked.{cell_at};
-ghost use Rattle.deep_tables.specs.Gates.{plain_cause};
-ghost use Rattle.deep_tables.specs.declared.gates.GateCause.TheVariants.{Groups};
+ghost use Rattle.flat_layout.specs.declared.cause.GateCause.TheVariants.{Groups};
 ghost use Rattle.match_report.specs.Gates.{cause_word, gate_line, gate_lines, name_of};
 ghost use Rattle.match_report.specs.Gates.{square_words};
 
@@ -26,7 +25,7 @@ fn push_square(alloc: Global, out: &mut Vec<u8>, square: Square) -> Result<(), A
 }
 
 fn push_groups(alloc: Global, out: &mut Vec<u8>, n: u128) -> Result<(), AllocError>
-    ensures { OnOk result (out.new.items ≡ out.old.items ++ cause_word (plain_cause (Groups n))) }
+    ensures { OnOk result (out.new.items ≡ out.old.items ++ cause_word (Groups n)) }
 {
     let digits = n.to_string(alloc)?.into_bytes();
     out.extend_from_slice(b" groups-")?;
@@ -34,7 +33,7 @@ fn push_groups(alloc: Global, out: &mut Vec<u8>, n: u128) -> Result<(), AllocErr
 }
 
 fn push_cause(alloc: Global, out: &mut Vec<u8>, cause: GateCause) -> Result<(), AllocError>
-    ensures { OnOk result (out.new.items ≡ out.old.items ++ cause_word (plain_cause cause)) }
+    ensures { OnOk result (out.new.items ≡ out.old.items ++ cause_word cause) }
 {
     match cause {
         GateCause::Groups(n) => push_groups(alloc, out, n),

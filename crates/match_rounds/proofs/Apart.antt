@@ -1,5 +1,6 @@
 -- What parting off says of two nodes.
-use Rattle.std.proofs.Common.{◌≡◌, ◌≢◌, ◌⊎◌, inl, inr, ◌<◌, ◌≤◌, ◌+◌, ◌-◌, ◌==◌, ◌||◌, ℕ, zero, suc, Bool, true, false, cond, List, [], ◌∷◌, length, slice_index, take, refl, sym, subst, ◌∙◌, ap, arith, true≢false, nat_eq}
+use Rattle.std.proofs.Common.{◌≡◌, ◌≢◌, inl, inr, ◌<◌, ◌≤◌, ◌+◌, ◌-◌, ◌==◌, ◌||◌, ℕ, zero, suc, Bool, true, false, cond, List, [], ◌∷◌, length, slice_index, take, refl, sym, subst, ◌∙◌, ap, arith, true≢false, nat_eq}
+use Rattle.std.proofs.lemmas.Bool.{cases_Bool, or_cases, false_from_ne_true, or_left, or_right}
 use Rattle.std.specs.List.{list_any, IsDistinct, AllByRecursion}
 use Rattle.std.proofs.Math.Decide.{ℕ_discrete}
 use Rattle.std.proofs.lemmas.List.Folds.{list_any_more}
@@ -8,10 +9,6 @@ use Rattle.std.proofs.lemmas.Map.Steps.{length-le_from_distinct_below}
 use Rattle.match_rounds.specs.declared.classes.Classes.{Classes}
 use Rattle.match_rounds.specs.Order.{class_at, whole_of, is_among}
 use Rattle.match_rounds.specs.Classes.{AreClasses, AreAlike, PartedLaw, class_count}
-
-pub is_it : (b : Bool) → (b ≡ true) ⊎ (b ≡ false)
-is_it true = inl refl
-is_it false = inr refl
 
 -- the values of f below k
 abbrev down : (ℕ → ℕ) → ℕ → List ℕ
@@ -22,10 +19,6 @@ down_long : (f : ℕ → ℕ) (k : ℕ) → length (down f k) ≡ k
 down_long f zero = refl
 down_long f (suc k) = let h = down_long f k in omega arith
 
-or_cases : (a b : Bool) → (a || b) ≡ true → (a ≡ true) ⊎ (b ≡ true)
-or_cases true b h = inl refl
-or_cases false b h = inr h
-
 in_down : (f : ℕ → ℕ) (q k : ℕ) → list_any (nat_eq q) (down f k) ≡ true → (i : ℕ) × (i < k) × (q ≡ f i)
 in_down f q zero h = absurd (true≢false (sym h))
 in_down f q (suc k) h = elim (or_cases (nat_eq q (f k)) (list_any (nat_eq q) (down f k)) h) [
@@ -33,12 +26,9 @@ in_down f q (suc k) h = elim (or_cases (nat_eq q (f k)) (list_any (nat_eq q) (do
   | inr r ↦ let g = in_down f q k r in let l = g.1 in (g.0, omega arith, g.2)
 ]
 
-false_unless : (b : Bool) → (b ≡ true → ⊥) → b ≡ false
-false_unless b h = elim (is_it b) [ inl r ↦ absurd (h r) | inr r ↦ r ]
-
 all_down : (f : ℕ → ℕ) (x k : ℕ) → ((j : ℕ) → j < k → f j ≢ x) → AllByRecursion (λ y. nat_eq x y ≡ false) (down f k)
 all_down f x zero h = tt
-all_down f x (suc k) h = (false_unless (nat_eq x (f k)) (λ t. h k (omega arith) (sym ((Decides-eqb x (f k)).0 t))), all_down f x k (λ j l. h j (omega arith)))
+all_down f x (suc k) h = (false_from_ne_true (nat_eq x (f k)) (λ t. h k (omega arith) (sym ((Decides-eqb x (f k)).0 t))), all_down f x k (λ j l. h j (omega arith)))
 
 down_distinct : (f : ℕ → ℕ) (k : ℕ) → ((i j : ℕ) → i < k → j < i → f j ≢ f i) → IsDistinct nat_eq (down f k)
 unfolding IsDistinct
@@ -68,14 +58,6 @@ found nodes (suc k) a l h =
       | inr e ↦ (k, omega arith, (Decides-eqb (slice_index nodes k) a).0 e)
     ]
 
-or_left : (a b : Bool) → a ≡ true → (a || b) ≡ true
-or_left true b h = refl
-or_left false b h = absurd (true≢false (sym h))
-
-or_right : (a b : Bool) → b ≡ true → (a || b) ≡ true
-or_right true b h = refl
-or_right false b h = h
-
 pub has : (nodes : List ℕ) (k a i : ℕ) → k ≤ length nodes → i < k → slice_index nodes i ≡ a → is_among nodes k a ≡ true
 has nodes zero a i l m e = absurd (omega arith)
 has nodes (suc k) a i l m e =
@@ -99,7 +81,7 @@ all_among old nodes n a h al few la is =
     = λ x l e. (stands (slice_index old.order.place_of.items x) (h.placed.place_below x l)).0 (ap (slice_index old.class_of.items) (h.placed.placed x l) ∙ e) in
     let same : (x y : ℕ) → x < n → y < n → slice_index old.order.place_of.items x ≡ slice_index old.order.place_of.items y → x ≡ y
     = λ x y l m e. sym (h.placed.placed x l) ∙ (ap (slice_index old.order.node_at.items) e ∙ h.placed.placed y m) in
-    elim (is_it (is_among nodes (length nodes) a)) [
+    elim (cases_Bool (is_among nodes (length nodes) a)) [
       | inl r ↦ r
       | inr r ↦
           let here = at a la is in
@@ -138,8 +120,8 @@ few_classes c n h =
 pub parted : PartedLaw
 parted old new nodes n h al (inl new_is) a b la lb =
     let low : whole_of old.class_of.items nodes < length old.counts.size.items = h.below (slice_index nodes 0) (al.below 0 al.some) in
-    elim (is_it (is_among nodes (length nodes) a)) [
-      | inl ra ↦ elim (is_it (is_among nodes (length nodes) b)) [
+    elim (cases_Bool (is_among nodes (length nodes) a)) [
+      | inl ra ↦ elim (cases_Bool (is_among nodes (length nodes) b)) [
         | inl rb ↦
             let fa = found nodes (length nodes) a (omega arith) ra in
             let fb = found nodes (length nodes) b (omega arith) rb in
@@ -150,7 +132,7 @@ parted old new nodes n h al (inl new_is) a b la lb =
             let lo = h.below b lb in
             ((λ e. absurd (not_new (sym (yes_is a la ra) ∙ (e ∙ no_is b lb rb)) lo)), (λ e. absurd (true≢false (sym ra ∙ (e.1 ∙ rb)))))
       ]
-      | inr ra ↦ elim (is_it (is_among nodes (length nodes) b)) [
+      | inr ra ↦ elim (cases_Bool (is_among nodes (length nodes) b)) [
         | inl rb ↦
             let lo = h.below a la in
             ((λ e. absurd (not_new (sym (yes_is b lb rb) ∙ (sym e ∙ no_is a la ra)) lo)), (λ e. absurd (true≢false (sym rb ∙ (sym e.1 ∙ ra)))))
@@ -173,7 +155,7 @@ parted old new nodes n h al (inr same) a b la lb =
     was x = ap (λ (xs : List ℕ). slice_index xs x) (sym same.1)
 
     none_other : (x : ℕ) → slice_index old.class_of.items x ≢ whole_of old.class_of.items nodes → is_among nodes (length nodes) x ≡ false
-    none_other x not = false_unless (is_among nodes (length nodes) x) (λ t. let f = found nodes (length nodes) x (omega arith) t in not (ap (slice_index old.class_of.items) (sym f.2) ∙ al.alike f.0 f.1))
+    none_other x not = false_from_ne_true (is_among nodes (length nodes) x) (λ t. let f = found nodes (length nodes) x (omega arith) t in not (ap (slice_index old.class_of.items) (sym f.2) ∙ al.alike f.0 f.1))
 
     alike : slice_index old.class_of.items a ≡ slice_index old.class_of.items b → is_among nodes (length nodes) a ≡ is_among nodes (length nodes) b
     alike o = elim (ℕ_discrete (slice_index old.class_of.items a) (whole_of old.class_of.items nodes)) [

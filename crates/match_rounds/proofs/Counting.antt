@@ -1,25 +1,22 @@
 -- How many of the first nodes are of a class, before and after some nodes became a class.
-use Rattle.std.proofs.Common.{◌≡◌, ◌≢◌, ◌⊎◌, inl, inr, ◌<◌, ◌≤◌, ◌+◌, ◌==◌, ◌||◌, ◌&&◌, ℕ, suc, Bool, true, false, cond, count_by, nat_lt, not, List, [], ◌∷◌, length, slice_index, take, refl, sym, ◌∙◌, ap, arith, true≢false}
+use Rattle.std.proofs.Common.{◌≡◌, ◌≢◌, inl, inr, ◌<◌, ◌≤◌, ◌+◌, ◌==◌, ◌||◌, ◌&&◌, ℕ, suc, Bool, true, false, cond, count_by, nat_lt, not, List, [], ◌∷◌, length, slice_index, take, refl, sym, ◌∙◌, ap, arith, true≢false}
+use Rattle.std.proofs.lemmas.Bool.{cases_Bool, or_cases, false_from_ne_true, ne_eqb, eq-eqb}
 use Rattle.std.specs.List.{list_any}
 use Rattle.std.proofs.lemmas.Bool.Decides.{Decides-eqb, Decides-ltb}
 use Rattle.plain_netlist.specs.Lists.{IsListed}
-use Rattle.round_laws.proofs.Agree.{count-cons, count_same, count_none, either}
-use Rattle.round_laws.proofs.Fast.{count_split, false_if}
+use Rattle.round_laws.proofs.Agree.{count-cons, count_same, count_none}
+use Rattle.round_laws.proofs.Fast.{count_split}
 use Rattle.match_laws.specs.Circuits.{numbers_from}
 use Rattle.match_laws.proofs.Sums.{in_numbers, number_once}
 use Rattle.match_rounds.specs.Order.{is_among}
 use Rattle.match_rounds.specs.Classes.{members}
-
-is_it : (b : Bool) → (b ≡ true) ⊎ (b ≡ false)
-is_it true = inl refl
-is_it false = inr refl
 
 in_list : List ℕ → ℕ → Bool
 in_list xs a = list_any (λ x. x == a) xs
 
 pub any_index : (xs : List ℕ) (a : ℕ) → list_any (λ x. x == a) xs ≡ true → (i : ℕ) × (i < length xs) × (slice_index xs i ≡ a)
 any_index [] a h = absurd (true≢false (sym h))
-any_index (x ∷ xs) a h = elim (either (x == a) (list_any (λ x. x == a) xs) h) [
+any_index (x ∷ xs) a h = elim (or_cases (x == a) (list_any (λ x. x == a) xs) h) [
   | inl e ↦ (0, omega arith, (Decides-eqb x a).0 e)
   | inr r ↦ let g = any_index xs a r in let l = g.1 in (suc g.0, omega arith, g.2)
 ]
@@ -31,14 +28,14 @@ pub rest_apart : (x : ℕ) (xs : List ℕ) → ((i j : ℕ) → i < length (x �
 rest_apart x xs h i j l m = h (suc i) (suc j) (omega arith) (omega arith)
 
 pub first_apart : (x : ℕ) (xs : List ℕ) → ((i j : ℕ) → i < length (x ∷ xs) → j < i → slice_index (x ∷ xs) j ≢ slice_index (x ∷ xs) i) → list_any (λ y. y == x) xs ≡ false
-first_apart x xs h = false_if (list_any (λ y. y == x) xs) (λ t. let g = any_index xs x t in let l = g.1 in h (suc g.0) 0 (omega arith) (omega arith) (sym g.2))
+first_apart x xs h = false_from_ne_true (list_any (λ y. y == x) xs) (λ t. let g = any_index xs x t in let l = g.1 in h (suc g.0) 0 (omega arith) (omega arith) (sym g.2))
 
 one_at : (x m : ℕ) → count_by (λ a. x == a) (numbers_from 0 m) ≡ cond (nat_lt x m) 1 0
-one_at x m = elim (is_it (nat_lt x m)) [
+one_at x m = elim (cases_Bool (nat_lt x m)) [
   | inl t ↦ number_once x 0 m (omega arith) (let l = (Decides-ltb x m).0 t in omega arith) ∙ sym (ap (λ (b : Bool). cond {A = ℕ} b 1 0) t)
   | inr t ↦
       let not_below : (a : ℕ) → IsListed a (numbers_from 0 m) → (x == a) ≡ false = λ a i. let b = in_numbers a 0 m i in let hi = b.1 in
-      false_if (x == a) (λ e. let s : x ≡ a = (Decides-eqb x a).0 e in let l : x < m = omega (arith, s, hi) in true≢false (sym ((Decides-ltb x m).1 l) ∙ t)) in
+      false_from_ne_true (x == a) (λ e. let s : x ≡ a = (Decides-eqb x a).0 e in let l : x < m = omega (arith, s, hi) in true≢false (sym ((Decides-ltb x m).1 l) ∙ t)) in
       count_none (λ a. x == a) (numbers_from 0 m) not_below ∙ sym (ap (λ (b : Bool). cond {A = ℕ} b 1 0) t)
 ]
 
@@ -82,20 +79,14 @@ pub record IsNew (old new : List ℕ) (among : ℕ → Bool) (f w n : ℕ) : Typ
   pub whole : (a : ℕ) → a < n → among a ≡ true → slice_index old a ≡ w
   pub other : w ≢ f
 
-eq_no : (x y : ℕ) → x ≢ y → (x == y) ≡ false
-eq_no x y h = false_if (x == y) (λ e. h ((Decides-eqb x y).0 e))
-
-eq_yes : (x y : ℕ) → x ≡ y → (x == y) ≡ true
-eq_yes x y e = (Decides-eqb x y).1 e
-
 -- the new class has those
 pub new_members : (old new : List ℕ) (among : ℕ → Bool) (f w n m : ℕ) → IsNew old new among f w n → m ≤ n → members new f m ≡ count_by among (numbers_from 0 m)
 new_members old new among f w n m h l = count_same (λ a. f == slice_index new a) among (numbers_from 0 m) (λ a i.
     let b = in_numbers a 0 m i in let hi = b.1 in
     let is = h.is a (omega arith) in
-    elim (is_it (among a)) [
-      | inl t ↦ eq_yes f (slice_index new a) (sym (is ∙ ap (λ (b : Bool). cond {A = ℕ} b f (slice_index old a)) t)) ∙ sym t
-      | inr t ↦ eq_no f (slice_index new a) (λ e. h.fresh a (omega arith) (sym (e ∙ (is ∙ ap (λ (b : Bool). cond {A = ℕ} b f (slice_index old a)) t)))) ∙ sym t
+    elim (cases_Bool (among a)) [
+      | inl t ↦ eq-eqb f (slice_index new a) (sym (is ∙ ap (λ (b : Bool). cond {A = ℕ} b f (slice_index old a)) t)) ∙ sym t
+      | inr t ↦ ne_eqb f (slice_index new a) (λ e. h.fresh a (omega arith) (sym (e ∙ (is ∙ ap (λ (b : Bool). cond {A = ℕ} b f (slice_index old a)) t)))) ∙ sym t
     ])
 
 -- the whole had them too
@@ -103,10 +94,10 @@ pub old_members : (old new : List ℕ) (among : ℕ → Bool) (f w n m : ℕ) �
 old_members old new among f w n m h l = count_split (λ a. w == slice_index old a) (λ a. w == slice_index new a) among (numbers_from 0 m) (λ a i.
     let b = in_numbers a 0 m i in let hi = b.1 in
     let is = h.is a (omega arith) in
-    elim (is_it (among a)) [
+    elim (cases_Bool (among a)) [
       | inl t ↦
-          let o : (w == slice_index old a) ≡ true = eq_yes w (slice_index old a) (sym (h.whole a (omega arith) t)) in
-          let v : (w == slice_index new a) ≡ false = eq_no w (slice_index new a) (λ e. h.other (e ∙ (is ∙ ap (λ (b : Bool). cond {A = ℕ} b f (slice_index old a)) t))) in
+          let o : (w == slice_index old a) ≡ true = eq-eqb w (slice_index old a) (sym (h.whole a (omega arith) t)) in
+          let v : (w == slice_index new a) ≡ false = ne_eqb w (slice_index new a) (λ e. h.other (e ∙ (is ∙ ap (λ (b : Bool). cond {A = ℕ} b f (slice_index old a)) t))) in
           ones (w == slice_index old a) (w == slice_index new a) (among a) o v t
       | inr t ↦
           let v : (w == slice_index new a) ≡ (w == slice_index old a) = ap (λ (x : ℕ). w == x) (is ∙ ap (λ (b : Bool). cond {A = ℕ} b f (slice_index old a)) t) in
@@ -131,9 +122,9 @@ pub rest_members : (old new : List ℕ) (among : ℕ → Bool) (f w n m d : ℕ)
 rest_members old new among f w n m d h l nw nf = count_same (λ a. d == slice_index new a) (λ a. d == slice_index old a) (numbers_from 0 m) (λ a i.
     let b = in_numbers a 0 m i in let hi = b.1 in
     let is = h.is a (omega arith) in
-    elim (is_it (among a)) [
-      | inl t ↦ eq_no d (slice_index new a) (λ e. nf (e ∙ (is ∙ ap (λ (b : Bool). cond {A = ℕ} b f (slice_index old a)) t)))
-          ∙ sym (eq_no d (slice_index old a) (λ e. nw (e ∙ h.whole a (omega arith) t)))
+    elim (cases_Bool (among a)) [
+      | inl t ↦ ne_eqb d (slice_index new a) (λ e. nf (e ∙ (is ∙ ap (λ (b : Bool). cond {A = ℕ} b f (slice_index old a)) t)))
+          ∙ sym (ne_eqb d (slice_index old a) (λ e. nw (e ∙ h.whole a (omega arith) t)))
       | inr t ↦ ap (λ (x : ℕ). d == x) (is ∙ ap (λ (b : Bool). cond {A = ℕ} b f (slice_index old a)) t)
     ])
 

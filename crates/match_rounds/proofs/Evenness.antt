@@ -1,17 +1,16 @@
 -- The flag of unequal counts, and rounds with unequal counts.
-use Rattle.std.proofs.Common.{◌≡◌, ◌≢◌, inl, inr, ◌<◌, ◌≤◌, ◌+◌, ◌-◌, ◌*◌, ◌==◌, ℕ, Bool, true, false, cond, count_by, List, [], ◌∷◌, ◌++◌, length, slice_index, refl, sym, subst, ◌∙◌, ap, arith, true≢false}
+use Rattle.std.proofs.Common.{◌≡◌, ◌≢◌, inl, inr, ◌<◌, ◌≤◌, ◌+◌, ◌-◌, ◌*◌, ◌==◌, ℕ, Bool, true, false, count_by, ◌++◌, slice_index, sym, subst, ◌∙◌, ap, arith, true≢false}
+use Rattle.base_laws.proofs.Tests.{same_truth}
 use Rattle.std.proofs.Math.Decide.{ℕ_discrete}
 use Rattle.std.proofs.lemmas.Bool.Decides.{Decides-eqb}
-use Rattle.plain_netlist.specs.Lists.{IsListed}
 use Rattle.round_laws.specs.Web.{Web, IsNode, agree, on_left, on_right, IsEven, IsUneven}
 use Rattle.round_laws.specs.Colours.{AreColours}
-use Rattle.round_laws.proofs.Agree.{count-cons, count_same, same_test}
+use Rattle.round_laws.proofs.Agree.{count_same}
 use Rattle.match_laws.specs.Circuits.{numbers_from}
 use Rattle.match_graph.specs.declared.graph.Graph.{Graph}
 use Rattle.match_graph.specs.Graph.{graph_web, left_of, nodes_of}
 use Rattle.match_graph.proofs.Placed.{numbers_join}
 use Rattle.match_rounds.specs.declared.classes.Classes.{Classes}
-use Rattle.match_rounds.specs.Counts.{HasUneven}
 use Rattle.match_rounds.specs.Classes.{IsPartition, class_in, class_count, members}
 use Rattle.match_rounds.specs.Sides.{left_members, right_members}
 use Rattle.match_rounds.proofs.Started.{node_below, below_node}
@@ -67,7 +66,7 @@ some_uneven g c h flag =
     )
 
 pub test_is : (w : Web ℕ) (k : ℕ) (colour : ℕ → ℕ) → AreColours w k colour → (a b : ℕ) → IsNode w a → IsNode w b → agree w k a b ≡ (colour a == colour b)
-test_is w k colour h a b i j = same_test _ _
+test_is w k colour h a b i j = same_truth _ _
     (λ t. (Decides-eqb (colour a) (colour b)).1 ((h a b i j).1 t))
     (λ t. (h a b i j).0 ((Decides-eqb (colour a) (colour b)).0 t))
 

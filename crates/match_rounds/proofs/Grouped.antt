@@ -1,17 +1,13 @@
 -- One group of entries more is parted off.
-use Rattle.std.proofs.Common.{◌≡◌, inl, inr, ◌<◌, ◌≤◌, ◌+◌, ◌-◌, ℕ, Bool, true, false, List, length, slice_index, refl, sym, subst, ◌∙◌, ap, arith}
+use Rattle.std.proofs.Common.{◌≡◌, inl, inr, ◌<◌, ◌≤◌, ◌+◌, ◌-◌, ℕ, true, List, length, slice_index, refl, sym, subst, ◌∙◌, ap, arith}
+use Rattle.base_laws.proofs.Tests.{same_truth}
 use Rattle.std.proofs.lemmas.Bool.{cases_lt}
 use Rattle.match_rounds.specs.declared.classes.Classes.{Classes}
 use Rattle.match_rounds.specs.declared.groups.Part.{Part}
 use Rattle.match_rounds.specs.Order.{is_among}
-use Rattle.match_rounds.specs.Classes.{AreClasses, AreAlike, IsPartedOff, KeepsFresh, IsGrown, class_count, class_in, node_count}
+use Rattle.match_rounds.specs.Classes.{AreClasses, AreAlike, IsPartedOff, KeepsFresh, IsGrown, class_count}
 use Rattle.match_rounds.specs.Pieces.{entry, IsSameKey, IsNoLaterPart, ArePieces, IsGroup, AreNodesOf, HasCount, HaveOneCount, ArePartedSoFar}
 use Rattle.match_rounds.proofs.Apart.{found, has, parted}
-
-same_test : (a b : Bool) → (a ≡ true → b ≡ true) → (b ≡ true → a ≡ true) → a ≡ b
-same_test true b f g = sym (f refl)
-same_test false true f g = g refl
-same_test false false f g = refl
 
 turned : (p q : Part) → IsSameKey p q → IsSameKey q p
 turned p q h = (sym h.0, sym h.1)
@@ -132,7 +128,7 @@ step old cur new parts i j n nodes p g h s are off =
                 let o = e.1 in
                 law.1 (
                   was.1 (e.0, (λ v. (shrinks old cur.class_of.items parts i j n a b p g s e.0 (λ u. (o u).0) v, shrinks old cur.class_of.items parts i j n b a p g s (sym e.0) (λ u. (o u).1) v))),
-                  same_test _ _
+                  same_truth _ _
                       (λ t. in_among parts i j b nodes h (joins old cur.class_of.items parts i j n a b p g s e.0 (λ u. (o u).0) (among_in parts i j a nodes h t)))
                       (λ t. in_among parts i j a nodes h (joins old cur.class_of.items parts i j n b a p g s (sym e.0) (λ u. (o u).1) (among_in parts i j b nodes h t))),
                 )),

@@ -1,7 +1,8 @@
 -- Two nodes as parts.
 use Rattle.std.proofs.Common.{◌≡◌, ◌≢◌, inl, inr, ◌<◌, ◌==◌, ℕ, zero, suc, true, slice_index, refl, sym, ◌∙◌, arith}
+use Rattle.base_laws.proofs.Tests.{same_truth}
+use Rattle.std.proofs.lemmas.Bool.{or_cases, or_left, or_right}
 use Rattle.std.proofs.lemmas.Bool.Decides.{Decides-eqb}
-use Rattle.round_laws.proofs.Agree.{same_test, either, either_left, either_right}
 use Rattle.match_rounds.specs.declared.classes.Classes.{Classes}
 use Rattle.match_rounds.specs.Pieces.{entry, AreLoose, ArePartedBy, HasCount}
 use Rattle.match_rounds.specs.Pairs.{pair_of, is_of_pair, IsPairParted}
@@ -31,12 +32,12 @@ loose c a b n la lb not = record {
 
 -- whose count is 1 exactly where they are of the pair
 counts : (c : Classes) (a b x v : ℕ) → HasCount (pair_of c a b) 2 x v → (is_of_pair a b x ≡ true) × (v ≡ 1)
-counts c a b x v (zero, l, e, f) = (either_left (a == x) (b == x) ((Decides-eqb a x).1 e), sym f)
-counts c a b x v (suc zero, l, e, f) = (either_right (a == x) (b == x) ((Decides-eqb b x).1 e), sym f)
+counts c a b x v (zero, l, e, f) = (or_left (a == x) (b == x) ((Decides-eqb a x).1 e), sym f)
+counts c a b x v (suc zero, l, e, f) = (or_right (a == x) (b == x) ((Decides-eqb b x).1 e), sym f)
 counts c a b x v (suc (suc k), l, e, f) = absurd (omega arith)
 
 has_count : (c : Classes) (a b x v : ℕ) → is_of_pair a b x ≡ true → v ≡ 1 → HasCount (pair_of c a b) 2 x v
-has_count c a b x v t e = elim (either (a == x) (b == x) t) [
+has_count c a b x v t e = elim (or_cases (a == x) (b == x) t) [
   | inl h ↦ (0, omega arith, (Decides-eqb a x).0 h, sym e)
   | inr h ↦ (1, omega arith, (Decides-eqb b x).0 h, sym e)
 ]
@@ -46,7 +47,7 @@ parted old new a b n h x y lx ly = (
   (λ e.
       let g = (h x y lx ly).0 e in (
         g.0,
-        same_test (is_of_pair a b x) (is_of_pair a b y)
+        same_truth (is_of_pair a b x) (is_of_pair a b y)
             (λ t. (counts old a b y 1 ((g.1 1).0 (has_count old a b x 1 t refl))).0)
             (λ t. (counts old a b x 1 ((g.1 1).1 (has_count old a b y 1 t refl))).0),
       )),

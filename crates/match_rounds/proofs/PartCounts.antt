@@ -1,9 +1,9 @@
 -- The count of a part is how many ends its node has there.
 use Rattle.std.proofs.Common.{◌≡◌, inl, inr, ◌<◌, ◌≤◌, ◌+◌, ◌==◌, ◌&&◌, ℕ, zero, suc, Bool, true, false, cond, count_by, List, [], ◌∷◌, length, slice_index_or, refl, sym, ◌∙◌, ap, arith}
-use Rattle.std.proofs.lemmas.Bool.{cases_lt}
+use Rattle.std.proofs.lemmas.Bool.{cases_lt, and_from, false_from_ne_true}
 use Rattle.std.proofs.lemmas.Bool.Decides.{Decides-eqb}
 use Rattle.round_laws.specs.Web.{same_port}
-use Rattle.round_laws.proofs.Agree.{count-cons, both, first, second, port_same}
+use Rattle.round_laws.proofs.Agree.{count-cons, first, second, port_same}
 use Rattle.match_graph.specs.declared.graph.Port.{Port}
 use Rattle.match_graph.specs.declared.graph.Port.TheVariants as port
 use Rattle.match_graph.specs.declared.graph.End.{End}
@@ -11,7 +11,6 @@ use Rattle.match_graph.specs.Filling.{end}
 use Rattle.match_graph.specs.Graph.{plain_port}
 use Rattle.match_rounds.specs.Touching.{port_rank, end_at, IsNoLaterEnd, AreInOrder, IsPortRun, IsPortStart, PartLaw}
 use Rattle.match_rounds.proofs.Runs.{apart}
-use Rattle.round_laws.proofs.Fast.{false_if}
 
 -- where just those at these places pass
 pub interval : {X : Type 0} (q : X → Bool) (d : X) (xs : List X) (b s : ℕ) → b + s ≤ length xs
@@ -19,7 +18,7 @@ pub interval : {X : Type 0} (q : X → Bool) (d : X) (xs : List X) (b s : ℕ) �
     → ((k : ℕ) → k < length xs → q (slice_index_or xs k d) ≡ true → (b ≤ k) × (k < b + s)) → count_by q xs ≡ s
 interval q d [] b s l pass only = let z : s ≡ 0 = omega arith in sym z
 interval q d (x ∷ xs) (suc b) s l pass only =
-    let none : q x ≡ false = false_if (q x) (λ t. let r = (only 0 (omega arith) t).0 in omega arith) in
+    let none : q x ≡ false = false_from_ne_true (q x) (λ t. let r = (only 0 (omega arith) t).0 in omega arith) in
     let rest = interval q d xs b s (omega arith) (λ k lo hi. pass (suc k) (omega arith) (omega arith))
     (λ k lk t. let r = only (suc k) (omega arith) t in let lo = r.0 in let hi = r.1 in (omega arith, omega arith)) in
     count-cons q x xs ∙ (ap (λ (t : Bool). cond {A = ℕ} t 1 0 + count_by q xs) none ∙ (let e = rest in omega arith))
@@ -29,7 +28,7 @@ interval q d (x ∷ xs) zero (suc s) l pass only =
     (λ k lk t. let r = only (suc k) (omega arith) t in let hi = r.1 in (omega arith, omega arith)) in
     count-cons q x xs ∙ (ap (λ (t : Bool). cond {A = ℕ} t 1 0 + count_by q xs) here ∙ (let e = rest in omega arith))
 interval q d (x ∷ xs) zero zero l pass only =
-    let none : q x ≡ false = false_if (q x) (λ t. let r = (only 0 (omega arith) t).1 in omega arith) in
+    let none : q x ≡ false = false_from_ne_true (q x) (λ t. let r = (only 0 (omega arith) t).1 in omega arith) in
     let rest = interval q d xs zero zero (omega arith) (λ k lo hi. absurd (omega arith))
     (λ k lk t. let r = only (suc k) (omega arith) t in let hi = r.1 in absurd (omega arith)) in
     count-cons q x xs ∙ (ap (λ (t : Bool). cond {A = ℕ} t 1 0 + count_by q xs) none ∙ (let e = rest in omega arith))
@@ -99,7 +98,7 @@ counted c ends from to p order h start w =
     let low = w.low in
     let fits = h.fits in
     interval (λ e. same_port (plain_port (end_at ends from).port) (plain_port e.port) && (p.node == e.node)) (end port.Channel 0) ends w.start p.count (omega arith)
-    (λ k lo hi. both (same_port (plain_port (end_at ends from).port) (plain_port (end_at ends k).port)) (p.node == (end_at ends k).node)
+    (λ k lo hi. and_from (same_port (plain_port (end_at ends from).port) (plain_port (end_at ends k).port)) (p.node == (end_at ends k).node)
     ((port_same (plain_port (end_at ends from).port) (plain_port (end_at ends k).port)).1 (ap plain_port (sym (h.port k (omega arith) (omega arith)))))
     ((Decides-eqb p.node (end_at ends k).node).1 (w.node ∙ sym (w.run.node k lo hi))))
     (λ k lk t.

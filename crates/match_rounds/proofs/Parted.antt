@@ -1,5 +1,6 @@
 -- Classes after some nodes were made a class of their own.
 use Rattle.std.proofs.Common.{◌≡◌, ◌⊎◌, inl, inr, ◌<◌, ◌≤◌, ◌+◌, ◌-◌, ◌==◌, ℕ, cond, count_by, nat_lt, Bool, true, false, List, [], ◌∷◌, ◌++◌, length, slice_index, refl, sym, subst, ◌∙◌, ap, arith, true≢false, length-append}
+use Rattle.std.proofs.lemmas.Bool.{cases_Bool}
 use Rattle.std.proofs.Math.Decide.{ℕ_discrete}
 use Rattle.std.proofs.lemmas.List.{get_or_push, get_or_append_left}
 use Rattle.match_laws.specs.Circuits.{numbers_from}
@@ -8,7 +9,7 @@ use Rattle.match_rounds.specs.Counts.{AreFlagged, AreSplit}
 use Rattle.match_rounds.specs.Marks.{AreListed, IsHalved, is_marked}
 use Rattle.match_rounds.specs.Classes.{AreClasses, AreAlike, AreCounted, IsPartition, IsPartedOff, KeepsFresh, class_in, class_count, is_fresh, members, IsGrown}
 use Rattle.match_rounds.specs.declared.classes.Classes.{Classes}
-use Rattle.match_rounds.proofs.Apart.{found, is_it}
+use Rattle.match_rounds.proofs.Apart.{found}
 use Rattle.match_rounds.proofs.Split.{IsSplitList, split_at}
 use Rattle.match_rounds.proofs.Counting.{among_count, all_below, IsNew, new_members, old_members, rest_members, fewer}
 use Rattle.std.proofs.lemmas.Bool.Decides.{Decides-eqb}
@@ -184,19 +185,19 @@ few_left c nodes left n w h a counted inside e =
 -- at most one part isn't marked
 pub keeps_fresh : (old new : Classes) (nodes : List ℕ) (n w l : ℕ) → WasParted old new nodes n w l → KeepsFresh old new n
 keeps_fresh old new nodes n w l p = record {
-  kept = λ a b la lb e fa fb. elim (is_it (is_among nodes (length nodes) a)) [
-    | inl ta ↦ elim (is_it (is_among nodes (length nodes) b)) [
+  kept = λ a b la lb e fa fb. elim (cases_Bool (is_among nodes (length nodes) a)) [
+    | inl ta ↦ elim (cases_Bool (is_among nodes (length nodes) b)) [
       | inl tb ↦ yes_is a la ta ∙ sym (yes_is b lb tb)
       | inr tb ↦ absurd (not_both (subst (λ (x : ℕ). is_marked new.marks x ≡ false) (no_is b lb tb ∙ (sym e ∙ of_whole a la ta)) fb) (subst (λ (x : ℕ). is_marked new.marks x ≡ false) (yes_is a la ta) fa))
     ]
-    | inr ta ↦ elim (is_it (is_among nodes (length nodes) b)) [
+    | inr ta ↦ elim (cases_Bool (is_among nodes (length nodes) b)) [
       | inl tb ↦ absurd (not_both (subst (λ (x : ℕ). is_marked new.marks x ≡ false) (no_is a la ta ∙ (e ∙ of_whole b lb tb)) fa) (subst (λ (x : ℕ). is_marked new.marks x ≡ false) (yes_is b lb tb) fb))
       | inr tb ↦ no_is a la ta ∙ (e ∙ sym (no_is b lb tb))
     ]
   ];
-  older = λ a la fa. elim (is_it (is_fresh old a)) [
+  older = λ a la fa. elim (cases_Bool (is_fresh old a)) [
     | inr f ↦ f
-    | inl f ↦ elim (is_it (is_among nodes (length nodes) a)) [
+    | inl f ↦ elim (cases_Bool (is_among nodes (length nodes) a)) [
       | inl ta ↦
           let both = p.halved.both (subst (λ (x : ℕ). is_marked old.marks x ≡ true) (of_whole a la ta) f) in
           absurd (true≢false (sym both.1 ∙ subst (λ (x : ℕ). is_marked new.marks x ≡ false) (yes_is a la ta ∙ sym long) fa))

@@ -1,19 +1,18 @@
 -- The ends of one port more have parted the classes.
-use Rattle.std.proofs.Common.{◌≡◌, ◌⊎◌, inl, inr, ◌↔◌, ◌<◌, ◌≤◌, ◌+◌, ◌==◌, ◌&&◌, ℕ, zero, suc, Bool, true, false, cond, count_by, List, [], ◌∷◌, length, map, refl, sym, subst, ◌∙◌, ap, arith}
+use Rattle.std.proofs.Common.{◌≡◌, inl, inr, ◌<◌, ◌≤◌, ◌+◌, ◌==◌, ◌&&◌, ℕ, suc, Bool, true, cond, count_by, List, [], ◌∷◌, length, map, refl, sym, subst, ◌∙◌, ap, arith}
 use Rattle.std.specs.List.{sum_by}
 use Rattle.std.specs.List.Sorted.{IsPermutation}
-use Rattle.std.proofs.lemmas.Bool.{cases_lt}
+use Rattle.std.proofs.lemmas.Bool.{cases_lt, cases_Bool}
 use Rattle.std.proofs.lemmas.Bool.Decides.{Decides-eqb}
 use Rattle.std.proofs.lemmas.List.Sorted.{sum_by-IsPermutation}
 use Rattle.std.proofs.lemmas.List.Sums.{sum_by-cons}
 use Rattle.round_laws.specs.Web.{Port as PlainPort, same_port}
-use Rattle.round_laws.proofs.Agree.{count-cons, first, second, port_same, is_it}
+use Rattle.round_laws.proofs.Agree.{count-cons, first, second, port_same}
 use Rattle.match_graph.specs.declared.graph.Port.{Port}
 use Rattle.match_graph.specs.declared.graph.End.{End}
 use Rattle.match_graph.specs.Graph.{plain_port, plain_end}
 use Rattle.match_rounds.specs.declared.classes.Classes.{Classes}
 use Rattle.match_rounds.specs.declared.groups.Part.{Part}
-use Rattle.match_rounds.specs.Classes.{class_in}
 use Rattle.match_rounds.specs.Pieces.{entry, AreLoose, ArePartedBy, HasCount, HaveOneCount}
 use Rattle.match_rounds.specs.Touching.{port_rank, end_at, AreInOrder, IsPortRun, IsPortStart, AreParts, count_at}
 use Rattle.match_rounds.specs.Looking.{HaveOneTouch, ArePortsDone, touches, ArePartedByEnds}
@@ -22,7 +21,7 @@ use Rattle.match_rounds.proofs.PartCounts.{counted, in_run, one_plain, one_port,
 -- one that passes, where some do
 some_passes : (q : End → Bool) (ends : List End) → 0 < count_by q ends → (k : ℕ) × (k < length ends) × (q (end_at ends k) ≡ true)
 some_passes q [] l = absurd (omega arith)
-some_passes q (e ∷ es) l = elim (is_it (q e)) [
+some_passes q (e ∷ es) l = elim (cases_Bool (q e)) [
   | inl t ↦ (0, omega arith, t)
   | inr f ↦
       let n = count-cons q e es ∙ ap (λ (b : Bool). cond {A = ℕ} b 1 0 + count_by q es) f in

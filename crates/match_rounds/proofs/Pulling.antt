@@ -1,5 +1,6 @@
 -- One node more is pulled out of its class.
-use Rattle.std.proofs.Common.{◌≡◌, ◌≢◌, ◌⊎◌, inl, inr, ◌<◌, ◌≤◌, ◌+◌, ◌-◌, ◌==◌, ◌||◌, ℕ, zero, suc, Bool, true, false, cond, List, length, slice_index, get_or, take, refl, sym, subst, ◌∙◌, ap, arith, length-set}
+use Rattle.std.proofs.Common.{◌≡◌, ◌≢◌, ◌<◌, ◌≤◌, ◌+◌, ◌-◌, ◌==◌, ◌||◌, ℕ, zero, suc, Bool, true, false, cond, List, length, slice_index, get_or, take, refl, sym, subst, ◌∙◌, ap, arith, length-set}
+use Rattle.std.proofs.lemmas.Bool.{ne_eqb}
 use Rattle.std.specs.List.{list_any}
 use Rattle.std.proofs.Math.Decide.{ℕ_discrete}
 use Rattle.std.proofs.Math.ListN.{set}
@@ -9,20 +10,13 @@ use Rattle.std.proofs.lemmas.Bool.Decides.{Decides-eqb}
 use Rattle.match_rounds.specs.declared.order.Order.{Order}
 use Rattle.match_rounds.specs.Order.{IsPlaced, IsSwapped, class_at, whole_of, AreToPull, is_among, ArePulled}
 
-is_it : (b : Bool) → (b ≡ true) ⊎ (b ≡ false)
-is_it true = inl refl
-is_it false = inr refl
-
-not_equal : (k x : ℕ) → (k ≡ x → ⊥) → (k == x) ≡ false
-not_equal k x h = elim (is_it (k == x)) [ inl r ↦ absurd (h ((Decides-eqb k x).0 r)) | inr r ↦ r ]
-
 none_before : (nodes : List ℕ) (i a : ℕ) → i ≤ length nodes → ((j : ℕ) → j < i → slice_index nodes j ≢ a) → is_among nodes i a ≡ false
 none_before nodes zero a l h = refl
 none_before nodes (suc i) a l h =
     let more : list_any (λ x. x == a) (take (i + 1) nodes) ≡ (is_among nodes i a || (slice_index nodes i == a)) = list_any_more (λ x. x == a) nodes i 0 (omega arith) in
     let s : suc i ≡ i + 1 = omega arith in
     let before = none_before nodes i a (omega arith) (λ j m. h j (omega arith)) in
-    let here = not_equal (slice_index nodes i) a (h i (omega arith)) in
+    let here = ne_eqb (slice_index nodes i) a (h i (omega arith)) in
     ap (λ (m : ℕ). is_among nodes m a) s ∙ (more ∙ (ap (λ (t : Bool). t || (slice_index nodes i == a)) before ∙ here))
 
 -- where one place takes the new class and each other keeps its own
@@ -84,7 +78,7 @@ step old now next before cur after nodes n i begin size fresh ask li h placed sw
             v ∙ sym (ap (λ (b : Bool). cond {A = ℕ} b fresh (slice_index before a)) t)
         | no not ↦
             let t : is_among nodes (i + 1) a ≡ is_among nodes i a
-            = list_any_more (λ x. x == a) nodes i 0 li ∙ or_none (is_among nodes i a) (slice_index nodes i == a) (not_equal (slice_index nodes i) a not) in
+            = list_any_more (λ x. x == a) nodes i 0 li ∙ or_none (is_among nodes i a) (slice_index nodes i == a) (ne_eqb (slice_index nodes i) a not) in
             let v : slice_index after a ≡ slice_index cur a = ap (λ (zs : List ℕ). slice_index zs a) is ∙ get_or-set_other cur (slice_index nodes i) a fresh 0 (λ e. not (sym e)) in
             v ∙ (h.classes a l ∙ sym (ap (λ (b : Bool). cond {A = ℕ} b fresh (slice_index before a)) t))
       ];

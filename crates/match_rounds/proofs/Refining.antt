@@ -1,5 +1,5 @@
 -- Round after round.
-use Rattle.std.proofs.Common.{◌≡◌, ◌⊎◌, inl, inr, ◌<◌, ◌≤◌, ◌+◌, ℕ, suc, Bool, true, false, List, map, slice_index, refl, sym, subst, ◌∙◌, ap, arith, true≢false}
+use Rattle.std.proofs.Common.{◌≡◌, inl, inr, ◌<◌, ◌≤◌, ◌+◌, ℕ, suc, true, false, List, map, slice_index, refl, sym, subst, ◌∙◌, ap, arith, true≢false}
 use Rattle.std.proofs.lemmas.Bool.{cases_lt}
 use Rattle.round_laws.specs.Web.{Web, IsWeb, IsEven, alike_under}
 use Rattle.round_laws.specs.Colours.{AreColours}
@@ -8,13 +8,13 @@ use Rattle.round_laws.proofs.Colours.{round}
 use Rattle.match_graph.specs.declared.graph.Graph.{Graph}
 use Rattle.match_graph.specs.Graph.{IsGraph, graph_web, left_of, nodes_of}
 use Rattle.match_rounds.specs.declared.classes.Classes.{Classes}
-use Rattle.match_rounds.specs.Classes.{IsPartition, IsGrown, class_in, class_count, is_fresh}
+use Rattle.match_rounds.specs.Classes.{IsPartition, class_in, class_count, is_fresh}
 use Rattle.match_rounds.specs.Marks.{is_marked}
 use Rattle.match_rounds.specs.Start.{plain_guess, guessed_web}
 use Rattle.match_rounds.specs.Rounds.{AreAhead, IsNextRound}
 use Rattle.match_rounds.specs.Refined.{AreSettled, AreRefuted, AreRoundsSoFar}
 use Rattle.match_rounds.proofs.Apart.{few_classes}
-use Rattle.match_rounds.proofs.Evenness.{with_alike, even_round, uneven_round}
+use Rattle.match_rounds.proofs.Evenness.{even_round, uneven_round}
 use Rattle.match_rounds.proofs.Started.{node_below}
 
 -- where all classes are marked, none has been looked at

@@ -1,12 +1,11 @@
 -- A list that is another in another order, by index.
-use Rattle.std.proofs.Common.{◌≡◌, ◌≢◌, ◌<◌, ◌==◌, ℕ, Bool, true, false, cond, List, length, get_or, refl, sym, subst, ◌∙◌, ap, arith}
+use Rattle.std.proofs.Common.{◌≡◌, ◌≢◌, ◌<◌, ◌==◌, ℕ, Bool, cond, List, length, get_or, refl, sym, subst, ◌∙◌, ap, arith}
+use Rattle.std.proofs.lemmas.Bool.{ne_eqb, eq-eqb}
 use Rattle.std.specs.List.{swap}
 use Rattle.std.specs.List.Sorted.{IsPermutation}
 use Rattle.std.proofs.Math.Decide.{ℕ_discrete}
-use Rattle.std.proofs.lemmas.Bool.Decides.{Decides-eqb}
 use Rattle.std.proofs.lemmas.List.Edits.{swapped_from_swap, length-swap}
 use Rattle.std.proofs.lemmas.List.Sorted.{IsPermutation-keeps}
-use Rattle.round_laws.proofs.Fast.{false_if}
 
 -- element i of the one is element `from i` of the other
 pub record IsReordered {X : Type 0} (xs ys : List X) (d : X) : Type 0 where
@@ -22,20 +21,14 @@ pub record IsReordered {X : Type 0} (xs ys : List X) (d : X) : Type 0 where
 abbrev at : ℕ → ℕ → ℕ → ℕ
 at a b i = cond (i == a) b (cond (i == b) a i)
 
-not_eq : (x y : ℕ) → x ≢ y → (x == y) ≡ false
-not_eq x y h = false_if (x == y) (λ e. h ((Decides-eqb x y).0 e))
-
-yes_is : (x y : ℕ) → x ≡ y → (x == y) ≡ true
-yes_is x y e = (Decides-eqb x y).1 e
-
 at_first : (a b i : ℕ) → i ≡ a → at a b i ≡ b
-at_first a b i e = ap (λ (t : Bool). cond {A = ℕ} t b (cond (i == b) a i)) (yes_is i a e)
+at_first a b i e = ap (λ (t : Bool). cond {A = ℕ} t b (cond (i == b) a i)) (eq-eqb i a e)
 
 at_second : (a b i : ℕ) → i ≢ a → i ≡ b → at a b i ≡ a
-at_second a b i not e = ap (λ (t : Bool). cond {A = ℕ} t b (cond (i == b) a i)) (not_eq i a not) ∙ ap (λ (t : Bool). cond {A = ℕ} t a i) (yes_is i b e)
+at_second a b i not e = ap (λ (t : Bool). cond {A = ℕ} t b (cond (i == b) a i)) (ne_eqb i a not) ∙ ap (λ (t : Bool). cond {A = ℕ} t a i) (eq-eqb i b e)
 
 at_other : (a b i : ℕ) → i ≢ a → i ≢ b → at a b i ≡ i
-at_other a b i na nb = ap (λ (t : Bool). cond {A = ℕ} t b (cond (i == b) a i)) (not_eq i a na) ∙ ap (λ (t : Bool). cond {A = ℕ} t a i) (not_eq i b nb)
+at_other a b i na nb = ap (λ (t : Bool). cond {A = ℕ} t b (cond (i == b) a i)) (ne_eqb i a na) ∙ ap (λ (t : Bool). cond {A = ℕ} t a i) (ne_eqb i b nb)
 
 at_back : (a b i : ℕ) → at a b (at a b i) ≡ i
 at_back a b i = elim (ℕ_discrete i a) [

@@ -1,13 +1,13 @@
 -- Stable classes, gone on with under one more guess.
-use Rattle.std.proofs.Common.{◌≡◌, ◌⊎◌, ◌≢◌, inl, inr, ◌<◌, ◌≤◌, ◌+◌, ◌-◌, ℕ, zero, suc, Bool, true, false, List, [], ◌∷◌, ◌++◌, length, map, take, slice_index, refl, sym, subst, ◌∙◌, ap, arith, true≢false}
+use Rattle.std.proofs.Common.{◌≡◌, inl, inr, ◌<◌, ◌+◌, ◌-◌, ℕ, suc, true, false, List, [], ◌∷◌, ◌++◌, length, map, take, slice_index, refl, sym, subst, ◌∙◌, ap, arith}
 use Rattle.std.proofs.lemmas.List.{take_more}
 use Rattle.std.specs.List.{count_by}
 use Rattle.plain_netlist.specs.Lists.{IsListed}
-use Rattle.round_laws.specs.Web.{Web, IsWeb, IsNode, agree, IsEven, IsStable, Guess, alike_under, under}
+use Rattle.round_laws.specs.Web.{Web, IsWeb, IsNode, agree, IsEven, IsStable, Guess, under}
 use Rattle.round_laws.specs.Colours.{AreColours, SplitsBy}
 use Rattle.round_laws.proofs.Agree.{under_web, count_same}
 use Rattle.round_laws.proofs.Stable.{finite}
-use Rattle.part_laws.specs.Parting.{IsCoarse, IsFine, with_guess, SinglesOut}
+use Rattle.part_laws.specs.Parting.{SinglesOut}
 use Rattle.part_laws.proofs.Resumed.{pair, start, step, last, union, even_before, last_guess}
 use Rattle.match_graph.specs.declared.graph.Graph.{Graph}
 use Rattle.match_graph.specs.Graph.{IsGraph, graph_web, left_of, nodes_of}

@@ -1,23 +1,21 @@
 -- The members of marked classes, and the ends at them.
-use Rattle.std.proofs.Common.{◌≡◌, ◌≢◌, ◌⊎◌, inl, inr, ◌↔◌, ◌<◌, ◌≤◌, ◌+◌, ◌-◌, ◌==◌, ◌&&◌, ℕ, zero, suc, Bool, true, false, List, [], ◌∷◌, length, map, take, drop, slice_index, slice_index_or, slice_range, refl, sym, subst, ◌∙◌, ap, arith, true≢false, length-take, length-drop}
-use Rattle.std.specs.List.{flat_map, list_any, count_by}
-use Rattle.std.proofs.lemmas.Bool.{cases_lt}
+use Rattle.std.proofs.Common.{◌≡◌, ◌≢◌, inl, inr, ◌<◌, ◌≤◌, ◌+◌, ◌-◌, ◌==◌, ◌&&◌, ℕ, zero, suc, Bool, true, false, List, [], ◌∷◌, length, take, drop, slice_index, slice_index_or, sym, subst, ◌∙◌, ap, arith, true≢false, length-take, length-drop}
+use Rattle.base_laws.proofs.Tests.{same_truth}
+use Rattle.std.specs.List.{flat_map, list_any}
+use Rattle.std.proofs.lemmas.Bool.{cases_lt, and_from, cases_Bool, or_left, or_right, false_from_ne_true}
 use Rattle.std.proofs.lemmas.Bool.Decides.{Decides-eqb}
 use Rattle.std.proofs.lemmas.List.{get_or-take, get_or-drop}
-use Rattle.plain_netlist.specs.Lists.{IsListed}
-use Rattle.round_laws.specs.Web.{Port, same_port, End, IsNode}
+use Rattle.round_laws.specs.Web.{Port, same_port, End}
 use Rattle.round_laws.specs.Colours.{changed_ends, ends_of, SplitsBy}
-use Rattle.round_laws.proofs.Agree.{count_same, count_none, both, first, second, same_test, is_it, either_left, either_right}
-use Rattle.round_laws.proofs.Fast.{count-filter, false_if}
-use Rattle.part_laws.specs.Parting.{IsParted}
+use Rattle.round_laws.proofs.Agree.{count_same, count_none, first, second}
+use Rattle.round_laws.proofs.Fast.{count-filter}
 use Rattle.part_laws.proofs.Few.{few}
 use Rattle.match_graph.specs.declared.graph.Graph.{Graph}
 use Rattle.match_graph.specs.Graph.{IsGraph, graph_web, ends_at, nodes_of}
 use Rattle.match_rounds.specs.declared.classes.Classes.{Classes}
 use Rattle.match_rounds.specs.declared.marks.Marks.{Marks}
 use Rattle.match_rounds.specs.Marks.{AreListed, is_marked}
-use Rattle.match_rounds.specs.Order.{class_at}
-use Rattle.match_rounds.specs.Classes.{AreClasses, IsPartition, IsGrown, KeepsFresh, class_in, class_count, is_fresh}
+use Rattle.match_rounds.specs.Classes.{AreClasses, IsPartition, class_in, class_count, is_fresh}
 use Rattle.match_rounds.specs.Members.{start_at, fresh_at, AreMembers}
 use Rattle.match_rounds.specs.Turned.{AreAllOf}
 use Rattle.match_rounds.specs.Looking.{touches, ArePartedByEnds}
@@ -73,8 +71,8 @@ next_start ends j = let e : suc j ≡ j + 1 = omega arith in ap (start_at ends) 
 
 any_at : (xs : List ℕ) (i a : ℕ) → i < length xs → slice_index xs i ≡ a → list_any (λ x. x == a) xs ≡ true
 any_at [] i a l e = absurd (omega arith)
-any_at (x ∷ xs) zero a l e = either_left (x == a) (list_any (λ y. y == a) xs) ((Decides-eqb x a).1 e)
-any_at (x ∷ xs) (suc i) a l e = either_right (x == a) (list_any (λ y. y == a) xs) (any_at xs i a (omega arith) e)
+any_at (x ∷ xs) zero a l e = or_left (x == a) (list_any (λ y. y == a) xs) ((Decides-eqb x a).1 e)
+any_at (x ∷ xs) (suc i) a l e = or_right (x == a) (list_any (λ y. y == a) xs) (any_at xs i a (omega arith) e)
 
 -- where the j-th class stands among the members
 pub record IsStanding (c : Classes) (span : List ℕ) (d n : ℕ) : Type 0 where
@@ -179,14 +177,14 @@ marked_below m d t = below m.is_fresh.items d t
 yes_ends : (changed : ℕ → Bool) (colour : ℕ → ℕ) (port : Port) (d : ℕ) (es : List (End ℕ)) → ((x : ℕ) → d ≡ colour x → changed x ≡ true) → ends_of colour port d (changed_ends changed es) ≡ ends_of colour port d es
 yes_ends changed colour port d es h =
     count-filter (λ e. same_port port e.port && (d == colour e.node)) (λ e. changed e.node) es
-    ∙ count_same (λ e. changed e.node && (same_port port e.port && (d == colour e.node))) (λ e. same_port port e.port && (d == colour e.node)) es (λ e i. same_test _ _
+    ∙ count_same (λ e. changed e.node && (same_port port e.port && (d == colour e.node))) (λ e. same_port port e.port && (d == colour e.node)) es (λ e i. same_truth _ _
     (λ t. second (changed e.node) (same_port port e.port && (d == colour e.node)) t)
-    (λ t. both (changed e.node) (same_port port e.port && (d == colour e.node)) (h e.node ((Decides-eqb d (colour e.node)).0 (second (same_port port e.port) (d == colour e.node) t))) t))
+    (λ t. and_from (changed e.node) (same_port port e.port && (d == colour e.node)) (h e.node ((Decides-eqb d (colour e.node)).0 (second (same_port port e.port) (d == colour e.node) t))) t))
 
 no_ends : (changed : ℕ → Bool) (colour : ℕ → ℕ) (port : Port) (d : ℕ) (es : List (End ℕ)) → ((x : ℕ) → d ≡ colour x → changed x ≡ false) → ends_of colour port d (changed_ends changed es) ≡ 0
 no_ends changed colour port d es h =
     count-filter (λ e. same_port port e.port && (d == colour e.node)) (λ e. changed e.node) es
-    ∙ count_none (λ e. changed e.node && (same_port port e.port && (d == colour e.node))) es (λ e i. false_if (changed e.node && (same_port port e.port && (d == colour e.node)))
+    ∙ count_none (λ e. changed e.node && (same_port port e.port && (d == colour e.node))) es (λ e i. false_from_ne_true (changed e.node && (same_port port e.port && (d == colour e.node)))
     (λ t. true≢false (sym (first (changed e.node) (same_port port e.port && (d == colour e.node)) t)
     ∙ h e.node ((Decides-eqb d (colour e.node)).0 (second (same_port port e.port) (d == colour e.node) (second (changed e.node) (same_port port e.port && (d == colour e.node)) t))))))
 
@@ -213,7 +211,7 @@ by_changed g old new members ends i h a b na nb =
     let law = h.parted a b la lb in (
       (λ e. let o = law.0 e in (
         o.0,
-        (λ port d. elim (is_it (is_marked old.marks d)) [
+        (λ port d. elim (cases_Bool (is_marked old.marks d)) [
           | inl t ↦
               let f = h.listed.found d (marked_below old.marks d t) t in
               let all = h.all in

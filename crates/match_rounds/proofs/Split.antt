@@ -26,10 +26,6 @@ split_at xs ys w n l e =
       rest = λ d k not. read d k ∙ get_or-set_other xs w d (slice_index xs w - n) 0 not;
     }
 
-is_it : (b : Bool) → (b ≡ true) ⊎ (b ≡ false)
-is_it true = inl refl
-is_it false = inr refl
-
 cases : (a b c : Bool) → (a || b || c) ≡ true → (a ≡ true) ⊎ ((b ≡ true) ⊎ (c ≡ true))
 cases true b c h = inl refl
 cases false true c h = inr (inl refl)

@@ -3,9 +3,9 @@ use Rattle.std.proofs.Common.{◌≡◌, ◌⊎◌, inl, inr, ◌↔◌, ◌<◌
 use Rattle.std.specs.Bool.{beq}
 use Rattle.round_laws.specs.Web.{Web, IsNode, Guess, names, alike_under}
 use Rattle.round_laws.specs.Colours.{AreColours}
-use Rattle.round_laws.proofs.Agree.{both, first, second}
+use Rattle.round_laws.proofs.Agree.{first, second}
 use Rattle.match_laws.proofs.Sums.{in_numbers, numbers_has}
-use Rattle.std.proofs.lemmas.Bool.{cases_lt}
+use Rattle.std.proofs.lemmas.Bool.{cases_lt, and_from}
 use Rattle.std.proofs.lemmas.List.{take_more}
 use Rattle.std.proofs.lemmas.Bool.Decides.{Decides-eqb}
 use Rattle.match_graph.specs.declared.graph.Graph.{Graph}
@@ -66,18 +66,18 @@ same_beq false true h = absurd (true≢false (sym h))
 alike_last : (w : Web ℕ) (gs : List (Guess ℕ)) (g : Guess ℕ) (a b : ℕ) → (alike_under w (gs ++ g ∷ []) a b ≡ true) ↔ ((alike_under w gs a b ≡ true) × (names w g a ≡ names w g b))
 alike_last w [] g a b = (
   (λ t. (second (beq (names w g a) (names w g b)) (w.alike a b) t, beq_same (names w g a) (names w g b) (first (beq (names w g a) (names w g b)) (w.alike a b) t))),
-  (λ t. both (beq (names w g a) (names w g b)) (w.alike a b) (same_beq (names w g a) (names w g b) t.1) t.0),
+  (λ t. and_from (beq (names w g a) (names w g b)) (w.alike a b) (same_beq (names w g a) (names w g b) t.1) t.0),
 )
 alike_last w (o ∷ gs) g a b =
     let h = alike_last w gs g a b in (
       (λ t.
           let here = first (beq (names w o a) (names w o b)) (alike_under w (gs ++ g ∷ []) a b) t in
           let rest = h.0 (second (beq (names w o a) (names w o b)) (alike_under w (gs ++ g ∷ []) a b) t) in
-          (both (beq (names w o a) (names w o b)) (alike_under w gs a b) here rest.0, rest.1)),
+          (and_from (beq (names w o a) (names w o b)) (alike_under w gs a b) here rest.0, rest.1)),
       (λ t.
           let here = first (beq (names w o a) (names w o b)) (alike_under w gs a b) t.0 in
           let rest = second (beq (names w o a) (names w o b)) (alike_under w gs a b) t.0 in
-          both (beq (names w o a) (names w o b)) (alike_under w (gs ++ g ∷ []) a b) here (h.1 (rest, t.1))),
+          and_from (beq (names w o a) (names w o b)) (alike_under w (gs ++ g ∷ []) a b) here (h.1 (rest, t.1))),
     )
 
 pub map_last : (gs : List (ℕ × ℕ)) (g : ℕ × ℕ) → map plain_guess (gs ++ g ∷ []) ≡ map plain_guess gs ++ plain_guess g ∷ []

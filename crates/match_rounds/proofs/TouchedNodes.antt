@@ -1,5 +1,5 @@
 -- The ends of members are at nodes.
-use Rattle.std.proofs.Common.{◌≡◌, inl, inr, ◌<◌, ℕ, zero, suc, List, [], ◌∷◌, ◌++◌, length, map, slice_index, refl, sym, subst, arith}
+use Rattle.std.proofs.Common.{inl, inr, ◌<◌, ℕ, zero, suc, List, [], ◌∷◌, length, slice_index, refl, sym, subst, arith}
 use Rattle.std.specs.List.{flat_map}
 use Rattle.std.specs.List.Sorted.{IsPermutation}
 use Rattle.plain_netlist.specs.Lists.{IsListed}

@@ -1,11 +1,12 @@
 -- How many ends a node has at the members of a class.
 use Rattle.std.proofs.Common.{◌≡◌, ◌≢◌, ◌<◌, ◌+◌, ◌==◌, ◌&&◌, ◌||◌, ℕ, suc, Bool, true, false, cond, count_by, List, [], ◌∷◌, ◌++◌, length, map, slice_index, refl, sym, ◌∙◌, ap, arith, true≢false}
+use Rattle.base_laws.proofs.Tests.{same_truth}
 use Rattle.std.specs.List.{flat_map, list_any}
 use Rattle.std.proofs.lemmas.Bool.Decides.{Decides-eqb}
 use Rattle.std.proofs.lemmas.List.{map-append}
 use Rattle.round_laws.specs.Web.{Port, same_port}
 use Rattle.round_laws.specs.Colours.{ends_of}
-use Rattle.round_laws.proofs.Agree.{count-cons, count_same, count_none, same_test}
+use Rattle.round_laws.proofs.Agree.{count-cons, count_same, count_none}
 use Rattle.round_laws.proofs.Fast.{count_split}
 use Rattle.round_laws.proofs.Stable.{near_node}
 use Rattle.match_graph.specs.declared.graph.Graph.{Graph}
@@ -53,6 +54,6 @@ pub touched : TouchLaw
 touched g colour c xs h all a port la =
     summed g h a port la xs all.below all.once
     ∙ count_same (λ e. same_port port e.port && list_any (λ x. x == e.node) xs) (λ e. same_port port e.port && (c == colour e.node)) (map plain_end (ends_at g a))
-    (λ e i. ap (λ (b : Bool). same_port port e.port && b) (same_test (list_any (λ x. x == e.node) xs) (c == colour e.node)
+    (λ e i. ap (λ (b : Bool). same_port port e.port && b) (same_truth (list_any (λ x. x == e.node) xs) (c == colour e.node)
     (λ t. let f = any_index xs e.node t in (Decides-eqb c (colour e.node)).1 (sym (all.class f.0 f.1) ∙ ap colour f.2))
     (λ t. all.found e.node (node_below g e.node (near_node (graph_web g) h.web a (below_node g a la) e i)) (sym ((Decides-eqb c (colour e.node)).0 t)))))

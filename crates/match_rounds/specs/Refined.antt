@@ -1,5 +1,5 @@
 -- What rounds come to.
-use Rattle.std.specs.Prelude.{◌≡◌, ◌<◌, ◌≤◌, ◌-◌, ℕ, Bool, true, false, List, length, take}
+use Rattle.std.specs.Prelude.{◌<◌, ◌≤◌, ◌-◌, ℕ, Bool, true, false, List, length, take}
 use Rattle.round_laws.specs.Web.{Web, IsEven, IsStable, IsRefuted}
 use Rattle.round_laws.specs.Colours.{AreColours}
 use Rattle.part_laws.specs.Parting.{IsCoarse, IsFine, with_guess}

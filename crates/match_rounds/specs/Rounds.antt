@@ -1,11 +1,11 @@
 -- A round.
 use Rattle.std.specs.Prelude.{◌≡◌, ◌↔◌, ◌<◌, ◌≤◌, ℕ, List, length, slice_index, slice_range}
 use Rattle.std.specs.List.{flat_map}
-use Rattle.round_laws.specs.Web.{Port, Web}
+use Rattle.round_laws.specs.Web.{Port}
 use Rattle.round_laws.specs.Colours.{SplitsBy}
 use Rattle.part_laws.specs.Parting.{IsParted}
 use Rattle.match_graph.specs.declared.graph.Graph.{Graph}
-use Rattle.match_graph.specs.Graph.{graph_web, ends_at, nodes_of}
+use Rattle.match_graph.specs.Graph.{graph_web, ends_at}
 use Rattle.match_rounds.specs.declared.classes.Classes.{Classes}
 use Rattle.match_rounds.specs.Classes.{class_in, is_fresh}
 use Rattle.match_rounds.specs.Members.{start_at}

@@ -1,9 +1,11 @@
 -- The groups of a circuit's transistors: each in one, those of one alike, those of two not.
 use Rattle.std.proofs.Common.{◌≡◌, ◌⊎◌, inl, inr, ℕ, zero, suc, ◌+◌, ◌<◌, Bool, true, false, cond, List, [], ◌∷◌, ◌++◌, map, length, Some, slice_get, refl, sym, ◌∙◌, ap, subst, arith, true≢false}
+use Rattle.base_laws.proofs.Items.{map_from}
+use Rattle.std.proofs.lemmas.Option.{same_Some}
 use Rattle.std.proofs.Math.Decide.{ℕ_discrete}
 use Rattle.plain_netlist.specs.Lists.{IsListed, AreApart}
 use Rattle.plain_netlist.specs.Netlist.{DeviceRow, Circuit}
-use Rattle.plain_netlist.proofs.Members.{from_map, in_left, in_right, either_side}
+use Rattle.plain_netlist.proofs.Members.{in_left, in_right, either_side}
 use Rattle.merge_laws.specs.Grouped.{is_alike, Placed, Group, members, with_device, grouped, groups, merged_row, merged_circuit, UnlikeLaw}
 use Rattle.merge_laws.proofs.Alike.{is_turned, is_through}
 
@@ -19,11 +21,8 @@ IsNew gs d k h =
     ((g : Group) × (slice_get gs k ≡ Some g) × (is_alike g.first.row d.row ≡ true) × (h ≡ joined g d))
     ⊎ ((h ≡ single d) × ((i : ℕ) (g : Group) → slice_get gs i ≡ Some g → is_alike g.first.row d.row ≡ false) × (k ≡ length gs))
 
-some_one : {A : Type 0} (a b : A) → Some a ≡ Some b → a ≡ b
-some_one a b e = cc
-
 from_new : (gs : List Group) (d : Placed) (k : ℕ) (h : Group) → slice_get (with_device gs d) k ≡ Some h → (slice_get gs k ≡ Some h) ⊎ IsNew gs d k h
-from_new [] d zero h e = inr (inr (sym (some_one (single d) h e), (λ i g f. absurd (let z : ⊥ = cc in z)), refl))
+from_new [] d zero h e = inr (inr (sym (same_Some (single d) h e), (λ i g f. absurd (let z : ⊥ = cc in z)), refl))
 from_new [] d (suc k) h e = absurd (let z : ⊥ = cc in z)
 from_new (g ∷ gs) d k h e = at (λ i f. from_new gs d i h f) (is_alike g.first.row d.row) refl k e
   where
@@ -33,11 +32,11 @@ from_new (g ∷ gs) d k h e = at (λ i f. from_new gs d i h f) (is_alike g.first
     deeper k far (inr (inr (i, none, l))) = inr (inr (i, not, ap suc l))
       where
         not : (i : ℕ) (o : Group) → slice_get (g ∷ gs) i ≡ Some o → is_alike o.first.row d.row ≡ false
-        not zero o f = subst (λ (z : Group). is_alike z.first.row d.row ≡ false) (some_one g o f) far
+        not zero o f = subst (λ (z : Group). is_alike z.first.row d.row ≡ false) (same_Some g o f) far
         not (suc i) o f = none i o f
 
     at : ((i : ℕ) → slice_get (with_device gs d) i ≡ Some h → (slice_get gs i ≡ Some h) ⊎ IsNew gs d i h) → (b : Bool) → is_alike g.first.row d.row ≡ b → (k : ℕ) → slice_get (cond b (joined g d ∷ gs) (g ∷ with_device gs d)) k ≡ Some h → (slice_get (g ∷ gs) k ≡ Some h) ⊎ IsNew (g ∷ gs) d k h
-    at rec true a zero f = inr (inl (g, refl, a, sym (some_one (joined g d) h f)))
+    at rec true a zero f = inr (inl (g, refl, a, sym (same_Some (joined g d) h f)))
     at rec true a (suc k) f = inl f
     at rec false a zero f = inl f
     at rec false a (suc k) f = deeper k a (rec k f)
@@ -50,7 +49,7 @@ stays (o ∷ gs) d k g e = at (λ i f. stays gs d i g f) (is_alike o.first.row d
   where
     at : ((i : ℕ) → slice_get gs i ≡ Some g → (h : Group) × (slice_get (with_device gs d) i ≡ Some h) × ((m : Placed) → IsListed m (members g) → IsListed m (members h)))
         → (b : Bool) (k : ℕ) → slice_get (o ∷ gs) k ≡ Some g → (h : Group) × (slice_get (cond b (joined o d ∷ gs) (o ∷ with_device gs d)) k ≡ Some h) × ((m : Placed) → IsListed m (members g) → IsListed m (members h))
-    at rec true zero f = (joined o d, refl, (λ m i. let j = subst (λ (z : Group). IsListed m (members z)) (sym (some_one o g f)) i in in_left (members o) (d ∷ []) m j))
+    at rec true zero f = (joined o d, refl, (λ m i. let j = subst (λ (z : Group). IsListed m (members z)) (sym (same_Some o g f)) i in in_left (members o) (d ∷ []) m j))
     at rec true (suc k) f = (g, f, (λ m i. i))
     at rec false zero f = (g, f, (λ m i. i))
     at rec false (suc k) f = rec k f
@@ -143,7 +142,7 @@ module _ (all : List DeviceRow) (n : ℕ) (gs : List Group) (row : DeviceRow) (a
       search_in i r low e (inl l) = let f = are.found i r l e in let s = stays gs d f.0 f.1 f.2 in (f.0, s.0, s.1, s.2 (record { place = i; row = r }) f.3)
       search_in i r low e (inr same) =
           let t = there gs d in
-          let rows : row ≡ r = some_one row r (sym at ∙ (ap (slice_get all) (sym same) ∙ e)) in
+          let rows : row ≡ r = same_Some row r (sym at ∙ (ap (slice_get all) (sym same) ∙ e)) in
           (t.0, t.1, t.2, subst (λ (z : Placed). IsListed z (members t.1)) (two same rows) t.3)
         where
           two : {i : ℕ} {r : DeviceRow} → i ≡ n → row ≡ r → d ≡ record { place = i; row = r }
@@ -212,10 +211,10 @@ are_groups rows = go rows 0 [] rows (λ i r e. subst (λ k. slice_get rows k ≡
 
 pub unlike_law : UnlikeLaw
 unlike_law nl t c is i j a b at_a at_b like =
-    let o = from_map merged_circuit nl.circuits t c is in
+    let o = map_from merged_circuit nl.circuits t c is in
     let rows = o.0.devices in
-    let g = from_map merged_row (groups rows) i a (subst (λ (z : Circuit). slice_get z.devices i ≡ Some a) (sym o.2) at_a) in
-    let h = from_map merged_row (groups rows) j b (subst (λ (z : Circuit). slice_get z.devices j ≡ Some b) (sym o.2) at_b) in
+    let g = map_from merged_row (groups rows) i a (subst (λ (z : Circuit). slice_get z.devices i ≡ Some a) (sym o.2) at_a) in
+    let h = map_from merged_row (groups rows) j b (subst (λ (z : Circuit). slice_get z.devices j ≡ Some b) (sym o.2) at_b) in
     let first : is_alike (merged_row g.0) b ≡ true = subst (λ (z : DeviceRow). is_alike z b ≡ true) (sym g.2) like in
     let both : is_alike (merged_row g.0) (merged_row h.0) ≡ true = subst (λ (z : DeviceRow). is_alike (merged_row g.0) z ≡ true) (sym h.2) first in
     (are_groups rows).1.unlike i j g.0 h.0 g.1 h.1 both

@@ -1,9 +1,9 @@
 -- The nets, calls and groups of a netlist and of the merged one, at the ends of paths of calls.
 use Rattle.std.proofs.Common.{◌≡◌, inl, inr, ℕ, true, List, [], ◌∷◌, map, Some, slice_get, sym, subst}
+use Rattle.base_laws.proofs.Items.{map_to, map_from}
 use Rattle.plain_netlist.specs.Lists.{IsListed, AreApart}
 use Rattle.plain_netlist.specs.Netlist.{DeviceRow, CallRow, Circuit, Netlist, IsCircuit, IsCall, Slot, slot, Joins, IsJoin, IsEitherJoin, InOneNet, HasDevice, IsOnPin}
 use Rattle.plain_netlist.proofs.Links.{along, single}
-use Rattle.plain_netlist.proofs.Members.{map_at, from_map}
 use Rattle.plain_netlist.proofs.Once.{one_circuit, one_call}
 use Rattle.merge_laws.specs.Grouped.{is_alike, Placed, Group, members, groups, merged_row, merged_circuit, merged_netlist, IsGroup}
 use Rattle.merge_laws.proofs.Groups.{are_groups}
@@ -13,10 +13,10 @@ module _ (nl : Netlist) where
   ml = merged_netlist nl
 
   pub circuit_there : (k : ℕ) (c : Circuit) → IsCircuit nl k c → IsCircuit ml k (merged_circuit c)
-  circuit_there k c is = map_at merged_circuit nl.circuits k c is
+  circuit_there k c is = map_to merged_circuit nl.circuits k c is
 
   pub circuit_back : (k : ℕ) (c : Circuit) → IsCircuit ml k c → (o : Circuit) × IsCircuit nl k o × (merged_circuit o ≡ c)
-  circuit_back k c is = from_map merged_circuit nl.circuits k c is
+  circuit_back k c is = map_from merged_circuit nl.circuits k c is
 
   pub call_there : (c k : ℕ) (row : CallRow) → IsCall nl c k row → IsCall ml c k row
   call_there c k row (x, is, at) = (merged_circuit x, circuit_there c x is, at)
@@ -55,13 +55,13 @@ module _ (nl : Netlist) where
       (i, n, (o.0, o.1, subst (λ (z : Circuit). slice_get z.pins i ≡ Some n) (sym o.2) at), net_back t a (slot [] n) one)
 
   pub group_has : (path : List ℕ) (t j : ℕ) (g : Group) → IsGroup nl t path j g → HasDevice ml t path j (merged_row g)
-  group_has [] t j g (c, is, at) = (merged_circuit c, circuit_there t c is, map_at merged_row (groups c.devices) j g at)
+  group_has [] t j g (c, is, at) = (merged_circuit c, circuit_there t c is, map_to merged_row (groups c.devices) j g at)
   group_has (k ∷ ks) t j g (row, call, rest) = (row, call_there t k row call, group_has ks row.circuit j g rest)
 
   pub has_group : (path : List ℕ) (t j : ℕ) (row : DeviceRow) → HasDevice ml t path j row → (g : Group) × IsGroup nl t path j g × (merged_row g ≡ row)
   has_group [] t j row (c, is, at) =
       let o = circuit_back t c is in
-      let g = from_map merged_row (groups o.0.devices) j row (subst (λ (z : Circuit). slice_get z.devices j ≡ Some row) (sym o.2) at) in
+      let g = map_from merged_row (groups o.0.devices) j row (subst (λ (z : Circuit). slice_get z.devices j ≡ Some row) (sym o.2) at) in
       (g.0, (o.0, o.1, g.1), g.2)
   has_group (k ∷ ks) t j row (call, is, rest) = let r = has_group ks call.circuit j row rest in (r.0, (call, call_back t k call is, r.1), r.2)
 

@@ -1,6 +1,7 @@
 -- The partner by name that the tables give is the one of the definition.
-use Rattle.std.proofs.Common.{◌≡◌, ◌↔◌, inl, inr, ℕ, List, map, Option, Some, None, slice_get, option_map, refl, sym, ◌∙◌, ap}
-use Rattle.std.proofs.lemmas.Option.{none-some, slice_get-map}
+use Rattle.std.proofs.Common.{◌≡◌, ◌↔◌, inl, inr, ℕ, List, Option, Some, None, slice_get, refl, sym, ◌∙◌, ap}
+use Rattle.base_laws.proofs.Items.{map_to, map_from}
+use Rattle.std.proofs.lemmas.Option.{none-some}
 use Rattle.net_names.specs.Folding.{folded_bytes}
 use Rattle.plain_netlist.specs.Lists.{IsListed}
 use Rattle.plain_netlist.specs.Netlist.{Circuit, Netlist}
@@ -8,28 +9,15 @@ use Rattle.plain_netlist.proofs.Members.{listed, position}
 use Rattle.align_laws.specs.Partners.{HasName, IsLeftSaid, IsRightSaid, AreSaidSame, AreNamesakes, IsPartnerByName}
 use Rattle.net_align.specs.Names.{FindsNames, names_of, left_names, right_names, look_other, by_lines}
 
-pub at_map : {A B : Type 0} (g : A → B) (xs : List A) (i : ℕ) (x : A) → slice_get xs i ≡ Some x → slice_get (map g xs) i ≡ Some (g x)
-at_map g xs i x e = slice_get-map g xs i ∙ ap (option_map g) e
-
-pub map_at : {A B : Type 0} (g : A → B) (xs : List A) (i : ℕ) (y : B) → slice_get (map g xs) i ≡ Some y → (x : A) × (slice_get xs i ≡ Some x) × (g x ≡ y)
-map_at {A = A} g xs i y e = go (slice_get xs i) refl
-  where
-    go : (o : Option A) → slice_get xs i ≡ o → (x : A) × (slice_get xs i ≡ Some x) × (g x ≡ y)
-    go None h = absurd (none-some y (sym (slice_get-map g xs i ∙ ap (option_map g) h) ∙ e))
-    go (Some x) h =
-        let s : Some (g x) ≡ Some y = sym (slice_get-map g xs i ∙ ap (option_map g) h) ∙ e in
-        let k : g x ≡ y = cc in
-        (x, h, k)
-
 abbrev folded_name : Circuit → List ℕ
 folded_name c = folded_bytes c.name
 
 -- a circuit's place among the names
 pub name_at : (nl : Netlist) (a : ℕ) (name : List ℕ) → HasName nl a name → slice_get (names_of nl) a ≡ Some (folded_bytes name)
-name_at nl a name h = at_map folded_name nl.circuits a h.0 h.1 ∙ ap Some h.2
+name_at nl a name h = map_to folded_name nl.circuits a h.0 h.1 ∙ ap Some h.2
 
 pub at_name : (nl : Netlist) (a : ℕ) (q name : List ℕ) → slice_get (names_of nl) a ≡ Some q → folded_bytes name ≡ q → HasName nl a name
-at_name nl a q name e same = let r = map_at folded_name nl.circuits a q e in (r.0, r.1, r.2 ∙ sym same)
+at_name nl a q name e same = let r = map_from folded_name nl.circuits a q e in (r.0, r.1, r.2 ∙ sym same)
 
 abbrev left_text : List ℕ × List ℕ → List ℕ
 left_text p = folded_bytes p.0
@@ -47,11 +35,11 @@ module _ (layout schematic : Netlist) (top : ℕ) (same : List (List ℕ × List
   pub line_place : (line : List ℕ × List ℕ) → IsListed line same → HasName layout a line.0 → (k : ℕ) × (slice_get same k ≡ Some line) × (lefts q ≡ Some k)
   line_place line h name =
       let p = position same line h in
-      (p.0, p.1, (left_finds q p.0).1 (at_map left_text same p.0 line p.1 ∙ ap Some (one_text line.0 name)))
+      (p.0, p.1, (left_finds q p.0).1 (map_to left_text same p.0 line p.1 ∙ ap Some (one_text line.0 name)))
 
   pub said : (k : ℕ) → lefts q ≡ Some k → IsLeftSaid layout schematic top same a
   said k e =
-      let r = map_at left_text same k q ((left_finds q k).0 e) in
+      let r = map_from left_text same k q ((left_finds q k).0 e) in
       (r.0, listed same k r.0 r.1, at_name layout a q r.0.0 has r.2)
 
   found : (name : List ℕ) → HasName schematic b name → circuits (folded_bytes name) ≡ Some b
@@ -59,14 +47,14 @@ module _ (layout schematic : Netlist) (top : ℕ) (same : List (List ℕ × List
 
   right_said : (k : ℕ) (name : List ℕ) → HasName schematic b name → rights (folded_bytes name) ≡ Some k → IsRightSaid layout schematic top same b
   right_said k name h e =
-      let r = map_at right_text same k (folded_bytes name) ((right_finds (folded_bytes name) k).0 e) in
+      let r = map_from right_text same k (folded_bytes name) ((right_finds (folded_bytes name) k).0 e) in
       (r.0, listed same k r.0 r.1, at_name schematic b (folded_bytes name) r.0.1 (name_at schematic b name h) r.2)
 
   by_line : (line : ℕ) (o : Option (List ℕ)) → lefts q ≡ Some line → slice_get (right_names same) line ≡ o → look_other circuits o ≡ Some b → IsPartnerByName layout schematic top same a b
   by_line line None l r e = absurd (none-some b e)
   by_line line (Some other) l r e =
-      let p = map_at left_text same line q ((left_finds q line).0 l) in
-      let t : Some (right_text p.0) ≡ Some other = sym (at_map right_text same line p.0 p.1) ∙ r in
+      let p = map_from left_text same line q ((left_finds q line).0 l) in
+      let t : Some (right_text p.0) ≡ Some other = sym (map_to right_text same line p.0 p.1) ∙ r in
       let k : right_text p.0 ≡ other = cc in
       inl (p.0, listed same line p.0 p.1, at_name layout a q p.0.0 has p.2, at_name schematic b other p.0.1 ((finds other b).0 e) k)
 
@@ -75,7 +63,7 @@ module _ (layout schematic : Netlist) (top : ℕ) (same : List (List ℕ × List
       let p = line_place w.0 w.1 w.2 in
       let ks : Some p.0 ≡ Some line = sym p.2 ∙ l in
       let k : p.0 ≡ line = cc in
-      let at : slice_get (right_names same) line ≡ Some (right_text w.0) = ap (λ (i : ℕ). slice_get (right_names same) i) (sym k) ∙ at_map right_text same p.0 w.0 p.1 in
+      let at : slice_get (right_names same) line ≡ Some (right_text w.0) = ap (λ (i : ℕ). slice_get (right_names same) i) (sym k) ∙ map_to right_text same p.0 w.0 p.1 in
       ap (look_other circuits) at ∙ found w.0.1 w.3
 
   no_line : lefts q ≡ None → AreSaidSame layout schematic top same a b → ⊥
@@ -86,14 +74,14 @@ module _ (layout schematic : Netlist) (top : ℕ) (same : List (List ℕ × List
 
   by_name_alone : lefts q ≡ None → rights q ≡ None → circuits q ≡ Some b → IsPartnerByName layout schematic top same a b
   by_name_alone l r e =
-      let p = map_at folded_name layout.circuits a q has in
+      let p = map_from folded_name layout.circuits a q has in
       inr (
         (λ s. let k = line_place s.0 s.1 s.2 in none-some k.0 (sym l ∙ k.2)),
         (λ s.
             let k = position same s.0 s.1 in
             let t : Some (folded_bytes s.0.1) ≡ Some q = sym (name_at schematic b s.0.1 s.2) ∙ (finds q b).0 e in
             let u : folded_bytes s.0.1 ≡ q = cc in
-            none-some k.0 (sym r ∙ (right_finds q k.0).1 (at_map right_text same k.0 s.0 k.1 ∙ ap Some u))),
+            none-some k.0 (sym r ∙ (right_finds q k.0).1 (map_to right_text same k.0 s.0 k.1 ∙ ap Some u))),
         (p.0.name, at_name layout a q p.0.name has p.2, at_name schematic b q p.0.name ((finds q b).0 e) p.2),
       )
 

@@ -1,5 +1,6 @@
 -- Names found in a list where each stands once.
-use Rattle.std.proofs.Common.{◌≡◌, ◌⊎◌, inl, inr, ℕ, zero, suc, ◌<◌, Bool, true, false, List, [], ◌∷◌, length, map, take, Some, None, slice_get, refl, sym, ◌∙◌, ap, arith}
+use Rattle.std.proofs.Common.{◌≡◌, inl, inr, ℕ, zero, suc, ◌<◌, Bool, true, false, List, [], ◌∷◌, length, map, take, Some, None, slice_get, refl, sym, ◌∙◌, ap, arith}
+use Rattle.std.proofs.lemmas.Bool.{cases_Bool}
 use Rattle.std.specs.Prelude.{nat_lt, if◌then◌else◌}
 use Rattle.std.specs.Str.{bytes_eq}
 use Rattle.std.proofs.lemmas.Slice.Eq.{bytes_eq-Decides}
@@ -7,13 +8,9 @@ use Rattle.std.proofs.lemmas.Option.{none-some, slice_get-map}
 use Rattle.text_table.specs.Texts.{has_text, place_of}
 use Rattle.net_align.specs.Names.{AreOnce, found_in, FindsNames}
 
-pub either : (b : Bool) → (b ≡ true) ⊎ (b ≡ false)
-either true = inl refl
-either false = inr refl
-
 at_place : (names : List (List ℕ)) (q : List ℕ) → place_of names q < length names → slice_get names (place_of names q) ≡ Some q
 at_place [] q low = absurd (let l = low in omega arith)
-at_place (x ∷ xs) q low = elim (either (bytes_eq q x)) [
+at_place (x ∷ xs) q low = elim (cases_Bool (bytes_eq q x)) [
   | inl t ↦ let e : place_of (x ∷ xs) q ≡ 0 = rw t refl in
       let same : q ≡ x = (bytes_eq-Decides q x).0 t in
       ap (λ (k : ℕ). slice_get (x ∷ xs) k) e ∙ ap Some (sym same)
@@ -29,7 +26,7 @@ is_there (x ∷ xs) q zero e =
     let t : bytes_eq q x ≡ true = (bytes_eq-Decides q x).1 same in
     let z : place_of (x ∷ xs) q ≡ 0 = rw t refl in
     omega (arith, z)
-is_there (x ∷ xs) q (suc i) e = elim (either (bytes_eq q x)) [
+is_there (x ∷ xs) q (suc i) e = elim (cases_Bool (bytes_eq q x)) [
   | inl t ↦ let z : place_of (x ∷ xs) q ≡ 0 = rw t refl in omega (arith, z)
   | inr f ↦ let z : place_of (x ∷ xs) q ≡ suc (place_of xs q) = rw f (omega arith) in
       let l = is_there xs q i e in omega (arith, z, l)
@@ -57,7 +54,7 @@ finds_names names once q i = (
 
 missing : (names : List (List ℕ)) (q : List ℕ) → ((i : ℕ) → slice_get names i ≡ Some q → ⊥) → has_text names q ≡ false
 missing [] q none = refl
-missing (x ∷ xs) q none = elim (either (bytes_eq q x)) [
+missing (x ∷ xs) q none = elim (cases_Bool (bytes_eq q x)) [
   | inl t ↦ let same : q ≡ x = (bytes_eq-Decides q x).0 t in absurd (none 0 (ap Some (sym same)))
   | inr f ↦ rw f (missing xs q (λ i e. none (suc i) e))
 ]

@@ -1,5 +1,7 @@
 -- The held nets and pins of flat circuits.
 use Rattle.std.proofs.Common.{◌≡◌, ◌⊎◌, inl, inr, ℕ, zero, suc, ◌+◌, ◌<◌, ◌≤◌, Bool, true, false, cond, List, [], ◌∷◌, ◌++◌, length, map, Option, Some, slice_get, refl, sym, ◌∙◌, ap, subst, arith, true≢false}
+use Rattle.base_laws.proofs.Items.{map_to}
+use Rattle.std.proofs.lemmas.Bool.{cases_Bool}
 use Rattle.std.specs.Prelude.{slice_set, slice_index, slice_index_or, flat_map, filter}
 use Rattle.std.specs.Global.{Vec}
 use Rattle.std.proofs.Math.Decide.{ℕ_discrete}
@@ -21,8 +23,6 @@ use Rattle.net_align.specs.Laid.{AreBelow, AreCircuitsBelow}
 use Rattle.net_align.specs.Flattened.{Flattening, IsFlattening}
 use Rattle.net_align.specs.Kept.{AreHeights, AreHeldPins, AreHeldBelow}
 use Rattle.net_align.specs.Sights.{has_number, is_kept, pins_of, net_of, call_nets, inner_sights, own_pins, sights}
-use Rattle.net_align.proofs.ByName.{at_map}
-use Rattle.net_align.proofs.Finding.{either}
 use Rattle.net_align.proofs.Partnered.{at_or}
 use Rattle.net_align.proofs.Seeing.{listed_has, flat_map_on}
 use Rattle.net_align.proofs.Walking.{has_place, one_place, place_low}
@@ -30,14 +30,14 @@ use Rattle.net_align.proofs.Walking.{has_place, one_place, place_low}
 pub in_filter : (p : ℕ → Bool) (xs : List ℕ) (x : ℕ) → IsListed x xs → p x ≡ true → IsListed x (filter p xs)
 in_filter p [] x h e = absurd h
 in_filter p (y ∷ xs) x (inl same) e = let t : p y ≡ true = ap p (sym same) ∙ e in rw t (inl same)
-in_filter p (y ∷ xs) x (inr h) e = elim (either (p y)) [
+in_filter p (y ∷ xs) x (inr h) e = elim (cases_Bool (p y)) [
   | inl t ↦ rw t (inr (in_filter p xs x h e))
   | inr f ↦ rw f (in_filter p xs x h e)
 ]
 
 pub from_filter : (p : ℕ → Bool) (xs : List ℕ) (x : ℕ) → IsListed x (filter p xs) → IsListed x xs × (p x ≡ true)
 from_filter p [] x h = absurd h
-from_filter p (y ∷ xs) x h = elim (either (p y)) [
+from_filter p (y ∷ xs) x h = elim (cases_Bool (p y)) [
   | inl t ↦
       let s : IsListed x (y ∷ filter p xs) = subst (λ (zs : List ℕ). IsListed x zs) (let e : filter p (y ∷ xs) ≡ y ∷ filter p xs = rw t refl in e) h in
       elim s [
@@ -91,7 +91,7 @@ module _ (f : Netlist) (numbers : List (Option ℕ)) (held : List (List ℕ)) (c
     | inr l ↦
         let r = from_all (call_nets numbers held) x.calls n l in
         let k = position x.calls r.0 r.1 in
-        elim (either (is_kept numbers r.0.circuit)) [
+        elim (cases_Bool (is_kept numbers r.0.circuit)) [
           | inl t ↦
               let s : IsListed n (map (net_of r.0.nets) (pins_of held r.0.circuit)) = subst (λ (b : Bool). IsListed n (cond b (map (net_of r.0.nets) (pins_of held r.0.circuit)) [])) t r.2 in
               let q = from_map (net_of r.0.nets) (pins_of held r.0.circuit) n s in
@@ -171,7 +171,7 @@ module _ (g : Netlist) (goes : ℕ → Bool) (f : Flattening) (h : IsFlattening 
 
   pub row_calls : (c : ℕ) (x : CircuitRow) → c < length g.circuits → plain_circuit x ≡ flat_of c → AreCircuitsBelow x.calls.items (length g.circuits)
   row_calls c x low is k r e =
-      call_low c k (plain_call r) (plain_circuit x, subst (λ (y : Circuit). IsCircuit f.flat c y) (sym is) (flat_there c low), at_map plain_call x.calls.items k r e)
+      call_low c k (plain_call r) (plain_circuit x, subst (λ (y : Circuit). IsCircuit f.flat c y) (sym is) (flat_there c low), map_to plain_call x.calls.items k r e)
 
   pub row_nets : (numbers : List (Option ℕ)) (held : List (List ℕ)) (c : ℕ) (x : CircuitRow) → c < length g.circuits → plain_circuit x ≡ flat_of c → ArePins numbers held c
       → AreBelow (inner_sights numbers held (plain_circuit x)) (length x.nets.items)

@@ -1,5 +1,6 @@
 -- What marks say.
 use Rattle.std.proofs.Common.{◌≡◌, ◌⊎◌, inl, inr, ℕ, zero, suc, ◌+◌, ◌<◌, ◌≤◌, Bool, true, false, List, [], ◌∷◌, ◌++◌, length, map, replicate, Option, Some, None, refl, sym, ◌∙◌, ap, subst, arith, true≢false}
+use Rattle.base_laws.proofs.Items.{map_to, map_from}
 use Rattle.std.specs.Prelude.{slice_set, slice_index_or}
 use Rattle.std.proofs.Math.Decide.{ℕ_discrete}
 use Rattle.std.proofs.lemmas.List.{get_or-set_same, get_or-set_other, length-set, length-replicate}
@@ -8,7 +9,6 @@ use Rattle.plain_netlist.specs.Netlist.{CallRow, Circuit, Netlist, IsCall}
 use Rattle.plain_netlist.proofs.Members.{listed, position}
 use Rattle.net_model.specs.Faults.{called_by}
 use Rattle.net_align.specs.Marks.{AreCallsOfCircuits, SoleBelow, FindsSole, marked, marked_by, circuits_called}
-use Rattle.net_align.proofs.ByName.{at_map, map_at}
 
 pub marked_long : (bs : List ℕ) (marks : List Bool) → length (marked bs marks) ≡ length marks
 marked_long [] marks = refl
@@ -98,7 +98,7 @@ pub called_is : (nl : Netlist) (c k b : ℕ) (row : CallRow) → AreCallsOfCircu
 called_is nl c k b row there h e =
     let low : b < length nl.circuits = let l = there c k row h in omega (arith, l, e) in
     let long : length (replicate (length nl.circuits) false) ≡ length nl.circuits = length-replicate (length nl.circuits) false in
-    let on : IsListed row.circuit (called_by h.0) = listed (map callee h.0.calls) k row.circuit (at_map callee h.0.calls k row h.2) in
+    let on : IsListed row.circuit (called_by h.0) = listed (map callee h.0.calls) k row.circuit (map_to callee h.0.calls k row h.2) in
     by_is nl.circuits (replicate (length nl.circuits) false) h.0 b (omega (arith, low, long)) (listed nl.circuits c h.0 h.1) (subst (λ (y : ℕ). IsListed y (called_by h.0)) e on)
 
 pub is_called : (nl : Netlist) (b : ℕ) → Is (circuits_called nl) b → (c : ℕ) × (k : ℕ) × (row : CallRow) × IsCall nl c k row × (row.circuit ≡ b)
@@ -106,7 +106,7 @@ is_called nl b h = elim (by_or nl.circuits (replicate (length nl.circuits) false
   | inl l ↦
       let p = position nl.circuits l.0 l.1 in
       let q = position (called_by l.0) b l.2 in
-      let r = map_at callee l.0.calls q.0 b q.1 in
+      let r = map_from callee l.0.calls q.0 b q.1 in
       (p.0, q.0, r.0, (l.0, p.1, r.1), r.2)
   | inr none ↦ absurd (none_set (length nl.circuits) b none)
 ]

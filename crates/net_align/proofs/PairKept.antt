@@ -1,12 +1,13 @@
 -- What an aligned pair is: comparable, and of the same expansions as before.
 use Rattle.std.proofs.Common.{◌≡◌, inl, inr, ℕ, zero, suc, ◌<◌, ◌≤◌, List, length, Some, slice_get, refl, sym, ◌∙◌, ap, subst, arith}
+use Rattle.base_laws.proofs.Items.{map_to, map_from, item_at}
 use Rattle.std.proofs.lemmas.Option.{slice_get_within}
 use Rattle.net_names.specs.Folding.{folded_bytes}
 use Rattle.plain_netlist.specs.Lists.{AreApart}
 use Rattle.plain_netlist.specs.Netlist.{Circuit, Netlist, IsCircuit}
 use Rattle.plain_netlist.specs.Sound.{IsGood}
 use Rattle.plain_netlist.proofs.Listing.{apart_at}
-use Rattle.plain_netlist.proofs.Members.{position, item_at}
+use Rattle.plain_netlist.proofs.Members.{position}
 use Rattle.align_laws.specs.Aligned.{IsAligned, IsKeptExpansion, HasOnlyKept, aligned_net, aligned_device}
 use Rattle.align_laws.specs.Cut.{Alignment, cut}
 use Rattle.align_laws.specs.Lists.{FlatCircuit, circuit_or, given_of, plain}
@@ -16,7 +17,6 @@ use Rattle.align_laws.proofs.Sides.{aligned_sides, ordered}
 use Rattle.align_laws.proofs.Soundness.{aligned_sound, aligned_fault}
 use Rattle.net_align.specs.Compared.{IsAlignable, AreCalleesFirst, AreAligned, KeepsExpansions, AreComparable}
 use Rattle.net_align.specs.Names.{AreOnce, left_names, names_of, right_names}
-use Rattle.net_align.proofs.ByName.{at_map, map_at}
 
 -- a list that has each place of the other is as long
 at_least : (xs ys : List Circuit) → ((k : ℕ) (x : Circuit) → slice_get xs k ≡ Some x → (y : Circuit) × (slice_get ys k ≡ Some y)) → (n : ℕ) → n ≡ length xs → n ≤ length ys
@@ -81,8 +81,8 @@ keeps_expansions g o w a only k low =
 -- folded names stand once where no two circuits have one
 pub names_once : (nl : Netlist) → AreNamesApart nl → AreOnce (names_of nl)
 names_once nl apart i j name h g =
-    let x = map_at (λ (c : Circuit). folded_bytes c.name) nl.circuits i name h in
-    let y = map_at (λ (c : Circuit). folded_bytes c.name) nl.circuits j name g in
+    let x = map_from (λ (c : Circuit). folded_bytes c.name) nl.circuits i name h in
+    let y = map_from (λ (c : Circuit). folded_bytes c.name) nl.circuits j name g in
     apart i j x.0.name (x.0, x.1, refl) (y.0, y.1, y.2 ∙ sym x.2)
 
 pub is_once : (names : List (List ℕ)) → AreApart names → AreOnce names
@@ -95,13 +95,13 @@ lines_apart same lefts rights = record {
       let p = position same k i in
       let q = position same l j in
       let n = apart_at (folded_bytes l.0) (left_names same) p.0 q.0 lefts
-      (at_map (λ (z : List ℕ × List ℕ). folded_bytes z.0) same p.0 k p.1 ∙ ap Some e) (at_map (λ (z : List ℕ × List ℕ). folded_bytes z.0) same q.0 l q.1) in
+      (map_to (λ (z : List ℕ × List ℕ). folded_bytes z.0) same p.0 k p.1 ∙ ap Some e) (map_to (λ (z : List ℕ × List ℕ). folded_bytes z.0) same q.0 l q.1) in
       one_line p.0 q.0 k l n p.1 q.1;
   right = λ k l i j e.
       let p = position same k i in
       let q = position same l j in
       let n = apart_at (folded_bytes l.1) (right_names same) p.0 q.0 rights
-      (at_map (λ (z : List ℕ × List ℕ). folded_bytes z.1) same p.0 k p.1 ∙ ap Some e) (at_map (λ (z : List ℕ × List ℕ). folded_bytes z.1) same q.0 l q.1) in
+      (map_to (λ (z : List ℕ × List ℕ). folded_bytes z.1) same p.0 k p.1 ∙ ap Some e) (map_to (λ (z : List ℕ × List ℕ). folded_bytes z.1) same q.0 l q.1) in
       one_line p.0 q.0 k l n p.1 q.1;
 }
   where

@@ -1,5 +1,6 @@
 -- The pairs that are found are those of the definition, and their sides are an aligned pair.
 use Rattle.std.proofs.Common.{◌≡◌, inl, inr, ℕ, zero, suc, ◌<◌, Bool, true, false, List, [], ◌∷◌, length, Option, Some, None, get_or, slice_get, refl, sym, ◌∙◌, ap, subst, arith}
+use Rattle.std.proofs.lemmas.Bool.{cases_Bool, and_from, and_parts, or_left, or_right, or_cases}
 use Rattle.std.specs.Prelude.{slice_index_or, ◌==◌, ◌&&◌, ◌||◌}
 use Rattle.std.proofs.lemmas.Bool.Decides.{Decides-eqb}
 use Rattle.std.proofs.lemmas.Option.{none-some, slice_get_read, slice_get_within, slice_get-get_or}
@@ -9,20 +10,14 @@ use Rattle.plain_netlist.proofs.Faults.{sides}
 use Rattle.plain_netlist.proofs.Listing.{apart_at, at_apart}
 use Rattle.align_laws.specs.Partners.{AreNamesApart, AreLinesApart, ArePairs, IsAlignedPair, IsPair, IsPartner}
 use Rattle.align_laws.proofs.Sides.{one_left}
-use Rattle.net_model.proofs.FirstLemmas.{left_or, right_or, of_or}
 use Rattle.net_align.specs.Compared.{AreTables, is_compared}
 use Rattle.net_align.specs.Found.{ArePartners}
 use Rattle.net_align.specs.Paired.{ArePairsBelow, compared_partner}
 use Rattle.net_align.specs.Side.{AreMarkedCircuits, IsSide}
 use Rattle.net_align.specs.Walked.{AreReached, IsMarked}
 use Rattle.net_align.specs.declared.below.Below.{Below}
-use Rattle.net_align.proofs.Finding.{either}
 use Rattle.net_align.proofs.Partnered.{at_or}
-use Rattle.net_align.proofs.Sides.{and_both, mark_low}
-
-both_and : (a b : Bool) → a ≡ true → b ≡ true → (a && b) ≡ true
-both_and true b e f = f
-both_and false b e f = e
+use Rattle.net_align.proofs.Sides.{mark_low}
 
 item : (xs : List ℕ) (i : ℕ) → i < length xs → (x : ℕ) × (slice_get xs i ≡ Some x)
 item [] i l = absurd (let m = l in omega arith)
@@ -31,7 +26,7 @@ item (x ∷ xs) (suc i) l = item xs i (let m = l in omega arith)
 
 compared_some : (test : ℕ → ℕ → Bool) (a b : ℕ) (o : Option ℕ) → compared_partner test a o ≡ Some b → (o ≡ Some b) × (test a b ≡ true)
 compared_some test a b None e = absurd (none-some b e)
-compared_some test a b (Some d) e = elim (either (test a d)) [
+compared_some test a b (Some d) e = elim (cases_Bool (test a d)) [
   | inl t ↦
       let z : compared_partner test a (Some d) ≡ Some d = rw t refl in
       let w : Some d ≡ Some b = sym z ∙ e in
@@ -94,8 +89,8 @@ module _ (layout schematic : Netlist) (top right_top : ℕ) (same : List (List �
   -- what the test says
   reached_both : (a b : ℕ) → test a b ≡ true → IsMarked lr a × IsMarked rr b × (same_kind a b ≡ true)
   reached_both a b t =
-      let p = and_both (slice_index_or lr a false) (slice_index_or rr b false && same_kind a b) t in
-      let q = and_both (slice_index_or rr b false) (same_kind a b) p.1 in
+      let p = and_parts (slice_index_or lr a false) (slice_index_or rr b false && same_kind a b) t in
+      let q = and_parts (slice_index_or rr b false) (same_kind a b) p.1 in
       (p.0, q.0, q.1)
 
   tested : (a b : ℕ) → IsPartner layout schematic top same a b → test a b ≡ true → Pair a b
@@ -105,10 +100,10 @@ module _ (layout schematic : Netlist) (top right_top : ℕ) (same : List (List �
         partner = partner;
         called = (h.left_reached.each a (marked_low layout lr a h.left_reached.long r.0)).0 r.0;
         right_called = (h.right_reached.each b (marked_low schematic rr b h.right_reached.long r.1)).0 r.1;
-        devices = elim (of_or (a == top) (slice_index_or lh a false && slice_index_or rh b false) r.2) [
+        devices = elim (or_cases (a == top) (slice_index_or lh a false && slice_index_or rh b false) r.2) [
           | inl e ↦ inl ((Decides-eqb a top).0 e)
           | inr e ↦
-              let d = and_both (slice_index_or lh a false) (slice_index_or rh b false) e in
+              let d = and_parts (slice_index_or lh a false) (slice_index_or rh b false) e in
               inr ((h.left.holds.each a (marked_low layout lh a h.left.holds.long d.0)).0 d.0, (h.right.holds.each b (marked_low schematic rh b h.right.holds.long d.1)).0 d.1)
         ];
       }
@@ -116,12 +111,12 @@ module _ (layout schematic : Netlist) (top right_top : ℕ) (same : List (List �
   -- a pair passes it
   passes : (a b : ℕ) → a < length layout.circuits → b < length schematic.circuits → Pair a b → test a b ≡ true
   passes a b low right_low p =
-      both_and (slice_index_or lr a false) (slice_index_or rr b false && same_kind a b) ((h.left_reached.each a low).1 p.called)
-      (both_and (slice_index_or rr b false) (same_kind a b) ((h.right_reached.each b right_low).1 p.right_called)
+      and_from (slice_index_or lr a false) (slice_index_or rr b false && same_kind a b) ((h.left_reached.each a low).1 p.called)
+      (and_from (slice_index_or rr b false) (same_kind a b) ((h.right_reached.each b right_low).1 p.right_called)
       (elim p.devices [
-        | inl e ↦ left_or (a == top) (slice_index_or lh a false && slice_index_or rh b false) ((Decides-eqb a top).1 e)
-        | inr d ↦ right_or (a == top) (slice_index_or lh a false && slice_index_or rh b false)
-            (both_and (slice_index_or lh a false) (slice_index_or rh b false) ((h.left.holds.each a low).1 d.0) ((h.right.holds.each b right_low).1 d.1))
+        | inl e ↦ or_left (a == top) (slice_index_or lh a false && slice_index_or rh b false) ((Decides-eqb a top).1 e)
+        | inr d ↦ or_right (a == top) (slice_index_or lh a false && slice_index_or rh b false)
+            (and_from (slice_index_or lh a false) (slice_index_or rh b false) ((h.left.holds.each a low).1 d.0) ((h.right.holds.each b right_low).1 d.1))
       ]))
 
   right_at : (k a : ℕ) → slice_get lefts k ≡ Some a → (b : ℕ) × (slice_get rights k ≡ Some b)

@@ -1,5 +1,7 @@
 -- The partners that are found are those of the definition.
 use Rattle.std.proofs.Common.{◌≡◌, inl, inr, ◌↔◌, ℕ, ◌<◌, false, List, [], length, get_or, Option, Some, None, slice_get, refl, sym, subst, ◌∙◌, ap, arith, true≢false}
+use Rattle.base_laws.proofs.Items.{map_to, map_from}
+use Rattle.std.proofs.lemmas.Bool.{cases_Bool}
 use Rattle.std.specs.Prelude.{slice_index_or, ◌==◌}
 use Rattle.std.proofs.lemmas.Bool.Decides.{Decides-eqb}
 use Rattle.std.proofs.lemmas.List.{length-map}
@@ -12,8 +14,8 @@ use Rattle.net_align.specs.declared.names.Naming.{Naming}
 use Rattle.net_align.specs.Names.{AreOnce, IsNaming, found_in, names_of, left_names, right_names, by_lines, partner_named, partners_named}
 use Rattle.net_align.specs.Marks.{AreCallsOfCircuits, IsUnmarked, circuits_called}
 use Rattle.net_align.specs.Found.{ArePartners, IsPlaced, FindsPlaced, settled, other_than, AreSettled}
-use Rattle.net_align.proofs.Finding.{either, finds_names}
-use Rattle.net_align.proofs.ByName.{at_map, map_at, name_at, at_name, by_name}
+use Rattle.net_align.proofs.Finding.{finds_names}
+use Rattle.net_align.proofs.ByName.{name_at, at_name, by_name}
 use Rattle.net_align.proofs.Marking.{called_is, is_called, called_long}
 
 -- what isn't something is nothing
@@ -60,7 +62,7 @@ module _ (layout schematic : Netlist) (top : ℕ) (same : List (List ℕ × List
   name_there nl a low =
       let none : Circuit = record { name = []; nets = []; pins = []; devices = []; calls = [] } in
       let x = get_or nl.circuits a none in
-      (folded_bytes x.name, at_map (λ (c : Circuit). folded_bytes c.name) nl.circuits a x (slice_get-get_or nl.circuits a none low))
+      (folded_bytes x.name, map_to (λ (c : Circuit). folded_bytes c.name) nl.circuits a x (slice_get-get_or nl.circuits a none low))
 
   circuit_there : (nl : Netlist) (a : ℕ) → a < length nl.circuits → (x : Circuit) × IsCircuit nl a x
   circuit_there nl a low =
@@ -70,7 +72,7 @@ module _ (layout schematic : Netlist) (top : ℕ) (same : List (List ℕ × List
   module _ (q : List ℕ) (has : slice_get (names_of layout) top ≡ Some q) where
     left_found : (k : ℕ) → found_in n.lefts q ≡ Some k → IsLeftSaid layout schematic top same top
     left_found k e =
-        let r = map_at left_text same k q ((finds_names (left_names same) left_once q k).0 (ap (λ (t : List (List ℕ)). found_in t q) (sym naming.lefts) ∙ e)) in
+        let r = map_from left_text same k q ((finds_names (left_names same) left_once q k).0 (ap (λ (t : List (List ℕ)). found_in t q) (sym naming.lefts) ∙ e)) in
         (r.0, listed same k r.0 r.1, at_name layout top q r.0.0 has r.2)
 
     found_left : IsLeftSaid layout schematic top same top → (k : ℕ) × (found_in n.lefts q ≡ Some k)
@@ -78,14 +80,14 @@ module _ (layout schematic : Netlist) (top : ℕ) (same : List (List ℕ × List
         let p = position same s.0 s.1 in
         let t : Some (folded_bytes s.0.0) ≡ Some q = sym (name_at layout top s.0.0 s.2) ∙ has in
         let e : folded_bytes s.0.0 ≡ q = cc in
-        (p.0, ap (λ (t : List (List ℕ)). found_in t q) naming.lefts ∙ (finds_names (left_names same) left_once q p.0).1 (at_map left_text same p.0 s.0 p.1 ∙ ap Some e))
+        (p.0, ap (λ (t : List (List ℕ)). found_in t q) naming.lefts ∙ (finds_names (left_names same) left_once q p.0).1 (map_to left_text same p.0 s.0 p.1 ∙ ap Some e))
 
     right_found : (b k : ℕ) → b < length schematic.circuits → found_in n.rights (slice_index_or (names_of schematic) b []) ≡ Some k → IsRightSaid layout schematic top same b
     right_found b k low e =
         let p = name_there schematic b low in
         let i : slice_index_or (names_of schematic) b [] ≡ p.0 = at_or (names_of schematic) b p.0 [] p.1 in
         let f : look_right p.0 ≡ Some k = ap look_right (sym i) ∙ (ap (λ (t : List (List ℕ)). found_in t (slice_index_or (names_of schematic) b [])) (sym naming.rights) ∙ e) in
-        let r = map_at right_text same k p.0 ((finds_names (right_names same) right_once p.0 k).0 f) in
+        let r = map_from right_text same k p.0 ((finds_names (right_names same) right_once p.0 k).0 f) in
         (r.0, listed same k r.0 r.1, at_name schematic b p.0 r.0.1 p.1 r.2)
 
     found_right : (b : ℕ) → IsRightSaid layout schematic top same b → (k : ℕ) × (found_in n.rights (slice_index_or (names_of schematic) b []) ≡ Some k)
@@ -94,7 +96,7 @@ module _ (layout schematic : Netlist) (top : ℕ) (same : List (List ℕ × List
         let i : slice_index_or (names_of schematic) b [] ≡ folded_bytes s.0.1 = at_or (names_of schematic) b (folded_bytes s.0.1) [] (name_at schematic b s.0.1 s.2) in (
           p.0,
           ap (λ (t : List (List ℕ)). found_in t (slice_index_or (names_of schematic) b [])) naming.rights
-              ∙ (ap look_right i ∙ (finds_names (right_names same) right_once (folded_bytes s.0.1) p.0).1 (at_map right_text same p.0 s.0 p.1)),
+              ∙ (ap look_right i ∙ (finds_names (right_names same) right_once (folded_bytes s.0.1) p.0).1 (map_to right_text same p.0 s.0 p.1)),
         )
 
     uncalled : (b : ℕ) → IsUnmarked (circuits_called schematic) b → IsUncalled layout schematic top same b
@@ -106,7 +108,7 @@ module _ (layout schematic : Netlist) (top : ℕ) (same : List (List ℕ × List
     unmarked : (b : ℕ) → IsUncalled layout schematic top same b → IsUnmarked (circuits_called schematic) b
     unmarked b u = record {
       low = let l = slice_get_within schematic.circuits b u.there.0 u.there.1 in let k = called_long schematic in omega (arith, l, k);
-      unset = elim (either (slice_index_or (circuits_called schematic) b false)) [
+      unset = elim (cases_Bool (slice_index_or (circuits_called schematic) b false)) [
         | inl t ↦ let r = is_called schematic b t in absurd (u.uncalled r.0 r.1 r.2 r.3 r.4)
         | inr f ↦ f
       ];
@@ -134,7 +136,7 @@ module _ (layout schematic : Netlist) (top : ℕ) (same : List (List ℕ × List
 
     others : (t : ℕ) (o : Option ℕ) (b : ℕ) → other_than t o ≡ Some b → (o ≡ Some b) × (b ≡ t → ⊥)
     others t None b e = absurd (none-some b e)
-    others t (Some d) b e = elim (either (d == t)) [
+    others t (Some d) b e = elim (cases_Bool (d == t)) [
       | inl s ↦ let z : other_than t (Some d) ≡ None = rw s refl in absurd (none-some b (sym z ∙ e))
       | inr s ↦
           let z : other_than t (Some d) ≡ Some d = rw s refl in
@@ -144,7 +146,7 @@ module _ (layout schematic : Netlist) (top : ℕ) (same : List (List ℕ × List
     ]
 
     stays : (t b : ℕ) → (b ≡ t → ⊥) → other_than t (Some b) ≡ Some b
-    stays t b not = elim (either (b == t)) [
+    stays t b not = elim (cases_Bool (b == t)) [
       | inl s ↦ absurd (not ((Decides-eqb b t).0 s))
       | inr s ↦ rw s refl
     ]
@@ -155,7 +157,7 @@ module _ (layout schematic : Netlist) (top : ℕ) (same : List (List ℕ × List
         (λ e. inr ((named a b p at).0 e, λ t. none b (top_of b t))),
         (λ h. elim h [ inl w ↦ absurd (none b (top_of b w.1)) | inr w ↦ (named a b p at).1 w.0 ]),
       )
-      settled_is (Some t) placed = elim (either (a == top)) [
+      settled_is (Some t) placed = elim (cases_Bool (a == top)) [
         | inl y ↦
             let is : a ≡ top = (Decides-eqb a top).0 y in
             let z : settled top (Some t) a (partner_named n p) ≡ Some t = rw y refl in (
@@ -196,7 +198,7 @@ module _ (layout schematic : Netlist) (top : ℕ) (same : List (List ℕ × List
         let of_long : length of ≡ length layout.circuits = ap (λ (t : List (Option ℕ)). length t) is ∙ named_long in
         let long : length new ≡ length layout.circuits = h.long ∙ of_long in
         let at : (a : ℕ) (p : List ℕ) → slice_get (names_of layout) a ≡ Some p → slice_index_or of a None ≡ partner_named n p
-        = λ a p e. at_or of a (partner_named n p) None (ap (λ (t : List (Option ℕ)). slice_get t a) is ∙ at_map (partner_named n) (names_of layout) a p e) in
+        = λ a p e. at_or of a (partner_named n p) None (ap (λ (t : List (Option ℕ)). slice_get t a) is ∙ map_to (partner_named n) (names_of layout) a p e) in
         let value : (a : ℕ) (p : List ℕ) → slice_get (names_of layout) a ≡ Some p → a < length layout.circuits → slice_index_or new a None ≡ settled top place a (partner_named n p)
         = λ a p e l. h.each a (omega (arith, l, of_long)) ∙ ap (settled top place a) (at a p e) in
         record {

@@ -1,5 +1,7 @@
 -- Numbers in the order of first sight, and what is among them.
 use Rattle.std.proofs.Common.{◌≡◌, ◌≢◌, ◌⊎◌, inl, inr, ℕ, zero, suc, ◌<◌, Bool, true, false, cond, List, [], ◌∷◌, ◌++◌, length, map, replicate, get_or, Option, Some, None, slice_get, refl, sym, ◌∙◌, ap, ap₂, subst, arith, true≢false, append_assoc, append-nil}
+use Rattle.base_laws.proofs.Items.{push_cases, get_last, push_old}
+use Rattle.std.proofs.lemmas.Bool.{cases_Bool}
 use Rattle.std.specs.Prelude.{slice_set, slice_index, slice_index_or, ◌==◌, flat_map, filter, is_none, unwrap_or}
 use Rattle.std.specs.Global.{Vec}
 use Rattle.std.proofs.Math.Decide.{ℕ_discrete}
@@ -13,7 +15,6 @@ use Rattle.call_order.specs.Order.{lists}
 use Rattle.net_align.specs.Laid.{AreBelow}
 use Rattle.net_align.specs.Marks.{marked}
 use Rattle.net_align.specs.Sights.{has_number, with_first, firsts_from, IsNumbering, place_in, new_of}
-use Rattle.net_align.proofs.Finding.{either}
 use Rattle.net_align.proofs.Marking.{marked_is, marked_or, none_set}
 
 pub has_listed : (xs : List ℕ) (n : ℕ) → IsListed n xs → has_number xs n ≡ true
@@ -26,7 +27,7 @@ listed_has xs n e =
 
 -- marks say the same
 pub marks_tell : (nets : List ℕ) (count p : ℕ) → AreBelow nets count → slice_index_or (marked nets (replicate count false)) p false ≡ has_number nets p
-marks_tell nets count p low = elim (either (has_number nets p)) [
+marks_tell nets count p low = elim (cases_Bool (has_number nets p)) [
   | inl t ↦
       let h = listed_has nets p t in
       let q = position nets p h in
@@ -36,7 +37,7 @@ marks_tell nets count p low = elim (either (has_number nets p)) [
       let b : p < count = subst (λ (y : ℕ). y < count) e (low q.0 l) in
       let long = length-replicate count false in
       marked_is nets (replicate count false) p (omega (arith, b, long)) h ∙ sym t
-  | inr f ↦ elim (either (slice_index_or (marked nets (replicate count false)) p false)) [
+  | inr f ↦ elim (cases_Bool (slice_index_or (marked nets (replicate count false)) p false)) [
     | inl t ↦ elim (marked_or nets (replicate count false) p t) [
       | inl h ↦ absurd (true≢false (sym (has_listed nets p h) ∙ f))
       | inr none ↦ absurd (none_set count p none)
@@ -51,27 +52,12 @@ firsts_more (y ∷ xs) seen x = firsts_more xs (with_first seen y) x
 
 -- ---- a table of places
 
-pub at_end : {A : Type 0} (xs : List A) (x y : A) (k : ℕ) → slice_get (xs ++ x ∷ []) k ≡ Some y → (slice_get xs k ≡ Some y) ⊎ ((k ≡ length xs) × (x ≡ y))
-at_end [] x y zero e = inr (refl, let k : x ≡ y = cc in k)
-at_end [] x y (suc k) e = absurd (let z : ⊥ = cc in z)
-at_end (z ∷ xs) x y zero e = inl e
-at_end (z ∷ xs) x y (suc k) e = elim (at_end xs x y k e) [ inl h ↦ inl h | inr h ↦ inr (ap suc h.0, h.1) ]
-
-pub end_at : {A : Type 0} (xs : List A) (x : A) → slice_get (xs ++ x ∷ []) (length xs) ≡ Some x
-end_at [] x = refl
-end_at (z ∷ xs) x = end_at xs x
-
-pub still_at : {A : Type 0} (xs : List A) (x y : A) (k : ℕ) → slice_get xs k ≡ Some y → slice_get (xs ++ x ∷ []) k ≡ Some y
-still_at [] x y k e = absurd (let z : ⊥ = cc in z)
-still_at (z ∷ xs) x y zero e = e
-still_at (z ∷ xs) x y (suc k) e = still_at xs x y k e
-
 module _ (old : List ℕ) (count : ℕ) (new : List (Option ℕ)) (h : IsNumbering old count new) (n : ℕ) where
   pub seen_before : (k : ℕ) → slice_index_or new n None ≡ Some k → with_first old n ≡ old
   seen_before k e = let t = has_listed old n (listed old k n (h.back n k e)) in rw t refl
 
   fresh : slice_index_or new n None ≡ None → has_number old n ≡ false
-  fresh e = elim (either (has_number old n)) [
+  fresh e = elim (cases_Bool (has_number old n)) [
     | inl t ↦ let q = position old n (listed_has old n t) in absurd (none-some q.0 (sym e ∙ h.there q.0 n q.1))
     | inr f ↦ f
   ]
@@ -83,7 +69,7 @@ module _ (old : List ℕ) (count : ℕ) (new : List (Option ℕ)) (h : IsNumberi
   numbered_more low e =
       let l : n < length new = let k = h.long in omega (arith, low, k) in record {
         long = length-set new n (Some (length old)) ∙ h.long;
-        there = λ k m at. elim (at_end old n m k at) [
+        there = λ k m at. elim (push_cases old n m k at) [
           | inl was ↦
               let other : m ≢ n = λ same. none-some k (sym (ap (λ (y : ℕ). slice_index_or new y None) same ∙ e) ∙ h.there k m was) in
               get_or-set_other new n m (Some (length old)) None other ∙ h.there k m was
@@ -97,8 +83,8 @@ module _ (old : List ℕ) (count : ℕ) (new : List (Option ℕ)) (h : IsNumberi
               = ap (λ (y : ℕ). slice_index_or (slice_set new n (Some (length old))) y None) same ∙ get_or-set_same new n (Some (length old)) None l in
               let s : Some (length old) ≡ Some k = sym v ∙ at in
               let i : length old ≡ k = cc in
-              subst (λ (y : ℕ). slice_get (old ++ n ∷ []) y ≡ Some m) i (end_at old n ∙ ap Some (sym same))
-          | no not ↦ still_at old n m k (h.back m k (sym (get_or-set_other new n m (Some (length old)) None not) ∙ at))
+              subst (λ (y : ℕ). slice_get (old ++ n ∷ []) y ≡ Some m) i (get_last old n ∙ ap Some (sym same))
+          | no not ↦ push_old old n m k (h.back m k (sym (get_or-set_other new n m (Some (length old)) None not) ∙ at))
         ];
       }
 
@@ -113,8 +99,8 @@ flat_more f [] x = append-nil (f x)
 flat_more {B = B} f (y ∷ xs) x = ap (λ (t : List B). f y ++ t) (flat_more f xs x) ∙ sym (append_assoc (f y) (flat_map f xs) (f x))
 
 pub filter_more : (p : ℕ → Bool) (xs : List ℕ) (x : ℕ) → filter p (xs ++ x ∷ []) ≡ filter p xs ++ cond (p x) (x ∷ []) []
-filter_more p [] x = elim (either (p x)) [ inl t ↦ rw t refl | inr f ↦ rw f refl ]
-filter_more p (y ∷ xs) x = elim (either (p y)) [
+filter_more p [] x = elim (cases_Bool (p x)) [ inl t ↦ rw t refl | inr f ↦ rw f refl ]
+filter_more p (y ∷ xs) x = elim (cases_Bool (p y)) [
   | inl t ↦ rw t (ap (λ (r : List ℕ). y ∷ r) (filter_more p xs x))
   | inr f ↦ rw f (filter_more p xs x)
 ]
@@ -141,11 +127,11 @@ numbered_low old count new h i low =
 pub first_in : (xs seen : List ℕ) (n : ℕ) → IsListed n seen ⊎ IsListed n xs → IsListed n (firsts_from seen xs)
 first_in [] seen n (inl h) = h
 first_in [] seen n (inr h) = absurd h
-first_in (x ∷ xs) seen n (inl h) = first_in xs (with_first seen x) n (inl (elim (either (has_number seen x)) [
+first_in (x ∷ xs) seen n (inl h) = first_in xs (with_first seen x) n (inl (elim (cases_Bool (has_number seen x)) [
   | inl t ↦ rw t h
   | inr f ↦ rw f (in_left seen (x ∷ []) n h)
 ]))
-first_in (x ∷ xs) seen n (inr (inl e)) = first_in xs (with_first seen x) n (inl (elim (either (has_number seen x)) [
+first_in (x ∷ xs) seen n (inr (inl e)) = first_in xs (with_first seen x) n (inl (elim (cases_Bool (has_number seen x)) [
   | inl t ↦ rw t (subst (λ (y : ℕ). IsListed y seen) (sym e) (listed_has seen x t))
   | inr f ↦ rw f (in_right seen (x ∷ []) n (inl e))
 ]))
@@ -153,7 +139,7 @@ first_in (x ∷ xs) seen n (inr (inr h)) = first_in xs (with_first seen x) n (in
 
 pub place_there : (xs : List ℕ) (n : ℕ) → IsListed n xs → slice_get xs (place_in xs n) ≡ Some n
 place_there [] n h = absurd h
-place_there (x ∷ xs) n h = elim (either (n == x)) [
+place_there (x ∷ xs) n h = elim (cases_Bool (n == x)) [
   | inl t ↦ let e : n ≡ x = (Decides-eqb n x).0 t in
       let z : place_in (x ∷ xs) n ≡ 0 = rw t refl in
       ap (λ (k : ℕ). slice_get (x ∷ xs) k) z ∙ ap Some (sym e)

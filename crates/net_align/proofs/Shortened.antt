@@ -1,5 +1,6 @@
 -- The parts of a cut circuit.
 use Rattle.std.proofs.Common.{◌≡◌, ◌⊎◌, inl, inr, ℕ, Bool, true, false, cond, List, [], ◌∷◌, ◌++◌, map, Option, Some, None, refl, sym, ◌∙◌, ap, ap₂, subst}
+use Rattle.std.proofs.lemmas.Bool.{cases_Bool}
 use Rattle.std.specs.Prelude.{slice_index_or, flat_map, is_some, unwrap_or}
 use Rattle.std.proofs.lemmas.List.{map-append}
 use Rattle.plain_netlist.specs.Lists.{IsListed}
@@ -12,7 +13,6 @@ use Rattle.net_model.specs.declared.netlist.CallRow.{CallRow}
 use Rattle.net_model.specs.declared.netlist.DeviceRow.{DeviceRow as Device}
 use Rattle.net_align.specs.Laid.{device_put}
 use Rattle.net_align.specs.Sights.{is_kept, number_of, pins_of, net_of, call_nets, inner_sights, sights, short_call, firsts, place_in, cut_down}
-use Rattle.net_align.proofs.Finding.{either}
 use Rattle.net_align.proofs.Seeing.{map_on, flat_map_on}
 
 module _ (numbers : List (Option ℕ)) (held : List (List ℕ)) (to : ℕ → ℕ) (r : CallRow) where
@@ -65,7 +65,7 @@ module _ (numbers : List (Option ℕ)) (held : List (List ℕ)) (own : List ℕ)
           (go xs (λ y l. h y (inr l)))
 
   pub calls_same : flat_map (short_call numbers held to) c.calls ≡ flat_map (short_call numbers held place) c.calls
-  calls_same = flat_map_on (short_call numbers held to) (short_call numbers held place) c.calls (λ r h. one r h (either (is_kept numbers r.circuit)))
+  calls_same = flat_map_on (short_call numbers held to) (short_call numbers held place) c.calls (λ r h. one r h (cases_Bool (is_kept numbers r.circuit)))
     where
       one : (r : PlainCall) → IsListed r c.calls → (is_kept numbers r.circuit ≡ true) ⊎ (is_kept numbers r.circuit ≡ false) → short_call numbers held to r ≡ short_call numbers held place r
       one r h (inl on) =

@@ -1,5 +1,7 @@
 -- The tables of the code make an aligned netlist.
 use Rattle.std.proofs.Common.{◌≡◌, ◌⊎◌, inl, inr, ℕ, zero, suc, ◌+◌, ◌<◌, Bool, true, false, cond, List, [], ◌∷◌, ◌++◌, length, map, Option, Some, None, slice_get, refl, sym, ◌∙◌, ap, ap₂, subst, arith, true≢false}
+use Rattle.base_laws.proofs.Items.{map_to, map_from}
+use Rattle.std.proofs.lemmas.Bool.{cases_Bool}
 use Rattle.std.specs.Prelude.{slice_index_or, flat_map, filter, unwrap_or, is_some}
 use Rattle.std.proofs.lemmas.List.{length-map}
 use Rattle.std.proofs.lemmas.Simd.{map-map}
@@ -17,8 +19,6 @@ use Rattle.align_laws.proofs.Views.{keep}
 use Rattle.net_align.specs.Flattened.{Flattening, IsFlattening}
 use Rattle.net_align.specs.Kept.{AreHeldPins, cut_of}
 use Rattle.net_align.specs.Sights.{has_number, is_kept, number_of, pins_of, net_of, call_nets, inner_sights, own_pins, sights, short_call, firsts, firsts_from, with_first, place_in, IsNumbering, cut_down}
-use Rattle.net_align.proofs.ByName.{at_map, map_at}
-use Rattle.net_align.proofs.Finding.{either}
 use Rattle.net_align.proofs.Firsts.{AreOnce, firsts_once, place_is, numbered_firsts, first_places}
 use Rattle.net_align.proofs.Holding.{in_filter, from_filter, sight_on, on_sight, good, flat_there, pin_net, net_low, sight_net, all_pins}
 use Rattle.net_align.proofs.Partnered.{at_or}
@@ -49,7 +49,7 @@ filter_once : (p : ℕ → Bool) (xs : List ℕ) → AreOnce xs → AreOnce (fil
 filter_once p [] once = once
 filter_once p (x ∷ xs) once =
     let rest : AreOnce (filter p xs) = filter_once p xs (λ i j n a b. let s = once (suc i) (suc j) n a b in omega (arith, s)) in
-    elim (either (p x)) [
+    elim (cases_Bool (p x)) [
       | inl t ↦
           let e : filter p (x ∷ xs) ≡ x ∷ filter p xs = rw t refl in
           subst (λ (ys : List ℕ). AreOnce ys) (sym e) (onto_once x (filter p xs) rest (λ k n same at.
@@ -162,7 +162,7 @@ module _ (g : Netlist) (goes : ℕ → Bool) (f : Flattening) (h : IsFlattening 
   pub is_normal : (c : ℕ) → is_kept numbers c ≡ true → IsNormalCircuit (cut f.flat aligning c)
   is_normal c kept = record {
     pins = λ i n at.
-        let r = map_at (place_in (olds c)) (pins_of held c) i n (subst (λ (t : List ℕ). slice_get (map (place_in (olds c)) t) i ≡ Some n) (own_is c kept) at) in
+        let r = map_from (place_in (olds c)) (pins_of held c) i n (subst (λ (t : List ℕ). slice_get (map (place_in (olds c)) t) i ≡ Some n) (own_is c kept) at) in
         let first = first_places (pins_of held c) [] (inner_sights numbers held (given_of f.flat c)) i r.0 (λ m l. refl) (own_once c kept) none_once r.1 in
         let place : place_in (olds c) r.0 ≡ 0 + i = place_is (olds c) (0 + i) r.0 (firsts_once (seen c) [] none_once) first in
         let e = r.2 in omega (arith, place, e);
@@ -189,7 +189,7 @@ module _ (g : Netlist) (goes : ℕ → Bool) (f : Flattening) (h : IsFlattening 
       let at = slice_get-get_or (olds c) m 0 (omega (arith, l, long)) in
       let n = slice_index_or (olds c) m 0 in
       let in_seen : IsListed n (seen c) = elim (from_firsts (seen c) [] n (listed (olds c) m n at)) [ inl z ↦ absurd z | inr s ↦ s ] in
-      at_map (λ k. slice_index_or (given_of f.flat c).nets k []) (olds c) m n at ∙ sym (slice_get-get_or (given_of f.flat c).nets n [] (seen_low c n kept in_seen))
+      map_to (λ k. slice_index_or (given_of f.flat c).nets k []) (olds c) m n at ∙ sym (slice_get-get_or (given_of f.flat c).nets n [] (seen_low c n kept in_seen))
 
   pin_held : (k c p : ℕ) (row : CallRow) → IsCall f.flat c k row → is_kept numbers row.circuit ≡ true → IsListed p (pins_of held row.circuit)
       → IsListed p (flat row.circuit).pins × (aligning.held row.circuit p ≡ true)
@@ -248,7 +248,7 @@ module _ (g : Netlist) (goes : ℕ → Bool) (f : Flattening) (h : IsFlattening 
     made_there c kept =
         let k = place_of_kept c kept in
         ap (λ (xs : List Circuit). slice_get xs (number_of numbers c)) made
-        ∙ (at_map (cut_of f.flats numbers held) circuits (number_of numbers c) c (ap (λ (i : ℕ). slice_get circuits i) k.1 ∙ k.2) ∙ ap Some (sym (cut_is c kept)))
+        ∙ (map_to (cut_of f.flats numbers held) circuits (number_of numbers c) c (ap (λ (i : ℕ). slice_get circuits i) k.1 ∙ k.2) ∙ ap Some (sym (cut_is c kept)))
 
     pub aligned_by : IsAlignedBy goes g o aligning
     aligned_by = record {
@@ -270,7 +270,7 @@ module _ (g : Netlist) (goes : ℕ → Bool) (f : Flattening) (h : IsFlattening 
     pub only_kept : HasOnlyKept o aligning
     only_kept = record {
       from = λ i x at.
-          let r = map_at (cut_of f.flats numbers held) circuits i x (ap (λ (xs : List Circuit). slice_get xs i) (sym made) ∙ at) in
+          let r = map_from (cut_of f.flats numbers held) circuits i x (ap (λ (xs : List Circuit). slice_get xs i) (sym made) ∙ at) in
           let n = is.there i r.0 r.1 in
           (r.0, ap (λ (y : Option ℕ). is_some y) n, ap (λ (y : Option ℕ). unwrap_or y 0) n);
       apart = λ a b kept_a kept_b e.

@@ -1,5 +1,6 @@
 -- One side of an aligned pair, from the tables.
 use Rattle.std.proofs.Common.{◌≡◌, inl, inr, ℕ, zero, suc, ◌+◌, ◌<◌, ◌≤◌, Bool, true, false, List, [], ◌∷◌, length, map, Option, Some, None, slice_get, refl, sym, ◌∙◌, ap, ap₂, subst, arith, true≢false, append-nil}
+use Rattle.std.proofs.lemmas.Bool.{cases_Bool, and_parts, not-true}
 use Rattle.std.specs.Prelude.{slice_index_or, nat_lt, not, ◌&&◌, is_some, unwrap_or}
 use Rattle.std.proofs.Math.Path.{fun_ext}
 use Rattle.std.proofs.lemmas.Option.{slice_get_within}
@@ -16,7 +17,6 @@ use Rattle.net_align.specs.Laid.{goes_of}
 use Rattle.net_align.specs.Sights.{has_number, is_kept, number_of, IsNumbering, firsts}
 use Rattle.net_align.specs.Side.{AreMarkedCircuits, AreGoing, IsSide}
 use Rattle.net_align.specs.Walked.{AreHolding}
-use Rattle.net_align.proofs.Finding.{either}
 use Rattle.net_align.proofs.Firsts.{firsts_once, first_places}
 use Rattle.net_align.proofs.Seeing.{has_listed, listed_has}
 use Rattle.net_align.proofs.Sided.{from_firsts, aligning, aligned_by, only_kept}
@@ -51,9 +51,9 @@ module _ (circuits : List ℕ) (count : ℕ) (places : List (Option ℕ)) (is : 
   listed_kept k c at = let e = is.there k c at in (ap (λ (o : Option ℕ). is_some o) e, ap (λ (o : Option ℕ). unwrap_or o 0) e)
 
   pub kept_has : (c : ℕ) → is_kept places c ≡ has_number circuits c
-  kept_has c = elim (either (has_number circuits c)) [
+  kept_has c = elim (cases_Bool (has_number circuits c)) [
     | inl t ↦ let p = position circuits c (listed_has circuits c t) in (listed_kept p.0 c p.1).0 ∙ sym t
-    | inr f ↦ elim (either (is_kept places c)) [
+    | inr f ↦ elim (cases_Bool (is_kept places c)) [
       | inl t ↦ let p = kept_listed c t in absurd (true≢false (sym (has_listed circuits c (listed circuits p.0 c p.1)) ∙ f))
       | inr e ↦ e ∙ sym f
     ]
@@ -73,7 +73,7 @@ module _ (circuits : List ℕ) (count : ℕ) (places : List (Option ℕ)) (is : 
   and_false false = refl
 
   pub goes_same : (given : ℕ → Bool) (holds goes : List Bool) → ((c : ℕ) → given c ≡ (not (has_number circuits c) && slice_index_or holds c false)) → AreGoing places holds (length holds) goes → goes_of goes ≡ given
-  goes_same given holds goes are h = fun_ext (λ c. elim (either (nat_lt c (length holds))) [
+  goes_same given holds goes are h = fun_ext (λ c. elim (cases_Bool (nat_lt c (length holds))) [
     | inl t ↦
         let l : c < length holds = grind (arith, t) in
         h.each c l ∙ (ap (λ (b : Bool). not b && slice_index_or holds c false) (kept_has c) ∙ sym (are c))
@@ -86,14 +86,6 @@ module _ (circuits : List ℕ) (count : ℕ) (places : List (Option ℕ)) (is : 
 pub has_low : (g : Netlist) (c : ℕ) → HasDevices g c → c < length g.circuits
 has_low g c ([], i, row, d) = slice_get_within g.circuits c d.0 d.1
 has_low g c (k ∷ path, i, row, d) = slice_get_within g.circuits c d.1.0 d.1.1
-
-pub and_both : (a b : Bool) → (a && b) ≡ true → (a ≡ true) × (b ≡ true)
-and_both true b e = (refl, e)
-and_both false b e = absurd (true≢false (sym e))
-
-pub not_true : (b : Bool) → not b ≡ true → b ≡ false
-not_true true e = absurd (true≢false (sym e))
-not_true false e = refl
 
 -- a mark that is set is there
 pub mark_low : (ms : List Bool) (c : ℕ) → slice_index_or ms c false ≡ true → c < length ms
@@ -112,10 +104,10 @@ side_made g goes f h marks holds circuits count places held o is all holding are
         goes = goes;
         going = λ c. (
           (λ e.
-              let b = and_both (not (has_number circuits c)) (slice_index_or holds c false) (sym (are c) ∙ e) in
+              let b = and_parts (not (has_number circuits c)) (slice_index_or holds c false) (sym (are c) ∙ e) in
               let c_low = mark_low holds c b.1 in
               let k = holding.long in
-              (kept_has circuits count places is c ∙ not_true (has_number circuits c) b.0, (holding.each c (omega (arith, c_low, k))).0 b.1)),
+              (kept_has circuits count places is c ∙ not-true (has_number circuits c) b.0, (holding.each c (omega (arith, c_low, k))).0 b.1)),
           (λ p.
               let m = (holding.each c (has_low g c p.1)).1 p.1 in
               let n : has_number circuits c ≡ false = sym (kept_has circuits count places is c) ∙ p.0 in

@@ -1,5 +1,6 @@
 -- A flat circuit that stands earlier in the order is what a call needs.
 use Rattle.std.proofs.Common.{◌≡◌, ℕ, zero, suc, ◌+◌, ◌<◌, ◌≤◌, Bool, false, true≢false, List, length, Option, Some, None, slice_get, slice_index, get_or, refl, sym, subst, ◌∙◌, ap, arith}
+use Rattle.base_laws.proofs.Items.{map_to}
 use Rattle.std.specs.Prelude.{slice_set, slice_index_or}
 use Rattle.std.proofs.Math.Decide.{ℕ_discrete}
 use Rattle.std.proofs.lemmas.List.{length-set, get_or-set_same, get_or-set_other}
@@ -17,7 +18,6 @@ use Rattle.net_model.proofs.CallLemmas.{calls_law}
 use Rattle.net_align.specs.Laid.{AreRowsBelow, AreCallsBelow, AreCircuitsBelow, IsFlatThere, laid_out}
 use Rattle.net_align.specs.Flattened.{Flattening, IsFlattening, HasFlat, AreClosed, AreFlats, AreFlatsBelow}
 use Rattle.net_align.specs.Walked.{IsMarked, AreReached}
-use Rattle.net_align.proofs.ByName.{at_map}
 use Rattle.net_align.proofs.Partnered.{at_or}
 use Rattle.net_align.proofs.LaidLists.{laid_law}
 use Rattle.net_align.proofs.Walking.{place_before, place_low, one_place, has_place, called_further}
@@ -31,7 +31,7 @@ module _ (n : Netlist) (d : ℕ) (x : CircuitRow) (is : IsCircuit n d (plain_cir
 
   pub rows_low : AreRowsBelow x.devices.items (length x.nets.items)
   rows_low i r e =
-      let has : IsDevice n d i (plain_device r) = (plain_circuit x, is, at_map plain_device x.devices.items i r e) in
+      let has : IsDevice n d i (plain_device r) = (plain_circuit x, is, map_to plain_device x.devices.items i r e) in
       record {
         source = low r.source (good.within.devices d i (plain_device r) Source has);
         gate = low r.gate (good.within.devices d i (plain_device r) Gate has);
@@ -41,7 +41,7 @@ module _ (n : Netlist) (d : ℕ) (x : CircuitRow) (is : IsCircuit n d (plain_cir
 
   pub calls_low : AreCallsBelow x.calls.items (length x.nets.items)
   calls_low i r e j l =
-      let has : IsCall n d i (plain_call r) = (plain_circuit x, is, at_map plain_call x.calls.items i r e) in
+      let has : IsCall n d i (plain_call r) = (plain_circuit x, is, map_to plain_call x.calls.items i r e) in
       low (slice_index r.nets.items j) (good.within.calls d i j (slice_index r.nets.items j) (plain_call r) has (slice_get-get_or r.nets.items j 0 l))
 
   pub pins_low : (k : ℕ) → k ≡ length x.pins.items → length x.pins.items ≤ length x.nets.items
@@ -68,7 +68,7 @@ module _ (g : Netlist) (goes : ℕ → Bool) (f : Flattening) (h : IsFlattening 
     (i c : ℕ) (at : slice_get order i ≡ Some c) (given : CircuitRow) (is : IsCircuit g c (plain_circuit given)) (flats : List (Option CircuitRow)) (so_far : AreFlatsBelow g f.flats marks order i flats) where
   pub there : (k : ℕ) (r : Call) → IsMarked marks c → slice_get given.calls.items k ≡ Some r → IsFlatThere flats (λ d. plain (f.flats d)) r
   there k r on e =
-      let call : IsCall g c k (plain_call r) = (plain_circuit given, is, at_map plain_call given.calls.items k r e) in
+      let call : IsCall g c k (plain_call r) = (plain_circuit given, is, map_to plain_call given.calls.items k r e) in
       let calls : Calls (call_lists g) c r.circuit = (calls_law g c r.circuit).1 (k, plain_call r, call, refl) in
       let d = h.good.called c k (plain_call r) call in
       let p = place_before g order is_order i c r.circuit at calls in
@@ -87,7 +87,7 @@ module _ (g : Netlist) (goes : ℕ → Bool) (f : Flattening) (h : IsFlattening 
 
   pub circuits_below : AreCircuitsBelow given.calls.items (length g.circuits)
   circuits_below k r e =
-      let d = h.good.called c k (plain_call r) (plain_circuit given, is, at_map plain_call given.calls.items k r e) in
+      let d = h.good.called c k (plain_call r) (plain_circuit given, is, map_to plain_call given.calls.items k r e) in
       slice_get_within g.circuits r.circuit d.0 d.1
 
   pub flat_more : (new : List (Option CircuitRow)) (x : CircuitRow) → plain_circuit x ≡ laid_out goes (λ d. plain (f.flats d)) (plain_circuit given) → new ≡ slice_set flats c (Some x) → AreFlatsBelow g f.flats marks order (i + 1) new

@@ -1,5 +1,7 @@
 -- Walks along an order of calls.
 use Rattle.std.proofs.Common.{◌≡◌, ◌≢◌, inl, inr, ◌↔◌, ℕ, zero, suc, ◌+◌, ◌<◌, ◌≤◌, Bool, true, false, List, [], ◌∷◌, ◌++◌, length, map, take, replicate, Some, slice_get, refl, sym, ◌∙◌, ap, subst, arith, true≢false}
+use Rattle.base_laws.proofs.Items.{map_to, map_from}
+use Rattle.std.proofs.lemmas.Bool.{cases_Bool, or_left, or_right, or_cases}
 use Rattle.std.specs.Prelude.{slice_set, slice_index_or, ◌==◌, not}
 use Rattle.std.specs.List.{list_any}
 use Rattle.std.proofs.Math.Decide.{ℕ_discrete}
@@ -18,12 +20,11 @@ use Rattle.net_model.specs.declared.netlist.Circuit.{Circuit}
 use Rattle.net_model.specs.declared.netlist.CallRow.{CallRow}
 use Rattle.net_model.specs.declared.netlist.DeviceRow.{DeviceRow as Device}
 use Rattle.net_model.proofs.CallLemmas.{calls_law}
-use Rattle.net_model.proofs.FirstLemmas.{any_listed, any_has, left_or, right_or, of_or}
+use Rattle.net_model.proofs.FirstLemmas.{any_listed, any_has}
 use Rattle.net_model.specs.Rows.{plain_device}
 use Rattle.net_align.specs.Marks.{AreCallsOfCircuits, marked}
 use Rattle.net_align.specs.Walked.{IsMarked, AreReached, AreHolding, IsReaching, IsHoldingBelow, holds}
-use Rattle.net_align.proofs.ByName.{at_map, map_at}
-use Rattle.net_align.proofs.Finding.{taken, either}
+use Rattle.net_align.proofs.Finding.{taken}
 use Rattle.net_align.proofs.Marking.{marked_long, marked_or, marked_stays, marked_is, set_or, set_is, none_set}
 
 -- ---- the order
@@ -85,7 +86,7 @@ module _ (nl : Netlist) (order : List ℕ) (is : IsCallOrder (call_lists nl) ord
       let bs = called_by given in
       let calls : (b : ℕ) → IsListed b bs → Calls (call_lists nl) a b = λ b l.
       let q = position bs b l in
-      let r = map_at (λ (x : PlainCall). x.circuit) given.calls q.0 b q.1 in
+      let r = map_from (λ (x : PlainCall). x.circuit) given.calls q.0 b q.1 in
       (calls_law nl a b).1 (q.0, r.0, (given, circuit, r.1), r.2) in
       let low : (b : ℕ) → b < length nl.circuits → b < length marks = λ b l. let k = h.long in omega (arith, l, k) in
       let callee_low : (x b : ℕ) → Calls (call_lists nl) x b → b < length nl.circuits = λ x b call.
@@ -106,7 +107,7 @@ module _ (nl : Netlist) (order : List ℕ) (is : IsCallOrder (call_lists nl) ord
                   let c = (calls_law nl x b).0 call in
                   let given_same : Some c.2.0 ≡ Some given = sym c.2.1 ∙ (ap (λ (i : ℕ). slice_get nl.circuits i) k ∙ circuit) in
                   let g : c.2.0 ≡ given = cc in
-                  let in_given : IsListed c.1.circuit bs = listed bs c.0 c.1.circuit (at_map (λ (y : PlainCall). y.circuit) given.calls c.0 c.1 (subst (λ (y : PlainCircuit). slice_get y.calls c.0 ≡ Some c.1) g c.2.2)) in
+                  let in_given : IsListed c.1.circuit bs = listed bs c.0 c.1.circuit (map_to (λ (y : PlainCall). y.circuit) given.calls c.0 c.1 (subst (λ (y : PlainCircuit). slice_get y.calls c.0 ≡ Some c.1) g c.2.2)) in
                   marked_is bs marks b b_low (subst (λ (y : ℕ). IsListed y bs) c.3 in_given)
               | no not ↦
                   let later : p < j = omega (arith, count, l, not) in
@@ -167,7 +168,7 @@ module _ (nl : Netlist) (order : List ℕ) (is : IsCallOrder (call_lists nl) ord
 
   has_some : (xs : List DeviceRow) (ys : List Device) (i : ℕ) (x : DeviceRow) → xs ≡ map plain_device ys → slice_get xs i ≡ Some x → not (length ys == 0) ≡ true
   has_some xs [] i x same e = let z : slice_get [] i ≡ Some x = ap (λ (t : List DeviceRow). slice_get t i) (sym same) ∙ e in absurd (let w : ⊥ = cc in w)
-  has_some xs (y ∷ ys) i x same e = elim (either (length (y ∷ ys) == 0)) [
+  has_some xs (y ∷ ys) i x same e = elim (cases_Bool (length (y ∷ ys) == 0)) [
     | inl t ↦ let z : suc (length ys) ≡ 0 = (Decides-eqb (length (y ∷ ys)) 0).0 t in absurd (omega (arith, z))
     | inr f ↦ ap not f
   ]
@@ -182,14 +183,14 @@ module _ (nl : Netlist) (order : List ℕ) (is : IsCallOrder (call_lists nl) ord
         h.done p.0 row.circuit p.1 p.2
 
     holds_so : holds marks given ≡ true → HasDevices nl a
-    holds_so e = elim (of_or (not (length given.devices.items == 0)) (list_any on given.calls.items) e) [
+    holds_so e = elim (or_cases (not (length given.devices.items == 0)) (list_any on given.calls.items) e) [
       | inl some ↦
           let d = some_device given.devices.items some in
-          ([], 0, plain_device d.0, (plain_circuit given, circuit, at_map plain_device given.devices.items 0 d.0 d.1))
+          ([], 0, plain_device d.0, (plain_circuit given, circuit, map_to plain_device given.devices.items 0 d.0 d.1))
       | inr any ↦
           let r = any_has on given.calls.items any in
           let p = position given.calls.items r.0 r.1 in
-          let call : IsCall nl a p.0 (plain_call r.0) = (plain_circuit given, circuit, at_map plain_call given.calls.items p.0 r.0 p.1) in
+          let call : IsCall nl a p.0 (plain_call r.0) = (plain_circuit given, circuit, map_to plain_call given.calls.items p.0 r.0 p.1) in
           let d = (below p.0 (plain_call r.0) call).0 r.2 in
           (p.0 ∷ d.0, d.1, d.2, (plain_call r.0, call, d.3))
     ]
@@ -198,15 +199,15 @@ module _ (nl : Netlist) (order : List ℕ) (is : IsCallOrder (call_lists nl) ord
     so_holds [] i row has =
         let s : Some has.0 ≡ Some (plain_circuit given) = sym has.1 ∙ circuit in
         let g : has.0 ≡ plain_circuit given = cc in
-        left_or (not (length given.devices.items == 0)) (list_any on given.calls.items)
+        or_left (not (length given.devices.items == 0)) (list_any on given.calls.items)
         (has_some has.0.devices given.devices.items i row (ap (λ (c : PlainCircuit). c.devices) g) has.2)
     so_holds (k ∷ path) i row (call, is_call, has) =
         let s : Some is_call.0 ≡ Some (plain_circuit given) = sym is_call.1 ∙ circuit in
         let g : is_call.0 ≡ plain_circuit given = cc in
-        let r = map_at plain_call given.calls.items k call (subst (λ (c : PlainCircuit). slice_get c.calls k ≡ Some call) g is_call.2) in
+        let r = map_from plain_call given.calls.items k call (subst (λ (c : PlainCircuit). slice_get c.calls k ≡ Some call) g is_call.2) in
         let marked_below = (below k call is_call).1 (path, i, row, has) in
         let on_r : on r.0 ≡ true = ap (λ (c : PlainCall). slice_index_or marks c.circuit false) r.2 ∙ marked_below in
-        right_or (not (length given.devices.items == 0)) (list_any on given.calls.items) (any_listed on given.calls.items r.0 (listed given.calls.items k r.0 r.1) on_r)
+        or_right (not (length given.devices.items == 0)) (list_any on given.calls.items) (any_listed on given.calls.items r.0 (listed given.calls.items k r.0 r.1) on_r)
 
     pub hold_step : (new : List Bool) → new ≡ slice_set marks a (holds marks given) → IsHoldingBelow nl order (n + 1) new
     hold_step new e = subst (λ (m : List Bool). IsHoldingBelow nl order (n + 1) m) (sym e) (record {

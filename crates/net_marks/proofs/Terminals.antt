@@ -1,6 +1,6 @@
 -- Nets with terminals, as marks.
 use Rattle.std.proofs.Common.{◌≡◌, ℕ, zero, suc, ◌+◌, ◌<◌, ◌==◌, ◌||◌, Bool, true, false, List, [], ◌∷◌, ◌++◌, map, take, get_or, length, refl, sym, ◌∙◌, ap, arith}
-use Rattle.std.proofs.lemmas.Bool.{eq-eqb}
+use Rattle.std.proofs.lemmas.Bool.{eq-eqb, or_right, or_left}
 use Rattle.std.proofs.lemmas.List.{map_push, take_more}
 use Rattle.std.proofs.lemmas.List.Folds.{list_any-append}
 use Rattle.std.proofs.Math.Seq.{take-length}
@@ -9,31 +9,20 @@ use Rattle.deep_tables.specs.declared.gates.Gate.{Gate}
 use Rattle.flat_layout.specs.GateTables.{GateEntry, GateRow, Good}
 use Rattle.net_marks.specs.Marks.{has_terminal, is_terminal}
 
-clash : false ≡ true → ⊥
-clash e = let z : ⊥ = cc in z
-
-pub right : (a b : Bool) → b ≡ true → (a || b) ≡ true
-right true b h = refl
-right false b h = h
-
-pub left : (a b : Bool) → a ≡ true → (a || b) ≡ true
-left true b h = refl
-left false b h = absurd (clash h)
-
 same : (x : ℕ) → (x == x) ≡ true
 same x = eq-eqb x x refl
 
 pub source_in : (r : GateRow) → is_terminal r.source (Good r) ≡ true
-source_in r = let x = r.source in left (x == r.source) ((x == r.gate) || ((x == r.drain) || (x == r.bulk))) (same x)
+source_in r = let x = r.source in or_left (x == r.source) ((x == r.gate) || ((x == r.drain) || (x == r.bulk))) (same x)
 
 pub gate_in : (r : GateRow) → is_terminal r.gate (Good r) ≡ true
-gate_in r = let x = r.gate in right (x == r.source) ((x == r.gate) || ((x == r.drain) || (x == r.bulk))) (left (x == r.gate) ((x == r.drain) || (x == r.bulk)) (same x))
+gate_in r = let x = r.gate in or_right (x == r.source) ((x == r.gate) || ((x == r.drain) || (x == r.bulk))) (or_left (x == r.gate) ((x == r.drain) || (x == r.bulk)) (same x))
 
 pub drain_in : (r : GateRow) → is_terminal r.drain (Good r) ≡ true
-drain_in r = let x = r.drain in right (x == r.source) ((x == r.gate) || ((x == r.drain) || (x == r.bulk))) (right (x == r.gate) ((x == r.drain) || (x == r.bulk)) (left (x == r.drain) (x == r.bulk) (same x)))
+drain_in r = let x = r.drain in or_right (x == r.source) ((x == r.gate) || ((x == r.drain) || (x == r.bulk))) (or_right (x == r.gate) ((x == r.drain) || (x == r.bulk)) (or_left (x == r.drain) (x == r.bulk) (same x)))
 
 pub bulk_in : (r : GateRow) → is_terminal r.bulk (Good r) ≡ true
-bulk_in r = let x = r.bulk in right (x == r.source) ((x == r.gate) || ((x == r.drain) || (x == r.bulk))) (right (x == r.gate) ((x == r.drain) || (x == r.bulk)) (right (x == r.drain) (x == r.bulk) (same x)))
+bulk_in r = let x = r.bulk in or_right (x == r.source) ((x == r.gate) || ((x == r.drain) || (x == r.bulk))) (or_right (x == r.gate) ((x == r.drain) || (x == r.bulk)) (or_right (x == r.drain) (x == r.bulk) (same x)))
 
 -- after n gates
 pub record AreMarkedTo (old : List Bool) (gates : List Gate) (n : ℕ) (new : List Bool) : Type 0 where
@@ -67,5 +56,5 @@ marked_all old new gates n e h x = h.marked x ∙ ap (λ (l : List Gate). has_te
 -- a listed gate's terminals are the list's
 pub terminal_of : (x : ℕ) (gates : List Gate) (n : ℕ) (gate : Gate) → n < length gates → is_terminal x (plain_state (get_or gates n gate).state) ≡ true → has_terminal x (map plain_gate gates) ≡ true
 terminal_of x [] n gate lt h = absurd (omega arith)
-terminal_of x (g ∷ gates) zero gate lt h = left (is_terminal x (plain_state g.state)) (has_terminal x (map plain_gate gates)) h
-terminal_of x (g ∷ gates) (suc n) gate lt h = right (is_terminal x (plain_state g.state)) (has_terminal x (map plain_gate gates)) (terminal_of x gates n gate (omega arith) h)
+terminal_of x (g ∷ gates) zero gate lt h = or_left (is_terminal x (plain_state g.state)) (has_terminal x (map plain_gate gates)) h
+terminal_of x (g ∷ gates) (suc n) gate lt h = or_right (is_terminal x (plain_state g.state)) (has_terminal x (map plain_gate gates)) (terminal_of x gates n gate (omega arith) h)

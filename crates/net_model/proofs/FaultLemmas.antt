@@ -1,5 +1,6 @@
 -- Each test of a check finds the first circuit that shows its fault.
-use Rattle.std.proofs.Common.{◌≡◌, ◌≢◌, ◌⊎◌, inl, inr, ℕ, zero, suc, ◌+◌, ◌<◌, ◌≤◌, Bool, true, false, ◌==◌, ◌||◌, not, nat_lt, List, [], ◌∷◌, ◌++◌, length, slice_get, Option, Some, None, refl, sym, ap, subst, ◌∙◌, arith, true≢false}
+use Rattle.std.proofs.Common.{◌≡◌, ◌≢◌, ◌⊎◌, inl, inr, ℕ, zero, suc, ◌+◌, ◌<◌, ◌≤◌, true, false, ◌==◌, ◌||◌, nat_lt, List, [], ◌∷◌, ◌++◌, length, slice_get, Option, Some, None, refl, sym, ap, subst, ◌∙◌, arith, true≢false}
+use Rattle.std.proofs.lemmas.Bool.{not-true, cases_Bool, or_left, or_right, or_cases}
 use Rattle.std.specs.Prelude.{flat_map}
 use Rattle.std.specs.List.{list_any}
 use Rattle.std.specs.Str.{bytes_eq}
@@ -13,30 +14,26 @@ use Rattle.plain_netlist.specs.Sound.{ShowsFault, NameClash, BadTerminal, NoSuch
 use Rattle.plain_netlist.proofs.Members.{listed, position, in_left, in_right, either_side, in_all, from_all}
 use Rattle.text_table.specs.Texts.{has_text}
 use Rattle.net_model.specs.Tests.{first_of, has_twins, first_clash, is_out, is_bad_device, is_bad_call, has_bad_terminal, calls_none, is_other_count, has_other_count}
-use Rattle.net_model.proofs.FirstLemmas.{either, left_or, right_or, of_or, FindsAt, finds_from, any_listed, any_has}
-
-not_false : (b : Bool) → not b ≡ true → b ≡ false
-not_false true e = let z : ⊥ = cc in absurd z
-not_false false e = refl
+use Rattle.net_model.proofs.FirstLemmas.{FindsAt, finds_from, any_listed, any_has}
 
 -- ---- a net that isn't there
 
 is_past : (count n : ℕ) → is_out count n ≡ true → count ≤ n
-is_past count n e = let f = not_false (nat_lt n count) e in grind (arith, f)
+is_past count n e = let f = not-true (nat_lt n count) e in grind (arith, f)
 
 past_is : (count n : ℕ) → count ≤ n → is_out count n ≡ true
-past_is count n l = elim (either (nat_lt n count)) [ inl t ↦ absurd (grind (arith, t, l)) | inr f ↦ rw f refl ]
+past_is count n l = elim (cases_Bool (nat_lt n count)) [ inl t ↦ absurd (grind (arith, t, l)) | inr f ↦ rw f refl ]
 
 module _ (x : Circuit) where
   abbrev count : ℕ
   count = length x.nets
 
   device_has : (d : DeviceRow) → is_bad_device count d ≡ true → (n : ℕ) × IsListed n (terminal_nets d) × (count ≤ n)
-  device_has d e = elim (of_or (is_out count d.source || is_out count d.gate || is_out count d.drain) (is_out count d.bulk) e) [
+  device_has d e = elim (or_cases (is_out count d.source || is_out count d.gate || is_out count d.drain) (is_out count d.bulk) e) [
     | inr b ↦ (d.bulk, inr (inr (inr (inl refl))), is_past count d.bulk b)
-    | inl m ↦ elim (of_or (is_out count d.source || is_out count d.gate) (is_out count d.drain) m) [
+    | inl m ↦ elim (or_cases (is_out count d.source || is_out count d.gate) (is_out count d.drain) m) [
       | inr b ↦ (d.drain, inl refl, is_past count d.drain b)
-      | inl k ↦ elim (of_or (is_out count d.source) (is_out count d.gate) k) [
+      | inl k ↦ elim (or_cases (is_out count d.source) (is_out count d.gate) k) [
         | inl b ↦ (d.source, inr (inr (inl refl)), is_past count d.source b)
         | inr b ↦ (d.gate, inr (inl refl), is_past count d.gate b)
       ]
@@ -44,10 +41,10 @@ module _ (x : Circuit) where
   ]
 
   has_device : (d : DeviceRow) (n : ℕ) → IsListed n (terminal_nets d) → count ≤ n → is_bad_device count d ≡ true
-  has_device d n (inl e) l = left_or _ (is_out count d.bulk) (right_or (is_out count d.source || is_out count d.gate) _ (past_is count d.drain (omega arith)))
-  has_device d n (inr (inl e)) l = left_or _ (is_out count d.bulk) (left_or _ (is_out count d.drain) (right_or (is_out count d.source) _ (past_is count d.gate (omega arith))))
-  has_device d n (inr (inr (inl e))) l = left_or _ (is_out count d.bulk) (left_or _ (is_out count d.drain) (left_or _ (is_out count d.gate) (past_is count d.source (omega arith))))
-  has_device d n (inr (inr (inr (inl e)))) l = right_or (is_out count d.source || is_out count d.gate || is_out count d.drain) _ (past_is count d.bulk (omega arith))
+  has_device d n (inl e) l = or_left _ (is_out count d.bulk) (or_right (is_out count d.source || is_out count d.gate) _ (past_is count d.drain (omega arith)))
+  has_device d n (inr (inl e)) l = or_left _ (is_out count d.bulk) (or_left _ (is_out count d.drain) (or_right (is_out count d.source) _ (past_is count d.gate (omega arith))))
+  has_device d n (inr (inr (inl e))) l = or_left _ (is_out count d.bulk) (or_left _ (is_out count d.drain) (or_left _ (is_out count d.gate) (past_is count d.source (omega arith))))
+  has_device d n (inr (inr (inr (inl e)))) l = or_right (is_out count d.source || is_out count d.gate || is_out count d.drain) _ (past_is count d.bulk (omega arith))
   has_device d n (inr (inr (inr (inr e)))) l = absurd e
 
   abbrev on_devices : List ℕ
@@ -57,12 +54,12 @@ module _ (x : Circuit) where
   on_calls = flat_map (λ (r : CallRow). r.nets) x.calls
 
   terminal_has : has_bad_terminal x ≡ true → (n : ℕ) × IsListed n (appearances x) × (count ≤ n)
-  terminal_has e = elim (of_or (list_any (is_out count) x.pins || list_any (is_bad_device count) x.devices) (list_any (is_bad_call count) x.calls) e) [
+  terminal_has e = elim (or_cases (list_any (is_out count) x.pins || list_any (is_bad_device count) x.devices) (list_any (is_bad_call count) x.calls) e) [
     | inr c ↦
         let r = any_has (is_bad_call count) x.calls c in
         let n = any_has (is_out count) r.0.nets r.2 in
         (n.0, in_right x.pins (on_devices ++ on_calls) n.0 (in_right on_devices on_calls n.0 (in_all (λ (y : CallRow). y.nets) x.calls r.0 n.0 r.1 n.1)), is_past count n.0 n.2)
-    | inl m ↦ elim (of_or (list_any (is_out count) x.pins) (list_any (is_bad_device count) x.devices) m) [
+    | inl m ↦ elim (or_cases (list_any (is_out count) x.pins) (list_any (is_bad_device count) x.devices) m) [
       | inl p ↦ let n = any_has (is_out count) x.pins p in (n.0, in_left x.pins (on_devices ++ on_calls) n.0 n.1, is_past count n.0 n.2)
       | inr d ↦
           let r = any_has (is_bad_device count) x.devices d in
@@ -73,14 +70,14 @@ module _ (x : Circuit) where
 
   has_terminal : (n : ℕ) → IsListed n (appearances x) → count ≤ n → has_bad_terminal x ≡ true
   has_terminal n h l = elim (either_side x.pins (on_devices ++ on_calls) n h) [
-    | inl p ↦ left_or _ (list_any (is_bad_call count) x.calls) (left_or _ (list_any (is_bad_device count) x.devices) (any_listed (is_out count) x.pins n p (past_is count n l)))
+    | inl p ↦ or_left _ (list_any (is_bad_call count) x.calls) (or_left _ (list_any (is_bad_device count) x.devices) (any_listed (is_out count) x.pins n p (past_is count n l)))
     | inr q ↦ elim (either_side on_devices on_calls n q) [
       | inl d ↦
           let r = from_all terminal_nets x.devices n d in
-          left_or _ (list_any (is_bad_call count) x.calls) (right_or (list_any (is_out count) x.pins) _ (any_listed (is_bad_device count) x.devices r.0 r.1 (has_device r.0 n r.2 l)))
+          or_left _ (list_any (is_bad_call count) x.calls) (or_right (list_any (is_out count) x.pins) _ (any_listed (is_bad_device count) x.devices r.0 r.1 (has_device r.0 n r.2 l)))
       | inr c ↦
           let r = from_all (λ (y : CallRow). y.nets) x.calls n c in
-          right_or (list_any (is_out count) x.pins || list_any (is_bad_device count) x.devices) _
+          or_right (list_any (is_out count) x.pins || list_any (is_bad_device count) x.devices) _
           (any_listed (is_bad_call count) x.calls r.0 r.1 (any_listed (is_out count) r.0.nets n r.2 (past_is count n l)))
     ]
   ]
@@ -106,10 +103,10 @@ module _ (nl : Netlist) where
 
   other_by : (o : Option Circuit) (row : CallRow) → is_other_count o row ≡ true → (d : Circuit) × (o ≡ Some d) × (length row.nets ≢ length d.pins)
   other_by None row t = let z : ⊥ = cc in absurd z
-  other_by (Some d) row t = (d, refl, λ same. true≢false (sym ((Decides-eqb (length row.nets) (length d.pins)).1 same) ∙ not_false (length row.nets == length d.pins) t))
+  other_by (Some d) row t = (d, refl, λ same. true≢false (sym ((Decides-eqb (length row.nets) (length d.pins)).1 same) ∙ not-true (length row.nets == length d.pins) t))
 
   by_other : (o : Option Circuit) (row : CallRow) (d : Circuit) → o ≡ Some d → length row.nets ≢ length d.pins → is_other_count o row ≡ true
-  by_other o row d e ne = elim (either (length row.nets == length d.pins)) [
+  by_other o row d e ne = elim (cases_Bool (length row.nets == length d.pins)) [
     | inl same ↦ absurd (ne ((Decides-eqb (length row.nets) (length d.pins)).0 same))
     | inr f ↦ rw e (rw f refl)
   ]
@@ -127,14 +124,14 @@ module _ (nl : Netlist) where
 -- ---- names
 
 one_more : (seen : List (List ℕ)) (m n : List ℕ) → has_text (seen ++ m ∷ []) n ≡ true → (has_text seen n ≡ true) ⊎ (m ≡ n)
-one_more seen m n t = elim (of_or (has_text seen n) (list_any (bytes_eq n) (m ∷ [])) (sym (list_any-append (bytes_eq n) seen (m ∷ [])) ∙ t)) [
+one_more seen m n t = elim (or_cases (has_text seen n) (list_any (bytes_eq n) (m ∷ [])) (sym (list_any-append (bytes_eq n) seen (m ∷ [])) ∙ t)) [
   | inl old ↦ inl old
-  | inr new ↦ elim (of_or (bytes_eq n m) false new) [ inl e ↦ inr (sym ((bytes_eq-Decides n m).0 e)) | inr f ↦ let z : ⊥ = cc in absurd z ]
+  | inr new ↦ elim (or_cases (bytes_eq n m) false new) [ inl e ↦ inr (sym ((bytes_eq-Decides n m).0 e)) | inr f ↦ let z : ⊥ = cc in absurd z ]
 ]
 
 still : (seen : List (List ℕ)) (m n : List ℕ) → (has_text seen n ≡ true) ⊎ (m ≡ n) → has_text (seen ++ m ∷ []) n ≡ true
-still seen m n (inl old) = list_any-append (bytes_eq n) seen (m ∷ []) ∙ left_or (has_text seen n) (list_any (bytes_eq n) (m ∷ [])) old
-still seen m n (inr e) = list_any-append (bytes_eq n) seen (m ∷ []) ∙ right_or (has_text seen n) _ (left_or (bytes_eq n m) false ((bytes_eq-Decides n m).1 (sym e)))
+still seen m n (inl old) = list_any-append (bytes_eq n) seen (m ∷ []) ∙ or_left (has_text seen n) (list_any (bytes_eq n) (m ∷ [])) old
+still seen m n (inr e) = list_any-append (bytes_eq n) seen (m ∷ []) ∙ or_right (has_text seen n) _ (or_left (bytes_eq n m) false ((bytes_eq-Decides n m).1 (sym e)))
 
 -- a name that stands twice, or among those seen before
 data Twins (seen names : List (List ℕ)) : Type 0 where
@@ -143,7 +140,7 @@ data Twins (seen names : List (List ℕ)) : Type 0 where
 
 has_both : (seen names : List (List ℕ)) → has_twins seen names ≡ true → Twins seen names
 has_both seen [] t = let z : ⊥ = cc in absurd z
-has_both seen (m ∷ names) t = elim (of_or (has_text seen m) (has_twins (seen ++ m ∷ []) names) t) [
+has_both seen (m ∷ names) t = elim (or_cases (has_text seen m) (has_twins (seen ++ m ∷ []) names) t) [
   | inl old ↦ Old 0 m refl old
   | inr rest ↦ elim (has_both (seen ++ m ∷ []) names rest) [
     | Old b n is h ↦ elim (one_more seen m n h) [ inl old ↦ Old (suc b) n is old | inr e ↦ Both 0 (suc b) n (omega arith) (ap Some e) is ]
@@ -153,15 +150,15 @@ has_both seen (m ∷ names) t = elim (of_or (has_text seen m) (has_twins (seen +
 
 old_has : (seen names : List (List ℕ)) (b : ℕ) (n : List ℕ) → slice_get names b ≡ Some n → has_text seen n ≡ true → has_twins seen names ≡ true
 old_has seen [] b n is h = let z : ⊥ = cc in absurd z
-old_has seen (m ∷ names) zero n is h = let same : n ≡ m = cc in left_or (has_text seen m) _ (subst (λ k. has_text seen k ≡ true) same h)
-old_has seen (m ∷ names) (suc b) n is h = right_or (has_text seen m) _ (old_has (seen ++ m ∷ []) names b n is (still seen m n (inl h)))
+old_has seen (m ∷ names) zero n is h = let same : n ≡ m = cc in or_left (has_text seen m) _ (subst (λ k. has_text seen k ≡ true) same h)
+old_has seen (m ∷ names) (suc b) n is h = or_right (has_text seen m) _ (old_has (seen ++ m ∷ []) names b n is (still seen m n (inl h)))
 
 both_has : (seen names : List (List ℕ)) (a b : ℕ) (n : List ℕ) → a < b → slice_get names a ≡ Some n → slice_get names b ≡ Some n → has_twins seen names ≡ true
 both_has seen [] a b n l is is' = let z : ⊥ = cc in absurd z
 both_has seen (m ∷ names) a zero n l is is' = absurd (omega arith)
 both_has seen (m ∷ names) zero (suc b) n l is is' =
-    let same : m ≡ n = cc in right_or (has_text seen m) _ (old_has (seen ++ m ∷ []) names b n is' (still seen m n (inr same)))
-both_has seen (m ∷ names) (suc a) (suc b) n l is is' = right_or (has_text seen m) _ (both_has (seen ++ m ∷ []) names a b n (omega arith) is is')
+    let same : m ≡ n = cc in or_right (has_text seen m) _ (old_has (seen ++ m ∷ []) names b n is' (still seen m n (inr same)))
+both_has seen (m ∷ names) (suc a) (suc b) n l is is' = or_right (has_text seen m) _ (both_has (seen ++ m ∷ []) names a b n (omega arith) is is')
 
 -- circuit i clashes: its name was seen before, or stands before it, or two of its nets have one name
 data Clashes (seen : List (List ℕ)) (cs : List Circuit) (i : ℕ) : Type 0 where
@@ -181,9 +178,9 @@ off_clash seen c cs i (Before (suc b) x y l is is' e) = Before b x y (omega arit
 off_clash seen c cs i (Nets x is h) = Nets x is h
 
 first_one : (seen : List (List ℕ)) (c : Circuit) (cs : List Circuit) → Clashes seen (c ∷ cs) 0 → (has_text seen c.name || has_twins [] c.nets) ≡ true
-first_one seen c cs (Seen x is h) = let same : c ≡ x = cc in left_or (has_text seen c.name) _ (subst (λ (z : Circuit). has_text seen z.name ≡ true) (sym same) h)
+first_one seen c cs (Seen x is h) = let same : c ≡ x = cc in or_left (has_text seen c.name) _ (subst (λ (z : Circuit). has_text seen z.name ≡ true) (sym same) h)
 first_one seen c cs (Before b x y l is is' e) = absurd (omega arith)
-first_one seen c cs (Nets x is h) = let same : c ≡ x = cc in right_or (has_text seen c.name) _ (subst (λ (z : Circuit). has_twins [] z.nets ≡ true) (sym same) h)
+first_one seen c cs (Nets x is h) = let same : c ≡ x = cc in or_right (has_text seen c.name) _ (subst (λ (z : Circuit). has_twins [] z.nets ≡ true) (sym same) h)
 
 clashes_on : (P Q : ℕ → Type 0) (k : ℕ) (o : Option ℕ) → ((i : ℕ) → P i → Q i) → ((i : ℕ) → Q i → P i) → FindsAt k P o → FindsAt k Q o
 clashes_on P Q k None f g h = λ i q. h i (g i q)
@@ -208,14 +205,14 @@ clash_from seen k [] = λ i h. no_circuit i h
     no_circuit i (Seen x is h) = cc
     no_circuit i (Before b x y l is is' e) = cc
     no_circuit i (Nets x is h) = cc
-clash_from seen k (c ∷ cs) = elim (either (has_text seen c.name || has_twins [] c.nets)) [
+clash_from seen k (c ∷ cs) = elim (cases_Bool (has_text seen c.name || has_twins [] c.nets)) [
   | inl t ↦ rw t (0, (omega arith), here t, λ j l h. absurd (omega arith))
   | inr f ↦ rw f (later k (Clashes seen (c ∷ cs)) (first_clash (seen ++ c.name ∷ []) (k + 1) cs) (λ h. true≢false (sym (first_one seen c cs h) ∙ f))
       (clashes_on (Clashes (seen ++ c.name ∷ []) cs) (λ i. Clashes seen (c ∷ cs) (suc i)) (k + 1) (first_clash (seen ++ c.name ∷ []) (k + 1) cs) (on_clash seen c cs) (off_clash seen c cs) (clash_from (seen ++ c.name ∷ []) (k + 1) cs)))
 ]
   where
     here : (has_text seen c.name || has_twins [] c.nets) ≡ true → Clashes seen (c ∷ cs) 0
-    here t = elim (of_or (has_text seen c.name) (has_twins [] c.nets) t) [ inl h ↦ Seen c refl h | inr h ↦ Nets c refl h ]
+    here t = elim (or_cases (has_text seen c.name) (has_twins [] c.nets) t) [ inl h ↦ Seen c refl h | inr h ↦ Nets c refl h ]
 
 shown : (nl : Netlist) (i : ℕ) → Clashes [] nl.circuits i → ShowsFault nl NameClash i
 shown nl i (Seen x is h) = let z : ⊥ = cc in absurd z

@@ -1,23 +1,9 @@
 -- The first place at which a test holds.
-use Rattle.std.proofs.Common.{◌≡◌, ◌⊎◌, inl, inr, ℕ, zero, suc, ◌+◌, ◌<◌, Bool, true, false, ◌||◌, List, [], ◌∷◌, slice_get, Option, Some, None, refl, sym, ap, ◌∙◌, arith, true≢false}
+use Rattle.std.proofs.Common.{◌≡◌, inl, inr, ℕ, zero, suc, ◌+◌, ◌<◌, Bool, true, false, List, [], ◌∷◌, slice_get, Option, Some, None, refl, sym, ap, ◌∙◌, arith, true≢false}
+use Rattle.std.proofs.lemmas.Bool.{cases_Bool, or_left, or_right, or_cases}
 use Rattle.std.specs.List.{list_any}
 use Rattle.plain_netlist.specs.Lists.{IsListed}
 use Rattle.net_model.specs.Tests.{first_from}
-
-pub either : (b : Bool) → (b ≡ true) ⊎ (b ≡ false)
-either true = inl refl
-either false = inr refl
-
-pub left_or : (a b : Bool) → a ≡ true → (a || b) ≡ true
-left_or a b e = rw e refl
-
-pub right_or : (a b : Bool) → b ≡ true → (a || b) ≡ true
-right_or true b e = refl
-right_or false b e = e
-
-pub of_or : (a b : Bool) → (a || b) ≡ true → (a ≡ true) ⊎ (b ≡ true)
-of_or true b e = inl refl
-of_or false b e = inr e
 
 -- m is the first place of P, counted from k, or there is none
 abbrev pub FindsAt : ℕ → (ℕ → Type 0) → Option ℕ → Type 0
@@ -41,7 +27,7 @@ pub finds_from : {A : Type 0} (p : A → Bool) (xs : List A) (k : ℕ) (P : ℕ 
     → ((i : ℕ) → P i → (x : A) × (slice_get xs i ≡ Some x) × (p x ≡ true))
     → FindsAt k P (first_from k p xs)
 finds_from p [] k P gives has = λ i h. let r = has i h in let z : ⊥ = cc in z
-finds_from {A = A} p (x ∷ xs) k P gives has = elim (either (p x)) [
+finds_from {A = A} p (x ∷ xs) k P gives has = elim (cases_Bool (p x)) [
   | inl t ↦ rw t (0, (omega arith), gives 0 x refl t, λ j l h. absurd (omega arith))
   | inr f ↦ rw f (later k P (first_from (k + 1) p xs) (none f) (finds_from p xs (k + 1) (λ i. P (suc i)) (λ i y is t. gives (suc i) y is t) (λ i h. has (suc i) h)))
 ]
@@ -54,12 +40,12 @@ finds_from {A = A} p (x ∷ xs) k P gives has = elim (either (p x)) [
 
 pub any_listed : {A : Type 0} (p : A → Bool) (xs : List A) (x : A) → IsListed x xs → p x ≡ true → list_any p xs ≡ true
 any_listed p [] x h t = absurd h
-any_listed p (y ∷ xs) x (inl e) t = left_or (p y) (list_any p xs) (ap p (sym e) ∙ t)
-any_listed p (y ∷ xs) x (inr h) t = right_or (p y) (list_any p xs) (any_listed p xs x h t)
+any_listed p (y ∷ xs) x (inl e) t = or_left (p y) (list_any p xs) (ap p (sym e) ∙ t)
+any_listed p (y ∷ xs) x (inr h) t = or_right (p y) (list_any p xs) (any_listed p xs x h t)
 
 pub any_has : {A : Type 0} (p : A → Bool) (xs : List A) → list_any p xs ≡ true → (x : A) × IsListed x xs × (p x ≡ true)
 any_has p [] t = let z : ⊥ = cc in absurd z
-any_has p (y ∷ xs) t = elim (of_or (p y) (list_any p xs) t) [
+any_has p (y ∷ xs) t = elim (or_cases (p y) (list_any p xs) t) [
   | inl h ↦ (y, inl refl, h)
   | inr h ↦ let r = any_has p xs h in (r.0, inr r.1, r.2)
 ]

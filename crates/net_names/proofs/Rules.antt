@@ -1,27 +1,24 @@
 -- Texts that spell a name by rule are those that are read as it.
 use Rattle.std.proofs.Common.{◌≡◌, ◌∙◌, inl, inr, ℕ, zero, suc, ◌+◌, ◌*◌, ◌≤◌, Bool, true, false, ◌==◌, if◌then◌else◌, List, [], ◌∷◌, length, Option, Some, None, refl, sym, ap, subst, arith}
+use Rattle.std.proofs.lemmas.Bool.{ne_eqb}
 use Rattle.std.specs.Char.{is_ascii_graphic}
 use Rattle.std.proofs.Math.Decide.{ℕ_discrete}
-use Rattle.std.proofs.lemmas.Bool.Decides.{nat_tests}
 use Rattle.net_names.specs.Escapes.{hex_value, hex_byte, onto, unescaped, escaped}
 use Rattle.net_names.specs.Spells.{IsHexLetter, Spells, End, Itself, Behind, Hexadecimal, ReadAsSpelledLaw, WrittenAsSpelledLaw}
 use Rattle.net_names.proofs.Spelling.{escaped_read}
 
-differs : (b c : ℕ) → (b ≡ c → ⊥) → (b == c) ≡ false
-differs b c ne = grind (arith, nat_tests)
-
 itself_read : (b : ℕ) (text : List ℕ) → (b ≡ 0x5C → ⊥) → unescaped (b ∷ text) ≡ onto (Some b) (unescaped text)
-itself_read b text ne = let n : (b == 0x5C) ≡ false = differs b 0x5C ne in rw n refl
+itself_read b text ne = let n : (b == 0x5C) ≡ false = ne_eqb b 0x5C ne in rw n refl
 
 behind_read : (b : ℕ) (text : List ℕ) (g : Bool) → is_ascii_graphic b ≡ g → (IsHexLetter b → ⊥)
     → unescaped (0x5C ∷ b ∷ text) ≡ onto (if g then Some b else None) (unescaped text)
 behind_read b text true e ne =
-    let m : (b == 0x78) ≡ false = differs b 0x78 (λ h. ne (inl h)) in
-    let n : (b == 0x58) ≡ false = differs b 0x58 (λ h. ne (inr h)) in
+    let m : (b == 0x78) ≡ false = ne_eqb b 0x78 (λ h. ne (inl h)) in
+    let n : (b == 0x58) ≡ false = ne_eqb b 0x58 (λ h. ne (inr h)) in
     rw (m, n, e) refl
 behind_read b text false e ne =
-    let m : (b == 0x78) ≡ false = differs b 0x78 (λ h. ne (inl h)) in
-    let n : (b == 0x58) ≡ false = differs b 0x58 (λ h. ne (inr h)) in
+    let m : (b == 0x78) ≡ false = ne_eqb b 0x78 (λ h. ne (inl h)) in
+    let n : (b == 0x58) ≡ false = ne_eqb b 0x58 (λ h. ne (inr h)) in
     rw (m, n, e) (none_onto (unescaped text))
   where
     none_onto : (rest : Option (List ℕ)) → onto None rest ≡ onto None rest

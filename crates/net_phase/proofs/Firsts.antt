@@ -1,8 +1,8 @@
 -- How many items stand before those of a placement.
-use Rattle.std.proofs.Common.{◌≡◌, ℕ, zero, suc, ◌+◌, ◌<◌, ◌≤◌, Bool, true, false, ltb, List, [], ◌∷◌, ◌++◌, map, get_or, length, refl, sym, subst, arith}
+use Rattle.std.proofs.Common.{◌≡◌, ℕ, zero, suc, ◌+◌, ◌<◌, ◌≤◌, Bool, true, false, List, [], ◌∷◌, ◌++◌, map, get_or, length, refl, sym, subst, arith}
+use Rattle.base_laws.proofs.Tests.{not_both}
 use Rattle.std.proofs.Math.Decide.{dec_lt}
-use Rattle.std.proofs.lemmas.Bool.{le-ltb}
-use Rattle.std.proofs.lemmas.Bool.Decides.{nat_tests}
+use Rattle.std.proofs.lemmas.Bool.{le-ltb, lt-ltb}
 use Rattle.std.specs.List.Sorted.{IsPartitionPoint, IsPartitionedBy}
 use Rattle.flat_layout.specs.Layers.{Formula}
 use Rattle.flat_layout.specs.Layout.{Design, Place}
@@ -62,9 +62,6 @@ own_all place t cell c [] = tt
 own_all place t cell c (x ∷ xs) =
     all_both (is_before place) (run (Own c) 0 (length (t.own cell c))) (own_items t cell (suc c) xs) (run_all (is_before place) (Own c) 0 (length (t.own cell c)) (λ j. refl)) (own_all place t cell (suc c) xs)
 
-less : (k place : ℕ) → k < place → ltb k place ≡ true
-less k place h = grind (arith, nat_tests)
-
 children_none : (place : ℕ) (t : Tables) (k : ℕ) (ps : List Place) → place ≤ k → NonePass (is_before place) (child_items t k ps)
 children_none place t k [] h = tt
 children_none place t k (p ∷ ps) h =
@@ -78,7 +75,7 @@ children_cut place t k (suc n) (p ∷ ps) e =
     let count = (t.nets p.cell).count in
     let long = run_long (Child k) 0 count in
     cut_left (is_before place) (run (Child k) 0 count) (child_items t (suc k) ps) (nets_before t ps n) (count + nets_before t ps n) (omega (arith, long))
-    (run_all (is_before place) (Child k) 0 count (λ b. less k place (omega (arith, e)))) (children_cut place t (suc k) n ps (omega (arith, e)))
+    (run_all (is_before place) (Child k) 0 count (λ b. lt-ltb k place (omega (arith, e)))) (children_cut place t (suc k) n ps (omega (arith, e)))
 
 -- before a placement's nets stand as many items as are before its first
 pub items_cut : (d : Design) (w : Wiring) (t : Tables) (cell place : ℕ) → IsCut (is_before place) (items_of d w t cell) (first_of d w t cell place)
@@ -114,25 +111,21 @@ cut_false p (x ∷ xs) zero (suc j) d h le lt = cut_false p xs 0 j d h.1 (omega 
 cut_false p (x ∷ xs) (suc i) zero d h le lt = absurd (omega (arith, le))
 cut_false p (x ∷ xs) (suc i) (suc j) d h le lt = cut_false p xs i j d h.1 (omega (arith, le)) (omega (arith, lt))
 
-both : (b : Bool) → b ≡ true → b ≡ false → ⊥
-both true e f = cc
-both false e f = cc
-
 -- such a list is parted, and a search finds that place
 pub cut_parts : {X : Type 0} (p : X → Bool) (xs : List X) (i : ℕ) → IsCut p xs i → IsPartitionedBy p xs
 cut_parts p xs i h = λ a b d le lt is.
     elim (dec_lt b i) [
       | yes l ↦ cut_true p xs i a d h (omega (arith, le, l))
-      | no n ↦ absurd (both (p (get_or xs b d)) is (cut_false p xs i b d h (omega (arith, n)) lt))
+      | no n ↦ absurd (not_both (p (get_or xs b d)) is (cut_false p xs i b d h (omega (arith, n)) lt))
     ]
 
 pub one_cut : {X : Type 0} (p : X → Bool) (xs : List X) (i r : ℕ) (d : X) → IsCut p xs i → r ≤ length xs → IsPartitionPoint (λ y. p y ≡ true) (λ y. p y ≡ false) xs r → r ≡ i
 one_cut p xs i r d h le point =
     let bound = cut_bound p xs i h in
     elim (dec_lt r i) [
-      | yes l ↦ absurd (both (p (get_or xs r d)) (cut_true p xs i r d h l) (point.1 r d (omega arith) (omega (arith, l, bound))))
+      | yes l ↦ absurd (not_both (p (get_or xs r d)) (cut_true p xs i r d h l) (point.1 r d (omega arith) (omega (arith, l, bound))))
       | no n ↦ elim (dec_lt i r) [
-        | yes l ↦ absurd (both (p (get_or xs i d)) (point.0 i d (omega arith) l) (cut_false p xs i i d h (omega arith) (omega (arith, l, le))))
+        | yes l ↦ absurd (not_both (p (get_or xs i d)) (point.0 i d (omega arith) l) (cut_false p xs i i d h (omega arith) (omega (arith, l, le))))
         | no m ↦ omega (arith, n, m)
       ]
     ]

@@ -1,12 +1,14 @@
 -- Jobs of the cells below a cell.
-use Rattle.std.proofs.Common.{◌≡◌, ◌≢◌, ◌↔◌, inl, inr, ℕ, zero, suc, ◌+◌, ◌<◌, ◌≤◌, ◌==◌, ◌||◌, ◌&&◌, Bool, true, false, List, [], ◌∷◌, ◌++◌, Some, map, slice_get, get_or, set, take, length, length-set, get_or-set_same, get_or-set_other, refl, sym, ◌∙◌, ap, subst, arith, slice_index}
+use Rattle.std.proofs.Common.{◌≡◌, ◌↔◌, inl, inr, ℕ, zero, suc, ◌+◌, ◌<◌, ◌≤◌, ◌==◌, ◌||◌, ◌&&◌, Bool, true, false, List, [], ◌∷◌, ◌++◌, Some, map, slice_get, get_or, set, take, length, length-set, get_or-set_same, get_or-set_other, refl, sym, ◌∙◌, ap, subst, arith, slice_index}
+use Rattle.base_laws.proofs.Tests.{or_false, or_assoc}
+use Rattle.std.proofs.lemmas.Bool.{or_cases, or_left, or_right, eqb-true, eq-eqb, ne_eqb}
 use Rattle.std.proofs.Math.Decide.{ℕ_discrete, dec_lt}
 use Rattle.std.proofs.Math.Seq.{take-length}
 use Rattle.std.proofs.lemmas.Bool.Decides.{nat_tests}
 use Rattle.std.proofs.lemmas.List.{get_or-map, take_more}
 use Rattle.std.proofs.lemmas.Option.{slice_get_within}
 use Rattle.std.specs.Global.{Vec}
-use Rattle.cell_graph.proofs.Bridge.{heights, or_left, or_right, or_split, placed_of, reference_at, step_of}
+use Rattle.cell_graph.proofs.Bridge.{heights, placed_of, reference_at, step_of}
 use Rattle.cell_graph.proofs.Elements.{number_of}
 use Rattle.cell_graph.specs.Linked.{IsSound, Linked, cell_at, height_at, places_at, plain, reference}
 use Rattle.cell_graph.specs.declared.cells.Place.{Place}
@@ -22,34 +24,17 @@ use Rattle.net_phase.specs.Graph.{AreBelowJobs, AreInputsAt, AreInputsTo, AreMar
 
 -- numbers and marks
 
-same_number : (x y : ℕ) → (x == y) ≡ true → x ≡ y
-same_number x y e = grind (arith, nat_tests)
-
-is_same : (x y : ℕ) → x ≡ y → (x == y) ≡ true
-is_same x y e = grind (arith, nat_tests)
-
-other_number : (x y : ℕ) → x ≢ y → (x == y) ≡ false
-other_number x y e = grind (arith, nat_tests)
-
 next_number : (x y : ℕ) → (suc x == suc y) ≡ (x == y)
 next_number x y = grind (arith, nat_tests)
 
-or_false : (a : Bool) → (a || false) ≡ a
-or_false true = refl
-or_false false = refl
-
-or_both : (a b c : Bool) → ((a || b) || c) ≡ (a || (b || c))
-or_both true b c = refl
-or_both false b c = refl
-
 pub has_push : (x y : ℕ) (xs : List ℕ) → has x (xs ++ y ∷ []) ≡ (has x xs || (x == y))
 has_push x y [] = or_false (x == y)
-has_push x y (z ∷ xs) = ap (λ b. (x == z) || b) (has_push x y xs) ∙ sym (or_both (x == z) (has x xs) (x == y))
+has_push x y (z ∷ xs) = ap (λ b. (x == z) || b) (has_push x y xs) ∙ sym (or_assoc (x == z) (has x xs) (x == y))
 
 set_mark : (m : List Bool) (x i : ℕ) → x < length m → get_or (set m x true) i false ≡ (get_or m i false || (i == x))
 set_mark m x i lt = elim (ℕ_discrete i x) [
-  | yes e ↦ ap (λ k. get_or (set m x true) k false) e ∙ get_or-set_same m x true false lt ∙ sym (or_right (get_or m i false) (i == x) (is_same i x e))
-  | no n ↦ get_or-set_other m x i true false n ∙ sym (ap (λ b. get_or m i false || b) (other_number i x n) ∙ or_false (get_or m i false))
+  | yes e ↦ ap (λ k. get_or (set m x true) k false) e ∙ get_or-set_same m x true false lt ∙ sym (or_right (get_or m i false) (i == x) (eq-eqb i x e))
+  | no n ↦ get_or-set_other m x i true false n ∙ sym (ap (λ b. get_or m i false || b) (ne_eqb i x n) ∙ or_false (get_or m i false))
 ]
 
 -- marks over those before, of a job and of the first that it waits for
@@ -74,8 +59,8 @@ mark_more old mid job n inputs lt within h =
           let more : has i (take (n + 1) inputs) ≡ (has i first || (i == x)) = ap (has i) (take_more inputs n 0 lt) ∙ has_push i x first in
           set_mark mid x i (omega (arith, c, within))
           ∙ ap (λ b. b || (i == x)) (h.marked i)
-          ∙ or_both (get_or old i false) (is_at_or_in i job first) (i == x)
-          ∙ ap (λ b. get_or old i false || b) (or_both (i == job) (has i first) (i == x) ∙ ap (λ b. (i == job) || b) (sym more));
+          ∙ or_assoc (get_or old i false) (is_at_or_in i job first) (i == x)
+          ∙ ap (λ b. get_or old i false || b) (or_assoc (i == job) (has i first) (i == x) ∙ ap (λ b. (i == job) || b) (sym more));
     }
 
 pub input_within : (inputs : List ℕ) (job n : ℕ) → AreAscending 0 inputs job → n < length inputs → get_or inputs n 0 < job
@@ -162,7 +147,7 @@ from_more d jobs graph job n p old new there h long marked = record {
   count = long ∙ h.count;
   all = λ i.
       let hit = is_at_or_in i (slice_index jobs p.cell) (inputs_of graph (slice_index jobs p.cell)) in (
-        (λ e. elim (or_split (get_or old i false) hit (sym (marked i) ∙ e)) [
+        (λ e. elim (or_cases (get_or old i false) hit (sym (marked i) ∙ e)) [
           | inl a ↦ let f = (h.all i).0 a in let lt = f.2 in (f.0, f.1, omega (arith, lt), f.3, f.4)
           | inr b ↦ (n, p, omega arith, there, b)
         ]),
@@ -193,9 +178,9 @@ from_all d jobs graph job n marks sound positions lt before e h = record {
         let less = child_lower d jobs job f.0 f.1 sound positions lt f.3 in
         let k = number_of (map reference (places_at (cell_at d (slice_index d.order job)))) f.0 (reference f.1) 0 0 in
         let placed = first_element d (slice_index d.order job) f.0 f.1 sound f.3 in
-        elim (or_split (i == c) (has i (inputs_of graph c)) f.4) [
+        elim (or_cases (i == c) (has i (inputs_of graph c)) f.4) [
           | inl a ↦
-              let s : i ≡ c = same_number i c a in
+              let s : i ≡ c = eqb-true i c a in
               (subst (λ j. j < length d.order) (sym s) at.job_in, (k, place_at (reference f.1) 0 0, placed, ([], sym at.is ∙ ap (slice_index d.order) (sym s))))
           | inr b ↦
               let w = ((before.each c less).all i).0 b in
@@ -209,7 +194,7 @@ from_all d jobs graph job n marks sound positions lt before e h = record {
     by_path i p [] i_in at less leads =
         let c = slice_index jobs p.cell in
         let s : i ≡ c = sound.order.once i c i_in at.job_in (sym leads ∙ sym at.is) in
-        or_left (i == c) (has i (inputs_of graph c)) (is_same i c s)
+        or_left (i == c) (has i (inputs_of graph c)) (eq-eqb i c s)
     by_path i p (k ∷ path) i_in at less leads =
         let c = slice_index jobs p.cell in
         let step : IsPlaced (plain d) (slice_index d.order c) k leads.0 = subst (λ v. IsPlaced (plain d) v k leads.0) (sym at.is) leads.1 in
@@ -233,8 +218,8 @@ from_all d jobs graph job n marks sound positions lt before e h = record {
 get_last : (m : List Bool) (b : Bool) (i : ℕ) → get_or (m ++ b ∷ []) i false ≡ (get_or m i false || ((i == length m) && b))
 get_last [] true zero = refl
 get_last [] false zero = refl
-get_last [] b (suc i) = let e : (suc i == 0) ≡ false = other_number (suc i) 0 (λ h. let z : ⊥ = omega (arith, h) in z) in sym (ap (λ c. c && b) e)
-get_last (x ∷ m) b zero = let e : (0 == suc (length m)) ≡ false = other_number 0 (suc (length m)) (λ h. let z : ⊥ = omega (arith, h) in z) in sym (ap (λ c. x || (c && b)) e ∙ or_false x)
+get_last [] b (suc i) = let e : (suc i == 0) ≡ false = ne_eqb (suc i) 0 (λ h. let z : ⊥ = omega (arith, h) in z) in sym (ap (λ c. c && b) e)
+get_last (x ∷ m) b zero = let e : (0 == suc (length m)) ≡ false = ne_eqb 0 (suc (length m)) (λ h. let z : ⊥ = omega (arith, h) in z) in sym (ap (λ c. x || (c && b)) e ∙ or_false x)
 get_last (x ∷ m) b (suc i) = get_last m b i ∙ ap (λ c. get_or m i false || (c && b)) (sym (next_number i (length m)))
 
 -- the numbers of the first marks that are set

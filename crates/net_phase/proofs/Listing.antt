@@ -1,5 +1,6 @@
 -- Lists of lists, entry by entry.
 use Rattle.std.proofs.Common.{◌≡◌, ℕ, zero, suc, ◌+◌, ◌<◌, ◌≤◌, List, [], ◌∷◌, ◌++◌, Some, None, map, slice_get, get_or, length, refl, ap, arith}
+use Rattle.base_laws.proofs.Lists.{map_count}
 use Rattle.std.proofs.lemmas.List.{get_or_past}
 
 pub get_push : {A : Type 0} (xs : List A) (x o : A) (k : ℕ) (P : ℕ → A → Type 0) → ((j : ℕ) → j < length xs → P j (get_or xs j o)) → P (length xs) x → k < length xs + 1 → P k (get_or (xs ++ x ∷ []) k o)
@@ -8,12 +9,8 @@ get_push [] x o (suc k) P f here lt = absurd (omega arith)
 get_push (y ∷ xs) x o zero P f here lt = f 0 (omega arith)
 get_push {A} (y ∷ xs) x o (suc k) P f here lt = get_push xs x o k (λ j v. P (suc j) v) (λ j less. f (suc j) (omega arith)) here (omega arith)
 
-pub long_map : {A B : Type 0} (f : A → B) (xs : List A) → length (map f xs) ≡ length xs
-long_map f [] = refl
-long_map f (x ∷ xs) = let h = long_map f xs in omega (arith, h)
-
 pub get_past : {A B : Type 0} (f : A → B) (xs : List A) (k : ℕ) (o : B) → length xs ≤ k → get_or (map f xs) k o ≡ o
-get_past f xs k o le = let h = long_map f xs in get_or_past (map f xs) k o (omega (arith, h))
+get_past f xs k o le = let h = map_count f xs in get_or_past (map f xs) k o (omega (arith, h))
 
 pub long_push : {A : Type 0} (xs : List A) (x : A) → length (xs ++ x ∷ []) ≡ length xs + 1
 long_push [] x = refl

@@ -1,13 +1,12 @@
 -- Nets that were read, by the cells' numbers.
 use Rattle.std.proofs.Common.{◌≡◌, ◌⊎◌, inl, inr, ℕ, ◌+◌, ◌<◌, ◌==◌, ◌||◌, Bool, true, false, List, [], ◌∷◌, ◌++◌, Option, Some, None, Result, Ok, Err, IfOk, IsSomeAnd, slice_index, get_or, length, length-set, take, refl, sym, ◌∙◌, ap, subst, arith}
+use Rattle.std.proofs.lemmas.Bool.{or_cases, eqb-true}
 use Rattle.std.proofs.Math.Decide.{ℕ_discrete}
 use Rattle.std.proofs.Math.Seq.{take-length}
-use Rattle.std.proofs.lemmas.Bool.Decides.{nat_tests}
 use Rattle.std.proofs.lemmas.List.{get_or-set_other, get_or-set_same, take_more}
 use Rattle.std.specs.Prelude.{set}
 use Rattle.job_graph.specs.Graph.{has}
 use Rattle.cell_graph.specs.Linked.{Linked, plain}
-use Rattle.cell_graph.proofs.Bridge.{or_split}
 use Rattle.deep_tables.specs.Nets.{AreCellNets}
 use Rattle.deep_tables.specs.declared.nets.CellNets.{CellNets}
 use Rattle.rule_text.specs.Rules.{Rules}
@@ -20,12 +19,9 @@ use Rattle.link_classes.specs.declared.classes.Link.{Link}
 use Rattle.net_link_laws.specs.Found.{AreAllFound}
 use Rattle.net_phase.specs.Reading.{AreRead}
 
-same_number : (x y : ℕ) → (x == y) ≡ true → x ≡ y
-same_number x y e = grind (arith, nat_tests)
-
 has_split : (x y : ℕ) (xs : List ℕ) → has x (xs ++ y ∷ []) ≡ true → (has x xs ≡ true) ⊎ (x ≡ y)
-has_split x y [] h = elim (or_split (x == y) false h) [ inl a ↦ inr (same_number x y a) | inr b ↦ absurd (let z : ⊥ = cc in z) ]
-has_split x y (z ∷ xs) h = elim (or_split (x == z) (has x (xs ++ y ∷ [])) h) [
+has_split x y [] h = elim (or_cases (x == y) false h) [ inl a ↦ inr (eqb-true x y a) | inr b ↦ absurd (let z : ⊥ = cc in z) ]
+has_split x y (z ∷ xs) h = elim (or_cases (x == z) (has x (xs ++ y ∷ [])) h) [
   | inl a ↦ inl (ap (λ b. b || has x xs) a)
   | inr b ↦ elim (has_split x y xs b) [ inl c ↦ inl (or_right (x == z) (has x xs) c) | inr e ↦ inr e ]
 ]

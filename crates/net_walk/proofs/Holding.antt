@@ -1,5 +1,7 @@
 -- The nets of a cell that hold squares of a conductor.
 use Rattle.std.proofs.Common.{◌≡◌, ◌⊎◌, ◌↔◌, inl, inr, ℕ, zero, suc, ◌+◌, ◌<◌, ◌==◌, ◌||◌, Bool, true, false, List, [], ◌∷◌, ◌++◌, Some, slice_get, get_or, length, take, drop, refl, sym, ◌∙◌, ap, subst, arith, eqb-true, eq-eqb}
+use Rattle.base_laws.proofs.Lists.{none_set}
+use Rattle.std.proofs.lemmas.Bool.{or_cases, or_left, or_right}
 use Rattle.std.specs.Prelude.{replicate}
 use Rattle.std.proofs.Math.Decide.{ℕ_discrete}
 use Rattle.std.proofs.Math.Seq.{take-append_seam}
@@ -43,24 +45,12 @@ marks_both R S T old mid new h g r s t = record {
   );
 }
 
-either : (a b : Bool) → (a || b) ≡ true → (a ≡ true) ⊎ (b ≡ true)
-either true b h = inl refl
-either false b h = inr h
-
-or_left : (a b : Bool) → a ≡ true → (a || b) ≡ true
-or_left true b h = refl
-or_left false b h = let z : ⊥ = cc in absurd z
-
-or_right : (a b : Bool) → b ≡ true → (a || b) ≡ true
-or_right true b h = refl
-or_right false b h = h
-
 pub one_mark : (net_of : List ℕ) (item : ℕ) (old new : List Bool) → length new ≡ length old → ((x : ℕ) → get_or new x false ≡ ((x == get_or net_of item 0) || get_or old x false)) → AddsMarks (IsNumbered net_of item) old new
 one_mark net_of item old new long is = record {
   long = long;
   marked = λ x.
       let net = get_or net_of item 0 in (
-        (λ h. elim (either (x == net) (get_or old x false) (sym (is x) ∙ h)) [ inl a ↦ inr (sym (eqb-true x net a)) | inr b ↦ inl b ]),
+        (λ h. elim (or_cases (x == net) (get_or old x false) (sym (is x) ∙ h)) [ inl a ↦ inr (sym (eqb-true x net a)) | inr b ↦ inl b ]),
         (λ h. is x ∙ elim h as (λ _. ((x == net) || get_or old x false) ≡ true) [
           | inl a ↦ or_right (x == net) (get_or old x false) a
           | inr b ↦ or_left (x == net) (get_or old x false) (eq-eqb x net (sym b))
@@ -199,11 +189,6 @@ no_lists d t lists e p h at = let z : slice_get [] p ≡ Some h = subst (λ (l :
 
 -- ---- the walk
 
-all_false : (n x : ℕ) → get_or (replicate n false) x false ≡ false
-all_false zero x = refl
-all_false (suc n) zero = refl
-all_false (suc n) (suc x) = all_false n x
-
 pub written : (n : ℕ) (xs ys : List Bool) → length xs ≡ n → take n (xs ++ drop (length xs) ys) ≡ xs
 written n xs ys e = subst (λ (k : ℕ). take k (xs ++ drop (length xs) ys) ≡ xs) e (take-append_seam xs (drop (length xs) ys))
 
@@ -274,7 +259,7 @@ module _ (d : Design) (w : Wiring) (t : Tables) (cell : ℕ) (nets : AreNets d w
       long = h.long ∙ false_long (t.nets cell).count;
       marked = λ x. (
         (λ m. elim ((h.marked x).0 m) [
-          | inl a ↦ (let f = all_false (t.nets cell).count x in let z : ⊥ = cc in absurd z)
+          | inl a ↦ (let f = none_set (t.nets cell).count x in let z : ⊥ = cc in absurd z)
           | inr b ↦ own_some rects x b
         ]),
         (λ s. (h.marked x).1 (inr (some_own x s.square s.item s.in_net s.among s.holds))),

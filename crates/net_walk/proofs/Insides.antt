@@ -1,8 +1,9 @@
 -- Rectangles in windows, and under motions.
-use Rattle.std.proofs.Common.{◌≡◌, ℤ, pos, ◌-ℤ◌, ◌≤ℤ◌, ◌<ℤ◌, int_le, int_lt, Bool, true, false, ◌&&◌, Option, Some, None, IfSome, IfNone, refl, sym, ◌∙◌, subst, arith}
+use Rattle.std.proofs.Common.{◌≡◌, ℤ, pos, ◌-ℤ◌, ◌≤ℤ◌, ◌<ℤ◌, int_le, int_lt, true, ◌&&◌, Option, Some, None, IfSome, IfNone, sym, ◌∙◌, subst, arith}
+use Rattle.base_laws.proofs.Tests.{lt_from, lt_to, le_from, le_to}
 use Rattle.std.specs.Int.{int_min, int_max}
 use Rattle.std.proofs.lemmas.Int.{ints}
-use Rattle.std.proofs.lemmas.Bool.{false≢true}
+use Rattle.std.proofs.lemmas.Bool.{and_parts, and_from}
 use Rattle.flat_laws.proofs.Moves.{onto}
 use Rattle.flat_layout.specs.Plane.{IsIn}
 use Rattle.geo_base.specs.Motions.{moved_square}
@@ -13,29 +14,20 @@ use Rattle.geo_base.specs.declared.shapes.Rect.{Rect}
 use Rattle.geo_base.specs.declared.shapes.Square.{Square}
 use Rattle.net_link_laws.specs.Windows.{common}
 use Rattle.net_walk.specs.Walk.{IsInside, IsPartIn}
-use Rattle.touching_pieces.proofs.Sides.{lt_of, lt_to, le_of, le_to}
-
-and_split : (b c : Bool) → (b && c) ≡ true → (b ≡ true) × (c ≡ true)
-and_split true c e = (refl, e)
-and_split false c e = absurd (false≢true e)
-
-and_both : (b c : Bool) → b ≡ true → c ≡ true → (b && c) ≡ true
-and_both true c e f = f
-and_both false c e f = absurd (false≢true e)
 
 pub in_of : (r : Rect) (s : Square) → has r s ≡ true → IsIn s r
 in_of r s e =
-    let h = and_split (is_between r.x1 s.x r.x2) (is_between r.y1 s.y r.y2) e in
-    let x = and_split (int_le r.x1 s.x) (int_lt s.x r.x2) h.0 in
-    let y = and_split (int_le r.y1 s.y) (int_lt s.y r.y2) h.1 in
-    (le_of r.x1 s.x x.0, lt_of s.x r.x2 x.1, le_of r.y1 s.y y.0, lt_of s.y r.y2 y.1)
+    let h = and_parts (is_between r.x1 s.x r.x2) (is_between r.y1 s.y r.y2) e in
+    let x = and_parts (int_le r.x1 s.x) (int_lt s.x r.x2) h.0 in
+    let y = and_parts (int_le r.y1 s.y) (int_lt s.y r.y2) h.1 in
+    (le_from r.x1 s.x x.0, lt_from s.x r.x2 x.1, le_from r.y1 s.y y.0, lt_from s.y r.y2 y.1)
 
 pub in_to : (r : Rect) (s : Square) → IsIn s r → has r s ≡ true
 in_to r s (a, b, c, e) =
-    and_both (is_between r.x1 s.x r.x2) (is_between r.y1 s.y r.y2) (and_both (int_le r.x1 s.x) (int_lt s.x r.x2) (le_to r.x1 s.x a) (lt_to s.x r.x2 b)) (and_both (int_le r.y1 s.y) (int_lt s.y r.y2) (le_to r.y1 s.y c) (lt_to s.y r.y2 e))
+    and_from (is_between r.x1 s.x r.x2) (is_between r.y1 s.y r.y2) (and_from (int_le r.x1 s.x) (int_lt s.x r.x2) (le_to r.x1 s.x a) (lt_to s.x r.x2 b)) (and_from (int_le r.y1 s.y) (int_lt s.y r.y2) (le_to r.y1 s.y c) (lt_to s.y r.y2 e))
 
 pub rect_test : (r : Rect) → (int_lt r.x1 r.x2 && int_lt r.y1 r.y2) ≡ true → IsRect r
-rect_test r e = let h = and_split (int_lt r.x1 r.x2) (int_lt r.y1 r.y2) e in record { wide = lt_of r.x1 r.x2 h.0; high = lt_of r.y1 r.y2 h.1 }
+rect_test r e = let h = and_parts (int_lt r.x1 r.x2) (int_lt r.y1 r.y2) e in record { wide = lt_from r.x1 r.x2 h.0; high = lt_from r.y1 r.y2 h.1 }
 
 max_left : (a b : ℤ) → a ≤ℤ int_max a b
 max_left a b = grind (arith, ints)

@@ -1,5 +1,6 @@
 -- The numbers below a count.
-use Rattle.std.proofs.Common.{◌≡◌, ◌∙◌, ◌<◌, ◌+◌, ◌++◌, ◌∷◌, [], ℕ, zero, suc, List, inr, length, get_or, ap, sym, arith}
+use Rattle.std.proofs.Common.{◌≡◌, ◌∙◌, ◌<◌, ◌+◌, ◌++◌, ◌∷◌, [], ℕ, suc, List, inr, length, get_or, ap, sym, arith}
+use Rattle.base_laws.proofs.Lists.{range_more}
 use Rattle.std.specs.List.{range_with_len}
 use Rattle.std.proofs.lemmas.List.FromFn.{get_or-range_with_len, length-range_with_len}
 use Rattle.std.proofs.lemmas.Option.{slice_get_within}
@@ -9,18 +10,12 @@ use Rattle.geo_base.specs.declared.shapes.Rect.{Rect}
 use Rattle.net_link_laws.specs.Places.{places_of}
 use Rattle.net_walk.specs.Windows.{AreAllNumbers, AreOwnNear, ArePlacesNear}
 
-counted : (a n : ℕ) → range_with_len a (suc n) ≡ range_with_len a n ++ (a + n) ∷ []
-counted a zero = let e : a ≡ a + 0 = omega arith in ap (λ k. k ∷ []) e
-counted a (suc n) =
-    let e : (a + 1) + n ≡ a + suc n = omega arith in
-    ap (λ (l : List ℕ). a ∷ l) (counted (a + 1) n) ∙ ap (λ k. a ∷ (range_with_len (a + 1) n ++ k ∷ [])) e
-
 -- one number more
 pub counted_more : (n k : ℕ) → k ≡ n → range_with_len 0 (n + 1) ≡ range_with_len 0 n ++ k ∷ []
 counted_more n k is =
     let e : suc n ≡ n + 1 = omega arith in
     let f : 0 + n ≡ k = omega (arith, is) in
-    ap (range_with_len 0) (sym e) ∙ counted 0 n ∙ ap (λ j. range_with_len 0 n ++ j ∷ []) f
+    ap (range_with_len 0) (sym e) ∙ range_more 0 n ∙ ap (λ j. range_with_len 0 n ++ j ∷ []) f
 
 pub numbers_all : (n : ℕ) (numbers : List ℕ) → numbers ≡ range_with_len 0 n → AreAllNumbers n numbers
 numbers_all n numbers e =

@@ -1,5 +1,6 @@
 -- A cell's own rectangles as a list of pieces: what stands where.
 use Rattle.std.proofs.Common.{◌≡◌, ◌⊎◌, inl, inr, ℕ, zero, suc, ◌+◌, ◌<◌, ◌≤◌, List, [], ◌∷◌, ◌++◌, Some, slice_get, get_or, length, take, refl, sym, ◌∙◌, ap, subst, arith}
+use Rattle.base_laws.proofs.Items.{get_left}
 use Rattle.std.proofs.Math.Decide.{ℕ_discrete}
 use Rattle.std.proofs.Math.Seq.{take-length}
 use Rattle.std.proofs.lemmas.List.{take_more, length-take-le}
@@ -20,11 +21,6 @@ nothing_behind (x ∷ xs) = ap (λ l. x ∷ l) (nothing_behind xs)
 pub behind_both : {A : Type 0} (xs ys zs : List A) → (xs ++ ys) ++ zs ≡ xs ++ (ys ++ zs)
 behind_both [] ys zs = refl
 behind_both (x ∷ xs) ys zs = ap (λ l. x ∷ l) (behind_both xs ys zs)
-
-pub get_left : {A : Type 0} (xs ys : List A) (i : ℕ) (x : A) → slice_get xs i ≡ Some x → slice_get (xs ++ ys) i ≡ Some x
-get_left [] ys i x h = cc
-get_left (y ∷ xs) ys zero x h = h
-get_left (y ∷ xs) ys (suc i) x h = get_left xs ys i x h
 
 pub get_right : {A : Type 0} (xs ys : List A) (i : ℕ) (y : A) → slice_get ys i ≡ Some y → slice_get (xs ++ ys) (length xs + i) ≡ Some y
 get_right [] ys i y h = let z : i ≡ 0 + i = omega arith in subst (λ j. slice_get ys j ≡ Some y) z h

@@ -1,5 +1,6 @@
 -- All links together, and where items stand.
 use Rattle.std.proofs.Common.{◌≡◌, inl, inr, ℕ, ◌+◌, ◌<◌, List, [], ◌∷◌, ◌++◌, Some, slice_get, length, refl, sym, ◌∙◌, ap, subst, arith}
+use Rattle.base_laws.proofs.Items.{get_left}
 use Rattle.std.proofs.Math.Decide.{ℕ_discrete}
 use Rattle.std.proofs.lemmas.Option.{get_or_from_slice_get}
 use Rattle.flat_laws.proofs.Items.{at_placed}
@@ -14,7 +15,7 @@ use Rattle.net_link_laws.specs.Found.{AreAllFound, IsFoundLink, Stands}
 use Rattle.touching_pieces.proofs.Chains.{one_of, one_on}
 use Rattle.touching_pieces.specs.Pairs.{AreOne}
 use Rattle.net_link_laws.specs.Places.{owned_before, nets_before, places_of}
-use Rattle.net_walk.proofs.Placing.{get_left, get_right}
+use Rattle.net_walk.proofs.Placing.{get_right}
 use Rattle.net_walk.specs.Beside.{AddsBeside, IsSquarePair}
 use Rattle.net_walk.specs.Globals.{AddsToGlobals, IsAny, IsGlobalPair, globals_at}
 use Rattle.net_walk.specs.Owned.{AreOwnLinks}

@@ -1,5 +1,6 @@
 -- One stream has one netlist.
 use Rattle.std.proofs.Common.{◌≡◌, ◌⊎◌, inl, inr, ℕ, zero, suc, ◌+◌, ◌-◌, ◌*◌, ◌^◌, ◌<◌, ◌≤◌, pos, Bool, true, List, [], ◌∷◌, ◌++◌, Option, Some, map, length, slice_get, refl, sym, ap, subst, ◌∙◌, arith}
+use Rattle.base_laws.proofs.Items.{one_list}
 use Rattle.std.proofs.lemmas.Bool.{cases_lt}
 use Rattle.std.proofs.Math.Nat.{mul-le-mul_right}
 use Rattle.cell_graph.specs.Laws.{LevelLaw, OrderLaw}
@@ -45,7 +46,6 @@ use Rattle.spice_laws.specs.Once.{OneTextLaw}
 use Rattle.spice_text.specs.Written.{IsWritten}
 use Rattle.table_laws.proofs.Circuited.{one_circuit}
 use Rattle.table_laws.proofs.Drawing.{one_drawn}
-use Rattle.table_laws.proofs.Pinned.{same_items}
 
 -- ---- the database unit
 
@@ -207,7 +207,7 @@ module _ (d : Linked) (r : Rules) (unit : ℕ) (sound : IsSound d) (s t : Tables
   pub same_netlist : one ≡ other
   same_netlist =
       ap (λ (cs : List Circuit). let n : Netlist = record { circuits = cs } in n)
-      (same_items one.circuits other.circuits (a.circuits.count ∙ ap (λ (cs : List ℕ). length cs) same_cells ∙ sym b.circuits.count) same_circuit)
+      (one_list one.circuits other.circuits (a.circuits.count ∙ ap (λ (cs : List ℕ). length cs) same_cells ∙ sym b.circuits.count) same_circuit)
 
   pub same_top : (top its_top : ℕ) → slice_get x.cells top ≡ Some d.top → slice_get y.cells its_top ≡ Some d.top → top ≡ its_top
   same_top top its_top here there =

@@ -1,12 +1,11 @@
 -- The classes of sound rules' devices are folded, show the kinds of the devices, and aren't empty.
-use Rattle.std.proofs.Common.{◌≡◌, ◌⊎◌, inl, inr, ℕ, zero, suc, ◌+◌, ◌<◌, ◌==◌, Bool, true, false, List, [], ◌∷◌, ◌++◌, map, length, Some, slice_get, refl, sym, ap, subst, ◌∙◌, arith}
-use Rattle.std.specs.Prelude.{◌&&◌, nat_le}
+use Rattle.std.proofs.Common.{◌≡◌, inl, inr, ℕ, ◌<◌, ◌==◌, true, false, List, [], ◌∷◌, map, length, refl, ap, subst, arith}
+use Rattle.base_laws.proofs.Items.{map_from}
+use Rattle.std.proofs.lemmas.Bool.{and_parts}
+use Rattle.std.specs.Prelude.{nat_le}
 use Rattle.std.specs.List.{list_all}
-use Rattle.std.specs.Char.{is_ascii_lowercase}
 use Rattle.std.proofs.lemmas.List.{length-map}
 use Rattle.net_names.specs.Folding.{folded_byte, folded_bytes}
-use Rattle.flat_layout.specs.Gates.{Rule}
-use Rattle.plain_netlist.proofs.Members.{from_map}
 use Rattle.plain_netlist.specs.Classes.{resistor_class, diode_class}
 use Rattle.rule_layers.specs.Meaning.{device_rule, device_rules, more_rule, mos_rules}
 use Rattle.rule_layers.proofs.Wired.{of_both}
@@ -21,16 +20,12 @@ use Rattle.spice_laws.proofs.GivenLemmas.{folded_fixed}
 use Rattle.spice_rows.specs.Params.{Transistor}
 use Rattle.spice_text.specs.Cards.{kind_of}
 
-both : (a b : Bool) → (a && b) ≡ true → (a ≡ true) × (b ≡ true)
-both true b e = (refl, e)
-both false b e = absurd cc
-
 some_bytes : (w : List ℕ) → is_string w ≡ true → 0 < length w
-some_bytes w e = let some = (both (nat_le 1 (length w)) (list_all is_printable w) e).0 in grind (arith, some)
+some_bytes w e = let some = (and_parts (nat_le 1 (length w)) (list_all is_printable w) e).0 in grind (arith, some)
 
 -- a printable byte that is folded is neither 1 nor 2
 high : (b : ℕ) → is_printable b ≡ true → 2 < folded_byte b
-high b e = let low = (both (nat_le 0x20 b) (nat_le b 0x7E) e).0 in grind (arith, low)
+high b e = let low = (and_parts (nat_le 0x20 b) (nat_le b 0x7E) e).0 in grind (arith, low)
 
 not_equal : (b k : ℕ) → k < b → (b == k) ≡ false
 not_equal b k lt = grind (arith, lt)
@@ -38,8 +33,8 @@ not_equal b k lt = grind (arith, lt)
 plain_kind : (w : List ℕ) → is_string w ≡ true → kind_of (folded_bytes w) ≡ Transistor
 plain_kind [] e = refl
 plain_kind (b ∷ bs) e =
-    let printed = (both (nat_le 1 (length (b ∷ bs))) (list_all is_printable (b ∷ bs)) e).1 in
-    let up = high b (both (is_printable b) (list_all is_printable bs) printed).0 in
+    let printed = (and_parts (nat_le 1 (length (b ∷ bs))) (list_all is_printable (b ∷ bs)) e).1 in
+    let up = high b (and_parts (is_printable b) (list_all is_printable bs) printed).0 in
     rw (not_equal (folded_byte b) 1 (omega (arith, up)), not_equal (folded_byte b) 2 up) refl
 
 folded_some : (w : List ℕ) → is_string w ≡ true → 0 < length (folded_bytes w)
@@ -55,9 +50,9 @@ more_classed r (more.Diode class p n ta tc) e = record { folded = ap (λ (x : Li
 pub classed : (r : Rules) → IsFormed r → AreClassed (device_rules r)
 classed r formed k u is = elim (of_both (mos_rules r) (map (more_rule r) r.more) k u is) [
   | inl g ↦
-      let m = from_map (device_rule r) r.devices k u g in
+      let m = map_from (device_rule r) r.devices k u g in
       subst IsClassed m.2 (mos_classed r m.0 (formed.strings k m.0 m.1))
   | inr (j, g) ↦
-      let m = from_map (more_rule r) r.more j u g in
+      let m = map_from (more_rule r) r.more j u g in
       subst IsClassed m.2 (more_classed r m.0 (formed.more_strings j m.0 m.1))
 ]

@@ -1,5 +1,5 @@
 -- What a netlist file shows of the flat layout.
-use Rattle.std.proofs.Common.{◌≡◌, ℕ, List, None, map, sym, ap, subst, ◌∙◌}
+use Rattle.std.proofs.Common.{ℕ, List, None, map, sym, ap, ◌∙◌}
 use Rattle.cell_graph.specs.Laws.{OrderLaw}
 use Rattle.cell_graph.specs.Linked.{height_at, plain}
 use Rattle.deep_flow.specs.Bad.{told_bad}
@@ -13,7 +13,6 @@ use Rattle.netlist_file.proofs.Classes.{classed}
 use Rattle.netlist_file.proofs.Showing.{all_bad, all_told, no_bad}
 use Rattle.netlist_file.proofs.Topmost.{last}
 use Rattle.rule_layers.specs.Meaning.{device_rules, wiring_of}
-use Rattle.rule_text.specs.Rules.{Rules}
 use Rattle.spice_laws.specs.Extracted.{ExtractedMeansLaw}
 use Rattle.spice_text.specs.Laws.{OneMeaningLaw}
 use Rattle.table_laws.specs.BadLaws.{BadListedLaw}

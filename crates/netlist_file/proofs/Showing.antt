@@ -9,7 +9,7 @@ use Rattle.geo_base.specs.Motions.{moved_square}
 use Rattle.flat_laws.proofs.Once.{gate_self}
 use Rattle.flat_laws.specs.FlatGates.{AreFlatGates, ShowsGate}
 use Rattle.flat_laws.specs.GateLaws.{SameGateLaw}
-use Rattle.flat_layout.specs.Gates.{Cause, InGate, IsBadGate, Rule, geometry}
+use Rattle.flat_layout.specs.Gates.{InGate, IsBadGate, Rule, geometry}
 use Rattle.flat_layout.specs.GateTables as flat
 use Rattle.flat_layout.specs.GateTables.{Bad, GateEntry, GateSquare, all_bad_gates}
 use Rattle.flat_layout.specs.Layers.{InFlat}
@@ -22,6 +22,7 @@ use Rattle.plain_netlist.specs.Lists.{IsListed}
 use Rattle.rule_layers.specs.Meaning.{device_rules}
 use Rattle.rule_text.specs.Rules.{Rules}
 use Rattle.table_laws.specs.BadLaws.{BadListedLaw, bad_entry}
+use Rattle.flat_layout.specs.declared.cause.GateCause.{GateCause}
 
 -- ---- paths and what they take
 
@@ -52,7 +53,7 @@ told_from r (x ∷ bs) b (inr h) = let k = told_from r bs b h in (k.0, inr k.1, 
 
 module _ (d : Design) (w : Wiring) (t : Tables) (r : Rules) (gates : ℕ → List GateEntry) (all : AreFlatGates d w t (device_rules r) gates) (same : SameGateLaw) where
   -- a bad gate of the flat top stands in a reached cell's list
-  pub found : (a : GateSquare) (why : Cause) → IsBadFlatGate d w (device_rules r) a why
+  pub found : (a : GateSquare) (why : GateCause) → IsBadFlatGate d w (device_rules r) a why
       → (b : flat.BadGate) × IsReached d b.cell × IsListed (bad_entry b) (gates b.cell) × IsToldAs d w r a why (told_bad r b)
   found a why x = by (all.found a.rule x.rule a.square x.is x.in_flat)
     where
@@ -77,7 +78,7 @@ module _ (d : Design) (w : Wiring) (t : Tables) (r : Rules) (gates : ℕ → Lis
           )
 
   -- and what stands there is one
-  pub seen : (b : flat.BadGate) → IsReached d b.cell → IsListed (bad_entry b) (gates b.cell) → (a : GateSquare) × (why : Cause) × IsBadFlatGate d w (device_rules r) a why × IsToldAs d w r a why (told_bad r b)
+  pub seen : (b : flat.BadGate) → IsReached d b.cell → IsListed (bad_entry b) (gates b.cell) → (a : GateSquare) × (why : GateCause) × IsBadFlatGate d w (device_rules r) a why × IsToldAs d w r a why (told_bad r b)
   seen b reached listed =
       let image = goes d d.top b.cell reached.path b.at.square reached.leads in
       let shows : ShowsGate d gates reached.path b.cell (bad_entry b) image.0 = record { listed = listed; takes = image.1 } in

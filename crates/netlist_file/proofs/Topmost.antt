@@ -1,5 +1,6 @@
 -- The top is the last of the cells with circuits.
 use Rattle.std.proofs.Common.{◌≡◌, ◌⊎◌, inl, inr, ℕ, suc, ◌<◌, ◌≤◌, List, [], ◌∷◌, Some, slice_get, length, arith}
+use Rattle.base_laws.proofs.Items.{item_at}
 use Rattle.std.proofs.lemmas.Bool.{cases_lt}
 use Rattle.std.proofs.lemmas.Option.{slice_get_within}
 use Rattle.flat_layout.specs.Circuits.{AreCircuitCells}
@@ -8,7 +9,7 @@ use Rattle.flat_layout.specs.Layout.{Design, Leads}
 use Rattle.flat_layout.specs.Order.{AreLevels, IsCellBefore}
 use Rattle.flat_laws.proofs.Planned.{lower}
 use Rattle.plain_netlist.proofs.Listing.{rising_at}
-use Rattle.plain_netlist.proofs.Members.{item_at, listed}
+use Rattle.plain_netlist.proofs.Members.{listed}
 
 -- no cell that the top reaches comes behind it
 not_behind : (d : Design) (level : ℕ → ℕ) (cell : ℕ) (path : List ℕ) → AreLevels d level → Leads d d.top path cell → IsCellBefore level d.top cell → ⊥

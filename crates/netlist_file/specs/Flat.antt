@@ -2,11 +2,11 @@
 -- it is the netlist of the flat layout.
 use Rattle.std.specs.Prelude.{◌≡◌, ◌↔◌, ℕ, suc, List, [], Option, None, Some, length, slice_get}
 use Rattle.cell_graph.specs.Linked.{plain}
-use Rattle.deep_flow.specs.Bad.{class_at, told_cause}
+use Rattle.deep_flow.specs.Bad.{class_at}
 use Rattle.deep_tables.specs.declared.gates.BadGate.{BadGate}
 use Rattle.flat_layout.specs.Circuits.{IsCircuitCell}
 use Rattle.flat_layout.specs.Expanded.{AreTablesRight, CircuitTables}
-use Rattle.flat_layout.specs.Gates.{Cause, IsBadGate, Rule}
+use Rattle.flat_layout.specs.Gates.{IsBadGate, Rule}
 use Rattle.flat_layout.specs.GateTables.{GateSquare}
 use Rattle.flat_layout.specs.Layers.{InFlat}
 use Rattle.flat_layout.specs.Layout.{Design, Takes}
@@ -25,10 +25,11 @@ use Rattle.rule_layers.specs.Meaning.{device_rules, wiring_of}
 use Rattle.rule_text.specs.Rules.{Rules}
 use Rattle.rule_text.specs.Sound.{IsSound}
 use Rattle.spice_text.specs.Means.{Means}
+use Rattle.flat_layout.specs.declared.cause.GateCause.{GateCause}
 
 -- a gate of the flat top, by one of its squares, that is bad for this cause
 pub record IsBadFlatGate (d : Design) (w : Wiring) (rules : List Rule) (a : GateSquare)
-    (cause : Cause) : Type 0 where
+    (cause : GateCause) : Type 0 where
   pub rule : Rule
   pub is : slice_get rules a.rule ≡ Some rule
   pub in_flat : InFlat d d.top rule.gate a.square
@@ -36,10 +37,10 @@ pub record IsBadFlatGate (d : Design) (w : Wiring) (rules : List Rule) (a : Gate
 
 -- a bad gate is told as this one: its class, as the rule file writes it, its cause, and, along some
 -- path of placements, one of its squares
-pub record IsToldAs (d : Design) (w : Wiring) (r : Rules) (a : GateSquare) (why : Cause)
+pub record IsToldAs (d : Design) (w : Wiring) (r : Rules) (a : GateSquare) (why : GateCause)
     (b : BadGate) : Type 0 where
   pub class : b.class ≡ class_at r a.rule
-  pub cause : b.cause ≡ told_cause why
+  pub cause : b.cause ≡ why
   pub path : List ℕ
   pub square : Square
   pub takes : Takes d d.top path b.cell b.least square
@@ -47,16 +48,16 @@ pub record IsToldAs (d : Design) (w : Wiring) (r : Rules) (a : GateSquare) (why 
 
 -- each bad gate of the flat top is told
 abbrev pub AreAllTold : Design → Wiring → Rules → List BadGate → Type 0
-AreAllTold d w r bad = (a : GateSquare) (why : Cause) → IsBadFlatGate d w (device_rules r) a why
+AreAllTold d w r bad = (a : GateSquare) (why : GateCause) → IsBadFlatGate d w (device_rules r) a why
     → (b : BadGate) × IsListed b bad × IsToldAs d w r a why b
 
 -- and nothing else is
 abbrev pub AreAllBad : Design → Wiring → Rules → List BadGate → Type 0
-AreAllBad d w r bad = (b : BadGate) → IsListed b bad → (a : GateSquare) × (why : Cause)
+AreAllBad d w r bad = (b : BadGate) → IsListed b bad → (a : GateSquare) × (why : GateCause)
     × IsBadFlatGate d w (device_rules r) a why × IsToldAs d w r a why b
 
 abbrev pub HasNoBadGate : Design → Wiring → List Rule → Type 0
-HasNoBadGate d w rules = (a : GateSquare) (cause : Cause) → IsBadFlatGate d w rules a cause → ⊥
+HasNoBadGate d w rules = (a : GateSquare) (cause : GateCause) → IsBadFlatGate d w rules a cause → ⊥
 
 -- The text means this netlist, and no other. Its circuits are those of the cells that the layout's
 -- top reaches, by the cells' own nets, gates and pins, and the last of them is the top's. This one

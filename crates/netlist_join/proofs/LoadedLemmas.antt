@@ -1,5 +1,6 @@
 -- What is told of loaded files.
 use Rattle.std.proofs.Common.{◌≡◌, ◌<◌, ◌≤◌, ℕ, suc, Bool, true, false, List, [], ◌∷◌, ◌++◌, length, refl, sym, ◌∙◌, ap, subst, append_assoc, arith}
+use Rattle.std.proofs.lemmas.Bool.{or_from, or_parts}
 use Rattle.std.specs.Prelude.{string_bytes, if◌then◌else◌, ◌||◌}
 use Rattle.std.specs.List.{list_any}
 use Rattle.std.specs.Str.{bytes_eq}
@@ -62,41 +63,30 @@ starts_on first all (p ∷ more) h =
     let s = starts_either all p (has_path all p) in
     starts_on first (with_path all p) more (h.0 ++ s.0, s.1 ∙ ap (λ (ps : List (List ℕ)). ps ++ s.0) h.1 ∙ append_assoc first h.0 s.0)
 
-left : (a b : Bool) → (a || b) ≡ false → a ≡ false
-left true b e = e
-left false b e = refl
-
-right : (a b : Bool) → (a || b) ≡ false → b ≡ false
-right true b e = absurd cc
-right false b e = e
-
-neither : (a b : Bool) → a ≡ false → b ≡ false → (a || b) ≡ false
-neither a b e f = ap (λ (x : Bool). x || b) e ∙ f
-
 -- a path of the second list stands in the first
 clash : List (List ℕ) → List (List ℕ) → Bool
 clash all paths = list_any (λ q. has_path all q) paths
 
 not_there : (all : List (List ℕ)) (p q : List ℕ) → has_path all q ≡ false → bytes_eq p q ≡ false → has_path (all ++ p ∷ []) q ≡ false
-not_there [] p q e f = neither (bytes_eq p q) false f refl
-not_there (x ∷ all) p q e f = neither (bytes_eq x q) (has_path (all ++ p ∷ []) q) (left (bytes_eq x q) (has_path all q) e) (not_there all p q (right (bytes_eq x q) (has_path all q) e) f)
+not_there [] p q e f = or_from (bytes_eq p q) false f refl
+not_there (x ∷ all) p q e f = or_from (bytes_eq x q) (has_path (all ++ p ∷ []) q) ((or_parts (bytes_eq x q) (has_path all q) e).0) (not_there all p q ((or_parts (bytes_eq x q) (has_path all q) e).1) f)
 
 no_clash : (all : List (List ℕ)) (p : List ℕ) (paths : List (List ℕ)) → clash all paths ≡ false → list_any (λ q. bytes_eq p q) paths ≡ false → clash (all ++ p ∷ []) paths ≡ false
 unfolding clash
 no_clash all p [] e f = refl
 no_clash all p (q ∷ paths) e f =
-    neither (has_path (all ++ p ∷ []) q) (list_any (λ r. has_path (all ++ p ∷ []) r) paths)
-    (not_there all p q (left (has_path all q) (list_any (λ r. has_path all r) paths) e) (left (bytes_eq p q) (list_any (λ r. bytes_eq p r) paths) f))
-    (no_clash all p paths (right (has_path all q) (list_any (λ r. has_path all r) paths) e) (right (bytes_eq p q) (list_any (λ r. bytes_eq p r) paths) f))
+    or_from (has_path (all ++ p ∷ []) q) (list_any (λ r. has_path (all ++ p ∷ []) r) paths)
+    (not_there all p q ((or_parts (has_path all q) (list_any (λ r. has_path all r) paths) e).0) ((or_parts (bytes_eq p q) (list_any (λ r. bytes_eq p r) paths) f).0))
+    (no_clash all p paths ((or_parts (has_path all q) (list_any (λ r. has_path all r) paths) e).1) ((or_parts (bytes_eq p q) (list_any (λ r. bytes_eq p r) paths) f).1))
 
 apart_from : (all paths : List (List ℕ)) → clash all paths ≡ false → has_twins paths ≡ false → with_paths all paths ≡ all ++ paths
 unfolding clash
 apart_from all [] e f = sym (append-nil all)
 apart_from all (p ∷ paths) e f =
-    ap (λ (ps : List (List ℕ)). with_paths ps paths) (path_new all p (left (has_path all p) (list_any (λ r. has_path all r) paths) e))
+    ap (λ (ps : List (List ℕ)). with_paths ps paths) (path_new all p ((or_parts (has_path all p) (list_any (λ r. has_path all r) paths) e).0))
     ∙ apart_from (all ++ p ∷ []) paths
-    (no_clash all p paths (right (has_path all p) (list_any (λ r. has_path all r) paths) e) (left (list_any (λ q. bytes_eq p q) paths) (has_twins paths) f))
-    (right (list_any (λ q. bytes_eq p q) paths) (has_twins paths) f)
+    (no_clash all p paths ((or_parts (has_path all p) (list_any (λ r. has_path all r) paths) e).1) ((or_parts (list_any (λ q. bytes_eq p q) paths) (has_twins paths) f).0))
+    ((or_parts (list_any (λ q. bytes_eq p q) paths) (has_twins paths) f).1)
     ∙ append_assoc all (p ∷ []) paths
 
 clear : (paths : List (List ℕ)) → clash [] paths ≡ false
@@ -119,17 +109,17 @@ from_before a b c NoMemory same quiet h = tt
 -- ---- different paths, and their number
 
 any_end : (p q : List ℕ) (paths : List (List ℕ)) → list_any (λ x. bytes_eq p x) paths ≡ false → bytes_eq p q ≡ false → list_any (λ x. bytes_eq p x) (paths ++ q ∷ []) ≡ false
-any_end p q [] e f = neither (bytes_eq p q) false f refl
+any_end p q [] e f = or_from (bytes_eq p q) false f refl
 any_end p q (x ∷ paths) e f =
-    neither (bytes_eq p x) (list_any (λ y. bytes_eq p y) (paths ++ q ∷ [])) (left (bytes_eq p x) (list_any (λ y. bytes_eq p y) paths) e)
-    (any_end p q paths (right (bytes_eq p x) (list_any (λ y. bytes_eq p y) paths) e) f)
+    or_from (bytes_eq p x) (list_any (λ y. bytes_eq p y) (paths ++ q ∷ [])) ((or_parts (bytes_eq p x) (list_any (λ y. bytes_eq p y) paths) e).0)
+    (any_end p q paths ((or_parts (bytes_eq p x) (list_any (λ y. bytes_eq p y) paths) e).1) f)
 
 no_twin : (paths : List (List ℕ)) (q : List ℕ) → has_twins paths ≡ false → has_path paths q ≡ false → has_twins (paths ++ q ∷ []) ≡ false
 no_twin [] q e f = refl
 no_twin (p ∷ paths) q e f =
-    neither (list_any (λ x. bytes_eq p x) (paths ++ q ∷ [])) (has_twins (paths ++ q ∷ []))
-    (any_end p q paths (left (list_any (λ x. bytes_eq p x) paths) (has_twins paths) e) (left (bytes_eq p q) (has_path paths q) f))
-    (no_twin paths q (right (list_any (λ x. bytes_eq p x) paths) (has_twins paths) e) (right (bytes_eq p q) (has_path paths q) f))
+    or_from (list_any (λ x. bytes_eq p x) (paths ++ q ∷ [])) (has_twins (paths ++ q ∷ []))
+    (any_end p q paths ((or_parts (list_any (λ x. bytes_eq p x) paths) (has_twins paths) e).0) ((or_parts (bytes_eq p q) (has_path paths q) f).0))
+    (no_twin paths q ((or_parts (list_any (λ x. bytes_eq p x) paths) (has_twins paths) e).1) ((or_parts (bytes_eq p q) (has_path paths q) f).1))
 
 apart_either : (paths : List (List ℕ)) (q : List ℕ) (b : Bool) → has_path paths q ≡ b → has_twins paths ≡ false → has_twins (if b then paths else paths ++ q ∷ []) ≡ false
 apart_either paths q true h e = e

@@ -1,21 +1,13 @@
 -- An escaped name is read as it stood.
-use Rattle.std.proofs.Common.{◌≡◌, ◌⊎◌, inl, inr, ℕ, Bool, true, false, List, [], ◌∷◌, ◌++◌, Option, Some, refl, sym, ap, subst, ◌∙◌, append_assoc, arith}
+use Rattle.std.proofs.Common.{◌≡◌, inl, inr, ℕ, Bool, true, false, List, [], ◌∷◌, ◌++◌, Option, Some, refl, sym, ap, subst, ◌∙◌, append_assoc, arith}
 use Rattle.std.specs.Prelude.{◌==◌, ◌||◌, if◌then◌else◌}
 use Rattle.std.proofs.lemmas.List.{append-nil}
-use Rattle.std.proofs.lemmas.Bool.{eqb-true}
+use Rattle.std.proofs.lemmas.Bool.{eqb-true, cases_Bool, or_parts}
 use Rattle.net_names.specs.Spells.{Spells, End, Itself, Behind, IsHexLetter, ReadAsSpelledLaw}
 use Rattle.spice_cards.specs.Tokens.{is_blank}
 use Rattle.netlist_lines.specs.Cleaning.{cleaned, spelled, Step}
 use Rattle.netlist_lines.specs.declared.cleaning.At.TheVariants.{Before, Escaped}
 use Rattle.netlist_laws.specs.Names.{spelled_all, has_blank, EscapedNameLaw}
-
-pub left : (a b : Bool) → (a || b) ≡ false → a ≡ false
-left true b e = e
-left false b e = refl
-
-pub right : (a b : Bool) → (a || b) ≡ false → b ≡ false
-right true b e = absurd cc
-right false b e = e
 
 pub some_to : (a b : List ℕ) → a ≡ b → (let o : Option (List ℕ) = Some a in o) ≡ Some b
 some_to a b e = ap (λ (x : List ℕ). let o : Option (List ℕ) = Some x in o) e
@@ -23,13 +15,9 @@ some_to a b e = ap (λ (x : List ℕ). let o : Option (List ℕ) = Some x in o) 
 kept : (made : List ℕ) (word : List ℕ) → has_blank word ≡ false → cleaned made Escaped word ≡ Some (made ++ spelled_all word)
 kept made [] h = some_to made (made ++ []) (sym (append-nil made))
 kept made (b ∷ bytes) h =
-    ap (λ (t : Bool). let s : Step = (if t then record { text = b ∷ []; at = Before } else record { text = spelled b; at = Escaped }) in cleaned (made ++ s.text) s.at bytes) (left (is_blank b) (has_blank bytes) h)
-    ∙ kept (made ++ spelled b) bytes (right (is_blank b) (has_blank bytes) h)
+    ap (λ (t : Bool). let s : Step = (if t then record { text = b ∷ []; at = Before } else record { text = spelled b; at = Escaped }) in cleaned (made ++ s.text) s.at bytes) ((or_parts (is_blank b) (has_blank bytes) h).0)
+    ∙ kept (made ++ spelled b) bytes ((or_parts (is_blank b) (has_blank bytes) h).1)
     ∙ some_to ((made ++ spelled b) ++ spelled_all bytes) (made ++ (spelled b ++ spelled_all bytes)) (append_assoc made (spelled b) (spelled_all bytes))
-
-cases : (t : Bool) → (t ≡ true) ⊎ (t ≡ false)
-cases true = inl refl
-cases false = inr refl
 
 backslash : IsHexLetter 0x5C → ⊥
 backslash (inl p) = omega arith
@@ -40,9 +28,9 @@ equals (inl p) = omega arith
 equals (inr q) = omega arith
 
 one : (b : ℕ) (text bytes : List ℕ) → Spells text bytes → Spells (spelled b ++ text) (b ∷ bytes)
-one b text bytes s = elim (cases (b == 0x5C)) [
+one b text bytes s = elim (cases_Bool (b == 0x5C)) [
   | inl e ↦ let is : b ≡ 0x5C = eqb-true b 0x5C e in subst (λ (x : ℕ). Spells (spelled x ++ text) (x ∷ bytes)) (sym is) (Behind 0x5C text bytes refl backslash s)
-  | inr f ↦ elim (cases (b == 0x3D)) [
+  | inr f ↦ elim (cases_Bool (b == 0x3D)) [
     | inl e ↦ let is : b ≡ 0x3D = eqb-true b 0x3D e in subst (λ (x : ℕ). Spells (spelled x ++ text) (x ∷ bytes)) (sym is) (Behind 0x3D text bytes refl equals s)
     | inr g ↦ plain f g
   ]

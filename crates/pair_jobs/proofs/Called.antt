@@ -1,7 +1,7 @@
 -- The pairs that a circuit calls, as an ascending list.
-use Rattle.std.proofs.Common.{◌≡◌, ℕ, ◌+◌, ◌<◌, ◌==◌, ◌||◌, Result, Ok, Err, IfOk, Bool, true, false, List, [], ◌∷◌, ◌++◌, map, length, get_or, slice_get, slice_index, Some, refl, sym, ◌∙◌, ap, subst, arith}
+use Rattle.std.proofs.Common.{◌≡◌, ℕ, ◌+◌, ◌<◌, ◌==◌, ◌||◌, Result, Ok, Err, IfOk, true, List, [], ◌∷◌, ◌++◌, map, length, get_or, slice_get, slice_index, Some, refl, sym, ◌∙◌, ap, subst, arith}
+use Rattle.base_laws.proofs.Tests.{turned_test, same_truth}
 use Rattle.std.proofs.Math.Decide.{ℕ_discrete}
-use Rattle.std.proofs.lemmas.Bool.Decides.{nat_tests}
 use Rattle.std.proofs.lemmas.List.{get_or_append_left, get_or_default, get_or_push, length-append, length-map}
 use Rattle.std.proofs.lemmas.List.Kept.{Contains-dedup_nat, Contains-from_dedup}
 use Rattle.std.proofs.lemmas.List.Sorted.{Contains-permutation, IsPermutation-sym}
@@ -25,13 +25,9 @@ use Rattle.net_model.specs.declared.netlist.Netlist.{Netlist as RowsNetlist}
 use Rattle.net_model.specs.declared.netlist.CallRow.{CallRow}
 use Rattle.pair_jobs.specs.Jobs.{AreCalled, AreCalledBelow, AreCalledJobs}
 
--- a call of the pair is found by either test
-same_test : (x y : ℕ) → (x == y) ≡ (y == x)
-same_test x y = grind (arith, nat_tests)
-
 pub has_calls : (q : ℕ) (rows : List CallRow) → has q (map (λ (r : CallRow). r.circuit) rows) ≡ list_any (λ (r : PlainCall). r.circuit == q) (map plain_call rows)
 has_calls q [] = refl
-has_calls q (r ∷ rows) = ap (λ t. t || has q (map (λ (s : CallRow). s.circuit) rows)) (same_test q r.circuit) ∙ ap (λ t. (r.circuit == q) || t) (has_calls q rows)
+has_calls q (r ∷ rows) = ap (λ t. t || has q (map (λ (s : CallRow). s.circuit) rows)) (turned_test q r.circuit) ∙ ap (λ t. (r.circuit == q) || t) (has_calls q rows)
 
 contained : (xs : List ℕ) (x : ℕ) → has x xs ≡ true → Contains xs x
 contained xs x h = let p = place_of xs x h in (p.0, p.1, get_or_default xs p.0 x 0 p.1 ∙ p.2)
@@ -39,14 +35,9 @@ contained xs x h = let p = place_of xs x h in (p.0, p.1, get_or_default xs p.0 x
 has_contained : (xs : List ℕ) (x : ℕ) → Contains xs x → has x xs ≡ true
 has_contained xs x c = subst (λ y. has y xs ≡ true) c.2 (item_has xs c.0 x c.1)
 
-both : (a b : Bool) → (a ≡ true → b ≡ true) → (b ≡ true → a ≡ true) → a ≡ b
-both true b f g = sym (f refl)
-both false true f g = g refl
-both false false f g = refl
-
 -- sorted and each once, the numbers are the same
 pub has_once : (xs sorted : List ℕ) → IsPermutation xs sorted → (q : ℕ) → has q (dedup nat_eq sorted) ≡ has q xs
-has_once xs sorted p q = both (has q (dedup nat_eq sorted)) (has q xs)
+has_once xs sorted p q = same_truth (has q (dedup nat_eq sorted)) (has q xs)
     (λ h. has_contained xs q (Contains-permutation sorted xs q (IsPermutation-sym xs sorted p) (Contains-from_dedup nat_eq sorted q (contained (dedup nat_eq sorted) q h))))
     (λ h. has_contained (dedup nat_eq sorted) q (Contains-dedup_nat sorted q (Contains-permutation xs sorted q p (contained xs q h))))
 

@@ -1,6 +1,7 @@
 -- The lines by which circuits have no partner.
-use Rattle.std.proofs.Common.{◌≡◌, inl, inr, ℕ, ◌+◌, ◌<◌, ◌≤◌, List, [], ◌∷◌, ◌++◌, length, map, Bool, true, false, refl, sym, ap, subst, ◌∙◌, arith, true≢false}
-use Rattle.std.specs.Prelude.{◌&&◌, not, replicate}
+use Rattle.std.proofs.Common.{◌≡◌, inl, inr, ℕ, ◌+◌, ◌<◌, ◌≤◌, List, [], ◌∷◌, ◌++◌, length, map, true, false, sym, ap, subst, ◌∙◌, arith, true≢false}
+use Rattle.std.proofs.lemmas.Bool.{and_parts, not-true}
+use Rattle.std.specs.Prelude.{not, replicate}
 use Rattle.std.specs.List.{filter}
 use Rattle.std.proofs.lemmas.List.{length-append, length-map, length-replicate, map-append}
 use Rattle.std.proofs.lemmas.Simd.{map-map}
@@ -53,14 +54,6 @@ stranger_one : (most : ℕ) (a b : List ℕ) → folded_bytes (stranger most a) 
 stranger_one most a b e =
     let pad = replicate (most + 1) 0x2D in
     cancel (folded_bytes pad) (folded_bytes a) (folded_bytes b) (sym (map-append folded_byte pad a) ∙ e ∙ map-append folded_byte pad b)
-
-both_true : (a b : Bool) → (a && b) ≡ true → (a ≡ true) × (b ≡ true)
-both_true true b e = (refl, e)
-both_true false b e = absurd cc
-
-not_true : (b : Bool) → not b ≡ true → b ≡ false
-not_true true e = absurd cc
-not_true false e = refl
 
 -- where names stand among all names
 module _ (layout schematic : Netlist) (same : List (List ℕ × List ℕ)) (alone : Names) where
@@ -121,14 +114,14 @@ module _ (most : ℕ) (alone : Names) (layout schematic : Netlist) (same : List 
   left_free : (line : List ℕ × List ℕ) → IsListed line untouched → (name : List ℕ) → IsListed name alone.lefts → left_name line ≡ folded_bytes name → ⊥
   left_free line h name l e =
       let p = picked (is_untouched alone) same line h in
-      let free = not_true (has_name alone.lefts line.0) (both_true (not (has_name alone.lefts line.0)) _ p.1).0 in
+      let free = not-true (has_name alone.lefts line.0) (and_parts (not (has_name alone.lefts line.0)) _ p.1).0 in
       let there = found (folded_bytes line.0) (map folded_bytes alone.lefts) (subst (λ (q : List ℕ). IsListed q (map folded_bytes alone.lefts)) (sym e) (on_map folded_bytes alone.lefts name l)) in
       true≢false (sym there ∙ free)
 
   right_free : (line : List ℕ × List ℕ) → IsListed line untouched → (name : List ℕ) → IsListed name alone.rights → right_name line ≡ folded_bytes name → ⊥
   right_free line h name l e =
       let p = picked (is_untouched alone) same line h in
-      let free = not_true (has_name alone.rights line.1) (both_true (not (has_name alone.lefts line.0)) _ p.1).1 in
+      let free = not-true (has_name alone.rights line.1) (and_parts (not (has_name alone.lefts line.0)) _ p.1).1 in
       let there = found (folded_bytes line.1) (map folded_bytes alone.rights) (subst (λ (q : List ℕ). IsListed q (map folded_bytes alone.rights)) (sym e) (on_map folded_bytes alone.rights name l)) in
       true≢false (sym there ∙ free)
 

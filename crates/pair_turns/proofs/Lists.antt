@@ -1,5 +1,6 @@
 -- Lists without repeats, put together and picked from.
 use Rattle.std.proofs.Common.{◌≡◌, inl, inr, ℕ, zero, suc, ◌-◌, ◌≤◌, List, [], ◌∷◌, ◌++◌, length, map, take, drop, Bool, true, false, cond, refl, sym, ap, subst, ◌∙◌, arith}
+use Rattle.std.proofs.lemmas.Bool.{or_left, or_right}
 use Rattle.std.specs.Prelude.{◌||◌, replicate, slice_index_or}
 use Rattle.std.specs.List.{All, filter, list_any}
 use Rattle.std.specs.Str.{bytes_eq}
@@ -61,14 +62,6 @@ apart_through f g one (x ∷ xs) h = (
 )
 
 -- a text is found where it is listed
-
-or_left : (a b : Bool) → a ≡ true → (a || b) ≡ true
-or_left true b e = refl
-or_left false b e = absurd cc
-
-or_right : (a b : Bool) → b ≡ true → (a || b) ≡ true
-or_right true b e = refl
-or_right false b e = e
 
 pub found : (q : List ℕ) (names : List (List ℕ)) → IsListed q names → list_any (bytes_eq q) names ≡ true
 found q [] h = absurd h

@@ -1,5 +1,6 @@
 -- The circuits of good netlists: they call circuits that are there, and none calls itself.
 use Rattle.std.proofs.Common.{◌≡◌, ℕ, ◌<◌, ◌≤◌, zero, suc, List, length, map, Some, slice_get, get_or, option_map, refl, sym, ap, subst, ◌∙◌, arith}
+use Rattle.base_laws.proofs.Items.{item_at, map_to}
 use Rattle.std.specs.List.{All}
 use Rattle.std.proofs.lemmas.List.{length-map}
 use Rattle.std.proofs.lemmas.Option.{get_or_from_slice_get, slice_get-map, slice_get_read, slice_get_within}
@@ -14,7 +15,6 @@ use Rattle.plain_netlist.specs.Netlist.{Circuit as PlainCircuit, IsCall, IsCircu
 use Rattle.align_laws.specs.Partners.{AreSides}
 use Rattle.plain_netlist.specs.Sound.{CircuitCycle, IsGood}
 use Rattle.plain_netlist.proofs.Heights.{no_fault_in_good}
-use Rattle.plain_netlist.proofs.Members.{item_at, map_at}
 
 module _ (nl : PlainNetlist) (height : ℕ → ℕ) (good : IsGood nl height) where
   pub in_range : AreInRange (call_lists nl)
@@ -37,7 +37,7 @@ pub low_calls : (n : Netlist) (height : ℕ → ℕ) → IsGood (plain_netlist n
     → All (λ (r : CallRow). r.circuit < length n.circuits.items) x.calls.items
 low_calls n height good k x at j d lt =
     let row = item_at x.calls.items j lt in
-    let call : IsCall (plain_netlist n) k j (plain_call row.0) = (plain_circuit x, at, map_at plain_call x.calls.items j row.0 row.1) in
+    let call : IsCall (plain_netlist n) k j (plain_call row.0) = (plain_circuit x, at, map_to plain_call x.calls.items j row.0 row.1) in
     let there = good.called k j (plain_call row.0) call in
     let low = slice_get_within (map plain_circuit n.circuits.items) row.0.circuit there.0 there.1 in
     let long = length-map n.circuits.items plain_circuit in

@@ -1,5 +1,6 @@
 -- Sizes of circuits with others in them, found callees first.
 use Rattle.std.proofs.Common.{◌≡◌, ◌⊎◌, inl, inr, ℕ, zero, suc, ◌+◌, ◌<◌, ◌≤◌, List, [], ◌∷◌, length, take, Bool, false, cond, Some, slice_get, refl, sym, ap, subst, ◌∙◌, arith}
+use Rattle.base_laws.proofs.Items.{map_to}
 use Rattle.std.specs.Prelude.{replicate, slice_index_or, slice_set}
 use Rattle.std.specs.List.{All, sum_by}
 use Rattle.std.proofs.Math.Decide.{ℕ_discrete}
@@ -12,7 +13,7 @@ use Rattle.net_model.specs.Faults.{call_lists, called_by}
 use Rattle.plain_netlist.specs.Lists.{IsListed}
 use Rattle.plain_netlist.specs.Netlist.{CallRow, Circuit, Netlist, IsCircuit}
 use Rattle.plain_netlist.proofs.Listing.{apart_at}
-use Rattle.plain_netlist.proofs.Members.{listed, map_at, position}
+use Rattle.plain_netlist.proofs.Members.{listed, position}
 use Rattle.pair_turns.specs.Limit.{AreSizes, call_rows, capped, rows_of}
 use Rattle.pair_turns.proofs.Lists.{on_map}
 
@@ -62,7 +63,7 @@ rows_same goes sizes new c same = ap (λ (n : ℕ). capped (length c.devices + n
 -- a call is one of the lists
 called : (nl : Netlist) (a : ℕ) (c : Circuit) (r : CallRow) → IsCircuit nl a c → IsListed r c.calls → Calls (call_lists nl) a r.circuit
 called nl a c r is h =
-    let at = map_at called_by nl.circuits a c is in
+    let at = map_to called_by nl.circuits a c is in
     subst (λ (xs : List ℕ). IsListed r.circuit xs) (sym (get_or_from_slice_get (call_lists nl) a (called_by c) [] at)) (on_map (λ (s : CallRow). s.circuit) c.calls r h)
 
 -- what stands among the first i stands before place i

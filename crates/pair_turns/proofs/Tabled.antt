@@ -1,18 +1,11 @@
 -- Tables of names, found with their letters folded.
 use Rattle.std.proofs.Common.{◌≡◌, ℕ, List, [], ◌∷◌, ◌++◌, Bool, true, false, cond, refl, sym, ap, subst, ◌∙◌}
+use Rattle.base_laws.proofs.Tests.{or_false, or_assoc}
 use Rattle.std.specs.Prelude.{◌||◌}
 use Rattle.std.specs.Str.{bytes_eq}
 use Rattle.std.proofs.lemmas.List.Folds.{list_any-append}
 use Rattle.std.proofs.lemmas.Slice.Eq.{bytes_eq-Decides}
 use Rattle.text_table.specs.Texts.{has_text, with_text}
-
-or_false : (b : Bool) → (b || false) ≡ b
-or_false true = refl
-or_false false = refl
-
-or_apart : (a b c : Bool) → ((a || b) || c) ≡ (a || (b || c))
-or_apart true b c = refl
-or_apart false b c = refl
 
 -- what is found in a table with a text is the text, and what was found before
 pub with_found : (table : List (List ℕ)) (text other : List ℕ) → has_text (with_text table text) other ≡ (has_text table other || bytes_eq other text)
@@ -34,4 +27,4 @@ with_found table text other = step (has_text table text) refl
 pub name_more : (table : List (List ℕ)) (text other : List ℕ) (rest whole : Bool) → (has_text table other || (bytes_eq other text || rest)) ≡ whole
     → (has_text (with_text table text) other || rest) ≡ whole
 name_more table text other rest whole e =
-    ap (λ (b : Bool). b || rest) (with_found table text other) ∙ or_apart (has_text table other) (bytes_eq other text) rest ∙ e
+    ap (λ (b : Bool). b || rest) (with_found table text other) ∙ or_assoc (has_text table other) (bytes_eq other text) rest ∙ e

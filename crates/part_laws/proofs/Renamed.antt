@@ -1,10 +1,12 @@
 -- Agreeing by other names.
 use Rattle.std.proofs.Common.{◌≡◌, inl, inr, ℕ, zero, suc, ◌&&◌, ◌||◌, Bool, true, List, [], ◌∷◌, map, refl, sym, subst, ◌∙◌, ap, ap₂}
+use Rattle.base_laws.proofs.Tests.{same_truth}
+use Rattle.std.proofs.lemmas.Bool.{and_from}
 use Rattle.std.specs.List.{count_by}
 use Rattle.std.specs.Bool.{beq}
 use Rattle.plain_netlist.specs.Lists.{IsListed}
 use Rattle.round_laws.specs.Web.{Port, same_port, End, Web, IsWeb, IsNode, agree, fits, same_ends, Guess, names, alike_under, under}
-use Rattle.round_laws.proofs.Agree.{count_same, both, first, second, same_test, equivalence, under_web, ends_count, port_same}
+use Rattle.round_laws.proofs.Agree.{count_same, first, second, equivalence, under_web, ends_count, port_same}
 use Rattle.round_laws.proofs.Stable.{agreed_first, near_node}
 use Rattle.round_laws.proofs.Solved.{matched_counts, ends_equivalence}
 use Rattle.round_laws.proofs.Fast.{ends_same_in}
@@ -65,14 +67,14 @@ module _ {N M : Type 0} (w : Web N) (v : Web M) (name : N → M) (port : Port �
   fits_same a b i j t d e l m =
       let nd = near_node w good a i d l in
       let ne = near_node w good b j e m in
-      same_test _ _
+      same_truth _ _
       (λ s.
       let p : port d.port ≡ port e.port = (port_same (port d.port) (port e.port)).0 (first (same_port (port d.port) (port e.port)) _ s) in
       let r : agree w k d.node e.node ≡ true = sym (before d.node e.node nd ne) ∙ second (same_port (port d.port) (port e.port)) _ s in
-      both (same_port d.port e.port) _ ((port_same d.port e.port).1 (h.ports a b i j t d e l m (agreed_first w k d.node e.node r) p)) r)
+      and_from (same_port d.port e.port) _ ((port_same d.port e.port).1 (h.ports a b i j t d e l m (agreed_first w k d.node e.node r) p)) r)
       (λ s.
       let p : d.port ≡ e.port = (port_same d.port e.port).0 (first (same_port d.port e.port) _ s) in
-      both (same_port (port d.port) (port e.port)) _ ((port_same (port d.port) (port e.port)).1 (ap port p)) (before d.node e.node nd ne ∙ second (same_port d.port e.port) _ s))
+      and_from (same_port (port d.port) (port e.port)) _ ((port_same (port d.port) (port e.port)).1 (ap port p)) (before d.node e.node nd ne ∙ second (same_port d.port e.port) _ s))
 
   there_count : (a : N) → IsNode w a → (c : End N) (b : N) → IsNode w b → w.alike b a ≡ true → IsListed c (w.near b)
       → count_by (fits (agree v k) (renamed_end name port c)) (v.near (name a)) ≡ count_by (fits (agree w k) c) (w.near a)
@@ -102,13 +104,13 @@ pub agree_same : {N M : Type 0} (w : Web N) (v : Web M) (name : N → M) (port :
 agree_same w v name port good other h zero a b i j = h.alike a b i j
 agree_same w v name port good other h (suc k) a b i j =
     let before : agree v k (name a) (name b) ≡ agree w k a b = agree_same w v name port good other h k a b i j in
-    same_test _ _
+    same_truth _ _
     (λ s.
     let t : agree w k a b ≡ true = sym before ∙ first (agree v k (name a) (name b)) _ s in
-    both (agree w k a b) _ t (ends_back w v name port good other h k (agree_same w v name port good other h k) a b i j (agreed_first w k a b t) (second (agree v k (name a) (name b)) _ s)))
+    and_from (agree w k a b) _ t (ends_back w v name port good other h k (agree_same w v name port good other h k) a b i j (agreed_first w k a b t) (second (agree v k (name a) (name b)) _ s)))
     (λ s.
     let t : agree w k a b ≡ true = first (agree w k a b) _ s in
-    both (agree v k (name a) (name b)) _ (before ∙ t) (ends_forth w v name port good other h k (agree_same w v name port good other h k) a b i j (agreed_first w k a b t) (second (agree w k a b) _ s)))
+    and_from (agree v k (name a) (name b)) _ (before ∙ t) (ends_forth w v name port good other h k (agree_same w v name port good other h k) a b i j (agreed_first w k a b t) (second (agree w k a b) _ s)))
 
 pub renamed : {N M : Type 0} (w : Web N) (v : Web M) (name : N → M) (port : Port → Port) (gs : List (Guess N)) → IsWeb w → IsWeb v → IsRenamed w v name port → AreOfNodes w gs
     → (k : ℕ) (a b : N) → IsNode w a → IsNode w b → agree (under v (map (renamed_guess name) gs)) k (name a) (name b) ≡ agree (under w gs) k a b

@@ -4,11 +4,11 @@ use Rattle.std.specs.List.{count_by}
 use Rattle.std.specs.Bool.{beq}
 use Rattle.std.specs.Cmp.{IsEquivalence}
 use Rattle.std.proofs.Math.Decide.{ℕ_discrete}
-use Rattle.std.proofs.lemmas.Bool.{cases_lt}
+use Rattle.std.proofs.lemmas.Bool.{cases_lt, and_from}
 use Rattle.std.proofs.lemmas.Bool.Decides.{Decides-eqb}
 use Rattle.round_laws.specs.Web.{Port, same_port, End, Web, IsWeb, IsNode, agree, fits, same_ends, IsStable, IsEven, Guess, names, alike_under, under}
 use Rattle.round_laws.specs.Colours.{AreColours, SplitsBy}
-use Rattle.round_laws.proofs.Agree.{both, first, second, equivalence, under_web, ends_count, port_same}
+use Rattle.round_laws.proofs.Agree.{first, second, equivalence, under_web, ends_count, port_same}
 use Rattle.round_laws.proofs.Stable.{agreed_before, agreed_first, near_node, stays, finite, ends_alike}
 use Rattle.round_laws.proofs.Solved.{matched_counts, ends_equivalence, all_classes}
 use Rattle.round_laws.proofs.Fast.{ends_same_in}
@@ -48,7 +48,7 @@ always w k web stable a b i j t m = elim (cases_lt k m) [
 coarser : {N : Type 0} (f g : N → N → Bool) → IsEquivalence g → (c d e : End N) → fits f d e ≡ true → (f d.node e.node ≡ true → g d.node e.node ≡ true) → fits g c d ≡ fits g c e
 coarser f g eq c d e m finer =
     let fe = ends_equivalence g eq in
-    let o : fits g d e ≡ true = both (same_port d.port e.port) _ (first (same_port d.port e.port) _ m) (finer (second (same_port d.port e.port) _ m)) in
+    let o : fits g d e ≡ true = and_from (same_port d.port e.port) _ (first (same_port d.port e.port) _ m) (finer (second (same_port d.port e.port) _ m)) in
     fe.symm c d ∙ (fe.congr d e c o ∙ fe.symm e c)
 
 -- a guess more only parts further
@@ -58,7 +58,7 @@ less {N} w g (suc k) a b web i j t =
     let v : Web N = with_guess w g in
     let eq = equivalence v (under_web w (g ∷ []) web).alike k in
     let s : same_ends (agree v k) (w.near a) (w.near b) ≡ true = second (agree v k a b) _ t in
-    both (agree w k a b) _ (less w g k a b web i j (first (agree v k a b) _ t))
+    and_from (agree w k a b) _ (less w g k a b web i j (first (agree v k a b) _ t))
     (ends_same_in (agree w k) (w.near a) (w.near b) (λ c l.
     matched_counts (fits (agree v k)) (ends_equivalence (agree v k) eq) (fits (agree w k) c) (fits (agree w k) c) (w.near a) (w.near b)
     (ends_count (agree v k) eq (w.near a) (w.near b) s)
@@ -82,7 +82,7 @@ start w k g colour new web stable are singles = (
   (λ a b i j t. (singles a b i j).1 ((are a b i j).1 (less w g k a b web i j (t k)), beq_is (names w g a) (names w g b) (first (beq (names w g a) (names w g b)) (w.alike a b) (t 0)))),
   (λ a b i j e.
       let s = (singles a b i j).0 e in
-      both (beq (names w g a) (names w g b)) (w.alike a b) (is_beq (names w g a) (names w g b) s.1) (agreed_first w k a b ((are a b i j).0 s.0))),
+      and_from (beq (names w g a) (names w g b)) (w.alike a b) (is_beq (names w g a) (names w g b) s.1) (agreed_first w k a b ((are a b i j).0 s.0))),
 )
 
 pub step : {N : Type 0} (w : Web N) (colour new : N → ℕ) → IsWeb w → SplitsBy w w.near colour new → IsCoarse w colour → IsFine w colour → IsCoarse w new × IsFine w new
@@ -109,7 +109,7 @@ step {N} w colour new web splits coarse fine = (
 agrees : {N : Type 0} (w : Web N) (colour : N → ℕ) (j : ℕ) → IsWeb w → SplitsBy w w.near colour colour → IsFine w colour → (a b : N) → IsNode w a → IsNode w b → colour a ≡ colour b → agree w j a b ≡ true
 agrees w colour zero web fixed fine a b na nb e = fine a b na nb e
 agrees {N} w colour (suc j) web fixed fine a b na nb e =
-    both (agree w j a b) _ (agrees w colour j web fixed fine a b na nb e)
+    and_from (agree w j a b) _ (agrees w colour j web fixed fine a b na nb e)
     (ends_same_in (agree w j) (w.near a) (w.near b) (λ c l.
     matched_counts (fits (one colour)) (ends_equivalence (one colour) (one_equivalence colour)) (fits (agree w j) c) (fits (agree w j) c) (w.near a) (w.near b)
     (λ d. ((fixed a b na nb).0 e).1 d.port (colour d.node))

@@ -1,5 +1,6 @@
 -- Lists made item by item.
-use Rattle.std.proofs.Common.{◌≡◌, ℕ, suc, List, [], ◌∷◌, ◌++◌, map, refl, sym, ◌∙◌, ap, append_assoc}
+use Rattle.std.proofs.Common.{◌≡◌, ℕ, suc, List, [], ◌∷◌, ◌++◌, map, refl, ◌∙◌, ap}
+use Rattle.std.proofs.lemmas.Grind.{flat_map-append}
 use Rattle.std.specs.Prelude.{flat_map}
 use Rattle.std.proofs.lemmas.List.{map-append}
 use Rattle.align_laws.specs.Lists.{indexed, pieces}
@@ -12,13 +13,9 @@ pub map_pieces : {A B C : Type 0} (h : B → C) (f : ℕ → A → List B) (xs :
 map_pieces h f [] = refl
 map_pieces {C = C} h f (x ∷ xs) = map-append h (f 0 x) (pieces (λ k. f (suc k)) xs) ∙ ap (λ (ys : List C). map h (f 0 x) ++ ys) (map_pieces h (λ k. f (suc k)) xs)
 
-pub flat_both : {A B : Type 0} (f : A → List B) (xs ys : List A) → flat_map f (xs ++ ys) ≡ flat_map f xs ++ flat_map f ys
-flat_both f [] ys = refl
-flat_both {B = B} f (x ∷ xs) ys = ap (λ (t : List B). f x ++ t) (flat_both f xs ys) ∙ sym (append_assoc (f x) (flat_map f xs) (flat_map f ys))
-
 pub flat_pieces : {A B C : Type 0} (h : B → List C) (f : ℕ → A → List B) (xs : List A) → flat_map h (pieces f xs) ≡ pieces (λ k x. flat_map h (f k x)) xs
 flat_pieces h f [] = refl
-flat_pieces {C = C} h f (x ∷ xs) = flat_both h (f 0 x) (pieces (λ k. f (suc k)) xs) ∙ ap (λ (ys : List C). flat_map h (f 0 x) ++ ys) (flat_pieces h (λ k. f (suc k)) xs)
+flat_pieces {C = C} h f (x ∷ xs) = flat_map-append h (f 0 x) (pieces (λ k. f (suc k)) xs) ∙ ap (λ (ys : List C). flat_map h (f 0 x) ++ ys) (flat_pieces h (λ k. f (suc k)) xs)
 
 pub map_same : {A : Type 0} (xs : List A) → map (λ (x : A). x) xs ≡ xs
 map_same [] = refl

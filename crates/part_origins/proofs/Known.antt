@@ -1,5 +1,6 @@
 -- What the code finds inside each circuit is what the definition says.
 use Rattle.std.proofs.Common.{◌≡◌, ℕ, zero, suc, ◌+◌, ◌<◌, Bool, false, List, [], ◌∷◌, ◌++◌, length, Some, None, slice_get, refl, sym, ◌∙◌, ap, subst, arith, length-append}
+use Rattle.base_laws.proofs.Items.{get_left, get_last}
 use Rattle.std.specs.Prelude.{slice_index_or}
 use Rattle.std.specs.List.{range_with_len}
 use Rattle.std.proofs.lemmas.List.FromFn.{length-range_with_len, get_or-range_with_len}
@@ -9,14 +10,9 @@ use Rattle.plain_netlist.specs.Netlist.{Circuit, Netlist, IsCircuit}
 use Rattle.plain_netlist.specs.Sound.{IsGood}
 use Rattle.align_laws.specs.Lists.{FlatCircuit, over, indexed, pieces, joined_place, own_net, inner_nets, given_of, AreFlat}
 use Rattle.align_laws.proofs.CutList.{given_is}
-use Rattle.align_laws.proofs.Pieces.{append_left}
 use Rattle.part_origins.specs.Inside.{PlainSpot, PlainInside, own_inside, inside_of, all_inside}
 use Rattle.part_origins.proofs.Spots.{Stood, own_spot, spots_by, there}
 use Rattle.part_origins.proofs.Tied.{AreTied, IsTied, IsKnown, IsLaid, over_is, all_tied}
-
-pub end_at : {A : Type 0} (xs : List A) (x : A) → slice_get (xs ++ x ∷ []) (length xs) ≡ Some x
-end_at [] x = refl
-end_at (y ∷ xs) x = end_at xs x
 
 indexed_long : {A B : Type 0} (f : ℕ → A → B) (xs : List A) → length (indexed f xs) ≡ length xs
 indexed_long f [] = refl
@@ -70,7 +66,7 @@ module _ (g f : Netlist) (goes_list : List Bool) (goes : ℕ → Bool) (same : (
       (λ i r at t. let l = good.lower c i r (given, is, at) in below r.circuit m l (omega arith)) in
       let new : PlainInside = inside_of goes_list known c x in
       let it : new ≡ inside_of goes_list known c given = ap (inside_of goes_list known c) e in
-      let put : slice_get (known ++ new ∷ []) c ≡ Some new = subst (λ (n : ℕ). slice_get (known ++ new ∷ []) n ≡ Some new) long (end_at known new) in
+      let put : slice_get (known ++ new ∷ []) c ≡ Some new = subst (λ (n : ℕ). slice_get (known ++ new ∷ []) n ≡ Some new) long (get_last known new) in
       record {
         inside = new;
         at = put;
@@ -84,7 +80,7 @@ module _ (g f : Netlist) (goes_list : List Bool) (goes : ℕ → Bool) (same : (
       }
 
   more_known : (known : List PlainInside) (x : PlainInside) (d m : ℕ) → Knows known d m → Knows (known ++ x ∷ []) d m
-  more_known known x d m k = record { inside = k.inside; at = append_left known (x ∷ []) d k.inside k.at; tied = k.tied; count_is = k.count_is }
+  more_known known x d m k = record { inside = k.inside; at = get_left known (x ∷ []) d k.inside k.at; tied = k.tied; count_is = k.count_is }
 
   pub all_known : (xs : List Circuit) (c : ℕ) (known : List PlainInside) → length known ≡ c → ((i : ℕ) (x : Circuit) → slice_get xs i ≡ Some x → IsCircuit g (c + i) x) → KnowsBelow known c
       → KnowsBelow (all_inside goes_list known c xs) (c + length xs)

@@ -1,5 +1,9 @@
 -- The flat nets that are kept, as the code reads them off, and their aligned numbers.
 use Rattle.std.proofs.Common.{◌≡◌, ◌⊎◌, inl, inr, ℕ, zero, suc, ◌<◌, ◌≤◌, ◌==◌, Bool, true, false, cond, List, [], ◌∷◌, ◌++◌, length, map, Option, Some, None, slice_get, refl, sym, ◌∙◌, ap, ap₂, subst, arith, append-nil}
+use Rattle.base_laws.proofs.Items.{map_to}
+use Rattle.base_laws.proofs.Tests.{same_truth}
+use Rattle.std.proofs.lemmas.Grind.{flat_map-append}
+use Rattle.std.proofs.lemmas.Bool.{cases_Bool}
 use Rattle.std.specs.Prelude.{flat_map, slice_index, slice_index_or, replicate, filter, is_some}
 use Rattle.std.specs.List.{list_any}
 use Rattle.std.proofs.lemmas.List.{map-append}
@@ -8,11 +12,10 @@ use Rattle.plain_netlist.specs.Lists.{IsListed}
 use Rattle.plain_netlist.specs.Netlist.{Pole, Source, Gate, Drain, Bulk, on, DeviceRow, CallRow, Circuit, Netlist, IsCircuit, IsCall, HasNet}
 use Rattle.plain_netlist.specs.Normal.{terminal_nets}
 use Rattle.plain_netlist.specs.Sound.{IsGood}
-use Rattle.plain_netlist.proofs.Members.{listed, position, map_at, in_left, in_right, in_all}
+use Rattle.plain_netlist.proofs.Members.{listed, position, in_left, in_right, in_all}
 use Rattle.align_laws.specs.Cut.{Alignment, held_pin, held_pins, cut, AreCut}
 use Rattle.align_laws.specs.Flat.{row_through, call_through}
 use Rattle.align_laws.specs.Lists.{DeviceAt, CallAt, over, indexed, pieces, joined_place, net_at_pin, given_of}
-use Rattle.align_laws.proofs.Anchor.{is_it}
 use Rattle.align_laws.proofs.Appear.{terminal_at, old_nets, kept_calls, appear, all_held, held_there}
 use Rattle.align_laws.proofs.CutList.{given_is}
 use Rattle.align_laws.proofs.Pieces.{append_right, piece_at, place_pin}
@@ -21,8 +24,7 @@ use Rattle.align_laws.proofs.Views.{keep, map_same_at}
 use Rattle.part_origins.specs.Inside.{PlainSpot}
 use Rattle.part_origins.specs.Kept.{set_all}
 use Rattle.part_origins.specs.Nets.{net_at, terminals_at, pins_or, pins_under, call_nets_at, spot_terminals, spot_calls, named_nets}
-use Rattle.part_origins.proofs.Joined.{flat_both}
-use Rattle.part_origins.proofs.Numbered.{among, has_listed, same_bool, past_end, long_set, long_none, set_in_none}
+use Rattle.part_origins.proofs.Numbered.{among, has_listed, past_end, long_set, long_none, set_in_none}
 use Rattle.part_origins.proofs.Parted.{Together}
 use Rattle.part_origins.proofs.Spots.{Stood, device_at, device_list, call_at, call_list}
 
@@ -82,7 +84,7 @@ module _ (g : Netlist) (height : ℕ → ℕ) (good : IsGood g height) where
       (ap (λ (c : ℕ). flat_map (terminals_at s.nets) (given_of g c).devices) is.circuit
       ∙ spot_devices (given_of g t.circuit).devices s t (λ m. m) (λ j d at pole. is.nets (on pole d) (net_low g s t (on pole d) is (good.within.devices t.circuit j d pole (given_of g t.circuit, is.there, at)))))
       (terminals_are ss ts tied.1)
-      ∙ (sym (flat_both terminal_nets (map row_at (device_list g t)) (map row_at (flat_map (device_list g) ts)))
+      ∙ (sym (flat_map-append terminal_nets (map row_at (device_list g t)) (map row_at (flat_map (device_list g) ts)))
       ∙ ap (flat_map terminal_nets) (sym (map-append row_at (device_list g t) (flat_map (device_list g) ts))))
 
 module _ (g f : Netlist) (w : Alignment) (goes : ℕ → Bool) (numbers : List (Option ℕ)) (held : List (List ℕ)) (tells : (c : ℕ) → slice_index_or numbers c None ≡ cond (w.kept c) (Some (w.number c)) None)
@@ -119,7 +121,7 @@ module _ (g f : Netlist) (w : Alignment) (goes : ℕ → Bool) (numbers : List (
       let first : List CallAt = cond (goes r.circuit) [] (call_at t (p 0) r ∷ []) in
       let rest : List CallAt = pieces (λ m r. cond (goes r.circuit) [] (call_at t (p (suc m)) r ∷ [])) rs in
       ap₂ (λ (x y : List ℕ). x ++ y) (one_call s t (p 0) r (w.kept r.circuit) (goes r.circuit) refl refl (h 0 r refl)) (spot_seen rs s t (λ m. p (suc m)) (λ m q e. h (suc m) q e))
-      ∙ (sym (flat_both (old_nets f w) (keep w.kept (map call_row first)) (keep w.kept (map call_row rest)))
+      ∙ (sym (flat_map-append (old_nets f w) (keep w.kept (map call_row first)) (keep w.kept (map call_row rest)))
       ∙ (ap (flat_map (old_nets f w)) (sym (keep_both w.kept (map call_row first) (map call_row rest)))
       ∙ ap (λ (z : List CallRow). flat_map (old_nets f w) (keep w.kept z)) (sym (map-append call_row first rest))))
 
@@ -133,7 +135,7 @@ module _ (g f : Netlist) (w : Alignment) (goes : ℕ → Bool) (numbers : List (
       ap₂ (λ (p q : List ℕ). p ++ q)
       (ap (λ (c : ℕ). flat_map (call_nets_at numbers held s.nets) (given_of g c).calls) one.0 ∙ spot_seen (given_of g t.circuit).calls s t (λ m. m) of.0)
       (calls_are_seen ss ts one.1 of.1)
-      ∙ (sym (flat_both (old_nets f w) (keep w.kept (map call_row (call_list g goes t))) (keep w.kept (map call_row (flat_map (call_list g goes) ts))))
+      ∙ (sym (flat_map-append (old_nets f w) (keep w.kept (map call_row (call_list g goes t))) (keep w.kept (map call_row (flat_map (call_list g goes) ts))))
       ∙ (ap (flat_map (old_nets f w)) (sym (keep_both w.kept (map call_row (call_list g goes t)) (map call_row (flat_map (call_list g goes) ts))))
       ∙ ap (λ (z : List CallRow). flat_map (old_nets f w) (keep w.kept z)) (sym (map-append call_row (call_list g goes t) (flat_map (call_list g goes) ts)))))
 
@@ -173,13 +175,13 @@ module _ (f o : Netlist) (w : Alignment) (are : AreCut f o w) (height : ℕ → 
         let num : inner ≡ p = good.pins row.circuit p inner pin in
         let q = position (held_pins f w row.circuit) inner (pin_listed row.circuit p inner pin.0 pin.1 pin.2 held) in
         let place : net_at_pin row.nets (λ m. 0) inner ≡ n = place_pin row.nets (λ m. 0) inner n (subst (λ (m : ℕ). slice_get row.nets m ≡ Some n) (sym num) net) in
-        let there = map_at (λ p. net_at_pin row.nets (λ m. 0) p) (held_pins f w row.circuit) q.0 inner q.1 in
+        let there = map_to (λ p. net_at_pin row.nets (λ m. 0) p) (held_pins f w row.circuit) q.0 inner q.1 in
         in_right (flat_map terminal_nets (given_of f c).devices) (flat_map (old_nets f w) (kept_calls f w c)) n
         (in_all (old_nets f w) (kept_calls f w c) row n (listed (kept_calls f w c) e.0 row e.1) (subst (λ (m : ℕ). IsListed m (old_nets f w row)) place (listed (old_nets f w row) q.0 (net_at_pin row.nets (λ m. 0) inner) there)))
   ]
 
   pub has_held : (n : ℕ) → list_any (λ (x : ℕ). n == x) named_old ≡ w.held c n
-  has_held n = same_bool (list_any (λ (x : ℕ). n == x) named_old) (w.held c n) (λ h. listed_held n (among n named_old h)) (λ h. has_listed n named_old (held_listed n h))
+  has_held n = same_truth (list_any (λ (x : ℕ). n == x) named_old) (w.held c n) (λ h. listed_held n (among n named_old h)) (λ h. has_listed n named_old (held_listed n h))
 
   pub table_at : (seen named : List ℕ) (count n : ℕ) → seen ≡ named_old → named ≡ named_nets (cut f w c) → count ≡ length (given_of f c).nets
       → slice_index_or (set_all (replicate count None) 0 seen named) n None ≡ cond (w.held c n) (Some (w.new c n)) None
@@ -187,13 +189,13 @@ module _ (f o : Netlist) (w : Alignment) (are : AreCut f o w) (height : ℕ → 
     | inl low ↦
         set_in_none seen named count n (w.new c) low (λ j m at.
         let old_at : slice_get named_old j ≡ Some m = subst (λ (z : List ℕ). slice_get z j ≡ Some m) s at in
-        let new_at : slice_get (map (w.new c) named_old) j ≡ Some (w.new c m) = map_at (w.new c) named_old j m old_at in
+        let new_at : slice_get (map (w.new c) named_old) j ≡ Some (w.new c m) = map_to (w.new c) named_old j m old_at in
         index_at named j (w.new c m) (subst (λ (z : List ℕ). slice_get z j ≡ Some (w.new c m)) (sym (e ∙ named_are)) new_at))
         ∙ ap (λ (b : Bool). cond b (Some (w.new c n)) None) (ap (λ (z : List ℕ). list_any (λ (x : ℕ). n == x) z) s ∙ has_held n)
     | inr high ↦
         let l = long_set seen named (replicate count None) 0 in
         let z = long_none count in
-        let unheld : w.held c n ≡ false = elim (is_it (w.held c n)) [
+        let unheld : w.held c n ≡ false = elim (cases_Bool (w.held c n)) [
           | inl t ↦
               let h = held_there f o w are height good c n kept t in
               let low : n < length (given_of f c).nets = subst (λ (x : Circuit). n < length x.nets) (sym (given_is f c h.0 h.1)) h.2 in
@@ -212,7 +214,7 @@ module _ (f o : Netlist) (w : Alignment) (are : AreCut f o w) (height : ℕ → 
   pub pins_held : (table : List (Option ℕ)) (pins : List ℕ) (p : ℕ → ℕ) → ((n : ℕ) → slice_index_or table n None ≡ cond (w.held c n) (Some (w.new c n)) None)
       → filter (λ n. is_some (slice_index_or table n None)) pins ≡ pieces (λ i n. held_pin f w c (p i) n) pins
   pins_held table [] p h = refl
-  pins_held table (n ∷ ns) p h = elim (is_it (w.held c n)) [
+  pins_held table (n ∷ ns) p h = elim (cases_Bool (w.held c n)) [
     | inl t ↦
         let is : is_some (slice_index_or table n None) ≡ true = ap (λ (o : Option ℕ). is_some o) (h n ∙ ap (λ (b : Bool). cond b (Some (w.new c n)) None) t) in
         rw is (ap (λ (z : List ℕ). n ∷ z) (pins_held table ns (λ i. p (suc i)) h) ∙ ap (λ (b : Bool). cond b (n ∷ []) [] ++ pieces (λ i m. held_pin f w c (p (suc i)) m) ns) (sym t))

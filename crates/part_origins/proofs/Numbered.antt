@@ -1,5 +1,7 @@
 -- Tables of numbers, and which circuits of a netlist an aligned one has.
 use Rattle.std.proofs.Common.{◌≡◌, ◌⊎◌, ◌↔◌, inl, inr, ℕ, zero, suc, ◌+◌, ◌<◌, ◌≤◌, ◌==◌, ◌&&◌, ◌||◌, not, Bool, true, false, cond, List, [], ◌∷◌, ◌++◌, length, map, Option, Some, None, slice_get, get_or, refl, sym, ◌∙◌, ap, subst, arith, length-append}
+use Rattle.base_laws.proofs.Items.{get_left, map_to, map_from}
+use Rattle.std.proofs.lemmas.Bool.{cases_Bool}
 use Rattle.std.specs.Prelude.{slice_index_or, slice_set, replicate}
 use Rattle.std.specs.List.{list_any}
 use Rattle.std.specs.Str.{bytes_eq}
@@ -12,10 +14,7 @@ use Rattle.std.proofs.lemmas.Slice.Eq.{bytes_eq-Decides}
 use Rattle.plain_netlist.specs.Lists.{IsListed}
 use Rattle.plain_netlist.specs.Netlist.{DeviceRow, CallRow, Circuit, Netlist, IsCircuit, IsCall, HasDevice}
 use Rattle.plain_netlist.specs.Sound.{IsGood, HasDevices}
-use Rattle.plain_netlist.proofs.Members.{map_at, from_map}
 use Rattle.text_table.specs.Texts.{has_text, place_of, with_text}
-use Rattle.align_laws.proofs.Anchor.{is_it}
-use Rattle.align_laws.proofs.Pieces.{append_left}
 use Rattle.part_origins.specs.Kept.{texts_from, set_all, is_kept, holds, holding, going}
 use Rattle.part_origins.specs.Origins.{AreNamedApart}
 use Rattle.part_origins.proofs.Tied.{over_is}
@@ -35,11 +34,6 @@ among n (x ∷ xs) h = elim (eqb_tells n x) [
 -- a list that isn't empty
 not_none : (n : ℕ) → not (suc n == 0) ≡ true
 not_none n = elim (eqb_tells (suc n) 0) [ inl k ↦ absurd (let e = k.1 in omega arith) | inr k ↦ ap not k.0 ]
-
-pub same_bool : (a b : Bool) → (a ≡ true → b ≡ true) → (b ≡ true → a ≡ true) → a ≡ b
-same_bool true b f g = sym (f refl)
-same_bool false true f g = g refl
-same_bool false false f g = refl
 
 -- a table with values set
 pub long_set : (ns values : List ℕ) (table : List (Option ℕ)) (i : ℕ) → length (set_all table i ns values) ≡ length table
@@ -101,7 +95,7 @@ name_of c = c.name
 
 missing : (q : List ℕ) (names : List (List ℕ)) → ((i : ℕ) → slice_get names i ≡ Some q → ⊥) → has_text names q ≡ false
 missing q [] none = refl
-missing q (x ∷ xs) none = elim (is_it (bytes_eq q x)) [
+missing q (x ∷ xs) none = elim (cases_Bool (bytes_eq q x)) [
   | inl t ↦ let same : q ≡ x = (bytes_eq-Decides q x).0 t in absurd (none 0 (ap Some (sym same)))
   | inr e ↦ rw e (missing q xs (λ i e. none (suc i) e))
 ]
@@ -117,7 +111,7 @@ all_texts [] before all e once = sym (append-nil-at before) ∙ e
     append-nil-at (x ∷ xs) = ap (λ (t : List (List ℕ)). x ∷ t) (append-nil-at xs)
 all_texts (c ∷ cs) before all e once =
     let fresh : has_text before c.name ≡ false = missing c.name before (λ i h.
-    let here : slice_get all i ≡ Some c.name = subst (λ (t : List (List ℕ)). slice_get t i ≡ Some c.name) e (append_left before (c.name ∷ map name_of cs) i c.name h) in
+    let here : slice_get all i ≡ Some c.name = subst (λ (t : List (List ℕ)). slice_get t i ≡ Some c.name) e (get_left before (c.name ∷ map name_of cs) i c.name h) in
     let place = over_is before 0 in
     let there : slice_get all (length before) ≡ Some c.name = subst (λ (t : List (List ℕ)). slice_get t (length before) ≡ Some c.name) e (at_end before c.name (map name_of cs)) in
     let same = once i (length before) c.name here there in
@@ -138,7 +132,7 @@ pub place_once : (names : List (List ℕ)) (i : ℕ) (name : List ℕ) → AreOn
 place_once names i name once h =
     let low = slice_get_within names i name h in
     position_or_len_is (bytes_eq name) names i [] (omega arith)
-    (λ k lower. elim (is_it (bytes_eq name (get_or names k []))) [
+    (λ k lower. elim (cases_Bool (bytes_eq name (get_or names k []))) [
       | inl t ↦
           let same : name ≡ get_or names k [] = (bytes_eq-Decides name (get_or names k [])).0 t in
           let at : slice_get names k ≡ Some (get_or names k []) = slice_get-get_or names k [] (omega arith) in
@@ -152,10 +146,10 @@ pub place_is : (g : Netlist) (c : ℕ) (x : Circuit) → AreNamedApart g → IsC
 place_is g c x apart is =
     let names = map name_of g.circuits in
     let once : AreOnce names = λ i j name p q.
-    let u = from_map name_of g.circuits i name p in
-    let v = from_map name_of g.circuits j name q in
+    let u = map_from name_of g.circuits i name p in
+    let v = map_from name_of g.circuits j name q in
     apart i j u.0 v.0 u.1 v.1 (u.2 ∙ sym v.2) in
-    ap (λ (t : List (List ℕ)). place_of t x.name) (all_texts g.circuits [] names refl once) ∙ place_once names c x.name once (map_at name_of g.circuits c x is)
+    ap (λ (t : List (List ℕ)). place_of t x.name) (all_texts g.circuits [] names refl once) ∙ place_once names c x.name once (map_to name_of g.circuits c x is)
 
 -- devices below
 module _ (g : Netlist) (good : IsGood g (λ k. k)) where
@@ -169,7 +163,7 @@ module _ (g : Netlist) (good : IsGood g (λ k. k)) where
   some_call : (marks : List Bool) (rs : List CallRow) → list_any (λ (r : CallRow). slice_index_or marks r.circuit false) rs ≡ true
       → (k : ℕ) × (r : CallRow) × (slice_get rs k ≡ Some r) × (slice_index_or marks r.circuit false ≡ true)
   some_call marks [] h = absurd cc
-  some_call marks (r ∷ rs) h = elim (is_it (slice_index_or marks r.circuit false)) [
+  some_call marks (r ∷ rs) h = elim (cases_Bool (slice_index_or marks r.circuit false)) [
     | inl t ↦ (0, r, refl, t)
     | inr e ↦ let q = some_call marks rs (let z : list_any (λ (s : CallRow). slice_index_or marks s.circuit false) (r ∷ rs) ≡ true = h in rw e at z) in (suc q.0, q.1, q.2, q.3)
   ]
@@ -177,7 +171,7 @@ module _ (g : Netlist) (good : IsGood g (λ k. k)) where
   call_some : (marks : List Bool) (rs : List CallRow) (k : ℕ) (r : CallRow) → slice_get rs k ≡ Some r → slice_index_or marks r.circuit false ≡ true → list_any (λ (s : CallRow). slice_index_or marks s.circuit false) rs ≡ true
   call_some marks [] k r at t = absurd (none-some r at)
   call_some marks (s ∷ rs) zero r at t = let e : s ≡ r = same_Some _ _ at in let u : slice_index_or marks s.circuit false ≡ true = ap (λ (z : CallRow). slice_index_or marks z.circuit false) e ∙ t in rw u refl
-  call_some marks (s ∷ rs) (suc k) r at t = elim (is_it (slice_index_or marks s.circuit false)) [ inl u ↦ rw u refl | inr u ↦ rw u (call_some marks rs k r at t) ]
+  call_some marks (s ∷ rs) (suc k) r at t = elim (cases_Bool (slice_index_or marks s.circuit false)) [ inl u ↦ rw u refl | inr u ↦ rw u (call_some marks rs k r at t) ]
 
   either_true : (a b : Bool) → (a || b) ≡ true → (a ≡ true) ⊎ (b ≡ true)
   either_true true b h = inl refl

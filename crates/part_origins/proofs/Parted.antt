@@ -1,5 +1,6 @@
 -- The parts that the code lists are from where the flat circuit's devices and calls are.
 use Rattle.std.proofs.Common.{◌≡◌, ℕ, suc, ◌+◌, Bool, true, false, cond, List, [], ◌∷◌, ◌++◌, length, map, Option, Some, slice_get, refl, sym, ◌∙◌, ap, ap₂, arith}
+use Rattle.std.proofs.lemmas.Grind.{flat_map-append}
 use Rattle.std.specs.Prelude.{flat_map}
 use Rattle.std.proofs.lemmas.List.{map-append}
 use Rattle.plain_netlist.specs.Netlist.{DeviceRow, CallRow, Netlist, Slot, slot}
@@ -9,7 +10,6 @@ use Rattle.part_origins.specs.Inside.{PlainSpot}
 use Rattle.part_origins.specs.Kept.{is_kept}
 use Rattle.part_origins.specs.Origins.{path_at, slot_of, way_of}
 use Rattle.part_origins.specs.Parts.{part, parts_from, device_parts, kept_from, call_parts}
-use Rattle.part_origins.proofs.Joined.{flat_both}
 use Rattle.part_origins.proofs.Spots.{Stood, device_at, device_list, call_at, call_list}
 
 -- the lists go together
@@ -73,7 +73,7 @@ module _ (g : Netlist) (all : List (List ℕ)) (numbers : List (Option ℕ)) (ke
       ∙ (ap₂ (λ (x y : List (List ℕ)). x ++ y)
       (ap (λ (b : Bool). map (way_of all) (cond b (part i j ∷ []) [])) (tells r.circuit) ∙ one_call i j r (p 0) t (kept r.circuit) (goes r.circuit) (let q = h 0 in omega arith) e refl refl)
       (spot_calls rs i (j + 1) (λ m. p (suc m)) t (λ m. let q = h (suc m) in omega arith) e)
-      ∙ sym (flat_both (λ (r : CallAt). cond (kept r.row.circuit) (r.way ∷ []) []) (cond (goes r.circuit) [] (call_at t (p 0) r ∷ [])) (pieces (λ m r. cond (goes r.circuit) [] (call_at t (p (suc m)) r ∷ [])) rs)))
+      ∙ sym (flat_map-append (λ (r : CallAt). cond (kept r.row.circuit) (r.way ∷ []) []) (cond (goes r.circuit) [] (call_at t (p 0) r ∷ [])) (pieces (λ m r. cond (goes r.circuit) [] (call_at t (p (suc m)) r ∷ [])) rs)))
 
   pub calls_from : (spots : List PlainSpot) (S : List Stood) (i : ℕ) → Together OnOne spots S → ((j : ℕ) (t : Stood) → slice_get S j ≡ Some t → path_at all (i + j) ≡ t.path)
       → map (way_of all) (call_parts g numbers i spots) ≡ kept_ways kept (flat_map (call_list g goes) S)
@@ -86,7 +86,7 @@ module _ (g : Netlist) (all : List (List ℕ)) (numbers : List (Option ℕ)) (ke
       ∙ (ap₂ (λ (p q : List (List ℕ)). p ++ q)
       (ap (λ (c : ℕ). map (way_of all) (kept_from numbers i 0 (given_of g c).calls)) tied.0 ∙ spot_calls (given_of g t.circuit).calls i 0 (λ m. m) t (λ m. omega arith) here)
       (calls_from ss ts (i + 1) tied.1 (λ j y e. ap (path_at all) (let q : (i + 1) + j ≡ i + suc j = omega arith in q) ∙ h (suc j) y e))
-      ∙ sym (flat_both (λ (r : CallAt). cond (kept r.row.circuit) (r.way ∷ []) []) (call_list g goes t) (flat_map (call_list g goes) ts)))
+      ∙ sym (flat_map-append (λ (r : CallAt). cond (kept r.row.circuit) (r.way ∷ []) []) (call_list g goes t) (flat_map (call_list g goes) ts)))
 
 -- the calls of the cut circuit come by these ways
 module _ (f : Netlist) (w : Alignment) (c : ℕ) (all : List CallAt) where

@@ -1,5 +1,8 @@
 -- The code's tables of an aligned netlist are what its alignment says.
-use Rattle.std.proofs.Common.{◌≡◌, ◌⊎◌, inl, inr, ℕ, zero, suc, ◌+◌, ◌<◌, ◌≤◌, ◌&&◌, ◌==◌, not, Bool, true, false, cond, List, [], ◌∷◌, length, Option, Some, None, slice_get, refl, sym, ◌∙◌, ap, ap₂, subst, arith}
+use Rattle.std.proofs.Common.{◌≡◌, inl, inr, ℕ, zero, suc, ◌+◌, ◌≤◌, ◌&&◌, ◌==◌, not, Bool, true, false, cond, List, [], ◌∷◌, length, Option, Some, None, slice_get, refl, sym, ◌∙◌, ap, ap₂, subst, arith}
+use Rattle.base_laws.proofs.Items.{item_at, map_to}
+use Rattle.base_laws.proofs.Tests.{same_truth}
+use Rattle.std.proofs.lemmas.Bool.{cases_Bool, and_parts, not-true, cases_lt}
 use Rattle.std.specs.Prelude.{slice_index_or, is_some, replicate}
 use Rattle.std.specs.List.{list_any, range_with_len}
 use Rattle.std.proofs.lemmas.List.{length-map}
@@ -7,31 +10,17 @@ use Rattle.std.proofs.lemmas.List.FromFn.{get_or-range_with_len}
 use Rattle.std.proofs.lemmas.Option.{same_Some, slice_get_within}
 use Rattle.plain_netlist.specs.Netlist.{DeviceRow, Circuit, Netlist, IsCircuit, HasDevice}
 use Rattle.plain_netlist.specs.Sound.{IsGood}
-use Rattle.plain_netlist.proofs.Members.{listed, position, map_at, item_at}
+use Rattle.plain_netlist.proofs.Members.{listed, position}
 use Rattle.text_table.specs.Texts.{place_of}
 use Rattle.align_laws.specs.Aligned.{IsAligned, HasOnlyKept}
 use Rattle.align_laws.specs.Cut.{Alignment, cut}
 use Rattle.align_laws.specs.Lists.{FlatCircuit, plain, given_of}
-use Rattle.align_laws.proofs.Anchor.{is_it}
 use Rattle.align_laws.proofs.CutList.{given_is, cut_is}
 use Rattle.align_laws.proofs.FlatGood.{flat_is_good}
 use Rattle.part_origins.specs.Kept.{texts_from, places_in, numbered, is_kept, holding, going}
 use Rattle.part_origins.specs.Origins.{AreNamedApart}
-use Rattle.part_origins.proofs.Numbered.{among, has_listed, same_bool, past_end, long_set, long_none, set_in_none, place_is, holding_tells, holding_long, going_at}
+use Rattle.part_origins.proofs.Numbered.{among, has_listed, past_end, long_set, long_none, set_in_none, place_is, holding_tells, holding_long, going_at}
 use Rattle.part_origins.proofs.Spots.{there}
-
-both_true : (a b : Bool) → (a && b) ≡ true → (a ≡ true) × (b ≡ true)
-both_true true b h = (refl, h)
-both_true false b h = absurd cc
-
-not_true : (b : Bool) → not b ≡ true → b ≡ false
-not_true true h = absurd cc
-not_true false h = refl
-
-low_or : (n m : ℕ) → (n < m) ⊎ (m ≤ n)
-low_or n zero = inr (omega arith)
-low_or zero (suc m) = inl (omega arith)
-low_or (suc n) (suc m) = elim (low_or n m) [ inl l ↦ inl (omega arith) | inr l ↦ inr (omega arith) ]
 
 module _ (g o : Netlist) (w : Alignment) (a : IsAligned g o w) (only : HasOnlyKept o w) (good : IsGood g (λ k. k)) (apart : AreNamedApart g) where
   abbrev pub flat : Netlist
@@ -84,7 +73,7 @@ module _ (g o : Netlist) (w : Alignment) (a : IsAligned g o w) (only : HasOnlyKe
         circuit = f.0;
         kept = f.1;
         number = f.2;
-        at = map_at (λ (y : Circuit). place_of (texts_from [] g.circuits) y.name) o.circuits j x is ∙ ap Some place;
+        at = map_to (λ (y : Circuit). place_of (texts_from [] g.circuits) y.name) o.circuits j x is ∙ ap Some place;
       }
 
   pub kept_at : (c : ℕ) → w.kept c ≡ true → slice_get kept_list (w.number c) ≡ Some c
@@ -102,12 +91,12 @@ module _ (g o : Netlist) (w : Alignment) (a : IsAligned g o w) (only : HasOnlyKe
       (subst (λ (n : ℕ). w.kept n ≡ true) same e.kept, subst (λ (n : ℕ). w.number n ≡ j) same e.number)
 
   has_kept : (c : ℕ) → list_any (λ (x : ℕ). c == x) kept_list ≡ w.kept c
-  has_kept c = same_bool (list_any (λ (x : ℕ). c == x) kept_list) (w.kept c)
+  has_kept c = same_truth (list_any (λ (x : ℕ). c == x) kept_list) (w.kept c)
       (λ h. let p = position kept_list c (among c kept_list h) in (entry_at p.0 c p.1).0)
       (λ h. has_listed c kept_list (listed kept_list (w.number c) c (kept_at c h)))
 
   pub numbers_at : (c : ℕ) → slice_index_or numbers c None ≡ cond (w.kept c) (Some (w.number c)) None
-  numbers_at c = elim (low_or c (length g.circuits)) [
+  numbers_at c = elim (cases_lt c (length g.circuits)) [
     | inl low ↦
         set_in_none kept_list (range_with_len 0 (length kept_list)) (length g.circuits) c w.number low (λ j m e.
         let lower = slice_get_within kept_list j m e in
@@ -116,7 +105,7 @@ module _ (g o : Netlist) (w : Alignment) (a : IsAligned g o w) (only : HasOnlyKe
     | inr high ↦
         let long = long_set kept_list (range_with_len 0 (length kept_list)) (replicate (length g.circuits) None) 0 in
         let none = long_none (length g.circuits) in
-        let unkept : w.kept c ≡ false = elim (is_it (w.kept c)) [
+        let unkept : w.kept c ≡ false = elim (cases_Bool (w.kept c)) [
           | inl t ↦ absurd (let low = slice_get_within g.circuits c (given_of g c) (given c t) in omega arith)
           | inr e ↦ e
         ] in
@@ -139,11 +128,11 @@ module _ (g o : Netlist) (w : Alignment) (a : IsAligned g o w) (only : HasOnlyKe
       let marks = holding [] g.circuits in
       let at : slice_index_or goes_list c false ≡ (not (w.kept c) && slice_index_or marks c false)
       = going_at numbers marks 0 c ∙ ap (λ (b : Bool). not b && slice_index_or marks c false) (ap (is_kept numbers) (let e : 0 + c ≡ c = omega arith in e) ∙ kept_is c) in
-      at ∙ same_bool (not (w.kept c) && slice_index_or marks c false) (a.goes c)
+      at ∙ same_truth (not (w.kept c) && slice_index_or marks c false) (a.goes c)
       (λ h.
-      let b = both_true (not (w.kept c)) (slice_index_or marks c false) h in
-      elim (low_or c (length g.circuits)) [
-        | inl low ↦ (a.going c).1 (not_true (w.kept c) b.0, (holding_tells g good c low).0 b.1)
+      let b = and_parts (not (w.kept c)) (slice_index_or marks c false) h in
+      elim (cases_lt c (length g.circuits)) [
+        | inl low ↦ (a.going c).1 (not-true (w.kept c) b.0, (holding_tells g good c low).0 b.1)
         | inr high ↦ absurd (past_marks marks c (let l = long in omega arith) b.1)
       ])
       (λ h.

@@ -1,5 +1,7 @@
 -- The circuits that stand inside flat ones, with their paths: what flat circuits have is what these have.
 use Rattle.std.proofs.Common.{◌≡◌, inl, inr, ℕ, zero, suc, ◌<◌, Bool, true, false, cond, List, [], ◌∷◌, ◌++◌, map, Some, slice_get, refl, sym, ◌∙◌, ap, ap₂, subst, arith}
+use Rattle.base_laws.proofs.Items.{map_to, map_from}
+use Rattle.std.proofs.lemmas.Bool.{cases_Bool}
 use Rattle.std.specs.Prelude.{flat_map}
 use Rattle.std.proofs.lemmas.List.{map-append}
 use Rattle.std.proofs.lemmas.Option.{none-some, same_Some}
@@ -7,11 +9,10 @@ use Rattle.std.proofs.lemmas.Simd.{map-map}
 use Rattle.plain_netlist.specs.Lists.{IsListed}
 use Rattle.plain_netlist.specs.Netlist.{DeviceRow, CallRow, Circuit, Netlist, IsCircuit, IsCall, Slot, slot}
 use Rattle.plain_netlist.specs.Sound.{IsGood, IsCallPath}
-use Rattle.plain_netlist.proofs.Members.{listed, position, map_at, from_map}
+use Rattle.plain_netlist.proofs.Members.{listed, position}
 use Rattle.align_laws.specs.Flat.{Placing, CallFate, Stays, Goes, Maps, step, image, placed_net, net_image, row_through, call_through}
 use Rattle.align_laws.specs.Lists.{DeviceAt, CallAt, FlatCircuit, indexed, pieces, joined_place, device_below, call_below, own_device, inner_devices, own_calls, inner_calls, net_in, given_of, row_of, placing_of, maps_of, AreFlat}
 use Rattle.align_laws.specs.Words.{IsInside}
-use Rattle.align_laws.proofs.Anchor.{is_it}
 use Rattle.align_laws.proofs.CutList.{given_is, row_is}
 use Rattle.align_laws.proofs.Listed.{fate_goes}
 use Rattle.align_laws.proofs.Pieces.{piece_at, piece_of}
@@ -105,10 +106,10 @@ module _ (g : Netlist) (goes : ℕ → Bool) (flats : ℕ → FlatCircuit) where
   brought_by S c q s h =
       let p = piece_of (inner_spots S c) (given_of g c).calls q s h in
       let to : ℕ → ℕ = net_in goes flats (given_of g c) p.item p.of in
-      elim (is_it (goes p.of.circuit)) [
+      elim (cases_Bool (goes p.of.circuit)) [
         | inl t ↦
             let item : slice_get (map (below_spot p.item to) (S p.of.circuit)) p.number ≡ Some s = subst (λ (b : Bool). slice_get (cond b (map (below_spot p.item to) (S p.of.circuit)) []) p.number ≡ Some s) t p.at in
-            let o = from_map (below_spot p.item to) (S p.of.circuit) p.number s item in
+            let o = map_from (below_spot p.item to) (S p.of.circuit) p.number s item in
             record { call = p.item; row = p.of; is = p.is; gone = t; number = p.number; old = o.0; at = o.1; brought = o.2; place = p.there }
         | inr t ↦ absurd (none-some s (subst (λ (b : Bool). slice_get (cond b (map (below_spot p.item to) (S p.of.circuit)) []) p.number ≡ Some s) t p.at))
       ]
@@ -118,7 +119,7 @@ module _ (g : Netlist) (goes : ℕ → Bool) (flats : ℕ → FlatCircuit) where
   bring S c k r s at t h =
       let to : ℕ → ℕ = net_in goes flats (given_of g c) k r in
       let p = position (S r.circuit) s h in
-      let one : slice_get (inner_spots S c k r) p.0 ≡ Some (below_spot k to s) = subst (λ (b : Bool). slice_get (cond b (map (below_spot k to) (S r.circuit)) []) p.0 ≡ Some (below_spot k to s)) (sym t) (map_at (below_spot k to) (S r.circuit) p.0 s p.1) in
+      let one : slice_get (inner_spots S c k r) p.0 ≡ Some (below_spot k to s) = subst (λ (b : Bool). slice_get (cond b (map (below_spot k to) (S r.circuit)) []) p.0 ≡ Some (below_spot k to s)) (sym t) (map_to (below_spot k to) (S r.circuit) p.0 s p.1) in
       listed (pieces (inner_spots S c) (given_of g c).calls) (joined_place (inner_spots S c) (given_of g c).calls k p.0) (below_spot k to s)
       (piece_at (inner_spots S c) (given_of g c).calls k p.0 r (below_spot k to s) at one)
 
@@ -203,7 +204,7 @@ module _ (g f : Netlist) (goes : ℕ → Bool) (flats : ℕ → FlatCircuit) (go
   found (k ∷ ks) (suc m) c low is (r, call, i, fate, h) =
       let at : slice_get (given_of g c).calls k ≡ Some r = subst (λ (z : Circuit). slice_get z.calls k ≡ Some r) (sym (given_is g c call.0 call.1)) call.2 in
       let row : row_of g c k ≡ r = row_is g c k r call in
-      elim (is_it (goes r.circuit)) [
+      elim (cases_Bool (goes r.circuit)) [
         | inl t ↦
             let s = found ks m r.circuit (lower m c k r low is at) (called c k r is at) h in
             (below_spot k (net_in goes flats (given_of g c) k r) s.0, inr (bring g goes flats (spots m) c k r s.0 at t s.1), ap (λ (p : List ℕ). k ∷ p) s.2)

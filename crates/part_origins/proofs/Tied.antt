@@ -1,13 +1,13 @@
 -- The spots that the code makes are those of the definition.
 use Rattle.std.proofs.Common.{◌≡◌, inl, inr, ℕ, zero, suc, ◌+◌, ◌-◌, ◌<◌, Bool, true, false, cond, List, [], ◌∷◌, ◌++◌, length, map, Option, Some, None, slice_get, slice_index, refl, sym, ◌∙◌, ap, ap₂, subst, arith, length-append, append-nil, append_assoc}
+use Rattle.base_laws.proofs.Items.{get_left, map_to, map_from}
 use Rattle.std.proofs.Math.Path.{fun_ext}
 use Rattle.std.proofs.lemmas.List.{length-map}
 use Rattle.std.proofs.lemmas.Option.{slice_get_within}
 use Rattle.std.specs.Prelude.{slice_index_or}
 use Rattle.plain_netlist.specs.Netlist.{CallRow, Netlist}
-use Rattle.plain_netlist.proofs.Members.{map_at, from_map}
 use Rattle.align_laws.specs.Lists.{NetAt, FlatCircuit, over, pieces, joined_place, past, net_at_pin, net_below, given_of}
-use Rattle.align_laws.proofs.Pieces.{append_left, append_right, append_cases}
+use Rattle.align_laws.proofs.Pieces.{append_right, append_cases}
 use Rattle.part_origins.specs.Inside.{PlainSpot, PlainInside, moved_by, moved_spot, laid, laid_there, laid_if, all_laid}
 use Rattle.part_origins.specs.declared.inside.Part.{Part}
 use Rattle.part_origins.proofs.Spots.{Stood, below_spot}
@@ -48,22 +48,22 @@ pub record Head (S : List Stood) : Type 0 where
   pub empty : first.path ≡ []
 
 head_more : (S T : List Stood) → Head S → Head (S ++ T)
-head_more S T h = record { first = h.first; at = append_left S T 0 h.first h.at; empty = h.empty }
+head_more S T h = record { first = h.first; at = get_left S T 0 h.first h.at; empty = h.empty }
 
 by_more : (S T : List Stood) (i : ℕ) (b : Option Part) (path : List ℕ) → IsBy S i b path → IsBy (S ++ T) i b path
 by_more S T i None path h = h
-by_more S T i (Some p) path h = (h.0, append_left S T p.spot h.0 h.1, h.2, h.3)
+by_more S T i (Some p) path h = (h.0, get_left S T p.spot h.0 h.1, h.2, h.3)
 
 -- behind base spots, brought by call k
 by_moved : (S T : List Stood) (base k i : ℕ) (to : ℕ → ℕ) (b : Option Part) (path : List ℕ) → Head S → length S ≡ base → 1 < suc base + i → IsBy T i b path
     → IsBy (S ++ map (below_spot k to) T) (base + i) (Some (moved_by k base b)) (k ∷ path)
 by_moved S T base k i to None path h e low is =
     let at = slice_get_within S 0 h.first h.at in
-    (h.first, append_left S (map (below_spot k to) T) 0 h.first h.at, omega arith, ap₂ (λ (p q : List ℕ). p ++ k ∷ q) h.empty (sym is))
+    (h.first, get_left S (map (below_spot k to) T) 0 h.first h.at, omega arith, ap₂ (λ (p q : List ℕ). p ++ k ∷ q) h.empty (sym is))
 by_moved S T base k i to (Some p) path h e low is =
     let o = over_is S p.spot in
     let place : over S p.spot ≡ base + p.spot = omega arith in
-    let at = append_right S (map (below_spot k to) T) p.spot (below_spot k to is.0) (map_at (below_spot k to) T p.spot is.0 is.1) in
+    let at = append_right S (map (below_spot k to) T) p.spot (below_spot k to is.0) (map_to (below_spot k to) T p.spot is.0 is.1) in
     let lower = is.2 in
     (below_spot k to is.0, subst (λ (n : ℕ). slice_get (S ++ map (below_spot k to) T) n ≡ Some (below_spot k to is.0)) place at, omega arith, ap (λ (q : List ℕ). k ∷ q) is.3)
 
@@ -98,8 +98,8 @@ module _ (g : Netlist) where
       | inr l ↦ elim (append_cases S (map (below_spot k to) T) i t q) [
         | inl r ↦ absurd (let low = slice_get_within S i t r in let o = over_is xs l.0 in let e = l.2 in let long = a.long in omega arith)
         | inr r ↦
-            let u = from_map (moved_spot k (length xs) to) ys l.0 s l.1 in
-            let w = from_map (below_spot k to) T r.0 t r.1 in
+            let u = map_from (moved_spot k (length xs) to) ys l.0 s l.1 in
+            let w = map_from (below_spot k to) T r.0 t r.1 in
             let o = over_is xs l.0 in
             let z = over_is S r.0 in
             let same : r.0 ≡ l.0 = let e = l.2 in let d = r.2 in let long = a.long in omega arith in

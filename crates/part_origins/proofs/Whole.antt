@@ -1,5 +1,7 @@
 -- The origins that the code makes are those of the definition.
 use Rattle.std.proofs.Common.{◌≡◌, inl, inr, ℕ, zero, suc, ◌+◌, ◌<◌, Bool, true, false, cond, List, [], ◌∷◌, ◌++◌, length, map, Option, Some, None, slice_get, refl, sym, ◌∙◌, ap, ap₂, subst, arith, length-append}
+use Rattle.base_laws.proofs.Items.{get_left, get_last, map_to, map_from}
+use Rattle.std.proofs.lemmas.Bool.{cases_Bool}
 use Rattle.std.specs.Prelude.{flat_map, slice_index_or}
 use Rattle.std.proofs.Math.Decide.{ℕ_discrete}
 use Rattle.std.proofs.lemmas.List.{length-map}
@@ -9,16 +11,15 @@ use Rattle.plain_netlist.specs.Netlist.{CallRow, Circuit, Netlist, IsCircuit, Is
 use Rattle.plain_netlist.specs.Normal.{terminal_nets}
 use Rattle.plain_netlist.specs.Sound.{IsGood, IsCallPath}
 use Rattle.plain_netlist.proofs.Listing.{at_apart}
-use Rattle.plain_netlist.proofs.Members.{listed, position, map_at, from_map, in_all}
+use Rattle.plain_netlist.proofs.Members.{listed, position, in_all}
 use Rattle.align_laws.specs.Aligned.{IsAligned, HasOnlyKept}
 use Rattle.align_laws.specs.Cut.{Alignment, CutCall, held_pin, held_pins, cut_row, cut_call, cut_calls, cut}
 use Rattle.align_laws.specs.Flat.{call_through, net_image}
 use Rattle.align_laws.specs.Lists.{DeviceAt, CallAt, FlatCircuit, pieces, joined_place, given_of, plain, maps_of, way_or}
 use Rattle.align_laws.specs.Words.{IsInside}
-use Rattle.align_laws.proofs.Anchor.{is_it}
 use Rattle.align_laws.proofs.Appear.{old_nets, call_pin}
 use Rattle.align_laws.proofs.CutList.{given_is, cut_is}
-use Rattle.align_laws.proofs.Pieces.{append_left, piece_at}
+use Rattle.align_laws.proofs.Pieces.{piece_at}
 use Rattle.align_laws.proofs.Views.{keep}
 use Rattle.part_origins.specs.Inside.{PlainInside, PlainSpot, all_inside}
 use Rattle.part_origins.specs.Kept.{numbered, places_in, texts_from}
@@ -27,7 +28,7 @@ use Rattle.part_origins.specs.Nets.{net_at, seen_nets, named_nets}
 use Rattle.part_origins.specs.Origins.{AreNamedApart, IsPathBy, path_at, AreOrigins, HaveOrigins}
 use Rattle.part_origins.specs.Parts.{device_parts, call_parts}
 use Rattle.part_origins.specs.declared.inside.Part.{Part}
-use Rattle.part_origins.proofs.Known.{end_at, known_all}
+use Rattle.part_origins.proofs.Known.{known_all}
 use Rattle.part_origins.proofs.Netted.{IsSpotOf, IsCallOf, index_at, terminals_are, calls_are_seen, named_old, table_at, pins_held}
 use Rattle.part_origins.proofs.Parted.{Together, together, OnOne, devices_from, calls_from, cut_ways, kept_ways}
 use Rattle.part_origins.proofs.Sided.{flat_good, kept_list, numbers, goes_list, given, plain_is, entry, numbers_at, kept_is, goes_is}
@@ -44,7 +45,7 @@ path_of t = t.path
 
 by_path : (S : List Stood) (i : ℕ) (b : Option Part) (path : List ℕ) → IsBy S i b path → IsPathBy (map path_of S) i b path
 by_path S i None path h = h
-by_path S i (Some p) path h = (h.0.path, map_at path_of S p.spot h.0 h.1, h.2, h.3)
+by_path S i (Some p) path h = (h.0.path, map_to path_of S p.spot h.0 h.1, h.2, h.3)
 
 find_in : {A B : Type 0} (f : ℕ → A → List B) (xs : List A) (k : ℕ) (x : A) (y : B) → slice_get xs k ≡ Some x → IsListed y (f k x) → IsListed y (pieces f xs)
 find_in f xs k x y at h =
@@ -65,7 +66,7 @@ module _ (g o : Netlist) (w : Alignment) (a : IsAligned g o w) (only : HasOnlyKe
   insides = all_inside (goes_list g o w a only good apart) [] 0 g.circuits
 
   stay : (c : ℕ) → w.kept c ≡ true → a.goes c ≡ false
-  stay c kept = elim (is_it (a.goes c)) [
+  stay c kept = elim (cases_Bool (a.goes c)) [
     | inl t ↦ let k = ((a.going c).0 t).0 in absurd (let e : true ≡ false = sym kept ∙ k in cc)
     | inr e ↦ e
   ]
@@ -114,18 +115,18 @@ module _ (g o : Netlist) (w : Alignment) (a : IsAligned g o w) (only : HasOnlyKe
         let two : IsListed (call_at t k r) (call_list g a.goes t) = find_in (λ k r. cond (a.goes r.circuit) [] (call_at t k r ∷ [])) (given_of g t.circuit).calls k r (call_at t k r) at one in
         let three : IsListed (call_at t k r) (flats c).calls = subst (λ (z : List CallAt). IsListed (call_at t k r) z) (sym (calls_are g flat a.goes flats good a.by.flattened (suc c) c (omega arith) is)) (in_all (call_list g a.goes) S t (call_at t k r) (listed S i t q) two) in
         let e = position (flats c).calls (call_at t k r) three in
-        let call : IsCall flat c e.0 row = (plain (flats c), a.by.flattened.there c (given_of g c) is, map_at (λ (z : CallAt). z.row) (flats c).calls e.0 (call_at t k r) e.1) in
+        let call : IsCall flat c e.0 row = (plain (flats c), a.by.flattened.there c (given_of g c) is, map_to (λ (z : CallAt). z.row) (flats c).calls e.0 (call_at t k r) e.1) in
         let here : slice_get (given_of flat c).calls e.0 ≡ Some row = subst (λ (z : Circuit). slice_get z.calls e.0 ≡ Some row) (sym (given_is flat c call.0 call.1)) call.2 in
         let item : CutCall = record { from = e.0; row = cut_row flat w c row } in
         let put : IsListed item (cut_calls flat w c) = find_in (cut_call flat w c) (given_of flat c).calls e.0 row item here (subst (λ (b : Bool). IsListed item (cond b (item ∷ []) [])) (sym keeps) (inl refl)) in
         let j = position (cut_calls flat w c) item put in
-        let outer : IsCall o (w.number c) j.0 (cut_row flat w c row) = (cut flat w c, a.by.cut_down.there c kept, map_at (λ (z : CutCall). z.row) (cut_calls flat w c) j.0 item j.1) in
+        let outer : IsCall o (w.number c) j.0 (cut_row flat w c row) = (cut flat w c, a.by.cut_down.there c kept, map_to (λ (z : CutCall). z.row) (cut_calls flat w c) j.0 item j.1) in
         let lower : w.number r.circuit < w.number c = order.lower (w.number c) j.0 (cut_row flat w c row) outer in
         record {
           pins = has r.circuit keeps lower;
           nets = λ m n at_pin.
               let pin = call_pin flat o w a.by.cut_down (λ k. k) fgood c e.0 m n row call at_pin in
-              let old = from_map t.net r.nets n pin.0 pin.1 in
+              let old = map_from t.net r.nets n pin.0 pin.1 in
               let near : net_at r.nets n ≡ old.0 = index_at r.nets n old.0 old.1 in
               let net : HasNet g t.circuit old.0 = good.within.calls t.circuit k n old.0 r (given_of g t.circuit, of.there, at) old.1 in
               let low : old.0 < length (given_of g t.circuit).nets = subst (λ (z : Circuit). old.0 < length z.nets) (sym (given_is g t.circuit net.0 net.1)) net.2 in
@@ -154,7 +155,7 @@ module _ (g o : Netlist) (w : Alignment) (a : IsAligned g o w) (only : HasOnlyKe
     paths = map path_of S
 
     path_here : (j : ℕ) (t : Stood) → slice_get S j ≡ Some t → path_at paths (0 + j) ≡ t.path
-    path_here j t h = ap (path_at paths) (let e : 0 + j ≡ j = omega arith in e) ∙ at_or paths j t.path [] (map_at path_of S j t h)
+    path_here j t h = ap (path_at paths) (let e : 0 + j ≡ j = omega arith in e) ∙ at_or paths j t.path [] (map_to path_of S j t h)
 
     abbrev made : PlainInside → PlainOrigins
     made z = record { circuit = c; devices = device_parts g 0 z.spots; calls = call_parts g table 0 z.spots; nets = net_numbers g table held z.count z.spots x }
@@ -166,25 +167,25 @@ module _ (g o : Netlist) (w : Alignment) (a : IsAligned g o w) (only : HasOnlyKe
       are = record {
         long = let l = length-map S path_of in let e = known.tied.long in omega arith;
         each = λ i s path p q.
-            let t = from_map path_of S i path q in
+            let t = map_from path_of S i path q in
             subst (λ (z : List ℕ). IsPathBy paths i s.by z) t.2 (by_path S i s.by t.0.path (known.tied.each i s t.0 p t.1).by);
       };
       inside = λ path. (
         (λ h.
             let i = position paths path h in
-            let t = from_map path_of S i.0 path i.1 in
+            let t = map_from path_of S i.0 path i.1 in
             subst (λ (z : List ℕ). IsInside g (maps_of g a.goes flats) c z) t.2 (right t.0 (listed S i.0 t.0 t.1)).inside),
         (λ h.
             let t = found g flat a.goes flats good a.by.flattened path (suc c) c (omega arith) is h in
             let i = position S t.0 t.1 in
-            subst (λ (z : List ℕ). IsListed z paths) t.2 (listed paths i.0 t.0.path (map_at path_of S i.0 t.0 i.1))),
+            subst (λ (z : List ℕ). IsListed z paths) t.2 (listed paths i.0 t.0.path (map_to path_of S i.0 t.0 i.1))),
       );
       once = at_apart paths (λ i j path p q.
-          let s = from_map path_of S i path p in
-          let t = from_map path_of S j path q in
+          let s = map_from path_of S i path p in
+          let t = map_from path_of S j path q in
           once g flat a.goes flats good a.by.flattened (suc c) c i j s.0 t.0 (omega arith) is s.1 t.1 (s.2 ∙ sym t.2));
       ends = λ i s path p q.
-          let t = from_map path_of S i path q in
+          let t = map_from path_of S i path q in
           let of = spot_of i s t.0 p t.1 in
           let e = (right t.0 (listed S i t.0 t.1)).ends in (
             subst (λ (z : List ℕ). IsCallPath g c z s.circuit) t.2 (subst (λ (d : ℕ). IsCallPath g c t.0.path d) (sym of.circuit) e),
@@ -199,7 +200,7 @@ module _ (g o : Netlist) (w : Alignment) (a : IsAligned g o w) (only : HasOnlyKe
           ∙ (sym (cut_ways flat w c (flats c).calls (flats c).calls (λ m. m) (λ m r h. h))
           ∙ ap (λ (z : Circuit). map (λ (r : CutCall). way_or (slice_get (flats c).calls r.from)) (pieces (cut_call flat w c) z.calls)) (sym flat_is)));
       nets = λ i n s path p q low.
-          let t = from_map path_of S i path q in
+          let t = map_from path_of S i path q in
           let of = spot_of i s t.0 p t.1 in
           let image : (net_image (maps_of g a.goes flats) c (slot path n)).net ≡ t.0.net n
           = ap (λ (z : List ℕ). (net_image (maps_of g a.goes flats) c (slot z n)).net) (sym t.2) ∙ ap (λ (z : Slot). z.net) ((right t.0 (listed S i t.0 t.1)).nets n) in
@@ -254,8 +255,8 @@ module _ (g o : Netlist) (w : Alignment) (a : IsAligned g o w) (only : HasOnlyKe
     | yes same ↦
         let one : c ≡ d = only.apart c d kept keeps (same ∙ sym number) in
         let place : length held ≡ w.number c = long ∙ sym same in
-        subst (λ (n : ℕ). slice_get (held ++ pins ∷ []) n ≡ Some (held_pins flat w c)) place (end_at held pins ∙ ap Some (e ∙ ap (held_pins flat w) (sym one)))
-    | no not ↦ append_left held (pins ∷ []) (w.number c) (held_pins flat w c) (has c kept (omega (arith, not)))
+        subst (λ (n : ℕ). slice_get (held ++ pins ∷ []) n ≡ Some (held_pins flat w c)) place (get_last held pins ∙ ap Some (e ∙ ap (held_pins flat w) (sym one)))
+    | no not ↦ get_left held (pins ∷ []) (w.number c) (held_pins flat w c) (has c kept (omega (arith, not)))
   ]
 
   all_found : (xs : List Circuit) (i : ℕ) (held : List (List ℕ)) → length held ≡ i → HasHeld held i → ((j : ℕ) (x : Circuit) → slice_get xs j ≡ Some x → IsCircuit o (i + j) x)

@@ -1,6 +1,6 @@
 -- Squares with a point as a corner, and the pieces that cover them.
-use Rattle.std.proofs.Common.{◌≡◌, ◌⊎◌, inl, inr, ◌≤ℤ◌, ◌<ℤ◌, ◌+ℤ◌, ◌-ℤ◌, ◌&&◌, ℤ, pos, ℕ, Bool, true, false, List, [], ◌∷◌, Option, Some, None, Result, Ok, Err, IfOk, refl, sym, ◌∙◌, arith}
-use Rattle.std.proofs.lemmas.Bool.{false≢true}
+use Rattle.std.proofs.Common.{◌≡◌, ◌⊎◌, inl, inr, ◌≤ℤ◌, ◌<ℤ◌, ◌+ℤ◌, ◌-ℤ◌, ◌&&◌, ℤ, pos, ℕ, true, false, List, [], ◌∷◌, Option, Some, None, Result, Ok, Err, IfOk, sym, ◌∙◌, arith}
+use Rattle.std.proofs.lemmas.Bool.{false≢true, and_from, and_parts}
 use Rattle.std.proofs.lemmas.Int.{ints, by_lt_z}
 use Rattle.geo_base.specs.Near.{IsNearPoint, IsNearRect}
 use Rattle.geo_base.specs.Rects.{IsRect, has}
@@ -43,20 +43,8 @@ in_around at q c = let x = beside at.x q.x c.x in let y = beside at.y q.y c.y in
 around_in : (at : Point) (q : Square) → IsIn q (around at) → IsCorner at q
 around_in at q i = record { x = corner_of at.x q.x i.0 i.1; y = corner_of at.y q.y i.2 i.3 }
 
-both : (a b : Bool) → a ≡ true → b ≡ true → (a && b) ≡ true
-both true b e f = f
-both false b e f = absurd (false≢true e)
-
-left_of : (a b : Bool) → (a && b) ≡ true → a ≡ true
-left_of true b e = refl
-left_of false b e = absurd (false≢true e)
-
-right_of : (a b : Bool) → (a && b) ≡ true → b ≡ true
-right_of true b e = e
-right_of false b e = absurd (false≢true e)
-
 pub window_of : (at : Point) (frame : Rect) (m : Option Rect) → IsNearRect frame → IsMeet (around at) frame m → IsCornerWindow at frame m
-window_of at frame None n h = λ q i c. false≢true (sym (h q) ∙ both (has (around at) q) (has frame q) (in_has (around at) q (in_around at q c)) (in_has frame q i))
+window_of at frame None n h = λ q i c. false≢true (sym (h q) ∙ and_from (has (around at) q) (has frame q) (in_has (around at) q (in_around at q c)) (in_has frame q i))
 window_of at frame (Some w) n h =
     let s = h.second in let some = h.some in let s1 = s.x1 in let s2 = s.x2 in let s3 = s.y1 in let s4 = s.y2 in
     let wide = some.wide in let high = some.high in
@@ -70,8 +58,8 @@ window_of at frame (Some w) n h =
       };
       inside = λ q i.
           let e : (has (around at) q && has frame q) ≡ true = sym (h.has q) ∙ in_has w q i in
-          (has_in frame q (right_of (has (around at) q) (has frame q) e), around_in at q (has_in (around at) q (left_of (has (around at) q) (has frame q) e)));
-      all = λ q i c. has_in w q (h.has q ∙ both (has (around at) q) (has frame q) (in_has (around at) q (in_around at q c)) (in_has frame q i));
+          (has_in frame q ((and_parts (has (around at) q) (has frame q) e).1), around_in at q (has_in (around at) q ((and_parts (has (around at) q) (has frame q) e).0)));
+      all = λ q i c. has_in w q (h.has q ∙ and_from (has (around at) q) (has frame q) (in_has (around at) q (in_around at q c)) (in_has frame q i));
     }
 
 first_in : (r : Rect) → IsRect r → IsIn (record { x = r.x1; y = r.y1 }) r

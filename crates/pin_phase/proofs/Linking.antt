@@ -1,9 +1,10 @@
 -- The nets of placed cells among items, cell by cell.
 use Rattle.std.proofs.Common.{◌≡◌, inl, inr, ℕ, ◌+◌, ◌-◌, ◌<◌, Bool, List, Option, Some, None, get_or, length, map, slice_get, slice_index, sym, ◌∙◌, ap, subst, arith}
+use Rattle.base_laws.proofs.Items.{map_from, map_to, one_entry}
 use Rattle.std.proofs.Math.Decide.{ℕ_discrete}
 use Rattle.std.proofs.lemmas.List.{length-map}
 use Rattle.std.proofs.lemmas.Option.{slice_get-get_or}
-use Rattle.cell_graph.proofs.Bridge.{lower, mapped, maps, step_of}
+use Rattle.cell_graph.proofs.Bridge.{lower, step_of}
 use Rattle.cell_graph.specs.Linked.{Linked, IsSound, plain, plain_cell}
 use Rattle.deep_tables.specs.Entries.{downward_cell}
 use Rattle.deep_tables.specs.Gates.{gates_in, list_of, plain_gate}
@@ -35,9 +36,6 @@ same_link l k a b c e =
     ∙ ap (λ v. let m : Link = record { job = k.job; net = k.net; above = v; busy = l.busy } in m) c
     ∙ ap (λ (v : Bool). let m : Link = record { job = k.job; net = k.net; above = k.above; busy = v } in m) e
 
-one_of : {A : Type 0} (o : Option A) (a b : A) → o ≡ Some a → o ≡ Some b → a ≡ b
-one_of o a b h g = cc
-
 child_place : (a b c d : ℕ) → code_item.Child a b ≡ code_item.Child c d → a ≡ c
 child_place a b c d e = cc
 
@@ -64,8 +62,8 @@ child_put job elements net_of busy i item place net above element is old new chi
       (λ k.
           let e : code_item.Child k.place l.net ≡ code_item.Child place net = sym k.child ∙ child in
           let at : k.place ≡ place = child_place k.place l.net place net e in
-          let one : k.element ≡ element = one_of (slice_get elements place) k.element element (subst (λ j. slice_get elements j ≡ Some k.element) at k.there) there in
-          let up : l.above ≡ above = one_of (slice_get net_of i) l.above above k.numbered numbered in
+          let one : k.element ≡ element = one_entry (slice_get elements place) k.element element (subst (λ j. slice_get elements j ≡ Some k.element) at k.there) there in
+          let up : l.above ≡ above = one_entry (slice_get net_of i) l.above above k.numbered numbered in
           (sym k.here ∙ ap (λ (x : Element). x.cell) one, same_link l link k.job (child_net k.place l.net place net e) up (k.busy ∙ ap busy up ∙ sym same))),
     )) h
 
@@ -111,13 +109,13 @@ module _ (d : Linked) (t : Tables) (gates : ℕ → List GateEntry) (job : ℕ) 
   cell_there = slice_get-get_or (plain d).cells parent no_cell (let e : length (map plain_cell d.cells) ≡ length d.cells = length-map d.cells plain_cell in omega (arith, inside, e))
 
   placed_at : (k : ℕ) (element : Element) → slice_get elements k ≡ Some element → IsPlaced (plain d) parent k (place_of element)
-  placed_at k element at = (get_or (plain d).cells parent no_cell, cell_there, subst (λ (l : List Place). slice_get l k ≡ Some (place_of element)) places (maps place_of elements k element at))
+  placed_at k element at = (get_or (plain d).cells parent no_cell, cell_there, subst (λ (l : List Place). slice_get l k ≡ Some (place_of element)) places (map_to place_of elements k element at))
 
   link_from : (cell : ℕ) (l : Link) → OfSome (IsChildLink job elements v.net_of.items busy) v.items.items cell l → IsLinkTo d t gates cell l
   link_from cell l (i, item, at, k) =
       let e = k.job in
       let there : IsOf (t.nets parent) l.above i (Child k.place l.net) = subst (λ (n : flat.CellNets). IsOf n l.above i (Child k.place l.net)) nets
-      (record { listed = maps plain_item v.items.items i item at ∙ ap (λ x. Some (plain_item x)) k.child; numbered = k.numbered }) in
+      (record { listed = map_to plain_item v.items.items i item at ∙ ap (λ x. Some (plain_item x)) k.child; numbered = k.numbered }) in
       record {
         job_in = subst (λ j. j < length d.order) (sym e) lt;
         number = k.place;
@@ -132,11 +130,11 @@ module _ (d : Linked) (t : Tables) (gates : ℕ → List GateEntry) (job : ℕ) 
   link_to cell l is e =
       let of : IsNetOf (t.nets parent) (Child is.number l.net) l.above = subst (λ j. IsNetOf (t.nets (downward_cell d j)) (Child is.number l.net) l.above) e is.is_of in
       let own : IsOf (plain_nets v) l.above of.0 (Child is.number l.net) = subst (λ (n : flat.CellNets). IsOf n l.above of.0 (Child is.number l.net)) (sym nets) of.1 in
-      let item = mapped plain_item v.items.items of.0 (Child is.number l.net) own.listed in
+      let item = map_from plain_item v.items.items of.0 (Child is.number l.net) own.listed in
       let placed = subst (λ j. IsPlaced (plain d) (downward_cell d j) is.number is.place) e is.placed in
-      let same : placed.0 ≡ get_or (plain d).cells parent no_cell = one_of (slice_get (plain d).cells parent) placed.0 (get_or (plain d).cells parent no_cell) placed.1 cell_there in
+      let same : placed.0 ≡ get_or (plain d).cells parent no_cell = one_entry (slice_get (plain d).cells parent) placed.0 (get_or (plain d).cells parent no_cell) placed.1 cell_there in
       let listed : slice_get (places_of (plain d) parent) is.number ≡ Some is.place = subst (λ (c : Cell). slice_get c.places is.number ≡ Some is.place) same placed.2 in
-      let element = mapped place_of elements is.number is.place (subst (λ (l : List Place). slice_get l is.number ≡ Some is.place) (sym places) listed) in (
+      let element = map_from place_of elements is.number is.place (subst (λ (l : List Place). slice_get l is.number ≡ Some is.place) (sym places) listed) in (
         of.0,
         item.0,
         item.1,
@@ -184,13 +182,13 @@ reached_at d order job sound e lt =
 pub children_known : (d : Linked) (w : Wiring) (t : Tables) (parent cells : ℕ) (elements : List Element) (v : code_nets.CellNets) → IsSound d → flat.AreNets (plain d) w t parent (t.nets parent) → plain_nets v ≡ t.nets parent
     → map place_of elements ≡ places_of (plain d) parent → parent < length d.cells → cells ≡ length d.cells → AreChildrenIn cells elements v.items.items
 children_known d w t parent cells elements v sound right nets places inside count i item at place net e =
-    let listed : slice_get (t.nets parent).items i ≡ Some (Child place net) = subst (λ (n : flat.CellNets). slice_get n.items i ≡ Some (Child place net)) nets (maps plain_item v.items.items i item at ∙ ap (λ x. Some (plain_item x)) e) in
+    let listed : slice_get (t.nets parent).items i ≡ Some (Child place net) = subst (λ (n : flat.CellNets). slice_get n.items i ≡ Some (Child place net)) nets (map_to plain_item v.items.items i item at ∙ ap (λ x. Some (plain_item x)) e) in
     let is = items_sound (plain d) w t parent (t.nets parent) right i (Child place net) listed in
     let p = is.0 in let placed = is.1 in
     let there : slice_get (plain d).cells parent ≡ Some (get_or (plain d).cells parent no_cell) = slice_get-get_or (plain d).cells parent no_cell (let f : length (map plain_cell d.cells) ≡ length d.cells = length-map d.cells plain_cell in omega (arith, inside, f)) in
-    let same : placed.0 ≡ get_or (plain d).cells parent no_cell = one_of (slice_get (plain d).cells parent) placed.0 (get_or (plain d).cells parent no_cell) placed.1 there in
+    let same : placed.0 ≡ get_or (plain d).cells parent no_cell = one_entry (slice_get (plain d).cells parent) placed.0 (get_or (plain d).cells parent no_cell) placed.1 there in
     let k : slice_get (places_of (plain d) parent) place ≡ Some p = subst (λ (c : Cell). slice_get c.places place ≡ Some p) same placed.2 in
-    let element = mapped place_of elements place p (subst (λ (l : List Place). slice_get l place ≡ Some p) (sym places) k) in
+    let element = map_from place_of elements place p (subst (λ (l : List Place). slice_get l place ≡ Some p) (sym places) k) in
     let s = step_of d parent place p placed in
     let low = (lower d parent s.index s.from sound s.step.there).0 in
     let cell : element.0.cell ≡ s.from.cell = ap (λ (q : Place). q.cell) element.2 ∙ ap (λ (q : Place). q.cell) s.is in

@@ -1,9 +1,10 @@
 -- The tags of nets, from texts, lines and globals.
 use Rattle.std.proofs.Common.{◌≡◌, ◌⊎◌, inl, inr, ℕ, zero, suc, ◌<◌, true, List, [], ◌∷◌, Some, map, slice_get, refl, sym, ◌∙◌, ap, subst, arith}
+use Rattle.base_laws.proofs.Items.{map_to}
 use Rattle.geo_base.specs.Layers.{is_same_key}
 use Rattle.geo_base.specs.declared.layer.LayerKey.{LayerKey}
 use Rattle.geo_base.specs.declared.shapes.Point.{Point}
-use Rattle.cell_graph.proofs.Bridge.{maps, part_of}
+use Rattle.cell_graph.proofs.Bridge.{part_of}
 use Rattle.cell_graph.specs.declared.cells.CellPart.{CellPart}
 use Rattle.cell_graph.specs.declared.cells.RawText.{RawText}
 use Rattle.cell_graph.specs.Linked.{Linked, cell_at, plain, plain_cell, plain_text}
@@ -89,7 +90,7 @@ texts_of d cell part texts at same text = (
       let there : Some_of (λ t. t ≡ text) (map plain_text part.texts.items) = subst (λ (p : CellPart). Some_of (λ t. t ≡ text) (map plain_text p.texts.items)) one (subst (λ (c : flat.Cell). Some_of (λ t. t ≡ text) c.texts) (sym m.2) h.2) in
       let r = at_some (λ t. t ≡ text) plain_text part.texts.items there in
       (r.0, r.1, subst (λ (l : List RawText). slice_get l r.0 ≡ Some r.1) (sym same) r.2, r.3)),
-  (λ r. (plain_cell part, maps plain_cell d.cells cell part at, some_at (λ t. t ≡ text) plain_text part.texts.items r.0 r.1 (subst (λ (l : List RawText). slice_get l r.0 ≡ Some r.1) same r.2) r.3)),
+  (λ r. (plain_cell part, map_to plain_cell d.cells cell part at, some_at (λ t. t ≡ text) plain_text part.texts.items r.0 r.1 (subst (λ (l : List RawText). slice_get l r.0 ≡ Some r.1) same r.2) r.3)),
 )
 
 module _ (d : Design) (w : Wiring) (t : Tables) (cell : ℕ) (texts : List RawText) (lines : List TextLine) (are : AreTextsOf d cell texts) (wired : map label lines ≡ w.labels) where

@@ -1,38 +1,12 @@
 -- Numbers that stand twice in a list.
-use Rattle.std.proofs.Common.{◌≡◌, ◌⊎◌, inl, inr, ℕ, zero, suc, ◌+◌, ◌<◌, ◌==◌, ◌&&◌, ◌||◌, Bool, true, false, List, [], ◌∷◌, ◌++◌, Some, take, replicate, get_or, length, slice_get, refl, sym, ◌∙◌, ap, arith}
-use Rattle.std.proofs.lemmas.Bool.{eq-eqb, eqb-true}
+use Rattle.std.proofs.Common.{◌≡◌, inl, inr, ℕ, zero, suc, ◌+◌, ◌<◌, ◌==◌, ◌&&◌, ◌||◌, Bool, true, false, List, [], ◌∷◌, ◌++◌, Some, take, replicate, get_or, length, slice_get, refl, sym, ◌∙◌, ap, arith}
+use Rattle.base_laws.proofs.Lists.{none_set}
+use Rattle.std.proofs.lemmas.Bool.{eq-eqb, eqb-true, cases_Bool, or_cases, or_left, or_right, and_parts, and_from, false≢true}
 use Rattle.std.proofs.lemmas.List.{take_more}
 use Rattle.std.proofs.lemmas.List.Folds.{list_any-append}
 use Rattle.std.proofs.Math.Seq.{take-length}
 use Rattle.std.specs.List.{list_any}
 use Rattle.pin_phase.specs.Links.{is_twice}
-
-clash : false ≡ true → ⊥
-clash e = let z : ⊥ = cc in z
-
-pub bool_is : (b : Bool) → (b ≡ true) ⊎ (b ≡ false)
-bool_is true = inl refl
-bool_is false = inr refl
-
-pub or_split : (a b : Bool) → (a || b) ≡ true → (a ≡ true) ⊎ (b ≡ true)
-or_split true b h = inl refl
-or_split false b h = inr h
-
-pub or_left : (a b : Bool) → a ≡ true → (a || b) ≡ true
-or_left true b h = refl
-or_left false b h = absurd (clash h)
-
-pub or_right : (a b : Bool) → b ≡ true → (a || b) ≡ true
-or_right true b h = refl
-or_right false b h = h
-
-pub and_both : (a b : Bool) → (a && b) ≡ true → (a ≡ true) × (b ≡ true)
-and_both true b h = (refl, h)
-and_both false b h = absurd (clash h)
-
-pub and_is : (a b : Bool) → a ≡ true → b ≡ true → (a && b) ≡ true
-and_is true b h g = g
-and_is false b h g = absurd (clash h)
 
 shuffle : (h a y t : Bool) → ((h && (a || (y || false))) || (t || (y && a))) ≡ (((h && a) || t) || ((h || a) && y))
 shuffle true true true t = refl
@@ -77,11 +51,6 @@ pub record AreTwiceTo (old : List Bool) (net_of : List ℕ) (n : ℕ) (seen mark
   pub stood : (x : ℕ) → get_or seen x false ≡ list_any (λ z. x == z) (take n net_of)
   pub marked : (x : ℕ) → get_or marks x false ≡ (get_or old x false || is_twice x (take n net_of))
 
-none_set : (n x : ℕ) → get_or (replicate n false) x false ≡ false
-none_set zero x = refl
-none_set (suc n) zero = refl
-none_set (suc n) (suc x) = none_set n x
-
 or_none : (b : Bool) → b ≡ (b || false)
 or_none true = refl
 or_none false = refl
@@ -95,7 +64,7 @@ twice_none old seen net_of n long is count = record {
 }
 
 either_way : (x y : ℕ) (seen : List Bool) → (x == y && get_or seen y false) ≡ (x == y && get_or seen x false)
-either_way x y seen = elim (bool_is (x == y)) [
+either_way x y seen = elim (cases_Bool (x == y)) [
   | inl e ↦ ap (λ n. x == y && get_or seen n false) (sym (eqb-true x y e))
   | inr e ↦ ap (λ (b : Bool). b && get_or seen y false) e ∙ sym (ap (λ (b : Bool). b && get_or seen x false) e)
 ]
@@ -140,8 +109,8 @@ twice_all old seen marks net_of n e h x = h.marked x ∙ ap (λ (l : List ℕ). 
 
 -- two places have the number
 any_at : (x : ℕ) (xs : List ℕ) → list_any (λ z. x == z) xs ≡ true → (i : ℕ) × (slice_get xs i ≡ Some x)
-any_at x [] h = absurd (clash h)
-any_at x (y ∷ xs) h = elim (or_split (x == y) (list_any (λ z. x == z) xs) h) [
+any_at x [] h = absurd (false≢true h)
+any_at x (y ∷ xs) h = elim (or_cases (x == y) (list_any (λ z. x == z) xs) h) [
   | inl e ↦ (0, ap Some (sym (eqb-true x y e)))
   | inr e ↦ let r = any_at x xs e in (suc r.0, r.1)
 ]
@@ -152,9 +121,9 @@ at_any x (y ∷ xs) zero h = or_left (x == y) (list_any (λ z. x == z) xs) (eq-e
 at_any x (y ∷ xs) (suc i) h = or_right (x == y) (list_any (λ z. x == z) xs) (at_any x xs i h)
 
 pub twice_at : (x : ℕ) (xs : List ℕ) → is_twice x xs ≡ true → (i : ℕ) × (j : ℕ) × (i < j) × (slice_get xs i ≡ Some x) × (slice_get xs j ≡ Some x)
-twice_at x [] h = absurd (clash h)
-twice_at x (y ∷ xs) h = elim (or_split (x == y && list_any (λ z. x == z) xs) (is_twice x xs) h) [
-  | inl e ↦ let b = and_both (x == y) (list_any (λ z. x == z) xs) e in let r = any_at x xs b.1 in (0, suc r.0, omega arith, ap Some (sym (eqb-true x y b.0)), r.1)
+twice_at x [] h = absurd (false≢true h)
+twice_at x (y ∷ xs) h = elim (or_cases (x == y && list_any (λ z. x == z) xs) (is_twice x xs) h) [
+  | inl e ↦ let b = and_parts (x == y) (list_any (λ z. x == z) xs) e in let r = any_at x xs b.1 in (0, suc r.0, omega arith, ap Some (sym (eqb-true x y b.0)), r.1)
   | inr e ↦ let r = twice_at x xs e in (suc r.0, suc r.1, (let lt = r.2 in omega (arith, lt)), r.3, r.4)
 ]
 
@@ -162,5 +131,5 @@ pub at_twice : (x : ℕ) (xs : List ℕ) (i j : ℕ) → i < j → slice_get xs 
 at_twice x [] i j lt h g = absurd (let z : ⊥ = cc in z)
 at_twice x (y ∷ xs) i zero lt h g = absurd (omega arith)
 at_twice x (y ∷ xs) zero (suc j) lt h g =
-    or_left (x == y && list_any (λ z. x == z) xs) (is_twice x xs) (and_is (x == y) (list_any (λ z. x == z) xs) (eq-eqb x y (let e : Some y ≡ Some x = h in let f : x ≡ y = cc in f)) (at_any x xs j g))
+    or_left (x == y && list_any (λ z. x == z) xs) (is_twice x xs) (and_from (x == y) (list_any (λ z. x == z) xs) (eq-eqb x y (let e : Some y ≡ Some x = h in let f : x ≡ y = cc in f)) (at_any x xs j g))
 at_twice x (y ∷ xs) (suc i) (suc j) lt h g = or_right (x == y && list_any (λ z. x == z) xs) (is_twice x xs) (at_twice x xs i j (omega arith) h g)

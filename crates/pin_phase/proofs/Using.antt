@@ -1,12 +1,11 @@
 -- Marks at nets that are in use above, link by link.
 use Rattle.std.proofs.Common.{◌≡◌, ◌⊎◌, ◌↔◌, inl, inr, ℕ, ◌+◌, ◌<◌, ◌==◌, ◌&&◌, ◌||◌, Bool, true, false, List, Option, Some, get_or, length, slice_get, refl, sym, ◌∙◌, ap, subst, arith}
 use Rattle.std.proofs.Math.Decide.{ℕ_discrete}
-use Rattle.std.proofs.lemmas.Bool.{eq-eqb, eqb-true}
+use Rattle.std.proofs.lemmas.Bool.{eq-eqb, eqb-true, or_cases, or_left, or_right, and_parts, and_from}
 use Rattle.std.proofs.lemmas.Option.{slice_get-get_or, slice_get_within}
 use Rattle.deep_tables.specs.declared.pins.CellPins.{CellPins}
 use Rattle.pin_phase.specs.Used.{IsInUse, IsReadPin, IsUsedBy}
 use Rattle.pin_phase.specs.declared.links.Link.{Link}
-use Rattle.pin_phase.proofs.Twice.{or_left, or_right, or_split, and_both, and_is}
 
 -- one of the first n links says so
 abbrev pub IsFirstUse : (ℕ → Option CellPins) → List Link → ℕ → ℕ → Type 0
@@ -30,8 +29,8 @@ used_more value links n l used old mid new lt at is count added h = record { cou
     got = slice_get-get_or links n l lt ∙ ap Some (sym at)
 
     there : (x : ℕ) → get_or new x false ≡ true → (get_or old x false ≡ true) ⊎ IsFirstUse value links (n + 1) x
-    there x e = elim (or_split (used && (x == l.net)) (get_or mid x false) (sym (added x) ∙ e)) [
-      | inl f ↦ let b = and_both used (x == l.net) f in inr (n, omega arith, l, got, sym (eqb-true x l.net b.1), is.0 b.0)
+    there x e = elim (or_cases (used && (x == l.net)) (get_or mid x false) (sym (added x) ∙ e)) [
+      | inl f ↦ let b = and_parts used (x == l.net) f in inr (n, omega arith, l, got, sym (eqb-true x l.net b.1), is.0 b.0)
       | inr f ↦ elim ((h.marked x).0 f) [ inl a ↦ inl a | inr u ↦ inr (u.0, (let lt = u.1 in omega arith), u.2, u.3, u.4, u.5) ]
     ]
 
@@ -41,7 +40,7 @@ used_more value links n l used old mid new lt at is count added h = record { cou
       | yes e ↦
           let one : u.2 ≡ l = one_link (slice_get links n) u.2 l (subst (λ i. slice_get links i ≡ Some u.2) e u.3) got in
           let net : x ≡ l.net = sym u.4 ∙ ap (λ (k : Link). k.net) one in
-          added x ∙ or_left (used && (x == l.net)) (get_or mid x false) (and_is used (x == l.net) (is.1 (subst (IsUsedBy value) one u.5)) (eq-eqb x l.net net))
+          added x ∙ or_left (used && (x == l.net)) (get_or mid x false) (and_from used (x == l.net) (is.1 (subst (IsUsedBy value) one u.5)) (eq-eqb x l.net net))
       | no not ↦ added x ∙ or_right (used && (x == l.net)) (get_or mid x false) ((h.marked x).1 (inr (u.0, (let lt = u.1 in omega arith), u.2, u.3, u.4, u.5)))
     ]
 

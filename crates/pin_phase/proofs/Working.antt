@@ -1,5 +1,6 @@
 -- A cell's pins and base names, from tags, links and the pins above.
 use Rattle.std.proofs.Common.{◌≡◌, ◌⊎◌, ◌↔◌, inl, inr, ℕ, zero, suc, ◌-◌, ◌<◌, Bool, true, false, List, [], ◌∷◌, Option, Some, None, IsSomeAnd, get_or, length, map, slice_get, slice_index, refl, sym, ◌∙◌, ap, subst, arith}
+use Rattle.std.proofs.lemmas.Bool.{or_cases, or_left, or_right}
 use Rattle.std.proofs.Math.Decide.{ℕ_discrete}
 use Rattle.std.proofs.lemmas.Option.{get_or_from_slice_get, slice_get-get_or, slice_get_within}
 use Rattle.cell_graph.specs.Linked.{Linked, IsSound, plain}
@@ -32,7 +33,7 @@ use Rattle.pin_phase.specs.Sets.{HasAny}
 use Rattle.pin_phase.specs.Tagged.{AreTags}
 use Rattle.pin_phase.specs.Used.{IsInUse, IsReadPin, IsUsedBy}
 use Rattle.pin_phase.specs.declared.links.Link.{Link}
-use Rattle.pin_phase.proofs.Twice.{at_twice, or_left, or_right, or_split, twice_at}
+use Rattle.pin_phase.proofs.Twice.{at_twice, twice_at}
 
 differ : (i j : ℕ) → (i ≡ j → ⊥) → (i < j) ⊎ (j < i)
 differ zero zero not = absurd (not refl)
@@ -153,7 +154,7 @@ module _ (d : Linked) (r : Rules) (t : Tables) (gates : ℕ → List GateEntry) 
       let nets = k.under parent there parent ([], refl) in
       let item : Item = Child is.number l.net in
       let used_here : IsUsed t gates pins parent item l.above = elim used [
-        | inl busy ↦ elim (or_split (has_terminal l.above (gates parent)) (is_twice l.above (t.nets parent).net_of) (sym is.busy ∙ busy)) [
+        | inl busy ↦ elim (or_cases (has_terminal l.above (gates parent)) (is_twice l.above (t.nets parent).net_of) (sym is.busy ∙ busy)) [
           | inl e ↦ inr (inl (gate_of l.above (gates parent) e))
           | inr e ↦ inl (other_twice (plain d) W t parent nets item l.above is.is_of e)
         ]

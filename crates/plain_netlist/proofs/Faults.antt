@@ -1,5 +1,6 @@
 -- A netlist without faults is sound, and one has one first fault.
 use Rattle.std.proofs.Common.{◌≡◌, ◌⊎◌, inl, inr, ℕ, ◌<◌, List, ◌++◌, length, Some, slice_get, refl, sym, subst, arith}
+use Rattle.base_laws.proofs.Items.{item_at}
 use Rattle.std.specs.Prelude.{flat_map}
 use Rattle.std.proofs.Math.Decide.{ℕ_discrete}
 use Rattle.std.proofs.lemmas.Bool.Decides.{leb_tells}
@@ -9,7 +10,7 @@ use Rattle.plain_netlist.specs.Netlist.{Pole, Source, Gate, Drain, Bulk, on, Dev
 use Rattle.plain_netlist.specs.Normal.{appearances, terminal_nets}
 use Rattle.plain_netlist.specs.Sound.{NetlistFault, NameClash, BadTerminal, NoSuchCircuit, PinCount, CircuitCycle, ShowsFault, fault_rank, AreNetsThere, AreCallsFitting, IsSoundNetlist, SoundLaw, OneFaultLaw}
 use Rattle.plain_netlist.proofs.Once.{one_circuit}
-use Rattle.plain_netlist.proofs.Members.{listed, position, item_at, in_left, in_right, either_side, in_all, from_all}
+use Rattle.plain_netlist.proofs.Members.{listed, position, in_left, in_right, either_side, in_all, from_all}
 
 -- before, at, or behind
 pub sides : (a b : ℕ) → (a < b) ⊎ ((a ≡ b) ⊎ (b < a))

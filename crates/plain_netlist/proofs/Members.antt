@@ -1,5 +1,5 @@
 -- Members of lists, by place and by how the list was made; and numbers below n that are apart are n at most.
-use Rattle.std.proofs.Common.{◌≡◌, ◌⊎◌, inl, inr, ℕ, zero, suc, ◌<◌, ◌≤◌, ◌==◌, true, false, List, [], ◌∷◌, ◌++◌, length, map, Some, slice_get, refl, sym, ap, subst, arith}
+use Rattle.std.proofs.Common.{◌≡◌, ◌⊎◌, inl, inr, ℕ, zero, suc, ◌<◌, ◌≤◌, ◌==◌, true, false, List, [], ◌∷◌, ◌++◌, length, Some, slice_get, refl, sym, ap, subst}
 use Rattle.std.specs.Prelude.{flat_map}
 use Rattle.std.specs.List.{list_any, IsDistinct, AllByRecursion}
 use Rattle.std.proofs.lemmas.Bool.Decides.{eqb_tells}
@@ -15,11 +15,6 @@ pub position : {A : Type 0} (xs : List A) (x : A) → IsListed x xs → (i : ℕ
 position [] x h = absurd h
 position (y ∷ xs) x (inl e) = (0, ap Some (sym e))
 position (y ∷ xs) x (inr h) = let r = position xs x h in (suc r.0, r.1)
-
-pub item_at : {A : Type 0} (xs : List A) (i : ℕ) → i < length xs → (x : A) × (slice_get xs i ≡ Some x)
-item_at [] i low = absurd (omega arith)
-item_at (x ∷ xs) zero low = (x, refl)
-item_at (x ∷ xs) (suc i) low = item_at xs i (omega arith)
 
 pub in_left : {A : Type 0} (xs ys : List A) (x : A) → IsListed x xs → IsListed x (xs ++ ys)
 in_left [] ys x h = absurd h
@@ -43,17 +38,6 @@ in_all f (x ∷ xs) a b (inr h) k = in_right (f x) (flat_map f xs) b (in_all f x
 pub from_all : {A B : Type 0} (f : A → List B) (xs : List A) (b : B) → IsListed b (flat_map f xs) → (a : A) × IsListed a xs × IsListed b (f a)
 from_all f [] b h = absurd h
 from_all f (x ∷ xs) b h = elim (either_side (f x) (flat_map f xs) b h) [ inl k ↦ (x, inl refl, k) | inr k ↦ let r = from_all f xs b k in (r.0, inr r.1, r.2) ]
-
--- an item of a map, and its origin, stand at one place
-pub map_at : {A B : Type 0} (f : A → B) (xs : List A) (i : ℕ) (a : A) → slice_get xs i ≡ Some a → slice_get (map f xs) i ≡ Some (f a)
-map_at f [] i a e = absurd (let z : ⊥ = cc in z)
-map_at f (x ∷ xs) zero a e = let s : x ≡ a = cc in ap (λ z. Some (f z)) s
-map_at f (x ∷ xs) (suc i) a e = map_at f xs i a e
-
-pub from_map : {A B : Type 0} (f : A → B) (xs : List A) (i : ℕ) (b : B) → slice_get (map f xs) i ≡ Some b → (a : A) × (slice_get xs i ≡ Some a) × (f a ≡ b)
-from_map f [] i b e = absurd (let z : ⊥ = cc in z)
-from_map f (x ∷ xs) zero b e = (x, refl, (let z : f x ≡ b = cc in z))
-from_map f (x ∷ xs) (suc i) b e = from_map f xs i b e
 
 not_among : (x : ℕ) (xs : List ℕ) → (IsListed x xs → ⊥) → AllByRecursion (λ y. (x == y) ≡ false) xs
 not_among x [] h = tt

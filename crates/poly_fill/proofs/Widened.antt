@@ -1,5 +1,6 @@
 -- The rectangles of a path's segments, and the squares that they cover.
 use Rattle.std.proofs.Common.{◌≡◌, ℕ, ◌+◌, ◌<◌, ◌≤◌, ℤ, ◌+ℤ◌, ◌-ℤ◌, ◌≤ℤ◌, Bool, true, false, ◌||◌, List, [], ◌∷◌, ◌++◌, length, length-drop, get_or, drop, refl, sym, ap, ◌∙◌, arith, w64, if◌then◌else◌}
+use Rattle.base_laws.proofs.Tests.{or_false, or_assoc}
 use Rattle.std.proofs.lemmas.Int.{ints}
 use Rattle.std.proofs.lemmas.Bool.Decides.{Decides-int_eq}
 use mir.Val.{to_z, of_z}
@@ -48,16 +49,8 @@ pub or_none : (a b : Bool) → b ≡ false → a ≡ (a || b)
 or_none true b h = refl
 or_none false b h = sym h
 
-or_nil : (b : Bool) → (b || false) ≡ b
-or_nil true = refl
-or_nil false = refl
-
-or_assoc : (a b c : Bool) → ((a || b) || c) ≡ (a || (b || c))
-or_assoc true b c = refl
-or_assoc false b c = refl
-
 pub covers_push : (rects : List Rect) (r : Rect) (s : Square) → covers (rects ++ r ∷ []) s ≡ (covers rects s || has r s)
-covers_push rects r s = list_any-append (λ q. has q s) rects (r ∷ []) ∙ ap (λ b. covers rects s || b) (or_nil (has r s))
+covers_push rects r s = list_any-append (λ q. has q s) rects (r ∷ []) ∙ ap (λ b. covers rects s || b) (or_false (has r s))
 
 -- one segment on: it is lengthened by end where it is the last, and by half where it isn't
 segments_more : (half before after end : ℤ) (from to : Point) (left : List Point) → (length left ≡ 0 → after ≡ end) → (0 < length left → after ≡ half)
@@ -82,7 +75,7 @@ covers_more half before after end from points i d done new whole r s lt last inn
 pub covers_all : (half before end : ℤ) (from : Point) (points : List Point) (i : ℕ) (done whole : Bool) (s : Square) → length points ≤ i
     → (done || covers (segments half before end (from ∷ drop i points)) s) ≡ whole → done ≡ whole
 covers_all half before end from points i done whole s le e =
-    sym (or_nil done) ∙ ap (λ xs. done || covers (segments half before end (from ∷ xs)) s) (sym (drop_all i points le)) ∙ e
+    sym (or_false done) ∙ ap (λ xs. done || covers (segments half before end (from ∷ xs)) s) (sym (drop_all i points le)) ∙ e
 
 pub no_segments : (half begin end : ℤ) (points : List Point) (s : Square) → length points ≡ 0 → false ≡ covers (segments half begin end points) s
 no_segments half begin end [] s h = refl

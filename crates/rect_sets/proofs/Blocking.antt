@@ -1,8 +1,9 @@
 -- The strips of weighted edges.
 use Rattle.std.proofs.Common.{◌≡◌, ◌⊎◌, inl, inr, ℕ, ℤ, pos, ◌+ℤ◌, ◌-ℤ◌, ◌≤ℤ◌, ◌<ℤ◌, ◌≤◌, ◌<◌, ◌+◌, List, [], ◌∷◌, ◌++◌, Bool, true, false, ◌||◌, ◌&&◌, drop, length, refl, sym, ◌∙◌, ap, subst, arith, int_le, if◌then◌else◌}
+use Rattle.base_laws.proofs.Tests.{same_truth}
 use Rattle.std.proofs.lemmas.Int.{ints, by_lt_z}
 use Rattle.std.proofs.lemmas.List.{drop_all}
-use Rattle.std.proofs.lemmas.Bool.{false≢true, cases_lt}
+use Rattle.std.proofs.lemmas.Bool.{false≢true, cases_lt, and_left}
 use Rattle.geo_base.specs.Rects.{is_between, has}
 use Rattle.rect_sets.specs.Rects.{covers, IsBlock, IsListed}
 use Rattle.rect_sets.specs.Edges.{first_of, second_of, sum_where, crosses, acts_on, weight, total, set_of, IsBalanced}
@@ -55,10 +56,6 @@ none_from test field row y x edges k m h first = elim (cases_lt k (length edges)
   | inr le ↦ ap (λ (q : List Edge). sum_where test field q) (drop_all k edges le)
 ]
 
-and_first : (b c : Bool) → b ≡ false → (b && c) ≡ false
-and_first true c e = absurd (false≢true (sym e))
-and_first false c e = refl
-
 and_second : (b c : Bool) → b ≡ true → (b && c) ≡ c
 and_second true c e = refl
 and_second false c e = absurd (false≢true e)
@@ -73,10 +70,10 @@ crossing : (row : ℤ) (e : Edge) → e.y1 ≤ℤ row → row <ℤ e.y2 → cros
 crossing row e h g = grind (arith, ints)
 
 acts_misses : (s : Square) → Misses s.y (acts_on s)
-acts_misses s e lt = and_first (crosses s.y e) (int_le e.x s.x) (not_yet s.y e lt)
+acts_misses s e lt = and_left (crosses s.y e) (int_le e.x s.x) (not_yet s.y e lt)
 
 acts_ignores : (s : Square) (y : ℤ) → y ≤ℤ s.y → Ignores y (acts_on s)
-acts_ignores s y le e h = and_first (crosses s.y e) (int_le e.x s.x) (no_more s.y e (omega (arith, ints)))
+acts_ignores s y le e h = and_left (crosses s.y e) (int_le e.x s.x) (no_more s.y e (omega (arith, ints)))
 
 crosses_ignores : (row y : ℤ) → y ≤ℤ row → Ignores y (crosses row)
 crosses_ignores row y le e h = no_more row e (omega (arith, ints))
@@ -248,11 +245,6 @@ covers_listed (q ∷ rects) s e = elim (or_split (has q s) (covers rects s) e) [
     or_split true c e = inl refl
     or_split false c e = inr e
 
-pub same_bool : (b c : Bool) → (b ≡ true → c ≡ true) → (c ≡ true → b ≡ true) → b ≡ c
-same_bool true c f g = sym (f refl)
-same_bool false true f g = g refl
-same_bool false false f g = refl
-
 pub within_block : (set : Square → Bool) (r : Rect) (s : Square) → IsBlock set r → has r s ≡ true → set s ≡ true
 within_block set r s k e =
     let h = parts_of r s e in
@@ -291,7 +283,7 @@ finished set y opens closed h none =
     (λ le. omega (arith, ints)) in
     record {
       each = λ r. (λ l. (g.each_closed r l).0, λ k. g.all_closed r k (low r k));
-      same = λ s. same_bool (covers (closed ++ ended y opens []) s) (set s)
+      same = λ s. same_truth (covers (closed ++ ended y opens []) s) (set s)
           (λ e. let l = covers_listed (closed ++ ended y opens []) s e in within_block set l.one s (g.each_closed l.one l.listed).0 l.inside)
           (λ e. by_lt_z s.y (y +ℤ pos 1)
           (λ lt. elim (g.covered s e lt) [ inl o ↦ absurd o.among | inr l ↦ listed_covers (closed ++ ended y opens []) s l.one l.listed l.inside ])

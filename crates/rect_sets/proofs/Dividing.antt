@@ -1,7 +1,8 @@
 -- The halves of a set.
 use Rattle.std.proofs.Common.{◌≡◌, inl, inr, ℕ, zero, suc, ℤ, pos, ◌+◌, ◌<◌, ◌-ℤ◌, ◌≤ℤ◌, ◌<ℤ◌, List, [], ◌∷◌, ◌++◌, Bool, true, false, ◌||◌, ◌&&◌, length, take, get_or, append_assoc, refl, sym, ap, ◌∙◌, subst, arith, int_lt, int_le, if◌then◌else◌}
+use Rattle.base_laws.proofs.Tests.{if_true, if_false, lt_to, le_to, lt_from, le_from}
 use Rattle.std.proofs.lemmas.Int.{ints, by_lt_z}
-use Rattle.std.proofs.lemmas.Bool.{false≢true}
+use Rattle.std.proofs.lemmas.Bool.{false≢true, or_parts, and_right, cases_Bool, or_cases, and_parts}
 use Rattle.std.proofs.lemmas.Bool.Decides.{Decides-int_eq}
 use Rattle.std.proofs.lemmas.List.{take_more, take_all}
 use Rattle.std.specs.Ordering.{int_eq}
@@ -13,7 +14,7 @@ use Rattle.rect_sets.specs.Divided.{place, low_end, high_end, begins_before, end
 use Rattle.rect_sets.specs.Halves.{AreParted, low_half, high_half}
 use Rattle.rect_sets.proofs.Blocking.{covers_listed}
 use Rattle.rect_sets.proofs.Unique.{block_of, all_rects, rect_of}
-use Rattle.rect_sets.proofs.Splitting.{either, or_split, and_split, covers_append, listed_either, shared_block, inside_from, IsInside, parted_blocks}
+use Rattle.rect_sets.proofs.Splitting.{covers_append, listed_either, shared_block, inside_from, IsInside, parted_blocks}
 use Rattle.std.specs.List.{All}
 use Rattle.rect_sets.specs.declared.cuts.Axis.{Axis}
 use Rattle.rect_sets.specs.declared.cuts.Axis.TheVariants.{X, Y}
@@ -23,45 +24,21 @@ use Rattle.geo_base.specs.declared.shapes.Square.{Square}
 use Rattle.rect_sets.specs.declared.row.Rule.{Rule}
 use Rattle.rect_sets.specs.declared.row.Rule.TheVariants.{First, And, Or, Not, Xor}
 
-pub if_true : {A : Type 0} (b : Bool) (x y : A) → b ≡ true → (if b then x else y) ≡ x
-if_true true x y e = refl
-if_true false x y e = absurd (false≢true e)
-
-pub if_false : {A : Type 0} (b : Bool) (x y : A) → b ≡ false → (if b then x else y) ≡ y
-if_false true x y e = absurd (false≢true (sym e))
-if_false false x y e = refl
-
-pub lt_true : (a b : ℤ) → a <ℤ b → int_lt a b ≡ true
-lt_true a b h = grind (arith, ints)
-
 pub lt_false : (a b : ℤ) → b ≤ℤ a → int_lt a b ≡ false
 lt_false a b h = grind (arith, ints)
 
-pub le_true : (a b : ℤ) → a ≤ℤ b → int_le a b ≡ true
-le_true a b h = grind (arith, ints)
-
 pub le_false : (a b : ℤ) → b <ℤ a → int_le a b ≡ false
 le_false a b h = grind (arith, ints)
-
-pub lt_from : (a b : ℤ) → int_lt a b ≡ true → a <ℤ b
-lt_from a b e = by_lt_z a b (λ lt. lt) (λ le. absurd (false≢true (sym (lt_false a b le) ∙ e)))
-
-pub le_from : (a b : ℤ) → int_le a b ≡ true → a ≤ℤ b
-le_from a b e = by_lt_z b a (λ lt. absurd (false≢true (sym (le_false a b lt) ∙ e))) (λ le. le)
 
 pub and_one : (b c : Bool) → c ≡ true → (b && c) ≡ b
 and_one true c e = e
 and_one false c e = refl
 
-pub and_none : (b c : Bool) → c ≡ false → (b && c) ≡ false
-and_none true c e = e
-and_none false c e = refl
-
 -- lists that are sorted out
 
 kept_from : (cut : Cut) (rects : List Rect) (r : Rect) → IsListed r (kept cut rects) → IsListed r rects × (touches cut r ≡ false)
 kept_from cut [] r h = absurd h
-kept_from cut (q ∷ rects) r h = elim (either (touches cut q)) [
+kept_from cut (q ∷ rects) r h = elim (cases_Bool (touches cut q)) [
   | inl t ↦ (let n = kept_from cut rects r (subst (λ (xs : List Rect). IsListed r xs) (if_true (touches cut q) (kept cut rects) (q ∷ kept cut rects) t) h) in (inr n.0, n.1))
   | inr f ↦ (let g : IsListed r (q ∷ kept cut rects) = subst (λ (xs : List Rect). IsListed r xs) (if_false (touches cut q) (kept cut rects) (q ∷ kept cut rects) f) h in
       elim g [ inl e ↦ (inl e, subst (λ (p : Rect). touches cut p ≡ false) (sym e) f) | inr k ↦ (let n = kept_from cut rects r k in (inr n.0, n.1)) ])
@@ -69,7 +46,7 @@ kept_from cut (q ∷ rects) r h = elim (either (touches cut q)) [
 
 pub cut_from : (cut : Cut) (rects : List Rect) (r : Rect) → IsListed r (cut_off cut rects) → IsListed r rects × (touches cut r ≡ true)
 cut_from cut [] r h = absurd h
-cut_from cut (q ∷ rects) r h = elim (either (touches cut q)) [
+cut_from cut (q ∷ rects) r h = elim (cases_Bool (touches cut q)) [
   | inr f ↦ (let n = cut_from cut rects r (subst (λ (xs : List Rect). IsListed r xs) (if_false (touches cut q) (q ∷ cut_off cut rects) (cut_off cut rects) f) h) in (inr n.0, n.1))
   | inl t ↦ (let g : IsListed r (q ∷ cut_off cut rects) = subst (λ (xs : List Rect). IsListed r xs) (if_true (touches cut q) (q ∷ cut_off cut rects) (cut_off cut rects) t) h in
       elim g [ inl e ↦ (inl e, subst (λ (p : Rect). touches cut p ≡ true) (sym e) t) | inr k ↦ (let n = cut_from cut rects r k in (inr n.0, n.1)) ])
@@ -86,7 +63,7 @@ or_first k false c = refl
 
 covers_sorted : (cut : Cut) (rects : List Rect) (s : Square) → (covers (kept cut rects) s || covers (cut_off cut rects) s) ≡ covers rects s
 covers_sorted cut [] s = refl
-covers_sorted cut (q ∷ rects) s = elim (either (touches cut q)) [
+covers_sorted cut (q ∷ rects) s = elim (cases_Bool (touches cut q)) [
   | inl t ↦ ap (λ xs. covers xs s || covers (cut_off cut (q ∷ rects)) s) (if_true (touches cut q) (kept cut rects) (q ∷ kept cut rects) t) ∙
       ap (λ xs. covers (kept cut rects) s || covers xs s) (if_true (touches cut q) (q ∷ cut_off cut rects) (cut_off cut rects) t) ∙
       or_swap (covers (kept cut rects) s) (has q s) (covers (cut_off cut rects) s) ∙ ap (λ b. has q s || b) (covers_sorted cut rects s)
@@ -95,13 +72,9 @@ covers_sorted cut (q ∷ rects) s = elim (either (touches cut q)) [
       or_first (covers (kept cut rects) s) (has q s) (covers (cut_off cut rects) s) ∙ ap (λ b. has q s || b) (covers_sorted cut rects s)
 ]
 
-or_none : (b c : Bool) → (b || c) ≡ false → (b ≡ false) × (c ≡ false)
-or_none true c e = absurd (false≢true (sym e))
-or_none false c e = (refl, e)
-
 not_touching : (cut : Cut) (r : Rect) → touches cut r ≡ false → ((low_end cut.axis r ≡ cut.at) → ⊥) × ((high_end cut.axis r ≡ cut.at) → ⊥)
 not_touching cut r h =
-    let n = or_none (int_eq (low_end cut.axis r) cut.at) (int_eq (high_end cut.axis r) cut.at) h in (
+    let n = or_parts (int_eq (low_end cut.axis r) cut.at) (int_eq (high_end cut.axis r) cut.at) h in (
       λ e. false≢true (sym n.0 ∙ (Decides-int_eq (low_end cut.axis r) cut.at).1 e),
       λ e. false≢true (sym n.1 ∙ (Decides-int_eq (high_end cut.axis r) cut.at).1 e),
     )
@@ -146,24 +119,24 @@ last_in set r h =
     let wide = run.some in run.inside (r.x2 -ℤ pos 1) (omega (arith, ints)) (omega (arith, ints))
 
 low_agrees : (set : Square → Bool) (axis : Axis) (at : ℤ) (r : Rect) → high_end axis r <ℤ at → Agree (low_half set (record { axis = axis; at = at })) set r
-low_agrees set X at r lt x y a b c d = and_one (set (record { x = x; y = y })) (int_lt x at) (lt_true x at (omega (arith, ints)))
-low_agrees set Y at r lt x y a b c d = and_one (set (record { x = x; y = y })) (int_lt y at) (lt_true y at (omega (arith, ints)))
+low_agrees set X at r lt x y a b c d = and_one (set (record { x = x; y = y })) (int_lt x at) (lt_to x at (omega (arith, ints)))
+low_agrees set Y at r lt x y a b c d = and_one (set (record { x = x; y = y })) (int_lt y at) (lt_to y at (omega (arith, ints)))
 
 high_agrees : (set : Square → Bool) (axis : Axis) (at : ℤ) (r : Rect) → at <ℤ low_end axis r → Agree (high_half set (record { axis = axis; at = at })) set r
-high_agrees set X at r lt x y a b c d = and_one (set (record { x = x; y = y })) (int_le at x) (le_true at x (omega (arith, ints)))
-high_agrees set Y at r lt x y a b c d = and_one (set (record { x = x; y = y })) (int_le at y) (le_true at y (omega (arith, ints)))
+high_agrees set X at r lt x y a b c d = and_one (set (record { x = x; y = y })) (int_le at x) (le_to at x (omega (arith, ints)))
+high_agrees set Y at r lt x y a b c d = and_one (set (record { x = x; y = y })) (int_le at y) (le_to at y (omega (arith, ints)))
 
 pub low_side : (set : Square → Bool) (axis : Axis) (at : ℤ) (r : Rect) → IsBlock (low_half set (record { axis = axis; at = at })) r → high_end axis r ≤ℤ at
 low_side set X at r h =
     let s : Square = record { x = r.x2 -ℤ pos 1; y = r.y2 -ℤ pos 1 } in
-    let lt = lt_from (r.x2 -ℤ pos 1) at (and_split (set s) (int_lt (r.x2 -ℤ pos 1) at) (last_in _ r h)).1 in omega (arith, ints)
+    let lt = lt_from (r.x2 -ℤ pos 1) at (and_parts (set s) (int_lt (r.x2 -ℤ pos 1) at) (last_in _ r h)).1 in omega (arith, ints)
 low_side set Y at r h =
     let s : Square = record { x = r.x2 -ℤ pos 1; y = r.y2 -ℤ pos 1 } in
-    let lt = lt_from (r.y2 -ℤ pos 1) at (and_split (set s) (int_lt (r.y2 -ℤ pos 1) at) (last_in _ r h)).1 in omega (arith, ints)
+    let lt = lt_from (r.y2 -ℤ pos 1) at (and_parts (set s) (int_lt (r.y2 -ℤ pos 1) at) (last_in _ r h)).1 in omega (arith, ints)
 
 pub high_side : (set : Square → Bool) (axis : Axis) (at : ℤ) (r : Rect) → IsBlock (high_half set (record { axis = axis; at = at })) r → at ≤ℤ low_end axis r
-high_side set X at r h = let s : Square = record { x = r.x1; y = r.y1 } in le_from at r.x1 (and_split (set s) (int_le at r.x1) (first_in _ r h)).1
-high_side set Y at r h = let s : Square = record { x = r.x1; y = r.y1 } in le_from at r.y1 (and_split (set s) (int_le at r.y1) (first_in _ r h)).1
+high_side set X at r h = let s : Square = record { x = r.x1; y = r.y1 } in le_from at r.x1 (and_parts (set s) (int_le at r.x1) (first_in _ r h)).1
+high_side set Y at r h = let s : Square = record { x = r.x1; y = r.y1 } in le_from at r.y1 (and_parts (set s) (int_le at r.y1) (first_in _ r h)).1
 
 low_block : (set : Square → Bool) (cut : Cut) (r : Rect) → IsBlock (low_half set cut) r → touches cut r ≡ false → IsBlock set r
 low_block set cut r h clear =
@@ -183,7 +156,7 @@ in_block set r s k i = (k.rows s.y i.y1 i.y2).inside s.x i.x1 i.x2
 -- one half or the other
 
 half_or : (b : Bool) (x cut : ℤ) → b ≡ ((b && int_lt x cut) || (b && int_le cut x))
-half_or true x cut = by_lt_z x cut (λ lt. sym (ap (λ c. c || int_le cut x) (lt_true x cut lt))) (λ le. sym (ap (λ c. c || int_le cut x) (lt_false x cut le) ∙ le_true cut x le))
+half_or true x cut = by_lt_z x cut (λ lt. sym (ap (λ c. c || int_le cut x) (lt_to x cut lt))) (λ le. sym (ap (λ c. c || int_le cut x) (lt_false x cut le) ∙ le_to cut x le))
 half_or false x cut = refl
 
 or_pairs : (a b c d : Bool) → ((a || b) || (c || d)) ≡ ((a || c) || (b || d))
@@ -195,8 +168,8 @@ or_pairs false false false d = refl
 
 not_both : (set : Square → Bool) (cut : Cut) (s : Square) → low_half set cut s ≡ true → high_half set cut s ≡ true → ⊥
 not_both set cut s e f =
-    let a = lt_from (place cut.axis s) cut.at (and_split (set s) (int_lt (place cut.axis s) cut.at) e).1 in
-    let b = le_from cut.at (place cut.axis s) (and_split (set s) (int_le cut.at (place cut.axis s)) f).1 in
+    let a = lt_from (place cut.axis s) cut.at (and_parts (set s) (int_lt (place cut.axis s) cut.at) e).1 in
+    let b = le_from cut.at (place cut.axis s) (and_parts (set s) (int_le cut.at (place cut.axis s)) f).1 in
     omega (arith, ints)
 
 kept_cut : (half : Square → Bool) (cut : Cut) (rects : List Rect) (s : Square) → AreBlocks half rects → covers (kept cut rects) s ≡ true → covers (cut_off cut rects) s ≡ true → ⊥
@@ -237,12 +210,12 @@ parted set cut low high h k = record {
       ap (λ b. b || (covers (cut_off cut high) s || covers (cut_off cut low) s)) (sym (covers_append (kept cut high) (kept cut low) s)) ∙
       ap (λ b. covers (kept cut high ++ kept cut low) s || b) (sym (covers_append (cut_off cut high) (cut_off cut low) s));
   apart = λ s e f.
-      elim (or_split (covers (kept cut high) s) (covers (kept cut low) s) (sym (covers_append (kept cut high) (kept cut low) s) ∙ e)) [
-        | inl a ↦ elim (or_split (covers (cut_off cut high) s) (covers (cut_off cut low) s) (sym (covers_append (cut_off cut high) (cut_off cut low) s) ∙ f)) [
+      elim (or_cases (covers (kept cut high) s) (covers (kept cut low) s) (sym (covers_append (kept cut high) (kept cut low) s) ∙ e)) [
+        | inl a ↦ elim (or_cases (covers (cut_off cut high) s) (covers (cut_off cut low) s) (sym (covers_append (cut_off cut high) (cut_off cut low) s) ∙ f)) [
           | inl b ↦ kept_cut (high_half set cut) cut high s k a b
           | inr b ↦ not_both set cut s (cut_half (low_half set cut) cut low s h b) (kept_half (high_half set cut) cut high s k a)
         ]
-        | inr a ↦ elim (or_split (covers (cut_off cut high) s) (covers (cut_off cut low) s) (sym (covers_append (cut_off cut high) (cut_off cut low) s) ∙ f)) [
+        | inr a ↦ elim (or_cases (covers (cut_off cut high) s) (covers (cut_off cut low) s) (sym (covers_append (cut_off cut high) (cut_off cut low) s) ∙ f)) [
           | inl b ↦ not_both set cut s (kept_half (low_half set cut) cut low s h a) (cut_half (high_half set cut) cut high s k b)
           | inr b ↦ kept_cut (low_half set cut) cut low s h a b
         ]
@@ -258,9 +231,9 @@ pub clear_below : (set : Square → Bool) (axis : Axis) (below at : ℤ) (r : Re
 clear_below set axis below at r lt h =
     let side = high_side set axis at r h in
     let area = side_of axis r (rect_of (high_half set (record { axis = axis; at = at })) r h) in
-    elim (either (touches (record { axis = axis; at = below }) r)) [
+    elim (cases_Bool (touches (record { axis = axis; at = below }) r)) [
       | inr f ↦ f
-      | inl t ↦ elim (or_split (int_eq (low_end axis r) below) (int_eq (high_end axis r) below) t) [
+      | inl t ↦ elim (or_cases (int_eq (low_end axis r) below) (int_eq (high_end axis r) below) t) [
         | inl e ↦ (let same = (Decides-int_eq (low_end axis r) below).0 e in absurd (omega (arith, ints)))
         | inr e ↦ (let same = (Decides-int_eq (high_end axis r) below).0 e in absurd (omega (arith, ints)))
       ]
@@ -274,7 +247,7 @@ clear_below set axis below at r lt h =
 
 pub low_between : (x1 x x2 cut : ℤ) → is_between x1 x (if int_lt cut x2 then cut else x2) ≡ (is_between x1 x x2 && int_lt x cut)
 low_between x1 x x2 cut = by_lt_z cut x2
-    (λ lt. ap (λ (q : ℤ). is_between x1 x q) (if_true (int_lt cut x2) cut x2 (lt_true cut x2 lt)) ∙ shorter x1 x x2 cut lt)
+    (λ lt. ap (λ (q : ℤ). is_between x1 x q) (if_true (int_lt cut x2) cut x2 (lt_to cut x2 lt)) ∙ shorter x1 x x2 cut lt)
     (λ le. ap (λ (q : ℤ). is_between x1 x q) (if_false (int_lt cut x2) cut x2 (lt_false cut x2 le)) ∙ longer x1 x x2 cut le)
   where
     shorter : (x1 x x2 cut : ℤ) → cut <ℤ x2 → is_between x1 x cut ≡ (is_between x1 x x2 && int_lt x cut)
@@ -285,7 +258,7 @@ low_between x1 x x2 cut = by_lt_z cut x2
 
 pub high_between : (x1 x x2 cut : ℤ) → is_between (if int_lt x1 cut then cut else x1) x x2 ≡ (is_between x1 x x2 && int_le cut x)
 high_between x1 x x2 cut = by_lt_z x1 cut
-    (λ lt. ap (λ (q : ℤ). is_between q x x2) (if_true (int_lt x1 cut) cut x1 (lt_true x1 cut lt)) ∙ shorter x1 x x2 cut lt)
+    (λ lt. ap (λ (q : ℤ). is_between q x x2) (if_true (int_lt x1 cut) cut x1 (lt_to x1 cut lt)) ∙ shorter x1 x x2 cut lt)
     (λ le. ap (λ (q : ℤ). is_between q x x2) (if_false (int_lt x1 cut) cut x1 (lt_false x1 cut le)) ∙ longer x1 x x2 cut le)
   where
     shorter : (x1 x x2 cut : ℤ) → x1 <ℤ cut → is_between cut x x2 ≡ (is_between x1 x x2 && int_le cut x)
@@ -325,17 +298,13 @@ none_low x1 x x2 cut h = grind (arith, ints)
 none_high : (x1 x x2 cut : ℤ) → x2 ≤ℤ cut → (is_between x1 x x2 && int_le cut x) ≡ false
 none_high x1 x x2 cut h = grind (arith, ints)
 
-and_false : (p q : Bool) → q ≡ false → (p && q) ≡ false
-and_false true q e = e
-and_false false q e = refl
-
 low_misses : (axis : Axis) (at : ℤ) (r : Rect) (s : Square) → at ≤ℤ low_end axis r → (has r s && int_lt (place axis s) at) ≡ false
 low_misses X at r s le = sym (and_move (is_between r.x1 s.x r.x2) (is_between r.y1 s.y r.y2) (int_lt s.x at)) ∙ ap (λ b. b && is_between r.y1 s.y r.y2) (none_low r.x1 s.x r.x2 at le)
-low_misses Y at r s le = sym (and_assoc (is_between r.x1 s.x r.x2) (is_between r.y1 s.y r.y2) (int_lt s.y at)) ∙ and_false (is_between r.x1 s.x r.x2) _ (none_low r.y1 s.y r.y2 at le)
+low_misses Y at r s le = sym (and_assoc (is_between r.x1 s.x r.x2) (is_between r.y1 s.y r.y2) (int_lt s.y at)) ∙ and_right (is_between r.x1 s.x r.x2) _ (none_low r.y1 s.y r.y2 at le)
 
 high_misses : (axis : Axis) (at : ℤ) (r : Rect) (s : Square) → high_end axis r ≤ℤ at → (has r s && int_le at (place axis s)) ≡ false
 high_misses X at r s le = sym (and_move (is_between r.x1 s.x r.x2) (is_between r.y1 s.y r.y2) (int_le at s.x)) ∙ ap (λ b. b && is_between r.y1 s.y r.y2) (none_high r.x1 s.x r.x2 at le)
-high_misses Y at r s le = sym (and_assoc (is_between r.x1 s.x r.x2) (is_between r.y1 s.y r.y2) (int_le at s.y)) ∙ and_false (is_between r.x1 s.x r.x2) _ (none_high r.y1 s.y r.y2 at le)
+high_misses Y at r s le = sym (and_assoc (is_between r.x1 s.x r.x2) (is_between r.y1 s.y r.y2) (int_le at s.y)) ∙ and_right (is_between r.x1 s.x r.x2) _ (none_high r.y1 s.y r.y2 at le)
 
 covers_lows : (c : Cut) (rects : List Rect) (s : Square) → covers (lows c rects) s ≡ (covers rects s && int_lt (place c.axis s) c.at)
 covers_lows c [] s = refl
@@ -343,7 +312,7 @@ covers_lows c (r ∷ rects) s =
     let p = int_lt (place c.axis s) c.at in
     let rest = covers_lows c rects s in
     by_lt_z (low_end c.axis r) c.at
-    (λ lt. ap (λ xs. covers xs s) (if_true (begins_before c r) (low_part c r ∷ lows c rects) (lows c rects) (lt_true (low_end c.axis r) c.at lt)) ∙
+    (λ lt. ap (λ xs. covers xs s) (if_true (begins_before c r) (low_part c r ∷ lows c rects) (lows c rects) (lt_to (low_end c.axis r) c.at lt)) ∙
     ap (λ b. b || covers (lows c rects) s) (low_has c.axis c.at r s) ∙ ap (λ b. (has r s && p) || b) rest ∙ or_and (has r s) (covers rects s) p)
     (λ le. ap (λ xs. covers xs s) (if_false (begins_before c r) (low_part c r ∷ lows c rects) (lows c rects) (lt_false (low_end c.axis r) c.at le)) ∙
     rest ∙ ap (λ b. b || (covers rects s && p)) (sym (low_misses c.axis c.at r s le)) ∙ or_and (has r s) (covers rects s) p)
@@ -354,7 +323,7 @@ covers_highs c (r ∷ rects) s =
     let p = int_le c.at (place c.axis s) in
     let rest = covers_highs c rects s in
     by_lt_z c.at (high_end c.axis r)
-    (λ lt. ap (λ xs. covers xs s) (if_true (ends_after c r) (high_part c r ∷ highs c rects) (highs c rects) (lt_true c.at (high_end c.axis r) lt)) ∙
+    (λ lt. ap (λ xs. covers xs s) (if_true (ends_after c r) (high_part c r ∷ highs c rects) (highs c rects) (lt_to c.at (high_end c.axis r) lt)) ∙
     ap (λ b. b || covers (highs c rects) s) (high_has c.axis c.at r s) ∙ ap (λ b. (has r s && p) || b) rest ∙ or_and (has r s) (covers rects s) p)
     (λ le. ap (λ xs. covers xs s) (if_false (ends_after c r) (high_part c r ∷ highs c rects) (highs c rects) (lt_false c.at (high_end c.axis r) le)) ∙
     rest ∙ ap (λ b. b || (covers rects s && p)) (sym (high_misses c.axis c.at r s le)) ∙ or_and (has r s) (covers rects s) p)
@@ -362,13 +331,13 @@ covers_highs c (r ∷ rects) s =
 -- each part has area
 
 pub less_than_least : (a at b : ℤ) → a <ℤ at → a <ℤ b → a <ℤ (if int_lt at b then at else b)
-less_than_least a at b h g = elim (either (int_lt at b)) [
+less_than_least a at b h g = elim (cases_Bool (int_lt at b)) [
   | inl t ↦ subst (λ (q : ℤ). a <ℤ q) (sym (if_true (int_lt at b) at b t)) h
   | inr f ↦ subst (λ (q : ℤ). a <ℤ q) (sym (if_false (int_lt at b) at b f)) g
 ]
 
 pub most_less_than : (a at b : ℤ) → at <ℤ b → a <ℤ b → (if int_lt a at then at else a) <ℤ b
-most_less_than a at b h g = elim (either (int_lt a at)) [
+most_less_than a at b h g = elim (cases_Bool (int_lt a at)) [
   | inl t ↦ subst (λ (q : ℤ). q <ℤ b) (sym (if_true (int_lt a at) at a t)) h
   | inr f ↦ subst (λ (q : ℤ). q <ℤ b) (sym (if_false (int_lt a at) at a f)) g
 ]
@@ -390,7 +359,7 @@ lows_rects c [] h = h
 lows_rects c (r ∷ rects) h =
     let rest = lows_rects c rects (λ k d lt. h (suc k) d (omega arith)) in
     by_lt_z (low_end c.axis r) c.at
-    (λ lt. subst (λ (xs : List Rect). All IsRect xs) (sym (if_true (begins_before c r) (low_part c r ∷ lows c rects) (lows c rects) (lt_true (low_end c.axis r) c.at lt))) (with_first (low_part c r) (lows c rects) (low_rect c.axis c.at r lt (h 0 r (omega arith))) rest))
+    (λ lt. subst (λ (xs : List Rect). All IsRect xs) (sym (if_true (begins_before c r) (low_part c r ∷ lows c rects) (lows c rects) (lt_to (low_end c.axis r) c.at lt))) (with_first (low_part c r) (lows c rects) (low_rect c.axis c.at r lt (h 0 r (omega arith))) rest))
     (λ le. subst (λ (xs : List Rect). All IsRect xs) (sym (if_false (begins_before c r) (low_part c r ∷ lows c rects) (lows c rects) (lt_false (low_end c.axis r) c.at le))) rest)
 
 pub highs_rects : (c : Cut) (rects : List Rect) → All IsRect rects → All IsRect (highs c rects)
@@ -398,7 +367,7 @@ highs_rects c [] h = h
 highs_rects c (r ∷ rects) h =
     let rest = highs_rects c rects (λ k d lt. h (suc k) d (omega arith)) in
     by_lt_z c.at (high_end c.axis r)
-    (λ lt. subst (λ (xs : List Rect). All IsRect xs) (sym (if_true (ends_after c r) (high_part c r ∷ highs c rects) (highs c rects) (lt_true c.at (high_end c.axis r) lt))) (with_first (high_part c r) (highs c rects) (high_rect c.axis c.at r lt (h 0 r (omega arith))) rest))
+    (λ lt. subst (λ (xs : List Rect). All IsRect xs) (sym (if_true (ends_after c r) (high_part c r ∷ highs c rects) (highs c rects) (lt_to c.at (high_end c.axis r) lt))) (with_first (high_part c r) (highs c rects) (high_rect c.axis c.at r lt (h 0 r (omega arith))) rest))
     (λ le. subst (λ (xs : List Rect). All IsRect xs) (sym (if_false (ends_after c r) (high_part c r ∷ highs c rects) (highs c rects) (lt_false c.at (high_end c.axis r) le))) rest)
 
 -- the rectangles of a set's blocks have squares, and so have those of them that touch a cut

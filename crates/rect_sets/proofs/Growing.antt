@@ -1,5 +1,6 @@
 -- Runs that grow.
-use Rattle.std.proofs.Common.{◌≡◌, ℤ, ◌≤ℤ◌, ◌<ℤ◌, List, [], ◌∷◌, ◌++◌, Bool, true, false, ◌||◌, refl, sym, ◌∙◌, ap, arith}
+use Rattle.std.proofs.Common.{◌≡◌, ℤ, ◌≤ℤ◌, ◌<ℤ◌, List, [], ◌∷◌, ◌++◌, ◌||◌, sym, ◌∙◌, ap, arith}
+use Rattle.base_laws.proofs.Tests.{or_false, or_assoc}
 use Rattle.std.proofs.lemmas.Int.{ints}
 use Rattle.std.proofs.lemmas.List.Folds.{list_any-append}
 use Rattle.geo_base.specs.Rects.{is_between}
@@ -9,14 +10,6 @@ use Rattle.rect_sets.specs.declared.row.Span.{Span}
 -- two ranges that meet are one
 pub meet : (x a b c d : ℤ) → a ≤ℤ c → c ≤ℤ b → b <ℤ d → (is_between a x b || is_between c x d) ≡ is_between a x d
 meet x a b c d h g f = grind (arith, ints)
-
-pub or_none : (b : Bool) → (b || false) ≡ b
-or_none true = refl
-or_none false = refl
-
-pub or_assoc : (a b c : Bool) → ((a || b) || c) ≡ (a || (b || c))
-or_assoc true b c = refl
-or_assoc false b c = refl
 
 -- a range that begins past the last run is a run of its own
 pub beyond : (low from : ℤ) (closed : List Span) (c d : Span) → c.x2 <ℤ d.x1 → d.x1 <ℤ d.x2 → AreApart from (closed ++ c ∷ []) → AreApart from ((closed ++ c ∷ []) ++ d ∷ [])
@@ -29,7 +22,7 @@ changed from [] c d e le h = (omega (arith, ints, h.0), omega (arith, ints, h.1)
 changed from (s ∷ closed) c d e le h = (h.0, h.1, changed s.x2 closed c d e le h.2)
 
 pub one_more : (xs : List Span) (s : Span) (x : ℤ) → covers (xs ++ s ∷ []) x ≡ (covers xs x || is_inside x s)
-one_more xs s x = list_any-append (is_inside x) xs (s ∷ []) ∙ ap (λ b. covers xs x || b) (or_none (is_inside x s))
+one_more xs s x = list_any-append (is_inside x) xs (s ∷ []) ∙ ap (λ b. covers xs x || b) (or_false (is_inside x s))
 
 pub last_joined : (closed : List Span) (c d s : Span) (x : ℤ) → (is_inside x c || is_inside x s) ≡ is_inside x d → covers (closed ++ d ∷ []) x ≡ (covers (closed ++ c ∷ []) x || is_inside x s)
 last_joined closed c d s x e =

@@ -1,5 +1,7 @@
 -- Edges cut in two.
 use Rattle.std.proofs.Common.{◌≡◌, ℕ, suc, ℤ, pos, ◌+ℤ◌, ◌≤ℤ◌, ◌<ℤ◌, ◌<◌, ◌+◌, List, [], ◌∷◌, ◌++◌, Bool, true, false, ◌&&◌, length, take, get_or, refl, sym, ◌∙◌, ap, subst, arith, int_le, int_lt, if◌then◌else◌}
+use Rattle.base_laws.proofs.Tests.{if_true, if_false, lt_to, le_to}
+use Rattle.std.proofs.lemmas.Bool.{and_right}
 use Rattle.std.proofs.lemmas.Int.{ints, by_lt_z}
 use Rattle.std.proofs.lemmas.List.{take_more, take_all}
 use Rattle.std.proofs.lemmas.List.Elements.{All-nil, All-cons, All-append}
@@ -14,7 +16,7 @@ use Rattle.rect_sets.specs.declared.row.Edge.{Edge}
 use Rattle.rect_sets.specs.declared.row.Rule.{Rule}
 use Rattle.rect_sets.specs.declared.row.Rule.TheVariants.{First, And, Or, Not, Xor}
 use Rattle.rect_sets.proofs.Combining.{sum_append}
-use Rattle.rect_sets.proofs.Dividing.{if_true, if_false, lt_true, lt_false, le_true, le_false, low_between, high_between, and_one, and_none, less_than_least, most_less_than}
+use Rattle.rect_sets.proofs.Dividing.{lt_false, le_false, low_between, high_between, and_one, less_than_least, most_less_than}
 use Rattle.rect_sets.proofs.RowRuns.{same_holds}
 
 holds_none : (rule : Rule) → holds rule (pos 0) (pos 0) ≡ false
@@ -67,8 +69,8 @@ below_sum test field y row t w lt (e ∷ es) =
     let rest = below_sum test field y row t w lt es in
     let part = in_rows e e.y1 (if int_lt y e.y2 then y else e.y2) in
     by_lt_z e.y1 y
-    (λ h. ap (λ xs. sum_where test field xs) (if_true (int_lt e.y1 y) (part ∷ edges_below y es) (edges_below y es) (lt_true e.y1 y h)) ∙
-    both (test part) (test e) (field part) (field e) _ _ (t.same e e.y1 _ (low_between e.y1 row e.y2 y ∙ and_one (is_between e.y1 row e.y2) (int_lt row y) (lt_true row y lt))) (w e e.y1 _) rest)
+    (λ h. ap (λ xs. sum_where test field xs) (if_true (int_lt e.y1 y) (part ∷ edges_below y es) (edges_below y es) (lt_to e.y1 y h)) ∙
+    both (test part) (test e) (field part) (field e) _ _ (t.same e e.y1 _ (low_between e.y1 row e.y2 y ∙ and_one (is_between e.y1 row e.y2) (int_lt row y) (lt_to row y lt))) (w e e.y1 _) rest)
     (λ h. ap (λ xs. sum_where test field xs) (if_false (int_lt e.y1 y) (part ∷ edges_below y es) (edges_below y es) (lt_false e.y1 y h)) ∙
     one (test e) (field e) _ _ (t.none e (before e.y1 e.y2 y row lt h)) rest)
 
@@ -78,8 +80,8 @@ below_none test field y row t le (e ∷ es) =
     let rest = below_none test field y row t le es in
     let part = in_rows e e.y1 (if int_lt y e.y2 then y else e.y2) in
     by_lt_z e.y1 y
-    (λ h. ap (λ xs. sum_where test field xs) (if_true (int_lt e.y1 y) (part ∷ edges_below y es) (edges_below y es) (lt_true e.y1 y h)) ∙
-    sym (one (test part) (field part) _ _ (t.none part (low_between e.y1 row e.y2 y ∙ and_none (is_between e.y1 row e.y2) (int_lt row y) (lt_false row y le))) (sym rest)))
+    (λ h. ap (λ xs. sum_where test field xs) (if_true (int_lt e.y1 y) (part ∷ edges_below y es) (edges_below y es) (lt_to e.y1 y h)) ∙
+    sym (one (test part) (field part) _ _ (t.none part (low_between e.y1 row e.y2 y ∙ and_right (is_between e.y1 row e.y2) (int_lt row y) (lt_false row y le))) (sym rest)))
     (λ h. ap (λ xs. sum_where test field xs) (if_false (int_lt e.y1 y) (part ∷ edges_below y es) (edges_below y es) (lt_false e.y1 y h)) ∙ rest)
 
 above_sum : (test : Edge → Bool) (field : Edge → ℤ) (y row : ℤ) → IsRowTest row test → IsWeightOf field → y ≤ℤ row → (es : List Edge) → sum_where test field (edges_above y es) ≡ sum_where test field es
@@ -88,8 +90,8 @@ above_sum test field y row t w le (e ∷ es) =
     let rest = above_sum test field y row t w le es in
     let part = in_rows e (if int_lt e.y1 y then y else e.y1) e.y2 in
     by_lt_z y e.y2
-    (λ h. ap (λ xs. sum_where test field xs) (if_true (int_lt y e.y2) (part ∷ edges_above y es) (edges_above y es) (lt_true y e.y2 h)) ∙
-    both (test part) (test e) (field part) (field e) _ _ (t.same e _ e.y2 (high_between e.y1 row e.y2 y ∙ and_one (is_between e.y1 row e.y2) (int_le y row) (le_true y row le))) (w e _ e.y2) rest)
+    (λ h. ap (λ xs. sum_where test field xs) (if_true (int_lt y e.y2) (part ∷ edges_above y es) (edges_above y es) (lt_to y e.y2 h)) ∙
+    both (test part) (test e) (field part) (field e) _ _ (t.same e _ e.y2 (high_between e.y1 row e.y2 y ∙ and_one (is_between e.y1 row e.y2) (int_le y row) (le_to y row le))) (w e _ e.y2) rest)
     (λ h. ap (λ xs. sum_where test field xs) (if_false (int_lt y e.y2) (part ∷ edges_above y es) (edges_above y es) (lt_false y e.y2 h)) ∙
     one (test e) (field e) _ _ (t.none e (behind e.y1 e.y2 y row le h)) rest)
 
@@ -99,8 +101,8 @@ above_none test field y row t lt (e ∷ es) =
     let rest = above_none test field y row t lt es in
     let part = in_rows e (if int_lt e.y1 y then y else e.y1) e.y2 in
     by_lt_z y e.y2
-    (λ h. ap (λ xs. sum_where test field xs) (if_true (int_lt y e.y2) (part ∷ edges_above y es) (edges_above y es) (lt_true y e.y2 h)) ∙
-    sym (one (test part) (field part) _ _ (t.none part (high_between e.y1 row e.y2 y ∙ and_none (is_between e.y1 row e.y2) (int_le y row) (le_false y row lt))) (sym rest)))
+    (λ h. ap (λ xs. sum_where test field xs) (if_true (int_lt y e.y2) (part ∷ edges_above y es) (edges_above y es) (lt_to y e.y2 h)) ∙
+    sym (one (test part) (field part) _ _ (t.none part (high_between e.y1 row e.y2 y ∙ and_right (is_between e.y1 row e.y2) (int_le y row) (le_false y row lt))) (sym rest)))
     (λ h. ap (λ xs. sum_where test field xs) (if_false (int_lt y e.y2) (part ∷ edges_above y es) (edges_above y es) (lt_false y e.y2 h)) ∙ rest)
 
 below_edges : (y : ℤ) (es : List Edge) → All IsEdge es → All IsEdge (edges_below y es)
@@ -110,7 +112,7 @@ below_edges y (e ∷ es) h =
     let own : IsEdge e = h 0 e (omega arith) in
     let part = in_rows e e.y1 (if int_lt y e.y2 then y else e.y2) in
     by_lt_z e.y1 y
-    (λ lt. subst (λ (xs : List Edge). All IsEdge xs) (sym (if_true (int_lt e.y1 y) (part ∷ edges_below y es) (edges_below y es) (lt_true e.y1 y lt)))
+    (λ lt. subst (λ (xs : List Edge). All IsEdge xs) (sym (if_true (int_lt e.y1 y) (part ∷ edges_below y es) (edges_below y es) (lt_to e.y1 y lt)))
     (All-cons IsEdge part _ (record { some = less_than_least e.y1 y e.y2 lt own.some }) rest))
     (λ le. subst (λ (xs : List Edge). All IsEdge xs) (sym (if_false (int_lt e.y1 y) (part ∷ edges_below y es) (edges_below y es) (lt_false e.y1 y le))) rest)
 
@@ -121,7 +123,7 @@ above_edges y (e ∷ es) h =
     let own : IsEdge e = h 0 e (omega arith) in
     let part = in_rows e (if int_lt e.y1 y then y else e.y1) e.y2 in
     by_lt_z y e.y2
-    (λ lt. subst (λ (xs : List Edge). All IsEdge xs) (sym (if_true (int_lt y e.y2) (part ∷ edges_above y es) (edges_above y es) (lt_true y e.y2 lt)))
+    (λ lt. subst (λ (xs : List Edge). All IsEdge xs) (sym (if_true (int_lt y e.y2) (part ∷ edges_above y es) (edges_above y es) (lt_to y e.y2 lt)))
     (All-cons IsEdge part _ (record { some = most_less_than e.y1 y e.y2 lt own.some }) rest))
     (λ le. subst (λ (xs : List Edge). All IsEdge xs) (sym (if_false (int_lt y e.y2) (part ∷ edges_above y es) (edges_above y es) (lt_false y e.y2 le))) rest)
 
@@ -146,13 +148,13 @@ level y es h b = record {
   low_edges = below_edges y es h;
   low_balanced = record { first = λ row. below_total first_of y row es kept_first (b.first row); second = λ row. below_total second_of y row es kept_second (b.second row) };
   low_set = λ rule s. by_lt_z s.y y
-      (λ lt. same_holds rule _ _ _ _ (below_sum (acts_on s) first_of y s.y (acting_test s) kept_first lt es) (below_sum (acts_on s) second_of y s.y (acting_test s) kept_second lt es) ∙ sym (and_one (set_of rule es s) (int_lt s.y y) (lt_true s.y y lt)))
-      (λ le. same_holds rule _ _ _ _ (below_none (acts_on s) first_of y s.y (acting_test s) le es) (below_none (acts_on s) second_of y s.y (acting_test s) le es) ∙ holds_none rule ∙ sym (and_none (set_of rule es s) (int_lt s.y y) (lt_false s.y y le)));
+      (λ lt. same_holds rule _ _ _ _ (below_sum (acts_on s) first_of y s.y (acting_test s) kept_first lt es) (below_sum (acts_on s) second_of y s.y (acting_test s) kept_second lt es) ∙ sym (and_one (set_of rule es s) (int_lt s.y y) (lt_to s.y y lt)))
+      (λ le. same_holds rule _ _ _ _ (below_none (acts_on s) first_of y s.y (acting_test s) le es) (below_none (acts_on s) second_of y s.y (acting_test s) le es) ∙ holds_none rule ∙ sym (and_right (set_of rule es s) (int_lt s.y y) (lt_false s.y y le)));
   high_edges = above_edges y es h;
   high_balanced = record { first = λ row. above_total first_of y row es kept_first (b.first row); second = λ row. above_total second_of y row es kept_second (b.second row) };
   high_set = λ rule s. by_lt_z s.y y
-      (λ lt. same_holds rule _ _ _ _ (above_none (acts_on s) first_of y s.y (acting_test s) lt es) (above_none (acts_on s) second_of y s.y (acting_test s) lt es) ∙ holds_none rule ∙ sym (and_none (set_of rule es s) (int_le y s.y) (le_false y s.y lt)))
-      (λ le. same_holds rule _ _ _ _ (above_sum (acts_on s) first_of y s.y (acting_test s) kept_first le es) (above_sum (acts_on s) second_of y s.y (acting_test s) kept_second le es) ∙ sym (and_one (set_of rule es s) (int_le y s.y) (le_true y s.y le)));
+      (λ lt. same_holds rule _ _ _ _ (above_none (acts_on s) first_of y s.y (acting_test s) lt es) (above_none (acts_on s) second_of y s.y (acting_test s) lt es) ∙ holds_none rule ∙ sym (and_right (set_of rule es s) (int_le y s.y) (le_false y s.y lt)))
+      (λ le. same_holds rule _ _ _ _ (above_sum (acts_on s) first_of y s.y (acting_test s) kept_first le es) (above_sum (acts_on s) second_of y s.y (acting_test s) kept_second le es) ∙ sym (and_one (set_of rule es s) (int_le y s.y) (le_to y s.y le)));
 }
 
 -- upright lines
@@ -162,8 +164,8 @@ parted_sum test field x [] = refl
 parted_sum test field x (e ∷ es) =
     let rest = parted_sum test field x es in
     by_lt_z e.x x
-    (λ lt. let l = ap (λ xs. sum_where test field xs) (if_true (int_lt e.x x) (e ∷ edges_left x es) (edges_left x es) (lt_true e.x x lt)) in
-    let r = ap (λ xs. sum_where test field xs) (if_true (int_lt e.x x) (edges_right x es) (e ∷ edges_right x es) (lt_true e.x x lt)) in
+    (λ lt. let l = ap (λ xs. sum_where test field xs) (if_true (int_lt e.x x) (e ∷ edges_left x es) (edges_left x es) (lt_to e.x x lt)) in
+    let r = ap (λ xs. sum_where test field xs) (if_true (int_lt e.x x) (edges_right x es) (e ∷ edges_right x es) (lt_to e.x x lt)) in
     added _ _ (if test e then field e else pos 0) _ _ _ l r rest)
     (λ le. let l = ap (λ xs. sum_where test field xs) (if_false (int_lt e.x x) (e ∷ edges_left x es) (edges_left x es) (lt_false e.x x le)) in
     let r = ap (λ xs. sum_where test field xs) (if_false (int_lt e.x x) (edges_right x es) (e ∷ edges_right x es) (lt_false e.x x le)) in
@@ -178,13 +180,13 @@ parted_sum test field x (e ∷ es) =
 left_line : (x : ℤ) (es : List Edge) → All (λ e. e.x <ℤ x) (edges_left x es)
 left_line x [] = All-nil (λ (e : Edge). e.x <ℤ x)
 left_line x (e ∷ es) = by_lt_z e.x x
-    (λ lt. subst (λ (xs : List Edge). All (λ e. e.x <ℤ x) xs) (sym (if_true (int_lt e.x x) (e ∷ edges_left x es) (edges_left x es) (lt_true e.x x lt))) (All-cons (λ (e : Edge). e.x <ℤ x) e _ lt (left_line x es)))
+    (λ lt. subst (λ (xs : List Edge). All (λ e. e.x <ℤ x) xs) (sym (if_true (int_lt e.x x) (e ∷ edges_left x es) (edges_left x es) (lt_to e.x x lt))) (All-cons (λ (e : Edge). e.x <ℤ x) e _ lt (left_line x es)))
     (λ le. subst (λ (xs : List Edge). All (λ e. e.x <ℤ x) xs) (sym (if_false (int_lt e.x x) (e ∷ edges_left x es) (edges_left x es) (lt_false e.x x le))) (left_line x es))
 
 right_line : (x : ℤ) (es : List Edge) → All (λ e. x ≤ℤ e.x) (edges_right x es)
 right_line x [] = All-nil (λ (e : Edge). x ≤ℤ e.x)
 right_line x (e ∷ es) = by_lt_z e.x x
-    (λ lt. subst (λ (xs : List Edge). All (λ e. x ≤ℤ e.x) xs) (sym (if_true (int_lt e.x x) (edges_right x es) (e ∷ edges_right x es) (lt_true e.x x lt))) (right_line x es))
+    (λ lt. subst (λ (xs : List Edge). All (λ e. x ≤ℤ e.x) xs) (sym (if_true (int_lt e.x x) (edges_right x es) (e ∷ edges_right x es) (lt_to e.x x lt))) (right_line x es))
     (λ le. subst (λ (xs : List Edge). All (λ e. x ≤ℤ e.x) xs) (sym (if_false (int_lt e.x x) (edges_right x es) (e ∷ edges_right x es) (lt_false e.x x le))) (All-cons (λ (e : Edge). x ≤ℤ e.x) e _ le (right_line x es)))
 
 pub left_edges : (P : Edge → Type 0) (x : ℤ) (es : List Edge) → All P es → All P (edges_left x es)
@@ -192,7 +194,7 @@ left_edges P x [] h = h
 left_edges P x (e ∷ es) h =
     let rest = left_edges P x es (λ k d lt. h (suc k) d (omega arith)) in
     by_lt_z e.x x
-    (λ lt. subst (λ (xs : List Edge). All P xs) (sym (if_true (int_lt e.x x) (e ∷ edges_left x es) (edges_left x es) (lt_true e.x x lt))) (All-cons P e _ (h 0 e (omega arith)) rest))
+    (λ lt. subst (λ (xs : List Edge). All P xs) (sym (if_true (int_lt e.x x) (e ∷ edges_left x es) (edges_left x es) (lt_to e.x x lt))) (All-cons P e _ (h 0 e (omega arith)) rest))
     (λ le. subst (λ (xs : List Edge). All P xs) (sym (if_false (int_lt e.x x) (e ∷ edges_left x es) (edges_left x es) (lt_false e.x x le))) rest)
 
 pub right_edges : (P : Edge → Type 0) (x : ℤ) (es : List Edge) → All P es → All P (edges_right x es)
@@ -200,7 +202,7 @@ right_edges P x [] h = h
 right_edges P x (e ∷ es) h =
     let rest = right_edges P x es (λ k d lt. h (suc k) d (omega arith)) in
     by_lt_z e.x x
-    (λ lt. subst (λ (xs : List Edge). All P xs) (sym (if_true (int_lt e.x x) (edges_right x es) (e ∷ edges_right x es) (lt_true e.x x lt))) rest)
+    (λ lt. subst (λ (xs : List Edge). All P xs) (sym (if_true (int_lt e.x x) (edges_right x es) (e ∷ edges_right x es) (lt_to e.x x lt))) rest)
     (λ le. subst (λ (xs : List Edge). All P xs) (sym (if_false (int_lt e.x x) (edges_right x es) (e ∷ edges_right x es) (lt_false e.x x le))) (All-cons P e _ (h 0 e (omega arith)) rest))
 
 -- none acts on a square left of it, and all of a row on one that isn't
@@ -208,12 +210,12 @@ right_edges P x (e ∷ es) h =
 weight_none : (field : Edge → ℤ) (s : Square) (es : List Edge) → All (λ e. s.x <ℤ e.x) es → weight field es s ≡ pos 0
 weight_none field s [] h = refl
 weight_none field s (e ∷ es) h =
-    sym (one (acts_on s e) (field e) _ _ (and_none (crosses s.y e) (int_le e.x s.x) (le_false e.x s.x (h 0 e (omega arith)))) (sym (weight_none field s es (λ k d lt. h (suc k) d (omega arith)))))
+    sym (one (acts_on s e) (field e) _ _ (and_right (crosses s.y e) (int_le e.x s.x) (le_false e.x s.x (h 0 e (omega arith)))) (sym (weight_none field s es (λ k d lt. h (suc k) d (omega arith)))))
 
 weight_all : (field : Edge → ℤ) (s : Square) (es : List Edge) → All (λ e. e.x ≤ℤ s.x) es → weight field es s ≡ total field es s.y
 weight_all field s [] h = refl
 weight_all field s (e ∷ es) h =
-    both (acts_on s e) (crosses s.y e) (field e) (field e) _ _ (and_one (crosses s.y e) (int_le e.x s.x) (le_true e.x s.x (h 0 e (omega arith)))) refl (weight_all field s es (λ k d lt. h (suc k) d (omega arith)))
+    both (acts_on s e) (crosses s.y e) (field e) (field e) _ _ (and_one (crosses s.y e) (int_le e.x s.x) (le_to e.x s.x (h 0 e (omega arith)))) refl (weight_all field s es (λ k d lt. h (suc k) d (omega arith)))
 
 all_change : (P Q : Edge → Type 0) (es : List Edge) → ((e : Edge) → P e → Q e) → All P es → All Q es
 all_change P Q es f h = λ k d lt. f _ (h k d lt)
@@ -264,13 +266,13 @@ upright x es left right h b l r = record {
   low_edges = All-append IsEdge (edges_left x es) right (left_edges IsEdge x es h) r.sound;
   low_balanced = record { first = λ row. low_total first_of x row es right (r.first row) (b.first row); second = λ row. low_total second_of x row es right (r.second row) (b.second row) };
   low_set = λ rule s. by_lt_z s.x x
-      (λ lt. same_holds rule _ _ _ _ (low_weight first_of x s es right r.line lt) (low_weight second_of x s es right r.line lt) ∙ sym (and_one (set_of rule es s) (int_lt s.x x) (lt_true s.x x lt)))
-      (λ le. same_holds rule _ _ _ _ (low_nothing first_of x s es right r.line (r.first s.y) (b.first s.y) le) (low_nothing second_of x s es right r.line (r.second s.y) (b.second s.y) le) ∙ holds_none rule ∙ sym (and_none (set_of rule es s) (int_lt s.x x) (lt_false s.x x le)));
+      (λ lt. same_holds rule _ _ _ _ (low_weight first_of x s es right r.line lt) (low_weight second_of x s es right r.line lt) ∙ sym (and_one (set_of rule es s) (int_lt s.x x) (lt_to s.x x lt)))
+      (λ le. same_holds rule _ _ _ _ (low_nothing first_of x s es right r.line (r.first s.y) (b.first s.y) le) (low_nothing second_of x s es right r.line (r.second s.y) (b.second s.y) le) ∙ holds_none rule ∙ sym (and_right (set_of rule es s) (int_lt s.x x) (lt_false s.x x le)));
   high_edges = All-append IsEdge (edges_right x es) left (right_edges IsEdge x es h) l.sound;
   high_balanced = record { first = λ row. high_total first_of x row es left (l.first row) (b.first row); second = λ row. high_total second_of x row es left (l.second row) (b.second row) };
   high_set = λ rule s. by_lt_z s.x x
-      (λ lt. same_holds rule _ _ _ _ (high_nothing first_of x s es left l.line lt) (high_nothing second_of x s es left l.line lt) ∙ holds_none rule ∙ sym (and_none (set_of rule es s) (int_le x s.x) (le_false x s.x lt)))
-      (λ le. same_holds rule _ _ _ _ (high_weight first_of x s es left l.line (l.first s.y) le) (high_weight second_of x s es left l.line (l.second s.y) le) ∙ sym (and_one (set_of rule es s) (int_le x s.x) (le_true x s.x le)));
+      (λ lt. same_holds rule _ _ _ _ (high_nothing first_of x s es left l.line lt) (high_nothing second_of x s es left l.line lt) ∙ holds_none rule ∙ sym (and_right (set_of rule es s) (int_le x s.x) (le_false x s.x lt)))
+      (λ le. same_holds rule _ _ _ _ (high_weight first_of x s es left l.line (l.first s.y) le) (high_weight second_of x s es left l.line (l.second s.y) le) ∙ sym (and_one (set_of rule es s) (int_le x s.x) (le_to x s.x le)));
 }
 
 -- the loops

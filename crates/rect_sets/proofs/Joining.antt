@@ -1,9 +1,10 @@
 -- Open rectangles against runs, both in order.
-use Rattle.std.proofs.Common.{◌≡◌, ℕ, ℤ, ◌≤ℤ◌, ◌<ℤ◌, ◌≤◌, ◌<◌, ◌+◌, List, [], ◌∷◌, ◌++◌, Bool, true, false, ◌||◌, drop, length, refl, sym, ◌∙◌, ap, subst, arith, pos, if◌then◌else◌, append_assoc, inl, inr}
+use Rattle.std.proofs.Common.{◌≡◌, ℕ, ℤ, ◌≤ℤ◌, ◌<ℤ◌, ◌≤◌, ◌<◌, ◌+◌, List, [], ◌∷◌, ◌++◌, true, false, ◌||◌, drop, length, refl, sym, ◌∙◌, ap, subst, arith, pos, if◌then◌else◌, append_assoc, inl, inr}
+use Rattle.base_laws.proofs.Tests.{if_true, if_false}
 use Rattle.std.proofs.lemmas.Int.{ints}
 use Rattle.std.proofs.lemmas.List.{drop_more, drop_all}
 use Rattle.std.proofs.lemmas.Bool.Decides.{Decides-int_eq}
-use Rattle.std.proofs.lemmas.Bool.{false≢true, cases_lt}
+use Rattle.std.proofs.lemmas.Bool.{cases_lt, false_from_ne_true}
 use Rattle.std.specs.Ordering.{int_eq}
 use Rattle.rect_sets.specs.Spans.{AreApart}
 use Rattle.rect_sets.specs.Opens.{rect_of, fresh, span_of, spans_of, is_same, found, nexts, is_among, ended, open_at, run_at, ArePartsApart, Advances, StepSoFar}
@@ -19,20 +20,8 @@ same_from o s h =
     let second : int_eq o.x2 s.x2 ≡ true = grind arith in
     ((Decides-int_eq o.x1 s.x1).0 first, (Decides-int_eq o.x2 s.x2).0 second)
 
-false_from : (b : Bool) → (b ≡ true → ⊥) → b ≡ false
-false_from true h = absurd (h refl)
-false_from false h = refl
-
 pub not_same : (o : Open) (s : Span) → ((o.x1 ≡ s.x1) → ⊥) → is_same o s ≡ false
-not_same o s h = false_from (is_same o s) (λ e. h (same_from o s e).0)
-
-pick_true : {A : Type 0} (b : Bool) (x y : A) → b ≡ true → (if b then x else y) ≡ x
-pick_true true x y e = refl
-pick_true false x y e = absurd (false≢true e)
-
-pick_false : {A : Type 0} (b : Bool) (x y : A) → b ≡ false → (if b then x else y) ≡ y
-pick_false true x y e = absurd (false≢true (sym e))
-pick_false false x y e = refl
+not_same o s h = false_from_ne_true (is_same o s) (λ e. h (same_from o s e).0)
 
 -- an open rectangle left of all runs
 
@@ -40,7 +29,7 @@ skip_open : (y from : ℤ) (o : Open) (os : List Open) (rs : List Span) → AreA
 skip_open y from o os [] h le = refl
 skip_open y from o os (s ∷ rs) h le =
     let other : is_same o s ≡ false = not_same o s (λ e. let h0 = h.0 in omega (arith, ints)) in
-    let one : found y (o ∷ os) s ≡ found y os s = pick_false (is_same o s) o (found y os s) other in
+    let one : found y (o ∷ os) s ≡ found y os s = if_false (is_same o s) o (found y os s) other in
     let rest : nexts y (o ∷ os) rs ≡ nexts y os rs = skip_open y s.x2 o os rs h.2 (let h0 = h.0 in let h1 = h.1 in omega (arith, ints)) in
     ap (λ (q : Open). q ∷ nexts y (o ∷ os) rs) one ∙ ap (λ (qs : List Open). found y os s ∷ qs) rest
 
@@ -65,7 +54,7 @@ not_found : (y from : ℤ) (s : Span) (os : List Open) → AreApart from (spans_
 not_found y from s [] h le = refl
 not_found y from s (o ∷ os) h le =
     let other : is_same o s ≡ false = not_same o s (λ e. let h0 = h.0 in omega (arith, ints)) in
-    pick_false (is_same o s) o (found y os s) other ∙ not_found y o.x2 s os h.2 (let h0 = h.0 in let h1 = h.1 in omega (arith, ints))
+    if_false (is_same o s) o (found y os s) other ∙ not_found y o.x2 s os h.2 (let h0 = h.0 in let h1 = h.1 in omega (arith, ints))
 
 -- the three turns, on lists
 
@@ -73,7 +62,7 @@ nexts_same : (y : ℤ) (f g : ℤ) (o : Open) (s : Span) (os : List Open) (rs : 
 nexts_same y f g o s os rs e h k =
     let eq = (same_from o s e).0 in
     let k1 = k.1 in
-    ap (λ (q : Open). q ∷ nexts y (o ∷ os) rs) (pick_true (is_same o s) o (found y os s) e) ∙ ap (λ (qs : List Open). o ∷ qs) (skip_open y s.x2 o os rs k.2 (omega (arith, ints)))
+    ap (λ (q : Open). q ∷ nexts y (o ∷ os) rs) (if_true (is_same o s) o (found y os s) e) ∙ ap (λ (qs : List Open). o ∷ qs) (skip_open y s.x2 o os rs k.2 (omega (arith, ints)))
 
 ended_same : (y : ℤ) (f g : ℤ) (o : Open) (s : Span) (os : List Open) (rs : List Span) → is_same o s ≡ true → AreApart f (span_of o ∷ spans_of os) → AreApart g (s ∷ rs) → ended y (o ∷ os) (s ∷ rs) ≡ ended y os rs
 ended_same y f g o s os rs e h k =
@@ -84,13 +73,13 @@ ended_same y f g o s os rs e h k =
 nexts_close : (y g : ℤ) (o : Open) (s : Span) (os : List Open) (rs : List Span) → is_same o s ≡ false → o.x1 ≤ℤ s.x1 → AreApart g (s ∷ rs) → nexts y (o ∷ os) (s ∷ rs) ≡ nexts y os (s ∷ rs)
 nexts_close y g o s os rs e le k =
     let k1 = k.1 in
-    ap (λ (q : Open). q ∷ nexts y (o ∷ os) rs) (pick_false (is_same o s) o (found y os s) e) ∙ ap (λ (qs : List Open). found y os s ∷ qs) (skip_open y s.x2 o os rs k.2 (omega (arith, ints)))
+    ap (λ (q : Open). q ∷ nexts y (o ∷ os) rs) (if_false (is_same o s) o (found y os s) e) ∙ ap (λ (qs : List Open). found y os s ∷ qs) (skip_open y s.x2 o os rs k.2 (omega (arith, ints)))
 
 ended_close : (y g : ℤ) (o : Open) (s : Span) (os : List Open) (rs : List Span) → is_same o s ≡ false → o.x1 ≤ℤ s.x1 → AreApart g (s ∷ rs) → ended y (o ∷ os) (s ∷ rs) ≡ rect_of y o ∷ ended y os (s ∷ rs)
 ended_close y g o s os rs e le k =
     let k1 = k.1 in
     let none : is_among o rs ≡ false = not_among s.x2 o rs k.2 (omega (arith, ints)) in
-    pick_false (is_among o (s ∷ rs)) _ _ (ap (λ b. b || is_among o rs) e ∙ none)
+    if_false (is_among o (s ∷ rs)) _ _ (ap (λ b. b || is_among o rs) e ∙ none)
 
 -- nothing open is at or left of the run
 nexts_fresh : (y f : ℤ) (s : Span) (os : List Open) (rs : List Span) → AreApart f (spans_of os) → s.x1 ≤ℤ f → nexts y os (s ∷ rs) ≡ fresh y s ∷ nexts y os rs

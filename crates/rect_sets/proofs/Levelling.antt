@@ -1,5 +1,7 @@
 -- The blocks of a set, from those below a level line and those above it.
 use Rattle.std.proofs.Common.{◌≡◌, inl, inr, ℤ, pos, ◌-ℤ◌, ◌≤ℤ◌, ◌<ℤ◌, List, [], ◌∷◌, ◌++◌, Bool, true, sym, ◌∙◌, subst, arith, int_lt, int_le}
+use Rattle.base_laws.proofs.Tests.{same_truth, if_true, if_false, lt_to, le_to}
+use Rattle.std.proofs.lemmas.Bool.{cases_Bool, or_left, or_right, or_cases}
 use Rattle.std.proofs.lemmas.Int.{ints, by_lt_z}
 use Rattle.std.proofs.lemmas.Bool.Decides.{Decides-int_eq}
 use Rattle.std.specs.Ordering.{int_eq}
@@ -12,9 +14,9 @@ use Rattle.rect_sets.specs.Halves.{low_half, high_half}
 use Rattle.rect_sets.specs.Levels.{HasRange, up_to, GoesOn, AreJoinedAcross}
 use Rattle.rect_sets.specs.declared.cuts.Axis.TheVariants.{Y}
 use Rattle.rect_sets.specs.declared.cuts.Cut.{Cut}
-use Rattle.rect_sets.proofs.Blocking.{covers_listed, same_bool, within_block}
-use Rattle.rect_sets.proofs.Dividing.{if_true, if_false, lt_true, le_true, and_one, cut_from, run_near, low_side, high_side, parted}
-use Rattle.rect_sets.proofs.Splitting.{either, or_left, or_right, or_split, covers_append, covers_at, IsInside, inside_from, listed_either, run_to, shared, shared_block}
+use Rattle.rect_sets.proofs.Blocking.{covers_listed, within_block}
+use Rattle.rect_sets.proofs.Dividing.{and_one, cut_from, run_near, low_side, high_side, parted}
+use Rattle.rect_sets.proofs.Splitting.{covers_append, covers_at, IsInside, inside_from, listed_either, run_to, shared, shared_block}
 
 abbrev level_at : ℤ → Cut
 level_at at = record { axis = Y; at = at }
@@ -28,16 +30,16 @@ above_line set at = high_half set (level_at at)
 -- each row is in one half, as it is in the set
 
 low_run : (set : Square → Bool) (at y a b : ℤ) → y <ℤ at → IsRun (below_line set at) y a b → IsRun set y a b
-low_run set at y a b lt h = run_near (below_line set at) set y a b (λ x l r. and_one (set (record { x = x; y = y })) (int_lt y at) (lt_true y at lt)) h
+low_run set at y a b lt h = run_near (below_line set at) set y a b (λ x l r. and_one (set (record { x = x; y = y })) (int_lt y at) (lt_to y at lt)) h
 
 run_low : (set : Square → Bool) (at y a b : ℤ) → y <ℤ at → IsRun set y a b → IsRun (below_line set at) y a b
-run_low set at y a b lt h = run_near set (below_line set at) y a b (λ x l r. sym (and_one (set (record { x = x; y = y })) (int_lt y at) (lt_true y at lt))) h
+run_low set at y a b lt h = run_near set (below_line set at) y a b (λ x l r. sym (and_one (set (record { x = x; y = y })) (int_lt y at) (lt_to y at lt))) h
 
 high_run : (set : Square → Bool) (at y a b : ℤ) → at ≤ℤ y → IsRun (above_line set at) y a b → IsRun set y a b
-high_run set at y a b le h = run_near (above_line set at) set y a b (λ x l r. and_one (set (record { x = x; y = y })) (int_le at y) (le_true at y le)) h
+high_run set at y a b le h = run_near (above_line set at) set y a b (λ x l r. and_one (set (record { x = x; y = y })) (int_le at y) (le_to at y le)) h
 
 run_high : (set : Square → Bool) (at y a b : ℤ) → at ≤ℤ y → IsRun set y a b → IsRun (above_line set at) y a b
-run_high set at y a b le h = run_near set (above_line set at) y a b (λ x l r. sym (and_one (set (record { x = x; y = y })) (int_le at y) (le_true at y le))) h
+run_high set at y a b le h = run_near set (above_line set at) y a b (λ x l r. sym (and_one (set (record { x = x; y = y })) (int_le at y) (le_to at y le))) h
 
 -- what touches the line lies on it
 
@@ -45,7 +47,7 @@ low_top : (set : Square → Bool) (at : ℤ) (p : Rect) → IsBlock (below_line 
 low_top set at p h t =
     let side : p.y2 ≤ℤ at = low_side set Y at p h in
     let some = h.some in
-    elim (or_split (int_eq p.y1 at) (int_eq p.y2 at) t) [
+    elim (or_cases (int_eq p.y1 at) (int_eq p.y2 at) t) [
       | inl e ↦ (let same = (Decides-int_eq p.y1 at).0 e in absurd (omega (arith, ints)))
       | inr e ↦ (Decides-int_eq p.y2 at).0 e
     ]
@@ -54,7 +56,7 @@ high_bottom : (set : Square → Bool) (at : ℤ) (q : Rect) → IsBlock (above_l
 high_bottom set at q h t =
     let side : at ≤ℤ q.y1 = high_side set Y at q h in
     let some = h.some in
-    elim (or_split (int_eq q.y1 at) (int_eq q.y2 at) t) [
+    elim (or_cases (int_eq q.y1 at) (int_eq q.y2 at) t) [
       | inl e ↦ (Decides-int_eq q.y1 at).0 e
       | inr e ↦ (let same = (Decides-int_eq q.y2 at).0 e in absurd (omega (arith, ints)))
     ]
@@ -64,7 +66,7 @@ cut_into cut [] r h t = absurd h
 cut_into cut (q ∷ rects) r (inl e) t =
     let u : touches cut q ≡ true = subst (λ (z : Rect). touches cut z ≡ true) e t in
     subst (λ (xs : List Rect). IsListed r xs) (sym (if_true (touches cut q) (q ∷ cut_off cut rects) (cut_off cut rects) u)) (inl e)
-cut_into cut (q ∷ rects) r (inr h) t = elim (either (touches cut q)) [
+cut_into cut (q ∷ rects) r (inr h) t = elim (cases_Bool (touches cut q)) [
   | inl u ↦ subst (λ (xs : List Rect). IsListed r xs) (sym (if_true (touches cut q) (q ∷ cut_off cut rects) (cut_off cut rects) u)) (inr (cut_into cut rects r h t))
   | inr u ↦ subst (λ (xs : List Rect). IsListed r xs) (sym (if_false (touches cut q) (q ∷ cut_off cut rects) (cut_off cut rects) u)) (cut_into cut rects r h t)
 ]
@@ -192,7 +194,7 @@ module _ (set : Square → Bool) (at : ℤ) (low high : List Rect) (h : AreBlock
       covers_at joined (up_to p g.0) s.x s.y (subst (λ (z : Rect). IsListed z joined) g.2 m) (omega (arith, ints)) (omega (arith, ints)) (omega (arith, ints)) end
 
   covered : (joined : List Rect) (s : Square) → AreJoinedAcross touching_low touching_high joined → covers (touching_high ++ touching_low) s ≡ true → covers joined s ≡ true
-  covered joined s j e = elim (or_split (covers touching_high s) (covers touching_low s) (sym (covers_append touching_high touching_low s) ∙ e)) [
+  covered joined s j e = elim (or_cases (covers touching_high s) (covers touching_low s) (sym (covers_append touching_high touching_low s) ∙ e)) [
     | inl a ↦ (let l = covers_listed touching_high s a in let i = inside_from l.one s l.inside in
         elim (j.high l.one l.listed) [
           | inl n ↦ (let g = j.low n.0 n.1.listed in covers_high joined n.0 l.one g.one s n.1.listed l.listed n.1.x1 n.1.x2 i g.listed g.is)
@@ -216,7 +218,7 @@ blocks_covering set rects are all = record {
         let same : l.one ≡ r = shared_block set l.one r s (are l.one l.listed) b (inside_from l.one s l.inside) (record { x1 = omega (arith, ints); x2 = wide; y1 = omega (arith, ints); y2 = some }) in
         subst (λ (z : Rect). IsListed z rects) same l.listed,
   );
-  same = λ s. same_bool (covers rects s) (set s)
+  same = λ s. same_truth (covers rects s) (set s)
       (λ e. let l = covers_listed rects s e in within_block set l.one s (are l.one l.listed) l.inside)
       (all s);
 }
@@ -227,7 +229,7 @@ levels set at low high joined h k j =
     let p = parted set (level_at at) low high h k in
     blocks_covering set (done ++ joined)
     (λ r l. elim (listed_either r done joined l) [ inl a ↦ p.blocks r a | inr a ↦ joined_is set at low high h k joined r j a ])
-    (λ s e. covers_append done joined s ∙ elim (or_split (covers done s) (covers (cut_off (level_at at) high ++ cut_off (level_at at) low) s) (sym (p.same s) ∙ e)) [
+    (λ s e. covers_append done joined s ∙ elim (or_cases (covers done s) (covers (cut_off (level_at at) high ++ cut_off (level_at at) low) s) (sym (p.same s) ∙ e)) [
       | inl a ↦ or_left (covers done s) (covers joined s) a
       | inr a ↦ or_right (covers done s) (covers joined s) (covered set at low high h k joined s j a)
     ])

@@ -1,7 +1,8 @@
 -- Shifts and windows of sets.
-use Rattle.std.proofs.Common.{◌≡◌, ◌⊎◌, inl, inr, suc, ℤ, pos, ◌+ℤ◌, ◌-ℤ◌, List, [], ◌∷◌, ◌++◌, Bool, true, false, ◌||◌, ◌&&◌, get_or, refl, sym, ap, ◌∙◌, subst, arith, if◌then◌else◌}
+use Rattle.std.proofs.Common.{◌≡◌, inl, inr, suc, ℤ, pos, ◌+ℤ◌, ◌-ℤ◌, List, [], ◌∷◌, ◌++◌, Bool, true, false, ◌||◌, ◌&&◌, get_or, refl, sym, ap, ◌∙◌, subst, arith, if◌then◌else◌}
+use Rattle.base_laws.proofs.Tests.{if_true, if_false}
 use Rattle.std.proofs.lemmas.Int.{ints}
-use Rattle.std.proofs.lemmas.Bool.{false≢true}
+use Rattle.std.proofs.lemmas.Bool.{false≢true, and_cases, cases_Bool}
 use Rattle.std.specs.List.{All}
 use Rattle.geo_base.specs.Rects.{has, is_between, IsRect}
 use Rattle.geo_base.specs.Near.{IsNearRect}
@@ -11,8 +12,8 @@ use Rattle.rect_sets.specs.Rects.{covers, IsRun, IsBlock, IsBelow, AreAbove, IsO
 use Rattle.rect_sets.specs.Near.{IsNearSet}
 use Rattle.rect_sets.specs.Moves.{shift, shifted, overlap, meets, meeting}
 use Rattle.rect_sets.proofs.Unique.{listed_get}
-use Rattle.rect_sets.proofs.Splitting.{either, inside_from}
-use Rattle.rect_sets.proofs.Dividing.{first_in, last_in, if_true, if_false, if_append, with_first}
+use Rattle.rect_sets.proofs.Splitting.{inside_from}
+use Rattle.rect_sets.proofs.Dividing.{first_in, last_in, if_append, with_first}
 
 -- sets that differ by a shift
 abbrev IsShift : ℤ → ℤ → (Square → Bool) → (Square → Bool) → Type 0
@@ -134,10 +135,6 @@ meeting_append w (r ∷ xs) ys = ap (λ (q : List Rect). if meets w r then r ∷
 both_between : (a b c d x : ℤ) → overlap a b c d ≡ false → (is_between a x b && is_between c x d) ≡ false
 both_between a b c d x h = grind (arith, ints)
 
-and_cases : (p q : Bool) → (p && q) ≡ false → (p ≡ false) ⊎ (q ≡ false)
-and_cases true q e = inr e
-and_cases false q e = inl refl
-
 four_first : (a b c d : Bool) → (a && c) ≡ false → ((a && b) && (c && d)) ≡ false
 four_first true true false d e = refl
 four_first true false false d e = refl
@@ -160,7 +157,7 @@ pub meeting_covers : (w : Rect) (rects : List Rect) (s : Square) → (covers (me
 meeting_covers w [] s = refl
 meeting_covers w (r ∷ rects) s =
     let rest = meeting_covers w rects s in
-    elim (either (meets w r)) [
+    elim (cases_Bool (meets w r)) [
       | inl t ↦ ap (λ xs. covers xs s && has w s) (if_true (meets w r) (r ∷ meeting w rects) (meeting w rects) t) ∙ joined (has r s) (covers (meeting w rects) s) (covers rects s) (has w s) rest
       | inr f ↦ ap (λ xs. covers xs s && has w s) (if_false (meets w r) (r ∷ meeting w rects) (meeting w rects) f) ∙ rest ∙ skipped (has r s) (covers rects s) (has w s) (misses w r s f)
     ]

@@ -1,7 +1,7 @@
 -- Runs of one row: those that are listed are exactly the longest ones.
 use Rattle.std.proofs.Common.{◌≡◌, ◌⊎◌, inl, inr, ℤ, pos, ◌-ℤ◌, ◌≤ℤ◌, ◌<ℤ◌, List, [], ◌∷◌, Bool, true, false, ◌||◌, refl, sym, ap, ◌∙◌, subst, arith}
 use Rattle.std.proofs.lemmas.Int.{ints, by_lt_z}
-use Rattle.std.proofs.lemmas.Bool.{false≢true}
+use Rattle.std.proofs.lemmas.Bool.{false≢true, or_left, or_parts}
 use Rattle.rect_sets.specs.Spans.{covers, is_inside, AreApart}
 use Rattle.rect_sets.specs.Rects.{IsRun}
 use Rattle.rect_sets.specs.Sweeps.{IsIn, IsRowOf}
@@ -23,10 +23,6 @@ left_of x t h = grind (arith, ints)
 right_of : (x : ℤ) (t : Span) → t.x2 ≤ℤ x → is_inside x t ≡ false
 right_of x t h = grind (arith, ints)
 
-or_true : (b c : Bool) → b ≡ true → (b || c) ≡ true
-or_true true c e = refl
-or_true false c e = absurd (false≢true e)
-
 or_false : (b c : Bool) → b ≡ false → (b || c) ≡ c
 or_false true c e = absurd (false≢true (sym e))
 or_false false c e = refl
@@ -34,10 +30,6 @@ or_false false c e = refl
 or_cases : (b c : Bool) → (b || c) ≡ true → (b ≡ true) ⊎ ((b ≡ false) × (c ≡ true))
 or_cases true c e = inl refl
 or_cases false c e = inr (refl, e)
-
-or_none_left : (b c : Bool) → (b || c) ≡ false → b ≡ false
-or_none_left true c e = e
-or_none_left false c e = refl
 
 inside_low : (x : ℤ) (t : Span) → is_inside x t ≡ true → t.x1 ≤ℤ x
 inside_low x t h = by_lt_z x t.x1 (λ lt. absurd (false≢true (sym (left_of x t lt) ∙ h))) (λ le. le)
@@ -61,7 +53,7 @@ head_run from t runs h =
     let h1 = h.1 in
     record {
       some = h.1;
-      inside = λ x low high. or_true (is_inside x t) (covers runs x) (in_span x t low high);
+      inside = λ x low high. or_left (is_inside x t) (covers runs x) (in_span x t low high);
       before = or_false (is_inside (t.x1 -ℤ pos 1) t) _ (left_of (t.x1 -ℤ pos 1) t (omega (arith, ints))) ∙ covers_left t.x2 (t.x1 -ℤ pos 1) runs h.2 (omega (arith, ints));
       after = or_false (is_inside t.x2 t) _ (right_of t.x2 t (omega (arith, ints))) ∙ covers_left t.x2 t.x2 runs h.2 (omega (arith, ints));
     }
@@ -90,11 +82,11 @@ begins_here from a b t runs h k e =
     let low : t.x1 ≤ℤ a = inside_low a t e in
     let high : a <ℤ t.x2 = inside_high a t e in
     let ks = k.some in
-    let not_before : is_inside (a -ℤ pos 1) t ≡ false = or_none_left (is_inside (a -ℤ pos 1) t) (covers runs (a -ℤ pos 1)) k.before in
+    let not_before : is_inside (a -ℤ pos 1) t ≡ false = (or_parts (is_inside (a -ℤ pos 1) t) (covers runs (a -ℤ pos 1)) k.before).0 in
     let first : a ≤ℤ t.x1 = by_lt_z t.x1 a (λ lt. absurd (false≢true (sym not_before ∙ in_span (a -ℤ pos 1) t (omega (arith, ints)) (omega (arith, ints))))) (λ le. le) in
     let own = head_run from t runs h in
     let up : b ≤ℤ t.x2 = by_lt_z t.x2 b (λ lt. absurd (false≢true (sym own.after ∙ k.inside t.x2 (omega (arith, ints)) lt))) (λ le. le) in
-    let not_after : is_inside b t ≡ false = or_none_left (is_inside b t) (covers runs b) k.after in
+    let not_after : is_inside b t ≡ false = (or_parts (is_inside b t) (covers runs b) k.after).0 in
     let down : t.x2 ≤ℤ b = by_lt_z b t.x2 (λ lt. absurd (false≢true (sym not_after ∙ in_span b t (omega (arith, ints)) lt))) (λ le. le) in
     (omega (arith, ints), omega (arith, ints))
 

@@ -1,7 +1,8 @@
 -- Rectangles in order.
-use Rattle.std.proofs.Common.{◌≡◌, ◌⊎◌, inl, inr, ℕ, ℤ, suc, zero, ◌<ℤ◌, ◌≤◌, ◌<◌, ◌+◌, List, [], ◌∷◌, ◌++◌, Bool, true, false, ◌&&◌, length, take, refl, sym, ◌∙◌, ap, subst, arith, get_or}
+use Rattle.std.proofs.Common.{◌≡◌, ◌⊎◌, inl, inr, ℕ, ℤ, suc, zero, ◌<ℤ◌, ◌≤◌, ◌<◌, ◌+◌, List, [], ◌∷◌, ◌++◌, Bool, true, false, length, take, refl, sym, ◌∙◌, ap, subst, arith, get_or}
+use Rattle.base_laws.proofs.Tests.{same_truth}
 use Rattle.std.proofs.lemmas.Int.{ints, by_lt_z}
-use Rattle.std.proofs.lemmas.Bool.{false≢true}
+use Rattle.std.proofs.lemmas.Bool.{false≢true, and_parts, and_from}
 use Rattle.std.proofs.lemmas.List.{take_more, take_all, get_or_default, same_from_push}
 use Rattle.std.proofs.lemmas.Bool.Decides.{Decides-int_eq}
 use Rattle.std.specs.Ordering.{int_eq}
@@ -12,23 +13,15 @@ use Rattle.rect_sets.specs.Rects.{covers, IsRun, IsBlock, IsBelow, AreAbove, IsO
 use Rattle.rect_sets.specs.Sweeps.{AreBlocks}
 use Rattle.rect_sets.specs.Orders.{IsNotAfter, AreSortedRects, LastNotAfter, IsRoom, HasPlace, Joins, IsInOrder, OrderSoFar, begins_with}
 use Rattle.rect_sets.proofs.Unique.{block_of}
-use Rattle.rect_sets.proofs.Blocking.{listed_covers, covers_listed, same_bool, within_block}
+use Rattle.rect_sets.proofs.Blocking.{listed_covers, covers_listed, within_block}
 use Rattle.geo_base.specs.declared.shapes.Rect.{Rect}
 use Rattle.geo_base.specs.declared.shapes.Square.{Square}
 
-and_both : (b c : Bool) → (b && c) ≡ true → (b ≡ true) × (c ≡ true)
-and_both true c e = (refl, e)
-and_both false c e = absurd (false≢true e)
-
-both_and : (b c : Bool) → b ≡ true → c ≡ true → (b && c) ≡ true
-both_and true c e f = f
-both_and false c e f = absurd (false≢true e)
-
 pub begins_from : (a b : Rect) → begins_with a b ≡ true → (a.y1 ≡ b.y1) × (a.x1 ≡ b.x1)
-begins_from a b h = let p = and_both (int_eq a.y1 b.y1) (int_eq a.x1 b.x1) h in ((Decides-int_eq a.y1 b.y1).0 p.0, (Decides-int_eq a.x1 b.x1).0 p.1)
+begins_from a b h = let p = and_parts (int_eq a.y1 b.y1) (int_eq a.x1 b.x1) h in ((Decides-int_eq a.y1 b.y1).0 p.0, (Decides-int_eq a.x1 b.x1).0 p.1)
 
 pub begins_not : (a b : Rect) → begins_with a b ≡ false → a.y1 ≡ b.y1 → a.x1 ≡ b.x1 → ⊥
-begins_not a b h e f = false≢true (sym h ∙ both_and (int_eq a.y1 b.y1) (int_eq a.x1 b.x1) ((Decides-int_eq a.y1 b.y1).1 e) ((Decides-int_eq a.x1 b.x1).1 f))
+begins_not a b h e f = false≢true (sym h ∙ and_from (int_eq a.y1 b.y1) (int_eq a.x1 b.x1) ((Decides-int_eq a.y1 b.y1).1 e) ((Decides-int_eq a.x1 b.x1).1 f))
 
 -- members of lists
 
@@ -234,7 +227,7 @@ still_listed set rects out r b o h =
 -- the blocks of a set in order are its canonical list
 pub blocks_law : (set : Square → Bool) (rects out : List Rect) → AreBlocks set rects → IsInOrder rects out → IsCanonical out × ((s : Square) → covers out s ≡ set s)
 blocks_law set rects out b o =
-    let same : (s : Square) → covers out s ≡ set s = λ (s : Square). same_bool (covers out s) (set s)
+    let same : (s : Square) → covers out s ≡ set s = λ (s : Square). same_truth (covers out s) (set s)
     (λ e. let l = covers_listed out s e in within_block set l.one s ((b.each l.one).0 (o.from l.one l.listed)) l.inside)
     (λ e. let l = covers_listed rects s (b.same s ∙ e) in listed_covers out s l.one (still_listed set rects out l.one b o l.listed) l.inside) in (
       record {

@@ -1,18 +1,19 @@
 -- Active edges that are kept in place.
 use Rattle.std.proofs.Common.{◌≡◌, ℕ, zero, suc, ℤ, pos, ◌+ℤ◌, ◌≤ℤ◌, ◌<ℤ◌, ◌<◌, ◌≤◌, ◌+◌, ◌-◌, List, [], ◌∷◌, Bool, true, false, drop, length, filter, insert, refl, sym, ◌∙◌, ap, subst, arith, if◌then◌else◌}
+use Rattle.base_laws.proofs.Tests.{if_true, if_false, lt_to}
 use Rattle.std.proofs.lemmas.Int.{ints, by_lt_z}
 use Rattle.std.proofs.lemmas.Bool.{false≢true}
 use Rattle.rect_sets.specs.Rows.{AreInOrder}
 use Rattle.rect_sets.specs.Edges.{sum_where}
 use Rattle.rect_sets.specs.Actives.{leftmost, edge_at, AreNext, HaveBegun, AreCrossing, Ignores, IsReady, Merged, goes_on, IsInserted, BeginSoFar}
 use Rattle.rect_sets.specs.declared.row.Edge.{Edge}
-use Rattle.rect_sets.proofs.Dividing.{if_true, if_false, lt_true, lt_false}
+use Rattle.rect_sets.proofs.Dividing.{lt_false}
 use Rattle.rect_sets.proofs.Merging.{order_weaken, cut_edges, begins_at}
 
 -- those that go on
 
 kept_on : (y : ℤ) (e : Edge) (edges : List Edge) → y <ℤ e.y2 → filter (goes_on y) (e ∷ edges) ≡ e ∷ filter (goes_on y) edges
-kept_on y e edges lt = if_true (goes_on y e) (e ∷ filter (goes_on y) edges) (filter (goes_on y) edges) (lt_true y e.y2 lt)
+kept_on y e edges lt = if_true (goes_on y e) (e ∷ filter (goes_on y) edges) (filter (goes_on y) edges) (lt_to y e.y2 lt)
 
 left_out : (y : ℤ) (e : Edge) (edges : List Edge) → e.y2 ≤ℤ y → filter (goes_on y) (e ∷ edges) ≡ filter (goes_on y) edges
 left_out y e edges le = if_false (goes_on y e) (e ∷ filter (goes_on y) edges) (filter (goes_on y) edges) (lt_false y e.y2 le)

@@ -1,12 +1,13 @@
 -- The runs of one row.
 use Rattle.std.proofs.Common.{◌≡◌, ℕ, ℤ, ◌≤ℤ◌, ◌<ℤ◌, ◌≤◌, ◌<◌, ◌+◌, ◌+ℤ◌, List, [], ◌∷◌, ◌++◌, Bool, true, false, ◌||◌, ◌&&◌, take, drop, length, set, refl, sym, ◌∙◌, ap, subst, arith, get_or, pos, ◌-ℤ◌, if◌then◌else◌, int_le, int_lt}
+use Rattle.base_laws.proofs.Tests.{or_false}
 use Rattle.std.proofs.lemmas.Int.{ints}
 use Rattle.std.proofs.lemmas.List.{take_more, drop_more, take_all, take_more_set, length-set}
 use Rattle.geo_base.specs.Rects.{is_between}
 use Rattle.rect_sets.specs.Spans.{covers, is_inside, AreApart}
 use Rattle.rect_sets.specs.Edges.{holds, first_of, second_of}
 use Rattle.rect_sets.specs.Rows.{weight_up_to, weight_of_all, AreInOrder, EndUpTo, AreRunsUpTo, Grows, HasRunsOf, IsSumOf, AreUpTo, RowSoFar}
-use Rattle.rect_sets.proofs.Growing.{meet, or_none, one_more, last_joined, beyond, changed}
+use Rattle.rect_sets.proofs.Growing.{meet, one_more, last_joined, beyond, changed}
 use Rattle.rect_sets.specs.declared.row.Span.{Span}
 use Rattle.rect_sets.specs.declared.row.Edge.{Edge}
 use Rattle.rect_sets.specs.declared.row.Rule.{Rule}
@@ -58,7 +59,7 @@ pub grows_first : (old : List Span) (from to : ℤ) (inside : Bool) → inside �
 grows_first old from to inside t e some =
     let s : Span = record { x1 = from; x2 = to } in
     let first : Grows [] (s ∷ []) from to true = record {
-      same = λ x. or_none (is_inside x s);
+      same = λ x. or_false (is_inside x s);
       runs = record { from = from -ℤ pos 1; apart = (omega (arith, ints), some, tt); ends = (omega (arith, ints), tt) };
     } in
     subst (λ (i : Bool). Grows old (old ++ s ∷ []) from to i) (sym t) (subst (λ (ys : List Span). Grows ys (ys ++ s ∷ []) from to true) (sym e) first)

@@ -1,7 +1,7 @@
 -- Blocks of a set that was cut in two.
-use Rattle.std.proofs.Common.{◌≡◌, ◌⊎◌, inl, inr, ℤ, pos, ◌-ℤ◌, ◌≤ℤ◌, ◌<ℤ◌, List, [], ◌∷◌, ◌++◌, Bool, true, false, ◌||◌, ◌&&◌, refl, sym, ap, ◌∙◌, subst, arith}
+use Rattle.std.proofs.Common.{◌≡◌, ◌⊎◌, inl, inr, ℤ, pos, ◌-ℤ◌, ◌≤ℤ◌, ◌<ℤ◌, List, [], ◌∷◌, ◌++◌, Bool, true, false, ◌||◌, sym, ap, ◌∙◌, subst, arith}
 use Rattle.std.proofs.lemmas.Int.{ints, by_lt_z}
-use Rattle.std.proofs.lemmas.Bool.{false≢true}
+use Rattle.std.proofs.lemmas.Bool.{false≢true, or_right, or_cases, and_parts, and_from, false_from_ne_true}
 use Rattle.std.proofs.lemmas.List.Folds.{list_any-append}
 use Rattle.geo_base.specs.Rects.{is_between, has}
 use Rattle.rect_sets.specs.Rects.{covers, IsRun, IsBlock, IsListed}
@@ -13,34 +13,6 @@ use Rattle.geo_base.specs.declared.shapes.Rect.{Rect}
 use Rattle.geo_base.specs.declared.shapes.Square.{Square}
 
 -- tests
-
-pub either : (b : Bool) → (b ≡ true) ⊎ (b ≡ false)
-either true = inl refl
-either false = inr refl
-
-pub or_left : (b c : Bool) → b ≡ true → (b || c) ≡ true
-or_left true c e = refl
-or_left false c e = absurd (false≢true e)
-
-pub or_right : (b c : Bool) → c ≡ true → (b || c) ≡ true
-or_right true c e = refl
-or_right false c e = e
-
-pub or_split : (b c : Bool) → (b || c) ≡ true → (b ≡ true) ⊎ (c ≡ true)
-or_split true c e = inl refl
-or_split false c e = inr e
-
-pub and_split : (b c : Bool) → (b && c) ≡ true → (b ≡ true) × (c ≡ true)
-and_split true c e = (refl, e)
-and_split false c e = absurd (false≢true e)
-
-and_both : (b c : Bool) → b ≡ true → c ≡ true → (b && c) ≡ true
-and_both true c e f = f
-and_both false c e f = absurd (false≢true e)
-
-not_true : (b : Bool) → (b ≡ true → ⊥) → b ≡ false
-not_true true f = absurd (f refl)
-not_true false f = refl
 
 out_low : (low x high : ℤ) → x <ℤ low → is_between low x high ≡ false
 out_low low x high h = grind (arith, ints)
@@ -64,7 +36,7 @@ pub record IsInside (r : Rect) (s : Square) : Type 0 where
   pub y2 : s.y <ℤ r.y2
 
 pub inside_from : (r : Rect) (s : Square) → has r s ≡ true → IsInside r s
-inside_from r s e = let p = and_split (is_between r.x1 s.x r.x2) (is_between r.y1 s.y r.y2) e in record {
+inside_from r s e = let p = and_parts (is_between r.x1 s.x r.x2) (is_between r.y1 s.y r.y2) e in record {
   x1 = between_low r.x1 s.x r.x2 p.0;
   x2 = between_high r.x1 s.x r.x2 p.0;
   y1 = between_low r.y1 s.y r.y2 p.1;
@@ -72,7 +44,7 @@ inside_from r s e = let p = and_split (is_between r.x1 s.x r.x2) (is_between r.y
 }
 
 has_at : (r : Rect) (x y : ℤ) → r.x1 ≤ℤ x → x <ℤ r.x2 → r.y1 ≤ℤ y → y <ℤ r.y2 → has r (record { x = x; y = y }) ≡ true
-has_at r x y a b c d = and_both (is_between r.x1 x r.x2) (is_between r.y1 y r.y2) (between r.x1 x r.x2 a b) (between r.y1 y r.y2 c d)
+has_at r x y a b c d = and_from (is_between r.x1 x r.x2) (is_between r.y1 y r.y2) (between r.x1 x r.x2 a b) (between r.y1 y r.y2 c d)
 
 pub covers_at : (rects : List Rect) (r : Rect) (x y : ℤ) → IsListed r rects → r.x1 ≤ℤ x → x <ℤ r.x2 → r.y1 ≤ℤ y → y <ℤ r.y2 → covers rects (record { x = x; y = y }) ≡ true
 covers_at rects r x y l a b c d = listed_covers rects (record { x = x; y = y }) r l (has_at r x y a b c d)
@@ -115,10 +87,10 @@ in_set : (set : Square → Bool) (done rest : List Rect) (s : Square) → ArePar
 in_set set done rest s p e = p.same s ∙ or_right (covers done s) (covers rest s) e
 
 side : (set : Square → Bool) (done rest : List Rect) (s : Square) → AreParted set done rest → set s ≡ true → (covers done s ≡ true) ⊎ (covers rest s ≡ true)
-side set done rest s p e = or_split (covers done s) (covers rest s) (sym (p.same s) ∙ e)
+side set done rest s p e = or_cases (covers done s) (covers rest s) (sym (p.same s) ∙ e)
 
 out_set : (set : Square → Bool) (done rest : List Rect) (s : Square) → AreParted set done rest → set s ≡ false → covers rest s ≡ false
-out_set set done rest s p e = not_true (covers rest s) (λ t. false≢true (sym e ∙ in_set set done rest s p t))
+out_set set done rest s p e = false_from_ne_true (covers rest s) (λ t. false≢true (sym e ∙ in_set set done rest s p t))
 
 run_up : (set : Square → Bool) (done rest : List Rect) (y a b : ℤ) → AreParted set done rest → IsRun (covers rest) y a b → IsRun set y a b
 run_up set done rest y a b p h =
@@ -128,7 +100,7 @@ run_up set done rest y a b p h =
     record {
       some = h.some;
       inside = λ x low high. in_set set done rest (record { x = x; y = y }) p (h.inside x low high);
-      before = not_true (set (record { x = a -ℤ pos 1; y = y })) (λ t. elim (side set done rest (record { x = a -ℤ pos 1; y = y }) p t) [
+      before = false_from_ne_true (set (record { x = a -ℤ pos 1; y = y })) (λ t. elim (side set done rest (record { x = a -ℤ pos 1; y = y }) p t) [
         | inl e ↦ (let l = covers_listed done (record { x = a -ℤ pos 1; y = y }) e in
             let i = inside_from l.one (record { x = a -ℤ pos 1; y = y }) l.inside in
             let i1 = i.x1 in let i2 = i.x2 in
@@ -139,7 +111,7 @@ run_up set done rest y a b p h =
             false≢true (sym (subst (λ (q : ℤ). set (record { x = q; y = y }) ≡ false) e2 (k.rows y i.y1 i.y2).after) ∙ in_set set done rest (record { x = a; y = y }) p at_a)))
         | inr e ↦ false≢true (sym h.before ∙ e)
       ]);
-      after = not_true (set (record { x = b; y = y })) (λ t. elim (side set done rest (record { x = b; y = y }) p t) [
+      after = false_from_ne_true (set (record { x = b; y = y })) (λ t. elim (side set done rest (record { x = b; y = y }) p t) [
         | inl e ↦ (let l = covers_listed done (record { x = b; y = y }) e in
             let i = inside_from l.one (record { x = b; y = y }) l.inside in
             let i1 = i.x1 in let i2 = i.x2 in

@@ -1,6 +1,7 @@
 -- The blocks of a set in stripes.
 use Rattle.std.proofs.Common.{◌≡◌, inl, inr, ℕ, zero, suc, ℤ, pos, ◌+◌, ◌<◌, ◌≤◌, ◌<ℤ◌, List, [], ◌∷◌, ◌++◌, Bool, false, ◌&&◌, length, get_or, append_assoc, refl, sym, ap, ◌∙◌, subst, arith, int_lt, int_le}
-use Rattle.std.proofs.lemmas.Bool.{cases_lt}
+use Rattle.base_laws.proofs.Tests.{if_true, if_false}
+use Rattle.std.proofs.lemmas.Bool.{cases_lt, cases_Bool}
 use Rattle.std.specs.List.{All}
 use Rattle.geo_base.specs.Rects.{IsRect}
 use Rattle.geo_base.specs.declared.shapes.Rect.{Rect}
@@ -15,8 +16,7 @@ use Rattle.rect_sets.specs.declared.cuts.Axis.{Axis}
 use Rattle.rect_sets.specs.declared.cuts.Cut.{Cut}
 use Rattle.rect_sets.specs.declared.row.Rule.{Rule}
 use Rattle.rect_sets.proofs.Unique.{all_rects}
-use Rattle.rect_sets.proofs.Splitting.{either}
-use Rattle.rect_sets.proofs.Dividing.{if_true, if_false, blocks_same, low_blocks, high_combined, halves, block_rects, kept_append, cut_append, clear_below, rect_in, cut_from}
+use Rattle.rect_sets.proofs.Dividing.{blocks_same, low_blocks, high_combined, halves, block_rects, kept_append, cut_append, clear_below, rect_in, cut_from}
 
 -- sets that agree agree in each stripe
 
@@ -95,7 +95,7 @@ stays_done (suc i) axis at set above done all h lt k from =
 
 kept_listed : (cut : Cut) (rects : List Rect) (r : Rect) → IsListed r (kept cut rects) → IsListed r rects
 kept_listed cut [] r h = absurd h
-kept_listed cut (q ∷ rects) r h = elim (either (touches cut q)) [
+kept_listed cut (q ∷ rects) r h = elim (cases_Bool (touches cut q)) [
   | inl t ↦ inr (kept_listed cut rects r (subst (λ (xs : List Rect). IsListed r xs) (if_true (touches cut q) (kept cut rects) (q ∷ kept cut rects) t) h))
   | inr f ↦ (let g : IsListed r (q ∷ kept cut rects) = subst (λ (xs : List Rect). IsListed r xs) (if_false (touches cut q) (kept cut rects) (q ∷ kept cut rects) f) h in
       elim g [ inl e ↦ inl e | inr k ↦ inr (kept_listed cut rects r k) ])

@@ -1,5 +1,6 @@
 -- Lists of the parts of rectangles in stripes.
 use Rattle.std.proofs.Common.{◌≡◌, ℕ, zero, suc, ℤ, pos, ◌+◌, ◌-◌, ◌<◌, ◌≤◌, ◌≤ℤ◌, ◌<ℤ◌, List, [], ◌∷◌, ◌++◌, true, false, length, take, drop, get_or, set, append_assoc, refl, sym, ap, ◌∙◌, subst, arith, int_lt}
+use Rattle.base_laws.proofs.Tests.{if_true, if_false, lt_to}
 use Rattle.std.specs.Global.{Vec}
 use Rattle.std.proofs.lemmas.Int.{ints}
 use Rattle.std.proofs.lemmas.List.{drop_more, drop_all, length-map, get_or-map}
@@ -12,7 +13,7 @@ use Rattle.rect_sets.specs.declared.cuts.Axis.{Axis}
 use Rattle.rect_sets.specs.declared.cuts.Axis.TheVariants.{X, Y}
 use Rattle.rect_sets.specs.declared.cuts.Cut.{Cut}
 use Rattle.rect_sets.specs.declared.cuts.Lines.{Lines}
-use Rattle.rect_sets.proofs.Dividing.{if_true, if_false, lt_true, lt_false, lows_append, highs_append, lows_rects, highs_rects}
+use Rattle.rect_sets.proofs.Dividing.{lt_false, lows_append, highs_append, lows_rects, highs_rects}
 
 pub none_more : (xs : List Rect) → xs ++ [] ≡ xs
 none_more [] = refl
@@ -108,7 +109,7 @@ has_side Y r h = h.high
 highs_same : (axis : Axis) (a : ℤ) (r : Rect) → IsRect r → a ≤ℤ low_end axis r → highs (cut_of axis a) (r ∷ []) ≡ r ∷ []
 highs_same axis a r h le =
     let side = has_side axis r h in
-    high_one (cut_of axis a) r (lt_true a (high_end axis r) (omega (arith, ints))) ∙ ap (λ (q : Rect). q ∷ []) (high_same axis a r le)
+    high_one (cut_of axis a) r (lt_to a (high_end axis r) (omega (arith, ints))) ∙ ap (λ (q : Rect). q ∷ []) (high_same axis a r le)
 
 -- what is still to be added, from a stripe on
 abbrev pub shift : ℕ → (ℕ → List Rect) → ℕ → List Rect

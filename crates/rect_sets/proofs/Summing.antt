@@ -1,7 +1,8 @@
 -- Sums of weights, row by row.
 use Rattle.std.proofs.Common.{◌≡◌, inl, inr, ℕ, suc, ℤ, pos, ◌+ℤ◌, ◌-ℤ◌, ◌≤ℤ◌, ◌<ℤ◌, ◌<◌, ◌+◌, List, [], ◌∷◌, ◌++◌, Bool, true, false, ◌&&◌, ◌||◌, length, take, get_or, append_assoc, refl, sym, ◌∙◌, ap, subst, arith, int_le, int_lt, if◌then◌else◌}
+use Rattle.base_laws.proofs.Tests.{if_true, if_false, lt_to, le_to, lt_from}
 use Rattle.std.proofs.lemmas.Int.{ints, by_lt_z}
-use Rattle.std.proofs.lemmas.Bool.{false≢true}
+use Rattle.std.proofs.lemmas.Bool.{false≢true, cases_Bool, or_parts, and_parts}
 use Rattle.std.proofs.lemmas.List.{take_more, take_all}
 use Rattle.std.proofs.lemmas.List.Elements.{All-nil, All-cons, All-append}
 use Rattle.std.proofs.lemmas.List.Sums.{sum_by-cons}
@@ -17,8 +18,7 @@ use Rattle.rect_sets.specs.declared.sums.Begun.{Begun}
 use Rattle.rect_sets.specs.declared.row.Edge.{Edge}
 use Rattle.rect_sets.specs.declared.sums.End.{End}
 use Rattle.rect_sets.proofs.Combining.{sum_append}
-use Rattle.rect_sets.proofs.Dividing.{if_true, if_false, lt_true, lt_false, le_true, le_false, lt_from}
-use Rattle.rect_sets.proofs.Splitting.{either}
+use Rattle.rect_sets.proofs.Dividing.{lt_false, le_false}
 use Rattle.rect_sets.proofs.Sorting.{up_part, down_part, two_parts}
 
 -- sorted ends
@@ -126,35 +126,27 @@ of_none : (b : Bool) (w : ℤ) → b ≡ false → pos 0 ≡ ((if b then w else 
 of_none true w h = absurd (false≢true (sym h))
 of_none false w h = omega (arith, ints)
 
-or_none : (b c : Bool) → (b || c) ≡ false → (b ≡ false) × (c ≡ false)
-or_none true c e = absurd (false≢true (sym e))
-or_none false c e = (refl, e)
-
 lost : (y1 y2 w v : ℤ) → (int_lt y1 y2 && (is_some w || is_some v)) ≡ false → (row : ℤ) → (pos 0 ≡ ((if is_between y1 row y2 then w else pos 0) +ℤ pos 0)) × (pos 0 ≡ ((if is_between y1 row y2 then v else pos 0) +ℤ pos 0))
 lost y1 y2 w v h row = by_lt_z y1 y2
-    (λ lt. let n = or_none (is_some w) (is_some v) (sym (ap (λ b. b && (is_some w || is_some v)) (lt_true y1 y2 lt)) ∙ h) in
+    (λ lt. let n = or_parts (is_some w) (is_some v) (sym (ap (λ b. b && (is_some w || is_some v)) (lt_to y1 y2 lt)) ∙ h) in
     (of_zero (is_between y1 row y2) w (no_weight w n.0), of_zero (is_between y1 row y2) v (no_weight v n.1)))
     (λ le. (of_none (is_between y1 row y2) w (no_rows y1 y2 row le), of_none (is_between y1 row y2) v (no_rows y1 y2 row le)))
 
 pub piece_first : (e : Edge) (row : ℤ) → total first_of (piece e) row ≡ total first_of (e ∷ []) row
-piece_first e row = elim (either (int_lt e.y1 e.y2 && (is_some e.first || is_some e.second))) [
+piece_first e row = elim (cases_Bool (int_lt e.y1 e.y2 && (is_some e.first || is_some e.second))) [
   | inl t ↦ ap (λ xs. total first_of xs row) (if_true _ (e ∷ []) [] t)
   | inr f ↦ ap (λ xs. total first_of xs row) (if_false _ (e ∷ []) [] f) ∙ (lost e.y1 e.y2 e.first e.second f row).0
 ]
 
 pub piece_second : (e : Edge) (row : ℤ) → total second_of (piece e) row ≡ total second_of (e ∷ []) row
-piece_second e row = elim (either (int_lt e.y1 e.y2 && (is_some e.first || is_some e.second))) [
+piece_second e row = elim (cases_Bool (int_lt e.y1 e.y2 && (is_some e.first || is_some e.second))) [
   | inl t ↦ ap (λ xs. total second_of xs row) (if_true _ (e ∷ []) [] t)
   | inr f ↦ ap (λ xs. total second_of xs row) (if_false _ (e ∷ []) [] f) ∙ (lost e.y1 e.y2 e.first e.second f row).1
 ]
 
-and_first : (b c : Bool) → (b && c) ≡ true → b ≡ true
-and_first true c e = refl
-and_first false c e = e
-
 pub piece_all : (P : Edge → Type 0) (e : Edge) → (e.y1 <ℤ e.y2 → P e) → All P (piece e)
-piece_all P e h = elim (either (int_lt e.y1 e.y2 && (is_some e.first || is_some e.second))) [
-  | inl t ↦ subst (λ (xs : List Edge). All P xs) (sym (if_true _ (e ∷ []) [] t)) (All-cons P e [] (h (lt_from e.y1 e.y2 (and_first (int_lt e.y1 e.y2) _ t))) (All-nil P))
+piece_all P e h = elim (cases_Bool (int_lt e.y1 e.y2 && (is_some e.first || is_some e.second))) [
+  | inl t ↦ subst (λ (xs : List Edge). All P xs) (sym (if_true _ (e ∷ []) [] t)) (All-cons P e [] (h (lt_from e.y1 e.y2 ((and_parts (int_lt e.y1 e.y2) _ t).0))) (All-nil P))
   | inr f ↦ subst (λ (xs : List Edge). All P xs) (sym (if_false _ (e ∷ []) [] f)) (All-nil P)
 ]
 
@@ -196,7 +188,7 @@ from_first (d ∷ ds) h = (omega (arith, ints), h)
 pub summed_none : (field : Edge → ℤ) (change : End → ℤ) (ds : List End) (e : Edge) → e.y2 ≡ first_y ds → AreRisingEnds ds → ((row : ℤ) → total field (e ∷ []) row ≡ pos 0) → sum_of change ds ≡ pos 0 → IsSummed field change ds ds [] e (pos 0)
 summed_none field change ds e at rising none end = record {
   rows = λ row. let n = none row in by_lt_z row e.y2
-      (λ lt. let i = if_true (int_lt row e.y2) (pos 0) (pos 0 +ℤ sum_of (seen_from change row) ds) (lt_true row e.y2 lt) in
+      (λ lt. let i = if_true (int_lt row e.y2) (pos 0) (pos 0 +ℤ sum_of (seen_from change row) ds) (lt_to row e.y2 lt) in
       let z = none_seen change row (first_y ds) ds (omega (arith, ints)) (from_first ds rising) in omega (arith, ints, n, i, z))
       (λ le. let i = if_false (int_lt row e.y2) (pos 0) (pos 0 +ℤ sum_of (seen_from change row) ds) (lt_false row e.y2 le) in omega (arith, ints, n, i));
   end = omega (arith, ints, end);
@@ -210,22 +202,22 @@ summed_more field change all d rest old new last e above h from to up = record {
       let low = from.0 in
       by_lt_z row last.y2
       (λ lt.
-      let a = if_true (int_lt row last.y2) (pos 0) (above +ℤ sum_of (seen_from change row) (d ∷ rest)) (lt_true row last.y2 lt) in
+      let a = if_true (int_lt row last.y2) (pos 0) (above +ℤ sum_of (seen_from change row) (d ∷ rest)) (lt_to row last.y2 lt) in
       let b = if_false (is_between last.y2 row d.y) above (pos 0) (under last.y2 row d.y lt) in
-      let c = if_true (int_lt row e.y2) (pos 0) ((above +ℤ change d) +ℤ sum_of (seen_from change row) rest) (lt_true row e.y2 (omega (arith, ints))) in
+      let c = if_true (int_lt row e.y2) (pos 0) ((above +ℤ change d) +ℤ sum_of (seen_from change row) rest) (lt_to row e.y2 (omega (arith, ints))) in
       omega (arith, ints, p, g, a, b, c))
       (λ le. by_lt_z row d.y
       (λ lt.
       let a = if_false (int_lt row last.y2) (pos 0) (above +ℤ sum_of (seen_from change row) (d ∷ rest)) (lt_false row last.y2 le) in
       let b = if_true (is_between last.y2 row d.y) above (pos 0) (between last.y2 row d.y le lt) in
-      let c = if_true (int_lt row e.y2) (pos 0) ((above +ℤ change d) +ℤ sum_of (seen_from change row) rest) (lt_true row e.y2 (omega (arith, ints))) in
+      let c = if_true (int_lt row e.y2) (pos 0) ((above +ℤ change d) +ℤ sum_of (seen_from change row) rest) (lt_to row e.y2 (omega (arith, ints))) in
       let z = none_seen change row d.y (d ∷ rest) lt (omega (arith, ints), from.1) in
       omega (arith, ints, p, g, a, b, c, z))
       (λ more.
       let a = if_false (int_lt row last.y2) (pos 0) (above +ℤ sum_of (seen_from change row) (d ∷ rest)) (lt_false row last.y2 le) in
       let b = if_false (is_between last.y2 row d.y) above (pos 0) (over last.y2 row d.y more) in
       let c = if_false (int_lt row e.y2) (pos 0) ((above +ℤ change d) +ℤ sum_of (seen_from change row) rest) (lt_false row e.y2 (omega (arith, ints))) in
-      let s = if_true (int_le d.y row) (change d) (pos 0) (le_true d.y row more) in
+      let s = if_true (int_le d.y row) (change d) (pos 0) (le_to d.y row more) in
       omega (arith, ints, p, g, a, b, c, s)));
   end = let z = h.end in omega (arith, ints, z);
 }
@@ -246,7 +238,7 @@ summed_all field change all out last above alone h row =
     let one = alone row in
     let a = sum_append (crosses row) field out (piece last) in
     by_lt_z row last.y2
-    (λ lt. let i = if_true (int_lt row last.y2) (pos 0) (above +ℤ pos 0) (lt_true row last.y2 lt) in omega (arith, ints, p, end, one, a, i))
+    (λ lt. let i = if_true (int_lt row last.y2) (pos 0) (above +ℤ pos 0) (lt_to row last.y2 lt) in omega (arith, ints, p, end, one, a, i))
     (λ le. let i = if_false (int_lt row last.y2) (pos 0) (above +ℤ pos 0) (lt_false row last.y2 le) in omega (arith, ints, p, end, one, a, i))
 
 pub first_none : (es : List Edge) (ds : List End) → IsPermutation (ends_of es) ds → sum_of first_change ds ≡ pos 0

@@ -1,7 +1,8 @@
 -- One strip more.
-use Rattle.std.proofs.Common.{◌≡◌, ◌⊎◌, inl, inr, ℤ, pos, ◌-ℤ◌, ◌≤ℤ◌, ◌<ℤ◌, List, [], ◌∷◌, ◌++◌, Bool, true, false, ◌||◌, ◌&&◌, refl, sym, ap, ◌∙◌, subst, arith, if◌then◌else◌}
+use Rattle.std.proofs.Common.{◌≡◌, ◌⊎◌, inl, inr, ℤ, pos, ◌-ℤ◌, ◌≤ℤ◌, ◌<ℤ◌, List, [], ◌∷◌, ◌++◌, Bool, true, false, ◌||◌, refl, sym, ap, ◌∙◌, subst, arith}
+use Rattle.base_laws.proofs.Tests.{if_true, if_false}
 use Rattle.std.proofs.lemmas.Int.{ints, by_lt_z}
-use Rattle.std.proofs.lemmas.Bool.{false≢true}
+use Rattle.std.proofs.lemmas.Bool.{false≢true, cases_Bool, and_from, or_left, or_right}
 use Rattle.std.proofs.lemmas.Bool.Decides.{Decides-int_eq}
 use Rattle.std.specs.Ordering.{int_eq}
 use Rattle.geo_base.specs.Rects.{is_between, has}
@@ -18,44 +19,20 @@ use Rattle.rect_sets.specs.declared.opens.Open.{Open}
 
 -- tests
 
-either : (b : Bool) → (b ≡ true) ⊎ (b ≡ false)
-either true = inl refl
-either false = inr refl
-
-if_true : {A : Type 0} (b : Bool) (x y : A) → b ≡ true → (if b then x else y) ≡ x
-if_true true x y e = refl
-if_true false x y e = absurd (false≢true e)
-
-if_false : {A : Type 0} (b : Bool) (x y : A) → b ≡ false → (if b then x else y) ≡ y
-if_false true x y e = absurd (false≢true (sym e))
-if_false false x y e = refl
-
 span_from_same : (o : Open) (s : Span) → is_same o s ≡ true → span_of o ≡ s
 span_from_same o s h =
     let e = same_from o s h in
     ap (λ (a : ℤ). let r : Span = record { x1 = a; x2 = o.x2 } in r) e.0 ∙ ap (λ (b : ℤ). let r : Span = record { x1 = s.x1; x2 = b } in r) e.1
 
-and_true : (b c : Bool) → b ≡ true → c ≡ true → (b && c) ≡ true
-and_true true c e f = f
-and_true false c e f = absurd (false≢true e)
-
 same_itself : (o : Open) → is_same o (span_of o) ≡ true
-same_itself o = and_true (int_eq o.x1 o.x1) (int_eq o.x2 o.x2) ((Decides-int_eq o.x1 o.x1).1 refl) ((Decides-int_eq o.x2 o.x2).1 refl)
+same_itself o = and_from (int_eq o.x1 o.x1) (int_eq o.x2 o.x2) ((Decides-int_eq o.x1 o.x1).1 refl) ((Decides-int_eq o.x2 o.x2).1 refl)
 
 same_from_span : (o : Open) (s : Span) → span_of o ≡ s → is_same o s ≡ true
 same_from_span o s e = subst (λ (q : Span). is_same o q ≡ true) e (same_itself o)
 
-or_left : (b c : Bool) → b ≡ true → (b || c) ≡ true
-or_left true c e = refl
-or_left false c e = absurd (false≢true e)
-
-or_right : (b c : Bool) → c ≡ true → (b || c) ≡ true
-or_right true c e = refl
-or_right false c e = e
-
 in_from_among : (o : Open) (runs : List Span) → is_among o runs ≡ true → IsIn (span_of o) runs
 in_from_among o [] e = false≢true e
-in_from_among o (s ∷ runs) e = elim (either (is_same o s)) [
+in_from_among o (s ∷ runs) e = elim (cases_Bool (is_same o s)) [
   | inl t ↦ inl (span_from_same o s t)
   | inr f ↦ inr (in_from_among o runs (sym (ap (λ b. b || is_among o runs) f) ∙ e))
 ]
@@ -76,7 +53,7 @@ not_first o p s opens f g (inr h) = g o h
 
 finds : (y : ℤ) (opens : List Open) (s : Span) → Finds y opens s
 finds y [] s = inr (refl, λ o h. absurd h)
-finds y (o ∷ opens) s = elim (either (is_same o s)) [
+finds y (o ∷ opens) s = elim (cases_Bool (is_same o s)) [
   | inl t ↦ (let e : found y (o ∷ opens) s ≡ o = if_true (is_same o s) o (found y opens s) t in
       inl (inl e, subst (λ (q : Open). is_same q s ≡ true) (sym e) t))
   | inr f ↦ (let e : found y (o ∷ opens) s ≡ found y opens s = if_false (is_same o s) o (found y opens s) f in
@@ -131,7 +108,7 @@ one_open from o p (q ∷ opens) h (inr a) (inr b) e = one_open q.x2 o p opens h.
 
 ended_from : (y : ℤ) (opens : List Open) (runs : List Span) (r : Rect) → IsListed r (ended y opens runs) → (o : Open) × IsAmong o opens × (r ≡ rect_of y o) × (is_among o runs ≡ false)
 ended_from y [] runs r h = absurd h
-ended_from y (o ∷ opens) runs r h = elim (either (is_among o runs)) [
+ended_from y (o ∷ opens) runs r h = elim (cases_Bool (is_among o runs)) [
   | inl t ↦ (let n = ended_from y opens runs r (subst (λ (q : List Rect). IsListed r q) (if_true (is_among o runs) (ended y opens runs) (rect_of y o ∷ ended y opens runs) t) h) in (n.0, inr n.1, n.2, n.3))
   | inr f ↦ (let g : IsListed r (rect_of y o ∷ ended y opens runs) = subst (λ (q : List Rect). IsListed r q) (if_false (is_among o runs) (ended y opens runs) (rect_of y o ∷ ended y opens runs) f) h in
       elim g [ inl e ↦ (o, inl refl, e, f) | inr k ↦ (let n = ended_from y opens runs r k in (n.0, inr n.1, n.2, n.3)) ])
@@ -142,7 +119,7 @@ ended_to y [] runs o h f = absurd h
 ended_to y (p ∷ opens) runs o (inl e) f =
     let f' : is_among p runs ≡ false = subst (λ (q : Open). is_among q runs ≡ false) e f in
     subst (λ (q : List Rect). IsListed (rect_of y o) q) (sym (if_false (is_among p runs) (ended y opens runs) (rect_of y p ∷ ended y opens runs) f')) (inl (ap (rect_of y) e))
-ended_to y (p ∷ opens) runs o (inr h) f = elim (either (is_among p runs)) [
+ended_to y (p ∷ opens) runs o (inr h) f = elim (cases_Bool (is_among p runs)) [
   | inl t ↦ subst (λ (q : List Rect). IsListed (rect_of y o) q) (sym (if_true (is_among p runs) (ended y opens runs) (rect_of y p ∷ ended y opens runs) t)) (ended_to y opens runs o h f)
   | inr g ↦ subst (λ (q : List Rect). IsListed (rect_of y o) q) (sym (if_false (is_among p runs) (ended y opens runs) (rect_of y p ∷ ended y opens runs) g)) (inr (ended_to y opens runs o h f))
 ]
@@ -244,7 +221,7 @@ ends_here set y end opens closed runs h strip r k d =
     let b : n.0.x2 ≡ r.x2 = ap (λ (q : Span). q.x2) n.2 in
     let c : n.0.y1 ≡ r.y1 = one_begin set y n.0 r (h.each_open n.0 n.1) k a b d in
     subst (λ (q : Rect). IsListed q (ended y opens runs)) (same_rect y n.0 r a b c d)
-    (elim (either (is_among n.0 runs)) [
+    (elim (cases_Bool (is_among n.0 runs)) [
       | inl t ↦ absurd (k.above (subst (λ (q : ℤ). IsRun set q r.x1 r.x2) d (run_at_ends set y n.0.x1 n.0.x2 r.x1 r.x2 a b (in_to_run set y runs (span_of n.0) (strip.rows y (omega (arith, ints)) some) (in_from_among n.0 runs t)))))
       | inr f ↦ ended_to y opens runs n.0 n.1 f
     ])
@@ -283,13 +260,13 @@ inside_of x (s ∷ runs) e =
     right x t h = grind (arith, ints)
 
 has_from : (r : Rect) (s : Square) → r.x1 ≤ℤ s.x → s.x <ℤ r.x2 → r.y1 ≤ℤ s.y → s.y <ℤ r.y2 → has r s ≡ true
-has_from r s a b c d = and_true (is_between r.x1 s.x r.x2) (is_between r.y1 s.y r.y2) (between r.x1 s.x r.x2 a b) (between r.y1 s.y r.y2 c d)
+has_from r s a b c d = and_from (is_between r.x1 s.x r.x2) (is_between r.y1 s.y r.y2) (between r.x1 s.x r.x2 a b) (between r.y1 s.y r.y2 c d)
   where
     between : (low x high : ℤ) → low ≤ℤ x → x <ℤ high → is_between low x high ≡ true
     between low x high h g = grind (arith, ints)
 
 keeps : (y : ℤ) (opens : List Open) (closed : List Rect) (runs : List Span) (from : ℤ) (s : Square) → AreApart from (spans_of opens) → s.y <ℤ y → OpenHas opens s → OpenHas (nexts y opens runs) s ⊎ ListHas (closed ++ ended y opens runs) s
-keeps y opens closed runs from s apart lt o = elim (either (is_among o.one runs)) [
+keeps y opens closed runs from s apart lt o = elim (cases_Bool (is_among o.one runs)) [
   | inl t ↦ (let listed : IsIn (span_of o.one) runs = in_from_among o.one runs t in
       let same : found y opens (span_of o.one) ≡ o.one = elim (finds y opens (span_of o.one)) [
         | inl f ↦ one_open from (found y opens (span_of o.one)) o.one opens apart f.0 o.among (ap (λ (q : Span). q.x1) (span_from_same (found y opens (span_of o.one)) (span_of o.one) f.1))

@@ -1,10 +1,11 @@
 -- The node that is guessed next, and classes that leave none.
 use Rattle.std.proofs.Common.{◌≡◌, ◌⊎◌, inl, inr, ◌<◌, ◌≤◌, ◌+◌, ℕ, Bool, true, cond, count_by, List, [], ◌∷◌, refl, sym, subst, ◌∙◌, ap, arith}
+use Rattle.std.proofs.lemmas.Bool.{cases_Bool}
 use Rattle.plain_netlist.specs.Lists.{IsListed}
 use Rattle.round_laws.specs.Web.{IsWeb, IsNode, Guess, IsSolved, agree, on_left, on_right, under}
 use Rattle.round_laws.specs.Nodes.{Node, Side, Layout, Schematic, Kind, Net, Device, Call}
 use Rattle.round_laws.specs.Guesses.{IsChosen, rank}
-use Rattle.round_laws.proofs.Agree.{count-cons, equivalence, is_it, under_web}
+use Rattle.round_laws.proofs.Agree.{count-cons, equivalence, under_web}
 use Rattle.match_laws.specs.Circuits.{Pair, node, nodes, web_of}
 use Rattle.match_laws.proofs.Images.{size, nodes_there}
 use Rattle.match_graph.specs.declared.graph.Graph.{Graph}
@@ -79,7 +80,7 @@ is_chosen p g qs c x a h s least n =
 -- where a test passes somewhere
 pub some_passes : {X : Type 0} (q : X → Bool) (xs : List X) → 0 < count_by q xs → (x : X) × IsListed x xs × (q x ≡ true)
 some_passes q [] l = absurd (omega arith)
-some_passes q (x ∷ xs) l = elim (is_it (q x)) [
+some_passes q (x ∷ xs) l = elim (cases_Bool (q x)) [
   | inl t ↦ (x, inl refl, t)
   | inr f ↦
       let n = count-cons q x xs ∙ ap (λ (b : Bool). cond {A = ℕ} b 1 0 + count_by q xs) f in

@@ -1,10 +1,11 @@
 -- Rounds of numbers, and rounds of the nodes that they stand for.
 use Rattle.std.proofs.Common.{◌≡◌, ◌≢◌, inl, inr, ◌==◌, ℕ, suc, true, count_by, List, sym, subst, ◌∙◌, ap}
+use Rattle.base_laws.proofs.Tests.{same_truth}
 use Rattle.std.proofs.lemmas.Bool.Decides.{Decides-eqb}
 use Rattle.round_laws.specs.Web.{IsNode, Guess, agree, on_left, on_right, IsEven, IsStable, IsRefuted, under}
 use Rattle.round_laws.specs.Nodes.{Node}
 use Rattle.round_laws.specs.Colours.{AreColours}
-use Rattle.round_laws.proofs.Agree.{count_same, same_test}
+use Rattle.round_laws.proofs.Agree.{count_same}
 use Rattle.part_laws.proofs.Renamed.{renamed, came, goes}
 use Rattle.match_laws.specs.Circuits.{Pair, web_of}
 use Rattle.match_graph.specs.declared.graph.Graph.{Graph}
@@ -91,7 +92,7 @@ refuted_is p g ns qs r h u =
 
 pub node_test : (p : Pair) (qs : List (Guess Node)) (c : Classes) (k : ℕ) (a b : Node) → AreColours (under (web_of p) qs) k (class_of_node p c) → IsNode (web_of p) a → IsNode (web_of p) b
     → agree (under (web_of p) qs) k a b ≡ (class_of_node p c a == class_of_node p c b)
-node_test p qs c k a b colours na nb = same_test _ _
+node_test p qs c k a b colours na nb = same_truth _ _
     (λ t. (Decides-eqb (class_of_node p c a) (class_of_node p c b)).1 ((colours a b na nb).1 t))
     (λ t. (colours a b na nb).0 ((Decides-eqb (class_of_node p c a) (class_of_node p c b)).0 t))
 

@@ -1,13 +1,13 @@
 -- The right nodes that stand with the left ones.
 use Rattle.std.proofs.Common.{◌≡◌, inl, inr, ◌<◌, ◌≤◌, ◌+◌, ◌-◌, ◌==◌, ℕ, suc, Bool, true, cond, count_by, List, [], ◌∷◌, ◌++◌, length, map, slice_index, refl, sym, subst, ◌∙◌, ap, arith, length-append}
-use Rattle.std.proofs.lemmas.Bool.{cases_lt}
+use Rattle.std.proofs.lemmas.Bool.{cases_lt, cases_Bool}
 use Rattle.std.proofs.lemmas.Bool.Decides.{Decides-eqb}
 use Rattle.std.proofs.lemmas.List.{get_or_push, get_or_append_left}
 use Rattle.plain_netlist.specs.Lists.{IsListed}
 use Rattle.round_laws.specs.Web.{Web, Guess, IsSolved, agree, first_of, mate, on_right, under}
 use Rattle.round_laws.specs.Nodes.{Node, Layout, Kind, Net, Device, Call}
 use Rattle.round_laws.specs.Colours.{AreColours}
-use Rattle.round_laws.proofs.Agree.{count-cons, is_it}
+use Rattle.round_laws.proofs.Agree.{count-cons}
 use Rattle.round_laws.proofs.Solved.{only_one}
 use Rattle.match_laws.specs.Circuits.{Pair, Pairing, node, numbers_from, numbers_of, pairing_of, web_of}
 use Rattle.match_laws.proofs.Sums.{in_numbers}
@@ -62,7 +62,7 @@ mates_more g c kind xs x h m k l =
 
 first_passes : {X : Type 0} (q : X → Bool) (xs : List X) (d : X) → 0 < count_by q xs → (q (first_of q xs d) ≡ true) × IsListed (first_of q xs d) xs
 first_passes q [] d l = absurd (omega arith)
-first_passes q (x ∷ xs) d l = elim (is_it (q x)) [
+first_passes q (x ∷ xs) d l = elim (cases_Bool (q x)) [
   | inl t ↦
       let e : first_of q (x ∷ xs) d ≡ x = ap (λ (b : Bool). cond b x (first_of q xs d)) t in
       (ap q e ∙ t, inl e)

@@ -1,23 +1,24 @@
 -- The candidates of a node.
 use Rattle.std.proofs.Common.{◌≡◌, inl, inr, ◌&&◌, ◌<◌, ℕ, Bool, true, not, cond, List, [], ◌∷◌, ◌++◌, filter, Option, Some, None, refl, sym, subst, ◌∙◌, ap, ap₂}
+use Rattle.base_laws.proofs.Items.{item_at}
+use Rattle.std.proofs.lemmas.Bool.{cases_Bool}
 use Rattle.std.proofs.lemmas.Option.{same_Some}
 use Rattle.plain_netlist.specs.Lists.{IsListed}
 use Rattle.plain_netlist.specs.Netlist.{DeviceRow, CallRow}
 use Rattle.round_laws.specs.Web.{IsWeb, IsStable, Guess, agree, alike_under, under}
 use Rattle.round_laws.specs.Nodes.{Node, Side, Layout, Schematic, Kind, Net, Device, Call}
 use Rattle.round_laws.specs.Guesses.{Setting, candidates}
-use Rattle.round_laws.proofs.Agree.{first, second, is_it}
+use Rattle.round_laws.proofs.Agree.{first, second}
 use Rattle.round_laws.proofs.Stable.{agreed_first, in_either}
 use Rattle.round_laws.proofs.Unique.{same_stable}
 use Rattle.round_laws.specs.Web.{Web}
 use Rattle.match_laws.specs.Circuits.{Pair, circuit_of, nodes, web_of, Own, OfNet, OfDevice, OfCall, OfNone, own, own_at}
-use Rattle.match_laws.proofs.Sums.{found_at}
 use Rattle.match_laws.proofs.Images.{size, nodes_there, own_decides}
 
 -- what passes a filter
 pub passed : {X : Type 0} (q : X → Bool) (x : X) (xs : List X) → IsListed x (filter q xs) → IsListed x xs × (q x ≡ true)
 passed q x [] i = absurd i
-passed {X} q x (y ∷ ys) i = elim (is_it (q y)) [
+passed {X} q x (y ∷ ys) i = elim (cases_Bool (q y)) [
   | inl t ↦
       let here : filter q (y ∷ ys) ≡ y ∷ filter q ys = ap (λ (b : Bool). cond b (y ∷ filter q ys) (filter q ys)) t in
       elim (subst (λ (zs : List X). IsListed x zs) here i) [
@@ -66,8 +67,8 @@ call_own o = elim o [ None ↦ OfNone | Some c ↦ OfCall c.circuit ]
 
 kind_of_own : (p : Pair) (side : Side) (kind : Kind) (k : ℕ) → k < size p side kind → kind_in (own_at p side kind k) ≡ Some kind
 kind_of_own p side Net k h = refl
-kind_of_own p side Device k h = let d = found_at (circuit_of p side).devices k h in ap (λ (o : Option DeviceRow). kind_in (device_own o)) d.1
-kind_of_own p side Call k h = let c = found_at (circuit_of p side).calls k h in ap (λ (o : Option CallRow). kind_in (call_own o)) c.1
+kind_of_own p side Device k h = let d = item_at (circuit_of p side).devices k h in ap (λ (o : Option DeviceRow). kind_in (device_own o)) d.1
+kind_of_own p side Call k h = let c = item_at (circuit_of p side).calls k h in ap (λ (o : Option CallRow). kind_in (call_own o)) c.1
 
 kind_of_node : (p : Pair) (side : Side) (a : Node) → IsListed a (nodes p side) → kind_in (own p a) ≡ Some a.kind
 kind_of_node p side a i =

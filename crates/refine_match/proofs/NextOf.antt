@@ -1,13 +1,13 @@
 -- The next candidate of a node of the circuits.
 use Rattle.std.proofs.Common.{◌≡◌, inl, inr, ◌<◌, ◌≤◌, ◌+◌, ◌-◌, ◌^◌, ◌&&◌, ℕ, zero, suc, Bool, true, false, not, Option, Some, None, List, [], ◌∷◌, filter, length, slice_get, slice_index, slice_index_or, nat_lt, bytes_eq, refl, sym, subst, ◌∙◌, ap, ap₂, arith, true≢false}
+use Rattle.std.proofs.lemmas.Bool.{not_from_false, not-true, and_from, cases_Bool, false_from_ne_true}
 use Rattle.std.proofs.lemmas.Bool.Decides.{Decides-ltb}
 use Rattle.plain_netlist.specs.Lists.{IsListed}
 use Rattle.plain_netlist.specs.Netlist.{DeviceRow, CallRow}
 use Rattle.round_laws.specs.Web.{Guess, agree, alike_under, under}
 use Rattle.round_laws.specs.Nodes.{Node, Side, Layout, Schematic, Kind, Net, Device, Call}
 use Rattle.round_laws.specs.Guesses.{candidates}
-use Rattle.round_laws.proofs.Agree.{both, first, second, is_it}
-use Rattle.round_laws.proofs.Fast.{false_if}
+use Rattle.round_laws.proofs.Agree.{first, second}
 use Rattle.round_laws.proofs.Guesses.{in_filter, of_filter}
 use Rattle.round_laws.proofs.Stable.{agreed_first, in_either}
 use Rattle.round_laws.proofs.Agree.{in_left, in_right}
@@ -75,12 +75,12 @@ names_at p g left right h Net Call k j lk lj t = absurd (no_call _ _ (slice_get 
 names_at p g left right h Device other k j lk lj t =
     let f = h.graph.left.first_is in
     let n = h.graph.left.nets in
-    let not_net : nat_lt (index_of p (node Layout Device k)) (g.left.first + g.left.nets + 0) ≡ false = false_if (nat_lt (index_of p (node Layout Device k)) (g.left.first + g.left.nets + 0)) (λ s. let l = (Decides-ltb (index_of p (node Layout Device k)) (g.left.first + g.left.nets + 0)).0 s in omega arith) in
+    let not_net : nat_lt (index_of p (node Layout Device k)) (g.left.first + g.left.nets + 0) ≡ false = false_from_ne_true (nat_lt (index_of p (node Layout Device k)) (g.left.first + g.left.nets + 0)) (λ s. let l = (Decides-ltb (index_of p (node Layout Device k)) (g.left.first + g.left.nets + 0)).0 s in omega arith) in
     false_and (nat_lt (index_of p (node Layout Device k)) (g.left.first + g.left.nets + 0)) _ not_net
 names_at p g left right h Call other k j lk lj t =
     let f = h.graph.left.first_is in
     let n = h.graph.left.nets in
-    let not_net : nat_lt (index_of p (node Layout Call k)) (g.left.first + g.left.nets + 0) ≡ false = false_if (nat_lt (index_of p (node Layout Call k)) (g.left.first + g.left.nets + 0)) (λ s. let l = (Decides-ltb (index_of p (node Layout Call k)) (g.left.first + g.left.nets + 0)).0 s in omega arith) in
+    let not_net : nat_lt (index_of p (node Layout Call k)) (g.left.first + g.left.nets + 0) ≡ false = false_from_ne_true (nat_lt (index_of p (node Layout Call k)) (g.left.first + g.left.nets + 0)) (λ s. let l = (Decides-ltb (index_of p (node Layout Call k)) (g.left.first + g.left.nets + 0)).0 s in omega arith) in
     false_and (nat_lt (index_of p (node Layout Call k)) (g.left.first + g.left.nets + 0)) _ not_net
 
 ranks_same : (p : Pair) (g : Graph) (left right : Circuit) (a b : Node) (x : ℕ) → IsPairOf p g left right → IsListed a (nodes p Layout) → IsListed b (nodes p Schematic) → same_own (own p a) (own p b) ≡ true → index_of p a ≡ x
@@ -117,19 +117,12 @@ is_candidate p qs k limit a b i = elim (in_either b (filter (λ b. agree (under 
   )
 ]
 
-not_yes : (b : Bool) → b ≡ false → not b ≡ true
-not_yes b e = ap not e
-
-was_no : (b : Bool) → not b ≡ true → b ≡ false
-was_no true t = absurd (true≢false (sym t))
-was_no false t = refl
-
 candidate_is : (p : Pair) (qs : List (Guess Node)) (k limit : ℕ) (a b : Node) → IsListed b (nodes p Schematic) → agree (under (web_of p) qs) k a b ≡ true → IsListed b (list_of p qs k a limit)
-candidate_is p qs k limit a b i t = elim (is_it (equal_names p a b)) [
+candidate_is p qs k limit a b i t = elim (cases_Bool (equal_names p a b)) [
   | inl e ↦ in_left b (filter (λ b. agree (under (web_of p) qs) k a b && equal_names p a b) (nodes p Schematic)) (filter (λ b. agree (under (web_of p) qs) k a b && not (equal_names p a b)) (nodes p Schematic))
-      (in_filter (λ b. agree (under (web_of p) qs) k a b && equal_names p a b) b (nodes p Schematic) i (both (agree (under (web_of p) qs) k a b) (equal_names p a b) t e))
+      (in_filter (λ b. agree (under (web_of p) qs) k a b && equal_names p a b) b (nodes p Schematic) i (and_from (agree (under (web_of p) qs) k a b) (equal_names p a b) t e))
   | inr e ↦ in_right b (filter (λ b. agree (under (web_of p) qs) k a b && equal_names p a b) (nodes p Schematic)) (filter (λ b. agree (under (web_of p) qs) k a b && not (equal_names p a b)) (nodes p Schematic))
-      (in_filter (λ b. agree (under (web_of p) qs) k a b && not (equal_names p a b)) b (nodes p Schematic) i (both (agree (under (web_of p) qs) k a b) (not (equal_names p a b)) t (not_yes (equal_names p a b) e)))
+      (in_filter (λ b. agree (under (web_of p) qs) k a b && not (equal_names p a b)) b (nodes p Schematic) i (and_from (agree (under (web_of p) qs) k a b) (not (equal_names p a b)) t (not_from_false (equal_names p a b) e)))
 ]
 
 -- they stand in the order of their ranks
@@ -151,7 +144,7 @@ rising p qs k limit a small =
     rank_yes b t = ap (λ (n : Bool). rank_of n (index_of p b)) t
 
     rank_no : (b : Node) → not (equal_names p a b) ≡ true → rank_in p a b ≡ 2 ^ 32 + index_of p b
-    rank_no b t = ap (λ (n : Bool). rank_of n (index_of p b)) (was_no (equal_names p a b) t)
+    rank_no b t = ap (λ (n : Bool). rank_of n (index_of p b)) (not-true (equal_names p a b) t)
 
 -- what was found is the next candidate
 pub next_is : (p : Pair) (g : Graph) (left right : Circuit) (qs : List (Guess Node)) (c : Classes) (x limit : ℕ) (a : Node) (last best : Option Candidate) (items : List ℕ) → IsPairOf p g left right → nodes_of g < 2 ^ 32 → IsListed a (nodes p Layout)

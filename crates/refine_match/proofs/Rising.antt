@@ -1,9 +1,8 @@
 -- Lists in the order of a rank, and what of them lies behind a place.
 use Rattle.std.proofs.Common.{◌≡◌, inl, inr, ◌<◌, ◌≤◌, ℕ, zero, suc, Bool, true, false, cond, List, [], ◌∷◌, ◌++◌, filter, map, nat_lt, refl, sym, subst, ◌∙◌, ap, arith}
+use Rattle.std.proofs.lemmas.Bool.{cases_Bool, false_from_ne_true}
 use Rattle.std.proofs.lemmas.Bool.Decides.{Decides-ltb}
 use Rattle.plain_netlist.specs.Lists.{IsListed}
-use Rattle.round_laws.proofs.Agree.{is_it}
-use Rattle.round_laws.proofs.Fast.{false_if}
 use Rattle.round_laws.proofs.Guesses.{of_filter}
 use Rattle.round_laws.proofs.Stable.{in_either}
 use Rattle.match_laws.specs.Circuits.{numbers_from}
@@ -22,7 +21,7 @@ no_first q y ys t = ap (λ (b : Bool). cond b (y ∷ filter q ys) (filter q ys))
 
 pub filter_passes : {X : Type 0} (q : X → Bool) (x : X) (xs : List X) → IsListed x (filter q xs) → q x ≡ true
 filter_passes q x [] i = absurd i
-filter_passes q x (y ∷ ys) i = elim (is_it (q y)) [
+filter_passes q x (y ∷ ys) i = elim (cases_Bool (q y)) [
   | inl t ↦ elim (subst (IsListed x) (yes_first q y ys t) i) [
     | inl e ↦ ap q e ∙ t
     | inr j ↦ filter_passes q x ys j
@@ -42,7 +41,7 @@ numbered f (x ∷ xs) m (suc n) e =
 -- some of them rise, by each rank that keeps their order
 pub filtered : {X : Type 0} (f g : X → ℕ) (q : X → Bool) (xs : List X) → IsRising f xs → ((x y : X) → IsListed x xs → IsListed y xs → q x ≡ true → q y ≡ true → f x < f y → g x < g y) → IsRising g (filter q xs)
 filtered f g q [] h up = tt
-filtered {X} f g q (x ∷ xs) h up = elim (is_it (q x)) [
+filtered {X} f g q (x ∷ xs) h up = elim (cases_Bool (q x)) [
   | inl t ↦ subst (IsRising g) (sym (yes_first q x xs t))
       ((λ y i. up x y (inl refl) (inr (of_filter q y xs i)) t (filter_passes q y xs i) (h.0 y (of_filter q y xs i))), filtered f g q xs h.1 (λ a b i j s u l. up a b (inr i) (inr j) s u l))
   | inr t ↦ subst (IsRising g) (sym (no_first q x xs t)) (filtered f g q xs h.1 (λ a b i j s u l. up a b (inr i) (inr j) s u l))
@@ -58,7 +57,7 @@ joined f (x ∷ xs) ys h g l = (
 -- where none passes, or all do
 pub none_pass : {X : Type 0} (q : X → Bool) (xs : List X) → ((x : X) → IsListed x xs → q x ≡ true → ⊥) → filter q xs ≡ []
 none_pass q [] h = refl
-none_pass q (x ∷ xs) h = no_first q x xs (false_if (q x) (λ t. h x (inl refl) t)) ∙ none_pass q xs (λ y i. h y (inr i))
+none_pass q (x ∷ xs) h = no_first q x xs (false_from_ne_true (q x) (λ t. h x (inl refl) t)) ∙ none_pass q xs (λ y i. h y (inr i))
 
 all_pass : {X : Type 0} (q : X → Bool) (xs : List X) → ((x : X) → IsListed x xs → q x ≡ true) → filter q xs ≡ xs
 all_pass q [] h = refl
@@ -70,13 +69,13 @@ pub head_is : {X : Type 0} (f : X → ℕ) (q : ℕ → Bool) (b : X) (xs : List
 head_is f q b [] h i t up least = absurd i
 head_is {X} f q b (x ∷ xs) h (inl e) t up least =
     let here : q (f x) ≡ true = ap (λ (y : X). q (f y)) (sym e) ∙ t in
-    let not_it : nat_lt (f b) (f x) ≡ false = false_if (nat_lt (f b) (f x)) (λ s. let l = (Decides-ltb (f b) (f x)).0 s in let same = ap f e in omega arith) in
+    let not_it : nat_lt (f b) (f x) ≡ false = false_from_ne_true (nat_lt (f b) (f x)) (λ s. let l = (Decides-ltb (f b) (f x)).0 s in let same = ap f e in omega arith) in
     let all = all_pass (λ y. q (f y)) xs (λ y j. let l = h.0 y j in up (f x) (f y) (omega arith) here) in
     let rest = all_pass (λ y. nat_lt (f b) (f y)) xs (λ y j. let l = h.0 y j in let same = ap f e in (Decides-ltb (f b) (f y)).1 (omega arith)) in
     yes_first (λ y. q (f y)) x xs here ∙ (ap (λ (ys : List X). x ∷ ys) all ∙ (ap (λ (y : X). y ∷ xs) (sym e) ∙ ap (λ (ys : List X). b ∷ ys) (sym rest ∙ sym (no_first (λ y. nat_lt (f b) (f y)) x xs not_it))))
 head_is {X} f q b (x ∷ xs) h (inr i) t up least =
     let l = h.0 b i in
-    let not_here : q (f x) ≡ false = false_if (q (f x)) (λ s. let m = least x (inl refl) s in omega arith) in
-    let not_behind : nat_lt (f b) (f x) ≡ false = false_if (nat_lt (f b) (f x)) (λ s. let m = (Decides-ltb (f b) (f x)).0 s in omega arith) in
+    let not_here : q (f x) ≡ false = false_from_ne_true (q (f x)) (λ s. let m = least x (inl refl) s in omega arith) in
+    let not_behind : nat_lt (f b) (f x) ≡ false = false_from_ne_true (nat_lt (f b) (f x)) (λ s. let m = (Decides-ltb (f b) (f x)).0 s in omega arith) in
     no_first (λ y. q (f y)) x xs not_here
     ∙ (head_is f q b xs h.1 i t up (λ y j s. least y (inr j) s) ∙ ap (λ (ys : List X). b ∷ ys) (sym (no_first (λ y. nat_lt (f b) (f y)) x xs not_behind)))

@@ -1,10 +1,10 @@
 -- The first right node of a class, where it is the first candidate.
 use Rattle.std.proofs.Common.{◌≡◌, inl, inr, ◌<◌, ◌≤◌, ◌+◌, ◌-◌, ◌^◌, ◌&&◌, ℕ, Bool, true, false, Option, Some, None, List, [], length, slice_index, slice_index_or, nat_lt, bytes_eq, refl, sym, subst, ◌∙◌, ap, arith, true≢false}
+use Rattle.std.proofs.lemmas.Bool.{and_from, cases_Bool, false_from_ne_true}
 use Rattle.std.specs.Option.{is_some}
 use Rattle.std.proofs.lemmas.Bool.Decides.{Decides-ltb}
 use Rattle.round_laws.specs.Nodes.{Device}
-use Rattle.round_laws.proofs.Agree.{both, first, is_it, second}
-use Rattle.round_laws.proofs.Fast.{false_if}
+use Rattle.round_laws.proofs.Agree.{first, second}
 use Rattle.std.proofs.lemmas.Slice.Eq.{bytes_eq-Decides}
 use Rattle.refine_match.specs.Namesakes.{IsFirstNamed, IsFirstNet, IsNameless, name_of}
 use Rattle.net_model.specs.declared.netlist.Circuit.{Circuit}
@@ -38,7 +38,7 @@ sure_namesake g c left right x y d small is of = record {
   first = λ a low below other.
       let here : rank_of (have_one_name g left right x y) y ≡ 0 + y = ap (λ (u : Bool). rank_of u y) is.named in
       let under = is.below in
-      elim (is_it (have_one_name g left right x a)) [
+      elim (cases_Bool (have_one_name g left right x a)) [
         | inl e ↦
             let there : rank_of (have_one_name g left right x a) a ≡ 0 + a = ap (λ (u : Bool). rank_of u a) e in
             let least = is.first a low e in
@@ -83,7 +83,7 @@ sure_nameless g c left right x y d b e none first = record {
 pub no_net : (g : Graph) (left right : Circuit) (x : ℕ) → place_in g.left Device 0 ≤ x → IsNameless g left right x
 no_net g left right x past a l =
     ap (λ (u : Bool). u && (nat_lt a (place_in g.right Device 0) && bytes_eq (slice_index_or left.nets.items (x - g.left.first) []) (slice_index_or right.nets.items (a - g.right.first) [])))
-    (false_if (nat_lt x (place_in g.left Device 0)) (λ s. let m = (Decides-ltb x (place_in g.left Device 0)).0 s in omega arith))
+    (false_from_ne_true (nat_lt x (place_in g.left Device 0)) (λ s. let m = (Decides-ltb x (place_in g.left Device 0)).0 s in omega arith))
 
 -- a right node of the name of a left one is a net
 right_net : (g : Graph) (left right : Circuit) (x a : ℕ) → HaveNets g left right → left_of g ≤ a → have_one_name g left right x a ≡ true
@@ -91,16 +91,16 @@ right_net : (g : Graph) (left right : Circuit) (x a : ℕ) → HaveNets g left r
 right_net g left right x a nets low t =
     let lb = nat_lt a (place_in g.right Device 0) in
     let nb = bytes_eq (slice_index_or left.nets.items (x - g.left.first) []) (slice_index_or right.nets.items (a - g.right.first) []) in
-    let both = second (nat_lt x (place_in g.left Device 0)) (lb && nb) t in
-    let below = (Decides-ltb a (place_in g.right Device 0)).0 (first lb nb both) in
-    let same = (bytes_eq-Decides (slice_index_or left.nets.items (x - g.left.first) []) (slice_index_or right.nets.items (a - g.right.first) [])).0 (second lb nb both) in
+    let and_from = second (nat_lt x (place_in g.left Device 0)) (lb && nb) t in
+    let below = (Decides-ltb a (place_in g.right Device 0)).0 (first lb nb and_from) in
+    let same = (bytes_eq-Decides (slice_index_or left.nets.items (x - g.left.first) []) (slice_index_or right.nets.items (a - g.right.first) [])).0 (second lb nb and_from) in
     let count = nets.right_nets in
     (omega arith, sym same)
 
 -- a net without a namesake
 pub no_namesake : (g : Graph) (left right : Circuit) (x : ℕ) → HaveNets g left right → IsFirstNet right 0 (name_of left (x - g.left.first)) None → IsNameless g left right x
 no_namesake g left right x nets none a low =
-    false_if (have_one_name g left right x a) (λ t. let is = right_net g left right x a nets low t in none (a - g.right.first) (omega arith) is.0 is.1)
+    false_from_ne_true (have_one_name g left right x a) (λ t. let is = right_net g left right x a nets low t in none (a - g.right.first) (omega arith) is.0 is.1)
 
 -- a net with one
 pub first_named : (g : Graph) (left right : Circuit) (x v : ℕ) → HaveNets g left right → x < place_in g.left Device 0 → IsFirstNet right 0 (name_of left (x - g.left.first)) (Some v) → IsFirstNamed g left right x (g.right.first + v)
@@ -115,8 +115,8 @@ first_named g left right x v nets net is =
     record {
       low = omega arith;
       below = omega arith;
-      named = both (nat_lt x (place_in g.left Device 0)) (lb && bytes_eq ln rn) ((Decides-ltb x (place_in g.left Device 0)).1 net)
-          (both lb (bytes_eq ln rn) ((Decides-ltb (g.right.first + v) (place_in g.right Device 0)).1 (omega arith)) ((bytes_eq-Decides ln rn).1 same));
+      named = and_from (nat_lt x (place_in g.left Device 0)) (lb && bytes_eq ln rn) ((Decides-ltb x (place_in g.left Device 0)).1 net)
+          (and_from lb (bytes_eq ln rn) ((Decides-ltb (g.right.first + v) (place_in g.right Device 0)).1 (omega arith)) ((bytes_eq-Decides ln rn).1 same));
       first = λ a l t.
           let r = right_net g left right x a nets l t in
           let least = is.3 (a - g.right.first) (omega arith) r.0 r.1 in

@@ -1,5 +1,6 @@
 -- Ties that follow classes as they are parted.
-use Rattle.std.proofs.Common.{◌≡◌, ◌⊎◌, inl, inr, ◌<◌, ◌≤◌, ◌+◌, ◌-◌, ◌==◌, ℕ, zero, suc, Bool, true, false, List, [], ◌∷◌, ◌++◌, length, map, slice_index, slice_index_or, refl, sym, subst, ◌∙◌, ap, arith, length-append}
+use Rattle.std.proofs.Common.{◌≡◌, ◌⊎◌, inl, inr, ◌<◌, ◌≤◌, ◌+◌, ◌-◌, ◌==◌, ℕ, zero, suc, List, [], ◌∷◌, ◌++◌, length, map, slice_index, slice_index_or, refl, sym, subst, ◌∙◌, ap, arith, length-append}
+use Rattle.base_laws.proofs.Tests.{same_truth}
 use Rattle.std.specs.Prelude.{Vec}
 use Rattle.std.specs.Global.{Global}
 use Rattle.std.specs.List.{Contains}
@@ -23,11 +24,6 @@ use Rattle.refine_match.specs.declared.ties.Ties.{Ties}
 use Rattle.refine_match.specs.Ties.{AreFormer, AreInOrder, AreListed, AreLow, AreMovedFrom, AreRenewed, AreSpansOf, AreTaken, AreTiesOf, HasTie, IsEntered, IsSpanAdded, IsSpanOf, lefts_of, span_at, ties_in, tie_order, told_in}
 use Rattle.refine_match.proofs.Chosen.{some_passes}
 
-same_test : (a b : Bool) → (a ≡ true → b ≡ true) → (b ≡ true → a ≡ true) → a ≡ b
-same_test true b f h = sym (f refl)
-same_test false true f h = h refl
-same_test false false f h = refl
-
 -- a class has the same left nodes by one numbering and by another
 pub record IsOneClass (f h : ℕ → ℕ) (left d : ℕ) : Type 0 where
   pub to : (a : ℕ) → a < left → f a ≡ d → h a ≡ d
@@ -38,7 +34,7 @@ lefts_same f h left d one = count_same (λ a. d == f a) (λ a. d == h a) (number
     let b = in_numbers a 0 left i in
     let hi = b.1 in
     let l : a < left = omega arith in
-    same_test (d == f a) (d == h a)
+    same_truth (d == f a) (d == h a)
     (λ t. (Decides-eqb d (h a)).1 (sym (one.to a l (sym ((Decides-eqb d (f a)).0 t)))))
     (λ t. (Decides-eqb d (f a)).1 (sym (one.from a l (sym ((Decides-eqb d (h a)).0 t))))))
 

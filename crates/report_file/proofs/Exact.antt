@@ -1,5 +1,6 @@
 -- A mismatch without a flat correspondence.
 use Rattle.std.proofs.Common.{◌≡◌, ◌↔◌, inl, inr, ℕ, ◌+◌, ◌==◌, ◌&&◌, Bool, true, false, cond, List, [], ◌∷◌, length, Option, Some, slice_get, refl, sym, ap, subst, ◌∙◌, arith, true≢false}
+use Rattle.base_laws.proofs.Items.{item_at}
 use Rattle.std.specs.List.{Any}
 use Rattle.std.proofs.lemmas.Bool.{cases_Bool}
 use Rattle.std.proofs.lemmas.Option.{slice_get-get_or, get_or_from_slice_get}
@@ -27,7 +28,6 @@ use Rattle.pair_jobs.specs.Verdict.{IsRunVerdict}
 use Rattle.pair_jobs.specs.declared.verdict.Verdict.TheVariants as verdict
 use Rattle.pair_turns.specs.Alone.{Names, with_gone}
 use Rattle.plain_netlist.proofs.Alike.{reversed, through}
-use Rattle.plain_netlist.proofs.Members.{item_at}
 use Rattle.plain_netlist.specs.FlatLaws.{Passes}
 use Rattle.plain_netlist.specs.Flats.{Corresponds, expanded, Reversed, Through}
 use Rattle.plain_netlist.specs.Lists.{IsListed}

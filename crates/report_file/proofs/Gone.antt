@@ -1,5 +1,6 @@
 -- The names of circuits that go.
 use Rattle.std.proofs.Common.{◌≡◌, inl, inr, ℕ, zero, suc, ◌<◌, ◌≤◌, Bool, true, false, cond, List, [], ◌∷◌, ◌++◌, length, map, Some, slice_get, refl, sym, ap, subst, ◌∙◌, arith, true≢false}
+use Rattle.std.proofs.lemmas.Bool.{or_left, or_right}
 use Rattle.std.specs.Prelude.{◌||◌}
 use Rattle.std.specs.List.{filter, list_any}
 use Rattle.std.specs.Str.{bytes_eq}
@@ -64,14 +65,6 @@ both_apart names goes cs apart named free =
     let s = gone goes cs r.item r.there in
     let same : q ≡ folded_bytes s.circuit.name = r.is ∙ ap folded_bytes s.is in
     free s.place s.circuit s.there (subst (λ (x : List ℕ). list_any (bytes_eq x) (map folded_bytes names) ≡ true) same (found q (map folded_bytes names) h))))
-
-or_left : (a b : Bool) → a ≡ true → (a || b) ≡ true
-or_left true b e = refl
-or_left false b e = absurd cc
-
-or_right : (a b : Bool) → b ≡ true → (a || b) ≡ true
-or_right true b e = refl
-or_right false b e = e
 
 -- a name stays among them, and a circuit that goes comes to them
 has_more : (names more : List (List ℕ)) (name : List ℕ) → has_name (names ++ more) name ≡ (has_name names name || has_name more name)

@@ -1,5 +1,7 @@
 -- Where a pair differs and none goes, it is that of the tops, and calls nothing.
 use Rattle.std.proofs.Common.{◌≡◌, inl, inr, ℕ, zero, suc, ◌+◌, ◌-◌, ◌≤◌, Bool, true, false, List, [], ◌∷◌, length, Some, slice_get, refl, sym, ap, subst, ◌∙◌, arith, true≢false}
+use Rattle.base_laws.proofs.Items.{item_at}
+use Rattle.std.proofs.lemmas.Bool.{or_parts, and_parts}
 use Rattle.std.specs.Prelude.{◌==◌, ◌&&◌, ◌||◌, nat_lt, slice_index_or, if◌then◌else◌}
 use Rattle.std.specs.List.{list_any}
 use Rattle.std.proofs.lemmas.Bool.Decides.{Decides-eqb, Decides-ltb}
@@ -13,12 +15,7 @@ use Rattle.pair_turns.specs.Going.{AreGoing, calls_none, goes_from, is_differenc
 use Rattle.plain_netlist.specs.Netlist.{CallRow, Circuit, Netlist, IsCircuit}
 use Rattle.plain_netlist.specs.Sound.{IsCallPath}
 use Rattle.plain_netlist.proofs.Faults.{sides}
-use Rattle.plain_netlist.proofs.Members.{item_at}
 use Rattle.report_file.proofs.Kept.{made_of}
-
-either_false : (a b : Bool) → (a || b) ≡ false → (a ≡ false) × (b ≡ false)
-either_false true b e = absurd cc
-either_false false b e = (refl, e)
 
 first_false : (a b : Bool) → a ≡ true → (a && b) ≡ false → b ≡ false
 first_false true b e f = f
@@ -34,13 +31,13 @@ quiet n j zero (x ∷ cs) (y ∷ ds) (v ∷ vs) c d a h e f g t i =
     let one : x ≡ c = cc in
     let two : y ≡ d = cc in
     let three : v ≡ a = cc in
-    let both = either_false (is_difference v && takes_apart n j x y i) _ (h i) in
+    let both = or_parts (is_difference v && takes_apart n j x y i) _ (h i) in
     let off = first_false (is_difference v) (takes_apart n j x y i) (ap is_difference three ∙ t) both.0 in
     let zero_more : j ≡ j + 0 = omega arith in
     subst (λ (m : ℕ). takes_apart n m c d i ≡ false) zero_more
     (subst (λ (z : Circuit). takes_apart n j c z i ≡ false) two (subst (λ (z : Circuit). takes_apart n j z y i ≡ false) one off))
 quiet n j (suc q) (x ∷ cs) (y ∷ ds) (v ∷ vs) c d a h e f g t i =
-    let more : (m : ℕ) → goes_from n (j + 1) cs ds vs m ≡ false = λ m. (either_false (is_difference v && takes_apart n j x y m) (goes_from n (j + 1) cs ds vs m) (h m)).1 in
+    let more : (m : ℕ) → goes_from n (j + 1) cs ds vs m ≡ false = λ m. (or_parts (is_difference v && takes_apart n j x y m) (goes_from n (j + 1) cs ds vs m) (h m)).1 in
     let same : (j + 1) + q ≡ j + suc q = omega arith in
     subst (λ (m : ℕ). takes_apart n m c d i ≡ false) same (quiet n (j + 1) q cs ds vs c d a more e f g t i)
 
@@ -48,16 +45,12 @@ quiet n j (suc q) (x ∷ cs) (y ∷ ds) (v ∷ vs) c d a h e f g t i =
 no_calls : (rs : List CallRow) → ((i : ℕ) → list_any (λ (r : CallRow). r.circuit == i) rs ≡ false) → rs ≡ []
 no_calls [] h = refl
 no_calls (r ∷ rs) h = absurd (
-    let here = either_false (r.circuit == r.circuit) _ (h r.circuit) in
+    let here = or_parts (r.circuit == r.circuit) _ (h r.circuit) in
     true≢false (sym ((Decides-eqb r.circuit r.circuit).1 refl) ∙ here.0))
 
 none_long : (rs : List CallRow) → (length rs == 0) ≡ true → rs ≡ []
 none_long [] e = refl
 none_long (r ∷ rs) e = absurd (let z = (Decides-eqb (length (r ∷ rs)) 0).0 e in omega (arith, z))
-
-both_true : (a b : Bool) → (a && b) ≡ true → (a ≡ true) × (b ≡ true)
-both_true true b e = (refl, e)
-both_true false b e = absurd cc
 
 not_below : (a b : ℕ) → nat_lt a b ≡ false → b ≤ a
 not_below a b e = elim (sides a b) [
@@ -77,7 +70,7 @@ last_leaf n k c d h = step (calls_none c && calls_none d) refl
   where
     step : (b : Bool) → (calls_none c && calls_none d) ≡ b → IsLastLeaf n k c d
     step true e =
-        let both = both_true (calls_none c) (calls_none d) e in
+        let both = and_parts (calls_none c) (calls_none d) e in
         let here : ((k == k) && nat_lt (k + 1) n) ≡ false = subst (λ (b : Bool). (if b then ((k == k) && nat_lt (k + 1) n) else (is_called c k || is_called d k)) ≡ false) e (h k) in
         record {
           left = none_long c.calls both.0;
@@ -86,8 +79,8 @@ last_leaf n k c d h = step (calls_none c && calls_none d) refl
         }
     step false e =
         let each : (i : ℕ) → (is_called c i || is_called d i) ≡ false = λ i. subst (λ (b : Bool). (if b then ((i == k) && nat_lt (k + 1) n) else (is_called c i || is_called d i)) ≡ false) e (h i) in
-        let left = no_calls c.calls (λ i. (either_false (is_called c i) (is_called d i) (each i)).0) in
-        let right = no_calls d.calls (λ i. (either_false (is_called c i) (is_called d i) (each i)).1) in
+        let left = no_calls c.calls (λ i. (or_parts (is_called c i) (is_called d i) (each i)).0) in
+        let right = no_calls d.calls (λ i. (or_parts (is_called c i) (is_called d i) (each i)).1) in
         absurd (true≢false (sym (ap (λ (rs : List CallRow). (length rs == 0) && calls_none d) left ∙ ap (λ (rs : List CallRow). length rs == 0) right) ∙ e))
 
 -- no mark is set

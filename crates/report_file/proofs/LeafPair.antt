@@ -1,5 +1,6 @@
 -- Two circuits that call nothing and expand to the same have a correspondence.
 use Rattle.std.proofs.Common.{◌≡◌, inl, inr, ℕ, ◌<◌, List, [], ◌∷◌, length, Some, slice_get, refl, sym, ap, subst, ◌∙◌, arith}
+use Rattle.base_laws.proofs.Items.{item_at}
 use Rattle.std.specs.Prelude.{slice_index}
 use Rattle.std.proofs.lemmas.Option.{slice_get_within}
 use Rattle.match_laws.specs.Circuits.{IsCorrespondence, IsDeviceImage, IsOneToOne, Pair, Pairing, pin_name}
@@ -9,7 +10,7 @@ use Rattle.plain_netlist.specs.Lists.{IsListed}
 use Rattle.plain_netlist.specs.Netlist.{Bulk, CallRow, Circuit, DeviceRow, Drain, Gate, HasDevice, InOneNet, IsCall, IsCircuit, IsEitherJoin, IsOnPin, IsTerminal, Joins, Netlist, Pole, Slot, Source, on, slot}
 use Rattle.plain_netlist.specs.Sound.{AreNetsThere}
 use Rattle.plain_netlist.proofs.Alike.{reversed, terminal_image}
-use Rattle.plain_netlist.proofs.Members.{item_at, listed, position}
+use Rattle.plain_netlist.proofs.Members.{listed, position}
 use Rattle.report_file.proofs.Choosing.{IsChosen, choose, one_to_one}
 
 -- a device of the circuit has a terminal on net n

@@ -1,5 +1,6 @@
 -- A turn has one limit.
 use Rattle.std.proofs.Common.{◌≡◌, inl, inr, ℕ, zero, suc, ◌+◌, ◌<◌, Bool, true, false, List, [], ◌∷◌, length, Option, Some, None, refl, sym, ap, subst, ◌∙◌, arith, true≢false}
+use Rattle.base_laws.proofs.Items.{item_at}
 use Rattle.std.specs.Prelude.{slice_index_or}
 use Rattle.std.specs.List.{sum_by}
 use Rattle.std.proofs.lemmas.List.{ext_get_or}
@@ -10,7 +11,7 @@ use Rattle.plain_netlist.specs.Lists.{IsListed}
 use Rattle.plain_netlist.specs.Netlist.{CallRow, Circuit, Netlist, IsCircuit}
 use Rattle.plain_netlist.specs.Sound.{IsGood}
 use Rattle.plain_netlist.proofs.Faults.{sides}
-use Rattle.plain_netlist.proofs.Members.{item_at, position}
+use Rattle.plain_netlist.proofs.Members.{position}
 
 module _ (nl : Netlist) (height : ℕ → ℕ) (good : IsGood nl height) (goes : List Bool) (s t : List ℕ) (h : AreSizes nl goes s) (g : AreSizes nl goes t) where
   counted : (row : CallRow) → slice_index_or s row.circuit 0 ≡ slice_index_or t row.circuit 0 → call_rows goes s row ≡ call_rows goes t row

@@ -1,5 +1,6 @@
 -- A comparison, and what follows it.
 use Rattle.std.proofs.Common.{◌≡◌, ℕ, ◌<◌, Bool, true, List, [], ◌++◌, Option, Some, None, refl, sym, ap, subst, ◌∙◌, arith}
+use Rattle.base_laws.proofs.Items.{item_at}
 use Rattle.std.proofs.lemmas.Option.{slice_get_within}
 use Rattle.align_laws.specs.Partners.{AreSides}
 use Rattle.align_laws.proofs.Sides.{aligned_sides}
@@ -9,7 +10,6 @@ use Rattle.net_model.specs.Rows.{plain_netlist}
 use Rattle.pair_turns.specs.Alone.{Names, all_names, longest, same_alone, with_gone}
 use Rattle.pair_turns.specs.Laws.{AloneLaw, LongestLaw}
 use Rattle.plain_netlist.specs.Netlist.{Netlist}
-use Rattle.plain_netlist.proofs.Members.{item_at}
 use Rattle.report_file.specs.Compared.{IsComparison}
 use Rattle.report_file.specs.Taken.{AddsTurn}
 use Rattle.report_file.specs.Turns.{AreInTurns, AreTurns, EndsAfter, IsAloneByRules}

@@ -1,9 +1,11 @@
 -- Through all turns the top keeps the partner that it has by the rules.
 use Rattle.std.proofs.Common.{◌≡◌, inl, inr, ℕ, zero, suc, Bool, true, false, List, ◌++◌, length, map, Some, slice_get, refl, sym, ap, subst, ◌∙◌, arith}
+use Rattle.base_laws.proofs.Tests.{same_truth}
+use Rattle.base_laws.proofs.Items.{item_at}
 use Rattle.std.specs.Prelude.{◌||◌}
 use Rattle.std.specs.List.{list_any}
 use Rattle.std.specs.Str.{bytes_eq}
-use Rattle.std.proofs.lemmas.Bool.{cases_Bool}
+use Rattle.std.proofs.lemmas.Bool.{cases_Bool, or_from}
 use Rattle.std.proofs.lemmas.List.{map-append}
 use Rattle.std.proofs.lemmas.List.Folds.{list_any-append}
 use Rattle.std.proofs.lemmas.Option.{slice_get_within}
@@ -17,7 +19,6 @@ use Rattle.pair_turns.specs.Going.{AreGoing}
 use Rattle.pair_turns.proofs.Lists.{found, listed_found, of_map, on_map}
 use Rattle.plain_netlist.specs.Lists.{IsListed}
 use Rattle.plain_netlist.specs.Netlist.{Circuit, Netlist, IsCircuit}
-use Rattle.plain_netlist.proofs.Members.{item_at}
 use Rattle.report_file.proofs.Gone.{gone, gone_there}
 use Rattle.report_file.proofs.Kept.{kept_as, made_of}
 use Rattle.report_file.proofs.LastPair.{last_is_top, partner_kept, top_kept, tops}
@@ -35,20 +36,11 @@ pub record IsKept (layout schematic : Netlist) (top b : ℕ) (same : List (List 
   pub free : IsFree layout alone.lefts top
   pub also : IsFree schematic alone.rights b
 
-same_bool : (a b : Bool) → (a ≡ true → b ≡ true) → (b ≡ true → a ≡ true) → a ≡ b
-same_bool true b f g = sym (f refl)
-same_bool false true f g = g refl
-same_bool false false f g = refl
-
 both_or : (a b c d : Bool) → a ≡ b → (a ≡ false → c ≡ d) → (a || c) ≡ (b || d)
 both_or true true c d e f = refl
 both_or true false c d e f = absurd cc
 both_or false true c d e f = absurd cc
 both_or false false c d e f = f refl
-
-off_or : (a c : Bool) → a ≡ false → c ≡ false → (a || c) ≡ false
-off_or true c e f = absurd cc
-off_or false c e f = f
 
 module _ (layout schematic : Netlist) (top : ℕ) (rules : List (List ℕ × List ℕ)) (most : ℕ) (alone : Names) (fit : AreFit layout schematic rules most alone) (fine : AreNamesApart layout) (fine_right : AreNamesApart schematic) (lines : AreLinesApart (same_alone most alone rules))
     (left right : Netlist) (a : AreAligned layout schematic top (same_alone most alone rules) left right) (first : AreCalleesFirst layout) (order : AreCalleesFirst left) (answers : List Answer) (long : length answers ≡ length left.circuits) (goes : List Bool) (are : AreGoing left right answers goes)
@@ -104,7 +96,7 @@ module _ (layout schematic : Netlist) (top : ℕ) (rules : List (List ℕ × Lis
   whole_after line l =
       has_more alone.lefts gl line.0
       ∙ both_or (has_name alone.lefts line.0) (has_name alone.rights line.1) (has_name gl line.0) (has_name gr line.1) (kept.whole line l)
-      (λ off. let now = line_stays most alone layout schematic rules fit.low top kept.whole kept.free line l off in same_bool (has_name gl line.0) (has_name gr line.1) (left_to_right line now) (right_to_left line now))
+      (λ off. let now = line_stays most alone layout schematic rules fit.low top kept.whole kept.free line l off in same_truth (has_name gl line.0) (has_name gr line.1) (left_to_right line now) (right_to_left line now))
       ∙ sym (has_more alone.rights gr line.1)
 
   -- the place of the tops' pair, which stands last
@@ -124,7 +116,7 @@ module _ (layout schematic : Netlist) (top : ℕ) (rules : List (List ℕ × Lis
       (subst (λ (n : ℕ). slice_get goes n ≡ Some true) (sym e ∙ l.2) set)
 
   free_after : IsFree layout (alone.lefts ++ gl) top
-  free_after name has = has_more alone.lefts gl name ∙ off_or (has_name alone.lefts name) (has_name gl name) (kept.free name has) (elim (cases_Bool (has_name gl name)) [
+  free_after name has = has_more alone.lefts gl name ∙ or_from (has_name alone.lefts name) (has_name gl name) (kept.free name has) (elim (cases_Bool (has_name gl name)) [
     | inr f ↦ f
     | inl t ↦ absurd (
         let p = a.are in
@@ -136,7 +128,7 @@ module _ (layout schematic : Netlist) (top : ℕ) (rules : List (List ℕ × Lis
   ])
 
   also_after : IsFree schematic (alone.rights ++ gr) b
-  also_after name has = has_more alone.rights gr name ∙ off_or (has_name alone.rights name) (has_name gr name) (kept.also name has) (elim (cases_Bool (has_name gr name)) [
+  also_after name has = has_more alone.rights gr name ∙ or_from (has_name alone.rights name) (has_name gr name) (kept.also name has) (elim (cases_Bool (has_name gr name)) [
     | inr f ↦ f
     | inl t ↦ absurd (
         let p = a.are in

@@ -1,5 +1,6 @@
 -- The top's partner in the last comparison is the one that it has by the lines of the rules.
-use Rattle.std.proofs.Common.{◌≡◌, ℕ, Bool, true, false, List, [], ◌∷◌, map, Option, Some, None, slice_get, refl, sym, ap, subst, ◌∙◌, true≢false}
+use Rattle.std.proofs.Common.{◌≡◌, ℕ, true, false, List, [], ◌∷◌, map, Option, Some, None, slice_get, refl, sym, ap, subst, ◌∙◌, true≢false}
+use Rattle.std.proofs.lemmas.Bool.{false_from_ne_true, not-true}
 use Rattle.std.specs.Prelude.{not}
 use Rattle.std.specs.Str.{bytes_eq}
 use Rattle.std.proofs.lemmas.Slice.Eq.{bytes_eq-Decides}
@@ -26,17 +27,9 @@ use Rattle.report_file.specs.Turns.{AreInTurns, AreTurns, IsAloneByRules, others
 use Rattle.rule_text.specs.Rules.{Rules}
 use Rattle.rule_text.specs.Sound.{IsSound}
 
-not_so : (b : Bool) → (b ≡ true → ⊥) → b ≡ false
-not_so true h = absurd (h refl)
-not_so false h = refl
-
-not_true : (b : Bool) → not b ≡ true → b ≡ false
-not_true true e = absurd cc
-not_true false e = refl
-
 -- among fewer names it isn't either
 fewer_none : (name q : List ℕ) (names : List (List ℕ)) → has_name names q ≡ false → has_name (others name names) q ≡ false
-fewer_none name q names none = not_so (has_name (others name names) q) (λ t.
+fewer_none name q names none = false_from_ne_true (has_name (others name names) q) (λ t.
     let r = of_map folded_bytes (others name names) (folded_bytes q) (listed_found (folded_bytes q) (map folded_bytes (others name names)) t) in
     let was = picked (λ (n : List ℕ). not (bytes_eq (folded_bytes n) (folded_bytes name))) names r.item r.there in
     let there = found (folded_bytes q) (map folded_bytes names) (subst (λ (x : List ℕ). IsListed x (map folded_bytes names)) (sym r.is) (on_map folded_bytes names r.item was.0)) in
@@ -44,11 +37,11 @@ fewer_none name q names none = not_so (has_name (others name names) q) (λ t.
 
 -- the name itself isn't among the others
 others_free : (name q : List ℕ) (names : List (List ℕ)) → folded_bytes q ≡ folded_bytes name → has_name (others name names) q ≡ false
-others_free name q names e = not_so (has_name (others name names) q) (λ t.
+others_free name q names e = false_from_ne_true (has_name (others name names) q) (λ t.
     let r = of_map folded_bytes (others name names) (folded_bytes q) (listed_found (folded_bytes q) (map folded_bytes (others name names)) t) in
     let was = picked (λ (n : List ℕ). not (bytes_eq (folded_bytes n) (folded_bytes name))) names r.item r.there in
     let same = (bytes_eq-Decides (folded_bytes r.item) (folded_bytes name)).1 (sym r.is ∙ e) in
-    true≢false (sym same ∙ not_true (bytes_eq (folded_bytes r.item) (folded_bytes name)) was.1))
+    true≢false (sym same ∙ not-true (bytes_eq (folded_bytes r.item) (folded_bytes name)) was.1))
 
 circuit_free : (nl : Netlist) (a : ℕ) (names : List (List ℕ)) → IsFree nl (others (name_of (slice_get nl.circuits a)) names) a
 circuit_free nl a names q (x, is, e) = others_free (name_of (slice_get nl.circuits a)) q names (sym e ∙ ap (λ (o : Option Circuit). folded_bytes (name_of o)) (sym is))

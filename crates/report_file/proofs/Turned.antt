@@ -1,8 +1,8 @@
 -- A turn: the circuits that go had partners, and fewer circuits have one after it.
-use Rattle.std.proofs.Common.{◌≡◌, ◌⊎◌, inl, inr, ℕ, ◌<◌, ◌≤◌, Bool, true, false, List, ◌++◌, length, Some, slice_get, refl, sym, ap, subst, ◌∙◌, true≢false}
+use Rattle.std.proofs.Common.{◌≡◌, ◌⊎◌, inl, inr, ℕ, ◌<◌, ◌≤◌, Bool, true, false, List, ◌++◌, length, Some, slice_get, sym, ap, subst, ◌∙◌, true≢false}
 use Rattle.std.specs.Prelude.{not}
 use Rattle.std.specs.List.{filter}
-use Rattle.std.proofs.lemmas.Bool.{cases_Bool}
+use Rattle.std.proofs.lemmas.Bool.{cases_Bool, not_from_false, not_from_true, not-true}
 use Rattle.std.proofs.lemmas.Simd.{map-map}
 use Rattle.net_names.specs.Folding.{folded_bytes}
 use Rattle.align_laws.specs.Partners.{AreNamesApart}
@@ -50,18 +50,6 @@ within P xs ys gs hs name left right h = elim (either_side (xs ++ gs) (ys ++ hs)
   | inl k ↦ elim (either_side xs gs name k) [ inl l ↦ inl (in_left xs ys name l) | inr l ↦ inr (left l) ]
   | inr k ↦ elim (either_side ys hs name k) [ inl l ↦ inl (in_right xs ys name l) | inr l ↦ inr (right l) ]
 ]
-
-not_false : (b : Bool) → b ≡ false → not b ≡ true
-not_false true e = absurd cc
-not_false false e = refl
-
-not_of : (b : Bool) → b ≡ true → not b ≡ false
-not_of true e = refl
-not_of false e = absurd cc
-
-of_not : (b : Bool) → not b ≡ true → b ≡ false
-of_not true e = absurd cc
-of_not false e = refl
 
 module _ (law : AloneLaw) (layout schematic : Netlist) (top : ℕ) (same : List (List ℕ × List ℕ)) (most : ℕ) (alone : Names) (fit : AreFit layout schematic same most alone) (fine : AreNamesApart layout)
     (also : AreNamesApart schematic) (left right : Netlist) (a : AreAligned layout schematic top (same_alone most alone same) left right) (goes : List Bool) where
@@ -131,6 +119,6 @@ module _ (law : AloneLaw) (layout schematic : Netlist) (top : ℕ) (same : List 
       let after : has_name (alone.lefts ++ gl) m.given.name ≡ true = comes alone.lefts gl m.given.name (subst (λ (n : List ℕ). IsListed n gl) m.name (gone_there goes left.circuits k c set is)) in
       one_fewer (λ (x : Circuit). not (has_name alone.lefts x.name)) (λ (x : Circuit). not (has_name (alone.lefts ++ gl) x.name)) layout.circuits
       (λ x e. elim (cases_Bool (has_name alone.lefts x.name)) [
-        | inl t ↦ absurd (true≢false (sym (stays alone.lefts gl x.name t) ∙ of_not (has_name (alone.lefts ++ gl) x.name) e))
-        | inr f ↦ not_false (has_name alone.lefts x.name) f
-      ]) m.number m.given m.is (not_false (has_name alone.lefts m.given.name) before) (not_of (has_name (alone.lefts ++ gl) m.given.name) after)
+        | inl t ↦ absurd (true≢false (sym (stays alone.lefts gl x.name t) ∙ not-true (has_name (alone.lefts ++ gl) x.name) e))
+        | inr f ↦ not_from_false (has_name alone.lefts x.name) f
+      ]) m.number m.given m.is (not_from_false (has_name alone.lefts m.given.name) before) (not_from_true (has_name (alone.lefts ++ gl) m.given.name) after)

@@ -1,5 +1,7 @@
 -- Agreeing in a round is an equivalence, and a correspondence keeps it.
-use Rattle.std.proofs.Common.{◌≡◌, ◌⊎◌, inl, inr, ℕ, zero, suc, ◌+◌, ◌==◌, ◌&&◌, ◌||◌, cond, Bool, true, false, List, [], ◌∷◌, ◌++◌, refl, sym, subst, ◌∙◌, ap, ap₂, arith, true≢false}
+use Rattle.std.proofs.Common.{◌≡◌, ◌⊎◌, inl, inr, ℕ, zero, suc, ◌+◌, ◌==◌, ◌&&◌, cond, Bool, true, false, List, [], ◌∷◌, ◌++◌, refl, sym, subst, ◌∙◌, ap, ap₂, arith, true≢false}
+use Rattle.base_laws.proofs.Tests.{same_truth}
+use Rattle.std.proofs.lemmas.Bool.{and_from, cases_Bool, or_cases, or_left, or_right}
 use Rattle.std.specs.List.{list_all, count_by}
 use Rattle.std.specs.Cmp.{IsEquivalence, bool_eq_equiv}
 use Rattle.std.specs.Bool.{Decides, beq}
@@ -27,11 +29,6 @@ pub count_none : {X : Type 0} (p : X → Bool) (xs : List X) → ((x : X) → Is
 count_none p [] h = refl
 count_none p (x ∷ xs) h = count-cons p x xs ∙ (ap (λ (b : Bool). cond b 1 0 + count_by p xs) (h x (inl refl)) ∙ (let rest = count_none p xs (λ y i. h y (inr i)) in omega arith))
 
--- tests
-pub both : (a b : Bool) → a ≡ true → b ≡ true → (a && b) ≡ true
-both true b p q = q
-both false b p q = absurd (true≢false (sym p))
-
 pub first : (a b : Bool) → (a && b) ≡ true → a ≡ true
 first true b p = refl
 first false b p = p
@@ -40,15 +37,6 @@ pub second : (a b : Bool) → (a && b) ≡ true → b ≡ true
 second true b p = p
 second false b p = absurd (true≢false (sym p))
 
-pub same_test : (a b : Bool) → (a ≡ true → b ≡ true) → (b ≡ true → a ≡ true) → a ≡ b
-same_test true b p q = sym (p refl)
-same_test false true p q = q refl
-same_test false false p q = refl
-
-pub is_it : (b : Bool) → (b ≡ true) ⊎ (b ≡ false)
-is_it true = inl refl
-is_it false = inr refl
-
 -- ports
 pub port_same : (p q : Port) → Decides (same_port p q) (p ≡ q)
 port_same Channel Channel = ((λ _. refl), (λ _. refl))
@@ -56,7 +44,7 @@ port_same Gate Gate = ((λ _. refl), (λ _. refl))
 port_same Bulk Bulk = ((λ _. refl), (λ _. refl))
 port_same (Pin p i) (Pin q j) = (
   (λ h. let a : p ≡ q = (Decides-eqb p q).0 (first _ _ h) in let b : i ≡ j = (Decides-eqb i j).0 (second _ _ h) in cc),
-  (λ h. both _ _ ((Decides-eqb p q).1 cc) ((Decides-eqb i j).1 cc)),
+  (λ h. and_from _ _ ((Decides-eqb p q).1 cc) ((Decides-eqb i j).1 cc)),
 )
 port_same p q = ((λ h. absurd (true≢false (sym h))), (λ h. absurd cc))
 
@@ -65,7 +53,7 @@ port_refl p = (port_same p p).1 refl
 
 -- what fits under an equivalence
 pub fits_refl : {N : Type 0} (same : N → N → Bool) → IsEquivalence same → (c : End N) → fits same c c ≡ true
-fits_refl same eq c = both _ _ (port_refl c.port) (eq.refl c.node)
+fits_refl same eq c = and_from _ _ (port_refl c.port) (eq.refl c.node)
 
 pub fits_congr : {N : Type 0} (same : N → N → Bool) → IsEquivalence same → (c d e : End N) → fits same c d ≡ true → fits same c e ≡ fits same d e
 fits_congr same eq c d e h =
@@ -78,7 +66,7 @@ pub find_like : {X : Type 0} (like test : X → Bool) (xs : List X) → list_all
     → ((e : X) × (like e ≡ true) × (test e ≡ true)) ⊎ ((e : X) → IsListed e xs → like e ≡ false)
 find_like {X} like test [] h = inr (λ e i. absurd i)
 find_like {X} like test (x ∷ xs) h =
-    elim (is_it (like x)) [
+    elim (cases_Bool (like x)) [
       | inl yes_here ↦ inl (x, yes_here, first _ _ h)
       | inr not_here ↦ elim (find_like like test xs (second _ _ h)) [
         | inl found ↦ inl found
@@ -97,7 +85,7 @@ in_right x (y ∷ xs) ys i = inr (in_right x xs ys i)
 
 all_of : {X : Type 0} (p : X → Bool) (xs : List X) → ((x : X) → p x ≡ true) → list_all p xs ≡ true
 all_of p [] h = refl
-all_of p (x ∷ xs) h = both _ _ (h x) (all_of p xs h)
+all_of p (x ∷ xs) h = and_from _ _ (h x) (all_of p xs h)
 
 -- equal counts of each end that is there are equal counts of every end
 pub ends_count : {N : Type 0} (same : N → N → Bool) → IsEquivalence same → (xs ys : List (End N)) → same_ends same xs ys ≡ true
@@ -115,11 +103,11 @@ ends_same same xs ys h = all_of _ (xs ++ ys) (λ c. (Decides-eqb _ _).1 (h c))
 
 -- agreeing is an equivalence
 flip : {N : Type 0} (w : Web N) (k : ℕ) → IsEquivalence (agree w k) → (a b : N) → agree w (suc k) a b ≡ true → agree w (suc k) b a ≡ true
-flip w k before a b h = both _ _ (before.symm b a ∙ first _ _ h)
+flip w k before a b h = and_from _ _ (before.symm b a ∙ first _ _ h)
     (ends_same (agree w k) (w.near b) (w.near a) (λ c. sym (ends_count (agree w k) before (w.near a) (w.near b) (second _ _ h) c)))
 
 join : {N : Type 0} (w : Web N) (k : ℕ) → IsEquivalence (agree w k) → (a b c : N) → agree w (suc k) a b ≡ true → agree w (suc k) b c ≡ true → agree w (suc k) a c ≡ true
-join w k before a b c g h = both _ _ (before.congr a b c (first _ _ g) ∙ first _ _ h)
+join w k before a b c g h = and_from _ _ (before.congr a b c (first _ _ g) ∙ first _ _ h)
     (ends_same (agree w k) (w.near a) (w.near c) (λ e.
     ends_count (agree w k) before (w.near a) (w.near b) (second _ _ g) e ∙ ends_count (agree w k) before (w.near b) (w.near c) (second _ _ h) e))
 
@@ -128,9 +116,9 @@ equivalence w eq zero = eq
 equivalence {N} w eq (suc k) =
     let before : IsEquivalence (agree w k) = equivalence w eq k in
     record {
-      refl = λ a. both _ _ (before.refl a) (ends_same (agree w k) (w.near a) (w.near a) (λ c. refl));
-      symm = λ a b. same_test (agree w (suc k) a b) (agree w (suc k) b a) (flip w k before a b) (flip w k before b a);
-      congr = λ a b c h. same_test (agree w (suc k) a c) (agree w (suc k) b c)
+      refl = λ a. and_from _ _ (before.refl a) (ends_same (agree w k) (w.near a) (w.near a) (λ c. refl));
+      symm = λ a b. same_truth (agree w (suc k) a b) (agree w (suc k) b a) (flip w k before a b) (flip w k before b a);
+      congr = λ a b c h. same_truth (agree w (suc k) a c) (agree w (suc k) b c)
           (λ g. join w k before b a c (flip w k before a b h) g) (λ g. join w k before a b c h g);
     }
 
@@ -144,7 +132,7 @@ image_same w f web k c a h =
 pub image_agrees : {N : Type 0} (w : Web N) (f : N → N) → IsWeb w → IsWebMap w f → (k : ℕ) (a : N) → IsListed a w.left → agree w k a (f a) ≡ true
 image_agrees w f web carries zero a i = carries.alike a i
 image_agrees {N} w f web carries (suc k) a i =
-    both (agree w k a (f a)) _ (image_agrees w f web carries k a i) (ends_same (agree w k) (w.near a) (w.near (f a)) (λ c.
+    and_from (agree w k a (f a)) _ (image_agrees w f web carries k a i) (ends_same (agree w k) (w.near a) (w.near (f a)) (λ c.
     count_same (fits (agree w k) c) (λ e. fits (agree w k) c (record { port = e.port; node = f e.node })) (w.near a)
     (λ e j. ap (λ (b : Bool). same_port c.port e.port && b)
     (image_same w f web k c.node e.node (image_agrees w f web carries k e.node (web.left_near a i e j))))
@@ -158,7 +146,7 @@ counts_even w f web carries k c node =
 -- guesses
 both_equivalence : {N : Type 0} (E F : N → N → Bool) → IsEquivalence E → IsEquivalence F → IsEquivalence (λ a b. E a b && F a b)
 both_equivalence E F e f = record {
-  refl = λ a. both _ _ (e.refl a) (f.refl a);
+  refl = λ a. and_from _ _ (e.refl a) (f.refl a);
   symm = λ a b. ap₂ (λ (p q : Bool). p && q) (e.symm a b) (f.symm a b);
   congr = λ a b c h. ap₂ (λ (p q : Bool). p && q) (e.congr a b c (first _ _ h)) (f.congr a b c (second _ _ h));
 }
@@ -183,31 +171,19 @@ under_web w guesses web = record {
   apart = web.apart;
 }
 
-pub either : (a b : Bool) → (a || b) ≡ true → (a ≡ true) ⊎ (b ≡ true)
-either true b h = inl refl
-either false b h = inr h
-
-pub either_left : (a b : Bool) → a ≡ true → (a || b) ≡ true
-either_left true b h = refl
-either_left false b h = absurd (true≢false (sym h))
-
-pub either_right : (a b : Bool) → b ≡ true → (a || b) ≡ true
-either_right true b h = refl
-either_right false b h = h
-
 beq_same : (a b : Bool) → a ≡ b → beq a b ≡ true
 beq_same a b h = subst (λ (c : Bool). beq a c ≡ true) h (bool_eq_equiv.refl a)
 
 named_alike : {N : Type 0} (w : Web N) (f : N → N) → IsWeb w → IsWebMap w f → (g : Guess N) → f g.left ≡ g.right → IsListed g.left w.left → IsListed g.right w.right
     → (a : N) → IsListed a w.left → names w g a ≡ names w g (f a)
-named_alike {N} w f web carries g kept left right a i = same_test (names w g a) (names w g (f a))
-    (λ h. elim (either _ _ h) [
-      | inl e ↦ either_right (w.is g.left (f a)) _ ((web.is g.right (f a)).1 (sym kept ∙ ap f ((web.is g.left a).0 e)))
+named_alike {N} w f web carries g kept left right a i = same_truth (names w g a) (names w g (f a))
+    (λ h. elim (or_cases _ _ h) [
+      | inl e ↦ or_right (w.is g.left (f a)) _ ((web.is g.right (f a)).1 (sym kept ∙ ap f ((web.is g.left a).0 e)))
       | inr e ↦ absurd (web.apart a i (subst (λ (n : N). IsListed n w.right) ((web.is g.right a).0 e) right))
     ])
-    (λ h. elim (either _ _ h) [
+    (λ h. elim (or_cases _ _ h) [
       | inl e ↦ absurd (web.apart (f a) (subst (λ (n : N). IsListed n w.left) ((web.is g.left (f a)).0 e) left) (carries.there a i))
-      | inr e ↦ either_left _ (w.is g.right a) ((web.is g.left a).1 (carries.one g.left a left i (kept ∙ (web.is g.right (f a)).0 e)))
+      | inr e ↦ or_left _ (w.is g.right a) ((web.is g.left a).1 (carries.one g.left a left i (kept ∙ (web.is g.right (f a)).0 e)))
     ])
 
 alike_kept : {N : Type 0} (w : Web N) (f : N → N) (guesses : List (Guess N)) → IsWeb w → IsWebMap w f → Keeps f guesses
@@ -215,7 +191,7 @@ alike_kept : {N : Type 0} (w : Web N) (f : N → N) (guesses : List (Guess N)) �
     → (a : N) → IsListed a w.left → alike_under w guesses a (f a) ≡ true
 alike_kept w f [] web carries keeps there a i = carries.alike a i
 alike_kept w f (g ∷ gs) web carries keeps there a i =
-    both _ _ (beq_same _ _ (named_alike w f web carries g (keeps g (inl refl)) (there g (inl refl)).0 (there g (inl refl)).1 a i))
+    and_from _ _ (beq_same _ _ (named_alike w f web carries g (keeps g (inl refl)) (there g (inl refl)).0 (there g (inl refl)).1 a i))
     (alike_kept w f gs web carries (λ h j. keeps h (inr j)) (λ h j. there h (inr j)) a i)
 
 pub carries_under : {N : Type 0} (w : Web N) (f : N → N) (guesses : List (Guess N)) → IsWeb w → IsWebMap w f → Keeps f guesses

@@ -1,17 +1,19 @@
 -- Colours that stand for agreeing in one round, split by counts, stand for agreeing in the next.
 use Rattle.std.proofs.Common.{◌≡◌, inl, inr, ℕ, suc, ◌==◌, ◌&&◌, Bool, true, false, List, ◌++◌, sym, subst, ◌∙◌, ap, true≢false}
+use Rattle.base_laws.proofs.Tests.{same_truth}
+use Rattle.std.proofs.lemmas.Bool.{and_from, cases_Bool}
 use Rattle.std.specs.List.{count_by, list_any}
 use Rattle.std.proofs.lemmas.Bool.Decides.{Decides-eqb}
 use Rattle.plain_netlist.specs.Lists.{IsListed}
 use Rattle.round_laws.specs.Web.{Port, same_port, End, Web, IsWeb, IsNode, fits, agree, same_ends}
 use Rattle.round_laws.specs.Colours.{IsChanged, changed_ends, AreColours, ends_of, SplitsBy}
-use Rattle.round_laws.proofs.Agree.{count_same, count_none, both, first, second, same_test, is_it, equivalence, ends_count, port_same, in_left, in_right}
+use Rattle.round_laws.proofs.Agree.{count_same, count_none, first, second, equivalence, ends_count, port_same, in_left, in_right}
 use Rattle.round_laws.proofs.Stable.{near_node, in_either, any_found, any_of}
 use Rattle.round_laws.proofs.Guesses.{of_filter}
 use Rattle.round_laws.proofs.Fast.{ends_same_in, fast}
 
 colour_test : {N : Type 0} (w : Web N) (k : ℕ) (colour : N → ℕ) → AreColours w k colour → (a b : N) → IsNode w a → IsNode w b → agree w k a b ≡ (colour a == colour b)
-colour_test w k colour h a b i j = same_test _ _
+colour_test w k colour h a b i j = same_truth _ _
     (λ t. (Decides-eqb (colour a) (colour b)).1 ((h a b i j).1 t))
     (λ t. (h a b i j).0 ((Decides-eqb (colour a) (colour b)).0 t))
 
@@ -28,7 +30,7 @@ same_by_counts {N} w k colour h xs ys nx ny counts = ends_same_in (agree w k) xs
 pub counts_by_same : {N : Type 0} (w : Web N) (k : ℕ) (colour : N → ℕ) → IsWeb w → AreColours w k colour → (xs ys : List (End N)) → ((e : End N) → IsListed e xs → IsNode w e.node) → ((e : End N) → IsListed e ys → IsNode w e.node)
     → same_ends (agree w k) xs ys ≡ true → (port : Port) (c : ℕ) → ends_of colour port c xs ≡ ends_of colour port c ys
 counts_by_same {N} w k colour web h xs ys nx ny same port c =
-    elim (is_it (list_any (λ e. same_port port e.port && (c == colour e.node)) (xs ++ ys))) [
+    elim (cases_Bool (list_any (λ e. same_port port e.port && (c == colour e.node)) (xs ++ ys))) [
       | inl r ↦
           let f = any_found (λ e. same_port port e.port && (c == colour e.node)) (xs ++ ys) r in
           let node : IsNode w f.0.node = elim (in_either f.0 xs ys f.1) [ inl i ↦ nx f.0 i | inr i ↦ ny f.0 i ] in
@@ -43,13 +45,13 @@ counts_by_same {N} w k colour web h xs ys nx ny same port c =
     ]
   where
     not_any : {X : Type 0} (p : X → Bool) (zs : List X) → list_any p zs ≡ false → (e : X) → IsListed e zs → p e ≡ false
-    not_any p zs r e i = elim (is_it (p e)) [ inl t ↦ absurd (true≢false (sym (any_of p e zs i t) ∙ r)) | inr t ↦ t ]
+    not_any p zs r e i = elim (cases_Bool (p e)) [ inl t ↦ absurd (true≢false (sym (any_of p e zs i t) ∙ r)) | inr t ↦ t ]
 
 pub round : {N : Type 0} (w : Web N) (k : ℕ) (colour new : N → ℕ) → IsWeb w → AreColours w k colour → SplitsBy w w.near colour new → AreColours w (suc k) new
 round w k colour new web h splits = λ a b i j. (
   (λ e.
       let s = (splits a b i j).0 e in
-      both (agree w k a b) _ ((h a b i j).0 s.0) (same_by_counts w k colour h (w.near a) (w.near b) (near_node w web a i) (near_node w web b j) s.1)),
+      and_from (agree w k a b) _ ((h a b i j).0 s.0) (same_by_counts w k colour h (w.near a) (w.near b) (near_node w web a i) (near_node w web b j) s.1)),
   (λ t. (splits a b i j).1
       ((h a b i j).1 (first (agree w k a b) _ t), counts_by_same w k colour web h (w.near a) (w.near b) (near_node w web a i) (near_node w web b j) (second (agree w k a b) _ t))),
 )

@@ -1,10 +1,11 @@
 -- What a search that ended excludes, and what one that found gives.
 use Rattle.std.proofs.Common.{◌≡◌, ◌⊎◌, inl, inr, ℕ, suc, ◌+◌, ◌<◌, arith, ◌&&◌, cond, not, Bool, true, List, [], ◌∷◌, sym, subst, ap, filter}
+use Rattle.std.proofs.lemmas.Bool.{and_from, cases_Bool}
 use Rattle.plain_netlist.specs.Lists.{IsListed}
 use Rattle.round_laws.specs.Web.{Web, IsWeb, agree, IsWebMap, Guess, under, Keeps, mate}
 use Rattle.round_laws.specs.Nodes.{Node}
 use Rattle.round_laws.specs.Guesses.{Setting, candidates, Search, Ended, Stopped, Found, Refuted, Below, Open, HasEnded, HasFound, HasStopped, refuted_in, guessed, IsSearch, IsWholeSearch}
-use Rattle.round_laws.proofs.Agree.{both, is_it, in_left, in_right, image_agrees, carries_under, under_web, refuted_none}
+use Rattle.round_laws.proofs.Agree.{in_left, in_right, image_agrees, carries_under, under_web, refuted_none}
 use Rattle.round_laws.proofs.Solved.{solved_under}
 use Rattle.round_laws.proofs.Stable.{in_either}
 
@@ -18,7 +19,7 @@ in_filter {X} p x (y ∷ ys) (inl e) h =
     let l : filter p (y ∷ ys) ≡ y ∷ filter p ys = ap (λ (b : Bool). cond b (y ∷ filter p ys) (filter p ys)) r in
     subst (λ (zs : List X). IsListed x zs) (sym l) (inl e)
 in_filter {X} p x (y ∷ ys) (inr i) h =
-    elim (is_it (p y)) [
+    elim (cases_Bool (p y)) [
       | inl r ↦
           let l : filter p (y ∷ ys) ≡ y ∷ filter p ys = ap (λ (b : Bool). cond b (y ∷ filter p ys) (filter p ys)) r in
           subst (λ (zs : List X). IsListed x zs) (sym l) (inr (in_filter p x ys i h))
@@ -30,7 +31,7 @@ in_filter {X} p x (y ∷ ys) (inr i) h =
 pub of_filter : {X : Type 0} (p : X → Bool) (x : X) (xs : List X) → IsListed x (filter p xs) → IsListed x xs
 of_filter p x [] i = i
 of_filter {X} p x (y ∷ ys) i =
-    elim (is_it (p y)) [
+    elim (cases_Bool (p y)) [
       | inl r ↦
           let l : filter p (y ∷ ys) ≡ y ∷ filter p ys = ap (λ (b : Bool). cond b (y ∷ filter p ys) (filter p ys)) r in
           elim (subst (λ (zs : List X). IsListed x zs) l i) [ inl e ↦ inl e | inr j ↦ inr (of_filter p x ys j) ]
@@ -41,10 +42,10 @@ of_filter {X} p x (y ∷ ys) i =
 
 is_candidate : (s : Setting) (w : Web Node) (k : ℕ) (a b : Node) → IsListed b w.right → agree w k a b ≡ true → IsListed b (candidates s w k a)
 is_candidate s w k a b i h =
-    elim (is_it (s.same_name a b)) [
-      | inl r ↦ in_left b _ _ (in_filter (λ c. agree w k a c && s.same_name a c) b w.right i (both _ _ h r))
+    elim (cases_Bool (s.same_name a b)) [
+      | inl r ↦ in_left b _ _ (in_filter (λ c. agree w k a c && s.same_name a c) b w.right i (and_from _ _ h r))
       | inr r ↦ in_right b (filter (λ c. agree w k a c && s.same_name a c) w.right) _
-          (in_filter (λ c. agree w k a c && not (s.same_name a c)) b w.right i (both _ _ h (ap not r)))
+          (in_filter (λ c. agree w k a c && not (s.same_name a c)) b w.right i (and_from _ _ h (ap not r)))
     ]
 
 candidate_there : (s : Setting) (w : Web Node) (k : ℕ) (a b : Node) → IsListed b (candidates s w k a) → IsListed b w.right

@@ -1,10 +1,12 @@
 -- Classes of one pair each are a correspondence.
 use Rattle.std.proofs.Common.{◌≡◌, ◌⊎◌, inl, inr, ℕ, ◌+◌, ◌≤◌, cond, Bool, true, false, List, [], ◌∷◌, ◌++◌, refl, sym, subst, ◌∙◌, ap, ap₂, arith, true≢false}
+use Rattle.base_laws.proofs.Tests.{same_truth}
+use Rattle.std.proofs.lemmas.Bool.{cases_Bool}
 use Rattle.std.specs.List.{list_any, count_by}
 use Rattle.std.specs.Cmp.{IsEquivalence}
 use Rattle.plain_netlist.specs.Lists.{IsListed}
 use Rattle.round_laws.specs.Web.{Port, same_port, End, Web, fits, agree, IsWeb, IsNode, IsSolved, IsWebMap, Guess, under, alike_under, first_of, mate, on_right}
-use Rattle.round_laws.proofs.Agree.{count-cons, count_like, count_none, first, second, same_test, is_it, equivalence, ends_count, under_web, fits_refl, fits_congr, port_same, in_left, in_right}
+use Rattle.round_laws.proofs.Agree.{count-cons, count_like, count_none, first, second, equivalence, ends_count, under_web, fits_refl, fits_congr, port_same, in_left, in_right}
 use Rattle.round_laws.proofs.Stable.{agreed_first, any_found, any_of, in_either}
 
 abbrev pub one_if : Bool → ℕ
@@ -45,7 +47,7 @@ only_one p (z ∷ zs) x y one (inr i) (inr j) px py =
 first_passes : {X : Type 0} (p : X → Bool) (xs : List X) (d : X) → 1 ≤ count_by p xs → (p (first_of p xs d) ≡ true) × IsListed (first_of p xs d) xs
 first_passes p [] d h = absurd (omega arith)
 first_passes {X} p (x ∷ xs) d h =
-    elim (is_it (p x)) [
+    elim (cases_Bool (p x)) [
       | inl r ↦ let e : first_of p (x ∷ xs) d ≡ x = ap (λ (b : Bool). cond b x (first_of p xs d)) r in
           (subst (λ (v : X). p v ≡ true) (sym e) r, inl e)
       | inr r ↦ let e : first_of p (x ∷ xs) d ≡ first_of p xs d = ap (λ (b : Bool). cond b x (first_of p xs d)) r in
@@ -66,7 +68,7 @@ pub record Cut {X : Type 0} (p : X → Bool) (ys : List X) : Type 0 where
 pub cut : {X : Type 0} (p : X → Bool) (ys : List X) → 1 ≤ count_by p ys → Cut p ys
 cut p [] h = absurd (omega arith)
 cut {X} p (y ∷ ys) h =
-    elim (is_it (p y)) [
+    elim (cases_Bool (p y)) [
       | inl r ↦ record { before = []; item = y; behind = ys; is = refl; passes = r }
       | inr r ↦
           let step = count-cons p y ys in
@@ -131,7 +133,7 @@ pub all_classes : {X : Type 0} (same : X → X → Bool) → IsEquivalence same 
     → ((c : X) → IsListed c xs ⊎ IsListed c ys → count_by (same c) xs ≡ count_by (same c) ys)
     → (c : X) → count_by (same c) xs ≡ count_by (same c) ys
 all_classes {X} same eq xs ys h c =
-    elim (is_it (list_any (same c) (xs ++ ys))) [
+    elim (cases_Bool (list_any (same c) (xs ++ ys))) [
       | inl r ↦
           let f = any_found (same c) (xs ++ ys) r in
           let alike : (e : X) → same c e ≡ same f.0 e = λ e. eq.congr c f.0 e f.2 in
@@ -140,12 +142,12 @@ all_classes {X} same eq xs ys h c =
     ]
   where
     none_of : {X : Type 0} (p : X → Bool) (zs : List X) → list_any p zs ≡ false → (e : X) → IsListed e zs → p e ≡ false
-    none_of p zs r e i = elim (is_it (p e)) [ inl t ↦ absurd (true≢false (sym (any_of p e zs i t) ∙ r)) | inr t ↦ t ]
+    none_of p zs r e i = elim (cases_Bool (p e)) [ inl t ↦ absurd (true≢false (sym (any_of p e zs i t) ∙ r)) | inr t ↦ t ]
 
 pub ends_equivalence : {N : Type 0} (same : N → N → Bool) → IsEquivalence same → IsEquivalence (fits same)
 ends_equivalence same eq = record {
   refl = λ c. fits_refl same eq c;
-  symm = λ c d. same_test (fits same c d) (fits same d c)
+  symm = λ c d. same_truth (fits same c d) (fits same d c)
       (λ h. sym (fits_congr same eq c d c h) ∙ fits_refl same eq c)
       (λ h. sym (fits_congr same eq d c d h) ∙ fits_refl same eq d);
   congr = fits_congr same eq;

@@ -1,11 +1,13 @@
 -- Rounds only split classes, stay once no class splits, and come to that.
 use Rattle.std.proofs.Common.{◌≡◌, ◌⊎◌, inl, inr, ℕ, zero, suc, ◌+◌, ◌≤◌, ◌==◌, ◌&&◌, cond, Bool, true, false, List, [], ◌∷◌, ◌++◌, length, refl, sym, subst, ◌∙◌, ap, ap₂, arith, true≢false}
+use Rattle.base_laws.proofs.Tests.{same_truth}
+use Rattle.std.proofs.lemmas.Bool.{and_from, or_cases, or_left, or_right}
 use Rattle.std.specs.List.{list_all, list_any}
 use Rattle.std.specs.Cmp.{IsEquivalence}
 use Rattle.std.proofs.Math.Decide.{ℕ_discrete}
 use Rattle.plain_netlist.specs.Lists.{IsListed}
 use Rattle.round_laws.specs.Web.{same_port, End, Web, fits, same_ends, agree, IsWeb, IsNode, IsStable, classes}
-use Rattle.round_laws.proofs.Agree.{count_same, both, first, second, same_test, either, either_left, either_right, equivalence, in_left, in_right}
+use Rattle.round_laws.proofs.Agree.{count_same, first, second, equivalence, in_left, in_right}
 
 pub agreed_before : {N : Type 0} (w : Web N) (k : ℕ) (a b : N) → agree w (suc k) a b ≡ true → agree w k a b ≡ true
 agreed_before w k a b h = first (agree w k a b) _ h
@@ -39,9 +41,9 @@ ends_alike {N} w f g web same a b i j = all_same _ _ (w.near a ++ w.near b) (λ 
 stays_next : {N : Type 0} (w : Web N) (k i : ℕ) → IsWeb w → IsStable w k → ((a b : N) → IsNode w a → IsNode w b → agree w i a b ≡ agree w k a b)
     → (a b : N) → IsNode w a → IsNode w b → agree w (suc i) a b ≡ agree w k a b
 stays_next {N} w k i web stable same a b p q =
-    same_test (agree w (suc i) a b) (agree w k a b)
+    same_truth (agree w (suc i) a b) (agree w k a b)
     (λ h. sym (same a b p q) ∙ agreed_before w i a b h)
-    (λ h. both (agree w i a b) _ (same a b p q ∙ h)
+    (λ h. and_from (agree w i a b) _ (same a b p q ∙ h)
     (ends_alike w (agree w i) (agree w k) web same a b p q ∙ second (agree w k a b) _ (stable a b p q h)))
 
 pub stays : {N : Type 0} (w : Web N) (k j : ℕ) → IsWeb w → IsStable w k → k ≤ j → (a b : N) → IsNode w a → IsNode w b → agree w j a b ≡ agree w k a b
@@ -58,15 +60,15 @@ stays {N} w k (suc j) web stable le a b p q =
 pub any_found : {X : Type 0} (p : X → Bool) (xs : List X) → list_any p xs ≡ true → (x : X) × IsListed x xs × (p x ≡ true)
 any_found p [] h = absurd (true≢false (sym h))
 any_found p (x ∷ xs) h =
-    elim (either (p x) _ h) [
+    elim (or_cases (p x) _ h) [
       | inl r ↦ (x, inl refl, r)
       | inr r ↦ let f = any_found p xs r in (f.0, inr f.1, f.2)
     ]
 
 pub any_of : {X : Type 0} (p : X → Bool) (x : X) (xs : List X) → IsListed x xs → p x ≡ true → list_any p xs ≡ true
 any_of p x [] i h = absurd i
-any_of {X} p x (y ∷ ys) (inl e) h = either_left _ _ (subst (λ (z : X). p z ≡ true) e h)
-any_of p x (y ∷ ys) (inr i) h = either_right (p y) _ (any_of p x ys i h)
+any_of {X} p x (y ∷ ys) (inl e) h = or_left _ _ (subst (λ (z : X). p z ≡ true) e h)
+any_of p x (y ∷ ys) (inr i) h = or_right (p y) _ (any_of p x ys i h)
 
 any_finer : {X : Type 0} (p q : X → Bool) (xs : List X) → ((x : X) → q x ≡ true → p x ≡ true) → list_any q xs ≡ true → list_any p xs ≡ true
 any_finer p q xs h t = let f = any_found q xs t in any_of p f.0 xs f.1 (h f.0 f.2)

@@ -1,10 +1,8 @@
 -- Marks of the names that are read.
 use Rattle.std.proofs.Common.{◌≡◌, ◌⊎◌, ◌↔◌, inl, inr, ℕ, ◌<◌, ◌+◌, Bool, List, Some, sym, ◌∙◌, subst, arith, length, slice_get}
+use Rattle.std.proofs.lemmas.Option.{same_Some}
 use Rattle.std.proofs.Math.Decide.{ℕ_discrete}
 use Rattle.rule_layers.specs.Reads.{IsBy, Marks}
-
-one_some : {A : Type 0} (x y : A) → Some x ≡ Some y → x ≡ y
-one_some x y e = cc
 
 -- other words for what is marked
 pub marks_as : (R S : ℕ → Type 0) (old new : List Bool) → ((k : ℕ) → k < length old → R k ↔ S k) → Marks R old new → Marks S old new
@@ -43,7 +41,7 @@ by_more {A = A} R rules i k rule at = (
   ]),
   (λ b. let lt = b.at_in in elim (ℕ_discrete b.at i) [
     | yes e ↦
-        let same : b.rule ≡ rule = one_some b.rule rule (sym b.there ∙ subst (λ j. slice_get rules j ≡ Some rule) (sym e) at) in
+        let same : b.rule ≡ rule = same_Some b.rule rule (sym b.there ∙ subst (λ j. slice_get rules j ≡ Some rule) (sym e) at) in
         inr (subst (λ (v : A). R v k) same b.reads)
     | no n ↦ inl (record { at = b.at; rule = b.rule; at_in = omega (arith, lt, n); there = b.there; reads = b.reads })
   ]),

@@ -1,5 +1,6 @@
 -- How far names and device rules reach.
 use Rattle.std.proofs.Common.{◌≡◌, inl, inr, ℕ, zero, suc, ◌+◌, ◌≤◌, max, unsigned_abs, Bool, true, false, List, [], ◌∷◌, ◌++◌, map, refl, sym, ap, subst, ◌∙◌, arith, get_or}
+use Rattle.base_laws.proofs.Items.{map_from}
 use Rattle.std.proofs.Math.Nat.{le-max_left, le-max_right, le_trans}
 use Rattle.std.proofs.lemmas.List.{map-append}
 use Rattle.std.specs.List.{All}
@@ -19,7 +20,7 @@ use Rattle.rule_text.specs.Rules.{Rules}
 use Rattle.rule_layers.specs.Formulas.{formulas, formulas_behind, formula_by, greatest, greatest_reach}
 use Rattle.rule_layers.specs.Laws.{ReachLaw, ReachInLaw, NearLaw, GateReachLaw}
 use Rattle.rule_layers.specs.Meaning.{device_rule, more_rule, mos_rules, wiring_of}
-use Rattle.rule_layers.proofs.Wired.{conductors, of_both, of_map}
+use Rattle.rule_layers.proofs.Wired.{conductors, of_both}
 
 one_reach : (xs : List Formula) (k : ℕ) → get_or (map reach xs) k 0 ≡ reach (get_or xs k Empty)
 one_reach [] k = refl
@@ -84,9 +85,9 @@ more_reach r (more.Diode class p n ta tc) =
 pub gate_reaches : GateReachLaw
 gate_reaches r n u h = elim (of_both (mos_rules r) (map (more_rule r) r.more) n u h) [
   | inl g ↦
-      let m = of_map (device_rule r) r.devices n u g in
+      let m = map_from (device_rule r) r.devices n u g in
       subst (λ (v : Rule). gate_reach (wiring_of r) v ≤ greatest_reach r.names) m.2 (mos_reach r m.0)
   | inr (k, g) ↦
-      let m = of_map (more_rule r) r.more k u g in
+      let m = map_from (more_rule r) r.more k u g in
       subst (λ (v : Rule). gate_reach (wiring_of r) v ≤ greatest_reach r.names) m.2 (more_reach r m.0)
 ]

@@ -1,9 +1,10 @@
 -- Names that are read, and trees that read them.
-use Rattle.std.proofs.Common.{◌≡◌, ◌⊎◌, inl, inr, ℕ, zero, suc, ◌<◌, ◌≤◌, ◌+◌, ℤ, Bool, true, false, List, [], ◌∷◌, ◌++◌, Some, None, refl, sym, ap, ◌∙◌, subst, arith, length, length-append, get_or, slice_get}
+use Rattle.std.proofs.Common.{◌≡◌, ◌⊎◌, inl, inr, ℕ, suc, ◌<◌, ◌≤◌, ◌+◌, ℤ, Bool, true, false, List, [], ◌∷◌, ◌++◌, Some, refl, sym, ap, ◌∙◌, subst, arith, length, length-append, get_or, slice_get}
+use Rattle.base_laws.proofs.Items.{push_old, get_last}
 use Rattle.std.proofs.Math.Decide.{ℕ_discrete}
-use Rattle.std.proofs.lemmas.Bool.{cases_lt}
+use Rattle.std.proofs.lemmas.Bool.{cases_lt, false≢true}
 use Rattle.std.proofs.lemmas.List.{get_or_append_left, get_or_push, get_or_past}
-use Rattle.std.proofs.lemmas.Option.{get_or_from_slice_get, slice_get-get_or, slice_get_within}
+use Rattle.std.proofs.lemmas.Option.{get_or_from_slice_get, slice_get-get_or, slice_get_within, same_Some}
 use Rattle.geo_base.specs.declared.layer.LayerKey.{LayerKey}
 use Rattle.geo_base.specs.declared.layer.Op.{Op}
 use Rattle.flat_layout.specs.Layers.{Formula, Input, Empty, Binary, Sized}
@@ -15,27 +16,9 @@ use Rattle.rule_text.specs.declared.rules.MoreRule.{MoreRule}
 use Rattle.rule_layers.specs.Formulas.{formulas, formula_by, formulas_behind}
 use Rattle.rule_layers.specs.Reads.{AreMarked, AreRead, IsRead, IsReadAs, Reads, read_form}
 
-pub one_some : {A : Type 0} (x y : A) → Some x ≡ Some y → x ≡ y
-one_some x y e = cc
-
-none_some : {A : Type 0} (u : A) → None ≡ Some u → ⊥
-none_some u e = cc
-
-push_old : {A : Type 0} (xs : List A) (x u : A) (k : ℕ) → slice_get xs k ≡ Some u → slice_get (xs ++ x ∷ []) k ≡ Some u
-push_old [] x u k e = absurd (none_some u e)
-push_old (y ∷ xs) x u zero e = e
-push_old (y ∷ xs) x u (suc k) e = push_old xs x u k e
-
-push_new : {A : Type 0} (xs : List A) (x : A) → slice_get (xs ++ x ∷ []) (length xs) ≡ Some x
-push_new [] x = refl
-push_new (y ∷ xs) x = push_new xs x
-
-false_true : false ≡ true → ⊥
-false_true e = cc
-
 read_as : (P : Type 0) (f seen : LayerForm) (b : Bool) → (b ≡ true → P) → (P → b ≡ true) → seen ≡ read_form b f → IsReadAs P f seen
 read_as P f seen true to from is = inl (to refl, is)
-read_as P f seen false to from is = inr ((λ h. false_true (from h)), is)
+read_as P f seen false to from is = inr ((λ h. false≢true (from h)), is)
 
 -- the names up to one
 pub record AreReadTo (names : List LayerRule) (devices : List MosRule) (further : List MoreRule) (n : ℕ) (read : List LayerRule) : Type 0 where
@@ -48,10 +31,10 @@ read_more names devices further marks n rule seen read lt are at is h = record {
   count = length-append read (seen ∷ []) ∙ ap (λ (k : ℕ). k + 1) h.count;
   each = λ k r below there. elim (ℕ_discrete k n) [
     | yes e ↦
-        let same : r ≡ rule = one_some r rule (sym there ∙ subst (λ j. slice_get names j ≡ Some rule) (sym e) at) in
+        let same : r ≡ rule = same_Some r rule (sym there ∙ subst (λ j. slice_get names j ≡ Some rule) (sym e) at) in
         let as_seen : IsReadAs (IsRead names devices further n) rule.form seen.form = read_as (IsRead names devices further n) rule.form seen.form (get_or marks n false) (are n lt).0 (are n lt).1 is in (
           seen,
-          subst (λ j. slice_get (read ++ seen ∷ []) j ≡ Some seen) (h.count ∙ sym e) (push_new read seen),
+          subst (λ j. slice_get (read ++ seen ∷ []) j ≡ Some seen) (h.count ∙ sym e) (get_last read seen),
           subst (λ j. IsReadAs (IsRead names devices further j) r.form seen.form) (sym e) (subst (λ (v : LayerRule). IsReadAs (IsRead names devices further n) v.form seen.form) (sym same) as_seen),
         )
     | no not ↦ let o = h.each k r (omega (arith, below, not)) there in (o.0, push_old read seen o.0 k o.1, o.2)
@@ -161,7 +144,7 @@ alike_behind names devices further (r ∷ rest) (s ∷ read) n xs ys e long f h 
     let zero_on : n + 0 ≡ n = omega arith in
     let first = f 0 r refl in
     let at : slice_get names n ≡ Some r = subst (λ i. slice_get names i ≡ Some r) zero_on first.0 in
-    let same : first.1 ≡ s = one_some first.1 s (sym first.2) in
+    let same : first.1 ≡ s = same_Some first.1 s (sym first.2) in
     let as_seen : IsReadAs (IsRead names devices further n) r.form s.form = subst (λ (v : LayerRule). IsReadAs (IsRead names devices further n) r.form v.form) same (subst (λ i. IsReadAs (IsRead names devices further i) r.form first.1.form) zero_on first.3) in
     let is : IsAlike (IsRead names devices further (length xs)) (formula_by xs r.form) (formula_by ys s.form) = subst (λ i. IsAlike (IsRead names devices further i) (formula_by xs r.form) (formula_by ys s.form)) (sym long) (form_alike names devices further xs ys n r s h at as_seen) in
     alike_behind names devices further rest read (n + 1) (xs ++ formula_by xs r.form ∷ []) (ys ++ formula_by ys s.form ∷ []) (omega (arith, e)) (length-append xs (formula_by xs r.form ∷ []) ∙ ap (λ (k : ℕ). k + 1) long)

@@ -1,5 +1,7 @@
 -- Conductors, known globals, terminals.
-use Rattle.std.proofs.Common.{◌≡◌, ◌⊎◌, inl, inr, ℕ, zero, suc, ◌+◌, ◌<◌, ◌==◌, ◌&&◌, ◌||◌, Bool, true, false, if◌then◌else◌, List, [], ◌∷◌, ◌++◌, map, length, get_or, slice_get, Some, refl, ◌∙◌, ap, subst, arith}
+use Rattle.std.proofs.Common.{◌≡◌, ◌⊎◌, inl, inr, ℕ, zero, suc, ◌+◌, ◌<◌, ◌==◌, ◌&&◌, Bool, true, false, if◌then◌else◌, List, [], ◌∷◌, ◌++◌, map, length, get_or, slice_get, Some, refl, ◌∙◌, ap, subst, arith}
+use Rattle.base_laws.proofs.Items.{map_from}
+use Rattle.std.proofs.lemmas.Bool.{or_left, or_right, and_parts}
 use Rattle.std.specs.List.{list_any, position_or_len}
 use Rattle.std.specs.Str.{bytes_eq}
 use Rattle.std.proofs.lemmas.List.Folds.{list_any-append}
@@ -39,13 +41,6 @@ conductors r k =
 own_name : (b : List ℕ) → bytes_eq b b ≡ true
 own_name b = (bytes_eq-Decides b b).1 refl
 
-or_left : (p q : Bool) → p ≡ true → (p || q) ≡ true
-or_left p q e = ap (λ x. x || q) e
-
-or_right : (p q : Bool) → q ≡ true → (p || q) ≡ true
-or_right true q e = refl
-or_right false q e = e
-
 -- names that were seen stay
 stays_seen : (p : List ℕ → Bool) (seen : List (List ℕ)) (gs : List (ℕ × List ℕ)) → list_any p seen ≡ true → list_any p (globals_behind seen gs) ≡ true
 stays_seen p seen [] h = h
@@ -83,24 +78,15 @@ grounded names (g ∷ gs) c n all h = by (g.0 == c) h (grounded names gs c n (λ
 pub known : KnownGlobalLaw
 known r c g h = grounded (globals_of r) r.globals c g (λ k x at. is_seen [] r.globals k x at) h
 
-and_both : (p q : Bool) → (p && q) ≡ true → (p ≡ true) × (q ≡ true)
-and_both true q e = (refl, e)
-and_both false q e = cc
-
-pub of_map : {A B : Type 0} (f : A → B) (xs : List A) (n : ℕ) (b : B) → slice_get (map f xs) n ≡ Some b → (a : A) × (slice_get xs n ≡ Some a) × (f a ≡ b)
-of_map f [] n b h = cc
-of_map f (x ∷ xs) zero b h = (x, refl, same_Some _ _ h)
-of_map f (x ∷ xs) (suc n) b h = of_map f xs n b h
-
 connected_parts : (r : Rules) (m : MosRule) → is_connected m r ≡ true → AreTerminalsConductors r (device_rule r m)
 connected_parts r m h =
-    let all = and_both (is_conductor m.ts r && is_conductor m.tg r) (is_conductor m.tb r) h in
-    let both = and_both (is_conductor m.ts r) (is_conductor m.tg r) all.0 in
+    let all = and_parts (is_conductor m.ts r && is_conductor m.tg r) (is_conductor m.tb r) h in
+    let both = and_parts (is_conductor m.ts r) (is_conductor m.tg r) all.0 in
     record { ts = both.0; tg = both.1; tb = all.1 }
 
 more_parts : (r : Rules) (m : MoreRule) → is_more_connected m r ≡ true → AreTerminalsConductors r (more_rule r m)
-more_parts r (more.Resistor class n c w ta tw) h = let both = and_both (is_conductor ta r) (is_conductor tw r) h in record { ts = both.0; tg = both.1; tb = both.1 }
-more_parts r (more.Diode class p n ta tc) h = let both = and_both (is_conductor ta r) (is_conductor tc r) h in record { ts = both.0; tg = both.1; tb = both.1 }
+more_parts r (more.Resistor class n c w ta tw) h = let both = and_parts (is_conductor ta r) (is_conductor tw r) h in record { ts = both.0; tg = both.1; tb = both.1 }
+more_parts r (more.Diode class p n ta tc) h = let both = and_parts (is_conductor ta r) (is_conductor tc r) h in record { ts = both.0; tg = both.1; tb = both.1 }
 
 -- an item of two lists is one of either
 pub of_both : {A : Type 0} (xs ys : List A) (n : ℕ) (a : A) → slice_get (xs ++ ys) n ≡ Some a → (slice_get xs n ≡ Some a) ⊎ ((k : ℕ) × (slice_get ys k ≡ Some a))
@@ -111,9 +97,9 @@ of_both (x ∷ xs) ys (suc n) a h = of_both xs ys n a h
 pub terminals : TerminalConductorLaw
 terminals r n u sound h = elim (of_both (mos_rules r) (map (more_rule r) r.more) n u h) [
   | inl g ↦
-      let m = of_map (device_rule r) r.devices n u g in
+      let m = map_from (device_rule r) r.devices n u g in
       subst (λ (v : Rule). AreTerminalsConductors r v) m.2 (connected_parts r m.0 (sound.connected n m.0 m.1))
   | inr (k, g) ↦
-      let m = of_map (more_rule r) r.more k u g in
+      let m = map_from (more_rule r) r.more k u g in
       subst (λ (v : Rule). AreTerminalsConductors r v) m.2 (more_parts r m.0 (sound.more_connected k m.0 m.1))
 ]

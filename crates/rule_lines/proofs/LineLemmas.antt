@@ -3,7 +3,7 @@ use Rattle.std.proofs.Common.{◌≡◌, ℕ, suc, ◌+◌, ◌-◌, ◌≤◌, 
 use Rattle.std.specs.Prelude.{◌==◌, ◌&&◌, not}
 use Rattle.std.specs.List.{position_or_len}
 use Rattle.std.proofs.lemmas.List.Sums.{split_at_first, prefix_len_stops}
-use Rattle.std.proofs.lemmas.Bool.{eqb-true}
+use Rattle.std.proofs.lemmas.Bool.{eqb-true, and_right, not-false}
 use Rattle.std.proofs.lemmas.List.{take_all}
 use Rattle.rule_lines.specs.Lines.{onto_first, lines_of, chopped}
 
@@ -13,9 +13,6 @@ is_end b = b == 0x0A
 abbrev pub Lacks : List ℕ → Type 0
 Lacks [] = Unit {0}
 Lacks (c ∷ cs) = (is_end c ≡ false) × Lacks cs
-
-not_false : (b : Bool) → b ≡ false → not b ≡ true
-not_false b e = rw e
 
 lacks_one : (b : Bool) (c n : ℕ) (cs : List ℕ) → is_end c ≡ b → Lacks (take n cs) → Lacks (take (cond (not b) (1 + n) 0) (c ∷ cs))
 lacks_one true c n cs e h = tt
@@ -30,10 +27,6 @@ third a b x y z e f = rw (e, f)
 
 second : {X : Type 0} (a : Bool) (x y : X) → a ≡ false → cond a x y ≡ y
 second a x y e = rw e
-
-and_false : (a b : Bool) → b ≡ false → (a && b) ≡ false
-and_false true b e = e
-and_false false b e = refl
 
 chopped_one : (b : Bool) (c : ℕ) (rest : List (List ℕ)) → cond (b && true) ([] ∷ rest) ((c ∷ []) ∷ rest) ≡ cond b [] (c ∷ []) ∷ rest
 chopped_one true c rest = refl
@@ -55,27 +48,23 @@ ended [] rest h = refl
 ended (c ∷ []) rest h =
     second (is_end c) _ _ h.0 ∙ chopped_one (c == 0x0D) c (lines_of rest)
 ended (c ∷ d ∷ ds) rest h =
-    third (is_end c) (c == 0x0D && is_end d) _ _ (onto_first c (lines_of ((d ∷ ds) ++ 0x0A ∷ rest))) h.0 (and_false (c == 0x0D) (is_end d) h.1.0)
+    third (is_end c) (c == 0x0D && is_end d) _ _ (onto_first c (lines_of ((d ∷ ds) ++ 0x0A ∷ rest))) h.0 (and_right (c == 0x0D) (is_end d) h.1.0)
     ∙ ap (λ (ls : List (List ℕ)). onto_first c ls) (ended (d ∷ ds) rest h.1)
     ∙ ap (λ (l : List ℕ). l ∷ lines_of rest) (sym (chopped_more c d ds))
 
 -- the last line where no LF ends it
 pub unended : (c : ℕ) (cs : List ℕ) → Lacks (c ∷ cs) → lines_of (c ∷ cs) ≡ (c ∷ cs) ∷ []
-unended c [] h = third (is_end c) (c == 0x0D && false) _ _ ((c ∷ []) ∷ []) h.0 (and_false (c == 0x0D) false refl)
+unended c [] h = third (is_end c) (c == 0x0D && false) _ _ ((c ∷ []) ∷ []) h.0 (and_right (c == 0x0D) false refl)
 unended c (d ∷ ds) h =
-    third (is_end c) (c == 0x0D && is_end d) _ _ (onto_first c (lines_of (d ∷ ds))) h.0 (and_false (c == 0x0D) (is_end d) h.1.0)
+    third (is_end c) (c == 0x0D && is_end d) _ _ (onto_first c (lines_of (d ∷ ds))) h.0 (and_right (c == 0x0D) (is_end d) h.1.0)
     ∙ ap (λ (ls : List (List ℕ)). onto_first c ls) (unended d ds h.1)
-
-not_true : (b : Bool) → not b ≡ false → b ≡ true
-not_true true e = refl
-not_true false e = absurd cc
 
 pub first_line : (bytes : List ℕ) (n : ℕ) → n ≡ position_or_len is_end bytes → n < length bytes
     → lines_of bytes ≡ chopped (take n bytes) ∷ lines_of (drop (n + 1) bytes)
 first_line bytes n e h =
     let less : position_or_len is_end bytes < length bytes = rw (sym e) h in
     let stops = prefix_len_stops (λ b. not (is_end b)) bytes 0 less in
-    let lf : get_or bytes (position_or_len is_end bytes) 0 ≡ 0x0A = eqb-true _ _ (not_true _ stops) in
+    let lf : get_or bytes (position_or_len is_end bytes) 0 ≡ 0x0A = eqb-true _ _ (not-false _ stops) in
     let parts = split_at_first is_end bytes 0 less in
     rw e (ap (λ (bs : List ℕ). lines_of bs) (parts ∙ ap (λ (b : ℕ). take (position_or_len is_end bytes) bytes ++ b ∷ drop (position_or_len is_end bytes + 1) bytes) lf)
     ∙ ended (take (position_or_len is_end bytes) bytes) (drop (position_or_len is_end bytes + 1) bytes) (lacks_before bytes))

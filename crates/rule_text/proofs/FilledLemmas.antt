@@ -1,17 +1,10 @@
 -- Tokens that fit a row have bytes where names and strings stand.
 use Rattle.std.proofs.Common.{◌≡◌, ℕ, zero, suc, ◌+◌, ◌-◌, ◌*◌, ◌<◌, ◌≤◌, cond, List, [], ◌∷◌, length, take, drop, Bool, true, false, Option, Some, None, refl, sym, ap, subst, arith}
+use Rattle.std.proofs.lemmas.Bool.{and_parts}
 use Rattle.std.specs.Prelude.{◌&&◌, nat_le, slice_get, unwrap_or}
 use Rattle.rule_lines.specs.Tokens.{Token, Word, Text, Mark, Arrow, Bad, is_digit}
 use Rattle.rule_text.specs.Rows.{Slot, Fresh, Name, Layer, Guesses, Size, Digits, Quoted, Exact, Operator, Key, Sign, Maps, is_name, is_string, number_from, number_of, guesses_of, size_of, fits_slot, fits, word_of, word_at}
 use Rattle.rule_text.specs.Filled.{FillsSlot, AreFilled}
-
-first_true : (a b : Bool) → (a && b) ≡ true → a ≡ true
-first_true true b e = refl
-first_true false b e = absurd cc
-
-second_true : (a b : Bool) → (a && b) ≡ true → b ≡ true
-second_true true b e = e
-second_true false b e = absurd cc
 
 name_filled : (w : List ℕ) → is_name w ≡ true → 0 < length w
 name_filled [] e = absurd cc
@@ -47,7 +40,7 @@ size_most w = cond_most (nat_le (length w) 5) 10000 (number_of 10000 w)
     (cond_most (nat_le 1 (length w) && nat_le (length w) 7) 10000 (number_from 10000 0 w) (number_most 10000 0 w (omega arith)))
 
 slot_filled : (s : Slot) (t : Token) → fits_slot s t ≡ true → FillsSlot s (word_of (Some t))
-slot_filled Fresh (Word w) e = name_filled w (first_true (is_name w) _ e)
+slot_filled Fresh (Word w) e = name_filled w ((and_parts (is_name w) _ e).0)
 slot_filled Fresh (Text w) e = absurd cc
 slot_filled Fresh (Mark b) e = absurd cc
 slot_filled Fresh Arrow e = absurd cc
@@ -62,7 +55,7 @@ slot_filled Quoted (Word w) e = absurd cc
 slot_filled Quoted (Mark b) e = absurd cc
 slot_filled Quoted Arrow e = absurd cc
 slot_filled Quoted Bad e = absurd cc
-slot_filled Exact (Text w) e = string_filled w (first_true (is_string w) _ e)
+slot_filled Exact (Text w) e = string_filled w ((and_parts (is_string w) _ e).0)
 slot_filled Exact (Word w) e = absurd cc
 slot_filled Exact (Mark b) e = absurd cc
 slot_filled Exact Arrow e = absurd cc
@@ -100,8 +93,8 @@ filled_from : (n : ℕ) (row : List Slot) (ts all : List Token) → drop n all �
 filled_from n [] ts all e h = tt
 filled_from n (s ∷ ss) [] all e h = absurd cc
 filled_from n (s ∷ ss) (t ∷ ts) all e h = (
-  subst (λ (o : Option Token). FillsSlot s (word_of o)) (sym (token_at n all t ts e)) (slot_filled s t (first_true (fits_slot s t) _ h)),
-  filled_from (n + 1) ss ts all (rest_at n all t ts e) (second_true (fits_slot s t) _ h),
+  subst (λ (o : Option Token). FillsSlot s (word_of o)) (sym (token_at n all t ts e)) (slot_filled s t ((and_parts (fits_slot s t) _ h).0)),
+  filled_from (n + 1) ss ts all (rest_at n all t ts e) ((and_parts (fits_slot s t) _ h).1),
 )
 
 pub filled : (row : List Slot) (ts : List Token) → fits row ts ≡ true → AreFilled 0 row ts

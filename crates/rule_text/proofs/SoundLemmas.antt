@@ -1,6 +1,8 @@
 -- A statement that passes keeps the entries sound.
 use Rattle.std.proofs.Common.{◌≡◌, inl, inr, ℕ, zero, suc, ◌+◌, ◌<◌, ◌≤◌, List, [], ◌∷◌, ◌++◌, length, map, Bool, true, false, cond, Option, Some, None, refl, sym, ap, subst, ◌∙◌, arith}
-use Rattle.std.specs.Prelude.{◌&&◌, ◌||◌, not, nat_le, slice_get, if◌then◌else◌}
+use Rattle.base_laws.proofs.Items.{push_cases, get_front}
+use Rattle.std.proofs.lemmas.Bool.{and_parts, or_parts}
+use Rattle.std.specs.Prelude.{◌||◌, not, nat_le, slice_get, if◌then◌else◌}
 use Rattle.std.specs.List.{All, list_any, list_all, position_or_len}
 use Rattle.std.specs.Str.{bytes_eq}
 use Rattle.std.proofs.lemmas.List.{map-append, length-map, length-append}
@@ -24,21 +26,8 @@ use Rattle.rule_text.specs.Reading.{is_connected, is_more_connected, first_loose
 use Rattle.plain_netlist.specs.Lists.{AreApart}
 use Rattle.plain_netlist.proofs.Listing.{apart_at, at_apart}
 use Rattle.rule_text.specs.Sound.{Each, IsLayer, AreOperands, AreJoined, AreMosLayers, AreMoreLayers, IsFormed, IsSound}
-use Rattle.rule_text.proofs.ListLemmas.{among_more}
 use Rattle.rule_text.proofs.ReachLemmas.{reaches_more}
 use Rattle.std.proofs.lemmas.List.Elements.{All-nil, All-push}
-
-both_true : (a b : Bool) → (a && b) ≡ true → (a ≡ true) × (b ≡ true)
-both_true true b e = (refl, e)
-both_true false b e = absurd cc
-
-both_false : (a b : Bool) → (a || b) ≡ false → (a ≡ false) × (b ≡ false)
-both_false true b e = absurd cc
-both_false false b e = (refl, e)
-
-or_true : (a b : Bool) → a ≡ true → (a || b) ≡ true
-or_true true b e = refl
-or_true false b e = absurd cc
 
 -- what a statement that passes is known of
 tests : (a z b c d : Bool) (f y g h i : RuleFault) → (if not a then Some f else if z then Some y else if b then Some g else if c then Some h else if d then Some i else None) ≡ None
@@ -52,7 +41,7 @@ tests true false false false d f y g h i e = (refl, refl, refl, refl)
 -- lists with an entry more
 
 pub each_more : {A : Type 0} (P : ℕ → A → Type 0) (xs : List A) (x : A) → Each P xs → P (length xs) x → Each P (xs ++ x ∷ [])
-each_more {A = A} P xs x each last = λ k y e. elim (among_more xs x y k e) [
+each_more {A = A} P xs x each last = λ k y e. elim (push_cases xs x y k e) [
   | inl h ↦ each k y h
   | inr (at, same) ↦ subst (λ (z : A). P k z) same (subst (λ (j : ℕ). P j x) (sym at) last)
 ]
@@ -62,17 +51,17 @@ lacks p [] k x none e h = absurd cc
 lacks p (y ∷ ys) zero x none e h =
     let same : y ≡ x = cc in
     let yes_ : p y ≡ true = ap p same ∙ h in
-    let no_ = both_false (p y) (list_any p ys) none in
+    let no_ = or_parts (p y) (list_any p ys) none in
     let wrong : true ≡ false = sym yes_ ∙ no_.0 in absurd cc
-lacks p (y ∷ ys) (suc k) x none e h = lacks p ys k x (both_false (p y) (list_any p ys) none).1 e h
+lacks p (y ∷ ys) (suc k) x none e h = lacks p ys k x (or_parts (p y) (list_any p ys) none).1 e h
 
 pub apart_more : {A : Type 0} (p : A → Bool) (xs : List A) (x : A) → p x ≡ true → list_any p xs ≡ false → AreApart xs → AreApart (xs ++ x ∷ [])
-apart_more p xs x is none apart = at_apart (xs ++ x ∷ []) (λ j k y e f. elim (among_more xs x y j e) [
-  | inl h ↦ elim (among_more xs x y k f) [
+apart_more p xs x is none apart = at_apart (xs ++ x ∷ []) (λ j k y e f. elim (push_cases xs x y j e) [
+  | inl h ↦ elim (push_cases xs x y k f) [
     | inl g ↦ apart_at y xs j k apart h g
     | inr (at, same) ↦ absurd (lacks p xs j y none h (ap p (sym same) ∙ is))
   ]
-  | inr (at, same) ↦ elim (among_more xs x y k f) [
+  | inr (at, same) ↦ elim (push_cases xs x y k f) [
     | inl g ↦ absurd (lacks p xs k y none g (ap p (sym same) ∙ is))
     | inr (also, too) ↦ at ∙ sym also
   ]
@@ -104,13 +93,8 @@ name_below w r e = subst (λ (n : ℕ). place_of w r < n) (length-map r.names (�
 layer : (w : List ℕ) (r : Rules) → is_defined w r ≡ true → is_labels w r ≡ false → IsLayer r.names (place_of w r)
 layer w r e f = record { below = name_below w r e; plain = f }
 
-kept : {A : Type 0} (xs ys : List A) (k : ℕ) → k < length xs → slice_get (xs ++ ys) k ≡ slice_get xs k
-kept [] ys k h = absurd (omega (arith, h))
-kept (x ∷ xs) ys zero h = refl
-kept (x ∷ xs) ys (suc k) h = kept xs ys k (omega (arith, h))
-
 texts_kept : (names : List LayerRule) (n : LayerRule) (k : ℕ) → k < length names → has_texts k (names ++ n ∷ []) ≡ has_texts k names
-texts_kept names n k h = ap (λ o. is_text_rule o) (kept names (n ∷ []) k h)
+texts_kept names n k h = ap (λ o. is_text_rule o) (get_front names (n ∷ []) k h)
 
 more_below : (names : List LayerRule) (n : LayerRule) (k : ℕ) → k < length names → k < length (names ++ n ∷ [])
 more_below names n k h = let e = length-append names (n ∷ []) in omega (arith, e, h)
@@ -156,8 +140,8 @@ AllLayers r (w ∷ ws) = IsLayer r.names (place_of w r) × AllLayers r ws
 all_layers : (r : Rules) (ws : List (List ℕ)) → list_all (λ w. is_defined w r) ws ≡ true → list_any (λ w. is_labels w r) ws ≡ false → AllLayers r ws
 all_layers r [] e f = tt
 all_layers r (w ∷ ws) e f =
-    let d = both_true (is_defined w r) (list_all (λ v. is_defined v r) ws) e in
-    let l = both_false (is_labels w r) (list_any (λ v. is_labels v r) ws) f in
+    let d = and_parts (is_defined w r) (list_all (λ v. is_defined v r) ws) e in
+    let l = or_parts (is_labels w r) (list_any (λ v. is_labels v r) ws) f in
     (layer w r d.0 l.0, all_layers r ws d.1 l.1)
 
 new_operands : (r : Rules) (f : Form) (n : LayerRule) → list_all (λ w. is_defined w r) (operands_of f) ≡ true → list_any (λ w. is_labels w r) (operands_of f) ≡ false → IsFilledForm f
@@ -279,14 +263,14 @@ same_text w v e = (bytes_eq-Decides w v).1 e
 
 class_first : (xs ys : List (List ℕ)) (x : List ℕ) → list_any (bytes_eq x) ys ≡ false → ((j k : ℕ) (w : List ℕ) → slice_get xs j ≡ Some w → slice_get ys k ≡ Some w → ⊥)
     → (j k : ℕ) (w : List ℕ) → slice_get (xs ++ x ∷ []) j ≡ Some w → slice_get ys k ≡ Some w → ⊥
-class_first xs ys x none apart j k w e f = elim (among_more xs x w j e) [
+class_first xs ys x none apart j k w e f = elim (push_cases xs x w j e) [
   | inl h ↦ apart j k w h f
   | inr (at, same) ↦ lacks (bytes_eq x) ys k w none f (same_text x w same)
 ]
 
 class_second : (xs ys : List (List ℕ)) (y : List ℕ) → list_any (bytes_eq y) xs ≡ false → ((j k : ℕ) (w : List ℕ) → slice_get xs j ≡ Some w → slice_get ys k ≡ Some w → ⊥)
     → (j k : ℕ) (w : List ℕ) → slice_get xs j ≡ Some w → slice_get (ys ++ y ∷ []) k ≡ Some w → ⊥
-class_second xs ys y none apart j k w e f = elim (among_more ys y w k f) [
+class_second xs ys y none apart j k w e f = elim (push_cases ys y w k f) [
   | inl h ↦ apart j k w e h
   | inr (at, same) ↦ lacks (bytes_eq y) xs j w none e (same_text y w same)
 ]
@@ -294,7 +278,7 @@ class_second xs ys y none apart j k w e f = elim (among_more ys y w k f) [
 extract_more : (r : Rules) (m : Mos) → has_class (folded_bytes m.class) r ≡ false → IsString m.class
     → AllLayers r (m.sd ∷ m.g ∷ m.w ∷ m.ts ∷ m.tg ∷ m.tb ∷ []) → IsFormed r → IsFormed (extracting r m)
 extract_more r m fresh filled ls h =
-    let both = both_false (list_any (bytes_eq (folded_bytes m.class)) (mos_classes r)) (list_any (bytes_eq (folded_bytes m.class)) (more_classes r)) fresh in
+    let both = or_parts (list_any (bytes_eq (folded_bytes m.class)) (mos_classes r)) (list_any (bytes_eq (folded_bytes m.class)) (more_classes r)) fresh in
     let longer : mos_classes (extracting r m) ≡ mos_classes r ++ folded_bytes m.class ∷ [] = map-append (λ (d : MosRule). folded_bytes d.class) r.devices (mos_rule r m ∷ []) in
     record {
       names = h.names;
@@ -331,7 +315,7 @@ further_more : (r : Rules) (m : More) → has_class (folded_bytes (class_of m)) 
 further_more r m fresh filled ls h =
     let w = folded_bytes (class_of m) in
     let d = further_rule r m in
-    let both = both_false (list_any (bytes_eq w) (mos_classes r)) (list_any (bytes_eq w) (more_classes r)) fresh in
+    let both = or_parts (list_any (bytes_eq w) (mos_classes r)) (list_any (bytes_eq w) (more_classes r)) fresh in
     let same : folded_bytes (class_in d) ≡ w = ap folded_bytes (class_kept r m) in
     let longer : more_classes (going_on r m) ≡ more_classes r ++ w ∷ [] =
     map-append (λ (x : MoreRule). folded_bytes (class_in x)) r.more (d ∷ []) ∙ ap (λ (v : List ℕ). more_classes r ++ v ∷ []) same in
@@ -359,7 +343,7 @@ further_more r m fresh filled ls h =
 
 same_more : (r : Rules) (a b : List ℕ) → is_twice r (Same a b) ≡ false → IsFormed r → IsFormed (paired r a b)
 same_more r a b fresh h =
-    let apart = both_false (names_layout r (folded_bytes a)) (names_schematic r (folded_bytes b)) fresh in
+    let apart = or_parts (names_layout r (folded_bytes a)) (names_schematic r (folded_bytes b)) fresh in
     record {
       names = h.names;
       operands = h.operands;
@@ -375,8 +359,8 @@ same_more r a b fresh h =
       more_strings = h.more_strings;
       devices = h.devices;
       more = h.more;
-      layouts = map_apart (bytes_eq (folded_bytes a)) (λ p. folded_bytes p.0) r.same (a, b) (same_bytes (folded_bytes a)) (both_false _ _ apart.0).0 h.layouts;
-      schematics = map_apart (bytes_eq (folded_bytes b)) (λ p. folded_bytes p.1) r.same (a, b) (same_bytes (folded_bytes b)) (both_false _ _ apart.1).0 h.schematics;
+      layouts = map_apart (bytes_eq (folded_bytes a)) (λ p. folded_bytes p.0) r.same (a, b) (same_bytes (folded_bytes a)) (or_parts _ _ apart.0).0 h.layouts;
+      schematics = map_apart (bytes_eq (folded_bytes b)) (λ p. folded_bytes p.1) r.same (a, b) (same_bytes (folded_bytes b)) (or_parts _ _ apart.1).0 h.schematics;
       flat_layouts = h.flat_layouts;
       flat_schematics = h.flat_schematics;
       guesses = h.guesses;
@@ -400,7 +384,7 @@ flat_layout_more r a fresh h = record {
   more = h.more;
   layouts = h.layouts;
   schematics = h.schematics;
-  flat_layouts = map_apart (bytes_eq (folded_bytes a)) folded_bytes r.flat_layouts a (same_bytes (folded_bytes a)) (both_false _ _ fresh).1 h.flat_layouts;
+  flat_layouts = map_apart (bytes_eq (folded_bytes a)) folded_bytes r.flat_layouts a (same_bytes (folded_bytes a)) (or_parts _ _ fresh).1 h.flat_layouts;
   flat_schematics = h.flat_schematics;
   guesses = h.guesses;
 }
@@ -424,7 +408,7 @@ flat_schematic_more r b fresh h = record {
   layouts = h.layouts;
   schematics = h.schematics;
   flat_layouts = h.flat_layouts;
-  flat_schematics = map_apart (bytes_eq (folded_bytes b)) folded_bytes r.flat_schematics b (same_bytes (folded_bytes b)) (both_false _ _ fresh).1 h.flat_schematics;
+  flat_schematics = map_apart (bytes_eq (folded_bytes b)) folded_bytes r.flat_schematics b (same_bytes (folded_bytes b)) (or_parts _ _ fresh).1 h.flat_schematics;
   guesses = h.guesses;
 }
 
@@ -529,8 +513,8 @@ by_tests : (r : Rules) (s : Statement) → list_all (λ w. is_defined w r) (uses
 by_tests r (Define name f) used near fresh plain filled h = defined_more r name f fresh used plain filled.1 near h
 by_tests r (Draw name key) used near fresh plain filled h = drawn_more r name key fresh (all_layers r (name ∷ []) used plain) h
 by_tests r (Connect a b) used near fresh plain filled h =
-    let d = both_true (is_defined a r) (list_all (λ w. is_defined w r) (b ∷ [])) used in
-    let e = both_true (is_defined b r) true d.1 in
+    let d = and_parts (is_defined a r) (list_all (λ w. is_defined w r) (b ∷ [])) used in
+    let e = and_parts (is_defined b r) true d.1 in
     connect_more r a b (record { left = name_below a r d.0; right = name_below b r e.0; plain = plain }) h
 by_tests r (Global a net) used near fresh plain filled h = global_more r a net (all_layers r (a ∷ []) used plain) h
 by_tests r (Extract m) used near fresh plain filled h = extract_more r m fresh filled (all_layers r (m.sd ∷ m.g ∷ m.w ∷ m.ts ∷ m.tg ∷ m.tb ∷ []) used plain) h

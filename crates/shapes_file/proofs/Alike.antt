@@ -1,5 +1,6 @@
 -- Two designs that stand for one library.
 use Rattle.std.proofs.Common.{◌≡◌, ℕ, ◌<◌, List, [], ◌∷◌, length, slice_get, Some, refl, sym, ap, subst, ◌∙◌, arith}
+use Rattle.base_laws.proofs.Items.{item_at}
 use Rattle.std.proofs.lemmas.Option.{slice_get_within}
 use Rattle.geo_base.specs.declared.layer.LayerKey.{LayerKey}
 use Rattle.geo_base.specs.declared.shapes.Square.{Square}
@@ -7,7 +8,6 @@ use Rattle.flat_layout.specs.Arrays.{Reference, places_of}
 use Rattle.flat_layout.specs.Layout.{Design, Place, IsOwn, IsPlaced, Takes}
 use Rattle.gds_elements.specs.Meaning.{Cell, Library, Ref}
 use Rattle.layout_shapes.specs.Writable.{placing}
-use Rattle.layout_shapes.proofs.Fitting.{there}
 use Rattle.shapes_file.specs.Flat.{AreArrays, HasNoRepeat, IsHierarchyOf, OneHierarchyLaw}
 
 one_list : (cells : List Cell) → HasNoRepeat cells → (refs : List Ref) (a b : List Reference) → AreArrays cells refs a → AreArrays cells refs b → a ≡ b
@@ -26,8 +26,8 @@ placed_same w name d e hd he i n p h =
     let lt = slice_get_within d.cells i h.0 h.1 in
     let in_w : i < length w.cells = (let count = hd.count in omega (arith, lt, count)) in
     let in_e : i < length e.cells = (let count = he.count in omega (arith, in_w, count)) in
-    let c = there w.cells i in_w in
-    let f = there e.cells i in_e in
+    let c = item_at w.cells i in_w in
+    let f = item_at e.cells i in_e in
     let one = hd.places i c.0 h.0 c.1 h.1 in
     let two = he.places i c.0 f.0 c.1 f.1 in
     let same : h.0.places ≡ f.0.places = one.2 ∙ ap places_of (one_list w.cells hd.once c.0.refs one.0 two.0 one.1 two.1) ∙ sym two.2 in
@@ -40,7 +40,7 @@ takes_same w name d e hd he (n ∷ path) i j s q t = (t.0, placed_same w name d 
 own_same : (w : Library) (name : List ℕ) (d e : Design) → IsHierarchyOf w name d → IsHierarchyOf w name e → (i : ℕ) (key : LayerKey) (q : Square) → IsOwn d i key q → IsOwn e i key q
 own_same w name d e hd he i key q h =
     let lt = slice_get_within d.cells i h.0 h.1 in
-    let c = there w.cells i (let count = hd.count in omega (arith, lt, count)) in
+    let c = item_at w.cells i (let count = hd.count in omega (arith, lt, count)) in
     (he.own i c.0 key q c.1).1 ((hd.own i c.0 key q c.1).0 h)
 
 pub law : OneHierarchyLaw

@@ -1,5 +1,6 @@
 -- The written cells as cells of a layout, with the numbers that they have in the text.
 use Rattle.std.proofs.Common.{◌≡◌, ℕ, zero, suc, List, [], ◌∷◌, ◌++◌, map, Option, Some, None, slice_get, refl, sym, ap, ap₂, subst, ◌∙◌}
+use Rattle.base_laws.proofs.Items.{map_from, map_to}
 use Rattle.std.proofs.lemmas.List.{map-append, append-nil}
 use Rattle.geo_base.specs.declared.layer.LayerKey.{LayerKey}
 use Rattle.geo_base.specs.declared.shapes.Rect.{Rect}
@@ -11,7 +12,7 @@ use Rattle.gds_shapes.specs.References.{reference_read}
 use Rattle.cell_graph.specs.Linked.{Linked, plain, plain_cell, cell_at, places_at, reference}
 use Rattle.cell_graph.specs.declared.cells.CellPart.{CellPart}
 use Rattle.cell_graph.specs.declared.cells.Place.{Place}
-use Rattle.cell_graph.proofs.Bridge.{mapped, maps, part_of}
+use Rattle.cell_graph.proofs.Bridge.{part_of}
 use Rattle.rule_text.specs.Rules.{Rules}
 use Rattle.deep_tables.specs.declared.layers.CellLayers.{CellLayers}
 use Rattle.layout_shapes.specs.Writable.{PlacesLaw, placing}
@@ -79,16 +80,16 @@ placed_plain d k n x = at (cell_at d k) refl
   where
     at : (o : Option CellPart) → cell_at d k ≡ o → slice_get (places_of (map reference (places_at o))) n ≡ Some x → IsPlaced (plain d) k n x
     at None e f = let g : None ≡ Some x = f in absurd (let z : ⊥ = cc in z)
-    at (Some c) e f = (plain_cell c, maps plain_cell d.cells k c e, f)
+    at (Some c) e f = (plain_cell c, map_to plain_cell d.cells k c e, f)
 
 pub placed_down : PlacesLaw → (d : Linked) (r : Rules) (table : List (Option CellLayers)) (ks : List ℕ) (i k n : ℕ) (p : flat.Place) → slice_get ks i ≡ Some k → IsPlaced (design_drawn d r table ks) i n p
     → (x : flat.Place) × IsPlaced (plain d) k n x × (renumbered ks x ≡ p)
 placed_down law d r table ks i k n p at h =
-    let here = maps (cell_drawn d r table ks) ks i k at in
+    let here = map_to (cell_drawn d r table ks) ks i k at in
     let same : h.0 ≡ cell_drawn d r table ks k = (let e : Some h.0 ≡ Some (cell_drawn d r table ks k) = sym h.1 ∙ here in cc) in
     let there : slice_get (cell_drawn d r table ks k).places n ≡ Some p = subst (λ (c : flat.Cell). slice_get c.places n ≡ Some p) same h.2 in
     let renamed = subst (λ (ps : List flat.Place). slice_get ps n ≡ Some p) (all_are law d ks (places_at (cell_at d k))) there in
-    let m = mapped (renumbered ks) (places_of (map reference (places_at (cell_at d k)))) n p renamed in
+    let m = map_from (renumbered ks) (places_of (map reference (places_at (cell_at d k)))) n p renamed in
     (m.0, placed_plain d k n m.0 m.1, m.2)
 
 pub placed_up : PlacesLaw → (d : Linked) (r : Rules) (table : List (Option CellLayers)) (ks : List ℕ) (i k n : ℕ) (x : flat.Place) → slice_get ks i ≡ Some k → IsPlaced (plain d) k n x
@@ -97,8 +98,8 @@ placed_up law d r table ks i k n x at h =
     let m = part_of d k h.0 h.1 in
     let places : slice_get (places_of (map reference m.0.places.items)) n ≡ Some x = subst (λ (c : flat.Cell). slice_get c.places n ≡ Some x) (sym m.2) h.2 in
     let there : slice_get (places_of (map reference (places_at (cell_at d k)))) n ≡ Some x = subst (λ (o : Option CellPart). slice_get (places_of (map reference (places_at o))) n ≡ Some x) (sym m.1) places in
-    let renamed = maps (renumbered ks) (places_of (map reference (places_at (cell_at d k)))) n x there in (
+    let renamed = map_to (renumbered ks) (places_of (map reference (places_at (cell_at d k)))) n x there in (
       cell_drawn d r table ks k,
-      maps (cell_drawn d r table ks) ks i k at,
+      map_to (cell_drawn d r table ks) ks i k at,
       subst (λ (ps : List flat.Place). slice_get ps n ≡ Some (renumbered ks x)) (sym (all_are law d ks (places_at (cell_at d k)))) renamed,
     )

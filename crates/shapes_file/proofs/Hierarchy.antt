@@ -1,5 +1,6 @@
 -- The written structures as the cells of a layout.
 use Rattle.std.proofs.Common.{◌≡◌, ◌↔◌, ℕ, suc, Bool, true, false, cond, List, [], ◌∷◌, map, length, Option, Some, None, slice_get, refl, sym, ap, subst, ◌∙◌}
+use Rattle.base_laws.proofs.Items.{map_from, map_to}
 use Rattle.std.specs.List.{All, AllByRecursion as ByRecursion}
 use Rattle.geo_base.specs.Rects.{IsRect}
 use Rattle.geo_base.specs.declared.layer.LayerKey.{LayerKey}
@@ -9,14 +10,14 @@ use Rattle.rect_sets.specs.Rects.{CanonicalLaw}
 use Rattle.poly_fill.specs.Outlines.{UprightLaw}
 use Rattle.flat_layout.specs.Arrays.{place_at}
 use Rattle.flat_layout.specs.Layout as flat
-use Rattle.flat_layout.specs.Layout.{IsOwn, IsPlaced, IsReached, Some_of}
+use Rattle.flat_layout.specs.Layout.{IsOwn, IsReached, Some_of}
 use Rattle.flat_laws.proofs.Cover.{reached_below}
 use Rattle.cell_graph.specs.Drafts.{IsLink}
 use Rattle.cell_graph.specs.Linked.{Linked, plain, cell_at, places_at, reference}
 use Rattle.cell_graph.specs.declared.cells.CellPart.{CellPart}
 use Rattle.cell_graph.specs.declared.cells.Place.{Place}
 use Rattle.cell_graph.specs.declared.drafts.CellDraft.{CellDraft}
-use Rattle.cell_graph.proofs.Bridge.{all_at, mapped, maps, placed_of}
+use Rattle.cell_graph.proofs.Bridge.{all_at, placed_of}
 use Rattle.gds_elements.specs.Meaning.{Cell, Ref, single}
 use Rattle.gds_layout.specs.Shapes.{shapes_cover}
 use Rattle.gds_layout.specs.declared.layout.Layout.{Layout}
@@ -47,12 +48,12 @@ abbrev pub structures : Layout → Rules → List (Option CellLayers) → List �
 structures l r table ks = map cell_read (map (drawn l r table) ks)
 
 pub structure_at : (l : Layout) (r : Rules) (table : List (Option CellLayers)) (ks : List ℕ) (i k : ℕ) → slice_get ks i ≡ Some k → slice_get (structures l r table ks) i ≡ Some (structure_of l r table k)
-structure_at l r table ks i k at = maps cell_read (map (drawn l r table) ks) i (drawn l r table k) (maps (drawn l r table) ks i k at)
+structure_at l r table ks i k at = map_to cell_read (map (drawn l r table) ks) i (drawn l r table k) (map_to (drawn l r table) ks i k at)
 
 pub number_at : (l : Layout) (r : Rules) (table : List (Option CellLayers)) (ks : List ℕ) (i : ℕ) (c : Cell) → slice_get (structures l r table ks) i ≡ Some c → (k : ℕ) × (slice_get ks i ≡ Some k) × (structure_of l r table k ≡ c)
 number_at l r table ks i c e =
-    let x = mapped cell_read (map (drawn l r table) ks) i c e in
-    let k = mapped (drawn l r table) ks i x.0 x.1 in
+    let x = map_from cell_read (map (drawn l r table) ks) i c e in
+    let k = map_from (drawn l r table) ks i x.0 x.1 in
     (k.0, k.1, ap cell_read k.2 ∙ x.2)
 
 named_at : (l : Layout) (r : Rules) (table : List (Option CellLayers)) (ks : List ℕ) (k : ℕ) → AreReached l.design ks → IsReached (plain l.design) k
@@ -121,7 +122,7 @@ own canonical law upright l r table ks i k key q sound are reached at =
     let d = l.design in
     let sound_rects = lines_all table k r.outputs (each_all (λ o. All IsRect (line_of table k o).1) r.outputs (λ n o e. rects canonical law d r table k n o sound are (reached_at d ks i k reached at) e)) in
     let same = drawn_covers upright (map (line_of table k) r.outputs) key q sound_rects in
-    let here = maps (cell_drawn d r table ks) ks i k at in (
+    let here = map_to (cell_drawn d r table ks) ks i k at in (
       (λ h.
           let c : h.0 ≡ cell_drawn d r table ks k = (let e : Some h.0 ≡ Some (cell_drawn d r table ks k) = sym h.1 ∙ here in cc) in
           let some : Some_of (IsOn key q) (cell_drawn d r table ks k).layers = subst (λ (c : flat.Cell). Some_of (IsOn key q) c.layers) c h.2 in
@@ -136,7 +137,7 @@ pub hierarchy : CanonicalLaw → LayerAtLaw → UprightLaw → (l : Layout) (r :
     → IsHierarchyOf (library_read (heading_of l.header) (map (drawn l r table) ks)) (name_of (cell_at l.design l.design.top)) (design_drawn l.design r table ks)
 hierarchy canonical law upright l r table ks ds top link writable sound are reached =
     let d = l.design in
-    let part : (i : ℕ) (k : ℕ) (f : flat.Cell) → slice_get ks i ≡ Some k → slice_get (map (cell_drawn d r table ks) ks) i ≡ Some f → cell_drawn d r table ks k ≡ f = λ i k f at e. (let g : Some (cell_drawn d r table ks k) ≡ Some f = sym (maps (cell_drawn d r table ks) ks i k at) ∙ e in cc) in
+    let part : (i : ℕ) (k : ℕ) (f : flat.Cell) → slice_get ks i ≡ Some k → slice_get (map (cell_drawn d r table ks) ks) i ≡ Some f → cell_drawn d r table ks k ≡ f = λ i k f at e. (let g : Some (cell_drawn d r table ks k) ≡ Some f = sym (map_to (cell_drawn d r table ks) ks i k at) ∙ e in cc) in
     record {
       once = once l r table ks ds top link reached;
       count = counts ks;

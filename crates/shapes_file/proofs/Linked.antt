@@ -1,5 +1,6 @@
 -- What holds of a layout's design, by the drafts that it was linked from.
 use Rattle.std.proofs.Common.{◌≡◌, inl, inr, ℕ, suc, ◌<◌, List, [], ◌∷◌, length, slice_get, Option, Some, None, refl, sym, ap, subst, ◌∙◌, arith}
+use Rattle.base_laws.proofs.Items.{item_at}
 use Rattle.std.proofs.lemmas.Bool.{cases_lt}
 use Rattle.std.proofs.lemmas.Option.{slice_get_within}
 use Rattle.flat_layout.specs.Layout as flat
@@ -12,7 +13,6 @@ use Rattle.cell_graph.specs.declared.cells.Place.{Place}
 use Rattle.cell_graph.specs.declared.drafts.CellDraft.{CellDraft}
 use Rattle.cell_graph.specs.declared.drafts.DraftRef.{DraftRef}
 use Rattle.cell_graph.proofs.Bridge.{step_of}
-use Rattle.layout_shapes.proofs.Fitting.{there}
 use Rattle.layout_shapes.specs.Written.{name_of}
 
 -- a cell, and its draft
@@ -25,8 +25,8 @@ pub record IsDrafted (ds : List CellDraft) (d : Linked) (k : ℕ) : Type 0 where
 
 pub drafted : (ds : List CellDraft) (top : Option (List ℕ)) (d : Linked) (k : ℕ) → IsLink ds top d → k < length ds → IsDrafted ds d k
 drafted ds top d k link lt =
-    let part = there d.cells k (let count = link.count in omega (arith, lt, count)) in
-    let draft = there ds k lt in
+    let part = item_at d.cells k (let count = link.count in omega (arith, lt, count)) in
+    let draft = item_at ds k lt in
     record { part = part.0; draft = draft.0; part_at = part.1; draft_at = draft.1; is = link.each k draft.0 part.0 draft.1 part.1 }
 
 -- a reference, and its draft
@@ -47,15 +47,15 @@ ref_drafted ds top d k i p link = at (cell_at d k) refl
         let same : c ≡ cell.part = (let g : Some c ≡ Some cell.part = sym e ∙ cell.part_at in cc) in
         let here : slice_get cell.part.places.items i ≡ Some p = subst (λ (x : CellPart). slice_get x.places.items i ≡ Some p) same f in
         let within = slice_get_within cell.part.places.items i p here in
-        let ref = there cell.draft.refs.items i (let count = cell.is.places.count in omega (arith, within, count)) in
+        let ref = item_at cell.draft.refs.items i (let count = cell.is.places.count in omega (arith, within, count)) in
         record { cell = cell; number = i; ref = ref.0; ref_at = ref.1; is = cell.is.places.each i ref.0 p ref.1 here }
 
 -- the drafts refer as the placements do
 refers : (ds : List CellDraft) (d : Linked) (k : ℕ) (p : Place) → IsRefDrafted ds d k p → Refers ds k p.cell
-refers ds d k p h = record { number = h.number; ref = h.ref; has = record { cell = h.cell.draft; there = h.cell.draft_at; ref = h.ref_at }; names = h.is.names }
+refers ds d k p h = record { number = h.number; ref = h.ref; has = record { cell = h.cell.draft; item_at = h.cell.draft_at; ref = h.ref_at }; names = h.is.names }
 
 named_in : (ds : List CellDraft) (name : List ℕ) (i : ℕ) → IsNamed ds name i → i < length ds
-named_in ds name i h = slice_get_within ds i h.cell h.there
+named_in ds name i h = slice_get_within ds i h.cell h.item_at
 
 -- ---- heights
 
@@ -68,7 +68,7 @@ higher R i j m n step above below =
 pub heights : (ds : List CellDraft) (top : Option (List ℕ)) (d : Linked) → IsLink ds top d → IsHeight (plain d) (height_at d)
 heights ds top d link k n p placed =
     let s = step_of d k n p placed in
-    let above = ref_drafted ds top d k s.index s.from link s.step.there in
+    let above = ref_drafted ds top d k s.index s.from link s.step.item_at in
     let below = drafted ds top d s.from.cell link (named_in ds above.ref.cell s.from.cell above.is.names) in
     let lt = higher (Refers ds) k s.from.cell above.cell.part.height below.part.height (refers ds d k s.from above) above.cell.is.height below.is.height in
     let one : height_at d p.cell ≡ below.part.height = ap (λ (x : flat.Place). height_at d x.cell) s.is ∙ ap height_of below.part_at in
@@ -78,13 +78,13 @@ heights ds top d link k n p placed =
 -- ---- reached cells
 
 top_in : (ds : List CellDraft) (top : Option (List ℕ)) (i : ℕ) → IsTop ds top i → i < length ds
-top_in ds None i h = h.0.there
+top_in ds None i h = h.0.item_at
 top_in ds (Some name) i h = named_in ds name i h
 
 placed_in : (ds : List CellDraft) (top : Option (List ℕ)) (d : Linked) (k n : ℕ) (p : flat.Place) → IsLink ds top d → IsPlaced (plain d) k n p → p.cell < length ds
 placed_in ds top d k n p link placed =
     let s = step_of d k n p placed in
-    let h = ref_drafted ds top d k s.index s.from link s.step.there in
+    let h = ref_drafted ds top d k s.index s.from link s.step.item_at in
     let within = named_in ds h.ref.cell s.from.cell h.is.names in
     let same : p.cell ≡ s.from.cell = ap (λ (x : flat.Place). x.cell) s.is in
     omega (arith, within, same)
@@ -107,7 +107,7 @@ one_name ds top d j k link in_j in_k e = elim (cases_lt j k) [
     named i name lt f =
         let h = drafted ds top d i link lt in
         let g : name_of (cell_at d i) ≡ h.part.name = ap name_of h.part_at in
-        record { cell = h.draft; there = h.draft_at; named = sym h.is.name ∙ sym g ∙ f }
+        record { cell = h.draft; item_at = h.draft_at; named = sym h.is.name ∙ sym g ∙ f }
 
     repeats : (m n : ℕ) → m < length ds → n < length ds → name_of (cell_at d m) ≡ name_of (cell_at d n) → m < n → ⊥
     repeats m n in_m in_n f lt = link.sound.once n (record {
@@ -115,5 +115,5 @@ one_name ds top d j k link in_j in_k e = elim (cases_lt j k) [
       here = named n (name_of (cell_at d n)) in_n refl;
       earlier = m;
       before = lt;
-      there = named m (name_of (cell_at d n)) in_m f;
+      item_at = named m (name_of (cell_at d n)) in_m f;
     })

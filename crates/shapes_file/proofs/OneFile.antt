@@ -1,5 +1,6 @@
 -- One stream has one shapes file.
 use Rattle.std.proofs.Common.{◌≡◌, ◌⊎◌, inl, inr, ℕ, zero, suc, ◌+◌, ◌<◌, Bool, true, false, ◌||◌, List, [], ◌∷◌, map, length, get_or, Option, Some, None, slice_get, refl, sym, ap, subst, ◌∙◌, arith}
+use Rattle.base_laws.proofs.Items.{one_list}
 use Rattle.std.specs.Prelude.{slice_index, IsSomeAnd}
 use Rattle.std.specs.List.{Contains, fold, list_any, sum_by}
 use Rattle.std.proofs.lemmas.Bool.{cases_lt}
@@ -31,13 +32,6 @@ use Rattle.shapes_file.specs.File.{IsNarrow, IsShapesFile, IsWide, count_in}
 use Rattle.shapes_file.specs.One.{IsSameCell, IsSameFile, NoFileLaw, OneFileLaw, OneWideLaw}
 
 -- ---- lists
-
-one_of : {A : Type 0} (xs ys : List A) → length xs ≡ length ys → ((k : ℕ) (x y : A) → slice_get xs k ≡ Some x → slice_get ys k ≡ Some y → x ≡ y) → xs ≡ ys
-one_of [] [] e h = refl
-one_of (x ∷ xs) [] e h = absurd (omega (arith, e))
-one_of [] (y ∷ ys) e h = absurd (omega (arith, e))
-one_of (x ∷ xs) (y ∷ ys) e h =
-    ap (λ z. z ∷ xs) (h 0 x y refl refl) ∙ ap (λ zs. y ∷ zs) (one_of xs ys (let f : length xs ≡ length ys = omega (arith, e) in f) (λ k a b p q. h (suc k) a b p q))
 
 map_same : {A B : Type 0} (f g : A → B) (xs : List A) → ((x : A) → f x ≡ g x) → map f xs ≡ map g xs
 map_same f g [] h = refl
@@ -170,7 +164,7 @@ module _ (lists : OneListLaw) (d : flat.Design) (r : Rules) where
   there (x ∷ xs) (suc k) lt = there xs k (omega (arith, lt))
 
   same_layers : (cell : ℕ) (v w : CellLayers) → AreCellLayers d r cell v → AreCellLayers d r cell w → v.layers.items ≡ w.layers.items
-  same_layers cell v w a b = one_of v.layers.items w.layers.items (a.names ∙ sym b.names)
+  same_layers cell v w a b = one_list v.layers.items w.layers.items (a.names ∙ sym b.names)
       (λ k x y p q.
       let lt = slice_get_within v.layers.items k x p in
       let name = there (formulas r.names) k (let count = a.names in omega (arith, lt, count)) in

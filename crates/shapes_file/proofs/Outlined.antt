@@ -1,5 +1,6 @@
 -- What outlines of rectangles cover.
 use Rattle.std.proofs.Common.{◌≡◌, ◌↔◌, inl, inr, Bool, true, false, ◌&&◌, ◌||◌, ℤ, ◌<ℤ◌, List, [], ◌∷◌, map, refl, sym, ap, subst, ◌∙◌, arith}
+use Rattle.std.proofs.lemmas.Bool.{or_cases, or_left, or_right, and_parts, and_from}
 use Rattle.std.specs.Int.{int_min, int_max}
 use Rattle.std.specs.List.{All, AllByRecursion as ByRecursion, flat_map}
 use Rattle.std.proofs.lemmas.Int.{ints}
@@ -14,7 +15,7 @@ use Rattle.rect_sets.specs.Rects.{covers}
 use Rattle.poly_fill.specs.Fills.{in_boundary}
 use Rattle.poly_fill.specs.Outlines.{UprightLaw}
 use Rattle.flat_layout.specs.Layout.{Some_of}
-use Rattle.cell_graph.proofs.Bridge.{covers_some, some_covers, or_left, or_right, or_split}
+use Rattle.cell_graph.proofs.Bridge.{covers_some, some_covers}
 use Rattle.gds_layout.specs.Shapes.{is_covering, shapes_cover}
 use Rattle.gds_shapes.specs.Accepted.{layer_shapes, rect_shape}
 use Rattle.gds_shapes.specs.Stream.{corners}
@@ -69,23 +70,11 @@ same_key k m h =
 itself : (k : LayerKey) → is_same_key k k ≡ true
 itself k = grind (arith)
 
-first : (a b : Bool) → (a && b) ≡ true → a ≡ true
-first true b h = refl
-first false b h = h
-
-second : (a b : Bool) → (a && b) ≡ true → b ≡ true
-second true b h = h
-second false b h = cc
-
-both : (a b : Bool) → a ≡ true → b ≡ true → (a && b) ≡ true
-both true b e f = f
-both false b e f = e
-
 on_covers : (l : LayerKey × List Rect) (key : LayerKey) (q : Square) → IsOn key q (layer_drawn l) → (is_same_key l.0 key && covers l.1 q) ≡ true
-on_covers l key q h = both (is_same_key l.0 key) (covers l.1 q) (subst (λ k. is_same_key l.0 k ≡ true) h.0 (itself l.0)) (some_covers l.1 q h.1)
+on_covers l key q h = and_from (is_same_key l.0 key) (covers l.1 q) (subst (λ k. is_same_key l.0 k ≡ true) h.0 (itself l.0)) (some_covers l.1 q h.1)
 
 covers_on : (l : LayerKey × List Rect) (key : LayerKey) (q : Square) → (is_same_key l.0 key && covers l.1 q) ≡ true → IsOn key q (layer_drawn l)
-covers_on l key q e = (same_key l.0 key (first (is_same_key l.0 key) (covers l.1 q) e), covers_some l.1 q (second (is_same_key l.0 key) (covers l.1 q) e))
+covers_on l key q e = (same_key l.0 key ((and_parts (is_same_key l.0 key) (covers l.1 q) e).0), covers_some l.1 q ((and_parts (is_same_key l.0 key) (covers l.1 q) e).1))
 
 -- ---- all layers: their shapes cover what they have
 
@@ -104,5 +93,5 @@ drawn_covers upright (l ∷ ls) key q sound =
     let here = is_same_key l.0 key && covers l.1 q in
     let others = shapes_cover (flat_map layer_shapes ls) key q in (
       (λ h. elim h [ inl s ↦ e ∙ or_left here others (on_covers l key q s) | inr s ↦ e ∙ or_right here others (more.0 s) ]),
-      (λ f. elim (or_split here others (sym e ∙ f)) [ inl s ↦ inl (covers_on l key q s) | inr s ↦ inr (more.1 s) ]),
+      (λ f. elim (or_cases here others (sym e ∙ f)) [ inl s ↦ inl (covers_on l key q s) | inr s ↦ inr (more.1 s) ]),
     )

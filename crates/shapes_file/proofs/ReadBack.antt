@@ -1,6 +1,8 @@
 -- The header, the dates, the names and the references of a layout that was read are those of its
 -- stream.
-use Rattle.std.proofs.Common.{◌≡◌, ℕ, zero, suc, ◌<◌, List, [], ◌∷◌, map, length, get_or, Option, Some, slice_get, refl, sym, ap, subst, ◌∙◌, arith}
+use Rattle.std.proofs.Common.{◌≡◌, ℕ, zero, suc, List, [], ◌∷◌, length, get_or, Option, Some, slice_get, refl, sym, ap, subst, ◌∙◌, arith}
+use Rattle.base_laws.proofs.Lists.{map_count}
+use Rattle.base_laws.proofs.Items.{item_at, map_to}
 use Rattle.std.specs.List.{All, AllByRecursion}
 use Rattle.std.proofs.lemmas.Option.{slice_get-get_or, slice_get_within}
 use Rattle.std.proofs.lemmas.List.Elements.{recursion_from_All, All-map}
@@ -24,24 +26,10 @@ use Rattle.shapes_file.specs.Read.{WritableLaw}
 
 -- ---- lists
 
-there : {A : Type 0} (xs : List A) (k : ℕ) → k < length xs → (x : A) × (slice_get xs k ≡ Some x)
-there [] k lt = absurd (omega (arith, lt))
-there (x ∷ xs) zero lt = (x, refl)
-there (x ∷ xs) (suc k) lt = there xs k (omega (arith, lt))
-
 each_at : {A : Type 0} (P : A → Type 0) (xs : List A) (k : ℕ) (x : A) → AllByRecursion P xs → slice_get xs k ≡ Some x → P x
 each_at P [] k x h e = absurd cc
 each_at P (y ∷ xs) zero x h e = let same : y ≡ x = cc in subst (λ z. P z) same h.0
 each_at P (y ∷ xs) (suc k) x h e = each_at P xs k x h.1 e
-
-map_at : {A B : Type 0} (f : A → B) (xs : List A) (k : ℕ) (x : A) → slice_get xs k ≡ Some x → slice_get (map f xs) k ≡ Some (f x)
-map_at f [] k x e = absurd cc
-map_at f (y ∷ xs) zero x e = let same : y ≡ x = cc in ap (λ z. Some (f z)) same
-map_at f (y ∷ xs) (suc k) x e = map_at f xs k x e
-
-map_count : {A B : Type 0} (f : A → B) (xs : List A) → length (map f xs) ≡ length xs
-map_count f [] = refl
-map_count f (x ∷ xs) = ap (λ (n : ℕ). suc n) (map_count f xs)
 
 -- ---- structures and their drafts
 
@@ -64,8 +52,8 @@ structure_at (c ∷ cells) (x ∷ ds) (suc i) d h e = structure_at cells ds i d 
 ref_is : (ds : List CellDraft) (top : Option (List ℕ)) (d : Linked) (r : DraftRef) (p : Place) → IsLink ds top d → IsResolved ds r p → ref_of d p ≡ drafted_ref r
 ref_is ds top d r p link res =
     let n = res.names in
-    let at = there d.cells p.cell (let in_drafts = slice_get_within ds p.cell n.cell n.there in let count = link.count in omega (arith, in_drafts, count)) in
-    let part = link.each p.cell n.cell at.0 n.there at.1 in
+    let at = item_at d.cells p.cell (let in_drafts = slice_get_within ds p.cell n.cell n.item_at in let count = link.count in omega (arith, in_drafts, count)) in
+    let part = link.each p.cell n.cell at.0 n.item_at at.1 in
     let name : name_of (cell_at d p.cell) ≡ r.cell = ap name_of at.1 ∙ part.name ∙ n.named in
     rw (name, res.motion, res.columns, res.rows, res.column_step, res.row_step) refl
 
@@ -73,9 +61,9 @@ place_fits : (ds : List CellDraft) (top : Option (List ℕ)) (d : Linked) (c : C
     → (k : ℕ) (p : Place) → slice_get part.places.items k ≡ Some p → FitsReference (ref_of d p)
 place_fits ds top d c draft part i link drafted is fits k p e =
     let within = slice_get_within part.places.items k p e in
-    let at = there draft.refs.items k (let count = is.places.count in omega (arith, within, count)) in
+    let at = item_at draft.refs.items k (let count = is.places.count in omega (arith, within, count)) in
     let res = is.places.each k at.0 p at.1 e in
-    let here : slice_get c.refs k ≡ Some (drafted_ref at.0) = sym (ap (λ (rs : List Ref). slice_get rs k) drafted.refs) ∙ map_at drafted_ref draft.refs.items k at.0 at.1 in
+    let here : slice_get c.refs k ≡ Some (drafted_ref at.0) = sym (ap (λ (rs : List Ref). slice_get rs k) drafted.refs) ∙ map_to drafted_ref draft.refs.items k at.0 at.1 in
     subst (λ (r : Ref). FitsReference r) (sym (ref_is ds top d at.0 p link res)) (each_at FitsReference c.refs k (drafted_ref at.0) (recursion_from_All FitsReference c.refs fits) here)
 
 -- ---- the layout
@@ -84,7 +72,7 @@ cell_writable : (v : Library) (top : Option (List ℕ)) (l : Layout) (h : IsLayo
     → (i : ℕ) (part : CellPart) → slice_get l.design.cells i ≡ Some part → IsWritableCell l.design part
 cell_writable v top l h read fits i part e =
     let within = slice_get_within l.design.cells i part e in
-    let at = there h.drafts i (let count = h.linked.count in omega (arith, within, count)) in
+    let at = item_at h.drafts i (let count = h.linked.count in omega (arith, within, count)) in
     let s = structure_at v.cells h.drafts i at.0 h.drafted at.1 in
     let is = h.linked.each i at.0 part at.1 e in
     let P : Cell → Type 0 = λ cell. IsReadCell v cell in

@@ -1,7 +1,8 @@
 -- Runs grown or shrunk at both ends, and a set grown or shrunk row by row and column by column.
-use Rattle.std.proofs.Common.{◌≡◌, ◌↔◌, ◌⊎◌, inl, inr, ℕ, suc, ◌+◌, ◌≤◌, ℤ, pos, negsuc, ◌+ℤ◌, ◌-ℤ◌, ◌≤ℤ◌, ◌<ℤ◌, int_lt, List, [], ◌∷◌, ◌++◌, Bool, true, false, ◌||◌, ◌&&◌, refl, sym, ap, ◌∙◌, subst, arith, if◌then◌else◌}
+use Rattle.std.proofs.Common.{◌≡◌, ◌↔◌, inl, inr, ℕ, suc, ◌+◌, ◌≤◌, ℤ, pos, negsuc, ◌+ℤ◌, ◌-ℤ◌, ◌≤ℤ◌, ◌<ℤ◌, int_lt, List, [], ◌∷◌, ◌++◌, true, false, refl, sym, ap, ◌∙◌, subst, arith, if◌then◌else◌}
+use Rattle.base_laws.proofs.Tests.{if_true, if_false, lt_to, lt_from}
 use Rattle.std.proofs.lemmas.Int.{ints, by_lt_z}
-use Rattle.std.proofs.lemmas.Bool.{false≢true}
+use Rattle.std.proofs.lemmas.Bool.{false≢true, cases_Bool, or_left, or_right, or_cases, and_from}
 use Rattle.std.specs.List.{All}
 use Rattle.geo_base.specs.Rects.{has, is_between, IsRect}
 use Rattle.geo_base.specs.declared.shapes.Rect.{Rect}
@@ -9,8 +10,8 @@ use Rattle.geo_base.specs.declared.shapes.Square.{Square}
 use Rattle.rect_sets.specs.Near.{IsNearSet}
 use Rattle.rect_sets.specs.Rects.{covers, IsBlock, IsListed, IsCanonical}
 use Rattle.rect_sets.proofs.Blocking.{listed_covers, covers_listed}
-use Rattle.rect_sets.proofs.Dividing.{if_true, if_false, if_append, lt_true, lt_from, with_first}
-use Rattle.rect_sets.proofs.Splitting.{either, inside_from}
+use Rattle.rect_sets.proofs.Dividing.{if_append, with_first}
+use Rattle.rect_sets.proofs.Splitting.{inside_from}
 use Rattle.flat_layout.specs.Plane.{IsSized}
 use Rattle.sized_layers.specs.Sizes.{IsSize, AreBeside, IsReachedAlong, IsSizedAlong, flip, sized_rect, sized_rects, IsSquareWithin, IsSetWithin, growth, ShrinkLaw}
 
@@ -26,7 +27,7 @@ pub sized_are : (d : ℤ) (rects : List Rect) → All IsRect rects → All IsRec
 sized_are d [] h = h
 sized_are d (r ∷ rects) h =
     let rest = sized_are d rects (λ k e lt. h (suc k) e (omega arith)) in
-    elim (either (int_lt (r.x1 -ℤ d) (r.x2 +ℤ d))) [
+    elim (cases_Bool (int_lt (r.x1 -ℤ d) (r.x2 +ℤ d))) [
       | inl t ↦ subst (λ (q : List Rect). All IsRect q) (sym (if_true (int_lt (r.x1 -ℤ d) (r.x2 +ℤ d)) (sized_rect d r ∷ sized_rects d rects) (sized_rects d rects) t))
           (with_first (sized_rect d r) (sized_rects d rects) (record { wide = lt_from (r.x1 -ℤ d) (r.x2 +ℤ d) t; high = (h 0 r (omega arith)).high }) rest)
       | inr f ↦ subst (λ (q : List Rect). All IsRect q) (sym (if_false (int_lt (r.x1 -ℤ d) (r.x2 +ℤ d)) (sized_rect d r ∷ sized_rects d rects) (sized_rects d rects) f)) rest
@@ -38,29 +39,17 @@ pub record HasSized (d : ℤ) (rects : List Rect) (s : Square) : Type 0 where
   pub listed : IsListed one rects
   pub has : has (sized_rect d one) s ≡ true
 
-or_first : (b c : Bool) → b ≡ true → (b || c) ≡ true
-or_first true c e = refl
-or_first false c e = absurd (false≢true e)
-
-or_second : (b c : Bool) → c ≡ true → (b || c) ≡ true
-or_second true c e = refl
-or_second false c e = e
-
-or_split : (b c : Bool) → (b || c) ≡ true → (b ≡ true) ⊎ (c ≡ true)
-or_split true c e = inl refl
-or_split false c e = inr e
-
 some_has : (d : ℤ) (r : Rect) (s : Square) → has (sized_rect d r) s ≡ true → int_lt (r.x1 -ℤ d) (r.x2 +ℤ d) ≡ true
 some_has d r s e =
     let i = inside_from (sized_rect d r) s e in
     let a = i.x1 in let b = i.x2 in
-    lt_true (r.x1 -ℤ d) (r.x2 +ℤ d) (omega (arith, ints))
+    lt_to (r.x1 -ℤ d) (r.x2 +ℤ d) (omega (arith, ints))
 
 pub to_sized : (d : ℤ) (rects : List Rect) (s : Square) → covers (sized_rects d rects) s ≡ true → HasSized d rects s
 to_sized d [] s e = absurd (false≢true e)
-to_sized d (r ∷ rects) s e = elim (either (int_lt (r.x1 -ℤ d) (r.x2 +ℤ d))) [
+to_sized d (r ∷ rects) s e = elim (cases_Bool (int_lt (r.x1 -ℤ d) (r.x2 +ℤ d))) [
   | inl t ↦
-      elim (or_split (has (sized_rect d r) s) (covers (sized_rects d rects) s) (subst (λ (q : List Rect). covers q s ≡ true) (if_true (int_lt (r.x1 -ℤ d) (r.x2 +ℤ d)) (sized_rect d r ∷ sized_rects d rects) (sized_rects d rects) t) e)) [
+      elim (or_cases (has (sized_rect d r) s) (covers (sized_rects d rects) s) (subst (λ (q : List Rect). covers q s ≡ true) (if_true (int_lt (r.x1 -ℤ d) (r.x2 +ℤ d)) (sized_rect d r ∷ sized_rects d rects) (sized_rects d rects) t) e)) [
         | inl g ↦ record { one = r; listed = inl refl; has = g }
         | inr g ↦ (let h = to_sized d rects s g in record { one = h.one; listed = inr h.listed; has = h.has })
       ]
@@ -74,25 +63,21 @@ from_sized d [] s r l e = absurd l
 from_sized d (q ∷ rects) s r (inl f) e =
     let here : has (sized_rect d q) s ≡ true = subst (λ (p : Rect). has (sized_rect d p) s ≡ true) f e in
     let t = some_has d q s here in
-    subst (λ (p : List Rect). covers p s ≡ true) (sym (if_true (int_lt (q.x1 -ℤ d) (q.x2 +ℤ d)) (sized_rect d q ∷ sized_rects d rects) (sized_rects d rects) t)) (or_first (has (sized_rect d q) s) (covers (sized_rects d rects) s) here)
+    subst (λ (p : List Rect). covers p s ≡ true) (sym (if_true (int_lt (q.x1 -ℤ d) (q.x2 +ℤ d)) (sized_rect d q ∷ sized_rects d rects) (sized_rects d rects) t)) (or_left (has (sized_rect d q) s) (covers (sized_rects d rects) s) here)
 from_sized d (q ∷ rects) s r (inr l) e =
     let rest = from_sized d rects s r l e in
-    elim (either (int_lt (q.x1 -ℤ d) (q.x2 +ℤ d))) [
-      | inl t ↦ subst (λ (p : List Rect). covers p s ≡ true) (sym (if_true (int_lt (q.x1 -ℤ d) (q.x2 +ℤ d)) (sized_rect d q ∷ sized_rects d rects) (sized_rects d rects) t)) (or_second (has (sized_rect d q) s) (covers (sized_rects d rects) s) rest)
+    elim (cases_Bool (int_lt (q.x1 -ℤ d) (q.x2 +ℤ d))) [
+      | inl t ↦ subst (λ (p : List Rect). covers p s ≡ true) (sym (if_true (int_lt (q.x1 -ℤ d) (q.x2 +ℤ d)) (sized_rect d q ∷ sized_rects d rects) (sized_rects d rects) t)) (or_right (has (sized_rect d q) s) (covers (sized_rects d rects) s) rest)
       | inr f ↦ subst (λ (p : List Rect). covers p s ≡ true) (sym (if_false (int_lt (q.x1 -ℤ d) (q.x2 +ℤ d)) (sized_rect d q ∷ sized_rects d rects) (sized_rects d rects) f)) rest
     ]
 
 -- rows
 
-and_both : (b c : Bool) → b ≡ true → c ≡ true → (b && c) ≡ true
-and_both true c e f = f
-and_both false c e f = absurd (false≢true e)
-
 between : (low x high : ℤ) → low ≤ℤ x → x <ℤ high → is_between low x high ≡ true
 between low x high h g = grind (arith, ints)
 
 has_at : (r : Rect) (x y : ℤ) → r.x1 ≤ℤ x → x <ℤ r.x2 → r.y1 ≤ℤ y → y <ℤ r.y2 → has r (record { x = x; y = y }) ≡ true
-has_at r x y a b c d = and_both (is_between r.x1 x r.x2) (is_between r.y1 y r.y2) (between r.x1 x r.x2 a b) (between r.y1 y r.y2 c d)
+has_at r x y a b c d = and_from (is_between r.x1 x r.x2) (is_between r.y1 y r.y2) (between r.x1 x r.x2 a b) (between r.y1 y r.y2 c d)
 
 -- the nearest square of the rectangle in the row of a square of the grown one
 nearest : (n : ℕ) (r : Rect) (s : Square) → IsRect r → has (sized_rect (pos n) r) s ≡ true → (q : Square) × AreBeside n q s × (has r q ≡ true)
@@ -262,7 +247,7 @@ set_sized n d a b sized h s e = within_sized n d a s h ((sized.each s).0 e)
 pub shrink : ShrinkLaw
 shrink n rects p = (
   (λ all r. absurd (false≢true (sym r.has ∙ all r.square r.within))),
-  (λ none q near. elim (either (covers rects q)) [
+  (λ none q near. elim (cases_Bool (covers rects q)) [
     | inl t ↦ t
     | inr f ↦ absurd (none (record { square = q; within = near; has = f }))
   ]),

@@ -1,6 +1,7 @@
 -- Shapes over a square and placements of a cell, one placement at a time.
 use Rattle.std.proofs.Common.{◌≡◌, ◌⊎◌, ◌↔◌, IsTrue, true, false, not, ◌&&◌, inl, inr, ℕ, zero, suc, ◌+◌, ◌<◌, ◌≤◌, List, [], ◌∷◌, ◌++◌, Option, Some, None, map, slice_get, get_or, length, pos, refl, sym, ◌∙◌, ap, subst, arith}
-use Rattle.std.proofs.lemmas.Option.{slice_get-map, slice_get-get_or, slice_get_read, slice_get_within, get_or_from_slice_get}
+use Rattle.base_laws.proofs.Items.{map_from, map_to}
+use Rattle.std.proofs.lemmas.Option.{slice_get-get_or, slice_get_read, slice_get_within, get_or_from_slice_get}
 use Rattle.std.proofs.Math.Decide.{ℕ_discrete}
 use Rattle.std.specs.Option.{option_map, option_eq}
 use Rattle.std.proofs.Math.Dec.{eqb}
@@ -23,16 +24,10 @@ use Rattle.slow_paths.specs.declared.design.SlowCell.{SlowCell}
 use Rattle.slow_paths.specs.declared.design.SlowDesign.{SlowDesign}
 use Rattle.slow_paths.specs.Slow.{plain_layer, plain_place, plain_cell, plain, IsOnLayer, IsOver, IsThrough, IsDisturbedBy}
 
--- an item of a mapped list
+-- an item of a map_from list
 mapped_one : {A B : Type 0} (f : A → B) (o : Option A) (y : B) → option_map f o ≡ Some y → (x : A) × (o ≡ Some x) × (f x ≡ y)
 mapped_one f None y e = let g : None ≡ Some y = e in absurd (let h : ⊥ = cc in h)
 mapped_one f (Some x) y e = let g : Some (f x) ≡ Some y = e in (x, refl, (let h : f x ≡ y = cc in h))
-
-pub mapped : {A B : Type 0} (f : A → B) (xs : List A) (k : ℕ) (y : B) → slice_get (map f xs) k ≡ Some y → (x : A) × (slice_get xs k ≡ Some x) × (f x ≡ y)
-mapped f xs k y e = mapped_one f (slice_get xs k) y (sym (slice_get-map f xs k) ∙ e)
-
-pub maps : {A B : Type 0} (f : A → B) (xs : List A) (k : ℕ) (x : A) → slice_get xs k ≡ Some x → slice_get (map f xs) k ≡ Some (f x)
-maps f xs k x e = slice_get-map f xs k ∙ ap (option_map f) e
 
 pub some_at : {A : Type 0} (P : A → Type 0) (xs : List A) → Some_of P xs → (k : ℕ) × (x : A) × (slice_get xs k ≡ Some x) × P x
 some_at P [] h = absurd h
@@ -45,11 +40,11 @@ at_some P (y ∷ xs) zero x e h = let f : y ≡ x = cc in inl (subst P (sym f) h
 at_some P (y ∷ xs) (suc k) x e h = inr (at_some P xs k x e h)
 
 pub placed_at : (d : SlowDesign) (i : ℕ) (c : SlowCell) (k : ℕ) (p : SlowPlace) → slice_get d.cells.items i ≡ Some c → slice_get c.places.items k ≡ Some p → IsPlaced (plain d) i k (plain_place p)
-placed_at d i c k p e f = (plain_cell c, maps plain_cell d.cells.items i c e, maps plain_place c.places.items k p f)
+placed_at d i c k p e f = (plain_cell c, map_to plain_cell d.cells.items i c e, map_to plain_place c.places.items k p f)
 
 pub placed_from : (d : SlowDesign) (i : ℕ) (c : SlowCell) (k : ℕ) (p : Place) → slice_get d.cells.items i ≡ Some c → IsPlaced (plain d) i k p → slice_get (map plain_place c.places.items) k ≡ Some p
 placed_from d i c k p e h =
-    let m = maps plain_cell d.cells.items i c e in
+    let m = map_to plain_cell d.cells.items i c e in
     let f = h.1 in
     let same : h.0 ≡ plain_cell c = cc in
     subst (λ (x : Cell). slice_get x.places k ≡ Some p) same h.2
@@ -134,7 +129,7 @@ pub none_more_of : {A B : Type 0} (P : B → Type 0) (f : A → B) (xs : List A)
     → (k : ℕ) (y : B) → k < n + 1 → slice_get (map f xs) k ≡ Some y → P y → ⊥
 none_more_of P f xs d n lt before here k y less e h = elim (ℕ_discrete k n) [
   | yes same ↦
-      let m = mapped f xs n y (subst (λ i. slice_get (map f xs) i ≡ Some y) same e) in
+      let m = map_from f xs n y (subst (λ i. slice_get (map f xs) i ≡ Some y) same e) in
       let g : get_or xs n d ≡ m.0 = get_or_from_slice_get xs n m.0 d m.1 in
       here (subst P (sym (ap f g ∙ m.2)) h)
   | no not ↦ before k y (omega arith) e h
@@ -180,11 +175,11 @@ pub cell_at : (d : SlowDesign) (i : ℕ) (c : SlowCell) → i < length d.cells.i
 cell_at d i c lt e = slice_get_read d.cells.items (length d.cells.items) i c refl lt e
 
 pub own_to : (d : SlowDesign) (i : ℕ) (c : SlowCell) (key : LayerKey) (q : Square) → slice_get d.cells.items i ≡ Some c → Some_of (IsOnLayer key q) (map plain_layer c.shapes.items) → IsOwn (plain d) i key q
-own_to d i c key q e h = (plain_cell c, maps plain_cell d.cells.items i c e, h)
+own_to d i c key q e h = (plain_cell c, map_to plain_cell d.cells.items i c e, h)
 
 pub own_of : (d : SlowDesign) (i : ℕ) (c : SlowCell) (key : LayerKey) (q : Square) → slice_get d.cells.items i ≡ Some c → IsOwn (plain d) i key q → Some_of (IsOnLayer key q) (map plain_layer c.shapes.items)
 own_of d i c key q e h =
-    let m = maps plain_cell d.cells.items i c e in
+    let m = map_to plain_cell d.cells.items i c e in
     let f = h.1 in
     let same : h.0 ≡ plain_cell c = cc in
     subst (λ (x : Cell). Some_of (IsOnLayer key q) x.layers) same h.2
@@ -192,7 +187,7 @@ own_of d i c key q e h =
 -- a number past the last cell has no cell
 pub no_cell_at : (d : SlowDesign) (i : ℕ) (c : Cell) → length d.cells.items ≤ i → slice_get (plain d).cells i ≡ Some c → ⊥
 no_cell_at d i c past e =
-    let m = mapped plain_cell d.cells.items i c e in
+    let m = map_from plain_cell d.cells.items i c e in
     let lt = slice_get_within d.cells.items i m.0 m.1 in
     absurd (omega arith)
 
@@ -206,7 +201,7 @@ no_own d cell skip key q past h = elim (over_split (plain d) cell skip key q h) 
 pub within : (d : SlowDesign) (i : ℕ) (c : SlowCell) (k : ℕ) (p : Place) → slice_get d.cells.items i ≡ Some c → IsPlaced (plain d) i k p → k < length c.places.items
 within d i c k p e h =
     let f = placed_from d i c k p e h in
-    let m = mapped plain_place c.places.items k p f in
+    let m = map_from plain_place c.places.items k p f in
     slice_get_within c.places.items k m.0 m.1
 
 -- what the code reads of a list within it
@@ -244,7 +239,7 @@ pub placed_some : (d : SlowDesign) (i : ℕ) (c : SlowCell) (places : List SlowP
 placed_some d i c places cell here e h =
     let s = some_at (λ (p : Place). p.cell ≡ cell) (map plain_place places) h in
     let there : slice_get (map plain_place c.places.items) s.0 ≡ Some s.1 = subst (λ (l : List SlowPlace). slice_get (map plain_place l) s.0 ≡ Some s.1) e s.2 in
-    (s.0, s.1, (plain_cell c, maps plain_cell d.cells.items i c here, there), s.3)
+    (s.0, s.1, (plain_cell c, map_to plain_cell d.cells.items i c here, there), s.3)
 
 pub some_placed : (d : SlowDesign) (i : ℕ) (c : SlowCell) (places : List SlowPlace) (cell k : ℕ) (p : Place) → slice_get d.cells.items i ≡ Some c → places ≡ c.places.items → IsPlaced (plain d) i k p → p.cell ≡ cell → Some_of (λ (p : Place). p.cell ≡ cell) (map plain_place places)
 some_placed d i c places cell k p here e h is =
@@ -253,7 +248,7 @@ some_placed d i c places cell k p here e h is =
 -- each cell that places one is listed
 pub placing_within : (d : SlowDesign) (i k : ℕ) (p : Place) → IsPlaced (plain d) i k p → i < length d.cells.items
 placing_within d i k p h =
-    let m = mapped plain_cell d.cells.items i h.0 h.1 in
+    let m = map_from plain_cell d.cells.items i h.0 h.1 in
     slice_get_within d.cells.items i m.0 m.1
 
 -- none of the parents before n + 1, where none before n, nor n

@@ -1,5 +1,6 @@
 -- The names of circuits and nets have no small letters, as what they are made from has none.
-use Rattle.std.proofs.Common.{◌≡◌, ◌⊎◌, inl, inr, ℕ, zero, suc, ◌+◌, ◌/◌, ◌%◌, ◌<◌, ◌==◌, Bool, true, false, List, [], ◌∷◌, ◌++◌, map, length, Some, refl, sym, ap, subst, ◌∙◌, arith}
+use Rattle.std.proofs.Common.{◌≡◌, inl, inr, ℕ, zero, suc, ◌+◌, ◌/◌, ◌%◌, ◌<◌, ◌==◌, Bool, false, List, [], ◌∷◌, ◌++◌, map, length, Some, refl, sym, ap, subst, ◌∙◌, arith}
+use Rattle.std.proofs.lemmas.Bool.{cases_Bool}
 use Rattle.std.specs.Prelude.{decimal, get_or, nat_lt, slice_get}
 use Rattle.std.specs.List.{AllByRecursion}
 use Rattle.std.specs.Fmt.{digits, digits_onto, digit_glyph}
@@ -26,10 +27,6 @@ use Rattle.spice_laws.specs.Spelled.{IsByteName, IsSpelledCircuit, IsSpelledDevi
 use Rattle.spice_text.specs.Cards.{FitsCard, kind_of, shown_class}
 use Rattle.spice_text.specs.Laws.{IsName}
 
-either : (b : Bool) → (b ≡ true) ⊎ (b ≡ false)
-either true = inl refl
-either false = inr refl
-
 -- ---- letters
 
 -- bytes that folding leaves
@@ -54,13 +51,13 @@ fixed_one b bs l h = ap (λ (x : ℕ). x ∷ folded_bytes bs) (same b l) ∙ ap 
 
 digits_fixed : (k n : ℕ) (acc : List ℕ) → IsFixed acc → IsFixed (digits_onto k 10 false n acc)
 digits_fixed zero n acc h = h
-digits_fixed (suc k) n acc h = elim (either (n / 10 == 0)) [
+digits_fixed (suc k) n acc h = elim (cases_Bool (n / 10 == 0)) [
   | inl t ↦ rw t (fixed_one (digit_glyph false (n % 10)) acc (glyph (n % 10) (omega arith)) h)
   | inr f ↦ rw f (digits_fixed k (n / 10) (digit_glyph false (n % 10) ∷ acc) (fixed_one (digit_glyph false (n % 10)) acc (glyph (n % 10) (omega arith)) h))
 ]
   where
     glyph : (d : ℕ) → d < 10 → digit_glyph false d < 97
-    glyph d l = elim (either (nat_lt d 10)) [ inl t ↦ rw t (omega arith) | inr f ↦ absurd (grind (arith, f, l)) ]
+    glyph d l = elim (cases_Bool (nat_lt d 10)) [ inl t ↦ rw t (omega arith) | inr f ↦ absurd (grind (arith, f, l)) ]
 
 decimal_fixed : (n : ℕ) → IsFixed (decimal n)
 unfolding digits
@@ -73,7 +70,7 @@ kept : (needs : List (List ℕ) → List ℕ → Bool) (ending : ℕ → List �
     → ((b : List ℕ) → IsListed b bases → IsFixed b) → ((j : ℕ) → IsFixed (ending j))
     → (i : ℕ) (a : List ℕ) → slice_get (apart_names needs ending earlier k bases) i ≡ Some a → IsFixed a
 kept needs ending earlier k [] fixed ends i a h = absurd (none-some a h)
-kept needs ending earlier k (b ∷ bs) fixed ends zero a h = subst IsFixed (same_Some _ _ h) (elim (either (needs earlier b)) [
+kept needs ending earlier k (b ∷ bs) fixed ends zero a h = subst IsFixed (same_Some _ _ h) (elim (cases_Bool (needs earlier b)) [
   | inl t ↦ rw t (fixed_append b (ending k) (fixed b (inl refl)) (ends k))
   | inr f ↦ rw f (fixed b (inl refl))
 ])

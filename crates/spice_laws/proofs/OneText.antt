@@ -1,7 +1,7 @@
 -- A netlist has one text, as each size has one spelling.
-use Rattle.std.proofs.Common.{◌≡◌, ◌⊎◌, inl, inr, ℕ, ◌+◌, ◌-◌, ◌*◌, ◌/◌, ◌%◌, ◌^◌, ◌<◌, ◌≤◌, Bool, true, false, List, [], ◌∷◌, ◌++◌, length, refl, sym, ap, ◌∙◌, arith}
-use Rattle.std.specs.Prelude.{codes, decimal, ◌&&◌}
-use Rattle.std.proofs.lemmas.Bool.{cases_lt}
+use Rattle.std.proofs.Common.{◌≡◌, ◌⊎◌, inl, inr, ℕ, ◌+◌, ◌-◌, ◌*◌, ◌/◌, ◌%◌, ◌^◌, ◌<◌, ◌≤◌, true, List, [], ◌∷◌, ◌++◌, length, refl, sym, ap, ◌∙◌, arith}
+use Rattle.std.specs.Prelude.{codes, decimal}
+use Rattle.std.proofs.lemmas.Bool.{cases_lt, and_parts}
 use Rattle.std.proofs.Math.Nat.{mul-le-mul_right, pow-suc}
 use Rattle.std.specs.List.{list_all}
 use Rattle.std.specs.Char.{is_ascii_digit, digit_value}
@@ -16,10 +16,6 @@ use Rattle.spice_text.specs.Cards.{kind_of}
 use Rattle.spice_text.specs.Written.{AreOneByOne, AreSizes, AreTexts, IsAreaText, IsCircuitText, IsDeviceText, IsLengthText, circuit_text, device_text}
 
 -- ---- digits behind the point
-
-both : (a b : Bool) → (a && b) ≡ true → (a ≡ true) × (b ≡ true)
-both true b h = (refl, h)
-both false b h = absurd cc
 
 value_shift : (n : ℕ) (ds : List ℕ) → digits_value_after 10 n ds ≡ n * 10 ^ length ds + digits_value 10 ds
 value_shift n [] = omega arith
@@ -40,7 +36,7 @@ digit_same d e h g same =
 value_low : (ds : List ℕ) → list_all is_ascii_digit ds ≡ true → digits_value 10 ds < 10 ^ length ds
 value_low [] h = omega arith
 value_low (d ∷ ds) h =
-    let parts = both (is_ascii_digit d) (list_all is_ascii_digit ds) h in
+    let parts = and_parts (is_ascii_digit d) (list_all is_ascii_digit ds) h in
     let rest = value_low ds parts.1 in
     let low : digit_value d + 1 ≤ 10 = (let l = digit_low d parts.0 in omega (arith, l)) in
     let wide = mul-le-mul_right (10 ^ length ds) low in
@@ -49,12 +45,12 @@ value_low (d ∷ ds) h =
 -- digits of no worth end in 0
 ends_in_zero : (d : ℕ) (ds : List ℕ) → list_all is_ascii_digit (d ∷ ds) ≡ true → digits_value 10 (d ∷ ds) ≡ 0 → (front : List ℕ) × (d ∷ ds ≡ front ++ 48 ∷ [])
 ends_in_zero d [] h e =
-    let parts = both (is_ascii_digit d) (list_all is_ascii_digit []) h in
+    let parts = and_parts (is_ascii_digit d) (list_all is_ascii_digit []) h in
     let k = digit_bounds d parts.0 in let w = digit_worth d parts.0 in
     let same : d ≡ 48 = omega (arith, k.0, w, e) in
     ([], ap (λ (x : ℕ). x ∷ []) same)
 ends_in_zero d (c ∷ cs) h e =
-    let parts = both (is_ascii_digit d) (list_all is_ascii_digit (c ∷ cs)) h in
+    let parts = and_parts (is_ascii_digit d) (list_all is_ascii_digit (c ∷ cs)) h in
     let none : digits_value 10 (c ∷ cs) ≡ 0 = (let f = first_digit d (c ∷ cs) in omega (arith, f, e)) in
     let rest = ends_in_zero c cs parts.1 none in
     (d ∷ rest.0, ap (λ (xs : List ℕ). d ∷ xs) rest.1)
@@ -89,7 +85,7 @@ peeled tens v d ds h = record { low = low (cases_lt (v * 10) (a * t)); high = hi
     unit = ten_positive tens
 
     less : rest < p
-    less = value_low ds (both (is_ascii_digit d) (list_all is_ascii_digit ds) h.digits).1
+    less = value_low ds (and_parts (is_ascii_digit d) (list_all is_ascii_digit ds) h.digits).1
 
     low : (v * 10 < a * t) ⊎ (a * t ≤ v * 10) → a * t ≤ v * 10
     low (inr le) = le
@@ -109,7 +105,7 @@ peeled tens v d ds h = record { low = low (cases_lt (v * 10) (a * t)); high = hi
 -- and the rest is a fraction too
 rest_of : (tens v r d : ℕ) (ds : List ℕ) → r + digit_value d * 10 ^ tens ≡ v * 10 → IsPartOf tens v (d ∷ ds) → IsPartOf tens r ds
 rest_of tens v r d ds e h = record {
-  digits = (both (is_ascii_digit d) (list_all is_ascii_digit ds) h.digits).1;
+  digits = (and_parts (is_ascii_digit d) (list_all is_ascii_digit ds) h.digits).1;
   worth = omega (arith, h.worth, ap (λ (k : ℕ). k * 10 ^ tens) (first_digit d ds), ap (λ (k : ℕ). v * k) (pow-suc 10 (length ds)), ap (λ (k : ℕ). k * 10 ^ length ds) e);
   last = λ front same. h.last (d ∷ front) (ap (λ (xs : List ℕ). d ∷ xs) same);
 }
@@ -154,8 +150,8 @@ one_fraction tens v (d ∷ ds) (e ∷ es) h g =
     let up = at_most (digit_value d) (digit_value e) (10 ^ tens) (v * 10) x.low y.high in
     let down = at_most (digit_value e) (digit_value d) (10 ^ tens) (v * 10) y.low x.high in
     let worth : digit_value d ≡ digit_value e = omega (arith, up, down) in
-    let dd = (both (is_ascii_digit d) (list_all is_ascii_digit ds) h.digits).0 in
-    let ed = (both (is_ascii_digit e) (list_all is_ascii_digit es) g.digits).0 in
+    let dd = (and_parts (is_ascii_digit d) (list_all is_ascii_digit ds) h.digits).0 in
+    let ed = (and_parts (is_ascii_digit e) (list_all is_ascii_digit es) g.digits).0 in
     let first : d ≡ e = digit_same d e dd ed worth in
     let r : ℕ = v * 10 - digit_value d * 10 ^ tens in
     let here : r + digit_value d * 10 ^ tens ≡ v * 10 = (let a = x.low in omega (arith, a)) in

@@ -1,5 +1,6 @@
 -- A value's answer is that of its number.
-use Rattle.std.proofs.Common.{◌≡◌, ◌⊎◌, inl, inr, ℕ, zero, suc, ◌+◌, ◌*◌, ◌^◌, ◌/◌, ◌%◌, ◌<◌, ◌≤◌, ◌==◌, Bool, true, false, Option, Some, None, Result, Ok, Err, refl, sym, ap, arith}
+use Rattle.std.proofs.Common.{◌≡◌, inl, inr, ℕ, zero, suc, ◌+◌, ◌*◌, ◌^◌, ◌/◌, ◌%◌, ◌<◌, ◌≤◌, ◌==◌, true, false, Option, Some, None, Result, Ok, Err, refl, sym, ap, arith}
+use Rattle.std.proofs.lemmas.Bool.{cases_Bool}
 use Rattle.std.specs.Prelude.{nat_lt}
 use Rattle.std.proofs.Math.Nat.{mul-div_cancel, mul-mod_left, mul-le-mul_right, mod-add-div', pow-suc}
 use Rattle.std.proofs.lemmas.Bool.Decides.{Decides-eqb}
@@ -15,15 +16,11 @@ pub positive : (n : ℕ) → 0 < 10 ^ n
 positive zero = omega arith
 positive (suc n) = let h = positive n in omega (arith, pow-suc 10 n)
 
-either : (t : Bool) → (t ≡ true) ⊎ (t ≡ false)
-either true = inl refl
-either false = inr refl
-
 not_lt : (a b : ℕ) → b ≤ a → nat_lt a b ≡ false
-not_lt a b h = elim (either (nat_lt a b)) [ inl t ↦ absurd (grind (arith, t, h)) | inr f ↦ f ]
+not_lt a b h = elim (cases_Bool (nat_lt a b)) [ inl t ↦ absurd (grind (arith, t, h)) | inr f ↦ f ]
 
 is_lt : (a b : ℕ) → a < b → nat_lt a b ≡ true
-is_lt a b h = elim (either (nat_lt a b)) [ inl t ↦ t | inr f ↦ absurd (grind (arith, f, h)) ]
+is_lt a b h = elim (cases_Bool (nat_lt a b)) [ inl t ↦ t | inr f ↦ absurd (grind (arith, f, h)) ]
 
 -- a multiple of d is settled, where it is not above the limit
 pub settled_is : (limit : Option ℕ) (a d f : ℕ) → 0 < d → a ≡ f * d → is_above limit (f * d) d ≡ false → settled limit a d ≡ Ok f
@@ -43,9 +40,9 @@ large : (k a d : ℕ) → 10 ^ k * d < a → settled (Some (10 ^ k)) a d ≡ Err
 large k a d l = rw (is_lt (10 ^ k * d) a l) refl
 
 fine : (k a d : ℕ) → (10 ^ k * d < a → ⊥) → ((f : ℕ) → a ≡ f * d → ⊥) → settled (Some (10 ^ k)) a d ≡ Err TooFine
-fine k a d l none = elim (either (nat_lt (10 ^ k * d) a)) [
+fine k a d l none = elim (cases_Bool (nat_lt (10 ^ k * d) a)) [
   | inl t ↦ absurd (l (grind (arith, t)))
-  | inr f ↦ elim (either (a % d == 0)) [
+  | inr f ↦ elim (cases_Bool (a % d == 0)) [
     | inl z ↦ let zero_is : a % d ≡ 0 = (Decides-eqb (a % d) 0).0 z in let split : a % d + a / d * d ≡ a = mod-add-div' a d in absurd (none (a / d) (omega (arith, split, zero_is)))
     | inr n ↦ rw (f, n) refl
   ]

@@ -1,5 +1,7 @@
 -- The cards of a written text make the netlist again.
 use Rattle.std.proofs.Common.{◌≡◌, inl, inr, ℕ, zero, suc, ◌+◌, ◌<◌, ◌==◌, Bool, true, false, ◌||◌, not, List, [], ◌∷◌, ◌++◌, map, take, length, Option, Some, None, refl, sym, ap, subst, ◌∙◌, append_assoc, arith, true≢false}
+use Rattle.base_laws.proofs.Items.{item_at, map_to, map_from}
+use Rattle.std.proofs.lemmas.Bool.{cases_Bool}
 use Rattle.std.specs.Prelude.{flat_map, slice_get, if◌then◌else◌}
 use Rattle.std.specs.Str.{bytes_eq}
 use Rattle.std.proofs.lemmas.Bool.Decides.{Decides-eqb}
@@ -11,7 +13,7 @@ use Rattle.plain_netlist.specs.Lists.{IsListed, AreApart}
 use Rattle.plain_netlist.specs.Netlist as plain
 use Rattle.plain_netlist.specs.Normal as normal
 use Rattle.plain_netlist.specs.Sound as sound
-use Rattle.plain_netlist.proofs.Members.{listed, position, item_at, map_at, from_map, in_left, in_right, in_all}
+use Rattle.plain_netlist.proofs.Members.{listed, position, in_left, in_right, in_all}
 use Rattle.plain_netlist.proofs.Numbered.{below_total}
 use Rattle.net_model.specs.Faults as model
 use Rattle.net_model.specs.Tests.{has_twins}
@@ -25,7 +27,6 @@ use Rattle.spice_text.specs.Needs.{first_seen, device_nets}
 use Rattle.spice_text.specs.Means.{call_names, appearances, net_names, device_row, call_row, row_over, circuit_row, rows_from, IsNetlistOf, Means}
 use Rattle.spice_text.specs.Laws.{IsName, IsWritable, WrittenMeansLaw, ReadAgainLaw}
 use Rattle.spice_text.specs.Written.{or_empty, name_in, IsWritten}
-use Rattle.spice_text.proofs.SearchLemmas.{either}
 use Rattle.spice_text.proofs.PinLemmas.{place_at, has_listed, unseen_behind}
 use Rattle.spice_text.specs.Cards.{kind_of}
 use Rattle.spice_text.proofs.RowLemmas.{AreNames, name_at, AreSizesUnder, device_card}
@@ -72,7 +73,7 @@ pins_apart c one h = ap (λ (t : Bool). not t) (no_twins [] (map (name_at c.nets
   where
     at : (a : ℕ) (name : List ℕ) → slice_get (map (name_at c.nets) c.pins) a ≡ Some name → slice_get c.nets a ≡ Some name
     at a name e =
-        let p = from_map (name_at c.nets) c.pins a name e in
+        let p = map_from (name_at c.nets) c.pins a name e in
         let is = h.pins a p.0 p.1 in
         let low = below_total (length c.nets) 0 (normal.appearances c) h.numbered p.0
         (in_left c.pins (flat_map normal.terminal_nets c.devices ++ flat_map (λ (r : plain.CallRow). r.nets) c.calls) p.0 (listed c.pins a p.0 p.1)) in
@@ -94,7 +95,7 @@ get_at (s ∷ ss) rest r = get_at ss rest r
 
 not_seen : (seen rest : List (List ℕ)) (r : List ℕ) → AreApart (seen ++ r ∷ rest) → has_text seen r ≡ false
 not_seen [] rest r a = refl
-not_seen (s ∷ ss) rest r a = elim (either (bytes_eq r s)) [
+not_seen (s ∷ ss) rest r a = elim (cases_Bool (bytes_eq r s)) [
   | inl t ↦ absurd (a.0 (subst (λ (x : List ℕ). IsListed x (ss ++ r ∷ rest)) ((bytes_eq-Decides r s).0 t) (in_right ss (r ∷ rest) r (inl refl))))
   | inr f ↦ rw f (not_seen ss rest r a.1)
 ]
@@ -255,8 +256,8 @@ lists_same names cs (c ∷ xs) n h =
 
 circuits_apart : (nl : plain.Netlist) → sound.IsSoundNetlist nl → AreApart (map (λ (c : plain.Circuit). c.name) nl.circuits)
 circuits_apart nl s = apart_from (map (λ (c : plain.Circuit). c.name) nl.circuits) (λ a b name p q.
-    let x = from_map (λ (c : plain.Circuit). c.name) nl.circuits a name p in
-    let y = from_map (λ (c : plain.Circuit). c.name) nl.circuits b name q in
+    let x = map_from (λ (c : plain.Circuit). c.name) nl.circuits a name p in
+    let y = map_from (λ (c : plain.Circuit). c.name) nl.circuits b name q in
     s.names a b x.0 y.0 x.1 y.1 (x.2 ∙ sym y.2))
 
 -- the place of a called circuit's name is its number
@@ -268,7 +269,7 @@ called_back nl c t s h r i =
     let d = s.calls t k.0 r (c, h, k.1) in
     ap (λ (o : Option plain.Circuit). place_of names (name_in o)) d.1
     ∙ sym (no_nil names d.0.name)
-    ∙ place_at names [] r.circuit d.0.name (circuits_apart nl s) (map_at (λ (x : plain.Circuit). x.name) nl.circuits r.circuit d.0 d.1)
+    ∙ place_at names [] r.circuit d.0.name (circuits_apart nl s) (map_to (λ (x : plain.Circuit). x.name) nl.circuits r.circuit d.0 d.1)
 
 -- ---- what the text's lines ask
 
@@ -330,7 +331,7 @@ seen_name : (ks : List Circuit) (j : ℕ) (name : List ℕ) → has_text (names_
 seen_name [] zero name h = absurd (let z : false ≡ true = h in true≢false (sym z))
 seen_name [] (suc j) name h = absurd (let z : false ≡ true = h in true≢false (sym z))
 seen_name (d ∷ ks) zero name h = absurd (let z : false ≡ true = h in true≢false (sym z))
-seen_name (d ∷ ks) (suc j) name h = elim (either (bytes_eq name d.name)) [
+seen_name (d ∷ ks) (suc j) name h = elim (cases_Bool (bytes_eq name d.name)) [
   | inl t ↦ (0, omega arith, d, refl, (bytes_eq-Decides name d.name).0 t)
   | inr f ↦ let g : (bytes_eq name d.name || has_text (names_of (take j ks)) name) ≡ true = h in
       let r = seen_name ks j name (sym (ap (λ (b : Bool). b || has_text (names_of (take j ks)) name) f) ∙ g) in
@@ -369,7 +370,7 @@ no_missing nl s line (c, lc, (r, lr, shows, at)) =
     let name : r.circuit ≡ d.0.name = ap (λ (z : CallCard). z.circuit) p.7 ∙ ap name_in d.1 in
     let m = card_of nl.circuits nl.circuits 2 p.3.circuit d.0 d.1 in
     let named : IsListed r.circuit (names_of (cards nl)) = subst (λ (z : List ℕ). IsListed z (names_of (cards nl))) (sym name)
-    (listed (names_of (cards nl)) p.3.circuit d.0.name (map_at (λ (z : Circuit). z.name) (cards nl) p.3.circuit (circuit_card nl.circuits m.0 d.0) m.1)) in
+    (listed (names_of (cards nl)) p.3.circuit d.0.name (map_to (λ (z : Circuit). z.name) (cards nl) p.3.circuit (circuit_card nl.circuits m.0 d.0) m.1)) in
     not_not (has_text (names_of (cards nl)) r.circuit) (has_listed (names_of (cards nl)) r.circuit named) shows
 
 no_other_count : (nl : plain.Netlist) → sound.IsSoundNetlist nl → Lacks (HasCall (cards nl) (is_other_count (cards nl)))

@@ -1,5 +1,6 @@
 -- The calls of circuits by number.
 use Rattle.std.proofs.Common.{◌≡◌, inl, inr, ℕ, zero, suc, ◌<◌, Bool, true, ◌||◌, List, [], ◌∷◌, map, length, Option, Some, None, refl, sym, subst, ap, ◌∙◌, arith}
+use Rattle.std.proofs.lemmas.Bool.{cases_Bool}
 use Rattle.std.specs.Prelude.{slice_get, slice_index_or, get_or}
 use Rattle.std.specs.List.{list_any, position_or_len}
 use Rattle.std.proofs.lemmas.List.{length-map}
@@ -14,7 +15,6 @@ use Rattle.std.specs.Global.{Vec}
 use Rattle.call_order.specs.Order.{lists}
 use Rattle.spice_text.specs.declared.gather.CircuitCards.{CircuitCards}
 use Rattle.spice_text.specs.Seen.{circuit_seen}
-use Rattle.spice_text.proofs.SearchLemmas.{either}
 use Rattle.spice_rows.specs.declared.fault.SpiceFault.{SpiceFault}
 use Rattle.spice_rows.specs.declared.fault.SpiceFault.TheVariants.{NameClash, NoSuchCircuit, PinCount, CircuitCycle, NoMemory}
 
@@ -26,7 +26,7 @@ listed_map f (x ∷ xs) b (inr h) = let r = listed_map f xs b h in (r.0, inr r.1
 
 pub place_lt : (p : List ℕ → Bool) (texts : List (List ℕ)) → list_any p texts ≡ true → position_or_len p texts < length texts
 place_lt p [] t = let z : ⊥ = cc in absurd z
-place_lt p (x ∷ xs) t = elim (either (p x)) [
+place_lt p (x ∷ xs) t = elim (cases_Bool (p x)) [
   | inl y ↦ rw y (omega arith)
   | inr n ↦ rw n (let l = place_lt p xs (let e : (p x || list_any p xs) ≡ true = t in sym (ap (λ (b : Bool). b || list_any p xs) n) ∙ e) in omega arith)
 ]
@@ -40,7 +40,7 @@ row_at g (c ∷ cs) zero b h = (c, refl, inl refl, h)
 row_at g (c ∷ cs) (suc a) b h = let r = row_at g cs a b h in (r.0, r.1, inr r.2, r.3)
 
 pub is_there : (cs : List Circuit) (c : Circuit) (r : CallCard) → Lacks (HasCall cs (is_missing cs)) → IsListed c cs → IsListed r c.calls → has_text (names_of cs) r.circuit ≡ true
-is_there cs c r none at in_it = elim (either (has_text (names_of cs) r.circuit)) [
+is_there cs c r none at in_it = elim (cases_Bool (has_text (names_of cs) r.circuit)) [
   | inl t ↦ t
   | inr f ↦ absurd (none r.line (c, at, (r, in_it, (rw f refl), refl)))
 ]

@@ -1,5 +1,6 @@
 -- The tests of devices for their cards.
-use Rattle.std.proofs.Common.{◌≡◌, ℕ, zero, suc, ◌==◌, ◌&&◌, ◌<◌, Bool, true, false, List, [], ◌∷◌, drop, length, Some, slice_get, refl, subst, arith}
+use Rattle.std.proofs.Common.{◌≡◌, ℕ, zero, suc, ◌==◌, ◌&&◌, ◌<◌, Bool, true, List, [], ◌∷◌, drop, length, Some, slice_get, refl, subst, arith}
+use Rattle.std.proofs.lemmas.Bool.{and_parts, and_from, eq-eqb}
 use Rattle.std.specs.Prelude.{Decides, nat_lt}
 use Rattle.std.specs.List.{list_all}
 use Rattle.std.proofs.lemmas.Bool.Decides.{Decides-eqb}
@@ -13,47 +14,37 @@ pub longer : (class : List ℕ) → nat_lt 1 (length class) ≡ nat_lt 0 (length
 longer [] = refl
 longer (b ∷ class) = grind arith
 
-split_and : (a b : Bool) → (a && b) ≡ true → (a ≡ true) × (b ≡ true)
-split_and true b e = (refl, e)
-split_and false b e = absurd cc
-
-join_and : (a b : Bool) → a ≡ true → b ≡ true → (a && b) ≡ true
-join_and a b e f = rw (e, f) refl
-
 card_said : (kind : Kind) (d : DeviceRow) → fits_card kind d ≡ true → FitsCard kind d
 card_said Transistor d e = tt
 card_said Resistor d e =
-    let p = split_and (d.gate == d.bulk) (nat_lt 0 (length (shown_class Resistor d.class))) e in
+    let p = and_parts (d.gate == d.bulk) (nat_lt 0 (length (shown_class Resistor d.class))) e in
     let less = p.1 in
     ((Decides-eqb d.gate d.bulk).0 p.0, grind (arith, less))
 card_said Diode d e =
-    let p = split_and ((d.source == d.drain) && (d.gate == d.bulk)) (nat_lt 0 (length (shown_class Diode d.class))) e in
-    let q = split_and (d.source == d.drain) (d.gate == d.bulk) p.0 in
+    let p = and_parts ((d.source == d.drain) && (d.gate == d.bulk)) (nat_lt 0 (length (shown_class Diode d.class))) e in
+    let q = and_parts (d.source == d.drain) (d.gate == d.bulk) p.0 in
     let less = p.1 in
     ((Decides-eqb d.source d.drain).0 q.0, (Decides-eqb d.gate d.bulk).0 q.1, grind (arith, less))
 
 less_is : (n : ℕ) → 0 < n → nat_lt 0 n ≡ true
 less_is n h = grind (arith, h)
 
-same_is : (m n : ℕ) → m ≡ n → (m == n) ≡ true
-same_is m n e = (Decides-eqb m n).1 e
-
 card_meant : (kind : Kind) (d : DeviceRow) → FitsCard kind d → fits_card kind d ≡ true
 card_meant Transistor d h = refl
 card_meant Resistor d h =
-    join_and (d.gate == d.bulk) (nat_lt 0 (length (shown_class Resistor d.class))) (same_is d.gate d.bulk h.0) (less_is (length (shown_class Resistor d.class)) h.1)
+    and_from (d.gate == d.bulk) (nat_lt 0 (length (shown_class Resistor d.class))) (eq-eqb d.gate d.bulk h.0) (less_is (length (shown_class Resistor d.class)) h.1)
 card_meant Diode d h =
-    join_and ((d.source == d.drain) && (d.gate == d.bulk)) (nat_lt 0 (length (shown_class Diode d.class)))
-    (join_and (d.source == d.drain) (d.gate == d.bulk) (same_is d.source d.drain h.0) (same_is d.gate d.bulk h.1)) (less_is (length (shown_class Diode d.class)) h.2)
+    and_from ((d.source == d.drain) && (d.gate == d.bulk)) (nat_lt 0 (length (shown_class Diode d.class)))
+    (and_from (d.source == d.drain) (d.gate == d.bulk) (eq-eqb d.source d.drain h.0) (eq-eqb d.gate d.bulk h.1)) (less_is (length (shown_class Diode d.class)) h.2)
 
 all_at : {X : Type 0} (p : X → Bool) (xs : List X) → list_all p xs ≡ true → (i : ℕ) (x : X) → slice_get xs i ≡ Some x → p x ≡ true
 all_at p [] h i x e = absurd (none-some x e)
-all_at p (y ∷ ys) h zero x e = subst (λ z. p z ≡ true) (same_Some y x e) (split_and (p y) (list_all p ys) h).0
-all_at p (y ∷ ys) h (suc i) x e = all_at p ys (split_and (p y) (list_all p ys) h).1 i x e
+all_at p (y ∷ ys) h zero x e = subst (λ z. p z ≡ true) (same_Some y x e) (and_parts (p y) (list_all p ys) h).0
+all_at p (y ∷ ys) h (suc i) x e = all_at p ys (and_parts (p y) (list_all p ys) h).1 i x e
 
 at_all : {X : Type 0} (p : X → Bool) (xs : List X) → ((i : ℕ) (x : X) → slice_get xs i ≡ Some x → p x ≡ true) → list_all p xs ≡ true
 at_all p [] h = refl
-at_all p (y ∷ ys) h = join_and (p y) (list_all p ys) (h 0 y refl) (at_all p ys (λ i x e. h (suc i) x e))
+at_all p (y ∷ ys) h = and_from (p y) (list_all p ys) (h 0 y refl) (at_all p ys (λ i x e. h (suc i) x e))
 
 pub tested : (cs : List Circuit) → Decides (list_all fits_circuit cs) (FitCircuits cs)
 tested cs = (

@@ -1,5 +1,6 @@
 -- The table of needs, row by row in an order of calls.
 use Rattle.std.proofs.Common.{◌≡◌, ◌≢◌, ◌⊎◌, inl, inr, ℕ, zero, suc, ◌+◌, ◌<◌, Bool, true, false, ◌||◌, ◌&&◌, not, List, [], ◌∷◌, ◌++◌, map, take, set, length, Option, Some, refl, sym, subst, ap, ◌∙◌, arith}
+use Rattle.std.proofs.lemmas.Bool.{or_cases, or_right, cases_Bool}
 use Rattle.std.specs.Prelude.{slice_get, slice_index_or, get_or}
 use Rattle.std.specs.Global.{Vec}
 use Rattle.std.specs.List.{list_any}
@@ -17,7 +18,6 @@ use Rattle.spice_text.specs.Needs.{first_seen, used_nets, is_pin, is_used, pin_i
 use Rattle.spice_text.specs.Table.{has_number, has_need, needed_below, IsRow, IsNeedRow, IsRowSet, needs_at, AreSettled, IsNeedTable}
 use Rattle.spice_text.specs.declared.gather.CircuitCards.{CircuitCards}
 use Rattle.spice_text.specs.Seen.{circuit_seen}
-use Rattle.spice_text.proofs.SearchLemmas.{either}
 use Rattle.spice_text.proofs.CallLemmas.{row_at}
 
 -- ---- names seen one after another
@@ -31,13 +31,13 @@ or_false true = refl
 or_false false = refl
 
 more_has : (seen : List (List ℕ)) (n g : List ℕ) → has_text (with_text seen n) g ≡ (has_text seen g || (bytes_eq g n || false))
-more_has seen n g = elim (either (has_text seen n)) [
+more_has seen n g = elim (cases_Bool (has_text seen n)) [
   | inl t ↦ rw t (there t)
   | inr f ↦ rw f (list_any-append (bytes_eq g) seen (n ∷ []))
 ]
   where
     there : has_text seen n ≡ true → has_text seen g ≡ (has_text seen g || (bytes_eq g n || false))
-    there t = elim (either (bytes_eq g n)) [
+    there t = elim (cases_Bool (bytes_eq g n)) [
       | inl y ↦ let e : g ≡ n = (bytes_eq-Decides g n).0 y in let h : has_text seen g ≡ true = subst (λ (x : List ℕ). has_text seen x ≡ true) (sym e) t in rw h refl
       | inr z ↦ rw z (or_false (has_text seen g))
     ]
@@ -94,7 +94,7 @@ last_or (z ∷ zs) x y (inr h) = elim (last_or zs x y h) [ inl l ↦ inl (inr l)
 
 pub listed_any : {A : Type 0} (p : A → Bool) (xs : List A) → list_any p xs ≡ true → (x : A) × IsListed x xs × (p x ≡ true)
 listed_any p [] t = let z : ⊥ = cc in absurd z
-listed_any p (y ∷ ys) t = elim (either (p y)) [
+listed_any p (y ∷ ys) t = elim (cases_Bool (p y)) [
   | inl h ↦ (y, inl refl, h)
   | inr f ↦ let e : (p y || list_any p ys) ≡ true = t in let r = listed_any p ys (sym (ap (λ (b : Bool). b || list_any p ys) f) ∙ e) in (r.0, inr r.1, r.2)
 ]
@@ -102,7 +102,7 @@ listed_any p (y ∷ ys) t = elim (either (p y)) [
 pub any_listed : {A : Type 0} (p : A → Bool) (xs : List A) (x : A) → IsListed x xs → p x ≡ true → list_any p xs ≡ true
 any_listed p [] x h t = absurd h
 any_listed {A = A} p (y ∷ ys) x (inl e) t = let h : p y ≡ true = subst (λ (z : A). p z ≡ true) e t in rw h refl
-any_listed p (y ∷ ys) x (inr l) t = let r = any_listed p ys x l t in elim (either (p y)) [ inl h ↦ rw h refl | inr f ↦ rw f r ]
+any_listed p (y ∷ ys) x (inr l) t = let r = any_listed p ys x l t in elim (cases_Bool (p y)) [ inl h ↦ rw h refl | inr f ↦ rw f r ]
 
 any_same : {A : Type 0} (p q : A → Bool) (xs : List A) → ((x : A) → IsListed x xs → p x ≡ q x) → list_any p xs ≡ list_any q xs
 any_same p q [] h = refl
@@ -229,14 +229,6 @@ of_and : (p : Bool) (q : Bool) → (not p && q) ≡ true → (p ≡ false) × (q
 of_and true q e = let z : ⊥ = cc in absurd z
 of_and false q e = (refl, e)
 
-of_or : (p : Bool) (q : Bool) → (p || q) ≡ true → (p ≡ true) ⊎ (q ≡ true)
-of_or true q e = inl refl
-of_or false q e = inr e
-
-pub right_or : (p : Bool) (q : Bool) → q ≡ true → (p || q) ≡ true
-right_or true q e = refl
-right_or false q e = e
-
 up : (cs : List Circuit) (globals : List (List ℕ)) (order : List ℕ) (rows : List (List ℕ)) (j : ℕ) (g : List ℕ) → IsCallOrder (call_lists cs) order → AreSettled cs globals order rows → slice_get globals j ≡ Some g
     → (via : List ℕ) (k end : ℕ) → IsChain (Passes cs g) k via end → is_pin cs g end ≡ false → is_used cs g end ≡ true → has_need rows k j ≡ true
 up cs globals order rows j g o s is [] k end c p u =
@@ -245,14 +237,14 @@ up cs globals order rows j g o s is (b ∷ via) k end c p u =
     let below = up cs globals order rows j g o s is via b end c.1 p u in
     let any : needed_below rows (slice_index_or (call_lists cs) k []) j ≡ true = any_listed (λ (d : ℕ). has_need rows d j) (slice_index_or (call_lists cs) k []) b c.0.1 below in
     let free = c.0.0 in
-    s.each k j g (o.all k (let l = calls_lt cs k b c.0.1 in let n = count_lists cs in omega arith)) is ∙ rw free (right_or (is_used cs g k) (needed_below rows (slice_index_or (call_lists cs) k []) j) any)
+    s.each k j g (o.all k (let l = calls_lt cs k b c.0.1 in let n = count_lists cs in omega arith)) is ∙ rw free (or_right (is_used cs g k) (needed_below rows (slice_index_or (call_lists cs) k []) j) any)
 
 down : (cs : List Circuit) (globals : List (List ℕ)) (order : List ℕ) (rows : List (List ℕ)) (j : ℕ) (g : List ℕ) → IsCallOrder (call_lists cs) order → AreSettled cs globals order rows → slice_get globals j ≡ Some g
     → (n i k : ℕ) → i < n → slice_get order i ≡ Some k → has_need rows k j ≡ true → Needs cs g k
 down cs globals order rows j g o s is zero i k l at h = absurd (omega arith)
 down cs globals order rows j g o s is (suc n) i k l at h =
     let says = of_and (is_pin cs g k) (is_used cs g k || needed_below rows (slice_index_or (call_lists cs) k []) j) (sym (s.each k j g (get_listed order i k at) is) ∙ h) in
-    elim (of_or (is_used cs g k) (needed_below rows (slice_index_or (call_lists cs) k []) j) says.1) [
+    elim (or_cases (is_used cs g k) (needed_below rows (slice_index_or (call_lists cs) k []) j) says.1) [
       | inl u ↦ record { via = []; end = k; chain = refl; listed = says.0; used = u }
       | inr a ↦
           let b = listed_any (λ (d : ℕ). has_need rows d j) (slice_index_or (call_lists cs) k []) a in

@@ -1,5 +1,6 @@
 -- The nets of a circuit's row are numbered as they first appear.
 use Rattle.std.proofs.Common.{◌≡◌, inl, inr, ℕ, zero, suc, ◌+◌, Bool, true, false, ◌||◌, List, [], ◌∷◌, ◌++◌, map, length, Some, refl, sym, subst, ap, ◌∙◌, arith, append_assoc}
+use Rattle.std.proofs.lemmas.Bool.{cases_Bool}
 use Rattle.std.specs.Prelude.{flat_map, slice_get}
 use Rattle.std.specs.List.{list_any, position_or_len}
 use Rattle.std.specs.Str.{bytes_eq}
@@ -12,34 +13,33 @@ use Rattle.spice_rows.specs.Rows.{DeviceCard, CallCard}
 use Rattle.spice_text.specs.Gather.{Circuit}
 use Rattle.spice_text.specs.Needs.{first_seen, device_nets}
 use Rattle.spice_text.specs.Means.{call_names, appearances, net_names, device_row, call_row, row_over, circuit_row, rows_from}
-use Rattle.spice_text.proofs.SearchLemmas.{either}
 use Rattle.spice_text.proofs.CallLemmas.{place_lt}
 
 -- what was seen stays in front
 pub more : (seen ns : List (List ℕ)) → (extra : List (List ℕ)) × (first_seen seen ns ≡ seen ++ extra)
 more seen [] = ([], sym (append-nil seen))
-more seen (n ∷ ns) = elim (either (has_text seen n)) [
+more seen (n ∷ ns) = elim (cases_Bool (has_text seen n)) [
   | inl t ↦ rw t (more seen ns)
   | inr f ↦ let r = more (seen ++ n ∷ []) ns in rw f (n ∷ r.0, r.1 ∙ append_assoc seen (n ∷ []) r.0)
 ]
 
 place_front : (p : List ℕ → Bool) (xs ys : List (List ℕ)) → list_any p xs ≡ true → position_or_len p (xs ++ ys) ≡ position_or_len p xs
 place_front p [] ys t = let z : ⊥ = cc in absurd z
-place_front p (x ∷ xs) ys t = elim (either (p x)) [
+place_front p (x ∷ xs) ys t = elim (cases_Bool (p x)) [
   | inl y ↦ rw y refl
   | inr f ↦ let e : (p x || list_any p xs) ≡ true = t in let r = place_front p xs ys (sym (ap (λ (b : Bool). b || list_any p xs) f) ∙ e) in rw f (ap (λ (n : ℕ). 1 + n) r)
 ]
 
 place_new : (p : List ℕ → Bool) (xs ys : List (List ℕ)) (x : List ℕ) → list_any p xs ≡ false → p x ≡ true → position_or_len p (xs ++ x ∷ ys) ≡ length xs
 place_new p [] ys x f t = rw t refl
-place_new p (y ∷ xs) ys x f t = elim (either (p y)) [
+place_new p (y ∷ xs) ys x f t = elim (cases_Bool (p y)) [
   | inl h ↦ let z : ⊥ = (let e : (p y || list_any p xs) ≡ false = f in let g : (true || list_any p xs) ≡ false = sym (ap (λ (b : Bool). b || list_any p xs) h) ∙ e in cc) in absurd z
   | inr h ↦ let e : (p y || list_any p xs) ≡ false = f in let r = place_new p xs ys x (sym (ap (λ (b : Bool). b || list_any p xs) h) ∙ e) t in rw h (let q : 1 + position_or_len p (xs ++ x ∷ ys) ≡ suc (length xs) = omega arith in q)
 ]
 
 pub numbered : (total seen ns : List (List ℕ)) → total ≡ first_seen seen ns → normal.AreNumbered (length total) (length seen) (map (place_of total) ns)
 numbered total seen [] e = ap (λ (xs : List (List ℕ)). length xs) (sym e)
-numbered total seen (n ∷ ns) e = elim (either (has_text seen n)) [
+numbered total seen (n ∷ ns) e = elim (cases_Bool (has_text seen n)) [
   | inl t ↦
       let e1 : total ≡ first_seen seen ns = e ∙ ap (λ (s : List (List ℕ)). first_seen s ns) (let w : with_text seen n ≡ seen = rw t refl in w) in
       let m = more seen ns in

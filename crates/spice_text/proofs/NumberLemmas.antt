@@ -1,5 +1,7 @@
 -- The numbers of the global names that a circuit needs.
 use Rattle.std.proofs.Common.{◌≡◌, inl, inr, ℕ, zero, suc, ◌+◌, ◌<◌, ◌==◌, Bool, true, false, ◌||◌, ◌&&◌, not, cond, List, [], ◌∷◌, ◌++◌, length, Option, Some, refl, sym, subst, ap, ◌∙◌, arith, true≢false}
+use Rattle.base_laws.proofs.Tests.{or_assoc}
+use Rattle.std.proofs.lemmas.Bool.{cases_Bool}
 use Rattle.std.specs.Prelude.{flat_map, slice_get, slice_index_or, nat_lt, nat_eq}
 use Rattle.std.specs.List.{filter, dedup, dedup_from}
 use Rattle.std.specs.List.Sorted.{IsPermutation, IsStrictlyIncreasing}
@@ -17,7 +19,6 @@ use Rattle.spice_rows.specs.Rows.{CallCard}
 use Rattle.spice_text.specs.Gather.{Circuit}
 use Rattle.spice_text.specs.Needs.{first_seen, device_nets, call_nets, used_nets}
 use Rattle.spice_text.specs.Table.{has_number, with_number, with_numbers, with_calls, rows_of, is_not_pin, is_free, has_need, needed_below, IsNeedRow}
-use Rattle.spice_text.proofs.SearchLemmas.{either}
 use Rattle.spice_text.proofs.NeedLemmas.{all_has, or_false}
 use Rattle.spice_text.proofs.PinLemmas.{place_at}
 
@@ -36,10 +37,6 @@ numbers_used globals c = numbers_calls globals (with_numbers globals [] (flat_ma
 
 -- ---- which numbers there are
 
-or_assoc : (a b c : Bool) → ((a || b) || c) ≡ (a || (b || c))
-or_assoc true b c = refl
-or_assoc false b c = refl
-
 get_within : {A : Type 0} (xs : List A) (i : ℕ) (x : A) → slice_get xs i ≡ Some x → i < length xs
 get_within [] i x e = let z : ⊥ = cc in absurd z
 get_within (y ∷ ys) zero x e = omega arith
@@ -48,7 +45,7 @@ get_within (y ∷ ys) (suc i) x e = let l = get_within ys i x e in omega arith
 -- the place of a text that is there has it
 place_has : (xs : List (List ℕ)) (n : List ℕ) → place_of xs n < length xs → slice_get xs (place_of xs n) ≡ Some n
 place_has [] n l = absurd (omega arith)
-place_has (x ∷ xs) n l = elim (either (bytes_eq n x)) [
+place_has (x ∷ xs) n l = elim (cases_Bool (bytes_eq n x)) [
   | inl t ↦ rw t (ap (λ (y : List ℕ). let o : Option (List ℕ) = Some y in o) (sym ((bytes_eq-Decides n x).0 t)))
   | inr f ↦
       let q : 1 + place_of xs n < suc (length xs) = subst (λ (b : Bool). cond (not b) (1 + place_of xs n) 0 < suc (length xs)) f l in
@@ -57,9 +54,9 @@ place_has (x ∷ xs) n l = elim (either (bytes_eq n x)) [
 ]
 
 one_number : (globals : List (List ℕ)) (out : List ℕ) (n : List ℕ) (j : ℕ) (g : List ℕ) → AreApart globals → slice_get globals j ≡ Some g → has_number (with_number globals out n) j ≡ (has_number out j || bytes_eq g n)
-one_number globals out n j g a is = elim (either (bytes_eq g n)) [
+one_number globals out n j g a is = elim (cases_Bool (bytes_eq g n)) [
   | inl t ↦ rw t (there ((bytes_eq-Decides g n).0 t))
-  | inr f ↦ rw f (elim (either (nat_lt (place_of globals n) (length globals))) [
+  | inr f ↦ rw f (elim (cases_Bool (nat_lt (place_of globals n) (length globals))) [
     | inl l ↦ rw l (list_any-append (λ (i : ℕ). i == j) out (place_of globals n ∷ []) ∙ ap (λ (b : Bool). has_number out j || (b || false)) (other (grind (arith, l)) f))
     | inr m ↦ rw m (or_false (has_number out j))
   ])
@@ -74,7 +71,7 @@ one_number globals out n j g a is = elim (either (bytes_eq g n)) [
         rw l (list_any-append (λ (i : ℕ). i == j) out (place_of globals n ∷ []) ∙ ap (λ (b : Bool). has_number out j || (b || false)) same)
 
     other : place_of globals n < length globals → bytes_eq g n ≡ false → (place_of globals n == j) ≡ false
-    other l f = elim (either (place_of globals n == j)) [
+    other l f = elim (cases_Bool (place_of globals n == j)) [
       | inl t ↦
           let p : place_of globals n ≡ j = (Decides-eqb (place_of globals n) j).0 t in
           let at : slice_get globals j ≡ Some n = subst (λ (i : ℕ). slice_get globals i ≡ Some n) p (place_has globals n l) in
@@ -100,7 +97,7 @@ or_twice false b = refl
 
 kept_from : (j k : ℕ) (xs : List ℕ) → has_number (dedup_from nat_eq k xs) j ≡ ((k == j) || has_number xs j)
 kept_from j k [] = refl
-kept_from j k (x ∷ xs) = elim (either (nat_eq x k)) [
+kept_from j k (x ∷ xs) = elim (cases_Bool (nat_eq x k)) [
   | inl t ↦
       let e : x ≡ k = (Decides-eqb x k).0 t in
       rw t (kept_from j k xs ∙ or_twice (k == j) (has_number xs j) ∙ ap (λ (y : ℕ). (k == j) || ((y == j) || has_number xs j)) (sym e))

@@ -1,5 +1,6 @@
 -- What holds of the name and the pins of each card that opens a circuit holds of those of each circuit of the cards.
 use Rattle.std.proofs.Common.{◌≡◌, inl, inr, ℕ, ◌==◌, Bool, true, false, not, List, [], ◌∷◌, Option, Some, None, Result, Ok, Err, IfOk, refl, sym, subst}
+use Rattle.std.proofs.lemmas.Bool.{cases_Bool}
 use Rattle.std.specs.Prelude.{codes, is_some}
 use Rattle.std.specs.List.{list_any}
 use Rattle.plain_netlist.specs.Lists.{IsListed}
@@ -15,7 +16,6 @@ use Rattle.spice_rows.specs.Rows.{CardRow, Opens, Ends, Globals, Stops, Passed, 
 use Rattle.spice_rows.specs.declared.fault.SpiceFault.{SpiceFault}
 use Rattle.spice_text.specs.Gather.{Circuit, Cards, no_cards, closed, changed, or_top, with_row, with_devices, with_call, read_on, reading, reading_of, early_or}
 use Rattle.spice_text.specs.Circuits.{all_of}
-use Rattle.spice_text.proofs.SearchLemmas.{either}
 use Rattle.spice_text.proofs.NeedLemmas.{last_or}
 
 -- a card that opens a circuit has names that its words spell, its pins apart
@@ -34,7 +34,7 @@ module _ (P : List ℕ → List (List ℕ) → Type 0) (opens : (words : List (L
   open_opened line true names ps h = record {}
   open_opened line false None ps h = record {}
   open_opened line false (Some []) ps h = record {}
-  open_opened line false (Some (n ∷ pins)) ps h = elim (either (are_apart pins)) [
+  open_opened line false (Some (n ∷ pins)) ps h = elim (cases_Bool (are_apart pins)) [
     | inl t ↦ rw t (no_params_opened line ps n pins (h n pins refl t))
     | inr f ↦ rw f (record {})
   ]
@@ -62,15 +62,15 @@ module _ (P : List ℕ → List (List ℕ) → Type 0) (opens : (words : List (L
 
   device_opened : (limit : Option Limits) (kind : Kind) (line : ℕ) (names : Option (List (List ℕ))) (ps : List Param) → IfOk (rows.device_row limit kind line names ps) Opened
   device_opened limit kind line None ps = record {}
-  device_opened limit kind line (Some names) ps = elim (either (rows.is_formed kind names ps)) [
-    | inl t ↦ rw t (elim (either (list_any (is_refused kind) ps)) [ inl t ↦ rw t (record {}) | inr g ↦ rw g (device_of_opened line (copies_of ps) kind names (sizes_of limit kind ps)) ])
+  device_opened limit kind line (Some names) ps = elim (cases_Bool (rows.is_formed kind names ps)) [
+    | inl t ↦ rw t (elim (cases_Bool (list_any (is_refused kind) ps)) [ inl t ↦ rw t (record {}) | inr g ↦ rw g (device_of_opened line (copies_of ps) kind names (sizes_of limit kind ps)) ])
     | inr f ↦ rw f (record {})
   ]
 
   call_opened : (line : ℕ) (names : Option (List (List ℕ))) (ps : List Param) → IfOk (rows.call_row line names ps) Opened
   call_opened line None ps = record {}
   call_opened line (Some []) ps = record {}
-  call_opened line (Some (n ∷ ns)) ps = elim (either (list_any (λ p. not (is_one p)) ps)) [ inl t ↦ rw t (record {}) | inr f ↦ rw f (record {}) ]
+  call_opened line (Some (n ∷ ns)) ps = elim (cases_Bool (list_any (λ p. not (is_one p)) ps)) [ inl t ↦ rw t (record {}) | inr f ↦ rw f (record {}) ]
 
   end_opened : (line : ℕ) (open_too : Bool) (names : Option (List (List ℕ))) (ps : List Param) → IfOk (rows.end_row line open_too names ps) Opened
   end_opened line false names ps = record {}
@@ -93,19 +93,19 @@ module _ (P : List ℕ → List (List ℕ) → Type 0) (opens : (words : List (L
   stop_opened line (w ∷ ws) ps = record {}
 
   row_opened : (limit : Option Limits) (line : ℕ) (open_too : Bool) (first : List ℕ) (words : List (List ℕ)) (ps : List Param) → IfOk (rows.row_of limit line open_too first words ps) Opened
-  row_opened limit line open_too first words ps = elim (either (rows.begin first == 0x4D)) [
+  row_opened limit line open_too first words ps = elim (cases_Bool (rows.begin first == 0x4D)) [
     | inl t ↦ rw t (device_opened limit Transistor line (names_of words) ps)
-    | inr f ↦ rw f (elim (either (rows.begin first == 0x52)) [
+    | inr f ↦ rw f (elim (cases_Bool (rows.begin first == 0x52)) [
       | inl t ↦ rw t (device_opened limit Resistor line (names_of words) ps)
-      | inr f ↦ rw f (elim (either (rows.begin first == 0x44)) [
+      | inr f ↦ rw f (elim (cases_Bool (rows.begin first == 0x44)) [
         | inl t ↦ rw t (device_opened limit Diode line (names_of words) ps)
-        | inr f ↦ rw f (elim (either (rows.begin first == 0x58)) [
+        | inr f ↦ rw f (elim (cases_Bool (rows.begin first == 0x58)) [
           | inl t ↦ rw t (call_opened line (names_of words) ps)
-          | inr f ↦ rw f (elim (either (is_text (codes ".SUBCKT") first)) [
+          | inr f ↦ rw f (elim (cases_Bool (is_text (codes ".SUBCKT") first)) [
             | inl t ↦ rw t (open_opened line open_too (names_of words) ps (opens words))
-            | inr f ↦ rw f (elim (either (is_text (codes ".ENDS") first)) [
+            | inr f ↦ rw f (elim (cases_Bool (is_text (codes ".ENDS") first)) [
               | inl t ↦ rw t (end_opened line open_too (names_of words) ps)
-              | inr f ↦ rw f (elim (either (is_text (codes ".GLOBAL") first)) [
+              | inr f ↦ rw f (elim (cases_Bool (is_text (codes ".GLOBAL") first)) [
                 | inl t ↦ rw t (global_opened line (names_of words) ps)
                 | inr f ↦ rw f (stop_opened line words ps)
               ])
@@ -123,9 +123,9 @@ module _ (P : List ℕ → List (List ℕ) → Type 0) (opens : (words : List (L
   card_opened : (limit : Option Limits) (line : ℕ) (open_too : Bool) (ts : List Token) → IfOk (rows.card_row limit line open_too ts) Opened
   card_opened limit line open_too [] = record {}
   card_opened limit line open_too (Equals ∷ ts) = record {}
-  card_opened limit line open_too (Word first ∷ ts) = elim (either (rows.is_passed first)) [
+  card_opened limit line open_too (Word first ∷ ts) = elim (cases_Bool (rows.is_passed first)) [
     | inl t ↦ rw t (record {})
-    | inr f ↦ rw f (elim (either (rows.is_known first)) [
+    | inr f ↦ rw f (elim (cases_Bool (rows.is_known first)) [
       | inl t ↦ rw t (formed_opened limit line open_too first (words_of ts) (params_of (behind_words ts)))
       | inr g ↦ rw g (record {})
     ])

@@ -1,5 +1,7 @@
 -- Pin i of a circuit's row is net i.
 use Rattle.std.proofs.Common.{◌≡◌, inl, inr, ℕ, zero, suc, ◌+◌, ◌<◌, Bool, true, false, ◌||◌, not, List, [], ◌∷◌, ◌++◌, map, length, Option, Some, Ok, refl, sym, subst, ap, ◌∙◌, arith, append_assoc, true≢false}
+use Rattle.base_laws.proofs.Items.{map_from}
+use Rattle.std.proofs.lemmas.Bool.{cases_Bool, or_parts}
 use Rattle.std.specs.Prelude.{slice_get, flat_map}
 use Rattle.std.specs.Str.{bytes_eq}
 use Rattle.std.proofs.lemmas.List.{append-nil}
@@ -10,7 +12,6 @@ use Rattle.plain_netlist.specs.Lists.{IsListed, AreApart}
 use Rattle.plain_netlist.specs.Netlist as plain
 use Rattle.plain_netlist.specs.Normal as normal
 use Rattle.plain_netlist.specs.Chains.{IsChain}
-use Rattle.plain_netlist.proofs.Members.{from_map}
 use Rattle.net_model.specs.Tests.{has_twins}
 use Rattle.spice_rows.specs.Names.{are_apart}
 use Rattle.spice_rows.specs.Sizes.{Limits}
@@ -19,11 +20,10 @@ use Rattle.spice_text.specs.Circuits as circuits
 use Rattle.spice_text.specs.Circuits.{all_of}
 use Rattle.spice_text.specs.Needs.{first_seen, device_nets, is_pin, pin_in, Passes, Needs, Picks}
 use Rattle.spice_text.specs.Means.{call_names, circuit_row, rows_from}
-use Rattle.spice_text.proofs.SearchLemmas.{either}
 use Rattle.spice_text.proofs.NormalLemmas.{more, row_of, all_numbered}
 use Rattle.spice_text.proofs.NeedLemmas.{seen_append, get_listed, get_lt}
 use Rattle.spice_text.proofs.OpenedLemmas.{each_opened}
-use Rattle.spice_text.proofs.SoundLemmas.{or_none, seen_apart}
+use Rattle.spice_text.proofs.SoundLemmas.{seen_apart}
 use Rattle.plain_netlist.proofs.Members.{either_side}
 
 -- ---- no circuit of the cards lists a pin twice
@@ -36,16 +36,16 @@ pins_apart limit bytes cards e = each_opened (λ name pins. are_apart pins ≡ t
 twins : (seen ns : List (List ℕ)) → has_twins seen ns ≡ false → AreApart ns × ((n : List ℕ) → IsListed n ns → has_text seen n ≡ false)
 twins seen [] f = (record {}, (λ n h. absurd h))
 twins seen (n ∷ ns) f =
-    let s = or_none (has_text seen n) (has_twins (seen ++ n ∷ []) ns) f in
+    let s = or_parts (has_text seen n) (has_twins (seen ++ n ∷ []) ns) f in
     let r = twins (seen ++ n ∷ []) ns s.1 in
     let parted : (m : List ℕ) → IsListed m ns → (has_text seen m ≡ false) × (bytes_eq m n ≡ false) = λ m l.
-    let p = or_none (has_text seen m) (bytes_eq m n || false) (sym (list_any-append (bytes_eq m) seen (n ∷ [])) ∙ r.1 m l) in (p.0, (or_none (bytes_eq m n) false p.1).0) in (
+    let p = or_parts (has_text seen m) (bytes_eq m n || false) (sym (list_any-append (bytes_eq m) seen (n ∷ [])) ∙ r.1 m l) in (p.0, (or_parts (bytes_eq m n) false p.1).0) in (
       ((λ h. true≢false (sym ((bytes_eq-Decides n n).1 refl) ∙ (parted n h).1)), r.0),
       (λ m h. elim h [ inl e ↦ subst (λ (x : List ℕ). has_text seen x ≡ false) (sym e) s.0 | inr l ↦ (parted m l).0 ]),
     )
 
 pub apart_of : (ns : List (List ℕ)) → are_apart ns ≡ true → AreApart ns
-apart_of ns t = elim (either (has_twins [] ns)) [
+apart_of ns t = elim (cases_Bool (has_twins [] ns)) [
   | inl h ↦ absurd (true≢false (sym t ∙ ap (λ (b : Bool). not b) h))
   | inr f ↦ (twins [] ns f).0
 ]
@@ -77,7 +77,7 @@ needs_free cs g k d = go d.via d.chain
 pub has_listed : (ns : List (List ℕ)) (g : List ℕ) → IsListed g ns → has_text ns g ≡ true
 has_listed [] g h = absurd h
 has_listed (n ∷ ns) g (inl e) = let t : bytes_eq g n ≡ true = (bytes_eq-Decides g n).1 e in rw t refl
-has_listed (n ∷ ns) g (inr h) = let t = has_listed ns g h in elim (either (bytes_eq g n)) [ inl y ↦ rw y refl | inr f ↦ rw f t ]
+has_listed (n ∷ ns) g (inr h) = let t = has_listed ns g h in elim (cases_Bool (bytes_eq g n)) [ inl y ↦ rw y refl | inr f ↦ rw f t ]
 
 all_apart : (cs : List Circuit) (gs names : List (List ℕ)) (k : ℕ) (c : Circuit) → slice_get cs k ≡ Some c → are_apart c.pins ≡ true → AreApart gs → Picks (λ g. Needs cs g k) gs names → AreApart (c.pins ++ names)
 all_apart cs gs names k c at t a p = both_apart c.pins names (apart_of c.pins t) (picked_apart (λ g. Needs cs g k) gs names a p)
@@ -89,7 +89,7 @@ all_apart cs gs names k c at t a p = both_apart c.pins names (apart_of c.pins t)
 pub unseen_behind : (seen ns : List (List ℕ)) (n : List ℕ) → (IsListed n ns → ⊥) → ((m : List ℕ) → IsListed m (n ∷ ns) → has_text seen m ≡ false) → (m : List ℕ) → IsListed m ns → has_text (seen ++ n ∷ []) m ≡ false
 unseen_behind seen ns n apart f m l =
     let x = f m (inr l) in
-    let y : bytes_eq m n ≡ false = elim (either (bytes_eq m n)) [ inl t ↦ absurd (apart (subst (λ (k : List ℕ). IsListed k ns) ((bytes_eq-Decides m n).0 t) l)) | inr z ↦ z ] in
+    let y : bytes_eq m n ≡ false = elim (cases_Bool (bytes_eq m n)) [ inl t ↦ absurd (apart (subst (λ (k : List ℕ). IsListed k ns) ((bytes_eq-Decides m n).0 t) l)) | inr z ↦ z ] in
     list_any-append (bytes_eq m) seen (n ∷ []) ∙ rw x (rw y refl)
 
 fresh : (seen ns : List (List ℕ)) → AreApart ns → ((n : List ℕ) → IsListed n ns → has_text seen n ≡ false) → first_seen seen ns ≡ seen ++ ns
@@ -102,14 +102,14 @@ fresh seen (n ∷ ns) a f =
 pub place_at : (ns extra : List (List ℕ)) (i : ℕ) (g : List ℕ) → AreApart ns → slice_get ns i ≡ Some g → place_of (ns ++ extra) g ≡ i
 place_at [] extra i g a e = let z : ⊥ = cc in absurd z
 place_at (n ∷ ns) extra zero g a e = let s : g ≡ n = cc in let t : bytes_eq g n ≡ true = (bytes_eq-Decides g n).1 s in rw t refl
-place_at (n ∷ ns) extra (suc i) g a e = elim (either (bytes_eq g n)) [
+place_at (n ∷ ns) extra (suc i) g a e = elim (cases_Bool (bytes_eq g n)) [
   | inl t ↦ absurd (a.0 (subst (λ (x : List ℕ). IsListed x ns) ((bytes_eq-Decides g n).0 t) (get_listed ns i g e)))
   | inr f ↦ let r = place_at ns extra i g a.1 e in rw f (let q : 1 + place_of (ns ++ extra) g ≡ suc i = omega arith in q)
 ]
 
 pins_at : (ns others : List (List ℕ)) (i n : ℕ) → AreApart ns → slice_get (map (place_of (first_seen [] (ns ++ others))) ns) i ≡ Some n → n ≡ i
 pins_at ns others i n a h =
-    let m = from_map (place_of (first_seen [] (ns ++ others))) ns i n h in
+    let m = map_from (place_of (first_seen [] (ns ++ others))) ns i n h in
     let x = more ns others in
     let e : first_seen [] (ns ++ others) ≡ ns ++ x.0 = seen_append [] ns others ∙ ap (λ (s : List (List ℕ)). first_seen s others) (fresh [] ns a (λ g l. refl)) ∙ x.1 in
     sym m.2 ∙ ap (λ (s : List (List ℕ)). place_of s m.0) e ∙ place_at ns x.0 i m.0 a m.1

@@ -1,5 +1,6 @@
 -- Lines of a written text, read one after another.
 use Rattle.std.proofs.Common.{◌≡◌, ℕ, zero, suc, ◌+◌, ◌-◌, ◌==◌, Bool, true, false, List, [], ◌∷◌, ◌++◌, length, take, drop, Option, Result, Ok, refl, sym, ap, ◌∙◌, append_assoc, arith}
+use Rattle.std.proofs.lemmas.Bool.{and_parts}
 use Rattle.std.specs.Prelude.{if◌then◌else◌, slice_index, is_some}
 use Rattle.std.specs.List.{list_all}
 use Rattle.std.proofs.lemmas.Bool.Decides.{nat_tests}
@@ -13,14 +14,14 @@ use Rattle.spice_rows.specs.Sizes.{Limits}
 use Rattle.spice_rows.specs.declared.fault.SpiceFault.{SpiceFault}
 use Rattle.spice_text.specs.Gather.{Cards, with_row, read_on, reading}
 use Rattle.spice_text.proofs.WordLemmas as words
-use Rattle.spice_text.proofs.WordLemmas.{is_shown, both, IsWord, word_tokens, all_shown}
+use Rattle.spice_text.proofs.WordLemmas.{is_shown, IsWord, word_tokens, all_shown}
 
 -- ---- a line's end
 
 lacks : (line : List ℕ) → list_all is_shown line ≡ true → Lacks line
 lacks [] h = tt
 lacks (b ∷ bs) h =
-    let s = both (is_shown b) (list_all is_shown bs) h in
+    let s = and_parts (is_shown b) (list_all is_shown bs) h in
     (no_end b s.0, lacks bs s.1)
   where
     no_end : (b : ℕ) → is_shown b ≡ true → (b == 0x0A) ≡ false
@@ -28,11 +29,11 @@ lacks (b ∷ bs) h =
 
 no_return : (line : List ℕ) (k : ℕ) → list_all is_shown line ≡ true → (slice_index line k == 0x0D) ≡ false
 no_return [] k h = refl
-no_return (b ∷ bs) zero h = at b (both (is_shown b) (list_all is_shown bs) h).0
+no_return (b ∷ bs) zero h = at b (and_parts (is_shown b) (list_all is_shown bs) h).0
   where
     at : (b : ℕ) → is_shown b ≡ true → (b == 0x0D) ≡ false
     at b h = grind (arith, nat_tests)
-no_return (b ∷ bs) (suc k) h = no_return bs k (both (is_shown b) (list_all is_shown bs) h).1
+no_return (b ∷ bs) (suc k) h = no_return bs k (and_parts (is_shown b) (list_all is_shown bs) h).1
 
 pub line_of : (line rest : List ℕ) → list_all is_shown line ≡ true → lines_of ((line ++ 0x0A ∷ []) ++ rest) ≡ line ∷ lines_of rest
 line_of line rest h =

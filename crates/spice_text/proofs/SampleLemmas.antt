@@ -1,5 +1,6 @@
 -- The sample has what the laws ask, and its text is what is written of it.
 use Rattle.std.proofs.Common.{◌≡◌, ◌≢◌, ℕ, zero, suc, ◌*◌, ◌^◌, ◌<◌, true, false, List, [], ◌∷◌, ◌++◌, length, Some, refl, sym, subst, ◌∙◌, arith, true≢false}
+use Rattle.std.proofs.lemmas.Bool.{and_parts}
 use Rattle.std.specs.Prelude.{slice_get, slice_index, nat_lt, bytes_eq, codes}
 use Rattle.std.specs.Fmt.{digits}
 use Rattle.std.specs.List.{list_all}
@@ -23,7 +24,6 @@ use Rattle.spice_text.specs.Cards.{FitsCard, kind_of}
 use Rattle.spice_text.proofs.AgainLemmas.{written_means}
 use Rattle.spice_text.proofs.PinLemmas.{apart_of}
 use Rattle.spice_text.proofs.RowLemmas.{AreNames}
-use Rattle.spice_text.proofs.WordLemmas.{both}
 
 differ : (xs ys : List ℕ) → bytes_eq xs ys ≡ false → xs ≡ ys → ⊥
 differ xs ys h e = let g : bytes_eq xs ys ≡ true = (bytes_eq-Decides xs ys).1 e in true≢false (sym g ∙ h)
@@ -95,8 +95,8 @@ sound = record {
 
 bytes_below : (xs : List ℕ) → list_all (λ b. nat_lt b 256) xs ≡ true → (k : ℕ) → k < length xs → slice_index xs k < 256
 bytes_below [] h k l = absurd (omega arith)
-bytes_below (x ∷ xs) h zero l = let t = (both (nat_lt x 256) (list_all (λ b. nat_lt b 256) xs) h).0 in grind (arith, t)
-bytes_below (x ∷ xs) h (suc k) l = bytes_below xs (both (nat_lt x 256) (list_all (λ b. nat_lt b 256) xs) h).1 k (omega arith)
+bytes_below (x ∷ xs) h zero l = let t = (and_parts (nat_lt x 256) (list_all (λ b. nat_lt b 256) xs) h).0 in grind (arith, t)
+bytes_below (x ∷ xs) h (suc k) l = bytes_below xs (and_parts (nat_lt x 256) (list_all (λ b. nat_lt b 256) xs) h).1 k (omega arith)
 
 name_is : (n : List ℕ) → 0 < length n → list_all (λ b. nat_lt b 256) n ≡ true → folded_bytes n ≡ n → IsName n
 name_is n some bytes folded = record { some = some; bytes = bytes_below n bytes; folded = folded }

@@ -1,5 +1,6 @@
 -- The searches find what is first wrong.
 use Rattle.std.proofs.Common.{◌≡◌, ◌⊎◌, inl, inr, ℕ, zero, suc, ◌<◌, ◌≤◌, Bool, true, false, List, [], ◌∷◌, ◌++◌, take, Option, Some, None, refl, sym, subst, ap, ◌∙◌, arith}
+use Rattle.std.proofs.lemmas.Bool.{cases_Bool}
 use Rattle.std.specs.Prelude.{slice_get, nat_lt}
 use Rattle.std.proofs.lemmas.List.{append-nil}
 use Rattle.std.proofs.Common.{append_assoc}
@@ -11,10 +12,6 @@ use Rattle.spice_text.specs.Faults.{IsSecond, IsCallOn, HasCall, IsLeast, Lacks,
 use Rattle.spice_text.specs.Search.{first_twice, SaysClash, lesser, least_in, least_in_all}
 use Rattle.spice_rows.specs.declared.fault.SpiceFault.{SpiceFault}
 use Rattle.spice_rows.specs.declared.fault.SpiceFault.TheVariants.{NameClash, NoSuchCircuit, PinCount, CircuitCycle}
-
-pub either : (b : Bool) → (b ≡ true) ⊎ (b ≡ false)
-either true = inl refl
-either false = inr refl
 
 -- ---- a name that stands twice
 
@@ -53,7 +50,7 @@ later seen c cs (Some line) f (k, least, d, is, at) = (suc k, record { holds = u
 
 finds : (seen : List (List ℕ)) (cs : List Circuit) → Finds seen cs (first_twice seen cs)
 finds seen [] = λ k s. let e = s.1 in let z : ⊥ = cc in z
-finds seen (c ∷ cs) = elim (either (has_text seen c.name)) [
+finds seen (c ∷ cs) = elim (cases_Bool (has_text seen c.name)) [
   | inl t ↦ rw t (0, record { holds = (c, refl, subst (λ (xs : List (List ℕ)). has_text xs c.name ≡ true) (sym (append-nil seen)) t); none = λ j l s. absurd (omega arith) }, c, refl, refl)
   | inr f ↦ rw f (later seen c cs (first_twice (seen ++ c.name ∷ []) cs) f (finds (seen ++ c.name ∷ []) cs))
 ]
@@ -72,7 +69,7 @@ clash_fault cs e h = h
 
 one_more : (P : ℕ → Type 0) (o : Option ℕ) (m : ℕ) → FindsLeast P o → FindsLeast (λ n. P n ⊎ (n ≡ m)) (lesser o m)
 one_more P None m h = record { holds = inr refl; none = λ j l p. elim p [ inl a ↦ h j a | inr e ↦ absurd (omega arith) ] }
-one_more P (Some k) m h = elim (either (nat_lt m k)) [
+one_more P (Some k) m h = elim (cases_Bool (nat_lt m k)) [
   | inl t ↦ rw t (record { holds = inr refl; none = λ j l p. elim p [ inl a ↦ h.none j (let less : m < k = grind (arith, t) in omega arith) a | inr e ↦ absurd (omega arith) ] })
   | inr f ↦ rw f (record { holds = inl h.holds; none = λ j l p. elim p [ inl a ↦ h.none j l a | inr e ↦ absurd (let more : k ≤ m = grind (arith, f) in omega arith) ] })
 ]
@@ -84,7 +81,7 @@ same P Q (Some m) to from h = record { holds = to m h.holds; none = λ j l q. h.
 in_calls : (test : CallCard → Bool) (rs : List CallCard) (P : ℕ → Type 0) (o : Option ℕ) → FindsLeast P o
     → FindsLeast (λ n. P n ⊎ IsCallOn rs test n) (least_in test o rs)
 in_calls test [] P o h = same P (λ n. P n ⊎ IsCallOn [] test n) o (λ n p. inl p) (λ n q. elim q [ inl p ↦ p | inr c ↦ absurd c.1 ]) h
-in_calls test (r ∷ rs) P o h = elim (either (test r)) [
+in_calls test (r ∷ rs) P o h = elim (cases_Bool (test r)) [
   | inl t ↦ rw t (same (λ n. (P n ⊎ (n ≡ r.line)) ⊎ IsCallOn rs test n) (λ n. P n ⊎ IsCallOn (r ∷ rs) test n) (least_in test (lesser o r.line) rs)
       (λ n q. elim q [ inl a ↦ elim a [ inl p ↦ inl p | inr e ↦ inr (r, inl refl, t, sym e) ] | inr c ↦ inr (c.0, inr c.1, c.2, c.3) ])
       (λ n q. elim q [ inl p ↦ inl (inl p) | inr c ↦ taken n c ])

@@ -1,5 +1,7 @@
 -- The netlist of ordered circuits is sound.
-use Rattle.std.proofs.Common.{◌≡◌, inl, inr, ℕ, zero, suc, ◌+◌, ◌<◌, ◌≤◌, ◌==◌, Bool, true, false, ◌||◌, not, List, [], ◌∷◌, ◌++◌, map, take, length, Option, Some, None, refl, sym, subst, ap, ◌∙◌, arith, true≢false}
+use Rattle.std.proofs.Common.{◌≡◌, inl, inr, ℕ, zero, suc, ◌+◌, ◌<◌, ◌≤◌, ◌==◌, Bool, true, false, not, List, [], ◌∷◌, ◌++◌, map, take, length, Option, Some, None, refl, sym, subst, ap, ◌∙◌, arith, true≢false}
+use Rattle.base_laws.proofs.Items.{item_at, map_from}
+use Rattle.std.proofs.lemmas.Bool.{or_right, cases_Bool, or_parts}
 use Rattle.std.specs.Prelude.{slice_get, nat_lt}
 use Rattle.std.specs.Str.{bytes_eq}
 use Rattle.std.proofs.Math.Decide.{ℕ_discrete}
@@ -14,7 +16,6 @@ use Rattle.plain_netlist.specs.Normal as normal
 use Rattle.plain_netlist.specs.Sound as sound
 use Rattle.plain_netlist.proofs.Faults.{nets_there}
 use Rattle.plain_netlist.proofs.Numbered.{below_total}
-use Rattle.plain_netlist.proofs.Members.{from_map, item_at}
 use Rattle.net_model.specs.Faults as model
 use Rattle.spice_rows.specs.Rows.{CallCard}
 use Rattle.spice_text.specs.Gather.{Circuit}
@@ -22,14 +23,9 @@ use Rattle.spice_text.specs.Circuits.{names_of, called_in, call_lists}
 use Rattle.spice_text.specs.Faults.{IsSecond, HasCall, is_missing, is_other_count, is_other_than, Lacks}
 use Rattle.spice_text.specs.Needs.{first_seen}
 use Rattle.spice_text.specs.Means.{appearances, net_names, call_row, circuit_row, rows_from}
-use Rattle.spice_text.proofs.SearchLemmas.{either}
 use Rattle.spice_text.proofs.CallLemmas.{place_lt, is_there}
-use Rattle.spice_text.proofs.NeedLemmas.{once, last_or, get_listed, right_or}
+use Rattle.spice_text.proofs.NeedLemmas.{once, last_or, get_listed}
 use Rattle.spice_text.proofs.NormalLemmas.{row_of, all_numbered}
-
-pub or_none : (p : Bool) (q : Bool) → (p || q) ≡ false → (p ≡ false) × (q ≡ false)
-or_none true q e = let z : ⊥ = cc in absurd z
-or_none false q e = (refl, e)
 
 -- ---- names of circuits
 
@@ -40,7 +36,7 @@ names_has (y ∷ ys) (suc c) zero x l e =
     let s : x ≡ y = cc in
     let t : bytes_eq x.name y.name ≡ true = (bytes_eq-Decides x.name y.name).1 (ap (λ (z : Circuit). z.name) s) in
     rw t refl
-names_has (y ∷ ys) (suc c) (suc b) x l e = right_or (bytes_eq x.name y.name) (has_text (names_of (take c ys)) x.name) (names_has ys c b x (omega arith) e)
+names_has (y ∷ ys) (suc c) (suc b) x l e = or_right (bytes_eq x.name y.name) (has_text (names_of (take c ys)) x.name) (names_has ys c b x (omega arith) e)
 
 second : (cs : List Circuit) (b c : ℕ) (x y : Circuit) → b < c → slice_get cs b ≡ Some x → slice_get cs c ≡ Some y → x.name ≡ y.name → IsSecond cs c
 second cs b c x y l hx hy e = (y, hy, subst (λ (n : List ℕ). has_text (names_of (take c cs)) n ≡ true) e (names_has cs c b x l hx))
@@ -48,9 +44,9 @@ second cs b c x y l hx hy e = (y, hy, subst (λ (n : List ℕ). has_text (names_
 one_place : (b c : ℕ) → (b < c → ⊥) → (c < b → ⊥) → b ≡ c
 one_place b c f g = elim (ℕ_discrete b c) [
   | yes e ↦ e
-  | no ne ↦ elim (either (nat_lt b c)) [
+  | no ne ↦ elim (cases_Bool (nat_lt b c)) [
     | inl t ↦ absurd (f (grind (arith, t)))
-    | inr n ↦ let l : c ≤ b = grind (arith, n) in absurd (g (elim (either (nat_lt c b)) [ inl t ↦ (let q : c < b = grind (arith, t) in q) | inr m ↦ (let q : b ≤ c = grind (arith, m) in absurd (ne (omega arith))) ]))
+    | inr n ↦ let l : c ≤ b = grind (arith, n) in absurd (g (elim (cases_Bool (nat_lt c b)) [ inl t ↦ (let q : c < b = grind (arith, t) in q) | inr m ↦ (let q : b ≤ c = grind (arith, m) in absurd (ne (omega arith))) ]))
   ]
 ]
 
@@ -59,12 +55,12 @@ one_place b c f g = elim (ℕ_discrete b c) [
 snoc_apart : (xs : List (List ℕ)) (n : List ℕ) → AreApart xs → has_text xs n ≡ false → AreApart (xs ++ n ∷ [])
 snoc_apart [] n a f = ((λ h. h), a)
 snoc_apart (x ∷ xs) n a f =
-    let s = or_none (bytes_eq n x) (has_text xs n) f in
+    let s = or_parts (bytes_eq n x) (has_text xs n) f in
     ((λ h. elim (last_or xs x n h) [ inl l ↦ a.0 l | inr e ↦ true≢false (sym ((bytes_eq-Decides n x).1 (sym e)) ∙ s.0) ]), snoc_apart xs n a.1 s.1)
 
 pub seen_apart : (seen ns : List (List ℕ)) → AreApart seen → AreApart (first_seen seen ns)
 seen_apart seen [] a = a
-seen_apart seen (n ∷ ns) a = elim (either (has_text seen n)) [
+seen_apart seen (n ∷ ns) a = elim (cases_Bool (has_text seen n)) [
   | inl t ↦ rw t (seen_apart seen ns a)
   | inr f ↦ rw f (seen_apart (seen ++ n ∷ []) ns (snoc_apart seen n a f))
 ]
@@ -93,7 +89,7 @@ counts_fit : (o : Option Circuit) (e : Circuit) (r : CallCard) → o ≡ Some e 
 counts_fit None e r s f = let z : ⊥ = cc in absurd z
 counts_fit (Some d) e r s f =
     let same : d ≡ e = cc in
-    elim (either (length r.nets == length d.pins)) [
+    elim (cases_Bool (length r.nets == length d.pins)) [
       | inl t ↦ (Decides-eqb (length r.nets) (length d.pins)).0 t ∙ ap (λ (c : Circuit). length c.pins) same
       | inr n ↦ absurd (true≢false (sym (ap (λ (b : Bool). not b) n) ∙ f))
     ]
@@ -126,14 +122,14 @@ sound_is cs needed n one called counts cycles law e = record {
     fits c k row x hx hr =
         let p = at c x hx in
         let nets = net_names (names_of cs) needed c p.0 in
-        let m = from_map (call_row (names_of cs) needed nets) p.0.calls k row (sym (ap (λ (z : plain.Circuit). slice_get z.calls k) p.2) ∙ hr) in
+        let m = map_from (call_row (names_of cs) needed nets) p.0.calls k row (sym (ap (λ (z : plain.Circuit). slice_get z.calls k) p.2) ∙ hr) in
         let in_cs = get_listed cs c p.0 p.1 in
         let in_calls = get_listed p.0.calls k m.0 m.1 in
         let number = called_in (names_of cs) m.0 in
         let less = place_lt (bytes_eq m.0.circuit) (names_of cs) (is_there cs p.0 m.0 called in_cs in_calls) in
         let len = length-map cs (λ (z : Circuit). z.name) in
         let d = item_at cs number (omega arith) in
-        let fit : length m.0.nets ≡ length d.0.pins = elim (either (is_other_count cs m.0)) [
+        let fit : length m.0.nets ≡ length d.0.pins = elim (cases_Bool (is_other_count cs m.0)) [
           | inl t ↦ absurd (counts m.0.line (p.0, in_cs, (m.0, in_calls, t, refl)))
           | inr f ↦ counts_fit (slice_get cs number) d.0 m.0 d.1 f
         ] in

@@ -5,14 +5,13 @@ use Rattle.std.specs.Fmt.{digits, digits_onto, digit_glyph}
 use Rattle.std.specs.List.{list_all, list_any}
 use Rattle.std.specs.Char.{is_ascii_alphanumeric, is_ascii_digit, is_ascii_graphic}
 use Rattle.std.proofs.Math.Seq.{take-append_seam, drop-append_seam}
-use Rattle.std.proofs.lemmas.Bool.{eqb-true}
+use Rattle.std.proofs.lemmas.Bool.{eqb-true, cases_Bool, and_parts, and_from, not-true}
 use Rattle.std.proofs.lemmas.Bool.Decides.{nat_tests}
 use Rattle.std.proofs.lemmas.List.{length-append}
 use Rattle.std.proofs.lemmas.List.Folds.{list_all-append}
 use Rattle.net_names.specs.Escapes.{is_plain, hex_digit, spelling, escaped}
 use Rattle.spice_cards.specs.Tokens.{is_blank, Token, Word, Equals, goes_on, run, piece, Piece, tokens_of}
 use Rattle.spice_cards.proofs.TokenLemmas.{token_more}
-use Rattle.spice_text.proofs.SearchLemmas.{either}
 
 -- a byte that may stand on a written line
 abbrev pub is_shown : ℕ → Bool
@@ -22,28 +21,16 @@ is_shown b = nat_lt 31 b && nat_lt b 127
 abbrev pub is_easy : ℕ → Bool
 is_easy b = goes_on false b && (not (b == 0x5C) && is_shown b)
 
-pub both : (p q : Bool) → (p && q) ≡ true → (p ≡ true) × (q ≡ true)
-both true q e = (refl, e)
-both false q e = absurd (let bad : false ≡ true = e in cc)
-
-pub and_both : (p q : Bool) → p ≡ true → q ≡ true → (p && q) ≡ true
-and_both true q e f = f
-and_both false q e f = absurd (let bad : false ≡ true = e in cc)
-
-not_true : (p : Bool) → not p ≡ true → p ≡ false
-not_true true e = absurd (let bad : false ≡ true = e in cc)
-not_true false e = refl
-
 pub all_shown : (xs ys : List ℕ) → list_all is_shown xs ≡ true → list_all is_shown ys ≡ true → list_all is_shown (xs ++ ys) ≡ true
-all_shown xs ys e f = list_all-append is_shown xs ys ∙ and_both (list_all is_shown xs) (list_all is_shown ys) e f
+all_shown xs ys e f = list_all-append is_shown xs ys ∙ and_from (list_all is_shown xs) (list_all is_shown ys) e f
 
 -- ---- kinds of bytes
 
 easy_sign : (xs : List ℕ) (b : ℕ) → list_all is_easy xs ≡ true → list_any (λ s. s == b) xs ≡ true → is_easy b ≡ true
 easy_sign [] b h f = absurd (let bad : false ≡ true = f in cc)
 easy_sign (x ∷ xs) b h f =
-    let s = both (is_easy x) (list_all is_easy xs) h in
-    elim (either (x == b)) [
+    let s = and_parts (is_easy x) (list_all is_easy xs) h in
+    elim (cases_Bool (x == b)) [
       | inl t ↦ subst (λ (c : ℕ). is_easy c ≡ true) (eqb-true x b t) s.0
       | inr n ↦ easy_sign xs b s.1 (let e : ((x == b) || list_any (λ s. s == b) xs) ≡ true = f in sym (ap (λ (p : Bool). p || list_any (λ s. s == b) xs) n) ∙ e)
     ]
@@ -58,7 +45,7 @@ easy_numeral : (b : ℕ) → is_ascii_digit b ≡ true → is_easy b ≡ true
 easy_numeral b h = grind (arith, nat_tests)
 
 easy_plain : (b : ℕ) → is_plain b ≡ true → is_easy b ≡ true
-easy_plain b h = elim (either (is_ascii_alphanumeric b)) [
+easy_plain b h = elim (cases_Bool (is_ascii_alphanumeric b)) [
   | inl t ↦ easy_letter b t
   | inr f ↦ easy_sign (codes "_./[]<>#:!-") b refl
       (let e : (is_ascii_alphanumeric b || list_any (λ sign. sign == b) (codes "_./[]<>#:!-")) ≡ true = h in
@@ -66,7 +53,7 @@ easy_plain b h = elim (either (is_ascii_alphanumeric b)) [
 ]
 
 easy_hex : (n : ℕ) → n < 16 → is_easy (hex_digit n) ≡ true
-easy_hex n h = elim (either (nat_lt n 10)) [
+easy_hex n h = elim (cases_Bool (nat_lt n 10)) [
   | inl t ↦ rw t (easy_digit n (grind (arith, t)))
   | inr f ↦ rw f (letter n h (grind (arith, f)))
 ]
@@ -81,26 +68,26 @@ graphic_shown : (b : ℕ) → is_ascii_graphic b ≡ true → is_shown b ≡ tru
 graphic_shown b h = grind (arith, nat_tests)
 
 easy_shown : (b : ℕ) → is_easy b ≡ true → is_shown b ≡ true
-easy_shown b h = (both (not (b == 0x5C)) (is_shown b) (both (goes_on false b) (not (b == 0x5C) && is_shown b) h).1).1
+easy_shown b h = (and_parts (not (b == 0x5C)) (is_shown b) (and_parts (goes_on false b) (not (b == 0x5C) && is_shown b) h).1).1
 
 all_easy_shown : (bs : List ℕ) → list_all is_easy bs ≡ true → list_all is_shown bs ≡ true
 all_easy_shown [] h = refl
 all_easy_shown (b ∷ bs) h =
-    let s = both (is_easy b) (list_all is_easy bs) h in
-    and_both (is_shown b) (list_all is_shown bs) (easy_shown b s.0) (all_easy_shown bs s.1)
+    let s = and_parts (is_easy b) (list_all is_easy bs) h in
+    and_from (is_shown b) (list_all is_shown bs) (easy_shown b s.0) (all_easy_shown bs s.1)
 
 -- ---- how far a word goes on
 
 run_on : (b : ℕ) (bytes : List ℕ) → is_easy b ≡ true → run false (b ∷ bytes) ≡ run false bytes + 1
 run_on b bytes h =
-    let g = both (goes_on false b) (not (b == 0x5C) && is_shown b) h in
-    let s = not_true (b == 0x5C) (both (not (b == 0x5C)) (is_shown b) g.1).0 in
+    let g = and_parts (goes_on false b) (not (b == 0x5C) && is_shown b) h in
+    let s = not-true (b == 0x5C) (and_parts (not (b == 0x5C)) (is_shown b) g.1).0 in
     ap (λ (t : Bool). if t then run (b == 0x5C) bytes + 1 else 0) g.0 ∙ ap (λ (t : Bool). run t bytes + 1) s
 
 run_easy : (bs rest : List ℕ) → list_all is_easy bs ≡ true → run false (bs ++ rest) ≡ length bs + run false rest
 run_easy [] rest h = omega arith
 run_easy (b ∷ bs) rest h =
-    let s = both (is_easy b) (list_all is_easy bs) h in
+    let s = and_parts (is_easy b) (list_all is_easy bs) h in
     let r = run_easy bs rest s.1 in
     run_on b (bs ++ rest) s.0 ∙ (let q : run false (bs ++ rest) + 1 ≡ suc (length bs) + run false rest = omega arith in q)
 
@@ -114,11 +101,11 @@ easy_pair : (b : ℕ) → b < 256 → list_all is_easy (hex_digit (b / 16) ∷ h
 easy_pair b h =
     let high = easy_hex (b / 16) (omega arith) in
     let low = easy_hex (b % 16) (omega arith) in
-    and_both (is_easy (hex_digit (b / 16))) (is_easy (hex_digit (b % 16)) && true) high (and_both (is_easy (hex_digit (b % 16))) true low refl)
+    and_from (is_easy (hex_digit (b / 16))) (is_easy (hex_digit (b % 16)) && true) high (and_from (is_easy (hex_digit (b % 16))) true low refl)
 
 run_kinds : (b : ℕ) (rest : List ℕ) (p g : Bool) → b < 256 → is_plain b ≡ p → is_ascii_graphic b ≡ g
     → run false (spelled p g b ++ rest) ≡ length (spelled p g b) + run false rest
-run_kinds b rest true g h e f = run_easy (b ∷ []) rest (and_both (is_easy b) true (easy_plain b e) refl)
+run_kinds b rest true g h e f = run_easy (b ∷ []) rest (and_from (is_easy b) true (easy_plain b e) refl)
 run_kinds b rest false true h e f =
     ap (λ (t : Bool). (if t then run false rest + 1 else 0) + 1) (escaped_goes b f)
     ∙ (let q : run false rest + 1 + 1 ≡ 2 + run false rest = omega arith in q)
@@ -127,8 +114,8 @@ run_kinds b rest false false h e f =
     ap (λ (n : ℕ). n + 1 + 1) r ∙ (let q : 2 + run false rest + 1 + 1 ≡ 4 + run false rest = omega arith in q)
 
 shown_kinds : (b : ℕ) (p g : Bool) → b < 256 → is_plain b ≡ p → is_ascii_graphic b ≡ g → list_all is_shown (spelled p g b) ≡ true
-shown_kinds b true g h e f = and_both (is_shown b) true (easy_shown b (easy_plain b e)) refl
-shown_kinds b false true h e f = and_both (is_shown b) true (graphic_shown b f) refl
+shown_kinds b true g h e f = and_from (is_shown b) true (easy_shown b (easy_plain b e)) refl
+shown_kinds b false true h e f = and_from (is_shown b) true (graphic_shown b f) refl
 shown_kinds b false false h e f = all_easy_shown (hex_digit (b / 16) ∷ hex_digit (b % 16) ∷ []) (easy_pair b h)
 
 abbrev pub Begins : List ℕ → Type 0
@@ -136,7 +123,7 @@ Begins [] = ⊥
 Begins (b ∷ bs) = goes_on false b ≡ true
 
 easy_goes : (b : ℕ) → is_easy b ≡ true → goes_on false b ≡ true
-easy_goes b h = (both (goes_on false b) (not (b == 0x5C) && is_shown b) h).0
+easy_goes b h = (and_parts (goes_on false b) (not (b == 0x5C) && is_shown b) h).0
 
 begin_kinds : (b : ℕ) (rest : List ℕ) (p g : Bool) → is_plain b ≡ p → Begins (spelled p g b ++ rest)
 begin_kinds b rest true g e = easy_goes b (easy_plain b e)
@@ -153,7 +140,7 @@ pub record IsWord (w : List ℕ) : Type 0 where
 
 easy_begins : (w : List ℕ) → 0 < length w → list_all is_easy w ≡ true → Begins w
 easy_begins [] some h = absurd (omega arith)
-easy_begins (b ∷ bs) some h = easy_goes b (both (is_easy b) (list_all is_easy bs) h).0
+easy_begins (b ∷ bs) some h = easy_goes b (and_parts (is_easy b) (list_all is_easy bs) h).0
 
 pub easy_word : (w : List ℕ) → 0 < length w → list_all is_easy w ≡ true → IsWord w
 easy_word w some h = record { begins = easy_begins w some h; runs = λ rest. run_easy w rest h; shown = all_easy_shown w h }
@@ -185,29 +172,29 @@ escaped_word bytes some h = record { begins = begin_escaped bytes some; runs = �
 
 digits_easy : (k n : ℕ) (acc : List ℕ) → list_all is_easy acc ≡ true → list_all is_easy (digits_onto k 10 false n acc) ≡ true
 digits_easy zero n acc h = h
-digits_easy (suc k) n acc h = elim (either (n / 10 == 0)) [
+digits_easy (suc k) n acc h = elim (cases_Bool (n / 10 == 0)) [
   | inl t ↦ rw t (with_one n acc h)
   | inr f ↦ rw f (digits_easy k (n / 10) (digit_glyph false (n % 10) ∷ acc) (with_one n acc h))
 ]
   where
     with_one : (n : ℕ) (acc : List ℕ) → list_all is_easy acc ≡ true → list_all is_easy (digit_glyph false (n % 10) ∷ acc) ≡ true
-    with_one n acc h = and_both (is_easy (digit_glyph false (n % 10))) (list_all is_easy acc) (glyph (n % 10) (omega arith)) h
+    with_one n acc h = and_from (is_easy (digit_glyph false (n % 10))) (list_all is_easy acc) (glyph (n % 10) (omega arith)) h
       where
         glyph : (d : ℕ) → d < 10 → is_easy (digit_glyph false d) ≡ true
-        glyph d l = elim (either (nat_lt d 10)) [ inl t ↦ rw t (easy_digit d l) | inr f ↦ absurd (grind (arith, f, l)) ]
+        glyph d l = elim (cases_Bool (nat_lt d 10)) [ inl t ↦ rw t (easy_digit d l) | inr f ↦ absurd (grind (arith, f, l)) ]
 
 pub decimal_easy : (n : ℕ) → list_all is_easy (decimal n) ≡ true
 unfolding digits
 decimal_easy n = digits_easy 64 n [] refl
 
 pub easy_append : (xs ys : List ℕ) → list_all is_easy xs ≡ true → list_all is_easy ys ≡ true → list_all is_easy (xs ++ ys) ≡ true
-easy_append xs ys e f = list_all-append is_easy xs ys ∙ and_both (list_all is_easy xs) (list_all is_easy ys) e f
+easy_append xs ys e f = list_all-append is_easy xs ys ∙ and_from (list_all is_easy xs) (list_all is_easy ys) e f
 
 pub digits_all : (ds : List ℕ) → list_all is_ascii_digit ds ≡ true → list_all is_easy ds ≡ true
 digits_all [] h = refl
 digits_all (d ∷ ds) h =
-    let s = both (is_ascii_digit d) (list_all is_ascii_digit ds) h in
-    and_both (is_easy d) (list_all is_easy ds) (easy_numeral d s.0) (digits_all ds s.1)
+    let s = and_parts (is_ascii_digit d) (list_all is_ascii_digit ds) h in
+    and_from (is_easy d) (list_all is_easy ds) (easy_numeral d s.0) (digits_all ds s.1)
 
 -- ---- tokens
 

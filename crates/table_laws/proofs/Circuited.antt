@@ -1,5 +1,6 @@
 -- A cell has one circuit, and the circuits in order are the netlist.
 use Rattle.std.proofs.Common.{◌≡◌, ◌⊎◌, inl, inr, ℕ, suc, ◌+◌, ◌<◌, Bool, List, [], ◌∷◌, ◌++◌, Option, Some, None, slice_get, length, refl, sym, ◌∙◌, ap, subst, arith}
+use Rattle.base_laws.proofs.Items.{one_list}
 use Rattle.std.specs.Prelude.{flat_map}
 use Rattle.std.proofs.Math.Decide.{ℕ_discrete}
 use Rattle.std.proofs.lemmas.Option.{same_Some, slice_get_within}
@@ -22,7 +23,6 @@ use Rattle.plain_netlist.specs.Netlist.{CallRow, Circuit, DeviceRow, Netlist, Po
 use Rattle.plain_netlist.specs.Normal.{AreNumbered, appearances, terminal_nets}
 use Rattle.table_laws.specs.TableLaws.{CircuitsTogetherLaw, OneCircuitLaw}
 use Rattle.table_laws.proofs.Drawing.{drawn_together}
-use Rattle.table_laws.proofs.Pinned.{same_items}
 use Rattle.table_laws.proofs.Tabled.{reached_under}
 
 -- two lists of numbers name, place by place, the same items of two lists
@@ -163,13 +163,13 @@ module _ (d : Design) (w : Wiring) (t : Tables) (gates : ℕ → List GateEntry)
   nets_same : (p q : CircuitParts) (c e : Circuit) → Is p c → Is q e → p.nets ≡ q.nets
   nets_same p q c e a b =
       let r = one_numbering p.nets q.nets a.has_nets.apart b.has_nets.apart (length c.nets) (length e.nets) 0 (appearances c) (appearances e) (named_same p q c e a b) a.normal.numbered b.normal.numbered (λ k lt. absurd (omega arith)) in
-      same_items p.nets q.nets (sym a.has_nets.count ∙ r.0 ∙ b.has_nets.count) (λ i x y h g.
+      one_list p.nets q.nets (sym a.has_nets.count ∙ r.0 ∙ b.has_nets.count) (λ i x y h g.
       let lt : i < length c.nets = subst (λ m. i < m) (sym a.has_nets.count) (slice_get_within p.nets i x h) in
       same_Some _ _ (sym h ∙ r.1 i lt ∙ g))
 
   module _ (p : CircuitParts) (c e : Circuit) (a : Is p c) (b : Is p e) where
     devices_same : c.devices ≡ e.devices
-    devices_same = same_items c.devices e.devices (a.has_devices.count ∙ sym b.has_devices.count) (λ i x y h g.
+    devices_same = one_list c.devices e.devices (a.has_devices.count ∙ sym b.has_devices.count) (λ i x y h g.
         let s = item_at c.devices (good_gates (gates cell)) i x (sym a.has_devices.count) h in
         let k = a.has_devices.each i s.0 x s.1 h in
         let j = b.has_devices.each i s.0 y s.1 g in
@@ -178,20 +178,20 @@ module _ (d : Design) (w : Wiring) (t : Tables) (gates : ℕ → List GateEntry)
         (λ pole. apart_at (terminal_net pole s.0.row) p.nets (on pole x) (on pole y) a.has_nets.apart (k.poles pole) (j.poles pole)))
 
     rows_same : c.calls ≡ e.calls
-    rows_same = same_items c.calls e.calls (a.has_calls.count ∙ sym b.has_calls.count) (λ i x y h g.
+    rows_same = one_list c.calls e.calls (a.has_calls.count ∙ sym b.has_calls.count) (λ i x y h g.
         let two = both_calls p p c e a b i x y h g in
         call_is x y (apart_at two.place.cell cells x.circuit y.circuit cells_apart two.one.circuit two.two.circuit)
-        (same_items x.nets y.nets (two.one.count ∙ sym two.two.count) (λ j u v at too.
+        (one_list x.nets y.nets (two.one.count ∙ sym two.two.count) (λ j u v at too.
         let inner = item_at x.nets (pin_nets (pins two.place.cell) (drawn two.place.cell)) j u (sym two.one.count) at in
         let r = two.one.each j inner.0 u inner.1 at in
         let z = two.two.each j inner.0 v inner.1 too in
         apart_at r.0 p.nets u v a.has_nets.apart r.1 (z.1 ∙ ap (λ (m : ℕ). Some m) (net_one two.number inner.0 z.0 r.0 z.2 r.2)))))
 
     pins_same : c.pins ≡ e.pins
-    pins_same = same_items c.pins e.pins (a.has_pins.count ∙ sym b.has_pins.count) (λ i x y h g. a.normal.pins i x h ∙ sym (b.normal.pins i y g))
+    pins_same = one_list c.pins e.pins (a.has_pins.count ∙ sym b.has_pins.count) (λ i x y h g. a.normal.pins i x h ∙ sym (b.normal.pins i y g))
 
     names_same : c.nets ≡ e.nets
-    names_same = same_items c.nets e.nets (a.has_nets.count ∙ sym b.has_nets.count) (λ i x y h g.
+    names_same = one_list c.nets e.nets (a.has_nets.count ∙ sym b.has_nets.count) (λ i x y h g.
         let net = item_at c.nets p.nets i x (sym a.has_nets.count) h in
         let is_drawn = (a.has_nets.each net.0).0 (listed p.nets i net.0 net.1) in
         let there : IsListed net.0 (drawn_nets (drawn cell)) = subst (λ m. IsListed m (drawn_nets (drawn cell))) (let z : 0 + net.0 ≡ net.0 = omega arith in z) (at_true 0 (drawn cell) net.0 is_drawn) in

@@ -3,7 +3,7 @@ use Rattle.std.proofs.Common.{◌≡◌, ◌⊎◌, inl, inr, ℕ, zero, suc, �
 use Rattle.std.specs.Prelude.{decimal, bytes_eq, if◌then◌else◌}
 use Rattle.std.specs.Str.Parse.{AllDigits}
 use Rattle.std.proofs.Math.Decide.{ℕ_discrete}
-use Rattle.std.proofs.lemmas.Bool.{eq-eqb}
+use Rattle.std.proofs.lemmas.Bool.{eq-eqb, cases_Bool, or_parts, true≢false}
 use Rattle.std.proofs.lemmas.Fmt.{decimal_digit, decimal_injective, decimal_is_IsNumeral}
 use Rattle.std.proofs.lemmas.Option.{same_Some}
 use Rattle.std.proofs.lemmas.Slice.Eq.{bytes_eq-Decides}
@@ -12,24 +12,13 @@ use Rattle.flat_layout.specs.Names.{apart_names, circuit_ending, circuit_needs, 
 use Rattle.plain_netlist.specs.Lists.{IsListed}
 use Rattle.table_laws.specs.NameLaws.{CircuitNamesApartLaw, NetNamesApartLaw, SecondNameLaw}
 
-either : (b : Bool) → (b ≡ true) ⊎ (b ≡ false)
-either true = inl refl
-either false = inr refl
-
-clash : true ≡ false → ⊥
-clash e = let z : ⊥ = cc in z
-
-or_false : (p q : Bool) → (p || q) ≡ false → (p ≡ false) × (q ≡ false)
-or_false true q h = absurd (clash h)
-or_false false q h = (refl, h)
-
 -- a text that isn't used is none of the earlier ones
 unused : (b : List ℕ) (earlier : List (List ℕ)) → is_used b earlier ≡ false → (c : List ℕ) → IsListed c earlier → b ≡ c → ⊥
 unused b [] h c i e = i
 unused b (x ∷ earlier) h c (inl i) e =
     let same : bytes_eq b x ≡ true = (bytes_eq-Decides b x).1 (e ∙ i) in
-    clash (sym (ap (λ t. t || is_used b earlier) same) ∙ h)
-unused b (x ∷ earlier) h c (inr i) e = unused b earlier (or_false (bytes_eq b x) (is_used b earlier) h).1 c i e
+    true≢false (sym (ap (λ t. t || is_used b earlier) same) ∙ h)
+unused b (x ∷ earlier) h c (inr i) e = unused b earlier (or_parts (bytes_eq b x) (is_used b earlier) h).1 c i e
 
 -- tests and endings that keep names apart
 pub record IsFit (needs : List (List ℕ) → List ℕ → Bool) (ending : ℕ → List ℕ) : Type 0 where
@@ -99,7 +88,7 @@ in_middle (c ∷ b) x = inr (in_middle b x)
 listed_has : (s : List ℕ) → IsListed 36 s → has_byte 36 s ≡ true
 listed_has [] h = absurd h
 listed_has (c ∷ s) (inl e) = ap (λ t. t || has_byte 36 s) (eq-eqb c 36 (sym e))
-listed_has (c ∷ s) (inr h) = elim (either (c == 36)) [ inl e ↦ ap (λ t. t || has_byte 36 s) e | inr e ↦ ap (λ t. t || has_byte 36 s) e ∙ listed_has s h ]
+listed_has (c ∷ s) (inr h) = elim (cases_Bool (c == 36)) [ inl e ↦ ap (λ t. t || has_byte 36 s) e | inr e ↦ ap (λ t. t || has_byte 36 s) e ∙ listed_has s h ]
 
 digits_none : (s : List ℕ) → AllDigits 10 s → IsListed 36 s → ⊥
 digits_none [] d h = h
@@ -121,23 +110,23 @@ one_number b c i j li lj e = decimal_injective i j li lj (behind b c (decimal i)
 
 net_fit : IsFit net_needs net_ending
 net_fit = record {
-  used = λ seen b h. (or_false (has_byte 36 b) (is_used b seen) (or_false (is_empty b) (has_byte 36 b || is_used b seen) h).1).1;
+  used = λ seen b h. (or_parts (has_byte 36 b) (is_used b seen) (or_parts (is_empty b) (has_byte 36 b || is_used b seen) h).1).1;
   plain = λ seen b k h.
       let s = b ++ 36 ∷ decimal k in
-      let no_byte = (or_false (has_byte 36 s) (is_used s seen) (or_false (is_empty s) (has_byte 36 s || is_used s seen) h).1).0 in
-      clash (sym (listed_has s (in_middle b (decimal k))) ∙ no_byte);
+      let no_byte = (or_parts (has_byte 36 s) (is_used s seen) (or_parts (is_empty s) (has_byte 36 s || is_used s seen) h).1).0 in
+      true≢false (sym (listed_has s (in_middle b (decimal k))) ∙ no_byte);
   one = one_number;
 }
 
 two_in_middle : (b x : List ℕ) → has_two (b ++ 36 ∷ 36 ∷ x) ≡ true
 two_in_middle [] x = refl
-two_in_middle (c ∷ []) x = elim (either ((c == 36) && (36 == 36))) [ inl e ↦ ap (λ t. t || has_two (36 ∷ 36 ∷ x)) e | inr e ↦ ap (λ t. t || has_two (36 ∷ 36 ∷ x)) e ]
-two_in_middle (c ∷ e ∷ b) x = elim (either ((c == 36) && (e == 36))) [ inl f ↦ ap (λ t. t || has_two (e ∷ (b ++ 36 ∷ 36 ∷ x))) f | inr f ↦ ap (λ t. t || has_two (e ∷ (b ++ 36 ∷ 36 ∷ x))) f ∙ two_in_middle (e ∷ b) x ]
+two_in_middle (c ∷ []) x = elim (cases_Bool ((c == 36) && (36 == 36))) [ inl e ↦ ap (λ t. t || has_two (36 ∷ 36 ∷ x)) e | inr e ↦ ap (λ t. t || has_two (36 ∷ 36 ∷ x)) e ]
+two_in_middle (c ∷ e ∷ b) x = elim (cases_Bool ((c == 36) && (e == 36))) [ inl f ↦ ap (λ t. t || has_two (e ∷ (b ++ 36 ∷ 36 ∷ x))) f | inr f ↦ ap (λ t. t || has_two (e ∷ (b ++ 36 ∷ 36 ∷ x))) f ∙ two_in_middle (e ∷ b) x ]
 
 circuit_fit : IsFit circuit_needs circuit_ending
 circuit_fit = record {
-  used = λ seen b h. (or_false (has_two b) (is_used b seen) h).1;
-  plain = λ seen b k h. clash (sym (two_in_middle b (decimal k)) ∙ (or_false (has_two (b ++ 36 ∷ 36 ∷ decimal k)) (is_used (b ++ 36 ∷ 36 ∷ decimal k) seen) h).0);
+  used = λ seen b h. (or_parts (has_two b) (is_used b seen) h).1;
+  plain = λ seen b k h. true≢false (sym (two_in_middle b (decimal k)) ∙ (or_parts (has_two (b ++ 36 ∷ 36 ∷ decimal k)) (is_used (b ++ 36 ∷ 36 ∷ decimal k) seen) h).0);
   one = λ b c i j li lj e. one_number (b ++ 36 ∷ []) (c ++ 36 ∷ []) i j li lj (append_assoc b (36 ∷ []) (36 ∷ decimal i) ∙ e ∙ sym (append_assoc c (36 ∷ []) (36 ∷ decimal j)));
 }
 

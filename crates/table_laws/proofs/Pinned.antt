@@ -1,5 +1,7 @@
 -- Pins are determined by those of the cells above, and together.
-use Rattle.std.proofs.Common.{◌≡◌, ◌↔◌, ℕ, zero, suc, ◌<◌, ◌+◌, Bool, true, false, List, [], ◌∷◌, ◌++◌, Some, slice_get, length, refl, sym, ◌∙◌, ap, subst, arith}
+use Rattle.std.proofs.Common.{◌≡◌, ◌↔◌, ℕ, zero, suc, ◌<◌, ◌+◌, Bool, true, false, List, ◌∷◌, ◌++◌, Some, slice_get, length, sym, ◌∙◌, ap, subst, arith}
+use Rattle.base_laws.proofs.Tests.{same_truth}
+use Rattle.base_laws.proofs.Items.{one_list}
 use Rattle.std.proofs.Common.{Ordering, Less, Equal, Greater}
 use Rattle.std.specs.Ordering.{is_lt, nat_cmp}
 use Rattle.std.specs.Cmp.Lexicographic.{slice_cmp}
@@ -14,7 +16,7 @@ use Rattle.flat_layout.specs.Regions.{Wiring}
 use Rattle.flat_laws.proofs.Planned.{lower}
 use Rattle.plain_netlist.proofs.Listing.{one_rising}
 use Rattle.table_laws.specs.TableLaws.{OnePinsLaw, PinsTogetherLaw, ReadPinsLaw}
-use Rattle.table_laws.proofs.Tabled.{leads_both, same_truth}
+use Rattle.table_laws.proofs.Tabled.{leads_both}
 
 both_less : (o p : Ordering) → o ≡ ordering_reverse p → is_lt o ≡ true → is_lt p ≡ true → ⊥
 both_less Less Less e f g = let z : Less ≡ Greater = e in (let y : ⊥ = cc in y)
@@ -33,19 +35,9 @@ one_base d w t cell x a b h g =
     let same : h.tags ≡ g.tags = one_rising IsTextBefore text_not_before h.tags g.tags h.rising g.rising (λ s l. (g.each s).1 ((h.each s).0 l)) (λ s l. (h.each s).1 ((g.each s).0 l)) in
     h.joined ∙ ap with_commas same ∙ sym g.joined
 
--- lists of one length with the same items at each place are one
-pub same_items : {A : Type 0} (xs ys : List A) → length xs ≡ length ys → ((i : ℕ) (a b : A) → slice_get xs i ≡ Some a → slice_get ys i ≡ Some b → a ≡ b) → xs ≡ ys
-same_items [] [] e all = refl
-same_items [] (y ∷ ys) e all = absurd (omega arith)
-same_items (x ∷ xs) [] e all = absurd (omega arith)
-same_items (x ∷ xs) (y ∷ ys) e all =
-    let first : x ≡ y = all 0 x y refl refl in
-    let rest : xs ≡ ys = same_items xs ys (omega arith) (λ i a b h g. all (suc i) a b h g) in
-    cc
-
 -- truths of one length that are true at the same places are one
 pub same_truths : (xs ys : List Bool) (n : ℕ) → length xs ≡ n → length ys ≡ n → ((i : ℕ) → i < n → (slice_get xs i ≡ Some true) ↔ (slice_get ys i ≡ Some true)) → xs ≡ ys
-same_truths xs ys n ex ey all = same_items xs ys (ex ∙ sym ey) (λ i a b h g.
+same_truths xs ys n ex ey all = one_list xs ys (ex ∙ sym ey) (λ i a b h g.
     let lt : i < n = subst (λ m. i < m) ex (slice_get_within xs i a h) in
     let same = all i lt in
     same_truth a b (λ e. same_Some _ _ (sym g ∙ same.0 (h ∙ ap Some e))) (λ e. same_Some _ _ (sym h ∙ same.1 (g ∙ ap Some e))))
@@ -53,7 +45,7 @@ same_truths xs ys n ex ey all = same_items xs ys (ex ∙ sym ey) (λ i a b h g.
 pub one_pins : OnePinsLaw
 one_pins d w t gates pins cell v z a b =
     let first : v.pins ≡ z.pins = same_truths v.pins z.pins (t.nets cell).count a.count b.count (λ i lt. let h = a.each i lt in let g = b.each i lt in ((λ e. g.1 (h.0 e)), (λ e. h.1 (g.0 e)))) in
-    let names : v.names ≡ z.names = same_items v.names z.names (a.named ∙ sym b.named) (λ i x y h g. one_base d w t cell i x y (a.names i x h) (b.names i y g)) in
+    let names : v.names ≡ z.names = one_list v.names z.names (a.named ∙ sym b.named) (λ i x y h g. one_base d w t cell i x y (a.names i x h) (b.names i y g)) in
     ap (λ (l : List Bool). let p : CellPins = record { pins = l; names = v.names } in p) first ∙ ap (λ (l : List (List ℕ)). let p : CellPins = record { pins = z.pins; names = l } in p) names
 
 -- what is above a cell above is above

@@ -1,5 +1,7 @@
 -- Disturbed squares, local layers and rectangles are determined; local layers and nets that are right by themselves are right tables.
-use Rattle.std.proofs.Common.{◌≡◌, ◌⊎◌, inl, inr, ℕ, zero, suc, Bool, true, false, ◌||◌, List, [], ◌∷◌, ◌++◌, Some, slice_get, pos, refl, sym, ◌∙◌, ap, subst, arith}
+use Rattle.std.proofs.Common.{◌≡◌, inl, inr, ℕ, zero, suc, true, false, ◌||◌, List, [], ◌∷◌, ◌++◌, Some, slice_get, pos, refl, sym, ◌∙◌, ap, subst, arith}
+use Rattle.base_laws.proofs.Tests.{same_truth, or_true}
+use Rattle.std.proofs.lemmas.Bool.{cases_Bool}
 use Rattle.std.proofs.lemmas.Int.{ints}
 use Rattle.std.proofs.lemmas.Option.{slice_get-get_or, slice_get_within}
 use Rattle.std.specs.List.{All}
@@ -17,15 +19,6 @@ use Rattle.flat_layout.specs.Values.{IsLocalLayer}
 use Rattle.flat_laws.proofs.Items.{together}
 use Rattle.table_laws.specs.TableLaws.{OneLayerLaw, OneOwnLaw, OneZoneLaw, TablesLaw}
 
-either : (b : Bool) → (b ≡ true) ⊎ (b ≡ false)
-either true = inl refl
-either false = inr refl
-
-pub same_truth : (a b : Bool) → (a ≡ true → b ≡ true) → (b ≡ true → a ≡ true) → a ≡ b
-same_truth true b f g = sym (f refl)
-same_truth false true f g = g refl
-same_truth false false f g = refl
-
 has_in : (r : Rect) (q : Square) → has r q ≡ true → IsIn q r
 has_in r q h = (grind (arith, ints), grind (arith, ints), grind (arith, ints), grind (arith, ints))
 
@@ -33,19 +26,15 @@ has_out : (r : Rect) (q : Square) → has r q ≡ false → IsIn q r → ⊥
 has_out r q h (a, b, c, d) = grind (arith, ints)
 
 in_has : (r : Rect) (q : Square) → IsIn q r → has r q ≡ true
-in_has r q i = elim (either (has r q)) [ inl h ↦ h | inr h ↦ absurd (has_out r q h i) ]
+in_has r q i = elim (cases_Bool (has r q)) [ inl h ↦ h | inr h ↦ absurd (has_out r q h i) ]
 
 -- a list covers a square where one of its rectangles has it
 pub covered : (list : List Rect) (q : Square) → covers list q ≡ true → (r : ℕ) × (rect : Rect) × (slice_get list r ≡ Some rect) × IsIn q rect
 covered [] q h = absurd (let z : ⊥ = cc in z)
-covered (x ∷ xs) q h = elim (either (has x q)) [
+covered (x ∷ xs) q h = elim (cases_Bool (has x q)) [
   | inl a ↦ (0, x, refl, has_in x q a)
   | inr a ↦ let rest : covers xs q ≡ true = sym (ap (λ t. t || covers xs q) a) ∙ h in let k = covered xs q rest in (suc k.0, k.1, k.2, k.3)
 ]
-
-or_true : (b : Bool) → (b || true) ≡ true
-or_true true = refl
-or_true false = refl
 
 pub tells : (list : List Rect) (r : ℕ) (rect : Rect) (q : Square) → slice_get list r ≡ Some rect → IsIn q rect → covers list q ≡ true
 tells [] r rect q e i = absurd (let z : ⊥ = cc in z)

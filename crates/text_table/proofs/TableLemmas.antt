@@ -1,14 +1,11 @@
 -- Look-ups among texts that a table holds.
-use Rattle.std.proofs.Common.{◌≡◌, ◌⊎◌, inl, inr, length, sym, ℕ, suc, ◌+◌, ◌≤◌, List, [], ◌∷◌, ◌++◌, map, Bool, true, false, cond, Some, None, refl, ap, ◌∙◌, arith}
+use Rattle.std.proofs.Common.{◌≡◌, inl, inr, length, sym, ℕ, suc, ◌+◌, ◌≤◌, List, [], ◌∷◌, ◌++◌, map, Bool, true, false, cond, Some, None, refl, ap, ◌∙◌, arith}
+use Rattle.std.proofs.lemmas.Bool.{cases_Bool}
 use Rattle.std.proofs.lemmas.List.{map-append}
 use Rattle.std.specs.Prelude.{◌||◌, not, nat_lt, unwrap_or}
 use Rattle.std.specs.List.{list_any, position_or_len}
 use Rattle.std.specs.Str.{bytes_eq}
 use Rattle.text_table.specs.Texts.{has_text, with_text}
-
-either : (b : Bool) → (b ≡ true) ⊎ (b ≡ false)
-either true = inl refl
-either false = inr refl
 
 pub any_of : {A B : Type 0} (p : B → Bool) (f : A → B) (xs : List A) → list_any (λ x. p (f x)) xs ≡ list_any p (map f xs)
 any_of p f [] = refl
@@ -36,14 +33,14 @@ text_pushed {A = A} items vs v text e absent =
 -- a text is there exactly where its place is below the number of texts
 pub place_last : (texts : List (List ℕ)) (p : List ℕ → Bool) → position_or_len p texts ≡ length texts → list_any p texts ≡ false
 place_last [] p e = refl
-place_last (t ∷ ts) p e = elim (either (p t)) [
+place_last (t ∷ ts) p e = elim (cases_Bool (p t)) [
   | inl y ↦ let z : 0 ≡ suc (length ts) = sym (rw y refl) ∙ e in absurd (omega arith)
   | inr n ↦ rw n (place_last ts p (let z : 1 + position_or_len p ts ≡ suc (length ts) = sym (rw n refl) ∙ e in omega arith))
 ]
 
 pub place_before : (texts : List (List ℕ)) (p : List ℕ → Bool) → (position_or_len p texts ≡ length texts → ⊥) → list_any p texts ≡ true
 place_before [] p e = absurd (e refl)
-place_before (t ∷ ts) p e = elim (either (p t)) [
+place_before (t ∷ ts) p e = elim (cases_Bool (p t)) [
   | inl y ↦ rw y refl
   | inr n ↦ rw n (place_before ts p (λ same. e (rw n (omega arith))))
 ]

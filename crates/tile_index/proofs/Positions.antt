@@ -1,5 +1,7 @@
 -- Entries of a list in another order: what they find is found in the list.
-use Rattle.std.proofs.Common.{◌≡◌, ◌⊎◌, inl, inr, ℕ, pos, zero, suc, ◌+◌, ◌<◌, ◌≤◌, List, [], ◌∷◌, ◌++◌, Some, Bool, true, false, eqb, if◌then◌else◌, map, length, take, get_or, slice_get, refl, sym, ◌∙◌, ap, subst, arith}
+use Rattle.std.proofs.Common.{◌≡◌, ◌⊎◌, inl, inr, ℕ, pos, zero, suc, ◌+◌, ◌<◌, ◌≤◌, List, [], ◌∷◌, ◌++◌, Some, true, false, eqb, map, length, take, get_or, slice_get, refl, sym, ◌∙◌, ap, subst, arith}
+use Rattle.base_laws.proofs.Tests.{if_true, if_false}
+use Rattle.std.proofs.lemmas.Bool.{cases_Bool}
 use Rattle.std.specs.Prelude.{Contains}
 use Rattle.std.specs.List.{All, IsDistinct, AllByRecursion, filter, range_with_len}
 use Rattle.std.specs.List.Sorted.{IsPermutation, IsNonDecreasing}
@@ -41,14 +43,6 @@ later rects e entries h = All-tail (λ (e : Entry). slice_get rects e.position �
 here : (rects : List Rect) (e : Entry) (entries : List Entry) → AllPlaced rects (e ∷ entries) → slice_get rects e.position ≡ Some e.rect
 here rects e entries h = All-head (λ (e : Entry). slice_get rects e.position ≡ Some e.rect) e entries h
 
-pub choose_yes : {A : Type 0} (b : Bool) (x y : A) → b ≡ true → (if b then x else y) ≡ x
-choose_yes true x y e = refl
-choose_yes false x y e = absurd (let z : ⊥ = cc in z)
-
-pub choose_no : {A : Type 0} (b : Bool) (x y : A) → b ≡ false → (if b then x else y) ≡ y
-choose_no false x y e = refl
-choose_no true x y e = absurd (let z : ⊥ = cc in z)
-
 -- the entry of a position has the rectangle that stands there
 rect_found : (rects : List Rect) (entries : List Entry) (k : ℕ) → AllPlaced rects entries → IsOn (map (λ (e : Entry). e.position) entries) k → slice_get rects k ≡ Some (rect_at entries k)
 rect_found rects [] k all on = absurd on
@@ -56,11 +50,11 @@ rect_found rects (e ∷ entries) k all on =
     elim (eqb_tells e.position k) [
       | inl hit ↦
           let is : slice_get rects k ≡ Some e.rect = subst (λ i. slice_get rects i ≡ Some e.rect) hit.1 (here rects e entries all) in
-          is ∙ ap (λ (r : Rect). Some r) (sym (choose_yes (eqb e.position k) e.rect (rect_at entries k) hit.0))
+          is ∙ ap (λ (r : Rect). Some r) (sym (if_true (eqb e.position k) e.rect (rect_at entries k) hit.0))
       | inr miss ↦
           let rest : IsOn (map (λ (e : Entry). e.position) entries) k = elim on [ inl same ↦ absurd (miss.1 same) | inr h ↦ h ] in
           rect_found rects entries k (later rects e entries all) rest
-          ∙ ap (λ (r : Rect). Some r) (sym (choose_no (eqb e.position k) e.rect (rect_at entries k) miss.0))
+          ∙ ap (λ (r : Rect). Some r) (sym (if_false (eqb e.position k) e.rect (rect_at entries k) miss.0))
     ]
 
 pub on_range : (n k : ℕ) → k < n → Contains (range_with_len 0 n) k
@@ -89,21 +83,17 @@ rects_same rects entries h =
 pub hit_more : (w : Rect) (e : Entry) (entries : List Entry) → meets e.rect w ≡ true → hits w (e ∷ entries) ≡ e.position ∷ hits w entries
 hit_more w e entries hit =
     ap (λ (es : List Entry). map (λ (e : Entry). e.position) es)
-    (choose_yes (meets e.rect w) (e ∷ filter (λ (e : Entry). meets e.rect w) entries) (filter (λ (e : Entry). meets e.rect w) entries) hit)
+    (if_true (meets e.rect w) (e ∷ filter (λ (e : Entry). meets e.rect w) entries) (filter (λ (e : Entry). meets e.rect w) entries) hit)
 
 pub hit_same : (w : Rect) (e : Entry) (entries : List Entry) → meets e.rect w ≡ false → hits w (e ∷ entries) ≡ hits w entries
 hit_same w e entries miss =
     ap (λ (es : List Entry). map (λ (e : Entry). e.position) es)
-    (choose_no (meets e.rect w) (e ∷ filter (λ (e : Entry). meets e.rect w) entries) (filter (λ (e : Entry). meets e.rect w) entries) miss)
-
-pub bool_is : (b : Bool) → (b ≡ true) ⊎ (b ≡ false)
-bool_is true = inl refl
-bool_is false = inr refl
+    (if_false (meets e.rect w) (e ∷ filter (λ (e : Entry). meets e.rect w) entries) (filter (λ (e : Entry). meets e.rect w) entries) miss)
 
 hit_found : (rects : List Rect) (entries : List Entry) (w : Rect) (k : ℕ) → AllPlaced rects entries → IsOn (hits w entries) k → IsFound rects w k
 hit_found rects [] w k all on = absurd on
 hit_found rects (e ∷ entries) w k all on =
-    elim (bool_is (meets e.rect w)) [
+    elim (cases_Bool (meets e.rect w)) [
       | inl hit ↦
           elim (subst (λ ks. IsOn ks k) (hit_more w e entries hit) on) [
             | inl same ↦ (e.rect, subst (λ i. slice_get rects i ≡ Some e.rect) same (here rects e entries all), meets_share e.rect w hit)
@@ -116,7 +106,7 @@ found_hit : (rects : List Rect) (entries : List Entry) (w : Rect) (k : ℕ) → 
     → (r : Rect) → slice_get rects k ≡ Some r → meets r w ≡ true → IsOn (hits w entries) k
 found_hit rects [] w k all on r there shares = absurd on
 found_hit rects (e ∷ entries) w k all on r there shares =
-    elim (bool_is (meets e.rect w)) [
+    elim (cases_Bool (meets e.rect w)) [
       | inl hit ↦
           subst (λ ks. IsOn ks k) (sym (hit_more w e entries hit)) (elim on [
             | inl same ↦ inl same
@@ -151,7 +141,7 @@ flips x y = elim (eqb_tells x y) [
 none_hit : (w : Rect) (x : ℕ) (entries : List Entry) → AllByRecursion (λ y. eqb x y ≡ false) (map (λ (e : Entry). e.position) entries) → AllByRecursion (λ y. eqb x y ≡ false) (hits w entries)
 none_hit w x [] h = tt
 none_hit w x (e ∷ entries) h =
-    elim (bool_is (meets e.rect w)) [
+    elim (cases_Bool (meets e.rect w)) [
       | inl hit ↦ subst (AllByRecursion (λ y. eqb x y ≡ false)) (sym (hit_more w e entries hit)) (h.0, none_hit w x entries h.1)
       | inr miss ↦ subst (AllByRecursion (λ y. eqb x y ≡ false)) (sym (hit_same w e entries miss)) (none_hit w x entries h.1)
     ]
@@ -160,7 +150,7 @@ hits_apart : (w : Rect) (entries : List Entry) → IsDistinct eqb (map (λ (e : 
 unfolding IsDistinct
 hits_apart w [] h = tt
 hits_apart w (e ∷ entries) h =
-    elim (bool_is (meets e.rect w)) [
+    elim (cases_Bool (meets e.rect w)) [
       | inl hit ↦ subst (IsDistinct eqb) (sym (hit_more w e entries hit)) (none_hit w e.position entries h.0, hits_apart w entries h.1)
       | inr miss ↦ subst (IsDistinct eqb) (sym (hit_same w e entries miss)) (hits_apart w entries h.1)
     ]

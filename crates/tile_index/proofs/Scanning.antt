@@ -1,5 +1,7 @@
 -- Positions found by a look at each rectangle of a list.
 use Rattle.std.proofs.Common.{◌≡◌, inl, inr, ℕ, pos, ◌+◌, ◌<◌, List, [], ◌∷◌, ◌++◌, Bool, true, false, length, get_or, sym, ◌∙◌, ap, subst, arith}
+use Rattle.base_laws.proofs.Tests.{if_true, if_false}
+use Rattle.std.proofs.lemmas.Bool.{cases_Bool}
 use Rattle.std.specs.Prelude.{Contains}
 use Rattle.std.specs.List.{filter, range_with_len}
 use Rattle.std.specs.List.Sorted.{IsStrictlyIncreasing}
@@ -11,7 +13,7 @@ use Rattle.std.proofs.lemmas.Option.{slice_get_within, slice_get-get_or, get_or_
 use Rattle.geo_base.specs.declared.shapes.Rect.{Rect}
 use Rattle.tile_index.specs.Windows.{ArePositions, IsFound, meets}
 use Rattle.tile_index.proofs.Meeting.{meets_share, share_meets}
-use Rattle.tile_index.proofs.Positions.{IsOn, contains_on, on_contains, bool_is, choose_yes, choose_no, on_range, range_more}
+use Rattle.tile_index.proofs.Positions.{IsOn, contains_on, on_contains, on_range, range_more}
 
 abbrev pub zero_rect : Rect
 zero_rect = record { x1 = pos 0; y1 = pos 0; x2 = pos 0; y2 = pos 0 }
@@ -29,27 +31,27 @@ found_next : (rects : List Rect) (w : Rect) (n : ℕ) → found_to rects w (n + 
 found_next rects w n = ap (filter (is_hit rects w)) (sym (range_more n)) ∙ filter-append (is_hit rects w) (range_with_len 0 n) (n ∷ [])
 
 pub hit_next : (rects : List Rect) (w : Rect) (n : ℕ) → is_hit rects w n ≡ true → found_to rects w n ++ n ∷ [] ≡ found_to rects w (n + 1)
-hit_next rects w n is = ap (λ ks. found_to rects w n ++ ks) (sym (choose_yes (is_hit rects w n) (n ∷ []) [] is)) ∙ sym (found_next rects w n)
+hit_next rects w n is = ap (λ ks. found_to rects w n ++ ks) (sym (if_true (is_hit rects w n) (n ∷ []) [] is)) ∙ sym (found_next rects w n)
 
 pub miss_next : (rects : List Rect) (w : Rect) (n : ℕ) → is_hit rects w n ≡ false → found_to rects w n ≡ found_to rects w (n + 1)
-miss_next rects w n is = sym (append-nil (found_to rects w n)) ∙ ap (λ ks. found_to rects w n ++ ks) (sym (choose_no (is_hit rects w n) (n ∷ []) [] is)) ∙ sym (found_next rects w n)
+miss_next rects w n is = sym (append-nil (found_to rects w n)) ∙ ap (λ ks. found_to rects w n ++ ks) (sym (if_false (is_hit rects w n) (n ∷ []) [] is)) ∙ sym (found_next rects w n)
 
 -- what a filter keeps
 kept_on : (p : ℕ → Bool) (xs : List ℕ) (k : ℕ) → IsOn (filter p xs) k → IsOn xs k × (p k ≡ true)
 kept_on p [] k on = absurd on
-kept_on p (x ∷ xs) k on = elim (bool_is (p x)) [
-  | inl hit ↦ elim (subst (λ ks. IsOn ks k) (choose_yes (p x) (x ∷ filter p xs) (filter p xs) hit) on) [
+kept_on p (x ∷ xs) k on = elim (cases_Bool (p x)) [
+  | inl hit ↦ elim (subst (λ ks. IsOn ks k) (if_true (p x) (x ∷ filter p xs) (filter p xs) hit) on) [
     | inl same ↦ (inl same, subst (λ i. p i ≡ true) same hit)
     | inr h ↦ (let f = kept_on p xs k h in (inr f.0, f.1))
   ]
-  | inr miss ↦ (let f = kept_on p xs k (subst (λ ks. IsOn ks k) (choose_no (p x) (x ∷ filter p xs) (filter p xs) miss) on) in (inr f.0, f.1))
+  | inr miss ↦ (let f = kept_on p xs k (subst (λ ks. IsOn ks k) (if_false (p x) (x ∷ filter p xs) (filter p xs) miss) on) in (inr f.0, f.1))
 ]
 
 on_kept : (p : ℕ → Bool) (xs : List ℕ) (k : ℕ) → IsOn xs k → p k ≡ true → IsOn (filter p xs) k
 on_kept p [] k on is = absurd on
-on_kept p (x ∷ xs) k on is = elim (bool_is (p x)) [
-  | inl hit ↦ subst (λ ks. IsOn ks k) (sym (choose_yes (p x) (x ∷ filter p xs) (filter p xs) hit)) (elim on [ inl same ↦ inl same | inr h ↦ inr (on_kept p xs k h is) ])
-  | inr miss ↦ subst (λ ks. IsOn ks k) (sym (choose_no (p x) (x ∷ filter p xs) (filter p xs) miss)) (elim on [
+on_kept p (x ∷ xs) k on is = elim (cases_Bool (p x)) [
+  | inl hit ↦ subst (λ ks. IsOn ks k) (sym (if_true (p x) (x ∷ filter p xs) (filter p xs) hit)) (elim on [ inl same ↦ inl same | inr h ↦ inr (on_kept p xs k h is) ])
+  | inr miss ↦ subst (λ ks. IsOn ks k) (sym (if_false (p x) (x ∷ filter p xs) (filter p xs) miss)) (elim on [
     | inl same ↦ (let f : p x ≡ true = subst (λ i. p i ≡ true) (sym same) is in absurd (let z : ⊥ = cc in z))
     | inr h ↦ on_kept p xs k h is
   ])

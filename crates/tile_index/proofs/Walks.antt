@@ -1,7 +1,8 @@
 -- Nodes over entries: what is added, and what a walk over them passes.
 use Rattle.std.proofs.Common.{◌≡◌, ◌≢◌, inl, inr, ℕ, zero, suc, ◌+◌, ◌-◌, ◌<◌, ◌≤◌, List, [], ◌∷◌, ◌++◌, Some, true, false, map, length, take, drop, get_or, slice_get, refl, sym, ◌∙◌, ap, subst, arith, length-append, append-nil, append_assoc}
+use Rattle.base_laws.proofs.Items.{get_front, get_last}
 use Rattle.std.proofs.Math.Decide.{ℕ_discrete}
-use Rattle.std.proofs.lemmas.Bool.{cases_lt}
+use Rattle.std.proofs.lemmas.Bool.{cases_lt, cases_Bool}
 use Rattle.std.proofs.lemmas.List.{map-append, take-take, take-append-drop, drop-take, take_more, length_push, length-drop, length-take-le, get_or-take, get_or-drop}
 use Rattle.std.proofs.lemmas.List.Elements.{filter-append}
 use Rattle.std.proofs.lemmas.Option.{slice_get-get_or, slice_get_within, get_or_from_slice_get}
@@ -12,7 +13,7 @@ use Rattle.tile_index.specs.declared.tree.Node.{Node}
 use Rattle.tile_index.specs.Entries.{hits}
 use Rattle.tile_index.specs.Trees.{from_of, begin_of, HoldsAll, HoldsRange, IsNode, AreNodes, IsAbove, Grows, part}
 use Rattle.tile_index.proofs.Meeting.{inside_meets, inside_too, in_left, in_right}
-use Rattle.tile_index.proofs.Positions.{hit_more, hit_same, bool_is}
+use Rattle.tile_index.proofs.Positions.{hit_more, hit_same}
 
 pub hits_append : (w : Rect) (xs ys : List Entry) → hits w (xs ++ ys) ≡ hits w xs ++ hits w ys
 hits_append w xs ys =
@@ -47,7 +48,7 @@ none_between w (e ∷ entries) zero (suc to) le none =
     ∙ sym (hit_same w e (take to entries) (none 0 e (omega arith) (omega arith) refl))
 none_between w (e ∷ entries) (suc from) (suc to) le none =
     let rest = none_between w entries from to (omega arith) (λ k f low lt there. none (suc k) f (omega arith) (omega arith) there) in
-    elim (bool_is (meets e.rect w)) [
+    elim (cases_Bool (meets e.rect w)) [
       | inl hit ↦ hit_more w e (take from entries) hit ∙ ap (λ ks. e.position ∷ ks) rest ∙ sym (hit_more w e (take to entries) hit)
       | inr miss ↦ hit_same w e (take from entries) miss ∙ rest ∙ sym (hit_same w e (take to entries) miss)
     ]
@@ -56,7 +57,7 @@ none_between w (e ∷ entries) (suc from) (suc to) le none =
 pub node_passed : (w : Rect) (entries : List Entry) (nodes : List Node) (i : ℕ) (node : Node) → IsNode entries nodes i node → meets node.hull w ≡ false
     → hits w (take node.from entries) ≡ hits w (take node.to entries)
 node_passed w entries nodes i node h miss =
-    none_between w entries node.from node.to h.range (λ k e low lt there. elim (bool_is (meets e.rect w)) [
+    none_between w entries node.from node.to h.range (λ k e low lt there. elim (cases_Bool (meets e.rect w)) [
       | inl hit ↦ let z : ⊥ = (let f = inside_meets e.rect node.hull w (h.holds k e low lt there) hit in cc) in absurd z
       | inr free ↦ free
     ])
@@ -75,19 +76,9 @@ pub leaf_passed : (w : Rect) (entries : List Entry) (from to : ℕ) → from ≤
 leaf_passed w entries from to le =
     sym (hits_append w (take from entries) (take (to - from) (drop from entries))) ∙ ap (hits w) (sym (take_split entries from to le))
 
--- what stands in the front of a longer list
-pub get_left : {A : Type 0} (xs ys : List A) (i : ℕ) → i < length xs → slice_get (xs ++ ys) i ≡ slice_get xs i
-get_left [] ys i lt = absurd (let z : ⊥ = omega arith in z)
-get_left (x ∷ xs) ys zero lt = refl
-get_left (x ∷ xs) ys (suc i) lt = get_left xs ys i (omega arith)
-
-pub get_end : {A : Type 0} (xs : List A) (y : A) → slice_get (xs ++ y ∷ []) (length xs) ≡ Some y
-get_end [] y = refl
-get_end (x ∷ xs) y = get_end xs y
-
 pub begin_kept : (entries : List Entry) (old more : List Node) (n : ℕ) → n ≤ length old → begin_of entries (old ++ more) n ≡ begin_of entries old n
 begin_kept entries old more zero le = refl
-begin_kept entries old more (suc n) le = ap (from_of (length entries)) (get_left old more n (omega arith))
+begin_kept entries old more (suc n) le = ap (from_of (length entries)) (get_front old more n (omega arith))
 
 pub begin_at : (entries : List Entry) (nodes : List Node) (n : ℕ) (node : Node) → slice_get nodes n ≡ Some node → begin_of entries nodes (suc n) ≡ node.from
 begin_at entries nodes n node there = ap (from_of (length entries)) there
@@ -117,7 +108,7 @@ node_pushed entries nodes node range inside all above holds =
     record {
       nodes = λ i other there. elim (ℕ_discrete i (length nodes)) [
         | yes e ↦
-            let at_end : slice_get (nodes ++ node ∷ []) i ≡ Some node = subst (λ n. slice_get (nodes ++ node ∷ []) n ≡ Some node) (sym e) (get_end nodes node) in
+            let at_end : slice_get (nodes ++ node ∷ []) i ≡ Some node = subst (λ n. slice_get (nodes ++ node ∷ []) n ≡ Some node) (sym e) (get_last nodes node) in
             let same : node ≡ other = (let f : Some node ≡ Some other = sym at_end ∙ there in cc) in
             subst (λ (o : Node). IsNode entries (nodes ++ node ∷ []) i o) same
             (subst (λ n. IsNode entries (nodes ++ node ∷ []) n node) (sym e) (node_kept entries nodes (node ∷ []) (length nodes) node (omega arith) own))
@@ -125,10 +116,10 @@ node_pushed entries nodes node range inside all above holds =
             let within = slice_get_within (nodes ++ node ∷ []) i other there in
             let count = length_push nodes node in
             let lt : i < length nodes = omega arith in
-            node_kept entries nodes (node ∷ []) i other (omega arith) (all i other (sym (get_left nodes (node ∷ []) i lt) ∙ there))
+            node_kept entries nodes (node ∷ []) i other (omega arith) (all i other (sym (get_front nodes (node ∷ []) i lt) ∙ there))
       ];
       begins = ap (begin_of entries (nodes ++ node ∷ [])) (length_push nodes node ∙ (let f : length nodes + 1 ≡ suc (length nodes) = omega arith in f))
-          ∙ begin_at entries (nodes ++ node ∷ []) (length nodes) node (get_end nodes node);
+          ∙ begin_at entries (nodes ++ node ∷ []) (length nodes) node (get_last nodes node);
       kept = (node ∷ [], refl);
     }
 

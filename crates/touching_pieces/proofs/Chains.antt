@@ -1,14 +1,13 @@
 -- Links whose chains join what touches.
-use Rattle.std.proofs.Common.{◌≡◌, ◌⊎◌, inl, inr, ℕ, zero, suc, ◌<◌, ◌+◌, Bool, true, false, not, List, [], ◌∷◌, ◌++◌, length, take, get_or, refl, sym, ap, ◌∙◌, subst, arith, ◌↔◌}
-use Rattle.std.specs.List.{filter}
+use Rattle.std.proofs.Common.{◌≡◌, ◌⊎◌, inl, inr, ℕ, zero, suc, ◌<◌, ◌+◌, Bool, not, List, [], ◌∷◌, ◌++◌, length, take, get_or, refl, sym, ap, ◌∙◌, subst, arith, ◌↔◌}
 use Rattle.std.proofs.Math.Seq.{take-length}
-use Rattle.std.proofs.lemmas.Bool.{false≢true}
+use Rattle.std.proofs.lemmas.Bool.{not_from_false, cases_Bool}
 use Rattle.std.proofs.lemmas.List.{take_more}
 use Rattle.link_classes.specs.Classes.{IsLinked}
 use Rattle.link_classes.specs.declared.classes.Link.{Link}
 use Rattle.plain_netlist.proofs.Links.{stays, single, both, back, along}
-use Rattle.touching_pieces.proofs.Links.{linked_back, among_left, among_right, among_either, among_of, among_to, either, in_touch_weaker, lows_in, highs_in, low_or_high_in}
-use Rattle.touching_pieces.proofs.Sides.{touching, touching_back, touching_turned}
+use Rattle.touching_pieces.proofs.Links.{linked_back, among_left, among_right, among_either, among_of, among_to, in_touch_weaker, lows_in, highs_in, low_or_high_in}
+use Rattle.touching_pieces.proofs.Sides.{touching, touching_turned}
 use Rattle.touching_pieces.specs.Crowds.{AddsCrowd, AddsFirsts, apart_from, touched_by}
 use Rattle.touching_pieces.specs.Pairs.{AddsChains, AddsLinks, AddsTouching, AreInTouch, AreOne, IsAmong, highs, lows}
 use Rattle.touching_pieces.specs.Touching.{AreTouching, touches}
@@ -90,10 +89,6 @@ crowd_rest ps qs rs old mid new h g =
       ];
     }
 
-not_of : (b : Bool) → b ≡ false → not b ≡ true
-not_of true e = absurd (false≢true (sym e))
-not_of false e = refl
-
 -- the piece's links, and those of pieces that touch what it touches
 pub crowd : (hub : Piece) (ps qs : List Piece) (old mid new : List Link) → IsAmong hub ps → AddsTouching (hub ∷ []) (touched_by hub qs) old mid
     → AddsFirsts ps (touched_by hub qs) mid new → AddsCrowd ps qs (apart_from hub qs) old new
@@ -114,7 +109,7 @@ crowd hub ps qs old mid new within h g =
         ]
         | inr m ↦ inr (elim m [ inl a ↦ inl (in_touch_weaker ps ts ps qs (λ p o. o) in_qs i j a) | inr b ↦ inr (in_touch_weaker ps ts ps qs (λ p o. o) in_qs j i b) ])
       ];
-      found = λ i j k. elim (either (touches hub.rect k.other.rect)) [
+      found = λ i j k. elim (cases_Bool (touches hub.rect k.other.rect)) [
         | inl t ↦
             let in_ts : IsAmong k.other ts = among_to f qs k.other k.in_others t in
             let first = g.found k.one k.other k.in_ones in_ts k.touching in
@@ -123,7 +118,7 @@ crowd hub ps qs old mid new within h g =
             (one_by new first.0.item hub.item k.other.item (one_back new hub.item first.0.item (to_hub first.0 first.1)) (to_hub k.other in_ts)) in
             inl (subst (λ x. AreOne new x j) k.from (subst (λ y. AreOne new k.one.item y) k.to way))
         | inr t ↦
-            inr (record { one = k.one; other = k.other; in_ones = k.in_ones; in_others = among_to e qs k.other k.in_others (not_of (touches hub.rect k.other.rect) t); touching = k.touching; from = k.from; to = k.to })
+            inr (record { one = k.one; other = k.other; in_ones = k.in_ones; in_others = among_to e qs k.other k.in_others (not_from_false (touches hub.rect k.other.rect) t); touching = k.touching; from = k.from; to = k.to })
       ];
       among = λ p k. (among_of e qs p k).0;
     }

@@ -1,10 +1,9 @@
 -- Chains of links for pieces of several conductors, some of which are joined.
-use Rattle.std.proofs.Common.{◌≡◌, ◌⊎◌, inl, inr, ℕ, ◌<◌, ◌+◌, ◌==◌, Bool, true, false, List, [], ◌∷◌, ◌++◌, length, take, get_or, refl, sym, ap, ◌∙◌, subst, arith, ◌↔◌}
+use Rattle.std.proofs.Common.{◌≡◌, ◌⊎◌, inl, inr, ℕ, ◌<◌, ◌+◌, ◌==◌, Bool, true, List, [], ◌∷◌, ◌++◌, length, take, get_or, refl, sym, ap, ◌∙◌, subst, arith}
 use Rattle.std.proofs.Math.Decide.{ℕ_discrete}
 use Rattle.std.proofs.Math.Seq.{take-length}
-use Rattle.std.proofs.lemmas.Bool.{false≢true, eq-eqb}
+use Rattle.std.proofs.lemmas.Bool.{eq-eqb, eqb-true}
 use Rattle.std.proofs.lemmas.List.{take_more}
-use Rattle.std.proofs.lemmas.Bool.Decides.{eqb_tells}
 use Rattle.flat_layout.specs.Layout.{Some_of}
 use Rattle.link_classes.specs.Classes.{IsLinked}
 use Rattle.link_classes.specs.declared.classes.Link.{Link}
@@ -19,14 +18,11 @@ use Rattle.touching_pieces.specs.declared.pieces.Piece.{Piece}
 
 -- pieces of conductors
 
-test_of : (a b : ℕ) → (a == b) ≡ true → a ≡ b
-test_of a b e = elim (eqb_tells a b) [ inl h ↦ h.1 | inr h ↦ absurd (false≢true (sym h.0 ∙ e)) ]
-
 of_to : (ps : List Piece) (p : Piece) (c : ℕ) → IsAmong p ps → p.conductor ≡ c → IsAmong p (of_conductor c ps)
 of_to ps p c h e = among_to (λ (q : Piece). q.conductor == c) ps p h (eq-eqb p.conductor c e)
 
 of_from : (ps : List Piece) (p : Piece) (c : ℕ) → IsAmong p (of_conductor c ps) → IsAmong p ps × (p.conductor ≡ c)
-of_from ps p c h = let k = among_of (λ (q : Piece). q.conductor == c) ps p h in (k.0, test_of p.conductor c k.1)
+of_from ps p c h = let k = among_of (λ (q : Piece). q.conductor == c) ps p h in (k.0, eqb-true p.conductor c k.1)
 
 abbrev Via : Joined → List Piece → ℕ → ℕ → ℕ → Type 0
 Via l ps c i j = (l.first ≡ c) × AreInTouch (of_conductor c ps) (of_conductor l.second ps) i j
@@ -155,7 +151,7 @@ none_of joins ps c links none = chains_none (AreInTouchOf joins ps c) links (λ 
 -- a list that is said to be empty is
 pub none_held : (ps : List Piece) (long : ℕ) (empty : Bool) → long ≡ length ps → empty ≡ (long == 0) → empty ≡ true → ps ≡ []
 none_held [] long empty is told e = refl
-none_held (p ∷ ps) long empty is told e = let f : long ≡ 0 = test_of long 0 (sym told ∙ e) in absurd (let z : ⊥ = omega (arith, is, f) in z)
+none_held (p ∷ ps) long empty is told e = let f : long ≡ 0 = eqb-true long 0 (sym told ∙ e) in absurd (let z : ⊥ = omega (arith, is, f) in z)
 
 one_item : (ps : List Piece) (p q : Piece) → length ps < 2 → IsAmong p ps → IsAmong q ps → p.item ≡ q.item
 one_item [] p q few a b = absurd a

@@ -1,21 +1,17 @@
 -- Links that are added for pieces in touch.
-use Rattle.std.proofs.Common.{◌≡◌, ◌⊎◌, inl, inr, ℕ, ◌<◌, ◌+◌, ◌==◌, ℤ, pos, ◌<ℤ◌, ◌≤ℤ◌, int_le, int_lt, Bool, true, false, List, [], ◌∷◌, ◌++◌, length, take, get_or, refl, sym, ap, ◌∙◌, subst, arith, ◌↔◌}
+use Rattle.std.proofs.Common.{◌≡◌, ◌⊎◌, inl, inr, ℕ, ◌<◌, ◌+◌, ℤ, pos, ◌<ℤ◌, ◌≤ℤ◌, int_le, int_lt, Bool, true, List, [], ◌∷◌, ◌++◌, length, take, get_or, refl, sym, ap, ◌∙◌, subst, arith, ◌↔◌}
+use Rattle.base_laws.proofs.Tests.{lt_to, le_to}
 use Rattle.std.specs.List.{filter}
-use Rattle.std.proofs.Math.Decide.{ℕ_discrete}
 use Rattle.std.proofs.Math.Seq.{take-length}
 use Rattle.std.proofs.lemmas.Int.{ints, by_lt_z}
-use Rattle.std.proofs.lemmas.Bool.{false≢true, eq-eqb}
+use Rattle.std.proofs.lemmas.Bool.{cases_Bool}
 use Rattle.std.proofs.lemmas.List.{take_more}
-use Rattle.std.proofs.lemmas.Bool.Decides.{eqb_tells}
-use Rattle.flat_layout.specs.Layout.{Some_of}
 use Rattle.geo_base.specs.declared.shapes.Rect.{Rect}
 use Rattle.link_classes.specs.Classes.{IsLinked, IsOf}
 use Rattle.link_classes.specs.declared.classes.Link.{Link}
-use Rattle.plain_netlist.proofs.Links.{stays, single, along}
-use Rattle.touching_pieces.proofs.Sides.{AreBeside, sides, touching_turned, le_to, lt_to}
-use Rattle.touching_pieces.specs.Pairs.{IsAmong, AreInTouch, AddsLinks, AddsTouching, begins_by, ends_behind, lows, highs, of_conductor, AreOf, AreInTouchVia, AreInTouchOf, AreJoined, AreTied, AreLinksOf}
+use Rattle.touching_pieces.proofs.Sides.{AreBeside, sides}
+use Rattle.touching_pieces.specs.Pairs.{IsAmong, AreInTouch, AddsLinks, AddsTouching, begins_by, ends_behind, lows, highs}
 use Rattle.touching_pieces.specs.Touching.{AreTouching}
-use Rattle.touching_pieces.specs.declared.conductors.Joined.{Joined}
 use Rattle.touching_pieces.specs.declared.cuts.Axis.TheVariants.{X, Y}
 use Rattle.touching_pieces.specs.declared.cuts.Cut.{Cut}
 use Rattle.touching_pieces.specs.declared.pieces.Piece.{Piece}
@@ -67,7 +63,7 @@ added_one R ls a b r same =
       found = λ i j h. inr (linked_last ls l i j (inl (same i j h)));
     }
 
--- links for one relation and then for another are links for a third that is either
+-- links for one relation and then for another are links for a third that is cases_Bool
 pub added_both : (R S T : ℕ → ℕ → Type 0) (old mid new : List Link) → AddsLinks R old mid → AddsLinks S mid new
     → ((i j : ℕ) → R i j → T i j) → ((i j : ℕ) → S i j → T i j) → ((i j : ℕ) → T i j → R i j ⊎ S i j) → AddsLinks T old new
 added_both R S T old mid new h g r s t = record {
@@ -179,13 +175,9 @@ one_same p q ls e = added_none (AreInTouch (p ∷ []) (q ∷ [])) ls (λ i j h. 
 
 -- what a filter keeps
 
-pub either : (b : Bool) → (b ≡ true) ⊎ (b ≡ false)
-either true = inl refl
-either false = inr refl
-
 pub among_of : (f : Piece → Bool) (ps : List Piece) (p : Piece) → IsAmong p (filter f ps) → IsAmong p ps × (f p ≡ true)
 among_of f [] p h = absurd h
-among_of f (x ∷ ps) p h = elim (either (f x)) [
+among_of f (x ∷ ps) p h = elim (cases_Bool (f x)) [
   | inl e ↦
       let k : IsAmong p (x ∷ filter f ps) = rw e at h in
       elim k [
@@ -202,7 +194,7 @@ among_to f [] p h e = absurd h
 among_to f (x ∷ ps) p (inl same) e =
     let k : f x ≡ true = subst (λ (y : Piece). f y ≡ true) same e in
     rw k (inl same)
-among_to f (x ∷ ps) p (inr h) e = elim (either (f x)) [
+among_to f (x ∷ ps) p (inr h) e = elim (cases_Bool (f x)) [
   | inl k ↦ rw k (inr (among_to f ps p h e))
   | inr k ↦ rw k (among_to f ps p h e)
 ]

@@ -1,59 +1,28 @@
 -- Rectangles that touch, by their sides and by their squares.
-use Rattle.std.proofs.Common.{◌≡◌, ◌⊎◌, inl, inr, ℤ, pos, ◌+ℤ◌, ◌-ℤ◌, ◌≤ℤ◌, ◌<ℤ◌, int_le, int_lt, Bool, true, false, ◌&&◌, ◌||◌, refl, sym, ap, arith}
+use Rattle.std.proofs.Common.{◌≡◌, ◌⊎◌, inl, inr, ℤ, pos, ◌+ℤ◌, ◌-ℤ◌, ◌≤ℤ◌, ◌<ℤ◌, int_le, int_lt, Bool, true, false, ◌&&◌, refl, sym, ap, arith}
+use Rattle.base_laws.proofs.Tests.{lt_from, lt_to, le_from, le_to}
 use Rattle.std.proofs.lemmas.Int.{ints, by_lt_z}
-use Rattle.std.proofs.lemmas.Bool.{false≢true}
+use Rattle.std.proofs.lemmas.Bool.{false≢true, or_cases, and_parts, and_from, or_left, or_right}
 use Rattle.flat_layout.specs.Plane.{IsIn, IsNear}
 use Rattle.geo_base.specs.declared.shapes.Rect.{Rect}
 use Rattle.geo_base.specs.declared.shapes.Square.{Square}
 use Rattle.touching_pieces.specs.Touching.{AreTouching, overlaps, meets, is_rect, is_near, touches}
 
-or_split : (b c : Bool) → (b || c) ≡ true → (b ≡ true) ⊎ (c ≡ true)
-or_split true c e = inl refl
-or_split false c e = inr e
-
-and_split : (b c : Bool) → (b && c) ≡ true → (b ≡ true) × (c ≡ true)
-and_split true c e = (refl, e)
-and_split false c e = absurd (false≢true e)
-
-and_both : (b c : Bool) → b ≡ true → c ≡ true → (b && c) ≡ true
-and_both true c e f = f
-and_both false c e f = absurd (false≢true e)
-
 pub and_at : (b c r : Bool) → b ≡ true → r ≡ c → r ≡ (b && c)
 and_at true c r e f = f
 and_at false c r e f = absurd (false≢true e)
 
-or_left : (b c : Bool) → b ≡ true → (b || c) ≡ true
-or_left true c e = refl
-or_left false c e = absurd (false≢true e)
-
-or_right : (b c : Bool) → c ≡ true → (b || c) ≡ true
-or_right true c e = refl
-or_right false c e = e
-
-pub lt_of : (a b : ℤ) → int_lt a b ≡ true → a <ℤ b
-lt_of a b e = grind (arith, ints)
-
-pub lt_to : (a b : ℤ) → a <ℤ b → int_lt a b ≡ true
-lt_to a b h = grind (arith, ints)
-
-pub le_of : (a b : ℤ) → int_le a b ≡ true → a ≤ℤ b
-le_of a b e = grind (arith, ints)
-
-pub le_to : (a b : ℤ) → a ≤ℤ b → int_le a b ≡ true
-le_to a b h = grind (arith, ints)
-
 overlaps_of : (a b c d : ℤ) → overlaps a b c d ≡ true → (a <ℤ d) × (c <ℤ b)
-overlaps_of a b c d e = let h = and_split (int_lt a d) (int_lt c b) e in (lt_of a d h.0, lt_of c b h.1)
+overlaps_of a b c d e = let h = and_parts (int_lt a d) (int_lt c b) e in (lt_from a d h.0, lt_from c b h.1)
 
 meets_of : (a b c d : ℤ) → meets a b c d ≡ true → (a ≤ℤ d) × (c ≤ℤ b)
-meets_of a b c d e = let h = and_split (int_le a d) (int_le c b) e in (le_of a d h.0, le_of c b h.1)
+meets_of a b c d e = let h = and_parts (int_le a d) (int_le c b) e in (le_from a d h.0, le_from c b h.1)
 
 overlaps_to : (a b c d : ℤ) → a <ℤ d → c <ℤ b → overlaps a b c d ≡ true
-overlaps_to a b c d h g = and_both (int_lt a d) (int_lt c b) (lt_to a d h) (lt_to c b g)
+overlaps_to a b c d h g = and_from (int_lt a d) (int_lt c b) (lt_to a d h) (lt_to c b g)
 
 meets_to : (a b c d : ℤ) → a ≤ℤ d → c ≤ℤ b → meets a b c d ≡ true
-meets_to a b c d h g = and_both (int_le a d) (int_le c b) (le_to a d h) (le_to c b g)
+meets_to a b c d h g = and_from (int_le a d) (int_le c b) (le_to a d h) (le_to c b g)
 
 -- a number that two spans share
 shared : (a b c d : ℤ) → a <ℤ b → c <ℤ d → a <ℤ d → c <ℤ b → (x : ℤ) × (a ≤ℤ x) × (x <ℤ b) × (c ≤ℤ x) × (x <ℤ d)
@@ -111,23 +80,23 @@ along a b x s h g k l =
 
 pub touching : (a b : Rect) → touches a b ≡ true → AreTouching a b
 touching a b e =
-    let h = and_split (is_near a b) (is_rect a && is_rect b) e in
-    let r = and_split (is_rect a) (is_rect b) h.1 in
-    let ra = and_split (int_lt a.x1 a.x2) (int_lt a.y1 a.y2) r.0 in
-    let rb = and_split (int_lt b.x1 b.x2) (int_lt b.y1 b.y2) r.1 in
-    let ax = lt_of a.x1 a.x2 ra.0 in
-    let ay = lt_of a.y1 a.y2 ra.1 in
-    let bx = lt_of b.x1 b.x2 rb.0 in
-    let by = lt_of b.y1 b.y2 rb.1 in
-    elim (or_split (meets a.x1 a.x2 b.x1 b.x2 && overlaps a.y1 a.y2 b.y1 b.y2) (overlaps a.x1 a.x2 b.x1 b.x2 && meets a.y1 a.y2 b.y1 b.y2) h.0) [
+    let h = and_parts (is_near a b) (is_rect a && is_rect b) e in
+    let r = and_parts (is_rect a) (is_rect b) h.1 in
+    let ra = and_parts (int_lt a.x1 a.x2) (int_lt a.y1 a.y2) r.0 in
+    let rb = and_parts (int_lt b.x1 b.x2) (int_lt b.y1 b.y2) r.1 in
+    let ax = lt_from a.x1 a.x2 ra.0 in
+    let ay = lt_from a.y1 a.y2 ra.1 in
+    let bx = lt_from b.x1 b.x2 rb.0 in
+    let by = lt_from b.y1 b.y2 rb.1 in
+    elim (or_cases (meets a.x1 a.x2 b.x1 b.x2 && overlaps a.y1 a.y2 b.y1 b.y2) (overlaps a.x1 a.x2 b.x1 b.x2 && meets a.y1 a.y2 b.y1 b.y2) h.0) [
       | inl k ↦
-          let s = and_split (meets a.x1 a.x2 b.x1 b.x2) (overlaps a.y1 a.y2 b.y1 b.y2) k in
+          let s = and_parts (meets a.x1 a.x2 b.x1 b.x2) (overlaps a.y1 a.y2 b.y1 b.y2) k in
           let m = meets_of a.x1 a.x2 b.x1 b.x2 s.0 in
           let o = overlaps_of a.y1 a.y2 b.y1 b.y2 s.1 in
           let y = shared a.y1 a.y2 b.y1 b.y2 ay by o.0 o.1 in
           across a b y.0 (spanned a.x1 a.x2 b.x1 b.x2 ax bx m.0 m.1) y.1 y.2 y.3 y.4
       | inr k ↦
-          let s = and_split (overlaps a.x1 a.x2 b.x1 b.x2) (meets a.y1 a.y2 b.y1 b.y2) k in
+          let s = and_parts (overlaps a.x1 a.x2 b.x1 b.x2) (meets a.y1 a.y2 b.y1 b.y2) k in
           let o = overlaps_of a.x1 a.x2 b.x1 b.x2 s.0 in
           let m = meets_of a.y1 a.y2 b.y1 b.y2 s.1 in
           let x = shared a.x1 a.x2 b.x1 b.x2 ax bx o.0 o.1 in
@@ -153,20 +122,20 @@ near_of a b p q (ax, ax', ay, ay') (bx, bx', by, by') h = elim h.close [
   | inl k ↦
       let k0 = k.0 in let k1 = k.1 in let k2 = k.2 in
       or_left (meets a.x1 a.x2 b.x1 b.x2 && overlaps a.y1 a.y2 b.y1 b.y2) (overlaps a.x1 a.x2 b.x1 b.x2 && meets a.y1 a.y2 b.y1 b.y2)
-      (and_both (meets a.x1 a.x2 b.x1 b.x2) (overlaps a.y1 a.y2 b.y1 b.y2) (meets_to a.x1 a.x2 b.x1 b.x2 (omega (arith, ints)) (omega (arith, ints))) (overlaps_to a.y1 a.y2 b.y1 b.y2 (omega (arith, ints)) (omega (arith, ints))))
+      (and_from (meets a.x1 a.x2 b.x1 b.x2) (overlaps a.y1 a.y2 b.y1 b.y2) (meets_to a.x1 a.x2 b.x1 b.x2 (omega (arith, ints)) (omega (arith, ints))) (overlaps_to a.y1 a.y2 b.y1 b.y2 (omega (arith, ints)) (omega (arith, ints))))
   | inr k ↦
       let k0 = k.0 in let k1 = k.1 in let k2 = k.2 in
       or_right (meets a.x1 a.x2 b.x1 b.x2 && overlaps a.y1 a.y2 b.y1 b.y2) (overlaps a.x1 a.x2 b.x1 b.x2 && meets a.y1 a.y2 b.y1 b.y2)
-      (and_both (overlaps a.x1 a.x2 b.x1 b.x2) (meets a.y1 a.y2 b.y1 b.y2) (overlaps_to a.x1 a.x2 b.x1 b.x2 (omega (arith, ints)) (omega (arith, ints))) (meets_to a.y1 a.y2 b.y1 b.y2 (omega (arith, ints)) (omega (arith, ints))))
+      (and_from (overlaps a.x1 a.x2 b.x1 b.x2) (meets a.y1 a.y2 b.y1 b.y2) (overlaps_to a.x1 a.x2 b.x1 b.x2 (omega (arith, ints)) (omega (arith, ints))) (meets_to a.y1 a.y2 b.y1 b.y2 (omega (arith, ints)) (omega (arith, ints))))
 ]
 
 rect_of : (a : Rect) (p : Square) → IsIn p a → is_rect a ≡ true
-rect_of a p (ax, ax', ay, ay') = and_both (int_lt a.x1 a.x2) (int_lt a.y1 a.y2) (lt_to a.x1 a.x2 (omega (arith, ints))) (lt_to a.y1 a.y2 (omega (arith, ints)))
+rect_of a p (ax, ax', ay, ay') = and_from (int_lt a.x1 a.x2) (int_lt a.y1 a.y2) (lt_to a.x1 a.x2 (omega (arith, ints))) (lt_to a.y1 a.y2 (omega (arith, ints)))
 
 pub touching_back : (a b : Rect) → AreTouching a b → touches a b ≡ true
 touching_back a b h =
-    and_both (is_near a b) (is_rect a && is_rect b) (near_of a b h.one h.other h.in_one h.in_other (close_of h.one h.other h.near))
-    (and_both (is_rect a) (is_rect b) (rect_of a h.one h.in_one) (rect_of b h.other h.in_other))
+    and_from (is_near a b) (is_rect a && is_rect b) (near_of a b h.one h.other h.in_one h.in_other (close_of h.one h.other h.near))
+    (and_from (is_rect a) (is_rect b) (rect_of a h.one h.in_one) (rect_of b h.other h.in_other))
 
 -- what the sides of touching rectangles say
 pub record AreBeside (a b : Rect) : Type 0 where

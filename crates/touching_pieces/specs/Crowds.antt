@@ -1,5 +1,5 @@
 -- Pieces of two lists, of which one piece makes a class of many.
-use Rattle.std.specs.Prelude.{ℕ, ◌<◌, ◌⊎◌, Bool, not, List, length}
+use Rattle.std.specs.Prelude.{ℕ, ◌<◌, ◌⊎◌, not, List, length}
 use Rattle.std.specs.List.{filter}
 use Rattle.link_classes.specs.Classes.{IsLinked}
 use Rattle.link_classes.specs.declared.classes.Link.{Link}

@@ -1,6 +1,7 @@
 -- What is found too far, by its place in a list.
-use Rattle.std.proofs.Common.{◌≡◌, ◌<◌, ◌∙◌, inl, inr, ℕ, zero, suc, Bool, true, false, cond, filter, List, [], ◌∷◌, ◌++◌, refl, Option, Some, Result, Ok, Err, IsErrOf, ap, get_or, length, map, slice_get, sym, arith}
-use Rattle.cell_graph.specs.Linked.{Linked, plain}
+use Rattle.std.proofs.Common.{◌≡◌, ◌<◌, ◌∙◌, inl, inr, ℕ, zero, suc, Bool, true, false, cond, filter, List, [], ◌∷◌, ◌++◌, refl, Option, Result, Ok, Err, IsErrOf, ap, get_or, length, map, slice_get, sym, arith}
+use Rattle.base_laws.proofs.Items.{map_to}
+use Rattle.cell_graph.specs.Linked.{plain}
 use Rattle.deep_tables.specs.declared.circuits.CellCircuit.{CellCircuit}
 use Rattle.flat_laws.proofs.Items.{placed_at}
 use Rattle.flat_layout.specs.Layout.{Some_of}
@@ -8,7 +9,6 @@ use Rattle.flat_layout.specs.Nets.{Tables}
 use Rattle.net_phase.specs.Elements.{AreElements}
 use Rattle.net_walk.specs.Walk.{place_of}
 use Rattle.net_walk.specs.declared.cells.Element.{Element}
-use Rattle.plain_netlist.proofs.Members.{map_at}
 use Rattle.view_laws.specs.Shown.{Called}
 use Rattle.view_drawing.specs.Calls.{called_motions, has_circuit}
 use Rattle.view_drawing.specs.Far.{Call, HasFarCall, ReachesFar}
@@ -32,7 +32,7 @@ pub far_placed : (s : Source) (t : Tables) (called : Called) (cell : ℕ) (es : 
 far_placed s t called cell es all h =
     let k = h.0 in
     let e = h.1 in
-    Call k (place_of e) (placed_at (plain s.design.now) cell k (place_of e) (sym (ap (λ ps. slice_get ps k) all.all) ∙ map_at place_of es k e h.2)) h.3.0 h.3.1
+    Call k (place_of e) (placed_at (plain s.design.now) cell k (place_of e) (sym (ap (λ ps. slice_get ps k) all.all) ∙ map_to place_of es k e h.2)) h.3.0 h.3.1
 
 called_if : (b : Bool) (e : Element) (es : List Element) → map (λ (x : Element). x.motion) (cond b (e ∷ es) es) ≡ map (λ (x : Element). x.motion) (cond b (e ∷ []) []) ++ map (λ (x : Element). x.motion) es
 called_if true e es = refl

@@ -1,5 +1,7 @@
 -- The motions of a circuit's calls are those of its cell's placements.
 use Rattle.std.proofs.Common.{◌≡◌, ◌<◌, ◌↔◌, ◌∙◌, inl, inr, ℕ, zero, suc, ◌+◌, Bool, true, false, cond, List, [], ◌∷◌, ◌++◌, Option, Some, map, slice_get, refl, sym, subst, ap, arith, filter}
+use Rattle.base_laws.proofs.Items.{map_to, map_from}
+use Rattle.std.proofs.lemmas.Bool.{cases_Bool}
 use Rattle.std.proofs.lemmas.Option.{none-some, same_Some}
 use Rattle.circuit_phase.proofs.Leading.{at_place, place_at, place_true}
 use Rattle.deep_tables.specs.declared.circuits.CellCircuit.{CellCircuit}
@@ -11,9 +13,7 @@ use Rattle.net_link_laws.specs.Places.{places_of}
 use Rattle.net_walk.specs.Walk.{place_of}
 use Rattle.net_walk.specs.declared.cells.Element.{Element}
 use Rattle.plain_netlist.proofs.Listing.{one_rising}
-use Rattle.plain_netlist.proofs.Members.{from_map, map_at}
 use Rattle.plain_netlist.specs.Lists.{AreRising, IsListed}
-use Rattle.spice_text.proofs.SearchLemmas.{either}
 use Rattle.view_drawing.specs.Calls.{AreCallsDrawn, called_motions, has_circuit}
 
 -- ---- what is kept of a list stands where its marks do
@@ -48,7 +48,7 @@ module _ (table : List (Option CellCircuit)) where
       let places = true_places (suc from) (marks es) in
       let kept = filter (λ (x : Element). has_circuit table x.cell) es in
       let motion = λ (x : Element). x.motion in
-      elim (either (has_circuit table e.cell)) [
+      elim (cases_Bool (has_circuit table e.cell)) [
         | inl t ↦
             let g : slice_get (from ∷ places) a ≡ Some k = ap (λ b. slice_get (cond b (from ∷ places) places) a) (sym t) ∙ h in
             subst (λ (ms : List Motion). Found (e ∷ es) ms from a k) (ap (λ b. map motion (cond b (e ∷ kept) kept)) (sym t))
@@ -73,21 +73,21 @@ module _ (table : List (Option CellCircuit)) where
       let same : calls ≡ true_places 0 (marks es) = one_rising ◌<◌ (λ x y l g. absurd (omega arith)) calls (true_places 0 (marks es)) up (rising 0 (marks es)) to back in
       let r = found es 0 a k (subst (λ (ks : List ℕ). slice_get ks a ≡ Some k) same is) in
       let at : slice_get es k ≡ Some r.element = subst (λ (i : ℕ). slice_get es i ≡ Some r.element) (let f : k ≡ 0 + r.index = r.is in let g : r.index ≡ k = omega arith in g) r.stands in
-      let there : slice_get (places_of d cell) k ≡ Some (place_of r.element) = sym (ap (λ (ps : List Place). slice_get ps k) all) ∙ map_at place_of es k r.element at in
+      let there : slice_get (places_of d cell) k ≡ Some (place_of r.element) = sym (ap (λ (ps : List Place). slice_get ps k) all) ∙ map_to place_of es k r.element at in
       let one : place_of r.element ≡ p = same_Some _ _ (sym there ∙ at_placed d cell k p placed) in
       r.moved ∙ ap (λ (q : Place). Some q.motion) one
     where
       to : (j : ℕ) → IsListed j calls → IsListed j (true_places 0 (marks es))
       to j l =
           let s = (placements j).0 l in
-          let e = from_map place_of es j s.0 (ap (λ (ps : List Place). slice_get ps j) all ∙ at_placed d cell j s.0 s.1) in
+          let e = map_from place_of es j s.0 (ap (λ (ps : List Place). slice_get ps j) all ∙ at_placed d cell j s.0 s.1) in
           let t : has_circuit table e.0.cell ≡ true = ap (λ (q : Place). has_circuit table q.cell) e.2 ∙ (has j s.0 s.1).0 s.2 in
-          at_place (marks es) j (map_at (λ (x : Element). has_circuit table x.cell) es j e.0 e.1 ∙ ap Some t)
+          at_place (marks es) j (map_to (λ (x : Element). has_circuit table x.cell) es j e.0 e.1 ∙ ap Some t)
 
       back : (j : ℕ) → IsListed j (true_places 0 (marks es)) → IsListed j calls
       back j l =
-          let e = from_map (λ (x : Element). has_circuit table x.cell) es j true (place_at (marks es) j l) in
-          let q = placed_at d cell j (place_of e.0) (sym (ap (λ (ps : List Place). slice_get ps j) all) ∙ map_at place_of es j e.0 e.1) in
+          let e = map_from (λ (x : Element). has_circuit table x.cell) es j true (place_at (marks es) j l) in
+          let q = placed_at d cell j (place_of e.0) (sym (ap (λ (ps : List Place). slice_get ps j) all) ∙ map_to place_of es j e.0 e.1) in
           (placements j).1 (place_of e.0, q, (has j (place_of e.0) q).1 e.2)
 
 -- one placement after the other
@@ -95,7 +95,7 @@ pub called_more : (table : List (Option CellCircuit)) (e : Element) (es : List E
 called_more table e es =
     let kept = filter (λ (x : Element). has_circuit table x.cell) es in
     let motion = λ (x : Element). x.motion in
-    elim (either (has_circuit table e.cell)) [
+    elim (cases_Bool (has_circuit table e.cell)) [
       | inl t ↦ ap (λ b. map motion (cond b (e ∷ kept) kept)) t ∙ sym (ap (λ b. map motion (cond b (e ∷ []) []) ++ map motion kept) t)
       | inr f ↦ ap (λ b. map motion (cond b (e ∷ kept) kept)) f ∙ sym (ap (λ b. map motion (cond b (e ∷ []) []) ++ map motion kept) f)
     ]

@@ -78,14 +78,6 @@ pub record PlacesSoFar (old now : List Area) (left : List Gate) (rest : List Dev
 
 -- ---- one region more
 
-pub map_one : {A B : Type 0} (f : A → B) (xs : List A) (x : A) → map f (xs ++ x ∷ []) ≡ map f xs ++ f x ∷ []
-map_one f [] x = refl
-map_one {A} {B} f (y ∷ ys) x = ap (λ (l : List B). f y ∷ l) (map_one f ys x)
-
-pub last_at : {A : Type 0} (xs : List A) (x : A) → slice_get (xs ++ x ∷ []) (length xs) ≡ Some x
-last_at [] x = refl
-last_at (y ∷ ys) x = last_at ys x
-
 one_all : {A : Type 0} (P : A → Type 0) (x : A) → P x → All P (x ∷ [])
 one_all P x h zero d lt = h
 one_all P x h (suc k) d lt = absurd (omega arith)
@@ -98,10 +90,6 @@ all_one P xs x h p = All-append P xs (x ∷ []) h (one_all P x p)
 pub nil_of : {A B : Type 0} (f : A → B) (xs : List A) → length xs < 1 → map f xs ≡ []
 nil_of f [] lt = refl
 nil_of f (x ∷ xs) lt = absurd (omega arith)
-
-pub nil_is : {A : Type 0} (xs : List A) → length xs < 1 → xs ≡ []
-nil_is [] lt = refl
-nil_is (x ∷ xs) lt = absurd (omega arith)
 
 pub front : {A B : Type 0} (f : A → B) (xs : List A) (x : A) → 1 ≤ length xs → x ≡ get_or xs 0 x → map f xs ≡ f x ∷ map f (take (length xs - 1) (drop 1 xs))
 front f [] x some e = absurd (omega arith)

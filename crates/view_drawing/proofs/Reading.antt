@@ -1,5 +1,6 @@
 -- What the tables and the lists say of a cell that the top reaches.
 use Rattle.std.proofs.Common.{◌≡◌, ◌∙◌, ◌<◌, ℕ, Bool, List, Option, Some, None, ap, length, slice_get, subst, sym}
+use Rattle.base_laws.proofs.Items.{map_to}
 use Rattle.std.proofs.lemmas.List.{length-map}
 use Rattle.cell_graph.proofs.Bridge.{heights}
 use Rattle.cell_graph.specs.Linked.{IsSound, Linked, height_at, plain}
@@ -21,7 +22,6 @@ use Rattle.net_link_laws.specs.Laws.{AreNetsUnder}
 use Rattle.net_phase.specs.Elements.{AreElements}
 use Rattle.net_walk.specs.Walk.{place_of}
 use Rattle.net_walk.specs.declared.cells.Element.{Element}
-use Rattle.plain_netlist.proofs.Members.{map_at}
 use Rattle.plain_netlist.specs.Netlist.{Circuit}
 use Rattle.rule_layers.specs.Meaning.{wiring_of}
 use Rattle.rule_text.specs.Rules.{Rules}
@@ -44,7 +44,7 @@ inside d cell sound reached =
 pub element_reached : (d : Linked) (cell k : ℕ) (es : List Element) (e : Element) → AreElements d cell es → IsReached (plain d) cell → slice_get es k ≡ Some e → IsReached (plain d) e.cell
 element_reached d cell k es e all reached at =
     reached_below (plain d) cell k (place_of e) reached
-    (placed_at (plain d) cell k (place_of e) (sym (ap (λ ps. slice_get ps k) all.all) ∙ map_at place_of es k e at))
+    (placed_at (plain d) cell k (place_of e) (sym (ap (λ ps. slice_get ps k) all.all) ∙ map_to place_of es k e at))
 
 pub gates_are : (o : Option CellGates) (gates : List Gate) → list_of o ≡ Some gates → items_in o ≡ gates
 gates_are None gates e = absurd (let z : ⊥ = cc in z)

@@ -1,5 +1,7 @@
 -- The names of a circuit's nets tell which nets of its cell they are.
 use Rattle.std.proofs.Common.{◌≡◌, ◌<◌, ◌≤◌, ◌∙◌, inl, inr, ℕ, zero, suc, ◌+◌, ◌^◌, Bool, true, false, List, [], ◌∷◌, ◌++◌, Option, Some, map, length, slice_get, get_or, refl, sym, subst, ap, arith, append_assoc, append-nil, ◌||◌}
+use Rattle.base_laws.proofs.Items.{item_at, map_to}
+use Rattle.std.proofs.lemmas.Bool.{cases_Bool}
 use Rattle.std.specs.Str.{bytes_eq}
 use Rattle.std.proofs.lemmas.Option.{none-some, same_Some, slice_get_within, get_or_from_slice_get}
 use Rattle.std.proofs.lemmas.List.{length-map}
@@ -9,10 +11,9 @@ use Rattle.circuit_phase.proofs.Leading.{at_place}
 use Rattle.flat_layout.specs.Circuits.{AreCircuitNets, drawn_names, drawn_nets, true_places}
 use Rattle.flat_layout.specs.Pins.{CellPins}
 use Rattle.plain_netlist.proofs.Listing.{apart_at}
-use Rattle.plain_netlist.proofs.Members.{item_at, listed, map_at, position}
+use Rattle.plain_netlist.proofs.Members.{listed, position}
 use Rattle.plain_netlist.specs.Lists.{AreApart, IsListed}
 use Rattle.plain_netlist.specs.Netlist.{Circuit}
-use Rattle.spice_text.proofs.SearchLemmas.{either}
 use Rattle.spice_text.specs.Needs.{first_seen}
 use Rattle.text_table.specs.Texts.{has_text, place_of, with_text}
 use Rattle.view_drawing.specs.Numbers.{left_if, spread}
@@ -55,7 +56,7 @@ place_is (x ∷ xs) zero n h e =
     let same : n ≡ x = sym (same_Some _ _ e) in
     let t : bytes_eq n x ≡ true = (bytes_eq-Decides n x).1 same in
     rw t refl
-place_is (x ∷ xs) (suc a) n h e = elim (either (bytes_eq n x)) [
+place_is (x ∷ xs) (suc a) n h e = elim (cases_Bool (bytes_eq n x)) [
   | inl t ↦
       let same : n ≡ x = (bytes_eq-Decides n x).0 t in
       absurd (h.0 (subst (λ (m : List ℕ). IsListed m xs) same (listed xs a n e)))
@@ -68,7 +69,7 @@ get_mid (x ∷ seen) n ns = get_mid seen n ns
 
 not_seen : (seen : List (List ℕ)) (n : List ℕ) (ns : List (List ℕ)) → AreApart (seen ++ n ∷ ns) → has_text seen n ≡ false
 not_seen [] n ns h = refl
-not_seen (x ∷ seen) n ns h = elim (either (bytes_eq n x)) [
+not_seen (x ∷ seen) n ns h = elim (cases_Bool (bytes_eq n x)) [
   | inl t ↦
       let same : n ≡ x = (bytes_eq-Decides n x).0 t in
       absurd (h.0 (subst (λ (m : List ℕ). IsListed m (seen ++ n ∷ ns)) same (listed (seen ++ n ∷ ns) (length seen) n (get_mid seen n ns))))
@@ -124,7 +125,7 @@ module _ (pins : CellPins) (drawn : List Bool) (nets : List ℕ) (c : Circuit) (
       let apart = apart_of c.nets names_apart in
       let all : first_seen [] c.nets ≡ c.nets = seen_all [] c.nets apart in
       let at : place_of (first_seen [] c.nets) t.name ≡ a = ap (λ (l : List (List ℕ)). place_of l t.name) all ∙ place_is c.nets a t.name apart t.named in
-      let r = spread_at drawn places 0 t.place x a t.stands (map_at (place_of (first_seen [] c.nets)) (drawn_names pins drawn) t.place t.name t.own ∙ ap Some at) in
+      let r = spread_at drawn places 0 t.place x a t.stands (map_to (place_of (first_seen [] c.nets)) (drawn_names pins drawn) t.place t.name t.own ∙ ap Some at) in
       subst (λ (i : ℕ). slice_get (spread drawn places) i ≡ Some (Some a)) (let g : x ≡ 0 + r.0 = r.1 in let s : r.0 ≡ x = omega arith in s) r.2
 
   pub numbers_tell : TellsNets drawn (spread drawn places) nets

@@ -1,19 +1,14 @@
 -- The numbers below a count.
-use Rattle.std.proofs.Common.{◌≡◌, ◌<◌, ◌∙◌, ℕ, zero, suc, ◌+◌, List, [], ◌∷◌, ◌++◌, length, map, get_or, sym, subst, ap, arith}
+use Rattle.std.proofs.Common.{◌≡◌, ◌<◌, ◌∙◌, ℕ, suc, ◌+◌, List, [], ◌∷◌, ◌++◌, length, map, get_or, sym, subst, ap, arith}
+use Rattle.base_laws.proofs.Lists.{range_more}
 use Rattle.std.specs.List.{All, range_with_len}
 use Rattle.std.proofs.lemmas.List.{length-map}
 use Rattle.std.proofs.lemmas.List.FromFn.{get_or-range_with_len, length-range_with_len}
 use Rattle.net_model.specs.Rows.{plain_circuit}
 use Rattle.net_model.specs.declared.netlist.Circuit.{Circuit}
 
--- one more
-one_more : (a n : ℕ) → range_with_len a (suc n) ≡ range_with_len a n ++ (a + n) ∷ []
-one_more a zero = ap (λ b. b ∷ []) (let e : a ≡ a + 0 = omega arith in e)
-one_more a (suc n) =
-    ap (λ (l : List ℕ). a ∷ l) (one_more (a + 1) n ∙ ap (λ b. range_with_len (a + 1) n ++ b ∷ []) (let e : a + 1 + n ≡ a + suc n = omega arith in e))
-
 pub next : (n : ℕ) → range_with_len 0 (n + 1) ≡ range_with_len 0 n ++ n ∷ []
-next n = ap (λ m. range_with_len 0 m) (let f : n + 1 ≡ suc n = omega arith in f) ∙ one_more 0 n ∙ ap (λ b. range_with_len 0 n ++ b ∷ []) (let e : 0 + n ≡ n = omega arith in e)
+next n = ap (λ m. range_with_len 0 m) (let f : n + 1 ≡ suc n = omega arith in f) ∙ range_more 0 n ∙ ap (λ b. range_with_len 0 n ++ b ∷ []) (let e : 0 + n ≡ n = omega arith in e)
 
 in_range : (n : ℕ) → All (λ k. k < n) (range_with_len 0 n)
 in_range n k d lt =

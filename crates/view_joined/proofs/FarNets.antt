@@ -1,5 +1,5 @@
 -- A far rectangle among those that nets have is one of a net inside, moved.
-use Rattle.std.proofs.Common.{◌≡◌, ◌<◌, inl, inr, ℕ, zero, suc, List, [], ◌∷◌, Option, get_or, length, refl, subst, arith}
+use Rattle.std.proofs.Common.{◌<◌, inl, inr, ℕ, suc, List, [], ◌∷◌, get_or, length, refl, subst, arith}
 use Rattle.flat_layout.specs.Layout.{Some_of}
 use Rattle.geo_base.specs.declared.motion.Motion.{Motion}
 use Rattle.part_origins.specs.Inside.{PlainInside}

@@ -1,7 +1,8 @@
 -- Spots are moved along the paths of their calls.
 use Rattle.std.proofs.Common.{◌≡◌, ℕ, zero, suc, ◌<◌, List, [], ◌∷◌, ◌++◌, take, get_or, Option, Some, None, slice_get, refl, sym, ◌∙◌, ap, subst, arith, ℤ, append-nil, append_assoc}
+use Rattle.base_laws.proofs.Items.{item_at}
 use Rattle.std.proofs.lemmas.Int.{ints}
-use Rattle.std.proofs.lemmas.Option.{none-some, same_Some, slice_get_within}
+use Rattle.std.proofs.lemmas.Option.{none-some, same_Some, slice_get_within, get_or_from_slice_get}
 use Rattle.geo_base.specs.Motions.{moved_square}
 use Rattle.geo_base.specs.declared.motion.Motion.{Motion}
 use Rattle.geo_base.specs.declared.shapes.Square.{Square}
@@ -10,16 +11,10 @@ use Rattle.part_origins.specs.Origins.{ArePaths, IsPathBy}
 use Rattle.part_origins.specs.declared.inside.Part.{Part}
 use Rattle.plain_netlist.specs.Netlist.{CallRow, Netlist, IsCall}
 use Rattle.plain_netlist.specs.Sound.{IsCallPath}
-use Rattle.plain_netlist.proofs.Members.{item_at}
 use Rattle.plain_netlist.proofs.Once.{one_call}
 use Rattle.view_netlist.specs.declared.drawing.Drawing.{Drawing}
 use Rattle.view_joined.specs.Paths.{IsTakenTo, MotionLaw}
 use Rattle.view_joined.specs.Spots.{AreMotions, IsSpotMotion, call_motion, circuit_at, circuit_or, still}
-
-at_or : {A : Type 0} (xs : List A) (i : ℕ) (x d : A) → slice_get xs i ≡ Some x → get_or xs i d ≡ x
-at_or [] i x d h = absurd (none-some x h)
-at_or (y ∷ xs) zero x d h = same_Some _ _ h
-at_or (y ∷ xs) (suc i) x d h = at_or xs i x d h
 
 get_take : {A : Type 0} (xs : List A) (i p : ℕ) (d : A) → p < i → get_or (take i xs) p d ≡ get_or xs p d
 get_take [] zero p d low = absurd (omega arith)
@@ -120,7 +115,7 @@ module _ (g : Netlist) (drawings : List Drawing) (c : ℕ) (spots : List PlainSp
       let within = slice_get_within paths i path at in
       let s = item_at spots i (omega arith) in
       let m = moved_at spots drawings spots [] motions i s.0 moved s.1 in
-      by_case i s.0 path m.motion s.0.by s.1 at (at_or motions i m.motion still m.at) (are.each i s.0 path s.1 at) m.is (λ p up lower there. taken n p up (omega arith) there)
+      by_case i s.0 path m.motion s.0.by s.1 at (get_or_from_slice_get motions i m.motion still m.at) (are.each i s.0 path s.1 at) m.is (λ p up lower there. taken n p up (omega arith) there)
 
 pub motion_law : MotionLaw
 motion_law g drawings c spots paths motions are ends moved i path q at = taken g drawings c spots paths motions are ends moved (suc i) i path (omega arith) at q

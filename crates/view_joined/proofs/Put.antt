@@ -1,10 +1,11 @@
 -- Shapes put behind those of a list by its number.
 use Rattle.std.proofs.Common.{◌≡◌, ◌⊎◌, inl, inr, ℕ, zero, suc, ◌+◌, ◌<◌, ◌≤◌, List, [], ◌∷◌, ◌++◌, length, map, get_or, Option, Some, None, slice_get, refl, sym, ◌∙◌, ap, subst, arith}
+use Rattle.base_laws.proofs.Items.{map_to, map_from}
 use Rattle.std.specs.Prelude.{slice_index_or, slice_set, replicate}
 use Rattle.std.specs.Global.{Vec}
 use Rattle.std.proofs.lemmas.Option.{none-some, same_Some}
 use Rattle.plain_netlist.specs.Lists.{IsListed}
-use Rattle.plain_netlist.proofs.Members.{listed, position, map_at, from_map, in_left, in_right, either_side}
+use Rattle.plain_netlist.proofs.Members.{listed, position, in_left, in_right, either_side}
 use Rattle.geo_base.specs.declared.motion.Motion.{Motion}
 use Rattle.part_origins.specs.Inside.{PlainSpot}
 use Rattle.view_netlist.specs.Drawing.{drawn_of}
@@ -13,10 +14,6 @@ use Rattle.view_netlist.specs.declared.drawing.Shape.{Shape}
 use Rattle.view_joined.specs.Moved.{moved_shape}
 use Rattle.view_joined.specs.Nets.{shape_lists, put, put_if, spot_put, all_put, IsNetShape, AreJoined}
 use Rattle.view_joined.specs.Spots.{still}
-
-pub none_left : {A : Type 0} (xs : List A) → length xs < 1 → xs ≡ []
-none_left [] low = refl
-none_left (x ∷ xs) low = absurd (omega arith)
 
 pub set_put : (lists : List (Vec Shape)) (q : ℕ) (v d : Vec Shape) (xs : List Shape) → q < length lists → v.items ≡ (slice_index_or lists q d).items ++ xs → shape_lists (slice_set lists q v) ≡ put q xs (shape_lists lists)
 set_put [] q v d xs low e = absurd (omega arith)
@@ -87,13 +84,13 @@ module _ (numbers : List (Option ℕ)) where
   from_moved : (m : Motion) (shapes : List Shape) (t : Shape) → IsListed t (map (moved_shape m) shapes) → (s : Shape) × IsListed s shapes × (t ≡ moved_shape m s)
   from_moved m shapes t h =
       let i = position (map (moved_shape m) shapes) t h in
-      let s = from_map (moved_shape m) shapes i.0 t i.1 in
+      let s = map_from (moved_shape m) shapes i.0 t i.1 in
       (s.0, listed shapes i.0 s.0 s.1, sym s.2)
 
   in_moved : (m : Motion) (shapes : List Shape) (s : Shape) → IsListed s shapes → IsListed (moved_shape m s) (map (moved_shape m) shapes)
   in_moved m shapes s h =
       let i = position shapes s h in
-      listed (map (moved_shape m) shapes) i.0 (moved_shape m s) (map_at (moved_shape m) shapes i.0 s i.1)
+      listed (map (moved_shape m) shapes) i.0 (moved_shape m s) (map_to (moved_shape m) shapes i.0 s i.1)
 
   spot_from : (m : Motion) (nets : List (List Shape)) (flats : List ℕ) (n : ℕ) (lists : List (List Shape)) (q : ℕ) (t : Shape) → IsListed t (get_or (spot_put numbers m nets n flats lists) q [])
       → IsListed t (get_or lists q []) ⊎ OfSpot numbers m nets n flats q t

@@ -1,9 +1,9 @@
 -- What is small is near enough to be moved; and small drawings have small calls and devices.
-use Rattle.std.proofs.Common.{◌≡◌, ◌<◌, ◌≤◌, ◌∙◌, ◌+◌, ◌+ℤ◌, ℕ, ℤ, zero, suc, pos, List, [], ◌∷◌, ◌++◌, Option, Some, get_or, length, map, slice_get, refl, sym, subst, ap, arith}
+use Rattle.std.proofs.Common.{◌≡◌, ◌<◌, ◌≤◌, ◌+◌, ◌+ℤ◌, ℕ, ℤ, zero, suc, pos, List, [], ◌∷◌, ◌++◌, Some, get_or, length, slice_get, sym, subst, arith}
 use Rattle.std.proofs.lemmas.Int.{ints}
 use Rattle.std.proofs.Math.Decide.{dec_lt}
 use Rattle.std.proofs.lemmas.List.{get_or_past}
-use Rattle.std.proofs.lemmas.Option.{get_or_from_slice_get, none-some, slice_get_within}
+use Rattle.std.proofs.lemmas.Option.{get_or_from_slice_get, slice_get_within}
 use Rattle.std.specs.List.{All}
 use Rattle.geo_base.specs.Near.{IsNear, IsNearMotion, IsNearRect}
 use Rattle.geo_base.specs.declared.motion.Motion.{Motion}
@@ -15,7 +15,7 @@ use Rattle.view_netlist.specs.declared.drawing.DevicePlace.{DevicePlace}
 use Rattle.view_netlist.specs.declared.drawing.Drawing.{Drawing}
 use Rattle.view_words.specs.Numbers.{IsSmall, IsSmallRect}
 use Rattle.view_drawing.specs.Devices.{AddsRegions, Area}
-use Rattle.view_joined.specs.Devices.{HaveRegions, device_of}
+use Rattle.view_joined.specs.Devices.{device_of}
 use Rattle.view_joined.specs.Moved.{placed_rect}
 use Rattle.view_joined.specs.Spots.{call_motion, still}
 

@@ -53,7 +53,3 @@ log_here lefts gates xs k n a e f =
 
     eq_false : (x y : ℕ) → nat_eq x y ≡ false → x ≡ y → ⊥
     eq_false x y t g = grind (arith, nat_tests)
-
-pub map_one : {A B : Type 0} (f : A → B) (xs : List A) (x : A) → map f (xs ++ x ∷ []) ≡ map f xs ++ f x ∷ []
-map_one f [] x = refl
-map_one {A} {B} f (y ∷ ys) x = ap (λ (l : List B). f y ∷ l) (map_one f ys x)

@@ -2,7 +2,7 @@
 use Rattle.std.proofs.Common.{◌≡◌, ◌<◌, ◌⊎◌, ◌↔◌, inl, inr, ◌∙◌, ℕ, zero, suc, Bool, List, [], ◌∷◌, ◌++◌, Option, Some, None, slice_get, get_or, length, map, refl, sym, subst, ap, arith}
 use Rattle.std.specs.Global.{Vec}
 use Rattle.std.specs.List.{All}
-use Rattle.std.proofs.lemmas.Option.{none-some, slice_get_within, get_or_from_slice_get}
+use Rattle.std.proofs.lemmas.Option.{none-some, slice_get_within, get_or_from_slice_get, same_Some}
 use Rattle.std.proofs.lemmas.List.{get_or_default, length-map}
 use Rattle.std.proofs.lemmas.List.Elements.{All-append, All-cons, All-nil}
 use Rattle.flat_layout.specs.Layout.{Design, Some_of}
@@ -77,16 +77,13 @@ told [] (suc y) a e = absurd (none-some a e)
 told (n ∷ ns) zero a e = ap Some e
 told (n ∷ ns) (suc y) a e = told ns y a e
 
-same_some : {A : Type 0} (a b : A) → Some a ≡ Some b → a ≡ b
-same_some a b e = cc
-
 pub nets_drawn : (d : Design) (t : Tables) (called : Called) (cell : ℕ) (wanted : List Bool) (numbers : List (Option ℕ)) (nets : List ℕ) (count : ℕ) (pieces : List Piece) (lists : List (Vec Shape))
     → ((c x : ℕ) (q : Square) → IsOver pieces c x q ↔ IsShownWanted d t called cell wanted c x q) → HaveShapes count numbers pieces lists
     → TellsNets wanted numbers nets → length nets ≡ count → AreNetsDrawn d t called cell nets (list_at lists)
 nets_drawn d t called cell wanted numbers nets count pieces lists shown have tells long a x c q is =
     let lt : a < count = subst (λ (n : ℕ). a < n) long (slice_get_within nets a x is) in
     let same : list_at lists a ≡ shapes_at numbers pieces a = have.each a lt in
-    let one : (y : ℕ) → get_or numbers y None ≡ Some a → y ≡ x = λ y e. same_some y x (sym (tells.stands y a (told numbers y a e)) ∙ is) in
+    let one : (y : ℕ) → get_or numbers y None ≡ Some a → y ≡ x = λ y e. same_Some y x (sym (tells.stands y a (told numbers y a e)) ∙ is) in
     let has : get_or numbers x None ≡ Some a = get_or_from_slice_get numbers x (Some a) None (tells.has x a is) in (
       (λ h. ((shown c x q).0 (over_net numbers a x c q one pieces (subst (λ (ss : List Shape). HasShape ss c q) same h))).1),
       (λ h. subst (λ (ss : List Shape). HasShape ss c q) (sym same) (net_over numbers a x c q has pieces ((shown c x q).1 (tells.marked x a is, h)))),

@@ -1,5 +1,6 @@
 -- One more couple among partners: the right nodes are still each one's partner or free.
-use Rattle.std.proofs.Common.{replicate, ◌≡◌, ◌⊎◌, ◌&&◌, inl, inr, ◌∙◌, ℕ, zero, suc, ◌+◌, ◌-◌, ◌≤◌, Bool, true, false, List, [], ◌∷◌, ◌++◌, Option, Some, None, length, take, drop, get_or, slice_get, slice_set, refl, sym, ap, subst, arith}
+use Rattle.std.proofs.Common.{replicate, ◌≡◌, ◌⊎◌, inl, inr, ◌∙◌, ℕ, zero, suc, ◌+◌, ◌-◌, ◌≤◌, Bool, true, false, List, [], ◌∷◌, ◌++◌, Option, Some, None, length, take, drop, get_or, slice_get, slice_set, refl, sym, ap, subst, arith}
+use Rattle.std.proofs.lemmas.Bool.{and_parts}
 use Rattle.std.specs.List.{list_all, range_with_len}
 use Rattle.std.proofs.lemmas.List.{length-replicate}
 use Rattle.std.specs.List.Sorted.{IsPermutation}
@@ -116,12 +117,8 @@ claims_start n m all =
       have = λ is h k p at. absurd (none_at n k p at);
     }
 
-both_true : (a b : Bool) → (a && b) ≡ true → (a ≡ true) × (b ≡ true)
-both_true true b h = (refl, h)
-both_true false b h = absurd (let e : false ≡ true = h in cc)
-
 first_true : (is : Couple → Bool) (c : Couple) (cs : List Couple) → list_all is (c ∷ cs) ≡ true → (is c ≡ true) × (list_all is cs ≡ true)
-first_true is c cs h = both_true (is c) (list_all is cs) h
+first_true is c cs h = and_parts (is c) (list_all is cs) h
 
 -- one more couple is looked at
 pub claims_on : (n m : ℕ) (all more : List Couple) (c : Couple) (xs ys : List (Option Partner)) (marks others : List Bool)

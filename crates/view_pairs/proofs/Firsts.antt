@@ -1,5 +1,6 @@
 -- Couples before which none shares a node become partners.
 use Rattle.std.proofs.Common.{replicate, ◌≡◌, ◌≢◌, ◌⊎◌, inl, inr, ◌∙◌, ◌<◌, ℕ, zero, suc, ◌+◌, Bool, true, false, List, [], ◌∷◌, ◌++◌, Option, Some, None, slice_get, slice_set, refl, sym, ap, subst, arith}
+use Rattle.std.proofs.lemmas.Bool.{cases_Bool}
 use Rattle.std.specs.List.{filter, list_all}
 use Rattle.view_pairs.specs.Partners.{AreFirstTaken, HasPartner, IsClaim, IsFirst, IsTaken}
 use Rattle.view_pairs.specs.declared.partners.Couple.{Couple}
@@ -84,22 +85,18 @@ pub claim_lefts : (xs ys : List (Option Partner)) (taken marks : List Bool) (d :
 claim_lefts xs ys taken marks d (inl (not, e, f)) = inl e
 claim_lefts xs ys taken marks d (inr t) = inr t.lefts
 
-pub either : (b : Bool) → (b ≡ true) ⊎ (b ≡ false)
-either true = inl refl
-either false = inr refl
-
 -- couples that pass stay first among those that pass
 pub first_passing : (p : Couple → Bool) (c : Couple) (cs : List Couple) → IsFirst c cs → p c ≡ true → IsFirst c (filter p cs)
 first_passing p c [] h t = absurd h
 first_passing p c (d ∷ cs) (inl e) t = let here : p d ≡ true = subst (λ (z : Couple). p z ≡ true) e t in rw here (inl e)
-first_passing p c (d ∷ cs) (inr (l, r, h)) t = elim (either (p d)) [
+first_passing p c (d ∷ cs) (inr (l, r, h)) t = elim (cases_Bool (p d)) [
   | inl y ↦ rw y (inr (l, r, first_passing p c cs h t))
   | inr n ↦ rw n (first_passing p c cs h t)
 ]
 
 pub all_pass : (p : Couple → Bool) (cs : List Couple) → list_all p (filter p cs) ≡ true
 all_pass p [] = refl
-all_pass p (d ∷ cs) = elim (either (p d)) [
+all_pass p (d ∷ cs) = elim (cases_Bool (p d)) [
   | inl y ↦ rw y (rw y (all_pass p cs))
   | inr n ↦ rw n (all_pass p cs)
 ]

@@ -1,5 +1,7 @@
 -- Equal texts are found by their keys; and the couples of what is alone on both sides are first.
-use Rattle.std.proofs.Common.{◌≡◌, ◌≢◌, ◌⊎◌, inl, inr, ◌∙◌, ℕ, zero, suc, ◌+◌, ◌<◌, Bool, true, false, List, [], ◌∷◌, ◌++◌, length, map, get_or, replicate, Option, Some, None, slice_get, slice_index, slice_set, refl, sym, ap, subst, arith, append_assoc, append-nil}
+use Rattle.std.proofs.Common.{◌≡◌, ◌≢◌, ◌⊎◌, inl, inr, ◌∙◌, ℕ, zero, suc, ◌+◌, ◌<◌, Bool, true, false, List, [], ◌∷◌, ◌++◌, length, get_or, replicate, Option, Some, None, slice_get, slice_index, slice_set, refl, sym, ap, subst, arith, append_assoc, append-nil}
+use Rattle.base_laws.proofs.Items.{get_left, get_last, item_at}
+use Rattle.std.proofs.lemmas.Bool.{cases_Bool}
 use Rattle.std.specs.Prelude.{bytes_eq}
 use Rattle.std.specs.List.{list_any}
 use Rattle.std.proofs.lemmas.List.{length-replicate}
@@ -15,13 +17,13 @@ use Rattle.view_pairs.specs.Keys.{AreFound, AreKeys, Extends, IsKey, IsPut, coup
 use Rattle.view_pairs.specs.Only.{AreKeysFirst, AreOnlyFirst, IsOnly, in_order}
 use Rattle.view_pairs.specs.Partners.{IsFirst, sure}
 use Rattle.view_pairs.specs.declared.partners.Couple.{Couple}
-use Rattle.view_pairs.proofs.Firsts.{either, set_other, set_same}
+use Rattle.view_pairs.proofs.Firsts.{set_other, set_same}
 
 -- ---- a table of texts
 
 text_listed : (texts : List (List ℕ)) (t : List ℕ) → has_text texts t ≡ true → IsListed t texts
 text_listed [] t h = absurd (let e : false ≡ true = h in cc)
-text_listed (x ∷ texts) t h = elim (either (bytes_eq t x)) [
+text_listed (x ∷ texts) t h = elim (cases_Bool (bytes_eq t x)) [
   | inl y ↦ inl ((bytes_eq-Decides t x).0 y)
   | inr n ↦ inr (text_listed texts t (let g : list_any (bytes_eq t) (x ∷ texts) ≡ true = h in rw n at g))
 ]
@@ -29,7 +31,7 @@ text_listed (x ∷ texts) t h = elim (either (bytes_eq t x)) [
 listed_text : (texts : List (List ℕ)) (t : List ℕ) → IsListed t texts → has_text texts t ≡ true
 listed_text [] t h = absurd h
 listed_text (x ∷ texts) t (inl e) = let y : bytes_eq t x ≡ true = (bytes_eq-Decides t x).1 e in rw y refl
-listed_text (x ∷ texts) t (inr h) = elim (either (bytes_eq t x)) [
+listed_text (x ∷ texts) t (inr h) = elim (cases_Bool (bytes_eq t x)) [
   | inl y ↦ rw y refl
   | inr n ↦ rw n (listed_text texts t h)
 ]
@@ -40,7 +42,7 @@ place_past texts x t n = rw n (let q : 1 + place_of texts t ≡ suc (place_of te
 -- a text stands at its place
 text_at : (texts : List (List ℕ)) (t : List ℕ) → has_text texts t ≡ true → slice_get texts (place_of texts t) ≡ Some t
 text_at [] t h = absurd (let e : false ≡ true = h in cc)
-text_at (x ∷ texts) t h = elim (either (bytes_eq t x)) [
+text_at (x ∷ texts) t h = elim (cases_Bool (bytes_eq t x)) [
   | inl y ↦
       let here : place_of (x ∷ texts) t ≡ 0 = rw y refl in
       ap (λ (i : ℕ). slice_get (x ∷ texts) i) here ∙ ap Some (sym ((bytes_eq-Decides t x).0 y))
@@ -52,32 +54,23 @@ text_at (x ∷ texts) t h = elim (either (bytes_eq t x)) [
 -- one that isn't there would stand last
 place_none : (texts : List (List ℕ)) (t : List ℕ) → has_text texts t ≡ false → place_of texts t ≡ length texts
 place_none [] t h = refl
-place_none (x ∷ texts) t h = elim (either (bytes_eq t x)) [
+place_none (x ∷ texts) t h = elim (cases_Bool (bytes_eq t x)) [
   | inl y ↦ absurd (let g : list_any (bytes_eq t) (x ∷ texts) ≡ false = h in let e : true ≡ false = rw y at g in cc)
   | inr n ↦
       let less : has_text texts t ≡ false = (let g : list_any (bytes_eq t) (x ∷ texts) ≡ false = h in rw n at g) in
       place_past texts x t n ∙ ap suc (place_none texts t less)
 ]
 
-before_more : {T : Type 0} (xs ys : List T) (i : ℕ) (x : T) → slice_get xs i ≡ Some x → slice_get (xs ++ ys) i ≡ Some x
-before_more [] ys i x h = absurd (let e : None ≡ Some x = h in cc)
-before_more (z ∷ xs) ys zero x h = h
-before_more (z ∷ xs) ys (suc i) x h = before_more xs ys i x h
-
-at_end : {T : Type 0} (xs : List T) (x : T) → slice_get (xs ++ x ∷ []) (length xs) ≡ Some x
-at_end [] x = refl
-at_end (z ∷ xs) x = at_end xs x
-
 pub with_extends : (texts : List (List ℕ)) (t : List ℕ) → Extends texts (with_text texts t)
-with_extends texts t i x h = elim (either (has_text texts t)) [
+with_extends texts t i x h = elim (cases_Bool (has_text texts t)) [
   | inl y ↦ rw y h
-  | inr n ↦ rw n (before_more texts (t ∷ []) i x h)
+  | inr n ↦ rw n (get_left texts (t ∷ []) i x h)
 ]
 
 pub with_at : (texts : List (List ℕ)) (t : List ℕ) → slice_get (with_text texts t) (place_of texts t) ≡ Some t
-with_at texts t = elim (either (has_text texts t)) [
+with_at texts t = elim (cases_Bool (has_text texts t)) [
   | inl y ↦ rw y (text_at texts t y)
-  | inr n ↦ rw n (ap (λ (i : ℕ). slice_get (texts ++ t ∷ []) i) (place_none texts t n) ∙ at_end texts t)
+  | inr n ↦ rw n (ap (λ (i : ℕ). slice_get (texts ++ t ∷ []) i) (place_none texts t n) ∙ get_last texts t)
 ]
 
 apart_more : (texts : List (List ℕ)) (t : List ℕ) → AreApart texts → (IsListed t texts → ⊥) → AreApart (texts ++ t ∷ [])
@@ -91,7 +84,7 @@ apart_more (x ∷ texts) t a not = (
 )
 
 pub with_apart : (texts : List (List ℕ)) (t : List ℕ) → AreApart texts → AreApart (with_text texts t)
-with_apart texts t a = elim (either (has_text texts t)) [
+with_apart texts t a = elim (cases_Bool (has_text texts t)) [
   | inl y ↦ rw y a
   | inr n ↦ rw n (apart_more texts t a (λ h. let e : true ≡ false = sym (listed_text texts t h) ∙ n in cc))
 ]
@@ -203,11 +196,6 @@ same_place zero (suc x) = inr (λ e. let f : 0 ≡ suc x = e in omega arith)
 same_place (suc k) zero = inr (λ e. let f : suc k ≡ 0 = e in omega arith)
 same_place (suc k) (suc x) = elim (same_place k x) [ inl e ↦ inl (ap suc e) | inr n ↦ inr (λ e. n (let f : suc k ≡ suc x = e in omega arith)) ]
 
-item_there : {T : Type 0} (xs : List T) (k : ℕ) → k < length xs → (x : T) × (slice_get xs k ≡ Some x)
-item_there [] k h = absurd (omega arith)
-item_there (x ∷ xs) zero h = (x, refl)
-item_there (x ∷ xs) (suc k) h = item_there xs k (omega arith)
-
 found_past : (keys : List (Option ℕ)) (count i : ℕ) (old new : List (Option ℕ)) → FoundSoFar keys count i old → slice_get keys i ≡ Some None → new ≡ old
     → FoundSoFar keys count (i + 1) new
 found_past keys count i old new h at e = record {
@@ -237,7 +225,7 @@ found_put keys count i z old new h at e = record {
     | inl same ↦
         let c = h.long in
         let inside : z < length old = omega (arith, c, low, same) in
-        let old_one = item_there old z inside in
+        let old_one = item_at old z inside in
         (i, ap (λ (zs : List (Option ℕ)). slice_get zs x) e ∙ ap (λ (y : ℕ). slice_get (slice_set old z (Some i)) y) (sym same) ∙ set_same old z (Some i) old_one.0 old_one.1)
     | inr other ↦
         let apart : m ≢ i = λ f. other (let g : Some (Some z) ≡ Some (Some x) = sym at ∙ ap (λ (y : ℕ). slice_get keys y) (sym f) ∙ there in cc) in

@@ -1,5 +1,6 @@
 -- Pairs one after another.
 use Rattle.std.proofs.Common.{◌≡◌, ◌⊎◌, inl, inr, ◌∙◌, ℕ, zero, suc, ◌+◌, ◌<◌, ◌≤◌, Bool, List, [], ◌∷◌, ◌++◌, Some, None, length, get_or, map, slice_get, take, refl, sym, ap, subst, arith}
+use Rattle.base_laws.proofs.Items.{get_left, get_last}
 use Rattle.match_types.specs.declared.answer.Answer.{Answer}
 use Rattle.plain_netlist.specs.Netlist.{Circuit}
 use Rattle.view_cross.specs.declared.rows.Row.{Row}
@@ -22,15 +23,6 @@ get_snoc [] x (suc j) y h = absurd (let e : None ≡ Some y = h in cc)
 get_snoc (z ∷ zs) x zero y h = inl (h, omega arith)
 get_snoc (z ∷ zs) x (suc j) y h =
     elim (get_snoc zs x j y h) [ inl w ↦ inl (w.0, (let l = w.1 in omega arith)) | inr w ↦ inr (ap suc w.0, w.1) ]
-
-pub get_before : {T : Type 0} (xs zs : List T) (j : ℕ) (y : T) → slice_get xs j ≡ Some y → slice_get (xs ++ zs) j ≡ Some y
-get_before [] zs j y h = absurd (let e : None ≡ Some y = h in cc)
-get_before (x ∷ xs) zs zero y h = h
-get_before (x ∷ xs) zs (suc j) y h = get_before xs zs j y h
-
-pub get_last : {T : Type 0} (xs : List T) (x : T) → slice_get (xs ++ x ∷ []) (length xs) ≡ Some x
-get_last [] x = refl
-get_last (z ∷ zs) x = get_last zs x
 
 pub take_before : {T : Type 0} (xs zs : List T) (j : ℕ) → j ≤ length xs → take j (xs ++ zs) ≡ take j xs
 take_before {T} xs zs zero h = refl
@@ -61,7 +53,7 @@ shown_on lefts rights same xs rows k a b x old at left right sound =
         | inl w ↦
             let t : take j (xs ++ x ∷ []) ≡ take j xs = take_before xs (x ∷ []) j (let v = w.1 in omega arith) in
             subst (λ (ys : List Proposal). slice_get (rows ++ fresh ∷ []) j ≡ Some (proposal_rows (asked_at same (length lefts) j c d ys y))) (sym t)
-            (get_before rows (fresh ∷ []) j (proposal_rows (asked_at same (length lefts) j c d (take j xs) y)) (old.shown j c d y l r w.0))
+            (get_left rows (fresh ∷ []) j (proposal_rows (asked_at same (length lefts) j c d (take j xs) y)) (old.shown j c d y l r w.0))
         | inr w ↦ shown_at lefts rights same xs rows k j a b c d x y old.long at left right l r w.0 w.1
       ];
     }

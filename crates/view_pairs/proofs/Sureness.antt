@@ -1,8 +1,9 @@
 -- The rows of a proposal have the partners that are sure.
-use Rattle.std.proofs.Common.{◌≡◌, ◌⊎◌, inl, inr, ◌∙◌, ◌==◌, ◌<◌, ◌↔◌, ℕ, zero, suc, ◌+◌, Bool, true, false, List, [], ◌∷◌, ◌++◌, length, map, get_or, Option, Some, None, slice_get, slice_index, refl, sym, ap, subst, arith}
+use Rattle.std.proofs.Common.{◌≡◌, inl, inr, ◌∙◌, ◌==◌, ◌<◌, ◌↔◌, ℕ, zero, suc, ◌+◌, Bool, true, false, List, [], ◌∷◌, ◌++◌, length, map, get_or, Option, Some, None, slice_get, slice_index, refl, sym, ap, subst, arith}
+use Rattle.base_laws.proofs.Tests.{same_truth}
+use Rattle.base_laws.proofs.Items.{item_at}
 use Rattle.std.specs.Bool.{beq}
-use Rattle.std.specs.Prelude.{bytes_eq}
-use Rattle.std.specs.List.{list_any, range_with_len}
+use Rattle.std.specs.List.{list_any}
 use Rattle.std.proofs.lemmas.List.FromFn.{get_or-map-range_with_len}
 use Rattle.std.proofs.lemmas.Bool.{eq-eqb}
 use Rattle.std.proofs.lemmas.Option.{slice_get_within}
@@ -14,7 +15,7 @@ use Rattle.match_types.specs.declared.answer.Answer.TheVariants as answer
 use Rattle.match_types.specs.declared.answer.Pairing.{Pairing as Found}
 use Rattle.plain_netlist.specs.Lists.{IsListed}
 use Rattle.plain_netlist.specs.Netlist.{CallRow, Circuit, DeviceRow}
-use Rattle.plain_netlist.proofs.Members.{in_left, in_right, item_at, listed}
+use Rattle.plain_netlist.proofs.Members.{in_left, in_right, listed}
 use Rattle.view_cross.specs.Matched.{right_alone}
 use Rattle.view_cross.specs.declared.rows.Kind.{Kind}
 use Rattle.view_cross.specs.declared.rows.Kind.TheVariants.{Net, Pin, Device, Call}
@@ -34,9 +35,8 @@ use Rattle.view_pairs.specs.declared.partners.Partner.{Partner}
 use Rattle.view_pairs.specs.declared.partners.Partners.{Partners}
 use Rattle.view_pairs.specs.Proposals.{AreShown}
 use Rattle.view_pairs.specs.declared.pairs.Proposed.{Proposed}
-use Rattle.view_pairs.specs.declared.proposal.Proposal.{Proposal}
 use Rattle.view_pairs.specs.declared.wanted.Wanted.{Wanted}
-use Rattle.view_pairs.proofs.Marked.{any_listed, listed_any, one_truth}
+use Rattle.view_pairs.proofs.Marked.{any_listed, listed_any}
 use Rattle.view_pairs.proofs.Keying.{entry_is, one_apart, order_first}
 use Rattle.view_pairs.proofs.Shown.{at_place, get_snoc}
 
@@ -104,7 +104,7 @@ same_beq false b e = subst (λ (c : Bool). beq false c ≡ true) e refl
 net_alike : (a b : Circuit) (nets : Partners) (k m : ℕ) → k < length a.nets → m < length b.nets → IsListed k a.pins ↔ IsListed m b.pins → is_alike a b nets Net k m ≡ true
 net_alike a b nets k m l r pins =
     let same : list_any (λ x. x == k) a.pins ≡ list_any (λ x. x == m) b.pins =
-    one_truth (list_any (λ x. x == k) a.pins) (list_any (λ x. x == m) b.pins)
+    same_truth (list_any (λ x. x == k) a.pins) (list_any (λ x. x == m) b.pins)
     (λ t. listed_any m b.pins (pins.0 (any_listed k a.pins t))) (λ t. listed_any k a.pins (pins.1 (any_listed m b.pins t))) in
     same_beq (get_or (pin_marks a) k false) (get_or (pin_marks b) m false) (pin_mark a k l ∙ same ∙ sym (pin_mark b m r))
 

@@ -1,5 +1,5 @@
 -- Devices that are drawn have their regions in the list.
-use Rattle.std.proofs.Common.{◌≡◌, ◌<◌, ℕ, zero, suc, List, [], ◌∷◌, Option, Some, None, ap, get_or, length, map, slice_get, subst, sym}
+use Rattle.std.proofs.Common.{◌≡◌, ◌<◌, ℕ, zero, suc, List, [], ◌∷◌, Option, Some, None, get_or, length, map, slice_get, subst, sym}
 use Rattle.std.proofs.lemmas.Option.{none-some, same_Some, slice_get_within}
 use Rattle.deep_tables.specs.Circuits.{value_of}
 use Rattle.deep_tables.specs.Entries.{entry}

@@ -1,12 +1,12 @@
 -- The places of devices, by those of the cell's.
 use Rattle.std.proofs.Common.{◌≡◌, ◌↔◌, ◌∙◌, ℕ, Bool, true, false, List, [], ◌∷◌, ◌++◌, Some, None, ap, append-nil, append_assoc, map, sym}
+use Rattle.base_laws.proofs.Tests.{not_both}
 use Rattle.merge_laws.specs.Grouped.{are_wide, groups, merged_row}
 use Rattle.plain_netlist.specs.Netlist.{DeviceRow}
 use Rattle.view_joined.proofs.Small.{all_at}
 use Rattle.view_netlist.specs.Drawing.{AreSmallPlaces, IsSmallPoint}
 use Rattle.view_netlist.specs.declared.drawing.DevicePlace.{DevicePlace}
 use Rattle.view_picture.specs.Parts.{AreMerged, before, first_place, first_places}
-use Rattle.view_picture.proofs.Picturing.{not_both}
 
 pub merged_if : (b : Bool) (rows others made : List DeviceRow) → made ≡ map merged_row (groups others) → are_wide (groups others) ≡ false → (b ≡ true) ↔ (rows ≡ made) → (b ≡ true) ↔ AreMerged rows others
 merged_if b rows others made is narrow same = ((λ t. record { same = same.0 t ∙ is; narrow = narrow }), (λ m. same.1 (m.same ∙ sym is)))

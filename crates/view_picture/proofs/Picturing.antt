@@ -1,5 +1,5 @@
 -- What is drawn of circuits stays right while regions are added.
-use Rattle.std.proofs.Common.{◌≡◌, ℕ, zero, suc, arith, Bool, true, false, List, [], ◌∷◌, ◌++◌, Option, Some, None, refl, subst, sym, append_assoc, append-nil}
+use Rattle.std.proofs.Common.{◌≡◌, ℕ, zero, suc, arith, List, [], ◌∷◌, ◌++◌, Option, Some, None, refl, subst, sym, append_assoc, append-nil}
 use Rattle.deep_tables.specs.Circuits.{value_of}
 use Rattle.deep_tables.specs.Entries.{entry}
 use Rattle.flat_layout.specs.Nets.{Tables}
@@ -70,10 +70,6 @@ pub small_areas : (rs : List Region) → AreSmallRegions (shown_areas rs) → Al
 small_areas [] h k d lt = absurd (omega arith)
 small_areas (r ∷ rs) h zero d lt = h zero (shown_area d) (omega arith)
 small_areas (r ∷ rs) h (suc k) d lt = small_areas rs (λ j e near. h (suc j) e (omega (arith, near))) k d (omega (arith, lt))
-
-pub not_both : (b : Bool) → b ≡ true → b ≡ false → ⊥
-not_both true h g = absurd cc
-not_both false h g = absurd cc
 
 pub none_small : (rs : List Area) → rs ≡ [] → AreSmallRegions rs
 none_small [] e k d lt = absurd (omega arith)

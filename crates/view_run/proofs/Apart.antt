@@ -1,5 +1,7 @@
 -- The page is written to another path than the database.
-use Rattle.std.proofs.Common.{◌≡◌, ◌≢◌, ℕ, Bool, true, false, ◌&&◌, ◌||◌, List, [], ◌∷◌, Option, Some, None, IfSome, is_some, if◌then◌else◌, refl, sym, subst, ◌∙◌}
+use Rattle.std.proofs.Common.{◌≡◌, ◌≢◌, ℕ, Bool, true, false, ◌||◌, List, [], ◌∷◌, Option, Some, None, IfSome, is_some, if◌then◌else◌, refl, sym, subst, ◌∙◌}
+use Rattle.base_laws.proofs.Tests.{or_true}
+use Rattle.std.proofs.lemmas.Bool.{and_parts}
 use Rattle.std.specs.List.{list_any}
 use Rattle.std.specs.Option.{option_and_then, unwrap_or}
 use Rattle.std.specs.Str.{bytes_eq}
@@ -19,10 +21,6 @@ same_flag a b e = same_true the_type tt a b e
 -- a file is written to the path that the option gives
 abbrev pub Writes : Flag → Type 0
 Writes f = (is_path f ≡ true) × (is_written f ≡ true)
-
-or_true : (b : Bool) → (b || true) ≡ true
-or_true true = refl
-or_true false = refl
 
 clash : (i j : Item) → Writes i.flag → Writes j.flag → i.value ≡ j.value → clashes i j ≡ true
 clash i j w u e = let s : bytes_eq i.value j.value ≡ true = (bytes_eq-Decides i.value j.value).1 e in rw (w.0, u.0, w.1, s) refl
@@ -60,18 +58,13 @@ some_path : (o : Option (List ℕ)) → is_some o ≡ true → o ≡ Some (unwra
 some_path (Some v) e = refl
 some_path None e = let no : false ≡ true = e in cc
 
-both : (a b : Bool) → (a && b) ≡ true → (a ≡ true) × (b ≡ true)
-both true true e = (refl, refl)
-both true false e = let no : false ≡ true = e in cc
-both false b e = let no : false ≡ true = e in cc
-
 -- the database's path is there
 database_is : (is : List Item) → fits is ≡ true → value_of flag.Database is ≡ Some (path flag.Database is)
 database_is is e =
-    let layout = both (is_some (value_of flag.Layout is)) (has_needed (flag.Rules ∷ flag.Schematic ∷ flag.Database ∷ []) is) (both (are_once is) (has_needed needed is) e).1 in
-    let rules = both (is_some (value_of flag.Rules is)) (has_needed (flag.Schematic ∷ flag.Database ∷ []) is) layout.1 in
-    let schematic = both (is_some (value_of flag.Schematic is)) (has_needed (flag.Database ∷ []) is) rules.1 in
-    let database = both (is_some (value_of flag.Database is)) true schematic.1 in
+    let layout = and_parts (is_some (value_of flag.Layout is)) (has_needed (flag.Rules ∷ flag.Schematic ∷ flag.Database ∷ []) is) (and_parts (are_once is) (has_needed needed is) e).1 in
+    let rules = and_parts (is_some (value_of flag.Rules is)) (has_needed (flag.Schematic ∷ flag.Database ∷ []) is) layout.1 in
+    let schematic = and_parts (is_some (value_of flag.Schematic is)) (has_needed (flag.Database ∷ []) is) rules.1 in
+    let database = and_parts (is_some (value_of flag.Database is)) true schematic.1 in
     some_path (value_of flag.Database is) database.0
 
 if_there : (o : Option (List ℕ)) (d : List ℕ) → ((p : List ℕ) → o ≡ Some p → d ≡ p → ⊥) → IfSome o (λ p. d ≢ p)

@@ -1,5 +1,5 @@
 -- What a run comes to, and that the counts of faults show it.
-use Rattle.std.proofs.Common.{◌≡◌, ◌≢◌, ◌⊎◌, inl, inr, ℕ, ◌+◌, ◌-◌, ◌^◌, ◌<◌, List, [], ◌∷◌, Option, Some, None, IfSome, refl, sym, ap, subst, ◌∙◌, arith}
+use Rattle.std.proofs.Common.{◌≡◌, ◌≢◌, inl, inr, ℕ, ◌+◌, ◌-◌, ◌^◌, ◌<◌, List, ◌∷◌, Option, Some, None, IfSome, refl, sym, ap, subst, ◌∙◌, arith}
 use Rattle.lvs_files.specs.Files.{AreApart, File}
 use Rattle.lvs_outside.specs.Store.{HasRoom, Store}
 use Rattle.lvs_outside.specs.Summary.{SinkState}

@@ -1,14 +1,12 @@
 -- What is shown of a schematic can be ordered by its calls.
-use Rattle.std.proofs.Common.{◌≡◌, ℕ, ◌<◌, Bool, List, map, length, Option, Some, None, sym, subst}
+use Rattle.std.proofs.Common.{◌≡◌, ℕ, Bool, List, Option, Some, None, subst}
 use Rattle.std.proofs.lemmas.Option.{slice_get_within}
-use Rattle.call_order.specs.Order.{ReachesItself}
 use Rattle.match_report.specs.Report.{rights_of}
 use Rattle.match_report.specs.declared.report.Compared.{Compared}
 use Rattle.net_align.proofs.Walking.{in_range}
-use Rattle.net_model.specs.Faults.{called_by, call_lists}
 use Rattle.net_model.specs.Rows.{plain_netlist}
 use Rattle.net_model.proofs.CallLemmas.{cycles_law}
-use Rattle.plain_netlist.specs.Netlist.{CallRow, Circuit, Netlist, IsCall}
+use Rattle.plain_netlist.specs.Netlist.{Netlist}
 use Rattle.plain_netlist.specs.Sound.{CircuitCycle, IsGood, IsSoundNetlist}
 use Rattle.plain_netlist.proofs.Heights.{no_fault_in_good}
 use Rattle.report_file.specs.Compared.{IsComparison}

@@ -1,6 +1,6 @@
 -- What is drawn over the lists of a layout's cells, and the picture that is joined of it, are those of
 -- the layout.
-use Rattle.std.proofs.Common.{◌≡◌, ◌<◌, ℕ, List, Option, Some, None, IsSome, IsSomeAnd, length, refl, slice_get, subst, sym}
+use Rattle.std.proofs.Common.{◌≡◌, ℕ, List, Option, Some, None, IsSome, IsSomeAnd, length, refl, slice_get, subst, sym}
 use Rattle.cell_graph.specs.Linked.{Linked, plain}
 use Rattle.deep_tables.specs.Entries.{entry}
 use Rattle.deep_tables.specs.Circuits.{IsCellCircuit}
@@ -18,7 +18,6 @@ use Rattle.plain_netlist.specs.Netlist.{Netlist}
 use Rattle.rule_layers.specs.Meaning.{wiring_of}
 use Rattle.rule_text.specs.Rules.{Rules}
 use Rattle.rule_text.specs.Seen.{rules_seen}
-use Rattle.rule_text.specs.declared.rules.LayerRule.{LayerRule}
 use Rattle.rule_text.specs.declared.rules.RuleSet.{RuleSet}
 use Rattle.view_drawing.proofs.Reading.{inside}
 use Rattle.view_drawing.specs.Calls.{called_in}
@@ -30,7 +29,6 @@ use Rattle.view_file.specs.declared.layout.Picture.{Picture}
 use Rattle.view_labels.specs.Labels.{AreInside}
 use Rattle.view_netlist.specs.Drawing.{AreAllSmall}
 use Rattle.view_picture.specs.Picture.{AreDrawn}
-use Rattle.view_picture.specs.declared.drawings.Sketch.{Sketch}
 use Rattle.view_shapes.specs.Shown.{called_by}
 use Rattle.view_picture.specs.Far.{HasFarCell}
 use Rattle.view_run.specs.Far.{HasFarCircuit}

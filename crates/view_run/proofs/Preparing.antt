@@ -1,5 +1,5 @@
 -- What the inputs, read one after the other, come to.
-use Rattle.std.proofs.Common.{◌≡◌, ℕ, Bool, List, ◌∷◌, Option, Some, None, is_some, refl, sym, subst, ◌∙◌}
+use Rattle.std.proofs.Common.{◌≡◌, ℕ, Bool, List, ◌∷◌, Option, Some, None, is_some, refl, ◌∙◌}
 use Rattle.std.specs.Option.{option_map}
 use Rattle.gds_layout.specs.Layouts.{IsRead}
 use Rattle.gds_layout.specs.declared.layout.Layout.{Layout}
@@ -17,7 +17,7 @@ use Rattle.spice_rows.specs.Sizes.{read_limit}
 use Rattle.spice_text.specs.Means.{Means as SpiceMeans}
 use Rattle.view_options.specs.Stated.{Asked}
 use Rattle.view_run.specs.Ends.{AsRun, End}
-use Rattle.view_run.specs.Runs.{Asks, BadLayout, BadRules, BadSchematic, IsReady, NoMemory, NothingMade, ReadsAll, ReadsLayout, ReadsRules, Stops, page_files}
+use Rattle.view_run.specs.Runs.{BadLayout, BadRules, BadSchematic, IsReady, NoMemory, NothingMade, ReadsAll, ReadsLayout, ReadsRules, Stops, page_files}
 use Rattle.view_run.specs.Far.{NotMade}
 use Rattle.view_run.specs.Views.{IsView}
 

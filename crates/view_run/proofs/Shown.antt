@@ -1,6 +1,6 @@
 -- What is shown of a comparison: its circuits stand in pairs, those of the layout behind the ones
 -- that they call.
-use Rattle.std.proofs.Common.{◌≡◌, ◌<◌, ℕ, Bool, List, Option, Some, None, length, map, arith, ap, sym, subst}
+use Rattle.std.proofs.Common.{◌≡◌, ℕ, Bool, List, Option, Some, None, length, map, arith, ap, sym, subst}
 use Rattle.std.proofs.lemmas.Option.{slice_get_within}
 use Rattle.align_laws.proofs.Sides.{aligned_sides, ordered}
 use Rattle.match_report.specs.declared.report.Compared.{Compared}

@@ -1,5 +1,5 @@
 -- How a run of the program ends, as plain data.
-use Rattle.std.specs.Prelude.{◌≡◌, ℕ, List, [], ◌∷◌, ◌++◌, codes}
+use Rattle.std.specs.Prelude.{ℕ, List, [], ◌∷◌, ◌++◌, codes}
 use Rattle.lvs_outside.specs.Store.{Store}
 use Rattle.lvs_outside.specs.Summary.{SinkState}
 use Rattle.lvs_run.specs.Answers.{Answer, Good, Bad, Undecided, Outside, NoMemory, nothing, refused}

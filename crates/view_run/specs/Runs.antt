@@ -1,5 +1,5 @@
 -- What a run comes to: what it read, why it wrote nothing, or what it wrote and sent.
-use Rattle.std.specs.Prelude.{◌≡◌, ◌≢◌, ◌⊎◌, ◌<◌, ℕ, List, [], ◌∷◌, Option, Some, None, IfSome, is_some}
+use Rattle.std.specs.Prelude.{◌≡◌, ◌≢◌, ◌⊎◌, ℕ, List, [], ◌∷◌, Option, Some, None, IfSome, is_some}
 use Rattle.gds_layout.specs.Layouts.{IsRead}
 use Rattle.gds_layout.specs.declared.layout.Layout.{Layout}
 use Rattle.lvs_files.specs.Files.{File, WrotePart, WroteWhole}

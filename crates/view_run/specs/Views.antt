@@ -1,6 +1,5 @@
 -- The database of a layout, rules and a schematic.
 use Rattle.std.specs.Prelude.{◌≡◌, ℕ, ◌*◌, Bool, true, false, List, [], Option, Some, None, length, map, slice_get}
-use Rattle.std.specs.Option.{option_map}
 use Rattle.call_order.specs.Order.{AreInRange, ReachesItself}
 use Rattle.cell_graph.specs.Linked.{cell_at, height_at, plain}
 use Rattle.deep_flow.specs.Bad.{told_gates}

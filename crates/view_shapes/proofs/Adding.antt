@@ -1,7 +1,7 @@
 -- Pieces that are added to a list.
 use Rattle.std.proofs.Common.{◌≡◌, ◌⊎◌, ◌↔◌, inl, inr, ℕ, ◌+◌, ◌<◌, Bool, true, false, List, [], ◌∷◌, ◌++◌, Some, slice_get, get_or, length, pos, refl, sym, ap, ◌∙◌, subst, arith, zero, suc, take}
 use Rattle.std.proofs.Math.Decide.{ℕ_discrete}
-use Rattle.std.proofs.lemmas.Option.{slice_get-get_or}
+use Rattle.std.proofs.lemmas.Option.{slice_get-get_or, same_Some}
 use Rattle.std.proofs.lemmas.List.{take_more}
 use Rattle.std.proofs.Math.Seq.{take-length}
 use Rattle.flat_layout.specs.Plane.{IsIn}
@@ -77,9 +77,6 @@ added_as R T old new h same = record {
 abbrev pub nowhere : Rect
 nowhere = record { x1 = pos 0; y1 = pos 0; x2 = pos 0; y2 = pos 0 }
 
-same_some : {A : Type 0} (a b : A) → Some a ≡ Some b → a ≡ b
-same_some a b e = cc
-
 -- the rectangle at a position, in a wanted net
 pub own_at : (own : List Rect) (conductor : ℕ) (net_of : List ℕ) (at : ℕ) (wanted : List Bool) (r : ℕ) (old new : List Piece) → r < length own → at + r < length net_of
     → get_or wanted (get_or net_of (at + r) 0) false ≡ true → AddsPieces (IsOfRect conductor (get_or net_of (at + r) 0) (get_or own r nowhere)) old new
@@ -91,7 +88,7 @@ own_at own conductor net_of at wanted r old new lt less is h =
     let its : slice_get net_of (at + r) ≡ Some net = slice_get-get_or net_of (at + r) 0 less in
     added_as (IsOfRect conductor net rect) (IsOfOwnAt own conductor net_of at wanted r) old new h
     (λ c x q. (
-      (λ k. (k.0, same_some net x (sym its ∙ k.3), subst (λ (v : Rect). IsIn q v) (same_some k.1 rect (sym k.2 ∙ there)) k.5)),
+      (λ k. (k.0, same_Some net x (sym its ∙ k.3), subst (λ (v : Rect). IsIn q v) (same_Some k.1 rect (sym k.2 ∙ there)) k.5)),
       (λ k. (k.0, rect, there, its ∙ ap (λ n. Some n) k.1, subst (λ n. IsMarked wanted n) k.1 is, k.2)),
     ))
 
@@ -104,7 +101,7 @@ own_not own conductor net_of at wanted r old less is =
     added_none (IsOfOwnAt own conductor net_of at wanted r) old
     (λ c x q k.
     let marked : get_or wanted x false ≡ true = k.4 in
-    let here : get_or wanted net false ≡ true = subst (λ n. get_or wanted n false ≡ true) (sym (same_some net x (sym its ∙ k.3))) marked in
+    let here : get_or wanted net false ≡ true = subst (λ n. get_or wanted n false ≡ true) (sym (same_Some net x (sym its ∙ k.3))) marked in
     let f : true ≡ false = sym here ∙ is in cc)
 
 pub own_none : (own : List Rect) (conductor : ℕ) (net_of : List ℕ) (at : ℕ) (wanted : List Bool) (ps : List Piece) → AddsPieces (IsOfOwn own conductor net_of at wanted 0) ps ps
@@ -145,7 +142,7 @@ image_as m p image net_of at old new less same h =
       (λ k. elim k.2 [
         | inl o ↦
             let two : slice_get net_of (at + p.net) ≡ Some x = subst (λ i. slice_get net_of (at + i) ≡ Some x) (sym o.1) k.3 in
-            (o.0, same_some net x (sym its ∙ two), subst (λ (v : Square). IsIn v image) k.4 (moved_in m p.rect image same k.1 o.2))
+            (o.0, same_Some net x (sym its ∙ two), subst (λ (v : Square). IsIn v image) k.4 (moved_in m p.rect image same k.1 o.2))
         | inr o ↦ absurd o
       ]),
       (λ k. let f = from_in m p.rect image same q k.2 in (p.net, f.0, inl (k.0, refl, f.1), its ∙ ap (λ n. Some n) k.1, f.2)),

@@ -1,11 +1,10 @@
 -- Pieces are as near as the hull of the cell that they are shown in; and a far one is a rectangle that
 -- a net shows.
-use Rattle.std.proofs.Common.{◌≡◌, ◌↔◌, inl, inr, ℕ, Bool, List, [], ◌∷◌, Option, Some, None, IfSome, IfNone, pos, ◌-ℤ◌, refl, arith}
+use Rattle.std.proofs.Common.{◌↔◌, inl, inr, ℕ, Bool, List, [], ◌∷◌, Option, Some, None, IfSome, IfNone, pos, ◌-ℤ◌, refl, arith}
 use Rattle.std.proofs.lemmas.Int.{ints}
 use Rattle.flat_layout.specs.Layout.{Design}
-use Rattle.flat_layout.specs.Nets.{Tables, NetHolds}
+use Rattle.flat_layout.specs.Nets.{Tables}
 use Rattle.flat_layout.specs.Plane.{IsIn}
-use Rattle.flat_layout.specs.Regions.{At}
 use Rattle.geo_base.specs.Near.{IsNear, IsNearRect}
 use Rattle.geo_base.specs.Rects.{IsRect}
 use Rattle.geo_base.specs.declared.shapes.Rect.{Rect}

@@ -1,5 +1,6 @@
 -- What stands between quotes is read as its name.
 use Rattle.std.proofs.Common.{◌≡◌, ◌∙◌, ℕ, ◌+◌, ◌-◌, ◌*◌, ◌/◌, ◌%◌, ◌<◌, Bool, true, false, ◌==◌, List, [], ◌∷◌, ◌++◌, if◌then◌else◌, refl, sym, ap, subst, arith, append_assoc, append-nil}
+use Rattle.std.proofs.lemmas.Bool.{and_parts, ne_eqb}
 use Rattle.std.specs.Char.{is_ascii_digit}
 use Rattle.std.specs.List.{list_all}
 use Rattle.std.proofs.Math.Decide.{ℕ_discrete}
@@ -7,7 +8,7 @@ use Rattle.std.proofs.lemmas.List.Elements.{All-head, All-tail}
 use Rattle.view_words.specs.Words.{is_printable, quoted, octal, spelled}
 use Rattle.view_words.specs.Reading.{State, Open, Number, Behind, read_from, opened, control}
 use Rattle.view_words.specs.Laws.{AreBytes}
-use Rattle.view_words.proofs.Bools.{first_true, second_true, other, differs, digit}
+use Rattle.view_words.proofs.Bools.{other, digit}
 use Rattle.view_words.proofs.PlainWords.{found}
 
 itself : (b : ℕ) → (b == 0x27) ≡ false → (b == 0x5C) ≡ false → quoted b ≡ b ∷ []
@@ -27,8 +28,8 @@ quoted_step b acc more h =
       | no not_quote ↦ elim (ℕ_discrete b 0x5C) [
         | yes e ↦ subst (λ (c : ℕ). read_from (Open acc) (quoted c ++ more) ≡ read_from (Open (acc ++ c ∷ [])) more) (sym e) refl
         | no not_backslash ↦
-            let m = differs b 0x27 not_quote in
-            let n = differs b 0x5C not_backslash in
+            let m = ne_eqb b 0x27 not_quote in
+            let n = ne_eqb b 0x5C not_backslash in
             ap (λ (t : List ℕ). read_from (Open acc) (t ++ more)) (itself b m n)
             ∙ ap (λ (s : State). read_from s more) (stays_open b acc h m n)
       ]
@@ -39,8 +40,8 @@ quoted_tail [] acc rest h = ap (λ (n : List ℕ). found n rest) (sym (append-ni
 quoted_tail (b ∷ name) acc rest h =
     let text = spelled quoted name in
     ap (λ (t : List ℕ). read_from (Open acc) t) (append_assoc (quoted b) text (0x27 ∷ rest))
-    ∙ quoted_step b acc (text ++ 0x27 ∷ rest) (first_true (is_printable b) (list_all is_printable name) h)
-    ∙ quoted_tail name (acc ++ b ∷ []) rest (second_true (is_printable b) (list_all is_printable name) h)
+    ∙ quoted_step b acc (text ++ 0x27 ∷ rest) ((and_parts (is_printable b) (list_all is_printable name) h).0)
+    ∙ quoted_tail name (acc ++ b ∷ []) rest ((and_parts (is_printable b) (list_all is_printable name) h).1)
     ∙ ap (λ (n : List ℕ). found n rest) (append_assoc acc (b ∷ []) name)
 
 behind_digit : (acc more : List ℕ) (d : ℕ) → d < 10 → read_from (Behind acc) ((0x30 + d) ∷ more) ≡ read_from (Number acc d) more

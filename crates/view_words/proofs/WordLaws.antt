@@ -1,5 +1,6 @@
 -- Words are read as their names, and are printable.
 use Rattle.std.proofs.Common.{◌≡◌, ◌∙◌, ℕ, ◌+◌, ◌/◌, ◌%◌, ◌<◌, Bool, true, false, ◌&&◌, ◌||◌, ◌==◌, List, [], ◌∷◌, ◌++◌, if◌then◌else◌, refl, arith}
+use Rattle.std.proofs.lemmas.Bool.{and_parts, and_from}
 use Rattle.std.specs.List.{list_all}
 use Rattle.std.proofs.lemmas.Bool.Decides.{nat_tests}
 use Rattle.std.proofs.lemmas.List.Elements.{All-head, All-tail}
@@ -7,7 +8,6 @@ use Rattle.std.proofs.lemmas.List.Folds.{list_all-append}
 use Rattle.view_words.specs.Words.{is_plain, is_printable, quoted, octal, spelled, in_quotes}
 use Rattle.view_words.specs.Reading.{read_word}
 use Rattle.view_words.specs.Laws.{AreBytes, WordReadLaw, PrintableLaw}
-use Rattle.view_words.proofs.Bools.{first_true, second_true, both_true}
 use Rattle.view_words.proofs.PlainWords.{found, plain_word_read}
 use Rattle.view_words.proofs.QuotedWords.{quoted_read, octal_read}
 
@@ -27,18 +27,18 @@ plain_printable b h = grind (arith, nat_tests)
 all_printable : (name : List ℕ) → list_all is_plain name ≡ true → list_all is_printable name ≡ true
 all_printable [] h = refl
 all_printable (b ∷ name) h =
-    both_true (is_printable b) (list_all is_printable name)
-    (plain_printable b (first_true (is_plain b) (list_all is_plain name) h))
-    (all_printable name (second_true (is_plain b) (list_all is_plain name) h))
+    and_from (is_printable b) (list_all is_printable name)
+    (plain_printable b ((and_parts (is_plain b) (list_all is_plain name) h).0))
+    (all_printable name ((and_parts (is_plain b) (list_all is_plain name) h).1))
 
 joined : (a b : List ℕ) → list_all is_printable a ≡ true → list_all is_printable b ≡ true → list_all is_printable (a ++ b) ≡ true
-joined a b h g = list_all-append is_printable a b ∙ both_true (list_all is_printable a) (list_all is_printable b) h g
+joined a b h g = list_all-append is_printable a b ∙ and_from (list_all is_printable a) (list_all is_printable b) h g
 
 quoted_one : (b : ℕ) → is_printable b ≡ true → list_all is_printable (quoted b) ≡ true
 quoted_one b h = kinds ((b == 0x27)) ((b == 0x5C)) refl refl
   where
     both : (is_printable b && true) ≡ true
-    both = both_true (is_printable b) true h refl
+    both = and_from (is_printable b) true h refl
 
     kinds : (p q : Bool) → (b == 0x27) ≡ p → (b == 0x5C) ≡ q → list_all is_printable (if (p || q) then 0x5C ∷ b ∷ [] else b ∷ []) ≡ true
     kinds true q f g = both
@@ -48,8 +48,8 @@ quoted_one b h = kinds ((b == 0x27)) ((b == 0x5C)) refl refl
 quoted_all : (name : List ℕ) → list_all is_printable name ≡ true → list_all is_printable (spelled quoted name) ≡ true
 quoted_all [] h = refl
 quoted_all (b ∷ name) h = joined (quoted b) (spelled quoted name)
-    (quoted_one b (first_true (is_printable b) (list_all is_printable name) h))
-    (quoted_all name (second_true (is_printable b) (list_all is_printable name) h))
+    (quoted_one b ((and_parts (is_printable b) (list_all is_printable name) h).0))
+    (quoted_all name ((and_parts (is_printable b) (list_all is_printable name) h).1))
 
 digit_printable : (d : ℕ) → d < 10 → is_printable (0x30 + d) ≡ true
 digit_printable d h = grind (arith, nat_tests)
@@ -59,9 +59,9 @@ octal_one b h =
     let two = digit_printable (b / 64) (omega arith) in
     let one = digit_printable (b / 8 % 8) (omega arith) in
     let none = digit_printable (b % 8) (omega arith) in
-    both_true (is_printable (0x30 + b / 64)) (list_all is_printable ((0x30 + b / 8 % 8) ∷ (0x30 + b % 8) ∷ [])) two
-    (both_true (is_printable (0x30 + b / 8 % 8)) (list_all is_printable ((0x30 + b % 8) ∷ [])) one
-    (both_true (is_printable (0x30 + b % 8)) true none refl))
+    and_from (is_printable (0x30 + b / 64)) (list_all is_printable ((0x30 + b / 8 % 8) ∷ (0x30 + b % 8) ∷ [])) two
+    (and_from (is_printable (0x30 + b / 8 % 8)) (list_all is_printable ((0x30 + b % 8) ∷ [])) one
+    (and_from (is_printable (0x30 + b % 8)) true none refl))
 
 octal_all : (name : List ℕ) → AreBytes name → list_all is_printable (spelled octal name) ≡ true
 octal_all [] h = refl

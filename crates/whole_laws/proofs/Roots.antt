@@ -1,5 +1,6 @@
 -- The outermost slot of each net of a good netlist: two slots are on one net exactly where it is the same.
 use Rattle.std.proofs.Common.{◌≡◌, ◌⊎◌, inl, inr, ℕ, List, [], ◌∷◌, ◌++◌, Option, Some, None, slice_get, refl, sym, ap, subst, ◌∙◌, arith, true≢false}
+use Rattle.base_laws.proofs.Items.{item_at}
 use Rattle.std.proofs.Math.Decide.{ℕ_discrete}
 use Rattle.std.proofs.lemmas.Bool.{cases_Bool}
 use Rattle.std.proofs.lemmas.Option.{slice_get_within}
@@ -7,7 +8,6 @@ use Rattle.std.proofs.lemmas.Slice.Eq.{bytes_eq-Decides}
 use Rattle.std.specs.Str.{bytes_eq}
 use Rattle.plain_netlist.proofs.Links as links
 use Rattle.plain_netlist.proofs.Links.{along, both, single, stays}
-use Rattle.plain_netlist.proofs.Members.{item_at}
 use Rattle.plain_netlist.specs.Chains.{IsChain}
 use Rattle.plain_netlist.specs.Netlist.{CallRow, Circuit, Netlist, IsCall, IsEitherJoin, IsJoin, IsSlot, Joins, Slot, slot, InOneNet}
 use Rattle.plain_netlist.specs.Sound.{IsGood}

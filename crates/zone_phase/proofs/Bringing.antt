@@ -1,5 +1,6 @@
 -- What arrays bring.
-use Rattle.std.proofs.Common.{◌≡◌, ◌⊎◌, inl, inr, ℕ, ℤ, pos, ◌+◌, ◌-◌, ◌*◌, ◌<◌, ◌≤◌, ◌^◌, ◌+ℤ◌, ◌-ℤ◌, ◌*ℤ◌, Bool, true, false, ◌&&◌, List, Some, None, length, slice_index_or, refl, sym, ◌∙◌, ap, subst, arith}
+use Rattle.std.proofs.Common.{◌≡◌, ◌⊎◌, inl, inr, ℕ, ℤ, pos, ◌+◌, ◌-◌, ◌*◌, ◌<◌, ◌≤◌, ◌^◌, ◌+ℤ◌, ◌-ℤ◌, ◌*ℤ◌, true, ◌&&◌, List, Some, None, length, slice_index_or, sym, ◌∙◌, ap, subst, arith}
+use Rattle.std.proofs.lemmas.Bool.{and_parts, and_from, or_cases, or_right}
 use Rattle.std.proofs.lemmas.Int.{ints}
 use Rattle.geo_base.specs.Near.{IsWithin, IsNearMotion}
 use Rattle.geo_base.specs.Motions.{moved_square}
@@ -13,19 +14,15 @@ use Rattle.rect_sets.specs.Rects.{covers}
 use Rattle.flat_layout.specs.Layout.{InFlatInput}
 use Rattle.cell_graph.specs.declared.cells.Place.{Place}
 use Rattle.cell_graph.specs.Linked.{Linked, IsSound, IsRectWithin, hull_of, cell_at, plain}
-use Rattle.cell_graph.proofs.Bridge.{or_split, or_right, hulls}
+use Rattle.cell_graph.proofs.Bridge.{hulls}
 use Rattle.cell_context.specs.Arrays.{IsNearArray, IsCloseArray}
 use Rattle.cell_context.specs.declared.arrays.Visit.{Visit}
 use Rattle.cell_context.specs.Visits.{IsElementVisit, IsMet, IsVisited, IsFound}
-use Rattle.cell_context.proofs.Visiting.{wider, wider_rect, and_both, near_motion}
-use Rattle.cell_context.proofs.Collecting.{and_right, hull_has}
+use Rattle.cell_context.proofs.Visiting.{wider, wider_rect, near_motion}
+use Rattle.cell_context.proofs.Collecting.{hull_has}
 use Rattle.cell_context.proofs.Gathering.{IsExact, Adds, over_flat, some_at}
 use Rattle.zone_phase.specs.Siblings.{around, IsBroughtTo, Brings, AreShifts}
 use Rattle.zone_phase.proofs.Around.{none_times, times_sum, compared}
-
-left_of : (a b : Bool) → (a && b) ≡ true → a ≡ true
-left_of true b e = refl
-left_of false b e = e
 
 -- shifts stay near
 ahead_within : (x y : ℤ) → (x ≡ pos 0) ⊎ (y ≡ pos 0) → IsWithin (2 ^ 37) x → IsWithin (2 ^ 37) y → IsWithin (2 ^ 37) (x -ℤ y)
@@ -75,12 +72,12 @@ right_more d p key hull w start old new list v sound h right exact adds q e =
     subst (λ x. (covers start x ≡ true) ⊎ ((has w x ≡ true) × IsBroughtTo d p key x)) o.1 (at o.0 (subst (λ x. covers new x ≡ true) (sym o.1) e))
   where
     at : (s : Square) → covers new (moved_square v.motion s) ≡ true → (covers start (moved_square v.motion s) ≡ true) ⊎ ((has w (moved_square v.motion s) ≡ true) × IsBroughtTo d p key (moved_square v.motion s))
-    at s e = elim (or_split (covers old (moved_square v.motion s)) (covers list s && has w (moved_square v.motion s)) (sym (adds s) ∙ e)) [
+    at s e = elim (or_cases (covers old (moved_square v.motion s)) (covers list s && has w (moved_square v.motion s)) (sym (adds s) ∙ e)) [
       | inl f ↦ right (moved_square v.motion s) f
       | inr f ↦
-          let b = (exact s).0 (left_of (covers list s) (has w (moved_square v.motion s)) f) in
+          let b = (exact s).0 ((and_parts (covers list s) (has w (moved_square v.motion s)) f).0) in
           inr (
-            and_right (covers list s) (has w (moved_square v.motion s)) f,
+            (and_parts (covers list s) (has w (moved_square v.motion s)) f).1,
             record {
               row = h.row;
               column = h.column;
@@ -113,7 +110,7 @@ visit_within p hull w v h = wider_rect (2 ^ 37) (2 ^ 39) v.window (omega arith) 
 pub brings_flat : (d : Linked) (p : Place) (key : LayerKey) (hull w : Rect) (old new list : List Rect) (v : Visit) → IsSound d → IsExact d p.cell None key v.window list → Adds old new list v.motion w
     → (r : Square) → has v.window r ≡ true → InFlatInput (plain d) p.cell key r → has w (moved_square v.motion r) ≡ true → covers new (moved_square v.motion r) ≡ true
 brings_flat d p key hull w old new list v sound exact adds r h flat g =
-    adds r ∙ or_right (covers old (moved_square v.motion r)) (covers list r && has w (moved_square v.motion r)) (and_both (covers list r) (has w (moved_square v.motion r)) ((exact r).1 (h, (over_flat d sound p.cell key r).1 flat)) g)
+    adds r ∙ or_right (covers old (moved_square v.motion r)) (covers list r && has w (moved_square v.motion r)) (and_from (covers list r) (has w (moved_square v.motion r)) ((exact r).1 (h, (over_flat d sound p.cell key r).1 flat)) g)
 
 -- an array without elements brings nothing
 pub none_brought : (d : Linked) (v : Place) (key : LayerKey) (w : Rect) (old : List Rect) → ((0 < v.rows) × (0 < v.columns) → ⊥) → Brings d v key w old old

@@ -1,5 +1,6 @@
 -- What the four arrays bring, as squares that have siblings.
-use Rattle.std.proofs.Common.{◌≡◌, ◌⊎◌, inl, inr, ℕ, ◌<◌, ◌-◌, ◌*◌, Bool, true, false, ◌&&◌, ◌||◌, List, [], ◌∷◌, ◌++◌, refl, sym, ◌∙◌, ap, subst}
+use Rattle.std.proofs.Common.{◌≡◌, ◌⊎◌, inl, inr, ℕ, ◌<◌, ◌-◌, ◌*◌, true, false, ◌&&◌, ◌||◌, List, [], ◌∷◌, ◌++◌, sym, ◌∙◌, ap, subst}
+use Rattle.std.proofs.lemmas.Bool.{and_parts, and_from, or_cases, or_left, or_right}
 use Rattle.geo_base.specs.Motions.{moved_square}
 use Rattle.geo_base.specs.Rects.{has, moved_rect, IsRect}
 use Rattle.geo_base.specs.Laws.{IsUndone}
@@ -12,18 +13,12 @@ use Rattle.rect_sets.specs.Rects.{covers}
 use Rattle.flat_layout.specs.Layout.{Some_of}
 use Rattle.cell_graph.specs.declared.cells.Place.{Place}
 use Rattle.cell_graph.specs.Linked.{Linked, motion_at}
-use Rattle.cell_graph.proofs.Bridge.{or_split, or_left, or_right}
-use Rattle.cell_context.proofs.Collecting.{covers_append, and_right}
-use Rattle.cell_context.proofs.Visiting.{and_both}
+use Rattle.cell_context.proofs.Collecting.{covers_append}
 use Rattle.deep_laws.specs.Zones.{IsFromSibling}
 use Rattle.zone_phase.specs.Pulls.{IsSome, Adds, OnRects, OnRectsIn, Beside, BesideIn, AreCovering, Why}
 use Rattle.zone_phase.specs.Siblings.{around, siblings, IsBroughtBy, IsBroughtTo, Brings, SomeBring}
 use Rattle.zone_phase.proofs.Around.{sibling}
 use Rattle.zone_phase.proofs.Joining.{joined}
-
-left_of : (a b : Bool) → (a && b) ≡ true → a ≡ true
-left_of true b e = refl
-left_of false b e = e
 
 -- what no array brings, and what one more brings
 no_more : (d : Linked) (key : LayerKey) (w : Rect) (old : List Rect) → SomeBring d [] key w old old
@@ -106,12 +101,12 @@ siblings_add d p key g w first back t0 t1 m0 more old new some_rows some_columns
     all = ap (λ l. covers l q) e ∙ covers_append old more q
 
     to : covers new q ≡ true → (covers old q ≡ true) ⊎ IsSome p g (λ row column q. IsFromSibling d p row column key q) q
-    to f = elim (or_split (covers old q) (covers more q) (sym all ∙ f)) [
+    to f = elim (or_cases (covers old q) (covers more q) (sym all ∙ f)) [
       | inl h ↦ inl h
       | inr h ↦
           let i : (covers t1 (moved_square (motion_at p 0 0) q) && has g q) ≡ true = sym here ∙ h in
-          let s = (sibling d p key q some_rows some_columns).1 (to_sibling d p key w t0 t1 none brought q (left_of (covers t1 (moved_square (motion_at p 0 0) q)) (has g q) i)) in
-          inr (record { row = s.row; column = s.column; row_in = s.row_in; column_in = s.column_in; inner = and_right (covers t1 (moved_square (motion_at p 0 0) q)) (has g q) i; holds = s.sibling })
+          let s = (sibling d p key q some_rows some_columns).1 (to_sibling d p key w t0 t1 none brought q ((and_parts (covers t1 (moved_square (motion_at p 0 0) q)) (has g q) i).0)) in
+          inr (record { row = s.row; column = s.column; row_in = s.row_in; column_in = s.column_in; inner = (and_parts (covers t1 (moved_square (motion_at p 0 0) q)) (has g q) i).1; holds = s.sibling })
     ]
 
     from : (covers old q ≡ true) ⊎ IsSome p g (λ row column q. IsFromSibling d p row column key q) q → covers new q ≡ true
@@ -120,7 +115,7 @@ siblings_add d p key g w first back t0 t1 m0 more old new some_rows some_columns
         let b = (sibling d p key q some_rows some_columns).0 (record { row = s.row; column = s.column; row_in = s.row_in; column_in = s.column_in; sibling = s.holds }) in
         let inside : has w (moved_square (motion_at p 0 0) q) ≡ true = subst (λ x. has x (moved_square (motion_at p 0 0) q) ≡ true) (sym at) (moved_rect-has (motion_at p 0 0) g q some ∙ s.inner) in
         let t = of_sibling d p key w t0 t1 none brought q inside b in
-        all ∙ or_right (covers old q) (covers more q) (here ∙ and_both (covers t1 (moved_square (motion_at p 0 0) q)) (has g q) t s.inner)
+        all ∙ or_right (covers old q) (covers more q) (here ∙ and_from (covers t1 (moved_square (motion_at p 0 0) q)) (has g q) t s.inner)
 
 -- the three kinds together
 pub reference_adds : (d : Linked) (zone windows : List Rect) (parent index : ℕ) (key : LayerKey) (p : Place) (g : Rect) (o1 o2 o3 o4 : List Rect) → AreCovering p g windows

@@ -1,33 +1,20 @@
 -- The jobs of references, each once.
 use Rattle.std.proofs.Common.{◌≡◌, ◌≢◌, ◌⊎◌, inl, inr, ℕ, zero, suc, ◌<◌, ◌≤◌, ◌+◌, ◌-◌, ◌==◌, ◌||◌, Bool, true, false, List, [], ◌∷◌, ◌++◌, Some, refl, sym, ◌∙◌, ap, subst, arith, length, length-append, slice_get, slice_index, slice_index_or}
+use Rattle.base_laws.proofs.Tests.{or_false}
 use Rattle.std.specs.Global.{Vec}
 use Rattle.std.proofs.Math.Decide.{ℕ_discrete}
 use Rattle.std.proofs.lemmas.Option.{slice_get_within}
-use Rattle.std.proofs.lemmas.Bool.{cases_lt}
-use Rattle.std.proofs.lemmas.Bool.Decides.{nat_tests}
+use Rattle.std.proofs.lemmas.Bool.{cases_lt, or_cases, or_left, or_right, eqb-true, eq-eqb, ne_eqb}
 use Rattle.job_graph.specs.Graph.{has, lists, AreAscending, inputs_of, AreLower}
 use Rattle.job_graph.proofs.Inputs.{has_here}
 use Rattle.cell_graph.specs.Linked.{Linked, IsSound, height_at}
-use Rattle.cell_graph.proofs.Bridge.{lower, or_split, or_left, or_right}
+use Rattle.cell_graph.proofs.Bridge.{lower}
 use Rattle.deep_tables.specs.Entries.{downward_cell}
 use Rattle.zone_phase.specs.declared.uses.Use.{Use}
 use Rattle.zone_phase.specs.Uses.{uses_of, AreRising, AreUses}
 use Rattle.zone_phase.specs.Graph.{HasJob, AreJobsOf, AreInputsTo, AreParentJobs, Places}
 use Rattle.zone_phase.proofs.Entries.{at_any}
 use Rattle.zone_phase.proofs.Using.{one_use}
-
-same_number : (x y : ℕ) → (x == y) ≡ true → x ≡ y
-same_number x y e = grind (arith, nat_tests)
-
-is_same : (x y : ℕ) → x ≡ y → (x == y) ≡ true
-is_same x y e = grind (arith, nat_tests)
-
-other_number : (x y : ℕ) → x ≢ y → (x == y) ≡ false
-other_number x y e = grind (arith, nat_tests)
-
-or_false : (a : Bool) → (a || false) ≡ a
-or_false true = refl
-or_false false = refl
 
 or_assoc : (a b c : Bool) → (a || (b || c)) ≡ ((a || b) || c)
 or_assoc true b c = refl
@@ -72,7 +59,7 @@ same_last xs n x y count some at e =
 pub had : (xs : List ℕ) (y : ℕ) → has y xs ≡ true → (i : ℕ) → has i xs ≡ (has i xs || (i == y))
 had xs y there i = elim (ℕ_discrete i y) [
   | yes e ↦ let t : has i xs ≡ true = ap (λ n. has n xs) e ∙ there in t ∙ sym (or_left (has i xs) (i == y) t)
-  | no n ↦ sym (ap (λ b. has i xs || b) (other_number i y n) ∙ or_false (has i xs))
+  | no n ↦ sym (ap (λ b. has i xs || b) (ne_eqb i y n) ∙ or_false (has i xs))
 ]
 
 pub no_jobs : (uses : List Use) → AreJobsOf uses 0 []
@@ -101,13 +88,13 @@ pub jobs_more : (uses : List Use) (k : ℕ) (u : Use) (old new : List ℕ) → s
 jobs_more uses k u old new at h up same = record {
   ascend = λ high f. let lt = f u.job (k, u, omega arith, at, refl) in wider 0 new (u.job + 1) high up (omega arith);
   all = λ job. (
-    (λ e. elim (or_split (has job old) (job == u.job) (sym (same job) ∙ e)) [
+    (λ e. elim (or_cases (has job old) (job == u.job) (sym (same job) ∙ e)) [
       | inl o ↦ more_of uses k job ((h.all job).0 o)
-      | inr o ↦ (k, u, omega arith, at, sym (same_number job u.job o))
+      | inr o ↦ (k, u, omega arith, at, sym (eqb-true job u.job o))
     ]),
     (λ g. same job ∙ elim (split uses k u job at g) [
       | inl o ↦ or_left (has job old) (job == u.job) ((h.all job).1 o)
-      | inr o ↦ or_right (has job old) (job == u.job) (is_same job u.job o)
+      | inr o ↦ or_right (has job old) (job == u.job) (eq-eqb job u.job o)
     ]),
   );
 }

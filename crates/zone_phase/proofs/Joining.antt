@@ -1,5 +1,6 @@
 -- Lists of rectangles that grow.
 use Rattle.std.proofs.Common.{◌≡◌, ◌⊎◌, ◌↔◌, inl, inr, ℕ, ◌<◌, ◌+◌, ◌^◌, true, ◌&&◌, List, Some, length, take, slice_index_or, sym, ◌∙◌}
+use Rattle.std.proofs.lemmas.Bool.{and_from, or_cases, or_left, or_right, and_parts}
 use Rattle.std.specs.List.{All}
 use Rattle.geo_base.specs.Motions.{moved_square}
 use Rattle.geo_base.specs.Rects.{has}
@@ -7,13 +8,11 @@ use Rattle.geo_base.specs.declared.layer.LayerKey.{LayerKey}
 use Rattle.geo_base.specs.declared.shapes.Rect.{Rect}
 use Rattle.geo_base.specs.declared.shapes.Square.{Square}
 use Rattle.rect_sets.specs.Rects.{covers}
-use Rattle.rect_sets.proofs.Splitting.{and_split}
 use Rattle.cell_graph.specs.declared.cells.Place.{Place}
 use Rattle.cell_graph.specs.Linked.{Linked, IsRectWithin, motion_at}
-use Rattle.cell_graph.proofs.Bridge.{or_split, or_left, or_right}
 use Rattle.cell_context.specs.Over.{IsOver, IsPiece}
 use Rattle.cell_context.proofs.Collecting.{covers_more}
-use Rattle.cell_context.proofs.Visiting.{and_both, within_inside}
+use Rattle.cell_context.proofs.Visiting.{within_inside}
 use Rattle.zone_phase.specs.Pulls.{IsPulled, IsSome, Adds, OnRects, OnRectsIn, BesideIn}
 
 -- two growths are one
@@ -54,7 +53,7 @@ pub rect_more : (p : Place) (hull : Rect) (rects : List Rect) (k : ℕ) (z : Rec
 rect_more p hull rects k z old out new lt first second =
     joined p hull (OnRects p (take k rects)) (λ row column q. has (slice_index_or rects k z) (moved_square (motion_at p row column) q) ≡ true) (OnRects p (take (k + 1) rects)) old out new
     (λ row column q a b c. let m = moved_square (motion_at p row column) q in let e = covers_more rects k z m lt in (
-      λ h. or_split (covers (take k rects) m) (has (slice_index_or rects k z) m) (sym e ∙ h),
+      λ h. or_cases (covers (take k rects) m) (has (slice_index_or rects k z) m) (sym e ∙ h),
       λ h. e ∙ elim h [ inl f ↦ or_left (covers (take k rects) m) (has (slice_index_or rects k z) m) f | inr f ↦ or_right (covers (take k rects) m) (has (slice_index_or rects k z) m) f ],
     ))
     first (one_grows p hull (slice_index_or rects k z) out new second)
@@ -68,7 +67,7 @@ window_more P p hull windows k z rects old out new lt exact first second =
     joined p hull (λ row column q. OnRects p (take k windows) row column q × P (moved_square (motion_at p row column) q)) (OnRects p rects)
     (λ row column q. OnRects p (take (k + 1) windows) row column q × P (moved_square (motion_at p row column) q)) old out new
     (λ row column q a b c. let m = moved_square (motion_at p row column) q in let e = covers_more windows k z m lt in (
-      λ h. elim (or_split (covers (take k windows) m) (has (slice_index_or windows k z) m) (sym e ∙ h.0)) [ inl f ↦ inl (f, h.1) | inr f ↦ inr ((exact m).1 (f, h.1)) ],
+      λ h. elim (or_cases (covers (take k windows) m) (has (slice_index_or windows k z) m) (sym e ∙ h.0)) [ inl f ↦ inl (f, h.1) | inr f ↦ inr ((exact m).1 (f, h.1)) ],
       λ h. elim h [
         | inl f ↦ (e ∙ or_left (covers (take k windows) m) (has (slice_index_or windows k z) m) f.0, f.1)
         | inr f ↦ let g = (exact m).0 f in (e ∙ or_right (covers (take k windows) m) (has (slice_index_or windows k z) m) g.0, g.1)
@@ -90,8 +89,8 @@ among_more p hull set windows k z pieces old out new lt same first second =
     let w = slice_index_or windows k z in
     window_more (λ q. covers set q ≡ true) p hull windows k z pieces old out new lt
     (λ q. (
-      (λ e. let both = and_split (covers set q) (has w q) (sym (same q) ∙ e) in (both.1, both.0)),
-      (λ h. same q ∙ and_both (covers set q) (has w q) h.1 h.0),
+      (λ e. let both = and_parts (covers set q) (has w q) (sym (same q) ∙ e) in (both.1, both.0)),
+      (λ h. same q ∙ and_from (covers set q) (has w q) h.1 h.0),
     ))
     first second
 

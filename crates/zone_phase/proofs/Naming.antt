@@ -1,5 +1,6 @@
 -- Zones of names, one name on.
 use Rattle.std.proofs.Common.{◌≡◌, inl, inr, ◌<◌, ◌≤◌, ◌+◌, ◌-◌, ℕ, zero, suc, refl, None, List, [], ◌∷◌, ◌++◌, map, take, append_assoc, Some, sym, ap, ◌∙◌, subst, arith, drop, length, length-append, get_or, slice_get, Option}
+use Rattle.base_laws.proofs.Items.{push_cases, push_old, get_last}
 use Rattle.std.proofs.lemmas.Bool.{cases_lt}
 use Rattle.std.proofs.lemmas.List.{at_drop_more, get_or_append_left, get_or_push, get_or_past, map-append, take_all, take_more}
 use Rattle.std.proofs.lemmas.Option.{slice_get_within}
@@ -15,7 +16,6 @@ use Rattle.deep_tables.specs.declared.zones.CellZones.{CellZones}
 use Rattle.deep_tables.specs.Frames.{IsFramedZone}
 use Rattle.zone_phase.specs.declared.uses.Use.{Use}
 use Rattle.zone_phase.specs.Names.{AreDeviceZones, AreNameZones, HaveForm, HaveInputs, names_inputs}
-use Rattle.zone_phase.proofs.Putting.{push_cases, push_old, push_new}
 
 -- for no layers nothing is disturbed
 pub framed_none : (margin : ℕ) (d : Linked) (cell : ℕ) → IsFramedZone margin d [] cell []
@@ -57,7 +57,7 @@ one_on trees names i rule lt is =
 -- the entries of the form that is next
 pub form_entries : (margin : ℕ) (d : Linked) (value : ℕ → Option CellZones) (trees : List Formula) (all : List Formula) (name : ℕ) (uses : List Use) (f : LayerForm) → length trees ≡ name
     → ((k : ℕ) (x : Formula) → slice_get (trees ++ formula_by trees f ∷ []) k ≡ Some x → slice_get all k ≡ Some x) → HaveInputs margin d value all uses → HaveForm margin d value name uses f
-form_entries margin d value trees all name uses (form.Input key) count behind h = h name key (behind name (Input key) (subst (λ n. slice_get (trees ++ Input key ∷ []) n ≡ Some (Input key)) count (push_new trees (Input key))))
+form_entries margin d value trees all name uses (form.Input key) count behind h = h name key (behind name (Input key) (subst (λ n. slice_get (trees ++ Input key ∷ []) n ≡ Some (Input key)) count (get_last trees (Input key))))
 form_entries margin d value trees all name uses (form.Labels key) count behind h = tt
 form_entries margin d value trees all name uses form.Empty count behind h = tt
 form_entries margin d value trees all name uses (form.Binary op a b) count behind h = tt
@@ -99,7 +99,7 @@ zones_more margin d cell trees lists names sets set h is = record {
         h.zones k ns s (old_place lists names ns k below there) old
     | inr new ↦
         let at : slice_get (lists ++ names ∷ []) (length lists) ≡ Some ns = subst (λ i. slice_get (lists ++ names ∷ []) i ≡ Some ns) (new.0 ∙ h.count) there in
-        let same : names ≡ ns = one_some names ns (sym (push_new lists names) ∙ at) in
+        let same : names ≡ ns = one_some names ns (sym (get_last lists names) ∙ at) in
         subst (λ (x : List ℕ). IsFramedZone margin d (names_inputs trees x) cell s) same (subst (IsFramedZone margin d (names_inputs trees names) cell) new.1 is)
   ];
 }

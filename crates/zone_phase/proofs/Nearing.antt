@@ -1,6 +1,7 @@
 -- Placements by themselves, and what they bring to one another.
-use Rattle.std.proofs.Common.{◌≡◌, ◌&&◌, Bool, false, int_eq, rules, inl, inr, ℕ, ℤ, zero, suc, pos, ◌<◌, ◌^◌, ◌+ℤ◌, ◌*ℤ◌, true, List, [], ◌∷◌, Some, length, slice_get, slice_index_or, refl, sym, ◌∙◌, ap, subst, arith}
-use Rattle.std.proofs.lemmas.Bool.{false≢true}
+use Rattle.std.proofs.Common.{◌≡◌, ◌&&◌, int_eq, rules, inl, inr, ℕ, ℤ, zero, suc, pos, ◌<◌, ◌^◌, ◌+ℤ◌, ◌*ℤ◌, true, List, [], ◌∷◌, Some, length, slice_get, slice_index_or, refl, sym, ◌∙◌, ap, subst, arith}
+use Rattle.base_laws.proofs.Items.{push_cases}
+use Rattle.std.proofs.lemmas.Bool.{and_parts}
 use Rattle.std.proofs.lemmas.Bool.Decides.{Decides-int_eq}
 use Rattle.std.proofs.lemmas.Int.{ints}
 use Rattle.geo_base.specs.contracts.motion.Turn.{the_type}
@@ -33,24 +34,19 @@ use Rattle.zone_phase.specs.declared.uses.Use.{Use}
 use Rattle.zone_phase.specs.Neighbours.{AreAllNear, AreNeighbours, BringsMore, IsAllNear, IsAlone, IsNeighbour, IsOverBy, IsPutOnce, IsSeenAs, LieAlike, LiesSo, Listed, StandAlike, StandsAgain, alone}
 use Rattle.zone_phase.specs.Siblings.{IsBroughtTo}
 use Rattle.zone_phase.proofs.Around.{none_times}
-use Rattle.zone_phase.proofs.Putting.{push_cases}
 use Rattle.zone_phase.proofs.Using.{one_use}
 use Rattle.cell_context.proofs.Collecting.{one_place}
 use Rattle.std.proofs.Math.Decide.{ℕ_discrete}
 
-parts : (b c : Bool) → (b && c) ≡ true → (b ≡ true) × (c ≡ true)
-parts true c e = (refl, e)
-parts false c e = absurd (false≢true e)
-
 motion_of : Turn → ℤ → ℤ → Motion
 motion_of turn dx dy = record { turn = turn; dx = dx; dy = dy }
 
--- motions of the same parts are one
+-- motions of the same and_parts are one
 pub same_motion : (m n : Motion) → (sameb the_type m.turn n.turn && (int_eq m.dx n.dx && int_eq m.dy n.dy)) ≡ true → m ≡ n
 unfolding motion_of
 same_motion m n e =
-    let a = parts (sameb the_type m.turn n.turn) (int_eq m.dx n.dx && int_eq m.dy n.dy) e in
-    let b = parts (int_eq m.dx n.dx) (int_eq m.dy n.dy) a.1 in
+    let a = and_parts (sameb the_type m.turn n.turn) (int_eq m.dx n.dx && int_eq m.dy n.dy) e in
+    let b = and_parts (int_eq m.dx n.dx) (int_eq m.dy n.dy) a.1 in
     let turn : m.turn ≡ n.turn = same_true the_type (search rules) m.turn n.turn a.0 in
     let dx = (Decides-int_eq m.dx n.dx).0 b.0 in
     let dy = (Decides-int_eq m.dy n.dy).0 b.1 in

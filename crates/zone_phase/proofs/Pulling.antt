@@ -1,5 +1,7 @@
 -- Windows of visits as a set.
 use Rattle.std.proofs.Common.{◌≡◌, inl, inr, ℕ, ℤ, zero, suc, ◌<◌, Bool, true, false, ◌||◌, ◌&&◌, List, [], ◌∷◌, ◌++◌, length, slice_index_or, refl, sym, ◌∙◌, ap, arith}
+use Rattle.base_laws.proofs.Tests.{or_false}
+use Rattle.std.proofs.lemmas.Bool.{and_parts, or_cases, or_left, or_right}
 use Rattle.std.specs.Ordering.{int_eq}
 use Rattle.std.proofs.lemmas.Bool.Decides.{Decides-int_eq}
 use Rattle.geo_base.specs.Motions.{moved_square}
@@ -9,23 +11,14 @@ use Rattle.geo_base.specs.declared.shapes.Rect.{Rect}
 use Rattle.geo_base.specs.declared.shapes.Square.{Square}
 use Rattle.rect_sets.specs.Rects.{covers}
 use Rattle.cell_graph.specs.declared.cells.Place.{Place}
-use Rattle.cell_graph.proofs.Bridge.{or_split, or_left, or_right}
 use Rattle.cell_context.specs.declared.arrays.Visit.{Visit}
 use Rattle.cell_context.specs.Visits.{IsElementVisit, IsMet, IsVisited, IsFound}
-use Rattle.cell_context.proofs.Collecting.{covers_append, and_right}
+use Rattle.cell_context.proofs.Collecting.{covers_append}
 use Rattle.cell_context.proofs.Gathering.{some_at}
 use Rattle.zone_phase.specs.Pulls.{IsTaken, IsPulled}
 
-and_left : (a b : Bool) → (a && b) ≡ true → a ≡ true
-and_left true b e = refl
-and_left false b e = e
-
-or_none : (b : Bool) → (b || false) ≡ b
-or_none true = refl
-or_none false = refl
-
 pub pushed : (xs : List Rect) (x : Rect) (q : Square) → covers (xs ++ x ∷ []) q ≡ (covers xs q || has x q)
-pushed xs x q = covers_append xs (x ∷ []) q ∙ ap (λ c. covers xs q || c) (or_none (has x q))
+pushed xs x q = covers_append xs (x ∷ []) q ∙ ap (λ c. covers xs q || c) (or_false (has x q))
 
 -- a visit's square is taken into the rectangle
 pub taken : (p : Place) (hull rect : Rect) (v : Visit) (q : Square) → IsElementVisit p hull rect v → has v.window q ≡ true → IsTaken p hull rect q
@@ -37,14 +30,14 @@ taken p hull rect v q h e =
       row_in = h.row_in;
       column_in = h.column_in;
       met = record {
-        inner = and_left (has hull q) (has rect (moved_square v.motion q)) both;
-        outer = ap (λ (m : Motion). has rect (moved_square m q)) (sym h.motion) ∙ and_right (has hull q) (has rect (moved_square v.motion q)) both;
+        inner = (and_parts (has hull q) (has rect (moved_square v.motion q)) both).0;
+        outer = ap (λ (m : Motion). has rect (moved_square m q)) (sym h.motion) ∙ (and_parts (has hull q) (has rect (moved_square v.motion q)) both).1;
       };
     }
 
 pub right_more : (p : Place) (hull rect : Rect) (old out new : List Rect) (v : Visit) → ((q : Square) → covers new q ≡ (covers out q || has v.window q)) → IsElementVisit p hull rect v
     → ((q : Square) → covers out q ≡ true → IsPulled p hull rect old q) → (q : Square) → covers new q ≡ true → IsPulled p hull rect old q
-right_more p hull rect old out new v e h right q f = elim (or_split (covers out q) (has v.window q) (sym (e q) ∙ f)) [
+right_more p hull rect old out new v e h right q f = elim (or_cases (covers out q) (has v.window q) (sym (e q) ∙ f)) [
   | inl g ↦ right q g
   | inr g ↦ inr (taken p hull rect v q h g)
 ]
@@ -74,7 +67,7 @@ adds_none xs x h q = at (has x q) refl
   where
     at : (b : Bool) → has x q ≡ b → covers xs q ≡ (covers xs q || has x q)
     at true e = h q e ∙ sym (or_left (covers xs q) (has x q) (h q e))
-    at false e = sym (ap (λ b. covers xs q || b) e ∙ or_none (covers xs q))
+    at false e = sym (ap (λ b. covers xs q || b) e ∙ or_false (covers xs q))
 
 -- each rectangle of a list is covered
 pub item_covered : (xs : List Rect) (k : ℕ) (r : Rect) (q : Square) → k < length xs → has (slice_index_or xs k r) q ≡ true → covers xs q ≡ true
@@ -88,10 +81,10 @@ rect_of x y u v = record { x1 = x; y1 = y; x2 = u; y2 = v }
 -- rectangles with the same sides are one
 pub same_rect : (a b : Rect) → (int_eq a.x1 b.x1 && (int_eq a.y1 b.y1 && (int_eq a.x2 b.x2 && int_eq a.y2 b.y2))) ≡ true → a ≡ b
 same_rect a b e =
-    let e1 = and_right (int_eq a.x1 b.x1) (int_eq a.y1 b.y1 && (int_eq a.x2 b.x2 && int_eq a.y2 b.y2)) e in
-    let e2 = and_right (int_eq a.y1 b.y1) (int_eq a.x2 b.x2 && int_eq a.y2 b.y2) e1 in
-    let x1 = (Decides-int_eq a.x1 b.x1).0 (and_left (int_eq a.x1 b.x1) (int_eq a.y1 b.y1 && (int_eq a.x2 b.x2 && int_eq a.y2 b.y2)) e) in
-    let y1 = (Decides-int_eq a.y1 b.y1).0 (and_left (int_eq a.y1 b.y1) (int_eq a.x2 b.x2 && int_eq a.y2 b.y2) e1) in
-    let x2 = (Decides-int_eq a.x2 b.x2).0 (and_left (int_eq a.x2 b.x2) (int_eq a.y2 b.y2) e2) in
-    let y2 = (Decides-int_eq a.y2 b.y2).0 (and_right (int_eq a.x2 b.x2) (int_eq a.y2 b.y2) e2) in
+    let e1 = (and_parts (int_eq a.x1 b.x1) (int_eq a.y1 b.y1 && (int_eq a.x2 b.x2 && int_eq a.y2 b.y2)) e).1 in
+    let e2 = (and_parts (int_eq a.y1 b.y1) (int_eq a.x2 b.x2 && int_eq a.y2 b.y2) e1).1 in
+    let x1 = (Decides-int_eq a.x1 b.x1).0 ((and_parts (int_eq a.x1 b.x1) (int_eq a.y1 b.y1 && (int_eq a.x2 b.x2 && int_eq a.y2 b.y2)) e).0) in
+    let y1 = (Decides-int_eq a.y1 b.y1).0 ((and_parts (int_eq a.y1 b.y1) (int_eq a.x2 b.x2 && int_eq a.y2 b.y2) e1).0) in
+    let x2 = (Decides-int_eq a.x2 b.x2).0 ((and_parts (int_eq a.x2 b.x2) (int_eq a.y2 b.y2) e2).0) in
+    let y2 = (Decides-int_eq a.y2 b.y2).0 ((and_parts (int_eq a.x2 b.x2) (int_eq a.y2 b.y2) e2).1) in
     ap (λ v. rect_of v a.y1 a.x2 a.y2) x1 ∙ ap (λ v. rect_of b.x1 v a.x2 a.y2) y1 ∙ ap (λ v. rect_of b.x1 b.y1 v a.y2) x2 ∙ ap (λ v. rect_of b.x1 b.y1 b.x2 v) y2

@@ -1,33 +1,16 @@
 -- References put behind others.
-use Rattle.std.proofs.Common.{◌≡◌, ◌⊎◌, inl, inr, ℕ, zero, suc, ◌<◌, ◌≤◌, ◌+◌, ◌-◌, List, [], ◌∷◌, ◌++◌, Some, None, refl, sym, ◌∙◌, ap, subst, arith, length, get_or, slice_get, slice_index}
+use Rattle.std.proofs.Common.{◌≡◌, ◌⊎◌, inl, inr, ℕ, ◌<◌, ◌≤◌, ◌+◌, ◌-◌, List, [], ◌∷◌, ◌++◌, Some, refl, sym, ◌∙◌, ap, subst, arith, length, get_or, slice_get, slice_index}
+use Rattle.base_laws.proofs.Items.{push_cases, push_old, get_last}
 use Rattle.std.specs.Global.{Vec}
 use Rattle.std.proofs.lemmas.List.{length-map, get_or-map}
 use Rattle.std.proofs.Math.Decide.{ℕ_discrete}
-use Rattle.std.proofs.lemmas.Option.{slice_get_within}
+use Rattle.std.proofs.lemmas.Option.{slice_get_within, none-some}
 use Rattle.cell_graph.specs.declared.cells.Place.{Place}
 use Rattle.cell_graph.specs.Linked.{Linked, IsSound, cell_at, places_at}
 use Rattle.cell_context.proofs.Collecting.{one_place}
 use Rattle.deep_tables.specs.Entries.{downward_cell}
 use Rattle.zone_phase.specs.declared.uses.Use.{Use}
 use Rattle.zone_phase.specs.Uses.{lists_of, uses_of, IsUse, HasUse, AreRising, AreUses, IsBefore, AreUsesTo, IsPut}
-
-none_some : {A : Type 0} (u : A) → None ≡ Some u → ⊥
-none_some u e = cc
-
-pub push_cases : {A : Type 0} (xs : List A) (x u : A) (k : ℕ) → slice_get (xs ++ x ∷ []) k ≡ Some u → (slice_get xs k ≡ Some u) ⊎ ((k ≡ length xs) × (x ≡ u))
-push_cases [] x u zero e = inr (refl, cc)
-push_cases [] x u (suc k) e = absurd (none_some u e)
-push_cases (y ∷ xs) x u zero e = inl e
-push_cases (y ∷ xs) x u (suc k) e = elim (push_cases xs x u k e) [ inl h ↦ inl h | inr h ↦ let n = h.0 in inr ((omega arith), h.1) ]
-
-pub push_old : {A : Type 0} (xs : List A) (x u : A) (k : ℕ) → slice_get xs k ≡ Some u → slice_get (xs ++ x ∷ []) k ≡ Some u
-push_old [] x u k e = absurd (none_some u e)
-push_old (y ∷ xs) x u zero e = e
-push_old (y ∷ xs) x u (suc k) e = push_old xs x u k e
-
-pub push_new : {A : Type 0} (xs : List A) (x : A) → slice_get (xs ++ x ∷ []) (length xs) ≡ Some x
-push_new [] x = refl
-push_new (y ∷ xs) x = push_new xs x
 
 rising_push : (xs : List Use) (u : Use) → AreRising xs → ((k : ℕ) (v : Use) → slice_get xs k ≡ Some v → v.job ≤ u.job) → AreRising (xs ++ u ∷ [])
 rising_push xs u h below j k a b lt ea eb = elim (push_cases xs u b k eb) [
@@ -88,7 +71,7 @@ module _ (d : Linked) (old new : List (List Use)) (job index : ℕ) (p : Place) 
   ]
 
   has_new : HasUse (uses_of new p.cell) job index
-  has_new = subst (λ l. HasUse l job index) (sym put.here) (record { at = length (uses_of old p.cell); found = u; there = push_new (uses_of old p.cell) u; job = is_job; index = is_index })
+  has_new = subst (λ l. HasUse l job index) (sym put.here) (record { at = length (uses_of old p.cell); found = u; there = get_last (uses_of old p.cell) u; job = is_job; index = is_index })
 
   all_at : (j i : ℕ) (q : Place) → IsBefore j i job (index + 1) → slice_get (places_at (cell_at d (downward_cell d j))) i ≡ Some q → HasUse (uses_of new q.cell) j i
   all_at j i q before e = elim (split_before j i job index before) [
@@ -130,9 +113,9 @@ next_job d lists job n count h = record {
 pub none_put : (d : Linked) (lists : List (List Use)) → length lists ≡ length d.cells → ((cell : ℕ) → uses_of lists cell ≡ []) → AreUsesTo d lists 0 0
 none_put d lists count none = record {
   count = count;
-  each = λ cell k u e. let f : slice_get (uses_of lists cell) k ≡ slice_get [] k = ap (λ l. slice_get l k) (none cell) in absurd (none_some u (sym f ∙ e));
+  each = λ cell k u e. let f : slice_get (uses_of lists cell) k ≡ slice_get [] k = ap (λ l. slice_get l k) (none cell) in absurd (none-some u (sym f ∙ e));
   all = λ j i p before there. elim before [ inl lt ↦ absurd (let z : ⊥ = omega arith in z) | inr s ↦ let lt = s.1 in absurd (let z : ⊥ = omega arith in z) ];
-  rising = λ cell j k u v lt a b. let f : slice_get (uses_of lists cell) j ≡ slice_get [] j = ap (λ l. slice_get l j) (none cell) in absurd (none_some u (sym f ∙ a));
+  rising = λ cell j k u v lt a b. let f : slice_get (uses_of lists cell) j ≡ slice_get [] j = ap (λ l. slice_get l j) (none cell) in absurd (none-some u (sym f ∙ a));
 }
 
 -- those of all jobs

@@ -1,4 +1,5 @@
 use Rattle.std.proofs.Common.{◌≡◌, ◌∙◌, ◌++◌, ◌||◌, ℕ, Bool, false, List, map, get_or, take, drop, length, sym, ap, subst, arith}
+use Rattle.base_laws.proofs.Lists.{none_set}
 use Rattle.std.specs.Prelude.{replicate}
 use Rattle.std.proofs.lemmas.Option.{slice_get-get_or, slice_get-map}
 use Rattle.std.specs.Prelude.{Option}
@@ -10,7 +11,7 @@ use Rattle.flat_layout.specs.Circuits.{AreDrawn}
 use Rattle.net_marks.specs.Marks.{has_terminal}
 use Rattle.circuit_phase.specs.Placed.{is_child_marked, is_marked_by, tables_with}
 use Rattle.net_marks.proofs.Poles.{gate_of}
-use Rattle.circuit_phase.proofs.Drawing.{all_false, drawn_of, false_long, readable, written}
+use Rattle.circuit_phase.proofs.Drawing.{drawn_of, false_long, readable, written}
 use Rattle.circuit_phase.proofs.placed.drawn_marks.Goals as goal
 
 pub mark_gates-requires : goal.mark_gates-requires
@@ -58,6 +59,6 @@ returns g c =
     λ x.
     let test = is_marked_by (is_child_marked (g.P.Placed.pins p) (g.P.Placed.drawn p) c.args.cells.now) (plain_nets nets).items (plain_nets nets).net_of x in
     c.mark_placed.ensures.marked x ∙ ap (λ (m : List Bool). test || get_or m x false) mid
-    ∙ ap (λ (b : Bool). test || b) (c.mark_gates.ensures.marked x ∙ ap (λ (m : List Bool). has_terminal x l || get_or m x false) (c.deref_mut.ensures.value ∙ filled) ∙ ap (λ (b : Bool). has_terminal x l || b) (all_false nets.count x)) in
+    ∙ ap (λ (b : Bool). test || b) (c.mark_gates.ensures.marked x ∙ ap (λ (m : List Bool). has_terminal x l || get_or m x false) (c.deref_mut.ensures.value ∙ filled) ∙ ap (λ (b : Bool). has_terminal x l || b) (none_set nets.count x)) in
     λ own. subst (λ (m : List Bool). AreDrawn (g.P.Placed.design p) (tables_with own (g.P.Placed.nets p)) (λ c. l) (g.P.Placed.pins p) (g.P.Placed.drawn p) c.args.cell m) (sym whole)
     (drawn_of (g.P.Placed.design p) (g.P.Placed.wiring p) (tables_with c.requires.right.0 (g.P.Placed.nets p)) (tables_with own (g.P.Placed.nets p)) l (g.P.Placed.pins p) (g.P.Placed.drawn p) c.args.cell (plain_nets nets) c.args.cells.now second c.requires.nets c.requires.right.1 c.requires.cells two marked)

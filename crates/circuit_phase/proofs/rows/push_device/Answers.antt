@@ -1,4 +1,5 @@
 use Rattle.std.proofs.Common.{◌∙◌, List, ap, map, refl}
+use Rattle.base_laws.proofs.Items.{item_at}
 use Rattle.std.proofs.lemmas.List.{map_push}
 use Rattle.deep_tables.specs.Gates.{plain_gate, plain_state}
 use Rattle.deep_tables.specs.declared.gates.GateState.{GateState}
@@ -8,7 +9,7 @@ use Rattle.net_model.specs.declared.netlist.DeviceRow.{DeviceRow}
 use Rattle.rule_layers.specs.Meaning.{device_rules}
 use Rattle.rule_text.specs.Seen.{rules_seen}
 use Rattle.net_marks.specs.Marks.{is_terminal}
-use Rattle.circuit_phase.proofs.Adding.{all_kept, good_added, some_at}
+use Rattle.circuit_phase.proofs.Adding.{all_kept, good_added}
 use Rattle.net_marks.proofs.Terminals.{bulk_in, drain_in, gate_in, source_in}
 use Rattle.circuit_phase.proofs.rows.push_device.Goals as goal
 
@@ -43,7 +44,7 @@ returns-in_ok-push-clause-devices c =
     let e = plain_gate c.args.gate.now in
     let row : GateRow = record { twice_w = g.twice_w; twice_l = g.twice_l; source = g.source; gate = g.poly; drain = g.drain; bulk = g.bulk } in
     let new = c.device_row.new.numbering.nets in
-    let rule = some_at (device_rules r) e.at.rule c.requires.rule in
+    let rule = item_at (device_rules r) e.at.rule c.requires.rule in
     good_added (device_rules r) c.args.unit_pm e row c.args.numbering.now.nets new (map plain_device c.args.rows.now.items) (map plain_device c.push.new.self.items) (plain_device c.in_ok-row.row)
     (ap (λ (s : GateState). plain_state s) g.is)
     (all_kept c.args.numbering.now.nets new g.drain g.poly g.source g.bulk c.in_ok-row.ensures.nets)

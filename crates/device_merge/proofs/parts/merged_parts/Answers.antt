@@ -1,10 +1,11 @@
-use Rattle.std.proofs.Common.{◌≡◌, ◌+◌, ◌-◌, ◌≤◌, suc, List, [], ◌∷◌, length, map, take, drop, subst, ap, arith, rules, Vec, Global, ℕ}
+use Rattle.std.proofs.Common.{◌≡◌, ◌-◌, ◌≤◌, suc, List, [], ◌∷◌, length, map, take, drop, subst, ap, arith, rules, Vec, Global, ℕ}
+use Rattle.base_laws.proofs.Lists.{none_left}
 use Rattle.net_model.specs.declared.netlist.DeviceRow.{DeviceRow as Held}
 use Rattle.net_model.specs.Rows.{plain_device}
 use Rattle.device_merge.specs.Parts.{place_lists}
 use Rattle.device_merge.specs.declared.parts.Parting.{Parting}
 use Rattle.device_merge.proofs.Going.{first_and_rest}
-use Rattle.device_merge.proofs.Parted.{IsGoing, begun, ended, further, none_left}
+use Rattle.device_merge.proofs.Parted.{IsGoing, begun, ended, further}
 use Rattle.device_merge.proofs.parts.merged_parts.Goals as goal
 
 pub devices-init : goal.devices-init

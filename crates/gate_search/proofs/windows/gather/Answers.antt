@@ -1,5 +1,5 @@
 use Rattle.std.proofs.Common.{◌≡◌, inl, inr, ◌∙◌, ◌&&◌, ◌||◌, ap, sym, subst, arith, not, map, List}
-use Rattle.std.proofs.lemmas.Bool.{false≢true}
+use Rattle.std.proofs.lemmas.Bool.{false≢true, or_cases}
 use Rattle.std.specs.List.{All}
 use Rattle.geo_base.specs.Near.{IsNearRect}
 use Rattle.geo_base.specs.Rects.{IsRect}
@@ -7,7 +7,6 @@ use Rattle.geo_base.specs.declared.shapes.Rect.{Rect}
 use Rattle.geo_base.specs.declared.shapes.Square.{Square}
 use Rattle.rect_sets.specs.Near.{HasNearCorners}
 use Rattle.rect_sets.specs.Rects.{covers}
-use Rattle.rect_sets.proofs.Splitting.{or_split}
 use Rattle.rect_sets.proofs.Moving.{near_rects}
 use Rattle.gate_shapes.specs.Borders.{grown_rect}
 use Rattle.gate_shapes.proofs.Rings.{grown_rects}
@@ -63,7 +62,7 @@ rounds-smaller g c =
     let joined : (q : Square) → covers after q ≡ (covers found q || covers fresh q) =
     λ q. c.in_ok-found.ensures q ∙ ap (λ (a : List Rect). covers a q || covers c.rects-in-rounds-2.result.now q) c.rects-in-rounds.ensures.list ∙ ap (λ (a : List Rect). covers found q || covers a q) c.rects-in-rounds-2.ensures.list in
     let near : (q : Square) → in_set after q → HasNearCorners q =
-    λ q e. g.met.L.GateLayer.bounded c.args.layer.now q (elim (or_split (covers found q) (covers fresh q) (sym (joined q) ∙ e)) [ inl f ↦ c.rounds.invariant.gathering.sound_done q f | inr f ↦ c.rounds.invariant.gathering.sound_fresh q f ]) in
+    λ q e. g.met.L.GateLayer.bounded c.args.layer.now q (elim (or_cases (covers found q) (covers fresh q) (sym (joined q) ∙ e)) [ inl f ↦ c.rounds.invariant.gathering.sound_done q f | inr f ↦ c.rounds.invariant.gathering.sound_fresh q f ]) in
     let up = grows found fresh after some.0 c.rects-in-rounds.ensures.canonical c.rects-in-rounds-4.ensures.canonical joined some.1.has (λ e. c.rounds.invariant.apart some.0 e some.1.has) in
     let most = at_most after c.rects-in-rounds-4.ensures.canonical near in
     omega (arith, up, most)

@@ -1,4 +1,4 @@
-use Rattle.std.proofs.Common.{◌≡◌, ◌∙◌, ℕ, sym, subst, arith, pos, List, length}
+use Rattle.std.proofs.Common.{◌≡◌, ◌∙◌, sym, subst, arith, pos, List, length}
 use Rattle.std.specs.List.{All}
 use Rattle.geo_base.specs.Near.{IsNearRect}
 use Rattle.geo_base.specs.declared.shapes.Rect.{Rect}

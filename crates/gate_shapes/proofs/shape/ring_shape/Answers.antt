@@ -3,10 +3,10 @@ use Rattle.std.specs.Prelude.{slice_get}
 use Rattle.std.proofs.lemmas.Option.{slice_get-get_or}
 use Rattle.geo_base.specs.declared.shapes.Rect.{Rect}
 use Rattle.gate_shapes.specs.Shapes.{AreKept, IsFirstFault, sheets_of}
-use Rattle.gate_shapes.specs.declared.shape.GateCause.{GateCause}
 use Rattle.gate_shapes.proofs.Groups.{all_groups}
 use Rattle.gate_shapes.proofs.Judging.{bad_law, good_law, some_first, some_second, two_items, below_groups}
 use Rattle.gate_shapes.proofs.shape.ring_shape.Goals as goal
+use Rattle.flat_layout.specs.declared.cause.GateCause.{GateCause}
 
 pub returns-then-len-ne2 : goal.returns-then-len-ne2
 returns-then-len-ne2 c =

@@ -1,5 +1,5 @@
-use Rattle.std.proofs.Common.{◌≡◌, Bool, false, length, sym, ap, ◌∙◌}
-use Rattle.std.specs.Prelude.{◌&&◌, ◌==◌}
+use Rattle.std.proofs.Common.{Bool, false, sym, ap, ◌∙◌}
+use Rattle.std.specs.Prelude.{◌&&◌}
 use Rattle.gds_elements.specs.Data.{is_straight}
 use Rattle.gds_elements.proofs.Lines.{none_before, none_behind, some_both}
 use Rattle.gds_elements.proofs.points.is_straight_on.Goals as goal

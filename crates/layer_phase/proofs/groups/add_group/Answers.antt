@@ -1,14 +1,11 @@
-use Rattle.std.proofs.Common.{rules, ◌≡◌, ◌∙◌, ◌<◌, List, Some, Bool, true, false, ap, arith, get_or, length, refl, slice_get, subst, sym}
+use Rattle.std.proofs.Common.{rules, ◌≡◌, ◌∙◌, ◌<◌, List, Some, true, false, ap, arith, get_or, length, refl, slice_get, subst, sym}
+use Rattle.base_laws.proofs.Tests.{not_both}
 use Rattle.std.proofs.lemmas.Option.{slice_get_read}
 use Rattle.rule_text.specs.declared.rules.LayerRule.{LayerRule}
 use Rattle.layer_phase.specs.Groups.{HasReach, is_derived}
 use Rattle.layer_phase.specs.declared.groups.Group.{Group}
 use Rattle.layer_phase.proofs.Grouping.{found_count, groups_more, groups_skip, member_of, of_is, reach_here}
 use Rattle.layer_phase.proofs.groups.add_group.Goals as goal
-
-no_both : (b : Bool) → b ≡ true → b ≡ false → ⊥
-no_both true e f = let z : ⊥ = cc in z
-no_both false e f = let z : ⊥ = cc in z
 
 pub offset_bounds-found-name : goal.offset_bounds-found-name
 offset_bounds-found-name c =
@@ -26,7 +23,7 @@ returns-then-not-is_derived c =
     let names = c.args.names.now in let rule = c.index-names-name.result in
     let there : slice_get names c.args.name ≡ Some rule = slice_get_read names (length names) c.args.name rule refl c.requires.name c.index-names-name.is in
     groups_skip names c.args.name c.args.groups.now.items c.requires.groups
-    (λ x at derived. absurd (no_both c.is_derived.result (c.is_derived.ensures ∙ ap (λ (r : LayerRule). is_derived r.form) (sym c.index-names-name.is) ∙ of_is names c.args.name rule x there at derived) c.if-not-is_derived.true))
+    (λ x at derived. absurd (not_both c.is_derived.result (c.is_derived.ensures ∙ ap (λ (r : LayerRule). is_derived r.form) (sym c.index-names-name.is) ∙ of_is names c.args.name rule x there at derived) c.if-not-is_derived.true))
 
 pub returns-then-has_reach : goal.returns-then-has_reach
 returns-then-has_reach c =

@@ -1,8 +1,8 @@
 use Rattle.std.proofs.Common.{◌≡◌, ◌+◌, ◌-◌, inl, inr, [], Some, false, arith, get_or, slice_get, subst}
+use Rattle.base_laws.proofs.Tests.{true_or_not}
 use Rattle.std.proofs.lemmas.Option.{slice_get-get_or}
 use Rattle.rule_text.specs.declared.rules.LayerForm.TheVariants as form
 use Rattle.rule_text.specs.declared.rules.LayerRule.{LayerRule}
-use Rattle.layer_phase.proofs.Grouping.{is_or_not}
 use Rattle.layer_phase.proofs.Needing.{AreNeededFrom, needed_all, needed_more, needed_none, needed_skip}
 use Rattle.layer_phase.proofs.groups.needed.Goals as goal
 
@@ -21,7 +21,7 @@ loop-name-preserved c =
     let rule = get_or names k none in
     let at : slice_get names k ≡ Some rule = slice_get-get_or names k none (omega arith) in (
       omega arith,
-      elim (is_or_not (get_or old k false)) [
+      elim (true_or_not (get_or old k false)) [
         | inl m ↦ needed_more members names old new k rule c.requires.sound at m (c.mark_below.ensures.marked rule at m) had
         | inr n ↦ needed_skip members names old new k (c.mark_below.ensures.other n) n had
       ],

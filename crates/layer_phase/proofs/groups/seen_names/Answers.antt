@@ -1,7 +1,6 @@
 use Rattle.std.proofs.Common.{◌≡◌, ◌∙◌, ◌+◌, Some, ap, arith, false, get_or, length, refl, slice_get, subst, sym}
-use Rattle.std.proofs.lemmas.Option.{slice_get_read}
+use Rattle.std.proofs.lemmas.Option.{slice_get_read, same_Some}
 use Rattle.rule_text.specs.declared.rules.LayerRule.{LayerRule}
-use Rattle.rule_layers.proofs.Unread.{one_some}
 use Rattle.layer_phase.specs.Groups.{seen_form}
 use Rattle.layer_phase.proofs.Needing.{AreSeenTo, seen_all, seen_more}
 use Rattle.layer_phase.proofs.groups.seen_names.Goals as goal
@@ -12,7 +11,7 @@ loop-k-preserved c =
     let marks = c.args.marks.now in
     let at : slice_get names k ≡ Some rule = slice_get_read names (length names) k rule refl c.loop-k-test.true c.index-names-k.is in
     let at_again : slice_get names k ≡ Some again = slice_get_read names (length names) k again refl c.loop-k-test.true c.index-names-k-in-loop-k.is in
-    let same : again ≡ rule = one_some again rule (sym at_again ∙ at) in
+    let same : again ≡ rule = same_Some again rule (sym at_again ∙ at) in
     let seen : LayerRule = record { name = c.in_ok-name.name; form = c.seen_form.result } in
     let form_is : c.seen_form.result ≡ seen_form (get_or marks k false) rule.form =
     c.seen_form.ensures ∙ ap (λ (r : LayerRule). seen_form (get_or marks k false) r.form) (sym c.index-names-k-in-loop-k.is ∙ same) in

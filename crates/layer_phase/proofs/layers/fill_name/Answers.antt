@@ -1,14 +1,11 @@
 use Rattle.std.proofs.Common.{◌≡◌, ◌<◌, ◌∙◌, ℕ, List, Bool, true, false, arith, get_or, length, refl, subst, sym}
+use Rattle.base_laws.proofs.Tests.{not_both}
 use Rattle.std.proofs.lemmas.Option.{get_or_from_slice_get, slice_get_read}
 use Rattle.cell_graph.specs.Linked.{plain}
 use Rattle.flat_layout.specs.Values.{IsLocalLayer}
 use Rattle.rule_text.specs.Seen.{rules_seen}
 use Rattle.layer_phase.proofs.Grouping.{group_near, set_here, set_long, set_other, tree_count, zone_within}
 use Rattle.layer_phase.proofs.layers.fill_name.Goals as goal
-
-no_both : (b : Bool) → b ≡ true → b ≡ false → ⊥
-no_both true e f = let z : ⊥ = cc in z
-no_both false e f = let z : ⊥ = cc in z
 
 mark_at : (marks : List Bool) (k : ℕ) (b : Bool) → k < length marks → b ≡ get_or marks k b → get_or marks k false ≡ b
 mark_at marks k b lt e = get_or_from_slice_get marks k b false (slice_get_read marks (length marks) k b refl lt e)
@@ -24,7 +21,7 @@ returns-then-not-index-clause-here c = λ x derived far at flat.
     let members = c.args.group.now.members.items in let b = c.index.result.now in
     let inside : c.args.name < length members = omega (arith, trees, count, lt) in
     let same = mark_at members c.args.name b inside c.index.ensures in
-    absurd (no_both b (sym same ∙ (c.requires.group.members c.args.name inside).1 (record { tree = x; at = at; derived = derived; far_is = far })) c.if-not-index.true)
+    absurd (not_both b (sym same ∙ (c.requires.group.members c.args.name inside).1 (record { tree = x; at = at; derived = derived; far_is = far })) c.if-not-index.true)
 
 pub derived_layer-requires-clause-zone : goal.derived_layer-requires-clause-zone
 derived_layer-requires-clause-zone c = λ v entry.

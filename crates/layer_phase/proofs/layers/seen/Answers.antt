@@ -1,5 +1,5 @@
 use Rattle.std.proofs.Common.{◌≡◌, ◌∙◌, ◌&&◌, ◌||◌, ◌==◌, ℕ, zero, suc, Bool, true, false, List, arith, ap, refl, sym}
-use Rattle.std.proofs.lemmas.Bool.{eqb-true}
+use Rattle.std.proofs.lemmas.Bool.{eqb-true, false_from_ne_true}
 use Rattle.geo_base.specs.declared.shapes.Rect.{Rect}
 use Rattle.rect_sets.specs.Rects.{covers}
 use Rattle.layer_phase.proofs.Results.{if_ok}
@@ -10,12 +10,8 @@ all_seen zero true b e = refl
 all_seen zero false b e = refl
 all_seen (suc n) a b e = absurd (let z : ⊥ = omega arith in z)
 
-false_of : (b : Bool) → (b ≡ true → ⊥) → b ≡ false
-false_of true f = absurd (f refl)
-false_of false f = refl
-
 cut_seen : (n : ℕ) (a b : Bool) → (n ≡ 0 → ⊥) → (a && b) ≡ (a && ((n == 0) || b))
-cut_seen n a b some = ap (λ x. a && (x || b)) (sym (false_of (n == 0) (λ e. some (eqb-true n 0 e))))
+cut_seen n a b some = ap (λ x. a && (x || b)) (sym (false_from_ne_true (n == 0) (λ e. some (eqb-true n 0 e))))
 
 pub returns-then-far-eq0 : goal.returns-then-far-eq0
 returns-then-far-eq0 c =

@@ -1,4 +1,5 @@
 use Rattle.std.proofs.Common.{◌≡◌, inl, inr, ◌∙◌, ◌^◌, true, not, ap, arith, sym, subst}
+use Rattle.std.proofs.lemmas.Bool.{and_from, cases_Bool, and_parts}
 use Rattle.geo_base.specs.Motions.{moved_square}
 use Rattle.geo_base.specs.Rects.{has, IsRect}
 use Rattle.rect_sets.specs.Rects.{covers}
@@ -6,11 +7,10 @@ use Rattle.cell_graph.specs.Grown.{grown, IsInGrown}
 use Rattle.cell_graph.specs.Linked.{HullIsSound, IsFrame, IsHull, motion_at}
 use Rattle.cell_graph.proofs.Bridge.{hull_sound}
 use Rattle.cell_graph.proofs.Growing.{grown_frame, grown_up}
-use Rattle.cell_context.proofs.Visiting.{and_both, wider_rect}
+use Rattle.cell_context.proofs.Visiting.{wider_rect}
 use Rattle.layer_phase.proofs.Around.{grown_rect, grown_within, set_within}
-use Rattle.layer_phase.proofs.Assembly.{is_or_not}
 use Rattle.layer_phase.proofs.Exposing.{exposed_held}
-use Rattle.layer_phase.proofs.Held.{and_left, held_pieces}
+use Rattle.layer_phase.proofs.Held.{held_pieces}
 use Rattle.cell_context.proofs.Gathering.{pieces_rects}
 use Rattle.layer_phase.proofs.looks.looks_in.Goals as goal
 
@@ -28,7 +28,7 @@ pub push_near_own-requires-clause-held : goal.push_near_own-requires-clause-held
 push_near_own-requires-clause-held c = λ q e.
     subst (λ o. IsInGrown c.args.view.now.reach o q) (sym c.requires.hull)
     (subst (λ r. has r q ≡ true) c.grown-window.ensures (held_pieces c.grown-window.result c.push_references.new.out.items c.in_ok-push_references.ensures.pieces q
-    (and_left (covers c.push_references.new.out.items q) (not (covers c.in_ok-stirred.stirred q)) (sym (c.in_ok-out.ensures.exact q) ∙ e))))
+    ((and_parts (covers c.push_references.new.out.items q) (not (covers c.in_ok-stirred.stirred q)) (sym (c.in_ok-out.ensures.exact q) ∙ e)).0)))
 
 pub outside-requires : goal.outside-requires
 outside-requires c = pieces_rects c.grown-window.result c.push_references.new.out.items c.in_ok-push_references.ensures.pieces
@@ -56,8 +56,8 @@ returns c =
           let met : has c.grown-window.result (moved_square (motion_at p row column) s) ≡ true = subst (λ r. has r (moved_square (motion_at p row column) s) ≡ true) (sym c.grown-window.ensures) inner in
           let m = moved_square (motion_at p row column) s in
           let there : covers c.push_references.new.out.items m ≡ true = c.in_ok-push_references.ensures.brings i p at row column s a b e met in
-          elim (is_or_not (covers c.in_ok-stirred.stirred m)) [
+          elim (cases_Bool (covers c.in_ok-stirred.stirred m)) [
             | inl f ↦ inr f
-            | inr f ↦ inl (same m ∙ own.grows m (c.in_ok-out.ensures.exact m ∙ and_both (covers c.push_references.new.out.items m) (not (covers c.in_ok-stirred.stirred m)) there (ap not f)))
+            | inr f ↦ inl (same m ∙ own.grows m (c.in_ok-out.ensures.exact m ∙ and_from (covers c.push_references.new.out.items m) (not (covers c.in_ok-stirred.stirred m)) there (ap not f)))
           ];
     }

@@ -1,11 +1,11 @@
 use Rattle.std.proofs.Common.{◌≡◌, ◌∙◌, ◌^◌, true, arith, sym, subst}
+use Rattle.std.proofs.lemmas.Bool.{and_parts}
 use Rattle.geo_base.specs.Rects.{has, IsRect}
 use Rattle.geo_base.specs.declared.shapes.Rect.{Rect}
 use Rattle.rect_sets.specs.Rects.{covers}
 use Rattle.cell_context.proofs.Visiting.{wider_rect}
 use Rattle.layer_phase.specs.Around.{around}
 use Rattle.layer_phase.proofs.Around.{around_part, cut_same, grown_rect}
-use Rattle.cell_context.proofs.Collecting.{and_right}
 use Rattle.layer_phase.proofs.Results.{if_ok}
 use Rattle.layer_phase.proofs.parts.calm_part.Goals as goal
 
@@ -18,7 +18,7 @@ disturbed_near-requires-clause-window c = subst IsRect (sym c.grown-wide.ensures
 pub cut_near-requires-clause-held : goal.cut_near-requires-clause-held
 cut_near-requires-clause-held c = λ q e.
     let entry = c.requires.entry in
-    subst (λ (r : Rect). has r q ≡ true) c.grown-wide.ensures (and_right (covers entry.0 q) (has c.grown-wide.result q) (sym (c.in_ok-there.ensures.zone entry.0 entry.1 q) ∙ e))
+    subst (λ (r : Rect). has r q ≡ true) c.grown-wide.ensures ((and_parts (covers entry.0 q) (has c.grown-wide.result q) (sym (c.in_ok-there.ensures.zone entry.0 entry.1 q) ∙ e)).1)
 
 pub returns : goal.returns
 returns c =

@@ -1,5 +1,6 @@
 -- A cell's start, its references, its lines and its end.
 use Rattle.std.proofs.Common.{◌≡◌, ℕ, List, [], ◌∷◌, ◌++◌, ◌∙◌, ap, sym}
+use Rattle.base_laws.proofs.Items.{item_at}
 use Rattle.std.specs.List.{flat_map}
 use Rattle.std.proofs.lemmas.List.{get_or_default}
 use Rattle.std.proofs.lemmas.List.Elements.{All-map}
@@ -12,7 +13,6 @@ use Rattle.gds_shapes.specs.References.{FitsReference, reference}
 use Rattle.gds_shapes.specs.Stream.{layer}
 use Rattle.rule_text.specs.Seen.{rules_seen}
 use Rattle.layout_shapes.specs.Written.{drawn, ref_of, name_of}
-use Rattle.layout_shapes.proofs.Fitting.{there}
 use Rattle.layout_shapes.proofs.Joined.{cell_in_turn, whatever}
 use Rattle.layout_shapes.proofs.cells.write_cell.Goals as goal
 
@@ -30,7 +30,7 @@ pub returns-clause-written : goal.returns-clause-written
 returns-clause-written c =
     let d = c.args.layout.now.design in
     let cell = drawn c.args.layout.now (rules_seen c.args.rules.now) c.args.layers.now c.args.cell in
-    let part = there d.cells c.args.cell c.requires.inside in
+    let part = item_at d.cells c.args.cell c.requires.inside in
     let name : c.bytes.result.now ≡ cell.name = c.bytes.ensures.same ∙ c.name.ensures part.0 part.1 ∙ sym (ap name_of part.1) in
     let dates : c.index-dates.result.now ≡ cell.dates = c.index-dates.ensures ∙ get_or_default c.args.layout.now.cell_dates.items c.args.cell _ [] c.requires.dated in
     IfOk-equal c.write_cell_end.result _ _ _ c.write_cell_end.ensures

@@ -1,4 +1,4 @@
-use Rattle.std.proofs.Common.{ℕ, List, length, sym, subst, arith}
+use Rattle.std.proofs.Common.{ℕ, length, sym, subst, arith}
 use Rattle.match_rounds.specs.Classes.{IsPartition, KeepsFresh, node_count}
 use Rattle.match_rounds.specs.Pieces.{AreLoose, ArePartedBy}
 use Rattle.match_rounds.proofs.Grouped.{fresh_on, grown_on}

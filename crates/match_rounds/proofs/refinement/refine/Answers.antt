@@ -1,4 +1,4 @@
-use Rattle.std.proofs.Common.{◌≡◌, ◌<◌, ◌≤◌, ℕ, rules, sym, ◌∙◌, arith}
+use Rattle.std.proofs.Common.{◌≡◌, ◌<◌, rules, sym, ◌∙◌, arith}
 use Rattle.match_graph.specs.Graph.{nodes_of}
 use Rattle.match_rounds.specs.Classes.{class_count}
 use Rattle.match_rounds.proofs.Apart.{few_classes}

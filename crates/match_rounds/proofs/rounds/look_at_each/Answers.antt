@@ -1,4 +1,4 @@
-use Rattle.std.proofs.Common.{rules, ◌≡◌, ◌+◌, ℕ, List, length, slice_index, slice_range, refl, sym, subst, ap, arith}
+use Rattle.std.proofs.Common.{rules, ◌≡◌, ℕ, length, slice_index, slice_range, subst, ap, arith}
 use Rattle.match_graph.specs.Graph.{nodes_of}
 use Rattle.match_rounds.specs.Rounds.{ArePartedBySpans}
 use Rattle.match_rounds.proofs.Grouped.{fresh_on, grown_on}

@@ -1,4 +1,5 @@
 use Rattle.std.proofs.Common.{◌≡◌, ◌<◌, ℕ, Bool, false, List, Some, map, take, length, replicate, sym, subst, ap, ap₂, ◌∙◌, rules, arith}
+use Rattle.base_laws.proofs.Items.{map_to}
 use Rattle.std.specs.Prelude.{slice_get}
 use Rattle.std.proofs.lemmas.List.{length-map, length-replicate}
 use Rattle.plain_netlist.specs.Netlist.{Circuit as PlainCircuit, IsCircuit}
@@ -6,7 +7,6 @@ use Rattle.net_model.specs.Rows.{plain_circuit, plain_call, plain_netlist}
 use Rattle.net_model.specs.declared.netlist.CallRow.{CallRow}
 use Rattle.net_model.proofs.CheckLemmas.{called_same}
 use Rattle.net_align.specs.Marks.{marked, marked_by}
-use Rattle.net_align.proofs.ByName.{at_map}
 use Rattle.net_align.proofs.Marking.{marked_by_more, marked_by_long}
 use Rattle.net_align.proofs.Rows.{map_more, circuit_at}
 use Rattle.net_align.proofs.marks.called_circuits.Goals as goal
@@ -22,7 +22,7 @@ mark_called-requires c i r e =
     let below : k < length xs = search rules in
     let at : IsCircuit (plain_netlist nl) k (plain_circuit x) = circuit_at nl k x below (search rules) in
     let row : slice_get x.calls.items i ≡ Some r = subst (λ (t : List CallRow). slice_get t i ≡ Some r) c.deref.ensures.value e in
-    let low : r.circuit < length (map plain_circuit xs) = c.requires k i (plain_call r) (plain_circuit x, at, at_map plain_call x.calls.items i r row) in
+    let low : r.circuit < length (map plain_circuit xs) = c.requires k i (plain_call r) (plain_circuit x, at, map_to plain_call x.calls.items i r row) in
     let a : length c.loop-circuit.marks.items ≡ n =
     ap (λ (t : List Bool). length t) c.loop-circuit.invariant ∙ (marked_by_long (map plain_circuit (take k c.deref-circuit-items.result.now)) (replicate n false) ∙ length-replicate n false) in
     let b = length-map xs plain_circuit in

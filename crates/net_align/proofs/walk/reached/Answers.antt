@@ -1,4 +1,5 @@
 use Rattle.std.proofs.Common.{◌≡◌, ◌<◌, ◌≤◌, ◌+◌, ◌-◌, ℕ, Bool, true, false, List, Some, map, replicate, length, slice_get, slice_set, slice_index_or, refl, sym, subst, ap, ◌∙◌, rules, arith}
+use Rattle.base_laws.proofs.Items.{map_to}
 use Rattle.std.proofs.lemmas.List.{length-map}
 use Rattle.std.proofs.lemmas.Option.{slice_get-get_or}
 use Rattle.plain_netlist.specs.Netlist.{IsCircuit}
@@ -8,7 +9,6 @@ use Rattle.net_model.specs.declared.netlist.CallRow.{CallRow}
 use Rattle.net_model.proofs.CheckLemmas.{called_same}
 use Rattle.net_align.specs.Marks.{marked}
 use Rattle.net_align.specs.Walked.{IsReaching}
-use Rattle.net_align.proofs.ByName.{at_map}
 use Rattle.net_align.proofs.Rows.{circuit_at}
 use Rattle.net_align.proofs.Walking.{place_low, first_reached, reach_step, reach_stays, all_reached}
 use Rattle.net_align.proofs.walk.reached.Goals.{then-is_marked, else-is_marked}
@@ -39,7 +39,7 @@ mark_called-requires c j r e =
     let x = c.index.result.now in
     let circuit : IsCircuit nl a (plain_circuit x) = circuit_at c.args.netlist.now a x (omega (arith, low, k)) c.index.ensures in
     let row : slice_get x.calls.items j ≡ Some r = subst (λ (t : List CallRow). slice_get t j ≡ Some r) c.deref-then-is_marked.ensures.value e in
-    let l = c.requires.calls a j (plain_call r) (plain_circuit x, circuit, at_map plain_call x.calls.items j r row) in
+    let l = c.requires.calls a j (plain_call r) (plain_circuit x, circuit, map_to plain_call x.calls.items j r row) in
     let m = c.loop-i.invariant.long in
     omega (arith, l, m)
 

@@ -1,9 +1,10 @@
 use Rattle.std.proofs.Common.{◌≡◌, List, [], get_or, length, refl, sym, subst, arith}
+use Rattle.base_laws.proofs.Lists.{map_count}
 use Rattle.std.specs.Global.{Vec}
 use Rattle.std.proofs.Math.Decide.{dec_lt}
 use Rattle.std.proofs.lemmas.List.{map_push}
 use Rattle.net_phase.proofs.Arraying.{no_elements}
-use Rattle.net_phase.proofs.Listing.{get_past, get_push, long_map, long_push}
+use Rattle.net_phase.proofs.Listing.{get_past, get_push, long_push}
 use Rattle.net_phase.proofs.elements.all_elements.Goals as goal
 use Rattle.net_phase.specs.Elements.{AreElements, element_lists}
 use Rattle.net_walk.specs.declared.cells.Element.{Element}
@@ -17,7 +18,7 @@ loop-cell-preserved c =
     let old = c.loop-cell.all.items in
     let new = c.in_ok-found.found in
     let long = c.loop-cell.invariant.long in
-    let seen = long_map (λ (v : Vec Element). v.items) old in
+    let seen = map_count (λ (v : Vec Element). v.items) old in
     let here : AreElements d (length (element_lists old)) new.items = subst (λ n. AreElements d n new.items) (let z : c.loop-cell.cell ≡ length (element_lists old) = omega (arith, long, seen) in z) c.in_ok-found.ensures in
     rw c.in_ok-push.ensures.items (record {
       long = (let g = long_push old new in omega (arith, g, long));

@@ -1,4 +1,5 @@
 use Rattle.std.proofs.Common.{◌≡◌, ◌+◌, ◌∙◌, ◌||◌, Bool, false, ℕ, List, ap, sym, subst, arith, length, drop, get_or, slice_index}
+use Rattle.base_laws.proofs.Lists.{map_count}
 use Rattle.std.specs.Global.{Vec}
 use Rattle.cell_graph.proofs.Bridge.{lower}
 use Rattle.cell_graph.specs.Linked.{cell_at, places_at}
@@ -6,7 +7,6 @@ use Rattle.cell_graph.specs.declared.cells.Place.{Place}
 use Rattle.job_graph.specs.Graph.{AreAscending, inputs_of, lists}
 use Rattle.net_phase.proofs.Arraying.{no_place, place_there}
 use Rattle.net_phase.proofs.Graphing.{AreFrom, child_lower, first_all, from_all, from_more, list_at}
-use Rattle.net_phase.proofs.Listing.{long_map}
 use Rattle.net_phase.proofs.graph.marks_below.Goals as goal
 use Rattle.net_phase.specs.Graph.{is_at_or_in}
 
@@ -29,7 +29,7 @@ bounds-graph-child c =
     let there = place_there d (slice_index d.order job) c.loop-place.place-index items listed (omega arith) in
     let less = child_lower d c.args.jobs.now job c.loop-place.place-index (get_or items c.loop-place.place-index no_place) c.sound.ensures c.requires.jobs c.requires.job there in
     let long = c.requires.graph.count in
-    let same = long_map (λ (v : Vec ℕ). v.items) c.args.graph.now in
+    let same = map_count (λ (v : Vec ℕ). v.items) c.args.graph.now in
     omega (arith, less, long, same)
 
 pub mark-requires-clause-job : goal.mark-requires-clause-job
@@ -52,7 +52,7 @@ mark-requires-clause-inputs c =
     let there = place_there d (slice_index d.order job) c.loop-place.place-index items listed (omega arith) in
     let less = child_lower d c.args.jobs.now job c.loop-place.place-index p c.sound.ensures c.requires.jobs c.requires.job there in
     let long = c.requires.graph.count in
-    let same = long_map (λ (v : Vec ℕ). v.items) c.args.graph.now in
+    let same = map_count (λ (v : Vec ℕ). v.items) c.args.graph.now in
     let at = list_at c.args.graph.now (slice_index c.args.jobs.now p.cell) c.index-graph-child.result c.deref.result.now (omega (arith, less, long, same)) c.index-graph-child.is c.deref.ensures.value in
     subst (λ l. AreAscending 0 l (slice_index c.args.jobs.now p.cell)) at (c.requires.graph.each (slice_index c.args.jobs.now p.cell) less).ascend
 
@@ -67,7 +67,7 @@ loop-place-preserved c =
     let there = place_there d (slice_index d.order job) c.loop-place.place-index items listed (omega arith) in
     let less = child_lower d c.args.jobs.now job c.loop-place.place-index p c.sound.ensures c.requires.jobs c.requires.job there in
     let long = c.requires.graph.count in
-    let same = long_map (λ (v : Vec ℕ). v.items) c.args.graph.now in
+    let same = map_count (λ (v : Vec ℕ). v.items) c.args.graph.now in
     let at = list_at c.args.graph.now (slice_index c.args.jobs.now p.cell) c.index-graph-child.result c.deref.result.now (omega (arith, less, long, same)) c.index-graph-child.is c.deref.ensures.value in
     let value : c.deref_mut.result.now ≡ old = c.deref_mut.ensures.value in
     let count : length new ≡ length old = c.mark.ensures.count ∙ ap (λ (l : List Bool). length l) value in

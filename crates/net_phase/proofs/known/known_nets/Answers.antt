@@ -1,9 +1,10 @@
 use Rattle.std.proofs.Common.{◌≡◌, ◌+◌, ℕ, List, Option, Some, None, IsSome, get_or, slice_index, ap, sym, subst, length, arith}
+use Rattle.base_laws.proofs.Lists.{map_count}
 use Rattle.std.proofs.lemmas.List.{map-set}
 use Rattle.std.specs.Prelude.{set}
 use Rattle.deep_tables.specs.Entries.{entry}
 use Rattle.deep_tables.specs.declared.nets.CellNets.{CellNets}
-use Rattle.net_phase.proofs.Listing.{long_map, long_push}
+use Rattle.net_phase.proofs.Listing.{long_push}
 use Rattle.net_phase.specs.Reading.{nets_of, now_of}
 use Rattle.net_phase.proofs.Knowing.{AreKnownTo, all_known, none_known, one_known}
 use Rattle.net_phase.proofs.known.known_nets.Goals as goal
@@ -17,7 +18,7 @@ loop-preserved c =
 pub loop-cell-init : goal.loop-cell-init
 loop-cell-init c =
     let known = c.loop.known.items in
-    let long = long_map now_of known in
+    let long = map_count now_of known in
     let i = c.loop.invariant in let n = c.cells-end.ensures in let past = c.loop-test.false in let up = c.loop.auto.counter-end in
     none_known c.args.design.now c.args.nets.now (nets_of known) (omega (arith, long, i, n))
 
@@ -35,7 +36,7 @@ index_mut-requires c =
     let same : get_or c.order-cell-items.result.now n 0 ≡ slice_index d.order n = ap (λ (o : List ℕ). slice_index o n) c.order-cell-items.ensures in
     let within = c.sound.ensures.order.inside n (omega (arith, long)) in
     let many = c.loop-cell.invariant.long in
-    let seen = long_map now_of c.loop-cell.known.items in
+    let seen = map_count now_of c.loop-cell.known.items in
     omega (arith, within, many, seen, same)
 
 pub loop-cell-preserved : goal.loop-cell-preserved

@@ -1,7 +1,8 @@
 use Rattle.std.proofs.Common.{◌+◌, List, Option, Some, None, get_or, slice_index, arith, refl, sym, subst}
+use Rattle.base_laws.proofs.Lists.{map_count}
 use Rattle.std.proofs.lemmas.List.{map-set}
 use Rattle.job_graph.proofs.Inputs.{item_has}
-use Rattle.net_phase.proofs.Listing.{long_map, long_push}
+use Rattle.net_phase.proofs.Listing.{long_push}
 use Rattle.deep_tables.specs.declared.nets.CellNets.{CellNets}
 use Rattle.net_phase.proofs.Results.{AreReadTo, none_read, read_all, read_more}
 use Rattle.net_phase.proofs.reading.read_nets.Goals as goal
@@ -19,7 +20,7 @@ loop-preserved g c =
 pub loop-input-init : goal.loop-input-init
 loop-input-init g c =
     let nets = c.loop.nets.items in
-    let long = long_map now_of nets in
+    let long = map_count now_of nets in
     let i = c.loop.invariant in
     none_read (g.R.Reads.value c.args.reads.now) c.args.inputs.now c.args.order.now c.args.cells (nets_of nets) (omega (arith, long, i))
 
@@ -34,7 +35,7 @@ index_mut-requires g c =
     let input = get_or c.args.inputs.now c.loop-input.input-index 0 in
     let within = c.requires.cells input (c.requires.jobs input (item_has c.args.inputs.now c.loop-input.input-index 0 (omega arith))) in
     let long = c.loop-input.invariant.long in
-    let same = long_map now_of c.loop-input.nets.items in
+    let same = map_count now_of c.loop-input.nets.items in
     omega (arith, within, long, same)
 
 pub loop-input-preserved : goal.loop-input-preserved

@@ -1,7 +1,7 @@
 use Rattle.std.proofs.Common.{◌≡◌, ◌+◌, ◌<◌, ◌≤◌, ℕ, Bool, false, List, Some, map, length, replicate, slice_get, sym, subst, ap, ◌∙◌, rules, arith}
+use Rattle.base_laws.proofs.Items.{item_at, map_to}
 use Rattle.std.specs.List.{All}
 use Rattle.std.proofs.lemmas.List.{length-map}
-use Rattle.plain_netlist.proofs.Members.{item_at, map_at}
 use Rattle.match_types.specs.Plain.{plain_answer}
 use Rattle.net_model.specs.Rows.{plain_circuit, plain_netlist}
 use Rattle.net_model.specs.declared.netlist.CallRow.{CallRow}
@@ -70,7 +70,7 @@ pairs-preserved c =
     let x = item_at left.circuits k (omega (arith, below, g, a)) in
     let y = item_at right.circuits k (omega (arith, below, g, a, b, n)) in
     let v = plain_answer c.get.result.now in
-    let answer : slice_get vs k ≡ Some v = map_at plain_answer c.args.answers.now k c.get.result.now c.get.ensures in
+    let answer : slice_get vs k ≡ Some v = map_to plain_answer c.args.answers.now k c.get.result.now c.get.ensures in
     let tells : c.is_difference.result ≡ is_difference v = c.is_difference.ensures in
     elim c.if-is_difference.branch [
       | then-is_difference w ↦

@@ -1,8 +1,8 @@
 use Rattle.std.proofs.Common.{◌≡◌, ◌∙◌, ◌+◌, ◌<◌, Some, ap, arith, false, get_or, length, refl, slice_get, subst, sym}
-use Rattle.std.proofs.lemmas.Option.{get_or_from_slice_get, slice_get_read}
+use Rattle.std.proofs.lemmas.Option.{get_or_from_slice_get, slice_get_read, same_Some}
 use Rattle.rule_text.specs.declared.rules.LayerRule.{LayerRule}
 use Rattle.rule_layers.specs.Reads.{read_form}
-use Rattle.rule_layers.proofs.Unread.{AreReadTo, one_some, read_all, read_more}
+use Rattle.rule_layers.proofs.Unread.{AreReadTo, read_all, read_more}
 use Rattle.rule_layers.proofs.reads.read_names.Goals as goal
 
 pub loop-k-preserved : goal.loop-k-preserved
@@ -11,7 +11,7 @@ loop-k-preserved c =
     let marks = c.in_ok-marks.marks.items in
     let at : slice_get names k ≡ Some rule = slice_get_read names (length names) k rule refl c.loop-k-test.true c.index-names-k.is in
     let at_again : slice_get names k ≡ Some again = slice_get_read names (length names) k again refl c.loop-k-test.true c.index-names-k-in-loop-k.is in
-    let same : again ≡ rule = one_some again rule (sym at_again ∙ at) in
+    let same : again ≡ rule = same_Some again rule (sym at_again ∙ at) in
     let inside : k < length marks = (let m = c.in_ok-marks.ensures.count in let lt = c.loop-k-test.true in omega arith) in
     let seen : LayerRule = record { name = c.in_ok-name.name; form = c.read_form.result } in
     let form_is : c.read_form.result ≡ read_form (get_or marks k false) rule.form =

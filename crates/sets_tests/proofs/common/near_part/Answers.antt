@@ -1,9 +1,9 @@
 use Rattle.std.proofs.Common.{arith, sym, ◌∙◌, pos, ◌-ℤ◌}
+use Rattle.std.proofs.lemmas.Bool.{and_parts}
 use Rattle.std.proofs.lemmas.Int.{ints}
 use Rattle.geo_base.specs.Rects.{has}
 use Rattle.geo_base.specs.declared.shapes.Rect.{Rect}
 use Rattle.rect_sets.specs.Rects.{covers}
-use Rattle.rect_sets.proofs.Splitting.{and_split}
 use Rattle.rect_sets.proofs.Moving.{near_within}
 use Rattle.sets_tests.proofs.common.near_part.Goals as goal
 
@@ -17,4 +17,4 @@ returns c =
       x2 = record { low = omega (arith, ints); high = omega (arith, ints) };
       y2 = record { low = omega (arith, ints); high = omega (arith, ints) };
     })
-    (λ s e. (and_split (covers c.args.set.now s) (has w s) (sym (c.in_ok-part.ensures s) ∙ e)).1)
+    (λ s e. (and_parts (covers c.args.set.now s) (has w s) (sym (c.in_ok-part.ensures s) ∙ e)).1)

@@ -1,14 +1,15 @@
 use Rattle.std.proofs.Common.{◌≡◌, map, length, arith}
+use Rattle.base_laws.proofs.Items.{map_to}
 use Rattle.std.proofs.lemmas.Option.{slice_get-get_or, slice_get_within}
 use Rattle.std.proofs.lemmas.List.{length-map}
 use Rattle.flat_layout.specs.Layout.{Place}
-use Rattle.slow_paths.proofs.Ways.{yes_is, no_is, maps, at_some, some_at, none_place, no_place}
+use Rattle.slow_paths.proofs.Ways.{yes_is, no_is, at_some, some_at, none_place, no_place}
 use Rattle.slow_paths.specs.Slow.{plain_place}
 use Rattle.slow_paths.proofs.design.has_place.Goals as goal
 
 pub returns-then-place-cell : goal.returns-then-place-cell
 returns-then-place-cell c =
-    yes_is _ (at_some (λ (p : Place). p.cell ≡ c.args.cell) (map plain_place c.args.places.now) c.loop-place.place-index _ (maps plain_place c.args.places.now c.loop-place.place-index _ (slice_get-get_or c.args.places.now c.loop-place.place-index no_place c.loop-place-test.true)) c.if-place-cell.true)
+    yes_is _ (at_some (λ (p : Place). p.cell ≡ c.args.cell) (map plain_place c.args.places.now) c.loop-place.place-index _ (map_to plain_place c.args.places.now c.loop-place.place-index _ (slice_get-get_or c.args.places.now c.loop-place.place-index no_place c.loop-place-test.true)) c.if-place-cell.true)
 
 pub loop-place-preserved : goal.loop-place-preserved
 loop-place-preserved c = none_place c.args.places.now c.args.cell c.loop-place.place-index c.loop-place-test.true c.loop-place.invariant c.if-place-cell.false

@@ -1,8 +1,9 @@
 use Rattle.std.proofs.Common.{◌≡◌, map, length, arith, pos, inl, inr}
+use Rattle.base_laws.proofs.Items.{map_to}
 use Rattle.std.proofs.lemmas.Option.{slice_get-get_or, slice_get_within}
 use Rattle.std.proofs.lemmas.List.{length-map}
 use Rattle.slow_paths.specs.declared.design.SlowShape.{SlowShape}
-use Rattle.slow_paths.proofs.Ways.{key_same, key_other, has_in, has_out, yes_is, no_is, maps, at_some, some_at, none_more_of}
+use Rattle.slow_paths.proofs.Ways.{key_same, key_other, has_in, has_out, yes_is, no_is, at_some, some_at, none_more_of}
 use Rattle.slow_paths.specs.Slow.{plain_layer, IsOnLayer}
 use Rattle.slow_paths.proofs.design.is_own.Goals.{else-eq-via-then-eq+else-has, else-eq-via-else-eq}
 use Rattle.slow_paths.proofs.design.is_own.Goals as goal
@@ -12,7 +13,7 @@ no_shape = record { key = record { layer = 0; datatype = 0 }; rect = record { x1
 
 pub returns-then-has : goal.returns-then-has
 returns-then-has c =
-    yes_is _ (at_some (IsOnLayer c.args.key c.args.q) (map plain_layer c.args.shapes.now) c.loop-shape.shape-index _ (maps plain_layer c.args.shapes.now c.loop-shape.shape-index _ (slice_get-get_or c.args.shapes.now c.loop-shape.shape-index no_shape c.loop-shape-test.true)) (key_same _ _ c.if-eq.ensures, inl (has_in _ _ c.if-has.ensures)))
+    yes_is _ (at_some (IsOnLayer c.args.key c.args.q) (map plain_layer c.args.shapes.now) c.loop-shape.shape-index _ (map_to plain_layer c.args.shapes.now c.loop-shape.shape-index _ (slice_get-get_or c.args.shapes.now c.loop-shape.shape-index no_shape c.loop-shape-test.true)) (key_same _ _ c.if-eq.ensures, inl (has_in _ _ c.if-has.ensures)))
 
 pub loop-shape-preserved : goal.loop-shape-preserved
 loop-shape-preserved c = none_more_of (IsOnLayer c.args.key c.args.q) plain_layer c.args.shapes.now no_shape c.loop-shape.shape-index c.loop-shape-test.true c.loop-shape.invariant

@@ -1,5 +1,4 @@
 use Rattle.std.proofs.Common.{◌≡◌, arith, sym, get_or, subst, List, ◌∷◌, []}
-use Rattle.link_classes.specs.declared.classes.Link.{Link}
 use Rattle.touching_pieces.proofs.Chains.{among_at, crowd}
 use Rattle.touching_pieces.proofs.Links.{no_piece}
 use Rattle.touching_pieces.proofs.crowds.link_crowd.Goals as goal

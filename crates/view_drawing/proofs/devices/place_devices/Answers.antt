@@ -1,4 +1,5 @@
 use Rattle.std.proofs.Common.{inl, inr, ◌∷◌, ◌-◌, ◌∙◌, ℕ, List, drop, length, map, subst, sym, take}
+use Rattle.base_laws.proofs.Lists.{none_left}
 use Rattle.std.proofs.lemmas.Result.{err_from_is_err_and}
 use Rattle.deep_tables.specs.declared.gates.Gate.{Gate}
 use Rattle.net_model.specs.Rows.{plain_device}
@@ -6,7 +7,7 @@ use Rattle.plain_netlist.specs.Netlist.{DeviceRow}
 use Rattle.view_netlist.specs.declared.drawing.DevicePlace.{DevicePlace}
 use Rattle.view_drawing.specs.Devices.{IsPlaceOf, areas_of}
 use Rattle.view_drawing.specs.Far.{HasFarGate}
-use Rattle.view_drawing.proofs.Placing.{Goes, added_twice, front, front_is, goes_end, goes_good, goes_short, nil_is, nil_of}
+use Rattle.view_drawing.proofs.Placing.{Goes, added_twice, front, front_is, goes_end, goes_good, goes_short, nil_of}
 use Rattle.view_drawing.proofs.Fars.{err_as}
 use Rattle.view_drawing.proofs.devices.place_devices.Goals as goal
 
@@ -43,7 +44,7 @@ gates-preserved-then-is_good c =
 
 pub returns-clause-places : goal.returns-clause-places
 returns-clause-places c =
-    goes_end (areas_of c.gates.found.regions.items) c.gates.left.now (map plain_device c.gates.rest.now) c.gates.out.items c.args.gates.now (map plain_device c.args.rows.now) (nil_is c.gates.left.now c.in_default.len_below) c.gates.invariant.goes
+    goes_end (areas_of c.gates.found.regions.items) c.gates.left.now (map plain_device c.gates.rest.now) c.gates.out.items c.args.gates.now (map plain_device c.args.rows.now) (none_left c.gates.left.now c.in_default.len_below) c.gates.invariant.goes
 
 pub returns-in_err-place-clause-far : goal.returns-in_err-place-clause-far
 returns-in_err-place-clause-far c =

@@ -1,4 +1,5 @@
 use Rattle.std.proofs.Common.{◌<◌, inl, ◌≡◌, ◌-◌, ℕ, List, [], ◌∷◌, None, Some, length, map, take, drop, get_or, sym, ap, subst, ◌∙◌, arith}
+use Rattle.base_laws.proofs.Lists.{none_left}
 use Rattle.std.proofs.lemmas.Result.{err_from_is_err_and}
 use Rattle.flat_layout.specs.Layout.{Some_of}
 use Rattle.geo_base.specs.declared.motion.Motion.{Motion}
@@ -12,7 +13,6 @@ use Rattle.view_joined.specs.Devices.{AreJoinedDevices, IsFarDevice, IsFarMoved,
 use Rattle.view_joined.specs.Spots.{circuit_at, still}
 use Rattle.view_joined.proofs.Growing.{SoFar, begin, ends, first_of, more}
 use Rattle.view_joined.proofs.Small.{longer, place_small, shift_at, stood_before}
-use Rattle.view_joined.proofs.Put.{none_left}
 use Rattle.view_drawing.proofs.Fars.{err_as}
 use Rattle.view_joined.proofs.devices.joined_devices.Goals as goal
 

@@ -1,10 +1,10 @@
-use Rattle.std.proofs.Common.{◌≡◌, ◌<◌, ℕ, List, Some, length, map, slice_get, refl, subst}
+use Rattle.std.proofs.Common.{◌≡◌, ℕ, List, Some, length, map, slice_get, refl, subst}
+use Rattle.base_laws.proofs.Items.{map_to}
 use Rattle.std.proofs.lemmas.Option.{slice_get_read}
 use Rattle.std.proofs.lemmas.Result.{err_from_is_err_and}
 use Rattle.std.specs.List.{All}
 use Rattle.geo_base.specs.declared.shapes.Point.{Point}
 use Rattle.geo_base.specs.declared.shapes.Rect.{Rect}
-use Rattle.plain_netlist.proofs.Members.{map_at}
 use Rattle.view_drawing.specs.Devices.{Area, IsListedRegion, area_of, areas_of, seen_from}
 use Rattle.view_drawing.proofs.Placing.{still_listed}
 use Rattle.view_drawing.specs.Far.{IsFarArea}
@@ -21,7 +21,7 @@ returns-clause-place c =
     let low = c.requires.region in
     let old = c.index-old.result.now in
     let at = slice_get_read regions (length regions) k old refl low c.index-old.ensures in
-    let listed : slice_get (areas_of regions) k ≡ Some (area_of old) = map_at area_of regions k old at in
+    let listed : slice_get (areas_of regions) k ≡ Some (area_of old) = map_to area_of regions k old at in
     let new = areas_of c.add_area.new.found.regions.items in
     let moved = map (seen_from c.moved_corner-at.result) (moved_rects c.args.motion.now c.args.place.at old.rects.items) in
     let one : IsListedRegion new c.in_ok-region.region old.class.items moved = subst (λ (z : List Rect). IsListedRegion new c.in_ok-region.region old.class.items z) c.in_ok-rects.ensures.rects
@@ -39,7 +39,7 @@ rects_from-requires-clause-region c =
     let k = c.args.place.region in
     let old = c.index-old.result.now in
     let at = slice_get_read regions (length regions) k old refl c.requires.region c.index-old.ensures in
-    all_at (λ (a : Area). All IsSmallRect a.rects) (areas_of regions) k (area_of old) c.requires.regions (map_at area_of regions k old at)
+    all_at (λ (a : Area). All IsSmallRect a.rects) (areas_of regions) k (area_of old) c.requires.regions (map_to area_of regions k old at)
 
 pub returns-in_err-rects-clause-far : goal.returns-in_err-rects-clause-far
 returns-in_err-rects-clause-far c =
@@ -48,5 +48,5 @@ returns-in_err-rects-clause-far c =
     let k = c.args.place.region in
     let old = c.index-old.result.now in
     let at = slice_get_read regions (length regions) k old refl c.requires.region c.index-old.ensures in
-    let listed : slice_get (areas_of regions) k ≡ Some (area_of old) = map_at area_of regions k old at in
+    let listed : slice_get (areas_of regions) k ≡ Some (area_of old) = map_to area_of regions k old at in
     rw (e.1, e.2) (λ s. (area_of old, listed, subst (λ (p : Point). IsFarArea p (moved_rects c.args.motion.now c.args.place.at old.rects.items)) c.moved_corner-at.ensures (c.in_err-rects.ensures.far (err_as _ _ s))))

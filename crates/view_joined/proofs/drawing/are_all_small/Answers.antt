@@ -1,4 +1,4 @@
-use Rattle.std.proofs.Common.{◌≡◌, ◌-◌, inl, inr, List, ◌∷◌, length, take, drop, sym, subst, rules}
+use Rattle.std.proofs.Common.{◌≡◌, ◌-◌, inr, List, ◌∷◌, length, take, drop, sym, subst, rules}
 use Rattle.std.specs.Global.{Vec}
 use Rattle.std.specs.List.{All}
 use Rattle.std.proofs.lemmas.List.Elements.{All-cons}

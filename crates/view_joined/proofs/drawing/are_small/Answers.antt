@@ -1,4 +1,4 @@
-use Rattle.std.proofs.Common.{◌≡◌, ◌-◌, inl, inr, List, ◌∷◌, length, take, drop, get_or, sym, subst, rules, pos}
+use Rattle.std.proofs.Common.{◌≡◌, ◌-◌, inr, List, ◌∷◌, length, take, drop, get_or, sym, subst, rules, pos}
 use Rattle.std.proofs.lemmas.List.Elements.{All-cons}
 use Rattle.view_netlist.specs.Drawing.{AreSmallShapes}
 use Rattle.view_netlist.specs.declared.drawing.Shape.{Shape}

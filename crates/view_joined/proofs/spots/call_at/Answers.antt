@@ -1,4 +1,4 @@
-use Rattle.std.proofs.Common.{◌∙◌, get_or, map, subst, sym}
+use Rattle.std.proofs.Common.{◌∙◌, get_or, subst, sym}
 use Rattle.std.proofs.lemmas.Bool.{false≢true}
 use Rattle.geo_base.specs.Laws.{IsMotionAfter}
 use Rattle.geo_base.specs.Near.{IsNearMotion}

@@ -1,4 +1,5 @@
 use Rattle.std.proofs.Common.{◌≡◌, ◌-◌, inl, List, [], ◌∷◌, drop, get_or, length, map, subst, sym, take, arith}
+use Rattle.base_laws.proofs.Lists.{none_left}
 use Rattle.std.proofs.lemmas.Result.{err_from_is_err_and}
 use Rattle.flat_layout.specs.Layout.{Some_of}
 use Rattle.geo_base.specs.declared.motion.Motion.{Motion}
@@ -6,7 +7,6 @@ use Rattle.part_origins.specs.Inside.{plain_spot}
 use Rattle.part_origins.specs.declared.inside.Part.{Part}
 use Rattle.view_joined.proofs.Growing.{first_of}
 use Rattle.view_joined.proofs.Motions.{HasCalls, calls_begin, calls_end, calls_more}
-use Rattle.view_joined.proofs.Put.{none_left}
 use Rattle.view_joined.specs.Spots.{IsFarCallAt}
 use Rattle.view_drawing.proofs.Fars.{err_as}
 use Rattle.view_joined.proofs.spots.joined_calls.Goals as goal

@@ -1,4 +1,5 @@
 use Rattle.std.proofs.Common.{◌≡◌, ◌-◌, inl, List, [], ◌∷◌, drop, length, map, subst, sym, take, arith}
+use Rattle.base_laws.proofs.Lists.{none_left}
 use Rattle.std.proofs.lemmas.Result.{err_from_is_err_and}
 use Rattle.geo_base.specs.declared.motion.Motion.{Motion}
 use Rattle.part_origins.specs.Inside.{PlainSpot, plain_spot}
@@ -7,7 +8,6 @@ use Rattle.std.specs.List.{All}
 use Rattle.view_netlist.specs.Drawing.{IsSmallShift}
 use Rattle.view_drawing.proofs.Placing.{front}
 use Rattle.view_joined.proofs.Motions.{HasMotions, motions_begin, motions_end, motions_more}
-use Rattle.view_joined.proofs.Put.{none_left}
 use Rattle.view_joined.specs.Spots.{IsFarSpot, IsSpotMotion}
 use Rattle.view_drawing.proofs.Fars.{err_as}
 use Rattle.view_joined.proofs.spots.spot_motions.Goals as goal

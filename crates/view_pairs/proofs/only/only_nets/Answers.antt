@@ -1,4 +1,4 @@
-use Rattle.std.proofs.Common.{◌∙◌, ℕ, List, Option, length, sym, subst}
+use Rattle.std.proofs.Common.{ℕ, List, Option, subst}
 use Rattle.view_pairs.specs.Only.{AreKeysFirst, is_given}
 use Rattle.view_pairs.proofs.Keying.{keys_stay, only_texts}
 use Rattle.view_pairs.proofs.only.only_nets.Goals as goal

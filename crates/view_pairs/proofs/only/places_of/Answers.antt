@@ -1,4 +1,4 @@
-use Rattle.std.proofs.Common.{◌≡◌, ◌<◌, ◌∙◌, length, None, get_or, arith}
+use Rattle.std.proofs.Common.{◌<◌, length, None, get_or, arith}
 use Rattle.std.proofs.lemmas.Option.{slice_get-get_or}
 use Rattle.view_pairs.proofs.Keying.{found_all, found_on}
 use Rattle.view_pairs.proofs.only.places_of.Goals as goal

@@ -1,11 +1,9 @@
-use Rattle.std.proofs.Common.{◌<◌, ◌∙◌, length, map, ap, subst, List, arith}
+use Rattle.std.proofs.Common.{◌<◌, ◌∙◌, length, map, ap, arith}
 use Rattle.net_model.specs.Rows.{plain_circuit}
-use Rattle.view_cross.specs.declared.rows.Row.{Row}
 use Rattle.view_pairs.specs.Added.{rows_in}
 use Rattle.view_pairs.specs.Proposals.{is_told}
-use Rattle.view_pairs.specs.Sure.{AreAllSure}
 use Rattle.view_pairs.proofs.Shown.{pair_on, proposed}
-use Rattle.view_pairs.proofs.Sureness.{all_matched, all_named, none_sure, pair_sure}
+use Rattle.view_pairs.proofs.Sureness.{all_matched, all_named, pair_sure}
 use Rattle.view_pairs.proofs.Whole.{all_whole}
 use Rattle.view_pairs.proofs.pairs.proposals.Goals as goal
 

@@ -1,11 +1,11 @@
 use Rattle.std.proofs.Common.{◌≡◌, ◌∙◌, ℕ, List, ap, map, refl}
+use Rattle.base_laws.proofs.Tests.{not_both}
 use Rattle.std.specs.Global.{Vec}
 use Rattle.device_merge.specs.Parts.{place_lists, places_of}
 use Rattle.merge_laws.specs.Grouped.{groups}
 use Rattle.net_model.specs.Rows.{plain_device}
 use Rattle.view_netlist.specs.declared.drawing.DevicePlace.{DevicePlace}
 use Rattle.view_picture.specs.Parts.{Merged, Others, Same, first_places}
-use Rattle.view_picture.proofs.Picturing.{not_both}
 use Rattle.view_picture.proofs.parts.device_places.Goals as goal
 
 pub returns-then-same_devices-clause-places : goal.returns-then-same_devices-clause-places

@@ -1,4 +1,4 @@
-use Rattle.std.proofs.Common.{◌≡◌, ◌∙◌, ℕ, List, Some, ap, map, refl, slice_get, subst, sym}
+use Rattle.std.proofs.Common.{◌≡◌, ℕ, List, Some, map, refl, slice_get, subst, sym}
 use Rattle.cell_graph.specs.Linked.{Linked, plain}
 use Rattle.flat_layout.specs.Layout.{IsReached}
 use Rattle.net_model.specs.Rows.{plain_circuit, plain_netlist}

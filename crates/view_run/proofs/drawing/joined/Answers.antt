@@ -1,6 +1,6 @@
 use Rattle.std.proofs.Common.{ℕ, List, length, map, subst, sym}
 use Rattle.std.proofs.lemmas.Result.{err_from_is_err_and}
-use Rattle.net_model.specs.Rows.{plain_circuit, plain_netlist}
+use Rattle.net_model.specs.Rows.{plain_circuit}
 use Rattle.view_drawing.proofs.Fars.{err_as}
 use Rattle.net_model.specs.declared.netlist.Circuit.{Circuit}
 use Rattle.part_origins.specs.Made.{plain_all}

@@ -1,4 +1,4 @@
-use Rattle.std.proofs.Common.{◌≡◌, ◌++◌, List, length, map}
+use Rattle.std.proofs.Common.{◌≡◌, ◌++◌, length, map}
 use Rattle.std.specs.Global.{Vec}
 use Rattle.view_netlist.specs.declared.drawing.Shape.{Shape}
 use Rattle.view_run.specs.Places.{net_point}

@@ -1,4 +1,4 @@
-use Rattle.std.proofs.Common.{◌≡◌, ◌-◌, inl, inr, List, ◌∷◌, length, take, drop, get_or, sym, subst, rules, pos}
+use Rattle.std.proofs.Common.{◌≡◌, ◌-◌, inr, List, ◌∷◌, length, take, drop, get_or, sym, subst, rules}
 use Rattle.view_words.proofs.Rows.{first_and_rest}
 use Rattle.view_words.specs.Numbers.{IsSmallRect}
 use Rattle.view_shapes.proofs.Adding.{no_piece}

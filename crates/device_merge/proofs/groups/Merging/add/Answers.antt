@@ -1,4 +1,5 @@
 use Rattle.std.proofs.Common.{◌≡◌, ◌<◌, ◌≤◌, ◌+◌, ◌^◌, ◌++◌, ◌∷◌, [], Bool, List, length, map, arith, ap, sym, ◌∙◌, subst, refl, false, ◌&&◌, nat_lt}
+use Rattle.base_laws.proofs.Lists.{map_last}
 use Rattle.merge_laws.specs.Merge.{may_merge}
 use Rattle.net_model.specs.declared.netlist.DeviceRow.{DeviceRow as Held}
 use Rattle.net_model.specs.Rows.{plain_device}
@@ -8,7 +9,7 @@ use Rattle.std.proofs.lemmas.List.{with_items_is}
 use Rattle.device_merge.specs.declared.groups.Merging.{Merging}
 use Rattle.device_merge.specs.Merging.{placed, width_at, widened}
 use Rattle.device_merge.proofs.Going.{begun_merging, begun_too_wide, joined_merging, joined_wide, last_place}
-use Rattle.device_merge.proofs.Joined.{map_last, past, within}
+use Rattle.device_merge.proofs.Joined.{past, within}
 use Rattle.device_merge.proofs.groups.Merging.add.Goals.{else-may_merge-via-then-may_merge+else-row-gt-WIDEST, else-may_merge-via-else-may_merge}
 use Rattle.device_merge.proofs.groups.Merging.add.Goals as goal
 

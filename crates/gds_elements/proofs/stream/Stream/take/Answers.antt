@@ -1,5 +1,4 @@
-use Rattle.std.proofs.Common.{◌≡◌, ◌+◌, ℕ, length, true, None, Some, refl, ap, sym, ◌∙◌, subst}
-use Rattle.geo_base.specs.declared.shapes.Point.{Point}
+use Rattle.std.proofs.Common.{◌≡◌, ◌+◌, ℕ, length, true, None, Some, refl, ap, sym, ◌∙◌}
 use Rattle.gds_records.specs.Records.{Rec, Records}
 use Rattle.gds_grammar.specs.Order.{can_go_on}
 use Rattle.gds_elements.specs.Bounds.{is_line}

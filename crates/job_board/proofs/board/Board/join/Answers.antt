@@ -1,14 +1,11 @@
-use Rattle.std.proofs.Common.{◌≡◌, ℕ, Bool, true, false, ◌||◌, ◌==◌, List, [], ◌∷◌, ◌++◌, map, None, refl, sym, ap, ◌∙◌, subst}
+use Rattle.std.proofs.Common.{◌≡◌, ℕ, true, ◌||◌, ◌==◌, List, [], ◌∷◌, ◌++◌, map, None, sym, ap, ◌∙◌, subst}
+use Rattle.base_laws.proofs.Tests.{or_true}
 use Rattle.job_graph.specs.Graph.{has}
 use Rattle.job_board.specs.declared.view.View.{View}
 use Rattle.job_board.specs.Views.{joined_view}
 use Rattle.job_board.specs.Pieces.{IsOut}
 use Rattle.job_board.specs.Board.{BoardState, SeatState, TicketState, HasTicket}
 use Rattle.job_board.proofs.board.Board.join.Goals as goal
-
-or_true : (b : Bool) → (b || true) ≡ true
-or_true true = refl
-or_true false = refl
 
 -- what stands among these claims stands among more
 has_after : (j : ℕ) (cs ds : List (ℕ × ℕ)) → has j (map (λ c. c.0) ds) ≡ true → has j (map (λ c. c.0) (cs ++ ds)) ≡ true

@@ -1,4 +1,4 @@
-use Rattle.std.proofs.Common.{◌<◌, arith}
+use Rattle.std.proofs.Common.{arith}
 use Rattle.match_parts.proofs.Read.{read}
 use Rattle.match_graph.specs.Graph.{nodes_of}
 use Rattle.match_rounds.proofs.SpanColours.{at_places}

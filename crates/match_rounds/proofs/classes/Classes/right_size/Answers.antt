@@ -1,4 +1,4 @@
-use Rattle.std.proofs.Common.{◌≡◌, arith}
+use Rattle.std.proofs.Common.{arith}
 use Rattle.match_parts.proofs.Read.{read}
 use Rattle.match_rounds.proofs.Evenness.{both_sides}
 use Rattle.match_rounds.proofs.classes.Classes.right_size.Goals as goal

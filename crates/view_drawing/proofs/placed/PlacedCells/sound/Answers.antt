@@ -1,4 +1,4 @@
-use Rattle.std.proofs.Common.{refl, subst}
+use Rattle.std.proofs.Common.{subst}
 use Rattle.cell_graph.proofs.Bridge.{heights}
 use Rattle.cell_graph.specs.Linked.{height_at, plain}
 use Rattle.flat_layout.specs.Layout.{IsHeight}
