@@ -5,3 +5,4 @@ pub mod Visiting
 pub mod Collecting
 pub mod Gathering
 pub mod Near
+pub mod Bringing

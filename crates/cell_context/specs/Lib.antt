@@ -2,3 +2,4 @@ pub mod Steps
 pub mod Arrays
 pub mod Visits
 pub mod Over
+pub mod Placed

@@ -1,46 +1,24 @@
 -- Images of rectangles through the elements of an array, one visit after another.
-use Rattle.std.proofs.Common.{◌≡◌, ◌<◌, ◌^◌, ℕ, true, false, ◌&&◌, ◌++◌, List, [], ◌∷◌, inl, inr, suc, slice_index_or, length, sym, ◌∙◌, subst, arith}
-use Rattle.std.proofs.lemmas.Bool.{and_parts, and_from, or_cases, or_right}
+use Rattle.std.proofs.Common.{◌≡◌, ◌^◌, ℕ, true, false, ◌&&◌, ◌++◌, List, [], ◌∷◌, inl, inr, suc, slice_index_or, sym, ◌∙◌, subst, arith}
+use Rattle.std.proofs.lemmas.Bool.{and_parts, or_cases}
 use Rattle.std.specs.List.{All}
 use Rattle.std.proofs.lemmas.Int.{ints}
 use Rattle.std.proofs.lemmas.List.Elements.{All-append}
 use Rattle.geo_base.specs.Near.{IsNearRect}
-use Rattle.geo_base.specs.Motions.{moved_square}
 use Rattle.geo_base.specs.Rects.{has, IsRect}
 use Rattle.geo_base.specs.declared.layer.LayerKey.{LayerKey}
-use Rattle.geo_base.specs.declared.motion.Motion.{Motion}
 use Rattle.geo_base.specs.declared.shapes.Rect.{Rect}
 use Rattle.geo_base.specs.declared.shapes.Square.{Square}
 use Rattle.rect_sets.specs.Near.{HasNearCorners}
 use Rattle.sized_layers.specs.Sizes.{IsSetWithin}
 use Rattle.rect_sets.specs.Rects.{covers}
 use Rattle.rect_sets.proofs.Unique.{listed_get}
-use Rattle.cell_graph.specs.declared.cells.Place.{Place}
 use Rattle.cell_graph.specs.Linked.{Linked, IsSound, IsFrame, IsRectWithin, cell_at, hull_of, own_of}
 use Rattle.cell_graph.proofs.Bridge.{has_in, hull_sound, own_in_hull, inside_has}
-use Rattle.cell_context.specs.declared.arrays.Visit.{Visit}
 use Rattle.cell_context.specs.Over.{IsPiece}
-use Rattle.cell_context.specs.Visits.{IsVisited, IsMet, IsFound}
 use Rattle.cell_context.proofs.Visiting.{inside_from, within_inside, near_rect, wider_rect}
-use Rattle.cell_context.proofs.Gathering.{Adds, some_at}
 use Rattle.gate_phase.specs.Kept.{HoldsNear}
-use Rattle.gate_phase.specs.Seeding.{Brings}
 use Rattle.gate_phase.proofs.Keeping.{held_rect, listed_has}
-
--- the visit's images are covered in the window
-abbrev pub BringsVisit : List Rect → Rect → List Rect → Visit → Type 0
-BringsVisit rects w out v = (s : Square) → covers rects s ≡ true → has w (moved_square v.motion s) ≡ true → covers out (moved_square v.motion s) ≡ true
-
-pub visit_here : (rects old new : List Rect) (w : Rect) (v : Visit) → Adds old new rects v.motion w → BringsVisit rects w new v
-visit_here rects old new w v adds s e g =
-    adds s ∙ or_right (covers old (moved_square v.motion s)) (covers rects s && has w (moved_square v.motion s)) (and_from (covers rects s) (has w (moved_square v.motion s)) e g)
-
-pub all_brought : (p : Place) (below w : Rect) (rects out : List Rect) (vs : List Visit) (none : Visit) → ((k : ℕ) → k < length vs → BringsVisit rects w out (slice_index_or vs k none))
-    → ((row column : ℕ) (q : Square) → row < p.rows → column < p.columns → IsMet p below w row column q → IsFound p row column q vs) → Brings p below rects w out
-all_brought p below w rects out vs none there found row column s row_in column_in inner covered met =
-    let f = some_at (IsVisited p row column s) vs none (found row column s row_in column_in (record { inner = inner; outer = met })) in
-    let m = f.2.motion in
-    subst (λ (x : Motion). covers out (moved_square x s) ≡ true) m (there f.0 f.1 s covered (subst (λ (x : Motion). has w (moved_square x s) ≡ true) (sym m) met))
 
 -- what lies in a frame is near
 pub part_near : (w : Rect) (zone part : List Rect) → IsFrame w → All IsRect part → ((s : Square) → covers part s ≡ (covers zone s && has w s)) → All IsNearRect part

@@ -7,6 +7,7 @@ use Rattle.geo_base.specs.declared.shapes.Rect.{Rect}
 use Rattle.geo_base.specs.declared.shapes.Square.{Square}
 use Rattle.rect_sets.specs.Rects.{covers}
 use Rattle.cell_graph.specs.declared.cells.Place.{Place}
+use Rattle.cell_context.specs.Placed.{Grows}
 use Rattle.cell_graph.specs.Linked.{Linked, cell_at, hull_of, motion_at, own_of}
 use Rattle.rule_text.specs.declared.rules.LayerRule.{LayerRule}
 use Rattle.deep_tables.specs.declared.zones.CellZones.{CellZones}
@@ -14,19 +15,8 @@ use Rattle.deep_tables.specs.Frames.{IsInGrown}
 use Rattle.gate_phase.specs.Close.{AreOpen}
 use Rattle.gate_phase.specs.Reads.{IsMarkedInput}
 
--- what was covered still is
-abbrev pub Grows : List Rect → List Rect → Type 0
-Grows old new = (q : Square) → covers old q ≡ true → covers new q ≡ true
-
--- an array's images of what the rectangles cover of the placed cell's frame are covered, where they
--- lie in the plane
-abbrev pub Brings : Place → Rect → List Rect → Rect → List Rect → Type 0
-Brings p below rects plane out = (row column : ℕ) (s : Square) → row < p.rows → column < p.columns
-    → has below s ≡ true → covers rects s ≡ true
-    → has plane (moved_square (motion_at p row column) s) ≡ true
-    → covers out (moved_square (motion_at p row column) s) ≡ true
-
--- the same of what is disturbed for a device rule in the placed cell's hull, grown by n
+-- an array's images of what is disturbed for a device rule in the placed cell's hull, grown by n, are
+-- covered, where they lie in the plane
 abbrev pub BringsOpen : ℕ → Linked → List (Option CellZones) → ℕ → Place → Rect → List Rect → Type 0
 BringsOpen n d z device p plane out = (zone : List Rect) (row column : ℕ) (s : Square)
     → AreOpen z p.cell device zone → row < p.rows → column < p.columns

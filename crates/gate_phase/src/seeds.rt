@@ -17,6 +17,7 @@ ghost use Rattle.cell_graph.specs.Linked.{plain};
 ghost use Rattle.cell_graph.specs.declared.cells.Place.{Place};
 ghost use Rattle.cell_context.specs.Arrays.{IsNearArray};
 ghost use Rattle.cell_context.specs.Over.{IsPiece};
+ghost use Rattle.cell_context.specs.Placed.{Brings, Grows};
 ghost use Rattle.rule_text.specs.Seen.{rules_seen};
 ghost use Rattle.rule_text.specs.Sound.{IsSound};
 ghost use Rattle.rule_text.specs.declared.rules.LayerForm.TheVariants.{Input};
@@ -27,13 +28,13 @@ ghost use Rattle.gate_phase.specs.Close.{HasOpen, HasOpenBelow};
 ghost use Rattle.gate_phase.specs.Devices.{devices_of};
 ghost use Rattle.gate_phase.specs.Kept.{HoldsNear};
 ghost use Rattle.gate_phase.specs.Own.{IsRuleReach};
-ghost use Rattle.gate_phase.specs.Seeding.{Brings, BringsOpen, BringsOwn, Grows};
+ghost use Rattle.gate_phase.specs.Seeding.{BringsOpen, BringsOwn};
 
 use crate::device::Device;
 use crate::frame::{grown_hull, plane};
 use crate::nearby::within_reach;
 use crate::reads::names_read;
-use cell_context::{place_visits, push_images};
+use cell_context::push_array;
 use cell_graph::{Design, Place};
 use deep_tables::{ZoneKey, Zones};
 use geo_base::Rect;
@@ -41,34 +42,8 @@ use rect_sets::RectSet;
 use rule_text::{LayerForm, LayerRule, RuleSet};
 use std::alloc::{AllocError, Global};
 
-// Adds the images of rectangles of the placed cell through all elements of an array.
-fn push_array(
-    alloc: Global,
-    out: &mut Vec<Rect>,
-    place: &Place,
-    below: &Rect,
-    rects: &[Rect],
-    plane: &Rect,
-) -> Result<(), AllocError>
-    requires near { IsNearArray place.now }
-    requires some { 0 < place.now.columns }
-    requires below { IsFrame below.now }
-    requires plane { IsRectWithin (2 ^ 39) plane.now }
-    requires rects { All IsRect rects.now }
-    requires near_rects { All IsNearRect rects.now }
-    requires pieces { All (IsPiece plane.now) out.old.items }
-    ensures pieces { OnOk result (All (IsPiece plane.now) out.new.items) }
-    ensures grows { OnOk result (Grows out.old.items out.new.items) }
-    ensures brings { OnOk result (Brings place.now below.now rects.now plane.now out.new.items) }
-{
-    for visit in &place_visits(alloc, place, below, plane)? {
-        push_images(out, rects, &visit.motion, plane)?;
-    }
-    Ok(())
-}
-
-// The same of the part of a set in the placed cell's grown hull. Where it is empty no element is
-// visited.
+// Adds the images of the part of a set in the placed cell's grown hull through all elements of an
+// array. Where it is empty no element is visited.
 fn push_part(
     alloc: Global,
     out: &mut Vec<Rect>,
@@ -90,9 +65,6 @@ fn push_part(
         return Ok(());
     }
     let part = zone.window(alloc, *below)?;
-    if part.rects().is_empty() {
-        return Ok(());
-    }
     push_array(alloc, out, place, below, part.rects(), plane)
 }
 

@@ -26,7 +26,8 @@ use Rattle.rule_text.specs.declared.rules.LayerForm.{LayerForm}
 use Rattle.rule_text.specs.declared.rules.LayerForm.TheVariants as form
 use Rattle.rule_text.specs.declared.rules.LayerRule.{LayerRule}
 use Rattle.rule_layers.specs.Formulas.{formulas, formula_by, formulas_behind}
-use Rattle.layer_phase.specs.Looks.{Grows, IsInput}
+use Rattle.layer_phase.specs.Looks.{IsInput}
+use Rattle.cell_context.specs.Placed.{Grows}
 use Rattle.layer_phase.specs.Names.{AreFlats, AreLocals, IsFlatIn}
 use Rattle.layer_phase.proofs.Around.{wider_set}
 

@@ -1,6 +1,5 @@
 pub mod Around
 pub mod Assembly
-pub mod Bringing
 pub mod Deriving
 pub mod Exposing
 pub mod Flattening

@@ -15,7 +15,8 @@ use Rattle.cell_graph.proofs.Growing.{grown_none, within_grown}
 use Rattle.cell_context.proofs.Collecting.{covers_append}
 use Rattle.rule_text.specs.declared.rules.LayerRule.{LayerRule}
 use Rattle.layer_phase.specs.Around.{around}
-use Rattle.layer_phase.specs.Looks.{AreHeld, BringsOwn, Grows, HoldsOwn}
+use Rattle.layer_phase.specs.Looks.{AreHeld, BringsOwn, HoldsOwn}
+use Rattle.cell_context.specs.Placed.{Grows}
 use Rattle.layer_phase.proofs.Around.{covered_near, near_covered, set_within}
 use Rattle.cell_context.proofs.Visiting.{wider_rect}
 

@@ -9,6 +9,7 @@ use Rattle.geo_base.specs.declared.layer.LayerKey.{LayerKey}
 use Rattle.geo_base.specs.declared.shapes.Rect.{Rect}
 use Rattle.geo_base.specs.declared.shapes.Square.{Square}
 use Rattle.rect_sets.specs.Rects.{covers}
+use Rattle.cell_context.specs.Placed.{Grows}
 use Rattle.cell_graph.specs.declared.cells.Place.{Place}
 use Rattle.cell_graph.specs.Grown.{IsInGrown}
 use Rattle.cell_graph.specs.Linked.{Linked, IsRectWithin, cell_at, motion_at}
@@ -30,10 +31,6 @@ use Rattle.layer_phase.specs.declared.exposed.Exposed.{Exposed}
 abbrev pub AreNear : List Rect → Type 0
 AreNear rects = All (IsRectWithin (2 ^ 39)) rects
 
--- what was covered still is
-abbrev pub Grows : List Rect → List Rect → Type 0
-Grows old new = (q : Square) → covers old q ≡ true → covers new q ≡ true
-
 -- the hull, grown by n, holds what they cover
 abbrev pub AreHeld : ℕ → Option Rect → List Rect → Type 0
 AreHeld n hull rects = (q : Square) → covers rects q ≡ true → IsInGrown n hull q
@@ -42,14 +39,6 @@ AreHeld n hull rects = (q : Square) → covers rects q ≡ true → IsInGrown n 
 abbrev pub IsInput : List LayerRule → ℕ → LayerKey → Type 0
 IsInput names name key = (rule : LayerRule) × (slice_get names name ≡ Some rule)
     × (rule.form ≡ form.Input key)
-
--- an array's images of what the rectangles cover of the placed cell's hull are covered, where they
--- lie in the window
-abbrev pub Brings : Place → Rect → List Rect → Rect → List Rect → Type 0
-Brings p below rects window out = (row column : ℕ) (s : Square) → row < p.rows
-    → column < p.columns → has below s ≡ true
-    → covers rects s ≡ true → has window (moved_square (motion_at p row column) s) ≡ true
-    → covers out (moved_square (motion_at p row column) s) ≡ true
 
 -- a square of a cell within n of which something is disturbed for an input layer of the names, and
 -- a square flat on one

@@ -16,7 +16,7 @@ use Rattle.deep_tables.specs.declared.zones.CellZones.{CellZones}
 use Rattle.deep_tables.specs.Frames.{HasHulls}
 use Rattle.deep_tables.specs.Zones.{AreZones}
 use Rattle.sized_layers.specs.Sizes.{IsSetWithin}
-use Rattle.layer_phase.specs.Looks.{Grows}
+use Rattle.cell_context.specs.Placed.{Grows}
 
 -- the tree's flat squares, exactly wherever all squares within its reach are among those gathered;
 -- where it doesn't reach further than its squares, no others; and none further out than its reach

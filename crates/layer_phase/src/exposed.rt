@@ -18,7 +18,8 @@ ghost use Rattle.layer_phase.specs.Around.{around};
 ghost use Rattle.layer_phase.specs.Keeps.{HasEntry, IsZoneAt};
 ghost use Rattle.layer_phase.specs.declared.exposed.Exposed.{Exposed as ExposedSet};
 ghost use Rattle.layer_phase.specs.Work.{IsView};
-ghost use Rattle.layer_phase.specs.Looks.{AreExposed, AreExposedLists, AreNear, Grows, HasAll};
+ghost use Rattle.layer_phase.specs.Looks.{AreExposed, AreExposedLists, AreNear, HasAll};
+ghost use Rattle.cell_context.specs.Placed.{Grows};
 ghost use Rattle.layer_phase.specs.Looks.{HaveDisturbed, HaveFlat, HoldDisturbed, IsListAt};
 
 use crate::grown::{sized, twice_around, twice_grown};

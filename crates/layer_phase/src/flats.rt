@@ -8,7 +8,8 @@ ghost use Rattle.rule_text.specs.declared.rules.LayerForm.TheVariants.{Sized as 
 ghost use Rattle.geo_base.specs.declared.layer.LayerKey.{LayerKey};
 ghost use Rattle.rule_layers.specs.Formulas.{formula_by, formulas};
 ghost use Rattle.sized_layers.specs.Sizes.{IsSetWithin, IsSize};
-ghost use Rattle.layer_phase.specs.Looks.{AreNear, Grows, IsInput};
+ghost use Rattle.layer_phase.specs.Looks.{AreNear, IsInput};
+ghost use Rattle.cell_context.specs.Placed.{Grows};
 ghost use Rattle.layer_phase.specs.Names.{AreFlats, IsFlatIn};
 
 use crate::parts::input_squares;

@@ -10,13 +10,14 @@ ghost use Rattle.geo_base.specs.declared.shapes.Square.{Square};
 ghost use Rattle.rect_sets.specs.Rects.{covers};
 ghost use Rattle.cell_context.specs.Arrays.{IsNearArray};
 ghost use Rattle.cell_context.specs.Over.{IsPiece};
+ghost use Rattle.cell_context.specs.Placed.{Brings, Grows};
 ghost use Rattle.cell_graph.specs.Linked.{IsFrame, cell_at, hull_of, own_of, places_at};
 ghost use Rattle.cell_graph.specs.declared.cells.Place.{Place};
 ghost use Rattle.deep_tables.specs.declared.zones.CellZones.{CellZones};
 ghost use Rattle.rule_text.specs.declared.rules.LayerForm.TheVariants.{Input};
 ghost use Rattle.rule_text.specs.declared.rules.LayerRule.{LayerRule as Rule};
-ghost use Rattle.layer_phase.specs.Looks.{AreExposedLists, AreHeld, AreLooks, Brings};
-ghost use Rattle.layer_phase.specs.Looks.{BringsExposed, BringsOwn, Grows, HasAll, HaveAll};
+ghost use Rattle.layer_phase.specs.Looks.{AreExposedLists, AreHeld, AreLooks};
+ghost use Rattle.layer_phase.specs.Looks.{BringsExposed, BringsOwn, HasAll, HaveAll};
 ghost use Rattle.layer_phase.specs.Looks.{HaveMarked, HoldsOwn};
 ghost use Rattle.layer_phase.specs.Work.{IsReference, IsView};
 
@@ -24,7 +25,7 @@ use crate::exposed::{ExposedLists, expose, set_at};
 use crate::grown::sized;
 use crate::stirred::{outside, stirred_of};
 use crate::work::View;
-use cell_context::{grown, place_visits, push_images};
+use cell_context::{grown, push_array};
 use cell_graph::{Design, Place};
 use deep_tables::Zones;
 use geo_base::Rect;
@@ -32,33 +33,7 @@ use rect_sets::RectSet;
 use rule_text::{LayerForm, LayerRule};
 use std::alloc::{AllocError, Global};
 
-// Adds the images of rectangles of the placed cell through all elements of an array, in the window.
-fn push_array(
-    alloc: Global,
-    out: &mut Vec<Rect>,
-    place: &Place,
-    below: &Rect,
-    rects: &[Rect],
-    window: &Rect,
-) -> Result<(), AllocError>
-    requires near { IsNearArray place.now }
-    requires some { 0 < place.now.columns }
-    requires below { IsFrame below.now }
-    requires window { IsFrame window.now }
-    requires rects { All IsRect rects.now }
-    requires near_rects { All IsNearRect rects.now }
-    requires pieces { All (IsPiece window.now) out.old.items }
-    ensures pieces { OnOk result (All (IsPiece window.now) out.new.items) }
-    ensures grows { OnOk result (Grows out.old.items out.new.items) }
-    ensures brings { OnOk result (Brings place.now below.now rects.now window.now out.new.items) }
-{
-    for visit in &place_visits(alloc, place, below, window)? {
-        push_images(out, rects, &visit.motion, window)?;
-    }
-    Ok(())
-}
-
-// The same of a set. Where it is empty no element is visited.
+// Adds the images of a set of the placed cell through all elements of an array, in the window.
 fn push_set(
     alloc: Global,
     out: &mut Vec<Rect>,
@@ -77,9 +52,6 @@ fn push_set(
     ensures grows { OnOk result (Grows out.old.items out.new.items) }
     ensures brings { OnOk result (Brings place.now below.now set.now window.now out.new.items) }
 {
-    if set.rects().is_empty() {
-        return Ok(());
-    }
     push_array(alloc, out, place, below, set.rects(), window)
 }
 

@@ -7,7 +7,8 @@ ghost use Rattle.geo_base.specs.declared.shapes.Rect.{Rect as Rectangle};
 ghost use Rattle.geo_base.specs.declared.shapes.Square.{Square};
 ghost use Rattle.rect_sets.specs.Rects.{covers};
 ghost use Rattle.layer_phase.specs.Keeps.{HasEntry, IsZoneAt};
-ghost use Rattle.layer_phase.specs.Looks.{AreStirredFor, Grows, HaveMarked};
+ghost use Rattle.layer_phase.specs.Looks.{AreStirredFor, HaveMarked};
+ghost use Rattle.cell_context.specs.Placed.{Grows};
 
 use crate::work::View;
 use deep_tables::{ZoneKey, Zones};

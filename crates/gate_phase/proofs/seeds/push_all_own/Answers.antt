@@ -1,7 +1,7 @@
 use Rattle.std.proofs.Common.{◌≡◌, ◌∙◌, Some, ap, sym, arith, slice_get}
 use Rattle.std.proofs.lemmas.Option.{slice_get-get_or}
 use Rattle.cell_graph.specs.Linked.{cell_at, own_of}
-use Rattle.gate_phase.specs.Seeding.{Grows}
+use Rattle.cell_context.specs.Placed.{Grows}
 use Rattle.gate_phase.proofs.Marking.{inputs_more}
 use Rattle.gate_phase.proofs.seeds.push_all_own.Goals as goal
 

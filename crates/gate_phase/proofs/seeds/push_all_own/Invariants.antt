@@ -1,6 +1,7 @@
 use Rattle.std.specs.List.{All}
 use Rattle.cell_context.specs.Over.{IsPiece}
-use Rattle.gate_phase.specs.Seeding.{BringsOwn, Grows}
+use Rattle.gate_phase.specs.Seeding.{BringsOwn}
+use Rattle.cell_context.specs.Placed.{Grows}
 use Rattle.gate_phase.proofs.seeds.push_all_own.Given as goal
 
 abbrev pub invariant-loop-i : goal.invariant-loop-i

@@ -7,4 +7,4 @@ use Rattle.gate_phase.proofs.seeds.push_part.Goals as goal
 
 pub push_array-requires-clause-near_rects : goal.push_array-requires-clause-near_rects
 push_array-requires-clause-near_rects c =
-    subst (λ (l : List Rect). All IsNearRect l) (sym c.rects-3.ensures.list) (part_near c.args.below.now c.args.zone.now c.in_ok-part.part c.requires.below c.rects-3.ensures.sound c.in_ok-part.ensures)
+    subst (λ (l : List Rect). All IsNearRect l) (sym c.rects-2.ensures.list) (part_near c.args.below.now c.args.zone.now c.in_ok-part.part c.requires.below c.rects-2.ensures.sound c.in_ok-part.ensures)

@@ -2,7 +2,8 @@ use Rattle.std.proofs.Common.{◌≡◌, ◌∙◌, Some, List, ap, sym, subst, 
 use Rattle.std.proofs.lemmas.Option.{slice_get-get_or}
 use Rattle.geo_base.specs.declared.shapes.Rect.{Rect}
 use Rattle.layer_phase.specs.Keeps.{IsZoneAt}
-use Rattle.layer_phase.specs.Looks.{Grows, HaveDisturbed}
+use Rattle.layer_phase.specs.Looks.{HaveDisturbed}
+use Rattle.cell_context.specs.Placed.{Grows}
 use Rattle.layer_phase.proofs.Held.{inputs_more}
 use Rattle.layer_phase.proofs.exposed.push_all_disturbed.Goals as goal
 

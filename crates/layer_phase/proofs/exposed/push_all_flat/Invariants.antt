@@ -1,6 +1,7 @@
 use Rattle.std.specs.List.{All}
 use Rattle.geo_base.specs.Rects.{IsRect}
-use Rattle.layer_phase.specs.Looks.{Grows, HaveFlat}
+use Rattle.layer_phase.specs.Looks.{HaveFlat}
+use Rattle.cell_context.specs.Placed.{Grows}
 use Rattle.layer_phase.proofs.exposed.push_all_flat.Given as goal
 
 abbrev pub invariant-loop-rule : goal.invariant-loop-rule

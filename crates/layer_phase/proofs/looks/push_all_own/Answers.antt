@@ -1,7 +1,8 @@
 use Rattle.std.proofs.Common.{◌≡◌, ◌∙◌, Some, ap, sym, subst, arith, length, slice_get}
 use Rattle.std.proofs.lemmas.Option.{slice_get-get_or}
 use Rattle.cell_graph.specs.Linked.{cell_at, own_of}
-use Rattle.layer_phase.specs.Looks.{BringsOwn, Grows}
+use Rattle.layer_phase.specs.Looks.{BringsOwn}
+use Rattle.cell_context.specs.Placed.{Grows}
 use Rattle.layer_phase.proofs.Held.{inputs_more}
 use Rattle.layer_phase.proofs.looks.push_all_own.Goals as goal
 

@@ -2,7 +2,8 @@ use Rattle.std.proofs.Common.{ℕ}
 use Rattle.std.specs.List.{All}
 use Rattle.geo_base.specs.Rects.{IsRect}
 use Rattle.cell_graph.specs.Linked.{cell_at, hull_of}
-use Rattle.layer_phase.specs.Looks.{AreHeld, BringsOwn, Grows}
+use Rattle.layer_phase.specs.Looks.{AreHeld, BringsOwn}
+use Rattle.cell_context.specs.Placed.{Grows}
 use Rattle.layer_phase.proofs.looks.push_all_own.Given as goal
 
 abbrev pub invariant-loop-rule : goal.invariant-loop-rule

@@ -11,7 +11,7 @@ use Rattle.cell_graph.specs.declared.cells.Place.{Place}
 use Rattle.cell_context.specs.declared.arrays.Visit.{Visit}
 use Rattle.cell_context.specs.Visits.{IsVisited, IsMet, IsFound}
 use Rattle.cell_context.proofs.Gathering.{Adds, some_at}
-use Rattle.layer_phase.specs.Looks.{Brings}
+use Rattle.cell_context.specs.Placed.{Brings}
 
 -- the visit's images are covered in the window
 abbrev pub BringsVisit : List Rect → Rect → List Rect → Visit → Type 0

@@ -2,9 +2,9 @@ use Rattle.std.proofs.Common.{ℕ, ◌<◌, slice_index_or}
 use Rattle.std.specs.List.{All}
 use Rattle.cell_context.specs.Over.{IsPiece}
 use Rattle.cell_context.proofs.Gathering.{no_visit}
-use Rattle.layer_phase.specs.Looks.{Grows}
-use Rattle.layer_phase.proofs.Bringing.{BringsVisit}
-use Rattle.layer_phase.proofs.looks.push_array.Given as goal
+use Rattle.cell_context.specs.Placed.{Grows}
+use Rattle.cell_context.proofs.Bringing.{BringsVisit}
+use Rattle.cell_context.proofs.placed.push_array.Given as goal
 
 abbrev pub invariant-loop-visit : goal.invariant-loop-visit
 invariant-loop-visit l = record {
